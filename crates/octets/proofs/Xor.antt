@@ -58,15 +58,18 @@ xor-medial a b c d =
 
 -- a sum of the terms of a list, each named by its index
 pub data Sum : Type 0 where
+  none : Sum
   term : ℕ → Sum
   plus : Sum → Sum → Sum
 
 abbrev pub value : List ℕ → Sum → ℕ
+value v none = 0
 value v (term i) = getD v i 0
 value v (plus a b) = bitXor (value v a) (value v b)
 
 -- the digit i says whether the term i occurs an odd number of times
 abbrev pub mask : Sum → ℕ
+mask none = 0
 mask (term i) = 2 ^ i
 mask (plus a b) = bitXor (mask a) (mask b)
 
@@ -115,6 +118,7 @@ kept-one (x ∷ v) (suc i) =
     halved k = ap (λ (n : ℕ). n / 2) (pow-suc 2 k) ∙ omega arith
 
 value-is : (v : List ℕ) (a : Sum) → value v a ≡ kept v (mask a)
+value-is v none = sym (kept-none v)
 value-is v (term i) = sym (kept-one v i)
 value-is v (plus a b) = ap₂ bitXor (value-is v a) (value-is v b) ∙ sym (kept-xor v (mask a) (mask b))
 

@@ -1,0 +1,25 @@
+use mathlib.Core.Path.{refl}
+use Rattle.fips197.specs.Sbox.{inv-sbox}
+use Rattle.aes.proofs.Held.{retabled}
+use borrow.Author.Needs.{needs}
+use Rattle.aes.proofs.expand_inverse.Statement.{statement}
+use Rattle.aes.proofs.expand_inverse.Tie as tie
+
+expand-requires : tie.Need-expand-requires
+expand-requires c κs = search needs
+
+slice-aggregate-pasted : tie.Need-slice-aggregate-pasted
+slice-aggregate-pasted c = search needs
+
+pasted-requires : tie.Need-pasted-requires
+pasted-requires c κs = search needs
+
+returns : tie.Need-returns
+unfolding inv-sbox
+returns c =
+    let e = c .before .before .before in
+    retabled (e .before .before .args .key .now) (e .expand .result .octets) _ (e .expand .ensures) refl (c .pasted .ensures)
+
+pub expand-inverse-spec : {M : Type 1} → statement M
+expand-inverse-spec =
+    tie.close (tie.spec expand-requires slice-aggregate-pasted pasted-requires returns)
