@@ -4,3 +4,6 @@ pub mod Xor
 pub mod Table
 pub mod Generate
 pub mod Fill
+pub mod Undo
+pub mod Parts
+pub mod Replicate

@@ -27,40 +27,51 @@ pub fn be64_at(s: &[u8], at: usize) -> u64
     word_at(s, at) * 4294967296 + word_at(s, at + 4)
 }
 
+// The eight octets of a number. Internal.
+pub fn octets_of(x: u64) -> [u8; 8]
+    ensures { λ r. ⌜ r ≡ octetsOf 8 x ⌝ }
+{
+    let x1 = x / 256;
+    let x2 = x1 / 256;
+    let x3 = x2 / 256;
+    let x4 = x3 / 256;
+    let x5 = x4 / 256;
+    let x6 = x5 / 256;
+    let x7 = x6 / 256;
+    [
+        (x7 % 256) as u8,
+        (x6 % 256) as u8,
+        (x5 % 256) as u8,
+        (x4 % 256) as u8,
+        (x3 % 256) as u8,
+        (x2 % 256) as u8,
+        (x1 % 256) as u8,
+        (x % 256) as u8,
+    ]
+}
+
 // The 16 octets of two numbers. Internal.
 pub fn block_of(a: u64, b: u64) -> [u8; 16]
     ensures { λ r. ⌜ r ≡ octetsOf 8 a ++ octetsOf 8 b ⌝ }
 {
-    let a1 = a / 256;
-    let a2 = a1 / 256;
-    let a3 = a2 / 256;
-    let a4 = a3 / 256;
-    let a5 = a4 / 256;
-    let a6 = a5 / 256;
-    let a7 = a6 / 256;
-    let b1 = b / 256;
-    let b2 = b1 / 256;
-    let b3 = b2 / 256;
-    let b4 = b3 / 256;
-    let b5 = b4 / 256;
-    let b6 = b5 / 256;
-    let b7 = b6 / 256;
+    let h = octets_of(a);
+    let l = octets_of(b);
     [
-        (a7 % 256) as u8,
-        (a6 % 256) as u8,
-        (a5 % 256) as u8,
-        (a4 % 256) as u8,
-        (a3 % 256) as u8,
-        (a2 % 256) as u8,
-        (a1 % 256) as u8,
-        (a % 256) as u8,
-        (b7 % 256) as u8,
-        (b6 % 256) as u8,
-        (b5 % 256) as u8,
-        (b4 % 256) as u8,
-        (b3 % 256) as u8,
-        (b2 % 256) as u8,
-        (b1 % 256) as u8,
-        (b % 256) as u8,
+        h[0],
+        h[1],
+        h[2],
+        h[3],
+        h[4],
+        h[5],
+        h[6],
+        h[7],
+        l[0],
+        l[1],
+        l[2],
+        l[3],
+        l[4],
+        l[5],
+        l[6],
+        l[7],
     ]
 }

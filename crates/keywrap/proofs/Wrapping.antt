@@ -1,0 +1,179 @@
+-- What is wrapped is the registers' octets, and opening is the exact inverse of wrapping. Assumes nothing.
+use mathlib.Core.Path.{_≡_, refl, sym, ap, ap₂, _∙_, subst}
+use mathlib.Core.Bool.{Bool, true, false}
+use mathlib.Core.List.{List, [], _∷_, _++_, append-nil, append-assoc}
+use Prim.Native.Nat.{ℕ, zero, suc, _+_, _*_, _-_, _/_, _%_, _^_, _≤_, _<_}
+use native.Mathlib.Numerals.{add-one}
+use native.Mathlib.Omega.{arith}
+use lib.Dec.{T, eqb, eqb→eq}
+use lib.ListN.{length, take, drop, replicate, length-append, length-drop, length-replicate, take-append-drop, replicate-append-replicate}
+use lib.Seq.{drop-at, take-at, take-all, length-take-le}
+use lib.Bits.{xor-zero-r}
+use Rattle.octets.specs.Numbers.{number, octetsOf}
+use Rattle.octets.specs.Octets.{Octets}
+use Rattle.octets.proofs.Numbers.{octets-number}
+use Rattle.octets.proofs.Octets.{join-octets, zero-octets, take-octets}
+use Rattle.octets.proofs.Undo.{Undo}
+use Rattle.fips197.specs.Key.{Key}
+use Rattle.fips197.specs.Cipher.{cipher}
+use Rattle.fips197.proofs.Inverse.{cipher-block}
+use Rattle.keywrap.specs.Steps.{register, joined, msb64, lsb64, stored, step}
+use Rattle.keywrap.specs.Wrap.{initialValue, blocks, padded, registers, octetsIn, wrapBy, wrapOf}
+use Rattle.keywrap.specs.Opens.{Opens}
+use Rattle.keywrap.specs.Answers.{written}
+use Rattle.keywrap.specs.inner.Unwrap.{start, forwardBy, forward, backward}
+use Rattle.keywrap.proofs.Registers.{Registers, cons-registers, tail-registers, registers-are, octets-registers, registers-octets, length-octets-in, octets-in-octets}
+use Rattle.keywrap.proofs.Blocks.{joined-block, joined-parts}
+use Rattle.keywrap.proofs.Steps.{forward-undone, backward-undone}
+
+-- ---- padding
+
+pub length-padded : (x : List ℕ) → length (padded x) ≡ 8 * blocks (length x)
+unfolding padded
+length-padded x =
+    length-append x (replicate (8 * blocks (length x) - length x) 0)
+    ∙ omega (arith, length-replicate {A = ℕ} (8 * blocks (length x) - length x) 0)
+
+pub padded-octets : (x : List ℕ) → Octets x → Octets (padded x)
+unfolding padded
+padded-octets x o = join-octets x (replicate (8 * blocks (length x) - length x) 0) o (zero-octets (8 * blocks (length x) - length x))
+
+pub start-registers : (x : List ℕ) → Octets x → length x ≤ 256 → Registers (suc (blocks (length x))) (start x)
+unfolding start
+start-registers x o h = cons-registers (omega arith) (registers-are (blocks (length x)) (padded x) (padded-octets x o))
+
+-- ---- what is wrapped
+
+-- one block: the cipher's block is the octets of what one step with t = 0 stores
+one-block : (key x : List ℕ) → Key key → Octets x → blocks (length x) ≡ 1
+    → cipher key (octetsOf 8 (initialValue (length x)) ++ padded x) ≡ octetsIn (step key 0 1 (start x))
+unfolding step stored start registers octetsIn
+one-block key x is o e =
+    ap (λ (p : List ℕ). cipher key (octetsOf 8 a ++ p)) (sym whole)
+    ∙ sym (joined-parts b (cipher-block is (joined-block a (number 8 (padded x)))))
+    ∙ ap₂ {C = List ℕ} (λ (h : ℕ) (t : List ℕ). octetsOf 8 h ++ t) (sym (xor-zero-r (msb64 b))) (sym (append-nil (octetsOf 8 (lsb64 b))))
+    ∙ ap (λ (n : ℕ). octetsIn (step key 0 1 (a ∷ registers n (padded x)))) (sym e)
+  where
+    a : ℕ
+    a = initialValue (length x)
+
+    b : List ℕ
+    b = cipher key (joined a (number 8 (padded x)))
+
+    whole : octetsOf 8 (number 8 (padded x)) ≡ padded x
+    whole =
+        octets-number 8 (padded x) (padded-octets x o) (omega (arith, length-padded x, e))
+        ∙ take-all 8 (padded x) (omega (arith, length-padded x, e))
+
+pub wrap-registers : (key x : List ℕ) → Key key → Octets x → wrapOf key x ≡ octetsIn (forward key (blocks (length x)) (start x))
+unfolding wrapOf forward start
+wrap-registers key x is o = by (eqb (blocks (length x)) 1) refl
+  where
+    by : (one : Bool) → eqb (blocks (length x)) 1 ≡ one → wrapBy one key x ≡ octetsIn (forwardBy one key (blocks (length x)) (start x))
+    by true e = one-block key x is o (eqb→eq (blocks (length x)) 1 (subst T (sym e) tt))
+    by false e = refl
+
+-- ---- opening is the inverse of wrapping
+
+-- what wraps to these octets is found by unwrapping them
+module _ (key wrapped x : List ℕ) (is : Key key) (h : Opens key wrapped x) where
+  abbrev n : ℕ
+  n = blocks (length x)
+
+  undo : Undo (Registers (suc n)) (forward key n) (backward key n)
+  undo = forward-undone key is n (omega (arith, h .least)) (omega (arith, h .most))
+
+  begun : Registers (suc n) (start x)
+  begun = start-registers x (h .octets) (h .most)
+
+  whole : wrapped ≡ octetsIn (forward key n (start x))
+  whole = sym (h .wraps) ∙ wrap-registers key x is (h .octets)
+
+  pub length-wrapped : length wrapped ≡ 8 * suc n
+  length-wrapped =
+      ap length whole ∙ length-octets-in (forward key n (start x)) ∙ ap (λ (k : ℕ). 8 * k) (undo .keeps (start x) begun .size)
+
+  pub unwrapped : backward key n (registers (suc n) wrapped) ≡ start x
+  unwrapped =
+      ap (λ (w : List ℕ). backward key n (registers (suc n) w)) whole
+      ∙ ap (backward key n) (registers-octets (suc n) (forward key n (start x)) (undo .keeps (start x) begun))
+      ∙ undo .undone (start x) begun
+
+  -- the padded octets stand in the registers behind A
+  pub padded-is : octetsIn (registers n (padded x)) ≡ padded x
+  padded-is = octets-registers n (padded x) (padded-octets x (h .octets)) (length-padded x)
+
+-- what unwrapping finds, with its checks, wraps to these octets
+module _ (key wrapped x : List ℕ) (n : ℕ) (is : Key key) (o : Octets wrapped) (size : length wrapped ≡ 8 * suc n) (least : 1 ≤ n) (most : n ≤ 32) where
+  undo′ : Undo (Registers (suc n)) (backward key n) (forward key n)
+  undo′ = backward-undone key is n least most
+
+  found : Registers (suc n) (registers (suc n) wrapped)
+  found = registers-are (suc n) wrapped o
+
+  pub backward-registers : Registers (suc n) (backward key n (registers (suc n) wrapped))
+  backward-registers = undo′ .keeps (registers (suc n) wrapped) found
+
+  pub opens : Octets x → blocks (length x) ≡ n → backward key n (registers (suc n) wrapped) ≡ start x → Opens key wrapped x
+  opens p b e =
+      record {
+        least = omega arith;
+        most = omega arith;
+        octets = p;
+        wraps = wrap-registers key x is p ∙ ap (λ (k : ℕ). octetsIn (forward key k (start x))) b
+            ∙ ap (λ (s : List ℕ). octetsIn (forward key n s)) (sym e)
+            ∙ ap octetsIn (undo′ .undone (registers (suc n) wrapped) found)
+            ∙ octets-registers (suc n) wrapped o size;
+      }
+
+-- ---- the code that wraps: b is the array before the steps, f its first registers after them
+
+module _ (x b : List ℕ) (o : Octets x) (least : 1 ≤ length x) (most : length x ≤ 256)
+    (eb : b ≡ start x ++ replicate (32 - blocks (length x)) 0) where
+  end : ℕ
+  end = blocks (length x) + 1
+
+  start-size : length (start x) ≡ end
+  unfolding end
+  start-size = start-registers x o most .size ∙ sym (add-one (blocks (length x)))
+
+  front : take end b ≡ start x
+  unfolding end
+  front = ap (take end) eb ∙ take-at (start x) (replicate (32 - blocks (length x)) 0) end start-size
+
+  pub front-count : blocks (length x) + 1 ≡ length (take (blocks (length x) + 1) b)
+  unfolding end
+  front-count = sym (ap length front ∙ start-size)
+
+  module _ (key f : List ℕ) (is : Key key) (ef : f ≡ forward key (blocks (length x) + 1 - 1) (take (blocks (length x) + 1) b)) where
+    turned : f ≡ forward key (blocks (length x)) (start x)
+    unfolding end
+    turned = ef ∙ ap₂ (forward key) (let z : blocks (length x) + 1 - 1 ≡ blocks (length x) = omega arith in z) front
+
+    count : length f ≡ end
+    unfolding end
+    count =
+        ap length turned
+        ∙ forward-undone key is (blocks (length x)) (omega arith) (omega arith) .keeps (start x) (start-registers x o most) .size
+        ∙ sym (add-one (blocks (length x)))
+
+    pub front-of : take (blocks (length x) + 1) (f ++ drop (blocks (length x) + 1) b) ≡ f
+    unfolding end
+    front-of = take-at f (drop end b) end count
+
+    pub front-within : blocks (length x) + 1 ≤ length (f ++ drop (blocks (length x) + 1) b)
+    unfolding end
+    front-within = omega (arith, count, length-append f (drop end b))
+
+    pub front-kept : blocks (length x) + 1 ≡ length (take (blocks (length x) + 1) (f ++ drop (blocks (length x) + 1) b))
+    unfolding end
+    front-kept = sym (ap length front-of ∙ count)
+
+    pub wrapped-is : octetsIn (take (blocks (length x) + 1) (f ++ drop (blocks (length x) + 1) b)) ≡ wrapOf key x
+    wrapped-is = ap octetsIn (front-of ∙ turned) ∙ sym (wrap-registers key x is o)
+
+-- 8 octets for A and each block
+pub length-wrap : (key x : List ℕ) → Key key → Octets x → 1 ≤ length x → length x ≤ 256 → length (wrapOf key x) ≡ 8 * (blocks (length x) + 1)
+length-wrap key x is o least most =
+    length-wrapped key (wrapOf key x) x is (record { least = least; most = most; octets = o; wraps = refl })
+    ∙ ap (λ (k : ℕ). 8 * k) (sym (add-one (blocks (length x))))

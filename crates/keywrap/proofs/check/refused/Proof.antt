@@ -1,0 +1,12 @@
+-- `keywrap::check::refused` meets its contract. Assumes nothing.
+use mathlib.Core.Path.{refl}
+use Rattle.keywrap.specs.Answers.{blank}
+use Rattle.keywrap.proofs.check.refused.Statement.{statement}
+use Rattle.keywrap.proofs.check.refused.Tie as tie
+
+returns : tie.Need-returns
+unfolding blank
+returns c = (refl, refl)
+
+pub refused-spec : {M : Type 1} → statement M
+refused-spec = tie.close (tie.spec returns)

@@ -1,0 +1,57 @@
+-- What wrapping and opening of one key into lent room answer (document 01, "What a member is"): "These write the result at the room's start and
+-- leave the rest; on a wrong key size, a wrong octet count, a failed check or too little room they answer "no" and the room stays as lent."
+use mathlib.Core.Path.{_≡_}
+use Prim.Native.Nat.{ℕ, _≤_}
+use mathlib.Core.List.{List, _++_}
+use lib.Dec.{T}
+use lib.ListN.{length, drop, replicate}
+use Rattle.fips197.specs.Key.{isKey}
+use Rattle.keywrap.specs.declared.Answer.{Answer}
+use Rattle.keywrap.specs.declared.Answer.the-variants.{No, Count}
+use Rattle.keywrap.specs.Wrap.{wrapOf}
+use Rattle.keywrap.specs.Opens.{Opens}
+
+-- the room with x at its start and the rest as lent
+abbrev pub written : List ℕ → List ℕ → List ℕ
+written x room = x ++ drop (length x) room
+
+-- a room of 256 octets, all 0
+unfoldable pub blank : List ℕ
+blank = replicate 256 0
+
+-- x is the result, and it is to be written: the key has 16, 24 or 32 octets, and the room holds x
+pub record Wrapping (key octets room x : List ℕ) : Type 0 where
+  pub key-size : T (isKey (length key))
+  pub least : 1 ≤ length octets
+  pub most : length octets ≤ 256
+  pub is : wrapOf key octets ≡ x
+  pub holds : length x ≤ length room
+
+pub record Opening (key wrapped room x : List ℕ) : Type 0 where
+  pub key-size : T (isKey (length key))
+  pub opens : Opens key wrapped x
+  pub holds : length x ≤ length room
+
+-- what an answer says, given which results are to be written: a count, that one of so many octets is and was written; "no", that none is
+-- and the room is as lent
+pub record Wrote (Result : List ℕ → Type 0) (room : List ℕ) (n : ℕ) (after : List ℕ) : Type 0 where
+  pub x : List ℕ
+  pub result : Result x
+  pub count : length x ≡ n
+  pub room-is : after ≡ written x room
+
+pub record Refused (Result : List ℕ → Type 0) (room after : List ℕ) : Type 0 where
+  pub none : (x : List ℕ) → Result x → ⊥
+  pub room-is : after ≡ room
+
+abbrev pub Answers : (List ℕ → Type 0) → List ℕ → Answer → List ℕ → Type 0
+Answers Result room (Count n) after = Wrote Result room n after
+Answers Result room No after = Refused Result room after
+
+-- `wrap`
+abbrev pub WrapAnswers : List ℕ → List ℕ → List ℕ → Answer → List ℕ → Type 0
+WrapAnswers key octets room = Answers (Wrapping key octets room) room
+
+-- `open`
+abbrev pub OpenAnswers : List ℕ → List ℕ → List ℕ → Answer → List ℕ → Type 0
+OpenAnswers key wrapped room = Answers (Opening key wrapped room) room

@@ -1,0 +1,5 @@
+pub mod Steps
+pub mod Wrap
+pub mod Opens
+pub mod Answers
+pub mod inner

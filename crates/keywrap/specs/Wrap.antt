@@ -1,0 +1,43 @@
+-- RFC 5649, "Advanced Encryption Standard (AES) Key Wrap with Padding Algorithm".
+use mathlib.Core.Bool.{Bool, true, false}
+use Prim.Native.Nat.{ℕ, zero, suc, _+_, _*_, _-_, _/_}
+use mathlib.Core.List.{List, [], _∷_, _++_}
+use lib.Dec.{eqb}
+use lib.ListN.{length, drop, replicate}
+use Rattle.octets.specs.Numbers.{number, octetsOf}
+use Rattle.fips197.specs.Cipher.{cipher}
+use Rattle.keywrap.specs.Steps.{rows}
+
+-- section 3, the alternative initial value: A65959A6, then the message length indicator, the count of octets in 32 bits
+abbrev pub initialValue : ℕ → ℕ
+initialValue m = 0xa65959a6 * 4294967296 + m
+
+-- n: the count of 64-bit blocks that m octets take with their padding
+abbrev pub blocks : ℕ → ℕ
+blocks m = (m + 7) / 8
+
+-- section 4.1, step 1: "pad the plaintext octet string on the right with octets of zeros" to a multiple of 8
+unfoldable pub padded : List ℕ → List ℕ
+padded x = x ++ replicate (8 * blocks (length x) - length x) 0
+
+-- n 64-bit blocks of octets as registers
+unfoldable pub registers : ℕ → List ℕ → List ℕ
+registers zero s = []
+registers (suc n) s = number 8 s ∷ registers n (drop 8 s)
+
+-- the octets of registers, one after the other
+unfoldable pub octetsIn : List ℕ → List ℕ
+octetsIn [] = []
+octetsIn (r ∷ s) = octetsOf 8 r ++ octetsIn s
+
+-- section 4.1, step 2, by whether the padded octets are exactly eight
+abbrev pub wrapBy : Bool → List ℕ → List ℕ → List ℕ
+-- "prepend the AIV .. and encrypt the resulting 128-bit block"
+wrapBy true key x = cipher key (octetsOf 8 (initialValue (length x)) ++ padded x)
+-- "apply the wrapping process specified in Section 2.2.1 of [AES-KW2] .. with the AIV as the initial value"
+wrapBy false key x =
+    octetsIn (rows key (blocks (length x)) 6 (initialValue (length x) ∷ registers (blocks (length x)) (padded x)))
+
+-- the wrapped octets
+unfoldable pub wrapOf : List ℕ → List ℕ → List ℕ
+wrapOf key x = wrapBy (eqb (blocks (length x)) 1) key x

@@ -1,0 +1,23 @@
+-- Octets handed on into lent room that may be too small. Inner.
+use mathlib.Core.Bool.{Bool, true, false}
+use Prim.Native.Nat.{ℕ}
+use mathlib.Core.List.{List}
+use lib.Dec.{leb}
+use lib.ListN.{length}
+use Rattle.keywrap.specs.declared.Answer.{Answer}
+use Rattle.keywrap.specs.declared.Answer.the-variants.{No, Count}
+use Rattle.keywrap.specs.Answers.{written}
+
+abbrev pub answerBy : Bool → List ℕ → Answer
+answerBy true x = Count (length x)
+answerBy false x = No
+
+abbrev pub roomBy : Bool → List ℕ → List ℕ → List ℕ
+roomBy true x room = written x room
+roomBy false x room = room
+
+unfoldable pub putAnswer : List ℕ → List ℕ → Answer
+putAnswer x room = answerBy (leb (length x) (length room)) x
+
+unfoldable pub putRoom : List ℕ → List ℕ → List ℕ
+putRoom x room = roomBy (leb (length x) (length room)) x room

@@ -1,0 +1,136 @@
+// RFC 5649: wrapping and opening of one key into lent room, and opening over a schedule that was expanded once.
+mod check;
+mod load;
+mod unwrap_steps;
+mod wrap_steps;
+
+use aes::InverseSchedule;
+ghost use mathlib.Core.Path.{_≡_};
+ghost use mathlib.Core.List.{List};
+ghost use Prim.Native.Nat.{ℕ, suc, _≤_, _*_};
+ghost use lib.Dec.{T};
+ghost use lib.ListN.{length, take};
+ghost use Rattle.fips197.specs.Key.{isKey};
+ghost use Rattle.aes.specs.Schedule.{ExpandsInverse, ExpandedInverse};
+ghost use Rattle.keywrap.specs.Wrap.{registers, wrapOf};
+ghost use Rattle.keywrap.specs.Answers.{written, blank, WrapAnswers, OpenAnswers};
+ghost use Rattle.keywrap.specs.inner.Unwrap.{backward};
+ghost use Rattle.keywrap.specs.inner.Room.{putAnswer, putRoom};
+
+// What wrapping and opening answer: document 01's "no", or the count of octets written at the room's start.
+pub enum Answer {
+    No,
+    Count(usize),
+}
+
+// What is opened into blank room of its own.
+pub struct Opened {
+    pub answer: Answer,
+    pub octets: [u8; 256],
+}
+
+fn is_key(count: usize) -> bool
+    ensures { λ r. ⌜ r ≡ isKey count ⌝ }
+{
+    if count == 16 {
+        return true;
+    }
+    if count == 24 {
+        return true;
+    }
+    count == 32
+}
+
+fn write_wrapped(key: &[u8], octets: &[u8], room: &mut [u8])
+    requires { ⌜ T (isKey (length (now key))) ⌝ }
+    requires { ⌜ (1 ≤ length (now octets)) × (length (now octets) ≤ 256) ⌝ }
+    requires { ⌜ length (wrapOf (now key) (now octets)) ≤ length (now room) ⌝ }
+    ensures { λ _. ⌜ now (room .exit) ≡ written (wrapOf (now (key .entry)) (now (octets .entry))) (now (room .entry)) ⌝ }
+{
+    let end = (octets.len() + 7) / 8 + 1;
+    let mut s = load::begun(octets);
+    let schedule = aes::expand(key);
+    wrap_steps::forward_in(&schedule.octets, &mut s[..end], end - 1);
+    load::store(&s[..end], room);
+}
+
+// Wraps 1 to 256 octets under a key of 16, 24 or 32 octets, at the room's start.
+pub fn wrap(key: &[u8], octets: &[u8], room: &mut [u8]) -> Answer
+    ensures { λ r. ⌜ WrapAnswers (now (key .entry)) (now (octets .entry)) (now (room .entry)) r (now (room .exit)) ⌝ }
+{
+    let m = octets.len();
+    if m == 0 {
+        return Answer::No;
+    }
+    if 256 < m {
+        return Answer::No;
+    }
+    let n = 8 * ((m + 7) / 8 + 1);
+    if room.len() < n {
+        return Answer::No;
+    }
+    if is_key(key.len()) {
+        write_wrapped(key, octets, room);
+        return Answer::Count(n);
+    }
+    Answer::No
+}
+
+// The registers that `wrapped` had before the steps: A, R[1], .., R[n], and zeros behind.
+fn unwrapped(schedule: &[u8; 497], wrapped: &[u8], n: usize) -> [u64; 33]
+    requires { ⌜ ExpandedInverse (now schedule) ⌝ }
+    requires { ⌜ (1 ≤ n) × (n ≤ 32) × (length (now wrapped) ≡ 8 * suc n) ⌝ }
+    ensures { λ r. ⌜ ((key : List ℕ) → ExpandsInverse key (now (schedule .entry)) → take (suc n) r ≡ backward key n (registers (suc n) (now (wrapped .entry)))) ⌝ }
+{
+    let end = n + 1;
+    let mut s = [0u64; 33];
+    load::load(wrapped, &mut s[..end]);
+    unwrap_steps::backward_in(schedule, &mut s[..end], n);
+    s
+}
+
+// Opens over a schedule that was expanded once, into blank room. Internal.
+pub fn open_under(schedule: InverseSchedule, wrapped: &[u8]) -> Opened
+    requires { ⌜ ExpandedInverse (schedule .octets) ⌝ }
+    ensures { λ r. ⌜ ((key : List ℕ) → ExpandsInverse key (schedule .octets) → OpenAnswers key (now (wrapped .entry)) blank (r .answer) (r .octets)) ⌝ }
+{
+    let size = wrapped.len();
+    if size < 16 {
+        return check::refused();
+    }
+    if 264 < size {
+        return check::refused();
+    }
+    if size % 8 == 0 {
+        let n = size / 8 - 1;
+        return check::checked(unwrapped(&schedule.octets, wrapped, n), n);
+    }
+    check::refused()
+}
+
+// Octets at the start of a room that holds them.
+fn put(octets: &[u8], room: &mut [u8]) -> Answer
+    ensures { λ r. ⌜ r ≡ putAnswer (now (octets .entry)) (now (room .entry)) ⌝ }
+    ensures { λ _. ⌜ now (room .exit) ≡ putRoom (now (octets .entry)) (now (room .entry)) ⌝ }
+{
+    if octets.len() <= room.len() {
+        return Answer::Count(bytes::copy(octets, room));
+    }
+    Answer::No
+}
+
+// Opens what was wrapped under a key of 16, 24 or 32 octets, at the room's start.
+pub fn open(key: &[u8], wrapped: &[u8], room: &mut [u8]) -> Answer
+    ensures { λ r. ⌜ OpenAnswers (now (key .entry)) (now (wrapped .entry)) (now (room .entry)) r (now (room .exit)) ⌝ }
+{
+    if is_key(key.len()) {
+        let opened = open_under(aes::expand_inverse(key), wrapped);
+        let octets = opened.octets;
+        let answer = opened.answer;
+        match answer {
+            Answer::No => return Answer::No,
+            Answer::Count(n) => return put(&octets[..n], room),
+        }
+    }
+    Answer::No
+}

@@ -1,0 +1,51 @@
+// Registers from octets, and octets from registers.
+use octets::registers::be64_at;
+use octets::registers::octets_of;
+ghost use mathlib.Core.Path.{_≡_};
+ghost use mathlib.Core.List.{_++_};
+ghost use Prim.Native.Nat.{_+_, _-_, _*_, _/_, _≤_};
+ghost use lib.ListN.{length, replicate};
+ghost use Rattle.keywrap.specs.Wrap.{blocks, registers, octetsIn};
+ghost use Rattle.keywrap.specs.Answers.{written};
+ghost use Rattle.keywrap.specs.inner.Unwrap.{start};
+
+pub(crate) fn load(octets: &[u8], s: &mut [u64])
+    requires { ⌜ length (now octets) ≡ 8 * length (now s) ⌝ }
+    ensures { λ _. ⌜ now (s .exit) ≡ registers (length (now (s .entry))) (now (octets .entry)) ⌝ }
+{
+    let mut i = 0;
+    while i < s.len() {
+        s[i] = be64_at(octets, 8 * i);
+        i += 1;
+    }
+}
+
+// The registers' octets at the room's start.
+pub(crate) fn store(s: &[u64], room: &mut [u8])
+    requires { ⌜ 8 * length (now s) ≤ length (now room) ⌝ }
+    ensures { λ _. ⌜ now (room .exit) ≡ written (octetsIn (now (s .entry))) (now (room .entry)) ⌝ }
+{
+    let mut i = 0;
+    while i < s.len() {
+        let b = octets_of(s[i]);
+        let at = 8 * i;
+        bytes::copy(&b, &mut room[at..]);
+        i += 1;
+    }
+}
+
+// The alternative initial value of RFC 5649, section 3, and the padded octets: A, R[1], .., R[n], and zeros behind.
+pub(crate) fn begun(octets: &[u8]) -> [u64; 33]
+    requires { ⌜ (1 ≤ length (now octets)) × (length (now octets) ≤ 256) ⌝ }
+    ensures { λ r. ⌜ r ≡ start (now (octets .entry)) ++ replicate (32 - blocks (length (now (octets .entry)))) 0 ⌝ }
+{
+    let m = octets.len();
+    let n = (m + 7) / 8;
+    let mut padded = [0u8; 256];
+    bytes::copy(octets, &mut padded);
+    let mut s = [0u64; 33];
+    s[0] = 11986710452722728960 + m as u64;
+    let e = 8 * n;
+    load(&padded[..e], &mut s[1..n + 1]);
+    s
+}
