@@ -1,12 +1,12 @@
 -- Answers, from what is known of the results. Assumes nothing.
-use mathlib.Core.Path.{_≡_, sym, subst, ap, _∙_}
+use mathlib.Core.Path.{_≡_, sym, subst, _∙_}
 use mathlib.Core.Bool.{Bool, true, false}
 use mathlib.Core.List.{List}
 use Prim.Native.Nat.{ℕ}
 use lib.Dec.{T}
 use Rattle.keywrap.specs.declared.Answer.{Answer}
 use Rattle.keywrap.specs.declared.Answer.the-variants.{No, Count}
-use Rattle.keywrap.specs.Answers.{Answers, Refused, Wrote}
+use Rattle.keywrap.specs.Answers.{Answers}
 
 -- "no", and the room as lent
 pub no-answer : (Result : List ℕ → Type 0) (room : List ℕ) {a : Answer} {after : List ℕ} → a ≡ No → after ≡ room

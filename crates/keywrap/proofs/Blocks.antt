@@ -1,9 +1,9 @@
 -- A block and its two registers give each other. Assumes nothing.
-use mathlib.Core.Path.{_≡_, refl, sym, ap, ap₂, _∙_}
+use mathlib.Core.Path.{_≡_, ap, ap₂, _∙_}
 use mathlib.Core.List.{List, _++_}
 use Prim.Native.Nat.{ℕ, _^_, _<_}
 use native.Mathlib.Omega.{arith}
-use lib.ListN.{length, take, drop, length-append, length-drop, take-append-drop}
+use lib.ListN.{drop, length-append, length-drop, take-append-drop}
 use lib.Seq.{drop-at, take-all}
 use Rattle.octets.specs.Numbers.{number, octetsOf}
 use Rattle.octets.proofs.Numbers.{length-octets, octets-octets, number-append, number-lt, number-octets, octets-number}

@@ -1,7 +1,7 @@
 -- `Opens` determines what is opened, and the promises of `wrap` and `open` determine the answer and the room. Assumes nothing.
-use mathlib.Core.Path.{_≡_, refl, sym, ap, ap₂, _∙_, subst}
-use mathlib.Core.List.{List, [], _∷_, _++_}
-use Prim.Native.Nat.{ℕ, zero, suc, _+_, _*_, _-_}
+use mathlib.Core.Path.{_≡_, refl, sym, ap, ap₂, _∙_}
+use mathlib.Core.List.{List}
+use Prim.Native.Nat.{ℕ, suc, _*_, _-_}
 use native.Mathlib.Omega.{arith}
 use lib.ListN.{length, take, drop, getD, replicate}
 use lib.Seq.{take-at}
@@ -11,7 +11,7 @@ use Rattle.keywrap.specs.Wrap.{blocks, padded, registers, octetsIn}
 use Rattle.keywrap.specs.Opens.{Opens}
 use Rattle.keywrap.specs.declared.Answer.{Answer}
 use Rattle.keywrap.specs.declared.Answer.the-variants.{No, Count}
-use Rattle.keywrap.specs.Answers.{written, Answers, Wrote, Refused, Wrapping, Opening, WrapAnswers, OpenAnswers}
+use Rattle.keywrap.specs.Answers.{written, Answers, Wrapping, Opening, WrapAnswers, OpenAnswers}
 use Rattle.keywrap.specs.inner.Unwrap.{start, backward}
 use Rattle.keywrap.proofs.Wrapping.{length-wrapped, unwrapped, padded-is}
 

@@ -1,12 +1,11 @@
 -- The registers that pass the checks are those that some octets have before the steps, and no others. Assumes nothing.
-use mathlib.Core.Path.{_≡_, refl, sym, ap, ap₂, _∙_, subst}
-use mathlib.Core.Bool.{Bool, true, false}
+use mathlib.Core.Path.{_≡_, sym, ap, ap₂, _∙_, subst}
+use mathlib.Core.Bool.{true, false}
 use mathlib.Core.List.{List, [], _∷_, _++_, append-assoc}
 use Prim.Native.Nat.{ℕ, zero, suc, _+_, _*_, _-_, _^_, _≤_, _<_}
 use native.Mathlib.Omega.{arith}
-use lib.ListN.{length, getD, take, drop, replicate, length-append, length-drop, length-replicate, take-append-drop, replicate-append-replicate}
-use lib.Seq.{drop-cons, take-at, take-append-le, take-append-add, length-take-le, getD-drop, getD-take}
-use Rattle.octets.specs.Numbers.{oct}
+use lib.ListN.{length, take, drop, replicate, length-append, length-drop, length-replicate, take-append-drop, replicate-append-replicate}
+use lib.Seq.{drop-cons, take-at, take-append-add, length-take-le, getD-drop}
 use Rattle.octets.specs.Octets.{Octets}
 use Rattle.octets.proofs.Octets.{join-octets, take-octets, zero-octets}
 use Rattle.octets.proofs.Replicate.{drop-replicate, take-replicate}
@@ -14,7 +13,7 @@ use Rattle.keywrap.specs.Steps.{register}
 use Rattle.keywrap.specs.Wrap.{initialValue, blocks, padded, registers, octetsIn}
 use Rattle.keywrap.specs.Answers.{written, blank, Wrote}
 use Rattle.keywrap.specs.inner.Unwrap.{start, Begins, countIn, zeroFrom}
-use Rattle.keywrap.proofs.Registers.{Registers, tail-registers, registers-octets, octets-registers, length-octets-in, octets-in-octets}
+use Rattle.keywrap.proofs.Registers.{Registers, registers-octets, octets-registers, length-octets-in, octets-in-octets}
 use Rattle.keywrap.proofs.Wrapping.{length-padded, padded-octets}
 use Rattle.keywrap.proofs.Checks.{count-told, told-count, zero-from, from-zero}
 
@@ -57,7 +56,8 @@ module _ (s : List ℕ) (n : ℕ) (is : Registers 33 s) (least : 1 ≤ n) (most 
   pub none-told : countIn (register s 0) n ≡ 0 → (x : List ℕ) → Begins n (take (suc n) s) x → ⊥
   none-told e x b = omega (arith, told x b, b .size)
 
-  module _ (m : ℕ) (out : List ℕ) (counted : countIn (register s 0) n ≡ m) (e : out ≡ written (octetsIn (take (n + 1 - 1) (drop 1 s))) blank) where
+  module _ (m : ℕ) (out : List ℕ) (counted : countIn (register s 0) n ≡ m)
+      (e : out ≡ written (octetsIn (take (n + 1 - 1) (drop 1 s))) blank) where
     length-r : length (octetsIn r) ≡ 8 * n
     length-r = length-octets-in r ∙ ap (λ (k : ℕ). 8 * k) (r-registers .size)
 
@@ -72,6 +72,11 @@ module _ (s : List ℕ) (n : ℕ) (is : Registers 33 s) (least : 1 ≤ n) (most 
     length-out =
         ap length out-is ∙ length-append (octetsIn r) (replicate (256 - 8 * n) 0)
         ∙ omega (arith, length-r, length-replicate {A = ℕ} (256 - 8 * n) 0)
+
+    out-octets : Octets out
+    out-octets =
+        subst Octets (sym out-is)
+        (join-octets (octetsIn r) (replicate (256 - 8 * n) 0) (octets-in-octets r) (zero-octets (256 - 8 * n)))
 
     pub not-zero : zeroFrom m out ≡ false → (x : List ℕ) → Begins n (take (suc n) s) x → ⊥
     unfolding padded
@@ -118,13 +123,13 @@ module _ (s : List ℕ) (n : ℕ) (is : Registers 33 s) (least : 1 ≤ n) (most 
           record {
             x = take m out;
             result = record {
-              octets = take-octets m out
-                  (subst Octets (sym out-is) (join-octets (octetsIn r) (replicate (256 - 8 * n) 0) (octets-in-octets r) (zero-octets (256 - 8 * n))));
+              octets = take-octets m out out-octets;
               size = ap blocks count ∙ m-blocks;
               is = split ∙ ap₂ {C = List ℕ} _∷_ (a-is ∙ ap initialValue (sym count))
                   (sym (registers-octets n r r-registers) ∙ ap₂ registers (sym m-blocks ∙ ap blocks (sym count)) (sym padding));
             };
             count = count;
             room-is = whole ∙ ap (λ (l : List ℕ). take m out ++ l)
-                (ap (λ (k : ℕ). replicate (256 - k) 0) (sym count) ∙ sym (drop-replicate (length (take m out)) 256 0 (omega (arith, count, m-blocks))));
+                (ap (λ (k : ℕ). replicate (256 - k) 0) (sym count)
+                ∙ sym (drop-replicate (length (take m out)) 256 0 (omega (arith, count, m-blocks))));
           }

@@ -1,10 +1,10 @@
 -- A turn of the loop that writes registers' octets. Assumes nothing.
-use mathlib.Core.Path.{_≡_, refl, sym, ap, ap₂, _∙_}
+use mathlib.Core.Path.{_≡_, sym, ap, ap₂, _∙_}
 use mathlib.Core.List.{List, [], _∷_, _++_, append-nil, append-assoc}
-use Prim.Native.Nat.{ℕ, suc, _+_, _*_, _-_, _≤_, _<_}
+use Prim.Native.Nat.{ℕ, _+_, _*_, _-_, _≤_, _<_}
 use native.Mathlib.Numerals.{add-one}
 use native.Mathlib.Omega.{arith}
-use lib.ListN.{length, getD, take, drop, replicate, length-append, length-replicate}
+use lib.ListN.{length, take, drop, replicate, length-append, length-replicate}
 use lib.Seq.{take-suc, take-at, drop-at, length-take-le, drop-drop, take-length, take-append-add}
 use borrow.Rule.Slice.PartMut.{midOf, putMid}
 use Rattle.octets.specs.Numbers.{octetsOf}
@@ -50,7 +50,8 @@ module _ (s room₀ room : List ℕ) (i : ℕ) (more : i < length s) (e : room �
       copied-end room b (8 * i) ey
       ∙ ap₂ (λ (p q : List ℕ). p ++ q) (ap (take (8 * i)) e ∙ take-at w (drop (length w) room₀) (8 * i) length-w)
       (ap₂ (λ (p q : List ℕ). p ++ q) eb
-      (ap (λ (k : ℕ). drop (8 * i + k) room) (ap length eb ∙ length-octets 8 (register s i)) ∙ behind ∙ ap (λ (k : ℕ). drop k room₀) (sym length-next)))
+      (ap (λ (k : ℕ). drop (8 * i + k) room) (ap length eb ∙ length-octets 8 (register s i)) ∙ behind
+      ∙ ap (λ (k : ℕ). drop k room₀) (sym length-next)))
       ∙ sym (append-assoc w (octetsOf 8 (register s i)) (drop (length (octetsIn (take (i + 1) s))) room₀))
       ∙ ap (λ (x : List ℕ). x ++ drop (length (octetsIn (take (i + 1) s))) room₀) (sym next)
 
@@ -75,7 +76,8 @@ module _ (x p : List ℕ) (most : length x ≤ 256) (e : p ≡ take (length x) x
       ∙ take-append-add x (replicate (256 - m) 0) (8 * blocks (length x) - length x)
       ∙ ap (λ (r : List ℕ). x ++ r) (take-replicate (8 * blocks (length x) - length x) (256 - m) 0 (omega arith))
 
-  pub begun-is : {s : List ℕ} → s ≡ registers (length {A = ℕ} (take (blocks (length x) + 1 - 1) (replicate 32 0))) (take (8 * blocks (length x)) p)
+  pub begun-is : {s : List ℕ}
+      → s ≡ registers (length {A = ℕ} (take (blocks (length x) + 1 - 1) (replicate 32 0))) (take (8 * blocks (length x)) p)
       → initialValue (length x) ∷ (s ++ drop (blocks (length x) + 1 - 1) (replicate 32 0)) ≡ start x ++ replicate (32 - blocks (length x)) 0
   unfolding start
   begun-is es =

@@ -1,23 +1,23 @@
 -- The code that opens: what it unwraps, what the checks tell, and what is handed on. Assumes nothing.
-use mathlib.Core.Path.{_≡_, refl, sym, ap, ap₂, _∙_, subst}
+use mathlib.Core.Path.{_≡_, refl, sym, ap, _∙_, subst}
 use mathlib.Core.Bool.{Bool, true, false}
-use mathlib.Core.List.{List, [], _++_}
-use Prim.Native.Nat.{ℕ, suc, _+_, _*_, _-_, _%_, _≤_, _<_}
+use mathlib.Core.List.{List, _++_}
+use Prim.Native.Nat.{ℕ, suc, _+_, _*_, _-_, _%_, _≤_}
 use native.Mathlib.Numerals.{add-one}
 use native.Mathlib.Omega.{arith}
-use borrow.Author.Tests.{leb-true, leb-false, le-leb, lt-leb}
+use borrow.Author.Tests.{leb-true, leb-false}
 use lib.Dec.{leb}
-use lib.ListN.{length, take, drop, replicate, length-append, length-replicate}
-use lib.Seq.{take-at, take-length, length-take-le}
+use lib.ListN.{length, take, drop, replicate, length-append}
+use lib.Seq.{take-at, length-take-le}
 use Rattle.octets.specs.Octets.{Octets}
 use Rattle.fips197.specs.Key.{Key}
 use Rattle.keywrap.specs.declared.Answer.{Answer}
-use Rattle.keywrap.specs.declared.Answer.the-variants.{No, Count}
+use Rattle.keywrap.specs.declared.Answer.the-variants.{No}
 use Rattle.keywrap.specs.Wrap.{blocks, registers}
-use Rattle.keywrap.specs.Answers.{written, blank, Opening, Answers, OpenAnswers, Wrote}
+use Rattle.keywrap.specs.Answers.{blank, Opening, Answers, OpenAnswers, Wrote}
 use Rattle.keywrap.specs.inner.Unwrap.{backward, Begins}
 use Rattle.keywrap.specs.inner.Room.{answerBy, roomBy, putAnswer, putRoom}
-use Rattle.keywrap.proofs.Registers.{Registers, registers-are}
+use Rattle.keywrap.proofs.Registers.{registers-are}
 use Rattle.keywrap.proofs.Wrapping as wrapping
 use Rattle.keywrap.proofs.Wrapping.{length-wrapped, backward-registers, opens}
 use Rattle.keywrap.proofs.Determined.{opens-one}
@@ -49,7 +49,7 @@ module _ (w : List ℕ) (n : ℕ) (o : Octets w) (most : n ≤ 32) where
         → b ≡ backward key n (take (n + 1) (l ++ drop (n + 1) (replicate 33 0)))
         → take (suc n) (b ++ rest) ≡ backward key n (registers (suc n) w)
     unwrapped-is key b rest is least size e =
-        take-at b rest (suc n) (ap length whole ∙ backward-registers key w [] n is o size least most .size) ∙ whole
+        take-at b rest (suc n) (ap length whole ∙ backward-registers key w n is o size least most .size) ∙ whole
       where
         whole : b ≡ backward key n (registers (suc n) w)
         whole = e ∙ ap (backward key n) (part-is ∙ loaded)
@@ -81,7 +81,7 @@ module _ (key w s : List ℕ) (n : ℕ) (is : Key key) (o : Octets w) (size : le
   to x b =
       record {
         key-size = is .size;
-        opens = opens key w x n is o size least most (b .octets) (b .size) (sym e ∙ b .is);
+        opens = opens key w n is o size least most x (b .octets) (b .size) (sym e ∙ b .is);
         holds = omega (arith, b .size);
       }
 
@@ -128,7 +128,11 @@ module _ (key w room : List ℕ) (is : Key key) where
         by true l =
             record {
               x = h .x;
-              result = record { key-size = h .result .key-size; opens = h .result .opens; holds = leb-true (length (h .x)) (length room) l };
+              result = record {
+                key-size = h .result .key-size;
+                opens = h .result .opens;
+                holds = leb-true (length (h .x)) (length room) l;
+              };
               count = refl;
               room-is = refl;
             }

@@ -1,13 +1,13 @@
 -- Registers and their octets give each other. Assumes nothing.
-use mathlib.Core.Path.{_≡_, refl, sym, ap, ap₂, _∙_, subst}
+use mathlib.Core.Path.{_≡_, refl, sym, ap, ap₂, _∙_}
 use mathlib.Core.List.{List, [], _∷_, _++_, append-assoc}
-use Prim.Native.Nat.{ℕ, zero, suc, _+_, _*_, _^_, _≤_, _<_}
+use Prim.Native.Nat.{ℕ, zero, suc, _+_, _*_, _^_, _<_}
 use native.Mathlib.Nat.{suc-inj, suc-ne-zero}
 use native.Mathlib.Omega.{arith}
 use lib.Dec.{lit<}
-use lib.ListN.{length, getD, take, drop, set, length-append, length-drop, length-set, take-append-drop}
+use lib.ListN.{length, drop, set, length-append, length-drop, length-set, take-append-drop}
 use lib.Seq.{drop-at, drop-drop}
-use Rattle.octets.specs.Numbers.{oct, number, octetsOf}
+use Rattle.octets.specs.Numbers.{number, octetsOf}
 use Rattle.octets.specs.Octets.{Octets}
 use Rattle.octets.specs.Generate.{gen}
 use Rattle.octets.proofs.Numbers.{length-octets, octets-octets, number-append, number-lt, number-octets, octets-number}

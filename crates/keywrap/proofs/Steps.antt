@@ -1,12 +1,12 @@
 -- Unwrapping undoes wrapping, and wrapping unwrapping: step by step, row by row. Assumes nothing.
-use mathlib.Core.Path.{_≡_, refl, sym, ap, ap₂, _∙_, subst}
+use mathlib.Core.Path.{_≡_, sym, ap, ap₂, _∙_, subst}
 use mathlib.Core.Bool.{Bool, true, false}
 use mathlib.Core.List.{List}
 use Prim.Native.Nat.{ℕ, zero, suc, _+_, _*_, _^_, _≤_, _<_}
 use native.Mathlib.Nat.{mul-le-mul-left}
 use native.Mathlib.Omega.{arith}
 use lib.Dec.{eqb}
-use lib.ListN.{length, getD, set, length-set}
+use lib.ListN.{length, set, length-set}
 use lib.Seq.{getD-set-same, getD-set-other, set-getD, set-set, set-comm}
 use lib.Bits.{bitXor, xor-lt, xor-zero-r}
 use Rattle.octets.proofs.Xor.{xor-twice}
@@ -66,7 +66,8 @@ module _ (s : List ℕ) (i : ℕ) (first : 0 < i) (within : i < length s) where
 
 stored-registers : {k : ℕ} {s : List ℕ} (t i : ℕ) (b : List ℕ) → Registers k s → Block b → t < 256 ^ 8 → Registers k (stored t i b s)
 unfolding stored
-stored-registers t i b g h l = set-registers i (lsb64 b) (set-registers 0 (bitXor (msb64 b) t) g (xor-lt 64 (msb64 b) t (msb-lt b h) l)) (lsb-lt b h)
+stored-registers t i b g h l =
+    set-registers i (lsb64 b) (set-registers 0 (bitXor (msb64 b) t) g (xor-lt 64 (msb64 b) t (msb-lt b h) l)) (lsb-lt b h)
 
 module _ (key : List ℕ) (is : Key key) (k t i : ℕ) (small : t < 256 ^ 8) (first : 0 < i) (within : i < k) where
   inside : {s : List ℕ} → Registers k s → i < length s
@@ -104,7 +105,8 @@ module _ (key : List ℕ) (is : Key key) (k t i : ℕ) (small : t < 256 ^ 8) (fi
         undone = λ s g.
             ap (λ (x : List ℕ). stored t i x (stored 0 i (b s) s)) (back s g)
             ∙ stored-again s i first (inside g) 0 t (b s) (joined (a s) (register s i))
-            ∙ stored-same s i first (inside g) t (a s) (xor-lt 64 (register s 0) t (g .small 0) small) (g .small i) (xor-twice (register s 0) t);
+            ∙ stored-same s i first (inside g) t (a s) (xor-lt 64 (register s 0) t (g .small 0) small) (g .small i)
+            (xor-twice (register s 0) t);
       }
     where
       a : List ℕ → ℕ
@@ -116,7 +118,8 @@ module _ (key : List ℕ) (is : Key key) (k t i : ℕ) (small : t < 256 ^ 8) (fi
       back : (s : List ℕ) → Registers k s
           → cipher key (joined (register (stored 0 i (b s) s) 0) (register (stored 0 i (b s) s) i)) ≡ joined (a s) (register s i)
       back s g =
-          ap₂ (λ (x y : ℕ). cipher key (joined x y)) (stored-a s i first (inside g) 0 (b s) ∙ xor-zero-r (msb64 (b s))) (stored-r s i first (inside g) 0 (b s))
+          ap₂ (λ (x y : ℕ). cipher key (joined x y)) (stored-a s i first (inside g) 0 (b s) ∙ xor-zero-r (msb64 (b s)))
+          (stored-r s i first (inside g) 0 (b s))
           ∙ ap (cipher key) (joined-parts (b s) (inv-cipher-block is (joined-block (a s) (register s i))))
           ∙ cipher-inv-cipher is (joined-block (a s) (register s i))
 

@@ -1,28 +1,27 @@
 -- What is wrapped is the registers' octets, and opening is the exact inverse of wrapping. Assumes nothing.
 use mathlib.Core.Path.{_≡_, refl, sym, ap, ap₂, _∙_, subst}
 use mathlib.Core.Bool.{Bool, true, false}
-use mathlib.Core.List.{List, [], _∷_, _++_, append-nil, append-assoc}
-use Prim.Native.Nat.{ℕ, zero, suc, _+_, _*_, _-_, _/_, _%_, _^_, _≤_, _<_}
+use mathlib.Core.List.{List, _∷_, _++_, append-nil}
+use Prim.Native.Nat.{ℕ, suc, _+_, _*_, _-_, _≤_}
 use native.Mathlib.Numerals.{add-one}
 use native.Mathlib.Omega.{arith}
 use lib.Dec.{T, eqb, eqb→eq}
-use lib.ListN.{length, take, drop, replicate, length-append, length-drop, length-replicate, take-append-drop, replicate-append-replicate}
-use lib.Seq.{drop-at, take-at, take-all, length-take-le}
+use lib.ListN.{length, take, drop, replicate, length-append, length-replicate}
+use lib.Seq.{take-at, take-all}
 use lib.Bits.{xor-zero-r}
 use Rattle.octets.specs.Numbers.{number, octetsOf}
 use Rattle.octets.specs.Octets.{Octets}
 use Rattle.octets.proofs.Numbers.{octets-number}
-use Rattle.octets.proofs.Octets.{join-octets, zero-octets, take-octets}
+use Rattle.octets.proofs.Octets.{join-octets, zero-octets}
 use Rattle.octets.proofs.Undo.{Undo}
 use Rattle.fips197.specs.Key.{Key}
 use Rattle.fips197.specs.Cipher.{cipher}
 use Rattle.fips197.proofs.Inverse.{cipher-block}
-use Rattle.keywrap.specs.Steps.{register, joined, msb64, lsb64, stored, step}
+use Rattle.keywrap.specs.Steps.{joined, msb64, lsb64, stored, step}
 use Rattle.keywrap.specs.Wrap.{initialValue, blocks, padded, registers, octetsIn, wrapBy, wrapOf}
 use Rattle.keywrap.specs.Opens.{Opens}
-use Rattle.keywrap.specs.Answers.{written}
 use Rattle.keywrap.specs.inner.Unwrap.{start, forwardBy, forward, backward}
-use Rattle.keywrap.proofs.Registers.{Registers, cons-registers, tail-registers, registers-are, octets-registers, registers-octets, length-octets-in, octets-in-octets}
+use Rattle.keywrap.proofs.Registers.{Registers, cons-registers, registers-are, octets-registers, registers-octets, length-octets-in}
 use Rattle.keywrap.proofs.Blocks.{joined-block, joined-parts}
 use Rattle.keywrap.proofs.Steps.{forward-undone, backward-undone}
 
@@ -104,7 +103,8 @@ module _ (key wrapped x : List ℕ) (is : Key key) (h : Opens key wrapped x) whe
   padded-is = octets-registers n (padded x) (padded-octets x (h .octets)) (length-padded x)
 
 -- what unwrapping finds, with its checks, wraps to these octets
-module _ (key wrapped x : List ℕ) (n : ℕ) (is : Key key) (o : Octets wrapped) (size : length wrapped ≡ 8 * suc n) (least : 1 ≤ n) (most : n ≤ 32) where
+module _ (key wrapped : List ℕ) (n : ℕ) (is : Key key) (o : Octets wrapped) (size : length wrapped ≡ 8 * suc n) (least : 1 ≤ n)
+    (most : n ≤ 32) where
   undo′ : Undo (Registers (suc n)) (backward key n) (forward key n)
   undo′ = backward-undone key is n least most
 
@@ -114,8 +114,8 @@ module _ (key wrapped x : List ℕ) (n : ℕ) (is : Key key) (o : Octets wrapped
   pub backward-registers : Registers (suc n) (backward key n (registers (suc n) wrapped))
   backward-registers = undo′ .keeps (registers (suc n) wrapped) found
 
-  pub opens : Octets x → blocks (length x) ≡ n → backward key n (registers (suc n) wrapped) ≡ start x → Opens key wrapped x
-  opens p b e =
+  pub opens : (x : List ℕ) → Octets x → blocks (length x) ≡ n → backward key n (registers (suc n) wrapped) ≡ start x → Opens key wrapped x
+  opens x p b e =
       record {
         least = omega arith;
         most = omega arith;
@@ -173,7 +173,8 @@ module _ (x b : List ℕ) (o : Octets x) (least : 1 ≤ length x) (most : length
     wrapped-is = ap octetsIn (front-of ∙ turned) ∙ sym (wrap-registers key x is o)
 
 -- 8 octets for A and each block
-pub length-wrap : (key x : List ℕ) → Key key → Octets x → 1 ≤ length x → length x ≤ 256 → length (wrapOf key x) ≡ 8 * (blocks (length x) + 1)
+pub length-wrap : (key x : List ℕ) → Key key → Octets x → 1 ≤ length x → length x ≤ 256
+    → length (wrapOf key x) ≡ 8 * (blocks (length x) + 1)
 length-wrap key x is o least most =
     length-wrapped key (wrapOf key x) x is (record { least = least; most = most; octets = o; wraps = refl })
     ∙ ap (λ (k : ℕ). 8 * k) (sym (add-one (blocks (length x))))

@@ -1,5 +1,6 @@
--- What wrapping and opening of one key into lent room answer (document 01, "What a member is"): "These write the result at the room's start and
--- leave the rest; on a wrong key size, a wrong octet count, a failed check or too little room they answer "no" and the room stays as lent."
+-- What wrapping and opening of one key into lent room answer. Document 01, "What a member is": "These write the result at the room's start
+-- and leave the rest; on a wrong key size, a wrong octet count, a failed check or too little room they answer "no" and the room stays as
+-- lent."
 use mathlib.Core.Path.{_≡_}
 use Prim.Native.Nat.{ℕ, _≤_}
 use mathlib.Core.List.{List, _++_}
@@ -55,3 +56,7 @@ WrapAnswers key octets room = Answers (Wrapping key octets room) room
 -- `open`
 abbrev pub OpenAnswers : List ℕ → List ℕ → List ℕ → Answer → List ℕ → Type 0
 OpenAnswers key wrapped room = Answers (Opening key wrapped room) room
+
+-- `open_under`: the same, into a blank room of 256 octets, which every result fits
+abbrev pub OpensBlank : List ℕ → List ℕ → Answer → List ℕ → Type 0
+OpensBlank key wrapped = OpenAnswers key wrapped blank

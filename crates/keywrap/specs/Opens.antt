@@ -1,5 +1,5 @@
--- Document 01, "Which keys a chain reaches": "An entry or copy opens under a key to given octets exactly when wrapping those octets, 1 to 256,
--- by RFC 5649 under that key yields its wrapped ones."
+-- Document 01, "Which keys a chain reaches": "An entry or copy opens under a key to given octets exactly when wrapping those octets, 1 to
+-- 256, by RFC 5649 under that key yields its wrapped ones."
 use mathlib.Core.Path.{_≡_}
 use Prim.Native.Nat.{ℕ, _≤_}
 use mathlib.Core.List.{List}

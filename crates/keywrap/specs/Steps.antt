@@ -1,6 +1,7 @@
--- RFC 3394, section 2.2.1, "Key Wrap", in its index form, over the registers A, R[1], .., R[n]: a list of n + 1 numbers of 64 bits, A at index 0.
+-- RFC 3394, section 2.2.1, "Key Wrap", in its index form, over the registers A, R[1], .., R[n]: a list of n + 1 numbers of 64 bits, A at
+-- index 0.
 use Prim.Native.Nat.{ℕ, zero, suc, _+_, _*_}
-use mathlib.Core.List.{List, [], _∷_, _++_}
+use mathlib.Core.List.{List, _++_}
 use lib.ListN.{getD, set, drop}
 use lib.Bits.{bitXor}
 use Rattle.octets.specs.Numbers.{number, octetsOf}

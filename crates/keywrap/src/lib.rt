@@ -9,12 +9,12 @@ ghost use mathlib.Core.Path.{_≡_};
 ghost use mathlib.Core.List.{List};
 ghost use Prim.Native.Nat.{ℕ, suc, _≤_, _*_};
 ghost use lib.Dec.{T};
-ghost use lib.ListN.{length, take};
+ghost use lib.ListN.{length};
 ghost use Rattle.fips197.specs.Key.{isKey};
 ghost use Rattle.aes.specs.Schedule.{ExpandsInverse, ExpandedInverse};
-ghost use Rattle.keywrap.specs.Wrap.{registers, wrapOf};
-ghost use Rattle.keywrap.specs.Answers.{written, blank, WrapAnswers, OpenAnswers};
-ghost use Rattle.keywrap.specs.inner.Unwrap.{backward};
+ghost use Rattle.keywrap.specs.Wrap.{wrapOf};
+ghost use Rattle.keywrap.specs.Answers.{written, WrapAnswers, OpenAnswers, OpensBlank};
+ghost use Rattle.keywrap.specs.inner.Unwrap.{Unwraps};
 ghost use Rattle.keywrap.specs.inner.Room.{putAnswer, putRoom};
 
 // What wrapping and opening answer: document 01's "no", or the count of octets written at the room's start.
@@ -80,7 +80,7 @@ pub fn wrap(key: &[u8], octets: &[u8], room: &mut [u8]) -> Answer
 fn unwrapped(schedule: &[u8; 497], wrapped: &[u8], n: usize) -> [u64; 33]
     requires { ⌜ ExpandedInverse (now schedule) ⌝ }
     requires { ⌜ (1 ≤ n) × (n ≤ 32) × (length (now wrapped) ≡ 8 * suc n) ⌝ }
-    ensures { λ r. ⌜ ((key : List ℕ) → ExpandsInverse key (now (schedule .entry)) → take (suc n) r ≡ backward key n (registers (suc n) (now (wrapped .entry)))) ⌝ }
+    ensures { λ r. ⌜ ((key : List ℕ) → ExpandsInverse key (now (schedule .entry)) → Unwraps key n (now (wrapped .entry)) r) ⌝ }
 {
     let end = n + 1;
     let mut s = [0u64; 33];
@@ -92,7 +92,7 @@ fn unwrapped(schedule: &[u8; 497], wrapped: &[u8], n: usize) -> [u64; 33]
 // Opens over a schedule that was expanded once, into blank room. Internal.
 pub fn open_under(schedule: InverseSchedule, wrapped: &[u8]) -> Opened
     requires { ⌜ ExpandedInverse (schedule .octets) ⌝ }
-    ensures { λ r. ⌜ ((key : List ℕ) → ExpandsInverse key (schedule .octets) → OpenAnswers key (now (wrapped .entry)) blank (r .answer) (r .octets)) ⌝ }
+    ensures { λ r. ⌜ ((k : List ℕ) → ExpandsInverse k (schedule .octets) → OpensBlank k (now (wrapped .entry)) (r .answer) (r .octets)) ⌝ }
 {
     let size = wrapped.len();
     if size < 16 {

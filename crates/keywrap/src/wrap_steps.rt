@@ -3,11 +3,11 @@ use octets::registers::be64_at;
 use octets::registers::block_of;
 ghost use mathlib.Core.Path.{_≡_};
 ghost use mathlib.Core.List.{List};
-ghost use Prim.Native.Nat.{ℕ, suc, _+_, _*_, _<_, _≤_};
+ghost use Prim.Native.Nat.{ℕ, _+_, _*_, _<_, _≤_};
 ghost use lib.ListN.{length};
-ghost use Rattle.aes.specs.Schedule.{Expands, Expanded, ExpandsInverse, ExpandedInverse};
+ghost use Rattle.aes.specs.Schedule.{Expands, Expanded};
 ghost use Rattle.keywrap.specs.Steps.{step, row, rows};
-ghost use Rattle.keywrap.specs.inner.Unwrap.{unstep, unrow, unrows, forward, backward};
+ghost use Rattle.keywrap.specs.inner.Unwrap.{forward};
 
 fn step_in(schedule: &[u8; 497], s: &mut [u64], t: u64, i: usize)
     requires { ⌜ Expanded (now schedule) ⌝ }

@@ -6,7 +6,7 @@ use native.Mathlib.Nat.{mod-lt, div-add-mod', div-lt-iff-lt-mul, pow-suc, add-ze
 use native.Mathlib.Numerals.{add-one}
 use native.Mathlib.Omega.{arith}
 use lib.Dec.{lit<}
-use lib.ListN.{length, getD, take, drop, length-append, List·getD-append}
+use lib.ListN.{length, take, drop, length-append, List·getD-append}
 use lib.Seq.{take-suc, getD-at, getD-drop, drop-drop}
 use Rattle.octets.specs.Numbers.{oct, number, octetsOf}
 use Rattle.octets.specs.Octets.{Octets}
@@ -45,7 +45,8 @@ unfolding number octetsOf
 number-octets zero x h = omega arith
 number-octets (suc n) x h =
     ap₂ (λ (a b : ℕ). a * 256 + b)
-    (number-append n (octetsOf n (x / 256)) (x % 256 ∷ []) (omega (arith, length-octets n (x / 256))) ∙ number-octets n (x / 256) (shorter n x h))
+    (number-append n (octetsOf n (x / 256)) (x % 256 ∷ []) (omega (arith, length-octets n (x / 256)))
+    ∙ number-octets n (x / 256) (shorter n x h))
     (getD-at (octetsOf n (x / 256)) (x % 256) [] 0 n (length-octets n (x / 256)))
     ∙ div-add-mod' x 256
 
@@ -54,7 +55,8 @@ unfolding number octetsOf
 octets-number zero s o h = refl
 octets-number (suc n) s o h =
     ap₂ (λ (a : List ℕ) (b : ℕ). a ++ (b ∷ []))
-    (ap (octetsOf n) (let z : (number n s * 256 + oct s n) / 256 ≡ number n s = omega (arith, o n) in z) ∙ octets-number n s o (omega arith))
+    (ap (octetsOf n) (let z : (number n s * 256 + oct s n) / 256 ≡ number n s = omega (arith, o n) in z)
+    ∙ octets-number n s o (omega arith))
     (let z : (number n s * 256 + oct s n) % 256 ≡ oct s n = omega (arith, o n) in z)
     ∙ sym (take-suc s n 0 h)
 
@@ -69,7 +71,9 @@ number-add m (suc n) s =
     ∙ ap (λ (p : ℕ). number m s * p + (number n (drop m s) * 256 + oct (drop m s) n)) (sym (pow-suc 256 n))
   where
     regroup : (a p b d : ℕ) → (a * p + b) * 256 + d ≡ a * (p * 256) + (b * 256 + d)
-    regroup a p b d = ap (λ (x : ℕ). x + d) (add-mul (a * p) b 256) ∙ add-assoc (a * p * 256) (b * 256) d ∙ ap (λ (x : ℕ). x + (b * 256 + d)) (mul-assoc a p 256)
+    regroup a p b d =
+        ap (λ (x : ℕ). x + d) (add-mul (a * p) b 256) ∙ add-assoc (a * p * 256) (b * 256) d
+        ∙ ap (λ (x : ℕ). x + (b * 256 + d)) (mul-assoc a p 256)
 
 pub number-four : (s : List ℕ) (at : ℕ) {a b c d : ℕ} → a ≡ oct s at → b ≡ oct s (at + 1) → c ≡ oct s (at + 2) → d ≡ oct s (at + 3)
     → ((a * 256 + b) * 256 + c) * 256 + d ≡ number 4 (drop at s)

@@ -1,7 +1,6 @@
 -- `keywrap::open` meets its contract. Assumes nothing.
 use borrow.Author.Needs.{needs}
 use mathlib.Core.Path.{refl, subst}
-use native.Mathlib.Omega.{arith}
 use Rattle.keywrap.proofs.Answering.{is-so, is-not-so}
 use Rattle.keywrap.proofs.Opening.{put-none, put-most, put-some}
 use mathlib.Core.Path.{sym}

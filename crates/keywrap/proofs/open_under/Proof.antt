@@ -41,7 +41,8 @@ returns-3 c = λ key e.
     let u = c .before in
     let s = u .before .before .before .before .before .before in
     let w = s .before .args .wrapped .now in
-    opened key w (u .unwrapped .result) (length w / 8 - 1) (e .key-is) (λ i. s .shared-slice-known .given i .fits) (omega arith) (omega arith) (omega arith)
+    opened key w (u .unwrapped .result) (length w / 8 - 1) (e .key-is) (λ i. s .shared-slice-known .given i .fits)
+    (omega arith) (omega arith) (omega arith)
     (u .unwrapped .ensures key e) (c .checked .result .answer) (c .checked .result .octets) (c .checked .ensures)
 
 refused-requires-3 : tie.Need-refused-requires-3

@@ -50,7 +50,8 @@ backward-in-requires c κs =
     let a = s .before in
     let w = a .args .wrapped .now in
     let o : Octets w = λ i. s .shared-slice-known .given i .fits in
-    (a .pre .0, (a .pre .1 .0, a .pre .1 .1, omega (arith, part-kept w (a .args .n) o (a .pre .1 .1) (l .load .last .1 .0) (l .load .ensures))))
+    let k = part-kept w (a .args .n) o (a .pre .1 .1) (l .load .last .1 .0) (l .load .ensures) in
+    (a .pre .0, (a .pre .1 .0, a .pre .1 .1, omega (arith, k)))
 
 returns : tie.Need-returns
 returns c = λ key e.

@@ -34,7 +34,9 @@ returns-3 c =
     let o : Octets x = λ i. s .before .shared-slice-known2 .given i .fits in
     let k : Octets key = λ i. s .before .before .shared-slice-known .given i .fits in
     record {
-      none = λ y w. omega (arith, length-wrap key x (record { size = w .key-size; small = k }) o (w .least) (w .most), ap length (w .is), w .holds);
+      none = λ y w.
+          let l = length-wrap key x (record { size = w .key-size; small = k }) o (w .least) (w .most) in
+          omega (arith, l, ap length (w .is), w .holds);
       room-is = refl;
     }
 

@@ -4,7 +4,7 @@ use mathlib.Core.Path.{_≡_}
 use Prim.Native.Nat.{ℕ, zero, suc, _+_, _*_, _/_, _%_}
 use mathlib.Core.List.{List, [], _∷_}
 use lib.Dec.{eqb}
-use lib.ListN.{length, drop}
+use lib.ListN.{length, take, drop}
 use lib.Bits.{bitXor}
 use Rattle.octets.specs.Octets.{Octets}
 use Rattle.fips197.specs.Cipher.{invCipher}
@@ -44,6 +44,10 @@ backwardBy false key n s = unrows key n 6 s
 
 unfoldable pub backward : List ℕ → ℕ → List ℕ → List ℕ
 backward key n s = backwardBy (eqb n 1) key n s
+
+-- the first n + 1 of the registers s are those of the wrapped octets before the steps
+abbrev pub Unwraps : List ℕ → ℕ → List ℕ → List ℕ → Type 0
+Unwraps key n wrapped s = take (suc n) s ≡ backward key n (registers (suc n) wrapped)
 
 -- RFC 5649, section 3, the checks: the registers s of n blocks are those that the octets x have before the steps
 pub record Begins (n : ℕ) (s x : List ℕ) : Type 0 where

@@ -35,7 +35,8 @@ slice-aggregate-load : tie.Need-slice-aggregate-load
 slice-aggregate-load c =
     let x = c .before .before .before .before .before .args .octets .now in
     let p = c .before .before .copy in
-    sym (length-take-le (8 * blocks (length x)) (p .last .1 .0) (omega (arith, length-filled x (p .last .1 .0) (omega arith) (p .ensures .1))))
+    let l = length-filled x (p .last .1 .0) (omega arith) (p .ensures .1) in
+    sym (length-take-le (8 * blocks (length x)) (p .last .1 .0) (omega (arith, l)))
 
 add-load : tie.Need-add-load
 add-load c = search needs
@@ -53,7 +54,8 @@ load-requires : tie.Need-load-requires
 load-requires c κs =
     let x = c .before .before .before .before .before .before .args .octets .now in
     let p = c .before .before .before .copy in
-    length-take-le (8 * blocks (length x)) (p .last .1 .0) (omega (arith, length-filled x (p .last .1 .0) (omega arith) (p .ensures .1)))
+    let l = length-filled x (p .last .1 .0) (omega arith) (p .ensures .1) in
+    length-take-le (8 * blocks (length x)) (p .last .1 .0) (omega (arith, l))
     ∙ ap (λ (k : ℕ). 8 * k) (sym (length-take-le (blocks (length x) + 1 - 1) (replicate 32 0) (omega arith) ∙ omega arith))
 
 returns : tie.Need-returns

@@ -1,7 +1,7 @@
 -- `keywrap::load::store` meets its contract. Assumes nothing.
 use borrow.Author.Needs.{needs}
-use mathlib.Core.Path.{_≡_, refl, sym, ap, _∙_}
-use Prim.Native.Nat.{ℕ, _*_, _-_, _≤_}
+use mathlib.Core.Path.{_≡_, refl, ap, _∙_}
+use Prim.Native.Nat.{ℕ, _-_, _≤_}
 use native.Mathlib.Omega.{arith}
 use lib.ListN.{length, take}
 use Rattle.keywrap.specs.Wrap.{octetsIn}
@@ -61,7 +61,8 @@ loop-again c =
     let d = c .before .before in
     let l = d .before .before .before .before .before .before in
     let a = l .before .before .before .args in
-    let e = stored-turn (a .s .now) (a .room .now) (l .loop .room) (l .loop .i) (omega arith) (l .loop .inv .2) (d .before .before .before .octets-of .ensures) (d .copy .ensures .1) in
+    let b = d .before .before .before .octets-of .ensures in
+    let e = stored-turn (a .s .now) (a .room .now) (l .loop .room) (l .loop .i) (omega arith) (l .loop .inv .2) b (d .copy .ensures .1) in
     (omega arith, search needs, e)
 
 same-length : tie.Need-same-length Inv-loop μ-loop

@@ -2,7 +2,7 @@
 use borrow.Author.Needs.{needs}
 use mathlib.Core.Path.{_≡_, refl, ap, _∙_}
 use mathlib.Core.List.{List}
-use Prim.Native.Nat.{ℕ, _+_, _-_, _≤_}
+use Prim.Native.Nat.{ℕ, _-_, _≤_}
 use native.Mathlib.Omega.{arith}
 use lib.ListN.{length}
 use Rattle.aes.specs.Schedule.{ExpandsInverse}
@@ -37,8 +37,12 @@ loop-again : tie.Need-loop-again Inv-loop μ-loop
 loop-again c =
     let d = c .before .before in
     let l = d .before .before .before in
-    let a = l .before .before .args in
-    (omega arith, search needs, λ key e. unrow-turn key (l .loop .s) (a .base) (l .loop .i) (omega arith) (l .loop .inv .2 key e) (d .unstep-in .ensures key e))
+    let a = l .before .before .args in (
+      omega arith,
+      search needs,
+      λ key e.
+          unrow-turn key (l .loop .s) (a .base) (l .loop .i) (omega arith) (l .loop .inv .2 key e) (d .unstep-in .ensures key e),
+    )
 
 same-length : tie.Need-same-length Inv-loop μ-loop
 same-length c = search needs

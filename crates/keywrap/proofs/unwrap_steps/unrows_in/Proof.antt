@@ -2,7 +2,7 @@
 use borrow.Author.Needs.{needs}
 use mathlib.Core.Path.{_≡_, refl, ap, _∙_}
 use mathlib.Core.List.{List}
-use Prim.Native.Nat.{ℕ, _+_, _*_, _-_, _≤_}
+use Prim.Native.Nat.{ℕ, _-_, _≤_}
 use native.Mathlib.Omega.{arith}
 use lib.ListN.{length}
 use Rattle.aes.specs.Schedule.{ExpandsInverse}
@@ -32,7 +32,8 @@ mul-unrow-in c =
 unrow-in-requires : tie.Need-unrow-in-requires Inv-loop μ-loop
 unrow-in-requires c κs =
     let l = c .before .before in
-    (l .before .before .pre .0, (base-small (l .before .before .args .n) (l .loop .j - 1) (omega arith) (omega arith), omega arith, omega arith))
+    let b = base-small (l .before .before .args .n) (l .loop .j - 1) (omega arith) (omega arith) in
+    (l .before .before .pre .0, (b, omega arith, omega arith))
 
 loop-less : tie.Need-loop-less Inv-loop μ-loop
 loop-less c = search needs
@@ -41,8 +42,12 @@ loop-again : tie.Need-loop-again Inv-loop μ-loop
 loop-again c =
     let d = c .before .before in
     let l = d .before .before .before in
-    let a = l .before .before .args in
-    (omega arith, search needs, λ key e. unrows-turn key (l .loop .s) (a .n) (l .loop .j) (omega arith) (l .loop .inv .2 key e) (d .unrow-in .ensures key e))
+    let a = l .before .before .args in (
+      omega arith,
+      search needs,
+      λ key e.
+          unrows-turn key (l .loop .s) (a .n) (l .loop .j) (omega arith) (l .loop .inv .2 key e) (d .unrow-in .ensures key e),
+    )
 
 same-length : tie.Need-same-length Inv-loop μ-loop
 same-length c = search needs

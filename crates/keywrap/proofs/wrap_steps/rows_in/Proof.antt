@@ -2,7 +2,7 @@
 use borrow.Author.Needs.{needs}
 use mathlib.Core.Path.{_≡_, refl, ap, _∙_}
 use mathlib.Core.List.{List}
-use Prim.Native.Nat.{ℕ, _+_, _*_, _-_, _≤_}
+use Prim.Native.Nat.{ℕ, _-_, _≤_}
 use native.Mathlib.Omega.{arith}
 use lib.ListN.{length}
 use Rattle.aes.specs.Schedule.{Expands}
@@ -30,7 +30,8 @@ mul-row-in c =
 row-in-requires : tie.Need-row-in-requires Inv-loop μ-loop
 row-in-requires c κs =
     let l = c .before .before in
-    (l .before .before .pre .0, (base-small (l .before .before .args .n) (l .loop .j) (omega arith) (omega arith), omega arith, omega arith))
+    let b = base-small (l .before .before .args .n) (l .loop .j) (omega arith) (omega arith) in
+    (l .before .before .pre .0, (b, omega arith, omega arith))
 
 add-j : tie.Need-add-j Inv-loop μ-loop
 add-j c = search needs

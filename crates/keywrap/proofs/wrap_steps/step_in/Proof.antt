@@ -47,7 +47,8 @@ returns : tie.Need-returns
 returns c = λ key e.
     let d = c .before .before .before .before in
     let a = d .before .before .before .before .before .args in
-    stepped key (a .s .now) (a .t) (a .i) (d .before .block-of .ensures) (d .encrypt .ensures key e) (c .before .before .be64-at .ensures) (c .be64-at2 .ensures)
+    stepped key (a .s .now) (a .t) (a .i) (d .before .block-of .ensures) (d .encrypt .ensures key e)
+    (c .before .before .be64-at .ensures) (c .be64-at2 .ensures)
 
 pub step-in-spec : {M : Type 1} → statement M
 step-in-spec =

@@ -61,7 +61,8 @@ returns c =
     let c2 = c3 .before .before in
     let c1 = c2 .before .before in
     let a = c1 .before .before .before .args in
-    (number-four (a .s .now) (a .at) (c1 .wide64 .ensures .0) (c2 .wide642 .ensures .0) (c3 .wide643 .ensures .0) (c .wide644 .ensures .0), search needs)
+    let e = number-four (a .s .now) (a .at) (c1 .wide64 .ensures .0) (c2 .wide642 .ensures .0) (c3 .wide643 .ensures .0) in
+    (e (c .wide644 .ensures .0), search needs)
 
 pub word-at-spec : {M : Type 1} → statement M
 word-at-spec =
