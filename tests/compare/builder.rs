@@ -161,6 +161,13 @@ impl Payload {
         Payload { kind, next: None, flags: 0, skew: 0, body, tail: Vec::new() }
     }
 
+    /// Makes the length field say `length`.
+    pub fn say_length(&mut self, length: usize) {
+        let mut out = Built::default();
+        self.build(0, &mut out);
+        self.skew = length as i64 - out.octets.len() as i64;
+    }
+
     fn build(&self, next: u8, out: &mut Built) {
         let start = out.octets.len();
         out.number(1, self.next.unwrap_or(next) as i64);
@@ -186,6 +193,13 @@ impl Part {
         let (second, spi) = (spi.len() as u8, spi.to_vec());
         let (selectors, transforms, attributes) = (Vec::new(), Vec::new(), Vec::new());
         Part { protocol, second, skew: 0, spi, selectors, transforms, attributes, tail: Vec::new() }
+    }
+
+    /// Makes the length field say `length`.
+    pub fn say_length(&mut self, length: usize) {
+        let mut out = Built::default();
+        self.build(&mut out);
+        self.skew = length as i64 - out.octets.len() as i64;
     }
 
     fn build(&self, out: &mut Built) {
@@ -227,6 +241,13 @@ impl Selector {
 impl Transform {
     pub fn new(kind: u8, id: u16, attributes: Vec<Attribute>) -> Transform {
         Transform { more: None, reserved: (0, 0), skew: 0, kind, id, attributes, tail: Vec::new() }
+    }
+
+    /// Makes the length field say `length`.
+    pub fn say_length(&mut self, length: usize) {
+        let mut out = Built::default();
+        self.build(true, &mut out);
+        self.skew = length as i64 - out.octets.len() as i64;
     }
 
     fn build(&self, last: bool, out: &mut Built) {
