@@ -81,20 +81,26 @@ pub fn hostile_line(good: &[u8], rng: &mut Rng) -> Vec<u8> {
     line
 }
 
-/// First lines, good and bad.
-pub fn first_line(rng: &mut Rng) -> Vec<u8> {
+/// First lines, good and bad, by kind. Most would be a fit key but for the fault.
+pub fn first_line(kind: usize, rng: &mut Rng) -> Vec<u8> {
     let digits = |rng: &mut Rng, count: usize| -> Vec<u8> { (0..count).map(|_| rng.pick(b"0123456789abcdef")).collect() };
-    let count = rng.pick(&[2, 30, 32, 34, 40, 46, 48, 50, 56, 62, 64]);
-    let good = digits(rng, count);
-    match rng.below(9) {
-        0 => Vec::new(),
-        1 => digits(rng, 65),
-        2 => digits(rng, 66),
-        3 => digits(rng, 31),
-        4 => [good.as_slice(), b"\r"].concat(),
-        5 => [b" ", good.as_slice()].concat(),
-        6 => [&good[..1], &[rng.pick(b"AFgx \0\xff")]].concat(),
-        7 => digits(rng, 40_000),
-        _ => good,
+    let fit = rng.pick(&[32, 48, 64]);
+    let (unfit, at) = (rng.pick(&[2, 30, 34, 40, 46, 50, 56, 62]), rng.below(fit));
+    let mut line = digits(rng, fit);
+    match kind % 13 {
+        0 => line.clear(),
+        1 => line = digits(rng, 65),
+        2 => line = digits(rng, 66),
+        3 => line.truncate(fit - 1),
+        4 => line.push(b'\r'),
+        5 => line.insert(0, b' '),
+        6 => line[at] = rng.pick(b"gx/:@`{ \t\0\x7f\x80\xff"),
+        7 => line[at] = rng.pick(b"ABCDEF"),
+        8 => line = digits(rng, 40_000),
+        9 => line = digits(rng, unfit),
+        10 => line = [b"0x", line.as_slice()].concat(),
+        11 => line.push(b' '),
+        _ => {}
     }
+    line
 }

@@ -7,6 +7,7 @@ use crate::rng::Rng;
 use crate::scene::{Scene, Shape};
 use crate::tally::Tally;
 use crate::violations::{allowed, of_place, Violation};
+use reference::layout::MOST_FRAME;
 use reference::member::Member;
 use reference::text;
 
@@ -99,7 +100,7 @@ impl Writer<'_> {
 
     /// A first line that may be none, then frames as if it were one.
     fn hostile_first_line(&mut self) {
-        self.lines[0] = first_line(&mut self.scene.rng);
+        self.lines[0] = first_line(self.seed as usize / 16, &mut self.scene.rng);
         self.scene.lent = text::default_key(&self.lines[0]);
         let shape = self.scene.full_shape();
         let case = self.scene.registration(shape);
@@ -160,7 +161,7 @@ impl Writer<'_> {
     /// False if the frame has not what the violation takes.
     fn single(&mut self, violation: &'static Violation, registration: bool) -> bool {
         let Some(mut case) = self.base(registration) else { return false };
-        if (violation.make)(&mut case).is_none() {
+        if (violation.make)(&mut case).is_none() || case.frame.octets().len() > MOST_FRAME {
             return false;
         }
         self.claim(&case, violation.number, violation.name);
@@ -175,8 +176,11 @@ impl Writer<'_> {
         if (first.make)(&mut case).is_none() || (second.make)(&mut case).is_none() {
             return;
         }
-        let answer = self.frame(&case.frame.octets(), format!("{} + {}", first.name, second.name));
-        self.tally.pair(a, b, answer);
+        let octets = case.frame.octets();
+        if octets.len() <= MOST_FRAME {
+            let answer = self.frame(&octets, format!("{} + {}", first.name, second.name));
+            self.tally.pair(a, b, answer);
+        }
     }
 
     /// A frame that must be accepted, with up to three oddities.
@@ -185,10 +189,11 @@ impl Writer<'_> {
         let table = allowed::of_place(registration);
         let mut chosen: Vec<usize> = (0..self.scene.rng.below(4)).map(|_| self.scene.rng.below(table.len())).collect();
         chosen.sort();
+        chosen.dedup();
         let mut label = String::from(if registration { "registration" } else { "rekey" });
         for index in chosen {
             let mut odd = case.clone();
-            if (table[index].make)(&mut odd).is_some() && odd.frame.octets().len() <= 16_384 {
+            if (table[index].make)(&mut odd).is_some() && odd.frame.octets().len() <= MOST_FRAME {
                 case = odd;
                 label = format!("{label}, {}", table[index].name);
                 self.tally.alone(table[index].name);
@@ -232,6 +237,7 @@ impl Writer<'_> {
         }
     }
 
+    /// A frame of any octets, as many as a good line holds.
     fn frame(&mut self, octets: &[u8], label: String) -> u8 {
         let mut line = format!("{:08x}", self.scene.tick).into_bytes();
         line.extend(hex(octets));

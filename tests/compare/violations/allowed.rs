@@ -116,6 +116,7 @@ pub const TABLE: &[Violation] = &[
         entry(c, id, kwk_id, &octets)
     }),
     registration(0, "32 WRAP_KEY", |c| fill(c, 0, 32)),
+    registration(0, "32 keys in one chain, backwards", one_chain),
     rekey(0, "Message ID above the least", |c| {
         let more = c.rng.pick(&[1, 2, 1000, 1 << 20]);
         c.frame.message_id = c.frame.message_id.checked_add(more).filter(|id| *id < u32::MAX)?;
@@ -134,8 +135,9 @@ pub const TABLE: &[Violation] = &[
     rekey(0, "copies under every key", |c| {
         let (key, keys) = (c.sa_key(REKEY)?, c.keys.clone());
         let copies = keys.iter().take(20).map(|(id, kwk)| Attribute::key(0, *id, &wrap(kwk, &key)));
-        c.sa_bag(REKEY)?.attributes.extend(copies);
-        Some(())
+        let bag = c.sa_bag(REKEY)?;
+        bag.attributes.extend(copies);
+        (bag.attributes.len() <= 32).then_some(())
     }),
     rekey(0, "32 SA_KEY", |c| fill(c, REKEY, 32)),
     any(0, "8 ESP policies", |c| {
@@ -187,6 +189,16 @@ pub const TABLE: &[Violation] = &[
         c.sa_keys.clear();
         Some(())
     }),
+    any(0, "hundreds of payloads", |c| {
+        let kind = c.rng.pick(&[NOTIFY, CERT, 33, 255]);
+        c.frame.payloads.extend(vec![Payload::new(kind, Body::Plain(vec![])); 500]);
+        Some(())
+    }),
+    any(0, "hundreds of skipped attributes", |c| {
+        let (kind, attribute) = (c.rng.pick(&[GSA, KD]), skipped(c, &[0, 3, 0x7fff]));
+        c.some_part(kind)?.attributes.extend(vec![attribute; 200]);
+        Some(())
+    }),
     any(0, "16,384 octets", |c| {
         let count = 16_384usize.checked_sub(c.frame.octets().len() + 4)?;
         let octets = vec![c.rng.number() as u8; count];
@@ -194,6 +206,24 @@ pub const TABLE: &[Violation] = &[
         Some(())
     }),
 ];
+
+/// Each of 32 keys under the one before, the last one first; the Rekey SA's key, if one is announced, under the last.
+fn one_chain(c: &mut Case) -> Option<()> {
+    let (mut kwk_id, mut kwk) = (0, c.key0.clone());
+    let mut entries = Vec::new();
+    c.keys.clear();
+    for id in (1..=32).map(|i| 7 * i % 37) {
+        let value = c.rng.octets(kwk.len());
+        entries.insert(0, Attribute::key(id, kwk_id, &wrap(&kwk, &value)));
+        c.keys.push((id, value.clone()));
+        (kwk_id, kwk) = (id, value);
+    }
+    c.bag(0)?.attributes = entries;
+    if let Some(key) = c.sa_key(REKEY) {
+        c.sa_bag(REKEY)?.attributes = vec![Attribute::key(0, kwk_id, &wrap(&kwk, &key))];
+    }
+    Some(())
+}
 
 fn reserved(c: &mut Case) -> Option<()> {
     let octet = c.rng.number() as u8 | 1;

@@ -17,6 +17,13 @@ pub const TABLE: &[Violation] = &[
     }),
     any(5, "AH policy without a bag", ah_policy),
     any(5, "AH bag without a policy", ah_bag),
+    any(5, "AH policy with an ESP SA's transforms", |c| {
+        let policy = Part { protocol: AH, ..c.policy(ESP)?.clone() };
+        c.policies()?.push(policy);
+        Some(())
+    }),
+    any(5, "ESP: hundreds of transforms", |c| many_transforms(c, ESP)),
+    any(5, "Rekey: hundreds of transforms", |c| many_transforms(c, REKEY)),
     any(5, "ESP: no encryption", |c| without(c, ESP, ENCRYPTION)),
     any(5, "ESP: encryption twice", |c| twice(c, ESP, ENCRYPTION)),
     any(5, "ESP: encryption with another ID", |c| with_id(c, ESP, ENCRYPTION, &[0, 12, 18, 19, 21, 28, 276])),
@@ -74,6 +81,12 @@ fn ah_policy(c: &mut Case) -> Option<()> {
 fn ah_bag(c: &mut Case) -> Option<()> {
     let key = Attribute::key(0, 0, &c.rng.octets(32));
     c.bags()?.push(bag(AH, &[9, 8, 7, 6], vec![key]));
+    Some(())
+}
+
+fn many_transforms(c: &mut Case, protocol: u8) -> Option<()> {
+    let transform = c.some_transform()?.clone();
+    c.policy(protocol)?.transforms.extend(vec![transform; 300]);
     Some(())
 }
 

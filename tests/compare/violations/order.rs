@@ -85,6 +85,17 @@ pub const TABLE: &[Violation] = &[
         c.insert(kd(vec![]));
         Some(())
     }),
+    any(4, "two GSA and two KD, the second ones empty", |c| {
+        c.insert(gsa(vec![]));
+        c.insert(kd(vec![]));
+        Some(())
+    }),
+    any(4, "policies in two GSA, bags in two KD", |c| {
+        let (policy, bag) = (c.policies()?.pop()?, c.bags()?.pop()?);
+        c.insert(gsa(vec![policy]));
+        c.insert(kd(vec![bag]));
+        Some(())
+    }),
     any(4, "GSA without KD", |c| c.remove(KD)),
     any(4, "KD without GSA", |c| c.remove(GSA)),
     any(4, "neither GSA nor KD", |c| {

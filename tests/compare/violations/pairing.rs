@@ -4,7 +4,7 @@ use super::{any, registration, rekey, Violation};
 use crate::case::Case;
 use builder::typical::*;
 use builder::wrapping::wrap;
-use builder::{Attribute, ESP, REKEY};
+use builder::{Attribute, Part, ESP, REKEY};
 use reference::member::{Condition, Sa};
 
 pub const TABLE: &[Violation] = &[
@@ -103,7 +103,27 @@ pub const TABLE: &[Violation] = &[
         }
         Some(())
     }),
+    any(7, "60 ESP policies", many_policies),
+    any(6, "60 ESP policies, two of one SPI", |c| {
+        many_policies(c)?;
+        let (policy, bag) = (c.policy(ESP)?.clone(), c.sa_bag(ESP)?.clone());
+        let spi = policy.spi.clone();
+        c.policies()?.push(policy);
+        c.bags()?.push(Part { spi, ..bag });
+        Some(())
+    }),
     registration(7, "33 WRAP_KEY", |c| fill(c, 0, 33)),
+    registration(7, "200 WRAP_KEY", |c| fill(c, 0, 200)),
+    registration(6, "200 WRAP_KEY, the last with Key ID 0", |c| {
+        fill(c, 0, 199)?;
+        c.bag(0)?.attributes.push(Attribute::key(0, 0, &[0; 16]));
+        Some(())
+    }),
+    rekey(7, "150 SA_KEY in a bag", |c| fill(c, REKEY, 150)),
+    rekey(7, "2,000 deleted SPIs", |c| {
+        c.delete()?.spis = vec![vec![0; 4]; 2000];
+        Some(())
+    }),
     rekey(7, "33 SA_KEY in a bag", |c| fill(c, REKEY, 33)),
     rekey(7, "33 deleted SPIs", |c| {
         let spi = c.rng.octets(4);
@@ -131,6 +151,14 @@ fn rename_as(c: &mut Case, protocol: u8, fits: fn(&Sa, u32) -> bool) -> Option<(
     let fitting: Vec<_> = c.member.table.iter().filter(|sa| sa.protocol == protocol && fits(sa, c.tick)).collect();
     let spi = fitting.get(c.rng.below(fitting.len()))?.spi.clone();
     c.rename(protocol, &spi)
+}
+
+fn many_policies(c: &mut Case) -> Option<()> {
+    c.policy(ESP)?;
+    while c.policies()?.iter().filter(|policy| policy.protocol == ESP).count() < 60 {
+        c.announce_esp()?;
+    }
+    Some(())
 }
 
 fn two_keys(c: &mut Case, protocol: u8) -> Option<()> {
