@@ -13,7 +13,7 @@ use reference::text;
 use script::{script, Script};
 use std::io::{Read, Write};
 use std::path::{Path, PathBuf};
-use std::process::{Command, ExitCode, Stdio};
+use std::process::{Command, ExitCode, ExitStatus, Stdio};
 use std::time::{Duration, Instant};
 use tally::Tally;
 
@@ -61,9 +61,10 @@ fn compare(arguments: &Arguments) -> Result<(), String> {
     for case in fixed_cases(arguments.cases.as_deref())? {
         let input = std::fs::read(&case).map_err(|error| format!("{}: {error}", case.display()))?;
         let (ours, theirs) = (second_member(&input), run(&arguments.program, &input)?);
-        if let Some(at) = difference(&ours, &theirs) {
+        if let Some(at) = difference(&ours, &theirs.output) {
             return Err(format!("{} differs: {}", case.display(), at.text));
         }
+        theirs.check_status()?;
     }
     let mut tally = Tally::default();
     let mut in_program = Duration::ZERO;
@@ -73,9 +74,10 @@ fn compare(arguments: &Arguments) -> Result<(), String> {
         let before = Instant::now();
         let theirs = run(&arguments.program, &script.input)?;
         in_program += before.elapsed();
-        if let Some(at) = difference(&ours, &theirs) {
+        if let Some(at) = difference(&ours, &theirs.output) {
             return Err(keep(seed, &script, &ours, at)?);
         }
+        theirs.check_status()?;
     }
     print(&tally, arguments, start.elapsed(), in_program);
     verdict(&tally, arguments.count)
@@ -97,7 +99,22 @@ fn second_member(input: &[u8]) -> Vec<u8> {
     output
 }
 
-fn run(program: &Path, input: &[u8]) -> Result<Vec<u8>, String> {
+/// What a program printed, and how it ended.
+struct Run {
+    output: Vec<u8>,
+    status: ExitStatus,
+}
+
+impl Run {
+    fn check_status(&self) -> Result<(), String> {
+        if self.status.success() {
+            return Ok(());
+        }
+        Err(format!("the program printed what it must, but ended with {}", self.status))
+    }
+}
+
+fn run(program: &Path, input: &[u8]) -> Result<Run, String> {
     let fault = |error: std::io::Error| format!("{}: {error}", program.display());
     let mut child = Command::new(program).stdin(Stdio::piped()).stdout(Stdio::piped()).spawn().map_err(fault)?;
     let (mut stdin, mut stdout) = (child.stdin.take().expect("piped"), child.stdout.take().expect("piped"));
@@ -108,11 +125,7 @@ fn run(program: &Path, input: &[u8]) -> Result<Vec<u8>, String> {
         stdout.read_to_end(&mut output)
     })
     .map_err(fault)?;
-    let status = child.wait().map_err(fault)?;
-    if !status.success() {
-        println!("compare: {} ended with {status}", program.display());
-    }
-    Ok(output)
+    Ok(Run { output, status: child.wait().map_err(fault)? })
 }
 
 struct Difference {
