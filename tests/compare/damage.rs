@@ -70,7 +70,7 @@ pub fn hostile_line(good: &[u8], rng: &mut Rng) -> Vec<u8> {
         6 => line.insert(0, b' '),
         7 => line.insert(at, rng.pick(b"0f ")),
         8 => line = [b"0x", good].concat(),
-        9 => line = vec![b'0'; rng.pick(&[32_774, 32_776, 32_777, 32_778, 40_000])],
+        9 => line = vec![b'0'; rng.pick(&[32_774, 32_776, 32_777, 32_778, 40_000, 300_000])],
         10 => line = vec![rng.pick(b"0f"); rng.pick(&[7, 8, 9, 10, 62, 64, 66])],
         11 => line.resize(rng.pick(&[32_775, 32_776, 32_777, 32_778, 70_000]), b'0'),
         12 => line.push(b' '),

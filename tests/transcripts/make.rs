@@ -21,6 +21,11 @@ impl Transcript {
         Transcript { name, input: format!("{first_line}\n").into_bytes(), output: String::new(), about: String::new() }
     }
 
+    /// An input as it is, and all that is printed.
+    pub fn of(name: &'static str, input: &[u8], output: &str, about: &str) -> Transcript {
+        Transcript { name, input: input.to_vec(), output: output.to_string(), about: format!("{about}\n") }
+    }
+
     pub fn frame(&mut self, about: &str, tick: u32, frame: &Frame, answer: &str) {
         self.octets(about, tick, &frame.octets(), answer);
     }

@@ -22,6 +22,11 @@ pub fn all() -> Vec<Transcript> {
         cut("cut-28-16", 192, 1, 28),
         limits(),
         lines(),
+        Transcript::of("input-empty", b"", "", "no input: nothing is printed"),
+        Transcript::of("input-newline", b"\n", "", "an empty first line: nothing is printed"),
+        Transcript::of("input-key", LENT.as_bytes(), "", "the default key, without a newline: nothing is printed"),
+        Transcript::of("input-newlines", b"\n\n\n", "bad\nbad\n", "an empty first line, then two empty lines"),
+        Transcript::of("input-last-line", b"\n00000000\n00000000", "1 0 0\n1 0 0\n", "the last line has no newline"),
         odd_key("key-28", &"1c".repeat(28)),
         odd_key("key-20", &"14".repeat(20)),
         odd_key("key-33", &"21".repeat(33)),
@@ -246,7 +251,6 @@ fn lines() -> Transcript {
     t.line("NUL", b"00000000\x00\x00", "bad");
     t.line("octets above 127", b"00000000\xc3\xa9", "bad");
     t.line("0x", b"0x0000000000", "bad");
-    t.line("32,776 digits", &[b'0'; 32_776], "1 0 0");
     t.line("32,777 digits", &[b'0'; 32_777], "bad");
     t.line("32,778 digits", &[b'0'; 32_778], "bad");
     let mut frame = first_registration();

@@ -41,7 +41,7 @@ pub const TABLE: &[Violation] = &[
         Some(())
     }),
     any(0, "skipped attributes in policies and transforms", |c| {
-        let attributes: Vec<Attribute> = (0..8).map(|_| skipped(c, &[0, 1, 3, 4, 13, 15, 18, 0x4001, 0x7fff])).collect();
+        let attributes: Vec<Attribute> = (0..8).map(|_| skipped(c, &[0, 1, 3, 4, 13, 15, 18, 0x0300, 0x4001, 0x7fff])).collect();
         for (i, policy) in c.policies()?.iter_mut().enumerate() {
             policy.attributes.insert(0, attributes[i % 8].clone());
             policy.attributes.push(attributes[(i + 1) % 8].clone());
@@ -63,6 +63,14 @@ pub const TABLE: &[Violation] = &[
             policy.attributes.extend(two.clone());
             let others = policy.transforms.iter_mut().filter(|transform| transform.kind != 1);
             others.for_each(|transform| transform.attributes.extend(two.clone()));
+        }
+        Some(())
+    }),
+    any(0, "attributes that look like transforms", |c| {
+        let octets = [5, 0, 0, 0, 0x80, 0x0e, 0, 128];
+        let two = [Attribute::long(0x0300, &octets), Attribute::long(0, &octets)];
+        for policy in c.policies()?.iter_mut().filter(|policy| policy.protocol != 0) {
+            policy.attributes.splice(0..0, two.clone());
         }
         Some(())
     }),
@@ -122,6 +130,11 @@ pub const TABLE: &[Violation] = &[
         c.frame.message_id = c.frame.message_id.checked_add(more).filter(|id| *id < u32::MAX)?;
         Some(())
     }),
+    rekey(0, "the last Message ID, with a new Rekey SA", |c| {
+        c.policy(REKEY)?;
+        c.frame.message_id = u32::MAX;
+        Some(())
+    }),
     rekey(0, "copies that do not open beside one that does", |c| {
         let unknown = c.unknown_id();
         for _ in 0..3 {
@@ -175,6 +188,12 @@ pub const TABLE: &[Violation] = &[
         c.delete()?.spis = [spis.clone(), spis].concat();
         Some(())
     }),
+    rekey(0, "a Delete payload for each SPI", |c| {
+        let spis = c.delete()?.spis.clone();
+        c.remove(DELETE)?;
+        spis.iter().for_each(|spi| c.insert(delete(&[spi.clone()])));
+        Some(())
+    }),
     rekey(0, "32 deleted SPIs in several payloads", |c| {
         let first = c.rng.between(1, 31);
         c.remove(DELETE)?;
@@ -183,6 +202,7 @@ pub const TABLE: &[Violation] = &[
         Some(())
     }),
     rekey(0, "Delete alone", |c| {
+        (c.frame.message_id < u32::MAX).then_some(())?;
         c.delete()?;
         c.remove(GSA)?;
         c.remove(KD)?;
