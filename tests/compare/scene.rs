@@ -50,7 +50,8 @@ impl Scene {
 
     pub fn registration(&mut self, shape: Shape) -> Case {
         let exchange = self.rng.pick(&[GSA_AUTH, GSA_REGISTRATION]);
-        let (spis, message_id) = (self.rng.octets(16), self.rng.number() as u32);
+        let (any_spis, any_id) = (self.rng.octets(16), self.rng.number() as u32);
+        let (spis, message_id) = (self.rng.pick(&[vec![0; 16], any_spis]), self.rng.pick(&[0, 1, any_id, u32::MAX]));
         let mut case = self.case(exchange, &spis, message_id, self.lent.clone(), Vec::new());
         if shape.keys > 0 {
             let entries = tree(&mut case, shape);

@@ -194,11 +194,14 @@ pub const TABLE: &[Violation] = &[
         spis.iter().for_each(|spi| c.insert(delete(&[spi.clone()])));
         Some(())
     }),
-    rekey(0, "32 deleted SPIs in several payloads", |c| {
-        let first = c.rng.between(1, 31);
+    rekey(0, "32 deleted SPIs, the last ones of the table", |c| {
+        let mut spis = vec![vec![7; 4]; 32];
+        let table = c.member.table.iter().filter(|sa| sa.protocol == ESP).map(|sa| sa.spi.clone());
+        spis.extend(table);
+        spis.drain(..spis.len() - 32);
+        let first = c.rng.between(1, 32);
         c.remove(DELETE)?;
-        c.insert(delete(&vec![vec![7; 4]; first]));
-        c.insert(delete(&vec![vec![8; 4]; 32 - first]));
+        spis.chunks(first).for_each(|spis| c.frame.payloads.push(delete(spis)));
         Some(())
     }),
     rekey(0, "Delete alone", |c| {
