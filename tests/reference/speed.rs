@@ -1,5 +1,6 @@
-//! `speed wrap|open K`: 10,000 wraps or openings of 36 octets under a key of K octets, which each call expands. Prints a
-//! checksum over what was written, so that nothing can be left out.
+//! `speed wrap|open K`: 10,000 wraps or openings of 36 octets under a key of K octets, which each call expands. The first 4
+//! octets wrapped are the turn's number; what is opened in each turn is the wrapping of turn 0. Prints a checksum over what was
+//! written, so that nothing can be left out.
 
 use reference::keywrap::{open, wrap};
 
