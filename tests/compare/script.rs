@@ -1,0 +1,282 @@
+//! Scripts by seed: the lines that a program reads, each with a word on how it was made. They follow the member's state by
+//! asking the second member.
+
+use crate::case::Case;
+use crate::damage::{damaged, first_line, hostile_line};
+use crate::rng::Rng;
+use crate::scene::{Scene, Shape};
+use crate::tally::Tally;
+use crate::violations::{allowed, of_place, Violation};
+use reference::layout::MOST_FRAME;
+use reference::member::Member;
+use reference::text;
+
+pub struct Script {
+    /// The whole input.
+    pub input: Vec<u8>,
+    /// For each line after the first how it was made.
+    pub labels: Vec<String>,
+}
+
+/// How much of each a script has; the walks over the violations and their pairs go on from seed to seed.
+const SINGLES: usize = 8;
+const PAIRS: usize = 24;
+const LAYOUT_PAIRS: usize = 12;
+const REKEYS: usize = 14;
+
+pub struct Writer<'t> {
+    scene: Scene,
+    lines: Vec<Vec<u8>>,
+    labels: Vec<String>,
+    tally: &'t mut Tally,
+    seed: u64,
+}
+
+pub fn script(seed: u64, tally: &mut Tally) -> Script {
+    let mut rng = Rng::new(seed);
+    let size = [16, 24, 32][(seed % 3) as usize];
+    let lent = rng.octets(size);
+    let tick = rng.pick(&[0, 1000, 0x7fff_ff00, u32::MAX - 500]);
+    let mut writer = Writer {
+        lines: vec![hex(&lent)],
+        scene: Scene { rng, lent, member: Member::new(), tick },
+        labels: Vec::new(),
+        tally,
+        seed,
+    };
+    match seed % 16 {
+        7 => writer.hostile_first_line(),
+        11 => writer.without_rekey_sa(),
+        _ => writer.life(),
+    }
+    writer.finish()
+}
+
+impl Writer<'_> {
+    /// Refused registrations, one that is taken, then rekeys of all kinds.
+    fn life(&mut self) {
+        self.violations(true);
+        let shape = Shape { rekey: true, ..self.scene.any_shape() };
+        self.taken(true, shape);
+        let mut singles = self.walk(false);
+        for turn in 0..REKEYS {
+            self.scene.move_clock();
+            let waiting = std::mem::take(&mut singles);
+            singles = waiting.into_iter().filter(|violation| !self.single(violation, false)).collect();
+            self.pairs(false, turn, REKEYS);
+            self.disturbances(false);
+            let shape = self.scene.any_shape();
+            self.taken(false, shape);
+        }
+        self.last_message_id();
+    }
+
+    /// After the Message ID 4,294,967,295 nothing is acceptable over that Rekey SA any more.
+    fn last_message_id(&mut self) {
+        let shape = Shape { rekey: false, esp: 1, ..self.scene.full_shape() };
+        let Some(mut case) = self.scene.rekey(shape) else { return };
+        case.frame.message_id = u32::MAX;
+        self.claim(&case, 0, "the last Message ID");
+        for message_id in [0, 1, u32::MAX] {
+            case.frame.message_id = message_id;
+            self.claim(&case, 3, "no Message ID acceptable");
+        }
+    }
+
+    /// A member with ESP SAs alone: no rekey and no second registration can reach it.
+    fn without_rekey_sa(&mut self) {
+        self.violations(true);
+        let shape = Shape { rekey: false, esp: 2, ..self.scene.any_shape() };
+        self.taken(true, shape);
+        for exchange in [39, 40, 41] {
+            self.scene.move_clock();
+            let shape = self.scene.full_shape();
+            let mut case = self.scene.registration(shape);
+            case.frame.exchange = exchange;
+            self.claim(&case, 2, "a frame to a member without a Rekey SA");
+        }
+        self.disturbances(true);
+    }
+
+    /// A first line that may be none, then frames as if it were one.
+    fn hostile_first_line(&mut self) {
+        self.lines[0] = first_line(self.seed as usize / 16, &mut self.scene.rng);
+        self.scene.lent = text::default_key(&self.lines[0]);
+        let shape = self.scene.full_shape();
+        let case = self.scene.registration(shape);
+        let fits = matches!(self.scene.lent.len(), 16 | 24 | 32);
+        self.claim(&case, if fits { 0 } else { 5 }, "registration after an odd first line");
+        for _ in 0..20 {
+            self.disturbances(!fits);
+        }
+    }
+
+    /// Single violations and pairs of them, none of which changes the member.
+    fn violations(&mut self, registration: bool) {
+        for violation in self.walk(registration) {
+            self.single(violation, registration);
+        }
+        self.pairs(registration, 0, 1);
+        self.disturbances(registration);
+    }
+
+    /// A stretch of the table of violations that goes on from seed to seed.
+    fn walk(&self, registration: bool) -> Vec<&'static Violation> {
+        let table = of_place(registration);
+        let start = self.seed as usize * SINGLES;
+        (start..start + SINGLES).map(|i| table[i % table.len()]).collect()
+    }
+
+    /// Part `turn` of `turns` of the pairs that this seed has to do: some of a broken layout with anything, more of the others.
+    fn pairs(&mut self, registration: bool, turn: usize, turns: usize) {
+        let table = of_place(registration);
+        let (layout, others): (Vec<_>, Vec<_>) = table.iter().partition(|violation| violation.number == 1);
+        let all = others.len() * (others.len() - 1) / 2;
+        let first = self.seed as usize * PAIRS;
+        for number in (first..first + PAIRS).skip(turn).step_by(turns) {
+            let (a, b) = pair(number % all);
+            self.pair(others[a], others[b], registration);
+        }
+        let first = self.seed as usize * LAYOUT_PAIRS;
+        for number in (first..first + LAYOUT_PAIRS).skip(turn).step_by(turns) {
+            let (a, b) = (number % layout.len(), number / layout.len() % table.len());
+            self.pair(layout[a], table[b], registration);
+        }
+    }
+
+    fn base(&mut self, registration: bool) -> Option<Case> {
+        let shape = self.scene.full_shape();
+        self.fit_frame(registration, shape)
+    }
+
+    /// A frame that the member will accept; None if it accepts none any more, which for registrations damage can bring about.
+    fn fit_frame(&mut self, registration: bool, shape: Shape) -> Option<Case> {
+        match registration {
+            true if self.scene.member == Member::new() => Some(self.scene.registration(shape)),
+            true => None,
+            false => self.scene.rekey(shape),
+        }
+    }
+
+    /// False if the frame has not what the violation takes.
+    fn single(&mut self, violation: &'static Violation, registration: bool) -> bool {
+        let Some(mut case) = self.base(registration) else { return false };
+        if (violation.make)(&mut case).is_none() || case.frame.octets().len() > MOST_FRAME {
+            return false;
+        }
+        self.claim(&case, violation.number, violation.name);
+        self.tally.alone(violation.name);
+        true
+    }
+
+    /// Both violations in one frame, in one order or the other.
+    fn pair(&mut self, a: &'static Violation, b: &'static Violation, registration: bool) {
+        let Some(mut case) = self.base(registration) else { return };
+        let (first, second) = if self.scene.rng.chance(50) { (a, b) } else { (b, a) };
+        if (first.make)(&mut case).is_none() || (second.make)(&mut case).is_none() {
+            return;
+        }
+        let octets = case.frame.octets();
+        if octets.len() <= MOST_FRAME {
+            let answer = self.frame(&octets, format!("{} + {}", first.name, second.name));
+            self.tally.pair(a, b, answer);
+        }
+    }
+
+    /// A frame that must be accepted, with up to three oddities.
+    fn taken(&mut self, registration: bool, shape: Shape) {
+        let Some(mut case) = self.fit_frame(registration, shape) else { return };
+        let table = allowed::of_place(registration);
+        let mut chosen: Vec<usize> = (0..self.scene.rng.below(4)).map(|_| self.scene.rng.below(table.len())).collect();
+        chosen.sort();
+        chosen.dedup();
+        let mut label = String::from(if registration { "registration" } else { "rekey" });
+        for index in chosen {
+            let mut odd = case.clone();
+            if (table[index].make)(&mut odd).is_some() && odd.frame.octets().len() <= MOST_FRAME {
+                case = odd;
+                label = format!("{label}, {}", table[index].name);
+                self.tally.alone(table[index].name);
+            }
+        }
+        self.claim(&case, 0, &label);
+    }
+
+    /// Damaged frames, frames that came before, hostile lines.
+    fn disturbances(&mut self, registration: bool) {
+        if let Some(case) = self.base(registration) {
+            let built = case.frame.build();
+            let octets = damaged(&built, &mut self.scene.rng);
+            self.frame(&octets, "damaged".to_string());
+            let mut good = format!("{:08x}", self.scene.tick).into_bytes();
+            good.extend(hex(&built.octets));
+            if self.scene.rng.chance(40) {
+                let line = hostile_line(&good, &mut self.scene.rng);
+                self.line(line, "hostile".to_string());
+            }
+        }
+        if self.lines.len() > 1 && self.scene.rng.chance(15) {
+            let line = self.scene.rng.pick(&self.lines[1..]);
+            self.line(line, "once more".to_string());
+        }
+    }
+
+    /// A frame whose answer is known.
+    fn claim(&mut self, case: &Case, number: u8, label: &str) {
+        let before = self.scene.member.clone();
+        let answer = self.frame(&case.frame.octets(), label.to_string());
+        if answer != number {
+            self.tally.complain(format!(
+                "seed {}, line {}: \"{label}\" gave {answer}, not {number}",
+                self.seed,
+                self.lines.len()
+            ));
+        }
+        if answer != 0 && before != self.scene.member {
+            self.tally.complain(format!("seed {}, line {}: a refusal changed the member", self.seed, self.lines.len()));
+        }
+    }
+
+    /// A frame of any octets, as many as a good line holds.
+    fn frame(&mut self, octets: &[u8], label: String) -> u8 {
+        let mut line = format!("{:08x}", self.scene.tick).into_bytes();
+        line.extend(hex(octets));
+        self.line(line, label).expect("a good line")
+    }
+
+    /// Adds the line, and takes the member through it; None for a bad one.
+    fn line(&mut self, line: Vec<u8>, label: String) -> Option<u8> {
+        let answer = text::tick_and_frame(&line).map(|(tick, frame)| self.scene.member.take(&self.scene.lent, tick, &frame));
+        self.tally.answer(answer);
+        self.lines.push(line);
+        self.labels.push(label);
+        answer
+    }
+
+    fn finish(mut self) -> Script {
+        let mut input = self.lines.join(&b'\n');
+        // An empty last line without a newline would be no line.
+        if self.lines.last().is_some_and(Vec::is_empty) || self.scene.rng.chance(70) {
+            input.push(b'\n');
+        }
+        Script { input, labels: self.labels }
+    }
+}
+
+/// The pair of that number among (1, 0), (2, 0), (2, 1), (3, 0), ..
+fn pair(number: usize) -> (usize, usize) {
+    let mut a = 1;
+    let mut before = 0;
+    while before + a <= number {
+        before += a;
+        a += 1;
+    }
+    (a, number - before)
+}
+
+pub fn hex(octets: &[u8]) -> Vec<u8> {
+    octets
+        .iter()
+        .flat_map(|octet| [b"0123456789abcdef"[(octet >> 4) as usize], b"0123456789abcdef"[(octet & 15) as usize]])
+        .collect()
+}

@@ -1,0 +1,39 @@
+//! What was generated: answers, violations alone and in pairs, and what turned out other than claimed.
+
+use crate::violations::Violation;
+use std::collections::{BTreeMap, BTreeSet};
+
+#[derive(Default)]
+pub struct Tally {
+    /// How often each answer 0 to 9 occurred, and last "bad".
+    pub answers: [usize; 11],
+    pub alone: BTreeMap<&'static str, usize>,
+    pub paired: BTreeMap<&'static str, usize>,
+    pub pairs: BTreeSet<(&'static str, &'static str)>,
+    /// Pairs that gave the lower number of the two.
+    pub pairs_as_lower: usize,
+    pub pairs_done: usize,
+    pub complaints: Vec<String>,
+}
+
+impl Tally {
+    pub fn answer(&mut self, answer: Option<u8>) {
+        self.answers[answer.unwrap_or(10) as usize] += 1;
+    }
+
+    pub fn alone(&mut self, name: &'static str) {
+        *self.alone.entry(name).or_default() += 1;
+    }
+
+    pub fn pair(&mut self, a: &'static Violation, b: &'static Violation, answer: u8) {
+        *self.paired.entry(a.name).or_default() += 1;
+        *self.paired.entry(b.name).or_default() += 1;
+        self.pairs.insert((a.name, b.name));
+        self.pairs_done += 1;
+        self.pairs_as_lower += (answer == a.number.min(b.number)) as usize;
+    }
+
+    pub fn complain(&mut self, complaint: String) {
+        self.complaints.push(complaint);
+    }
+}

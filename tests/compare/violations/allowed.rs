@@ -1,0 +1,292 @@
+//! What looks odd and must not be refused: number 0. Several may be done to one frame, in the order of the table.
+
+use super::pairing::fill;
+use super::{any, registration, rekey, Place, Violation};
+use crate::case::Case;
+use builder::typical::*;
+use builder::wrapping::wrap;
+use builder::{Attribute, Body, Part, Payload, AUTH, CERT, DELETE, ESP, GSA, IDR, KD, NOTIFY, REKEY};
+
+pub fn of_place(of_registration: bool) -> Vec<&'static Violation> {
+    let other = if of_registration { Place::Rekey } else { Place::Registration };
+    TABLE.iter().filter(|allowed| allowed.place != other).collect()
+}
+
+pub const TABLE: &[Violation] = &[
+    any(0, "flags and minor version", |c| {
+        (c.frame.flags, c.frame.version) = (c.rng.number() as u8, 0x20 | c.rng.below(16) as u8);
+        Some(())
+    }),
+    any(0, "reserved bits and octets", reserved),
+    any(0, "critical bit on known payloads", |c| {
+        c.frame.payloads.iter_mut().for_each(|payload| payload.flags |= 0x80);
+        Some(())
+    }),
+    any(0, "unknown payloads, not critical", |c| {
+        for _ in 0..3 {
+            let kind = c.rng.pick(&[1, 33, 34, 35, 38, 40, 43, 44, 46, 48, 50, 53, 54, 128, 255]);
+            plain_payload(c, kind, 0x7f);
+        }
+        Some(())
+    }),
+    any(0, "unread payloads with any body", |c| {
+        for _ in 0..4 {
+            let kind = c.rng.pick(&[IDR, CERT, AUTH, NOTIFY]);
+            plain_payload(c, kind, 0xff);
+        }
+        Some(())
+    }),
+    any(0, "payloads the other way round", |c| {
+        c.frame.payloads.reverse();
+        Some(())
+    }),
+    any(0, "skipped attributes in policies and transforms", |c| {
+        let attributes: Vec<Attribute> = (0..8).map(|_| skipped(c, &[0, 1, 3, 4, 13, 15, 18, 0x0300, 0x4001, 0x7fff])).collect();
+        for (i, policy) in c.policies()?.iter_mut().enumerate() {
+            policy.attributes.insert(0, attributes[i % 8].clone());
+            policy.attributes.push(attributes[(i + 1) % 8].clone());
+            policy.transforms.iter_mut().for_each(|transform| transform.attributes.insert(0, attributes[(i + 2) % 8].clone()));
+        }
+        Some(())
+    }),
+    any(0, "skipped attributes in bags", |c| {
+        let attributes: Vec<Attribute> = (0..8).map(|_| skipped(c, &[0, 2, 3, 4, 14, 0x4001, 0x7fff])).collect();
+        for (i, bag) in c.bags()?.iter_mut().enumerate() {
+            bag.attributes.insert(0, attributes[i % 8].clone());
+            bag.attributes.push(attributes[(i + 1) % 8].clone());
+        }
+        Some(())
+    }),
+    any(0, "attribute 14 outside of encryption transforms", |c| {
+        let two = [skipped(c, &[14]), skipped(c, &[14])];
+        for policy in c.policies()? {
+            policy.attributes.extend(two.clone());
+            let others = policy.transforms.iter_mut().filter(|transform| transform.kind != 1);
+            others.for_each(|transform| transform.attributes.extend(two.clone()));
+        }
+        Some(())
+    }),
+    any(0, "attributes that look like transforms", |c| {
+        let octets = [5, 0, 0, 0, 0x80, 0x0e, 0, 128];
+        let two = [Attribute::long(0x0300, &octets), Attribute::long(0, &octets)];
+        for policy in c.policies()?.iter_mut().filter(|policy| policy.protocol != 0) {
+            policy.attributes.splice(0..0, two.clone());
+        }
+        Some(())
+    }),
+    any(0, "attribute 2 in an ESP policy and in transforms", |c| {
+        let two = [skipped(c, &[2]), skipped(c, &[2])];
+        let policy = c.policy(ESP)?;
+        policy.attributes.extend(two.clone());
+        policy.transforms.iter_mut().for_each(|transform| transform.attributes.extend(two.clone()));
+        Some(())
+    }),
+    any(0, "empty group-wide policy", |c| {
+        c.policy(0)?.attributes.clear();
+        Some(())
+    }),
+    any(0, "no group-wide policy", |c| {
+        c.policies()?.retain(|policy| policy.protocol != 0);
+        Some(())
+    }),
+    any(0, "GSA_INITIAL_MESSAGE_ID", |c| {
+        let id = c.rng.pick(&[0, 1, 7, 0x7fff_ffff, 0x8000_0000, u32::MAX - 9]);
+        let attributes = &mut c.policy(REKEY)?.attributes;
+        attributes.retain(|attribute| !matches!(attribute, Attribute::Long { kind: 2, .. }));
+        attributes.push(initial_message_id(id));
+        Some(())
+    }),
+    registration(0, "empty Member bag", |c| {
+        c.keys.clear();
+        default_copy(c);
+        c.bag(0)?.attributes.clear();
+        Some(())
+    }),
+    registration(0, "no Member bag", |c| {
+        c.keys.clear();
+        default_copy(c);
+        c.bags()?.retain(|bag| bag.protocol != 0);
+        Some(())
+    }),
+    registration(0, "a key that wraps itself", |c| {
+        let (id, value) = c.keys.first()?.clone();
+        entry(c, id, id, &wrap(&value, &value))
+    }),
+    registration(0, "WRAP_KEY under an unknown key", |c| {
+        let (id, kwk_id, count) = (c.unknown_id(), c.unknown_id(), c.rng.pick(&[16, 24, 264]));
+        let octets = c.rng.octets(count);
+        entry(c, id, kwk_id, &octets)
+    }),
+    registration(0, "WRAP_KEY that does not open", |c| {
+        let (id, kwk_id) = (c.some_key().0.max(1), c.some_key().0);
+        let count = c.rng.pick(&[16, 24, 32, 264]);
+        let octets = c.rng.octets(count);
+        entry(c, id, kwk_id, &octets)
+    }),
+    registration(0, "32 WRAP_KEY", |c| fill(c, 0, 32)),
+    registration(0, "32 keys in one chain, backwards", one_chain),
+    rekey(0, "Message ID above the least", |c| {
+        let more = c.rng.pick(&[1, 2, 1000, 1 << 20]);
+        c.frame.message_id = c.frame.message_id.checked_add(more).filter(|id| *id < u32::MAX)?;
+        Some(())
+    }),
+    rekey(0, "the last Message ID, with a new Rekey SA", |c| {
+        c.policy(REKEY)?;
+        c.frame.message_id = u32::MAX;
+        Some(())
+    }),
+    rekey(0, "copies that do not open beside one that does", |c| {
+        let unknown = c.unknown_id();
+        for _ in 0..3 {
+            let (kwk_id, count) = (c.rng.pick(&[unknown, 0, c.keys.first().map_or(0, |key| key.0)]), c.rng.pick(&[16, 40, 264]));
+            let copy = Attribute::key(0, kwk_id, &c.rng.octets(count));
+            let at = c.rng.below(2);
+            c.sa_bag(REKEY)?.attributes.insert(at, copy);
+        }
+        Some(())
+    }),
+    rekey(0, "copies under every key", |c| {
+        let (key, keys) = (c.sa_key(REKEY)?, c.keys.clone());
+        let copies = keys.iter().take(20).map(|(id, kwk)| Attribute::key(0, *id, &wrap(kwk, &key)));
+        let bag = c.sa_bag(REKEY)?;
+        bag.attributes.extend(copies);
+        (bag.attributes.len() <= 32).then_some(())
+    }),
+    rekey(0, "32 SA_KEY", |c| fill(c, REKEY, 32)),
+    any(0, "8 ESP policies", |c| {
+        c.policies()?;
+        let others = c.member.table.len() + c.sa_keys.iter().filter(|sa| sa.0 == REKEY).count();
+        while others + 8 <= 16 && c.sa_keys.iter().filter(|sa| sa.0 == ESP).count() < 8 {
+            c.announce_esp()?;
+        }
+        Some(())
+    }),
+    rekey(0, "16 SAs", |c| {
+        let tick = c.tick;
+        let staying = c.member.table.iter().filter(|sa| !sa.is_due(tick)).count();
+        while staying + c.sa_keys.len() < 16 {
+            c.policies()?;
+            c.announce_esp()?;
+        }
+        (c.sa_keys.iter().filter(|sa| sa.0 == ESP).count() <= 8).then_some(())
+    }),
+    rekey(0, "SPI of an SA that is due", |c| {
+        let (protocol, tick) = (c.rng.pick(&[ESP, REKEY]), c.tick);
+        let spi = c.member.table.iter().find(|sa| sa.protocol == protocol && sa.is_due(tick))?.spi.clone();
+        c.rename(protocol, &spi)
+    }),
+    rekey(0, "Delete of every ESP SA", |c| {
+        c.delete()?.spis = vec![vec![0; 4]];
+        Some(())
+    }),
+    rekey(0, "Delete of unknown, retiring, announced and repeated SPIs", |c| {
+        let mut spis: Vec<Vec<u8>> = c.member.table.iter().filter(|sa| sa.protocol == ESP).map(|sa| sa.spi.clone()).collect();
+        spis.extend(c.policy(ESP).map(|policy| policy.spi.clone()));
+        spis.push(c.rng.octets(4));
+        c.rng.shuffle(&mut spis);
+        spis.truncate(16);
+        c.delete()?.spis = [spis.clone(), spis].concat();
+        Some(())
+    }),
+    rekey(0, "a Delete payload for each SPI", |c| {
+        let spis = c.delete()?.spis.clone();
+        c.remove(DELETE)?;
+        spis.iter().for_each(|spi| c.insert(delete(&[spi.clone()])));
+        Some(())
+    }),
+    rekey(0, "32 deleted SPIs, the last ones of the table", |c| {
+        let mut spis = vec![vec![7; 4]; 32];
+        let table = c.member.table.iter().filter(|sa| sa.protocol == ESP).map(|sa| sa.spi.clone());
+        spis.extend(table);
+        spis.drain(..spis.len() - 32);
+        let first = c.rng.between(1, 32);
+        c.remove(DELETE)?;
+        spis.chunks(first).for_each(|spis| c.frame.payloads.push(delete(spis)));
+        Some(())
+    }),
+    rekey(0, "Delete alone", |c| {
+        (c.frame.message_id < u32::MAX).then_some(())?;
+        c.delete()?;
+        c.remove(GSA)?;
+        c.remove(KD)?;
+        c.sa_keys.clear();
+        Some(())
+    }),
+    any(0, "hundreds of payloads", |c| {
+        let kind = c.rng.pick(&[NOTIFY, CERT, 33, 255]);
+        c.frame.payloads.extend(vec![Payload::new(kind, Body::Plain(vec![])); 500]);
+        Some(())
+    }),
+    any(0, "hundreds of skipped attributes", |c| {
+        let (kind, attribute) = (c.rng.pick(&[GSA, KD]), skipped(c, &[0, 3, 0x7fff]));
+        c.some_part(kind)?.attributes.extend(vec![attribute; 200]);
+        Some(())
+    }),
+    any(0, "16,384 octets", |c| {
+        let count = 16_384usize.checked_sub(c.frame.octets().len() + 4)?;
+        let octets = vec![c.rng.number() as u8; count];
+        c.insert(Payload::new(NOTIFY, Body::Plain(octets)));
+        Some(())
+    }),
+];
+
+/// Each of 32 keys under the one before, the last one first; the Rekey SA's key, if one is announced, under the last.
+fn one_chain(c: &mut Case) -> Option<()> {
+    let (mut kwk_id, mut kwk) = (0, c.key0.clone());
+    let mut entries = Vec::new();
+    c.keys.clear();
+    for id in (1..=32).map(|i| 7 * i % 37) {
+        let value = c.rng.octets(kwk.len());
+        entries.insert(0, Attribute::key(id, kwk_id, &wrap(&kwk, &value)));
+        c.keys.push((id, value.clone()));
+        (kwk_id, kwk) = (id, value);
+    }
+    c.bag(0)?.attributes = entries;
+    if let Some(key) = c.sa_key(REKEY) {
+        c.sa_bag(REKEY)?.attributes = vec![Attribute::key(0, kwk_id, &wrap(&kwk, &key))];
+    }
+    Some(())
+}
+
+fn reserved(c: &mut Case) -> Option<()> {
+    let octet = c.rng.number() as u8 | 1;
+    for payload in &mut c.frame.payloads {
+        payload.flags |= octet & 0x7f;
+        let Body::Parts(parts) = &mut payload.body else { continue };
+        for part in parts {
+            if part.protocol == 0 {
+                part.second = octet;
+            }
+            part.transforms.iter_mut().for_each(|transform| transform.reserved = (octet, !octet));
+        }
+    }
+    Some(())
+}
+
+fn plain_payload(c: &mut Case, kind: u8, flags: u8) {
+    let count = c.rng.pick(&[0, 1, 3, 4, 30]);
+    let body = Body::Plain(c.rng.octets(count));
+    let flags = c.rng.number() as u8 & flags;
+    c.insert(Payload { flags, ..Payload::new(kind, body) });
+}
+
+/// An attribute of one of these types in any format and size.
+fn skipped(c: &mut Case, kinds: &[u16]) -> Attribute {
+    let (kind, count) = (c.rng.pick(kinds), c.rng.pick(&[0, 1, 2, 4, 5, 20]));
+    let octets = c.rng.octets(count);
+    c.rng.pick(&[Attribute::Short(kind, 0x0102), Attribute::long(kind, &octets)])
+}
+
+fn entry(c: &mut Case, id: u32, kwk_id: u32, wrapped: &[u8]) -> Option<()> {
+    let bag: &mut Part = c.bag(0)?;
+    bag.attributes.insert(0, Attribute::key(id, kwk_id, wrapped));
+    (bag.attributes.len() <= 32).then_some(())
+}
+
+/// The Rekey SA's key, if one is announced, under the default key.
+fn default_copy(c: &mut Case) -> Option<()> {
+    let key = c.sa_key(REKEY)?;
+    let copy = Attribute::key(0, 0, &wrap(&c.key0, &key));
+    c.sa_bag(REKEY)?.attributes = vec![copy];
+    Some(())
+}

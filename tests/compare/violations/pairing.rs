@@ -1,0 +1,188 @@
+//! Numbers 6 and 7.
+
+use super::{any, registration, rekey, Violation};
+use crate::case::Case;
+use builder::typical::*;
+use builder::wrapping::wrap;
+use builder::{Attribute, Part, ESP, REKEY};
+use reference::member::{Condition, Sa};
+
+pub const TABLE: &[Violation] = &[
+    any(6, "policy without a bag", |c| {
+        let at = c.bags()?.iter().position(|bag| bag.protocol != 0)?;
+        c.bags()?.remove(at);
+        Some(())
+    }),
+    any(6, "bag without a policy", |c| {
+        let spi = c.fresh_spi(ESP);
+        let mut bag = c.bag(ESP)?.clone();
+        bag.spi = spi;
+        c.bags()?.push(bag);
+        Some(())
+    }),
+    any(6, "bag without a policy, the policy without its bag", |c| {
+        let at = c.rng.below(4);
+        c.bag(ESP)?.spi[at] ^= 0x80;
+        Some(())
+    }),
+    any(6, "Rekey bag with another SPI", |c| {
+        let at = c.rng.below(16);
+        c.bag(REKEY)?.spi[at] ^= 1;
+        Some(())
+    }),
+    any(6, "one SPI in two policies and two bags", |c| {
+        let (policy, bag) = (c.sa_policy(ESP)?.clone(), c.sa_bag(ESP)?.clone());
+        c.policies()?.push(policy);
+        c.bags()?.push(bag);
+        Some(())
+    }),
+    any(6, "one SPI in two policies", |c| {
+        let policy = c.policy(ESP)?.clone();
+        c.policies()?.push(policy);
+        Some(())
+    }),
+    any(6, "one SPI in two bags", |c| {
+        let protocol = c.rng.pick(&[ESP, REKEY]);
+        let bag = c.bag(protocol)?.clone();
+        c.bags()?.push(bag);
+        Some(())
+    }),
+    rekey(6, "ESP SA live in the table", |c| rename_as(c, ESP, |sa, _| sa.condition == Condition::Live)),
+    rekey(6, "ESP SA retiring in the table", |c| {
+        rename_as(c, ESP, |sa, tick| sa.condition != Condition::Live && !sa.is_due(tick))
+    }),
+    rekey(6, "the live Rekey SA's own SPI", |c| rename_as(c, REKEY, |sa, _| sa.condition == Condition::Live)),
+    rekey(6, "Rekey SA retiring in the table", |c| {
+        rename_as(c, REKEY, |sa, tick| sa.condition != Condition::Live && !sa.is_due(tick))
+    }),
+    rekey(6, "ESP SA in the table that the frame deletes without delay", |c| {
+        rename_as(c, ESP, |sa, _| sa.condition == Condition::Live)?;
+        let spi = c.sa_policy(ESP)?.spi.clone();
+        c.delete()?.spis = vec![spi];
+        c.policies()?.retain(|policy| policy.protocol != 0);
+        Some(())
+    }),
+    any(6, "ESP: no SA_KEY", |c| {
+        c.bag(ESP)?.attributes.clear();
+        Some(())
+    }),
+    any(6, "ESP: two SA_KEYs", |c| two_keys(c, ESP)),
+    any(6, "Rekey: no SA_KEY", |c| {
+        c.bag(REKEY)?.attributes.clear();
+        Some(())
+    }),
+    registration(6, "Rekey: two SA_KEYs in a registration", |c| two_keys(c, REKEY)),
+    any(6, "ESP: SA_KEY with a Key ID", |c| set_ids(c, ESP, &[1, 7, u32::MAX], &[0])),
+    any(6, "Rekey: SA_KEY with a Key ID", |c| set_ids(c, REKEY, &[1, 7, u32::MAX], &[0, 9])),
+    rekey(6, "Rekey: one of several SA_KEYs with a Key ID", |c| {
+        let key = Attribute::key(5, 0, &c.rng.octets(16));
+        c.bag(REKEY)?.attributes.push(key);
+        Some(())
+    }),
+    any(6, "ESP: SA_KEY under another key than the default one", |c| {
+        let key = c.sa_key(ESP)?;
+        let (id, kwk) = c.keys.first().cloned().unwrap_or((3, c.key0.clone()));
+        c.sa_bag(ESP)?.attributes = vec![Attribute::key(0, id, &wrap(&kwk, &key))];
+        Some(())
+    }),
+    registration(6, "WRAP_KEY with Key ID 0", |c| {
+        let value = c.rng.octets(c.key0.len());
+        let key = Attribute::key(0, 0, &wrap(&c.key0, &value));
+        c.bag(0)?.attributes.push(key);
+        Some(())
+    }),
+    registration(6, "WRAP_KEY with Key ID 0 that does not open", |c| {
+        let key = Attribute::key(0, c.rng.pick(&[0, 77]), &c.rng.octets(24));
+        c.bag(0)?.attributes.insert(0, key);
+        Some(())
+    }),
+    any(7, "9 ESP policies", |c| {
+        c.policy(ESP)?;
+        while c.policies()?.iter().filter(|policy| policy.protocol == ESP).count() < 9 {
+            c.announce_esp()?;
+        }
+        Some(())
+    }),
+    any(7, "60 ESP policies", many_policies),
+    any(6, "60 ESP policies, two of one SPI", |c| {
+        many_policies(c)?;
+        let (policy, bag) = (c.policy(ESP)?.clone(), c.sa_bag(ESP)?.clone());
+        let spi = policy.spi.clone();
+        c.policies()?.push(policy);
+        c.bags()?.push(Part { spi, ..bag });
+        Some(())
+    }),
+    registration(7, "33 WRAP_KEY", |c| fill(c, 0, 33)),
+    registration(7, "200 WRAP_KEY", |c| fill(c, 0, 200)),
+    registration(6, "200 WRAP_KEY, the last with Key ID 0", |c| {
+        fill(c, 0, 199)?;
+        c.bag(0)?.attributes.push(Attribute::key(0, 0, &[0; 16]));
+        Some(())
+    }),
+    rekey(7, "150 SA_KEY in a bag", |c| fill(c, REKEY, 150)),
+    rekey(7, "2,000 deleted SPIs", |c| {
+        c.delete()?.spis = vec![vec![0; 4]; 2000];
+        Some(())
+    }),
+    rekey(7, "33 SA_KEY in a bag", |c| fill(c, REKEY, 33)),
+    rekey(7, "33 deleted SPIs", |c| {
+        let spi = c.rng.octets(4);
+        c.delete()?.spis = vec![spi; 33];
+        Some(())
+    }),
+    rekey(7, "33 deleted SPIs in two payloads", |c| {
+        let first = c.rng.between(1, 32);
+        c.delete()?.spis = vec![vec![7; 4]; first];
+        c.insert(delete(&vec![vec![8; 4]; 33 - first]));
+        Some(())
+    }),
+    rekey(7, "17 SAs", |c| {
+        let tick = c.tick;
+        let staying = c.member.table.iter().filter(|sa| !sa.is_due(tick)).count();
+        while staying + c.policies()?.iter().filter(|policy| policy.protocol != 0).count() < 17 {
+            c.announce_esp()?;
+        }
+        (c.policies()?.iter().filter(|policy| policy.protocol == ESP).count() <= 8).then_some(())
+    }),
+];
+
+/// Gives the announced SA the SPI of one in the table.
+fn rename_as(c: &mut Case, protocol: u8, fits: fn(&Sa, u32) -> bool) -> Option<()> {
+    let fitting: Vec<_> = c.member.table.iter().filter(|sa| sa.protocol == protocol && fits(sa, c.tick)).collect();
+    let spi = fitting.get(c.rng.below(fitting.len()))?.spi.clone();
+    c.rename(protocol, &spi)
+}
+
+fn many_policies(c: &mut Case) -> Option<()> {
+    c.policy(ESP)?;
+    while c.policies()?.iter().filter(|policy| policy.protocol == ESP).count() < 60 {
+        c.announce_esp()?;
+    }
+    Some(())
+}
+
+fn two_keys(c: &mut Case, protocol: u8) -> Option<()> {
+    let bag = c.bag(protocol)?;
+    let key = bag.attributes.first()?.clone();
+    bag.attributes.push(key);
+    Some(())
+}
+
+fn set_ids(c: &mut Case, protocol: u8, key_ids: &[u32], kwk_ids: &[u32]) -> Option<()> {
+    let ids = [c.rng.pick(key_ids).to_be_bytes(), c.rng.pick(kwk_ids).to_be_bytes()].concat();
+    match c.bag(protocol)?.attributes.first_mut()? {
+        Attribute::Long { value, .. } => value.get_mut(..8)?.copy_from_slice(&ids),
+        Attribute::Short(..) => return None,
+    }
+    Some(())
+}
+
+/// Repeats the first key of the bag until there are so many.
+pub fn fill(c: &mut Case, protocol: u8, count: usize) -> Option<()> {
+    let bag = c.bag(protocol)?;
+    let key = bag.attributes.iter().find(|key| matches!(key, Attribute::Long { kind: 1, .. }))?.clone();
+    while bag.attributes.len() < count {
+        bag.attributes.push(key.clone());
+    }
+    (bag.attributes.len() == count).then_some(())
+}

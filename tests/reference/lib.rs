@@ -1,0 +1,12 @@
+//! A group member of G-IKEv2 (RFC 9838) in plain Rust, written from document 01 and the RFCs, to hold the proved member against.
+//!
+//! One file a matter: `aes` and `keywrap` (FIPS 197, RFC 5649), `layout` (refusal 1), `judging` (2 to 7), `reach` (8 and 9),
+//! `member` (what a member is, and what it is after a frame), `text` (the program's standard input and output).
+
+pub mod aes;
+pub mod judging;
+pub mod keywrap;
+pub mod layout;
+pub mod member;
+pub mod reach;
+pub mod text;

@@ -1,0 +1,179 @@
+//! What a member is, and what it is after an accepted frame, a sweep and leaving.
+
+use crate::judging::{judge, Need, Request};
+use crate::layout::{frame, ESP, REKEY};
+use crate::reach::Keys;
+
+pub const MOST_SAS: usize = 16;
+pub const MOST_HELD: usize = 32;
+
+#[derive(Clone, Debug, PartialEq)]
+pub struct Member {
+    /// Rising by protocol, then SPI.
+    pub table: Vec<Sa>,
+    /// Wrapping keys by rising Key ID.
+    pub held: Vec<(u32, Vec<u8>)>,
+    /// The least acceptable Message ID, or none any more.
+    pub least_id: Option<u32>,
+}
+
+#[derive(Clone, Debug, PartialEq)]
+pub struct Sa {
+    pub protocol: u8,
+    pub spi: Vec<u8>,
+    pub keying: Vec<u8>,
+    /// How many of a Rekey SA's keying octets are for encryption; the key wrap part follows them.
+    pub encryption: usize,
+    pub condition: Condition,
+}
+
+#[derive(Clone, Copy, Debug, PartialEq)]
+pub enum Condition {
+    Live,
+    /// Start tick in milliseconds, delay in seconds.
+    Retiring {
+        start: u32,
+        delay: u16,
+    },
+}
+
+pub fn is_wrap_key_size(octets: usize) -> bool {
+    matches!(octets, 16 | 24 | 32)
+}
+
+impl Sa {
+    pub fn is_due(&self, now: u32) -> bool {
+        match self.condition {
+            Condition::Live => false,
+            Condition::Retiring { start, delay } => now.wrapping_sub(start) >= 1000 * delay as u32,
+        }
+    }
+
+    fn is_live(&self) -> bool {
+        self.condition == Condition::Live
+    }
+
+    /// GSK_w of a Rekey SA: what follows GSK_e (001, section 3.4; with AES-GCM-16 there is no GSK_a).
+    pub fn default_key(&self) -> &[u8] {
+        self.keying.get(self.encryption..).unwrap_or(&[])
+    }
+
+    fn is_whole(&self) -> bool {
+        let encryption_fits = matches!(self.encryption, 20 | 28 | 36);
+        match self.protocol {
+            ESP => self.spi.len() == 4 && encryption_fits && self.keying.len() == self.encryption,
+            REKEY => self.spi.len() == 16 && encryption_fits && is_wrap_key_size(self.default_key().len()),
+            _ => false,
+        }
+    }
+}
+
+impl Default for Member {
+    fn default() -> Self {
+        Member::new()
+    }
+}
+
+impl Member {
+    pub fn new() -> Member {
+        Member { table: Vec::new(), held: Vec::new(), least_id: Some(0) }
+    }
+
+    /// Whether the value keeps document 01's list of what a member is.
+    pub fn is_whole(&self) -> bool {
+        self.table.len() <= MOST_SAS
+            && self.table.iter().all(Sa::is_whole)
+            && self.table.windows(2).all(|two| (two[0].protocol, &two[0].spi) < (two[1].protocol, &two[1].spi))
+            && self.table.iter().filter(|sa| sa.protocol == REKEY && sa.is_live()).count() <= 1
+            && self.held.len() <= MOST_HELD
+            && self.held.iter().all(|(id, value)| *id != 0 && is_wrap_key_size(value.len()))
+            && self.held.windows(2).all(|two| two[0].0 < two[1].0)
+    }
+
+    pub fn is_empty(&self, tick: u32) -> bool {
+        self.table.iter().all(|sa| sa.is_due(tick))
+    }
+
+    pub fn live_rekey(&self) -> Option<&Sa> {
+        self.table.iter().find(|sa| sa.protocol == REKEY && sa.is_live())
+    }
+
+    /// The SA of that protocol and SPI, or none.
+    pub fn sa(&self, protocol: u8, spi: &[u8]) -> Option<&Sa> {
+        self.table.iter().find(|sa| sa.protocol == protocol && sa.spi == spi).filter(|_| self.is_whole())
+    }
+
+    /// Registers or rekeys by an opened frame. The answer is 0, or the number of the refusal, which changes nothing.
+    pub fn take(&mut self, lent: &[u8], tick: u32, octets: &[u8]) -> u8 {
+        match self.try_take(lent, tick, octets) {
+            Ok(()) => 0,
+            Err(number) => number,
+        }
+    }
+
+    fn try_take(&mut self, lent: &[u8], tick: u32, octets: &[u8]) -> Result<(), u8> {
+        let frame = frame(octets).map_err(|_| 1)?;
+        let request = judge(&frame, self, tick, lent)?;
+        let mut keys = self.keys(lent, &request)?;
+        let sa_keys = keys.sa_keys(&request.announced)?;
+        self.enter(&request, tick, sa_keys);
+        if request.registration {
+            self.held = keys.held();
+        }
+        Ok(())
+    }
+
+    /// The keys under which copies may open.
+    fn keys(&self, lent: &[u8], request: &Request) -> Result<Keys, u8> {
+        if request.registration {
+            let mut keys = Keys::default_key(lent);
+            keys.follow(&request.wrap_keys)?;
+            return Ok(keys);
+        }
+        let mut keys = Keys::default_key(self.live_rekey().map_or(&[], Sa::default_key));
+        self.held.iter().for_each(|(id, value)| keys.add(*id, value));
+        Ok(keys)
+    }
+
+    /// The table and the least Message ID after acceptance.
+    fn enter(&mut self, request: &Request, tick: u32, sa_keys: Vec<Vec<u8>>) {
+        self.remove_due(tick);
+        let retiring = Condition::Retiring { start: tick, delay: request.delay };
+        let new_rekey = request.announced.iter().any(|sa| sa.protocol == REKEY);
+        for sa in self.table.iter_mut().filter(|sa| sa.is_live()) {
+            let goes = match sa.protocol {
+                ESP => request.deleted.iter().any(|spi| *spi == [0; 4] || *spi == sa.spi),
+                _ => new_rekey,
+            };
+            if goes {
+                sa.condition = retiring;
+            }
+        }
+        for (sa, keying) in request.announced.iter().zip(sa_keys) {
+            let (Need::Esp(encryption) | Need::Rekey { encryption, .. }) = sa.need;
+            let (protocol, spi) = (sa.protocol, sa.spi.to_vec());
+            self.table.push(Sa { protocol, spi, keying, encryption, condition: Condition::Live });
+        }
+        self.table.sort_by(|a, b| (a.protocol, &a.spi).cmp(&(b.protocol, &b.spi)));
+        self.least_id = match (new_rekey, request.registration) {
+            (true, _) => Some(request.initial_id.unwrap_or(0)),
+            (false, true) => Some(0),
+            (false, false) => request.message_id.checked_add(1),
+        };
+    }
+
+    fn remove_due(&mut self, tick: u32) {
+        self.table.retain(|sa| !sa.is_due(tick));
+    }
+
+    /// Removes exactly the SAs due; a value that is no member stays as it is.
+    pub fn sweep(&mut self, tick: u32) {
+        if self.is_whole() {
+            self.remove_due(tick);
+        }
+    }
+
+    pub fn leave(&mut self) {
+        *self = Member::new();
+    }
+}
