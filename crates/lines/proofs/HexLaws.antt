@@ -4,13 +4,11 @@ use mathlib.Core.Path.{_≡_, refl, ap, sym, subst, _∙_}
 use mathlib.Core.List.{List, [], _∷_}
 use mathlib.Core.Bool.{Bool, true, false, cond, _&&_, _||_}
 use native.Mathlib.Omega.{arith}
-use native.Mathlib.Numerals.{add-one}
 use lib.ListN.{length, getD, drop, length-drop, drop-of-length-le}
-use lib.Seq.{drop-cons}
 use lib.Dec.{leb, ltb, eqb}
 use borrow.Author.Tests.{le-leb, lt-leb, lt-ltb, le-ltb, leb-true, eqb-true, eq-eqb}
 use Rattle.lines.specs.Hex.{within, isDecimal, isLetter, isDigit, valueOf, digitOf, areDigits, isHex, octetsOf, digitsOf}
-use Rattle.lines.proofs.Cases.{by-less, by-test, true-not-false, and-true}
+use Rattle.lines.proofs.Cases.{at-place, by-less, by-test, true-not-false, and-true}
 
 module _ (low high c : ℕ) where
   pub inside : low ≤ c → c ≤ high → within low high c ≡ true
@@ -121,16 +119,13 @@ of-digit c e = by-test (isDecimal c) decimal (λ d. by-test (isLetter c) letter 
 
 -- the loops over text and octets, one step at a place
 module _ (text : List ℕ) (i : ℕ) where
-  at-place : i < length text → drop i text ≡ getD text i 0 ∷ drop (i + 1) text
-  at-place h = rw (add-one, drop-cons text i 0 h)
-
   pub digits-more : i < length text → isDigit (getD text i 0) ≡ true → areDigits (drop i text) ≡ areDigits (drop (i + 1) text)
   unfolding areDigits
-  digits-more h e = rw (at-place h, e)
+  digits-more h e = rw (at-place text i h, e)
 
   pub digits-stop : i < length text → isDigit (getD text i 0) ≡ false → areDigits (drop i text) ≡ false
   unfolding areDigits
-  digits-stop h e = rw (at-place h, e)
+  digits-stop h e = rw (at-place text i h, e)
 
   pub digits-end : length text ≤ i → areDigits (drop i text) ≡ true
   unfolding areDigits
@@ -139,7 +134,7 @@ module _ (text : List ℕ) (i : ℕ) where
   pub written-more : i < length text
       → digitsOf (drop i text) ≡ digitOf (getD text i 0 / 16) ∷ digitOf (getD text i 0 % 16) ∷ digitsOf (drop (i + 1) text)
   unfolding digitsOf
-  written-more h = ap digitsOf (at-place h)
+  written-more h = ap digitsOf (at-place text i h)
 
   pub written-end : length text ≤ i → digitsOf (drop i text) ≡ []
   unfolding digitsOf

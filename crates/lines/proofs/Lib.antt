@@ -1,3 +1,7 @@
 pub mod Cases
 pub mod HexLaws
+pub mod RoundTrip
+pub mod LineLaws
+pub mod InputLaws
+pub mod AnswerLaws
 pub mod RoomLaws

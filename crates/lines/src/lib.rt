@@ -1,12 +1,13 @@
 // The text of the member program, on slices: hexadecimal, lines, what a line asks, what is printed. Nothing here knows the member.
 ghost use mathlib.Core.Path.{_≡_};
-ghost use mathlib.Core.List.{_∷_, []};
+ghost use mathlib.Core.List.{_∷_, [], _++_};
 ghost use Prim.Native.Nat.{_+_, _*_, _/_, _%_, _<_, _≤_};
-ghost use lib.ListN.{length, drop, getD, replicate};
+ghost use lib.ListN.{length, take, getD};
 ghost use Rattle.lines.specs.Hex.{isDigit, valueOf, digitOf, areDigits, isHex, octetsOf, digitsOf, numberFrom};
 ghost use Rattle.lines.specs.Input.{isTaken, keyOf};
 ghost use Rattle.lines.specs.Answer.{decimal, answerText, badText};
 ghost use Rattle.lines.specs.inner.Room.{Put};
+ghost use Rattle.lines.specs.inner.Calls.{Absorbs, Gives, Asks};
 
 // One octet at a place of lent room, where the place is within it; the place behind it. Internal.
 pub fn put(room: &mut [u8], at: usize, octet: u8) -> usize
@@ -129,4 +130,136 @@ pub fn put_digits(room: &mut [u8], at: usize, octets: &[u8]) -> usize
         i += 1;
     }
     place
+}
+
+// What was taken from a block: the place behind it, how many characters the lent line holds now, and whether a newline ended the line.
+pub struct Absorbed {
+    pub next: usize,
+    pub len: usize,
+    pub ended: bool,
+}
+
+// Takes a block from a place on, up to the first newline or to the block's end, into a lent line that holds `len` characters of a line that
+// has begun. Of a line that is longer than the lent one the characters behind are passed over. Internal.
+pub fn absorb(block: &[u8], from: usize, line: &mut [u8], len: usize) -> Absorbed
+    ensures { λ r. ⌜ Absorbs (now (block .entry)) from (now (line .entry)) len (now (line .exit)) r ⌝ }
+{
+    let mut at = from;
+    let mut held = len;
+    while at < block.len() {
+        let c = block[at];
+        if c == 10 {
+            return Absorbed {
+                next: at + 1,
+                len: held,
+                ended: true,
+            };
+        }
+        held = put(line, held, c);
+        at += 1;
+    }
+    Absorbed {
+        next: at,
+        len: held,
+        ended: false,
+    }
+}
+
+// Whether a line is hexadecimal with a count of digits within two bounds. Internal.
+pub fn is_taken(text: &[u8], least: usize, most: usize) -> bool
+    ensures { λ r. ⌜ r ≡ isTaken least most (now (text .entry)) ⌝ }
+{
+    if text.len() < least {
+        return false;
+    }
+    if most < text.len() {
+        return false;
+    }
+    is_hex(text)
+}
+
+// The default key: `len` octets, and 0 in the places behind.
+pub struct Key {
+    pub octets: [u8; 32],
+    pub len: usize,
+}
+
+// The default key that a first line gives. Internal.
+pub fn key_line(line: &[u8]) -> Key
+    ensures { λ r. ⌜ Gives (now (line .entry)) r ⌝ }
+{
+    let mut octets = [0u8; 32];
+    if is_taken(line, 0, 64) {
+        let len = put_octets(&mut octets, 0, line);
+        return Key { octets, len };
+    }
+    Key { octets, len: 0 }
+}
+
+// The number that the first 8 digits of a text write.
+fn tick_of(text: &[u8]) -> u32
+    requires { ⌜ 8 ≤ length (now text) ⌝ }
+    ensures { λ r. ⌜ r ≡ numberFrom 0 (take 8 (now (text .entry))) ⌝ }
+{
+    let a = octet_at(text, 0) as u32;
+    let b = octet_at(text, 2) as u32;
+    let c = octet_at(text, 4) as u32;
+    let d = octet_at(text, 6) as u32;
+    ((a * 256 + b) * 256 + c) * 256 + d
+}
+
+// What a later line asks: nothing that can be answered, or an answer to a frame, which is `len` octets of a lent room, at a tick.
+pub enum Request {
+    Bad,
+    Frame { tick: u32, len: usize },
+}
+
+// What a later line asks. The frame goes to the room's start; a room of 16,384 octets holds every frame. Internal.
+pub fn later_line(line: &[u8], room: &mut [u8]) -> Request
+    ensures { λ r. ⌜ Asks (now (line .entry)) (now (room .entry)) (now (room .exit)) r ⌝ }
+{
+    if is_taken(line, 8, 32776) {
+        let tick = tick_of(line);
+        let len = put_octets(room, 0, &line[8..]);
+        return Request::Frame { tick, len };
+    }
+    Request::Bad
+}
+
+// A number in decimal, into lent room from a place on; the place behind it. Internal.
+pub fn put_number(room: &mut [u8], at: usize, n: usize) -> usize
+    ensures { λ r. ⌜ Put (now (room .entry)) at (decimal n) (now (room .exit)) r ⌝ }
+{
+    if n < 10 {
+        return put(room, at, (48 + n) as u8);
+    }
+    let last = put_number(room, at, n / 10);
+    put(room, last, (48 + n % 10) as u8)
+}
+
+// A number and the character behind it.
+fn put_field(room: &mut [u8], at: usize, n: usize, mark: u8) -> usize
+    ensures { λ r. ⌜ Put (now (room .entry)) at (decimal n ++ (mark ∷ [])) (now (room .exit)) r ⌝ }
+{
+    let last = put_number(room, at, n);
+    put(room, last, mark)
+}
+
+// The text of an answer, into lent room from a place on; the place behind it. Internal.
+pub fn put_answer(room: &mut [u8], at: usize, number: usize, sas: usize, held: usize) -> usize
+    ensures { λ r. ⌜ Put (now (room .entry)) at (answerText number sas held) (now (room .exit)) r ⌝ }
+{
+    let second = put_field(room, at, number, 32);
+    let third = put_field(room, second, sas, 32);
+    put_field(room, third, held, 10)
+}
+
+// The text for a bad line, into lent room from a place on; the place behind it. Internal.
+pub fn put_bad(room: &mut [u8], at: usize) -> usize
+    ensures { λ r. ⌜ Put (now (room .entry)) at badText (now (room .exit)) r ⌝ }
+{
+    let a = put(room, at, 98);
+    let b = put(room, a, 97);
+    let c = put(room, b, 100);
+    put(room, c, 10)
 }
