@@ -4,4 +4,7 @@ pub mod RoundTrip
 pub mod LineLaws
 pub mod InputLaws
 pub mod AnswerLaws
+pub mod ReadingLaws
+pub mod ProgramLaws
+pub mod Samples
 pub mod RoomLaws

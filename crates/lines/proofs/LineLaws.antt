@@ -22,7 +22,7 @@ pub lines-other : (c : ℕ) (s : List ℕ) → (c ≡ 10 → ⊥) → lines (c �
 unfolding lines
 lines-other c s e = rw (ne-eqb c 10 e)
 
-first-before : (c : ℕ) (ls : List Line) → firstOf (before c ls) ≡ record { text = c ∷ firstOf ls .text; ended = firstOf ls .ended }
+pub first-before : (c : ℕ) (ls : List Line) → firstOf (before c ls) ≡ record { text = c ∷ firstOf ls .text; ended = firstOf ls .ended }
 first-before c [] = refl
 first-before c (l ∷ ls) = refl
 

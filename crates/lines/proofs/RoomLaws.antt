@@ -8,7 +8,7 @@ use lib.Seq.{sets, length-sets, set-out, sets-eq}
 use Rattle.lines.specs.inner.Room.{Put}
 use Rattle.lines.proofs.Cases.{by-less}
 
-sets-out : (text room : List ℕ) (n : ℕ) → length room ≤ n → sets room n text ≡ room
+pub sets-out : (text room : List ℕ) (n : ℕ) → length room ≤ n → sets room n text ≡ room
 sets-out [] room n h = refl
 sets-out (c ∷ text) room n h =
     ap (λ (l : List ℕ). sets l (suc n) text) (set-out room n c h) ∙ sets-out text room (suc n) (omega arith)
