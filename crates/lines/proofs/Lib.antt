@@ -2,6 +2,7 @@ pub mod Cases
 pub mod HexLaws
 pub mod RoundTrip
 pub mod LineLaws
+pub mod SplitLaws
 pub mod InputLaws
 pub mod AnswerLaws
 pub mod ReadingLaws

@@ -22,6 +22,34 @@ pub lines-other : (c : ℕ) (s : List ℕ) → (c ≡ 10 → ⊥) → lines (c �
 unfolding lines
 lines-other c s e = rw (ne-eqb c 10 e)
 
+-- lines of a text with a beginning in which no newline stands
+
+abbrev pub NoNewline : List ℕ → Type 0
+NoNewline [] = Unit {0}
+NoNewline (c ∷ s) = (c ≡ 10 → ⊥) × NoNewline s
+
+pub no-newline-snoc : (s : List ℕ) (c : ℕ) → NoNewline s → (c ≡ 10 → ⊥) → NoNewline (s ++ (c ∷ []))
+no-newline-snoc [] c p n = (n, tt)
+no-newline-snoc (a ∷ s) c p n = (p .0, no-newline-snoc s c (p .1) n)
+
+pub lines-ended : (s rest : List ℕ) → NoNewline s → lines (s ++ (10 ∷ rest)) ≡ record { text = s; ended = true } ∷ lines rest
+lines-ended [] rest p = lines-newline 10 rest refl
+lines-ended (c ∷ s) rest p = lines-other c (s ++ (10 ∷ rest)) (p .0) ∙ ap (before c) (lines-ended s rest (p .1))
+
+-- a beginning that is not empty is a line that no newline ended
+abbrev pub begun : List ℕ → List Line
+begun [] = []
+begun (c ∷ s) = record { text = c ∷ s; ended = false } ∷ []
+
+before-begun : (c : ℕ) (s : List ℕ) → before c (begun s) ≡ begun (c ∷ s)
+before-begun c [] = refl
+before-begun c (a ∷ s) = refl
+
+pub lines-begun : (s : List ℕ) → NoNewline s → lines s ≡ begun s
+unfolding lines
+lines-begun [] p = refl
+lines-begun (c ∷ s) p = lines-other c s (p .0) ∙ ap (before c) (lines-begun s (p .1)) ∙ before-begun c s
+
 pub first-before : (c : ℕ) (ls : List Line) → firstOf (before c ls) ≡ record { text = c ∷ firstOf ls .text; ended = firstOf ls .ended }
 first-before c [] = refl
 first-before c (l ∷ ls) = refl

@@ -6,40 +6,12 @@ use mathlib.Core.Bool.{Bool, true, false, cond}
 use lib.ListN.{length, drop}
 use lib.Dec.{eqb}
 use borrow.Author.Tests.{eq-eqb, ne-eqb}
-use Rattle.lines.specs.Lines.{Line, before, lines, firstOf, written}
+use Rattle.lines.specs.Lines.{Line, lines}
 use Rattle.lines.specs.Input.{keyOf}
 use Rattle.lines.specs.Transcript.{Step, Reply, reply, later, outputOf, transcript}
 use Rattle.lines.specs.inner.Reading.{DefaultKey, awaited, given, Reading, start, lineEnd, close, extend, feed, feedAll, feedBlocks, finished, finish}
 use Rattle.lines.proofs.Cases.{by-same}
-use Rattle.lines.proofs.LineLaws.{lines-newline, lines-other}
-
--- ---- lines of a text with a beginning in which no newline stands
-
-abbrev NoNewline : List ℕ → Type 0
-NoNewline [] = Unit {0}
-NoNewline (c ∷ s) = (c ≡ 10 → ⊥) × NoNewline s
-
-no-newline-snoc : (s : List ℕ) (c : ℕ) → NoNewline s → (c ≡ 10 → ⊥) → NoNewline (s ++ (c ∷ []))
-no-newline-snoc [] c p n = (n, tt)
-no-newline-snoc (a ∷ s) c p n = (p .0, no-newline-snoc s c (p .1) n)
-
-lines-ended : (s rest : List ℕ) → NoNewline s → lines (s ++ (10 ∷ rest)) ≡ record { text = s; ended = true } ∷ lines rest
-lines-ended [] rest p = lines-newline 10 rest refl
-lines-ended (c ∷ s) rest p = lines-other c (s ++ (10 ∷ rest)) (p .0) ∙ ap (before c) (lines-ended s rest (p .1))
-
--- a beginning that is not empty is a line that no newline ended
-abbrev begun : List ℕ → List Line
-begun [] = []
-begun (c ∷ s) = record { text = c ∷ s; ended = false } ∷ []
-
-before-begun : (c : ℕ) (s : List ℕ) → before c (begun s) ≡ begun (c ∷ s)
-before-begun c [] = refl
-before-begun c (a ∷ s) = refl
-
-lines-begun : (s : List ℕ) → NoNewline s → lines s ≡ begun s
-unfolding lines
-lines-begun [] p = refl
-lines-begun (c ∷ s) p = lines-other c s (p .0) ∙ ap (before c) (lines-begun s (p .1)) ∙ before-begun c s
+use Rattle.lines.proofs.LineLaws.{NoNewline, no-newline-snoc, lines-ended, lines-begun}
 
 module _ {S : Type 0} (step : Step S) where
   -- the output for lines, the first of which is the key's where that is awaited

@@ -3,8 +3,8 @@ use Prim.Native.Nat.{ℕ, zero, suc, _+_, _-_, _<_, _≤_, min}
 use mathlib.Core.Path.{_≡_, refl, ap, sym, subst, _∙_}
 use mathlib.Core.List.{List, [], _∷_, _++_, append-assoc, append-nil}
 use native.Mathlib.Omega.{arith}
-use lib.ListN.{length, take, drop, getD, set, length-append, length-set}
-use lib.Seq.{sets, length-sets, set-out, sets-eq}
+use lib.ListN.{length, take, drop, set, length-append, length-set}
+use lib.Seq.{sets, length-sets, set-out, sets-eq, length-take-le, take-at}
 use Rattle.lines.specs.inner.Room.{Put}
 use Rattle.lines.proofs.Cases.{by-less}
 
@@ -59,6 +59,21 @@ put-none room at = record { octets = refl; place = omega arith }
 
 pub put-full : (room : List ℕ) (at c : ℕ) → length room ≤ at → Put room at (c ∷ []) room at
 put-full room at c h = record { octets = sym (set-out room at c h); place = omega arith }
+
+-- with room for all of the text, it stands between what was before and behind it
+module _ {room : List ℕ} {at : ℕ} {text after : List ℕ} {next : ℕ} (p : Put room at text after next) (h : at + length text ≤ length room) where
+  pub put-whole : after ≡ take at room ++ (text ++ drop (at + length text) room)
+  put-whole = p .octets ∙ sets-eq text room at h ∙ append-assoc (take at room) text (drop (at + length text) room)
+
+  pub put-next : next ≡ at + length text
+  put-next = omega (arith, p .place)
+
+  pub put-taken : take next after ≡ take at room ++ text
+  put-taken =
+      let l = length-append (take at room) text in
+      let k = length-take-le at room (omega arith) in
+      ap (λ (x : List ℕ). take next x) (p .octets ∙ sets-eq text room at h)
+      ∙ take-at (take at room ++ text) (drop (at + length text) room) next (omega (arith, put-next))
 
 -- a loop that puts text: what it has put so far, and what is left of the whole text
 pub record Puts (room : List ℕ) (at : ℕ) (text now : List ℕ) (place : ℕ) (rest : List ℕ) : Type 0 where
