@@ -12,13 +12,13 @@ use Rattle.lines.specs.Input.{Asked, keyOf, askedBy}
 use Rattle.lines.specs.Transcript.{Step, replyTo, reply}
 use Rattle.lines.specs.inner.Room.{Put}
 use Rattle.lines.specs.inner.Calls.{Absorbs}
-use Rattle.lines.specs.inner.Reading.{awaited, given, DefaultKey, Reading, replied, lineEnd, close, extend, feed, feedAll}
+use Rattle.lines.specs.inner.Reading.{awaited, given, DefaultKey, Reading, replied, lineEnd, close, extend, feedAll, finished, finish}
 use Rattle.lines.specs.declared.Absorbed.{Absorbed}
 use Rattle.lines.proofs.Cases.{by-same, by-less}
 use Rattle.lines.proofs.InputLaws.{taken-long, key-other, asked-other}
 use Rattle.lines.proofs.LineLaws.{lines-newline, lines-other, first-before}
-use Rattle.lines.proofs.ReadingLaws.{feed-newline, feed-other}
-use Rattle.lines.proofs.RoomLaws.{sets-out}
+use Rattle.lines.proofs.ReadingLaws.{feed-newline, feed-other, closed-line}
+use Rattle.lines.proofs.RoomLaws.{sets-out, length-put}
 
 module _ {S : Type 0} where
   extend-none : (r : Reading S) → extend [] r ≡ r
@@ -173,3 +173,56 @@ module _ {S : Type 0} (step : Step S) where
       → close step r ≡ lineEnd step (r .key) (r .member) (take len room) (r .output)
   unfolding close
   close-kept r h p = sym (end-kept (r .key) (r .member) (r .output) h p)
+
+  -- a program goes through a block: what it has read of the block it has read as octet by octet, and its lent line holds the line that has begun
+  pub record Goes (first : Reading S) (block : List ℕ) (now : Reading S) (room : List ℕ) (len at : ℕ) : Type 0 where
+    pub left : feedAll step first block ≡ feedAll step now (drop at block)
+    pub kept : Kept room len (now .line)
+
+  pub goes-start : (r : Reading S) (block room : List ℕ) (len : ℕ) → Kept room len (r .line) → Goes r block r room len 0
+  goes-start r block room len p = record { left = refl; kept = p }
+
+  module _ {first : Reading S} {block : List ℕ} {r : Reading S} {room : List ℕ} {len at : ℕ} {after : List ℕ} {a : Absorbed}
+      (p : Goes first block r room len at) (q : Absorbs block at room len after a) where
+    -- the line that has begun, with what was taken of the block
+    abbrev pub longer : Reading S
+    longer = extend (firstOf (lines (drop at block)) .text) r
+
+    pub longer-kept : Kept after (a .len) (longer .line)
+    unfolding extend
+    longer-kept = kept-put (p .kept) (q .kept)
+
+    -- a newline was taken: the line that is held is answered, and the next one begins
+    pub goes-line : 32776 < length room → a .ended ≡ true
+        → Goes first block (lineEnd step (r .key) (r .member) (take (a .len) after) (r .output)) after 0 (a .next)
+    unfolding extend
+    goes-line h e =
+        let held = take (a .len) after in
+        let l = length-put (q .kept) in
+        record {
+          left =
+              p .left ∙ absorbed step q r
+              ∙ ap (λ (b : Bool). cond b (feedAll step (close step longer) (drop (a .next) block)) longer) e
+              ∙ ap (λ (x : Reading S). feedAll step x (drop (a .next) block)) (close-kept longer (omega arith) longer-kept);
+          kept =
+              subst (λ (s : List ℕ). Kept after 0 s) (sym (closed-line step (r .key) (r .member) held (r .output))) (kept-none after);
+        }
+
+    -- none was: the block is read, and the line goes on in the next one
+    pub goes-end : a .ended ≡ false → feedAll step first block ≡ longer
+    goes-end e = p .left ∙ absorbed step q r ∙ ap (λ (b : Bool). cond b (feedAll step (close step longer) (drop (a .next) block)) longer) e
+
+  -- at the input's end a line that has begun is answered
+  module _ (r : Reading S) {room : List ℕ} (h : 32776 < length room) where
+    pub finish-none : Kept room 0 (r .line) → finish step r ≡ r .output
+    unfolding finish
+    finish-none p = ap (finished step r) (kept-empty (omega arith) p)
+
+    pub finish-line : {len : ℕ} → 0 < len → Kept room len (r .line)
+        → finish step r ≡ lineEnd step (r .key) (r .member) (take len room) (r .output) .output
+    unfolding finish
+    finish-line {len} l p = some (r .line) (kept-some l p) ∙ ap (λ (x : Reading S). x .output) (close-kept r h p)
+      where
+        some : (line : List ℕ) → (line ≡ [] → ⊥) → finished step r line ≡ close step r .output
+        some [] n = absurd (n refl)
+        some (c ∷ line) n = refl

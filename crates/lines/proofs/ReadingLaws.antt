@@ -34,7 +34,7 @@ module _ {S : Type 0} (step : Step S) where
   from-line (given key) member line e output ls =
       append-assoc output (reply step key member line .text) (later step key (reply step key member line .next) ls)
 
-  closed-line : (k : DefaultKey) (member : S) (line output : List ℕ) → lineEnd step k member line output .line ≡ []
+  pub closed-line : (k : DefaultKey) (member : S) (line output : List ℕ) → lineEnd step k member line output .line ≡ []
   closed-line awaited member line output = refl
   closed-line (given key) member line output = refl
 

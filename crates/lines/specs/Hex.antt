@@ -35,7 +35,7 @@ areDigits (c ∷ text) = isDigit c && areDigits text
 unfoldable pub isHex : List ℕ → Bool
 isHex text = areDigits text && eqb (length text % 2) 0
 
--- the octets of a text: two digits each, the higher first
+-- the octets of a text: two digits each, the higher first; a last digit alone, which `isHex` bars, counts nothing
 unfoldable pub octetsOf : List ℕ → List ℕ
 octetsOf [] = []
 octetsOf (h ∷ []) = []

@@ -20,8 +20,8 @@ pub fn put(room: &mut [u8], at: usize, octet: u8) -> usize
     at
 }
 
-// Whether a character is a hexadecimal digit. Internal.
-pub fn is_digit(c: u8) -> bool
+// Whether a character is a hexadecimal digit.
+fn is_digit(c: u8) -> bool
     ensures { λ r. ⌜ r ≡ isDigit c ⌝ }
 {
     if c < 48 {
@@ -36,8 +36,8 @@ pub fn is_digit(c: u8) -> bool
     c <= 102
 }
 
-// What a hexadecimal digit counts; 0 for another character. Internal.
-pub fn value_of(c: u8) -> u8
+// What a hexadecimal digit counts; 0 for another character.
+fn value_of(c: u8) -> u8
     ensures { λ r. ⌜ (r ≡ valueOf c) × (r < 16) ⌝ }
 {
     if c < 48 {
@@ -55,8 +55,8 @@ pub fn value_of(c: u8) -> u8
     0
 }
 
-// The digit that counts v. Internal.
-pub fn digit_of(v: u8) -> u8
+// The digit that counts v.
+fn digit_of(v: u8) -> u8
     requires { ⌜ v < 16 ⌝ }
     ensures { λ r. ⌜ r ≡ digitOf v ⌝ }
 {
@@ -165,8 +165,8 @@ pub fn absorb(block: &[u8], from: usize, line: &mut [u8], len: usize) -> Absorbe
     }
 }
 
-// Whether a line is hexadecimal with a count of digits within two bounds. Internal.
-pub fn is_taken(text: &[u8], least: usize, most: usize) -> bool
+// Whether a line is hexadecimal with a count of digits within two bounds.
+fn is_taken(text: &[u8], least: usize, most: usize) -> bool
     ensures { λ r. ⌜ r ≡ isTaken least most (now (text .entry)) ⌝ }
 {
     if text.len() < least {
