@@ -1,15 +1,15 @@
 -- Laws of what a line asks. Assumes nothing.
-use Prim.Native.Nat.{ℕ, zero, suc, _+_, _-_, _*_, _<_, _≤_}
-use mathlib.Core.Path.{_≡_, refl, ap, sym, subst, _∙_}
+use Prim.Native.Nat.{ℕ, _+_, _-_, _*_, _<_, _≤_}
+use mathlib.Core.Path.{_≡_}
 use mathlib.Core.List.{List, [], _∷_}
-use mathlib.Core.Bool.{Bool, true, false, _&&_}
+use mathlib.Core.Bool.{true, false, _&&_}
 use native.Mathlib.Omega.{arith}
 use lib.ListN.{length, take, drop, getD, length-drop}
 use lib.Seq.{take-all}
 use lib.Dec.{leb}
 use borrow.Author.Tests.{le-leb, lt-leb, leb-true}
 use Rattle.lines.specs.Hex.{isHex, valueOf, octetsOf, numberFrom}
-use Rattle.lines.specs.Input.{isTaken, keyOf, Asked, bad, frame, askedBy}
+use Rattle.lines.specs.Input.{isTaken, keyOf, bad, frame, askedBy}
 use Rattle.lines.proofs.Cases.{by-test, and-true}
 
 module _ (least most : ℕ) (text : List ℕ) where

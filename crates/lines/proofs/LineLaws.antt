@@ -1,18 +1,16 @@
 -- Laws of lines: the first one of what is left of a block, and what a call that takes it promises. Assumes nothing.
-use Prim.Native.Nat.{ℕ, zero, suc, _+_, _-_, _<_, _≤_}
-use mathlib.Core.Path.{_≡_, refl, ap, sym, subst, _∙_}
+use Prim.Native.Nat.{ℕ, _+_, _<_, _≤_}
+use mathlib.Core.Path.{_≡_, refl, ap, sym, _∙_}
 use mathlib.Core.List.{List, [], _∷_, _++_}
-use mathlib.Core.Bool.{Bool, true, false, cond}
+use mathlib.Core.Bool.{true, false}
 use native.Mathlib.Omega.{arith}
-use lib.ListN.{length, drop, getD, length-append, drop-of-length-le}
-use lib.Dec.{eqb}
+use lib.ListN.{length, drop, getD, drop-of-length-le}
 use borrow.Author.Tests.{eq-eqb, ne-eqb}
 use Rattle.lines.specs.Lines.{Line, written, before, lines, firstOf}
 use Rattle.lines.specs.inner.Room.{Put}
 use Rattle.lines.specs.inner.Calls.{Absorbs}
-use Rattle.lines.specs.declared.Absorbed.{Absorbed}
 use Rattle.lines.proofs.Cases.{at-place}
-use Rattle.lines.proofs.RoomLaws.{Puts, puts-start, puts-more, puts-done, length-puts}
+use Rattle.lines.proofs.RoomLaws.{Puts, puts-start, puts-more, puts-done}
 
 pub lines-newline : (c : ℕ) (s : List ℕ) → c ≡ 10 → lines (c ∷ s) ≡ record { text = []; ended = true } ∷ lines s
 unfolding lines
@@ -60,7 +58,9 @@ first block at = firstOf (lines (drop at block))
 
 module _ (block : List ℕ) (at : ℕ) where
   first-newline : at < length block → getD block at 0 ≡ 10 → first block at ≡ record { text = []; ended = true }
-  first-newline h e = ap (λ (l : List ℕ). firstOf (lines l)) (at-place block at h) ∙ ap firstOf (lines-newline (getD block at 0) (drop (at + 1) block) e)
+  first-newline h e =
+      ap (λ (l : List ℕ). firstOf (lines l)) (at-place block at h)
+      ∙ ap firstOf (lines-newline (getD block at 0) (drop (at + 1) block) e)
 
   first-other : at < length block → (getD block at 0 ≡ 10 → ⊥)
       → first block at ≡ record { text = getD block at 0 ∷ first block (at + 1) .text; ended = first block (at + 1) .ended }
@@ -86,7 +86,8 @@ pub record Takes (block : List ℕ) (from : ℕ) (line : List ℕ) (len : ℕ) (
 pub takes-start : (block : List ℕ) (from : ℕ) (line : List ℕ) (len : ℕ) → Takes block from line len line from len
 takes-start block from line len = record { text = puts-start line len (first block from .text); ended = refl; next = refl }
 
-module _ {block : List ℕ} {from : ℕ} {line : List ℕ} {len : ℕ} {now : List ℕ} {at held : ℕ} (p : Takes block from line len now at held) where
+module _ {block : List ℕ} {from : ℕ} {line : List ℕ} {len : ℕ} {now : List ℕ} {at held : ℕ}
+    (p : Takes block from line len now at held) where
   pub takes-more : at < length block → (getD block at 0 ≡ 10 → ⊥) → {now′ : List ℕ} {held′ : ℕ}
       → Put now held (getD block at 0 ∷ []) now′ held′ → Takes block from line len now′ (at + 1) held′
   takes-more h n q =

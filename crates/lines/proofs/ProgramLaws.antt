@@ -1,14 +1,14 @@
 -- What a program that holds a line in lent room may conclude from the calls: it goes with the reading of the input octet by octet.
 -- Assumes nothing.
-use Prim.Native.Nat.{ℕ, zero, suc, _+_, _-_, _<_, _≤_, min}
+use Prim.Native.Nat.{ℕ, suc, _+_, _-_, _<_, _≤_, min}
 use mathlib.Core.Path.{_≡_, refl, ap, sym, subst, _∙_}
 use mathlib.Core.List.{List, [], _∷_, _++_, append-assoc, append-nil}
 use mathlib.Core.Bool.{Bool, true, false, cond}
 use native.Mathlib.Omega.{arith}
 use lib.ListN.{length, take, drop, set, length-append, length-take, length-set}
 use lib.Seq.{sets, drop-drop, take-all, take-suc-set, take-append-le, length-take-le}
-use Rattle.lines.specs.Lines.{Line, written, before, lines, firstOf}
-use Rattle.lines.specs.Input.{Asked, keyOf, askedBy}
+use Rattle.lines.specs.Lines.{Line, written, lines, firstOf}
+use Rattle.lines.specs.Input.{Asked, bad, keyOf, askedBy}
 use Rattle.lines.specs.Transcript.{Step, replyTo, reply}
 use Rattle.lines.specs.inner.Room.{Put}
 use Rattle.lines.specs.inner.Calls.{Absorbs}
@@ -140,25 +140,19 @@ cut : (room : List ℕ) (text : List ℕ) → length room < length text → leng
 cut room text h = length-take-le (length room) text (omega arith)
 
 module _ {room : List ℕ} {len : ℕ} {text : List ℕ} (p : Kept room len text) where
-  pub key-kept : 64 < length room → keyOf (take len room) ≡ keyOf text
-  key-kept h =
+  -- what is the same of all texts of more than `most` characters is told by the characters that are held
+  kept-same : {A : Type 0} (f : List ℕ → A) (x : A) (most : ℕ) → ((l : List ℕ) → most < length l → f l ≡ x) → most < length room
+      → f (take len room) ≡ f text
+  kept-same f x most long h =
       by-less (length room) (length text)
-      (λ l.
-      let c = cut room text l in
-      ap keyOf (p .same)
-      ∙ key-other (take (length room) text) (taken-long 0 64 (take (length room) text) (omega arith))
-      ∙ sym (key-other text (taken-long 0 64 text (omega arith))))
-      (λ l. ap keyOf (p .same ∙ take-all (length room) text l))
+      (λ l. let c = cut room text l in ap f (p .same) ∙ long (take (length room) text) (omega arith) ∙ sym (long text (omega arith)))
+      (λ l. ap f (p .same ∙ take-all (length room) text l))
+
+  pub key-kept : 64 < length room → keyOf (take len room) ≡ keyOf text
+  key-kept h = kept-same keyOf [] 64 (λ l m. key-other l (taken-long 0 64 l m)) h
 
   pub asked-kept : 32776 < length room → askedBy (take len room) ≡ askedBy text
-  asked-kept h =
-      by-less (length room) (length text)
-      (λ l.
-      let c = cut room text l in
-      ap askedBy (p .same)
-      ∙ asked-other (take (length room) text) (taken-long 8 32776 (take (length room) text) (omega arith))
-      ∙ sym (asked-other text (taken-long 8 32776 text (omega arith))))
-      (λ l. ap askedBy (p .same ∙ take-all (length room) text l))
+  asked-kept h = kept-same askedBy bad 32776 (λ l m. asked-other l (taken-long 8 32776 l m)) h
 
 -- the line that has begun ends: what the program does with the octets that it holds is what the whole line asks
 module _ {S : Type 0} (step : Step S) where
@@ -174,7 +168,7 @@ module _ {S : Type 0} (step : Step S) where
   unfolding close
   close-kept r h p = sym (end-kept (r .key) (r .member) (r .output) h p)
 
-  -- a program goes through a block: what it has read of the block it has read as octet by octet, and its lent line holds the line that has begun
+  -- a program goes through a block: what it has read of it was read as octet by octet, and its lent line holds the line that has begun
   pub record Goes (first : Reading S) (block : List ℕ) (now : Reading S) (room : List ℕ) (len at : ℕ) : Type 0 where
     pub left : feedAll step first block ≡ feedAll step now (drop at block)
     pub kept : Kept room len (now .line)

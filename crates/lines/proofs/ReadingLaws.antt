@@ -1,15 +1,13 @@
 -- The whole input read octet by octet, in any blocks, gives the transcript. Assumes nothing.
 use Prim.Native.Nat.{ℕ}
-use mathlib.Core.Path.{_≡_, refl, ap, sym, subst, _∙_}
+use mathlib.Core.Path.{_≡_, refl, ap, sym, _∙_}
 use mathlib.Core.List.{List, [], _∷_, _++_, append-assoc, append-nil, flatten}
-use mathlib.Core.Bool.{Bool, true, false, cond}
-use lib.ListN.{length, drop}
-use lib.Dec.{eqb}
+use mathlib.Core.Bool.{Bool, true, false}
 use borrow.Author.Tests.{eq-eqb, ne-eqb}
 use Rattle.lines.specs.Lines.{Line, lines}
-use Rattle.lines.specs.Input.{keyOf}
-use Rattle.lines.specs.Transcript.{Step, Reply, reply, later, outputOf, transcript}
-use Rattle.lines.specs.inner.Reading.{DefaultKey, awaited, given, Reading, start, lineEnd, close, extend, feed, feedAll, feedBlocks, finished, finish}
+use Rattle.lines.specs.Transcript.{Step, reply, later, outputOf, transcript}
+use Rattle.lines.specs.inner.Reading.{DefaultKey, awaited, given, Reading, start, lineEnd, close, extend, feed}
+use Rattle.lines.specs.inner.Reading.{feedAll, feedBlocks, finished, finish}
 use Rattle.lines.proofs.Cases.{by-same}
 use Rattle.lines.proofs.LineLaws.{NoNewline, no-newline-snoc, lines-ended, lines-begun}
 

@@ -1,5 +1,5 @@
 -- Laws of text put into lent room. Assumes nothing.
-use Prim.Native.Nat.{ℕ, zero, suc, _+_, _-_, _<_, _≤_, min}
+use Prim.Native.Nat.{ℕ, suc, _+_, _-_, _≤_, min}
 use mathlib.Core.Path.{_≡_, refl, ap, sym, subst, _∙_}
 use mathlib.Core.List.{List, [], _∷_, _++_, append-assoc, append-nil}
 use native.Mathlib.Omega.{arith}
@@ -19,7 +19,9 @@ same-place : (t room x : List ℕ) (n k : ℕ) → length x ≡ length room
 same-place t room x n k e =
     by-less n (length room)
     (λ h. let q : n + min (suc k) (length room - n) ≡ suc n + min k (length room - suc n) = omega arith in rw q)
-    (λ h. sets-out t x (n + min (suc k) (length room - n)) (omega arith) ∙ sym (sets-out t x (suc n + min k (length room - suc n)) (omega arith)))
+    (λ h.
+    sets-out t x (n + min (suc k) (length room - n)) (omega arith)
+    ∙ sym (sets-out t x (suc n + min k (length room - suc n)) (omega arith)))
 
 sets-append : (s t room : List ℕ) (n : ℕ) → sets (sets room n s) (n + min (length s) (length room - n)) t ≡ sets room n (s ++ t)
 sets-append [] t room n = let e : n + min 0 (length room - n) ≡ n = omega arith in rw e
@@ -61,7 +63,8 @@ pub put-full : (room : List ℕ) (at c : ℕ) → length room ≤ at → Put roo
 put-full room at c h = record { octets = sym (set-out room at c h); place = omega arith }
 
 -- with room for all of the text, it stands between what was before and behind it
-module _ {room : List ℕ} {at : ℕ} {text after : List ℕ} {next : ℕ} (p : Put room at text after next) (h : at + length text ≤ length room) where
+module _ {room : List ℕ} {at : ℕ} {text after : List ℕ} {next : ℕ}
+    (p : Put room at text after next) (h : at + length text ≤ length room) where
   pub put-whole : after ≡ take at room ++ (text ++ drop (at + length text) room)
   put-whole = p .octets ∙ sets-eq text room at h ∙ append-assoc (take at room) text (drop (at + length text) room)
 

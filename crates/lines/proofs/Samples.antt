@@ -13,7 +13,7 @@ use Rattle.lines.specs.Hex.{isDigit, valueOf, areDigits, isHex, octetsOf
 use Rattle.lines.specs.Lines.{lines}
 use Rattle.lines.specs.Input.{isTaken, keyOf, askedBy}
 use Rattle.lines.specs.Answer.{decimalUpTo, decimal, printed, answerText}
-use Rattle.lines.specs.Transcript.{Outcome, Step, reply, later, transcript}
+use Rattle.lines.specs.Transcript.{Step, reply, later, transcript}
 
 abbrev text : String → List ℕ
 text none = []
@@ -30,7 +30,8 @@ sample : transcript toy 0
     ++ (text "0000000000000000000000000000000000000000002000000000000000000000001 c\n"
     ++ text "ffffffff0000000000000000000000000000000000200000000000000000001c")))
     ≡ text "1 0 0\nbad\nbad\nbad\n2 0 0\n"
-unfolding isDigit valueOf areDigits isHex octetsOf numberFrom lines isTaken keyOf askedBy decimalUpTo decimal printed answerText reply later transcript
+unfolding isDigit valueOf areDigits isHex octetsOf numberFrom lines isTaken keyOf askedBy
+    decimalUpTo decimal printed answerText reply later transcript
 sample = refl
 
 -- counts the frames, and tells the tick and the sizes of key and frame
@@ -41,8 +42,8 @@ pub record Sample : Type 0 where
   pub input : String
   pub output : String
 
--- an input with no line, or with a first line alone, prints nothing; a newline ends a line and starts none; a first line counts as an empty key
--- or gives one of any size up to 32; other characters, odd counts and under 8 digits are bad and leave the member as it was
+-- an input with no line, or with a first line alone, prints nothing; a newline ends a line and starts none; a first line counts as an empty
+-- key or gives one of any size up to 32; other characters, odd counts and under 8 digits are bad and leave the member as it was
 abbrev table : List Sample
 table =
     record { input = ""; output = "" }
@@ -63,5 +64,6 @@ table =
     ∷ []
 
 samples : map (λ (s : Sample). transcript tell 0 (text (s .input))) table ≡ map (λ (s : Sample). text (s .output)) table
-unfolding isDigit valueOf areDigits isHex octetsOf numberFrom lines isTaken keyOf askedBy decimalUpTo decimal printed answerText reply later transcript
+unfolding isDigit valueOf areDigits isHex octetsOf numberFrom lines isTaken keyOf askedBy
+    decimalUpTo decimal printed answerText reply later transcript
 samples = refl

@@ -1,9 +1,9 @@
--- Lines are the one way to split an input: written one behind the other they are the input again, and any lines that could stand in an input
--- are what their octets split into. Assumes nothing.
+-- Lines are the one way to split an input: written one behind the other they are the input again, and any lines that could stand in an
+-- input are what their octets split into. Assumes nothing.
 use Prim.Native.Nat.{ℕ}
 use mathlib.Core.Path.{_≡_, refl, ap, sym, subst, _∙_}
 use mathlib.Core.List.{List, [], _∷_, _++_, append-assoc, append-nil}
-use mathlib.Core.Bool.{Bool, true, false, cond}
+use mathlib.Core.Bool.{Bool, true, false}
 use native.Mathlib.Omega.{arith}
 use Rattle.lines.specs.Lines.{Line, written, before, lines}
 use Rattle.lines.proofs.Cases.{by-same}

@@ -1,7 +1,8 @@
--- What a line of input asks. Document 01, the member program: "first the default key, then lines of tick (8 digits) and frame". Assumes nothing.
+-- What a line of input asks. Document 01, the member program: "first the default key, then lines of tick (8 digits) and frame".
+-- Assumes nothing.
 use Prim.Native.Nat.{ℕ}
-use mathlib.Core.List.{List, [], _∷_}
-use mathlib.Core.Bool.{Bool, true, false, cond, _&&_}
+use mathlib.Core.List.{List, []}
+use mathlib.Core.Bool.{Bool, cond, _&&_}
 use lib.ListN.{length, take, drop}
 use lib.Dec.{leb}
 use Rattle.lines.specs.Hex.{isHex, octetsOf, numberFrom}

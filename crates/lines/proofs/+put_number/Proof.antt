@@ -1,143 +1,74 @@
--- `lines::put_number` meets its contract: the higher digits are put by a call at a tenth of the number, which is the measure. Assumes nothing.
+-- `lines::put_number` meets its contract: a call at a tenth of the number, which is the measure, puts the higher digits. Assumes nothing.
 use borrow.Author.Needs.{needs}
-use native.Mathlib.Omega.{arith}
+use borrow.Fn.Kinds.{In}
+use borrow.Fn.PlainCycle.{Measures, is, falls, and}
 use mathlib.Core.Path.{sym, subst}
+use native.Mathlib.Omega.{arith}
 use Prim.Native.Nat.{ℕ, _<_, _/_}
 use Rattle.lines.proofs.AnswerLaws.{decimal-one, decimal-more}
 use Rattle.lines.proofs.RoomLaws.{put-as, put-append}
-use borrow.Fn.Kinds.{In}
-use borrow.Fn.PlainCycle.{Measures, is, falls, and}
-use Rattle.lines.proofs.put_number.Reads as put-number
-use Rattle.lines.proofs.put_number.Kinds as put-number-kinds
-use Rattle.lines.proofs.+put_number.Lts-put_number as put-number-lts
-use Rattle.lines.proofs.put.Reads as put-reads
+use Rattle.lines.proofs.put_number.Reads as own
+use Rattle.lines.proofs.put_number.Kinds as kinds
+use Rattle.lines.proofs.+put_number.Lts-put_number as lts
+use Rattle.lines.proofs.put.Reads as put
 use Rattle.lines.proofs.+put_number.{statement}
 use Rattle.lines.proofs.+put_number.Tie.{close}
 
-abbrev μ-put-number : Measures 1 put-number-kinds.ps ℕ
+abbrev μ-put-number : Measures 1 kinds.ps ℕ
 μ-put-number κs a = a .1 .1 .0
 
-abbrev put-number-at : ℕ → In 1 put-number-kinds.ps
-put-number-at t =
-    and 1 put-number-kinds.ps (is 1 put-number-kinds.ps μ-put-number t) put-number.Pre
+-- what the function is given at the measure t, and what a call of it asks below t
+abbrev at : ℕ → In 1 kinds.ps
+at t = and 1 kinds.ps (is 1 kinds.ps μ-put-number t) own.Pre
 
-abbrev put-number-below : ℕ → In 1 put-number-kinds.ps
-put-number-below t =
-    and 1 put-number-kinds.ps (falls 1 put-number-kinds.ps _<_ μ-put-number t) put-number.Pre
+abbrev below : ℕ → In 1 kinds.ps
+below t = and 1 kinds.ps (falls 1 kinds.ps _<_ μ-put-number t) own.Pre
 
-put-number-add-put : (t : ℕ) → put-number-lts.Need-add-put (
-  put-reads.Asked,
-  put-reads.Learnt,
-  put-number-below t,
-  put-number.Post,
-) (put-number-at t) put-number.Post
-put-number-add-put t c = omega arith
+module _ (t : ℕ) where
+  add-put : lts.Need-add-put (put.Asked, put.Learnt, below t, own.Post) (at t) own.Post
+  add-put c = omega arith
 
-put-number-cast-put : (t : ℕ) → put-number-lts.Need-cast-put (
-  put-reads.Asked,
-  put-reads.Learnt,
-  put-number-below t,
-  put-number.Post,
-) (put-number-at t) put-number.Post
-put-number-cast-put t c = omega arith
+  cast-put : lts.Need-cast-put (put.Asked, put.Learnt, below t, own.Post) (at t) own.Post
+  cast-put c = omega arith
 
-put-number-put-requires : (t : ℕ) → put-number-lts.Need-put-requires (
-  put-reads.Asked,
-  put-reads.Learnt,
-  put-number-below t,
-  put-number.Post,
-) (put-number-at t) put-number.Post
-put-number-put-requires t c κs = tt
+  put-requires : lts.Need-put-requires (put.Asked, put.Learnt, below t, own.Post) (at t) own.Post
+  put-requires c κs = tt
 
-put-number-same-length : (t : ℕ) → put-number-lts.Need-same-length (
-  put-reads.Asked,
-  put-reads.Learnt,
-  put-number-below t,
-  put-number.Post,
-) (put-number-at t) put-number.Post
-put-number-same-length t c = search needs
+  same-length : lts.Need-same-length (put.Asked, put.Learnt, below t, own.Post) (at t) own.Post
+  same-length c = search needs
 
-put-number-returns : (t : ℕ) → put-number-lts.Need-returns (
-  put-reads.Asked,
-  put-reads.Learnt,
-  put-number-below t,
-  put-number.Post,
-) (put-number-at t) put-number.Post
-put-number-returns t c =
-    let b = c .before .before .before .before in
-    put-as (sym (decimal-one (b .before .before .args .n) (b .if1 .taken))) (c .before .before .put .ensures)
+  returns : lts.Need-returns (put.Asked, put.Learnt, below t, own.Post) (at t) own.Post
+  returns c =
+      let b = c .before .before .before .before in
+      put-as (sym (decimal-one (b .before .before .args .n) (b .if1 .taken))) (c .before .before .put .ensures)
 
-put-number-put-number-requires : (t : ℕ) → put-number-lts.Need-put-number-requires (
-  put-reads.Asked,
-  put-reads.Learnt,
-  put-number-below t,
-  put-number.Post,
-) (put-number-at t) put-number.Post
-put-number-put-number-requires t c κs =
-    let b = c .before .before in
-    (subst (λ (m : ℕ). b .before .args .n / 10 < m) (b .before .pre .0) (omega arith), tt)
+  put-number-requires : lts.Need-put-number-requires (put.Asked, put.Learnt, below t, own.Post) (at t) own.Post
+  put-number-requires c κs =
+      let b = c .before .before in
+      (subst (λ (m : ℕ). b .before .args .n / 10 < m) (b .before .pre .0) (omega arith), tt)
 
-put-number-add-put-2 : (t : ℕ) → put-number-lts.Need-add-put-2 (
-  put-reads.Asked,
-  put-reads.Learnt,
-  put-number-below t,
-  put-number.Post,
-) (put-number-at t) put-number.Post
-put-number-add-put-2 t c = omega arith
+  add-put-2 : lts.Need-add-put-2 (put.Asked, put.Learnt, below t, own.Post) (at t) own.Post
+  add-put-2 c = omega arith
 
-put-number-cast-put-2 : (t : ℕ) → put-number-lts.Need-cast-put-2 (
-  put-reads.Asked,
-  put-reads.Learnt,
-  put-number-below t,
-  put-number.Post,
-) (put-number-at t) put-number.Post
-put-number-cast-put-2 t c = omega arith
+  cast-put-2 : lts.Need-cast-put-2 (put.Asked, put.Learnt, below t, own.Post) (at t) own.Post
+  cast-put-2 c = omega arith
 
-put-number-put-requires-2 : (t : ℕ) → put-number-lts.Need-put-requires-2 (
-  put-reads.Asked,
-  put-reads.Learnt,
-  put-number-below t,
-  put-number.Post,
-) (put-number-at t) put-number.Post
-put-number-put-requires-2 t c κs = tt
+  put-requires-2 : lts.Need-put-requires-2 (put.Asked, put.Learnt, below t, own.Post) (at t) own.Post
+  put-requires-2 c κs = tt
 
-put-number-same-length-2 : (t : ℕ) → put-number-lts.Need-same-length-2 (
-  put-reads.Asked,
-  put-reads.Learnt,
-  put-number-below t,
-  put-number.Post,
-) (put-number-at t) put-number.Post
-put-number-same-length-2 t c = search needs
+  same-length-2 : lts.Need-same-length-2 (put.Asked, put.Learnt, below t, own.Post) (at t) own.Post
+  same-length-2 c = search needs
 
-put-number-returns-2 : (t : ℕ) → put-number-lts.Need-returns-2 (
-  put-reads.Asked,
-  put-reads.Learnt,
-  put-number-below t,
-  put-number.Post,
-) (put-number-at t) put-number.Post
-put-number-returns-2 t c =
-    let p = c .before .before in
-    let q = p .before .before .before .before in
-    let b = q .before .before in
-    put-as (sym (decimal-more (b .before .before .args .n) (b .if1 .left))) (put-append (q .put-number .ensures) (p .put2 .ensures))
+  returns-2 : lts.Need-returns-2 (put.Asked, put.Learnt, below t, own.Post) (at t) own.Post
+  returns-2 c =
+      let p = c .before .before in
+      let q = p .before .before .before .before in
+      let b = q .before .before in
+      put-as (sym (decimal-more (b .before .before .args .n) (b .if1 .left))) (put-append (q .put-number .ensures) (p .put2 .ensures))
 
 pub +put-number-spec : {M : Type 1} → statement M
-+put-number-spec = close μ-put-number λ t. put-number-lts.spec (
-  put-reads.Asked,
-  put-reads.Learnt,
-  put-number-below t,
-  put-number.Post,
-)
-    (put-number-at t)
-    put-number.Post
-    (put-number-add-put t)
-    (put-number-cast-put t)
-    (put-number-put-requires t)
-    (put-number-same-length t)
-    (put-number-returns t)
-    (put-number-put-number-requires t)
-    (put-number-add-put-2 t)
-    (put-number-cast-put-2 t)
-    (put-number-put-requires-2 t)
-    (put-number-same-length-2 t)
-    (put-number-returns-2 t)
++put-number-spec =
+    close μ-put-number
+    (λ t.
+    lts.spec (put.Asked, put.Learnt, below t, own.Post) (at t) own.Post (add-put t) (cast-put t) (put-requires t) (same-length t)
+    (returns t) (put-number-requires t) (add-put-2 t) (cast-put-2 t) (put-requires-2 t) (same-length-2 t) (returns-2 t))

@@ -2,7 +2,6 @@
 use borrow.Author.Needs.{needs}
 use Prim.Native.Nat.{_-_}
 use lib.ListN.{length}
-use native.Mathlib.Omega.{arith}
 use Rattle.lines.proofs.LineLaws.{Takes, takes-start, takes-more, takes-newline, takes-end}
 use Rattle.lines.proofs.RoomLaws.{length-puts}
 use Rattle.lines.proofs.absorb.Statement.{statement}

@@ -33,14 +33,15 @@ loop-again : tie.Need-loop-again Inv-loop μ-loop
 loop-again c =
     let s = c .before .before .before .before .before .before .args .text .now in
     let l = c .before .before .before .before .loop in
-    (search needs, l .inv .1 ∙ digits-more s (l .i) (c .before .before .before .loop-test .taken) (sym (c .before .is-digit .ensures) ∙ c .if1 .taken))
+    let d = sym (c .before .is-digit .ensures) ∙ c .if1 .taken in
+    (search needs, l .inv .1 ∙ digits-more s (l .i) (c .before .before .before .loop-test .taken) d)
 
 returns : tie.Need-returns Inv-loop μ-loop
 returns c =
     let s = c .before .before .before .before .before .before .args .text .now in
     let l = c .before .before .before .before .loop in
-    let e = l .inv .1 ∙ digits-stop s (l .i) (c .before .before .before .loop-test .taken) (sym (c .before .is-digit .ensures) ∙ c .if1 .left) in
-    sym e
+    let d = sym (c .before .is-digit .ensures) ∙ c .if1 .left in
+    sym (l .inv .1 ∙ digits-stop s (l .i) (c .before .before .before .loop-test .taken) d)
 
 returns-2 : tie.Need-returns-2 Inv-loop μ-loop
 returns-2 c =

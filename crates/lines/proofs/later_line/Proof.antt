@@ -1,7 +1,6 @@
 -- `lines::later_line` meets its contract. Assumes nothing.
 use borrow.Author.Needs.{needs}
 use mathlib.Core.Path.{refl, sym, ap, _∙_}
-use mathlib.Core.List.{List}
 use Prim.Native.Nat.{ℕ}
 use native.Mathlib.Omega.{arith}
 use lib.ListN.{drop}
@@ -51,7 +50,8 @@ returns c =
     let b = t .before in
     let line = b .before .before .before .before .args .line .now in
     let e = asked-taken line (sym (b .before .is-taken .ensures) ∙ b .if1 .taken) in
-    (e ∙ ap (λ (n : ℕ). frame n (octetsOf (drop 8 line))) (sym (t .tick-of .ensures)), put-as (ap octetsOf (part-rest 8 line)) (p .put-octets .ensures))
+    let n = ap (λ (n : ℕ). frame n (octetsOf (drop 8 line))) (sym (t .tick-of .ensures)) in
+    (e ∙ n, put-as (ap octetsOf (part-rest 8 line)) (p .put-octets .ensures))
 
 returns-2 : tie.Need-returns-2
 returns-2 c =

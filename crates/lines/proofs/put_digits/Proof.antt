@@ -10,7 +10,8 @@ use Rattle.lines.proofs.put_digits.Statement.{statement}
 use Rattle.lines.proofs.put_digits.Tie as tie
 
 abbrev Inv-loop : tie.InvT-loop
-Inv-loop room₀ at octets place₀ i₀ room place i = (i ≤ length octets) × Puts room₀ at (digitsOf octets) room place (digitsOf (drop i octets))
+Inv-loop room₀ at octets place₀ i₀ room place i =
+    (i ≤ length octets) × Puts room₀ at (digitsOf octets) room place (digitsOf (drop i octets))
 
 abbrev μ-loop : tie.MeasureT-loop
 μ-loop room₀ at octets place₀ i₀ room place i = length octets - i

@@ -23,7 +23,8 @@ returns : tie.Need-returns
 returns c =
     let b = c .before .before in
     let a = b .before .before .before .before .before in
-    put-append (put-octet-as (a .before .digit-of .ensures) (a .put .ensures)) (put-octet-as (b .before .digit-of2 .ensures) (b .put2 .ensures))
+    put-append (put-octet-as (a .before .digit-of .ensures) (a .put .ensures))
+    (put-octet-as (b .before .digit-of2 .ensures) (b .put2 .ensures))
 
 pub put-octet-spec : {M : Type 1} → statement M
 put-octet-spec =

@@ -3,7 +3,6 @@ use borrow.Author.Needs.{needs}
 use Prim.Native.Nat.{_≤_, _-_}
 use native.Mathlib.Omega.{arith}
 use lib.ListN.{length, drop}
-use mathlib.Core.List.{_∷_, []}
 use Rattle.lines.specs.Hex.{octetsOf}
 use Rattle.lines.proofs.HexLaws.{read-more, read-end}
 use Rattle.lines.proofs.RoomLaws.{Puts, puts-start, puts-more, puts-done, length-puts, put-octet-as}
@@ -11,7 +10,8 @@ use Rattle.lines.proofs.put_octets.Statement.{statement}
 use Rattle.lines.proofs.put_octets.Tie as tie
 
 abbrev Inv-loop : tie.InvT-loop
-Inv-loop room₀ at text place₀ i₀ room place i = (i ≤ length text) × Puts room₀ at (octetsOf text) room place (octetsOf (drop i text))
+Inv-loop room₀ at text place₀ i₀ room place i =
+    (i ≤ length text) × Puts room₀ at (octetsOf text) room place (octetsOf (drop i text))
 
 abbrev μ-loop : tie.MeasureT-loop
 μ-loop room₀ at text place₀ i₀ room place i = length text - i
