@@ -5,6 +5,7 @@ pub mod LineLaws
 pub mod SplitLaws
 pub mod InputLaws
 pub mod AnswerLaws
+pub mod CallLaws
 pub mod ReadingLaws
 pub mod ProgramLaws
 pub mod Samples
