@@ -1,0 +1,73 @@
+-- What the answers of the calls on lines give their caller: the key and the frame as parts of what was lent. Assumes nothing.
+use Prim.Native.Nat.{ℕ, suc, _+_, _-_, _/_, _≤_}
+use mathlib.Core.Path.{_≡_, refl, ap, sym, _∙_}
+use mathlib.Core.List.{List, [], _∷_}
+use mathlib.Core.Bool.{true, false}
+use native.Mathlib.Omega.{arith}
+use lib.ListN.{length, take, drop, replicate, length-drop}
+use Rattle.lines.specs.Hex.{octetsOf, numberFrom}
+use Rattle.lines.specs.Input.{isTaken, keyOf, bad, frame, askedBy}
+use Rattle.lines.specs.Answer.{badText}
+use Rattle.lines.specs.Transcript.{Step, told, replyTo, reply}
+use Rattle.lines.specs.inner.Calls.{Gives, Asks}
+use Rattle.lines.specs.declared.Key.{Key}
+use Rattle.lines.specs.declared.Request.the-variants as request
+use Rattle.lines.proofs.Cases.{by-test}
+use Rattle.lines.proofs.InputLaws.{taken-bounds, key-taken, key-other, asked-other}
+use Rattle.lines.proofs.RoomLaws.{length-put, put-next, put-taken}
+
+pub length-octets : (text : List ℕ) → length (octetsOf text) ≡ length text / 2
+unfolding octetsOf
+length-octets [] = refl
+length-octets (h ∷ []) = refl
+length-octets (h ∷ l ∷ text) = let r = length-octets text in omega arith
+
+pub key-short : (line : List ℕ) → length (keyOf line) ≤ 32
+key-short line =
+    by-test (isTaken 0 64 line)
+    (λ e.
+    let b = taken-bounds 0 64 line e in
+    let l = ap length (key-taken line e) ∙ length-octets line in
+    omega arith)
+    (λ e. let l = ap length (key-other line e) in omega arith)
+
+-- the key of a first line is the first octets of what was given
+pub given-key : (line : List ℕ) {r : Key} → Gives line r → take (r .len) (r .octets) ≡ keyOf line
+given-key line p = let s = key-short line in put-taken p (omega arith)
+
+pub given-length : (line : List ℕ) {r : Key} → Gives line r → r .len ≡ length (keyOf line)
+given-length line p =
+    let s = key-short line in
+    let e = put-next p (omega arith) in
+    omega arith
+
+frame-short : (line : List ℕ) (tick : ℕ) (octets : List ℕ) → askedBy line ≡ frame tick octets → length (octetsOf (drop 8 line)) ≤ 16384
+frame-short line tick octets q =
+    by-test (isTaken 8 32776 line)
+    (λ e.
+    let b = taken-bounds 8 32776 line e in
+    let l = length-octets (drop 8 line) in
+    let d = length-drop 8 line in
+    omega arith)
+    (λ e. let o = asked-other line e in let z : _≡_ {A = ℕ} 0 1 = cc in absurd (omega arith))
+
+-- the frame of a later line is the first octets of a room that has 16,384
+module _ (line : List ℕ) {room after : List ℕ} {tick len : ℕ}
+    (p : Asks line room after (request.Frame tick len)) (h : 16384 ≤ length room) where
+  pub asked-frame : take len after ≡ octetsOf (drop 8 line)
+  asked-frame = let s = frame-short line tick (octetsOf (drop 8 line)) (p .0) in put-taken (p .1) (omega arith)
+
+  pub asked-inside : len ≤ length after
+  asked-inside = let l = length-put (p .1) in omega (arith, p .1 .place)
+
+-- what the program does with a later line is what the line asks
+module _ {S : Type 0} (step : Step S) (key : List ℕ) (member : S) (line : List ℕ) {room after : List ℕ} where
+  pub reply-bad : Asks line room after request.Bad → reply step key member line ≡ record { next = member; text = badText }
+  unfolding reply
+  reply-bad p = ap (replyTo step key member) (p .0)
+
+  pub reply-frame : {tick len : ℕ} → Asks line room after (request.Frame tick len) → 16384 ≤ length room
+      → reply step key member line ≡ told (step member key tick (take len after))
+  unfolding reply
+  reply-frame {tick} p h =
+      ap (replyTo step key member) (p .0) ∙ ap (λ (f : List ℕ). told (step member key tick f)) (sym (asked-frame line p h))

@@ -1,0 +1,69 @@
+-- Samples of the definitions, computed. The first is document 01's own input, with its output. The step here stands for a member: it
+-- answers number 1 to a frame under 28 octets and number 2 to any other, as a new member does to document 01's two samples, and counts.
+-- Assumes nothing.
+use Prim.Native.Nat.{ℕ, _+_, _*_}
+use Prim.Native.Char.{code}
+use Prim.Native.String.{String, [] as none, _∷_ as _then_}
+use mathlib.Core.Path.{_≡_, refl}
+use mathlib.Core.List.{List, [], _∷_, _++_, map}
+use mathlib.Core.Bool.{cond}
+use lib.ListN.{length}
+use lib.Dec.{ltb}
+use Rattle.lines.specs.Hex.{isDigit, valueOf, areDigits, isHex, octetsOf, numberFrom}
+use Rattle.lines.specs.Lines.{lines}
+use Rattle.lines.specs.Input.{isTaken, keyOf, askedBy}
+use Rattle.lines.specs.Answer.{decimalUpTo, decimal, printed, answerText}
+use Rattle.lines.specs.Transcript.{Step, reply, later, transcript}
+
+abbrev text : String → List ℕ
+text none = []
+text (c then s) = code c ∷ text s
+
+-- a new member's answers to document 01's samples
+abbrev toy : Step ℕ
+toy member key tick frame = record { next = member; number = cond (ltb (length frame) 28) 1 2; sas = 0; held = 0 }
+
+-- document 01's input, and its line of a tick and a bare header, with no newline behind it
+sample : transcript toy 0
+    (text "000102030405060708090a0b0c0d0e0f\n0000000000\nxyz\n"
+    ++ (text "0000000000000000000000000000000000000000002000000000000000000000001C\n"
+    ++ (text "0000000000000000000000000000000000000000002000000000000000000000001 c\n"
+    ++ text "ffffffff0000000000000000000000000000000000200000000000000000001c")))
+    ≡ text "1 0 0\nbad\nbad\nbad\n2 0 0\n"
+unfolding isDigit valueOf areDigits isHex octetsOf numberFrom lines isTaken keyOf askedBy
+    decimalUpTo decimal printed answerText reply later transcript
+sample = refl
+
+-- counts the frames, and tells the tick and the sizes of key and frame
+abbrev tell : Step ℕ
+tell member key tick frame = record { next = member + 1; number = length frame; sas = tick; held = length key + 100 * member }
+
+pub record Sample : Type 0 where
+  pub input : String
+  pub output : String
+
+-- an input with no line, or with a first line alone, prints nothing; a newline ends a line and starts none; a first line counts as an empty
+-- key or gives one of any size up to 32; other characters, odd counts and under 8 digits are bad and leave the member as it was
+abbrev table : List Sample
+table =
+    record { input = ""; output = "" }
+    ∷ record { input = "\n"; output = "" }
+    ∷ record { input = "00000000"; output = "" }
+    ∷ record { input = "\n\n"; output = "bad\n" }
+    ∷ record { input = "\n00000000"; output = "0 0 0\n" }
+    ∷ record { input = "\n00000000\n"; output = "0 0 0\n" }
+    ∷ record { input = "\n00000000\n\n"; output = "0 0 0\nbad\n" }
+    ∷ record { input = "00\n00000100ab\n0000000\n000000000\nffffffff0000"; output = "1 256 1\nbad\nbad\n2 4294967295 101\n" }
+    ∷ record { input = "0\n00000000"; output = "0 0 0\n" }
+    ∷ record { input = "0g\n00000000"; output = "0 0 0\n" }
+    ∷ record { input = "0A\n00000000\n"; output = "0 0 0\n" }
+    ∷ record { input = "0123456789abcdef0123456789abcdef01234567\n00000000"; output = "0 0 20\n" }
+    ∷ record { input = "0000000000000000000000000000000000000000000000000000000000000000\n00000000"; output = "0 0 32\n" }
+    ∷ record { input = "000000000000000000000000000000000000000000000000000000000000000000\n00000000"; output = "0 0 0\n" }
+    ∷ record { input = "\n00000000\r\n000000g0\n00000000\0\n00000000 \nÿ00000000"; output = "bad\nbad\nbad\nbad\nbad\n" }
+    ∷ []
+
+samples : map (λ (s : Sample). transcript tell 0 (text (s .input))) table ≡ map (λ (s : Sample). text (s .output)) table
+unfolding isDigit valueOf areDigits isHex octetsOf numberFrom lines isTaken keyOf askedBy
+    decimalUpTo decimal printed answerText reply later transcript
+samples = refl

@@ -1,0 +1,29 @@
+-- What is printed for a line. Document 01, the member program: "Each line after the first prints number, SA count, held count", as in
+-- `1 0 0`, or "bad": decimal numbers with one space between two, and a newline. Assumes nothing.
+use Prim.Native.Nat.{ℕ, zero, suc, _+_, _/_, _%_}
+use mathlib.Core.List.{List, [], _∷_, _++_}
+use mathlib.Core.Bool.{cond}
+use lib.Dec.{ltb}
+
+-- the decimal digits of n, the highest first, no 0 before them; n has at most n + 1 digits
+unfoldable pub decimalUpTo : ℕ → ℕ → List ℕ
+decimalUpTo zero n = []
+decimalUpTo (suc most) n =
+    let more : List ℕ = decimalUpTo most (n / 10) ++ ((48 + n % 10) ∷ []) in
+    cond (ltb n 10) ((48 + n) ∷ []) more
+
+unfoldable pub decimal : ℕ → List ℕ
+decimal n = decimalUpTo (suc n) n
+
+-- numbers with one space between two, and a newline
+unfoldable pub printed : List ℕ → List ℕ
+printed [] = 10 ∷ []
+printed (n ∷ []) = decimal n ++ (10 ∷ [])
+printed (n ∷ m ∷ ns) = decimal n ++ (32 ∷ printed (m ∷ ns))
+
+unfoldable pub answerText : ℕ → ℕ → ℕ → List ℕ
+answerText number sas held = printed (number ∷ sas ∷ held ∷ [])
+
+-- the characters of "bad", and a newline
+abbrev pub badText : List ℕ
+badText = 98 ∷ 97 ∷ 100 ∷ 10 ∷ []

@@ -1,0 +1,52 @@
+-- Hexadecimal text. Document 01, the member program: "lines of hexadecimal .. Digits are 0-9 and a-f." Assumes nothing.
+use Prim.Native.Nat.{ℕ, _+_, _-_, _*_, _/_, _%_}
+use mathlib.Core.List.{List, [], _∷_}
+use mathlib.Core.Bool.{Bool, true, cond, _&&_, _||_}
+use lib.ListN.{length}
+use lib.Dec.{leb, ltb, eqb}
+
+abbrev pub within : ℕ → ℕ → ℕ → Bool
+within low high c = leb low c && leb c high
+
+-- the characters 0 to 9
+abbrev pub isDecimal : ℕ → Bool
+isDecimal c = within 48 57 c
+
+-- the characters a to f
+abbrev pub isLetter : ℕ → Bool
+isLetter c = within 97 102 c
+
+unfoldable pub isDigit : ℕ → Bool
+isDigit c = isDecimal c || isLetter c
+
+-- what a digit counts, 0 to 15; of another character nothing is asked, and it counts 0
+unfoldable pub valueOf : ℕ → ℕ
+valueOf c = cond (isDecimal c) (c - 48) (cond (isLetter c) (c - 87) 0)
+
+-- the digit that counts v, 0 to 15
+unfoldable pub digitOf : ℕ → ℕ
+digitOf v = cond (ltb v 10) (48 + v) (87 + v)
+
+unfoldable pub areDigits : List ℕ → Bool
+areDigits [] = true
+areDigits (c ∷ text) = isDigit c && areDigits text
+
+-- digits alone, and an even count of them
+unfoldable pub isHex : List ℕ → Bool
+isHex text = areDigits text && eqb (length text % 2) 0
+
+-- the octets of a text: two digits each, the higher first; a last digit alone, which `isHex` bars, counts nothing
+unfoldable pub octetsOf : List ℕ → List ℕ
+octetsOf [] = []
+octetsOf (h ∷ []) = []
+octetsOf (h ∷ l ∷ text) = (16 * valueOf h + valueOf l) ∷ octetsOf text
+
+-- the text of octets
+unfoldable pub digitsOf : List ℕ → List ℕ
+digitsOf [] = []
+digitsOf (o ∷ octets) = digitOf (o / 16) ∷ digitOf (o % 16) ∷ digitsOf octets
+
+-- the number that digits write, the highest first, behind what the digits before them wrote
+unfoldable pub numberFrom : ℕ → List ℕ → ℕ
+numberFrom before [] = before
+numberFrom before (c ∷ text) = numberFrom (16 * before + valueOf c) text

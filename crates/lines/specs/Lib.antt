@@ -1,0 +1,6 @@
+pub mod Hex
+pub mod Lines
+pub mod Input
+pub mod Answer
+pub mod Transcript
+pub mod inner

@@ -1,0 +1,12 @@
+-- Text put into lent room. Assumes nothing.
+use Prim.Native.Nat.{ℕ, _+_, _-_, min}
+use mathlib.Core.Path.{_≡_}
+use mathlib.Core.List.{List}
+use lib.ListN.{length}
+use lib.Seq.{sets}
+
+-- text is put into the room from a place on, as much of it as there is room for; what stands before and behind it stays.
+-- `next` is the place behind it
+pub record Put (room : List ℕ) (at : ℕ) (text after : List ℕ) (next : ℕ) : Type 0 where
+  pub octets : after ≡ sets room at text
+  pub place : next ≡ at + min (length text) (length room - at)
