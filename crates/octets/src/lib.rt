@@ -1,4 +1,6 @@
-// What every other crate would otherwise write again: octets as numbers.
+// What every other crate would otherwise write again: octets as numbers, and runs of octets compared.
+pub mod compare;
+
 ghost use mathlib.Core.Path.{_≡_};
 ghost use Prim.Native.Nat.{_<_};
 

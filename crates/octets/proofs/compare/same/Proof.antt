@@ -1,0 +1,34 @@
+use mathlib.Core.Path.{_≡_, sym, ap, _∙_}
+use Rattle.octets.specs.Compare.{orderOf, isEqual, same}
+use borrow.Author.Needs.{needs}
+use Rattle.octets.proofs.compare.same.Statement.{statement}
+use Rattle.octets.proofs.compare.same.Tie as tie
+
+compare-requires : tie.Need-compare-requires
+compare-requires c κs = search needs
+
+enum-told : tie.Need-enum-told
+enum-told c = search needs
+
+enum-told-2 : tie.Need-enum-told-2
+enum-told-2 c = search needs
+
+enum-told-3 : tie.Need-enum-told-3
+enum-told-3 c = search needs
+
+returns : tie.Need-returns
+unfolding same
+returns c = sym (ap isEqual (sym (c .before .before .compare .ensures) ∙ c .enum-told .given .1))
+
+returns-2 : tie.Need-returns-2
+unfolding same
+returns-2 c = sym (ap isEqual (sym (c .before .before .compare .ensures) ∙ c .enum-told2 .given .1))
+
+returns-3 : tie.Need-returns-3
+unfolding same
+returns-3 c = sym (ap isEqual (sym (c .before .before .compare .ensures) ∙ c .enum-told3 .given .1))
+
+pub same-spec : {M : Type 1} → statement M
+same-spec =
+    tie.close
+    (tie.spec compare-requires enum-told enum-told-2 enum-told-3 returns returns-2 returns-3)
