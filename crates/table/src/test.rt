@@ -13,8 +13,8 @@ use keys::kinds::WrappingKey;
 use keys::limits::SAS;
 use sa::entry::Sa;
 
-// No SA.
-fn nothing() -> Found
+// No SA. Internal.
+pub fn nothing() -> Found
     ensures { λ r. ⌜ r ≡ none ⌝ }
 {
     let sa = Sa::blank();
