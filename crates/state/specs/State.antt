@@ -1,4 +1,5 @@
--- "What a member is": its table, its held list and the least acceptable Message ID. "A new member has no SA, no held key and least Message ID 0."
+-- "What a member is": its table, its held list and the least acceptable Message ID.
+-- "A new member has no SA, no held key and least Message ID 0."
 use Prim.Native.Nat.{ℕ}
 use mathlib.Core.Bool.{Bool, cond, _&&_}
 use mathlib.Core.List.{List, []}
