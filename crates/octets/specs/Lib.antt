@@ -1,3 +1,4 @@
 pub mod Numbers
 pub mod Octets
 pub mod Generate
+pub mod Compare

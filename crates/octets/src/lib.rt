@@ -1,4 +1,5 @@
-// What every other crate would otherwise write again: octets as numbers.
+// What every other crate would otherwise write again: octets as numbers, and runs of octets compared.
+pub mod compare;
 pub mod registers;
 
 ghost use mathlib.Core.Path.{_≡_};

@@ -1,0 +1,5 @@
+pub mod Cases
+pub mod Parts
+pub mod Sizes
+pub mod Lists
+pub mod Fill

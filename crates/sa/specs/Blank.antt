@@ -1,0 +1,14 @@
+-- The unused places of an SA, which are 0 in every SA that is made: the 12 octets behind an ESP SPI, octets behind the keying octets,
+-- an ESP SA's part counts.
+use Prim.Native.Nat.{ℕ, _-_}
+use mathlib.Core.Path.{_≡_}
+use mathlib.Core.List.{List}
+use lib.ListN.{length, take, drop, replicate}
+use Rattle.keys.specs.Kinds.{padded}
+use Rattle.sa.specs.declared.entry.Sa.{Sa}
+use Rattle.sa.specs.Entry.{esp, spiOf}
+
+pub record Blank (s : Sa) : Type 0 where
+  pub spi : s .spi ≡ padded 16 (spiOf s)
+  pub octets : s .octets ≡ padded 68 (take (s .count) (s .octets))
+  pub parts : s .protocol ≡ esp → (s .encryption ≡ 0) × (s .wrapping ≡ 0)

@@ -1,0 +1,3 @@
+// One security association (SA) of a member's table.
+pub mod clock;
+pub mod entry;

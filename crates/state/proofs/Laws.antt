@@ -1,0 +1,108 @@
+-- What the code of a state finds is what the definitions say.
+use native.Mathlib.Omega.{arith}
+use Prim.Native.Nat.{ℕ, _+_, _-_, _≤_, _<_, _^_}
+use mathlib.Core.Path.{_≡_, refl, ap, sym, _∙_}
+use mathlib.Core.Bool.{Bool, true, false, cond, not, _&&_}
+use mathlib.Core.List.{List, [], _∷_}
+use borrow.Author.Tests.{le-leb, lt-leb, lt-ltb, le-ltb, eq-eqb, ne-eqb}
+use lib.Dec.{leb, ltb, eqb}
+use lib.ListN.{length, take, drop, getD}
+use Rattle.keys.specs.Limits.{Limits}
+use Rattle.keys.specs.Lists.{all, rising}
+use Rattle.keys.specs.Algorithms.{sizeOf}
+use Rattle.keys.specs.declared.kinds.MadeWrapping.{MadeWrapping}
+use Rattle.keys.proofs.Parts.{part-cons, part-end}
+use Rattle.table.specs.declared.Table.{Table}
+use Rattle.table.specs.declared.Found.{Found}
+use Rattle.table.specs.Table.{tableFormed, swept, none, foundSa}
+use Rattle.state.specs.declared.least.Least.{Least}
+use Rattle.state.specs.declared.least.Least.the-variants.{Id, NoneAnyMore}
+use Rattle.state.specs.declared.held.HeldKey.{HeldKey}
+use Rattle.state.specs.declared.held.Held.{Held}
+use Rattle.state.specs.declared.State.{State}
+use Rattle.state.specs.Least.{acceptable, afterId}
+use Rattle.state.specs.Held.{keysOf, keyFormed, idBefore, heldFormed, noKey, keyWith, heldKey}
+use Rattle.state.specs.State.{stateFormed, withTable, sweptState, askedSa}
+
+-- ---- the least Message ID
+pub after-more : (id : ℕ) → id < 2 ^ 32 - 1 → Id (id + 1) ≡ afterId id
+unfolding afterId
+after-more id h = rw (lt-ltb id (2 ^ 32 - 1) h)
+
+pub after-last : (id : ℕ) → 2 ^ 32 - 1 ≤ id → NoneAnyMore ≡ afterId id
+unfolding afterId
+after-last id h = rw (le-ltb id (2 ^ 32 - 1) h)
+
+-- ---- the search of a held key
+module _ (id : ℕ) (l : List HeldKey) (n : ℕ) (h : n ≤ length l) (j : ℕ) where
+  pub key-here : (d : HeldKey) → j < n → getD l j d .id ≡ id → keyWith id
+      (drop j (take n l)) ≡ record { fits = true; key = getD l j d .key }
+  unfolding keyWith
+  key-here d g e = rw (part-cons l n h j d g, eq-eqb (getD l j d .id) id e)
+
+  pub key-next : (d : HeldKey) → j < n → (getD l j d .id ≡ id → ⊥) → keyWith id (drop j (take n l)) ≡ keyWith id (drop (j + 1) (take n l))
+  unfolding keyWith
+  key-next d g e = rw (part-cons l n h j d g, ne-eqb (getD l j d .id) id e)
+
+  pub key-end : n ≤ j → keyWith id (drop j (take n l)) ≡ noKey
+  unfolding keyWith
+  key-end g = rw (part-end l n h j g)
+
+module _ (limits : Limits) (h : Held) where
+  pub key-in : (id : ℕ) → h .count ≤ limits .heldKeys → heldKey limits id h ≡ keyWith id (keysOf h)
+  unfolding heldKey
+  key-in id g = rw (le-leb (h .count) (limits .heldKeys) g)
+
+  pub key-out : (id : ℕ) → limits .heldKeys < h .count → heldKey limits id h ≡ noKey
+  unfolding heldKey
+  key-out id g = rw (lt-leb (h .count) (limits .heldKeys) g)
+
+  -- ---- the test of a whole held list
+  pub held-over : limits .heldKeys < h .count → false ≡ heldFormed limits h
+  unfolding heldFormed
+  held-over g = rw (lt-leb (h .count) (limits .heldKeys) g)
+
+  pub held-each : h .count ≤ limits .heldKeys → all keyFormed (keysOf h) ≡ false → false ≡ heldFormed limits h
+  unfolding heldFormed
+  held-each g e = rw (le-leb (h .count) (limits .heldKeys) g, e)
+
+  pub held-rises : (r : Bool) → h .count ≤ limits .heldKeys → all keyFormed (keysOf h) ≡ true → r ≡ rising idBefore (keysOf h) →
+      r ≡ heldFormed limits h
+  unfolding heldFormed
+  held-rises r g e f = rw (le-leb (h .count) (limits .heldKeys) g, e) f
+
+pub key-is : (k : HeldKey) (r : Bool) → (k .id ≡ 0 → ⊥) → r ≡ sizeOf 13 (k .key .count) → r ≡ keyFormed k
+unfolding keyFormed
+key-is k r f e = rw (ne-eqb (k .id) 0 f) e
+
+pub key-zero : (k : HeldKey) → k .id ≡ 0 → false ≡ keyFormed k
+unfolding keyFormed
+key-zero k e = rw (eq-eqb (k .id) 0 e)
+
+-- ---- the state
+module _ (limits : Limits) (s : State) where
+  pub formed-parts : (r : Bool) → tableFormed limits (s .table) ≡ true → r ≡ heldFormed limits (s .held) → r ≡ stateFormed limits s
+  unfolding stateFormed
+  formed-parts r e f = rw e f
+
+  pub formed-not : tableFormed limits (s .table) ≡ false → false ≡ stateFormed limits s
+  unfolding stateFormed
+  formed-not e = rw e
+
+  pub swept-yes : (now : ℕ) (t : Table) → stateFormed limits s ≡ true → t ≡ swept limits now
+      (s .table) → withTable t s ≡ sweptState limits now s
+  unfolding sweptState
+  swept-yes now t e f = rw e (ap (λ (x : Table). withTable x s) f)
+
+  pub swept-no : (now : ℕ) → stateFormed limits s ≡ false → s ≡ sweptState limits now s
+  unfolding sweptState
+  swept-no now e = rw e
+
+  pub asked-yes : (p : ℕ) (x : List ℕ) (r : Found) → stateFormed limits s ≡ true → r ≡ foundSa limits p x
+      (s .table) → r ≡ askedSa limits p x s
+  unfolding askedSa
+  asked-yes p x r e f = rw e f
+
+  pub asked-no : (p : ℕ) (x : List ℕ) (r : Found) → stateFormed limits s ≡ false → r ≡ none → r ≡ askedSa limits p x s
+  unfolding askedSa
+  asked-no p x r e f = rw e f

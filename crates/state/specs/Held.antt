@@ -1,0 +1,48 @@
+-- "A held list of at most 32 wrapping keys (Key ID, value), Key IDs rising, none 0, values of 16, 24 or 32 octets."
+use Prim.Native.Nat.{ℕ, _-_}
+use mathlib.Core.Bool.{Bool, true, false, cond, not, _&&_}
+use mathlib.Core.List.{List, [], _∷_, _++_}
+use lib.Dec.{leb, ltb, eqb}
+use lib.ListN.{length, take, replicate}
+use Rattle.keys.specs.Lists.{all, rising}
+use Rattle.keys.specs.Limits.{Limits}
+use Rattle.keys.specs.Algorithms.{sizeOf}
+use Rattle.keys.specs.Kinds.{wrappingOf}
+use Rattle.keys.specs.declared.kinds.MadeWrapping.{MadeWrapping}
+use Rattle.state.specs.declared.held.HeldKey.{HeldKey}
+use Rattle.state.specs.declared.held.Held.{Held}
+
+-- the keys of the list: the first places, as many as its count says
+abbrev pub keysOf : Held → List HeldKey
+keysOf h = take (h .count) (h .keys)
+
+-- the value of an unused place
+abbrev pub blankKey : HeldKey
+blankKey = record { id = 0; key = wrappingOf [] }
+
+-- the list of these keys, with blank places behind them
+unfoldable pub heldOf : Limits → List HeldKey → Held
+heldOf limits l = record { keys = l ++ replicate (limits .heldKeys - length l) blankKey; count = length l }
+
+-- "none 0, values of 16, 24 or 32 octets"
+unfoldable pub keyFormed : HeldKey → Bool
+keyFormed k = not (eqb (k .id) 0) && sizeOf 13 (k .key .count)
+
+-- "Key IDs rising": a stands before b
+abbrev pub idBefore : HeldKey → HeldKey → Bool
+idBefore a b = ltb (a .id) (b .id)
+
+-- the held list is as a member's must be
+unfoldable pub heldFormed : Limits → Held → Bool
+heldFormed limits h = leb (h .count) (limits .heldKeys) && (all keyFormed (keysOf h) && rising idBefore (keysOf h))
+
+-- the key with a Key ID, or none
+abbrev pub noKey : MadeWrapping
+noKey = record { fits = false; key = wrappingOf [] }
+
+unfoldable pub keyWith : ℕ → List HeldKey → MadeWrapping
+keyWith id [] = noKey
+keyWith id (k ∷ l) = cond (eqb (k .id) id) (record { fits = true; key = k .key }) (keyWith id l)
+
+unfoldable pub heldKey : Limits → ℕ → Held → MadeWrapping
+heldKey limits id h = cond (leb (h .count) (limits .heldKeys)) (keyWith id (keysOf h)) noKey

@@ -1,0 +1,4 @@
+pub mod Least
+pub mod Held
+pub mod State
+pub mod Blank

@@ -1,0 +1,31 @@
+-- "What a member is": its table, its held list and the least acceptable Message ID.
+-- "A new member has no SA, no held key and least Message ID 0."
+use Prim.Native.Nat.{ℕ}
+use mathlib.Core.Bool.{Bool, cond, _&&_}
+use mathlib.Core.List.{List, []}
+use Rattle.keys.specs.Limits.{Limits}
+use Rattle.table.specs.declared.Table.{Table}
+use Rattle.table.specs.declared.Found.{Found}
+use Rattle.table.specs.Table.{tableOf, tableFormed, swept, none, foundSa}
+use Rattle.state.specs.declared.State.{State}
+use Rattle.state.specs.declared.least.Least.the-variants.{Id}
+use Rattle.state.specs.Held.{heldOf, heldFormed}
+
+unfoldable pub newState : Limits → State
+newState limits = record { table = tableOf limits []; held = heldOf limits []; least = Id 0 }
+
+-- the value keeps "this list" of what a member is
+unfoldable pub stateFormed : Limits → State → Bool
+stateFormed limits s = tableFormed limits (s .table) && heldFormed limits (s .held)
+
+-- the same state with another table
+abbrev pub withTable : Table → State → State
+withTable t s = record { table = t; held = s .held; least = s .least }
+
+-- "Sweeping removes exactly those due"; "a member value that breaks this list is swept to itself"
+unfoldable pub sweptState : Limits → ℕ → State → State
+sweptState limits now s = cond (stateFormed limits s) (withTable (swept limits now (s .table)) s) s
+
+-- "the SA with a given protocol and SPI, or none"; a value that breaks the list "answers none to every question"
+unfoldable pub askedSa : Limits → ℕ → List ℕ → State → Found
+askedSa limits p x s = cond (stateFormed limits s) (foundSa limits p x (s .table)) none

@@ -1,0 +1,137 @@
+// The held list: the wrapping keys that a member keeps from its registration.
+ghost use mathlib.Core.Path.{_≡_};
+ghost use mathlib.Core.List.{[]};
+ghost use Prim.Native.Nat.{_≤_};
+ghost use Rattle.keys.specs.Limits.{limits};
+ghost use Rattle.keys.specs.Lists.{all, rising};
+ghost use Rattle.state.specs.Held.{blankKey, keysOf, heldOf, keyFormed, idBefore, heldFormed, heldKey};
+use keys::kinds::MadeWrapping;
+use keys::kinds::WrappingKey;
+use keys::limits::HELD_KEYS;
+
+// A wrapping key with its Key ID.
+pub struct HeldKey {
+    pub id: u32,
+    pub key: WrappingKey,
+}
+
+pub struct Held {
+    pub keys: [HeldKey; HELD_KEYS],
+    pub count: usize,
+}
+
+// An unused place of the list.
+fn blank() -> HeldKey
+    ensures { λ r. ⌜ r ≡ blankKey ⌝ }
+{
+    let key = WrappingKey {
+        octets: [0u8; 32],
+        count: 0,
+    };
+    HeldKey { id: 0, key }
+}
+
+impl HeldKey {
+    // Whether its Key ID is not 0 and its octet count that of a wrapping key. Internal.
+    pub fn formed(self) -> bool
+        ensures { λ r. ⌜ r ≡ keyFormed self ⌝ }
+    {
+        if self.id == 0 {
+            return false;
+        }
+        let k = self.key;
+        WrappingKey::is_size(k.count)
+    }
+}
+
+impl Held {
+    // A list with no key. Internal.
+    pub fn new() -> Held
+        ensures { λ r. ⌜ r ≡ heldOf limits [] ⌝ }
+    {
+        let none = [blank(); HELD_KEYS];
+        Held {
+            keys: none,
+            count: 0,
+        }
+    }
+
+    // Whether each key is as it must be.
+    fn each_formed(self) -> bool
+        requires { ⌜ self .count ≤ limits .heldKeys ⌝ }
+        ensures { λ r. ⌜ r ≡ all keyFormed (keysOf self) ⌝ }
+    {
+        let n = self.count;
+        let mut i: usize = 0;
+        while i < n {
+            let k = self.keys[i];
+            if k.formed() {} else {
+                return false;
+            }
+            i += 1;
+        }
+        true
+    }
+
+    // Whether the Key IDs rise.
+    fn rises(self) -> bool
+        requires { ⌜ self .count ≤ limits .heldKeys ⌝ }
+        ensures { λ r. ⌜ r ≡ rising idBefore (keysOf self) ⌝ }
+    {
+        let n = self.count;
+        let mut j: usize = 0;
+        while j + 1 < n {
+            let i = j + 1;
+            let a = self.keys[j];
+            let b = self.keys[i];
+            if a.id < b.id {} else {
+                return false;
+            }
+            j = i;
+        }
+        true
+    }
+
+    // Whether the list is as a member's must be. Internal.
+    pub fn formed(self) -> bool
+        ensures { λ r. ⌜ r ≡ heldFormed limits self ⌝ }
+    {
+        if HELD_KEYS < self.count {
+            return false;
+        }
+        if self.each_formed() {
+            return self.rises();
+        }
+        false
+    }
+
+    // The key with this Key ID. Internal.
+    pub fn find(self, id: u32) -> MadeWrapping
+        ensures { λ r. ⌜ r ≡ heldKey limits id self ⌝ }
+    {
+        let n = self.count;
+        let none = WrappingKey {
+            octets: [0u8; 32],
+            count: 0,
+        };
+        if HELD_KEYS < n {
+            return MadeWrapping {
+                fits: false,
+                key: none,
+            };
+        }
+        let mut i: usize = 0;
+        while i < n {
+            let k = self.keys[i];
+            if k.id == id {
+                let key = k.key;
+                return MadeWrapping { fits: true, key };
+            }
+            i += 1;
+        }
+        MadeWrapping {
+            fits: false,
+            key: none,
+        }
+    }
+}

@@ -1,0 +1,31 @@
+// The least Message ID that a member takes in a rekey.
+ghost use mathlib.Core.Path.{_≡_};
+ghost use Rattle.state.specs.Least.{acceptable, afterId};
+
+// The least acceptable Message ID, or that none is acceptable any more.
+pub enum Least {
+    Id(u32),
+    NoneAnyMore,
+}
+
+impl Least {
+    // Whether a Message ID is acceptable. Internal.
+    pub fn accepts(self, id: u32) -> bool
+        ensures { λ r. ⌜ r ≡ acceptable id self ⌝ }
+    {
+        match self {
+            Least::Id(n) => n <= id,
+            Least::NoneAnyMore => false,
+        }
+    }
+
+    // What is acceptable after a rekey with this Message ID. Internal.
+    pub fn after(id: u32) -> Least
+        ensures { λ r. ⌜ r ≡ afterId id ⌝ }
+    {
+        if id < 4294967295 {
+            return Least::Id(id + 1);
+        }
+        Least::NoneAnyMore
+    }
+}

@@ -1,0 +1,69 @@
+// The state of a member: its table, its held list and the least Message ID that it takes.
+pub mod held;
+pub mod least;
+
+ghost use mathlib.Core.Path.{_≡_};
+ghost use Rattle.keys.specs.Limits.{limits};
+ghost use Rattle.state.specs.State.{newState, stateFormed, sweptState, askedSa};
+use held::Held;
+use least::Least;
+use table::Found;
+use table::Table;
+
+pub struct State {
+    pub table: Table,
+    pub held: Held,
+    pub least: Least,
+}
+
+impl State {
+    // The state of a new member. Internal.
+    pub fn new() -> State
+        ensures { λ r. ⌜ r ≡ newState limits ⌝ }
+    {
+        let table = Table::new();
+        let held = Held::new();
+        State {
+            table,
+            held,
+            least: Least::Id(0),
+        }
+    }
+
+    // Whether the state is as a member's must be. Internal.
+    pub fn formed(self) -> bool
+        ensures { λ r. ⌜ r ≡ stateFormed limits self ⌝ }
+    {
+        let t = self.table;
+        if t.formed() {
+            let h = self.held;
+            return h.formed();
+        }
+        false
+    }
+
+    // The state without the SAs that are due. Internal.
+    pub fn swept(self, tick: u32) -> State
+        ensures { λ r. ⌜ r ≡ sweptState limits tick self ⌝ }
+    {
+        if self.formed() {
+            let t = self.table;
+            let table = t.swept(tick);
+            let held = self.held;
+            let least = self.least;
+            return State { table, held, least };
+        }
+        self
+    }
+
+    // The SA with this protocol and SPI. Internal.
+    pub fn find(self, protocol: u8, spi: &[u8]) -> Found
+        ensures { λ r. ⌜ r ≡ askedSa limits protocol (now (spi .entry)) self ⌝ }
+    {
+        if self.formed() {
+            let t = self.table;
+            return t.find(protocol, spi);
+        }
+        table::test::nothing()
+    }
+}

@@ -1,0 +1,134 @@
+// Changes of a table.
+ghost use mathlib.Core.Path.{_≡_};
+ghost use mathlib.Core.Bool.{_||_};
+ghost use Prim.Native.Nat.{_≤_};
+ghost use Rattle.keys.specs.Limits.{limits};
+ghost use Rattle.sa.specs.Entry.{before};
+ghost use Rattle.table.specs.Table.{swept, emptyAt, entered, retiredIf, retiredWhere, retiredEsp, retiredAll};
+ghost use Rattle.table.specs.inner.Loops.{picked};
+use crate::Table;
+use keys::limits::SAS;
+use sa::entry::ESP;
+use sa::entry::Sa;
+
+// Whether an SA on its way to its place goes ahead of another: it has its place already, or stands before it.
+fn goes_ahead(placed: bool, a: Sa, s: Sa) -> bool
+    ensures { λ r. ⌜ r ≡ (placed || before a s) ⌝ }
+{
+    if placed {
+        return true;
+    }
+    a.before(s)
+}
+
+// The SA as it retires if it is picked: every SA of the protocol, or the one with this SPI.
+fn retired_if(s: Sa, all: bool, protocol: u8, spi: &[u8], tick: u32, delay: u16) -> Sa
+    ensures { λ r. ⌜ r ≡ retiredIf (picked all protocol (now (spi .entry))) tick delay s ⌝ }
+{
+    if all {
+        if s.protocol == protocol {
+            return s.retired(tick, delay);
+        }
+        return s;
+    }
+    if s.named(protocol, spi) {
+        return s.retired(tick, delay);
+    }
+    s
+}
+
+impl Table {
+    // The table without the SAs that are due. Internal.
+    pub fn swept(self, tick: u32) -> Table
+        ensures { λ r. ⌜ r ≡ swept limits tick self ⌝ }
+    {
+        let n = self.count;
+        if SAS < n {
+            return self;
+        }
+        let mut out = [Sa::blank(); SAS];
+        let mut k: usize = 0;
+        let mut i: usize = 0;
+        while i < n {
+            let s = self.sas[i];
+            if s.due(tick) {} else {
+                out[k] = s;
+                k += 1;
+            }
+            i += 1;
+        }
+        Table { sas: out, count: k }
+    }
+
+    // Whether every SA, if any, is due. Internal.
+    pub fn is_empty(self, tick: u32) -> bool
+        ensures { λ r. ⌜ r ≡ emptyAt limits tick self ⌝ }
+    {
+        let t = self.swept(tick);
+        t.count == 0
+    }
+
+    // The table with one SA more, at its place; the same table where it is full. Internal.
+    pub fn entered(self, a: Sa) -> Table
+        ensures { λ r. ⌜ r ≡ entered limits a self ⌝ }
+    {
+        let n = self.count;
+        if SAS <= n {
+            return self;
+        }
+        let mut out = [Sa::blank(); SAS];
+        let mut carried = a;
+        let mut placed = false;
+        let mut i: usize = 0;
+        while i < n {
+            let s = self.sas[i];
+            if goes_ahead(placed, carried, s) {
+                out[i] = carried;
+                carried = s;
+                placed = true;
+            } else {
+                out[i] = s;
+            }
+            i += 1;
+        }
+        out[i] = carried;
+        Table {
+            sas: out,
+            count: n + 1,
+        }
+    }
+
+    // The table with the picked SAs retired.
+    fn retired_where(self, all: bool, protocol: u8, spi: &[u8], tick: u32, delay: u16) -> Table
+        ensures { λ r. ⌜ r ≡ retiredWhere limits (picked all protocol (now (spi .entry))) tick delay self ⌝ }
+    {
+        let n = self.count;
+        if SAS < n {
+            return self;
+        }
+        let mut out = [Sa::blank(); SAS];
+        let mut i: usize = 0;
+        while i < n {
+            let s = self.sas[i];
+            let t = retired_if(s, all, protocol, spi, tick, delay);
+            out[i] = t;
+            i += 1;
+        }
+        Table { sas: out, count: n }
+    }
+
+    // The ESP SA with this SPI retires, if it is live. Internal.
+    pub fn retired_esp(self, spi: &[u8], tick: u32, delay: u16) -> Table
+        ensures { λ r. ⌜ r ≡ retiredEsp limits (now (spi .entry)) tick delay self ⌝ }
+    {
+        self.retired_where(false, ESP, spi, tick, delay)
+    }
+
+    // Every live SA of the protocol retires. Internal.
+    pub fn retired_all(self, protocol: u8, tick: u32, delay: u16) -> Table
+        ensures { λ r. ⌜ r ≡ retiredAll limits protocol tick delay self ⌝ }
+    {
+        let none = [0u8; 1];
+        self.retired_where(true, protocol, &none[0..0], tick, delay)
+    }
+}
