@@ -5,7 +5,7 @@ use mathlib.Core.List.{List, [], _∷_, _++_}
 use mathlib.Core.Path.{_≡_}
 use mathlib.Core.Bool.{Bool, true, false}
 use lib.ListN.{length, take, drop}
-use lib.Dec.{eqb}
+use lib.Dec.{eqb, leb}
 use Rattle.octets.specs.Numbers.{number}
 
 -- the numbers of two and of four octets at an index
@@ -25,6 +25,10 @@ either false a b = b
 
 abbrev pub both : Bool → Bool → Bool
 both a b = either a b false
+
+-- a structure whose octets 2 and 3 count all its octets: at least k, and they are there
+abbrev pub sized : ℕ → List ℕ → Bool
+sized k s = both (leb k (be16 s 2)) (leb (be16 s 2) (length s))
 
 pub data Reading (A : Type 0) : Type 0 where
   whole : A → List ℕ → Reading A

@@ -1,0 +1,5 @@
+pub mod Attribute
+pub mod Place
+pub mod Tree
+pub mod Layout
+pub mod Answers

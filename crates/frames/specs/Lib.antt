@@ -1,0 +1,4 @@
+pub mod Header
+pub mod Delete
+pub mod Frame
+pub mod Exchange

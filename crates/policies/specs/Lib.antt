@@ -1,0 +1,4 @@
+pub mod Selector
+pub mod Transform
+pub mod Policy
+pub mod Answers
