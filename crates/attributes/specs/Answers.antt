@@ -3,7 +3,9 @@ use Prim.Native.Nat.{ℕ, _-_}
 use mathlib.Core.List.{List, []}
 use lib.ListN.{length, drop}
 use Rattle.octets.specs.Walk.{either, Reading, whole, broken, Reader}
-use Rattle.attributes.specs.Attribute.{fits, valueOf}
+use Rattle.attributes.specs.Attribute.{isShort, kindOf, startOf, sizeOf, fits, valueOf}
+use Rattle.attributes.specs.declared.Read.{Read}
+use Rattle.attributes.specs.declared.Read.the-variants as read
 use Rattle.attributes.specs.declared.Layout.{Layout}
 use Rattle.attributes.specs.declared.Layout.the-variants as layout
 use Rattle.attributes.specs.declared.Spot.{Spot}
@@ -21,3 +23,6 @@ spotOf s (broken o) = spot.Broken o
 -- the octets of an attribute's value; none where the attribute is cut short
 abbrev pub valueAt : List ℕ → List ℕ
 valueAt s = either (fits s) (valueOf s) []
+
+abbrev pub readOf : List ℕ → Read
+readOf s = either (fits s) (read.Attribute (isShort s) (kindOf s) (startOf s) (sizeOf s)) read.Cut

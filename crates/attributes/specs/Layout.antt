@@ -7,7 +7,7 @@ use lib.ListN.{length, drop}
 use Rattle.octets.specs.Walk.{both, Reading, whole, Reader, opened, many}
 use Rattle.attributes.specs.Attribute.{Attribute, sizeOf, attributeOf, fits}
 use Rattle.attributes.specs.Place.{meaningOf, formed}
-use Rattle.attributes.specs.declared.Place.{Place}
+use Rattle.attributes.specs.declared.tables.Place.{Place}
 
 abbrev pub formedIn : Place → Attribute → Bool
 formedIn p a = formed (meaningOf p (a .kind)) (a .short) (length (a .value))
@@ -18,5 +18,5 @@ fitsIn p s = both (fits s) (formedIn p (attributeOf s))
 unfoldable pub attribute : Place → Reader Attribute
 attribute p b s = opened b (fitsIn p s) (whole (attributeOf s) (drop (sizeOf s) s))
 
-unfoldable pub attributes : Place → Reader (List Attribute)
+abbrev pub attributes : Place → Reader (List Attribute)
 attributes p b s = many (attribute p) b s

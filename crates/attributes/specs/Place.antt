@@ -5,10 +5,10 @@ use Prim.Native.Nat.{ℕ, _%_}
 use mathlib.Core.Bool.{Bool, true, false, not}
 use lib.Dec.{leb, eqb}
 use Rattle.octets.specs.Walk.{either, both}
-use Rattle.attributes.specs.declared.Place.{Place}
-use Rattle.attributes.specs.declared.Place.the-variants as place
-use Rattle.attributes.specs.declared.Meaning.{Meaning}
-use Rattle.attributes.specs.declared.Meaning.the-variants as meaning
+use Rattle.attributes.specs.declared.tables.Place.{Place}
+use Rattle.attributes.specs.declared.tables.Place.the-variants as place
+use Rattle.attributes.specs.declared.tables.Meaning.{Meaning}
+use Rattle.attributes.specs.declared.tables.Meaning.the-variants as meaning
 
 -- the table: a place, an attribute's type, what it is there (RFC 7296, section 3.3.5; RFC 9838, sections 4.4.2.2, 4.4.3.1, 4.5.2, 4.5.3)
 abbrev pub meaningOf : Place → ℕ → Meaning

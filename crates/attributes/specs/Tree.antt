@@ -8,9 +8,9 @@ use lib.Dec.{eqb}
 use Rattle.octets.specs.Walk.{be16, be32, either}
 use Rattle.attributes.specs.Attribute.{Attribute}
 use Rattle.attributes.specs.Place.{meaningOf}
-use Rattle.attributes.specs.declared.Place.{Place}
-use Rattle.attributes.specs.declared.Meaning.{Meaning}
-use Rattle.attributes.specs.declared.Meaning.the-variants as meaning
+use Rattle.attributes.specs.declared.tables.Place.{Place}
+use Rattle.attributes.specs.declared.tables.Meaning.{Meaning}
+use Rattle.attributes.specs.declared.tables.Meaning.the-variants as meaning
 
 -- the keying octets of an SA, wrapped (RFC 9838, sections 4.5.2.1 and 4.5.4)
 pub record SaKey : Type 0 where

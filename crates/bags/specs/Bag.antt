@@ -7,8 +7,8 @@ use Rattle.octets.specs.Numbers.{oct}
 use Rattle.octets.specs.Walk.{be16, either, Reading, Reader, mapped, opened, within, many}
 use Rattle.attributes.specs.Attribute.{Attribute}
 use Rattle.attributes.specs.Place.{inBag}
-use Rattle.attributes.specs.declared.Place.{Place}
-use Rattle.attributes.specs.declared.Place.the-variants as place
+use Rattle.attributes.specs.declared.tables.Place.{Place}
+use Rattle.attributes.specs.declared.tables.Place.the-variants as place
 use Rattle.attributes.specs.Tree.{SaKey, WrapKey, saKeys, wrapKeys}
 use Rattle.attributes.specs.Layout.{attributes}
 use Rattle.policies.specs.Policy.{headSize, headFits, spiOf}
@@ -38,5 +38,5 @@ unfoldable pub bag : Reader Bag
 bag b s = opened b (headFits s) (mapped (bagOf s) (within (headSize s) (be16 s 2) (attributes (placeOf s)) b s))
 
 -- the bags that a KD payload's body is, to its end
-unfoldable pub bags : Reader (List Bag)
+abbrev pub bags : Reader (List Bag)
 bags b s = many bag b s

@@ -4,10 +4,13 @@ use mathlib.Core.Path.{_≡_, refl, ap, sym, _∙_, subst}
 use mathlib.Core.List.{List, [], _∷_, _++_}
 use native.Mathlib.Nat.{add-zero}
 use native.Mathlib.Omega.{arith}
+use mathlib.Core.Bool.{Bool, true, false}
+use borrow.Author.Tests.{lt-leb, le-leb, leb-true}
+use lib.Dec.{leb}
 use lib.ListN.{length, take, drop, getD, length-drop, List·getD-append}
 use lib.Seq.{getD-drop, getD-take, drop-append-le, drop-drop}
 use Rattle.octets.specs.Numbers.{oct, number}
-use Rattle.octets.specs.Walk.{be16, be32, part}
+use Rattle.octets.specs.Walk.{be16, be32, part, both, sized}
 
 pub be16-is : (s : List ℕ) (i : ℕ) → be16 s i ≡ oct s i * 256 + oct s (i + 1)
 unfolding number
@@ -45,3 +48,26 @@ drop-take (suc m) (suc n) [] = nothing (suc n - suc m)
     nothing zero = refl
     nothing (suc k) = refl
 drop-take (suc m) (suc n) (x ∷ l) = let k : suc n - suc m ≡ n - m = omega arith in rw k (drop-take m n l)
+
+-- A STRUCTURE THAT COUNTS ITS OCTETS
+module _ (s : List ℕ) (k : ℕ) where
+  pub too-few : 4 ≤ k → length s < 4 → false ≡ sized k s
+  too-few h i = go (leb k (be16 s 2)) refl
+    where
+      go : (t : Bool) → leb k (be16 s 2) ≡ t → false ≡ both t (leb (be16 s 2) (length s))
+      go true e = sym (lt-leb (be16 s 2) (length s) (omega (arith, leb-true k (be16 s 2) e)))
+      go false e = refl
+
+  module _ (n : ℕ) (e : n ≡ be16 s 2) where
+    pub too-small : n < k → false ≡ sized k s
+    too-small h = rw (sym e, lt-leb k n h)
+
+    pub size-fits : k ≤ n → leb n (length s) ≡ sized k s
+    size-fits h = rw (sym e, le-leb k n h)
+
+  pub sized-is : sized k s ≡ true → (k ≤ be16 s 2) × (be16 s 2 ≤ length s)
+  sized-is = go (leb k (be16 s 2)) refl
+    where
+      go : (t : Bool) → leb k (be16 s 2) ≡ t → both t (leb (be16 s 2) (length s)) ≡ true → (k ≤ be16 s 2) × (be16 s 2 ≤ length s)
+      go true e f = (leb-true k (be16 s 2) e, leb-true (be16 s 2) (length s) f)
+      go false e f = let z : _≡_ {A = ℕ} 0 1 = cc in absurd (omega arith)

@@ -7,9 +7,9 @@ use native.Mathlib.Nat.{add-zero}
 use native.Mathlib.Omega.{arith}
 use borrow.Author.Tests.{eq-eqb, ne-eqb}
 use lib.ListN.{length, take, drop, length-drop, drop-of-length-le}
-use lib.Seq.{length-take-le}
+use lib.Seq.{length-take-le, take-all}
 use lib.Dec.{eqb}
-use Rattle.octets.specs.Walk.{part, either, Reading, whole, broken, Reader, mapped, after, andThen, Linked, push, further, chainUpTo, chain}
+use Rattle.octets.specs.Walk.{part, either, both, Reading, whole, broken, Reader, mapped, after, andThen, Linked, push, further, chainUpTo, chain}
 use Rattle.octets.specs.Walk.{Alone, atEnd, stateless, many, Outline, stops, breaks, outline, closed, within}
 
 -- what holds of both, each under its test, holds of the one that is picked
@@ -17,8 +17,19 @@ pub by-test : {A : Type 0} (P : A → Type 0) (b : Bool) {x y : A} → (b ≡ tr
 by-test P true f g = f refl
 by-test P false f g = g refl
 
+pub both-true : (a b : Bool) → both a b ≡ true → (a ≡ true) × (b ≡ true)
+both-true true b e = (refl, e)
+both-true false b e = let z : _≡_ {A = ℕ} 0 1 = cc in absurd (omega arith)
+
 pub part-length : (s : List ℕ) (a e : ℕ) → a ≤ e → e ≤ length s → length (part s a e) ≡ e - a
 part-length s a e h k = length-take-le (e - a) (drop a s) (rw length-drop (omega arith))
+
+-- `&s[at..]` in the code
+abbrev pub tail : List ℕ → ℕ → List ℕ
+tail s at = part s at (length s)
+
+pub to-end : (s : List ℕ) (at : ℕ) → tail s at ≡ drop at s
+to-end s at = take-all (length s - at) (drop at s) (rw length-drop (omega arith))
 
 -- the octets after a structure are those from its size on
 pub record Took (s rest : List ℕ) : Type 0 where

@@ -9,8 +9,8 @@ use Rattle.octets.specs.Numbers.{oct}
 use Rattle.octets.specs.Walk.{be16, part, either, both, sized, Reading, Reader, mapped, opened, within, andThen, many}
 use Rattle.attributes.specs.Attribute.{Attribute}
 use Rattle.attributes.specs.Place.{inPolicy}
-use Rattle.attributes.specs.declared.Place.{Place}
-use Rattle.attributes.specs.declared.Place.the-variants as place
+use Rattle.attributes.specs.declared.tables.Place.{Place}
+use Rattle.attributes.specs.declared.tables.Place.the-variants as place
 use Rattle.attributes.specs.Tree.{initialMessageIds, deactivationDelays}
 use Rattle.attributes.specs.Layout.{attributes}
 use Rattle.policies.specs.Selector.{Selector, selector}
@@ -83,5 +83,5 @@ unfoldable pub policy : Reader Policy
 policy b s = opened b (headFits s) (within (headSize s) (be16 s 2) (policyHolds b s) b s)
 
 -- the policies that a GSA payload's body is, to its end
-unfoldable pub policies : Reader (List Policy)
+abbrev pub policies : Reader (List Policy)
 policies b s = many policy b s
