@@ -64,7 +64,7 @@ payload k b s =
 abbrev pub noneNext : ℕ → List ℕ → Bool
 noneNext k s = eqb k 0
 
-unfoldable pub payloads : ℕ → Reader (List Payload)
+abbrev pub payloads : ℕ → Reader (List Payload)
 payloads k b s = chain noneNext payload k b s
 
 abbrev pub closing : Header → Reading (List Payload) → Reading Frame

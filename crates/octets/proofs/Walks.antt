@@ -7,10 +7,10 @@ use native.Mathlib.Nat.{add-zero}
 use native.Mathlib.Omega.{arith}
 use borrow.Author.Tests.{eq-eqb, ne-eqb}
 use lib.ListN.{length, take, drop, length-drop, drop-of-length-le}
-use lib.Seq.{length-take-le, take-all}
+use lib.Seq.{length-take-le, take-all, drop-drop}
 use lib.Dec.{eqb}
 use Rattle.octets.specs.Walk.{part, either, both, Reading, whole, broken, Reader, mapped, after, andThen, Linked, push, further, chainUpTo, chain}
-use Rattle.octets.specs.Walk.{Alone, atEnd, stateless, many, Outline, stops, breaks, outline, closed, within}
+use Rattle.octets.specs.Walk.{Alone, atEnd, stateless, many, Outline, stops, breaks, outline, closed, within, opened, begun}
 
 -- what holds of both, each under its test, holds of the one that is picked
 pub by-test : {A : Type 0} (P : A → Type 0) (b : Bool) {x y : A} → (b ≡ true → P x) → (b ≡ false → P y) → P (either b x y)
@@ -24,12 +24,31 @@ both-true false b e = let z : _≡_ {A = ℕ} 0 1 = cc in absurd (omega arith)
 pub part-length : (s : List ℕ) (a e : ℕ) → a ≤ e → e ≤ length s → length (part s a e) ≡ e - a
 part-length s a e h k = length-take-le (e - a) (drop a s) (rw length-drop (omega arith))
 
+take-short : (n : ℕ) (l : List ℕ) → length (take n l) ≤ length l
+take-short zero l = omega arith
+take-short (suc n) [] = omega arith
+take-short (suc n) (x ∷ l) = omega (arith, take-short n l)
+
+pub part-short : (s : List ℕ) (a e : ℕ) → length (part s a e) ≤ length s - a
+part-short s a e = omega (arith, take-short (e - a) (drop a s), length-drop a s)
+
 -- `&s[at..]` in the code
 abbrev pub tail : List ℕ → ℕ → List ℕ
 tail s at = part s at (length s)
 
 pub to-end : (s : List ℕ) (at : ℕ) → tail s at ≡ drop at s
 to-end s at = take-all (length s - at) (drop at s) (rw length-drop (omega arith))
+
+pub tail-tail : (s : List ℕ) (a d : ℕ) → tail (tail s a) d ≡ tail s (a + d)
+tail-tail s a d = to-end (tail s a) d ∙ ap (drop d) (to-end s a) ∙ drop-drop d a s ∙ sym (to-end s (a + d))
+
+pub both-right : (a : Bool) → a ≡ both a true
+both-right true = refl
+both-right false = refl
+
+pub both-never : (a : Bool) → false ≡ both a false
+both-never true = refl
+both-never false = refl
 
 -- the octets after a structure are those from its size on
 pub record Took (s rest : List ℕ) : Type 0 where
@@ -58,6 +77,31 @@ pub takes-closed : {A : Type 0} (s rest : List ℕ) (x : Reading A) → Took s r
 takes-closed s rest (whole a r) t = t
 takes-closed s rest (broken o) t = tt
 
+-- the same of what may take no octet
+pub record Kept (s rest : List ℕ) : Type 0 where
+  pub size : ℕ
+  pub inside : size ≤ length s
+  pub left : rest ≡ drop size s
+
+abbrev pub Keeps : {A : Type 0} → List ℕ → Reading A → Type 0
+Keeps s (whole a rest) = Kept s rest
+Keeps s (broken o) = Unit
+
+pub takes-keeps : {A : Type 0} (s : List ℕ) (x : Reading A) → Takes s x → Keeps s x
+takes-keeps s (whole a rest) t = record { size = t .size; inside = t .inside; left = t .left }
+takes-keeps s (broken o) t = tt
+
+kept-then : (s rest rest′ : List ℕ) → Took s rest → Kept rest rest′ → Kept s rest′
+kept-then s rest rest′ t k =
+    let i = t .inside in
+    let j : length rest ≡ length s - t .size = ap length (t .left) ∙ length-drop (t .size) s in
+    let l = k .inside in
+    record {
+      size = t .size + k .size;
+      inside = omega arith;
+      left = k .left ∙ ap (drop (k .size)) (t .left) ∙ drop-drop (k .size) (t .size) s;
+    }
+
 -- A CHAIN
 module _ {S A : Type 0} (stop : S → List ℕ → Bool) (step : S → Reader (Linked S A))
     (takes : (st : S) (b : ℕ) (s : List ℕ) → Takes s (step st b s)) where
@@ -75,6 +119,26 @@ module _ {S A : Type 0} (stop : S → List ℕ → Bool) (step : S → Reader (L
       ap (either (stop st s) (whole [] s))
       (same-further (step st b s) b s (takes st b s) (chainUpTo stop step n) (chainUpTo stop step m)
       (λ st′ b′ rest l. fuel n m st′ b′ rest (omega arith) (omega arith)))
+
+  keeps-further : (p : Reading (Linked S A)) (b : ℕ) (s : List ℕ) (k : S → Reader (List A)) → Takes s p
+      → ((st : S) (b′ : ℕ) (rest : List ℕ) → Keeps rest (k st b′ rest)) → Keeps s (further p b s k)
+  keeps-further (whole x rest) b s k t h = go (k (x .next) (b + (length s - length rest)) rest) (h (x .next) (b + (length s - length rest)) rest)
+    where
+      go : (y : Reading (List A)) → Keeps rest y → Keeps s (push (x .item) y)
+      go (whole l r) j = kept-then s rest r t j
+      go (broken o) j = tt
+  keeps-further (broken o) b s k t h = tt
+
+  keeps-upto : (n : ℕ) (st : S) (b : ℕ) (s : List ℕ) → Keeps s (chainUpTo stop step n st b s)
+  unfolding chainUpTo
+  keeps-upto zero st b s = tt
+  keeps-upto (suc n) st b s =
+      by-test (Keeps s) (stop st s) (λ e. record { size = 0; inside = omega arith; left = refl })
+      (λ e. keeps-further (step st b s) b s (chainUpTo stop step n) (takes st b s) (keeps-upto n))
+
+  pub keeps-chain : (st : S) (b : ℕ) (s : List ℕ) → Keeps s (chain stop step st b s)
+  unfolding chain
+  keeps-chain st b s = keeps-upto (suc (length s)) st b s
 
   pub chain-stop : (st : S) (b : ℕ) (s : List ℕ) → stop st s ≡ true → chain stop step st b s ≡ whole [] s
   unfolding chain chainUpTo
@@ -149,5 +213,42 @@ module _ {A B : Type 0} (p : Reader A) (k : A → Reader B) (b : ℕ) (s : List 
       let d : length s - (length s - e) ≡ e = omega arith in
       ap (λ (x : Reading A). after x b s k) f ∙ simp (length-drop, d)
 
-  pub then-breaks : (o : ℕ) → p b s ≡ broken o → andThen p k b s ≡ broken o
-  then-breaks o f = ap (λ (x : Reading A). after x b s k) f
+  pub after-breaks : (o : ℕ) → p b s ≡ broken o → andThen p k b s ≡ broken o
+  after-breaks o f = ap (λ (x : Reading A). after x b s k) f
+
+-- A STRUCTURE, ITS OWN FIELDS AND WHAT IT HOLDS
+module _ {A : Type 0} (h : ℕ) (s : List ℕ) (x : Reading A) where
+  pub begun-none : length s ≡ 0 → begun h s x ≡ broken h
+  begun-none e = ap (λ (t : Bool). either t (broken h) x) (eq-eqb (length s) 0 e)
+
+  pub begun-some : (length s ≡ 0 → ⊥) → begun h s x ≡ x
+  begun-some e = ap (λ (t : Bool). either t (broken h) x) (ne-eqb (length s) 0 e)
+
+  pub takes-begun : Takes s x → Takes s (begun h s x)
+  takes-begun t = by-test (Takes s) (eqb (length s) 0) (λ e. tt) (λ e. t)
+
+pub opened-is : {A : Type 0} (b : ℕ) (t : Bool) (x : Reading A) → t ≡ true → opened b t x ≡ x
+opened-is b t x e = ap (λ (u : Bool). opened b u x) e
+
+pub opened-not : {A : Type 0} (b : ℕ) (t : Bool) (x : Reading A) → t ≡ false → opened b t x ≡ broken b
+opened-not b t x e = ap (λ (u : Bool). opened b u x) e
+
+pub takes-opened : {A : Type 0} (s : List ℕ) (b : ℕ) (t : Bool) (x : Reading A) → (t ≡ true → Takes s x) → Takes s (opened b t x)
+takes-opened s b t x f = by-test (Takes s) t f (λ e. tt)
+
+-- a chain's step, for a loop that keeps the outline x₀ of the whole chain
+module _ {S A : Type 0} (stop : S → List ℕ → Bool) (step : S → Reader (Linked S A))
+    (takes : (st : S) (b : ℕ) (s : List ℕ) → Takes s (step st b s)) (b : ℕ) (s : List ℕ) (x₀ : Outline) (at : ℕ) (st : S)
+    (old : x₀ ≡ outline (chain stop step st (b + at) (drop at s))) where
+  pub chain-stops : stop st (drop at s) ≡ true → x₀ ≡ stops (drop at s)
+  chain-stops h = old ∙ ap outline (chain-stop stop step takes st (b + at) (drop at s) h)
+
+  module _ (h : stop st (drop at s) ≡ false) where
+    pub chain-goes : (x : Linked S A) (e : ℕ) → at ≤ e → e ≤ length s → step st (b + at) (drop at s) ≡ whole x (drop e s)
+        → x₀ ≡ outline (chain stop step (x .next) (b + e) (drop e s))
+    chain-goes x e i j f =
+        old ∙ ap outline (at-link stop step takes b s at st h x e i j f)
+        ∙ outline-push (x .item) (chain stop step (x .next) (b + e) (drop e s))
+
+    pub chain-breaks : (o : ℕ) → step st (b + at) (drop at s) ≡ broken o → x₀ ≡ breaks o
+    chain-breaks o f = old ∙ ap outline (at-broken stop step takes b s at st h o f)

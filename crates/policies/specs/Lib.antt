@@ -1,4 +1,3 @@
 pub mod Selector
 pub mod Transform
 pub mod Policy
-pub mod Answers

@@ -52,32 +52,42 @@ pub data Policy : Type 0 where
   groupSa : GroupSaPolicy → Policy
   groupWide : GroupWidePolicy → Policy
 
--- a Group SA policy s, whose offset is h: what follows the SPI
-abbrev pub groupSaOf : List ℕ → Selector → Selector → List Transform → List Attribute → Policy
-groupSaOf s src dst ts l = groupSa (record {
+-- what a Group SA policy, whose offset is h, holds after its SPI: two selectors, one or more transforms, attributes
+pub record Suite : Type 0 where
+  pub transforms : List Transform
+  pub attributes : List Attribute
+
+unfoldable pub suite : ℕ → Place → Reader Suite
+suite h p = andThen (transforms h) (λ ts b r. mapped (λ l. record { transforms = ts; attributes = l }) (attributes p b r))
+
+pub record SaBody : Type 0 where
+  pub source : Selector
+  pub destination : Selector
+  pub suite : Suite
+
+unfoldable pub saBody : ℕ → Place → Reader SaBody
+saBody h p =
+    andThen (selector h) (λ src.
+    andThen (selector h) (λ dst b r. mapped (λ x. record { source = src; destination = dst; suite = x }) (suite h p b r)))
+
+abbrev pub groupSaOf : List ℕ → SaBody → Policy
+groupSaOf s x = groupSa (record {
   protocol = oct s 0;
   spi = spiOf s;
-  source = src;
-  destination = dst;
-  transforms = ts;
-  initialMessageIds = initialMessageIds (inPolicy (oct s 0)) l;
+  source = x .source;
+  destination = x .destination;
+  transforms = x .suite .transforms;
+  initialMessageIds = initialMessageIds (inPolicy (oct s 0)) (x .suite .attributes);
 })
-
-unfoldable pub groupSaHolds : ℕ → List ℕ → Reader Policy
-groupSaHolds h s =
-    andThen (selector h) (λ src.
-    andThen (selector h) (λ dst.
-    andThen (transforms h) (λ ts.
-    λ b r. mapped (groupSaOf s src dst ts) (attributes (inPolicy (oct s 0)) b r))))
 
 abbrev pub groupWideOf : List Attribute → Policy
 groupWideOf l = groupWide (record { deactivationDelays = deactivationDelays place.GroupWidePolicy l })
 
-unfoldable pub groupWideHolds : Reader Policy
-groupWideHolds b r = mapped groupWideOf (attributes place.GroupWidePolicy b r)
-
+-- what the policy s, whose offset is h, holds after its head
 abbrev pub policyHolds : ℕ → List ℕ → Reader Policy
-policyHolds h s = either (eqb (oct s 0) 0) groupWideHolds (groupSaHolds h s)
+policyHolds h s b r =
+    either (eqb (oct s 0) 0) (mapped groupWideOf (attributes place.GroupWidePolicy b r))
+    (mapped (groupSaOf s) (saBody h (inPolicy (oct s 0)) b r))
 
 unfoldable pub policy : Reader Policy
 policy b s = opened b (headFits s) (within (headSize s) (be16 s 2) (policyHolds b s) b s)

@@ -38,5 +38,5 @@ transform h more b s =
 abbrev pub noMore : Bool → List ℕ → Bool
 noMore more s = not more
 
-unfoldable pub transforms : ℕ → Reader (List Transform)
+abbrev pub transforms : ℕ → Reader (List Transform)
 transforms h b s = chain noMore (transform h) true b s
