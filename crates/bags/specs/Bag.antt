@@ -25,8 +25,9 @@ pub data Bag : Type 0 where
   groupKeys : GroupKeyBag → Bag
   memberKeys : MemberKeyBag → Bag
 
-abbrev pub placeOf : List ℕ → Place
-placeOf s = either (eqb (oct s 0) 0) place.MemberBag (inBag (oct s 0))
+-- by the first octet
+abbrev pub placeOf : ℕ → Place
+placeOf p = either (eqb p 0) place.MemberBag (inBag p)
 
 -- the bag s whose attributes are l
 abbrev pub bagOf : List ℕ → List Attribute → Bag
@@ -35,7 +36,7 @@ bagOf s l =
     (groupKeys (record { protocol = oct s 0; spi = spiOf s; keys = saKeys (inBag (oct s 0)) l }))
 
 unfoldable pub bag : Reader Bag
-bag b s = opened b (headFits s) (mapped (bagOf s) (within (headSize s) (be16 s 2) (attributes (placeOf s)) b s))
+bag b s = opened b (headFits s) (mapped (bagOf s) (within (headSize s) (be16 s 2) (attributes (placeOf (oct s 0))) b s))
 
 -- the bags that a KD payload's body is, to its end
 abbrev pub bags : Reader (List Bag)

@@ -4,10 +4,10 @@ use Prim.Native.Nat.{ℕ}
 use mathlib.Core.Bool.{Bool, true, false}
 use lib.Dec.{eqb}
 use Rattle.octets.specs.Walk.{either}
-use Rattle.frames.specs.declared.Exchange.{Exchange}
-use Rattle.frames.specs.declared.Wanted.the-variants as wanted
-use Rattle.frames.specs.declared.KeyZero.the-variants as keyZero
-use Rattle.frames.specs.declared.LeastAfter.the-variants as least
+use Rattle.frames.specs.declared.exchanges.Exchange.{Exchange}
+use Rattle.frames.specs.declared.exchanges.Wanted.the-variants as wanted
+use Rattle.frames.specs.declared.exchanges.KeyZero.the-variants as keyZero
+use Rattle.frames.specs.declared.exchanges.LeastAfter.the-variants as least
 
 abbrev pub registration : Exchange
 registration = record {

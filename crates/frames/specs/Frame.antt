@@ -67,13 +67,16 @@ noneNext k s = eqb k 0
 abbrev pub payloads : ℕ → Reader (List Payload)
 payloads k b s = chain noneNext payload k b s
 
-abbrev pub closing : Header → Reading (List Payload) → Reading Frame
-closing h (whole l []) = whole (record { header = h; payloads = l }) []
-closing h (whole l (x ∷ rest)) = broken 0
-closing h (broken o) = broken o
+abbrev pub exactly : {A : Type 0} → Reading A → Reading A
+exactly (whole a []) = whole a []
+exactly (whole a (x ∷ rest)) = broken 0
+exactly (broken o) = broken o
+
+abbrev pub frameOf : List ℕ → List Payload → Frame
+frameOf s l = record { header = headerOf s; payloads = l }
 
 unfoldable pub frame : List ℕ → Reading Frame
-frame s = opened 0 (headerFits s) (closing (headerOf s) (payloads (firstPayload s) 28 (drop 28 s)))
+frame s = opened 0 (headerFits s) (mapped (frameOf s) (exactly (payloads (firstPayload s) 28 (drop 28 s))))
 
 -- THE LAYOUT OF A FRAME: whole, or refusal 1 with the offset that it carries
 unfoldable pub frameLayout : List ℕ → Layout

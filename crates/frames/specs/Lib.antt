@@ -2,3 +2,4 @@ pub mod Header
 pub mod Delete
 pub mod Frame
 pub mod Exchange
+pub mod Answers
