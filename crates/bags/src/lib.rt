@@ -4,7 +4,6 @@ ghost use Prim.Native.Nat.{ℕ, _+_, _≤_, _<_};
 ghost use lib.ListN.{length};
 ghost use Rattle.attributes.specs.Answers.{layoutOf, spotOf};
 ghost use Rattle.bags.specs.Bag.{placeOf, bag, bags};
-
 use attributes::Layout;
 use attributes::Spot;
 use attributes::tables::Place;

@@ -6,7 +6,6 @@ ghost use Rattle.attributes.specs.Answers.{layoutOf, spotOf};
 ghost use Rattle.frames.specs.Delete.{deleteFits};
 ghost use Rattle.frames.specs.Frame.{body, payload, payloads, exactly, frameLayout};
 ghost use Rattle.frames.specs.Answers.{headerRead, payloadRead};
-
 use attributes::Layout;
 use attributes::Spot;
 
