@@ -3,3 +3,4 @@ pub mod Place
 pub mod Tree
 pub mod Layout
 pub mod Answers
+pub mod Grammar
