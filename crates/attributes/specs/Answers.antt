@@ -1,0 +1,28 @@
+-- What the readers answer, by what the octets are.
+use Prim.Native.Nat.{ℕ, _-_}
+use mathlib.Core.List.{List, []}
+use lib.ListN.{length, drop}
+use Rattle.octets.specs.Walk.{either, Reading, whole, broken, Reader}
+use Rattle.attributes.specs.Attribute.{isShort, kindOf, startOf, sizeOf, fits, valueOf}
+use Rattle.attributes.specs.declared.Read.{Read}
+use Rattle.attributes.specs.declared.Read.the-variants as read
+use Rattle.attributes.specs.declared.Layout.{Layout}
+use Rattle.attributes.specs.declared.Layout.the-variants as layout
+use Rattle.attributes.specs.declared.Spot.{Spot}
+use Rattle.attributes.specs.declared.Spot.the-variants as spot
+
+abbrev pub layoutOf : {A : Type 0} → Reading A → Layout
+layoutOf (whole a rest) = layout.Whole
+layoutOf (broken o) = layout.Broken o
+
+-- the end, counted from the first octet of s
+abbrev pub spotOf : {A : Type 0} → List ℕ → Reading A → Spot
+spotOf s (whole a rest) = spot.Ends (length s - length rest)
+spotOf s (broken o) = spot.Broken o
+
+-- the octets of an attribute's value; none where the attribute is cut short
+abbrev pub valueAt : List ℕ → List ℕ
+valueAt s = either (fits s) (valueOf s) []
+
+abbrev pub readOf : List ℕ → Read
+readOf s = either (fits s) (read.Attribute (isShort s) (kindOf s) (startOf s) (sizeOf s)) read.Cut

@@ -1,0 +1,37 @@
+-- An attribute (RFC 7296, section 3.3.5): what its octets say.
+use Prim.Native.Nat.{ℕ, _+_, _%_}
+use mathlib.Core.List.{List}
+use mathlib.Core.Bool.{Bool}
+use lib.ListN.{length}
+use lib.Dec.{leb}
+use Rattle.octets.specs.Walk.{be16, part, either}
+
+-- document 01: "top bit 1: 15-bit type and 2-octet value. Top bit 0: type, length 2, value"
+pub record Attribute : Type 0 where
+  pub short : Bool
+  pub kind : ℕ
+  pub value : List ℕ
+
+-- the format TV (top bit 1)
+abbrev pub isShort : List ℕ → Bool
+isShort s = leb 32768 (be16 s 0)
+
+abbrev pub kindOf : List ℕ → ℕ
+kindOf s = be16 s 0 % 32768
+
+-- where its value starts, and how many octets it takes
+abbrev pub startOf : List ℕ → ℕ
+startOf s = either (isShort s) 2 4
+
+abbrev pub sizeOf : List ℕ → ℕ
+sizeOf s = either (isShort s) 4 (4 + be16 s 2)
+
+abbrev pub valueOf : List ℕ → List ℕ
+valueOf s = part s (startOf s) (sizeOf s)
+
+abbrev pub attributeOf : List ℕ → Attribute
+attributeOf s = record { short = isShort s; kind = kindOf s; value = valueOf s }
+
+-- all its octets are there
+abbrev pub fits : List ℕ → Bool
+fits s = leb (sizeOf s) (length s)

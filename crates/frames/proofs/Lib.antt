@@ -1,0 +1,3 @@
+pub mod HeaderLaws
+pub mod PayloadLaws
+pub mod Samples

@@ -1,0 +1,26 @@
+-- The Delete payload's body (RFC 7296, section 3.11). Document 01: "protocol, SPI size, count 2, SPIs; size times count fills the body, and
+-- the size is 4 for ESP".
+use Prim.Native.Nat.{ℕ, zero, suc, _+_, _*_}
+use mathlib.Core.List.{List, [], _∷_}
+use mathlib.Core.Bool.{Bool, true}
+use lib.ListN.{length, take, drop}
+use lib.Dec.{leb, eqb}
+use Rattle.octets.specs.Numbers.{oct}
+use Rattle.octets.specs.Walk.{be16, either, both}
+
+pub record Delete : Type 0 where
+  pub protocol : ℕ
+  pub spis : List (List ℕ)
+
+-- n stretches of k octets
+unfoldable pub stretches : ℕ → ℕ → List ℕ → List (List ℕ)
+stretches zero k s = []
+stretches (suc n) k s = take k s ∷ stretches n k (drop k s)
+
+abbrev pub deleteOf : List ℕ → Delete
+deleteOf s = record { protocol = oct s 0; spis = stretches (be16 s 2) (oct s 1) (drop 4 s) }
+
+abbrev pub deleteFits : List ℕ → Bool
+deleteFits s =
+    both (leb 4 (length s))
+    (both (eqb (4 + oct s 1 * be16 s 2) (length s)) (either (eqb (oct s 0) 3) (eqb (oct s 1) 4) true))

@@ -1,0 +1,33 @@
+-- The IKE header (RFC 7296, section 3.1), 28 octets: initiator SPI 8, responder SPI 8, next payload 1, version 1 (major in the high 4 bits),
+-- exchange type 1, flags 1, Message ID 4, length 4; and the generic payload header (section 3.2).
+use Prim.Native.Nat.{ℕ, _/_}
+use mathlib.Core.List.{List}
+use mathlib.Core.Bool.{Bool}
+use lib.ListN.{length, take}
+use lib.Dec.{leb, eqb}
+use Rattle.octets.specs.Numbers.{oct}
+use Rattle.octets.specs.Walk.{be32, both, sized}
+
+-- a Rekey SA's SPI is both SPI fields (RFC 9838, section 2.4.1)
+pub record Header : Type 0 where
+  pub spi : List ℕ
+  pub exchange : ℕ
+  pub messageId : ℕ
+
+abbrev pub headerOf : List ℕ → Header
+headerOf s = record { spi = take 16 s; exchange = oct s 18; messageId = be32 s 20 }
+
+abbrev pub firstPayload : List ℕ → ℕ
+firstPayload s = oct s 16
+
+-- number 1: "under 28 or over 16,384 octets, header length unequal to the frame's, major version not 2"
+abbrev pub headerFits : List ℕ → Bool
+headerFits s =
+    both (leb 28 (length s)) (both (leb (length s) 16384) (both (eqb (be32 s 24) (length s)) (eqb (oct s 17 / 16) 2)))
+
+-- a payload: next payload 1, critical bit and reserved 1, length 2 (this header included)
+abbrev pub payloadFits : List ℕ → Bool
+payloadFits s = sized 4 s
+
+abbrev pub isCritical : List ℕ → Bool
+isCritical s = leb 128 (oct s 1)

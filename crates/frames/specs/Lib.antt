@@ -1,0 +1,5 @@
+pub mod Header
+pub mod Delete
+pub mod Frame
+pub mod Exchange
+pub mod Answers

@@ -1,0 +1,4 @@
+pub mod SelectorLaws
+pub mod TransformLaws
+pub mod HeadLaws
+pub mod PolicyLaws

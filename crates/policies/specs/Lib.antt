@@ -1,0 +1,3 @@
+pub mod Selector
+pub mod Transform
+pub mod Policy

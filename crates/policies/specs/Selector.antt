@@ -1,0 +1,44 @@
+-- Traffic selectors (RFC 7296, section 3.13.1): TS type 1, IP protocol 1, selector length 2, start port 2, end port 2, starting and ending
+-- address. Document 01: "type 7 (16 octets) or 8 (40 octets)".
+use Prim.Native.Nat.{ℕ, _+_}
+use mathlib.Core.List.{List}
+use mathlib.Core.Bool.{Bool}
+use lib.ListN.{length, drop}
+use lib.Dec.{leb, ltb, eqb}
+use Rattle.octets.specs.Numbers.{oct}
+use Rattle.octets.specs.Walk.{be16, part, either, both, Reading, whole, Reader, opened, begun}
+
+pub record Selector : Type 0 where
+  pub kind : ℕ
+  pub protocol : ℕ
+  pub startPort : ℕ
+  pub endPort : ℕ
+  pub startAddress : List ℕ
+  pub endAddress : List ℕ
+
+-- octets of an address and of a whole selector, by type; 0 for no type
+abbrev pub addressSize : ℕ → ℕ
+addressSize t = either (eqb t 7) 4 (either (eqb t 8) 16 0)
+
+abbrev pub selectorSize : ℕ → ℕ
+selectorSize t = either (eqb t 7) 16 (either (eqb t 8) 40 0)
+
+abbrev pub selectorOf : List ℕ → Selector
+selectorOf s = record {
+  kind = oct s 0;
+  protocol = oct s 1;
+  startPort = be16 s 4;
+  endPort = be16 s 6;
+  startAddress = part s 8 (8 + addressSize (oct s 0));
+  endAddress = part s (8 + addressSize (oct s 0)) (selectorSize (oct s 0));
+}
+
+-- its type is known, its length is the type's, and its octets are there
+abbrev pub selectorFits : List ℕ → Bool
+selectorFits s =
+    let n = selectorSize (oct s 0) in
+    both (ltb 0 n) (both (leb n (length s)) (eqb (be16 s 2) n))
+
+-- h is the offset of the policy that holds it
+unfoldable pub selector : ℕ → Reader Selector
+selector h b s = begun h s (opened b (selectorFits s) (whole (selectorOf s) (drop (selectorSize (oct s 0)) s)))
