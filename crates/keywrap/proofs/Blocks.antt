@@ -6,7 +6,7 @@ use native.Mathlib.Omega.{arith}
 use lib.ListN.{drop, length-append, length-drop, take-append-drop}
 use lib.Seq.{drop-at, take-all}
 use Rattle.octets.specs.Numbers.{number, octetsOf}
-use Rattle.octets.proofs.Numbers.{length-octets, octets-octets, number-append, number-lt, number-octets, octets-number}
+use Rattle.octets.proofs.RoundTrip.{length-octets, octets-octets, number-append, number-lt, number-octets, octets-number}
 use Rattle.octets.proofs.Octets.{join-octets, drop-octets}
 use Rattle.fips197.specs.Block.{Block}
 use Rattle.keywrap.specs.Steps.{joined, msb64, lsb64}

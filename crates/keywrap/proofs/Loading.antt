@@ -8,7 +8,7 @@ use lib.ListN.{length, take, drop, replicate, length-append, length-replicate}
 use lib.Seq.{take-suc, take-at, drop-at, length-take-le, drop-drop, take-length, take-append-add}
 use borrow.Rule.Slice.PartMut.{midOf, putMid}
 use Rattle.octets.specs.Numbers.{octetsOf}
-use Rattle.octets.proofs.Numbers.{length-octets}
+use Rattle.octets.proofs.RoundTrip.{length-octets}
 use Rattle.octets.proofs.Parts.{copied-end}
 use Rattle.octets.proofs.Replicate.{take-replicate, drop-replicate}
 use Rattle.keywrap.specs.Steps.{register}

@@ -10,7 +10,7 @@ use lib.Seq.{drop-at, drop-drop}
 use Rattle.octets.specs.Numbers.{number, octetsOf}
 use Rattle.octets.specs.Octets.{Octets}
 use Rattle.octets.specs.Generate.{gen}
-use Rattle.octets.proofs.Numbers.{length-octets, octets-octets, number-append, number-lt, number-octets, octets-number}
+use Rattle.octets.proofs.RoundTrip.{length-octets, octets-octets, number-append, number-lt, number-octets, octets-number}
 use Rattle.octets.proofs.Octets.{no-octets, join-octets, drop-octets}
 use Rattle.keywrap.specs.Steps.{register}
 use Rattle.keywrap.specs.Wrap.{registers, octetsIn}

@@ -11,7 +11,7 @@ use lib.Seq.{take-at, take-all}
 use lib.Bits.{xor-zero-r}
 use Rattle.octets.specs.Numbers.{number, octetsOf}
 use Rattle.octets.specs.Octets.{Octets}
-use Rattle.octets.proofs.Numbers.{octets-number}
+use Rattle.octets.proofs.RoundTrip.{octets-number}
 use Rattle.octets.proofs.Octets.{join-octets, zero-octets}
 use Rattle.octets.proofs.Undo.{Undo}
 use Rattle.fips197.specs.Key.{Key}

@@ -1,6 +1,6 @@
 -- `octets::registers::be64_at` meets its contract. Assumes nothing.
 use borrow.Author.Needs.{needs}
-use Rattle.octets.proofs.Numbers.{number-eight}
+use Rattle.octets.proofs.RoundTrip.{number-eight}
 use Rattle.octets.proofs.registers.be64_at.Statement.{statement}
 use Rattle.octets.proofs.registers.be64_at.Tie as tie
 

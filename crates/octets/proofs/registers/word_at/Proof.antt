@@ -1,6 +1,6 @@
 -- `octets::registers::word_at` meets its contract. Assumes nothing.
 use borrow.Author.Needs.{needs}
-use Rattle.octets.proofs.Numbers.{number-four}
+use Rattle.octets.proofs.RoundTrip.{number-four}
 use Rattle.octets.proofs.registers.word_at.Statement.{statement}
 use Rattle.octets.proofs.registers.word_at.Tie as tie
 
