@@ -1,20 +1,20 @@
 -- The reader of attributes answers a list exactly when the octets are that list's.
-use Prim.Native.Nat.{ℕ, zero, suc, _+_, _-_, _%_, _<_, _≤_}
-use mathlib.Core.Path.{_≡_, refl, ap, sym, _∙_, subst}
-use mathlib.Core.List.{List, [], _∷_, _++_}
+use Prim.Native.Nat.{ℕ, _+_, _-_, _%_, _≤_}
+use mathlib.Core.Path.{_≡_, refl, ap, sym, _∙_}
+use mathlib.Core.List.{List, [], _++_}
 use mathlib.Core.Bool.{Bool, true, false}
 use native.Mathlib.Omega.{arith}
 use borrow.Author.Tests.{le-leb, lt-leb, leb-true, leb-false}
 use lib.Dec.{leb}
-use lib.ListN.{length, take, drop, length-append, length-drop}
+use lib.ListN.{length, drop, length-append, length-drop}
 use lib.Seq.{drop-append-le, take-all, drop-length}
-use Rattle.octets.specs.Walk.{be16, part, either, both, Reading, whole, broken, opened}
+use Rattle.octets.specs.Walk.{be16, part, either, both, Reading, whole, opened}
 use Rattle.octets.proofs.Walks.{by-test, both-true}
 use Rattle.octets.proofs.Local.{extended, be16-append, part-append, opened-extend, Local}
 use Rattle.octets.proofs.Grammar.{Cuts, row-read, read-row, sound-of, complete-of}
-use Rattle.attributes.specs.Attribute.{Attribute, isShort, kindOf, startOf, sizeOf, valueOf, attributeOf, fits}
+use Rattle.attributes.specs.Attribute.{Attribute, isShort, startOf, sizeOf, valueOf, attributeOf, fits}
 use Rattle.attributes.specs.Layout.{formedIn, fitsIn, attribute, attributes}
-use Rattle.attributes.specs.Grammar.{IsShort, IsLong, Format, in-short, in-long, IsAttribute, Attributes}
+use Rattle.attributes.specs.Grammar.{Format, in-short, in-long, IsAttribute, Attributes}
 use Rattle.attributes.specs.declared.tables.Place.{Place}
 use Rattle.attributes.proofs.AttributeLaws.{size-least, value-inside, takes}
 
@@ -49,7 +49,8 @@ module _ (p : Place) where
       → (4 ≤ sizeOf s) × (sizeOf s ≤ length s) × (rest ≡ drop (sizeOf s) s)
   unfolding attribute
   counted b s a rest =
-      by-test (λ (y : Reading Attribute). y ≡ whole a rest → (4 ≤ sizeOf s) × (sizeOf s ≤ length s) × (rest ≡ drop (sizeOf s) s)) (fitsIn p s)
+      by-test (λ (y : Reading Attribute). y ≡ whole a rest → (4 ≤ sizeOf s) × (sizeOf s ≤ length s) × (rest ≡ drop (sizeOf s) s))
+      (fitsIn p s)
       (λ t q. (size-least s, leb-true (sizeOf s) (length s) (both-true (fits s) (formedIn p (attributeOf s)) t .0), cc))
       (λ t q. let z : _≡_ {A = ℕ} 0 1 = cc in absurd (omega arith))
 

@@ -1,8 +1,8 @@
 -- What the readers answer, by what the octets are.
 use Prim.Native.Nat.{ℕ, _-_}
 use mathlib.Core.List.{List, []}
-use lib.ListN.{length, drop}
-use Rattle.octets.specs.Walk.{either, Reading, whole, broken, Reader}
+use lib.ListN.{length}
+use Rattle.octets.specs.Walk.{either, Reading, whole, broken}
 use Rattle.attributes.specs.Attribute.{isShort, kindOf, startOf, sizeOf, fits, valueOf}
 use Rattle.attributes.specs.declared.Read.{Read}
 use Rattle.attributes.specs.declared.Read.the-variants as read

@@ -4,7 +4,7 @@ use Prim.Native.Nat.{ℕ}
 use mathlib.Core.List.{List}
 use mathlib.Core.Bool.{Bool}
 use lib.ListN.{length, drop}
-use Rattle.octets.specs.Walk.{both, Reading, whole, Reader, opened, many}
+use Rattle.octets.specs.Walk.{both, whole, Reader, opened, many}
 use Rattle.attributes.specs.Attribute.{Attribute, sizeOf, attributeOf, fits}
 use Rattle.attributes.specs.Place.{meaningOf, formed}
 use Rattle.attributes.specs.declared.tables.Place.{Place}

@@ -2,7 +2,7 @@
 -- type 1 transform, GSA_INITIAL_MESSAGE_ID in a Rekey policy, the deactivation delay in a group-wide policy, SA_KEY and WRAP_KEY; any other
 -- is skipped (house)."
 use Prim.Native.Nat.{ℕ, _%_}
-use mathlib.Core.Bool.{Bool, true, false, not}
+use mathlib.Core.Bool.{Bool, true, not}
 use lib.Dec.{leb, eqb}
 use Rattle.octets.specs.Walk.{either, both}
 use Rattle.attributes.specs.declared.tables.Place.{Place}

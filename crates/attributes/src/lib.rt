@@ -1,9 +1,7 @@
 // Attributes (RFC 7296, section 3.3.5), and which of them are read where.
 ghost use mathlib.Core.Path.{_≡_};
-ghost use Prim.Native.Nat.{ℕ, _+_, _≤_, _<_};
+ghost use Prim.Native.Nat.{_+_, _<_};
 ghost use lib.ListN.{length, drop};
-ghost use Rattle.attributes.specs.Place.{meaningOf, wrappedSize, formed, inTransform, inPolicy, inBag};
-ghost use Rattle.attributes.specs.Tree.{codeOf};
 ghost use Rattle.attributes.specs.Layout.{attribute, attributes};
 ghost use Rattle.attributes.specs.Answers.{layoutOf, spotOf, valueAt, readOf};
 

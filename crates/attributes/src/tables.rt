@@ -1,6 +1,6 @@
 // Which attribute is read where, in which format and size.
 ghost use mathlib.Core.Path.{_≡_};
-ghost use Prim.Native.Nat.{ℕ, _+_, _≤_, _<_};
+ghost use Prim.Native.Nat.{_<_};
 ghost use Rattle.attributes.specs.Place.{meaningOf, wrappedSize, formed, inTransform, inPolicy, inBag};
 ghost use Rattle.attributes.specs.Tree.{codeOf};
 

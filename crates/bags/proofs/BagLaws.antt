@@ -1,12 +1,12 @@
 -- What the readers' answers say of a key bag, with what it holds.
-use Prim.Native.Nat.{ℕ, zero, suc, _+_, _-_, _<_, _≤_}
-use mathlib.Core.Path.{_≡_, refl, ap, sym, _∙_, subst}
-use mathlib.Core.List.{List, [], _∷_}
-use mathlib.Core.Bool.{Bool, true, false}
+use Prim.Native.Nat.{ℕ, _+_, _-_}
+use mathlib.Core.Path.{_≡_, ap, sym, _∙_}
+use mathlib.Core.List.{List}
+use mathlib.Core.Bool.{true, false}
 use native.Mathlib.Omega.{arith}
-use lib.ListN.{length, drop}
+use lib.ListN.{drop}
 use Rattle.octets.specs.Numbers.{oct}
-use Rattle.octets.specs.Walk.{be16, part, Reading, Reader, mapped, opened, within}
+use Rattle.octets.specs.Walk.{be16, part, Reading, mapped, within}
 use Rattle.octets.proofs.Walks.{Takes, took, takes-mapped, takes-closed, opened-is, opened-not, takes-opened}
 use Rattle.attributes.specs.Attribute.{Attribute}
 use Rattle.attributes.specs.Layout.{attributes}
@@ -18,7 +18,7 @@ use Rattle.attributes.specs.declared.tables.Place.{Place}
 use Rattle.attributes.proofs.Loops.{held-whole, held-broken, spot-mapped}
 use Rattle.policies.specs.Policy.{headSize, headFits}
 use Rattle.policies.proofs.HeadLaws.{head-is}
-use Rattle.bags.specs.Bag.{Bag, placeOf, bagOf, bag}
+use Rattle.bags.specs.Bag.{placeOf, bagOf, bag}
 
 module _ (b : ℕ) (s : List ℕ) where
   holds : Reading (List Attribute)

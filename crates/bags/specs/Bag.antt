@@ -4,7 +4,7 @@ use Prim.Native.Nat.{ℕ}
 use mathlib.Core.List.{List}
 use lib.Dec.{eqb}
 use Rattle.octets.specs.Numbers.{oct}
-use Rattle.octets.specs.Walk.{be16, either, Reading, Reader, mapped, opened, within, many}
+use Rattle.octets.specs.Walk.{be16, either, Reader, mapped, opened, within, many}
 use Rattle.attributes.specs.Attribute.{Attribute}
 use Rattle.attributes.specs.Place.{inBag}
 use Rattle.attributes.specs.declared.tables.Place.{Place}

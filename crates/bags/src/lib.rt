@@ -1,6 +1,6 @@
 // Key bags of a KD payload (RFC 9838, section 4.5).
 ghost use mathlib.Core.Path.{_≡_};
-ghost use Prim.Native.Nat.{ℕ, _+_, _≤_, _<_};
+ghost use Prim.Native.Nat.{_+_, _<_};
 ghost use lib.ListN.{length};
 ghost use Rattle.attributes.specs.Answers.{layoutOf, spotOf};
 ghost use Rattle.bags.specs.Bag.{placeOf, bag, bags};

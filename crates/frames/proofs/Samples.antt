@@ -2,20 +2,17 @@
 use Prim.Native.Nat.{ℕ}
 use mathlib.Core.Path.{_≡_, refl}
 use mathlib.Core.List.{List, [], _∷_, _++_}
-use mathlib.Core.Bool.{Bool, true, false}
 use Rattle.octets.specs.Numbers.{number}
-use Rattle.octets.specs.Walk.{Reading, whole, broken, chain, chainUpTo, many}
-use Rattle.attributes.specs.Attribute.{Attribute}
+use Rattle.octets.specs.Walk.{whole, broken, chain, chainUpTo, many}
 use Rattle.attributes.specs.declared.tables.Place.the-variants as place
 use Rattle.attributes.specs.declared.Layout.the-variants as layout
 use Rattle.attributes.specs.Tree.{valuesOf, keyLengths}
 use Rattle.attributes.specs.Layout.{attribute, attributes}
 use Rattle.policies.specs.Selector.{selector}
-use Rattle.policies.specs.Transform.{Transform, transform, transforms}
+use Rattle.policies.specs.Transform.{transform, transforms}
 use Rattle.policies.specs.Policy.{suite, saBody, groupWide, policy, policies}
 use Rattle.bags.specs.Bag.{groupKeys, memberKeys, bag, bags}
-use Rattle.frames.specs.Delete.{stretches}
-use Rattle.frames.specs.Frame.{body, payload, payloads, frame, frameLayout}
+use Rattle.frames.specs.Frame.{body, payload, frame, frameLayout}
 
 -- document 01, P: "octets 80 0e 00 80 read as Key Length 128", in a type 1 transform at any offset
 sample-key-length : (h b : ℕ) → transforms h b (0 ∷ 0 ∷ 0 ∷ 12 ∷ 1 ∷ 0 ∷ 0 ∷ 20 ∷ 128 ∷ 14 ∷ 0 ∷ 128 ∷ [])
@@ -28,7 +25,8 @@ other-format : transforms 1 100 (0 ∷ 0 ∷ 0 ∷ 14 ∷ 1 ∷ 0 ∷ 0 ∷ 20 �
 unfolding transform attribute many chain chainUpTo number valuesOf
 other-format = refl
 
-elsewhere : transforms 1 100 (0 ∷ 0 ∷ 0 ∷ 14 ∷ 5 ∷ 0 ∷ 0 ∷ 0 ∷ 0 ∷ 14 ∷ 0 ∷ 2 ∷ 0 ∷ 128 ∷ []) ≡ whole (record { kind = 5; id = 0; keyLengths = [] } ∷ []) []
+elsewhere : transforms 1 100 (0 ∷ 0 ∷ 0 ∷ 14 ∷ 5 ∷ 0 ∷ 0 ∷ 0 ∷ 0 ∷ 14 ∷ 0 ∷ 2 ∷ 0 ∷ 128 ∷ []) ≡ whole
+    (record { kind = 5; id = 0; keyLengths = [] } ∷ []) []
 unfolding transform attribute many chain chainUpTo number valuesOf
 elsewhere = refl
 
@@ -48,7 +46,8 @@ begun-transform = refl
 sample-selector : List ℕ
 sample-selector = 7 ∷ 0 ∷ 0 ∷ 16 ∷ 0 ∷ 0 ∷ 255 ∷ 255 ∷ 10 ∷ 0 ∷ 0 ∷ 1 ∷ 10 ∷ 0 ∷ 0 ∷ 1 ∷ []
 
--- an ESP policy at 100: no selector, a selector cut short, no second selector, no transform, 0 too short for the SPI, an unknown first octet
+-- an ESP policy at 100: no selector, a selector cut short, no second selector, no transform, 0 too short for the SPI, an unknown first
+-- octet
 no-source : policy 100 (3 ∷ 4 ∷ 0 ∷ 8 ∷ 1 ∷ 2 ∷ 3 ∷ 4 ∷ []) ≡ broken 100
 unfolding policy suite saBody selector transform attribute many chain chainUpTo number valuesOf
 no-source = refl
@@ -83,7 +82,14 @@ wrapped : List ℕ
 wrapped = 0 ∷ 0 ∷ 0 ∷ 5 ∷ 0 ∷ 0 ∷ 0 ∷ 9 ∷ 1 ∷ 2 ∷ 3 ∷ 4 ∷ 5 ∷ 6 ∷ 7 ∷ 8 ∷ 1 ∷ 2 ∷ 3 ∷ 4 ∷ 5 ∷ 6 ∷ 7 ∷ 8 ∷ []
 
 sample-member-bag : bags 0 ((0 ∷ 0 ∷ 0 ∷ 32 ∷ 0 ∷ 1 ∷ 0 ∷ 24 ∷ []) ++ wrapped)
-    ≡ whole (memberKeys (record { keys = record { keyId = 5; kwkId = 9; wrapped = 1 ∷ 2 ∷ 3 ∷ 4 ∷ 5 ∷ 6 ∷ 7 ∷ 8 ∷ 1 ∷ 2 ∷ 3 ∷ 4 ∷ 5 ∷ 6 ∷ 7 ∷ 8 ∷ [] } ∷ [] }) ∷ []) []
+    ≡ whole (memberKeys (record {
+      keys = record {
+        keyId = 5;
+        kwkId = 9;
+        wrapped = 1 ∷ 2 ∷ 3 ∷ 4 ∷ 5 ∷ 6 ∷ 7 ∷ 8 ∷ 1 ∷ 2 ∷ 3 ∷ 4 ∷ 5 ∷ 6 ∷
+            7 ∷ 8 ∷ [];
+      } ∷ [];
+    }) ∷ []) []
 unfolding bag attribute many chain chainUpTo number valuesOf wrapped
 sample-member-bag = refl
 

@@ -1,7 +1,8 @@
--- What differs between exchanges (RFC 9838, section 9: GSA_AUTH 39, GSA_REGISTRATION 40, GSA_REKEY 41), one row each; document 01 says "in a
+-- What differs between exchanges (RFC 9838, section 9: GSA_AUTH 39, GSA_REGISTRATION 40, GSA_REKEY 41), one row each; document 01 says
+-- "in a
 -- registration" and "in a rekey" where a rule depends on it.
 use Prim.Native.Nat.{ℕ}
-use mathlib.Core.Bool.{Bool, true, false}
+use mathlib.Core.Bool.{true, false}
 use lib.Dec.{eqb}
 use Rattle.octets.specs.Walk.{either}
 use Rattle.frames.specs.declared.exchanges.Exchange.{Exchange}

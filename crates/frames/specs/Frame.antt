@@ -1,9 +1,9 @@
 -- A frame (document 01): "a plain 28-octet IKE header (RFC 7296 section 3.1), then the opened payloads", as a tree, or the offset of the
 -- structure whose layout broke first.
-use Prim.Native.Nat.{ℕ, _+_}
+use Prim.Native.Nat.{ℕ}
 use mathlib.Core.List.{List, [], _∷_}
-use mathlib.Core.Bool.{Bool, true, false}
-use lib.ListN.{length, drop}
+use mathlib.Core.Bool.{Bool, true}
+use lib.ListN.{drop}
 use lib.Dec.{eqb}
 use Rattle.octets.specs.Numbers.{oct}
 use Rattle.octets.specs.Walk.{be16, either, Reading, whole, broken, Reader, mapped, opened, begun, within, Linked, chain}

@@ -1,6 +1,6 @@
 // Opened frames: the IKE header, the chain of payloads and the Delete payload (RFC 7296, sections 3.1, 3.2 and 3.11).
 ghost use mathlib.Core.Path.{_≡_};
-ghost use Prim.Native.Nat.{ℕ, _+_, _≤_, _<_};
+ghost use Prim.Native.Nat.{_+_, _<_};
 ghost use lib.ListN.{length};
 ghost use Rattle.attributes.specs.Answers.{layoutOf, spotOf};
 ghost use Rattle.frames.specs.Delete.{deleteFits};

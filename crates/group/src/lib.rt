@@ -1,6 +1,6 @@
 // A group member: what a customer of the library holds.
 ghost use mathlib.Core.Path.{_≡_};
-ghost use Rattle.group.specs.Member.{newMember, sweptMember, leftMember, answerOf, noAnswer, saAnswer};
+ghost use Rattle.group.specs.Member.{newMember, sweptMember, leftMember, answerOf, saAnswer};
 use sa::entry::Condition;
 use sa::entry::REKEY;
 use sa::entry::Sa;
@@ -10,8 +10,8 @@ pub struct Member {
     pub state: State,
 }
 
-// The answer to the question about an SA: whether the member has it and, if so, its keying octets, the octet counts of their two parts (of a
-// Rekey SA) and its condition. All else is blank.
+// The answer to the question about an SA: whether the member has it and, if so, its keying octets, the octet counts of their two parts
+// (of a Rekey SA) and its condition. All else is blank.
 pub struct SaAnswer {
     pub found: bool,
     pub octets: [u8; 68],

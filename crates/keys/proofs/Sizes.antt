@@ -2,16 +2,15 @@
 use native.Mathlib.Omega.{arith}
 use native.Mathlib.Numerals.{add-one}
 use Prim.Native.Nat.{ℕ, _+_, _≤_, _<_}
-use mathlib.Core.Path.{_≡_, refl, ap, sym, _∙_}
+use mathlib.Core.Path.{_≡_, refl, sym, _∙_}
 use mathlib.Core.Bool.{Bool, true, false, _||_, or-false, false≢true}
 use mathlib.Core.Logic.{_⊎_, inl, inr}
-use mathlib.Core.List.{List, [], _∷_}
+use mathlib.Core.List.{List}
 use borrow.Author.Tests.{eq-eqb, ne-eqb, eqb-true}
 use lib.Dec.{eqb}
 use lib.ListN.{length, drop, getD, drop-of-length-le}
 use lib.Seq.{drop-cons}
 use Rattle.keys.specs.declared.algorithms.Row.{Row}
-use Rattle.keys.specs.declared.algorithms.Needed.{Needed}
 use Rattle.keys.specs.declared.algorithms.Needed.the-variants.{Octets, Nothing}
 use Rattle.keys.specs.Lists.{any}
 use Rattle.keys.specs.Algorithms.{sizeOf, rowOf, neededIn}

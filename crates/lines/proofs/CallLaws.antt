@@ -1,12 +1,11 @@
 -- What the answers of the calls on lines give their caller: the key and the frame as parts of what was lent. Assumes nothing.
-use Prim.Native.Nat.{ℕ, suc, _+_, _-_, _/_, _≤_}
+use Prim.Native.Nat.{ℕ, _-_, _/_, _≤_}
 use mathlib.Core.Path.{_≡_, refl, ap, sym, _∙_}
 use mathlib.Core.List.{List, [], _∷_}
-use mathlib.Core.Bool.{true, false}
 use native.Mathlib.Omega.{arith}
-use lib.ListN.{length, take, drop, replicate, length-drop}
-use Rattle.lines.specs.Hex.{octetsOf, numberFrom}
-use Rattle.lines.specs.Input.{isTaken, keyOf, bad, frame, askedBy}
+use lib.ListN.{length, take, drop, length-drop}
+use Rattle.lines.specs.Hex.{octetsOf}
+use Rattle.lines.specs.Input.{isTaken, keyOf, frame, askedBy}
 use Rattle.lines.specs.Answer.{badText}
 use Rattle.lines.specs.Transcript.{Step, told, replyTo, reply}
 use Rattle.lines.specs.inner.Calls.{Gives, Asks}

@@ -4,7 +4,7 @@ ghost use mathlib.Core.List.{_∷_, [], _++_};
 ghost use Prim.Native.Nat.{_+_, _*_, _/_, _%_, _<_, _≤_};
 ghost use lib.ListN.{length, take, getD};
 ghost use Rattle.lines.specs.Hex.{isDigit, valueOf, digitOf, areDigits, isHex, octetsOf, digitsOf, numberFrom};
-ghost use Rattle.lines.specs.Input.{isTaken, keyOf};
+ghost use Rattle.lines.specs.Input.{isTaken};
 ghost use Rattle.lines.specs.Answer.{decimal, answerText, badText};
 ghost use Rattle.lines.specs.inner.Room.{Put};
 ghost use Rattle.lines.specs.inner.Calls.{Absorbs, Gives, Asks};

@@ -1,19 +1,19 @@
 -- What the code's tests say of the selector that some octets start with.
-use Prim.Native.Nat.{ℕ, zero, suc, _+_, _-_, _<_, _≤_}
-use mathlib.Core.Path.{_≡_, refl, ap, sym, _∙_, subst}
-use mathlib.Core.List.{List, [], _∷_}
+use Prim.Native.Nat.{ℕ, _-_, _<_, _≤_}
+use mathlib.Core.Path.{_≡_, refl, ap, sym, _∙_}
+use mathlib.Core.List.{List}
 use mathlib.Core.Bool.{Bool, true, false}
 use native.Mathlib.Omega.{arith}
-use borrow.Author.Tests.{le-leb, lt-leb, leb-true, lt-ltb, le-ltb, ltb-true, eq-eqb, ne-eqb}
+use borrow.Author.Tests.{le-leb, lt-leb, leb-true, lt-ltb, ltb-true, eq-eqb, ne-eqb}
 use lib.Dec.{leb, ltb, eqb}
 use lib.ListN.{length, drop}
 use Rattle.octets.specs.Numbers.{oct}
-use Rattle.octets.specs.Walk.{be16, either, both, Reading, whole, broken, opened, begun}
+use Rattle.octets.specs.Walk.{be16, either, both, whole, opened}
 use Rattle.octets.proofs.Walks.{both-true, Takes, took, begun-none, begun-some, takes-begun, opened-is, opened-not, takes-opened}
 use Rattle.attributes.specs.Answers.{spotOf}
 use Rattle.attributes.specs.declared.Spot.the-variants as spot
 use Rattle.attributes.proofs.Loops.{ends-at}
-use Rattle.policies.specs.Selector.{Selector, selectorSize, selectorOf, selectorFits, selector}
+use Rattle.policies.specs.Selector.{selectorSize, selectorOf, selectorFits, selector}
 
 -- a selector has at least 16 octets
 pub size-some : {n : ℕ} (t : ℕ) → (n ≡ 0 → ⊥) → n ≡ selectorSize t → 16 ≤ n

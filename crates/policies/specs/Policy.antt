@@ -6,7 +6,7 @@ use mathlib.Core.List.{List}
 use mathlib.Core.Bool.{Bool, true}
 use lib.Dec.{ltb, eqb}
 use Rattle.octets.specs.Numbers.{oct}
-use Rattle.octets.specs.Walk.{be16, part, either, both, sized, Reading, Reader, mapped, opened, within, andThen, many}
+use Rattle.octets.specs.Walk.{be16, part, either, both, sized, Reader, mapped, opened, within, andThen, many}
 use Rattle.attributes.specs.Attribute.{Attribute}
 use Rattle.attributes.specs.Place.{inPolicy}
 use Rattle.attributes.specs.declared.tables.Place.{Place}

@@ -6,7 +6,7 @@ use mathlib.Core.Bool.{Bool}
 use lib.ListN.{length, drop}
 use lib.Dec.{leb, ltb, eqb}
 use Rattle.octets.specs.Numbers.{oct}
-use Rattle.octets.specs.Walk.{be16, part, either, both, Reading, whole, Reader, opened, begun}
+use Rattle.octets.specs.Walk.{be16, part, either, both, whole, Reader, opened, begun}
 
 pub record Selector : Type 0 where
   pub kind : ℕ

@@ -1,10 +1,10 @@
 -- Transforms (RFC 7296, section 3.3.2). Document 01: "3 (more) or 0 (last), reserved, length 2, type, reserved, ID 2, attributes".
 use Prim.Native.Nat.{ℕ}
 use mathlib.Core.List.{List}
-use mathlib.Core.Bool.{Bool, true, false, not}
+use mathlib.Core.Bool.{Bool, true, not}
 use lib.Dec.{eqb}
 use Rattle.octets.specs.Numbers.{oct}
-use Rattle.octets.specs.Walk.{be16, either, both, sized, Reading, Reader, mapped, opened, begun, within, Linked, chain}
+use Rattle.octets.specs.Walk.{be16, either, both, sized, Reader, mapped, opened, begun, within, Linked, chain}
 use Rattle.attributes.specs.Attribute.{Attribute}
 use Rattle.attributes.specs.Place.{inTransform}
 use Rattle.attributes.specs.Tree.{keyLengths}

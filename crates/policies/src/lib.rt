@@ -1,9 +1,8 @@
 // Policies of a GSA payload (RFC 9838, section 4.4): selectors, transforms, Group SA policies and group-wide policies.
 ghost use mathlib.Core.Path.{_≡_};
 ghost use mathlib.Core.Bool.{true};
-ghost use Prim.Native.Nat.{ℕ, _+_, _≤_, _<_};
+ghost use Prim.Native.Nat.{_+_, _<_};
 ghost use lib.ListN.{length};
-ghost use Rattle.octets.specs.Numbers.{oct};
 ghost use Rattle.octets.specs.Walk.{be16, part};
 ghost use Rattle.attributes.specs.Answers.{layoutOf, spotOf};
 ghost use Rattle.policies.specs.Policy.{suite, saBody, spiSize, headSize, headFits, policyHolds, policy, policies};

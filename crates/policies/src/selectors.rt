@@ -1,7 +1,6 @@
 // Traffic selectors (RFC 7296, section 3.13.1).
 ghost use mathlib.Core.Path.{_≡_};
-ghost use Prim.Native.Nat.{ℕ, _+_, _≤_, _<_};
-ghost use lib.ListN.{length};
+ghost use Prim.Native.Nat.{_<_};
 ghost use Rattle.attributes.specs.Answers.{spotOf};
 ghost use Rattle.policies.specs.Selector.{selectorSize, selector};
 use attributes::Spot;

@@ -1,9 +1,8 @@
 // Transforms (RFC 7296, section 3.3.2).
 ghost use mathlib.Core.Path.{_≡_};
 ghost use mathlib.Core.Bool.{true};
-ghost use Prim.Native.Nat.{ℕ, _+_, _≤_, _<_};
+ghost use Prim.Native.Nat.{_+_, _<_};
 ghost use lib.ListN.{length};
-ghost use Rattle.octets.specs.Numbers.{oct};
 ghost use Rattle.attributes.specs.Answers.{spotOf};
 ghost use Rattle.policies.specs.Transform.{transformFits, transform, transforms};
 use attributes::Layout;

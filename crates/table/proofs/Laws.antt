@@ -2,23 +2,24 @@
 use native.Mathlib.Omega.{arith}
 use Prim.Native.Nat.{ℕ, _+_, _-_, _≤_, _<_}
 use mathlib.Core.Path.{_≡_, refl, ap, sym, _∙_}
-use mathlib.Core.Bool.{Bool, true, false, cond, not, _&&_, _||_, false≢true}
+use mathlib.Core.Bool.{Bool, true, false, _||_, false≢true}
 use mathlib.Core.List.{List, [], _∷_, _++_, map}
 use borrow.Author.Tests.{le-leb, lt-leb, lt-ltb, le-ltb, ne-eqb}
 use lib.Dec.{leb, eqb, eqb·suc-zero}
-use lib.ListN.{length, take, drop, getD, set, replicate}
+use lib.ListN.{length, take, drop, getD}
 use Rattle.keys.specs.Limits.{Limits}
 use Rattle.keys.specs.Kinds.{wrappingKey, keyWrapPart}
 use Rattle.keys.specs.declared.kinds.MadeWrapping.{MadeWrapping}
 use Rattle.keys.specs.Lists.{all, count, keep, rising, insert}
 use Rattle.keys.proofs.Cases.{bool-cases, lt-cases}
 use Rattle.keys.proofs.Parts.{part-cons, part-end}
-use Rattle.keys.proofs.Fill.{Filled, filled-more, written-more, filled-count, filled-all}
+use Rattle.keys.proofs.Fill.{Filled, filled-count, filled-all}
 use Rattle.sa.specs.Entry.{before, formed, liveRekey, named, due, retired, blankSa}
 use Rattle.sa.specs.declared.entry.Sa.{Sa}
 use Rattle.table.specs.declared.Table.{Table}
 use Rattle.table.specs.declared.Found.{Found}
-use Rattle.table.specs.Table.{sasOf, tableOf, tableFormed, changed, swept, notDue, emptyAt, retiredIf, entered, none, theOne, foundIn, keyOf}
+use Rattle.table.specs.Table.{sasOf, tableOf, tableFormed, changed, swept, notDue, emptyAt, retiredIf, entered, none, theOne}
+use Rattle.table.specs.Table.{foundIn, keyOf}
 use Rattle.table.specs.inner.Loops.{picked, inPlace}
 
 -- ---- a table that was filled

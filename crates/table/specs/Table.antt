@@ -4,11 +4,11 @@ use mathlib.Core.Bool.{Bool, true, false, cond, not, _&&_}
 use mathlib.Core.List.{List, [], _∷_, _++_, map}
 use lib.Dec.{leb, ltb, eqb}
 use lib.ListN.{length, take, replicate}
-use Rattle.keys.specs.Lists.{all, any, count, keep, rising, insert}
+use Rattle.keys.specs.Lists.{all, count, keep, rising, insert}
 use Rattle.keys.specs.Limits.{Limits}
 use Rattle.keys.specs.Kinds.{wrappingKey, keyWrapPart}
 use Rattle.keys.specs.declared.kinds.MadeWrapping.{MadeWrapping}
-use Rattle.sa.specs.Entry.{esp, rekey, before, named, formed, liveRekey, due, retired, blankSa}
+use Rattle.sa.specs.Entry.{esp, before, named, formed, liveRekey, due, retired, blankSa}
 use Rattle.sa.specs.declared.entry.Sa.{Sa}
 use Rattle.table.specs.declared.Table.{Table}
 use Rattle.table.specs.declared.Found.{Found}

@@ -1,7 +1,7 @@
 use denote.Ref.{now}
 use native.Mathlib.Omega.{arith}
-use mathlib.Core.Path.{_≡_, refl, ap, sym, _∙_, subst}
-use Prim.Native.Nat.{ℕ, _+_, _-_, _<_, _≤_}
+use mathlib.Core.Path.{_≡_, sym, _∙_}
+use Prim.Native.Nat.{_+_, _-_, _<_, _≤_}
 use lib.ListN.{length, drop}
 use Rattle.octets.proofs.Walks.{part-short}
 use Rattle.attributes.specs.Answers.{layoutOf}
@@ -11,9 +11,6 @@ use Rattle.policies.proofs.PolicyLaws.{takes}
 use borrow.Author.Needs.{needs}
 use Rattle.policies.proofs.are_policies.Statement.{statement}
 use Rattle.policies.proofs.are_policies.Tie as tie
-use Rattle.policies.proofs.are_policies.Reads as reads
-use Rattle.policies.proofs.are_policies.Lts as lts
-use Rattle.policies.proofs.policy_spot.Reads as policy-spot-reads
 
 abbrev Inv-loop : tie.InvT-loop
 Inv-loop s base at₀ at = (at ≤ length s) × (layoutOf (policies base s) ≡ layoutOf (policies (base + at) (drop at s)))
@@ -21,33 +18,28 @@ Inv-loop s base at₀ at = (at ≤ length s) × (layoutOf (policies base s) ≡ 
 abbrev μ-loop : tie.MeasureT-loop
 μ-loop s base at₀ at = length s - at
 
--- src/lib.rt:120:5
 loop-holds : tie.Need-loop-holds Inv-loop μ-loop
 loop-holds c = let a = c .before .args in (omega arith, loop-starts policy takes (a .base) (now (a .s)))
 
--- src/lib.rt:121:27
 sub-policy-spot : tie.Need-sub-policy-spot Inv-loop μ-loop
 sub-policy-spot c = search needs
 
--- src/lib.rt:121:27
 part-policy-spot-start : tie.Need-part-policy-spot-start Inv-loop μ-loop
 part-policy-spot-start c = search needs
 
--- src/lib.rt:121:27
 part-policy-spot-end : tie.Need-part-policy-spot-end Inv-loop μ-loop
 part-policy-spot-end c = search needs
 
--- src/lib.rt:121:37
 add-policy-spot : tie.Need-add-policy-spot Inv-loop μ-loop
 add-policy-spot c = search needs
 
--- src/lib.rt:121:15
 policy-spot-requires : tie.Need-policy-spot-requires Inv-loop μ-loop
 policy-spot-requires c κs =
-    let a = c .before .before .before .before .args in
-    omega (arith, part-short (now (a .s)) (c .before .before .loop .at) (length (now (a .s))), c .before .before .before .before .pre, c .before .before .loop .inv .0)
+    let p2 = c .before .before in
+    let p4 = p2 .before .before in
+    let a = p4 .args in
+    omega (arith, part-short (now (a .s)) (p2 .loop .at) (length (now (a .s))), p4 .pre, p2 .loop .inv .0)
 
--- src/lib.rt:122:24
 enum-known-e : tie.Need-enum-known-e Inv-loop μ-loop
 enum-known-e c = search needs
 
@@ -58,28 +50,27 @@ next : (c : tie.After-known-told Inv-loop μ-loop)
     (0 < e) × (at + e ≤ length (now (a .s)))
     × (layoutOf (policies (a .base) (now (a .s))) ≡ layoutOf (policies (a .base + (at + e)) (drop (at + e) (now (a .s)))))
 next c =
-    let a = c .before .before .before .before .before .before .before .before .args in
-    let l = c .before .before .before .before .before .before .loop in
-    loop-goes policy takes (a .base) (now (a .s)) (l .at) (l .inv .1) (c .before .before .before .before .before .loop-test .taken) (c .before .e .given .0 .0)
-    (sym (c .before .e .given .1) ∙ c .before .before .before .policy-spot .ensures)
+    let p3 = c .before .before .before in
+    let p5 = p3 .before .before in
+    let p6 = p5 .before in
+    let p8 = p6 .before .before in
+    let a = p8 .args in
+    let l = p6 .loop in
+    loop-goes policy takes (a .base) (now (a .s)) (l .at) (l .inv .1) (p5 .loop-test .taken) (c .before .e .given .0 .0)
+    (sym (c .before .e .given .1) ∙ p3 .policy-spot .ensures)
 
--- src/lib.rt:123:22
 add-at : tie.Need-add-at Inv-loop μ-loop
 add-at c = let n = next c in record { fits = omega (arith, n .1) }
 
--- src/lib.rt:120:5
 loop-less : tie.Need-loop-less Inv-loop μ-loop
 loop-less c = let n = next c in omega (arith, n .0, n .1)
 
--- src/lib.rt:120:5
 loop-again : tie.Need-loop-again Inv-loop μ-loop
 loop-again c = let n = next c in (n .1, n .2)
 
--- src/lib.rt:125:26
 enum-known-o : tie.Need-enum-known-o Inv-loop μ-loop
 enum-known-o c = search needs
 
--- src/lib.rt:126:17
 returns : tie.Need-returns Inv-loop μ-loop
 returns c =
     let a = c .before .before .before .before .before .before .before .before .args in
@@ -87,7 +78,6 @@ returns c =
     loop-breaks policy takes (a .base) (now (a .s)) (l .at) (l .inv .1) (c .before .before .before .before .before .loop-test .taken) _
     (sym (c .before .o .given .1) ∙ c .before .before .before .policy-spot .ensures)
 
--- src/lib.rt:115:1
 returns-2 : tie.Need-returns-2 Inv-loop μ-loop
 returns-2 c =
     let a = c .before .before .before .args in

@@ -1,6 +1,6 @@
 use denote.Ref.{now}
 use native.Mathlib.Omega.{arith}
-use mathlib.Core.Path.{_≡_, refl, ap, sym, _∙_, subst}
+use mathlib.Core.Path.{sym, _∙_}
 use Prim.Native.Nat.{_+_}
 use lib.ListN.{length}
 use Rattle.octets.proofs.Walks.{tail, part-short}
@@ -8,141 +8,161 @@ use Rattle.policies.proofs.PolicyLaws.{selector-inside, body-goes, body
 use borrow.Author.Needs.{needs}
 use Rattle.policies.proofs.body_layout.Statement.{statement}
 use Rattle.policies.proofs.body_layout.Tie as tie
-use Rattle.policies.proofs.body_layout.Reads as reads
-use Rattle.policies.proofs.body_layout.Lts as lts
-use Rattle.policies.proofs.selectors.selector_spot.Reads as selector-spot-reads
-use Rattle.policies.proofs.suite_layout.Reads as suite-layout-reads
 
--- src/lib.rt:34:11
 selector-spot-requires : tie.Need-selector-spot-requires
 selector-spot-requires c κs = search needs
 
--- src/lib.rt:35:20
 enum-known-a : tie.Need-enum-known-a
 enum-known-a c = search needs
 
--- src/lib.rt:35:57
 sub-selector-spot : tie.Need-sub-selector-spot
 sub-selector-spot c =
-    let s = c .before .before .before .before .before .args in
+    let p3 = c .before .before .before in
+    let p5 = p3 .before .before in
+    let s = p5 .args in
     let e = c .before .a .given .0 .0 in
-    let i = selector-inside (s .holder) (s .base) (now (s .s)) e (sym (c .before .a .given .1) ∙ c .before .before .before .selector-spot .ensures) in
+    let i = selector-inside (s .holder) (s .base) (now (s .s)) e (sym (c .before .a .given .1) ∙ p3 .selector-spot .ensures) in
     omega (arith, i)
 
--- src/lib.rt:35:57
 part-selector-spot-start : tie.Need-part-selector-spot-start
 part-selector-spot-start c =
-    let s = c .before .before .before .before .before .args in
+    let p3 = c .before .before .before in
+    let p5 = p3 .before .before in
+    let s = p5 .args in
     let e = c .before .a .given .0 .0 in
-    let i = selector-inside (s .holder) (s .base) (now (s .s)) e (sym (c .before .a .given .1) ∙ c .before .before .before .selector-spot .ensures) in
+    let i = selector-inside (s .holder) (s .base) (now (s .s)) e (sym (c .before .a .given .1) ∙ p3 .selector-spot .ensures) in
     omega (arith, i)
 
--- src/lib.rt:35:57
 part-selector-spot-end : tie.Need-part-selector-spot-end
 part-selector-spot-end c = search needs
 
--- src/lib.rt:35:66
 add-selector-spot : tie.Need-add-selector-spot
 add-selector-spot c =
-    let s = c .before .before .before .before .before .before .args in
-    let e = c .before .before .a .given .0 .0 in
-    let i = selector-inside (s .holder) (s .base) (now (s .s)) e (sym (c .before .before .a .given .1) ∙ c .before .before .before .before .selector-spot .ensures) in
-    record { fits = omega (arith, i, c .before .before .before .before .before .before .pre) }
+    let p2 = c .before .before in
+    let p4 = p2 .before .before in
+    let p6 = p4 .before .before in
+    let s = p6 .args in
+    let e = p2 .a .given .0 .0 in
+    let i = selector-inside (s .holder) (s .base) (now (s .s)) e (sym (p2 .a .given .1) ∙ p4 .selector-spot .ensures) in
+    record { fits = omega (arith, i, p6 .pre) }
 
--- src/lib.rt:35:32
 selector-spot-requires-2 : tie.Need-selector-spot-requires-2
 selector-spot-requires-2 c κs = search needs
 
--- src/lib.rt:36:24
 enum-known-d : tie.Need-enum-known-d
 enum-known-d c = search needs
 
--- src/lib.rt:37:25
 add-t : tie.Need-add-t
 add-t c =
-    let s = c .before .before .before .before .before .before .before .before .before .before .args in
-    let e = c .before .before .before .before .before .before .a .given .0 .0 in
-    let i = selector-inside (s .holder) (s .base) (now (s .s)) e (sym (c .before .before .before .before .before .before .a .given .1) ∙ c .before .before .before .before .before .before .before .before .selector-spot .ensures) in
+    let p3 = c .before .before .before in
+    let p6 = p3 .before .before .before in
+    let p8 = p6 .before .before in
+    let p10 = p8 .before .before in
+    let s = p10 .args in
+    let e = p6 .a .given .0 .0 in
+    let i = selector-inside (s .holder) (s .base) (now (s .s)) e (sym (p6 .a .given .1) ∙ p8 .selector-spot .ensures) in
     let f = c .before .d .given .0 .0 in
-    let j = selector-inside (s .holder) (s .base + e) (tail (now (s .s)) e) f (sym (c .before .d .given .1) ∙ c .before .before .before .selector-spot2 .ensures) in
+    let j = selector-inside (s .holder) (s .base + e) (tail (now (s .s)) e) f (sym (c .before .d .given .1) ∙ p3 .selector-spot2 .ensures)
+    in
     let l = part-short (now (s .s)) e (length (now (s .s))) in
     record { fits = omega (arith, i, j, l) }
 
--- src/lib.rt:38:37
 sub-suite-layout : tie.Need-sub-suite-layout
 sub-suite-layout c =
-    let s = c .before .before .before .before .before .before .before .before .before .before .args in
-    let e = c .before .before .before .before .before .before .a .given .0 .0 in
-    let i = selector-inside (s .holder) (s .base) (now (s .s)) e (sym (c .before .before .before .before .before .before .a .given .1) ∙ c .before .before .before .before .before .before .before .before .selector-spot .ensures) in
+    let p3 = c .before .before .before in
+    let p6 = p3 .before .before .before in
+    let p8 = p6 .before .before in
+    let p10 = p8 .before .before in
+    let s = p10 .args in
+    let e = p6 .a .given .0 .0 in
+    let i = selector-inside (s .holder) (s .base) (now (s .s)) e (sym (p6 .a .given .1) ∙ p8 .selector-spot .ensures) in
     let f = c .before .d .given .0 .0 in
-    let j = selector-inside (s .holder) (s .base + e) (tail (now (s .s)) e) f (sym (c .before .d .given .1) ∙ c .before .before .before .selector-spot2 .ensures) in
+    let j = selector-inside (s .holder) (s .base + e) (tail (now (s .s)) e) f (sym (c .before .d .given .1) ∙ p3 .selector-spot2 .ensures)
+    in
     let l = part-short (now (s .s)) e (length (now (s .s))) in
     omega (arith, i, j, l)
 
--- src/lib.rt:38:37
 part-suite-layout-start : tie.Need-part-suite-layout-start
 part-suite-layout-start c =
-    let s = c .before .before .before .before .before .before .before .before .before .before .args in
-    let e = c .before .before .before .before .before .before .a .given .0 .0 in
-    let i = selector-inside (s .holder) (s .base) (now (s .s)) e (sym (c .before .before .before .before .before .before .a .given .1) ∙ c .before .before .before .before .before .before .before .before .selector-spot .ensures) in
+    let p3 = c .before .before .before in
+    let p6 = p3 .before .before .before in
+    let p8 = p6 .before .before in
+    let p10 = p8 .before .before in
+    let s = p10 .args in
+    let e = p6 .a .given .0 .0 in
+    let i = selector-inside (s .holder) (s .base) (now (s .s)) e (sym (p6 .a .given .1) ∙ p8 .selector-spot .ensures) in
     let f = c .before .d .given .0 .0 in
-    let j = selector-inside (s .holder) (s .base + e) (tail (now (s .s)) e) f (sym (c .before .d .given .1) ∙ c .before .before .before .selector-spot2 .ensures) in
+    let j = selector-inside (s .holder) (s .base + e) (tail (now (s .s)) e) f (sym (c .before .d .given .1) ∙ p3 .selector-spot2 .ensures)
+    in
     let l = part-short (now (s .s)) e (length (now (s .s))) in
     omega (arith, i, j, l)
 
--- src/lib.rt:38:37
 part-suite-layout-end : tie.Need-part-suite-layout-end
 part-suite-layout-end c = search needs
 
--- src/lib.rt:38:46
 add-suite-layout : tie.Need-add-suite-layout
 add-suite-layout c =
-    let s = c .before .before .before .before .before .before .before .before .before .before .before .args in
-    let e = c .before .before .before .before .before .before .before .a .given .0 .0 in
-    let i = selector-inside (s .holder) (s .base) (now (s .s)) e (sym (c .before .before .before .before .before .before .before .a .given .1) ∙ c .before .before .before .before .before .before .before .before .before .selector-spot .ensures) in
-    let f = c .before .before .d .given .0 .0 in
-    let j = selector-inside (s .holder) (s .base + e) (tail (now (s .s)) e) f (sym (c .before .before .d .given .1) ∙ c .before .before .before .before .selector-spot2 .ensures) in
+    let p2 = c .before .before in
+    let p4 = p2 .before .before in
+    let p7 = p4 .before .before .before in
+    let p9 = p7 .before .before in
+    let p11 = p9 .before .before in
+    let s = p11 .args in
+    let e = p7 .a .given .0 .0 in
+    let i = selector-inside (s .holder) (s .base) (now (s .s)) e (sym (p7 .a .given .1) ∙ p9 .selector-spot .ensures) in
+    let f = p2 .d .given .0 .0 in
+    let j = selector-inside (s .holder) (s .base + e) (tail (now (s .s)) e) f (sym (p2 .d .given .1) ∙ p4 .selector-spot2 .ensures) in
     let l = part-short (now (s .s)) e (length (now (s .s))) in
-    record { fits = omega (arith, i, j, l, c .before .before .before .before .before .before .before .before .before .before .before .pre) }
+    record { fits = omega (arith, i, j, l, p11 .pre) }
 
--- src/lib.rt:38:17
 suite-layout-requires : tie.Need-suite-layout-requires
 suite-layout-requires c κs =
-    let s = c .before .before .before .before .before .before .before .before .before .before .before .args in
-    let e = c .before .before .before .before .before .before .before .a .given .0 .0 in
-    let i = selector-inside (s .holder) (s .base) (now (s .s)) e (sym (c .before .before .before .before .before .before .before .a .given .1) ∙ c .before .before .before .before .before .before .before .before .before .selector-spot .ensures) in
-    let f = c .before .before .d .given .0 .0 in
-    let j = selector-inside (s .holder) (s .base + e) (tail (now (s .s)) e) f (sym (c .before .before .d .given .1) ∙ c .before .before .before .before .selector-spot2 .ensures) in
+    let p2 = c .before .before in
+    let p4 = p2 .before .before in
+    let p7 = p4 .before .before .before in
+    let p9 = p7 .before .before in
+    let p11 = p9 .before .before in
+    let s = p11 .args in
+    let e = p7 .a .given .0 .0 in
+    let i = selector-inside (s .holder) (s .base) (now (s .s)) e (sym (p7 .a .given .1) ∙ p9 .selector-spot .ensures) in
+    let f = p2 .d .given .0 .0 in
+    let j = selector-inside (s .holder) (s .base + e) (tail (now (s .s)) e) f (sym (p2 .d .given .1) ∙ p4 .selector-spot2 .ensures) in
     let l = part-short (now (s .s)) e (length (now (s .s))) in
-    omega (arith, i, j, l, part-short (now (s .s)) (e + f) (length (now (s .s))), c .before .before .before .before .before .before .before .before .before .before .before .pre)
+    omega (arith, i, j, l, part-short (now (s .s)) (e + f) (length (now (s .s))), p11 .pre)
 
--- src/lib.rt:40:26
 enum-known-o : tie.Need-enum-known-o
 enum-known-o c = search needs
 
--- src/lib.rt:42:22
 enum-known-o-2 : tie.Need-enum-known-o-2
 enum-known-o-2 c = search needs
 
--- src/lib.rt:30:1
 returns : tie.Need-returns
 returns c =
-    let a = c .before .before .before .before .before .before .before .before .before .before .before .before .args in
-    body-goes (a .holder) (a .place) (a .base) (now (a .s)) _ (sym (c .before .before .before .before .before .before .before .before .a .given .1) ∙ c .before .before .before .before .before .before .before .before .before .before .selector-spot .ensures) _ _
-    (sym (c .before .before .before .d .given .1) ∙ c .before .before .before .before .before .selector-spot2 .ensures) (c .suite-layout .ensures)
+    let p3 = c .before .before .before in
+    let p5 = p3 .before .before in
+    let p8 = p5 .before .before .before in
+    let p10 = p8 .before .before in
+    let p12 = p10 .before .before in
+    let a = p12 .args in
+    body-goes (a .holder) (a .place) (a .base) (now (a .s)) _ (sym (p8 .a .given .1) ∙ p10 .selector-spot .ensures) _ _
+    (sym (p3 .d .given .1) ∙ p5 .selector-spot2 .ensures) (c .suite-layout .ensures)
 
--- src/lib.rt:30:1
 returns-2 : tie.Need-returns-2
 returns-2 c =
-    let a = c .before .before .before .before .before .before .before .before .before .before .args in
-    body-breaks-2 (a .holder) (a .place) (a .base) (now (a .s)) _ (sym (c .before .before .before .before .before .before .a .given .1) ∙ c .before .before .before .before .before .before .before .before .selector-spot .ensures) _
-    (sym (c .before .o .given .1) ∙ c .before .before .before .selector-spot2 .ensures)
+    let p3 = c .before .before .before in
+    let p6 = p3 .before .before .before in
+    let p8 = p6 .before .before in
+    let p10 = p8 .before .before in
+    let a = p10 .args in
+    body-breaks-2 (a .holder) (a .place) (a .base) (now (a .s)) _ (sym (p6 .a .given .1) ∙ p8 .selector-spot .ensures) _
+    (sym (c .before .o .given .1) ∙ p3 .selector-spot2 .ensures)
 
--- src/lib.rt:30:1
 returns-3 : tie.Need-returns-3
 returns-3 c =
-    let a = c .before .before .before .before .before .args in
-    body-breaks (a .holder) (a .place) (a .base) (now (a .s)) _ (sym (c .before .o2 .given .1) ∙ c .before .before .before .selector-spot .ensures)
+    let p3 = c .before .before .before in
+    let p5 = p3 .before .before in
+    let a = p5 .args in
+    body-breaks (a .holder) (a .place) (a .base) (now (a .s)) _ (sym (c .before .o2 .given .1) ∙ p3 .selector-spot .ensures)
 
 pub body-layout-spec : {M : Type 1} → statement M
 body-layout-spec =
