@@ -6,7 +6,8 @@ use native.Mathlib.Omega.{arith}
 use lib.ListN.{drop, length-append, length-drop, take-append-drop}
 use lib.Seq.{drop-at, take-all}
 use Rattle.octets.specs.Numbers.{number, octetsOf}
-use Rattle.octets.proofs.RoundTrip.{length-octets, octets-octets, number-append, number-lt, number-octets, octets-number}
+use Rattle.octets.proofs.Numerals.{number-append}
+use Rattle.octets.proofs.RoundTrip.{length-octets, octets-octets, number-lt, number-octets, octets-number}
 use Rattle.octets.proofs.Octets.{join-octets, drop-octets}
 use Rattle.fips197.specs.Block.{Block}
 use Rattle.keywrap.specs.Steps.{joined, msb64, lsb64}
@@ -20,7 +21,7 @@ joined-block a r =
 
 pub msb-joined : (a r : ℕ) → a < 256 ^ 8 → msb64 (joined a r) ≡ a
 msb-joined a r h =
-    number-append 8 (octetsOf 8 a) (octetsOf 8 r) (omega (arith, length-octets 8 a)) ∙ number-octets 8 a h
+    number-append 8 0 (octetsOf 8 a) (octetsOf 8 r) (omega (arith, length-octets 8 a)) ∙ number-octets 8 a h
 
 pub lsb-joined : (a r : ℕ) → r < 256 ^ 8 → lsb64 (joined a r) ≡ r
 lsb-joined a r h = ap (number 8) (drop-at (octetsOf 8 a) (octetsOf 8 r) 8 (length-octets 8 a)) ∙ number-octets 8 r h

@@ -10,7 +10,8 @@ use lib.Seq.{drop-at, drop-drop}
 use Rattle.octets.specs.Numbers.{number, octetsOf}
 use Rattle.octets.specs.Octets.{Octets}
 use Rattle.octets.specs.Generate.{gen}
-use Rattle.octets.proofs.RoundTrip.{length-octets, octets-octets, number-append, number-lt, number-octets, octets-number}
+use Rattle.octets.proofs.Numerals.{number-append}
+use Rattle.octets.proofs.RoundTrip.{length-octets, octets-octets, number-lt, number-octets, octets-number}
 use Rattle.octets.proofs.Octets.{no-octets, join-octets, drop-octets}
 use Rattle.keywrap.specs.Steps.{register}
 use Rattle.keywrap.specs.Wrap.{registers, octetsIn}
@@ -93,5 +94,5 @@ registers-octets zero (x ∷ s) g = absurd (suc-ne-zero (length s) (g .size))
 registers-octets (suc n) [] g = absurd (suc-ne-zero n (sym (g .size)))
 registers-octets (suc n) (r ∷ s) g =
     ap₂ {C = List ℕ} _∷_
-    (number-append 8 (octetsOf 8 r) (octetsIn s) (omega (arith, length-octets 8 r)) ∙ number-octets 8 r (g .small 0))
+    (number-append 8 0 (octetsOf 8 r) (octetsIn s) (omega (arith, length-octets 8 r)) ∙ number-octets 8 r (g .small 0))
     (ap (registers n) (drop-at (octetsOf 8 r) (octetsIn s) 8 (length-octets 8 r)) ∙ registers-octets n s (tail-registers g))

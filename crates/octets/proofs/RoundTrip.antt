@@ -6,10 +6,11 @@ use native.Mathlib.Nat.{mod-lt, div-add-mod', div-lt-iff-lt-mul, pow-suc, add-ze
 use native.Mathlib.Numerals.{add-one}
 use native.Mathlib.Omega.{arith}
 use lib.Dec.{lit<}
-use lib.ListN.{length, take, drop, length-append, List·getD-append}
+use lib.ListN.{length, take, drop, length-append}
 use lib.Seq.{take-suc, getD-at, getD-drop, drop-drop}
 use Rattle.octets.specs.Numbers.{oct, number, octetsOf}
 use Rattle.octets.specs.Octets.{Octets}
+use Rattle.octets.proofs.Numerals.{number-append}
 use Rattle.octets.proofs.Octets.{no-octets, one-octet, join-octets}
 
 pub length-octets : (n x : ℕ) → length (octetsOf n x) ≡ n
@@ -23,13 +24,6 @@ unfolding octetsOf
 octets-octets zero x = no-octets
 octets-octets (suc n) x =
     join-octets (octetsOf n (x / 256)) (x % 256 ∷ []) (octets-octets n (x / 256)) (one-octet (x % 256) [] (mod-lt x (lit< tt)) no-octets)
-
--- a number looks at its own octets alone
-pub number-append : (n : ℕ) (s t : List ℕ) → n ≤ length s → number n (s ++ t) ≡ number n s
-unfolding number
-number-append zero s t h = refl
-number-append (suc n) s t h =
-    ap₂ (λ (x y : ℕ). x * 256 + y) (number-append n s t (omega arith)) (List·getD-append s t 0 n h)
 
 pub number-lt : (n : ℕ) (s : List ℕ) → Octets s → number n s < 256 ^ n
 unfolding number
@@ -45,7 +39,7 @@ unfolding number octetsOf
 number-octets zero x h = omega arith
 number-octets (suc n) x h =
     ap₂ (λ (a b : ℕ). a * 256 + b)
-    (number-append n (octetsOf n (x / 256)) (x % 256 ∷ []) (omega (arith, length-octets n (x / 256)))
+    (number-append n 0 (octetsOf n (x / 256)) (x % 256 ∷ []) (omega (arith, length-octets n (x / 256)))
     ∙ number-octets n (x / 256) (shorter n x h))
     (getD-at (octetsOf n (x / 256)) (x % 256) [] 0 n (length-octets n (x / 256)))
     ∙ div-add-mod' x 256
