@@ -1,16 +1,16 @@
 -- What a schedule holds, and how it is made. Assumes nothing.
 use mathlib.Core.Path.{_≡_, refl, sym, ap, ap₂, _∙_}
 use mathlib.Core.List.{List, [], _∷_, _++_, append-assoc}
-use Prim.Native.Nat.{ℕ, zero, suc, _+_, _*_, _/_, _-_, _<_, _≤_}
+use Prim.Native.Nat.{ℕ, _+_, _*_, _/_, _-_, _<_, _≤_}
 use native.Mathlib.Nat.{zero-add, add-zero}
 use native.Mathlib.Omega.{arith}
 use lib.Dec.{T}
-use lib.ListN.{length, getD, set, take, drop, replicate, length-append, length-replicate, replicate-append-replicate, List·getD-append}
+use lib.ListN.{length, set, take, drop, replicate, length-append, length-replicate, replicate-append-replicate, List·getD-append}
 use lib.Seq.{getD-take, getD-drop, take-at, drop-at, getD-at, take-length, drop-append-add, drop-append-le, drop-drop, paste}
 use Rattle.octets.specs.Numbers.{oct}
 use Rattle.octets.specs.Octets.{Octets}
 use Rattle.octets.proofs.Generate.{gen-same}
-use Rattle.fips197.specs.Key.{isKey, Key, wordsOf, roundsOf}
+use Rattle.fips197.specs.Key.{isKey, wordsOf, roundsOf}
 use Rattle.fips197.specs.Sbox.{sbox, inv-sbox}
 use Rattle.fips197.specs.Expansion.{word, grow, keyExpansion}
 use Rattle.fips197.specs.Cipher.{roundKey}

@@ -11,7 +11,7 @@ use Rattle.fips197.specs.Expansion.{keyExpansion}
 use Rattle.fips197.specs.Cipher.{roundKey, round, rounds, cipherWith, invRound, invRounds, invCipherWith, cipher, invCipher}
 use Rattle.aes.specs.Schedule.{Schedules}
 use Rattle.aes.specs.inner.Parts.{tableOf}
-use Rattle.aes.proofs.Held.{table-is, rounds-is, round-key-is, length-sbox, length-inv-sbox}
+use Rattle.aes.proofs.Held.{rounds-is, round-key-is, length-sbox, length-inv-sbox}
 
 module _ (w t₀ : List ℕ) (e : tableOf w ≡ sbox) where
   substituted : {s t : List ℕ} → t ≡ substitute (tableOf w) s → {u : List ℕ} → s ≡ u → t ≡ subBytes u

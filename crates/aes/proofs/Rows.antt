@@ -1,10 +1,10 @@
 -- Rows and columns of the matrices, from products with x alone. Assumes nothing.
-use mathlib.Core.Path.{_≡_, refl, sym, ap, ap₂, _∙_}
+use mathlib.Core.Path.{_≡_, ap, ap₂, _∙_}
 use mathlib.Core.List.{List, [], _∷_}
 use Prim.Native.Nat.{ℕ}
 use lib.Bits.{bitXor}
 use Rattle.octets.specs.Numbers.{oct}
-use Rattle.octets.proofs.Xor.{Sum, none, term, plus, same-sum}
+use Rattle.octets.proofs.Xor.{none, term, plus, same-sum}
 use Rattle.fips197.specs.Field.{xtimes}
 use Rattle.fips197.specs.Steps.{mixRow, mixBy}
 use Rattle.fips197.proofs.Field.{xtimes-linear}

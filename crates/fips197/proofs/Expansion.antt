@@ -1,8 +1,8 @@
 -- The expanded key: its length, and that it holds octets. Assumes nothing.
-use mathlib.Core.Path.{_≡_, refl, sym, ap, _∙_, subst}
+use mathlib.Core.Path.{_≡_, sym, _∙_}
 use mathlib.Core.Bool.{Bool, true, false, cond, _&&_, _||_}
-use mathlib.Core.Logic.{_⊎_, inl, inr, ⊎-elim}
-use mathlib.Core.List.{List, [], _∷_, _++_}
+use mathlib.Core.Logic.{_⊎_, inl, inr}
+use mathlib.Core.List.{List, [], _∷_}
 use Prim.Native.Nat.{ℕ, zero, suc, _+_, _*_, _/_, _%_, _-_, _<_}
 use native.Mathlib.Nat.{add-zero}
 use native.Mathlib.Omega.{arith}
@@ -10,14 +10,13 @@ use lib.Dec.{T, eqb, eqb→eq, ltb, lit<}
 use lib.ListN.{length, length-append}
 use lib.Bits.{bitXor, xor-lt}
 use Rattle.octets.specs.Numbers.{oct}
-use Rattle.octets.specs.Generate.{gen}
 use Rattle.octets.specs.Octets.{Octets}
 use Rattle.octets.proofs.Octets.{no-octets, one-octet, join-octets}
 use Rattle.octets.proofs.Generate.{gen-octets}
-use Rattle.fips197.specs.Key.{isKey, Key, wordsOf, roundsOf}
+use Rattle.fips197.specs.Key.{isKey, wordsOf, roundsOf}
 use Rattle.fips197.specs.Field.{power}
 use Rattle.fips197.specs.Sbox.{sbox}
-use Rattle.fips197.specs.Expansion.{word, xorWord, rotWord, subWord, rcon, temp, extend, grow, keyExpansion}
+use Rattle.fips197.specs.Expansion.{word, xorWord, rotWord, subWord, rcon, temp, grow, keyExpansion}
 use Rattle.fips197.proofs.Field.{power-lt}
 use Rattle.fips197.proofs.Sbox.{sbox-octets}
 

@@ -1,13 +1,13 @@
 -- GF(2^8): products are octets and are linear, and two linear maps that agree at x^0, .., x^(n-1) agree at each number below 2^n.
 -- Assumes nothing.
 use mathlib.Core.Path.{_≡_, refl, sym, ap, ap₂, _∙_, subst}
-use Prim.Native.Nat.{ℕ, zero, suc, _+_, _*_, _/_, _%_, _^_, _<_}
+use Prim.Native.Nat.{ℕ, zero, suc, _*_, _/_, _%_, _^_, _<_}
 use native.Mathlib.Nat.{mod-lt, add-zero, not-suc-le-zero, le-of-suc-le-suc, div-add-mod'}
 use native.Mathlib.Nat.{div-lt-iff-lt-mul, pow-suc, zero-mul, one-mul, mul-comm}
 use native.Mathlib.Omega.{arith}
 use lib.Dec.{lit<}
 use lib.Pow.{pow-pos}
-use lib.Bits.{bitXor, xor-lt, xor-shr, xor-mod, xor-block, xor-self, xor-shifted, xor-zero-r}
+use lib.Bits.{bitXor, xor-lt, xor-shr, xor-mod, xor-block, xor-self, xor-shifted}
 use Rattle.octets.proofs.Xor.{xor-medial}
 use Rattle.fips197.specs.Field.{xtimes, keep, times, gmul, power}
 

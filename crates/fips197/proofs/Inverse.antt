@@ -7,7 +7,7 @@ use Rattle.octets.specs.Octets.{Octets}
 use Rattle.octets.proofs.Generate.{gen-octets}
 use Rattle.fips197.specs.Block.{Block}
 use Rattle.fips197.specs.Key.{Key, roundsOf}
-use Rattle.fips197.specs.Steps.{subBytes, shiftRows, mixColumns, addRoundKey, invSubBytes, invShiftRows, invMixColumns}
+use Rattle.fips197.specs.Steps.{addRoundKey, invSubBytes, invShiftRows, invMixColumns}
 use Rattle.fips197.specs.Expansion.{keyExpansion}
 use Rattle.fips197.specs.Cipher.{roundKey, round, rounds, cipherWith, invRound, invRounds, invCipherWith, cipher, invCipher}
 use Rattle.fips197.proofs.Expansion.{expansion-octets}

@@ -1,11 +1,10 @@
 -- The matrices of MIXCOLUMNS() and INVMIXCOLUMNS() undo each other, in both orders, by tests at x^0, .., x^7. Assumes nothing.
-use mathlib.Core.Path.{_≡_, refl, sym, ap, ap₂, _∙_}
-use mathlib.Core.Bool.{_&&_}
-use mathlib.Core.List.{List, [], _∷_}
+use mathlib.Core.Path.{_≡_, refl, ap, ap₂, _∙_}
+use mathlib.Core.List.{[], _∷_}
 use Prim.Native.Nat.{ℕ, _^_, _<_}
 use lib.Dec.{T, eqb, eqb→eq}
 use lib.Bits.{bitXor, xor-lt, xor-zero-r}
-use Rattle.octets.proofs.Xor.{Sum, term, plus, value, same-sum, xor-medial}
+use Rattle.octets.proofs.Xor.{Sum, term, plus, same-sum}
 use Rattle.octets.proofs.Table.{all-below, below}
 use Rattle.fips197.specs.Field.{xtimes, gmul}
 use Rattle.fips197.specs.Steps.{mixRow}

@@ -7,7 +7,7 @@ use lib.Bits.{bitXor}
 use borrow.Author.Tests.{eq-eqb, ne-eqb}
 use Rattle.octets.specs.Numbers.{oct}
 use Rattle.octets.specs.Octets.{Octets}
-use Rattle.octets.proofs.Table.{both-left, both-right, all-below, below, elems-lt}
+use Rattle.octets.proofs.Table.{both-left, both-right, below, elems-lt}
 use Rattle.fips197.specs.Field.{xtimes, gmul}
 use Rattle.fips197.specs.Sbox.{sbox, inv-sbox, rotl, affine, Substitutes}
 

@@ -2,7 +2,6 @@
 use mathlib.Core.Path.{_≡_, refl, sym, ap, _∙_}
 use mathlib.Core.List.{List}
 use Prim.Native.Nat.{ℕ, _+_, _*_, _/_, _%_, _-_, _<_}
-use lib.ListN.{length}
 use lib.Bits.{bitXor, xor-lt}
 use Rattle.octets.specs.Numbers.{oct}
 use Rattle.octets.specs.Generate.{gen}

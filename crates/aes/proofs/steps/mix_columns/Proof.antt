@@ -1,3 +1,4 @@
+-- `aes::steps::mix_columns` meets its contract. Assumes nothing.
 use Rattle.aes.proofs.Rows.{columns}
 use native.Mathlib.Omega.{arith}
 use Rattle.aes.proofs.steps.mix_columns.Statement.{statement}
