@@ -66,10 +66,10 @@ module _ (a b c d : ℕ) {e f g : ℕ} where
 
 -- four columns are the state
 pub columns : (p q r t : ℕ) (s : List ℕ) {a b c d : List ℕ}
-    → a ≡ mixedColumn p q r t (oct s 0) (oct s 1) (oct s 2) (oct s 3)
-    → b ≡ mixedColumn p q r t (oct s 4) (oct s 5) (oct s 6) (oct s 7)
-    → c ≡ mixedColumn p q r t (oct s 8) (oct s 9) (oct s 10) (oct s 11)
-    → d ≡ mixedColumn p q r t (oct s 12) (oct s 13) (oct s 14) (oct s 15)
+    → a ≡ mixedColumn p q r t s 0
+    → b ≡ mixedColumn p q r t s 4
+    → c ≡ mixedColumn p q r t s 8
+    → d ≡ mixedColumn p q r t s 12
     → _≡_ {A = List ℕ}
     (oct a 0 ∷ oct a 1 ∷ oct a 2 ∷ oct a 3 ∷ oct b 0 ∷ oct b 1 ∷ oct b 2 ∷ oct b 3
     ∷ oct c 0 ∷ oct c 1 ∷ oct c 2 ∷ oct c 3 ∷ oct d 0 ∷ oct d 1 ∷ oct d 2 ∷ oct d 3 ∷ [])

@@ -41,7 +41,7 @@ octet : (w : List ℕ) (y : ℕ) → tableOf w ≡ sbox → {x : ℕ} → x ≡ 
 octet w y e q = q ∙ ap (λ (t : List ℕ). oct t y) e
 
 module _ (nk i : ℕ) (w : List ℕ) where
-  -- lines 8 and 9: a b c d are SBOX() of word i - 1, and p is the round constant
+  -- where Nk divides i: a b c d are SBOX() of word i - 1, and p is the round constant
   pub turned : i % nk ≡ 0 → tableOf w ≡ sbox → {a b c d p : ℕ}
       → b ≡ oct (tableOf w) (oct w (4 * (i - 1) + 1)) → p ≡ power (i / nk - 1) → c ≡ oct (tableOf w) (oct w (4 * (i - 1) + 2))
       → d ≡ oct (tableOf w) (oct w (4 * (i - 1) + 3)) → a ≡ oct (tableOf w) (oct w (4 * (i - 1)))
@@ -56,7 +56,7 @@ module _ (nk i : ℕ) (w : List ℕ) where
       plain : (y : ℕ) {x : ℕ} → x ≡ oct (tableOf w) y → x ≡ bitXor (oct sbox y) 0
       plain y q = octet w y e q ∙ sym (xor-zero-r (oct sbox y))
 
-  -- lines 10 and 11
+  -- in the middle of eight words
   pub subbed : (i % nk ≡ 0 → ⊥) → 6 < nk → i % nk ≡ 4 → tableOf w ≡ sbox → {a b c d : ℕ}
       → a ≡ oct (tableOf w) (oct w (4 * (i - 1))) → b ≡ oct (tableOf w) (oct w (4 * (i - 1) + 1))
       → c ≡ oct (tableOf w) (oct w (4 * (i - 1) + 2)) → d ≡ oct (tableOf w) (oct w (4 * (i - 1) + 3))
@@ -68,7 +68,7 @@ module _ (nk i : ℕ) (w : List ℕ) where
       ∷ octet w (oct w (j + 2)) e hc k ∷ octet w (oct w (j + 3)) e hd k ∷ [])
       ∙ sym (simp (ne-eqb _ _ h, lt-ltb _ _ l, eq-eqb _ _ m))
 
-  -- line 7 alone
+  -- word i - 1 as it is
   left : four-at w (4 * (i - 1)) ≡ word w (i - 1)
   left = λ k. first w (4 * (i - 1)) k ∷ oct w (4 * (i - 1) + 1) ∷ oct w (4 * (i - 1) + 2) ∷ oct w (4 * (i - 1) + 3) ∷ []
 

@@ -1,6 +1,6 @@
 // The transformations of the state: FIPS 197, sections 5.1.1 to 5.1.4 and 5.3.1 to 5.3.4. The S-box stands in the schedule at 240.
 ghost use mathlib.Core.Path.{_≡_};
-ghost use Prim.Native.Nat.{_<_};
+ghost use Prim.Native.Nat.{_<_, _≤_};
 ghost use Rattle.octets.specs.Numbers.{oct};
 ghost use Rattle.fips197.specs.Field.{xtimes};
 ghost use Rattle.fips197.specs.Steps.{substitute, shiftRows, mixRow, mixColumns, addRoundKey, invShiftRows, invMixColumns};
@@ -99,10 +99,15 @@ pub fn inv_mix_row(a: u8, b: u8, c: u8, d: u8) -> u8
     times2((a ^ b) ^ f) ^ (b ^ (c ^ d))
 }
 
-// A column times the matrix of MIXCOLUMNS().
-pub fn mix_column(a: u8, b: u8, c: u8, d: u8) -> [u8; 4]
-    ensures { λ r. ⌜ r ≡ mixedColumn 2 3 1 1 a b c d ⌝ }
+// The column from `at` on, times the matrix of MIXCOLUMNS().
+pub fn mix_column(s: [u8; 16], at: usize) -> [u8; 4]
+    requires { ⌜ at ≤ 12 ⌝ }
+    ensures { λ r. ⌜ r ≡ mixedColumn 2 3 1 1 s at ⌝ }
 {
+    let a = s[at];
+    let b = s[at + 1];
+    let c = s[at + 2];
+    let d = s[at + 3];
     [
         mix_row(a, b, c, d),
         mix_row(b, c, d, a),
@@ -111,10 +116,15 @@ pub fn mix_column(a: u8, b: u8, c: u8, d: u8) -> [u8; 4]
     ]
 }
 
-// A column times the matrix of INVMIXCOLUMNS().
-pub fn inv_mix_column(a: u8, b: u8, c: u8, d: u8) -> [u8; 4]
-    ensures { λ r. ⌜ r ≡ mixedColumn 14 11 13 9 a b c d ⌝ }
+// The column from `at` on, times the matrix of INVMIXCOLUMNS().
+pub fn inv_mix_column(s: [u8; 16], at: usize) -> [u8; 4]
+    requires { ⌜ at ≤ 12 ⌝ }
+    ensures { λ r. ⌜ r ≡ mixedColumn 14 11 13 9 s at ⌝ }
 {
+    let a = s[at];
+    let b = s[at + 1];
+    let c = s[at + 2];
+    let d = s[at + 3];
     [
         inv_mix_row(a, b, c, d),
         inv_mix_row(b, c, d, a),
@@ -127,10 +137,10 @@ pub fn inv_mix_column(a: u8, b: u8, c: u8, d: u8) -> [u8; 4]
 pub fn mix_columns(s: [u8; 16]) -> [u8; 16]
     ensures { λ r. ⌜ r ≡ mixColumns s ⌝ }
 {
-    let a = mix_column(s[0], s[1], s[2], s[3]);
-    let b = mix_column(s[4], s[5], s[6], s[7]);
-    let c = mix_column(s[8], s[9], s[10], s[11]);
-    let d = mix_column(s[12], s[13], s[14], s[15]);
+    let a = mix_column(s, 0);
+    let b = mix_column(s, 4);
+    let c = mix_column(s, 8);
+    let d = mix_column(s, 12);
     [
         a[0],
         a[1],
@@ -155,10 +165,10 @@ pub fn mix_columns(s: [u8; 16]) -> [u8; 16]
 pub fn inv_mix_columns(s: [u8; 16]) -> [u8; 16]
     ensures { λ r. ⌜ r ≡ invMixColumns s ⌝ }
 {
-    let a = inv_mix_column(s[0], s[1], s[2], s[3]);
-    let b = inv_mix_column(s[4], s[5], s[6], s[7]);
-    let c = inv_mix_column(s[8], s[9], s[10], s[11]);
-    let d = inv_mix_column(s[12], s[13], s[14], s[15]);
+    let a = inv_mix_column(s, 0);
+    let b = inv_mix_column(s, 4);
+    let c = inv_mix_column(s, 8);
+    let d = inv_mix_column(s, 12);
     [
         a[0],
         a[1],

@@ -1,5 +1,5 @@
--- FIPS 197, section 3.1: "The input and output of the AES block ciphers are blocks of 128 bits", and 3.4: the state holds the 16 octets
--- column after column, s[r, c] = in[r + 4c].
+-- FIPS 197, section 3.1: input and output are blocks of 128 bits; section 3.4: the state holds the 16 octets column after column,
+-- s[r, c] = in[r + 4c].
 use mathlib.Core.Path.{_≡_}
 use mathlib.Core.List.{List}
 use Prim.Native.Nat.{ℕ}

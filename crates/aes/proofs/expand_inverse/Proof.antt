@@ -1,3 +1,4 @@
+-- `aes::expand_inverse` meets its contract. Assumes nothing.
 use mathlib.Core.Path.{refl}
 use Rattle.fips197.specs.Sbox.{inv-sbox}
 use Rattle.aes.proofs.Held.{retabled}

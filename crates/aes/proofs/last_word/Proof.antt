@@ -1,3 +1,4 @@
+-- `aes::last_word` meets its contract. Assumes nothing.
 use native.Mathlib.Omega.{arith}
 use Rattle.fips197.specs.Sbox.{sbox}
 use Rattle.aes.proofs.Held.{its-rounds, last-is, length-sbox}

@@ -1,3 +1,4 @@
+-- `aes::expansion::next_word` meets its contract. Assumes nothing.
 use Prim.Native.Nat.{_-_}
 use Rattle.aes.proofs.Words.{next}
 use borrow.Author.Needs.{needs}

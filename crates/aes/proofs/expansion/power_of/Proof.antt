@@ -1,3 +1,4 @@
+-- `aes::expansion::power_of` meets its contract. After i turns r is x^i. Assumes nothing.
 use mathlib.Core.Path.{_≡_, refl, sym, ap, _∙_}
 use Prim.Native.Nat.{_-_, _≤_}
 use native.Mathlib.Omega.{arith}

@@ -1,3 +1,4 @@
+-- `aes::expansion::temp_at` meets its contract. Assumes nothing.
 use native.Mathlib.Omega.{arith}
 use Rattle.aes.proofs.Words.{turned, subbed, left-long, left-short, later}
 use borrow.Author.Needs.{needs}

@@ -1,3 +1,4 @@
+-- `aes::steps::entry` meets its contract. Assumes nothing.
 use native.Mathlib.Omega.{arith}
 use Rattle.aes.proofs.Held.{looked-up}
 use borrow.Author.Needs.{needs}

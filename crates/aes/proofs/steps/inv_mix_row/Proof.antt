@@ -1,3 +1,4 @@
+-- `aes::steps::inv_mix_row` meets its contract. Assumes nothing.
 use Rattle.aes.proofs.Rows.{inv-row}
 use borrow.Author.Needs.{needs}
 use Rattle.aes.proofs.steps.inv_mix_row.Statement.{statement}

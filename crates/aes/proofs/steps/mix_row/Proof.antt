@@ -1,3 +1,4 @@
+-- `aes::steps::mix_row` meets its contract. Assumes nothing.
 use Rattle.aes.proofs.Rows.{row}
 use borrow.Author.Needs.{needs}
 use Rattle.aes.proofs.steps.mix_row.Statement.{statement}
