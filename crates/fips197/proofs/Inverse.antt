@@ -4,6 +4,7 @@ use mathlib.Core.List.{List}
 use Prim.Native.Nat.{ℕ, zero, suc, _+_, _*_, _-_}
 use Rattle.octets.specs.Numbers.{oct}
 use Rattle.octets.specs.Octets.{Octets}
+use Rattle.octets.proofs.Undo.{same, after}
 use Rattle.octets.proofs.Generate.{gen-octets}
 use Rattle.fips197.specs.Block.{Block}
 use Rattle.fips197.specs.Key.{Key, roundsOf}
@@ -11,7 +12,7 @@ use Rattle.fips197.specs.Steps.{addRoundKey, invSubBytes, invShiftRows, 
 use Rattle.fips197.specs.Expansion.{keyExpansion}
 use Rattle.fips197.specs.Cipher.{roundKey, round, rounds, cipherWith, invRound, invRounds, invCipherWith, cipher, invCipher}
 use Rattle.fips197.proofs.Expansion.{expansion-octets}
-use Rattle.fips197.proofs.Steps.{Undone, nothing, then, sub, unsub, shift, unshift, mix, unmix, key}
+use Rattle.fips197.proofs.Steps.{Undone, sub, unsub, shift, unshift, mix, unmix, key}
 
 module _ (w : List ℕ) (small : Octets w) where
   key-at : (r : ℕ) → Undone (λ s. addRoundKey s (roundKey w r)) (λ s. addRoundKey s (roundKey w r))
@@ -28,20 +29,20 @@ module _ (w : List ℕ) (small : Octets w) where
   regrouped (suc n) s = regrouped n (invRound w (suc n) s)
 
   round-undone : (r : ℕ) → Undone (round w r) (λ s. invSubBytes (invShiftRows (invMixColumns (addRoundKey s (roundKey w r)))))
-  round-undone r = then (then (then sub shift) mix) (key-at r)
+  round-undone r = after (after (after sub shift) mix) (key-at r)
 
   round-redone : (r : ℕ) → Undone (λ s. invSubBytes (invShiftRows (invMixColumns (addRoundKey s (roundKey w r))))) (round w r)
-  round-redone r = then (then (then (key-at r) unmix) unshift) unsub
+  round-redone r = after (after (after (key-at r) unmix) unshift) unsub
 
   rounds-undone : (n : ℕ) → Undone (rounds w n) (back n)
   unfolding back
-  rounds-undone zero = nothing
-  rounds-undone (suc n) = then (rounds-undone n) (round-undone (suc n))
+  rounds-undone zero = same
+  rounds-undone (suc n) = after (rounds-undone n) (round-undone (suc n))
 
   rounds-redone : (n : ℕ) → Undone (back n) (rounds w n)
   unfolding back
-  rounds-redone zero = nothing
-  rounds-redone (suc n) = then (round-redone (suc n)) (rounds-redone n)
+  rounds-redone zero = same
+  rounds-redone (suc n) = after (round-redone (suc n)) (rounds-redone n)
 
   -- INVCIPHER() so grouped
   backward : ℕ → List ℕ → List ℕ
@@ -53,11 +54,11 @@ module _ (w : List ℕ) (small : Octets w) where
 
   cipher-undone : (nr : ℕ) → Undone (λ s. cipherWith s nr w) (backward nr)
   unfolding cipherWith backward
-  cipher-undone nr = then (key-at 0) (then (rounds-undone (nr - 1)) (then (then sub shift) (key-at nr)))
+  cipher-undone nr = after (key-at 0) (after (rounds-undone (nr - 1)) (after (after sub shift) (key-at nr)))
 
   cipher-redone : (nr : ℕ) → Undone (backward nr) (λ s. cipherWith s nr w)
   unfolding cipherWith backward
-  cipher-redone nr = then (then (then (key-at nr) unshift) (then unsub (rounds-redone (nr - 1)))) (key-at 0)
+  cipher-redone nr = after (after (after (key-at nr) unshift) (after unsub (rounds-redone (nr - 1)))) (key-at 0)
 
 pub cipher-block : {k s : List ℕ} → Key k → Block s → Block (cipher k s)
 unfolding cipher

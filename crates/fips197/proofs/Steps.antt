@@ -7,6 +7,7 @@ use Rattle.octets.specs.Numbers.{oct}
 use Rattle.octets.specs.Generate.{gen}
 use Rattle.octets.specs.Octets.{Octets}
 use Rattle.octets.proofs.Generate.{gen-cong, gen-octets, gen-all}
+use Rattle.octets.proofs.Undo.{Undo}
 use Rattle.octets.proofs.Xor.{xor-twice}
 use Rattle.fips197.specs.Block.{Block, block}
 use Rattle.fips197.specs.Sbox.{sbox, inv-sbox}
@@ -23,19 +24,8 @@ pub block-all : (s : List ℕ) → Block s → block (oct s) ≡ s
 block-all s b = ap (gen (oct s) 0) (sym (b .size)) ∙ gen-all s
 
 -- f keeps blocks, and g undoes it
-pub record Undone (f g : List ℕ → List ℕ) : Type 0 where
-  pub keeps : (s : List ℕ) → Block s → Block (f s)
-  pub undone : (s : List ℕ) → Block s → g (f s) ≡ s
-
-pub nothing : Undone (λ s. s) (λ s. s)
-nothing = record { keeps = λ s b. b; undone = λ s b. refl }
-
-pub then : {f g h k : List ℕ → List ℕ} → Undone f g → Undone h k → Undone (λ s. h (f s)) (λ s. g (k s))
-then {f} {g} {h} {k} u v =
-    record {
-      keeps = λ s b. v .keeps (f s) (u .keeps s b);
-      undone = λ s b. ap g (v .undone (f s) (u .keeps s b)) ∙ u .undone s b;
-    }
+abbrev pub Undone : (List ℕ → List ℕ) → (List ℕ → List ℕ) → Type 0
+Undone f g = Undo Block f g
 
 -- f gives an octet at each place, and h of it, octet by octet, is s again
 by-octets : (s : List ℕ) → Block s → (f : ℕ → ℕ) → ((i : ℕ) → f i ≡ oct s i) → block f ≡ s
