@@ -3,3 +3,4 @@ pub mod Parts
 pub mod Sizes
 pub mod Lists
 pub mod Fill
+pub mod Place
