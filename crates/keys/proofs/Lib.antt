@@ -4,3 +4,4 @@ pub mod Sizes
 pub mod Lists
 pub mod Fill
 pub mod Place
+pub mod Rising
