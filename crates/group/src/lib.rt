@@ -10,8 +10,8 @@ pub struct Member {
     pub state: State,
 }
 
-// The answer to the question about an SA: whether the member has it and, if so, its keying octets, the octet counts of their two parts (of a
-// Rekey SA) and its condition. All else is blank.
+// The answer to the question about an SA: whether the member has it and, if so, its keying octets, the octet counts of their two parts
+// (of a Rekey SA) and its condition. All else is blank.
 pub struct SaAnswer {
     pub found: bool,
     pub octets: [u8; 68],

@@ -5,3 +5,4 @@ pub mod Lists
 pub mod Fill
 pub mod Place
 pub mod Rising
+pub mod Made

@@ -78,7 +78,8 @@ module _ {A : Type 0} (before : A → A → Bool)
   rising-keep p (b ∷ l) r =
       let f = and-parts (heads before b l) (rising before l) r in
       bool-cases (p b)
-      (λ g. rw g (and-whole (heads before b (keep p l)) (rising before (keep p l)) (heads-keep p b l (f .0) (f .1)) (rising-keep p l (f .1))))
+      (λ g. rw g (and-whole (heads before b (keep p l)) (rising before (keep p l)) (heads-keep p b l (f .0) (f .1))
+      (rising-keep p l (f .1))))
       (λ g. rw g (rising-keep p l (f .1)))
 
   heads-insert : (a b : A) (l : List A) → before b a ≡ true → heads before b l ≡ true → heads before b (insert before a l) ≡ true
@@ -98,7 +99,8 @@ module _ {A : Type 0} (before : A → A → Bool)
       (λ g.
       let h : before b a ≡ true = sym (rw g) ∙ d .0 in
       rw g
-      (and-whole (heads before b (insert before a l)) (rising before (insert before a l)) (heads-insert a b l h (f .0)) (rising-insert a l (d .1) (f .1))))
+      (and-whole (heads before b (insert before a l)) (rising before (insert before a l)) (heads-insert a b l h (f .0))
+      (rising-insert a l (d .1) (f .1))))
 
 -- ---- what is changed one by one
 module _ {A : Type 0} (f : A → A) where
