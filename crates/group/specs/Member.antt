@@ -1,6 +1,6 @@
 -- The calls on a member. "Registering, rekeying, sweeping and leaving each take the member as it was and give back the next."
 use Prim.Native.Nat.{ℕ}
-use mathlib.Core.Bool.{Bool, true, false, cond}
+use mathlib.Core.Bool.{true, false, cond}
 use mathlib.Core.List.{List, []}
 use lib.Dec.{eqb}
 use lib.ListN.{take}

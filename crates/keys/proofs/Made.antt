@@ -1,17 +1,14 @@
 -- What the constructors of the kinds make, and how a Rekey SA's octets are cut.
 use native.Mathlib.Omega.{arith}
-use Prim.Native.Nat.{ℕ, _+_, _-_, _≤_, _<_}
-use mathlib.Core.Path.{_≡_, refl, ap, sym, _∙_}
-use mathlib.Core.Bool.{Bool, true, false, cond, _&&_, false≢true}
-use mathlib.Core.List.{List, [], _∷_, _++_}
+use Prim.Native.Nat.{ℕ, _+_, _-_}
+use mathlib.Core.Path.{_≡_, ap, _∙_}
+use mathlib.Core.Bool.{true, _&&_, false≢true}
+use mathlib.Core.List.{List}
 use borrow.Author.Tests.{eq-eqb, eqb-true}
 use lib.Dec.{eqb}
 use lib.ListN.{length, take, drop, replicate, length-drop}
 use lib.Seq.{length-take-le, take-at, take-append-le, drop-append-le}
 use Rattle.keys.specs.Algorithms.{sizeOf}
-use Rattle.keys.specs.declared.kinds.MadeWrapping.{MadeWrapping}
-use Rattle.keys.specs.declared.kinds.MadeEsp.{MadeEsp}
-use Rattle.keys.specs.declared.kinds.MadeRekey.{MadeRekey}
 use Rattle.keys.specs.declared.kinds.RekeyKey.{RekeyKey}
 use Rattle.keys.specs.Kinds.{padded, wrappingOf, wrappingKey, espOf, espKey, encryptionOf, encryptionKey, rekeySizes, rekeyOf, rekeyKey, encryptionPart, keyWrapPart}
 use Rattle.keys.proofs.Cases.{bool-cases, and-parts}

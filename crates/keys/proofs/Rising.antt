@@ -1,13 +1,13 @@
 -- Lists that rise: what keeps them rising, and that their members determine them.
 use native.Mathlib.Omega.{arith}
-use Prim.Native.Nat.{ℕ, _+_, _≤_}
-use mathlib.Core.Path.{_≡_, refl, ap, sym, _∙_, subst}
-use mathlib.Core.Bool.{Bool, true, false, cond, _&&_, _||_, false≢true}
-use mathlib.Core.Logic.{_⊎_, inl, inr, ⊎-elim}
+use Prim.Native.Nat.{_+_, _≤_}
+use mathlib.Core.Path.{_≡_, refl, sym, _∙_, subst}
+use mathlib.Core.Bool.{Bool, true, false, _&&_, _||_, false≢true}
+use mathlib.Core.Logic.{⊎-elim}
 use mathlib.Core.List.{List, [], _∷_, map, List·Memᴰ, List·Memᴰ·head, List·Memᴰ·tail, List·Memᴰ·not-nil, List·Memᴰ·cases-cons}
 use lib.ListN.{length}
-use Rattle.keys.specs.Lists.{all, any, count, keep, heads, rising, insert}
-use Rattle.keys.proofs.Cases.{bool-cases, and-parts, and-whole, never}
+use Rattle.keys.specs.Lists.{all, count, keep, heads, rising, insert}
+use Rattle.keys.proofs.Cases.{bool-cases, and-parts, and-whole}
 
 -- ---- what some test keeps
 module _ {A : Type 0} (p q : A → Bool) where

@@ -1,7 +1,7 @@
 -- "The algorithm table: AES-GCM-16 (type 1, ID 20, Key Length attribute 14 in bits: 128, 192, 256) needs 20, 28, 36 octets;
 -- KW_5649_128, _192, _256 (type 13) need 16, 24, 32." The IDs of type 13 are those of RFC 9838, section 9.
 use Prim.Native.Nat.{ℕ}
-use mathlib.Core.Bool.{Bool, true, false, cond, not, _&&_, _||_}
+use mathlib.Core.Bool.{Bool, cond, not, _&&_, _||_}
 use mathlib.Core.List.{List, [], _∷_}
 use lib.Dec.{eqb}
 use Rattle.keys.specs.Lists.{any}

@@ -1,20 +1,19 @@
 -- What retiring leaves of an SA, and that what is made is blank in its unused places.
 use native.Mathlib.Omega.{arith}
-use Prim.Native.Nat.{ℕ, _+_, _-_, _*_, _^_, _%_, _≤_, _<_}
+use Prim.Native.Nat.{ℕ, _+_, _-_}
 use mathlib.Core.Path.{_≡_, refl, ap, sym, _∙_}
-use mathlib.Core.Bool.{Bool, true, false, and-false}
-use mathlib.Core.List.{List, [], _∷_, _++_}
+use mathlib.Core.Bool.{true, false, and-false}
+use mathlib.Core.List.{List}
 use borrow.Author.Tests.{eq-eqb}
-use lib.Dec.{leb, eqb}
-use lib.ListN.{length, take, drop, replicate}
+use lib.Dec.{eqb}
+use lib.ListN.{length, take, replicate}
 use lib.Seq.{take-at, take-append-seam}
 use Rattle.keys.specs.Algorithms.{sizeOf}
 use Rattle.keys.specs.Kinds.{padded, espOf, rekeyOf, rekeySizes}
 use Rattle.sa.specs.declared.entry.Condition.{Condition}
 use Rattle.sa.specs.declared.entry.Condition.the-variants.{Live, Retiring}
 use Rattle.sa.specs.declared.entry.Sa.{Sa}
-use Rattle.sa.specs.Clock.{elapsed, elapsedAtLeast}
-use Rattle.sa.specs.Entry.{esp, rekey, spiOf, before, named, formed, isLive, liveRekey, due, retiredBy, retired, espSa, rekeySa}
+use Rattle.sa.specs.Entry.{rekey, before, formed, isLive, liveRekey, retiredBy, retired, espSa, rekeySa}
 use Rattle.sa.specs.Blank.{Blank}
 
 -- ---- retiring leaves an SA's name and octets

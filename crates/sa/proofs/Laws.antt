@@ -1,14 +1,13 @@
 -- What the code of an SA finds is what the definitions say.
 use native.Mathlib.Omega.{arith}
 use Prim.Native.Nat.{ℕ, _+_, _-_, _*_, _≤_, _<_, _^_, _%_}
-use mathlib.Core.Path.{_≡_, refl, ap, sym, _∙_}
+use mathlib.Core.Path.{_≡_, ap, sym, _∙_}
 use mathlib.Core.Bool.{Bool, true, false}
 use mathlib.Core.List.{List, _++_}
-use borrow.Author.Tests.{lt-ltb, le-ltb, eq-eqb, ne-eqb}
+use borrow.Author.Tests.{le-ltb, eq-eqb, ne-eqb}
 use lib.Dec.{leb, eqb}
 use lib.ListN.{take, drop, replicate, length}
 use Rattle.octets.specs.Compare.{less, same}
-use Rattle.keys.specs.Algorithms.{sizeOf}
 use Rattle.keys.specs.Kinds.{padded, rekeySizes}
 use Rattle.keys.specs.declared.kinds.EspKey.{EspKey}
 use Rattle.keys.specs.declared.kinds.RekeyKey.{RekeyKey}
@@ -16,8 +15,8 @@ use Rattle.keys.proofs.Parts.{copied}
 use Rattle.sa.specs.declared.entry.Condition.{Condition}
 use Rattle.sa.specs.declared.entry.Condition.the-variants.{Live, Retiring}
 use Rattle.sa.specs.declared.entry.Sa.{Sa}
-use Rattle.sa.specs.Clock.{elapsed, elapsedAtLeast}
-use Rattle.sa.specs.Entry.{esp, rekey, spiSize, spiOf, before, named, formed, isLive, liveRekey, dueBy, due, retiredBy, retired, withCondition, saOf, espSa, rekeySa}
+use Rattle.sa.specs.Clock.{elapsedAtLeast}
+use Rattle.sa.specs.Entry.{esp, rekey, spiSize, spiOf, before, named, formed, liveRekey, dueBy, due, retiredBy, retired, withCondition, saOf, espSa, rekeySa}
 
 -- ---- the clock
 -- the wrapping difference is the one number below 2^32 that makes up the tick

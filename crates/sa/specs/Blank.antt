@@ -1,9 +1,7 @@
 -- The unused places of an SA, which are 0 in every SA that is made: the 12 octets behind an ESP SPI, octets behind the keying octets,
 -- an ESP SA's part counts.
-use Prim.Native.Nat.{ℕ, _-_}
 use mathlib.Core.Path.{_≡_}
-use mathlib.Core.List.{List}
-use lib.ListN.{length, take, drop, replicate}
+use lib.ListN.{take}
 use Rattle.keys.specs.Kinds.{padded}
 use Rattle.sa.specs.declared.entry.Sa.{Sa}
 use Rattle.sa.specs.Entry.{esp, spiOf}

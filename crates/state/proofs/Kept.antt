@@ -1,18 +1,16 @@
 -- A state that is as it must be stays so, and one that is blank in its unused places stays blank.
 use native.Mathlib.Omega.{arith}
-use Prim.Native.Nat.{ℕ, zero, suc, _+_, _-_, _≤_, _<_}
+use Prim.Native.Nat.{ℕ, _+_, _-_, _≤_, _<_}
 use mathlib.Core.Path.{_≡_, refl, ap, sym, _∙_, subst}
-use mathlib.Core.Bool.{Bool, true, false, cond, not, _&&_, _||_, false≢true}
-use mathlib.Core.Logic.{_⊎_, inl, inr, ⊎-elim}
-use mathlib.Core.List.{List, [], _∷_, _++_, List·Memᴰ, List·Memᴰ·not-nil, List·Memᴰ·cases-cons}
-use borrow.Author.Tests.{le-leb, lt-ltb, le-ltb, ltb-true, eq-eqb, ne-eqb, eqb-false}
-use lib.Dec.{leb, ltb, eqb}
-use lib.ListN.{length, take, replicate}
-use lib.Seq.{take-append-seam, take-at}
+use mathlib.Core.Bool.{true, false, _||_, false≢true}
+use mathlib.Core.Logic.{⊎-elim}
+use mathlib.Core.List.{List, [], _∷_, List·Memᴰ, List·Memᴰ·not-nil, List·Memᴰ·cases-cons}
+use borrow.Author.Tests.{le-leb, lt-ltb, le-ltb, ltb-true, eqb-false}
+use lib.Dec.{eqb}
+use lib.ListN.{length, replicate}
+use lib.Seq.{take-append-seam}
 use Rattle.keys.specs.Limits.{Limits}
 use Rattle.keys.specs.Lists.{all, any, count, rising, insert}
-use Rattle.keys.specs.Kinds.{padded, wrappingOf}
-use Rattle.keys.specs.declared.kinds.MadeWrapping.{MadeWrapping}
 use Rattle.keys.proofs.Cases.{bool-cases, lt-cases, and-parts, and-whole}
 use Rattle.keys.proofs.Rising.{length-insert, all-insert, rising-insert}
 use Rattle.table.specs.Table.{tableFormed, swept}
@@ -23,7 +21,7 @@ use Rattle.state.specs.declared.held.Held.{Held}
 use Rattle.state.specs.declared.State.{State}
 use Rattle.state.specs.Held.{blankKey, keysOf, heldOf, keyFormed, idBefore, heldFormed, noKey, keyWith, enteredKey}
 use Rattle.state.specs.State.{newState, stateFormed, withTable, sweptState}
-use Rattle.state.specs.Blank.{AllKeysBlank, no-key, one-more, StateBlank}
+use Rattle.state.specs.Blank.{AllKeysBlank, no-key, StateBlank}
 use Rattle.state.proofs.Laws.{swept-yes, swept-no}
 
 -- ---- the held list

@@ -1,12 +1,12 @@
 -- Document 01's samples of the least Message ID and of a key's size, on the definitions alone.
 use Prim.Native.Nat.{ℕ}
 use mathlib.Core.Path.{_≡_, refl}
-use mathlib.Core.Bool.{Bool, true, false}
+use mathlib.Core.Bool.{true, false}
 use lib.ListN.{replicate}
 use Rattle.keys.specs.Lists.{any}
 use Rattle.keys.specs.Algorithms.{sizeOf}
 use Rattle.keys.specs.Kinds.{wrappingKey}
-use Rattle.state.specs.declared.least.Least.the-variants.{Id, NoneAnyMore}
+use Rattle.state.specs.declared.least.Least.the-variants.{Id}
 use Rattle.state.specs.Least.{acceptable, afterId}
 
 -- "least ID 7: 6 refused (3), 7 and 9 taken; after 9, 9 refused"

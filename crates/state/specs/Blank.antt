@@ -7,7 +7,6 @@ use Rattle.keys.specs.Limits.{Limits}
 use Rattle.keys.specs.Kinds.{padded}
 use Rattle.table.specs.Blank.{TableBlank}
 use Rattle.state.specs.declared.held.HeldKey.{HeldKey}
-use Rattle.state.specs.declared.held.Held.{Held}
 use Rattle.state.specs.declared.State.{State}
 use Rattle.state.specs.Held.{keysOf, heldOf}
 

@@ -1,24 +1,24 @@
 -- A table that is as it must be stays so: swept, with SAs retired, and with one SA more.
 use native.Mathlib.Omega.{arith}
-use Prim.Native.Nat.{ℕ, zero, suc, _+_, _-_, _≤_, _<_}
-use mathlib.Core.Path.{_≡_, refl, ap, sym, _∙_}
-use mathlib.Core.Bool.{Bool, true, false, cond, not, _&&_, _||_, false≢true}
+use Prim.Native.Nat.{ℕ, zero, suc, _-_, _≤_, _<_}
+use mathlib.Core.Path.{_≡_, refl, sym, _∙_}
+use mathlib.Core.Bool.{Bool, true, false, not, _&&_, _||_, false≢true}
 use mathlib.Core.Logic.{_⊎_, inl, inr}
-use mathlib.Core.List.{List, [], _∷_, _++_, map}
+use mathlib.Core.List.{List, [], _∷_, map}
 use borrow.Author.Tests.{le-leb, leb-true, lt-ltb}
-use lib.Dec.{leb, leb·zero}
+use lib.Dec.{leb}
 use lib.ListN.{length, take, replicate, length-map}
 use lib.Seq.{take-append-seam}
 use Rattle.keys.specs.Limits.{Limits}
 use Rattle.keys.specs.Lists.{all, any, count, keep, rising, insert}
 use Rattle.keys.proofs.Cases.{bool-cases, and-parts}
 use Rattle.keys.proofs.Rising.{all-keep, count-keep, length-keep, length-insert, all-insert, count-insert, rising-keep, rising-insert, all-map, count-map, rising-map}
-use Rattle.sa.specs.Entry.{spiOf, before, named, formed, liveRekey, due, retired, blankSa}
+use Rattle.sa.specs.Entry.{spiOf, before, named, formed, liveRekey, due, blankSa}
 use Rattle.sa.specs.declared.entry.Sa.{Sa}
 use Rattle.sa.proofs.Order.{SameName, before-trans, before-total, is-named}
 use Rattle.sa.proofs.Kept.{retired-formed, retired-before-left, retired-before-right, retired-rekey}
 use Rattle.table.specs.declared.Table.{Table}
-use Rattle.table.specs.Table.{sasOf, tableOf, tableFormed, changed, swept, notDue, retiredIf, retiredWhere, retiredEsp, retiredAll, entered}
+use Rattle.table.specs.Table.{sasOf, tableOf, tableFormed, swept, notDue, retiredIf, retiredWhere, entered}
 use Rattle.table.proofs.Laws.{changed-in}
 
 -- the SAs of a table that was made of a list are that list

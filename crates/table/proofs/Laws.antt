@@ -2,23 +2,23 @@
 use native.Mathlib.Omega.{arith}
 use Prim.Native.Nat.{ℕ, _+_, _-_, _≤_, _<_}
 use mathlib.Core.Path.{_≡_, refl, ap, sym, _∙_}
-use mathlib.Core.Bool.{Bool, true, false, cond, not, _&&_}
+use mathlib.Core.Bool.{Bool, true, false, not}
 use mathlib.Core.List.{List, [], _∷_, _++_, map}
 use borrow.Author.Tests.{le-leb, lt-leb, lt-ltb, le-ltb, ne-eqb}
 use lib.Dec.{leb, eqb, eqb·suc-zero}
-use lib.ListN.{length, take, drop, getD, set, replicate}
+use lib.ListN.{length, take, drop, getD, replicate}
 use Rattle.keys.specs.Limits.{Limits}
 use Rattle.keys.specs.Kinds.{wrappingKey, keyWrapPart}
 use Rattle.keys.specs.declared.kinds.MadeWrapping.{MadeWrapping}
 use Rattle.keys.specs.Lists.{all, count, keep, rising, insert}
 use Rattle.keys.proofs.Cases.{bool-cases, lt-cases}
 use Rattle.keys.proofs.Parts.{part-cons, part-end}
-use Rattle.keys.proofs.Fill.{Filled, filled-more, written-more, filled-count, filled-all}
+use Rattle.keys.proofs.Fill.{Filled, filled-count, filled-all}
 use Rattle.sa.specs.Entry.{before, formed, liveRekey, named, due, retired, blankSa}
 use Rattle.sa.specs.declared.entry.Sa.{Sa}
 use Rattle.table.specs.declared.Table.{Table}
 use Rattle.table.specs.declared.Found.{Found}
-use Rattle.table.specs.Table.{sasOf, tableOf, tableFormed, changed, swept, notDue, emptyAt, retiredIf, entered, none, theOne, foundIn, keyOf}
+use Rattle.table.specs.Table.{sasOf, tableOf, tableFormed, changed, swept, notDue, standing, emptyAt, retiredIf, entered, none, theOne, foundIn, keyOf}
 use Rattle.table.specs.inner.Loops.{picked}
 
 -- ---- a table that was filled
@@ -105,7 +105,8 @@ empty-out limits now k t h e =
     let q : k ≡ t .count = e ∙ ap (λ (x : Table). x .count) (changed-out limits t (notDue now) h) in
     rw (lt-leb (t .count) (limits .sas) h) (ne-eqb k 0 (λ z. omega arith))
 
-pub empty-is : (limits : Limits) (now k : ℕ) (t : Table) → k ≡ swept limits now t .count → eqb k 0 ≡ emptyAt limits now t
+pub empty-is : (limits : Limits) (now k : ℕ) (t : Table) → k ≡ standing limits now t → eqb k 0 ≡ emptyAt limits now t
+unfolding standing
 empty-is limits now k t e =
     lt-cases (limits .sas) (t .count) (λ h. empty-out limits now k t h e) (λ h. empty-in limits now k t h e)
 

@@ -8,7 +8,7 @@ use Rattle.keys.specs.Lists.{all, any, count, keep, rising, insert}
 use Rattle.keys.specs.Limits.{Limits}
 use Rattle.keys.specs.Kinds.{wrappingKey, keyWrapPart}
 use Rattle.keys.specs.declared.kinds.MadeWrapping.{MadeWrapping}
-use Rattle.sa.specs.Entry.{esp, rekey, before, named, formed, liveRekey, due, retired, blankSa}
+use Rattle.sa.specs.Entry.{esp, before, named, formed, liveRekey, due, retired, blankSa}
 use Rattle.sa.specs.declared.entry.Sa.{Sa}
 use Rattle.table.specs.declared.Table.{Table}
 use Rattle.table.specs.declared.Found.{Found}
@@ -36,6 +36,10 @@ notDue now l = keep (λ (s : Sa). not (due now s)) l
 
 unfoldable pub swept : Limits → ℕ → Table → Table
 swept limits now t = changed limits (notDue now) t
+
+-- how many SAs stand in the table, those due at the tick not counted
+unfoldable pub standing : Limits → ℕ → Table → ℕ
+standing limits now t = swept limits now t .count
 
 -- "A member is empty when every SA in its table, if any, is due at the tick"
 unfoldable pub emptyAt : Limits → ℕ → Table → Bool
