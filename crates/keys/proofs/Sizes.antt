@@ -3,9 +3,9 @@ use native.Mathlib.Omega.{arith}
 use native.Mathlib.Numerals.{add-one}
 use Prim.Native.Nat.{ℕ, _+_, _≤_, _<_}
 use mathlib.Core.Path.{_≡_, refl, sym, _∙_}
-use mathlib.Core.Bool.{Bool, true, false, _||_, or-false, false≢true}
+use mathlib.Core.Bool.{Bool, true, false, not, _&&_, _||_, or-false, false≢true}
 use mathlib.Core.Logic.{_⊎_, inl, inr}
-use mathlib.Core.List.{List}
+use mathlib.Core.List.{List, [], _∷_}
 use borrow.Author.Tests.{eq-eqb, ne-eqb, eqb-true}
 use lib.Dec.{eqb}
 use lib.ListN.{length, drop, getD, drop-of-length-le}
@@ -13,7 +13,7 @@ use lib.Seq.{drop-cons}
 use Rattle.keys.specs.declared.algorithms.Row.{Row}
 use Rattle.keys.specs.declared.algorithms.Needed.the-variants.{Octets, Nothing}
 use Rattle.keys.specs.Lists.{any}
-use Rattle.keys.specs.Algorithms.{sizeOf, rowOf, neededIn}
+use Rattle.keys.specs.Algorithms.{rows, sizeOf, rowOf, neededIn, neededBy}
 use Rattle.keys.specs.Kinds.{rekeySizes}
 use Rattle.keys.proofs.Cases.{bool-cases, and-parts}
 
@@ -90,3 +90,22 @@ module _ (k i b : ℕ) (l : List Row) (j : ℕ) (d : Row) (h : j < length l) whe
 pub needed-end : (k i b : ℕ) (l : List Row) (j : ℕ) → length l ≤ j → neededIn k i b (drop j l) ≡ Nothing
 unfolding neededIn
 needed-end k i b l j h = rw (drop-of-length-le l h)
+
+-- what a row needs is a size of its transform type
+needed-any : (k i b n : ℕ) (l : List Row) → neededIn k i b l ≡ Octets n → any (λ (r : Row). eqb (r .kind) k && eqb n (r .octets)) l ≡ true
+unfolding neededIn any rowOf
+needed-any k i b n [] e = let z : _≡_ {A = ℕ} 0 1 = cc in absurd (omega arith)
+needed-any k i b n (r ∷ l) e =
+    bool-cases (eqb (r .kind) k && (eqb (r .id) i && (not (eqb k 1) || eqb (r .bits) b)))
+    (λ g.
+    let p = and-parts (eqb (r .kind) k) (eqb (r .id) i && (not (eqb k 1) || eqb (r .bits) b)) g .0 in
+    let q : Octets (r .octets) ≡ Octets n = rw g at e in
+    let m : n ≡ r .octets = cc in
+    rw (p, eq-eqb n (r .octets) m))
+    (λ g.
+    let h = needed-any k i b n l (rw g at e) in
+    bool-cases (eqb (r .kind) k && eqb n (r .octets)) (λ f. rw f) (λ f. rw f h))
+
+pub needed-size : (k i b n : ℕ) → neededBy k i b ≡ Octets n → sizeOf k n ≡ true
+unfolding neededBy sizeOf
+needed-size k i b n e = needed-any k i b n rows e

@@ -137,12 +137,25 @@ impl EncryptionKey {
 }
 
 impl EspKey {
-    // An ESP SA needs what AES-GCM-16 needs.
-    pub const GCM_128: usize = EncryptionKey::GCM_128;
+    // What AES-GCM-16 needs, with keys of 128, 192 and 256 bits.
+    pub const GCM_128: usize = 20;
 
-    pub const GCM_192: usize = EncryptionKey::GCM_192;
+    pub const GCM_192: usize = 28;
 
-    pub const GCM_256: usize = EncryptionKey::GCM_256;
+    pub const GCM_256: usize = 36;
+
+    // Whether an ESP SA can have n keying octets. Internal.
+    pub fn is_size(n: usize) -> bool
+        ensures { λ r. ⌜ r ≡ sizeOf 1 n ⌝ }
+    {
+        if n == EspKey::GCM_128 {
+            return true;
+        }
+        if n == EspKey::GCM_192 {
+            return true;
+        }
+        n == EspKey::GCM_256
+    }
 
     // The ESP keying octets of these octets.
     pub fn new(octets: &[u8]) -> MadeEsp
@@ -150,7 +163,7 @@ impl EspKey {
     {
         let n = octets.len();
         let mut out = [0u8; 36];
-        if EncryptionKey::is_size(n) {
+        if EspKey::is_size(n) {
             bytes::copy(octets, &mut out);
             let key = EspKey {
                 octets: out,

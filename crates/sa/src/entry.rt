@@ -6,7 +6,6 @@ ghost use Prim.Native.Nat.{_+_, _≤_};
 ghost use lib.ListN.{length};
 ghost use Rattle.keys.specs.Kinds.{rekeySizes};
 ghost use Rattle.sa.specs.Entry.{saOf, blankSa, spiSize, before, named, formed, liveRekey, due, retired, espSa, rekeySa};
-use keys::kinds::EncryptionKey;
 use keys::kinds::EspKey;
 use keys::kinds::RekeyKey;
 
@@ -175,7 +174,7 @@ impl Sa {
         ensures { λ r. ⌜ r ≡ formed self ⌝ }
     {
         if self.protocol == ESP {
-            return EncryptionKey::is_size(self.count);
+            return EspKey::is_size(self.count);
         }
         if self.protocol != REKEY {
             return false;

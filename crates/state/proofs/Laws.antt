@@ -2,11 +2,11 @@
 use Prim.Native.Nat.{ℕ, _+_, _-_, _≤_, _<_, _^_}
 use mathlib.Core.Path.{_≡_, ap}
 use mathlib.Core.Bool.{Bool, true, false}
-use mathlib.Core.List.{List}
+use mathlib.Core.List.{List, _++_}
 use borrow.Author.Tests.{le-leb, lt-leb, lt-ltb, le-ltb, eq-eqb, ne-eqb}
-use lib.ListN.{length, take, drop, getD}
+use lib.ListN.{length, take, drop, getD, replicate}
 use Rattle.keys.specs.Limits.{Limits}
-use Rattle.keys.specs.Lists.{all, rising}
+use Rattle.keys.specs.Lists.{all, rising, insert}
 use Rattle.keys.specs.Algorithms.{sizeOf}
 use Rattle.keys.proofs.Parts.{part-cons, part-end}
 use Rattle.table.specs.declared.Table.{Table}
@@ -17,7 +17,7 @@ use Rattle.state.specs.declared.held.HeldKey.{HeldKey}
 use Rattle.state.specs.declared.held.Held.{Held}
 use Rattle.state.specs.declared.State.{State}
 use Rattle.state.specs.Least.{afterId}
-use Rattle.state.specs.Held.{keysOf, keyFormed, idBefore, heldFormed, noKey, keyWith, heldKey}
+use Rattle.state.specs.Held.{blankKey, keysOf, heldOf, keyFormed, idBefore, heldFormed, noKey, keyWith, heldKey, enteredKey}
 use Rattle.state.specs.State.{stateFormed, withTable, sweptState, askedSa}
 
 -- ---- the least Message ID
@@ -74,6 +74,18 @@ key-is k r f e = rw (ne-eqb (k .id) 0 f) e
 pub key-zero : (k : HeldKey) → k .id ≡ 0 → false ≡ keyFormed k
 unfolding keyFormed
 key-zero k e = rw (eq-eqb (k .id) 0 e)
+
+-- ---- one key more
+module _ (limits : Limits) (a : HeldKey) (h : Held) where
+  pub entered-in : (out : List HeldKey) (k : ℕ) → h .count < limits .heldKeys →
+      out ≡ insert idBefore a (keysOf h) ++ replicate (limits .heldKeys - length (insert idBefore a (keysOf h))) blankKey →
+      k ≡ length (insert idBefore a (keysOf h)) → record { keys = out; count = k } ≡ enteredKey limits a h
+  unfolding enteredKey heldOf
+  entered-in out k g p q = rw (lt-ltb (h .count) (limits .heldKeys) g) (λ i. record { keys = p i; count = q i })
+
+  pub entered-out : limits .heldKeys ≤ h .count → h ≡ enteredKey limits a h
+  unfolding enteredKey
+  entered-out g = rw (le-ltb (h .count) (limits .heldKeys) g)
 
 -- ---- the state
 module _ (limits : Limits) (s : State) where

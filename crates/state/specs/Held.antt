@@ -4,7 +4,7 @@ use mathlib.Core.Bool.{Bool, true, false, cond, not, _&&_}
 use mathlib.Core.List.{List, [], _∷_, _++_}
 use lib.Dec.{leb, ltb, eqb}
 use lib.ListN.{length, take, replicate}
-use Rattle.keys.specs.Lists.{all, rising}
+use Rattle.keys.specs.Lists.{all, rising, insert}
 use Rattle.keys.specs.Limits.{Limits}
 use Rattle.keys.specs.Algorithms.{sizeOf}
 use Rattle.keys.specs.Kinds.{wrappingOf}
@@ -46,3 +46,7 @@ keyWith id (k ∷ l) = cond (eqb (k .id) id) (record { fits = true; key = k .key
 
 unfoldable pub heldKey : Limits → ℕ → Held → MadeWrapping
 heldKey limits id h = cond (leb (h .count) (limits .heldKeys)) (keyWith id (keysOf h)) noKey
+
+-- one key more at its place, if there is room
+unfoldable pub enteredKey : Limits → HeldKey → Held → Held
+enteredKey limits a h = cond (ltb (h .count) (limits .heldKeys)) (heldOf limits (insert idBefore a (keysOf h))) h

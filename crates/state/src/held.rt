@@ -1,10 +1,11 @@
 // The held list: the wrapping keys that a member keeps from its registration.
 ghost use mathlib.Core.Path.{_≡_};
+ghost use mathlib.Core.Bool.{_||_};
 ghost use mathlib.Core.List.{[]};
 ghost use Prim.Native.Nat.{_≤_};
 ghost use Rattle.keys.specs.Limits.{limits};
 ghost use Rattle.keys.specs.Lists.{all, rising};
-ghost use Rattle.state.specs.Held.{blankKey, keysOf, heldOf, keyFormed, idBefore, heldFormed, heldKey};
+ghost use Rattle.state.specs.Held.{blankKey, keysOf, heldOf, keyFormed, idBefore, heldFormed, heldKey, enteredKey};
 use keys::kinds::MadeWrapping;
 use keys::kinds::WrappingKey;
 use keys::limits::HELD_KEYS;
@@ -42,6 +43,16 @@ impl HeldKey {
         let k = self.key;
         WrappingKey::is_size(k.count)
     }
+}
+
+// Whether a key on its way to its place goes ahead of another: it has its place already, or its Key ID is lower.
+fn goes_ahead(placed: bool, a: HeldKey, k: HeldKey) -> bool
+    ensures { λ r. ⌜ r ≡ (placed || idBefore a k) ⌝ }
+{
+    if placed {
+        return true;
+    }
+    a.id < k.id
 }
 
 impl Held {
@@ -132,6 +143,36 @@ impl Held {
         MadeWrapping {
             fits: false,
             key: none,
+        }
+    }
+
+    // The list with one key more, at its place; the same list where it is full. Internal.
+    pub fn entered(self, a: HeldKey) -> Held
+        ensures { λ r. ⌜ r ≡ enteredKey limits a self ⌝ }
+    {
+        let n = self.count;
+        if HELD_KEYS <= n {
+            return self;
+        }
+        let mut out = [blank(); HELD_KEYS];
+        let mut carried = a;
+        let mut placed = false;
+        let mut i: usize = 0;
+        while i < n {
+            let k = self.keys[i];
+            if goes_ahead(placed, carried, k) {
+                out[i] = carried;
+                carried = k;
+                placed = true;
+            } else {
+                out[i] = k;
+            }
+            i += 1;
+        }
+        out[i] = carried;
+        Held {
+            keys: out,
+            count: n + 1,
         }
     }
 }

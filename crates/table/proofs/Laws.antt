@@ -2,11 +2,11 @@
 use native.Mathlib.Omega.{arith}
 use Prim.Native.Nat.{ℕ, _+_, _-_, _≤_, _<_}
 use mathlib.Core.Path.{_≡_, refl, ap, sym, _∙_}
-use mathlib.Core.Bool.{Bool, true, false, _||_, false≢true}
+use mathlib.Core.Bool.{Bool, true, false, not}
 use mathlib.Core.List.{List, [], _∷_, _++_, map}
 use borrow.Author.Tests.{le-leb, lt-leb, lt-ltb, le-ltb, ne-eqb}
 use lib.Dec.{leb, eqb, eqb·suc-zero}
-use lib.ListN.{length, take, drop, getD}
+use lib.ListN.{length, take, drop, getD, replicate}
 use Rattle.keys.specs.Limits.{Limits}
 use Rattle.keys.specs.Kinds.{wrappingKey, keyWrapPart}
 use Rattle.keys.specs.declared.kinds.MadeWrapping.{MadeWrapping}
@@ -18,9 +18,8 @@ use Rattle.sa.specs.Entry.{before, formed, liveRekey, named, due, retired, blan
 use Rattle.sa.specs.declared.entry.Sa.{Sa}
 use Rattle.table.specs.declared.Table.{Table}
 use Rattle.table.specs.declared.Found.{Found}
-use Rattle.table.specs.Table.{sasOf, tableOf, tableFormed, changed, swept, notDue, emptyAt, retiredIf, entered, none, theOne}
-use Rattle.table.specs.Table.{foundIn, keyOf}
-use Rattle.table.specs.inner.Loops.{picked, inPlace}
+use Rattle.table.specs.Table.{sasOf, tableOf, tableFormed, changed, swept, notDue, standing, emptyAt, retiredIf, entered, none, theOne, foundIn, keyOf}
+use Rattle.table.specs.inner.Loops.{picked}
 
 -- ---- a table that was filled
 pub table-made : (limits : Limits) (out l : List Sa) (k : ℕ) → Filled
@@ -106,7 +105,8 @@ empty-out limits now k t h e =
     let q : k ≡ t .count = e ∙ ap (λ (x : Table). x .count) (changed-out limits t (notDue now) h) in
     rw (lt-leb (t .count) (limits .sas) h) (ne-eqb k 0 (λ z. omega arith))
 
-pub empty-is : (limits : Limits) (now k : ℕ) (t : Table) → k ≡ swept limits now t .count → eqb k 0 ≡ emptyAt limits now t
+pub empty-is : (limits : Limits) (now k : ℕ) (t : Table) → k ≡ standing limits now t → eqb k 0 ≡ emptyAt limits now t
+unfolding standing
 empty-is limits now k t e =
     lt-cases (limits .sas) (t .count) (λ h. empty-out limits now k t h e) (λ h. empty-in limits now k t h e)
 
@@ -122,31 +122,14 @@ module _ (f : Found) (r : MadeWrapping) where
   key-none e g = rw e g
 
 -- ---- one SA more
-module _ (l : List Sa) (n : ℕ) (h : n ≤ length l) (j : ℕ) (d : Sa) (g : j < n) where
-  pub place-ahead : (placed : Bool) (a : Sa) → true ≡ (placed || before a (getD l j d)) →
-      inPlace placed a (drop j (take n l)) ≡ a ∷ inPlace true (getD l j d) (drop (j + 1) (take n l))
-  unfolding insert
-  place-ahead true a e = rw (part-cons l n h j d g)
-  place-ahead false a e = rw (part-cons l n h j d g, ← e)
-
-  pub place-behind : (placed : Bool) (a : Sa) → false ≡ (placed || before a (getD l j d)) →
-      inPlace placed a (drop j (take n l)) ≡ getD l j d ∷ inPlace placed a (drop (j + 1) (take n l))
-  unfolding insert
-  place-behind true a e = absurd (false≢true e)
-  place-behind false a e = rw (part-cons l n h j d g, ← e)
-
-pub place-end : (placed : Bool) (a : Sa) (l : List Sa) (n : ℕ) → n ≤ length l → (j : ℕ) → n ≤ j →
-    inPlace placed a (drop j (take n l)) ≡ a ∷ []
-unfolding insert
-place-end true a l n h j g = rw (part-end l n h j g)
-place-end false a l n h j g = rw (part-end l n h j g)
-
 module _ (limits : Limits) (a : Sa) (t : Table) where
-  pub entered-in : t .count < limits .sas → entered limits a t ≡ tableOf limits (insert before a (sasOf t))
-  unfolding entered
-  entered-in h = rw (lt-ltb (t .count) (limits .sas) h)
+  pub entered-in : (out : List Sa) (k : ℕ) → t .count < limits .sas →
+      out ≡ insert before a (sasOf t) ++ replicate (limits .sas - length (insert before a (sasOf t))) blankSa →
+      k ≡ length (insert before a (sasOf t)) → record { sas = out; count = k } ≡ entered limits a t
+  unfolding entered tableOf
+  entered-in out k h p q = rw (lt-ltb (t .count) (limits .sas) h) (λ i. record { sas = p i; count = q i })
 
-  pub entered-out : limits .sas ≤ t .count → entered limits a t ≡ t
+  pub entered-out : limits .sas ≤ t .count → t ≡ entered limits a t
   unfolding entered
   entered-out h = rw (le-ltb (t .count) (limits .sas) h)
 

@@ -37,6 +37,10 @@ notDue now l = keep (λ (s : Sa). not (due now s)) l
 unfoldable pub swept : Limits → ℕ → Table → Table
 swept limits now t = changed limits (notDue now) t
 
+-- how many SAs stand in the table, those due at the tick not counted
+unfoldable pub standing : Limits → ℕ → Table → ℕ
+standing limits now t = swept limits now t .count
+
 -- "A member is empty when every SA in its table, if any, is due at the tick"
 unfoldable pub emptyAt : Limits → ℕ → Table → Bool
 emptyAt limits now t = leb (t .count) (limits .sas) && all (due now) (sasOf t)

@@ -3,7 +3,7 @@ ghost use mathlib.Core.Path.{_≡_};
 ghost use mathlib.Core.Bool.{_||_};
 ghost use Rattle.keys.specs.Limits.{limits};
 ghost use Rattle.sa.specs.Entry.{before};
-ghost use Rattle.table.specs.Table.{swept, emptyAt, entered, retiredIf, retiredWhere, retiredEsp, retiredAll};
+ghost use Rattle.table.specs.Table.{swept, standing, emptyAt, entered, retiredIf, retiredWhere, retiredEsp, retiredAll};
 ghost use Rattle.table.specs.inner.Loops.{picked};
 use crate::Table;
 use keys::limits::SAS;
@@ -59,12 +59,19 @@ impl Table {
         Table { sas: out, count: k }
     }
 
+    // How many SAs are not due. Internal.
+    pub fn standing(self, tick: u32) -> usize
+        ensures { λ r. ⌜ r ≡ standing limits tick self ⌝ }
+    {
+        let t = self.swept(tick);
+        t.count
+    }
+
     // Whether every SA, if any, is due. Internal.
     pub fn is_empty(self, tick: u32) -> bool
         ensures { λ r. ⌜ r ≡ emptyAt limits tick self ⌝ }
     {
-        let t = self.swept(tick);
-        t.count == 0
+        self.standing(tick) == 0
     }
 
     // The table with one SA more, at its place; the same table where it is full. Internal.

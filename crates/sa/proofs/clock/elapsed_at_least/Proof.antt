@@ -1,5 +1,4 @@
 use native.Mathlib.Omega.{arith}
-use Rattle.sa.specs.Entry.{before}
 use Rattle.sa.proofs.Laws.{elapsed-is}
 use borrow.Author.Needs.{needs}
 use Rattle.sa.proofs.clock.elapsed_at_least.Statement.{statement}

@@ -1,6 +1,5 @@
 use native.Mathlib.Omega.{arith}
 use borrow.Author.Tests.{eq-eqb, ne-eqb}
-use Rattle.sa.specs.Entry.{before}
 use Rattle.sa.proofs.entry.spi_size.Statement.{statement}
 use Rattle.sa.proofs.entry.spi_size.Tie as tie
 

@@ -75,7 +75,8 @@ loop-again c =
       omega arith,
       v .4,
       ap q
-          (sym (keep-no p (m .sas) (m .count) (omega arith) (l .i) _ (omega arith) (ap not (sym (w .0 .taken) ∙ c .before .due .ensures))))
+          (sym (keep-no p (m .sas) (m .count) (omega arith) (l .i) _ (omega arith)
+          (ap not (sym (w .0 .taken) ∙ c .before .due .ensures))))
           ∙ v .5,
     )) (λ w. rw (w .1, w .2) (
       v .0,

@@ -1,4 +1,3 @@
-use Rattle.sa.specs.Entry.{before}
 use Rattle.sa.proofs.Laws.{due-live, due-retiring}
 use borrow.Author.Needs.{needs}
 use Rattle.sa.proofs.entry.Sa.due.Statement.{statement}

@@ -1,7 +1,6 @@
 use native.Mathlib.Omega.{arith}
 use mathlib.Core.Path.{_≡_, _∙_}
 use lib.ListN.{length}
-use Rattle.sa.specs.Entry.{before}
 use Rattle.sa.proofs.Laws.{esp-made}
 use borrow.Author.Needs.{needs}
 use Rattle.sa.proofs.entry.Sa.esp.Statement.{statement}

@@ -2,7 +2,7 @@ use native.Mathlib.Omega.{arith}
 use mathlib.Core.Path.{sym, refl, _∙_}
 use borrow.Author.Tests.{eq-eqb, ne-eqb}
 use Rattle.keys.proofs.Sizes.{rekey-le}
-use Rattle.sa.specs.Entry.{before, formed}
+use Rattle.sa.specs.Entry.{formed}
 use Rattle.sa.proofs.Laws.{formed-rekey}
 use borrow.Author.Needs.{needs}
 use Rattle.sa.proofs.entry.Sa.formed.Statement.{statement}

@@ -1,5 +1,5 @@
 use borrow.Author.Tests.{ne-eqb}
-use Rattle.sa.specs.Entry.{before, liveRekey}
+use Rattle.sa.specs.Entry.{liveRekey}
 use Rattle.sa.proofs.Laws.{live-rekey, retiring-rekey}
 use borrow.Author.Needs.{needs}
 use Rattle.sa.proofs.entry.Sa.is_live_rekey.Statement.{statement}

@@ -2,7 +2,7 @@ use native.Mathlib.Omega.{arith}
 use mathlib.Core.Path.{_≡_}
 use borrow.Author.Tests.{ne-eqb}
 use lib.ListN.{length}
-use Rattle.sa.specs.Entry.{before, named}
+use Rattle.sa.specs.Entry.{named}
 use Rattle.sa.proofs.Laws.{named-spi}
 use borrow.Author.Needs.{needs}
 use Rattle.sa.proofs.entry.Sa.named.Statement.{statement}

@@ -1,7 +1,6 @@
 use native.Mathlib.Omega.{arith}
 use mathlib.Core.Path.{_∙_}
 use Rattle.keys.proofs.Sizes.{rekey-le}
-use Rattle.sa.specs.Entry.{before}
 use Rattle.sa.proofs.Laws.{rekey-made}
 use borrow.Author.Needs.{needs}
 use Rattle.sa.proofs.entry.Sa.rekey.Statement.{statement}

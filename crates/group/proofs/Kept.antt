@@ -1,0 +1,35 @@
+-- A member that is as it must be stays so; what a member has made is blank in its unused places.
+use Prim.Native.Nat.{ℕ}
+use mathlib.Core.Path.{_≡_, refl}
+use mathlib.Core.Bool.{true}
+use Rattle.keys.specs.Limits.{limits}
+use Rattle.state.specs.State.{stateFormed}
+use Rattle.state.specs.Blank.{StateBlank}
+use Rattle.state.proofs.Kept.{new-state-formed, swept-state-formed, new-state-blank, swept-state-blank}
+use Rattle.group.specs.declared.Member.{Member}
+use Rattle.group.specs.Member.{newMember, sweptMember, leftMember}
+
+pub new-formed : stateFormed limits (newMember .state) ≡ true
+unfolding newMember
+new-formed = new-state-formed limits
+
+pub new-blank : StateBlank limits (newMember .state)
+unfolding newMember
+new-blank = new-state-blank limits
+
+pub swept-formed : (now : ℕ) (m : Member) → stateFormed limits (m .state) ≡ true → stateFormed limits (sweptMember now m .state) ≡ true
+unfolding sweptMember
+swept-formed now m e = swept-state-formed limits now (m .state) e
+
+pub swept-blank : (now : ℕ) (m : Member) → StateBlank limits (m .state) → StateBlank limits (sweptMember now m .state)
+unfolding sweptMember
+swept-blank now m b = swept-state-blank limits now (m .state) b
+
+-- two members that leave are one: no octet of a key remains
+pub left-same : (m n : Member) → leftMember m ≡ leftMember n
+unfolding leftMember
+left-same m n = refl
+
+pub left-new : (m : Member) → leftMember m ≡ newMember
+unfolding leftMember
+left-new m = refl
