@@ -1,1 +1,2 @@
 pub mod BagLaws
+pub mod BagGrammar

@@ -49,7 +49,7 @@ abbrev pub unreadBody : Reader Content
 unreadBody b s = whole unread []
 
 unfoldable pub body : ℕ → ℕ → Reader Content
-body k h = either (eqb k 51) gsaBody (either (eqb k 52) kdBody (either (eqb k 42) (deleteBody h) unreadBody))
+body k h b s = either (eqb k 51) (gsaBody b s) (either (eqb k 52) (kdBody b s) (either (eqb k 42) (deleteBody h b s) (unreadBody b s)))
 
 -- the payload s of the kind k, and the kind of the next
 abbrev pub payloadOf : ℕ → List ℕ → Content → Linked ℕ Payload

@@ -3,3 +3,4 @@ pub mod Delete
 pub mod Frame
 pub mod Exchange
 pub mod Answers
+pub mod Grammar

@@ -1,3 +1,4 @@
 pub mod Selector
 pub mod Transform
 pub mod Policy
+pub mod Grammar
