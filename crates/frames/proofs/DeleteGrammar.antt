@@ -1,11 +1,11 @@
 -- The SPIs of a Delete payload: cut into stretches exactly when they are the SPIs one after the other.
-use Prim.Native.Nat.{ℕ, zero, suc, _+_, _-_, _*_, _<_, _≤_}
-use mathlib.Core.Path.{_≡_, refl, ap, sym, _∙_, subst}
+use Prim.Native.Nat.{ℕ, zero, suc, _+_, _-_, _*_}
+use mathlib.Core.Path.{_≡_, refl, ap, sym, _∙_}
 use mathlib.Core.List.{List, [], _∷_, _++_}
 use mathlib.Core.Bool.{Bool, true, false}
 use native.Mathlib.Nat.{mul-suc, mul-zero}
 use native.Mathlib.Omega.{arith}
-use borrow.Author.Tests.{le-leb, leb-true, eq-eqb, ne-eqb, eqb-true, eqb-false}
+use borrow.Author.Tests.{le-leb, leb-true, eq-eqb, eqb-true}
 use lib.Dec.{leb, eqb}
 use lib.ListN.{length, take, drop, length-append, length-drop, take-append-drop}
 use lib.Seq.{length-take-le, take-at, drop-at}
@@ -72,8 +72,10 @@ module _ (s : List ℕ) where
       let n : 4 + oct s 1 * be16 s 2 ≡ length s =
       omega (arith, ap (λ (y : ℕ). oct s 1 * y) (i .count), filled (oct s 1) (i .each), ap length (i .spis), length-drop 4 s) in
       let e : either (eqb (oct s 0) 3) (eqb (oct s 1) 4) true ≡ true = last (eqb (oct s 0) 3) refl in (
-        ap (λ (t : Bool). both t (both (eqb (4 + oct s 1 * be16 s 2) (length s)) (either (eqb (oct s 0) 3) (eqb (oct s 1) 4) true))) (le-leb 4 (length s) l)
-            ∙ ap (λ (t : Bool). both t (either (eqb (oct s 0) 3) (eqb (oct s 1) 4) true)) (eq-eqb (4 + oct s 1 * be16 s 2) (length s) n) ∙ e,
+        ap (λ (t : Bool). both t (both (eqb (4 + oct s 1 * be16 s 2) (length s)) (either (eqb (oct s 0) 3) (eqb (oct s 1) 4) true)))
+            (le-leb 4 (length s) l)
+            ∙ ap (λ (t : Bool). both t (either (eqb (oct s 0) 3) (eqb (oct s 1) 4) true)) (eq-eqb (4 + oct s 1 * be16 s 2) (length s) n)
+            ∙ e,
         λ j. record {
           protocol = i .protocol j;
           spis = ((λ h. stretches (i .count h) (oct s 1) (i .spis h)) ∙ back (oct s 1) (i .each)) j;

@@ -1,5 +1,5 @@
 -- THESE OCTETS ARE THIS PAYLOAD, THIS FRAME, with no reader in sight (RFC 7296, sections 3.1, 3.2 and 3.11).
-use Prim.Native.Nat.{ℕ, _/_, _<_, _≤_}
+use Prim.Native.Nat.{ℕ, _/_, _≤_}
 use mathlib.Core.Path.{_≡_}
 use mathlib.Core.List.{List, [], _∷_, _++_}
 use lib.ListN.{length, take, drop}

@@ -10,7 +10,8 @@ use lib.ListN.{length, take, drop, replicate, length-drop}
 use lib.Seq.{length-take-le, take-at, take-append-le, drop-append-le}
 use Rattle.keys.specs.Algorithms.{sizeOf}
 use Rattle.keys.specs.declared.kinds.RekeyKey.{RekeyKey}
-use Rattle.keys.specs.Kinds.{padded, wrappingOf, wrappingKey, espOf, espKey, encryptionOf, encryptionKey, rekeySizes, rekeyOf, rekeyKey, encryptionPart, keyWrapPart}
+use Rattle.keys.specs.Kinds.{padded, wrappingOf, wrappingKey, espOf, espKey, encryptionOf, encryptionKey, rekeySizes, rekeyOf}
+use Rattle.keys.specs.Kinds.{rekeyKey, encryptionPart, keyWrapPart}
 use Rattle.keys.proofs.Cases.{bool-cases, and-parts}
 use Rattle.keys.proofs.Sizes.{rekey-parts}
 

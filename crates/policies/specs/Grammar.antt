@@ -14,7 +14,7 @@ use Rattle.attributes.specs.declared.tables.Place.{Place}
 use Rattle.attributes.specs.declared.tables.Place.the-variants as place
 use Rattle.policies.specs.Selector.{Selector, addressSize, selectorSize}
 use Rattle.policies.specs.Transform.{Transform, noMore}
-use Rattle.policies.specs.Policy.{spiSize, GroupSaPolicy, GroupWidePolicy, Policy, groupSa, groupWide, Suite, SaBody}
+use Rattle.policies.specs.Policy.{spiSize, GroupSaPolicy, GroupWidePolicy, Policy, groupSa, groupWide, SaBody}
 
 -- TS type 1, IP protocol 1, selector length 2, start port 2, end port 2, starting and ending address (RFC 7296, section 3.13.1)
 pub record IsSelector (o : List ℕ) (x : Selector) : Type 0 where

@@ -16,7 +16,8 @@ use Rattle.sa.specs.declared.entry.Condition.{Condition}
 use Rattle.sa.specs.declared.entry.Condition.the-variants.{Live, Retiring}
 use Rattle.sa.specs.declared.entry.Sa.{Sa}
 use Rattle.sa.specs.Clock.{elapsedAtLeast}
-use Rattle.sa.specs.Entry.{esp, rekey, spiSize, spiOf, before, named, formed, liveRekey, dueBy, due, retiredBy, retired, withCondition, saOf, espSa, rekeySa}
+use Rattle.sa.specs.Entry.{esp, rekey, spiSize, spiOf, before, named, formed, liveRekey, dueBy, due, retiredBy, retired}
+use Rattle.sa.specs.Entry.{withCondition, saOf, espSa, rekeySa}
 
 -- ---- the clock
 -- the wrapping difference is the one number below 2^32 that makes up the tick

@@ -12,7 +12,8 @@ use lib.Seq.{take-append-seam}
 use Rattle.keys.specs.Limits.{Limits}
 use Rattle.keys.specs.Lists.{all, any, count, keep, rising, insert}
 use Rattle.keys.proofs.Cases.{bool-cases, and-parts}
-use Rattle.keys.proofs.Rising.{all-keep, count-keep, length-keep, length-insert, all-insert, count-insert, rising-keep, rising-insert, all-map, count-map, rising-map}
+use Rattle.keys.proofs.Rising.{all-keep, count-keep, length-keep, length-insert, all-insert, count-insert, rising-keep, rising-insert}
+use Rattle.keys.proofs.Rising.{all-map, count-map, rising-map}
 use Rattle.sa.specs.Entry.{spiOf, before, named, formed, liveRekey, due, blankSa}
 use Rattle.sa.specs.declared.entry.Sa.{Sa}
 use Rattle.sa.proofs.Order.{SameName, before-trans, before-total, is-named}

@@ -2,7 +2,7 @@
 use native.Mathlib.Omega.{arith}
 use Prim.Native.Nat.{ℕ, _+_, _-_, _≤_, _<_}
 use mathlib.Core.Path.{_≡_, refl, ap, sym, _∙_}
-use mathlib.Core.Bool.{Bool, true, false, not}
+use mathlib.Core.Bool.{Bool, true, false}
 use mathlib.Core.List.{List, [], _∷_, _++_, map}
 use borrow.Author.Tests.{le-leb, lt-leb, lt-ltb, le-ltb, ne-eqb}
 use lib.Dec.{leb, eqb, eqb·suc-zero}
@@ -18,7 +18,8 @@ use Rattle.sa.specs.Entry.{before, formed, liveRekey, named, due, retired, blan
 use Rattle.sa.specs.declared.entry.Sa.{Sa}
 use Rattle.table.specs.declared.Table.{Table}
 use Rattle.table.specs.declared.Found.{Found}
-use Rattle.table.specs.Table.{sasOf, tableOf, tableFormed, changed, swept, notDue, standing, emptyAt, retiredIf, entered, none, theOne, foundIn, keyOf}
+use Rattle.table.specs.Table.{sasOf, tableOf, tableFormed, changed, swept, notDue, standing, emptyAt, retiredIf, entered, none}
+use Rattle.table.specs.Table.{theOne, foundIn, keyOf}
 use Rattle.table.specs.inner.Loops.{picked}
 
 -- ---- a table that was filled
