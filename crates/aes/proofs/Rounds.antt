@@ -13,15 +13,16 @@ use Rattle.aes.specs.Schedule.{Schedules}
 use Rattle.aes.specs.inner.Parts.{tableOf}
 use Rattle.aes.proofs.Held.{rounds-is, round-key-is, length-sbox, length-inv-sbox}
 
-module _ (w t₀ : List ℕ) (e : tableOf w ≡ sbox) where
-  substituted : {s t : List ℕ} → t ≡ substitute (tableOf w) s → {u : List ℕ} → s ≡ u → t ≡ subBytes u
-  substituted h k = h ∙ ap₂ substitute e k
+-- what the schedule's table makes of the state
+substituted : {t table : List ℕ} → t ≡ table → {s u x : List ℕ} → x ≡ substitute t s → s ≡ u → x ≡ substitute table u
+substituted e h k = h ∙ ap₂ substitute e k
 
+module _ (w t₀ : List ℕ) (e : tableOf w ≡ sbox) where
   pub turn : (r : ℕ) → 1 ≤ r → {t sb sh m x : List ℕ} → t ≡ rounds w (r - 1) t₀ → sb ≡ substitute (tableOf w) t → sh ≡ shiftRows sb
       → m ≡ mixColumns sh → x ≡ addRoundKey m (roundKey w r) → x ≡ rounds w (r + 1 - 1) t₀
   turn r l a b c d f =
       f
-      ∙ ap₂ (λ (y : List ℕ) (k : ℕ). addRoundKey y (roundKey w k)) (d ∙ ap mixColumns (c ∙ ap shiftRows (substituted b a)))
+      ∙ ap₂ (λ (y : List ℕ) (k : ℕ). addRoundKey y (roundKey w k)) (d ∙ ap mixColumns (c ∙ ap shiftRows (substituted e b a)))
       (let z : r ≡ suc (r - 1) = omega arith in z)
       ∙ ap (λ (n : ℕ). rounds w n t₀) (let z : suc (r - 1) ≡ r + 1 - 1 = omega arith in z)
 
@@ -33,12 +34,9 @@ module _ (w t₀ : List ℕ) (e : tableOf w ≡ sbox) where
       ∙ ap (λ (y : List ℕ). addRoundKey y (roundKey w n))
       (d
       ∙ ap shiftRows
-      (substituted c (b ∙ ap₂ (λ (m : ℕ) (y : List ℕ). rounds w m y) (let z : r - 1 ≡ n - 1 = omega arith in z) a)))
+      (substituted e c (b ∙ ap₂ (λ (m : ℕ) (y : List ℕ). rounds w m y) (let z : r - 1 ≡ n - 1 = omega arith in z) a)))
 
 module _ (w t₀ : List ℕ) (e : tableOf w ≡ inv-sbox) where
-  inv-substituted : {s t : List ℕ} → t ≡ substitute (tableOf w) s → {u : List ℕ} → s ≡ u → t ≡ invSubBytes u
-  inv-substituted h k = h ∙ ap₂ substitute e k
-
   pub inv-turn : (n r : ℕ) (t : List ℕ) → 0 < r → {sh sb k x : List ℕ} → invRounds w r t ≡ invRounds w n t₀ → sh ≡ invShiftRows t
       → sb ≡ substitute (tableOf w) sh → k ≡ addRoundKey sb (roundKey w r) → x ≡ invMixColumns k
       → invRounds w (r - 1) x ≡ invRounds w n t₀
@@ -47,7 +45,7 @@ module _ (w t₀ : List ℕ) (e : tableOf w ≡ inv-sbox) where
       ap (invRounds w (r - 1))
       (f
       ∙ ap invMixColumns
-      (d ∙ ap₂ (λ (y : List ℕ) (j : ℕ). addRoundKey y (roundKey w j)) (inv-substituted c b) z))
+      (d ∙ ap₂ (λ (y : List ℕ) (j : ℕ). addRoundKey y (roundKey w j)) (substituted e c b) z))
       ∙ ap (λ (j : ℕ). invRounds w j t) (sym z) ∙ a
 
   pub inv-last : (s : List ℕ) (n r : ℕ) (t : List ℕ) → r ≤ 0 → {sh sb x : List ℕ} → t₀ ≡ addRoundKey s (roundKey w n)
@@ -57,7 +55,7 @@ module _ (w t₀ : List ℕ) (e : tableOf w ≡ inv-sbox) where
   inv-last s n r t h a b c d f =
       f
       ∙ ap (λ (y : List ℕ). addRoundKey y (roundKey w 0))
-      (inv-substituted d
+      (substituted e d
       (c
       ∙ ap invShiftRows
       (ap (λ (j : ℕ). invRounds w j t) (let z : 0 ≡ r = omega arith in z) ∙ b ∙ ap (invRounds w (n - 1)) a)))

@@ -1,5 +1,8 @@
 // FIPS 197, section 5.3.2, table 6.
-pub const INV_SBOX: [u8; 256] = [
+ghost use mathlib.Core.Path.{_≡_};
+ghost use Rattle.fips197.specs.Sbox.{inv-sbox};
+
+const INV_SBOX: [u8; 256] = [
     82,
     9,
     106,
@@ -257,3 +260,10 @@ pub const INV_SBOX: [u8; 256] = [
     12,
     125,
 ];
+
+// The table, as a value: the language has no static data.
+pub fn inv_sbox_table() -> [u8; 256]
+    ensures { λ r. ⌜ r ≡ inv-sbox ⌝ }
+{
+    INV_SBOX
+}

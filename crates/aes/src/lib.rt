@@ -17,9 +17,9 @@ mod steps;
 
 use expansion::grown;
 use expansion::pasted;
-use inv_sbox::INV_SBOX;
+use inv_sbox::inv_sbox_table;
 use octets::wide;
-use sbox::SBOX;
+use sbox::sbox_table;
 use steps::add_round_key;
 use steps::inv_mix_columns;
 use steps::inv_shift_rows;
@@ -46,7 +46,7 @@ pub fn expand(key: &[u8]) -> Schedule
     let nk = key.len() / 4;
     let mut start = [0u8; 497];
     start[496] = (nk + 6) as u8;
-    let table = SBOX;
+    let table = sbox_table();
     let with_table = pasted(start, 240, &table);
     let with_key = pasted(with_table, 0, key);
     let octets = grown(with_key, nk);
@@ -60,7 +60,7 @@ pub fn expand_inverse(key: &[u8]) -> InverseSchedule
 {
     let schedule = expand(key);
     let forward = schedule.octets;
-    let table = INV_SBOX;
+    let table = inv_sbox_table();
     let octets = pasted(forward, 240, &table);
     InverseSchedule { octets }
 }

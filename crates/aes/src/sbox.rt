@@ -1,5 +1,8 @@
 // FIPS 197, section 5.1.1, table 4.
-pub const SBOX: [u8; 256] = [
+ghost use mathlib.Core.Path.{_≡_};
+ghost use Rattle.fips197.specs.Sbox.{sbox};
+
+const SBOX: [u8; 256] = [
     99,
     124,
     119,
@@ -257,3 +260,10 @@ pub const SBOX: [u8; 256] = [
     187,
     22,
 ];
+
+// The table, as a value: the language has no static data.
+pub fn sbox_table() -> [u8; 256]
+    ensures { λ r. ⌜ r ≡ sbox ⌝ }
+{
+    SBOX
+}

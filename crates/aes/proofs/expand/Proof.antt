@@ -3,7 +3,6 @@ use mathlib.Core.Path.{refl}
 use Prim.Native.Nat.{_/_}
 use native.Mathlib.Omega.{arith}
 use lib.ListN.{length}
-use Rattle.fips197.specs.Sbox.{sbox}
 use Rattle.fips197.proofs.Expansion.{sizes}
 use Rattle.aes.proofs.Held.{table-made, made}
 use borrow.Author.Needs.{needs}
@@ -29,29 +28,34 @@ pasted-requires c κs = search needs
 
 pasted-requires-2 : tie.Need-pasted-requires-2
 pasted-requires-2 c κs =
-    let s = c .before .before .before in
+    let s = c .before .before .before .before in
     let z = sizes (length (s .args .key .now)) (s .pre) in
     omega (arith, z .words, z .most)
 
 grown-requires : tie.Need-grown-requires
-unfolding sbox
 grown-requires c κs =
-    let s = c .before .before .before .before in
+    let t = c .before .before .before in
+    let s = t .before .before in
     let a = s .args .key .now in
     let z = sizes (length a) (s .pre) in (
       omega (arith, z .least),
       omega (arith, z .most),
-      table-made a (s .pre) (length a / 4) refl _ (c .before .pasted .result) (c .pasted2 .result) refl (c .before .pasted .ensures)
+      table-made a (s .pre) (length a / 4) refl (t .sbox-table .result) (c .before .pasted .result) (c .pasted2 .result) (t .sbox-table .ensures)
+          (c .before .pasted .ensures)
           (c .pasted2 .ensures),
     )
 
+sbox-table-requires : tie.Need-sbox-table-requires
+sbox-table-requires c κs = search needs
+
 returns : tie.Need-returns
-unfolding sbox
 returns c =
-    let s = c .before .before .before .before .before in
+    let t = c .before .before .before .before in
+    let s = t .before .before in
     let a = s .args .key .now in
-    let k = c .before .before .before .before .shared-slice-known in
-    made a (s .pre) (length a / 4) refl _ (c .before .before .pasted .result) (c .before .pasted2 .result) refl
+    let k = t .before .shared-slice-known in
+    made a (s .pre) (length a / 4) refl (t .sbox-table .result) (c .before .before .pasted .result) (c .before .pasted2 .result)
+    (t .sbox-table .ensures)
     (c .before .before .pasted .ensures) (c .before .pasted2 .ensures) (λ i. k .given i .fits)
     (c .grown .ensures)
 
@@ -62,6 +66,7 @@ expand-spec =
     add-start
     cast-start
     array-write-start
+    sbox-table-requires
     slice-aggregate-pasted
     pasted-requires
     pasted-requires-2
