@@ -34,13 +34,15 @@ pasted-requires-2 c κs =
 
 grown-requires : tie.Need-grown-requires
 grown-requires c κs =
-    let t = c .before .before .before in
+    let p3 = c .before .before .before in
+    let t = p3 in
     let s = t .before .before in
     let a = s .args .key .now in
     let z = sizes (length a) (s .pre) in (
       omega (arith, z .least),
       omega (arith, z .most),
-      table-made a (s .pre) (length a / 4) refl (t .sbox-table .result) (c .before .pasted .result) (c .pasted2 .result) (t .sbox-table .ensures)
+      table-made a (s .pre) (length a / 4) refl (t .sbox-table .result) (c .before .pasted .result) (c .pasted2 .result)
+          (t .sbox-table .ensures)
           (c .before .pasted .ensures)
           (c .pasted2 .ensures),
     )
