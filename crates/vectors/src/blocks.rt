@@ -1,0 +1,74 @@
+// FIPS 197: appendices A, B and C.
+ghost use lib.Dec.{T};
+ghost use lib.ListN.{length};
+ghost use Rattle.fips197.specs.Key.{isKey};
+use crate::text::print;
+use crate::text::print_last;
+use octets::registers::block_of;
+
+fn print_line(kind: &[u8], name: &[u8], octets: &[u8]) {
+    print(kind);
+    print(name);
+    print(b" ");
+    print_last(octets);
+}
+
+// The cipher of a block, and the inverse cipher of what it gave.
+fn both_ways(name: &[u8], key: &[u8], block: [u8; 16])
+    requires { ⌜ T (isKey (length (now key))) ⌝ }
+{
+    let schedule = aes::expand(key);
+    let encrypted = aes::encrypt(&schedule.octets, block);
+    print_line(b"cipher ", name, &encrypted);
+    let inverse = aes::expand_inverse(key);
+    let decrypted = aes::decrypt(&inverse.octets, encrypted);
+    print_line(b"inverse ", name, &decrypted);
+}
+
+// The last word of a key's expansion.
+fn expansion(name: &[u8], key: &[u8])
+    requires { ⌜ T (isKey (length (now key))) ⌝ }
+{
+    let word = aes::last_word(aes::expand(key));
+    print_line(b"expansion ", name, &word);
+}
+
+// Appendices B and C.1 to C.3.
+pub(crate) fn ciphers() {
+    both_ways(
+        b"B",
+        b"\x2b\x7e\x15\x16\x28\xae\xd2\xa6\xab\xf7\x15\x88\x09\xcf\x4f\x3c",
+        block_of(0x3243f6a8885a308d, 0x313198a2e0370734),
+    );
+    both_ways(
+        b"C.1",
+        b"\x00\x01\x02\x03\x04\x05\x06\x07\x08\x09\x0a\x0b\x0c\x0d\x0e\x0f",
+        block_of(0x0011223344556677, 0x8899aabbccddeeff),
+    );
+    both_ways(
+        b"C.2",
+        b"\x00\x01\x02\x03\x04\x05\x06\x07\x08\x09\x0a\x0b\x0c\x0d\x0e\x0f\x10\x11\x12\x13\x14\x15\x16\x17",
+        block_of(0x0011223344556677, 0x8899aabbccddeeff),
+    );
+    both_ways(
+        b"C.3",
+        b"\x00\x01\x02\x03\x04\x05\x06\x07\x08\x09\x0a\x0b\x0c\x0d\x0e\x0f\x10\x11\x12\x13\x14\x15\x16\x17\x18\x19\x1a\x1b\x1c\x1d\x1e\x1f",
+        block_of(0x0011223344556677, 0x8899aabbccddeeff),
+    );
+}
+
+// Appendices A.1 to A.3.
+pub(crate) fn expansions() {
+    expansion(
+        b"A.1",
+        b"\x2b\x7e\x15\x16\x28\xae\xd2\xa6\xab\xf7\x15\x88\x09\xcf\x4f\x3c",
+    );
+    expansion(
+        b"A.2",
+        b"\x8e\x73\xb0\xf7\xda\x0e\x64\x52\xc8\x10\xf3\x2b\x80\x90\x79\xe5\x62\xf8\xea\xd2\x52\x2c\x6b\x7b",
+    );
+    expansion(
+        b"A.3",
+        b"\x60\x3d\xeb\x10\x15\xca\x71\xbe\x2b\x73\xae\xf0\x85\x7d\x77\x81\x1f\x35\x2c\x07\x3b\x61\x08\xd7\x2d\x98\x10\xa3\x09\x14\xdf\xf4",
+    );
+}

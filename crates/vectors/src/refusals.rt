@@ -1,0 +1,27 @@
+// Calls that must answer "no" and leave a large room as lent.
+use crate::inputs::LENT;
+use crate::text::print;
+use crate::text::print_answer;
+use keywrap::Answer;
+
+// The answer, and that the room was changed where it was.
+fn print_refusal(answer: Answer, room: &[u8]) {
+    let lent = [LENT; 272];
+    print_answer(answer);
+    if check::same(room, &lent) {
+        return print(b"\n");
+    }
+    print(b", room changed\n");
+}
+
+pub(crate) fn refused_open(key: &[u8], wrapped: &[u8]) {
+    let mut room = [LENT; 272];
+    let answer = keywrap::open(key, wrapped, &mut room);
+    print_refusal(answer, &room);
+}
+
+pub(crate) fn refused_wrap(key: &[u8], octets: &[u8]) {
+    let mut room = [LENT; 272];
+    let answer = keywrap::wrap(key, octets, &mut room);
+    print_refusal(answer, &room);
+}

@@ -1,0 +1,42 @@
+// Rooms that are too small by one, exact, and larger than needed, for 20 octets. What the room holds after the call is printed whole.
+use crate::inputs::LENT;
+use crate::inputs::first;
+use crate::inputs::key;
+use crate::inputs::plain;
+use crate::inputs::wrapped_20;
+use crate::text::print;
+use crate::text::print_answer;
+use crate::text::print_case;
+use crate::text::print_last;
+use keywrap::Answer;
+
+fn print_line(size: usize, kind: &[u8], answer: Answer, room: &[u8]) {
+    print_case(b"room ", size, kind);
+    print_case(b"", room.len(), b" ");
+    print_answer(answer);
+    print(b" ");
+    print_last(room);
+}
+
+fn wrap_into(size: usize, room: &mut [u8]) {
+    let key_octets = key(size);
+    let octets = plain(20);
+    let answer = keywrap::wrap(first(&key_octets, size), first(&octets, 20), room);
+    print_line(size, b" wrap ", answer, room);
+}
+
+fn open_into(size: usize, room: &mut [u8]) {
+    let key_octets = key(size);
+    let wrapped = wrapped_20(size);
+    let answer = keywrap::open(first(&key_octets, size), &wrapped, room);
+    print_line(size, b" open ", answer, room);
+}
+
+pub(crate) fn rooms(size: usize) {
+    wrap_into(size, &mut [LENT; 31]);
+    wrap_into(size, &mut [LENT; 32]);
+    wrap_into(size, &mut [LENT; 40]);
+    open_into(size, &mut [LENT; 19]);
+    open_into(size, &mut [LENT; 20]);
+    open_into(size, &mut [LENT; 30]);
+}

@@ -1,0 +1,40 @@
+// What the lines are made of.
+use keywrap::Answer;
+use libc::STDOUT_FILENO;
+use octets::wide;
+
+pub(crate) fn print(text: &[u8]) {
+    io::write_all(STDOUT_FILENO, text);
+}
+
+pub(crate) fn print_number(n: usize) {
+    io::print_decimal(STDOUT_FILENO, n as u64);
+}
+
+// A number between two texts.
+pub(crate) fn print_case(before: &[u8], n: usize, after: &[u8]) {
+    print(before);
+    print_number(n);
+    print(after);
+}
+
+pub(crate) fn print_octets(octets: &[u8]) {
+    let mut i = 0;
+    while i < octets.len() {
+        io::print_hex(STDOUT_FILENO, wide(octets[i]) as u64, 2);
+        i += 1;
+    }
+}
+
+// The octets and the line's end.
+pub(crate) fn print_last(octets: &[u8]) {
+    print_octets(octets);
+    print(b"\n");
+}
+
+pub(crate) fn print_answer(answer: Answer) {
+    match answer {
+        Answer::No => print(b"no"),
+        Answer::Count(n) => print_number(n),
+    }
+}
