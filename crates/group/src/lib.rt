@@ -1,6 +1,6 @@
 // A group member: what a customer of the library holds.
 ghost use mathlib.Core.Path.{_≡_};
-ghost use Rattle.group.specs.Member.{newMember, sweptMember, leftMember, answerOf, noAnswer, saAnswer};
+ghost use Rattle.group.specs.Member.{newMember, sweptMember, leftMember, answerOf, saAnswer};
 use sa::entry::Condition;
 use sa::entry::REKEY;
 use sa::entry::Sa;

@@ -6,3 +6,4 @@ pub mod Fill
 pub mod Place
 pub mod Rising
 pub mod Made
+pub mod Members

@@ -1,7 +1,6 @@
 // Changes of a table.
 ghost use mathlib.Core.Path.{_≡_};
 ghost use mathlib.Core.Bool.{_||_};
-ghost use Prim.Native.Nat.{_≤_};
 ghost use Rattle.keys.specs.Limits.{limits};
 ghost use Rattle.sa.specs.Entry.{before};
 ghost use Rattle.table.specs.Table.{swept, standing, emptyAt, entered, retiredIf, retiredWhere, retiredEsp, retiredAll};
