@@ -7,3 +7,4 @@ pub mod Place
 pub mod Rising
 pub mod Made
 pub mod Members
+pub mod Sift

@@ -1,9 +1,9 @@
 -- What sweeping and entering leave, by the members of the table.
 use Prim.Native.Nat.{ℕ, _<_}
 use mathlib.Core.Path.{_≡_, ap, sym, _∙_, subst}
-use mathlib.Core.Bool.{Bool, true, false, not}
+use mathlib.Core.Bool.{true, false, not}
 use mathlib.Core.Logic.{_⊎_}
-use mathlib.Core.List.{List, List·Memᴰ}
+use mathlib.Core.List.{List·Memᴰ}
 use borrow.Author.Tests.{lt-ltb, not-true}
 use Rattle.keys.specs.Limits.{Limits}
 use Rattle.keys.specs.Lists.{insert}
@@ -11,7 +11,7 @@ use Rattle.keys.proofs.Members.{kept-member, member-kept, inserted-member, memb
 use Rattle.sa.specs.Entry.{before, due}
 use Rattle.sa.specs.declared.entry.Sa.{Sa}
 use Rattle.table.specs.declared.Table.{Table}
-use Rattle.table.specs.Table.{sasOf, tableOf, tableFormed, changed, swept, notDue, entered}
+use Rattle.table.specs.Table.{sasOf, tableOf, tableFormed, swept, notDue, entered}
 use Rattle.table.specs.Blank.{TableBlank}
 use Rattle.table.proofs.Laws.{changed-in}
 use Rattle.table.proofs.Kept.{sas-of-table, formed-count}
