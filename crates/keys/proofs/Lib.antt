@@ -6,3 +6,5 @@ pub mod Fill
 pub mod Place
 pub mod Rising
 pub mod Made
+pub mod Members
+pub mod Sift

@@ -38,6 +38,12 @@ module _ (limits : Limits) (t : Table) (f : List Sa → List Sa) where
   unfolding changed
   changed-in h = rw (le-leb (t .count) (limits .sas) h)
 
+  pub changed-made : (out : List Sa) (k : ℕ) → t .count ≤ limits .sas →
+      out ≡ f (sasOf t) ++ replicate (limits .sas - length (f (sasOf t))) blankSa → k ≡ length (f (sasOf t)) →
+      record { sas = out; count = k } ≡ changed limits f t
+  unfolding changed tableOf
+  changed-made out k h p q = rw (le-leb (t .count) (limits .sas) h) (λ i. record { sas = p i; count = q i })
+
   pub changed-out : limits .sas < t .count → changed limits f t ≡ t
   unfolding changed
   changed-out h = rw (lt-leb (t .count) (limits .sas) h)

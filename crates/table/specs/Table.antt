@@ -30,9 +30,12 @@ tableFormed limits t =
 unfoldable pub changed : Limits → (List Sa → List Sa) → Table → Table
 changed limits f t = cond (leb (t .count) (limits .sas)) (tableOf limits (f (sasOf t))) t
 
--- "SAs due at the tick go"
+-- "SAs due at the tick go", the others stay
+abbrev pub stays : ℕ → Sa → Bool
+stays now s = not (due now s)
+
 abbrev pub notDue : ℕ → List Sa → List Sa
-notDue now l = keep (λ (s : Sa). not (due now s)) l
+notDue now l = keep (stays now) l
 
 unfoldable pub swept : Limits → ℕ → Table → Table
 swept limits now t = changed limits (notDue now) t

@@ -1,25 +1,22 @@
 use native.Mathlib.Omega.{arith}
 use Prim.Native.Nat.{_-_, _≤_}
-use mathlib.Core.Path.{_≡_, sym, refl, _∙_, ap}
-use mathlib.Core.Bool.{Bool, not}
-use mathlib.Core.List.{List, _++_}
+use mathlib.Core.Path.{_≡_, sym, _∙_, ap}
+use mathlib.Core.Bool.{not}
 use mathlib.Core.Logic.{⊎-elim}
-use lib.ListN.{length, take, drop}
+use lib.ListN.{length}
 use Rattle.keys.specs.Limits.{limits}
-use Rattle.keys.proofs.Lists.{length-of-map, keep-yes, keep-no, keep-end}
-use Rattle.keys.proofs.Fill.{Filled, filled-none, filled-more, written-more}
-use Rattle.sa.specs.Entry.{due, blankSa}
-use Rattle.sa.specs.declared.entry.Sa.{Sa}
-use Rattle.table.specs.Table.{sasOf, swept, notDue}
-use Rattle.table.proofs.Laws.{table-made, changed-in, changed-out}
+use Rattle.keys.proofs.Lists.{length-of-map}
+use Rattle.keys.proofs.Sift.{Keeping, keeping-start, keeping-no, keeping-yes, keeping-count, keeping-all}
+use Rattle.sa.specs.Entry.{blankSa}
+use Rattle.table.specs.Table.{swept, notDue, stays}
+use Rattle.table.proofs.Laws.{changed-made, changed-out}
 use borrow.Author.Needs.{needs}
 use Rattle.table.proofs.Table.swept.Statement.{statement}
 use Rattle.table.proofs.Table.swept.Tie as tie
 
 abbrev Inv-loop : tie.InvT-loop
 Inv-loop tick self n out₀ k₀ i₀ out k i =
-    (n ≤ limits .sas) × (length (self .sas) ≡ limits .sas) × (i ≤ n) × (k ≤ i) × Filled (limits .sas) blankSa out k ×
-    (take k out ++ notDue tick (drop i (take n (self .sas))) ≡ notDue tick (take n (self .sas)))
+    (n ≤ limits .sas) × (length (self .sas) ≡ limits .sas) × (i ≤ n) × Keeping (limits .sas) blankSa (stays tick) (self .sas) n out k i
 
 abbrev μ-loop : tie.MeasureT-loop
 μ-loop tick self n out₀ k₀ i₀ out k i = n - i
@@ -33,8 +30,13 @@ blank-requires c κs = search needs
 
 loop-holds : tie.Need-loop-holds Inv-loop μ-loop
 loop-holds c =
-    let e : length (c .before .before .args .t1 .sas) ≡ limits .sas = search (needs, length-of-map) in
-    (c .before .if1 .left, e, search needs, search needs, filled-none (limits .sas) blankSa _ (c .blank .ensures), refl)
+    let e : length (c .before .before .args .t1 .sas) ≡ limits .sas = search (needs, length-of-map) in (
+      c .before .if1 .left,
+      e,
+      search needs,
+      keeping-start (limits .sas) blankSa (stays (c .before .before .args .tick))
+          (c .before .before .args .t1 .sas) (c .before .before .args .t1 .count) _ (c .blank .ensures),
+    )
 
 mul-s : tie.Need-mul-s Inv-loop μ-loop
 mul-s c = search needs
@@ -46,13 +48,17 @@ due-requires : tie.Need-due-requires Inv-loop μ-loop
 due-requires c κs = search needs
 
 mul-out : tie.Need-mul-out Inv-loop μ-loop
-mul-out c = search needs
+mul-out c = let f = c .before .before .before .before .loop .inv .3 .few in search needs
 
 array-set-from-out : tie.Need-array-set-from-out Inv-loop μ-loop
-array-set-from-out c = let g = c .before .before .before .before .loop .inv .4 .long in omega arith
+array-set-from-out c =
+    let v = c .before .before .before .before .loop .inv in
+    let g = v .3 .filled .long in
+    let f = v .3 .few in
+    omega arith
 
 add-k : tie.Need-add-k Inv-loop μ-loop
-add-k c = search needs
+add-k c = let f = c .before .before .before .before .loop .inv .3 .few in search needs
 
 add-i : tie.Need-add-i Inv-loop μ-loop
 add-i c = search needs
@@ -63,44 +69,35 @@ loop-less c = search needs
 loop-again : tie.Need-loop-again Inv-loop μ-loop
 loop-again c =
     let l = c .before .before .before .before .loop in
-    let m = c .before .before .before .before .before .before .before .args .t1 in
+    let t = c .before .before .before .before .before .before .before .args .t1 in
+    let n = c .before .before .before .before .before .before .before .args .tick in
     let v = l .inv in
-    let t = c .before .before .before .before .before .before .before .args .tick in
-    let p : Sa → Bool = λ (s : Sa). not (due t s) in
-    let q : List Sa → List Sa = λ (r : List Sa). take (l .k) (l .out) ++ r in
+    let f = c .before .due .ensures in
     ⊎-elim (λ w. rw (w .1, w .2) (
       v .0,
       v .1,
       omega arith,
-      omega arith,
-      v .4,
-      ap q
-          (sym (keep-no p (m .sas) (m .count) (omega arith) (l .i) _ (omega arith)
-          (ap not (sym (w .0 .taken) ∙ c .before .due .ensures))))
-          ∙ v .5,
+      keeping-no (limits .sas) blankSa (stays n) (t .sas) (t .count) (omega arith)
+          (v .0) (l .out) (l .k) (l .i) (v .3) _ (omega arith) (ap not (sym (w .0 .taken) ∙ f)),
     )) (λ w. rw (w .1, w .2) (
       v .0,
       v .1,
       omega arith,
-      omega arith,
-      filled-more (limits .sas) blankSa (l .out) (l .k)
-          (v .4) (omega arith) _,
-      written-more (limits .sas) blankSa (l .out) (l .k) (v .4) (omega arith) _ _ ∙ ap q
-          (sym (keep-yes p (m .sas) (m .count) (omega arith) (l .i) _ (omega arith)
-          (ap not (sym (w .0 .left) ∙ c .before .due .ensures)))) ∙ v .5,
+      keeping-yes (limits .sas) blankSa (stays n) (t .sas) (t .count) (omega arith) (v .0) (l .out) (l .k) (l .i)
+          (v .3) _ (omega arith) (ap not (sym (w .0 .left) ∙ f)),
     )) (c .if2 .came)
 
 returns-2 : tie.Need-returns-2 Inv-loop μ-loop
 unfolding swept
 returns-2 c =
     let l = c .before .loop in
-    let m = c .before .before .before .before .args .t1 in
+    let t = c .before .before .before .before .args .t1 in
+    let n = c .before .before .before .before .args .tick in
     let v = l .inv in
-    let t = c .before .before .before .before .args .tick in
-    let p : Sa → Bool = λ (s : Sa). not (due t s) in
-    let e = ap (λ (r : List Sa). take (l .k) (l .out) ++ r) (sym (keep-end p (m .sas) (m .count) (omega arith) (l .i) (omega arith)))
-    ∙ v .5 in
-    table-made limits (l .out) (notDue t (sasOf m)) (l .k) (v .4) (omega arith) e ∙ sym (changed-in limits m (notDue t) (v .0))
+    let e : t .count ≡ l .i = omega arith in
+    changed-made limits t (notDue n) _ _ (v .0) (keeping-all (limits .sas) blankSa (stays n) (t .sas) (t .count) (omega arith) (v .0)
+    (l .out) (l .k) (l .i) (v .3) e) (keeping-count (limits .sas) blankSa (stays n) (t .sas) (t .count) (omega arith) (v .0) (l .out)
+    (l .k) (l .i) (v .3) e)
 
 pub swept-spec : {M : Type 1} → statement M
 swept-spec =
