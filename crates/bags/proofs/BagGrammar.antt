@@ -31,15 +31,15 @@ use Rattle.bags.proofs.BagLaws.{takes}
 abbrev sizeAt : List ℕ → ℕ
 sizeAt s = be16 s 2
 
-record Read (b : ℕ) (s : List ℕ) (x : Bag) (rest : List ℕ) : Type 0 where
-  fits : headFits s ≡ true
-  held : List Attribute
-  left : List ℕ
-  inner : attributes (placeOf (oct s 0)) (b + headSize s) (part s (headSize s) (be16 s 2)) ≡ whole held left
-  item : bagOf s held ≡ x
-  after : rest ≡ drop (be16 s 2) s
+pub record Read (b : ℕ) (s : List ℕ) (x : Bag) (rest : List ℕ) : Type 0 where
+  pub fits : headFits s ≡ true
+  pub held : List Attribute
+  pub left : List ℕ
+  pub inner : attributes (placeOf (oct s 0)) (b + headSize s) (part s (headSize s) (be16 s 2)) ≡ whole held left
+  pub item : bagOf s held ≡ x
+  pub after : rest ≡ drop (be16 s 2) s
 
-inverse : (b : ℕ) (s : List ℕ) (x : Bag) (rest : List ℕ) → bag b s ≡ whole x rest → Read b s x rest
+pub inverse : (b : ℕ) (s : List ℕ) (x : Bag) (rest : List ℕ) → bag b s ≡ whole x rest → Read b s x rest
 unfolding bag
 inverse b s x rest q =
     let w = within (headSize s) (be16 s 2) (attributes (placeOf (oct s 0))) b s in
@@ -174,10 +174,10 @@ module _ (b : ℕ) (o : List ℕ) where
       (groupKeys (record { protocol = oct o 0; spi = spiOf o; keys = saKeys (inBag (oct o 0)) (i .attributes) }))) t
       ∙ (λ j. groupKeys (record { protocol = p j; spi = sp j; keys = ks j })))
 
-sound : (b : ℕ) (s : List ℕ) (x : Bag) (rest : List ℕ) → bag b s ≡ whole x rest → Cuts IsBag s x rest
+pub sound : (b : ℕ) (s : List ℕ) (x : Bag) (rest : List ℕ) → bag b s ≡ whole x rest → Cuts IsBag s x rest
 sound = sound-of bag 4 sizeAt local IsBag to
 
-complete : (b : ℕ) (o rest : List ℕ) (x : Bag) → IsBag o x → bag b (o ++ rest) ≡ whole x rest
+pub complete : (b : ℕ) (o rest : List ℕ) (x : Bag) → IsBag o x → bag b (o ++ rest) ≡ whole x rest
 complete = complete-of bag 4 sizeAt local IsBag from
 
 pub bags-read : {s : List ℕ} {l : List Bag} → Bags s l → (b : ℕ) → bags b s ≡ whole l []

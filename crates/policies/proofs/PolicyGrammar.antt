@@ -90,13 +90,13 @@ module _ (h : ℕ) (p : Place) where
 abbrev sizeAt : List ℕ → ℕ
 sizeAt s = be16 s 2
 
-record Read (b : ℕ) (s : List ℕ) (x : Policy) (rest : List ℕ) : Type 0 where
-  fits : headFits s ≡ true
-  left : List ℕ
-  inner : policyHolds b s (b + headSize s) (part s (headSize s) (be16 s 2)) ≡ whole x left
-  after : rest ≡ drop (be16 s 2) s
+pub record Read (b : ℕ) (s : List ℕ) (x : Policy) (rest : List ℕ) : Type 0 where
+  pub fits : headFits s ≡ true
+  pub left : List ℕ
+  pub inner : policyHolds b s (b + headSize s) (part s (headSize s) (be16 s 2)) ≡ whole x left
+  pub after : rest ≡ drop (be16 s 2) s
 
-inverse : (b : ℕ) (s : List ℕ) (x : Policy) (rest : List ℕ) → policy b s ≡ whole x rest → Read b s x rest
+pub inverse : (b : ℕ) (s : List ℕ) (x : Policy) (rest : List ℕ) → policy b s ≡ whole x rest → Read b s x rest
 unfolding policy
 inverse b s x rest q =
     let f = inverse-opened b (headFits s) (within (headSize s) (be16 s 2) (policyHolds b s) b s) x rest q in
@@ -291,10 +291,10 @@ module _ (b : ℕ) (o : List ℕ) where
         initialMessageIds = ids j;
       })) []))
 
-sound : (b : ℕ) (s : List ℕ) (x : Policy) (rest : List ℕ) → policy b s ≡ whole x rest → Cuts IsPolicy s x rest
+pub sound : (b : ℕ) (s : List ℕ) (x : Policy) (rest : List ℕ) → policy b s ≡ whole x rest → Cuts IsPolicy s x rest
 sound = sound-of policy 4 sizeAt local IsPolicy to
 
-complete : (b : ℕ) (o rest : List ℕ) (x : Policy) → IsPolicy o x → policy b (o ++ rest) ≡ whole x rest
+pub complete : (b : ℕ) (o rest : List ℕ) (x : Policy) → IsPolicy o x → policy b (o ++ rest) ≡ whole x rest
 complete = complete-of policy 4 sizeAt local IsPolicy from
 
 pub policies-read : {s : List ℕ} {l : List Policy} → Policies s l → (b : ℕ) → policies b s ≡ whole l []
