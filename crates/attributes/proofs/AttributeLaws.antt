@@ -73,7 +73,8 @@ pub record IsRead (s : List ℕ) (short : Bool) (kind a e : ℕ) : Type 0 where
 pub read-is : (s : List ℕ) (short : Bool) (kind a e : ℕ) → read.Attribute short kind a e ≡ readOf s → IsRead s short kind a e
 read-is s short kind a e = go (fits s) refl
   where
-    go : (t : Bool) → fits s ≡ t → read.Attribute short kind a e ≡ either t (read.Attribute (isShort s) (kindOf s) (startOf s) (sizeOf s)) read.Cut
+    go : (t : Bool) → fits s ≡ t → read.Attribute short kind a e ≡ either t (read.Attribute (isShort s) (kindOf s) (startOf s)
+        (sizeOf s)) read.Cut
         → IsRead s short kind a e
     go true f q = record { all = f; format = cc; type = cc; start = cc; size = cc }
     go false f q = let z : _≡_ {A = ℕ} 0 1 = cc in absurd (omega arith)
@@ -81,7 +82,8 @@ read-is s short kind a e = go (fits s) refl
 pub cut-is : (s : List ℕ) → read.Cut ≡ readOf s → fits s ≡ false
 cut-is s = go (fits s) refl
   where
-    go : (t : Bool) → fits s ≡ t → read.Cut ≡ either t (read.Attribute (isShort s) (kindOf s) (startOf s) (sizeOf s)) read.Cut → fits s ≡ false
+    go : (t : Bool) → fits s ≡ t → read.Cut ≡ either t (read.Attribute (isShort s) (kindOf s) (startOf s) (sizeOf s)) read.Cut
+        → fits s ≡ false
     go true f q = let z : _≡_ {A = ℕ} 0 1 = cc in absurd (omega arith)
     go false f q = f
 
@@ -141,5 +143,6 @@ pub takes : (p : Place) (b : ℕ) (s : List ℕ) → Takes s (attribute p b s)
 unfolding attribute
 takes p b s =
     by-test (Takes s) (fitsIn p s)
-    (λ f. took s (sizeOf s) (omega (arith, size-least s)) (leb-true (sizeOf s) (length s) (both-true (fits s) (formedIn p (attributeOf s)) f .0)))
+    (λ f. took s (sizeOf s) (omega (arith, size-least s)) (leb-true (sizeOf s) (length s) (both-true (fits s) (formedIn p
+    (attributeOf s)) f .0)))
     (λ f. tt)

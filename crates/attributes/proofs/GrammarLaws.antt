@@ -49,7 +49,8 @@ module _ (p : Place) where
       → (4 ≤ sizeOf s) × (sizeOf s ≤ length s) × (rest ≡ drop (sizeOf s) s)
   unfolding attribute
   counted b s a rest =
-      by-test (λ (y : Reading Attribute). y ≡ whole a rest → (4 ≤ sizeOf s) × (sizeOf s ≤ length s) × (rest ≡ drop (sizeOf s) s)) (fitsIn p s)
+      by-test (λ (y : Reading Attribute). y ≡ whole a rest → (4 ≤ sizeOf s) × (sizeOf s ≤ length s) × (rest ≡ drop (sizeOf s) s))
+      (fitsIn p s)
       (λ t q. (size-least s, leb-true (sizeOf s) (length s) (both-true (fits s) (formedIn p (attributeOf s)) t .0), cc))
       (λ t q. let z : _≡_ {A = ℕ} 0 1 = cc in absurd (omega arith))
 

@@ -61,7 +61,8 @@ module _ (m : Meaning) (p : Place) (s : List ℕ) (at : ℕ) (e : isWhole (attri
   pub none-left : length s ≤ at → valuesIn m p (drop at s) ≡ []
   unfolding valuesOf
   none-left h =
-      ap (λ (x : Reading (List Attribute)). valuesOf m p (itemsOf x)) (many-none (attribute p) (takes p) 0 (drop at s) (rw length-drop (omega arith)))
+      ap (λ (x : Reading (List Attribute)). valuesOf m p (itemsOf x)) (many-none (attribute p) (takes p) 0 (drop at s) (rw length-drop
+      (omega arith)))
 
   module _ (h : at < length s) where
     head : Head p (drop at s)
@@ -91,7 +92,8 @@ module _ (m : Meaning) (p : Place) (s : List ℕ) (at : ℕ) (e : isWhole (attri
       meant : (c w : ℕ) → c ≡ codeOf (meaningOf p kind) → w ≡ codeOf m → means m p (attributeOf (drop at s)) ≡ eqb c w
       meant c w cq wq = λ i. eqb ((ap (λ (y : ℕ). codeOf (meaningOf p y)) (f .type) ∙ sym cq) i) (sym wq i)
 
-      pub miss : (c w : ℕ) → c ≡ codeOf (meaningOf p kind) → w ≡ codeOf m → (c ≡ w → ⊥) → valuesIn m p (drop at s) ≡ valuesIn m p (drop (at + n) s)
+      pub miss : (c w : ℕ) → c ≡ codeOf (meaningOf p kind) → w ≡ codeOf m → (c ≡ w → ⊥) → valuesIn m p (drop at s) ≡ valuesIn m p (drop
+          (at + n) s)
       unfolding valuesOf
       miss c w cq wq ne = ap (valuesOf m p) listed ∙ rw (meant c w cq wq, ne-eqb c w ne)
 
@@ -111,5 +113,6 @@ module _ (m : Meaning) (p : Place) (s : List ℕ) (at : ℕ) (e : isWhole (attri
           go false q = omega arith
 
 -- the same list at any offset
-pub any-offset : (p : Place) (b c : ℕ) (s : List ℕ) (l : List Attribute) (rest : List ℕ) → attributes p b s ≡ whole l rest → attributes p c s ≡ whole l []
+pub any-offset : (p : Place) (b c : ℕ) (s : List ℕ) (l : List Attribute) (rest : List ℕ) → attributes p b s ≡ whole l rest
+    → attributes p c s ≡ whole l []
 any-offset p b c s l rest q = are-read p (read-are p b s l rest q) c

@@ -6,8 +6,10 @@ use native.Mathlib.Nat.{add-assoc}
 use native.Mathlib.Omega.{arith}
 use lib.ListN.{length, drop, length-drop}
 use lib.Seq.{drop-drop}
-use Rattle.octets.specs.Walk.{part, Reading, whole, broken, Reader, mapped, closed, within, andThen, push, many, Outline, stops, breaks, outline}
-use Rattle.octets.proofs.Walks.{tail, to-end, Took, Takes, Keeps, takes-keeps, took-fewer, starts, many-first, many-breaks, many-ends, then-goes, after-breaks}
+use Rattle.octets.specs.Walk.{part, Reading, whole, broken, Reader, mapped, closed, within, andThen, push, many, Outline, stops, breaks}
+use Rattle.octets.specs.Walk.{outline}
+use Rattle.octets.proofs.Walks.{tail, to-end, Took, Takes, Keeps, takes-keeps, took-fewer, starts, many-first, many-breaks, many-ends}
+use Rattle.octets.proofs.Walks.{then-goes, after-breaks}
 use Rattle.attributes.specs.Answers.{layoutOf, spotOf}
 use Rattle.attributes.specs.declared.Layout.{Layout}
 use Rattle.attributes.specs.declared.Layout.the-variants as layout
@@ -58,7 +60,8 @@ pub record Next {A : Type 0} (p : Reader A) (b : ℕ) (s : List ℕ) (at e : ℕ
   pub some : 0 < e
   pub inside : at + e ≤ length s
 
-module _ {A : Type 0} (p : Reader A) (takes : (b : ℕ) (s : List ℕ) → Takes s (p b s)) (b : ℕ) (s : List ℕ) (at : ℕ) (h : at ≤ length s) where
+module _ {A : Type 0} (p : Reader A) (takes : (b : ℕ) (s : List ℕ) → Takes s (p b s)) (b : ℕ) (s : List ℕ) (at : ℕ)
+    (h : at ≤ length s) where
   pub next-is : (e : ℕ) → spot.Ends e ≡ spotOf (tail s at) (p (b + at) (tail s at)) → Next p b s at e
   next-is e q =
       let u : spot.Ends e ≡ spotOf (drop at s) (p (b + at) (drop at s)) =

@@ -51,7 +51,8 @@ inverse b s x rest q =
 same-size : (o r : List ℕ) → 4 ≤ length o → sizeAt (o ++ r) ≡ sizeAt o
 same-size o r l = be16-append o r 2 (omega arith)
 
-counted : (b : ℕ) (s : List ℕ) (x : Bag) (rest : List ℕ) → bag b s ≡ whole x rest → (4 ≤ sizeAt s) × (sizeAt s ≤ length s) × (rest ≡ drop (sizeAt s) s)
+counted : (b : ℕ) (s : List ℕ) (x : Bag) (rest : List ℕ) → bag b s ≡ whole x rest → (4 ≤ sizeAt s) × (sizeAt s ≤ length s) × (rest ≡ drop
+    (sizeAt s) s)
 counted b s x rest q =
     let f = inverse b s x rest q in
     let g = head-is s (f .fits) in
@@ -133,8 +134,10 @@ module _ (b : ℕ) (o : List ℕ) where
   unfolding bag
   opens x l e n a q =
       ap (λ (t : Bool). opened b t (mapped (bagOf o) (within (headSize o) (be16 o 2) (attributes (placeOf (oct o 0))) b o))) e
-      ∙ ap (λ (y : List ℕ). mapped (bagOf o) (closed (drop (be16 o 2) o) (attributes (placeOf (oct o 0)) (b + headSize o) y))) (body-octets o e n)
-      ∙ ap (λ (y : Reading (List Attribute)). mapped (bagOf o) (closed (drop (be16 o 2) o) y)) (are-read (placeOf (oct o 0)) a (b + headSize o))
+      ∙ ap (λ (y : List ℕ). mapped (bagOf o) (closed (drop (be16 o 2) o) (attributes (placeOf (oct o 0)) (b + headSize o) y)))
+      (body-octets o e n)
+      ∙ ap (λ (y : Reading (List Attribute)). mapped (bagOf o) (closed (drop (be16 o 2) o) y)) (are-read (placeOf (oct o 0)) a
+      (b + headSize o))
       ∙ (λ j. whole (q j) (drop (n j) o)) ∙ ap (whole x) (drop-length o)
 
   from : (x : Bag) → IsBag o x → bag b o ≡ whole x []
@@ -163,7 +166,8 @@ module _ (b : ℕ) (o : List ℕ) where
       let t = ne-eqb (oct o 0) 0 z in
       let e : headFits o ≡ true =
       made-head o (omega arith) n (ap (λ (u : Bool). either u true (ltb 0 (spiSize (oct o 0)))) t ∙ lt-ltb 0 (spiSize (oct o 0)) k)
-      (ap (λ (u : Bool). either u true (eqb (oct o 1) (spiSize (oct o 0)))) t ∙ eq-eqb (oct o 1) (spiSize (oct o 0)) (i .spiOctets ∙ ap spiSize (sym p))) in
+      (ap (λ (u : Bool). either u true (eqb (oct o 1) (spiSize (oct o 0)))) t ∙ eq-eqb (oct o 1) (spiSize (oct o 0)) (i .spiOctets
+      ∙ ap spiSize (sym p))) in
       let sp : spiOf o ≡ x .spi = ap (λ (u : ℕ). part o 4 (4 + spiSize u)) p ∙ i .spi in
       let ks : saKeys (inBag (oct o 0)) (i .attributes) ≡ x .keys = ap (λ (u : ℕ). saKeys (inBag u) (i .attributes)) p ∙ i .keys in
       opens (groupKeys x) (i .attributes) e n

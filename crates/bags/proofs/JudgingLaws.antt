@@ -53,7 +53,8 @@ module _ (s : List ℕ) (e : isWhole (bags 0 s) ≡ true) (h : 0 < length s) whe
         head = x;
         item =
             f .first
-            ∙ (λ j. bagOf s (attributesIn (placeOf (sym (x .first) j)) (part s (sym (x .body) j) (sym (x .end) j))) ∷ bagsIn (drop (sym (x .end) j) s));
+            ∙ (λ j. bagOf s (attributesIn (placeOf (sym (x .first) j)) (part s (sym (x .body) j) (sym (x .end) j))) ∷ bagsIn (drop (sym
+            (x .end) j) s));
         held =
             (λ j. isWhole (attributes (placeOf (x .first j)) 0 (part s (x .body j) (x .end j)))) ∙ f .held;
         rest = (λ j. isWhole (bags 0 (drop (x .end j) s))) ∙ f .rest;

@@ -72,8 +72,10 @@ module _ (s : List ℕ) where
       let n : 4 + oct s 1 * be16 s 2 ≡ length s =
       omega (arith, ap (λ (y : ℕ). oct s 1 * y) (i .count), filled (oct s 1) (i .each), ap length (i .spis), length-drop 4 s) in
       let e : either (eqb (oct s 0) 3) (eqb (oct s 1) 4) true ≡ true = last (eqb (oct s 0) 3) refl in (
-        ap (λ (t : Bool). both t (both (eqb (4 + oct s 1 * be16 s 2) (length s)) (either (eqb (oct s 0) 3) (eqb (oct s 1) 4) true))) (le-leb 4 (length s) l)
-            ∙ ap (λ (t : Bool). both t (either (eqb (oct s 0) 3) (eqb (oct s 1) 4) true)) (eq-eqb (4 + oct s 1 * be16 s 2) (length s) n) ∙ e,
+        ap (λ (t : Bool). both t (both (eqb (4 + oct s 1 * be16 s 2) (length s)) (either (eqb (oct s 0) 3) (eqb (oct s 1) 4) true)))
+            (le-leb 4 (length s) l)
+            ∙ ap (λ (t : Bool). both t (either (eqb (oct s 0) 3) (eqb (oct s 1) 4) true)) (eq-eqb (4 + oct s 1 * be16 s 2) (length s) n)
+            ∙ e,
         λ j. record {
           protocol = i .protocol j;
           spis = ((λ h. stretches (i .count h) (oct s 1) (i .spis h)) ∙ back (oct s 1) (i .each)) j;

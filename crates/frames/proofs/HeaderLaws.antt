@@ -50,7 +50,8 @@ module _ (s : List ℕ) where
 pub header-is : (s : List ℕ) (p x i : ℕ) → header.Header p x i ≡ headerRead s → (headerFits s ≡ true) × (p ≡ firstPayload s)
 header-is s p x i = go (headerFits s) refl
   where
-    go : (t : Bool) → headerFits s ≡ t → header.Header p x i ≡ either t (header.Header (firstPayload s) (oct s 18) (be32 s 20)) header.Broken
+    go : (t : Bool) → headerFits s ≡ t → header.Header p x i ≡ either t (header.Header (firstPayload s) (oct s 18)
+        (be32 s 20)) header.Broken
         → (headerFits s ≡ true) × (p ≡ firstPayload s)
     go true e q = (e, cc)
     go false e q = let z : _≡_ {A = ℕ} 0 1 = cc in absurd (omega arith)
@@ -76,7 +77,8 @@ module _ (s : List ℕ) (r : Bool) (e : r ≡ sized 4 s) where
 pub payload-is : (s : List ℕ) (p : ℕ) (c : Bool) (n : ℕ) → payload.Payload p c n ≡ payloadRead s → (payloadFits s ≡ true) × (n ≡ be16 s 2)
 payload-is s p c n = go (payloadFits s) refl
   where
-    go : (t : Bool) → payloadFits s ≡ t → payload.Payload p c n ≡ either t (payload.Payload (oct s 0) (isCritical s) (be16 s 2)) payload.Broken
+    go : (t : Bool) → payloadFits s ≡ t → payload.Payload p c n ≡ either t (payload.Payload (oct s 0) (isCritical s)
+        (be16 s 2)) payload.Broken
         → (payloadFits s ≡ true) × (n ≡ be16 s 2)
     go true e q = (e, cc)
     go false e q = let z : _≡_ {A = ℕ} 0 1 = cc in absurd (omega arith)

@@ -10,10 +10,12 @@ use lib.Dec.{eqb}
 use lib.ListN.{length, drop, length-drop}
 use lib.Seq.{getD-drop}
 use Rattle.octets.specs.Numbers.{oct}
-use Rattle.octets.specs.Walk.{be16, part, either, sized, Reading, whole, broken, Reader, mapped, closed, opened, begun, within, Linked, chain}
+use Rattle.octets.specs.Walk.{be16, part, either, sized, Reading, whole, broken, Reader, mapped, closed, opened, begun, within, Linked}
+use Rattle.octets.specs.Walk.{chain}
 use Rattle.octets.specs.Walk.{Outline, stops, breaks, outline}
 use Rattle.octets.proofs.Numerals.{sized-is}
-use Rattle.octets.proofs.Walks.{tail, to-end, by-test, Takes, took, takes-mapped, takes-closed, begun-none, begun-some, takes-begun, opened-is, opened-not, takes-opened}
+use Rattle.octets.proofs.Walks.{tail, to-end, by-test, Takes, took, takes-mapped, takes-closed, begun-none, begun-some, takes-begun}
+use Rattle.octets.proofs.Walks.{opened-is, opened-not, takes-opened}
 use Rattle.octets.proofs.Walks.{chain-stops, chain-goes, chain-breaks}
 use Rattle.attributes.specs.Answers.{layoutOf, spotOf}
 use Rattle.attributes.specs.declared.Layout.{Layout}
@@ -24,7 +26,8 @@ use Rattle.policies.specs.Policy.{Policy, policies}
 use Rattle.bags.specs.Bag.{Bag, bags}
 use Rattle.frames.specs.Header.{firstPayload, headerFits, payloadFits}
 use Rattle.frames.specs.Delete.{Delete, deleteOf, deleteFits}
-use Rattle.frames.specs.Frame.{Content, gsa, kd, delete, unread, gsaBody, kdBody, deleteBody, unreadBody, body, Payload, payloadOf, payload, noneNext, payloads, exactly, Frame, frameOf, frame, frameLayout}
+use Rattle.frames.specs.Frame.{Content, gsa, kd, delete, unread, gsaBody, kdBody, deleteBody, unreadBody, body, Payload, payloadOf}
+use Rattle.frames.specs.Frame.{payload, noneNext, payloads, exactly, Frame, frameOf, frame, frameLayout}
 
 -- THE BODY of a payload of the kind k
 module _ (k h b : ℕ) (s : List ℕ) where
@@ -141,16 +144,19 @@ module _ (first b : ℕ) (s : List ℕ) (k at : ℕ) (l : at ≤ length s)
         let n = next-is (payload k) (takes k) b s at l e q in
         let i = n .some in
         let g : n .item .next ≡ m = next-of k (b + at) (drop at s) (n .item) (drop (at + e) s) (n .is) ∙ at-first s at ∙ sym f in
-        chain-goes noneNext payload takes b s (outline (payloads first b s)) at k old (ne-eqb k 0 z) (n .item) (at + e) (omega arith) (n .inside) (n .is)
+        chain-goes noneNext payload takes b s (outline (payloads first b s)) at k old (ne-eqb k 0 z) (n .item) (at + e) (omega arith)
+        (n .inside) (n .is)
         ∙ ap (λ (y : ℕ). outline (payloads y (b + (at + e)) (drop (at + e) s))) g
       where
         at-first : (s : List ℕ) (at : ℕ) → oct (drop at s) 0 ≡ oct s at
         at-first s at = simp (getD-drop, add-zero)
 
-    pub tears : (o : ℕ) → spot.Broken o ≡ spotOf (tail s at) (payload k (b + at) (tail s at)) → layout.Broken o ≡ layoutOf (exactly (payloads first b s))
+    pub tears : (o : ℕ) → spot.Broken o ≡ spotOf (tail s at) (payload k (b + at) (tail s at)) → layout.Broken o ≡ layoutOf (exactly
+        (payloads first b s))
     tears o q =
         exact-breaks (payloads first b s) o
-        (chain-breaks noneNext payload takes b s (outline (payloads first b s)) at k old (ne-eqb k 0 z) o (next-broken (payload k) (takes k) b s at l o q))
+        (chain-breaks noneNext payload takes b s (outline (payloads first b s)) at k old (ne-eqb k 0 z) o (next-broken (payload k)
+        (takes k) b s at l o q))
 
   module _ (z : k ≡ 0) where
     stopped : outline (payloads first b s) ≡ stops (drop at s)

@@ -28,7 +28,8 @@ other-format : transforms 1 100 (0 ∷ 0 ∷ 0 ∷ 14 ∷ 1 ∷ 0 ∷ 0 ∷ 20 �
 unfolding transform attribute many chain chainUpTo number valuesOf
 other-format = refl
 
-elsewhere : transforms 1 100 (0 ∷ 0 ∷ 0 ∷ 14 ∷ 5 ∷ 0 ∷ 0 ∷ 0 ∷ 0 ∷ 14 ∷ 0 ∷ 2 ∷ 0 ∷ 128 ∷ []) ≡ whole (record { kind = 5; id = 0; keyLengths = [] } ∷ []) []
+elsewhere : transforms 1 100 (0 ∷ 0 ∷ 0 ∷ 14 ∷ 5 ∷ 0 ∷ 0 ∷ 0 ∷ 0 ∷ 14 ∷ 0 ∷ 2 ∷ 0 ∷ 128 ∷ []) ≡ whole
+    (record { kind = 5; id = 0; keyLengths = [] } ∷ []) []
 unfolding transform attribute many chain chainUpTo number valuesOf
 elsewhere = refl
 
@@ -48,7 +49,8 @@ begun-transform = refl
 sample-selector : List ℕ
 sample-selector = 7 ∷ 0 ∷ 0 ∷ 16 ∷ 0 ∷ 0 ∷ 255 ∷ 255 ∷ 10 ∷ 0 ∷ 0 ∷ 1 ∷ 10 ∷ 0 ∷ 0 ∷ 1 ∷ []
 
--- an ESP policy at 100: no selector, a selector cut short, no second selector, no transform, 0 too short for the SPI, an unknown first octet
+-- an ESP policy at 100: no selector, a selector cut short, no second selector, no transform, 0 too short for the SPI, an unknown first
+-- octet
 no-source : policy 100 (3 ∷ 4 ∷ 0 ∷ 8 ∷ 1 ∷ 2 ∷ 3 ∷ 4 ∷ []) ≡ broken 100
 unfolding policy suite saBody selector transform attribute many chain chainUpTo number valuesOf
 no-source = refl

@@ -1,4 +1,5 @@
--- What differs between exchanges (RFC 9838, section 9: GSA_AUTH 39, GSA_REGISTRATION 40, GSA_REKEY 41), one row each; document 01 says "in a
+-- What differs between exchanges (RFC 9838, section 9: GSA_AUTH 39, GSA_REGISTRATION 40, GSA_REKEY 41), one row each; document 01 says
+-- "in a
 -- registration" and "in a rekey" where a rule depends on it.
 use Prim.Native.Nat.{ℕ}
 use mathlib.Core.Bool.{Bool, true, false}

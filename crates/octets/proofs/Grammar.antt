@@ -28,7 +28,8 @@ module _ {S A : Type 0} (stop : S → List ℕ → Bool) (step : S → Reader (L
     → Splits Is st s (x .item) (x .next) rest)
     (complete : (st : S) (b : ℕ) (o rest : List ℕ) (x : Linked S A) → stop st (o ++ rest) ≡ false → Is st o (x .item) (x .next)
     → step st b (o ++ rest) ≡ whole x rest) where
-  pub reads : {st : S} {s : List ℕ} {l : List A} {rest : List ℕ} → Spans stop Is st s l rest → (b : ℕ) → chain stop step st b s ≡ whole l rest
+  pub reads : {st : S} {s : List ℕ} {l : List A} {rest : List ℕ} → Spans stop Is st s l rest → (b : ℕ)
+      → chain stop step st b s ≡ whole l rest
   reads {st} {s} {l} {rest} (none e) b = chain-stop stop step takes st b rest e
   reads {st} (more {st′ = st′} o s {rest = rest} {a = a} {l = l} e i r) b =
       let x : Linked S A = record { item = a; next = st′ } in
@@ -36,7 +37,8 @@ module _ {S A : Type 0} (stop : S → List ℕ → Bool) (step : S → Reader (L
       ∙ ap (push a) (reads r (b + (length (o ++ s) - length s)))
 
   module _ (st : S) (b : ℕ) (s : List ℕ) (l : List A) (rest : List ℕ)
-      (again : (t : S) (c : ℕ) (r : List ℕ) (m : List A) (r′ : List ℕ) → length r < length s → chain stop step t c r ≡ whole m r′ → Spans stop Is t r m r′) where
+      (again : (t : S) (c : ℕ) (r : List ℕ) (m : List A) (r′ : List ℕ) → length r < length s → chain stop step t c r ≡ whole m r′
+      → Spans stop Is t r m r′) where
     next : (x : Linked S A) (r : List ℕ) → stop st s ≡ false → step st b s ≡ whole x r → (y : Reading (List A))
         → chain stop step (x .next) (b + (length s - length r)) r ≡ y → push (x .item) y ≡ whole l rest → Spans stop Is st s l rest
     next x r e p (whole m r′) c u =
@@ -52,14 +54,16 @@ module _ {S A : Type 0} (stop : S → List ℕ → Bool) (step : S → Reader (L
         (subst (λ (y : List ℕ). Spans stop Is st (f .octets ++ r) (x .item ∷ m) y) z w))
     next x r e p (broken o) c u = let z : _≡_ {A = ℕ} 0 1 = cc in absurd (omega arith)
 
-    go : (t : Bool) → stop st s ≡ t → (p : Reading (Linked S A)) → step st b s ≡ p → chain stop step st b s ≡ whole l rest → Spans stop Is st s l rest
+    go : (t : Bool) → stop st s ≡ t → (p : Reading (Linked S A)) → step st b s ≡ p → chain stop step st b s ≡ whole l rest
+        → Spans stop Is st s l rest
     go true e p c q =
         let u : whole [] s ≡ whole l rest = sym (chain-stop stop step takes st b s e) ∙ q in
         let v : [] ≡ l = cc in
         let z : s ≡ rest = cc in
         subst (λ (y : List A). Spans stop Is st s y rest) v (subst (λ (y : List ℕ). Spans stop Is st s [] y) z (none e))
     go false e (whole x r) p q =
-        next x r e p (chain stop step (x .next) (b + (length s - length r)) r) refl (sym (chain-more stop step takes st b s (whole x r) e p) ∙ q)
+        next x r e p (chain stop step (x .next) (b + (length s - length r)) r) refl (sym (chain-more stop step takes st b s
+        (whole x r) e p) ∙ q)
     go false e (broken o) p q =
         let u : broken o ≡ whole l rest = sym (chain-more stop step takes st b s (broken o) e p) ∙ q in
         let z : _≡_ {A = ℕ} 0 1 = cc in absurd (omega arith)
@@ -91,7 +95,8 @@ module _ {A : Type 0} (p : Reader A) (takes : (b : ℕ) (s : List ℕ) → Takes
   Item : Alone → List ℕ → A → Alone → Type 0
   Item u o a v = Is o a
 
-  unlinked : (x : Reading A) (y : Linked Alone A) (rest : List ℕ) → mapped (λ (a : A). record { item = a; next = tt }) x ≡ whole y rest → x ≡ whole (y .item) rest
+  unlinked : (x : Reading A) (y : Linked Alone A) (rest : List ℕ) → mapped (λ (a : A). record { item = a; next = tt }) x ≡ whole y rest
+      → x ≡ whole (y .item) rest
   unlinked (whole a r) y rest q =
       let u : _≡_ {A = Linked Alone A} (record { item = a; next = tt }) y = cc in
       let v : r ≡ rest = cc in
@@ -141,7 +146,8 @@ module _ {A : Type 0} (p : Reader A) (takes : (b : ℕ) (s : List ℕ) → Takes
   one-reading f g = let x = row-read f 0 in let y = row-read g 0 in cc
 
   -- items in a row are read to their lists in a row
-  pub row-append : (b c d : ℕ) (s t : List ℕ) (l m : List A) → many p b s ≡ whole l [] → many p c t ≡ whole m [] → many p d (s ++ t) ≡ whole (l ++ m) []
+  pub row-append : (b c d : ℕ) (s t : List ℕ) (l m : List A) → many p b s ≡ whole l [] → many p c t ≡ whole m [] → many p d
+      (s ++ t) ≡ whole (l ++ m) []
   row-append b c d s t l m f g = row-read (in-a-row (read-row b s l [] f) (read-row c t m [] g)) d
 
   -- the first item and the others

@@ -19,11 +19,13 @@ inverse-mapped f (whole a r) y rest q =
     record { item = a; is = ap (whole a) v; gives = cc }
 inverse-mapped f (broken o) y rest q = let z : _≡_ {A = ℕ} 0 1 = cc in absurd (omega arith)
 
-pub inverse-opened : {A : Type 0} (b : ℕ) (t : Bool) (x : Reading A) (a : A) (rest : List ℕ) → opened b t x ≡ whole a rest → (t ≡ true) × (x ≡ whole a rest)
+pub inverse-opened : {A : Type 0} (b : ℕ) (t : Bool) (x : Reading A) (a : A) (rest : List ℕ) → opened b t x ≡ whole a rest → (t ≡ true) ×
+    (x ≡ whole a rest)
 inverse-opened b true x a rest q = (refl, q)
 inverse-opened b false x a rest q = let z : _≡_ {A = ℕ} 0 1 = cc in absurd (omega arith)
 
-pub inverse-begun : {A : Type 0} (h : ℕ) (s : List ℕ) (x : Reading A) (a : A) (rest : List ℕ) → begun h s x ≡ whole a rest → x ≡ whole a rest
+pub inverse-begun : {A : Type 0} (h : ℕ) (s : List ℕ) (x : Reading A) (a : A) (rest : List ℕ) → begun h s x ≡ whole a rest
+    → x ≡ whole a rest
 inverse-begun {A} h s x a rest = go (eqb (length s) 0)
   where
     go : (t : Bool) → either t (broken h) x ≡ whole a rest → x ≡ whole a rest
@@ -51,7 +53,8 @@ pub record Then {A B : Type 0} (p : Reader A) (k : A → Reader B) (b : ℕ) (s 
   pub first : p b s ≡ whole item left
   pub second : k item (b + (length s - length left)) left ≡ whole c rest
 
-pub inverse-then : {A B : Type 0} (p : Reader A) (k : A → Reader B) (b : ℕ) (s : List ℕ) (c : B) (rest : List ℕ) → andThen p k b s ≡ whole c rest
+pub inverse-then : {A B : Type 0} (p : Reader A) (k : A → Reader B) (b : ℕ) (s : List ℕ) (c : B) (rest : List ℕ)
+    → andThen p k b s ≡ whole c rest
     → Then p k b s c rest
 inverse-then {A} p k b s c rest = go (p b s) refl
   where

@@ -9,7 +9,8 @@ use borrow.Author.Tests.{eq-eqb, ne-eqb}
 use lib.ListN.{length, take, drop, length-drop, drop-of-length-le}
 use lib.Seq.{length-take-le, take-all, drop-drop}
 use lib.Dec.{eqb}
-use Rattle.octets.specs.Walk.{part, either, both, Reading, whole, broken, Reader, mapped, after, andThen, Linked, push, further, chainUpTo, chain}
+use Rattle.octets.specs.Walk.{part, either, both, Reading, whole, broken, Reader, mapped, after, andThen, Linked, push, further}
+use Rattle.octets.specs.Walk.{chainUpTo, chain}
 use Rattle.octets.specs.Walk.{Alone, atEnd, stateless, many, Outline, stops, breaks, outline, closed, within, opened, begun}
 
 -- what holds of both, each under its test, holds of the one that is picked
@@ -111,7 +112,8 @@ module _ {S A : Type 0} (stop : S → List ℕ → Bool) (step : S → Reader (L
   same-further (broken o) b s t k₁ k₂ h = refl
 
   -- more fuel changes nothing
-  pub fuel : (n m : ℕ) (st : S) (b : ℕ) (s : List ℕ) → length s < n → length s < m → chainUpTo stop step n st b s ≡ chainUpTo stop step m st b s
+  pub fuel : (n m : ℕ) (st : S) (b : ℕ) (s : List ℕ) → length s < n → length s < m
+      → chainUpTo stop step n st b s ≡ chainUpTo stop step m st b s
   unfolding chainUpTo
   fuel zero m st b s h₁ h₂ = absurd (omega arith)
   fuel (suc n) zero st b s h₁ h₂ = absurd (omega arith)
@@ -122,7 +124,8 @@ module _ {S A : Type 0} (stop : S → List ℕ → Bool) (step : S → Reader (L
 
   keeps-further : (p : Reading (Linked S A)) (b : ℕ) (s : List ℕ) (k : S → Reader (List A)) → Takes s p
       → ((st : S) (b′ : ℕ) (rest : List ℕ) → Keeps rest (k st b′ rest)) → Keeps s (further p b s k)
-  keeps-further (whole x rest) b s k t h = go (k (x .next) (b + (length s - length rest)) rest) (h (x .next) (b + (length s - length rest)) rest)
+  keeps-further (whole x rest) b s k t h = go (k (x .next) (b + (length s - length rest)) rest) (h (x .next) (b +
+      (length s - length rest)) rest)
     where
       go : (y : Reading (List A)) → Keeps rest y → Keeps s (push (x .item) y)
       go (whole l r) j = kept-then s rest r t j

@@ -32,7 +32,8 @@ module _ (s : List ℕ) where
       as-tested : both (sized (4 + z) s) (both (ltb 0 z) (eqb (oct s 1) z)) ≡ headFits s
       as-tested =
           ap (λ (x : ℕ). both (sized (4 + x) s) (both (ltb 0 x) (eqb (oct s 1) x))) f
-          ∙ ap (λ (t : Bool). both (sized (4 + spiSize p) s) (both (either t true (ltb 0 (spiSize p))) (either t true (eqb (oct s 1) (spiSize p)))))
+          ∙ ap (λ (t : Bool). both (sized (4 + spiSize p) s) (both (either t true (ltb 0 (spiSize p))) (either t true (eqb (oct s 1)
+          (spiSize p)))))
           (sym (ne-eqb p 0 k))
           ∙ ap (λ (x : ℕ). both (sized (4 + spiSize x) s) (both (firstKnown x) (either (eqb x 0) true (eqb (oct s 1) (spiSize x))))) e
 

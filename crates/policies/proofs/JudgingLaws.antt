@@ -93,8 +93,10 @@ module _ (s : List ℕ) (e : isWhole (policies 0 s) ≡ true) (h : 0 < length s)
     wide = λ z.
         let f = wide-first (sym (x .first) ∙ z) in
         record {
-          item = subst (λ (n : ℕ). policiesIn s ≡ groupWideOf (attributesIn place.GroupWidePolicy (part s (r .body) n)) ∷ policiesIn (drop n s)) (sym (x .end))
-              (subst (λ (n : ℕ). policiesIn s ≡ groupWideOf (attributesIn place.GroupWidePolicy (part s n (be16 s 2))) ∷ policiesIn (drop (be16 s 2) s)) (sym (x .body)) (f .0));
+          item = subst (λ (n : ℕ). policiesIn s ≡ groupWideOf (attributesIn place.GroupWidePolicy (part s (r .body) n)) ∷ policiesIn
+              (drop n s)) (sym (x .end))
+              (subst (λ (n : ℕ). policiesIn s ≡ groupWideOf (attributesIn place.GroupWidePolicy (part s n (be16 s 2))) ∷ policiesIn (drop
+              (be16 s 2) s)) (sym (x .body)) (f .0));
           held = subst (λ (n : ℕ). isWhole (attributes place.GroupWidePolicy 0 (part s (r .body) n)) ≡ true) (sym (x .end))
               (subst (λ (n : ℕ). isWhole (attributes place.GroupWidePolicy 0 (part s n (be16 s 2))) ≡ true) (sym (x .body)) (f .1));
         };

@@ -9,7 +9,8 @@ use lib.Dec.{leb, ltb, eqb}
 use lib.ListN.{length, take, drop, length-drop}
 use lib.Seq.{take-all, drop-length}
 use Rattle.octets.specs.Numbers.{oct}
-use Rattle.octets.specs.Walk.{be16, part, either, both, sized, Reading, whole, broken, Reader, mapped, opened, closed, within, after, andThen}
+use Rattle.octets.specs.Walk.{be16, part, either, both, sized, Reading, whole, broken, Reader, mapped, opened, closed, within, after}
+use Rattle.octets.specs.Walk.{andThen}
 use Rattle.octets.proofs.Walks.{both-true}
 use Rattle.octets.proofs.Local.{extended, oct-append, be16-append, part-append, size-append, opened-extend, within-extend, Local}
 use Rattle.octets.proofs.Inverse.{Mapped, inverse-mapped, inverse-opened, Within, inverse-within, Then, inverse-then}
@@ -24,7 +25,8 @@ use Rattle.attributes.specs.declared.tables.Place.the-variants as place
 use Rattle.attributes.proofs.GrammarLaws.{are-read, read-are}
 use Rattle.policies.specs.Selector.{Selector, selector}
 use Rattle.policies.specs.Transform.{Transform, transforms}
-use Rattle.policies.specs.Policy.{spiSize, firstKnown, spiSized, headSize, headFits, spiOf, GroupSaPolicy, GroupWidePolicy, Policy, groupSa, groupWide}
+use Rattle.policies.specs.Policy.{spiSize, firstKnown, spiSized, headSize, headFits, spiOf, GroupSaPolicy, GroupWidePolicy, Policy}
+use Rattle.policies.specs.Policy.{groupSa, groupWide}
 use Rattle.policies.specs.Policy.{Suite, suite, SaBody, saBody, groupSaOf, groupWideOf, policyHolds, policy, policies}
 use Rattle.policies.specs.Grammar.{IsSaBody, IsGroupSa, IsGroupWide, IsPolicy, is-sa, is-wide, Policies}
 use Rattle.policies.proofs.HeadLaws.{head-is}
@@ -47,13 +49,16 @@ module _ (h : ℕ) (p : Place) where
       let c₁ = b + (length s - length (f .left)) in
       let g = inverse-then (selector h) (bodied (f .item)) c₁ (f .left) x rest (f .second) in
       let c₂ = c₁ + (length (f .left) - length (g .left)) in
-      let m = inverse-mapped (λ (y : Suite). record { source = f .item; destination = g .item; suite = y }) (suite h p c₂ (g .left)) x rest (g .second) in
+      let m = inverse-mapped (λ (y : Suite). record { source = f .item; destination = g .item; suite = y }) (suite h p c₂
+      (g .left)) x rest (g .second) in
       let k = inverse-then (transforms h) suited c₂ (g .left) (m .item) rest (m .is) in
       let c₃ = c₂ + (length (g .left) - length (k .left)) in
-      let n = inverse-mapped (λ (l : List Attribute). record { transforms = k .item; attributes = l }) (attributes p c₃ (k .left)) (m .item) rest (k .second) in
+      let n = inverse-mapped (λ (l : List Attribute). record { transforms = k .item; attributes = l }) (attributes p c₃ (k .left))
+      (m .item) rest (k .second) in
       let u = selector-sound h b s (f .item) (f .left) (f .first) in
       let v = selector-sound h c₁ (f .left) (g .item) (g .left) (g .first) in
-      let made : _≡_ {A = SaBody} (record { source = f .item; destination = g .item; suite = record { transforms = k .item; attributes = n .item } }) x =
+      let made : _≡_ {A = SaBody}
+      (record { source = f .item; destination = g .item; suite = record { transforms = k .item; attributes = n .item } }) x =
       ap (λ (y : Suite). record { source = f .item; destination = g .item; suite = y }) (n .gives) ∙ m .gives in
       subst (IsSaBody p s) made
       (record {
@@ -154,7 +159,8 @@ module _ (b : ℕ) (o r : List ℕ) (l : 4 ≤ length o) (k : sizeAt o ≤ lengt
   extends : policy b (o ++ r) ≡ extended r (policy b o)
   unfolding policy
   extends =
-      opened-extend o r b (headFits (o ++ r)) (headFits o) (within (headSize (o ++ r)) (be16 (o ++ r) 2) (policyHolds b (o ++ r)) b (o ++ r))
+      opened-extend o r b (headFits (o ++ r)) (headFits o) (within (headSize (o ++ r)) (be16 (o ++ r) 2) (policyHolds b (o ++ r)) b
+      (o ++ r))
       (within (headSize o) (be16 o 2) (policyHolds b o) b o) (same-head o r l k) same-held
 
 pub local : Local policy 4 sizeAt
@@ -177,7 +183,8 @@ known-spi o e z =
       eqb-true (oct o 1) (spiSize (oct o 0)) (ap (λ (u : Bool). either u true (eqb (oct o 1) (spiSize (oct o 0)))) (sym t) ∙ g .1),
     )
 
-pub made-head : (o : List ℕ) → headSize o ≤ be16 o 2 → be16 o 2 ≡ length o → firstKnown (oct o 0) ≡ true → spiSized o ≡ true → headFits o ≡ true
+pub made-head : (o : List ℕ) → headSize o ≤ be16 o 2 → be16 o 2 ≡ length o → firstKnown (oct o 0) ≡ true → spiSized o ≡ true
+    → headFits o ≡ true
 made-head o l n f g =
     ap (λ (t : Bool). both t (both (firstKnown (oct o 0)) (spiSized o)))
     (ap (λ (t : Bool). both t (leb (be16 o 2) (length o))) (le-leb (headSize o) (be16 o 2) l) ∙ le-leb (be16 o 2) (length o) (omega arith))
@@ -185,7 +192,8 @@ made-head o l n f g =
 
 module _ (b : ℕ) (o : List ℕ) where
   wide-to : (x : Policy) (left : List ℕ) → headFits o ≡ true → be16 o 2 ≡ length o → oct o 0 ≡ 0
-      → mapped groupWideOf (attributes place.GroupWidePolicy (b + headSize o) (part o (headSize o) (be16 o 2))) ≡ whole x left → IsPolicy o x
+      → mapped groupWideOf (attributes place.GroupWidePolicy (b + headSize o) (part o (headSize o) (be16 o 2))) ≡ whole x left
+      → IsPolicy o x
   wide-to x left e n z q =
       let c = b + headSize o in
       let g = head-is o e in
@@ -234,7 +242,8 @@ module _ (b : ℕ) (o : List ℕ) where
     where
       go : (left : List ℕ) → headFits o ≡ true → be16 o 2 ≡ length o → (t : Bool) → eqb (oct o 0) 0 ≡ t
           → either t (mapped groupWideOf (attributes place.GroupWidePolicy (b + headSize o) (part o (headSize o) (be16 o 2))))
-          (mapped (groupSaOf o) (saBody b (inPolicy (oct o 0)) (b + headSize o) (part o (headSize o) (be16 o 2)))) ≡ whole x left → IsPolicy o x
+          (mapped (groupSaOf o) (saBody b (inPolicy (oct o 0)) (b + headSize o) (part o (headSize o) (be16 o 2)))) ≡ whole x left
+          → IsPolicy o x
       go left e n true t q = wide-to x left e n (eqb-true (oct o 0) 0 t) q
       go left e n false t q = sa-to x left e n (eqb-false (oct o 0) 0 t) q
 
@@ -272,7 +281,8 @@ module _ (b : ℕ) (o : List ℕ) where
       let t = ne-eqb (oct o 0) 0 z in
       let e : headFits o ≡ true =
       made-head o (omega arith) n (ap (λ (u : Bool). either u true (ltb 0 (spiSize (oct o 0)))) t ∙ lt-ltb 0 (spiSize (oct o 0)) k)
-      (ap (λ (u : Bool). either u true (eqb (oct o 1) (spiSize (oct o 0)))) t ∙ eq-eqb (oct o 1) (spiSize (oct o 0)) (i .spiOctets ∙ ap spiSize (sym p))) in
+      (ap (λ (u : Bool). either u true (eqb (oct o 1) (spiSize (oct o 0)))) t ∙ eq-eqb (oct o 1) (spiSize (oct o 0)) (i .spiOctets
+      ∙ ap spiSize (sym p))) in
       let a : IsSaBody (inPolicy (oct o 0)) (drop (headSize o) o) (i .body) =
       subst (λ (u : ℕ). IsSaBody (inPolicy u) (drop (4 + spiSize u) o) (i .body)) (sym p) (i .holds) in
       let sp : spiOf o ≡ x .spi = ap (λ (u : ℕ). part o 4 (4 + spiSize u)) p ∙ i .spi in

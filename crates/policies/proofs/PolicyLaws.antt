@@ -23,7 +23,8 @@ use Rattle.attributes.specs.declared.tables.Place.the-variants as place
 use Rattle.attributes.proofs.Loops.{held-whole, held-broken, layout-mapped, then-layout, then-breaks, Ended, ended}
 use Rattle.policies.specs.Selector.{Selector, selector}
 use Rattle.policies.specs.Transform.{Transform, transforms}
-use Rattle.policies.specs.Policy.{headSize, headFits, Policy, Suite, suite, SaBody, saBody, groupSaOf, groupWideOf, policyHolds, policy}
+use Rattle.policies.specs.Policy.{headSize, headFits, Policy, Suite, suite, SaBody, saBody, groupSaOf, groupWideOf, policyHolds}
+use Rattle.policies.specs.Policy.{policy}
 use Rattle.policies.proofs.HeadLaws.{head-is}
 use Rattle.policies.proofs.SelectorLaws.{takes as selector-takes}
 use Rattle.policies.proofs.TransformLaws.{keeps as transforms-keep}
@@ -66,7 +67,8 @@ module _ (h : ℕ) (p : Place) (b : ℕ) (s : List ℕ) where
   body-breaks o q = then-breaks (selector h) (selector-keeps h) second b s o q
 
   module _ (a : ℕ) (q : spot.Ends a ≡ spotOf s (selector h b s)) where
-    pub body-breaks-2 : (o : ℕ) → spot.Broken o ≡ spotOf (tail s a) (selector h (b + a) (tail s a)) → layout.Broken o ≡ layoutOf (saBody h p b s)
+    pub body-breaks-2 : (o : ℕ) → spot.Broken o ≡ spotOf (tail s a) (selector h (b + a) (tail s a)) → layout.Broken o ≡ layoutOf
+        (saBody h p b s)
     unfolding saBody second final
     body-breaks-2 o f =
         then-layout (selector h) (selector-keeps h) second b s (layout.Broken o) a q
@@ -81,7 +83,8 @@ module _ (h : ℕ) (p : Place) (b : ℕ) (s : List ℕ) where
         ∙ ap (λ (c : ℕ). layoutOf (suite h p c (tail (tail s a) d))) (sym (add-assoc b a d)) in
         then-layout (selector h) (selector-keeps h) second b s y a q
         (λ src. then-layout (selector h) (selector-keeps h) (final src) (b + a) (tail s a) y d f
-        (λ dst. k ∙ layout-mapped (λ (x : Suite). record { source = src; destination = dst; suite = x }) (suite h p (b + a + d) (tail (tail s a) d))))
+        (λ dst. k ∙ layout-mapped (λ (x : Suite). record { source = src; destination = dst; suite = x }) (suite h p (b + a + d) (tail
+        (tail s a) d))))
 
 -- WHAT A POLICY HOLDS AFTER ITS HEAD
 module _ (b : ℕ) (s : List ℕ) (z n : ℕ) (zq : z ≡ headSize s) (nq : n ≡ be16 s 2) (y : Layout) where

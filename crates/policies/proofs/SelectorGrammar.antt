@@ -24,7 +24,8 @@ sizeAt s = selectorSize (oct s 0)
 two-addresses : (t : ℕ) → 0 < selectorSize t → selectorSize t ≡ 8 + addressSize t + addressSize t
 two-addresses t h = go (eqb t 7) (eqb t 8) h
   where
-    go : (x y : Bool) → 0 < either x 16 (either y 40 0) → either x 16 (either y 40 0) ≡ 8 + either x 4 (either y 16 0) + either x 4 (either y 16 0)
+    go : (x y : Bool) → 0 < either x 16 (either y 40 0) → either x 16 (either y 40 0) ≡ 8 + either x 4 (either y 16 0) + either x 4
+        (either y 16 0)
     go true y k = refl
     go false true k = refl
     go false false k = absurd (omega arith)
@@ -48,7 +49,8 @@ is-fits s f =
     ∙ eq-eqb (be16 s 2) (sizeAt s) (f .size)
 
 module _ (h : ℕ) where
-  inverse : (b : ℕ) (s : List ℕ) (x : Selector) (rest : List ℕ) → selector h b s ≡ whole x rest → Fits s × (selectorOf s ≡ x) × (rest ≡ drop (sizeAt s) s)
+  inverse : (b : ℕ) (s : List ℕ) (x : Selector) (rest : List ℕ) → selector h b s ≡ whole x rest → Fits s × (selectorOf s ≡ x) ×
+      (rest ≡ drop (sizeAt s) s)
   unfolding selector
   inverse b s x rest =
       by-test (λ (y : Reading Selector). y ≡ whole x rest → Fits s × (selectorOf s ≡ x) × (rest ≡ drop (sizeAt s) s)) (eqb (length s) 0)
@@ -80,7 +82,8 @@ module _ (h : ℕ) where
             let w = two-addresses (oct o 0) (f .known) in
             let n = long in
             let a : part (o ++ r) 8 (8 + addressSize (oct (o ++ r) 0)) ≡ part o 8 (8 + addressSize (oct o 0)) =
-            ap (λ (t : ℕ). part (o ++ r) 8 (8 + addressSize t)) first ∙ part-append o r 8 (8 + addressSize (oct o 0)) (omega arith) (omega arith) in
+            ap (λ (t : ℕ). part (o ++ r) 8 (8 + addressSize t)) first ∙ part-append o r 8 (8 + addressSize (oct o 0)) (omega arith)
+            (omega arith) in
             let e : part (o ++ r) (8 + addressSize (oct (o ++ r) 0)) (sizeAt (o ++ r)) ≡ part o (8 + addressSize (oct o 0)) (sizeAt o) =
             ap (λ (t : ℕ). part (o ++ r) (8 + addressSize t) (selectorSize t)) first
             ∙ part-append o r (8 + addressSize (oct o 0)) (sizeAt o) (omega arith) k in
@@ -146,7 +149,8 @@ module _ (h : ℕ) where
         let n : 0 < sizeAt o = subst (λ (t : ℕ). 0 < selectorSize t) k (i .known) in
         let w = two-addresses (oct o 0) n in
         let f : selectorFits o ≡ true = is-fits o (record { known = n; there = omega arith; size = i .size ∙ ap selectorSize k }) in
-        let a : part o 8 (8 + addressSize (oct o 0)) ≡ x .startAddress = ap (λ (t : ℕ). part o 8 (8 + addressSize t)) (i .kind) ∙ i .startAddress in
+        let a : part o 8 (8 + addressSize (oct o 0)) ≡ x .startAddress = ap (λ (t : ℕ). part o 8 (8 + addressSize t)) (i .kind)
+        ∙ i .startAddress in
         let z : part o (8 + addressSize (oct o 0)) (sizeAt o) ≡ x .endAddress =
         take-all (sizeAt o - (8 + addressSize (oct o 0))) (drop (8 + addressSize (oct o 0)) o) (rw length-drop (omega arith))
         ∙ ap (λ (t : ℕ). drop (8 + addressSize t) o) (i .kind) ∙ i .endAddress in

@@ -11,7 +11,8 @@ use lib.Seq.{take-all, drop-length}
 use Rattle.octets.specs.Numbers.{oct}
 use Rattle.octets.specs.Walk.{be16, part, either, both, sized, Reading, whole, broken, mapped, opened, begun, closed, within, Linked}
 use Rattle.octets.proofs.Walks.{both-true, begun-some}
-use Rattle.octets.proofs.Local.{extended, oct-append, be16-append, size-append, mapped-extend, opened-extend, begun-extend, within-extend, Local, exact, Split, split}
+use Rattle.octets.proofs.Local.{extended, oct-append, be16-append, size-append, mapped-extend, opened-extend, begun-extend, within-extend}
+use Rattle.octets.proofs.Local.{Local, exact, Split, split}
 use Rattle.octets.proofs.Inverse.{Mapped, inverse-mapped, inverse-opened, inverse-begun, Within, inverse-within}
 use Rattle.octets.proofs.Grammar.{Splits, reads, read}
 use Rattle.attributes.specs.Attribute.{Attribute}
@@ -136,7 +137,8 @@ module _ (h : ℕ) (more : Bool) where
       let m = is-mark (oct o 0) (x .next) (i .first) in
       let f : transformFits o ≡ true =
       ap (λ (t : Bool). both t (isMark (oct o 0)))
-      (ap (λ (t : Bool). both t (leb (be16 o 2) (length o))) (le-leb 8 (be16 o 2) (omega arith)) ∙ le-leb (be16 o 2) (length o) (omega arith))
+      (ap (λ (t : Bool). both t (leb (be16 o 2) (length o))) (le-leb 8 (be16 o 2) (omega arith)) ∙ le-leb (be16 o 2) (length o)
+      (omega arith))
       ∙ m .0 in
       let d : drop 8 o ≡ part o 8 (be16 o 2) = sym (take-all (be16 o 2 - 8) (drop 8 o) (rw length-drop (omega arith))) in
       let a : Attributes (inTransform (oct o 4)) (part o 8 (be16 o 2)) (i .attributes) =
@@ -159,7 +161,8 @@ module _ (h : ℕ) (more : Bool) where
       ∙ ap (mapped (transformOf o)) w ∙ (λ j. whole (e j) (drop (n j) o)) ∙ ap (whole x) (drop-length o)
 
 module _ (h : ℕ) where
-  sound : (more : Bool) (b : ℕ) (s : List ℕ) (x : Linked Bool Transform) (rest : List ℕ) → noMore more s ≡ false → transform h more b s ≡ whole x rest
+  sound : (more : Bool) (b : ℕ) (s : List ℕ) (x : Linked Bool Transform) (rest : List ℕ) → noMore more s ≡ false
+      → transform h more b s ≡ whole x rest
       → Splits IsTransform more s (x .item) (x .next) rest
   sound more b s x rest e q =
       let f = split (transform h more) 8 sizeAt (local h more) b s x rest q in

@@ -10,9 +10,11 @@ use native.Mathlib.Nat.{add-zero}
 use lib.ListN.{length, drop}
 use lib.Seq.{getD-drop}
 use Rattle.octets.specs.Numbers.{oct}
-use Rattle.octets.specs.Walk.{be16, part, both, sized, Reading, whole, broken, Reader, mapped, closed, opened, begun, within, Linked, chain, Outline, stops, breaks, outline}
+use Rattle.octets.specs.Walk.{be16, part, both, sized, Reading, whole, broken, Reader, mapped, closed, opened, begun, within, Linked}
+use Rattle.octets.specs.Walk.{chain, Outline, stops, breaks, outline}
 use Rattle.octets.proofs.Numerals.{sized-is}
-use Rattle.octets.proofs.Walks.{tail, by-test, both-true, Takes, Keeps, took, takes-mapped, takes-closed, begun-none, begun-some, takes-begun, opened-is, opened-not, takes-opened}
+use Rattle.octets.proofs.Walks.{tail, by-test, both-true, Takes, Keeps, took, takes-mapped, takes-closed, begun-none, begun-some}
+use Rattle.octets.proofs.Walks.{takes-begun, opened-is, opened-not, takes-opened}
 use Rattle.octets.proofs.Walks.{keeps-chain, chain-stops, chain-goes, chain-breaks}
 use Rattle.attributes.specs.Attribute.{Attribute}
 use Rattle.attributes.specs.Place.{inTransform}
@@ -124,7 +126,8 @@ module _ (h b : ℕ) (s : List ℕ) (at : ℕ) (l : at ≤ length s)
       let i = n .some in
       let g : n .item .next ≡ eqb m 3 =
       next-of h true (b + at) (drop at s) (n .item) (drop (at + e) s) (n .is) ∙ ap (λ (y : ℕ). eqb y 3) (first s at ∙ sym f) in
-      chain-goes noMore (transform h) (takes h) b s (outline (transforms h b s)) at true old refl (n .item) (at + e) (omega arith) (n .inside) (n .is)
+      chain-goes noMore (transform h) (takes h) b s (outline (transforms h b s)) at true old refl (n .item) (at + e) (omega arith)
+      (n .inside) (n .is)
       ∙ ap (λ (y : Bool). outline (chain noMore (transform h) y (b + (at + e)) (drop (at + e) s))) g
     where
       first : (s : List ℕ) (at : ℕ) → oct (drop at s) 0 ≡ oct s at
@@ -145,7 +148,8 @@ module _ (h b : ℕ) (s : List ℕ) (at : ℕ) (l : at ≤ length s)
       spot-stops s (transforms h b s) (at + e) (inside e q .1)
       (chain-stops noMore (transform h) (takes h) b s (outline (transforms h b s)) (at + e) false o refl)
 
-  pub tears : (o : ℕ) → spot.Broken o ≡ spotOf (tail s at) (transform h true (b + at) (tail s at)) → spot.Broken o ≡ spotOf s (transforms h b s)
+  pub tears : (o : ℕ) → spot.Broken o ≡ spotOf (tail s at) (transform h true (b + at) (tail s at)) → spot.Broken o ≡ spotOf s
+      (transforms h b s)
   tears o q =
       spot-breaks s (transforms h b s) o
       (chain-breaks noMore (transform h) (takes h) b s (outline (transforms h b s)) at true old refl o

@@ -11,9 +11,6 @@ use Rattle.attributes.specs.Layout.{attribute}
 use borrow.Author.Needs.{needs}
 use Rattle.attributes.proofs.are_attributes.Statement.{statement}
 use Rattle.attributes.proofs.are_attributes.Tie as tie
-use Rattle.attributes.proofs.are_attributes.Reads as reads
-use Rattle.attributes.proofs.are_attributes.Lts as lts
-use Rattle.attributes.proofs.attribute_in.Reads as attribute-in-reads
 
 abbrev Inv-loop : tie.InvT-loop
 Inv-loop place s base at₀ at = (at ≤ length s) × (layoutOf (attributes place base s) ≡ layoutOf (attributes place (base + at) (drop at s)))
@@ -21,31 +18,24 @@ Inv-loop place s base at₀ at = (at ≤ length s) × (layoutOf (attributes plac
 abbrev μ-loop : tie.MeasureT-loop
 μ-loop place s base at₀ at = length s - at
 
--- src/lib.rt:111:5
 loop-holds : tie.Need-loop-holds Inv-loop μ-loop
 loop-holds c = let a = c .before .args in (omega arith, loop-starts (attribute (a .place)) (takes (a .place)) (a .base) (now (a .s)))
 
--- src/lib.rt:112:35
 sub-attribute-in : tie.Need-sub-attribute-in Inv-loop μ-loop
 sub-attribute-in c = search needs
 
--- src/lib.rt:112:35
 part-attribute-in-start : tie.Need-part-attribute-in-start Inv-loop μ-loop
 part-attribute-in-start c = search needs
 
--- src/lib.rt:112:35
 part-attribute-in-end : tie.Need-part-attribute-in-end Inv-loop μ-loop
 part-attribute-in-end c = search needs
 
--- src/lib.rt:112:45
 add-attribute-in : tie.Need-add-attribute-in Inv-loop μ-loop
 add-attribute-in c = search needs
 
--- src/lib.rt:112:15
 attribute-in-requires : tie.Need-attribute-in-requires Inv-loop μ-loop
 attribute-in-requires c κs = search needs
 
--- src/lib.rt:113:24
 enum-known-e : tie.Need-enum-known-e Inv-loop μ-loop
 enum-known-e c = search needs
 
@@ -54,40 +44,37 @@ next : (c : tie.After-known-told Inv-loop μ-loop)
     let at = c .before .before .before .before .before .before .loop .at in
     let e = c .before .e .given .0 .0 in
     (0 < e) × (at + e ≤ length (now (a .s)))
-    × (layoutOf (attributes (a .place) (a .base) (now (a .s))) ≡ layoutOf (attributes (a .place) (a .base + (at + e)) (drop (at + e) (now (a .s)))))
+    × (layoutOf (attributes (a .place) (a .base) (now (a .s))) ≡ layoutOf (attributes (a .place) (a .base + (at + e)) (drop (at + e) (now
+    (a .s)))))
 next c =
     let a = c .before .before .before .before .before .before .before .before .args in
     let l = c .before .before .before .before .before .before .loop in
-    loop-goes (attribute (a .place)) (takes (a .place)) (a .base) (now (a .s)) (l .at) (l .inv .1) (c .before .before .before .before .before .loop-test .taken) (c .before .e .given .0 .0)
+    loop-goes (attribute (a .place)) (takes (a .place)) (a .base) (now (a .s)) (l .at) (l .inv .1)
+    (c .before .before .before .before .before .loop-test .taken) (c .before .e .given .0 .0)
     (sym (c .before .e .given .1) ∙ c .before .before .before .attribute-in .ensures)
 
--- src/lib.rt:114:22
 add-at : tie.Need-add-at Inv-loop μ-loop
 add-at c =
     let n = next c in
     record { fits = omega (arith, n .1) }
 
--- src/lib.rt:111:5
 loop-less : tie.Need-loop-less Inv-loop μ-loop
 loop-less c = let n = next c in omega (arith, n .0, n .1)
 
--- src/lib.rt:111:5
 loop-again : tie.Need-loop-again Inv-loop μ-loop
 loop-again c = let n = next c in (n .1, n .2)
 
--- src/lib.rt:116:26
 enum-known-o : tie.Need-enum-known-o Inv-loop μ-loop
 enum-known-o c = search needs
 
--- src/lib.rt:117:17
 returns : tie.Need-returns Inv-loop μ-loop
 returns c =
     let a = c .before .before .before .before .before .before .before .before .args in
     let l = c .before .before .before .before .before .before .loop in
-    loop-breaks (attribute (a .place)) (takes (a .place)) (a .base) (now (a .s)) (l .at) (l .inv .1) (c .before .before .before .before .before .loop-test .taken) _
+    loop-breaks (attribute (a .place)) (takes (a .place)) (a .base) (now (a .s)) (l .at) (l .inv .1)
+    (c .before .before .before .before .before .loop-test .taken) _
     (sym (c .before .o .given .1) ∙ c .before .before .before .attribute-in .ensures)
 
--- src/lib.rt:106:1
 returns-2 : tie.Need-returns-2 Inv-loop μ-loop
 returns-2 c =
     let a = c .before .before .before .args in

@@ -8,17 +8,10 @@ use Rattle.attributes.proofs.AttributeLaws.{IsRead, read-is, cut-is, re
 use borrow.Author.Needs.{needs}
 use Rattle.attributes.proofs.attribute_in.Statement.{statement}
 use Rattle.attributes.proofs.attribute_in.Tie as tie
-use Rattle.attributes.proofs.attribute_in.Reads as reads
-use Rattle.attributes.proofs.attribute_in.Lts as lts
-use Rattle.attributes.proofs.attribute_read.Reads as attribute-read-reads
-use Rattle.attributes.proofs.tables.is_formed.Reads as is-formed-reads
-use Rattle.attributes.proofs.tables.meaning_in.Reads as meaning-in-reads
 
--- src/lib.rt:89:11
 attribute-read-requires : tie.Need-attribute-read-requires
 attribute-read-requires c κs = search needs
 
--- src/lib.rt:91:13
 enum-known-short : tie.Need-enum-known-short
 enum-known-short c = search needs
 
@@ -30,45 +23,41 @@ found c =
     read-is (now (c .before .before .before .before .before .args .s)) (v .0) (v .1 .0) (v .1 .1 .0) (v .1 .1 .1 .0)
     (sym (c .before .short .given .1) ∙ c .before .before .before .attribute-read .ensures)
 
--- src/lib.rt:96:34
 meaning-in-requires : tie.Need-meaning-in-requires
 meaning-in-requires c κs = search needs
 
--- src/lib.rt:96:74
 sub-is-formed : tie.Need-sub-is-formed
 sub-is-formed c =
     let v = c .before .before .short .given .0 in
     read-inside _ (v .0) (v .1 .0) (v .1 .1 .0) (v .1 .1 .1 .0) (found (c .before)) .0
 
--- src/lib.rt:96:16
 is-formed-requires : tie.Need-is-formed-requires
 is-formed-requires c κs = search needs
 
--- src/lib.rt:97:17
 returns : tie.Need-returns
 returns c =
     let a = c .before .before .before .before .before .before .before .before .args in
     let v = c .before .before .before .before .short .given .0 in
     formed-in (a .place) (a .base) (now (a .s)) (v .0) (v .1 .0) (v .1 .1 .0) (v .1 .1 .1 .0) (found (c .before .before .before)) _
-    (c .before .is-formed .ensures ∙ ap (λ (m : Meaning). formed m (v .0) (v .1 .1 .1 .0 - v .1 .1 .0)) (c .before .before .meaning-in .ensures)) (c .if1 .taken)
+    (c .before .is-formed .ensures ∙ ap (λ (m : Meaning). formed m (v .0) (v .1 .1 .1 .0 - v .1 .1 .0))
+    (c .before .before .meaning-in .ensures)) (c .if1 .taken)
 
--- src/lib.rt:101:22
 enum-told : tie.Need-enum-told
 enum-told c = search needs
 
--- src/lib.rt:86:1
 returns-2 : tie.Need-returns-2
 returns-2 c =
     let a = c .before .before .before .before .before .before .before .before .args in
     let v = c .before .before .before .before .short .given .0 in
     not-formed (a .place) (a .base) (now (a .s)) (v .0) (v .1 .0) (v .1 .1 .0) (v .1 .1 .1 .0) (found (c .before .before .before)) _
-    (c .before .is-formed .ensures ∙ ap (λ (m : Meaning). formed m (v .0) (v .1 .1 .1 .0 - v .1 .1 .0)) (c .before .before .meaning-in .ensures)) (c .if1 .left)
+    (c .before .is-formed .ensures ∙ ap (λ (m : Meaning). formed m (v .0) (v .1 .1 .1 .0 - v .1 .1 .0))
+    (c .before .before .meaning-in .ensures)) (c .if1 .left)
 
--- src/lib.rt:86:1
 returns-3 : tie.Need-returns-3
 returns-3 c =
     let a = c .before .before .before .before .args in
-    cut-in (a .place) (a .base) (now (a .s)) (cut-is (now (a .s)) (sym (c .enum-told .given .1) ∙ c .before .before .attribute-read .ensures))
+    cut-in (a .place) (a .base) (now (a .s)) (cut-is (now (a .s)) (sym (c .enum-told .given .1)
+    ∙ c .before .before .attribute-read .ensures))
 
 pub attribute-in-spec : {M : Type 1} → statement M
 attribute-in-spec =

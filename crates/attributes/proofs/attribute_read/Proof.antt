@@ -3,45 +3,37 @@ use Rattle.attributes.proofs.AttributeLaws.{cut, short, long-cut, long}
 use borrow.Author.Needs.{needs}
 use Rattle.attributes.proofs.attribute_read.Statement.{statement}
 use Rattle.attributes.proofs.attribute_read.Tie as tie
-use Rattle.attributes.proofs.attribute_read.Reads as reads
-use Rattle.attributes.proofs.attribute_read.Lts as lts
-use Rattle.octets.proofs.numbers.be16_at.Reads as be16-at-reads
 
--- src/lib.rt:40:9
 returns : tie.Need-returns
 returns c = cut (now (c .before .before .args .s)) (c .if1 .taken)
 
--- src/lib.rt:42:9
 be16-at-requires : tie.Need-be16-at-requires
 be16-at-requires c κs = search needs
 
--- src/lib.rt:44:9
 returns-2 : tie.Need-returns-2
-returns-2 c = short (now (c .before .before .before .before .args .s)) (c .before .before .if1 .left) _ (c .before .be16-at .ensures .0) (c .if2 .taken)
+returns-2 c = short (now (c .before .before .before .before .args .s)) (c .before .before .if1 .left) _ (c .before .be16-at .ensures .0)
+    (c .if2 .taken)
 
--- src/lib.rt:51:9
 be16-at-requires-2 : tie.Need-be16-at-requires-2
 be16-at-requires-2 c κs = search needs
 
--- src/lib.rt:52:8
 sub-if3 : tie.Need-sub-if3
 sub-if3 c = search needs
 
--- src/lib.rt:53:9
 returns-3 : tie.Need-returns-3
 returns-3 c =
     let s = now (c .before .before .before .before .before .before .args .s) in
-    long-cut s (c .before .before .before .before .if1 .left) _ (c .before .before .before .be16-at .ensures .0) (c .before .before .if2 .left) _ (c .before .be16-at2 .ensures .0) (c .if3 .taken)
+    long-cut s (c .before .before .before .before .if1 .left) _ (c .before .before .before .be16-at .ensures .0)
+    (c .before .before .if2 .left) _ (c .before .be16-at2 .ensures .0) (c .if3 .taken)
 
--- src/lib.rt:59:14
 add-t7 : tie.Need-add-t7
 add-t7 c = search needs
 
--- src/lib.rt:36:1
 returns-4 : tie.Need-returns-4
 returns-4 c =
     let s = now (c .before .before .before .before .before .before .args .s) in
-    long s (c .before .before .before .before .if1 .left) _ (c .before .before .before .be16-at .ensures .0) (c .before .before .if2 .left) _ (c .before .be16-at2 .ensures .0) (c .if3 .left)
+    long s (c .before .before .before .before .if1 .left) _ (c .before .before .before .be16-at .ensures .0)
+    (c .before .before .if2 .left) _ (c .before .be16-at2 .ensures .0) (c .if3 .left)
 
 pub attribute-read-spec : {M : Type 1} → statement M
 attribute-read-spec =

@@ -9,124 +9,108 @@ use lib.ListN.{length, drop, length-drop}
 use borrow.Author.Needs.{needs}
 use Rattle.attributes.proofs.attribute_value.Statement.{statement}
 use Rattle.attributes.proofs.attribute_value.Tie as tie
-use Rattle.attributes.proofs.attribute_value.Reads as reads
-use Rattle.attributes.proofs.attribute_value.Lts as lts
-use Rattle.attributes.proofs.attribute_read.Reads as attribute-read-reads
 
--- src/lib.rt:68:16
 sub-result : tie.Need-sub-result
 sub-result c = search needs
 
--- src/lib.rt:68:16
 part-result-start : tie.Need-part-result-start
 part-result-start c = search needs
 
--- src/lib.rt:68:16
 part-result-end : tie.Need-part-result-end
 part-result-end c = search needs
 
--- src/lib.rt:68:9
 returns : tie.Need-returns
 returns c = value-past (now (c .before .before .before .args .s)) (c .before .before .before .args .at) (c .before .if1 .taken)
 
--- src/lib.rt:70:26
 sub-attribute-read : tie.Need-sub-attribute-read
 sub-attribute-read c = search needs
 
--- src/lib.rt:70:26
 part-attribute-read-start : tie.Need-part-attribute-read-start
 part-attribute-read-start c = search needs
 
--- src/lib.rt:70:26
 part-attribute-read-end : tie.Need-part-attribute-read-end
 part-attribute-read-end c = search needs
 
--- src/lib.rt:70:11
 attribute-read-requires : tie.Need-attribute-read-requires
 attribute-read-requires c κs = search needs
 
--- src/lib.rt:74:13
 enum-known-start : tie.Need-enum-known-start
 enum-known-start c = search needs
 
 found : (c : tie.After-known-told)
     → let v = c .before .start .given .0 in
-    IsRead (drop (c .before .before .before .before .before .before .before .args .at) (now (c .before .before .before .before .before .before .before .args .s))) (v .0) (v .1 .0) (v .1 .1 .0) (v .1 .1 .1 .0)
+    IsRead (drop (c .before .before .before .before .before .before .before .args .at) (now
+    (c .before .before .before .before .before .before .before .args .s))) (v .0) (v .1 .0) (v .1 .1 .0) (v .1 .1 .1 .0)
 found c =
     let v = c .before .start .given .0 in
-    read-is (drop (c .before .before .before .before .before .before .before .args .at) (now (c .before .before .before .before .before .before .before .args .s))) (v .0) (v .1 .0) (v .1 .1 .0) (v .1 .1 .1 .0)
-    (sym (c .before .start .given .1) ∙ c .before .before .before .attribute-read .ensures ∙ ap readOf (to-end (now (c .before .before .before .before .before .before .before .args .s)) (c .before .before .before .before .before .before .before .args .at)))
+    read-is (drop (c .before .before .before .before .before .before .before .args .at) (now
+    (c .before .before .before .before .before .before .before .args .s))) (v .0) (v .1 .0) (v .1 .1 .0) (v .1 .1 .1 .0)
+    (sym (c .before .start .given .1) ∙ c .before .before .before .attribute-read .ensures ∙ ap readOf (to-end (now
+    (c .before .before .before .before .before .before .before .args .s))
+    (c .before .before .before .before .before .before .before .args .at)))
 
 inside : (c : tie.After-known-told)
     → let v = c .before .start .given .0 in
-    (v .1 .1 .0 ≤ v .1 .1 .1 .0) × (v .1 .1 .1 .0 ≤ length (drop (c .before .before .before .before .before .before .before .args .at) (now (c .before .before .before .before .before .before .before .args .s)))) × (4 ≤ v .1 .1 .1 .0)
+    (v .1 .1 .0 ≤ v .1 .1 .1 .0) × (v .1 .1 .1 .0 ≤ length (drop (c .before .before .before .before .before .before .before .args .at)
+    (now (c .before .before .before .before .before .before .before .args .s)))) × (4 ≤ v .1 .1 .1 .0)
 inside c =
     let v = c .before .start .given .0 in
-    read-inside (drop (c .before .before .before .before .before .before .before .args .at) (now (c .before .before .before .before .before .before .before .args .s))) (v .0) (v .1 .0) (v .1 .1 .0) (v .1 .1 .1 .0) (found c)
+    read-inside (drop (c .before .before .before .before .before .before .before .args .at) (now
+    (c .before .before .before .before .before .before .before .args .s))) (v .0) (v .1 .0) (v .1 .1 .0) (v .1 .1 .1 .0) (found c)
 
--- src/lib.rt:77:21
 add-a : tie.Need-add-a
 add-a c =
     let a = c .before .before .before .before .before .before .before .args in
     let i = inside c in
     record { fits = omega (arith, i .0, i .1, length-drop (a .at) (now (a .s)), c .before .before .before .before .before .if1 .left) }
 
--- src/lib.rt:78:21
 add-e : tie.Need-add-e
 add-e c =
     let a = c .before .before .before .before .before .before .before .args in
     let i = inside c in
     record { fits = omega (arith, i .0, i .1, length-drop (a .at) (now (a .s)), c .before .before .before .before .before .if1 .left) }
 
--- src/lib.rt:79:13
 sub-result-2 : tie.Need-sub-result-2
 sub-result-2 c =
     let a = c .before .before .before .before .before .before .before .args in
     let i = inside c in
     omega (arith, i .0, i .1, length-drop (a .at) (now (a .s)), c .before .before .before .before .before .if1 .left)
 
--- src/lib.rt:79:13
 part-result-start-2 : tie.Need-part-result-start-2
 part-result-start-2 c =
     let a = c .before .before .before .before .before .before .before .args in
     let i = inside c in
     omega (arith, i .0, i .1, length-drop (a .at) (now (a .s)), c .before .before .before .before .before .if1 .left)
 
--- src/lib.rt:79:13
 part-result-end-2 : tie.Need-part-result-end-2
 part-result-end-2 c =
     let a = c .before .before .before .before .before .before .before .args in
     let i = inside c in
     omega (arith, i .0, i .1, length-drop (a .at) (now (a .s)), c .before .before .before .before .before .if1 .left)
 
--- src/lib.rt:81:22
 enum-told : tie.Need-enum-told
 enum-told c = search needs
 
--- src/lib.rt:81:22
 sub-result-3 : tie.Need-sub-result-3
 sub-result-3 c = search needs
 
--- src/lib.rt:81:22
 part-result-start-3 : tie.Need-part-result-start-3
 part-result-start-3 c = search needs
 
--- src/lib.rt:81:22
 part-result-end-3 : tie.Need-part-result-end-3
 part-result-end-3 c = search needs
 
--- src/lib.rt:64:1
 returns-2 : tie.Need-returns-2
 returns-2 c =
     let a = c .before .before .before .before .before .before .before .before .args in
     let v = c .before .before .start .given .0 in
     value-there (now (a .s)) (a .at) (v .0) (v .1 .0) (v .1 .1 .0) (v .1 .1 .1 .0) (found (c .before))
 
--- src/lib.rt:64:1
 returns-3 : tie.Need-returns-3
 returns-3 c =
     let a = c .before .before .before .before .before .before .before .args in
-    value-none (now (a .s)) (a .at) (cut-is (drop (a .at) (now (a .s))) (sym (c .before .enum-told .given .1) ∙ c .before .before .before .attribute-read .ensures ∙ ap readOf (to-end (now (a .s)) (a .at))))
+    value-none (now (a .s)) (a .at) (cut-is (drop (a .at) (now (a .s))) (sym (c .before .enum-told .given .1)
+    ∙ c .before .before .before .attribute-read .ensures ∙ ap readOf (to-end (now (a .s)) (a .at))))
 
 pub attribute-value-spec : {M : Type 1} → statement M
 attribute-value-spec =

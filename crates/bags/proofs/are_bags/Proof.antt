@@ -11,9 +11,6 @@ use Rattle.bags.proofs.BagLaws.{takes}
 use borrow.Author.Needs.{needs}
 use Rattle.bags.proofs.are_bags.Statement.{statement}
 use Rattle.bags.proofs.are_bags.Tie as tie
-use Rattle.bags.proofs.are_bags.Reads as reads
-use Rattle.bags.proofs.are_bags.Lts as lts
-use Rattle.bags.proofs.bag_spot.Reads as bag-spot-reads
 
 abbrev Inv-loop : tie.InvT-loop
 Inv-loop s base at₀ at = (at ≤ length s) × (layoutOf (bags base s) ≡ layoutOf (bags (base + at) (drop at s)))
@@ -21,33 +18,32 @@ Inv-loop s base at₀ at = (at ≤ length s) × (layoutOf (bags base s) ≡ layo
 abbrev μ-loop : tie.MeasureT-loop
 μ-loop s base at₀ at = length s - at
 
--- src/lib.rt:46:5
 loop-holds : tie.Need-loop-holds Inv-loop μ-loop
 loop-holds c = let a = c .before .args in (omega arith, loop-starts bag takes (a .base) (now (a .s)))
 
--- src/lib.rt:47:24
 sub-bag-spot : tie.Need-sub-bag-spot Inv-loop μ-loop
 sub-bag-spot c = search needs
 
--- src/lib.rt:47:24
 part-bag-spot-start : tie.Need-part-bag-spot-start Inv-loop μ-loop
 part-bag-spot-start c = search needs
 
--- src/lib.rt:47:24
 part-bag-spot-end : tie.Need-part-bag-spot-end Inv-loop μ-loop
 part-bag-spot-end c = search needs
 
--- src/lib.rt:47:34
 add-bag-spot : tie.Need-add-bag-spot Inv-loop μ-loop
 add-bag-spot c = search needs
 
--- src/lib.rt:47:15
 bag-spot-requires : tie.Need-bag-spot-requires Inv-loop μ-loop
 bag-spot-requires c κs =
     let a = c .before .before .before .before .args in
-    omega (arith, part-short (now (a .s)) (c .before .before .loop .at) (length (now (a .s))), c .before .before .before .before .pre, c .before .before .loop .inv .0)
+    omega (
+      arith,
+      part-short (now (a .s)) (c .before .before .loop .at) (length (now
+          (a .s))),
+      c .before .before .before .before .pre,
+      c .before .before .loop .inv .0,
+    )
 
--- src/lib.rt:48:24
 enum-known-e : tie.Need-enum-known-e Inv-loop μ-loop
 enum-known-e c = search needs
 
@@ -60,26 +56,22 @@ next : (c : tie.After-known-told Inv-loop μ-loop)
 next c =
     let a = c .before .before .before .before .before .before .before .before .args in
     let l = c .before .before .before .before .before .before .loop in
-    loop-goes bag takes (a .base) (now (a .s)) (l .at) (l .inv .1) (c .before .before .before .before .before .loop-test .taken) (c .before .e .given .0 .0)
+    loop-goes bag takes (a .base) (now (a .s)) (l .at) (l .inv .1) (c .before .before .before .before .before .loop-test .taken)
+    (c .before .e .given .0 .0)
     (sym (c .before .e .given .1) ∙ c .before .before .before .bag-spot .ensures)
 
--- src/lib.rt:49:22
 add-at : tie.Need-add-at Inv-loop μ-loop
 add-at c = let n = next c in record { fits = omega (arith, n .1) }
 
--- src/lib.rt:46:5
 loop-less : tie.Need-loop-less Inv-loop μ-loop
 loop-less c = let n = next c in omega (arith, n .0, n .1)
 
--- src/lib.rt:46:5
 loop-again : tie.Need-loop-again Inv-loop μ-loop
 loop-again c = let n = next c in (n .1, n .2)
 
--- src/lib.rt:51:26
 enum-known-o : tie.Need-enum-known-o Inv-loop μ-loop
 enum-known-o c = search needs
 
--- src/lib.rt:52:17
 returns : tie.Need-returns Inv-loop μ-loop
 returns c =
     let a = c .before .before .before .before .before .before .before .before .args in
@@ -87,7 +79,6 @@ returns c =
     loop-breaks bag takes (a .base) (now (a .s)) (l .at) (l .inv .1) (c .before .before .before .before .before .loop-test .taken) _
     (sym (c .before .o .given .1) ∙ c .before .before .before .bag-spot .ensures)
 
--- src/lib.rt:41:1
 returns-2 : tie.Need-returns-2 Inv-loop μ-loop
 returns-2 c =
     let a = c .before .before .before .args in

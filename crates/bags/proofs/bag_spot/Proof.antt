@@ -11,117 +11,123 @@ use Rattle.bags.proofs.BagLaws.{good, inner-broken, bad}
 use borrow.Author.Needs.{needs}
 use Rattle.bags.proofs.bag_spot.Statement.{statement}
 use Rattle.bags.proofs.bag_spot.Tie as tie
-use Rattle.bags.proofs.bag_spot.Reads as reads
-use Rattle.bags.proofs.bag_spot.Lts as lts
-use Rattle.attributes.proofs.are_attributes.Reads as are-attributes-reads
-use Rattle.bags.proofs.place_of.Reads as place-of-reads
-use Rattle.octets.proofs.numbers.be16_at.Reads as be16-at-reads
-use Rattle.octets.proofs.wide.Reads as wide-reads
-use Rattle.policies.proofs.head_fits.Reads as head-fits-reads
-use Rattle.policies.proofs.spi_size.Reads as spi-size-reads
 
--- src/lib.rt:27:8
 head-fits-requires : tie.Need-head-fits-requires
 head-fits-requires c κs = search needs
 
--- src/lib.rt:28:30
 shared-slice-read-wide : tie.Need-shared-slice-read-wide
 shared-slice-read-wide c =
     let a = c .before .before .before .before .args in
     let f = head-is (now (a .s)) (sym (c .before .before .head-fits .ensures) ∙ c .before .if1 .taken) in
     omega (arith, f .0, f .1)
 
--- src/lib.rt:28:13
 wide-requires : tie.Need-wide-requires
 wide-requires c κs = search needs
 
--- src/lib.rt:29:13
 be16-at-requires : tie.Need-be16-at-requires
 be16-at-requires c κs =
     let a = c .before .before .before .before .before .args in
     let f = head-is (now (a .s)) (sym (c .before .before .before .head-fits .ensures) ∙ c .before .before .if1 .taken) in
     omega (arith, f .0, f .1)
 
--- src/lib.rt:30:21
 spi-size-requires : tie.Need-spi-size-requires
 spi-size-requires c κs = search needs
 
--- src/lib.rt:30:17
 add-z : tie.Need-add-z
 add-z c = search needs
 
--- src/lib.rt:31:42
 place-of-requires : tie.Need-place-of-requires
 place-of-requires c κs = search needs
 
--- src/lib.rt:31:55
 sub-are-attributes : tie.Need-sub-are-attributes
 sub-are-attributes c =
     let a = c .before .before .before .before .before .before .before .before .args in
-    let f = head-is (now (a .s)) (sym (c .before .before .before .before .before .before .head-fits .ensures) ∙ c .before .before .before .before .before .if1 .taken) in
-    let z : c .before .spi-size .result ≡ spiSize (oct (now (a .s)) 0) = c .before .spi-size .ensures .0 ∙ ap spiSize (c .before .before .before .wide .ensures .0) in
+    let f = head-is (now (a .s)) (sym (c .before .before .before .before .before .before .head-fits .ensures)
+    ∙ c .before .before .before .before .before .if1 .taken) in
+    let z : c .before .spi-size .result ≡ spiSize (oct (now (a .s)) 0) = c .before .spi-size .ensures .0 ∙ ap spiSize
+    (c .before .before .before .wide .ensures .0) in
     let n = c .before .before .be16-at .ensures .0 in
     omega (arith, f .0, f .1, z, n)
 
--- src/lib.rt:31:55
 part-are-attributes-start : tie.Need-part-are-attributes-start
 part-are-attributes-start c =
     let a = c .before .before .before .before .before .before .before .before .args in
-    let f = head-is (now (a .s)) (sym (c .before .before .before .before .before .before .head-fits .ensures) ∙ c .before .before .before .before .before .if1 .taken) in
-    let z : c .before .spi-size .result ≡ spiSize (oct (now (a .s)) 0) = c .before .spi-size .ensures .0 ∙ ap spiSize (c .before .before .before .wide .ensures .0) in
+    let f = head-is (now (a .s)) (sym (c .before .before .before .before .before .before .head-fits .ensures)
+    ∙ c .before .before .before .before .before .if1 .taken) in
+    let z : c .before .spi-size .result ≡ spiSize (oct (now (a .s)) 0) = c .before .spi-size .ensures .0 ∙ ap spiSize
+    (c .before .before .before .wide .ensures .0) in
     let n = c .before .before .be16-at .ensures .0 in
     omega (arith, f .0, f .1, z, n)
 
--- src/lib.rt:31:55
 part-are-attributes-end : tie.Need-part-are-attributes-end
 part-are-attributes-end c =
     let a = c .before .before .before .before .before .before .before .before .args in
-    let f = head-is (now (a .s)) (sym (c .before .before .before .before .before .before .head-fits .ensures) ∙ c .before .before .before .before .before .if1 .taken) in
-    let z : c .before .spi-size .result ≡ spiSize (oct (now (a .s)) 0) = c .before .spi-size .ensures .0 ∙ ap spiSize (c .before .before .before .wide .ensures .0) in
+    let f = head-is (now (a .s)) (sym (c .before .before .before .before .before .before .head-fits .ensures)
+    ∙ c .before .before .before .before .before .if1 .taken) in
+    let z : c .before .spi-size .result ≡ spiSize (oct (now (a .s)) 0) = c .before .spi-size .ensures .0 ∙ ap spiSize
+    (c .before .before .before .wide .ensures .0) in
     let n = c .before .before .be16-at .ensures .0 in
     omega (arith, f .0, f .1, z, n)
 
--- src/lib.rt:31:65
 add-are-attributes : tie.Need-add-are-attributes
 add-are-attributes c = search needs
 
--- src/lib.rt:31:15
 are-attributes-requires : tie.Need-are-attributes-requires
 are-attributes-requires c κs =
     let a = c .before .before .before .before .before .before .before .before .before .args in
-    let f = head-is (now (a .s)) (sym (c .before .before .before .before .before .before .before .head-fits .ensures) ∙ c .before .before .before .before .before .before .if1 .taken) in
-    let z : c .before .before .spi-size .result ≡ spiSize (oct (now (a .s)) 0) = c .before .before .spi-size .ensures .0 ∙ ap spiSize (c .before .before .before .before .wide .ensures .0) in
+    let f = head-is (now (a .s)) (sym (c .before .before .before .before .before .before .before .head-fits .ensures)
+    ∙ c .before .before .before .before .before .before .if1 .taken) in
+    let z : c .before .before .spi-size .result ≡ spiSize (oct (now (a .s)) 0) = c .before .before .spi-size .ensures .0 ∙ ap spiSize
+    (c .before .before .before .before .wide .ensures .0) in
     let n = c .before .before .before .be16-at .ensures .0 in
-    omega (arith, f .0, f .1, z, n, part-short (now (a .s)) (4 + c .before .before .spi-size .result) (c .before .before .before .be16-at .result), c .before .before .before .before .before .before .before .before .before .pre)
+    omega (
+      arith,
+      f .0,
+      f .1,
+      z,
+      n,
+      part-short (now (a .s)) (4 + c .before .before .spi-size .result)
+          (c .before .before .before .be16-at .result),
+      c .before .before .before .before .before .before .before .before .before .pre,
+    )
 
--- src/lib.rt:32:30
 enum-told : tie.Need-enum-told
 enum-told c = search needs
 
--- src/lib.rt:33:28
 enum-known-o : tie.Need-enum-known-o
 enum-known-o c = search needs
 
--- src/lib.rt:23:1
 returns : tie.Need-returns
 returns c =
     let a = c .before .before .before .before .before .before .before .before .before .before .before .before .args in
-    let z : c .before .before .before .before .before .spi-size .result ≡ spiSize (oct (now (a .s)) 0) = c .before .before .before .before .before .spi-size .ensures .0 ∙ ap spiSize (c .before .before .before .before .before .before .before .wide .ensures .0) in
-    good (a .base) (now (a .s)) (sym (c .before .before .before .before .before .before .before .before .before .before .head-fits .ensures) ∙ c .before .before .before .before .before .before .before .before .before .if1 .taken) _ _ _ (ap (λ (u : ℕ). 4 + u) z) (c .before .before .before .before .before .before .be16-at .ensures .0)
-    (c .before .before .before .before .place-of .ensures ∙ ap placeOf (c .before .before .before .before .before .before .before .wide .ensures .0)) (sym (c .enum-told .given .1) ∙ c .before .before .are-attributes .ensures)
+    let z : c .before .before .before .before .before .spi-size .result ≡ spiSize (oct (now
+    (a .s)) 0) = c .before .before .before .before .before .spi-size .ensures .0 ∙ ap spiSize
+    (c .before .before .before .before .before .before .before .wide .ensures .0) in
+    good (a .base) (now (a .s)) (sym
+    (c .before .before .before .before .before .before .before .before .before .before .head-fits .ensures)
+    ∙ c .before .before .before .before .before .before .before .before .before .if1 .taken) _ _ _ (ap (λ (u : ℕ). 4 + u) z)
+    (c .before .before .before .before .before .before .be16-at .ensures .0)
+    (c .before .before .before .before .place-of .ensures ∙ ap placeOf
+    (c .before .before .before .before .before .before .before .wide .ensures .0)) (sym (c .enum-told .given .1)
+    ∙ c .before .before .are-attributes .ensures)
 
--- src/lib.rt:23:1
 returns-2 : tie.Need-returns-2
 returns-2 c =
     let a = c .before .before .before .before .before .before .before .before .before .before .before .before .before .args in
-    let z : c .before .before .before .before .before .before .spi-size .result ≡ spiSize (oct (now (a .s)) 0) = c .before .before .before .before .before .before .spi-size .ensures .0 ∙ ap spiSize (c .before .before .before .before .before .before .before .before .wide .ensures .0) in
-    inner-broken (a .base) (now (a .s)) (sym (c .before .before .before .before .before .before .before .before .before .before .before .head-fits .ensures) ∙ c .before .before .before .before .before .before .before .before .before .before .if1 .taken) _ _ _ (ap (λ (u : ℕ). 4 + u) z) (c .before .before .before .before .before .before .before .be16-at .ensures .0)
-    (c .before .before .before .before .before .place-of .ensures ∙ ap placeOf (c .before .before .before .before .before .before .before .before .wide .ensures .0)) _
+    let z : c .before .before .before .before .before .before .spi-size .result ≡ spiSize (oct (now
+    (a .s)) 0) = c .before .before .before .before .before .before .spi-size .ensures .0 ∙ ap spiSize
+    (c .before .before .before .before .before .before .before .before .wide .ensures .0) in
+    inner-broken (a .base) (now (a .s)) (sym
+    (c .before .before .before .before .before .before .before .before .before .before .before .head-fits .ensures)
+    ∙ c .before .before .before .before .before .before .before .before .before .before .if1 .taken) _ _ _ (ap (λ (u : ℕ). 4 + u) z)
+    (c .before .before .before .before .before .before .before .be16-at .ensures .0)
+    (c .before .before .before .before .before .place-of .ensures ∙ ap placeOf
+    (c .before .before .before .before .before .before .before .before .wide .ensures .0)) _
     (sym (c .before .o .given .1) ∙ c .before .before .before .are-attributes .ensures)
 
--- src/lib.rt:23:1
 returns-3 : tie.Need-returns-3
-returns-3 c = bad (c .before .before .before .args .base) (now (c .before .before .before .args .s)) (sym (c .before .head-fits .ensures) ∙ c .if1 .left)
+returns-3 c = bad (c .before .before .before .args .base) (now (c .before .before .before .args .s)) (sym (c .before .head-fits .ensures)
+    ∙ c .if1 .left)
 
 pub bag-spot-spec : {M : Type 1} → statement M
 bag-spot-spec =

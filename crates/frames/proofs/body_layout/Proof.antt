@@ -4,43 +4,41 @@ use Rattle.frames.proofs.PayloadLaws.{gsa-body, kd-body, delete-good, d
 use borrow.Author.Needs.{needs}
 use Rattle.frames.proofs.body_layout.Statement.{statement}
 use Rattle.frames.proofs.body_layout.Tie as tie
-use Rattle.frames.proofs.body_layout.Reads as reads
-use Rattle.frames.proofs.body_layout.Lts as lts
-use Rattle.bags.proofs.are_bags.Reads as are-bags-reads
-use Rattle.frames.proofs.delete_fits.Reads as delete-fits-reads
-use Rattle.policies.proofs.are_policies.Reads as are-policies-reads
 
--- src/lib.rt:95:9
 are-policies-requires : tie.Need-are-policies-requires
 are-policies-requires c κs = search needs
 
--- src/lib.rt:95:9
 returns : tie.Need-returns
-returns c = gsa-body (c .before .before .before .args .kind) (c .before .before .before .args .holder) (c .before .before .before .args .base) (now (c .before .before .before .args .s)) (c .before .if1 .taken) _ (c .are-policies .ensures)
+returns c = gsa-body (c .before .before .before .args .kind) (c .before .before .before .args .holder)
+    (c .before .before .before .args .base) (now (c .before .before .before .args .s)) (c .before .if1 .taken) _ (c .are-policies .ensures)
 
--- src/lib.rt:98:9
 are-bags-requires : tie.Need-are-bags-requires
 are-bags-requires c κs = search needs
 
--- src/lib.rt:98:9
 returns-2 : tie.Need-returns-2
-returns-2 c = kd-body (c .before .before .before .before .args .kind) (c .before .before .before .before .args .holder) (c .before .before .before .before .args .base) (now (c .before .before .before .before .args .s)) (c .before .before .if1 .left) (c .before .if2 .taken) _ (c .are-bags .ensures)
+returns-2 c = kd-body (c .before .before .before .before .args .kind) (c .before .before .before .before .args .holder)
+    (c .before .before .before .before .args .base) (now (c .before .before .before .before .args .s)) (c .before .before .if1 .left)
+    (c .before .if2 .taken) _ (c .are-bags .ensures)
 
--- src/lib.rt:101:12
 delete-fits-requires : tie.Need-delete-fits-requires
 delete-fits-requires c κs = search needs
 
--- src/lib.rt:102:13
 returns-3 : tie.Need-returns-3
-returns-3 c = delete-good (c .before .before .before .before .before .before .args .kind) (c .before .before .before .before .before .before .args .holder) (c .before .before .before .before .before .before .args .base) (now (c .before .before .before .before .before .before .args .s)) (c .before .before .before .before .if1 .left) (c .before .before .before .if2 .left) (c .before .before .if3 .taken) (sym (c .before .delete-fits .ensures) ∙ c .if4 .taken)
+returns-3 c = delete-good (c .before .before .before .before .before .before .args .kind)
+    (c .before .before .before .before .before .before .args .holder) (c .before .before .before .before .before .before .args .base) (now
+    (c .before .before .before .before .before .before .args .s)) (c .before .before .before .before .if1 .left)
+    (c .before .before .before .if2 .left) (c .before .before .if3 .taken) (sym (c .before .delete-fits .ensures) ∙ c .if4 .taken)
 
--- src/lib.rt:104:9
 returns-4 : tie.Need-returns-4
-returns-4 c = delete-bad (c .before .before .before .before .before .before .args .kind) (c .before .before .before .before .before .before .args .holder) (c .before .before .before .before .before .before .args .base) (now (c .before .before .before .before .before .before .args .s)) (c .before .before .before .before .if1 .left) (c .before .before .before .if2 .left) (c .before .before .if3 .taken) (sym (c .before .delete-fits .ensures) ∙ c .if4 .left)
+returns-4 c = delete-bad (c .before .before .before .before .before .before .args .kind)
+    (c .before .before .before .before .before .before .args .holder) (c .before .before .before .before .before .before .args .base) (now
+    (c .before .before .before .before .before .before .args .s)) (c .before .before .before .before .if1 .left)
+    (c .before .before .before .if2 .left) (c .before .before .if3 .taken) (sym (c .before .delete-fits .ensures) ∙ c .if4 .left)
 
--- src/lib.rt:90:1
 returns-5 : tie.Need-returns-5
-returns-5 c = unread-body (c .before .before .before .before .args .kind) (c .before .before .before .before .args .holder) (c .before .before .before .before .args .base) (now (c .before .before .before .before .args .s)) (c .before .before .if1 .left) (c .before .if2 .left) (c .if3 .left)
+returns-5 c = unread-body (c .before .before .before .before .args .kind) (c .before .before .before .before .args .holder)
+    (c .before .before .before .before .args .base) (now (c .before .before .before .before .args .s)) (c .before .before .if1 .left)
+    (c .before .if2 .left) (c .if3 .left)
 
 pub body-layout-spec : {M : Type 1} → statement M
 body-layout-spec =

@@ -3,70 +3,56 @@ use Rattle.frames.proofs.HeaderLaws.{too-short, too-long, other-length,
 use borrow.Author.Needs.{needs}
 use Rattle.frames.proofs.header_read.Statement.{statement}
 use Rattle.frames.proofs.header_read.Tie as tie
-use Rattle.frames.proofs.header_read.Reads as reads
-use Rattle.frames.proofs.header_read.Lts as lts
-use Rattle.octets.proofs.numbers.be32_at.Reads as be32-at-reads
-use Rattle.octets.proofs.wide.Reads as wide-reads
 
--- src/lib.rt:30:9
 returns : tie.Need-returns
 returns c = too-short (now (c .before .before .args .s)) (c .if1 .taken)
 
--- src/lib.rt:33:9
 returns-2 : tie.Need-returns-2
 returns-2 c = too-long (now (c .before .before .before .args .s)) (c .before .if1 .left) (c .if2 .taken)
 
--- src/lib.rt:35:8
 be32-at-requires : tie.Need-be32-at-requires
 be32-at-requires c κs = search needs
 
--- src/lib.rt:35:8
 cast-if3 : tie.Need-cast-if3
 cast-if3 c = search needs
 
--- src/lib.rt:36:9
 returns-3 : tie.Need-returns-3
-returns-3 c = other-length (now (c .before .before .before .before .before .args .s)) (c .before .before .before .if1 .left) (c .before .before .if2 .left) _ (c .before .be32-at .ensures) (c .if3 .taken)
+returns-3 c = other-length (now (c .before .before .before .before .before .args .s)) (c .before .before .before .if1 .left)
+    (c .before .before .if2 .left) _ (c .before .be32-at .ensures) (c .if3 .taken)
 
--- src/lib.rt:38:21
 shared-slice-read-wide : tie.Need-shared-slice-read-wide
 shared-slice-read-wide c = search needs
 
--- src/lib.rt:38:8
 wide-requires : tie.Need-wide-requires
 wide-requires c κs = search needs
 
--- src/lib.rt:39:9
 returns-4 : tie.Need-returns-4
 returns-4 c =
-    other-version (now (c .before .before .before .before .before .before .before .before .args .s)) (c .before .before .before .before .before .before .if1 .left) (c .before .before .before .before .before .if2 .left) _ (c .before .before .before .before .be32-at .ensures) (c .before .before .before .if3 .left)
+    other-version (now (c .before .before .before .before .before .before .before .before .args .s))
+    (c .before .before .before .before .before .before .if1 .left) (c .before .before .before .before .before .if2 .left) _
+    (c .before .before .before .before .be32-at .ensures) (c .before .before .before .if3 .left)
     _ (c .before .wide .ensures .0) (c .if4 .taken)
 
--- src/lib.rt:42:29
 shared-slice-read-wide-2 : tie.Need-shared-slice-read-wide-2
 shared-slice-read-wide-2 c = search needs
 
--- src/lib.rt:42:16
 wide-requires-2 : tie.Need-wide-requires-2
 wide-requires-2 c κs = search needs
 
--- src/lib.rt:43:32
 shared-slice-read-wide-3 : tie.Need-shared-slice-read-wide-3
 shared-slice-read-wide-3 c = search needs
 
--- src/lib.rt:43:19
 wide-requires-3 : tie.Need-wide-requires-3
 wide-requires-3 c κs = search needs
 
--- src/lib.rt:44:21
 be32-at-requires-2 : tie.Need-be32-at-requires-2
 be32-at-requires-2 c κs = search needs
 
--- src/lib.rt:26:1
 returns-5 : tie.Need-returns-5
 returns-5 c =
     header-there (now (c .before .before .before .before .before .before .before .before .before .before .before .before .before .args .s)) (c .before .before .before .before .before .before .before .before .before .before .before .if1 .left) (c .before .before .before .before .before .before .before .before .before .before .if2 .left) _ (c .before .before .before .before .before .before .before .before .before .be32-at .ensures) (c .before .before .before .before .before .before .before .before .if3 .left)
-    _ (c .before .before .before .before .before .before .wide .ensures .0) (c .before .before .before .before .before .if4 .left) _ _ _ (c .before .before .before .wide2 .ensures .0) (c .before .wide3 .ensures .0) (c .be32-at2 .ensures)
+    _ (c .before .before .before .before .before .before .wide .ensures .0) (c .before .before .before .before .before .if4 .left) _ _ _
+    (c .before .before .before .wide2 .ensures .0) (c .before .wide3 .ensures .0) (c .be32-at2 .ensures)
 
 pub header-read-spec : {M : Type 1} → statement M
 header-read-spec =

@@ -6,47 +6,39 @@ use Rattle.frames.proofs.HeaderLaws.{payload-there, payload-cut}
 use borrow.Author.Needs.{needs}
 use Rattle.frames.proofs.payload_read.Statement.{statement}
 use Rattle.frames.proofs.payload_read.Tie as tie
-use Rattle.frames.proofs.payload_read.Reads as reads
-use Rattle.frames.proofs.payload_read.Lts as lts
-use Rattle.octets.proofs.numbers.be16_at.Reads as be16-at-reads
-use Rattle.octets.proofs.numbers.is_sized.Reads as is-sized-reads
-use Rattle.octets.proofs.wide.Reads as wide-reads
 
--- src/lib.rt:62:8
 is-sized-requires : tie.Need-is-sized-requires
 is-sized-requires c κs = search needs
 
--- src/lib.rt:64:32
 shared-slice-read-wide : tie.Need-shared-slice-read-wide
 shared-slice-read-wide c =
-    let f = sized-is (now (c .before .before .before .before .args .s)) 4 (sym (c .before .before .is-sized .ensures) ∙ c .before .if1 .taken) in
+    let f = sized-is (now (c .before .before .before .before .args .s)) 4 (sym (c .before .before .is-sized .ensures)
+    ∙ c .before .if1 .taken) in
     omega (arith, f .0, f .1)
 
--- src/lib.rt:64:19
 wide-requires : tie.Need-wide-requires
 wide-requires c κs = search needs
 
--- src/lib.rt:65:43
 shared-slice-read-wide-2 : tie.Need-shared-slice-read-wide-2
 shared-slice-read-wide-2 c =
-    let f = sized-is (now (c .before .before .before .before .before .before .args .s)) 4 (sym (c .before .before .before .before .is-sized .ensures) ∙ c .before .before .before .if1 .taken) in
+    let f = sized-is (now (c .before .before .before .before .before .before .args .s)) 4 (sym
+    (c .before .before .before .before .is-sized .ensures) ∙ c .before .before .before .if1 .taken) in
     omega (arith, f .0, f .1)
 
--- src/lib.rt:65:30
 wide-requires-2 : tie.Need-wide-requires-2
 wide-requires-2 c κs = search needs
 
--- src/lib.rt:66:18
 be16-at-requires : tie.Need-be16-at-requires
 be16-at-requires c κs =
-    let f = sized-is (now (c .before .before .before .before .before .before .before .args .s)) 4 (sym (c .before .before .before .before .before .is-sized .ensures) ∙ c .before .before .before .before .if1 .taken) in
+    let f = sized-is (now (c .before .before .before .before .before .before .before .args .s)) 4 (sym
+    (c .before .before .before .before .before .is-sized .ensures) ∙ c .before .before .before .before .if1 .taken) in
     omega (arith, f .0, f .1)
 
--- src/lib.rt:63:9
 returns : tie.Need-returns
-returns c = payload-there (now (c .before .before .before .before .before .before .before .before .args .s)) _ (c .before .before .before .before .before .before .is-sized .ensures) (c .before .before .before .before .before .if1 .taken) _ _ _ (c .before .before .before .wide .ensures .0) (c .before .wide2 .ensures .0) (c .be16-at .ensures .0)
+returns c = payload-there (now (c .before .before .before .before .before .before .before .before .args .s)) _
+    (c .before .before .before .before .before .before .is-sized .ensures) (c .before .before .before .before .before .if1 .taken) _ _ _
+    (c .before .before .before .wide .ensures .0) (c .before .wide2 .ensures .0) (c .be16-at .ensures .0)
 
--- src/lib.rt:59:1
 returns-2 : tie.Need-returns-2
 returns-2 c = payload-cut (now (c .before .before .before .args .s)) _ (c .before .is-sized .ensures) (c .if1 .left)
 

@@ -10,91 +10,101 @@ use Rattle.frames.proofs.PayloadLaws.{starts, inside, goes, tears, ends
 use borrow.Author.Needs.{needs}
 use Rattle.frames.proofs.payloads_layout.Statement.{statement}
 use Rattle.frames.proofs.payloads_layout.Tie as tie
-use Rattle.frames.proofs.payloads_layout.Reads as reads
-use Rattle.frames.proofs.payloads_layout.Lts as lts
-use Rattle.frames.proofs.payload_spot.Reads as payload-spot-reads
-use Rattle.octets.proofs.wide.Reads as wide-reads
 
 abbrev Inv-loop : tie.InvT-loop
-Inv-loop first s base kind₀ at₀ kind at = (at ≤ length s) × (outline (payloads first base s) ≡ outline (payloads kind (base + at) (drop at s)))
+Inv-loop first s base kind₀ at₀ kind at = (at ≤ length s) × (outline (payloads first base s) ≡ outline (payloads kind (base + at)
+    (drop at s)))
 
 abbrev μ-loop : tie.MeasureT-loop
 μ-loop first s base kind₀ at₀ kind at = length s - at
 
--- src/lib.rt:137:5
 loop-holds : tie.Need-loop-holds Inv-loop μ-loop
 loop-holds c = (omega arith, starts (c .before .args .first) (c .before .args .base) (now (c .before .args .s)))
 
--- src/lib.rt:138:34
 sub-payload-spot : tie.Need-sub-payload-spot Inv-loop μ-loop
 sub-payload-spot c = search needs
 
--- src/lib.rt:138:34
 part-payload-spot-start : tie.Need-part-payload-spot-start Inv-loop μ-loop
 part-payload-spot-start c = search needs
 
--- src/lib.rt:138:34
 part-payload-spot-end : tie.Need-part-payload-spot-end Inv-loop μ-loop
 part-payload-spot-end c = search needs
 
--- src/lib.rt:138:44
 add-payload-spot : tie.Need-add-payload-spot Inv-loop μ-loop
 add-payload-spot c = search needs
 
--- src/lib.rt:138:15
 payload-spot-requires : tie.Need-payload-spot-requires Inv-loop μ-loop
-payload-spot-requires c κs = omega (arith, part-short (now (c .before .before .before .before .args .s)) (c .before .before .loop .at) (length (now (c .before .before .before .before .args .s))), c .before .before .before .before .pre, c .before .before .loop .inv .0)
+payload-spot-requires c κs = omega (
+  arith,
+  part-short (now (c .before .before .before .before .args .s)) (c .before .before .loop .at)
+      (length (now (c .before .before .before .before .args .s))),
+  c .before .before .before .before .pre,
+  c .before .before .loop .inv .0,
+)
 
--- src/lib.rt:139:24
 enum-known-e : tie.Need-enum-known-e Inv-loop μ-loop
 enum-known-e c = search needs
 
 within : (c : tie.After-known-told Inv-loop μ-loop)
     → let e = c .before .e .given .0 .0 in
-    (0 < e) × (c .before .before .before .before .before .before .loop .at + e ≤ length (now (c .before .before .before .before .before .before .before .before .args .s)))
+    (0 < e) × (c .before .before .before .before .before .before .loop .at + e ≤ length (now
+    (c .before .before .before .before .before .before .before .before .args .s)))
 within c =
-    inside (c .before .before .before .before .before .before .before .before .args .first) (c .before .before .before .before .before .before .before .before .args .base) (now (c .before .before .before .before .before .before .before .before .args .s)) (c .before .before .before .before .before .before .loop .kind) (c .before .before .before .before .before .before .loop .at) (c .before .before .before .before .before .before .loop .inv .0) (c .before .before .before .before .before .before .loop .inv .1)
+    inside (c .before .before .before .before .before .before .before .before .args .first)
+    (c .before .before .before .before .before .before .before .before .args .base) (now
+    (c .before .before .before .before .before .before .before .before .args .s))
+    (c .before .before .before .before .before .before .loop .kind) (c .before .before .before .before .before .before .loop .at)
+    (c .before .before .before .before .before .before .loop .inv .0) (c .before .before .before .before .before .before .loop .inv .1)
     (c .before .e .given .0 .0) (sym (c .before .e .given .1) ∙ c .before .before .before .payload-spot .ensures)
 
--- src/lib.rt:140:37
 shared-slice-read-wide : tie.Need-shared-slice-read-wide Inv-loop μ-loop
 shared-slice-read-wide c = let f = within (c .before) in omega (arith, f .0, f .1)
 
--- src/lib.rt:140:17
 wide-requires : tie.Need-wide-requires Inv-loop μ-loop
 wide-requires c κs = search needs
 
--- src/lib.rt:141:22
 add-at : tie.Need-add-at Inv-loop μ-loop
 add-at c = let f = within (c .before .before) in record { fits = omega (arith, f .1) }
 
--- src/lib.rt:137:5
 loop-less : tie.Need-loop-less Inv-loop μ-loop
 loop-less c = let f = within (c .before .before) in omega (arith, f .0, f .1)
 
--- src/lib.rt:137:5
 loop-again : tie.Need-loop-again Inv-loop μ-loop
 loop-again c = (
   within (c .before .before) .1,
-  goes (c .before .before .before .before .before .before .before .before .before .before .args .first) (c .before .before .before .before .before .before .before .before .before .before .args .base) (now (c .before .before .before .before .before .before .before .before .before .before .args .s)) (c .before .before .before .before .before .before .before .before .loop .kind) (c .before .before .before .before .before .before .before .before .loop .at) (c .before .before .before .before .before .before .before .before .loop .inv .0) (c .before .before .before .before .before .before .before .before .loop .inv .1) (c .before .before .before .before .before .before .before .loop-test .taken) _ _
-      (sym (c .before .before .before .e .given .1) ∙ c .before .before .before .before .before .payload-spot .ensures) (c .wide .ensures .0),
+  goes (c .before .before .before .before .before .before .before .before .before .before .args .first)
+      (c .before .before .before .before .before .before .before .before .before .before .args .base) (now
+      (c .before .before .before .before .before .before .before .before .before .before .args .s))
+      (c .before .before .before .before .before .before .before .before .loop .kind)
+      (c .before .before .before .before .before .before .before .before .loop .at)
+      (c .before .before .before .before .before .before .before .before .loop .inv .0)
+      (c .before .before .before .before .before .before .before .before .loop .inv .1)
+      (c .before .before .before .before .before .before .before .loop-test .taken) _ _
+      (sym (c .before .before .before .e .given .1) ∙ c .before .before .before .before .before .payload-spot .ensures)
+      (c .wide .ensures .0),
 )
 
--- src/lib.rt:143:26
 enum-known-o : tie.Need-enum-known-o Inv-loop μ-loop
 enum-known-o c = search needs
 
--- src/lib.rt:144:17
 returns : tie.Need-returns Inv-loop μ-loop
-returns c = tears (c .before .before .before .before .before .before .before .before .args .first) (c .before .before .before .before .before .before .before .before .args .base) (now (c .before .before .before .before .before .before .before .before .args .s)) (c .before .before .before .before .before .before .loop .kind) (c .before .before .before .before .before .before .loop .at) (c .before .before .before .before .before .before .loop .inv .0) (c .before .before .before .before .before .before .loop .inv .1) (c .before .before .before .before .before .loop-test .taken) _ (sym (c .before .o .given .1) ∙ c .before .before .before .payload-spot .ensures)
+returns c = tears (c .before .before .before .before .before .before .before .before .args .first)
+    (c .before .before .before .before .before .before .before .before .args .base) (now
+    (c .before .before .before .before .before .before .before .before .args .s))
+    (c .before .before .before .before .before .before .loop .kind) (c .before .before .before .before .before .before .loop .at)
+    (c .before .before .before .before .before .before .loop .inv .0) (c .before .before .before .before .before .before .loop .inv .1)
+    (c .before .before .before .before .before .loop-test .taken) _ (sym (c .before .o .given .1)
+    ∙ c .before .before .before .payload-spot .ensures)
 
--- src/lib.rt:149:9
 returns-2 : tie.Need-returns-2 Inv-loop μ-loop
-returns-2 c = ends (c .before .before .before .before .args .first) (c .before .before .before .before .args .base) (now (c .before .before .before .before .args .s)) (c .before .before .loop .kind) (c .before .before .loop .at) (c .before .before .loop .inv .0) (c .before .before .loop .inv .1) (c .before .loop-test .left) (c .if1 .taken)
+returns-2 c = ends (c .before .before .before .before .args .first) (c .before .before .before .before .args .base) (now
+    (c .before .before .before .before .args .s)) (c .before .before .loop .kind) (c .before .before .loop .at)
+    (c .before .before .loop .inv .0) (c .before .before .loop .inv .1) (c .before .loop-test .left) (c .if1 .taken)
 
--- src/lib.rt:131:1
 returns-3 : tie.Need-returns-3 Inv-loop μ-loop
-returns-3 c = left-over (c .before .before .before .before .args .first) (c .before .before .before .before .args .base) (now (c .before .before .before .before .args .s)) (c .before .before .loop .kind) (c .before .before .loop .at) (c .before .before .loop .inv .0) (c .before .before .loop .inv .1) (c .before .loop-test .left) (c .if1 .left)
+returns-3 c = left-over (c .before .before .before .before .args .first) (c .before .before .before .before .args .base) (now
+    (c .before .before .before .before .args .s)) (c .before .before .loop .kind) (c .before .before .loop .at)
+    (c .before .before .loop .inv .0) (c .before .before .loop .inv .1) (c .before .loop-test .left) (c .if1 .left)
 
 pub payloads-layout-spec : {M : Type 1} → statement M
 payloads-layout-spec =

@@ -11,9 +11,6 @@ use Rattle.policies.proofs.PolicyLaws.{takes}
 use borrow.Author.Needs.{needs}
 use Rattle.policies.proofs.are_policies.Statement.{statement}
 use Rattle.policies.proofs.are_policies.Tie as tie
-use Rattle.policies.proofs.are_policies.Reads as reads
-use Rattle.policies.proofs.are_policies.Lts as lts
-use Rattle.policies.proofs.policy_spot.Reads as policy-spot-reads
 
 abbrev Inv-loop : tie.InvT-loop
 Inv-loop s base at₀ at = (at ≤ length s) × (layoutOf (policies base s) ≡ layoutOf (policies (base + at) (drop at s)))
@@ -21,33 +18,32 @@ Inv-loop s base at₀ at = (at ≤ length s) × (layoutOf (policies base s) ≡ 
 abbrev μ-loop : tie.MeasureT-loop
 μ-loop s base at₀ at = length s - at
 
--- src/lib.rt:120:5
 loop-holds : tie.Need-loop-holds Inv-loop μ-loop
 loop-holds c = let a = c .before .args in (omega arith, loop-starts policy takes (a .base) (now (a .s)))
 
--- src/lib.rt:121:27
 sub-policy-spot : tie.Need-sub-policy-spot Inv-loop μ-loop
 sub-policy-spot c = search needs
 
--- src/lib.rt:121:27
 part-policy-spot-start : tie.Need-part-policy-spot-start Inv-loop μ-loop
 part-policy-spot-start c = search needs
 
--- src/lib.rt:121:27
 part-policy-spot-end : tie.Need-part-policy-spot-end Inv-loop μ-loop
 part-policy-spot-end c = search needs
 
--- src/lib.rt:121:37
 add-policy-spot : tie.Need-add-policy-spot Inv-loop μ-loop
 add-policy-spot c = search needs
 
--- src/lib.rt:121:15
 policy-spot-requires : tie.Need-policy-spot-requires Inv-loop μ-loop
 policy-spot-requires c κs =
     let a = c .before .before .before .before .args in
-    omega (arith, part-short (now (a .s)) (c .before .before .loop .at) (length (now (a .s))), c .before .before .before .before .pre, c .before .before .loop .inv .0)
+    omega (
+      arith,
+      part-short (now (a .s)) (c .before .before .loop .at) (length (now
+          (a .s))),
+      c .before .before .before .before .pre,
+      c .before .before .loop .inv .0,
+    )
 
--- src/lib.rt:122:24
 enum-known-e : tie.Need-enum-known-e Inv-loop μ-loop
 enum-known-e c = search needs
 
@@ -60,26 +56,22 @@ next : (c : tie.After-known-told Inv-loop μ-loop)
 next c =
     let a = c .before .before .before .before .before .before .before .before .args in
     let l = c .before .before .before .before .before .before .loop in
-    loop-goes policy takes (a .base) (now (a .s)) (l .at) (l .inv .1) (c .before .before .before .before .before .loop-test .taken) (c .before .e .given .0 .0)
+    loop-goes policy takes (a .base) (now (a .s)) (l .at) (l .inv .1) (c .before .before .before .before .before .loop-test .taken)
+    (c .before .e .given .0 .0)
     (sym (c .before .e .given .1) ∙ c .before .before .before .policy-spot .ensures)
 
--- src/lib.rt:123:22
 add-at : tie.Need-add-at Inv-loop μ-loop
 add-at c = let n = next c in record { fits = omega (arith, n .1) }
 
--- src/lib.rt:120:5
 loop-less : tie.Need-loop-less Inv-loop μ-loop
 loop-less c = let n = next c in omega (arith, n .0, n .1)
 
--- src/lib.rt:120:5
 loop-again : tie.Need-loop-again Inv-loop μ-loop
 loop-again c = let n = next c in (n .1, n .2)
 
--- src/lib.rt:125:26
 enum-known-o : tie.Need-enum-known-o Inv-loop μ-loop
 enum-known-o c = search needs
 
--- src/lib.rt:126:17
 returns : tie.Need-returns Inv-loop μ-loop
 returns c =
     let a = c .before .before .before .before .before .before .before .before .args in
@@ -87,7 +79,6 @@ returns c =
     loop-breaks policy takes (a .base) (now (a .s)) (l .at) (l .inv .1) (c .before .before .before .before .before .loop-test .taken) _
     (sym (c .before .o .given .1) ∙ c .before .before .before .policy-spot .ensures)
 
--- src/lib.rt:115:1
 returns-2 : tie.Need-returns-2 Inv-loop μ-loop
 returns-2 c =
     let a = c .before .before .before .args in

@@ -3,66 +3,55 @@ use Rattle.policies.proofs.HeadLaws.{head-cut, no-spi, unknown, other-s
 use borrow.Author.Needs.{needs}
 use Rattle.policies.proofs.head_fits.Statement.{statement}
 use Rattle.policies.proofs.head_fits.Tie as tie
-use Rattle.policies.proofs.head_fits.Reads as reads
-use Rattle.policies.proofs.head_fits.Lts as lts
-use Rattle.octets.proofs.numbers.is_sized.Reads as is-sized-reads
-use Rattle.octets.proofs.wide.Reads as wide-reads
-use Rattle.policies.proofs.spi_size.Reads as spi-size-reads
 
--- src/lib.rt:67:9
 returns : tie.Need-returns
 returns c = head-cut (now (c .before .before .args .s)) (c .if1 .taken)
 
--- src/lib.rt:69:26
 shared-slice-read-wide : tie.Need-shared-slice-read-wide
 shared-slice-read-wide c = search needs
 
--- src/lib.rt:69:9
 wide-requires : tie.Need-wide-requires
 wide-requires c κs = search needs
 
--- src/lib.rt:71:9
 is-sized-requires : tie.Need-is-sized-requires
 is-sized-requires c κs = search needs
 
--- src/lib.rt:71:9
 returns-2 : tie.Need-returns-2
-returns-2 c = no-spi (now (c .before .before .before .before .before .before .args .s)) _ (c .before .before .wide .ensures .0) (c .before .if2 .taken) _ (c .is-sized .ensures)
+returns-2 c = no-spi (now (c .before .before .before .before .before .before .args .s)) _ (c .before .before .wide .ensures .0)
+    (c .before .if2 .taken) _ (c .is-sized .ensures)
 
--- src/lib.rt:73:9
 spi-size-requires : tie.Need-spi-size-requires
 spi-size-requires c κs = search needs
 
--- src/lib.rt:75:9
 returns-3 : tie.Need-returns-3
-returns-3 c = unknown (now (c .before .before .before .before .before .before .before .args .s)) _ (c .before .before .before .wide .ensures .0) (c .before .before .if2 .left) _ (c .before .spi-size .ensures .0) (c .if3 .taken)
+returns-3 c = unknown (now (c .before .before .before .before .before .before .before .args .s)) _
+    (c .before .before .before .wide .ensures .0) (c .before .before .if2 .left) _ (c .before .spi-size .ensures .0) (c .if3 .taken)
 
--- src/lib.rt:77:21
 shared-slice-read-wide-2 : tie.Need-shared-slice-read-wide-2
 shared-slice-read-wide-2 c = search needs
 
--- src/lib.rt:77:8
 wide-requires-2 : tie.Need-wide-requires-2
 wide-requires-2 c κs = search needs
 
--- src/lib.rt:78:45
 add-is-sized : tie.Need-add-is-sized
 add-is-sized c = search needs
 
--- src/lib.rt:78:9
 is-sized-requires-2 : tie.Need-is-sized-requires-2
 is-sized-requires-2 c κs = search needs
 
--- src/lib.rt:78:9
 returns-4 : tie.Need-returns-4
 returns-4 c =
-    with-spi (now (c .before .before .before .before .before .before .before .before .before .before .before .args .s)) _ (c .before .before .before .before .before .before .before .wide .ensures .0) (c .before .before .before .before .before .before .if2 .left) _ (c .before .before .before .before .before .spi-size .ensures .0) (c .before .before .before .before .if3 .left)
+    with-spi (now (c .before .before .before .before .before .before .before .before .before .before .before .args .s)) _
+    (c .before .before .before .before .before .before .before .wide .ensures .0)
+    (c .before .before .before .before .before .before .if2 .left) _ (c .before .before .before .before .before .spi-size .ensures .0)
+    (c .before .before .before .before .if3 .left)
     _ (c .before .before .wide2 .ensures .0) (c .before .if4 .taken) _ (c .is-sized2 .ensures)
 
--- src/lib.rt:63:1
 returns-5 : tie.Need-returns-5
 returns-5 c =
-    other-size (now (c .before .before .before .before .before .before .before .before .before .before .args .s)) _ (c .before .before .before .before .before .before .wide .ensures .0) (c .before .before .before .before .before .if2 .left) _ (c .before .before .before .before .spi-size .ensures .0) (c .before .before .before .if3 .left)
+    other-size (now (c .before .before .before .before .before .before .before .before .before .before .args .s)) _
+    (c .before .before .before .before .before .before .wide .ensures .0) (c .before .before .before .before .before .if2 .left) _
+    (c .before .before .before .before .spi-size .ensures .0) (c .before .before .before .if3 .left)
     _ (c .before .wide2 .ensures .0) (c .if4 .left)
 
 pub head-fits-spec : {M : Type 1} → statement M

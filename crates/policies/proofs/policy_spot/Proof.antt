@@ -6,45 +6,43 @@ use Rattle.policies.proofs.PolicyLaws.{good, inner-broken, bad}
 use borrow.Author.Needs.{needs}
 use Rattle.policies.proofs.policy_spot.Statement.{statement}
 use Rattle.policies.proofs.policy_spot.Tie as tie
-use Rattle.policies.proofs.policy_spot.Reads as reads
-use Rattle.policies.proofs.policy_spot.Lts as lts
-use Rattle.octets.proofs.numbers.be16_at.Reads as be16-at-reads
-use Rattle.policies.proofs.head_fits.Reads as head-fits-reads
-use Rattle.policies.proofs.policy_layout.Reads as policy-layout-reads
 
--- src/lib.rt:103:8
 head-fits-requires : tie.Need-head-fits-requires
 head-fits-requires c κs = search needs
 
--- src/lib.rt:104:13
 be16-at-requires : tie.Need-be16-at-requires
 be16-at-requires c κs =
     let f = head-is (now (c .before .before .before .args .s)) (sym (c .before .head-fits .ensures) ∙ c .if1 .taken) in
     omega (arith, f .0, f .1)
 
--- src/lib.rt:105:15
 policy-layout-requires : tie.Need-policy-layout-requires
-policy-layout-requires c κs = ((sym (c .before .before .head-fits .ensures) ∙ c .before .if1 .taken), c .before .before .before .before .pre)
+policy-layout-requires c κs = (
+  (sym (c .before .before .head-fits .ensures)
+      ∙ c .before .if1 .taken),
+  c .before .before .before .before .pre,
+)
 
--- src/lib.rt:106:30
 enum-told : tie.Need-enum-told
 enum-told c = search needs
 
--- src/lib.rt:107:28
 enum-known-o : tie.Need-enum-known-o
 enum-known-o c = search needs
 
--- src/lib.rt:99:1
 returns : tie.Need-returns
-returns c = good (c .before .before .before .before .before .before .before .args .base) (now (c .before .before .before .before .before .before .before .args .s)) (sym (c .before .before .before .before .before .head-fits .ensures) ∙ c .before .before .before .before .if1 .taken) _ (c .before .before .before .be16-at .ensures .0) (sym (c .enum-told .given .1) ∙ c .before .before .policy-layout .ensures)
+returns c = good (c .before .before .before .before .before .before .before .args .base) (now
+    (c .before .before .before .before .before .before .before .args .s)) (sym
+    (c .before .before .before .before .before .head-fits .ensures) ∙ c .before .before .before .before .if1 .taken) _
+    (c .before .before .before .be16-at .ensures .0) (sym (c .enum-told .given .1) ∙ c .before .before .policy-layout .ensures)
 
--- src/lib.rt:99:1
 returns-2 : tie.Need-returns-2
-returns-2 c = inner-broken (c .before .before .before .before .before .before .before .before .args .base) (now (c .before .before .before .before .before .before .before .before .args .s)) (sym (c .before .before .before .before .before .before .head-fits .ensures) ∙ c .before .before .before .before .before .if1 .taken) _ (sym (c .before .o .given .1) ∙ c .before .before .before .policy-layout .ensures)
+returns-2 c = inner-broken (c .before .before .before .before .before .before .before .before .args .base) (now
+    (c .before .before .before .before .before .before .before .before .args .s)) (sym
+    (c .before .before .before .before .before .before .head-fits .ensures) ∙ c .before .before .before .before .before .if1 .taken) _
+    (sym (c .before .o .given .1) ∙ c .before .before .before .policy-layout .ensures)
 
--- src/lib.rt:99:1
 returns-3 : tie.Need-returns-3
-returns-3 c = bad (c .before .before .before .args .base) (now (c .before .before .before .args .s)) (sym (c .before .head-fits .ensures) ∙ c .if1 .left)
+returns-3 c = bad (c .before .before .before .args .base) (now (c .before .before .before .args .s)) (sym (c .before .head-fits .ensures)
+    ∙ c .if1 .left)
 
 pub policy-spot-spec : {M : Type 1} → statement M
 policy-spot-spec =

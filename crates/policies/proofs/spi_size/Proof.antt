@@ -4,24 +4,34 @@ use mathlib.Core.Path.{_≡_, refl, ap, sym, _∙_, subst}
 use borrow.Author.Needs.{needs}
 use Rattle.policies.proofs.spi_size.Statement.{statement}
 use Rattle.policies.proofs.spi_size.Tie as tie
-use Rattle.policies.proofs.spi_size.Reads as reads
-use Rattle.policies.proofs.spi_size.Lts as lts
 
--- src/lib.rt:51:9
 returns : tie.Need-returns
 returns c = (sym (simp (eq-eqb _ _ (c .if1 .taken))), omega arith)
 
--- src/lib.rt:54:9
 returns-2 : tie.Need-returns-2
 returns-2 c = (sym (simp (ne-eqb _ _ (c .before .if1 .left), eq-eqb _ _ (c .if2 .taken))), omega arith)
 
--- src/lib.rt:57:9
 returns-3 : tie.Need-returns-3
-returns-3 c = (sym (simp (ne-eqb _ _ (c .before .before .if1 .left), ne-eqb _ _ (c .before .if2 .left), eq-eqb _ _ (c .if3 .taken))), omega arith)
+returns-3 c = (
+  sym (simp (
+    ne-eqb _ _ (c .before .before .if1 .left),
+    ne-eqb _ _ (c .before .if2 .left),
+    eq-eqb _ _
+        (c .if3 .taken),
+  )),
+  omega arith,
+)
 
--- src/lib.rt:47:1
 returns-4 : tie.Need-returns-4
-returns-4 c = (sym (simp (ne-eqb _ _ (c .before .before .if1 .left), ne-eqb _ _ (c .before .if2 .left), ne-eqb _ _ (c .if3 .left))), omega arith)
+returns-4 c = (
+  sym (simp (
+    ne-eqb _ _ (c .before .before .if1 .left),
+    ne-eqb _ _ (c .before .if2 .left),
+    ne-eqb _ _
+        (c .if3 .left),
+  )),
+  omega arith,
+)
 
 pub spi-size-spec : {M : Type 1} → statement M
 spi-size-spec = tie.close (tie.spec returns returns-2 returns-3 returns-4)

@@ -7,70 +7,62 @@ use Rattle.policies.proofs.PolicyLaws.{transforms-inside, suite-goes, s
 use borrow.Author.Needs.{needs}
 use Rattle.policies.proofs.suite_layout.Statement.{statement}
 use Rattle.policies.proofs.suite_layout.Tie as tie
-use Rattle.policies.proofs.suite_layout.Reads as reads
-use Rattle.policies.proofs.suite_layout.Lts as lts
-use Rattle.attributes.proofs.are_attributes.Reads as are-attributes-reads
-use Rattle.policies.proofs.transforms.transforms_spot.Reads as transforms-spot-reads
 
--- src/lib.rt:23:11
 transforms-spot-requires : tie.Need-transforms-spot-requires
 transforms-spot-requires c κs = search needs
 
--- src/lib.rt:24:20
 enum-known-e : tie.Need-enum-known-e
 enum-known-e c = search needs
 
--- src/lib.rt:24:60
 sub-are-attributes : tie.Need-sub-are-attributes
 sub-are-attributes c =
     let a = c .before .before .before .before .before .args in
     let e = c .before .e .given .0 .0 in
-    let i = transforms-inside (a .holder) (a .base) (now (a .s)) e (sym (c .before .e .given .1) ∙ c .before .before .before .transforms-spot .ensures) in
+    let i = transforms-inside (a .holder) (a .base) (now (a .s)) e (sym (c .before .e .given .1)
+    ∙ c .before .before .before .transforms-spot .ensures) in
     omega (arith, i)
 
--- src/lib.rt:24:60
 part-are-attributes-start : tie.Need-part-are-attributes-start
 part-are-attributes-start c =
     let a = c .before .before .before .before .before .args in
     let e = c .before .e .given .0 .0 in
-    let i = transforms-inside (a .holder) (a .base) (now (a .s)) e (sym (c .before .e .given .1) ∙ c .before .before .before .transforms-spot .ensures) in
+    let i = transforms-inside (a .holder) (a .base) (now (a .s)) e (sym (c .before .e .given .1)
+    ∙ c .before .before .before .transforms-spot .ensures) in
     omega (arith, i)
 
--- src/lib.rt:24:60
 part-are-attributes-end : tie.Need-part-are-attributes-end
 part-are-attributes-end c = search needs
 
--- src/lib.rt:24:69
 add-are-attributes : tie.Need-add-are-attributes
 add-are-attributes c =
     let a = c .before .before .before .before .before .before .args in
     let e = c .before .before .e .given .0 .0 in
-    let i = transforms-inside (a .holder) (a .base) (now (a .s)) e (sym (c .before .before .e .given .1) ∙ c .before .before .before .before .transforms-spot .ensures) in
+    let i = transforms-inside (a .holder) (a .base) (now (a .s)) e (sym (c .before .before .e .given .1)
+    ∙ c .before .before .before .before .transforms-spot .ensures) in
     record { fits = omega (arith, i, c .before .before .before .before .before .before .pre) }
 
--- src/lib.rt:24:26
 are-attributes-requires : tie.Need-are-attributes-requires
 are-attributes-requires c κs =
     let a = c .before .before .before .before .before .before .args in
     let e = c .before .before .e .given .0 .0 in
-    let i = transforms-inside (a .holder) (a .base) (now (a .s)) e (sym (c .before .before .e .given .1) ∙ c .before .before .before .before .transforms-spot .ensures) in
+    let i = transforms-inside (a .holder) (a .base) (now (a .s)) e (sym (c .before .before .e .given .1)
+    ∙ c .before .before .before .before .transforms-spot .ensures) in
     omega (arith, i, part-short (now (a .s)) e (length (now (a .s))), c .before .before .before .before .before .before .pre)
 
--- src/lib.rt:25:22
 enum-known-o : tie.Need-enum-known-o
 enum-known-o c = search needs
 
--- src/lib.rt:19:1
 returns : tie.Need-returns
 returns c =
     let a = c .before .before .before .before .before .before .before .args in
-    suite-goes (a .holder) (a .place) (a .base) (now (a .s)) _ _ (sym (c .before .before .before .e .given .1) ∙ c .before .before .before .before .before .transforms-spot .ensures) (c .are-attributes .ensures)
+    suite-goes (a .holder) (a .place) (a .base) (now (a .s)) _ _ (sym (c .before .before .before .e .given .1)
+    ∙ c .before .before .before .before .before .transforms-spot .ensures) (c .are-attributes .ensures)
 
--- src/lib.rt:19:1
 returns-2 : tie.Need-returns-2
 returns-2 c =
     let a = c .before .before .before .before .before .args in
-    suite-breaks (a .holder) (a .place) (a .base) (now (a .s)) _ (sym (c .before .o .given .1) ∙ c .before .before .before .transforms-spot .ensures)
+    suite-breaks (a .holder) (a .place) (a .base) (now (a .s)) _ (sym (c .before .o .given .1)
+    ∙ c .before .before .before .transforms-spot .ensures)
 
 pub suite-layout-spec : {M : Type 1} → statement M
 suite-layout-spec =

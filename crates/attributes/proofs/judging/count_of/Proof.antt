@@ -10,9 +10,6 @@ use Rattle.attributes.specs.inner.Whole.{isWhole, valuesIn, FoundAt, Fin
 use borrow.Author.Needs.{needs}
 use Rattle.attributes.proofs.judging.count_of.Statement.{statement}
 use Rattle.attributes.proofs.judging.count_of.Tie as tie
-use Rattle.attributes.proofs.judging.count_of.Reads as reads
-use Rattle.attributes.proofs.judging.count_of.Lts as lts
-use Rattle.attributes.proofs.judging.next_of.Reads as next-of-reads
 
 abbrev Inv-loop : tie.InvT-loop
 Inv-loop m place s n₀ at₀ n at =
@@ -22,15 +19,12 @@ Inv-loop m place s n₀ at₀ n at =
 abbrev μ-loop : tie.MeasureT-loop
 μ-loop m place s n₀ at₀ n at = length s - at
 
--- src/judging.rt:54:5
 loop-holds : tie.Need-loop-holds Inv-loop μ-loop
 loop-holds c = (omega arith, omega arith, c .before .pre, omega arith)
 
--- src/judging.rt:55:15
 next-of-requires : tie.Need-next-of-requires Inv-loop μ-loop
 next-of-requires c κs = (c .loop .inv .1, c .loop .inv .2)
 
--- src/judging.rt:56:26
 enum-known-e : tie.Need-enum-known-e Inv-loop μ-loop
 enum-known-e c = search needs
 
@@ -40,32 +34,34 @@ next : (c : tie.After-known-told Inv-loop μ-loop)
     FoundAt (a .m) (a .place) (now (a .s)) (c .before .before .before .before .loop .at) (v .0) (v .1 .0)
 next c =
     let a = c .before .before .before .before .before .before .args in
-    subst (Finds (a .m) (a .place) (now (a .s)) (c .before .before .before .before .loop .at)) (c .before .e .given .1) (c .before .before .before .next-of .ensures)
+    subst (Finds (a .m) (a .place) (now (a .s)) (c .before .before .before .before .loop .at)) (c .before .e .given .1)
+    (c .before .before .before .next-of .ensures)
 
--- src/judging.rt:57:21
 add-n : tie.Need-add-n Inv-loop μ-loop
 add-n c = let f = next c in record { fits = omega (arith, f .start, f .order, f .inside, c .before .before .before .before .loop .inv .0) }
 
--- src/judging.rt:54:5
 loop-less : tie.Need-loop-less Inv-loop μ-loop
 loop-less c = let f = next c in omega (arith, f .start, f .order, f .inside)
 
--- src/judging.rt:54:5
 loop-again : tie.Need-loop-again Inv-loop μ-loop
 loop-again c =
-    let f = next c in
-    (omega (arith, f .start, f .order, f .inside, c .before .before .before .before .loop .inv .0), f .inside, f .rest, omega (arith, c .before .before .before .before .loop .inv .3, ap length (f .first)))
+    let f = next c in (
+      omega (arith, f .start, f .order, f .inside, c .before .before .before .before .loop .inv .0),
+      f .inside,
+      f .rest,
+      omega
+          (arith, c .before .before .before .before .loop .inv .3, ap length (f .first)),
+    )
 
--- src/judging.rt:61:17
 enum-told : tie.Need-enum-told Inv-loop μ-loop
 enum-told c = search needs
 
--- src/judging.rt:61:17
 returns : tie.Need-returns Inv-loop μ-loop
 returns c =
     let a = c .before .before .before .before .before .args in
     let f : valuesIn (a .m) (a .place) (drop (c .before .before .before .loop .at) (now (a .s))) ≡ [] =
-    subst (Finds (a .m) (a .place) (now (a .s)) (c .before .before .before .loop .at)) (c .enum-told .given .1) (c .before .before .next-of .ensures) in
+    subst (Finds (a .m) (a .place) (now (a .s)) (c .before .before .before .loop .at)) (c .enum-told .given .1)
+    (c .before .before .next-of .ensures) in
     omega (arith, c .before .before .before .loop .inv .3, ap length f)
 
 pub count-of-spec : {M : Type 1} → statement M

@@ -1,75 +1,55 @@
 use borrow.Author.Needs.{needs}
 use Rattle.attributes.proofs.tables.is_formed.Statement.{statement}
 use Rattle.attributes.proofs.tables.is_formed.Tie as tie
-use Rattle.attributes.proofs.tables.is_formed.Reads as reads
-use Rattle.attributes.proofs.tables.is_formed.Lts as lts
-use Rattle.attributes.proofs.tables.is_wrapped_size.Reads as is-wrapped-size-reads
 
--- src/tables.rt:93:29
 enum-told : tie.Need-enum-told
 enum-told c = search needs
 
--- src/tables.rt:94:31
 enum-told-2 : tie.Need-enum-told-2
 enum-told-2 c = search needs
 
--- src/tables.rt:95:39
 enum-told-3 : tie.Need-enum-told-3
 enum-told-3 c = search needs
 
--- src/tables.rt:97:16
 enum-told-4 : tie.Need-enum-told-4
 enum-told-4 c = search needs
 
--- src/tables.rt:98:17
 returns : tie.Need-returns
 returns c = search needs
 
--- src/tables.rt:103:16
 enum-told-5 : tie.Need-enum-told-5
 enum-told-5 c = search needs
 
--- src/tables.rt:104:17
 returns-2 : tie.Need-returns-2
 returns-2 c = search needs
 
--- src/tables.rt:106:13
 is-wrapped-size-requires : tie.Need-is-wrapped-size-requires
 is-wrapped-size-requires c κs = search needs
 
--- src/tables.rt:109:16
 enum-told-6 : tie.Need-enum-told-6
 enum-told-6 c = search needs
 
--- src/tables.rt:110:17
 returns-3 : tie.Need-returns-3
 returns-3 c = search needs
 
--- src/tables.rt:112:13
 is-wrapped-size-requires-2 : tie.Need-is-wrapped-size-requires-2
 is-wrapped-size-requires-2 c κs = search needs
 
--- src/tables.rt:89:1
 returns-4 : tie.Need-returns-4
 returns-4 c = search needs
 
--- src/tables.rt:89:1
 returns-5 : tie.Need-returns-5
 returns-5 c = search needs
 
--- src/tables.rt:89:1
 returns-6 : tie.Need-returns-6
 returns-6 c = search needs
 
--- src/tables.rt:89:1
 returns-7 : tie.Need-returns-7
 returns-7 c = simp (c .before .enum-told4 .given .1, c .if1 .left)
 
--- src/tables.rt:89:1
 returns-8 : tie.Need-returns-8
 returns-8 c = simp (c .is-wrapped-size .ensures, c .before .before .enum-told5 .given .1, c .before .if2 .left)
 
--- src/tables.rt:89:1
 returns-9 : tie.Need-returns-9
 returns-9 c = simp (c .is-wrapped-size2 .ensures, c .before .before .enum-told6 .given .1, c .before .if3 .left)
 

@@ -2,18 +2,13 @@ use borrow.Author.Tests.{lt-leb, le-leb}
 use borrow.Author.Needs.{needs}
 use Rattle.attributes.proofs.tables.is_wrapped_size.Statement.{statement}
 use Rattle.attributes.proofs.tables.is_wrapped_size.Tie as tie
-use Rattle.attributes.proofs.tables.is_wrapped_size.Reads as reads
-use Rattle.attributes.proofs.tables.is_wrapped_size.Lts as lts
 
--- src/tables.rt:73:9
 returns : tie.Need-returns
 returns c = simp (lt-leb _ _ (c .if1 .taken))
 
--- src/tables.rt:76:9
 returns-2 : tie.Need-returns-2
 returns-2 c = simp (le-leb _ _ (c .before .if1 .left), lt-leb _ _ (c .if2 .taken))
 
--- src/tables.rt:69:1
 returns-3 : tie.Need-returns-3
 returns-3 c = simp (le-leb _ _ (c .before .if1 .left), le-leb _ _ (c .if2 .left))
 

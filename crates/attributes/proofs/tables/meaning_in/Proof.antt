@@ -2,94 +2,70 @@ use borrow.Author.Tests.{eq-eqb, ne-eqb}
 use borrow.Author.Needs.{needs}
 use Rattle.attributes.proofs.tables.meaning_in.Statement.{statement}
 use Rattle.attributes.proofs.tables.meaning_in.Tie as tie
-use Rattle.attributes.proofs.tables.meaning_in.Reads as reads
-use Rattle.attributes.proofs.tables.meaning_in.Lts as lts
 
--- src/tables.rt:35:16
 enum-told : tie.Need-enum-told
 enum-told c = search needs
 
--- src/tables.rt:36:17
 returns : tie.Need-returns
 returns c = simp (c .before .enum-told .given .1, eq-eqb _ _ (c .if1 .taken))
 
--- src/tables.rt:41:16
 enum-told-2 : tie.Need-enum-told-2
 enum-told-2 c = search needs
 
--- src/tables.rt:42:17
 returns-2 : tie.Need-returns-2
 returns-2 c = simp (c .before .enum-told2 .given .1, eq-eqb _ _ (c .if2 .taken))
 
--- src/tables.rt:47:16
 enum-told-3 : tie.Need-enum-told-3
 enum-told-3 c = search needs
 
--- src/tables.rt:48:17
 returns-3 : tie.Need-returns-3
 returns-3 c = simp (c .before .enum-told3 .given .1, eq-eqb _ _ (c .if3 .taken))
 
--- src/tables.rt:53:16
 enum-told-4 : tie.Need-enum-told-4
 enum-told-4 c = search needs
 
--- src/tables.rt:54:17
 returns-4 : tie.Need-returns-4
 returns-4 c = simp (c .before .enum-told4 .given .1, eq-eqb _ _ (c .if4 .taken))
 
--- src/tables.rt:59:16
 enum-told-5 : tie.Need-enum-told-5
 enum-told-5 c = search needs
 
--- src/tables.rt:60:17
 returns-5 : tie.Need-returns-5
 returns-5 c = simp (c .before .enum-told5 .given .1, eq-eqb _ _ (c .if5 .taken))
 
--- src/tables.rt:65:16
 enum-told-6 : tie.Need-enum-told-6
 enum-told-6 c = search needs
 
--- src/tables.rt:66:17
 returns-6 : tie.Need-returns-6
 returns-6 c = simp (c .before .enum-told6 .given .1, eq-eqb _ _ (c .if6 .taken))
 
--- src/tables.rt:70:34
 enum-told-7 : tie.Need-enum-told-7
 enum-told-7 c = search needs
 
--- src/tables.rt:71:30
 enum-told-8 : tie.Need-enum-told-8
 enum-told-8 c = search needs
 
--- src/tables.rt:30:1
 returns-7 : tie.Need-returns-7
 returns-7 c = simp (c .before .enum-told .given .1, ne-eqb _ _ (c .if1 .left))
 
--- src/tables.rt:30:1
 returns-8 : tie.Need-returns-8
 returns-8 c = simp (c .before .enum-told2 .given .1, ne-eqb _ _ (c .if2 .left))
 
--- src/tables.rt:30:1
 returns-9 : tie.Need-returns-9
 returns-9 c = simp (c .before .enum-told3 .given .1, ne-eqb _ _ (c .if3 .left))
 
--- src/tables.rt:30:1
 returns-10 : tie.Need-returns-10
 returns-10 c = simp (c .before .enum-told4 .given .1, ne-eqb _ _ (c .if4 .left))
 
--- src/tables.rt:30:1
 returns-11 : tie.Need-returns-11
 returns-11 c = simp (c .before .enum-told5 .given .1, ne-eqb _ _ (c .if5 .left))
 
--- src/tables.rt:30:1
 returns-12 : tie.Need-returns-12
 returns-12 c = simp (c .before .enum-told6 .given .1, ne-eqb _ _ (c .if6 .left))
 
--- src/tables.rt:30:1
 returns-13 : tie.Need-returns-13
 returns-13 c = search needs
 
--- src/tables.rt:30:1
 returns-14 : tie.Need-returns-14
 returns-14 c = search needs
 

@@ -3,43 +3,40 @@ use mathlib.Core.Path.{_≡_, refl, ap, sym, _∙_, subst}
 use borrow.Author.Needs.{needs}
 use Rattle.frames.proofs.exchanges.exchange_of.Statement.{statement}
 use Rattle.frames.proofs.exchanges.exchange_of.Tie as tie
-use Rattle.frames.proofs.exchanges.exchange_of.Reads as reads
-use Rattle.frames.proofs.exchanges.exchange_of.Lts as lts
-use Rattle.frames.proofs.exchanges.other.Reads as other-reads
-use Rattle.frames.proofs.exchanges.registration.Reads as registration-reads
-use Rattle.frames.proofs.exchanges.rekey.Reads as rekey-reads
 
--- src/exchanges.rt:55:9
 registration-requires : tie.Need-registration-requires
 registration-requires c κs = search needs
 
--- src/exchanges.rt:55:9
 returns : tie.Need-returns
 returns c = c .registration .ensures ∙ simp (eq-eqb _ _ (c .before .if1 .taken))
 
--- src/exchanges.rt:58:9
 registration-requires-2 : tie.Need-registration-requires-2
 registration-requires-2 c κs = search needs
 
--- src/exchanges.rt:58:9
 returns-2 : tie.Need-returns-2
 returns-2 c = c .registration2 .ensures ∙ simp (ne-eqb _ _ (c .before .before .if1 .left), eq-eqb _ _ (c .before .if2 .taken))
 
--- src/exchanges.rt:61:9
 rekey-requires : tie.Need-rekey-requires
 rekey-requires c κs = search needs
 
--- src/exchanges.rt:61:9
 returns-3 : tie.Need-returns-3
-returns-3 c = c .rekey .ensures ∙ simp (ne-eqb _ _ (c .before .before .before .if1 .left), ne-eqb _ _ (c .before .before .if2 .left), eq-eqb _ _ (c .before .if3 .taken))
+returns-3 c = c .rekey .ensures ∙ simp (
+  ne-eqb _ _ (c .before .before .before .if1 .left),
+  ne-eqb _ _
+      (c .before .before .if2 .left),
+  eq-eqb _ _ (c .before .if3 .taken),
+)
 
--- src/exchanges.rt:63:5
 other-requires : tie.Need-other-requires
 other-requires c κs = search needs
 
--- src/exchanges.rt:51:1
 returns-4 : tie.Need-returns-4
-returns-4 c = c .other .ensures ∙ simp (ne-eqb _ _ (c .before .before .before .if1 .left), ne-eqb _ _ (c .before .before .if2 .left), ne-eqb _ _ (c .before .if3 .left))
+returns-4 c = c .other .ensures ∙ simp (
+  ne-eqb _ _ (c .before .before .before .if1 .left),
+  ne-eqb _ _
+      (c .before .before .if2 .left),
+  ne-eqb _ _ (c .before .if3 .left),
+)
 
 pub exchange-of-spec : {M : Type 1} → statement M
 exchange-of-spec =

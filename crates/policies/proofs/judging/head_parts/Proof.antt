@@ -8,41 +8,31 @@ use Rattle.policies.proofs.HeadLaws.{head-is}
 use borrow.Author.Needs.{needs}
 use Rattle.policies.proofs.judging.head_parts.Statement.{statement}
 use Rattle.policies.proofs.judging.head_parts.Tie as tie
-use Rattle.policies.proofs.judging.head_parts.Reads as reads
-use Rattle.policies.proofs.judging.head_parts.Lts as lts
-use Rattle.octets.proofs.numbers.be16_at.Reads as be16-at-reads
-use Rattle.octets.proofs.wide.Reads as wide-reads
-use Rattle.policies.proofs.spi_size.Reads as spi-size-reads
 
--- src/judging.rt:22:26
 shared-slice-read-wide : tie.Need-shared-slice-read-wide
 shared-slice-read-wide c =
     let f = head-is (now (c .before .before .args .s)) (c .before .before .pre) in
     omega (arith, f .0, f .1)
 
--- src/judging.rt:22:9
 wide-requires : tie.Need-wide-requires
 wide-requires c κs = search needs
 
--- src/judging.rt:23:9
 be16-at-requires : tie.Need-be16-at-requires
 be16-at-requires c κs =
     let f = head-is (now (c .before .before .before .args .s)) (c .before .before .before .pre) in
     omega (arith, f .0, f .1)
 
--- src/judging.rt:24:17
 spi-size-requires : tie.Need-spi-size-requires
 spi-size-requires c κs = search needs
 
--- src/judging.rt:24:13
 add-z : tie.Need-add-z
 add-z c = search needs
 
--- src/judging.rt:18:1
 returns : tie.Need-returns
 returns c =
     let f = head-is (now (c .before .before .before .before .before .args .s)) (c .before .before .before .before .before .pre) in
-    let z : c .spi-size .result ≡ spiSize (oct (now (c .before .before .before .before .before .args .s)) 0) = c .spi-size .ensures .0 ∙ ap spiSize (c .before .before .wide .ensures .0) in
+    let z : c .spi-size .result ≡ spiSize (oct (now (c .before .before .before .before .before .args .s)) 0) = c .spi-size .ensures .0
+    ∙ ap spiSize (c .before .before .wide .ensures .0) in
     let n = c .before .be16-at .ensures .0 in
     record {
       first = c .before .before .wide .ensures .0;

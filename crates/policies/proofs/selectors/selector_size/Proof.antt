@@ -4,18 +4,13 @@ use mathlib.Core.Path.{_≡_, refl, ap, sym, _∙_, subst}
 use borrow.Author.Needs.{needs}
 use Rattle.policies.proofs.selectors.selector_size.Statement.{statement}
 use Rattle.policies.proofs.selectors.selector_size.Tie as tie
-use Rattle.policies.proofs.selectors.selector_size.Reads as reads
-use Rattle.policies.proofs.selectors.selector_size.Lts as lts
 
--- src/selectors.rt:15:9
 returns : tie.Need-returns
 returns c = (sym (simp (eq-eqb _ _ (c .if1 .taken))), omega arith)
 
--- src/selectors.rt:18:9
 returns-2 : tie.Need-returns-2
 returns-2 c = (sym (simp (ne-eqb _ _ (c .before .if1 .left), eq-eqb _ _ (c .if2 .taken))), omega arith)
 
--- src/selectors.rt:11:1
 returns-3 : tie.Need-returns-3
 returns-3 c = (sym (simp (ne-eqb _ _ (c .before .if1 .left), ne-eqb _ _ (c .if2 .left))), omega arith)
 

@@ -4,58 +4,54 @@ use Rattle.policies.proofs.SelectorLaws.{missing, no-type, cut, fits, w
 use borrow.Author.Needs.{needs}
 use Rattle.policies.proofs.selectors.selector_spot.Statement.{statement}
 use Rattle.policies.proofs.selectors.selector_spot.Tie as tie
-use Rattle.policies.proofs.selectors.selector_spot.Reads as reads
-use Rattle.policies.proofs.selectors.selector_spot.Lts as lts
-use Rattle.octets.proofs.numbers.be16_at.Reads as be16-at-reads
-use Rattle.octets.proofs.wide.Reads as wide-reads
-use Rattle.policies.proofs.selectors.selector_size.Reads as selector-size-reads
 
--- src/selectors.rt:28:9
 returns : tie.Need-returns
 returns c =
     let a = c .before .before .args in
     missing (a .holder) (a .base) (now (a .s)) (c .if1 .taken)
 
--- src/selectors.rt:30:40
 shared-slice-read-wide : tie.Need-shared-slice-read-wide
 shared-slice-read-wide c = search needs
 
--- src/selectors.rt:30:27
 wide-requires : tie.Need-wide-requires
 wide-requires c κs = search needs
 
--- src/selectors.rt:30:9
 selector-size-requires : tie.Need-selector-size-requires
 selector-size-requires c κs = search needs
 
--- src/selectors.rt:32:9
 returns-2 : tie.Need-returns-2
 returns-2 c =
     let a = c .before .before .before .before .before .before .args in
-    no-type (a .holder) (a .base) (now (a .s)) (c .before .before .before .before .if1 .left) _ _ (c .before .before .wide .ensures .0) (c .before .selector-size .ensures .0) (c .if2 .taken)
+    no-type (a .holder) (a .base) (now (a .s)) (c .before .before .before .before .if1 .left) _ _ (c .before .before .wide .ensures .0)
+    (c .before .selector-size .ensures .0) (c .if2 .taken)
 
--- src/selectors.rt:35:9
 returns-3 : tie.Need-returns-3
 returns-3 c =
     let a = c .before .before .before .before .before .before .before .args in
-    cut (a .holder) (a .base) (now (a .s)) (c .before .before .before .before .before .if1 .left) _ _ (c .before .before .before .wide .ensures .0) (c .before .before .selector-size .ensures .0) (c .before .if2 .left) (c .if3 .taken)
+    cut (a .holder) (a .base) (now (a .s)) (c .before .before .before .before .before .if1 .left) _ _
+    (c .before .before .before .wide .ensures .0) (c .before .before .selector-size .ensures .0) (c .before .if2 .left) (c .if3 .taken)
 
--- src/selectors.rt:37:8
 be16-at-requires : tie.Need-be16-at-requires
-be16-at-requires c κs = omega (arith, size-some (c .before .before .before .wide .result) (c .before .if2 .left) (c .before .before .selector-size .ensures .0))
+be16-at-requires c κs = omega (
+  arith,
+  size-some (c .before .before .before .wide .result) (c .before .if2 .left)
+      (c .before .before .selector-size .ensures .0),
+)
 
--- src/selectors.rt:38:9
 returns-4 : tie.Need-returns-4
 returns-4 c =
     let a = c .before .before .before .before .before .before .before .before .before .args in
-    fits (a .holder) (a .base) (now (a .s)) (c .before .before .before .before .before .before .before .if1 .left) _ _ (c .before .before .before .before .before .wide .ensures .0) (c .before .before .before .before .selector-size .ensures .0) (c .before .before .before .if2 .left)
+    fits (a .holder) (a .base) (now (a .s)) (c .before .before .before .before .before .before .before .if1 .left) _ _
+    (c .before .before .before .before .before .wide .ensures .0) (c .before .before .before .before .selector-size .ensures .0)
+    (c .before .before .before .if2 .left)
     (c .before .before .if3 .left) _ (c .before .be16-at .ensures .0) (c .if4 .taken)
 
--- src/selectors.rt:24:1
 returns-5 : tie.Need-returns-5
 returns-5 c =
     let a = c .before .before .before .before .before .before .before .before .before .args in
-    wrong (a .holder) (a .base) (now (a .s)) (c .before .before .before .before .before .before .before .if1 .left) _ _ (c .before .before .before .before .before .wide .ensures .0) (c .before .before .before .before .selector-size .ensures .0) (c .before .before .before .if2 .left)
+    wrong (a .holder) (a .base) (now (a .s)) (c .before .before .before .before .before .before .before .if1 .left) _ _
+    (c .before .before .before .before .before .wide .ensures .0) (c .before .before .before .before .selector-size .ensures .0)
+    (c .before .before .before .if2 .left)
     (c .before .before .if3 .left) _ (c .before .be16-at .ensures .0) (c .if4 .left)
 
 pub selector-spot-spec : {M : Type 1} → statement M

@@ -7,100 +7,98 @@ use Rattle.policies.proofs.TransformLaws.{fits-is, missing, good, inner
 use borrow.Author.Needs.{needs}
 use Rattle.policies.proofs.transforms.transform_spot.Statement.{statement}
 use Rattle.policies.proofs.transforms.transform_spot.Tie as tie
-use Rattle.policies.proofs.transforms.transform_spot.Reads as reads
-use Rattle.policies.proofs.transforms.transform_spot.Lts as lts
-use Rattle.attributes.proofs.are_attributes.Reads as are-attributes-reads
-use Rattle.attributes.proofs.tables.in_transform.Reads as in-transform-reads
-use Rattle.octets.proofs.numbers.be16_at.Reads as be16-at-reads
-use Rattle.octets.proofs.wide.Reads as wide-reads
-use Rattle.policies.proofs.transforms.transform_fits.Reads as transform-fits-reads
 
--- src/transforms.rt:33:9
 returns : tie.Need-returns
 returns c = missing (c .before .before .args .holder) (c .before .before .args .base) (now (c .before .before .args .s)) (c .if1 .taken)
 
--- src/transforms.rt:35:8
 transform-fits-requires : tie.Need-transform-fits-requires
 transform-fits-requires c κs = search needs
 
--- src/transforms.rt:36:13
 be16-at-requires : tie.Need-be16-at-requires
 be16-at-requires c κs =
     let a = c .before .before .before .before .args in
     let f = fits-is (now (a .s)) (sym (c .before .transform-fits .ensures) ∙ c .if2 .taken) in
     omega (arith, f .0, f .1)
 
--- src/transforms.rt:37:67
 shared-slice-read-wide : tie.Need-shared-slice-read-wide
 shared-slice-read-wide c =
     let a = c .before .before .before .before .before .before .args in
     let f = fits-is (now (a .s)) (sym (c .before .before .before .transform-fits .ensures) ∙ c .before .before .if2 .taken) in
     omega (arith, f .0, f .1)
 
--- src/transforms.rt:37:54
 wide-requires : tie.Need-wide-requires
 wide-requires c κs = search needs
 
--- src/transforms.rt:37:13
 in-transform-requires : tie.Need-in-transform-requires
 in-transform-requires c κs = search needs
 
--- src/transforms.rt:38:49
 sub-are-attributes : tie.Need-sub-are-attributes
 sub-are-attributes c =
     let a = c .before .before .before .before .before .before .before .before .args in
-    let f = fits-is (now (a .s)) (sym (c .before .before .before .before .before .transform-fits .ensures) ∙ c .before .before .before .before .if2 .taken) in
+    let f = fits-is (now (a .s)) (sym (c .before .before .before .before .before .transform-fits .ensures)
+    ∙ c .before .before .before .before .if2 .taken) in
     omega (arith, f .0, f .1, c .before .before .before .be16-at .ensures .0)
 
--- src/transforms.rt:38:49
 part-are-attributes-start : tie.Need-part-are-attributes-start
 part-are-attributes-start c =
     let a = c .before .before .before .before .before .before .before .before .args in
-    let f = fits-is (now (a .s)) (sym (c .before .before .before .before .before .transform-fits .ensures) ∙ c .before .before .before .before .if2 .taken) in
+    let f = fits-is (now (a .s)) (sym (c .before .before .before .before .before .transform-fits .ensures)
+    ∙ c .before .before .before .before .if2 .taken) in
     omega (arith, f .0, f .1, c .before .before .before .be16-at .ensures .0)
 
--- src/transforms.rt:38:49
 part-are-attributes-end : tie.Need-part-are-attributes-end
 part-are-attributes-end c =
     let a = c .before .before .before .before .before .before .before .before .args in
-    let f = fits-is (now (a .s)) (sym (c .before .before .before .before .before .transform-fits .ensures) ∙ c .before .before .before .before .if2 .taken) in
+    let f = fits-is (now (a .s)) (sym (c .before .before .before .before .before .transform-fits .ensures)
+    ∙ c .before .before .before .before .if2 .taken) in
     omega (arith, f .0, f .1, c .before .before .before .be16-at .ensures .0)
 
--- src/transforms.rt:38:59
 add-are-attributes : tie.Need-add-are-attributes
 add-are-attributes c = search needs
 
--- src/transforms.rt:38:15
 are-attributes-requires : tie.Need-are-attributes-requires
 are-attributes-requires c κs =
     let a = c .before .before .before .before .before .before .before .before .before .args in
-    let f = fits-is (now (a .s)) (sym (c .before .before .before .before .before .before .transform-fits .ensures) ∙ c .before .before .before .before .before .if2 .taken) in
-    omega (arith, part-short (now (a .s)) 8 (c .before .before .before .before .be16-at .result), f .0, f .1, c .before .before .before .before .before .before .before .before .before .pre)
+    let f = fits-is (now (a .s)) (sym (c .before .before .before .before .before .before .transform-fits .ensures)
+    ∙ c .before .before .before .before .before .if2 .taken) in
+    omega (
+      arith,
+      part-short (now (a .s)) 8
+          (c .before .before .before .before .be16-at .result),
+      f .0,
+      f .1,
+      c .before .before .before .before .before .before .before .before .before .pre,
+    )
 
--- src/transforms.rt:39:30
 enum-told : tie.Need-enum-told
 enum-told c = search needs
 
--- src/transforms.rt:40:28
 enum-known-o : tie.Need-enum-known-o
 enum-known-o c = search needs
 
--- src/transforms.rt:28:1
 returns-2 : tie.Need-returns-2
 returns-2 c =
     let a = c .before .before .before .before .before .before .before .before .before .before .before .before .args in
-    good (a .holder) (a .base) (now (a .s)) (c .before .before .before .before .before .before .before .before .before .before .if1 .left) (sym (c .before .before .before .before .before .before .before .before .before .transform-fits .ensures) ∙ c .before .before .before .before .before .before .before .before .if2 .taken) _ _
-    (c .before .before .before .before .before .before .before .be16-at .ensures .0) (c .before .before .before .before .in-transform .ensures ∙ ap inTransform (c .before .before .before .before .before .wide .ensures .0)) (sym (c .enum-told .given .1) ∙ c .before .before .are-attributes .ensures)
+    good (a .holder) (a .base) (now (a .s)) (c .before .before .before .before .before .before .before .before .before .before .if1 .left)
+    (sym (c .before .before .before .before .before .before .before .before .before .transform-fits .ensures)
+    ∙ c .before .before .before .before .before .before .before .before .if2 .taken) _ _
+    (c .before .before .before .before .before .before .before .be16-at .ensures .0)
+    (c .before .before .before .before .in-transform .ensures ∙ ap inTransform
+    (c .before .before .before .before .before .wide .ensures .0)) (sym (c .enum-told .given .1)
+    ∙ c .before .before .are-attributes .ensures)
 
--- src/transforms.rt:28:1
 returns-3 : tie.Need-returns-3
 returns-3 c =
     let a = c .before .before .before .before .before .before .before .before .before .before .before .before .before .args in
-    inner-broken (a .holder) (a .base) (now (a .s)) (c .before .before .before .before .before .before .before .before .before .before .before .if1 .left) (sym (c .before .before .before .before .before .before .before .before .before .before .transform-fits .ensures) ∙ c .before .before .before .before .before .before .before .before .before .if2 .taken) _ _
-    (c .before .before .before .before .before .before .before .before .be16-at .ensures .0) (c .before .before .before .before .before .in-transform .ensures ∙ ap inTransform (c .before .before .before .before .before .before .wide .ensures .0)) _
+    inner-broken (a .holder) (a .base) (now (a .s))
+    (c .before .before .before .before .before .before .before .before .before .before .before .if1 .left) (sym
+    (c .before .before .before .before .before .before .before .before .before .before .transform-fits .ensures)
+    ∙ c .before .before .before .before .before .before .before .before .before .if2 .taken) _ _
+    (c .before .before .before .before .before .before .before .before .be16-at .ensures .0)
+    (c .before .before .before .before .before .in-transform .ensures ∙ ap inTransform
+    (c .before .before .before .before .before .before .wide .ensures .0)) _
     (sym (c .before .o .given .1) ∙ c .before .before .before .are-attributes .ensures)
 
--- src/transforms.rt:28:1
 returns-4 : tie.Need-returns-4
 returns-4 c =
     let a = c .before .before .before .before .args in

@@ -13,10 +13,6 @@ use Rattle.policies.proofs.TransformLaws.{starts, inside, goes, ends, t
 use borrow.Author.Needs.{needs}
 use Rattle.policies.proofs.transforms.transforms_spot.Statement.{statement}
 use Rattle.policies.proofs.transforms.transforms_spot.Tie as tie
-use Rattle.policies.proofs.transforms.transforms_spot.Reads as reads
-use Rattle.policies.proofs.transforms.transforms_spot.Lts as lts
-use Rattle.octets.proofs.wide.Reads as wide-reads
-use Rattle.policies.proofs.transforms.transform_spot.Reads as transform-spot-reads
 
 abbrev Inv-loop : tie.InvT-loop
 Inv-loop s base holder at₀ at = (at ≤ length s) × (outline (transforms holder base s) ≡ outline (transforms holder (base + at) (drop at s)))
@@ -24,33 +20,32 @@ Inv-loop s base holder at₀ at = (at ≤ length s) × (outline (transforms hold
 abbrev μ-loop : tie.MeasureT-loop
 μ-loop s base holder at₀ at = length s - at
 
--- src/transforms.rt:53:5
 loop-holds : tie.Need-loop-holds Inv-loop μ-loop
 loop-holds c = let a = c .before .args in (omega arith, starts (a .holder) (a .base) (now (a .s)))
 
--- src/transforms.rt:54:30
 sub-transform-spot : tie.Need-sub-transform-spot Inv-loop μ-loop
 sub-transform-spot c = search needs
 
--- src/transforms.rt:54:30
 part-transform-spot-start : tie.Need-part-transform-spot-start Inv-loop μ-loop
 part-transform-spot-start c = search needs
 
--- src/transforms.rt:54:30
 part-transform-spot-end : tie.Need-part-transform-spot-end Inv-loop μ-loop
 part-transform-spot-end c = search needs
 
--- src/transforms.rt:54:40
 add-transform-spot : tie.Need-add-transform-spot Inv-loop μ-loop
 add-transform-spot c = search needs
 
--- src/transforms.rt:54:15
 transform-spot-requires : tie.Need-transform-spot-requires Inv-loop μ-loop
 transform-spot-requires c κs =
     let a = c .before .before .before .args in
-    omega (arith, part-short (now (a .s)) (c .before .loop .at) (length (now (a .s))), c .before .before .before .pre, c .before .loop .inv .0)
+    omega (
+      arith,
+      part-short (now (a .s)) (c .before .loop .at) (length (now
+          (a .s))),
+      c .before .before .before .pre,
+      c .before .loop .inv .0,
+    )
 
--- src/transforms.rt:55:24
 enum-known-e : tie.Need-enum-known-e Inv-loop μ-loop
 enum-known-e c = search needs
 
@@ -63,54 +58,50 @@ read c = sym (c .before .e .given .1) ∙ c .before .before .before .transform-s
 
 sized : (c : tie.After-known-told Inv-loop μ-loop)
     → let e = c .before .e .given .0 .0 in
-    (0 < e) × (c .before .before .before .before .before .loop .at + e ≤ length (now (c .before .before .before .before .before .before .before .args .s)))
+    (0 < e) × (c .before .before .before .before .before .loop .at + e ≤ length (now
+    (c .before .before .before .before .before .before .before .args .s)))
 sized c =
     let a = c .before .before .before .before .before .before .before .args in
     let l = c .before .before .before .before .before .loop in
     inside (a .holder) (a .base) (now (a .s)) (l .at) (l .inv .0) (l .inv .1) (c .before .e .given .0 .0) (read c)
 
--- src/transforms.rt:56:38
 shared-slice-read-wide : tie.Need-shared-slice-read-wide Inv-loop μ-loop
 shared-slice-read-wide c = let f = sized (c .before) in omega (arith, f .0, f .1)
 
--- src/transforms.rt:56:21
 wide-requires : tie.Need-wide-requires Inv-loop μ-loop
 wide-requires c κs = search needs
 
--- src/transforms.rt:57:22
 add-at : tie.Need-add-at Inv-loop μ-loop
 add-at c = let f = sized (c .before .before) in record { fits = omega (arith, f .1) }
 
--- src/transforms.rt:59:21
 returns : tie.Need-returns Inv-loop μ-loop
 returns c =
     let a = c .before .before .before .before .before .before .before .before .before .before .args in
     let l = c .before .before .before .before .before .before .before .before .loop in
-    ends (a .holder) (a .base) (now (a .s)) (l .at) (l .inv .0) (l .inv .1) _ _ (read (c .before .before .before)) (c .before .wide .ensures .0) (c .if1 .taken)
+    ends (a .holder) (a .base) (now (a .s)) (l .at) (l .inv .0) (l .inv .1) _ _ (read (c .before .before .before))
+    (c .before .wide .ensures .0) (c .if1 .taken)
 
--- src/transforms.rt:53:5
 loop-less : tie.Need-loop-less Inv-loop μ-loop
 loop-less c = let f = sized (c .before .before .before) in omega (arith, f .0, f .1)
 
--- src/transforms.rt:53:5
 loop-again : tie.Need-loop-again Inv-loop μ-loop
 loop-again c =
     let a = c .before .before .before .before .before .before .before .before .before .before .args in
     let l = c .before .before .before .before .before .before .before .before .loop in (
       sized (c .before .before .before) .1,
-      goes (a .holder) (a .base) (now (a .s)) (l .at) (l .inv .0) (l .inv .1) _ _ (read (c .before .before .before)) (c .before .wide .ensures .0) (c .if1 .left),
+      goes (a .holder) (a .base) (now (a .s)) (l .at) (l .inv .0) (l .inv .1) _ _ (read (c .before .before .before))
+          (c .before .wide .ensures .0) (c .if1 .left),
     )
 
--- src/transforms.rt:62:26
 enum-known-o : tie.Need-enum-known-o Inv-loop μ-loop
 enum-known-o c = search needs
 
--- src/transforms.rt:63:17
 returns-2 : tie.Need-returns-2 Inv-loop μ-loop
 returns-2 c =
     let a = c .before .before .before .before .before .before .before .args in
     let l = c .before .before .before .before .before .loop in
-    tears (a .holder) (a .base) (now (a .s)) (l .at) (l .inv .0) (l .inv .1) _ (sym (c .before .o .given .1) ∙ c .before .before .before .transform-spot .ensures)
+    tears (a .holder) (a .base) (now (a .s)) (l .at) (l .inv .0) (l .inv .1) _ (sym (c .before .o .given .1)
+    ∙ c .before .before .before .transform-spot .ensures)
 
 pub transforms-spot-spec : {M : Type 1} → statement M
 transforms-spot-spec =
