@@ -1,16 +1,16 @@
 -- What the code's tests say of the attribute that some octets start with.
-use Prim.Native.Nat.{ℕ, _+_, _-_, _%_, _<_, _≤_}
-use mathlib.Core.Path.{_≡_, refl, ap, sym, _∙_}
-use mathlib.Core.List.{List, []}
+use Prim.Native.Nat.{ℕ, zero, suc, _+_, _-_, _%_, _<_, _≤_}
+use mathlib.Core.Path.{_≡_, refl, ap, sym, _∙_, subst}
+use mathlib.Core.List.{List, [], _∷_}
 use mathlib.Core.Bool.{Bool, true, false}
 use native.Mathlib.Omega.{arith}
 use borrow.Author.Tests.{le-leb, lt-leb, leb-true}
 use lib.Dec.{leb}
 use lib.ListN.{length, drop, length-drop}
 use lib.Seq.{drop-drop}
-use Rattle.octets.specs.Walk.{be16, part, either}
+use Rattle.octets.specs.Walk.{be16, part, either, both}
 use Rattle.attributes.specs.Attribute.{isShort, kindOf, startOf, sizeOf, fits, valueOf}
-use Rattle.octets.specs.Walk.{whole, opened}
+use Rattle.octets.specs.Walk.{whole, broken, opened}
 use Rattle.octets.proofs.Walks.{by-test, both-true, part-length, Takes, took}
 use Rattle.attributes.specs.Attribute.{attributeOf}
 use Rattle.attributes.specs.Place.{meaningOf, formed}
@@ -73,8 +73,8 @@ pub record IsRead (s : List ℕ) (short : Bool) (kind a e : ℕ) : Type 0 where
 pub read-is : (s : List ℕ) (short : Bool) (kind a e : ℕ) → read.Attribute short kind a e ≡ readOf s → IsRead s short kind a e
 read-is s short kind a e = go (fits s) refl
   where
-    go : (t : Bool) → fits s ≡ t → read.Attribute short kind a e ≡ either t (read.Attribute (isShort s) (kindOf s) (startOf s) (sizeOf s))
-        read.Cut
+    go : (t : Bool) → fits s ≡ t → read.Attribute short kind a e ≡ either t (read.Attribute (isShort s) (kindOf s) (startOf s)
+        (sizeOf s)) read.Cut
         → IsRead s short kind a e
     go true f q = record { all = f; format = cc; type = cc; start = cc; size = cc }
     go false f q = let z : _≡_ {A = ℕ} 0 1 = cc in absurd (omega arith)
@@ -143,6 +143,6 @@ pub takes : (p : Place) (b : ℕ) (s : List ℕ) → Takes s (attribute p b s)
 unfolding attribute
 takes p b s =
     by-test (Takes s) (fitsIn p s)
-    (λ f. took s (sizeOf s) (omega (arith, size-least s)) (leb-true (sizeOf s) (length s)
-    (both-true (fits s) (formedIn p (attributeOf s)) f .0)))
+    (λ f. took s (sizeOf s) (omega (arith, size-least s)) (leb-true (sizeOf s) (length s) (both-true (fits s) (formedIn p
+    (attributeOf s)) f .0)))
     (λ f. tt)

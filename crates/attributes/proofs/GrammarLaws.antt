@@ -130,10 +130,10 @@ module _ (p : Place) where
     pub from : IsAttribute p o a → (b : ℕ) → attribute p b o ≡ whole a []
     from i b = of-format (i .format) (i .formed) b
 
-  sound : (b : ℕ) (s : List ℕ) (a : Attribute) (rest : List ℕ) → attribute p b s ≡ whole a rest → Cuts (IsAttribute p) s a rest
+  pub sound : (b : ℕ) (s : List ℕ) (a : Attribute) (rest : List ℕ) → attribute p b s ≡ whole a rest → Cuts (IsAttribute p) s a rest
   sound = sound-of (attribute p) 4 sizeOf local (IsAttribute p) (λ b o a q. to o a b q)
 
-  complete : (b : ℕ) (o rest : List ℕ) (a : Attribute) → IsAttribute p o a → attribute p b (o ++ rest) ≡ whole a rest
+  pub complete : (b : ℕ) (o rest : List ℕ) (a : Attribute) → IsAttribute p o a → attribute p b (o ++ rest) ≡ whole a rest
   complete = complete-of (attribute p) 4 sizeOf local (IsAttribute p) (λ b o a i. from o a i b)
 
   -- octets that are a list's are read to that list, at any offset; what is read to a list are that list's octets

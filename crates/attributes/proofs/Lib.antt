@@ -1,3 +1,4 @@
 pub mod Loops
 pub mod AttributeLaws
 pub mod GrammarLaws
+pub mod JudgingLaws

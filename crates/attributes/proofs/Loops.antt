@@ -1,13 +1,14 @@
 -- How a loop walks items to the end of some octets, and what a reader's answer says of the reading: for items of any kind.
 use Prim.Native.Nat.{ℕ, _+_, _-_, _<_, _≤_}
 use mathlib.Core.Path.{_≡_, refl, ap, sym, _∙_, subst}
-use mathlib.Core.List.{List}
+use mathlib.Core.List.{List, [], _∷_}
+use native.Mathlib.Nat.{add-assoc}
 use native.Mathlib.Omega.{arith}
 use lib.ListN.{length, drop, length-drop}
 use lib.Seq.{drop-drop}
-use Rattle.octets.specs.Walk.{part, Reading, whole, broken, Reader, mapped, closed, within, andThen, push, many, stops, breaks}
+use Rattle.octets.specs.Walk.{part, Reading, whole, broken, Reader, mapped, closed, within, andThen, push, many, Outline, stops, breaks}
 use Rattle.octets.specs.Walk.{outline}
-use Rattle.octets.proofs.Walks.{tail, to-end, Takes, Keeps, takes-keeps, took-fewer, starts, many-first, many-breaks, many-ends}
+use Rattle.octets.proofs.Walks.{tail, to-end, Took, Takes, Keeps, takes-keeps, took-fewer, starts, many-first, many-breaks, many-ends}
 use Rattle.octets.proofs.Walks.{then-goes, after-breaks}
 use Rattle.attributes.specs.Answers.{layoutOf, spotOf}
 use Rattle.attributes.specs.declared.Layout.{Layout}
@@ -59,22 +60,22 @@ pub record Next {A : Type 0} (p : Reader A) (b : ℕ) (s : List ℕ) (at e : ℕ
   pub some : 0 < e
   pub inside : at + e ≤ length s
 
-module _ {A : Type 0} (p : Reader A) (takes : (b : ℕ) (s : List ℕ) → Takes s (p b s)) (b : ℕ) (s : List ℕ) (at : ℕ) (h : at ≤ length s)
-  where
-    pub next-is : (e : ℕ) → spot.Ends e ≡ spotOf (tail s at) (p (b + at) (tail s at)) → Next p b s at e
-    next-is e q =
-        let u : spot.Ends e ≡ spotOf (drop at s) (p (b + at) (drop at s)) =
-        subst (λ (l : List ℕ). spot.Ends e ≡ spotOf l (p (b + at) l)) (to-end s at) q in
-        let t = takes (b + at) (drop at s) in
-        let f = ended (drop at s) (p (b + at) (drop at s)) e (takes-keeps (drop at s) (p (b + at) (drop at s)) t) u in
-        let k : e ≤ length s - at = subst (λ (n : ℕ). e ≤ n) (length-drop at s) (f .inside) in
-        let i : 0 < e = ended-some (drop at s) (p (b + at) (drop at s)) e t u in
-        record { item = f .item; is = f .is ∙ ap (whole (f .item)) (drop-drop e at s); some = i; inside = omega arith }
+module _ {A : Type 0} (p : Reader A) (takes : (b : ℕ) (s : List ℕ) → Takes s (p b s)) (b : ℕ) (s : List ℕ) (at : ℕ)
+    (h : at ≤ length s) where
+  pub next-is : (e : ℕ) → spot.Ends e ≡ spotOf (tail s at) (p (b + at) (tail s at)) → Next p b s at e
+  next-is e q =
+      let u : spot.Ends e ≡ spotOf (drop at s) (p (b + at) (drop at s)) =
+      subst (λ (l : List ℕ). spot.Ends e ≡ spotOf l (p (b + at) l)) (to-end s at) q in
+      let t = takes (b + at) (drop at s) in
+      let f = ended (drop at s) (p (b + at) (drop at s)) e (takes-keeps (drop at s) (p (b + at) (drop at s)) t) u in
+      let k : e ≤ length s - at = subst (λ (n : ℕ). e ≤ n) (length-drop at s) (f .inside) in
+      let i : 0 < e = ended-some (drop at s) (p (b + at) (drop at s)) e t u in
+      record { item = f .item; is = f .is ∙ ap (whole (f .item)) (drop-drop e at s); some = i; inside = omega arith }
 
-    pub next-broken : (o : ℕ) → spot.Broken o ≡ spotOf (tail s at) (p (b + at) (tail s at)) → p (b + at) (drop at s) ≡ broken o
-    next-broken o q =
-        spot-broken (drop at s) (p (b + at) (drop at s)) o
-        (subst (λ (l : List ℕ). spot.Broken o ≡ spotOf l (p (b + at) l)) (to-end s at) q)
+  pub next-broken : (o : ℕ) → spot.Broken o ≡ spotOf (tail s at) (p (b + at) (tail s at)) → p (b + at) (drop at s) ≡ broken o
+  next-broken o q =
+      spot-broken (drop at s) (p (b + at) (drop at s)) o
+      (subst (λ (l : List ℕ). spot.Broken o ≡ spotOf l (p (b + at) l)) (to-end s at) q)
 
 module _ {A : Type 0} (p : Reader A) (takes : (b : ℕ) (s : List ℕ) → Takes s (p b s)) (b : ℕ) (s : List ℕ) where
   pub loop-starts : layoutOf (many p b s) ≡ layoutOf (many p (b + 0) (drop 0 s))

@@ -1,7 +1,7 @@
 -- The reader of key bags answers a list exactly when the octets are that list's.
-use Prim.Native.Nat.{ℕ, _+_, _-_, _<_, _≤_}
+use Prim.Native.Nat.{ℕ, zero, suc, _+_, _-_, _<_, _≤_}
 use mathlib.Core.Path.{_≡_, refl, ap, sym, _∙_, subst}
-use mathlib.Core.List.{List, [], _++_}
+use mathlib.Core.List.{List, [], _∷_, _++_}
 use mathlib.Core.Bool.{Bool, true, false}
 use native.Mathlib.Omega.{arith}
 use borrow.Author.Tests.{lt-ltb, eq-eqb, ne-eqb, eqb-true, eqb-false}
@@ -9,9 +9,9 @@ use lib.Dec.{ltb, eqb}
 use lib.ListN.{length, drop}
 use lib.Seq.{drop-length}
 use Rattle.octets.specs.Numbers.{oct}
-use Rattle.octets.specs.Walk.{be16, part, either, Reading, whole, mapped, opened, closed, within}
+use Rattle.octets.specs.Walk.{be16, part, either, Reading, whole, broken, mapped, opened, closed, within}
 use Rattle.octets.proofs.Local.{extended, be16-append, mapped-extend, opened-extend, within-extend, Local}
-use Rattle.octets.proofs.Inverse.{inverse-mapped, inverse-opened, inverse-within}
+use Rattle.octets.proofs.Inverse.{Mapped, inverse-mapped, inverse-opened, Within, inverse-within}
 use Rattle.octets.proofs.Grammar.{Cuts, row-read, read-row, sound-of, complete-of}
 use Rattle.attributes.specs.Attribute.{Attribute}
 use Rattle.attributes.specs.Place.{inBag}
@@ -24,22 +24,22 @@ use Rattle.attributes.proofs.GrammarLaws.{are-read, read-are}
 use Rattle.policies.specs.Policy.{spiSize, headSize, headFits, spiOf}
 use Rattle.policies.proofs.HeadLaws.{head-is}
 use Rattle.policies.proofs.PolicyGrammar.{first, same-head, same-spi, exact-size, body-octets, known-spi, made-head}
-use Rattle.bags.specs.Bag.{Bag, groupKeys, memberKeys, placeOf, bagOf, bag, bags}
-use Rattle.bags.specs.Grammar.{IsBag, is-group, is-member, Bags}
+use Rattle.bags.specs.Bag.{GroupKeyBag, MemberKeyBag, Bag, groupKeys, memberKeys, placeOf, bagOf, bag, bags}
+use Rattle.bags.specs.Grammar.{IsGroupKeyBag, IsMemberKeyBag, IsBag, is-group, is-member, Bags}
 use Rattle.bags.proofs.BagLaws.{takes}
 
 abbrev sizeAt : List ℕ → ℕ
 sizeAt s = be16 s 2
 
-record Read (b : ℕ) (s : List ℕ) (x : Bag) (rest : List ℕ) : Type 0 where
-  fits : headFits s ≡ true
-  held : List Attribute
-  left : List ℕ
-  inner : attributes (placeOf (oct s 0)) (b + headSize s) (part s (headSize s) (be16 s 2)) ≡ whole held left
-  item : bagOf s held ≡ x
-  after : rest ≡ drop (be16 s 2) s
+pub record Read (b : ℕ) (s : List ℕ) (x : Bag) (rest : List ℕ) : Type 0 where
+  pub fits : headFits s ≡ true
+  pub held : List Attribute
+  pub left : List ℕ
+  pub inner : attributes (placeOf (oct s 0)) (b + headSize s) (part s (headSize s) (be16 s 2)) ≡ whole held left
+  pub item : bagOf s held ≡ x
+  pub after : rest ≡ drop (be16 s 2) s
 
-inverse : (b : ℕ) (s : List ℕ) (x : Bag) (rest : List ℕ) → bag b s ≡ whole x rest → Read b s x rest
+pub inverse : (b : ℕ) (s : List ℕ) (x : Bag) (rest : List ℕ) → bag b s ≡ whole x rest → Read b s x rest
 unfolding bag
 inverse b s x rest q =
     let w = within (headSize s) (be16 s 2) (attributes (placeOf (oct s 0))) b s in
@@ -51,8 +51,8 @@ inverse b s x rest q =
 same-size : (o r : List ℕ) → 4 ≤ length o → sizeAt (o ++ r) ≡ sizeAt o
 same-size o r l = be16-append o r 2 (omega arith)
 
-counted : (b : ℕ) (s : List ℕ) (x : Bag) (rest : List ℕ) → bag b s ≡ whole x rest
-    → (4 ≤ sizeAt s) × (sizeAt s ≤ length s) × (rest ≡ drop (sizeAt s) s)
+counted : (b : ℕ) (s : List ℕ) (x : Bag) (rest : List ℕ) → bag b s ≡ whole x rest → (4 ≤ sizeAt s) × (sizeAt s ≤ length s) × (rest ≡ drop
+    (sizeAt s) s)
 counted b s x rest q =
     let f = inverse b s x rest q in
     let g = head-is s (f .fits) in
@@ -136,8 +136,8 @@ module _ (b : ℕ) (o : List ℕ) where
       ap (λ (t : Bool). opened b t (mapped (bagOf o) (within (headSize o) (be16 o 2) (attributes (placeOf (oct o 0))) b o))) e
       ∙ ap (λ (y : List ℕ). mapped (bagOf o) (closed (drop (be16 o 2) o) (attributes (placeOf (oct o 0)) (b + headSize o) y)))
       (body-octets o e n)
-      ∙ ap (λ (y : Reading (List Attribute)). mapped (bagOf o) (closed (drop (be16 o 2) o) y))
-      (are-read (placeOf (oct o 0)) a (b + headSize o))
+      ∙ ap (λ (y : Reading (List Attribute)). mapped (bagOf o) (closed (drop (be16 o 2) o) y)) (are-read (placeOf (oct o 0)) a
+      (b + headSize o))
       ∙ (λ j. whole (q j) (drop (n j) o)) ∙ ap (whole x) (drop-length o)
 
   from : (x : Bag) → IsBag o x → bag b o ≡ whole x []
@@ -166,8 +166,8 @@ module _ (b : ℕ) (o : List ℕ) where
       let t = ne-eqb (oct o 0) 0 z in
       let e : headFits o ≡ true =
       made-head o (omega arith) n (ap (λ (u : Bool). either u true (ltb 0 (spiSize (oct o 0)))) t ∙ lt-ltb 0 (spiSize (oct o 0)) k)
-      (ap (λ (u : Bool). either u true (eqb (oct o 1) (spiSize (oct o 0)))) t
-      ∙ eq-eqb (oct o 1) (spiSize (oct o 0)) (i .spiOctets ∙ ap spiSize (sym p))) in
+      (ap (λ (u : Bool). either u true (eqb (oct o 1) (spiSize (oct o 0)))) t ∙ eq-eqb (oct o 1) (spiSize (oct o 0)) (i .spiOctets
+      ∙ ap spiSize (sym p))) in
       let sp : spiOf o ≡ x .spi = ap (λ (u : ℕ). part o 4 (4 + spiSize u)) p ∙ i .spi in
       let ks : saKeys (inBag (oct o 0)) (i .attributes) ≡ x .keys = ap (λ (u : ℕ). saKeys (inBag u) (i .attributes)) p ∙ i .keys in
       opens (groupKeys x) (i .attributes) e n
@@ -178,10 +178,10 @@ module _ (b : ℕ) (o : List ℕ) where
       (groupKeys (record { protocol = oct o 0; spi = spiOf o; keys = saKeys (inBag (oct o 0)) (i .attributes) }))) t
       ∙ (λ j. groupKeys (record { protocol = p j; spi = sp j; keys = ks j })))
 
-sound : (b : ℕ) (s : List ℕ) (x : Bag) (rest : List ℕ) → bag b s ≡ whole x rest → Cuts IsBag s x rest
+pub sound : (b : ℕ) (s : List ℕ) (x : Bag) (rest : List ℕ) → bag b s ≡ whole x rest → Cuts IsBag s x rest
 sound = sound-of bag 4 sizeAt local IsBag to
 
-complete : (b : ℕ) (o rest : List ℕ) (x : Bag) → IsBag o x → bag b (o ++ rest) ≡ whole x rest
+pub complete : (b : ℕ) (o rest : List ℕ) (x : Bag) → IsBag o x → bag b (o ++ rest) ≡ whole x rest
 complete = complete-of bag 4 sizeAt local IsBag from
 
 pub bags-read : {s : List ℕ} {l : List Bag} → Bags s l → (b : ℕ) → bags b s ≡ whole l []

@@ -1,31 +1,31 @@
 -- The reader of frames answers a tree exactly when the octets are that tree's, and octets are one tree's at most.
-use Prim.Native.Nat.{ℕ, _+_, _-_, _/_, _≤_}
+use Prim.Native.Nat.{ℕ, zero, suc, _+_, _-_, _/_, _<_, _≤_}
 use mathlib.Core.Path.{_≡_, refl, ap, sym, _∙_, subst}
 use mathlib.Core.List.{List, [], _∷_, _++_}
 use mathlib.Core.Bool.{Bool, true, false}
 use native.Mathlib.Omega.{arith}
 use borrow.Author.Tests.{le-leb, leb-true, eq-eqb, ne-eqb, eqb-true, eqb-false}
 use lib.Dec.{leb, eqb}
-use lib.ListN.{length, drop, length-drop}
+use lib.ListN.{length, take, drop, length-drop}
 use lib.Seq.{take-all, drop-length}
 use Rattle.octets.specs.Numbers.{oct}
-use Rattle.octets.specs.Walk.{be16, be32, part, either, both, Reading, whole, broken, mapped, opened, closed}
+use Rattle.octets.specs.Walk.{be16, be32, part, either, both, sized, Reading, whole, broken, Reader, mapped, opened, begun, closed}
 use Rattle.octets.specs.Walk.{within, Linked}
 use Rattle.octets.proofs.Numerals.{sized-is}
 use Rattle.octets.proofs.Walks.{both-true, begun-some, opened-is}
 use Rattle.octets.proofs.Local.{extended, oct-append, be16-append, size-append, mapped-extend, opened-extend, begun-extend, within-extend}
-use Rattle.octets.proofs.Local.{Local, exact, split}
-use Rattle.octets.proofs.Inverse.{inverse-mapped, inverse-opened, inverse-begun, inverse-within}
+use Rattle.octets.proofs.Local.{Local, exact, Split, split}
+use Rattle.octets.proofs.Inverse.{Mapped, inverse-mapped, inverse-opened, inverse-begun, Within, inverse-within}
 use Rattle.octets.proofs.Grammar.{Splits, reads, read}
-use Rattle.policies.specs.Policy.{policies}
+use Rattle.policies.specs.Policy.{Policy, policies}
 use Rattle.policies.proofs.PolicyGrammar.{policies-read, read-policies}
-use Rattle.bags.specs.Bag.{bags}
+use Rattle.bags.specs.Bag.{Bag, bags}
 use Rattle.bags.proofs.BagGrammar.{bags-read, read-bags}
-use Rattle.frames.specs.Header.{firstPayload, headerFits, payloadFits}
+use Rattle.frames.specs.Header.{Header, headerOf, firstPayload, headerFits, payloadFits, isCritical}
 use Rattle.frames.specs.Delete.{Delete, deleteOf, deleteFits}
 use Rattle.frames.specs.Frame.{Content, gsa, kd, delete, unread, body, Payload, payloadOf, payload, noneNext, payloads, exactly}
 use Rattle.frames.specs.Frame.{Frame, frameOf, frame}
-use Rattle.frames.specs.Grammar.{IsContent, is-gsa, is-kd, is-delete, is-unread, IsPayload, IsFrame}
+use Rattle.frames.specs.Grammar.{IsDelete, IsContent, is-gsa, is-kd, is-delete, is-unread, IsPayload, IsFrame}
 use Rattle.frames.proofs.DeleteGrammar.{delete-to, delete-from}
 use Rattle.frames.proofs.PayloadLaws.{takes}
 
@@ -36,8 +36,8 @@ module _ (k h : ℕ) (s : List ℕ) where
   body-to b c left = go (eqb k 51) (eqb k 52) (eqb k 42) refl refl refl
     where
       go : (x y z : Bool) → eqb k 51 ≡ x → eqb k 52 ≡ y → eqb k 42 ≡ z
-          → either x (mapped gsa (policies b s)) (either y (mapped kd (bags b s))
-          (either z (opened h (deleteFits s) (whole (delete (deleteOf s)) []))
+          → either x (mapped gsa (policies b s)) (either y (mapped kd (bags b s)) (either z (opened h (deleteFits s) (whole (delete
+          (deleteOf s)) []))
           (whole unread []))) ≡ whole c left → IsContent k s c
       go true y z ex ey ez q =
           let m = inverse-mapped gsa (policies b s) c left q in
@@ -63,8 +63,8 @@ module _ (k h : ℕ) (s : List ℕ) where
   body-from (kd l) (is-kd e f) b = rw (at-kind 52 false 51 e refl, at-kind 52 true 52 e refl) (ap (mapped kd) (bags-read f b))
   body-from (delete d) (is-delete e f) b =
       let g = delete-from s d f in
-      rw (at-kind 42 false 51 e refl, at-kind 42 false 52 e refl, at-kind 42 true 42 e refl, g .0)
-      (ap (λ (x : Delete). whole (delete x) []) (g .1))
+      rw (at-kind 42 false 51 e refl, at-kind 42 false 52 e refl, at-kind 42 true 42 e refl, g .0) (ap (λ (x : Delete). whole
+      (delete x) []) (g .1))
   body-from unread (is-unread n₁ n₂ n₃) b = rw (ne-eqb k 51 n₁, ne-eqb k 52 n₂, ne-eqb k 42 n₃)
 
 -- A PAYLOAD IS READ FROM ITS OWN OCTETS
@@ -146,8 +146,8 @@ module _ (k : ℕ) where
       let l = i .least in
       let n = i .size in
       let f : payloadFits o ≡ true =
-      ap (λ (t : Bool). both t (leb (be16 o 2) (length o))) (le-leb 4 (be16 o 2) (omega arith))
-      ∙ le-leb (be16 o 2) (length o) (omega arith) in
+      ap (λ (t : Bool). both t (leb (be16 o 2) (length o))) (le-leb 4 (be16 o 2) (omega arith)) ∙ le-leb (be16 o 2) (length o)
+      (omega arith) in
       let d : drop 4 o ≡ part o 4 (be16 o 2) = sym (take-all (be16 o 2 - 4) (drop 4 o) (rw length-drop (omega arith))) in
       let w : within 4 (be16 o 2) (body k b) b o ≡ whole (x .item .content) (drop (be16 o 2) o) =
       ap (closed (drop (be16 o 2) o))
@@ -203,18 +203,15 @@ pub frame-read : (s : List ℕ) (x : Frame) → IsFrame s x → frame s ≡ whol
 unfolding frame
 frame-read s x i =
     let fit : headerFits s ≡ true =
-    ap (λ (t : Bool). both t (both (leb (length s) 16384) (both (eqb (be32 s 24) (length s)) (eqb (oct s 17 / 16) 2))))
-    (le-leb 28 (length s) (i .least))
+    ap (λ (t : Bool). both t (both (leb (length s) 16384) (both (eqb (be32 s 24) (length s)) (eqb (oct s 17 / 16) 2)))) (le-leb 28
+    (length s) (i .least))
     ∙ ap (λ (t : Bool). both t (both (eqb (be32 s 24) (length s)) (eqb (oct s 17 / 16) 2))) (le-leb (length s) 16384 (i .most))
     ∙ ap (λ (t : Bool). both t (eqb (oct s 17 / 16) 2)) (eq-eqb (be32 s 24) (length s) (i .size)) ∙ eq-eqb (oct s 17 / 16) 2 (i .major) in
     let p : payloads (firstPayload s) 28 (drop 28 s) ≡ whole (x .payloads) [] = reads noneNext payload takes IsPayload sound complete
     (i .payloads) 28 in
     opened-is 0 (headerFits s) (mapped (frameOf s) (exactly (payloads (firstPayload s) 28 (drop 28 s)))) fit
     ∙ ap (λ (y : Reading (List Payload)). mapped (frameOf s) (exactly y)) p
-    ∙ (λ j. whole (record {
-      header = record { spi = i .spi j; exchange = i .exchange j; messageId = i .messageId j };
-      payloads = x .payloads;
-    }) [])
+    ∙ (λ j. whole (record { header = record { spi = i .spi j; exchange = i .exchange j; messageId = i .messageId j }; payloads = x .payloads }) [])
 
 -- an accepted frame has one reading
 pub one-tree : (s : List ℕ) (x y : Frame) → IsFrame s x → IsFrame s y → x ≡ y

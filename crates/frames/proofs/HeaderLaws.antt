@@ -1,15 +1,16 @@
 -- What the code's tests say of a header, of a generic payload header and of a Delete payload's body.
-use Prim.Native.Nat.{ℕ, _+_, _-_, _*_, _/_, _<_, _≤_}
-use mathlib.Core.Path.{_≡_, refl, ap, sym, _∙_}
-use mathlib.Core.List.{List}
+use Prim.Native.Nat.{ℕ, zero, suc, _+_, _-_, _*_, _/_, _<_, _≤_}
+use mathlib.Core.Path.{_≡_, refl, ap, sym, _∙_, subst}
+use mathlib.Core.List.{List, [], _∷_}
 use mathlib.Core.Bool.{Bool, true, false}
 use native.Mathlib.Nat.{mul-le-mul-left}
 use native.Mathlib.Omega.{arith}
 use borrow.Author.Tests.{le-leb, lt-leb, leb-true, eq-eqb, ne-eqb}
 use lib.Dec.{leb, eqb}
-use lib.ListN.{length}
+use lib.ListN.{length, drop}
 use Rattle.octets.specs.Numbers.{oct}
 use Rattle.octets.specs.Walk.{be16, be32, either, both, sized}
+use Rattle.octets.proofs.Numerals.{sized-is}
 use Rattle.octets.proofs.Walks.{both-true}
 use Rattle.frames.specs.Header.{firstPayload, headerFits, payloadFits, isCritical}
 use Rattle.frames.specs.Delete.{deleteFits}
@@ -49,8 +50,8 @@ module _ (s : List ℕ) where
 pub header-is : (s : List ℕ) (p x i : ℕ) → header.Header p x i ≡ headerRead s → (headerFits s ≡ true) × (p ≡ firstPayload s)
 header-is s p x i = go (headerFits s) refl
   where
-    go : (t : Bool) → headerFits s ≡ t → header.Header p x i ≡ either t (header.Header (firstPayload s) (oct s 18) (be32 s 20))
-        header.Broken
+    go : (t : Bool) → headerFits s ≡ t → header.Header p x i ≡ either t (header.Header (firstPayload s) (oct s 18)
+        (be32 s 20)) header.Broken
         → (headerFits s ≡ true) × (p ≡ firstPayload s)
     go true e q = (e, cc)
     go false e q = let z : _≡_ {A = ℕ} 0 1 = cc in absurd (omega arith)
@@ -76,8 +77,8 @@ module _ (s : List ℕ) (r : Bool) (e : r ≡ sized 4 s) where
 pub payload-is : (s : List ℕ) (p : ℕ) (c : Bool) (n : ℕ) → payload.Payload p c n ≡ payloadRead s → (payloadFits s ≡ true) × (n ≡ be16 s 2)
 payload-is s p c n = go (payloadFits s) refl
   where
-    go : (t : Bool) → payloadFits s ≡ t → payload.Payload p c n ≡ either t (payload.Payload (oct s 0) (isCritical s) (be16 s 2))
-        payload.Broken
+    go : (t : Bool) → payloadFits s ≡ t → payload.Payload p c n ≡ either t (payload.Payload (oct s 0) (isCritical s)
+        (be16 s 2)) payload.Broken
         → (payloadFits s ≡ true) × (n ≡ be16 s 2)
     go true e q = (e, cc)
     go false e q = let z : _≡_ {A = ℕ} 0 1 = cc in absurd (omega arith)

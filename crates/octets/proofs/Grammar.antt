@@ -1,15 +1,16 @@
 -- The walker reads a list exactly when the octets are the list's, for any item whose reader does.
-use Prim.Native.Nat.{ℕ, zero, suc, _+_, _-_, _<_}
+use Prim.Native.Nat.{ℕ, zero, suc, _+_, _-_, _<_, _≤_}
 use mathlib.Core.Path.{_≡_, refl, ap, sym, _∙_, subst}
 use mathlib.Core.List.{List, [], _∷_, _++_, append-assoc}
 use mathlib.Core.Bool.{Bool, true, false}
 use native.Mathlib.Omega.{arith}
 use borrow.Author.Tests.{ne-eqb, eqb-true}
-use lib.ListN.{length}
-use Rattle.octets.specs.Walk.{Reading, whole, broken, Reader, mapped, Linked, push, chain, Alone, atEnd, stateless, many}
+use lib.ListN.{length, drop, length-append}
+use lib.Seq.{drop-append-seam}
+use Rattle.octets.specs.Walk.{Reading, whole, broken, Reader, mapped, Linked, push, further, chain, Alone, atEnd, stateless, many}
 use Rattle.octets.specs.Walk.{Spans, none, more, Row, no-more, then}
 use Rattle.octets.proofs.Walks.{Takes, took-fewer, chain-stop, chain-more, takes-stateless}
-use Rattle.octets.proofs.Local.{Local, exact, split}
+use Rattle.octets.proofs.Local.{Local, exact, Split, split}
 
 -- what a reader's item takes
 pub record Splits {S A : Type 0} (Is : S → List ℕ → A → S → Type 0) (st : S) (s : List ℕ) (a : A) (st′ : S) (rest : List ℕ) : Type 0 where
@@ -61,8 +62,8 @@ module _ {S A : Type 0} (stop : S → List ℕ → Bool) (step : S → Reader (L
         let z : s ≡ rest = cc in
         subst (λ (y : List A). Spans stop Is st s y rest) v (subst (λ (y : List ℕ). Spans stop Is st s [] y) z (none e))
     go false e (whole x r) p q =
-        next x r e p (chain stop step (x .next) (b + (length s - length r)) r) refl
-        (sym (chain-more stop step takes st b s (whole x r) e p) ∙ q)
+        next x r e p (chain stop step (x .next) (b + (length s - length r)) r) refl (sym (chain-more stop step takes st b s
+        (whole x r) e p) ∙ q)
     go false e (broken o) p q =
         let u : broken o ≡ whole l rest = sym (chain-more stop step takes st b s (broken o) e p) ∙ q in
         let z : _≡_ {A = ℕ} 0 1 = cc in absurd (omega arith)
@@ -75,6 +76,12 @@ module _ {S A : Type 0} (stop : S → List ℕ → Bool) (step : S → Reader (L
 
   pub read : (b : ℕ) {st : S} {s : List ℕ} {l : List A} {rest : List ℕ} → chain stop step st b s ≡ whole l rest → Spans stop Is st s l rest
   read b {st} {s} {l} {rest} q = upto (suc (length s)) st b s l rest (omega arith) q
+
+-- items in a row
+pub in-a-row : {A : Type 0} {Is : List ℕ → A → Type 0} {s t : List ℕ} {l m : List A} → Row Is s l → Row Is t m → Row Is (s ++ t) (l ++ m)
+in-a-row no-more g = g
+in-a-row {Is = Is} {t = t} {m = m} (then o s {a = a} {l = l} i r) g =
+    subst (λ (y : List ℕ). Row Is y (a ∷ (l ++ m))) (sym (append-assoc o s t)) (then o (s ++ t) i (in-a-row r g))
 
 -- ITEMS TO THE END: what a level has to show of its item is `sound` and `complete`; the rest follows for each level alike
 pub record Cuts {A : Type 0} (Is : List ℕ → A → Type 0) (s : List ℕ) (a : A) (rest : List ℕ) : Type 0 where
@@ -138,17 +145,39 @@ module _ {A : Type 0} (p : Reader A) (takes : (b : ℕ) (s : List ℕ) → Takes
   pub one-reading : {s : List ℕ} {l m : List A} → Row Is s l → Row Is s m → l ≡ m
   one-reading f g = let x = row-read f 0 in let y = row-read g 0 in cc
 
+  -- items in a row are read to their lists in a row
+  pub row-append : (b c d : ℕ) (s t : List ℕ) (l m : List A) → many p b s ≡ whole l [] → many p c t ≡ whole m [] → many p d
+      (s ++ t) ≡ whole (l ++ m) []
+  row-append b c d s t l m f g = row-read (in-a-row (read-row b s l [] f) (read-row c t m [] g)) d
+
+  -- the first item and the others
+  pub record FirstRest (s : List ℕ) (l : List A) : Type 0 where
+    pub item : A
+    pub others : List A
+    pub size : ℕ
+    pub is : (b : ℕ) → p b s ≡ whole item (drop size s)
+    pub rest : (b : ℕ) → many p b (drop size s) ≡ whole others []
+    pub all : l ≡ item ∷ others
+
+  row-first : {s : List ℕ} {l : List A} → Row Is s l → 0 < length s → FirstRest s l
+  row-first no-more h = absurd (omega arith)
+  row-first (then o s {a = a} {l = l} i r) h = record {
+    item = a;
+    others = l;
+    size = length o;
+    is = λ b. complete b o s a i ∙ ap (whole a) (sym (drop-append-seam o s));
+    rest = λ b. ap (many p b) (drop-append-seam o s) ∙ row-read r b;
+    all = refl;
+  }
+
+  pub first-rest : (b : ℕ) (s : List ℕ) (l : List A) (rest : List ℕ) → 0 < length s → many p b s ≡ whole l rest → FirstRest s l
+  first-rest b s l rest h q = row-first (read-row b s l rest q) h
+
   -- one way to split: what stands in front of the same octets is the same item with the same octets left
   pub one-split : (o o′ r r′ : List ℕ) (a a′ : A) → o ++ r ≡ o′ ++ r′ → Is o a → Is o′ a′ → (a ≡ a′) × (r ≡ r′)
   one-split o o′ r r′ a a′ e f g =
       let w : _≡_ {A = Reading A} (whole a r) (whole a′ r′) = sym (complete 0 o r a f) ∙ ap (p 0) e ∙ complete 0 o′ r′ a′ g in
       (cc, cc)
-
--- items in a row
-pub in-a-row : {A : Type 0} {Is : List ℕ → A → Type 0} {s t : List ℕ} {l m : List A} → Row Is s l → Row Is t m → Row Is (s ++ t) (l ++ m)
-in-a-row no-more g = g
-in-a-row {Is = Is} {t = t} {m = m} (then o s {a = a} {l = l} i r) g =
-    subst (λ (y : List ℕ). Row Is y (a ∷ (l ++ m))) (sym (append-assoc o s t)) (then o (s ++ t) i (in-a-row r g))
 
 -- A STRUCTURE THAT COUNTS ITS OCTETS: it is enough to compare reader and relation on the octets of one item alone
 module _ {A : Type 0} (p : Reader A) (k : ℕ) (size : List ℕ → ℕ) (l : Local p k size) (Is : List ℕ → A → Type 0) where

@@ -1,7 +1,7 @@
 -- What a whole reading says of the parts that it was made of.
-use Prim.Native.Nat.{ℕ, _+_, _-_}
-use mathlib.Core.Path.{_≡_, refl, ap, _∙_}
-use mathlib.Core.List.{List}
+use Prim.Native.Nat.{ℕ, _+_, _-_, _<_, _≤_}
+use mathlib.Core.Path.{_≡_, refl, ap, sym, _∙_, subst}
+use mathlib.Core.List.{List, [], _∷_}
 use mathlib.Core.Bool.{Bool, true, false}
 use native.Mathlib.Omega.{arith}
 use lib.Dec.{eqb}
@@ -19,8 +19,8 @@ inverse-mapped f (whole a r) y rest q =
     record { item = a; is = ap (whole a) v; gives = cc }
 inverse-mapped f (broken o) y rest q = let z : _≡_ {A = ℕ} 0 1 = cc in absurd (omega arith)
 
-pub inverse-opened : {A : Type 0} (b : ℕ) (t : Bool) (x : Reading A) (a : A) (rest : List ℕ) → opened b t x ≡ whole a rest
-    → (t ≡ true) × (x ≡ whole a rest)
+pub inverse-opened : {A : Type 0} (b : ℕ) (t : Bool) (x : Reading A) (a : A) (rest : List ℕ) → opened b t x ≡ whole a rest → (t ≡ true) ×
+    (x ≡ whole a rest)
 inverse-opened b true x a rest q = (refl, q)
 inverse-opened b false x a rest q = let z : _≡_ {A = ℕ} 0 1 = cc in absurd (omega arith)
 

@@ -1,16 +1,16 @@
 -- A structure that counts its own octets is read from these alone: the octets after it are left as they are, and it stands by itself.
-use Prim.Native.Nat.{ℕ, _+_, _-_, _<_, _≤_}
-use mathlib.Core.Path.{_≡_, refl, ap, sym, _∙_}
+use Prim.Native.Nat.{ℕ, zero, suc, _+_, _-_, _<_, _≤_}
+use mathlib.Core.Path.{_≡_, refl, ap, sym, _∙_, subst}
 use mathlib.Core.List.{List, [], _∷_, _++_}
 use mathlib.Core.Bool.{Bool, true, false}
 use native.Mathlib.Omega.{arith}
-use borrow.Author.Tests.{le-leb}
-use lib.Dec.{leb}
-use lib.ListN.{length, take, drop, length-append, length-drop, take-append-drop, List·getD-append}
+use borrow.Author.Tests.{eq-eqb, ne-eqb, le-leb}
+use lib.Dec.{eqb, leb}
+use lib.ListN.{length, take, drop, getD, length-append, length-drop, take-append-drop, List·getD-append}
 use lib.Seq.{length-take-le, take-append-le, drop-append-le}
-use Rattle.octets.specs.Numbers.{oct}
-use Rattle.octets.specs.Walk.{be16, part, either, sized, Reading, whole, broken, Reader, mapped, opened, begun, closed, within}
-use Rattle.octets.proofs.Numerals.{number-append}
+use Rattle.octets.specs.Numbers.{oct, number}
+use Rattle.octets.specs.Walk.{be16, be32, part, either, sized, Reading, whole, broken, Reader, mapped, opened, begun, closed, within}
+use Rattle.octets.proofs.Numerals.{number-append, sized-is}
 use Rattle.octets.proofs.Walks.{begun-some}
 
 -- the same reading, with octets behind
@@ -32,8 +32,8 @@ module _ (o r : List ℕ) where
 
   pub size-append : (k : ℕ) → 4 ≤ length o → be16 o 2 ≤ length o → sized k (o ++ r) ≡ sized k o
   size-append k h l =
-      rw (be16-append 2 h, length-append) (ap (λ (t : Bool). either (leb k (be16 o 2)) t false)
-      (both-hold (be16 o 2) (length o) (length r) l))
+      rw (be16-append 2 h, length-append) (ap (λ (t : Bool). either (leb k (be16 o 2)) t false) (both-hold (be16 o 2) (length o)
+      (length r) l))
     where
       both-hold : (n a b : ℕ) → n ≤ a → leb n (a + b) ≡ leb n a
       both-hold n a b f = le-leb n (a + b) (omega arith) ∙ sym (le-leb n a f)
@@ -47,8 +47,8 @@ module _ (o r : List ℕ) where
   opened-extend b t true x y e f = ap (λ (v : Bool). opened b v x) e ∙ f refl
   opened-extend b t false x y e f = ap (λ (v : Bool). opened b v x) e
 
-  pub begun-extend : {A : Type 0} (h : ℕ) (x y : Reading A) → 0 < length o → x ≡ extended r y
-      → begun h (o ++ r) x ≡ extended r (begun h o y)
+  pub begun-extend : {A : Type 0} (h : ℕ) (x y : Reading A) → 0 < length o → x ≡ extended r y → begun h (o ++ r) x ≡ extended r
+      (begun h o y)
   begun-extend h x y k e =
       begun-some h (o ++ r) x (λ z. omega (arith, length-append o r))
       ∙ e ∙ ap (extended r) (sym (begun-some h o y (λ z. omega arith)))
@@ -67,8 +67,8 @@ module _ (o r : List ℕ) where
 -- a reader that goes by a size, which the first k octets tell
 pub record Local {A : Type 0} (p : Reader A) (k : ℕ) (size : List ℕ → ℕ) : Type 0 where
   pub same : (o r : List ℕ) → k ≤ length o → size (o ++ r) ≡ size o
-  pub counts : (b : ℕ) (s : List ℕ) (a : A) (rest : List ℕ) → p b s ≡ whole a rest
-      → (k ≤ size s) × (size s ≤ length s) × (rest ≡ drop (size s) s)
+  pub counts : (b : ℕ) (s : List ℕ) (a : A) (rest : List ℕ) → p b s ≡ whole a rest → (k ≤ size s) × (size s ≤ length s) × (rest ≡ drop
+      (size s) s)
   pub extend : (b : ℕ) (o r : List ℕ) → k ≤ length o → size o ≤ length o → p b (o ++ r) ≡ extended r (p b o)
 
 shorter : {A : Type 0} (x : Reading A) (a : A) (rest : List ℕ) → extended rest x ≡ whole a rest → x ≡ whole a []

@@ -11,7 +11,7 @@ use lib.Seq.{length-take-le, take-all, drop-drop}
 use lib.Dec.{eqb}
 use Rattle.octets.specs.Walk.{part, either, both, Reading, whole, broken, Reader, mapped, after, andThen, Linked, push, further}
 use Rattle.octets.specs.Walk.{chainUpTo, chain}
-use Rattle.octets.specs.Walk.{Alone, atEnd, stateless, many, Outline, stops, breaks, outline, closed, opened, begun}
+use Rattle.octets.specs.Walk.{Alone, atEnd, stateless, many, Outline, stops, breaks, outline, closed, within, opened, begun}
 
 -- what holds of both, each under its test, holds of the one that is picked
 pub by-test : {A : Type 0} (P : A → Type 0) (b : Bool) {x y : A} → (b ≡ true → P x) → (b ≡ false → P y) → P (either b x y)
@@ -124,8 +124,8 @@ module _ {S A : Type 0} (stop : S → List ℕ → Bool) (step : S → Reader (L
 
   keeps-further : (p : Reading (Linked S A)) (b : ℕ) (s : List ℕ) (k : S → Reader (List A)) → Takes s p
       → ((st : S) (b′ : ℕ) (rest : List ℕ) → Keeps rest (k st b′ rest)) → Keeps s (further p b s k)
-  keeps-further (whole x rest) b s k t h = go (k (x .next) (b + (length s - length rest)) rest)
-      (h (x .next) (b + (length s - length rest)) rest)
+  keeps-further (whole x rest) b s k t h = go (k (x .next) (b + (length s - length rest)) rest) (h (x .next) (b +
+      (length s - length rest)) rest)
     where
       go : (y : Reading (List A)) → Keeps rest y → Keeps s (push (x .item) y)
       go (whole l r) j = kept-then s rest r t j

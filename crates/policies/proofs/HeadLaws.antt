@@ -1,12 +1,12 @@
 -- What the code's tests say of the head of a policy or of a key bag.
-use Prim.Native.Nat.{ℕ, _+_, _-_, _<_, _≤_}
-use mathlib.Core.Path.{_≡_, ap, sym, _∙_}
-use mathlib.Core.List.{List}
+use Prim.Native.Nat.{ℕ, zero, suc, _+_, _-_, _<_, _≤_}
+use mathlib.Core.Path.{_≡_, refl, ap, sym, _∙_, subst}
+use mathlib.Core.List.{List, [], _∷_}
 use mathlib.Core.Bool.{Bool, true, false}
 use native.Mathlib.Omega.{arith}
 use borrow.Author.Tests.{lt-ltb, le-ltb, eq-eqb, ne-eqb}
 use lib.Dec.{ltb, eqb}
-use lib.ListN.{length}
+use lib.ListN.{length, drop}
 use Rattle.octets.specs.Numbers.{oct}
 use Rattle.octets.specs.Walk.{be16, either, both, sized}
 use Rattle.octets.proofs.Numerals.{too-few, sized-is}
@@ -32,8 +32,8 @@ module _ (s : List ℕ) where
       as-tested : both (sized (4 + z) s) (both (ltb 0 z) (eqb (oct s 1) z)) ≡ headFits s
       as-tested =
           ap (λ (x : ℕ). both (sized (4 + x) s) (both (ltb 0 x) (eqb (oct s 1) x))) f
-          ∙ ap (λ (t : Bool). both (sized (4 + spiSize p) s) (both (either t true (ltb 0 (spiSize p)))
-          (either t true (eqb (oct s 1) (spiSize p)))))
+          ∙ ap (λ (t : Bool). both (sized (4 + spiSize p) s) (both (either t true (ltb 0 (spiSize p))) (either t true (eqb (oct s 1)
+          (spiSize p)))))
           (sym (ne-eqb p 0 k))
           ∙ ap (λ (x : ℕ). both (sized (4 + spiSize x) s) (both (firstKnown x) (either (eqb x 0) true (eqb (oct s 1) (spiSize x))))) e
 

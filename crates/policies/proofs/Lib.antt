@@ -5,3 +5,4 @@ pub mod PolicyLaws
 pub mod SelectorGrammar
 pub mod TransformGrammar
 pub mod PolicyGrammar
+pub mod JudgingLaws

@@ -1,20 +1,20 @@
 -- The reader of policies answers a list exactly when the octets are that list's.
-use Prim.Native.Nat.{ℕ, _+_, _-_, _<_, _≤_}
+use Prim.Native.Nat.{ℕ, zero, suc, _+_, _-_, _<_, _≤_}
 use mathlib.Core.Path.{_≡_, refl, ap, sym, _∙_, subst}
-use mathlib.Core.List.{List, [], _++_}
+use mathlib.Core.List.{List, [], _∷_, _++_}
 use mathlib.Core.Bool.{Bool, true, false}
 use native.Mathlib.Omega.{arith}
 use borrow.Author.Tests.{le-leb, lt-ltb, ltb-true, eq-eqb, ne-eqb, eqb-true, eqb-false}
 use lib.Dec.{leb, ltb, eqb}
-use lib.ListN.{length, drop, length-drop}
+use lib.ListN.{length, take, drop, length-drop}
 use lib.Seq.{take-all, drop-length}
 use Rattle.octets.specs.Numbers.{oct}
-use Rattle.octets.specs.Walk.{be16, part, either, both, sized, Reading, whole, Reader, mapped, opened, closed, within, after}
+use Rattle.octets.specs.Walk.{be16, part, either, both, sized, Reading, whole, broken, Reader, mapped, opened, closed, within, after}
 use Rattle.octets.specs.Walk.{andThen}
 use Rattle.octets.proofs.Walks.{both-true}
 use Rattle.octets.proofs.Local.{extended, oct-append, be16-append, part-append, size-append, opened-extend, within-extend, Local}
-use Rattle.octets.proofs.Inverse.{inverse-mapped, inverse-opened, inverse-within, inverse-then}
-use Rattle.octets.proofs.Grammar.{Cuts, row-read, read-row, sound-of, complete-of}
+use Rattle.octets.proofs.Inverse.{Mapped, inverse-mapped, inverse-opened, Within, inverse-within, Then, inverse-then}
+use Rattle.octets.proofs.Grammar.{Cuts, row-read, read-row, sound-of, complete-of, any-offset}
 use Rattle.attributes.specs.Attribute.{Attribute}
 use Rattle.attributes.specs.Place.{inPolicy}
 use Rattle.attributes.specs.Tree.{initialMessageIds, deactivationDelays}
@@ -25,10 +25,10 @@ use Rattle.attributes.specs.declared.tables.Place.the-variants as place
 use Rattle.attributes.proofs.GrammarLaws.{are-read, read-are}
 use Rattle.policies.specs.Selector.{Selector, selector}
 use Rattle.policies.specs.Transform.{Transform, transforms}
-use Rattle.policies.specs.Policy.{spiSize, firstKnown, spiSized, headSize, headFits, spiOf, GroupWidePolicy, Policy}
+use Rattle.policies.specs.Policy.{spiSize, firstKnown, spiSized, headSize, headFits, spiOf, GroupSaPolicy, GroupWidePolicy, Policy}
 use Rattle.policies.specs.Policy.{groupSa, groupWide}
 use Rattle.policies.specs.Policy.{Suite, suite, SaBody, saBody, groupSaOf, groupWideOf, policyHolds, policy, policies}
-use Rattle.policies.specs.Grammar.{IsSaBody, IsPolicy, is-sa, is-wide, Policies}
+use Rattle.policies.specs.Grammar.{IsSaBody, IsGroupSa, IsGroupWide, IsPolicy, is-sa, is-wide, Policies}
 use Rattle.policies.proofs.HeadLaws.{head-is}
 use Rattle.policies.proofs.SelectorGrammar.{sound as selector-sound, complete as selector-complete}
 use Rattle.policies.proofs.TransformGrammar.{transforms-read, read-transforms}
@@ -49,20 +49,16 @@ module _ (h : ℕ) (p : Place) where
       let c₁ = b + (length s - length (f .left)) in
       let g = inverse-then (selector h) (bodied (f .item)) c₁ (f .left) x rest (f .second) in
       let c₂ = c₁ + (length (f .left) - length (g .left)) in
-      let m = inverse-mapped (λ (y : Suite). record { source = f .item; destination = g .item; suite = y }) (suite h p c₂ (g .left)) x
-      rest (g .second) in
+      let m = inverse-mapped (λ (y : Suite). record { source = f .item; destination = g .item; suite = y }) (suite h p c₂
+      (g .left)) x rest (g .second) in
       let k = inverse-then (transforms h) suited c₂ (g .left) (m .item) rest (m .is) in
       let c₃ = c₂ + (length (g .left) - length (k .left)) in
       let n = inverse-mapped (λ (l : List Attribute). record { transforms = k .item; attributes = l }) (attributes p c₃ (k .left))
       (m .item) rest (k .second) in
       let u = selector-sound h b s (f .item) (f .left) (f .first) in
       let v = selector-sound h c₁ (f .left) (g .item) (g .left) (g .first) in
-      let made : _≡_ {A = SaBody} (record {
-        source = f .item;
-        destination = g .item;
-        suite = record
-            { transforms = k .item; attributes = n .item };
-      }) x =
+      let made : _≡_ {A = SaBody}
+      (record { source = f .item; destination = g .item; suite = record { transforms = k .item; attributes = n .item } }) x =
       ap (λ (y : Suite). record { source = f .item; destination = g .item; suite = y }) (n .gives) ∙ m .gives in
       subst (IsSaBody p s) made
       (record {
@@ -99,13 +95,13 @@ module _ (h : ℕ) (p : Place) where
 abbrev sizeAt : List ℕ → ℕ
 sizeAt s = be16 s 2
 
-record Read (b : ℕ) (s : List ℕ) (x : Policy) (rest : List ℕ) : Type 0 where
-  fits : headFits s ≡ true
-  left : List ℕ
-  inner : policyHolds b s (b + headSize s) (part s (headSize s) (be16 s 2)) ≡ whole x left
-  after : rest ≡ drop (be16 s 2) s
+pub record Read (b : ℕ) (s : List ℕ) (x : Policy) (rest : List ℕ) : Type 0 where
+  pub fits : headFits s ≡ true
+  pub left : List ℕ
+  pub inner : policyHolds b s (b + headSize s) (part s (headSize s) (be16 s 2)) ≡ whole x left
+  pub after : rest ≡ drop (be16 s 2) s
 
-inverse : (b : ℕ) (s : List ℕ) (x : Policy) (rest : List ℕ) → policy b s ≡ whole x rest → Read b s x rest
+pub inverse : (b : ℕ) (s : List ℕ) (x : Policy) (rest : List ℕ) → policy b s ≡ whole x rest → Read b s x rest
 unfolding policy
 inverse b s x rest q =
     let f = inverse-opened b (headFits s) (within (headSize s) (be16 s 2) (policyHolds b s) b s) x rest q in
@@ -285,8 +281,8 @@ module _ (b : ℕ) (o : List ℕ) where
       let t = ne-eqb (oct o 0) 0 z in
       let e : headFits o ≡ true =
       made-head o (omega arith) n (ap (λ (u : Bool). either u true (ltb 0 (spiSize (oct o 0)))) t ∙ lt-ltb 0 (spiSize (oct o 0)) k)
-      (ap (λ (u : Bool). either u true (eqb (oct o 1) (spiSize (oct o 0)))) t
-      ∙ eq-eqb (oct o 1) (spiSize (oct o 0)) (i .spiOctets ∙ ap spiSize (sym p))) in
+      (ap (λ (u : Bool). either u true (eqb (oct o 1) (spiSize (oct o 0)))) t ∙ eq-eqb (oct o 1) (spiSize (oct o 0)) (i .spiOctets
+      ∙ ap spiSize (sym p))) in
       let a : IsSaBody (inPolicy (oct o 0)) (drop (headSize o) o) (i .body) =
       subst (λ (u : ℕ). IsSaBody (inPolicy u) (drop (4 + spiSize u) o) (i .body)) (sym p) (i .holds) in
       let sp : spiOf o ≡ x .spi = ap (λ (u : ℕ). part o 4 (4 + spiSize u)) p ∙ i .spi in
@@ -305,10 +301,10 @@ module _ (b : ℕ) (o : List ℕ) where
         initialMessageIds = ids j;
       })) []))
 
-sound : (b : ℕ) (s : List ℕ) (x : Policy) (rest : List ℕ) → policy b s ≡ whole x rest → Cuts IsPolicy s x rest
+pub sound : (b : ℕ) (s : List ℕ) (x : Policy) (rest : List ℕ) → policy b s ≡ whole x rest → Cuts IsPolicy s x rest
 sound = sound-of policy 4 sizeAt local IsPolicy to
 
-complete : (b : ℕ) (o rest : List ℕ) (x : Policy) → IsPolicy o x → policy b (o ++ rest) ≡ whole x rest
+pub complete : (b : ℕ) (o rest : List ℕ) (x : Policy) → IsPolicy o x → policy b (o ++ rest) ≡ whole x rest
 complete = complete-of policy 4 sizeAt local IsPolicy from
 
 pub policies-read : {s : List ℕ} {l : List Policy} → Policies s l → (b : ℕ) → policies b s ≡ whole l []

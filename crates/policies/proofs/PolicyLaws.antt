@@ -1,14 +1,15 @@
 -- What the readers' answers say of a policy, with what it holds.
-use Prim.Native.Nat.{ℕ, _+_, _-_, _≤_}
-use mathlib.Core.Path.{_≡_, ap, sym, _∙_}
-use mathlib.Core.List.{List}
+use Prim.Native.Nat.{ℕ, zero, suc, _+_, _-_, _<_, _≤_}
+use mathlib.Core.Path.{_≡_, refl, ap, sym, _∙_, subst}
+use mathlib.Core.List.{List, [], _∷_}
 use mathlib.Core.Bool.{Bool, true, false}
 use native.Mathlib.Nat.{add-assoc}
 use native.Mathlib.Omega.{arith}
 use borrow.Author.Tests.{eq-eqb, ne-eqb}
+use lib.Dec.{eqb}
 use lib.ListN.{length, drop}
 use Rattle.octets.specs.Numbers.{oct}
-use Rattle.octets.specs.Walk.{be16, part, either, Reading, Reader, mapped, within, andThen}
+use Rattle.octets.specs.Walk.{be16, part, either, Reading, whole, broken, Reader, mapped, opened, within, andThen}
 use Rattle.octets.proofs.Walks.{tail, tail-tail, Takes, Keeps, took, takes-keeps, takes-closed, opened-is, opened-not, takes-opened}
 use Rattle.attributes.specs.Attribute.{Attribute}
 use Rattle.attributes.specs.Place.{inPolicy}
@@ -19,7 +20,7 @@ use Rattle.attributes.specs.declared.Layout.the-variants as layout
 use Rattle.attributes.specs.declared.Spot.the-variants as spot
 use Rattle.attributes.specs.declared.tables.Place.{Place}
 use Rattle.attributes.specs.declared.tables.Place.the-variants as place
-use Rattle.attributes.proofs.Loops.{held-whole, held-broken, layout-mapped, then-layout, then-breaks, ended}
+use Rattle.attributes.proofs.Loops.{held-whole, held-broken, layout-mapped, then-layout, then-breaks, Ended, ended}
 use Rattle.policies.specs.Selector.{Selector, selector}
 use Rattle.policies.specs.Transform.{Transform, transforms}
 use Rattle.policies.specs.Policy.{headSize, headFits, Policy, Suite, suite, SaBody, saBody, groupSaOf, groupWideOf, policyHolds}
@@ -66,8 +67,8 @@ module _ (h : ℕ) (p : Place) (b : ℕ) (s : List ℕ) where
   body-breaks o q = then-breaks (selector h) (selector-keeps h) second b s o q
 
   module _ (a : ℕ) (q : spot.Ends a ≡ spotOf s (selector h b s)) where
-    pub body-breaks-2 : (o : ℕ) → spot.Broken o ≡ spotOf (tail s a) (selector h (b + a) (tail s a))
-        → layout.Broken o ≡ layoutOf (saBody h p b s)
+    pub body-breaks-2 : (o : ℕ) → spot.Broken o ≡ spotOf (tail s a) (selector h (b + a) (tail s a)) → layout.Broken o ≡ layoutOf
+        (saBody h p b s)
     unfolding saBody second final
     body-breaks-2 o f =
         then-layout (selector h) (selector-keeps h) second b s (layout.Broken o) a q
@@ -82,8 +83,8 @@ module _ (h : ℕ) (p : Place) (b : ℕ) (s : List ℕ) where
         ∙ ap (λ (c : ℕ). layoutOf (suite h p c (tail (tail s a) d))) (sym (add-assoc b a d)) in
         then-layout (selector h) (selector-keeps h) second b s y a q
         (λ src. then-layout (selector h) (selector-keeps h) (final src) (b + a) (tail s a) y d f
-        (λ dst. k ∙ layout-mapped (λ (x : Suite). record { source = src; destination = dst; suite = x })
-        (suite h p (b + a + d) (tail (tail s a) d))))
+        (λ dst. k ∙ layout-mapped (λ (x : Suite). record { source = src; destination = dst; suite = x }) (suite h p (b + a + d) (tail
+        (tail s a) d))))
 
 -- WHAT A POLICY HOLDS AFTER ITS HEAD
 module _ (b : ℕ) (s : List ℕ) (z n : ℕ) (zq : z ≡ headSize s) (nq : n ≡ be16 s 2) (y : Layout) where

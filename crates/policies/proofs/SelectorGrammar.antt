@@ -1,15 +1,15 @@
 -- The reader of a selector answers one exactly when the octets are that selector's.
-use Prim.Native.Nat.{ℕ, _+_, _-_, _<_, _≤_}
+use Prim.Native.Nat.{ℕ, zero, suc, _+_, _-_, _<_, _≤_}
 use mathlib.Core.Path.{_≡_, refl, ap, sym, _∙_, subst}
-use mathlib.Core.List.{List, [], _++_}
+use mathlib.Core.List.{List, [], _∷_, _++_}
 use mathlib.Core.Bool.{Bool, true, false}
 use native.Mathlib.Omega.{arith}
-use borrow.Author.Tests.{le-leb, leb-true, lt-ltb, ltb-true, eq-eqb, eqb-true}
+use borrow.Author.Tests.{le-leb, leb-true, lt-ltb, ltb-true, eq-eqb, eqb-true, ne-eqb}
 use lib.Dec.{leb, ltb, eqb}
-use lib.ListN.{length, drop, length-append, length-drop}
+use lib.ListN.{length, take, drop, length-append, length-drop}
 use lib.Seq.{drop-append-le, take-all, drop-length}
 use Rattle.octets.specs.Numbers.{oct}
-use Rattle.octets.specs.Walk.{be16, part, either, both, Reading, whole, opened}
+use Rattle.octets.specs.Walk.{be16, part, either, both, Reading, whole, broken, opened, begun}
 use Rattle.octets.proofs.Walks.{by-test, both-true, begun-some}
 use Rattle.octets.proofs.Local.{extended, oct-append, be16-append, part-append, opened-extend, begun-extend, Local}
 use Rattle.octets.proofs.Grammar.{Cuts, sound-of, complete-of}
@@ -49,8 +49,8 @@ is-fits s f =
     ∙ eq-eqb (be16 s 2) (sizeAt s) (f .size)
 
 module _ (h : ℕ) where
-  inverse : (b : ℕ) (s : List ℕ) (x : Selector) (rest : List ℕ) → selector h b s ≡ whole x rest
-      → Fits s × (selectorOf s ≡ x) × (rest ≡ drop (sizeAt s) s)
+  inverse : (b : ℕ) (s : List ℕ) (x : Selector) (rest : List ℕ) → selector h b s ≡ whole x rest → Fits s × (selectorOf s ≡ x) ×
+      (rest ≡ drop (sizeAt s) s)
   unfolding selector
   inverse b s x rest =
       by-test (λ (y : Reading Selector). y ≡ whole x rest → Fits s × (selectorOf s ≡ x) × (rest ≡ drop (sizeAt s) s)) (eqb (length s) 0)
@@ -82,8 +82,8 @@ module _ (h : ℕ) where
             let w = two-addresses (oct o 0) (f .known) in
             let n = long in
             let a : part (o ++ r) 8 (8 + addressSize (oct (o ++ r) 0)) ≡ part o 8 (8 + addressSize (oct o 0)) =
-            ap (λ (t : ℕ). part (o ++ r) 8 (8 + addressSize t)) first
-            ∙ part-append o r 8 (8 + addressSize (oct o 0)) (omega arith) (omega arith) in
+            ap (λ (t : ℕ). part (o ++ r) 8 (8 + addressSize t)) first ∙ part-append o r 8 (8 + addressSize (oct o 0)) (omega arith)
+            (omega arith) in
             let e : part (o ++ r) (8 + addressSize (oct (o ++ r) 0)) (sizeAt (o ++ r)) ≡ part o (8 + addressSize (oct o 0)) (sizeAt o) =
             ap (λ (t : ℕ). part (o ++ r) (8 + addressSize t) (selectorSize t)) first
             ∙ part-append o r (8 + addressSize (oct o 0)) (sizeAt o) (omega arith) k in

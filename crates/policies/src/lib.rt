@@ -10,6 +10,7 @@ use attributes::Layout;
 use attributes::Spot;
 use attributes::tables::Place;
 
+pub mod judging;
 pub mod selectors;
 pub mod transforms;
 

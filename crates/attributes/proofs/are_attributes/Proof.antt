@@ -1,7 +1,7 @@
 use denote.Ref.{now}
 use native.Mathlib.Omega.{arith}
-use mathlib.Core.Path.{_≡_, sym, _∙_}
-use Prim.Native.Nat.{_+_, _-_, _<_, _≤_}
+use mathlib.Core.Path.{_≡_, refl, ap, sym, _∙_, subst}
+use Prim.Native.Nat.{ℕ, _+_, _-_, _<_, _≤_}
 use lib.ListN.{length, drop}
 use Rattle.attributes.specs.Layout.{attributes}
 use Rattle.attributes.specs.Answers.{layoutOf}
@@ -44,18 +44,14 @@ next : (c : tie.After-known-told Inv-loop μ-loop)
     let at = c .before .before .before .before .before .before .loop .at in
     let e = c .before .e .given .0 .0 in
     (0 < e) × (at + e ≤ length (now (a .s)))
-    × (layoutOf (attributes (a .place) (a .base) (now (a .s))) ≡ layoutOf
-    (attributes (a .place) (a .base + (at + e)) (drop (at + e) (now (a .s)))))
+    × (layoutOf (attributes (a .place) (a .base) (now (a .s))) ≡ layoutOf (attributes (a .place) (a .base + (at + e)) (drop (at + e) (now
+    (a .s)))))
 next c =
-    let p3 = c .before .before .before in
-    let p5 = p3 .before .before in
-    let p6 = p5 .before in
-    let p8 = p6 .before .before in
-    let a = p8 .args in
-    let l = p6 .loop in
-    loop-goes (attribute (a .place)) (takes (a .place)) (a .base) (now (a .s)) (l .at) (l .inv .1) (p5 .loop-test .taken)
-    (c .before .e .given .0 .0)
-    (sym (c .before .e .given .1) ∙ p3 .attribute-in .ensures)
+    let a = c .before .before .before .before .before .before .before .before .args in
+    let l = c .before .before .before .before .before .before .loop in
+    loop-goes (attribute (a .place)) (takes (a .place)) (a .base) (now (a .s)) (l .at) (l .inv .1)
+    (c .before .before .before .before .before .loop-test .taken) (c .before .e .given .0 .0)
+    (sym (c .before .e .given .1) ∙ c .before .before .before .attribute-in .ensures)
 
 add-at : tie.Need-add-at Inv-loop μ-loop
 add-at c =
@@ -73,14 +69,11 @@ enum-known-o c = search needs
 
 returns : tie.Need-returns Inv-loop μ-loop
 returns c =
-    let p3 = c .before .before .before in
-    let p5 = p3 .before .before in
-    let p6 = p5 .before in
-    let p8 = p6 .before .before in
-    let a = p8 .args in
-    let l = p6 .loop in
-    loop-breaks (attribute (a .place)) (takes (a .place)) (a .base) (now (a .s)) (l .at) (l .inv .1) (p5 .loop-test .taken) _
-    (sym (c .before .o .given .1) ∙ p3 .attribute-in .ensures)
+    let a = c .before .before .before .before .before .before .before .before .args in
+    let l = c .before .before .before .before .before .before .loop in
+    loop-breaks (attribute (a .place)) (takes (a .place)) (a .base) (now (a .s)) (l .at) (l .inv .1)
+    (c .before .before .before .before .before .loop-test .taken) _
+    (sym (c .before .o .given .1) ∙ c .before .before .before .attribute-in .ensures)
 
 returns-2 : tie.Need-returns-2 Inv-loop μ-loop
 returns-2 c =

@@ -2,7 +2,8 @@ use Prim.Native.Nat.{_-_}
 use Rattle.attributes.specs.Place.{formed}
 use Rattle.attributes.specs.declared.tables.Meaning.{Meaning}
 use denote.Ref.{now}
-use mathlib.Core.Path.{ap, sym, _∙_}
+use mathlib.Core.Path.{_≡_, refl, ap, sym, _∙_, subst}
+use native.Mathlib.Omega.{arith}
 use Rattle.attributes.proofs.AttributeLaws.{IsRead, read-is, cut-is, read-inside, cut-in, formed-in, not-formed}
 use borrow.Author.Needs.{needs}
 use Rattle.attributes.proofs.attribute_in.Statement.{statement}
@@ -35,37 +36,28 @@ is-formed-requires c κs = search needs
 
 returns : tie.Need-returns
 returns c =
-    let p2 = c .before .before in
-    let p3 = p2 .before in
-    let p4 = p3 .before in
-    let p8 = p4 .before .before .before .before in
-    let a = p8 .args in
-    let v = p4 .short .given .0 in
-    formed-in (a .place) (a .base) (now (a .s)) (v .0) (v .1 .0) (v .1 .1 .0) (v .1 .1 .1 .0) (found (p3)) _
-    (c .before .is-formed .ensures ∙ ap (λ (m : Meaning). formed m (v .0) (v .1 .1 .1 .0 - v .1 .1 .0)) (p2 .meaning-in .ensures))
-    (c .if1 .taken)
+    let a = c .before .before .before .before .before .before .before .before .args in
+    let v = c .before .before .before .before .short .given .0 in
+    formed-in (a .place) (a .base) (now (a .s)) (v .0) (v .1 .0) (v .1 .1 .0) (v .1 .1 .1 .0) (found (c .before .before .before)) _
+    (c .before .is-formed .ensures ∙ ap (λ (m : Meaning). formed m (v .0) (v .1 .1 .1 .0 - v .1 .1 .0))
+    (c .before .before .meaning-in .ensures)) (c .if1 .taken)
 
 enum-told : tie.Need-enum-told
 enum-told c = search needs
 
 returns-2 : tie.Need-returns-2
 returns-2 c =
-    let p2 = c .before .before in
-    let p3 = p2 .before in
-    let p4 = p3 .before in
-    let p8 = p4 .before .before .before .before in
-    let a = p8 .args in
-    let v = p4 .short .given .0 in
-    not-formed (a .place) (a .base) (now (a .s)) (v .0) (v .1 .0) (v .1 .1 .0) (v .1 .1 .1 .0) (found (p3)) _
-    (c .before .is-formed .ensures ∙ ap (λ (m : Meaning). formed m (v .0) (v .1 .1 .1 .0 - v .1 .1 .0)) (p2 .meaning-in .ensures))
-    (c .if1 .left)
+    let a = c .before .before .before .before .before .before .before .before .args in
+    let v = c .before .before .before .before .short .given .0 in
+    not-formed (a .place) (a .base) (now (a .s)) (v .0) (v .1 .0) (v .1 .1 .0) (v .1 .1 .1 .0) (found (c .before .before .before)) _
+    (c .before .is-formed .ensures ∙ ap (λ (m : Meaning). formed m (v .0) (v .1 .1 .1 .0 - v .1 .1 .0))
+    (c .before .before .meaning-in .ensures)) (c .if1 .left)
 
 returns-3 : tie.Need-returns-3
 returns-3 c =
-    let p2 = c .before .before in
-    let p4 = p2 .before .before in
-    let a = p4 .args in
-    cut-in (a .place) (a .base) (now (a .s)) (cut-is (now (a .s)) (sym (c .enum-told .given .1) ∙ p2 .attribute-read .ensures))
+    let a = c .before .before .before .before .args in
+    cut-in (a .place) (a .base) (now (a .s)) (cut-is (now (a .s)) (sym (c .enum-told .given .1)
+    ∙ c .before .before .attribute-read .ensures))
 
 pub attribute-in-spec : {M : Type 1} → statement M
 attribute-in-spec =

@@ -11,10 +11,8 @@ be16-at-requires : tie.Need-be16-at-requires
 be16-at-requires c κs = search needs
 
 returns-2 : tie.Need-returns-2
-returns-2 c =
-    let p2 = c .before .before in
-    let p4 = p2 .before .before in
-    short (now (p4 .args .s)) (p2 .if1 .left) _ (c .before .be16-at .ensures .0) (c .if2 .taken)
+returns-2 c = short (now (c .before .before .before .before .args .s)) (c .before .before .if1 .left) _ (c .before .be16-at .ensures .0)
+    (c .if2 .taken)
 
 be16-at-requires-2 : tie.Need-be16-at-requires-2
 be16-at-requires-2 c κs = search needs
@@ -24,24 +22,18 @@ sub-if3 c = search needs
 
 returns-3 : tie.Need-returns-3
 returns-3 c =
-    let p2 = c .before .before in
-    let p3 = p2 .before in
-    let p4 = p3 .before in
-    let p6 = p4 .before .before in
-    let s = now (p6 .args .s) in
-    long-cut s (p4 .if1 .left) _ (p3 .be16-at .ensures .0) (p2 .if2 .left) _ (c .before .be16-at2 .ensures .0) (c .if3 .taken)
+    let s = now (c .before .before .before .before .before .before .args .s) in
+    long-cut s (c .before .before .before .before .if1 .left) _ (c .before .before .before .be16-at .ensures .0)
+    (c .before .before .if2 .left) _ (c .before .be16-at2 .ensures .0) (c .if3 .taken)
 
 add-t7 : tie.Need-add-t7
 add-t7 c = search needs
 
 returns-4 : tie.Need-returns-4
 returns-4 c =
-    let p2 = c .before .before in
-    let p3 = p2 .before in
-    let p4 = p3 .before in
-    let p6 = p4 .before .before in
-    let s = now (p6 .args .s) in
-    long s (p4 .if1 .left) _ (p3 .be16-at .ensures .0) (p2 .if2 .left) _ (c .before .be16-at2 .ensures .0) (c .if3 .left)
+    let s = now (c .before .before .before .before .before .before .args .s) in
+    long s (c .before .before .before .before .if1 .left) _ (c .before .before .before .be16-at .ensures .0)
+    (c .before .before .if2 .left) _ (c .before .be16-at2 .ensures .0) (c .if3 .left)
 
 pub attribute-read-spec : {M : Type 1} → statement M
 attribute-read-spec =

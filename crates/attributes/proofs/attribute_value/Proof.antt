@@ -1,7 +1,7 @@
 use Rattle.octets.proofs.Walks.{to-end}
 use Rattle.attributes.specs.Answers.{readOf}
 use denote.Ref.{now}
-use mathlib.Core.Path.{ap, sym, _∙_}
+use mathlib.Core.Path.{_≡_, refl, ap, sym, _∙_, subst}
 use native.Mathlib.Omega.{arith}
 use Rattle.attributes.proofs.AttributeLaws.{IsRead, read-is, cut-is, read-inside, value-there, value-none, value-past}
 use Prim.Native.Nat.{_≤_}
@@ -39,23 +39,24 @@ enum-known-start c = search needs
 
 found : (c : tie.After-known-told)
     → let v = c .before .start .given .0 in
-    IsRead (drop (c .before .before .before .before .before .before .before .args .at)
-    (now (c .before .before .before .before .before .before .before .args .s))) (v .0) (v .1 .0) (v .1 .1 .0) (v .1 .1 .1 .0)
+    IsRead (drop (c .before .before .before .before .before .before .before .args .at) (now
+    (c .before .before .before .before .before .before .before .args .s))) (v .0) (v .1 .0) (v .1 .1 .0) (v .1 .1 .1 .0)
 found c =
-    let p3 = c .before .before .before in
-    let p7 = p3 .before .before .before .before in
     let v = c .before .start .given .0 in
-    read-is (drop (p7 .args .at) (now (p7 .args .s))) (v .0) (v .1 .0) (v .1 .1 .0) (v .1 .1 .1 .0)
-    (sym (c .before .start .given .1) ∙ p3 .attribute-read .ensures ∙ ap readOf (to-end (now (p7 .args .s)) (p7 .args .at)))
+    read-is (drop (c .before .before .before .before .before .before .before .args .at) (now
+    (c .before .before .before .before .before .before .before .args .s))) (v .0) (v .1 .0) (v .1 .1 .0) (v .1 .1 .1 .0)
+    (sym (c .before .start .given .1) ∙ c .before .before .before .attribute-read .ensures ∙ ap readOf (to-end (now
+    (c .before .before .before .before .before .before .before .args .s))
+    (c .before .before .before .before .before .before .before .args .at)))
 
 inside : (c : tie.After-known-told)
     → let v = c .before .start .given .0 in
     (v .1 .1 .0 ≤ v .1 .1 .1 .0) × (v .1 .1 .1 .0 ≤ length (drop (c .before .before .before .before .before .before .before .args .at)
     (now (c .before .before .before .before .before .before .before .args .s)))) × (4 ≤ v .1 .1 .1 .0)
 inside c =
-    let p7 = c .before .before .before .before .before .before .before in
     let v = c .before .start .given .0 in
-    read-inside (drop (p7 .args .at) (now (p7 .args .s))) (v .0) (v .1 .0) (v .1 .1 .0) (v .1 .1 .1 .0) (found c)
+    read-inside (drop (c .before .before .before .before .before .before .before .args .at) (now
+    (c .before .before .before .before .before .before .before .args .s))) (v .0) (v .1 .0) (v .1 .1 .0) (v .1 .1 .1 .0) (found c)
 
 add-a : tie.Need-add-a
 add-a c =
@@ -107,11 +108,9 @@ returns-2 c =
 
 returns-3 : tie.Need-returns-3
 returns-3 c =
-    let p3 = c .before .before .before in
-    let p7 = p3 .before .before .before .before in
-    let a = p7 .args in
-    value-none (now (a .s)) (a .at) (cut-is (drop (a .at) (now (a .s)))
-    (sym (c .before .enum-told .given .1) ∙ p3 .attribute-read .ensures ∙ ap readOf (to-end (now (a .s)) (a .at))))
+    let a = c .before .before .before .before .before .before .before .args in
+    value-none (now (a .s)) (a .at) (cut-is (drop (a .at) (now (a .s))) (sym (c .before .enum-told .given .1)
+    ∙ c .before .before .before .attribute-read .ensures ∙ ap readOf (to-end (now (a .s)) (a .at))))
 
 pub attribute-value-spec : {M : Type 1} → statement M
 attribute-value-spec =

@@ -1,6 +1,6 @@
 use denote.Ref.{now}
 use native.Mathlib.Omega.{arith}
-use mathlib.Core.Path.{_≡_, ap, sym, _∙_}
+use mathlib.Core.Path.{_≡_, refl, ap, sym, _∙_, subst}
 use Prim.Native.Nat.{ℕ, _+_}
 use Rattle.octets.specs.Numbers.{oct}
 use Rattle.octets.proofs.Walks.{part-short}
@@ -41,44 +41,32 @@ place-of-requires c κs = search needs
 
 sub-are-attributes : tie.Need-sub-are-attributes
 sub-are-attributes c =
-    let p2 = c .before .before in
-    let p3 = p2 .before in
-    let p5 = p3 .before .before in
-    let p6 = p5 .before in
-    let p8 = p6 .before .before in
-    let a = p8 .args in
-    let f = head-is (now (a .s)) (sym (p6 .head-fits .ensures) ∙ p5 .if1 .taken) in
-    let z : c .before .spi-size .result ≡ spiSize (oct (now (a .s)) 0) = c .before .spi-size .ensures .0
-    ∙ ap spiSize (p3 .wide .ensures .0) in
-    let n = p2 .be16-at .ensures .0 in
+    let a = c .before .before .before .before .before .before .before .before .args in
+    let f = head-is (now (a .s)) (sym (c .before .before .before .before .before .before .head-fits .ensures)
+    ∙ c .before .before .before .before .before .if1 .taken) in
+    let z : c .before .spi-size .result ≡ spiSize (oct (now (a .s)) 0) = c .before .spi-size .ensures .0 ∙ ap spiSize
+    (c .before .before .before .wide .ensures .0) in
+    let n = c .before .before .be16-at .ensures .0 in
     omega (arith, f .0, f .1, z, n)
 
 part-are-attributes-start : tie.Need-part-are-attributes-start
 part-are-attributes-start c =
-    let p2 = c .before .before in
-    let p3 = p2 .before in
-    let p5 = p3 .before .before in
-    let p6 = p5 .before in
-    let p8 = p6 .before .before in
-    let a = p8 .args in
-    let f = head-is (now (a .s)) (sym (p6 .head-fits .ensures) ∙ p5 .if1 .taken) in
-    let z : c .before .spi-size .result ≡ spiSize (oct (now (a .s)) 0) = c .before .spi-size .ensures .0
-    ∙ ap spiSize (p3 .wide .ensures .0) in
-    let n = p2 .be16-at .ensures .0 in
+    let a = c .before .before .before .before .before .before .before .before .args in
+    let f = head-is (now (a .s)) (sym (c .before .before .before .before .before .before .head-fits .ensures)
+    ∙ c .before .before .before .before .before .if1 .taken) in
+    let z : c .before .spi-size .result ≡ spiSize (oct (now (a .s)) 0) = c .before .spi-size .ensures .0 ∙ ap spiSize
+    (c .before .before .before .wide .ensures .0) in
+    let n = c .before .before .be16-at .ensures .0 in
     omega (arith, f .0, f .1, z, n)
 
 part-are-attributes-end : tie.Need-part-are-attributes-end
 part-are-attributes-end c =
-    let p2 = c .before .before in
-    let p3 = p2 .before in
-    let p5 = p3 .before .before in
-    let p6 = p5 .before in
-    let p8 = p6 .before .before in
-    let a = p8 .args in
-    let f = head-is (now (a .s)) (sym (p6 .head-fits .ensures) ∙ p5 .if1 .taken) in
-    let z : c .before .spi-size .result ≡ spiSize (oct (now (a .s)) 0) = c .before .spi-size .ensures .0
-    ∙ ap spiSize (p3 .wide .ensures .0) in
-    let n = p2 .be16-at .ensures .0 in
+    let a = c .before .before .before .before .before .before .before .before .args in
+    let f = head-is (now (a .s)) (sym (c .before .before .before .before .before .before .head-fits .ensures)
+    ∙ c .before .before .before .before .before .if1 .taken) in
+    let z : c .before .spi-size .result ≡ spiSize (oct (now (a .s)) 0) = c .before .spi-size .ensures .0 ∙ ap spiSize
+    (c .before .before .before .wide .ensures .0) in
+    let n = c .before .before .be16-at .ensures .0 in
     omega (arith, f .0, f .1, z, n)
 
 add-are-attributes : tie.Need-add-are-attributes
@@ -86,17 +74,22 @@ add-are-attributes c = search needs
 
 are-attributes-requires : tie.Need-are-attributes-requires
 are-attributes-requires c κs =
-    let p2 = c .before .before in
-    let p3 = p2 .before in
-    let p4 = p3 .before in
-    let p6 = p4 .before .before in
-    let p7 = p6 .before in
-    let p9 = p7 .before .before in
-    let a = p9 .args in
-    let f = head-is (now (a .s)) (sym (p7 .head-fits .ensures) ∙ p6 .if1 .taken) in
-    let z : p2 .spi-size .result ≡ spiSize (oct (now (a .s)) 0) = p2 .spi-size .ensures .0 ∙ ap spiSize (p4 .wide .ensures .0) in
-    let n = p3 .be16-at .ensures .0 in
-    omega (arith, f .0, f .1, z, n, part-short (now (a .s)) (4 + p2 .spi-size .result) (p3 .be16-at .result), p9 .pre)
+    let a = c .before .before .before .before .before .before .before .before .before .args in
+    let f = head-is (now (a .s)) (sym (c .before .before .before .before .before .before .before .head-fits .ensures)
+    ∙ c .before .before .before .before .before .before .if1 .taken) in
+    let z : c .before .before .spi-size .result ≡ spiSize (oct (now (a .s)) 0) = c .before .before .spi-size .ensures .0 ∙ ap spiSize
+    (c .before .before .before .before .wide .ensures .0) in
+    let n = c .before .before .before .be16-at .ensures .0 in
+    omega (
+      arith,
+      f .0,
+      f .1,
+      z,
+      n,
+      part-short (now (a .s)) (4 + c .before .before .spi-size .result)
+          (c .before .before .before .be16-at .result),
+      c .before .before .before .before .before .before .before .before .before .pre,
+    )
 
 enum-told : tie.Need-enum-told
 enum-told c = search needs
@@ -106,40 +99,35 @@ enum-known-o c = search needs
 
 returns : tie.Need-returns
 returns c =
-    let p2 = c .before .before in
-    let p4 = p2 .before .before in
-    let p5 = p4 .before in
-    let p6 = p5 .before in
-    let p7 = p6 .before in
-    let p9 = p7 .before .before in
-    let p10 = p9 .before in
-    let p12 = p10 .before .before in
-    let a = p12 .args in
-    let z : p5 .spi-size .result ≡ spiSize (oct (now (a .s)) 0) = p5 .spi-size .ensures .0 ∙ ap spiSize (p7 .wide .ensures .0) in
-    good (a .base) (now (a .s)) (sym (p10 .head-fits .ensures) ∙ p9 .if1 .taken) _ _ _ (ap (λ (u : ℕ). 4 + u) z) (p6 .be16-at .ensures .0)
-    (p4 .place-of .ensures ∙ ap placeOf (p7 .wide .ensures .0)) (sym (c .enum-told .given .1) ∙ p2 .are-attributes .ensures)
+    let a = c .before .before .before .before .before .before .before .before .before .before .before .before .args in
+    let z : c .before .before .before .before .before .spi-size .result ≡ spiSize (oct (now
+    (a .s)) 0) = c .before .before .before .before .before .spi-size .ensures .0 ∙ ap spiSize
+    (c .before .before .before .before .before .before .before .wide .ensures .0) in
+    good (a .base) (now (a .s)) (sym
+    (c .before .before .before .before .before .before .before .before .before .before .head-fits .ensures)
+    ∙ c .before .before .before .before .before .before .before .before .before .if1 .taken) _ _ _ (ap (λ (u : ℕ). 4 + u) z)
+    (c .before .before .before .before .before .before .be16-at .ensures .0)
+    (c .before .before .before .before .place-of .ensures ∙ ap placeOf
+    (c .before .before .before .before .before .before .before .wide .ensures .0)) (sym (c .enum-told .given .1)
+    ∙ c .before .before .are-attributes .ensures)
 
 returns-2 : tie.Need-returns-2
 returns-2 c =
-    let p3 = c .before .before .before in
-    let p5 = p3 .before .before in
-    let p6 = p5 .before in
-    let p7 = p6 .before in
-    let p8 = p7 .before in
-    let p10 = p8 .before .before in
-    let p11 = p10 .before in
-    let p13 = p11 .before .before in
-    let a = p13 .args in
-    let z : p6 .spi-size .result ≡ spiSize (oct (now (a .s)) 0) = p6 .spi-size .ensures .0 ∙ ap spiSize (p8 .wide .ensures .0) in
-    inner-broken (a .base) (now (a .s)) (sym (p11 .head-fits .ensures) ∙ p10 .if1 .taken) _ _ _ (ap (λ (u : ℕ). 4 + u) z)
-    (p7 .be16-at .ensures .0)
-    (p5 .place-of .ensures ∙ ap placeOf (p8 .wide .ensures .0)) _
-    (sym (c .before .o .given .1) ∙ p3 .are-attributes .ensures)
+    let a = c .before .before .before .before .before .before .before .before .before .before .before .before .before .args in
+    let z : c .before .before .before .before .before .before .spi-size .result ≡ spiSize (oct (now
+    (a .s)) 0) = c .before .before .before .before .before .before .spi-size .ensures .0 ∙ ap spiSize
+    (c .before .before .before .before .before .before .before .before .wide .ensures .0) in
+    inner-broken (a .base) (now (a .s)) (sym
+    (c .before .before .before .before .before .before .before .before .before .before .before .head-fits .ensures)
+    ∙ c .before .before .before .before .before .before .before .before .before .before .if1 .taken) _ _ _ (ap (λ (u : ℕ). 4 + u) z)
+    (c .before .before .before .before .before .before .before .be16-at .ensures .0)
+    (c .before .before .before .before .before .place-of .ensures ∙ ap placeOf
+    (c .before .before .before .before .before .before .before .before .wide .ensures .0)) _
+    (sym (c .before .o .given .1) ∙ c .before .before .before .are-attributes .ensures)
 
 returns-3 : tie.Need-returns-3
-returns-3 c =
-    let p3 = c .before .before .before in
-    bad (p3 .args .base) (now (p3 .args .s)) (sym (c .before .head-fits .ensures) ∙ c .if1 .left)
+returns-3 c = bad (c .before .before .before .args .base) (now (c .before .before .before .args .s)) (sym (c .before .head-fits .ensures)
+    ∙ c .if1 .left)
 
 pub bag-spot-spec : {M : Type 1} → statement M
 bag-spot-spec =

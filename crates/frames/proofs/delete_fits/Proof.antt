@@ -36,11 +36,9 @@ add-if2 c = record {
 }
 
 returns-2 : tie.Need-returns-2
-returns-2 c =
-    let p2 = c .before .before in
-    let p4 = p2 .before .before in
-    let p6 = p4 .before .before in
-    not-filled (now (p6 .args .s)) (p4 .if1 .left) _ _ (p2 .wide .ensures .0) (c .before .be16-at .ensures .0) (c .if2 .taken)
+returns-2 c = not-filled (now (c .before .before .before .before .before .before .args .s))
+    (c .before .before .before .before .if1 .left) _ _ (c .before .before .wide .ensures .0) (c .before .be16-at .ensures .0)
+    (c .if2 .taken)
 
 shared-slice-read-wide-2 : tie.Need-shared-slice-read-wide-2
 shared-slice-read-wide-2 c = search needs
@@ -49,24 +47,16 @@ wide-requires-2 : tie.Need-wide-requires-2
 wide-requires-2 c κs = search needs
 
 returns-3 : tie.Need-returns-3
-returns-3 c =
-    let p3 = c .before .before .before in
-    let p4 = p3 .before in
-    let p5 = p4 .before in
-    let p7 = p5 .before .before in
-    let p9 = p7 .before .before in
-    esp (now (p9 .args .s)) (p7 .if1 .left) _ _ (p5 .wide .ensures .0) (p4 .be16-at .ensures .0) (p3 .if2 .left) _
-    (c .before .wide2 .ensures .0) (c .if3 .taken)
+returns-3 c = esp (now (c .before .before .before .before .before .before .before .before .before .args .s))
+    (c .before .before .before .before .before .before .before .if1 .left) _ _
+    (c .before .before .before .before .before .wide .ensures .0) (c .before .before .before .before .be16-at .ensures .0)
+    (c .before .before .before .if2 .left) _ (c .before .wide2 .ensures .0) (c .if3 .taken)
 
 returns-4 : tie.Need-returns-4
-returns-4 c =
-    let p3 = c .before .before .before in
-    let p4 = p3 .before in
-    let p5 = p4 .before in
-    let p7 = p5 .before .before in
-    let p9 = p7 .before .before in
-    not-esp (now (p9 .args .s)) (p7 .if1 .left) _ _ (p5 .wide .ensures .0) (p4 .be16-at .ensures .0) (p3 .if2 .left) _
-    (c .before .wide2 .ensures .0) (c .if3 .left)
+returns-4 c = not-esp (now (c .before .before .before .before .before .before .before .before .before .args .s))
+    (c .before .before .before .before .before .before .before .if1 .left) _ _
+    (c .before .before .before .before .before .wide .ensures .0) (c .before .before .before .before .be16-at .ensures .0)
+    (c .before .before .before .if2 .left) _ (c .before .wide2 .ensures .0) (c .if3 .left)
 
 pub delete-fits-spec : {M : Type 1} → statement M
 delete-fits-spec =

@@ -1,6 +1,6 @@
 use denote.Ref.{now}
 use native.Mathlib.Omega.{arith}
-use mathlib.Core.Path.{sym, _∙_}
+use mathlib.Core.Path.{_≡_, refl, ap, sym, _∙_, subst}
 use lib.ListN.{length}
 use Rattle.octets.proofs.Walks.{part-short}
 use Rattle.frames.proofs.HeaderLaws.{header-is, header-not, header-long}
@@ -17,20 +17,18 @@ enum-known-first c = search needs
 
 sub-payloads-layout : tie.Need-sub-payloads-layout
 sub-payloads-layout c =
-    let p3 = c .before .before .before in
-    let p5 = p3 .before .before in
     let v = c .before .first .given .0 in
-    let i = header-is (now (p5 .args .s)) (v .0) (v .1 .0) (v .1 .1 .0) (sym (c .before .first .given .1) ∙ p3 .header-read .ensures) in
-    let l = header-long (now (p5 .args .s)) (i .0) in
+    let i = header-is (now (c .before .before .before .before .before .args .s)) (v .0) (v .1 .0) (v .1 .1 .0) (sym
+    (c .before .first .given .1) ∙ c .before .before .before .header-read .ensures) in
+    let l = header-long (now (c .before .before .before .before .before .args .s)) (i .0) in
     omega (arith, l .0)
 
 part-payloads-layout-start : tie.Need-part-payloads-layout-start
 part-payloads-layout-start c =
-    let p3 = c .before .before .before in
-    let p5 = p3 .before .before in
     let v = c .before .first .given .0 in
-    let i = header-is (now (p5 .args .s)) (v .0) (v .1 .0) (v .1 .1 .0) (sym (c .before .first .given .1) ∙ p3 .header-read .ensures) in
-    let l = header-long (now (p5 .args .s)) (i .0) in
+    let i = header-is (now (c .before .before .before .before .before .args .s)) (v .0) (v .1 .0) (v .1 .1 .0) (sym
+    (c .before .first .given .1) ∙ c .before .before .before .header-read .ensures) in
+    let l = header-long (now (c .before .before .before .before .before .args .s)) (i .0) in
     omega (arith, l .0)
 
 part-payloads-layout-end : tie.Need-part-payloads-layout-end
@@ -38,31 +36,31 @@ part-payloads-layout-end c = search needs
 
 payloads-layout-requires : tie.Need-payloads-layout-requires
 payloads-layout-requires c κs =
-    let p2 = c .before .before in
-    let p4 = p2 .before .before in
-    let p6 = p4 .before .before in
-    let v = p2 .first .given .0 in
-    let i = header-is (now (p6 .args .s)) (v .0) (v .1 .0) (v .1 .1 .0) (sym (p2 .first .given .1) ∙ p4 .header-read .ensures) in
-    let l = header-long (now (p6 .args .s)) (i .0) in
-    omega (arith, l .0, l .1, part-short (now (p6 .args .s)) 28 (length (now (p6 .args .s))))
+    let v = c .before .before .first .given .0 in
+    let i = header-is (now (c .before .before .before .before .before .before .args .s)) (v .0) (v .1 .0) (v .1 .1 .0) (sym
+    (c .before .before .first .given .1) ∙ c .before .before .before .before .header-read .ensures) in
+    let l = header-long (now (c .before .before .before .before .before .before .args .s)) (i .0) in
+    omega (
+      arith,
+      l .0,
+      l .1,
+      part-short (now (c .before .before .before .before .before .before .args .s)) 28 (length (now
+          (c .before .before .before .before .before .before .args .s))),
+    )
 
 enum-told : tie.Need-enum-told
 enum-told c = search needs
 
 returns : tie.Need-returns
 returns c =
-    let p3 = c .before .before .before in
-    let p5 = p3 .before .before in
-    let p7 = p5 .before .before in
-    let v = p3 .first .given .0 in
-    let i = header-is (now (p7 .args .s)) (v .0) (v .1 .0) (v .1 .1 .0) (sym (p3 .first .given .1) ∙ p5 .header-read .ensures) in
-    frame-is (now (p7 .args .s)) (i .0) _ (i .1) _ (c .payloads-layout .ensures)
+    let v = c .before .before .before .first .given .0 in
+    let i = header-is (now (c .before .before .before .before .before .before .before .args .s)) (v .0) (v .1 .0) (v .1 .1 .0) (sym
+    (c .before .before .before .first .given .1) ∙ c .before .before .before .before .before .header-read .ensures) in
+    frame-is (now (c .before .before .before .before .before .before .before .args .s)) (i .0) _ (i .1) _ (c .payloads-layout .ensures)
 
 returns-2 : tie.Need-returns-2
-returns-2 c =
-    let p2 = c .before .before in
-    let p4 = p2 .before .before in
-    frame-broken (now (p4 .args .s)) (header-not (now (p4 .args .s)) (sym (c .enum-told .given .1) ∙ p2 .header-read .ensures))
+returns-2 c = frame-broken (now (c .before .before .before .before .args .s)) (header-not (now
+    (c .before .before .before .before .args .s)) (sym (c .enum-told .given .1) ∙ c .before .before .header-read .ensures))
 
 pub frame-layout-spec : {M : Type 1} → statement M
 frame-layout-spec =

@@ -17,11 +17,8 @@ cast-if3 : tie.Need-cast-if3
 cast-if3 c = search needs
 
 returns-3 : tie.Need-returns-3
-returns-3 c =
-    let p2 = c .before .before in
-    let p3 = p2 .before in
-    let p5 = p3 .before .before in
-    other-length (now (p5 .args .s)) (p3 .if1 .left) (p2 .if2 .left) _ (c .before .be32-at .ensures) (c .if3 .taken)
+returns-3 c = other-length (now (c .before .before .before .before .before .args .s)) (c .before .before .before .if1 .left)
+    (c .before .before .if2 .left) _ (c .before .be32-at .ensures) (c .if3 .taken)
 
 shared-slice-read-wide : tie.Need-shared-slice-read-wide
 shared-slice-read-wide c = search needs
@@ -31,12 +28,9 @@ wide-requires c κs = search needs
 
 returns-4 : tie.Need-returns-4
 returns-4 c =
-    let p3 = c .before .before .before in
-    let p4 = p3 .before in
-    let p5 = p4 .before in
-    let p6 = p5 .before in
-    let p8 = p6 .before .before in
-    other-version (now (p8 .args .s)) (p6 .if1 .left) (p5 .if2 .left) _ (p4 .be32-at .ensures) (p3 .if3 .left)
+    other-version (now (c .before .before .before .before .before .before .before .before .args .s))
+    (c .before .before .before .before .before .before .if1 .left) (c .before .before .before .before .before .if2 .left) _
+    (c .before .before .before .before .be32-at .ensures) (c .before .before .before .if3 .left)
     _ (c .before .wide .ensures .0) (c .if4 .taken)
 
 shared-slice-read-wide-2 : tie.Need-shared-slice-read-wide-2
@@ -56,16 +50,9 @@ be32-at-requires-2 c κs = search needs
 
 returns-5 : tie.Need-returns-5
 returns-5 c =
-    let p3 = c .before .before .before in
-    let p5 = p3 .before .before in
-    let p6 = p5 .before in
-    let p8 = p6 .before .before in
-    let p9 = p8 .before in
-    let p10 = p9 .before in
-    let p11 = p10 .before in
-    let p13 = p11 .before .before in
-    header-there (now (p13 .args .s)) (p11 .if1 .left) (p10 .if2 .left) _ (p9 .be32-at .ensures) (p8 .if3 .left)
-    _ (p6 .wide .ensures .0) (p5 .if4 .left) _ _ _ (p3 .wide2 .ensures .0) (c .before .wide3 .ensures .0) (c .be32-at2 .ensures)
+    header-there (now (c .before .before .before .before .before .before .before .before .before .before .before .before .before .args .s)) (c .before .before .before .before .before .before .before .before .before .before .before .if1 .left) (c .before .before .before .before .before .before .before .before .before .before .if2 .left) _ (c .before .before .before .before .before .before .before .before .before .be32-at .ensures) (c .before .before .before .before .before .before .before .before .if3 .left)
+    _ (c .before .before .before .before .before .before .wide .ensures .0) (c .before .before .before .before .before .if4 .left) _ _ _
+    (c .before .before .before .wide2 .ensures .0) (c .before .wide3 .ensures .0) (c .be32-at2 .ensures)
 
 pub header-read-spec : {M : Type 1} → statement M
 header-read-spec =

@@ -1,7 +1,7 @@
 use denote.Ref.{now}
 use native.Mathlib.Omega.{arith}
-use mathlib.Core.Path.{_≡_, sym, _∙_}
-use Prim.Native.Nat.{_+_, _-_, _<_, _≤_}
+use mathlib.Core.Path.{_≡_, refl, ap, sym, _∙_, subst}
+use Prim.Native.Nat.{ℕ, _+_, _-_, _<_, _≤_}
 use lib.ListN.{length, drop}
 use Rattle.octets.specs.Walk.{outline}
 use Rattle.octets.proofs.Walks.{part-short}
@@ -12,8 +12,8 @@ use Rattle.frames.proofs.payloads_layout.Statement.{statement}
 use Rattle.frames.proofs.payloads_layout.Tie as tie
 
 abbrev Inv-loop : tie.InvT-loop
-Inv-loop first s base kind₀ at₀ kind at = (at ≤ length s) × (outline (payloads first base s) ≡ outline
-    (payloads kind (base + at) (drop at s)))
+Inv-loop first s base kind₀ at₀ kind at = (at ≤ length s) × (outline (payloads first base s) ≡ outline (payloads kind (base + at)
+    (drop at s)))
 
 abbrev μ-loop : tie.MeasureT-loop
 μ-loop first s base kind₀ at₀ kind at = length s - at
@@ -34,24 +34,28 @@ add-payload-spot : tie.Need-add-payload-spot Inv-loop μ-loop
 add-payload-spot c = search needs
 
 payload-spot-requires : tie.Need-payload-spot-requires Inv-loop μ-loop
-payload-spot-requires c κs =
-    let p2 = c .before .before in
-    let p4 = p2 .before .before in
-    omega (arith, part-short (now (p4 .args .s)) (p2 .loop .at) (length (now (p4 .args .s))), p4 .pre, p2 .loop .inv .0)
+payload-spot-requires c κs = omega (
+  arith,
+  part-short (now (c .before .before .before .before .args .s)) (c .before .before .loop .at)
+      (length (now (c .before .before .before .before .args .s))),
+  c .before .before .before .before .pre,
+  c .before .before .loop .inv .0,
+)
 
 enum-known-e : tie.Need-enum-known-e Inv-loop μ-loop
 enum-known-e c = search needs
 
 within : (c : tie.After-known-told Inv-loop μ-loop)
     → let e = c .before .e .given .0 .0 in
-    (0 < e) × (c .before .before .before .before .before .before .loop .at + e ≤ length
-    (now (c .before .before .before .before .before .before .before .before .args .s)))
+    (0 < e) × (c .before .before .before .before .before .before .loop .at + e ≤ length (now
+    (c .before .before .before .before .before .before .before .before .args .s)))
 within c =
-    let p3 = c .before .before .before in
-    let p6 = p3 .before .before .before in
-    let p8 = p6 .before .before in
-    inside (p8 .args .first) (p8 .args .base) (now (p8 .args .s)) (p6 .loop .kind) (p6 .loop .at) (p6 .loop .inv .0) (p6 .loop .inv .1)
-    (c .before .e .given .0 .0) (sym (c .before .e .given .1) ∙ p3 .payload-spot .ensures)
+    inside (c .before .before .before .before .before .before .before .before .args .first)
+    (c .before .before .before .before .before .before .before .before .args .base) (now
+    (c .before .before .before .before .before .before .before .before .args .s))
+    (c .before .before .before .before .before .before .loop .kind) (c .before .before .before .before .before .before .loop .at)
+    (c .before .before .before .before .before .before .loop .inv .0) (c .before .before .before .before .before .before .loop .inv .1)
+    (c .before .e .given .0 .0) (sym (c .before .e .given .1) ∙ c .before .before .before .payload-spot .ensures)
 
 shared-slice-read-wide : tie.Need-shared-slice-read-wide Inv-loop μ-loop
 shared-slice-read-wide c = let f = within (c .before) in omega (arith, f .0, f .1)
@@ -66,44 +70,41 @@ loop-less : tie.Need-loop-less Inv-loop μ-loop
 loop-less c = let f = within (c .before .before) in omega (arith, f .0, f .1)
 
 loop-again : tie.Need-loop-again Inv-loop μ-loop
-loop-again c =
-    let p2 = c .before .before in
-    let p3 = p2 .before in
-    let p5 = p3 .before .before in
-    let p7 = p5 .before .before in
-    let p8 = p7 .before in
-    let p10 = p8 .before .before in (
-      within (p2) .1,
-      goes (p10 .args .first) (p10 .args .base) (now (p10 .args .s)) (p8 .loop .kind) (p8 .loop .at) (p8 .loop .inv .0) (p8 .loop .inv .1)
-          (p7 .loop-test .taken) _ _
-          (sym (p3 .e .given .1) ∙ p5 .payload-spot .ensures) (c .wide .ensures .0),
-    )
+loop-again c = (
+  within (c .before .before) .1,
+  goes (c .before .before .before .before .before .before .before .before .before .before .args .first)
+      (c .before .before .before .before .before .before .before .before .before .before .args .base) (now
+      (c .before .before .before .before .before .before .before .before .before .before .args .s))
+      (c .before .before .before .before .before .before .before .before .loop .kind)
+      (c .before .before .before .before .before .before .before .before .loop .at)
+      (c .before .before .before .before .before .before .before .before .loop .inv .0)
+      (c .before .before .before .before .before .before .before .before .loop .inv .1)
+      (c .before .before .before .before .before .before .before .loop-test .taken) _ _
+      (sym (c .before .before .before .e .given .1) ∙ c .before .before .before .before .before .payload-spot .ensures)
+      (c .wide .ensures .0),
+)
 
 enum-known-o : tie.Need-enum-known-o Inv-loop μ-loop
 enum-known-o c = search needs
 
 returns : tie.Need-returns Inv-loop μ-loop
-returns c =
-    let p3 = c .before .before .before in
-    let p5 = p3 .before .before in
-    let p6 = p5 .before in
-    let p8 = p6 .before .before in
-    tears (p8 .args .first) (p8 .args .base) (now (p8 .args .s)) (p6 .loop .kind) (p6 .loop .at) (p6 .loop .inv .0) (p6 .loop .inv .1)
-    (p5 .loop-test .taken) _ (sym (c .before .o .given .1) ∙ p3 .payload-spot .ensures)
+returns c = tears (c .before .before .before .before .before .before .before .before .args .first)
+    (c .before .before .before .before .before .before .before .before .args .base) (now
+    (c .before .before .before .before .before .before .before .before .args .s))
+    (c .before .before .before .before .before .before .loop .kind) (c .before .before .before .before .before .before .loop .at)
+    (c .before .before .before .before .before .before .loop .inv .0) (c .before .before .before .before .before .before .loop .inv .1)
+    (c .before .before .before .before .before .loop-test .taken) _ (sym (c .before .o .given .1)
+    ∙ c .before .before .before .payload-spot .ensures)
 
 returns-2 : tie.Need-returns-2 Inv-loop μ-loop
-returns-2 c =
-    let p2 = c .before .before in
-    let p4 = p2 .before .before in
-    ends (p4 .args .first) (p4 .args .base) (now (p4 .args .s)) (p2 .loop .kind) (p2 .loop .at) (p2 .loop .inv .0) (p2 .loop .inv .1)
-    (c .before .loop-test .left) (c .if1 .taken)
+returns-2 c = ends (c .before .before .before .before .args .first) (c .before .before .before .before .args .base) (now
+    (c .before .before .before .before .args .s)) (c .before .before .loop .kind) (c .before .before .loop .at)
+    (c .before .before .loop .inv .0) (c .before .before .loop .inv .1) (c .before .loop-test .left) (c .if1 .taken)
 
 returns-3 : tie.Need-returns-3 Inv-loop μ-loop
-returns-3 c =
-    let p2 = c .before .before in
-    let p4 = p2 .before .before in
-    left-over (p4 .args .first) (p4 .args .base) (now (p4 .args .s)) (p2 .loop .kind) (p2 .loop .at) (p2 .loop .inv .0) (p2 .loop .inv .1)
-    (c .before .loop-test .left) (c .if1 .left)
+returns-3 c = left-over (c .before .before .before .before .args .first) (c .before .before .before .before .args .base) (now
+    (c .before .before .before .before .args .s)) (c .before .before .loop .kind) (c .before .before .loop .at)
+    (c .before .before .loop .inv .0) (c .before .before .loop .inv .1) (c .before .loop-test .left) (c .if1 .left)
 
 pub payloads-layout-spec : {M : Type 1} → statement M
 payloads-layout-spec =

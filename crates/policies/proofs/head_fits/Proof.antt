@@ -17,20 +17,15 @@ is-sized-requires : tie.Need-is-sized-requires
 is-sized-requires c κs = search needs
 
 returns-2 : tie.Need-returns-2
-returns-2 c =
-    let p2 = c .before .before in
-    let p6 = p2 .before .before .before .before in
-    no-spi (now (p6 .args .s)) _ (p2 .wide .ensures .0) (c .before .if2 .taken) _ (c .is-sized .ensures)
+returns-2 c = no-spi (now (c .before .before .before .before .before .before .args .s)) _ (c .before .before .wide .ensures .0)
+    (c .before .if2 .taken) _ (c .is-sized .ensures)
 
 spi-size-requires : tie.Need-spi-size-requires
 spi-size-requires c κs = search needs
 
 returns-3 : tie.Need-returns-3
-returns-3 c =
-    let p2 = c .before .before in
-    let p3 = p2 .before in
-    let p7 = p3 .before .before .before .before in
-    unknown (now (p7 .args .s)) _ (p3 .wide .ensures .0) (p2 .if2 .left) _ (c .before .spi-size .ensures .0) (c .if3 .taken)
+returns-3 c = unknown (now (c .before .before .before .before .before .before .before .args .s)) _
+    (c .before .before .before .wide .ensures .0) (c .before .before .if2 .left) _ (c .before .spi-size .ensures .0) (c .if3 .taken)
 
 shared-slice-read-wide-2 : tie.Need-shared-slice-read-wide-2
 shared-slice-read-wide-2 c = search needs
@@ -46,23 +41,17 @@ is-sized-requires-2 c κs = search needs
 
 returns-4 : tie.Need-returns-4
 returns-4 c =
-    let p2 = c .before .before in
-    let p4 = p2 .before .before in
-    let p5 = p4 .before in
-    let p6 = p5 .before in
-    let p7 = p6 .before in
-    let p11 = p7 .before .before .before .before in
-    with-spi (now (p11 .args .s)) _ (p7 .wide .ensures .0) (p6 .if2 .left) _ (p5 .spi-size .ensures .0) (p4 .if3 .left)
-    _ (p2 .wide2 .ensures .0) (c .before .if4 .taken) _ (c .is-sized2 .ensures)
+    with-spi (now (c .before .before .before .before .before .before .before .before .before .before .before .args .s)) _
+    (c .before .before .before .before .before .before .before .wide .ensures .0)
+    (c .before .before .before .before .before .before .if2 .left) _ (c .before .before .before .before .before .spi-size .ensures .0)
+    (c .before .before .before .before .if3 .left)
+    _ (c .before .before .wide2 .ensures .0) (c .before .if4 .taken) _ (c .is-sized2 .ensures)
 
 returns-5 : tie.Need-returns-5
 returns-5 c =
-    let p3 = c .before .before .before in
-    let p4 = p3 .before in
-    let p5 = p4 .before in
-    let p6 = p5 .before in
-    let p10 = p6 .before .before .before .before in
-    other-size (now (p10 .args .s)) _ (p6 .wide .ensures .0) (p5 .if2 .left) _ (p4 .spi-size .ensures .0) (p3 .if3 .left)
+    other-size (now (c .before .before .before .before .before .before .before .before .before .before .args .s)) _
+    (c .before .before .before .before .before .before .wide .ensures .0) (c .before .before .before .before .before .if2 .left) _
+    (c .before .before .before .before .spi-size .ensures .0) (c .before .before .before .if3 .left)
     _ (c .before .wide2 .ensures .0) (c .if4 .left)
 
 pub head-fits-spec : {M : Type 1} → statement M

@@ -1,7 +1,8 @@
 use denote.Ref.{now}
 use native.Mathlib.Omega.{arith}
-use mathlib.Core.Path.{_≡_, ap, sym, _∙_}
+use mathlib.Core.Path.{_≡_, refl, ap, sym, _∙_, subst}
 use Prim.Native.Nat.{ℕ, _+_}
+use lib.ListN.{length}
 use Rattle.octets.specs.Numbers.{oct}
 use Rattle.octets.proofs.Walks.{part-short}
 use Rattle.attributes.specs.Place.{inPolicy}
@@ -35,38 +36,29 @@ add-z c = search needs
 
 sub-are-attributes : tie.Need-sub-are-attributes
 sub-are-attributes c =
-    let p2 = c .before .before in
-    let p3 = p2 .before in
-    let p6 = p3 .before .before .before in
-    let a = p6 .args in
-    let f = head-is (now (a .s)) (p6 .pre .0) in
-    let z : c .before .spi-size .result ≡ spiSize (oct (now (a .s)) 0) = c .before .spi-size .ensures .0
-    ∙ ap spiSize (p3 .wide .ensures .0) in
-    let n = p2 .be16-at .ensures .0 in
+    let a = c .before .before .before .before .before .before .args in
+    let f = head-is (now (a .s)) (c .before .before .before .before .before .before .pre .0) in
+    let z : c .before .spi-size .result ≡ spiSize (oct (now (a .s)) 0) = c .before .spi-size .ensures .0 ∙ ap spiSize
+    (c .before .before .before .wide .ensures .0) in
+    let n = c .before .before .be16-at .ensures .0 in
     omega (arith, f .0, f .1, z, n)
 
 part-are-attributes-start : tie.Need-part-are-attributes-start
 part-are-attributes-start c =
-    let p2 = c .before .before in
-    let p3 = p2 .before in
-    let p6 = p3 .before .before .before in
-    let a = p6 .args in
-    let f = head-is (now (a .s)) (p6 .pre .0) in
-    let z : c .before .spi-size .result ≡ spiSize (oct (now (a .s)) 0) = c .before .spi-size .ensures .0
-    ∙ ap spiSize (p3 .wide .ensures .0) in
-    let n = p2 .be16-at .ensures .0 in
+    let a = c .before .before .before .before .before .before .args in
+    let f = head-is (now (a .s)) (c .before .before .before .before .before .before .pre .0) in
+    let z : c .before .spi-size .result ≡ spiSize (oct (now (a .s)) 0) = c .before .spi-size .ensures .0 ∙ ap spiSize
+    (c .before .before .before .wide .ensures .0) in
+    let n = c .before .before .be16-at .ensures .0 in
     omega (arith, f .0, f .1, z, n)
 
 part-are-attributes-end : tie.Need-part-are-attributes-end
 part-are-attributes-end c =
-    let p2 = c .before .before in
-    let p3 = p2 .before in
-    let p6 = p3 .before .before .before in
-    let a = p6 .args in
-    let f = head-is (now (a .s)) (p6 .pre .0) in
-    let z : c .before .spi-size .result ≡ spiSize (oct (now (a .s)) 0) = c .before .spi-size .ensures .0
-    ∙ ap spiSize (p3 .wide .ensures .0) in
-    let n = p2 .be16-at .ensures .0 in
+    let a = c .before .before .before .before .before .before .args in
+    let f = head-is (now (a .s)) (c .before .before .before .before .before .before .pre .0) in
+    let z : c .before .spi-size .result ≡ spiSize (oct (now (a .s)) 0) = c .before .spi-size .ensures .0 ∙ ap spiSize
+    (c .before .before .before .wide .ensures .0) in
+    let n = c .before .before .be16-at .ensures .0 in
     omega (arith, f .0, f .1, z, n)
 
 add-are-attributes : tie.Need-add-are-attributes
@@ -74,65 +66,58 @@ add-are-attributes c = search needs
 
 are-attributes-requires : tie.Need-are-attributes-requires
 are-attributes-requires c κs =
-    let p2 = c .before .before in
-    let p3 = p2 .before in
-    let p4 = p3 .before in
-    let p7 = p4 .before .before .before in
-    let a = p7 .args in
-    let f = head-is (now (a .s)) (p7 .pre .0) in
-    let z : p2 .spi-size .result ≡ spiSize (oct (now (a .s)) 0) = p2 .spi-size .ensures .0 ∙ ap spiSize (p4 .wide .ensures .0) in
-    let n = p3 .be16-at .ensures .0 in
-    omega (arith, f .0, f .1, z, n, part-short (now (a .s)) (4 + p2 .spi-size .result) (p3 .be16-at .result), p7 .pre .1)
+    let a = c .before .before .before .before .before .before .before .args in
+    let f = head-is (now (a .s)) (c .before .before .before .before .before .before .before .pre .0) in
+    let z : c .before .before .spi-size .result ≡ spiSize (oct (now (a .s)) 0) = c .before .before .spi-size .ensures .0 ∙ ap spiSize
+    (c .before .before .before .before .wide .ensures .0) in
+    let n = c .before .before .before .be16-at .ensures .0 in
+    omega (
+      arith,
+      f .0,
+      f .1,
+      z,
+      n,
+      part-short (now (a .s)) (4 + c .before .before .spi-size .result)
+          (c .before .before .before .be16-at .result),
+      c .before .before .before .before .before .before .before .pre .1,
+    )
 
 returns : tie.Need-returns
 returns c =
-    let p2 = c .before .before in
-    let p3 = p2 .before in
-    let p4 = p3 .before in
-    let p5 = p4 .before in
-    let p8 = p5 .before .before .before in
-    let a = p8 .args in
-    let z : p3 .spi-size .result ≡ spiSize (oct (now (a .s)) 0) = p3 .spi-size .ensures .0 ∙ ap spiSize (p5 .wide .ensures .0) in
-    wide-holds (a .base) (now (a .s)) _ _ (ap (λ (u : ℕ). 4 + u) z) (p4 .be16-at .ensures .0) _
-    (sym (p5 .wide .ensures .0) ∙ p2 .if1 .taken) (c .are-attributes .ensures)
+    let a = c .before .before .before .before .before .before .before .before .args in
+    let z : c .before .before .before .spi-size .result ≡ spiSize (oct (now (a .s)) 0) = c .before .before .before .spi-size .ensures .0
+    ∙ ap spiSize (c .before .before .before .before .before .wide .ensures .0) in
+    wide-holds (a .base) (now (a .s)) _ _ (ap (λ (u : ℕ). 4 + u) z) (c .before .before .before .before .be16-at .ensures .0) _ (sym
+    (c .before .before .before .before .before .wide .ensures .0) ∙ c .before .before .if1 .taken) (c .are-attributes .ensures)
 
 in-policy-requires : tie.Need-in-policy-requires
 in-policy-requires c κs = search needs
 
 sub-body-layout : tie.Need-sub-body-layout
 sub-body-layout c =
-    let p2 = c .before .before in
-    let p3 = p2 .before in
-    let p4 = p3 .before in
-    let p7 = p4 .before .before .before in
-    let a = p7 .args in
-    let f = head-is (now (a .s)) (p7 .pre .0) in
-    let z : p2 .spi-size .result ≡ spiSize (oct (now (a .s)) 0) = p2 .spi-size .ensures .0 ∙ ap spiSize (p4 .wide .ensures .0) in
-    let n = p3 .be16-at .ensures .0 in
+    let a = c .before .before .before .before .before .before .before .args in
+    let f = head-is (now (a .s)) (c .before .before .before .before .before .before .before .pre .0) in
+    let z : c .before .before .spi-size .result ≡ spiSize (oct (now (a .s)) 0) = c .before .before .spi-size .ensures .0 ∙ ap spiSize
+    (c .before .before .before .before .wide .ensures .0) in
+    let n = c .before .before .before .be16-at .ensures .0 in
     omega (arith, f .0, f .1, z, n)
 
 part-body-layout-start : tie.Need-part-body-layout-start
 part-body-layout-start c =
-    let p2 = c .before .before in
-    let p3 = p2 .before in
-    let p4 = p3 .before in
-    let p7 = p4 .before .before .before in
-    let a = p7 .args in
-    let f = head-is (now (a .s)) (p7 .pre .0) in
-    let z : p2 .spi-size .result ≡ spiSize (oct (now (a .s)) 0) = p2 .spi-size .ensures .0 ∙ ap spiSize (p4 .wide .ensures .0) in
-    let n = p3 .be16-at .ensures .0 in
+    let a = c .before .before .before .before .before .before .before .args in
+    let f = head-is (now (a .s)) (c .before .before .before .before .before .before .before .pre .0) in
+    let z : c .before .before .spi-size .result ≡ spiSize (oct (now (a .s)) 0) = c .before .before .spi-size .ensures .0 ∙ ap spiSize
+    (c .before .before .before .before .wide .ensures .0) in
+    let n = c .before .before .before .be16-at .ensures .0 in
     omega (arith, f .0, f .1, z, n)
 
 part-body-layout-end : tie.Need-part-body-layout-end
 part-body-layout-end c =
-    let p2 = c .before .before in
-    let p3 = p2 .before in
-    let p4 = p3 .before in
-    let p7 = p4 .before .before .before in
-    let a = p7 .args in
-    let f = head-is (now (a .s)) (p7 .pre .0) in
-    let z : p2 .spi-size .result ≡ spiSize (oct (now (a .s)) 0) = p2 .spi-size .ensures .0 ∙ ap spiSize (p4 .wide .ensures .0) in
-    let n = p3 .be16-at .ensures .0 in
+    let a = c .before .before .before .before .before .before .before .args in
+    let f = head-is (now (a .s)) (c .before .before .before .before .before .before .before .pre .0) in
+    let z : c .before .before .spi-size .result ≡ spiSize (oct (now (a .s)) 0) = c .before .before .spi-size .ensures .0 ∙ ap spiSize
+    (c .before .before .before .before .wide .ensures .0) in
+    let n = c .before .before .before .be16-at .ensures .0 in
     omega (arith, f .0, f .1, z, n)
 
 add-body-layout : tie.Need-add-body-layout
@@ -140,29 +125,32 @@ add-body-layout c = search needs
 
 body-layout-requires : tie.Need-body-layout-requires
 body-layout-requires c κs =
-    let p3 = c .before .before .before in
-    let p4 = p3 .before in
-    let p5 = p4 .before in
-    let p8 = p5 .before .before .before in
-    let a = p8 .args in
-    let f = head-is (now (a .s)) (p8 .pre .0) in
-    let z : p3 .spi-size .result ≡ spiSize (oct (now (a .s)) 0) = p3 .spi-size .ensures .0 ∙ ap spiSize (p5 .wide .ensures .0) in
-    let n = p4 .be16-at .ensures .0 in
-    omega (arith, f .0, f .1, z, n, part-short (now (a .s)) (4 + p3 .spi-size .result) (p4 .be16-at .result), p8 .pre .1)
+    let a = c .before .before .before .before .before .before .before .before .args in
+    let f = head-is (now (a .s)) (c .before .before .before .before .before .before .before .before .pre .0) in
+    let z : c .before .before .before .spi-size .result ≡ spiSize (oct (now (a .s)) 0) = c .before .before .before .spi-size .ensures .0
+    ∙ ap spiSize (c .before .before .before .before .before .wide .ensures .0) in
+    let n = c .before .before .before .before .be16-at .ensures .0 in
+    omega (
+      arith,
+      f .0,
+      f .1,
+      z,
+      n,
+      part-short (now (a .s)) (4 + c .before .before .before .spi-size .result)
+          (c .before .before .before .before .be16-at .result),
+      c .before .before .before .before .before .before .before .before .pre .1,
+    )
 
 returns-2 : tie.Need-returns-2
 returns-2 c =
-    let p2 = c .before .before in
-    let p3 = p2 .before in
-    let p4 = p3 .before in
-    let p5 = p4 .before in
-    let p6 = p5 .before in
-    let p9 = p6 .before .before .before in
-    let a = p9 .args in
-    let z : p4 .spi-size .result ≡ spiSize (oct (now (a .s)) 0) = p4 .spi-size .ensures .0 ∙ ap spiSize (p6 .wide .ensures .0) in
-    sa-holds (a .base) (now (a .s)) _ _ (ap (λ (u : ℕ). 4 + u) z) (p5 .be16-at .ensures .0) _
-    (λ e. p3 .if1 .left (p6 .wide .ensures .0 ∙ e)) _
-    (p2 .in-policy .ensures ∙ ap inPolicy (p6 .wide .ensures .0)) (c .body-layout .ensures)
+    let a = c .before .before .before .before .before .before .before .before .before .args in
+    let z : c .before .before .before .before .spi-size .result ≡ spiSize (oct (now
+    (a .s)) 0) = c .before .before .before .before .spi-size .ensures .0 ∙ ap spiSize
+    (c .before .before .before .before .before .before .wide .ensures .0) in
+    sa-holds (a .base) (now (a .s)) _ _ (ap (λ (u : ℕ). 4 + u) z) (c .before .before .before .before .before .be16-at .ensures .0) _
+    (λ e. c .before .before .before .if1 .left (c .before .before .before .before .before .before .wide .ensures .0 ∙ e)) _
+    (c .before .before .in-policy .ensures ∙ ap inPolicy (c .before .before .before .before .before .before .wide .ensures .0))
+    (c .body-layout .ensures)
 
 pub policy-layout-spec : {M : Type 1} → statement M
 policy-layout-spec =

@@ -1,5 +1,5 @@
 use borrow.Author.Tests.{eq-eqb, ne-eqb}
-use mathlib.Core.Path.{_∙_}
+use mathlib.Core.Path.{_≡_, refl, ap, sym, _∙_, subst}
 use borrow.Author.Needs.{needs}
 use Rattle.frames.proofs.exchanges.exchange_of.Statement.{statement}
 use Rattle.frames.proofs.exchanges.exchange_of.Tie as tie
@@ -20,19 +20,23 @@ rekey-requires : tie.Need-rekey-requires
 rekey-requires c κs = search needs
 
 returns-3 : tie.Need-returns-3
-returns-3 c =
-    let p2 = c .before .before in
-    let p3 = p2 .before in
-    c .rekey .ensures ∙ simp (ne-eqb _ _ (p3 .if1 .left), ne-eqb _ _ (p2 .if2 .left), eq-eqb _ _ (c .before .if3 .taken))
+returns-3 c = c .rekey .ensures ∙ simp (
+  ne-eqb _ _ (c .before .before .before .if1 .left),
+  ne-eqb _ _
+      (c .before .before .if2 .left),
+  eq-eqb _ _ (c .before .if3 .taken),
+)
 
 other-requires : tie.Need-other-requires
 other-requires c κs = search needs
 
 returns-4 : tie.Need-returns-4
-returns-4 c =
-    let p2 = c .before .before in
-    let p3 = p2 .before in
-    c .other .ensures ∙ simp (ne-eqb _ _ (p3 .if1 .left), ne-eqb _ _ (p2 .if2 .left), ne-eqb _ _ (c .before .if3 .left))
+returns-4 c = c .other .ensures ∙ simp (
+  ne-eqb _ _ (c .before .before .before .if1 .left),
+  ne-eqb _ _
+      (c .before .before .if2 .left),
+  ne-eqb _ _ (c .before .if3 .left),
+)
 
 pub exchange-of-spec : {M : Type 1} → statement M
 exchange-of-spec =

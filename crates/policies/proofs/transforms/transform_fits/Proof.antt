@@ -1,6 +1,6 @@
 use denote.Ref.{now}
 use native.Mathlib.Omega.{arith}
-use mathlib.Core.Path.{sym, _∙_}
+use mathlib.Core.Path.{_≡_, refl, ap, sym, _∙_, subst}
 use Rattle.octets.proofs.Numerals.{sized-is}
 use Rattle.policies.proofs.TransformLaws.{more, last, not-sized}
 use borrow.Author.Needs.{needs}
@@ -20,18 +20,14 @@ wide-requires : tie.Need-wide-requires
 wide-requires c κs = search needs
 
 returns : tie.Need-returns
-returns c =
-    let p3 = c .before .before .before in
-    let p4 = p3 .before in
-    let p6 = p4 .before .before in
-    more (now (p6 .args .s)) _ (p4 .is-sized .ensures) (p3 .if1 .taken) _ (c .before .wide .ensures .0) (c .if2 .taken)
+returns c = more (now (c .before .before .before .before .before .before .args .s)) _
+    (c .before .before .before .before .is-sized .ensures) (c .before .before .before .if1 .taken) _ (c .before .wide .ensures .0)
+    (c .if2 .taken)
 
 returns-2 : tie.Need-returns-2
-returns-2 c =
-    let p3 = c .before .before .before in
-    let p4 = p3 .before in
-    let p6 = p4 .before .before in
-    last (now (p6 .args .s)) _ (p4 .is-sized .ensures) (p3 .if1 .taken) _ (c .before .wide .ensures .0) (c .if2 .left)
+returns-2 c = last (now (c .before .before .before .before .before .before .args .s)) _
+    (c .before .before .before .before .is-sized .ensures) (c .before .before .before .if1 .taken) _ (c .before .wide .ensures .0)
+    (c .if2 .left)
 
 returns-3 : tie.Need-returns-3
 returns-3 c = not-sized (now (c .before .before .before .args .s)) _ (c .before .is-sized .ensures) (c .if1 .left)

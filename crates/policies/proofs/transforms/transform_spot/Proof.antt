@@ -1,6 +1,6 @@
 use denote.Ref.{now}
 use native.Mathlib.Omega.{arith}
-use mathlib.Core.Path.{ap, sym, _∙_}
+use mathlib.Core.Path.{_≡_, refl, ap, sym, _∙_, subst}
 use Rattle.octets.proofs.Walks.{part-short}
 use Rattle.attributes.specs.Place.{inTransform}
 use Rattle.policies.proofs.TransformLaws.{fits-is, missing, good, inner-broken, bad}
@@ -34,46 +34,41 @@ in-transform-requires c κs = search needs
 
 sub-are-attributes : tie.Need-sub-are-attributes
 sub-are-attributes c =
-    let p3 = c .before .before .before in
-    let p4 = p3 .before in
-    let p5 = p4 .before in
-    let p8 = p5 .before .before .before in
-    let a = p8 .args in
-    let f = fits-is (now (a .s)) (sym (p5 .transform-fits .ensures) ∙ p4 .if2 .taken) in
-    omega (arith, f .0, f .1, p3 .be16-at .ensures .0)
+    let a = c .before .before .before .before .before .before .before .before .args in
+    let f = fits-is (now (a .s)) (sym (c .before .before .before .before .before .transform-fits .ensures)
+    ∙ c .before .before .before .before .if2 .taken) in
+    omega (arith, f .0, f .1, c .before .before .before .be16-at .ensures .0)
 
 part-are-attributes-start : tie.Need-part-are-attributes-start
 part-are-attributes-start c =
-    let p3 = c .before .before .before in
-    let p4 = p3 .before in
-    let p5 = p4 .before in
-    let p8 = p5 .before .before .before in
-    let a = p8 .args in
-    let f = fits-is (now (a .s)) (sym (p5 .transform-fits .ensures) ∙ p4 .if2 .taken) in
-    omega (arith, f .0, f .1, p3 .be16-at .ensures .0)
+    let a = c .before .before .before .before .before .before .before .before .args in
+    let f = fits-is (now (a .s)) (sym (c .before .before .before .before .before .transform-fits .ensures)
+    ∙ c .before .before .before .before .if2 .taken) in
+    omega (arith, f .0, f .1, c .before .before .before .be16-at .ensures .0)
 
 part-are-attributes-end : tie.Need-part-are-attributes-end
 part-are-attributes-end c =
-    let p3 = c .before .before .before in
-    let p4 = p3 .before in
-    let p5 = p4 .before in
-    let p8 = p5 .before .before .before in
-    let a = p8 .args in
-    let f = fits-is (now (a .s)) (sym (p5 .transform-fits .ensures) ∙ p4 .if2 .taken) in
-    omega (arith, f .0, f .1, p3 .be16-at .ensures .0)
+    let a = c .before .before .before .before .before .before .before .before .args in
+    let f = fits-is (now (a .s)) (sym (c .before .before .before .before .before .transform-fits .ensures)
+    ∙ c .before .before .before .before .if2 .taken) in
+    omega (arith, f .0, f .1, c .before .before .before .be16-at .ensures .0)
 
 add-are-attributes : tie.Need-add-are-attributes
 add-are-attributes c = search needs
 
 are-attributes-requires : tie.Need-are-attributes-requires
 are-attributes-requires c κs =
-    let p4 = c .before .before .before .before in
-    let p5 = p4 .before in
-    let p6 = p5 .before in
-    let p9 = p6 .before .before .before in
-    let a = p9 .args in
-    let f = fits-is (now (a .s)) (sym (p6 .transform-fits .ensures) ∙ p5 .if2 .taken) in
-    omega (arith, part-short (now (a .s)) 8 (p4 .be16-at .result), f .0, f .1, p9 .pre)
+    let a = c .before .before .before .before .before .before .before .before .before .args in
+    let f = fits-is (now (a .s)) (sym (c .before .before .before .before .before .before .transform-fits .ensures)
+    ∙ c .before .before .before .before .before .if2 .taken) in
+    omega (
+      arith,
+      part-short (now (a .s)) 8
+          (c .before .before .before .before .be16-at .result),
+      f .0,
+      f .1,
+      c .before .before .before .before .before .before .before .before .before .pre,
+    )
 
 enum-told : tie.Need-enum-told
 enum-told c = search needs
@@ -83,33 +78,26 @@ enum-known-o c = search needs
 
 returns-2 : tie.Need-returns-2
 returns-2 c =
-    let p2 = c .before .before in
-    let p4 = p2 .before .before in
-    let p5 = p4 .before in
-    let p7 = p5 .before .before in
-    let p8 = p7 .before in
-    let p9 = p8 .before in
-    let p10 = p9 .before in
-    let p12 = p10 .before .before in
-    let a = p12 .args in
-    good (a .holder) (a .base) (now (a .s)) (p10 .if1 .left) (sym (p9 .transform-fits .ensures) ∙ p8 .if2 .taken) _ _
-    (p7 .be16-at .ensures .0) (p4 .in-transform .ensures ∙ ap inTransform (p5 .wide .ensures .0))
-    (sym (c .enum-told .given .1) ∙ p2 .are-attributes .ensures)
+    let a = c .before .before .before .before .before .before .before .before .before .before .before .before .args in
+    good (a .holder) (a .base) (now (a .s)) (c .before .before .before .before .before .before .before .before .before .before .if1 .left)
+    (sym (c .before .before .before .before .before .before .before .before .before .transform-fits .ensures)
+    ∙ c .before .before .before .before .before .before .before .before .if2 .taken) _ _
+    (c .before .before .before .before .before .before .before .be16-at .ensures .0)
+    (c .before .before .before .before .in-transform .ensures ∙ ap inTransform
+    (c .before .before .before .before .before .wide .ensures .0)) (sym (c .enum-told .given .1)
+    ∙ c .before .before .are-attributes .ensures)
 
 returns-3 : tie.Need-returns-3
 returns-3 c =
-    let p3 = c .before .before .before in
-    let p5 = p3 .before .before in
-    let p6 = p5 .before in
-    let p8 = p6 .before .before in
-    let p9 = p8 .before in
-    let p10 = p9 .before in
-    let p11 = p10 .before in
-    let p13 = p11 .before .before in
-    let a = p13 .args in
-    inner-broken (a .holder) (a .base) (now (a .s)) (p11 .if1 .left) (sym (p10 .transform-fits .ensures) ∙ p9 .if2 .taken) _ _
-    (p8 .be16-at .ensures .0) (p5 .in-transform .ensures ∙ ap inTransform (p6 .wide .ensures .0)) _
-    (sym (c .before .o .given .1) ∙ p3 .are-attributes .ensures)
+    let a = c .before .before .before .before .before .before .before .before .before .before .before .before .before .args in
+    inner-broken (a .holder) (a .base) (now (a .s))
+    (c .before .before .before .before .before .before .before .before .before .before .before .if1 .left) (sym
+    (c .before .before .before .before .before .before .before .before .before .before .transform-fits .ensures)
+    ∙ c .before .before .before .before .before .before .before .before .before .if2 .taken) _ _
+    (c .before .before .before .before .before .before .before .before .be16-at .ensures .0)
+    (c .before .before .before .before .before .in-transform .ensures ∙ ap inTransform
+    (c .before .before .before .before .before .before .wide .ensures .0)) _
+    (sym (c .before .o .given .1) ∙ c .before .before .before .are-attributes .ensures)
 
 returns-4 : tie.Need-returns-4
 returns-4 c =

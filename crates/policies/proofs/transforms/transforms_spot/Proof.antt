@@ -1,7 +1,7 @@
 use denote.Ref.{now}
 use native.Mathlib.Omega.{arith}
-use mathlib.Core.Path.{_≡_, sym, _∙_}
-use Prim.Native.Nat.{_+_, _-_, _<_, _≤_}
+use mathlib.Core.Path.{_≡_, refl, ap, sym, _∙_, subst}
+use Prim.Native.Nat.{ℕ, _+_, _-_, _<_, _≤_}
 use mathlib.Core.Bool.{true}
 use lib.ListN.{length, drop}
 use Rattle.octets.specs.Walk.{outline}
@@ -37,9 +37,14 @@ add-transform-spot c = search needs
 
 transform-spot-requires : tie.Need-transform-spot-requires Inv-loop μ-loop
 transform-spot-requires c κs =
-    let p3 = c .before .before .before in
-    let a = p3 .args in
-    omega (arith, part-short (now (a .s)) (c .before .loop .at) (length (now (a .s))), p3 .pre, c .before .loop .inv .0)
+    let a = c .before .before .before .args in
+    omega (
+      arith,
+      part-short (now (a .s)) (c .before .loop .at) (length (now
+          (a .s))),
+      c .before .before .before .pre,
+      c .before .loop .inv .0,
+    )
 
 enum-known-e : tie.Need-enum-known-e Inv-loop μ-loop
 enum-known-e c = search needs
@@ -53,8 +58,8 @@ read c = sym (c .before .e .given .1) ∙ c .before .before .before .transform-s
 
 sized : (c : tie.After-known-told Inv-loop μ-loop)
     → let e = c .before .e .given .0 .0 in
-    (0 < e) × (c .before .before .before .before .before .loop .at + e ≤ length
-    (now (c .before .before .before .before .before .before .before .args .s)))
+    (0 < e) × (c .before .before .before .before .before .loop .at + e ≤ length (now
+    (c .before .before .before .before .before .before .before .args .s)))
 sized c =
     let a = c .before .before .before .before .before .before .before .args in
     let l = c .before .before .before .before .before .loop in
@@ -71,25 +76,21 @@ add-at c = let f = sized (c .before .before) in record { fits = omega (arith, f 
 
 returns : tie.Need-returns Inv-loop μ-loop
 returns c =
-    let p3 = c .before .before .before in
-    let p8 = p3 .before .before .before .before .before in
-    let p10 = p8 .before .before in
-    let a = p10 .args in
-    let l = p8 .loop in
-    ends (a .holder) (a .base) (now (a .s)) (l .at) (l .inv .0) (l .inv .1) _ _ (read (p3)) (c .before .wide .ensures .0) (c .if1 .taken)
+    let a = c .before .before .before .before .before .before .before .before .before .before .args in
+    let l = c .before .before .before .before .before .before .before .before .loop in
+    ends (a .holder) (a .base) (now (a .s)) (l .at) (l .inv .0) (l .inv .1) _ _ (read (c .before .before .before))
+    (c .before .wide .ensures .0) (c .if1 .taken)
 
 loop-less : tie.Need-loop-less Inv-loop μ-loop
 loop-less c = let f = sized (c .before .before .before) in omega (arith, f .0, f .1)
 
 loop-again : tie.Need-loop-again Inv-loop μ-loop
 loop-again c =
-    let p3 = c .before .before .before in
-    let p8 = p3 .before .before .before .before .before in
-    let p10 = p8 .before .before in
-    let a = p10 .args in
-    let l = p8 .loop in (
-      sized (p3) .1,
-      goes (a .holder) (a .base) (now (a .s)) (l .at) (l .inv .0) (l .inv .1) _ _ (read (p3)) (c .before .wide .ensures .0) (c .if1 .left),
+    let a = c .before .before .before .before .before .before .before .before .before .before .args in
+    let l = c .before .before .before .before .before .before .before .before .loop in (
+      sized (c .before .before .before) .1,
+      goes (a .holder) (a .base) (now (a .s)) (l .at) (l .inv .0) (l .inv .1) _ _ (read (c .before .before .before))
+          (c .before .wide .ensures .0) (c .if1 .left),
     )
 
 enum-known-o : tie.Need-enum-known-o Inv-loop μ-loop
@@ -97,12 +98,10 @@ enum-known-o c = search needs
 
 returns-2 : tie.Need-returns-2 Inv-loop μ-loop
 returns-2 c =
-    let p3 = c .before .before .before in
-    let p5 = p3 .before .before in
-    let p7 = p5 .before .before in
-    let a = p7 .args in
-    let l = p5 .loop in
-    tears (a .holder) (a .base) (now (a .s)) (l .at) (l .inv .0) (l .inv .1) _ (sym (c .before .o .given .1) ∙ p3 .transform-spot .ensures)
+    let a = c .before .before .before .before .before .before .before .args in
+    let l = c .before .before .before .before .before .loop in
+    tears (a .holder) (a .base) (now (a .s)) (l .at) (l .inv .0) (l .inv .1) _ (sym (c .before .o .given .1)
+    ∙ c .before .before .before .transform-spot .ensures)
 
 pub transforms-spot-spec : {M : Type 1} → statement M
 transforms-spot-spec =

@@ -1,0 +1,17 @@
+// Key bags of a body whose layout is whole, gone through again.
+ghost use mathlib.Core.Path.{_≡_};
+ghost use mathlib.Core.Bool.{true};
+ghost use Prim.Native.Nat.{ℕ, _<_};
+ghost use lib.ListN.{length};
+ghost use Rattle.attributes.specs.inner.Whole.{isWhole};
+ghost use Rattle.bags.specs.Bag.{bags};
+ghost use Rattle.bags.specs.inner.Whole.{BagIs};
+use policies::judging::Parts;
+
+// The first of the key bags that the octets are. Internal.
+pub fn bag_parts(s: &[u8]) -> Parts
+    requires { ⌜ (0 < length (now s)) × (isWhole (bags 0 (now s)) ≡ true) ⌝ }
+    ensures { λ r. ⌜ BagIs (now (s .entry)) r ⌝ }
+{
+    policies::judging::head_parts(s)
+}

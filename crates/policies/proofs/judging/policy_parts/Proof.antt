@@ -1,0 +1,14 @@
+use denote.Ref.{now}
+use Rattle.policies.proofs.JudgingLaws.{fits-first, policy-is}
+use borrow.Author.Needs.{needs}
+use Rattle.policies.proofs.judging.policy_parts.Statement.{statement}
+use Rattle.policies.proofs.judging.policy_parts.Tie as tie
+
+head-parts-requires : tie.Need-head-parts-requires
+head-parts-requires c κs = fits-first (now (c .before .args .s)) (c .before .pre .1) (c .before .pre .0)
+
+returns : tie.Need-returns
+returns c = policy-is (now (c .before .before .args .s)) (c .before .before .pre .1) (c .before .before .pre .0) _ (c .head-parts .ensures)
+
+pub policy-parts-spec : {M : Type 1} → statement M
+policy-parts-spec = tie.close (tie.spec head-parts-requires returns)
