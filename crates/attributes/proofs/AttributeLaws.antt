@@ -1,16 +1,16 @@
 -- What the code's tests say of the attribute that some octets start with.
-use Prim.Native.Nat.{ℕ, zero, suc, _+_, _-_, _%_, _<_, _≤_}
-use mathlib.Core.Path.{_≡_, refl, ap, sym, _∙_, subst}
-use mathlib.Core.List.{List, [], _∷_}
+use Prim.Native.Nat.{ℕ, _+_, _-_, _%_, _<_, _≤_}
+use mathlib.Core.Path.{_≡_, refl, ap, sym, _∙_}
+use mathlib.Core.List.{List, []}
 use mathlib.Core.Bool.{Bool, true, false}
 use native.Mathlib.Omega.{arith}
 use borrow.Author.Tests.{le-leb, lt-leb, leb-true}
 use lib.Dec.{leb}
 use lib.ListN.{length, drop, length-drop}
 use lib.Seq.{drop-drop}
-use Rattle.octets.specs.Walk.{be16, part, either, both}
+use Rattle.octets.specs.Walk.{be16, part, either}
 use Rattle.attributes.specs.Attribute.{isShort, kindOf, startOf, sizeOf, fits, valueOf}
-use Rattle.octets.specs.Walk.{whole, broken, opened}
+use Rattle.octets.specs.Walk.{whole, opened}
 use Rattle.octets.proofs.Walks.{by-test, both-true, part-length, Takes, took}
 use Rattle.attributes.specs.Attribute.{attributeOf}
 use Rattle.attributes.specs.Place.{meaningOf, formed}

@@ -1,23 +1,23 @@
 -- Going through attributes whose layout is whole: the first one, and the others.
-use Prim.Native.Nat.{ℕ, zero, suc, _+_, _-_, _<_, _≤_}
+use Prim.Native.Nat.{ℕ, _+_, _-_, _<_, _≤_}
 use mathlib.Core.Path.{_≡_, refl, ap, sym, _∙_, subst}
 use mathlib.Core.List.{List, [], _∷_}
 use mathlib.Core.Bool.{Bool, true, false}
 use native.Mathlib.Omega.{arith}
-use borrow.Author.Tests.{leb-true, eq-eqb, ne-eqb}
+use borrow.Author.Tests.{eq-eqb, ne-eqb}
 use lib.Dec.{leb, eqb}
 use lib.ListN.{length, drop, length-drop}
 use lib.Seq.{drop-drop}
 use Rattle.octets.specs.Walk.{be16, part, either, Reading, whole, broken}
-use Rattle.octets.proofs.Walks.{by-test, both-true, many-none}
+use Rattle.octets.proofs.Walks.{both-true, many-none}
 use Rattle.octets.proofs.Inverse.{inverse-opened}
-use Rattle.octets.proofs.Grammar.{FirstRest, first-rest}
-use Rattle.attributes.specs.Attribute.{Attribute, sizeOf, startOf, valueOf, attributeOf, fits}
+use Rattle.octets.proofs.Grammar.{first-rest}
+use Rattle.attributes.specs.Attribute.{Attribute, sizeOf, valueOf, attributeOf, fits}
 use Rattle.attributes.specs.Place.{meaningOf}
 use Rattle.attributes.specs.Tree.{codeOf, means, valuesOf}
 use Rattle.attributes.specs.Layout.{formedIn, fitsIn, attribute, attributes}
 use Rattle.attributes.specs.Grammar.{IsAttribute}
-use Rattle.attributes.specs.inner.Whole.{isWhole, itemsOf, attributesIn, valuesIn, FoundAt}
+use Rattle.attributes.specs.inner.Whole.{isWhole, itemsOf, attributesIn, valuesIn}
 use Rattle.attributes.specs.declared.tables.Place.{Place}
 use Rattle.attributes.specs.declared.tables.Meaning.{Meaning}
 use Rattle.attributes.proofs.AttributeLaws.{takes, IsRead, read-inside}

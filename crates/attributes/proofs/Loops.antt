@@ -1,14 +1,13 @@
 -- How a loop walks items to the end of some octets, and what a reader's answer says of the reading: for items of any kind.
 use Prim.Native.Nat.{ℕ, _+_, _-_, _<_, _≤_}
 use mathlib.Core.Path.{_≡_, refl, ap, sym, _∙_, subst}
-use mathlib.Core.List.{List, [], _∷_}
-use native.Mathlib.Nat.{add-assoc}
+use mathlib.Core.List.{List}
 use native.Mathlib.Omega.{arith}
 use lib.ListN.{length, drop, length-drop}
 use lib.Seq.{drop-drop}
-use Rattle.octets.specs.Walk.{part, Reading, whole, broken, Reader, mapped, closed, within, andThen, push, many, Outline, stops, breaks}
+use Rattle.octets.specs.Walk.{part, Reading, whole, broken, Reader, mapped, closed, within, andThen, push, many, stops, breaks}
 use Rattle.octets.specs.Walk.{outline}
-use Rattle.octets.proofs.Walks.{tail, to-end, Took, Takes, Keeps, takes-keeps, took-fewer, starts, many-first, many-breaks, many-ends}
+use Rattle.octets.proofs.Walks.{tail, to-end, Takes, Keeps, takes-keeps, took-fewer, starts, many-first, many-breaks, many-ends}
 use Rattle.octets.proofs.Walks.{then-goes, after-breaks}
 use Rattle.attributes.specs.Answers.{layoutOf, spotOf}
 use Rattle.attributes.specs.declared.Layout.{Layout}

@@ -1,7 +1,7 @@
 // Attributes of a stretch whose layout is whole, gone through again.
 ghost use mathlib.Core.Path.{_≡_};
 ghost use mathlib.Core.Bool.{true};
-ghost use Prim.Native.Nat.{ℕ, _+_, _≤_, _<_};
+ghost use Prim.Native.Nat.{_+_, _≤_, _<_};
 ghost use lib.ListN.{length, drop};
 ghost use Rattle.attributes.specs.Layout.{attributes};
 ghost use Rattle.attributes.specs.inner.Whole.{isWhole, valuesIn, Finds};

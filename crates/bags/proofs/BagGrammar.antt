@@ -1,7 +1,7 @@
 -- The reader of key bags answers a list exactly when the octets are that list's.
-use Prim.Native.Nat.{ℕ, zero, suc, _+_, _-_, _<_, _≤_}
+use Prim.Native.Nat.{ℕ, _+_, _-_, _<_, _≤_}
 use mathlib.Core.Path.{_≡_, refl, ap, sym, _∙_, subst}
-use mathlib.Core.List.{List, [], _∷_, _++_}
+use mathlib.Core.List.{List, [], _++_}
 use mathlib.Core.Bool.{Bool, true, false}
 use native.Mathlib.Omega.{arith}
 use borrow.Author.Tests.{lt-ltb, eq-eqb, ne-eqb, eqb-true, eqb-false}
@@ -9,9 +9,9 @@ use lib.Dec.{ltb, eqb}
 use lib.ListN.{length, drop}
 use lib.Seq.{drop-length}
 use Rattle.octets.specs.Numbers.{oct}
-use Rattle.octets.specs.Walk.{be16, part, either, Reading, whole, broken, mapped, opened, closed, within}
+use Rattle.octets.specs.Walk.{be16, part, either, Reading, whole, mapped, opened, closed, within}
 use Rattle.octets.proofs.Local.{extended, be16-append, mapped-extend, opened-extend, within-extend, Local}
-use Rattle.octets.proofs.Inverse.{Mapped, inverse-mapped, inverse-opened, Within, inverse-within}
+use Rattle.octets.proofs.Inverse.{inverse-mapped, inverse-opened, inverse-within}
 use Rattle.octets.proofs.Grammar.{Cuts, row-read, read-row, sound-of, complete-of}
 use Rattle.attributes.specs.Attribute.{Attribute}
 use Rattle.attributes.specs.Place.{inBag}
@@ -24,8 +24,8 @@ use Rattle.attributes.proofs.GrammarLaws.{are-read, read-are}
 use Rattle.policies.specs.Policy.{spiSize, headSize, headFits, spiOf}
 use Rattle.policies.proofs.HeadLaws.{head-is}
 use Rattle.policies.proofs.PolicyGrammar.{first, same-head, same-spi, exact-size, body-octets, known-spi, made-head}
-use Rattle.bags.specs.Bag.{GroupKeyBag, MemberKeyBag, Bag, groupKeys, memberKeys, placeOf, bagOf, bag, bags}
-use Rattle.bags.specs.Grammar.{IsGroupKeyBag, IsMemberKeyBag, IsBag, is-group, is-member, Bags}
+use Rattle.bags.specs.Bag.{Bag, groupKeys, memberKeys, placeOf, bagOf, bag, bags}
+use Rattle.bags.specs.Grammar.{IsBag, is-group, is-member, Bags}
 use Rattle.bags.proofs.BagLaws.{takes}
 
 abbrev sizeAt : List ℕ → ℕ

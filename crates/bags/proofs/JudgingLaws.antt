@@ -1,23 +1,23 @@
 -- Going through key bags whose layout is whole: the first one, and the others.
-use Prim.Native.Nat.{ℕ, _+_, _<_, _≤_}
-use mathlib.Core.Path.{_≡_, refl, ap, sym, _∙_, subst}
+use Prim.Native.Nat.{ℕ, _+_, _<_}
+use mathlib.Core.Path.{_≡_, ap, sym, _∙_}
 use mathlib.Core.List.{List, [], _∷_}
-use mathlib.Core.Bool.{Bool, true}
+use mathlib.Core.Bool.{true}
 use lib.ListN.{length, drop}
 use Rattle.octets.specs.Numbers.{oct}
 use Rattle.octets.specs.Walk.{be16, part, whole}
-use Rattle.octets.proofs.Grammar.{FirstRest, first-rest}
+use Rattle.octets.proofs.Grammar.{first-rest}
 use Rattle.attributes.specs.Layout.{attributes}
-use Rattle.attributes.specs.inner.Whole.{isWhole, itemsOf, attributesIn}
+use Rattle.attributes.specs.inner.Whole.{isWhole, attributesIn}
 use Rattle.attributes.proofs.JudgingLaws.{whole-is, is-whole, any-offset}
 use Rattle.policies.specs.Policy.{headSize, headFits}
 use Rattle.policies.specs.inner.Whole.{Heads}
 use Rattle.policies.specs.declared.judging.Parts.{Parts}
-use Rattle.bags.specs.Bag.{Bag, placeOf, bagOf, bag, bags}
+use Rattle.bags.specs.Bag.{placeOf, bagOf, bag, bags}
 use Rattle.bags.specs.Grammar.{IsBag}
 use Rattle.bags.specs.inner.Whole.{bagsIn, BagIs}
 use Rattle.bags.proofs.BagLaws.{takes}
-use Rattle.bags.proofs.BagGrammar.{Read, inverse, sound, complete}
+use Rattle.bags.proofs.BagGrammar.{inverse, sound, complete}
 
 record Head (s : List ℕ) : Type 0 where
   fits : headFits s ≡ true

@@ -1,31 +1,31 @@
 -- The reader of frames answers a tree exactly when the octets are that tree's, and octets are one tree's at most.
-use Prim.Native.Nat.{ℕ, zero, suc, _+_, _-_, _/_, _<_, _≤_}
+use Prim.Native.Nat.{ℕ, _+_, _-_, _/_, _≤_}
 use mathlib.Core.Path.{_≡_, refl, ap, sym, _∙_, subst}
 use mathlib.Core.List.{List, [], _∷_, _++_}
 use mathlib.Core.Bool.{Bool, true, false}
 use native.Mathlib.Omega.{arith}
 use borrow.Author.Tests.{le-leb, leb-true, eq-eqb, ne-eqb, eqb-true, eqb-false}
 use lib.Dec.{leb, eqb}
-use lib.ListN.{length, take, drop, length-drop}
+use lib.ListN.{length, drop, length-drop}
 use lib.Seq.{take-all, drop-length}
 use Rattle.octets.specs.Numbers.{oct}
-use Rattle.octets.specs.Walk.{be16, be32, part, either, both, sized, Reading, whole, broken, Reader, mapped, opened, begun, closed}
+use Rattle.octets.specs.Walk.{be16, be32, part, either, both, Reading, whole, broken, mapped, opened, closed}
 use Rattle.octets.specs.Walk.{within, Linked}
 use Rattle.octets.proofs.Numerals.{sized-is}
 use Rattle.octets.proofs.Walks.{both-true, begun-some, opened-is}
 use Rattle.octets.proofs.Local.{extended, oct-append, be16-append, size-append, mapped-extend, opened-extend, begun-extend, within-extend}
-use Rattle.octets.proofs.Local.{Local, exact, Split, split}
-use Rattle.octets.proofs.Inverse.{Mapped, inverse-mapped, inverse-opened, inverse-begun, Within, inverse-within}
+use Rattle.octets.proofs.Local.{Local, exact, split}
+use Rattle.octets.proofs.Inverse.{inverse-mapped, inverse-opened, inverse-begun, inverse-within}
 use Rattle.octets.proofs.Grammar.{Splits, reads, read}
-use Rattle.policies.specs.Policy.{Policy, policies}
+use Rattle.policies.specs.Policy.{policies}
 use Rattle.policies.proofs.PolicyGrammar.{policies-read, read-policies}
-use Rattle.bags.specs.Bag.{Bag, bags}
+use Rattle.bags.specs.Bag.{bags}
 use Rattle.bags.proofs.BagGrammar.{bags-read, read-bags}
-use Rattle.frames.specs.Header.{Header, headerOf, firstPayload, headerFits, payloadFits, isCritical}
+use Rattle.frames.specs.Header.{firstPayload, headerFits, payloadFits}
 use Rattle.frames.specs.Delete.{Delete, deleteOf, deleteFits}
 use Rattle.frames.specs.Frame.{Content, gsa, kd, delete, unread, body, Payload, payloadOf, payload, noneNext, payloads, exactly}
 use Rattle.frames.specs.Frame.{Frame, frameOf, frame}
-use Rattle.frames.specs.Grammar.{IsDelete, IsContent, is-gsa, is-kd, is-delete, is-unread, IsPayload, IsFrame}
+use Rattle.frames.specs.Grammar.{IsContent, is-gsa, is-kd, is-delete, is-unread, IsPayload, IsFrame}
 use Rattle.frames.proofs.DeleteGrammar.{delete-to, delete-from}
 use Rattle.frames.proofs.PayloadLaws.{takes}
 
@@ -211,7 +211,10 @@ frame-read s x i =
     (i .payloads) 28 in
     opened-is 0 (headerFits s) (mapped (frameOf s) (exactly (payloads (firstPayload s) 28 (drop 28 s)))) fit
     ∙ ap (λ (y : Reading (List Payload)). mapped (frameOf s) (exactly y)) p
-    ∙ (λ j. whole (record { header = record { spi = i .spi j; exchange = i .exchange j; messageId = i .messageId j }; payloads = x .payloads }) [])
+    ∙ (λ j. whole (record {
+      header = record { spi = i .spi j; exchange = i .exchange j; messageId = i .messageId j };
+      payloads = x .payloads;
+    }) [])
 
 -- an accepted frame has one reading
 pub one-tree : (s : List ℕ) (x y : Frame) → IsFrame s x → IsFrame s y → x ≡ y

@@ -1,8 +1,8 @@
 -- What the readers' answers say of a payload, of the chain of payloads and of a frame.
-use Prim.Native.Nat.{ℕ, zero, suc, _+_, _-_, _<_, _≤_}
-use mathlib.Core.Path.{_≡_, refl, ap, sym, _∙_, subst}
+use Prim.Native.Nat.{ℕ, _+_, _-_, _<_, _≤_}
+use mathlib.Core.Path.{_≡_, refl, ap, sym, _∙_}
 use mathlib.Core.List.{List, [], _∷_}
-use mathlib.Core.Bool.{Bool, true, false}
+use mathlib.Core.Bool.{true, false}
 use native.Mathlib.Nat.{add-zero}
 use native.Mathlib.Omega.{arith}
 use borrow.Author.Tests.{eq-eqb, ne-eqb}
@@ -10,9 +10,8 @@ use lib.Dec.{eqb}
 use lib.ListN.{length, drop, length-drop}
 use lib.Seq.{getD-drop}
 use Rattle.octets.specs.Numbers.{oct}
-use Rattle.octets.specs.Walk.{be16, part, either, sized, Reading, whole, broken, Reader, mapped, closed, opened, begun, within, Linked}
-use Rattle.octets.specs.Walk.{chain}
-use Rattle.octets.specs.Walk.{Outline, stops, breaks, outline}
+use Rattle.octets.specs.Walk.{be16, part, Reading, whole, broken, mapped, closed, opened, within, Linked}
+use Rattle.octets.specs.Walk.{stops, breaks, outline}
 use Rattle.octets.proofs.Numerals.{sized-is}
 use Rattle.octets.proofs.Walks.{tail, to-end, by-test, Takes, took, takes-mapped, takes-closed, begun-none, begun-some, takes-begun}
 use Rattle.octets.proofs.Walks.{opened-is, opened-not, takes-opened}
@@ -21,12 +20,12 @@ use Rattle.attributes.specs.Answers.{layoutOf, spotOf}
 use Rattle.attributes.specs.declared.Layout.{Layout}
 use Rattle.attributes.specs.declared.Layout.the-variants as layout
 use Rattle.attributes.specs.declared.Spot.the-variants as spot
-use Rattle.attributes.proofs.Loops.{held-whole, held-broken, spot-mapped, layout-mapped, Next, next-is, next-broken}
-use Rattle.policies.specs.Policy.{Policy, policies}
-use Rattle.bags.specs.Bag.{Bag, bags}
+use Rattle.attributes.proofs.Loops.{held-whole, held-broken, spot-mapped, layout-mapped, next-is, next-broken}
+use Rattle.policies.specs.Policy.{policies}
+use Rattle.bags.specs.Bag.{bags}
 use Rattle.frames.specs.Header.{firstPayload, headerFits, payloadFits}
-use Rattle.frames.specs.Delete.{Delete, deleteOf, deleteFits}
-use Rattle.frames.specs.Frame.{Content, gsa, kd, delete, unread, gsaBody, kdBody, deleteBody, unreadBody, body, Payload, payloadOf}
+use Rattle.frames.specs.Delete.{deleteFits}
+use Rattle.frames.specs.Frame.{Content, gsa, kd, body, Payload, payloadOf}
 use Rattle.frames.specs.Frame.{payload, noneNext, payloads, exactly, Frame, frameOf, frame, frameLayout}
 
 -- THE BODY of a payload of the kind k

@@ -1,16 +1,16 @@
 -- The walker reads a list exactly when the octets are the list's, for any item whose reader does.
-use Prim.Native.Nat.{ℕ, zero, suc, _+_, _-_, _<_, _≤_}
+use Prim.Native.Nat.{ℕ, zero, suc, _+_, _-_, _<_}
 use mathlib.Core.Path.{_≡_, refl, ap, sym, _∙_, subst}
 use mathlib.Core.List.{List, [], _∷_, _++_, append-assoc}
 use mathlib.Core.Bool.{Bool, true, false}
 use native.Mathlib.Omega.{arith}
 use borrow.Author.Tests.{ne-eqb, eqb-true}
-use lib.ListN.{length, drop, length-append}
+use lib.ListN.{length, drop}
 use lib.Seq.{drop-append-seam}
-use Rattle.octets.specs.Walk.{Reading, whole, broken, Reader, mapped, Linked, push, further, chain, Alone, atEnd, stateless, many}
+use Rattle.octets.specs.Walk.{Reading, whole, broken, Reader, mapped, Linked, push, chain, Alone, atEnd, stateless, many}
 use Rattle.octets.specs.Walk.{Spans, none, more, Row, no-more, then}
 use Rattle.octets.proofs.Walks.{Takes, took-fewer, chain-stop, chain-more, takes-stateless}
-use Rattle.octets.proofs.Local.{Local, exact, Split, split}
+use Rattle.octets.proofs.Local.{Local, exact, split}
 
 -- what a reader's item takes
 pub record Splits {S A : Type 0} (Is : S → List ℕ → A → S → Type 0) (st : S) (s : List ℕ) (a : A) (st′ : S) (rest : List ℕ) : Type 0 where

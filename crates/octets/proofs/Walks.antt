@@ -11,7 +11,7 @@ use lib.Seq.{length-take-le, take-all, drop-drop}
 use lib.Dec.{eqb}
 use Rattle.octets.specs.Walk.{part, either, both, Reading, whole, broken, Reader, mapped, after, andThen, Linked, push, further}
 use Rattle.octets.specs.Walk.{chainUpTo, chain}
-use Rattle.octets.specs.Walk.{Alone, atEnd, stateless, many, Outline, stops, breaks, outline, closed, within, opened, begun}
+use Rattle.octets.specs.Walk.{Alone, atEnd, stateless, many, Outline, stops, breaks, outline, closed, opened, begun}
 
 -- what holds of both, each under its test, holds of the one that is picked
 pub by-test : {A : Type 0} (P : A → Type 0) (b : Bool) {x y : A} → (b ≡ true → P x) → (b ≡ false → P y) → P (either b x y)

@@ -1,15 +1,14 @@
 -- What the readers' answers say of a policy, with what it holds.
-use Prim.Native.Nat.{ℕ, zero, suc, _+_, _-_, _<_, _≤_}
-use mathlib.Core.Path.{_≡_, refl, ap, sym, _∙_, subst}
-use mathlib.Core.List.{List, [], _∷_}
+use Prim.Native.Nat.{ℕ, _+_, _-_, _≤_}
+use mathlib.Core.Path.{_≡_, ap, sym, _∙_}
+use mathlib.Core.List.{List}
 use mathlib.Core.Bool.{Bool, true, false}
 use native.Mathlib.Nat.{add-assoc}
 use native.Mathlib.Omega.{arith}
 use borrow.Author.Tests.{eq-eqb, ne-eqb}
-use lib.Dec.{eqb}
 use lib.ListN.{length, drop}
 use Rattle.octets.specs.Numbers.{oct}
-use Rattle.octets.specs.Walk.{be16, part, either, Reading, whole, broken, Reader, mapped, opened, within, andThen}
+use Rattle.octets.specs.Walk.{be16, part, either, Reading, Reader, mapped, within, andThen}
 use Rattle.octets.proofs.Walks.{tail, tail-tail, Takes, Keeps, took, takes-keeps, takes-closed, opened-is, opened-not, takes-opened}
 use Rattle.attributes.specs.Attribute.{Attribute}
 use Rattle.attributes.specs.Place.{inPolicy}
@@ -20,7 +19,7 @@ use Rattle.attributes.specs.declared.Layout.the-variants as layout
 use Rattle.attributes.specs.declared.Spot.the-variants as spot
 use Rattle.attributes.specs.declared.tables.Place.{Place}
 use Rattle.attributes.specs.declared.tables.Place.the-variants as place
-use Rattle.attributes.proofs.Loops.{held-whole, held-broken, layout-mapped, then-layout, then-breaks, Ended, ended}
+use Rattle.attributes.proofs.Loops.{held-whole, held-broken, layout-mapped, then-layout, then-breaks, ended}
 use Rattle.policies.specs.Selector.{Selector, selector}
 use Rattle.policies.specs.Transform.{Transform, transforms}
 use Rattle.policies.specs.Policy.{headSize, headFits, Policy, Suite, suite, SaBody, saBody, groupSaOf, groupWideOf, policyHolds}

@@ -1,15 +1,15 @@
 -- The reader of a selector answers one exactly when the octets are that selector's.
-use Prim.Native.Nat.{ℕ, zero, suc, _+_, _-_, _<_, _≤_}
+use Prim.Native.Nat.{ℕ, _+_, _-_, _<_, _≤_}
 use mathlib.Core.Path.{_≡_, refl, ap, sym, _∙_, subst}
-use mathlib.Core.List.{List, [], _∷_, _++_}
+use mathlib.Core.List.{List, [], _++_}
 use mathlib.Core.Bool.{Bool, true, false}
 use native.Mathlib.Omega.{arith}
-use borrow.Author.Tests.{le-leb, leb-true, lt-ltb, ltb-true, eq-eqb, eqb-true, ne-eqb}
+use borrow.Author.Tests.{le-leb, leb-true, lt-ltb, ltb-true, eq-eqb, eqb-true}
 use lib.Dec.{leb, ltb, eqb}
-use lib.ListN.{length, take, drop, length-append, length-drop}
+use lib.ListN.{length, drop, length-append, length-drop}
 use lib.Seq.{drop-append-le, take-all, drop-length}
 use Rattle.octets.specs.Numbers.{oct}
-use Rattle.octets.specs.Walk.{be16, part, either, both, Reading, whole, broken, opened, begun}
+use Rattle.octets.specs.Walk.{be16, part, either, both, Reading, whole, opened}
 use Rattle.octets.proofs.Walks.{by-test, both-true, begun-some}
 use Rattle.octets.proofs.Local.{extended, oct-append, be16-append, part-append, opened-extend, begun-extend, Local}
 use Rattle.octets.proofs.Grammar.{Cuts, sound-of, complete-of}

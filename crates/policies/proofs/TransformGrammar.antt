@@ -1,19 +1,19 @@
 -- The reader of transforms answers a list exactly when the octets are that list's.
-use Prim.Native.Nat.{ℕ, zero, suc, _+_, _-_, _<_, _≤_}
+use Prim.Native.Nat.{ℕ, _+_, _-_, _≤_}
 use mathlib.Core.Path.{_≡_, refl, ap, sym, _∙_, subst}
-use mathlib.Core.List.{List, [], _∷_, _++_}
+use mathlib.Core.List.{List, [], _++_}
 use mathlib.Core.Bool.{Bool, true, false}
 use native.Mathlib.Omega.{arith}
-use borrow.Author.Tests.{le-leb, eq-eqb, eqb-true}
+use borrow.Author.Tests.{le-leb, eqb-true}
 use lib.Dec.{leb, eqb}
-use lib.ListN.{length, take, drop, length-drop}
+use lib.ListN.{length, drop, length-drop}
 use lib.Seq.{take-all, drop-length}
 use Rattle.octets.specs.Numbers.{oct}
-use Rattle.octets.specs.Walk.{be16, part, either, both, sized, Reading, whole, broken, mapped, opened, begun, closed, within, Linked}
+use Rattle.octets.specs.Walk.{be16, part, either, both, sized, whole, mapped, opened, closed, within, Linked}
 use Rattle.octets.proofs.Walks.{both-true, begun-some}
 use Rattle.octets.proofs.Local.{extended, oct-append, be16-append, size-append, mapped-extend, opened-extend, begun-extend, within-extend}
-use Rattle.octets.proofs.Local.{Local, exact, Split, split}
-use Rattle.octets.proofs.Inverse.{Mapped, inverse-mapped, inverse-opened, inverse-begun, Within, inverse-within}
+use Rattle.octets.proofs.Local.{Local, exact, split}
+use Rattle.octets.proofs.Inverse.{inverse-mapped, inverse-opened, inverse-begun, inverse-within}
 use Rattle.octets.proofs.Grammar.{Splits, reads, read}
 use Rattle.attributes.specs.Attribute.{Attribute}
 use Rattle.attributes.specs.Place.{inTransform}

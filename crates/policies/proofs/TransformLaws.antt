@@ -1,7 +1,7 @@
 -- What the code's tests say of the transform that some octets start with, and how the loop over transforms goes on.
-use Prim.Native.Nat.{ℕ, zero, suc, _+_, _-_, _<_, _≤_}
-use mathlib.Core.Path.{_≡_, refl, ap, sym, _∙_, subst}
-use mathlib.Core.List.{List, [], _∷_}
+use Prim.Native.Nat.{ℕ, _+_, _-_, _<_, _≤_}
+use mathlib.Core.Path.{_≡_, refl, ap, sym, _∙_}
+use mathlib.Core.List.{List}
 use mathlib.Core.Bool.{Bool, true, false}
 use native.Mathlib.Omega.{arith}
 use borrow.Author.Tests.{eq-eqb, ne-eqb}
@@ -10,8 +10,8 @@ use native.Mathlib.Nat.{add-zero}
 use lib.ListN.{length, drop}
 use lib.Seq.{getD-drop}
 use Rattle.octets.specs.Numbers.{oct}
-use Rattle.octets.specs.Walk.{be16, part, both, sized, Reading, whole, broken, Reader, mapped, closed, opened, begun, within, Linked}
-use Rattle.octets.specs.Walk.{chain, Outline, stops, breaks, outline}
+use Rattle.octets.specs.Walk.{be16, part, sized, Reading, whole, broken, mapped, closed, opened, within, Linked}
+use Rattle.octets.specs.Walk.{chain, outline}
 use Rattle.octets.proofs.Numerals.{sized-is}
 use Rattle.octets.proofs.Walks.{tail, by-test, both-true, Takes, Keeps, took, takes-mapped, takes-closed, begun-none, begun-some}
 use Rattle.octets.proofs.Walks.{takes-begun, opened-is, opened-not, takes-opened}
@@ -24,7 +24,7 @@ use Rattle.attributes.specs.Answers.{layoutOf, spotOf}
 use Rattle.attributes.specs.declared.Layout.{Layout}
 use Rattle.attributes.specs.declared.Layout.the-variants as layout
 use Rattle.attributes.specs.declared.Spot.the-variants as spot
-use Rattle.attributes.proofs.Loops.{held-whole, held-broken, spot-mapped, spot-stops, spot-breaks, Next, next-is, next-broken}
+use Rattle.attributes.proofs.Loops.{held-whole, held-broken, spot-mapped, spot-stops, spot-breaks, next-is, next-broken}
 use Rattle.policies.specs.Transform.{Transform, isMark, transformFits, transformOf, transform, noMore, transforms}
 
 pub fits-is : (s : List ℕ) → transformFits s ≡ true → (8 ≤ be16 s 2) × (be16 s 2 ≤ length s)

@@ -2,8 +2,7 @@ use Prim.Native.Nat.{_-_}
 use Rattle.attributes.specs.Place.{formed}
 use Rattle.attributes.specs.declared.tables.Meaning.{Meaning}
 use denote.Ref.{now}
-use mathlib.Core.Path.{_≡_, refl, ap, sym, _∙_, subst}
-use native.Mathlib.Omega.{arith}
+use mathlib.Core.Path.{ap, sym, _∙_}
 use Rattle.attributes.proofs.AttributeLaws.{IsRead, read-is, cut-is, read-inside, cut-in, formed-in, not-formed}
 use borrow.Author.Needs.{needs}
 use Rattle.attributes.proofs.attribute_in.Statement.{statement}

@@ -1,7 +1,7 @@
 use Rattle.octets.proofs.Walks.{to-end}
 use Rattle.attributes.specs.Answers.{readOf}
 use denote.Ref.{now}
-use mathlib.Core.Path.{_≡_, refl, ap, sym, _∙_, subst}
+use mathlib.Core.Path.{ap, sym, _∙_}
 use native.Mathlib.Omega.{arith}
 use Rattle.attributes.proofs.AttributeLaws.{IsRead, read-is, cut-is, read-inside, value-there, value-none, value-past}
 use Prim.Native.Nat.{_≤_}

@@ -1,5 +1,5 @@
 use denote.Ref.{now}
-use mathlib.Core.Path.{_≡_, refl, ap, sym, _∙_, subst}
+use mathlib.Core.Path.{sym, _∙_}
 use Rattle.frames.proofs.PayloadLaws.{gsa-body, kd-body, delete-good, delete-bad, unread-body}
 use borrow.Author.Needs.{needs}
 use Rattle.frames.proofs.body_layout.Statement.{statement}

@@ -1,8 +1,7 @@
 use denote.Ref.{now}
 use native.Mathlib.Omega.{arith}
-use mathlib.Core.Path.{_≡_, refl, ap, sym, _∙_, subst}
+use mathlib.Core.Path.{_≡_, ap, sym, _∙_}
 use Prim.Native.Nat.{ℕ, _+_}
-use lib.ListN.{length}
 use Rattle.octets.specs.Numbers.{oct}
 use Rattle.octets.proofs.Walks.{part-short}
 use Rattle.attributes.specs.Place.{inPolicy}

@@ -1,6 +1,6 @@
 use denote.Ref.{now}
 use native.Mathlib.Omega.{arith}
-use mathlib.Core.Path.{_≡_, refl, ap, sym, _∙_, subst}
+use mathlib.Core.Path.{sym, _∙_}
 use Rattle.policies.proofs.HeadLaws.{head-is}
 use Rattle.policies.proofs.PolicyLaws.{good, inner-broken, bad}
 use borrow.Author.Needs.{needs}

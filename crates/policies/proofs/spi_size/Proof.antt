@@ -1,7 +1,6 @@
 use borrow.Author.Tests.{eq-eqb, ne-eqb}
 use native.Mathlib.Omega.{arith}
-use mathlib.Core.Path.{_≡_, refl, ap, sym, _∙_, subst}
-use borrow.Author.Needs.{needs}
+use mathlib.Core.Path.{sym}
 use Rattle.policies.proofs.spi_size.Statement.{statement}
 use Rattle.policies.proofs.spi_size.Tie as tie
 

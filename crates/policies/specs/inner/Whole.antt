@@ -1,8 +1,8 @@
 -- Policies whose layout is whole, for the readers that go through them again: the first one, and the others.
-use Prim.Native.Nat.{ℕ, _<_, _≤_}
+use Prim.Native.Nat.{ℕ, _≤_}
 use mathlib.Core.Path.{_≡_}
 use mathlib.Core.List.{List, _∷_}
-use mathlib.Core.Bool.{Bool, true}
+use mathlib.Core.Bool.{true}
 use lib.ListN.{length, drop}
 use Rattle.octets.specs.Numbers.{oct}
 use Rattle.octets.specs.Walk.{be16, part}
@@ -10,7 +10,7 @@ use Rattle.attributes.specs.Place.{inPolicy}
 use Rattle.attributes.specs.Layout.{attributes}
 use Rattle.attributes.specs.inner.Whole.{isWhole, itemsOf, attributesIn}
 use Rattle.attributes.specs.declared.tables.Place.the-variants as place
-use Rattle.policies.specs.Policy.{headSize, Policy, SaBody, saBody, groupSaOf, groupWideOf, policies}
+use Rattle.policies.specs.Policy.{headSize, Policy, SaBody, groupSaOf, groupWideOf, policies}
 use Rattle.policies.specs.Grammar.{IsSaBody}
 use Rattle.policies.specs.declared.judging.Parts.{Parts}
 

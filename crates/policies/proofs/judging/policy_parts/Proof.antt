@@ -1,6 +1,5 @@
 use denote.Ref.{now}
 use Rattle.policies.proofs.JudgingLaws.{fits-first, policy-is}
-use borrow.Author.Needs.{needs}
 use Rattle.policies.proofs.judging.policy_parts.Statement.{statement}
 use Rattle.policies.proofs.judging.policy_parts.Tie as tie
 

@@ -1,6 +1,6 @@
 use denote.Ref.{now}
 use native.Mathlib.Omega.{arith}
-use mathlib.Core.Path.{_≡_, refl, ap, sym, _∙_, subst}
+use mathlib.Core.Path.{ap, sym, _∙_}
 use Rattle.octets.proofs.Walks.{part-short}
 use Rattle.attributes.specs.Place.{inTransform}
 use Rattle.policies.proofs.TransformLaws.{fits-is, missing, good, inner-broken, bad}
