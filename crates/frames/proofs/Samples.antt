@@ -81,21 +81,24 @@ unfolding policy suite saBody selector transform attribute many chain chainUpTo 
 sample-delay = refl
 
 -- attribute 1 is another key in each bag
+key : List ℕ
+key = 1 ∷ 2 ∷ 3 ∷ 4 ∷ 5 ∷ 6 ∷ 7 ∷ 8 ∷ 1 ∷ 2 ∷ 3 ∷ 4 ∷ 5 ∷ 6 ∷ 7 ∷ 8 ∷ []
+
 wrapped : List ℕ
-wrapped = 0 ∷ 0 ∷ 0 ∷ 5 ∷ 0 ∷ 0 ∷ 0 ∷ 9 ∷ 1 ∷ 2 ∷ 3 ∷ 4 ∷ 5 ∷ 6 ∷ 7 ∷ 8 ∷ 1 ∷ 2 ∷ 3 ∷ 4 ∷ 5 ∷ 6 ∷ 7 ∷ 8 ∷ []
+wrapped = 0 ∷ 0 ∷ 0 ∷ 5 ∷ 0 ∷ 0 ∷ 0 ∷ 9 ∷ key
 
 sample-member-bag : bags 0 ((0 ∷ 0 ∷ 0 ∷ 32 ∷ 0 ∷ 1 ∷ 0 ∷ 24 ∷ []) ++ wrapped)
-    ≡ whole (memberKeys (record { keys = record { keyId = 5; kwkId = 9; wrapped = 1 ∷ 2 ∷ 3 ∷ 4 ∷ 5 ∷ 6 ∷ 7 ∷ 8 ∷ 1 ∷ 2 ∷ 3 ∷ 4 ∷ 5 ∷ 6 ∷ 7 ∷ 8 ∷ [] } ∷ [] }) ∷ []) []
-unfolding bag attribute many chain chainUpTo number valuesOf wrapped
+    ≡ whole (memberKeys (record { keys = record { keyId = 5; kwkId = 9; wrapped = key } ∷ [] }) ∷ []) []
+unfolding bag attribute many chain chainUpTo number valuesOf wrapped key
 sample-member-bag = refl
 
 sample-group-bag : bags 0 ((3 ∷ 4 ∷ 0 ∷ 36 ∷ 1 ∷ 2 ∷ 3 ∷ 4 ∷ 0 ∷ 1 ∷ 0 ∷ 24 ∷ []) ++ wrapped)
     ≡ whole (groupKeys (record {
       protocol = 3;
       spi = 1 ∷ 2 ∷ 3 ∷ 4 ∷ [];
-      keys = record { keyId = 5; kwkId = 9; wrapped = 1 ∷ 2 ∷ 3 ∷ 4 ∷ 5 ∷ 6 ∷ 7 ∷ 8 ∷ 1 ∷ 2 ∷ 3 ∷ 4 ∷ 5 ∷ 6 ∷ 7 ∷ 8 ∷ [] } ∷ [];
+      keys = record { keyId = 5; kwkId = 9; wrapped = key } ∷ [];
     }) ∷ []) []
-unfolding bag attribute many chain chainUpTo number valuesOf wrapped
+unfolding bag attribute many chain chainUpTo number valuesOf wrapped key
 sample-group-bag = refl
 
 -- a frame of n octets whose first payload is of the kind k

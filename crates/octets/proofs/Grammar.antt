@@ -77,6 +77,31 @@ module _ {S A : Type 0} (stop : S → List ℕ → Bool) (step : S → Reader (L
   pub read : (b : ℕ) {st : S} {s : List ℕ} {l : List A} {rest : List ℕ} → chain stop step st b s ≡ whole l rest → Spans stop Is st s l rest
   read b {st} {s} {l} {rest} q = upto (suc (length s)) st b s l rest (omega arith) q
 
+  -- the first item and the others
+  pub record FirstSpan (st : S) (s : List ℕ) (l : List A) (rest : List ℕ) : Type 0 where
+    pub first : Linked S A
+    pub others : List A
+    pub size : ℕ
+    pub is : (b : ℕ) → step st b s ≡ whole first (drop size s)
+    pub after : (b : ℕ) → chain stop step (first .next) b (drop size s) ≡ whole others rest
+    pub all : l ≡ first .item ∷ others
+
+  span-first : {st : S} {s : List ℕ} {l : List A} {rest : List ℕ} → Spans stop Is st s l rest → stop st s ≡ false → FirstSpan st s l rest
+  span-first (none e) h = let z : _≡_ {A = ℕ} 0 1 = cc in absurd (omega arith)
+  span-first {st} (more {st′ = st′} o s {a = a} {l = l} e i r) h = record {
+    first = record { item = a; next = st′ };
+    others = l;
+    size = length o;
+    is = λ b. complete st b o s (record { item = a; next = st′ }) e i ∙ ap (whole (record { item = a; next = st′ })) (sym
+        (drop-append-seam o s));
+    after = λ b. ap (chain stop step st′ b) (drop-append-seam o s) ∙ reads r b;
+    all = refl;
+  }
+
+  pub first-span : (b : ℕ) (st : S) (s : List ℕ) (l : List A) (rest : List ℕ) → stop st s ≡ false → chain stop step st b s ≡ whole l rest
+      → FirstSpan st s l rest
+  first-span b st s l rest h q = span-first (read b q) h
+
 -- items in a row
 pub in-a-row : {A : Type 0} {Is : List ℕ → A → Type 0} {s t : List ℕ} {l m : List A} → Row Is s l → Row Is t m → Row Is (s ++ t) (l ++ m)
 in-a-row no-more g = g

@@ -22,7 +22,8 @@ use Rattle.policies.specs.Grammar.{IsSaBody, IsPolicy}
 use Rattle.policies.specs.inner.Whole.{Heads, policiesIn, WideFirst, SaFirst, PolicyIs}
 use Rattle.policies.specs.declared.judging.Parts.{Parts}
 use Rattle.policies.proofs.PolicyLaws.{takes}
-use Rattle.policies.proofs.PolicyGrammar.{Read, inverse, sound, complete, body-to}
+use Rattle.policies.proofs.PolicyGrammar.{Read, inverse, sound, complete}
+use Rattle.policies.proofs.BodyGrammar.{body-to}
 
 record Head (s : List ℕ) : Type 0 where
   fits : headFits s ≡ true

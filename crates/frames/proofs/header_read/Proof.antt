@@ -50,8 +50,11 @@ be32-at-requires-2 c κs = search needs
 
 returns-5 : tie.Need-returns-5
 returns-5 c =
-    header-there (now (c .before .before .before .before .before .before .before .before .before .before .before .before .before .args .s)) (c .before .before .before .before .before .before .before .before .before .before .before .if1 .left) (c .before .before .before .before .before .before .before .before .before .before .if2 .left) _ (c .before .before .before .before .before .before .before .before .before .be32-at .ensures) (c .before .before .before .before .before .before .before .before .if3 .left)
-    _ (c .before .before .before .before .before .before .wide .ensures .0) (c .before .before .before .before .before .if4 .left) _ _ _
+    let d = c .before .before .before .before .before .before .before .before in
+    header-there (now (d .before .before .before .before .before .args .s)) (d .before .before .before .if1 .left)
+    (d .before .before .if2 .left) _
+    (d .before .be32-at .ensures) (d .if3 .left) _ (c .before .before .before .before .before .before .wide .ensures .0)
+    (c .before .before .before .before .before .if4 .left) _ _ _
     (c .before .before .before .wide2 .ensures .0) (c .before .wide3 .ensures .0) (c .be32-at2 .ensures)
 
 pub header-read-spec : {M : Type 1} → statement M
