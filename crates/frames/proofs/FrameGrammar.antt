@@ -71,16 +71,16 @@ module _ (k h : ℕ) (s : List ℕ) where
 abbrev sizeAt : List ℕ → ℕ
 sizeAt s = be16 s 2
 
-record Read (k b : ℕ) (s : List ℕ) (x : Linked ℕ Payload) (rest : List ℕ) : Type 0 where
-  fits : payloadFits s ≡ true
-  held : Content
-  left : List ℕ
-  inner : body k b (b + 4) (part s 4 (be16 s 2)) ≡ whole held left
-  item : payloadOf k s held ≡ x
-  after : rest ≡ drop (be16 s 2) s
+pub record Read (k b : ℕ) (s : List ℕ) (x : Linked ℕ Payload) (rest : List ℕ) : Type 0 where
+  pub fits : payloadFits s ≡ true
+  pub held : Content
+  pub left : List ℕ
+  pub inner : body k b (b + 4) (part s 4 (be16 s 2)) ≡ whole held left
+  pub item : payloadOf k s held ≡ x
+  pub after : rest ≡ drop (be16 s 2) s
 
 module _ (k : ℕ) where
-  inverse : (b : ℕ) (s : List ℕ) (x : Linked ℕ Payload) (rest : List ℕ) → payload k b s ≡ whole x rest → Read k b s x rest
+  pub inverse : (b : ℕ) (s : List ℕ) (x : Linked ℕ Payload) (rest : List ℕ) → payload k b s ≡ whole x rest → Read k b s x rest
   unfolding payload
   inverse b s x rest q =
       let w = within 4 (be16 s 2) (body k b) b s in
@@ -159,13 +159,13 @@ module _ (k : ℕ) where
       ∙ ap (λ (t : Bool). opened b t (mapped (payloadOf k o) (within 4 (be16 o 2) (body k b) b o))) f
       ∙ ap (mapped (payloadOf k o)) w ∙ (λ j. whole (e j) (drop (n j) o)) ∙ ap (whole x) (drop-length o)
 
-sound : (k : ℕ) (b : ℕ) (s : List ℕ) (x : Linked ℕ Payload) (rest : List ℕ) → noneNext k s ≡ false → payload k b s ≡ whole x rest
+pub sound : (k : ℕ) (b : ℕ) (s : List ℕ) (x : Linked ℕ Payload) (rest : List ℕ) → noneNext k s ≡ false → payload k b s ≡ whole x rest
     → Splits IsPayload k s (x .item) (x .next) rest
 sound k b s x rest e q =
     let f = split (payload k) 4 sizeAt (local k) b s x rest q in
     record { octets = f .octets; joined = f .joined; is = to k b (f .octets) x (f .alone) }
 
-complete : (k : ℕ) (b : ℕ) (o rest : List ℕ) (x : Linked ℕ Payload) → noneNext k (o ++ rest) ≡ false → IsPayload k o (x .item) (x .next)
+pub complete : (k : ℕ) (b : ℕ) (o rest : List ℕ) (x : Linked ℕ Payload) → noneNext k (o ++ rest) ≡ false → IsPayload k o (x .item) (x .next)
     → payload k b (o ++ rest) ≡ whole x rest
 complete k b o rest x e i = exact (payload k) 4 sizeAt (local k) b o rest x (from k b o x i)
 

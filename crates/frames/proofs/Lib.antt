@@ -2,4 +2,5 @@ pub mod HeaderLaws
 pub mod PayloadLaws
 pub mod DeleteGrammar
 pub mod FrameGrammar
+pub mod JudgingLaws
 pub mod Samples

@@ -2,17 +2,20 @@
 use Prim.Native.Nat.{ℕ}
 use mathlib.Core.Path.{_≡_, refl}
 use mathlib.Core.List.{List, [], _∷_, _++_}
+use mathlib.Core.Bool.{Bool, true, false}
 use Rattle.octets.specs.Numbers.{number}
-use Rattle.octets.specs.Walk.{whole, broken, chain, chainUpTo, many}
+use Rattle.octets.specs.Walk.{Reading, whole, broken, chain, chainUpTo, many}
+use Rattle.attributes.specs.Attribute.{Attribute}
 use Rattle.attributes.specs.declared.tables.Place.the-variants as place
 use Rattle.attributes.specs.declared.Layout.the-variants as layout
 use Rattle.attributes.specs.Tree.{valuesOf, keyLengths}
 use Rattle.attributes.specs.Layout.{attribute, attributes}
 use Rattle.policies.specs.Selector.{selector}
-use Rattle.policies.specs.Transform.{transform, transforms}
+use Rattle.policies.specs.Transform.{Transform, transform, transforms}
 use Rattle.policies.specs.Policy.{suite, saBody, groupWide, policy, policies}
 use Rattle.bags.specs.Bag.{groupKeys, memberKeys, bag, bags}
-use Rattle.frames.specs.Frame.{body, payload, frame, frameLayout}
+use Rattle.frames.specs.Delete.{stretches}
+use Rattle.frames.specs.Frame.{body, payload, payloads, frame, frameLayout}
 
 -- document 01, P: "octets 80 0e 00 80 read as Key Length 128", in a type 1 transform at any offset
 sample-key-length : (h b : ℕ) → transforms h b (0 ∷ 0 ∷ 0 ∷ 12 ∷ 1 ∷ 0 ∷ 0 ∷ 20 ∷ 128 ∷ 14 ∷ 0 ∷ 128 ∷ [])
@@ -78,28 +81,24 @@ unfolding policy suite saBody selector transform attribute many chain chainUpTo 
 sample-delay = refl
 
 -- attribute 1 is another key in each bag
+key : List ℕ
+key = 1 ∷ 2 ∷ 3 ∷ 4 ∷ 5 ∷ 6 ∷ 7 ∷ 8 ∷ 1 ∷ 2 ∷ 3 ∷ 4 ∷ 5 ∷ 6 ∷ 7 ∷ 8 ∷ []
+
 wrapped : List ℕ
-wrapped = 0 ∷ 0 ∷ 0 ∷ 5 ∷ 0 ∷ 0 ∷ 0 ∷ 9 ∷ 1 ∷ 2 ∷ 3 ∷ 4 ∷ 5 ∷ 6 ∷ 7 ∷ 8 ∷ 1 ∷ 2 ∷ 3 ∷ 4 ∷ 5 ∷ 6 ∷ 7 ∷ 8 ∷ []
+wrapped = 0 ∷ 0 ∷ 0 ∷ 5 ∷ 0 ∷ 0 ∷ 0 ∷ 9 ∷ key
 
 sample-member-bag : bags 0 ((0 ∷ 0 ∷ 0 ∷ 32 ∷ 0 ∷ 1 ∷ 0 ∷ 24 ∷ []) ++ wrapped)
-    ≡ whole (memberKeys (record {
-      keys = record {
-        keyId = 5;
-        kwkId = 9;
-        wrapped = 1 ∷ 2 ∷ 3 ∷ 4 ∷ 5 ∷ 6 ∷ 7 ∷ 8 ∷ 1 ∷ 2 ∷ 3 ∷ 4 ∷ 5 ∷ 6 ∷
-            7 ∷ 8 ∷ [];
-      } ∷ [];
-    }) ∷ []) []
-unfolding bag attribute many chain chainUpTo number valuesOf wrapped
+    ≡ whole (memberKeys (record { keys = record { keyId = 5; kwkId = 9; wrapped = key } ∷ [] }) ∷ []) []
+unfolding bag attribute many chain chainUpTo number valuesOf wrapped key
 sample-member-bag = refl
 
 sample-group-bag : bags 0 ((3 ∷ 4 ∷ 0 ∷ 36 ∷ 1 ∷ 2 ∷ 3 ∷ 4 ∷ 0 ∷ 1 ∷ 0 ∷ 24 ∷ []) ++ wrapped)
     ≡ whole (groupKeys (record {
       protocol = 3;
       spi = 1 ∷ 2 ∷ 3 ∷ 4 ∷ [];
-      keys = record { keyId = 5; kwkId = 9; wrapped = 1 ∷ 2 ∷ 3 ∷ 4 ∷ 5 ∷ 6 ∷ 7 ∷ 8 ∷ 1 ∷ 2 ∷ 3 ∷ 4 ∷ 5 ∷ 6 ∷ 7 ∷ 8 ∷ [] } ∷ [];
+      keys = record { keyId = 5; kwkId = 9; wrapped = key } ∷ [];
     }) ∷ []) []
-unfolding bag attribute many chain chainUpTo number valuesOf wrapped
+unfolding bag attribute many chain chainUpTo number valuesOf wrapped key
 sample-group-bag = refl
 
 -- a frame of n octets whose first payload is of the kind k

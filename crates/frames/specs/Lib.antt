@@ -4,3 +4,4 @@ pub mod Frame
 pub mod Exchange
 pub mod Answers
 pub mod Grammar
+pub mod inner

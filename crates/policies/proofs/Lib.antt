@@ -4,5 +4,6 @@ pub mod HeadLaws
 pub mod PolicyLaws
 pub mod SelectorGrammar
 pub mod TransformGrammar
+pub mod BodyGrammar
 pub mod PolicyGrammar
 pub mod JudgingLaws

@@ -50,17 +50,12 @@ be32-at-requires-2 c κs = search needs
 
 returns-5 : tie.Need-returns-5
 returns-5 c =
-    let p3 = c .before .before .before in
-    let p5 = p3 .before .before in
-    let p6 = p5 .before in
-    let p8 = p6 .before .before in
-    let p9 = p8 .before in
-    let p10 = p9 .before in
-    let p11 = p10 .before in
-    let p13 = p11 .before .before in
-    header-there (now (p13 .args .s)) (p11 .if1 .left) (p10 .if2 .left) _ (p9 .be32-at .ensures) (p8 .if3 .left)
-    _ (p6 .wide .ensures .0) (p5 .if4 .left) _ _ _
-    (p3 .wide2 .ensures .0) (c .before .wide3 .ensures .0) (c .be32-at2 .ensures)
+    let d = c .before .before .before .before .before .before .before .before in
+    header-there (now (d .before .before .before .before .before .args .s)) (d .before .before .before .if1 .left)
+    (d .before .before .if2 .left) _
+    (d .before .be32-at .ensures) (d .if3 .left) _ (c .before .before .before .before .before .before .wide .ensures .0)
+    (c .before .before .before .before .before .if4 .left) _ _ _
+    (c .before .before .before .wide2 .ensures .0) (c .before .wide3 .ensures .0) (c .be32-at2 .ensures)
 
 pub header-read-spec : {M : Type 1} → statement M
 header-read-spec =
