@@ -90,7 +90,19 @@ rekeySuite = transform 13 2 [] ∷ transform 1 20 (192 ∷ []) ∷ transform 14 
 abbrev registration : List Policy → List Bag → Frame
 registration l m = record { header = header [] 39 0; payloads = payload 51 (gsa l) ∷ payload 52 (kd m) ∷ [] }
 
--- a rekey that deletes an ESP SA, over the Rekey SA with the SPI of 16 octets 7
+-- rekeys over the Rekey SA with the SPI of 16 octets 7: one that announces a Rekey SA, one that deletes n ESP SAs, one that deletes an ESP SA
+abbrev rekeying : List ℕ → Frame
+rekeying x = record {
+  header = header rekeySpi 41 0;
+  payloads = payload 51 (gsa (policy 6 x rekeySuite ∷ [])) ∷ payload 52 (kd (bag 6 x (saKey 0 0 ∷ saKey 0 9 ∷ []) ∷ [])) ∷ [];
+}
+
+abbrev deletingAll : ℕ → Frame
+deletingAll n = record {
+  header = header rekeySpi 41 0;
+  payloads = payload 42 (delete (record { protocol = 3; spis = replicate n (spi 4) })) ∷ [];
+}
+
 abbrev deleting : List ℕ → ℕ → Frame
 deleting x m = record { header = header x 41 m; payloads = payload 42 (delete (record { protocol = 3; spis = spi 4 ∷ [] })) ∷ [] }
 
@@ -154,6 +166,23 @@ samples =
     (bag 3 (spi 1) (saKey 0 0 ∷ []) ∷ bag 3 (spi 1) (saKey 0 0 ∷ []) ∷ [])) 6 ∷
     sample fresh 16 (registration (policy 3 (spi 1) espSuite ∷ []) (bag 3 (spi 1) (saKey 1 0 ∷ []) ∷ [])) 6 ∷
     sample fresh 16 (registration (policy 3 (spi 1) espSuite ∷ []) (bag 3 (spi 1) (saKey 0 1 ∷ []) ∷ [])) 6 ∷
+    -- 6: WRAP_KEY with Key ID 0; already in the table
+    sample fresh 16 (registration (policy 3 (spi 1) espSuite ∷ [])
+    (memberKeys (record { keys = record { keyId = 0; kwkId = 0; wrapped = [] } ∷ [] }) ∷ bag 3 (spi 1) (saKey 0 0 ∷ []) ∷ [])) 6 ∷
+    sample (member (Id 0)) 0 (rekeying rekeySpi) 6 ∷
+    sample (member (Id 0)) 0 (rekeying (replicate 16 8)) 0 ∷
+    -- 7: 32 deleted SPIs are taken, 33 are not
+    sample (member (Id 0)) 0 (deletingAll 32) 0 ∷
+    sample (member (Id 0)) 0 (deletingAll 33) 7 ∷
+    -- 4: a critical unknown payload; a known one may be critical
+    sample (member (Id 0)) 0 (record {
+      header = header rekeySpi 41 0;
+      payloads = record { kind = 53; critical = true; content = unread } ∷ deletingAll 1 .payloads;
+    }) 4 ∷
+    sample (member (Id 0)) 0 (record {
+      header = header rekeySpi 41 0;
+      payloads = record { kind = 41; critical = true; content = unread } ∷ deletingAll 1 .payloads;
+    }) 0 ∷
     []
 
 -- each has its number
