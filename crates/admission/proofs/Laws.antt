@@ -123,7 +123,9 @@ module _ (limits : Limits) (s : State) (now : ℕ) (x : ℕ) (spi : List ℕ) wh
   pub formed-count : stateFormed limits s ≡ true → s .table .count ≤ limits .sas
   unfolding stateFormed tableFormed
   formed-count e =
-      lt-cases (limits .sas) (s .table .count) (λ g. let z : _≡_ {A = Bool} false true = rw (lt-leb (s .table .count) (limits .sas) g) at e in
+      lt-cases (limits .sas) (s .table .count)
+      (λ g.
+      let z : _≡_ {A = Bool} false true = rw (lt-leb (s .table .count) (limits .sas) g) at e in
       let w : _≡_ {A = ℕ} 0 1 = cc in absurd (omega arith)) (λ g. g)
 
 -- ---- number 3

@@ -8,7 +8,7 @@ use Rattle.keys.specs.Lists.{any, count}
 use Rattle.clauses.specs.Contents.{gather}
 use Rattle.clauses.specs.Reordered.{AnyOrder, none, next, swapped, then, SameOrder, no-item, item}
 
-or-swap : (x y z : Bool) → (x || (y || z)) ≡ (y || (x || z))
+pub or-swap : (x y z : Bool) → (x || (y || z)) ≡ (y || (x || z))
 or-swap true true z = refl
 or-swap true false z = refl
 or-swap false true z = refl

@@ -1,5 +1,6 @@
 pub mod AnyOrder
 pub mod Contents
+pub mod Gather
 pub mod OrderOf4
 pub mod OrderOf5
 pub mod OrderOf6

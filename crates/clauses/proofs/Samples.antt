@@ -90,7 +90,8 @@ rekeySuite = transform 13 2 [] ∷ transform 1 20 (192 ∷ []) ∷ transform 14 
 abbrev registration : List Policy → List Bag → Frame
 registration l m = record { header = header [] 39 0; payloads = payload 51 (gsa l) ∷ payload 52 (kd m) ∷ [] }
 
--- rekeys over the Rekey SA with the SPI of 16 octets 7: one that announces a Rekey SA, one that deletes n ESP SAs, one that deletes an ESP SA
+-- rekeys over the Rekey SA with the SPI of 16 octets 7: one that announces a Rekey SA, one that deletes n ESP SAs, one that deletes
+-- an ESP SA
 abbrev rekeying : List ℕ → Frame
 rekeying x = record {
   header = header rekeySpi 41 0;

@@ -21,7 +21,9 @@ abbrev μ-loop : tie.MeasureT-loop
 μ-loop spi tick t n i₀ i = n - i
 
 loop-holds : tie.Need-loop-holds Inv-loop μ-loop
-loop-holds c = let e : length (c .before .args .t1 .sas) ≡ limits .sas = search (needs, length-of-map) in (c .before .pre, e, search needs, refl)
+loop-holds c =
+    let e : length (c .before .args .t1 .sas) ≡ limits .sas = search (needs, length-of-map) in
+    (c .before .pre, e, search needs, refl)
 
 mul-s : tie.Need-mul-s Inv-loop μ-loop
 mul-s c = search needs
