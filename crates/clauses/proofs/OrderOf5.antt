@@ -2,11 +2,10 @@
 use Prim.Native.Nat.{ℕ}
 use mathlib.Core.Path.{_≡_, refl, ap, _∙_}
 use mathlib.Core.List.{List, [], _∷_}
-use mathlib.Core.Bool.{Bool, not, _&&_}
+use mathlib.Core.Bool.{Bool, not}
 use lib.ListN.{length}
 use lib.Dec.{eqb}
 use Rattle.keys.specs.Lists.{any}
-use Rattle.keys.specs.Algorithms.{sizeOf}
 use Rattle.policies.specs.Policy.{GroupSaPolicy}
 use Rattle.bags.specs.Bag.{GroupKeyBag}
 use Rattle.frames.specs.Delete.{Delete}
@@ -45,7 +44,7 @@ module _ {f g : Frame} (r : Reordered f g) where
 
   lent-kept : (lent : List ℕ) → lentKeySize lent f ≡ lentKeySize lent g
   unfolding lentKeySize
-  lent-kept lent = λ i. row-kept r i .lent && not (sizeOf 13 (length lent))
+  lent-kept lent = rw (r .header)
 
   pub five-kept : (lent : List ℕ) → five-ofFrame lent f ≡ five-ofFrame lent g
   unfolding five-ofFrame

@@ -34,7 +34,7 @@ module _ {f g : Frame} (r : Reordered f g) (limits : Limits) where
 
   deleted-kept : manyDeletedSpis limits f ≡ manyDeletedSpis limits g
   unfolding manyDeletedSpis
-  deleted-kept = ap (ltb (limits .deletedSpis)) (length-order (deleted-order r))
+  deleted-kept = rw (length-order (deleted-order r))
 
   sas-kept : (s : State) (now : ℕ) → manySas limits s now f ≡ manySas limits s now g
   unfolding manySas
