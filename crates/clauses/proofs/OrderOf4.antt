@@ -42,7 +42,7 @@ module _ {f g : Frame} (r : Reordered f g) where
 
   critical-kept : criticalUnknown f ≡ criticalUnknown g
   unfolding criticalUnknown
-  critical-kept = any-order unknownCritical (λ a b e. (λ i. e .critical i && not (isKnown (e .kind i)))) (payloads-order r)
+  critical-kept = any-order unknownCritical (λ a b e. cc (e .critical, e .kind)) (payloads-order r)
 
   member-bag-kept : barredMemberBag f ≡ barredMemberBag g
   unfolding barredMemberBag
