@@ -1,0 +1,49 @@
+-- Reordering a frame keeps number 7, clause by clause.
+use Prim.Native.Nat.{ℕ, _+_}
+use mathlib.Core.Path.{_≡_, refl, ap}
+use mathlib.Core.List.{List, [], _∷_}
+use mathlib.Core.Bool.{Bool}
+use lib.ListN.{length}
+use lib.Dec.{ltb}
+use Rattle.keys.specs.Lists.{any}
+use Rattle.keys.specs.Limits.{Limits}
+use Rattle.state.specs.declared.State.{State}
+use Rattle.bags.specs.Bag.{GroupKeyBag}
+use Rattle.frames.specs.Frame.{Frame}
+use Rattle.clauses.specs.Fitness.{isEsp}
+use Rattle.clauses.specs.Number2.{standing}
+use Rattle.clauses.specs.Number7.{manyEspPolicies, manyWrapKeys, manySaKeys, manyDeletedSpis, manySas, seven-ofFrame, seven-ofMember}
+use Rattle.clauses.specs.Reordered.{GroupBagReordered, Reordered}
+use Rattle.clauses.proofs.AnyOrder.{any-order, count-order, count-equal, length-order}
+use Rattle.clauses.proofs.Contents.{announced-order, group-bags-order, wrap-keys-order, deleted-order}
+
+module _ {f g : Frame} (r : Reordered f g) (limits : Limits) where
+  esp-kept : manyEspPolicies limits f ≡ manyEspPolicies limits g
+  unfolding manyEspPolicies
+  esp-kept = ap (ltb (limits .espPolicies)) (count-equal isEsp (announced-order r))
+
+  wrap-keys-kept : manyWrapKeys limits f ≡ manyWrapKeys limits g
+  unfolding manyWrapKeys
+  wrap-keys-kept = ap (ltb (limits .wrapKeys)) (length-order (wrap-keys-order r))
+
+  sa-keys-kept : manySaKeys limits f ≡ manySaKeys limits g
+  unfolding manySaKeys
+  sa-keys-kept =
+      any-order (λ (b : GroupKeyBag). ltb (limits .saKeys) (length (b .keys)))
+      (λ a b e. (λ i. ltb (limits .saKeys) (length-order (e .keys) i))) (group-bags-order r)
+
+  deleted-kept : manyDeletedSpis limits f ≡ manyDeletedSpis limits g
+  unfolding manyDeletedSpis
+  deleted-kept = rw (length-order (deleted-order r))
+
+  sas-kept : (s : State) (now : ℕ) → manySas limits s now f ≡ manySas limits s now g
+  unfolding manySas
+  sas-kept s now = λ i. ltb (limits .sas) (length (standing now s) + length-order (announced-order r) i)
+
+  pub seven-kept : seven-ofFrame limits f ≡ seven-ofFrame limits g
+  unfolding seven-ofFrame
+  seven-kept = λ i. esp-kept i ∷ wrap-keys-kept i ∷ sa-keys-kept i ∷ deleted-kept i ∷ []
+
+  pub seven-member-kept : (s : State) (now : ℕ) → seven-ofMember limits s now f ≡ seven-ofMember limits s now g
+  unfolding seven-ofMember
+  seven-member-kept s now = λ i. sas-kept s now i ∷ []

@@ -1,0 +1,97 @@
+-- What single structures of a frame must be.
+use Prim.Native.Nat.{ℕ, zero, _+_}
+use mathlib.Core.List.{List, [], _∷_}
+use mathlib.Core.Bool.{Bool, true, false, not, cond, _&&_, _||_}
+use lib.ListN.{length}
+use lib.Dec.{leb, ltb, eqb}
+use Rattle.octets.specs.Numbers.{oct}
+use Rattle.octets.specs.Compare.{same}
+use Rattle.keys.specs.Lists.{all, any, count}
+use Rattle.keys.specs.Algorithms.{neededBy}
+use Rattle.keys.specs.declared.algorithms.Needed.{Needed}
+use Rattle.keys.specs.declared.algorithms.Needed.the-variants.{Octets, Nothing}
+use Rattle.policies.specs.Selector.{Selector}
+use Rattle.policies.specs.Transform.{Transform}
+use Rattle.policies.specs.Policy.{GroupSaPolicy}
+
+-- protocols (RFC 9838, section 4.4.2): AH, ESP, and GIKE_UPDATE, the Rekey SA's
+abbrev pub ah : ℕ
+ah = 2
+
+abbrev pub esp : ℕ
+esp = 3
+
+abbrev pub rekey : ℕ
+rekey = 6
+
+abbrev pub isEsp : GroupSaPolicy → Bool
+isEsp p = eqb (p .protocol) esp
+
+abbrev pub isRekey : GroupSaPolicy → Bool
+isRekey p = eqb (p .protocol) rekey
+
+-- ---- "one address (start equals end) in 224.0.0.0/4 or ff00::/8 and one port": type 7 is IPv4, type 8 IPv6
+unfoldable pub multicast : ℕ → List ℕ → Bool
+multicast kind a = cond (eqb kind 7) (leb 224 (oct a 0) && leb (oct a 0) 239) (eqb (oct a 0) 255)
+
+unfoldable pub oneGroupAddress : Selector → Bool
+oneGroupAddress s =
+    same (s .startAddress) (s .endAddress) && (multicast (s .kind) (s .startAddress) && eqb (s .startPort) (s .endPort))
+
+-- ---- "Transforms: type 1 is a row of the algorithm table. ESP has exactly one of type 1 and one of type 5 (Sequence Numbers) with ID 0
+-- or 2 (001 bars ID 1). Rekey has exactly one each of type 1, type 13 (one of the three) and the controller authentication type (14),
+-- either method (Implicit 1, Digital Signature 2)."
+abbrev pub octetsOf : Needed → ℕ
+octetsOf (Octets n) = n
+octetsOf Nothing = 0
+
+abbrev pub isOctets : Needed → Bool
+isOctets (Octets n) = true
+isOctets Nothing = false
+
+-- a row of the table by one of its Key Lengths
+unfoldable pub encryptionFits : Transform → Bool
+encryptionFits t = eqb (t .kind) 1 && any (λ (b : ℕ). isOctets (neededBy 1 (t .id) b)) (t .keyLengths)
+
+unfoldable pub keyWrapFits : Transform → Bool
+keyWrapFits t = eqb (t .kind) 13 && isOctets (neededBy 13 (t .id) 0)
+
+unfoldable pub sequenceNumbersFit : Transform → Bool
+sequenceNumbersFit t = eqb (t .kind) 5 && (eqb (t .id) 0 || eqb (t .id) 2)
+
+unfoldable pub authenticationFits : Transform → Bool
+authenticationFits t = eqb (t .kind) 14 && (eqb (t .id) 1 || eqb (t .id) 2)
+
+-- exactly one that is fit in each of these ways, and no other
+unfoldable pub exactly : List (Transform → Bool) → List Transform → Bool
+exactly wanted l = eqb (length l) (length wanted) && all (λ (p : Transform → Bool). eqb (count p l) 1) wanted
+
+abbrev pub espTransforms : List (Transform → Bool)
+espTransforms = encryptionFits ∷ sequenceNumbersFit ∷ []
+
+-- whether a Rekey policy has the controller authentication type is the exchange's
+abbrev pub rekeyTransforms : Bool → List (Transform → Bool)
+rekeyTransforms authentication =
+    cond authentication (encryptionFits ∷ keyWrapFits ∷ authenticationFits ∷ []) (encryptionFits ∷ keyWrapFits ∷ [])
+
+unfoldable pub transformsFit : Bool → GroupSaPolicy → Bool
+transformsFit authentication p =
+    cond (isEsp p) (exactly espTransforms (p .transforms)) (isRekey p && exactly (rekeyTransforms authentication) (p .transforms))
+
+-- ---- "An ESP SA needs the first number, a Rekey SA the sum of both": the octets that the transforms of a policy need, in which a policy
+-- whose transforms are fit has one of type 1 and, a Rekey policy, one of type 13
+unfoldable pub sum : {A : Type 0} → (A → ℕ) → List A → ℕ
+sum f [] = 0
+sum f (a ∷ l) = f a + sum f l
+
+abbrev pub encryptionNeeds : Transform → ℕ
+encryptionNeeds t = cond (eqb (t .kind) 1) (sum (λ (b : ℕ). octetsOf (neededBy 1 (t .id) b)) (t .keyLengths)) 0
+
+abbrev pub keyWrapNeeds : Transform → ℕ
+keyWrapNeeds t = cond (eqb (t .kind) 13) (octetsOf (neededBy 13 (t .id) 0)) 0
+
+unfoldable pub encryptionOctets : GroupSaPolicy → ℕ
+encryptionOctets p = sum encryptionNeeds (p .transforms)
+
+unfoldable pub keyWrapOctets : GroupSaPolicy → ℕ
+keyWrapOctets p = sum keyWrapNeeds (p .transforms)

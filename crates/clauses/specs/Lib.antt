@@ -1,0 +1,10 @@
+pub mod Contents
+pub mod Fitness
+pub mod Number2
+pub mod Number3
+pub mod Number4
+pub mod Number5
+pub mod Number6
+pub mod Number7
+pub mod Refusals
+pub mod Reordered

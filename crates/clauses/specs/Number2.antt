@@ -1,0 +1,51 @@
+-- Number 2 is given exactly when: "exchange not one of the three; registration of a non-empty member; rekey whose two SPIs are not the live
+-- Rekey SA's; a member value that breaks its list". It is judged on the header's exchange
+-- type x and SPIs alone.
+use Prim.Native.Nat.{ℕ}
+use mathlib.Core.List.{List, [], _∷_}
+use mathlib.Core.Bool.{Bool, true, false, not, cond, _&&_}
+use Rattle.keys.specs.Lists.{any}
+use Rattle.keys.specs.Limits.{Limits}
+use Rattle.sa.specs.Entry.{rekey, named, liveRekey}
+use Rattle.sa.specs.declared.entry.Sa.{Sa}
+use Rattle.table.specs.declared.Table.{Table}
+use Rattle.table.specs.Table.{sasOf, notDue, emptyAt}
+use Rattle.state.specs.declared.State.{State}
+use Rattle.state.specs.State.{stateFormed}
+use Rattle.frames.specs.Exchange.{exchangeOf}
+use Rattle.frames.specs.declared.exchanges.Exchange.{Exchange}
+use Rattle.frames.specs.declared.exchanges.Wanted.{Wanted}
+use Rattle.frames.specs.declared.exchanges.Wanted.the-variants as wanted
+
+-- the table as it stands at the tick: the SAs that are due count no more
+abbrev pub standing : ℕ → State → List Sa
+standing now s = notDue now (sasOf (s .table))
+
+-- "exchange not one of the three"
+abbrev pub otherExchange : ℕ → Bool
+otherExchange x = not ((exchangeOf x) .admitted)
+
+-- "registration of a non-empty member"
+abbrev pub breaksWanted : Wanted → Bool → Bool
+breaksWanted wanted.Empty isEmpty = not isEmpty
+breaksWanted wanted.Any isEmpty = false
+
+unfoldable pub nonEmptyMember : Limits → State → ℕ → ℕ → Bool
+nonEmptyMember limits s now x = breaksWanted ((exchangeOf x) .member) (emptyAt limits now (s .table))
+
+-- "rekey whose two SPIs are not the live Rekey SA's": there is no live Rekey SA with this SPI
+abbrev pub overLiveRekey : List ℕ → Sa → Bool
+overLiveRekey spi s = liveRekey s && named rekey spi s
+
+unfoldable pub otherSpis : State → ℕ → ℕ → List ℕ → Bool
+otherSpis s now x spi = (exchangeOf x) .spis && not (any (overLiveRekey spi) (standing now s))
+
+-- "a member value that breaks its list"
+abbrev pub brokenMember : Limits → State → Bool
+brokenMember limits s = not (stateFormed limits s)
+
+abbrev pub two-ofFrame : ℕ → List Bool
+two-ofFrame x = otherExchange x ∷ []
+
+abbrev pub two-ofMember : Limits → State → ℕ → ℕ → List ℕ → List Bool
+two-ofMember limits s now x spi = nonEmptyMember limits s now x ∷ otherSpis s now x spi ∷ brokenMember limits s ∷ []

@@ -1,0 +1,90 @@
+-- Number 4 is given exactly when: "critical unknown payload; Member bag in a rekey; D in a registration; two GSA or two KD; one without the
+-- other; neither (unless a rekey has D); more than one Rekey policy, group-wide policy or Member bag; a GSA with no SA policy; Key Length,
+-- GSA_INITIAL_MESSAGE_ID or the deactivation delay twice in one place; a Rekey destination that isn't one address (start equals end) in
+-- 224.0.0.0/4 or ff00::/8 and one port".
+use Prim.Native.Nat.{ℕ}
+use mathlib.Core.List.{List, [], _∷_}
+use mathlib.Core.Bool.{Bool, true, false, not, cond, _&&_}
+use lib.ListN.{length}
+use lib.Dec.{ltb, eqb}
+use Rattle.keys.specs.Lists.{any, count}
+use Rattle.policies.specs.Transform.{Transform}
+use Rattle.policies.specs.Policy.{GroupSaPolicy, GroupWidePolicy}
+use Rattle.frames.specs.Frame.{Frame, Payload, Content, isKnown}
+use Rattle.clauses.specs.Contents.{rowOf, some, several, gather, hasGsa, hasKd, policiesIn, saOf, announced, groupWides}
+use Rattle.clauses.specs.Contents.{memberBags, deletesOf}
+use Rattle.clauses.specs.Fitness.{isRekey, oneGroupAddress}
+
+-- "critical unknown payload"
+abbrev pub unknownCritical : Payload → Bool
+unknownCritical p = p .critical && not (isKnown (p .kind))
+
+unfoldable pub criticalUnknown : Frame → Bool
+criticalUnknown f = any unknownCritical (f .payloads)
+
+-- "Member bag in a rekey"
+unfoldable pub barredMemberBag : Frame → Bool
+barredMemberBag f = not (rowOf f .bag) && some (memberBags f)
+
+-- "D in a registration"
+unfoldable pub barredDelete : Frame → Bool
+barredDelete f = not (rowOf f .delete) && some (deletesOf f)
+
+-- "two GSA or two KD"
+unfoldable pub twoGsa : Frame → Bool
+twoGsa f = ltb 1 (count hasGsa (f .payloads))
+
+unfoldable pub twoKd : Frame → Bool
+twoKd f = ltb 1 (count hasKd (f .payloads))
+
+-- "one without the other"
+unfoldable pub gsaWithoutKd : Frame → Bool
+gsaWithoutKd f = any hasGsa (f .payloads) && not (any hasKd (f .payloads))
+
+unfoldable pub kdWithoutGsa : Frame → Bool
+kdWithoutGsa f = any hasKd (f .payloads) && not (any hasGsa (f .payloads))
+
+-- "neither (unless a rekey has D)"
+unfoldable pub neither : Frame → Bool
+neither f =
+    not (any hasGsa (f .payloads)) && (not (any hasKd (f .payloads)) && not (rowOf f .delete && some (deletesOf f)))
+
+-- "more than one Rekey policy, group-wide policy or Member bag"
+unfoldable pub severalRekeyPolicies : Frame → Bool
+severalRekeyPolicies f = ltb 1 (count isRekey (announced f))
+
+unfoldable pub severalGroupWide : Frame → Bool
+severalGroupWide f = several (groupWides f)
+
+unfoldable pub severalMemberBags : Frame → Bool
+severalMemberBags f = several (memberBags f)
+
+-- "a GSA with no SA policy"
+abbrev pub withoutSaPolicy : Payload → Bool
+withoutSaPolicy p = hasGsa p && not (some (gather saOf (policiesIn (p .content))))
+
+unfoldable pub gsaWithoutSaPolicy : Frame → Bool
+gsaWithoutSaPolicy f = any withoutSaPolicy (f .payloads)
+
+-- "Key Length, GSA_INITIAL_MESSAGE_ID or the deactivation delay twice in one place"
+abbrev pub twiceInTransform : Transform → Bool
+twiceInTransform t = several (t .keyLengths)
+
+unfoldable pub keyLengthTwice : Frame → Bool
+keyLengthTwice f = any (λ (p : GroupSaPolicy). any twiceInTransform (p .transforms)) (announced f)
+
+unfoldable pub initialMessageIdTwice : Frame → Bool
+initialMessageIdTwice f = any (λ (p : GroupSaPolicy). several (p .initialMessageIds)) (announced f)
+
+unfoldable pub delayTwice : Frame → Bool
+delayTwice f = any (λ (w : GroupWidePolicy). several (w .deactivationDelays)) (groupWides f)
+
+-- "a Rekey destination that isn't one address (start equals end) in 224.0.0.0/4 or ff00::/8 and one port"
+unfoldable pub otherDestination : Frame → Bool
+otherDestination f = any (λ (p : GroupSaPolicy). isRekey p && not (oneGroupAddress (p .destination))) (announced f)
+
+unfoldable pub four-ofFrame : Frame → List Bool
+four-ofFrame f =
+    criticalUnknown f ∷ barredMemberBag f ∷ barredDelete f ∷ twoGsa f ∷ twoKd f ∷ gsaWithoutKd f ∷ kdWithoutGsa f ∷ neither f ∷
+    severalRekeyPolicies f ∷ severalGroupWide f ∷ severalMemberBags f ∷ gsaWithoutSaPolicy f ∷
+    keyLengthTwice f ∷ initialMessageIdTwice f ∷ delayTwice f ∷ otherDestination f ∷ []

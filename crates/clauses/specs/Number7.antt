@@ -1,0 +1,41 @@
+-- Number 7 is given exactly when: "over 8 ESP policies, 32 WRAP_KEY, 32 SA_KEY in a bag, 32 deleted SPIs in the frame, or over 16 SAs after
+-- the frame, those already due when it arrives not counted". The figures are those of the record of limits.
+use Prim.Native.Nat.{ℕ, _+_}
+use mathlib.Core.List.{List, [], _∷_}
+use mathlib.Core.Bool.{Bool}
+use lib.ListN.{length}
+use lib.Dec.{ltb}
+use Rattle.keys.specs.Lists.{any, count}
+use Rattle.keys.specs.Limits.{Limits}
+use Rattle.state.specs.declared.State.{State}
+use Rattle.bags.specs.Bag.{GroupKeyBag}
+use Rattle.frames.specs.Frame.{Frame}
+use Rattle.clauses.specs.Contents.{announced, groupBags, wrapKeysOf, deletedSpis}
+use Rattle.clauses.specs.Fitness.{isEsp}
+use Rattle.clauses.specs.Number2.{standing}
+
+-- "over 8 ESP policies"
+unfoldable pub manyEspPolicies : Limits → Frame → Bool
+manyEspPolicies limits f = ltb (limits .espPolicies) (count isEsp (announced f))
+
+-- "32 WRAP_KEY"
+unfoldable pub manyWrapKeys : Limits → Frame → Bool
+manyWrapKeys limits f = ltb (limits .wrapKeys) (length (wrapKeysOf f))
+
+-- "32 SA_KEY in a bag"
+unfoldable pub manySaKeys : Limits → Frame → Bool
+manySaKeys limits f = any (λ (b : GroupKeyBag). ltb (limits .saKeys) (length (b .keys))) (groupBags f)
+
+-- "32 deleted SPIs in the frame"
+unfoldable pub manyDeletedSpis : Limits → Frame → Bool
+manyDeletedSpis limits f = ltb (limits .deletedSpis) (length (deletedSpis f))
+
+-- "over 16 SAs after the frame, those already due when it arrives not counted": those that stand at the tick and those announced
+unfoldable pub manySas : Limits → State → ℕ → Frame → Bool
+manySas limits s now f = ltb (limits .sas) (length (standing now s) + length (announced f))
+
+unfoldable pub seven-ofFrame : Limits → Frame → List Bool
+seven-ofFrame limits f = manyEspPolicies limits f ∷ manyWrapKeys limits f ∷ manySaKeys limits f ∷ manyDeletedSpis limits f ∷ []
+
+unfoldable pub seven-ofMember : Limits → State → ℕ → Frame → List Bool
+seven-ofMember limits s now f = manySas limits s now f ∷ []
