@@ -1,6 +1,5 @@
 // Refusals 2 and 3 of document 01: whether a frame is for this member at all, by fields of its header and the member's state alone.
 ghost use mathlib.Core.Path.{_≡_};
-ghost use mathlib.Core.Bool.{not, _&&_, _||_};
 ghost use Prim.Native.Nat.{_≤_};
 ghost use Rattle.keys.specs.Limits.{limits};
 ghost use Rattle.keys.specs.Lists.{any};

@@ -1,12 +1,10 @@
 -- Reordering a frame reorders each list of its contents.
-use mathlib.Core.Path.{_≡_, refl, ap, sym, subst}
-use mathlib.Core.List.{List, [], _∷_}
-use Rattle.attributes.specs.Tree.{SaKey, WrapKey}
-use Rattle.policies.specs.Policy.{Policy, GroupSaPolicy, GroupWidePolicy}
+use mathlib.Core.Path.{_≡_, refl, subst}
+use mathlib.Core.List.{List}
 use Rattle.bags.specs.Bag.{Bag, groupKeys, memberKeys, GroupKeyBag, MemberKeyBag}
 use Rattle.frames.specs.Delete.{Delete}
-use Rattle.frames.specs.Frame.{Frame, Payload, Content, gsa, kd, delete, unread}
-use Rattle.clauses.specs.Contents.{gather, saOf, wideOf, groupBagOf, memberBagOf, policiesIn, bagsIn, deletesIn, policiesOf, bagsOf}
+use Rattle.frames.specs.Frame.{Frame, Payload, Content}
+use Rattle.clauses.specs.Contents.{saOf, wideOf, groupBagOf, memberBagOf, policiesIn, bagsIn, deletesIn, policiesOf, bagsOf}
 use Rattle.clauses.specs.Contents.{deletesOf, announced, groupWides, groupBags, memberBags, wrapKeysOf, deletedSpis}
 use Rattle.clauses.specs.Reordered.{AnyOrder, none, next, GroupBagReordered, MemberBagReordered, BagReordered, group, member}
 use Rattle.clauses.specs.Reordered.{ContentReordered, in-gsa, in-kd, in-delete, not-read, PayloadReordered, Reordered}

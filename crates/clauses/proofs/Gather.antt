@@ -1,8 +1,8 @@
 -- What holds of all that the elements of a list hold, by the elements: for code that walks a frame payload by payload and bag by bag.
 -- And one of a number's clauses applies in whatever order they are tried.
 use native.Mathlib.Omega.{arith}
-use Prim.Native.Nat.{ℕ, suc, _+_}
-use mathlib.Core.Path.{_≡_, refl, ap, sym, _∙_}
+use Prim.Native.Nat.{ℕ, _+_}
+use mathlib.Core.Path.{_≡_, refl, ap, _∙_}
 use mathlib.Core.List.{List, [], _∷_, _++_}
 use mathlib.Core.Bool.{Bool, true, false, cond, _||_}
 use lib.ListN.{length, length-append}

@@ -1,12 +1,12 @@
 -- A reordered frame gets the same of numbers 2 to 7, each number by itself and the first that applies.
 use Prim.Native.Nat.{ℕ}
-use mathlib.Core.Path.{_≡_, refl, ap}
-use mathlib.Core.List.{List, [], _∷_, _++_}
+use mathlib.Core.Path.{_≡_, ap}
+use mathlib.Core.List.{List, [], _∷_}
 use Rattle.keys.specs.Limits.{Limits}
 use Rattle.state.specs.declared.State.{State}
 use Rattle.frames.specs.Header.{Header}
 use Rattle.frames.specs.Frame.{Frame}
-use Rattle.clauses.specs.Refusals.{Number, two, three, four, five, six, seven, numbers, judged, refusal}
+use Rattle.clauses.specs.Refusals.{two, three, four, five, six, seven, judged, refusal}
 use Rattle.clauses.specs.Reordered.{Reordered}
 use Rattle.clauses.proofs.OrderOf4.{four-kept}
 use Rattle.clauses.proofs.OrderOf5.{five-kept}

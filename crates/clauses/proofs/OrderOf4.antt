@@ -1,19 +1,14 @@
 -- Reordering a frame keeps number 4, clause by clause.
-use Prim.Native.Nat.{ℕ}
-use mathlib.Core.Path.{_≡_, refl, ap, sym, _∙_}
-use mathlib.Core.List.{List, [], _∷_}
-use mathlib.Core.Bool.{Bool, true, false, not, _&&_}
-use lib.ListN.{length}
-use lib.Dec.{ltb, eqb}
-use Rattle.keys.specs.Lists.{any, count}
+use mathlib.Core.Path.{_≡_, refl, ap}
+use mathlib.Core.List.{[], _∷_}
+use mathlib.Core.Bool.{not, _&&_}
+use lib.Dec.{ltb}
+use Rattle.keys.specs.Lists.{any}
 use Rattle.policies.specs.Policy.{GroupSaPolicy, GroupWidePolicy}
-use Rattle.bags.specs.Bag.{MemberKeyBag}
 use Rattle.frames.specs.Header.{Header}
-use Rattle.frames.specs.Frame.{Frame, Payload, Content, isKnown}
+use Rattle.frames.specs.Frame.{Frame, Payload, Content}
 use Rattle.frames.specs.Exchange.{exchangeOf}
-use Rattle.frames.specs.declared.exchanges.Exchange.{Exchange}
-use Rattle.clauses.specs.Contents.{rowOf, some, several, gather, hasGsa, hasKd, isGsa, isKd, policiesIn, saOf, announced}
-use Rattle.clauses.specs.Contents.{groupWides, memberBags, deletesOf}
+use Rattle.clauses.specs.Contents.{rowOf, several, hasGsa, hasKd, isGsa, isKd, saOf}
 use Rattle.clauses.specs.Fitness.{isRekey, oneGroupAddress}
 use Rattle.clauses.specs.Number4.{criticalUnknown, barredMemberBag, barredDelete, twoGsa, twoKd, gsaWithoutKd, kdWithoutGsa, neither}
 use Rattle.clauses.specs.Number4.{severalRekeyPolicies, severalGroupWide, severalMemberBags, gsaWithoutSaPolicy, keyLengthTwice}

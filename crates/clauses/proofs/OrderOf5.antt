@@ -1,8 +1,8 @@
 -- Reordering a frame keeps number 5, clause by clause.
 use Prim.Native.Nat.{ℕ}
-use mathlib.Core.Path.{_≡_, refl, ap, _∙_}
+use mathlib.Core.Path.{_≡_, _∙_}
 use mathlib.Core.List.{List, [], _∷_}
-use mathlib.Core.Bool.{Bool, not}
+use mathlib.Core.Bool.{not}
 use lib.ListN.{length}
 use lib.Dec.{eqb}
 use Rattle.keys.specs.Lists.{any}
@@ -10,11 +10,10 @@ use Rattle.policies.specs.Policy.{GroupSaPolicy}
 use Rattle.bags.specs.Bag.{GroupKeyBag}
 use Rattle.frames.specs.Delete.{Delete}
 use Rattle.frames.specs.Frame.{Frame}
-use Rattle.frames.specs.declared.exchanges.Exchange.{Exchange}
 use Rattle.clauses.specs.Contents.{rowOf, announced}
 use Rattle.clauses.specs.Fitness.{ah, esp, transformsFit}
 use Rattle.clauses.specs.Number5.{ahPolicy, ahBag, otherTransforms, deleteOfOther, deleteOfNone, lentKeySize, five-ofFrame}
-use Rattle.clauses.specs.Reordered.{GroupBagReordered, Reordered}
+use Rattle.clauses.specs.Reordered.{Reordered}
 use Rattle.clauses.proofs.AnyOrder.{any-order, any-equal}
 use Rattle.clauses.proofs.Contents.{announced-order, group-bags-order, deletes-order}
 use Rattle.clauses.proofs.OrderOf4.{row-kept}

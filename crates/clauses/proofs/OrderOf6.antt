@@ -1,9 +1,8 @@
 -- Reordering a frame keeps number 6, clause by clause.
 use Prim.Native.Nat.{ℕ}
-use mathlib.Core.Path.{_≡_, refl, ap, _∙_}
+use mathlib.Core.Path.{_≡_, _∙_}
 use mathlib.Core.List.{List, [], _∷_}
 use mathlib.Core.Bool.{Bool, not, cond, _&&_}
-use lib.ListN.{length}
 use lib.Dec.{ltb, eqb}
 use Rattle.octets.specs.Compare.{same}
 use Rattle.keys.specs.Lists.{any}

@@ -1,11 +1,9 @@
 -- Reordering a frame keeps number 7, clause by clause.
 use Prim.Native.Nat.{ℕ, _+_}
-use mathlib.Core.Path.{_≡_, refl, ap}
-use mathlib.Core.List.{List, [], _∷_}
-use mathlib.Core.Bool.{Bool}
+use mathlib.Core.Path.{_≡_, ap}
+use mathlib.Core.List.{[], _∷_}
 use lib.ListN.{length}
 use lib.Dec.{ltb}
-use Rattle.keys.specs.Lists.{any}
 use Rattle.keys.specs.Limits.{Limits}
 use Rattle.state.specs.declared.State.{State}
 use Rattle.bags.specs.Bag.{GroupKeyBag}
@@ -13,8 +11,8 @@ use Rattle.frames.specs.Frame.{Frame}
 use Rattle.clauses.specs.Fitness.{isEsp}
 use Rattle.clauses.specs.Number2.{standing}
 use Rattle.clauses.specs.Number7.{manyEspPolicies, manyWrapKeys, manySaKeys, manyDeletedSpis, manySas, seven-ofFrame, seven-ofMember}
-use Rattle.clauses.specs.Reordered.{GroupBagReordered, Reordered}
-use Rattle.clauses.proofs.AnyOrder.{any-order, count-order, count-equal, length-order}
+use Rattle.clauses.specs.Reordered.{Reordered}
+use Rattle.clauses.proofs.AnyOrder.{any-order, count-equal, length-order}
 use Rattle.clauses.proofs.Contents.{announced-order, group-bags-order, wrap-keys-order, deleted-order}
 
 module _ {f g : Frame} (r : Reordered f g) (limits : Limits) where

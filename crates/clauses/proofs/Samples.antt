@@ -2,27 +2,25 @@
 use Prim.Native.Nat.{ℕ}
 use mathlib.Core.Path.{_≡_, refl}
 use mathlib.Core.List.{List, [], _∷_, _++_, map}
-use mathlib.Core.Bool.{Bool, true, false}
+use mathlib.Core.Bool.{true, false}
 use lib.ListN.{replicate}
 use Rattle.octets.specs.Compare.{orderOf, less, same}
 use Rattle.keys.specs.Lists.{all, any, count, keep, heads, rising}
-use Rattle.keys.specs.Limits.{Limits, limits}
+use Rattle.keys.specs.Limits.{limits}
 use Rattle.keys.specs.Kinds.{rekeyOf, rekeySizes}
 use Rattle.keys.specs.Algorithms.{rowOf, neededIn, neededBy, sizeOf}
 use Rattle.sa.specs.Entry.{before, named, formed, liveRekey, due, rekeySa}
-use Rattle.sa.specs.Clock.{elapsedAtLeast}
 use Rattle.table.specs.Table.{tableOf, tableFormed, emptyAt}
 use Rattle.state.specs.declared.State.{State}
 use Rattle.state.specs.declared.least.Least.{Least}
 use Rattle.state.specs.declared.least.Least.the-variants.{Id, NoneAnyMore}
 use Rattle.state.specs.Held.{heldOf, keyFormed, heldFormed}
 use Rattle.state.specs.State.{newState, stateFormed}
-use Rattle.attributes.specs.Tree.{SaKey, WrapKey}
+use Rattle.attributes.specs.Tree.{SaKey}
 use Rattle.policies.specs.Selector.{Selector}
 use Rattle.policies.specs.Transform.{Transform}
-use Rattle.policies.specs.Policy.{Policy, groupSa, groupWide, GroupSaPolicy}
+use Rattle.policies.specs.Policy.{Policy, groupSa, GroupSaPolicy}
 use Rattle.bags.specs.Bag.{Bag, groupKeys, memberKeys}
-use Rattle.frames.specs.Delete.{Delete}
 use Rattle.frames.specs.Header.{Header}
 use Rattle.frames.specs.Frame.{Frame, Payload, Content, gsa, kd, delete, unread}
 use Rattle.clauses.specs.Contents.{gather}

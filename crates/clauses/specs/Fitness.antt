@@ -1,9 +1,9 @@
 -- What single structures of a frame must be.
-use Prim.Native.Nat.{ℕ, zero, _+_}
+use Prim.Native.Nat.{ℕ, _+_}
 use mathlib.Core.List.{List, [], _∷_}
-use mathlib.Core.Bool.{Bool, true, false, not, cond, _&&_, _||_}
+use mathlib.Core.Bool.{Bool, true, false, cond, _&&_, _||_}
 use lib.ListN.{length}
-use lib.Dec.{leb, ltb, eqb}
+use lib.Dec.{leb, eqb}
 use Rattle.octets.specs.Numbers.{oct}
 use Rattle.octets.specs.Compare.{same}
 use Rattle.keys.specs.Lists.{all, any, count}

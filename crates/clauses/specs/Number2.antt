@@ -3,17 +3,15 @@
 -- type x and SPIs alone.
 use Prim.Native.Nat.{ℕ}
 use mathlib.Core.List.{List, [], _∷_}
-use mathlib.Core.Bool.{Bool, true, false, not, cond, _&&_}
+use mathlib.Core.Bool.{Bool, false, not, _&&_}
 use Rattle.keys.specs.Lists.{any}
 use Rattle.keys.specs.Limits.{Limits}
 use Rattle.sa.specs.Entry.{rekey, named, liveRekey}
 use Rattle.sa.specs.declared.entry.Sa.{Sa}
-use Rattle.table.specs.declared.Table.{Table}
 use Rattle.table.specs.Table.{sasOf, notDue, emptyAt}
 use Rattle.state.specs.declared.State.{State}
 use Rattle.state.specs.State.{stateFormed}
 use Rattle.frames.specs.Exchange.{exchangeOf}
-use Rattle.frames.specs.declared.exchanges.Exchange.{Exchange}
 use Rattle.frames.specs.declared.exchanges.Wanted.{Wanted}
 use Rattle.frames.specs.declared.exchanges.Wanted.the-variants as wanted
 

@@ -6,7 +6,6 @@ use mathlib.Core.Bool.{Bool, not, _&&_}
 use Rattle.state.specs.declared.State.{State}
 use Rattle.state.specs.Least.{acceptable}
 use Rattle.frames.specs.Exchange.{exchangeOf}
-use Rattle.frames.specs.declared.exchanges.Exchange.{Exchange}
 
 unfoldable pub notAcceptable : State → ℕ → ℕ → Bool
 notAcceptable s x id = (exchangeOf x) .replay && not (acceptable id (s .least))

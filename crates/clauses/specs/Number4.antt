@@ -2,15 +2,13 @@
 -- other; neither (unless a rekey has D); more than one Rekey policy, group-wide policy or Member bag; a GSA with no SA policy; Key Length,
 -- GSA_INITIAL_MESSAGE_ID or the deactivation delay twice in one place; a Rekey destination that isn't one address (start equals end) in
 -- 224.0.0.0/4 or ff00::/8 and one port".
-use Prim.Native.Nat.{ℕ}
 use mathlib.Core.List.{List, [], _∷_}
-use mathlib.Core.Bool.{Bool, true, false, not, cond, _&&_}
-use lib.ListN.{length}
-use lib.Dec.{ltb, eqb}
+use mathlib.Core.Bool.{Bool, not, _&&_}
+use lib.Dec.{ltb}
 use Rattle.keys.specs.Lists.{any, count}
 use Rattle.policies.specs.Transform.{Transform}
 use Rattle.policies.specs.Policy.{GroupSaPolicy, GroupWidePolicy}
-use Rattle.frames.specs.Frame.{Frame, Payload, Content, isKnown}
+use Rattle.frames.specs.Frame.{Frame, Payload, isKnown}
 use Rattle.clauses.specs.Contents.{rowOf, some, several, gather, hasGsa, hasKd, policiesIn, saOf, announced, groupWides}
 use Rattle.clauses.specs.Contents.{memberBags, deletesOf}
 use Rattle.clauses.specs.Fitness.{isRekey, oneGroupAddress}

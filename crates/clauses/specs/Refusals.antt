@@ -2,8 +2,7 @@
 -- order in which they are judged. Clauses on the frame and the lent key alone stand apart from those that look at the member or the tick.
 use Prim.Native.Nat.{ℕ}
 use mathlib.Core.List.{List, [], _∷_, _++_}
-use mathlib.Core.Bool.{Bool, true, false, cond, _||_}
-use Rattle.keys.specs.Lists.{any}
+use mathlib.Core.Bool.{Bool, false, cond, _||_}
 use Rattle.keys.specs.Limits.{Limits}
 use Rattle.state.specs.declared.State.{State}
 use Rattle.frames.specs.Header.{Header}

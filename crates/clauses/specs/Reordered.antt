@@ -1,9 +1,7 @@
 -- A frame in another order (document 02, T-14): "put its policies, bags, WRAP_KEY entries and the SA_KEY copies in any other order within
 -- what holds them, with the payloads keeping theirs".
-use Prim.Native.Nat.{ℕ}
 use mathlib.Core.Path.{_≡_}
 use mathlib.Core.List.{List, [], _∷_}
-use Rattle.attributes.specs.Tree.{SaKey, WrapKey}
 use Rattle.policies.specs.Policy.{Policy}
 use Rattle.bags.specs.Bag.{Bag, groupKeys, memberKeys, GroupKeyBag, MemberKeyBag}
 use Rattle.frames.specs.Delete.{Delete}

@@ -1,15 +1,14 @@
 -- A structure that was read: its own fields are fit, what it holds was read from its inside, and it ends where its length says. One law for
 -- every level: policies, key bags, transforms and payloads are all read by `opened`, `mapped` and `within`.
-use Prim.Native.Nat.{ℕ, _+_, _-_, _<_, _≤_}
-use mathlib.Core.Path.{_≡_, refl, ap, sym, _∙_}
-use mathlib.Core.List.{List, [], _∷_}
+use Prim.Native.Nat.{ℕ, _+_, _-_, _≤_}
+use mathlib.Core.Path.{_≡_, refl, ap, _∙_}
+use mathlib.Core.List.{List}
 use mathlib.Core.Bool.{Bool, true, false}
 use native.Mathlib.Omega.{arith}
 use lib.ListN.{length, drop, length-drop}
 use lib.Seq.{drop-drop}
 use Rattle.octets.specs.Numbers.{oct}
 use Rattle.octets.specs.Walk.{be16, part, Reading, whole, broken, Reader, mapped, opened, closed, within}
-use Rattle.attributes.specs.Attribute.{Attribute}
 use Rattle.attributes.specs.Layout.{attributes}
 use Rattle.policies.specs.Policy.{headSize, headFits}
 use Rattle.policies.proofs.HeadLaws.{head-is}

@@ -6,7 +6,7 @@ use native.Mathlib.Omega.{arith}
 use lib.ListN.{length, drop, length-drop}
 use lib.Seq.{drop-drop}
 use Rattle.octets.specs.Walk.{Reading, whole, broken, Reader, push, many}
-use Rattle.octets.proofs.Walks.{Takes, Took, many-first, many-breaks, many-ends}
+use Rattle.octets.proofs.Walks.{Takes, many-first, many-breaks, many-ends}
 use Rattle.contents.specs.Split.{AreFrom, Split}
 
 record Unpushed {A : Type 0} (a : A) (y : Reading (List A)) (l : List A) : Type 0 where

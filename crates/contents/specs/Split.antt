@@ -4,7 +4,7 @@ use Prim.Native.Nat.{ℕ, _+_, _<_, _≤_}
 use mathlib.Core.Path.{_≡_}
 use mathlib.Core.List.{List, [], _∷_}
 use lib.ListN.{length, drop}
-use Rattle.octets.specs.Walk.{Reading, whole, Reader, many}
+use Rattle.octets.specs.Walk.{whole, Reader, many}
 
 -- the octets from a place on are these items, to the end
 abbrev pub AreFrom : {A : Type 0} → Reader A → ℕ → List ℕ → ℕ → List A → Type 0

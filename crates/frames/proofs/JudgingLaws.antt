@@ -1,22 +1,21 @@
 -- Going through payloads whose layout is whole: the first one, and the others.
-use Prim.Native.Nat.{ℕ, _+_, _<_, _≤_}
+use Prim.Native.Nat.{ℕ, _+_}
 use mathlib.Core.Path.{_≡_, refl, ap, sym, _∙_, subst}
 use mathlib.Core.List.{List, [], _∷_}
-use mathlib.Core.Bool.{Bool, true, false}
+use mathlib.Core.Bool.{true}
 use native.Mathlib.Omega.{arith}
 use borrow.Author.Tests.{ne-eqb}
 use lib.Dec.{leb}
-use lib.ListN.{length, drop}
+use lib.ListN.{drop}
 use Rattle.octets.specs.Numbers.{oct}
 use Rattle.octets.specs.Walk.{be16, part, Reading, whole, broken, Linked}
 use Rattle.octets.proofs.Numerals.{sized-is}
 use Rattle.octets.proofs.Grammar.{FirstSpan, first-span}
 use Rattle.attributes.specs.inner.Whole.{isWhole, itemsOf}
-use Rattle.frames.specs.Header.{payloadFits, isCritical}
-use Rattle.frames.specs.Frame.{Content, Payload, payloadOf, payload, noneNext, payloads, exactly}
+use Rattle.frames.specs.Header.{payloadFits}
+use Rattle.frames.specs.Frame.{Payload, payloadOf, payload, noneNext, payloads, exactly}
 use Rattle.frames.specs.Grammar.{IsContent, IsPayload}
 use Rattle.frames.specs.inner.Whole.{payloadsIn, PayloadIs}
-use Rattle.frames.specs.declared.judging.PayloadParts.{PayloadParts}
 use Rattle.frames.proofs.PayloadLaws.{takes}
 use Rattle.frames.proofs.FrameGrammar.{body-to, Read, inverse, sound, complete}
 

@@ -2,20 +2,17 @@
 use Prim.Native.Nat.{ℕ}
 use mathlib.Core.Path.{_≡_, refl}
 use mathlib.Core.List.{List, [], _∷_, _++_}
-use mathlib.Core.Bool.{Bool, true, false}
 use Rattle.octets.specs.Numbers.{number}
-use Rattle.octets.specs.Walk.{Reading, whole, broken, chain, chainUpTo, many}
-use Rattle.attributes.specs.Attribute.{Attribute}
+use Rattle.octets.specs.Walk.{whole, broken, chain, chainUpTo, many}
 use Rattle.attributes.specs.declared.tables.Place.the-variants as place
 use Rattle.attributes.specs.declared.Layout.the-variants as layout
 use Rattle.attributes.specs.Tree.{valuesOf, keyLengths}
 use Rattle.attributes.specs.Layout.{attribute, attributes}
 use Rattle.policies.specs.Selector.{selector}
-use Rattle.policies.specs.Transform.{Transform, transform, transforms}
+use Rattle.policies.specs.Transform.{transform, transforms}
 use Rattle.policies.specs.Policy.{suite, saBody, groupWide, policy, policies}
 use Rattle.bags.specs.Bag.{groupKeys, memberKeys, bag, bags}
-use Rattle.frames.specs.Delete.{stretches}
-use Rattle.frames.specs.Frame.{body, payload, payloads, frame, frameLayout}
+use Rattle.frames.specs.Frame.{body, payload, frame, frameLayout}
 
 -- document 01, P: "octets 80 0e 00 80 read as Key Length 128", in a type 1 transform at any offset
 sample-key-length : (h b : ℕ) → transforms h b (0 ∷ 0 ∷ 0 ∷ 12 ∷ 1 ∷ 0 ∷ 0 ∷ 20 ∷ 128 ∷ 14 ∷ 0 ∷ 128 ∷ [])

@@ -1,7 +1,6 @@
 // Payloads of a frame whose layout is whole, gone through again.
 ghost use mathlib.Core.Path.{_≡_};
 ghost use mathlib.Core.Bool.{true};
-ghost use Prim.Native.Nat.{ℕ};
 ghost use Rattle.attributes.specs.inner.Whole.{isWhole};
 ghost use Rattle.frames.specs.Frame.{payloads, exactly};
 ghost use Rattle.frames.specs.inner.Whole.{PayloadIs};

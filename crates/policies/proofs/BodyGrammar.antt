@@ -1,34 +1,20 @@
 -- The reader of what a Group SA policy holds answers it exactly when the octets are that.
-use Prim.Native.Nat.{ℕ, zero, suc, _+_, _-_, _<_, _≤_}
-use mathlib.Core.Path.{_≡_, refl, ap, sym, _∙_, subst}
-use mathlib.Core.List.{List, [], _∷_, _++_}
-use mathlib.Core.Bool.{Bool, true, false}
-use native.Mathlib.Omega.{arith}
-use borrow.Author.Tests.{le-leb, lt-ltb, ltb-true, eq-eqb, ne-eqb, eqb-true, eqb-false}
-use lib.Dec.{leb, ltb, eqb}
-use lib.ListN.{length, take, drop, length-drop}
-use lib.Seq.{take-all, drop-length}
-use Rattle.octets.specs.Numbers.{oct}
-use Rattle.octets.specs.Walk.{be16, part, either, both, sized, Reading, whole, broken, Reader, mapped, opened, closed, within, after}
+use Prim.Native.Nat.{ℕ, _+_, _-_}
+use mathlib.Core.Path.{_≡_, ap, _∙_, subst}
+use mathlib.Core.List.{List, [], _++_}
+use lib.ListN.{length}
+use Rattle.octets.specs.Walk.{Reading, whole, Reader, mapped, after}
 use Rattle.octets.specs.Walk.{andThen}
-use Rattle.octets.proofs.Walks.{both-true}
-use Rattle.octets.proofs.Local.{extended, oct-append, be16-append, part-append, size-append, opened-extend, within-extend, Local}
-use Rattle.octets.proofs.Inverse.{Mapped, inverse-mapped, inverse-opened, Within, inverse-within, Then, inverse-then}
-use Rattle.octets.proofs.Grammar.{Cuts, row-read, read-row, sound-of, complete-of, any-offset}
+use Rattle.octets.proofs.Inverse.{inverse-mapped, inverse-then}
 use Rattle.attributes.specs.Attribute.{Attribute}
-use Rattle.attributes.specs.Place.{inPolicy}
-use Rattle.attributes.specs.Tree.{initialMessageIds, deactivationDelays}
 use Rattle.attributes.specs.Layout.{attributes}
-use Rattle.attributes.specs.Grammar.{Attributes}
 use Rattle.attributes.specs.declared.tables.Place.{Place}
 use Rattle.attributes.specs.declared.tables.Place.the-variants as place
 use Rattle.attributes.proofs.GrammarLaws.{are-read, read-are}
 use Rattle.policies.specs.Selector.{Selector, selector}
 use Rattle.policies.specs.Transform.{Transform, transforms}
-use Rattle.policies.specs.Policy.{spiSize, firstKnown, spiSized, headSize, headFits, spiOf, GroupSaPolicy, GroupWidePolicy, Policy}
-use Rattle.policies.specs.Policy.{groupSa, groupWide}
-use Rattle.policies.specs.Policy.{Suite, suite, SaBody, saBody, groupSaOf, groupWideOf, policyHolds, policy, policies}
-use Rattle.policies.specs.Grammar.{IsSaBody, IsGroupSa, IsGroupWide, IsPolicy, is-sa, is-wide, Policies}
+use Rattle.policies.specs.Policy.{Suite, suite, SaBody, saBody}
+use Rattle.policies.specs.Grammar.{IsSaBody}
 use Rattle.policies.proofs.SelectorGrammar.{sound as selector-sound, complete as selector-complete}
 use Rattle.policies.proofs.TransformGrammar.{transforms-read, read-transforms}
 

@@ -1,28 +1,25 @@
 -- Going through policies whose layout is whole: the first one, and the others.
-use Prim.Native.Nat.{ℕ, zero, suc, _+_, _-_, _<_, _≤_}
-use mathlib.Core.Path.{_≡_, refl, ap, sym, _∙_, subst}
+use Prim.Native.Nat.{ℕ, _+_, _-_, _<_}
+use mathlib.Core.Path.{_≡_, ap, sym, _∙_, subst}
 use mathlib.Core.List.{List, [], _∷_}
-use mathlib.Core.Bool.{Bool, true, false}
-use native.Mathlib.Omega.{arith}
+use mathlib.Core.Bool.{Bool, true}
 use borrow.Author.Tests.{eq-eqb, ne-eqb}
-use lib.Dec.{eqb}
 use lib.ListN.{length, drop}
 use Rattle.octets.specs.Numbers.{oct}
-use Rattle.octets.specs.Walk.{be16, part, either, Reading, whole, mapped}
-use Rattle.octets.proofs.Inverse.{Mapped, inverse-mapped}
-use Rattle.octets.proofs.Grammar.{FirstRest, first-rest}
-use Rattle.attributes.specs.Attribute.{Attribute}
+use Rattle.octets.specs.Walk.{be16, part, either, whole, mapped}
+use Rattle.octets.proofs.Inverse.{inverse-mapped}
+use Rattle.octets.proofs.Grammar.{first-rest}
 use Rattle.attributes.specs.Place.{inPolicy}
 use Rattle.attributes.specs.Layout.{attributes}
-use Rattle.attributes.specs.inner.Whole.{isWhole, itemsOf, attributesIn}
+use Rattle.attributes.specs.inner.Whole.{isWhole, attributesIn}
 use Rattle.attributes.specs.declared.tables.Place.the-variants as place
 use Rattle.attributes.proofs.JudgingLaws.{whole-is, is-whole, any-offset}
 use Rattle.policies.specs.Policy.{headSize, headFits, Policy, SaBody, saBody, groupSaOf, groupWideOf, policyHolds, policy, policies}
 use Rattle.policies.specs.Grammar.{IsSaBody, IsPolicy}
-use Rattle.policies.specs.inner.Whole.{Heads, policiesIn, WideFirst, SaFirst, PolicyIs}
+use Rattle.policies.specs.inner.Whole.{Heads, policiesIn, PolicyIs}
 use Rattle.policies.specs.declared.judging.Parts.{Parts}
 use Rattle.policies.proofs.PolicyLaws.{takes}
-use Rattle.policies.proofs.PolicyGrammar.{Read, inverse, sound, complete}
+use Rattle.policies.proofs.PolicyGrammar.{inverse, sound, complete}
 use Rattle.policies.proofs.BodyGrammar.{body-to}
 
 record Head (s : List ℕ) : Type 0 where

@@ -9,13 +9,11 @@ use lib.Dec.{leb, ltb, eqb}
 use lib.ListN.{length, drop, length-drop}
 use lib.Seq.{take-all, drop-length}
 use Rattle.octets.specs.Numbers.{oct}
-use Rattle.octets.specs.Walk.{be16, part, either, both, sized, Reading, whole, Reader, mapped, opened, closed, within, after}
-use Rattle.octets.specs.Walk.{andThen}
+use Rattle.octets.specs.Walk.{be16, part, either, both, sized, whole, mapped, opened, closed, within, after}
 use Rattle.octets.proofs.Walks.{both-true}
 use Rattle.octets.proofs.Local.{extended, oct-append, be16-append, part-append, size-append, opened-extend, within-extend, Local}
-use Rattle.octets.proofs.Inverse.{inverse-mapped, inverse-opened, inverse-within, inverse-then}
+use Rattle.octets.proofs.Inverse.{inverse-mapped, inverse-opened, inverse-within}
 use Rattle.octets.proofs.Grammar.{Cuts, row-read, read-row, sound-of, complete-of}
-use Rattle.attributes.specs.Attribute.{Attribute}
 use Rattle.attributes.specs.Place.{inPolicy}
 use Rattle.attributes.specs.Tree.{initialMessageIds, deactivationDelays}
 use Rattle.attributes.specs.Layout.{attributes}
@@ -23,15 +21,13 @@ use Rattle.attributes.specs.Grammar.{Attributes}
 use Rattle.attributes.specs.declared.tables.Place.{Place}
 use Rattle.attributes.specs.declared.tables.Place.the-variants as place
 use Rattle.attributes.proofs.GrammarLaws.{are-read, read-are}
-use Rattle.policies.specs.Selector.{Selector, selector}
-use Rattle.policies.specs.Transform.{Transform, transforms}
+use Rattle.policies.specs.Transform.{transforms}
 use Rattle.policies.specs.Policy.{spiSize, firstKnown, spiSized, headSize, headFits, spiOf, GroupWidePolicy, Policy}
 use Rattle.policies.specs.Policy.{groupSa, groupWide}
-use Rattle.policies.specs.Policy.{Suite, suite, SaBody, saBody, groupSaOf, groupWideOf, policyHolds, policy, policies}
+use Rattle.policies.specs.Policy.{suite, SaBody, saBody, groupSaOf, groupWideOf, policyHolds, policy, policies}
 use Rattle.policies.specs.Grammar.{IsSaBody, IsPolicy, is-sa, is-wide, Policies}
 use Rattle.policies.proofs.HeadLaws.{head-is}
 use Rattle.policies.proofs.SelectorGrammar.{sound as selector-sound, complete as selector-complete}
-use Rattle.policies.proofs.TransformGrammar.{transforms-read, read-transforms}
 use Rattle.policies.proofs.PolicyLaws.{takes}
 use Rattle.policies.proofs.BodyGrammar.{body-to, body-from}
 

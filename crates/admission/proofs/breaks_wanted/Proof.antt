@@ -1,6 +1,6 @@
-use mathlib.Core.Path.{_≡_, sym, ap, _∙_}
-use mathlib.Core.Bool.{Bool, true, false, not}
-use Rattle.admission.proofs.Laws.{wants-empty, wants-any}
+use mathlib.Core.Path.{sym, ap, _∙_}
+use mathlib.Core.Bool.{true, false, not}
+use Rattle.admission.proofs.Laws.{wants-empty}
 use borrow.Author.Needs.{needs}
 use Rattle.admission.proofs.breaks_wanted.Statement.{statement}
 use Rattle.admission.proofs.breaks_wanted.Tie as tie

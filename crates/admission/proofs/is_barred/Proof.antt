@@ -1,5 +1,5 @@
-use mathlib.Core.Path.{_≡_, sym, ap, _∙_}
-use mathlib.Core.Bool.{Bool, true, false, not}
+use mathlib.Core.Path.{sym, ap, _∙_}
+use mathlib.Core.Bool.{true, false, not}
 use Rattle.keys.specs.Limits.{limits}
 use Rattle.admission.proofs.Laws.{barred-exchange, barred-member, barred-spis, barred-not}
 use borrow.Author.Needs.{needs}

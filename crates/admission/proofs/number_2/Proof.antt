@@ -1,4 +1,4 @@
-use mathlib.Core.Path.{_≡_, sym, ap, _∙_}
+use mathlib.Core.Path.{sym, ap, _∙_}
 use Rattle.keys.specs.Limits.{limits}
 use Rattle.frames.specs.declared.exchanges.Exchange.{Exchange}
 use Rattle.admission.specs.inner.Steps.{barred}

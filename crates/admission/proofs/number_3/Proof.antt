@@ -1,5 +1,5 @@
-use mathlib.Core.Path.{_≡_, sym, ap, _∙_}
-use mathlib.Core.Bool.{Bool, true, false, not}
+use mathlib.Core.Path.{sym, ap, _∙_}
+use mathlib.Core.Bool.{true, false, not}
 use Rattle.frames.specs.declared.exchanges.Exchange.{Exchange}
 use Rattle.admission.proofs.Laws.{three-judged, three-not}
 use borrow.Author.Needs.{needs}
