@@ -1,1 +1,4 @@
-
+pub mod Theory
+pub mod Opening
+pub mod Loops
+pub mod Searching

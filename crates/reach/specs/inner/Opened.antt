@@ -3,13 +3,16 @@ use Prim.Native.Nat.{ℕ}
 use mathlib.Core.Path.{_≡_}
 use mathlib.Core.Bool.{Bool, true, false}
 use mathlib.Core.List.{List, []}
+use lib.Dec.{eqb}
 use lib.ListN.{length, take}
+use Rattle.octets.specs.Walk.{both}
 use Rattle.keywrap.specs.Opens.{Opens}
 use Rattle.attributes.specs.Tree.{WrapKey}
 use Rattle.keys.specs.Kinds.{wrappingOf}
 use Rattle.keys.specs.declared.kinds.WrappingKey.{WrappingKey}
 use Rattle.reach.specs.declared.open.Status.{Status}
 use Rattle.reach.specs.declared.open.Status.the-variants.{Waiting, Failed, Wrong, Pending, Done}
+use Rattle.reach.specs.declared.open.Entry.{Entry}
 use Rattle.reach.specs.declared.open.Cell.{Cell}
 
 abbrev pub noCell : Cell
@@ -21,6 +24,17 @@ waiting Failed = false
 waiting Wrong = false
 waiting Pending = false
 waiting Done = false
+
+abbrev pub pending : Status → Bool
+pending Waiting = false
+pending Failed = false
+pending Wrong = false
+pending Pending = true
+pending Done = false
+
+-- entry e waits for key k
+abbrev pub naming : ℕ → Entry → Cell → Bool
+naming k e c = both (eqb (e .kwk) k) (waiting (c .status))
 
 -- the octets of a key
 abbrev pub valueOf : WrappingKey → List ℕ
