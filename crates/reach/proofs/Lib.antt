@@ -2,3 +2,5 @@ pub mod Theory
 pub mod Opening
 pub mod Loops
 pub mod Searching
+pub mod Clashing
+pub mod Eight

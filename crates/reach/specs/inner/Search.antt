@@ -43,6 +43,10 @@ abbrev pub Finds : List Cell → ℕ → Found → Type 0
 Finds cells n (At j) = FoundAt cells n j
 Finds cells n Nothing = NonePending cells n
 
+-- number 6 refuses a WRAP_KEY with Key ID 0: no entry has it
+abbrev pub Nonzero : List WrapKey → Type 0
+Nonzero entries = (i : ℕ) → i < length entries → keyAt entries i .keyId ≡ 0 → ⊥
+
 -- the one root of a registration
 abbrev pub keyZero : List ℕ → List Root
 keyZero v = record { id = 0; value = v } ∷ []
@@ -80,6 +84,6 @@ module _ (roots : List Root) (entries : List WrapKey) (size : ℕ) where
   pub record Searched (cells : List Cell) : Type 0 where
     pub gives : (i : ℕ) → i < length entries → cellAt cells i .status ≡ Done → Gives (keyAt entries i) (cellAt cells i .key)
     pub misfits : (i : ℕ) → i < length entries → cellAt cells i .status ≡ Wrong → Misfits (keyAt entries i)
-    pub complete : ((i : ℕ) → i < length entries → keyAt entries i .keyId ≡ 0 → ⊥) →
+    pub complete : Nonzero entries →
         ((i : ℕ) → i < length entries → cellAt cells i .status ≡ Wrong → ⊥) → OneEach cells → (k : ℕ) (x : List ℕ) →
         Reached roots entries size k x → Found-in cells k x
