@@ -61,7 +61,8 @@ module _ (roots : List Root) (entries : List WrapKey) (size : ℕ) where
     pub id-is : key .id ≡ k
     pub value-is : key .value ≡ v
 
-  pub ends-by : (passed : List WrapKey) (k : ℕ) (v : List ℕ) → Chain roots entries size passed k v → AtRoot k v ⊎ Reached roots entries size k v
+  pub ends-by : (passed : List WrapKey) (k : ℕ) (v : List ℕ) → Chain roots entries size passed k v →
+      AtRoot k v ⊎ Reached roots entries size k v
   ends-by _ _ _ (root r m) = inl (record { key = r; stands = m; id-is = refl; value-is = refl })
   ends-by _ _ _ (step {passed = p} e c t l) = inr (record { last = e; before = p; chain = step e c t l })
 
@@ -81,7 +82,8 @@ module _ (roots : List Root) (entries : List WrapKey) (size : ℕ) where
 
   module _ (distinct : Distinct) (apart : Apart) (one : OneValue) where
     by-ends : (k : ℕ) (v w : List ℕ) → AtRoot k v ⊎ Reached roots entries size k v → AtRoot k w ⊎ Reached roots entries size k w → v ≡ w
-    by-ends k v w (inl p) (inl q) = sym (p .value-is) ∙ distinct (p .key) (q .key) (p .stands) (q .stands) (p .id-is ∙ sym (q .id-is)) ∙ q .value-is
+    by-ends k v w (inl p) (inl q) =
+        sym (p .value-is) ∙ distinct (p .key) (q .key) (p .stands) (q .stands) (p .id-is ∙ sym (q .id-is)) ∙ q .value-is
     by-ends k v w (inl p) (inr q) =
         let l = last-entry k w q in absurd (apart (p .key) (q .last) (p .stands) (l .0) (l .1 ∙ sym (p .id-is)))
     by-ends k v w (inr p) (inl q) =

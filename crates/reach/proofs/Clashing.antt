@@ -16,7 +16,7 @@ use Rattle.reach.specs.Entries.{noEntry}
 use Rattle.reach.specs.inner.Opened.{noCell}
 use Rattle.reach.specs.inner.Search.{cellAt}
 use Rattle.reach.specs.inner.Values.{Tells, Some, Clash, ClashAmong, AnyClash, AnyWrong, isDone, isWrong}
-use Rattle.reach.proofs.Theory.{getD-any}
+use Rattle.reach.proofs.Statuses.{getD-any}
 
 -- what an answer tells
 pub told-yes : (b : Bool) (P : Type 0) → b ≡ true → Tells b P → P

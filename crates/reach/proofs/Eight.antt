@@ -87,6 +87,7 @@ module _ (frame : List ℕ) (places : List Entry) (n : ℕ) (cells : List Cell) 
     eight-none nonzero (two-values k x y p q ne) = ne (one-each k x y (found nonzero k x p) (found nonzero k y q))
 
   -- the two tests together
-  pub eight-tells : (b : Bool) → (AnyWrong cells n → ⊥) → Tells b (AnyClash places cells n) → Nonzero l → Tells b (EntriesEight roots l size)
+  pub eight-tells : (b : Bool) → (AnyWrong cells n → ⊥) → Tells b (AnyClash places cells n) → Nonzero l →
+      Tells b (EntriesEight roots l size)
   eight-tells true no-wrong t nonzero = eight-clash t
   eight-tells false no-wrong t nonzero = eight-none no-wrong t nonzero

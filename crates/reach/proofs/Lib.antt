@@ -1,3 +1,4 @@
+pub mod Statuses
 pub mod Theory
 pub mod Opening
 pub mod Loops

@@ -16,7 +16,7 @@ use Rattle.reach.specs.declared.open.Cell.{Cell}
 use Rattle.reach.specs.Entries.{noEntry, noKey, IsEntry, Lists}
 use Rattle.reach.specs.inner.Opened.{noCell, pending, naming, Tried, stays}
 use Rattle.reach.specs.inner.Search.{keyAt, cellAt, AllTried, Unnamed, FoundAt, NonePending}
-use Rattle.reach.proofs.Theory.{getD-any, eq-cases}
+use Rattle.reach.proofs.Statuses.{getD-any}
 use Rattle.reach.proofs.Opening.{named-not}
 
 pends-is : (s : Status) → true ≡ pending s → s ≡ Pending
@@ -74,7 +74,8 @@ module _ (k : ℕ) (v : List ℕ) (size : ℕ) (entries : List WrapKey) (cells :
             getD-set-other out i j r noCell (λ e. let z : i + 1 ≤ j = g in omega arith) ∙ p .above j (let z : i + 1 ≤ j = g in omega arith);
       }
 
-  pub partly-all : (out : List Cell) (i : ℕ) → length entries ≤ i → Partly k v size entries cells out i → AllTried k v size entries cells out
+  pub partly-all : (out : List Cell) (i : ℕ) → length entries ≤ i → Partly k v size entries cells out i →
+      AllTried k v size entries cells out
   partly-all out i h p j g = p .below j (omega arith)
 
   -- where no entry that waits names the key, the cells stay

@@ -29,7 +29,8 @@ module _ (v w octets : List ℕ) (size : ℕ) where
   pub landed-none : Key v → OpensBlank v w No octets → NotOpened v w
   unfolding blank
   landed-none is h x o =
-      h .none x (record { key-size = is .size; opens = o; holds = subst (λ (m : ℕ). length x ≤ m) (sym (length-replicate {A = ℕ} 256 0)) (o .most) })
+      let room : length x ≤ length blank = subst (λ (m : ℕ). length x ≤ m) (sym (length-replicate {A = ℕ} 256 0)) (o .most) in
+      h .none x (record { key-size = is .size; opens = o; holds = room })
 
   pub landed-wrong : (m : ℕ) → OpensBlank v w (Count m) octets → (m ≡ size → ⊥) → Oversized v size w
   landed-wrong m h ne = record { x = h .x; opens = h .result .opens; misfit = λ e. ne (sym (h .count) ∙ e) }
@@ -41,8 +42,9 @@ module _ (v w octets : List ℕ) (size : ℕ) where
       let x = h .x in
       let t : take m octets ≡ x = ap (take m) (h .room-is) ∙ take-at x (drop (length x) blank) m (h .count) in
       let f : sizeOf 13 (length x) ≡ true = ap (sizeOf 13) (h .count ∙ e) ∙ fit in
+      let yes : MadeWrapping = record { fits = true; key = wrappingOf x } in
       let k : wrappingKey x .key ≡ wrappingOf x =
-      ap (λ (b : Bool). cond {A = MadeWrapping} b (record { fits = true; key = wrappingOf x }) (record { fits = false; key = wrappingOf [] }) .key) f in
+      ap (λ (b : Bool). cond {A = MadeWrapping} b yes (record { fits = false; key = wrappingOf [] }) .key) f in
       let is : made .key ≡ wrappingOf x = ap (λ (a : MadeWrapping). a .key) (q ∙ ap wrappingKey t) ∙ k in
       let value : valueOf (made .key) ≡ x = ap valueOf is ∙ take-append-seam x (replicate (32 - length x) 0) in
       record {
@@ -64,7 +66,10 @@ named-is : (k : ℕ) (e : Entry) (c : Cell) → true ≡ naming k e c → (e .kw
 named-is k e c h =
     bool-cases (eqb (e .kwk) k)
     (λ b. (eqb-true (e .kwk) k b, waits-is (c .status) (h ∙ ap (λ (t : Bool). both t (waiting (c .status))) b)))
-    (λ b. let f : true ≡ false = h ∙ ap (λ (t : Bool). both t (waiting (c .status))) b in let z : _≡_ {A = ℕ} 0 1 = cc in absurd (omega arith))
+    (λ b.
+    let f : true ≡ false = h ∙ ap (λ (t : Bool). both t (waiting (c .status))) b in
+    let z : _≡_ {A = ℕ} 0 1 = cc in
+    absurd (omega arith))
 
 pub named-not : (k : ℕ) (e : Entry) (c : Cell) → false ≡ naming k e c → e .kwk ≡ k → c .status ≡ Waiting → ⊥
 named-not k e c h q w =

@@ -21,8 +21,10 @@ use Rattle.reach.specs.declared.open.Entry.{Entry}
 use Rattle.reach.specs.declared.open.Cell.{Cell}
 use Rattle.reach.specs.Entries.{noKey, noEntry, Lists}
 use Rattle.reach.specs.inner.Opened.{noCell, valueOf, Oversized, Tried}
-use Rattle.reach.specs.inner.Search.{keyAt, cellAt, AllTried, FoundAt, NonePending, keyZero, Gives, Misfits, Found-in, OneEach, Searched}
-use Rattle.reach.proofs.Theory.{Holds, GoodBy, Inv, K, Live, Root-is, Stands, begun, turn, chain-known, known-live, in-at, holds-done, holds-good, getD-any, eq-cases, tried-stays}
+use Rattle.reach.specs.inner.Search.{keyAt, cellAt, AllTried, FoundAt, NonePending, keyZero}
+use Rattle.reach.specs.inner.Search.{Misfits, Found-in, OneEach, Searched}
+use Rattle.reach.proofs.Statuses.{Holds, GoodBy, holds-done, holds-good, getD-any, eq-cases, tried-stays}
+use Rattle.reach.proofs.Theory.{Inv, K, Root-is, Stands, begun, turn, chain-known, known-live, in-at}
 
 -- a size of the algorithm table is one of a key
 pub is-key-size : (n : ℕ) → sizeOf 13 n ≡ true → T (isKey n)
@@ -85,13 +87,15 @@ undone-mark (suc n) C M j h p q f =
 abbrev pub marked : List Cell → ℕ → WrappingKey → List Cell
 marked cells j key = set cells j (record { status = Done; key = key })
 
-pub fell : (l : List WrapKey) (k : ℕ) (v : List ℕ) (size : ℕ) (cells after : List Cell) (j : ℕ) (key : WrappingKey) → FoundAt cells (length l) j →
-    length l ≤ length cells → AllTried k v size l (marked cells j key) after → undone (length l) (cellAt after) < undone (length l) (cellAt cells)
+pub fell : (l : List WrapKey) (k : ℕ) (v : List ℕ) (size : ℕ) (cells after : List Cell) (j : ℕ) (key : WrappingKey) →
+    FoundAt cells (length l) j → length l ≤ length cells → AllTried k v size l (marked cells j key) after →
+    undone (length l) (cellAt after) < undone (length l) (cellAt cells)
 fell l k v size cells after j key at h t =
     let d : Cell = record { status = Done; key = key } in
     let g : j < length cells = let z = at .inside in omega arith in
     let here : cellAt (marked cells j key) j ≡ d = getD-set-same cells j d noCell g in
-    let a = undone-mark (length l) (cellAt cells) (cellAt (marked cells j key)) j (at .inside) (at .pends) (ap (λ (c : Cell). c .status) here)
+    let a = undone-mark (length l) (cellAt cells) (cellAt (marked cells j key)) j (at .inside) (at .pends)
+    (ap (λ (c : Cell). c .status) here)
     (λ i ne. getD-set-other cells j i d noCell ne) in
     let b = undone-le (length l) (cellAt (marked cells j key)) (cellAt after)
     (λ i q e. ap (λ (c : Cell). c .status)
@@ -133,7 +137,8 @@ module _ (v : List ℕ) (is : Key v) (l : List WrapKey) (size : ℕ) (fit : T (i
   pub pending-count : (cells : List Cell) (j : ℕ) → Kept cells → FoundAt cells (length l) j → cellAt cells j .key .count ≡ size
   pending-count cells j inv at =
       let c = cellAt cells j in
-      let g = holds-good size (K (keyZero v) l size fit root-keys (cellAt cells)) (keyAt l j) (c .status) (c .key) (subst Holds (sym (at .pends)) tt)
+      let g = holds-good size (K (keyZero v) l size fit root-keys (cellAt cells)) (keyAt l j) (c .status) (c .key)
+      (subst Holds (sym (at .pends)) tt)
       (inv .good j (at .inside)) in
       ap (λ (k : WrappingKey). k .count) (g .2 .is) ∙ g .2 .fits
 
@@ -222,5 +227,6 @@ module _ (v : List ℕ) (is : Key v) (l : List WrapKey) (size : ℕ) (fit : T (i
           misfits = λ i h w. wrong-at i h (subst (λ (s : Status). GoodBy size Known (keyAt l i) s (cellAt cells i .key)) w (inv .good i h));
           complete = λ nonzero fits one k x r.
               known-found nonzero one k x r
-              (chain-known (keyZero v) l size fit root-keys (cellAt cells) inv last fits (known-one nonzero one) (r .last ∷ r .before) k x (r .chain));
+              (chain-known (keyZero v) l size fit root-keys (cellAt cells) inv last fits (known-one nonzero one) (r .last ∷ r .before) k x
+              (r .chain));
         }

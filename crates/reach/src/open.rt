@@ -134,7 +134,8 @@ pub(crate) fn tried_on(
     requires { ⌜ ExpandedInverse (schedule .octets) ⌝ }
     requires { ⌜ sizeOf 13 size ≡ true ⌝ }
     requires { ⌜ (e .start ≤ e .end) × (e .end ≤ length (now frame)) ⌝ }
-    ensures { λ r. ⌜ ((w : WrapKey) (v : List ℕ) → IsEntry (now (frame .entry)) e w → ExpandsInverse v (schedule .octets) → Tried id v size w c r) ⌝ }
+    ensures { λ r. ⌜ ((w : WrapKey) (v : List ℕ) → IsEntry (now (frame .entry)) e w → ExpandsInverse v (schedule .octets) →
+        Tried id v size w c r) ⌝ }
 {
     if names(id, e, c) {
         let a = e.start;

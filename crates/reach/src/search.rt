@@ -59,7 +59,8 @@ fn tried(
     requires { ⌜ ExpandedInverse (schedule .octets) ⌝ }
     requires { ⌜ sizeOf 13 size ≡ true ⌝ }
     requires { ⌜ ((l : List WrapKey) × Lists (now frame) entries n l) ⌝ }
-    ensures { λ r. ⌜ ((l : List WrapKey) (v : List ℕ) → Lists (now (frame .entry)) entries n l → ExpandsInverse v (schedule .octets) → AllTried id v size l cells r) ⌝ }
+    ensures { λ r. ⌜ ((l : List WrapKey) (v : List ℕ) → Lists (now (frame .entry)) entries n l →
+        ExpandsInverse v (schedule .octets) → AllTried id v size l cells r) ⌝ }
 {
     let mut out = cells;
     let mut i: usize = 0;

@@ -8,7 +8,9 @@ waits-requires : tie.Need-waits-requires
 waits-requires c κs = search needs
 
 returns : tie.Need-returns
-returns c = let a = c .before .before .before .args in naming-here (a .id) (a .e) (a .c) (c .waits .result) (c .before .if1 .taken) (c .waits .ensures)
+returns c =
+    let a = c .before .before .before .args in
+    naming-here (a .id) (a .e) (a .c) (c .waits .result) (c .before .if1 .taken) (c .waits .ensures)
 
 returns-2 : tie.Need-returns-2
 returns-2 c = let a = c .before .before .args in naming-other (a .id) (a .e) (a .c) (c .if1 .left)

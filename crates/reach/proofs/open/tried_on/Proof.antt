@@ -23,7 +23,8 @@ landed-requires c κs = search needs
 returns : tie.Need-returns
 returns c w v is x =
     let a = c .before .before .before .before .before .args in
-    tried-opened (a .frame .now) (a .e) w is (a .id) v (a .size) (a .c) (sym (c .before .before .if1 .taken) ∙ c .before .before .before .names .ensures)
+    tried-opened (a .frame .now) (a .e) w is (a .id) v (a .size) (a .c)
+    (sym (c .before .before .if1 .taken) ∙ c .before .before .before .names .ensures)
     (c .landed .result) (c .landed .ensures v x)
 
 returns-2 : tie.Need-returns-2

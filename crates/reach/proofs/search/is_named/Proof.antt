@@ -54,7 +54,8 @@ loop-again c =
       l .inv .1,
       l .inv .2,
       omega arith,
-      named-next (a .t3) (l .i) _ (omega arith) (a .t2) _ (omega arith) (a .id) (l .inv .4) (sym (c .if1 .left) ∙ c .before .names .ensures),
+      named-next (a .t3) (l .i) _ (omega arith) (a .t2) _ (omega arith) (a .id) (l .inv .4)
+          (sym (c .if1 .left) ∙ c .before .names .ensures),
     )
 
 returns-2 : tie.Need-returns-2 Inv-loop μ-loop

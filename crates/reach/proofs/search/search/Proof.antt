@@ -37,8 +37,13 @@ loop-holds : tie.Need-loop-holds Inv-loop μ-loop
 loop-holds c =
     let s = c .before .before .before in
     let e : length (s .args .t3) ≡ 32 = search needs in
-    let r : length (c .with-key .result) ≡ 32 = search needs in
-    (s .pre .0, e, r, λ v is l fit h t. started v is l (s .args .lent .count) fit (c .with-key .result) (omega (arith, h .count, s .pre .0)) t)
+    let r : length (c .with-key .result) ≡ 32 = search needs in (
+      s .pre .0,
+      e,
+      r,
+      λ v is l fit h t. started v is l (s .args .lent .count) fit (c .with-key .result)
+          (omega (arith, h .count, s .pre .0)) t,
+    )
 
 first-pending-requires : tie.Need-first-pending-requires Inv-loop μ-loop
 first-pending-requires c κs = search needs
@@ -93,7 +98,8 @@ mul-cells c =
     let a = s .args in
     let j = c .before .before .before .before .j .given .0 .0 in
     let p : FoundAt (u .loop .cells) (a .n) j =
-    subst (Finds (u .loop .cells) (a .n)) (c .before .before .before .before .j .given .1) (c .before .before .before .before .before .before .first-pending .ensures) in
+    subst (Finds (u .loop .cells) (a .n)) (c .before .before .before .before .j .given .1)
+    (c .before .before .before .before .before .before .first-pending .ensures) in
     omega (arith, p .inside)
 
 array-set-from-cells : tie.Need-array-set-from-cells Inv-loop μ-loop
@@ -103,7 +109,8 @@ array-set-from-cells c =
     let a = s .args in
     let j = c .before .before .before .before .j .given .0 .0 in
     let p : FoundAt (u .loop .cells) (a .n) j =
-    subst (Finds (u .loop .cells) (a .n)) (c .before .before .before .before .j .given .1) (c .before .before .before .before .before .before .first-pending .ensures) in
+    subst (Finds (u .loop .cells) (a .n)) (c .before .before .before .before .j .given .1)
+    (c .before .before .before .before .before .before .first-pending .ensures) in
     omega (arith, p .inside)
 
 with-key-requires-2 : tie.Need-with-key-requires-2 Inv-loop μ-loop
@@ -113,7 +120,8 @@ with-key-requires-2 c κs =
     let a = s .args in
     let j = c .before .before .before .before .j .given .0 .0 in
     let p : FoundAt (u .loop .cells) (a .n) j =
-    subst (Finds (u .loop .cells) (a .n)) (c .before .before .before .before .j .given .1) (c .before .before .before .before .before .before .first-pending .ensures) in
+    subst (Finds (u .loop .cells) (a .n)) (c .before .before .before .before .j .given .1)
+    (c .before .before .before .before .before .before .first-pending .ensures) in
     let l = s .pre .1 .1 .1 in
     let t = subst (λ (b : Cell). AllTried 0 (valueOf (a .lent)) (a .lent .count) (l .0) (replicate 32 b) (u .before .with-key .result))
     (u .before .before .blank .ensures) (u .before .with-key .ensures (l .0) (l .1)) in
@@ -121,7 +129,8 @@ with-key-requires-2 c κs =
     let kept = u .loop .inv .3 (valueOf (a .lent)) (s .pre .1 .1 .0) (l .0) fit (l .1) t in (
       s .pre .0,
       (
-        count-at (valueOf (a .lent)) (s .pre .1 .1 .0) (l .0) (a .lent .count) fit (a .frame .now) (a .t3) (a .n) (u .loop .cells) j (l .1) kept p
+        count-at (valueOf (a .lent)) (s .pre .1 .1 .0) (l .0) (a .lent .count) fit (a .frame .now) (a .t3) (a .n)
+            (u .loop .cells) j (l .1) kept p
             (u .loop .inv .2) _ (s .pre .1 .0),
         (s .pre .1 .0, l),
       ),
@@ -134,7 +143,8 @@ loop-less c =
     let a = s .args in
     let j = c .before .before .before .before .before .j .given .0 .0 in
     let p : FoundAt (u .loop .cells) (a .n) j =
-    subst (Finds (u .loop .cells) (a .n)) (c .before .before .before .before .before .j .given .1) (c .before .before .before .before .before .before .before .first-pending .ensures) in
+    subst (Finds (u .loop .cells) (a .n)) (c .before .before .before .before .before .j .given .1)
+    (c .before .before .before .before .before .before .before .first-pending .ensures) in
     let l = s .pre .1 .1 .1 in
     subst (λ (m : ℕ). undone m (cellAt (c .with-key2 .result)) < undone m (cellAt (u .loop .cells))) (l .1 .count)
     (fell (l .0) _ _ (a .lent .count) (u .loop .cells) (c .with-key2 .result) j _
@@ -148,7 +158,8 @@ loop-again c =
     let a = s .args in
     let j = c .before .before .before .before .before .j .given .0 .0 in
     let p : FoundAt (u .loop .cells) (a .n) j =
-    subst (Finds (u .loop .cells) (a .n)) (c .before .before .before .before .before .j .given .1) (c .before .before .before .before .before .before .before .first-pending .ensures) in
+    subst (Finds (u .loop .cells) (a .n)) (c .before .before .before .before .before .j .given .1)
+    (c .before .before .before .before .before .before .before .first-pending .ensures) in
     let r : length (c .with-key2 .result) ≡ 32 = search needs in (
       u .loop .inv .0,
       u .loop .inv .1,

@@ -70,7 +70,8 @@ loop-again c =
       omega arith,
       λ k v h x.
           partly-next (a .id) v (a .size) k (a .cells) (l .out) (l .i) _ (c .tried-on .result) (omega arith)
-          (c .tried-on .ensures _ v (entry-at (a .frame .now) (a .t5) (a .n) k h (l .i) _ (omega arith) (omega arith)) x) (l .inv .4 k v h x),
+          (c .tried-on .ensures _ v (entry-at (a .frame .now) (a .t5) (a .n) k h (l .i) _ (omega arith) (omega arith)) x)
+          (l .inv .4 k v h x),
     )
 
 returns : tie.Need-returns Inv-loop μ-loop

@@ -43,7 +43,8 @@ tried-requires : tie.Need-tried-requires
 tried-requires c κs =
     let s = c .before .before .before .before .before .before in
     let a = s .args in
-    (s .pre .0, (record { key = take (a .key .count) (a .key .octets); expands = c .expand-inverse .ensures }, (s .pre .1 .1 .0, s .pre .1 .1 .1)))
+    let k = take (a .key .count) (a .key .octets) in
+    (s .pre .0, (record { key = k; expands = c .expand-inverse .ensures }, (s .pre .1 .1 .0, s .pre .1 .1 .1)))
 
 returns : tie.Need-returns
 returns c l h =

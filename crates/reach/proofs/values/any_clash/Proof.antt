@@ -50,7 +50,8 @@ returns c =
     record {
       place = l .i;
       inside = omega arith;
-      holds = both-at (a .t2) (l .i) _ (omega arith) (λ (e : Entry) (d : Cell). ClashAmong e d (a .t1) (a .t2) (a .n)) (a .t1) _ (omega arith)
+      holds = both-at (a .t2) (l .i) _ (omega arith)
+          (λ (e : Entry) (d : Cell). ClashAmong e d (a .t1) (a .t2) (a .n)) (a .t1) _ (omega arith)
           (told-yes _ _ (c .if1 .taken) (c .before .clashes .ensures));
     }
 
@@ -70,7 +71,8 @@ loop-again c =
       omega arith,
       none-next (λ j. ClashAmong (getD (a .t1) j noEntry) (cellAt (a .t2) j) (a .t1) (a .t2) (a .n)) (l .i) (l .inv .4)
           (λ h. told-not _ _ (c .if1 .left) (c .before .clashes .ensures)
-          (both-back (a .t2) (l .i) _ (omega arith) (λ (e : Entry) (d : Cell). ClashAmong e d (a .t1) (a .t2) (a .n)) (a .t1) _ (omega arith) h)),
+          (both-back (a .t2) (l .i) _ (omega arith)
+          (λ (e : Entry) (d : Cell). ClashAmong e d (a .t1) (a .t2) (a .n)) (a .t1) _ (omega arith) h)),
     )
 
 returns-2 : tie.Need-returns-2 Inv-loop μ-loop

@@ -14,7 +14,8 @@ use Rattle.reach.proofs.values.clashes.Tie as tie
 
 abbrev Inv-loop : tie.InvT-loop
 Inv-loop e c n entries cells i₀ i =
-    (n ≤ 32) × (length entries ≡ 32) × (length cells ≡ 32) × (i ≤ n) × NoneBelow i (λ j. Clash e c (getD entries j noEntry) (cellAt cells j))
+    (n ≤ 32) × (length entries ≡ 32) × (length cells ≡ 32) × (i ≤ n) ×
+    NoneBelow i (λ j. Clash e c (getD entries j noEntry) (cellAt cells j))
 
 abbrev μ-loop : tie.MeasureT-loop
 μ-loop e c n entries cells i₀ i = n - i

@@ -45,8 +45,12 @@ loop-less c = search needs
 loop-again : tie.Need-loop-again Inv-loop μ-loop
 loop-again c =
     let l = c .before .before .loop in
-    let a = c .before .before .before .before .before .before .before .before .args in
-    (l .inv .0, l .inv .1, omega arith, below-more (λ j. getD (a .a .octets) j 0 ≡ getD (a .b .octets) j 0) (l .i) (l .inv .3) (c .if2 .left))
+    let a = c .before .before .before .before .before .before .before .before .args in (
+      l .inv .0,
+      l .inv .1,
+      omega arith,
+      below-more (λ j. getD (a .a .octets) j 0 ≡ getD (a .b .octets) j 0) (l .i) (l .inv .3) (c .if2 .left),
+    )
 
 returns-3 : tie.Need-returns-3 Inv-loop μ-loop
 returns-3 c =
