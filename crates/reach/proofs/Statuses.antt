@@ -37,7 +37,8 @@ GoodBy size K e Done key = (v : List ℕ) × K (e .kwkId) v × Opened v size (e 
 abbrev pub Good : ℕ → (ℕ → List ℕ → Type 0) → WrapKey → Cell → Type 0
 Good size K e c = GoodBy size K e (c .status) (c .key)
 
-pub good-mono : (size : ℕ) (K L : ℕ → List ℕ → Type 0) → ((k : ℕ) (v : List ℕ) → K k v → L k v) → (e : WrapKey) (s : Status) (x : WrappingKey) →
+pub good-mono : (size : ℕ) (K L : ℕ → List ℕ → Type 0) → ((k : ℕ) (v : List ℕ) → K k v → L k v) →
+    (e : WrapKey) (s : Status) (x : WrappingKey) →
     GoodBy size K e s x → GoodBy size L e s x
 good-mono size K L f e Waiting x g = g
 good-mono size K L f e Failed x g = (g .0, f _ _ (g .1), g .2)
