@@ -1,0 +1,7 @@
+pub mod Statuses
+pub mod Theory
+pub mod Opening
+pub mod Loops
+pub mod Searching
+pub mod Clashing
+pub mod Eight

@@ -1,0 +1,142 @@
+// Whether the cells of a search show number 8: an entry that opened to a wrong size, or two that give one key two values.
+use crate::open::Cell;
+use crate::open::Entry;
+use crate::open::Status;
+use keys::kinds::WrappingKey;
+ghost use mathlib.Core.Path.{_≡_};
+ghost use mathlib.Core.Bool.{true, false};
+ghost use mathlib.Core.List.{List};
+ghost use Prim.Native.Nat.{ℕ, _≤_};
+ghost use Rattle.attributes.specs.Tree.{WrapKey};
+ghost use Rattle.chains.specs.Chain.{Root};
+ghost use Rattle.chains.specs.Refusals.{EntriesEight};
+ghost use Rattle.reach.specs.Entries.{Lists};
+ghost use Rattle.reach.specs.inner.Search.{Searched, Nonzero};
+ghost use Rattle.reach.specs.inner.Values.{Tells, Clash, ClashAmong, AnyClash, AnyWrong, isDone, isWrong};
+
+fn is_done(c: Cell) -> bool
+    ensures { λ r. ⌜ r ≡ isDone (c .status) ⌝ }
+{
+    let s = c.status;
+    match s {
+        Status::Waiting => false,
+        Status::Failed => false,
+        Status::Wrong => false,
+        Status::Pending => false,
+        Status::Done => true,
+    }
+}
+
+fn is_wrong(c: Cell) -> bool
+    ensures { λ r. ⌜ r ≡ isWrong (c .status) ⌝ }
+{
+    let s = c.status;
+    match s {
+        Status::Waiting => false,
+        Status::Failed => false,
+        Status::Wrong => true,
+        Status::Pending => false,
+        Status::Done => false,
+    }
+}
+
+// Whether two keys are the same, with the octets past their counts.
+fn same_key(a: WrappingKey, b: WrappingKey) -> bool
+    ensures { λ r. ⌜ Tells r (a ≡ b) ⌝ }
+{
+    if a.count != b.count {
+        return false;
+    }
+    let x = a.octets;
+    let y = b.octets;
+    let mut i: usize = 0;
+    while i < 32 {
+        if x[i] != y[i] {
+            return false;
+        }
+        i += 1;
+    }
+    true
+}
+
+// Whether two entries give one key two values.
+fn clash(e: Entry, c: Cell, f: Entry, d: Cell) -> bool
+    ensures { λ r. ⌜ Tells r (Clash e c f d) ⌝ }
+{
+    if e.id != f.id {
+        return false;
+    }
+    if is_done(c) {
+        if is_done(d) {
+            let a = c.key;
+            let b = d.key;
+            if same_key(a, b) {
+                return false;
+            }
+            return true;
+        }
+    }
+    false
+}
+
+// Whether an entry and one of the first n do.
+fn clashes(e: Entry, c: Cell, entries: [Entry; 32], cells: [Cell; 32], n: usize) -> bool
+    requires { ⌜ n ≤ 32 ⌝ }
+    ensures { λ r. ⌜ Tells r (ClashAmong e c entries cells n) ⌝ }
+{
+    let mut i: usize = 0;
+    while i < n {
+        let f = entries[i];
+        let d = cells[i];
+        if clash(e, c, f, d) {
+            return true;
+        }
+        i += 1;
+    }
+    false
+}
+
+// Whether any two of the first n do. Internal.
+pub fn any_clash(entries: [Entry; 32], cells: [Cell; 32], n: usize) -> bool
+    requires { ⌜ n ≤ 32 ⌝ }
+    ensures { λ r. ⌜ Tells r (AnyClash entries cells n) ⌝ }
+{
+    let mut i: usize = 0;
+    while i < n {
+        let e = entries[i];
+        let c = cells[i];
+        if clashes(e, c, entries, cells, n) {
+            return true;
+        }
+        i += 1;
+    }
+    false
+}
+
+// Whether one of the first n opened to a wrong size. Internal.
+pub fn any_wrong(cells: [Cell; 32], n: usize) -> bool
+    requires { ⌜ n ≤ 32 ⌝ }
+    ensures { λ r. ⌜ Tells r (AnyWrong cells n) ⌝ }
+{
+    let mut i: usize = 0;
+    while i < n {
+        let c = cells[i];
+        if is_wrong(c) {
+            return true;
+        }
+        i += 1;
+    }
+    false
+}
+
+// Whether number 8 holds of the entries that these places and the cells of their search stand for. Internal.
+pub fn entries_eight(entries: [Entry; 32], cells: [Cell; 32], n: usize) -> bool
+    requires { ⌜ n ≤ 32 ⌝ }
+    ensures { λ r. ⌜ ((frame : List ℕ) (roots : List Root) (l : List WrapKey) (size : ℕ) → Lists frame entries n l →
+        Searched roots l size cells → Nonzero l → Tells r (EntriesEight roots l size)) ⌝ }
+{
+    if any_wrong(cells, n) {
+        return true;
+    }
+    any_clash(entries, cells, n)
+}
