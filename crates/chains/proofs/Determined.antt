@@ -1,16 +1,16 @@
 -- What the definitions determine: with no two values, what a chain gives is determined by its Key ID. Assumes nothing.
 use native.Mathlib.Omega.{arith}
-use Prim.Native.Nat.{ℕ, zero, suc, _<_}
-use mathlib.Core.Path.{_≡_, refl, ap, ap₂, sym, _∙_, subst}
+use Prim.Native.Nat.{ℕ, suc}
+use mathlib.Core.Path.{_≡_, refl, ap, ap₂, sym, _∙_}
 use mathlib.Core.Bool.{Bool, true, false}
 use mathlib.Core.Logic.{_⊎_, inl, inr, ⊎-elim}
 use mathlib.Core.List.{List, [], _∷_}
 use lib.Dec.{eqb}
 use lib.ListN.{length, getD}
 use borrow.Author.Tests.{eqb-true, eqb-false}
-use Rattle.attributes.specs.Tree.{WrapKey, SaKey}
-use Rattle.chains.specs.Chain.{In, Root, Chain, root, step, Leads, Reached, Ends, CopyOpens}
-use Rattle.chains.specs.Refusals.{Announced, EntriesEight, CopiesEight, Eight, Nine, Value, KeyOf}
+use Rattle.attributes.specs.Tree.{WrapKey}
+use Rattle.chains.specs.Chain.{In, Root, Chain, root, step, Reached, Ends, CopyOpens}
+use Rattle.chains.specs.Refusals.{Announced, EntriesEight, CopiesEight, Value, KeyOf}
 use Rattle.chains.specs.Refusals as refusals
 
 -- ---- lists of numbers are equal or not

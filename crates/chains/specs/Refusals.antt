@@ -1,7 +1,7 @@
 -- Document 01's refusals 8 and 9, and what is known of a frame that meets neither.
-use Prim.Native.Nat.{ℕ, _<_}
+use Prim.Native.Nat.{ℕ}
 use mathlib.Core.Path.{_≡_}
-use mathlib.Core.List.{List, [], _∷_}
+use mathlib.Core.List.{List}
 use lib.ListN.{length}
 use Rattle.attributes.specs.Tree.{WrapKey, SaKey}
 use Rattle.chains.specs.Chain.{In, Root, Reached, CopyOpens}

@@ -1,9 +1,9 @@
 -- The tests of number 8 over the cells. Assumes nothing.
 use native.Mathlib.Omega.{arith}
-use Prim.Native.Nat.{ℕ, zero, suc, _+_, _≤_, _<_}
+use Prim.Native.Nat.{ℕ, _+_, _≤_, _<_}
 use mathlib.Core.Path.{_≡_, refl, ap, sym, _∙_, subst}
 use mathlib.Core.Bool.{Bool, true, false}
-use mathlib.Core.List.{List, [], _∷_}
+use mathlib.Core.List.{List}
 use borrow.Author.Count.{below-more}
 use lib.ListN.{length, getD}
 use lib.Seq.{ext-getD}
@@ -15,7 +15,7 @@ use Rattle.reach.specs.declared.open.Cell.{Cell}
 use Rattle.reach.specs.Entries.{noEntry}
 use Rattle.reach.specs.inner.Opened.{noCell}
 use Rattle.reach.specs.inner.Search.{cellAt}
-use Rattle.reach.specs.inner.Values.{Tells, Some, Clash, ClashAmong, AnyClash, AnyWrong, isDone, isWrong}
+use Rattle.reach.specs.inner.Values.{Tells, Some, isDone, isWrong}
 use Rattle.reach.proofs.Statuses.{getD-any}
 
 -- what an answer tells

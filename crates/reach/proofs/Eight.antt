@@ -1,21 +1,20 @@
 -- Number 8 of the entries, from the cells that a search ends with. Assumes nothing.
 use native.Mathlib.Omega.{arith}
-use Prim.Native.Nat.{ℕ, _≤_, _<_}
-use mathlib.Core.Path.{_≡_, refl, ap, sym, _∙_, subst}
+use Prim.Native.Nat.{ℕ, _<_}
+use mathlib.Core.Path.{_≡_, ap, sym, _∙_, subst}
 use mathlib.Core.Bool.{Bool, true, false}
-use mathlib.Core.Logic.{_⊎_, inl, inr, ⊎-elim}
-use mathlib.Core.List.{List, [], _∷_}
-use lib.ListN.{length, getD}
+use mathlib.Core.Logic.{_⊎_, ⊎-elim}
+use mathlib.Core.List.{List}
+use lib.ListN.{length}
 use Rattle.attributes.specs.Tree.{WrapKey}
 use Rattle.keys.specs.Kinds.{wrappingOf}
-use Rattle.keys.specs.declared.kinds.WrappingKey.{WrappingKey}
 use Rattle.chains.specs.Chain.{Root, Reached}
 use Rattle.chains.specs.Refusals.{EntriesEight, wrong-size, two-values}
 use Rattle.chains.proofs.Determined.{lists-equal}
 use Rattle.reach.specs.declared.open.Status.the-variants.{Wrong, Done}
 use Rattle.reach.specs.declared.open.Entry.{Entry}
 use Rattle.reach.specs.declared.open.Cell.{Cell}
-use Rattle.reach.specs.Entries.{Lists, noEntry}
+use Rattle.reach.specs.Entries.{Lists}
 use Rattle.reach.specs.inner.Opened.{valueOf}
 use Rattle.reach.specs.inner.Search.{keyAt, cellAt, Searched, Found-in, OneEach, Nonzero}
 use Rattle.reach.specs.inner.Values.{Tells, AnyClash, AnyWrong}

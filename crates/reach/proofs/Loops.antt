@@ -1,19 +1,18 @@
 -- The loops over the cells. Assumes nothing.
 use native.Mathlib.Omega.{arith}
-use Prim.Native.Nat.{ℕ, zero, suc, _+_, _≤_, _<_}
+use Prim.Native.Nat.{ℕ, _+_, _≤_, _<_}
 use mathlib.Core.Path.{_≡_, refl, ap, sym, _∙_, subst}
-use mathlib.Core.Bool.{Bool, true, false}
-use mathlib.Core.List.{List, [], _∷_}
+use mathlib.Core.Bool.{true, false}
+use mathlib.Core.List.{List}
 use borrow.Author.Count.{below-more}
-use lib.ListN.{length, getD, set, length-set}
+use lib.ListN.{length, getD, set}
 use lib.Seq.{getD-set-same, getD-set-other}
-use Rattle.fips197.specs.Key.{isKey}
 use Rattle.attributes.specs.Tree.{WrapKey}
 use Rattle.reach.specs.declared.open.Status.{Status}
 use Rattle.reach.specs.declared.open.Status.the-variants.{Waiting, Failed, Wrong, Pending, Done}
 use Rattle.reach.specs.declared.open.Entry.{Entry}
 use Rattle.reach.specs.declared.open.Cell.{Cell}
-use Rattle.reach.specs.Entries.{noEntry, noKey, IsEntry, Lists}
+use Rattle.reach.specs.Entries.{noEntry, IsEntry, Lists}
 use Rattle.reach.specs.inner.Opened.{noCell, pending, naming, Tried, stays}
 use Rattle.reach.specs.inner.Search.{keyAt, cellAt, AllTried, Unnamed, FoundAt, NonePending}
 use Rattle.reach.proofs.Statuses.{getD-any}

@@ -1,9 +1,9 @@
 -- What opening one entry makes of its cell. Assumes nothing.
 use native.Mathlib.Omega.{arith}
-use Prim.Native.Nat.{ℕ, _-_, _≤_, _<_}
+use Prim.Native.Nat.{ℕ, _-_, _≤_}
 use mathlib.Core.Path.{_≡_, refl, ap, sym, _∙_, subst}
 use mathlib.Core.Bool.{Bool, true, false, cond}
-use mathlib.Core.List.{List, [], _∷_, _++_}
+use mathlib.Core.List.{List, []}
 use borrow.Author.Tests.{eq-eqb, ne-eqb, eqb-true}
 use lib.Dec.{eqb}
 use lib.ListN.{length, take, drop, replicate, length-replicate}
@@ -11,12 +11,12 @@ use lib.Seq.{take-at, take-append-seam}
 use Rattle.octets.specs.Walk.{part, both}
 use Rattle.fips197.specs.Key.{Key}
 use Rattle.keywrap.specs.Opens.{Opens}
-use Rattle.keywrap.specs.Answers.{blank, written, OpensBlank}
+use Rattle.keywrap.specs.Answers.{blank, OpensBlank}
 use Rattle.keywrap.specs.declared.Answer.the-variants.{No, Count}
 use Rattle.attributes.specs.Tree.{WrapKey}
 use Rattle.keys.proofs.Cases.{bool-cases}
 use Rattle.keys.specs.Algorithms.{sizeOf}
-use Rattle.keys.specs.Kinds.{wrappingOf, wrappingKey, padded}
+use Rattle.keys.specs.Kinds.{wrappingOf, wrappingKey}
 use Rattle.keys.specs.declared.kinds.MadeWrapping.{MadeWrapping}
 use Rattle.reach.specs.declared.open.Status.{Status}
 use Rattle.reach.specs.declared.open.Status.the-variants.{Waiting, Failed, Wrong, Pending, Done}

@@ -6,21 +6,21 @@ use mathlib.Core.Bool.{true}
 use mathlib.Core.Logic.{_⊎_, inl, inr, ⊎-elim}
 use mathlib.Core.List.{List, [], _∷_}
 use lib.Dec.{T}
-use lib.ListN.{length, take, getD, set, replicate, getD-replicate}
+use lib.ListN.{length, getD, set, replicate, getD-replicate}
 use lib.Seq.{getD-set-same, getD-set-other}
 use Rattle.fips197.specs.Key.{Key, isKey}
 use Rattle.attributes.specs.Tree.{WrapKey}
 use Rattle.keys.specs.Algorithms.{sizeOf}
 use Rattle.keys.specs.declared.kinds.WrappingKey.{WrappingKey}
 use Rattle.keys.proofs.Sizes.{wrapping-size, among-is}
-use Rattle.chains.specs.Chain.{In, Root, Chain, step, Reached}
+use Rattle.chains.specs.Chain.{In, Root, step, Reached}
 use Rattle.chains.proofs.Determined.{last-entry}
 use Rattle.reach.specs.declared.open.Status.{Status}
 use Rattle.reach.specs.declared.open.Status.the-variants.{Waiting, Failed, Wrong, Pending, Done}
 use Rattle.reach.specs.declared.open.Entry.{Entry}
 use Rattle.reach.specs.declared.open.Cell.{Cell}
 use Rattle.reach.specs.Entries.{noKey, noEntry, Lists}
-use Rattle.reach.specs.inner.Opened.{noCell, valueOf, Oversized, Tried}
+use Rattle.reach.specs.inner.Opened.{noCell, valueOf, Oversized}
 use Rattle.reach.specs.inner.Search.{keyAt, cellAt, AllTried, FoundAt, NonePending, keyZero}
 use Rattle.reach.specs.inner.Search.{Misfits, Found-in, OneEach, Searched}
 use Rattle.reach.proofs.Statuses.{Holds, GoodBy, holds-done, holds-good, getD-any, eq-cases, tried-stays}

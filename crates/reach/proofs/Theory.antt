@@ -1,15 +1,14 @@
 -- Why the search is right: its invariant, that each turn keeps it, and what it says at the end. Assumes nothing.
-use native.Mathlib.Omega.{arith}
-use Prim.Native.Nat.{ℕ, zero, suc, _+_, _≤_, _<_}
+use Prim.Native.Nat.{ℕ, _<_}
 use mathlib.Core.Path.{_≡_, refl, ap, sym, _∙_, subst}
 use mathlib.Core.Logic.{_⊎_, inl, inr, ⊎-elim}
 use mathlib.Core.List.{List, [], _∷_}
-use lib.ListN.{length, getD}
+use lib.ListN.{length}
 use Rattle.fips197.specs.Key.{Key, isKey}
 use Rattle.keywrap.specs.Opens.{Opens}
 use Rattle.attributes.specs.Tree.{WrapKey}
 use Rattle.keys.specs.declared.kinds.WrappingKey.{WrappingKey}
-use Rattle.chains.specs.Chain.{In, Root, Extended, Leads, Chain, root, step, Reached}
+use Rattle.chains.specs.Chain.{In, Root, Extended, Leads, Chain, root, step}
 use Rattle.reach.specs.declared.open.Status.{Status}
 use Rattle.reach.specs.declared.open.Status.the-variants.{Waiting, Failed, Wrong, Pending, Done}
 use Rattle.reach.specs.declared.open.Cell.{Cell}

@@ -14,7 +14,6 @@ ghost use mathlib.Core.Path.{_≡_};
 ghost use mathlib.Core.Bool.{true, false};
 ghost use mathlib.Core.List.{List};
 ghost use Prim.Native.Nat.{ℕ, _≤_, _<_};
-ghost use lib.ListN.{length};
 ghost use Rattle.fips197.specs.Key.{Key};
 ghost use Rattle.aes.specs.Schedule.{ExpandsInverse, ExpandedInverse};
 ghost use Rattle.keys.specs.Algorithms.{sizeOf};

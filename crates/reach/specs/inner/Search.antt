@@ -1,15 +1,13 @@
 -- What a search over the entries ends with. Inner.
 use Prim.Native.Nat.{ℕ, _<_}
 use mathlib.Core.Path.{_≡_}
-use mathlib.Core.Bool.{Bool, true, false}
 use mathlib.Core.List.{List, [], _∷_}
 use lib.ListN.{length, getD}
 use Rattle.attributes.specs.Tree.{WrapKey}
 use Rattle.chains.specs.Chain.{Root, Chain, Reached}
 use Rattle.keys.specs.Kinds.{wrappingOf}
 use Rattle.keys.specs.declared.kinds.WrappingKey.{WrappingKey}
-use Rattle.reach.specs.declared.open.Status.{Status}
-use Rattle.reach.specs.declared.open.Status.the-variants.{Waiting, Failed, Wrong, Pending, Done}
+use Rattle.reach.specs.declared.open.Status.the-variants.{Waiting, Wrong, Pending, Done}
 use Rattle.reach.specs.declared.open.Cell.{Cell}
 use Rattle.reach.specs.declared.open.Entry.{Entry}
 use Rattle.reach.specs.declared.search.Found.{Found}

@@ -1,10 +1,9 @@
 -- `reach::open::landed` meets its contract. Assumes nothing.
 use borrow.Author.Needs.{needs}
-use native.Mathlib.Omega.{arith}
-use mathlib.Core.Path.{refl, sym, subst}
+use mathlib.Core.Path.{sym, subst}
 use lib.Seq.{length-take-le}
 use Rattle.keywrap.specs.declared.Answer.{Answer}
-use Rattle.keywrap.specs.Answers.{blank, Opening, OpensBlank, Wrote}
+use Rattle.keywrap.specs.Answers.{blank, OpensBlank}
 use Rattle.keywrap.proofs.Opening.{put-most}
 use Rattle.reach.proofs.Opening.{landed-none, landed-wrong, landed-right}
 use Rattle.reach.proofs.open.landed.Statement.{statement}

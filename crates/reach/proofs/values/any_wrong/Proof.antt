@@ -1,9 +1,8 @@
 -- `reach::values::any_wrong` meets its contract. Assumes nothing.
 use native.Mathlib.Omega.{arith}
-use Prim.Native.Nat.{ℕ, _+_, _-_, _≤_, _<_}
-use mathlib.Core.Path.{_≡_, refl, ap, sym, _∙_}
-use mathlib.Core.List.{List}
-use lib.ListN.{length, getD}
+use Prim.Native.Nat.{_-_, _≤_}
+use mathlib.Core.Path.{_≡_, sym, _∙_}
+use lib.ListN.{length}
 use Rattle.reach.specs.declared.open.Status.the-variants.{Wrong}
 use Rattle.reach.specs.inner.Search.{cellAt}
 use Rattle.reach.proofs.Clashing.{NoneBelow, none-next, none-all, wrong-here, wrong-none}

@@ -1,5 +1,5 @@
 -- `reach::values::clash` meets its contract. Assumes nothing.
-use mathlib.Core.Path.{_≡_, sym, _∙_}
+use mathlib.Core.Path.{sym, _∙_}
 use Rattle.reach.proofs.Clashing.{told-yes, told-not, done-is, done-not}
 use borrow.Author.Needs.{needs}
 use Rattle.reach.proofs.values.clash.Statement.{statement}

@@ -1,8 +1,7 @@
 -- `reach::values::same_key` meets its contract. Assumes nothing.
 use native.Mathlib.Omega.{arith}
-use Prim.Native.Nat.{ℕ, _+_, _-_, _≤_, _<_}
-use mathlib.Core.Path.{_≡_, refl, ap, sym, _∙_}
-use mathlib.Core.List.{List}
+use Prim.Native.Nat.{ℕ, _-_, _≤_, _<_}
+use mathlib.Core.Path.{_≡_, ap}
 use lib.ListN.{length, getD}
 use borrow.Author.Count.{below-more}
 use Rattle.keys.specs.declared.kinds.WrappingKey.{WrappingKey}
