@@ -69,12 +69,6 @@ number-add m (suc n) s =
         ap (λ (x : ℕ). x + d) (add-mul (a * p) b 256) ∙ add-assoc (a * p * 256) (b * 256) d
         ∙ ap (λ (x : ℕ). x + (b * 256 + d)) (mul-assoc a p 256)
 
-pub number-four : (s : List ℕ) (at : ℕ) {a b c d : ℕ} → a ≡ oct s at → b ≡ oct s (at + 1) → c ≡ oct s (at + 2) → d ≡ oct s (at + 3)
-    → ((a * 256 + b) * 256 + c) * 256 + d ≡ number 4 (drop at s)
-unfolding number
-number-four s at ha hb hc hd =
-    omega (arith, getD-drop at s 0 0, ap (oct s) (add-zero at), getD-drop at s 1 0, getD-drop at s 2 0, getD-drop at s 3 0)
-
 pub number-eight : (s : List ℕ) (at : ℕ) {a b : ℕ} → a ≡ number 4 (drop at s) → b ≡ number 4 (drop (at + 4) s)
     → a * 4294967296 + b ≡ number 8 (drop at s)
 number-eight s at ha hb =
