@@ -1,4 +1,3 @@
 pub mod Loops
 pub mod AttributeLaws
 pub mod GrammarLaws
-pub mod JudgingLaws

@@ -4,4 +4,3 @@ pub mod Tree
 pub mod Layout
 pub mod Answers
 pub mod Grammar
-pub mod inner

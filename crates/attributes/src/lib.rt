@@ -5,7 +5,6 @@ ghost use lib.ListN.{length, drop};
 ghost use Rattle.attributes.specs.Layout.{attribute, attributes};
 ghost use Rattle.attributes.specs.Answers.{layoutOf, spotOf, valueAt, readOf};
 
-pub mod judging;
 pub mod tables;
 
 // Whether a stretch of the frame is laid out as it should be, or the offset of the structure that broke first.

@@ -1,3 +1,2 @@
 pub mod BagLaws
 pub mod BagGrammar
-pub mod JudgingLaws

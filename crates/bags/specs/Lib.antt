@@ -1,3 +1,2 @@
 pub mod Bag
 pub mod Grammar
-pub mod inner

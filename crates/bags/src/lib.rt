@@ -8,8 +8,6 @@ use attributes::Layout;
 use attributes::Spot;
 use attributes::tables::Place;
 
-pub mod judging;
-
 // The place of a bag's attributes, by the bag's first octet. Internal.
 pub fn place_of(first: usize) -> Place
     ensures { λ r. ⌜ r ≡ placeOf first ⌝ }

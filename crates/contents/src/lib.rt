@@ -1,1 +1,5 @@
-// The contents of a frame whose layout is whole: what a list of policies, bags, transforms or attributes starts with, and the rest of it.
+// What a frame whose layout is whole holds, gone through again by the judging that follows.
+pub mod bag;
+pub mod payload;
+pub mod policy;
+pub mod values;

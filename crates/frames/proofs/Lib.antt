@@ -2,5 +2,4 @@ pub mod HeaderLaws
 pub mod PayloadLaws
 pub mod DeleteGrammar
 pub mod FrameGrammar
-pub mod JudgingLaws
 pub mod Samples

@@ -4,4 +4,3 @@ pub mod Frame
 pub mod Exchange
 pub mod Answers
 pub mod Grammar
-pub mod inner

@@ -10,7 +10,6 @@ use attributes::Layout;
 use attributes::Spot;
 
 pub mod exchanges;
-pub mod judging;
 
 // An IKE header: the type of the first payload, the exchange type and the Message ID; or a broken one.
 pub enum HeaderRead {

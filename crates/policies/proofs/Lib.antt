@@ -6,4 +6,3 @@ pub mod SelectorGrammar
 pub mod TransformGrammar
 pub mod BodyGrammar
 pub mod PolicyGrammar
-pub mod JudgingLaws

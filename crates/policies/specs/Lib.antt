@@ -2,4 +2,3 @@ pub mod Selector
 pub mod Transform
 pub mod Policy
 pub mod Grammar
-pub mod inner

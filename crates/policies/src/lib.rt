@@ -10,7 +10,6 @@ use attributes::Layout;
 use attributes::Spot;
 use attributes::tables::Place;
 
-pub mod judging;
 pub mod selectors;
 pub mod transforms;
 

@@ -1,0 +1,118 @@
+-- Going through attributes whose layout is whole: the first one, and the others.
+use Prim.Native.Nat.{ℕ, _+_, _-_, _<_, _≤_}
+use mathlib.Core.Path.{_≡_, refl, ap, sym, _∙_, subst}
+use mathlib.Core.List.{List, [], _∷_}
+use mathlib.Core.Bool.{Bool, true, false}
+use native.Mathlib.Omega.{arith}
+use borrow.Author.Tests.{eq-eqb, ne-eqb}
+use lib.Dec.{leb, eqb}
+use lib.ListN.{length, drop, length-drop}
+use lib.Seq.{drop-drop}
+use Rattle.octets.specs.Walk.{be16, part, either, Reading, whole, broken}
+use Rattle.octets.proofs.Walks.{both-true, many-none}
+use Rattle.octets.proofs.Inverse.{inverse-opened}
+use Rattle.octets.proofs.Grammar.{first-rest}
+use Rattle.attributes.specs.Attribute.{Attribute, sizeOf, valueOf, attributeOf, fits}
+use Rattle.attributes.specs.Place.{meaningOf}
+use Rattle.attributes.specs.Tree.{codeOf, means, valuesOf}
+use Rattle.attributes.specs.Layout.{formedIn, fitsIn, attribute, attributes}
+use Rattle.attributes.specs.Grammar.{IsAttribute}
+use Rattle.contents.specs.inner.Values.{isWhole, itemsOf, attributesIn, valuesIn}
+use Rattle.attributes.specs.declared.tables.Place.{Place}
+use Rattle.attributes.specs.declared.tables.Meaning.{Meaning}
+use Rattle.attributes.proofs.AttributeLaws.{takes, IsRead, read-inside}
+use Rattle.attributes.proofs.GrammarLaws.{sound, complete, are-read, read-are}
+
+-- a whole reading, with its items
+pub whole-is : {A : Type 0} (x : Reading (List A)) → isWhole x ≡ true → (rest : List ℕ) × (x ≡ whole (itemsOf x) rest)
+whole-is (whole l rest) e = (rest, refl)
+whole-is (broken o) e = let z : _≡_ {A = ℕ} 0 1 = cc in absurd (omega arith)
+
+pub is-whole : {A : Type 0} (x : Reading (List A)) (l : List A) (rest : List ℕ) → x ≡ whole l rest → (isWhole x ≡ true) × (itemsOf x ≡ l)
+is-whole x l rest e = (ap isWhole e, ap itemsOf e)
+
+attribute-is : (p : Place) (b : ℕ) (s : List ℕ) (a : Attribute) (rest : List ℕ) → attribute p b s ≡ whole a rest
+    → (fits s ≡ true) × (attributeOf s ≡ a) × (drop (sizeOf s) s ≡ rest)
+unfolding attribute
+attribute-is p b s a rest q =
+    let f = inverse-opened b (fitsIn p s) (whole (attributeOf s) (drop (sizeOf s) s)) a rest q in
+    let e = f .1 in
+    (both-true (fits s) (formedIn p (attributeOf s)) (f .0) .0, cc, cc)
+
+record Head (p : Place) (s : List ℕ) : Type 0 where
+  fit : fits s ≡ true
+  first : attributesIn p s ≡ attributeOf s ∷ attributesIn p (drop (sizeOf s) s)
+  rest : isWhole (attributes p 0 (drop (sizeOf s) s)) ≡ true
+
+head-of : (p : Place) (s : List ℕ) → isWhole (attributes p 0 s) ≡ true → 0 < length s → Head p s
+head-of p s e h =
+    let w = whole-is (attributes p 0 s) e in
+    let f = first-rest (attribute p) (takes p) (IsAttribute p) (sound p) (complete p) 0 s (attributesIn p s) (w .0) h (w .1) in
+    let g = attribute-is p 0 s (f .item) (drop (f .size) s) (f .is 0) in
+    let k : attributes p 0 (drop (sizeOf s) s) ≡ whole (f .others) [] = ap (attributes p 0) (g .2) ∙ f .rest 0 in
+    let i = is-whole (attributes p 0 (drop (sizeOf s) s)) (f .others) [] k in
+    record {
+      fit = g .0;
+      first = f .all ∙ (λ j. sym (g .1) j ∷ sym (i .1) j);
+      rest = i .0;
+    }
+
+module _ (m : Meaning) (p : Place) (s : List ℕ) (at : ℕ) (e : isWhole (attributes p 0 (drop at s)) ≡ true) where
+  pub none-left : length s ≤ at → valuesIn m p (drop at s) ≡ []
+  unfolding valuesOf
+  none-left h =
+      ap (λ (x : Reading (List Attribute)). valuesOf m p (itemsOf x)) (many-none (attribute p) (takes p) 0 (drop at s) (rw length-drop
+      (omega arith)))
+
+  module _ (h : at < length s) where
+    head : Head p (drop at s)
+    head = head-of p (drop at s) e (rw length-drop (omega arith))
+
+    pub never-cut : fits (drop at s) ≡ false → ⊥
+    never-cut f =
+        let g = head .fit in
+        let z : _≡_ {A = ℕ} 0 1 = cc in omega arith
+
+    module _ (short : Bool) (kind a n : ℕ) (f : IsRead (drop at s) short kind a n) where
+      -- the next place
+      pub next-inside : (0 < n) × (at + n ≤ length s) × (a ≤ n)
+      next-inside =
+          let i = read-inside (drop at s) short kind a n f in
+          (omega (arith, i .2), omega (arith, i .1, length-drop at s), i .0)
+
+      size-is : drop (sizeOf (drop at s)) (drop at s) ≡ drop (at + n) s
+      size-is = ap (λ (y : ℕ). drop y (drop at s)) (f .size) ∙ drop-drop n at s
+
+      pub next-whole : isWhole (attributes p 0 (drop (at + n) s)) ≡ true
+      next-whole = subst (λ (l : List ℕ). isWhole (attributes p 0 l) ≡ true) size-is (head .rest)
+
+      listed : attributesIn p (drop at s) ≡ attributeOf (drop at s) ∷ attributesIn p (drop (at + n) s)
+      listed = head .first ∙ ap (λ (l : List ℕ). attributeOf (drop at s) ∷ attributesIn p l) size-is
+
+      meant : (c w : ℕ) → c ≡ codeOf (meaningOf p kind) → w ≡ codeOf m → means m p (attributeOf (drop at s)) ≡ eqb c w
+      meant c w cq wq = λ i. eqb ((ap (λ (y : ℕ). codeOf (meaningOf p y)) (f .type) ∙ sym cq) i) (sym wq i)
+
+      pub miss : (c w : ℕ) → c ≡ codeOf (meaningOf p kind) → w ≡ codeOf m → (c ≡ w → ⊥) → valuesIn m p (drop at s) ≡ valuesIn m p (drop
+          (at + n) s)
+      unfolding valuesOf
+      miss c w cq wq ne = ap (valuesOf m p) listed ∙ rw (meant c w cq wq, ne-eqb c w ne)
+
+      pub hit : (c w : ℕ) → c ≡ codeOf (meaningOf p kind) → w ≡ codeOf m → c ≡ w
+          → valuesIn m p (drop at s) ≡ part s (at + a) (at + n) ∷ valuesIn m p (drop (at + n) s)
+      unfolding valuesOf
+      hit c w cq wq eq =
+          let d : at + n - (at + a) ≡ n - a = omega arith in
+          let v : valueOf (drop at s) ≡ part s (at + a) (at + n) = rw (f .start, f .size, d, drop-drop a at s) in
+          ap (valuesOf m p) listed ∙ rw (meant c w cq wq, eq-eqb c w eq) (ap (λ (y : List ℕ). y ∷ valuesIn m p (drop (at + n) s)) v)
+
+      pub starts-after : 0 < a
+      starts-after = go (leb 32768 (be16 (drop at s) 0)) (f .start)
+        where
+          go : (t : Bool) → either t 2 4 ≡ a → 0 < a
+          go true q = omega arith
+          go false q = omega arith
+
+-- the same list at any offset
+pub any-offset : (p : Place) (b c : ℕ) (s : List ℕ) (l : List Attribute) (rest : List ℕ) → attributes p b s ≡ whole l rest
+    → attributes p c s ≡ whole l []
+any-offset p b c s l rest q = are-read p (read-are p b s l rest q) c

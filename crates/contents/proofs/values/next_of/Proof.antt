@@ -1,0 +1,198 @@
+use denote.Ref.{now}
+use native.Mathlib.Omega.{arith}
+use mathlib.Core.Path.{_≡_, refl, ap, sym, _∙_}
+use Prim.Native.Nat.{_+_, _-_, _<_, _≤_}
+use mathlib.Core.Bool.{true}
+use lib.ListN.{length, drop}
+use Rattle.octets.proofs.Walks.{to-end}
+use Rattle.attributes.specs.Tree.{codeOf}
+use Rattle.attributes.specs.Layout.{attributes}
+use Rattle.attributes.specs.Answers.{readOf}
+use Rattle.contents.specs.inner.Values.{isWhole, valuesIn}
+use Rattle.attributes.specs.declared.tables.Meaning.{Meaning}
+use Rattle.attributes.proofs.AttributeLaws.{IsRead, read-is, cut-is}
+use Rattle.contents.proofs.ValuesLaws.{none-left, never-cut, next-inside, next-whole, miss, hit, starts-after}
+use borrow.Author.Needs.{needs}
+use Rattle.contents.proofs.values.next_of.Statement.{statement}
+use Rattle.contents.proofs.values.next_of.Tie as tie
+
+abbrev Inv-loop : tie.InvT-loop
+Inv-loop place s from wanted at₀ at =
+    (from ≤ at) × (at ≤ length s) × (isWhole (attributes place 0 (drop at s)) ≡ true)
+    × ((m : Meaning) → wanted ≡ codeOf m → valuesIn m place (drop from s) ≡ valuesIn m place (drop at s))
+
+abbrev μ-loop : tie.MeasureT-loop
+μ-loop place s from wanted at₀ at = length s - at
+
+code-requires : tie.Need-code-requires Inv-loop μ-loop
+code-requires c κs = search needs
+
+loop-holds : tie.Need-loop-holds Inv-loop μ-loop
+loop-holds c = (omega arith, c .before .before .pre .0, c .before .before .pre .1, λ m e. refl)
+
+sub-attribute-read : tie.Need-sub-attribute-read Inv-loop μ-loop
+sub-attribute-read c = search needs
+
+part-attribute-read-start : tie.Need-part-attribute-read-start Inv-loop μ-loop
+part-attribute-read-start c = search needs
+
+part-attribute-read-end : tie.Need-part-attribute-read-end Inv-loop μ-loop
+part-attribute-read-end c = search needs
+
+attribute-read-requires : tie.Need-attribute-read-requires Inv-loop μ-loop
+attribute-read-requires c κs = search needs
+
+enum-known-kind : tie.Need-enum-known-kind Inv-loop μ-loop
+enum-known-kind c = search needs
+
+read : (c : tie.After-known-told Inv-loop μ-loop)
+    → let v = c .before .kind .given .0 in
+    IsRead (drop (c .before .before .before .before .before .before .loop .at) (now
+    (c .before .before .before .before .before .before .before .before .before .args .s))) (v .0) (v .1 .0) (v .1 .1 .0) (v .1 .1 .1 .0)
+read c =
+    let v = c .before .kind .given .0 in
+    read-is (drop (c .before .before .before .before .before .before .loop .at) (now
+    (c .before .before .before .before .before .before .before .before .before .args .s))) (v .0) (v .1 .0) (v .1 .1 .0) (v .1 .1 .1 .0)
+    (sym (c .before .kind .given .1) ∙ c .before .before .before .attribute-read .ensures ∙ ap readOf (to-end (now
+    (c .before .before .before .before .before .before .before .before .before .args .s))
+    (c .before .before .before .before .before .before .loop .at)))
+
+inside : (c : tie.After-known-told Inv-loop μ-loop)
+    → let v = c .before .kind .given .0 in
+    (0 < v .1 .1 .1 .0) × (c .before .before .before .before .before .before .loop .at + v .1 .1 .1 .0 ≤ length (now
+    (c .before .before .before .before .before .before .before .before .before .args .s))) × (v .1 .1 .0 ≤ v .1 .1 .1 .0)
+inside c =
+    let v = c .before .kind .given .0 in
+    next-inside (c .before .before .before .before .before .before .before .before .before .args .m)
+    (c .before .before .before .before .before .before .before .before .before .args .place) (now
+    (c .before .before .before .before .before .before .before .before .before .args .s))
+    (c .before .before .before .before .before .before .loop .at) (c .before .before .before .before .before .before .loop .inv .2)
+    (c .before .before .before .before .before .loop-test .taken)
+    (v .0) (v .1 .0) (v .1 .1 .0) (v .1 .1 .1 .0) (read c)
+
+meaning-in-requires : tie.Need-meaning-in-requires Inv-loop μ-loop
+meaning-in-requires c κs = search needs
+
+code-requires-2 : tie.Need-code-requires-2 Inv-loop μ-loop
+code-requires-2 c κs = search needs
+
+add-t19 : tie.Need-add-t19 Inv-loop μ-loop
+add-t19 c = let i = inside (c .before .before .before) in record { fits = omega (arith, i .1, i .2) }
+
+add-t20 : tie.Need-add-t20 Inv-loop μ-loop
+add-t20 c = let i = inside (c .before .before .before) in record { fits = omega (arith, i .1) }
+
+returns : tie.Need-returns Inv-loop μ-loop
+returns c =
+    let v = c .before .before .before .before .kind .given .0 in
+    let i = inside (c .before .before .before) in
+    record {
+      first =
+          c .before .before .before .before .before .before .before .before .before .loop .inv .3
+          (c .before .before .before .before .before .before .before .before .before .before .before .before .args .m)
+          (c .before .before .before .before .before .before .before .before .before .before .code .ensures)
+          ∙ hit (c .before .before .before .before .before .before .before .before .before .before .before .before .args .m)
+          (c .before .before .before .before .before .before .before .before .before .before .before .before .args .place) (now
+          (c .before .before .before .before .before .before .before .before .before .before .before .before .args .s))
+          (c .before .before .before .before .before .before .before .before .before .loop .at)
+          (c .before .before .before .before .before .before .before .before .before .loop .inv .2)
+          (c .before .before .before .before .before .before .before .before .loop-test .taken)
+          (v .0) (v .1 .0) (v .1 .1 .0) (v .1 .1 .1 .0) (read (c .before .before .before)) _ _ (c .before .code2 .ensures ∙ ap codeOf
+          (c .before .before .meaning-in .ensures))
+          (c .before .before .before .before .before .before .before .before .before .before .code .ensures) (c .if1 .taken);
+      start = omega (
+        arith,
+        c .before .before .before .before .before .before .before .before .before .loop .inv .0,
+        starts-after (c .before .before .before .before .before .before .before .before .before .before .before .before .args .m)
+            (c .before .before .before .before .before .before .before .before .before .before .before .before .args .place) (now
+            (c .before .before .before .before .before .before .before .before .before .before .before .before .args .s))
+            (c .before .before .before .before .before .before .before .before .before .loop .at)
+            (c .before .before .before .before .before .before .before .before .before .loop .inv .2)
+            (c .before .before .before .before .before .before .before .before .loop-test .taken)
+            (v .0) (v .1 .0) (v .1 .1 .0) (v .1 .1 .1 .0) (read (c .before .before .before)),
+      );
+      order = omega (arith, i .2);
+      inside = i .1;
+      rest = next-whole (c .before .before .before .before .before .before .before .before .before .before .before .before .args .m)
+          (c .before .before .before .before .before .before .before .before .before .before .before .before .args .place) (now
+          (c .before .before .before .before .before .before .before .before .before .before .before .before .args .s))
+          (c .before .before .before .before .before .before .before .before .before .loop .at)
+          (c .before .before .before .before .before .before .before .before .before .loop .inv .2)
+          (c .before .before .before .before .before .before .before .before .loop-test .taken)
+          (v .0) (v .1 .0) (v .1 .1 .0) (v .1 .1 .1 .0) (read (c .before .before .before));
+    }
+
+add-at : tie.Need-add-at Inv-loop μ-loop
+add-at c = let i = inside (c .before .before .before) in record { fits = omega (arith, i .1) }
+
+loop-less : tie.Need-loop-less Inv-loop μ-loop
+loop-less c = let i = inside (c .before .before .before) in omega (arith, i .0, i .1)
+
+loop-again : tie.Need-loop-again Inv-loop μ-loop
+loop-again c =
+    let v = c .before .before .before .before .kind .given .0 in
+    let i = inside (c .before .before .before) in (
+      omega (arith, c .before .before .before .before .before .before .before .before .before .loop .inv .0),
+      i .1,
+      next-whole (c .before .before .before .before .before .before .before .before .before .before .before .before .args .m)
+          (c .before .before .before .before .before .before .before .before .before .before .before .before .args .place) (now
+          (c .before .before .before .before .before .before .before .before .before .before .before .before .args .s))
+          (c .before .before .before .before .before .before .before .before .before .loop .at)
+          (c .before .before .before .before .before .before .before .before .before .loop .inv .2)
+          (c .before .before .before .before .before .before .before .before .loop-test .taken)
+          (v .0) (v .1 .0) (v .1 .1 .0) (v .1 .1 .1 .0) (read (c .before .before .before)),
+      λ m e. c .before .before .before .before .before .before .before .before .before .loop .inv .3 m e ∙ miss m
+          (c .before .before .before .before .before .before .before .before .before .before .before .before .args .place) (now
+          (c .before .before .before .before .before .before .before .before .before .before .before .before .args .s))
+          (c .before .before .before .before .before .before .before .before .before .loop .at)
+          (c .before .before .before .before .before .before .before .before .before .loop .inv .2)
+          (c .before .before .before .before .before .before .before .before .loop-test .taken)
+          (v .0) (v .1 .0) (v .1 .1 .0) (v .1 .1 .1 .0) (read (c .before .before .before)) _ _ (c .before .code2 .ensures ∙ ap codeOf
+          (c .before .before .meaning-in .ensures)) e (c .if1 .left),
+    )
+
+enum-told : tie.Need-enum-told Inv-loop μ-loop
+enum-told c = search needs
+
+returns-2 : tie.Need-returns-2 Inv-loop μ-loop
+returns-2 c =
+    absurd
+    (never-cut (c .before .before .before .before .before .before .before .before .args .m)
+    (c .before .before .before .before .before .before .before .before .args .place) (now
+    (c .before .before .before .before .before .before .before .before .args .s)) (c .before .before .before .before .before .loop .at)
+    (c .before .before .before .before .before .loop .inv .2) (c .before .before .before .before .loop-test .taken)
+    (cut-is (drop (c .before .before .before .before .before .loop .at) (now
+    (c .before .before .before .before .before .before .before .before .args .s)))
+    (sym (c .enum-told .given .1) ∙ c .before .before .attribute-read .ensures ∙ ap readOf (to-end (now
+    (c .before .before .before .before .before .before .before .before .args .s)) (c .before .before .before .before .before .loop .at)))))
+
+returns-3 : tie.Need-returns-3 Inv-loop μ-loop
+returns-3 c =
+    c .before .loop .inv .3 (c .before .before .before .before .args .m) (c .before .before .code .ensures)
+    ∙ none-left (c .before .before .before .before .args .m) (c .before .before .before .before .args .place) (now
+    (c .before .before .before .before .args .s)) (c .before .loop .at) (c .before .loop .inv .2) (c .loop-test .left)
+
+pub next-of-spec : {M : Type 1} → statement M
+next-of-spec =
+    tie.close
+    (tie.spec
+    Inv-loop
+    μ-loop
+    code-requires
+    loop-holds
+    sub-attribute-read
+    part-attribute-read-start
+    part-attribute-read-end
+    attribute-read-requires
+    enum-known-kind
+    meaning-in-requires
+    code-requires-2
+    add-t19
+    add-t20
+    returns
+    add-at
+    loop-less
+    loop-again
+    enum-told
+    returns-2
+    returns-3)

@@ -1,0 +1,4 @@
+pub mod Values
+pub mod Policies
+pub mod Bags
+pub mod Payloads

@@ -1,0 +1,41 @@
+-- Octets whose layout is whole, for the readers that go through them again: their items, and what finding one says.
+use Prim.Native.Nat.{ℕ, _<_, _≤_}
+use mathlib.Core.Path.{_≡_}
+use mathlib.Core.List.{List, [], _∷_}
+use mathlib.Core.Bool.{Bool, true, false}
+use lib.ListN.{length, drop}
+use Rattle.octets.specs.Walk.{part, Reading, whole, broken}
+use Rattle.attributes.specs.Attribute.{Attribute}
+use Rattle.attributes.specs.Tree.{valuesOf}
+use Rattle.attributes.specs.Layout.{attributes}
+use Rattle.attributes.specs.declared.tables.Place.{Place}
+use Rattle.attributes.specs.declared.tables.Meaning.{Meaning}
+use Rattle.contents.specs.declared.values.Found.{Found}
+use Rattle.contents.specs.declared.values.Found.the-variants as found
+
+abbrev pub isWhole : {A : Type 0} → Reading A → Bool
+isWhole (whole a rest) = true
+isWhole (broken o) = false
+
+abbrev pub itemsOf : {A : Type 0} → Reading (List A) → List A
+itemsOf (whole l rest) = l
+itemsOf (broken o) = []
+
+abbrev pub attributesIn : Place → List ℕ → List Attribute
+attributesIn p s = itemsOf (attributes p 0 s)
+
+-- the values of the attributes that have a meaning in a place
+abbrev pub valuesIn : Meaning → Place → List ℕ → List (List ℕ)
+valuesIn m p s = valuesOf m p (attributesIn p s)
+
+-- the first of them from a place on stands from a to e; the others come after it
+pub record FoundAt (m : Meaning) (p : Place) (s : List ℕ) (from a e : ℕ) : Type 0 where
+  pub first : valuesIn m p (drop from s) ≡ part s a e ∷ valuesIn m p (drop e s)
+  pub start : from < a
+  pub order : a ≤ e
+  pub inside : e ≤ length s
+  pub rest : isWhole (attributes p 0 (drop e s)) ≡ true
+
+abbrev pub Finds : Meaning → Place → List ℕ → ℕ → Found → Type 0
+Finds m p s from (found.At a e) = FoundAt m p s from a e
+Finds m p s from found.Nothing = valuesIn m p (drop from s) ≡ []
