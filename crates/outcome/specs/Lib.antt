@@ -1,0 +1,4 @@
+pub mod Roots
+pub mod Answer
+pub mod After
+pub mod Outcome

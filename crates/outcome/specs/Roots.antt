@@ -1,0 +1,72 @@
+-- What chains go by in a frame: the keys that they may start with, the entries, the size that a wrapping key must have, and the SAs that the
+-- frame announces with the copies of their keys.
+use Prim.Native.Nat.{ℕ, _+_}
+use mathlib.Core.Bool.{cond}
+use mathlib.Core.List.{List, [], _∷_, map}
+use lib.ListN.{length, take}
+use Rattle.attributes.specs.Tree.{SaKey, WrapKey}
+use Rattle.policies.specs.Policy.{GroupSaPolicy}
+use Rattle.bags.specs.Bag.{GroupKeyBag}
+use Rattle.frames.specs.Frame.{Frame}
+use Rattle.frames.specs.declared.exchanges.KeyZero.{KeyZero}
+use Rattle.frames.specs.declared.exchanges.KeyZero.the-variants as zero
+use Rattle.keys.specs.Lists.{keep}
+use Rattle.keys.specs.Limits.{Limits}
+use Rattle.keys.specs.declared.kinds.WrappingKey.{WrappingKey}
+use Rattle.table.specs.Table.{swept, defaultKey}
+use Rattle.state.specs.declared.State.{State}
+use Rattle.state.specs.declared.held.HeldKey.{HeldKey}
+use Rattle.state.specs.Held.{keysOf}
+use Rattle.clauses.specs.Contents.{rowOf, gather, announced, groupBags, wrapKeysOf}
+use Rattle.clauses.specs.Fitness.{encryptionOctets, keyWrapOctets}
+use Rattle.clauses.specs.Number6.{bagNamed}
+use Rattle.chains.specs.Chain.{Root}
+use Rattle.chains.specs.Refusals.{Announced}
+
+-- the octets of a key
+abbrev pub octetsOf : WrappingKey → List ℕ
+octetsOf k = take (k .count) (k .octets)
+
+-- "Registration frames come with a lent default key; GSA_REKEY frames use the live Rekey SA's own, and the lent one is not read": that SA's
+-- default key, of the table as it stands at the tick
+abbrev pub ownKey : Limits → State → ℕ → List ℕ
+ownKey limits s now = octetsOf (defaultKey limits (swept limits now (s .table)) .key)
+
+abbrev pub keyZeroBy : KeyZero → List ℕ → List ℕ → List ℕ
+keyZeroBy zero.Lent lent own = lent
+keyZeroBy zero.RekeySa lent own = own
+
+-- "KWK ID 0 is the default key"
+unfoldable pub keyZero : Limits → State → ℕ → List ℕ → Frame → List ℕ
+keyZero limits s now lent f = keyZeroBy (rowOf f .zero) lent (ownKey limits s now)
+
+-- "Held keys take the place of reached ones in a rekey, with the Rekey SA's default key as key 0"
+abbrev pub heldRoot : HeldKey → Root
+heldRoot k = record { id = k .id; value = octetsOf (k .key) }
+
+unfoldable pub rootsOf : Limits → State → ℕ → List ℕ → Frame → List Root
+rootsOf limits s now lent f =
+    record { id = 0; value = keyZero limits s now lent f } ∷ cond (rowOf f .named) (map heldRoot (keysOf (s .held))) []
+
+-- "goes on by WRAP_KEY entries"
+abbrev pub entriesOf : Frame → List WrapKey
+entriesOf f = wrapKeysOf f
+
+-- "a wrapping key [needs] the size of the lent default key"
+unfoldable pub wrappingSize : Limits → State → ℕ → List ℕ → Frame → ℕ
+wrappingSize limits s now lent f = length (keyZero limits s now lent f)
+
+-- "The copies of an announced key are its SA_KEY attributes": those of the Group Key Bag with its protocol and SPI
+unfoldable pub copiesOf : Frame → GroupSaPolicy → List SaKey
+copiesOf f a = gather (λ (b : GroupKeyBag). b .keys) (keep (bagNamed (a .protocol) (a .spi)) (groupBags f))
+
+-- "An ESP SA needs the first number, a Rekey SA the sum of both"
+unfoldable pub needOf : GroupSaPolicy → ℕ
+needOf a = encryptionOctets a + keyWrapOctets a
+
+abbrev pub announcedAs : Frame → GroupSaPolicy → Announced
+announcedAs f a = record { copies = copiesOf f a; need = needOf a }
+
+-- "The SAs a frame announces are those of its Group SA policies."
+unfoldable pub announcedKeys : Frame → List Announced
+announcedKeys f = map (announcedAs f) (announced f)
