@@ -88,8 +88,8 @@ abbrev pub HeldBy : Bool → Type 0 → Type 0 → Type 0
 HeldBy true Set Kept = Set
 HeldBy false Set Kept = Kept
 
--- "With a new Rekey SA the least Message ID is its GSA_INITIAL_MESSAGE_ID, else 0; without one, a registration sets 0 and a rekey sets it to
--- its own plus 1, or none any more after 4,294,967,295."
+-- "With a new Rekey SA the least Message ID is its GSA_INITIAL_MESSAGE_ID, else 0; without one, a registration sets 0 and a rekey sets it
+-- to its own plus 1, or none any more after 4,294,967,295."
 unfoldable pub initialMessageId : Frame → ℕ
 initialMessageId f = sum (λ (a : GroupSaPolicy). cond (isRekey a) (sum (λ (i : ℕ). i) (a .initialMessageIds)) 0) (announced f)
 

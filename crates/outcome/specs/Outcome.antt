@@ -1,5 +1,5 @@
--- THE OUTCOME: for every state, frame, lent key and tick the answer's number and the next state. "A refusal returns its number and the member
--- as it was."
+-- THE OUTCOME: for every state, frame, lent key and tick the answer's number and the next state. "A refusal returns its number and the
+-- member as it was."
 use Prim.Native.Nat.{ℕ, suc}
 use mathlib.Core.Path.{_≡_}
 use mathlib.Core.List.{List, []}
@@ -15,8 +15,8 @@ pub data Judged (limits : Limits) (s : State) (now : ℕ) (lent : List ℕ) (f :
   refused : (n : ℕ) → Answers limits s now lent f (suc n) → Judged limits s now lent f (suc n) s
   accepted : (next : State) → Answers limits s now lent f 0 → After limits s now lent f next → Judged limits s now lent f 0 next
 
--- "A number 1 met by a reader below stops the reading above at that place with the same number; the other numbers are judged on a frame whose
--- layout is whole."
+-- "A number 1 met by a reader below stops the reading above at that place with the same number; the other numbers are judged on a frame
+-- whose layout is whole."
 pub data Outcome (limits : Limits) (s : State) (now : ℕ) (lent octets : List ℕ) : ℕ → State → Type 0 where
   no-layout : (o : ℕ) → frame octets ≡ broken o → Outcome limits s now lent octets 1 s
   by-tree : (f : Frame) {n : ℕ} {next : State} → frame octets ≡ whole f [] → Judged limits s now lent f n next →
