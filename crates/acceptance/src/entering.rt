@@ -1,0 +1,25 @@
+// New SAs enter the table.
+ghost use mathlib.Core.Path.{_≡_};
+ghost use Prim.Native.Nat.{_+_, _≤_};
+ghost use lib.ListN.{take};
+ghost use Rattle.keys.specs.Limits.{limits};
+ghost use Rattle.table.specs.Table.{sasOf, tableOf};
+ghost use Rattle.outcome.specs.After.{insertAll};
+use keys::limits::SAS;
+use sa::entry::Sa;
+use table::Table;
+
+// The first n of these SAs enter a table that has room for them. Internal.
+pub fn entered_all(t: Table, new: [Sa; SAS], n: usize) -> Table
+    requires { ⌜ (t .count + n ≤ limits .sas) × (t ≡ tableOf limits (sasOf t)) ⌝ }
+    ensures { λ r. ⌜ r ≡ tableOf limits (insertAll (take n new) (sasOf t)) ⌝ }
+{
+    let mut out = t;
+    let mut i = n;
+    while 0 < i {
+        i -= 1;
+        let a = new[i];
+        out = out.entered(a);
+    }
+    out
+}

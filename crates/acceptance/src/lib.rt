@@ -1,0 +1,3 @@
+// The state of a member that has accepted a frame.
+pub mod entering;
+pub mod retiring;
