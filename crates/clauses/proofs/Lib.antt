@@ -1,5 +1,6 @@
 pub mod AnyOrder
 pub mod Contents
+pub mod First
 pub mod Gather
 pub mod OrderOf4
 pub mod OrderOf5

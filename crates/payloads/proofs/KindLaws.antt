@@ -1,0 +1,96 @@
+-- The tests by kind and by critical bit at one payload of the chain.
+use Prim.Native.Nat.{ℕ, _+_, _≤_}
+use mathlib.Core.Path.{_≡_, refl, ap, sym, _∙_, subst}
+use mathlib.Core.Logic.{_⊎_, inl, inr}
+use mathlib.Core.List.{List, []}
+use mathlib.Core.Bool.{Bool, true, false, not, _&&_}
+use native.Mathlib.Omega.{arith}
+use borrow.Author.Tests.{eq-eqb, ne-eqb}
+use lib.ListN.{drop}
+use Rattle.octets.specs.Walk.{part}
+use Rattle.keys.specs.Lists.{any, count, keep}
+use Rattle.frames.specs.Frame.{Payload, isKnown}
+use Rattle.frames.specs.Grammar.{IsContent}
+use Rattle.contents.specs.inner.Payloads.{payloadsIn}
+use Rattle.contents.specs.declared.payload.PayloadParts.{PayloadParts}
+use Rattle.clauses.specs.Number4.{unknownCritical}
+use Rattle.clauses.proofs.First.{any-yes, any-no, count-yes, count-no, keep-yes, keep-no}
+use Rattle.payloads.specs.inner.Bodies.{ofKind, FirstBody, a-body}
+use Rattle.payloads.proofs.StepLaws.{Step, none-left}
+
+-- a count after a test: one more, or the same
+abbrev pub Counted : Type 0 → ℕ → ℕ → Type 0
+Counted hit n m = (hit × (m ≡ n + 1)) ⊎ ((hit → ⊥) × (m ≡ n))
+
+pub not-known : (k : ℕ) → (k ≡ 36 → ⊥) → (k ≡ 37 → ⊥) → (k ≡ 39 → ⊥) → (k ≡ 41 → ⊥) → (k ≡ 42 → ⊥) → (k ≡ 51 → ⊥) → (k ≡ 52 → ⊥)
+    → false ≡ isKnown k
+not-known k a b c d e f g =
+    rw (ne-eqb k 36 a, ne-eqb k 37 b, ne-eqb k 39 c, ne-eqb k 41 d, ne-eqb k 42 e, ne-eqb k 51 f, ne-eqb k 52 g)
+
+module _ (w k : ℕ) (s : List ℕ) (at : ℕ) (r : PayloadParts) (g : Step k s at r) where
+  others : List Payload
+  others = payloadsIn (r .next) (drop (at + r .end) s)
+
+  of-kind : k ≡ w → ofKind w (g .one) ≡ true
+  of-kind e = eq-eqb (g .one .kind) w (g .kind ∙ e)
+
+  of-other : (k ≡ w → ⊥) → ofKind w (g .one) ≡ false
+  of-other e = ne-eqb (g .one .kind) w (λ u. e (sym (g .kind) ∙ u))
+
+  pub count-next : (n m all : ℕ) → Counted (k ≡ w) n m → n + count (ofKind w) (payloadsIn k (drop at s)) ≡ all
+      → (m ≤ n + 1) × (m + count (ofKind w) (payloadsIn (r .next) (drop (at + r .end) s)) ≡ all)
+  unfolding others
+  count-next n m all (inl (e, f)) q =
+      let c = count-yes (ofKind w) (g .one) others (payloadsIn k (drop at s)) (g .item) (of-kind e) in
+      (omega arith, omega arith)
+  count-next n m all (inr (e, f)) q =
+      let c = count-no (ofKind w) (g .one) others (payloadsIn k (drop at s)) (g .item) (of-other e) in
+      (omega arith, omega arith)
+
+  pub keep-next : (k ≡ w → ⊥) → keep (ofKind w) (payloadsIn k (drop at s)) ≡ keep (ofKind w) (payloadsIn (r .next) (drop (at + r .end) s))
+  unfolding others
+  keep-next e = keep-no (ofKind w) (g .one) others (payloadsIn k (drop at s)) (g .item) (of-other e)
+
+  pub first-body : k ≡ w → (l : List Payload) → l ≡ keep (ofKind w) (payloadsIn k (drop at s))
+      → FirstBody w (part s (at + 4) (at + r .end)) l
+  unfolding others
+  first-body e l q =
+      let i : IsContent w (part s (at + 4) (at + r .end)) (g .one .content) =
+      subst (λ (n : ℕ). IsContent n (part s (at + 4) (at + r .end)) (g .one .content)) e (g .is) in
+      subst (FirstBody w (part s (at + 4) (at + r .end)))
+      (sym (q ∙ keep-yes (ofKind w) (g .one) others (payloadsIn k (drop at s)) (g .item) (of-kind e))) (a-body i)
+
+-- no unknown critical one: its type is known, or its bit is not set
+pub known-bit : (b k : Bool) → k ≡ true → (b && not k) ≡ false
+known-bit true k e = ap not e
+known-bit false k e = refl
+
+pub clear-bit : (b k : Bool) → b ≡ false → (b && not k) ≡ false
+clear-bit b k e = ap (λ (x : Bool). x && not k) e
+
+module _ (k : ℕ) (s : List ℕ) (at : ℕ) (r : PayloadParts) (g : Step k s at r) where
+  bit : unknownCritical (g .one) ≡ (r .critical && not (isKnown k))
+  bit = λ i. g .critical i && not (isKnown (g .kind i))
+
+  pub critical-here : r .critical ≡ true → isKnown k ≡ false → any unknownCritical (payloadsIn k (drop at s)) ≡ true
+  critical-here e f =
+      any-yes unknownCritical (g .one) (payloadsIn (r .next) (drop (at + r .end) s)) (payloadsIn k (drop at s)) (g .item)
+      (bit ∙ (λ i. e i && not (f i)))
+
+  pub critical-later : (r .critical && not (isKnown k)) ≡ false
+      → any unknownCritical (payloadsIn k (drop at s)) ≡ any unknownCritical (payloadsIn (r .next) (drop (at + r .end) s))
+  critical-later e =
+      any-no unknownCritical (g .one) (payloadsIn (r .next) (drop (at + r .end) s)) (payloadsIn k (drop at s)) (g .item) (bit ∙ e)
+
+module _ (w : ℕ) (s : List ℕ) (k : ℕ) (e : k ≡ 0) where
+  pub count-none : count (ofKind w) (payloadsIn k s) ≡ 0
+  unfolding count
+  count-none = ap (count (ofKind w)) (none-left s k e)
+
+  pub keep-none : keep (ofKind w) (payloadsIn k s) ≡ []
+  unfolding keep
+  keep-none = ap (keep (ofKind w)) (none-left s k e)
+
+  pub critical-none : any unknownCritical (payloadsIn k s) ≡ false
+  unfolding any
+  critical-none = ap (any unknownCritical) (none-left s k e)

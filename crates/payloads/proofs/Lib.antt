@@ -1,0 +1,5 @@
+pub mod FrameLaws
+pub mod StepLaws
+pub mod KindLaws
+pub mod HeldLaws
+pub mod FoundLaws

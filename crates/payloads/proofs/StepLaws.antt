@@ -1,0 +1,52 @@
+-- One payload of the chain, and the others, where a loop over them stands.
+use Prim.Native.Nat.{ℕ, _+_, _-_, _≤_}
+use mathlib.Core.Path.{_≡_, refl, ap, _∙_, subst}
+use mathlib.Core.List.{List, [], _∷_}
+use mathlib.Core.Bool.{true}
+use native.Mathlib.Omega.{arith}
+use lib.ListN.{length, drop, length-drop}
+use lib.Seq.{drop-drop}
+use Rattle.octets.specs.Walk.{part}
+use Rattle.octets.proofs.Walks.{tail, to-end, chain-stop}
+use Rattle.frames.specs.Frame.{Payload, payload, noneNext, payloads, exactly}
+use Rattle.frames.specs.Grammar.{IsContent}
+use Rattle.frames.proofs.PayloadLaws.{takes}
+use Rattle.contents.specs.inner.Values.{isWhole, itemsOf}
+use Rattle.contents.specs.inner.Payloads.{payloadsIn, PayloadIs}
+use Rattle.contents.specs.declared.payload.PayloadParts.{PayloadParts}
+
+pub none-left : (s : List ℕ) (k : ℕ) → k ≡ 0 → payloadsIn k s ≡ []
+none-left s k e =
+    ap (λ (n : ℕ). payloadsIn n s) e ∙ ap itemsOf (chain-stop noneNext payload takes 0 0 s refl)
+
+pub record Step (k : ℕ) (s : List ℕ) (at : ℕ) (r : PayloadParts) : Type 0 where
+  pub some : 4 ≤ r .end
+  pub inside : at + r .end ≤ length s
+  pub one : Payload
+  pub kind : one .kind ≡ k
+  pub critical : one .critical ≡ r .critical
+  pub is : IsContent k (part s (at + 4) (at + r .end)) (one .content)
+  pub item : payloadsIn k (drop at s) ≡ one ∷ payloadsIn (r .next) (drop (at + r .end) s)
+  pub rest : isWhole (exactly (payloads (r .next) 0 (drop (at + r .end) s))) ≡ true
+
+-- what a loop asks before it reads the next one
+pub reads-next : (k : ℕ) (s : List ℕ) (at : ℕ) → isWhole (exactly (payloads k 0 (drop at s))) ≡ true
+    → isWhole (exactly (payloads k 0 (tail s at))) ≡ true
+reads-next k s at e = ap (λ (l : List ℕ). isWhole (exactly (payloads k 0 l))) (to-end s at) ∙ e
+
+pub step : (k : ℕ) (s : List ℕ) (at : ℕ) (r : PayloadParts) → at ≤ length s → PayloadIs k (tail s at) r → Step k s at r
+step k s at r h f =
+    let d : PayloadIs k (drop at s) r = subst (λ (l : List ℕ). PayloadIs k l r) (to-end s at) f in
+    let j : drop (r .end) (drop at s) ≡ drop (at + r .end) s = drop-drop (r .end) at s in
+    let n : r .end - 4 ≡ at + r .end - (at + 4) = omega arith in
+    let p : part (drop at s) 4 (r .end) ≡ part s (at + 4) (at + r .end) = rw (drop-drop 4 at s, n) in
+    record {
+      some = d .some;
+      inside = omega (arith, d .some, d .inside, length-drop at s);
+      one = record { kind = k; critical = r .critical; content = d .content };
+      kind = refl;
+      critical = refl;
+      is = subst (λ (l : List ℕ). IsContent k l (d .content)) p (d .is);
+      item = d .item ∙ ap (λ (l : List ℕ). record { kind = k; critical = r .critical; content = d .content } ∷ payloadsIn (r .next) l) j;
+      rest = subst (λ (l : List ℕ). isWhole (exactly (payloads (r .next) 0 l)) ≡ true) j (d .rest);
+    }
