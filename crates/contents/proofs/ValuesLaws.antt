@@ -2,24 +2,25 @@
 use Prim.Native.Nat.{ℕ, _+_, _-_, _<_, _≤_}
 use mathlib.Core.Path.{_≡_, refl, ap, sym, _∙_, subst}
 use mathlib.Core.List.{List, [], _∷_}
-use mathlib.Core.Bool.{Bool, true, false}
+use mathlib.Core.Bool.{Bool, true, false, not}
 use native.Mathlib.Omega.{arith}
 use borrow.Author.Tests.{eq-eqb, ne-eqb}
 use lib.Dec.{leb, eqb}
 use lib.ListN.{length, drop, length-drop}
 use lib.Seq.{drop-drop}
 use Rattle.octets.specs.Walk.{be16, part, either, Reading, whole, broken}
-use Rattle.octets.proofs.Walks.{both-true, many-none}
+use Rattle.octets.proofs.Walks.{both-true, part-length, many-none}
 use Rattle.octets.proofs.Inverse.{inverse-opened}
 use Rattle.octets.proofs.Grammar.{first-rest}
-use Rattle.attributes.specs.Attribute.{Attribute, sizeOf, valueOf, attributeOf, fits}
-use Rattle.attributes.specs.Place.{meaningOf}
+use Rattle.attributes.specs.Attribute.{Attribute, isShort, kindOf, sizeOf, valueOf, attributeOf, fits}
+use Rattle.attributes.specs.Place.{meaningOf, wrappedSize, formed}
 use Rattle.attributes.specs.Tree.{codeOf, means, valuesOf}
 use Rattle.attributes.specs.Layout.{formedIn, fitsIn, attribute, attributes}
 use Rattle.attributes.specs.Grammar.{IsAttribute}
-use Rattle.contents.specs.inner.Values.{isWhole, itemsOf, attributesIn, valuesIn}
+use Rattle.contents.specs.inner.Values.{isWhole, itemsOf, attributesIn, valuesIn, valueSize}
 use Rattle.attributes.specs.declared.tables.Place.{Place}
 use Rattle.attributes.specs.declared.tables.Meaning.{Meaning}
+use Rattle.attributes.specs.declared.tables.Meaning.the-variants as meaning
 use Rattle.attributes.proofs.AttributeLaws.{takes, IsRead, read-inside}
 use Rattle.attributes.proofs.GrammarLaws.{sound, complete, are-read, read-are}
 
@@ -32,15 +33,44 @@ pub is-whole : {A : Type 0} (x : Reading (List A)) (l : List A) (rest : List ℕ
 is-whole x l rest e = (ap isWhole e, ap itemsOf e)
 
 attribute-is : (p : Place) (b : ℕ) (s : List ℕ) (a : Attribute) (rest : List ℕ) → attribute p b s ≡ whole a rest
-    → (fits s ≡ true) × (attributeOf s ≡ a) × (drop (sizeOf s) s ≡ rest)
+    → (fits s ≡ true) × (attributeOf s ≡ a) × (drop (sizeOf s) s ≡ rest) × (formedIn p (attributeOf s) ≡ true)
 unfolding attribute
 attribute-is p b s a rest q =
     let f = inverse-opened b (fitsIn p s) (whole (attributeOf s) (drop (sizeOf s) s)) a rest q in
+    let g = both-true (fits s) (formedIn p (attributeOf s)) (f .0) in
     let e = f .1 in
-    (both-true (fits s) (formedIn p (attributeOf s)) (f .0) .0, cc, cc)
+    (g .0, cc, cc, g .1)
+
+-- a meaning's number says which it is
+meaningAt : ℕ → Meaning
+meaningAt n =
+    either (eqb n 1) meaning.KeyLength (either (eqb n 2) meaning.InitialMessageId (either (eqb n 3) meaning.DeactivationDelay
+    (either (eqb n 4) meaning.SaKey (either (eqb n 5) meaning.WrapKey meaning.Skipped))))
+
+at-code : (m : Meaning) → meaningAt (codeOf m) ≡ m
+unfolding meaningAt
+at-code meaning.Skipped = refl
+at-code meaning.KeyLength = refl
+at-code meaning.InitialMessageId = refl
+at-code meaning.DeactivationDelay = refl
+at-code meaning.SaKey = refl
+at-code meaning.WrapKey = refl
+
+same-code : (m k : Meaning) → codeOf m ≡ codeOf k → m ≡ k
+same-code m k e = sym (at-code m) ∙ ap meaningAt e ∙ at-code k
+
+-- what is formed has its size
+sized : (m : Meaning) (short : Bool) (n : ℕ) → formed m short n ≡ true → (short ≡ true → n ≡ 2) → valueSize m n ≡ true
+sized meaning.Skipped short n f h = refl
+sized meaning.KeyLength short n f h = eq-eqb n 2 (h f)
+sized meaning.InitialMessageId short n f h = both-true (not short) (eqb n 4) f .1
+sized meaning.DeactivationDelay short n f h = eq-eqb n 2 (h f)
+sized meaning.SaKey short n f h = both-true (not short) (wrappedSize n) f .1
+sized meaning.WrapKey short n f h = both-true (not short) (wrappedSize n) f .1
 
 record Head (p : Place) (s : List ℕ) : Type 0 where
   fit : fits s ≡ true
+  formed : formedIn p (attributeOf s) ≡ true
   first : attributesIn p s ≡ attributeOf s ∷ attributesIn p (drop (sizeOf s) s)
   rest : isWhole (attributes p 0 (drop (sizeOf s) s)) ≡ true
 
@@ -53,6 +83,7 @@ head-of p s e h =
     let i = is-whole (attributes p 0 (drop (sizeOf s) s)) (f .others) [] k in
     record {
       fit = g .0;
+      formed = g .3;
       first = f .all ∙ (λ j. sym (g .1) j ∷ sym (i .1) j);
       rest = i .0;
     }
@@ -111,6 +142,26 @@ module _ (m : Meaning) (p : Place) (s : List ℕ) (at : ℕ) (e : isWhole (attri
           go : (t : Bool) → either t 2 4 ≡ a → 0 < a
           go true q = omega arith
           go false q = omega arith
+
+      -- a value has the size that its meaning asks for
+      value-length : length (valueOf (drop at s)) ≡ at + n - (at + a)
+      value-length =
+          let i = read-inside (drop at s) short kind a n f in
+          let d : n - a ≡ at + n - (at + a) = omega arith in
+          rw (f .start, f .size) (part-length (drop at s) a n (i .0) (i .1) ∙ d)
+
+      short-value : isShort (drop at s) ≡ true → at + n - (at + a) ≡ 2
+      short-value t =
+          let g : a ≡ 2 = sym (f .start) ∙ ap (λ (u : Bool). either u 2 4) t in
+          let h : n ≡ 4 = sym (f .size) ∙ ap (λ (u : Bool). either u 4 (4 + be16 (drop at s) 2)) t in
+          omega (arith, g, h)
+
+      pub size : (c w : ℕ) → c ≡ codeOf (meaningOf p kind) → w ≡ codeOf m → c ≡ w → valueSize m (at + n - (at + a)) ≡ true
+      size c w cq wq eq =
+          let k : m ≡ meaningOf p (kindOf (drop at s)) =
+          sym (ap (meaningOf p) (f .type) ∙ same-code (meaningOf p kind) m (sym cq ∙ eq ∙ wq)) in
+          sized m (isShort (drop at s)) (at + n - (at + a))
+          ((λ j. formed (k j) (isShort (drop at s)) (sym value-length j)) ∙ head .formed) short-value
 
 -- the same list at any offset
 pub any-offset : (p : Place) (b c : ℕ) (s : List ℕ) (l : List Attribute) (rest : List ℕ) → attributes p b s ≡ whole l rest

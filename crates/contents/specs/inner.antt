@@ -1,4 +1,5 @@
 pub mod Values
 pub mod Policies
+pub mod Bodies
 pub mod Bags
 pub mod Payloads

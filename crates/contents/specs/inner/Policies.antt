@@ -1,5 +1,5 @@
 -- Policies whose layout is whole, for the readers that go through them again: the first one, and the others.
-use Prim.Native.Nat.{ℕ, _≤_}
+use Prim.Native.Nat.{ℕ, _<_, _≤_}
 use mathlib.Core.Path.{_≡_}
 use mathlib.Core.List.{List, _∷_}
 use mathlib.Core.Bool.{true}
@@ -22,6 +22,7 @@ pub record Heads (s : List ℕ) (r : Parts) : Type 0 where
   pub some : 4 ≤ r .body
   pub order : r .body ≤ r .end
   pub inside : r .end ≤ length s
+  pub twoOctets : r .end < 65536
 
 abbrev pub policiesIn : List ℕ → List Policy
 policiesIn s = itemsOf (policies 0 s)

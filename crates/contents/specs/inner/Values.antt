@@ -1,15 +1,18 @@
 -- Octets whose layout is whole, for the readers that go through them again: their items, and what finding one says.
-use Prim.Native.Nat.{ℕ, _<_, _≤_}
+use Prim.Native.Nat.{ℕ, _-_, _<_, _≤_}
 use mathlib.Core.Path.{_≡_}
 use mathlib.Core.List.{List, [], _∷_}
 use mathlib.Core.Bool.{Bool, true, false}
+use lib.Dec.{eqb}
 use lib.ListN.{length, drop}
 use Rattle.octets.specs.Walk.{part, Reading, whole, broken}
 use Rattle.attributes.specs.Attribute.{Attribute}
+use Rattle.attributes.specs.Place.{wrappedSize}
 use Rattle.attributes.specs.Tree.{valuesOf}
 use Rattle.attributes.specs.Layout.{attributes}
 use Rattle.attributes.specs.declared.tables.Place.{Place}
 use Rattle.attributes.specs.declared.tables.Meaning.{Meaning}
+use Rattle.attributes.specs.declared.tables.Meaning.the-variants as meaning
 use Rattle.contents.specs.declared.values.Found.{Found}
 use Rattle.contents.specs.declared.values.Found.the-variants as found
 
@@ -28,12 +31,22 @@ attributesIn p s = itemsOf (attributes p 0 s)
 abbrev pub valuesIn : Meaning → Place → List ℕ → List (List ℕ)
 valuesIn m p s = valuesOf m p (attributesIn p s)
 
+-- the octets that such a value has, where the layout is whole
+abbrev pub valueSize : Meaning → ℕ → Bool
+valueSize meaning.Skipped n = true
+valueSize meaning.KeyLength n = eqb n 2
+valueSize meaning.InitialMessageId n = eqb n 4
+valueSize meaning.DeactivationDelay n = eqb n 2
+valueSize meaning.SaKey n = wrappedSize n
+valueSize meaning.WrapKey n = wrappedSize n
+
 -- the first of them from a place on stands from a to e; the others come after it
 pub record FoundAt (m : Meaning) (p : Place) (s : List ℕ) (from a e : ℕ) : Type 0 where
   pub first : valuesIn m p (drop from s) ≡ part s a e ∷ valuesIn m p (drop e s)
   pub start : from < a
   pub order : a ≤ e
   pub inside : e ≤ length s
+  pub size : valueSize m (e - a) ≡ true
   pub rest : isWhole (attributes p 0 (drop e s)) ≡ true
 
 abbrev pub Finds : Meaning → Place → List ℕ → ℕ → Found → Type 0

@@ -11,7 +11,7 @@ use Rattle.attributes.specs.Answers.{readOf}
 use Rattle.contents.specs.inner.Values.{isWhole, valuesIn}
 use Rattle.attributes.specs.declared.tables.Meaning.{Meaning}
 use Rattle.attributes.proofs.AttributeLaws.{IsRead, read-is, cut-is}
-use Rattle.contents.proofs.ValuesLaws.{none-left, never-cut, next-inside, next-whole, miss, hit, starts-after}
+use Rattle.contents.proofs.ValuesLaws.{none-left, never-cut, next-inside, next-whole, miss, hit, size, starts-after}
 use borrow.Author.Needs.{needs}
 use Rattle.contents.proofs.values.next_of.Statement.{statement}
 use Rattle.contents.proofs.values.next_of.Tie as tie
@@ -47,27 +47,25 @@ enum-known-kind c = search needs
 
 read : (c : tie.After-known-told Inv-loop μ-loop)
     → let v = c .before .kind .given .0 in
-    IsRead (drop (c .before .before .before .before .before .before .loop .at) (now
-    (c .before .before .before .before .before .before .before .before .before .args .s))) (v .0) (v .1 .0) (v .1 .1 .0) (v .1 .1 .1 .0)
+    let s = now (c .before .before .before .before .before .before .before .before .before .args .s) in
+    IsRead (drop (c .before .before .before .before .before .before .loop .at) s) (v .0) (v .1 .0) (v .1 .1 .0) (v .1 .1 .1 .0)
 read c =
     let v = c .before .kind .given .0 in
-    read-is (drop (c .before .before .before .before .before .before .loop .at) (now
-    (c .before .before .before .before .before .before .before .before .before .args .s))) (v .0) (v .1 .0) (v .1 .1 .0) (v .1 .1 .1 .0)
-    (sym (c .before .kind .given .1) ∙ c .before .before .before .attribute-read .ensures ∙ ap readOf (to-end (now
-    (c .before .before .before .before .before .before .before .before .before .args .s))
-    (c .before .before .before .before .before .before .loop .at)))
+    let s = now (c .before .before .before .before .before .before .before .before .before .args .s) in
+    let at = c .before .before .before .before .before .before .loop .at in
+    read-is (drop at s) (v .0) (v .1 .0) (v .1 .1 .0) (v .1 .1 .1 .0)
+    (sym (c .before .kind .given .1) ∙ c .before .before .before .attribute-read .ensures ∙ ap readOf (to-end s at))
 
 inside : (c : tie.After-known-told Inv-loop μ-loop)
     → let v = c .before .kind .given .0 in
-    (0 < v .1 .1 .1 .0) × (c .before .before .before .before .before .before .loop .at + v .1 .1 .1 .0 ≤ length (now
-    (c .before .before .before .before .before .before .before .before .before .args .s))) × (v .1 .1 .0 ≤ v .1 .1 .1 .0)
+    let s = now (c .before .before .before .before .before .before .before .before .before .args .s) in
+    (0 < v .1 .1 .1 .0) × (c .before .before .before .before .before .before .loop .at + v .1 .1 .1 .0 ≤ length s)
+    × (v .1 .1 .0 ≤ v .1 .1 .1 .0)
 inside c =
     let v = c .before .kind .given .0 in
-    next-inside (c .before .before .before .before .before .before .before .before .before .args .m)
-    (c .before .before .before .before .before .before .before .before .before .args .place) (now
-    (c .before .before .before .before .before .before .before .before .before .args .s))
-    (c .before .before .before .before .before .before .loop .at) (c .before .before .before .before .before .before .loop .inv .2)
-    (c .before .before .before .before .before .loop-test .taken)
+    let a = c .before .before .before .before .before .before .before .before .before .args in
+    let l = c .before .before .before .before .before .before .loop in
+    next-inside (a .m) (a .place) (now (a .s)) (l .at) (l .inv .2) (c .before .before .before .before .before .loop-test .taken)
     (v .0) (v .1 .0) (v .1 .1 .0) (v .1 .1 .1 .0) (read c)
 
 meaning-in-requires : tie.Need-meaning-in-requires Inv-loop μ-loop
@@ -84,42 +82,29 @@ add-t20 c = let i = inside (c .before .before .before) in record { fits = omega 
 
 returns : tie.Need-returns Inv-loop μ-loop
 returns c =
-    let v = c .before .before .before .before .kind .given .0 in
-    let i = inside (c .before .before .before) in
+    let b = c .before .before .before in
+    let l = b .before .before .before .before .before .before .loop in
+    let a = b .before .before .before .before .before .before .before .before .before .args in
+    let h = b .before .before .before .before .before .loop-test .taken in
+    let w = b .before .before .before .before .before .before .before .code .ensures in
+    let k = c .before .code2 .ensures ∙ ap codeOf (c .before .before .meaning-in .ensures) in
+    let v = b .before .kind .given .0 in
+    let i = inside b in
     record {
       first =
-          c .before .before .before .before .before .before .before .before .before .loop .inv .3
-          (c .before .before .before .before .before .before .before .before .before .before .before .before .args .m)
-          (c .before .before .before .before .before .before .before .before .before .before .code .ensures)
-          ∙ hit (c .before .before .before .before .before .before .before .before .before .before .before .before .args .m)
-          (c .before .before .before .before .before .before .before .before .before .before .before .before .args .place) (now
-          (c .before .before .before .before .before .before .before .before .before .before .before .before .args .s))
-          (c .before .before .before .before .before .before .before .before .before .loop .at)
-          (c .before .before .before .before .before .before .before .before .before .loop .inv .2)
-          (c .before .before .before .before .before .before .before .before .loop-test .taken)
-          (v .0) (v .1 .0) (v .1 .1 .0) (v .1 .1 .1 .0) (read (c .before .before .before)) _ _ (c .before .code2 .ensures ∙ ap codeOf
-          (c .before .before .meaning-in .ensures))
-          (c .before .before .before .before .before .before .before .before .before .before .code .ensures) (c .if1 .taken);
+          l .inv .3 (a .m) w
+          ∙ hit (a .m) (a .place) (now (a .s)) (l .at) (l .inv .2) h (v .0) (v .1 .0) (v .1 .1 .0) (v .1 .1 .1 .0) (read b) _ _ k w
+          (c .if1 .taken);
       start = omega (
         arith,
-        c .before .before .before .before .before .before .before .before .before .loop .inv .0,
-        starts-after (c .before .before .before .before .before .before .before .before .before .before .before .before .args .m)
-            (c .before .before .before .before .before .before .before .before .before .before .before .before .args .place) (now
-            (c .before .before .before .before .before .before .before .before .before .before .before .before .args .s))
-            (c .before .before .before .before .before .before .before .before .before .loop .at)
-            (c .before .before .before .before .before .before .before .before .before .loop .inv .2)
-            (c .before .before .before .before .before .before .before .before .loop-test .taken)
-            (v .0) (v .1 .0) (v .1 .1 .0) (v .1 .1 .1 .0) (read (c .before .before .before)),
+        l .inv .0,
+        starts-after (a .m) (a .place) (now (a .s)) (l .at) (l .inv .2) h (v .0) (v .1 .0) (v .1 .1 .0) (v .1 .1 .1 .0) (read b),
       );
       order = omega (arith, i .2);
       inside = i .1;
-      rest = next-whole (c .before .before .before .before .before .before .before .before .before .before .before .before .args .m)
-          (c .before .before .before .before .before .before .before .before .before .before .before .before .args .place) (now
-          (c .before .before .before .before .before .before .before .before .before .before .before .before .args .s))
-          (c .before .before .before .before .before .before .before .before .before .loop .at)
-          (c .before .before .before .before .before .before .before .before .before .loop .inv .2)
-          (c .before .before .before .before .before .before .before .before .loop-test .taken)
-          (v .0) (v .1 .0) (v .1 .1 .0) (v .1 .1 .1 .0) (read (c .before .before .before));
+      size = size (a .m) (a .place) (now (a .s)) (l .at) (l .inv .2) h (v .0) (v .1 .0) (v .1 .1 .0) (v .1 .1 .1 .0) (read b) _ _ k w
+          (c .if1 .taken);
+      rest = next-whole (a .m) (a .place) (now (a .s)) (l .at) (l .inv .2) h (v .0) (v .1 .0) (v .1 .1 .0) (v .1 .1 .1 .0) (read b);
     }
 
 add-at : tie.Need-add-at Inv-loop μ-loop
@@ -130,25 +115,19 @@ loop-less c = let i = inside (c .before .before .before) in omega (arith, i .0, 
 
 loop-again : tie.Need-loop-again Inv-loop μ-loop
 loop-again c =
-    let v = c .before .before .before .before .kind .given .0 in
-    let i = inside (c .before .before .before) in (
-      omega (arith, c .before .before .before .before .before .before .before .before .before .loop .inv .0),
+    let b = c .before .before .before in
+    let l = b .before .before .before .before .before .before .loop in
+    let a = b .before .before .before .before .before .before .before .before .before .args in
+    let h = b .before .before .before .before .before .loop-test .taken in
+    let k = c .before .code2 .ensures ∙ ap codeOf (c .before .before .meaning-in .ensures) in
+    let v = b .before .kind .given .0 in
+    let i = inside b in (
+      omega (arith, l .inv .0),
       i .1,
-      next-whole (c .before .before .before .before .before .before .before .before .before .before .before .before .args .m)
-          (c .before .before .before .before .before .before .before .before .before .before .before .before .args .place) (now
-          (c .before .before .before .before .before .before .before .before .before .before .before .before .args .s))
-          (c .before .before .before .before .before .before .before .before .before .loop .at)
-          (c .before .before .before .before .before .before .before .before .before .loop .inv .2)
-          (c .before .before .before .before .before .before .before .before .loop-test .taken)
-          (v .0) (v .1 .0) (v .1 .1 .0) (v .1 .1 .1 .0) (read (c .before .before .before)),
-      λ m e. c .before .before .before .before .before .before .before .before .before .loop .inv .3 m e ∙ miss m
-          (c .before .before .before .before .before .before .before .before .before .before .before .before .args .place) (now
-          (c .before .before .before .before .before .before .before .before .before .before .before .before .args .s))
-          (c .before .before .before .before .before .before .before .before .before .loop .at)
-          (c .before .before .before .before .before .before .before .before .before .loop .inv .2)
-          (c .before .before .before .before .before .before .before .before .loop-test .taken)
-          (v .0) (v .1 .0) (v .1 .1 .0) (v .1 .1 .1 .0) (read (c .before .before .before)) _ _ (c .before .code2 .ensures ∙ ap codeOf
-          (c .before .before .meaning-in .ensures)) e (c .if1 .left),
+      next-whole (a .m) (a .place) (now (a .s)) (l .at) (l .inv .2) h (v .0) (v .1 .0) (v .1 .1 .0) (v .1 .1 .1 .0) (read b),
+      λ m e. l .inv .3 m e
+          ∙ miss m (a .place) (now (a .s)) (l .at) (l .inv .2) h (v .0) (v .1 .0) (v .1 .1 .0) (v .1 .1 .1 .0) (read b) _ _ k e
+          (c .if1 .left),
     )
 
 enum-told : tie.Need-enum-told Inv-loop μ-loop
@@ -156,21 +135,19 @@ enum-told c = search needs
 
 returns-2 : tie.Need-returns-2 Inv-loop μ-loop
 returns-2 c =
+    let l = c .before .before .before .before .before .loop in
+    let a = c .before .before .before .before .before .before .before .before .args in
+    let s = now (a .s) in
     absurd
-    (never-cut (c .before .before .before .before .before .before .before .before .args .m)
-    (c .before .before .before .before .before .before .before .before .args .place) (now
-    (c .before .before .before .before .before .before .before .before .args .s)) (c .before .before .before .before .before .loop .at)
-    (c .before .before .before .before .before .loop .inv .2) (c .before .before .before .before .loop-test .taken)
-    (cut-is (drop (c .before .before .before .before .before .loop .at) (now
-    (c .before .before .before .before .before .before .before .before .args .s)))
-    (sym (c .enum-told .given .1) ∙ c .before .before .attribute-read .ensures ∙ ap readOf (to-end (now
-    (c .before .before .before .before .before .before .before .before .args .s)) (c .before .before .before .before .before .loop .at)))))
+    (never-cut (a .m) (a .place) s (l .at) (l .inv .2) (c .before .before .before .before .loop-test .taken)
+    (cut-is (drop (l .at) s) (sym (c .enum-told .given .1) ∙ c .before .before .attribute-read .ensures ∙ ap readOf (to-end s (l .at)))))
 
 returns-3 : tie.Need-returns-3 Inv-loop μ-loop
 returns-3 c =
-    c .before .loop .inv .3 (c .before .before .before .before .args .m) (c .before .before .code .ensures)
-    ∙ none-left (c .before .before .before .before .args .m) (c .before .before .before .before .args .place) (now
-    (c .before .before .before .before .args .s)) (c .before .loop .at) (c .before .loop .inv .2) (c .loop-test .left)
+    let l = c .before .loop in
+    let a = c .before .before .before .before .args in
+    l .inv .3 (a .m) (c .before .before .code .ensures)
+    ∙ none-left (a .m) (a .place) (now (a .s)) (l .at) (l .inv .2) (c .loop-test .left)
 
 pub next-of-spec : {M : Type 1} → statement M
 next-of-spec =
