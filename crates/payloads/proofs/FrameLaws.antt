@@ -36,5 +36,8 @@ module _ (s : List ℕ) (e : isWhole (frame s) ≡ true) where
   pub long : 28 ≤ length s
   long = is-frame .1 .least
 
+  pub short : length s ≤ 16384
+  short = is-frame .1 .most
+
   pub starts-whole : isWhole (exactly (payloads (firstPayload s) 0 (drop 28 s))) ≡ true
   starts-whole = let w = is-frame in whole-payloads s (w .0) (w .1)

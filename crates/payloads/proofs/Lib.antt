@@ -3,3 +3,5 @@ pub mod StepLaws
 pub mod KindLaws
 pub mod HeldLaws
 pub mod FoundLaws
+pub mod DeleteLaws
+pub mod DeletedLaws

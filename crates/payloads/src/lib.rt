@@ -1,4 +1,5 @@
 // What the payloads of a frame whose layout is whole hold, gone through again by the judging that follows.
+pub mod deletion;
 pub mod kinds;
 
 ghost use mathlib.Core.Path.{_≡_};

@@ -1,0 +1,134 @@
+-- Going through the Delete payloads of a frame.
+use Prim.Native.Nat.{ℕ, _+_}
+use mathlib.Core.Path.{_≡_, refl, ap, sym, _∙_, subst}
+use mathlib.Core.List.{List, [], _∷_, _++_}
+use mathlib.Core.Bool.{Bool, true, false, not, _||_}
+use native.Mathlib.Omega.{arith}
+use lib.ListN.{length, drop, length-append}
+use lib.Dec.{eqb}
+use Rattle.octets.specs.Walk.{part, whole}
+use Rattle.keys.specs.Lists.{any}
+use Rattle.frames.specs.Delete.{Delete, deleteOf, deleteFits}
+use Rattle.frames.specs.Frame.{Content, gsa, kd, delete, unread, Payload, Frame, frame}
+use Rattle.frames.specs.Grammar.{IsContent, is-gsa, is-kd, is-delete, is-unread}
+use Rattle.frames.proofs.DeleteGrammar.{delete-from}
+use Rattle.frames.proofs.FrameGrammar.{read-frame}
+use Rattle.contents.specs.inner.Payloads.{payloadsIn}
+use Rattle.contents.specs.declared.payload.PayloadParts.{PayloadParts}
+use Rattle.clauses.specs.Contents.{gather, deletesIn}
+use Rattle.clauses.specs.Fitness.{esp}
+use Rattle.clauses.specs.Number5.{deleteOfOther, deleteOfNone}
+use Rattle.payloads.specs.inner.Bodies.{payloadsOf}
+use Rattle.payloads.specs.inner.Deletion.{withOne, IsDeletes}
+use Rattle.payloads.specs.declared.deletion.Deletes.{Deletes}
+use Rattle.payloads.proofs.FrameLaws.{are-payloads}
+use Rattle.payloads.proofs.StepLaws.{Step, none-left}
+
+abbrev pub ofOther : Delete → Bool
+ofOther d = not (eqb (d .protocol) esp)
+
+abbrev pub ofNone : Delete → Bool
+ofNone d = eqb (length (d .spis)) 0
+
+abbrev pub spisIn : List Delete → List (List ℕ)
+spisIn l = gather (λ (d : Delete). d .spis) l
+
+abbrev pub deletesAmong : List Payload → List Delete
+deletesAmong l = gather (λ (p : Payload). deletesIn (p .content)) l
+
+-- what was found and what the Delete payloads left hold make up all
+pub record Sums (d : Deletes) (l all : List Delete) : Type 0 where
+  pub other : (d .other || any ofOther l) ≡ any ofOther all
+  pub none : (d .none || any ofNone l) ≡ any ofNone all
+  pub spis : d .spis + length (spisIn l) ≡ length (spisIn all)
+
+pub sums-start : (all : List Delete) → Sums (record { other = false; none = false; spis = 0 }) all all
+sums-start all = record { other = refl; none = refl; spis = omega arith }
+
+moved : (a b c : Bool) → ((a || b) || c) ≡ (b || (a || c))
+moved true true c = refl
+moved true false c = refl
+moved false true c = refl
+moved false false c = refl
+
+sums-next : (d : Deletes) (x : Delete) (l all : List Delete) → Sums d (x ∷ l) all → Sums (withOne d x) l all
+unfolding any gather
+sums-next d x l all s = record {
+  other = moved (ofOther x) (d .other) (any ofOther l) ∙ s .other;
+  none = moved (ofNone x) (d .none) (any ofNone l) ∙ s .none;
+  spis = omega (arith, s .spis, length-append (x .spis) (spisIn l));
+}
+
+or-false : (a : Bool) → (a || false) ≡ a
+or-false true = refl
+or-false false = refl
+
+module _ (d : Deletes) (all : List Delete) (s : Sums d [] all) where
+  pub other-all : d .other ≡ any ofOther all
+  unfolding any
+  other-all = sym (or-false (d .other)) ∙ s .other
+
+  pub none-all : d .none ≡ any ofNone all
+  unfolding any
+  none-all = sym (or-false (d .none)) ∙ s .none
+
+  pub spis-all : d .spis ≡ length (spisIn all)
+  unfolding gather
+  spis-all = omega (arith, s .spis)
+
+-- THE DELETE PAYLOADS FROM A PAYLOAD ON
+in-delete : {k : ℕ} {o : List ℕ} (c : Content) → IsContent k o c → k ≡ 42 → (deleteFits o ≡ true) × (deletesIn c ≡ deleteOf o ∷ [])
+in-delete (gsa l) (is-gsa e f) q = absurd (omega (arith, e, q))
+in-delete (kd l) (is-kd e f) q = absurd (omega (arith, e, q))
+in-delete {o = o} (delete d) (is-delete e f) q = let g = delete-from o d f in (g .0, ap (λ (x : Delete). x ∷ []) (sym (g .1)))
+in-delete unread (is-unread a b c) q = absurd (c q)
+
+not-delete : {k : ℕ} {o : List ℕ} (c : Content) → IsContent k o c → (k ≡ 42 → ⊥) → deletesIn c ≡ []
+not-delete (gsa l) (is-gsa e f) q = refl
+not-delete (kd l) (is-kd e f) q = refl
+not-delete (delete d) (is-delete e f) q = absurd (q e)
+not-delete unread (is-unread a b c) q = refl
+
+module _ (k : ℕ) (s : List ℕ) (at : ℕ) (r : PayloadParts) (g : Step k s at r) where
+  next-list : deletesAmong (payloadsIn k (drop at s))
+      ≡ deletesIn (g .one .content) ++ deletesAmong (payloadsIn (r .next) (drop (at + r .end) s))
+  unfolding gather
+  next-list = ap deletesAmong (g .item)
+
+  pub fits-here : k ≡ 42 → deleteFits (part s (at + 4) (at + r .end)) ≡ true
+  fits-here e = in-delete (g .one .content) (g .is) e .0
+
+  left : List Delete
+  left = deletesAmong (payloadsIn (r .next) (drop (at + r .end) s))
+
+  pub sums-here : (d e : Deletes) (all : List Delete) → k ≡ 42 → e ≡ withOne d (deleteOf (part s (at + 4) (at + r .end)))
+      → Sums d (deletesAmong (payloadsIn k (drop at s))) all → Sums e (deletesAmong (payloadsIn (r .next) (drop (at + r .end) s))) all
+  unfolding left
+  sums-here d e all h q u =
+      let o = part s (at + 4) (at + r .end) in
+      let n = next-list ∙ ap (λ (x : List Delete). x ++ left) (in-delete (g .one .content) (g .is) h .1) in
+      subst (λ (x : Deletes). Sums x left all) (sym q)
+      (sums-next d (deleteOf o) left all (subst (λ (x : List Delete). Sums d x all) n u))
+
+  pub sums-later : (d : Deletes) (all : List Delete) → (k ≡ 42 → ⊥) → Sums d (deletesAmong (payloadsIn k (drop at s))) all
+      → Sums d (deletesAmong (payloadsIn (r .next) (drop (at + r .end) s))) all
+  unfolding left
+  sums-later d all h u =
+      subst (λ (x : List Delete). Sums d x all)
+      (next-list ∙ ap (λ (x : List Delete). x ++ left) (not-delete (g .one .content) (g .is) h)) u
+
+pub sums-last : (s : List ℕ) (k : ℕ) (d : Deletes) (all : List Delete) → k ≡ 0 → Sums d (deletesAmong (payloadsIn k s)) all → Sums d [] all
+unfolding gather
+sums-last s k d all e u = subst (λ (l : List Payload). Sums d (deletesAmong l) all) (none-left s k e) u
+
+-- THE FRAME'S
+pub deletes-are : (s : List ℕ) (f : Frame) → frame s ≡ whole f [] → (d : Deletes) → Sums d [] (deletesAmong (payloadsOf s)) → IsDeletes f d
+unfolding deleteOfOther deleteOfNone
+deletes-are s f q d u =
+    let e : deletesAmong (payloadsOf s) ≡ deletesAmong (f .payloads) = ap deletesAmong (sym (are-payloads s f (read-frame s f [] q))) in
+    let all = deletesAmong (payloadsOf s) in
+    record {
+      other = other-all d all u ∙ ap (any ofOther) e;
+      none = none-all d all u ∙ ap (any ofNone) e;
+      spis = spis-all d all u ∙ ap (λ (l : List Delete). length (spisIn l)) e;
+    }
