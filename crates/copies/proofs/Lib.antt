@@ -1,2 +1,4 @@
 pub mod Joining
 pub mod Opening
+pub mod Walking
+pub mod Progress

@@ -1,18 +1,25 @@
 -- What opening one copy under one key tells. Assumes nothing.
 use native.Mathlib.Omega.{arith}
-use Prim.Native.Nat.{ℕ, _-_}
+use Prim.Native.Nat.{ℕ, _-_, _≤_}
 use mathlib.Core.Path.{_≡_, refl, ap, sym, _∙_, subst}
+use mathlib.Core.Bool.{true}
 use mathlib.Core.List.{List, [], _∷_, List·Memᴰ·eq-of-singleton}
+use lib.Dec.{T}
 use lib.ListN.{length, take, drop, replicate}
-use lib.Seq.{take-at}
-use Rattle.fips197.specs.Key.{Key}
+use lib.Seq.{take-at, length-take-le}
+use Rattle.fips197.specs.Key.{Key, isKey}
 use Rattle.keywrap.specs.Opens.{Opens}
 use Rattle.keywrap.specs.Answers.{blank, OpensBlank}
 use Rattle.keywrap.specs.declared.Answer.the-variants.{No, Count}
 use Rattle.keywrap.proofs.Determined.{opens-one}
 use Rattle.chains.proofs.Members.{in-member}
+use Rattle.keys.specs.Algorithms.{sizeOf}
 use Rattle.keys.specs.Kinds.{padded}
+use Rattle.keys.specs.declared.kinds.WrappingKey.{WrappingKey}
+use Rattle.keys.proofs.Sizes.{wrapping-le}
 use Rattle.reach.proofs.Opening.{landed-none}
+use Rattle.reach.proofs.Searching.{is-key-size}
+use Rattle.copies.specs.Known.{valueOf}
 use Rattle.copies.specs.inner.Tries.{Try, SomeOpens, TriesEight, wrong-size, TriesKey}
 
 -- one try, and what it opens to
@@ -47,3 +54,14 @@ module _ (v w octets : List ℕ) where
         need-is = e;
         blanks = o ∙ ap (padded 68) (sym f);
       }
+
+-- ---- a key whose count is one of a wrapping key: its octets are there, and its schedule can be expanded
+module _ (key : WrappingKey) (e : length (key .octets) ≡ 32) (h : sizeOf 13 (key .count) ≡ true) where
+  pub key-inside : key .count ≤ length (key .octets)
+  key-inside = let g = wrapping-le (key .count) h in omega arith
+
+  pub key-count : key .count ≡ length (valueOf key)
+  key-count = sym (length-take-le (key .count) (key .octets) key-inside)
+
+  pub key-fits : T (isKey (length (valueOf key)))
+  key-fits = subst (λ (m : ℕ). T (isKey m)) key-count (is-key-size (key .count) h)
