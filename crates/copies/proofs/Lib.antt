@@ -2,3 +2,4 @@ pub mod Joining
 pub mod Opening
 pub mod Walking
 pub mod Progress
+pub mod Reaching

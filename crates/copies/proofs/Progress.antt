@@ -27,9 +27,13 @@ pub record Progress (need : ℕ) (all rest : List Try) (r : Opened) : Type 0 whe
 pub tells-none : (need : ℕ) (r : Opened) → r .found ≡ Nothing → Tells [] need r
 tells-none need r e = tell [] need r Nothing e (λ x s. List·Memᴰ·not-nil (in-member (s .one) [] (s .stands)))
 
+-- after the first of them
+pub began : (need : ℕ) (first rest : List Try) (r : Opened) → Tells first need r → Progress need (first ++ rest) rest r
+began need first rest r t = record { made = first; joins = refl; tells = t }
+
 module _ (need : ℕ) (all : List Try) where
   pub starts : (r : Opened) → r .found ≡ Nothing → Progress need all all r
-  starts r e = record { made = []; joins = refl; tells = tells-none need r e }
+  starts r e = began need [] all r (tells-none need r e)
 
   -- some more are made, and what they tell is joined
   pub goes-on : (m rest : List Try) (a b r : Opened) → Progress need all (m ++ rest) a → Tells m need b →

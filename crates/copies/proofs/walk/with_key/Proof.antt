@@ -58,9 +58,9 @@ returns-2 : tie.Need-returns-2
 returns-2 c =
     let a = c .before .before .before .before .before .args in
     let v = valueOf (a .key) in
+    let g = c .before .before .before .next-named .ensures in
     let f : triesOf (a .id) v (copiesIn (a .place) (now (a .a))) ≡ [] =
-    ap (map (tryOf v))
-    (subst (FindsNamed (a .id) (a .place) (now (a .a)) 0) (c .before .enum-told2 .given .1) (c .before .before .before .next-named .ensures)) in
+    ap (map (tryOf v)) (subst (FindsNamed (a .id) (a .place) (now (a .a)) 0) (c .before .enum-told2 .given .1) g) in
     subst (λ (l : List Try). Tells l (a .need) (c .nothing .result)) (sym f)
     (tells-none (a .need) (c .nothing .result) (c .nothing .ensures))
 
