@@ -3,3 +3,4 @@ pub mod Opening
 pub mod Walking
 pub mod Progress
 pub mod Reaching
+pub mod Rekeying
