@@ -4,3 +4,4 @@ pub mod Walking
 pub mod Progress
 pub mod Reaching
 pub mod Rekeying
+pub mod Deciding

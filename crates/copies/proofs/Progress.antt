@@ -36,12 +36,12 @@ module _ (need : ℕ) (all : List Try) where
   starts r e = began need [] all r (tells-none need r e)
 
   -- some more are made, and what they tell is joined
-  pub goes-on : (m rest : List Try) (a b r : Opened) → Progress need all (m ++ rest) a → Tells m need b →
+  pub goes-on : (left m rest : List Try) (a b r : Opened) → left ≡ m ++ rest → Progress need all left a → Tells m need b →
       ((k : ℕ) (x y : List Try) → Tells x k a → Tells y k b → Tells (x ++ y) k r) → Progress need all rest r
-  goes-on m rest a b r p t f =
+  goes-on left m rest a b r e p t f =
       record {
         made = p .made ++ m;
-        joins = append-assoc (p .made) m rest ∙ p .joins;
+        joins = append-assoc (p .made) m rest ∙ ap (λ (l : List Try). p .made ++ l) (sym e) ∙ p .joins;
         tells = f need (p .made) m (p .tells) t;
       }
 
@@ -49,9 +49,6 @@ module _ (need : ℕ) (all : List Try) where
   ends rest r e p =
       subst (λ (l : List Try). Tells l need r) (sym (append-nil (p .made)) ∙ ap (λ (l : List Try). p .made ++ l) (sym e) ∙ p .joins)
       (p .tells)
-
-  pub left-is : (rest others : List Try) (r : Opened) → rest ≡ others → Progress need all rest r → Progress need all others r
-  left-is rest others r e p = subst (λ (l : List Try). Progress need all l r) e p
 
 -- ---- the next copy that names a key
 module _ (k : ℕ) (v : List ℕ) (p : Place) (s : List ℕ) (from a e : ℕ) (f : NamedAt k p s from a e) where

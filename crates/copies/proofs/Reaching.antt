@@ -164,6 +164,7 @@ module _ (copies : List SaKey) where
             record {
               key = record { opens = to (take c o) (t .opens); every = λ y p. t .every y (from y p) };
               need = t .need-is;
+              length-is = t .size;
               blanks = t .blanks;
               fit = fit o c t;
             }

@@ -2,7 +2,7 @@
 use Prim.Native.Nat.{ℕ}
 use mathlib.Core.Path.{_≡_}
 use mathlib.Core.List.{List, map}
-use lib.ListN.{take}
+use lib.ListN.{length, take}
 use Rattle.attributes.specs.Tree.{SaKey, WrapKey, saKeyOf}
 use Rattle.attributes.specs.declared.tables.Place.{Place}
 use Rattle.attributes.specs.declared.tables.Meaning.the-variants as meaning
@@ -27,6 +27,7 @@ module _ (roots : List Root) (entries : List WrapKey) (size : ℕ) (a : Announce
   pub record HasKey (octets : List ℕ) (count : ℕ) : Type 0 where
     pub key : KeyOf roots entries size a (take count octets)
     pub need : count ≡ a .need
+    pub length-is : length (take count octets) ≡ a .need
     pub blanks : octets ≡ padded 68 (take count octets)
     pub fit : CopiesEight roots entries size a → ⊥
 

@@ -13,7 +13,7 @@ use Rattle.copies.specs.Known.{valueOf}
 use Rattle.copies.specs.Answer.{copiesIn}
 use Rattle.copies.specs.inner.Tries.{Try, Tells}
 use Rattle.copies.specs.inner.Named.{triesOf, triesUnder}
-use Rattle.copies.proofs.Progress.{Progress, began, goes-on, ends, left-is}
+use Rattle.copies.proofs.Progress.{Progress, began, goes-on, ends}
 use Rattle.copies.proofs.Reaching.{held-count, held-size, tries-next, tries-end, answers}
 use borrow.Author.Needs.{needs}
 use Rattle.copies.proofs.copies.Statement.{statement}
@@ -72,12 +72,9 @@ loop-again c =
       l .inv .1,
       omega arith,
       λ first t.
-          goes-on (a .need) (first ++ triesUnder (keysOf (a .t5)) g) _ (triesUnder (drop (l .i + 1) (keysOf (a .t5))) g) (l .known)
-          (c .before .with-key .result) (c .joined .result)
-          (left-is (a .need) (first ++ triesUnder (keysOf (a .t5)) g) _ _ (l .known)
+          goes-on (a .need) (first ++ triesUnder (keysOf (a .t5)) g) _ _ _ (l .known) (c .before .with-key .result) (c .joined .result)
           (tries-next (a .t5) (s .pre .1 .1 .1) (l .inv .0) g (l .i) _ (c .before .before .before .before .loop-test .taken))
-          (l .inv .3 first t))
-          (c .before .with-key .ensures) (c .joined .ensures),
+          (l .inv .3 first t) (c .before .with-key .ensures) (c .joined .ensures),
     )
 
 returns : tie.Need-returns Inv-loop μ-loop

@@ -11,7 +11,7 @@ use Rattle.attributes.specs.Layout.{attributes}
 use Rattle.contents.specs.inner.Values.{isWhole}
 use Rattle.copies.specs.Answer.{copiesIn}
 use Rattle.copies.specs.inner.Named.{tryOf, triesOf, NamedAt, FindsNamed}
-use Rattle.copies.proofs.Progress.{Progress, starts, goes-on, ends, left-is, next-left}
+use Rattle.copies.proofs.Progress.{Progress, starts, goes-on, ends, next-left}
 use borrow.Author.Needs.{needs}
 use Rattle.copies.proofs.walk.tried.Statement.{statement}
 use Rattle.copies.proofs.walk.tried.Tie as tie
@@ -85,11 +85,8 @@ loop-again c =
       f .inside,
       f .rest,
       λ v x.
-          goes-on (a .need) (triesOf (a .id) v (copiesIn (a .place) (now (a .a)))) _
-          (triesOf (a .id) v (copiesIn (a .place) (drop (p .1 .0) (now (a .a))))) (l .known) (c .before .opened-to .result)
-          (c .joined .result)
-          (left-is (a .need) (triesOf (a .id) v (copiesIn (a .place) (now (a .a)))) _ _ (l .known)
-          (next-left (a .id) v (a .place) (now (a .a)) (l .at) (p .0) (p .1 .0) f) (l .inv .2 v x))
+          goes-on (a .need) (triesOf (a .id) v (copiesIn (a .place) (now (a .a)))) _ _ _ (l .known) (c .before .opened-to .result)
+          (c .joined .result) (next-left (a .id) v (a .place) (now (a .a)) (l .at) (p .0) (p .1 .0) f) (l .inv .2 v x)
           (c .before .opened-to .ensures v x) (c .joined .ensures),
     )
 
