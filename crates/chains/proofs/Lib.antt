@@ -1,1 +1,3 @@
 pub mod Determined
+pub mod Members
+pub mod Samples

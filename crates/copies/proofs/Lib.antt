@@ -1,0 +1,7 @@
+pub mod Joining
+pub mod Opening
+pub mod Walking
+pub mod Progress
+pub mod Reaching
+pub mod Rekeying
+pub mod Deciding

@@ -1,7 +1,7 @@
 -- The keys that a copy's KWK ID can name: "key 0 or a reached or held one". Reached keys stand in a held list too, so that key 0 and a held
 -- list serve every exchange.
 use Prim.Native.Nat.{ℕ}
-use mathlib.Core.List.{List}
+use mathlib.Core.List.{List, _∷_, map}
 use lib.ListN.{take}
 use Rattle.attributes.specs.Tree.{WrapKey}
 use Rattle.chains.specs.Chain.{In, Root, Ends}
@@ -23,3 +23,10 @@ pub data Known (zero : WrappingKey) (held : Held) : ℕ → List ℕ → Type 0 
 pub record Agrees (roots : List Root) (entries : List WrapKey) (size : ℕ) (zero : WrappingKey) (held : Held) : Type 0 where
   pub ends : (k : ℕ) (v : List ℕ) → Known zero held k v → Ends roots entries size k v
   pub known : (k : ℕ) (v : List ℕ) → Ends roots entries size k v → Known zero held k v
+
+-- "Held keys take the place of reached ones in a rekey, with the Rekey SA's default key as key 0": the roots of a rekey
+abbrev pub rootOf : HeldKey → Root
+rootOf k = record { id = k .id; value = valueOf (k .key) }
+
+abbrev pub heldRoots : WrappingKey → Held → List Root
+heldRoots zero held = record { id = 0; value = valueOf zero } ∷ map rootOf (keysOf held)

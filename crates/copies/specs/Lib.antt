@@ -1,1 +1,3 @@
 pub mod Known
+pub mod Answer
+pub mod inner
