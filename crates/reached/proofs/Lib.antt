@@ -1,2 +1,5 @@
 pub mod Sizes
 pub mod Gathering
+pub mod Membership
+pub mod Entering
+pub mod Standing
