@@ -3,3 +3,5 @@ pub mod Gathering
 pub mod Membership
 pub mod Entering
 pub mod Standing
+pub mod Agreeing
+pub mod Determined

@@ -1,19 +1,23 @@
 -- What a registration's KD body says of chains: its entries, number 8 of them, and the held list.
 use Prim.Native.Nat.{ℕ, _≤_}
 use mathlib.Core.Path.{_≡_}
-use mathlib.Core.Bool.{true}
-use mathlib.Core.List.{List}
+use mathlib.Core.Bool.{true, false}
+use mathlib.Core.List.{List, []}
 use lib.ListN.{length}
 use Rattle.attributes.specs.Tree.{WrapKey}
 use Rattle.bags.specs.Bag.{Bag, MemberKeyBag}
 use Rattle.chains.specs.Chain.{In, Root}
-use Rattle.chains.specs.Refusals.{Value}
+use Rattle.chains.specs.Refusals.{EntriesEight, Value}
 use Rattle.keys.specs.Limits.{limits}
 use Rattle.keys.specs.Lists.{all, rising}
 use Rattle.keys.specs.Kinds.{wrappingOf}
+use Rattle.keys.specs.declared.kinds.WrappingKey.{WrappingKey}
 use Rattle.state.specs.Held.{heldOf, keyFormed, idBefore}
 use Rattle.state.specs.declared.held.HeldKey.{HeldKey}
 use Rattle.state.specs.declared.held.Held.{Held}
+use Rattle.reach.specs.inner.Values.{Tells}
+use Rattle.copies.specs.Known.{Agrees}
+use Rattle.reached.specs.declared.held.Reached.{Reached}
 use Rattle.contents.specs.inner.Bags.{bagsIn}
 use Rattle.clauses.specs.Contents.{gather, memberBagOf}
 
@@ -46,3 +50,11 @@ module _ (roots : List Root) (entries : List WrapKey) (size : ℕ) where
     pub rises : rising idBefore keys ≡ true
     pub reached : (k : HeldKey) → In k keys → IsReached k
     pub stands : (i : ℕ) (x : List ℕ) → Value roots entries size i x → In (heldKeyOf i x) keys
+
+  -- the answer: whether number 8 holds of the entries; where it does not, the held list, and with `zero` as key 0 the keys on which a chain
+  -- ends; where it does, no list
+  pub record Answers (zero : WrappingKey) (r : Reached) : Type 0 where
+    pub eight : Tells (r .eight) (EntriesEight roots entries size)
+    pub held : r .eight ≡ false → HeldAre (r .held)
+    pub agrees : r .eight ≡ false → Agrees roots entries size zero (r .held)
+    pub none : r .eight ≡ true → r .held ≡ heldOf limits []

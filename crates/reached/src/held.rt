@@ -18,6 +18,12 @@ ghost use Rattle.reach.specs.inner.Search.{Searched, Nonzero};
 ghost use Rattle.reached.specs.Reached.{HeldAre};
 ghost use Rattle.reached.specs.inner.Joins.{Joins};
 
+// Whether number 8 holds of the entries; if not, the keys that they reach.
+pub struct Reached {
+    pub eight: bool,
+    pub held: Held,
+}
+
 // The list with the key of an entry that was reached. Two entries may give one key; they give it one value where number 8 does not hold.
 fn with_cell(held: Held, e: Entry, c: Cell) -> Held
     ensures { λ r. ⌜ Joins e c held r ⌝ }
