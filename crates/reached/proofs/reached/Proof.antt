@@ -1,5 +1,6 @@
 -- `reached::reached` meets its contract. Assumes nothing.
 use denote.Ref.{now}
+use native.Mathlib.Omega.{arith}
 use mathlib.Core.Path.{sym}
 use mathlib.Core.Bool.{false≢true}
 use Rattle.copies.specs.Known.{valueOf}
@@ -42,7 +43,7 @@ returns c =
     }
 
 held-of-requires : tie.Need-held-of-requires
-held-of-requires c κs = c .before .before .before .before .entries .ensures .within
+held-of-requires c κs = omega (arith, c .before .before .before .before .entries .ensures .within)
 
 returns-2 : tie.Need-returns-2
 returns-2 c =
