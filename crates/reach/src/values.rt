@@ -14,7 +14,8 @@ ghost use Rattle.reach.specs.Entries.{Lists};
 ghost use Rattle.reach.specs.inner.Search.{Searched, Nonzero};
 ghost use Rattle.reach.specs.inner.Values.{Tells, Clash, ClashAmong, AnyClash, AnyWrong, isDone, isWrong};
 
-fn is_done(c: Cell) -> bool
+// Whether a chain ends with the entry, and its key was tried on the others. Internal.
+pub fn is_done(c: Cell) -> bool
     ensures { λ r. ⌜ r ≡ isDone (c .status) ⌝ }
 {
     let s = c.status;

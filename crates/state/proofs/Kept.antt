@@ -35,7 +35,7 @@ id-trans a b c e f =
     let p = ltb-true (a .id) (b .id) e in let q = ltb-true (b .id) (c .id) f in lt-ltb (a .id) (c .id) (omega arith)
 
 -- a key whose Key ID is new stands before or after each of the list
-apart : (a : HeldKey) (l : List HeldKey) → any (λ (k : HeldKey). eqb (k .id) (a .id)) l ≡ false →
+pub apart : (a : HeldKey) (l : List HeldKey) → any (λ (k : HeldKey). eqb (k .id) (a .id)) l ≡ false →
     all (λ (k : HeldKey). idBefore a k || idBefore k a) l ≡ true
 unfolding any all
 apart a [] e = refl

@@ -127,7 +127,7 @@ with-key-requires-2 c κs =
     (u .before .before .blank .ensures) (u .before .with-key .ensures (l .0) (l .1)) in
     let fit = is-key-size (a .lent .count) (s .pre .1 .0) in
     let kept = u .loop .inv .3 (valueOf (a .lent)) (s .pre .1 .1 .0) (l .0) fit (l .1) t in (
-      s .pre .0,
+      omega (arith, s .pre .0, p .inside),
       (
         count-at (valueOf (a .lent)) (s .pre .1 .1 .0) (l .0) (a .lent .count) fit (a .frame .now) (a .t3) (a .n)
             (u .loop .cells) j (l .1) kept p

@@ -1,0 +1,99 @@
+// The WRAP_KEYs of a KD body, which stand in its Member Key Bags: "Reading attribute 1 without its bag" takes SA_KEYs for them.
+use attributes::tables::Meaning;
+use attributes::tables::Place;
+use contents::bag::bag_parts;
+use contents::values::Found;
+use contents::values::next_of;
+use reach::open::Entry;
+ghost use mathlib.Core.Path.{_≡_};
+ghost use mathlib.Core.Bool.{true};
+ghost use mathlib.Core.List.{List, _++_};
+ghost use Prim.Native.Nat.{ℕ, _+_, _≤_};
+ghost use lib.ListN.{length};
+ghost use Rattle.octets.specs.Walk.{part};
+ghost use Rattle.attributes.specs.Tree.{WrapKey, wrapKeyOf};
+ghost use Rattle.attributes.specs.Layout.{attributes};
+ghost use Rattle.attributes.specs.declared.tables.Place.the-variants.{MemberBag};
+ghost use Rattle.bags.specs.Bag.{bags};
+ghost use Rattle.contents.specs.inner.Values.{isWhole};
+ghost use Rattle.reach.specs.Entries.{IsEntry, Lists, noEntry};
+ghost use Rattle.reached.specs.Reached.{wrapKeysIn};
+ghost use Rattle.reached.specs.inner.Entries.{bagKeys};
+
+// Where WRAP_KEYs stand: the first `count` places.
+pub struct Listing {
+    pub places: [Entry; 32],
+    pub count: usize,
+}
+
+fn blank() -> Entry
+    ensures { λ r. ⌜ r ≡ noEntry ⌝ }
+{
+    Entry {
+        id: 0,
+        kwk: 0,
+        start: 0,
+        end: 0,
+    }
+}
+
+// The entry whose attribute's value stands from a to e.
+fn entry(k: &[u8], a: usize, e: usize) -> Entry
+    requires { ⌜ (a + 8 ≤ e) × (e ≤ length (now k)) ⌝ }
+    ensures { λ r. ⌜ IsEntry (now (k .entry)) r (wrapKeyOf (part (now (k .entry)) a e)) ⌝ }
+{
+    let v = &k[a..e];
+    Entry {
+        id: octets::numbers::be32_at(v, 0),
+        kwk: octets::numbers::be32_at(v, 4),
+        start: a + 8,
+        end: e,
+    }
+}
+
+// The list with the WRAP_KEYs of one Member Key Bag behind it; the bag's attributes stand from a to e.
+fn with_bag(k: &[u8], a: usize, e: usize, list: Listing) -> Listing
+    requires { ⌜ (a ≤ e) × (e ≤ length (now k)) ⌝ }
+    requires { ⌜ isWhole (attributes MemberBag 0 (part (now k) a e)) ≡ true ⌝ }
+    requires { ⌜ list .count + length (bagKeys (part (now k) a e)) ≤ 32 ⌝ }
+    ensures { λ r. ⌜ ((l : List WrapKey) → Lists (now (k .entry)) (list .places) (list .count) l →
+        Lists (now (k .entry)) (r .places) (r .count) (l ++ bagKeys (part (now (k .entry)) a e))) ⌝ }
+{
+    let s = &k[a..e];
+    let mut places = list.places;
+    let mut n = list.count;
+    let mut at: usize = 0;
+    loop {
+        match next_of(Meaning::WrapKey, Place::MemberBag, s, at) {
+            Found::At(b, d) => {
+                places[n] = entry(k, a + b, a + d);
+                n = n + 1;
+                at = d;
+            }
+            Found::Nothing => {
+                return Listing { places, count: n };
+            }
+        }
+    }
+}
+
+// The WRAP_KEYs of a KD body, in its order. Internal.
+pub fn entries(k: &[u8]) -> Listing
+    requires { ⌜ isWhole (bags 0 (now k)) ≡ true ⌝ }
+    requires { ⌜ length (wrapKeysIn (now k)) ≤ 32 ⌝ }
+    ensures { λ r. ⌜ Lists (now (k .entry)) (r .places) (r .count) (wrapKeysIn (now (k .entry))) ⌝ }
+{
+    let mut list = Listing {
+        places: [blank(); 32],
+        count: 0,
+    };
+    let mut at: usize = 0;
+    while at < k.len() {
+        let b = bag_parts(&k[at..]);
+        if b.first == 0 {
+            list = with_bag(k, at + b.body, at + b.end, list);
+        }
+        at = at + b.end;
+    }
+    list
+}
