@@ -1,0 +1,4 @@
+pub mod Walking
+pub mod OneName
+pub mod Counts
+pub mod Pairs

@@ -1,0 +1,83 @@
+// The names, protocol and SPI, of the policies of a GSA body or of the key bags of a KD body, by their heads alone.
+ghost use mathlib.Core.Path.{_≡_};
+ghost use mathlib.Core.List.{List};
+ghost use lib.ListN.{length};
+ghost use Rattle.keys.specs.Lists.{any, count};
+ghost use Rattle.pairing.specs.inner.Names.{Name, Names, nameOf, isSuch, isUnpaired};
+
+// Which names: every one, those of a protocol, those of a protocol and SPI.
+pub enum Which {
+    Every,
+    OfProtocol,
+    Named,
+}
+
+// Whether a policy or key bag with this first octet and SPI has a name, and it is such. Internal.
+pub fn is_such(w: Which, protocol: usize, spi: &[u8], first: usize, x: &[u8]) -> bool
+    ensures { λ r. ⌜ r ≡ any (isSuch w protocol (now (spi .entry))) (nameOf first (now (x .entry))) ⌝ }
+{
+    if first == 0 {
+        return false;
+    }
+    match w {
+        Which::Every => true,
+        Which::OfProtocol => first == protocol,
+        Which::Named => {
+            if first == protocol {
+                return octets::compare::same(x, spi);
+            }
+            false
+        }
+    }
+}
+
+// How many names are such. Internal.
+pub fn count_names(w: Which, protocol: usize, spi: &[u8], s: &[u8]) -> usize
+    requires { ⌜ ((l : List Name) × Names (now s) l) ⌝ }
+    ensures { λ r. ⌜ ((l : List Name) → Names (now (s .entry)) l → r ≡ count (isSuch w protocol (now (spi .entry))) l) ⌝ }
+{
+    let mut n = 0;
+    let mut at = 0;
+    while at < s.len() {
+        let p = contents::policy::head_parts(&s[at..]);
+        let start = at + 4;
+        let end = at + p.body;
+        let next = at + p.end;
+        if is_such(w, protocol, spi, p.first, &s[start..end]) {
+            n = n + 1;
+        }
+        at = next;
+    }
+    n
+}
+
+// Whether a policy or key bag with this first octet and SPI has a name, and not exactly one of the others has it.
+fn is_unpaired(first: usize, x: &[u8], t: &[u8]) -> bool
+    requires { ⌜ ((m : List Name) × Names (now t) m) ⌝ }
+    ensures { λ r. ⌜ ((m : List Name) → Names (now (t .entry)) m → r ≡ any (isUnpaired m) (nameOf first (now (x .entry)))) ⌝ }
+{
+    if first == 0 {
+        return false;
+    }
+    count_names(Which::Named, first, x, t) != 1
+}
+
+// Whether there is a name of which not exactly one of the others has it. Internal.
+pub fn any_unpaired(s: &[u8], t: &[u8]) -> bool
+    requires { ⌜ ((l : List Name) × Names (now s) l) × ((m : List Name) × Names (now t) m) ⌝ }
+    ensures { λ r. ⌜
+        ((l m : List Name) → Names (now (s .entry)) l → Names (now (t .entry)) m → r ≡ any (isUnpaired m) l)
+        ⌝ }
+{
+    let mut at = 0;
+    while at < s.len() {
+        let p = contents::policy::head_parts(&s[at..]);
+        let start = at + 4;
+        let end = at + p.body;
+        if is_unpaired(p.first, &s[start..end], t) {
+            return true;
+        }
+        at = at + p.end;
+    }
+    false
+}
