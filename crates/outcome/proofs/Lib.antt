@@ -1,3 +1,4 @@
 pub mod First
 pub mod Members
 pub mod Determined
+pub mod Answering
