@@ -84,8 +84,10 @@ module _ (rest : List Condition) where
   unfolding judged
   past-clauses k [] a e n f = f
   past-clauses k (c ∷ l) a e n f =
-      bool-cases (applies c) (λ g. let d : c .number ≡ 0 = rw g at e in let p = next-above k (byClauses c) (map byClauses l) a .0 in absurd (omega arith))
-      (λ g. inr (λ h. false≢true (sym g ∙ h), past-clauses (c .number) l (next-above k (byClauses c) (map byClauses l) a .1) (rw g at e) n f))
+      let p = next-above k (byClauses c) (map byClauses l) a in
+      let h = p .0 in
+      bool-cases (applies c) (λ g. let d : c .number ≡ 0 = rw g at e in absurd (omega arith))
+      (λ g. inr (λ h. false≢true (sym g ∙ h), past-clauses (c .number) l (p .1) (rw g at e) n f))
 
   -- what is first is judged by the clauses, or they judge nothing and it is the first of the rest
   pub clauses-or-rest : (k : ℕ) (l : List Number) → above k (map byClauses l) ≡ true → (n : ℕ) → First (map byClauses l ++ rest) n →
