@@ -68,4 +68,5 @@ pub passed-stand : (roots : List Root) (entries : List WrapKey) (size : ℕ) (pa
     Chain roots entries size passed k v → (e : WrapKey) → In e passed → In e entries
 passed-stand roots entries size _ _ _ (root r m) e i = absurd (not-in-none e i)
 passed-stand roots entries size _ _ _ (step {passed = p} {k = k} {v = v} d c t l) e i =
-    ⊎-elim (λ q. subst (λ (x : WrapKey). In x entries) (sym q) (l .entry)) (λ j. passed-stand roots entries size p k v c e j) (in-cases e d p i)
+    ⊎-elim (λ q. subst (λ (x : WrapKey). In x entries) (sym q) (l .entry)) (λ j. passed-stand roots entries size p k v c e j)
+    (in-cases e d p i)

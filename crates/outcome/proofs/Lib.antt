@@ -6,3 +6,4 @@ pub mod Meets
 pub mod Rows
 pub mod Enters
 pub mod Bags
+pub mod Demands

@@ -1,6 +1,6 @@
 -- When the octets of a frame meet the condition of a number: document 01's table, row by row, beside the list that is judged.
 use native.Mathlib.Omega.{arith}
-use Prim.Native.Nat.{ℕ, suc, _<_}
+use Prim.Native.Nat.{ℕ, suc, _≤_, _<_}
 use mathlib.Core.Path.{_≡_, refl, sym, subst}
 use mathlib.Core.Bool.{true}
 use mathlib.Core.Logic.{_⊎_, inl, inr, ⊎-elim}
@@ -29,6 +29,17 @@ module _ (limits : Limits) (s : State) (now : ℕ) (lent octets : List ℕ) wher
     meets-7 : (f : Frame) → frame octets ≡ whole f [] → applies (seven limits s now f) ≡ true → Meets 7
     meets-8 : (f : Frame) → frame octets ≡ whole f [] → EightOf limits s now lent f → Meets 8
     meets-9 : (f : Frame) → frame octets ≡ whole f [] → NineOf limits s now lent f → Meets 9
+
+  pub at-most-9 : (n : ℕ) → Meets n → n ≤ 9
+  at-most-9 _ (meets-1 o e) = omega arith
+  at-most-9 _ (meets-2 f e h) = omega arith
+  at-most-9 _ (meets-3 f e h) = omega arith
+  at-most-9 _ (meets-4 f e h) = omega arith
+  at-most-9 _ (meets-5 f e h) = omega arith
+  at-most-9 _ (meets-6 f e h) = omega arith
+  at-most-9 _ (meets-7 f e h) = omega arith
+  at-most-9 _ (meets-8 f e h) = omega arith
+  at-most-9 _ (meets-9 f e h) = omega arith
 
   -- ---- a number is met by the layout, or by the tree
   record ByLayout (n : ℕ) : Type 0 where
@@ -139,6 +150,12 @@ module _ (limits : Limits) (s : State) (now : ℕ) (lent octets : List ℕ) wher
       (λ b. subst (λ (k : ℕ). Outcome limits s now lent octets k s) (sym (b .is)) (no-layout (b .offset) (b .layout)))
       (λ b. by-tree (b .tree) (b .layout) (number-given (b .tree) (b .layout) n (r .meets) (r .lowest)))
       (meets-by (suc n) (r .meets)))
+
+  -- 1 is given exactly when the layout is broken
+  pub refused-layout : (next : State) → Refused 1 next → (o : ℕ) × (frame octets ≡ broken o)
+  refused-layout next r =
+      ⊎-elim (λ b. (b .offset, b .layout))
+      (λ b. let g = not-low (b .tree) (b .layout) 1 (r .meets) in absurd (omega arith)) (meets-by 1 (r .meets))
 
   pub accepted-is : (next : State) → Outcome limits s now lent octets 0 next → Accepted next
   accepted-is _ (by-tree f e j) = none-met f e _ j

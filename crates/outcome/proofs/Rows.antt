@@ -44,7 +44,8 @@ module _ (limits : Limits) (s : State) (now : ℕ) (f : Frame) where
     lent-size lent = rw e
 
   module _ (e : rowOf f ≡ rekey) where
-    pub own-roots : (lent : List ℕ) → rootsOf limits s now lent f ≡ record { id = 0; value = ownKey limits s now } ∷ map heldRoot (keysOf (s .held))
+    pub own-roots : (lent : List ℕ) →
+        rootsOf limits s now lent f ≡ record { id = 0; value = ownKey limits s now } ∷ map heldRoot (keysOf (s .held))
     unfolding rootsOf keyZero
     own-roots lent = rw e
 
