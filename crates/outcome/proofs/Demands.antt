@@ -1,15 +1,28 @@
 -- WHAT THE CUSTOMER DEMANDS, as theorems of the definition of the outcome.
 use native.Mathlib.Omega.{arith}
-use Prim.Native.Nat.{ℕ, zero, suc, _≤_}
+use Prim.Native.Nat.{ℕ, zero, suc, _≤_, _<_}
 use mathlib.Core.Path.{_≡_, refl, sym, subst}
-use mathlib.Core.Logic.{_↔_}
-use mathlib.Core.List.{List}
-use Rattle.octets.specs.Walk.{broken}
+use mathlib.Core.Bool.{true}
+use mathlib.Core.Logic.{_⊎_, inl, inr, ⊎-elim, _↔_}
+use mathlib.Core.List.{List, []}
+use lib.ListN.{length}
+use Rattle.octets.specs.Walk.{whole, broken}
 use Rattle.keys.specs.Limits.{Limits}
-use Rattle.frames.specs.Frame.{frame}
+use Rattle.keys.proofs.Cases.{lt-cases}
+use Rattle.policies.specs.Policy.{GroupSaPolicy}
+use Rattle.frames.specs.Frame.{Frame, frame}
 use Rattle.state.specs.declared.State.{State}
+use Rattle.clauses.specs.Contents.{rowOf, announced, wrapKeysOf}
+use Rattle.chains.specs.Chain.{In, Root}
+use Rattle.outcome.specs.Roots.{rootsOf, entriesOf, wrappingSize}
+use Rattle.outcome.specs.Answer.{NineOf}
 use Rattle.outcome.specs.Outcome.{Outcome, no-layout}
-use Rattle.outcome.proofs.Meets.{Meets, at-most-9, Refused, Accepted, refused-is, is-refused, refused-layout, accepted-is, is-accepted}
+use Rattle.outcome.proofs.Meets.{Meets, at-most-9, nine-met, Refused, Accepted, refused-is, is-refused, refused-layout}
+use Rattle.outcome.proofs.Meets.{accepted-is, is-accepted}
+use Rattle.outcome.proofs.Answering.{accepts}
+use Rattle.outcome.proofs.Rows.{registers, lentRoot, lent-roots, lent-size}
+use Rattle.outcome.proofs.HeldList.{set-by, HeldExactly, held-exactly}
+use Rattle.outcome.proofs.Accepting.{HasCopy, nine-policy, entries-fit, after-opens, whole-accepted}
 
 module _ (limits : Limits) (s : State) (now : ℕ) (lent octets : List ℕ) where
   -- ---- DEMAND 1
@@ -43,3 +56,56 @@ module _ (limits : Limits) (s : State) (now : ℕ) (lent octets : List ℕ) wher
   pub refusal-keeps : (n : ℕ) (next : State) → Outcome limits s now lent octets n next → (n ≡ 0 → ⊥) → next ≡ s
   refusal-keeps zero next o not-zero = absurd (not-zero refl)
   refusal-keeps (suc n) next o not-zero = refused-is limits s now lent octets n next o .stays
+
+  -- ---- DEMAND 3, of a frame whose layout is whole
+  module _ (f : Frame) (e : frame octets ≡ whole f []) where
+    -- "After an accepted registration the held list has exactly the Key IDs to which a chain of one or more entries leads from the lent
+    -- default key, wherever the entries stand in the frame: each once, rising, with the value that every chain ending on it gives."
+    pub held-after-registration : (next : State) → Outcome limits s now lent octets 0 next → rowOf f .holds ≡ true →
+        HeldExactly (lentRoot lent) (wrapKeysOf f) (length lent) (next .held)
+    held-after-registration next o registration =
+        let a = whole-accepted limits s now lent octets f e next o in
+        let r = registers (f .header .exchange) registration in
+        let h = set-by (rowOf f .holds) _ _ registration (a .1 .held) in
+        let none = entries-fit limits s now lent f (accepts limits s now lent f (a .0) .no-eight) in
+        subst (λ (l : List Root). HeldExactly l (wrapKeysOf f) (length lent) (next .held)) (lent-roots limits s now f r lent)
+        (subst (λ (n : ℕ). HeldExactly (rootsOf limits s now lent f) (wrapKeysOf f) n (next .held)) (lent-size limits s now f r lent)
+        (held-exactly (rootsOf limits s now lent f) (entriesOf f) (wrappingSize limits s now lent f) none limits (next .held) h))
+
+    -- "A frame that meets none of refusals 1 to 8 is accepted exactly when each SA it announces has a copy of its key that opens under the
+    -- key its KWK ID names ..; otherwise it is refused as number 9."
+    module _ (none : (m : ℕ) → m < 9 → Meets limits s now lent octets m → ⊥) where
+      pub accepted-or-9 : (n : ℕ) (next : State) → Outcome limits s now lent octets n next → (n ≡ 0) ⊎ (n ≡ 9)
+      accepted-or-9 zero next o = inl refl
+      accepted-or-9 (suc n) next o =
+          let m = refused-is limits s now lent octets n next o .meets in
+          let h = at-most-9 limits s now lent octets (suc n) m in
+          lt-cases (suc n) 9 (λ g. absurd (none (suc n) g m)) (λ g. inr (omega arith))
+
+      met-9 : (n : ℕ) (next : State) → Outcome limits s now lent octets n next → n ≡ 9 → NineOf limits s now lent f
+      met-9 zero next o q = absurd (omega arith)
+      met-9 (suc n) next o q =
+          nine-met limits s now lent octets f e (subst (Meets limits s now lent octets) q (refused-is limits s now lent octets n next o .meets))
+
+      opens-at-0 : (n : ℕ) (next : State) → Outcome limits s now lent octets n next → n ≡ 0 → (a : GroupSaPolicy) → In a (announced f) →
+          HasCopy limits s now lent f a
+      opens-at-0 n next o q =
+          after-opens limits s now lent f next
+          (whole-accepted limits s now lent octets f e next (subst (λ (k : ℕ). Outcome limits s now lent octets k next) q o) .1)
+
+      pub accepted-when-each-opens : (n : ℕ) (next : State) → Outcome limits s now lent octets n next →
+          (n ≡ 0) ↔ ((a : GroupSaPolicy) → In a (announced f) → HasCopy limits s now lent f a)
+      accepted-when-each-opens n next o = (
+        opens-at-0 n next o,
+        λ each.
+            ⊎-elim (λ q. q)
+            (λ q. let x = nine-policy limits s now lent f (met-9 n next o q) in absurd (x .2 (each (x .0) (x .1))))
+            (accepted-or-9 n next o),
+      )
+
+      pub refused-when-one-does-not : (n : ℕ) (next : State) → Outcome limits s now lent octets n next →
+          (n ≡ 9) ↔ ((a : GroupSaPolicy) × In a (announced f) × (HasCopy limits s now lent f a → ⊥))
+      refused-when-one-does-not n next o = (
+        λ q. nine-policy limits s now lent f (met-9 n next o q),
+        λ x. ⊎-elim (λ q. absurd (x .2 (opens-at-0 n next o q (x .0) (x .1)))) (λ q. q) (accepted-or-9 n next o),
+      )

@@ -6,4 +6,6 @@ pub mod Meets
 pub mod Rows
 pub mod Enters
 pub mod Bags
+pub mod HeldList
+pub mod Accepting
 pub mod Demands

@@ -86,6 +86,10 @@ module _ (limits : Limits) (s : State) (now : ℕ) (lent octets : List ℕ) wher
         subst (λ (g : Frame). Holds (conditions limits s now lent g) n) (one-whole (frame octets) (b .tree) f [] [] (b .layout) e)
         (b .holds)) (meets-by n m)
 
+  -- 9 is met by the tree
+  pub nine-met : (f : Frame) → frame octets ≡ whole f [] → Meets 9 → NineOf limits s now lent f
+  nine-met f e (meets-9 g d h) = subst (λ (x : Frame). NineOf limits s now lent x) (one-whole (frame octets) g f [] [] d e) h
+
   -- the number of an outcome is met, none lower is, and the member stays; where it is 0 none is met
   pub record Refused (n : ℕ) (next : State) : Type 0 where
     pub meets : Meets n
