@@ -2,7 +2,7 @@
 use native.Mathlib.Omega.{arith}
 use Prim.Native.Nat.{ℕ, zero, suc, _≤_, _<_}
 use mathlib.Core.Path.{_≡_, refl, sym, subst}
-use mathlib.Core.Bool.{true}
+use mathlib.Core.Bool.{true, false}
 use mathlib.Core.Logic.{_⊎_, inl, inr, ⊎-elim, _↔_}
 use mathlib.Core.List.{List, []}
 use lib.ListN.{length}
@@ -11,6 +11,8 @@ use Rattle.keys.specs.Limits.{Limits}
 use Rattle.keys.proofs.Cases.{lt-cases}
 use Rattle.policies.specs.Policy.{GroupSaPolicy}
 use Rattle.frames.specs.Frame.{Frame, frame}
+use Rattle.sa.specs.declared.entry.Sa.{Sa}
+use Rattle.table.specs.Table.{sasOf}
 use Rattle.state.specs.declared.State.{State}
 use Rattle.clauses.specs.Contents.{rowOf, announced, wrapKeysOf}
 use Rattle.chains.specs.Chain.{In, Root}
@@ -19,10 +21,13 @@ use Rattle.outcome.specs.Answer.{NineOf}
 use Rattle.outcome.specs.Outcome.{Outcome, no-layout}
 use Rattle.outcome.proofs.Meets.{Meets, at-most-9, nine-met, Refused, Accepted, refused-is, is-refused, refused-layout}
 use Rattle.outcome.proofs.Meets.{accepted-is, is-accepted}
+use Rattle.outcome.proofs.Enters.{Stayed}
+use Rattle.outcome.specs.After.{leastAfterwards}
 use Rattle.outcome.proofs.Answering.{accepts}
 use Rattle.outcome.proofs.Rows.{registers, lentRoot, lent-roots, lent-size}
-use Rattle.outcome.proofs.HeldList.{set-by, HeldExactly, held-exactly}
+use Rattle.outcome.proofs.HeldList.{set-by, kept-by, HeldExactly, held-exactly}
 use Rattle.outcome.proofs.Accepting.{HasCopy, nine-policy, entries-fit, after-opens, whole-accepted}
+use Rattle.outcome.proofs.Accepting.{New, Entered, new-stands, stands-as, as-stands}
 
 module _ (limits : Limits) (s : State) (now : ℕ) (lent octets : List ℕ) where
   -- ---- DEMAND 1
@@ -85,7 +90,8 @@ module _ (limits : Limits) (s : State) (now : ℕ) (lent octets : List ℕ) wher
       met-9 : (n : ℕ) (next : State) → Outcome limits s now lent octets n next → n ≡ 9 → NineOf limits s now lent f
       met-9 zero next o q = absurd (omega arith)
       met-9 (suc n) next o q =
-          nine-met limits s now lent octets f e (subst (Meets limits s now lent octets) q (refused-is limits s now lent octets n next o .meets))
+          let m = refused-is limits s now lent octets n next o .meets in
+          nine-met limits s now lent octets f e (subst (Meets limits s now lent octets) q m)
 
       opens-at-0 : (n : ℕ) (next : State) → Outcome limits s now lent octets n next → n ≡ 0 → (a : GroupSaPolicy) → In a (announced f) →
           HasCopy limits s now lent f a
@@ -109,3 +115,26 @@ module _ (limits : Limits) (s : State) (now : ℕ) (lent octets : List ℕ) wher
         λ q. nine-policy limits s now lent f (met-9 n next o q),
         λ x. ⊎-elim (λ q. absurd (x .2 (opens-at-0 n next o q (x .0) (x .1)))) (λ q. q) (accepted-or-9 n next o),
       )
+
+    -- "On acceptance each of those SAs stands in the table as document 01 enters it, with the octets that every such copy opens to" and of
+    -- the size that its policy needs
+    pub each-stands : (next : State) → Outcome limits s now lent octets 0 next → (p : GroupSaPolicy) → In p (announced f) →
+        New limits s now lent f (sasOf (next .table)) p
+    each-stands next o p m =
+        let a = whole-accepted limits s now lent octets f e next o in
+        let none = accepts limits s now lent f (a .0) .no-eight in
+        new-stands limits s now lent f next (a .1) none p m
+
+    -- "and the rest of the member is as that document leaves it": the table has no other SAs than these and the old ones that are not due,
+    -- each as it was or, where D, SPI 0 or the new Rekey SA says so, retired
+    pub table-after : (next : State) → Outcome limits s now lent octets 0 next → (b : Sa) →
+        In b (sasOf (next .table)) ↔ (Entered limits s now lent f b ⊎ Stayed s now f b)
+    table-after next o b =
+        let a = whole-accepted limits s now lent octets f e next o in
+        let none = accepts limits s now lent f (a .0) .no-eight in
+        (stands-as limits s now lent f next (a .1) none b, as-stands limits s now lent f next (a .1) none b)
+
+    pub rest-after : (next : State) → Outcome limits s now lent octets 0 next →
+        (rowOf f .holds ≡ false → next .held ≡ s .held) × (next .least ≡ leastAfterwards f)
+    rest-after next o =
+        let a = whole-accepted limits s now lent octets f e next o .1 in (λ r. kept-by (rowOf f .holds) _ _ r (a .held), a .least)
