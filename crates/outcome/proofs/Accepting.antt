@@ -6,6 +6,7 @@ use mathlib.Core.List.{List, []}
 use lib.ListN.{length}
 use Rattle.octets.specs.Walk.{whole}
 use Rattle.keys.specs.Limits.{Limits}
+use Rattle.attributes.specs.Tree.{SaKey}
 use Rattle.policies.specs.Policy.{GroupSaPolicy}
 use Rattle.frames.specs.Frame.{Frame, frame}
 use Rattle.sa.specs.declared.entry.Sa.{Sa}
@@ -27,9 +28,12 @@ use Rattle.outcome.proofs.HeldList.{not-other}
 
 module _ (limits : Limits) (s : State) (now : ℕ) (lent : List ℕ) where
   module _ (f : Frame) where
+    abbrev pub Opened : List SaKey → List ℕ → Type 0
+    Opened l x = CopyOpens (rootsOf limits s now lent f) (entriesOf f) (wrappingSize limits s now lent f) l x
+
     -- a copy of the announced SA's key opens to x
     abbrev pub OpensTo : GroupSaPolicy → List ℕ → Type 0
-    OpensTo a x = CopyOpens (rootsOf limits s now lent f) (entriesOf f) (wrappingSize limits s now lent f) (copiesOf f a) x
+    OpensTo a x = Opened (copiesOf f a) x
 
     -- a copy opens, to something
     abbrev pub HasCopy : GroupSaPolicy → Type 0
@@ -40,13 +44,8 @@ module _ (limits : Limits) (s : State) (now : ℕ) (lent : List ℕ) where
     unfolding announcedKeys
     nine-policy n =
         let r = in-map (announcedAs f) (n .sa) (announced f) (n .stands) in
-        let z : n .sa .copies ≡ copiesOf f (r .item) = ap (λ (b : Announced). b .copies) (r .is) in (
-          r .item,
-          r .stands,
-          λ h.
-              n .none (h .0)
-              (subst (λ l. CopyOpens (rootsOf limits s now lent f) (entriesOf f) (wrappingSize limits s now lent f) l (h .0)) (sym z) (h .1)),
-        )
+        let e : n .sa ≡ announcedAs f (r .item) = r .is in
+        (r .item, r .stands, λ h. n .none (h .0) (subst (λ (b : Announced). Opened (b .copies) (h .0)) (sym e) (h .1)))
 
     pub policy-nine : (a : GroupSaPolicy) → In a (announced f) → (HasCopy a → ⊥) → NineOf limits s now lent f
     unfolding announcedKeys

@@ -4,7 +4,7 @@ use Prim.Native.Nat.{ℕ, zero, suc, _≤_, _<_}
 use mathlib.Core.Path.{_≡_, refl, sym, subst}
 use mathlib.Core.Bool.{true, false}
 use mathlib.Core.Logic.{_⊎_, inl, inr, ⊎-elim, _↔_}
-use mathlib.Core.List.{List, []}
+use mathlib.Core.List.{List, [], _∷_}
 use lib.ListN.{length}
 use Rattle.octets.specs.Walk.{whole, broken}
 use Rattle.keys.specs.Limits.{Limits}
@@ -14,6 +14,8 @@ use Rattle.frames.specs.Frame.{Frame, frame}
 use Rattle.sa.specs.declared.entry.Sa.{Sa}
 use Rattle.table.specs.Table.{sasOf}
 use Rattle.state.specs.declared.State.{State}
+use Rattle.state.specs.declared.held.HeldKey.{HeldKey}
+use Rattle.state.specs.Held.{keysOf}
 use Rattle.clauses.specs.Contents.{rowOf, announced, wrapKeysOf}
 use Rattle.chains.specs.Chain.{In, Root}
 use Rattle.outcome.specs.Roots.{rootsOf, entriesOf, wrappingSize}
@@ -24,9 +26,12 @@ use Rattle.outcome.proofs.Meets.{accepted-is, is-accepted}
 use Rattle.outcome.proofs.Enters.{Stayed}
 use Rattle.outcome.specs.After.{leastAfterwards}
 use Rattle.outcome.proofs.Answering.{accepts}
-use Rattle.outcome.proofs.Rows.{registers, lentRoot, lent-roots, lent-size}
+use Rattle.outcome.proofs.Rows.{registers, rekeys, lentRoot, lent-roots, lent-size}
+use Rattle.outcome.proofs.NotRead.{same-outcome}
+use Rattle.outcome.proofs.NamedKey.{OpensUnder, to-under, under-to}
+use Rattle.outcome.proofs.Bags.{OfMemberBags, entry-own, passed-stand}
 use Rattle.outcome.proofs.HeldList.{set-by, kept-by, HeldExactly, held-exactly}
-use Rattle.outcome.proofs.Accepting.{HasCopy, nine-policy, entries-fit, after-opens, whole-accepted}
+use Rattle.outcome.proofs.Accepting.{OpensTo, HasCopy, nine-policy, entries-fit, after-opens, whole-accepted}
 use Rattle.outcome.proofs.Accepting.{New, Entered, new-stands, stands-as, as-stands}
 
 module _ (limits : Limits) (s : State) (now : ℕ) (lent octets : List ℕ) where
@@ -138,3 +143,33 @@ module _ (limits : Limits) (s : State) (now : ℕ) (lent octets : List ℕ) wher
         (rowOf f .holds ≡ false → next .held ≡ s .held) × (next .least ≡ leastAfterwards f)
     rest-after next o =
         let a = whole-accepted limits s now lent octets f e next o .1 in (λ r. kept-by (rowOf f .holds) _ _ r (a .held), a .least)
+
+    -- ---- NO CONFUSION OF KEYS: "A group's key and a tree key are both attribute 1 with the same layout, and their wrapped forms can be
+    -- equally long."
+    -- what a copy of an announced SA's key opens to comes from an SA_KEY of a Group Key Bag with its own protocol and SPI, opened under the
+    -- key its KWK ID names, "be it key 0, the last key of such a chain or, in a rekey, a key the member held", and from nowhere else
+    pub copies-of-own-bag : (a : GroupSaPolicy) (x : List ℕ) → OpensTo limits s now lent f a x ↔ OpensUnder limits s now lent f a x
+    copies-of-own-bag a x = (to-under limits s now lent f a x, under-to limits s now lent f a x)
+
+    -- a held value of an accepted registration is what a chain gives whose entries are all WRAP_KEYs of Member Key Bags
+    pub held-of-member-bags : (next : State) → Outcome limits s now lent octets 0 next → rowOf f .holds ≡ true → (k : HeldKey) →
+        In k (keysOf (next .held)) → OfMemberBags lent f k
+    held-of-member-bags next o registration k m =
+        let h = held-after-registration next o registration in
+        let x = h .only k m in
+        let r = x .1 in
+        let passed = r .last ∷ r .before in
+        record {
+          value = x .0;
+          key-is = h .value k m (x .0) r;
+          passed = passed;
+          chain = r .chain;
+          own = λ w i. entry-own f w (passed-stand (lentRoot lent) (wrapKeysOf f) (length lent) passed (k .id) (x .0) (r .chain) w i);
+        }
+
+  -- "GSA_REKEY frames use the live Rekey SA's own, and the lent one is not read": with exchange type 41 the outcome is the same for another
+  -- lent key
+  pub lent-not-read : ((f : Frame) → frame octets ≡ whole f [] → f .header .exchange ≡ 41) → (other : List ℕ) (n : ℕ) (next : State) →
+      Outcome limits s now lent octets n next → Outcome limits s now other octets n next
+  lent-not-read e other =
+      same-outcome limits s now lent other octets (λ f d. rekeys (f .header .exchange) (e f d))

@@ -8,4 +8,6 @@ pub mod Enters
 pub mod Bags
 pub mod HeldList
 pub mod Accepting
+pub mod NotRead
+pub mod NamedKey
 pub mod Demands
