@@ -21,7 +21,7 @@ use Rattle.outcome.specs.Roots.{rootsOf, entriesOf, wrappingSize, copies
 use Rattle.outcome.specs.Answer.{EightOf, NineOf, Answers}
 use Rattle.outcome.specs.After.{oldSas, saFrom, insertAll, After}
 use Rattle.outcome.specs.Outcome.{Judged, accepted, Outcome, by-tree}
-use Rattle.outcome.proofs.Determined.{one-whole}
+use Rattle.outcome.proofs.Readings.{one-whole}
 use Rattle.outcome.proofs.Members.{in-map, map-in}
 use Rattle.outcome.proofs.Enters.{each-enters, entered-is, in-all, all-in, Stayed, old-stayed, stayed-old}
 use Rattle.outcome.proofs.HeldList.{not-other}

@@ -20,17 +20,17 @@ use Rattle.clauses.specs.Contents.{rowOf, announced, wrapKeysOf}
 use Rattle.chains.specs.Chain.{In, Root}
 use Rattle.outcome.specs.Roots.{rootsOf, entriesOf, wrappingSize}
 use Rattle.outcome.specs.Answer.{NineOf}
+use Rattle.outcome.specs.After.{leastAfterwards}
 use Rattle.outcome.specs.Outcome.{Outcome, no-layout}
 use Rattle.outcome.proofs.Meets.{Meets, at-most-9, nine-met, Refused, Accepted, refused-is, is-refused, refused-layout}
 use Rattle.outcome.proofs.Meets.{accepted-is, is-accepted}
 use Rattle.outcome.proofs.Enters.{Stayed}
-use Rattle.outcome.specs.After.{leastAfterwards}
 use Rattle.outcome.proofs.Answering.{accepts}
 use Rattle.outcome.proofs.Rows.{registers, rekeys, lentRoot, lent-roots, lent-size}
 use Rattle.outcome.proofs.NotRead.{same-outcome}
 use Rattle.outcome.proofs.NamedKey.{OpensUnder, to-under, under-to}
 use Rattle.outcome.proofs.Bags.{OfMemberBags, entry-own, passed-stand}
-use Rattle.outcome.proofs.HeldList.{set-by, kept-by, HeldExactly, held-exactly}
+use Rattle.outcome.proofs.HeldList.{registration-sets, rekey-leaves, HeldExactly, held-exactly}
 use Rattle.outcome.proofs.Accepting.{OpensTo, HasCopy, nine-policy, entries-fit, after-opens, whole-accepted}
 use Rattle.outcome.proofs.Accepting.{New, Entered, new-stands, stands-as, as-stands}
 
@@ -76,7 +76,7 @@ module _ (limits : Limits) (s : State) (now : ℕ) (lent octets : List ℕ) wher
     held-after-registration next o registration =
         let a = whole-accepted limits s now lent octets f e next o in
         let r = registers (f .header .exchange) registration in
-        let h = set-by (rowOf f .holds) _ _ registration (a .1 .held) in
+        let h = registration-sets (rowOf f .holds) _ _ registration (a .1 .held) in
         let none = entries-fit limits s now lent f (accepts limits s now lent f (a .0) .no-eight) in
         subst (λ (l : List Root). HeldExactly l (wrapKeysOf f) (length lent) (next .held)) (lent-roots limits s now f r lent)
         (subst (λ (n : ℕ). HeldExactly (rootsOf limits s now lent f) (wrapKeysOf f) n (next .held)) (lent-size limits s now f r lent)
@@ -142,7 +142,7 @@ module _ (limits : Limits) (s : State) (now : ℕ) (lent octets : List ℕ) wher
     pub rest-after : (next : State) → Outcome limits s now lent octets 0 next →
         (rowOf f .holds ≡ false → next .held ≡ s .held) × (next .least ≡ leastAfterwards f)
     rest-after next o =
-        let a = whole-accepted limits s now lent octets f e next o .1 in (λ r. kept-by (rowOf f .holds) _ _ r (a .held), a .least)
+        let a = whole-accepted limits s now lent octets f e next o .1 in (λ r. rekey-leaves (rowOf f .holds) _ _ r (a .held), a .least)
 
     -- ---- NO CONFUSION OF KEYS: "A group's key and a tree key are both attribute 1 with the same layout, and their wrapped forms can be
     -- equally long."

@@ -5,7 +5,6 @@ use mathlib.Core.Path.{_≡_, refl, ap, ap₂, sym, _∙_, subst}
 use mathlib.Core.Bool.{Bool, true, false}
 use mathlib.Core.List.{List, [], _∷_}
 use borrow.Author.Tests.{le-ltb}
-use Rattle.octets.specs.Walk.{Reading, whole, broken}
 use Rattle.keys.specs.Limits.{Limits}
 use Rattle.keys.specs.Kinds.{wrappingOf}
 use Rattle.attributes.specs.Tree.{WrapKey}
@@ -25,22 +24,8 @@ use Rattle.outcome.specs.Answer.{conditions}
 use Rattle.outcome.specs.After.{Enter, no-sa, one-more, saFrom, HeldAre, HeldBy, After}
 use Rattle.outcome.specs.Outcome.{Judged, refused, accepted, Outcome, no-layout, by-tree}
 use Rattle.outcome.proofs.First.{first-one}
+use Rattle.outcome.proofs.Readings.{not-both, one-whole}
 use Rattle.outcome.proofs.Members.{rising-one}
-
--- ---- a reading is whole or broken, of one tree
-abbrev isBroken : {A : Type 0} → Reading A → ℕ
-isBroken (whole a rest) = 0
-isBroken (broken o) = 1
-
-pub not-both : {A : Type 0} (x : Reading A) (a : A) (rest : List ℕ) (o : ℕ) → x ≡ whole a rest → x ≡ broken o → ⊥
-not-both x a rest o e d = let z : _≡_ {A = ℕ} 0 1 = ap isBroken (sym e ∙ d) in absurd (omega arith)
-
-abbrev treeOr : {A : Type 0} → A → Reading A → A
-treeOr d (whole a rest) = a
-treeOr d (broken o) = d
-
-pub one-whole : {A : Type 0} (x : Reading A) (a b : A) (rest left : List ℕ) → x ≡ whole a rest → x ≡ whole b left → a ≡ b
-one-whole x a b rest left e d = ap (treeOr a) (sym e ∙ d)
 
 -- ---- the member after acceptance
 module _ (roots : List Root) (entries : List WrapKey) (size : ℕ) where

@@ -25,14 +25,14 @@ use Rattle.outcome.specs.After.{HeldAre, HeldBy}
 pub not-other : (m n : ℕ) → ((m ≡ n → ⊥) → ⊥) → m ≡ n
 not-other m n f = bool-cases (eqb m n) (eqb-true m n) (λ e. absurd (f (eqb-false m n e)))
 
--- the side that is taken
-pub set-by : (b : Bool) (Set Kept : Type 0) → b ≡ true → HeldBy b Set Kept → Set
-set-by true Set Kept e h = h
-set-by false Set Kept e h = absurd (false≢true e)
+-- "A registration sets the held list as reached; a rekey leaves it."
+pub registration-sets : (b : Bool) (Set Kept : Type 0) → b ≡ true → HeldBy b Set Kept → Set
+registration-sets true Set Kept e h = h
+registration-sets false Set Kept e h = absurd (false≢true e)
 
-pub kept-by : (b : Bool) (Set Kept : Type 0) → b ≡ false → HeldBy b Set Kept → Kept
-kept-by true Set Kept e h = absurd (false≢true (sym e))
-kept-by false Set Kept e h = h
+pub rekey-leaves : (b : Bool) (Set Kept : Type 0) → b ≡ false → HeldBy b Set Kept → Kept
+rekey-leaves true Set Kept e h = absurd (false≢true (sym e))
+rekey-leaves false Set Kept e h = h
 
 module _ (roots : List Root) (entries : List WrapKey) (size : ℕ) where
   pub record HeldExactly (h : Held) : Type 0 where

@@ -1,6 +1,6 @@
 pub mod First
 pub mod Members
-pub mod Determined
+pub mod Readings
 pub mod Answering
 pub mod Meets
 pub mod Rows
@@ -11,3 +11,4 @@ pub mod Accepting
 pub mod NotRead
 pub mod NamedKey
 pub mod Demands
+pub mod Determined

@@ -14,7 +14,7 @@ use Rattle.outcome.specs.Answer.{Condition, EightOf, NineOf, conditions}
 use Rattle.outcome.specs.After.{After}
 use Rattle.outcome.specs.Outcome.{Judged, refused, accepted, Outcome, no-layout, by-tree}
 use Rattle.outcome.proofs.First.{Holds, above-holds, first-holds, first-lowest, first-none, first-is, none-first}
-use Rattle.outcome.proofs.Determined.{not-both, one-whole}
+use Rattle.outcome.proofs.Readings.{not-both, one-whole}
 use Rattle.outcome.proofs.Answering.{numbers-rise}
 
 module _ (limits : Limits) (s : State) (now : ℕ) (lent octets : List ℕ) where
