@@ -8,15 +8,18 @@ use mathlib.Core.List.{List, [], _∷_}
 use lib.ListN.{length}
 use Rattle.octets.specs.Walk.{whole, broken}
 use Rattle.keys.specs.Limits.{Limits}
+use Rattle.keys.specs.Kinds.{padded}
 use Rattle.keys.proofs.Cases.{lt-cases}
 use Rattle.policies.specs.Policy.{GroupSaPolicy}
 use Rattle.frames.specs.Frame.{Frame, frame}
 use Rattle.sa.specs.declared.entry.Sa.{Sa}
+use Rattle.sa.specs.Entry.{isLive}
 use Rattle.table.specs.Table.{sasOf}
 use Rattle.state.specs.declared.State.{State}
 use Rattle.state.specs.declared.held.HeldKey.{HeldKey}
 use Rattle.state.specs.Held.{keysOf}
 use Rattle.clauses.specs.Contents.{rowOf, announced, wrapKeysOf}
+use Rattle.clauses.specs.Fitness.{isEsp, encryptionOctets, keyWrapOctets}
 use Rattle.chains.specs.Chain.{In, Root}
 use Rattle.outcome.specs.Roots.{rootsOf, entriesOf, wrappingSize}
 use Rattle.outcome.specs.Answer.{NineOf}
@@ -24,7 +27,7 @@ use Rattle.outcome.specs.After.{leastAfterwards}
 use Rattle.outcome.specs.Outcome.{Outcome, no-layout}
 use Rattle.outcome.proofs.Meets.{Meets, at-most-9, nine-met, Refused, Accepted, refused-is, is-refused, refused-layout}
 use Rattle.outcome.proofs.Meets.{accepted-is, is-accepted}
-use Rattle.outcome.proofs.Enters.{Stayed}
+use Rattle.outcome.proofs.Enters.{enters-live, enters-cut, Stayed}
 use Rattle.outcome.proofs.Answering.{accepts}
 use Rattle.outcome.proofs.Rows.{registers, rekeys, lentRoot, lent-roots, lent-size}
 use Rattle.outcome.proofs.NotRead.{same-outcome}
@@ -129,6 +132,14 @@ module _ (limits : Limits) (s : State) (now : ℕ) (lent octets : List ℕ) wher
         let a = whole-accepted limits s now lent octets f e next o in
         let none = accepts limits s now lent f (a .0) .no-eight in
         new-stands limits s now lent f next (a .1) none p m
+
+    -- "as document 01 enters it": live, and a Rekey SA with the octet counts of its policy's two parts, "44 is 20 + 24 and 28 + 16"
+    pub entered-live : (b : Sa) → Entered limits s now lent f b → isLive (b .condition) ≡ true
+    entered-live b n = rw (n .is) (enters-live (n .policy) (n .octets))
+
+    pub entered-parts : (b : Sa) (n : Entered limits s now lent f b) → isEsp (n .policy) ≡ false →
+        (b .encryption ≡ encryptionOctets (n .policy)) × (b .wrapping ≡ keyWrapOctets (n .policy)) × (b .octets ≡ padded 68 (n .octets))
+    entered-parts b n r = rw (n .is) (enters-cut (n .policy) (n .octets) r)
 
     -- "and the rest of the member is as that document leaves it": the table has no other SAs than these and the old ones that are not due,
     -- each as it was or, where D, SPI 0 or the new Rekey SA says so, retired

@@ -1,19 +1,22 @@
 -- What stands in the table after acceptance: the announced SAs, each with the octets of its key, and the old ones that are not due.
 use mathlib.Core.Path.{_≡_, refl, ap, sym, subst}
 use Prim.Native.Nat.{ℕ}
-use mathlib.Core.Bool.{Bool, false, not, _||_}
+use mathlib.Core.Bool.{Bool, true, false, not, _||_}
 use mathlib.Core.Logic.{_⊎_, inl, inr, ⊎-elim}
 use mathlib.Core.List.{List, [], _∷_}
 use borrow.Author.Tests.{not-true}
 use Rattle.keys.specs.Lists.{insert}
+use Rattle.keys.specs.Kinds.{padded}
+use Rattle.keys.proofs.Cases.{bool-cases}
 use Rattle.keys.proofs.Members.{inserted-member, member-inserted}
 use Rattle.attributes.specs.Tree.{WrapKey}
 use Rattle.policies.specs.Policy.{GroupSaPolicy}
 use Rattle.frames.specs.Frame.{Frame}
-use Rattle.sa.specs.Entry.{before, due}
+use Rattle.sa.specs.Entry.{before, isLive, due, espSa, rekeySa}
 use Rattle.sa.specs.declared.entry.Sa.{Sa}
 use Rattle.table.specs.Table.{sasOf, stays, retiredIf}
 use Rattle.state.specs.declared.State.{State}
+use Rattle.clauses.specs.Fitness.{isEsp, encryptionOctets, keyWrapOctets}
 use Rattle.clauses.specs.Number2.{standing}
 use Rattle.chains.specs.Chain.{In, Root}
 use Rattle.chains.specs.Refusals.{KeyOf}
@@ -55,6 +58,18 @@ module _ (roots : List Root) (entries : List WrapKey) (size : ℕ) (f : Frame) w
       let r = entered-is l m e b j in
       record { policy = r .policy; stands = in-tail (r .policy) a l (r .stands); octets = r .octets; key = r .key; is = r .is })
       (in-cases b (saFrom a x) m i)
+
+module _ (a : GroupSaPolicy) (x : List ℕ) where
+  -- "The new SAs enter as live"
+  pub enters-live : isLive (saFrom a x .condition) ≡ true
+  unfolding saFrom espSa rekeySa
+  enters-live = bool-cases (isEsp a) (λ e. rw e) (λ e. rw e)
+
+  -- a Rekey SA's octets are cut where its policy says, and not by their count
+  pub enters-cut : isEsp a ≡ false →
+      (saFrom a x .encryption ≡ encryptionOctets a) × (saFrom a x .wrapping ≡ keyWrapOctets a) × (saFrom a x .octets ≡ padded 68 x)
+  unfolding saFrom rekeySa
+  enters-cut e = (rw e, rw e, rw e)
 
 -- ---- put in their places
 module _ (b : Sa) where
