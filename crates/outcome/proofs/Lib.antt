@@ -1,0 +1,14 @@
+pub mod First
+pub mod Members
+pub mod Readings
+pub mod Answering
+pub mod Meets
+pub mod Rows
+pub mod Enters
+pub mod Bags
+pub mod HeldList
+pub mod Accepting
+pub mod NotRead
+pub mod NamedKey
+pub mod Demands
+pub mod Determined

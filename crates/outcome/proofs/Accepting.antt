@@ -1,0 +1,151 @@
+-- What is known of a frame that is accepted, and of number 9, by the SAs that the frame announces.
+use Prim.Native.Nat.{ℕ}
+use mathlib.Core.Path.{_≡_, refl, ap, sym, _∙_, subst}
+use mathlib.Core.Logic.{_⊎_, inl, inr, ⊎-elim}
+use mathlib.Core.List.{List, []}
+use lib.ListN.{length}
+use Rattle.octets.specs.Walk.{whole}
+use Rattle.keys.specs.Limits.{Limits}
+use Rattle.attributes.specs.Tree.{SaKey}
+use Rattle.policies.specs.Policy.{GroupSaPolicy}
+use Rattle.frames.specs.Frame.{Frame, frame}
+use Rattle.sa.specs.declared.entry.Sa.{Sa}
+use Rattle.table.specs.Table.{sasOf}
+use Rattle.table.proofs.Kept.{sas-of-table}
+use Rattle.state.specs.declared.State.{State}
+use Rattle.clauses.specs.Contents.{announced}
+use Rattle.chains.specs.Chain.{In, Root, CopyOpens}
+use Rattle.chains.specs.Refusals.{Announced, EntriesEight, of-entries, of-copies}
+use Rattle.chains.specs.Refusals as refusals
+use Rattle.outcome.specs.Roots.{rootsOf, entriesOf, wrappingSize, copiesOf, needOf, announcedAs, announcedKeys}
+use Rattle.outcome.specs.Answer.{EightOf, NineOf, Answers}
+use Rattle.outcome.specs.After.{oldSas, saFrom, insertAll, After}
+use Rattle.outcome.specs.Outcome.{Judged, accepted, Outcome, by-tree}
+use Rattle.outcome.proofs.Readings.{one-whole}
+use Rattle.outcome.proofs.Members.{in-map, map-in}
+use Rattle.outcome.proofs.Enters.{each-enters, entered-is, in-all, all-in, Stayed, old-stayed, stayed-old}
+use Rattle.outcome.proofs.HeldList.{not-other}
+
+module _ (limits : Limits) (s : State) (now : ℕ) (lent : List ℕ) where
+  module _ (f : Frame) where
+    abbrev pub Opened : List SaKey → List ℕ → Type 0
+    Opened l x = CopyOpens (rootsOf limits s now lent f) (entriesOf f) (wrappingSize limits s now lent f) l x
+
+    -- a copy of the announced SA's key opens to x
+    abbrev pub OpensTo : GroupSaPolicy → List ℕ → Type 0
+    OpensTo a x = Opened (copiesOf f a) x
+
+    -- a copy opens, to something
+    abbrev pub HasCopy : GroupSaPolicy → Type 0
+    HasCopy a = (x : List ℕ) × OpensTo a x
+
+    -- number 9 by the policies
+    pub nine-policy : NineOf limits s now lent f → (a : GroupSaPolicy) × In a (announced f) × (HasCopy a → ⊥)
+    unfolding announcedKeys
+    nine-policy n =
+        let r = in-map (announcedAs f) (n .sa) (announced f) (n .stands) in
+        let e : n .sa ≡ announcedAs f (r .item) = r .is in
+        (r .item, r .stands, λ h. n .none (h .0) (subst (λ (b : Announced). Opened (b .copies) (h .0)) (sym e) (h .1)))
+
+    pub policy-nine : (a : GroupSaPolicy) → In a (announced f) → (HasCopy a → ⊥) → NineOf limits s now lent f
+    unfolding announcedKeys
+    policy-nine a m none =
+        record { sa = announcedAs f a; stands = map-in (announcedAs f) (announcedAs f a) (announced f) a m refl; none = λ x o. none (x, o) }
+
+    -- where 8 does not apply, what a copy opens to has the size that its policy needs
+    module _ (none : EightOf limits s now lent f → ⊥) where
+      pub entries-fit : EntriesEight (rootsOf limits s now lent f) (entriesOf f) (wrappingSize limits s now lent f) → ⊥
+      entries-fit e = none (of-entries e)
+
+      pub copy-fits : (a : GroupSaPolicy) → In a (announced f) → (x : List ℕ) → OpensTo a x → length x ≡ needOf a
+      unfolding announcedKeys
+      copy-fits a m x o =
+          not-other (length x) (needOf a)
+          (λ d.
+          none
+          (of-copies (announcedAs f a) (map-in (announcedAs f) (announcedAs f a) (announced f) a m refl) (refusals.wrong-size x o d)))
+
+    -- acceptance has a copy that opens for each
+    pub after-opens : (next : State) → After limits s now lent f next → (a : GroupSaPolicy) → In a (announced f) → HasCopy a
+    after-opens next p a m =
+        let roots = rootsOf limits s now lent f in
+        let r = each-enters roots (entriesOf f) (wrappingSize limits s now lent f) f (announced f) (p .new) (p .enter) a m in
+        (r .octets, r .key .opens)
+
+    -- ---- the table after acceptance
+    -- an announced SA stands in a list with the octets that every copy that opens gives, of the size that its policy needs
+    pub record New (l : List Sa) (a : GroupSaPolicy) : Type 0 where
+      pub octets : List ℕ
+      pub opens : OpensTo a octets
+      pub every : (y : List ℕ) → OpensTo a y → y ≡ octets
+      pub fits : length octets ≡ needOf a
+      pub stands : In (saFrom a octets) l
+
+    -- the SA of a policy that the frame announces
+    pub record Entered (b : Sa) : Type 0 where
+      pub policy : GroupSaPolicy
+      pub stands : In policy (announced f)
+      pub octets : List ℕ
+      pub opens : OpensTo policy octets
+      pub every : (y : List ℕ) → OpensTo policy y → y ≡ octets
+      pub fits : length octets ≡ needOf policy
+      pub is : b ≡ saFrom policy octets
+
+    module _ (next : State) (after : After limits s now lent f next) (none : EightOf limits s now lent f → ⊥) where
+      abbrev roots : List Root
+      roots = rootsOf limits s now lent f
+
+      abbrev size : ℕ
+      size = wrappingSize limits s now lent f
+
+      sas-are : sasOf (next .table) ≡ insertAll (after .new) (oldSas s now f)
+      sas-are = ap sasOf (after .table) ∙ sas-of-table limits (insertAll (after .new) (oldSas s now f))
+
+      pub new-stands : (a : GroupSaPolicy) → In a (announced f) → New (sasOf (next .table)) a
+      new-stands a m =
+          let r = each-enters roots (entriesOf f) size f (announced f) (after .new) (after .enter) a m in
+          let b = saFrom a (r .octets) in
+          record {
+            octets = r .octets;
+            opens = r .key .opens;
+            every = r .key .every;
+            fits = copy-fits none a m (r .octets) (r .key .opens);
+            stands = subst (In b) (sym sas-are) (all-in b (after .new) (oldSas s now f) (inl (r .stands)));
+          }
+
+      pub stands-as : (b : Sa) → In b (sasOf (next .table)) → Entered b ⊎ Stayed s now f b
+      stands-as b m =
+          ⊎-elim
+          (λ i.
+          let r = entered-is roots (entriesOf f) size f (announced f) (after .new) (after .enter) b i in
+          inl (record {
+            policy = r .policy;
+            stands = r .stands;
+            octets = r .octets;
+            opens = r .key .opens;
+            every = r .key .every;
+            fits = copy-fits none (r .policy) (r .stands) (r .octets) (r .key .opens);
+            is = r .is;
+          }))
+          (λ i. inr (old-stayed s now f b i)) (in-all b (after .new) (oldSas s now f) (subst (In b) sas-are m))
+
+      entered-stands : (b : Sa) → Entered b → In b (sasOf (next .table))
+      entered-stands b r =
+          let n = new-stands (r .policy) (r .stands) in
+          let q = r .is ∙ ap (saFrom (r .policy)) (n .every (r .octets) (r .opens)) in
+          subst (λ (x : Sa). In x (sasOf (next .table))) (sym q) (n .stands)
+
+      pub as-stands : (b : Sa) → Entered b ⊎ Stayed s now f b → In b (sasOf (next .table))
+      as-stands b (inl r) = entered-stands b r
+      as-stands b (inr r) =
+          subst (In b) (sym sas-are) (all-in b (after .new) (oldSas s now f) (inr (stayed-old s now f b r)))
+
+  -- ---- an outcome of 0, by the frame's tree
+  module _ (octets : List ℕ) (f : Frame) (e : frame octets ≡ whole f []) where
+    by-judged : (next : State) → Judged limits s now lent f 0 next → Answers limits s now lent f 0 × After limits s now lent f next
+    by-judged _ (accepted next p a) = (p, a)
+
+    pub whole-accepted : (next : State) → Outcome limits s now lent octets 0 next →
+        Answers limits s now lent f 0 × After limits s now lent f next
+    whole-accepted next (by-tree g d j) =
+        by-judged next (subst (λ (x : Frame). Judged limits s now lent x 0 next) (one-whole (frame octets) g f [] [] d e) j)

@@ -1,0 +1,186 @@
+-- WHAT THE CUSTOMER DEMANDS, as theorems of the definition of the outcome.
+use native.Mathlib.Omega.{arith}
+use Prim.Native.Nat.{ℕ, zero, suc, _≤_, _<_}
+use mathlib.Core.Path.{_≡_, refl, sym, subst}
+use mathlib.Core.Bool.{true, false}
+use mathlib.Core.Logic.{_⊎_, inl, inr, ⊎-elim, _↔_}
+use mathlib.Core.List.{List, [], _∷_}
+use lib.ListN.{length}
+use Rattle.octets.specs.Walk.{whole, broken}
+use Rattle.keys.specs.Limits.{Limits}
+use Rattle.keys.specs.Kinds.{padded}
+use Rattle.keys.proofs.Cases.{lt-cases}
+use Rattle.policies.specs.Policy.{GroupSaPolicy}
+use Rattle.frames.specs.Frame.{Frame, frame}
+use Rattle.sa.specs.declared.entry.Sa.{Sa}
+use Rattle.sa.specs.Entry.{isLive}
+use Rattle.table.specs.Table.{sasOf}
+use Rattle.state.specs.declared.State.{State}
+use Rattle.state.specs.declared.held.HeldKey.{HeldKey}
+use Rattle.state.specs.Held.{keysOf}
+use Rattle.clauses.specs.Contents.{rowOf, announced, wrapKeysOf}
+use Rattle.clauses.specs.Fitness.{isEsp, encryptionOctets, keyWrapOctets}
+use Rattle.chains.specs.Chain.{In, Root}
+use Rattle.outcome.specs.Roots.{rootsOf, entriesOf, wrappingSize}
+use Rattle.outcome.specs.Answer.{NineOf}
+use Rattle.outcome.specs.After.{leastAfterwards}
+use Rattle.outcome.specs.Outcome.{Outcome, no-layout}
+use Rattle.outcome.proofs.Meets.{Meets, at-most-9, nine-met, Refused, Accepted, refused-is, is-refused, refused-layout}
+use Rattle.outcome.proofs.Meets.{accepted-is, is-accepted}
+use Rattle.outcome.proofs.Enters.{enters-live, enters-cut, Stayed}
+use Rattle.outcome.proofs.Answering.{accepts}
+use Rattle.outcome.proofs.Rows.{registers, rekeys, lentRoot, lent-roots, lent-size}
+use Rattle.outcome.proofs.NotRead.{same-outcome}
+use Rattle.outcome.proofs.NamedKey.{OpensUnder, to-under, under-to}
+use Rattle.outcome.proofs.Bags.{OfMemberBags, entry-own, passed-stand}
+use Rattle.outcome.proofs.HeldList.{registration-sets, rekey-leaves, HeldExactly, held-exactly}
+use Rattle.outcome.proofs.Accepting.{OpensTo, HasCopy, nine-policy, entries-fit, after-opens, whole-accepted}
+use Rattle.outcome.proofs.Accepting.{New, Entered, new-stands, stands-as, as-stands}
+
+module _ (limits : Limits) (s : State) (now : ℕ) (lent octets : List ℕ) where
+  -- ---- DEMAND 1
+  -- "Bad input gets one of the nine refusals in document 01, each exactly when its condition holds and no lower one does, and a refusal
+  -- changes nothing in the member."
+  pub refused-exactly : (n : ℕ) (next : State) →
+      Outcome limits s now lent octets (suc n) next ↔ Refused limits s now lent octets (suc n) next
+  refused-exactly n next = (refused-is limits s now lent octets n next, is-refused limits s now lent octets n next)
+
+  -- "0: accepted"; "0 is due when no condition holds"
+  pub accepted-exactly : (next : State) → Outcome limits s now lent octets 0 next ↔ Accepted limits s now lent octets next
+  accepted-exactly next = (accepted-is limits s now lent octets next, is-accepted limits s now lent octets next)
+
+  pub zero-due : (n : ℕ) (next : State) → Outcome limits s now lent octets n next → ((m : ℕ) → Meets limits s now lent octets m → ⊥) → n ≡ 0
+  zero-due zero next o none = refl
+  zero-due (suc n) next o none = absurd (none (suc n) (refused-is limits s now lent octets n next o .meets))
+
+  -- "one of the nine"
+  pub one-of-nine : (n : ℕ) (next : State) → Outcome limits s now lent octets n next → n ≤ 9
+  one-of-nine zero next o = omega arith
+  one-of-nine (suc n) next o = at-most-9 limits s now lent octets (suc n) (refused-is limits s now lent octets n next o .meets)
+
+  -- number 1: "any first octet, length, .. or end that breaks the layouts"
+  pub answers-1 : (next : State) → Outcome limits s now lent octets 1 next ↔ (((o : ℕ) × (frame octets ≡ broken o)) × (next ≡ s))
+  answers-1 next = (
+    λ o. let r = refused-is limits s now lent octets 0 next o in (refused-layout limits s now lent octets next r, r .stays),
+    λ p. subst (Outcome limits s now lent octets 1) (sym (p .1)) (no-layout (p .0 .0) (p .0 .1)),
+  )
+
+  -- "a refusal changes nothing in the member"
+  pub refusal-keeps : (n : ℕ) (next : State) → Outcome limits s now lent octets n next → (n ≡ 0 → ⊥) → next ≡ s
+  refusal-keeps zero next o not-zero = absurd (not-zero refl)
+  refusal-keeps (suc n) next o not-zero = refused-is limits s now lent octets n next o .stays
+
+  -- ---- DEMAND 3, of a frame whose layout is whole
+  module _ (f : Frame) (e : frame octets ≡ whole f []) where
+    -- "After an accepted registration the held list has exactly the Key IDs to which a chain of one or more entries leads from the lent
+    -- default key, wherever the entries stand in the frame: each once, rising, with the value that every chain ending on it gives."
+    pub held-after-registration : (next : State) → Outcome limits s now lent octets 0 next → rowOf f .holds ≡ true →
+        HeldExactly (lentRoot lent) (wrapKeysOf f) (length lent) (next .held)
+    held-after-registration next o registration =
+        let a = whole-accepted limits s now lent octets f e next o in
+        let r = registers (f .header .exchange) registration in
+        let h = registration-sets (rowOf f .holds) _ _ registration (a .1 .held) in
+        let none = entries-fit limits s now lent f (accepts limits s now lent f (a .0) .no-eight) in
+        subst (λ (l : List Root). HeldExactly l (wrapKeysOf f) (length lent) (next .held)) (lent-roots limits s now f r lent)
+        (subst (λ (n : ℕ). HeldExactly (rootsOf limits s now lent f) (wrapKeysOf f) n (next .held)) (lent-size limits s now f r lent)
+        (held-exactly (rootsOf limits s now lent f) (entriesOf f) (wrappingSize limits s now lent f) none limits (next .held) h))
+
+    -- "A frame that meets none of refusals 1 to 8 is accepted exactly when each SA it announces has a copy of its key that opens under the
+    -- key its KWK ID names ..; otherwise it is refused as number 9."
+    module _ (none : (m : ℕ) → m < 9 → Meets limits s now lent octets m → ⊥) where
+      pub accepted-or-9 : (n : ℕ) (next : State) → Outcome limits s now lent octets n next → (n ≡ 0) ⊎ (n ≡ 9)
+      accepted-or-9 zero next o = inl refl
+      accepted-or-9 (suc n) next o =
+          let m = refused-is limits s now lent octets n next o .meets in
+          let h = at-most-9 limits s now lent octets (suc n) m in
+          lt-cases (suc n) 9 (λ g. absurd (none (suc n) g m)) (λ g. inr (omega arith))
+
+      met-9 : (n : ℕ) (next : State) → Outcome limits s now lent octets n next → n ≡ 9 → NineOf limits s now lent f
+      met-9 zero next o q = absurd (omega arith)
+      met-9 (suc n) next o q =
+          let m = refused-is limits s now lent octets n next o .meets in
+          nine-met limits s now lent octets f e (subst (Meets limits s now lent octets) q m)
+
+      opens-at-0 : (n : ℕ) (next : State) → Outcome limits s now lent octets n next → n ≡ 0 → (a : GroupSaPolicy) → In a (announced f) →
+          HasCopy limits s now lent f a
+      opens-at-0 n next o q =
+          after-opens limits s now lent f next
+          (whole-accepted limits s now lent octets f e next (subst (λ (k : ℕ). Outcome limits s now lent octets k next) q o) .1)
+
+      pub accepted-when-each-opens : (n : ℕ) (next : State) → Outcome limits s now lent octets n next →
+          (n ≡ 0) ↔ ((a : GroupSaPolicy) → In a (announced f) → HasCopy limits s now lent f a)
+      accepted-when-each-opens n next o = (
+        opens-at-0 n next o,
+        λ each.
+            ⊎-elim (λ q. q)
+            (λ q. let x = nine-policy limits s now lent f (met-9 n next o q) in absurd (x .2 (each (x .0) (x .1))))
+            (accepted-or-9 n next o),
+      )
+
+      pub refused-when-one-does-not : (n : ℕ) (next : State) → Outcome limits s now lent octets n next →
+          (n ≡ 9) ↔ ((a : GroupSaPolicy) × In a (announced f) × (HasCopy limits s now lent f a → ⊥))
+      refused-when-one-does-not n next o = (
+        λ q. nine-policy limits s now lent f (met-9 n next o q),
+        λ x. ⊎-elim (λ q. absurd (x .2 (opens-at-0 n next o q (x .0) (x .1)))) (λ q. q) (accepted-or-9 n next o),
+      )
+
+    -- "On acceptance each of those SAs stands in the table as document 01 enters it, with the octets that every such copy opens to" and of
+    -- the size that its policy needs
+    pub each-stands : (next : State) → Outcome limits s now lent octets 0 next → (p : GroupSaPolicy) → In p (announced f) →
+        New limits s now lent f (sasOf (next .table)) p
+    each-stands next o p m =
+        let a = whole-accepted limits s now lent octets f e next o in
+        let none = accepts limits s now lent f (a .0) .no-eight in
+        new-stands limits s now lent f next (a .1) none p m
+
+    -- "as document 01 enters it": live, and a Rekey SA with the octet counts of its policy's two parts, "44 is 20 + 24 and 28 + 16"
+    pub entered-live : (b : Sa) → Entered limits s now lent f b → isLive (b .condition) ≡ true
+    entered-live b n = rw (n .is) (enters-live (n .policy) (n .octets))
+
+    pub entered-parts : (b : Sa) (n : Entered limits s now lent f b) → isEsp (n .policy) ≡ false →
+        (b .encryption ≡ encryptionOctets (n .policy)) × (b .wrapping ≡ keyWrapOctets (n .policy)) × (b .octets ≡ padded 68 (n .octets))
+    entered-parts b n r = rw (n .is) (enters-cut (n .policy) (n .octets) r)
+
+    -- "and the rest of the member is as that document leaves it": the table has no other SAs than these and the old ones that are not due,
+    -- each as it was or, where D, SPI 0 or the new Rekey SA says so, retired
+    pub table-after : (next : State) → Outcome limits s now lent octets 0 next → (b : Sa) →
+        In b (sasOf (next .table)) ↔ (Entered limits s now lent f b ⊎ Stayed s now f b)
+    table-after next o b =
+        let a = whole-accepted limits s now lent octets f e next o in
+        let none = accepts limits s now lent f (a .0) .no-eight in
+        (stands-as limits s now lent f next (a .1) none b, as-stands limits s now lent f next (a .1) none b)
+
+    pub rest-after : (next : State) → Outcome limits s now lent octets 0 next →
+        (rowOf f .holds ≡ false → next .held ≡ s .held) × (next .least ≡ leastAfterwards f)
+    rest-after next o =
+        let a = whole-accepted limits s now lent octets f e next o .1 in (λ r. rekey-leaves (rowOf f .holds) _ _ r (a .held), a .least)
+
+    -- ---- NO CONFUSION OF KEYS: "A group's key and a tree key are both attribute 1 with the same layout, and their wrapped forms can be
+    -- equally long."
+    -- what a copy of an announced SA's key opens to comes from an SA_KEY of a Group Key Bag with its own protocol and SPI, opened under the
+    -- key its KWK ID names, "be it key 0, the last key of such a chain or, in a rekey, a key the member held", and from nowhere else
+    pub copies-of-own-bag : (a : GroupSaPolicy) (x : List ℕ) → OpensTo limits s now lent f a x ↔ OpensUnder limits s now lent f a x
+    copies-of-own-bag a x = (to-under limits s now lent f a x, under-to limits s now lent f a x)
+
+    -- a held value of an accepted registration is what a chain gives whose entries are all WRAP_KEYs of Member Key Bags
+    pub held-of-member-bags : (next : State) → Outcome limits s now lent octets 0 next → rowOf f .holds ≡ true → (k : HeldKey) →
+        In k (keysOf (next .held)) → OfMemberBags lent f k
+    held-of-member-bags next o registration k m =
+        let h = held-after-registration next o registration in
+        let x = h .only k m in
+        let r = x .1 in
+        let passed = r .last ∷ r .before in
+        record {
+          value = x .0;
+          key-is = h .value k m (x .0) r;
+          passed = passed;
+          chain = r .chain;
+          own = λ w i. entry-own f w (passed-stand (lentRoot lent) (wrapKeysOf f) (length lent) passed (k .id) (x .0) (r .chain) w i);
+        }
+
+  -- "GSA_REKEY frames use the live Rekey SA's own, and the lent one is not read": with exchange type 41 the outcome is the same for another
+  -- lent key
+  pub lent-not-read : ((f : Frame) → frame octets ≡ whole f [] → f .header .exchange ≡ 41) → (other : List ℕ) (n : ℕ) (next : State) →
+      Outcome limits s now lent octets n next → Outcome limits s now other octets n next
+  lent-not-read e other =
+      same-outcome limits s now lent other octets (λ f d. rekeys (f .header .exchange) (e f d))

@@ -1,0 +1,114 @@
+-- The key that a KWK ID names, and what a copy of an announced SA's key opens to, in the customer's words.
+use Prim.Native.Nat.{ℕ}
+use mathlib.Core.Path.{_≡_, refl, ap, sym, subst}
+use mathlib.Core.Bool.{Bool, true, false, cond, false≢true}
+use mathlib.Core.Logic.{_⊎_, ⊎-elim}
+use mathlib.Core.List.{List, [], _∷_, map}
+use Rattle.keys.specs.Limits.{Limits}
+use Rattle.keywrap.specs.Opens.{Opens}
+use Rattle.attributes.specs.Tree.{SaKey}
+use Rattle.policies.specs.Policy.{GroupSaPolicy}
+use Rattle.frames.specs.Frame.{Frame}
+use Rattle.state.specs.declared.State.{State}
+use Rattle.state.specs.declared.held.HeldKey.{HeldKey}
+use Rattle.state.specs.Held.{keysOf}
+use Rattle.clauses.specs.Contents.{rowOf}
+use Rattle.chains.specs.Chain.{In, Root, root, Reached, Ends}
+use Rattle.chains.proofs.Determined.{ends-by}
+use Rattle.outcome.specs.Roots.{octetsOf, keyZero, heldRoot, rootsOf, entriesOf, wrappingSize}
+use Rattle.outcome.proofs.Members.{in-head, in-tail, in-cases, not-in-none, in-map, map-in}
+use Rattle.outcome.proofs.Bags.{InOwnBag, copy-own, own-copy}
+use Rattle.outcome.proofs.Accepting.{OpensTo}
+
+-- a list that is taken on a condition
+in-cond : {A : Type 0} (a : A) (b : Bool) (l : List A) → In a (cond b l []) → (b ≡ true) × In a l
+in-cond a true l m = (refl, m)
+in-cond a false l m = absurd (not-in-none a m)
+
+cond-in : {A : Type 0} (a : A) (b : Bool) (l : List A) → b ≡ true → In a l → In a (cond b l [])
+cond-in a true l e m = m
+cond-in a false l e m = absurd (false≢true e)
+
+module _ (limits : Limits) (s : State) (now : ℕ) (lent : List ℕ) (f : Frame) where
+  -- "be it key 0, the last key of such a chain or, in a rekey, a key the member held"
+  pub data Named (k : ℕ) (v : List ℕ) : Type 0 where
+    key-0 : k ≡ 0 → v ≡ keyZero limits s now lent f → Named k v
+    last-of-chain : Reached (rootsOf limits s now lent f) (entriesOf f) (wrappingSize limits s now lent f) k v → Named k v
+    held-key : rowOf f .named ≡ true → (h : HeldKey) → In h (keysOf (s .held)) → h .id ≡ k → octetsOf (h .key) ≡ v → Named k v
+
+  -- "its SA_KEY attributes, opened under the key their KWK ID names"
+  pub record OpensUnder (a : GroupSaPolicy) (x : List ℕ) : Type 0 where
+    pub copy : SaKey
+    pub own : InOwnBag f a copy
+    pub value : List ℕ
+    pub named : Named (copy .kwkId) value
+    pub opens : Opens value (copy .wrapped) x
+
+  abbrev roots : List Root
+  roots = rootsOf limits s now lent f
+
+  abbrev size : ℕ
+  size = wrappingSize limits s now lent f
+
+  abbrev held : List Root
+  held = map heldRoot (keysOf (s .held))
+
+  abbrev zero-root : Root
+  zero-root = record { id = 0; value = keyZero limits s now lent f }
+
+  -- the roots by their meaning
+  root-named : (r : Root) → In r roots → Named (r .id) (r .value)
+  unfolding rootsOf
+  root-named r m =
+      ⊎-elim (λ e. key-0 (ap (λ (x : Root). x .id) e) (ap (λ (x : Root). x .value) e))
+      (λ i.
+      let c = in-cond r (rowOf f .named) held i in
+      let h = in-map heldRoot r (keysOf (s .held)) (c .1) in
+      held-key (c .0) (h .item) (h .stands) (ap (λ (x : Root). x .id) (sym (h .is))) (ap (λ (x : Root). x .value) (sym (h .is))))
+      (in-cases r zero-root (cond (rowOf f .named) held []) m)
+
+  zero-in : In zero-root roots
+  unfolding rootsOf
+  zero-in = in-head zero-root zero-root (cond (rowOf f .named) held []) refl
+
+  held-in : rowOf f .named ≡ true → (h : HeldKey) → In h (keysOf (s .held)) → In (heldRoot h) roots
+  unfolding rootsOf
+  held-in e h m =
+      in-tail (heldRoot h) zero-root (cond (rowOf f .named) held [])
+      (cond-in (heldRoot h) (rowOf f .named) held e (map-in heldRoot (heldRoot h) (keysOf (s .held)) h m refl))
+
+  at-root : (r : Root) → In r roots → (k : ℕ) (v : List ℕ) → k ≡ r .id → v ≡ r .value → Ends roots (entriesOf f) size k v
+  at-root r m k v e d =
+      subst (λ (n : ℕ). Ends roots (entriesOf f) size n v) (sym e)
+      (subst (λ (x : List ℕ). Ends roots (entriesOf f) size (r .id) x) (sym d) (record { passed = []; chain = root r m }))
+
+  pub ends-named : (k : ℕ) (v : List ℕ) → Ends roots (entriesOf f) size k v → Named k v
+  ends-named k v n =
+      ⊎-elim
+      (λ a. subst (λ (i : ℕ). Named i v) (a .id-is) (subst (Named (a .key .id)) (a .value-is) (root-named (a .key) (a .stands))))
+      (λ r. last-of-chain r) (ends-by roots (entriesOf f) size (n .passed) k v (n .chain))
+
+  pub named-ends : (k : ℕ) (v : List ℕ) → Named k v → Ends roots (entriesOf f) size k v
+  named-ends k v (key-0 e d) = at-root zero-root zero-in k v e d
+  named-ends k v (last-of-chain r) = record { passed = r .last ∷ r .before; chain = r .chain }
+  named-ends k v (held-key e h m q d) = at-root (heldRoot h) (held-in e h m) k v (sym q) (sym d)
+
+  pub to-under : (a : GroupSaPolicy) (x : List ℕ) → OpensTo limits s now lent f a x → OpensUnder a x
+  to-under a x o =
+      record {
+        copy = o .copy;
+        own = copy-own f a (o .copy) (o .stands);
+        value = o .value;
+        named = ends-named (o .copy .kwkId) (o .value) (o .named);
+        opens = o .opens;
+      }
+
+  pub under-to : (a : GroupSaPolicy) (x : List ℕ) → OpensUnder a x → OpensTo limits s now lent f a x
+  under-to a x o =
+      record {
+        copy = o .copy;
+        stands = own-copy f a (o .copy) (o .own);
+        value = o .value;
+        named = named-ends (o .copy .kwkId) (o .value) (o .named);
+        opens = o .opens;
+      }

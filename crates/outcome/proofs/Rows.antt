@@ -1,0 +1,58 @@
+-- What an exchange's row makes of the keys that chains start with: in a registration the lent default key alone, in a rekey the live Rekey
+-- SA's default key and the held keys, with the lent key not read.
+use Prim.Native.Nat.{ℕ}
+use mathlib.Core.Path.{_≡_, ap}
+use mathlib.Core.Bool.{true, false, false≢true}
+use mathlib.Core.List.{List, [], _∷_, map}
+use lib.Dec.{eqb}
+use lib.ListN.{length}
+use Rattle.keys.specs.Limits.{Limits}
+use Rattle.keys.proofs.Cases.{bool-cases}
+use Rattle.frames.specs.Frame.{Frame}
+use Rattle.frames.specs.Exchange.{exchangeOf, registration, rekey}
+use Rattle.state.specs.declared.State.{State}
+use Rattle.state.specs.Held.{keysOf}
+use Rattle.clauses.specs.Contents.{rowOf}
+use Rattle.clauses.specs.Number5.{lentKeySize}
+use Rattle.chains.specs.Chain.{Root}
+use Rattle.outcome.specs.Roots.{ownKey, keyZero, heldRoot, rootsOf, wrappingSize}
+
+-- an exchange that sets the held list is a registration
+pub registers : (x : ℕ) → exchangeOf x .holds ≡ true → exchangeOf x ≡ registration
+registers x e =
+    bool-cases (eqb x 39) (λ a. rw a)
+    (λ a.
+    bool-cases (eqb x 40) (λ b. rw (a, b))
+    (λ b. bool-cases (eqb x 41) (λ c. absurd (false≢true (rw (a, b, c) at e))) (λ c. absurd (false≢true (rw (a, b, c) at e)))))
+
+-- exchange type 41 is a rekey
+pub rekeys : (x : ℕ) → x ≡ 41 → exchangeOf x ≡ rekey
+rekeys x e = ap exchangeOf e
+
+-- the lent default key as key 0
+abbrev pub lentRoot : List ℕ → List Root
+lentRoot lent = record { id = 0; value = lent } ∷ []
+
+module _ (limits : Limits) (s : State) (now : ℕ) (f : Frame) where
+  module _ (e : rowOf f ≡ registration) where
+    pub lent-roots : (lent : List ℕ) → rootsOf limits s now lent f ≡ lentRoot lent
+    unfolding rootsOf keyZero
+    lent-roots lent = rw e
+
+    pub lent-size : (lent : List ℕ) → wrappingSize limits s now lent f ≡ length lent
+    unfolding wrappingSize keyZero
+    lent-size lent = rw e
+
+  module _ (e : rowOf f ≡ rekey) where
+    pub own-roots : (lent : List ℕ) →
+        rootsOf limits s now lent f ≡ record { id = 0; value = ownKey limits s now } ∷ map heldRoot (keysOf (s .held))
+    unfolding rootsOf keyZero
+    own-roots lent = rw e
+
+    pub own-size : (lent : List ℕ) → wrappingSize limits s now lent f ≡ length (ownKey limits s now)
+    unfolding wrappingSize keyZero
+    own-size lent = rw e
+
+    pub not-judged : (lent : List ℕ) → lentKeySize lent f ≡ false
+    unfolding lentKeySize
+    not-judged lent = rw e
