@@ -1,0 +1,3 @@
+pub mod RunsLists
+pub mod RunsClear
+pub mod RunsNeeds
