@@ -5,3 +5,5 @@ pub mod RunsSpis
 pub mod RunsMade
 pub mod RunsTable
 pub mod RunsOld
+pub mod RunsAccepted
+pub mod RunsHeld

@@ -4,7 +4,7 @@ use Prim.Native.Nat.{ℕ, zero, suc, _+_, _≤_, _<_}
 use mathlib.Core.Path.{_≡_, refl, ap, sym, _∙_}
 use mathlib.Core.Bool.{Bool, true, false, _||_, false≢true}
 use mathlib.Core.Logic.{_⊎_, ⊎-elim}
-use mathlib.Core.List.{List, [], _∷_, List·Memᴰ, List·Memᴰ·head, List·Memᴰ·tail, List·Memᴰ·not-nil, List·Memᴰ·cases-cons}
+use mathlib.Core.List.{List, [], _∷_, map, List·Memᴰ, List·Memᴰ·head, List·Memᴰ·tail, List·Memᴰ·not-nil, List·Memᴰ·cases-cons}
 use lib.ListN.{length, getD}
 use Rattle.keys.specs.Lists.{any, count, insert}
 use Rattle.keys.proofs.Cases.{bool-cases}
@@ -29,6 +29,11 @@ module _ {A : Type 0} (a : A) where
   pub member-in : (l : List A) → List·Memᴰ a l → In a l
   member-in [] m = absurd (List·Memᴰ·not-nil m)
   member-in (b ∷ l) m = ⊎-elim (first-in b l) (λ k. next-in b l (member-in l k)) (List·Memᴰ·cases-cons m)
+
+pub member-map : {A B : Type 0} (g : A → B) (a : A) (l : List A) → List·Memᴰ a l → List·Memᴰ (g a) (map g l)
+member-map g a [] m = absurd (List·Memᴰ·not-nil m)
+member-map g a (b ∷ l) m =
+    ⊎-elim (λ e. List·Memᴰ·head (ap g e)) (λ k. List·Memᴰ·tail (member-map g a l k)) (List·Memᴰ·cases-cons m)
 
 -- ---- one of a list passes a test, and none does
 pub record Passes {A : Type 0} (p : A → Bool) (l : List A) : Type 0 where
