@@ -7,3 +7,4 @@ pub mod RunsTable
 pub mod RunsOld
 pub mod RunsAccepted
 pub mod RunsHeld
+pub mod Runs

@@ -79,7 +79,9 @@ module _ (limits : Limits) (s : State) (now : ℕ) (lent : List ℕ) (f : Frame)
 
   room : length (standing now s) + length (announced f) ≤ limits .sas
   unfolding seven-ofMember manySas
-  room = ltb-false (limits .sas) (length (standing now s) + length (announced f)) (no-clause (seven-ofMember limits s now f) 0 (c .no-7 .ofMember))
+  room =
+      ltb-false (limits .sas) (length (standing now s) + length (announced f))
+      (no-clause (seven-ofMember limits s now f) 0 (c .no-7 .ofMember))
 
   -- ---- an announced SA, and the octets that its copies open to
   pub kinds : (octets : List ℕ) → frame octets ≡ whole f [] → (a : GroupSaPolicy) → List·Memᴰ a (announced f) → Kind a
