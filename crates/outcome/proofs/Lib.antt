@@ -8,3 +8,4 @@ pub mod RunsOld
 pub mod RunsAccepted
 pub mod RunsHeld
 pub mod Runs
+pub mod RunsLive

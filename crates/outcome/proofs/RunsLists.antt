@@ -6,8 +6,8 @@ use mathlib.Core.Bool.{Bool, true, false, _||_, false≢true}
 use mathlib.Core.Logic.{_⊎_, ⊎-elim}
 use mathlib.Core.List.{List, [], _∷_, map, List·Memᴰ, List·Memᴰ·head, List·Memᴰ·tail, List·Memᴰ·not-nil, List·Memᴰ·cases-cons}
 use lib.ListN.{length, getD}
-use Rattle.keys.specs.Lists.{any, count, insert}
-use Rattle.keys.proofs.Cases.{bool-cases}
+use Rattle.keys.specs.Lists.{all, any, count, insert}
+use Rattle.keys.proofs.Cases.{bool-cases, and-parts}
 use Rattle.chains.specs.Chain.{In}
 
 -- ---- to stand in a list at some place is to be a member of it
@@ -63,6 +63,12 @@ module _ {A : Type 0} (p : A → Bool) where
 
   pub passes-some : (l : List A) (a : A) → List·Memᴰ a l → p a ≡ true → any p l ≡ true
   passes-some l a m e = bool-cases (any p l) (λ g. g) (λ g. absurd (false≢true (sym (none-passes l g a m) ∙ e)))
+
+  pub all-pass : (l : List A) → all p l ≡ true → (a : A) → List·Memᴰ a l → p a ≡ true
+  unfolding all
+  all-pass [] e a m = absurd (List·Memᴰ·not-nil m)
+  all-pass (b ∷ l) e a m =
+      let f = and-parts (p b) (all p l) e in ⊎-elim (λ q. ap p q ∙ f .0) (λ k. all-pass l (f .1) a k) (List·Memᴰ·cases-cons m)
 
   -- ---- how many pass
   pub count-le : (l : List A) → count p l ≤ length l

@@ -56,6 +56,12 @@ module _ (now : ℕ) (f : Frame) where
       bool-cases (retires f a) (λ g. rw g (retired-rekey now (delayOf f) a))
       (λ g. rw g (still n a (or-right (namedInDelete f a) (replaced f a) g)))
 
+pub swept-sas : (limits : Limits) (s : State) (now : ℕ) → tableFormed limits (s .table) ≡ true →
+    sasOf (swept limits now (s .table)) ≡ standing now s
+unfolding swept
+swept-sas limits s now e =
+    ap sasOf (changed-in limits (s .table) (notDue now) (formed-count limits (s .table) e)) ∙ sas-of-table limits (standing now s)
+
 module _ (limits : Limits) (s : State) (now : ℕ) (f : Frame) where
   pub old-length : length (oldSas s now f) ≡ length (standing now s)
   unfolding oldSas
@@ -71,18 +77,13 @@ module _ (limits : Limits) (s : State) (now : ℕ) (f : Frame) where
   old-live n = count-never (retiredIf (retires f) now (delayOf f)) liveRekey (none-live now f n) (standing now s)
 
   module _ (e : tableFormed limits (s .table) ≡ true) where
-    pub swept-sas : sasOf (swept limits now (s .table)) ≡ standing now s
-    unfolding swept
-    swept-sas =
-        ap sasOf (changed-in limits (s .table) (notDue now) (formed-count limits (s .table) e)) ∙ sas-of-table limits (standing now s)
-
     old-table : retiredWhere limits (retires f) now (delayOf f) (swept limits now (s .table)) ≡ tableOf limits (oldSas s now f)
     unfolding oldSas
     old-table =
         let g = map (retiredIf (retires f) now (delayOf f)) in
         changed-in limits (swept limits now (s .table)) g
         (formed-count limits (swept limits now (s .table)) (swept-formed limits now (s .table) e))
-        ∙ ap (λ (l : List Sa). tableOf limits (g l)) swept-sas
+        ∙ ap (λ (l : List Sa). tableOf limits (g l)) (swept-sas limits s now e)
 
     pub old-kept : TableBlank limits (s .table) → Kept limits (oldSas s now f)
     unfolding oldSas
