@@ -12,3 +12,14 @@ pub mod NotRead
 pub mod NamedKey
 pub mod Demands
 pub mod Determined
+pub mod RunsLists
+pub mod RunsClear
+pub mod RunsNeeds
+pub mod RunsSpis
+pub mod RunsMade
+pub mod RunsTable
+pub mod RunsOld
+pub mod RunsAccepted
+pub mod RunsHeld
+pub mod Runs
+pub mod RunsLive

@@ -2,3 +2,4 @@ pub mod Roots
 pub mod Answer
 pub mod After
 pub mod Outcome
+pub mod Run
