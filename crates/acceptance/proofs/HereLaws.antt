@@ -113,7 +113,8 @@ module _ (g : List ℕ) (at : ℕ) (r : Parts) (w : RekeyHere g at r) (q : SaPar
 
   pub initial-one : length (valuesIn InitialMessageId InRekey attributesAt) ≤ 1
   initial-one =
-      subst (λ (n : ℕ). n ≤ 1) (length-map (valuesOf InitialMessageId InRekey (w .body .suite .attributes)) four ∙ ap length (sym values-are))
+      subst (λ (n : ℕ). n ≤ 1) (length-map (valuesOf InitialMessageId InRekey (w .body .suite .attributes)) four
+      ∙ ap length (sym values-are))
       (w .one)
 
   pub rekeys : (i : ℕ) → i ≡ total (map four (valuesIn InitialMessageId InRekey attributesAt)) →

@@ -100,7 +100,8 @@ module _ (k : ℕ) (m : Meaning) (p : Place) (s : List ℕ) (one : length (value
       let rest : length (valuesIn m p (drop e s)) ≡ 0 = let l = ap length (f .first) in omega arith in
       let none : valuesIn m p (drop e s) ≡ [] = empty (valuesIn m p (drop e s)) rest in
       let part-is : numberOf (part s a e) ≡ v = number-take k 0 (e - a) (drop a s) (omega arith) ∙ sym is in
-      sym (ap (λ (l : List (List ℕ)). total (map numberOf l)) (f .first ∙ ap (λ (l : List (List ℕ)). part s a e ∷ l) none) ∙ omega (arith, part-is))
+      sym (ap (λ (l : List (List ℕ)). total (map numberOf l)) (f .first ∙ ap (λ (l : List (List ℕ)). part s a e ∷ l) none)
+      ∙ omega (arith, part-is))
     where
       empty : (l : List (List ℕ)) → length l ≡ 0 → l ≡ []
       empty [] z = refl
@@ -199,7 +200,11 @@ none-initial (groupSa a ∷ l) e =
 
 pub no-rekey : (l : List Policy) → keep (starts 6) l ≡ [] → (false ≡ any isRekey (gather saOf l)) × (0 ≡ initialIn l)
 unfolding initialIn sum gather any
-no-rekey l e = (sym (sym (rekey-any l) ∙ ap (λ (k : List Policy). any isRekey (gather saOf k)) e), sym (sym (rekey-initial l) ∙ ap initialIn e))
+no-rekey l e = (
+  sym (sym (rekey-any l) ∙ ap (λ (k : List Policy). any isRekey (gather saOf k)) e),
+  sym (sym (rekey-initial l)
+      ∙ ap initialIn e),
+)
 
 module _ (l : List Policy) (a : GroupSaPolicy) (m : List Policy) (e : keep (starts 6) l ≡ keep (starts 6) (groupSa a ∷ m))
     (is : a .protocol ≡ 6) (one : oneInitial l ≡ true) where
@@ -241,5 +246,6 @@ module _ (l : List Policy) (a : GroupSaPolicy) (m : List Policy) (e : keep (star
       let q : GroupSaPolicy → Bool = λ x. several (x .initialMessageIds) in
       let p = and-parts (not (ltb 1 (count isRekey (gather saOf l)))) (not (any q (gather saOf l))) one in
       let f = any-keep q (starts 6) l (not-false (any q (gather saOf l)) (p .1)) in
-      let r : any q (gather saOf (groupSa a ∷ keep (starts 6) m)) ≡ false = ap (λ (k : List Policy). any q (gather saOf k)) (sym kept) ∙ f in
+      let r : any q (gather saOf (groupSa a ∷ keep (starts 6) m)) ≡ false =
+      ap (λ (k : List Policy). any q (gather saOf k)) (sym kept) ∙ f in
       few (a .initialMessageIds) (left-false (q a) (any q (gather saOf (keep (starts 6) m))) r)

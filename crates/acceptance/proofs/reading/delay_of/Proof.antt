@@ -22,7 +22,8 @@ be16-at-requires : tie.Need-be16-at-requires
 be16-at-requires c κs =
     let s = now (c .before .before .before .before .before .args .a) in
     let v = c .before .start .given .0 in
-    let f : FoundAt DeactivationDelay GroupWidePolicy s 0 (v .0) (v .1 .0) = subst (Finds DeactivationDelay GroupWidePolicy s 0) (c .before .start .given .1) (c .before .before .before .next-of .ensures) in
+    let f : FoundAt DeactivationDelay GroupWidePolicy s 0 (v .0) (v .1 .0) =
+    subst (Finds DeactivationDelay GroupWidePolicy s 0) (c .before .start .given .1) (c .before .before .before .next-of .ensures) in
     omega (arith, f .order, f .inside, eqb-true (v .1 .0 - v .0) 2 (f .size))
 
 cast-result : tie.Need-cast-result
@@ -37,7 +38,8 @@ returns c =
     let s = now (b .args .a) in
     let v = c .before .before .start .given .0 in
     let f : FoundAt DeactivationDelay GroupWidePolicy s 0 (v .0) (v .1 .0) =
-    subst (Finds DeactivationDelay GroupWidePolicy s 0) (c .before .before .start .given .1) (c .before .before .before .before .next-of .ensures) in
+    subst (Finds DeactivationDelay GroupWidePolicy s 0) (c .before .before .start .given .1)
+    (c .before .before .before .before .next-of .ensures) in
     let n = eqb-true (v .1 .0 - v .0) 2 (f .size) in
     value-there 2 DeactivationDelay GroupWidePolicy s (b .pre .1) (v .0) (v .1 .0) (c .be16-at .result) f n (c .be16-at .ensures .0)
 
@@ -45,7 +47,8 @@ returns-2 : tie.Need-returns-2
 returns-2 c =
     let b = c .before .before .before .before in
     let s = now (b .args .a) in
-    let none : valuesIn DeactivationDelay GroupWidePolicy s ≡ [] = subst (Finds DeactivationDelay GroupWidePolicy s 0) (c .enum-told .given .1) (c .before .before .next-of .ensures) in
+    let none : valuesIn DeactivationDelay GroupWidePolicy s ≡ [] =
+    subst (Finds DeactivationDelay GroupWidePolicy s 0) (c .enum-told .given .1) (c .before .before .next-of .ensures) in
     value-missing 2 DeactivationDelay GroupWidePolicy s (b .pre .1) none
 
 pub delay-of-spec : {M : Type 1} → statement M

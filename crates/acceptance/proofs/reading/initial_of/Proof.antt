@@ -22,7 +22,8 @@ be32-at-requires : tie.Need-be32-at-requires
 be32-at-requires c κs =
     let s = now (c .before .before .before .before .before .args .a) in
     let v = c .before .start .given .0 in
-    let f : FoundAt InitialMessageId RekeyPolicy s 0 (v .0) (v .1 .0) = subst (Finds InitialMessageId RekeyPolicy s 0) (c .before .start .given .1) (c .before .before .before .next-of .ensures) in
+    let f : FoundAt InitialMessageId RekeyPolicy s 0 (v .0) (v .1 .0) =
+    subst (Finds InitialMessageId RekeyPolicy s 0) (c .before .start .given .1) (c .before .before .before .next-of .ensures) in
     omega (arith, f .order, f .inside, eqb-true (v .1 .0 - v .0) 4 (f .size))
 
 enum-told : tie.Need-enum-told
@@ -34,7 +35,8 @@ returns c =
     let s = now (b .args .a) in
     let v = c .before .before .start .given .0 in
     let f : FoundAt InitialMessageId RekeyPolicy s 0 (v .0) (v .1 .0) =
-    subst (Finds InitialMessageId RekeyPolicy s 0) (c .before .before .start .given .1) (c .before .before .before .before .next-of .ensures) in
+    subst (Finds InitialMessageId RekeyPolicy s 0) (c .before .before .start .given .1)
+    (c .before .before .before .before .next-of .ensures) in
     let n = eqb-true (v .1 .0 - v .0) 4 (f .size) in
     value-there 4 InitialMessageId RekeyPolicy s (b .pre .1) (v .0) (v .1 .0) (c .be32-at .result) f n (c .be32-at .ensures)
 
@@ -42,7 +44,8 @@ returns-2 : tie.Need-returns-2
 returns-2 c =
     let b = c .before .before .before .before in
     let s = now (b .args .a) in
-    let none : valuesIn InitialMessageId RekeyPolicy s ≡ [] = subst (Finds InitialMessageId RekeyPolicy s 0) (c .enum-told .given .1) (c .before .before .next-of .ensures) in
+    let none : valuesIn InitialMessageId RekeyPolicy s ≡ [] =
+    subst (Finds InitialMessageId RekeyPolicy s 0) (c .enum-told .given .1) (c .before .before .next-of .ensures) in
     value-missing 4 InitialMessageId RekeyPolicy s (b .pre .1) none
 
 pub initial-of-spec : {M : Type 1} → statement M

@@ -39,8 +39,11 @@ loop-less c = search needs
 loop-again : tie.Need-loop-again Inv-loop μ-loop
 loop-again c =
     let x = c .before .before .before .before .args .x .now in
-    let l = c .before .before .before .loop in
-    (omega arith, l .inv .1 ∙ all-yes (λ (o : ℕ). eqb o 0) x (length x) (omega arith) (l .i) 0 (omega arith) (sym (eq-eqb _ 0 (c .if1 .left))))
+    let l = c .before .before .before .loop in (
+      omega arith,
+      l .inv .1
+          ∙ all-yes (λ (o : ℕ). eqb o 0) x (length x) (omega arith) (l .i) 0 (omega arith) (sym (eq-eqb _ 0 (c .if1 .left))),
+    )
 
 returns-2 : tie.Need-returns-2 Inv-loop μ-loop
 returns-2 c =
