@@ -9,3 +9,4 @@ pub mod RunsAccepted
 pub mod RunsHeld
 pub mod Runs
 pub mod RunsLive
+pub mod RunsReplay
