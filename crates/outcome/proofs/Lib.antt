@@ -23,3 +23,4 @@ pub mod RunsAccepted
 pub mod RunsHeld
 pub mod Runs
 pub mod RunsLive
+pub mod RunsReplay
