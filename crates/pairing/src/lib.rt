@@ -1,2 +1,44 @@
 // Numbers 6 and 7 of document 01, over the two bodies of a frame: the GSA's policies and the KD's key bags.
 pub mod names;
+
+ghost use mathlib.Core.Path.{_≡_};
+ghost use mathlib.Core.List.{List};
+ghost use Prim.Native.Nat.{_≤_};
+ghost use Rattle.keys.specs.Lists.{any};
+ghost use Rattle.keys.specs.Limits.{limits};
+ghost use Rattle.table.specs.Table.{sasOf};
+ghost use Rattle.pairing.specs.inner.Names.{Name, Names, isAnnounced};
+use names::Which;
+use sa::entry::Sa;
+use table::Table;
+
+// Whether an SA of the table is not due and has one of the names.
+fn is_announced(s: Sa, g: &[u8], tick: u32) -> bool
+    requires { ⌜ ((l : List Name) × Names (now g) l) ⌝ }
+    ensures { λ r. ⌜ ((l : List Name) → Names (now (g .entry)) l → r ≡ isAnnounced tick l s) ⌝ }
+{
+    if s.due(tick) {
+        return false;
+    }
+    let p = s.protocol;
+    let x = s.spi;
+    let n = sa::entry::spi_size(p);
+    0 < names::count_names(Which::Named, octets::wide(p), &x[0..n], g)
+}
+
+// Whether an SA of the table is not due and has one of the names. Internal.
+pub fn any_in_table(g: &[u8], t: Table, tick: u32) -> bool
+    requires { ⌜ ((l : List Name) × Names (now g) l) × (t .count ≤ limits .sas) ⌝ }
+    ensures { λ r. ⌜ ((l : List Name) → Names (now (g .entry)) l → r ≡ any (isAnnounced tick l) (sasOf t)) ⌝ }
+{
+    let n = t.count;
+    let mut i: usize = 0;
+    while i < n {
+        let s = t.sas[i];
+        if is_announced(s, g, tick) {
+            return true;
+        }
+        i += 1;
+    }
+    false
+}
