@@ -5,3 +5,5 @@ pub mod Pairs
 pub mod NamesOf
 pub mod ListLaws
 pub mod InTable
+pub mod Twice
+pub mod Six
