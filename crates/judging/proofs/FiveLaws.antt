@@ -1,5 +1,5 @@
 -- Number 5 from the tests that the code makes, in whatever order.
-use mathlib.Core.Path.{_≡_, refl, ap, sym, _∙_}
+use mathlib.Core.Path.{_≡_, refl, sym, _∙_}
 use mathlib.Core.Bool.{Bool, true, false, not, _&&_, _||_}
 use mathlib.Core.List.{List, [], _∷_}
 use Prim.Native.Nat.{ℕ}
@@ -50,4 +50,21 @@ module _ (lent : List ℕ) (g : List Policy) (k : List Bag) (f : Frame) (row : E
       || (any (λ (p : GroupSaPolicy). eqb (p .protocol) ah) (gather saOf g)
       || (any (λ (b : GroupKeyBag). eqb (b .protocol) ah) (gather groupBagOf k)
       || any (λ (p : GroupSaPolicy). not (transformsFit (row .authentication) p)) (gather saOf g)))))) ≡ applies (five lent f)
-  five-is = ?
+  unfolding ahPolicy ahBag otherTransforms lentKeySize five-ofFrame
+  five-is =
+      let ahIn : List Policy → Bool = λ l. any (λ (p : GroupSaPolicy). eqb (p .protocol) ah) (gather saOf l) in
+      let ahAmong : List Bag → Bool = λ l. any (λ (b : GroupKeyBag). eqb (b .protocol) ah) (gather groupBagOf l) in
+      let otherIn : Bool → List Policy → Bool = λ a l. any (λ (p : GroupSaPolicy). not (transformsFit a p)) (gather saOf l) in
+      let o = is .other in
+      let n = is .none in
+      (λ i. (sym r i .lent && not (sizeOf 13 (length lent))) || (o i || (n i || (ahIn (sym pg i)
+      || (ahAmong (sym bk i) || otherIn (sym r i .authentication) (sym pg i))))))
+      ∙ six-tests (ahPolicy f) (ahBag f) (otherTransforms f) (deleteOfOther f) (deleteOfNone f) (lentKeySize lent f)
+
+  -- from the answers to the tests; one that was not made is what it would have been
+  pub five-by : (l o n a b t : Bool) → l ≡ (row .lent && not (sizeOf 13 (length lent))) → o ≡ d .other → n ≡ d .none
+      → a ≡ any (λ (p : GroupSaPolicy). eqb (p .protocol) ah) (gather saOf g)
+      → b ≡ any (λ (x : GroupKeyBag). eqb (x .protocol) ah) (gather groupBagOf k)
+      → t ≡ any (λ (p : GroupSaPolicy). not (transformsFit (row .authentication) p)) (gather saOf g)
+      → (l || (o || (n || (a || (b || t))))) ≡ applies (five lent f)
+  five-by l o n a b t el eo en ea eb et = (λ i. el i || (eo i || (en i || (ea i || (eb i || et i))))) ∙ five-is
