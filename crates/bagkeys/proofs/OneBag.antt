@@ -28,7 +28,7 @@ unfolding count
 count-of-map f p [] = refl
 count-of-map f p (a ∷ l) = ap (λ (n : ℕ). cond (p (f a)) (n + 1) n) (count-of-map f p l)
 
-count-all : {A : Type 0} (l : List A) → count (λ (a : A). true) l ≡ length l
+pub count-all : {A : Type 0} (l : List A) → count (λ (a : A). true) l ≡ length l
 unfolding count
 count-all [] = refl
 count-all (a ∷ l) = let e = count-all l in omega arith

@@ -4,8 +4,10 @@ pub mod names;
 ghost use mathlib.Core.Path.{_≡_};
 ghost use mathlib.Core.Bool.{true};
 ghost use mathlib.Core.List.{List};
-ghost use Prim.Native.Nat.{_≤_};
-ghost use Rattle.keys.specs.Lists.{any};
+ghost use Prim.Native.Nat.{ℕ, _+_, _≤_};
+ghost use lib.ListN.{length};
+ghost use lib.Dec.{ltb};
+ghost use Rattle.keys.specs.Lists.{any, count};
 ghost use Rattle.keys.specs.Limits.{limits};
 ghost use Rattle.table.specs.Table.{sasOf};
 ghost use Rattle.state.specs.declared.State.{State};
@@ -15,11 +17,17 @@ ghost use Rattle.frames.specs.Frame.{Frame};
 ghost use Rattle.contents.specs.inner.Values.{isWhole};
 ghost use Rattle.contents.specs.inner.Policies.{policiesIn};
 ghost use Rattle.contents.specs.inner.Bags.{bagsIn};
-ghost use Rattle.clauses.specs.Contents.{rowOf, policiesOf, bagsOf};
-ghost use Rattle.clauses.specs.Refusals.{one, six, applies};
+ghost use Rattle.clauses.specs.Contents.{rowOf, gather, saOf, policiesOf, bagsOf, deletedSpis};
+ghost use Rattle.clauses.specs.Fitness.{isEsp};
+ghost use Rattle.clauses.specs.Number2.{standing as standingAt};
+ghost use Rattle.clauses.specs.Refusals.{one, six, seven, applies};
 ghost use Rattle.pairing.specs.inner.Names.{Name, Names, isAnnounced};
 ghost use Rattle.pairing.specs.inner.Clauses.{keyClauses};
 use bagkeys::Question;
+use keys::limits::DELETED_SPIS;
+use keys::limits::ESP_POLICIES;
+use keys::limits::SAS;
+use keys::limits::WRAP_KEYS;
 use names::Which;
 use sa::entry::Sa;
 use table::Table;
@@ -93,4 +101,52 @@ pub fn number_6(copies: bool, g: &[u8], k: &[u8], t: Table, tick: u32) -> bool
         return true;
     }
     names::any_unpaired(k, g)
+}
+
+// How many ESP policies, and how many Group SA policies, a GSA body has. Internal.
+pub fn esp_policies(g: &[u8]) -> usize
+    requires { ⌜ isWhole (policies 0 (now g)) ≡ true ⌝ }
+    ensures { λ r. ⌜ r ≡ count isEsp (gather saOf (policiesIn (now (g .entry)))) ⌝ }
+{
+    names::count_names(Which::OfProtocol, 3, &g[0..0], g)
+}
+
+pub fn sa_policies(g: &[u8]) -> usize
+    requires { ⌜ isWhole (policies 0 (now g)) ≡ true ⌝ }
+    ensures { λ r. ⌜ r ≡ length (gather saOf (policiesIn (now (g .entry)))) ⌝ }
+{
+    names::count_names(Which::Every, 0, &g[0..0], g)
+}
+
+// Whether so many SAs that stand and so many more are too many for the table.
+fn is_over(standing: usize, more: usize) -> bool
+    ensures { λ r. ⌜ r ≡ ltb (limits .sas) (standing + more) ⌝ }
+{
+    if SAS < standing {
+        return true;
+    }
+    SAS - standing < more
+}
+
+// Whether number 7 applies to a frame with this GSA body g and KD body k, with so many deleted SPIs, where so many SAs stand. Internal.
+pub fn number_7(g: &[u8], k: &[u8], deleted: usize, standing: usize) -> bool
+    requires { ⌜ (isWhole (policies 0 (now g)) ≡ true) × (isWhole (bags 0 (now k)) ≡ true) ⌝ }
+    ensures { λ r. ⌜
+        ((f : Frame) (state : State) (tick : ℕ) → policiesOf f ≡ policiesIn (now (g .entry)) → bagsOf f ≡ bagsIn (now (k .entry))
+        → deleted ≡ length (deletedSpis f) → standing ≡ length (standingAt tick state) → r ≡ applies (seven limits state tick f))
+        ⌝ }
+{
+    if DELETED_SPIS < deleted {
+        return true;
+    }
+    if ESP_POLICIES < esp_policies(g) {
+        return true;
+    }
+    if is_over(standing, sa_policies(g)) {
+        return true;
+    }
+    if WRAP_KEYS < bagkeys::wrap_keys(k) {
+        return true;
+    }
+    bagkeys::any_bag(Question::ManySaKeys, k)
 }
