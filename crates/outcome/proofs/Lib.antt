@@ -10,3 +10,5 @@ pub mod RunsHeld
 pub mod Runs
 pub mod RunsLive
 pub mod RunsReplay
+pub mod SamplesAnswers
+pub mod SamplesRekeys
