@@ -12,3 +12,8 @@ pub mod RunsLive
 pub mod RunsReplay
 pub mod SamplesAnswers
 pub mod SamplesRekeys
+pub mod SamplesFrame
+pub mod SamplesChains
+pub mod SamplesTaken
+pub mod SamplesEntries
+pub mod SamplesHold
