@@ -20,19 +20,7 @@ fn key_length_twice(t: &[u8]) -> bool
     requires { ⌜ ((l : List Transform) × (tail : List ℕ) × Transforms (now t) l tail) ⌝ }
     ensures { λ r. ⌜ ((l : List Transform) (tail : List ℕ) → Transforms (now (t .entry)) l tail → r ≡ any twiceInTransform l) ⌝ }
 {
-    let mut at = 0;
-    let mut more = true;
-    while more {
-        let x = contents::body::transform_parts(&t[at..]);
-        let e = at + x.end;
-        let place = attributes::tables::in_transform(x.kind);
-        if 1 < contents::values::count_of(Meaning::KeyLength, place, &t[at + 8..e]) {
-            return true;
-        }
-        at = e;
-        more = x.more;
-    }
-    false
+    0 < suites::suite(t).doubled
 }
 
 // Whether a Group SA policy is barred by what it holds after its SPI.
