@@ -1,1 +1,2 @@
 pub mod FiveLaws
+pub mod OrderLaws
