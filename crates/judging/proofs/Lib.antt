@@ -1,2 +1,3 @@
 pub mod FiveLaws
 pub mod OrderLaws
+pub mod BodiesLaws

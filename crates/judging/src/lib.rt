@@ -25,7 +25,15 @@ ghost use Rattle.clauses.specs.Contents.{rowOf, policiesOf, bagsOf};
 ghost use Rattle.clauses.specs.Refusals.{judged, four, five, six, seven, onFrame, refusal as refusalOf};
 
 // The first of numbers 5 to 7 that applies to a frame with this GSA body g, KD body k and Delete payloads; 0 where none does.
-fn on_bodies(state: State, row: Exchange, g: &[u8], k: &[u8], d: Deletes, lent: &[u8], tick: u32) -> usize
+fn on_bodies(
+    state: State,
+    row: Exchange,
+    g: &[u8],
+    k: &[u8],
+    d: Deletes,
+    lent: &[u8],
+    tick: u32,
+) -> usize
     requires { ⌜ (isWhole (policies 0 (now g)) ≡ true) × (isWhole (bags 0 (now k)) ≡ true) × (state .table .count ≤ limits .sas) ⌝ }
     ensures { λ r. ⌜
         ((f : Frame) → policiesOf f ≡ policiesIn (now (g .entry)) → bagsOf f ≡ bagsIn (now (k .entry)) → rowOf f ≡ row →
@@ -47,7 +55,8 @@ fn on_bodies(state: State, row: Exchange, g: &[u8], k: &[u8], d: Deletes, lent: 
 
 // The first of numbers 4 to 7 that applies to a frame of an exchange with this row; 0 where none does.
 fn on_frame(state: State, row: Exchange, s: &[u8], lent: &[u8], tick: u32) -> usize
-    requires { ⌜ (isWhole (frame (now s)) ≡ true) × (state .table .count ≤ limits .sas) ⌝ }
+    requires { ⌜ state .table .count ≤ limits .sas ⌝ }
+    requires { ⌜ ((f : Frame) × (frame (now s) ≡ whole f []) × (rowOf f ≡ row)) ⌝ }
     ensures { λ r. ⌜ ((f : Frame) → frame (now (s .entry)) ≡ whole f [] → rowOf f ≡ row →
         r ≡ judged (onFrame limits state tick (now (lent .entry)) f)) ⌝ }
 {
