@@ -1,11 +1,10 @@
 -- The bodies of a frame to which number 4 does not apply.
 use native.Mathlib.Omega.{arith}
-use Prim.Native.Nat.{ℕ, _≤_}
-use mathlib.Core.Path.{_≡_, ap, sym, _∙_}
+use Prim.Native.Nat.{ℕ}
+use mathlib.Core.Path.{_≡_, sym}
 use mathlib.Core.Bool.{false}
 use mathlib.Core.List.{List}
 use borrow.Author.Tests.{ltb-false}
-use lib.Dec.{ltb}
 use Rattle.octets.specs.Walk.{part}
 use Rattle.keys.specs.Lists.{count}
 use Rattle.frames.specs.Frame.{Frame}

@@ -1,3 +1,4 @@
 pub mod FiveLaws
 pub mod OrderLaws
 pub mod BodiesLaws
+pub mod HeadLaws

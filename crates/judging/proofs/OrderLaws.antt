@@ -1,11 +1,10 @@
 -- The number judged first, from the answers on each number.
 use Prim.Native.Nat.{ℕ, _≤_}
-use mathlib.Core.Path.{_≡_, refl, ap, sym, _∙_}
+use mathlib.Core.Path.{_≡_, refl, ap, _∙_}
 use mathlib.Core.Bool.{Bool, true, false, cond}
 use mathlib.Core.List.{List, [], _∷_}
 use lib.ListN.{length}
 use Rattle.keys.specs.Limits.{Limits}
-use Rattle.sa.specs.declared.entry.Sa.{Sa}
 use Rattle.table.specs.declared.Table.{Table}
 use Rattle.table.specs.Table.{sasOf, tableOf, notDue, swept, standing}
 use Rattle.table.proofs.Laws.{changed-in}

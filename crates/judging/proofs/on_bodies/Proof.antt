@@ -1,5 +1,5 @@
 use denote.Ref.{now}
-use mathlib.Core.Path.{_≡_, refl, ap, sym, _∙_}
+use mathlib.Core.Path.{refl, ap, sym, _∙_}
 use mathlib.Core.List.{[], _∷_}
 use Rattle.keys.specs.Limits.{limits}
 use Rattle.frames.specs.declared.exchanges.Exchange.{Exchange}
@@ -8,12 +8,6 @@ use Rattle.judging.proofs.OrderLaws.{applying, passing, none-judged, st
 use borrow.Author.Needs.{needs}
 use Rattle.judging.proofs.on_bodies.Statement.{statement}
 use Rattle.judging.proofs.on_bodies.Tie as tie
-use Rattle.judging.proofs.on_bodies.Reads as reads
-use Rattle.judging.proofs.on_bodies.Lts as lts
-use Rattle.judging.proofs.five.number_5.Reads as number-5-reads
-use Rattle.pairing.proofs.number_6.Reads as number-6-reads
-use Rattle.pairing.proofs.number_7.Reads as number-7-reads
-use Rattle.table.proofs.Table.standing.Reads as standing-reads
 
 number-5-requires : tie.Need-number-5-requires
 number-5-requires c κs = search needs
@@ -47,7 +41,8 @@ returns-3 c =
     let x = c .before .before .before .before .before .before .before .before .before .before .before .args in
     let t = c .before .before .before .before .before .before .before .before .before .before .before .pre .2 in
     λ f pg bk r is.
-    let a5 = sym (c .before .before .before .before .before .before .if1 .left) ∙ c .before .before .before .before .before .before .before .number-5 .ensures f pg bk r is in
+    let p1 = c .before .before .before .before .before .before .before in
+    let a5 = sym (c .before .before .before .before .before .before .if1 .left) ∙ p1 .number-5 .ensures f pg bk r is in
     let e6 = c .before .before .before .before .number-6 .ensures f (x .state) pg bk (ap (λ (y : Exchange). y .copies) r) refl in
     let s7 = c .before .before .standing .ensures ∙ stand limits (x .tick) (x .state .table) t in
     let e7 = c .before .number-7 .ensures f (x .state) (x .tick) pg bk (is .spis) s7 in
@@ -60,7 +55,8 @@ returns-4 c =
     let x = c .before .before .before .before .before .before .before .before .before .before .before .args in
     let t = c .before .before .before .before .before .before .before .before .before .before .before .pre .2 in
     λ f pg bk r is.
-    let a5 = sym (c .before .before .before .before .before .before .if1 .left) ∙ c .before .before .before .before .before .before .before .number-5 .ensures f pg bk r is in
+    let p2 = c .before .before .before .before .before .before .before in
+    let a5 = sym (c .before .before .before .before .before .before .if1 .left) ∙ p2 .number-5 .ensures f pg bk r is in
     let e6 = c .before .before .before .before .number-6 .ensures f (x .state) pg bk (ap (λ (y : Exchange). y .copies) r) refl in
     let s7 = c .before .before .standing .ensures ∙ stand limits (x .tick) (x .state .table) t in
     let e7 = c .before .number-7 .ensures f (x .state) (x .tick) pg bk (is .spis) s7 in

@@ -1,5 +1,5 @@
 use denote.Ref.{now}
-use mathlib.Core.Path.{_≡_, refl, ap, sym, _∙_}
+use mathlib.Core.Path.{_≡_, ap, sym, _∙_}
 use Rattle.keys.specs.Limits.{limits}
 use mathlib.Core.Bool.{false}
 use mathlib.Core.List.{[], _∷_}
@@ -8,15 +8,8 @@ use Rattle.clauses.specs.Refusals.{applies, four, five, six, seven}
 use Rattle.payloads.specs.inner.Bodies.{IsBodies}
 use Rattle.judging.proofs.OrderLaws.{applying, passing}
 use Rattle.judging.proofs.BodiesLaws.{holds-policies, holds-bags}
-use borrow.Author.Needs.{needs}
 use Rattle.judging.proofs.on_frame.Statement.{statement}
 use Rattle.judging.proofs.on_frame.Tie as tie
-use Rattle.judging.proofs.on_frame.Reads as reads
-use Rattle.judging.proofs.on_frame.Lts as lts
-use Rattle.composition.proofs.number_4.Reads as number-4-reads
-use Rattle.judging.proofs.on_bodies.Reads as on-bodies-reads
-use Rattle.payloads.proofs.bodies_of.Reads as bodies-of-reads
-use Rattle.payloads.proofs.deletion.deletes_of.Reads as deletes-of-reads
 
 number-4-requires : tie.Need-number-4-requires
 number-4-requires c κs = ap isWhole (c .before .before .pre .1 .1)
@@ -82,7 +75,8 @@ returns-2 c =
     let is = d .bodies-of .ensures f q in
     let g = holds-policies s f (d .bodies-of .result) is none in
     let k = holds-bags s f (d .bodies-of .result) is none in
-    passing (four f) (five (now (x .lent)) f ∷ six (x .state) (x .tick) f ∷ seven limits (x .state) (x .tick) f ∷ []) (c .on-bodies .result) none
+    passing (four f) (five (now (x .lent)) f ∷ six (x .state) (x .tick) f ∷ seven limits (x .state) (x .tick) f ∷ [])
+    (c .on-bodies .result) none
     (c .on-bodies .ensures f (sym (g .all)) (sym (k .all)) e (c .before .before .before .deletes-of .ensures f q))
 
 pub on-frame-spec : {M : Type 1} → statement M
