@@ -1,6 +1,7 @@
 use native.Mathlib.Omega.{arith}
 use denote.Ref.{now}
 use mathlib.Core.Path.{sym, _∙_}
+use lib.ListN.{take}
 use Rattle.keys.specs.Limits.{limits}
 use Rattle.payloads.proofs.FrameLaws.{long, reads-to}
 use Rattle.judging.proofs.HeadLaws.{row-is, at-2, at-3, further, few-sas, no-header}
@@ -70,7 +71,7 @@ on-frame-requires c κs =
     let w = reads-to s (b .pre) in
     let f = w .0 in
     let q = w .1 in (
-      few-sas limits (a .state) (a .tick) _ _ n2,
+      few-sas limits (a .state) (a .tick) (v .1 .0) (take 16 s) n2,
       (
         f,
         q,
