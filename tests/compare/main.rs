@@ -3,7 +3,6 @@
 
 mod case;
 mod damage;
-mod rng;
 mod scene;
 mod script;
 mod tally;

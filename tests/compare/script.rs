@@ -3,10 +3,11 @@
 
 use crate::case::Case;
 use crate::damage::{damaged, first_line, hostile_line};
-use crate::rng::Rng;
 use crate::scene::{Scene, Shape};
 use crate::tally::Tally;
 use crate::violations::{allowed, of_place, Violation};
+use builder::line::{hex, line};
+use builder::rng::Rng;
 use reference::layout::MOST_FRAME;
 use reference::member::Member;
 use reference::text;
@@ -208,8 +209,7 @@ impl Writer<'_> {
             let built = case.frame.build();
             let octets = damaged(&built, &mut self.scene.rng);
             self.frame(&octets, "damaged".to_string());
-            let mut good = format!("{:08x}", self.scene.tick).into_bytes();
-            good.extend(hex(&built.octets));
+            let good = line(self.scene.tick, &built.octets);
             if self.scene.rng.chance(40) {
                 let line = hostile_line(&good, &mut self.scene.rng);
                 self.line(line, "hostile".to_string());
@@ -239,9 +239,7 @@ impl Writer<'_> {
 
     /// A frame of any octets, as many as a good line holds.
     fn frame(&mut self, octets: &[u8], label: String) -> u8 {
-        let mut line = format!("{:08x}", self.scene.tick).into_bytes();
-        line.extend(hex(octets));
-        self.line(line, label).expect("a good line")
+        self.line(line(self.scene.tick, octets), label).expect("a good line")
     }
 
     /// Adds the line, and takes the member through it; None for a bad one.
@@ -272,11 +270,4 @@ fn pair(number: usize) -> (usize, usize) {
         a += 1;
     }
     (a, number - before)
-}
-
-pub fn hex(octets: &[u8]) -> Vec<u8> {
-    octets
-        .iter()
-        .flat_map(|octet| [b"0123456789abcdef"[(octet >> 4) as usize], b"0123456789abcdef"[(octet & 15) as usize]])
-        .collect()
 }

@@ -5,6 +5,7 @@ mod parts;
 mod refusals;
 mod runs;
 
+use builder::line::line;
 use builder::Frame;
 use std::path::Path;
 use std::process::ExitCode;
@@ -31,8 +32,7 @@ impl Transcript {
     }
 
     pub fn octets(&mut self, about: &str, tick: u32, octets: &[u8], answer: &str) {
-        let digits: String = octets.iter().map(|octet| format!("{octet:02x}")).collect();
-        self.line(about, format!("{tick:08x}{digits}").as_bytes(), answer);
+        self.line(about, &line(tick, octets), answer);
     }
 
     pub fn line(&mut self, about: &str, line: &[u8], answer: &str) {
