@@ -34,17 +34,7 @@ pub struct Writer<'t> {
 }
 
 pub fn script(seed: u64, tally: &mut Tally) -> Script {
-    let mut rng = Rng::new(seed);
-    let size = [16, 24, 32][(seed % 3) as usize];
-    let lent = rng.octets(size);
-    let tick = rng.pick(&[0, 1000, 0x7fff_ff00, u32::MAX - 500]);
-    let mut writer = Writer {
-        lines: vec![hex(&lent)],
-        scene: Scene { rng, lent, member: Member::new(), tick },
-        labels: Vec::new(),
-        tally,
-        seed,
-    };
+    let mut writer = Writer::new(seed, tally);
     match seed % 16 {
         7 => writer.hostile_first_line(),
         11 => writer.without_rekey_sa(),
@@ -53,7 +43,31 @@ pub fn script(seed: u64, tally: &mut Tally) -> Script {
     writer.finish()
 }
 
-impl Writer<'_> {
+/// A registration and so many rekeys of all shapes, none refused.
+pub fn plain_life(seed: u64, rekeys: usize, tally: &mut Tally) -> Script {
+    let mut writer = Writer::new(seed, tally);
+    let first = Shape { rekey: true, keys: 12, further: 4, ..writer.scene.any_shape() };
+    let registration = writer.scene.registration(first);
+    writer.claim(&registration, 0, "plain registration");
+    for _ in 0..rekeys {
+        writer.scene.move_clock();
+        let shape = writer.scene.any_shape();
+        let rekey = writer.scene.rekey(shape).expect("a live Rekey SA and a Message ID");
+        writer.claim(&rekey, 0, "plain rekey");
+    }
+    writer.finish()
+}
+
+impl<'t> Writer<'t> {
+    fn new(seed: u64, tally: &'t mut Tally) -> Writer<'t> {
+        let mut rng = Rng::new(seed);
+        let size = [16, 24, 32][(seed % 3) as usize];
+        let lent = rng.octets(size);
+        let tick = rng.pick(&[0, 1000, 0x7fff_ff00, u32::MAX - 500]);
+        let lines = vec![hex(&lent)];
+        Writer { lines, scene: Scene { rng, lent, member: Member::new(), tick }, labels: Vec::new(), tally, seed }
+    }
+
     /// Refused registrations, one that is taken, then rekeys of all kinds.
     fn life(&mut self) {
         self.violations(true);
