@@ -1,7 +1,11 @@
-//! Inputs to time a member with. `inputs rekeys SIZE COUNT NAME` writes so many rekeys, all keys of so many octets, to NAME.in, and what a
-//! member must print to NAME.out.
+//! Inputs to time a member with, each as NAME.in and what a member must print as NAME.out.
+//!
+//! `inputs rekeys SIZE COUNT NAME`: so many rekeys, all keys of so many octets. `inputs hostile`: the names of the hostile frames and
+//! their answers. `inputs hostile FRAME COUNT NAME`: one of them so many times, and as NAME-bad the lines of the same digits that are
+//! "bad" by the last one.
 
 mod group;
+mod hostile;
 mod rekeys;
 
 use builder::line::{hex, line};
@@ -10,6 +14,7 @@ use std::io::{Error, Result, Write};
 use std::process::ExitCode;
 
 /// What a program reads, and what it must print.
+#[derive(Clone)]
 pub struct Input {
     lines: Vec<u8>,
     answers: Vec<u8>,
@@ -49,7 +54,18 @@ fn run(arguments: &[&str]) -> Result<()> {
         ["rekeys", size @ ("16" | "24" | "32"), count, name] => {
             rekeys::rekeys(number(size)? as usize, number(count)?).write(name)
         }
-        _ => Err(Error::other("inputs rekeys 16|24|32 COUNT NAME")),
+        ["hostile"] => {
+            hostile::all().for_each(|hostile| println!("{} {}", hostile.name, hostile.answer()));
+            Ok(())
+        }
+        ["hostile", frame, count, name] => {
+            let mut all = hostile::all();
+            let hostile = all.find(|hostile| hostile.name == *frame).ok_or_else(|| Error::other(format!("no frame {frame}")))?;
+            let [frames, bad_lines] = hostile.inputs(number(count)?);
+            frames.write(name)?;
+            bad_lines.write(&format!("{name}-bad"))
+        }
+        _ => Err(Error::other("inputs rekeys 16|24|32 COUNT NAME, or inputs hostile [FRAME COUNT NAME]")),
     }
 }
 
