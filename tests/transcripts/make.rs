@@ -1,9 +1,11 @@
 //! `transcripts DIRECTORY` writes the transcripts: NAME.in (what the program reads), NAME.out (what it must print) and NAME.about (a
 //! word on each answer). The answers are written down here by hand, from document 01; no member is asked.
 
+mod meanings;
 mod parts;
 mod refusals;
 mod runs;
+mod times;
 
 use builder::line::line;
 use builder::Frame;
@@ -53,7 +55,7 @@ fn main() -> ExitCode {
         eprintln!("transcripts DIRECTORY");
         return ExitCode::from(2);
     };
-    for transcript in runs::all().iter().chain(&refusals::all()) {
+    for transcript in [runs::all(), times::all(), meanings::all(), refusals::all()].iter().flatten() {
         if let Err(error) = transcript.write(Path::new(&directory)) {
             eprintln!("{directory}: {error}");
             return ExitCode::FAILURE;
