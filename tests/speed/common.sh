@@ -4,13 +4,14 @@
 second=target/tests/member
 
 # best INPUT OUTPUT PROGRAM [ARGUMENT..]: sets `best` to the least time of `turns` runs, in milliseconds; no run is begun after `enough`
-# milliseconds in all.
+# milliseconds in all. Fails if the program does.
 best() {
   local input=$1 output=$2 turn user system taken all=0 TIMEFORMAT='%3U %3S'
   shift 2
   best=
   for ((turn = 0; turn < ${turns:-5} && all < ${enough:-1000000}; turn++)); do
-    read -r user system < <({ time "$@" < "$input" > "$output"; } 2>&1)
+    read -r user system < <({ time "$@" < "$input" > "$output" 2>&3; } 3>&2 2>&1)
+    wait $! || { echo "$1 ended with $?"; return 1; }
     taken=$((10#${user/[.,]/} + 10#${system/[.,]/}))
     if [ -z "$best" ] || [ "$taken" -lt "$best" ]; then best=$taken; fi
     all=$((all + taken))
@@ -34,7 +35,7 @@ thousands() {
 # unless it prints INPUT.out, octet for octet.
 trial() {
   local lines
-  best "$1.in" "$1.printed" "$2"
+  best "$1.in" "$1.printed" "$2" || return 1
   cmp "$1.out" "$1.printed" || { echo "${1##*/}: $2 does not print what it must"; return 1; }
   lines=$(wc -l < "$1.out")
   printf '%s: %s %s ms, %s lines/s, %s kB at most' "${1##*/}" "$2" "$(thousands "$best")" \
