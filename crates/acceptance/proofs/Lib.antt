@@ -1,3 +1,5 @@
 pub mod TableLaws
+pub mod RetiringLaws
+pub mod FrameLaws
 pub mod ReadingLaws
 pub mod HereLaws

@@ -114,6 +114,6 @@ pub one-named : (x : List ℕ) → isZero x ≡ false → named esp x ≡ namedB
 unfolding named
 one-named x e = λ i s. (eqb (s .protocol) esp) && (sym e i || same (spiOf s) x)
 
-named-kept : (now delay : ℕ) (x : List ℕ) (s : Sa) → namedBy x (retired now delay s) ≡ namedBy x s
+pub named-kept : (now delay : ℕ) (x : List ℕ) (s : Sa) → namedBy x (retired now delay s) ≡ namedBy x s
 unfolding retired
 named-kept now delay x s = refl

@@ -3,7 +3,21 @@ ghost use mathlib.Core.Path.{_≡_};
 ghost use Rattle.keys.specs.Limits.{limits};
 ghost use Rattle.table.specs.Table.{retiredWhere};
 ghost use Rattle.outcome.specs.After.{isZero};
-ghost use Rattle.acceptance.specs.inner.Tables.{namedBy};
+ghost use mathlib.Core.Bool.{Bool, true, _||_};
+ghost use mathlib.Core.List.{List, [], map};
+ghost use Prim.Native.Nat.{_≤_};
+ghost use lib.ListN.{length};
+ghost use Rattle.octets.specs.Walk.{whole};
+ghost use Rattle.sa.specs.declared.entry.Sa.{Sa};
+ghost use Rattle.table.specs.Table.{tableOf, retiredIf};
+ghost use Rattle.frames.specs.Delete.{deleteOf, deleteFits};
+ghost use Rattle.frames.specs.Frame.{Frame, frame};
+ghost use Rattle.contents.specs.inner.Values.{isWhole};
+ghost use Rattle.outcome.specs.After.{namedInDelete};
+ghost use Rattle.acceptance.specs.inner.Tables.{namedBy, namedIn};
+use contents::payload::payload_parts;
+use payloads::deletion::delete_parts;
+use payloads::deletion::spi_at;
 use sa::entry::ESP;
 use table::Table;
 
@@ -29,4 +43,43 @@ pub fn retired_by(t: Table, spi: &[u8], tick: u32, delay: u16) -> Table
         return t.retired_all(ESP, tick, delay);
     }
     t.retired_esp(spi, tick, delay)
+}
+
+// The ESP SAs that the SPIs of a Delete payload's body name retire.
+fn retired_spis(t: Table, o: &[u8], tick: u32, delay: u16) -> Table
+    requires { ⌜ deleteFits (now o) ≡ true ⌝ }
+    ensures { λ r. ⌜ ((l : List Sa) (p : Sa → Bool) → length l ≤ limits .sas → t ≡ tableOf limits (map (retiredIf p tick delay) l) →
+        r ≡ tableOf limits (map (retiredIf (λ a. p a || namedIn (deleteOf (now (o .entry)) .spis) a) tick delay) l)) ⌝ }
+{
+    let d = delete_parts(o);
+    let n = d.count;
+    let mut out = t;
+    let mut i: usize = 0;
+    while i < n {
+        let x = spi_at(o, i);
+        out = retired_by(out, x, tick, delay);
+        i += 1;
+    }
+    out
+}
+
+// The ESP SAs that the Delete payloads of a frame name retire. Internal.
+pub fn retired_by_frame(t: Table, s: &[u8], tick: u32, delay: u16) -> Table
+    requires { ⌜ isWhole (frame (now s)) ≡ true ⌝ }
+    ensures { λ r. ⌜ ((f : Frame) (l : List Sa) → frame (now (s .entry)) ≡ whole f [] → length l ≤ limits .sas → t ≡ tableOf limits l →
+        r ≡ tableOf limits (map (retiredIf (namedInDelete f) tick delay) l)) ⌝ }
+{
+    let mut out = t;
+    let mut kind = octets::wide(s[16]);
+    let mut at = 28;
+    while kind != 0 {
+        let p = payload_parts(kind, &s[at..]);
+        let e = at + p.end;
+        if kind == 42 {
+            out = retired_spis(out, &s[at + 4..e], tick, delay);
+        }
+        kind = p.next;
+        at = e;
+    }
+    out
 }

@@ -3,14 +3,14 @@ use native.Mathlib.Omega.{arith}
 use Prim.Native.Nat.{ℕ, suc, _<_}
 use mathlib.Core.Path.{_≡_, refl}
 use mathlib.Core.Bool.{true}
-use mathlib.Core.Logic.{_⊎_, inl, inr, ⊎-elim}
+use mathlib.Core.Logic.{_⊎_, inl, inr, ⊎-elim, _↔_}
 use mathlib.Core.List.{List, [], _∷_, map}
 use Rattle.keys.specs.Limits.{Limits}
 use Rattle.frames.specs.Frame.{Frame}
 use Rattle.state.specs.declared.State.{State}
 use Rattle.clauses.specs.Refusals.{numbers, refusal}
 use Rattle.outcome.specs.Answer.{Condition, First, byClauses, EightOf, NineOf, conditions, Answers}
-use Rattle.outcome.proofs.First.{above, by-clauses, past-clauses, clauses-or-rest}
+use Rattle.outcome.proofs.First.{FirstAt, first-at, at-first, above, by-clauses, past-clauses, clauses-or-rest}
 
 module _ (limits : Limits) (s : State) (now : ℕ) (lent : List ℕ) (f : Frame) where
   -- the numbers rise in judging order, from 2 on
@@ -62,3 +62,7 @@ module _ (limits : Limits) (s : State) (now : ℕ) (lent : List ℕ) (f : Frame)
   pub accepts : Answers limits s now lent f 0 → NoneApplies
   accepts p =
       ⊎-elim (λ q. let z = q .0 in absurd (omega arith)) (λ q. none-last (q .0) (q .1)) (judged-or-past 0 p)
+
+  -- "each is judged only when the lower ones don't apply"
+  pub answers-at : (n : ℕ) → Answers limits s now lent f (suc n) ↔ FirstAt (conditions limits s now lent f) (suc n)
+  answers-at n = (first-at (conditions limits s now lent f) n, at-first (conditions limits s now lent f) (suc n))

@@ -2,7 +2,7 @@
 -- lower number does; 0 exactly when none holds. Lists whose numbers rise, from 1 on, are meant.
 use native.Mathlib.Omega.{arith}
 use Prim.Native.Nat.{ℕ, suc, _<_}
-use mathlib.Core.Path.{_≡_, refl, sym, _∙_}
+use mathlib.Core.Path.{_≡_, refl, ap, sym, _∙_, subst}
 use mathlib.Core.Bool.{Bool, true, _&&_, false≢true}
 use mathlib.Core.Logic.{_⊎_, inl, inr, ⊎-elim}
 use mathlib.Core.List.{List, [], _∷_, _++_, map}
@@ -70,6 +70,42 @@ first-is k (c ∷ l) a n (inr h) none =
 pub none-first : (l : List Condition) → ((m : ℕ) → Holds l m → ⊥) → First l 0
 none-first [] none = refl
 none-first (c ∷ l) none = inr (λ x. none (c .number) (inl (x, refl)), none-first l (λ m x. none m (inr x)))
+
+-- ---- the same by the order of judging, whatever the numbers: it holds, and none judged earlier does
+pub record FirstAt (l : List Condition) (n : ℕ) : Type 1 where
+  pub earlier : List Condition
+  pub it : Condition
+  pub later : List Condition
+  pub all : l ≡ earlier ++ (it ∷ later)
+  pub number : n ≡ it .number
+  pub holds : it .holds
+  pub none : (m : ℕ) → Holds earlier m → ⊥
+
+pub first-at : (l : List Condition) (n : ℕ) → First l (suc n) → FirstAt l (suc n)
+first-at [] n e = absurd (omega arith)
+first-at (c ∷ l) n (inl p) =
+    record { earlier = []; it = c; later = l; all = refl; number = p .1; holds = p .0; none = λ m h. h }
+first-at (c ∷ l) n (inr p) =
+    let r = first-at l n (p .1) in
+    record {
+      earlier = c ∷ r .earlier;
+      it = r .it;
+      later = r .later;
+      all = ap (λ (x : List Condition). c ∷ x) (r .all);
+      number = r .number;
+      holds = r .holds;
+      none = λ m h. ⊎-elim (λ q. p .0 (q .0)) (r .none m) h;
+    }
+
+after-earlier : (l : List Condition) (c : Condition) (m : List Condition) → c .holds → ((k : ℕ) → Holds l k → ⊥) →
+    First (l ++ (c ∷ m)) (c .number)
+after-earlier [] c m h none = inl (h, refl)
+after-earlier (d ∷ l) c m h none = inr (λ x. none (d .number) (inl (x, refl)), after-earlier l c m h (λ k x. none k (inr x)))
+
+pub at-first : (l : List Condition) (n : ℕ) → FirstAt l n → First l n
+at-first l n r =
+    let p = after-earlier (r .earlier) (r .it) (r .later) (r .holds) (r .none) in
+    subst (λ (x : List Condition). First x n) (sym (r .all)) (subst (First (r .earlier ++ (r .it ∷ r .later))) (sym (r .number)) p)
 
 -- ---- numbers by clauses, and conditions behind them
 module _ (rest : List Condition) where

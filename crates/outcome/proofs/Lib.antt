@@ -23,3 +23,11 @@ pub mod RunsAccepted
 pub mod RunsHeld
 pub mod Runs
 pub mod RunsLive
+pub mod RunsReplay
+pub mod SamplesAnswers
+pub mod SamplesRekeys
+pub mod SamplesFrame
+pub mod SamplesChains
+pub mod SamplesTaken
+pub mod SamplesEntries
+pub mod SamplesHold

@@ -19,6 +19,8 @@ use Rattle.outcome.proofs.Answering.{numbers-rise}
 
 module _ (limits : Limits) (s : State) (now : ℕ) (lent octets : List ℕ) where
   -- the table of document 01: the octets meet the condition of a number. "The other numbers are judged on a frame whose layout is whole."
+  -- Numbers 2 to 7 are met when one of their clauses applies, each with its words in clauses/specs; 8: "a reached wrapping opens to a wrong
+  -- size, or two reached ones give one key two values"; 9: "some announced SA has no copy that opens".
   pub data Meets : ℕ → Type 0 where
     meets-1 : (o : ℕ) → frame octets ≡ broken o → Meets 1
     meets-2 : (f : Frame) → frame octets ≡ whole f [] → applies (two limits s now (f .header .exchange) (f .header .spi)) ≡ true → Meets 2

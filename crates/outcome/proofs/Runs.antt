@@ -22,8 +22,9 @@ use Rattle.table.specs.Blank.{TableBlank}
 use Rattle.table.proofs.Kept.{table-formed}
 use Rattle.state.specs.declared.State.{State}
 use Rattle.state.specs.declared.held.Held.{Held}
-use Rattle.state.specs.Held.{heldFormed}
-use Rattle.state.specs.State.{stateFormed, newState, sweptState}
+use Rattle.state.specs.Held.{keysOf, heldOf, heldFormed}
+use Rattle.state.specs.State.{stateFormed, newState}
+use Rattle.state.specs.Blank.{AllKeysBlank, StateBlank}
 use Rattle.state.proofs.Kept.{new-state-formed, new-state-blank, swept-state-formed, swept-state-blank}
 use Rattle.clauses.specs.Contents.{rowOf, wrapKeysOf}
 use Rattle.clauses.specs.Number5.{lentKeySize, five-ofFrame}
@@ -33,10 +34,10 @@ use Rattle.chains.specs.Refusals.{of-entries}
 use Rattle.outcome.specs.Roots.{rootsOf, entriesOf, keyZero, keyZeroBy, ownKey, wrappingSize}
 use Rattle.outcome.specs.After.{After, HeldAre, HeldBy, insertAll, oldSas}
 use Rattle.outcome.specs.Outcome.{Judged, refused, accepted, Outcome, no-layout, by-tree}
-use Rattle.outcome.specs.Run.{Step, Takes, answered, swept, left, Run, ends, goes, Throughout, Sound}
+use Rattle.outcome.specs.Run.{Step, Takes, answered, swept, left, Run, ends, goes, Throughout}
 use Rattle.outcome.proofs.RunsClear.{no-clause, Clear, clear}
-use Rattle.outcome.proofs.RunsAccepted.{table-kept}
-use Rattle.outcome.proofs.RunsHeld.{HeldKept, held-kept}
+use Rattle.outcome.proofs.RunsAccepted.{clear-formed, table-fit, table-blank}
+use Rattle.outcome.proofs.RunsHeld.{set-formed, set-places, set-values}
 
 -- an exchange that sets the held list has the lent key judged, and takes it as key 0
 holds-rows : (a b c : Bool) → let x = either a registration (either b registration (either c rekey other)) in
@@ -46,19 +47,17 @@ holds-rows false true c e = (refl, refl)
 holds-rows false false true e = absurd (false≢true e)
 holds-rows false false false e = absurd (false≢true e)
 
--- a held list stays, or is set to one that is as it must be
-held-by : (b : Bool) (limits : Limits) (Set : Type 0) (h k : Held) → HeldBy b Set (h ≡ k) → HeldKept limits k →
-    (b ≡ true → Set → HeldKept limits h) → HeldKept limits h
-held-by true limits Set h k p q f = f refl p
-held-by false limits Set h k p q f = subst (HeldKept limits) (sym p) q
+-- a held list stays, or is set
+held-by : (b : Bool) (P : Held → Type 0) (Set : Type 0) (h k : Held) → HeldBy b Set (h ≡ k) → P k → (b ≡ true → Set → P h) → P h
+held-by true P Set h k p q f = f refl p
+held-by false P Set h k p q f = subst P (sym p) q
+
+-- the held list's part of a blank state
+record HeldBlank (limits : Limits) (h : Held) : Type 0 where
+  places : h ≡ heldOf limits (keysOf h)
+  values : AllKeysBlank (keysOf h)
 
 module _ (limits : Limits) (enough : limits .wrapKeys ≤ limits .heldKeys) where
-  pub sound-parts : (s : State) → Sound limits s → (tableFormed limits (s .table) ≡ true) × HeldKept limits (s .held)
-  unfolding stateFormed
-  sound-parts s w =
-      let p = and-parts (tableFormed limits (s .table)) (heldFormed limits (s .held)) (w .formed) in
-      (p .0, record { formed = p .1; places = w .blank .held; values = w .blank .values })
-
   module _ (s : State) (now : ℕ) (lent : List ℕ) (f : Frame) (c : Clear limits s now lent f) where
     -- in a registration a wrapping key needs a size of the algorithm table
     lent-size : rowOf f .holds ≡ true → sizeOf 13 (wrappingSize limits s now lent f) ≡ true
@@ -80,64 +79,105 @@ module _ (limits : Limits) (enough : limits .wrapKeys ≤ limits .heldKeys) wher
         let h = ltb-false (limits .wrapKeys) (length (wrapKeysOf f)) (no-clause (seven-ofFrame limits f) 1 (c .no-7 .ofFrame)) in
         omega arith
 
-    next-held : (next : State) → HeldKept limits (s .held) → After limits s now lent f next → HeldKept limits (next .held)
-    next-held next w a =
-        let roots = rootsOf limits s now lent f in
-        let size = wrappingSize limits s now lent f in
-        held-by (rowOf f .holds) limits (HeldAre roots (entriesOf f) size limits (next .held)) (next .held) (s .held) (a .held) w
-        (λ e are.
-        held-kept limits roots (entriesOf f) size (next .held) are (lent-size e) (λ g. c .no-8 (of-entries g)) no-zero few)
+    module _ (next : State) (a : After limits s now lent f next) where
+      Set : Type 0
+      Set = HeldAre (rootsOf limits s now lent f) (entriesOf f) (wrappingSize limits s now lent f) limits (next .held)
 
-    pub accepted-sound : (octets : List ℕ) → frame octets ≡ whole f [] → Sound limits s → (next : State) →
-        After limits s now lent f next → Sound limits next
-    unfolding stateFormed
-    accepted-sound octets e w next a =
-        let t = table-kept limits s now lent f c octets e (w .blank .table) (a .new) (a .enter) in
-        let h = next-held next (sound-parts s w .1) a in
-        let l = insertAll (a .new) (oldSas s now f) in
-        record {
-          formed =
-              and-whole (tableFormed limits (next .table)) (heldFormed limits (next .held))
-              (ap (tableFormed limits) (a .table) ∙ table-formed limits l (t .fit)) (h .formed);
-          blank =
-              record {
-                table = subst (TableBlank limits) (sym (a .table)) (t .blank);
-                held = h .places;
-                values = h .values;
-              };
-        }
+      next-held : heldFormed limits (next .held) ≡ true
+      unfolding stateFormed Set
+      next-held =
+          let roots = rootsOf limits s now lent f in
+          let size = wrappingSize limits s now lent f in
+          let g = and-parts (tableFormed limits (s .table)) (heldFormed limits (s .held)) (clear-formed limits s now lent f c) in
+          held-by (rowOf f .holds) (λ (h : Held). heldFormed limits h ≡ true) Set (next .held) (s .held) (a .held) (g .1)
+          (λ e are.
+          set-formed limits roots (entriesOf f) size (next .held) are (lent-size e) (λ x. c .no-8 (of-entries x)) no-zero few)
+
+      held-blank : HeldBlank limits (s .held) → HeldBlank limits (next .held)
+      unfolding Set
+      held-blank b =
+          let roots = rootsOf limits s now lent f in
+          let size = wrappingSize limits s now lent f in
+          held-by (rowOf f .holds) (HeldBlank limits) Set (next .held) (s .held) (a .held) b
+          (λ e are.
+          record {
+            places = set-places limits roots (entriesOf f) size (next .held) are;
+            values = set-values limits roots (entriesOf f) size (next .held) are;
+          })
+
+      module _ (octets : List ℕ) (e : frame octets ≡ whole f []) where
+        pub accepted-formed : stateFormed limits next ≡ true
+        unfolding stateFormed
+        accepted-formed =
+            and-whole (tableFormed limits (next .table)) (heldFormed limits (next .held))
+            (ap (tableFormed limits) (a .table)
+            ∙ table-formed limits (insertAll (a .new) (oldSas s now f)) (table-fit limits s now lent f c octets e (a .new) (a .enter)))
+            next-held
+
+        pub accepted-blank : StateBlank limits s → StateBlank limits next
+        accepted-blank b =
+            let h = held-blank (record { places = b .held; values = b .values }) in
+            record {
+              table = subst (TableBlank limits) (sym (a .table))
+                  (table-blank limits s now lent f c octets e (a .new) (a .enter) (b .table));
+              held = h .places;
+              values = h .values;
+            }
 
   -- ---- each kind of step
-  judged-sound : (s : State) (now : ℕ) (lent octets : List ℕ) (f : Frame) (n : ℕ) (next : State) → frame octets ≡ whole f [] →
-      Judged limits s now lent f n next → Sound limits s → Sound limits next
-  judged-sound s now lent octets f _ _ e (refused n a) w = w
-  judged-sound s now lent octets f _ _ e (accepted next a r) w =
-      accepted-sound s now lent f (clear limits s now lent f a) octets e w next r
+  judged-formed : (s : State) (now : ℕ) (lent octets : List ℕ) (f : Frame) (n : ℕ) (next : State) → frame octets ≡ whole f [] →
+      Judged limits s now lent f n next → stateFormed limits s ≡ true → stateFormed limits next ≡ true
+  judged-formed s now lent octets f _ _ e (refused n a) w = w
+  judged-formed s now lent octets f _ _ e (accepted next a r) w =
+      accepted-formed s now lent f (clear limits s now lent f a) next r octets e
 
-  pub outcome-sound : (s : State) (now : ℕ) (lent octets : List ℕ) (n : ℕ) (next : State) → Outcome limits s now lent octets n next →
-      Sound limits s → Sound limits next
-  outcome-sound s now lent octets _ _ (no-layout o e) w = w
-  outcome-sound s now lent octets _ _ (by-tree f {n} {next} e j) w = judged-sound s now lent octets f n next e j w
+  judged-blank : (s : State) (now : ℕ) (lent octets : List ℕ) (f : Frame) (n : ℕ) (next : State) → frame octets ≡ whole f [] →
+      Judged limits s now lent f n next → StateBlank limits s → StateBlank limits next
+  judged-blank s now lent octets f _ _ e (refused n a) w = w
+  judged-blank s now lent octets f _ _ e (accepted next a r) w =
+      accepted-blank s now lent f (clear limits s now lent f a) next r octets e w
 
-  pub swept-sound : (now : ℕ) (s : State) → Sound limits s → Sound limits (sweptState limits now s)
-  swept-sound now s w = record { formed = swept-state-formed limits now s (w .formed); blank = swept-state-blank limits now s (w .blank) }
+  pub outcome-formed : (s : State) (now : ℕ) (lent octets : List ℕ) (n : ℕ) (next : State) → Outcome limits s now lent octets n next →
+      stateFormed limits s ≡ true → stateFormed limits next ≡ true
+  outcome-formed s now lent octets _ _ (no-layout o e) w = w
+  outcome-formed s now lent octets _ _ (by-tree f {n} {next} e j) w = judged-formed s now lent octets f n next e j w
 
-  pub new-sound : Sound limits (newState limits)
-  new-sound = record { formed = new-state-formed limits; blank = new-state-blank limits }
+  pub outcome-blank : (s : State) (now : ℕ) (lent octets : List ℕ) (n : ℕ) (next : State) → Outcome limits s now lent octets n next →
+      StateBlank limits s → StateBlank limits next
+  outcome-blank s now lent octets _ _ (no-layout o e) w = w
+  outcome-blank s now lent octets _ _ (by-tree f {n} {next} e j) w = judged-blank s now lent octets f n next e j w
 
-  takes-sound : (s : State) (x : Step) (e : State) → Takes limits s x e → Sound limits s → Sound limits e
-  takes-sound s _ _ (answered octets lent now n {next} o) w = outcome-sound s now lent octets n next o w
-  takes-sound s _ _ (swept now) w = swept-sound now s w
-  takes-sound s _ _ left w = new-sound
+  takes-formed : (s : State) (x : Step) (e : State) → Takes limits s x e → stateFormed limits s ≡ true → stateFormed limits e ≡ true
+  takes-formed s _ _ (answered octets lent now n {next} o) w = outcome-formed s now lent octets n next o w
+  takes-formed s _ _ (swept now) w = swept-state-formed limits now s w
+  takes-formed s _ _ left w = new-state-formed limits
+
+  takes-blank : (s : State) (x : Step) (e : State) → Takes limits s x e → StateBlank limits s → StateBlank limits e
+  takes-blank s _ _ (answered octets lent now n {next} o) w = outcome-blank s now lent octets n next o w
+  takes-blank s _ _ (swept now) w = swept-state-blank limits now s w
+  takes-blank s _ _ left w = new-state-blank limits
 
   -- ---- any run
-  pub run-sound : {s e : State} {l : List Step} (r : Run limits s l e) → Sound limits s → Throughout limits (Sound limits) r
-  run-sound (ends s) w = w
-  run-sound (goes s {m} {e} {x} t r) w = (w, run-sound r (takes-sound s x m t w))
+  pub run-formed : {s e : State} {l : List Step} (r : Run limits s l e) → stateFormed limits s ≡ true →
+      Throughout limits (λ (m : State). stateFormed limits m ≡ true) r
+  run-formed (ends s) w = w
+  run-formed (goes s {m} {e} {x} t r) w = (w, run-formed r (takes-formed s x m t w))
 
-  pub new-run-sound : {e : State} {l : List Step} (r : Run limits (newState limits) l e) → Throughout limits (Sound limits) r
-  new-run-sound r = run-sound r new-sound
+  pub run-blank : {s e : State} {l : List Step} (r : Run limits s l e) → StateBlank limits s → Throughout limits (StateBlank limits) r
+  run-blank (ends s) w = w
+  run-blank (goes s {m} {e} {x} t r) w = (w, run-blank r (takes-blank s x m t w))
+
+  pub new-run-formed : {e : State} {l : List Step} (r : Run limits (newState limits) l e) →
+      Throughout limits (λ (m : State). stateFormed limits m ≡ true) r
+  new-run-formed r = run-formed r (new-state-formed limits)
+
+  pub new-run-blank : {e : State} {l : List Step} (r : Run limits (newState limits) l e) → Throughout limits (StateBlank limits) r
+  new-run-blank r = run-blank r (new-state-blank limits)
 
 -- the same with document 01's limits
-pub members-sound : {e : State} {l : List Step} (r : Run limits (newState limits) l e) → Throughout limits (Sound limits) r
-members-sound r = new-run-sound limits (omega arith) r
+pub members-formed : {e : State} {l : List Step} (r : Run limits (newState limits) l e) →
+    Throughout limits (λ (m : State). stateFormed limits m ≡ true) r
+members-formed r = new-run-formed limits (omega arith) r
+
+pub members-blank : {e : State} {l : List Step} (r : Run limits (newState limits) l e) → Throughout limits (StateBlank limits) r
+members-blank r = new-run-blank limits (omega arith) r

@@ -15,7 +15,7 @@ use Rattle.policies.specs.Policy.{GroupSaPolicy}
 use Rattle.frames.specs.Frame.{Frame, frame}
 use Rattle.sa.specs.Entry.{named, liveRekey}
 use Rattle.sa.specs.declared.entry.Sa.{Sa}
-use Rattle.table.specs.Table.{tableFormed}
+use Rattle.table.specs.Table.{tableOf, tableFormed}
 use Rattle.table.specs.Blank.{TableBlank}
 use Rattle.table.proofs.Kept.{Fit}
 use Rattle.state.specs.declared.State.{State}
@@ -35,9 +35,9 @@ use Rattle.outcome.proofs.RunsLists.{member-in, member-map, none-passes
 use Rattle.outcome.proofs.RunsClear.{no-clause, Clear}
 use Rattle.outcome.proofs.RunsNeeds.{esp-sizes, rekey-sizes}
 use Rattle.outcome.proofs.RunsSpis.{esp-spi, rekey-spi}
-use Rattle.outcome.proofs.RunsMade.{Kind, an-esp, a-rekey, enter-made}
-use Rattle.outcome.proofs.RunsTable.{Apart, counted-apart, Kept, new-enter}
-use Rattle.outcome.proofs.RunsOld.{old-length, old-names, old-live, old-kept}
+use Rattle.outcome.proofs.RunsMade.{Kind, an-esp, a-rekey, Made, enter-made}
+use Rattle.outcome.proofs.RunsTable.{Apart, counted-apart, new-fit, new-blank}
+use Rattle.outcome.proofs.RunsOld.{old-length, old-names, old-live, old-fit, old-blank}
 
 module _ (limits : Limits) (s : State) (now : ℕ) (lent : List ℕ) (f : Frame) (c : Clear limits s now lent f) where
   -- ---- the clauses that do not apply, by what they say
@@ -119,12 +119,22 @@ module _ (limits : Limits) (s : State) (now : ℕ) (lent : List ℕ) (f : Frame)
       let o = old .one in
       omega arith)
 
-  pub table-kept : (octets : List ℕ) → frame octets ≡ whole f [] → TableBlank limits (s .table) → (new : List Sa) →
-      Enter (rootsOf limits s now lent f) (entriesOf f) (wrappingSize limits s now lent f) f (announced f) new →
-      Kept limits (insertAll new (oldSas s now f))
-  table-kept octets e b new n =
-      let old = old-kept limits s now f table-formed b in
-      let h = old-length limits s now f in
-      let r = room in
-      new-enter limits (oldSas s now f) old (enter-made n (kinds octets e) opened-size) (omega arith) names-apart
-      (λ a m. old-names limits s now f (a .protocol) (a .spi) ∙ new-name a m) (one-live (old .fit))
+  -- ---- the table
+  module _ (octets : List ℕ) (e : frame octets ≡ whole f []) (new : List Sa)
+      (n : Enter (rootsOf limits s now lent f) (entriesOf f) (wrappingSize limits s now lent f) f (announced f) new) where
+    pub all-made : Made (announced f) new
+    all-made = enter-made n (kinds octets e) opened-size
+
+    pub table-fit : Fit limits (insertAll new (oldSas s now f))
+    table-fit =
+        let old = old-fit limits s now f table-formed in
+        let h = old-length limits s now f in
+        let r = room in
+        new-fit limits (oldSas s now f) old all-made (omega arith) names-apart
+        (λ a m. old-names limits s now f (a .protocol) (a .spi) ∙ new-name a m) (one-live old)
+
+    pub table-blank : TableBlank limits (s .table) → TableBlank limits (tableOf limits (insertAll new (oldSas s now f)))
+    table-blank b =
+        let h = old-length limits s now f in
+        let r = room in
+        new-blank limits (oldSas s now f) (old-blank limits s now f table-formed b) all-made (omega arith)

@@ -1,15 +1,18 @@
 -- What is known of a frame that is accepted: no clause of numbers 2 to 7 applies, and 8 and 9 do not hold.
 use native.Mathlib.Omega.{arith}
 use Prim.Native.Nat.{ℕ, zero, suc}
-use mathlib.Core.Path.{_≡_, refl, sym}
+use mathlib.Core.Path.{_≡_, refl, sym, subst}
 use mathlib.Core.Bool.{Bool, true, false, _||_, false≢true}
 use mathlib.Core.Logic.{inl, inr}
 use mathlib.Core.List.{List, [], _∷_}
 use lib.ListN.{getD}
+use Rattle.octets.specs.Walk.{whole}
 use Rattle.keys.specs.Limits.{Limits}
-use Rattle.frames.specs.Frame.{Frame}
+use Rattle.frames.specs.Frame.{Frame, frame}
 use Rattle.state.specs.declared.State.{State}
 use Rattle.clauses.specs.Refusals.{Number, one, applies, two, three, four, five, six, seven}
+use Rattle.outcome.specs.After.{After}
+use Rattle.outcome.specs.Outcome.{Judged, refused, accepted, Outcome, no-layout, by-tree}
 use Rattle.outcome.specs.Answer.{Condition, First, conditions, Answers, EightOf, NineOf}
 
 -- ---- 0 is given where no condition holds: their numbers are above it
@@ -86,3 +89,23 @@ clear limits s now lent f a =
       no-8 = p .1 .1 .1 .1 .1 .1 .0;
       no-9 = p .1 .1 .1 .1 .1 .1 .1 .0;
     }
+
+-- ---- an accepted frame, by its octets
+pub record Taken (limits : Limits) (s : State) (now : ℕ) (lent : List ℕ) (next : State) (f : Frame) : Type 0 where
+  pub is-clear : Clear limits s now lent f
+  pub after : After limits s now lent f next
+
+module _ (limits : Limits) (s : State) (now : ℕ) (lent : List ℕ) where
+  judged-taken : (f : Frame) (n : ℕ) (next : State) → Judged limits s now lent f n next → n ≡ 0 → Taken limits s now lent next f
+  judged-taken f _ _ (refused n a) e = absurd (omega arith)
+  judged-taken f _ _ (accepted next a r) e = record { is-clear = clear limits s now lent f a; after = r }
+
+  outcome-taken : (octets : List ℕ) (f : Frame) (n : ℕ) (next : State) → frame octets ≡ whole f [] →
+      Outcome limits s now lent octets n next → n ≡ 0 → Taken limits s now lent next f
+  outcome-taken octets f _ _ e (no-layout o g) z = absurd (omega arith)
+  outcome-taken octets f _ _ e (by-tree h {n} {next} g j) z =
+      let u : h ≡ f = cc in subst (Taken limits s now lent next) u (judged-taken h n next j z)
+
+  pub taken : (octets : List ℕ) (f : Frame) (next : State) → frame octets ≡ whole f [] → Outcome limits s now lent octets 0 next →
+      Taken limits s now lent next f
+  taken octets f next e o = outcome-taken octets f 0 next e o refl

@@ -80,11 +80,6 @@ each-blank [] f = no-key
 each-blank (k ∷ l) f = one-more (f k (List·Memᴰ·head refl)) (each-blank l (λ b m. f b (List·Memᴰ·tail m)))
 
 -- ---- the list
-pub record HeldKept (limits : Limits) (h : Held) : Type 0 where
-  pub formed : heldFormed limits h ≡ true
-  pub places : h ≡ heldOf limits (keysOf h)
-  pub values : AllKeysBlank (keysOf h)
-
 module _ (limits : Limits) (roots : List Root) (entries : List WrapKey) (size : ℕ) (h : Held)
     (are : HeldAre roots entries size limits h) (fits : sizeOf 13 size ≡ true) (none : EntriesEight roots entries size → ⊥)
     (no-zero : any (λ (k : WrapKey). eqb (k .keyId) 0) entries ≡ false) (few : length entries ≤ limits .heldKeys) where
@@ -108,17 +103,26 @@ module _ (limits : Limits) (roots : List Root) (entries : List WrapKey) (size : 
       let w = g .value .reached .last in
       passes-some (hasId (k .id)) entries w (in-member w entries (e .0)) (eq-eqb (w .keyId) (k .id) (e .1))
 
-  pub held-kept : HeldKept limits h
-  held-kept =
+  each : (k : HeldKey) → List·Memᴰ k (are .keys) → Holds roots entries size k
+  each k m = are .each k (member-in k (are .keys) m)
+
+  pub set-formed : heldFormed limits h ≡ true
+  set-formed =
       let l = are .keys in
-      let each : (k : HeldKey) → List·Memᴰ k l → Holds roots entries size k = λ k m. are .each k (member-in k l m) in
       let n = no-more-keys l entries (are .rise) (λ k m. has-entry k (each k m)) in
-      let is = are .is in
-      let e : keysOf h ≡ l = ap keysOf is ∙ keys-of-held limits l in
-      record {
-        formed =
-            ap (heldFormed limits) is
-            ∙ held-formed limits l (omega arith) (each-formed l (λ k m. one-formed k (each k m))) (are .rise);
-        places = is ∙ ap (heldOf limits) (sym e);
-        values = subst AllKeysBlank (sym e) (each-blank l (λ k m. subst KeyBlank (sym (each k m .key-is)) (key-blank (each k m .x))));
-      }
+      ap (heldFormed limits) (are .is)
+      ∙ held-formed limits l (omega arith) (each-formed l (λ k m. one-formed k (each k m))) (are .rise)
+
+module _ (limits : Limits) (roots : List Root) (entries : List WrapKey) (size : ℕ) (h : Held)
+    (are : HeldAre roots entries size limits h) where
+  keys-are : keysOf h ≡ are .keys
+  keys-are = ap keysOf (are .is) ∙ keys-of-held limits (are .keys)
+
+  pub set-places : h ≡ heldOf limits (keysOf h)
+  set-places = are .is ∙ ap (heldOf limits) (sym keys-are)
+
+  pub set-values : AllKeysBlank (keysOf h)
+  set-values =
+      let l = are .keys in
+      subst AllKeysBlank (sym keys-are)
+      (each-blank l (λ k m. let g = are .each k (member-in k l m) in subst KeyBlank (sym (g .key-is)) (key-blank (g .x))))

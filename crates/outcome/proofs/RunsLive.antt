@@ -33,10 +33,10 @@ use Rattle.outcome.specs.After.{delayOf, newRekey, namedInDelete, replac
 use Rattle.outcome.specs.Run.{LiveRekey}
 use Rattle.outcome.proofs.RunsLists.{member-map, all-pass, count-none, none-passes, passes-none, some-passes, passes-some}
 use Rattle.outcome.proofs.RunsClear.{no-clause, Clear}
-use Rattle.outcome.proofs.RunsMade.{enter-made, made-any}
+use Rattle.outcome.proofs.RunsMade.{made-any}
 use Rattle.outcome.proofs.RunsTable.{any-all}
 use Rattle.outcome.proofs.RunsOld.{retires, old-live, swept-sas}
-use Rattle.outcome.proofs.RunsAccepted.{kinds, opened-size, new-name}
+use Rattle.outcome.proofs.RunsAccepted.{all-made, new-name}
 
 live-not-due : (now : ℕ) (a : Sa) → liveRekey a ≡ true → due now a ≡ false
 unfolding liveRekey due
@@ -131,7 +131,7 @@ module _ (limits : Limits) (s : State) (now : ℕ) (lent : List ℕ) (f : Frame)
     -- no announced SA has its name
     other-names : any (named entry.rekey x) (a .new) ≡ false
     other-names =
-        let made = enter-made (a .enter) (kinds limits s now lent f c octets e) (opened-size limits s now lent f c) in
+        let made = all-made limits s now lent f c octets e (a .new) (a .enter) in
         let r = some-passes (overLiveRekey x) (standing now s) (live-stands x s now l) in
         let there = passes-some (named entry.rekey x) (standing now s) (r .one) (r .stands) (over-parts x (r .one) (r .passes) .1) in
         made-any entry.rekey x made

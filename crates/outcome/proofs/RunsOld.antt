@@ -15,12 +15,11 @@ use Rattle.sa.proofs.Kept.{retired-rekey}
 use Rattle.table.specs.Table.{sasOf, tableOf, tableFormed, swept, stays, notDue, retiredIf, retiredWhere}
 use Rattle.table.specs.Blank.{TableBlank}
 use Rattle.table.proofs.Laws.{changed-in}
-use Rattle.table.proofs.Kept.{fit-keep, fit-retired, formed-fit, formed-count, swept-formed, sas-of-table}
+use Rattle.table.proofs.Kept.{Fit, fit-keep, fit-retired, formed-fit, formed-count, swept-formed, sas-of-table}
 use Rattle.table.proofs.Blanks.{swept-blank, retired-where-blank}
 use Rattle.state.specs.declared.State.{State}
 use Rattle.clauses.specs.Number2.{standing}
 use Rattle.outcome.specs.After.{delayOf, newRekey, namedInDelete, replaced, oldSas}
-use Rattle.outcome.proofs.RunsTable.{Kept}
 
 any-map : {A : Type 0} (g : A → A) (q : A → Bool) → ((a : A) → q (g a) ≡ q a) → (l : List A) → any q (map g l) ≡ any q l
 unfolding any
@@ -85,12 +84,13 @@ module _ (limits : Limits) (s : State) (now : ℕ) (f : Frame) where
         (formed-count limits (swept limits now (s .table)) (swept-formed limits now (s .table) e))
         ∙ ap (λ (l : List Sa). tableOf limits (g l)) (swept-sas limits s now e)
 
-    pub old-kept : TableBlank limits (s .table) → Kept limits (oldSas s now f)
+    pub old-fit : Fit limits (oldSas s now f)
     unfolding oldSas
-    old-kept b =
-        record {
-          fit = fit-retired limits (retires f) now (delayOf f) (standing now s)
-              (fit-keep limits (stays now) (sasOf (s .table)) (formed-fit limits (s .table) e));
-          blank = subst (TableBlank limits) old-table
-              (retired-where-blank limits (retires f) now (delayOf f) (swept limits now (s .table)) (swept-blank limits now (s .table) b));
-        }
+    old-fit =
+        fit-retired limits (retires f) now (delayOf f) (standing now s)
+        (fit-keep limits (stays now) (sasOf (s .table)) (formed-fit limits (s .table) e))
+
+    pub old-blank : TableBlank limits (s .table) → TableBlank limits (tableOf limits (oldSas s now f))
+    old-blank b =
+        subst (TableBlank limits) old-table
+        (retired-where-blank limits (retires f) now (delayOf f) (swept limits now (s .table)) (swept-blank limits now (s .table) b))

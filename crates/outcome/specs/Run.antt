@@ -10,8 +10,7 @@ use Rattle.keys.specs.Lists.{any}
 use Rattle.frames.specs.Frame.{Frame, frame}
 use Rattle.table.specs.Table.{sasOf}
 use Rattle.state.specs.declared.State.{State}
-use Rattle.state.specs.State.{newState, stateFormed, sweptState}
-use Rattle.state.specs.Blank.{StateBlank}
+use Rattle.state.specs.State.{newState, sweptState}
 use Rattle.clauses.specs.Number2.{overLiveRekey}
 use Rattle.outcome.specs.After.{newRekey}
 use Rattle.outcome.specs.Outcome.{Outcome}
@@ -49,11 +48,6 @@ module _ (limits : Limits) where
   abbrev pub AllQuiet : {s e : State} {l : List Step} → Run s l e → Type 0
   AllQuiet (ends s) = Unit {0}
   AllQuiet (goes s t r) = Quiet t × AllQuiet r
-
--- a state is as a member's must be, and blank in every unused place
-pub record Sound (limits : Limits) (s : State) : Type 0 where
-  pub formed : stateFormed limits s ≡ true
-  pub blank : StateBlank limits s
 
 -- the Rekey SA with this SPI is live
 abbrev pub LiveRekey : List ℕ → State → Type 0

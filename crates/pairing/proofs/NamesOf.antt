@@ -7,6 +7,7 @@ use native.Mathlib.Omega.{arith}
 use borrow.Author.Tests.{eqb-true, eqb-false}
 use lib.ListN.{length, drop, length-drop}
 use lib.Dec.{eqb}
+use Rattle.octets.proofs.Numerals.{be16-is}
 use Rattle.octets.specs.Numbers.{oct}
 use Rattle.octets.specs.Walk.{be16, either, Reading}
 use Rattle.octets.proofs.Walks.{many-none}
@@ -54,7 +55,16 @@ heads : (s : List ℕ) → headFits s ≡ true → Heads s (parts s)
 unfolding parts
 heads s e =
     let i = head-is s e in
-    record { first = refl; body = refl; end = refl; some = omega arith; order = i .0; inside = i .1 }
+    let n = be16-is s 2 in
+    record {
+      first = refl;
+      body = refl;
+      end = refl;
+      some = omega arith;
+      order = i .0;
+      inside = i .1;
+      twoOctets = λ a b. omega arith;
+    }
 
 -- ---- policies
 abbrev pub policyNames : List Policy → List Name

@@ -18,6 +18,7 @@ use Rattle.contents.specs.declared.payload.PayloadParts.{PayloadParts}
 use Rattle.clauses.specs.Contents.{gather, deletesIn}
 use Rattle.clauses.specs.Fitness.{esp}
 use Rattle.clauses.specs.Number5.{deleteOfOther, deleteOfNone}
+use Rattle.clauses.proofs.OneOf.{or-false}
 use Rattle.payloads.specs.inner.Bodies.{payloadsOf}
 use Rattle.payloads.specs.inner.Deletion.{withOne, IsDeletes}
 use Rattle.payloads.specs.declared.deletion.Deletes.{Deletes}
@@ -59,10 +60,6 @@ sums-next d x l all s = record {
   spis = omega (arith, s .spis, length-append (x .spis) (spisIn l));
 }
 
-or-false : (a : Bool) → (a || false) ≡ a
-or-false true = refl
-or-false false = refl
-
 module _ (d : Deletes) (all : List Delete) (s : Sums d [] all) where
   pub other-all : d .other ≡ any ofOther all
   unfolding any
@@ -101,21 +98,28 @@ module _ (k : ℕ) (s : List ℕ) (at : ℕ) (r : PayloadParts) (g : Step k s at
   left : List Delete
   left = deletesAmong (payloadsIn (r .next) (drop (at + r .end) s))
 
+  pub list-here : k ≡ 42 → deletesAmong (payloadsIn k (drop at s))
+      ≡ deleteOf (part s (at + 4) (at + r .end)) ∷ deletesAmong (payloadsIn (r .next) (drop (at + r .end) s))
+  unfolding left
+  list-here h = next-list ∙ ap (λ (x : List Delete). x ++ left) (in-delete (g .one .content) (g .is) h .1)
+
+  pub list-later : (k ≡ 42 → ⊥) →
+      deletesAmong (payloadsIn k (drop at s)) ≡ deletesAmong (payloadsIn (r .next) (drop (at + r .end) s))
+  unfolding left
+  list-later h = next-list ∙ ap (λ (x : List Delete). x ++ left) (not-delete (g .one .content) (g .is) h)
+
   pub sums-here : (d e : Deletes) (all : List Delete) → k ≡ 42 → e ≡ withOne d (deleteOf (part s (at + 4) (at + r .end)))
       → Sums d (deletesAmong (payloadsIn k (drop at s))) all → Sums e (deletesAmong (payloadsIn (r .next) (drop (at + r .end) s))) all
   unfolding left
   sums-here d e all h q u =
       let o = part s (at + 4) (at + r .end) in
-      let n = next-list ∙ ap (λ (x : List Delete). x ++ left) (in-delete (g .one .content) (g .is) h .1) in
       subst (λ (x : Deletes). Sums x left all) (sym q)
-      (sums-next d (deleteOf o) left all (subst (λ (x : List Delete). Sums d x all) n u))
+      (sums-next d (deleteOf o) left all (subst (λ (x : List Delete). Sums d x all) (list-here h) u))
 
   pub sums-later : (d : Deletes) (all : List Delete) → (k ≡ 42 → ⊥) → Sums d (deletesAmong (payloadsIn k (drop at s))) all
       → Sums d (deletesAmong (payloadsIn (r .next) (drop (at + r .end) s))) all
   unfolding left
-  sums-later d all h u =
-      subst (λ (x : List Delete). Sums d x all)
-      (next-list ∙ ap (λ (x : List Delete). x ++ left) (not-delete (g .one .content) (g .is) h)) u
+  sums-later d all h u = subst (λ (x : List Delete). Sums d x all) (list-later h) u
 
 pub sums-last : (s : List ℕ) (k : ℕ) (d : Deletes) (all : List Delete) → k ≡ 0 → Sums d (deletesAmong (payloadsIn k s)) all → Sums d [] all
 unfolding gather

@@ -26,7 +26,7 @@ use Rattle.contents.specs.inner.Bags.{bagsIn, BagIs}
 use Rattle.clauses.specs.Contents.{gather}
 use Rattle.reach.specs.declared.open.Entry.{Entry}
 use Rattle.reach.specs.Entries.{IsEntry, Lists, noEntry, noKey}
-use Rattle.reached.specs.Reached.{wrapKeysOf, wrapKeysIn}
+use Rattle.reached.specs.Reached.{wrapKeysAmong, wrapKeysIn}
 use Rattle.reached.specs.inner.Entries.{bagKeys}
 use Rattle.reached.proofs.Sizes.{wrapped-sized, wrapped-least}
 
@@ -128,8 +128,8 @@ module _ (k : List ℕ) (at : ℕ) (r : Parts) (is : BagIs (drop at k) r) where
       let l = attributesIn (placeOf (r .first)) (part s (r .body) (r .end)) in
       let m : Bag = memberKeys (record { keys = wrapKeys MemberBag l }) in
       let o : Bag = groupKeys (record { protocol = oct s 0; spi = spiOf s; keys = saKeys (inBag (oct s 0)) l }) in
-      ap wrapKeysOf (is .item)
-      ∙ ap (λ (t : Bool). wrapKeysOf (either t m o ∷ bagsIn (drop (r .end) s))) (eq-eqb (oct s 0) 0 (sym (is .head .first) ∙ e))
+      ap wrapKeysAmong (is .item)
+      ∙ ap (λ (t : Bool). wrapKeysAmong (either t m o ∷ bagsIn (drop (r .end) s))) (eq-eqb (oct s 0) 0 (sym (is .head .first) ∙ e))
       ∙ (λ i. wrapKeys MemberBag (attributesIn (placeOf (e i)) (part-of-rest k at (r .body) (r .end) i)) ++ wrapKeysIn
       (drop-drop (r .end) at k i))
 
@@ -140,8 +140,8 @@ module _ (k : List ℕ) (at : ℕ) (r : Parts) (is : BagIs (drop at k) r) where
       let l = attributesIn (placeOf (r .first)) (part s (r .body) (r .end)) in
       let m : Bag = memberKeys (record { keys = wrapKeys MemberBag l }) in
       let o : Bag = groupKeys (record { protocol = oct s 0; spi = spiOf s; keys = saKeys (inBag (oct s 0)) l }) in
-      ap wrapKeysOf (is .item)
-      ∙ ap (λ (t : Bool). wrapKeysOf (either t m o ∷ bagsIn (drop (r .end) s))) (ne-eqb (oct s 0) 0 (λ e. n (is .head .first ∙ e)))
+      ap wrapKeysAmong (is .item)
+      ∙ ap (λ (t : Bool). wrapKeysAmong (either t m o ∷ bagsIn (drop (r .end) s))) (ne-eqb (oct s 0) 0 (λ e. n (is .head .first ∙ e)))
       ∙ ap wrapKeysIn (drop-drop (r .end) at k)
 
   pub next-whole : isWhole (bags 0 (drop (at + r .end) k)) ≡ true
@@ -157,4 +157,4 @@ module _ (k : List ℕ) (at : ℕ) (r : Parts) (is : BagIs (drop at k) r) where
 pub none-left : (k : List ℕ) (at : ℕ) → length k ≤ at → wrapKeysIn (drop at k) ≡ []
 unfolding gather
 none-left k at h =
-    ap (λ (x : Reading (List Bag)). wrapKeysOf (itemsOf x)) (many-none bag takes 0 (drop at k) (rw length-drop (omega arith)))
+    ap (λ (x : Reading (List Bag)). wrapKeysAmong (itemsOf x)) (many-none bag takes 0 (drop at k) (rw length-drop (omega arith)))

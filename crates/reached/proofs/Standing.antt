@@ -12,7 +12,9 @@ use Rattle.chains.specs.Refusals.{EntriesEight, Value}
 use Rattle.chains.proofs.Determined.{one-value}
 use Rattle.keys.specs.Algorithms.{sizeOf}
 use Rattle.keys.specs.declared.kinds.WrappingKey.{WrappingKey}
-use Rattle.state.specs.Held.{keyFormed}
+use Rattle.keys.specs.Limits.{limits}
+use Rattle.state.specs.Held.{keyFormed, heldFormed}
+use Rattle.state.proofs.Kept.{held-formed}
 use Rattle.state.specs.declared.held.HeldKey.{HeldKey}
 use Rattle.state.specs.declared.held.Held.{Held}
 use Rattle.reach.specs.declared.open.Entry.{Entry}
@@ -91,3 +93,9 @@ module _ (frame : List ℕ) (places : List Entry) (n : ℕ) (cells : List Cell) 
     reached = λ k m. is-reached k (x .from k (in-mem k (x .keys) m));
     stands = λ i y v. stands-by i y v (found-at i y v);
   }
+
+-- such a list is as a member's must be
+pub are-formed : (roots : List Root) (entries : List WrapKey) (size : ℕ) (held : Held) → HeldAre roots entries size held →
+    heldFormed limits held ≡ true
+are-formed roots entries size held h =
+    ap (heldFormed limits) (h .is) ∙ held-formed limits (h .keys) (h .room) (h .formed) (h .rises)

@@ -22,12 +22,12 @@ use Rattle.contents.specs.inner.Bags.{bagsIn}
 use Rattle.clauses.specs.Contents.{gather, memberBagOf}
 
 -- the WRAP_KEYs of these bags: they stand in Member Key Bags alone
-abbrev pub wrapKeysOf : List Bag → List WrapKey
-wrapKeysOf l = gather (λ (b : MemberKeyBag). b .keys) (gather memberBagOf l)
+abbrev pub wrapKeysAmong : List Bag → List WrapKey
+wrapKeysAmong l = gather (λ (b : MemberKeyBag). b .keys) (gather memberBagOf l)
 
 -- those of a KD body
 abbrev pub wrapKeysIn : List ℕ → List WrapKey
-wrapKeysIn k = wrapKeysOf (bagsIn k)
+wrapKeysIn k = wrapKeysAmong (bagsIn k)
 
 -- a key of the held list: its Key ID and its value
 abbrev pub heldKeyOf : ℕ → List ℕ → HeldKey
@@ -40,8 +40,8 @@ module _ (roots : List Root) (entries : List WrapKey) (size : ℕ) where
     pub is : k ≡ heldKeyOf (k .id) value
     pub gives : Value roots entries size (k .id) value
 
-  -- "the held list has exactly the Key IDs to which a chain of one or more entries leads, each once, rising, with the value that every
-  -- chain ending on it gives"; and is as a member's must be
+  -- Demand 3: "the held list has exactly the Key IDs to which a chain of one or more entries leads from the lent default key, wherever the
+  -- entries stand in the frame: each once, rising, with the value that every chain ending on it gives". And it is as a member's must be.
   pub record HeldAre (held : Held) : Type 0 where
     pub keys : List HeldKey
     pub is : held ≡ heldOf limits keys

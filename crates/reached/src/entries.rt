@@ -1,4 +1,4 @@
-// The WRAP_KEYs of a KD body, which stand in its Member Key Bags: "Reading attribute 1 without its bag" takes SA_KEYs for them.
+// The WRAP_KEYs of a KD body. They stand in its Member Key Bags alone: attribute 1 of a Group Key Bag is an SA_KEY.
 use attributes::tables::Meaning;
 use attributes::tables::Place;
 use contents::bag::bag_parts;

@@ -1,5 +1,4 @@
 // The keys that a search reached, as a held list.
-use keys::kinds::MadeWrapping;
 use reach::open::Cell;
 use reach::open::Entry;
 use reach::values::is_done;

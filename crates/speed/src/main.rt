@@ -1,10 +1,14 @@
-// `speed wrap|open K`: 10,000 wraps or openings of 36 octets under a key of K octets, which each call expands. Prints a checksum over
-// what was written, so that nothing can be left out, and nothing where the arguments are others.
+// `speed wrap|open K`: 10,000 wraps or openings of 36 octets under a key of K octets, which each call expands. `speed frame K`: 100 times
+// the 73 openings of 264 octets that a frame can ask for at most, with its 32 WRAP_KEYs and 41 SA_KEYs. Prints a checksum over what was
+// written, so that nothing can be left out, and nothing where the arguments are others.
 use keywrap::Answer;
 use libc::STDOUT_FILENO;
 use octets::wide;
 
 const TURNS: usize = 10000;
+
+// A hundred frames.
+const FRAMES: usize = 7300;
 
 // The checksum, modulo 2^32, with one octet more.
 fn added(sum: usize, octet: u8) -> usize {
@@ -68,6 +72,20 @@ fn openings(key: &[u8]) -> usize {
     sum
 }
 
+fn frames(key: &[u8]) -> usize {
+    let mut wrapped = [0u8; 264];
+    let mut room = [7u8; 256];
+    keywrap::wrap(key, &room, &mut wrapped);
+    let mut sum = 0;
+    let mut turn = 0;
+    while turn < FRAMES {
+        let answer = keywrap::open(key, &wrapped, &mut room);
+        sum = written(sum, answer, &room);
+        turn += 1;
+    }
+    sum
+}
+
 fn print(sum: usize) {
     io::print_decimal(STDOUT_FILENO, sum as u64);
     io::write_all(STDOUT_FILENO, b"\n");
@@ -79,6 +97,9 @@ fn run(mode: &[u8], key: &[u8]) {
     }
     if check::same(mode, b"open") {
         print(openings(key));
+    }
+    if check::same(mode, b"frame") {
+        print(frames(key));
     }
 }
 
