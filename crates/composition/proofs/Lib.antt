@@ -2,7 +2,6 @@ pub mod WalkLaws
 pub mod SortLaws
 pub mod AddressLaws
 pub mod ClauseLaws
-pub mod TransformLaws
 pub mod PlaceLaws
 pub mod BarredLaws
 pub mod GroupLaws
