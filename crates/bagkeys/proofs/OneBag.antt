@@ -23,12 +23,12 @@ use Rattle.bagkeys.specs.declared.wrapped.Sought.the-variants as sought
 use Rattle.bagkeys.specs.declared.Question.{Question}
 use Rattle.bagkeys.specs.declared.Question.the-variants as question
 
-count-of-map : {A B : Type 0} (f : A → B) (p : B → Bool) (l : List A) → count (λ (a : A). p (f a)) l ≡ count p (map f l)
+pub count-of-map : {A B : Type 0} (f : A → B) (p : B → Bool) (l : List A) → count (λ (a : A). p (f a)) l ≡ count p (map f l)
 unfolding count
 count-of-map f p [] = refl
 count-of-map f p (a ∷ l) = ap (λ (n : ℕ). cond (p (f a)) (n + 1) n) (count-of-map f p l)
 
-count-all : {A : Type 0} (l : List A) → count (λ (a : A). true) l ≡ length l
+pub count-all : {A : Type 0} (l : List A) → count (λ (a : A). true) l ≡ length l
 unfolding count
 count-all [] = refl
 count-all (a ∷ l) = let e = count-all l in omega arith

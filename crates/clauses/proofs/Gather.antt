@@ -2,7 +2,9 @@
 -- And one of a number's clauses applies in whatever order they are tried.
 use native.Mathlib.Omega.{arith}
 use Prim.Native.Nat.{ℕ, _+_}
-use mathlib.Core.Path.{_≡_, refl, ap, _∙_}
+use mathlib.Core.Path.{_≡_, refl, ap, sym, _∙_}
+use borrow.Author.Tests.{lt-ltb}
+use lib.Dec.{ltb}
 use mathlib.Core.List.{List, [], _∷_, _++_}
 use mathlib.Core.Bool.{Bool, true, false, cond, _||_}
 use lib.ListN.{length, length-append}
@@ -12,10 +14,7 @@ use Rattle.clauses.specs.Fitness.{sum}
 use Rattle.clauses.specs.Refusals.{one}
 use Rattle.clauses.specs.Reordered.{AnyOrder, none, next, swapped, then}
 use Rattle.clauses.proofs.AnyOrder.{or-swap}
-
-or-joined : (a b c : Bool) → (a || (b || c)) ≡ ((a || b) || c)
-or-joined true b c = refl
-or-joined false b c = refl
+use Rattle.clauses.proofs.OneOf.{or-joined}
 
 added : (b : Bool) (x y : ℕ) → cond b (x + y + 1) (x + y) ≡ cond b (x + 1) x + y
 added true x y = omega arith
@@ -48,6 +47,24 @@ module _ {A B : Type 0} (f : A → List B) where
   unfolding gather sum
   length-gather [] = refl
   length-gather (a ∷ l) = length-append (f a) (gather f l) ∙ ap (λ (n : ℕ). length (f a) + n) (length-gather l)
+
+one-more : (t b : Bool) (n : ℕ) → b ≡ ltb 0 n → (t || b) ≡ ltb 0 (cond t (n + 1) n)
+one-more true b n e = sym (lt-ltb 0 (n + 1) (omega arith))
+one-more false b n e = e
+
+-- one of a list passes where at least one is counted, and either test is passed where one of them is
+module _ {A : Type 0} (p : A → Bool) where
+  pub any-count : (l : List A) → any p l ≡ ltb 0 (count p l)
+  unfolding any count
+  any-count [] = refl
+  any-count (a ∷ l) = one-more (p a) (any p l) (count p l) (any-count l)
+
+  pub any-either : (q : A → Bool) (l : List A) → any (λ (a : A). p a || q a) l ≡ (any p l || any q l)
+  unfolding any
+  any-either q [] = refl
+  any-either q (a ∷ l) =
+      ap (λ (b : Bool). (p a || q a) || b) (any-either q l) ∙ sym (or-joined (p a) (q a) (any p l || any q l))
+      ∙ ap (λ (b : Bool). p a || b) (or-swap (q a) (any p l) (any q l)) ∙ or-joined (p a) (any p l) (q a || any q l)
 
 pub one-order : {l m : List Bool} → AnyOrder _≡_ l m → one l ≡ one m
 unfolding one

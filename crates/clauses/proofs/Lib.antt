@@ -1,6 +1,7 @@
 pub mod AnyOrder
 pub mod Contents
 pub mod First
+pub mod OneOf
 pub mod Gather
 pub mod OrderOf4
 pub mod OrderOf5

@@ -79,9 +79,9 @@ module _ (s : List ℕ) (l : List Transform) (tail : List ℕ) (x : Transforms s
       let f = first in
       (omega (arith, f .is .least, size-is), omega (arith, size-is, ap length (f .joined), length-append (f .octets) (f .left)))
 
-  pub transform-is : (k i m n : ℕ) → k ≡ oct s 4 → i ≡ be16 s 6 → m ≡ oct s 0 → n ≡ be16 s 2 → k < 256 → i < 65536
+  pub transform-is : (k i m n : ℕ) → k ≡ oct s 4 → i ≡ be16 s 6 → m ≡ oct s 0 → n ≡ be16 s 2 → k < 256 → i < 65536 → n < 65536
       → TransformIs s l tail (record { kind = k; id = i; more = eqb m 3; end = n })
-  transform-is k i m n kq iq mq nq kl il =
+  transform-is k i m n kq iq mq nq kl il nl =
       let f = first in
       let o = f .octets in
       let r = f .left in
@@ -109,35 +109,34 @@ module _ (s : List ℕ) (l : List Transform) (tail : List ℕ) (x : Transforms s
         held = a .0;
         octet = kl;
         twoOctets = il;
+        short = nl;
         least = omega (arith, g .0, nq);
         inside = omega (arith, g .1, nq);
         others = subst (λ (t : Bool). Spans noMore IsTransform t (drop n s) (f .rest) tail) mm
             (subst (λ (y : List ℕ). Spans noMore IsTransform (f .next) y (f .rest) tail) left (f .others));
       }
 
--- THE TRANSFORMS FROM A PLACE ON, where the last one before it has said that more follow or not
-pub record Left (s : List ℕ) (at : ℕ) (go : Bool) (tail : List ℕ) : Type 0 where
-  pub list : List Transform
-  pub are : Spans noMore IsTransform go (drop at s) list tail
+-- THE TRANSFORMS FROM A PLACE ON, where the one before it has said whether more follow
+abbrev pub AreLeft : List ℕ → ℕ → Bool → List Transform → List ℕ → Type 0
+AreLeft s at go l tail = Spans noMore IsTransform go (drop at s) l tail
 
-pub at-last : {s : List ℕ} {l : List Transform} {tail : List ℕ} {go : Bool} → Spans noMore IsTransform go s l tail → go ≡ false → tail ≡ s
-at-last (none e) h = refl
-at-last (more o s e i r) h = let z : _≡_ {A = ℕ} 0 1 = cc in absurd (omega arith)
+pub none-left : {s : List ℕ} {l : List Transform} {tail : List ℕ} {go : Bool} → Spans noMore IsTransform go s l tail → go ≡ false
+    → (l ≡ []) × (tail ≡ s)
+none-left (none e) h = (refl, refl)
+none-left (more o s e i r) h = let z : _≡_ {A = ℕ} 0 1 = cc in absurd (omega arith)
 
-module _ (s : List ℕ) (at : ℕ) (go : Bool) (tail : List ℕ) (x : Left s at go tail) (h : go ≡ true) where
-  pub next-are : Transforms (cut s at) (x .list) tail
+module _ (s : List ℕ) (at : ℕ) (go : Bool) (l : List Transform) (tail : List ℕ) (x : AreLeft s at go l tail) (h : go ≡ true) where
+  pub next-are : Transforms (cut s at) l tail
   next-are =
-      subst (λ (u : Bool). Spans noMore IsTransform u (cut s at) (x .list) tail) h
-      (subst (λ (y : List ℕ). Spans noMore IsTransform go y (x .list) tail) (sym (to-end s at)) (x .are))
+      subst (λ (u : Bool). Spans noMore IsTransform u (cut s at) l tail) h
+      (subst (λ (y : List ℕ). Spans noMore IsTransform go y l tail) (sym (to-end s at)) x)
 
-  pub next-left : (r : TransformParts) → TransformIs (cut s at) (x .list) tail r → Left s (at + r .end) (r .more) tail
-  next-left r f = record {
-    list = f .rest;
-    are = subst (λ (y : List ℕ). Spans noMore IsTransform (r .more) y (f .rest) tail)
-        (ap (drop (r .end)) (to-end s at) ∙ drop-drop (r .end) at s) (f .others);
-  }
+  pub next-left : (r : TransformParts) (f : TransformIs (cut s at) l tail r) → AreLeft s (at + r .end) (r .more) (f .rest) tail
+  next-left r f =
+      subst (λ (y : List ℕ). Spans noMore IsTransform (r .more) y (f .rest) tail)
+      (ap (drop (r .end)) (to-end s at) ∙ drop-drop (r .end) at s) (f .others)
 
-  pub next-inside : (r : TransformParts) → TransformIs (cut s at) (x .list) tail r → (8 ≤ r .end) × (at + r .end ≤ length s)
+  pub next-inside : (r : TransformParts) → TransformIs (cut s at) l tail r → (8 ≤ r .end) × (at + r .end ≤ length s)
   next-inside r f = (f .least, omega (arith, f .least, f .inside, ap length (to-end s at), length-drop at s))
 
 -- SELECTORS IN FRONT OF THE TRANSFORMS

@@ -24,3 +24,10 @@ pub mod RunsHeld
 pub mod Runs
 pub mod RunsLive
 pub mod RunsReplay
+pub mod SamplesAnswers
+pub mod SamplesRekeys
+pub mod SamplesFrame
+pub mod SamplesChains
+pub mod SamplesTaken
+pub mod SamplesEntries
+pub mod SamplesHold

@@ -3,3 +3,4 @@ pub mod Answer
 pub mod After
 pub mod Outcome
 pub mod Run
+pub mod Samples

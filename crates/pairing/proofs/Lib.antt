@@ -2,3 +2,9 @@ pub mod Walking
 pub mod OneName
 pub mod Counts
 pub mod Pairs
+pub mod NamesOf
+pub mod ListLaws
+pub mod InTable
+pub mod Twice
+pub mod Six
+pub mod Seven

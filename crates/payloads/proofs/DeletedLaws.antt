@@ -18,6 +18,7 @@ use Rattle.contents.specs.declared.payload.PayloadParts.{PayloadParts}
 use Rattle.clauses.specs.Contents.{gather, deletesIn}
 use Rattle.clauses.specs.Fitness.{esp}
 use Rattle.clauses.specs.Number5.{deleteOfOther, deleteOfNone}
+use Rattle.clauses.proofs.OneOf.{or-false}
 use Rattle.payloads.specs.inner.Bodies.{payloadsOf}
 use Rattle.payloads.specs.inner.Deletion.{withOne, IsDeletes}
 use Rattle.payloads.specs.declared.deletion.Deletes.{Deletes}
@@ -58,10 +59,6 @@ sums-next d x l all s = record {
   none = moved (ofNone x) (d .none) (any ofNone l) ∙ s .none;
   spis = omega (arith, s .spis, length-append (x .spis) (spisIn l));
 }
-
-or-false : (a : Bool) → (a || false) ≡ a
-or-false true = refl
-or-false false = refl
 
 module _ (d : Deletes) (all : List Delete) (s : Sums d [] all) where
   pub other-all : d .other ≡ any ofOther all

@@ -11,7 +11,7 @@ use Rattle.frames.specs.Header.{firstPayload}
 use Rattle.frames.specs.Frame.{Frame, Payload, payload, noneNext, payloads, exactly, frame}
 use Rattle.frames.specs.Grammar.{IsPayload, IsFrame}
 use Rattle.frames.proofs.PayloadLaws.{takes}
-use Rattle.frames.proofs.FrameGrammar.{sound, complete, read-frame}
+use Rattle.frames.proofs.FrameGrammar.{sound, complete, read-frame, frame-read}
 use Rattle.contents.specs.inner.Values.{isWhole, itemsOf}
 use Rattle.payloads.specs.inner.Bodies.{payloadsOf}
 
@@ -32,6 +32,9 @@ module _ (s : List ℕ) (f : Frame) (i : IsFrame s f) where
 module _ (s : List ℕ) (e : isWhole (frame s) ≡ true) where
   pub is-frame : (f : Frame) × IsFrame s f
   is-frame = let w = whole-of (frame s) e in (w .0, read-frame s (w .0) (w .1) (w .2))
+
+  pub reads-to : (f : Frame) × (frame s ≡ whole f [])
+  reads-to = let w = is-frame in (w .0, frame-read s (w .0) (w .1))
 
   pub long : 28 ≤ length s
   long = is-frame .1 .least

@@ -29,6 +29,7 @@ pub record TransformIs (s : List ℕ) (l : List Transform) (tail : List ℕ) (r 
   pub held : isWhole (attributes (inTransform (r .kind)) 0 (part s 8 (r .end))) ≡ true
   pub octet : r .kind < 256
   pub twoOctets : r .id < 65536
+  pub short : r .end < 65536
   pub least : 8 ≤ r .end
   pub inside : r .end ≤ length s
   pub others : Spans noMore IsTransform (r .more) (drop (r .end) s) rest tail

@@ -22,7 +22,7 @@ pub record Heads (s : List ℕ) (r : Parts) : Type 0 where
   pub some : 4 ≤ r .body
   pub order : r .body ≤ r .end
   pub inside : r .end ≤ length s
-  pub twoOctets : r .end < 65536
+  pub twoOctets : oct s 2 < 256 → oct s 3 < 256 → r .end < 65536
 
 abbrev pub policiesIn : List ℕ → List Policy
 policiesIn s = itemsOf (policies 0 s)

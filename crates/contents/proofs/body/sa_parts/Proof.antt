@@ -24,8 +24,9 @@ selector-size-requires c κs = search needs
 shared-slice-read-wide-2 : tie.Need-shared-slice-read-wide-2
 shared-slice-read-wide-2 c =
     let b = c .before .before .before .before .before in
-    destination-there (b .pre .0) (now (b .args .s)) (b .pre .1) (b .pre .2) (c .before .selector-size .result)
-    (c .before .selector-size .ensures .0 ∙ ap selectorSize (c .before .before .wide .ensures .0))
+    let d = c .before .selector-size in
+    let e = d .ensures .0 ∙ ap selectorSize (c .before .before .wide .ensures .0) in
+    omega (arith, destination-there (b .pre .0) (now (b .args .s)) (b .pre .1) (b .pre .2) (d .result) e)
 
 wide-requires-2 : tie.Need-wide-requires-2
 wide-requires-2 c κs = search needs

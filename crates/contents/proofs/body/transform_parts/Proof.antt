@@ -40,6 +40,7 @@ returns c l tail x =
     let b = c .before .before .before in
     transform-is (now (b .before .before .before .before .args .s)) l tail x _ _ _ _ (b .before .wide .ensures .0) (b .be16-at .ensures .0)
     (c .before .wide2 .ensures .0) (c .be16-at2 .ensures .0) (b .before .wide .ensures .1) (b .be16-at .ensures .1)
+    (c .be16-at2 .ensures .1)
 
 pub transform-parts-spec : {M : Type 1} → statement M
 transform-parts-spec =

@@ -5,19 +5,20 @@ use Prim.Native.Nat.{ℕ, _+_, _-_, _≤_}
 use lib.ListN.{length}
 use Rattle.policies.specs.Transform.{Transform}
 use Rattle.policies.specs.Grammar.{Transforms}
-use Rattle.contents.proofs.BodiesLaws.{Left, at-last, next-are, next-left, next-inside}
+use Rattle.contents.proofs.BodiesLaws.{AreLeft, none-left, next-are, next-left, next-inside}
 use borrow.Author.Needs.{needs}
 use Rattle.contents.proofs.body.transforms_end.Statement.{statement}
 use Rattle.contents.proofs.body.transforms_end.Tie as tie
 
 abbrev Inv-loop : tie.InvT-loop
-Inv-loop s at₀ more₀ at more = (at ≤ length s) × ((l : List Transform) (tail : List ℕ) → Transforms s l tail → Left s at more tail)
+Inv-loop s at₀ more₀ at more =
+    (at ≤ length s) × ((l : List Transform) (tail : List ℕ) → Transforms s l tail → (m : List Transform) × AreLeft s at more m tail)
 
 abbrev μ-loop : tie.MeasureT-loop
 μ-loop s at₀ more₀ at more = length s - at
 
 loop-holds : tie.Need-loop-holds Inv-loop μ-loop
-loop-holds c = (omega arith, λ l tail x. record { list = l; are = x })
+loop-holds c = (omega arith, λ l tail x. (l, x))
 
 sub-transform-parts : tie.Need-sub-transform-parts Inv-loop μ-loop
 sub-transform-parts c = search needs
@@ -33,7 +34,7 @@ transform-parts-requires c κs =
     let b = c .before .before .before .before in
     let l = c .before .before .loop in
     let x = l .inv .1 (b .pre .0) (b .pre .1) (b .pre .2) in
-    (x .list, b .pre .1, next-are (now (b .args .s)) (l .at) (l .more) (b .pre .1) x (c .before .loop-test .taken))
+    (x .0, b .pre .1, next-are (now (b .args .s)) (l .at) (l .more) (x .0) (b .pre .1) (x .1) (c .before .loop-test .taken))
 
 -- the next transform is there
 inside : (c : tie.After-struct-known Inv-loop μ-loop)
@@ -45,8 +46,8 @@ inside c =
     let l = c .before .before .before .before .loop in
     let g = c .before .before .before .loop-test .taken in
     let x = l .inv .1 (b .pre .0) (b .pre .1) (b .pre .2) in
-    next-inside (now (b .args .s)) (l .at) (l .more) (b .pre .1) x g (c .before .transform-parts .result)
-    (c .before .transform-parts .ensures (x .list) (b .pre .1) (next-are (now (b .args .s)) (l .at) (l .more) (b .pre .1) x g))
+    next-inside (now (b .args .s)) (l .at) (l .more) (x .0) (b .pre .1) (x .1) g (c .before .transform-parts .result)
+    (c .before .transform-parts .ensures (x .0) (b .pre .1) (next-are (now (b .args .s)) (l .at) (l .more) (x .0) (b .pre .1) (x .1) g))
 
 add-at : tie.Need-add-at Inv-loop μ-loop
 add-at c = let i = inside c in record { fits = omega (arith, i .1) }
@@ -62,12 +63,12 @@ loop-again c =
       inside c .1,
       λ m tail y.
           let x = l .inv .1 m tail y in
-          next-left (now (b .args .s)) (l .at) (l .more) tail x g (c .before .transform-parts .result)
-          (c .before .transform-parts .ensures (x .list) tail (next-are (now (b .args .s)) (l .at) (l .more) tail x g)),
+          let f = c .before .transform-parts .ensures (x .0) tail (next-are (now (b .args .s)) (l .at) (l .more) (x .0) tail (x .1) g) in
+          (f .rest, next-left (now (b .args .s)) (l .at) (l .more) (x .0) tail (x .1) g (c .before .transform-parts .result) f),
     )
 
 returns : tie.Need-returns Inv-loop μ-loop
-returns c = (c .before .loop .inv .0, λ l tail x. at-last (c .before .loop .inv .1 l tail x .are) (c .loop-test .left))
+returns c = (c .before .loop .inv .0, λ l tail x. none-left (c .before .loop .inv .1 l tail x .1) (c .loop-test .left) .1)
 
 pub transforms-end-spec : {M : Type 1} → statement M
 transforms-end-spec =

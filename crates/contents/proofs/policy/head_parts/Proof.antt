@@ -41,7 +41,7 @@ returns c =
       some = omega arith;
       order = omega (arith, f .0, z, n);
       inside = omega (arith, f .1, n);
-      twoOctets = c .before .be16-at .ensures .1;
+      twoOctets = λ a b. c .before .be16-at .ensures .1;
     }
 
 pub head-parts-spec : {M : Type 1} → statement M

@@ -1,0 +1,79 @@
+// What is barred in one policy by itself: an attribute twice in one place, a Rekey destination that is not one group address and port.
+ghost use mathlib.Core.Path.{_≡_};
+ghost use mathlib.Core.Bool.{true};
+ghost use mathlib.Core.List.{List};
+ghost use Prim.Native.Nat.{ℕ};
+ghost use Rattle.keys.specs.Lists.{any};
+ghost use Rattle.attributes.specs.Place.{inPolicy};
+ghost use Rattle.policies.specs.Transform.{Transform};
+ghost use Rattle.policies.specs.Policy.{SaBody, policies};
+ghost use Rattle.policies.specs.Grammar.{Transforms, IsSaBody};
+ghost use Rattle.contents.specs.inner.Values.{isWhole};
+ghost use Rattle.contents.specs.inner.Policies.{policiesIn};
+ghost use Rattle.clauses.specs.Number4.{twiceInTransform};
+ghost use Rattle.composition.specs.inner.Groups.{isBarred, saBarred};
+use attributes::tables::Meaning;
+use attributes::tables::Place;
+
+// Whether a transform of those that the octets start with has Key Length twice.
+fn key_length_twice(t: &[u8]) -> bool
+    requires { ⌜ ((l : List Transform) × (tail : List ℕ) × Transforms (now t) l tail) ⌝ }
+    ensures { λ r. ⌜ ((l : List Transform) (tail : List ℕ) → Transforms (now (t .entry)) l tail → r ≡ any twiceInTransform l) ⌝ }
+{
+    0 < suites::suite(t).doubled
+}
+
+// Whether a Group SA policy is barred by what it holds after its SPI.
+fn sa_is_barred(protocol: usize, o: &[u8]) -> bool
+    requires { ⌜ ((x : SaBody) × IsSaBody (inPolicy protocol) (now o) x) ⌝ }
+    ensures { λ r. ⌜ ((x : SaBody) → IsSaBody (inPolicy protocol) (now (o .entry)) x → r ≡ saBarred protocol x) ⌝ }
+{
+    let p = contents::body::sa_parts(o);
+    let t = p.transforms;
+    if key_length_twice(&o[t..]) {
+        return true;
+    }
+    let a = p.attributes;
+    let place = attributes::tables::in_policy(protocol);
+    if 1 < contents::values::count_of(Meaning::InitialMessageId, place, &o[a..]) {
+        return true;
+    }
+    if protocol == 6 {
+        let d = p.destination;
+        if crate::addresses::is_group_address(&o[d..t]) {
+            return false;
+        }
+        return true;
+    }
+    false
+}
+
+// Whether one of the policies that the octets are is barred. Internal.
+pub fn has_barred(g: &[u8]) -> bool
+    requires { ⌜ isWhole (policies 0 (now g)) ≡ true ⌝ }
+    ensures { λ r. ⌜ r ≡ any isBarred (policiesIn (now (g .entry))) ⌝ }
+{
+    let mut at = 0;
+    while at < g.len() {
+        let p = contents::policy::policy_parts(&g[at..]);
+        let b = at + p.body;
+        let e = at + p.end;
+        if p.first == 0 {
+            if 1
+                < contents::values::count_of(
+                    Meaning::DeactivationDelay,
+                    Place::GroupWidePolicy,
+                    &g[b..e],
+                )
+            {
+                return true;
+            }
+        } else {
+            if sa_is_barred(p.first, &g[b..e]) {
+                return true;
+            }
+        }
+        at = e;
+    }
+    false
+}

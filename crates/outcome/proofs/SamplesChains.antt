@@ -1,0 +1,111 @@
+-- The samples on chains: what entries in a registration of a new member lead to.
+use native.Mathlib.Omega.{arith}
+use Prim.Native.Nat.{ℕ, _≤_}
+use mathlib.Core.Path.{_≡_, refl, ap, sym, _∙_, subst}
+use mathlib.Core.Bool.{Bool, true, false, _||_}
+use mathlib.Core.List.{List, [], _∷_, List·Memᴰ·eq-of-singleton}
+use lib.Dec.{T, eqb}
+use lib.ListN.{length}
+use Rattle.octets.specs.Octets.{Octets}
+use Rattle.fips197.specs.Key.{Key, isKey}
+use Rattle.keywrap.specs.Wrap.{wrapOf}
+use Rattle.keywrap.specs.Opens.{Opens}
+use Rattle.keywrap.proofs.Determined.{opens-one}
+use Rattle.keys.specs.Algorithms.{sizeOf}
+use Rattle.keys.proofs.Sizes.{wrapping-size}
+use Rattle.attributes.specs.Tree.{WrapKey, SaKey}
+use Rattle.chains.specs.Chain.{In, Root, Chain, root, step, Ends, CopyOpens}
+use Rattle.chains.specs.Refusals.{Announced, EntriesEight, CopiesEight, wrong-size, two-values, Eight, of-entries, of-copies, Nine, KeyOf}
+use Rattle.outcome.specs.Samples.{Keying}
+use Rattle.outcome.proofs.RunsLists.{in-member}
+
+-- ---- what a property that roots have and steps keep says of every chain
+module _ (roots : List Root) (entries : List WrapKey) (size : ℕ) (Good : ℕ → List ℕ → Type 0)
+    (at-root : (r : Root) → In r roots → Good (r .id) (r .value))
+    (at-step : (e : WrapKey) → In e entries → (v x : List ℕ) → Good (e .kwkId) v → Opens v (e .wrapped) x → Good (e .keyId) x) where
+  pub each-chain : (passed : List WrapKey) (k : ℕ) (v : List ℕ) → Chain roots entries size passed k v → Good k v
+  each-chain _ _ _ (root r m) = at-root r m
+  each-chain _ _ _ (step {passed} {k} {v} {x} e c t l) =
+      at-step e (l .entry) v x (subst (λ (i : ℕ). Good i v) (sym (l .names)) (each-chain passed k v c)) (l .opens)
+
+-- ---- an entry of one, two or three, by its place
+one-entry : {A : Type 0} (a b : A) → In a (b ∷ []) → a ≡ b
+one-entry a b m = List·Memᴰ·eq-of-singleton (in-member a (b ∷ []) m)
+
+-- octets wrapped under a key open under it, and to nothing else
+module _ (key x : List ℕ) (is : Key key) (octets : Octets x) (least : 1 ≤ length x) (most : length x ≤ 256) where
+  pub opens-own : Opens key (wrapOf key x) x
+  opens-own = record { least = least; most = most; octets = octets; wraps = refl }
+
+  pub opens-only : (y : List ℕ) → Opens key (wrapOf key x) y → y ≡ x
+  opens-only y h = opens-one key (wrapOf key x) y x is h opens-own
+
+-- a key's octet count is a size of the algorithm table
+pub key-size : (n : ℕ) → T (isKey n) → sizeOf 13 n ≡ true
+unfolding isKey
+key-size n t = wrapping-size n ∙ by (eqb n 16) (eqb n 24) (eqb n 32) t
+  where
+    by : (a b c : Bool) → T (a || b || c) → (a || (b || (c || false))) ≡ true
+    by true b c t = refl
+    by false true c t = refl
+    by false false true t = refl
+    by false false false t = absurd t
+
+-- ---- a lent key as key 0, entries with no Key ID 0, and an announced SA with one copy under KWK ID 0 of 20 octets x
+abbrev pub zeroRoot : List ℕ → Root
+zeroRoot lent = record { id = 0; value = lent }
+
+abbrev pub oneCopy : List ℕ → Announced
+oneCopy w = record { copies = record { keyId = 0; kwkId = 0; wrapped = w } ∷ []; need = 20 }
+
+module _ (lent x : List ℕ) (key : Key lent) (keying : Keying x) (l : List WrapKey)
+    (no-zero : (e : WrapKey) → In e l → e .keyId ≡ 0 → ⊥) where
+  abbrev R : List Root
+  R = zeroRoot lent ∷ []
+
+  at-zero : (v : List ℕ) → Ends R l (length lent) 0 v → v ≡ lent
+  at-zero v e =
+      each-chain R l (length lent) (λ (k : ℕ) (y : List ℕ). k ≡ 0 → y ≡ lent)
+      (λ r m i. ap (λ (z : Root). z .value) (one-entry r (zeroRoot lent) m)) (λ e m y z g o i. absurd (no-zero e m i)) (e .passed) 0 v
+      (e .chain) refl
+
+  own : Opens lent (wrapOf lent x) x
+  own = let n = keying .size in opens-own lent x key (keying .octets) (omega arith) (omega arith)
+
+  abbrev copy : SaKey
+  copy = record { keyId = 0; kwkId = 0; wrapped = wrapOf lent x }
+
+  opens-to-x : (y : List ℕ) → CopyOpens R l (length lent) (copy ∷ []) y → y ≡ x
+  opens-to-x y h =
+      let n = keying .size in
+      let c = one-entry (h .copy) copy (h .stands) in
+      let v = at-zero (h .value) (subst (λ (k : SaKey). Ends R l (length lent) (k .kwkId) (h .value)) c (h .named)) in
+      opens-only lent x key (keying .octets) (omega arith) (omega arith) y
+      (subst (λ (k : SaKey). Opens lent (k .wrapped) y) c (subst (λ (z : List ℕ). Opens z (h .copy .wrapped) y) v (h .opens)))
+
+  pub copy-opens : KeyOf R l (length lent) (oneCopy (wrapOf lent x)) x
+  copy-opens = record {
+    opens =
+        record {
+          copy = copy;
+          stands = record { place = 0; inside = omega arith; is = refl };
+          value = lent;
+          named = record { passed = []; chain = root (zeroRoot lent) (record { place = 0; inside = omega arith; is = refl }) };
+          opens = own;
+        };
+    every = opens-to-x;
+  }
+
+  no-copies-eight : CopiesEight R l (length lent) (oneCopy (wrapOf lent x)) → ⊥
+  no-copies-eight (wrong-size y h n) = n (ap length (opens-to-x y h) ∙ keying .size)
+  no-copies-eight (two-values y z h k n) = n (opens-to-x y h ∙ sym (opens-to-x z k))
+
+  pub no-eight : (EntriesEight R l (length lent) → ⊥) → Eight R l (length lent) (oneCopy (wrapOf lent x) ∷ []) → ⊥
+  no-eight f (of-entries h) = f h
+  no-eight f (of-copies a m h) =
+      no-copies-eight (subst (CopiesEight R l (length lent)) (one-entry a (oneCopy (wrapOf lent x)) m) h)
+
+  pub no-nine : Nine R l (length lent) (oneCopy (wrapOf lent x) ∷ []) → ⊥
+  no-nine h =
+      let e = one-entry (h .sa) (oneCopy (wrapOf lent x)) (h .stands) in
+      h .none x (subst (λ (a : Announced). CopyOpens R l (length lent) (a .copies) x) (sym e) (copy-opens .opens))

@@ -1,0 +1,38 @@
+-- EACH OF DOCUMENT 01'S SAMPLES MARKED P HOLDS.
+use mathlib.Core.Path.{refl, ap, _∙_}
+use Rattle.octets.specs.Numbers.{number}
+use Rattle.octets.specs.Walk.{chain, chainUpTo, many}
+use Rattle.attributes.specs.Tree.{valuesOf}
+use Rattle.attributes.specs.Layout.{attribute}
+use Rattle.sa.specs.Entry.{due, dueBy}
+use Rattle.sa.proofs.Samples.{wrapped-elapsed, wrapped-not-due, wrapped-due}
+use Rattle.sa.proofs.Samples as clock
+use Rattle.outcome.specs.Samples.{Sample, clock-wraps, delay-zero, least-seven, last-id, two-steps, circle, two-values, lent-of-28}
+use Rattle.outcome.specs.Samples.{key-length-128, Says}
+use Rattle.outcome.proofs.SamplesRekeys.{least-seven-holds, last-id-holds}
+use Rattle.outcome.proofs.SamplesFrame.{lent-of-28-holds}
+use Rattle.outcome.proofs.SamplesEntries.{two-steps-holds, circle-holds, two-values-holds}
+
+clock-wraps-holds : Says clock-wraps
+unfolding due
+clock-wraps-holds a e = (wrapped-elapsed, ap (dueBy 703) e ∙ wrapped-not-due, ap (dueBy 704) e ∙ wrapped-due)
+
+delay-zero-holds : Says delay-zero
+unfolding due
+delay-zero-holds a start e = ap (dueBy start) e ∙ clock.delay-zero start
+
+key-length-holds : Says key-length-128
+unfolding attribute many chain chainUpTo number valuesOf
+key-length-holds b = refl
+
+-- THE CLAIM
+pub samples-hold : (x : Sample) → Says x
+samples-hold clock-wraps = clock-wraps-holds
+samples-hold delay-zero = delay-zero-holds
+samples-hold least-seven = least-seven-holds
+samples-hold last-id = last-id-holds
+samples-hold two-steps = two-steps-holds
+samples-hold circle = circle-holds
+samples-hold two-values = two-values-holds
+samples-hold lent-of-28 = lent-of-28-holds
+samples-hold key-length-128 = key-length-holds

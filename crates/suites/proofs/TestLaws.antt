@@ -1,0 +1,165 @@
+-- What the tests on one transform, and on the counts of several, say.
+use Prim.Native.Nat.{ℕ, _+_}
+use mathlib.Core.Path.{_≡_, refl, ap, sym, _∙_}
+use mathlib.Core.List.{List, [], _∷_}
+use mathlib.Core.Bool.{Bool, true, false, cond, _&&_, _||_}
+use native.Mathlib.Omega.{arith}
+use borrow.Author.Tests.{eq-eqb, ne-eqb, lt-ltb, ltb-true, ltb-false}
+use lib.Dec.{ltb, eqb}
+use lib.ListN.{length, length-map}
+use Rattle.attributes.specs.Place.{inTransform}
+use Rattle.attributes.specs.Tree.{two}
+use Rattle.attributes.specs.declared.tables.Place.{Place}
+use Rattle.attributes.specs.declared.tables.Meaning.the-variants.{KeyLength}
+use Rattle.keys.specs.Lists.{all, any, count}
+use Rattle.keys.specs.Algorithms.{neededBy}
+use Rattle.keys.proofs.Cases.{bool-cases}
+use Rattle.policies.specs.Transform.{Transform}
+use Rattle.policies.specs.Policy.{GroupSaPolicy}
+use Rattle.contents.specs.inner.Values.{valuesIn}
+use Rattle.clauses.specs.Fitness.{octetsOf, isOctets, encryptionFits, keyWrapFits, sequenceNumbersFit, authenticationFits, exactly}
+use Rattle.clauses.specs.Fitness.{espTransforms, rekeyTransforms, transformsFit, sum, encryptionNeeds, keyWrapNeeds}
+use Rattle.clauses.specs.Number4.{twiceInTransform}
+use Rattle.suites.specs.Suites.{suiteOf}
+use Rattle.suites.specs.inner.Octets.{keyLengthNeeds, transformIn}
+use Rattle.suites.specs.inner.Adding.{once}
+use Rattle.suites.specs.declared.counts.Suite.{Suite}
+use Rattle.suites.proofs.RowLaws.{some-octets}
+
+-- a type and one of two IDs
+module _ (k i w a b : ℕ) where
+  pub first-id : k ≡ w → i ≡ a → true ≡ (eqb k w && (eqb i a || eqb i b))
+  first-id e f = rw (eq-eqb k w e, eq-eqb i a f)
+
+  pub second-id : k ≡ w → (i ≡ a → ⊥) → eqb i b ≡ (eqb k w && (eqb i a || eqb i b))
+  second-id e f = rw (eq-eqb k w e, ne-eqb i a f)
+
+  pub other-type : (k ≡ w → ⊥) → false ≡ (eqb k w && (eqb i a || eqb i b))
+  other-type e = rw (ne-eqb k w e)
+
+-- as many as wanted, and one each
+module _ (n w a b c : ℕ) where
+  pub all-once : n ≡ w → a ≡ 1 → b ≡ 1 → eqb c 1 ≡ (eqb n w && (eqb a 1 && (eqb b 1 && eqb c 1)))
+  all-once e f g = rw (eq-eqb n w e, eq-eqb a 1 f, eq-eqb b 1 g)
+
+  pub not-second : n ≡ w → a ≡ 1 → (b ≡ 1 → ⊥) → false ≡ (eqb n w && (eqb a 1 && (eqb b 1 && eqb c 1)))
+  not-second e f g = rw (eq-eqb n w e, eq-eqb a 1 f, ne-eqb b 1 g)
+
+  pub not-first : n ≡ w → (a ≡ 1 → ⊥) → false ≡ (eqb n w && (eqb a 1 && (eqb b 1 && eqb c 1)))
+  not-first e f = rw (eq-eqb n w e, ne-eqb a 1 f)
+
+  pub not-many : (n ≡ w → ⊥) → false ≡ (eqb n w && (eqb a 1 && (eqb b 1 && eqb c 1)))
+  not-many e = rw (ne-eqb n w e)
+
+-- WHAT ONE TRANSFORM NEEDS
+module _ (k i : ℕ) (s : List ℕ) where
+  pub encryption-type : (p : Place) (n : ℕ) → k ≡ 1 → p ≡ inTransform k → n ≡ keyLengthNeeds i p s → n ≡ encryptionNeeds (transformIn k i s)
+  encryption-type p n e f q =
+      q ∙ ap (λ (x : Place). keyLengthNeeds i x s) f
+      ∙ ap (λ (t : Bool). cond t (keyLengthNeeds i (inTransform k) s) 0) (sym (eq-eqb k 1 e))
+
+  pub no-encryption : (k ≡ 1 → ⊥) → 0 ≡ encryptionNeeds (transformIn k i s)
+  no-encryption e = ap (λ (t : Bool). cond t (keyLengthNeeds i (inTransform k) s) 0) (sym (ne-eqb k 1 e))
+
+  pub key-wrap-type : (n : ℕ) → k ≡ 13 → n ≡ octetsOf (neededBy 13 i 0) → n ≡ keyWrapNeeds (transformIn k i s)
+  key-wrap-type n e q = q ∙ ap (λ (t : Bool). cond t (octetsOf (neededBy 13 i 0)) 0) (sym (eq-eqb k 13 e))
+
+  pub no-key-wrap : (k ≡ 13 → ⊥) → 0 ≡ keyWrapNeeds (transformIn k i s)
+  no-key-wrap e = ap (λ (t : Bool). cond t (octetsOf (neededBy 13 i 0)) 0) (sym (ne-eqb k 13 e))
+
+-- one that needs octets is fit, as every row needs some
+some-sum : (x y : ℕ) → (ltb 0 x || ltb 0 y) ≡ ltb 0 (x + y)
+some-sum x y =
+    bool-cases (ltb 0 x)
+    (λ e. ap (λ (t : Bool). t || ltb 0 y) e ∙ sym (lt-ltb 0 (x + y) (omega (arith, ltb-true 0 x e))))
+    (λ e. let z : x + y ≡ y = omega (arith, ltb-false 0 x e) in ap (λ (t : Bool). t || ltb 0 y) e ∙ ap (ltb 0) (sym z))
+
+any-row : (i : ℕ) (l : List ℕ) → any (λ (b : ℕ). isOctets (neededBy 1 i b)) l ≡ ltb 0 (sum (λ (b : ℕ). octetsOf (neededBy 1 i b)) l)
+unfolding any sum
+any-row i [] = refl
+any-row i (b ∷ l) =
+    (λ j. some-octets 1 i b j || any-row i l j)
+    ∙ some-sum (octetsOf (neededBy 1 i b)) (sum (λ (b : ℕ). octetsOf (neededBy 1 i b)) l)
+
+if-some : (t : Bool) (n : ℕ) → ltb 0 (cond t n 0) ≡ (t && ltb 0 n)
+if-some true n = refl
+if-some false n = refl
+
+encryption-fits : (t : Transform) → ltb 0 (encryptionNeeds t) ≡ encryptionFits t
+unfolding encryptionFits
+encryption-fits t =
+    if-some (eqb (t .kind) 1) (sum (λ (b : ℕ). octetsOf (neededBy 1 (t .id) b)) (t .keyLengths))
+    ∙ ap (λ (u : Bool). eqb (t .kind) 1 && u) (sym (any-row (t .id) (t .keyLengths)))
+
+key-wrap-fits : (t : Transform) → ltb 0 (keyWrapNeeds t) ≡ keyWrapFits t
+unfolding keyWrapFits
+key-wrap-fits t =
+    if-some (eqb (t .kind) 13) (octetsOf (neededBy 13 (t .id) 0))
+    ∙ ap (λ (u : Bool). eqb (t .kind) 13 && u) (sym (some-octets 13 (t .id) 0))
+
+-- WHAT ONE TRANSFORM COMES TO
+counted : (q : Transform → Bool) (t : Transform) (n : ℕ) (b : Bool) → n ≡ once b → b ≡ q t → n ≡ count q (t ∷ [])
+unfolding count
+counted q t n b e f = e ∙ ap once f
+
+module _ (k i : ℕ) (s : List ℕ) where
+  pub one-is : (e w m : ℕ) → e ≡ encryptionNeeds (transformIn k i s) → w ≡ keyWrapNeeds (transformIn k i s)
+      → (p : Place) → p ≡ inTransform k → m ≡ length (valuesIn KeyLength p s) → (x y : Bool) → x ≡ (eqb k 5 && (eqb i 0 || eqb i 2))
+      → y ≡ (eqb k 14 && (eqb i 1 || eqb i 2)) → (a b c d f : ℕ) → a ≡ once (ltb 0 e) → b ≡ once (ltb 0 w) → c ≡ once x → d ≡ once y
+      → f ≡ once (ltb 1 m)
+      → _≡_ {A = Suite} (record { count = 1; encryption = a; wrapping = b; sequence = c; authentication = d; doubled = f })
+      (suiteOf (transformIn k i s ∷ []))
+  unfolding sequenceNumbersFit authenticationFits
+  one-is e w m eq wq p pq mq x y xq yq a b c d f aq bq cq dq fq =
+      let t = transformIn k i s in
+      let l : m ≡ length (t .keyLengths) =
+      mq ∙ ap (λ (z : Place). length (valuesIn KeyLength z s)) pq ∙ sym (length-map (valuesIn KeyLength (inTransform k) s) two) in
+      λ j. record {
+        count = 1;
+        encryption = counted encryptionFits t a (ltb 0 e) aq (ap (ltb 0) eq ∙ encryption-fits t) j;
+        wrapping = counted keyWrapFits t b (ltb 0 w) bq (ap (ltb 0) wq ∙ key-wrap-fits t) j;
+        sequence = counted sequenceNumbersFit t c x cq xq j;
+        authentication = counted authenticationFits t d y dq yq j;
+        doubled = counted twiceInTransform t f (ltb 1 m) fq (ap (ltb 1) l) j;
+      }
+
+-- WHICH TRANSFORMS A POLICY HAS
+and-true : (b : Bool) → b ≡ (b && true)
+and-true true = refl
+and-true false = refl
+
+module _ (authentication : Bool) (p : GroupSaPolicy) (s : Suite) (e : s ≡ suiteOf (p .transforms)) (r : Bool) where
+  picked : (k : ℕ) → p .protocol ≡ k → cond (eqb k 3) (exactly espTransforms (p .transforms))
+      (eqb k 6 && exactly (rekeyTransforms authentication) (p .transforms)) ≡ transformsFit authentication p
+  unfolding transformsFit
+  picked k h =
+      ap (λ (n : ℕ). cond (eqb n 3) (exactly espTransforms (p .transforms))
+      (eqb n 6 && exactly (rekeyTransforms authentication) (p .transforms))) (sym h)
+
+  pub fits-esp : p .protocol ≡ 3 → r ≡ (eqb (s .count) 2 && (eqb (s .encryption) 1 && (eqb (s .sequence) 1 && eqb 1 1)))
+      → r ≡ transformsFit authentication p
+  unfolding exactly all
+  fits-esp h q =
+      q ∙ ap (λ (x : Suite). eqb (x .count) 2 && (eqb (x .encryption) 1 && (eqb (x .sequence) 1 && true))) e ∙ picked 3 h
+
+  pub fits-rekey : p .protocol ≡ 6 → authentication ≡ true
+      → r ≡ (eqb (s .count) 3 && (eqb (s .encryption) 1 && (eqb (s .wrapping) 1 && eqb (s .authentication) 1)))
+      → r ≡ transformsFit authentication p
+  unfolding exactly all
+  fits-rekey h a q =
+      q ∙ ap (λ (x : Suite). eqb (x .count) 3 && (eqb (x .encryption) 1 && (eqb (x .wrapping) 1 && eqb (x .authentication) 1))) e
+      ∙ ap (λ (u : Bool). eqb (suiteOf (p .transforms) .count) 3 && (eqb (suiteOf (p .transforms) .encryption) 1
+      && (eqb (suiteOf (p .transforms) .wrapping) 1 && u))) (and-true (eqb (suiteOf (p .transforms) .authentication) 1))
+      ∙ ap (λ (u : Bool). exactly (rekeyTransforms u) (p .transforms)) (sym a) ∙ picked 6 h
+
+  pub fits-rekey-alone : p .protocol ≡ 6 → authentication ≡ false
+      → r ≡ (eqb (s .count) 2 && (eqb (s .encryption) 1 && (eqb (s .wrapping) 1 && eqb 1 1)))
+      → r ≡ transformsFit authentication p
+  unfolding exactly all
+  fits-rekey-alone h a q =
+      q ∙ ap (λ (x : Suite). eqb (x .count) 2 && (eqb (x .encryption) 1 && (eqb (x .wrapping) 1 && true))) e
+      ∙ ap (λ (u : Bool). exactly (rekeyTransforms u) (p .transforms)) (sym a) ∙ picked 6 h
+
+  pub fits-other : (p .protocol ≡ 3 → ⊥) → (p .protocol ≡ 6 → ⊥) → false ≡ transformsFit authentication p
+  unfolding transformsFit
+  fits-other h g = rw (ne-eqb (p .protocol) 3 h, ne-eqb (p .protocol) 6 g)

@@ -1,0 +1,23 @@
+-- What the transforms of a Group SA policy come to: how many there are and how many are fit in each way, by which "exactly one each" is
+-- judged (number 5); how many have several Key Lengths (number 4); the keying octets that an SA of the policy needs.
+use mathlib.Core.List.{List}
+use lib.ListN.{length}
+use Rattle.keys.specs.Lists.{count}
+use Rattle.policies.specs.Transform.{Transform}
+use Rattle.clauses.specs.Fitness.{encryptionFits, keyWrapFits, sequenceNumbersFit, authenticationFits, sum, encryptionNeeds, keyWrapNeeds}
+use Rattle.clauses.specs.Number4.{twiceInTransform}
+use Rattle.suites.specs.declared.counts.Suite.{Suite}
+use Rattle.suites.specs.declared.counts.Needs.{Needs}
+
+abbrev pub suiteOf : List Transform → Suite
+suiteOf l = record {
+  count = length l;
+  encryption = count encryptionFits l;
+  wrapping = count keyWrapFits l;
+  sequence = count sequenceNumbersFit l;
+  authentication = count authenticationFits l;
+  doubled = count twiceInTransform l;
+}
+
+abbrev pub needsOf : List Transform → Needs
+needsOf l = record { encryption = sum encryptionNeeds l; wrapping = sum keyWrapNeeds l }

@@ -1,0 +1,25 @@
+-- Counts of transforms added up one transform after the other.
+use Prim.Native.Nat.{ℕ, _+_, _≤_}
+use mathlib.Core.Bool.{Bool, cond}
+use Rattle.suites.specs.declared.counts.Suite.{Suite}
+
+abbrev pub once : Bool → ℕ
+once b = cond b 1 0
+
+abbrev pub plus : Suite → Suite → Suite
+plus x y = record {
+  count = x .count + y .count;
+  encryption = x .encryption + y .encryption;
+  wrapping = x .wrapping + y .wrapping;
+  sequence = x .sequence + y .sequence;
+  authentication = x .authentication + y .authentication;
+  doubled = x .doubled + y .doubled;
+}
+
+pub record AtMost (n : ℕ) (x : Suite) : Type 0 where
+  pub count : x .count ≤ n
+  pub encryption : x .encryption ≤ n
+  pub wrapping : x .wrapping ≤ n
+  pub sequence : x .sequence ≤ n
+  pub authentication : x .authentication ≤ n
+  pub doubled : x .doubled ≤ n

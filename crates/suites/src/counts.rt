@@ -1,0 +1,147 @@
+// What transforms come to, one transform and several.
+ghost use mathlib.Core.Path.{_≡_};
+ghost use mathlib.Core.Bool.{true, _&&_, _||_};
+ghost use mathlib.Core.List.{[], _∷_};
+ghost use Prim.Native.Nat.{ℕ, _<_};
+ghost use lib.ListN.{length};
+ghost use lib.Dec.{eqb};
+ghost use Rattle.attributes.specs.Place.{inTransform};
+ghost use Rattle.attributes.specs.Layout.{attributes};
+ghost use Rattle.policies.specs.Policy.{GroupSaPolicy};
+ghost use Rattle.contents.specs.inner.Values.{isWhole};
+ghost use Rattle.clauses.specs.Fitness.{transformsFit};
+ghost use Rattle.suites.specs.Suites.{suiteOf};
+ghost use Rattle.suites.specs.inner.Octets.{transformIn};
+ghost use Rattle.suites.specs.inner.Adding.{once, plus, AtMost};
+use attributes::tables::Meaning;
+
+// How many transforms there are; how many are fit for encryption, key wrap, sequence numbers and the controller's authentication; how many
+// have several Key Lengths.
+pub struct Suite {
+    pub count: usize,
+    pub encryption: usize,
+    pub wrapping: usize,
+    pub sequence: usize,
+    pub authentication: usize,
+    pub doubled: usize,
+}
+
+// The keying octets that transforms need for encryption and for key wrap.
+pub struct Needs {
+    pub encryption: usize,
+    pub wrapping: usize,
+}
+
+// 1 where it is so.
+fn one_if(b: bool) -> usize
+    ensures { λ r. ⌜ r ≡ once b ⌝ }
+{
+    if b {
+        return 1;
+    }
+    0
+}
+
+// Whether a transform has a type, and one of two IDs.
+fn is_one_of(kind: usize, id: usize, wanted: usize, a: usize, b: usize) -> bool
+    ensures { λ r. ⌜ r ≡ (eqb kind wanted && (eqb id a || eqb id b)) ⌝ }
+{
+    if kind == wanted {
+        if id == a {
+            return true;
+        }
+        return id == b;
+    }
+    false
+}
+
+// Whether there are as many as wanted, and one each.
+fn are_once(n: usize, wanted: usize, a: usize, b: usize, c: usize) -> bool
+    ensures { λ r. ⌜ r ≡ (eqb n wanted && (eqb a 1 && (eqb b 1 && eqb c 1))) ⌝ }
+{
+    if n == wanted {
+        if a == 1 {
+            if b == 1 {
+                return c == 1;
+            }
+        }
+    }
+    false
+}
+
+// What one transform comes to. Internal.
+pub fn one_transform(kind: usize, id: usize, a: &[u8]) -> Suite
+    requires { ⌜ (id < 65536) × (isWhole (attributes (inTransform kind) 0 (now a)) ≡ true) × (length (now a) < 4294967296) ⌝ }
+    ensures { λ r. ⌜ r ≡ suiteOf (transformIn kind id (now (a .entry)) ∷ []) ⌝ }
+{
+    let e = crate::rows::encryption_octets(kind, id, a);
+    let w = crate::rows::wrapping_octets(kind, id);
+    let n = contents::values::count_of(
+        Meaning::KeyLength,
+        attributes::tables::in_transform(kind),
+        a,
+    );
+    Suite {
+        count: 1,
+        encryption: one_if(0 < e),
+        wrapping: one_if(0 < w),
+        sequence: one_if(is_one_of(kind, id, 5, 0, 2)),
+        authentication: one_if(is_one_of(kind, id, 14, 1, 2)),
+        doubled: one_if(1 < n),
+    }
+}
+
+impl Suite {
+    // What no transform comes to. Internal.
+    pub fn none() -> Suite
+        ensures { λ r. ⌜ r ≡ suiteOf [] ⌝ }
+    {
+        Suite {
+            count: 0,
+            encryption: 0,
+            wrapping: 0,
+            sequence: 0,
+            authentication: 0,
+            doubled: 0,
+        }
+    }
+
+    // Both together, the second that of one transform. Internal.
+    pub fn plus(self, x: Suite) -> Suite
+        requires { ⌜ ((n : ℕ) × (n < 18446744073709551615) × AtMost n self × AtMost 1 x) ⌝ }
+        ensures { λ r. ⌜ r ≡ plus self x ⌝ }
+    {
+        Suite {
+            count: self.count + x.count,
+            encryption: self.encryption + x.encryption,
+            wrapping: self.wrapping + x.wrapping,
+            sequence: self.sequence + x.sequence,
+            authentication: self.authentication + x.authentication,
+            doubled: self.doubled + x.doubled,
+        }
+    }
+
+    // Whether a policy of a protocol has these transforms: ESP encryption and sequence numbers, a Rekey policy encryption, key wrap and, if
+    // the exchange asks for it, authentication; each once and no other. Internal.
+    pub fn is_fit(self, authentication: bool, protocol: usize) -> bool
+        ensures { λ r. ⌜ ((p : GroupSaPolicy) → p .protocol ≡ protocol → self ≡ suiteOf (p .transforms)
+            → r ≡ transformsFit authentication p) ⌝ }
+    {
+        if protocol == 3 {
+            return are_once(self.count, 2, self.encryption, self.sequence, 1);
+        }
+        if protocol == 6 {
+            if authentication {
+                return are_once(
+                    self.count,
+                    3,
+                    self.encryption,
+                    self.wrapping,
+                    self.authentication,
+                );
+            }
+            return are_once(self.count, 2, self.encryption, self.wrapping, 1);
+        }
+        false
+    }
+}

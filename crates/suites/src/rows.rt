@@ -1,0 +1,69 @@
+// The octets of keying material that one transform needs.
+ghost use mathlib.Core.Path.{_≡_};
+ghost use mathlib.Core.Bool.{true};
+ghost use mathlib.Core.List.{List};
+ghost use Prim.Native.Nat.{ℕ, _*_, _≤_, _<_};
+ghost use lib.ListN.{length};
+ghost use Rattle.attributes.specs.Place.{inTransform};
+ghost use Rattle.attributes.specs.Layout.{attributes};
+ghost use Rattle.keys.specs.Algorithms.{neededBy};
+ghost use Rattle.contents.specs.inner.Values.{isWhole};
+ghost use Rattle.clauses.specs.Fitness.{octetsOf, encryptionNeeds, keyWrapNeeds};
+ghost use Rattle.suites.specs.inner.Octets.{keyLengthNeeds, transformIn};
+use attributes::tables::Meaning;
+use attributes::tables::Place;
+use contents::values::Found;
+use keys::algorithms::Needed;
+
+// The octets that a row of the algorithm table asks for; 0 for no row. Internal.
+fn needed(kind: usize, id: usize, bits: usize) -> usize
+    requires { ⌜ (kind < 256) × (id < 65536) × (bits < 65536) ⌝ }
+    ensures { λ r. ⌜ (r ≡ octetsOf (neededBy kind id bits)) × (r ≤ 36) ⌝ }
+{
+    match keys::algorithms::octets_needed(kind as u8, id as u16, bits as u16) {
+        Needed::Octets(n) => n,
+        Needed::Nothing => 0,
+    }
+}
+
+// The octets that the Key Lengths among some attributes ask for, all together. Internal.
+fn key_length_octets(place: Place, id: usize, a: &[u8]) -> usize
+    requires { ⌜ (id < 65536) × (isWhole (attributes place 0 (now a)) ≡ true) × (length (now a) < 4294967296) ⌝ }
+    ensures { λ r. ⌜ (r ≡ keyLengthNeeds id place (now (a .entry))) × (r ≤ 36 * length (now (a .entry))) ⌝ }
+{
+    let mut total = 0;
+    let mut at = 0;
+    loop {
+        match contents::values::next_of(Meaning::KeyLength, place, a, at) {
+            Found::At(v, e) => {
+                total = total + needed(1, id, octets::numbers::be16_at(a, v));
+                at = e;
+            }
+            Found::Nothing => {
+                return total;
+            }
+        }
+    }
+}
+
+// The octets that a transform needs for encryption: of type 1, by its Key Lengths. Internal.
+pub fn encryption_octets(kind: usize, id: usize, a: &[u8]) -> usize
+    requires { ⌜ (id < 65536) × (isWhole (attributes (inTransform kind) 0 (now a)) ≡ true) × (length (now a) < 4294967296) ⌝ }
+    ensures { λ r. ⌜ (r ≡ encryptionNeeds (transformIn kind id (now (a .entry)))) × (r ≤ 36 * length (now (a .entry))) ⌝ }
+{
+    if kind == 1 {
+        return key_length_octets(attributes::tables::in_transform(kind), id, a);
+    }
+    0
+}
+
+// The octets that a transform needs for key wrap: of type 13. Internal.
+pub fn wrapping_octets(kind: usize, id: usize) -> usize
+    requires { ⌜ id < 65536 ⌝ }
+    ensures { λ r. ⌜ ((a : List ℕ) → r ≡ keyWrapNeeds (transformIn kind id a)) × (r ≤ 36) ⌝ }
+{
+    if kind == 13 {
+        return needed(13, id, 0);
+    }
+    0
+}
