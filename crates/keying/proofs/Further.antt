@@ -1,0 +1,101 @@
+-- What is known of some policies, and of one more. Assumes nothing.
+use native.Mathlib.Omega.{arith}
+use native.Mathlib.Numerals.{add-one}
+use Prim.Native.Nat.{ℕ, _+_, _<_}
+use mathlib.Core.Path.{_≡_, refl, ap, sym, _∙_, subst}
+use mathlib.Core.Bool.{Bool, true, false, false≢true}
+use mathlib.Core.Logic.{⊎-elim}
+use mathlib.Core.List.{List, [], _∷_, _++_, Memᴰ·append-left, Memᴰ·append-right, List·Memᴰ·append-cases, List·Memᴰ·eq-of-singleton}
+use lib.ListN.{length, take, set, length-append}
+use lib.Seq.{take-suc-set}
+use Rattle.attributes.specs.Tree.{WrapKey}
+use Rattle.policies.specs.Policy.{GroupSaPolicy}
+use Rattle.frames.specs.Frame.{Frame}
+use Rattle.sa.specs.declared.entry.Sa.{Sa}
+use Rattle.chains.specs.Chain.{In, Root}
+use Rattle.chains.specs.Refusals.{CopiesEight, wrong-size, two-values, KeyOf}
+use Rattle.outcome.specs.Roots.{announcedAs}
+use Rattle.outcome.specs.After.{saFrom, Enter, no-sa, one-more}
+use Rattle.outcome.proofs.Members.{in-mem, mem-in, in-head}
+use Rattle.keying.specs.Keyed.{SomeEight, NoEight, SomeUnopened, KeysOf, KeysIn}
+use Rattle.keying.specs.inner.Policies.{IsEight, IsUnopened, IsSa}
+use Rattle.keying.specs.declared.joining.Found.{Found}
+use Rattle.keying.specs.declared.joining.Found.the-variants.{Eight, Nine, Keys}
+use Rattle.keying.specs.declared.joining.Keyed.{Keyed}
+
+abbrev pub isKeys : Found → Bool
+isKeys Eight = false
+isKeys Nine = false
+isKeys Keys = true
+
+module _ (roots : List Root) (entries : List WrapKey) (size : ℕ) (f : Frame) where
+  -- ---- policies among more policies
+  module _ (l m : List GroupSaPolicy) where
+    in-more : (a : GroupSaPolicy) → In a l → In a (l ++ m)
+    in-more a i = mem-in a (l ++ m) (Memᴰ·append-left m (in-mem a l i))
+
+    pub eight-wider : SomeEight roots entries size f l → SomeEight roots entries size f (l ++ m)
+    eight-wider e = record { sa = e .sa; stands = in-more (e .sa) (e .stands); eight = e .eight }
+
+    unopened-wider : SomeUnopened roots entries size f l → SomeUnopened roots entries size f (l ++ m)
+    unopened-wider e = record { sa = e .sa; stands = in-more (e .sa) (e .stands); none = e .none }
+
+  module _ (l : List GroupSaPolicy) (a : GroupSaPolicy) where
+    last-in : In a (l ++ (a ∷ []))
+    last-in = mem-in a (l ++ (a ∷ [])) (Memᴰ·append-right l (in-mem a (a ∷ []) (in-head a a [] refl)))
+
+    fit-further : NoEight roots entries size f l → (CopiesEight roots entries size (announcedAs f a) → ⊥) →
+        NoEight roots entries size f (l ++ (a ∷ []))
+    fit-further n h b i c =
+        ⊎-elim (λ m. n b (mem-in b l m) c)
+        (λ m. h (subst (λ (x : GroupSaPolicy). CopiesEight roots entries size (announcedAs f x)) (List·Memᴰ·eq-of-singleton m) c))
+        (List·Memᴰ·append-cases l (in-mem b (l ++ (a ∷ [])) i))
+
+  -- where no copy opens, none opens to a wrong size or to another value
+  pub unopened-fit : (a : GroupSaPolicy) → IsUnopened roots entries size f a → CopiesEight roots entries size (announcedAs f a) → ⊥
+  unopened-fit a n (wrong-size x o h) = n x o
+  unopened-fit a n (two-values x y o p h) = n x o
+
+  enter-further : {l : List GroupSaPolicy} {m : List Sa} (a : GroupSaPolicy) (x : List ℕ) → Enter roots entries size f l m →
+      KeyOf roots entries size (announcedAs f a) x → Enter roots entries size f (l ++ (a ∷ [])) (m ++ (saFrom a x ∷ []))
+  enter-further a x no-sa k = one-more x k no-sa
+  enter-further a x (one-more y h e) k = one-more y h (enter-further a x e k)
+
+  -- ---- by what was found
+  module _ (l : List GroupSaPolicy) (a : GroupSaPolicy) where
+    stays-by : (g : Found) (sas : List Sa) (n : ℕ) → isKeys g ≡ false → (CopiesEight roots entries size (announcedAs f a) → ⊥) →
+        KeysOf roots entries size f l g sas n → KeysOf roots entries size f (l ++ (a ∷ [])) g sas n
+    stays-by Eight sas n d u k = eight-wider l (a ∷ []) k
+    stays-by Nine sas n d u k = (fit-further l a (k .0) u, unopened-wider l (a ∷ []) (k .1))
+    stays-by Keys sas n d u k = absurd (false≢true (sym d))
+
+    module _ (all : Keyed) (k : KeysIn roots entries size f l all) where
+      pub eight-more : IsEight roots entries size f a → SomeEight roots entries size f (l ++ (a ∷ []))
+      eight-more e = record { sa = a; stands = last-in l a; eight = e }
+
+      pub stays : isKeys (all .found) ≡ false → (CopiesEight roots entries size (announcedAs f a) → ⊥) →
+          KeysIn roots entries size f (l ++ (a ∷ [])) all
+      stays d u = stays-by (all .found) (all .sas) (all .count) d u k
+
+      module _ (e : all .found ≡ Keys) where
+        keys : KeysOf roots entries size f l Keys (all .sas) (all .count)
+        keys = subst (λ (g : Found). KeysOf roots entries size f l g (all .sas) (all .count)) e k
+
+        pub unopened-more : (m : ℕ) → IsUnopened roots entries size f a →
+            KeysOf roots entries size f (l ++ (a ∷ [])) Nine (all .sas) m
+        unopened-more m u = (fit-further l a (keys .0) (unopened-fit a u), record { sa = a; stands = last-in l a; none = u })
+
+        pub sa-more : (sa : Sa) → all .count < length (all .sas) → IsSa sa roots entries size f a →
+            KeysOf roots entries size f (l ++ (a ∷ [])) Keys (set (all .sas) (all .count) sa) (all .count + 1)
+        sa-more sa h u =
+            let n = all .count in
+            let s = set (all .sas) n sa in
+            let t : take (n + 1) s ≡ take n (all .sas) ++ (saFrom a (u .x) ∷ []) =
+            ap (λ (i : ℕ). take i s) (add-one n) ∙ take-suc-set (all .sas) n sa h
+            ∙ ap (λ (x : Sa). take n (all .sas) ++ (x ∷ [])) (u .is) in
+            let c = length-append l (a ∷ []) in
+            let q = keys .2 in (
+              fit-further l a (keys .0) (u .fit),
+              subst (Enter roots entries size f (l ++ (a ∷ []))) (sym t) (enter-further a (u .x) (keys .1) (u .key)),
+              omega arith,
+            )
