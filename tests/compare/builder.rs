@@ -1,8 +1,13 @@
 //! Frames from fields to octets. Every length, count and type comes out right unless a field says otherwise, so that a frame
 //! can be broken in one place on purpose.
 
+mod built;
+pub mod line;
+pub mod rng;
 pub mod typical;
 pub mod wrapping;
+
+pub use built::{Built, Mark};
 
 pub const AH: u8 = 2;
 pub const ESP: u8 = 3;
@@ -102,33 +107,6 @@ pub struct Delete {
     pub spis: Vec<Vec<u8>>,
 }
 
-/// Where a number stands in the built frame, for those who want to damage it.
-#[derive(Clone, Copy)]
-pub struct Mark {
-    pub at: usize,
-    pub size: usize,
-}
-
-#[derive(Default)]
-pub struct Built {
-    pub octets: Vec<u8>,
-    pub marks: Vec<Mark>,
-}
-
-impl Built {
-    /// Writes a number in so many octets, of which only the low ones fit, and marks it.
-    fn number(&mut self, size: usize, value: i64) {
-        self.marks.push(Mark { at: self.octets.len(), size });
-        self.octets.extend_from_slice(&value.to_be_bytes()[8 - size..]);
-    }
-
-    /// Sets the 2 octets at `at` to the length since `from`.
-    fn set_length(&mut self, at: usize, from: usize, skew: i64) {
-        let length = (self.octets.len() - from) as i64 + skew;
-        self.octets[at..at + 2].copy_from_slice(&(length as u16).to_be_bytes());
-    }
-}
-
 impl Frame {
     pub fn build(&self) -> Built {
         let mut out = Built::default();
@@ -159,6 +137,14 @@ impl Frame {
 impl Payload {
     pub fn new(kind: u8, body: Body) -> Payload {
         Payload { kind, next: None, flags: 0, skew: 0, body, tail: Vec::new() }
+    }
+
+    /// The policies of a GSA payload or the bags of a KD payload.
+    pub fn parts(&mut self) -> &mut Vec<Part> {
+        match &mut self.body {
+            Body::Parts(parts) => parts,
+            _ => panic!("a payload without parts"),
+        }
     }
 
     /// Makes the length field say `length`.

@@ -1,6 +1,6 @@
 //! One frame in the making, with what its maker knows: the keys, the member it will meet, the tick.
 
-use crate::rng::Rng;
+use builder::rng::Rng;
 use builder::typical::*;
 use builder::wrapping::wrap;
 use builder::{Attribute, Body, Delete, Frame, Part, Payload, Selector, Transform};

@@ -1,6 +1,6 @@
 //! Damage done to the octets of a frame, and hostile lines of text. Nothing is known of the answer.
 
-use crate::rng::Rng;
+use builder::rng::Rng;
 use builder::{Built, Mark};
 
 /// The octets with one or two damages; the header's length is set right again in most cases where it would no longer be.

@@ -1,16 +1,18 @@
 //! `compare PROGRAM [COUNT] [FIRST_SEED] [--cases DIRECTORY] [--verbose]`: holds a member program against the second member, line
 //! by line, on scripts made from seeds and on the fixed cases of a directory (its files *.in).
+//!
+//! `compare --life COUNT SEED NAME`: writes an ordinary life, a registration and so many rekeys, to NAME.in, and the second member's
+//! answers, all 0, to NAME.out.
 
 mod case;
 mod damage;
-mod rng;
 mod scene;
 mod script;
 mod tally;
 mod violations;
 
 use reference::text;
-use script::{script, Script};
+use script::{plain_life, script, Script};
 use std::io::{Read, Write};
 use std::path::{Path, PathBuf};
 use std::process::{Command, ExitCode, ExitStatus, Stdio};
@@ -43,11 +45,13 @@ fn arguments() -> Option<Arguments> {
 }
 
 fn main() -> ExitCode {
-    let Some(arguments) = arguments() else {
-        eprintln!("compare PROGRAM [COUNT] [FIRST_SEED] [--cases DIRECTORY] [--verbose]");
-        return ExitCode::from(2);
+    let given: Vec<String> = std::env::args().skip(1).collect();
+    let done = match (given.as_slice(), arguments()) {
+        ([life, count, seed, name], _) if life == "--life" => write_life(count, seed, name),
+        (_, Some(arguments)) => compare(&arguments),
+        _ => Err("PROGRAM [COUNT] [FIRST_SEED] [--cases DIRECTORY] [--verbose], or --life COUNT SEED NAME".to_string()),
     };
-    match compare(&arguments) {
+    match done {
         Ok(()) => ExitCode::SUCCESS,
         Err(message) => {
             println!("compare: {message}");
@@ -81,6 +85,18 @@ fn compare(arguments: &Arguments) -> Result<(), String> {
     }
     print(&tally, arguments, start.elapsed(), in_program);
     verdict(&tally, arguments.count)
+}
+
+fn write_life(count: &str, seed: &str, name: &str) -> Result<(), String> {
+    let (Ok(count), Ok(seed)) = (count.parse(), seed.parse()) else { return Err(format!("{count} or {seed} is no number")) };
+    let mut tally = Tally::default();
+    let input = plain_life(seed, count, &mut tally).input;
+    if let Some(complaint) = tally.complaints.first() {
+        return Err(complaint.clone());
+    }
+    let written =
+        std::fs::write(format!("{name}.in"), &input).and_then(|()| std::fs::write(format!("{name}.out"), second_member(&input)));
+    written.map_err(|error| format!("{name}: {error}"))
 }
 
 fn fixed_cases(directory: Option<&Path>) -> Result<Vec<PathBuf>, String> {

@@ -1,7 +1,7 @@
 //! Frames that the member will accept, made from the state it is in.
 
 use crate::case::Case;
-use crate::rng::Rng;
+use builder::rng::Rng;
 use builder::typical::*;
 use builder::wrapping::wrap;
 use builder::{Attribute, Part, ESP, REKEY};

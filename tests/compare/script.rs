@@ -3,10 +3,11 @@
 
 use crate::case::Case;
 use crate::damage::{damaged, first_line, hostile_line};
-use crate::rng::Rng;
 use crate::scene::{Scene, Shape};
 use crate::tally::Tally;
 use crate::violations::{allowed, of_place, Violation};
+use builder::line::{hex, line};
+use builder::rng::Rng;
 use reference::layout::MOST_FRAME;
 use reference::member::Member;
 use reference::text;
@@ -33,17 +34,7 @@ pub struct Writer<'t> {
 }
 
 pub fn script(seed: u64, tally: &mut Tally) -> Script {
-    let mut rng = Rng::new(seed);
-    let size = [16, 24, 32][(seed % 3) as usize];
-    let lent = rng.octets(size);
-    let tick = rng.pick(&[0, 1000, 0x7fff_ff00, u32::MAX - 500]);
-    let mut writer = Writer {
-        lines: vec![hex(&lent)],
-        scene: Scene { rng, lent, member: Member::new(), tick },
-        labels: Vec::new(),
-        tally,
-        seed,
-    };
+    let mut writer = Writer::new(seed, tally);
     match seed % 16 {
         7 => writer.hostile_first_line(),
         11 => writer.without_rekey_sa(),
@@ -52,7 +43,31 @@ pub fn script(seed: u64, tally: &mut Tally) -> Script {
     writer.finish()
 }
 
-impl Writer<'_> {
+/// A registration and so many rekeys of all shapes, none refused.
+pub fn plain_life(seed: u64, rekeys: usize, tally: &mut Tally) -> Script {
+    let mut writer = Writer::new(seed, tally);
+    let first = Shape { rekey: true, keys: 12, further: 4, ..writer.scene.any_shape() };
+    let registration = writer.scene.registration(first);
+    writer.claim(&registration, 0, "plain registration");
+    for _ in 0..rekeys {
+        writer.scene.move_clock();
+        let shape = writer.scene.any_shape();
+        let rekey = writer.scene.rekey(shape).expect("a live Rekey SA and a Message ID");
+        writer.claim(&rekey, 0, "plain rekey");
+    }
+    writer.finish()
+}
+
+impl<'t> Writer<'t> {
+    fn new(seed: u64, tally: &'t mut Tally) -> Writer<'t> {
+        let mut rng = Rng::new(seed);
+        let size = [16, 24, 32][(seed % 3) as usize];
+        let lent = rng.octets(size);
+        let tick = rng.pick(&[0, 1000, 0x7fff_ff00, u32::MAX - 500]);
+        let lines = vec![hex(&lent)];
+        Writer { lines, scene: Scene { rng, lent, member: Member::new(), tick }, labels: Vec::new(), tally, seed }
+    }
+
     /// Refused registrations, one that is taken, then rekeys of all kinds.
     fn life(&mut self) {
         self.violations(true);
@@ -208,8 +223,7 @@ impl Writer<'_> {
             let built = case.frame.build();
             let octets = damaged(&built, &mut self.scene.rng);
             self.frame(&octets, "damaged".to_string());
-            let mut good = format!("{:08x}", self.scene.tick).into_bytes();
-            good.extend(hex(&built.octets));
+            let good = line(self.scene.tick, &built.octets);
             if self.scene.rng.chance(40) {
                 let line = hostile_line(&good, &mut self.scene.rng);
                 self.line(line, "hostile".to_string());
@@ -239,9 +253,7 @@ impl Writer<'_> {
 
     /// A frame of any octets, as many as a good line holds.
     fn frame(&mut self, octets: &[u8], label: String) -> u8 {
-        let mut line = format!("{:08x}", self.scene.tick).into_bytes();
-        line.extend(hex(octets));
-        self.line(line, label).expect("a good line")
+        self.line(line(self.scene.tick, octets), label).expect("a good line")
     }
 
     /// Adds the line, and takes the member through it; None for a bad one.
@@ -272,11 +284,4 @@ fn pair(number: usize) -> (usize, usize) {
         a += 1;
     }
     (a, number - before)
-}
-
-pub fn hex(octets: &[u8]) -> Vec<u8> {
-    octets
-        .iter()
-        .flat_map(|octet| [b"0123456789abcdef"[(octet >> 4) as usize], b"0123456789abcdef"[(octet & 15) as usize]])
-        .collect()
 }

@@ -1,10 +1,13 @@
 //! `transcripts DIRECTORY` writes the transcripts: NAME.in (what the program reads), NAME.out (what it must print) and NAME.about (a
 //! word on each answer). The answers are written down here by hand, from document 01; no member is asked.
 
+mod meanings;
 mod parts;
 mod refusals;
 mod runs;
+mod times;
 
+use builder::line::line;
 use builder::Frame;
 use std::path::Path;
 use std::process::ExitCode;
@@ -31,8 +34,7 @@ impl Transcript {
     }
 
     pub fn octets(&mut self, about: &str, tick: u32, octets: &[u8], answer: &str) {
-        let digits: String = octets.iter().map(|octet| format!("{octet:02x}")).collect();
-        self.line(about, format!("{tick:08x}{digits}").as_bytes(), answer);
+        self.line(about, &line(tick, octets), answer);
     }
 
     pub fn line(&mut self, about: &str, line: &[u8], answer: &str) {
@@ -53,7 +55,7 @@ fn main() -> ExitCode {
         eprintln!("transcripts DIRECTORY");
         return ExitCode::from(2);
     };
-    for transcript in runs::all().iter().chain(&refusals::all()) {
+    for transcript in [runs::all(), times::all(), meanings::all(), refusals::all()].iter().flatten() {
         if let Err(error) = transcript.write(Path::new(&directory)) {
             eprintln!("{directory}: {error}");
             return ExitCode::FAILURE;

@@ -28,24 +28,15 @@ fn changed(mut frame: Frame, change: impl FnOnce(&mut Frame)) -> Frame {
 
 /// Of the frames above: payload 0 is GSA with the Rekey policy and the ESP policy, payload 1 KD with their bags and the Member bag.
 fn part(frame: &mut Frame, payload: usize, at: usize) -> &mut Part {
-    match &mut frame.payloads[payload].body {
-        Body::Parts(parts) => &mut parts[at],
-        _ => panic!("no parts"),
-    }
+    &mut frame.payloads[payload].parts()[at]
 }
 
 fn add_part(frame: &mut Frame, payload: usize, part: Part) {
-    match &mut frame.payloads[payload].body {
-        Body::Parts(parts) => parts.push(part),
-        _ => panic!("no parts"),
-    }
+    frame.payloads[payload].parts().push(part);
 }
 
 fn remove_part(frame: &mut Frame, payload: usize, at: usize) {
-    match &mut frame.payloads[payload].body {
-        Body::Parts(parts) => drop(parts.remove(at)),
-        _ => panic!("no parts"),
-    }
+    frame.payloads[payload].parts().remove(at);
 }
 
 impl Transcript {

@@ -30,6 +30,8 @@ pub fn all() -> Vec<Transcript> {
         odd_key("key-28", &"1c".repeat(28)),
         odd_key("key-20", &"14".repeat(20)),
         odd_key("key-33", &"21".repeat(33)),
+        odd_key("key-odd", &LENT[..31]),
+        odd_key("key-cr", &format!("{LENT}\r")),
         odd_key("key-capitals", "000102030405060708090A0B0C0D0E0F"),
         odd_key("key-empty", ""),
         other_key("key-24", 24),

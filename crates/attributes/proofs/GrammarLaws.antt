@@ -17,6 +17,7 @@ use Rattle.attributes.specs.Layout.{formedIn, fitsIn, attribute, attribu
 use Rattle.attributes.specs.Grammar.{Format, in-short, in-long, IsAttribute, Attributes}
 use Rattle.attributes.specs.declared.tables.Place.{Place}
 use Rattle.attributes.proofs.AttributeLaws.{size-least, value-inside, takes}
+use Rattle.attributes.proofs.SplitGrammar.{joined, Each, Split, together, splits, one-way}
 
 -- AN ATTRIBUTE IS READ FROM ITS OWN OCTETS
 module _ (o r : List ℕ) (h : 4 ≤ length o) where
@@ -142,3 +143,16 @@ module _ (p : Place) where
 
   pub read-are : (b : ℕ) (s : List ℕ) (l : List Attribute) (rest : List ℕ) → attributes p b s ≡ whole l rest → Attributes p s l
   read-are b s l rest q = read-row (attribute p) (takes p) (IsAttribute p) sound complete b s l rest q
+
+  -- whole attributes one after the other are read to the list of what each is read to; whole octets split into attributes in one way
+  pub attributes-together : {os : List (List ℕ)} {l : List Attribute} → Each (attribute p) os l → (b : ℕ)
+      → attributes p b (joined os) ≡ whole l []
+  attributes-together f b = together (attribute p) (takes p) (IsAttribute p) sound complete f b
+
+  pub attributes-split : (b : ℕ) (s : List ℕ) (l : List Attribute) (rest : List ℕ) → attributes p b s ≡ whole l rest
+      → Split (attribute p) s l
+  attributes-split b s l rest q = splits (attribute p) (takes p) (IsAttribute p) sound complete b s l rest q
+
+  pub attributes-one-way : {os os′ : List (List ℕ)} {l l′ : List Attribute} → Each (attribute p) os l → Each (attribute p) os′ l′
+      → joined os ≡ joined os′ → (os ≡ os′) × (l ≡ l′)
+  attributes-one-way f g e = one-way (attribute p) (takes p) (IsAttribute p) sound complete f g e

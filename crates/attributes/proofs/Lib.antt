@@ -1,3 +1,4 @@
 pub mod Loops
 pub mod AttributeLaws
+pub mod SplitGrammar
 pub mod GrammarLaws

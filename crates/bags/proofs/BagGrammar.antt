@@ -21,6 +21,7 @@ use Rattle.attributes.specs.Grammar.{Attributes}
 use Rattle.attributes.specs.declared.tables.Place.{Place}
 use Rattle.attributes.specs.declared.tables.Place.the-variants as place
 use Rattle.attributes.proofs.GrammarLaws.{are-read, read-are}
+use Rattle.attributes.proofs.SplitGrammar.{joined, Each, Split, together, splits, one-way}
 use Rattle.policies.specs.Policy.{spiSize, headSize, headFits, spiOf}
 use Rattle.policies.proofs.HeadLaws.{head-is}
 use Rattle.policies.proofs.PolicyGrammar.{first, same-head, same-spi, exact-size, body-octets, known-spi, made-head}
@@ -189,3 +190,14 @@ bags-read f b = row-read bag takes IsBag sound complete f b
 
 pub read-bags : (b : ℕ) (s : List ℕ) (l : List Bag) (rest : List ℕ) → bags b s ≡ whole l rest → Bags s l
 read-bags b s l rest q = read-row bag takes IsBag sound complete b s l rest q
+
+-- whole bags one after the other are read to the list of what each is read to; whole octets split into bags in one way
+pub bags-together : {os : List (List ℕ)} {l : List Bag} → Each bag os l → (b : ℕ) → bags b (joined os) ≡ whole l []
+bags-together f b = together bag takes IsBag sound complete f b
+
+pub bags-split : (b : ℕ) (s : List ℕ) (l : List Bag) (rest : List ℕ) → bags b s ≡ whole l rest → Split bag s l
+bags-split b s l rest q = splits bag takes IsBag sound complete b s l rest q
+
+pub bags-one-way : {os os′ : List (List ℕ)} {l l′ : List Bag} → Each bag os l → Each bag os′ l′ → joined os ≡ joined os′
+    → (os ≡ os′) × (l ≡ l′)
+bags-one-way f g e = one-way bag takes IsBag sound complete f g e

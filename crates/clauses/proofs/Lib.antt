@@ -9,3 +9,4 @@ pub mod OrderOf6
 pub mod OrderOf7
 pub mod Order
 pub mod Samples
+pub mod Clear

@@ -40,7 +40,8 @@ module _ (s : List ℕ) (at : ℕ) (r : Parts) (q : PolicyAt s at r) where
     pub wide-whole : isWhole (attributes place.GroupWidePolicy 0 (part s (at + r .body) (at + r .end))) ≡ true
     wide-whole = ap (λ (y : List ℕ). isWhole (attributes place.GroupWidePolicy 0 y)) (sym body-is) ∙ q .is .wide z .held
 
-    module _ (n : ℕ) (nq : n ≡ length (valuesIn meaning.DeactivationDelay place.GroupWidePolicy (part s (at + r .body) (at + r .end)))) where
+    module _ (n : ℕ)
+        (nq : n ≡ length (valuesIn meaning.DeactivationDelay place.GroupWidePolicy (part s (at + r .body) (at + r .end)))) where
       held : List Attribute
       held = attributesIn place.GroupWidePolicy (part (drop at s) (r .body) (r .end))
 

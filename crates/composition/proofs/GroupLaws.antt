@@ -51,7 +51,8 @@ in-one (groupWide w) = sym (or-false (delayedTwice w) ∙ refl) ∙ sym (or-fals
 
 pub barred-clauses : (l : List Policy)
     → any isBarred l
-    ≡ (any lengthTwice (gather saOf l) || (any idTwice (gather saOf l) || (any delayedTwice (gather wideOf l) || any astray (gather saOf l))))
+    ≡ (any lengthTwice (gather saOf l)
+    || (any idTwice (gather saOf l) || (any delayedTwice (gather wideOf l) || any astray (gather saOf l))))
 unfolding ofSa ofWide
 barred-clauses l =
     any-same isBarred (λ (a : Policy). ofSa lengthTwice a || (ofSa idTwice a || (ofWide delayedTwice a || ofSa astray a))) in-one l

@@ -15,7 +15,8 @@ use Rattle.frames.specs.Frame.{Frame, Payload, Content, gsa, kd, delete, unread
 use Rattle.frames.specs.declared.exchanges.Exchange.{Exchange}
 use Rattle.contents.specs.inner.Policies.{policiesIn}
 use Rattle.contents.specs.inner.Bags.{bagsIn}
-use Rattle.clauses.specs.Contents.{rowOf, some, several, gather, memberBagOf, isGsa, hasGsa, hasKd, policiesIn as policiesOfOne, policiesOf, saOf}
+use Rattle.clauses.specs.Contents.{rowOf, some, several, gather, memberBagOf, isGsa, hasGsa, hasKd, policiesIn as policiesOfOne}
+use Rattle.clauses.specs.Contents.{policiesOf, saOf}
 use Rattle.clauses.specs.Number4.{criticalUnknown, barredMemberBag, barredDelete, twoGsa, twoKd, gsaWithoutKd, kdWithoutGsa, neither}
 use Rattle.clauses.specs.Number4.{severalRekeyPolicies, severalGroupWide, severalMemberBags, gsaWithoutSaPolicy, keyLengthTwice}
 use Rattle.clauses.specs.Number4.{initialMessageIdTwice, delayTwice, otherDestination, withoutSaPolicy, four-ofFrame}
@@ -106,7 +107,8 @@ unfolding one four-ofFrame
 grouped f =
     or-false (one (four-ofFrame f))
     ∙ moved (criticalUnknown f) (barredMemberBag f) (severalMemberBags f)
-    (barredDelete f ∷ twoGsa f ∷ twoKd f ∷ gsaWithoutKd f ∷ kdWithoutGsa f ∷ neither f ∷ []) (severalRekeyPolicies f ∷ severalGroupWide f ∷ [])
+    (barredDelete f ∷ twoGsa f ∷ twoKd f ∷ gsaWithoutKd f ∷ kdWithoutGsa f ∷ neither f ∷ [])
+    (severalRekeyPolicies f ∷ severalGroupWide f ∷ [])
     (gsaWithoutSaPolicy f ∷ keyLengthTwice f ∷ initialMessageIdTwice f ∷ delayTwice f ∷ otherDestination f ∷ [])
 
 module _ (s : List ℕ) (f : Frame) (b : Bodies) (i : IsBodies s f b) where

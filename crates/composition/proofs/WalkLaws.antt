@@ -29,7 +29,8 @@ module _ {A : Type 0} (p : Reader A) (takes : (b : ℕ) (s : List ℕ) → Takes
   none-there h = ap itemsOf (many-none p takes 0 (drop at s) (omega (arith, length-drop at s)))
 
 module _ (s : List ℕ) (at : ℕ) where
-  pub reads-policy : at < length s → isWhole (policies 0 (drop at s)) ≡ true → (0 < length (tail s at)) × (isWhole (policies 0 (tail s at)) ≡ true)
+  pub reads-policy : at < length s → isWhole (policies 0 (drop at s)) ≡ true
+      → (0 < length (tail s at)) × (isWhole (policies 0 (tail s at)) ≡ true)
   reads-policy h e = (some-left policy policy-takes s at h, whole-left policy policy-takes s at e)
 
   pub reads-bag : at < length s → isWhole (bags 0 (drop at s)) ≡ true → (0 < length (tail s at)) × (isWhole (bags 0 (tail s at)) ≡ true)

@@ -14,6 +14,7 @@ ghost use Rattle.clauses.specs.Number4.{twiceInTransform};
 ghost use Rattle.composition.specs.inner.Groups.{isBarred, saBarred};
 use attributes::tables::Meaning;
 use attributes::tables::Place;
+use contents::values::count_of;
 
 // Whether a transform of those that the octets start with has Key Length twice.
 fn key_length_twice(t: &[u8]) -> bool
@@ -35,7 +36,7 @@ fn sa_is_barred(protocol: usize, o: &[u8]) -> bool
     }
     let a = p.attributes;
     let place = attributes::tables::in_policy(protocol);
-    if 1 < contents::values::count_of(Meaning::InitialMessageId, place, &o[a..]) {
+    if 1 < count_of(Meaning::InitialMessageId, place, &o[a..]) {
         return true;
     }
     if protocol == 6 {
@@ -59,13 +60,8 @@ pub fn has_barred(g: &[u8]) -> bool
         let b = at + p.body;
         let e = at + p.end;
         if p.first == 0 {
-            if 1
-                < contents::values::count_of(
-                    Meaning::DeactivationDelay,
-                    Place::GroupWidePolicy,
-                    &g[b..e],
-                )
-            {
+            let n = count_of(Meaning::DeactivationDelay, Place::GroupWidePolicy, &g[b..e]);
+            if 1 < n {
                 return true;
             }
         } else {

@@ -1,1 +1,4 @@
 pub mod FiveLaws
+pub mod OrderLaws
+pub mod BodiesLaws
+pub mod HeadLaws

@@ -1,7 +1,7 @@
 -- What an SA that a policy announces is: as a table's SAs must be, with the policy's name, blank in its unused places, live.
 use native.Mathlib.Omega.{arith}
 use Prim.Native.Nat.{ℕ, suc, _+_, _-_}
-use mathlib.Core.Path.{_≡_, refl, ap, sym, _∙_, subst}
+use mathlib.Core.Path.{_≡_, refl, ap, sym, _∙_}
 use mathlib.Core.Bool.{true, false, cond, _&&_, _||_}
 use mathlib.Core.List.{List, [], _∷_, List·Memᴰ, List·Memᴰ·head, List·Memᴰ·tail}
 use borrow.Author.Tests.{ne-eqb, eqb-true}
@@ -11,7 +11,7 @@ use lib.Seq.{take-at}
 use Rattle.octets.specs.Compare.{same}
 use Rattle.keys.specs.Lists.{any, count}
 use Rattle.keys.specs.Algorithms.{sizeOf}
-use Rattle.keys.specs.Kinds.{espOf, rekeyOf, rekeySizes}
+use Rattle.keys.specs.Kinds.{rekeySizes}
 use Rattle.attributes.specs.Tree.{WrapKey}
 use Rattle.policies.specs.Policy.{GroupSaPolicy}
 use Rattle.frames.specs.Frame.{Frame}
@@ -32,43 +32,33 @@ pub data Kind (a : GroupSaPolicy) : Type 0 where
   a-rekey : isEsp a ≡ false → isRekey a ≡ true → length (a .spi) ≡ 16 → rekeySizes (encryptionOctets a) (keyWrapOctets a) ≡ true → Kind a
 
 module _ (a : GroupSaPolicy) (x : List ℕ) where
-  from-esp : isEsp a ≡ true → saFrom a x ≡ espSa (a .spi) (espOf x)
-  unfolding saFrom
-  from-esp e = rw e
-
-  from-rekey : isEsp a ≡ false → saFrom a x ≡ rekeySa (a .spi) (rekeyOf x (encryptionOctets a) (keyWrapOctets a))
-  unfolding saFrom
-  from-rekey e = rw e
-
   pub made-protocol : Kind a → saFrom a x .protocol ≡ a .protocol
-  unfolding espSa rekeySa
-  made-protocol (an-esp e l s k) = ap (λ (s : Sa). s .protocol) (from-esp e) ∙ sym (eqb-true (a .protocol) 3 e)
-  made-protocol (a-rekey e r l s) = ap (λ (s : Sa). s .protocol) (from-rekey e) ∙ sym (eqb-true (a .protocol) 6 r)
+  unfolding saFrom espSa rekeySa
+  made-protocol (an-esp e l s k) = rw e (sym (eqb-true (a .protocol) 3 e))
+  made-protocol (a-rekey e r l s) = rw e (sym (eqb-true (a .protocol) 6 r))
 
   pub made-spi : Kind a → spiOf (saFrom a x) ≡ a .spi
-  unfolding espSa rekeySa
-  made-spi (an-esp e l s k) = ap spiOf (from-esp e) ∙ take-at (a .spi) (replicate (16 - length (a .spi)) 0) 4 l
-  made-spi (a-rekey e r l s) = ap spiOf (from-rekey e) ∙ take-at (a .spi) (replicate (16 - length (a .spi)) 0) 16 l
+  unfolding saFrom espSa rekeySa
+  made-spi (an-esp e l s k) = rw e (take-at (a .spi) (replicate (16 - length (a .spi)) 0) 4 l)
+  made-spi (a-rekey e r l s) = rw e (take-at (a .spi) (replicate (16 - length (a .spi)) 0) 16 l)
 
   pub made-live : Kind a → liveRekey (saFrom a x) ≡ isRekey a
-  unfolding espSa rekeySa liveRekey
+  unfolding saFrom espSa rekeySa liveRekey
   made-live (an-esp e l s k) =
-      ap liveRekey (from-esp e) ∙ sym (ne-eqb (a .protocol) 6 (λ p. let q = eqb-true (a .protocol) 3 e in omega arith))
-  made-live (a-rekey e r l s) = ap liveRekey (from-rekey e) ∙ sym r
+      rw e (sym (ne-eqb (a .protocol) 6 (λ p. let q = eqb-true (a .protocol) 3 e in omega arith)))
+  made-live (a-rekey e r l s) = rw e (sym r)
 
   module _ (n : length x ≡ needOf a) where
     pub made-formed : Kind a → formed (saFrom a x) ≡ true
-    unfolding needOf
+    unfolding needOf saFrom
     made-formed (an-esp e l s k) =
-        let z : length x ≡ encryptionOctets a = omega arith in
-        ap formed (from-esp e) ∙ esp-formed (a .spi) x (ap (sizeOf 1) z ∙ s)
-    made-formed (a-rekey e r l s) = ap formed (from-rekey e) ∙ rekey-formed (a .spi) x (encryptionOctets a) (keyWrapOctets a) s
+        let z : length x ≡ encryptionOctets a = omega arith in rw e (esp-formed (a .spi) x (ap (sizeOf 1) z ∙ s))
+    made-formed (a-rekey e r l s) = rw e (rekey-formed (a .spi) x (encryptionOctets a) (keyWrapOctets a) s)
 
     pub made-blank : Kind a → Blank (saFrom a x)
-    unfolding needOf
-    made-blank (an-esp e l s k) = subst Blank (sym (from-esp e)) (esp-blank (a .spi) x l)
-    made-blank (a-rekey e r l s) =
-        subst Blank (sym (from-rekey e)) (rekey-blank (a .spi) x (encryptionOctets a) (keyWrapOctets a) l n)
+    unfolding needOf saFrom
+    made-blank (an-esp e l s k) = rw e (esp-blank (a .spi) x l)
+    made-blank (a-rekey e r l s) = rw e (rekey-blank (a .spi) x (encryptionOctets a) (keyWrapOctets a) l n)
 
 -- ---- the SAs that policies announce
 pub data Made : List GroupSaPolicy → List Sa → Type 0 where

@@ -178,3 +178,13 @@ module _ (limits : Limits) where
       Throughout limits (LiveRekey x) r
   quiet-live x (ends s) q l = l
   quiet-live x (goes s {m} {e} {x = y} t r) q l = (l, quiet-live x r (q .1) (takes-live x s y m t (q .0) l))
+
+  -- so it is after a GSA_REKEY that announced none: the law's condition, by the steps alone
+  pub stays-live : (s₀ s₁ : State) (now : ℕ) (lent octets : List ℕ) (f : Frame) → frame octets ≡ whole f [] → f .header .exchange ≡ 41 →
+      Outcome limits s₀ now lent octets 0 s₁ → newRekey f ≡ false → (s₂ : State) (l : List Step) (r : Run limits s₁ l s₂) →
+      AllQuiet limits r → Throughout limits (LiveRekey (f .header .spi)) r
+  stays-live s₀ s₁ now lent octets f e x o n s₂ l r q =
+      let w = taken limits s₀ now lent octets f s₁ e o in
+      let c = w .is-clear in
+      let z = f .header .spi in
+      quiet-live z r q (accepted-live limits s₀ now lent f c s₁ (w .after) z (came-over s₀ now lent f c (is-rekey f x)) n)

@@ -18,16 +18,15 @@ use Rattle.attributes.specs.Place.{inPolicy}
 use Rattle.attributes.specs.Tree.{initialMessageIds, deactivationDelays}
 use Rattle.attributes.specs.Layout.{attributes}
 use Rattle.attributes.specs.Grammar.{Attributes}
-use Rattle.attributes.specs.declared.tables.Place.{Place}
 use Rattle.attributes.specs.declared.tables.Place.the-variants as place
 use Rattle.attributes.proofs.GrammarLaws.{are-read, read-are}
+use Rattle.attributes.proofs.SplitGrammar.{joined, Each, Split, together, splits, one-way}
 use Rattle.policies.specs.Transform.{transforms}
 use Rattle.policies.specs.Policy.{spiSize, firstKnown, spiSized, headSize, headFits, spiOf, GroupWidePolicy, Policy}
 use Rattle.policies.specs.Policy.{groupSa, groupWide}
 use Rattle.policies.specs.Policy.{suite, SaBody, saBody, groupSaOf, groupWideOf, policyHolds, policy, policies}
 use Rattle.policies.specs.Grammar.{IsSaBody, IsPolicy, is-sa, is-wide, Policies}
 use Rattle.policies.proofs.HeadLaws.{head-is}
-use Rattle.policies.proofs.SelectorGrammar.{sound as selector-sound, complete as selector-complete}
 use Rattle.policies.proofs.PolicyLaws.{takes}
 use Rattle.policies.proofs.BodyGrammar.{body-to, body-from}
 
@@ -252,3 +251,14 @@ policies-read f b = row-read policy takes IsPolicy sound complete f b
 
 pub read-policies : (b : ℕ) (s : List ℕ) (l : List Policy) (rest : List ℕ) → policies b s ≡ whole l rest → Policies s l
 read-policies b s l rest q = read-row policy takes IsPolicy sound complete b s l rest q
+
+-- whole policies one after the other are read to the list of what each is read to; whole octets split into policies in one way
+pub policies-together : {os : List (List ℕ)} {l : List Policy} → Each policy os l → (b : ℕ) → policies b (joined os) ≡ whole l []
+policies-together f b = together policy takes IsPolicy sound complete f b
+
+pub policies-split : (b : ℕ) (s : List ℕ) (l : List Policy) (rest : List ℕ) → policies b s ≡ whole l rest → Split policy s l
+policies-split b s l rest q = splits policy takes IsPolicy sound complete b s l rest q
+
+pub policies-one-way : {os os′ : List (List ℕ)} {l l′ : List Policy} → Each policy os l → Each policy os′ l′ → joined os ≡ joined os′
+    → (os ≡ os′) × (l ≡ l′)
+policies-one-way f g e = one-way policy takes IsPolicy sound complete f g e

@@ -12,7 +12,8 @@ bodies-of-requires c κs = search needs
 
 -- the bodies of the frame that is known to be there
 own : (c : tie.After-bodies-of)
-    → IsBodies (now (c .before .before .args .s)) (reads-to (now (c .before .before .args .s)) (c .before .before .pre) .0) (c .bodies-of .result)
+    → let s = now (c .before .before .args .s) in
+    IsBodies s (reads-to s (c .before .before .pre) .0) (c .bodies-of .result)
 own c =
     let f = reads-to (now (c .before .before .args .s)) (c .before .before .pre) in
     c .bodies-of .ensures (f .0) (f .1)
@@ -24,8 +25,9 @@ returns : tie.Need-returns
 returns c =
     let d = c .before .before in
     let a = d .before .before .args in
-    λ f q e. payloads-apply (now (a .s)) f (d .bodies-of .result) (d .bodies-of .ensures f q) (a .row) e (c .before .payload-clauses .result)
-    (c .before .payload-clauses .ensures) (c .if1 .taken)
+    let p = c .before .payload-clauses in
+    λ f q e. payloads-apply (now (a .s)) f (d .bodies-of .result) (d .bodies-of .ensures f q) (a .row) e (p .result) (p .ensures)
+    (c .if1 .taken)
 
 sub-bag-clauses : tie.Need-sub-bag-clauses
 sub-bag-clauses c = own (c .before .before) .kdOrder
@@ -40,7 +42,8 @@ bag-clauses-requires : tie.Need-bag-clauses-requires
 bag-clauses-requires c κs =
     let d = c .before .before .before in
     let p = c .before .before .payload-clauses in
-    own d .bags (one-kd-at-most (d .before .before .args .row .delete) (d .bodies-of .result) (sym (p .ensures) ∙ c .before .if1 .left)) .held
+    let h = one-kd-at-most (d .before .before .args .row .delete) (d .bodies-of .result) (sym (p .ensures) ∙ c .before .if1 .left) in
+    own d .bags h .held
 
 returns-2 : tie.Need-returns-2
 returns-2 c =
@@ -72,9 +75,10 @@ returns-3 c =
     let p = c .before .before .before .before .before .before in
     let d = p .before in
     let a = d .before .before .args in
+    let k = c .before .before .before .bag-clauses in
     λ f q e. policies-decide (now (a .s)) f (d .bodies-of .result) (d .bodies-of .ensures f q) (a .row) e (p .payload-clauses .result)
-    (p .payload-clauses .ensures) (c .before .before .before .before .before .if1 .left) (c .before .before .before .bag-clauses .result)
-    (c .before .before .before .bag-clauses .ensures) (c .before .before .if2 .left) (c .policy-clauses .result) (c .policy-clauses .ensures)
+    (p .payload-clauses .ensures) (c .before .before .before .before .before .if1 .left) (k .result) (k .ensures)
+    (c .before .before .if2 .left) (c .policy-clauses .result) (c .policy-clauses .ensures)
 
 pub number-4-spec : {M : Type 1} → statement M
 number-4-spec =

@@ -12,7 +12,8 @@ count-of-sort-requires c κs = search needs
 returns : tie.Need-returns
 returns c =
     let a = c .before .before .before .args in
-    several-rekeys (a .gsas) (policiesIn (now (a .g))) (c .before .count-of-sort .result) (c .before .count-of-sort .ensures) (c .if1 .taken)
+    let n = c .before .count-of-sort in
+    several-rekeys (a .gsas) (policiesIn (now (a .g))) (n .result) (n .ensures) (c .if1 .taken)
 
 count-of-sort-requires-2 : tie.Need-count-of-sort-requires-2
 count-of-sort-requires-2 c κs = search needs
@@ -20,7 +21,8 @@ count-of-sort-requires-2 c κs = search needs
 returns-2 : tie.Need-returns-2
 returns-2 c =
     let a = c .before .before .before .before .before .args in
-    several-wide (a .gsas) (policiesIn (now (a .g))) (c .before .count-of-sort2 .result) (c .before .count-of-sort2 .ensures) (c .if2 .taken)
+    let n = c .before .count-of-sort2 in
+    several-wide (a .gsas) (policiesIn (now (a .g))) (n .result) (n .ensures) (c .if2 .taken)
 
 count-of-sort-requires-3 : tie.Need-count-of-sort-requires-3
 count-of-sort-requires-3 c κs = search needs
@@ -28,8 +30,8 @@ count-of-sort-requires-3 c κs = search needs
 returns-3 : tie.Need-returns-3
 returns-3 c =
     let a = c .before .before .before .before .before .before .before .before .args in
-    without-sa (a .gsas) (policiesIn (now (a .g))) (c .before .count-of-sort3 .result) (c .before .before .if3 .taken)
-    (c .before .count-of-sort3 .ensures) (c .if4 .taken)
+    let n = c .before .count-of-sort3 in
+    without-sa (a .gsas) (policiesIn (now (a .g))) (n .result) (c .before .before .if3 .taken) (n .ensures) (c .if4 .taken)
 
 has-barred-requires : tie.Need-has-barred-requires
 has-barred-requires c κs = search needs
@@ -39,10 +41,13 @@ returns-4 c =
     let d = c .before .before .before in
     let a = d .before .before .before .before .args in
     let l = policiesIn (now (a .g)) in
+    let n = d .before .before .count-of-sort in
+    let m = d .count-of-sort2 in
     let e =
-    ⊎-elim (λ w. with-sa (a .gsas) l (w .1 .result) (w .1 .ensures) (w .2 .left)) (λ w. no-gsa (a .gsas) l (w .left)) (c .before .if3 .came) in
-    by-themselves (a .gsas) l (d .before .before .count-of-sort .result) (d .count-of-sort2 .result) (d .before .before .count-of-sort .ensures)
-    (d .before .if1 .left) (d .count-of-sort2 .ensures) (c .before .before .if2 .left) e (c .has-barred .result) (c .has-barred .ensures)
+    ⊎-elim (λ w. with-sa (a .gsas) l (w .1 .result) (w .1 .ensures) (w .2 .left)) (λ w. no-gsa (a .gsas) l (w .left))
+    (c .before .if3 .came) in
+    by-themselves (a .gsas) l (n .result) (m .result) (n .ensures) (d .before .if1 .left) (m .ensures) (c .before .before .if2 .left) e
+    (c .has-barred .result) (c .has-barred .ensures)
 
 pub policy-clauses-spec : {M : Type 1} → statement M
 policy-clauses-spec =

@@ -45,7 +45,8 @@ one : (c : tie.After-policy-parts Inv-loop μ-loop)
     → PolicyAt (now (c .before .before .before .before .before .args .g)) (c .before .before .before .loop .at) (c .policy-parts .result)
 one c =
     let l = c .before .before .before .loop in
-    policy-at (now (c .before .before .before .before .before .args .g)) (l .at) (c .policy-parts .result) (l .inv .0) (c .policy-parts .ensures)
+    let g = now (c .before .before .before .before .before .args .g) in
+    policy-at g (l .at) (c .policy-parts .result) (l .inv .0) (c .policy-parts .ensures)
 
 is-of-requires : tie.Need-is-of-requires Inv-loop μ-loop
 is-of-requires c κs = search needs

@@ -1,10 +1,8 @@
-use mathlib.Core.Path.{_≡_, ap, sym, _∙_}
-use Prim.Native.Nat.{ℕ}
+use mathlib.Core.Path.{ap, sym, _∙_}
 use lib.Dec.{ltb}
 use Rattle.suites.specs.declared.counts.Suite.{Suite}
 use Rattle.clauses.specs.Number4.{twiceInTransform}
 use Rattle.clauses.proofs.Gather.{any-count}
-use borrow.Author.Needs.{needs}
 use Rattle.composition.proofs.places.key_length_twice.Statement.{statement}
 use Rattle.composition.proofs.places.key_length_twice.Tie as tie
 

@@ -1,7 +1,9 @@
 use denote.Ref.{now}
 use native.Mathlib.Omega.{arith}
-use mathlib.Core.Path.{refl}
+use mathlib.Core.Path.{_≡_, refl}
 use lib.ListN.{drop}
+use Rattle.keys.specs.Lists.{any}
+use Rattle.clauses.specs.Number4.{twiceInTransform}
 use Rattle.attributes.specs.Place.{inPolicy}
 use Rattle.policies.specs.Policy.{SaBody}
 use Rattle.policies.specs.Grammar.{IsSaBody}
@@ -24,7 +26,8 @@ parts c x i = c .sa-parts .ensures (inPolicy (c .before .before .args .protocol)
 
 -- those of the policy that is known to be there
 own : (c : tie.After-sa-parts)
-    → SaPartsAre (inPolicy (c .before .before .args .protocol)) (now (c .before .before .args .o)) (c .before .before .pre .0) (c .sa-parts .result)
+    → let a = c .before .before .args in
+    SaPartsAre (inPolicy (a .protocol)) (now (a .o)) (c .before .before .pre .0) (c .sa-parts .result)
 own c = parts c (c .before .before .pre .0) (c .before .before .pre .1)
 
 sub-key-length-twice : tie.Need-sub-key-length-twice
@@ -45,6 +48,17 @@ key-length-twice-requires c κs =
       transforms-are (b .args .protocol) (now (b .args .o)) (b .pre .0) (d .sa-parts .result) (own d),
     )
 
+-- what the walk over the transforms answers
+twice : (c : tie.After-key-length-twice) (x : SaBody)
+    → let a = c .before .before .before .before .args in
+    IsSaBody (inPolicy (a .protocol)) (now (a .o)) x → c .key-length-twice .result ≡ any twiceInTransform (x .suite .transforms)
+twice c x i =
+    let d = c .before .before in
+    let a = d .before .before .args in
+    let r = d .sa-parts .result in
+    c .key-length-twice .ensures (x .suite .transforms) (drop (r .attributes) (now (a .o)))
+    (transforms-are (a .protocol) (now (a .o)) x r (parts d x i))
+
 returns : tie.Need-returns
 returns c =
     let d = c .before .before .before in
@@ -53,9 +67,9 @@ returns c =
     let r = d .sa-parts .result in
     λ x i.
     let f = parts d x i in
-    let k = c .before .key-length-twice in
-    by-key-length (a .protocol) o x r f (inPolicy (a .protocol)) refl (k .result)
-    (k .ensures (x .suite .transforms) (drop (r .attributes) o) (transforms-are (a .protocol) o x r f)) (c .if1 .taken)
+    let k = c .before in
+    by-key-length (a .protocol) o x r f (inPolicy (a .protocol)) refl (k .key-length-twice .result) (twice k x i)
+    (c .if1 .taken)
 
 in-policy-requires : tie.Need-in-policy-requires
 in-policy-requires c κs = search needs
@@ -79,16 +93,16 @@ count-of-requires c κs =
 returns-2 : tie.Need-returns-2
 returns-2 c =
     let n = c .before in
-    let k = n .before .before .before .before .key-length-twice in
+    let k = n .before .before .before .before in
     let d = n .before .before .before .before .before .before in
     let a = d .before .before .args in
     let o = now (a .o) in
     let r = d .sa-parts .result in
+    let p = n .before .before .in-policy in
     λ x i.
     let f = parts d x i in
-    by-message-id (a .protocol) o x r f (n .before .before .in-policy .result) (n .before .before .in-policy .ensures) (k .result)
-    (k .ensures (x .suite .transforms) (drop (r .attributes) o) (transforms-are (a .protocol) o x r f)) (n .before .before .before .if1 .left)
-    (n .count-of .result) (n .count-of .ensures) (c .if2 .taken)
+    by-message-id (a .protocol) o x r f (p .result) (p .ensures) (k .key-length-twice .result) (twice k x i)
+    (n .before .before .before .if1 .left) (n .count-of .result) (n .count-of .ensures) (c .if2 .taken)
 
 sub-is-group-address : tie.Need-sub-is-group-address
 sub-is-group-address c = own (c .before .before .before .before .before .before .before .before) .order
@@ -109,46 +123,48 @@ is-group-address-requires c κs =
 returns-3 : tie.Need-returns-3
 returns-3 c =
     let n = c .before .before .before .before .before in
-    let k = n .before .before .before .before .key-length-twice in
+    let k = n .before .before .before .before in
     let d = n .before .before .before .before .before .before in
     let a = d .before .before .args in
     let o = now (a .o) in
     let r = d .sa-parts .result in
+    let p = n .before .before .in-policy in
     λ x i.
     let f = parts d x i in
-    one-address (a .protocol) o x r f (n .before .before .in-policy .result) (n .before .before .in-policy .ensures) (k .result)
-    (k .ensures (x .suite .transforms) (drop (r .attributes) o) (transforms-are (a .protocol) o x r f)) (n .before .before .before .if1 .left)
-    (n .count-of .result) (n .count-of .ensures) (c .before .before .before .before .if2 .left) (c .before .before .before .if3 .taken)
+    one-address (a .protocol) o x r f (p .result) (p .ensures) (k .key-length-twice .result) (twice k x i)
+    (n .before .before .before .if1 .left) (n .count-of .result) (n .count-of .ensures)
+    (c .before .before .before .before .if2 .left) (c .before .before .before .if3 .taken)
     (c .before .is-group-address .result) (c .before .is-group-address .ensures (x .destination) (f .destination)) (c .if4 .taken)
 
 returns-4 : tie.Need-returns-4
 returns-4 c =
     let n = c .before .before .before .before .before in
-    let k = n .before .before .before .before .key-length-twice in
+    let k = n .before .before .before .before in
     let d = n .before .before .before .before .before .before in
     let a = d .before .before .args in
     let o = now (a .o) in
     let r = d .sa-parts .result in
+    let p = n .before .before .in-policy in
     λ x i.
     let f = parts d x i in
-    other-address (a .protocol) o x r f (n .before .before .in-policy .result) (n .before .before .in-policy .ensures) (k .result)
-    (k .ensures (x .suite .transforms) (drop (r .attributes) o) (transforms-are (a .protocol) o x r f)) (n .before .before .before .if1 .left)
-    (n .count-of .result) (n .count-of .ensures) (c .before .before .before .before .if2 .left) (c .before .before .before .if3 .taken)
+    other-address (a .protocol) o x r f (p .result) (p .ensures) (k .key-length-twice .result) (twice k x i)
+    (n .before .before .before .if1 .left) (n .count-of .result) (n .count-of .ensures)
+    (c .before .before .before .before .if2 .left) (c .before .before .before .if3 .taken)
     (c .before .is-group-address .result) (c .before .is-group-address .ensures (x .destination) (f .destination)) (c .if4 .left)
 
 returns-5 : tie.Need-returns-5
 returns-5 c =
     let n = c .before .before in
-    let k = n .before .before .before .before .key-length-twice in
+    let k = n .before .before .before .before in
     let d = n .before .before .before .before .before .before in
     let a = d .before .before .args in
     let o = now (a .o) in
     let r = d .sa-parts .result in
+    let p = n .before .before .in-policy in
     λ x i.
     let f = parts d x i in
-    no-rekey (a .protocol) o x r f (n .before .before .in-policy .result) (n .before .before .in-policy .ensures) (k .result)
-    (k .ensures (x .suite .transforms) (drop (r .attributes) o) (transforms-are (a .protocol) o x r f)) (n .before .before .before .if1 .left)
-    (n .count-of .result) (n .count-of .ensures) (c .before .if2 .left) (c .if3 .left)
+    no-rekey (a .protocol) o x r f (p .result) (p .ensures) (k .key-length-twice .result) (twice k x i)
+    (n .before .before .before .if1 .left) (n .count-of .result) (n .count-of .ensures) (c .before .if2 .left) (c .if3 .left)
 
 pub sa-is-barred-spec : {M : Type 1} → statement M
 sa-is-barred-spec =

@@ -54,7 +54,8 @@ any-ah-bag-requires c κs = search needs
 returns-5 : tie.Need-returns-5
 returns-5 c =
     let x = c .before .before .before .before .before .before .before .before .before .before .before .args in
-    let el = sym (c .before .before .before .before .before .before .if1 .left) ∙ c .before .before .before .before .before .before .before .is-lent-unfit .ensures in
+    let p1 = c .before .before .before .before .before .before .before in
+    let el = sym (c .before .before .before .before .before .before .if1 .left) ∙ p1 .is-lent-unfit .ensures in
     let eo = sym (c .before .before .before .before .before .if2 .left) in
     let en = sym (c .before .before .before .before .if3 .left) in
     let ea = sym (c .before .before .if4 .left) ∙ c .before .before .before .any-ah .ensures in
@@ -68,7 +69,8 @@ any-other-transforms-requires c κs = search needs
 returns-6 : tie.Need-returns-6
 returns-6 c =
     let x = c .before .before .before .before .before .before .before .before .before .before .before .before .args in
-    let el = sym (c .before .before .before .before .before .before .before .if1 .left) ∙ c .before .before .before .before .before .before .before .before .is-lent-unfit .ensures in
+    let p2 = c .before .before .before .before .before .before .before .before in
+    let el = sym (c .before .before .before .before .before .before .before .if1 .left) ∙ p2 .is-lent-unfit .ensures in
     let eo = sym (c .before .before .before .before .before .before .if2 .left) in
     let en = sym (c .before .before .before .before .before .if3 .left) in
     let ea = sym (c .before .before .before .if4 .left) ∙ c .before .before .before .before .any-ah .ensures in

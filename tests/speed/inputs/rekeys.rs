@@ -1,0 +1,45 @@
+//! Rekeys in a burst: each brings 8 ESP SAs and a Rekey SA whose key comes in 32 copies, each under another key that the member holds.
+//!
+//! The table has room for 16 SAs, and SAs that a frame retires count until the next one. So no two such rekeys can follow each other:
+//! between them comes one that deletes the 8 ESP SAs, and without a delay these are due when the next rekey arrives.
+
+use crate::group::{announce, Group};
+use crate::Input;
+use builder::typical::delete;
+
+const ESP_SAS: u32 = 8;
+
+/// The counter wraps within the run.
+const FIRST_TICK: u32 = 0xffff_0000;
+
+pub fn rekeys(size: usize, count: u32) -> Input {
+    let mut group = Group::new(size);
+    let mut input = Input::new(&group.lent);
+    let mut tick = FIRST_TICK;
+    input.frame(tick, &group.registration(), "0 1 32");
+    for turn in 0..count {
+        tick = tick.wrapping_add(100);
+        let spis: Vec<u32> = (1..=ESP_SAS).map(|number| scattered(ESP_SAS * turn + number)).collect();
+        input.frame(tick, &rekey(&mut group, &spis), "0 10 32");
+        let spis: Vec<Vec<u8>> = spis.iter().map(|spi| spi.to_be_bytes().to_vec()).collect();
+        input.frame(tick, &group.rekey(vec![delete(&spis)]), "0 9 32");
+    }
+    input
+}
+
+/// The old Rekey SA retires; the new one is live from the next frame on.
+fn rekey(group: &mut Group, spis: &[u32]) -> builder::Frame {
+    let mut under = group.held.clone();
+    group.rng.shuffle(&mut under);
+    let (rekey_sa, spi, keying) = group.rekey_sa(&under);
+    let mut sas = vec![rekey_sa];
+    sas.extend(spis.iter().map(|spi| group.esp_sa(*spi)));
+    let frame = group.rekey(announce(sas));
+    group.enter(spi, &keying);
+    frame
+}
+
+/// A different SPI for each number, in no order; 0 for 0 alone.
+fn scattered(number: u32) -> u32 {
+    number.wrapping_mul(0x9e37_79b1)
+}
