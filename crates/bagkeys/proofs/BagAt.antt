@@ -37,6 +37,7 @@ pub record BagAt (k : List ℕ) (at : ℕ) (r : Parts) : Type 0 where
   pub some : 4 ≤ r .body
   pub order : r .body ≤ r .end
   pub inside : at + r .end ≤ length k
+  pub spi : part k (at + 4) (at + r .body) ≡ spiOf (drop at k)
   pub item : bagsIn (drop at k)
       ≡ bagWith (r .first) (spiOf (drop at k)) (attributesIn (placeOf (r .first)) (part k (at + r .body) (at + r .end)))
       ∷ bagsIn (drop (at + r .end) k)
@@ -54,6 +55,7 @@ bag-at k at r h b =
       some = c .head .some;
       order = c .head .order;
       inside = omega (arith, c .head .inside, length-drop at k);
+      spi = sym (part-within k at 4 (r .body)) ∙ ap (part (drop at k) 4) (c .head .body);
       item =
           c .item
           ∙ (λ i. bagWith (sym f i) (spiOf (drop at k)) (attributesIn (placeOf (r .first)) (q i)) ∷ bagsIn (d i));

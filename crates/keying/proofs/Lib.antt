@@ -1,2 +1,8 @@
 pub mod Making
 pub mod Further
+pub mod Told
+pub mod OwnBag
+pub mod OnePolicy
+pub mod PolicyAt
+pub mod Along
+pub mod Deciding

@@ -1,14 +1,11 @@
 // What is known of the keys of some SAs, and of one more.
 ghost use mathlib.Core.Path.{_≡_};
-ghost use mathlib.Core.Bool.{true};
 ghost use Prim.Native.Nat.{_+_, _≤_, _<_};
-ghost use lib.ListN.{length, take};
-ghost use Rattle.keys.specs.Algorithms.{sizeOf};
-ghost use Rattle.keys.specs.Kinds.{rekeySizes};
+ghost use lib.ListN.{take};
 ghost use Rattle.keys.specs.Limits.{limits};
 ghost use Rattle.policies.specs.Policy.{GroupSaPolicy};
 ghost use Rattle.outcome.specs.After.{saFrom};
-ghost use Rattle.keying.specs.inner.Policies.{IsEight, IsUnopened, IsSa, Named, IsOpened, OneMore};
+ghost use Rattle.keying.specs.inner.Policies.{IsEight, IsUnopened, IsSa, Sized, Named, IsOpened, OneMore};
 use copies::answer::Opened;
 use keys::kinds::EspKey;
 use keys::kinds::RekeyKey;
@@ -32,8 +29,7 @@ pub struct Keyed {
 // The SA that a policy with this protocol and SPI announces, whose keying octets are the first of these: as many as its transforms need,
 // and a Rekey SA's cut in two where they say.
 fn sa_from(protocol: usize, spi: &[u8], encryption: usize, wrapping: usize, octets: [u8; 68]) -> Sa
-    requires { ⌜ (protocol ≡ 3 → (length (now spi) ≡ 4) × (sizeOf 1 encryption ≡ true) × (wrapping ≡ 0)) ⌝ }
-    requires { ⌜ ((protocol ≡ 3 → ⊥) → (length (now spi) ≡ 16) × (rekeySizes encryption wrapping ≡ true)) ⌝ }
+    requires { ⌜ Sized protocol (now spi) encryption wrapping ⌝ }
     ensures { λ r. ⌜ ((a : GroupSaPolicy) → Named protocol (now (spi .entry)) encryption wrapping a →
         r ≡ saFrom a (take (encryption + wrapping) octets)) ⌝ }
 {
@@ -95,6 +91,30 @@ fn with_sa(all: Keyed, sa: Sa) -> Keyed
                 sas,
                 count: n + 1,
             }
+        }
+    }
+}
+
+// One more, whose policy has this name and these needs, by what its copies open to. Internal.
+pub fn joined(
+    all: Keyed,
+    one: Opened,
+    protocol: usize,
+    spi: &[u8],
+    encryption: usize,
+    wrapping: usize,
+) -> Keyed
+    requires { ⌜ all .count < limits .sas ⌝ }
+    requires { ⌜ Sized protocol (now spi) encryption wrapping ⌝ }
+    ensures { λ r. ⌜ OneMore (IsOpened protocol (now (spi .entry)) encryption wrapping one) all r × (r .count ≤ all .count + 1) ⌝ }
+{
+    let found = one.found;
+    match found {
+        copies::answer::Found::Eight => with_eight(all),
+        copies::answer::Found::Nothing => with_none(all),
+        copies::answer::Found::Key => {
+            let octets = one.octets;
+            with_sa(all, sa_from(protocol, spi, encryption, wrapping, octets))
         }
     }
 }

@@ -1,2 +1,164 @@
 // The keys of the SAs that a frame announces: number 8 of their copies, number 9, or the new SAs. Numbers 2 to 7 have been judged before.
 pub mod joining;
+
+use aes::InverseSchedule;
+use aes::expand_inverse;
+use contents::policy::policy_parts;
+use copies::answer::Opened;
+use joining::Found;
+use joining::Keyed;
+use joining::joined;
+use keys::kinds::WrappingKey;
+use keys::limits::SAS;
+use sa::entry::Sa;
+use state::held::Held;
+ghost use mathlib.Core.Path.{_≡_};
+ghost use mathlib.Core.Bool.{true};
+ghost use mathlib.Core.List.{List};
+ghost use Prim.Native.Nat.{ℕ, _+_, _≤_, _<_};
+ghost use lib.ListN.{length};
+ghost use Rattle.aes.specs.Schedule.{ExpandedInverse};
+ghost use Rattle.attributes.specs.Tree.{WrapKey};
+ghost use Rattle.policies.specs.Policy.{GroupSaPolicy, policies};
+ghost use Rattle.bags.specs.Bag.{bags};
+ghost use Rattle.frames.specs.Frame.{Frame};
+ghost use Rattle.contents.specs.inner.Values.{isWhole};
+ghost use Rattle.contents.specs.inner.Bags.{bagsIn};
+ghost use Rattle.keys.specs.Algorithms.{sizeOf};
+ghost use Rattle.keys.specs.Limits.{limits};
+ghost use Rattle.keys.specs.Lists.{count};
+ghost use Rattle.state.specs.Held.{heldFormed};
+ghost use Rattle.clauses.specs.Contents.{gather, groupBagOf, bagsOf};
+ghost use Rattle.clauses.specs.Number6.{bagNamed};
+ghost use Rattle.chains.specs.Chain.{Root};
+ghost use Rattle.copies.specs.Known.{Agrees};
+ghost use Rattle.copies.specs.Answer.{Answers};
+ghost use Rattle.outcome.specs.Roots.{needOf, announcedAs};
+ghost use Rattle.keying.specs.Keyed.{Ready, KeyedBy};
+ghost use Rattle.keying.specs.inner.Policies.{isEight, Opening, Announces, IsAnnounced, OneMore};
+
+// What the copies of the SA with this name open to, those of its bag.
+fn opened(
+    protocol: usize,
+    spi: &[u8],
+    need: usize,
+    k: &[u8],
+    schedule: InverseSchedule,
+    held: Held,
+) -> Opened
+    requires { ⌜ isWhole (bags 0 (now k)) ≡ true ⌝ }
+    requires { ⌜ count (bagNamed protocol (now spi)) (gather groupBagOf (bagsIn (now k))) ≡ 1 ⌝ }
+    requires { ⌜ need ≤ 68 ⌝ }
+    requires { ⌜ ExpandedInverse (schedule .octets) ⌝ }
+    requires { ⌜ heldFormed limits held ≡ true ⌝ }
+    ensures { λ r. ⌜ ((roots : List Root) (entries : List WrapKey) (size : ℕ) (f : Frame) (a : GroupSaPolicy) →
+        Opening (schedule .octets) held roots entries size → bagsOf f ≡ bagsIn (now (k .entry)) → a .protocol ≡ protocol →
+        a .spi ≡ now (spi .entry) → needOf a ≡ need → Answers roots entries size (announcedAs f a) r) ⌝ }
+{
+    let s = pairing::stretch::bag_stretch(k, protocol, spi);
+    let start = s.start;
+    let end = s.end;
+    copies::copies(
+        attributes::tables::in_bag(protocol),
+        &k[start..end],
+        need,
+        schedule,
+        held,
+    )
+}
+
+// One more, whose policy has this name and holds x after its SPI.
+fn with_policy(
+    all: Keyed,
+    protocol: usize,
+    spi: &[u8],
+    x: &[u8],
+    k: &[u8],
+    schedule: InverseSchedule,
+    held: Held,
+) -> Keyed
+    requires { ⌜ all .count < limits .sas ⌝ }
+    requires { ⌜ length (now x) < 65536 ⌝ }
+    requires { ⌜ isWhole (bags 0 (now k)) ≡ true ⌝ }
+    requires { ⌜ ExpandedInverse (schedule .octets) ⌝ }
+    requires { ⌜ heldFormed limits held ≡ true ⌝ }
+    requires { ⌜ ((f : Frame) × (a : GroupSaPolicy) × Announces (now k) protocol (now spi) (now x) f a) ⌝ }
+    ensures { λ r. ⌜
+        OneMore (IsAnnounced (now (k .entry)) protocol (now (spi .entry)) (now (x .entry)) (schedule .octets) held) all r
+        × (r .count ≤ all .count + 1)
+        ⌝ }
+{
+    let n = suites::needs(x);
+    let e = n.encryption;
+    let w = n.wrapping;
+    let one = opened(protocol, spi, e + w, k, schedule, held);
+    joined(all, one, protocol, spi, e, w)
+}
+
+// Whether number 8 was found.
+fn is_eight(found: Found) -> bool
+    ensures { λ r. ⌜ r ≡ isEight found ⌝ }
+{
+    match found {
+        Found::Eight => true,
+        Found::Nine => false,
+        Found::Keys => false,
+    }
+}
+
+// The same as `keyed`, with the schedule of key 0.
+fn walked(g: &[u8], k: &[u8], schedule: InverseSchedule, held: Held) -> Keyed
+    requires { ⌜ isWhole (policies 0 (now g)) ≡ true ⌝ }
+    requires { ⌜ isWhole (bags 0 (now k)) ≡ true ⌝ }
+    requires { ⌜ ExpandedInverse (schedule .octets) ⌝ }
+    requires { ⌜ heldFormed limits held ≡ true ⌝ }
+    requires { ⌜ ((f : Frame) × Ready f (now g) (now k)) ⌝ }
+    ensures { λ r. ⌜ ((roots : List Root) (entries : List WrapKey) (size : ℕ) (f : Frame) → Ready f (now (g .entry)) (now (k .entry)) →
+        Opening (schedule .octets) held roots entries size → KeyedBy roots entries size f r) ⌝ }
+{
+    let mut all = Keyed {
+        found: Found::Keys,
+        sas: [Sa::blank(); SAS],
+        count: 0,
+    };
+    let mut at: usize = 0;
+    while at < g.len() {
+        let p = policy_parts(&g[at..]);
+        let name = at + 4;
+        let body = at + p.body;
+        let end = at + p.end;
+        if p.first != 0 {
+            all = with_policy(
+                all,
+                p.first,
+                &g[name..body],
+                &g[body..end],
+                k,
+                schedule,
+                held,
+            );
+            let found = all.found;
+            if is_eight(found) {
+                return all;
+            }
+        }
+        at = end;
+    }
+    all
+}
+
+// What the copies of all SAs that a frame announces open to: `g` is its GSA body, `k` its KD body, `zero` key 0, and the other keys that a
+// KWK ID can name are held. Internal.
+pub fn keyed(g: &[u8], k: &[u8], zero: WrappingKey, held: Held) -> Keyed
+    requires { ⌜ isWhole (policies 0 (now g)) ≡ true ⌝ }
+    requires { ⌜ isWhole (bags 0 (now k)) ≡ true ⌝ }
+    requires { ⌜ sizeOf 13 (zero .count) ≡ true ⌝ }
+    requires { ⌜ heldFormed limits held ≡ true ⌝ }
+    requires { ⌜ ((f : Frame) × Ready f (now g) (now k)) ⌝ }
+    ensures { λ r. ⌜ ((roots : List Root) (entries : List WrapKey) (size : ℕ) (f : Frame) → Ready f (now (g .entry)) (now (k .entry)) →
+        Agrees roots entries size zero held → KeyedBy roots entries size f r) ⌝ }
+{
+    let octets = zero.octets;
+    let n = zero.count;
+    walked(g, k, expand_inverse(&octets[..n]), held)
+}

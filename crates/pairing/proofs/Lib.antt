@@ -8,3 +8,4 @@ pub mod InTable
 pub mod Twice
 pub mod Six
 pub mod Seven
+pub mod Seeking

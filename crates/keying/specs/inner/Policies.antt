@@ -1,12 +1,27 @@
 -- What is known of some policies of a frame, and of one more.
 use Prim.Native.Nat.{ℕ}
 use mathlib.Core.Path.{_≡_}
+use mathlib.Core.Bool.{Bool, true, false}
 use mathlib.Core.List.{List, [], _∷_, _++_}
+use lib.ListN.{length}
+use Rattle.keys.specs.Algorithms.{sizeOf}
+use Rattle.keys.specs.Kinds.{rekeySizes}
 use Rattle.attributes.specs.Tree.{WrapKey}
-use Rattle.policies.specs.Policy.{GroupSaPolicy}
+use Rattle.policies.specs.Policy.{spiSize, GroupSaPolicy, SaBody}
 use Rattle.frames.specs.Frame.{Frame}
 use Rattle.sa.specs.declared.entry.Sa.{Sa}
-use Rattle.clauses.specs.Fitness.{encryptionOctets, keyWrapOctets}
+use Rattle.aes.specs.Schedule.{ExpandsInverse}
+use Rattle.attributes.specs.declared.tables.Place.{Place}
+use Rattle.policies.specs.Grammar.{IsSaBody}
+use Rattle.contents.specs.inner.Bags.{bagsIn}
+use Rattle.keys.specs.Lists.{any}
+use Rattle.keys.specs.declared.kinds.WrappingKey.{WrappingKey}
+use Rattle.state.specs.declared.held.Held.{Held}
+use Rattle.copies.specs.Known.{valueOf, Agrees}
+use Rattle.clauses.specs.Contents.{rowOf, bagsOf}
+use Rattle.clauses.specs.Number4.{twiceInTransform}
+use Rattle.clauses.specs.Number6.{bagsNamed}
+use Rattle.clauses.specs.Fitness.{encryptionOctets, keyWrapOctets, transformsFit}
 use Rattle.chains.specs.Chain.{Root, CopyOpens}
 use Rattle.chains.specs.Refusals.{CopiesEight, KeyOf}
 use Rattle.copies.specs.Answer.{Answers}
@@ -14,7 +29,15 @@ use Rattle.copies.specs.declared.answer.Opened.{Opened}
 use Rattle.outcome.specs.Roots.{copiesOf, announcedAs}
 use Rattle.outcome.specs.After.{saFrom}
 use Rattle.keying.specs.Keyed.{KeysIn}
+use Rattle.keying.specs.declared.joining.Found.{Found}
+use Rattle.keying.specs.declared.joining.Found.the-variants as found
 use Rattle.keying.specs.declared.joining.Keyed.{Keyed}
+
+-- number 8 was found
+abbrev pub isEight : Found → Bool
+isEight found.Eight = true
+isEight found.Nine = false
+isEight found.Keys = false
 
 -- ---- of one policy, by its copies
 abbrev pub OfOne : Type 1
@@ -33,6 +56,11 @@ pub record IsSa (sa : Sa) (roots : List Root) (entries : List WrapKey) (size : �
   pub fit : CopiesEight roots entries size (announcedAs f a) → ⊥
   pub is : sa ≡ saFrom a x
 
+-- the octets that an SPI of this protocol has, and the two parts of its SA's keying octets
+pub record Sized (protocol : ℕ) (spi : List ℕ) (encryption wrapping : ℕ) : Type 0 where
+  pub esp : protocol ≡ 3 → (length spi ≡ 4) × (sizeOf 1 encryption ≡ true) × (wrapping ≡ 0)
+  pub rekey : (protocol ≡ 3 → ⊥) → (length spi ≡ 16) × (rekeySizes encryption wrapping ≡ true)
+
 -- a policy with this name whose transforms need so many octets
 pub record Named (protocol : ℕ) (spi : List ℕ) (encryption wrapping : ℕ) (a : GroupSaPolicy) : Type 0 where
   pub protocol-is : a .protocol ≡ protocol
@@ -45,6 +73,33 @@ pub record IsOpened (protocol : ℕ) (spi : List ℕ) (encryption wrapping : ℕ
     (size : ℕ) (f : Frame) (a : GroupSaPolicy) : Type 0 where
   pub name : Named protocol spi encryption wrapping a
   pub answers : Answers roots entries size (announcedAs f a) one
+
+-- ---- where a policy and its bag stand
+-- chains end on exactly key 0, of which this is the schedule, and the held keys
+pub record Opening (schedule : List ℕ) (held : Held) (roots : List Root) (entries : List WrapKey) (size : ℕ) : Type 0 where
+  pub zero : WrappingKey
+  pub expands : ExpandsInverse (valueOf zero) schedule
+  pub agrees : Agrees roots entries size zero held
+
+-- the policy a has this name and holds x after its SPI; it is as it must be after numbers 4 to 6, and its bag is one of those that k is
+pub record Announces (k : List ℕ) (protocol : ℕ) (spi x : List ℕ) (f : Frame) (a : GroupSaPolicy) : Type 0 where
+  pub protocol-is : a .protocol ≡ protocol
+  pub spi-is : a .spi ≡ spi
+  pub spi-size : length spi ≡ spiSize protocol
+  pub place : Place
+  pub body : SaBody
+  pub is : IsSaBody place x body
+  pub transforms : a .transforms ≡ body .suite .transforms
+  pub fits : transformsFit (rowOf f .authentication) a ≡ true
+  pub once : any twiceInTransform (a .transforms) ≡ false
+  pub bags : bagsOf f ≡ bagsIn k
+  pub paired : bagsNamed f (a .protocol) (a .spi) ≡ 1
+
+-- with this name in these octets, and its copies under these keys
+pub record IsAnnounced (k : List ℕ) (protocol : ℕ) (spi x : List ℕ) (schedule : List ℕ) (held : Held) (roots : List Root)
+    (entries : List WrapKey) (size : ℕ) (f : Frame) (a : GroupSaPolicy) : Type 0 where
+  pub opening : Opening schedule held roots entries size
+  pub stands : Announces k protocol spi x f a
 
 -- ---- r is known of some policies and one more, where `all` is known of the others
 abbrev pub OneMore : OfOne → Keyed → Keyed → Type 0

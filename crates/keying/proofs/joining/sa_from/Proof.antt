@@ -17,7 +17,7 @@ part-new-end : tie.Need-part-new-end
 part-new-end c =
     let s = c .before .before .before in
     let n : length (s .args .t5) ≡ 68 = search needs in
-    esp-inside (s .args .t5) n (s .args .encryption) (s .pre .0 (c .before .if1 .taken) .1)
+    esp-inside (s .args .t5) n (s .args .encryption) (s .pre .esp (c .before .if1 .taken) .1)
 
 new-requires : tie.Need-new-requires
 new-requires c κs = search needs
@@ -26,7 +26,7 @@ esp-requires : tie.Need-esp-requires
 esp-requires c κs =
     let s = c .before .before .before .before .before in
     let n : length (s .args .t5) ≡ 68 = search needs in
-    let p = s .pre .0 (c .before .before .before .if1 .taken) in
+    let p = s .pre .esp (c .before .before .before .if1 .taken) in
     (p .0, esp-small (s .args .t5) n (s .args .encryption) (p .1) (c .new .result) (c .new .ensures))
 
 returns : tie.Need-returns
@@ -34,14 +34,14 @@ returns c a h =
     let s = c .before .before .before .before .before .before in
     let n : length (s .args .t5) ≡ 68 = search needs in
     let t = c .before .before .before .before .if1 .taken in
-    let p = s .pre .0 t in
+    let p = s .pre .esp t in
     esp-from (s .args .t5) n (s .args .encryption) (p .1) (c .before .new .result) (c .before .new .ensures) a (s .args .protocol)
     (s .args .spi .now) (s .args .wrapping) (c .esp .result) (c .esp .ensures) t (p .2) h
 
 add-all : tie.Need-add-all
 add-all c =
     let s = c .before .before in
-    let b = rekey-le (s .args .encryption) (s .args .wrapping) (s .pre .1 (c .if1 .left) .1) in
+    let b = rekey-le (s .args .encryption) (s .args .wrapping) (s .pre .rekey (c .if1 .left) .1) in
     record { fits = omega arith }
 
 sub-new-2 : tie.Need-sub-new-2
@@ -54,7 +54,7 @@ part-new-end-2 : tie.Need-part-new-end-2
 part-new-end-2 c =
     let s = c .before .before .before in
     let n : length (s .args .t5) ≡ 68 = search needs in
-    rekey-inside (s .args .t5) n (s .args .encryption) (s .args .wrapping) (s .pre .1 (c .before .if1 .left) .1)
+    rekey-inside (s .args .t5) n (s .args .encryption) (s .args .wrapping) (s .pre .rekey (c .before .if1 .left) .1)
 
 new-requires-2 : tie.Need-new-requires-2
 new-requires-2 c κs = search needs
@@ -63,7 +63,7 @@ rekey-requires : tie.Need-rekey-requires
 rekey-requires c κs =
     let s = c .before .before .before .before .before in
     let n : length (s .args .t5) ≡ 68 = search needs in
-    let p = s .pre .1 (c .before .before .before .if1 .left) in
+    let p = s .pre .rekey (c .before .before .before .if1 .left) in
     (p .0, rekey-small (s .args .t5) n (s .args .encryption) (s .args .wrapping) (p .1) (c .new2 .result) (c .new2 .ensures))
 
 returns-2 : tie.Need-returns-2
@@ -71,7 +71,7 @@ returns-2 c a h =
     let s = c .before .before .before .before .before .before in
     let n : length (s .args .t5) ≡ 68 = search needs in
     let t = c .before .before .before .before .if1 .left in
-    let p = s .pre .1 t in
+    let p = s .pre .rekey t in
     rekey-from (s .args .t5) n (s .args .encryption) (s .args .wrapping) (p .1) (c .before .new2 .result) (c .before .new2 .ensures) a
     (s .args .protocol) (s .args .spi .now) (c .rekey .result) (c .rekey .ensures) t h
 

@@ -1,0 +1,42 @@
+-- What the copies of one SA open to, by what was found. Assumes nothing.
+use Prim.Native.Nat.{ℕ, _+_}
+use mathlib.Core.Path.{_≡_, _∙_, subst}
+use mathlib.Core.List.{List}
+use lib.ListN.{take}
+use Rattle.attributes.specs.Tree.{WrapKey}
+use Rattle.policies.specs.Policy.{GroupSaPolicy}
+use Rattle.frames.specs.Frame.{Frame}
+use Rattle.sa.specs.declared.entry.Sa.{Sa}
+use Rattle.chains.specs.Chain.{Root}
+use Rattle.chains.specs.Refusals.{KeyOf}
+use Rattle.copies.specs.Answer.{AnswersBy}
+use Rattle.copies.specs.declared.answer.Found.{Found}
+use Rattle.copies.specs.declared.answer.Found.the-variants.{Eight, Nothing, Key}
+use Rattle.copies.specs.declared.answer.Opened.{Opened}
+use Rattle.outcome.specs.Roots.{needOf, announcedAs}
+use Rattle.outcome.specs.After.{saFrom}
+use Rattle.keying.specs.inner.Policies.{IsEight, IsUnopened, IsSa, Named, IsOpened}
+
+module _ (p : ℕ) (x : List ℕ) (e w : ℕ) (one : Opened) (roots : List Root) (entries : List WrapKey) (size : ℕ) (f : Frame)
+    (a : GroupSaPolicy) (o : IsOpened p x e w one roots entries size f a) where
+  told : (g : Found) → one .found ≡ g → AnswersBy roots entries size (announcedAs f a) g (one .octets) (one .count)
+  told g h = subst (λ (g : Found). AnswersBy roots entries size (announcedAs f a) g (one .octets) (one .count)) h (o .answers)
+
+  pub of-eight : one .found ≡ Eight → IsEight roots entries size f a
+  of-eight h = told Eight h
+
+  pub of-none : one .found ≡ Nothing → IsUnopened roots entries size f a
+  of-none h = told Nothing h
+
+  pub of-key : one .found ≡ Key → (sa : Sa) → ((b : GroupSaPolicy) → Named p x e w b → sa ≡ saFrom b (take (e + w) (one .octets))) →
+      IsSa sa roots entries size f a
+  unfolding needOf
+  of-key h sa made =
+      let k = told Key h in
+      let n : one .count ≡ e + w = k .need ∙ (λ i. o .name .encryption-is i + o .name .wrapping-is i) in
+      record {
+        x = take (e + w) (one .octets);
+        key = subst (λ (m : ℕ). KeyOf roots entries size (announcedAs f a) (take m (one .octets))) n (k .key);
+        fit = k .fit;
+        is = made a (o .name);
+      }
