@@ -1,4 +1,8 @@
 // A frame that numbers 2 to 7 let pass: number 8, number 9, or the state after acceptance.
+pub mod registration;
+pub mod rekey;
+pub mod zero;
+
 use acceptance::next::next;
 use frames::exchanges::Exchange;
 use frames::exchanges::exchange_of;
@@ -34,7 +38,8 @@ pub fn row_of(s: &[u8]) -> Exchange
 }
 
 // The outcome of a frame with this GSA body, once its keys are opened: this is known of its SAs, and this is the held list afterwards.
-fn concluded(state: State, s: &[u8], g: &[u8], tick: u32, keyed: Keyed, held: Held) -> Next
+// Internal.
+pub fn concluded(state: State, s: &[u8], g: &[u8], tick: u32, keyed: Keyed, held: Held) -> Next
     requires { ⌜ isWhole (policies 0 (now g)) ≡ true ⌝ }
     requires { ⌜ ((f : Frame) × (lent : List ℕ) × Opened state tick lent (now s) (now g) keyed held f) ⌝ }
     ensures { λ r. ⌜ ((f : Frame) (lent : List ℕ) → Opened state tick lent (now (s .entry)) (now (g .entry)) keyed held f →

@@ -1,10 +1,15 @@
 -- A frame that numbers 2 to 7 let pass, and what its keys come to.
 use Prim.Native.Nat.{ℕ}
 use mathlib.Core.Path.{_≡_}
+use mathlib.Core.Bool.{Bool, true}
 use mathlib.Core.List.{List, []}
 use Rattle.octets.specs.Walk.{whole}
 use Rattle.keys.specs.Limits.{limits}
+use Rattle.keys.specs.Algorithms.{sizeOf}
+use Rattle.keys.specs.declared.kinds.WrappingKey.{WrappingKey}
 use Rattle.frames.specs.Frame.{Frame, frame}
+use Rattle.table.specs.Table.{defaultKey}
+use Rattle.table.specs.declared.Table.{Table}
 use Rattle.state.specs.declared.State.{State}
 use Rattle.state.specs.declared.held.Held.{Held}
 use Rattle.contents.specs.inner.Policies.{policiesIn}
@@ -22,8 +27,10 @@ pub record Passed (m : State) (now : ℕ) (lent s : List ℕ) (f : Frame) : Type
   pub whole-is : frame s ≡ whole f []
   pub clauses : refusal limits m now lent f ≡ 0
 
--- its policies and its bags are those of these bodies
-pub record Bodied (g k : List ℕ) (f : Frame) : Type 0 where
+-- its exchange sets the held list or leaves it, and its policies and its bags are those of these bodies
+pub record Bodied (holds : Bool) (m : State) (now : ℕ) (lent s g k : List ℕ) (f : Frame) : Type 0 where
+  pub passed : Passed m now lent s f
+  pub row : rowOf f .holds ≡ holds
   pub policies : policiesOf f ≡ policiesIn g
   pub bags : bagsOf f ≡ bagsIn k
 
@@ -36,3 +43,8 @@ pub record Opened (m : State) (now : ℕ) (lent s g : List ℕ) (keyed : Keyed) 
   pub held-is :
       HeldBy (rowOf f .holds) (HeldAre (rootsOf limits m now lent f) (entriesOf f) (wrappingSize limits m now lent f) limits held)
       (held ≡ m .held)
+
+-- the default key of the table's live Rekey SA, of a size that a wrapping key has
+pub record IsDefaultKey (t : Table) (r : WrappingKey) : Type 0 where
+  pub is : r ≡ defaultKey limits t .key
+  pub fits : sizeOf 13 (r .count) ≡ true
