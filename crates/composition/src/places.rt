@@ -1,28 +1,16 @@
 // What is barred in one policy by itself: an attribute twice in one place, a Rekey destination that is not one group address and port.
 ghost use mathlib.Core.Path.{_≡_};
 ghost use mathlib.Core.Bool.{true};
-ghost use mathlib.Core.List.{List};
-ghost use Prim.Native.Nat.{ℕ};
 ghost use Rattle.keys.specs.Lists.{any};
 ghost use Rattle.attributes.specs.Place.{inPolicy};
-ghost use Rattle.policies.specs.Transform.{Transform};
 ghost use Rattle.policies.specs.Policy.{SaBody, policies};
-ghost use Rattle.policies.specs.Grammar.{Transforms, IsSaBody};
+ghost use Rattle.policies.specs.Grammar.{IsSaBody};
 ghost use Rattle.contents.specs.inner.Values.{isWhole};
 ghost use Rattle.contents.specs.inner.Policies.{policiesIn};
-ghost use Rattle.clauses.specs.Number4.{twiceInTransform};
 ghost use Rattle.composition.specs.inner.Groups.{isBarred, saBarred};
 use attributes::tables::Meaning;
 use attributes::tables::Place;
 use contents::values::count_of;
-
-// Whether a transform of those that the octets start with has Key Length twice.
-fn key_length_twice(t: &[u8]) -> bool
-    requires { ⌜ ((l : List Transform) × (tail : List ℕ) × Transforms (now t) l tail) ⌝ }
-    ensures { λ r. ⌜ ((l : List Transform) (tail : List ℕ) → Transforms (now (t .entry)) l tail → r ≡ any twiceInTransform l) ⌝ }
-{
-    0 < suites::suite(t).doubled
-}
 
 // Whether a Group SA policy is barred by what it holds after its SPI.
 fn sa_is_barred(protocol: usize, o: &[u8]) -> bool
@@ -31,7 +19,8 @@ fn sa_is_barred(protocol: usize, o: &[u8]) -> bool
 {
     let p = contents::body::sa_parts(o);
     let t = p.transforms;
-    if key_length_twice(&o[t..]) {
+    let u = suites::suite(&o[t..]);
+    if 0 < u.doubled {
         return true;
     }
     let a = p.attributes;

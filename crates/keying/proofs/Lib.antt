@@ -6,3 +6,4 @@ pub mod OnePolicy
 pub mod PolicyAt
 pub mod Along
 pub mod Deciding
+pub mod Passing

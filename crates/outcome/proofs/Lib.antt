@@ -31,3 +31,4 @@ pub mod SamplesChains
 pub mod SamplesTaken
 pub mod SamplesEntries
 pub mod SamplesHold
+pub mod SamplesRead

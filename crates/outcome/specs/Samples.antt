@@ -57,7 +57,7 @@ pub record Rekeys (x : List ℕ) (i : ℕ) (octets : List ℕ) : Type 0 where
   pub few : length spis ≤ 32
   pub reads : frame octets ≡ whole (deleting x i spis) []
 
--- each is refused as number 3; each is taken, and what holds of the state after it
+-- each of them is refused as number 3; each is taken, with what holds of the state after it
 abbrev pub Refuses : State → List ℕ → ℕ → Type 0
 Refuses s x i = (now : ℕ) (lent octets : List ℕ) → Rekeys x i octets → Outcome limits s now lent octets 3 s
 
@@ -79,7 +79,8 @@ LaterRefused s x = (l : List Step) (e : State) (r : Run limits s l e) → Throug
     (lent octets : List ℕ) (g : Frame) → frame octets ≡ whole g [] → g .header .exchange ≡ 41 → g .header .spi ≡ x →
     Outcome limits e now lent octets 3 e
 
--- any rekey with that Message ID, and that there is one
+-- any rekey with that Message ID that is taken, and that one is. "With no new Rekey SA": otherwise the SA over which it came is not live
+-- after it
 pub record LastId : Type 0 where
   pub any-frame : (s next : State) (now : ℕ) (lent octets : List ℕ) (f : Frame) → frame octets ≡ whole f [] → f .header .exchange ≡ 41 →
       f .header .messageId ≡ 4294967295 → Outcome limits s now lent octets 0 next → LaterRefused next (f .header .spi)
@@ -141,25 +142,25 @@ pub record Wrapping (lent v : List ℕ) : Type 0 where
   pub size : length v ≡ length lent
 
 -- a registration of a new member with these entries, its SA_KEY wrapped under the lent key
-pub record Registers (r : Around) (now : ℕ) (lent x : List ℕ) (entries : List WrapKey) (octets : List ℕ) : Type 0 where
+pub record Registers (r : Around) (lent x : List ℕ) (entries : List WrapKey) (octets : List ℕ) : Type 0 where
   pub key : Key lent
   pub keying : Keying x
   pub reads : frame octets ≡ whole (registering r (wrapOf lent x) entries) []
 
 abbrev TwoSteps : Type 0
 TwoSteps = (r : Around) (now : ℕ) (lent x v₅ v₉ octets : List ℕ) → Wrapping lent v₅ → Wrapping lent v₉ →
-    Registers r now lent x (entry 5 9 (wrapOf v₉ v₅) ∷ entry 9 0 (wrapOf lent v₉) ∷ []) octets →
+    Registers r lent x (entry 5 9 (wrapOf v₉ v₅) ∷ entry 9 0 (wrapOf lent v₉) ∷ []) octets →
     Outcome limits (newState limits) now lent octets 0 (registered r x (heldWith 5 v₅ ∷ heldWith 9 v₉ ∷ []))
 
 -- whatever is wrapped
 abbrev Circle : Type 0
-Circle = (r : Around) (now : ℕ) (lent x w₅ w₉ octets : List ℕ) → Registers r now lent x (entry 5 9 w₅ ∷ entry 9 5 w₉ ∷ []) octets →
+Circle = (r : Around) (now : ℕ) (lent x w₅ w₉ octets : List ℕ) → Registers r lent x (entry 5 9 w₅ ∷ entry 9 5 w₉ ∷ []) octets →
     Outcome limits (newState limits) now lent octets 0 (registered r x [])
 
 abbrev TwoValues : Type 0
 TwoValues = (r : Around) (now : ℕ) (lent x v w v₉ octets : List ℕ) → Wrapping lent v → Wrapping lent w → Wrapping lent v₉ →
     (v ≡ w → ⊥) →
-    Registers r now lent x (entry 5 0 (wrapOf lent v) ∷ entry 5 9 (wrapOf v₉ w) ∷ entry 9 0 (wrapOf lent v₉) ∷ []) octets →
+    Registers r lent x (entry 5 0 (wrapOf lent v) ∷ entry 5 9 (wrapOf v₉ w) ∷ entry 9 0 (wrapOf lent v₉) ∷ []) octets →
     Outcome limits (newState limits) now lent octets 8 (newState limits)
 
 -- whatever entries there are

@@ -15,7 +15,7 @@ use Rattle.frames.proofs.DeleteGrammar.{delete-from}
 use Rattle.frames.proofs.FrameGrammar.{read-frame}
 use Rattle.contents.specs.inner.Payloads.{payloadsIn}
 use Rattle.contents.specs.declared.payload.PayloadParts.{PayloadParts}
-use Rattle.clauses.specs.Contents.{gather, deletesIn}
+use Rattle.clauses.specs.Contents.{gather, deletesIn, deletesOf}
 use Rattle.clauses.specs.Fitness.{esp}
 use Rattle.clauses.specs.Number5.{deleteOfOther, deleteOfNone}
 use Rattle.clauses.proofs.OneOf.{or-false}
@@ -95,41 +95,45 @@ module _ (k : ℕ) (s : List ℕ) (at : ℕ) (r : PayloadParts) (g : Step k s at
   pub fits-here : k ≡ 42 → deleteFits (part s (at + 4) (at + r .end)) ≡ true
   fits-here e = in-delete (g .one .content) (g .is) e .0
 
-  left : List Delete
-  left = deletesAmong (payloadsIn (r .next) (drop (at + r .end) s))
-
-  pub list-here : k ≡ 42 → deletesAmong (payloadsIn k (drop at s))
+  pub delete-here : k ≡ 42
+      → deletesAmong (payloadsIn k (drop at s))
       ≡ deleteOf (part s (at + 4) (at + r .end)) ∷ deletesAmong (payloadsIn (r .next) (drop (at + r .end) s))
-  unfolding left
-  list-here h = next-list ∙ ap (λ (x : List Delete). x ++ left) (in-delete (g .one .content) (g .is) h .1)
+  delete-here h =
+      next-list ∙ ap (λ (x : List Delete). x ++ deletesAmong (payloadsIn (r .next) (drop (at + r .end) s)))
+      (in-delete (g .one .content) (g .is) h .1)
 
-  pub list-later : (k ≡ 42 → ⊥) →
-      deletesAmong (payloadsIn k (drop at s)) ≡ deletesAmong (payloadsIn (r .next) (drop (at + r .end) s))
-  unfolding left
-  list-later h = next-list ∙ ap (λ (x : List Delete). x ++ left) (not-delete (g .one .content) (g .is) h)
+  pub delete-later : (k ≡ 42 → ⊥) → deletesAmong (payloadsIn k (drop at s)) ≡ deletesAmong (payloadsIn (r .next) (drop (at + r .end) s))
+  delete-later h =
+      next-list ∙ ap (λ (x : List Delete). x ++ deletesAmong (payloadsIn (r .next) (drop (at + r .end) s)))
+      (not-delete (g .one .content) (g .is) h)
 
   pub sums-here : (d e : Deletes) (all : List Delete) → k ≡ 42 → e ≡ withOne d (deleteOf (part s (at + 4) (at + r .end)))
       → Sums d (deletesAmong (payloadsIn k (drop at s))) all → Sums e (deletesAmong (payloadsIn (r .next) (drop (at + r .end) s))) all
-  unfolding left
   sums-here d e all h q u =
       let o = part s (at + 4) (at + r .end) in
+      let left = deletesAmong (payloadsIn (r .next) (drop (at + r .end) s)) in
       subst (λ (x : Deletes). Sums x left all) (sym q)
-      (sums-next d (deleteOf o) left all (subst (λ (x : List Delete). Sums d x all) (list-here h) u))
+      (sums-next d (deleteOf o) left all (subst (λ (x : List Delete). Sums d x all) (delete-here h) u))
 
   pub sums-later : (d : Deletes) (all : List Delete) → (k ≡ 42 → ⊥) → Sums d (deletesAmong (payloadsIn k (drop at s))) all
       → Sums d (deletesAmong (payloadsIn (r .next) (drop (at + r .end) s))) all
-  unfolding left
-  sums-later d all h u = subst (λ (x : List Delete). Sums d x all) (list-later h) u
+  sums-later d all h u = subst (λ (x : List Delete). Sums d x all) (delete-later h) u
+
+pub delete-none : (s : List ℕ) (k : ℕ) → k ≡ 0 → deletesAmong (payloadsIn k s) ≡ []
+unfolding gather
+delete-none s k e = ap deletesAmong (none-left s k e)
 
 pub sums-last : (s : List ℕ) (k : ℕ) (d : Deletes) (all : List Delete) → k ≡ 0 → Sums d (deletesAmong (payloadsIn k s)) all → Sums d [] all
-unfolding gather
-sums-last s k d all e u = subst (λ (l : List Payload). Sums d (deletesAmong l) all) (none-left s k e) u
+sums-last s k d all e u = subst (λ (l : List Delete). Sums d l all) (delete-none s k e) u
 
 -- THE FRAME'S
+pub among-frame : (s : List ℕ) (f : Frame) → frame s ≡ whole f [] → deletesAmong (payloadsOf s) ≡ deletesOf f
+among-frame s f q = ap deletesAmong (sym (are-payloads s f (read-frame s f [] q)))
+
 pub deletes-are : (s : List ℕ) (f : Frame) → frame s ≡ whole f [] → (d : Deletes) → Sums d [] (deletesAmong (payloadsOf s)) → IsDeletes f d
 unfolding deleteOfOther deleteOfNone
 deletes-are s f q d u =
-    let e : deletesAmong (payloadsOf s) ≡ deletesAmong (f .payloads) = ap deletesAmong (sym (are-payloads s f (read-frame s f [] q))) in
+    let e = among-frame s f q in
     let all = deletesAmong (payloadsOf s) in
     record {
       other = other-all d all u ∙ ap (any ofOther) e;

@@ -20,7 +20,7 @@ use Rattle.contents.specs.inner.Values.{isWhole, attributesIn}
 use Rattle.contents.specs.inner.Bodies.{TransformIs}
 use Rattle.contents.specs.declared.body.TransformParts.{TransformParts}
 use Rattle.contents.proofs.ValuesLaws.{is-whole}
-use Rattle.contents.proofs.BodiesLaws.{Left, at-last}
+use Rattle.contents.proofs.BodiesLaws.{AreLeft, none-left}
 use Rattle.view.specs.View.{shownTransform, shownAttributes, shownSuite, nth}
 use Rattle.view.specs.inner.Suites.{IsSuite}
 use Rattle.view.specs.declared.items.Item.{Item}
@@ -35,9 +35,10 @@ first-of : {go : Bool} {s : List ℕ} {l : List Transform} {tail : List ℕ} →
 first-of (none e) h m = let z : _≡_ {A = ℕ} 0 1 = cc in absurd (omega arith)
 first-of (more o s e i r) h m = refl
 
-none-of : {go : Bool} {s : List ℕ} {l : List Transform} {tail : List ℕ} → Spans noMore IsTransform go s l tail → go ≡ false → l ≡ []
-none-of (none e) h = refl
-none-of (more o s e i r) h = let z : _≡_ {A = ℕ} 0 1 = cc in absurd (omega arith)
+-- the transforms from a place on
+pub record Left (s : List ℕ) (at : ℕ) (go : Bool) (tail : List ℕ) : Type 0 where
+  pub list : List Transform
+  pub are : AreLeft s at go list tail
 
 -- after some transforms: those that are left, and what stands at the number that is left
 pub record Passed (p : Place) (e n : ℕ) (s : List ℕ) (x : Suite) (rest : List ℕ) (at k : ℕ) (go : Bool) : Type 0 where
@@ -71,7 +72,7 @@ module _ (p : Place) (e n : ℕ) (s : List ℕ) (x : Suite) (i : IsSuite p s x) 
     module _ (g : go ≡ false) where
       -- the octets that are left are the attributes
       tail-is : i .tail ≡ cut s at
-      tail-is = at-last (f .left .are) g ∙ sym (to-end s at)
+      tail-is = none-left (f .left .are) g .1 ∙ sym (to-end s at)
 
       held : (isWhole (attributes p 0 (cut s at)) ≡ true) × (attributesIn p (cut s at) ≡ x .attributes)
       held =
@@ -84,4 +85,4 @@ module _ (p : Place) (e n : ℕ) (s : List ℕ) (x : Suite) (i : IsSuite p s x) 
       pub last : (r : Item) (d : ℕ) → d ≡ e → r ≡ nth (shownAttributes p d (attributesIn p (cut s at))) k → r ≡ nth (shownSuite p e x) n
       last r d z q =
           q ∙ (λ j. nth (shownAttributes p (z j) (held .1 j)) k)
-          ∙ ap (λ (l : List Transform). At p e l (x .attributes) k) (sym (none-of (f .left .are) g)) ∙ sym (f .same)
+          ∙ ap (λ (l : List Transform). At p e l (x .attributes) k) (sym (none-left (f .left .are) g .0)) ∙ sym (f .same)

@@ -7,49 +7,43 @@ use builder::wrapping::wrap;
 use builder::{Attribute, Frame, Part, ESP};
 
 pub const TABLE: &[Hostile] = &[
-    new(9, "entries-closed", |group| {
-        let entries = (1..=TREE_KEYS).map(|id| closed(id, 0)).collect();
-        with_closed_copies(group, entries)
-    }),
-    new(9, "entries-in-a-chain", |group| {
-        let entries = chain(group, TREE_KEYS);
-        with_closed_copies(group, entries)
-    }),
+    new(9, "entries-closed", |_| with_closed_copies((1..=TREE_KEYS).map(|id| closed(id, 0)).collect())),
+    new(9, "entries-in-a-chain", |group| with_closed_copies(chain(group, TREE_KEYS))),
     new(9, "entries-half-in-a-chain", |group| {
         let closed = (100..116).map(|id| closed(id, 0)).collect();
         let entries = [closed, chain(group, 16)].concat();
-        with_closed_copies(group, entries)
+        with_closed_copies(entries)
     }),
     new(9, "entries-closed-after-a-chain", |group| {
         let last = group.held[15].0;
         let closed = (100..116).map(|id| closed(id, last)).collect();
         let entries = [closed, chain(group, 16)].concat();
-        with_closed_copies(group, entries)
+        with_closed_copies(entries)
     }),
     new(9, "entries-all-the-same", |group| {
         let entries = chain(group, 1);
-        with_closed_copies(group, vec![entries[0].clone(); 32])
+        with_closed_copies(vec![entries[0].clone(); 32])
     }),
     new(9, "entries-in-a-cycle", |group| {
         let (first, last) = (&group.held[0], &group.held[31]);
         let mut entries = chain(group, TREE_KEYS);
         entries[31] = Attribute::key(first.0, last.0, &wrap(&last.1, &first.1));
-        with_closed_copies(group, entries)
+        with_closed_copies(entries)
     }),
     new(8, "entries-of-256-octets", |group| {
         let entries = (1..=TREE_KEYS).map(|id| Attribute::key(id, 0, &wrap(&group.lent, &[7; 256]))).collect();
-        with_closed_copies(group, entries)
+        with_closed_copies(entries)
     }),
     new(8, "entries-last-of-256-octets", |group| {
         let closed = (1..TREE_KEYS).map(|id| closed(id, 0)).collect();
         let last = Attribute::key(99, 0, &wrap(&group.lent, &[7; 256]));
-        with_closed_copies(group, [closed, vec![last]].concat())
+        with_closed_copies([closed, vec![last]].concat())
     }),
     new(8, "entries-two-values", |group| {
         let (first, last) = (group.held[0].0, group.held[30].clone());
         let other = Attribute::key(first, last.0, &wrap(&last.1, &[7; KEY_SIZE]));
         let entries = [vec![other], chain(group, TREE_KEYS - 1)].concat();
-        with_closed_copies(group, entries)
+        with_closed_copies(entries)
     }),
     new(8, "entries-and-copies-open", |group| {
         let entries = chain(group, TREE_KEYS);
@@ -110,10 +104,10 @@ fn closed_esps() -> Vec<Sa> {
     (101..=108u32).map(|spi| (esp_policy(&spi.to_be_bytes(), 256), bag(ESP, &spi.to_be_bytes(), vec![closed(0, 0)]))).collect()
 }
 
-/// A registration of 8 ESP SAs and a Rekey SA with these entries; the Rekey SA's copy is under the last key of the tree.
-fn with_closed_copies(group: &Group, entries: Vec<Attribute>) -> Frame {
+/// A registration with these entries, of 8 ESP SAs and a Rekey SA whose keys do not open under the default key.
+fn with_closed_copies(entries: Vec<Attribute>) -> Frame {
     let mut sas = closed_esps();
-    sas.push(rekey_sa(vec![closed(0, group.held[31].0)]));
+    sas.push(rekey_sa(vec![closed(0, 0)]));
     with_entries(sas, entries)
 }
 

@@ -12,7 +12,7 @@ use Rattle.contents.specs.inner.Payloads.{payloadsIn}
 use Rattle.payloads.specs.inner.Bodies.{payloadsOf}
 use Rattle.payloads.proofs.FrameLaws.{long, starts-whole}
 use Rattle.payloads.proofs.StepLaws.{Step, reads-next, step}
-use Rattle.payloads.proofs.DeletedLaws.{deletesAmong, fits-here, list-here, list-later}
+use Rattle.payloads.proofs.DeletedLaws.{deletesAmong, fits-here, delete-here, delete-later}
 use Rattle.acceptance.proofs.FrameLaws.{Retires, retires-start, retires-here, retires-later, retires-all}
 use borrow.Author.Needs.{needs}
 use Rattle.acceptance.proofs.retiring.retired_by_frame.Statement.{statement}
@@ -101,7 +101,7 @@ loop-again c =
     let g = one (c .before .before .before .before) in (
       g .inside,
       g .rest,
-      retires-here _ _ _ (l .out) (c .retired-spis .result) _ _ _ _ (list-here (l .kind) s (l .at) r g (c .before .before .if1 .taken))
+      retires-here _ _ _ (l .out) (c .retired-spis .result) _ _ _ _ (delete-here (l .kind) s (l .at) r g (c .before .before .if1 .taken))
           (c .retired-spis .ensures) (l .inv .2),
     )
 
@@ -116,7 +116,7 @@ loop-again-2 c =
     let g = one (c .before .before) in (
       g .inside,
       g .rest,
-      retires-later _ _ _ (l .out) _ _ _ (list-later (l .kind) s (l .at) r g (c .if1 .left)) (l .inv .2),
+      retires-later _ _ _ (l .out) _ _ _ (delete-later (l .kind) s (l .at) r g (c .if1 .left)) (l .inv .2),
     )
 
 returns : tie.Need-returns Inv-loop μ-loop

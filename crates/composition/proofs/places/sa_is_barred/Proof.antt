@@ -1,14 +1,16 @@
 use denote.Ref.{now}
 use native.Mathlib.Omega.{arith}
-use mathlib.Core.Path.{_≡_, refl}
+use mathlib.Core.Path.{_≡_, refl, ap}
 use lib.ListN.{drop}
-use Rattle.keys.specs.Lists.{any}
+use Rattle.keys.specs.Lists.{count}
 use Rattle.clauses.specs.Number4.{twiceInTransform}
 use Rattle.attributes.specs.Place.{inPolicy}
 use Rattle.policies.specs.Policy.{SaBody}
 use Rattle.policies.specs.Grammar.{IsSaBody}
 use Rattle.contents.specs.inner.Bodies.{SaPartsAre}
-use Rattle.composition.proofs.PlaceLaws.{transforms-are, attributes-whole, by-key-length, by-message-id, no-rekey, one-address}
+use Rattle.suites.specs.declared.counts.Suite.{Suite}
+use Rattle.suites.proofs.PolicyLaws.{transforms-are}
+use Rattle.composition.proofs.PlaceLaws.{attributes-whole, by-key-length, by-message-id, no-rekey, one-address}
 use Rattle.composition.proofs.PlaceLaws.{other-address}
 use borrow.Author.Needs.{needs}
 use Rattle.composition.proofs.places.sa_is_barred.Statement.{statement}
@@ -30,62 +32,63 @@ own : (c : tie.After-sa-parts)
     SaPartsAre (inPolicy (a .protocol)) (now (a .o)) (c .before .before .pre .0) (c .sa-parts .result)
 own c = parts c (c .before .before .pre .0) (c .before .before .pre .1)
 
-sub-key-length-twice : tie.Need-sub-key-length-twice
-sub-key-length-twice c = let f = own c in omega (arith, f .then, f .inside)
+sub-suite : tie.Need-sub-suite
+sub-suite c = let f = own c in omega (arith, f .then, f .inside)
 
-part-key-length-twice-start : tie.Need-part-key-length-twice-start
-part-key-length-twice-start c = let f = own c in omega (arith, f .then, f .inside)
+part-suite-start : tie.Need-part-suite-start
+part-suite-start c = let f = own c in omega (arith, f .then, f .inside)
 
-part-key-length-twice-end : tie.Need-part-key-length-twice-end
-part-key-length-twice-end c = search needs
+part-suite-end : tie.Need-part-suite-end
+part-suite-end c = search needs
 
-key-length-twice-requires : tie.Need-key-length-twice-requires
-key-length-twice-requires c κs =
+suite-requires : tie.Need-suite-requires
+suite-requires c κs =
     let d = c .before in
     let b = d .before .before in (
       b .pre .0 .suite .transforms,
       drop (d .sa-parts .result .attributes) (now (b .args .o)),
-      transforms-are (b .args .protocol) (now (b .args .o)) (b .pre .0) (d .sa-parts .result) (own d),
+      transforms-are (inPolicy (b .args .protocol)) (now (b .args .o)) (b .pre .0) (d .sa-parts .result) (own d),
     )
 
 -- what the walk over the transforms answers
-twice : (c : tie.After-key-length-twice) (x : SaBody)
+twice : (c : tie.After-suite) (x : SaBody)
     → let a = c .before .before .before .before .args in
-    IsSaBody (inPolicy (a .protocol)) (now (a .o)) x → c .key-length-twice .result ≡ any twiceInTransform (x .suite .transforms)
+    IsSaBody (inPolicy (a .protocol)) (now (a .o)) x → c .suite .result .doubled ≡ count twiceInTransform (x .suite .transforms)
 twice c x i =
     let d = c .before .before in
     let a = d .before .before .args in
     let r = d .sa-parts .result in
-    c .key-length-twice .ensures (x .suite .transforms) (drop (r .attributes) (now (a .o)))
-    (transforms-are (a .protocol) (now (a .o)) x r (parts d x i))
+    ap (λ (s : Suite). s .doubled)
+    (c .suite .ensures (x .suite .transforms) (drop (r .attributes) (now (a .o)))
+    (transforms-are (inPolicy (a .protocol)) (now (a .o)) x r (parts d x i)))
 
 returns : tie.Need-returns
 returns c =
-    let d = c .before .before .before in
+    let d = c .before .before .before .before in
     let a = d .before .before .args in
     let o = now (a .o) in
     let r = d .sa-parts .result in
     λ x i.
     let f = parts d x i in
-    let k = c .before in
-    by-key-length (a .protocol) o x r f (inPolicy (a .protocol)) refl (k .key-length-twice .result) (twice k x i)
+    let k = c .before .before in
+    by-key-length (a .protocol) o x r f (inPolicy (a .protocol)) refl (k .suite .result .doubled) (twice k x i)
     (c .if1 .taken)
 
 in-policy-requires : tie.Need-in-policy-requires
 in-policy-requires c κs = search needs
 
 sub-count-of : tie.Need-sub-count-of
-sub-count-of c = own (c .before .before .before .before) .inside
+sub-count-of c = own (c .before .before .before .before .before) .inside
 
 part-count-of-start : tie.Need-part-count-of-start
-part-count-of-start c = own (c .before .before .before .before) .inside
+part-count-of-start c = own (c .before .before .before .before .before) .inside
 
 part-count-of-end : tie.Need-part-count-of-end
 part-count-of-end c = search needs
 
 count-of-requires : tie.Need-count-of-requires
 count-of-requires c κs =
-    let d = c .before .before .before .before .before in
+    let d = c .before .before .before .before .before .before in
     let b = d .before .before in
     attributes-whole (b .args .protocol) (now (b .args .o)) (b .pre .0) (d .sa-parts .result) (own d) (c .before .in-policy .result)
     (c .before .in-policy .ensures)
@@ -93,45 +96,45 @@ count-of-requires c κs =
 returns-2 : tie.Need-returns-2
 returns-2 c =
     let n = c .before in
-    let k = n .before .before .before .before in
-    let d = n .before .before .before .before .before .before in
+    let k = n .before .before .before .before .before in
+    let d = n .before .before .before .before .before .before .before in
     let a = d .before .before .args in
     let o = now (a .o) in
     let r = d .sa-parts .result in
     let p = n .before .before .in-policy in
     λ x i.
     let f = parts d x i in
-    by-message-id (a .protocol) o x r f (p .result) (p .ensures) (k .key-length-twice .result) (twice k x i)
+    by-message-id (a .protocol) o x r f (p .result) (p .ensures) (k .suite .result .doubled) (twice k x i)
     (n .before .before .before .if1 .left) (n .count-of .result) (n .count-of .ensures) (c .if2 .taken)
 
 sub-is-group-address : tie.Need-sub-is-group-address
-sub-is-group-address c = own (c .before .before .before .before .before .before .before .before) .order
+sub-is-group-address c = own (c .before .before .before .before .before .before .before .before .before) .order
 
 part-is-group-address-start : tie.Need-part-is-group-address-start
-part-is-group-address-start c = own (c .before .before .before .before .before .before .before .before) .order
+part-is-group-address-start c = own (c .before .before .before .before .before .before .before .before .before) .order
 
 part-is-group-address-end : tie.Need-part-is-group-address-end
 part-is-group-address-end c =
-    let f = own (c .before .before .before .before .before .before .before .before) in
+    let f = own (c .before .before .before .before .before .before .before .before .before) in
     omega (arith, f .then, f .inside)
 
 is-group-address-requires : tie.Need-is-group-address-requires
 is-group-address-requires c κs =
-    let d = c .before .before .before .before .before .before .before .before .before in
+    let d = c .before .before .before .before .before .before .before .before .before .before in
     (d .before .before .pre .0 .destination, own d .destination)
 
 returns-3 : tie.Need-returns-3
 returns-3 c =
     let n = c .before .before .before .before .before in
-    let k = n .before .before .before .before in
-    let d = n .before .before .before .before .before .before in
+    let k = n .before .before .before .before .before in
+    let d = n .before .before .before .before .before .before .before in
     let a = d .before .before .args in
     let o = now (a .o) in
     let r = d .sa-parts .result in
     let p = n .before .before .in-policy in
     λ x i.
     let f = parts d x i in
-    one-address (a .protocol) o x r f (p .result) (p .ensures) (k .key-length-twice .result) (twice k x i)
+    one-address (a .protocol) o x r f (p .result) (p .ensures) (k .suite .result .doubled) (twice k x i)
     (n .before .before .before .if1 .left) (n .count-of .result) (n .count-of .ensures)
     (c .before .before .before .before .if2 .left) (c .before .before .before .if3 .taken)
     (c .before .is-group-address .result) (c .before .is-group-address .ensures (x .destination) (f .destination)) (c .if4 .taken)
@@ -139,15 +142,15 @@ returns-3 c =
 returns-4 : tie.Need-returns-4
 returns-4 c =
     let n = c .before .before .before .before .before in
-    let k = n .before .before .before .before in
-    let d = n .before .before .before .before .before .before in
+    let k = n .before .before .before .before .before in
+    let d = n .before .before .before .before .before .before .before in
     let a = d .before .before .args in
     let o = now (a .o) in
     let r = d .sa-parts .result in
     let p = n .before .before .in-policy in
     λ x i.
     let f = parts d x i in
-    other-address (a .protocol) o x r f (p .result) (p .ensures) (k .key-length-twice .result) (twice k x i)
+    other-address (a .protocol) o x r f (p .result) (p .ensures) (k .suite .result .doubled) (twice k x i)
     (n .before .before .before .if1 .left) (n .count-of .result) (n .count-of .ensures)
     (c .before .before .before .before .if2 .left) (c .before .before .before .if3 .taken)
     (c .before .is-group-address .result) (c .before .is-group-address .ensures (x .destination) (f .destination)) (c .if4 .left)
@@ -155,15 +158,15 @@ returns-4 c =
 returns-5 : tie.Need-returns-5
 returns-5 c =
     let n = c .before .before in
-    let k = n .before .before .before .before in
-    let d = n .before .before .before .before .before .before in
+    let k = n .before .before .before .before .before in
+    let d = n .before .before .before .before .before .before .before in
     let a = d .before .before .args in
     let o = now (a .o) in
     let r = d .sa-parts .result in
     let p = n .before .before .in-policy in
     λ x i.
     let f = parts d x i in
-    no-rekey (a .protocol) o x r f (p .result) (p .ensures) (k .key-length-twice .result) (twice k x i)
+    no-rekey (a .protocol) o x r f (p .result) (p .ensures) (k .suite .result .doubled) (twice k x i)
     (n .before .before .before .if1 .left) (n .count-of .result) (n .count-of .ensures) (c .before .if2 .left) (c .if3 .left)
 
 pub sa-is-barred-spec : {M : Type 1} → statement M
@@ -171,10 +174,10 @@ sa-is-barred-spec =
     tie.close
     (tie.spec
     sa-parts-requires
-    sub-key-length-twice
-    part-key-length-twice-start
-    part-key-length-twice-end
-    key-length-twice-requires
+    sub-suite
+    part-suite-start
+    part-suite-end
+    suite-requires
     returns
     in-policy-requires
     sub-count-of

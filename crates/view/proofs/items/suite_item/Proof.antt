@@ -39,7 +39,7 @@ transform-item-requires c κs =
     let l = c .before .before .before .loop in
     let x = b .pre .1 in
     let f = l .inv .1 (x .0) (x .1) .left in
-    (f .list, x .1 .tail, next-are (now (b .args .s)) (l .at) (l .more) (x .1 .tail) f (c .before .before .loop-test .taken))
+    (f .list, x .1 .tail, next-are (now (b .args .s)) (l .at) (l .more) (f .list) (x .1 .tail) (f .are) (c .before .before .loop-test .taken))
 
 returns : tie.Need-returns Inv-loop μ-loop
 returns c =
@@ -50,7 +50,7 @@ returns c =
     λ x i.
     let f = l .inv .1 x i in
     this (a .place) (a .base + length s) (a .n) s x i (l .at) (l .left) (l .more) f g (c .transform-item .result)
-    (c .transform-item .ensures (f .left .list) (i .tail) (next-are s (l .at) (l .more) (i .tail) (f .left) g))
+    (c .transform-item .ensures (f .left .list) (i .tail) (next-are s (l .at) (l .more) (f .left .list) (i .tail) (f .left .are) g))
     (c .before .before .if1 .taken)
 
 sub-transform-parts : tie.Need-sub-transform-parts Inv-loop μ-loop
@@ -68,7 +68,7 @@ transform-parts-requires c κs =
     let l = c .before .before .before .loop in
     let x = b .pre .1 in
     let f = l .inv .1 (x .0) (x .1) .left in
-    (f .list, x .1 .tail, next-are (now (b .args .s)) (l .at) (l .more) (x .1 .tail) f (c .before .before .loop-test .taken))
+    (f .list, x .1 .tail, next-are (now (b .args .s)) (l .at) (l .more) (f .list) (x .1 .tail) (f .are) (c .before .before .loop-test .taken))
 
 sub-left : tie.Need-sub-left Inv-loop μ-loop
 sub-left c = search needs
@@ -85,8 +85,8 @@ inside c =
     let x = b .pre .1 in
     let s = now (b .args .s) in
     let f = l .inv .1 (x .0) (x .1) .left in
-    next-inside s (l .at) (l .more) (x .1 .tail) f g (c .before .transform-parts .result)
-    (c .before .transform-parts .ensures (f .list) (x .1 .tail) (next-are s (l .at) (l .more) (x .1 .tail) f g))
+    next-inside s (l .at) (l .more) (f .list) (x .1 .tail) (f .are) g (c .before .transform-parts .result)
+    (c .before .transform-parts .ensures (f .list) (x .1 .tail) (next-are s (l .at) (l .more) (f .list) (x .1 .tail) (f .are) g))
 
 add-at : tie.Need-add-at Inv-loop μ-loop
 add-at c = let i = inside c in record { fits = omega (arith, i .1) }
@@ -104,7 +104,7 @@ loop-again c =
       λ x i.
           let f = l .inv .1 x i in
           next (a .place) (a .base + length s) (a .n) s x i (l .at) (l .left) (l .more) f g (c .before .transform-parts .result)
-          (c .before .transform-parts .ensures (f .left .list) (i .tail) (next-are s (l .at) (l .more) (i .tail) (f .left) g))
+          (c .before .transform-parts .ensures (f .left .list) (i .tail) (next-are s (l .at) (l .more) (f .left .list) (i .tail) (f .left .are) g))
           (omega arith),
     )
 

@@ -1,0 +1,175 @@
+-- NO ROW OF THE SAMPLES IS EMPTY: there are octets that read as their frames, here for keys of 16 octets.
+use native.Mathlib.Omega.{arith}
+use Prim.Native.Nat.{ℕ, _+_, _*_}
+use mathlib.Core.Path.{_≡_, refl, ap, sym, _∙_}
+use mathlib.Core.Bool.{true}
+use mathlib.Core.List.{List, [], _∷_, _++_}
+use lib.ListN.{length, replicate}
+use Rattle.octets.specs.Numbers.{number, oct}
+use Rattle.octets.specs.Generate.{gen}
+use Rattle.octets.specs.Walk.{whole, chain, chainUpTo, many}
+use Rattle.octets.proofs.Generate.{gen-all}
+use Rattle.fips197.specs.Key.{Key}
+use Rattle.keywrap.specs.Wrap.{wrapOf, blocks}
+use Rattle.keywrap.proofs.Wrapping.{length-wrap}
+use Rattle.attributes.specs.Tree.{valuesOf}
+use Rattle.attributes.specs.Layout.{attribute}
+use Rattle.policies.specs.Selector.{Selector, selector}
+use Rattle.policies.specs.Transform.{transform}
+use Rattle.policies.specs.Policy.{suite, saBody, policy}
+use Rattle.bags.specs.Bag.{bag}
+use Rattle.frames.specs.Frame.{Frame, frame, body, payload}
+use Rattle.frames.specs.Delete.{stretches}
+use Rattle.outcome.specs.Samples.{deleting, Around, registering, entry, Keying, Wrapping, Rekeys}
+
+-- ---- a registration
+group : List ℕ
+group = 239 ∷ 1 ∷ 1 ∷ 1 ∷ []
+
+anywhere : Selector
+anywhere = record { kind = 7; protocol = 17; startPort = 848; endPort = 848; startAddress = group; endAddress = group }
+
+pub around : Around
+around = record {
+  auth = true;
+  spis = replicate 16 1;
+  messageId = 0;
+  spi = 1 ∷ 2 ∷ 3 ∷ 4 ∷ [];
+  source = anywhere;
+  destination = anywhere;
+}
+
+selectorOctets : List ℕ
+selectorOctets = 7 ∷ 17 ∷ 0 ∷ 16 ∷ 3 ∷ 80 ∷ 3 ∷ 80 ∷ 239 ∷ 1 ∷ 1 ∷ 1 ∷ 239 ∷ 1 ∷ 1 ∷ 1 ∷ []
+
+-- the GSA payload: the policy with its two selectors, Key Length 128 in the first transform
+gsaOctets : List ℕ
+gsaOctets =
+    (52 ∷ 0 ∷ 0 ∷ 64 ∷ 3 ∷ 4 ∷ 0 ∷ 60 ∷ 1 ∷ 2 ∷ 3 ∷ 4 ∷ []) ++ (selectorOctets ++ (selectorOctets ++
+    (3 ∷ 0 ∷ 0 ∷ 12 ∷ 1 ∷ 0 ∷ 0 ∷ 20 ∷ 128 ∷ 14 ∷ 0 ∷ 128 ∷ 0 ∷ 0 ∷ 0 ∷ 8 ∷ 5 ∷ 0 ∷ 0 ∷ 0 ∷ [])))
+
+-- the first n octets of w, one by one
+firsts : ℕ → List ℕ → List ℕ
+firsts n w = gen (oct w) 0 n
+
+-- WRAP_KEY with 24 wrapped octets
+entryOctets : ℕ → ℕ → List ℕ → List ℕ
+entryOctets i k w = (0 ∷ 1 ∷ 0 ∷ 32 ∷ 0 ∷ 0 ∷ 0 ∷ i ∷ 0 ∷ 0 ∷ 0 ∷ k ∷ []) ++ firsts 24 w
+
+-- a frame of h * 256 + n octets, its KD payload of d and its Member bag of m
+registrationOctets : ℕ → ℕ → ℕ → ℕ → List ℕ → List ℕ → List ℕ
+registrationOctets h n d m w entries =
+    replicate 16 1 ++ ((51 ∷ 32 ∷ 39 ∷ 0 ∷ 0 ∷ 0 ∷ 0 ∷ 0 ∷ 0 ∷ 0 ∷ h ∷ n ∷ []) ++ (gsaOctets ++
+    ((0 ∷ 0 ∷ 0 ∷ d ∷ 3 ∷ 4 ∷ 0 ∷ 52 ∷ 1 ∷ 2 ∷ 3 ∷ 4 ∷ 0 ∷ 1 ∷ 0 ∷ 40 ∷ 0 ∷ 0 ∷ 0 ∷ 0 ∷ 0 ∷ 0 ∷ 0 ∷ 0 ∷ []) ++
+    (firsts 32 w ++ ((0 ∷ 0 ∷ 0 ∷ m ∷ []) ++ entries)))))
+
+two-read : (w a b : List ℕ) → frame (registrationOctets 0 224 132 76 w (entryOctets 5 9 a ++ entryOctets 9 0 b))
+    ≡ whole (registering around (firsts 32 w) (entry 5 9 (firsts 24 a) ∷ entry 9 0 (firsts 24 b) ∷ [])) []
+unfolding frame payload body policy suite saBody selector transform bag attribute many chain chainUpTo number valuesOf group anywhere around
+    selectorOctets gsaOctets firsts entryOctets registrationOctets
+two-read w a b = refl
+
+around-read : (w a b : List ℕ) → frame (registrationOctets 0 224 132 76 w (entryOctets 5 9 a ++ entryOctets 9 5 b))
+    ≡ whole (registering around (firsts 32 w) (entry 5 9 (firsts 24 a) ∷ entry 9 5 (firsts 24 b) ∷ [])) []
+unfolding frame payload body policy suite saBody selector transform bag attribute many chain chainUpTo number valuesOf group anywhere around
+    selectorOctets gsaOctets firsts entryOctets registrationOctets
+around-read w a b = refl
+
+three-read : (w a b c : List ℕ) →
+    frame (registrationOctets 1 4 168 112 w (entryOctets 5 0 a ++ (entryOctets 5 9 b ++ entryOctets 9 0 c)))
+    ≡ whole (registering around (firsts 32 w) (entry 5 0 (firsts 24 a) ∷ entry 5 9 (firsts 24 b) ∷ entry 9 0 (firsts 24 c) ∷ [])) []
+unfolding frame payload body policy suite saBody selector transform bag attribute many chain chainUpTo number valuesOf group anywhere around
+    selectorOctets gsaOctets firsts entryOctets registrationOctets
+three-read w a b c = refl
+
+-- ---- keys of 16 octets wrap to 24, the 20 keying octets to 32
+all-firsts : (n : ℕ) (w : List ℕ) → length w ≡ n → firsts n w ≡ w
+unfolding firsts
+all-firsts n w e = ap (gen (oct w) 0) (sym e) ∙ gen-all w
+
+wrapped-32 : (key x : List ℕ) → Key key → Keying x → firsts 32 (wrapOf key x) ≡ wrapOf key x
+wrapped-32 key x k h =
+    let n = h .size in
+    all-firsts 32 (wrapOf key x)
+    (length-wrap key x k (h .octets) (omega arith) (omega arith) ∙ ap (λ (m : ℕ). 8 * (blocks m + 1)) n)
+
+wrapped-24 : (key v : List ℕ) → Key key → Key v → length v ≡ 16 → firsts 24 (wrapOf key v) ≡ wrapOf key v
+wrapped-24 key v k h n =
+    all-firsts 24 (wrapOf key v) (length-wrap key v k (h .small) (omega arith) (omega arith) ∙ ap (λ (m : ℕ). 8 * (blocks m + 1)) n)
+
+-- ---- each row has octets to speak of
+pub record Read (f : Frame) : Type 0 where
+  pub octets : List ℕ
+  pub reads : frame octets ≡ whole f []
+
+module _ (lent x v₉ : List ℕ) (key : Key lent) (size : length lent ≡ 16) (keying : Keying x) (w₉ : Wrapping lent v₉) where
+  x-is : firsts 32 (wrapOf lent x) ≡ wrapOf lent x
+  x-is = wrapped-32 lent x key keying
+
+  under : (k v : List ℕ) → Key k → Wrapping lent v → firsts 24 (wrapOf k v) ≡ wrapOf k v
+  under k v i h = wrapped-24 k v i (h .key) (h .size ∙ size)
+
+  pub two-steps-read : (v₅ : List ℕ) → Wrapping lent v₅ →
+      Read (registering around (wrapOf lent x) (entry 5 9 (wrapOf v₉ v₅) ∷ entry 9 0 (wrapOf lent v₉) ∷ []))
+  two-steps-read v₅ w₅ = record {
+    octets = registrationOctets 0 224 132 76 (wrapOf lent x) (entryOctets 5 9 (wrapOf v₉ v₅) ++ entryOctets 9 0 (wrapOf lent v₉));
+    reads =
+        two-read (wrapOf lent x) (wrapOf v₉ v₅) (wrapOf lent v₉)
+        ∙ (λ i. whole (registering around (x-is i) (entry 5 9 (under v₉ v₅ (w₉ .key) w₅ i) ∷ entry 9 0 (under lent v₉ key w₉ i) ∷ [])) []);
+  }
+
+  pub two-values-read : (v w : List ℕ) → Wrapping lent v → Wrapping lent w →
+      Read (registering around (wrapOf lent x)
+      (entry 5 0 (wrapOf lent v) ∷ entry 5 9 (wrapOf v₉ w) ∷ entry 9 0 (wrapOf lent v₉) ∷ []))
+  two-values-read v w kv kw = record {
+    octets = registrationOctets 1 4 168 112 (wrapOf lent x)
+        (entryOctets 5 0 (wrapOf lent v) ++ (entryOctets 5 9 (wrapOf v₉ w) ++ entryOctets 9 0 (wrapOf lent v₉)));
+    reads =
+        three-read (wrapOf lent x) (wrapOf lent v) (wrapOf v₉ w) (wrapOf lent v₉)
+        ∙ (λ i.
+        whole (registering around (x-is i)
+        (entry 5 0 (under lent v key kv i) ∷ entry 5 9 (under v₉ w (w₉ .key) kw i) ∷ entry 9 0 (under lent v₉ key w₉ i) ∷ [])) []);
+  }
+
+pub circle-read : (lent x a b : List ℕ) → Key lent → Keying x → length a ≡ 24 → length b ≡ 24 →
+    Read (registering around (wrapOf lent x) (entry 5 9 a ∷ entry 9 5 b ∷ []))
+circle-read lent x a b key keying na nb = record {
+  octets = registrationOctets 0 224 132 76 (wrapOf lent x) (entryOctets 5 9 a ++ entryOctets 9 5 b);
+  reads =
+      around-read (wrapOf lent x) a b
+      ∙ (λ i.
+      whole (registering around (wrapped-32 lent x key keying i)
+      (entry 5 9 (all-firsts 24 a na i) ∷ entry 9 5 (all-firsts 24 b nb i) ∷ [])) []);
+}
+
+-- rekeys with D alone over a Rekey SA's SPI x, with each Message ID of the samples
+deleteOctets : List ℕ → List ℕ → List ℕ
+deleteOctets x id =
+    gen (oct x) 0 16 ++ ((42 ∷ 32 ∷ 41 ∷ 0 ∷ []) ++ (id ++ (0 ∷ 0 ∷ 0 ∷ 40 ∷ 0 ∷ 0 ∷ 0 ∷ 12 ∷ 3 ∷ 4 ∷ 0 ∷ 1 ∷ 1 ∷ 2 ∷ 3 ∷ 4 ∷ [])))
+
+pub record Rekeyed (x : List ℕ) (i : ℕ) : Type 0 where
+  pub octets : List ℕ
+  pub is : Rekeys x i octets
+
+delete-read : (x : List ℕ) (i a b c d : ℕ) → length x ≡ 16 → number 4 (a ∷ b ∷ c ∷ d ∷ []) ≡ i → Rekeyed x i
+unfolding frame payload body chain chainUpTo number stretches deleteOctets
+delete-read x i a b c d n e =
+    let p : gen (oct x) 0 16 ≡ x = ap (gen (oct x) 0) (sym n) ∙ gen-all x in
+    record {
+      octets = deleteOctets x (a ∷ b ∷ c ∷ d ∷ []);
+      is = record {
+        spis = (1 ∷ 2 ∷ 3 ∷ 4 ∷ []) ∷ [];
+        some = omega arith;
+        few = omega arith;
+        reads = λ j. whole (deleting (p j) (e j) ((1 ∷ 2 ∷ 3 ∷ 4 ∷ []) ∷ [])) [];
+      };
+    }
+
+pub rekeys-read : (x : List ℕ) → length x ≡ 16 → Rekeyed x 6 × Rekeyed x 7 × Rekeyed x 9 × Rekeyed x 4294967295
+unfolding number
+rekeys-read x n = (
+  delete-read x 6 0 0 0 6 n refl,
+  delete-read x 7 0 0 0 7 n refl,
+  delete-read x 9 0 0 0 9 n refl,
+  delete-read x 4294967295 255 255 255 255 n refl,
+)
