@@ -94,10 +94,10 @@ module _ (s : List ℕ) (r : Layout) (e : r ≡ frameLayout s) where
 
 -- ---- the call's promise
 module _ (m : Member) (now : ℕ) (lent octets : List ℕ) where
-  pub receives-broken : (o : ℕ) → frame octets ≡ broken o → (a : Answer) (next : Member) → numberOf a ≡ 1 → next .state ≡ m .state →
+  pub receives-broken : (o : ℕ) → frame octets ≡ broken o → (a : Answer) (next : Member) → numberOf a ≡ 1 → next ≡ m →
       Receives m now lent octets a next
   receives-broken o e a next n g =
-      subst (λ (x : State). Outcome limits (m .state) now lent octets (numberOf a) x) (sym g)
+      subst (λ (x : Member). Outcome limits (m .state) now lent octets (numberOf a) (x .state)) (sym g)
       (subst (λ (x : ℕ). Outcome limits (m .state) now lent octets x (m .state)) (sym n) (no-layout o e))
 
   pub receives-tree : (f : Frame) → frame octets ≡ whole f [] → (a : Answer) (next : Member) →

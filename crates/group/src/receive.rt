@@ -77,6 +77,18 @@ fn answered(number: usize, state: State) -> Received
 }
 
 impl Member {
+    // A refusal: its number and the member as it was.
+    fn refused(self, number: usize) -> Received
+        requires { ⌜ number ≤ 9 ⌝ }
+        ensures { λ r. ⌜ (numberOf (r .answer) ≡ number) × (r .member ≡ self) ⌝ }
+    {
+        let answer = answer_of(number);
+        Received {
+            answer,
+            member: self,
+        }
+    }
+
     // A registration that numbers 2 to 7 let pass.
     fn registering(self, s: &[u8], lent: &[u8], tick: u32) -> Received
         requires { ⌜ ((f : Frame) × Passed (self .state) tick (now lent) (now s) f × (rowOf f .holds ≡ true)) ⌝ }
@@ -108,7 +120,7 @@ impl Member {
         let state = self.state;
         let number = judging::refusal(state, s, lent, tick);
         if number != 0 {
-            return answered(number, state);
+            return self.refused(number);
         }
         let row = row_of(s);
         if row.holds {
@@ -124,10 +136,7 @@ impl Member {
     {
         match frames::frame_layout(frame) {
             Layout::Whole => self.judged(frame, lent, tick),
-            Layout::Broken(_) => {
-                let state = self.state;
-                answered(1, state)
-            }
+            Layout::Broken(_) => self.refused(1),
         }
     }
 }

@@ -6,6 +6,7 @@ use Rattle.frames.specs.Frame.{Frame, frame}
 use Rattle.frames.specs.declared.exchanges.Exchange.{Exchange}
 use Rattle.contents.specs.inner.Values.{isWhole}
 use Rattle.receiving.specs.inner.Passing.{Passed}
+use Rattle.group.specs.declared.Member.{Member}
 use Rattle.group.proofs.ReceiveLaws.{judged-small, judged-clauses, judged-as}
 use Rattle.group.proofs.Member.judged.Statement.{statement}
 use Rattle.group.proofs.Member.judged.Tie as tie
@@ -13,8 +14,8 @@ use Rattle.group.proofs.Member.judged.Tie as tie
 refusal-requires : tie.Need-refusal-requires
 refusal-requires c κs = ap isWhole (c .before .before .before .pre .1)
 
-answered-requires : tie.Need-answered-requires
-answered-requires c κs =
+refused-requires : tie.Need-refused-requires
+refused-requires c κs =
     let b = c .before .before .before .before .before in
     let a = b .args in
     let p = b .pre in
@@ -25,10 +26,10 @@ answered-requires c κs =
 returns : tie.Need-returns
 returns c =
     let a = c .before .before .before .before .before .before .args in
-    let e = c .answered .ensures in
+    let e = c .refused .ensures in
     let r = c .before .before .refusal in
     λ f q.
-    judged-as (a .self .state) (a .tick) (now (a .lent)) f _ _ _ _ (e .0) (e .1)
+    judged-as (a .self .state) (a .tick) (now (a .lent)) f _ _ _ _ (e .0) (ap (λ (x : Member). x .state) (e .1))
     (judged-clauses (a .self .state) (a .tick) (now (a .lent)) f (r .result) (r .ensures f q) (c .before .if1 .taken))
 
 row-of-requires : tie.Need-row-of-requires
@@ -75,7 +76,7 @@ judged-spec =
     tie.close
     (tie.spec
     refusal-requires
-    answered-requires
+    refused-requires
     returns
     row-of-requires
     registering-requires

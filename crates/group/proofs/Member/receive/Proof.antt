@@ -18,8 +18,8 @@ judged-requires c κs =
 enum-told-2 : tie.Need-enum-told-2
 enum-told-2 c = search needs
 
-answered-requires : tie.Need-answered-requires
-answered-requires c κs = search needs
+refused-requires : tie.Need-refused-requires
+refused-requires c κs = search needs
 
 returns : tie.Need-returns
 returns c =
@@ -31,15 +31,15 @@ returns c =
 
 returns-2 : tie.Need-returns-2
 returns-2 c =
-    let a = c .before .before .before .before .before .before .before .args in
-    let r = c .before .before .before .before .frame-layout in
-    let told = c .before .before .enum-told2 .given in
-    let x = c .answered .result in
-    let e = c .answered .ensures in
+    let a = c .before .before .before .before .before .before .args in
+    let r = c .before .before .before .frame-layout in
+    let told = c .before .enum-told2 .given in
+    let x = c .refused .result in
+    let e = c .refused .ensures in
     receives-broken (a .self) (a .tick) (now (a .lent)) (now (a .frame)) (told .0 .0)
     (no-tree (now (a .frame)) (r .result) (r .ensures) (told .0 .0) (told .1)) (x .answer) (x .member) (e .0) (e .1)
 
 pub receive-spec : {M : Type 1} → statement M
 receive-spec =
     tie.close
-    (tie.spec frame-layout-requires enum-told judged-requires enum-told-2 answered-requires returns returns-2)
+    (tie.spec frame-layout-requires enum-told judged-requires enum-told-2 refused-requires returns returns-2)
