@@ -26,11 +26,7 @@ use Rattle.clauses.specs.Number5.{five-ofFrame, otherTransforms, lentKeySize}
 use Rattle.clauses.specs.Number6.{six-ofFrame, policyUnpaired, wrapKeyId}
 use Rattle.clauses.specs.Number7.{seven-ofFrame, seven-ofMember, manyWrapKeys, manySas}
 use Rattle.clauses.specs.Refusals.{Number, one, applies, judged, two, three, four, five, six, seven, refusal}
-<<<<<<< HEAD
-use Rattle.clauses.proofs.Clear.{no-clause}
-=======
 use Rattle.clauses.proofs.Clear.{or-none, no-clause}
->>>>>>> rcv
 use Rattle.outcome.proofs.RunsClear.{None}
 use Rattle.acceptance.specs.inner.Readings.{oneDelay, oneInitial}
 
