@@ -38,8 +38,12 @@ transform-item-requires c κs =
     let b = c .before .before .before .before .before in
     let l = c .before .before .before .loop in
     let x = b .pre .1 in
-    let f = l .inv .1 (x .0) (x .1) .left in
-    (f .list, x .1 .tail, next-are (now (b .args .s)) (l .at) (l .more) (f .list) (x .1 .tail) (f .are) (c .before .before .loop-test .taken))
+    let f = l .inv .1 (x .0) (x .1) .left in (
+      f .list,
+      x .1 .tail,
+      next-are (now (b .args .s)) (l .at) (l .more) (f .list) (x .1 .tail) (f .are)
+          (c .before .before .loop-test .taken),
+    )
 
 returns : tie.Need-returns Inv-loop μ-loop
 returns c =
@@ -67,8 +71,12 @@ transform-parts-requires c κs =
     let b = c .before .before .before .before .before in
     let l = c .before .before .before .loop in
     let x = b .pre .1 in
-    let f = l .inv .1 (x .0) (x .1) .left in
-    (f .list, x .1 .tail, next-are (now (b .args .s)) (l .at) (l .more) (f .list) (x .1 .tail) (f .are) (c .before .before .loop-test .taken))
+    let f = l .inv .1 (x .0) (x .1) .left in (
+      f .list,
+      x .1 .tail,
+      next-are (now (b .args .s)) (l .at) (l .more) (f .list) (x .1 .tail) (f .are)
+          (c .before .before .loop-test .taken),
+    )
 
 sub-left : tie.Need-sub-left Inv-loop μ-loop
 sub-left c = search needs
@@ -104,7 +112,8 @@ loop-again c =
       λ x i.
           let f = l .inv .1 x i in
           next (a .place) (a .base + length s) (a .n) s x i (l .at) (l .left) (l .more) f g (c .before .transform-parts .result)
-          (c .before .transform-parts .ensures (f .left .list) (i .tail) (next-are s (l .at) (l .more) (f .left .list) (i .tail) (f .left .are) g))
+          (c .before .transform-parts .ensures (f .left .list) (i .tail) (next-are s (l .at) (l .more) (f .left .list) (i .tail)
+          (f .left .are) g))
           (omega arith),
     )
 
