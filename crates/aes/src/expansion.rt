@@ -1,4 +1,4 @@
-// KEYEXPANSION(): FIPS 197, section 5.2, in a schedule's array whose table is the S-box.
+// KEYEXPANSION(): FIPS 197, section 5.2, in a schedule's array whose table is the S-box. Internal, all of it.
 ghost use mathlib.Core.Path.{_≡_};
 ghost use mathlib.Core.List.{_++_};
 ghost use Prim.Native.Nat.{_<_, _≤_, _+_, _*_, _-_};

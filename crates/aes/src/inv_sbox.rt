@@ -1,4 +1,4 @@
-// FIPS 197, section 5.3.2, table 6.
+// FIPS 197, section 5.3.2, table 6. Internal, all of it.
 ghost use mathlib.Core.Path.{_≡_};
 ghost use Rattle.fips197.specs.Sbox.{inv-sbox};
 

@@ -1,4 +1,4 @@
-// FIPS 197, section 5.1.1, table 4.
+// FIPS 197, section 5.1.1, table 4. Internal, all of it.
 ghost use mathlib.Core.Path.{_≡_};
 ghost use Rattle.fips197.specs.Sbox.{sbox};
 

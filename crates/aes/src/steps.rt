@@ -1,4 +1,5 @@
-// The transformations of the state: FIPS 197, sections 5.1.1 to 5.1.4 and 5.3.1 to 5.3.4. The S-box stands in the schedule at 240.
+// The transformations of the state: FIPS 197, sections 5.1.1 to 5.1.4 and 5.3.1 to 5.3.4. The S-box stands in the schedule
+// at 240. Internal, all of it.
 ghost use mathlib.Core.Path.{_≡_};
 ghost use Prim.Native.Nat.{_<_, _≤_};
 ghost use Rattle.octets.specs.Numbers.{oct};

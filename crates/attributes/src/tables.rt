@@ -114,7 +114,7 @@ pub fn is_formed(m: Meaning, short: bool, n: usize) -> bool
     }
 }
 
-// The place of a transform's, a Group SA policy's and a Group Key Bag's attributes. Internal.
+// The place of a transform's attributes. Internal.
 pub fn in_transform(kind: usize) -> Place
     ensures { λ r. ⌜ r ≡ inTransform kind ⌝ }
 {
@@ -124,6 +124,7 @@ pub fn in_transform(kind: usize) -> Place
     Place::OtherTransform
 }
 
+// The place of a Group SA policy's attributes. Internal.
 pub fn in_policy(protocol: usize) -> Place
     ensures { λ r. ⌜ r ≡ inPolicy protocol ⌝ }
 {
@@ -133,6 +134,7 @@ pub fn in_policy(protocol: usize) -> Place
     Place::DataPolicy
 }
 
+// The place of a Group Key Bag's attributes. Internal.
 pub fn in_bag(protocol: usize) -> Place
     ensures { λ r. ⌜ r ≡ inBag protocol ⌝ }
 {

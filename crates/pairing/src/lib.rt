@@ -104,7 +104,7 @@ pub fn number_6(copies: bool, g: &[u8], k: &[u8], t: Table, tick: u32) -> bool
     names::any_unpaired(k, g)
 }
 
-// How many ESP policies, and how many Group SA policies, a GSA body has. Internal.
+// How many ESP policies a GSA body has. Internal.
 pub fn esp_policies(g: &[u8]) -> usize
     requires { ⌜ isWhole (policies 0 (now g)) ≡ true ⌝ }
     ensures { λ r. ⌜ r ≡ count isEsp (gather saOf (policiesIn (now (g .entry)))) ⌝ }
@@ -112,6 +112,7 @@ pub fn esp_policies(g: &[u8]) -> usize
     names::count_names(Which::OfProtocol, 3, &g[0..0], g)
 }
 
+// How many Group SA policies a GSA body has. Internal.
 pub fn sa_policies(g: &[u8]) -> usize
     requires { ⌜ isWhole (policies 0 (now g)) ≡ true ⌝ }
     ensures { λ r. ⌜ r ≡ length (gather saOf (policiesIn (now (g .entry)))) ⌝ }

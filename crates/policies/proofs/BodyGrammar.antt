@@ -9,7 +9,6 @@ use Rattle.octets.proofs.Inverse.{inverse-mapped, inverse-then}
 use Rattle.attributes.specs.Attribute.{Attribute}
 use Rattle.attributes.specs.Layout.{attributes}
 use Rattle.attributes.specs.declared.tables.Place.{Place}
-use Rattle.attributes.specs.declared.tables.Place.the-variants as place
 use Rattle.attributes.proofs.GrammarLaws.{are-read, read-are}
 use Rattle.policies.specs.Selector.{Selector, selector}
 use Rattle.policies.specs.Transform.{Transform, transforms}

@@ -1,7 +1,7 @@
 -- Octets that are one policy to their end: which it is, its SPI and what it shows.
 use Prim.Native.Nat.{ℕ, _+_, _<_, _≤_}
 use mathlib.Core.Path.{_≡_, refl, ap, sym, _∙_, subst}
-use mathlib.Core.List.{List, [], _∷_, append-nil}
+use mathlib.Core.List.{List, [], _∷_, _++_, map, append-nil}
 use mathlib.Core.Bool.{true}
 use native.Mathlib.Omega.{arith}
 use lib.ListN.{length, drop}
@@ -9,21 +9,25 @@ use lib.Seq.{drop-length}
 use Rattle.octets.specs.Numbers.{oct}
 use Rattle.octets.specs.Walk.{be16, part, Reading, whole, broken}
 use Rattle.octets.proofs.Walks.{takes-keeps}
+use Rattle.attributes.specs.Attribute.{Attribute}
 use Rattle.attributes.specs.Place.{inPolicy}
+use Rattle.attributes.specs.Tree.{initialMessageIds, deactivationDelays}
 use Rattle.attributes.specs.Layout.{attributes}
 use Rattle.attributes.specs.Answers.{spotOf}
 use Rattle.attributes.specs.declared.tables.Place.the-variants as place
 use Rattle.attributes.specs.declared.Spot.the-variants as spot
 use Rattle.attributes.proofs.Loops.{ended, spot-broken}
 use Rattle.attributes.proofs.GrammarLaws.{are-read}
+use Rattle.policies.specs.Selector.{selectorSize}
 use Rattle.policies.specs.Policy.{spiSize, GroupSaPolicy, GroupWidePolicy, Policy, groupSa, groupWide, SaBody, saBody, policy}
-use Rattle.policies.specs.Grammar.{IsSaBody, IsPolicy, is-sa, is-wide}
+use Rattle.policies.specs.Grammar.{IsSaBody, IsGroupSa, IsPolicy, is-sa, is-wide}
 use Rattle.policies.proofs.PolicyLaws.{takes}
 use Rattle.policies.proofs.PolicyGrammar.{inverse, sound}
 use Rattle.policies.proofs.BodyGrammar.{body-from}
 use Rattle.contents.specs.inner.Values.{isWhole, attributesIn}
 use Rattle.contents.proofs.ValuesLaws.{is-whole}
-use Rattle.view.specs.View.{onAll, kindIn, kindOf, spiIn, spiOf, shownAttributes, shownBody, itemsIn, itemsOf}
+use Rattle.view.specs.View.{onAll, kindIn, kindOf, spiIn, spiOf}
+use Rattle.view.specs.View.{shownSelector, shownTransform, shownAttributes, shownBody, itemsIn, itemsOf}
 use Rattle.view.specs.declared.read.Kind.the-variants as kind
 
 one : (s : List ℕ) (x : Policy) → policy 0 s ≡ whole x [] → IsPolicy s x
@@ -89,21 +93,24 @@ pub record Sa (s : List ℕ) (p : ℕ) : Type 0 where
   pub is : IsSaBody (inPolicy p) (drop (4 + spiSize p) s) body
   pub items : shownBody (inPolicy p) (4 + spiSize p) (length s) body ≡ itemsOf s
 
-sa-of : (s : List ℕ) (x : GroupSaPolicy) → policy 0 s ≡ whole (groupSa x) [] → IsPolicy s (groupSa x) → Sa s (x .protocol)
-sa-of s x e (is-sa i) =
+sa-items : (s : List ℕ) (x : GroupSaPolicy) → policy 0 s ≡ whole (groupSa x) [] → (i : IsGroupSa s x)
+    → shownBody (inPolicy (x .protocol)) (4 + spiSize (x .protocol)) (length s) (i .body) ≡ itemsOf s
+sa-items s x e i =
     let p = inPolicy (x .protocol) in
     let h = 4 + spiSize (x .protocol) in
-    record {
-      head = i .least;
-      spi = i .spi ∙ ap (onAll [] spiIn) (sym e);
-      body = i .body;
-      is = i .holds;
-      items =
-          ap (onAll [] (shownBody p h (length s))) (sym (body-from 0 p (drop h s) (i .body) (i .holds) h))
-          ∙ ap (λ (n : ℕ). onAll [] (shownBody p (4 + spiSize n) (length s)) (saBody 0 p (4 + spiSize n) (drop (4 + spiSize n) s)))
-          (sym (i .protocol))
-          ∙ ap (onAll [] (itemsIn s)) (sym e);
-    }
+    ap (onAll [] (shownBody p h (length s))) (sym (body-from 0 p (drop h s) (i .body) (i .holds) h))
+    ∙ ap (λ (n : ℕ). onAll [] (shownBody p (4 + spiSize n) (length s)) (saBody 0 p (4 + spiSize n) (drop (4 + spiSize n) s)))
+    (sym (i .protocol))
+    ∙ ap (onAll [] (itemsIn s)) (sym e)
+
+sa-of : (s : List ℕ) (x : GroupSaPolicy) → policy 0 s ≡ whole (groupSa x) [] → IsPolicy s (groupSa x) → Sa s (x .protocol)
+sa-of s x e (is-sa i) = record {
+  head = i .least;
+  spi = i .spi ∙ ap (onAll [] spiIn) (sym e);
+  body = i .body;
+  is = i .holds;
+  items = sa-items s x e i;
+}
 
 pub record Wide (s : List ℕ) : Type 0 where
   pub head : 4 ≤ length s
@@ -157,3 +164,46 @@ module _ (s : List ℕ) where
       go (whole (groupWide x) []) q = let z : Absurd = cc in absurd (omega arith)
       go (whole x (y ∷ r)) q = (refl, refl)
       go (broken o) q = (refl, refl)
+
+-- WHAT IS SHOWN IS WHAT THE TREE'S POLICY HOLDS
+pub record ShowsSa (s : List ℕ) (x : GroupSaPolicy) : Type 0 where
+  pub attributes : List Attribute
+  pub read : initialMessageIds (inPolicy (x .protocol)) attributes ≡ x .initialMessageIds
+  pub items : itemsOf s
+      ≡ shownSelector (4 + spiSize (x .protocol)) (x .source)
+      ∷ shownSelector (4 + spiSize (x .protocol) + selectorSize (x .source .kind)) (x .destination)
+      ∷ (map shownTransform (x .transforms) ++ shownAttributes (inPolicy (x .protocol)) (length s) attributes)
+
+pub shows-sa : (s : List ℕ) (x : GroupSaPolicy) → policy 0 s ≡ whole (groupSa x) [] → ShowsSa s x
+shows-sa s x e = go (one s (groupSa x) e)
+  where
+    go : IsPolicy s (groupSa x) → ShowsSa s x
+    go (is-sa i) =
+        let p = inPolicy (x .protocol) in
+        let h = 4 + spiSize (x .protocol) in
+        let l = i .body .suite .attributes in
+        record {
+          attributes = l;
+          read = i .initialMessageIds;
+          items =
+              sym (sa-items s x e i)
+              ∙ (λ j. shownSelector h (i .source j) ∷ shownSelector (h + selectorSize (i .source j .kind)) (i .destination j)
+              ∷ (map shownTransform (i .transforms j) ++ shownAttributes p (length s) l));
+        }
+
+pub record ShowsWide (s : List ℕ) (x : GroupWidePolicy) : Type 0 where
+  pub attributes : List Attribute
+  pub read : deactivationDelays place.GroupWidePolicy attributes ≡ x .deactivationDelays
+  pub items : itemsOf s ≡ shownAttributes place.GroupWidePolicy (length s) attributes
+
+pub shows-wide : (s : List ℕ) (x : GroupWidePolicy) → policy 0 s ≡ whole (groupWide x) [] → ShowsWide s x
+shows-wide s x e = go (one s (groupWide x) e)
+  where
+    go : IsPolicy s (groupWide x) → ShowsWide s x
+    go (is-wide i) = record {
+      attributes = i .attributes;
+      read = i .deactivationDelays;
+      items =
+          ap (onAll [] (itemsIn s)) e
+          ∙ ap (onAll [] (shownAttributes place.GroupWidePolicy (length s))) (are-read place.GroupWidePolicy (i .held) 4);
+    }

@@ -1,4 +1,6 @@
 pub mod Apart
+pub mod Asking
+pub mod AskingSlice
 pub mod KindLaws
 pub mod AttributeLaws
 pub mod TransformLaws

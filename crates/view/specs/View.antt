@@ -1,4 +1,5 @@
--- WHAT A VIEW SHOWS of some octets: the policy that they are, to their end; nothing, if they are none.
+-- WHAT A VIEW SHOWS of some octets: the policy that they are, to their end; nothing, if they are none. Document 01: "For printing, a policy
+-- is shown as a view that holds a reference to its stretch of the frame".
 use Prim.Native.Nat.{ℕ, _+_, _-_}
 use mathlib.Core.List.{List, [], _∷_, _++_, map}
 use mathlib.Core.Bool.{Bool}

@@ -12,7 +12,7 @@ pub enum Kind {
     Nothing,
 }
 
-// Which policy the octets are, to their end.
+// Which policy the octets are, to their end. Internal.
 pub fn kind_of(s: &[u8]) -> Kind
     ensures { λ r. ⌜ r ≡ kindOf (now (s .entry)) ⌝ }
 {
@@ -36,7 +36,7 @@ pub fn kind_of(s: &[u8]) -> Kind
     Kind::Nothing
 }
 
-// The SPI of the policy that the octets are, where it stands; none for a group-wide policy and for no policy.
+// The SPI of the policy that the octets are, where it stands; none for a group-wide policy and for no policy. Internal.
 pub fn spi_of(s: &[u8]) -> &[u8]
     ensures { λ r. ⌜ now r ≡ spiOf (now (s .entry)) ⌝ }
 {
@@ -50,7 +50,7 @@ pub fn spi_of(s: &[u8]) -> &[u8]
     }
 }
 
-// What the policy that the octets are shows after n others.
+// What the policy that the octets are shows after n others. Internal.
 pub fn item_at(s: &[u8], n: usize) -> Item
     ensures { λ r. ⌜ r ≡ itemAt (now (s .entry)) n ⌝ }
 {
@@ -64,7 +64,7 @@ pub fn item_at(s: &[u8], n: usize) -> Item
     }
 }
 
-// Whether the policy that the octets are shows no more than n.
+// Whether the policy that the octets are shows no more than n. Internal.
 pub fn is_at_end(s: &[u8], n: usize) -> bool
     ensures { λ r. ⌜ r ≡ isAtEnd (now (s .entry)) n ⌝ }
 {
@@ -76,7 +76,7 @@ pub fn is_at_end(s: &[u8], n: usize) -> bool
     }
 }
 
-// The cursor after n, which stays at the end.
+// The cursor after n, which stays at the end. Internal.
 pub fn next_after(s: &[u8], n: usize) -> usize
     ensures { λ r. ⌜ r ≡ nextAfter (now (s .entry)) n ⌝ }
 {
