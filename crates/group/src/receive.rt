@@ -25,7 +25,7 @@ pub enum Answer {
     BrokenLayout,
     // another exchange, a registration of a member that is not empty, a rekey over other SPIs, or a member value that breaks its list
     NotForMember,
-    // a Message ID below the least acceptable
+    // a rekey whose Message ID is below the least acceptable, or none is acceptable any more
     Replayed,
     // payloads, policies or bags that a frame of its exchange cannot have together
     BadComposition,
