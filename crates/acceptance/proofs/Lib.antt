@@ -1,4 +1,5 @@
 pub mod TableLaws
+pub mod NextLaws
 pub mod RetiringLaws
 pub mod FrameLaws
 pub mod ReadingLaws

@@ -1,4 +1,6 @@
 // A group member: what a customer of the library holds.
+pub mod receive;
+
 ghost use mathlib.Core.Path.{_≡_};
 ghost use Rattle.group.specs.Member.{newMember, sweptMember, leftMember, answerOf, saAnswer};
 use sa::entry::Condition;

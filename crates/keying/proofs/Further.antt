@@ -16,7 +16,8 @@ use Rattle.chains.specs.Chain.{In, Root}
 use Rattle.chains.specs.Refusals.{CopiesEight, wrong-size, two-values, KeyOf}
 use Rattle.outcome.specs.Roots.{announcedAs}
 use Rattle.outcome.specs.After.{saFrom, Enter, no-sa, one-more}
-use Rattle.outcome.proofs.Members.{in-mem, mem-in, in-head}
+use Rattle.chains.proofs.Members.{in-member, member-in}
+use Rattle.outcome.proofs.Members.{in-head}
 use Rattle.keying.specs.Keyed.{SomeEight, NoEight, SomeUnopened, KeysOf, KeysIn}
 use Rattle.keying.specs.inner.Policies.{IsEight, IsUnopened, IsSa}
 use Rattle.keying.specs.declared.joining.Found.{Found}
@@ -32,7 +33,7 @@ module _ (roots : List Root) (entries : List WrapKey) (size : ℕ) (f : Frame) w
   -- ---- policies among more policies
   module _ (l m : List GroupSaPolicy) where
     in-more : (a : GroupSaPolicy) → In a l → In a (l ++ m)
-    in-more a i = mem-in a (l ++ m) (Memᴰ·append-left m (in-mem a l i))
+    in-more a i = member-in a (l ++ m) (Memᴰ·append-left m (in-member a l i))
 
     pub eight-wider : SomeEight roots entries size f l → SomeEight roots entries size f (l ++ m)
     eight-wider e = record { sa = e .sa; stands = in-more (e .sa) (e .stands); eight = e .eight }
@@ -42,14 +43,14 @@ module _ (roots : List Root) (entries : List WrapKey) (size : ℕ) (f : Frame) w
 
   module _ (l : List GroupSaPolicy) (a : GroupSaPolicy) where
     last-in : In a (l ++ (a ∷ []))
-    last-in = mem-in a (l ++ (a ∷ [])) (Memᴰ·append-right l (in-mem a (a ∷ []) (in-head a a [] refl)))
+    last-in = member-in a (l ++ (a ∷ [])) (Memᴰ·append-right l (in-member a (a ∷ []) (in-head a a [] refl)))
 
     fit-further : NoEight roots entries size f l → (CopiesEight roots entries size (announcedAs f a) → ⊥) →
         NoEight roots entries size f (l ++ (a ∷ []))
     fit-further n h b i c =
-        ⊎-elim (λ m. n b (mem-in b l m) c)
+        ⊎-elim (λ m. n b (member-in b l m) c)
         (λ m. h (subst (λ (x : GroupSaPolicy). CopiesEight roots entries size (announcedAs f x)) (List·Memᴰ·eq-of-singleton m) c))
-        (List·Memᴰ·append-cases l (in-mem b (l ++ (a ∷ [])) i))
+        (List·Memᴰ·append-cases l (in-member b (l ++ (a ∷ [])) i))
 
   -- where no copy opens, none opens to a wrong size or to another value
   pub unopened-fit : (a : GroupSaPolicy) → IsUnopened roots entries size f a → CopiesEight roots entries size (announcedAs f a) → ⊥

@@ -1,8 +1,8 @@
 -- A frame to which none of numbers 2 to 7 applies is ready for its keys. Assumes nothing.
 use native.Mathlib.Omega.{arith}
 use Prim.Native.Nat.{ℕ, _+_}
-use mathlib.Core.Path.{_≡_, refl, sym}
-use mathlib.Core.Bool.{Bool, true, false, _||_, false≢true}
+use mathlib.Core.Path.{_≡_}
+use mathlib.Core.Bool.{false}
 use mathlib.Core.List.{List, [], _∷_}
 use borrow.Author.Tests.{ltb-false}
 use lib.ListN.{length}
@@ -18,13 +18,9 @@ use Rattle.clauses.specs.Number4.{four-ofFrame}
 use Rattle.clauses.specs.Number5.{five-ofFrame}
 use Rattle.clauses.specs.Number6.{six-ofFrame}
 use Rattle.clauses.specs.Number7.{manySas, seven-ofMember}
+use Rattle.clauses.proofs.Clear.{no-clause, or-none}
 use Rattle.clauses.specs.Refusals.{Number, one, applies, judged, two, three, four, five, six, seven, refusal}
-use Rattle.outcome.proofs.RunsClear.{no-clause}
 use Rattle.keying.specs.Keyed.{Ready}
-
-or-none : (a b : Bool) → (a || b) ≡ false → (a ≡ false) × (b ≡ false)
-or-none true b e = absurd (false≢true (sym e))
-or-none false b e = (refl, e)
 
 -- where the first number that applies is none, no number applies
 none-first : (n : Number) (l : List Number) → (n .number ≡ 0 → ⊥) → judged (n ∷ l) ≡ 0 → (applies n ≡ false) × (judged l ≡ 0)

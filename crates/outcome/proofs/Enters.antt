@@ -22,7 +22,8 @@ use Rattle.chains.specs.Chain.{In, Root}
 use Rattle.chains.specs.Refusals.{KeyOf}
 use Rattle.outcome.specs.Roots.{announcedAs}
 use Rattle.outcome.specs.After.{delayOf, namedInDelete, replaced, oldSas, saFrom, insertAll, Enter, no-sa, one-more}
-use Rattle.outcome.proofs.Members.{in-mem, mem-in, in-head, in-tail, in-cases, not-in-none, in-keep, keep-in, in-map, map-in}
+use Rattle.chains.proofs.Members.{in-member, member-in}
+use Rattle.outcome.proofs.Members.{in-head, in-tail, in-cases, not-in-none, in-keep, keep-in, in-map, map-in}
 
 -- ---- the new SAs
 module _ (roots : List Root) (entries : List WrapKey) (size : ℕ) (f : Frame) where
@@ -78,17 +79,17 @@ module _ (b : Sa) where
   in-all [] l i = inr i
   in-all (a ∷ m) l i =
       ⊎-elim (λ e. inl (in-head b a m e))
-      (λ j. ⊎-elim (λ k. inl (in-tail b a m k)) inr (in-all m l (mem-in b (insertAll m l) j)))
-      (inserted-member before a b (insertAll m l) (in-mem b (insert before a (insertAll m l)) i))
+      (λ j. ⊎-elim (λ k. inl (in-tail b a m k)) inr (in-all m l (member-in b (insertAll m l) j)))
+      (inserted-member before a b (insertAll m l) (in-member b (insert before a (insertAll m l)) i))
 
   pub all-in : (m l : List Sa) → In b m ⊎ In b l → In b (insertAll m l)
   unfolding insertAll
   all-in [] l i = ⊎-elim (λ k. absurd (not-in-none b k)) (λ k. k) i
   all-in (a ∷ m) l i =
-      mem-in b (insert before a (insertAll m l))
+      member-in b (insert before a (insertAll m l))
       (member-inserted before a b (insertAll m l)
-      (⊎-elim (λ k. ⊎-elim inl (λ j. inr (in-mem b (insertAll m l) (all-in m l (inl j)))) (in-cases b a m k))
-      (λ k. inr (in-mem b (insertAll m l) (all-in m l (inr k)))) i))
+      (⊎-elim (λ k. ⊎-elim inl (λ j. inr (in-member b (insertAll m l) (all-in m l (inl j)))) (in-cases b a m k))
+      (λ k. inr (in-member b (insertAll m l) (all-in m l (inr k)))) i))
 
 -- ---- the old ones
 module _ (s : State) (now : ℕ) (f : Frame) where

@@ -1,49 +1,37 @@
 -- What stands in a list, at some place, and what stands in lists made of others.
 use native.Mathlib.Omega.{arith}
-use Prim.Native.Nat.{ℕ, zero, suc, _<_}
+use Prim.Native.Nat.{suc}
 use mathlib.Core.Path.{_≡_, refl, ap, sym, _∙_, subst}
 use mathlib.Core.Bool.{Bool, true, false}
 use mathlib.Core.Logic.{_⊎_, inl, inr, ⊎-elim}
-use mathlib.Core.List.{List, [], _∷_, _++_, map, List·Memᴰ, List·Memᴰ·head, List·Memᴰ·tail, List·Memᴰ·not-nil, List·Memᴰ·cases-cons}
+use mathlib.Core.List.{List, [], _∷_, _++_, map, List·Memᴰ·not-nil, List·Memᴰ·cases-cons}
 use mathlib.Core.List.{Memᴰ·append-left, Memᴰ·append-right, List·Memᴰ·append-cases}
-use lib.ListN.{length, getD}
 use Rattle.keys.specs.Lists.{keep, rising}
 use Rattle.keys.proofs.Members.{kept-member, member-kept}
 use Rattle.keys.proofs.Rising.{rising-unique}
 use Rattle.clauses.specs.Contents.{gather}
 use Rattle.chains.specs.Chain.{In}
+use Rattle.chains.proofs.Members.{in-member, member-in}
 
 module _ {A : Type 0} (a : A) where
-  at-place : (l : List A) (i : ℕ) → i < length l → getD l i a ≡ a → List·Memᴰ a l
-  at-place [] i h e = absurd (omega arith)
-  at-place (b ∷ l) zero h e = List·Memᴰ·head (sym e)
-  at-place (b ∷ l) (suc i) h e = List·Memᴰ·tail (at-place l i (omega arith) e)
-
-  pub in-mem : (l : List A) → In a l → List·Memᴰ a l
-  in-mem l m = at-place l (m .place) (m .inside) (m .is)
-
   pub in-head : (b : A) (l : List A) → a ≡ b → In a (b ∷ l)
   in-head b l e = record { place = 0; inside = omega arith; is = sym e }
 
   pub in-tail : (b : A) (l : List A) → In a l → In a (b ∷ l)
   in-tail b l m = let h = m .inside in record { place = suc (m .place); inside = omega arith; is = m .is }
 
-  pub mem-in : (l : List A) → List·Memᴰ a l → In a l
-  mem-in [] m = absurd (List·Memᴰ·not-nil m)
-  mem-in (b ∷ l) m = ⊎-elim (λ e. in-head b l e) (λ k. in-tail b l (mem-in l k)) (List·Memᴰ·cases-cons m)
-
   pub in-cases : (b : A) (l : List A) → In a (b ∷ l) → (a ≡ b) ⊎ In a l
-  in-cases b l m = ⊎-elim inl (λ k. inr (mem-in l k)) (List·Memᴰ·cases-cons (in-mem (b ∷ l) m))
+  in-cases b l m = ⊎-elim inl (λ k. inr (member-in a l k)) (List·Memᴰ·cases-cons (in-member a (b ∷ l) m))
 
   pub not-in-none : In a [] → ⊥
-  not-in-none m = List·Memᴰ·not-nil (in-mem [] m)
+  not-in-none m = List·Memᴰ·not-nil (in-member a [] m)
 
   -- what is kept
   pub in-keep : (p : A → Bool) (l : List A) → In a (keep p l) → In a l × (p a ≡ true)
-  in-keep p l m = let r = kept-member p a l (in-mem (keep p l) m) in (mem-in l (r .0), r .1)
+  in-keep p l m = let r = kept-member p a l (in-member a (keep p l) m) in (member-in a l (r .0), r .1)
 
   pub keep-in : (p : A → Bool) (l : List A) → In a l → p a ≡ true → In a (keep p l)
-  keep-in p l m e = mem-in (keep p l) (member-kept p a l (in-mem l m) e)
+  keep-in p l m e = member-in a (keep p l) (member-kept p a l (in-member a l m) e)
 
 -- ---- of what it was made
 pub record From {A B : Type 0} (R : A → B → Type 0) (l : List A) (b : B) : Type 0 where
@@ -73,20 +61,20 @@ module _ {A B : Type 0} (f : A → List B) (b : B) where
   unfolding gather
   in-gather [] m = absurd (not-in-none b m)
   in-gather (a ∷ l) m =
-      ⊎-elim (λ k. from-here b a l (mem-in b (f a) k)) (λ k. from-there b a l (in-gather l (mem-in b (gather f l) k)))
-      (List·Memᴰ·append-cases (f a) (in-mem b (f a ++ gather f l) m))
+      ⊎-elim (λ k. from-here b a l (member-in b (f a) k)) (λ k. from-there b a l (in-gather l (member-in b (gather f l) k)))
+      (List·Memᴰ·append-cases (f a) (in-member b (f a ++ gather f l) m))
 
   pub gather-in : (l : List A) (a : A) → In a l → In b (f a) → In b (gather f l)
   unfolding gather
   gather-in [] a m k = absurd (not-in-none a m)
   gather-in (c ∷ l) a m k =
-      mem-in b (f c ++ gather f l)
-      (⊎-elim (λ e. Memᴰ·append-left (gather f l) (in-mem b (f c) (subst (λ (x : A). In b (f x)) e k)))
-      (λ j. Memᴰ·append-right (f c) (in-mem b (gather f l) (gather-in l a j k))) (in-cases a c l m))
+      member-in b (f c ++ gather f l)
+      (⊎-elim (λ e. Memᴰ·append-left (gather f l) (in-member b (f c) (subst (λ (x : A). In b (f x)) e k)))
+      (λ j. Memᴰ·append-right (f c) (in-member b (gather f l) (gather-in l a j k))) (in-cases a c l m))
 
 -- two lists that rise by a strict order and have the same members are one
 pub rising-one : {A : Type 0} (before : A → A → Bool) →
     ((a b c : A) → before a b ≡ true → before b c ≡ true → before a c ≡ true) → ((a : A) → before a a ≡ false) → (l m : List A) →
     rising before l ≡ true → rising before m ≡ true → ((a : A) → In a l → In a m) → ((a : A) → In a m → In a l) → l ≡ m
 rising-one before trans irrefl l m r q f g =
-    rising-unique before trans irrefl l m r q (λ a x. in-mem a m (f a (mem-in a l x))) (λ a x. in-mem a l (g a (mem-in a m x)))
+    rising-unique before trans irrefl l m r q (λ a x. in-member a m (f a (member-in a l x))) (λ a x. in-member a l (g a (member-in a m x)))

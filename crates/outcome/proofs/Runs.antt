@@ -35,7 +35,8 @@ use Rattle.outcome.specs.Roots.{rootsOf, entriesOf, keyZero, keyZeroBy, 
 use Rattle.outcome.specs.After.{After, HeldAre, HeldBy, insertAll, oldSas}
 use Rattle.outcome.specs.Outcome.{Judged, refused, accepted, Outcome, no-layout, by-tree}
 use Rattle.outcome.specs.Run.{Step, Takes, answered, swept, left, Run, ends, goes, Throughout}
-use Rattle.outcome.proofs.RunsClear.{no-clause, Clear, clear}
+use Rattle.clauses.proofs.Clear.{no-clause}
+use Rattle.outcome.proofs.RunsClear.{Clear, clear}
 use Rattle.outcome.proofs.RunsAccepted.{clear-formed, table-fit, table-blank}
 use Rattle.outcome.proofs.RunsHeld.{set-formed, set-places, set-values}
 

@@ -31,8 +31,10 @@ use Rattle.clauses.specs.Number7.{manySas, seven-ofMember}
 use Rattle.chains.specs.Refusals.{of-copies, wrong-size, KeyOf}
 use Rattle.outcome.specs.Roots.{rootsOf, entriesOf, wrappingSize, needOf, announcedAs, announcedKeys}
 use Rattle.outcome.specs.After.{newRekey, insertAll, oldSas, Enter}
-use Rattle.outcome.proofs.RunsLists.{member-in, member-map, none-passes, none-count}
-use Rattle.outcome.proofs.RunsClear.{no-clause, Clear}
+use Rattle.chains.proofs.Members.{member-in}
+use Rattle.outcome.proofs.RunsLists.{member-map, none-passes, none-count}
+use Rattle.clauses.proofs.Clear.{no-clause}
+use Rattle.outcome.proofs.RunsClear.{Clear}
 use Rattle.outcome.proofs.RunsNeeds.{esp-sizes, rekey-sizes}
 use Rattle.outcome.proofs.RunsSpis.{esp-spi, rekey-spi}
 use Rattle.outcome.proofs.RunsMade.{Kind, an-esp, a-rekey, Made, enter-made}

@@ -1,15 +1,15 @@
 -- What is known of a frame that is accepted: no clause of numbers 2 to 7 applies, and 8 and 9 do not hold.
 use native.Mathlib.Omega.{arith}
-use Prim.Native.Nat.{ℕ, zero, suc}
+use Prim.Native.Nat.{ℕ}
 use mathlib.Core.Path.{_≡_, refl, sym, subst}
-use mathlib.Core.Bool.{Bool, true, false, _||_, false≢true}
+use mathlib.Core.Bool.{Bool, true, false}
 use mathlib.Core.Logic.{inl, inr}
 use mathlib.Core.List.{List, [], _∷_}
-use lib.ListN.{getD}
 use Rattle.octets.specs.Walk.{whole}
 use Rattle.keys.specs.Limits.{Limits}
 use Rattle.frames.specs.Frame.{Frame, frame}
 use Rattle.state.specs.declared.State.{State}
+use Rattle.clauses.proofs.Clear.{or-none}
 use Rattle.clauses.specs.Refusals.{Number, one, applies, two, three, four, five, six, seven}
 use Rattle.outcome.specs.After.{After}
 use Rattle.outcome.specs.Outcome.{Judged, refused, accepted, Outcome, no-layout, by-tree}
@@ -35,17 +35,6 @@ none-holds (c ∷ l) n h = let p = none-of c l (n .0) h in (p .0, none-holds l (
 not-true : (b : Bool) → (b ≡ true → ⊥) → b ≡ false
 not-true true f = absurd (f refl)
 not-true false f = refl
-
-or-none : (a b : Bool) → (a || b) ≡ false → (a ≡ false) × (b ≡ false)
-or-none true b e = absurd (false≢true (sym e))
-or-none false b e = (refl, e)
-
--- where no clause applies, the one at a place of the list does not
-pub no-clause : (l : List Bool) (k : ℕ) → one l ≡ false → getD l k false ≡ false
-unfolding one
-no-clause [] k e = refl
-no-clause (b ∷ l) zero e = or-none b (one l) e .0
-no-clause (b ∷ l) (suc k) e = no-clause l k (or-none b (one l) e .1)
 
 -- none of a number's clauses applies
 pub record None (n : Number) : Type 0 where

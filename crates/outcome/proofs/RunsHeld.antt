@@ -26,7 +26,8 @@ use Rattle.chains.specs.Chain.{Root}
 use Rattle.chains.specs.Refusals.{EntriesEight, wrong-size, Value}
 use Rattle.chains.proofs.Determined.{last-entry}
 use Rattle.outcome.specs.After.{Holds, HeldAre}
-use Rattle.outcome.proofs.RunsLists.{in-member, member-in, none-passes, some-passes, passes-some}
+use Rattle.chains.proofs.Members.{in-member, member-in}
+use Rattle.outcome.proofs.RunsLists.{none-passes, some-passes, passes-some}
 
 -- ---- keys of rising Key IDs are no more than the entries that have these
 abbrev hasId : ℕ → WrapKey → Bool

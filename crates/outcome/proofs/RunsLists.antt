@@ -1,34 +1,13 @@
 -- Members of lists, tests that none or each of a list passes, and how many do.
 use native.Mathlib.Omega.{arith}
-use Prim.Native.Nat.{ℕ, zero, suc, _+_, _≤_, _<_}
+use Prim.Native.Nat.{suc, _+_, _≤_}
 use mathlib.Core.Path.{_≡_, refl, ap, sym, _∙_}
 use mathlib.Core.Bool.{Bool, true, false, _||_, false≢true}
 use mathlib.Core.Logic.{_⊎_, ⊎-elim}
 use mathlib.Core.List.{List, [], _∷_, map, List·Memᴰ, List·Memᴰ·head, List·Memᴰ·tail, List·Memᴰ·not-nil, List·Memᴰ·cases-cons}
-use lib.ListN.{length, getD}
+use lib.ListN.{length}
 use Rattle.keys.specs.Lists.{all, any, count, insert}
 use Rattle.keys.proofs.Cases.{bool-cases, and-parts}
-use Rattle.chains.specs.Chain.{In}
-
--- ---- to stand in a list at some place is to be a member of it
-module _ {A : Type 0} (a : A) where
-  at-place : (l : List A) (i : ℕ) → i < length l → getD l i a ≡ a → List·Memᴰ a l
-  at-place [] i h e = absurd (omega arith)
-  at-place (b ∷ l) zero h e = List·Memᴰ·head (sym e)
-  at-place (b ∷ l) (suc i) h e = List·Memᴰ·tail (at-place l i (omega arith) e)
-
-  pub in-member : (l : List A) → In a l → List·Memᴰ a l
-  in-member l h = at-place l (h .place) (h .inside) (h .is)
-
-  first-in : (b : A) (l : List A) → a ≡ b → In a (b ∷ l)
-  first-in b l e = record { place = 0; inside = omega arith; is = sym e }
-
-  next-in : (b : A) (l : List A) → In a l → In a (b ∷ l)
-  next-in b l h = let i = h .inside in record { place = suc (h .place); inside = omega arith; is = h .is }
-
-  pub member-in : (l : List A) → List·Memᴰ a l → In a l
-  member-in [] m = absurd (List·Memᴰ·not-nil m)
-  member-in (b ∷ l) m = ⊎-elim (first-in b l) (λ k. next-in b l (member-in l k)) (List·Memᴰ·cases-cons m)
 
 pub member-map : {A B : Type 0} (g : A → B) (a : A) (l : List A) → List·Memᴰ a l → List·Memᴰ (g a) (map g l)
 member-map g a [] m = absurd (List·Memᴰ·not-nil m)

@@ -32,7 +32,8 @@ use Rattle.clauses.specs.Number6.{policyNamed}
 use Rattle.outcome.specs.After.{delayOf, newRekey, namedInDelete, replaced, oldSas, insertAll, After}
 use Rattle.outcome.specs.Run.{LiveRekey}
 use Rattle.outcome.proofs.RunsLists.{member-map, all-pass, count-none, none-passes, passes-none, some-passes, passes-some}
-use Rattle.outcome.proofs.RunsClear.{no-clause, Clear}
+use Rattle.clauses.proofs.Clear.{no-clause}
+use Rattle.outcome.proofs.RunsClear.{Clear}
 use Rattle.outcome.proofs.RunsMade.{made-any}
 use Rattle.outcome.proofs.RunsTable.{any-all}
 use Rattle.outcome.proofs.RunsOld.{retires, old-live, swept-sas}

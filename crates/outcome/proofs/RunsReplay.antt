@@ -28,7 +28,8 @@ use Rattle.outcome.specs.After.{newRekey, leastBy, leastAfterwards, Afte
 use Rattle.outcome.specs.Outcome.{Judged, refused, accepted, Outcome, no-layout, by-tree}
 use Rattle.outcome.specs.Run.{Step, Takes, answered, swept, left, Run, ends, goes, Throughout, Quiet, AllQuiet, LiveRekey}
 use Rattle.outcome.proofs.RunsLists.{some-passes, passes-some}
-use Rattle.outcome.proofs.RunsClear.{no-clause, Clear, clear, Taken, taken}
+use Rattle.clauses.proofs.Clear.{no-clause}
+use Rattle.outcome.proofs.RunsClear.{Clear, clear, Taken, taken}
 use Rattle.outcome.proofs.RunsLive.{new-not-live, swept-live, accepted-live, no-new-rekey, was-rekey}
 
 -- ---- the least Message ID is past i: neither i nor a lower one is acceptable

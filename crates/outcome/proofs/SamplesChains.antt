@@ -17,7 +17,7 @@ use Rattle.attributes.specs.Tree.{WrapKey, SaKey}
 use Rattle.chains.specs.Chain.{In, Root, Chain, root, step, Ends, CopyOpens}
 use Rattle.chains.specs.Refusals.{Announced, EntriesEight, CopiesEight, wrong-size, two-values, Eight, of-entries, of-copies, Nine, KeyOf}
 use Rattle.outcome.specs.Samples.{Keying}
-use Rattle.outcome.proofs.RunsLists.{in-member}
+use Rattle.chains.proofs.Members.{in-member}
 
 -- ---- what a property that roots have and steps keep says of every chain
 module _ (roots : List Root) (entries : List WrapKey) (size : ℕ) (Good : ℕ → List ℕ → Type 0)

@@ -20,7 +20,7 @@ use Rattle.chains.proofs.Determined.{last-entry}
 use Rattle.outcome.specs.After.{Holds, HeldAre}
 use Rattle.outcome.specs.Samples.{entry, heldWith, Wrapping, two-steps, circle, Says}
 use Rattle.outcome.specs.Samples as samples
-use Rattle.outcome.proofs.RunsLists.{in-member}
+use Rattle.chains.proofs.Members.{in-member}
 use Rattle.outcome.proofs.SamplesChains.{each-chain, opens-own, opens-only, key-size, zeroRoot}
 use Rattle.outcome.proofs.SamplesTaken.{registers-0, registers-8}
 

@@ -37,7 +37,7 @@ use Rattle.outcome.specs.After.{oldSas, insertAll, no-sa, leastAfterward
 use Rattle.outcome.specs.Run.{LiveRekey}
 use Rattle.outcome.specs.Outcome.{Outcome}
 use Rattle.outcome.specs.Samples.{deleting, LaterRefused, least-seven, last-id, Says}
-use Rattle.outcome.proofs.RunsLists.{in-member}
+use Rattle.chains.proofs.Members.{in-member}
 use Rattle.outcome.proofs.RunsClear.{None, Clear, taken}
 use Rattle.outcome.proofs.RunsAccepted.{clear-formed}
 use Rattle.outcome.proofs.RunsLive.{live-stands, accepted-live}

@@ -30,7 +30,8 @@ use Rattle.outcome.specs.Roots.{keyZero, rootsOf, entriesOf, wrappingSiz
 use Rattle.outcome.specs.After.{saFrom, oldSas, insertAll, one-more, no-sa, HeldAre, HeldBy, leastAfterwards, After}
 use Rattle.outcome.specs.Outcome.{Outcome}
 use Rattle.outcome.specs.Samples.{Around, espPolicy, registering, registered, Keying}
-use Rattle.outcome.proofs.RunsLists.{in-member, none-passes}
+use Rattle.chains.proofs.Members.{in-member}
+use Rattle.outcome.proofs.RunsLists.{none-passes}
 use Rattle.outcome.proofs.RunsClear.{Clear}
 use Rattle.outcome.proofs.SamplesAnswers.{outcome-0, outcome-8}
 use Rattle.outcome.proofs.SamplesFrame.{row-of, fresh-2, fresh-3, fresh-4, fresh-5, fresh-6, fresh-7}

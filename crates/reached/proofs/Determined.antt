@@ -19,7 +19,7 @@ use Rattle.reach.specs.inner.Values.{Tells}
 use Rattle.state.proofs.Kept.{id-trans}
 use Rattle.reached.specs.Reached.{HeldAre, Answers}
 use Rattle.reached.specs.declared.held.Reached.{Reached}
-use Rattle.reached.proofs.Membership.{mem-in, in-mem}
+use Rattle.chains.proofs.Members.{member-in, in-member}
 
 id-irrefl : (a : HeldKey) → idBefore a a ≡ false
 id-irrefl a = le-ltb (a .id) (a .id) (omega arith)
@@ -29,8 +29,8 @@ module _ (roots : List Root) (entries : List WrapKey) (size : ℕ) where
   each-in : (g h : Held) (a : HeldAre roots entries size g) (b : HeldAre roots entries size h) (k : HeldKey) →
       List·Memᴰ k (a .keys) → List·Memᴰ k (b .keys)
   each-in g h a b k m =
-      let r = a .reached k (mem-in k (a .keys) m) in
-      subst (λ (x : HeldKey). List·Memᴰ x (b .keys)) (sym (r .is)) (in-mem _ (b .keys) (b .stands (k .id) (r .value) (r .gives)))
+      let r = a .reached k (member-in k (a .keys) m) in
+      subst (λ (x : HeldKey). List·Memᴰ x (b .keys)) (sym (r .is)) (in-member _ (b .keys) (b .stands (k .id) (r .value) (r .gives)))
 
   pub held-one : (g h : Held) → HeldAre roots entries size g → HeldAre roots entries size h → g ≡ h
   held-one g h a b =

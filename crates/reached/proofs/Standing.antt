@@ -24,7 +24,8 @@ use Rattle.reach.specs.inner.Opened.{valueOf}
 use Rattle.reach.specs.inner.Search.{keyAt, Gives, Searched, Found-in, Nonzero}
 use Rattle.reach.proofs.Eight.{eight-wrong, eight-clash, found}
 use Rattle.reached.specs.Reached.{heldKeyOf, IsReached, HeldAre}
-use Rattle.reached.proofs.Membership.{mem-in, in-mem, all-members}
+use Rattle.chains.proofs.Members.{member-in, in-member}
+use Rattle.reached.proofs.Membership.{all-members}
 use Rattle.reached.proofs.Entering.{Done-at, Entered}
 
 formed-of : (k : HeldKey) → (k .id ≡ 0 → ⊥) → sizeOf 13 (k .key .count) ≡ true → keyFormed k ≡ true
@@ -81,7 +82,7 @@ module _ (frame : List ℕ) (places : List Entry) (n : ℕ) (cells : List Cell) 
       let h = x .each (f .place) j (f .done) in
       let e : h .key .id ≡ i = h .id-is ∙ lists .at (f .place) j .id ∙ f .id-is in
       subst (λ (a : HeldKey). In a (x .keys)) (same-key i y v (h .key) e (is-reached (h .key) (x .from (h .key) (h .member))))
-      (mem-in (h .key) (x .keys) (h .member))
+      (member-in (h .key) (x .keys) (h .member))
 
   pub held-are : HeldAre roots l size held
   held-are = record {
@@ -90,7 +91,7 @@ module _ (frame : List ℕ) (places : List Entry) (n : ℕ) (cells : List Cell) 
     room = omega (arith, x .few, lists .within);
     formed = all-members keyFormed (x .keys) (λ k m. key-formed k (x .from k m));
     rises = x .rises;
-    reached = λ k m. is-reached k (x .from k (in-mem k (x .keys) m));
+    reached = λ k m. is-reached k (x .from k (in-member k (x .keys) m));
     stands = λ i y v. stands-by i y v (found-at i y v);
   }
 

@@ -1,0 +1,131 @@
+-- The answer to a frame: from what is judged of its tree to the outcome, and that the outcome is one.
+use native.Mathlib.Omega.{arith}
+use Prim.Native.Nat.{ℕ, zero, suc, _≤_}
+use mathlib.Core.Path.{_≡_, refl, ap, sym, subst, _∙_}
+use mathlib.Core.Logic.{inl, inr}
+use mathlib.Core.List.{List, [], _∷_}
+use lib.ListN.{getD}
+use Rattle.octets.specs.Walk.{Reading, whole, broken}
+use borrow.Author.Tests.{ltb-true, ltb-false}
+use lib.Dec.{ltb}
+use Rattle.keys.specs.Limits.{limits}
+use Rattle.keys.proofs.Cases.{bool-cases}
+use Rattle.attributes.specs.Answers.{layoutOf}
+use Rattle.attributes.specs.declared.Layout.{Layout}
+use Rattle.attributes.specs.declared.Layout.the-variants as layout
+use Rattle.frames.specs.Frame.{Frame, frame, frameLayout}
+use Rattle.frames.proofs.FrameGrammar.{read-frame, frame-read}
+use Rattle.state.specs.declared.State.{State}
+use Rattle.clauses.specs.Refusals.{refusal}
+use Rattle.outcome.specs.Answer.{Condition, First, conditions}
+use Rattle.outcome.specs.Outcome.{Judged, refused, accepted, Outcome, no-layout, by-tree}
+use Rattle.outcome.proofs.Answering.{answers-clauses}
+use Rattle.outcome.proofs.Determined.{outcome-one}
+use Rattle.group.specs.declared.Member.{Member}
+use Rattle.group.specs.declared.receive.Answer.{Answer}
+use Rattle.group.specs.declared.receive.Answer.the-variants as answer
+use Rattle.group.specs.Receive.{numberOf, Receives}
+
+-- ---- the numbers go up to 9
+abbrev Small : List Condition → Type 0
+Small [] = Unit {0}
+Small (c ∷ l) = (c .number ≤ 9) × Small l
+
+first-small : (l : List Condition) (n : ℕ) → Small l → First l n → n ≤ 9
+first-small [] n s e = omega arith
+first-small (c ∷ l) n s (inl p) = omega (arith, s .0, p .1)
+first-small (c ∷ l) n s (inr p) = first-small l n (s .1) (p .1)
+
+module _ (m : State) (now : ℕ) (lent : List ℕ) (f : Frame) where
+  all-small : Small (conditions limits m now lent f)
+  all-small = (
+    omega arith,
+    (omega arith, (omega arith, (omega arith, (omega arith, (omega arith, (omega arith, (omega arith, tt))))))),
+  )
+
+  pub judged-small : (n : ℕ) (next : State) → Judged limits m now lent f n next → n ≤ 9
+  judged-small _ _ (refused n a) = first-small (conditions limits m now lent f) (suc n) all-small a
+  judged-small _ _ (accepted next a r) = omega arith
+
+  -- one of numbers 2 to 7 applies
+  pub judged-clauses : (n : ℕ) → n ≡ refusal limits m now lent f → (n ≡ 0 → ⊥) → Judged limits m now lent f n m
+  judged-clauses zero e d = absurd (d refl)
+  judged-clauses (suc n) e d = refused n (answers-clauses limits m now lent f n (sym e))
+
+  -- the answer has the number that was judged, and the member the state
+  pub judged-as : (n k : ℕ) (next after : State) → k ≡ n → after ≡ next → Judged limits m now lent f n next →
+      Judged limits m now lent f k after
+  judged-as n k next after e g j =
+      subst (λ (x : State). Judged limits m now lent f k x) (sym g) (subst (λ (x : ℕ). Judged limits m now lent f x next) (sym e) j)
+
+-- ---- the last of them
+beyond : (k n : ℕ) → k ≤ n → (n ≡ k → ⊥) → suc k ≤ n
+beyond k n h d =
+    bool-cases (ltb k n) (λ e. let g = ltb-true k n e in omega arith) (λ e. let g = ltb-false k n e in absurd (d (omega arith)))
+
+pub is-nine : (n : ℕ) → n ≤ 9 → (n ≡ 0 → ⊥) → (n ≡ 1 → ⊥) → (n ≡ 2 → ⊥) → (n ≡ 3 → ⊥) → (n ≡ 4 → ⊥) → (n ≡ 5 → ⊥) → (n ≡ 6 → ⊥) →
+    (n ≡ 7 → ⊥) → (n ≡ 8 → ⊥) → 9 ≡ n
+is-nine n h a b c d e f g i j =
+    let x : 5 ≤ n = beyond 4 n (beyond 3 n (beyond 2 n (beyond 1 n (beyond 0 n (omega arith) a) b) c) d) e in
+    let y : 9 ≤ n = beyond 8 n (beyond 7 n (beyond 6 n (beyond 5 n x f) g) i) j in
+    omega arith
+
+-- ---- a layout is whole of a tree, or broken
+abbrev codeOf : Layout → ℕ
+codeOf layout.Whole = 0
+codeOf (layout.Broken o) = suc o
+
+whole-by : (s : List ℕ) (x : Reading Frame) → frame s ≡ x → layoutOf x ≡ layout.Whole → (f : Frame) × (frame s ≡ whole f [])
+whole-by s (whole f rest) e l = (f, frame-read s f (read-frame s f rest e))
+whole-by s (broken o) e l = let z : suc o ≡ 0 = ap codeOf l in absurd (omega arith)
+
+broken-by : (s : List ℕ) (x : Reading Frame) (o : ℕ) → frame s ≡ x → layoutOf x ≡ layout.Broken o → frame s ≡ broken o
+broken-by s (whole f rest) o e l = let z : 0 ≡ suc o = ap codeOf l in absurd (omega arith)
+broken-by s (broken p) o e l = let z : suc p ≡ suc o = ap codeOf l in let q : p ≡ o = omega arith in e ∙ ap broken q
+
+module _ (s : List ℕ) (r : Layout) (e : r ≡ frameLayout s) where
+  pub whole-tree : r ≡ layout.Whole → (f : Frame) × (frame s ≡ whole f [])
+  unfolding frameLayout
+  whole-tree l = whole-by s (frame s) refl (sym e ∙ l)
+
+  pub no-tree : (o : ℕ) → r ≡ layout.Broken o → frame s ≡ broken o
+  unfolding frameLayout
+  no-tree o l = broken-by s (frame s) o refl (sym e ∙ l)
+
+-- ---- the call's promise
+module _ (m : Member) (now : ℕ) (lent octets : List ℕ) where
+  pub receives-broken : (o : ℕ) → frame octets ≡ broken o → (a : Answer) (next : Member) → numberOf a ≡ 1 → next .state ≡ m .state →
+      Receives m now lent octets a next
+  receives-broken o e a next n g =
+      subst (λ (x : State). Outcome limits (m .state) now lent octets (numberOf a) x) (sym g)
+      (subst (λ (x : ℕ). Outcome limits (m .state) now lent octets x (m .state)) (sym n) (no-layout o e))
+
+  pub receives-tree : (f : Frame) → frame octets ≡ whole f [] → (a : Answer) (next : Member) →
+      Judged limits (m .state) now lent f (numberOf a) (next .state) → Receives m now lent octets a next
+  receives-tree f e a next j = by-tree f e j
+
+  -- "Every public call's promise determines its answer and the member .. after it, also on refusal, for all inputs"
+  abbrev numbered : ℕ → Answer
+  numbered n =
+      getD
+      (answer.Accepted ∷ answer.BrokenLayout ∷ answer.NotForMember ∷ answer.Replayed ∷ answer.BadComposition ∷ answer.Unsupported ∷
+      answer.Unpaired ∷ answer.OverLimit ∷ answer.KeyConflict ∷ [])
+      n answer.NoKey
+
+  numbered-of : (a : Answer) → numbered (numberOf a) ≡ a
+  numbered-of answer.Accepted = refl
+  numbered-of answer.BrokenLayout = refl
+  numbered-of answer.NotForMember = refl
+  numbered-of answer.Replayed = refl
+  numbered-of answer.BadComposition = refl
+  numbered-of answer.Unsupported = refl
+  numbered-of answer.Unpaired = refl
+  numbered-of answer.OverLimit = refl
+  numbered-of answer.KeyConflict = refl
+  numbered-of answer.NoKey = refl
+
+  pub receives-one : (a b : Answer) (next after : Member) → Receives m now lent octets a next → Receives m now lent octets b after →
+      (a ≡ b) × (next ≡ after)
+  receives-one a b next after p q =
+      let r = outcome-one limits (m .state) now lent octets (numberOf a) (numberOf b) (next .state) (after .state) p q in
+      (sym (numbered-of a) ∙ ap numbered (r .0) ∙ numbered-of b, λ i. record { state = r .1 i })

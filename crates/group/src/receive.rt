@@ -1,0 +1,133 @@
+// The call on an opened frame.
+use crate::Member;
+use attributes::Layout;
+use receiving::registration::registered;
+use receiving::rekey::rekeyed;
+use receiving::row_of;
+use state::State;
+ghost use mathlib.Core.Path.{_≡_};
+ghost use mathlib.Core.Bool.{true, false};
+ghost use mathlib.Core.List.{List, []};
+ghost use Prim.Native.Nat.{ℕ, _≤_};
+ghost use Rattle.octets.specs.Walk.{whole};
+ghost use Rattle.keys.specs.Limits.{limits};
+ghost use Rattle.frames.specs.Frame.{Frame, frame};
+ghost use Rattle.contents.specs.inner.Values.{isWhole};
+ghost use Rattle.clauses.specs.Contents.{rowOf};
+ghost use Rattle.outcome.specs.Outcome.{Judged};
+ghost use Rattle.receiving.specs.inner.Passing.{Passed};
+ghost use Rattle.group.specs.Receive.{numberOf, Receives};
+
+// What becomes of a frame.
+pub enum Answer {
+    Accepted,
+    // the octets are not laid out as a frame
+    BrokenLayout,
+    // another exchange, a registration of a member that is not empty, a rekey over other SPIs, or a member value that breaks its list
+    NotForMember,
+    // a Message ID below the least acceptable
+    Replayed,
+    // payloads, policies or bags that a frame of its exchange cannot have together
+    BadComposition,
+    // a protocol, transforms or a lent key's size that are not supported
+    Unsupported,
+    // policies and bags that do not pair, or keys in them that should not be there
+    Unpaired,
+    // more of something than a frame or a table may hold
+    OverLimit,
+    // a wrapping that opens to a wrong size, or one key with two values
+    KeyConflict,
+    // an SA no copy of whose key opens
+    NoKey,
+}
+
+// The answer and the next member, on a refusal the member as it was.
+pub struct Received {
+    pub answer: Answer,
+    pub member: Member,
+}
+
+// The answer with this number.
+fn answer_of(number: usize) -> Answer
+    requires { ⌜ number ≤ 9 ⌝ }
+    ensures { λ r. ⌜ numberOf r ≡ number ⌝ }
+{
+    match number {
+        0 => Answer::Accepted,
+        1 => Answer::BrokenLayout,
+        2 => Answer::NotForMember,
+        3 => Answer::Replayed,
+        4 => Answer::BadComposition,
+        5 => Answer::Unsupported,
+        6 => Answer::Unpaired,
+        7 => Answer::OverLimit,
+        8 => Answer::KeyConflict,
+        _ => Answer::NoKey,
+    }
+}
+
+// The answer with this number and the member of this state.
+fn answered(number: usize, state: State) -> Received
+    requires { ⌜ number ≤ 9 ⌝ }
+    ensures { λ r. ⌜ (numberOf (r .answer) ≡ number) × (r .member .state ≡ state) ⌝ }
+{
+    let answer = answer_of(number);
+    let member = Member { state };
+    Received { answer, member }
+}
+
+impl Member {
+    // A registration that numbers 2 to 7 let pass.
+    fn registering(self, s: &[u8], lent: &[u8], tick: u32) -> Received
+        requires { ⌜ ((f : Frame) × Passed (self .state) tick (now lent) (now s) f × (rowOf f .holds ≡ true)) ⌝ }
+        ensures { λ r. ⌜ ((f : Frame) → Passed (self .state) tick (now (lent .entry)) (now (s .entry)) f → rowOf f .holds ≡ true →
+            Judged limits (self .state) tick (now (lent .entry)) f (numberOf (r .answer)) (r .member .state)) ⌝ }
+    {
+        let state = self.state;
+        let next = registered(state, s, lent, tick);
+        answered(next.number, next.state)
+    }
+
+    // A rekey that numbers 2 to 7 let pass. No lent key is read.
+    fn rekeying(self, s: &[u8], tick: u32) -> Received
+        requires { ⌜ ((f : Frame) × (lent : List ℕ) × Passed (self .state) tick lent (now s) f × (rowOf f .holds ≡ false)) ⌝ }
+        ensures { λ r. ⌜ ((f : Frame) (lent : List ℕ) → Passed (self .state) tick lent (now (s .entry)) f → rowOf f .holds ≡ false →
+            Judged limits (self .state) tick lent f (numberOf (r .answer)) (r .member .state)) ⌝ }
+    {
+        let state = self.state;
+        let next = rekeyed(state, s, tick);
+        answered(next.number, next.state)
+    }
+
+    // A frame whose layout is whole.
+    fn judged(self, s: &[u8], lent: &[u8], tick: u32) -> Received
+        requires { ⌜ ((f : Frame) × (frame (now s) ≡ whole f [])) ⌝ }
+        ensures { λ r. ⌜ ((f : Frame) → frame (now (s .entry)) ≡ whole f [] →
+            Judged limits (self .state) tick (now (lent .entry)) f (numberOf (r .answer)) (r .member .state)) ⌝ }
+    {
+        let state = self.state;
+        let number = judging::refusal(state, s, lent, tick);
+        if number != 0 {
+            return answered(number, state);
+        }
+        let row = row_of(s);
+        if row.holds {
+            return self.registering(s, lent, tick);
+        }
+        self.rekeying(s, tick)
+    }
+
+    // A frame's octets, opened: the IKE header and the payloads. A registration (GSA_AUTH, GSA_REGISTRATION) comes with a lent default
+    // key; for a rekey (GSA_REKEY) the lent octets are not read.
+    pub fn receive(self, frame: &[u8], lent: &[u8], tick: u32) -> Received
+        ensures { λ r. ⌜ Receives self tick (now (lent .entry)) (now (frame .entry)) (r .answer) (r .member) ⌝ }
+    {
+        match frames::frame_layout(frame) {
+            Layout::Whole => self.judged(frame, lent, tick),
+            Layout::Broken(_) => {
+                let state = self.state;
+                answered(1, state)
+            }
+        }
+    }
+}

@@ -1,0 +1,6 @@
+pub mod ClauseLaws
+pub mod ConcludingLaws
+pub mod ZeroLaws
+pub mod BodyLaws
+pub mod RegistrationLaws
+pub mod RekeyLaws

@@ -1,0 +1,98 @@
+-- A rekey: key 0 is the default key of the live Rekey SA, the held keys can be named, there is no entry and no lent key.
+use native.Mathlib.Omega.{arith}
+use Prim.Native.Nat.{ℕ}
+use mathlib.Core.Path.{_≡_, refl, ap, sym, subst, _∙_}
+use mathlib.Core.Bool.{Bool, true, false}
+use mathlib.Core.List.{List, [], _∷_}
+use lib.ListN.{length}
+use Rattle.keys.specs.Limits.{limits}
+use Rattle.keys.specs.Lists.{any}
+use Rattle.keys.specs.declared.kinds.WrappingKey.{WrappingKey}
+use Rattle.keys.proofs.Cases.{and-parts}
+use Rattle.attributes.specs.Tree.{WrapKey}
+use Rattle.frames.specs.Frame.{Frame}
+use Rattle.frames.specs.Exchange.{rekey}
+use Rattle.sa.specs.Entry.{named, liveRekey}
+use Rattle.sa.specs.Entry as entry
+use Rattle.table.specs.Table.{sasOf, tableFormed, swept, defaultKey}
+use Rattle.table.specs.declared.Table.{Table}
+use Rattle.table.proofs.Kept.{sas-of-table, swept-formed}
+use Rattle.state.specs.declared.State.{State}
+use Rattle.clauses.specs.Contents.{rowOf}
+use Rattle.clauses.specs.Number2.{standing, overLiveRekey}
+use Rattle.chains.specs.Chain.{Root, Chain, root, step, Reached}
+use Rattle.chains.specs.Refusals.{EntriesEight, wrong-size, two-values}
+use Rattle.copies.specs.Known.{Agrees, heldRoots}
+use Rattle.copies.proofs.Rekeying.{rekey-agrees}
+use Rattle.outcome.specs.Roots.{rootsOf, entriesOf, wrappingSize}
+use Rattle.outcome.specs.After.{HeldAre, HeldBy}
+use Rattle.outcome.proofs.Rows.{own-roots}
+use Rattle.outcome.proofs.Members.{not-in-none}
+use Rattle.outcome.proofs.RunsLists.{some-passes, passes-some}
+use Rattle.acceptance.proofs.NextLaws.{swept-made}
+use Rattle.keying.specs.Keyed.{KeyedBy}
+use Rattle.keying.specs.declared.joining.Keyed.{Keyed}
+use Rattle.receiving.specs.inner.Passing.{Bodied, IsDefaultKey, Opened}
+use Rattle.receiving.proofs.ClauseLaws.{state-formed, is-rekey, over-live, no-entry}
+use Rattle.receiving.proofs.ConcludingLaws.{table-fits, table-is}
+
+-- with no entry nothing is reached
+none-passed : (roots : List Root) (size : ℕ) (passed : List WrapKey) (k : ℕ) (x : List ℕ) → Chain roots [] size passed k x →
+    length passed ≡ 0
+none-passed roots size _ _ _ (root r i) = refl
+none-passed roots size _ _ _ (step e c t l) = absurd (not-in-none e (l .entry))
+
+none-reached : (roots : List Root) (size k : ℕ) (x : List ℕ) → Reached roots [] size k x → ⊥
+none-reached roots size k x r = let z = none-passed roots size (r .last ∷ r .before) k x (r .chain) in omega arith
+
+none-eight : (roots : List Root) (size : ℕ) → EntriesEight roots [] size → ⊥
+none-eight roots size (wrong-size k x r d) = none-reached roots size k x r
+none-eight roots size (two-values k x y r q d) = none-reached roots size k x r
+
+module _ {m : State} {now : ℕ} {lent s g k : List ℕ} {f : Frame} (b : Bodied false m now lent s g k f) (t : Table)
+    (w : t ≡ swept limits now (m .table)) where
+  row : rowOf f ≡ rekey
+  row = is-rekey m now lent f (b .passed .clauses) (b .row)
+
+  pub stands-formed : tableFormed limits t ≡ true
+  stands-formed =
+      ap (tableFormed limits) w
+      ∙ swept-formed limits now (m .table) (table-is m (state-formed m now lent f (b .passed .clauses)))
+
+  stands-are : sasOf t ≡ standing now m
+  stands-are =
+      ap sasOf (w ∙ swept-made now (m .table) (table-fits m (state-formed m now lent f (b .passed .clauses))))
+      ∙ sas-of-table limits (standing now m)
+
+  pub stands-live : any liveRekey (sasOf t) ≡ true
+  stands-live =
+      let x = some-passes (overLiveRekey (f .header .spi)) (standing now m) (over-live m now lent f (b .passed .clauses) row) in
+      let l = and-parts (liveRekey (x .one)) (named entry.rekey (f .header .spi) (x .one)) (x .passes) .0 in
+      ap (any liveRekey) stands-are ∙ passes-some liveRekey (standing now m) (x .one) (x .stands) l
+
+  module _ (zero : WrappingKey) (d : IsDefaultKey t zero) where
+    roots-are : heldRoots zero (m .held) ≡ rootsOf limits m now lent f
+    roots-are =
+        let own : zero ≡ defaultKey limits (swept limits now (m .table)) .key = d .is ∙ ap (λ (x : Table). defaultKey limits x .key) w in
+        ap (λ (x : WrappingKey). heldRoots x (m .held)) own ∙ sym (own-roots limits m now f row lent)
+
+    none : [] ≡ entriesOf f
+    none = sym (no-entry m now lent f (b .passed .clauses) row)
+
+    carry : (P : List Root → List WrapKey → Type 0) → P (heldRoots zero (m .held)) [] → P (rootsOf limits m now lent f) (entriesOf f)
+    carry P x = subst (P (rootsOf limits m now lent f)) none (subst (λ (l : List Root). P l []) roots-are x)
+
+    pub rekey-opened : (keyed : Keyed) →
+        ((roots : List Root) (entries : List WrapKey) (size : ℕ) → Agrees roots entries size zero (m .held) →
+        KeyedBy roots entries size f keyed) → Opened m now lent s g keyed (m .held) f
+    rekey-opened keyed by =
+        let n = wrappingSize limits m now lent f in
+        record {
+          passed = b .passed;
+          policies = b .policies;
+          entries = carry (λ (x : List Root) (y : List WrapKey). EntriesEight x y n → ⊥) (none-eight (heldRoots zero (m .held)) n);
+          keys = by _ _ n (carry (λ (x : List Root) (y : List WrapKey). Agrees x y n zero (m .held)) (rekey-agrees zero (m .held) n));
+          held-is = subst (λ (x : Bool).
+              HeldBy x (HeldAre (rootsOf limits m now lent f) (entriesOf f) n limits (m .held))
+              (m .held ≡ m .held)) (sym (b .row)) refl;
+        }

@@ -1,0 +1,50 @@
+-- A frame that numbers 2 to 7 let pass, and what its keys come to.
+use Prim.Native.Nat.{ℕ}
+use mathlib.Core.Path.{_≡_}
+use mathlib.Core.Bool.{Bool, true}
+use mathlib.Core.List.{List, []}
+use Rattle.octets.specs.Walk.{whole}
+use Rattle.keys.specs.Limits.{limits}
+use Rattle.keys.specs.Algorithms.{sizeOf}
+use Rattle.keys.specs.declared.kinds.WrappingKey.{WrappingKey}
+use Rattle.frames.specs.Frame.{Frame, frame}
+use Rattle.table.specs.Table.{defaultKey}
+use Rattle.table.specs.declared.Table.{Table}
+use Rattle.state.specs.declared.State.{State}
+use Rattle.state.specs.declared.held.Held.{Held}
+use Rattle.contents.specs.inner.Policies.{policiesIn}
+use Rattle.contents.specs.inner.Bags.{bagsIn}
+use Rattle.clauses.specs.Contents.{rowOf, policiesOf, bagsOf}
+use Rattle.clauses.specs.Refusals.{refusal}
+use Rattle.chains.specs.Refusals.{EntriesEight}
+use Rattle.outcome.specs.Roots.{rootsOf, entriesOf, wrappingSize}
+use Rattle.outcome.specs.After.{HeldAre, HeldBy}
+use Rattle.keying.specs.Keyed.{KeyedBy}
+use Rattle.keying.specs.declared.joining.Keyed.{Keyed}
+
+-- s is the frame f, and none of numbers 2 to 7 applies to it
+pub record Passed (m : State) (now : ℕ) (lent s : List ℕ) (f : Frame) : Type 0 where
+  pub whole-is : frame s ≡ whole f []
+  pub clauses : refusal limits m now lent f ≡ 0
+
+-- its exchange sets the held list or leaves it, and its policies and its bags are those of these bodies
+pub record Bodied (holds : Bool) (m : State) (now : ℕ) (lent s g k : List ℕ) (f : Frame) : Type 0 where
+  pub passed : Passed m now lent s f
+  pub row : rowOf f .holds ≡ holds
+  pub policies : policiesOf f ≡ policiesIn g
+  pub bags : bagsOf f ≡ bagsIn k
+
+-- number 8 does not hold of its entries; this is known of the keys of its SAs; this is the held list afterwards
+pub record Opened (m : State) (now : ℕ) (lent s g : List ℕ) (keyed : Keyed) (held : Held) (f : Frame) : Type 0 where
+  pub passed : Passed m now lent s f
+  pub policies : policiesOf f ≡ policiesIn g
+  pub entries : EntriesEight (rootsOf limits m now lent f) (entriesOf f) (wrappingSize limits m now lent f) → ⊥
+  pub keys : KeyedBy (rootsOf limits m now lent f) (entriesOf f) (wrappingSize limits m now lent f) f keyed
+  pub held-is :
+      HeldBy (rowOf f .holds) (HeldAre (rootsOf limits m now lent f) (entriesOf f) (wrappingSize limits m now lent f) limits held)
+      (held ≡ m .held)
+
+-- the default key of the table's live Rekey SA, of a size that a wrapping key has
+pub record IsDefaultKey (t : Table) (r : WrappingKey) : Type 0 where
+  pub is : r ≡ defaultKey limits t .key
+  pub fits : sizeOf 13 (r .count) ≡ true

@@ -1,0 +1,57 @@
+// What the lines are made of.
+use libc::STDOUT_FILENO;
+
+pub(crate) fn print(text: &[u8]) {
+    io::write_all(STDOUT_FILENO, text);
+}
+
+pub(crate) fn number(n: usize) {
+    io::print_decimal(STDOUT_FILENO, n as u64);
+}
+
+// A number between two texts.
+pub(crate) fn between(before: &[u8], n: usize, after: &[u8]) {
+    print(before);
+    number(n);
+    print(after);
+}
+
+// Octets in hexadecimal.
+pub(crate) fn hexadecimal(octets: &[u8]) {
+    let mut i = 0;
+    while i < octets.len() {
+        io::print_hex(STDOUT_FILENO, octets::wide(octets[i]) as u64, 2);
+        i += 1;
+    }
+}
+
+// The number of two octets at a place of an IPv6 address.
+fn group(octets: &[u8], at: usize) {
+    if at != 0 {
+        print(b":");
+    }
+    io::print_hex(STDOUT_FILENO, crate::part::two(octets, at) as u64, 1);
+}
+
+fn groups(octets: &[u8]) {
+    let mut i = 0;
+    while i < octets.len() {
+        group(octets, i);
+        if octets.len() - i < 2 {
+            return;
+        }
+        i += 2;
+    }
+}
+
+// An address of 4 octets, or of 16.
+pub(crate) fn address(octets: &[u8]) {
+    if octets.len() == 4 {
+        number(octets::wide(octets[0]));
+        between(b".", octets::wide(octets[1]), b".");
+        number(octets::wide(octets[2]));
+        between(b".", octets::wide(octets[3]), b"");
+        return;
+    }
+    groups(octets);
+}
