@@ -17,7 +17,8 @@ use Rattle.payloads.specs.inner.Bodies.{IsBodies, HoldsPolicies, HoldsBags}
 use Rattle.clauses.specs.Contents.{rowOf, wrapKeysOf}
 use Rattle.clauses.specs.Number6.{wrapKeyId}
 use Rattle.chains.specs.Chain.{In}
-use Rattle.outcome.proofs.RunsLists.{in-member, none-passes}
+use Rattle.chains.proofs.Members.{in-member}
+use Rattle.outcome.proofs.RunsLists.{none-passes}
 use Rattle.reach.specs.Entries.{noKey}
 use Rattle.reach.specs.inner.Search.{Nonzero}
 use Rattle.reach.proofs.Statuses.{getD-any}

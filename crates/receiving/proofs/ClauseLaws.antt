@@ -2,7 +2,7 @@
 use native.Mathlib.Omega.{arith}
 use Prim.Native.Nat.{ℕ, suc, _+_, _≤_}
 use mathlib.Core.Path.{_≡_, refl, ap, sym, subst}
-use mathlib.Core.Bool.{Bool, true, false, not, cond, _&&_, _||_, false≢true}
+use mathlib.Core.Bool.{Bool, true, false, not, cond, _&&_, false≢true}
 use mathlib.Core.List.{List, [], _∷_}
 use borrow.Author.Tests.{ltb-false}
 use lib.Dec.{eqb}
@@ -26,14 +26,11 @@ use Rattle.clauses.specs.Number5.{five-ofFrame, otherTransforms, lentKeySize}
 use Rattle.clauses.specs.Number6.{six-ofFrame, policyUnpaired, wrapKeyId}
 use Rattle.clauses.specs.Number7.{seven-ofFrame, seven-ofMember, manyWrapKeys, manySas}
 use Rattle.clauses.specs.Refusals.{Number, one, applies, judged, two, three, four, five, six, seven, refusal}
-use Rattle.outcome.proofs.RunsClear.{None, no-clause}
+use Rattle.clauses.proofs.Clear.{or-none, no-clause}
+use Rattle.outcome.proofs.RunsClear.{None}
 use Rattle.acceptance.specs.inner.Readings.{oneDelay, oneInitial}
 
 -- ---- the numbers, one after the other
-or-none : (a b : Bool) → (a || b) ≡ false → (a ≡ false) × (b ≡ false)
-or-none true b e = absurd (false≢true (sym e))
-or-none false b e = (refl, e)
-
 none-by : (n : Number) (l : List Number) (k : ℕ) → n .number ≡ suc k → (b : Bool) → applies n ≡ b →
     cond b (n .number) (judged l) ≡ 0 → None n × (judged l ≡ 0)
 none-by n l k h true e g = absurd (omega arith)
