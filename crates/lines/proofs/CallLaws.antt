@@ -1,13 +1,13 @@
 -- What the answers of the calls on lines give their caller: the key and the frame as parts of what was lent. Assumes nothing.
 use Prim.Native.Nat.{ℕ, _-_, _/_, _≤_}
-use mathlib.Core.Path.{_≡_, refl, ap, sym, _∙_}
+use mathlib.Core.Path.{_≡_, refl, ap, sym, subst, _∙_}
 use mathlib.Core.List.{List, [], _∷_}
 use native.Mathlib.Omega.{arith}
 use lib.ListN.{length, take, drop, length-drop}
 use Rattle.lines.specs.Hex.{octetsOf}
-use Rattle.lines.specs.Input.{isTaken, keyOf, frame, askedBy}
+use Rattle.lines.specs.Input.{Asked, isTaken, keyOf, frame, askedBy}
 use Rattle.lines.specs.Answer.{badText}
-use Rattle.lines.specs.Transcript.{Step, told, replyTo, reply}
+use Rattle.lines.specs.Transcript.{Step, Outcome, told, RepliesTo, Replies}
 use Rattle.lines.specs.inner.Calls.{Gives, Asks}
 use Rattle.lines.specs.declared.Key.{Key}
 use Rattle.lines.specs.declared.Request.the-variants as request
@@ -61,12 +61,11 @@ module _ (line : List ℕ) {room after : List ℕ} {tick len : ℕ}
 
 -- what the program does with a later line is what the line asks
 module _ {S : Type 0} (step : Step S) (key : List ℕ) (member : S) (line : List ℕ) {room after : List ℕ} where
-  pub reply-bad : Asks line room after request.Bad → reply step key member line ≡ record { next = member; text = badText }
-  unfolding reply
-  reply-bad p = ap (replyTo step key member) (p .0)
+  pub reply-bad : Asks line room after request.Bad → Replies step key member line (record { next = member; text = badText })
+  reply-bad p = subst (λ (x : Asked). RepliesTo step key member x (record { next = member; text = badText })) (sym (p .0)) refl
 
-  pub reply-frame : {tick len : ℕ} → Asks line room after (request.Frame tick len) → 16384 ≤ length room
-      → reply step key member line ≡ told (step member key tick (take len after))
-  unfolding reply
-  reply-frame {tick} p h =
-      ap (replyTo step key member) (p .0) ∙ ap (λ (f : List ℕ). told (step member key tick f)) (sym (asked-frame line p h))
+  pub reply-frame : {tick len : ℕ} (o : Outcome S) → Asks line room after (request.Frame tick len) → 16384 ≤ length room
+      → step member key tick (take len after) o → Replies step key member line (told o)
+  reply-frame {tick} o p h q =
+      subst (λ (x : Asked). RepliesTo step key member x (told o)) (sym (p .0))
+      (o, subst (λ (f : List ℕ). step member key tick f o) (asked-frame line p h) q, refl)

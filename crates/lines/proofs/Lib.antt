@@ -7,6 +7,7 @@ pub mod InputLaws
 pub mod AnswerLaws
 pub mod CallLaws
 pub mod ReadingLaws
+pub mod OneTranscript
 pub mod ProgramLaws
 pub mod Samples
 pub mod RoomLaws

@@ -6,73 +6,21 @@ use mathlib.Core.List.{List, [], _∷_, _++_, append-assoc, append-nil}
 use mathlib.Core.Bool.{Bool, true, false, cond}
 use native.Mathlib.Omega.{arith}
 use lib.ListN.{length, take, drop, set, length-append, length-take, length-set}
-use lib.Seq.{sets, drop-drop, take-all, take-suc-set, take-append-le, length-take-le}
+use lib.Seq.{sets, drop-drop, take-add, take-all, take-suc-set, take-append-le, take-append-seam, length-take-le}
 use Rattle.lines.specs.Lines.{Line, written, lines, firstOf}
 use Rattle.lines.specs.Input.{Asked, bad, keyOf, askedBy}
-use Rattle.lines.specs.Transcript.{Step, replyTo, reply}
+use Rattle.lines.specs.Transcript.{Step, RepliesTo}
 use Rattle.lines.specs.inner.Room.{Put}
 use Rattle.lines.specs.inner.Calls.{Absorbs}
-use Rattle.lines.specs.inner.Reading.{awaited, given, DefaultKey, Reading, replied, lineEnd, close, extend, feedAll, finished, finish}
+use Rattle.lines.specs.inner.Reading.{awaited, given, DefaultKey, Reading, extend, LineEnds, Closes, Reads}
+use Rattle.lines.specs.inner.Reading.{FinishesBy, Finishes, Kept}
 use Rattle.lines.specs.declared.Absorbed.{Absorbed}
-use Rattle.lines.proofs.Cases.{by-same, by-less}
+use Rattle.lines.proofs.Cases.{by-less}
 use Rattle.lines.proofs.InputLaws.{taken-long, key-other, asked-other}
-use Rattle.lines.proofs.LineLaws.{lines-newline, lines-other, first-before}
-use Rattle.lines.proofs.ReadingLaws.{feed-newline, feed-other, closed-line}
+use Rattle.lines.proofs.LineLaws.{NoNewline}
+use Rattle.lines.proofs.SplitLaws.{joined, Proper, joined-lines, lines-proper}
+use Rattle.lines.proofs.ReadingLaws.{reads-characters, reads-line}
 use Rattle.lines.proofs.RoomLaws.{sets-out, length-put}
-
-module _ {S : Type 0} where
-  extend-none : (r : Reading S) → extend [] r ≡ r
-  unfolding extend
-  extend-none r = λ i. record { key = r .key; member = r .member; line = append-nil (r .line) i; output = r .output }
-
-  extend-more : (s t : List ℕ) (r : Reading S) → extend t (extend s r) ≡ extend (s ++ t) r
-  unfolding extend
-  extend-more s t r = λ i. record { key = r .key; member = r .member; line = append-assoc (r .line) s t i; output = r .output }
-
-module _ {S : Type 0} (step : Step S) where
-  -- after the first line of some octets, or after its beginning
-  abbrev afterFirst : Reading S → List ℕ → Line → Reading S
-  afterFirst r s l = cond (l .ended) (feedAll step (close step (extend (l .text) r)) (drop (length (written l)) s)) (extend (l .text) r)
-
-  feed-first : (s : List ℕ) (r : Reading S) → feedAll step r s ≡ afterFirst r s (firstOf (lines s))
-  unfolding feedAll lines written
-  feed-first [] r = sym (extend-none r)
-  feed-first (c ∷ s) r =
-      let more = feed-first s in
-      by-same c 10
-      (λ e.
-      ap (λ (x : Reading S). feedAll step x s) (feed-newline step r c e ∙ ap (close step) (sym (extend-none r)))
-      ∙ sym (ap (λ (ls : List Line). afterFirst r (c ∷ s) (firstOf ls)) (lines-newline c s e)))
-      (λ n.
-      ap (λ (x : Reading S). feedAll step x s) (feed-other step r c n)
-      ∙ more (extend (c ∷ []) r)
-      ∙ ap
-      (λ (x : Reading S).
-      cond (firstOf (lines s) .ended) (feedAll step (close step x) (drop (length (written (firstOf (lines s)))) s)) x)
-      (extend-more (c ∷ []) (firstOf (lines s) .text) r)
-      ∙ sym
-      (ap (λ (ls : List Line). afterFirst r (c ∷ s) (firstOf ls)) (lines-other c s n)
-      ∙ ap (afterFirst r (c ∷ s)) (first-before c (lines s))))
-
-  -- what a call of `absorb` did: the line that has begun is longer, and where it ended, the next one begins behind it
-  pub absorbed : {block : List ℕ} {from : ℕ} {line : List ℕ} {len : ℕ} {after : List ℕ} {a : Absorbed}
-      → Absorbs block from line len after a → (r : Reading S)
-      → let more = extend (firstOf (lines (drop from block)) .text) r in
-      feedAll step r (drop from block) ≡ cond (a .ended) (feedAll step (close step more) (drop (a .next) block)) more
-  absorbed {block} {from} {a = a} p r =
-      let l = firstOf (lines (drop from block)) in
-      feed-first (drop from block) r
-      ∙ ap
-      (λ (s : List ℕ). cond (l .ended) (feedAll step (close step (extend (l .text) r)) s) (extend (l .text) r))
-      (drop-drop (length (written l)) from block ∙ ap (λ (n : ℕ). drop n block) (sym (p .next)))
-      ∙ ap
-      (λ (e : Bool). cond e (feedAll step (close step (extend (l .text) r)) (drop (a .next) block)) (extend (l .text) r))
-      (sym (p .ended))
-
--- a lent line holds the beginning of a line: all of it, or as much as there is room for
-pub record Kept (room : List ℕ) (len : ℕ) (text : List ℕ) : Type 0 where
-  pub inside : len ≤ length room
-  pub same : take len room ≡ take (length room) text
 
 pub kept-none : (room : List ℕ) → Kept room 0 []
 kept-none room = record { inside = omega arith; same = sym (take-all (length room) [] (omega arith)) }
@@ -156,67 +104,84 @@ module _ {room : List ℕ} {len : ℕ} {text : List ℕ} (p : Kept room len text
 
 -- the line that has begun ends: what the program does with the octets that it holds is what the whole line asks
 module _ {S : Type 0} (step : Step S) where
-  end-kept : (k : DefaultKey) (member : S) (output : List ℕ) {room : List ℕ} {len : ℕ} {text : List ℕ} → 32776 < length room
-      → Kept room len text → lineEnd step k member (take len room) output ≡ lineEnd step k member text output
-  unfolding reply
-  end-kept awaited member output h p =
-      ap (λ (x : List ℕ). record { key = given x; member = member; line = []; output = output }) (key-kept p (omega arith))
-  end-kept (given key) member output h p = ap (λ (x : Asked). replied key output (replyTo step key member x)) (asked-kept p h)
+  pub ends-kept : (k : DefaultKey) (member : S) (output : List ℕ) (e : Reading S) {room : List ℕ} {len : ℕ} {text : List ℕ}
+      → 32776 < length room → Kept room len text → LineEnds step k member (take len room) output e → LineEnds step k member text output e
+  ends-kept awaited member output e h p q =
+      q ∙ ap (λ (x : List ℕ). record { key = given x; member = member; line = []; output = output }) (key-kept p (omega arith))
+  ends-kept (given key) member output e h p q =
+      (q .0, subst (λ (x : Asked). RepliesTo step key member x (q .0)) (asked-kept p h) (q .1), q .2)
 
-  pub close-kept : (r : Reading S) {room : List ℕ} {len : ℕ} → 32776 < length room → Kept room len (r .line)
-      → close step r ≡ lineEnd step (r .key) (r .member) (take len room) (r .output)
-  unfolding close
-  close-kept r h p = sym (end-kept (r .key) (r .member) (r .output) h p)
+-- the first line of some octets: no newline stands in it, and the octets begin with it
 
-  -- a program goes through a block: what it has read of it was read as octet by octet, and its lent line holds the line that has begun
-  pub record Goes (first : Reading S) (block : List ℕ) (now : Reading S) (room : List ℕ) (len at : ℕ) : Type 0 where
-    pub left : feedAll step first block ≡ feedAll step now (drop at block)
-    pub kept : Kept room len (now .line)
+first-proper : (ls : List Line) → Proper ls → NoNewline (firstOf ls .text)
+first-proper [] p = tt
+first-proper (l ∷ ls) p = p .0
 
-  pub goes-start : (r : Reading S) (block room : List ℕ) (len : ℕ) → Kept room len (r .line) → Goes r block r room len 0
-  goes-start r block room len p = record { left = refl; kept = p }
+first-written : (ls : List Line) (s : List ℕ) → joined ls ≡ s → take (length (written (firstOf ls))) s ≡ written (firstOf ls)
+unfolding joined written
+first-written [] s e = refl
+first-written (l ∷ ls) s e =
+    ap (take (length (written l))) (sym e) ∙ take-append-seam (written l) (joined ls)
 
-  module _ {first : Reading S} {block : List ℕ} {r : Reading S} {room : List ℕ} {len at : ℕ} {after : List ℕ} {a : Absorbed}
-      (p : Goes first block r room len at) (q : Absorbs block at room len after a) where
-    -- the line that has begun, with what was taken of the block
-    abbrev pub longer : Reading S
-    longer = extend (firstOf (lines (drop at block)) .text) r
+-- parts of a block, one behind the other
+pub part-join : (s : List ℕ) (a b c : ℕ) → a ≤ b → b ≤ c
+    → take (b - a) (drop a s) ++ take (c - b) (drop b s) ≡ take (c - a) (drop a s)
+part-join s a b c h k =
+    let e : a + (b - a) ≡ b = omega arith in
+    let n : (b - a) + (c - b) ≡ c - a = omega arith in
+    ap (λ (x : List ℕ). take (b - a) (drop a s) ++ take (c - b) x) (ap (λ (i : ℕ). drop i s) (sym e) ∙ sym (drop-drop (b - a) a s))
+    ∙ sym (take-add (b - a) (c - b) (drop a s)) ∙ ap (λ (i : ℕ). take i (drop a s)) n
 
-    pub longer-kept : Kept after (a .len) (longer .line)
-    unfolding extend
-    longer-kept = kept-put (p .kept) (q .kept)
+-- what a call of `absorb` did: the line that has begun is longer
+module _ {S : Type 0} (step : Step S) {block : List ℕ} {from : ℕ} {line : List ℕ} {len : ℕ} {after : List ℕ} {a : Absorbed}
+    (q : Absorbs block from line len after a) (r : Reading S) where
+  abbrev first : Line
+  first = firstOf (lines (drop from block))
 
-    -- a newline was taken: the line that is held is answered, and the next one begins
-    pub goes-line : 32776 < length room → a .ended ≡ true
-        → Goes first block (lineEnd step (r .key) (r .member) (take (a .len) after) (r .output)) after 0 (a .next)
-    unfolding extend
-    goes-line h e =
-        let held = take (a .len) after in
-        let l = length-put (q .kept) in
-        record {
-          left =
-              p .left ∙ absorbed step q r
-              ∙ ap (λ (b : Bool). cond b (feedAll step (close step longer) (drop (a .next) block)) longer) e
-              ∙ ap (λ (x : Reading S). feedAll step x (drop (a .next) block)) (close-kept longer (omega arith) longer-kept);
-          kept =
-              subst (λ (s : List ℕ). Kept after 0 s) (sym (closed-line step (r .key) (r .member) held (r .output))) (kept-none after);
-        }
+  abbrev pub longer : Reading S
+  longer = extend (first .text) r
 
-    -- none was: the block is read, and the line goes on in the next one
-    pub goes-end : a .ended ≡ false → feedAll step first block ≡ longer
-    goes-end e = p .left ∙ absorbed step q r ∙ ap (λ (b : Bool). cond b (feedAll step (close step longer) (drop (a .next) block)) longer) e
+  pub longer-kept : Kept line len (r .line) → Kept after (a .len) (longer .line)
+  unfolding extend
+  longer-kept p = kept-put p (q .kept)
 
-  -- at the input's end a line that has begun is answered
-  module _ (r : Reading S) {room : List ℕ} (h : 32776 < length room) where
-    pub finish-none : Kept room 0 (r .line) → finish step r ≡ r .output
-    unfolding finish
-    finish-none p = ap (finished step r) (kept-empty (omega arith) p)
+  -- what was taken of the block
+  taken-is : (b : Bool) → a .ended ≡ b → take (a .next - from) (drop from block) ≡ first .text ++ cond b (10 ∷ []) []
+  unfolding written
+  taken-is b e =
+      let n : a .next - from ≡ length (written first) = omega (arith, q .next) in
+      ap (λ (k : ℕ). take k (drop from block)) n
+      ∙ first-written (lines (drop from block)) (drop from block) (joined-lines (drop from block))
+      ∙ ap (λ (x : Bool). first .text ++ cond x (10 ∷ []) []) (sym (q .ended) ∙ e)
 
-    pub finish-line : {len : ℕ} → 0 < len → Kept room len (r .line)
-        → finish step r ≡ lineEnd step (r .key) (r .member) (take len room) (r .output) .output
-    unfolding finish
-    finish-line {len} l p = some (r .line) (kept-some l p) ∙ ap (λ (x : Reading S). x .output) (close-kept r h p)
-      where
-        some : (line : List ℕ) → (line ≡ [] → ⊥) → finished step r line ≡ close step r .output
-        some [] n = absurd (n refl)
-        some (c ∷ line) n = refl
+  -- none was a newline: the line goes on in the next block
+  pub reads-on : a .ended ≡ false → Reads step r (take (a .next - from) (drop from block)) longer
+  reads-on e =
+      subst (λ (s : List ℕ). Reads step r s longer) (sym (taken-is false e ∙ append-nil (first .text)))
+      (reads-characters step (first .text) r (first-proper (lines (drop from block)) (lines-proper (drop from block))))
+
+  -- the last was: the line that is held is answered, and the next one begins
+  pub reads-end : (e : Reading S) → a .ended ≡ true → 32776 < length line → Kept line len (r .line)
+      → LineEnds step (r .key) (r .member) (take (a .len) after) (r .output) e
+      → Reads step r (take (a .next - from) (drop from block)) e
+  unfolding extend
+  reads-end e t h p c =
+      let l = length-put (q .kept) in
+      subst (λ (s : List ℕ). Reads step r s e) (sym (taken-is true t))
+      (reads-line step (first .text) r e (first-proper (lines (drop from block)) (lines-proper (drop from block)))
+      (ends-kept step (r .key) (r .member) (r .output) e (omega arith) (longer-kept p) c))
+
+-- at the input's end a line that has begun is answered
+module _ {S : Type 0} (step : Step S) (r : Reading S) {room : List ℕ} (h : 32776 < length room) where
+  pub finishes-none : Kept room 0 (r .line) → Finishes step r (r .output)
+  finishes-none p = subst (λ (l : List ℕ). FinishesBy step l r (r .output)) (sym (kept-empty (omega arith) p)) refl
+
+  pub finishes-line : (e : Reading S) {len : ℕ} → 0 < len → Kept room len (r .line)
+      → LineEnds step (r .key) (r .member) (take len room) (r .output) e → Finishes step r (e .output)
+  finishes-line e {len} l p c =
+      some (r .line) (kept-some l p) (e, ends-kept step (r .key) (r .member) (r .output) e h p c, refl)
+    where
+      some : (line : List ℕ) → (line ≡ [] → ⊥) → (d : Reading S) × Closes step r d × (e .output ≡ d .output)
+          → FinishesBy step line r (e .output)
+      some [] n d = absurd (n refl)
+      some (c ∷ line) n d = d

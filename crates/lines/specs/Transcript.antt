@@ -1,5 +1,6 @@
 -- The whole output of the member program for its whole input, over what the member does with one frame. Assumes nothing.
 use Prim.Native.Nat.{ℕ}
+use mathlib.Core.Path.{_≡_}
 use mathlib.Core.List.{List, [], _∷_, _++_}
 use Rattle.lines.specs.Lines.{Line, lines}
 use Rattle.lines.specs.Input.{Asked, bad, frame, keyOf, askedBy}
@@ -17,31 +18,32 @@ pub record Reply (S : Type 0) : Type 0 where
   pub next : S
   pub text : List ℕ
 
--- a step takes a member, the default key, a tick and a frame
-abbrev pub Step : Type 0 → Type 0
-Step S = S → List ℕ → ℕ → List ℕ → Outcome S
+-- a step: which outcomes a member, the default key, a tick and a frame have
+abbrev pub Step : Type 0 → Type 1
+Step S = S → List ℕ → ℕ → List ℕ → Outcome S → Type 0
 
 abbrev pub told : {S : Type 0} → Outcome S → Reply S
 told o = record { next = o .next; text = answerText (o .number) (o .sas) (o .held) }
 
--- a bad line leaves the member as it was
-abbrev pub replyTo : {S : Type 0} → Step S → List ℕ → S → Asked → Reply S
-replyTo step key member bad = record { next = member; text = badText }
-replyTo step key member (frame tick octets) = told (step member key tick octets)
+module _ {S : Type 0} (step : Step S) where
+  -- a bad line leaves the member as it was
+  abbrev pub RepliesTo : List ℕ → S → Asked → Reply S → Type 0
+  RepliesTo key member bad a = a ≡ record { next = member; text = badText }
+  RepliesTo key member (frame tick octets) a = (o : Outcome S) × step member key tick octets o × (a ≡ told o)
 
-unfoldable pub reply : {S : Type 0} → Step S → List ℕ → S → List ℕ → Reply S
-reply step key member text = replyTo step key member (askedBy text)
+  abbrev pub Replies : List ℕ → S → List ℕ → Reply S → Type 0
+  Replies key member text a = RepliesTo key member (askedBy text) a
 
--- the lines after the first
-unfoldable pub later : {S : Type 0} → Step S → List ℕ → S → List Line → List ℕ
-later step key member [] = []
-later step key member (l ∷ ls) =
-    reply step key member (l .text) .text ++ later step key (reply step key member (l .text) .next) ls
+  -- the lines after the first, each over the member that the one before it left
+  abbrev pub Later : List ℕ → S → List Line → List ℕ → Type 0
+  Later key member [] output = output ≡ []
+  Later key member (l ∷ ls) output =
+      (a : Reply S) × Replies key member (l .text) a × (rest : List ℕ) × Later key (a .next) ls rest × (output ≡ a .text ++ rest)
 
--- the first line gives the default key "and prints nothing"
-abbrev pub outputOf : {S : Type 0} → Step S → S → List Line → List ℕ
-outputOf step member [] = []
-outputOf step member (first ∷ ls) = later step (keyOf (first .text)) member ls
+  -- the first line gives the default key "and prints nothing"
+  abbrev pub OutputOf : S → List Line → List ℕ → Type 0
+  OutputOf member [] output = output ≡ []
+  OutputOf member (first ∷ ls) output = Later (keyOf (first .text)) member ls output
 
-unfoldable pub transcript : {S : Type 0} → Step S → S → List ℕ → List ℕ
-transcript step member input = outputOf step member (lines input)
+  abbrev pub Transcript : S → List ℕ → List ℕ → Type 0
+  Transcript member input output = OutputOf member (lines input) output

@@ -1,10 +1,12 @@
 -- The member program read octet by octet: what is known of the input so far. Assumes nothing.
-use Prim.Native.Nat.{ℕ}
+use Prim.Native.Nat.{ℕ, _≤_}
+use mathlib.Core.Path.{_≡_}
 use mathlib.Core.List.{List, [], _∷_, _++_}
-use mathlib.Core.Bool.{cond}
+use mathlib.Core.Bool.{Bool, true, false}
+use lib.ListN.{length, take}
 use lib.Dec.{eqb}
 use Rattle.lines.specs.Input.{keyOf}
-use Rattle.lines.specs.Transcript.{Step, Reply, reply}
+use Rattle.lines.specs.Transcript.{Step, Reply, Replies}
 
 -- the default key, once the first line has ended
 pub data DefaultKey : Type 0 where
@@ -21,38 +23,46 @@ pub record Reading (S : Type 0) : Type 0 where
 abbrev pub start : {S : Type 0} → S → Reading S
 start member = record { key = awaited; member = member; line = []; output = [] }
 
-abbrev pub replied : {S : Type 0} → List ℕ → List ℕ → Reply S → Reading S
-replied key output a = record { key = given key; member = a .next; line = []; output = output ++ a .text }
-
--- a whole line
-abbrev pub lineEnd : {S : Type 0} → Step S → DefaultKey → S → List ℕ → List ℕ → Reading S
-lineEnd step awaited member line output = record { key = given (keyOf line); member = member; line = []; output = output }
-lineEnd step (given key) member line output = replied key output (reply step key member line)
-
--- the line that has begun ends
-unfoldable pub close : {S : Type 0} → Step S → Reading S → Reading S
-close step r = lineEnd step (r .key) (r .member) (r .line) (r .output)
-
 -- characters more in the line that has begun
 unfoldable pub extend : {S : Type 0} → List ℕ → Reading S → Reading S
 extend text r = record { key = r .key; member = r .member; line = r .line ++ text; output = r .output }
 
--- one octet of input
-unfoldable pub feed : {S : Type 0} → Step S → Reading S → ℕ → Reading S
-feed step r c = cond (eqb c 10) (close step r) (extend (c ∷ []) r)
+-- after the first line, and after a later one
+abbrev pub keyed : {S : Type 0} → S → List ℕ → List ℕ → Reading S
+keyed member line output = record { key = given (keyOf line); member = member; line = []; output = output }
 
-unfoldable pub feedAll : {S : Type 0} → Step S → Reading S → List ℕ → Reading S
-feedAll step r [] = r
-feedAll step r (c ∷ s) = feedAll step (feed step r c) s
+abbrev pub replied : {S : Type 0} → List ℕ → List ℕ → Reply S → Reading S
+replied key output a = record { key = given key; member = a .next; line = []; output = output ++ a .text }
 
-unfoldable pub feedBlocks : {S : Type 0} → Step S → Reading S → List (List ℕ) → Reading S
-feedBlocks step r [] = r
-feedBlocks step r (b ∷ bs) = feedBlocks step (feedAll step r b) bs
+module _ {S : Type 0} (step : Step S) where
+  -- a whole line
+  abbrev pub LineEnds : DefaultKey → S → List ℕ → List ℕ → Reading S → Type 0
+  LineEnds awaited member line output e = e ≡ keyed member line output
+  LineEnds (given key) member line output e = (a : Reply S) × Replies step key member line a × (e ≡ replied key output a)
 
--- at the input's end, a line that has begun ends
-abbrev pub finished : {S : Type 0} → Step S → Reading S → List ℕ → List ℕ
-finished step r [] = r .output
-finished step r (c ∷ line) = close step r .output
+  -- the line that has begun ends
+  abbrev pub Closes : Reading S → Reading S → Type 0
+  Closes r e = LineEnds (r .key) (r .member) (r .line) (r .output) e
 
-unfoldable pub finish : {S : Type 0} → Step S → Reading S → List ℕ
-finish step r = finished step r (r .line)
+  -- one octet of input, which is a newline or not
+  abbrev pub FeedsBy : Bool → Reading S → ℕ → Reading S → Type 0
+  FeedsBy true r c e = Closes r e
+  FeedsBy false r c e = e ≡ extend (c ∷ []) r
+
+  -- some octets of input
+  abbrev pub Reads : Reading S → List ℕ → Reading S → Type 0
+  Reads r [] e = e ≡ r
+  Reads r (c ∷ s) e = (m : Reading S) × FeedsBy (eqb c 10) r c m × Reads m s e
+
+  -- at the input's end, a line that has begun ends
+  abbrev pub FinishesBy : List ℕ → Reading S → List ℕ → Type 0
+  FinishesBy [] r output = output ≡ r .output
+  FinishesBy (c ∷ line) r output = (e : Reading S) × Closes r e × (output ≡ e .output)
+
+  abbrev pub Finishes : Reading S → List ℕ → Type 0
+  Finishes r output = FinishesBy (r .line) r output
+
+-- a lent line holds the beginning of a line: all of it, or as much as there is room for
+pub record Kept (room : List ℕ) (len : ℕ) (text : List ℕ) : Type 0 where
+  pub inside : len ≤ length room
+  pub same : take len room ≡ take (length room) text
