@@ -5,7 +5,7 @@ use mathlib.Core.Path.{_≡_, refl, ap, sym, subst, _∙_}
 use mathlib.Core.List.{List, [], _∷_, _++_, append-assoc, append-nil}
 use mathlib.Core.Bool.{Bool, true, false, cond}
 use native.Mathlib.Omega.{arith}
-use lib.ListN.{length, take, drop, set, length-append, length-take, length-set}
+use lib.ListN.{length, take, drop, set, length-append, length-take, length-drop, length-set}
 use lib.Seq.{sets, drop-drop, take-add, take-all, take-suc-set, take-append-le, take-append-seam, length-take-le}
 use Rattle.lines.specs.Lines.{Line, written, lines, firstOf}
 use Rattle.lines.specs.Input.{Asked, bad, keyOf, askedBy}
@@ -18,7 +18,7 @@ use Rattle.lines.specs.declared.Absorbed.{Absorbed}
 use Rattle.lines.proofs.Cases.{by-less}
 use Rattle.lines.proofs.InputLaws.{taken-long, key-other, asked-other}
 use Rattle.lines.proofs.LineLaws.{NoNewline}
-use Rattle.lines.proofs.SplitLaws.{joined, Proper, joined-lines, lines-proper}
+use Rattle.lines.proofs.SplitLaws.{joined, Last, Proper, joined-lines, lines-proper}
 use Rattle.lines.proofs.ReadingLaws.{reads-characters, reads-line}
 use Rattle.lines.proofs.RoomLaws.{sets-out, length-put}
 
@@ -123,6 +123,16 @@ first-written [] s e = refl
 first-written (l ∷ ls) s e =
     ap (take (length (written l))) (sym e) ∙ take-append-seam (written l) (joined ls)
 
+first-some : (ls : List Line) (s : List ℕ) → joined ls ≡ s → Proper ls → 0 < length s → 0 < length (written (firstOf ls))
+unfolding joined written
+first-some [] s e p h = let z = ap length e in absurd (omega arith)
+first-some (l ∷ ls) s e p h = some (l .text) (l .ended) (p .1)
+  where
+    some : (text : List ℕ) (b : Bool) → Last text b ls → 0 < length (text ++ cond b (10 ∷ []) [])
+    some text true q = let l = length-append text (10 ∷ []) in omega arith
+    some [] false q = absurd (q .0 refl)
+    some (c ∷ text) false q = omega arith
+
 -- parts of a block, one behind the other
 pub part-join : (s : List ℕ) (a b c : ℕ) → a ≤ b → b ≤ c
     → take (b - a) (drop a s) ++ take (c - b) (drop b s) ≡ take (c - a) (drop a s)
@@ -131,6 +141,26 @@ part-join s a b c h k =
     let n : (b - a) + (c - b) ≡ c - a = omega arith in
     ap (λ (x : List ℕ). take (b - a) (drop a s) ++ take (c - b) x) (ap (λ (i : ℕ). drop i s) (sym e) ∙ sym (drop-drop (b - a) a s))
     ∙ sym (take-add (b - a) (c - b) (drop a s)) ∙ ap (λ (i : ℕ). take i (drop a s)) n
+
+-- what a call of `absorb` took is a part of the block, and not empty
+module _ {block : List ℕ} {from : ℕ} {line : List ℕ} {len : ℕ} {after : List ℕ} {a : Absorbed}
+    (q : Absorbs block from line len after a) where
+  pub absorbed-inside : from ≤ length block → a .next ≤ length block
+  absorbed-inside h =
+      let s = drop from block in
+      let l = length-drop from block in
+      let n = length (written (firstOf (lines s))) in
+      let t = ap length (first-written (lines s) s (joined-lines s)) in
+      omega (arith, q .next, length-take n s)
+
+  pub absorbed-held : len ≤ length line → a .len ≤ length after
+  absorbed-held h = let l = length-put (q .kept) in omega (arith, q .kept .place)
+
+  pub absorbed-some : from < length block → from < a .next
+  absorbed-some h =
+      let s = drop from block in
+      let l = length-drop from block in
+      omega (arith, q .next, first-some (lines s) s (joined-lines s) (lines-proper s) (omega arith))
 
 -- what a call of `absorb` did: the line that has begun is longer
 module _ {S : Type 0} (step : Step S) {block : List ℕ} {from : ℕ} {line : List ℕ} {len : ℕ} {after : List ℕ} {a : Absorbed}

@@ -1,0 +1,202 @@
+-- A block that the program goes through, part after part, and the output written on the way. Assumes nothing.
+use Prim.Native.Nat.{ℕ, _+_, _-_, _<_, _≤_}
+use mathlib.Core.Path.{_≡_, refl, ap, sym, subst, _∙_}
+use mathlib.Core.Logic.{_⊎_, inl, inr}
+use mathlib.Core.List.{List, [], _++_, append-nil}
+use native.Mathlib.Omega.{arith}
+use lib.ListN.{length, take, drop}
+use lib.Seq.{take-all}
+use Rattle.octets.specs.Walk.{part}
+use Rattle.lines.specs.inner.Reading.{DefaultKey, awaited, given, Reading, Reads, Kept}
+use Rattle.lines.specs.declared.Key.{Key}
+use Rattle.lines.proofs.ReadingLaws.{reads-append}
+use Rattle.lines.proofs.ProgramLaws.{part-join}
+use Rattle.group.specs.declared.Member.{Member}
+use Rattle.member.specs.Program.{Answers, keyIn}
+use Rattle.member.specs.inner.Standing.{Ready, Room, KeyStands, Stands, Goes, Went, Passes, Flushed}
+use Rattle.member.specs.declared.running.Running.{Running}
+use Rattle.member.specs.declared.running.Passed.{Passed}
+
+-- parts of a block, one behind the other
+part-none : (s : List ℕ) (a : ℕ) → part s a a ≡ []
+part-none s a = let e : a - a ≡ 0 = omega arith in ap (λ (n : ℕ). take n (drop a s)) e
+
+goes-none : (block : List ℕ) (at : ℕ) (printed : List ℕ) (x : Reading Member) {line out : List ℕ} {r : Running}
+    → Stands printed x line out r → Goes printed x (part block at at) line out r
+goes-none block at printed x s =
+    record { then = x; reads = subst (λ (l : List ℕ). Reads Answers x l x) (sym (part-none block at)) refl; stands = s }
+
+pub passes-none : (block : List ℕ) (from : ℕ) {line room out : List ℕ} (r : Running) → Ready line room out r → from ≤ length block
+    → Passes block from line out r line room out (record { running = r; next = from })
+passes-none block from r ready h =
+    record { ready = ready; next = omega arith; inside = h; goes = λ printed x s. goes-none block from printed x s }
+
+-- read from x up to a place, and from there on
+goes-join : (block : List ℕ) (a b c : ℕ) → a ≤ b → b ≤ c → {p w : List ℕ} (x : Reading Member) {line out : List ℕ} {y : Running}
+    → (g : Goes p x (part block a b) line out y) {line′ out′ : List ℕ} {e : Running}
+    → Goes w (g .then) (part block b c) line′ out′ e → Goes w x (part block a c) line′ out′ e
+goes-join block a b c h k x g d =
+    record {
+      then = d .then;
+      reads =
+          subst (λ (s : List ℕ). Reads Answers x s (d .then)) (part-join block a b c h k)
+          (reads-append Answers (part block a b) (part block b c) x (g .then) (d .then) (g .reads) (d .reads));
+      stands = d .stands;
+    }
+
+pub passes-join : {block : List ℕ} {from at : ℕ} {line out : List ℕ} {r : Running} {line₁ room₁ out₁ : List ℕ} {y : Running}
+    {line₂ room₂ out₂ : List ℕ} {e : Passed}
+    → Passes block from line out r line₁ room₁ out₁ (record { running = y; next = at })
+    → Passes block at line₁ out₁ y line₂ room₂ out₂ e → Passes block from line out r line₂ room₂ out₂ e
+passes-join {block} {from} {at} {e = e} p q =
+    record {
+      ready = q .ready;
+      next = omega (arith, p .next, q .next);
+      inside = q .inside;
+      goes =
+          λ printed x s.
+          let g = p .goes printed x s in
+          goes-join block from at (e .next) (p .next) (q .next) x g (q .goes printed (g .then) (g .stands));
+    }
+
+-- a loop that goes through a block: it has gone on, or stands where it began, with the output's place unchanged
+pub record Passing (block : List ℕ) (from : ℕ) (line₀ room₀ out₀ : List ℕ) (r : Running) (line room out : List ℕ) (x : Running) (at : ℕ)
+    : Type 0 where
+  pub passes : Passes block from line₀ out₀ r line room out (record { running = x; next = at })
+  pub moved : (from < at) ⊎ ((at ≡ from) × (x .at ≡ r .at))
+  pub line-same : length line ≡ length line₀
+  pub room-same : length room ≡ length room₀
+  pub out-same : length out ≡ length out₀
+
+pub passing-start : (block : List ℕ) (from : ℕ) {line room out : List ℕ} (r : Running) → Ready line room out r → from ≤ length block
+    → Passing block from line room out r line room out r from
+passing-start block from r ready h =
+    record { passes = passes-none block from r ready h; moved = inr (refl, refl); line-same = refl; room-same = refl; out-same = refl }
+
+module _ {block : List ℕ} {from : ℕ} {line₀ room₀ out₀ : List ℕ} {r : Running} {line room out : List ℕ} {x : Running} {at : ℕ}
+    (p : Passing block from line₀ room₀ out₀ r line room out x at) where
+  pub passing-more : {line′ room′ out′ : List ℕ} {e : Passed} → Passes block at line out x line′ room′ out′ e → at < e .next
+      → length line′ ≡ length line → length room′ ≡ length room → length out′ ≡ length out
+      → Passing block from line₀ room₀ out₀ r line′ room′ out′ (e .running) (e .next)
+  passing-more q h k l m =
+      record {
+        passes = passes-join (p .passes) q;
+        moved = inl (omega (arith, p .passes .next));
+        line-same = k ∙ p .line-same;
+        room-same = l ∙ p .room-same;
+        out-same = m ∙ p .out-same;
+      }
+
+  -- it ends at the block's end, or for want of room
+  pub passing-end : (length block ≤ at) ⊎ (length out - x .at < 63) → from < length block → Room out₀ r → from < at
+  passing-end e h k = go (p .moved) e
+    where
+      go : (from < at) ⊎ ((at ≡ from) × (x .at ≡ r .at)) → (length block ≤ at) ⊎ (length out - x .at < 63) → from < at
+      go (inl m) e = m
+      go (inr m) (inl e) = absurd (omega arith)
+      go (inr m) (inr e) = absurd (omega (arith, p .out-same))
+
+-- the output is written, or stays
+stands-key : (r e : Running) → e .key ≡ r .key → e .keyed ≡ r .keyed → (k : DefaultKey) → KeyStands k r → KeyStands k e
+stands-key r e k b awaited p = b ∙ p
+stands-key r e k b (given key) p = (b ∙ p .0, ap keyIn k ∙ p .1)
+
+record Left (x : Reading Member) (line out : List ℕ) (e : Running) : Type 0 where
+  printed : List ℕ
+  stands : Stands printed x line out e
+
+module _ (printed : List ℕ) (x : Reading Member) {line out : List ℕ} (r e : Running) (s : Stands printed x line out r)
+    (f : Flushed r out e) where
+  stands-by : (w : List ℕ) → x .output ≡ w ++ take (e .at) out → Stands w x line out e
+  stands-by w o =
+      record {
+        key = stands-key r e (f .key) (f .keyed) (x .key) (s .key);
+        member = s .member ∙ sym (f .member);
+        kept = subst (λ (n : ℕ). Kept line n (x .line)) (sym (f .len)) (s .kept);
+        output = o;
+      }
+
+  left-by : (e .at ≡ r .at) ⊎ (e .at ≡ 0) → Left x line out e
+  left-by (inl p) =
+      record { printed = printed; stands = stands-by printed (s .output ∙ ap (λ (n : ℕ). printed ++ take n out) (sym p)) }
+  left-by (inr p) =
+      let w = printed ++ take (r .at) out in
+      record {
+        printed = w;
+        stands = stands-by w (s .output ∙ sym (append-nil w) ∙ ap (λ (n : ℕ). w ++ take n out) (sym p));
+      }
+
+  stands-flushed : Left x line out e
+  stands-flushed = left-by (f .place)
+
+pub ready-flushed : {line room out : List ℕ} {r e : Running} → Ready line room out r → Flushed r out e → Ready line room out e
+ready-flushed {out = out} {r} {e} p f =
+    let k = ap (λ (x : Key). x .len) (f .key) in
+    record {
+      key = omega (arith, p .key);
+      line-long = p .line-long;
+      begun = omega (arith, p .begun, f .len);
+      room-long = p .room-long;
+      place = within (f .place);
+    }
+  where
+    within : (e .at ≡ r .at) ⊎ (e .at ≡ 0) → e .at ≤ length out
+    within (inl q) = omega (arith, p .place)
+    within (inr q) = omega arith
+
+-- a loop that goes through a block and writes the output on the way
+pub record Consuming (block line₀ room₀ out₀ : List ℕ) (r : Running) (line room out : List ℕ) (x : Running) (at : ℕ) : Type 0 where
+  pub ready : Ready line room out x
+  pub space : Room out x
+  pub inside : at ≤ length block
+  pub went : (printed : List ℕ) (y : Reading Member) → Stands printed y line₀ out₀ r → Went y (part block 0 at) line out x
+  pub line-same : length line ≡ length line₀
+  pub room-same : length room ≡ length room₀
+  pub out-same : length out ≡ length out₀
+
+pub consuming-start : (block : List ℕ) {line room out : List ℕ} {r : Running} → Ready line room out r → Room out r
+    → Consuming block line room out r line room out r 0
+consuming-start block p q =
+    record {
+      ready = p;
+      space = q;
+      inside = omega arith;
+      went = λ printed y s. record { printed = printed; goes = goes-none block 0 printed y s };
+      line-same = refl;
+      room-same = refl;
+      out-same = refl;
+    }
+
+module _ {block line₀ room₀ out₀ : List ℕ} {r : Running} {line room out : List ℕ} {x : Running} {at : ℕ}
+    (p : Consuming block line₀ room₀ out₀ r line room out x at) where
+  module _ {line′ room′ out′ : List ℕ} {q : Passed} {e : Running} (t : Passes block at line out x line′ room′ out′ q)
+      (f : Flushed (q .running) out′ e) where
+    went-more : (printed : List ℕ) (y : Reading Member) → Stands printed y line₀ out₀ r → Went y (part block 0 (q .next)) line′ out′ e
+    went-more printed y s =
+        let w = p .went printed y s in
+        let g = t .goes (w .printed) (w .goes .then) (w .goes .stands) in
+        let l = stands-flushed (w .printed) (g .then) (q .running) e (g .stands) f in
+        record {
+          printed = l .printed;
+          goes =
+              goes-join block 0 at (q .next) (omega arith) (t .next) y (w .goes)
+              (record { then = g .then; reads = g .reads; stands = l .stands });
+        }
+
+    pub consuming-more : length line′ ≡ length line → length room′ ≡ length room → length out′ ≡ length out
+        → Consuming block line₀ room₀ out₀ r line′ room′ out′ e (q .next)
+    consuming-more k l m =
+        record {
+          ready = ready-flushed (t .ready) f;
+          space = f .room;
+          inside = t .inside;
+          went = went-more;
+          line-same = k ∙ p .line-same;
+          room-same = l ∙ p .room-same;
+          out-same = m ∙ p .out-same;
+        }
+
+  pub consuming-end : length block ≤ at → (printed : List ℕ) (y : Reading Member) → Stands printed y line₀ out₀ r → Went y block line out x
+  consuming-end h printed y s =
+      let e : part block 0 at ≡ block = take-all (at - 0) block (omega arith) in
+      subst (λ (b : List ℕ). Went y b line out x) e (p .went printed y s)

@@ -1,0 +1,4 @@
+pub mod ReplyLaws
+pub mod StandingLaws
+pub mod BlockLaws
+pub mod Printing

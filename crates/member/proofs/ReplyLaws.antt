@@ -1,0 +1,105 @@
+-- One line: the reply to it. Assumes nothing.
+use Prim.Native.Nat.{ℕ, _^_, _<_, _≤_}
+use mathlib.Core.Path.{_≡_, refl, ap, sym, subst}
+use mathlib.Core.Bool.{Bool, true, false}
+use mathlib.Core.List.{List}
+use native.Mathlib.Omega.{arith}
+use lib.ListN.{length, take}
+use Rattle.lines.specs.Answer.{answerText, badText}
+use Rattle.lines.specs.Transcript.{Replies}
+use Rattle.lines.specs.inner.Room.{Put}
+use Rattle.lines.specs.inner.Calls.{Asks}
+use Rattle.lines.specs.declared.Key.{Key}
+use Rattle.lines.specs.declared.Request.the-variants as request
+use Rattle.lines.proofs.AnswerLaws.{answer-short}
+use Rattle.lines.proofs.CallLaws.{reply-bad, reply-frame, key-short, given-length}
+use Rattle.lines.proofs.RoomLaws.{length-put, put-as}
+use Rattle.group.specs.Receive.{numberOf, Receives}
+use Rattle.group.specs.declared.Member.{Member}
+use Rattle.group.specs.declared.receive.Answer.{Answer}
+use Rattle.member.specs.Program.{Answers, keyIn, LaterLine, Answered}
+use Rattle.member.specs.inner.Reply.{Received}
+use Rattle.member.specs.declared.running.Running.{Running}
+
+-- the text of a reply is short, and the number in it as it was computed
+module _ (n : ℕ) (a : Answer) (sas held : ℕ) (e : n ≡ numberOf a) where
+  pub told-is : {out after : List ℕ} {at next : ℕ} → Put out at (answerText n sas held) after next
+      → Put out at (answerText (numberOf a) sas held) after next
+  told-is p = put-as (ap (λ (k : ℕ). answerText k sas held) e) p
+
+  pub told-short : n < 2 ^ 64 → sas < 2 ^ 64 → held < 2 ^ 64 → length (answerText (numberOf a) sas held) ≤ 63
+  told-short h k l = answer-short (numberOf a) sas held (omega arith) k l
+
+-- the program's place after a later line
+abbrev pub placed : Running → Member → ℕ → Running
+placed r next at = record { member = next; key = r .key; keyed = r .keyed; len = 0; at = at }
+
+module _ (r : Running) {out after : List ℕ} where
+  pub received-is : {at : ℕ} (tick : ℕ) (octets : List ℕ) (a : Answer) (next : Member)
+      → Receives (r .member) tick (keyIn (r .key)) octets a next
+      → Put out (r .at) (answerText (numberOf a) (next .state .table .count) (next .state .held .count)) after at
+      → length (answerText (numberOf a) (next .state .table .count) (next .state .held .count)) ≤ 63
+      → Received r tick octets out after (placed r next at)
+  received-is tick octets a next p q h =
+      record {
+        outcome =
+            record { next = next; number = numberOf a; sas = next .state .table .count; held = next .state .held .count };
+        answers = record { answer = a; receives = p; number = refl; sas = refl; held = refl };
+        next = refl;
+        put = q;
+        short = h;
+        key = refl;
+        keyed = refl;
+        len = refl;
+      }
+
+  pub later-bad : {at : ℕ} (line : List ℕ) {room room′ : List ℕ} → Asks line room room′ request.Bad → Put out (r .at) badText after at
+      → LaterLine r line out after (placed r (r .member) at)
+  later-bad line p q =
+      record {
+        text = badText;
+        replies = reply-bad Answers (keyIn (r .key)) (r .member) line p;
+        put = q;
+        short = omega arith;
+        key = refl;
+        keyed = refl;
+        len = refl;
+      }
+
+  pub later-frame : (line : List ℕ) {room room′ : List ℕ} {tick len : ℕ} (e : Running) → Asks line room room′ (request.Frame tick len)
+      → 16384 ≤ length room → Received r tick (take len room′) out after e → LaterLine r line out after e
+  later-frame line e p h q =
+      let o = q .outcome in
+      let text = answerText (o .number) (o .sas) (o .held) in
+      record {
+        text = text;
+        replies =
+            subst (λ (m : Member). Replies Answers (keyIn (r .key)) (r .member) line (record { next = m; text = text })) (q .next)
+            (reply-frame Answers (keyIn (r .key)) (r .member) line o p h (q .answers));
+        put = q .put;
+        short = q .short;
+        key = q .key;
+        keyed = q .keyed;
+        len = q .len;
+      }
+
+-- what every line leaves
+module _ (r : Running) (line out after : List ℕ) (e : Running) where
+  pub answered-as : (b : Bool) → r .keyed ≡ b → Answered b r line out after e → Answered (r .keyed) r line out after e
+  answered-as b k p = subst (λ (x : Bool). Answered x r line out after e) (sym k) p
+
+  pub answered-key : (b : Bool) → Answered b r line out after e → r .key .len ≤ 32 → e .key .len ≤ 32
+  answered-key false p h = let l = given-length line (p .key) in let s = key-short line in omega arith
+  answered-key true p h = let l = ap (λ (k : Key). k .len) (p .key) in omega arith
+
+  pub answered-begun : (b : Bool) → Answered b r line out after e → e .len ≡ 0
+  answered-begun false p = p .len
+  answered-begun true p = p .len
+
+  pub answered-output : (b : Bool) → Answered b r line out after e → length after ≡ length out
+  answered-output false p = ap length (p .nothing)
+  answered-output true p = length-put (p .put)
+
+  pub answered-place : (b : Bool) → Answered b r line out after e → r .at ≤ length out → e .at ≤ length after
+  answered-place false p h = let l = answered-output false p in omega (arith, p .at)
+  answered-place true p h = let l = answered-output true p in omega (arith, p .put .place)

@@ -1,0 +1,31 @@
+-- `member::running::told` meets its contract. Assumes nothing.
+use borrow.Author.Needs.{needs}
+use mir.Val.{Fits}
+use mir.Syntax.{w64}
+use Rattle.member.proofs.ReplyLaws.{told-is, told-short}
+use Rattle.member.proofs.running.told.Statement.{statement}
+use Rattle.member.proofs.running.told.Tie as tie
+
+number-requires : tie.Need-number-requires
+number-requires c κs = search needs
+
+put-answer-requires : tie.Need-put-answer-requires
+put-answer-requires c κs = search needs
+
+same-length : tie.Need-same-length
+same-length c = search needs
+
+returns : tie.Need-returns
+returns c =
+    let put = c .before .before in
+    let num = put .before .number in
+    let a = put .before .before .before .before .args in
+    let f : Fits w64 (num .result) = search needs in
+    let g : Fits w64 (a .sas) = search needs in
+    let h : Fits w64 (a .held) = search needs in (
+      told-is (num .result) (a .a) (a .sas) (a .held) (num .ensures) (put .put-answer .ensures),
+      told-short (num .result) (a .a) (a .sas) (a .held) (num .ensures) (f .fits) (g .fits) (h .fits),
+    )
+
+pub told-spec : {M : Type 1} → statement M
+told-spec = tie.close (tie.spec number-requires put-answer-requires same-length returns)

@@ -1,0 +1,226 @@
+// The program between its reads and its writes, on lent room: octets of input go in, replies come out.
+ghost use Prim.Native.Nat.{ℕ, _-_, _<_, _≤_};
+ghost use mathlib.Core.Path.{_≡_};
+ghost use mathlib.Core.List.{List, _++_};
+ghost use lib.ListN.{length, take};
+ghost use Rattle.lines.specs.Answer.{answerText};
+ghost use Rattle.lines.specs.inner.Reading.{Reading, Finishes};
+ghost use Rattle.lines.specs.inner.Room.{Put};
+ghost use Rattle.group.specs.Receive.{numberOf};
+ghost use Rattle.group.specs.declared.Member.{Member};
+ghost use Rattle.member.specs.Program.{Answers, Answered, FirstLine, LaterLine};
+ghost use Rattle.member.specs.inner.Reply.{Received};
+ghost use Rattle.member.specs.inner.Standing.{Ready, Room, Stands, Starts, Passes};
+use group::Member;
+use group::receive::Answer;
+use lines::Key;
+use lines::Request;
+
+// The member; the default key, and whether the first line gave it yet; how many characters of the line that has begun are held; the place
+// in the output.
+pub struct Running {
+    pub member: Member,
+    pub key: Key,
+    pub keyed: bool,
+    pub len: usize,
+    pub at: usize,
+}
+
+// A new member, and no key yet.
+pub fn begun() -> Running
+    ensures { λ r. ⌜ Starts r ⌝ }
+{
+    let member = Member::new();
+    let key = lines::key_line(b"");
+    Running {
+        member,
+        key,
+        keyed: false,
+        len: 0,
+        at: 0,
+    }
+}
+
+// Document 01's number of an answer.
+fn number(a: Answer) -> usize
+    ensures { λ r. ⌜ r ≡ numberOf a ⌝ }
+{
+    match a {
+        Answer::Accepted => 0,
+        Answer::BrokenLayout => 1,
+        Answer::NotForMember => 2,
+        Answer::Replayed => 3,
+        Answer::BadComposition => 4,
+        Answer::Unsupported => 5,
+        Answer::Unpaired => 6,
+        Answer::OverLimit => 7,
+        Answer::KeyConflict => 8,
+        Answer::NoKey => 9,
+    }
+}
+
+// A whole first line.
+fn first_line(r: Running, line: &[u8]) -> Running
+    ensures { λ e. ⌜ ((out : List ℕ) → FirstLine r (now (line .entry)) out out e) ⌝ }
+{
+    let member = r.member;
+    let key = lines::key_line(line);
+    Running {
+        member,
+        key,
+        keyed: true,
+        len: 0,
+        at: r.at,
+    }
+}
+
+// The reply to a frame, into the output at a place; the place behind it.
+fn told(out: &mut [u8], at: usize, a: Answer, sas: usize, held: usize) -> usize
+    ensures { λ r. ⌜ Put (now (out .entry)) at (answerText (numberOf a) sas held) (now (out .exit)) r ⌝ }
+    ensures { λ r. ⌜ length (answerText (numberOf a) sas held) ≤ 63 ⌝ }
+{
+    lines::put_answer(out, at, number(a), sas, held)
+}
+
+// A frame is received, and the reply to it put into the output.
+fn received(r: Running, frame: &[u8], tick: u32, out: &mut [u8]) -> Running
+    requires { ⌜ r .key .len ≤ 32 ⌝ }
+    ensures { λ e. ⌜ Received r tick (now (frame .entry)) (now (out .entry)) (now (out .exit)) e ⌝ }
+{
+    let m = r.member;
+    let key = r.key;
+    let octets = key.octets;
+    let len = key.len;
+    let x = m.receive(frame, &octets[..len], tick);
+    let member = x.member;
+    let answer = x.answer;
+    let state = member.state;
+    let at = told(out, r.at, answer, state.table.count, state.held.count);
+    Running {
+        member,
+        key,
+        keyed: r.keyed,
+        len: 0,
+        at,
+    }
+}
+
+// A whole later line.
+fn later_line(r: Running, line: &[u8], room: &mut [u8], out: &mut [u8]) -> Running
+    requires { ⌜ r .key .len ≤ 32 ⌝ }
+    requires { ⌜ 16384 ≤ length (now room) ⌝ }
+    ensures { λ e. ⌜ LaterLine r (now (line .entry)) (now (out .entry)) (now (out .exit)) e ⌝ }
+{
+    match lines::later_line(line, room) {
+        Request::Bad => {
+            let member = r.member;
+            let key = r.key;
+            let next = lines::put_bad(out, r.at);
+            Running {
+                member,
+                key,
+                keyed: r.keyed,
+                len: 0,
+                at: next,
+            }
+        }
+        Request::Frame { tick, len } => received(r, &room[..len], tick, out),
+    }
+}
+
+// A whole line.
+fn answered(r: Running, line: &[u8], room: &mut [u8], out: &mut [u8]) -> Running
+    requires { ⌜ r .key .len ≤ 32 ⌝ }
+    requires { ⌜ 16384 ≤ length (now room) ⌝ }
+    ensures { λ e. ⌜ Answered (r .keyed) r (now (line .entry)) (now (out .entry)) (now (out .exit)) e ⌝ }
+{
+    if r.keyed {
+        return later_line(r, line, room, out);
+    }
+    first_line(r, line)
+}
+
+// Where a block was left.
+pub struct Passed {
+    pub running: Running,
+    pub next: usize,
+}
+
+// The first line of a block from a place on, or its beginning where the block ends before it.
+fn advanced(
+    r: Running,
+    block: &[u8],
+    from: usize,
+    line: &mut [u8],
+    room: &mut [u8],
+    out: &mut [u8],
+) -> Passed
+    requires { ⌜ Ready (now line) (now room) (now out) r ⌝ }
+    requires { ⌜ Room (now out) r ⌝ }
+    requires { ⌜ from < length (now block) ⌝ }
+    ensures { λ e. ⌜ Passes (now (block .entry)) from (now (line .entry)) (now (out .entry)) r (now (line .exit)) (now (room .exit))
+        (now (out .exit)) e ⌝ }
+    ensures { λ e. ⌜ from < e .next ⌝ }
+{
+    let a = lines::absorb(block, from, line, r.len);
+    let next = a.next;
+    let len = a.len;
+    if a.ended {
+        let running = answered(r, &line[..len], room, out);
+        return Passed { running, next };
+    }
+    let member = r.member;
+    let key = r.key;
+    let running = Running {
+        member,
+        key,
+        keyed: r.keyed,
+        len,
+        at: r.at,
+    };
+    Passed { running, next }
+}
+
+// A block from a place on, as far as there is room for replies.
+pub fn through(
+    r: Running,
+    block: &[u8],
+    from: usize,
+    line: &mut [u8],
+    room: &mut [u8],
+    out: &mut [u8],
+) -> Passed
+    requires { ⌜ Ready (now line) (now room) (now out) r ⌝ }
+    requires { ⌜ from ≤ length (now block) ⌝ }
+    ensures { λ e. ⌜ Passes (now (block .entry)) from (now (line .entry)) (now (out .entry)) r (now (line .exit)) (now (room .exit))
+        (now (out .exit)) e ⌝ }
+    ensures { λ e. ⌜ (from < length (now (block .entry)) → Room (now (out .entry)) r → from < e .next) ⌝ }
+{
+    let mut x = r;
+    let mut at = from;
+    while at < block.len() && 63 <= out.len() - x.at {
+        let p = advanced(x, block, at, line, room, out);
+        let running = p.running;
+        x = running;
+        at = p.next;
+    }
+    Passed {
+        running: x,
+        next: at,
+    }
+}
+
+// The end of the input: a line that has begun is answered.
+pub fn finished(r: Running, line: &[u8], room: &mut [u8], out: &mut [u8]) -> Running
+    requires { ⌜ Ready (now line) (now room) (now out) r ⌝ }
+    requires { ⌜ Room (now out) r ⌝ }
+    ensures { λ e. ⌜ e .at ≤ length (now (out .exit)) ⌝ }
+    ensures { λ e. ⌜ ((printed : List ℕ) (x : Reading Member) → Stands printed x (now (line .entry)) (now (out .entry)) r →
+        Finishes Answers x (printed ++ take (e .at) (now (out .exit)))) ⌝ }
+{
+    let len = r.len;
+    if 0 < len {
+        return answered(r, &line[..len], room, out);
+    }
+    r
+}
