@@ -1,7 +1,7 @@
 //! `compare PROGRAM [COUNT] [FIRST_SEED] [--cases DIRECTORY] [--verbose]`: holds a member program against the second member, line
 //! by line, on scripts made from seeds and on the fixed cases of a directory (its files *.in).
 //!
-//! `compare --life COUNT SEED NAME`: writes an ordinary life, a registration and so many rekeys, to NAME.in, and the second member's
+//! `compare --typical COUNT SEED NAME`: writes a typical run, a registration and so many rekeys, to NAME.in, and the second member's
 //! answers, all 0, to NAME.out.
 
 mod case;
@@ -12,7 +12,7 @@ mod tally;
 mod violations;
 
 use reference::text;
-use script::{plain_life, script, Script};
+use script::{typical_run, script, Script};
 use std::io::{Read, Write};
 use std::path::{Path, PathBuf};
 use std::process::{Command, ExitCode, ExitStatus, Stdio};
@@ -47,9 +47,9 @@ fn arguments() -> Option<Arguments> {
 fn main() -> ExitCode {
     let given: Vec<String> = std::env::args().skip(1).collect();
     let done = match (given.as_slice(), arguments()) {
-        ([life, count, seed, name], _) if life == "--life" => write_life(count, seed, name),
+        ([option, count, seed, name], _) if option == "--typical" => write_typical(count, seed, name),
         (_, Some(arguments)) => compare(&arguments),
-        _ => Err("PROGRAM [COUNT] [FIRST_SEED] [--cases DIRECTORY] [--verbose], or --life COUNT SEED NAME".to_string()),
+        _ => Err("PROGRAM [COUNT] [FIRST_SEED] [--cases DIRECTORY] [--verbose], or --typical COUNT SEED NAME".to_string()),
     };
     match done {
         Ok(()) => ExitCode::SUCCESS,
@@ -87,10 +87,10 @@ fn compare(arguments: &Arguments) -> Result<(), String> {
     verdict(&tally, arguments.count)
 }
 
-fn write_life(count: &str, seed: &str, name: &str) -> Result<(), String> {
+fn write_typical(count: &str, seed: &str, name: &str) -> Result<(), String> {
     let (Ok(count), Ok(seed)) = (count.parse(), seed.parse()) else { return Err(format!("{count} or {seed} is no number")) };
     let mut tally = Tally::default();
-    let input = plain_life(seed, count, &mut tally).input;
+    let input = typical_run(seed, count, &mut tally).input;
     if let Some(complaint) = tally.complaints.first() {
         return Err(complaint.clone());
     }

@@ -38,13 +38,13 @@ pub fn script(seed: u64, tally: &mut Tally) -> Script {
     match seed % 16 {
         7 => writer.hostile_first_line(),
         11 => writer.without_rekey_sa(),
-        _ => writer.life(),
+        _ => writer.member_run(),
     }
     writer.finish()
 }
 
 /// A registration and so many rekeys of all shapes, none refused.
-pub fn plain_life(seed: u64, rekeys: usize, tally: &mut Tally) -> Script {
+pub fn typical_run(seed: u64, rekeys: usize, tally: &mut Tally) -> Script {
     let mut writer = Writer::new(seed, tally);
     let first = Shape { rekey: true, keys: 12, further: 4, ..writer.scene.any_shape() };
     let registration = writer.scene.registration(first);
@@ -69,7 +69,7 @@ impl<'t> Writer<'t> {
     }
 
     /// Refused registrations, one that is taken, then rekeys of all kinds.
-    fn life(&mut self) {
+    fn member_run(&mut self) {
         self.violations(true);
         let shape = Shape { rekey: true, ..self.scene.any_shape() };
         self.taken(true, shape);

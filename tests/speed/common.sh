@@ -42,14 +42,13 @@ trial() {
     "$(thousands $((lines * 1000 / (best > 0 ? best : 1))))" "$(thousands "$(target/tests/peak "$2" "$1.in")")"
 }
 
-# both INPUT: the second member on INPUT.in, then the member program, if it is there, with the ratio of their times.
+# both INPUT: the second member on INPUT.in, then the member program, with the ratio of their times.
 both() {
   local product took
   trial "$1" "$second" || return 1
   echo
   took=$best
   product=$(tests/product member) || return 1
-  if [ -z "$product" ]; then echo "${1##*/}: no target/bin/member yet"; return 0; fi
   trial "$1" "$product" || return 1
   echo ", ratio $(ratio "$best" "$took")"
 }
