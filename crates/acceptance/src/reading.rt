@@ -21,9 +21,9 @@ ghost use Rattle.contents.specs.inner.Values.{isWhole, valuesIn};
 ghost use Rattle.contents.specs.inner.Policies.{policiesIn};
 ghost use Rattle.acceptance.specs.inner.Readings.{total, FindsFirst, oneDelay, oneInitial, delayIn, Rekeys};
 
-// Where a policy stands.
+// Where what a policy holds after its head stands.
 pub enum Spotted {
-    At(usize),
+    At(usize, usize),
     Nothing,
 }
 
@@ -41,10 +41,12 @@ fn first_with(q: usize, g: &[u8]) -> Spotted
     let mut at: usize = 0;
     while at < g.len() {
         let p = policy_parts(&g[at..]);
+        let start = at + p.body;
+        let end = at + p.end;
         if p.first == q {
-            return Spotted::At(at);
+            return Spotted::At(start, end);
         }
-        at = at + p.end;
+        at = end;
     }
     Spotted::Nothing
 }
@@ -68,12 +70,7 @@ pub fn delay(g: &[u8]) -> u16
     ensures { λ r. ⌜ r ≡ delayIn (policiesIn (now (g .entry))) ⌝ }
 {
     match first_with(0, g) {
-        Spotted::At(at) => {
-            let p = policy_parts(&g[at..]);
-            let start = at + p.body;
-            let end = at + p.end;
-            delay_of(&g[start..end])
-        }
+        Spotted::At(start, end) => delay_of(&g[start..end]),
         Spotted::Nothing => 0,
     }
 }
@@ -97,10 +94,7 @@ pub fn rekey_policy(g: &[u8]) -> NewRekey
     ensures { λ r. ⌜ Rekeys (policiesIn (now (g .entry))) r ⌝ }
 {
     match first_with(6, g) {
-        Spotted::At(at) => {
-            let p = policy_parts(&g[at..]);
-            let start = at + p.body;
-            let end = at + p.end;
+        Spotted::At(start, end) => {
             let x = &g[start..end];
             let parts = sa_parts(x);
             let a = parts.attributes;

@@ -1,5 +1,5 @@
 -- What the policies of a GSA body say of the member afterwards.
-use Prim.Native.Nat.{ℕ, _<_}
+use Prim.Native.Nat.{ℕ, _+_, _<_}
 use mathlib.Core.Path.{_≡_}
 use mathlib.Core.Bool.{Bool, true, not, cond, _&&_}
 use mathlib.Core.List.{List, []}
@@ -7,9 +7,9 @@ use lib.Dec.{eqb, ltb}
 use lib.ListN.{length, drop}
 use Rattle.octets.specs.Numbers.{oct}
 use Rattle.keys.specs.Lists.{any, count, keep}
-use Rattle.policies.specs.Policy.{Policy, groupSa, groupWide, GroupSaPolicy, GroupWidePolicy, policies}
-use Rattle.contents.specs.inner.Values.{isWhole}
-use Rattle.contents.specs.inner.Policies.{policiesIn}
+use Rattle.policies.specs.Policy.{Policy, groupSa, groupWide, GroupSaPolicy, GroupWidePolicy}
+use Rattle.contents.specs.inner.Policies.{policiesIn, PolicyIs}
+use Rattle.contents.specs.declared.policy.Parts.{Parts}
 use Rattle.clauses.specs.Contents.{several, gather, saOf, wideOf}
 use Rattle.clauses.specs.Fitness.{isRekey, sum}
 use Rattle.acceptance.specs.declared.reading.Spotted.{Spotted}
@@ -31,11 +31,19 @@ starts q p = eqb (firstOf p) q
 pub record FirstAt (q : ℕ) (g : List ℕ) (at : ℕ) : Type 0 where
   pub inside : at < length g
   pub is : oct (drop at g) 0 ≡ q
-  pub whole : isWhole (policies 0 (drop at g)) ≡ true
   pub others : keep (starts q) (policiesIn g) ≡ keep (starts q) (policiesIn (drop at g))
 
+-- what it holds after its head stands from `start` up to `end`
+pub record FirstHolds (q : ℕ) (g : List ℕ) (start end : ℕ) : Type 0 where
+  pub place : ℕ
+  pub first : FirstAt q g place
+  pub parts : Parts
+  pub policy : PolicyIs (drop place g) parts
+  pub start-is : start ≡ place + parts .body
+  pub end-is : end ≡ place + parts .end
+
 abbrev pub FindsFirst : ℕ → List ℕ → Spotted → Type 0
-FindsFirst q g (spotted.At at) = FirstAt q g at
+FindsFirst q g (spotted.At start end) = FirstHolds q g start end
 FindsFirst q g spotted.Nothing = keep (starts q) (policiesIn g) ≡ []
 
 -- one delay at most

@@ -1,13 +1,13 @@
 use native.Mathlib.Omega.{arith}
 use denote.Ref.{now}
-use Prim.Native.Nat.{_-_, _≤_}
+use Prim.Native.Nat.{_+_, _-_, _≤_}
 use mathlib.Core.Path.{_≡_, refl, sym, _∙_}
 use mathlib.Core.Bool.{true}
 use lib.ListN.{length, drop}
 use Rattle.keys.specs.Lists.{keep}
 use Rattle.policies.specs.Policy.{policies}
 use Rattle.contents.specs.inner.Values.{isWhole}
-use Rattle.contents.specs.inner.Policies.{policiesIn}
+use Rattle.contents.specs.inner.Policies.{policiesIn, PolicyIs}
 use Rattle.acceptance.specs.inner.Readings.{starts}
 use Rattle.acceptance.proofs.ReadingLaws.{policy-asked, none-there, policy-here, some-taken, next-inside, next-whole, other-first}
 use borrow.Author.Needs.{needs}
@@ -40,51 +40,58 @@ policy-parts-requires c κs =
     let l = c .before .before .loop in
     policy-asked g (l .at) (c .before .loop-test .taken) (l .inv .1)
 
+-- the policy at the place, once its parts are read
+here : (c : tie.After-policy-parts Inv-loop μ-loop) →
+    PolicyIs (drop (c .before .before .before .loop .at) (now (c .before .before .before .before .before .args .g))) (c .policy-parts .result)
+here c =
+    policy-here (now (c .before .before .before .before .before .args .g)) (c .before .before .before .loop .at) (c .policy-parts .result)
+    (c .policy-parts .ensures)
+
+inside : (c : tie.After-policy-parts Inv-loop μ-loop) →
+    c .before .before .before .loop .at + c .policy-parts .result .end ≤ length (now (c .before .before .before .before .before .args .g))
+inside c =
+    let b = c .before .before .before .before .before in
+    next-inside (b .args .q) (now (b .args .g)) _ _ (here c) (c .before .before .loop-test .taken)
+
+add-start : tie.Need-add-start Inv-loop μ-loop
+add-start c = let o = here (c .before) .head .order in record { fits = omega (arith, inside (c .before)) }
+
+add-end : tie.Need-add-end Inv-loop μ-loop
+add-end c = record { fits = omega (arith, inside (c .before .before)) }
+
 returns : tie.Need-returns Inv-loop μ-loop
 returns c =
-    let b = c .before .before .before .before .before .before .before in
-    let l = c .before .before .before .before .before .loop in
-    let g = now (b .args .g) in
-    let r = c .before .before .policy-parts .result in
-    let is = policy-here g (l .at) r (c .before .before .policy-parts .ensures) in
+    let p = c .before .before .before .before in
+    let l = p .before .before .before .loop in
+    let is = here p in
     record {
-      inside = c .before .before .before .before .loop-test .taken;
-      is = sym (is .head .first) ∙ c .if1 .taken;
-      whole = l .inv .1;
-      others = l .inv .2;
+      place = l .at;
+      first = record {
+        inside = p .before .before .loop-test .taken;
+        is = sym (is .head .first) ∙ c .if1 .taken;
+        others = l .inv .2;
+      };
+      parts = p .policy-parts .result;
+      policy = is;
+      start-is = refl;
+      end-is = refl;
     }
-
-add-at : tie.Need-add-at Inv-loop μ-loop
-add-at c =
-    let b = c .before .before .before .before .before .before .before .before in
-    let l = c .before .before .before .before .before .before .loop in
-    let g = now (b .args .g) in
-    let r = c .before .before .before .policy-parts .result in
-    let is = policy-here g (l .at) r (c .before .before .before .policy-parts .ensures) in
-    record { fits = omega (arith, next-inside (b .args .q) g (l .at) r is (c .before .before .before .before .before .loop-test .taken)) }
 
 loop-less : tie.Need-loop-less Inv-loop μ-loop
 loop-less c =
-    let b = c .before .before .before .before .before .before .before .before in
-    let l = c .before .before .before .before .before .before .loop in
-    let g = now (b .args .g) in
-    let r = c .before .before .before .policy-parts .result in
-    let is = policy-here g (l .at) r (c .before .before .before .policy-parts .ensures) in
-    let t = c .before .before .before .before .before .loop-test .taken in
-    omega (arith, next-inside (b .args .q) g (l .at) r is t, some-taken (b .args .q) g (l .at) r is)
+    let p = c .before .before .before .before in
+    let b = p .before .before .before .before .before in
+    omega (arith, inside p, some-taken (b .args .q) (now (b .args .g)) (p .before .before .before .loop .at) (p .policy-parts .result) (here p))
 
 loop-again : tie.Need-loop-again Inv-loop μ-loop
 loop-again c =
-    let b = c .before .before .before .before .before .before .before .before in
-    let l = c .before .before .before .before .before .before .loop in
+    let p = c .before .before .before .before in
+    let b = p .before .before .before .before .before in
+    let l = p .before .before .before .loop in
     let q = b .args .q in
     let g = now (b .args .g) in
-    let r = c .before .before .before .policy-parts .result in
-    let is = policy-here g (l .at) r (c .before .before .before .policy-parts .ensures) in (
-      next-inside q g (l .at) r is (c .before .before .before .before .before .loop-test .taken),
-      next-whole q g (l .at) r is,
-      l .inv .2 ∙ other-first q g (l .at) r is (c .before .if1 .left),
-    )
+    let r = p .policy-parts .result in
+    (inside p, next-whole q g (l .at) r (here p), l .inv .2 ∙ other-first q g (l .at) r (here p) (c .if1 .left))
 
 returns-2 : tie.Need-returns-2 Inv-loop μ-loop
 returns-2 c =
@@ -103,8 +110,9 @@ first-with-spec =
     part-policy-parts-start
     part-policy-parts-end
     policy-parts-requires
+    add-start
+    add-end
     returns
-    add-at
     loop-less
     loop-again
     returns-2)
