@@ -1,5 +1,5 @@
 // An SA of the table. An unused place (octets behind an ESP SPI, octets behind the keying octets, an ESP SA's part counts) is 0 in every SA
-// that is made here, may hold anything in an SA that comes in, and is looked at by no test.
+// that is made here of a key that its constructor made, may hold anything in an SA that comes in, and is looked at by no test.
 ghost use mathlib.Core.Path.{_≡_};
 ghost use mathlib.Core.Bool.{true};
 ghost use Prim.Native.Nat.{_+_, _≤_};
