@@ -8,7 +8,7 @@ use Rattle.chains.specs.Refusals.{Announced, CopiesEight, wrong-size, two-value
 use Rattle.copies.specs.declared.answer.Found.{Found}
 use Rattle.copies.specs.declared.answer.Found.the-variants.{Nothing, Key, Eight}
 use Rattle.copies.specs.declared.answer.Opened.{Opened}
-use Rattle.copies.specs.Answer.{AnswersBy, Answers}
+use Rattle.copies.specs.inner.Answer.{AnswersBy, Answers}
 
 module _ (roots : List Root) (entries : List WrapKey) (size : ℕ) (a : Announced) where
   -- where no copy opens, none opens to a wrong size or to another value

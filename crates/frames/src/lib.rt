@@ -5,7 +5,7 @@ ghost use lib.ListN.{length};
 ghost use Rattle.attributes.specs.Answers.{layoutOf, spotOf};
 ghost use Rattle.frames.specs.Delete.{deleteFits};
 ghost use Rattle.frames.specs.Frame.{body, payload, payloads, exactly, frameLayout};
-ghost use Rattle.frames.specs.Answers.{headerRead, payloadRead};
+ghost use Rattle.frames.specs.inner.Answers.{headerRead, payloadRead};
 use attributes::Layout;
 use attributes::Spot;
 

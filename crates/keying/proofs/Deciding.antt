@@ -13,7 +13,7 @@ use Rattle.outcome.specs.Roots.{announcedAs, announcedKeys}
 use Rattle.outcome.specs.After.{Enter}
 use Rattle.outcome.proofs.Members.{in-map, map-in, not-in-none}
 use Rattle.outcome.proofs.Enters.{each-enters}
-use Rattle.keying.specs.Keyed.{NoEight, KeysOf, KeyedBy}
+use Rattle.keying.specs.inner.Keyed.{NoEight, KeysOf, KeyedBy}
 use Rattle.keying.specs.declared.joining.Found.{Found}
 use Rattle.keying.specs.declared.joining.Found.the-variants.{Eight, Nine, Keys}
 use Rattle.keying.specs.declared.joining.Keyed.{Keyed}

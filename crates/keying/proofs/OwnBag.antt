@@ -18,7 +18,7 @@ use Rattle.clauses.specs.Contents.{gather, groupBagOf, bagsOf}
 use Rattle.clauses.specs.Number6.{bagNamed}
 use Rattle.chains.specs.Chain.{Root}
 use Rattle.chains.specs.Refusals.{Announced}
-use Rattle.copies.specs.Answer.{copiesIn, announcedIn, Answers}
+use Rattle.copies.specs.inner.Answer.{copiesIn, announcedIn, Answers}
 use Rattle.copies.specs.declared.answer.Opened.{Opened}
 use Rattle.outcome.specs.Roots.{copiesOf, needOf, announcedAs}
 use Rattle.pairing.specs.inner.Stretches.{StretchIs}

@@ -20,7 +20,7 @@ use Rattle.clauses.specs.Number6.{six-ofFrame}
 use Rattle.clauses.specs.Number7.{manySas, seven-ofMember}
 use Rattle.clauses.proofs.Clear.{no-clause, or-none}
 use Rattle.clauses.specs.Refusals.{Number, one, applies, judged, two, three, four, five, six, seven, refusal}
-use Rattle.keying.specs.Keyed.{Ready}
+use Rattle.keying.specs.inner.Keyed.{Ready}
 
 -- where the first number that applies is none, no number applies
 none-first : (n : Number) (l : List Number) → (n .number ≡ 0 → ⊥) → judged (n ∷ l) ≡ 0 → (applies n ≡ false) × (judged l ≡ 0)

@@ -19,8 +19,9 @@ use Rattle.reach.specs.declared.open.Status.{Status}
 use Rattle.reach.specs.declared.open.Status.the-variants.{Waiting, Failed, Wrong, Pending, Done}
 use Rattle.reach.specs.declared.open.Entry.{Entry}
 use Rattle.reach.specs.declared.open.Cell.{Cell}
-use Rattle.reach.specs.Entries.{noKey, noEntry, Lists}
-use Rattle.reach.specs.inner.Opened.{noCell, valueOf, Oversized}
+use Rattle.reach.specs.inner.Entries.{noKey, noEntry, Lists}
+use Rattle.keys.specs.Kinds.{valueOf}
+use Rattle.reach.specs.inner.Opened.{noCell, Oversized}
 use Rattle.reach.specs.inner.Search.{keyAt, cellAt, AllTried, FoundAt, NonePending, keyZero}
 use Rattle.reach.specs.inner.Search.{Misfits, Found-in, OneEach, Searched}
 use Rattle.reach.proofs.Statuses.{Holds, GoodBy, holds-done, holds-good, getD-any, eq-cases, tried-stays}

@@ -13,7 +13,8 @@ use Rattle.keys.specs.declared.kinds.WrappingKey.{WrappingKey}
 use Rattle.reach.specs.declared.open.Status.{Status}
 use Rattle.reach.specs.declared.open.Status.the-variants.{Waiting, Failed, Wrong, Pending, Done}
 use Rattle.reach.specs.declared.open.Cell.{Cell}
-use Rattle.reach.specs.inner.Opened.{valueOf, Opened, Oversized, NotOpened, LandedBy, Landed, Tried, opened, stays}
+use Rattle.keys.specs.Kinds.{valueOf}
+use Rattle.reach.specs.inner.Opened.{Opened, Oversized, NotOpened, LandedBy, Landed, Tried, opened, stays}
 use lib.Dec.{eqb}
 use Rattle.fips197.specs.Key.{Key}
 

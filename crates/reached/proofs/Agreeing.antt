@@ -11,15 +11,15 @@ use Rattle.chains.specs.Chain.{In, Root, Reached, Ends, root}
 use Rattle.chains.specs.Refusals.{EntriesEight, Value}
 use Rattle.chains.proofs.Determined.{one-value, AtRoot, ends-by}
 use Rattle.keys.specs.Limits.{limits}
-use Rattle.keys.specs.Kinds.{wrappingOf}
+use Rattle.keys.specs.Kinds.{wrappingOf, valueOf}
 use Rattle.keys.specs.declared.kinds.WrappingKey.{WrappingKey}
 use Rattle.state.specs.Held.{keysOf}
 use Rattle.state.specs.declared.held.HeldKey.{HeldKey}
 use Rattle.state.specs.declared.held.Held.{Held}
 use Rattle.state.proofs.Kept.{keys-of-held}
-use Rattle.copies.specs.Known.{valueOf, Known, key-zero, named, Agrees}
+use Rattle.copies.specs.inner.Known.{Known, key-zero, named, Agrees}
 use Rattle.reach.specs.inner.Search.{keyZero}
-use Rattle.reached.specs.Reached.{heldKeyOf, IsReached, HeldAre}
+use Rattle.reached.specs.inner.Reached.{heldKeyOf, IsReached, HeldAre}
 
 pub value-of : (x : List ℕ) → valueOf (wrappingOf x) ≡ x
 value-of x = take-append-seam x (replicate (32 - length x) 0)

@@ -17,7 +17,7 @@ use Rattle.state.specs.declared.held.HeldKey.{HeldKey}
 use Rattle.state.specs.declared.held.Held.{Held}
 use Rattle.reach.specs.inner.Values.{Tells}
 use Rattle.state.proofs.Kept.{id-trans}
-use Rattle.reached.specs.Reached.{HeldAre, Answers}
+use Rattle.reached.specs.inner.Reached.{HeldAre, Answers}
 use Rattle.reached.specs.declared.held.Reached.{Reached}
 use Rattle.chains.proofs.Members.{member-in, in-member}
 

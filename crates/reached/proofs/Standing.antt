@@ -19,11 +19,11 @@ use Rattle.state.specs.declared.held.HeldKey.{HeldKey}
 use Rattle.state.specs.declared.held.Held.{Held}
 use Rattle.reach.specs.declared.open.Entry.{Entry}
 use Rattle.reach.specs.declared.open.Cell.{Cell}
-use Rattle.reach.specs.Entries.{Lists}
-use Rattle.reach.specs.inner.Opened.{valueOf}
+use Rattle.reach.specs.inner.Entries.{Lists}
+use Rattle.keys.specs.Kinds.{valueOf}
 use Rattle.reach.specs.inner.Search.{keyAt, Gives, Searched, Found-in, Nonzero}
 use Rattle.reach.proofs.Eight.{eight-wrong, eight-clash, found}
-use Rattle.reached.specs.Reached.{heldKeyOf, IsReached, HeldAre}
+use Rattle.reached.specs.inner.Reached.{heldKeyOf, IsReached, HeldAre}
 use Rattle.chains.proofs.Members.{member-in, in-member}
 use Rattle.reached.proofs.Membership.{all-members}
 use Rattle.reached.proofs.Entering.{Done-at, Entered}

@@ -12,9 +12,9 @@ ghost use Rattle.attributes.specs.Tree.{WrapKey};
 ghost use Rattle.keys.specs.Algorithms.{sizeOf};
 ghost use Rattle.chains.specs.Chain.{Root};
 ghost use Rattle.chains.specs.Refusals.{EntriesEight};
-ghost use Rattle.reach.specs.Entries.{Lists};
+ghost use Rattle.reach.specs.inner.Entries.{Lists};
 ghost use Rattle.reach.specs.inner.Search.{Searched, Nonzero};
-ghost use Rattle.reached.specs.Reached.{HeldAre};
+ghost use Rattle.reached.specs.inner.Reached.{HeldAre};
 ghost use Rattle.reached.specs.inner.Joins.{Joins};
 
 // Whether number 8 holds of the entries; if not, the keys that they reach.

@@ -8,7 +8,7 @@ use Rattle.octets.specs.Octets.{Octets}
 use Rattle.fips197.specs.Key.{Key}
 use Rattle.keys.specs.Limits.{limits}
 use Rattle.keys.specs.Algorithms.{sizeOf}
-use Rattle.keys.specs.Kinds.{wrappingOf, wrappingKey}
+use Rattle.keys.specs.Kinds.{wrappingOf, wrappingKey, valueOf}
 use Rattle.keys.specs.declared.kinds.WrappingKey.{WrappingKey}
 use Rattle.attributes.specs.Tree.{WrapKey}
 use Rattle.frames.specs.Frame.{Frame}
@@ -19,18 +19,18 @@ use Rattle.state.specs.declared.held.HeldKey.{HeldKey}
 use Rattle.clauses.specs.Contents.{rowOf}
 use Rattle.chains.specs.Chain.{Root}
 use Rattle.chains.specs.Refusals.{EntriesEight}
-use Rattle.copies.specs.Known.{valueOf, Agrees}
+use Rattle.copies.specs.inner.Known.{Agrees}
 use Rattle.reach.specs.inner.Search.{keyZero}
 use Rattle.reach.specs.inner.Values.{Tells}
 use Rattle.reach.proofs.Searching.{is-key-size}
-use Rattle.reached.specs.Reached.{wrapKeysIn, Answers, HeldAre as Reaches}
+use Rattle.reached.specs.inner.Reached.{wrapKeysIn, Answers, HeldAre as Reaches}
 use Rattle.reached.specs.declared.held.Reached.{Reached}
 use Rattle.reached.proofs.Agreeing.{value-of}
 use Rattle.outcome.specs.Roots.{rootsOf, entriesOf, wrappingSize}
 use Rattle.outcome.specs.After.{HeldAre, HeldBy}
 use Rattle.outcome.specs.Outcome.{Judged}
 use Rattle.outcome.proofs.Rows.{registers, lent-roots, lent-size}
-use Rattle.keying.specs.Keyed.{KeyedBy}
+use Rattle.keying.specs.inner.Keyed.{KeyedBy}
 use Rattle.keying.specs.declared.joining.Keyed.{Keyed}
 use Rattle.receiving.specs.inner.Passing.{Bodied, Opened}
 use Rattle.receiving.proofs.ClauseLaws.{lent-fits}

@@ -10,7 +10,7 @@ ghost use Rattle.attributes.specs.Layout.{attributes};
 ghost use Rattle.policies.specs.Policy.{GroupSaPolicy};
 ghost use Rattle.contents.specs.inner.Values.{isWhole};
 ghost use Rattle.clauses.specs.Fitness.{transformsFit};
-ghost use Rattle.suites.specs.Suites.{suiteOf};
+ghost use Rattle.suites.specs.inner.Suites.{suiteOf};
 ghost use Rattle.suites.specs.inner.Octets.{transformIn};
 ghost use Rattle.suites.specs.inner.Adding.{once, plus, AtMost};
 use attributes::tables::Meaning;

@@ -17,7 +17,7 @@ ghost use Rattle.contents.specs.inner.Values.{isWhole};
 ghost use Rattle.contents.specs.inner.Policies.{policiesIn};
 ghost use Rattle.clauses.specs.Contents.{gather, saOf};
 ghost use Rattle.clauses.specs.Fitness.{ah, transformsFit};
-ghost use Rattle.suites.specs.Suites.{suiteOf, needsOf};
+ghost use Rattle.suites.specs.inner.Suites.{suiteOf, needsOf};
 use counts::Needs;
 use counts::Suite;
 

@@ -5,30 +5,30 @@ use mathlib.Core.Bool.{Bool, true, false}
 use mathlib.Core.List.{List, [], _∷_, _++_}
 use lib.ListN.{length}
 use Rattle.keys.specs.Algorithms.{sizeOf}
-use Rattle.keys.specs.Kinds.{rekeySizes}
+use Rattle.keys.specs.Kinds.{rekeySizes, valueOf}
 use Rattle.attributes.specs.Tree.{WrapKey}
 use Rattle.policies.specs.Policy.{spiSize, GroupSaPolicy, SaBody}
 use Rattle.frames.specs.Frame.{Frame}
 use Rattle.sa.specs.declared.entry.Sa.{Sa}
-use Rattle.aes.specs.Schedule.{ExpandsInverse}
+use Rattle.aes.specs.inner.Schedule.{ExpandsInverse}
 use Rattle.attributes.specs.declared.tables.Place.{Place}
 use Rattle.policies.specs.Grammar.{IsSaBody}
 use Rattle.contents.specs.inner.Bags.{bagsIn}
 use Rattle.keys.specs.Lists.{any}
 use Rattle.keys.specs.declared.kinds.WrappingKey.{WrappingKey}
 use Rattle.state.specs.declared.held.Held.{Held}
-use Rattle.copies.specs.Known.{valueOf, Agrees}
+use Rattle.copies.specs.inner.Known.{Agrees}
 use Rattle.clauses.specs.Contents.{rowOf, bagsOf}
 use Rattle.clauses.specs.Number4.{twiceInTransform}
 use Rattle.clauses.specs.Number6.{bagsNamed}
 use Rattle.clauses.specs.Fitness.{encryptionOctets, keyWrapOctets, transformsFit}
 use Rattle.chains.specs.Chain.{Root, CopyOpens}
 use Rattle.chains.specs.Refusals.{CopiesEight, KeyOf}
-use Rattle.copies.specs.Answer.{Answers}
+use Rattle.copies.specs.inner.Answer.{Answers}
 use Rattle.copies.specs.declared.answer.Opened.{Opened}
 use Rattle.outcome.specs.Roots.{copiesOf, announcedAs}
 use Rattle.outcome.specs.After.{saFrom}
-use Rattle.keying.specs.Keyed.{KeysIn}
+use Rattle.keying.specs.inner.Keyed.{KeysIn}
 use Rattle.keying.specs.declared.joining.Found.{Found}
 use Rattle.keying.specs.declared.joining.Found.the-variants as found
 use Rattle.keying.specs.declared.joining.Keyed.{Keyed}

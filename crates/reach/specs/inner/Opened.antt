@@ -4,11 +4,11 @@ use mathlib.Core.Path.{_≡_}
 use mathlib.Core.Bool.{Bool, true, false}
 use mathlib.Core.List.{List, []}
 use lib.Dec.{eqb}
-use lib.ListN.{length, take}
+use lib.ListN.{length}
 use Rattle.octets.specs.Walk.{both}
 use Rattle.keywrap.specs.Opens.{Opens}
 use Rattle.attributes.specs.Tree.{WrapKey}
-use Rattle.keys.specs.Kinds.{wrappingOf}
+use Rattle.keys.specs.Kinds.{wrappingOf, valueOf}
 use Rattle.keys.specs.declared.kinds.WrappingKey.{WrappingKey}
 use Rattle.reach.specs.declared.open.Status.{Status}
 use Rattle.reach.specs.declared.open.Status.the-variants.{Waiting, Failed, Wrong, Pending, Done}
@@ -35,10 +35,6 @@ pending Done = false
 -- entry e waits for key k
 abbrev pub naming : ℕ → Entry → Cell → Bool
 naming k e c = both (eqb (e .kwk) k) (waiting (c .status))
-
--- the octets of a key
-abbrev pub valueOf : WrappingKey → List ℕ
-valueOf k = take (k .count) (k .octets)
 
 -- the key is octets of the right size to which `wrapped` opens under v
 pub record Opened (v : List ℕ) (size : ℕ) (wrapped : List ℕ) (key : WrappingKey) : Type 0 where

@@ -3,10 +3,10 @@ use denote.Ref.{now}
 use native.Mathlib.Omega.{arith}
 use mathlib.Core.Path.{sym}
 use mathlib.Core.Bool.{false≢true}
-use Rattle.copies.specs.Known.{valueOf}
+use Rattle.keys.specs.Kinds.{valueOf}
 use Rattle.reach.specs.inner.Search.{keyZero}
 use Rattle.reach.proofs.Clashing.{told-yes, told-not}
-use Rattle.reached.specs.Reached.{wrapKeysIn}
+use Rattle.reached.specs.inner.Reached.{wrapKeysIn}
 use Rattle.reached.proofs.Agreeing.{held-agrees}
 use borrow.Author.Needs.{needs}
 use Rattle.reached.proofs.reached.Statement.{statement}

@@ -16,7 +16,7 @@ use Rattle.state.specs.Held.{heldOf, keyFormed, idBefore}
 use Rattle.state.specs.declared.held.HeldKey.{HeldKey}
 use Rattle.state.specs.declared.held.Held.{Held}
 use Rattle.reach.specs.inner.Values.{Tells}
-use Rattle.copies.specs.Known.{Agrees}
+use Rattle.copies.specs.inner.Known.{Agrees}
 use Rattle.reached.specs.declared.held.Reached.{Reached}
 use Rattle.contents.specs.inner.Bags.{bagsIn}
 use Rattle.clauses.specs.Contents.{gather, memberBagOf}
