@@ -68,7 +68,7 @@ pub record Named (protocol : ℕ) (spi : List ℕ) (encryption wrapping : ℕ) (
   pub encryption-is : encryptionOctets a ≡ encryption
   pub wrapping-is : keyWrapOctets a ≡ wrapping
 
--- with this name and needs, and what its copies open to
+-- a policy with this name whose transforms need so many octets, and what its copies open to
 pub record IsOpened (protocol : ℕ) (spi : List ℕ) (encryption wrapping : ℕ) (one : Opened) (roots : List Root) (entries : List WrapKey)
     (size : ℕ) (f : Frame) (a : GroupSaPolicy) : Type 0 where
   pub name : Named protocol spi encryption wrapping a
@@ -95,7 +95,7 @@ pub record Announces (k : List ℕ) (protocol : ℕ) (spi x : List ℕ) (f : Fra
   pub bags : bagsOf f ≡ bagsIn k
   pub paired : bagsNamed f (a .protocol) (a .spi) ≡ 1
 
--- with this name in these octets, and its copies under these keys
+-- the policy a has this name and holds x after its SPI, and its copies open under key 0 and the held keys
 pub record IsAnnounced (k : List ℕ) (protocol : ℕ) (spi x : List ℕ) (schedule : List ℕ) (held : Held) (roots : List Root)
     (entries : List WrapKey) (size : ℕ) (f : Frame) (a : GroupSaPolicy) : Type 0 where
   pub opening : Opening schedule held roots entries size
