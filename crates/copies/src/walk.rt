@@ -77,7 +77,7 @@ pub(crate) fn tried(
     }
 }
 
-// The same for a key; its schedule is expanded only if a copy names it.
+// What the copies that name this key open to under it. Its schedule is expanded only if a copy names it.
 pub(crate) fn with_key(place: Place, a: &[u8], id: u32, key: WrappingKey, need: usize) -> Opened
     requires { ⌜ isWhole (attributes place 0 (now a)) ≡ true ⌝ }
     requires { ⌜ sizeOf 13 (key .count) ≡ true ⌝ }

@@ -43,7 +43,7 @@ pub record Opened (v : List ℕ) (size : ℕ) (wrapped : List ℕ) (key : Wrappi
   pub is : key ≡ wrappingOf (valueOf key)
 
 -- `wrapped` opens under v, to a wrong size
-pub record Oversized (v : List ℕ) (size : ℕ) (wrapped : List ℕ) : Type 0 where
+pub record WrongSize (v : List ℕ) (size : ℕ) (wrapped : List ℕ) : Type 0 where
   pub x : List ℕ
   pub opens : Opens v wrapped x
   pub misfit : length x ≡ size → ⊥
@@ -55,7 +55,7 @@ NotOpened v wrapped = (x : List ℕ) → Opens v wrapped x → ⊥
 abbrev pub LandedBy : List ℕ → ℕ → List ℕ → Status → WrappingKey → Type 0
 LandedBy v size wrapped Waiting key = ⊥
 LandedBy v size wrapped Failed key = NotOpened v wrapped
-LandedBy v size wrapped Wrong key = Oversized v size wrapped
+LandedBy v size wrapped Wrong key = WrongSize v size wrapped
 LandedBy v size wrapped Pending key = Opened v size wrapped key
 LandedBy v size wrapped Done key = ⊥
 
