@@ -2,6 +2,7 @@
 use attributes::tables::Meaning;
 use attributes::tables::Place;
 use contents::body::sa_parts;
+use contents::policy::REKEY;
 use contents::policy::policy_parts;
 use contents::values::Found;
 use contents::values::next_of;
@@ -93,7 +94,7 @@ pub fn rekey_policy(g: &[u8]) -> NewRekey
     requires { ⌜ oneInitial (policiesIn (now g)) ≡ true ⌝ }
     ensures { λ r. ⌜ Rekeys (policiesIn (now (g .entry))) r ⌝ }
 {
-    match first_with(6, g) {
+    match first_with(REKEY, g) {
         Spotted::At(start, end) => {
             let x = &g[start..end];
             let parts = sa_parts(x);

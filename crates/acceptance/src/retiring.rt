@@ -15,6 +15,7 @@ ghost use Rattle.frames.specs.Frame.{Frame, frame};
 ghost use Rattle.contents.specs.inner.Values.{isWhole};
 ghost use Rattle.outcome.specs.After.{namedInDelete};
 ghost use Rattle.acceptance.specs.inner.Tables.{namedBy, namedIn};
+use contents::payload::DELETE;
 use contents::payload::payload_parts;
 use payloads::deletion::delete_parts;
 use payloads::deletion::spi_at;
@@ -75,7 +76,7 @@ pub fn retired_by_frame(t: Table, s: &[u8], tick: u32, delay: u16) -> Table
     while kind != 0 {
         let p = payload_parts(kind, &s[at..]);
         let e = at + p.end;
-        if kind == 42 {
+        if kind == DELETE {
             out = retired_spis(out, &s[at + 4..e], tick, delay);
         }
         kind = p.next;

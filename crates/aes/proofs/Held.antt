@@ -15,7 +15,7 @@ use Rattle.fips197.specs.Sbox.{sbox, inv-sbox}
 use Rattle.fips197.specs.Expansion.{word, grow, keyExpansion}
 use Rattle.fips197.specs.Cipher.{roundKey}
 use Rattle.fips197.proofs.Expansion.{Sizes, sizes, length-expansion}
-use Rattle.aes.specs.Schedule.{scheduleWith, Schedules, Scheduled}
+use Rattle.aes.specs.inner.Schedule.{scheduleWith, Schedules, Scheduled}
 use Rattle.aes.specs.inner.Parts.{tableOf}
 
 -- an entry of a schedule's table

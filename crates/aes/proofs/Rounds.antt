@@ -9,7 +9,7 @@ use Rattle.fips197.specs.Sbox.{sbox, inv-sbox}
 use Rattle.fips197.specs.Steps.{substitute, subBytes, shiftRows, mixColumns, addRoundKey, invSubBytes, invShiftRows, invMixColumns}
 use Rattle.fips197.specs.Expansion.{keyExpansion}
 use Rattle.fips197.specs.Cipher.{roundKey, rounds, cipherWith, invRound, invRounds, invCipherWith, cipher, invCipher}
-use Rattle.aes.specs.Schedule.{Schedules}
+use Rattle.aes.specs.inner.Schedule.{Schedules}
 use Rattle.aes.specs.inner.Parts.{tableOf}
 use Rattle.aes.proofs.Held.{rounds-is, round-key-is, length-sbox, length-inv-sbox}
 

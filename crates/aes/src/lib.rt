@@ -8,7 +8,7 @@ ghost use lib.ListN.{length};
 ghost use Rattle.fips197.specs.Key.{isKey, roundsOf};
 ghost use Rattle.fips197.specs.Expansion.{keyExpansion, word};
 ghost use Rattle.fips197.specs.Cipher.{cipher, invCipher};
-ghost use Rattle.aes.specs.Schedule.{Expands, ExpandsInverse, Expanded, ExpandedInverse};
+ghost use Rattle.aes.specs.inner.Schedule.{Expands, ExpandsInverse, Expanded, ExpandedInverse};
 
 mod expansion;
 mod inv_sbox;

@@ -5,10 +5,9 @@ use mathlib.Core.List.{List}
 use native.Mathlib.Omega.{arith}
 use lib.ListN.{length, drop, length-drop}
 use lib.Seq.{drop-drop}
-use Rattle.octets.specs.Walk.{part, Reading, whole, broken, Reader, mapped, closed, within, andThen, push, many, stops, breaks}
-use Rattle.octets.specs.Walk.{outline}
-use Rattle.octets.proofs.Walks.{tail, to-end, Takes, Keeps, takes-keeps, took-fewer, starts, many-first, many-breaks, many-ends}
-use Rattle.octets.proofs.Walks.{then-goes, after-breaks}
+use Rattle.octets.specs.Walk.{part, Reading, whole, broken, Reader, mapped, closed, within, andThen, push, many}
+use Rattle.octets.proofs.Walks.{tail, to-end, Takes, Keeps, takes-keeps, took-fewer, starts, many-first, many-breaks, many-ends, outline}
+use Rattle.octets.proofs.Walks.{then-goes, after-breaks, stops, breaks}
 use Rattle.attributes.specs.Answers.{layoutOf, spotOf}
 use Rattle.attributes.specs.declared.Layout.{Layout}
 use Rattle.attributes.specs.declared.Layout.the-variants as layout

@@ -30,7 +30,7 @@ pub enum Read {
     Cut,
 }
 
-// The attribute that the octets start with.
+// The attribute that the octets start with. Internal.
 pub fn attribute_read(s: &[u8]) -> Read
     ensures { λ r. ⌜ r ≡ readOf (now (s .entry)) ⌝ }
 {

@@ -12,7 +12,8 @@ use Rattle.keys.specs.Limits.{limits}
 use Rattle.attributes.specs.Tree.{WrapKey}
 use Rattle.bags.specs.Bag.{Bag, groupKeys, memberKeys, GroupKeyBag, MemberKeyBag}
 use Rattle.clauses.specs.Contents.{gather, groupBagOf, memberBagOf}
-use Rattle.clauses.specs.Fitness.{sum, ah, esp}
+use Rattle.sa.specs.Entry.{esp}
+use Rattle.clauses.specs.Fitness.{sum, ah}
 use Rattle.clauses.specs.Number6.{hasKeyId, hasKwkId}
 use Rattle.clauses.proofs.Gather.{any-gather}
 use Rattle.bagkeys.specs.inner.Questions.{otherCount, oneIf, inGroup, inMember, amount, answer}

@@ -20,19 +20,29 @@ ghost use Rattle.clauses.specs.Fitness.{ah, sum};
 ghost use Rattle.bagkeys.specs.inner.Questions.{otherCount, oneIf, inGroup, inMember, amount, bagWith, answer};
 use attributes::tables::Meaning;
 use attributes::tables::Place;
+use contents::policy::AH;
+use contents::policy::ESP;
+use contents::policy::REKEY;
 use keys::limits::SA_KEYS;
 use wrapped::Sought;
 
-// Group Key Bags in which the SA_KEY count is not as it must be, where the exchange has copies or not; SA_KEYs with a Key ID; ESP SA_KEYs
-// with a KWK ID; Group Key Bags with more SA_KEYs than the limit; AH's; WRAP_KEYs without a Key ID; WRAP_KEYs; Member Key Bags.
+// What is asked about.
 pub enum Question {
+    // Group Key Bags in which the SA_KEY count is not as it must be, where the exchange has copies or not.
     SaKeyCount { copies: bool },
+    // SA_KEYs with a Key ID.
     SaKeyId,
+    // SA_KEYs of ESP bags with a KWK ID.
     EspKwkId,
+    // Group Key Bags with more SA_KEYs than the limit.
     ManySaKeys,
+    // Group Key Bags of AH.
     Ah,
+    // WRAP_KEYs without a Key ID.
     WrapKeyId,
+    // WRAP_KEYs.
     WrapKeys,
+    // Member Key Bags.
     Member,
 }
 
@@ -51,7 +61,7 @@ fn is_other_count(copies: bool, protocol: usize, n: usize) -> bool
     ensures { λ r. ⌜ r ≡ otherCount copies protocol n ⌝ }
 {
     if copies {
-        if protocol == 6 {
+        if protocol == REKEY {
             return n == 0;
         }
         return n != 1;
@@ -75,7 +85,7 @@ fn in_group(q: Question, protocol: usize, a: &[u8]) -> usize
         }
         Question::SaKeyId => wrapped::keys_with(Sought::KeyId, Meaning::SaKey, place, a),
         Question::EspKwkId => {
-            if protocol == 3 {
+            if protocol == ESP {
                 return wrapped::keys_with(Sought::KwkId, Meaning::SaKey, place, a);
             }
             0
@@ -83,7 +93,7 @@ fn in_group(q: Question, protocol: usize, a: &[u8]) -> usize
         Question::ManySaKeys => one_if(
             SA_KEYS < wrapped::keys_with(Sought::Any, Meaning::SaKey, place, a),
         ),
-        Question::Ah => one_if(protocol == 2),
+        Question::Ah => one_if(protocol == AH),
         Question::WrapKeyId => 0,
         Question::WrapKeys => 0,
         Question::Member => 0,

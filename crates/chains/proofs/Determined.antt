@@ -1,7 +1,8 @@
--- What the definitions determine: with no two values, what a chain gives is determined by its Key ID. Assumes nothing.
+-- What the definitions determine: with no two values, the value of a key that is reached, by its Key ID; and the key of an SA. Assumes
+-- nothing.
 use native.Mathlib.Omega.{arith}
 use Prim.Native.Nat.{ℕ, suc}
-use mathlib.Core.Path.{_≡_, refl, ap, ap₂, sym, _∙_}
+use mathlib.Core.Path.{_≡_, refl, ap, ap₂}
 use mathlib.Core.Bool.{Bool, true, false}
 use mathlib.Core.Logic.{_⊎_, inl, inr, ⊎-elim}
 use mathlib.Core.List.{List, [], _∷_}
@@ -9,8 +10,8 @@ use lib.Dec.{eqb}
 use lib.ListN.{length, getD}
 use borrow.Author.Tests.{eqb-true, eqb-false}
 use Rattle.attributes.specs.Tree.{WrapKey}
-use Rattle.chains.specs.Chain.{In, Root, Chain, root, step, Reached, Ends, CopyOpens}
-use Rattle.chains.specs.Refusals.{Announced, EntriesEight, CopiesEight, Value, KeyOf}
+use Rattle.chains.specs.Chain.{In, Root, Chain, root, step, Reached}
+use Rattle.chains.specs.Refusals.{Announced, EntriesEight, KeyOf}
 use Rattle.chains.specs.Refusals as refusals
 
 -- ---- lists of numbers are equal or not
@@ -38,14 +39,6 @@ lists-equal (m ∷ x) [] = inr (λ e. let z : suc (length x) ≡ 0 = ap length e
 lists-equal (m ∷ x) (n ∷ y) = heads-join m n x y (lists-equal x y)
 
 module _ (roots : List Root) (entries : List WrapKey) (size : ℕ) where
-  -- a Key ID has one root at most
-  abbrev pub Distinct : Type 0
-  Distinct = (r s : Root) → In r roots → In s roots → r .id ≡ s .id → r .value ≡ s .value
-
-  -- no entry gives a root's Key ID
-  abbrev pub Apart : Type 0
-  Apart = (r : Root) (e : WrapKey) → In r roots → In e entries → e .keyId ≡ r .id → ⊥
-
   -- reached wrappings give a key one value
   abbrev pub OneValue : Type 0
   OneValue = (k : ℕ) (x y : List ℕ) → Reached roots entries size k x → Reached roots entries size k y → x ≡ y
@@ -80,28 +73,6 @@ module _ (roots : List Root) (entries : List WrapKey) (size : ℕ) where
   unfolding Last
   last-entry k x r = last (r .last ∷ r .before) k x (r .chain)
 
-  module _ (distinct : Distinct) (apart : Apart) (one : OneValue) where
-    by-ends : (k : ℕ) (v w : List ℕ) → AtRoot k v ⊎ Reached roots entries size k v → AtRoot k w ⊎ Reached roots entries size k w → v ≡ w
-    by-ends k v w (inl p) (inl q) =
-        sym (p .value-is) ∙ distinct (p .key) (q .key) (p .stands) (q .stands) (p .id-is ∙ sym (q .id-is)) ∙ q .value-is
-    by-ends k v w (inl p) (inr q) =
-        let l = last-entry k w q in absurd (apart (p .key) (q .last) (p .stands) (l .0) (l .1 ∙ sym (p .id-is)))
-    by-ends k v w (inr p) (inl q) =
-        let l = last-entry k v p in absurd (apart (q .key) (p .last) (q .stands) (l .0) (l .1 ∙ sym (q .id-is)))
-    by-ends k v w (inr p) (inr q) = one k v w p q
-
-    -- with no two values, what a chain gives is determined by its Key ID
-    pub ends-one : (k : ℕ) (v w : List ℕ) → Ends roots entries size k v → Ends roots entries size k w → v ≡ w
-    ends-one k v w a b = by-ends k v w (ends-by (a .passed) k v (a .chain)) (ends-by (b .passed) k w (b .chain))
-
-  -- where number 8 does not hold of an SA's copies, each that opens gives the same octets, of the size its policy needs
-  pub copies-one : (a : Announced) → (CopiesEight roots entries size a → ⊥) → (x y : List ℕ) →
-      CopyOpens roots entries size (a .copies) x → CopyOpens roots entries size (a .copies) y → x ≡ y
-  copies-one a none x y p q = ⊎-elim (λ e. e) (λ f. absurd (none (refusals.two-values x y p q f))) (lists-equal x y)
-
-  -- "the value that every chain ending on it gives" is one, and so are "the octets that every such copy opens to"
-  pub value-one : (k : ℕ) (x y : List ℕ) → Value roots entries size k x → Value roots entries size k y → x ≡ y
-  value-one k x y p q = q .every x (p .reached)
-
+  -- "the octets that every such copy opens to" are one list
   pub key-one : (a : Announced) (x y : List ℕ) → KeyOf roots entries size a x → KeyOf roots entries size a y → x ≡ y
   key-one a x y p q = q .every x (p .opens)

@@ -39,10 +39,6 @@ module _ (roots : List Root) (entries : List WrapKey) (size : ℕ) where
     step : {passed : List WrapKey} {k : ℕ} {v x : List ℕ} (e : WrapKey) → Chain passed k v → Extended passed v → Leads k v e x →
         Chain (e ∷ passed) (e .keyId) x
 
-  -- the entries that a chain passes, from the one it ends with back to its root
-  abbrev pub passedBy : {passed : List WrapKey} {k : ℕ} {v : List ℕ} → Chain passed k v → List WrapKey
-  passedBy {passed = passed} c = passed
-
   -- "Whatever a chain gives is reached", a chain of one or more entries: key k, with value x
   pub record Reached (k : ℕ) (x : List ℕ) : Type 0 where
     pub last : WrapKey

@@ -11,7 +11,8 @@ use Rattle.bags.specs.Bag.{GroupKeyBag}
 use Rattle.frames.specs.Delete.{Delete}
 use Rattle.frames.specs.Frame.{Frame}
 use Rattle.clauses.specs.Contents.{rowOf, announced}
-use Rattle.clauses.specs.Fitness.{ah, esp, transformsFit}
+use Rattle.sa.specs.Entry.{esp}
+use Rattle.clauses.specs.Fitness.{ah, transformsFit}
 use Rattle.clauses.specs.Number5.{ahPolicy, ahBag, otherTransforms, deleteOfOther, deleteOfNone, lentKeySize, five-ofFrame}
 use Rattle.clauses.specs.Reordered.{Reordered}
 use Rattle.clauses.proofs.AnyOrder.{any-order, any-equal}

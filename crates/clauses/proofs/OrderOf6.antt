@@ -6,7 +6,7 @@ use mathlib.Core.Bool.{Bool, not, cond, _&&_}
 use lib.Dec.{ltb, eqb}
 use Rattle.octets.specs.Compare.{same}
 use Rattle.keys.specs.Lists.{any}
-use Rattle.sa.specs.Entry.{named}
+use Rattle.sa.specs.Entry.{named, esp, rekey}
 use Rattle.state.specs.declared.State.{State}
 use Rattle.attributes.specs.Tree.{SaKey, WrapKey}
 use Rattle.policies.specs.Policy.{GroupSaPolicy}
@@ -14,7 +14,6 @@ use Rattle.bags.specs.Bag.{GroupKeyBag}
 use Rattle.frames.specs.Frame.{Frame}
 use Rattle.frames.specs.declared.exchanges.Exchange.{Exchange}
 use Rattle.clauses.specs.Contents.{rowOf, announced, groupBags}
-use Rattle.clauses.specs.Fitness.{esp, rekey}
 use Rattle.clauses.specs.Number2.{standing}
 use Rattle.clauses.specs.Number6.{policyNamed, bagNamed, policiesNamed, bagsNamed, policyUnpaired, bagUnpaired, policyTwice, bagTwice}
 use Rattle.clauses.specs.Number6.{alreadyInTable, otherSaKeyCount, saKeyCount, hasKeyId, saKeyId, hasKwkId, espKwkId, wrapKeyId}

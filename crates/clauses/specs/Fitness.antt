@@ -10,19 +10,14 @@ use Rattle.keys.specs.Lists.{all, any, count}
 use Rattle.keys.specs.Algorithms.{neededBy}
 use Rattle.keys.specs.declared.algorithms.Needed.{Needed}
 use Rattle.keys.specs.declared.algorithms.Needed.the-variants.{Octets, Nothing}
+use Rattle.sa.specs.Entry.{esp, rekey}
 use Rattle.policies.specs.Selector.{Selector}
 use Rattle.policies.specs.Transform.{Transform}
 use Rattle.policies.specs.Policy.{GroupSaPolicy}
 
--- protocols (RFC 9838, section 4.4.2): AH, ESP, and GIKE_UPDATE, the Rekey SA's
+-- protocol AH (RFC 9838, section 4.4.2)
 abbrev pub ah : ℕ
 ah = 2
-
-abbrev pub esp : ℕ
-esp = 3
-
-abbrev pub rekey : ℕ
-rekey = 6
 
 abbrev pub isEsp : GroupSaPolicy → Bool
 isEsp p = eqb (p .protocol) esp

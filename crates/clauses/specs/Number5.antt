@@ -12,7 +12,8 @@ use Rattle.bags.specs.Bag.{GroupKeyBag}
 use Rattle.frames.specs.Delete.{Delete}
 use Rattle.frames.specs.Frame.{Frame}
 use Rattle.clauses.specs.Contents.{rowOf, announced, groupBags, deletesOf}
-use Rattle.clauses.specs.Fitness.{ah, esp, transformsFit}
+use Rattle.sa.specs.Entry.{esp}
+use Rattle.clauses.specs.Fitness.{ah, transformsFit}
 
 -- "an AH policy or bag"
 unfoldable pub ahPolicy : Frame → Bool

@@ -8,7 +8,7 @@ use lib.ListN.{length}
 use lib.Dec.{ltb, eqb}
 use Rattle.octets.specs.Compare.{same}
 use Rattle.keys.specs.Lists.{any, count}
-use Rattle.sa.specs.Entry.{named}
+use Rattle.sa.specs.Entry.{named, esp, rekey}
 use Rattle.state.specs.declared.State.{State}
 use Rattle.attributes.specs.Tree.{SaKey, WrapKey}
 use Rattle.policies.specs.Policy.{GroupSaPolicy}
@@ -16,7 +16,6 @@ use Rattle.bags.specs.Bag.{GroupKeyBag}
 use Rattle.frames.specs.Frame.{Frame}
 use Rattle.frames.specs.declared.exchanges.Exchange.{Exchange}
 use Rattle.clauses.specs.Contents.{rowOf, announced, groupBags, wrapKeysOf}
-use Rattle.clauses.specs.Fitness.{esp, rekey}
 use Rattle.clauses.specs.Number2.{standing}
 
 -- it has this protocol and SPI

@@ -1,32 +1,25 @@
--- The sort of a policy and of a key bag by its first octet, and how many there are of a sort.
+-- The sort of a policy by its first octet, and how many there are of a sort.
 use Prim.Native.Nat.{ℕ, _+_, _≤_}
 use mathlib.Core.Path.{_≡_, refl, ap, sym, _∙_}
-use mathlib.Core.Logic.{_⊎_, inl, inr}
+use mathlib.Core.Logic.{_⊎_}
 use mathlib.Core.List.{List, [], _∷_}
 use mathlib.Core.Bool.{Bool, true, false, not, cond}
 use native.Mathlib.Omega.{arith}
 use borrow.Author.Tests.{eq-eqb, ne-eqb, eqb-true, eqb-false}
 use lib.ListN.{length, drop}
 use lib.Dec.{eqb}
-use Rattle.octets.specs.Numbers.{oct}
-use Rattle.octets.specs.Walk.{part}
 use Rattle.keys.specs.Lists.{count}
 use Rattle.keys.proofs.Cases.{bool-cases}
-use Rattle.attributes.specs.Attribute.{Attribute}
 use Rattle.policies.specs.Policy.{Policy, groupSa, groupWide, GroupSaPolicy, GroupWidePolicy}
-use Rattle.bags.specs.Bag.{Bag, placeOf, bagOf}
-use Rattle.contents.specs.inner.Values.{attributesIn}
 use Rattle.contents.specs.inner.Policies.{policiesIn, PolicyIs}
-use Rattle.contents.specs.inner.Bags.{bagsIn}
 use Rattle.contents.specs.declared.policy.Parts.{Parts}
-use Rattle.clauses.specs.Contents.{gather, saOf, wideOf, memberBagOf}
+use Rattle.clauses.specs.Contents.{gather, saOf, wideOf}
 use Rattle.clauses.specs.Fitness.{isRekey}
 use Rattle.clauses.proofs.First.{count-step}
-use Rattle.payloads.proofs.KindLaws.{Counted}
 use Rattle.composition.specs.inner.Groups.{begins, isOf}
 use Rattle.composition.specs.declared.counts.Sort.{Sort}
 use Rattle.composition.specs.declared.counts.Sort.the-variants as sort
-use Rattle.composition.proofs.WalkLaws.{PolicyAt, BagAt, no-policy, no-bag}
+use Rattle.composition.proofs.WalkLaws.{PolicyAt, no-policy}
 
 -- the first policy is of the sorts that its first octet tells
 pub record Sorted (s : List ℕ) (r : Parts) : Type 0 where
@@ -83,36 +76,3 @@ unfolding count gather
 count-rekey [] = refl
 count-rekey (groupSa p ∷ l) = ap (λ (n : ℕ). cond (isRekey p) (n + 1) n) (count-rekey l)
 count-rekey (groupWide w ∷ l) = count-rekey l
-
--- MEMBER KEY BAGS
-members : List Bag → ℕ
-members l = length (gather memberBagOf l)
-
-member-first : (o : List ℕ) (a : List Attribute) (l : List Bag)
-    → members (bagOf o a ∷ l) ≡ cond (eqb (oct o 0) 0) (members l + 1) (members l)
-unfolding members gather
-member-first o a l = bool-cases (eqb (oct o 0) 0) (λ e. rw e (omega arith)) (λ e. rw e)
-
-module _ (s : List ℕ) (at : ℕ) where
-  pub member-step : (r : Parts) → BagAt s at r → (n m all : ℕ) → Counted (r .first ≡ 0) n m
-      → n + length (gather memberBagOf (bagsIn (drop at s))) ≡ all
-      → (m ≤ n + 1) × (m + length (gather memberBagOf (bagsIn (drop (at + r .end) s))) ≡ all)
-  unfolding members
-  member-step r q n m all w h =
-      let o = drop at s in
-      let a = attributesIn (placeOf (r .first)) (part o (r .body) (r .end)) in
-      let i = q .is .item ∙ ap (λ (l : List ℕ). bagOf o a ∷ bagsIn l) (q .next) in
-      go w (ap members i ∙ member-first o a (bagsIn (drop (at + r .end) s)))
-    where
-      go : Counted (r .first ≡ 0) n m
-          → members (bagsIn (drop at s)) ≡ cond (eqb (oct (drop at s) 0) 0) (members (bagsIn (drop (at + r .end) s)) + 1)
-          (members (bagsIn (drop (at + r .end) s)))
-          → (m ≤ n + 1) × (m + length (gather memberBagOf (bagsIn (drop (at + r .end) s))) ≡ all)
-      go (inl (e, u)) f =
-          let g = rw (eq-eqb (oct (drop at s) 0) 0 (sym (q .is .head .first) ∙ e)) at f in (omega arith, omega arith)
-      go (inr (e, u)) f =
-          let g = rw (ne-eqb (oct (drop at s) 0) 0 (λ v. e (q .is .head .first ∙ v))) at f in (omega arith, omega arith)
-
-  pub member-none : length s ≤ at → length (gather memberBagOf (bagsIn (drop at s))) ≡ 0
-  unfolding gather
-  member-none h = ap (λ (l : List Bag). length (gather memberBagOf l)) (no-bag s at h)

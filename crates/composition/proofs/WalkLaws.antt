@@ -1,4 +1,4 @@
--- One policy or key bag, and the others, where a loop over them stands.
+-- One policy, and the others, where a loop over them stands.
 use Prim.Native.Nat.{ℕ, _+_, _<_, _≤_}
 use mathlib.Core.Path.{_≡_, ap, _∙_, subst}
 use mathlib.Core.List.{List, []}
@@ -10,11 +10,8 @@ use Rattle.octets.specs.Walk.{Reader, many}
 use Rattle.octets.proofs.Walks.{Takes, tail, to-end, many-none}
 use Rattle.policies.specs.Policy.{policy, policies}
 use Rattle.policies.proofs.PolicyLaws.{takes as policy-takes}
-use Rattle.bags.specs.Bag.{bag, bags}
-use Rattle.bags.proofs.BagLaws.{takes as bag-takes}
 use Rattle.contents.specs.inner.Values.{isWhole, itemsOf}
 use Rattle.contents.specs.inner.Policies.{policiesIn, PolicyIs}
-use Rattle.contents.specs.inner.Bags.{bagsIn, BagIs}
 use Rattle.contents.specs.declared.policy.Parts.{Parts}
 
 -- WHAT A LOOP ASKS before it reads the next one, and at the end
@@ -33,14 +30,8 @@ module _ (s : List ℕ) (at : ℕ) where
       → (0 < length (tail s at)) × (isWhole (policies 0 (tail s at)) ≡ true)
   reads-policy h e = (some-left policy policy-takes s at h, whole-left policy policy-takes s at e)
 
-  pub reads-bag : at < length s → isWhole (bags 0 (drop at s)) ≡ true → (0 < length (tail s at)) × (isWhole (bags 0 (tail s at)) ≡ true)
-  reads-bag h e = (some-left bag bag-takes s at h, whole-left bag bag-takes s at e)
-
   pub no-policy : length s ≤ at → policiesIn (drop at s) ≡ []
   no-policy h = none-there policy policy-takes s at h
-
-  pub no-bag : length s ≤ at → bagsIn (drop at s) ≡ []
-  no-bag h = none-there bag bag-takes s at h
 
 -- ONE OF THEM
 pub record PolicyAt (s : List ℕ) (at : ℕ) (r : Parts) : Type 0 where
@@ -60,23 +51,4 @@ policy-at s at r h f =
       inside = omega (arith, g .head .some, g .head .order, g .head .inside, length-drop at s);
       next = d;
       rest = subst (λ (l : List ℕ). isWhole (policies 0 l) ≡ true) d (g .rest);
-    }
-
-pub record BagAt (s : List ℕ) (at : ℕ) (r : Parts) : Type 0 where
-  pub is : BagIs (drop at s) r
-  pub some : 4 ≤ r .end
-  pub inside : at + r .end ≤ length s
-  pub next : drop (r .end) (drop at s) ≡ drop (at + r .end) s
-  pub rest : isWhole (bags 0 (drop (at + r .end) s)) ≡ true
-
-pub bag-at : (s : List ℕ) (at : ℕ) (r : Parts) → at ≤ length s → BagIs (tail s at) r → BagAt s at r
-bag-at s at r h f =
-    let g : BagIs (drop at s) r = subst (λ (l : List ℕ). BagIs l r) (to-end s at) f in
-    let d = drop-drop (r .end) at s in
-    record {
-      is = g;
-      some = omega (arith, g .head .some, g .head .order);
-      inside = omega (arith, g .head .some, g .head .order, g .head .inside, length-drop at s);
-      next = d;
-      rest = subst (λ (l : List ℕ). isWhole (bags 0 l) ≡ true) d (g .rest);
     }

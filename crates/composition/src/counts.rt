@@ -1,15 +1,12 @@
-// How many policies and bags of a sort there are in a body whose layout is whole.
+// How many policies of a sort there are in a body whose layout is whole.
 ghost use mathlib.Core.Path.{_≡_};
 ghost use mathlib.Core.Bool.{true};
-ghost use lib.ListN.{length};
 ghost use Rattle.keys.specs.Lists.{count};
 ghost use Rattle.policies.specs.Policy.{policies};
-ghost use Rattle.bags.specs.Bag.{bags};
 ghost use Rattle.contents.specs.inner.Values.{isWhole};
 ghost use Rattle.contents.specs.inner.Policies.{policiesIn};
-ghost use Rattle.contents.specs.inner.Bags.{bagsIn};
-ghost use Rattle.clauses.specs.Contents.{gather, memberBagOf};
 ghost use Rattle.composition.specs.inner.Groups.{begins, isOf};
+use contents::policy::REKEY;
 
 // What is counted: group-wide policies, Rekey policies, Group SA policies.
 pub enum Sort {
@@ -24,7 +21,7 @@ fn is_of(sort: Sort, first: usize) -> bool
 {
     match sort {
         Sort::GroupWide => first == 0,
-        Sort::Rekey => first == 6,
+        Sort::Rekey => first == REKEY,
         Sort::AnySa => first != 0,
     }
 }
@@ -42,23 +39,6 @@ pub fn count_of_sort(sort: Sort, g: &[u8]) -> usize
             n = n + 1;
         }
         at = at + p.end;
-    }
-    n
-}
-
-// How many of the key bags that the octets are, are Member Key Bags. Internal.
-pub fn member_bags(k: &[u8]) -> usize
-    requires { ⌜ isWhole (bags 0 (now k)) ≡ true ⌝ }
-    ensures { λ r. ⌜ r ≡ length (gather memberBagOf (bagsIn (now (k .entry)))) ⌝ }
-{
-    let mut n = 0;
-    let mut at = 0;
-    while at < k.len() {
-        let b = contents::bag::bag_parts(&k[at..]);
-        if b.first == 0 {
-            n = n + 1;
-        }
-        at = at + b.end;
     }
     n
 }

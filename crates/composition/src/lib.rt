@@ -20,7 +20,9 @@ use counts::Sort;
 use frames::exchanges::Exchange;
 use payloads::Bodies;
 
-// The clauses on which payloads there are; whether D is allowed is the exchange's.
+// The clauses on which payloads there are; whether D is allowed is the exchange's. The tests cover all seven: with at most one GSA, the
+// counts of GSA and KD differ exactly where there are two KDs, a GSA without KD or a KD without GSA; where they are equal and there is
+// no D, "neither" is that they are 0; where there is a D, only whether it is allowed is left.
 fn payload_clauses(delete: bool, b: Bodies) -> bool
     ensures { λ r. ⌜ r ≡ one (onPayloads delete b) ⌝ }
 {
@@ -46,7 +48,7 @@ fn bag_clauses(bag: bool, k: &[u8]) -> bool
     requires { ⌜ isWhole (bags 0 (now k)) ≡ true ⌝ }
     ensures { λ r. ⌜ r ≡ one (onBags bag (bagsIn (now (k .entry)))) ⌝ }
 {
-    let n = counts::member_bags(k);
+    let n = bagkeys::member_bags(k);
     if bag {
         return 1 < n;
     }

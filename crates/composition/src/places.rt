@@ -10,6 +10,7 @@ ghost use Rattle.contents.specs.inner.Policies.{policiesIn};
 ghost use Rattle.composition.specs.inner.Groups.{isBarred, saBarred};
 use attributes::tables::Meaning;
 use attributes::tables::Place;
+use contents::policy::REKEY;
 use contents::values::count_of;
 
 // Whether a Group SA policy is barred by what it holds after its SPI.
@@ -28,7 +29,7 @@ fn sa_is_barred(protocol: usize, o: &[u8]) -> bool
     if 1 < count_of(Meaning::InitialMessageId, place, &o[a..]) {
         return true;
     }
-    if protocol == 6 {
+    if protocol == REKEY {
         let d = p.destination;
         if crate::addresses::is_group_address(&o[d..t]) {
             return false;

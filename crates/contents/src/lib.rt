@@ -4,3 +4,9 @@ pub mod body;
 pub mod payload;
 pub mod policy;
 pub mod values;
+
+// A stretch of octets: from the octet start up to the octet end, which is not in it.
+pub struct Stretch {
+    pub start: usize,
+    pub end: usize,
+}

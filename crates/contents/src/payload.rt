@@ -5,6 +5,13 @@ ghost use Rattle.contents.specs.inner.Values.{isWhole};
 ghost use Rattle.frames.specs.Frame.{payloads, exactly};
 ghost use Rattle.contents.specs.inner.Payloads.{PayloadIs};
 
+// The types of the payloads D, GSA and KD.
+pub const DELETE: usize = 42;
+
+pub const GSA: usize = 51;
+
+pub const KD: usize = 52;
+
 // A payload: the type of the next one, its critical bit, where it ends. Its body starts at 4.
 pub struct PayloadParts {
     pub next: usize,

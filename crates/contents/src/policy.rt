@@ -7,6 +7,13 @@ ghost use Rattle.contents.specs.inner.Values.{isWhole};
 ghost use Rattle.policies.specs.Policy.{headFits, policies};
 ghost use Rattle.contents.specs.inner.Policies.{Heads, PolicyIs};
 
+// The protocols that a policy or a key bag begins with: AH, ESP, and GIKE_UPDATE, the Rekey SA's.
+pub const AH: usize = 2;
+
+pub const ESP: usize = 3;
+
+pub const REKEY: usize = 6;
+
 // A policy or a key bag: its first octet, where its head and where it ends.
 pub struct Parts {
     pub first: usize,

@@ -3,5 +3,3 @@ pub mod Opening
 pub mod Walking
 pub mod Progress
 pub mod Reaching
-pub mod Rekeying
-pub mod Deciding

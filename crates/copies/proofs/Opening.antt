@@ -14,12 +14,11 @@ use Rattle.keywrap.specs.declared.Answer.the-variants.{No, Count}
 use Rattle.keywrap.proofs.Determined.{opens-one}
 use Rattle.chains.proofs.Members.{in-member}
 use Rattle.keys.specs.Algorithms.{sizeOf}
-use Rattle.keys.specs.Kinds.{padded}
+use Rattle.keys.specs.Kinds.{padded, valueOf}
 use Rattle.keys.specs.declared.kinds.WrappingKey.{WrappingKey}
 use Rattle.keys.proofs.Sizes.{wrapping-le}
 use Rattle.reach.proofs.Opening.{landed-none}
 use Rattle.reach.proofs.Searching.{is-key-size}
-use Rattle.copies.specs.Known.{valueOf}
 use Rattle.copies.specs.inner.Tries.{Try, SomeOpens, TriesEight, wrong-size, TriesKey}
 
 -- one try, and what it opens to

@@ -12,7 +12,7 @@ use Rattle.attributes.specs.declared.tables.Place.{Place}
 use Rattle.chains.proofs.Members.{in-member}
 use Rattle.copies.specs.declared.answer.Found.the-variants.{Nothing}
 use Rattle.copies.specs.declared.answer.Opened.{Opened}
-use Rattle.copies.specs.Answer.{copiesIn}
+use Rattle.copies.specs.inner.Answer.{copiesIn}
 use Rattle.copies.specs.inner.Tries.{Try, Tells}
 use Rattle.copies.specs.inner.Named.{tryOf, triesOf, NamedAt}
 use Rattle.copies.proofs.Joining.{tell}

@@ -28,11 +28,17 @@ use Rattle.state.specs.declared.held.Held.{Held}
 use Rattle.copies.specs.declared.answer.Found.{Found}
 use Rattle.copies.specs.declared.answer.Found.the-variants.{Nothing, Key, Eight}
 use Rattle.copies.specs.declared.answer.Opened.{Opened}
-use Rattle.copies.specs.Known.{valueOf, Known, key-zero, named as known-named, Agrees}
-use Rattle.copies.specs.Answer.{AnswersBy, Answers}
+use Rattle.keys.specs.Kinds.{valueOf}
+use Rattle.copies.specs.inner.Known.{Known, key-zero, named as known-named, Agrees}
+use Rattle.copies.specs.inner.Answer.{AnswersBy, Answers}
 use Rattle.copies.specs.inner.Tries.{Try, SomeOpens, TriesEight, TellsBy, Tells}
 use Rattle.copies.specs.inner.Tries as tries
-use Rattle.copies.specs.inner.Named.{names, named, tryOf, triesOf, triesUnder}
+use Rattle.copies.specs.inner.Named.{names, named, tryOf, triesOf}
+
+-- the copies that name one of some keys, each opened under its value
+unfoldable pub triesUnder : List HeldKey → List SaKey → List Try
+triesUnder [] l = []
+triesUnder (k ∷ keys) l = triesOf (k .id) (valueOf (k .key)) l ++ triesUnder keys l
 
 -- ---- a held list that is as it must be
 all-at : {A : Type 0} (p : A → Bool) (l : List A) (i : ℕ) (d : A) → all p l ≡ true → i < length l → p (getD l i d) ≡ true

@@ -25,7 +25,7 @@ use Rattle.contents.specs.inner.Values.{isWhole, attributesIn, valuesIn, FoundA
 use Rattle.contents.proofs.ValuesLaws.{whole-is}
 use Rattle.keys.specs.Lists.{keep}
 use Rattle.keys.proofs.Cases.{bool-cases}
-use Rattle.copies.specs.Answer.{copiesIn}
+use Rattle.copies.specs.inner.Answer.{copiesIn}
 use Rattle.copies.specs.inner.Named.{named, NamedAt}
 
 -- ---- a SA_KEY has at least 24 octets, where the layout is whole

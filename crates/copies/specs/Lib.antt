@@ -1,3 +1,1 @@
-pub mod Known
-pub mod Answer
 pub mod inner

@@ -1,2 +1,4 @@
 pub mod Tries
 pub mod Named
+pub mod Known
+pub mod Answer

@@ -6,7 +6,7 @@ use octets::compare::same;
 ghost use mathlib.Core.Path.{_≡_};
 ghost use mathlib.Core.List.{List, [], _∷_, _++_};
 ghost use Prim.Native.Nat.{ℕ, _≤_};
-ghost use Rattle.aes.specs.Schedule.{ExpandsInverse, ExpandedInverse};
+ghost use Rattle.aes.specs.inner.Schedule.{ExpandsInverse, ExpandedInverse};
 ghost use Rattle.copies.specs.inner.Tries.{Try, Tells};
 ghost use Rattle.copies.specs.declared.answer.Found.the-variants as found;
 

@@ -14,7 +14,7 @@ ghost use mathlib.Core.Path.{_≡_};
 ghost use mathlib.Core.Bool.{true};
 ghost use mathlib.Core.List.{List};
 ghost use Prim.Native.Nat.{ℕ, _≤_};
-ghost use Rattle.aes.specs.Schedule.{ExpandsInverse, ExpandedInverse};
+ghost use Rattle.aes.specs.inner.Schedule.{ExpandsInverse, ExpandedInverse};
 ghost use Rattle.attributes.specs.Tree.{WrapKey};
 ghost use Rattle.attributes.specs.Layout.{attributes};
 ghost use Rattle.contents.specs.inner.Values.{isWhole};
@@ -22,8 +22,9 @@ ghost use Rattle.chains.specs.Chain.{Root};
 ghost use Rattle.keys.specs.Limits.{limits};
 ghost use Rattle.keys.specs.declared.kinds.WrappingKey.{WrappingKey};
 ghost use Rattle.state.specs.Held.{heldFormed};
-ghost use Rattle.copies.specs.Known.{valueOf, Agrees};
-ghost use Rattle.copies.specs.Answer.{announcedIn, Answers};
+ghost use Rattle.keys.specs.Kinds.{valueOf};
+ghost use Rattle.copies.specs.inner.Known.{Agrees};
+ghost use Rattle.copies.specs.inner.Answer.{announcedIn, Answers};
 
 // What the copies of one announced SA open to: `a` are the attributes of its Group Key Bag, `need` the octets that its policy needs, the
 // schedule is key 0's, and the other keys that a KWK ID can name are held. Internal.

@@ -16,12 +16,12 @@ ghost use mathlib.Core.Bool.{true};
 ghost use mathlib.Core.List.{List};
 ghost use Prim.Native.Nat.{ℕ, _≤_};
 ghost use lib.ListN.{length, drop};
-ghost use Rattle.aes.specs.Schedule.{ExpandsInverse, ExpandedInverse};
+ghost use Rattle.aes.specs.inner.Schedule.{ExpandsInverse, ExpandedInverse};
 ghost use Rattle.attributes.specs.Layout.{attributes};
 ghost use Rattle.contents.specs.inner.Values.{isWhole};
 ghost use Rattle.keys.specs.Algorithms.{sizeOf};
-ghost use Rattle.copies.specs.Known.{valueOf};
-ghost use Rattle.copies.specs.Answer.{copiesIn};
+ghost use Rattle.keys.specs.Kinds.{valueOf};
+ghost use Rattle.copies.specs.inner.Answer.{copiesIn};
 ghost use Rattle.copies.specs.inner.Tries.{Tells};
 ghost use Rattle.copies.specs.inner.Named.{FindsNamed, triesOf};
 
@@ -77,7 +77,7 @@ pub(crate) fn tried(
     }
 }
 
-// The same for a key; its schedule is expanded only if a copy names it.
+// What the copies that name this key open to under it. Its schedule is expanded only if a copy names it.
 pub(crate) fn with_key(place: Place, a: &[u8], id: u32, key: WrappingKey, need: usize) -> Opened
     requires { ⌜ isWhole (attributes place 0 (now a)) ≡ true ⌝ }
     requires { ⌜ sizeOf 13 (key .count) ≡ true ⌝ }

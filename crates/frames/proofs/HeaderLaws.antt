@@ -13,7 +13,7 @@ use Rattle.octets.specs.Walk.{be16, be32, either, both, sized}
 use Rattle.octets.proofs.Walks.{both-true}
 use Rattle.frames.specs.Header.{firstPayload, headerFits, payloadFits, isCritical}
 use Rattle.frames.specs.Delete.{deleteFits}
-use Rattle.frames.specs.Answers.{headerRead, payloadRead}
+use Rattle.frames.specs.inner.Answers.{headerRead, payloadRead}
 use Rattle.frames.specs.declared.HeaderRead.the-variants as header
 use Rattle.frames.specs.declared.PayloadRead.the-variants as payload
 

@@ -11,10 +11,9 @@ use lib.ListN.{length, drop, length-drop}
 use lib.Seq.{getD-drop}
 use Rattle.octets.specs.Numbers.{oct}
 use Rattle.octets.specs.Walk.{be16, part, Reading, whole, broken, mapped, closed, opened, within, Linked}
-use Rattle.octets.specs.Walk.{stops, breaks, outline}
 use Rattle.octets.proofs.Numerals.{sized-is}
-use Rattle.octets.proofs.Walks.{tail, to-end, by-test, Takes, took, takes-mapped, takes-closed, begun-none, begun-some, takes-begun}
-use Rattle.octets.proofs.Walks.{opened-is, opened-not, takes-opened}
+use Rattle.octets.proofs.Walks.{tail, to-end, by-test, Takes, took, takes-mapped, takes-closed, begun-none, begun-some, takes-begun, stops}
+use Rattle.octets.proofs.Walks.{opened-is, opened-not, takes-opened, outline, breaks}
 use Rattle.octets.proofs.Walks.{chain-stops, chain-goes, chain-breaks}
 use Rattle.attributes.specs.Answers.{layoutOf, spotOf}
 use Rattle.attributes.specs.declared.Layout.{Layout}

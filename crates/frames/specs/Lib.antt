@@ -2,5 +2,5 @@ pub mod Header
 pub mod Delete
 pub mod Frame
 pub mod Exchange
-pub mod Answers
 pub mod Grammar
+pub mod inner

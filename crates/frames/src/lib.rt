@@ -5,7 +5,7 @@ ghost use lib.ListN.{length};
 ghost use Rattle.attributes.specs.Answers.{layoutOf, spotOf};
 ghost use Rattle.frames.specs.Delete.{deleteFits};
 ghost use Rattle.frames.specs.Frame.{body, payload, payloads, exactly, frameLayout};
-ghost use Rattle.frames.specs.Answers.{headerRead, payloadRead};
+ghost use Rattle.frames.specs.inner.Answers.{headerRead, payloadRead};
 use attributes::Layout;
 use attributes::Spot;
 
@@ -21,7 +21,7 @@ pub enum HeaderRead {
     Broken,
 }
 
-// The IKE header that the octets start with, if it is that of a frame of all these octets.
+// The IKE header that the octets start with, if it is that of a frame of all these octets. Internal.
 pub fn header_read(s: &[u8]) -> HeaderRead
     ensures { λ r. ⌜ r ≡ headerRead (now (s .entry)) ⌝ }
 {
@@ -54,7 +54,7 @@ pub enum PayloadRead {
     Broken,
 }
 
-// The generic payload header that the octets start with.
+// The generic payload header that the octets start with. Internal.
 pub fn payload_read(s: &[u8]) -> PayloadRead
     ensures { λ r. ⌜ r ≡ payloadRead (now (s .entry)) ⌝ }
 {

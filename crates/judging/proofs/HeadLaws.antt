@@ -11,7 +11,7 @@ use Rattle.octets.proofs.Inverse.{inverse-opened}
 use Rattle.keys.specs.Limits.{Limits}
 use Rattle.keys.proofs.Cases.{never, and-parts}
 use Rattle.frames.specs.Header.{firstPayload, headerFits}
-use Rattle.frames.specs.Answers.{headerRead}
+use Rattle.frames.specs.inner.Answers.{headerRead}
 use Rattle.frames.specs.Frame.{Frame, frame, frameOf, exactly, payloads}
 use Rattle.frames.proofs.HeaderLaws.{header-not}
 use Rattle.frames.specs.Exchange.{exchangeOf}

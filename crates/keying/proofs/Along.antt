@@ -26,7 +26,7 @@ use Rattle.chains.specs.Chain.{Root}
 use Rattle.outcome.specs.After.{no-sa}
 use Rattle.outcome.proofs.Members.{not-in-none}
 use Rattle.outcome.proofs.RunsLists.{none-passes}
-use Rattle.keying.specs.Keyed.{Ready, KeysOf, KeysIn, KeyedBy, SomeEight}
+use Rattle.keying.specs.inner.Keyed.{Ready, KeysOf, KeysIn, KeyedBy, SomeEight}
 use Rattle.keying.specs.inner.Policies.{isEight, Opening, Announces, IsAnnounced, OneMore}
 use Rattle.keying.specs.declared.joining.Found.{Found}
 use Rattle.keying.specs.declared.joining.Found.the-variants.{Eight, Nine, Keys}

@@ -18,7 +18,7 @@ use Rattle.outcome.specs.Roots.{announcedAs}
 use Rattle.outcome.specs.After.{saFrom, Enter, no-sa, one-more}
 use Rattle.chains.proofs.Members.{in-member, member-in}
 use Rattle.outcome.proofs.Members.{in-head}
-use Rattle.keying.specs.Keyed.{SomeEight, NoEight, SomeUnopened, KeysOf, KeysIn}
+use Rattle.keying.specs.inner.Keyed.{SomeEight, NoEight, SomeUnopened, KeysOf, KeysIn}
 use Rattle.keying.specs.inner.Policies.{IsEight, IsUnopened, IsSa}
 use Rattle.keying.specs.declared.joining.Found.{Found}
 use Rattle.keying.specs.declared.joining.Found.the-variants.{Eight, Nine, Keys}

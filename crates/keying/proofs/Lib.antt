@@ -5,5 +5,3 @@ pub mod OwnBag
 pub mod OnePolicy
 pub mod PolicyAt
 pub mod Along
-pub mod Deciding
-pub mod Passing

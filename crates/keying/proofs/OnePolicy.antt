@@ -16,7 +16,7 @@ use Rattle.contents.specs.inner.Bags.{bagsIn}
 use Rattle.clauses.specs.Contents.{rowOf, gather, groupBagOf}
 use Rattle.clauses.specs.Fitness.{sum, encryptionNeeds, keyWrapNeeds, encryptionOctets, keyWrapOctets}
 use Rattle.clauses.specs.Number6.{bagNamed}
-use Rattle.suites.specs.Suites.{needsOf}
+use Rattle.suites.specs.inner.Suites.{needsOf}
 use Rattle.suites.specs.declared.counts.Needs.{Needs}
 use Rattle.outcome.specs.Roots.{needOf}
 use Rattle.outcome.proofs.RunsNeeds.{esp-sizes, rekey-sizes}

@@ -18,11 +18,11 @@ use Rattle.clauses.specs.Contents.{gather, groupBagOf, bagsOf}
 use Rattle.clauses.specs.Number6.{bagNamed}
 use Rattle.chains.specs.Chain.{Root}
 use Rattle.chains.specs.Refusals.{Announced}
-use Rattle.copies.specs.Answer.{copiesIn, announcedIn, Answers}
+use Rattle.copies.specs.inner.Answer.{copiesIn, announcedIn, Answers}
 use Rattle.copies.specs.declared.answer.Opened.{Opened}
 use Rattle.outcome.specs.Roots.{copiesOf, needOf, announcedAs}
 use Rattle.pairing.specs.inner.Stretches.{StretchIs}
-use Rattle.pairing.specs.declared.stretch.Stretch.{Stretch}
+use Rattle.contents.specs.declared.Stretch.{Stretch}
 
 module _ (k : List ℕ) (p : ℕ) (x : List ℕ) (s : Stretch) (is : StretchIs k p x s) (place : Place) (in-bag : place ≡ inBag p) where
   abbrev own : List ℕ

@@ -9,7 +9,7 @@ use Rattle.frames.specs.Frame.{Frame}
 use Rattle.sa.specs.declared.entry.Sa.{Sa}
 use Rattle.chains.specs.Chain.{Root}
 use Rattle.chains.specs.Refusals.{KeyOf}
-use Rattle.copies.specs.Answer.{AnswersBy}
+use Rattle.copies.specs.inner.Answer.{AnswersBy}
 use Rattle.copies.specs.declared.answer.Found.{Found}
 use Rattle.copies.specs.declared.answer.Found.the-variants.{Eight, Nothing, Key}
 use Rattle.copies.specs.declared.answer.Opened.{Opened}

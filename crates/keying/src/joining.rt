@@ -6,6 +6,7 @@ ghost use Rattle.keys.specs.Limits.{limits};
 ghost use Rattle.policies.specs.Policy.{GroupSaPolicy};
 ghost use Rattle.outcome.specs.After.{saFrom};
 ghost use Rattle.keying.specs.inner.Policies.{IsEight, IsUnopened, IsSa, Sized, Named, IsOpened, OneMore};
+use contents::policy::ESP;
 use copies::answer::Opened;
 use keys::kinds::EspKey;
 use keys::kinds::RekeyKey;
@@ -19,7 +20,7 @@ pub enum Found {
     Keys,
 }
 
-// With the new SAs, as many as the count says.
+// What is known of the copies of all SAs, and the new SAs, as many as the count says.
 pub struct Keyed {
     pub found: Found,
     pub sas: [Sa; SAS],
@@ -33,7 +34,7 @@ fn sa_from(protocol: usize, spi: &[u8], encryption: usize, wrapping: usize, octe
     ensures { λ r. ⌜ ((a : GroupSaPolicy) → Named protocol (now (spi .entry)) encryption wrapping a →
         r ≡ saFrom a (take (encryption + wrapping) octets)) ⌝ }
 {
-    if protocol == 3 {
+    if protocol == ESP {
         let e = EspKey::new(&octets[0..encryption]);
         return Sa::esp(spi, e.key);
     }

@@ -17,7 +17,7 @@ ghost use mathlib.Core.Bool.{true};
 ghost use mathlib.Core.List.{List};
 ghost use Prim.Native.Nat.{ℕ, _+_, _≤_, _<_};
 ghost use lib.ListN.{length};
-ghost use Rattle.aes.specs.Schedule.{ExpandedInverse};
+ghost use Rattle.aes.specs.inner.Schedule.{ExpandedInverse};
 ghost use Rattle.attributes.specs.Tree.{WrapKey};
 ghost use Rattle.policies.specs.Policy.{GroupSaPolicy, policies};
 ghost use Rattle.bags.specs.Bag.{bags};
@@ -31,10 +31,10 @@ ghost use Rattle.state.specs.Held.{heldFormed};
 ghost use Rattle.clauses.specs.Contents.{gather, groupBagOf, bagsOf};
 ghost use Rattle.clauses.specs.Number6.{bagNamed};
 ghost use Rattle.chains.specs.Chain.{Root};
-ghost use Rattle.copies.specs.Known.{Agrees};
-ghost use Rattle.copies.specs.Answer.{Answers};
+ghost use Rattle.copies.specs.inner.Known.{Agrees};
+ghost use Rattle.copies.specs.inner.Answer.{Answers};
 ghost use Rattle.outcome.specs.Roots.{needOf, announcedAs};
-ghost use Rattle.keying.specs.Keyed.{Ready, KeyedBy};
+ghost use Rattle.keying.specs.inner.Keyed.{Ready, KeyedBy};
 ghost use Rattle.keying.specs.inner.Policies.{isEight, Opening, Announces, IsAnnounced, OneMore};
 
 // What the copies of the SA with this name open to, those of its bag.

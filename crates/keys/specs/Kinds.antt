@@ -24,6 +24,10 @@ padded n x = x ++ replicate (n - length x) 0
 abbrev pub wrappingOf : List ℕ → WrappingKey
 wrappingOf x = record { octets = padded 32 x; count = length x }
 
+-- its octets
+abbrev pub valueOf : WrappingKey → List ℕ
+valueOf k = take (k .count) (k .octets)
+
 unfoldable pub wrappingKey : List ℕ → MadeWrapping
 wrappingKey x =
     cond (sizeOf 13 (length x)) (record { fits = true; key = wrappingOf x }) (record { fits = false; key = wrappingOf [] })

@@ -2,10 +2,8 @@
 ghost use mathlib.Core.Path.{_≡_};
 ghost use Rattle.keys.specs.Algorithms.{rowOf, neededBy};
 
-// Transform type 1, Encryption Algorithm, and 13, Key Wrap Algorithm.
+// Transform type 1, Encryption Algorithm.
 pub const ENCRYPTION: u8 = 1;
-
-pub const KEY_WRAP: u8 = 13;
 
 // Transform type, transform ID, key bits, octets needed.
 pub struct Row {

@@ -197,7 +197,7 @@ impl RekeyKey {
     pub fn new(octets: &[u8], encryption: usize, wrapping: usize) -> MadeRekey
         ensures { λ r. ⌜ r ≡ rekeyKey (now (octets .entry)) encryption wrapping ⌝ }
     {
-        let mut out = [0u8; 68];
+        let mut out = [0u8; RekeyKey::MOST];
         if RekeyKey::are_sizes(encryption, wrapping) {
             if octets.len() == encryption + wrapping {
                 bytes::copy(octets, &mut out);
@@ -210,14 +210,14 @@ impl RekeyKey {
             }
         }
         let key = RekeyKey {
-            octets: [0u8; 68],
+            octets: [0u8; RekeyKey::MOST],
             encryption: 0,
             wrapping: 0,
         };
         MadeRekey { fits: false, key }
     }
 
-    // GSK_e, the first octets.
+    // GSK_e, by the cut of RFC 9838, section 3.4: the first octets, the key and salt under which the Rekey SA's messages are encrypted.
     pub fn encryption_part(self) -> MadeEncryption
         ensures { λ r. ⌜ r ≡ encryptionPart self ⌝ }
     {
@@ -229,7 +229,7 @@ impl RekeyKey {
         EncryptionKey::new(&o[0..0])
     }
 
-    // GSK_w, the last octets: the default key of the Rekey SA.
+    // GSK_w, by the cut of RFC 9838, section 3.4: the last octets, the default key of the Rekey SA, under which keys are wrapped.
     pub fn key_wrap_part(self) -> MadeWrapping
         ensures { λ r. ⌜ r ≡ keyWrapPart self ⌝ }
     {

@@ -11,7 +11,7 @@ ghost use Prim.Native.Nat.{ℕ, suc, _≤_, _*_};
 ghost use lib.Dec.{T};
 ghost use lib.ListN.{length};
 ghost use Rattle.fips197.specs.Key.{isKey};
-ghost use Rattle.aes.specs.Schedule.{ExpandsInverse, ExpandedInverse};
+ghost use Rattle.aes.specs.inner.Schedule.{ExpandsInverse, ExpandedInverse};
 ghost use Rattle.keywrap.specs.Wrap.{wrapOf};
 ghost use Rattle.keywrap.specs.Answers.{written, WrapAnswers, OpenAnswers, OpensBlank};
 ghost use Rattle.keywrap.specs.inner.Unwrap.{Unwraps};

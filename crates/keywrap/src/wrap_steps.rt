@@ -5,7 +5,7 @@ ghost use mathlib.Core.Path.{_≡_};
 ghost use mathlib.Core.List.{List};
 ghost use Prim.Native.Nat.{ℕ, _+_, _*_, _<_, _≤_};
 ghost use lib.ListN.{length};
-ghost use Rattle.aes.specs.Schedule.{Expands, Expanded};
+ghost use Rattle.aes.specs.inner.Schedule.{Expands, Expanded};
 ghost use Rattle.keywrap.specs.Steps.{step, row, rows};
 ghost use Rattle.keywrap.specs.inner.Unwrap.{forward};
 

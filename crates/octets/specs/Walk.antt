@@ -98,15 +98,6 @@ stateless p u b s = mapped (λ a. record { item = a; next = tt }) (p b s)
 unfoldable pub many : {A : Type 0} → Reader A → Reader (List A)
 many p b s = chain atEnd (stateless p) tt b s
 
--- what was read, without its contents: the octets after it, or where it broke
-pub data Outline : Type 0 where
-  stops : List ℕ → Outline
-  breaks : ℕ → Outline
-
-abbrev pub outline : {A : Type 0} → Reading A → Outline
-outline (whole a rest) = stops rest
-outline (broken o) = breaks o
-
 -- THESE OCTETS ARE THESE ITEMS, with no reader in sight: items one after the other up to where the chain stops, and the octets after that
 pub data Spans {S A : Type 0} (stop : S → List ℕ → Bool) (Is : S → List ℕ → A → S → Type 0) : S → List ℕ → List A → List ℕ → Type 0 where
   none : {st : S} {rest : List ℕ} → stop st rest ≡ true → Spans stop Is st rest [] rest

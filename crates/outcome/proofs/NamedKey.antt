@@ -15,7 +15,8 @@ use Rattle.state.specs.Held.{keysOf}
 use Rattle.clauses.specs.Contents.{rowOf}
 use Rattle.chains.specs.Chain.{In, Root, root, Reached, Ends}
 use Rattle.chains.proofs.Determined.{ends-by}
-use Rattle.outcome.specs.Roots.{octetsOf, keyZero, heldRoot, rootsOf, entriesOf, wrappingSize}
+use Rattle.keys.specs.Kinds.{valueOf}
+use Rattle.outcome.specs.Roots.{keyZero, heldRoot, rootsOf, entriesOf, wrappingSize}
 use Rattle.outcome.proofs.Members.{in-head, in-tail, in-cases, not-in-none, in-map, map-in}
 use Rattle.outcome.proofs.Bags.{InOwnBag, copy-own, own-copy}
 use Rattle.outcome.proofs.Accepting.{OpensTo}
@@ -34,7 +35,7 @@ module _ (limits : Limits) (s : State) (now : ℕ) (lent : List ℕ) (f : Frame)
   pub data Named (k : ℕ) (v : List ℕ) : Type 0 where
     key-0 : k ≡ 0 → v ≡ keyZero limits s now lent f → Named k v
     last-of-chain : Reached (rootsOf limits s now lent f) (entriesOf f) (wrappingSize limits s now lent f) k v → Named k v
-    held-key : rowOf f .named ≡ true → (h : HeldKey) → In h (keysOf (s .held)) → h .id ≡ k → octetsOf (h .key) ≡ v → Named k v
+    held-key : rowOf f .named ≡ true → (h : HeldKey) → In h (keysOf (s .held)) → h .id ≡ k → valueOf (h .key) ≡ v → Named k v
 
   -- "its SA_KEY attributes, opened under the key their KWK ID names"
   pub record OpensUnder (a : GroupSaPolicy) (x : List ℕ) : Type 0 where

@@ -3,7 +3,7 @@
 use Prim.Native.Nat.{ℕ, _+_}
 use mathlib.Core.Bool.{cond}
 use mathlib.Core.List.{List, [], _∷_, map}
-use lib.ListN.{length, take}
+use lib.ListN.{length}
 use Rattle.attributes.specs.Tree.{SaKey, WrapKey}
 use Rattle.policies.specs.Policy.{GroupSaPolicy}
 use Rattle.bags.specs.Bag.{GroupKeyBag}
@@ -12,7 +12,7 @@ use Rattle.frames.specs.declared.exchanges.KeyZero.{KeyZero}
 use Rattle.frames.specs.declared.exchanges.KeyZero.the-variants as zero
 use Rattle.keys.specs.Lists.{keep}
 use Rattle.keys.specs.Limits.{Limits}
-use Rattle.keys.specs.declared.kinds.WrappingKey.{WrappingKey}
+use Rattle.keys.specs.Kinds.{valueOf}
 use Rattle.table.specs.Table.{swept, defaultKey}
 use Rattle.state.specs.declared.State.{State}
 use Rattle.state.specs.declared.held.HeldKey.{HeldKey}
@@ -23,14 +23,10 @@ use Rattle.clauses.specs.Number6.{bagNamed}
 use Rattle.chains.specs.Chain.{Root}
 use Rattle.chains.specs.Refusals.{Announced}
 
--- the octets of a key
-abbrev pub octetsOf : WrappingKey → List ℕ
-octetsOf k = take (k .count) (k .octets)
-
 -- "Registration frames come with a lent default key; GSA_REKEY frames use the live Rekey SA's own, and the lent one is not read": that SA's
 -- default key, of the table as it stands at the tick
 abbrev pub ownKey : Limits → State → ℕ → List ℕ
-ownKey limits s now = octetsOf (defaultKey limits (swept limits now (s .table)) .key)
+ownKey limits s now = valueOf (defaultKey limits (swept limits now (s .table)) .key)
 
 abbrev pub keyZeroBy : KeyZero → List ℕ → List ℕ → List ℕ
 keyZeroBy zero.Lent lent own = lent
@@ -42,7 +38,7 @@ keyZero limits s now lent f = keyZeroBy (rowOf f .zero) lent (ownKey limits s no
 
 -- "Held keys take the place of reached ones in a rekey, with the Rekey SA's default key as key 0"
 abbrev pub heldRoot : HeldKey → Root
-heldRoot k = record { id = k .id; value = octetsOf (k .key) }
+heldRoot k = record { id = k .id; value = valueOf (k .key) }
 
 unfoldable pub rootsOf : Limits → State → ℕ → List ℕ → Frame → List Root
 rootsOf limits s now lent f =

@@ -12,7 +12,7 @@ use Rattle.octets.specs.Numbers.{oct}
 use Rattle.octets.specs.Walk.{be16, either, Reading}
 use Rattle.octets.proofs.Walks.{many-none}
 use Rattle.keys.proofs.Cases.{bool-cases, lt-cases}
-use Rattle.policies.specs.Policy.{headSize, headFits, Policy, policy, policies}
+use Rattle.policies.specs.Policy.{headSize, headFits, Policy, GroupSaPolicy, policy, policies}
 use Rattle.policies.proofs.PolicyLaws.{takes}
 use Rattle.policies.proofs.HeadLaws.{head-is}
 use Rattle.bags.specs.Bag.{Bag, GroupKeyBag, MemberKeyBag, groupKeys, memberKeys, bags}
@@ -24,7 +24,7 @@ use Rattle.contents.proofs.PoliciesLaws.{policy-is, fits-first as policy-fits}
 use Rattle.contents.proofs.BagsLaws.{bag-is, fits-first as bag-fits}
 use Rattle.clauses.specs.Contents.{gather, saOf, groupBagOf}
 use Rattle.bagkeys.proofs.BagAt.{no-bags}
-use Rattle.pairing.specs.inner.Names.{Name, nameAt, Names, no-more, next, policyName, bagName}
+use Rattle.pairing.specs.inner.Names.{Name, nameAt, Names, no-more, next}
 
 -- ---- a reader of names that goes from head to head
 record Steps (ok : List ℕ → Bool) (read : List ℕ → List Name) (s : List ℕ) : Type 0 where
@@ -65,6 +65,13 @@ heads s e =
       inside = i .1;
       twoOctets = λ a b. omega arith;
     }
+
+-- ---- the name of a Group SA policy, of a Group Key Bag
+abbrev pub policyName : GroupSaPolicy → Name
+policyName a = record { protocol = a .protocol; spi = a .spi }
+
+abbrev pub bagName : GroupKeyBag → Name
+bagName b = record { protocol = b .protocol; spi = b .spi }
 
 -- ---- policies
 abbrev pub policyNames : List Policy → List Name

@@ -25,9 +25,9 @@ use Rattle.clauses.specs.Refusals.{one, seven, applies}
 use Rattle.bagkeys.specs.inner.Questions.{answer}
 use Rattle.bagkeys.specs.declared.Question.the-variants as question
 use Rattle.bagkeys.proofs.OneBag.{count-of-map, count-all}
-use Rattle.pairing.specs.inner.Names.{Name, Names, isSuch, policyName}
+use Rattle.pairing.specs.inner.Names.{Name, Names, isSuch}
 use Rattle.pairing.specs.declared.names.Which.the-variants as which
-use Rattle.pairing.proofs.NamesOf.{policyNames, policy-names}
+use Rattle.pairing.proofs.NamesOf.{policyNames, policy-names, policyName}
 
 -- so many and so many more
 pub over-already : (n m : ℕ) → 16 < n → true ≡ ltb 16 (n + m)

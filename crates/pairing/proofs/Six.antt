@@ -25,12 +25,12 @@ use Rattle.bagkeys.specs.inner.Questions.{answer}
 use Rattle.bagkeys.specs.declared.Question.{Question}
 use Rattle.bagkeys.specs.declared.Question.the-variants as question
 use Rattle.bagkeys.proofs.OneBag.{count-of-map}
-use Rattle.pairing.specs.inner.Names.{Name, Names, isSuch, isUnpaired, policyName, bagName, isAnnounced}
+use Rattle.pairing.specs.inner.Names.{Name, Names, isSuch, isUnpaired, isAnnounced}
 use Rattle.pairing.specs.inner.Clauses.{keyClauses}
 use Rattle.pairing.specs.declared.names.Which.the-variants as which
 use Rattle.pairing.proofs.ListLaws.{any-of-map}
 use Rattle.pairing.proofs.InTable.{in-table}
-use Rattle.pairing.proofs.NamesOf.{policyNames, policy-names, bagNames, bag-names}
+use Rattle.pairing.proofs.NamesOf.{policyNames, policy-names, bagNames, bag-names, policyName, bagName}
 use Rattle.pairing.proofs.Twice.{isTwice, twice-unpaired}
 
 -- ---- the clauses on keys

@@ -25,6 +25,7 @@ ghost use Rattle.clauses.specs.Refusals.{one, six, seven, applies};
 ghost use Rattle.pairing.specs.inner.Names.{Name, Names, isAnnounced};
 ghost use Rattle.pairing.specs.inner.Clauses.{keyClauses};
 use bagkeys::Question;
+use contents::policy::ESP;
 use keys::limits::DELETED_SPIS;
 use keys::limits::ESP_POLICIES;
 use keys::limits::SAS;
@@ -33,7 +34,7 @@ use names::Which;
 use sa::entry::Sa;
 use table::Table;
 
-// Whether an SA of the table is not due and has one of the names.
+// Whether this SA of the table is not due and has the name of a policy of the GSA body.
 fn is_announced(s: Sa, g: &[u8], tick: u32) -> bool
     requires { ⌜ ((l : List Name) × Names (now g) l) ⌝ }
     ensures { λ r. ⌜ ((l : List Name) → Names (now (g .entry)) l → r ≡ isAnnounced tick l s) ⌝ }
@@ -47,7 +48,7 @@ fn is_announced(s: Sa, g: &[u8], tick: u32) -> bool
     0 < names::count_names(Which::Named, octets::wide(p), &x[0..n], g)
 }
 
-// Whether an SA of the table is not due and has one of the names. Internal.
+// Whether some SA of the table is not due and has the name of a policy of the GSA body. Internal.
 pub fn any_in_table(g: &[u8], t: Table, tick: u32) -> bool
     requires { ⌜ ((l : List Name) × Names (now g) l) × (t .count ≤ limits .sas) ⌝ }
     ensures { λ r. ⌜ ((l : List Name) → Names (now (g .entry)) l → r ≡ any (isAnnounced tick l) (sasOf t)) ⌝ }
@@ -109,7 +110,7 @@ pub fn esp_policies(g: &[u8]) -> usize
     requires { ⌜ isWhole (policies 0 (now g)) ≡ true ⌝ }
     ensures { λ r. ⌜ r ≡ count isEsp (gather saOf (policiesIn (now (g .entry)))) ⌝ }
 {
-    names::count_names(Which::OfProtocol, 3, &g[0..0], g)
+    names::count_names(Which::OfProtocol, ESP, &g[0..0], g)
 }
 
 // How many Group SA policies a GSA body has. Internal.

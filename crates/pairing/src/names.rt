@@ -51,7 +51,7 @@ pub fn count_names(w: Which, protocol: usize, spi: &[u8], s: &[u8]) -> usize
     n
 }
 
-// Whether a policy or key bag with this first octet and SPI has a name, and not exactly one of the others has it.
+// Whether a policy or key bag with this first octet and SPI has a name that not exactly one of the other body has.
 fn is_unpaired(first: usize, x: &[u8], t: &[u8]) -> bool
     requires { ⌜ ((m : List Name) × Names (now t) m) ⌝ }
     ensures { λ r. ⌜ ((m : List Name) → Names (now (t .entry)) m → r ≡ any (isUnpaired m) (nameOf first (now (x .entry)))) ⌝ }
@@ -62,7 +62,7 @@ fn is_unpaired(first: usize, x: &[u8], t: &[u8]) -> bool
     count_names(Which::Named, first, x, t) != 1
 }
 
-// Whether there is a name of which not exactly one of the others has it. Internal.
+// Whether some policy or key bag of the first body has a name that not exactly one of the second body has. Internal.
 pub fn any_unpaired(s: &[u8], t: &[u8]) -> bool
     requires { ⌜ ((l : List Name) × Names (now s) l) × ((m : List Name) × Names (now t) m) ⌝ }
     ensures { λ r. ⌜

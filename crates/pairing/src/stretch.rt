@@ -9,12 +9,7 @@ ghost use Rattle.clauses.specs.Contents.{gather, groupBagOf};
 ghost use Rattle.clauses.specs.Number6.{bagNamed};
 ghost use Rattle.pairing.specs.inner.Stretches.{StretchIs};
 use crate::names::Which;
-
-// From the octet start up to the octet end, which is not in it.
-pub struct Stretch {
-    pub start: usize,
-    pub end: usize,
-}
+use contents::Stretch;
 
 // Where the attributes of the one Group Key Bag of a KD body with this protocol and SPI stand in the body. Internal.
 pub fn bag_stretch(k: &[u8], protocol: usize, spi: &[u8]) -> Stretch

@@ -16,7 +16,7 @@ use Rattle.frames.proofs.FrameGrammar.{read-frame}
 use Rattle.contents.specs.inner.Payloads.{payloadsIn}
 use Rattle.contents.specs.declared.payload.PayloadParts.{PayloadParts}
 use Rattle.clauses.specs.Contents.{gather, deletesIn, deletesOf}
-use Rattle.clauses.specs.Fitness.{esp}
+use Rattle.sa.specs.Entry.{esp}
 use Rattle.clauses.specs.Number5.{deleteOfOther, deleteOfNone}
 use Rattle.clauses.proofs.OneOf.{or-false}
 use Rattle.payloads.specs.inner.Bodies.{payloadsOf}

@@ -10,7 +10,7 @@ use Rattle.frames.specs.Frame.{Frame, Payload, frame}
 use Rattle.frames.proofs.FrameGrammar.{read-frame}
 use Rattle.clauses.specs.Number4.{unknownCritical, criticalUnknown}
 use Rattle.payloads.specs.inner.Bodies.{payloadsOf, ofKind, FirstBody, FirstOfKind, IsBodies}
-use Rattle.payloads.specs.declared.kinds.Stretch.{Stretch}
+use Rattle.contents.specs.declared.Stretch.{Stretch}
 use Rattle.payloads.proofs.FrameLaws.{are-payloads}
 use Rattle.payloads.proofs.HeldLaws.{Formed, formed, count-gsa, count-kd, count-deletes, policies-held, bags-held}
 

@@ -9,6 +9,8 @@ ghost use Rattle.frames.specs.Delete.{deleteOf, deleteFits};
 ghost use Rattle.frames.specs.Frame.{Frame, frame};
 ghost use Rattle.contents.specs.inner.Values.{isWhole};
 ghost use Rattle.payloads.specs.inner.Deletion.{DeleteIs, withOne, IsDeletes};
+use contents::payload::DELETE;
+use contents::policy::ESP;
 
 // The body of a Delete payload: its protocol, the octets of each SPI, how many SPIs.
 pub struct DeleteParts {
@@ -54,7 +56,7 @@ fn with_one(d: Deletes, o: &[u8]) -> Deletes
 {
     let x = delete_parts(o);
     let mut other = true;
-    if x.protocol == 3 {
+    if x.protocol == ESP {
         other = d.other;
     }
     let mut none = d.none;
@@ -83,7 +85,7 @@ pub fn deletes_of(s: &[u8]) -> Deletes
     while kind != 0 {
         let p = contents::payload::payload_parts(kind, &s[at..]);
         let e = at + p.end;
-        if kind == 42 {
+        if kind == DELETE {
             d = with_one(d, &s[at + 4..e]);
         }
         kind = p.next;

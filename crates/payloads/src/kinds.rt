@@ -6,12 +6,7 @@ ghost use Rattle.frames.specs.Frame.{frame, isKnown};
 ghost use Rattle.clauses.specs.Number4.{unknownCritical};
 ghost use Rattle.contents.specs.inner.Values.{isWhole};
 ghost use Rattle.payloads.specs.inner.Bodies.{payloadsOf, ofKind, FirstOfKind};
-
-// A stretch of the frame.
-pub struct Stretch {
-    pub start: usize,
-    pub end: usize,
-}
+use contents::Stretch;
 
 // Whether payloads of a kind are known: IDr, CERT, AUTH, N, D, GSA, KD. Internal.
 pub fn is_known(kind: usize) -> bool

@@ -9,7 +9,10 @@ ghost use Rattle.octets.specs.Walk.{whole};
 ghost use Rattle.frames.specs.Frame.{Frame, frame};
 ghost use Rattle.contents.specs.inner.Values.{isWhole};
 ghost use Rattle.payloads.specs.inner.Bodies.{IsBodies};
-use kinds::Stretch;
+use contents::Stretch;
+use contents::payload::DELETE;
+use contents::payload::GSA;
+use contents::payload::KD;
 
 // How many GSA, KD and D there are, whether a payload of an unknown type is critical, and where the bodies of the first GSA and of the
 // first KD stand; where there is none, the stretch is empty.
@@ -27,12 +30,12 @@ pub fn bodies_of(s: &[u8]) -> Bodies
     requires { ⌜ isWhole (frame (now s)) ≡ true ⌝ }
     ensures { λ r. ⌜ ((f : Frame) → frame (now (s .entry)) ≡ whole f [] → IsBodies (now (s .entry)) f r) ⌝ }
 {
-    let g = kinds::first_of_kind(51, s);
-    let k = kinds::first_of_kind(52, s);
+    let g = kinds::first_of_kind(GSA, s);
+    let k = kinds::first_of_kind(KD, s);
     Bodies {
-        gsas: kinds::count_of_kind(51, s),
-        kds: kinds::count_of_kind(52, s),
-        deletes: kinds::count_of_kind(42, s),
+        gsas: kinds::count_of_kind(GSA, s),
+        kds: kinds::count_of_kind(KD, s),
+        deletes: kinds::count_of_kind(DELETE, s),
         critical: kinds::has_unknown_critical(s),
         gsa: g,
         kd: k,

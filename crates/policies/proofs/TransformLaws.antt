@@ -11,9 +11,9 @@ use lib.ListN.{length, drop}
 use lib.Seq.{getD-drop}
 use Rattle.octets.specs.Numbers.{oct}
 use Rattle.octets.specs.Walk.{be16, part, sized, Reading, whole, broken, mapped, closed, opened, within, Linked}
-use Rattle.octets.specs.Walk.{chain, outline}
+use Rattle.octets.specs.Walk.{chain}
 use Rattle.octets.proofs.Numerals.{sized-is}
-use Rattle.octets.proofs.Walks.{tail, by-test, both-true, Takes, Keeps, took, takes-mapped, takes-closed, begun-none, begun-some}
+use Rattle.octets.proofs.Walks.{tail, by-test, both-true, Takes, Keeps, took, takes-mapped, takes-closed, begun-none, begun-some, outline}
 use Rattle.octets.proofs.Walks.{takes-begun, opened-is, opened-not, takes-opened}
 use Rattle.octets.proofs.Walks.{keeps-chain, chain-stops, chain-goes, chain-breaks}
 use Rattle.attributes.specs.Attribute.{Attribute}

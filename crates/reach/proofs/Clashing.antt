@@ -12,7 +12,7 @@ use Rattle.reach.specs.declared.open.Status.{Status}
 use Rattle.reach.specs.declared.open.Status.the-variants.{Waiting, Failed, Wrong, Pending, Done}
 use Rattle.reach.specs.declared.open.Entry.{Entry}
 use Rattle.reach.specs.declared.open.Cell.{Cell}
-use Rattle.reach.specs.Entries.{noEntry}
+use Rattle.reach.specs.inner.Entries.{noEntry}
 use Rattle.reach.specs.inner.Opened.{noCell}
 use Rattle.reach.specs.inner.Search.{cellAt}
 use Rattle.reach.specs.inner.Values.{Tells, Some, isDone, isWrong}

@@ -7,15 +7,14 @@ use mathlib.Core.Logic.{_⊎_, ⊎-elim}
 use mathlib.Core.List.{List}
 use lib.ListN.{length}
 use Rattle.attributes.specs.Tree.{WrapKey}
-use Rattle.keys.specs.Kinds.{wrappingOf}
+use Rattle.keys.specs.Kinds.{wrappingOf, valueOf}
 use Rattle.chains.specs.Chain.{Root, Reached}
 use Rattle.chains.specs.Refusals.{EntriesEight, wrong-size, two-values}
 use Rattle.chains.proofs.Determined.{lists-equal}
 use Rattle.reach.specs.declared.open.Status.the-variants.{Wrong, Done}
 use Rattle.reach.specs.declared.open.Entry.{Entry}
 use Rattle.reach.specs.declared.open.Cell.{Cell}
-use Rattle.reach.specs.Entries.{Lists}
-use Rattle.reach.specs.inner.Opened.{valueOf}
+use Rattle.reach.specs.inner.Entries.{Lists}
 use Rattle.reach.specs.inner.Search.{keyAt, cellAt, Searched, Found-in, OneEach, Nonzero}
 use Rattle.reach.specs.inner.Values.{Tells, AnyClash, AnyWrong}
 

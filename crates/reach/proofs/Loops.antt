@@ -12,7 +12,7 @@ use Rattle.reach.specs.declared.open.Status.{Status}
 use Rattle.reach.specs.declared.open.Status.the-variants.{Waiting, Failed, Wrong, Pending, Done}
 use Rattle.reach.specs.declared.open.Entry.{Entry}
 use Rattle.reach.specs.declared.open.Cell.{Cell}
-use Rattle.reach.specs.Entries.{noEntry, IsEntry, Lists}
+use Rattle.reach.specs.inner.Entries.{noEntry, IsEntry, Lists}
 use Rattle.reach.specs.inner.Opened.{noCell, pending, naming, Tried, stays}
 use Rattle.reach.specs.inner.Search.{keyAt, cellAt, AllTried, Unnamed, FoundAt, NonePending}
 use Rattle.reach.proofs.Statuses.{getD-any}

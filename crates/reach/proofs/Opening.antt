@@ -16,14 +16,14 @@ use Rattle.keywrap.specs.declared.Answer.the-variants.{No, Count}
 use Rattle.attributes.specs.Tree.{WrapKey}
 use Rattle.keys.proofs.Cases.{bool-cases}
 use Rattle.keys.specs.Algorithms.{sizeOf}
-use Rattle.keys.specs.Kinds.{wrappingOf, wrappingKey}
+use Rattle.keys.specs.Kinds.{wrappingOf, wrappingKey, valueOf}
 use Rattle.keys.specs.declared.kinds.MadeWrapping.{MadeWrapping}
 use Rattle.reach.specs.declared.open.Status.{Status}
 use Rattle.reach.specs.declared.open.Status.the-variants.{Waiting, Failed, Wrong, Pending, Done}
 use Rattle.reach.specs.declared.open.Entry.{Entry}
 use Rattle.reach.specs.declared.open.Cell.{Cell}
-use Rattle.reach.specs.Entries.{IsEntry}
-use Rattle.reach.specs.inner.Opened.{valueOf, waiting, naming, Opened, Oversized, NotOpened, Landed, Tried, opened, stays}
+use Rattle.reach.specs.inner.Entries.{IsEntry}
+use Rattle.reach.specs.inner.Opened.{waiting, naming, Opened, WrongSize, NotOpened, Landed, Tried, opened, stays}
 
 module _ (v w octets : List ℕ) (size : ℕ) where
   pub landed-none : Key v → OpensBlank v w No octets → NotOpened v w
@@ -32,7 +32,7 @@ module _ (v w octets : List ℕ) (size : ℕ) where
       let room : length x ≤ length blank = subst (λ (m : ℕ). length x ≤ m) (sym (length-replicate {A = ℕ} 256 0)) (o .most) in
       h .none x (record { key-size = is .size; opens = o; holds = room })
 
-  pub landed-wrong : (m : ℕ) → OpensBlank v w (Count m) octets → (m ≡ size → ⊥) → Oversized v size w
+  pub landed-wrong : (m : ℕ) → OpensBlank v w (Count m) octets → (m ≡ size → ⊥) → WrongSize v size w
   landed-wrong m h ne = record { x = h .x; opens = h .result .opens; misfit = λ e. ne (sym (h .count) ∙ e) }
 
   pub landed-right : (m : ℕ) (made : MadeWrapping) → OpensBlank v w (Count m) octets → m ≡ size → sizeOf 13 size ≡ true →

@@ -19,8 +19,9 @@ use Rattle.reach.specs.declared.open.Status.{Status}
 use Rattle.reach.specs.declared.open.Status.the-variants.{Waiting, Failed, Wrong, Pending, Done}
 use Rattle.reach.specs.declared.open.Entry.{Entry}
 use Rattle.reach.specs.declared.open.Cell.{Cell}
-use Rattle.reach.specs.Entries.{noKey, noEntry, Lists}
-use Rattle.reach.specs.inner.Opened.{noCell, valueOf, Oversized}
+use Rattle.reach.specs.inner.Entries.{noKey, noEntry, Lists}
+use Rattle.keys.specs.Kinds.{valueOf}
+use Rattle.reach.specs.inner.Opened.{noCell, WrongSize}
 use Rattle.reach.specs.inner.Search.{keyAt, cellAt, AllTried, FoundAt, NonePending, keyZero}
 use Rattle.reach.specs.inner.Search.{Misfits, Found-in, OneEach, Searched}
 use Rattle.reach.proofs.Statuses.{Holds, GoodBy, holds-done, holds-good, getD-any, eq-cases, tried-stays}
@@ -174,7 +175,7 @@ module _ (v : List ℕ) (is : Key v) (l : List WrapKey) (size : ℕ) (fit : T (i
     abbrev Known : ℕ → List ℕ → Type 0
     Known = K (keyZero v) l size fit root-keys (cellAt cells)
 
-    wrong-at : (i : ℕ) → i < length l → (a : List ℕ) × Known (keyAt l i .kwkId) a × Oversized a size (keyAt l i .wrapped) →
+    wrong-at : (i : ℕ) → i < length l → (a : List ℕ) × Known (keyAt l i .kwkId) a × WrongSize a size (keyAt l i .wrapped) →
         Misfits (keyZero v) l size (keyAt l i)
     wrong-at i h g =
         let live = known-live (keyZero v) l size fit root-keys (cellAt cells) inv (keyAt l i .kwkId) (g .0) (g .1) in

@@ -13,7 +13,8 @@ use Rattle.keys.specs.declared.kinds.WrappingKey.{WrappingKey}
 use Rattle.reach.specs.declared.open.Status.{Status}
 use Rattle.reach.specs.declared.open.Status.the-variants.{Waiting, Failed, Wrong, Pending, Done}
 use Rattle.reach.specs.declared.open.Cell.{Cell}
-use Rattle.reach.specs.inner.Opened.{valueOf, Opened, Oversized, NotOpened, LandedBy, Landed, Tried, opened, stays}
+use Rattle.keys.specs.Kinds.{valueOf}
+use Rattle.reach.specs.inner.Opened.{Opened, WrongSize, NotOpened, LandedBy, Landed, Tried, opened, stays}
 use lib.Dec.{eqb}
 use Rattle.fips197.specs.Key.{Key}
 
@@ -29,7 +30,7 @@ Holds Done = Unit {0}
 abbrev pub GoodBy : ℕ → (ℕ → List ℕ → Type 0) → WrapKey → Status → WrappingKey → Type 0
 GoodBy size K e Waiting key = Unit {0}
 GoodBy size K e Failed key = (v : List ℕ) × K (e .kwkId) v × NotOpened v (e .wrapped)
-GoodBy size K e Wrong key = (v : List ℕ) × K (e .kwkId) v × Oversized v size (e .wrapped)
+GoodBy size K e Wrong key = (v : List ℕ) × K (e .kwkId) v × WrongSize v size (e .wrapped)
 GoodBy size K e Pending key = (v : List ℕ) × K (e .kwkId) v × Opened v size (e .wrapped) key
 GoodBy size K e Done key = (v : List ℕ) × K (e .kwkId) v × Opened v size (e .wrapped) key
 

@@ -12,8 +12,9 @@ use Rattle.chains.specs.Chain.{In, Root, Extended, Leads, Chain, root, step}
 use Rattle.reach.specs.declared.open.Status.{Status}
 use Rattle.reach.specs.declared.open.Status.the-variants.{Waiting, Failed, Wrong, Pending, Done}
 use Rattle.reach.specs.declared.open.Cell.{Cell}
-use Rattle.reach.specs.Entries.{noKey}
-use Rattle.reach.specs.inner.Opened.{valueOf, LandedBy, Tried}
+use Rattle.reach.specs.inner.Entries.{noKey}
+use Rattle.keys.specs.Kinds.{valueOf}
+use Rattle.reach.specs.inner.Opened.{LandedBy, Tried}
 use Rattle.reach.specs.inner.Search.{keyAt}
 use lib.Dec.{T}
 use Rattle.reach.proofs.Statuses.{Holds, GoodBy, Good, good-mono, good-landed, good-known, holds-waits, holds-good, holds-done}

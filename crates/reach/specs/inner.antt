@@ -1,3 +1,4 @@
 pub mod Opened
 pub mod Search
 pub mod Values
+pub mod Entries

@@ -1,4 +1,4 @@
-// The keys that a chain reaches, the copies of the announced keys, and refusals 8 and 9.
+// The search that decides which keys the entries of a registration reach and to which values, and number 8 of document 01 for the entries.
 pub mod open;
 pub mod search;
 pub mod values;

@@ -8,10 +8,10 @@ ghost use mathlib.Core.Bool.{true};
 ghost use mathlib.Core.List.{List};
 ghost use Prim.Native.Nat.{ℕ, _≤_};
 ghost use lib.ListN.{length};
-ghost use Rattle.aes.specs.Schedule.{ExpandsInverse, ExpandedInverse};
+ghost use Rattle.aes.specs.inner.Schedule.{ExpandsInverse, ExpandedInverse};
 ghost use Rattle.keys.specs.Algorithms.{sizeOf};
 ghost use Rattle.attributes.specs.Tree.{WrapKey};
-ghost use Rattle.reach.specs.Entries.{IsEntry};
+ghost use Rattle.reach.specs.inner.Entries.{IsEntry};
 ghost use Rattle.reach.specs.inner.Opened.{Landed, Tried, noCell, waiting, pending, naming};
 
 // A wrapped key of the frame: its Key ID, its KWK ID, and where its wrapped octets stand.

@@ -15,11 +15,11 @@ ghost use mathlib.Core.Bool.{true, false};
 ghost use mathlib.Core.List.{List};
 ghost use Prim.Native.Nat.{ℕ, _≤_, _<_};
 ghost use Rattle.fips197.specs.Key.{Key};
-ghost use Rattle.aes.specs.Schedule.{ExpandsInverse, ExpandedInverse};
+ghost use Rattle.aes.specs.inner.Schedule.{ExpandsInverse, ExpandedInverse};
 ghost use Rattle.keys.specs.Algorithms.{sizeOf};
 ghost use Rattle.attributes.specs.Tree.{WrapKey};
-ghost use Rattle.reach.specs.Entries.{Lists};
-ghost use Rattle.reach.specs.inner.Opened.{valueOf};
+ghost use Rattle.reach.specs.inner.Entries.{Lists};
+ghost use Rattle.keys.specs.Kinds.{valueOf};
 ghost use Rattle.reach.specs.inner.Search.{AllTried, Unnamed, Finds, Searched, keyZero};
 
 pub enum Found {

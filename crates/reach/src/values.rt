@@ -10,7 +10,7 @@ ghost use Prim.Native.Nat.{ℕ, _≤_};
 ghost use Rattle.attributes.specs.Tree.{WrapKey};
 ghost use Rattle.chains.specs.Chain.{Root};
 ghost use Rattle.chains.specs.Refusals.{EntriesEight};
-ghost use Rattle.reach.specs.Entries.{Lists};
+ghost use Rattle.reach.specs.inner.Entries.{Lists};
 ghost use Rattle.reach.specs.inner.Search.{Searched, Nonzero};
 ghost use Rattle.reach.specs.inner.Values.{Tells, Clash, ClashAmong, AnyClash, AnyWrong, isDone, isWrong};
 
@@ -80,7 +80,7 @@ fn clash(e: Entry, c: Cell, f: Entry, d: Cell) -> bool
     false
 }
 
-// Whether an entry and one of the first n do.
+// Whether an entry and one of the first n have the same Key ID and reached values that differ.
 fn clashes(e: Entry, c: Cell, entries: [Entry; 32], cells: [Cell; 32], n: usize) -> bool
     requires { ⌜ n ≤ 32 ⌝ }
     ensures { λ r. ⌜ Tells r (ClashAmong e c entries cells n) ⌝ }
@@ -97,7 +97,7 @@ fn clashes(e: Entry, c: Cell, entries: [Entry; 32], cells: [Cell; 32], n: usize)
     false
 }
 
-// Whether any two of the first n do. Internal.
+// Whether any two of the first n entries have the same Key ID and reached values that differ. Internal.
 pub fn any_clash(entries: [Entry; 32], cells: [Cell; 32], n: usize) -> bool
     requires { ⌜ n ≤ 32 ⌝ }
     ensures { λ r. ⌜ Tells r (AnyClash entries cells n) ⌝ }

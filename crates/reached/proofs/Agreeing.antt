@@ -11,15 +11,16 @@ use Rattle.chains.specs.Chain.{In, Root, Reached, Ends, root}
 use Rattle.chains.specs.Refusals.{EntriesEight, Value}
 use Rattle.chains.proofs.Determined.{one-value, AtRoot, ends-by}
 use Rattle.keys.specs.Limits.{limits}
-use Rattle.keys.specs.Kinds.{wrappingOf}
+use Rattle.keys.specs.Kinds.{wrappingOf, valueOf}
 use Rattle.keys.specs.declared.kinds.WrappingKey.{WrappingKey}
 use Rattle.state.specs.Held.{keysOf}
 use Rattle.state.specs.declared.held.HeldKey.{HeldKey}
 use Rattle.state.specs.declared.held.Held.{Held}
 use Rattle.state.proofs.Kept.{keys-of-held}
-use Rattle.copies.specs.Known.{valueOf, Known, key-zero, named, Agrees}
+use Rattle.copies.specs.inner.Known.{Known, key-zero, named, Agrees}
 use Rattle.reach.specs.inner.Search.{keyZero}
-use Rattle.reached.specs.Reached.{heldKeyOf, IsReached, HeldAre}
+use Rattle.outcome.specs.After.{Holds, HeldAre}
+use Rattle.reached.proofs.Membership.{heldKeyOf}
 
 pub value-of : (x : List ℕ) → valueOf (wrappingOf x) ≡ x
 value-of x = take-append-seam x (replicate (32 - length x) 0)
@@ -31,15 +32,15 @@ root-at v r (suc i) h e = absurd (omega arith)
 
 module _ (entries : List WrapKey) (size : ℕ) (key : WrappingKey) (held : Held)
     (none : EntriesEight (keyZero (valueOf key)) entries size → ⊥)
-    (are : HeldAre (keyZero (valueOf key)) entries size held) where
+    (are : HeldAre (keyZero (valueOf key)) entries size limits held) where
   keys-are : keysOf held ≡ are .keys
   keys-are = ap keysOf (are .is) ∙ keys-of-held limits (are .keys)
 
-  ends-on : (k : HeldKey) → IsReached (keyZero (valueOf key)) entries size k →
+  ends-on : (k : HeldKey) → Holds (keyZero (valueOf key)) entries size k →
       Ends (keyZero (valueOf key)) entries size (k .id) (valueOf (k .key))
   ends-on k r =
-      let g = r .gives .reached in
-      subst (Ends (keyZero (valueOf key)) entries size (k .id)) (sym (ap (λ (a : HeldKey). valueOf (a .key)) (r .is) ∙ value-of (r .value)))
+      let g = r .value .reached in
+      subst (Ends (keyZero (valueOf key)) entries size (k .id)) (sym (ap valueOf (r .key-is) ∙ value-of (r .x)))
       (record { passed = g .last ∷ g .before; chain = g .chain })
 
   known-ends : (k : ℕ) (v : List ℕ) → Known key held k v → Ends (keyZero (valueOf key)) entries size k v
@@ -47,7 +48,7 @@ module _ (entries : List WrapKey) (size : ℕ) (key : WrappingKey) (held : Held)
     passed = [];
     chain = root (record { id = 0; value = valueOf key }) (record { place = 0; inside = omega arith; is = refl });
   }
-  known-ends _ _ (named k m) = ends-on k (are .reached k (subst (In k) keys-are m))
+  known-ends _ _ (named k m) = ends-on k (are .each k (subst (In k) keys-are m))
 
   known-at : (k : ℕ) (v : List ℕ) → AtRoot (keyZero (valueOf key)) entries size k v ⊎ Reached (keyZero (valueOf key)) entries size k v →
       Known key held k v
@@ -58,7 +59,7 @@ module _ (entries : List WrapKey) (size : ℕ) (key : WrappingKey) (held : Held)
   known-at k v (inr r) =
       let x : Value (keyZero (valueOf key)) entries size k v =
       record { reached = r; every = λ y q. one-value (keyZero (valueOf key)) entries size none k y v q r } in
-      subst (Known key held k) (value-of v) (named (heldKeyOf k v) (subst (In (heldKeyOf k v)) (sym keys-are) (are .stands k v x)))
+      subst (Known key held k) (value-of v) (named (heldKeyOf k v) (subst (In (heldKeyOf k v)) (sym keys-are) (are .all k v x)))
 
   pub held-agrees : Agrees (keyZero (valueOf key)) entries size key held
   held-agrees = record {

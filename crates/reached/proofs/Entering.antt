@@ -20,7 +20,7 @@ use Rattle.state.proofs.Kept.{keys-of-held, id-trans, apart}
 use Rattle.reach.specs.declared.open.Status.the-variants.{Done}
 use Rattle.reach.specs.declared.open.Entry.{Entry}
 use Rattle.reach.specs.declared.open.Cell.{Cell}
-use Rattle.reach.specs.Entries.{noEntry}
+use Rattle.reach.specs.inner.Entries.{noEntry}
 use Rattle.reach.specs.inner.Search.{cellAt}
 use Rattle.reached.specs.inner.Joins.{Joins, not-reached, stands, enters}
 use Rattle.reached.proofs.Membership.{Has, has-key, has-no-key}

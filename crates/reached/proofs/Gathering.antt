@@ -25,8 +25,8 @@ use Rattle.contents.specs.inner.Values.{isWhole, itemsOf, attributesIn, valuesI
 use Rattle.contents.specs.inner.Bags.{bagsIn, BagIs}
 use Rattle.clauses.specs.Contents.{gather}
 use Rattle.reach.specs.declared.open.Entry.{Entry}
-use Rattle.reach.specs.Entries.{IsEntry, Lists, noEntry, noKey}
-use Rattle.reached.specs.Reached.{wrapKeysAmong, wrapKeysIn}
+use Rattle.reach.specs.inner.Entries.{IsEntry, Lists, noEntry, noKey}
+use Rattle.reached.specs.inner.Reached.{wrapKeysAmong, wrapKeysIn}
 use Rattle.reached.specs.inner.Entries.{bagKeys}
 use Rattle.reached.proofs.Sizes.{wrapped-sized, wrapped-least}
 

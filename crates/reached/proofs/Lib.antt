@@ -4,4 +4,3 @@ pub mod Membership
 pub mod Entering
 pub mod Standing
 pub mod Agreeing
-pub mod Determined

@@ -6,6 +6,7 @@ use mathlib.Core.List.{List, [], _∷_, List·Memᴰ, List·Memᴰ·head, List·
 use borrow.Author.Tests.{eqb-true}
 use lib.Dec.{eqb}
 use Rattle.keys.specs.Lists.{all, any}
+use Rattle.keys.specs.Kinds.{wrappingOf}
 use Rattle.keys.proofs.Cases.{bool-cases, and-whole}
 use Rattle.state.specs.Held.{keyWith}
 use Rattle.state.specs.declared.held.HeldKey.{HeldKey}
@@ -18,6 +19,10 @@ module _ {A : Type 0} where
   all-members p (a ∷ l) f = and-whole (p a) (all p l) (f a (List·Memᴰ·head refl)) (all-members p l (λ b m. f b (List·Memᴰ·tail m)))
 
 -- ---- the lookup by Key ID
+-- a key of the held list: its Key ID and its value
+abbrev pub heldKeyOf : ℕ → List ℕ → HeldKey
+heldKeyOf i x = record { id = i; key = wrappingOf x }
+
 pub record Has (id : ℕ) (l : List HeldKey) : Type 0 where
   pub key : HeldKey
   pub member : List·Memᴰ key l

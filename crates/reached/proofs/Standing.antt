@@ -19,13 +19,13 @@ use Rattle.state.specs.declared.held.HeldKey.{HeldKey}
 use Rattle.state.specs.declared.held.Held.{Held}
 use Rattle.reach.specs.declared.open.Entry.{Entry}
 use Rattle.reach.specs.declared.open.Cell.{Cell}
-use Rattle.reach.specs.Entries.{Lists}
-use Rattle.reach.specs.inner.Opened.{valueOf}
+use Rattle.reach.specs.inner.Entries.{Lists}
+use Rattle.keys.specs.Kinds.{wrappingOf, valueOf}
 use Rattle.reach.specs.inner.Search.{keyAt, Gives, Searched, Found-in, Nonzero}
 use Rattle.reach.proofs.Eight.{eight-wrong, eight-clash, found}
-use Rattle.reached.specs.Reached.{heldKeyOf, IsReached, HeldAre}
+use Rattle.outcome.specs.After.{Holds, HeldAre}
 use Rattle.chains.proofs.Members.{member-in, in-member}
-use Rattle.reached.proofs.Membership.{all-members}
+use Rattle.reached.proofs.Membership.{all-members, heldKeyOf}
 use Rattle.reached.proofs.Entering.{Done-at, Entered}
 
 formed-of : (k : HeldKey) → (k .id ≡ 0 → ⊥) → sizeOf 13 (k .key .count) ≡ true → keyFormed k ≡ true
@@ -50,13 +50,13 @@ module _ (frame : List ℕ) (places : List Entry) (n : ℕ) (cells : List Cell) 
       subst (λ (i : ℕ). Reached roots l size i (valueOf (k .key))) (id-at k d)
       (record { last = keyAt l (d .place); before = g .passed; chain = g .chain })
 
-  is-reached : (k : HeldKey) → Done-at places cells n k → IsReached roots l size k
+  is-reached : (k : HeldKey) → Done-at places cells n k → Holds roots l size k
   is-reached k d =
       let r = reached-at k d in
       record {
-        value = valueOf (k .key);
-        is = λ i. record { id = k .id; key = gives-at k d .is i };
-        gives = record { reached = r; every = λ y q. one-value roots l size none (k .id) y (valueOf (k .key)) q r };
+        x = valueOf (k .key);
+        key-is = gives-at k d .is;
+        value = record { reached = r; every = λ y q. one-value roots l size none (k .id) y (valueOf (k .key)) q r };
       }
 
   key-formed : (k : HeldKey) → Done-at places cells n k → keyFormed k ≡ true
@@ -66,10 +66,11 @@ module _ (frame : List ℕ) (places : List Entry) (n : ℕ) (cells : List Cell) 
       (ap (λ (m : ℕ). sizeOf 13 m) (ap (λ (a : WrappingKey). a .count) (g .is) ∙ g .fits) ∙ fit)
 
   -- the key that stands there with a Key ID has the value that every chain gives
-  same-key : (i : ℕ) (y : List ℕ) → Value roots l size i y → (k : HeldKey) → k .id ≡ i → IsReached roots l size k → k ≡ heldKeyOf i y
+  same-key : (i : ℕ) (y : List ℕ) → Value roots l size i y → (k : HeldKey) → k .id ≡ i → Holds roots l size k → k ≡ heldKeyOf i y
   same-key i y v k e r =
-      let w : r .value ≡ y = v .every (r .value) (subst (λ (a : ℕ). Reached roots l size a (r .value)) e (r .gives .reached)) in
-      r .is ∙ (λ t. heldKeyOf (e t) (w t))
+      let w : r .x ≡ y = v .every (r .x) (subst (λ (a : ℕ). Reached roots l size a (r .x)) e (r .value .reached)) in
+      let q = r .key-is ∙ ap wrappingOf w in
+      λ t. record { id = e t; key = q t }
 
   found-at : (i : ℕ) (y : List ℕ) → Value roots l size i y → Found-in roots l size cells i y
   found-at i y v =
@@ -84,19 +85,18 @@ module _ (frame : List ℕ) (places : List Entry) (n : ℕ) (cells : List Cell) 
       subst (λ (a : HeldKey). In a (x .keys)) (same-key i y v (h .key) e (is-reached (h .key) (x .from (h .key) (h .member))))
       (member-in (h .key) (x .keys) (h .member))
 
-  pub held-are : HeldAre roots l size held
+  pub held-are : HeldAre roots l size limits held
   held-are = record {
     keys = x .keys;
     is = x .is;
-    room = omega (arith, x .few, lists .within);
-    formed = all-members keyFormed (x .keys) (λ k m. key-formed k (x .from k m));
-    rises = x .rises;
-    reached = λ k m. is-reached k (x .from k (in-member k (x .keys) m));
-    stands = λ i y v. stands-by i y v (found-at i y v);
+    rise = x .rises;
+    each = λ k m. is-reached k (x .from k (in-member k (x .keys) m));
+    all = λ i y v. stands-by i y v (found-at i y v);
   }
 
--- such a list is as a member's must be
-pub are-formed : (roots : List Root) (entries : List WrapKey) (size : ℕ) (held : Held) → HeldAre roots entries size held →
-    heldFormed limits held ≡ true
-are-formed roots entries size held h =
-    ap (heldFormed limits) (h .is) ∙ held-formed limits (h .keys) (h .room) (h .formed) (h .rises)
+  -- the list is as a member's must be
+  pub are-formed : heldFormed limits held ≡ true
+  are-formed =
+      ap (heldFormed limits) (x .is)
+      ∙ held-formed limits (x .keys) (omega (arith, x .few, lists .within))
+      (all-members keyFormed (x .keys) (λ k m. key-formed k (x .from k m))) (x .rises)

@@ -16,8 +16,8 @@ ghost use Rattle.attributes.specs.Layout.{attributes};
 ghost use Rattle.attributes.specs.declared.tables.Place.the-variants.{MemberBag};
 ghost use Rattle.bags.specs.Bag.{bags};
 ghost use Rattle.contents.specs.inner.Values.{isWhole};
-ghost use Rattle.reach.specs.Entries.{IsEntry, Lists, noEntry};
-ghost use Rattle.reached.specs.Reached.{wrapKeysIn};
+ghost use Rattle.reach.specs.inner.Entries.{IsEntry, Lists, noEntry};
+ghost use Rattle.reached.specs.inner.Reached.{wrapKeysIn};
 ghost use Rattle.reached.specs.inner.Entries.{bagKeys};
 
 // Where WRAP_KEYs stand: the first `count` places.

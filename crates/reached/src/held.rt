@@ -10,11 +10,13 @@ ghost use mathlib.Core.List.{List};
 ghost use Prim.Native.Nat.{ℕ, _≤_};
 ghost use Rattle.attributes.specs.Tree.{WrapKey};
 ghost use Rattle.keys.specs.Algorithms.{sizeOf};
+ghost use Rattle.keys.specs.Limits.{limits};
+ghost use Rattle.state.specs.Held.{heldFormed};
+ghost use Rattle.outcome.specs.After.{HeldAre};
 ghost use Rattle.chains.specs.Chain.{Root};
 ghost use Rattle.chains.specs.Refusals.{EntriesEight};
-ghost use Rattle.reach.specs.Entries.{Lists};
+ghost use Rattle.reach.specs.inner.Entries.{Lists};
 ghost use Rattle.reach.specs.inner.Search.{Searched, Nonzero};
-ghost use Rattle.reached.specs.Reached.{HeldAre};
 ghost use Rattle.reached.specs.inner.Joins.{Joins};
 
 // Whether number 8 holds of the entries; if not, the keys that they reach.
@@ -43,7 +45,8 @@ fn with_cell(held: Held, e: Entry, c: Cell) -> Held
 pub fn held_of(entries: [Entry; 32], cells: [Cell; 32], n: usize) -> Held
     requires { ⌜ n ≤ 32 ⌝ }
     ensures { λ r. ⌜ ((frame : List ℕ) (roots : List Root) (l : List WrapKey) (size : ℕ) → Lists frame entries n l →
-        Searched roots l size cells → Nonzero l → sizeOf 13 size ≡ true → (EntriesEight roots l size → ⊥) → HeldAre roots l size r) ⌝ }
+        Searched roots l size cells → Nonzero l → sizeOf 13 size ≡ true → (EntriesEight roots l size → ⊥) →
+        HeldAre roots l size limits r × (heldFormed limits r ≡ true)) ⌝ }
 {
     let mut held = Held::new();
     let mut i: usize = 0;

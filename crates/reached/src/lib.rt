@@ -13,9 +13,9 @@ ghost use Rattle.fips197.specs.Key.{Key};
 ghost use Rattle.bags.specs.Bag.{bags};
 ghost use Rattle.contents.specs.inner.Values.{isWhole};
 ghost use Rattle.keys.specs.Algorithms.{sizeOf};
-ghost use Rattle.copies.specs.Known.{valueOf};
+ghost use Rattle.keys.specs.Kinds.{valueOf};
 ghost use Rattle.reach.specs.inner.Search.{Nonzero, keyZero};
-ghost use Rattle.reached.specs.Reached.{wrapKeysIn, Answers};
+ghost use Rattle.reached.specs.inner.Reached.{wrapKeysIn, Answers};
 
 // What the WRAP_KEYs of a KD body reach with the lent key as key 0. Numbers 5, 6 and 7 come before: the lent key has a wrapping key's size,
 // no WRAP_KEY has Key ID 0, and there are at most 32. Internal.

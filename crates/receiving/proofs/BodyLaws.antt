@@ -19,11 +19,11 @@ use Rattle.clauses.specs.Number6.{wrapKeyId}
 use Rattle.chains.specs.Chain.{In}
 use Rattle.chains.proofs.Members.{in-member}
 use Rattle.outcome.proofs.RunsLists.{none-passes}
-use Rattle.reach.specs.Entries.{noKey}
+use Rattle.reach.specs.inner.Entries.{noKey}
 use Rattle.reach.specs.inner.Search.{Nonzero}
 use Rattle.reach.proofs.Statuses.{getD-any}
-use Rattle.reached.specs.Reached.{wrapKeysAmong, wrapKeysIn}
-use Rattle.keying.specs.Keyed.{Ready}
+use Rattle.reached.specs.inner.Reached.{wrapKeysAmong, wrapKeysIn}
+use Rattle.keying.specs.inner.Keyed.{Ready}
 use Rattle.receiving.specs.inner.Passing.{Passed, Bodied}
 use Rattle.receiving.proofs.ClauseLaws.{one-gsa, one-kd, lengths-once, transforms-fit, all-paired, no-zero, few-entries, few-sas}
 

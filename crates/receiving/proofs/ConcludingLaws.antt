@@ -34,7 +34,7 @@ use Rattle.outcome.proofs.Accepting.{nine-policy, policy-nine}
 use Rattle.outcome.proofs.Enters.{each-enters}
 use Rattle.outcome.proofs.Members.{in-map, map-in}
 use Rattle.acceptance.specs.inner.Following.{Told, Follows}
-use Rattle.keying.specs.Keyed.{SomeEight, NoEight, SomeUnopened, KeysOf}
+use Rattle.keying.specs.inner.Keyed.{SomeEight, NoEight, SomeUnopened, KeysOf}
 use Rattle.keying.specs.declared.joining.Keyed.{Keyed}
 use Rattle.keying.specs.declared.joining.Found.{Found}
 use Rattle.keying.specs.declared.joining.Found.the-variants as found

@@ -3,4 +3,5 @@ pub mod ConcludingLaws
 pub mod ZeroLaws
 pub mod BodyLaws
 pub mod RegistrationLaws
+pub mod Rekeying
 pub mod RekeyLaws

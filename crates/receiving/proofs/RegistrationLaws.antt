@@ -8,46 +8,33 @@ use Rattle.octets.specs.Octets.{Octets}
 use Rattle.fips197.specs.Key.{Key}
 use Rattle.keys.specs.Limits.{limits}
 use Rattle.keys.specs.Algorithms.{sizeOf}
-use Rattle.keys.specs.Kinds.{wrappingOf, wrappingKey}
+use Rattle.keys.specs.Kinds.{wrappingOf, wrappingKey, valueOf}
 use Rattle.keys.specs.declared.kinds.WrappingKey.{WrappingKey}
 use Rattle.attributes.specs.Tree.{WrapKey}
 use Rattle.frames.specs.Frame.{Frame}
 use Rattle.frames.specs.Exchange.{registration}
 use Rattle.state.specs.declared.State.{State}
-use Rattle.state.specs.declared.held.Held.{Held}
-use Rattle.state.specs.declared.held.HeldKey.{HeldKey}
 use Rattle.clauses.specs.Contents.{rowOf}
 use Rattle.chains.specs.Chain.{Root}
 use Rattle.chains.specs.Refusals.{EntriesEight}
-use Rattle.copies.specs.Known.{valueOf, Agrees}
+use Rattle.copies.specs.inner.Known.{Agrees}
 use Rattle.reach.specs.inner.Search.{keyZero}
 use Rattle.reach.specs.inner.Values.{Tells}
 use Rattle.reach.proofs.Searching.{is-key-size}
-use Rattle.reached.specs.Reached.{wrapKeysIn, Answers, HeldAre as Reaches}
+use Rattle.reached.specs.inner.Reached.{wrapKeysIn, Answers}
 use Rattle.reached.specs.declared.held.Reached.{Reached}
 use Rattle.reached.proofs.Agreeing.{value-of}
 use Rattle.outcome.specs.Roots.{rootsOf, entriesOf, wrappingSize}
 use Rattle.outcome.specs.After.{HeldAre, HeldBy}
 use Rattle.outcome.specs.Outcome.{Judged}
 use Rattle.outcome.proofs.Rows.{registers, lent-roots, lent-size}
-use Rattle.keying.specs.Keyed.{KeyedBy}
+use Rattle.keying.specs.inner.Keyed.{KeyedBy}
 use Rattle.keying.specs.declared.joining.Keyed.{Keyed}
 use Rattle.receiving.specs.inner.Passing.{Bodied, Opened}
 use Rattle.receiving.proofs.ClauseLaws.{lent-fits}
 use Rattle.receiving.proofs.ZeroLaws.{lent-key}
 use Rattle.receiving.proofs.BodyLaws.{entries-are}
 use Rattle.receiving.proofs.ConcludingLaws.{entries-eight}
-
--- the keys that the search found are the held list of the definition
-held-too : (roots : List Root) (entries : List WrapKey) (size : ℕ) (h : Held) → Reaches roots entries size h →
-    HeldAre roots entries size limits h
-held-too roots entries size h r = record {
-  keys = r .keys;
-  is = r .is;
-  rise = r .rises;
-  each = λ k i. let q = r .reached k i in record { x = q .value; key-is = ap (λ (a : HeldKey). a .key) (q .is); value = q .gives };
-  all = r .stands;
-}
 
 module _ {m : State} {now : ℕ} {lent s g k : List ℕ} {f : Frame} (b : Bodied true m now lent s g k f) (zero : WrappingKey)
     (z : zero ≡ wrappingKey lent .key) where
@@ -92,8 +79,7 @@ module _ {m : State} {now : ℕ} {lent s g k : List ℕ} {f : Frame} (b : Bodied
         ((roots : List Root) (entries : List WrapKey) (size : ℕ) → Agrees roots entries size zero (r .held) →
         KeyedBy roots entries size f keyed) → Opened m now lent s g keyed (r .held) f
     registration-opened e keyed by =
-        let set = carry (λ (x : List Root) (y : List WrapKey) (n : ℕ). HeldAre x y n limits (r .held))
-        (held-too _ _ _ (r .held) (a .held e)) in
+        let set = carry (λ (x : List Root) (y : List WrapKey) (n : ℕ). HeldAre x y n limits (r .held)) (a .held e) in
         record {
           passed = b .passed;
           policies = b .policies;

@@ -22,19 +22,19 @@ use Rattle.clauses.specs.Contents.{rowOf}
 use Rattle.clauses.specs.Number2.{standing, overLiveRekey}
 use Rattle.chains.specs.Chain.{Root, Chain, root, step, Reached}
 use Rattle.chains.specs.Refusals.{EntriesEight, wrong-size, two-values}
-use Rattle.copies.specs.Known.{Agrees, heldRoots}
-use Rattle.copies.proofs.Rekeying.{rekey-agrees}
+use Rattle.copies.specs.inner.Known.{Agrees}
 use Rattle.outcome.specs.Roots.{rootsOf, entriesOf, wrappingSize}
 use Rattle.outcome.specs.After.{HeldAre, HeldBy}
 use Rattle.outcome.proofs.Rows.{own-roots}
 use Rattle.outcome.proofs.Members.{not-in-none}
 use Rattle.outcome.proofs.RunsLists.{some-passes, passes-some}
 use Rattle.acceptance.proofs.NextLaws.{swept-made}
-use Rattle.keying.specs.Keyed.{KeyedBy}
+use Rattle.keying.specs.inner.Keyed.{KeyedBy}
 use Rattle.keying.specs.declared.joining.Keyed.{Keyed}
 use Rattle.receiving.specs.inner.Passing.{Bodied, IsDefaultKey, Opened}
 use Rattle.receiving.proofs.ClauseLaws.{state-formed, is-rekey, over-live, no-entry}
 use Rattle.receiving.proofs.ConcludingLaws.{table-fits, table-is}
+use Rattle.receiving.proofs.Rekeying.{heldRoots, rekey-agrees}
 
 -- with no entry nothing is reached
 none-passed : (roots : List Root) (size : ℕ) (passed : List WrapKey) (k : ℕ) (x : List ℕ) → Chain roots [] size passed k x →

@@ -15,7 +15,7 @@ use Rattle.sa.specs.declared.entry.Condition.the-variants.{Live, Retirin
 use Rattle.sa.specs.declared.entry.Sa.{Sa}
 use Rattle.sa.specs.Clock.{elapsedAtLeast}
 
--- protocols ESP and Rekey (GIKE_UPDATE), and the octets of an SPI of each
+-- protocols (RFC 9838, section 4.4.2): ESP and GIKE_UPDATE, the Rekey SA's; and the octets of an SPI of each
 abbrev pub esp : ℕ
 esp = 3
 

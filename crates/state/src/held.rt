@@ -45,7 +45,7 @@ impl HeldKey {
     }
 }
 
-// Whether a key on its way to its place goes ahead of another: it has its place already, or its Key ID is lower.
+// Whether k comes after a in the list that a enters: a has its place already, or its Key ID is lower.
 fn goes_ahead(placed: bool, a: HeldKey, k: HeldKey) -> bool
     ensures { λ r. ⌜ r ≡ (placed || idBefore a k) ⌝ }
 {

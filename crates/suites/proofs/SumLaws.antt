@@ -11,7 +11,7 @@ use Rattle.policies.specs.Transform.{Transform}
 use Rattle.policies.specs.Grammar.{Transforms}
 use Rattle.clauses.specs.Fitness.{encryptionFits, keyWrapFits, sequenceNumbersFit, authenticationFits, sum, encryptionNeeds, keyWrapNeeds}
 use Rattle.clauses.specs.Number4.{twiceInTransform}
-use Rattle.suites.specs.Suites.{suiteOf, needsOf}
+use Rattle.suites.specs.inner.Suites.{suiteOf, needsOf}
 use Rattle.suites.specs.inner.Adding.{plus, AtMost}
 use Rattle.suites.specs.declared.counts.Suite.{Suite}
 use Rattle.suites.specs.declared.counts.Needs.{Needs}

@@ -20,7 +20,7 @@ use Rattle.contents.specs.inner.Values.{valuesIn}
 use Rattle.clauses.specs.Fitness.{octetsOf, isOctets, encryptionFits, keyWrapFits, sequenceNumbersFit, authenticationFits, exactly}
 use Rattle.clauses.specs.Fitness.{espTransforms, rekeyTransforms, transformsFit, sum, encryptionNeeds, keyWrapNeeds}
 use Rattle.clauses.specs.Number4.{twiceInTransform}
-use Rattle.suites.specs.Suites.{suiteOf}
+use Rattle.suites.specs.inner.Suites.{suiteOf}
 use Rattle.suites.specs.inner.Octets.{keyLengthNeeds, transformIn}
 use Rattle.suites.specs.inner.Adding.{once}
 use Rattle.suites.specs.declared.counts.Suite.{Suite}

@@ -10,10 +10,12 @@ ghost use Rattle.attributes.specs.Layout.{attributes};
 ghost use Rattle.policies.specs.Policy.{GroupSaPolicy};
 ghost use Rattle.contents.specs.inner.Values.{isWhole};
 ghost use Rattle.clauses.specs.Fitness.{transformsFit};
-ghost use Rattle.suites.specs.Suites.{suiteOf};
+ghost use Rattle.suites.specs.inner.Suites.{suiteOf};
 ghost use Rattle.suites.specs.inner.Octets.{transformIn};
 ghost use Rattle.suites.specs.inner.Adding.{once, plus, AtMost};
 use attributes::tables::Meaning;
+use contents::policy::ESP;
+use contents::policy::REKEY;
 
 // How many transforms there are; how many are fit for encryption, key wrap, sequence numbers and the controller's authentication; how many
 // have several Key Lengths.
@@ -127,10 +129,10 @@ impl Suite {
         ensures { λ r. ⌜ ((p : GroupSaPolicy) → p .protocol ≡ protocol → self ≡ suiteOf (p .transforms)
             → r ≡ transformsFit authentication p) ⌝ }
     {
-        if protocol == 3 {
+        if protocol == ESP {
             return are_once(self.count, 2, self.encryption, self.sequence, 1);
         }
-        if protocol == 6 {
+        if protocol == REKEY {
             if authentication {
                 return are_once(
                     self.count,

@@ -17,7 +17,8 @@ ghost use Rattle.contents.specs.inner.Values.{isWhole};
 ghost use Rattle.contents.specs.inner.Policies.{policiesIn};
 ghost use Rattle.clauses.specs.Contents.{gather, saOf};
 ghost use Rattle.clauses.specs.Fitness.{ah, transformsFit};
-ghost use Rattle.suites.specs.Suites.{suiteOf, needsOf};
+ghost use Rattle.suites.specs.inner.Suites.{suiteOf, needsOf};
+use contents::policy::AH;
 use counts::Needs;
 use counts::Suite;
 
@@ -64,7 +65,7 @@ fn transforms_need(t: &[u8]) -> Needs
     }
 }
 
-// The keying octets that an SA needs of which a Group SA policy holds this after its SPI. Internal.
+// The keying octets needed by an SA whose policy has these octets after its SPI. Internal.
 pub fn needs(x: &[u8]) -> Needs
     requires { ⌜ (length (now x) < 4294967296) × ((p : Place) × (b : SaBody) × IsSaBody p (now x) b) ⌝ }
     ensures { λ r. ⌜ ((p : Place) (b : SaBody) → IsSaBody p (now (x .entry)) b → r ≡ needsOf (b .suite .transforms)) ⌝ }
@@ -91,7 +92,7 @@ pub fn any_ah(g: &[u8]) -> bool
     let mut at = 0;
     while at < g.len() {
         let p = contents::policy::policy_parts(&g[at..]);
-        if p.first == 2 {
+        if p.first == AH {
             return true;
         }
         at = at + p.end;

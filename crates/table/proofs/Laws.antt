@@ -8,8 +8,6 @@ use borrow.Author.Tests.{le-leb, lt-leb, lt-ltb, le-ltb, ne-eqb}
 use lib.Dec.{leb, eqb, eqb·suc-zero}
 use lib.ListN.{length, take, drop, getD, replicate}
 use Rattle.keys.specs.Limits.{Limits}
-use Rattle.keys.specs.Kinds.{wrappingKey, keyWrapPart}
-use Rattle.keys.specs.declared.kinds.MadeWrapping.{MadeWrapping}
 use Rattle.keys.specs.Lists.{all, count, keep, rising, insert}
 use Rattle.keys.proofs.Cases.{bool-cases, lt-cases}
 use Rattle.keys.proofs.Parts.{part-cons, part-end}
@@ -19,7 +17,7 @@ use Rattle.sa.specs.declared.entry.Sa.{Sa}
 use Rattle.table.specs.declared.Table.{Table}
 use Rattle.table.specs.declared.Found.{Found}
 use Rattle.table.specs.Table.{sasOf, tableOf, tableFormed, changed, swept, notDue, standing, emptyAt, retiredIf, entered, none}
-use Rattle.table.specs.Table.{theOne, foundIn, keyOf}
+use Rattle.table.specs.Table.{theOne, foundIn}
 use Rattle.table.specs.inner.Loops.{picked}
 
 -- ---- a table that was filled
@@ -116,17 +114,6 @@ pub empty-is : (limits : Limits) (now k : ℕ) (t : Table) → k ≡ standing li
 unfolding standing
 empty-is limits now k t e =
     lt-cases (limits .sas) (t .count) (λ h. empty-out limits now k t h e) (λ h. empty-in limits now k t h e)
-
--- ---- the default key
-module _ (f : Found) (r : MadeWrapping) where
-  pub key-found : f .found ≡ true →
-      r ≡ keyWrapPart (record { octets = f .sa .octets; encryption = f .sa .encryption; wrapping = f .sa .wrapping }) → r ≡ keyOf f
-  unfolding keyOf
-  key-found e g = rw e g
-
-  pub key-none : f .found ≡ false → r ≡ wrappingKey [] → r ≡ keyOf f
-  unfolding keyOf
-  key-none e g = rw e g
 
 -- ---- one SA more
 module _ (limits : Limits) (a : Sa) (t : Table) where

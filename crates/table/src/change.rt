@@ -10,7 +10,7 @@ use keys::limits::SAS;
 use sa::entry::ESP;
 use sa::entry::Sa;
 
-// Whether an SA on its way to its place goes ahead of another: it has its place already, or stands before it.
+// Whether s comes after a in the table that a enters: a has its place already, or stands before s.
 fn goes_ahead(placed: bool, a: Sa, s: Sa) -> bool
     ensures { λ r. ⌜ r ≡ (placed || before a s) ⌝ }
 {

@@ -4,12 +4,9 @@ ghost use Prim.Native.Nat.{_≤_};
 ghost use Rattle.keys.specs.Limits.{limits};
 ghost use Rattle.keys.specs.Lists.{all, count, rising};
 ghost use Rattle.sa.specs.Entry.{formed, before, liveRekey};
-ghost use Rattle.table.specs.Table.{sasOf, tableFormed, foundSa, foundRekey, defaultKey, none};
+ghost use Rattle.table.specs.Table.{sasOf, tableFormed, foundSa, foundRekey, none};
 use crate::Found;
 use crate::Table;
-use keys::kinds::MadeWrapping;
-use keys::kinds::RekeyKey;
-use keys::kinds::WrappingKey;
 use keys::limits::SAS;
 use sa::entry::Sa;
 
@@ -128,24 +125,5 @@ impl Table {
             i += 1;
         }
         nothing()
-    }
-
-    // The default key of the live Rekey SA. Internal.
-    pub fn default_key(self) -> MadeWrapping
-        ensures { λ r. ⌜ r ≡ defaultKey limits self ⌝ }
-    {
-        let f = self.live_rekey();
-        if f.found {
-            let s = f.sa;
-            let octets = s.octets;
-            let key = RekeyKey {
-                octets,
-                encryption: s.encryption,
-                wrapping: s.wrapping,
-            };
-            return key.key_wrap_part();
-        }
-        let blank = [0u8; 1];
-        WrappingKey::new(&blank[0..0])
     }
 }

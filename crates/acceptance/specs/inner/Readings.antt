@@ -19,7 +19,7 @@ use Rattle.acceptance.specs.declared.reading.NewRekey.{NewRekey}
 abbrev pub total : List ℕ → ℕ
 total l = sum (λ (n : ℕ). n) l
 
--- by its first octet
+-- a policy's first octet: its protocol, or 0 of a group-wide policy
 abbrev pub firstOf : Policy → ℕ
 firstOf (groupSa a) = a .protocol
 firstOf (groupWide w) = 0

@@ -15,7 +15,8 @@ use Rattle.attributes.specs.declared.tables.Place.the-variants as place
 use Rattle.octets.specs.Walk.{either}
 use Rattle.bags.specs.Bag.{Bag, groupKeys, memberKeys, GroupKeyBag, MemberKeyBag}
 use Rattle.clauses.specs.Contents.{some, gather, groupBagOf, memberBagOf}
-use Rattle.clauses.specs.Fitness.{ah, esp, rekey}
+use Rattle.sa.specs.Entry.{esp, rekey}
+use Rattle.clauses.specs.Fitness.{ah}
 use Rattle.clauses.specs.Number6.{hasKeyId, hasKwkId}
 use Rattle.bagkeys.specs.declared.wrapped.Sought.{Sought}
 use Rattle.bagkeys.specs.declared.wrapped.Sought.the-variants as sought

@@ -10,7 +10,8 @@ use Rattle.attributes.specs.Tree.{initialMessageIds}
 use Rattle.policies.specs.Policy.{Policy, groupSa, groupWide, GroupSaPolicy, GroupWidePolicy, SaBody}
 use Rattle.bags.specs.Bag.{Bag}
 use Rattle.clauses.specs.Contents.{some, several, gather, saOf, wideOf, memberBagOf}
-use Rattle.clauses.specs.Fitness.{isRekey, rekey, oneGroupAddress}
+use Rattle.sa.specs.Entry.{rekey}
+use Rattle.clauses.specs.Fitness.{isRekey, oneGroupAddress}
 use Rattle.clauses.specs.Number4.{twiceInTransform}
 use Rattle.payloads.specs.declared.Bodies.{Bodies}
 use Rattle.composition.specs.declared.counts.Sort.{Sort}

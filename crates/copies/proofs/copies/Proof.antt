@@ -9,12 +9,12 @@ use lib.ListN.{length, drop}
 use Rattle.keys.specs.Limits.{limits}
 use Rattle.keys.proofs.Lists.{length-of-map}
 use Rattle.state.specs.Held.{keysOf}
-use Rattle.copies.specs.Known.{valueOf}
-use Rattle.copies.specs.Answer.{copiesIn}
+use Rattle.keys.specs.Kinds.{valueOf}
+use Rattle.copies.specs.inner.Answer.{copiesIn}
 use Rattle.copies.specs.inner.Tries.{Try, Tells}
-use Rattle.copies.specs.inner.Named.{triesOf, triesUnder}
+use Rattle.copies.specs.inner.Named.{triesOf}
 use Rattle.copies.proofs.Progress.{Progress, began, goes-on, ends}
-use Rattle.copies.proofs.Reaching.{held-count, held-size, tries-next, tries-end, answers}
+use Rattle.copies.proofs.Reaching.{held-count, held-size, tries-next, tries-end, answers, triesUnder}
 use borrow.Author.Needs.{needs}
 use Rattle.copies.proofs.copies.Statement.{statement}
 use Rattle.copies.proofs.copies.Tie as tie

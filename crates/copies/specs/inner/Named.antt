@@ -2,7 +2,7 @@
 use Prim.Native.Nat.{ℕ, _+_, _<_, _≤_}
 use mathlib.Core.Path.{_≡_}
 use mathlib.Core.Bool.{Bool, true}
-use mathlib.Core.List.{List, [], _∷_, _++_, map}
+use mathlib.Core.List.{List, [], _∷_, map}
 use lib.Dec.{eqb}
 use lib.ListN.{length, drop}
 use Rattle.octets.specs.Walk.{part}
@@ -13,9 +13,7 @@ use Rattle.contents.specs.inner.Values.{isWhole}
 use Rattle.contents.specs.declared.values.Found.{Found}
 use Rattle.contents.specs.declared.values.Found.the-variants as found
 use Rattle.keys.specs.Lists.{keep}
-use Rattle.state.specs.declared.held.HeldKey.{HeldKey}
-use Rattle.copies.specs.Known.{valueOf}
-use Rattle.copies.specs.Answer.{copiesIn}
+use Rattle.copies.specs.inner.Answer.{copiesIn}
 use Rattle.copies.specs.inner.Tries.{Try}
 
 -- "the key their KWK ID names"
@@ -43,8 +41,3 @@ tryOf v c = record { key = v; wrapped = c .wrapped }
 -- the copies that name key k, opened under its value v
 abbrev pub triesOf : ℕ → List ℕ → List SaKey → List Try
 triesOf k v l = map (tryOf v) (named k l)
-
--- the same for each of some keys
-unfoldable pub triesUnder : List HeldKey → List SaKey → List Try
-triesUnder [] l = []
-triesUnder (k ∷ keys) l = triesOf (k .id) (valueOf (k .key)) l ++ triesUnder keys l

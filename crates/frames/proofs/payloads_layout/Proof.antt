@@ -3,8 +3,7 @@ use native.Mathlib.Omega.{arith}
 use mathlib.Core.Path.{_≡_, sym, _∙_}
 use Prim.Native.Nat.{_+_, _-_, _<_, _≤_}
 use lib.ListN.{length, drop}
-use Rattle.octets.specs.Walk.{outline}
-use Rattle.octets.proofs.Walks.{part-short}
+use Rattle.octets.proofs.Walks.{part-short, outline}
 use Rattle.frames.specs.Frame.{payloads}
 use Rattle.frames.proofs.PayloadLaws.{starts, inside, goes, tears, ends, left-over}
 use borrow.Author.Needs.{needs}

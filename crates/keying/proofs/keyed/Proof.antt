@@ -1,6 +1,6 @@
 use mathlib.Core.Path.{_≡_}
 use lib.ListN.{length}
-use Rattle.copies.specs.Known.{valueOf}
+use Rattle.keys.specs.Kinds.{valueOf}
 use Rattle.copies.proofs.Opening.{key-inside, key-count, key-fits}
 use borrow.Author.Needs.{needs}
 use Rattle.keying.proofs.keyed.Statement.{statement}

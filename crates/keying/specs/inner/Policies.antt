@@ -5,30 +5,30 @@ use mathlib.Core.Bool.{Bool, true, false}
 use mathlib.Core.List.{List, [], _∷_, _++_}
 use lib.ListN.{length}
 use Rattle.keys.specs.Algorithms.{sizeOf}
-use Rattle.keys.specs.Kinds.{rekeySizes}
+use Rattle.keys.specs.Kinds.{rekeySizes, valueOf}
 use Rattle.attributes.specs.Tree.{WrapKey}
 use Rattle.policies.specs.Policy.{spiSize, GroupSaPolicy, SaBody}
 use Rattle.frames.specs.Frame.{Frame}
 use Rattle.sa.specs.declared.entry.Sa.{Sa}
-use Rattle.aes.specs.Schedule.{ExpandsInverse}
+use Rattle.aes.specs.inner.Schedule.{ExpandsInverse}
 use Rattle.attributes.specs.declared.tables.Place.{Place}
 use Rattle.policies.specs.Grammar.{IsSaBody}
 use Rattle.contents.specs.inner.Bags.{bagsIn}
 use Rattle.keys.specs.Lists.{any}
 use Rattle.keys.specs.declared.kinds.WrappingKey.{WrappingKey}
 use Rattle.state.specs.declared.held.Held.{Held}
-use Rattle.copies.specs.Known.{valueOf, Agrees}
+use Rattle.copies.specs.inner.Known.{Agrees}
 use Rattle.clauses.specs.Contents.{rowOf, bagsOf}
 use Rattle.clauses.specs.Number4.{twiceInTransform}
 use Rattle.clauses.specs.Number6.{bagsNamed}
 use Rattle.clauses.specs.Fitness.{encryptionOctets, keyWrapOctets, transformsFit}
 use Rattle.chains.specs.Chain.{Root, CopyOpens}
 use Rattle.chains.specs.Refusals.{CopiesEight, KeyOf}
-use Rattle.copies.specs.Answer.{Answers}
+use Rattle.copies.specs.inner.Answer.{Answers}
 use Rattle.copies.specs.declared.answer.Opened.{Opened}
 use Rattle.outcome.specs.Roots.{copiesOf, announcedAs}
 use Rattle.outcome.specs.After.{saFrom}
-use Rattle.keying.specs.Keyed.{KeysIn}
+use Rattle.keying.specs.inner.Keyed.{KeysIn}
 use Rattle.keying.specs.declared.joining.Found.{Found}
 use Rattle.keying.specs.declared.joining.Found.the-variants as found
 use Rattle.keying.specs.declared.joining.Keyed.{Keyed}
@@ -68,7 +68,7 @@ pub record Named (protocol : ℕ) (spi : List ℕ) (encryption wrapping : ℕ) (
   pub encryption-is : encryptionOctets a ≡ encryption
   pub wrapping-is : keyWrapOctets a ≡ wrapping
 
--- with this name and needs, and what its copies open to
+-- a policy with this name whose transforms need so many octets, and what its copies open to
 pub record IsOpened (protocol : ℕ) (spi : List ℕ) (encryption wrapping : ℕ) (one : Opened) (roots : List Root) (entries : List WrapKey)
     (size : ℕ) (f : Frame) (a : GroupSaPolicy) : Type 0 where
   pub name : Named protocol spi encryption wrapping a
@@ -95,7 +95,7 @@ pub record Announces (k : List ℕ) (protocol : ℕ) (spi x : List ℕ) (f : Fra
   pub bags : bagsOf f ≡ bagsIn k
   pub paired : bagsNamed f (a .protocol) (a .spi) ≡ 1
 
--- with this name in these octets, and its copies under these keys
+-- the policy a has this name and holds x after its SPI, and its copies open under key 0 and the held keys
 pub record IsAnnounced (k : List ℕ) (protocol : ℕ) (spi x : List ℕ) (schedule : List ℕ) (held : Held) (roots : List Root)
     (entries : List WrapKey) (size : ℕ) (f : Frame) (a : GroupSaPolicy) : Type 0 where
   pub opening : Opening schedule held roots entries size

@@ -13,8 +13,7 @@ use Rattle.keys.specs.Lists.{any, count}
 use Rattle.sa.specs.Entry.{named}
 use Rattle.sa.specs.declared.entry.Sa.{Sa}
 use Rattle.table.specs.Table.{stays}
-use Rattle.policies.specs.Policy.{headFits, spiOf, GroupSaPolicy}
-use Rattle.bags.specs.Bag.{GroupKeyBag}
+use Rattle.policies.specs.Policy.{headFits, spiOf}
 use Rattle.pairing.specs.declared.names.Which.{Which}
 use Rattle.pairing.specs.declared.names.Which.the-variants as which
 
@@ -43,13 +42,6 @@ isSuch which.Named p x n = eqb (n .protocol) p && same (n .spi) x
 -- not exactly one of the list has this name
 abbrev pub isUnpaired : List Name → Name → Bool
 isUnpaired l n = not (eqb (count (isSuch which.Named (n .protocol) (n .spi)) l) 1)
-
--- of a Group SA policy, of a Group Key Bag
-abbrev pub policyName : GroupSaPolicy → Name
-policyName a = record { protocol = a .protocol; spi = a .spi }
-
-abbrev pub bagName : GroupKeyBag → Name
-bagName b = record { protocol = b .protocol; spi = b .spi }
 
 -- an SA of the table that is not due and has a name of the list
 abbrev pub isAnnounced : ℕ → List Name → Sa → Bool

@@ -14,7 +14,7 @@ use Rattle.contents.specs.inner.Values.{isWhole, attributesIn}
 use Rattle.contents.specs.inner.Bags.{bagsIn}
 use Rattle.clauses.specs.Contents.{gather, groupBagOf}
 use Rattle.clauses.specs.Number6.{bagNamed}
-use Rattle.pairing.specs.declared.stretch.Stretch.{Stretch}
+use Rattle.contents.specs.declared.Stretch.{Stretch}
 
 pub record StretchIs (k : List ℕ) (p : ℕ) (x : List ℕ) (r : Stretch) : Type 0 where
   pub keys : gather (λ (b : GroupKeyBag). b .keys) (keep (bagNamed p x) (gather groupBagOf (bagsIn k)))

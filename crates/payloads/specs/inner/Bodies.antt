@@ -18,7 +18,7 @@ use Rattle.contents.specs.inner.Policies.{policiesIn}
 use Rattle.contents.specs.inner.Bags.{bagsIn}
 use Rattle.clauses.specs.Contents.{hasGsa, hasKd, policiesOf, bagsOf, deletesOf}
 use Rattle.clauses.specs.Number4.{criticalUnknown}
-use Rattle.payloads.specs.declared.kinds.Stretch.{Stretch}
+use Rattle.contents.specs.declared.Stretch.{Stretch}
 use Rattle.payloads.specs.declared.Bodies.{Bodies}
 
 -- the payloads that the octets of a frame are

@@ -9,7 +9,7 @@ use Rattle.octets.specs.Numbers.{oct}
 use Rattle.frames.specs.Delete.{Delete, deleteOf}
 use Rattle.frames.specs.Frame.{Frame}
 use Rattle.clauses.specs.Contents.{deletedSpis}
-use Rattle.clauses.specs.Fitness.{esp}
+use Rattle.sa.specs.Entry.{esp}
 use Rattle.clauses.specs.Number5.{deleteOfOther, deleteOfNone}
 use Rattle.payloads.specs.declared.deletion.DeleteParts.{DeleteParts}
 use Rattle.payloads.specs.declared.deletion.Deletes.{Deletes}

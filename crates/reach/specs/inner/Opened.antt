@@ -4,11 +4,11 @@ use mathlib.Core.Path.{_≡_}
 use mathlib.Core.Bool.{Bool, true, false}
 use mathlib.Core.List.{List, []}
 use lib.Dec.{eqb}
-use lib.ListN.{length, take}
+use lib.ListN.{length}
 use Rattle.octets.specs.Walk.{both}
 use Rattle.keywrap.specs.Opens.{Opens}
 use Rattle.attributes.specs.Tree.{WrapKey}
-use Rattle.keys.specs.Kinds.{wrappingOf}
+use Rattle.keys.specs.Kinds.{wrappingOf, valueOf}
 use Rattle.keys.specs.declared.kinds.WrappingKey.{WrappingKey}
 use Rattle.reach.specs.declared.open.Status.{Status}
 use Rattle.reach.specs.declared.open.Status.the-variants.{Waiting, Failed, Wrong, Pending, Done}
@@ -36,10 +36,6 @@ pending Done = false
 abbrev pub naming : ℕ → Entry → Cell → Bool
 naming k e c = both (eqb (e .kwk) k) (waiting (c .status))
 
--- the octets of a key
-abbrev pub valueOf : WrappingKey → List ℕ
-valueOf k = take (k .count) (k .octets)
-
 -- the key is octets of the right size to which `wrapped` opens under v
 pub record Opened (v : List ℕ) (size : ℕ) (wrapped : List ℕ) (key : WrappingKey) : Type 0 where
   pub opens : Opens v wrapped (valueOf key)
@@ -47,7 +43,7 @@ pub record Opened (v : List ℕ) (size : ℕ) (wrapped : List ℕ) (key : Wrappi
   pub is : key ≡ wrappingOf (valueOf key)
 
 -- `wrapped` opens under v, to a wrong size
-pub record Oversized (v : List ℕ) (size : ℕ) (wrapped : List ℕ) : Type 0 where
+pub record WrongSize (v : List ℕ) (size : ℕ) (wrapped : List ℕ) : Type 0 where
   pub x : List ℕ
   pub opens : Opens v wrapped x
   pub misfit : length x ≡ size → ⊥
@@ -59,7 +55,7 @@ NotOpened v wrapped = (x : List ℕ) → Opens v wrapped x → ⊥
 abbrev pub LandedBy : List ℕ → ℕ → List ℕ → Status → WrappingKey → Type 0
 LandedBy v size wrapped Waiting key = ⊥
 LandedBy v size wrapped Failed key = NotOpened v wrapped
-LandedBy v size wrapped Wrong key = Oversized v size wrapped
+LandedBy v size wrapped Wrong key = WrongSize v size wrapped
 LandedBy v size wrapped Pending key = Opened v size wrapped key
 LandedBy v size wrapped Done key = ⊥
 

@@ -5,15 +5,15 @@ use mathlib.Core.List.{List, [], _∷_}
 use lib.ListN.{length, getD}
 use Rattle.attributes.specs.Tree.{WrapKey}
 use Rattle.chains.specs.Chain.{Root, Chain, Reached}
-use Rattle.keys.specs.Kinds.{wrappingOf}
+use Rattle.keys.specs.Kinds.{wrappingOf, valueOf}
 use Rattle.keys.specs.declared.kinds.WrappingKey.{WrappingKey}
 use Rattle.reach.specs.declared.open.Status.the-variants.{Waiting, Wrong, Pending, Done}
 use Rattle.reach.specs.declared.open.Cell.{Cell}
 use Rattle.reach.specs.declared.open.Entry.{Entry}
 use Rattle.reach.specs.declared.search.Found.{Found}
 use Rattle.reach.specs.declared.search.Found.the-variants.{At, Nothing}
-use Rattle.reach.specs.Entries.{noKey, noEntry}
-use Rattle.reach.specs.inner.Opened.{noCell, valueOf, Tried}
+use Rattle.reach.specs.inner.Entries.{noKey, noEntry}
+use Rattle.reach.specs.inner.Opened.{noCell, Tried}
 
 abbrev pub keyAt : List WrapKey → ℕ → WrapKey
 keyAt entries i = getD entries i noKey

@@ -8,7 +8,7 @@ use Rattle.reach.specs.declared.open.Status.{Status}
 use Rattle.reach.specs.declared.open.Status.the-variants.{Waiting, Failed, Wrong, Pending, Done}
 use Rattle.reach.specs.declared.open.Entry.{Entry}
 use Rattle.reach.specs.declared.open.Cell.{Cell}
-use Rattle.reach.specs.Entries.{noEntry}
+use Rattle.reach.specs.inner.Entries.{noEntry}
 use Rattle.reach.specs.inner.Search.{cellAt}
 
 -- the answer says whether P holds

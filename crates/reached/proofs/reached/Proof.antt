@@ -3,10 +3,10 @@ use denote.Ref.{now}
 use native.Mathlib.Omega.{arith}
 use mathlib.Core.Path.{sym}
 use mathlib.Core.Bool.{false≢true}
-use Rattle.copies.specs.Known.{valueOf}
+use Rattle.keys.specs.Kinds.{valueOf}
 use Rattle.reach.specs.inner.Search.{keyZero}
 use Rattle.reach.proofs.Clashing.{told-yes, told-not}
-use Rattle.reached.specs.Reached.{wrapKeysIn}
+use Rattle.reached.specs.inner.Reached.{wrapKeysIn}
 use Rattle.reached.proofs.Agreeing.{held-agrees}
 use borrow.Author.Needs.{needs}
 use Rattle.reached.proofs.reached.Statement.{statement}
@@ -38,6 +38,7 @@ returns c =
     record {
       eight = told-yes _ _ (c .before .if1 .taken) e;
       held = λ q. absurd (false≢true (sym q));
+      formed = λ q. absurd (false≢true (sym q));
       agrees = λ q. absurd (false≢true (sym q));
       none = λ q. c .new .ensures;
     }
@@ -57,8 +58,9 @@ returns-2 c =
     let h = c .held-of .ensures k (keyZero (valueOf lent)) (wrapKeysIn k) (lent .count) l f (s .pre .1 .1 .0) (s .pre .1 .1 .1 .0) n in
     record {
       eight = n;
-      held = λ q. h;
-      agrees = λ q. held-agrees (wrapKeysIn k) (lent .count) lent (c .held-of .result) n h;
+      held = λ q. h .0;
+      formed = λ q. h .1;
+      agrees = λ q. held-agrees (wrapKeysIn k) (lent .count) lent (c .held-of .result) n (h .0);
       none = λ q. absurd (false≢true q);
     }
 

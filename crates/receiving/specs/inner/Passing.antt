@@ -19,7 +19,7 @@ use Rattle.clauses.specs.Refusals.{refusal}
 use Rattle.chains.specs.Refusals.{EntriesEight}
 use Rattle.outcome.specs.Roots.{rootsOf, entriesOf, wrappingSize}
 use Rattle.outcome.specs.After.{HeldAre, HeldBy}
-use Rattle.keying.specs.Keyed.{KeyedBy}
+use Rattle.keying.specs.inner.Keyed.{KeyedBy}
 use Rattle.keying.specs.declared.joining.Keyed.{Keyed}
 
 -- s is the frame f, and none of numbers 2 to 7 applies to it

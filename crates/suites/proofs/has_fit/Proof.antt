@@ -1,7 +1,7 @@
 use denote.Ref.{now}
 use lib.ListN.{drop}
 use mathlib.Core.Path.{ap, sym, _∙_}
-use Rattle.suites.specs.Suites.{suiteOf}
+use Rattle.suites.specs.inner.Suites.{suiteOf}
 use Rattle.suites.proofs.PolicyLaws.{transforms-start, transforms-are}
 use borrow.Author.Needs.{needs}
 use Rattle.suites.proofs.has_fit.Statement.{statement}

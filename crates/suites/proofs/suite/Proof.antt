@@ -10,7 +10,7 @@ use Rattle.policies.specs.Grammar.{Transforms}
 use Rattle.octets.proofs.Walks.{part-length}
 use Rattle.contents.proofs.BodiesLaws.{next-are}
 use Rattle.suites.specs.declared.counts.Suite.{Suite}
-use Rattle.suites.specs.Suites.{suiteOf}
+use Rattle.suites.specs.inner.Suites.{suiteOf}
 use Rattle.suites.specs.inner.Adding.{plus, AtMost}
 use Rattle.suites.proofs.FoldLaws.{Folded, inside, held, bounds, next}
 use Rattle.suites.proofs.SumLaws.{suite-first, plus-assoc, at-most-none, at-most-one, at-most-plus, suite-starts, suite-ends}

@@ -9,7 +9,7 @@ use Rattle.octets.proofs.Walks.{part-length}
 use Rattle.policies.specs.Transform.{Transform}
 use Rattle.policies.specs.Grammar.{Transforms}
 use Rattle.contents.proofs.BodiesLaws.{next-are}
-use Rattle.suites.specs.Suites.{needsOf}
+use Rattle.suites.specs.inner.Suites.{needsOf}
 use Rattle.suites.proofs.FoldLaws.{Folded, inside, held, bounds, next}
 use Rattle.suites.proofs.SumLaws.{joined, needs-first, joined-assoc, needs-one, needs-starts, needs-end}
 use borrow.Author.Needs.{needs}

@@ -11,7 +11,7 @@ use Rattle.attributes.specs.Tree.{saKeyOf}
 use Rattle.attributes.specs.declared.tables.Meaning.the-variants as meaning
 use Rattle.contents.specs.inner.Values.{isWhole, valuesIn, FoundAt, Finds}
 use Rattle.keys.specs.Lists.{keep}
-use Rattle.copies.specs.Answer.{copiesIn}
+use Rattle.copies.specs.inner.Answer.{copiesIn}
 use Rattle.copies.specs.inner.Named.{named}
 use Rattle.copies.proofs.Walking.{next-size, passed, found-named}
 use borrow.Author.Needs.{needs}

@@ -6,10 +6,10 @@ use mathlib.Core.Path.{_≡_, ap, subst}
 use mathlib.Core.Bool.{true}
 use mathlib.Core.List.{List, map}
 use lib.ListN.{length, drop}
-use Rattle.aes.specs.Schedule.{ExpandsInverse}
+use Rattle.aes.specs.inner.Schedule.{ExpandsInverse}
 use Rattle.attributes.specs.Layout.{attributes}
 use Rattle.contents.specs.inner.Values.{isWhole}
-use Rattle.copies.specs.Answer.{copiesIn}
+use Rattle.copies.specs.inner.Answer.{copiesIn}
 use Rattle.copies.specs.inner.Named.{tryOf, triesOf, NamedAt, FindsNamed}
 use Rattle.copies.proofs.Progress.{Progress, starts, goes-on, ends, next-left}
 use borrow.Author.Needs.{needs}

@@ -4,8 +4,8 @@ use native.Mathlib.Omega.{arith}
 use mathlib.Core.Path.{_≡_, ap, sym, subst}
 use mathlib.Core.List.{List, [], map}
 use lib.ListN.{length}
-use Rattle.copies.specs.Known.{valueOf}
-use Rattle.copies.specs.Answer.{copiesIn}
+use Rattle.keys.specs.Kinds.{valueOf}
+use Rattle.copies.specs.inner.Answer.{copiesIn}
 use Rattle.copies.specs.inner.Tries.{Try, Tells}
 use Rattle.copies.specs.inner.Named.{tryOf, triesOf, FindsNamed}
 use Rattle.copies.proofs.Opening.{key-inside, key-count, key-fits}

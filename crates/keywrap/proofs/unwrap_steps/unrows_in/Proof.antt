@@ -5,7 +5,7 @@ use mathlib.Core.List.{List}
 use Prim.Native.Nat.{ℕ, _-_, _≤_}
 use native.Mathlib.Omega.{arith}
 use lib.ListN.{length}
-use Rattle.aes.specs.Schedule.{ExpandsInverse}
+use Rattle.aes.specs.inner.Schedule.{ExpandsInverse}
 use Rattle.keywrap.specs.inner.Unwrap.{unrows}
 use Rattle.keywrap.proofs.Turns.{unrows-turn, base-small}
 use Rattle.keywrap.proofs.unwrap_steps.unrows_in.Statement.{statement}

@@ -4,8 +4,7 @@ use mathlib.Core.Path.{_≡_, sym, _∙_}
 use Prim.Native.Nat.{_+_, _-_, _<_, _≤_}
 use mathlib.Core.Bool.{true}
 use lib.ListN.{length, drop}
-use Rattle.octets.specs.Walk.{outline}
-use Rattle.octets.proofs.Walks.{tail, part-short}
+use Rattle.octets.proofs.Walks.{tail, part-short, outline}
 use Rattle.attributes.specs.Answers.{spotOf}
 use Rattle.attributes.specs.declared.Spot.the-variants as spot
 use Rattle.policies.specs.Transform.{transform, transforms}

@@ -9,8 +9,9 @@ use lib.ListN.{length, replicate}
 use Rattle.fips197.specs.Key.{Key, isKey}
 use Rattle.attributes.specs.Tree.{WrapKey}
 use Rattle.reach.specs.declared.open.Cell.{Cell}
-use Rattle.reach.specs.Entries.{Lists}
-use Rattle.reach.specs.inner.Opened.{noCell, valueOf}
+use Rattle.reach.specs.inner.Entries.{Lists}
+use Rattle.keys.specs.Kinds.{valueOf}
+use Rattle.reach.specs.inner.Opened.{noCell}
 use Rattle.reach.specs.inner.Search.{cellAt, AllTried, FoundAt, NonePending, Finds}
 use Rattle.reach.proofs.Searching.{Kept, undone, is-key-size, started, fell, count-at, turned-at, ended}
 use borrow.Author.Needs.{needs}

@@ -4,9 +4,9 @@ use Prim.Native.Nat.{ℕ, _-_, _≤_}
 use mathlib.Core.Path.{_≡_}
 use mathlib.Core.List.{List}
 use lib.ListN.{length, length-set}
-use Rattle.aes.specs.Schedule.{ExpandsInverse}
+use Rattle.aes.specs.inner.Schedule.{ExpandsInverse}
 use Rattle.attributes.specs.Tree.{WrapKey}
-use Rattle.reach.specs.Entries.{Lists}
+use Rattle.reach.specs.inner.Entries.{Lists}
 use Rattle.reach.proofs.Loops.{Partly, partly-none, partly-next, partly-all, entry-at}
 use borrow.Author.Needs.{needs}
 use Rattle.reach.proofs.search.tried.Statement.{statement}

@@ -5,7 +5,7 @@ use mathlib.Core.Path.{_≡_}
 use lib.ListN.{length, getD}
 use Rattle.reach.specs.declared.open.Entry.{Entry}
 use Rattle.reach.specs.declared.open.Cell.{Cell}
-use Rattle.reach.specs.Entries.{noEntry}
+use Rattle.reach.specs.inner.Entries.{noEntry}
 use Rattle.reach.specs.inner.Search.{cellAt}
 use Rattle.reach.specs.inner.Values.{ClashAmong}
 use Rattle.reach.proofs.Clashing.{NoneBelow, none-next, none-all, told-yes, told-not, both-at, both-back}

@@ -3,7 +3,7 @@ use native.Mathlib.Omega.{arith}
 use Prim.Native.Nat.{_-_, _≤_}
 use mathlib.Core.Path.{_≡_}
 use lib.ListN.{length, getD}
-use Rattle.reach.specs.Entries.{noEntry}
+use Rattle.reach.specs.inner.Entries.{noEntry}
 use Rattle.reach.specs.inner.Search.{cellAt}
 use Rattle.reach.specs.inner.Values.{Clash}
 use Rattle.reach.proofs.Clashing.{NoneBelow, none-next, none-all, told-yes, told-not, both-at, both-back}

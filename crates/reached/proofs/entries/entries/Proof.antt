@@ -13,7 +13,7 @@ use Rattle.attributes.specs.Tree.{WrapKey}
 use Rattle.bags.specs.Bag.{bags}
 use Rattle.contents.specs.inner.Values.{isWhole}
 use Rattle.contents.specs.inner.Bags.{BagIs}
-use Rattle.reached.specs.Reached.{wrapKeysIn}
+use Rattle.reached.specs.inner.Reached.{wrapKeysIn}
 use Rattle.reached.specs.declared.entries.Listing.{Listing}
 use Rattle.reached.specs.inner.Entries.{bagKeys}
 use Rattle.reached.proofs.Gathering.{Gathered, gathered-none, gathered-left, gathered-more, gathered-all}

@@ -12,7 +12,7 @@ use Rattle.attributes.specs.Layout.{attributes}
 use Rattle.attributes.specs.declared.tables.Place.the-variants.{MemberBag}
 use Rattle.attributes.specs.declared.tables.Meaning.the-variants as meaning
 use Rattle.contents.specs.inner.Values.{isWhole, Finds, FoundAt}
-use Rattle.reach.specs.Entries.{Lists}
+use Rattle.reach.specs.inner.Entries.{Lists}
 use Rattle.reached.specs.inner.Entries.{bagKeys}
 use Rattle.reached.proofs.Gathering.{Gathered, gathered-next, gathered-all, taken-inside, taken-first}
 use Rattle.keys.proofs.Lists.{length-of-map}

@@ -8,7 +8,7 @@ use Rattle.reach.specs.declared.open.Cell.{Cell}
 use Rattle.reach.proofs.Clashing.{both-at}
 use Rattle.reached.specs.inner.Joins.{Joins}
 use Rattle.reached.proofs.Entering.{Entered, entered-none, entered-next}
-use Rattle.reached.proofs.Standing.{held-are}
+use Rattle.reached.proofs.Standing.{held-are, are-formed}
 use borrow.Author.Needs.{needs}
 use Rattle.reached.proofs.held.held_of.Statement.{statement}
 use Rattle.reached.proofs.held.held_of.Tie as tie
@@ -69,8 +69,10 @@ returns c frame roots l size lists s nonzero fit none =
     let a = c .before .before .before .args in
     let u = c .before .loop in
     let e : u .i ≡ a .n = omega arith in
-    held-are frame (a .t1) (a .n) (a .t2) roots l size lists s nonzero fit none (u .held)
-    (subst (λ (m : ℕ). Entered (a .t1) (a .t2) m (u .held)) e (u .inv .4))
+    let x = subst (λ (m : ℕ). Entered (a .t1) (a .t2) m (u .held)) e (u .inv .4) in (
+      held-are frame (a .t1) (a .n) (a .t2) roots l size lists s nonzero fit none (u .held) x,
+      are-formed frame (a .t1) (a .n) (a .t2) roots l size lists s nonzero fit none (u .held) x,
+    )
 
 pub held-of-spec : {M : Type 1} → statement M
 held-of-spec =

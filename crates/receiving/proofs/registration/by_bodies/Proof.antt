@@ -5,7 +5,6 @@ use Rattle.octets.specs.Octets.{Octets}
 use Rattle.keys.specs.Kinds.{wrappingKey}
 use Rattle.keys.specs.declared.kinds.MadeWrapping.{MadeWrapping}
 use Rattle.frames.specs.Frame.{Frame}
-use Rattle.reached.proofs.Standing.{are-formed}
 use Rattle.receiving.specs.inner.Passing.{Bodied, Opened}
 use Rattle.receiving.proofs.BodyLaws.{ready, entries-few, entries-nonzero}
 use Rattle.receiving.proofs.RegistrationLaws.{zero-fits, zero-key, registration-eight, registration-opened}
@@ -43,7 +42,7 @@ keyed-requires c κs =
     let b = p .1 .1 in
     let z = c .before .before .before in
     let r = c .before .before .reached in
-    let held-formed = are-formed _ _ _ (r .result .held) (r .ensures .held (c .before .if1 .left)) in
+    let held-formed = r .ensures .formed (c .before .if1 .left) in
     (p .0 .0, (p .0 .1, (zero-fits b (z .before .new .result .key) (zero-is z), (held-formed, (p .1 .0, ready b)))))
 
 opened-by : (c : tie.After-keyed) (f : Frame) →

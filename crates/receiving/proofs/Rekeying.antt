@@ -2,7 +2,7 @@
 use Prim.Native.Nat.{ℕ}
 use mathlib.Core.Path.{refl, sym, subst}
 use mathlib.Core.Logic.{⊎-elim}
-use mathlib.Core.List.{List, [], List·Memᴰ, List·Memᴰ·head, List·Memᴰ·tail, List·Memᴰ·not-nil, List·Memᴰ·cases-cons}
+use mathlib.Core.List.{List, [], _∷_, map, List·Memᴰ, List·Memᴰ·head, List·Memᴰ·tail, List·Memᴰ·not-nil, List·Memᴰ·cases-cons}
 use mathlib.Core.List.{Memᴰ·map, Memᴰ·of-map}
 use Rattle.attributes.specs.Tree.{WrapKey}
 use Rattle.chains.specs.Chain.{Root, Chain, root, step, Ends}
@@ -10,7 +10,13 @@ use Rattle.chains.proofs.Members.{in-member, member-in}
 use Rattle.keys.specs.declared.kinds.WrappingKey.{WrappingKey}
 use Rattle.state.specs.Held.{keysOf}
 use Rattle.state.specs.declared.held.Held.{Held}
-use Rattle.copies.specs.Known.{valueOf, Known, key-zero, named, Agrees, rootOf, heldRoots}
+use Rattle.keys.specs.Kinds.{valueOf}
+use Rattle.copies.specs.inner.Known.{Known, key-zero, named, Agrees}
+use Rattle.outcome.specs.Roots.{heldRoot}
+
+-- the roots of a rekey
+abbrev pub heldRoots : WrappingKey → Held → List Root
+heldRoots zero held = record { id = 0; value = valueOf zero } ∷ map heldRoot (keysOf held)
 
 module _ (zero : WrappingKey) (held : Held) (size : ℕ) where
   abbrev roots : List Root
@@ -21,13 +27,13 @@ module _ (zero : WrappingKey) (held : Held) (size : ℕ) where
 
   ends : (k : ℕ) (v : List ℕ) → Known zero held k v → Ends roots [] size k v
   ends _ _ key-zero = starts (record { id = 0; value = valueOf zero }) (List·Memᴰ·head refl)
-  ends _ _ (named k i) = starts (rootOf k) (List·Memᴰ·tail (Memᴰ·map rootOf (in-member k (keysOf held) i)))
+  ends _ _ (named k i) = starts (heldRoot k) (List·Memᴰ·tail (Memᴰ·map heldRoot (in-member k (keysOf held) i)))
 
   root-known : (r : Root) → List·Memᴰ r roots → Known zero held (r .id) (r .value)
   root-known r m =
       ⊎-elim (λ e. subst (λ (a : Root). Known zero held (a .id) (a .value)) (sym e) key-zero)
       (λ d.
-      let k = Memᴰ·of-map rootOf (keysOf held) d in
+      let k = Memᴰ·of-map heldRoot (keysOf held) d in
       subst (λ (a : Root). Known zero held (a .id) (a .value)) (k .2) (named (k .0) (member-in (k .0) (keysOf held) (k .1))))
       (List·Memᴰ·cases-cons m)
 

@@ -1,18 +1,14 @@
 -- The keys that a copy's KWK ID can name: "key 0 or a reached or held one". Reached keys stand in a held list too, so that key 0 and a held
 -- list serve every exchange.
 use Prim.Native.Nat.{ℕ}
-use mathlib.Core.List.{List, _∷_, map}
-use lib.ListN.{take}
+use mathlib.Core.List.{List}
 use Rattle.attributes.specs.Tree.{WrapKey}
 use Rattle.chains.specs.Chain.{In, Root, Ends}
+use Rattle.keys.specs.Kinds.{valueOf}
 use Rattle.keys.specs.declared.kinds.WrappingKey.{WrappingKey}
 use Rattle.state.specs.Held.{keysOf}
 use Rattle.state.specs.declared.held.HeldKey.{HeldKey}
 use Rattle.state.specs.declared.held.Held.{Held}
-
--- the octets of a key
-abbrev pub valueOf : WrappingKey → List ℕ
-valueOf k = take (k .count) (k .octets)
 
 -- a Key ID and the value of the key that it names
 pub data Known (zero : WrappingKey) (held : Held) : ℕ → List ℕ → Type 0 where
@@ -23,10 +19,3 @@ pub data Known (zero : WrappingKey) (held : Held) : ℕ → List ℕ → Type 0 
 pub record Agrees (roots : List Root) (entries : List WrapKey) (size : ℕ) (zero : WrappingKey) (held : Held) : Type 0 where
   pub ends : (k : ℕ) (v : List ℕ) → Known zero held k v → Ends roots entries size k v
   pub known : (k : ℕ) (v : List ℕ) → Ends roots entries size k v → Known zero held k v
-
--- "Held keys take the place of reached ones in a rekey, with the Rekey SA's default key as key 0": the roots of a rekey
-abbrev pub rootOf : HeldKey → Root
-rootOf k = record { id = k .id; value = valueOf (k .key) }
-
-abbrev pub heldRoots : WrappingKey → Held → List Root
-heldRoots zero held = record { id = 0; value = valueOf zero } ∷ map rootOf (keysOf held)

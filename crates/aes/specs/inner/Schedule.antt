@@ -12,14 +12,6 @@ unfoldable pub scheduleWith : List ℕ → List ℕ → List ℕ
 scheduleWith table key =
     (keyExpansion key ++ replicate (240 - 16 * (roundsOf key + 1)) 0) ++ (table ++ (roundsOf key ∷ []))
 
--- for the cipher
-abbrev pub scheduleOf : List ℕ → List ℕ
-scheduleOf key = scheduleWith sbox key
-
--- for the inverse cipher
-abbrev pub inverseScheduleOf : List ℕ → List ℕ
-inverseScheduleOf key = scheduleWith inv-sbox key
-
 -- s is the schedule of the key, with a table
 pub record Schedules (table key s : List ℕ) : Type 0 where
   pub key-is : Key key
