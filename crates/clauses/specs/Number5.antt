@@ -14,7 +14,7 @@ use Rattle.frames.specs.Frame.{Frame}
 use Rattle.clauses.specs.Contents.{rowOf, announced, groupBags, deletesOf}
 use Rattle.clauses.specs.Fitness.{ah, esp, transformsFit}
 
--- "an AH policy or bag"
+-- "an AH policy or bag". An AH policy is also one of other transforms, since no transforms are fit for AH (`transformsFit`)
 unfoldable pub ahPolicy : Frame → Bool
 ahPolicy f = any (λ (p : GroupSaPolicy). eqb (p .protocol) ah) (announced f)
 

@@ -1,4 +1,4 @@
--- THESE OCTETS ARE THIS PAYLOAD, THIS FRAME, with no reader in sight (RFC 7296, sections 3.1, 3.2 and 3.11).
+-- THESE OCTETS ARE THIS PAYLOAD, THIS FRAME, defined without the readers (RFC 7296, sections 3.1, 3.2 and 3.11).
 use Prim.Native.Nat.{ℕ, _/_, _≤_}
 use mathlib.Core.Path.{_≡_}
 use mathlib.Core.List.{List, [], _∷_, _++_}

@@ -49,11 +49,13 @@ opened b fits inner = either fits inner (broken b)
 abbrev pub begun : {A : Type 0} → ℕ → List ℕ → Reading A → Reading A
 begun h s there = either (eqb (length s) 0) (broken h) there
 
--- what a structure of n octets holds from its octet i on, read to its end; then the octets after it
+-- what was read inside a structure, then the octets after the structure. What the inner reader left is dropped, and it leaves nothing:
+-- every reader that is used inside a structure reads its octets to their end (`many`, or a body that is taken whole)
 abbrev pub closed : {A : Type 0} → List ℕ → Reading A → Reading A
 closed rest (whole a r) = whole a rest
 closed rest (broken o) = broken o
 
+-- what a structure of n octets holds from its octet i on, read to its end; then the octets after it
 abbrev pub within : {A : Type 0} → ℕ → ℕ → Reader A → Reader A
 within i n p b s = closed (drop n s) (p (b + i) (part s i n))
 
@@ -107,7 +109,8 @@ abbrev pub outline : {A : Type 0} → Reading A → Outline
 outline (whole a rest) = stops rest
 outline (broken o) = breaks o
 
--- THESE OCTETS ARE THESE ITEMS, with no reader in sight: items one after the other up to where the chain stops, and the octets after that
+-- THESE OCTETS ARE THESE ITEMS, defined without the readers: items one after the other up to where the chain stops, and the octets after
+-- that
 pub data Spans {S A : Type 0} (stop : S → List ℕ → Bool) (Is : S → List ℕ → A → S → Type 0) : S → List ℕ → List A → List ℕ → Type 0 where
   none : {st : S} {rest : List ℕ} → stop st rest ≡ true → Spans stop Is st rest [] rest
   more : {st st′ : S} (o s : List ℕ) {rest : List ℕ} {a : A} {l : List A} → stop st (o ++ s) ≡ false → Is st o a st′
