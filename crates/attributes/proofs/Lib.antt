@@ -2,3 +2,4 @@ pub mod Loops
 pub mod AttributeLaws
 pub mod SplitGrammar
 pub mod GrammarLaws
+pub mod AttributeTable

@@ -1,4 +1,4 @@
--- THESE OCTETS ARE THIS ATTRIBUTE, with no reader in sight (RFC 7296, section 3.3.5; document 01, "How a frame is laid out").
+-- THESE OCTETS ARE THIS ATTRIBUTE, defined without the readers (RFC 7296, section 3.3.5; document 01, "How a frame is laid out").
 use Prim.Native.Nat.{ℕ, _+_, _%_, _<_, _≤_}
 use mathlib.Core.Path.{_≡_}
 use mathlib.Core.List.{List}

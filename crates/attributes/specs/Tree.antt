@@ -47,13 +47,14 @@ unfoldable pub valuesOf : Meaning → Place → List Attribute → List (List �
 valuesOf m p [] = []
 valuesOf m p (a ∷ l) = either (means m p a) (a .value ∷ valuesOf m p l) (valuesOf m p l)
 
--- what they say: Key Length in bits, the first Message ID, the delay in seconds, the wrapped keys
+-- the number that a value of two octets is, and one of four
 abbrev pub two : List ℕ → ℕ
 two v = be16 v 0
 
 abbrev pub four : List ℕ → ℕ
 four v = be32 v 0
 
+-- what those attributes say: Key Length in bits, the first Message ID, the delay in seconds, the wrapped keys
 abbrev pub keyLengths : Place → List Attribute → List ℕ
 keyLengths p l = map two (valuesOf meaning.KeyLength p l)
 

@@ -1,4 +1,4 @@
--- THESE OCTETS ARE THIS KEY BAG, with no reader in sight (RFC 9838, sections 4.5.2 and 4.5.3).
+-- THESE OCTETS ARE THIS KEY BAG, defined without the readers (RFC 9838, sections 4.5.2 and 4.5.3).
 use Prim.Native.Nat.{ℕ, _+_, _<_, _≤_}
 use mathlib.Core.Path.{_≡_}
 use mathlib.Core.List.{List}

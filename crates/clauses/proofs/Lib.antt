@@ -8,5 +8,11 @@ pub mod OrderOf5
 pub mod OrderOf6
 pub mod OrderOf7
 pub mod Order
-pub mod Samples
+pub mod SampleParts
+pub mod SamplesOf2And3
+pub mod SamplesOf4
+pub mod SamplesOf5
+pub mod SamplesOf6
+pub mod SamplesOf7
+pub mod AllSamples
 pub mod Clear

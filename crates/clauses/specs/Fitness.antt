@@ -25,7 +25,9 @@ isEsp p = eqb (p .protocol) esp
 abbrev pub isRekey : GroupSaPolicy → Bool
 isRekey p = eqb (p .protocol) rekey
 
--- ---- "one address (start equals end) in 224.0.0.0/4 or ff00::/8 and one port": type 7 is IPv4, type 8 IPv6
+-- ---- "one address (start equals end) in 224.0.0.0/4 or ff00::/8 and one port": selector type 7 is IPv4, 8 IPv6 (RFC 7296, section
+-- 3.13.1); RFC 9838, section 4.4.2, wants "a single multicast IP address" and "a single port". An IPv4 address in 224.0.0.0/4 has a first
+-- octet of 224 to 239, an IPv6 address in ff00::/8 one of 255
 unfoldable pub multicast : ℕ → List ℕ → Bool
 multicast kind a = cond (eqb kind 7) (leb 224 (oct a 0) && leb (oct a 0) 239) (eqb (oct a 0) 255)
 
@@ -34,8 +36,9 @@ oneGroupAddress s =
     same (s .startAddress) (s .endAddress) && (multicast (s .kind) (s .startAddress) && eqb (s .startPort) (s .endPort))
 
 -- ---- "Transforms: type 1 is a row of the algorithm table. ESP has exactly one of type 1 and one of type 5 (Sequence Numbers) with ID 0
--- or 2 (001 bars ID 1). Rekey has exactly one each of type 1, type 13 (one of the three) and the controller authentication type (14),
--- either method (Implicit 1, Digital Signature 2)."
+-- or 2 (001 bars ID 1). Rekey has exactly one each of type 1, type 13 (one of the three) and the controller authentication type, either
+-- method." RFC 9838, section 4.4.2.1.1: that type is 14, its methods are Implicit (1) and Digital Signature (2); section 4.4.2.1.3:
+-- Sequence Numbers 2 are "32-bit Unspecified Numbers", and 1, "Partially Transmitted 64-bit Sequential Numbers", "MUST NOT be used"
 abbrev pub octetsOf : Needed → ℕ
 octetsOf (Octets n) = n
 octetsOf Nothing = 0

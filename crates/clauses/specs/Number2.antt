@@ -1,6 +1,5 @@
 -- Number 2 is given exactly when: "exchange not one of the three; registration of a non-empty member; rekey whose two SPIs are not the live
--- Rekey SA's; a member value that breaks its list". It is judged on the header's exchange
--- type x and SPIs alone.
+-- Rekey SA's; a member value that breaks its list". Of the frame it looks at the header's exchange type x and SPIs alone.
 use Prim.Native.Nat.{ℕ}
 use mathlib.Core.List.{List, [], _∷_}
 use mathlib.Core.Bool.{Bool, false, not, _&&_}

@@ -1,5 +1,5 @@
--- Number 3 is given exactly when: "rekey with Message ID below the least acceptable, or none acceptable". It is judged on the header's
--- exchange type x and Message ID alone.
+-- Number 3 is given exactly when: "rekey with Message ID below the least acceptable, or none acceptable". Of the frame it looks
+-- at the header's exchange type x and Message ID alone.
 use Prim.Native.Nat.{ℕ}
 use mathlib.Core.List.{List, [], _∷_}
 use mathlib.Core.Bool.{Bool, not, _&&_}

@@ -15,7 +15,7 @@ use Rattle.clauses.specs.Contents.{rowOf, announced, groupBags, deletesO
 use Rattle.sa.specs.Entry.{esp}
 use Rattle.clauses.specs.Fitness.{ah, transformsFit}
 
--- "an AH policy or bag"
+-- "an AH policy or bag". An AH policy is also one of other transforms, since no transforms are fit for AH (`transformsFit`)
 unfoldable pub ahPolicy : Frame → Bool
 ahPolicy f = any (λ (p : GroupSaPolicy). eqb (p .protocol) ah) (announced f)
 

@@ -39,7 +39,8 @@ policyUnpaired f = any (λ (a : GroupSaPolicy). not (eqb (bagsNamed f (a .protoc
 unfoldable pub bagUnpaired : Frame → Bool
 bagUnpaired f = any (λ (b : GroupKeyBag). not (eqb (policiesNamed f (b .protocol) (b .spi)) 1)) (groupBags f)
 
--- "one protocol and SPI twice"
+-- "one protocol and SPI twice". Where a name stands twice, policies and bags are not paired one to one either, so these two clauses follow
+-- from the two above; document 01 names them
 unfoldable pub policyTwice : Frame → Bool
 policyTwice f = any (λ (a : GroupSaPolicy). ltb 1 (policiesNamed f (a .protocol) (a .spi))) (announced f)
 

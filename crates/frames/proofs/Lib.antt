@@ -2,4 +2,6 @@ pub mod HeaderLaws
 pub mod PayloadLaws
 pub mod DeleteGrammar
 pub mod FrameGrammar
-pub mod Samples
+pub mod SamplesOfPolicies
+pub mod SamplesOfBags
+pub mod SamplesOfFrames

@@ -35,7 +35,7 @@ pub record Frame : Type 0 where
   pub header : Header
   pub payloads : List Payload
 
--- the body of a payload of the kind k whose offset is h
+-- the bodies that are read: GSA holds policies, KD key bags; a broken Delete counts for its payload, whose offset is h
 abbrev pub gsaBody : Reader Content
 gsaBody b s = mapped gsa (policies b s)
 
@@ -45,9 +45,11 @@ kdBody b s = mapped kd (bags b s)
 abbrev pub deleteBody : ℕ → Reader Content
 deleteBody h b s = opened h (deleteFits s) (whole (delete (deleteOf s)) [])
 
+-- the others, known or not, are not read
 abbrev pub unreadBody : Reader Content
 unreadBody b s = whole unread []
 
+-- the body of a payload of the kind k whose offset is h
 unfoldable pub body : ℕ → ℕ → Reader Content
 body k h b s = either (eqb k 51) (gsaBody b s) (either (eqb k 52) (kdBody b s) (either (eqb k 42) (deleteBody h b s) (unreadBody b s)))
 
@@ -60,13 +62,14 @@ unfoldable pub payload : ℕ → Reader (Linked ℕ Payload)
 payload k b s =
     begun 0 s (opened b (payloadFits s) (mapped (payloadOf k s) (within 4 (be16 s 2) (body k b) b s)))
 
--- "Next payload 0 ends the frame exactly at its length": octets left over count for the header too
+-- payloads one after the other, up to the one with next payload 0
 abbrev pub noneNext : ℕ → List ℕ → Bool
 noneNext k s = eqb k 0
 
 abbrev pub payloads : ℕ → Reader (List Payload)
 payloads k b s = chain noneNext payload k b s
 
+-- "Next payload 0 ends the frame exactly at its length": octets left over count for the header too
 abbrev pub exactly : {A : Type 0} → Reading A → Reading A
 exactly (whole a []) = whole a []
 exactly (whole a (x ∷ rest)) = broken 0

@@ -1,15 +1,15 @@
--- THESE OCTETS ARE THIS PAYLOAD, THIS FRAME, with no reader in sight (RFC 7296, sections 3.1, 3.2 and 3.11).
+-- THESE OCTETS ARE THIS PAYLOAD, THIS FRAME, defined without the readers (RFC 7296, sections 3.1, 3.2 and 3.11).
 use Prim.Native.Nat.{ℕ, _/_, _≤_}
 use mathlib.Core.Path.{_≡_}
 use mathlib.Core.List.{List, [], _∷_, _++_}
 use lib.ListN.{length, take, drop}
+use lib.Dec.{leb}
 use Rattle.octets.specs.Numbers.{oct}
 use Rattle.octets.specs.Walk.{be16, be32, Spans}
 use Rattle.policies.specs.Policy.{Policy}
 use Rattle.policies.specs.Grammar.{Policies}
 use Rattle.bags.specs.Bag.{Bag}
 use Rattle.bags.specs.Grammar.{Bags}
-use Rattle.frames.specs.Header.{isCritical}
 use Rattle.frames.specs.Delete.{Delete}
 use Rattle.frames.specs.Frame.{Content, gsa, kd, delete, unread, Payload, noneNext, Frame}
 
@@ -42,7 +42,8 @@ pub data IsContent (k : ℕ) (s : List ℕ) : Content → Type 0 where
 pub record IsPayload (k : ℕ) (o : List ℕ) (x : Payload) (next : ℕ) : Type 0 where
   pub kind : k ≡ x .kind
   pub following : oct o 0 ≡ next
-  pub critical : isCritical o ≡ x .critical
+  -- the critical bit is the top one of the octet
+  pub critical : leb 128 (oct o 1) ≡ x .critical
   pub size : be16 o 2 ≡ length o
   pub least : 4 ≤ length o
   pub content : IsContent k (drop 4 o) (x .content)

@@ -1,6 +1,5 @@
 -- The IKE header (RFC 7296, section 3.1), 28 octets: initiator SPI 8, responder SPI 8, next payload 1, version 1 (major in the high 4
--- bits),
--- exchange type 1, flags 1, Message ID 4, length 4; and the generic payload header (section 3.2).
+-- bits), exchange type 1, flags 1, Message ID 4, length 4; and the generic payload header (section 3.2).
 use Prim.Native.Nat.{ℕ, _/_}
 use mathlib.Core.List.{List}
 use mathlib.Core.Bool.{Bool}
@@ -30,5 +29,6 @@ headerFits s =
 abbrev pub payloadFits : List ℕ → Bool
 payloadFits s = sized 4 s
 
+-- the critical bit is the top one of its octet, and the rest is reserved
 abbrev pub isCritical : List ℕ → Bool
 isCritical s = leb 128 (oct s 1)

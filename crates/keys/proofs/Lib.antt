@@ -8,3 +8,4 @@ pub mod Rising
 pub mod Made
 pub mod Members
 pub mod Sift
+pub mod Rows

@@ -6,3 +6,4 @@ pub mod SelectorGrammar
 pub mod TransformGrammar
 pub mod BodyGrammar
 pub mod PolicyGrammar
+pub mod Numbers

@@ -1,4 +1,4 @@
--- THESE OCTETS ARE THIS SELECTOR, TRANSFORM, POLICY, with no reader in sight.
+-- THESE OCTETS ARE THIS SELECTOR, TRANSFORM, POLICY, defined without the readers.
 use Prim.Native.Nat.{ℕ, _+_, _<_, _≤_}
 use mathlib.Core.Path.{_≡_}
 use mathlib.Core.List.{List, _++_}

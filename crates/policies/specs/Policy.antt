@@ -52,7 +52,7 @@ pub data Policy : Type 0 where
   groupSa : GroupSaPolicy → Policy
   groupWide : GroupWidePolicy → Policy
 
--- what a Group SA policy, whose offset is h, holds after its SPI: two selectors, one or more transforms, attributes
+-- the transforms of a Group SA policy, whose offset is h, and the attributes after them
 pub record Suite : Type 0 where
   pub transforms : List Transform
   pub attributes : List Attribute
@@ -60,6 +60,7 @@ pub record Suite : Type 0 where
 unfoldable pub suite : ℕ → Place → Reader Suite
 suite h p = andThen (transforms h) (λ ts b r. mapped (λ l. record { transforms = ts; attributes = l }) (attributes p b r))
 
+-- what a Group SA policy, whose offset is h, holds after its SPI: two selectors, one or more transforms, attributes
 pub record SaBody : Type 0 where
   pub source : Selector
   pub destination : Selector

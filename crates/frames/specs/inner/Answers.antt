@@ -2,15 +2,15 @@
 use Prim.Native.Nat.{ℕ}
 use mathlib.Core.List.{List}
 use Rattle.octets.specs.Numbers.{oct}
-use Rattle.octets.specs.Walk.{be16, be32, either}
-use Rattle.frames.specs.Header.{firstPayload, headerFits, payloadFits, isCritical}
+use Rattle.octets.specs.Walk.{be16, either}
+use Rattle.frames.specs.Header.{headerOf, firstPayload, headerFits, payloadFits, isCritical}
 use Rattle.frames.specs.declared.HeaderRead.{HeaderRead}
 use Rattle.frames.specs.declared.HeaderRead.the-variants as header
 use Rattle.frames.specs.declared.PayloadRead.{PayloadRead}
 use Rattle.frames.specs.declared.PayloadRead.the-variants as payload
 
 abbrev pub headerRead : List ℕ → HeaderRead
-headerRead s = either (headerFits s) (header.Header (firstPayload s) (oct s 18) (be32 s 20)) header.Broken
+headerRead s = either (headerFits s) (header.Header (firstPayload s) (headerOf s .exchange) (headerOf s .messageId)) header.Broken
 
 abbrev pub payloadRead : List ℕ → PayloadRead
 payloadRead s = either (payloadFits s) (payload.Payload (oct s 0) (isCritical s) (be16 s 2)) payload.Broken

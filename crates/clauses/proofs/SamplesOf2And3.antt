@@ -1,0 +1,70 @@
+-- Samples of numbers 2 and 3.
+use Prim.Native.Nat.{ℕ}
+use mathlib.Core.List.{List, [], _∷_, map}
+use lib.ListN.{replicate}
+use Rattle.keys.specs.Limits.{limits}
+use Rattle.keys.specs.Kinds.{wrappingOf}
+use Rattle.sa.specs.Entry.{blankSa}
+use Rattle.sa.specs.declared.entry.Condition.the-variants.{Live}
+use Rattle.table.specs.Table.{tableOf}
+use Rattle.state.specs.declared.State.{State}
+use Rattle.state.specs.declared.least.Least.the-variants.{Id, NoneAnyMore}
+use Rattle.state.specs.Held.{heldOf}
+use Rattle.clauses.proofs.SampleParts.{liveSpi, nextSpi, payload, frameOf, registers, fit, deletion, deleting}
+use Rattle.clauses.proofs.SampleParts.{espAt, rekeyAt, dueNow, dueLater, memberOf, fresh, member, Sample, sample, anew, later}
+
+-- a table that says to have 17 SAs, and a held list with a Key ID and a count of octets
+abbrev overfull : State
+overfull = record {
+  table = record { sas = rekeyAt Live ∷ replicate 15 blankSa; count = 17 };
+  held = heldOf limits [];
+  least = Id 0;
+}
+
+abbrev holding : ℕ → ℕ → State
+holding i n = record {
+  table = tableOf limits [];
+  held = heldOf limits (record { id = i; key = wrappingOf (replicate n 1) } ∷ []);
+  least = Id 0;
+}
+
+abbrev pub samplesOf2And3 : List Sample
+samplesOf2And3 =
+    -- 3: below the least acceptable Message ID; none acceptable. A registration's is not compared
+    sample (member (Id 7)) 0 (deleting liveSpi 6) 3 ∷
+    sample (member (Id 7)) 0 (deleting liveSpi 7) 0 ∷
+    sample (member (Id 7)) 0 (deleting liveSpi 9) 0 ∷
+    sample (member NoneAnyMore) 0 (deleting liveSpi 9) 3 ∷
+    sample (member NoneAnyMore) 0 (deleting liveSpi 4294967295) 3 ∷
+    sample (member (Id 4294967295)) 0 (deleting liveSpi 4294967294) 3 ∷
+    sample (member (Id 4294967295)) 0 (deleting liveSpi 4294967295) 0 ∷
+    sample (memberOf [] (Id 7)) 16 (registers fit) 0 ∷
+    sample (memberOf [] NoneAnyMore) 16 (registers fit) 0 ∷
+    -- 3 before 4, and 2 before 3
+    sample (member (Id 7)) 0 (frameOf liveSpi 41 6 []) 3 ∷
+    sample (member (Id 7)) 0 (deleting nextSpi 6) 2 ∷
+    -- 2: other SPIs; no live Rekey SA, or one that retires, due or not
+    later (deleting nextSpi 9) 2 ∷
+    sample fresh 0 (deleting liveSpi 9) 2 ∷
+    sample (memberOf (rekeyAt dueLater ∷ []) (Id 0)) 0 (deleting liveSpi 9) 2 ∷
+    sample (memberOf (rekeyAt dueNow ∷ []) (Id 0)) 0 (deleting liveSpi 9) 2 ∷
+    -- 2: a registration of a member that is not empty; one whose SAs are all due is
+    sample (member (Id 0)) 16 (registers fit) 2 ∷
+    sample (memberOf (espAt 9 dueLater ∷ []) (Id 0)) 16 (registers fit) 2 ∷
+    sample (memberOf (espAt 9 dueNow ∷ []) (Id 0)) 16 (registers fit) 0 ∷
+    sample (memberOf (espAt 8 dueNow ∷ espAt 9 Live ∷ []) (Id 0)) 16 (registers fit) 2 ∷
+    -- 2: another exchange than GSA_AUTH 39, GSA_REGISTRATION 40 and GSA_REKEY 41
+    anew (frameOf [] 38 0 (map payload fit)) 2 ∷
+    anew (frameOf [] 39 0 (map payload fit)) 0 ∷
+    anew (frameOf [] 40 0 (map payload fit)) 0 ∷
+    anew (frameOf [] 42 0 (map payload fit)) 2 ∷
+    later (frameOf liveSpi 42 9 (payload deletion ∷ [])) 2 ∷
+    -- 2: a member value that breaks its list, also where another number would be given
+    sample overfull 0 (deleting liveSpi 9) 2 ∷
+    sample (holding 0 16) 16 (registers fit) 2 ∷
+    sample (holding 5 20) 16 (registers fit) 2 ∷
+    sample (holding 5 24) 16 (registers fit) 0 ∷
+    sample (memberOf (espAt 9 dueNow ∷ espAt 8 dueNow ∷ []) (Id 0)) 16 (registers fit) 2 ∷
+    sample (holding 0 16) 16 (registers (deletion ∷ fit)) 2 ∷
+    sample overfull 16 (registers (deletion ∷ fit)) 2 ∷
+    []

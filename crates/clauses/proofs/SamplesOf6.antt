@@ -1,0 +1,72 @@
+-- Samples of number 6.
+use Prim.Native.Nat.{ℕ}
+use mathlib.Core.List.{List, [], _∷_}
+use Rattle.sa.specs.declared.entry.Condition.{Condition}
+use Rattle.sa.specs.declared.entry.Condition.the-variants.{Live}
+use Rattle.state.specs.declared.State.{State}
+use Rattle.state.specs.declared.least.Least.the-variants.{Id}
+use Rattle.attributes.specs.Tree.{SaKey}
+use Rattle.frames.specs.Frame.{Frame, gsa, kd}
+use Rattle.clauses.proofs.SampleParts.{spi, liveSpi, nextSpi, espPolicy, rekeyPolicy, saKey, wrapKey, bag, espBag}
+use Rattle.clauses.proofs.SampleParts.{rekeyBag, memberBag, registers, rekeys, deletion, espAt, rekeyAt, dueNow, dueLater}
+use Rattle.clauses.proofs.SampleParts.{memberOf, Sample, sample, anew, later}
+
+-- a member that has an ESP SA with SPI 1 in this condition, beside the live Rekey SA
+abbrev having : Condition → State
+having c = memberOf (espAt 1 c ∷ rekeyAt Live ∷ []) (Id 0)
+
+-- a registration and a rekey that announce an ESP SA with SPI 1 and these keys
+abbrev espNew : List SaKey → Frame
+espNew l = registers (gsa (espPolicy 1 ∷ []) ∷ kd (bag 3 (spi 1) l ∷ []) ∷ [])
+
+abbrev espLater : List SaKey → Frame
+espLater l = rekeys (gsa (espPolicy 1 ∷ []) ∷ kd (bag 3 (spi 1) l ∷ []) ∷ [])
+
+-- the same of a Rekey SA with SPI x and n copies
+abbrev rekeyNew : List ℕ → ℕ → Frame
+rekeyNew x n = registers (gsa (rekeyPolicy x ∷ []) ∷ kd (rekeyBag x n ∷ []) ∷ [])
+
+abbrev rekeyLater : List ℕ → ℕ → Frame
+rekeyLater x n = rekeys (gsa (rekeyPolicy x ∷ []) ∷ kd (rekeyBag x n ∷ []) ∷ [])
+
+abbrev pub samplesOf6 : List Sample
+samplesOf6 =
+    -- a policy with no bag, a bag with no policy, another protocol, another SPI
+    anew (registers (gsa (espPolicy 1 ∷ []) ∷ kd [] ∷ [])) 6 ∷
+    anew (registers (gsa (espPolicy 1 ∷ espPolicy 2 ∷ []) ∷ kd (espBag 2 ∷ []) ∷ [])) 6 ∷
+    anew (registers (gsa (espPolicy 1 ∷ []) ∷ kd (espBag 2 ∷ espBag 1 ∷ []) ∷ [])) 6 ∷
+    anew (registers (gsa (espPolicy 1 ∷ []) ∷ kd (espBag 1 ∷ rekeyBag nextSpi 1 ∷ []) ∷ [])) 6 ∷
+    anew (registers (gsa (espPolicy 1 ∷ []) ∷ kd (bag 6 (spi 1) (saKey 0 0 ∷ []) ∷ []) ∷ [])) 6 ∷
+    anew (registers (gsa (espPolicy 1 ∷ []) ∷ kd (espBag 2 ∷ []) ∷ [])) 6 ∷
+    anew (registers (gsa (espPolicy 1 ∷ espPolicy 2 ∷ []) ∷ kd (espBag 2 ∷ espBag 1 ∷ []) ∷ [])) 0 ∷
+    -- one protocol and SPI twice: in policies, in bags, in both
+    anew (registers (gsa (espPolicy 1 ∷ espPolicy 1 ∷ []) ∷ kd (espBag 1 ∷ []) ∷ [])) 6 ∷
+    anew (registers (gsa (espPolicy 1 ∷ []) ∷ kd (espBag 1 ∷ espBag 1 ∷ []) ∷ [])) 6 ∷
+    anew (registers (gsa (espPolicy 1 ∷ espPolicy 1 ∷ []) ∷ kd (espBag 1 ∷ espBag 1 ∷ []) ∷ [])) 6 ∷
+    -- already in the table, live or retiring, those due not counted; a D of the same frame frees nothing
+    sample (having Live) 0 (espLater (saKey 0 0 ∷ [])) 6 ∷
+    sample (having dueLater) 0 (espLater (saKey 0 0 ∷ [])) 6 ∷
+    sample (having dueNow) 0 (espLater (saKey 0 0 ∷ [])) 0 ∷
+    sample (having Live) 0 (rekeys (gsa (espPolicy 2 ∷ []) ∷ kd (espBag 2 ∷ []) ∷ [])) 0 ∷
+    sample (having Live) 0 (rekeys (deletion ∷ gsa (espPolicy 1 ∷ []) ∷ kd (espBag 1 ∷ []) ∷ [])) 6 ∷
+    later (rekeyLater liveSpi 1) 6 ∷
+    later (rekeyLater nextSpi 1) 0 ∷
+    -- SA_KEY count: 1, and for a Rekey SA in a rekey at least 1
+    anew (espNew []) 6 ∷
+    anew (espNew (saKey 0 0 ∷ [])) 0 ∷
+    anew (espNew (saKey 0 0 ∷ saKey 0 0 ∷ [])) 6 ∷
+    later (espLater []) 6 ∷
+    later (espLater (saKey 0 0 ∷ saKey 0 0 ∷ [])) 6 ∷
+    anew (rekeyNew nextSpi 0) 6 ∷
+    anew (rekeyNew nextSpi 2) 6 ∷
+    later (rekeyLater nextSpi 0) 6 ∷
+    later (rekeyLater nextSpi 2) 0 ∷
+    -- SA_KEY with Key ID not 0; KWK ID not 0, which a Rekey SA's may have
+    anew (espNew (saKey 1 0 ∷ [])) 6 ∷
+    anew (espNew (saKey 0 1 ∷ [])) 6 ∷
+    later (espLater (saKey 0 1 ∷ [])) 6 ∷
+    later (rekeys (gsa (rekeyPolicy nextSpi ∷ []) ∷ kd (bag 6 nextSpi (saKey 0 9 ∷ saKey 1 9 ∷ []) ∷ []) ∷ [])) 6 ∷
+    -- WRAP_KEY with Key ID 0
+    anew (registers (gsa (espPolicy 1 ∷ []) ∷ kd (memberBag (wrapKey 5 0 ∷ wrapKey 0 5 ∷ []) ∷ espBag 1 ∷ []) ∷ [])) 6 ∷
+    anew (registers (gsa (espPolicy 1 ∷ []) ∷ kd (memberBag (wrapKey 5 0 ∷ wrapKey 9 5 ∷ []) ∷ espBag 1 ∷ []) ∷ [])) 0 ∷
+    []
