@@ -22,6 +22,10 @@ pub mod RunsOld
 pub mod RunsAccepted
 pub mod RunsHeld
 pub mod Runs
+pub mod RestSays
+pub mod RestSpis
+pub mod RestLaws
+pub mod Rest
 pub mod RunsLive
 pub mod RunsReplay
 pub mod SamplesAnswers

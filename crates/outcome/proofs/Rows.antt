@@ -3,7 +3,9 @@
 use Prim.Native.Nat.{ℕ}
 use mathlib.Core.Path.{_≡_, ap}
 use mathlib.Core.Bool.{true, false, false≢true}
+use mathlib.Core.Logic.{_⊎_, inl, inr}
 use mathlib.Core.List.{List, [], _∷_, map}
+use borrow.Author.Tests.{eqb-true}
 use lib.Dec.{eqb}
 use lib.ListN.{length}
 use Rattle.keys.specs.Limits.{Limits}
@@ -25,9 +27,26 @@ registers x e =
     bool-cases (eqb x 40) (λ b. rw (a, b))
     (λ b. bool-cases (eqb x 41) (λ c. absurd (false≢true (rw (a, b, c) at e))) (λ c. absurd (false≢true (rw (a, b, c) at e)))))
 
--- exchange type 41 is a rekey
+-- "Registration frames (GSA_AUTH, GSA_REGISTRATION responses)": exchange types 39 and 40
+abbrev pub Registration : Frame → Type 0
+Registration f = (f .header .exchange ≡ 39) ⊎ (f .header .exchange ≡ 40)
+
+pub registration-row : (f : Frame) → Registration f → rowOf f ≡ registration
+registration-row f (inl e) = ap exchangeOf e
+registration-row f (inr e) = ap exchangeOf e
+
+-- GSA_REKEY: exchange type 41
 pub rekeys : (x : ℕ) → x ≡ 41 → exchangeOf x ≡ rekey
 rekeys x e = ap exchangeOf e
+
+-- an exchange that number 2 lets pass is one of the three
+pub one-of-three : (f : Frame) → rowOf f .admitted ≡ true → Registration f ⊎ (f .header .exchange ≡ 41)
+one-of-three f e =
+    let x = f .header .exchange in
+    bool-cases (eqb x 39) (λ a. inl (inl (eqb-true x 39 a)))
+    (λ a.
+    bool-cases (eqb x 40) (λ b. inl (inr (eqb-true x 40 b)))
+    (λ b. bool-cases (eqb x 41) (λ c. inr (eqb-true x 41 c)) (λ c. absurd (false≢true (rw (a, b, c) at e)))))
 
 -- the lent default key as key 0
 abbrev pub lentRoot : List ℕ → List Root
