@@ -26,6 +26,7 @@ pub mod RestSays
 pub mod RestSpis
 pub mod RestLaws
 pub mod Rest
+pub mod Asked
 pub mod RunsLive
 pub mod RunsReplay
 pub mod SamplesAnswers
