@@ -3,8 +3,6 @@ use Prim.Native.Nat.{ℕ}
 use mathlib.Core.Path.{_≡_, refl, ap, sym, _∙_, subst}
 use mathlib.Core.Bool.{Bool, true, false}
 use mathlib.Core.List.{List, List·Memᴰ}
-use borrow.Author.Tests.{le-ltb}
-use native.Mathlib.Omega.{arith}
 use Rattle.attributes.specs.Tree.{WrapKey}
 use Rattle.chains.specs.Chain.{Root}
 use Rattle.chains.specs.Refusals.{EntriesEight}
@@ -16,13 +14,10 @@ use Rattle.state.specs.Held.{heldOf, idBefore}
 use Rattle.state.specs.declared.held.HeldKey.{HeldKey}
 use Rattle.state.specs.declared.held.Held.{Held}
 use Rattle.reach.specs.inner.Values.{Tells}
-use Rattle.state.proofs.Kept.{id-trans}
+use Rattle.state.proofs.Kept.{id-trans, id-irrefl}
 use Rattle.reached.specs.Reached.{HeldAre, Answers}
 use Rattle.reached.specs.declared.held.Reached.{Reached}
 use Rattle.chains.proofs.Members.{member-in, in-member}
-
-id-irrefl : (a : HeldKey) → idBefore a a ≡ false
-id-irrefl a = le-ltb (a .id) (a .id) (omega arith)
 
 module _ (roots : List Root) (entries : List WrapKey) (size : ℕ) where
   -- a key of the one stands in the other
