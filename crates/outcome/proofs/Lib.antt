@@ -37,3 +37,4 @@ pub mod SamplesTaken
 pub mod SamplesEntries
 pub mod SamplesHold
 pub mod SamplesRead
+pub mod SamplesInhabited

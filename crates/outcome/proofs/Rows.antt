@@ -22,7 +22,15 @@ use Rattle.clauses.specs.Number5.{lentKeySize}
 use Rattle.chains.specs.Chain.{Root}
 use Rattle.outcome.specs.Roots.{ownKey, keyZero, heldRoot, rootsOf, wrappingSize}
 
--- an exchange in which held keys open copies is a rekey
+-- an exchange that sets the held list is a registration
+pub registers : (x : ℕ) → exchangeOf x .holds ≡ true → exchangeOf x ≡ registration
+registers x e =
+    bool-cases (eqb x 39) (λ a. rw a)
+    (λ a.
+    bool-cases (eqb x 40) (λ b. rw (a, b))
+    (λ b. bool-cases (eqb x 41) (λ c. absurd (false≢true (rw (a, b, c) at e))) (λ c. absurd (false≢true (rw (a, b, c) at e)))))
+
+-- one in which held keys open copies is a rekey
 pub names-held : (x : ℕ) → exchangeOf x .named ≡ true → x ≡ 41
 names-held x e =
     bool-cases (eqb x 39) (λ a. absurd (false≢true (rw a at e)))
