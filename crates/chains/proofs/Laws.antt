@@ -9,7 +9,7 @@ use lib.ListN.{length}
 use borrow.Author.Tests.{eqb-true, eqb-false}
 use Rattle.keywrap.specs.Opens.{Opens}
 use Rattle.attributes.specs.Tree.{WrapKey, SaKey}
-use Rattle.chains.specs.Chain.{In, Root, Chain, root, step, Reached, CopyOpens}
+use Rattle.chains.specs.Chain.{In, Root, Chain, step, Reached, CopyOpens}
 use Rattle.chains.specs.Refusals.{Announced, EntriesEight, CopiesEight, Eight, of-entries, of-copies, Nine}
 use Rattle.chains.specs.Refusals as refusals
 use Rattle.chains.proofs.Determined.{AtRoot, ends-by}

@@ -2,7 +2,7 @@
 -- and SPI".
 use native.Mathlib.Omega.{arith}
 use Prim.Native.Nat.{ℕ}
-use mathlib.Core.Path.{_≡_, ap, sym, _∙_}
+use mathlib.Core.Path.{_≡_, ap, _∙_}
 use mathlib.Core.Bool.{true, false}
 use mathlib.Core.List.{List, []}
 use borrow.Author.Tests.{eq-eqb, ne-eqb}
@@ -14,8 +14,6 @@ use Rattle.keys.specs.Kinds.{padded}
 use Rattle.policies.specs.Policy.{GroupSaPolicy}
 use Rattle.frames.specs.Frame.{Frame, frame}
 use Rattle.sa.specs.declared.entry.Condition.the-variants.{Live}
-use Rattle.table.specs.declared.Found.{Found}
-use Rattle.state.specs.State.{askedSa}
 use Rattle.clauses.specs.Contents.{announced}
 use Rattle.clauses.specs.Fitness.{encryptionOctets, keyWrapOctets}
 use Rattle.chains.specs.Chain.{In}

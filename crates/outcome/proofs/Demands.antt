@@ -31,8 +31,8 @@ use Rattle.outcome.specs.Roots.{rootsOf, entriesOf, wrappingSize}
 use Rattle.outcome.specs.Answer.{NineOf}
 use Rattle.outcome.specs.After.{leastAfterwards}
 use Rattle.outcome.specs.Outcome.{Outcome, no-layout}
-use Rattle.outcome.proofs.Meets.{Meets, meets-2, meets-4, at-most-9, nine-met, Refused, Accepted, refused-is, is-refused, refused-layout}
-use Rattle.outcome.proofs.Meets.{accepted-is, is-accepted}
+use Rattle.outcome.proofs.Meets.{Meets, meets-2, meets-4, at-most-9, nine-met, Refused, Accepted}
+use Rattle.outcome.proofs.Meets.{refused-is, is-refused, refused-layout, accepted-is, is-accepted}
 use Rattle.outcome.proofs.Enters.{enters-live, enters-cut, Stayed}
 use Rattle.outcome.proofs.Answering.{accepts}
 use Rattle.outcome.proofs.RunsClear.{none-applies}

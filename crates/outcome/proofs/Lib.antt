@@ -27,6 +27,7 @@ pub mod RestSpis
 pub mod RestLaws
 pub mod Rest
 pub mod Asked
+pub mod OwnKey
 pub mod RunsLive
 pub mod RunsReplay
 pub mod SamplesAnswers

@@ -1,6 +1,6 @@
 -- The key that a KWK ID names, and what a copy of an announced SA's key opens to, in the customer's words.
 use Prim.Native.Nat.{ℕ}
-use mathlib.Core.Path.{_≡_, refl, ap, sym, subst}
+use mathlib.Core.Path.{_≡_, refl, ap, sym, _∙_, subst}
 use mathlib.Core.Bool.{Bool, true, false, cond, false≢true}
 use mathlib.Core.Logic.{_⊎_, ⊎-elim}
 use mathlib.Core.List.{List, [], _∷_, map}
@@ -17,7 +17,7 @@ use Rattle.state.specs.Held.{keysOf}
 use Rattle.clauses.specs.Contents.{rowOf, wrapKeysOf}
 use Rattle.chains.specs.Chain.{In, Root, root, Reached, Ends}
 use Rattle.chains.proofs.Determined.{ends-by, last-entry}
-use Rattle.outcome.specs.Roots.{octetsOf, keyZero, heldRoot, rootsOf, entriesOf, wrappingSize}
+use Rattle.outcome.specs.Roots.{octetsOf, ownKey, keyZero, heldRoot, rootsOf, entriesOf, wrappingSize}
 use Rattle.outcome.proofs.Rows.{names-held, Registration, registration-row, rekeys, lentRoot, lent-roots, lent-size}
 use Rattle.outcome.proofs.Members.{in-head, in-tail, in-cases, not-in-none, in-map, map-in}
 use Rattle.outcome.proofs.Bags.{InOwnBag, copy-own, own-copy}
@@ -33,9 +33,11 @@ cond-in a true l e m = m
 cond-in a false l e m = absurd (false≢true e)
 
 module _ (limits : Limits) (s : State) (now : ℕ) (lent : List ℕ) (f : Frame) where
-  -- "be it key 0, the last key of such a chain or, in a rekey, a key the member held"
+  -- "be it key 0, the last key of such a chain or, in a rekey, a key the member held". Key 0 is the lent default key in a registration and
+  -- "the live Rekey SA's own" in a rekey
   pub data Named (k : ℕ) (v : List ℕ) : Type 0 where
-    key-0 : k ≡ 0 → v ≡ keyZero limits s now lent f → Named k v
+    lent-key : Registration f → k ≡ 0 → v ≡ lent → Named k v
+    own-key : f .header .exchange ≡ 41 → k ≡ 0 → v ≡ ownKey limits s now → Named k v
     last-of-chain : Registration f → Reached (lentRoot lent) (wrapKeysOf f) (length lent) k v → Named k v
     held-key : f .header .exchange ≡ 41 → (h : HeldKey) → In h (keysOf (s .held)) → h .id ≡ k → octetsOf (h .key) ≡ v → Named k v
 
@@ -59,16 +61,13 @@ module _ (limits : Limits) (s : State) (now : ℕ) (lent : List ℕ) (f : Frame)
   abbrev zero-root : Root
   zero-root = record { id = 0; value = keyZero limits s now lent f }
 
-  -- the roots by their meaning
-  root-named : (r : Root) → In r roots → Named (r .id) (r .value)
-  unfolding rootsOf
-  root-named r m =
-      ⊎-elim (λ e. key-0 (ap (λ (x : Root). x .id) e) (ap (λ (x : Root). x .value) e))
-      (λ i.
-      let c = in-cond r (rowOf f .named) held i in
-      let h = in-map heldRoot r (keysOf (s .held)) (c .1) in
-      held-key (names-held (f .header .exchange) (c .0)) (h .item) (h .stands) (ap (λ (x : Root). x .id) (sym (h .is))) (ap (λ (x : Root). x .value) (sym (h .is))))
-      (in-cases r zero-root (cond (rowOf f .named) held []) m)
+  zero-lent : Registration f → keyZero limits s now lent f ≡ lent
+  unfolding keyZero
+  zero-lent g = rw (registration-row f g)
+
+  zero-own : f .header .exchange ≡ 41 → keyZero limits s now lent f ≡ ownKey limits s now
+  unfolding keyZero
+  zero-own x = rw (rekeys (f .header .exchange) x)
 
   zero-in : In zero-root roots
   unfolding rootsOf
@@ -101,7 +100,8 @@ module _ (limits : Limits) (s : State) (now : ℕ) (lent : List ℕ) (f : Frame)
       (subst (λ (n : ℕ). Reached roots (entriesOf f) n k v) (lent-size limits s now f row lent) r)
 
   pub named-ends : (k : ℕ) (v : List ℕ) → Named k v → Ends roots (entriesOf f) size k v
-  named-ends k v (key-0 e d) = at-root zero-root zero-in k v e d
+  named-ends k v (lent-key g e d) = at-root zero-root zero-in k v e (d ∙ sym (zero-lent g))
+  named-ends k v (own-key x e d) = at-root zero-root zero-in k v e (d ∙ sym (zero-own x))
   named-ends k v (last-of-chain g c) = let r = from-lent g k v c in record { passed = r .last ∷ r .before; chain = r .chain }
   named-ends k v (held-key e h m q d) =
       at-root (heldRoot h) (held-in (ap (λ (x : Exchange). x .named) (rekeys (f .header .exchange) e)) h m) k v (sym q) (sym d)
@@ -118,6 +118,22 @@ module _ (limits : Limits) (s : State) (now : ℕ) (lent : List ℕ) (f : Frame)
 
   -- numbers 2 and 4 let pass registrations, and rekeys with no WRAP_KEY: of these nothing else opens a copy
   module _ (fit : Registration f ⊎ ((f .header .exchange ≡ 41) × (wrapKeysOf f ≡ []))) where
+    -- the roots by their meaning
+    zero-named : (k : ℕ) (v : List ℕ) → k ≡ 0 → v ≡ keyZero limits s now lent f → Named k v
+    zero-named k v e d = ⊎-elim (λ g. lent-key g e (d ∙ zero-lent g)) (λ q. own-key (q .0) e (d ∙ zero-own (q .0))) fit
+
+    root-named : (r : Root) → In r roots → Named (r .id) (r .value)
+    unfolding rootsOf
+    root-named r m =
+        ⊎-elim (λ e. zero-named (r .id) (r .value) (ap (λ (x : Root). x .id) e) (ap (λ (x : Root). x .value) e))
+        (λ i.
+        let c = in-cond r (rowOf f .named) held i in
+        let h = in-map heldRoot r (keysOf (s .held)) (c .1) in
+        let is = sym (h .is) in
+        held-key (names-held (f .header .exchange) (c .0)) (h .item) (h .stands) (ap (λ (x : Root). x .id) is)
+        (ap (λ (x : Root). x .value) is))
+        (in-cases r zero-root (cond (rowOf f .named) held []) m)
+
     reached-named : (k : ℕ) (v : List ℕ) → Reached roots (entriesOf f) size k v → Named k v
     reached-named k v r =
         ⊎-elim (λ g. last-of-chain g (to-lent g k v r))

@@ -1,4 +1,4 @@
--- Laws that the theorems on the rest of the member rest on: sums to which one element gives, lists of one at most, octets that are all zero.
+-- Laws below the theorems on the rest of the member: sums to which one element gives, lists of one at most, octets that are all zero.
 use native.Mathlib.Omega.{arith}
 use Prim.Native.Nat.{ℕ, suc, _+_, _≤_}
 use mathlib.Core.Path.{_≡_, refl, ap, ap₂, sym, _∙_}

@@ -39,7 +39,7 @@ use Rattle.outcome.proofs.RunsTable.{any-all}
 use Rattle.outcome.proofs.RunsOld.{old-live, swept-sas}
 use Rattle.outcome.proofs.RunsAccepted.{all-made, new-name}
 
-live-not-due : (now : ℕ) (a : Sa) → liveRekey a ≡ true → due now a ≡ false
+pub live-not-due : (now : ℕ) (a : Sa) → liveRekey a ≡ true → due now a ≡ false
 unfolding liveRekey due
 live-not-due now a e = by (a .condition) (and-parts (eqb (a .protocol) entry.rekey) (isLive (a .condition)) e .1)
   where
