@@ -1,3 +1,4 @@
 pub mod Determined
+pub mod Laws
 pub mod Members
 pub mod Samples

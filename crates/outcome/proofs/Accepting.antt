@@ -26,6 +26,51 @@ use Rattle.outcome.proofs.Members.{in-map, map-in}
 use Rattle.outcome.proofs.Enters.{each-enters, entered-is, in-all, all-in, Stayed, old-stayed, stayed-old}
 use Rattle.outcome.proofs.HeldList.{not-other}
 
+-- ---- what is known of an announced SA by the octets to which copies of its key open
+module _ (Opens : GroupSaPolicy → List ℕ → Type 0) where
+  -- it stands in a list with the octets that every copy that opens gives, of the size that its policy needs
+  pub record NewBy (l : List Sa) (a : GroupSaPolicy) : Type 0 where
+    pub octets : List ℕ
+    pub opens : Opens a octets
+    pub every : (y : List ℕ) → Opens a y → y ≡ octets
+    pub fits : length octets ≡ needOf a
+    pub stands : In (saFrom a octets) l
+
+  -- the SA of a policy that the frame announces
+  pub record EnteredBy (f : Frame) (b : Sa) : Type 0 where
+    pub policy : GroupSaPolicy
+    pub stands : In policy (announced f)
+    pub octets : List ℕ
+    pub opens : Opens policy octets
+    pub every : (y : List ℕ) → Opens policy y → y ≡ octets
+    pub fits : length octets ≡ needOf policy
+    pub is : b ≡ saFrom policy octets
+
+-- two ways of saying that a copy opens, of which each gives the other
+module _ (P Q : GroupSaPolicy → List ℕ → Type 0) (to : (a : GroupSaPolicy) (x : List ℕ) → P a x → Q a x)
+    (from : (a : GroupSaPolicy) (x : List ℕ) → Q a x → P a x) where
+  pub new-by : (l : List Sa) (a : GroupSaPolicy) → NewBy P l a → NewBy Q l a
+  new-by l a n =
+      record {
+        octets = n .octets;
+        opens = to a (n .octets) (n .opens);
+        every = λ y q. n .every y (from a y q);
+        fits = n .fits;
+        stands = n .stands;
+      }
+
+  pub entered-by : (f : Frame) (b : Sa) → EnteredBy P f b → EnteredBy Q f b
+  entered-by f b n =
+      record {
+        policy = n .policy;
+        stands = n .stands;
+        octets = n .octets;
+        opens = to (n .policy) (n .octets) (n .opens);
+        every = λ y q. n .every y (from (n .policy) y q);
+        fits = n .fits;
+        is = n .is;
+      }
+
 module _ (limits : Limits) (s : State) (now : ℕ) (lent : List ℕ) where
   module _ (f : Frame) where
     abbrev pub Opened : List SaKey → List ℕ → Type 0
@@ -73,23 +118,11 @@ module _ (limits : Limits) (s : State) (now : ℕ) (lent : List ℕ) where
         (r .octets, r .key .opens)
 
     -- ---- the table after acceptance
-    -- an announced SA stands in a list with the octets that every copy that opens gives, of the size that its policy needs
-    pub record New (l : List Sa) (a : GroupSaPolicy) : Type 0 where
-      pub octets : List ℕ
-      pub opens : OpensTo a octets
-      pub every : (y : List ℕ) → OpensTo a y → y ≡ octets
-      pub fits : length octets ≡ needOf a
-      pub stands : In (saFrom a octets) l
+    abbrev pub New : List Sa → GroupSaPolicy → Type 0
+    New l a = NewBy OpensTo l a
 
-    -- the SA of a policy that the frame announces
-    pub record Entered (b : Sa) : Type 0 where
-      pub policy : GroupSaPolicy
-      pub stands : In policy (announced f)
-      pub octets : List ℕ
-      pub opens : OpensTo policy octets
-      pub every : (y : List ℕ) → OpensTo policy y → y ≡ octets
-      pub fits : length octets ≡ needOf policy
-      pub is : b ≡ saFrom policy octets
+    abbrev pub Entered : Sa → Type 0
+    Entered b = EnteredBy OpensTo f b
 
     module _ (next : State) (after : After limits s now lent f next) (none : EightOf limits s now lent f → ⊥) where
       abbrev roots : List Root

@@ -1,10 +1,11 @@
 -- WHAT THE CUSTOMER DEMANDS, as theorems of the definition of the outcome.
 use native.Mathlib.Omega.{arith}
 use Prim.Native.Nat.{ℕ, zero, suc, _≤_, _<_}
-use mathlib.Core.Path.{_≡_, refl, sym, subst}
+use mathlib.Core.Path.{_≡_, refl, ap, sym, subst}
 use mathlib.Core.Bool.{true, false}
 use mathlib.Core.Logic.{_⊎_, inl, inr, ⊎-elim, _↔_}
 use mathlib.Core.List.{List, [], _∷_}
+use borrow.Author.Tests.{not-false}
 use lib.ListN.{length}
 use Rattle.octets.specs.Walk.{whole, broken}
 use Rattle.keys.specs.Limits.{Limits}
@@ -12,6 +13,7 @@ use Rattle.keys.specs.Kinds.{padded}
 use Rattle.keys.proofs.Cases.{lt-cases}
 use Rattle.policies.specs.Policy.{GroupSaPolicy}
 use Rattle.frames.specs.Frame.{Frame, frame}
+use Rattle.frames.specs.declared.exchanges.Exchange.{Exchange}
 use Rattle.sa.specs.declared.entry.Sa.{Sa}
 use Rattle.sa.specs.Entry.{isLive}
 use Rattle.table.specs.Table.{sasOf}
@@ -20,22 +22,28 @@ use Rattle.state.specs.declared.held.HeldKey.{HeldKey}
 use Rattle.state.specs.Held.{keysOf}
 use Rattle.clauses.specs.Contents.{rowOf, announced, wrapKeysOf}
 use Rattle.clauses.specs.Fitness.{isEsp, encryptionOctets, keyWrapOctets}
+use Rattle.clauses.specs.Number2.{two-ofFrame}
+use Rattle.clauses.specs.Number4.{four-ofFrame}
+use Rattle.clauses.specs.Refusals.{two, four}
+use Rattle.clauses.proofs.Clear.{no-clause}
 use Rattle.chains.specs.Chain.{In, Root}
 use Rattle.outcome.specs.Roots.{rootsOf, entriesOf, wrappingSize}
 use Rattle.outcome.specs.Answer.{NineOf}
 use Rattle.outcome.specs.After.{leastAfterwards}
 use Rattle.outcome.specs.Outcome.{Outcome, no-layout}
-use Rattle.outcome.proofs.Meets.{Meets, at-most-9, nine-met, Refused, Accepted, refused-is, is-refused, refused-layout}
-use Rattle.outcome.proofs.Meets.{accepted-is, is-accepted}
+use Rattle.outcome.proofs.Meets.{Meets, meets-2, meets-4, at-most-9, nine-met, Refused, Accepted}
+use Rattle.outcome.proofs.Meets.{refused-is, is-refused, refused-layout, accepted-is, is-accepted}
 use Rattle.outcome.proofs.Enters.{enters-live, enters-cut, Stayed}
 use Rattle.outcome.proofs.Answering.{accepts}
-use Rattle.outcome.proofs.Rows.{registers, rekeys, lentRoot, lent-roots, lent-size}
+use Rattle.outcome.proofs.RunsClear.{none-applies}
+use Rattle.outcome.proofs.Rows.{Registration, registration-row, rekeys, one-of-three, no-wrap-key, lentRoot}
+use Rattle.outcome.proofs.Rows.{lent-roots, lent-size}
 use Rattle.outcome.proofs.NotRead.{same-outcome}
 use Rattle.outcome.proofs.NamedKey.{OpensUnder, to-under, under-to}
 use Rattle.outcome.proofs.Bags.{OfMemberBags, entry-own, passed-stand}
 use Rattle.outcome.proofs.HeldList.{registration-sets, rekey-leaves, HeldExactly, held-exactly}
 use Rattle.outcome.proofs.Accepting.{OpensTo, HasCopy, nine-policy, entries-fit, after-opens, whole-accepted}
-use Rattle.outcome.proofs.Accepting.{New, Entered, new-stands, stands-as, as-stands}
+use Rattle.outcome.proofs.Accepting.{NewBy, EnteredBy, new-by, entered-by, new-stands, stands-as, as-stands}
 
 module _ (limits : Limits) (s : State) (now : ℕ) (lent octets : List ℕ) where
   -- ---- DEMAND 1
@@ -74,19 +82,50 @@ module _ (limits : Limits) (s : State) (now : ℕ) (lent octets : List ℕ) wher
   module _ (f : Frame) (e : frame octets ≡ whole f []) where
     -- "After an accepted registration the held list has exactly the Key IDs to which a chain of one or more entries leads from the lent
     -- default key, wherever the entries stand in the frame: each once, rising, with the value that every chain ending on it gives."
-    pub held-after-registration : (next : State) → Outcome limits s now lent octets 0 next → rowOf f .holds ≡ true →
+    pub held-after-registration : (next : State) → Outcome limits s now lent octets 0 next → Registration f →
         HeldExactly (lentRoot lent) (wrapKeysOf f) (length lent) (next .held)
     held-after-registration next o registration =
         let a = whole-accepted limits s now lent octets f e next o in
-        let r = registers (f .header .exchange) registration in
-        let h = registration-sets (rowOf f .holds) _ _ registration (a .1 .held) in
+        let r = registration-row f registration in
+        let h = registration-sets (rowOf f .holds) _ _ (ap (λ (x : Exchange). x .holds) r) (a .1 .held) in
         let none = entries-fit limits s now lent f (accepts limits s now lent f (a .0) .no-eight) in
         subst (λ (l : List Root). HeldExactly l (wrapKeysOf f) (length lent) (next .held)) (lent-roots limits s now f r lent)
         (subst (λ (n : ℕ). HeldExactly (rootsOf limits s now lent f) (wrapKeysOf f) n (next .held)) (lent-size limits s now f r lent)
         (held-exactly (rootsOf limits s now lent f) (entriesOf f) (wrappingSize limits s now lent f) none limits (next .held) h))
 
+    -- ---- what opens a copy
+    passes-2-and-4 : (Meets limits s now lent octets 2 → ⊥) → (Meets limits s now lent octets 4 → ⊥) →
+        Registration f ⊎ ((f .header .exchange ≡ 41) × (wrapKeysOf f ≡ []))
+    unfolding four-ofFrame
+    passes-2-and-4 no-2 no-4 =
+        let x = f .header .exchange in
+        let n = none-applies (two limits s now x (f .header .spi)) (λ h. no-2 (meets-2 f e h)) in
+        let m = none-applies (four f) (λ h. no-4 (meets-4 f e h)) in
+        ⊎-elim inl (λ r. inr (r, no-wrap-key f r (no-clause (four-ofFrame f) 1 (m .ofFrame))))
+        (one-of-three f (not-false (rowOf f .admitted) (no-clause (two-ofFrame x) 0 (n .ofFrame))))
+
+    -- NO CONFUSION OF KEYS: "A group's key and a tree key are both attribute 1 with the same layout, and their wrapped forms can be equally
+    -- long." What a copy of an announced SA's key opens to comes from an SA_KEY of a Group Key Bag with its own protocol and SPI, opened
+    -- under the key its KWK ID names, "be it key 0, the last key of such a chain or, in a rekey, a key the member held", and from nowhere
+    -- else
+    module _ (no-2 : Meets limits s now lent octets 2 → ⊥) (no-4 : Meets limits s now lent octets 4 → ⊥) where
+      to : (a : GroupSaPolicy) (x : List ℕ) → OpensTo limits s now lent f a x → OpensUnder limits s now lent f a x
+      to = to-under limits s now lent f (passes-2-and-4 no-2 no-4)
+
+      pub copies-of-own-bag : (a : GroupSaPolicy) (x : List ℕ) → OpensTo limits s now lent f a x ↔ OpensUnder limits s now lent f a x
+      copies-of-own-bag a x = (to a x, under-to limits s now lent f a x)
+
+    -- "a copy of its key that opens under the key its KWK ID names, be it key 0, the last key of such a chain or, in a rekey, a key the
+    -- member held"
+    abbrev pub Copy : GroupSaPolicy → Type 0
+    Copy a = (x : List ℕ) × OpensUnder limits s now lent f a x
+
+    copy-has : (a : GroupSaPolicy) → Copy a → HasCopy limits s now lent f a
+    copy-has a c = (c .0, under-to limits s now lent f a (c .0) (c .1))
+
     -- "A frame that meets none of refusals 1 to 8 is accepted exactly when each SA it announces has a copy of its key that opens under the
-    -- key its KWK ID names ..; otherwise it is refused as number 9."
+    -- key its KWK ID names, be it key 0, the last key of such a chain or, in a rekey, a key the member held; otherwise it is refused as
+    -- number 9."
     module _ (none : (m : ℕ) → m < 9 → Meets limits s now lent octets m → ⊥) where
       pub accepted-or-9 : (n : ℕ) (next : State) → Outcome limits s now lent octets n next → (n ≡ 0) ⊎ (n ≡ 9)
       accepted-or-9 zero next o = inl refl
@@ -102,68 +141,90 @@ module _ (limits : Limits) (s : State) (now : ℕ) (lent octets : List ℕ) wher
           nine-met limits s now lent octets f e (subst (Meets limits s now lent octets) q m)
 
       opens-at-0 : (n : ℕ) (next : State) → Outcome limits s now lent octets n next → n ≡ 0 → (a : GroupSaPolicy) → In a (announced f) →
-          HasCopy limits s now lent f a
-      opens-at-0 n next o q =
-          after-opens limits s now lent f next
-          (whole-accepted limits s now lent octets f e next (subst (λ (k : ℕ). Outcome limits s now lent octets k next) q o) .1)
+          Copy a
+      opens-at-0 n next o q a m =
+          let h = after-opens limits s now lent f next
+          (whole-accepted limits s now lent octets f e next (subst (λ (k : ℕ). Outcome limits s now lent octets k next) q o) .1) a m in
+          (h .0, to (none 2 (omega arith)) (none 4 (omega arith)) a (h .0) (h .1))
+
+      unopened : (n : ℕ) (next : State) → Outcome limits s now lent octets n next → n ≡ 9 →
+          (a : GroupSaPolicy) × In a (announced f) × (Copy a → ⊥)
+      unopened n next o q =
+          let x = nine-policy limits s now lent f (met-9 n next o q) in (x .0, x .1, λ c. x .2 (copy-has (x .0) c))
 
       pub accepted-when-each-opens : (n : ℕ) (next : State) → Outcome limits s now lent octets n next →
-          (n ≡ 0) ↔ ((a : GroupSaPolicy) → In a (announced f) → HasCopy limits s now lent f a)
+          (n ≡ 0) ↔ ((a : GroupSaPolicy) → In a (announced f) → Copy a)
       accepted-when-each-opens n next o = (
         opens-at-0 n next o,
         λ each.
             ⊎-elim (λ q. q)
-            (λ q. let x = nine-policy limits s now lent f (met-9 n next o q) in absurd (x .2 (each (x .0) (x .1))))
+            (λ q. let x = unopened n next o q in absurd (x .2 (each (x .0) (x .1))))
             (accepted-or-9 n next o),
       )
 
       pub refused-when-one-does-not : (n : ℕ) (next : State) → Outcome limits s now lent octets n next →
-          (n ≡ 9) ↔ ((a : GroupSaPolicy) × In a (announced f) × (HasCopy limits s now lent f a → ⊥))
+          (n ≡ 9) ↔ ((a : GroupSaPolicy) × In a (announced f) × (Copy a → ⊥))
       refused-when-one-does-not n next o = (
-        λ q. nine-policy limits s now lent f (met-9 n next o q),
+        unopened n next o,
         λ x. ⊎-elim (λ q. absurd (x .2 (opens-at-0 n next o q (x .0) (x .1)))) (λ q. q) (accepted-or-9 n next o),
       )
 
-    -- "On acceptance each of those SAs stands in the table as document 01 enters it, with the octets that every such copy opens to" and of
-    -- the size that its policy needs
-    pub each-stands : (next : State) → Outcome limits s now lent octets 0 next → (p : GroupSaPolicy) → In p (announced f) →
-        New limits s now lent f (sasOf (next .table)) p
-    each-stands next o p m =
-        let a = whole-accepted limits s now lent octets f e next o in
-        let none = accepts limits s now lent f (a .0) .no-eight in
-        new-stands limits s now lent f next (a .1) none p m
+    -- ---- after acceptance
+    -- an announced SA that stands in the table with the octets that every copy that opens gives, of the size that its policy needs
+    abbrev pub Standing : State → GroupSaPolicy → Type 0
+    Standing next p = NewBy (OpensUnder limits s now lent f) (sasOf (next .table)) p
+
+    -- an SA of the table that a policy of the frame announces, with these octets
+    abbrev pub Entered : Sa → Type 0
+    Entered b = EnteredBy (OpensUnder limits s now lent f) f b
+
+    module _ (next : State) (o : Outcome limits s now lent octets 0 next) where
+      accepted-to : (a : GroupSaPolicy) (x : List ℕ) → OpensTo limits s now lent f a x → OpensUnder limits s now lent f a x
+      accepted-to = let n = accepted-is limits s now lent octets next o .none in to (n 2) (n 4)
+
+      -- "On acceptance each of those SAs stands in the table as document 01 enters it, with the octets that every such copy opens to"
+      pub each-stands : (p : GroupSaPolicy) → In p (announced f) → Standing next p
+      each-stands p m =
+          let a = whole-accepted limits s now lent octets f e next o in
+          let none = accepts limits s now lent f (a .0) .no-eight in
+          new-by (OpensTo limits s now lent f) (OpensUnder limits s now lent f) accepted-to (under-to limits s now lent f)
+          (sasOf (next .table)) p (new-stands limits s now lent f next (a .1) none p m)
+
+      -- "and the rest of the member is as that document leaves it": the table has no other SAs than these and the old ones that are not
+      -- due (Rest.antt says what becomes of each)
+      pub table-after : (b : Sa) → In b (sasOf (next .table)) ↔ (Entered b ⊎ Stayed s now f b)
+      table-after b =
+          let a = whole-accepted limits s now lent octets f e next o in
+          let none = accepts limits s now lent f (a .0) .no-eight in
+          let P = OpensTo limits s now lent f in
+          let Q = OpensUnder limits s now lent f in
+          let from = under-to limits s now lent f in (
+            λ m. ⊎-elim (λ x. inl (entered-by P Q accepted-to from f b x)) inr (stands-as limits s now lent f next (a .1) none b m),
+            λ m.
+                as-stands limits s now lent f next (a .1) none b
+                (⊎-elim (λ x. inl (entered-by Q P from accepted-to f b x)) inr m),
+          )
+
+      -- a rekey leaves the held list; the least Message ID (Rest.antt gives its cases)
+      pub rest-after : (f .header .exchange ≡ 41 → next .held ≡ s .held) × (next .least ≡ leastAfterwards f)
+      rest-after =
+          let a = whole-accepted limits s now lent octets f e next o .1 in (
+            λ r.
+                rekey-leaves (rowOf f .holds) _ _ (ap (λ (x : Exchange). x .holds) (rekeys (f .header .exchange) r))
+                (a .held),
+            a .least,
+          )
 
     -- "as document 01 enters it": live, and a Rekey SA with the octet counts of its policy's two parts, "44 is 20 + 24 and 28 + 16"
-    pub entered-live : (b : Sa) → Entered limits s now lent f b → isLive (b .condition) ≡ true
+    pub entered-live : (b : Sa) → Entered b → isLive (b .condition) ≡ true
     entered-live b n = rw (n .is) (enters-live (n .policy) (n .octets))
 
-    pub entered-parts : (b : Sa) (n : Entered limits s now lent f b) → isEsp (n .policy) ≡ false →
+    pub entered-parts : (b : Sa) (n : Entered b) → isEsp (n .policy) ≡ false →
         (b .encryption ≡ encryptionOctets (n .policy)) × (b .wrapping ≡ keyWrapOctets (n .policy)) × (b .octets ≡ padded 68 (n .octets))
     entered-parts b n r = rw (n .is) (enters-cut (n .policy) (n .octets) r)
 
-    -- "and the rest of the member is as that document leaves it": the table has no other SAs than these and the old ones that are not due,
-    -- each as it was or, where D, SPI 0 or the new Rekey SA says so, retired
-    pub table-after : (next : State) → Outcome limits s now lent octets 0 next → (b : Sa) →
-        In b (sasOf (next .table)) ↔ (Entered limits s now lent f b ⊎ Stayed s now f b)
-    table-after next o b =
-        let a = whole-accepted limits s now lent octets f e next o in
-        let none = accepts limits s now lent f (a .0) .no-eight in
-        (stands-as limits s now lent f next (a .1) none b, as-stands limits s now lent f next (a .1) none b)
-
-    pub rest-after : (next : State) → Outcome limits s now lent octets 0 next →
-        (rowOf f .holds ≡ false → next .held ≡ s .held) × (next .least ≡ leastAfterwards f)
-    rest-after next o =
-        let a = whole-accepted limits s now lent octets f e next o .1 in (λ r. rekey-leaves (rowOf f .holds) _ _ r (a .held), a .least)
-
-    -- ---- NO CONFUSION OF KEYS: "A group's key and a tree key are both attribute 1 with the same layout, and their wrapped forms can be
-    -- equally long."
-    -- what a copy of an announced SA's key opens to comes from an SA_KEY of a Group Key Bag with its own protocol and SPI, opened under the
-    -- key its KWK ID names, "be it key 0, the last key of such a chain or, in a rekey, a key the member held", and from nowhere else
-    pub copies-of-own-bag : (a : GroupSaPolicy) (x : List ℕ) → OpensTo limits s now lent f a x ↔ OpensUnder limits s now lent f a x
-    copies-of-own-bag a x = (to-under limits s now lent f a x, under-to limits s now lent f a x)
-
     -- a held value of an accepted registration is what a chain gives whose entries are all WRAP_KEYs of Member Key Bags
-    pub held-of-member-bags : (next : State) → Outcome limits s now lent octets 0 next → rowOf f .holds ≡ true → (k : HeldKey) →
+    pub held-of-member-bags : (next : State) → Outcome limits s now lent octets 0 next → Registration f → (k : HeldKey) →
         In k (keysOf (next .held)) → OfMemberBags lent f k
     held-of-member-bags next o registration k m =
         let h = held-after-registration next o registration in

@@ -4,7 +4,6 @@ use Prim.Native.Nat.{ℕ, suc}
 use mathlib.Core.Path.{_≡_, refl, ap, ap₂, sym, _∙_, subst}
 use mathlib.Core.Bool.{Bool, true, false}
 use mathlib.Core.List.{List, [], _∷_}
-use borrow.Author.Tests.{le-ltb}
 use Rattle.keys.specs.Limits.{Limits}
 use Rattle.keys.specs.Kinds.{wrappingOf}
 use Rattle.attributes.specs.Tree.{WrapKey}
@@ -15,7 +14,7 @@ use Rattle.state.specs.declared.State.{State}
 use Rattle.state.specs.declared.held.HeldKey.{HeldKey}
 use Rattle.state.specs.declared.held.Held.{Held}
 use Rattle.state.specs.Held.{heldOf, idBefore}
-use Rattle.state.proofs.Kept.{id-trans}
+use Rattle.state.proofs.Kept.{id-trans, id-irrefl}
 use Rattle.clauses.specs.Contents.{rowOf, announced}
 use Rattle.chains.specs.Chain.{In, Root}
 use Rattle.chains.proofs.Determined.{key-one}
@@ -34,9 +33,6 @@ module _ (roots : List Root) (entries : List WrapKey) (size : ℕ) where
   enter-one f [] _ _ no-sa no-sa = refl
   enter-one f (a ∷ l) _ _ (one-more {m = m} x k e) (one-more {m = n} y j d) =
       ap₂ (λ (z : List ℕ) (q : List Sa). saFrom a z ∷ q) (key-one roots entries size (announcedAs f a) x y k j) (enter-one f l m n e d)
-
-  pub id-irrefl : (a : HeldKey) → idBefore a a ≡ false
-  id-irrefl a = le-ltb (a .id) (a .id) (omega arith)
 
   -- a key of one list stands in any other that has every value
   module _ (limits : Limits) (h k : Held) (p : HeldAre roots entries size limits h) (q : HeldAre roots entries size limits k) where

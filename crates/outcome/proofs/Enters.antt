@@ -1,7 +1,7 @@
 -- What stands in the table after acceptance: the announced SAs, each with the octets of its key, and the old ones that are not due.
 use mathlib.Core.Path.{_≡_, refl, ap, sym, subst}
 use Prim.Native.Nat.{ℕ}
-use mathlib.Core.Bool.{Bool, true, false, not, _||_}
+use mathlib.Core.Bool.{true, false, not}
 use mathlib.Core.Logic.{_⊎_, inl, inr, ⊎-elim}
 use mathlib.Core.List.{List, [], _∷_}
 use borrow.Author.Tests.{not-true}
@@ -14,14 +14,14 @@ use Rattle.policies.specs.Policy.{GroupSaPolicy}
 use Rattle.frames.specs.Frame.{Frame}
 use Rattle.sa.specs.Entry.{before, isLive, due, espSa, rekeySa}
 use Rattle.sa.specs.declared.entry.Sa.{Sa}
-use Rattle.table.specs.Table.{sasOf, stays, retiredIf}
+use Rattle.table.specs.Table.{sasOf, stays}
 use Rattle.state.specs.declared.State.{State}
 use Rattle.clauses.specs.Fitness.{isEsp, encryptionOctets, keyWrapOctets}
 use Rattle.clauses.specs.Number2.{standing}
 use Rattle.chains.specs.Chain.{In, Root}
 use Rattle.chains.specs.Refusals.{KeyOf}
 use Rattle.outcome.specs.Roots.{announcedAs}
-use Rattle.outcome.specs.After.{delayOf, namedInDelete, replaced, oldSas, saFrom, insertAll, Enter, no-sa, one-more}
+use Rattle.outcome.specs.After.{oldSa, oldSas, saFrom, insertAll, Enter, no-sa, one-more}
 use Rattle.chains.proofs.Members.{in-member, member-in}
 use Rattle.outcome.proofs.Members.{in-head, in-tail, in-cases, not-in-none, in-keep, keep-in, in-map, map-in}
 
@@ -93,25 +93,21 @@ module _ (b : Sa) where
 
 -- ---- the old ones
 module _ (s : State) (now : ℕ) (f : Frame) where
-  -- those that the frame retires, if they are live
-  abbrev pub retires : Sa → Bool
-  retires a = namedInDelete f a || replaced f a
-
   pub record Stayed (b : Sa) : Type 0 where
     pub old : Sa
     pub stood : In old (sasOf (s .table))
     pub not-due : due now old ≡ false
-    pub is : b ≡ retiredIf retires now (delayOf f) old
+    pub is : b ≡ oldSa now f old
 
   pub old-stayed : (b : Sa) → In b (oldSas s now f) → Stayed b
   unfolding oldSas
   old-stayed b i =
-      let r = in-map (retiredIf retires now (delayOf f)) b (standing now s) i in
+      let r = in-map (oldSa now f) b (standing now s) i in
       let k = in-keep (r .item) (stays now) (sasOf (s .table)) (r .stands) in
       record { old = r .item; stood = k .0; not-due = not-true (due now (r .item)) (k .1); is = r .is }
 
   pub stayed-old : (b : Sa) → Stayed b → In b (oldSas s now f)
   unfolding oldSas
   stayed-old b r =
-      map-in (retiredIf retires now (delayOf f)) b (standing now s) (r .old)
+      map-in (oldSa now f) b (standing now s) (r .old)
       (keep-in (r .old) (stays now) (sasOf (s .table)) (r .stood) (ap not (r .not-due))) (r .is)

@@ -1,14 +1,15 @@
 -- The held list that a registration sets, by chains alone.
-use Prim.Native.Nat.{ℕ}
+use Prim.Native.Nat.{ℕ, _-_}
 use mathlib.Core.Path.{_≡_, refl, ap, sym, _∙_, subst}
 use mathlib.Core.Bool.{Bool, true, false, false≢true}
 use mathlib.Core.List.{List}
 use lib.Dec.{eqb}
-use lib.ListN.{length}
+use lib.ListN.{length, replicate}
+use lib.Seq.{take-append-seam}
 use borrow.Author.Tests.{eqb-true, eqb-false}
 use Rattle.keys.specs.Lists.{rising}
 use Rattle.keys.specs.Limits.{Limits}
-use Rattle.keys.specs.Kinds.{wrappingOf}
+use Rattle.keys.specs.Kinds.{valueOf, wrappingOf}
 use Rattle.keys.proofs.Cases.{bool-cases}
 use Rattle.attributes.specs.Tree.{WrapKey}
 use Rattle.state.specs.declared.held.HeldKey.{HeldKey}
@@ -43,6 +44,7 @@ module _ (roots : List Root) (entries : List WrapKey) (size : ℕ) where
     pub each : (i : ℕ) (x : List ℕ) → Reached roots entries size i x → (k : HeldKey) × In k (keysOf h) × (k .id ≡ i)
     -- "with the value that every chain ending on it gives", of the size that a wrapping key needs
     pub value : (k : HeldKey) → In k (keysOf h) → (x : List ℕ) → Reached roots entries size (k .id) x → k .key ≡ wrappingOf x
+    pub octets : (k : HeldKey) → In k (keysOf h) → (x : List ℕ) → Reached roots entries size (k .id) x → valueOf (k .key) ≡ x
     pub fits : (i : ℕ) (x : List ℕ) → Reached roots entries size i x → length x ≡ size
 
   module _ (none : EntriesEight roots entries size → ⊥) where
@@ -53,6 +55,8 @@ module _ (roots : List Root) (entries : List WrapKey) (size : ℕ) where
     held-exactly limits h a =
         let e : keysOf h ≡ a .keys = ap keysOf (a .is) ∙ keys-of-held limits (a .keys) in
         let into : (k : HeldKey) → In k (keysOf h) → In k (a .keys) = λ k m. subst (In k) e m in
+        let is : (k : HeldKey) → In k (keysOf h) → (x : List ℕ) → Reached roots entries size (k .id) x → k .key ≡ wrappingOf x =
+        λ k m x r. let v = a .each k (into k m) in v .key-is ∙ ap wrappingOf (sym (v .value .every x r)) in
         record {
           rise = subst (λ (l : List HeldKey). rising idBefore l ≡ true) (sym e) (a .rise);
           only = λ k m. let v = a .each k (into k m) in (v .x, v .value .reached);
@@ -62,6 +66,7 @@ module _ (roots : List Root) (entries : List WrapKey) (size : ℕ) where
                 (a .all i x (every-value i x r)),
             refl,
           );
-          value = λ k m x r. let v = a .each k (into k m) in v .key-is ∙ ap wrappingOf (sym (v .value .every x r));
+          value = is;
+          octets = λ k m x r. ap valueOf (is k m x r) ∙ take-append-seam x (replicate (32 - length x) 0);
           fits = λ i x r. not-other (length x) size (λ f. none (refusals.wrong-size i x r f));
         }

@@ -22,6 +22,12 @@ pub mod RunsOld
 pub mod RunsAccepted
 pub mod RunsHeld
 pub mod Runs
+pub mod RestSays
+pub mod RestSpis
+pub mod RestLaws
+pub mod Rest
+pub mod Asked
+pub mod OwnKey
 pub mod RunsLive
 pub mod RunsReplay
 pub mod SamplesAnswers
@@ -32,3 +38,4 @@ pub mod SamplesTaken
 pub mod SamplesEntries
 pub mod SamplesHold
 pub mod SamplesRead
+pub mod SamplesInhabited

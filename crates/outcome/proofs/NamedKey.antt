@@ -1,22 +1,25 @@
 -- The key that a KWK ID names, and what a copy of an announced SA's key opens to, in the customer's words.
 use Prim.Native.Nat.{ℕ}
-use mathlib.Core.Path.{_≡_, refl, ap, sym, subst}
+use mathlib.Core.Path.{_≡_, refl, ap, sym, _∙_, subst}
 use mathlib.Core.Bool.{Bool, true, false, cond, false≢true}
 use mathlib.Core.Logic.{_⊎_, ⊎-elim}
 use mathlib.Core.List.{List, [], _∷_, map}
+use lib.ListN.{length}
 use Rattle.keys.specs.Limits.{Limits}
 use Rattle.keywrap.specs.Opens.{Opens}
 use Rattle.attributes.specs.Tree.{SaKey}
 use Rattle.policies.specs.Policy.{GroupSaPolicy}
 use Rattle.frames.specs.Frame.{Frame}
+use Rattle.frames.specs.declared.exchanges.Exchange.{Exchange}
 use Rattle.state.specs.declared.State.{State}
 use Rattle.state.specs.declared.held.HeldKey.{HeldKey}
 use Rattle.state.specs.Held.{keysOf}
-use Rattle.clauses.specs.Contents.{rowOf}
+use Rattle.clauses.specs.Contents.{rowOf, wrapKeysOf}
 use Rattle.chains.specs.Chain.{In, Root, root, Reached, Ends}
-use Rattle.chains.proofs.Determined.{ends-by}
+use Rattle.chains.proofs.Determined.{ends-by, last-entry}
 use Rattle.keys.specs.Kinds.{valueOf}
-use Rattle.outcome.specs.Roots.{keyZero, heldRoot, rootsOf, entriesOf, wrappingSize}
+use Rattle.outcome.specs.Roots.{ownKey, keyZero, heldRoot, rootsOf, entriesOf, wrappingSize}
+use Rattle.outcome.proofs.Rows.{names-held, Registration, registration-row, rekeys, lentRoot, lent-roots, lent-size}
 use Rattle.outcome.proofs.Members.{in-head, in-tail, in-cases, not-in-none, in-map, map-in}
 use Rattle.outcome.proofs.Bags.{InOwnBag, copy-own, own-copy}
 use Rattle.outcome.proofs.Accepting.{OpensTo}
@@ -31,11 +34,13 @@ cond-in a true l e m = m
 cond-in a false l e m = absurd (false≢true e)
 
 module _ (limits : Limits) (s : State) (now : ℕ) (lent : List ℕ) (f : Frame) where
-  -- "be it key 0, the last key of such a chain or, in a rekey, a key the member held"
+  -- "be it key 0, the last key of such a chain or, in a rekey, a key the member held". Key 0 is the lent default key in a registration and
+  -- "the live Rekey SA's own" in a rekey
   pub data Named (k : ℕ) (v : List ℕ) : Type 0 where
-    key-0 : k ≡ 0 → v ≡ keyZero limits s now lent f → Named k v
-    last-of-chain : Reached (rootsOf limits s now lent f) (entriesOf f) (wrappingSize limits s now lent f) k v → Named k v
-    held-key : rowOf f .named ≡ true → (h : HeldKey) → In h (keysOf (s .held)) → h .id ≡ k → valueOf (h .key) ≡ v → Named k v
+    lent-key : Registration f → k ≡ 0 → v ≡ lent → Named k v
+    own-key : f .header .exchange ≡ 41 → k ≡ 0 → v ≡ ownKey limits s now → Named k v
+    last-of-chain : Registration f → Reached (lentRoot lent) (wrapKeysOf f) (length lent) k v → Named k v
+    held-key : f .header .exchange ≡ 41 → (h : HeldKey) → In h (keysOf (s .held)) → h .id ≡ k → valueOf (h .key) ≡ v → Named k v
 
   -- "its SA_KEY attributes, opened under the key their KWK ID names"
   pub record OpensUnder (a : GroupSaPolicy) (x : List ℕ) : Type 0 where
@@ -57,16 +62,13 @@ module _ (limits : Limits) (s : State) (now : ℕ) (lent : List ℕ) (f : Frame)
   abbrev zero-root : Root
   zero-root = record { id = 0; value = keyZero limits s now lent f }
 
-  -- the roots by their meaning
-  root-named : (r : Root) → In r roots → Named (r .id) (r .value)
-  unfolding rootsOf
-  root-named r m =
-      ⊎-elim (λ e. key-0 (ap (λ (x : Root). x .id) e) (ap (λ (x : Root). x .value) e))
-      (λ i.
-      let c = in-cond r (rowOf f .named) held i in
-      let h = in-map heldRoot r (keysOf (s .held)) (c .1) in
-      held-key (c .0) (h .item) (h .stands) (ap (λ (x : Root). x .id) (sym (h .is))) (ap (λ (x : Root). x .value) (sym (h .is))))
-      (in-cases r zero-root (cond (rowOf f .named) held []) m)
+  zero-lent : Registration f → keyZero limits s now lent f ≡ lent
+  unfolding keyZero
+  zero-lent g = rw (registration-row f g)
+
+  zero-own : f .header .exchange ≡ 41 → keyZero limits s now lent f ≡ ownKey limits s now
+  unfolding keyZero
+  zero-own x = rw (rekeys (f .header .exchange) x)
 
   zero-in : In zero-root roots
   unfolding rootsOf
@@ -83,26 +85,27 @@ module _ (limits : Limits) (s : State) (now : ℕ) (lent : List ℕ) (f : Frame)
       subst (λ (n : ℕ). Ends roots (entriesOf f) size n v) (sym e)
       (subst (λ (x : List ℕ). Ends roots (entriesOf f) size (r .id) x) (sym d) (record { passed = []; chain = root r m }))
 
-  pub ends-named : (k : ℕ) (v : List ℕ) → Ends roots (entriesOf f) size k v → Named k v
-  ends-named k v n =
-      ⊎-elim
-      (λ a. subst (λ (i : ℕ). Named i v) (a .id-is) (subst (Named (a .key .id)) (a .value-is) (root-named (a .key) (a .stands))))
-      (λ r. last-of-chain r) (ends-by roots (entriesOf f) size (n .passed) k v (n .chain))
+  -- in a registration chains start with the lent key alone
+  from-lent : Registration f → (k : ℕ) (v : List ℕ) → Reached (lentRoot lent) (wrapKeysOf f) (length lent) k v →
+      Reached roots (entriesOf f) size k v
+  from-lent g k v r =
+      let row = registration-row f g in
+      subst (λ (l : List Root). Reached l (entriesOf f) size k v) (sym (lent-roots limits s now f row lent))
+      (subst (λ (n : ℕ). Reached (lentRoot lent) (entriesOf f) n k v) (sym (lent-size limits s now f row lent)) r)
+
+  to-lent : Registration f → (k : ℕ) (v : List ℕ) → Reached roots (entriesOf f) size k v →
+      Reached (lentRoot lent) (wrapKeysOf f) (length lent) k v
+  to-lent g k v r =
+      let row = registration-row f g in
+      subst (λ (l : List Root). Reached l (entriesOf f) (length lent) k v) (lent-roots limits s now f row lent)
+      (subst (λ (n : ℕ). Reached roots (entriesOf f) n k v) (lent-size limits s now f row lent) r)
 
   pub named-ends : (k : ℕ) (v : List ℕ) → Named k v → Ends roots (entriesOf f) size k v
-  named-ends k v (key-0 e d) = at-root zero-root zero-in k v e d
-  named-ends k v (last-of-chain r) = record { passed = r .last ∷ r .before; chain = r .chain }
-  named-ends k v (held-key e h m q d) = at-root (heldRoot h) (held-in e h m) k v (sym q) (sym d)
-
-  pub to-under : (a : GroupSaPolicy) (x : List ℕ) → OpensTo limits s now lent f a x → OpensUnder a x
-  to-under a x o =
-      record {
-        copy = o .copy;
-        own = copy-own f a (o .copy) (o .stands);
-        value = o .value;
-        named = ends-named (o .copy .kwkId) (o .value) (o .named);
-        opens = o .opens;
-      }
+  named-ends k v (lent-key g e d) = at-root zero-root zero-in k v e (d ∙ sym (zero-lent g))
+  named-ends k v (own-key x e d) = at-root zero-root zero-in k v e (d ∙ sym (zero-own x))
+  named-ends k v (last-of-chain g c) = let r = from-lent g k v c in record { passed = r .last ∷ r .before; chain = r .chain }
+  named-ends k v (held-key e h m q d) =
+      at-root (heldRoot h) (held-in (ap (λ (x : Exchange). x .named) (rekeys (f .header .exchange) e)) h m) k v (sym q) (sym d)
 
   pub under-to : (a : GroupSaPolicy) (x : List ℕ) → OpensUnder a x → OpensTo limits s now lent f a x
   under-to a x o =
@@ -113,3 +116,42 @@ module _ (limits : Limits) (s : State) (now : ℕ) (lent : List ℕ) (f : Frame)
         named = named-ends (o .copy .kwkId) (o .value) (o .named);
         opens = o .opens;
       }
+
+  -- numbers 2 and 4 let pass registrations, and rekeys with no WRAP_KEY: of these nothing else opens a copy
+  module _ (fit : Registration f ⊎ ((f .header .exchange ≡ 41) × (wrapKeysOf f ≡ []))) where
+    -- the roots by their meaning
+    zero-named : (k : ℕ) (v : List ℕ) → k ≡ 0 → v ≡ keyZero limits s now lent f → Named k v
+    zero-named k v e d = ⊎-elim (λ g. lent-key g e (d ∙ zero-lent g)) (λ q. own-key (q .0) e (d ∙ zero-own (q .0))) fit
+
+    root-named : (r : Root) → In r roots → Named (r .id) (r .value)
+    unfolding rootsOf
+    root-named r m =
+        ⊎-elim (λ e. zero-named (r .id) (r .value) (ap (λ (x : Root). x .id) e) (ap (λ (x : Root). x .value) e))
+        (λ i.
+        let c = in-cond r (rowOf f .named) held i in
+        let h = in-map heldRoot r (keysOf (s .held)) (c .1) in
+        let is = sym (h .is) in
+        held-key (names-held (f .header .exchange) (c .0)) (h .item) (h .stands) (ap (λ (x : Root). x .id) is)
+        (ap (λ (x : Root). x .value) is))
+        (in-cases r zero-root (cond (rowOf f .named) held []) m)
+
+    reached-named : (k : ℕ) (v : List ℕ) → Reached roots (entriesOf f) size k v → Named k v
+    reached-named k v r =
+        ⊎-elim (λ g. last-of-chain g (to-lent g k v r))
+        (λ q. absurd (not-in-none (r .last) (subst (In (r .last)) (q .1) (last-entry roots (entriesOf f) size k v r .0)))) fit
+
+    pub ends-named : (k : ℕ) (v : List ℕ) → Ends roots (entriesOf f) size k v → Named k v
+    ends-named k v n =
+        ⊎-elim
+        (λ a. subst (λ (i : ℕ). Named i v) (a .id-is) (subst (Named (a .key .id)) (a .value-is) (root-named (a .key) (a .stands))))
+        (λ r. reached-named k v r) (ends-by roots (entriesOf f) size (n .passed) k v (n .chain))
+
+    pub to-under : (a : GroupSaPolicy) (x : List ℕ) → OpensTo limits s now lent f a x → OpensUnder a x
+    to-under a x o =
+        record {
+          copy = o .copy;
+          own = copy-own f a (o .copy) (o .stands);
+          value = o .value;
+          named = ends-named (o .copy .kwkId) (o .value) (o .named);
+          opens = o .opens;
+        }

@@ -1,9 +1,12 @@
 -- What an exchange's row makes of the keys that chains start with: in a registration the lent default key alone, in a rekey the live Rekey
 -- SA's default key and the held keys, with the lent key not read.
-use Prim.Native.Nat.{ℕ}
-use mathlib.Core.Path.{_≡_, ap}
+use native.Mathlib.Omega.{arith}
+use Prim.Native.Nat.{ℕ, suc}
+use mathlib.Core.Path.{_≡_, refl, ap}
 use mathlib.Core.Bool.{true, false, false≢true}
+use mathlib.Core.Logic.{_⊎_, inl, inr}
 use mathlib.Core.List.{List, [], _∷_, map}
+use borrow.Author.Tests.{eqb-true, ltb-false}
 use lib.Dec.{eqb}
 use lib.ListN.{length}
 use Rattle.keys.specs.Limits.{Limits}
@@ -12,7 +15,9 @@ use Rattle.frames.specs.Frame.{Frame}
 use Rattle.frames.specs.Exchange.{exchangeOf, registration, rekey}
 use Rattle.state.specs.declared.State.{State}
 use Rattle.state.specs.Held.{keysOf}
-use Rattle.clauses.specs.Contents.{rowOf}
+use Rattle.bags.specs.Bag.{MemberKeyBag}
+use Rattle.clauses.specs.Contents.{rowOf, some, gather, memberBags, wrapKeysOf}
+use Rattle.clauses.specs.Number4.{barredMemberBag}
 use Rattle.clauses.specs.Number5.{lentKeySize}
 use Rattle.chains.specs.Chain.{Root}
 use Rattle.outcome.specs.Roots.{ownKey, keyZero, heldRoot, rootsOf, wrappingSize}
@@ -25,9 +30,45 @@ registers x e =
     bool-cases (eqb x 40) (λ b. rw (a, b))
     (λ b. bool-cases (eqb x 41) (λ c. absurd (false≢true (rw (a, b, c) at e))) (λ c. absurd (false≢true (rw (a, b, c) at e)))))
 
--- exchange type 41 is a rekey
+-- one in which held keys open copies is a rekey
+pub names-held : (x : ℕ) → exchangeOf x .named ≡ true → x ≡ 41
+names-held x e =
+    bool-cases (eqb x 39) (λ a. absurd (false≢true (rw a at e)))
+    (λ a.
+    bool-cases (eqb x 40) (λ b. absurd (false≢true (rw (a, b) at e)))
+    (λ b. bool-cases (eqb x 41) (λ c. eqb-true x 41 c) (λ c. absurd (false≢true (rw (a, b, c) at e)))))
+
+-- "Registration frames (GSA_AUTH, GSA_REGISTRATION responses)": exchange types 39 and 40
+abbrev pub Registration : Frame → Type 0
+Registration f = (f .header .exchange ≡ 39) ⊎ (f .header .exchange ≡ 40)
+
+pub registration-row : (f : Frame) → Registration f → rowOf f ≡ registration
+registration-row f (inl e) = ap exchangeOf e
+registration-row f (inr e) = ap exchangeOf e
+
+-- GSA_REKEY: exchange type 41
 pub rekeys : (x : ℕ) → x ≡ 41 → exchangeOf x ≡ rekey
 rekeys x e = ap exchangeOf e
+
+-- an exchange that number 2 lets pass is one of the three
+pub one-of-three : (f : Frame) → rowOf f .admitted ≡ true → Registration f ⊎ (f .header .exchange ≡ 41)
+one-of-three f e =
+    let x = f .header .exchange in
+    bool-cases (eqb x 39) (λ a. inl (inl (eqb-true x 39 a)))
+    (λ a.
+    bool-cases (eqb x 40) (λ b. inl (inr (eqb-true x 40 b)))
+    (λ b. bool-cases (eqb x 41) (λ c. inr (eqb-true x 41 c)) (λ c. absurd (false≢true (rw (a, b, c) at e)))))
+
+-- "Member bag in a rekey": a rekey that passes number 4 has no WRAP_KEY
+pub no-wrap-key : (f : Frame) → f .header .exchange ≡ 41 → barredMemberBag f ≡ false → wrapKeysOf f ≡ []
+unfolding barredMemberBag gather
+no-wrap-key f x e =
+    let g : some (memberBags f) ≡ false = rw (rekeys (f .header .exchange) x) at e in
+    none-gathered (memberBags f) g
+  where
+    none-gathered : (l : List MemberKeyBag) → some l ≡ false → gather (λ (b : MemberKeyBag). b .keys) l ≡ []
+    none-gathered [] q = refl
+    none-gathered (b ∷ l) q = let h = ltb-false 0 (suc (length l)) q in absurd (omega arith)
 
 -- the lent default key as key 0
 abbrev pub lentRoot : List ℕ → List Root

@@ -41,7 +41,7 @@ pub record None (n : Number) : Type 0 where
   pub ofFrame : one (n .ofFrame) ≡ false
   pub ofMember : one (n .ofMember) ≡ false
 
-none-applies : (n : Number) → (applies n ≡ true → ⊥) → None n
+pub none-applies : (n : Number) → (applies n ≡ true → ⊥) → None n
 none-applies n f =
     let p = or-none (one (n .ofFrame)) (one (n .ofMember)) (not-true (applies n) f) in record { ofFrame = p .0; ofMember = p .1 }
 

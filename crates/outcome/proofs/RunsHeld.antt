@@ -4,7 +4,7 @@ use Prim.Native.Nat.{ℕ, _+_, _-_, _≤_}
 use mathlib.Core.Path.{_≡_, refl, ap, sym, _∙_, subst}
 use mathlib.Core.Bool.{Bool, true, false, not, false≢true}
 use mathlib.Core.List.{List, [], _∷_, List·Memᴰ, List·Memᴰ·head, List·Memᴰ·tail}
-use borrow.Author.Tests.{le-ltb, ltb-true, eq-eqb, ne-eqb, eqb-true, eqb-false}
+use borrow.Author.Tests.{ltb-true, eq-eqb, ne-eqb, eqb-true, eqb-false}
 use lib.Dec.{eqb}
 use lib.ListN.{length, take, replicate}
 use lib.Seq.{take-append-seam}
@@ -21,7 +21,7 @@ use Rattle.state.specs.declared.held.HeldKey.{HeldKey}
 use Rattle.state.specs.declared.held.Held.{Held}
 use Rattle.state.specs.Held.{keysOf, heldOf, keyFormed, idBefore, heldFormed}
 use Rattle.state.specs.Blank.{AllKeysBlank, no-key, one-more}
-use Rattle.state.proofs.Kept.{keys-of-held, id-trans, held-formed}
+use Rattle.state.proofs.Kept.{keys-of-held, id-trans, id-irrefl, held-formed}
 use Rattle.chains.specs.Chain.{Root}
 use Rattle.chains.specs.Refusals.{EntriesEight, wrong-size, Value}
 use Rattle.chains.proofs.Determined.{last-entry}
@@ -32,9 +32,6 @@ use Rattle.outcome.proofs.RunsLists.{none-passes, some-passes, passes-s
 -- ---- keys of rising Key IDs are no more than the entries that have these
 abbrev hasId : ℕ → WrapKey → Bool
 hasId i e = eqb (e .keyId) i
-
-id-irrefl : (a : HeldKey) → idBefore a a ≡ false
-id-irrefl a = le-ltb (a .id) (a .id) (omega arith)
 
 one-less : {A : Type 0} (p : A → Bool) (l : List A) → any p l ≡ true → length (keep (λ (a : A). not (p a)) l) + 1 ≤ length l
 unfolding any keep

@@ -29,17 +29,17 @@ use Rattle.state.proofs.Laws.{swept-yes, swept-no}
 use Rattle.clauses.specs.Contents.{rowOf, announced}
 use Rattle.clauses.specs.Number2.{standing, overLiveRekey, breaksWanted, nonEmptyMember, two-ofFrame, two-ofMember}
 use Rattle.clauses.specs.Number6.{policyNamed}
-use Rattle.outcome.specs.After.{delayOf, newRekey, namedInDelete, replaced, oldSas, insertAll, After}
+use Rattle.outcome.specs.After.{newRekey, namedInDelete, replaced, retires, oldSa, oldSas, insertAll, After}
 use Rattle.outcome.specs.Run.{LiveRekey}
 use Rattle.outcome.proofs.RunsLists.{member-map, all-pass, count-none, none-passes, passes-none, some-passes, passes-some}
 use Rattle.clauses.proofs.Clear.{no-clause}
 use Rattle.outcome.proofs.RunsClear.{Clear}
 use Rattle.outcome.proofs.RunsMade.{made-any}
 use Rattle.outcome.proofs.RunsTable.{any-all}
-use Rattle.outcome.proofs.RunsOld.{retires, old-live, swept-sas}
+use Rattle.outcome.proofs.RunsOld.{old-live, swept-sas}
 use Rattle.outcome.proofs.RunsAccepted.{all-made, new-name}
 
-live-not-due : (now : ℕ) (a : Sa) → liveRekey a ≡ true → due now a ≡ false
+pub live-not-due : (now : ℕ) (a : Sa) → liveRekey a ≡ true → due now a ≡ false
 unfolding liveRekey due
 live-not-due now a e = by (a .condition) (and-parts (eqb (a .protocol) entry.rekey) (isLive (a .condition)) e .1)
   where
@@ -107,7 +107,7 @@ stays-over : (x : List ℕ) (f : Frame) → newRekey f ≡ false → (s : State)
 unfolding oldSas retiredIf
 stays-over x f n s now l =
     let r = some-passes (overLiveRekey x) (standing now s) (live-stands x s now l) in
-    let g = retiredIf (retires f) now (delayOf f) in
+    let g = oldSa now f in
     let e : g (r .one) ≡ r .one = rw (passed-over f n (r .one) (over-parts x (r .one) (r .passes) .0)) in
     passes-some (overLiveRekey x) (oldSas s now f) (g (r .one)) (member-map g (r .one) (standing now s) (r .stands))
     (ap (overLiveRekey x) e ∙ r .passes)

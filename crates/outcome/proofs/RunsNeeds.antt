@@ -30,7 +30,7 @@ pub record OneGives {A : Type 0} (p : A → Bool) (w : A → ℕ) (l : List A) :
   pub is : sum w l ≡ w one
 
 module _ {A : Type 0} (w : A → ℕ) where
-  sum-none : (l : List A) → ((a : A) → List·Memᴰ a l → w a ≡ 0) → sum w l ≡ 0
+  pub sum-none : (l : List A) → ((a : A) → List·Memᴰ a l → w a ≡ 0) → sum w l ≡ 0
   unfolding sum
   sum-none [] f = refl
   sum-none (a ∷ l) f = let e = f a (List·Memᴰ·head refl) in let h = sum-none l (λ b m. f b (List·Memᴰ·tail m)) in omega arith

@@ -12,14 +12,14 @@ use Rattle.frames.specs.Frame.{Frame}
 use Rattle.sa.specs.Entry.{rekey, named, liveRekey, retired}
 use Rattle.sa.specs.declared.entry.Sa.{Sa}
 use Rattle.sa.proofs.Kept.{retired-rekey}
-use Rattle.table.specs.Table.{sasOf, tableOf, tableFormed, swept, stays, notDue, retiredIf, retiredWhere}
+use Rattle.table.specs.Table.{sasOf, tableOf, tableFormed, swept, stays, notDue, changed, retiredIf}
 use Rattle.table.specs.Blank.{TableBlank}
 use Rattle.table.proofs.Laws.{changed-in}
 use Rattle.table.proofs.Kept.{Fit, fit-keep, fit-retired, formed-fit, formed-count, swept-formed, sas-of-table}
 use Rattle.table.proofs.Blanks.{swept-blank, retired-where-blank}
 use Rattle.state.specs.declared.State.{State}
 use Rattle.clauses.specs.Number2.{standing}
-use Rattle.outcome.specs.After.{delayOf, newRekey, namedInDelete, replaced, oldSas}
+use Rattle.outcome.specs.After.{newRekey, namedInDelete, replaced, retires, oldSa, oldSas}
 
 any-map : {A : Type 0} (g : A → A) (q : A → Bool) → ((a : A) → q (g a) ≡ q a) → (l : List A) → any q (map g l) ≡ any q l
 unfolding any
@@ -39,20 +39,16 @@ or-right : (a b : Bool) → (a || b) ≡ false → b ≡ false
 or-right true b e = absurd (false≢true (sym e))
 or-right false b e = e
 
--- those that retire
-abbrev pub retires : Frame → Sa → Bool
-retires f a = namedInDelete f a || replaced f a
-
 module _ (now : ℕ) (f : Frame) where
   still : newRekey f ≡ true → (a : Sa) → replaced f a ≡ false → liveRekey a ≡ false
   unfolding replaced liveRekey
   still n a e = let g : eqb (a .protocol) rekey ≡ false = rw n at e in rw g
 
   -- where the frame announces a Rekey SA, none that stood before is live
-  pub none-live : newRekey f ≡ true → (a : Sa) → liveRekey (retiredIf (retires f) now (delayOf f) a) ≡ false
+  pub none-live : newRekey f ≡ true → (a : Sa) → liveRekey (oldSa now f a) ≡ false
   unfolding retiredIf
   none-live n a =
-      bool-cases (retires f a) (λ g. rw g (retired-rekey now (delayOf f) a))
+      bool-cases (retires f a) (λ g. rw g (retired-rekey _ _ a))
       (λ g. rw g (still n a (or-right (namedInDelete f a) (replaced f a) g)))
 
 pub swept-sas : (limits : Limits) (s : State) (now : ℕ) → tableFormed limits (s .table) ≡ true →
@@ -64,22 +60,22 @@ swept-sas limits s now e =
 module _ (limits : Limits) (s : State) (now : ℕ) (f : Frame) where
   pub old-length : length (oldSas s now f) ≡ length (standing now s)
   unfolding oldSas
-  old-length = length-map (standing now s) (retiredIf (retires f) now (delayOf f))
+  old-length = length-map (standing now s) (oldSa now f)
 
   pub old-names : (p : ℕ) (y : List ℕ) → any (named p y) (oldSas s now f) ≡ any (named p y) (standing now s)
   unfolding oldSas
   old-names p y =
-      any-map (retiredIf (retires f) now (delayOf f)) (named p y) (retired-name (retires f) now (delayOf f) p y) (standing now s)
+      any-map (oldSa now f) (named p y) (retired-name (retires f) _ _ p y) (standing now s)
 
   pub old-live : newRekey f ≡ true → count liveRekey (oldSas s now f) ≡ 0
   unfolding oldSas
-  old-live n = count-never (retiredIf (retires f) now (delayOf f)) liveRekey (none-live now f n) (standing now s)
+  old-live n = count-never (oldSa now f) liveRekey (none-live now f n) (standing now s)
 
   module _ (e : tableFormed limits (s .table) ≡ true) where
-    old-table : retiredWhere limits (retires f) now (delayOf f) (swept limits now (s .table)) ≡ tableOf limits (oldSas s now f)
+    old-table : changed limits (map (oldSa now f)) (swept limits now (s .table)) ≡ tableOf limits (oldSas s now f)
     unfolding oldSas
     old-table =
-        let g = map (retiredIf (retires f) now (delayOf f)) in
+        let g = map (oldSa now f) in
         changed-in limits (swept limits now (s .table)) g
         (formed-count limits (swept limits now (s .table)) (swept-formed limits now (s .table) e))
         ∙ ap (λ (l : List Sa). tableOf limits (g l)) (swept-sas limits s now e)
@@ -87,10 +83,10 @@ module _ (limits : Limits) (s : State) (now : ℕ) (f : Frame) where
     pub old-fit : Fit limits (oldSas s now f)
     unfolding oldSas
     old-fit =
-        fit-retired limits (retires f) now (delayOf f) (standing now s)
+        fit-retired limits (retires f) _ _ (standing now s)
         (fit-keep limits (stays now) (sasOf (s .table)) (formed-fit limits (s .table) e))
 
     pub old-blank : TableBlank limits (s .table) → TableBlank limits (tableOf limits (oldSas s now f))
     old-blank b =
         subst (TableBlank limits) old-table
-        (retired-where-blank limits (retires f) now (delayOf f) (swept limits now (s .table)) (swept-blank limits now (s .table) b))
+        (retired-where-blank limits (retires f) _ _ (swept limits now (s .table)) (swept-blank limits now (s .table) b))

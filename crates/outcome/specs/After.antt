@@ -49,9 +49,17 @@ namedInDelete f s = eqb (s .protocol) esp && any (λ (x : List ℕ). isZero x ||
 unfoldable pub replaced : Frame → Sa → Bool
 replaced f s = newRekey f && eqb (s .protocol) rekey
 
--- "First, SAs due at the tick go"; then these retire, and "retiring ones are passed over" (they keep their start and delay)
+-- those that retire, where they are live: "retiring ones are passed over" (they keep their start and delay)
+abbrev pub retires : Frame → Sa → Bool
+retires f s = namedInDelete f s || replaced f s
+
+-- what becomes of an SA that is not due
+abbrev pub oldSa : ℕ → Frame → Sa → Sa
+oldSa now f = retiredIf (retires f) now (delayOf f)
+
+-- "First, SAs due at the tick go"
 unfoldable pub oldSas : State → ℕ → Frame → List Sa
-oldSas s now f = map (retiredIf (λ (a : Sa). namedInDelete f a || replaced f a) now (delayOf f)) (standing now s)
+oldSas s now f = map (oldSa now f) (standing now s)
 
 -- "The new SAs enter as live": an announced SA with its keying octets x, which a Rekey SA's policy cuts in two
 unfoldable pub saFrom : GroupSaPolicy → List ℕ → Sa

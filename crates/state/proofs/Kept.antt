@@ -34,6 +34,9 @@ pub id-trans : (a b c : HeldKey) → idBefore a b ≡ true → idBefore b c ≡ 
 id-trans a b c e f =
     let p = ltb-true (a .id) (b .id) e in let q = ltb-true (b .id) (c .id) f in lt-ltb (a .id) (c .id) (omega arith)
 
+pub id-irrefl : (a : HeldKey) → idBefore a a ≡ false
+id-irrefl a = le-ltb (a .id) (a .id) (omega arith)
+
 -- a key whose Key ID is new stands before or after each of the list
 pub apart : (a : HeldKey) (l : List HeldKey) → any (λ (k : HeldKey). eqb (k .id) (a .id)) l ≡ false →
     all (λ (k : HeldKey). idBefore a k || idBefore k a) l ≡ true

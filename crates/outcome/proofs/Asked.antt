@@ -1,0 +1,117 @@
+-- WHAT A QUESTION FINDS after an accepted frame: "the keying octets and condition of the SA with a given protocol and SPI".
+use native.Mathlib.Omega.{arith}
+use Prim.Native.Nat.{ℕ, _-_, _≤_}
+use mathlib.Core.Path.{_≡_}
+use mathlib.Core.Bool.{true}
+use mathlib.Core.List.{List, [], _++_}
+use borrow.Author.Tests.{eq-eqb, eqb-true}
+use lib.Dec.{eqb}
+use lib.ListN.{length, take, replicate}
+use lib.Seq.{take-append-seam, take-at}
+use Rattle.octets.specs.Walk.{whole}
+use Rattle.octets.specs.Compare.{same}
+use Rattle.octets.proofs.Order.{eq-same}
+use Rattle.keys.specs.Limits.{Limits}
+use Rattle.keys.proofs.Cases.{and-parts, and-whole}
+use Rattle.policies.specs.Policy.{GroupSaPolicy}
+use Rattle.frames.specs.Frame.{Frame, frame}
+use Rattle.sa.specs.Entry.{spiOf, named, espSa, rekeySa}
+use Rattle.sa.specs.declared.entry.Condition.the-variants.{Live}
+use Rattle.sa.specs.declared.entry.Sa.{Sa}
+use Rattle.table.specs.Table.{tableFormed, sasOf}
+use Rattle.table.proofs.Finds.{sa-found}
+use Rattle.state.specs.declared.State.{State}
+use Rattle.state.specs.Held.{heldFormed}
+use Rattle.state.specs.State.{stateFormed, askedSa}
+use Rattle.clauses.specs.Contents.{announced}
+use Rattle.clauses.specs.Fitness.{encryptionOctets, keyWrapOctets}
+use Rattle.chains.specs.Chain.{In}
+use Rattle.chains.proofs.Members.{in-member}
+use Rattle.outcome.specs.Roots.{needOf}
+use Rattle.outcome.specs.After.{saFrom}
+use Rattle.outcome.specs.Outcome.{Outcome}
+use Rattle.outcome.proofs.NamedKey.{OpensUnder}
+use Rattle.outcome.proofs.Demands.{each-stands}
+use Rattle.outcome.proofs.RunsClear.{taken}
+use Rattle.outcome.proofs.RunsAccepted.{kinds}
+use Rattle.outcome.proofs.RunsMade.{Kind, an-esp, a-rekey, made-protocol, made-spi}
+use Rattle.outcome.proofs.Runs.{accepted-formed}
+
+-- ---- an SA that a policy announces has the octets x that it is made of, as many as the policy needs, and is live
+module _ (a : GroupSaPolicy) (x : List ℕ) (n : length x ≡ needOf a) where
+  made-octets : Kind a → take (saFrom a x .count) (saFrom a x .octets) ≡ x
+  unfolding needOf saFrom espSa rekeySa
+  made-octets (an-esp e l s k) =
+      let g : take (length x) (x ++ replicate (36 - length x) 0) ≡ x = take-append-seam x (replicate (36 - length x) 0) in
+      rw (e, g) (take-append-seam x (replicate (68 - length x) 0))
+  made-octets (a-rekey e r l s) = rw e (take-at x (replicate (68 - length x) 0) _ n)
+
+  made-size : Kind a → saFrom a x .count ≡ needOf a
+  unfolding needOf saFrom espSa rekeySa
+  made-size (an-esp e l s k) = rw e n
+  made-size (a-rekey e r l s) = rw e
+
+  made-condition : Kind a → saFrom a x .condition ≡ Live
+  unfolding saFrom espSa rekeySa
+  made-condition (an-esp e l s k) = rw e
+  made-condition (a-rekey e r l s) = rw e
+
+  made-parts : Kind a → a .protocol ≡ 6 → (saFrom a x .encryption ≡ encryptionOctets a) × (saFrom a x .wrapping ≡ keyWrapOctets a)
+  unfolding saFrom rekeySa
+  made-parts (an-esp e l s k) p = let q : a .protocol ≡ 3 = eqb-true (a .protocol) 3 e in absurd (omega arith)
+  made-parts (a-rekey e r l s) p = (rw e, rw e)
+
+  made-name : Kind a → named (a .protocol) (a .spi) (saFrom a x) ≡ true
+  unfolding named
+  made-name k =
+      and-whole (eqb (saFrom a x .protocol) (a .protocol)) (same (spiOf (saFrom a x)) (a .spi))
+      (eq-eqb (saFrom a x .protocol) (a .protocol) (made-protocol a x k)) (eq-same (spiOf (saFrom a x)) (a .spi) (made-spi a x k))
+
+module _ (limits : Limits) (enough : limits .wrapKeys ≤ limits .heldKeys) (s : State) (now : ℕ) (lent octets : List ℕ) (f : Frame)
+    (e : frame octets ≡ whole f []) (next : State) (o : Outcome limits s now lent octets 0 next) where
+  -- the question about an announced SA's protocol and SPI finds an SA with the octets that every copy of its key opens to, as many as its
+  -- policy needs, live, and a Rekey SA with the octet counts of its policy's two parts
+  pub record Found (p : GroupSaPolicy) : Type 0 where
+    pub keying : List ℕ
+    pub opens : OpensUnder limits s now lent f p keying
+    pub every : (y : List ℕ) → OpensUnder limits s now lent f p y → y ≡ keying
+    pub size : length keying ≡ needOf p
+    pub sa : Sa
+    pub found : askedSa limits (p .protocol) (p .spi) next ≡ record { found = true; sa = sa }
+    pub protocol : sa .protocol ≡ p .protocol
+    pub has : take (sa .count) (sa .octets) ≡ keying
+    pub count : sa .count ≡ needOf p
+    pub live : sa .condition ≡ Live
+    pub parts : p .protocol ≡ 6 → (sa .encryption ≡ encryptionOctets p) × (sa .wrapping ≡ keyWrapOctets p)
+
+  next-formed : stateFormed limits next ≡ true
+  next-formed =
+      let t = taken limits s now lent octets f next e o in
+      accepted-formed limits enough s now lent f (t .is-clear) next (t .after) octets e
+
+  asked-found : (p : ℕ) (x : List ℕ) (b : Sa) → In b (sasOf (next .table)) → named p x b ≡ true →
+      askedSa limits p x next ≡ record { found = true; sa = b }
+  unfolding askedSa stateFormed
+  asked-found p x b m n =
+      let t = and-parts (tableFormed limits (next .table)) (heldFormed limits (next .held)) next-formed in
+      rw next-formed (sa-found limits (next .table) (t .0) p x b (in-member b (sasOf (next .table)) m) n)
+
+  pub asked-after : (p : GroupSaPolicy) → In p (announced f) → Found p
+  asked-after p m =
+      let n = each-stands limits s now lent octets f e next o p m in
+      let x = n .octets in
+      let t = taken limits s now lent octets f next e o in
+      let k = kinds limits s now lent f (t .is-clear) octets e p (in-member p (announced f) m) in
+      record {
+        keying = x;
+        opens = n .opens;
+        every = n .every;
+        size = n .fits;
+        sa = saFrom p x;
+        found = asked-found (p .protocol) (p .spi) (saFrom p x) (n .stands) (made-name p x (n .fits) k);
+        protocol = made-protocol p x k;
+        has = made-octets p x (n .fits) k;
+        count = made-size p x (n .fits) k;
+        live = made-condition p x (n .fits) k;
+        parts = made-parts p x (n .fits) k;
+      }

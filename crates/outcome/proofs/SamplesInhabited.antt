@@ -1,0 +1,200 @@
+-- NO ROW OF THE SAMPLES IS EMPTY: for each there are a member, keys of 16 octets and octets of a frame that are as the row says.
+use native.Mathlib.Omega.{arith}
+use Prim.Native.Nat.{ℕ, zero, suc, _<_}
+use mathlib.Core.Path.{_≡_, refl, ap}
+use mathlib.Core.Bool.{true}
+use mathlib.Core.List.{List, [], _∷_}
+use lib.ListN.{length, getD, replicate}
+use Rattle.octets.specs.Octets.{Octets}
+use Rattle.octets.specs.Walk.{whole}
+use Rattle.octets.specs.Compare.{orderOf, same}
+use Rattle.octets.proofs.Octets.{no-octets, one-octet}
+use Rattle.fips197.specs.Key.{Key, isKey}
+use Rattle.keywrap.specs.Wrap.{wrapOf}
+use Rattle.keys.specs.Limits.{limits}
+use Rattle.keys.specs.Lists.{all, any, count, heads, rising}
+use Rattle.keys.specs.Algorithms.{sizeOf}
+use Rattle.keys.specs.Kinds.{rekeySizes, rekeyOf}
+use Rattle.attributes.specs.Tree.{WrapKey}
+use Rattle.frames.specs.Frame.{frame}
+use Rattle.sa.specs.Entry.{named, formed, liveRekey, rekeySa, withCondition}
+use Rattle.sa.specs.declared.entry.Condition.the-variants.{Retiring}
+use Rattle.sa.specs.declared.entry.Sa.{Sa}
+use Rattle.table.specs.Table.{tableOf, tableFormed}
+use Rattle.state.specs.declared.State.{State}
+use Rattle.state.specs.declared.least.Least.{Least}
+use Rattle.state.specs.declared.least.Least.the-variants.{Id}
+use Rattle.state.specs.Held.{heldOf, heldFormed}
+use Rattle.state.specs.Least.{acceptable}
+use Rattle.state.specs.State.{stateFormed}
+use Rattle.outcome.specs.Run.{LiveRekey}
+use Rattle.outcome.specs.Samples.{Around, registering, entry, Keying, Wrapping, Registers}
+use Rattle.outcome.specs.Samples.{Sample, clock-wraps, delay-zero, least-seven, last-id, two-steps, circle, two-values, lent-of-28}
+use Rattle.outcome.specs.Samples.{key-length-128}
+use Rattle.outcome.proofs.SamplesRead.{around, Rekeyed, two-steps-read, two-values-read, circle-read, plain-read, rekeys-read}
+
+-- ---- what a row asks for, as in specs/Samples.antt; the octets of its frame are below 256
+pub record Messages (l : Least → Type 0) (ids : List ℕ → Type 0) : Type 0 where
+  pub state : State
+  pub spi : List ℕ
+  pub is-formed : stateFormed limits state ≡ true
+  pub live : LiveRekey spi state
+  pub least : l (state .least)
+  pub octets : ids spi
+
+pub record Entries (made : List ℕ → List ℕ → List ℕ → List WrapKey) (Asked : List ℕ → List ℕ → List ℕ → Type 0) : Type 0 where
+  pub r : Around
+  pub lent : List ℕ
+  pub x : List ℕ
+  pub first : List ℕ
+  pub second : List ℕ
+  pub asked : Asked lent first second
+  pub octets : List ℕ
+  pub small : Octets octets
+  pub registers : Registers r lent x (made lent first second) octets
+
+pub record Values : Type 0 where
+  pub r : Around
+  pub lent : List ℕ
+  pub x : List ℕ
+  pub v : List ℕ
+  pub w : List ℕ
+  pub v₉ : List ℕ
+  pub fit : Wrapping lent v × Wrapping lent w × Wrapping lent v₉
+  pub differ : v ≡ w → ⊥
+  pub octets : List ℕ
+  pub small : Octets octets
+  pub registers : Registers r lent x (entry 5 0 (wrapOf lent v) ∷ entry 5 9 (wrapOf v₉ w) ∷ entry 9 0 (wrapOf lent v₉) ∷ []) octets
+
+pub record Lent : Type 0 where
+  pub r : Around
+  pub lent : List ℕ
+  pub wrapped : List ℕ
+  pub entries : List WrapKey
+  pub size : length lent ≡ 28
+  pub octets : List ℕ
+  pub small : Octets octets
+  pub reads : frame octets ≡ whole (registering r wrapped entries) []
+
+abbrev pub Inhabited : Sample → Type 0
+Inhabited clock-wraps = (a : Sa) × (a .condition ≡ Retiring 4294967000 1)
+Inhabited delay-zero = (a : Sa) × ((start : ℕ) × (a .condition ≡ Retiring start 0))
+Inhabited least-seven = Messages (λ (l : Least). l ≡ Id 7) (λ (x : List ℕ). Rekeyed x 6 × Rekeyed x 7 × Rekeyed x 9)
+Inhabited last-id = Messages (λ (l : Least). acceptable 4294967295 l ≡ true) (λ (x : List ℕ). Rekeyed x 4294967295)
+Inhabited two-steps =
+    Entries (λ lent v₅ v₉. entry 5 9 (wrapOf v₉ v₅) ∷ entry 9 0 (wrapOf lent v₉) ∷ [])
+    (λ lent v₅ v₉. Wrapping lent v₅ × Wrapping lent v₉)
+Inhabited circle = Entries (λ lent w₅ w₉. entry 5 9 w₅ ∷ entry 9 5 w₉ ∷ []) (λ lent w₅ w₉. Unit {0})
+Inhabited two-values = Values
+Inhabited lent-of-28 = Lent
+Inhabited key-length-128 = Unit {0}
+
+-- ---- a member with one live Rekey SA
+same-octets : (n k : ℕ) → k < 256 → Octets (replicate n k)
+same-octets zero k h = no-octets
+same-octets (suc n) k h = one-octet k (replicate n k) h (same-octets n k h)
+
+abbrev rekeySpi : List ℕ
+rekeySpi = replicate 16 1
+
+abbrev one : Sa
+one = rekeySa rekeySpi (rekeyOf (replicate 36 2) 20 16)
+
+abbrev seven : State
+seven = record { table = tableOf limits (one ∷ []); held = heldOf limits []; least = Id 7 }
+
+seven-formed : stateFormed limits seven ≡ true
+unfolding stateFormed tableFormed heldFormed tableOf heldOf all count heads rising formed liveRekey rekeySa rekeySizes sizeOf any
+seven-formed = refl
+
+seven-live : LiveRekey rekeySpi seven
+unfolding tableOf any named liveRekey rekeySa same orderOf
+seven-live = refl
+
+-- ---- keys of 16 octets
+key-16 : (k : ℕ) → k < 256 → Key (replicate 16 k)
+unfolding isKey
+key-16 k h = record { size = tt; small = same-octets 16 k h }
+
+abbrev lentKey : List ℕ
+lentKey = replicate 16 1
+
+fits : (k : ℕ) → k < 256 → Wrapping lentKey (replicate 16 k)
+fits k h = record { key = key-16 k h; size = refl }
+
+keying : Keying (replicate 20 7)
+keying = record { size = refl; octets = same-octets 20 7 (omega arith) }
+
+-- THE CLAIM
+pub samples-inhabited : (x : Sample) → Inhabited x
+samples-inhabited clock-wraps = (withCondition (Retiring 4294967000 1) one, refl)
+samples-inhabited delay-zero = (withCondition (Retiring 0 0) one, (0, refl))
+samples-inhabited least-seven =
+    let r = rekeys-read rekeySpi refl (same-octets 16 1 (omega arith)) in
+    record {
+      state = seven;
+      spi = rekeySpi;
+      is-formed = seven-formed;
+      live = seven-live;
+      least = refl;
+      octets = (r .0, r .1, r .2);
+    }
+samples-inhabited last-id =
+    let r = rekeys-read rekeySpi refl (same-octets 16 1 (omega arith)) in
+    record { state = seven; spi = rekeySpi; is-formed = seven-formed; live = seven-live; least = refl; octets = r .3 }
+samples-inhabited two-steps =
+    let read = two-steps-read lentKey (replicate 20 7) (replicate 16 9) (key-16 1 (omega arith)) refl keying (fits 9 (omega arith))
+    (replicate 16 5) (fits 5 (omega arith)) in
+    record {
+      r = around;
+      lent = lentKey;
+      x = replicate 20 7;
+      first = replicate 16 5;
+      second = replicate 16 9;
+      asked = (fits 5 (omega arith), fits 9 (omega arith));
+      octets = read .octets;
+      small = read .small;
+      registers = record { key = key-16 1 (omega arith); keying = keying; reads = read .reads };
+    }
+samples-inhabited circle =
+    let read = circle-read lentKey (replicate 20 7) (replicate 24 0) (replicate 24 0) (key-16 1 (omega arith)) keying refl
+    (same-octets 24 0 (omega arith)) refl (same-octets 24 0 (omega arith)) in
+    record {
+      r = around;
+      lent = lentKey;
+      x = replicate 20 7;
+      first = replicate 24 0;
+      second = replicate 24 0;
+      asked = tt;
+      octets = read .octets;
+      small = read .small;
+      registers = record { key = key-16 1 (omega arith); keying = keying; reads = read .reads };
+    }
+samples-inhabited two-values =
+    let read = two-values-read lentKey (replicate 20 7) (replicate 16 9) (key-16 1 (omega arith)) refl keying (fits 9 (omega arith))
+    (replicate 16 5) (replicate 16 6) (fits 5 (omega arith)) (fits 6 (omega arith)) in
+    record {
+      r = around;
+      lent = lentKey;
+      x = replicate 20 7;
+      v = replicate 16 5;
+      w = replicate 16 6;
+      v₉ = replicate 16 9;
+      fit = (fits 5 (omega arith), fits 6 (omega arith), fits 9 (omega arith));
+      differ = λ e. let z : _≡_ {A = ℕ} 5 6 = ap (λ (l : List ℕ). getD l 0 0) e in omega arith;
+      octets = read .octets;
+      small = read .small;
+      registers = record { key = key-16 1 (omega arith); keying = keying; reads = read .reads };
+    }
+samples-inhabited lent-of-28 =
+    record {
+      r = around;
+      lent = replicate 28 0;
+      wrapped = replicate 32 0;
+      entries = [];
+      size = refl;
+      octets = plain-read .octets;
+      small = plain-read .small;
+      reads = plain-read .reads;
+    }
+samples-inhabited key-length-128 = tt
