@@ -2,7 +2,7 @@
 use native.Mathlib.Omega.{arith}
 use Prim.Native.Nat.{ℕ, zero, suc, _<_}
 use mathlib.Core.Path.{_≡_, refl, ap}
-use mathlib.Core.Bool.{true}
+use mathlib.Core.Bool.{true, false}
 use mathlib.Core.List.{List, [], _∷_}
 use lib.ListN.{length, getD, replicate}
 use Rattle.octets.specs.Octets.{Octets}
@@ -27,10 +27,15 @@ use Rattle.state.specs.declared.least.Least.the-variants.{Id}
 use Rattle.state.specs.Held.{heldOf, heldFormed}
 use Rattle.state.specs.Least.{acceptable}
 use Rattle.state.specs.State.{stateFormed}
-use Rattle.outcome.specs.Run.{LiveRekey}
-use Rattle.outcome.specs.Samples.{Around, registering, entry, Keying, Wrapping, Registers}
+use Rattle.clauses.specs.Contents.{gather}
+use Rattle.outcome.specs.After.{newRekey}
+use Rattle.outcome.specs.Outcome.{Outcome}
+use Rattle.outcome.specs.Run.{LiveRekey, ends}
+use Rattle.outcome.specs.Samples.{deleting, Around, registering, entry, Keying, Wrapping, Registers}
 use Rattle.outcome.specs.Samples.{Sample, clock-wraps, delay-zero, least-seven, last-id, two-steps, circle, two-values, lent-of-28}
 use Rattle.outcome.specs.Samples.{key-length-128}
+use Rattle.outcome.proofs.RunsReplay.{stays-live}
+use Rattle.outcome.proofs.SamplesRekeys.{last-id-holds}
 use Rattle.outcome.proofs.SamplesRead.{around, Rekeyed, two-steps-read, two-values-read, circle-read, plain-read, rekeys-read}
 
 -- ---- what a row asks for, as in specs/Samples.antt; the octets of its frame are below 256
@@ -41,6 +46,16 @@ pub record Messages (l : Least → Type 0) (ids : List ℕ → Type 0) : Type 0 
   pub live : LiveRekey spi state
   pub least : l (state .least)
   pub octets : ids spi
+
+-- one that is taken, after which the Rekey SA with the SPI x is still live, and a later rekey over it
+pub record Later (s : State) (x : List ℕ) : Type 0 where
+  pub now : ℕ
+  pub lent : List ℕ
+  pub rekey : Rekeyed x 4294967295
+  pub next : State
+  pub outcome : Outcome limits s now lent (rekey .octets) 0 next
+  pub live : LiveRekey x next
+  pub later : Rekeyed x 9
 
 pub record Entries (made : List ℕ → List ℕ → List ℕ → List WrapKey) (Asked : List ℕ → List ℕ → List ℕ → Type 0) : Type 0 where
   pub r : Around
@@ -80,7 +95,8 @@ abbrev pub Inhabited : Sample → Type 0
 Inhabited clock-wraps = (a : Sa) × (a .condition ≡ Retiring 4294967000 1)
 Inhabited delay-zero = (a : Sa) × ((start : ℕ) × (a .condition ≡ Retiring start 0))
 Inhabited least-seven = Messages (λ (l : Least). l ≡ Id 7) (λ (x : List ℕ). Rekeyed x 6 × Rekeyed x 7 × Rekeyed x 9)
-Inhabited last-id = Messages (λ (l : Least). acceptable 4294967295 l ≡ true) (λ (x : List ℕ). Rekeyed x 4294967295)
+Inhabited last-id =
+    (m : Messages (λ (l : Least). acceptable 4294967295 l ≡ true) (λ (x : List ℕ). Rekeyed x 4294967295)) × Later (m .state) (m .spi)
 Inhabited two-steps =
     Entries (λ lent v₅ v₉. entry 5 9 (wrapOf v₉ v₅) ∷ entry 9 0 (wrapOf lent v₉) ∷ [])
     (λ lent v₅ v₉. Wrapping lent v₅ × Wrapping lent v₉)
@@ -111,6 +127,28 @@ seven-live : LiveRekey rekeySpi seven
 unfolding tableOf any named liveRekey rekeySa same orderOf
 seven-live = refl
 
+-- ID 4,294,967,295 is taken over it
+announces-none : (x : List ℕ) (i : ℕ) (l : List (List ℕ)) → newRekey (deleting x i l) ≡ false
+unfolding any gather
+announces-none x i l = refl
+
+taken-once : Rekeyed rekeySpi 4294967295 → Rekeyed rekeySpi 9 → Later seven rekeySpi
+taken-once r later =
+    let i = r .is in
+    let f = deleting rekeySpi 4294967295 (i .spis) in
+    let t = last-id-holds .taken seven rekeySpi seven-formed seven-live refl 0 [] (r .octets) i in
+    record {
+      now = 0;
+      lent = [];
+      rekey = r;
+      next = t .next;
+      outcome = t .outcome;
+      live =
+          stays-live limits seven (t .next) 0 [] (r .octets) f (i .reads) refl (t .outcome)
+          (announces-none rekeySpi 4294967295 (i .spis)) (t .next) [] (ends (t .next)) tt;
+      later = later;
+    }
+
 -- ---- keys of 16 octets
 key-16 : (k : ℕ) → k < 256 → Key (replicate 16 k)
 unfolding isKey
@@ -140,8 +178,10 @@ samples-inhabited least-seven =
       octets = (r .0, r .1, r .2);
     }
 samples-inhabited last-id =
-    let r = rekeys-read rekeySpi refl (same-octets 16 1 (omega arith)) in
-    record { state = seven; spi = rekeySpi; is-formed = seven-formed; live = seven-live; least = refl; octets = r .3 }
+    let r = rekeys-read rekeySpi refl (same-octets 16 1 (omega arith)) in (
+      record { state = seven; spi = rekeySpi; is-formed = seven-formed; live = seven-live; least = refl; octets = r .3 },
+      taken-once (r .3) (r .2),
+    )
 samples-inhabited two-steps =
     let read = two-steps-read lentKey (replicate 20 7) (replicate 16 9) (key-16 1 (omega arith)) refl keying (fits 9 (omega arith))
     (replicate 16 5) (fits 5 (omega arith)) in
