@@ -1,19 +1,21 @@
 -- Samples of numbers 2 and 3.
 use Prim.Native.Nat.{ℕ}
 use mathlib.Core.List.{List, [], _∷_, map}
-use lib.ListN.{replicate}
+use lib.ListN.{take, replicate}
 use Rattle.keys.specs.Limits.{limits}
-use Rattle.keys.specs.Kinds.{wrappingOf}
-use Rattle.sa.specs.Entry.{blankSa}
+use Rattle.keys.specs.Kinds.{wrappingOf, espOf, rekeyOf}
+use Rattle.sa.specs.Entry.{espSa, rekeySa, blankSa}
+use Rattle.sa.specs.declared.entry.Condition.{Condition}
 use Rattle.sa.specs.declared.entry.Condition.the-variants.{Live}
 use Rattle.table.specs.Table.{tableOf}
 use Rattle.state.specs.declared.State.{State}
+use Rattle.state.specs.declared.held.HeldKey.{HeldKey}
 use Rattle.state.specs.declared.least.Least.the-variants.{Id, NoneAnyMore}
 use Rattle.state.specs.Held.{heldOf}
-use Rattle.clauses.proofs.SampleParts.{liveSpi, nextSpi, payload, frameOf, registers, fit, deletion, deleting}
+use Rattle.clauses.proofs.SampleParts.{spi, liveSpi, nextSpi, payload, frameOf, registers, fit, deletion, deleting}
 use Rattle.clauses.proofs.SampleParts.{espAt, rekeyAt, dueNow, dueLater, memberOf, fresh, member, Sample, sample, anew, later}
 
--- a table that says to have 17 SAs, and a held list with a Key ID and a count of octets
+-- a table that says to have 17 SAs; held lists of Key IDs and counts of octets
 abbrev overfull : State
 overfull = record {
   table = record { sas = rekeyAt Live ∷ replicate 15 blankSa; count = 17 };
@@ -21,12 +23,27 @@ overfull = record {
   least = Id 0;
 }
 
+abbrev holdingAll : List HeldKey → State
+holdingAll l = record { table = tableOf limits []; held = heldOf limits l; least = Id 0 }
+
+abbrev heldKey : ℕ → ℕ → HeldKey
+heldKey i n = record { id = i; key = wrappingOf (replicate n 1) }
+
 abbrev holding : ℕ → ℕ → State
-holding i n = record {
-  table = tableOf limits [];
-  held = heldOf limits (record { id = i; key = wrappingOf (replicate n 1) } ∷ []);
-  least = Id 0;
-}
+holding i n = holdingAll (heldKey i n ∷ [])
+
+-- Key IDs 1 to n, of 33
+abbrev holdingFirst : ℕ → State
+holdingFirst n = holdingAll (map (λ (i : ℕ). heldKey i 16) (take n
+    (1 ∷ 2 ∷ 3 ∷ 4 ∷ 5 ∷ 6 ∷ 7 ∷ 8 ∷ 9 ∷ 10 ∷ 11 ∷ 12 ∷ 13 ∷ 14 ∷ 15 ∷ 16 ∷ 17 ∷ 18 ∷ 19 ∷ 20 ∷ 21 ∷ 22 ∷ 23 ∷ 24 ∷ 25 ∷ 26 ∷ 27 ∷ 28 ∷ 29 ∷
+    30 ∷ 31 ∷ 32 ∷ 33 ∷ [])))
+
+-- an ESP SA with n keying octets beside the live Rekey SA; a Rekey SA in this condition beside another that is live
+abbrev withEsp : ℕ → State
+withEsp n = memberOf (espSa (spi 1) (espOf (replicate n 0)) ∷ rekeyAt Live ∷ []) (Id 0)
+
+abbrev withRekey : Condition → State
+withRekey c = memberOf (rekeyAt c ∷ rekeySa nextSpi (rekeyOf (replicate 44 0) 28 16) ∷ []) (Id 0)
 
 abbrev pub samplesOf2And3 : List Sample
 samplesOf2And3 =
@@ -59,12 +76,23 @@ samplesOf2And3 =
     anew (frameOf [] 40 0 (map payload fit)) 0 ∷
     anew (frameOf [] 42 0 (map payload fit)) 2 ∷
     later (frameOf liveSpi 42 9 (payload deletion ∷ [])) 2 ∷
-    -- 2: a member value that breaks its list, also where another number would be given
+    -- 2: a member value that breaks its list: 17 SAs, falling SPIs, keying octets of a size that nothing needs, two live Rekey SAs
     sample overfull 0 (deleting liveSpi 9) 2 ∷
+    sample (memberOf (espAt 9 dueNow ∷ espAt 8 dueNow ∷ []) (Id 0)) 16 (registers fit) 2 ∷
+    sample (memberOf (espAt 8 dueNow ∷ espAt 9 dueNow ∷ []) (Id 0)) 16 (registers fit) 0 ∷
+    sample (withEsp 28) 0 (deleting liveSpi 9) 0 ∷
+    sample (withEsp 24) 0 (deleting liveSpi 9) 2 ∷
+    sample (withRekey Live) 0 (deleting nextSpi 9) 2 ∷
+    sample (withRekey dueLater) 0 (deleting nextSpi 9) 0 ∷
+    -- the same: 33 held keys, Key ID 0, a value of 20 octets, Key IDs that do not rise
+    sample (holdingFirst 32) 16 (registers fit) 0 ∷
+    sample (holdingFirst 33) 16 (registers fit) 2 ∷
     sample (holding 0 16) 16 (registers fit) 2 ∷
     sample (holding 5 20) 16 (registers fit) 2 ∷
     sample (holding 5 24) 16 (registers fit) 0 ∷
-    sample (memberOf (espAt 9 dueNow ∷ espAt 8 dueNow ∷ []) (Id 0)) 16 (registers fit) 2 ∷
+    sample (holdingAll (heldKey 5 16 ∷ heldKey 5 16 ∷ [])) 16 (registers fit) 2 ∷
+    sample (holdingAll (heldKey 5 16 ∷ heldKey 9 32 ∷ [])) 16 (registers fit) 0 ∷
+    -- also where another number would be given
     sample (holding 0 16) 16 (registers (deletion ∷ fit)) 2 ∷
     sample overfull 16 (registers (deletion ∷ fit)) 2 ∷
     []
