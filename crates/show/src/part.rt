@@ -21,7 +21,7 @@ pub(crate) fn octet(s: &[u8], at: usize) -> usize
     0
 }
 
-// The number of the first two octets behind a place, or 0.
+// The number of the first two octets from a place on, or 0.
 pub(crate) fn two(s: &[u8], at: usize) -> usize
     ensures { λ r. ⌜ r < 65536 ⌝ }
 {
@@ -33,7 +33,7 @@ pub(crate) fn two(s: &[u8], at: usize) -> usize
     0
 }
 
-// The number of the first four octets behind a place, or 0.
+// The number of the first four octets from a place on, or 0.
 pub(crate) fn four(s: &[u8], at: usize) -> usize {
     if at < s.len() {
         if 4 <= s.len() - at {

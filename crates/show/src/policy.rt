@@ -26,12 +26,12 @@ pub(crate) fn policies(s: &[u8]) {
 }
 
 fn policy(s: &[u8]) {
-    match view::read::kind_of(s) {
+    match view::shown_kind(s) {
         Kind::GroupSa(p) => {
             print(b"    policy ");
             crate::names::protocol(p);
             print(b", SPI ");
-            crate::text::hexadecimal(view::read::spi_of(s));
+            crate::text::hexadecimal(view::shown_spi(s));
             print(b"\n");
             items(s, false);
         }
@@ -153,7 +153,7 @@ fn valued(value: &[u8]) {
     between(b": ", value.len(), b" octets");
 }
 
-// The end of an attribute's line, with a word on one that a member does not read.
+// The end of an attribute's line, which says so where a member does not read the attribute.
 fn ended(skipped: bool) {
     if skipped {
         print(b", skipped\n");

@@ -1,6 +1,7 @@
 pub mod Apart
 pub mod Asking
 pub mod AskingSlice
+pub mod Showing
 pub mod KindLaws
 pub mod AttributeLaws
 pub mod TransformLaws
