@@ -8,3 +8,4 @@ pub mod TransformLaws
 pub mod SuiteLaws
 pub mod BodyLaws
 pub mod CursorLaws
+pub mod Cuts
