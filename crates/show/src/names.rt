@@ -7,9 +7,12 @@ use crate::text::print;
 // The octet of a bar.
 const BAR: u8 = 124;
 
-// The name after n others, or no octet.
-fn name(names: &[u8], n: usize) -> &[u8] {
-    let mut left = n;
+// The name of a number, or no octet, where the names are those from a first number on.
+fn name(first: usize, names: &[u8], number: usize) -> &[u8] {
+    if number < first {
+        return part(names, 0, 0);
+    }
+    let mut left = number - first;
     let mut start = 0;
     let mut at = 0;
     while at < names.len() {
@@ -26,17 +29,9 @@ fn name(names: &[u8], n: usize) -> &[u8] {
     part(names, 0, 0)
 }
 
-// The name of a number, or none, where the names are those from a first number on.
-fn name_from(first: usize, names: &[u8], number: usize) -> &[u8] {
-    if number < first {
-        return part(names, 0, 0);
-    }
-    name(names, number - first)
-}
-
 // Prints the name of a number, or another text.
 fn named(first: usize, names: &[u8], number: usize, other: &[u8]) {
-    let found = name_from(first, names, number);
+    let found = name(first, names, number);
     if found.len() == 0 {
         print(other);
     } else {
@@ -46,7 +41,7 @@ fn named(first: usize, names: &[u8], number: usize, other: &[u8]) {
 
 // Prints the name of a number, or another text and the number.
 fn numbered(first: usize, names: &[u8], number: usize, other: &[u8]) {
-    let found = name_from(first, names, number);
+    let found = name(first, names, number);
     if found.len() == 0 {
         labelled(other, number);
     } else {

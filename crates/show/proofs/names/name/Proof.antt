@@ -5,10 +5,16 @@ use Rattle.show.proofs.names.name.Statement.{statement}
 use Rattle.show.proofs.names.name.Tie as tie
 
 abbrev Inv-loop : tie.InvT-loop
-Inv-loop names n left₀ start₀ at₀ left start at = Unit {0}
+Inv-loop first names number left₀ start₀ at₀ left start at = Unit {0}
 
 abbrev μ-loop : tie.MeasureT-loop
-μ-loop names n left₀ start₀ at₀ left start at = length names - at
+μ-loop first names number left₀ start₀ at₀ left start at = length names - at
+
+part-requires : tie.Need-part-requires Inv-loop μ-loop
+part-requires c κs = search needs
+
+returns : tie.Need-returns Inv-loop μ-loop
+returns c = search needs
 
 loop-holds : tie.Need-loop-holds Inv-loop μ-loop
 loop-holds c = tt
@@ -16,14 +22,14 @@ loop-holds c = tt
 add-next : tie.Need-add-next Inv-loop μ-loop
 add-next c = search needs
 
-shared-slice-read-if1 : tie.Need-shared-slice-read-if1 Inv-loop μ-loop
-shared-slice-read-if1 c = search needs
+shared-slice-read-if2 : tie.Need-shared-slice-read-if2 Inv-loop μ-loop
+shared-slice-read-if2 c = search needs
 
-part-requires : tie.Need-part-requires Inv-loop μ-loop
-part-requires c κs = search needs
+part-requires-2 : tie.Need-part-requires-2 Inv-loop μ-loop
+part-requires-2 c κs = search needs
 
-returns : tie.Need-returns Inv-loop μ-loop
-returns c = search needs
+returns-2 : tie.Need-returns-2 Inv-loop μ-loop
+returns-2 c = search needs
 
 sub-left : tie.Need-sub-left Inv-loop μ-loop
 sub-left c = search needs
@@ -40,11 +46,11 @@ loop-less-2 c = search needs
 loop-again-2 : tie.Need-loop-again-2 Inv-loop μ-loop
 loop-again-2 c = tt
 
-part-requires-2 : tie.Need-part-requires-2 Inv-loop μ-loop
-part-requires-2 c κs = search needs
+part-requires-3 : tie.Need-part-requires-3 Inv-loop μ-loop
+part-requires-3 c κs = search needs
 
-returns-2 : tie.Need-returns-2 Inv-loop μ-loop
-returns-2 c = search needs
+returns-3 : tie.Need-returns-3 Inv-loop μ-loop
+returns-3 c = search needs
 
 pub name-spec : {M : Type 1} → statement M
 name-spec =
@@ -52,15 +58,17 @@ name-spec =
     (tie.spec
     Inv-loop
     μ-loop
-    loop-holds
-    add-next
-    shared-slice-read-if1
     part-requires
     returns
+    loop-holds
+    add-next
+    shared-slice-read-if2
+    part-requires-2
+    returns-2
     sub-left
     loop-less
     loop-again
     loop-less-2
     loop-again-2
-    part-requires-2
-    returns-2)
+    part-requires-3
+    returns-3)
