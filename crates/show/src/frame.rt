@@ -23,9 +23,10 @@ pub(crate) fn frame(s: &[u8]) {
 }
 
 fn header(s: &[u8]) {
+    let kind = octet(s, 18);
     print(b"  header: ");
-    crate::names::exchange(octet(s, 18));
-    between(b" (", octet(s, 18), b"), SPI ");
+    crate::names::exchange(kind);
+    between(b" (", kind, b"), SPI ");
     crate::text::hexadecimal(part(s, 0, 16));
     line(b", Message ID ", four(s, 20));
 }

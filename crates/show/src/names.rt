@@ -1,5 +1,5 @@
 // Names of code numbers (RFC 7296; RFC 9838, sections 4 and 9). The names of successive numbers stand in one text, with a bar after each;
-// between two bars stands no name.
+// a number that has no name has the bar alone.
 use crate::part::part;
 use crate::text::labelled;
 use crate::text::print;

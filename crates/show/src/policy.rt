@@ -3,9 +3,9 @@ use crate::part::end_at;
 use crate::part::four;
 use crate::part::part;
 use crate::part::two;
-use crate::text::between;
 use crate::text::labelled;
 use crate::text::line;
+use crate::text::number;
 use crate::text::print;
 use attributes::tables::Meaning;
 use view::items::Item;
@@ -146,8 +146,11 @@ fn valued(spi: bool, value: &[u8]) {
         return;
     }
     match value.len() {
-        2 => crate::text::number(two(value, 0)),
-        4 => crate::text::number(four(value, 0)),
-        _ => between(b"", value.len(), b" octets"),
+        2 => number(two(value, 0)),
+        4 => number(four(value, 0)),
+        _ => {
+            number(value.len());
+            print(b" octets");
+        }
     }
 }
