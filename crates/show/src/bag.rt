@@ -1,9 +1,10 @@
 // Key bags: of a wrapped key its Key ID, its KWK ID and how many octets are wrapped, and no octet of it.
+use crate::part::end_at;
 use crate::part::four;
 use crate::part::octet;
 use crate::part::part;
-use crate::part::two;
 use crate::text::between;
+use crate::text::labelled;
 use crate::text::print;
 use attributes::Read;
 
@@ -11,14 +12,7 @@ use attributes::Read;
 pub(crate) fn bags(s: &[u8]) {
     let mut at = 0;
     while at < s.len() {
-        let n = two(part(s, at, s.len()), 2);
-        if n < 4 {
-            return;
-        }
-        if s.len() - at < n {
-            return;
-        }
-        let end = at + n;
+        let end = end_at(s, at, s.len(), 4);
         bag(part(s, at, end));
         at = end;
     }
@@ -30,11 +24,7 @@ fn bag(s: &[u8]) {
     if first == 0 {
         print(b"    Member Key Bag\n");
     } else {
-        print(b"    Group Key Bag ");
-        crate::names::protocol(first);
-        print(b", SPI ");
-        crate::text::hexadecimal(part(s, 4, body));
-        print(b"\n");
+        crate::names::protocol_and_spi(b"    Group Key Bag ", first, part(s, 4, body));
     }
     keys(first == 0, part(s, body, s.len()));
 }
@@ -66,28 +56,20 @@ fn keys(member: bool, s: &[u8]) {
     }
 }
 
+// Attribute 1 is a wrapped key in both kinds of bag.
 fn key(member: bool, kind: usize, value: &[u8]) {
-    if kind == 1 {
-        wrapped(member, value);
-        return;
-    }
     print(b"      ");
-    if member {
-        crate::names::member_attribute(kind);
+    crate::names::bag_attribute(member, kind);
+    if kind == 1 {
+        wrapped(value);
     } else {
-        between(b"attribute ", kind, b"");
+        between(b": ", value.len(), b" octets\n");
     }
-    between(b": ", value.len(), b" octets\n");
 }
 
-fn wrapped(member: bool, value: &[u8]) {
-    if member {
-        print(b"      WRAP_KEY");
-    } else {
-        print(b"      SA_KEY");
-    }
-    between(b": Key ID ", four(value, 0), b"");
-    between(b", KWK ID ", four(value, 4), b"");
+fn wrapped(value: &[u8]) {
+    labelled(b": Key ID ", four(value, 0));
+    labelled(b", KWK ID ", four(value, 4));
     between(
         b", ",
         part(value, 8, value.len()).len(),

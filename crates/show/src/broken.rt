@@ -2,10 +2,9 @@
 // Everything in front of it is laid out as it should be, and so are the own fields of those that hold it.
 ghost use Prim.Native.Nat.{_<_};
 ghost use lib.ListN.{length};
+use crate::part::end_at;
 use crate::part::octet;
-use crate::part::part;
-use crate::part::two;
-use crate::text::between;
+use crate::text::line;
 use crate::text::print;
 use frames::HeaderRead;
 
@@ -24,30 +23,12 @@ fn holding(s: &[u8], from: usize, to: usize, first: usize, offset: usize) -> Hel
     let mut at = from;
     let mut before = first;
     while at < to {
-        let n = two(part(s, at, to), 2);
-        if n < 4 {
-            return Held {
-                at,
-                end: to,
-                before,
-            };
-        }
-        if to - at < n {
-            return Held {
-                at,
-                end: to,
-                before,
-            };
-        }
-        if offset < at + n {
-            return Held {
-                at,
-                end: at + n,
-                before,
-            };
+        let end = end_at(s, at, to, 4);
+        if offset < end {
+            return Held { at, end, before };
         }
         before = octet(s, at);
-        at = at + n;
+        at = end;
     }
     Held {
         at: to,
@@ -75,7 +56,7 @@ pub(crate) fn broken(s: &[u8], offset: usize) {
     let h = holding(s, 28, s.len(), octet(s, 16), offset);
     print(b"    ");
     crate::names::payload(h.before);
-    between(b" payload at ", h.at, b"\n");
+    line(b" payload at ", h.at);
     if h.at == offset {
         return;
     }
@@ -90,7 +71,7 @@ fn in_bags(s: &[u8], from: usize, to: usize, offset: usize)
     requires { ⌜ to < 65536 ⌝ }
 {
     let h = holding(s, from, to, 0, offset);
-    between(b"      key bag at ", h.at, b"\n");
+    line(b"      key bag at ", h.at);
     if h.at == offset {
         return;
     }
@@ -101,7 +82,7 @@ fn in_policies(s: &[u8], from: usize, to: usize, offset: usize)
     requires { ⌜ to < 65536 ⌝ }
 {
     let h = holding(s, from, to, 0, offset);
-    between(b"      policy at ", h.at, b"\n");
+    line(b"      policy at ", h.at);
     if h.at == offset {
         return;
     }
@@ -118,12 +99,12 @@ fn in_body(s: &[u8], from: usize, to: usize, offset: usize)
     requires { ⌜ from < 65600 ⌝ }
 {
     if offset == from {
-        between(b"        source selector at ", offset, b"\n");
+        line(b"        source selector at ", offset);
         return;
     }
     let d = from + policies::selectors::selector_size(octet(s, from));
     if offset == d {
-        between(b"        destination selector at ", offset, b"\n");
+        line(b"        destination selector at ", offset);
         return;
     }
     in_suite(
@@ -138,16 +119,8 @@ fn in_body(s: &[u8], from: usize, to: usize, offset: usize)
 fn in_suite(s: &[u8], from: usize, to: usize, offset: usize) {
     let mut at = from;
     while at < to {
-        let n = two(part(s, at, to), 2);
-        if n < 8 {
-            in_transform(at, offset);
-            return;
-        }
-        if to - at < n {
-            in_transform(at, offset);
-            return;
-        }
-        if offset < at + n {
+        let end = end_at(s, at, to, 8);
+        if offset < end {
             in_transform(at, offset);
             return;
         }
@@ -155,12 +128,12 @@ fn in_suite(s: &[u8], from: usize, to: usize, offset: usize) {
             attribute_at(offset);
             return;
         }
-        at = at + n;
+        at = end;
     }
 }
 
 fn in_transform(at: usize, offset: usize) {
-    between(b"        transform at ", at, b"\n");
+    line(b"        transform at ", at);
     if at == offset {
         return;
     }
@@ -169,5 +142,5 @@ fn in_transform(at: usize, offset: usize) {
 }
 
 fn attribute_at(offset: usize) {
-    between(b"        attribute at ", offset, b"\n");
+    line(b"        attribute at ", offset);
 }

@@ -1,9 +1,10 @@
 // A frame: its header, its payloads, or where its layout breaks.
+use crate::part::end_at;
 use crate::part::four;
 use crate::part::octet;
 use crate::part::part;
-use crate::part::two;
 use crate::text::between;
+use crate::text::line;
 use crate::text::print;
 use attributes::Layout;
 
@@ -15,54 +16,50 @@ pub(crate) fn frame(s: &[u8]) {
             payloads(s);
         }
         Layout::Broken(o) => {
-            between(b"  1: the layout breaks at offset ", o, b"\n");
+            line(b"  1: the layout breaks at offset ", o);
             crate::broken::broken(s, o);
         }
     }
 }
 
 fn header(s: &[u8]) {
+    let kind = octet(s, 18);
     print(b"  header: ");
-    crate::names::exchange(octet(s, 18));
-    between(b" (", octet(s, 18), b"), SPI ");
+    crate::names::exchange(kind);
+    between(b" (", kind, b"), SPI ");
     crate::text::hexadecimal(part(s, 0, 16));
-    between(b", Message ID ", four(s, 20), b"\n");
+    line(b", Message ID ", four(s, 20));
 }
 
 fn payloads(s: &[u8]) {
     let mut kind = octet(s, 16);
     let mut at = 28;
     while at < s.len() {
-        let p = part(s, at, s.len());
-        let n = two(p, 2);
-        if n < 4 {
-            return;
-        }
-        if s.len() - at < n {
-            return;
-        }
-        payload(kind, 128 <= octet(p, 1), part(p, 4, n));
-        kind = octet(p, 0);
-        at = at + n;
+        let end = end_at(s, at, s.len(), 4);
+        payload(kind, part(s, at, end));
+        kind = octet(s, at);
+        at = end;
     }
 }
 
-// A payload by its type, with what its body holds.
-fn payload(kind: usize, critical: bool, body: &[u8]) {
+// A payload by its type.
+fn payload(kind: usize, s: &[u8]) {
     print(b"  ");
     crate::names::payload(kind);
     between(b" payload (", kind, b")");
-    if critical {
+    if 128 <= octet(s, 1) {
         print(b", critical");
     }
-    between(b", body of ", body.len(), b" octets\n");
-    if kind == 51 {
-        crate::policy::policies(body);
-    }
-    if kind == 52 {
-        crate::bag::bags(body);
-    }
-    if kind == 42 {
-        crate::delete::delete(body);
+    body(kind, part(s, 4, s.len()));
+}
+
+// What the body of a payload holds.
+fn body(kind: usize, s: &[u8]) {
+    between(b", body of ", s.len(), b" octets\n");
+    match kind {
+        42 => crate::delete::delete(s),
+        51 => crate::policy::policies(s),
+        52 => crate::bag::bags(s),
+        _ => {}
     }
 }

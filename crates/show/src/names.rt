@@ -1,118 +1,128 @@
-// Names of code numbers (RFC 7296; RFC 9838, sections 4 and 9).
+// Names of code numbers (RFC 7296; RFC 9838, sections 4 and 9). The names of successive numbers stand in one text, with a bar after each;
+// a number that has no name has the bar alone.
+use crate::part::part;
+use crate::text::labelled;
 use crate::text::print;
 
-pub(crate) fn exchange(kind: usize) {
-    match kind {
-        39 => print(b"GSA_AUTH"),
-        40 => print(b"GSA_REGISTRATION"),
-        41 => print(b"GSA_REKEY"),
-        42 => print(b"GSA_INBAND_REKEY"),
-        _ => print(b"unknown exchange"),
+// The octet of a bar.
+const BAR: u8 = 124;
+
+// The name of a number, or no octet, where the names are those from a first number on.
+fn name(first: usize, names: &[u8], number: usize) -> &[u8] {
+    if number < first {
+        return part(names, 0, 0);
     }
+    let mut left = number - first;
+    let mut start = 0;
+    let mut at = 0;
+    while at < names.len() {
+        let next = at + 1;
+        if names[at] == BAR {
+            if left == 0 {
+                return part(names, start, at);
+            }
+            left -= 1;
+            start = next;
+        }
+        at = next;
+    }
+    part(names, 0, 0)
+}
+
+// Prints the name of a number, or another text.
+fn named(first: usize, names: &[u8], number: usize, other: &[u8]) {
+    let found = name(first, names, number);
+    if found.len() == 0 {
+        print(other);
+    } else {
+        print(found);
+    }
+}
+
+// Prints the name of a number, or another text and the number.
+fn numbered(first: usize, names: &[u8], number: usize, other: &[u8]) {
+    let found = name(first, names, number);
+    if found.len() == 0 {
+        labelled(other, number);
+    } else {
+        print(found);
+    }
+}
+
+pub(crate) fn exchange(kind: usize) {
+    named(
+        39,
+        b"GSA_AUTH|GSA_REGISTRATION|GSA_REKEY|GSA_INBAND_REKEY|",
+        kind,
+        b"unknown exchange",
+    );
 }
 
 pub(crate) fn payload(kind: usize) {
-    match kind {
-        36 => print(b"IDr"),
-        37 => print(b"CERT"),
-        39 => print(b"AUTH"),
-        41 => print(b"N"),
-        42 => print(b"D"),
-        51 => print(b"GSA"),
-        52 => print(b"KD"),
-        _ => print(b"unknown"),
-    }
+    named(36, b"IDr|CERT||AUTH||N|D|||||||||GSA|KD|", kind, b"unknown");
 }
 
 pub(crate) fn protocol(number: usize) {
-    match number {
-        2 => print(b"AH"),
-        3 => print(b"ESP"),
-        6 => print(b"Rekey"),
-        _ => crate::text::between(b"protocol ", number, b""),
-    }
+    numbered(2, b"AH|ESP|||Rekey|", number, b"protocol ");
 }
 
 pub(crate) fn transform_type(kind: usize) {
-    match kind {
-        1 => print(b"Encryption Algorithm"),
-        3 => print(b"Integrity Algorithm"),
-        5 => print(b"Sequence Numbers"),
-        13 => print(b"Key Wrap Algorithm"),
-        14 => print(b"Controller Authentication"),
-        _ => crate::text::between(b"transform type ", kind, b""),
-    }
+    numbered(
+        1,
+        b"Encryption Algorithm||Integrity Algorithm||Sequence Numbers||||||||Key Wrap Algorithm|Controller Authentication|",
+        kind,
+        b"transform type ",
+    );
 }
 
-fn sequence_numbers(id: usize) {
-    match id {
-        0 => print(b"32-bit Sequential Numbers"),
-        1 => print(b"Partially Transmitted 64-bit Sequential Numbers"),
-        2 => print(b"32-bit Unspecified Numbers"),
-        _ => crate::text::between(b"ID ", id, b""),
-    }
-}
-
-fn key_wrap(id: usize) {
-    match id {
-        1 => print(b"KW_5649_128"),
-        2 => print(b"KW_5649_192"),
-        3 => print(b"KW_5649_256"),
-        4 => print(b"KW_ARX"),
-        _ => crate::text::between(b"ID ", id, b""),
-    }
-}
-
-fn controller_authentication(id: usize) {
-    match id {
-        1 => print(b"Implicit"),
-        2 => print(b"Digital Signature"),
-        _ => crate::text::between(b"ID ", id, b""),
-    }
-}
-
-fn encryption(id: usize) {
-    match id {
-        20 => print(b"AES-GCM-16"),
-        _ => crate::text::between(b"ID ", id, b""),
-    }
+fn transform_id_from(first: usize, names: &[u8], id: usize) {
+    numbered(first, names, id, b"ID ");
 }
 
 pub(crate) fn transform_id(kind: usize, id: usize) {
     match kind {
-        1 => encryption(id),
-        5 => sequence_numbers(id),
-        13 => key_wrap(id),
-        14 => controller_authentication(id),
-        _ => crate::text::between(b"ID ", id, b""),
+        1 => transform_id_from(20, b"AES-GCM-16|", id),
+        5 => transform_id_from(
+            0,
+            b"32-bit Sequential Numbers|Partially Transmitted 64-bit Sequential Numbers|32-bit Unspecified Numbers|",
+            id,
+        ),
+        13 => transform_id_from(1, b"KW_5649_128|KW_5649_192|KW_5649_256|KW_ARX|", id),
+        14 => transform_id_from(1, b"Implicit|Digital Signature|", id),
+        _ => labelled(b"ID ", id),
     }
 }
 
-// An attribute of a Group SA policy.
-pub(crate) fn group_sa_attribute(kind: usize) {
-    match kind {
-        1 => print(b"GSA_KEY_LIFETIME"),
-        2 => print(b"GSA_INITIAL_MESSAGE_ID"),
-        3 => print(b"GSA_NEXT_SPI"),
-        _ => crate::text::between(b"attribute ", kind, b""),
+fn attribute(names: &[u8], kind: usize) {
+    numbered(1, names, kind, b"attribute ");
+}
+
+// An attribute of a group-wide policy, or of a Group SA policy.
+pub(crate) fn policy_attribute(wide: bool, kind: usize) {
+    if wide {
+        attribute(b"GWP_ATD|GWP_DTD|GWP_SENDER_ID_BITS|", kind);
+    } else {
+        attribute(
+            b"GSA_KEY_LIFETIME|GSA_INITIAL_MESSAGE_ID|GSA_NEXT_SPI|",
+            kind,
+        );
     }
 }
 
-// An attribute of a group-wide policy.
-pub(crate) fn group_wide_attribute(kind: usize) {
-    match kind {
-        1 => print(b"GWP_ATD"),
-        2 => print(b"GWP_DTD"),
-        3 => print(b"GWP_SENDER_ID_BITS"),
-        _ => crate::text::between(b"attribute ", kind, b""),
+// An attribute of a Member Key Bag, or of a Group Key Bag.
+pub(crate) fn bag_attribute(member: bool, kind: usize) {
+    if member {
+        attribute(b"WRAP_KEY|AUTH_KEY|GM_SENDER_ID|", kind);
+    } else {
+        attribute(b"SA_KEY|", kind);
     }
 }
 
-// An attribute of a Member Key Bag, other than WRAP_KEY.
-pub(crate) fn member_attribute(kind: usize) {
-    match kind {
-        2 => print(b"AUTH_KEY"),
-        3 => print(b"GM_SENDER_ID"),
-        _ => crate::text::between(b"attribute ", kind, b""),
-    }
+// A line that names a protocol and an SPI after a text.
+pub(crate) fn protocol_and_spi(before: &[u8], number: usize, spi: &[u8]) {
+    print(before);
+    protocol(number);
+    print(b", SPI ");
+    crate::text::hexadecimal(spi);
+    print(b"\n");
 }

@@ -1,8 +1,11 @@
 // A policy, by the view.
+use crate::part::end_at;
 use crate::part::four;
 use crate::part::part;
 use crate::part::two;
-use crate::text::between;
+use crate::text::labelled;
+use crate::text::line;
+use crate::text::number;
 use crate::text::print;
 use attributes::tables::Meaning;
 use view::items::Item;
@@ -12,27 +15,16 @@ use view::read::Kind;
 pub(crate) fn policies(s: &[u8]) {
     let mut at = 0;
     while at < s.len() {
-        let n = two(part(s, at, s.len()), 2);
-        if n < 4 {
-            return;
-        }
-        if s.len() - at < n {
-            return;
-        }
-        let end = at + n;
+        let end = end_at(s, at, s.len(), 4);
         policy(part(s, at, end));
         at = end;
     }
 }
 
 fn policy(s: &[u8]) {
-    match view::read::kind_of(s) {
+    match view::shown_kind(s) {
         Kind::GroupSa(p) => {
-            print(b"    policy ");
-            crate::names::protocol(p);
-            print(b", SPI ");
-            crate::text::hexadecimal(view::read::spi_of(s));
-            print(b"\n");
+            crate::names::protocol_and_spi(b"    policy ", p, view::shown_spi(s));
             items(s, false);
         }
         Kind::GroupWide => {
@@ -68,9 +60,7 @@ fn item(s: &[u8], n: usize, wide: bool) -> bool {
         } => {
             selector_name(n);
             addresses(part(s, start, end));
-            between(b", IP protocol ", protocol, b"");
-            between(b", ports ", start_port, b" to ");
-            between(b"", end_port, b"\n");
+            ports(protocol, start_port, end_port);
         }
         Item::Transform {
             kind,
@@ -96,9 +86,15 @@ fn item(s: &[u8], n: usize, wide: bool) -> bool {
 fn selector_name(n: usize) {
     if n == 0 {
         print(b"      source ");
-        return;
+    } else {
+        print(b"      destination ");
     }
-    print(b"      destination ");
+}
+
+fn ports(protocol: usize, start: usize, end: usize) {
+    labelled(b", IP protocol ", protocol);
+    labelled(b", ports ", start);
+    line(b" to ", end);
 }
 
 // Two addresses, one behind the other.
@@ -115,49 +111,46 @@ fn transform(kind: usize, id: usize, key_lengths: usize, key_length: usize) {
     print(b": ");
     crate::names::transform_id(kind, id);
     if key_lengths != 0 {
-        between(b", Key Length ", key_length, b"");
+        labelled(b", Key Length ", key_length);
     }
     if 1 < key_lengths {
-        between(b", the first of ", key_lengths, b"");
+        labelled(b", the first of ", key_lengths);
     }
     print(b"\n");
 }
 
-// An attribute of a policy: its name and its value, a number of 2 or 4 octets or an SPI; of any other how many octets it has.
+// An attribute of a policy: its name and its value, and whether a member passes over it.
 fn attribute(wide: bool, meaning: Meaning, kind: usize, value: &[u8]) {
     print(b"      ");
-    if wide {
-        crate::names::group_wide_attribute(kind);
-        valued(value);
-    } else {
-        crate::names::group_sa_attribute(kind);
-        if kind == 3 {
-            print(b": ");
-            crate::text::hexadecimal(value);
-        } else {
-            valued(value);
-        }
-    }
-    ended(attributes::tables::code(meaning) == 0);
-}
-
-fn valued(value: &[u8]) {
-    if value.len() == 2 {
-        between(b": ", two(value, 0), b"");
-        return;
-    }
-    if value.len() == 4 {
-        between(b": ", four(value, 0), b"");
-        return;
-    }
-    between(b": ", value.len(), b" octets");
-}
-
-// The end of an attribute's line, with a word on one that a member does not read.
-fn ended(skipped: bool) {
-    if skipped {
-        print(b", skipped\n");
-        return;
+    crate::names::policy_attribute(wide, kind);
+    print(b": ");
+    valued(is_spi(wide, kind), value);
+    if attributes::tables::code(meaning) == 0 {
+        print(b", skipped");
     }
     print(b"\n");
+}
+
+// GSA_NEXT_SPI.
+fn is_spi(wide: bool, kind: usize) -> bool {
+    if wide {
+        return false;
+    }
+    kind == 3
+}
+
+// An SPI, a number of 2 or 4 octets; of any other value how many octets it has.
+fn valued(spi: bool, value: &[u8]) {
+    if spi {
+        crate::text::hexadecimal(value);
+        return;
+    }
+    match value.len() {
+        2 => number(two(value, 0)),
+        4 => number(four(value, 0)),
+        _ => {
+            number(value.len());
+            print(b" octets");
+        }
+    }
 }

@@ -9,11 +9,21 @@ pub(crate) fn number(n: usize) {
     io::print_decimal(STDOUT_FILENO, n as u64);
 }
 
-// A number between two texts.
-pub(crate) fn between(before: &[u8], n: usize, after: &[u8]) {
+// A number after a text.
+pub(crate) fn labelled(before: &[u8], n: usize) {
     print(before);
     number(n);
+}
+
+// A number between two texts.
+pub(crate) fn between(before: &[u8], n: usize, after: &[u8]) {
+    labelled(before, n);
     print(after);
+}
+
+// A number after a text, at the end of a line.
+pub(crate) fn line(before: &[u8], n: usize) {
+    between(before, n, b"\n");
 }
 
 // Octets in hexadecimal.
@@ -48,9 +58,9 @@ fn groups(octets: &[u8]) {
 pub(crate) fn address(octets: &[u8]) {
     if octets.len() == 4 {
         number(octets::wide(octets[0]));
-        between(b".", octets::wide(octets[1]), b".");
-        number(octets::wide(octets[2]));
-        between(b".", octets::wide(octets[3]), b"");
+        labelled(b".", octets::wide(octets[1]));
+        labelled(b".", octets::wide(octets[2]));
+        labelled(b".", octets::wide(octets[3]));
         return;
     }
     groups(octets);

@@ -33,7 +33,7 @@ of-format o a (in-long x) =
     let l : leadOf a ≡ 4 = ap (λ (t : Bool). either t 2 4) (x .format) in
     omega (arith, l, ap length (x .value), length-drop 4 o, x .size)
 
-row-octets : {p : Place} {s : List ℕ} {l : List Attribute} → Row (IsAttribute p) s l → octetsIn l ≡ length s
+pub row-octets : {p : Place} {s : List ℕ} {l : List Attribute} → Row (IsAttribute p) s l → octetsIn l ≡ length s
 unfolding octetsIn
 row-octets no-more = refl
 row-octets (then o s {a = a} i r) = omega (arith, of-format o a (i .format), row-octets r, length-append o s)

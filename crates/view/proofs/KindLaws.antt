@@ -20,7 +20,7 @@ use Rattle.attributes.proofs.Loops.{ended, spot-broken}
 use Rattle.attributes.proofs.GrammarLaws.{are-read}
 use Rattle.policies.specs.Selector.{selectorSize}
 use Rattle.policies.specs.Policy.{spiSize, GroupSaPolicy, GroupWidePolicy, Policy, groupSa, groupWide, SaBody, saBody, policy}
-use Rattle.policies.specs.Grammar.{IsSaBody, IsGroupSa, IsPolicy, is-sa, is-wide}
+use Rattle.policies.specs.Grammar.{IsSaBody, IsGroupSa, IsGroupWide, IsPolicy, is-sa, is-wide}
 use Rattle.policies.proofs.PolicyLaws.{takes}
 use Rattle.policies.proofs.PolicyGrammar.{inverse, sound}
 use Rattle.policies.proofs.BodyGrammar.{body-from}
@@ -93,7 +93,7 @@ pub record Sa (s : List ℕ) (p : ℕ) : Type 0 where
   pub is : IsSaBody (inPolicy p) (drop (4 + spiSize p) s) body
   pub items : shownBody (inPolicy p) (4 + spiSize p) (length s) body ≡ itemsOf s
 
-sa-items : (s : List ℕ) (x : GroupSaPolicy) → policy 0 s ≡ whole (groupSa x) [] → (i : IsGroupSa s x)
+pub sa-items : (s : List ℕ) (x : GroupSaPolicy) → policy 0 s ≡ whole (groupSa x) [] → (i : IsGroupSa s x)
     → shownBody (inPolicy (x .protocol)) (4 + spiSize (x .protocol)) (length s) (i .body) ≡ itemsOf s
 sa-items s x e i =
     let p = inPolicy (x .protocol) in
@@ -196,14 +196,14 @@ pub record ShowsWide (s : List ℕ) (x : GroupWidePolicy) : Type 0 where
   pub read : deactivationDelays place.GroupWidePolicy attributes ≡ x .deactivationDelays
   pub items : itemsOf s ≡ shownAttributes place.GroupWidePolicy (length s) attributes
 
+pub wide-items : (s : List ℕ) (x : GroupWidePolicy) → policy 0 s ≡ whole (groupWide x) [] → (i : IsGroupWide s x)
+    → itemsOf s ≡ shownAttributes place.GroupWidePolicy (length s) (i .attributes)
+wide-items s x e i =
+    ap (onAll [] (itemsIn s)) e
+    ∙ ap (onAll [] (shownAttributes place.GroupWidePolicy (length s))) (are-read place.GroupWidePolicy (i .held) 4)
+
 pub shows-wide : (s : List ℕ) (x : GroupWidePolicy) → policy 0 s ≡ whole (groupWide x) [] → ShowsWide s x
 shows-wide s x e = go (one s (groupWide x) e)
   where
     go : IsPolicy s (groupWide x) → ShowsWide s x
-    go (is-wide i) = record {
-      attributes = i .attributes;
-      read = i .deactivationDelays;
-      items =
-          ap (onAll [] (itemsIn s)) e
-          ∙ ap (onAll [] (shownAttributes place.GroupWidePolicy (length s))) (are-read place.GroupWidePolicy (i .held) 4);
-    }
+    go (is-wide i) = record { attributes = i .attributes; read = i .deactivationDelays; items = wide-items s x e i }

@@ -1,9 +1,11 @@
 pub mod Apart
 pub mod Asking
 pub mod AskingSlice
+pub mod Showing
 pub mod KindLaws
 pub mod AttributeLaws
 pub mod TransformLaws
 pub mod SuiteLaws
 pub mod BodyLaws
 pub mod CursorLaws
+pub mod Cuts

@@ -63,3 +63,17 @@ pub fn shown(s: &[u8], at: usize) -> items::Item
 {
     here(View { src: s, at })
 }
+
+// Which policy a view of the octets shows: for every caller that holds no view.
+pub fn shown_kind(s: &[u8]) -> read::Kind
+    ensures { λ r. ⌜ r ≡ kindOf (now (s .entry)) ⌝ }
+{
+    kind(View { src: s, at: 0 })
+}
+
+// The octets of the SPI that a view of the octets shows: for every caller that holds no view.
+pub fn shown_spi(s: &[u8]) -> &[u8]
+    ensures { λ r. ⌜ now r ≡ spiOf (now (s .entry)) ⌝ }
+{
+    spi(View { src: s, at: 0 })
+}

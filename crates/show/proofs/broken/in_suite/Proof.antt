@@ -12,11 +12,8 @@ abbrev μ-loop : tie.MeasureT-loop
 loop-holds : tie.Need-loop-holds Inv-loop μ-loop
 loop-holds c = tt
 
-part-requires : tie.Need-part-requires Inv-loop μ-loop
-part-requires c κs = search needs
-
-two-requires : tie.Need-two-requires Inv-loop μ-loop
-two-requires c κs = search needs
+end-at-requires : tie.Need-end-at-requires Inv-loop μ-loop
+end-at-requires c κs = search needs
 
 in-transform-requires : tie.Need-in-transform-requires Inv-loop μ-loop
 in-transform-requires c κs = search needs
@@ -24,35 +21,14 @@ in-transform-requires c κs = search needs
 returns : tie.Need-returns Inv-loop μ-loop
 returns c = search needs
 
-sub-if2 : tie.Need-sub-if2 Inv-loop μ-loop
-sub-if2 c = search needs
-
-in-transform-requires-2 : tie.Need-in-transform-requires-2 Inv-loop μ-loop
-in-transform-requires-2 c κs = search needs
-
-returns-2 : tie.Need-returns-2 Inv-loop μ-loop
-returns-2 c = search needs
-
-add-if3 : tie.Need-add-if3 Inv-loop μ-loop
-add-if3 c = search needs
-
-in-transform-requires-3 : tie.Need-in-transform-requires-3 Inv-loop μ-loop
-in-transform-requires-3 c κs = search needs
-
-returns-3 : tie.Need-returns-3 Inv-loop μ-loop
-returns-3 c = search needs
-
 octet-requires : tie.Need-octet-requires Inv-loop μ-loop
 octet-requires c κs = search needs
 
 attribute-at-requires : tie.Need-attribute-at-requires Inv-loop μ-loop
 attribute-at-requires c κs = search needs
 
-returns-4 : tie.Need-returns-4 Inv-loop μ-loop
-returns-4 c = search needs
-
-add-at : tie.Need-add-at Inv-loop μ-loop
-add-at c = search needs
+returns-2 : tie.Need-returns-2 Inv-loop μ-loop
+returns-2 c = search needs
 
 loop-less : tie.Need-loop-less Inv-loop μ-loop
 loop-less c = search needs
@@ -60,8 +36,8 @@ loop-less c = search needs
 loop-again : tie.Need-loop-again Inv-loop μ-loop
 loop-again c = tt
 
-returns-5 : tie.Need-returns-5 Inv-loop μ-loop
-returns-5 c = search needs
+returns-3 : tie.Need-returns-3 Inv-loop μ-loop
+returns-3 c = search needs
 
 pub in-suite-spec : {M : Type 1} → statement M
 in-suite-spec =
@@ -70,20 +46,12 @@ in-suite-spec =
     Inv-loop
     μ-loop
     loop-holds
-    part-requires
-    two-requires
+    end-at-requires
     in-transform-requires
     returns
-    sub-if2
-    in-transform-requires-2
-    returns-2
-    add-if3
-    in-transform-requires-3
-    returns-3
     octet-requires
     attribute-at-requires
-    returns-4
-    add-at
+    returns-2
     loop-less
     loop-again
-    returns-5)
+    returns-3)

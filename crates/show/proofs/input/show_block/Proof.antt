@@ -1,6 +1,6 @@
-use denote.Ref.{now}
 use native.Mathlib.Omega.{arith}
-use Rattle.show.proofs.BlockLaws.{taken, keeps}
+use Rattle.lines.proofs.ProgramLaws.{absorbed-some}
+use Rattle.lines.proofs.RoomLaws.{length-put}
 use lib.ListN.{length}
 use Prim.Native.Nat.{_-_}
 use mathlib.Core.Path.{_≡_, refl, _∙_}
@@ -26,17 +26,13 @@ left-open-requires c κs = search needs
 loop-less : tie.Need-loop-less Inv-loop μ-loop
 loop-less c =
     let b = c .before .before .before .before in
-    let l = b .before .before .before .loop in
-    let s = now (b .before .before .before .before .before .before .args .block) in
     let h = b .before .before .loop-test .taken in
-    omega (arith, h, taken s (l .at) (l .line) (l .held) (b .absorb .last .1 .1 .0) (b .absorb .result) (b .absorb .ensures) h)
+    omega (arith, h, absorbed-some (b .absorb .ensures) h)
 
 loop-again : tie.Need-loop-again Inv-loop μ-loop
 loop-again c =
     let b = c .before .before .before .before in
-    let l = b .before .before .before .loop in
-    let s = now (b .before .before .before .before .before .before .args .block) in
-    keeps s (l .at) (l .line) (l .held) (b .absorb .last .1 .1 .0) (b .absorb .result) (b .absorb .ensures) ∙ l .inv
+    length-put (b .absorb .ensures .kept) ∙ b .before .before .before .loop .inv
 
 same-length : tie.Need-same-length Inv-loop μ-loop
 same-length c = c .before .loop .inv
