@@ -12,7 +12,8 @@ use Rattle.lines.specs.declared.Key.{Key}
 use Rattle.lines.proofs.ReadingLaws.{reads-append}
 use Rattle.lines.proofs.ProgramLaws.{part-join}
 use Rattle.group.specs.declared.Member.{Member}
-use Rattle.member.specs.Program.{Answers, keyIn}
+use Rattle.member.specs.Program.{Answers}
+use Rattle.member.specs.inner.Reply.{keyIn}
 use Rattle.member.specs.inner.Standing.{Ready, Room, KeyStands, Stands, Goes, Passes}
 use Rattle.member.specs.inner.Printed.{Flushed, Consumed}
 use Rattle.member.specs.inner.Handing.{HandedOver}

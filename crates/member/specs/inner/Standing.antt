@@ -1,4 +1,4 @@
--- Where the program stands in its input and its output. Assumes nothing.
+-- Where the program stands in its input and its output.
 use Prim.Native.Nat.{ℕ, _-_, _<_, _≤_}
 use mathlib.Core.Path.{_≡_}
 use mathlib.Core.Bool.{true, false}
@@ -8,7 +8,8 @@ use Rattle.octets.specs.Walk.{part}
 use Rattle.lines.specs.inner.Reading.{DefaultKey, awaited, given, Reading, start, Reads, Kept}
 use Rattle.group.specs.Member.{newMember}
 use Rattle.group.specs.declared.Member.{Member}
-use Rattle.member.specs.Program.{Answers, keyIn}
+use Rattle.member.specs.Program.{Answers}
+use Rattle.member.specs.inner.Reply.{keyIn}
 use Rattle.member.specs.declared.running.Running.{Running}
 use Rattle.member.specs.declared.running.Passed.{Passed}
 
