@@ -7,7 +7,8 @@ use native.Mathlib.Omega.{arith}
 use lib.Dec.{eqb}
 use lib.ListN.{length, drop, length-drop}
 use lib.Seq.{length-sets}
-use Rattle.lines.specs.Lines.{Line, written, before, lines, firstOf}
+use Rattle.lines.specs.Lines.{Line, before, lines}
+use Rattle.lines.specs.inner.First.{written, firstOf}
 use Rattle.lines.specs.inner.Calls.{Absorbs}
 use Rattle.lines.specs.declared.Absorbed.{Absorbed}
 
