@@ -9,7 +9,7 @@ use lib.ListN.{length, take, drop, replicate}
 use lib.Seq.{take-at, length-take-le}
 use Rattle.fips197.specs.Key.{Key, isKey}
 use Rattle.keywrap.specs.Opens.{Opens}
-use Rattle.keywrap.specs.Answers.{blank, OpensBlank}
+use Rattle.keywrap.specs.inner.Blank.{blank, OpensBlank}
 use Rattle.keywrap.specs.declared.Answer.the-variants.{No, Count}
 use Rattle.keywrap.proofs.Determined.{opens-one}
 use Rattle.chains.proofs.Members.{in-member}

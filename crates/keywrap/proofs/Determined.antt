@@ -7,12 +7,12 @@ use lib.ListN.{length, take, drop, getD, replicate}
 use lib.Seq.{take-at}
 use Rattle.octets.specs.Octets.{Octets}
 use Rattle.fips197.specs.Key.{Key}
-use Rattle.keywrap.specs.Wrap.{blocks, padded, registers, octetsIn}
+use Rattle.keywrap.specs.Wrap.{blocks, padded, registers, octetsIn, start}
 use Rattle.keywrap.specs.Opens.{Opens}
 use Rattle.keywrap.specs.declared.Answer.{Answer}
 use Rattle.keywrap.specs.declared.Answer.the-variants.{No, Count}
 use Rattle.keywrap.specs.Answers.{written, Answers, Wrapping, Opening, WrapAnswers, OpenAnswers}
-use Rattle.keywrap.specs.inner.Unwrap.{start, backward}
+use Rattle.keywrap.specs.inner.Unwrap.{backward}
 use Rattle.keywrap.proofs.Wrapping.{length-wrapped, unwrapped, padded-is}
 
 unpadded : (x : List ℕ) → take (length x) (padded x) ≡ x

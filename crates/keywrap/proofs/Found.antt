@@ -10,9 +10,10 @@ use Rattle.octets.specs.Octets.{Octets}
 use Rattle.octets.proofs.Octets.{join-octets, take-octets, zero-octets}
 use Rattle.octets.proofs.Replicate.{drop-replicate, take-replicate}
 use Rattle.keywrap.specs.Steps.{register}
-use Rattle.keywrap.specs.Wrap.{initialValue, blocks, padded, registers, octetsIn}
-use Rattle.keywrap.specs.Answers.{written, blank, Wrote}
-use Rattle.keywrap.specs.inner.Unwrap.{start, Begins, countIn, zeroFrom}
+use Rattle.keywrap.specs.Wrap.{initialValue, blocks, padded, registers, octetsIn, start}
+use Rattle.keywrap.specs.Answers.{written, Wrote}
+use Rattle.keywrap.specs.inner.Blank.{blank}
+use Rattle.keywrap.specs.inner.Unwrap.{Begins, countIn, zeroFrom}
 use Rattle.keywrap.proofs.Registers.{Registers, registers-octets, octets-registers, length-octets-in, octets-in-octets}
 use Rattle.keywrap.proofs.Wrapping.{length-padded, padded-octets}
 use Rattle.keywrap.proofs.Checks.{count-told, told-count, zero-from, from-zero}

@@ -14,7 +14,8 @@ use Rattle.fips197.specs.Key.{Key}
 use Rattle.keywrap.specs.declared.Answer.{Answer}
 use Rattle.keywrap.specs.declared.Answer.the-variants.{No}
 use Rattle.keywrap.specs.Wrap.{blocks, registers}
-use Rattle.keywrap.specs.Answers.{blank, Opening, Answers, OpenAnswers, Wrote}
+use Rattle.keywrap.specs.Answers.{Opening, Answers, OpenAnswers, Wrote}
+use Rattle.keywrap.specs.inner.Blank.{blank}
 use Rattle.keywrap.specs.inner.Unwrap.{backward, Begins}
 use Rattle.keywrap.specs.inner.Room.{answerBy, roomBy, putAnswer, putRoom}
 use Rattle.keywrap.proofs.Registers.{registers-are}

@@ -18,9 +18,9 @@ use Rattle.fips197.specs.Key.{Key}
 use Rattle.fips197.specs.Cipher.{cipher}
 use Rattle.fips197.proofs.Inverse.{cipher-block}
 use Rattle.keywrap.specs.Steps.{joined, msb64, lsb64, stored, step}
-use Rattle.keywrap.specs.Wrap.{initialValue, blocks, padded, registers, octetsIn, wrapBy, wrapOf}
+use Rattle.keywrap.specs.Wrap.{initialValue, blocks, padded, registers, octetsIn, wrapBy, wrapOf, start}
 use Rattle.keywrap.specs.Opens.{Opens}
-use Rattle.keywrap.specs.inner.Unwrap.{start, forwardBy, forward, backward}
+use Rattle.keywrap.specs.inner.Unwrap.{forwardBy, forward, backward}
 use Rattle.keywrap.proofs.Registers.{Registers, cons-registers, registers-are, octets-registers, registers-octets, length-octets-in}
 use Rattle.keywrap.proofs.Blocks.{joined-block, joined-parts}
 use Rattle.keywrap.proofs.Steps.{forward-undone, backward-undone}

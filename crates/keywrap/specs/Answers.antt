@@ -5,7 +5,7 @@ use mathlib.Core.Path.{_≡_}
 use Prim.Native.Nat.{ℕ, _≤_}
 use mathlib.Core.List.{List, _++_}
 use lib.Dec.{T}
-use lib.ListN.{length, drop, replicate}
+use lib.ListN.{length, drop}
 use Rattle.fips197.specs.Key.{isKey}
 use Rattle.keywrap.specs.declared.Answer.{Answer}
 use Rattle.keywrap.specs.declared.Answer.the-variants.{No, Count}
@@ -15,10 +15,6 @@ use Rattle.keywrap.specs.Opens.{Opens}
 -- the room with x at its start and the rest as lent
 abbrev pub written : List ℕ → List ℕ → List ℕ
 written x room = x ++ drop (length x) room
-
--- a room of 256 octets, all 0
-unfoldable pub blank : List ℕ
-blank = replicate 256 0
 
 -- x is the result, and it is to be written: the key has 16, 24 or 32 octets, and the room holds x
 pub record Wrapping (key octets room x : List ℕ) : Type 0 where
@@ -56,7 +52,3 @@ WrapAnswers key octets room = Answers (Wrapping key octets room) room
 -- `open`
 abbrev pub OpenAnswers : List ℕ → List ℕ → List ℕ → Answer → List ℕ → Type 0
 OpenAnswers key wrapped room = Answers (Opening key wrapped room) room
-
--- `open_under`: the same, into a blank room of 256 octets, which every result fits
-abbrev pub OpensBlank : List ℕ → List ℕ → Answer → List ℕ → Type 0
-OpensBlank key wrapped = OpenAnswers key wrapped blank

@@ -16,7 +16,7 @@ initialValue m = 0xa65959a6 * 4294967296 + m
 abbrev pub blocks : ℕ → ℕ
 blocks m = (m + 7) / 8
 
--- section 4.1, step 1: "pad the plaintext octet string on the right with octets of zeros" to a multiple of 8
+-- section 4.1, step 1: the octets are padded on the right with zeros, up to a multiple of 8
 unfoldable pub padded : List ℕ → List ℕ
 padded x = x ++ replicate (8 * blocks (length x) - length x) 0
 
@@ -30,13 +30,16 @@ unfoldable pub octetsIn : List ℕ → List ℕ
 octetsIn [] = []
 octetsIn (r ∷ s) = octetsOf 8 r ++ octetsIn s
 
+-- the initial value and the padded octets as registers, before the steps
+unfoldable pub start : List ℕ → List ℕ
+start x = initialValue (length x) ∷ registers (blocks (length x)) (padded x)
+
 -- section 4.1, step 2, by whether the padded octets are exactly eight
 abbrev pub wrapBy : Bool → List ℕ → List ℕ → List ℕ
--- "prepend the AIV .. and encrypt the resulting 128-bit block"
+-- the initial value stands before them, and the one block of 128 bits is enciphered
 wrapBy true key x = cipher key (octetsOf 8 (initialValue (length x)) ++ padded x)
--- "apply the wrapping process specified in Section 2.2.1 of [AES-KW2] .. with the AIV as the initial value"
-wrapBy false key x =
-    octetsIn (rows key (blocks (length x)) 6 (initialValue (length x) ∷ registers (blocks (length x)) (padded x)))
+-- the steps of RFC 3394, section 2.2.1, from this initial value on
+wrapBy false key x = octetsIn (rows key (blocks (length x)) 6 (start x))
 
 -- the wrapped octets
 unfoldable pub wrapOf : List ℕ → List ℕ → List ℕ

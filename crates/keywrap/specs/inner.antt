@@ -1,2 +1,3 @@
 pub mod Unwrap
 pub mod Room
+pub mod Blank

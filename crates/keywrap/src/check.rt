@@ -5,7 +5,8 @@ use crate::load::store;
 ghost use mathlib.Core.Path.{_≡_};
 ghost use Prim.Native.Nat.{suc, _≤_};
 ghost use lib.ListN.{take};
-ghost use Rattle.keywrap.specs.Answers.{Answers, blank};
+ghost use Rattle.keywrap.specs.Answers.{Answers};
+ghost use Rattle.keywrap.specs.inner.Blank.{blank};
 ghost use Rattle.keywrap.specs.inner.Unwrap.{Begins, countIn, zeroFrom};
 
 // "no", and nothing of what did not open.

@@ -13,7 +13,8 @@ ghost use lib.ListN.{length};
 ghost use Rattle.fips197.specs.Key.{isKey};
 ghost use Rattle.aes.specs.inner.Schedule.{ExpandsInverse, ExpandedInverse};
 ghost use Rattle.keywrap.specs.Wrap.{wrapOf};
-ghost use Rattle.keywrap.specs.Answers.{written, WrapAnswers, OpenAnswers, OpensBlank};
+ghost use Rattle.keywrap.specs.Answers.{written, WrapAnswers, OpenAnswers};
+ghost use Rattle.keywrap.specs.inner.Blank.{OpensBlank};
 ghost use Rattle.keywrap.specs.inner.Unwrap.{Unwraps};
 ghost use Rattle.keywrap.specs.inner.Room.{putAnswer, putRoom};
 

@@ -5,9 +5,8 @@ ghost use mathlib.Core.Path.{_≡_};
 ghost use mathlib.Core.List.{_++_};
 ghost use Prim.Native.Nat.{_+_, _-_, _*_, _/_, _≤_};
 ghost use lib.ListN.{length, replicate};
-ghost use Rattle.keywrap.specs.Wrap.{blocks, registers, octetsIn};
+ghost use Rattle.keywrap.specs.Wrap.{blocks, registers, octetsIn, start};
 ghost use Rattle.keywrap.specs.Answers.{written};
-ghost use Rattle.keywrap.specs.inner.Unwrap.{start};
 
 pub(crate) fn load(octets: &[u8], s: &mut [u64])
     requires { ⌜ length (now octets) ≡ 8 * length (now s) ⌝ }
@@ -44,7 +43,7 @@ pub(crate) fn begun(octets: &[u8]) -> [u64; 33]
     let mut padded = [0u8; 256];
     bytes::copy(octets, &mut padded);
     let mut s = [0u64; 33];
-    s[0] = 11986710452722728960 + m as u64;
+    s[0] = 0xa65959a600000000 + m as u64;
     let e = 8 * n;
     load(&padded[..e], &mut s[1..n + 1]);
     s

@@ -1,4 +1,4 @@
-// The steps of RFC 3394, section 2.2, in place, over the registers A, R[1], .., R[n].
+// The steps of RFC 3394, section 2.2.1, in place, over the registers A, R[1], .., R[n].
 use octets::registers::be64_at;
 use octets::registers::block_of;
 ghost use mathlib.Core.Path.{_≡_};

@@ -6,7 +6,8 @@ use mathlib.Core.Bool.{true, false}
 use native.Mathlib.Omega.{arith}
 use lib.ListN.{length, drop, getD, drop-of-length-le}
 use borrow.Author.Tests.{eq-eqb, ne-eqb}
-use Rattle.lines.specs.Lines.{Line, written, before, lines, firstOf}
+use Rattle.lines.specs.Lines.{Line, before, lines}
+use Rattle.lines.specs.inner.First.{written, firstOf}
 use Rattle.lines.specs.inner.Room.{Put}
 use Rattle.lines.specs.inner.Calls.{Absorbs}
 use Rattle.lines.proofs.Cases.{at-place}

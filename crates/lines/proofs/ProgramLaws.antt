@@ -7,7 +7,8 @@ use mathlib.Core.Bool.{Bool, true, false, cond}
 use native.Mathlib.Omega.{arith}
 use lib.ListN.{length, take, drop, set, length-append, length-take, length-drop, length-set}
 use lib.Seq.{sets, drop-drop, take-add, take-all, take-suc-set, take-append-le, take-append-seam, length-take-le}
-use Rattle.lines.specs.Lines.{Line, written, lines, firstOf}
+use Rattle.lines.specs.Lines.{Line, lines}
+use Rattle.lines.specs.inner.First.{written, firstOf}
 use Rattle.lines.specs.Input.{Asked, bad, keyOf, askedBy}
 use Rattle.lines.specs.Transcript.{Step, RepliesTo}
 use Rattle.lines.specs.inner.Room.{Put}

@@ -5,7 +5,8 @@ use mathlib.Core.Path.{_≡_, refl, ap, sym, subst, _∙_}
 use mathlib.Core.List.{List, [], _∷_, _++_, append-assoc, append-nil}
 use mathlib.Core.Bool.{Bool, true, false}
 use native.Mathlib.Omega.{arith}
-use Rattle.lines.specs.Lines.{Line, written, before, lines}
+use Rattle.lines.specs.Lines.{Line, before, lines}
+use Rattle.lines.specs.inner.First.{written}
 use Rattle.lines.proofs.Cases.{by-same}
 use Rattle.lines.proofs.LineLaws.{NoNewline, lines-newline, lines-other, lines-ended, lines-begun}
 

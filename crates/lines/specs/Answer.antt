@@ -1,5 +1,5 @@
 -- What is printed for a line. Document 01, the member program: "Each line after the first prints number, SA count, held count", as in
--- `1 0 0`, or "bad": decimal numbers with one space between two, and a newline. Assumes nothing.
+-- `1 0 0`, or "bad": decimal numbers with one space between two, and a newline.
 use Prim.Native.Nat.{ℕ, zero, suc, _+_, _/_, _%_}
 use mathlib.Core.List.{List, [], _∷_, _++_}
 use mathlib.Core.Bool.{cond}

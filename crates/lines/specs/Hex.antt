@@ -1,4 +1,4 @@
--- Hexadecimal text. Document 01, the member program: "lines of hexadecimal .. Digits are 0-9 and a-f." Assumes nothing.
+-- Hexadecimal text. Document 01, the member program: "lines of hexadecimal .. Digits are 0-9 and a-f."
 use Prim.Native.Nat.{ℕ, _+_, _-_, _*_, _/_, _%_}
 use mathlib.Core.List.{List, [], _∷_}
 use mathlib.Core.Bool.{Bool, true, cond, _&&_, _||_}

@@ -1,5 +1,4 @@
 -- What a line of input asks. Document 01, the member program: "first the default key, then lines of tick (8 digits) and frame".
--- Assumes nothing.
 use Prim.Native.Nat.{ℕ}
 use mathlib.Core.List.{List, []}
 use mathlib.Core.Bool.{Bool, cond, _&&_}

@@ -1,7 +1,7 @@
 -- Input as lines. Document 01, the member program: "reads standard input, lines of hexadecimal .. A last line need not end in a newline; no
--- line follows a final one." A newline is octet 10; every other octet is a character of its line. Assumes nothing.
+-- line follows a final one." A newline is octet 10; every other octet is a character of its line.
 use Prim.Native.Nat.{ℕ}
-use mathlib.Core.List.{List, [], _∷_, _++_}
+use mathlib.Core.List.{List, [], _∷_}
 use mathlib.Core.Bool.{Bool, true, false, cond}
 use lib.Dec.{eqb}
 
@@ -9,10 +9,6 @@ use lib.Dec.{eqb}
 pub record Line : Type 0 where
   pub text : List ℕ
   pub ended : Bool
-
--- the octets that a line takes in the input
-unfoldable pub written : Line → List ℕ
-written l = l .text ++ cond (l .ended) (10 ∷ []) []
 
 -- a character before the lines that follow it
 abbrev pub before : ℕ → List Line → List Line
@@ -22,8 +18,3 @@ before c (l ∷ ls) = record { text = c ∷ l .text; ended = l .ended } ∷ ls
 unfoldable pub lines : List ℕ → List Line
 lines [] = []
 lines (c ∷ s) = cond (eqb c 10) (record { text = []; ended = true } ∷ lines s) (before c (lines s))
-
--- the first line; where there is none, one with no character that no newline ended
-abbrev pub firstOf : List Line → Line
-firstOf [] = record { text = []; ended = false }
-firstOf (l ∷ ls) = l

@@ -1,4 +1,4 @@
--- The whole output of the member program for its whole input, over what the member does with one frame. Assumes nothing.
+-- The whole output of the member program for its whole input, over what the member does with one frame.
 use Prim.Native.Nat.{ℕ}
 use mathlib.Core.Path.{_≡_}
 use mathlib.Core.List.{List, [], _∷_, _++_}

@@ -1,3 +1,4 @@
 pub mod Room
+pub mod First
 pub mod Calls
 pub mod Reading

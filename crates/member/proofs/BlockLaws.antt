@@ -1,8 +1,8 @@
--- A block that the program goes through, part after part, and the output written on the way. Assumes nothing.
+-- A block that the program goes through, part after part, and the output handed over on the way.
 use Prim.Native.Nat.{ℕ, _+_, _-_, _<_, _≤_}
 use mathlib.Core.Path.{_≡_, refl, ap, sym, subst, _∙_}
 use mathlib.Core.Logic.{_⊎_, inl, inr}
-use mathlib.Core.List.{List, [], _++_, append-nil}
+use mathlib.Core.List.{List, [], _++_, append-nil, append-assoc}
 use native.Mathlib.Omega.{arith}
 use lib.ListN.{length, take, drop}
 use lib.Seq.{take-all}
@@ -12,10 +12,16 @@ use Rattle.lines.specs.declared.Key.{Key}
 use Rattle.lines.proofs.ReadingLaws.{reads-append}
 use Rattle.lines.proofs.ProgramLaws.{part-join}
 use Rattle.group.specs.declared.Member.{Member}
-use Rattle.member.specs.Program.{Answers, keyIn}
-use Rattle.member.specs.inner.Standing.{Ready, Room, KeyStands, Stands, Goes, Went, Passes, Flushed}
+use Rattle.member.specs.Program.{Answers}
+use Rattle.member.specs.inner.Reply.{keyIn}
+use Rattle.member.specs.inner.Standing.{Ready, Room, KeyStands, Stands, Goes, Passes}
+use Rattle.member.specs.inner.Printed.{Flushed, Consumed}
+use Rattle.member.specs.inner.Handing.{HandedOver}
 use Rattle.member.specs.declared.running.Running.{Running}
 use Rattle.member.specs.declared.running.Passed.{Passed}
+use Rattle.member.specs.declared.output.Handed.{Handed}
+use Rattle.member.specs.declared.Progress.{Progress}
+use Rattle.member.proofs.HandingLaws.{over-none, over-more}
 
 -- parts of a block, one behind the other
 part-none : (s : List ℕ) (a : ℕ) → part s a a ≡ []
@@ -96,107 +102,138 @@ module _ {block : List ℕ} {from : ℕ} {line₀ room₀ out₀ : List ℕ} {r 
       go (inr m) (inl e) = absurd (omega arith)
       go (inr m) (inr e) = absurd (omega (arith, p .out-same))
 
--- the output is written, or stays
+-- the output is handed over, or stays
 stands-key : (r e : Running) → e .key ≡ r .key → e .keyed ≡ r .keyed → (k : DefaultKey) → KeyStands k r → KeyStands k e
 stands-key r e k b awaited p = b ∙ p
 stands-key r e k b (given key) p = (b ∙ p .0, ap keyIn k ∙ p .1)
 
-record Left (x : Reading Member) (line out : List ℕ) (e : Running) : Type 0 where
-  printed : List ℕ
-  stands : Stands printed x line out e
+-- what was handed over, and where the program stands then
+record Left (r : Running) (h : Handed) (out : List ℕ) (e : Progress) : Type 0 where
+  octets : List ℕ
+  over : HandedOver h octets (e .handed)
+  stands : (printed : List ℕ) (x : Reading Member) (line : List ℕ) → Stands printed x line out r
+      → Stands (printed ++ octets) x line out (e .running)
+  place : e .running .at ≤ r .at
 
-module _ (printed : List ℕ) (x : Reading Member) {line out : List ℕ} (r e : Running) (s : Stands printed x line out r)
-    (f : Flushed r out e) where
-  stands-by : (w : List ℕ) → x .output ≡ w ++ take (e .at) out → Stands w x line out e
-  stands-by w o =
+module _ (r : Running) (h : Handed) (out : List ℕ) (e : Progress) (f : Flushed r h out e) where
+  stands-by : {printed w line : List ℕ} {x : Reading Member} → Stands printed x line out r
+      → x .output ≡ w ++ take (e .running .at) out → Stands w x line out (e .running)
+  stands-by {line = line} {x} s o =
       record {
-        key = stands-key r e (f .key) (f .keyed) (x .key) (s .key);
+        key = stands-key r (e .running) (f .key) (f .keyed) (x .key) (s .key);
         member = s .member ∙ sym (f .member);
         kept = subst (λ (n : ℕ). Kept line n (x .line)) (sym (f .len)) (s .kept);
         output = o;
       }
 
-  left-by : (e .at ≡ r .at) ⊎ (e .at ≡ 0) → Left x line out e
+  left-by : (HandedOver h [] (e .handed) × (e .running .at ≡ r .at)) ⊎ (HandedOver h (take (r .at) out) (e .handed) × (e .running .at ≡ 0))
+      → Left r h out e
   left-by (inl p) =
-      record { printed = printed; stands = stands-by printed (s .output ∙ ap (λ (n : ℕ). printed ++ take n out) (sym p)) }
-  left-by (inr p) =
-      let w = printed ++ take (r .at) out in
       record {
-        printed = w;
-        stands = stands-by w (s .output ∙ sym (append-nil w) ∙ ap (λ (n : ℕ). w ++ take n out) (sym p));
+        octets = [];
+        over = p .0;
+        stands =
+            λ printed x line s.
+            stands-by s (s .output ∙ ap (λ (n : ℕ). printed ++ take n out) (sym (p .1))
+            ∙ ap (λ (w : List ℕ). w ++ take (e .running .at) out) (sym (append-nil printed)));
+        place = omega (arith, p .1);
+      }
+  left-by (inr p) =
+      record {
+        octets = take (r .at) out;
+        over = p .0;
+        stands =
+            λ printed x line s.
+            let w = printed ++ take (r .at) out in
+            stands-by s (s .output ∙ sym (append-nil w) ∙ ap (λ (n : ℕ). w ++ take n out) (sym (p .1)));
+        place = omega (arith, p .1);
       }
 
-  stands-flushed : Left x line out e
-  stands-flushed = left-by (f .place)
+  left : Left r h out e
+  left = left-by (f .over)
 
-pub ready-flushed : {line room out : List ℕ} {r e : Running} → Ready line room out r → Flushed r out e → Ready line room out e
-ready-flushed {out = out} {r} {e} p f =
-    let k = ap (λ (x : Key). x .len) (f .key) in
-    record {
-      key = omega (arith, p .key);
-      line-long = p .line-long;
-      begun = omega (arith, p .begun, f .len);
-      room-long = p .room-long;
-      place = within (f .place);
-    }
-  where
-    within : (e .at ≡ r .at) ⊎ (e .at ≡ 0) → e .at ≤ length out
-    within (inl q) = omega (arith, p .place)
-    within (inr q) = omega arith
+  ready-flushed : {line room : List ℕ} → Ready line room out r → Ready line room out (e .running)
+  ready-flushed p =
+      let k = ap (λ (x : Key). x .len) (f .key) in
+      record {
+        key = omega (arith, p .key);
+        line-long = p .line-long;
+        begun = omega (arith, p .begun, f .len);
+        room-long = p .room-long;
+        place = omega (arith, p .place, left .place);
+      }
 
--- a loop that goes through a block and writes the output on the way
-pub record Consuming (block line₀ room₀ out₀ : List ℕ) (r : Running) (line room out : List ℕ) (x : Running) (at : ℕ) : Type 0 where
-  pub ready : Ready line room out x
-  pub space : Room out x
+-- a loop that goes through a block and hands the output over on the way
+pub record Consuming (block line₀ room₀ out₀ : List ℕ) (p : Progress) (line room out : List ℕ) (x : Progress) (at : ℕ) : Type 0 where
+  pub ready : Ready line room out (x .running)
+  pub space : Room out (x .running)
   pub inside : at ≤ length block
-  pub went : (printed : List ℕ) (y : Reading Member) → Stands printed y line₀ out₀ r → Went y (part block 0 at) line out x
+  pub went : Consumed p (part block 0 at) line₀ out₀ line out x
   pub line-same : length line ≡ length line₀
   pub room-same : length room ≡ length room₀
   pub out-same : length out ≡ length out₀
 
-pub consuming-start : (block : List ℕ) {line room out : List ℕ} {r : Running} → Ready line room out r → Room out r
-    → Consuming block line room out r line room out r 0
-consuming-start block p q =
+pub consuming-start : (block : List ℕ) {line room out : List ℕ} {p : Progress} → Ready line room out (p .running) → Room out (p .running)
+    → Consuming block line room out p line room out p 0
+consuming-start block {line} {out = out} {p} r q =
     record {
-      ready = p;
+      ready = r;
       space = q;
       inside = omega arith;
-      went = λ printed y s. record { printed = printed; goes = goes-none block 0 printed y s };
+      went =
+          record {
+            octets = [];
+            over = over-none;
+            goes =
+                λ printed y s.
+                subst (λ (w : List ℕ). Goes w y (part block 0 0) line out (p .running)) (sym (append-nil printed))
+                (goes-none block 0 printed y s);
+          };
       line-same = refl;
       room-same = refl;
       out-same = refl;
     }
 
-module _ {block line₀ room₀ out₀ : List ℕ} {r : Running} {line room out : List ℕ} {x : Running} {at : ℕ}
-    (p : Consuming block line₀ room₀ out₀ r line room out x at) where
-  module _ {line′ room′ out′ : List ℕ} {q : Passed} {e : Running} (t : Passes block at line out x line′ room′ out′ q)
-      (f : Flushed (q .running) out′ e) where
-    went-more : (printed : List ℕ) (y : Reading Member) → Stands printed y line₀ out₀ r → Went y (part block 0 (q .next)) line′ out′ e
-    went-more printed y s =
-        let w = p .went printed y s in
-        let g = t .goes (w .printed) (w .goes .then) (w .goes .stands) in
-        let l = stands-flushed (w .printed) (g .then) (q .running) e (g .stands) f in
-        record {
-          printed = l .printed;
-          goes =
-              goes-join block 0 at (q .next) (omega arith) (t .next) y (w .goes)
-              (record { then = g .then; reads = g .reads; stands = l .stands });
-        }
+module _ {block line₀ room₀ out₀ : List ℕ} {p : Progress} {line room out : List ℕ} {x : Progress} {at : ℕ}
+    (c : Consuming block line₀ room₀ out₀ p line room out x at) where
+  module _ {line′ room′ out′ : List ℕ} {q : Passed} {e : Progress} (t : Passes block at line out (x .running) line′ room′ out′ q)
+      (f : Flushed (q .running) (x .handed) out′ e) where
+    goes-more : (printed : List ℕ) (y : Reading Member) → Stands printed y line₀ out₀ (p .running)
+        → Goes (printed ++ (c .went .octets ++ left (q .running) (x .handed) out′ e f .octets)) y (part block 0 (q .next)) line′ out′
+        (e .running)
+    goes-more printed y s =
+        let o = c .went .octets in
+        let l = left (q .running) (x .handed) out′ e f in
+        let w = c .went .goes printed y s in
+        let g = t .goes (printed ++ o) (w .then) (w .stands) in
+        let d = l .stands (printed ++ o) (g .then) line′ (g .stands) in
+        goes-join block 0 at (q .next) (omega arith) (t .next) y w
+        (record {
+          then = g .then;
+          reads = g .reads;
+          stands =
+              subst (λ (z : List ℕ). Stands z (g .then) line′ out′ (e .running)) (append-assoc printed o (l .octets)) d;
+        })
 
     pub consuming-more : length line′ ≡ length line → length room′ ≡ length room → length out′ ≡ length out
-        → Consuming block line₀ room₀ out₀ r line′ room′ out′ e (q .next)
+        → Consuming block line₀ room₀ out₀ p line′ room′ out′ e (q .next)
     consuming-more k l m =
         record {
-          ready = ready-flushed (t .ready) f;
+          ready = ready-flushed (q .running) (x .handed) out′ e f (t .ready);
           space = f .room;
           inside = t .inside;
-          went = went-more;
-          line-same = k ∙ p .line-same;
-          room-same = l ∙ p .room-same;
-          out-same = m ∙ p .out-same;
+          went =
+              record {
+                octets = c .went .octets ++ left (q .running) (x .handed) out′ e f .octets;
+                over = over-more (c .went .over) (left (q .running) (x .handed) out′ e f .over);
+                goes = goes-more;
+              };
+          line-same = k ∙ c .line-same;
+          room-same = l ∙ c .room-same;
+          out-same = m ∙ c .out-same;
         }
 
-  pub consuming-end : length block ≤ at → (printed : List ℕ) (y : Reading Member) → Stands printed y line₀ out₀ r → Went y block line out x
-  consuming-end h printed y s =
+  pub consuming-end : length block ≤ at → Consumed p block line₀ out₀ line out x
+  consuming-end h =
       let e : part block 0 at ≡ block = take-all (at - 0) block (omega arith) in
-      subst (λ (b : List ℕ). Went y b line out x) e (p .went printed y s)
+      subst (λ (b : List ℕ). Consumed p b line₀ out₀ line out x) e (c .went)

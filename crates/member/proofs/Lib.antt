@@ -1,4 +1,5 @@
 pub mod ReplyLaws
 pub mod StandingLaws
+pub mod HandingLaws
 pub mod BlockLaws
 pub mod Printing

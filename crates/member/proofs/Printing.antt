@@ -1,8 +1,7 @@
--- THE PROGRAM PRINTS WHAT ITS INPUT ASKS FOR, in whatever blocks it is read, and nothing else could be printed. Assumes nothing.
+-- THE PROGRAM PRINTS WHAT ITS INPUT ASKS FOR, in whatever blocks it is read, and nothing else could be printed.
 use Prim.Native.Nat.{ℕ}
-use mathlib.Core.Path.{_≡_, ap, sym, _∙_}
-use mathlib.Core.List.{List, [], _∷_, _++_, flatten}
-use lib.ListN.{take}
+use mathlib.Core.Path.{_≡_, ap, sym, subst, _∙_}
+use mathlib.Core.List.{List, [], _∷_, _++_, flatten, append-nil, append-assoc}
 use Rattle.lines.specs.Transcript.{Outcome}
 use Rattle.lines.specs.inner.Reading.{Reading, start, Finishes}
 use Rattle.lines.proofs.ReadingLaws.{InBlocks, no-block as end, one-more, any-blocks}
@@ -12,44 +11,70 @@ use Rattle.group.specs.Receive.{numberOf}
 use Rattle.group.specs.declared.Member.{Member}
 use Rattle.group.proofs.ReceiveLaws.{receives-one}
 use Rattle.member.specs.Program.{Answers, Prints}
-use Rattle.member.specs.inner.Standing.{Stands, Starts, Went}
-use Rattle.member.specs.declared.running.Running.{Running}
+use Rattle.member.specs.inner.Standing.{Stands, Starts}
+use Rattle.member.specs.inner.Handing.{HandedOver}
+use Rattle.member.specs.inner.Printed.{Consumed, Ended}
+use Rattle.member.specs.declared.output.Handed.{Handed}
+use Rattle.member.specs.declared.Progress.{Progress}
+use Rattle.member.proofs.HandingLaws.{over-none, over-more}
 
 -- what was read block after block, and then finished, is the transcript
 pub prints : (blocks : List (List ℕ)) (x : Reading Member) (output : List ℕ) → InBlocks Answers (start newMember) blocks x
     → Finishes Answers x output → Prints (flatten blocks) output
 prints blocks x output p f = any-blocks Answers newMember blocks x output p f
 
--- the program on the blocks of its input, by the promises of `begun`, `consumed` and `finished`: what it has written by the end of the last
--- block, with what is left of the output then, is what its input asks for
-pub data Consumes : List ℕ → List ℕ → Running → List (List ℕ) → List ℕ → List ℕ → Running → Type 0 where
-  no-block : (line out : List ℕ) (r : Running) → Consumes line out r [] line out r
-  block : {line out line₁ out₁ line₂ out₂ b : List ℕ} {r y e : Running} {bs : List (List ℕ)}
-      → ((printed : List ℕ) (x : Reading Member) → Stands printed x line out r → Went x b line₁ out₁ y)
-      → Consumes line₁ out₁ y bs line₂ out₂ e → Consumes line out r (b ∷ bs) line₂ out₂ e
+-- the program on the blocks of its input, by the promise of `consumed`
+pub data Consumes : List ℕ → List ℕ → Progress → List (List ℕ) → List ℕ → List ℕ → Progress → Type 0 where
+  no-block : (line out : List ℕ) (p : Progress) → Consumes line out p [] line out p
+  block : {line out line₁ out₁ line₂ out₂ b : List ℕ} {p q e : Progress} {bs : List (List ℕ)}
+      → Consumed p b line out line₁ out₁ q → Consumes line₁ out₁ q bs line₂ out₂ e → Consumes line out p (b ∷ bs) line₂ out₂ e
+
+-- what was handed over, block by block
+abbrev pub handedIn : {line out line₁ out₁ : List ℕ} {p e : Progress} {blocks : List (List ℕ)} → Consumes line out p blocks line₁ out₁ e
+    → List ℕ
+handedIn (no-block line out p) = []
+handedIn (block c t) = c .octets ++ handedIn t
+
+over-blocks : {line out line₁ out₁ : List ℕ} {p e : Progress} {blocks : List (List ℕ)} (c : Consumes line out p blocks line₁ out₁ e)
+    → HandedOver (p .handed) (handedIn c) (e .handed)
+over-blocks (no-block line out p) = over-none
+over-blocks (block c t) = over-more (c .over) (over-blocks t)
 
 -- where the program stands after some blocks
-record After (x : Reading Member) (blocks : List (List ℕ)) (line out : List ℕ) (r : Running) : Type 0 where
-  printed : List ℕ
+record After (printed : List ℕ) (x : Reading Member) (blocks : List (List ℕ)) (line out : List ℕ) (e : Progress) : Type 0 where
   then : Reading Member
   reads : InBlocks Answers x blocks then
-  stands : Stands printed then line out r
+  stands : Stands printed then line out (e .running)
 
-after : (printed : List ℕ) (x : Reading Member) {line out line₁ out₁ : List ℕ} {r e : Running} {blocks : List (List ℕ)}
-    → Consumes line out r blocks line₁ out₁ e → Stands printed x line out r → After x blocks line₁ out₁ e
-after printed x (no-block line out r) s = record { printed = printed; then = x; reads = end x; stands = s }
-after printed x (block w t) s =
-    let g = w printed x s in
-    let a = after (g .printed) (g .goes .then) t (g .goes .stands) in
-    record { printed = a .printed; then = a .then; reads = one-more (g .goes .reads) (a .reads); stands = a .stands }
+after : (printed : List ℕ) (x : Reading Member) {line out line₁ out₁ : List ℕ} {p e : Progress} {blocks : List (List ℕ)}
+    (c : Consumes line out p blocks line₁ out₁ e) → Stands printed x line out (p .running)
+    → After (printed ++ handedIn c) x blocks line₁ out₁ e
+after printed x (no-block line out p) s =
+    record {
+      then = x;
+      reads = end x;
+      stands = subst (λ (w : List ℕ). Stands w x line out (p .running)) (sym (append-nil printed)) s;
+    }
+after printed x {line₁ = line₁} {out₁} {e = e} (block c t) s =
+    let g = c .goes printed x s in
+    let a = after (printed ++ c .octets) (g .then) t (g .stands) in
+    record {
+      then = a .then;
+      reads = one-more (g .reads) (a .reads);
+      stands =
+          subst (λ (w : List ℕ). Stands w (a .then) line₁ out₁ (e .running)) (append-assoc printed (c .octets) (handedIn t)) (a .stands);
+    }
 
-pub whole-run : (blocks : List (List ℕ)) (line out line₁ out₁ out₂ : List ℕ) (r y e : Running) → Starts r
-    → Consumes line out r blocks line₁ out₁ y
-    → ((printed : List ℕ) (x : Reading Member) → Stands printed x line₁ out₁ y → Finishes Answers x (printed ++ take (e .at) out₂))
-    → (printed : List ℕ) × Prints (flatten blocks) (printed ++ take (e .at) out₂)
-whole-run blocks line out line₁ out₁ out₂ r y e s c f =
-    let a = after [] (start newMember) c (s .stands line out) in
-    (a .printed, prints blocks (a .then) (a .printed ++ take (e .at) out₂) (a .reads) (f (a .printed) (a .then) (a .stands)))
+-- by the promises of `begun`, `consumed` and `ended`: what was handed over, block by block and at the end, is what the input asks for, and
+-- the count has risen by its length
+pub whole-run : (blocks : List (List ℕ)) (line out line₁ out₁ : List ℕ) (p q : Progress) (e : Handed) → Starts (p .running)
+    → (c : Consumes line out p blocks line₁ out₁ q) (f : Ended q line₁ out₁ e)
+    → Prints (flatten blocks) (handedIn c ++ f .octets) × HandedOver (p .handed) (handedIn c ++ f .octets) e
+whole-run blocks line out line₁ out₁ p q e s c f =
+    let a = after [] (start newMember) c (s .stands line out) in (
+      prints blocks (a .then) (handedIn c ++ f .octets) (a .reads) (f .finishes (handedIn c) (a .then) (a .stands)),
+      over-more (over-blocks c) (f .over),
+    )
 
 answers-one : (m : Member) (key : List ℕ) (tick : ℕ) (octets : List ℕ) (o p : Outcome Member)
     → Answers m key tick octets o → Answers m key tick octets p → o ≡ p

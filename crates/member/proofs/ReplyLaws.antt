@@ -17,8 +17,8 @@ use Rattle.lines.proofs.RoomLaws.{length-put, put-as}
 use Rattle.group.specs.Receive.{numberOf, Receives}
 use Rattle.group.specs.declared.Member.{Member}
 use Rattle.group.specs.declared.receive.Answer.{Answer}
-use Rattle.member.specs.Program.{Answers, keyIn, LaterLine, Answered}
-use Rattle.member.specs.inner.Reply.{Received}
+use Rattle.member.specs.Program.{Answers}
+use Rattle.member.specs.inner.Reply.{keyIn, LaterLine, Answered, Received}
 use Rattle.member.specs.declared.running.Running.{Running}
 
 -- the text of a reply is short, and the number in it as it was computed

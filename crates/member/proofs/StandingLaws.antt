@@ -17,7 +17,8 @@ use Rattle.lines.proofs.ProgramLaws.{kept-none, absorbed-inside, absorbed-some,
 use Rattle.lines.proofs.ProgramLaws.{finishes-none, finishes-line}
 use Rattle.group.specs.Member.{newMember}
 use Rattle.group.specs.declared.Member.{Member}
-use Rattle.member.specs.Program.{Answers, keyIn, FirstLine, LaterLine, Answered}
+use Rattle.member.specs.Program.{Answers}
+use Rattle.member.specs.inner.Reply.{keyIn, FirstLine, LaterLine, Answered}
 use Rattle.member.specs.inner.Standing.{Ready, Room, KeyStands, Stands, Starts, Goes, Passes}
 use Rattle.member.specs.declared.running.Running.{Running}
 use Rattle.member.proofs.ReplyLaws.{answered-key, answered-begun, answered-place}

@@ -1,2 +1,4 @@
 pub mod Reply
 pub mod Standing
+pub mod Handing
+pub mod Printed

@@ -1,56 +1,78 @@
 // The member program: a default key, then ticks and frames in hexadecimal; a line of answer for each.
+mod output;
 mod running;
 
-ghost use Prim.Native.Nat.{ℕ, _-_, _<_, _≤_};
+ghost use Prim.Native.Nat.{_<_, _≤_};
 ghost use lib.ListN.{length};
-ghost use mathlib.Core.List.{List};
-ghost use Rattle.lines.specs.inner.Reading.{Reading};
-ghost use Rattle.group.specs.declared.Member.{Member};
-ghost use Rattle.member.specs.inner.Standing.{Ready, Room, Stands, Went, Flushed};
+ghost use Rattle.member.specs.inner.Standing.{Ready, Room};
+ghost use Rattle.member.specs.inner.Printed.{Flushed, Consumed, Ended};
 use libc::STDIN_FILENO;
-use libc::STDOUT_FILENO;
+use output::Handed;
 use running::Running;
 
-// Writes the output where there is little room left in it.
-fn flushed(r: Running, out: &[u8]) -> Running
+// Where the program stands, and what it handed to its output so far.
+pub struct Progress {
+    pub running: Running,
+    pub handed: Handed,
+}
+
+// Hands the output over where there is little room left in it.
+fn flushed(r: Running, handed: Handed, out: &[u8]) -> Progress
     requires { ⌜ r .at ≤ length (now out) ⌝ }
     requires { ⌜ 63 ≤ length (now out) ⌝ }
-    ensures { λ e. ⌜ Flushed r (now (out .entry)) e ⌝ }
+    ensures { λ e. ⌜ Flushed r handed (now (out .entry)) e ⌝ }
 {
     let at = r.at;
     if 63 <= out.len() - at {
-        return r;
+        return Progress { running: r, handed };
     }
-    io::write_all(STDOUT_FILENO, &out[..at]);
+    let written = output::hand_over(handed, out, at);
     let member = r.member;
     let key = r.key;
-    Running {
+    let running = Running {
         member,
         key,
         keyed: r.keyed,
         len: r.len,
         at: 0,
+    };
+    Progress {
+        running,
+        handed: written,
     }
 }
 
-// A whole block, whatever of the output is written on the way.
-fn consumed(r: Running, block: &[u8], line: &mut [u8], room: &mut [u8], out: &mut [u8]) -> Running
-    requires { ⌜ Ready (now line) (now room) (now out) r ⌝ }
-    requires { ⌜ Room (now out) r ⌝ }
-    ensures { λ e. ⌜ Ready (now (line .exit)) (now (room .exit)) (now (out .exit)) e ⌝ }
-    ensures { λ e. ⌜ Room (now (out .exit)) e ⌝ }
-    ensures { λ e. ⌜ ((printed : List ℕ) (x : Reading Member) → Stands printed x (now (line .entry)) (now (out .entry)) r →
-        Went x (now (block .entry)) (now (line .exit)) (now (out .exit)) e) ⌝ }
+// A whole block. What of the output finds no room is handed over on the way.
+fn consumed(p: Progress, block: &[u8], line: &mut [u8], room: &mut [u8], out: &mut [u8]) -> Progress
+    requires { ⌜ Ready (now line) (now room) (now out) (p .running) ⌝ }
+    requires { ⌜ Room (now out) (p .running) ⌝ }
+    ensures { λ e. ⌜ Ready (now (line .exit)) (now (room .exit)) (now (out .exit)) (e .running) ⌝ }
+    ensures { λ e. ⌜ Room (now (out .exit)) (e .running) ⌝ }
+    ensures { λ e. ⌜ Consumed p (now (block .entry)) (now (line .entry)) (now (out .entry)) (now (line .exit)) (now (out .exit)) e ⌝ }
 {
-    let mut x = r;
+    let mut x = p;
     let mut at = 0;
     while at < block.len() {
-        let p = running::through(x, block, at, line, room, out);
-        at = p.next;
-        let y = p.running;
-        x = flushed(y, out);
+        let r = x.running;
+        let handed = x.handed;
+        let q = running::through(r, block, at, line, room, out);
+        at = q.next;
+        let y = q.running;
+        x = flushed(y, handed, out);
     }
     x
+}
+
+// The end of the input: a line that has begun is answered, and what the output holds is handed over.
+fn ended(p: Progress, line: &[u8], room: &mut [u8], out: &mut [u8]) -> Handed
+    requires { ⌜ Ready (now line) (now room) (now out) (p .running) ⌝ }
+    requires { ⌜ Room (now out) (p .running) ⌝ }
+    ensures { λ e. ⌜ Ended p (now (line .entry)) (now (out .entry)) e ⌝ }
+{
+    let r = p.running;
+    let handed = p.handed;
+    let e = running::finished(r, line, room, out);
+    output::hand_over(handed, out, e.at)
 }
 
 // The whole input. A proved loop has to end, and nothing says that an input does: so it counts its turns down from a number that no input
@@ -60,19 +82,19 @@ fn run(line: &mut [u8], room: &mut [u8], out: &mut [u8], block: &mut [u8])
     requires { ⌜ 16384 ≤ length (now room) ⌝ }
     requires { ⌜ 63 ≤ length (now out) ⌝ }
 {
-    let mut r = running::begun();
+    let running = running::begun();
+    let handed = output::nothing();
+    let mut p = Progress { running, handed };
     let mut turns = u64::MAX;
     while turns > 0 {
         let n = io::read_full(STDIN_FILENO, block);
         if n == 0 {
             break;
         }
-        r = consumed(r, &block[..n], line, room, out);
+        p = consumed(p, &block[..n], line, room, out);
         turns -= 1;
     }
-    let e = running::finished(r, line, room, out);
-    let n = e.at;
-    io::write_all(STDOUT_FILENO, &out[..n]);
+    ended(p, line, room, out);
 }
 
 fn main() {

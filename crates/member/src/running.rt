@@ -8,8 +8,8 @@ ghost use Rattle.lines.specs.inner.Reading.{Reading, Finishes};
 ghost use Rattle.lines.specs.inner.Room.{Put};
 ghost use Rattle.group.specs.Receive.{numberOf};
 ghost use Rattle.group.specs.declared.Member.{Member};
-ghost use Rattle.member.specs.Program.{Answers, Answered, FirstLine, LaterLine};
-ghost use Rattle.member.specs.inner.Reply.{Received};
+ghost use Rattle.member.specs.Program.{Answers};
+ghost use Rattle.member.specs.inner.Reply.{Answered, FirstLine, LaterLine, Received};
 ghost use Rattle.member.specs.inner.Standing.{Ready, Room, Stands, Starts, Passes};
 use group::Member;
 use group::receive::Answer;
@@ -27,7 +27,7 @@ pub struct Running {
 }
 
 // A new member, and no key yet.
-pub fn begun() -> Running
+pub(crate) fn begun() -> Running
     ensures { λ r. ⌜ Starts r ⌝ }
 {
     let member = Member::new();
@@ -182,7 +182,7 @@ fn advanced(
 }
 
 // A block from a place on, as far as there is room for replies.
-pub fn through(
+pub(crate) fn through(
     r: Running,
     block: &[u8],
     from: usize,
@@ -211,7 +211,7 @@ pub fn through(
 }
 
 // The end of the input: a line that has begun is answered.
-pub fn finished(r: Running, line: &[u8], room: &mut [u8], out: &mut [u8]) -> Running
+pub(crate) fn finished(r: Running, line: &[u8], room: &mut [u8], out: &mut [u8]) -> Running
     requires { ⌜ Ready (now line) (now room) (now out) r ⌝ }
     requires { ⌜ Room (now out) r ⌝ }
     ensures { λ e. ⌜ e .at ≤ length (now (out .exit)) ⌝ }

@@ -11,7 +11,7 @@ use lib.Seq.{take-at, take-append-seam}
 use Rattle.octets.specs.Walk.{part, both}
 use Rattle.fips197.specs.Key.{Key}
 use Rattle.keywrap.specs.Opens.{Opens}
-use Rattle.keywrap.specs.Answers.{blank, OpensBlank}
+use Rattle.keywrap.specs.inner.Blank.{blank, OpensBlank}
 use Rattle.keywrap.specs.declared.Answer.the-variants.{No, Count}
 use Rattle.attributes.specs.Tree.{WrapKey}
 use Rattle.keys.proofs.Cases.{bool-cases}

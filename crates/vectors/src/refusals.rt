@@ -4,7 +4,7 @@ use crate::text::print;
 use crate::text::print_answer;
 use keywrap::Answer;
 
-// The answer, and that the room was changed where it was.
+// Prints the answer, and beside it "room changed" where the room is not as it was lent.
 fn print_refusal(answer: Answer, room: &[u8]) {
     let lent = [LENT; 272];
     print_answer(answer);

@@ -6,7 +6,8 @@ use Rattle.keywrap.proofs.Opening.{put-none, put-most, put-some}
 use mathlib.Core.Path.{sym}
 use lib.Seq.{length-take-le}
 use Rattle.keywrap.specs.declared.Answer.{Answer}
-use Rattle.keywrap.specs.Answers.{blank, Opening, OpenAnswers, Wrote}
+use Rattle.keywrap.specs.Answers.{Opening, OpenAnswers, Wrote}
+use Rattle.keywrap.specs.inner.Blank.{blank}
 use Rattle.keywrap.proofs.open.Statement.{statement}
 use Rattle.keywrap.proofs.open.Tie as tie
 

@@ -3,7 +3,8 @@ use borrow.Author.Needs.{needs}
 use Prim.Native.Nat.{_-_, _/_}
 use native.Mathlib.Omega.{arith}
 use lib.ListN.{length}
-use Rattle.keywrap.specs.Answers.{blank, Opening}
+use Rattle.keywrap.specs.Answers.{Opening}
+use Rattle.keywrap.specs.inner.Blank.{blank}
 use Rattle.keywrap.proofs.Answering.{no-answer}
 use Rattle.keywrap.proofs.Opening.{opening-least, opening-most, opening-whole, opened}
 use Rattle.keywrap.proofs.open_under.Statement.{statement}

@@ -8,7 +8,7 @@ use lib.ListN.{length, take, drop}
 use lib.Bits.{bitXor}
 use Rattle.octets.specs.Octets.{Octets}
 use Rattle.fips197.specs.Cipher.{invCipher}
-use Rattle.keywrap.specs.Wrap.{initialValue, blocks, padded, registers}
+use Rattle.keywrap.specs.Wrap.{blocks, registers, start}
 use Rattle.keywrap.specs.Steps.{register, joined, stored, step, rows}
 
 -- "B = AES-1(K, (A ^ t) | R[i])", "A = MSB(64, B)", "R[i] = LSB(64, B)"
@@ -24,10 +24,6 @@ unrow key base (suc i) s = unrow key base i (unstep key (base + suc i) (suc i) s
 unfoldable pub unrows : List ℕ → ℕ → ℕ → List ℕ → List ℕ
 unrows key n zero s = s
 unrows key n (suc j) s = unrows key n j (unrow key (n * j) n s)
-
--- A and the padded octets, before the steps
-unfoldable pub start : List ℕ → List ℕ
-start x = initialValue (length x) ∷ registers (blocks (length x)) (padded x)
 
 -- RFC 5649, section 4.1, step 2, on registers: by whether there is one block
 abbrev pub forwardBy : Bool → List ℕ → ℕ → List ℕ → List ℕ

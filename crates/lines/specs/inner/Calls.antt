@@ -1,10 +1,11 @@
--- What the calls on lines promise. Assumes nothing.
+-- What the calls on lines promise.
 use Prim.Native.Nat.{ℕ, _+_}
 use mathlib.Core.Path.{_≡_}
 use mathlib.Core.List.{List}
 use lib.ListN.{length, drop, replicate}
 use Rattle.lines.specs.Hex.{octetsOf}
-use Rattle.lines.specs.Lines.{lines, written, firstOf}
+use Rattle.lines.specs.Lines.{lines}
+use Rattle.lines.specs.inner.First.{written, firstOf}
 use Rattle.lines.specs.Input.{bad, frame, keyOf, askedBy}
 use Rattle.lines.specs.inner.Room.{Put}
 use Rattle.lines.specs.declared.Absorbed.{Absorbed}

@@ -1,4 +1,4 @@
--- The member program read octet by octet: what is known of the input so far. Assumes nothing.
+-- The member program read octet by octet: what is known of the input so far.
 use Prim.Native.Nat.{ℕ, _≤_}
 use mathlib.Core.Path.{_≡_}
 use mathlib.Core.List.{List, [], _∷_, _++_}

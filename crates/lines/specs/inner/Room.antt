@@ -1,4 +1,4 @@
--- Text put into lent room. Assumes nothing.
+-- Text put into lent room.
 use Prim.Native.Nat.{ℕ, _+_, _-_, min}
 use mathlib.Core.Path.{_≡_}
 use mathlib.Core.List.{List}

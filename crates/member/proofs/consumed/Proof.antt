@@ -1,4 +1,4 @@
--- `member::consumed` meets its contract. The invariant: what was passed of the block was read. Assumes nothing.
+-- `member::consumed` meets its contract. The invariant: what was passed of the block was read.
 use borrow.Author.Needs.{needs}
 use Prim.Native.Nat.{_-_}
 use mathlib.Core.Path.{_≡_}
@@ -21,20 +21,20 @@ loop-holds c =
 
 through-requires : tie.Need-through-requires Inv-loop μ-loop
 through-requires c κs =
-    let l = c .before .before .before .before .loop .inv in
+    let l = c .before .before .before .before .before .before .loop .inv in
     (l .ready, l .inside)
 
 flushed-requires : tie.Need-flushed-requires Inv-loop μ-loop
 flushed-requires c κs =
     let t = c .before .before .before .before .before .before .before .before in
-    let l = t .before .before .before .before .before .loop in
+    let l = t .before .before .before .before .before .before .before .loop in
     let n : length (t .through .last .1 .1 .1 .1 .1 .0) ≡ length (l .out) = search needs in
     (t .through .ensures .0 .ready .place, omega (arith, l .inv .space))
 
 loop-less : tie.Need-loop-less Inv-loop μ-loop
 loop-less c =
     let t = c .before .before .before .before .before .before .before .before .before in
-    let i = t .before .before .before .before in
+    let i = t .before .before .before .before .before .before in
     let p = t .through .ensures in
     let h = p .1 (i .loop-test .taken) (i .before .loop .inv .space) in
     omega (arith, p .0 .inside)
@@ -42,7 +42,7 @@ loop-less c =
 loop-again : tie.Need-loop-again Inv-loop μ-loop
 loop-again c =
     let t = c .before .before .before .before .before .before .before .before .before in
-    let l = t .before .before .before .before .before .loop in
+    let l = t .before .before .before .before .before .before .before .loop in
     let k : length (t .through .last .1 .1 .1 .0) ≡ length (l .line) = search needs in
     let m : length (t .through .last .1 .1 .1 .1 .0) ≡ length (l .room) = search needs in
     let n : length (t .through .last .1 .1 .1 .1 .1 .0) ≡ length (l .out) = search needs in

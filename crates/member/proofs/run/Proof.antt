@@ -1,4 +1,4 @@
--- `member::run` is safe and ends. The invariant: what is lent is large enough, and keeps its size. Assumes nothing.
+-- `member::run` is safe and ends. The invariant: what is lent is large enough, and keeps its size.
 use borrow.Author.Needs.{needs}
 use mathlib.Core.Path.{_≡_, refl, ap, sym, _∙_}
 use mathlib.Core.Logic.{⊎-elim}
@@ -11,20 +11,23 @@ use Rattle.member.proofs.run.Statement.{statement}
 use Rattle.member.proofs.run.Tie as tie
 
 abbrev Inv-loop : tie.InvT-loop
-Inv-loop line₀ room₀ out₀ block₀ r₀ turns₀ line room out block r turns =
-    Ready line room out r × Room out r × (length line ≡ length line₀) × (length room ≡ length room₀) × (length out ≡ length out₀)
-    × (length block ≡ length block₀)
+Inv-loop line₀ room₀ out₀ block₀ p₀ turns₀ line room out block p turns =
+    Ready line room out (p .running) × Room out (p .running) × (length line ≡ length line₀) × (length room ≡ length room₀)
+    × (length out ≡ length out₀) × (length block ≡ length block₀)
 
 abbrev μ-loop : tie.MeasureT-loop
-μ-loop line₀ room₀ out₀ block₀ r₀ turns₀ line room out block r turns = turns
+μ-loop line₀ room₀ out₀ block₀ p₀ turns₀ line room out block p turns = turns
 
 begun-requires : tie.Need-begun-requires Inv-loop μ-loop
 begun-requires c κs = tt
 
+nothing-requires : tie.Need-nothing-requires Inv-loop μ-loop
+nothing-requires c κs = tt
+
 loop-holds : tie.Need-loop-holds Inv-loop μ-loop
 loop-holds c =
-    let s = c .before .before .before .before .before in
-    let b = c .begun .ensures in
+    let s = c .before .before .before .before .before .before in
+    let b = c .before .begun .ensures in
     (ready-first b (s .pre .0) (s .pre .1 .0), omega (arith, s .pre .1 .1, b .at), refl, refl, refl, refl)
 
 read-full-requires : tie.Need-read-full-requires Inv-loop μ-loop
@@ -61,21 +64,10 @@ loop-again c =
     let i = l .inv in
     (x .consumed .ensures .0, x .consumed .ensures .1 .0, k ∙ i .2, m ∙ i .3, n ∙ i .4, o ∙ i .5)
 
-finished-requires : tie.Need-finished-requires Inv-loop μ-loop
-finished-requires c κs =
+ended-requires : tie.Need-ended-requires Inv-loop μ-loop
+ended-requires c κs =
     let l = c .before .before .before .before .loop .inv in
     (l .0, l .1)
-
-slice-reshare-prefix-write-all : tie.Need-slice-reshare-prefix-write-all Inv-loop μ-loop
-slice-reshare-prefix-write-all c = c .before .before .before .before .finished .ensures .0
-
-slice-aggregate-write-all : tie.Need-slice-aggregate-write-all Inv-loop μ-loop
-slice-aggregate-write-all c =
-    let f = c .before .before .before .before .before .finished in
-    sym (length-take-le (f .result .at) (f .last .1 .1 .1 .0) (f .ensures .0))
-
-write-all-requires : tie.Need-write-all-requires Inv-loop μ-loop
-write-all-requires c κs = tt
 
 same-length : tie.Need-same-length Inv-loop μ-loop
 same-length c = search needs
@@ -88,7 +80,7 @@ same-length-3 c = search needs
 
 same-length-4 : tie.Need-same-length-4 Inv-loop μ-loop
 same-length-4 c =
-    let t = c .before .before .before .before .before .before .before .before .before .before in
+    let t = c .before .before .before .before .before .before .before .before in
     let l = t .before .loop in
     ⊎-elim (λ w. ap length (w .1) ∙ l .inv .5)
     (λ w. let o : length (w .2 .last .1 .0) ≡ length (l .block) = search needs in ap length (w .6) ∙ o ∙ l .inv .5)
@@ -104,6 +96,7 @@ run-spec =
     Inv-loop
     μ-loop
     begun-requires
+    nothing-requires
     loop-holds
     read-full-requires
     slice-reshare-prefix-consumed
@@ -112,10 +105,7 @@ run-spec =
     sub-turns
     loop-less
     loop-again
-    finished-requires
-    slice-reshare-prefix-write-all
-    slice-aggregate-write-all
-    write-all-requires
+    ended-requires
     same-length
     same-length-2
     same-length-3

@@ -1,13 +1,20 @@
--- What becomes of one frame. Assumes nothing.
+-- What becomes of one line, and of the frame in it.
 use Prim.Native.Nat.{ℕ, _≤_}
 use mathlib.Core.Path.{_≡_}
+use mathlib.Core.Bool.{Bool, true, false}
 use mathlib.Core.List.{List}
-use lib.ListN.{length}
-use Rattle.lines.specs.Transcript.{Outcome, told}
+use lib.ListN.{length, take}
+use Rattle.lines.specs.Transcript.{Outcome, Replies, told}
 use Rattle.lines.specs.inner.Room.{Put}
+use Rattle.lines.specs.inner.Calls.{Gives}
+use Rattle.lines.specs.declared.Key.{Key}
 use Rattle.group.specs.declared.Member.{Member}
-use Rattle.member.specs.Program.{Answers, keyIn}
+use Rattle.member.specs.Program.{Answers}
 use Rattle.member.specs.declared.running.Running.{Running}
+
+-- the default key that the program holds
+abbrev pub keyIn : Key → List ℕ
+keyIn k = take (k .len) (k .octets)
 
 -- a frame is received, and the reply put into the output at its place
 pub record Received (r : Running) (tick : ℕ) (octets out after : List ℕ) (e : Running) : Type 0 where
@@ -19,3 +26,27 @@ pub record Received (r : Running) (tick : ℕ) (octets out after : List ℕ) (e 
   pub key : e .key ≡ r .key
   pub keyed : e .keyed ≡ r .keyed
   pub len : e .len ≡ 0
+
+-- a first line gives the key "and prints nothing"
+pub record FirstLine (r : Running) (line out after : List ℕ) (e : Running) : Type 0 where
+  pub key : Gives line (e .key)
+  pub member : e .member ≡ r .member
+  pub keyed : e .keyed ≡ true
+  pub len : e .len ≡ 0
+  pub at : e .at ≡ r .at
+  pub nothing : after ≡ out
+
+-- a later line has the reply that its octets ask for, "bad" among them, which is put into the output at its place
+pub record LaterLine (r : Running) (line out after : List ℕ) (e : Running) : Type 0 where
+  pub text : List ℕ
+  pub replies : Replies Answers (keyIn (r .key)) (r .member) line (record { next = e .member; text = text })
+  pub put : Put out (r .at) text after (e .at)
+  pub short : length text ≤ 63
+  pub key : e .key ≡ r .key
+  pub keyed : e .keyed ≡ r .keyed
+  pub len : e .len ≡ 0
+
+-- a whole line, by whether the key was read
+abbrev pub Answered : Bool → Running → List ℕ → List ℕ → List ℕ → Running → Type 0
+Answered false r line out after e = FirstLine r line out after e
+Answered true r line out after e = LaterLine r line out after e

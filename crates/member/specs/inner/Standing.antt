@@ -1,7 +1,6 @@
--- Where the program stands in its input and its output. Assumes nothing.
+-- Where the program stands in its input and its output.
 use Prim.Native.Nat.{ℕ, _-_, _<_, _≤_}
 use mathlib.Core.Path.{_≡_}
-use mathlib.Core.Logic.{_⊎_}
 use mathlib.Core.Bool.{true, false}
 use mathlib.Core.List.{List, [], _++_}
 use lib.ListN.{length, take}
@@ -9,7 +8,8 @@ use Rattle.octets.specs.Walk.{part}
 use Rattle.lines.specs.inner.Reading.{DefaultKey, awaited, given, Reading, start, Reads, Kept}
 use Rattle.group.specs.Member.{newMember}
 use Rattle.group.specs.declared.Member.{Member}
-use Rattle.member.specs.Program.{Answers, keyIn}
+use Rattle.member.specs.Program.{Answers}
+use Rattle.member.specs.inner.Reply.{keyIn}
 use Rattle.member.specs.declared.running.Running.{Running}
 use Rattle.member.specs.declared.running.Passed.{Passed}
 
@@ -29,14 +29,14 @@ abbrev pub KeyStands : DefaultKey → Running → Type 0
 KeyStands awaited r = r .keyed ≡ false
 KeyStands (given key) r = (r .keyed ≡ true) × (keyIn (r .key) ≡ key)
 
--- the program holds what was read of the input. `printed` is what it has written so far
+-- the program holds what was read of the input. `printed` is what it has handed over so far
 pub record Stands (printed : List ℕ) (x : Reading Member) (line out : List ℕ) (r : Running) : Type 0 where
   pub key : KeyStands (x .key) r
   pub member : x .member ≡ r .member
   pub kept : Kept line (r .len) (x .line)
   pub output : x .output ≡ printed ++ take (r .at) out
 
--- the program before its first read: nothing of the input was read, and nothing written
+-- the program before its first read: nothing of the input was read, and nothing handed over
 pub record Starts (r : Running) : Type 0 where
   pub key : r .key .len ≤ 32
   pub len : r .len ≡ 0
@@ -49,11 +49,6 @@ pub record Goes (printed : List ℕ) (x : Reading Member) (s line out : List ℕ
   pub reads : Reads Answers x s then
   pub stands : Stands printed then line out r
 
--- the same, whatever was written on the way
-pub record Went (x : Reading Member) (s line out : List ℕ) (r : Running) : Type 0 where
-  pub printed : List ℕ
-  pub goes : Goes printed x s line out r
-
 -- a block is read from a place up to another
 pub record Passes (block : List ℕ) (from : ℕ) (line out : List ℕ) (r : Running) (line′ room′ out′ : List ℕ) (e : Passed) : Type 0 where
   pub ready : Ready line′ room′ out′ (e .running)
@@ -61,12 +56,3 @@ pub record Passes (block : List ℕ) (from : ℕ) (line out : List ℕ) (r : Run
   pub inside : e .next ≤ length block
   pub goes : (printed : List ℕ) (x : Reading Member) → Stands printed x line out r →
       Goes printed x (part block from (e .next)) line′ out′ (e .running)
-
--- the output was written, or stays for there is room in it
-pub record Flushed (r : Running) (out : List ℕ) (e : Running) : Type 0 where
-  pub member : e .member ≡ r .member
-  pub key : e .key ≡ r .key
-  pub keyed : e .keyed ≡ r .keyed
-  pub len : e .len ≡ r .len
-  pub place : (e .at ≡ r .at) ⊎ (e .at ≡ 0)
-  pub room : Room out e

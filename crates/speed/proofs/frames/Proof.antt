@@ -7,10 +7,10 @@ use Rattle.speed.proofs.frames.Statement.{statement}
 use Rattle.speed.proofs.frames.Tie as tie
 
 abbrev Inv-loop : tie.InvT-loop
-Inv-loop key wrapped room₀ sum₀ turn₀ room sum turn = (turn ≤ 7300) × (length wrapped ≡ 264) × (length room ≡ 256)
+Inv-loop key wrapped room₀ sum₀ turn₀ room sum turn = (turn ≤ 4100) × (length wrapped ≡ 264) × (length room ≡ 256)
 
 abbrev μ-loop : tie.MeasureT-loop
-μ-loop key wrapped room₀ sum₀ turn₀ room sum turn = 7300 - turn
+μ-loop key wrapped room₀ sum₀ turn₀ room sum turn = 4100 - turn
 
 slice-aggregate-wrap : tie.Need-slice-aggregate-wrap Inv-loop μ-loop
 slice-aggregate-wrap c = search needs

@@ -5,7 +5,7 @@ use mathlib.Core.List.{[], _∷_}
 use lib.ListN.{length, take, length-take}
 use lib.Seq.{length-take-le}
 use Rattle.keywrap.specs.declared.Answer.{Answer}
-use Rattle.keywrap.specs.Answers.{blank, OpensBlank}
+use Rattle.keywrap.specs.inner.Blank.{blank, OpensBlank}
 use Rattle.keywrap.proofs.Opening.{put-most}
 use Rattle.keys.proofs.Parts.{copied}
 use Rattle.copies.specs.declared.answer.Found.the-variants.{Nothing, Eight}

@@ -7,7 +7,7 @@ use lib.ListN.{take}
 use mir.Val.{Fits}
 use mir.Syntax.{w64}
 use Rattle.keywrap.specs.Steps.{register}
-use Rattle.keywrap.specs.Answers.{blank}
+use Rattle.keywrap.specs.inner.Blank.{blank}
 use Rattle.keywrap.specs.inner.Unwrap.{Begins}
 use Rattle.keywrap.proofs.Registers.{Registers}
 use Rattle.keywrap.proofs.Answering.{no-answer}

@@ -1,6 +1,6 @@
 -- `keywrap::check::refused` meets its contract. Assumes nothing.
 use mathlib.Core.Path.{refl}
-use Rattle.keywrap.specs.Answers.{blank}
+use Rattle.keywrap.specs.inner.Blank.{blank}
 use Rattle.keywrap.proofs.check.refused.Statement.{statement}
 use Rattle.keywrap.proofs.check.refused.Tie as tie
 

@@ -3,7 +3,7 @@ use borrow.Author.Needs.{needs}
 use mathlib.Core.Path.{sym, subst}
 use lib.Seq.{length-take-le}
 use Rattle.keywrap.specs.declared.Answer.{Answer}
-use Rattle.keywrap.specs.Answers.{blank, OpensBlank}
+use Rattle.keywrap.specs.inner.Blank.{blank, OpensBlank}
 use Rattle.keywrap.proofs.Opening.{put-most}
 use Rattle.reach.proofs.Opening.{landed-none, landed-wrong, landed-right}
 use Rattle.reach.proofs.open.landed.Statement.{statement}

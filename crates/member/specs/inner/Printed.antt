@@ -1,0 +1,39 @@
+-- What the program hands to its output. That what it hands over for its whole input is what the input asks for is `whole-run`,
+-- proofs/Printing.antt.
+use Prim.Native.Nat.{ℕ}
+use mathlib.Core.Path.{_≡_}
+use mathlib.Core.Logic.{_⊎_}
+use mathlib.Core.List.{List, [], _++_}
+use lib.ListN.{take}
+use Rattle.lines.specs.inner.Reading.{Reading, Finishes}
+use Rattle.group.specs.declared.Member.{Member}
+use Rattle.member.specs.Program.{Answers}
+use Rattle.member.specs.inner.Handing.{HandedOver}
+use Rattle.member.specs.inner.Standing.{Room, Stands, Goes}
+use Rattle.member.specs.declared.running.Running.{Running}
+use Rattle.member.specs.declared.output.Handed.{Handed}
+use Rattle.member.specs.declared.Progress.{Progress}
+
+-- nothing is handed over and all stays in the output, or all that the output holds is handed over and nothing stays
+pub record Flushed (r : Running) (h : Handed) (out : List ℕ) (e : Progress) : Type 0 where
+  pub member : e .running .member ≡ r .member
+  pub key : e .running .key ≡ r .key
+  pub keyed : e .running .keyed ≡ r .keyed
+  pub len : e .running .len ≡ r .len
+  pub over : (HandedOver h [] (e .handed) × (e .running .at ≡ r .at)) ⊎
+      (HandedOver h (take (r .at) out) (e .handed) × (e .running .at ≡ 0))
+  pub room : Room out (e .running)
+
+-- a block was read, and some octets handed over on the way: they follow what was printed before, and what the output still holds follows
+-- them
+pub record Consumed (p : Progress) (block line out line′ out′ : List ℕ) (e : Progress) : Type 0 where
+  pub octets : List ℕ
+  pub over : HandedOver (p .handed) octets (e .handed)
+  pub goes : (printed : List ℕ) (x : Reading Member) → Stands printed x line out (p .running) →
+      Goes (printed ++ octets) x block line′ out′ (e .running)
+
+-- the input has ended, and the rest of what it asks for was handed over
+pub record Ended (p : Progress) (line out : List ℕ) (e : Handed) : Type 0 where
+  pub octets : List ℕ
+  pub over : HandedOver (p .handed) octets e
+  pub finishes : (printed : List ℕ) (x : Reading Member) → Stands printed x line out (p .running) → Finishes Answers x (printed ++ octets)
