@@ -42,7 +42,8 @@ policy-parts-requires c κs =
 
 -- the policy at the place, once its parts are read
 here : (c : tie.After-policy-parts Inv-loop μ-loop) →
-    PolicyIs (drop (c .before .before .before .loop .at) (now (c .before .before .before .before .before .args .g))) (c .policy-parts .result)
+    let l = c .before .before .before in
+    PolicyIs (drop (l .loop .at) (now (l .before .before .args .g))) (c .policy-parts .result)
 here c =
     policy-here (now (c .before .before .before .before .before .args .g)) (c .before .before .before .loop .at) (c .policy-parts .result)
     (c .policy-parts .ensures)
@@ -81,7 +82,8 @@ loop-less : tie.Need-loop-less Inv-loop μ-loop
 loop-less c =
     let p = c .before .before .before .before in
     let b = p .before .before .before .before .before in
-    omega (arith, inside p, some-taken (b .args .q) (now (b .args .g)) (p .before .before .before .loop .at) (p .policy-parts .result) (here p))
+    let l = p .before .before .before .loop in
+    omega (arith, inside p, some-taken (b .args .q) (now (b .args .g)) (l .at) (p .policy-parts .result) (here p))
 
 loop-again : tie.Need-loop-again Inv-loop μ-loop
 loop-again c =
