@@ -1,4 +1,4 @@
--- What a schedule holds, and how it is made. Assumes nothing.
+-- What a schedule holds, and how it is made.
 use mathlib.Core.Path.{_≡_, refl, sym, ap, ap₂, _∙_}
 use mathlib.Core.List.{List, [], _∷_, _++_, append-assoc}
 use Prim.Native.Nat.{ℕ, _+_, _*_, _/_, _-_, _<_, _≤_}

@@ -1,4 +1,4 @@
--- Turns of the loops of the cipher and the inverse cipher, and what they come to over a schedule. Assumes nothing.
+-- Turns of the loops of the cipher and the inverse cipher, and what they come to over a schedule.
 use mathlib.Core.Path.{_≡_, refl, sym, ap, ap₂, _∙_}
 use mathlib.Core.List.{List}
 use Prim.Native.Nat.{ℕ, zero, suc, _+_, _-_, _<_, _≤_}

@@ -1,4 +1,4 @@
--- Rows and columns of the matrices, from products with x alone. Assumes nothing.
+-- Rows and columns of the matrices, from products with x alone.
 use mathlib.Core.Path.{_≡_, ap, ap₂, _∙_}
 use mathlib.Core.List.{List, [], _∷_}
 use Prim.Native.Nat.{ℕ}

@@ -1,4 +1,4 @@
--- The key expansion in a schedule's array. Assumes nothing.
+-- The key expansion in a schedule's array.
 use mathlib.Core.Path.{_≡_, sym, ap, ap₂, _∙_}
 use mathlib.Core.Bool.{cond, _&&_, and-false}
 use mathlib.Core.List.{List, [], _∷_, _++_}

@@ -1,4 +1,4 @@
--- What the definitions of the crate say, piece by piece: laws that a wrong definition breaks. Assumes nothing.
+-- What the definitions of the crate say, piece by piece: laws that a wrong definition breaks.
 use Prim.Native.Nat.{ℕ}
 use mathlib.Core.Path.{_≡_, refl}
 use mathlib.Core.Bool.{Bool, true, false}

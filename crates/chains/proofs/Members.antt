@@ -1,4 +1,4 @@
--- Standing in a list at some place is being a member of it. Assumes nothing.
+-- Standing in a list at some place is being a member of it.
 use native.Mathlib.Omega.{arith}
 use Prim.Native.Nat.{ℕ, zero, suc, _<_}
 use mathlib.Core.Path.{_≡_, sym}

@@ -1,4 +1,4 @@
--- What is told of some tries and of others is told of them all. Assumes nothing.
+-- What is told of some tries and of others is told of them all.
 use Prim.Native.Nat.{ℕ}
 use mathlib.Core.Path.{_≡_, sym, ap, _∙_, subst}
 use mathlib.Core.Bool.{true, false, false≢true}

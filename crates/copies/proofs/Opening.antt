@@ -1,4 +1,4 @@
--- What opening one copy under one key tells. Assumes nothing.
+-- What opening one copy under one key tells.
 use native.Mathlib.Omega.{arith}
 use Prim.Native.Nat.{ℕ, _-_, _≤_}
 use mathlib.Core.Path.{_≡_, refl, ap, sym, _∙_, subst}

@@ -1,4 +1,4 @@
--- Where a walk over tries stands: what is told of those that were made, and which are left. Assumes nothing.
+-- Where a walk over tries stands: what is told of those that were made, and which are left.
 use Prim.Native.Nat.{ℕ, _+_, _-_}
 use native.Mathlib.Omega.{arith}
 use mathlib.Core.Path.{_≡_, refl, ap, sym, _∙_, subst}

@@ -1,4 +1,4 @@
--- The tries of the walks are those of the definitions: a copy under the key that its KWK ID names. Assumes nothing.
+-- The tries of the walks are those of the definitions: a copy under the key that its KWK ID names.
 use native.Mathlib.Omega.{arith}
 use Prim.Native.Nat.{ℕ, zero, suc, _+_, _≤_, _<_}
 use mathlib.Core.Path.{_≡_, refl, ap, sym, _∙_, subst}

@@ -1,4 +1,4 @@
--- Going through the copies of an SA: where the next one that names a key stands, and what it makes of its octets. Assumes nothing.
+-- Going through the copies of an SA: where the next one that names a key stands, and what it makes of its octets.
 use native.Mathlib.Omega.{arith}
 use Prim.Native.Nat.{ℕ, _+_, _-_, _≤_}
 use mathlib.Core.Path.{_≡_, ap, sym, _∙_, subst}

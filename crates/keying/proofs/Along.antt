@@ -1,4 +1,4 @@
--- Where the walk over the policies of a GSA body stands: those that were passed, and what is known of them. Assumes nothing.
+-- Where the walk over the policies of a GSA body stands: those that were passed, and what is known of them.
 use native.Mathlib.Omega.{arith}
 use Prim.Native.Nat.{ℕ, _+_, _-_, _<_, _≤_}
 use mathlib.Core.Path.{_≡_, refl, ap, sym, _∙_, subst}

@@ -1,4 +1,4 @@
--- What is known of some policies, and of one more. Assumes nothing.
+-- What is known of some policies, and of one more.
 use native.Mathlib.Omega.{arith}
 use native.Mathlib.Numerals.{add-one}
 use Prim.Native.Nat.{ℕ, _+_, _<_}

@@ -1,4 +1,4 @@
--- The needs of an announced policy. Assumes nothing.
+-- The needs of an announced policy.
 use native.Mathlib.Omega.{arith}
 use Prim.Native.Nat.{ℕ, _+_, _≤_}
 use mathlib.Core.Path.{_≡_, ap, sym, _∙_}

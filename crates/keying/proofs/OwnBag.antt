@@ -1,4 +1,4 @@
--- The copies of an SA's key are those of its bag, where that stands among the key bags. Assumes nothing.
+-- The copies of an SA's key are those of its bag, where that stands among the key bags.
 use Prim.Native.Nat.{ℕ}
 use mathlib.Core.Path.{_≡_, ap, sym, _∙_, subst}
 use mathlib.Core.Bool.{true}

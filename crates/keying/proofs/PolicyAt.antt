@@ -1,4 +1,4 @@
--- The first policy from a place of a GSA body on, and the others. Assumes nothing.
+-- The first policy from a place of a GSA body on, and the others.
 use native.Mathlib.Omega.{arith}
 use Prim.Native.Nat.{ℕ, _+_, _-_, _<_, _≤_}
 use mathlib.Core.Path.{_≡_, refl, ap, sym, _∙_, subst}

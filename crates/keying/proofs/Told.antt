@@ -1,4 +1,4 @@
--- What the copies of one SA open to, by what was found. Assumes nothing.
+-- What the copies of one SA open to, by what was found.
 use Prim.Native.Nat.{ℕ, _+_}
 use mathlib.Core.Path.{_≡_, _∙_, subst}
 use mathlib.Core.List.{List}

@@ -1,4 +1,4 @@
--- Answers, from what is known of the results. Assumes nothing.
+-- Answers, from what is known of the results.
 use mathlib.Core.Path.{_≡_, sym, subst, _∙_}
 use mathlib.Core.Bool.{Bool, true, false}
 use mathlib.Core.List.{List}

@@ -1,4 +1,4 @@
--- A block and its two registers give each other. Assumes nothing.
+-- A block and its two registers give each other.
 use mathlib.Core.Path.{_≡_, ap, ap₂, _∙_}
 use mathlib.Core.List.{List, _++_}
 use Prim.Native.Nat.{ℕ, _^_, _<_}

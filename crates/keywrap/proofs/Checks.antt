@@ -1,4 +1,4 @@
--- The checks of unwrapped registers. Assumes nothing.
+-- The checks of unwrapped registers.
 use mathlib.Core.Path.{_≡_, refl, sym, ap, ap₂, _∙_}
 use mathlib.Core.Bool.{Bool, true, false, _&&_}
 use mathlib.Core.List.{List, [], _∷_, _++_}

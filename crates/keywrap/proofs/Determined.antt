@@ -1,4 +1,4 @@
--- `Opens` determines what is opened, and the promises of `wrap` and `open` determine the answer and the room. Assumes nothing.
+-- `Opens` determines what is opened, and the promises of `wrap` and `open` determine the answer and the room.
 use mathlib.Core.Path.{_≡_, refl, sym, ap, ap₂, _∙_}
 use mathlib.Core.List.{List}
 use Prim.Native.Nat.{ℕ, suc, _*_, _-_}

@@ -1,4 +1,4 @@
--- The registers that pass the checks are those that some octets have before the steps, and no others. Assumes nothing.
+-- The registers that pass the checks are those that some octets have before the steps, and no others.
 use mathlib.Core.Path.{_≡_, sym, ap, ap₂, _∙_, subst}
 use mathlib.Core.Bool.{true, false}
 use mathlib.Core.List.{List, [], _∷_, _++_, append-assoc}

@@ -1,4 +1,4 @@
--- A turn of the loop that writes registers' octets. Assumes nothing.
+-- A turn of the loop that writes registers' octets.
 use mathlib.Core.Path.{_≡_, sym, ap, ap₂, _∙_}
 use mathlib.Core.List.{List, [], _∷_, _++_, append-nil, append-assoc}
 use Prim.Native.Nat.{ℕ, _+_, _*_, _-_, _≤_, _<_}

@@ -1,4 +1,4 @@
--- The code that opens: what it unwraps, what the checks tell, and what is handed on. Assumes nothing.
+-- The code that opens: what it unwraps, what the checks tell, and what is handed on.
 use mathlib.Core.Path.{_≡_, refl, sym, ap, _∙_, subst}
 use mathlib.Core.Bool.{Bool, true, false}
 use mathlib.Core.List.{List, _++_}

@@ -1,4 +1,4 @@
--- Registers and their octets give each other. Assumes nothing.
+-- Registers and their octets give each other.
 use mathlib.Core.Path.{_≡_, refl, sym, ap, ap₂, _∙_}
 use mathlib.Core.List.{List, [], _∷_, _++_, append-assoc}
 use Prim.Native.Nat.{ℕ, zero, suc, _+_, _*_, _^_, _<_}

@@ -1,4 +1,4 @@
--- Unwrapping undoes wrapping, and wrapping unwrapping: step by step, row by row. Assumes nothing.
+-- Unwrapping undoes wrapping, and wrapping unwrapping: step by step, row by row.
 use mathlib.Core.Path.{_≡_, sym, ap, ap₂, _∙_, subst}
 use mathlib.Core.Bool.{Bool, true, false}
 use mathlib.Core.List.{List}

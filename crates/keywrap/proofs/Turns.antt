@@ -1,4 +1,4 @@
--- What the code of a step stores, and a turn of each loop over the steps. Assumes nothing.
+-- What the code of a step stores, and a turn of each loop over the steps.
 use mathlib.Core.Path.{_≡_, sym, ap, ap₂, _∙_}
 use mathlib.Core.List.{List}
 use Prim.Native.Nat.{ℕ, suc, _+_, _*_, _-_, _≤_, _<_}

@@ -1,4 +1,4 @@
--- What is wrapped is the registers' octets, and opening is the exact inverse of wrapping. Assumes nothing.
+-- What is wrapped is the registers' octets, and opening is the exact inverse of wrapping.
 use mathlib.Core.Path.{_≡_, refl, sym, ap, ap₂, _∙_, subst}
 use mathlib.Core.Bool.{Bool, true, false}
 use mathlib.Core.List.{List, _∷_, _++_, append-nil}

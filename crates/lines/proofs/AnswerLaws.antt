@@ -1,4 +1,4 @@
--- Laws of decimal numbers and printed answers. Assumes nothing.
+-- Laws of decimal numbers and printed answers.
 use Prim.Native.Nat.{ℕ, zero, suc, _+_, _-_, _*_, _/_, _%_, _^_, _<_, _≤_}
 use mathlib.Core.Path.{_≡_, refl, ap, sym, subst, _∙_}
 use mathlib.Core.List.{List, [], _∷_, _++_, append-assoc}

@@ -1,4 +1,4 @@
--- What the answers of the calls on lines give their caller: the key and the frame as parts of what was lent. Assumes nothing.
+-- What the answers of the calls on lines give their caller: the key and the frame as parts of what was lent.
 use Prim.Native.Nat.{ℕ, _-_, _/_, _≤_}
 use mathlib.Core.Path.{_≡_, refl, ap, sym, subst, _∙_}
 use mathlib.Core.List.{List, [], _∷_}

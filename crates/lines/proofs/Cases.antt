@@ -1,4 +1,4 @@
--- Cases of a test, and a list from a place on. Assumes nothing.
+-- Cases of a test, and a list from a place on.
 use Prim.Native.Nat.{ℕ, _+_, _<_, _≤_}
 use mathlib.Core.Path.{_≡_, refl}
 use mathlib.Core.Bool.{Bool, true, false, _&&_}

@@ -1,4 +1,4 @@
--- Laws of hexadecimal text: what a character's range tells of it, and the round trip. Assumes nothing.
+-- Laws of hexadecimal text: what a character's range tells of it, and the round trip.
 use Prim.Native.Nat.{ℕ, _+_, _-_, _*_, _/_, _%_, _<_, _≤_}
 use mathlib.Core.Path.{_≡_, refl, ap, sym, subst, _∙_}
 use mathlib.Core.List.{List, [], _∷_}

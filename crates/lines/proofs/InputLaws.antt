@@ -1,4 +1,4 @@
--- Laws of what a line asks. Assumes nothing.
+-- Laws of what a line asks.
 use Prim.Native.Nat.{ℕ, _+_, _-_, _*_, _<_, _≤_}
 use mathlib.Core.Path.{_≡_}
 use mathlib.Core.List.{List, [], _∷_}

@@ -1,4 +1,4 @@
--- Laws of lines: the first one of what is left of a block, and what a call that takes it promises. Assumes nothing.
+-- Laws of lines: the first one of what is left of a block, and what a call that takes it promises.
 use Prim.Native.Nat.{ℕ, _+_, _<_, _≤_}
 use mathlib.Core.Path.{_≡_, refl, ap, sym, _∙_}
 use mathlib.Core.List.{List, [], _∷_, _++_}

@@ -1,4 +1,4 @@
--- The transcript is one: where a step determines its outcome, the input determines the output. Assumes nothing.
+-- The transcript is one: where a step determines its outcome, the input determines the output.
 use Prim.Native.Nat.{ℕ}
 use mathlib.Core.Path.{_≡_, ap, sym, subst, _∙_}
 use mathlib.Core.List.{List, [], _∷_, _++_}

@@ -1,5 +1,5 @@
 -- What a program that holds a line in lent room may conclude from the calls: it goes with the reading of the input octet by octet.
--- Assumes nothing.
+--
 use Prim.Native.Nat.{ℕ, suc, _+_, _-_, _<_, _≤_, min}
 use mathlib.Core.Path.{_≡_, refl, ap, sym, subst, _∙_}
 use mathlib.Core.List.{List, [], _∷_, _++_, append-assoc, append-nil}

@@ -1,4 +1,4 @@
--- The whole input read octet by octet, in any blocks, gives the transcript. Assumes nothing.
+-- The whole input read octet by octet, in any blocks, gives the transcript.
 use Prim.Native.Nat.{ℕ}
 use mathlib.Core.Path.{_≡_, refl, ap, sym, subst, _∙_}
 use mathlib.Core.List.{List, [], _∷_, _++_, append-assoc, append-nil, flatten}

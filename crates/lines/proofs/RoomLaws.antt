@@ -1,4 +1,4 @@
--- Laws of text put into lent room. Assumes nothing.
+-- Laws of text put into lent room.
 use Prim.Native.Nat.{ℕ, suc, _+_, _-_, _≤_, min}
 use mathlib.Core.Path.{_≡_, refl, ap, sym, subst, _∙_}
 use mathlib.Core.List.{List, [], _∷_, _++_, append-assoc, append-nil}

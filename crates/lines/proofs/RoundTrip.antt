@@ -1,4 +1,4 @@
--- Octets that are written in hexadecimal are read back, and a text that is read is written back. Assumes nothing.
+-- Octets that are written in hexadecimal are read back, and a text that is read is written back.
 use Prim.Native.Nat.{ℕ, suc, _+_, _*_, _/_, _%_, _<_}
 use mathlib.Core.Path.{_≡_, refl, ap, _∙_}
 use mathlib.Core.List.{List, [], _∷_}

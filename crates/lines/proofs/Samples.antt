@@ -1,6 +1,6 @@
 -- Samples of the definitions, computed. The first is document 01's own input, with its output. The step here stands for a member: it
 -- answers number 1 to a frame under 28 octets and number 2 to any other, as a new member does to document 01's two samples, and counts.
--- Assumes nothing.
+--
 use Prim.Native.Nat.{ℕ, _+_, _*_}
 use Prim.Native.Char.{code}
 use Prim.Native.String.{String, [] as none, _∷_ as _then_}

@@ -1,5 +1,5 @@
 -- Lines are the one way to split an input: written one behind the other they are the input again, and any lines that could stand in an
--- input are what their octets split into. Assumes nothing.
+-- input are what their octets split into.
 use Prim.Native.Nat.{ℕ}
 use mathlib.Core.Path.{_≡_, refl, ap, sym, subst, _∙_}
 use mathlib.Core.List.{List, [], _∷_, _++_, append-assoc, append-nil}

@@ -1,4 +1,4 @@
--- One line: the reply to it. Assumes nothing.
+-- One line: the reply to it.
 use Prim.Native.Nat.{ℕ, _^_, _<_, _≤_}
 use mathlib.Core.Path.{_≡_, refl, ap, sym, subst}
 use mathlib.Core.Bool.{Bool, true, false}

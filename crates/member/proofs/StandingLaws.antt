@@ -1,4 +1,4 @@
--- Where the program stands: after a line, after a part of a block, after a block, at the end. Assumes nothing.
+-- Where the program stands: after a line, after a part of a block, after a block, at the end.
 use Prim.Native.Nat.{ℕ, _+_, _-_, _<_, _≤_}
 use mathlib.Core.Path.{_≡_, refl, ap, sym, subst, _∙_}
 use mathlib.Core.Bool.{Bool, true, false}

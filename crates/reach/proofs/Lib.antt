@@ -3,5 +3,3 @@ pub mod Theory
 pub mod Opening
 pub mod Loops
 pub mod Searching
-pub mod Clashing
-pub mod Eight

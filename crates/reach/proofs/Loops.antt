@@ -1,4 +1,4 @@
--- The loops over the cells. Assumes nothing.
+-- The loops over the cells.
 use native.Mathlib.Omega.{arith}
 use Prim.Native.Nat.{ℕ, _+_, _≤_, _<_}
 use mathlib.Core.Path.{_≡_, refl, ap, sym, _∙_, subst}

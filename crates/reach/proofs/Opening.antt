@@ -1,4 +1,4 @@
--- What opening one entry makes of its cell. Assumes nothing.
+-- What opening one entry makes of its cell.
 use native.Mathlib.Omega.{arith}
 use Prim.Native.Nat.{ℕ, _-_, _≤_}
 use mathlib.Core.Path.{_≡_, refl, ap, sym, _∙_, subst}

@@ -1,4 +1,4 @@
--- The search with key 0 as its one root: its start, a turn, its end, and that it ends. Assumes nothing.
+-- The search with key 0 as its one root: its start, a turn, its end, and that it ends.
 use native.Mathlib.Omega.{arith}
 use Prim.Native.Nat.{ℕ, zero, suc, _+_, _≤_, _<_}
 use mathlib.Core.Path.{_≡_, refl, ap, sym, _∙_, subst}

@@ -1,4 +1,4 @@
--- Cells by their status, and one on which a key was tried. Assumes nothing.
+-- Cells by their status, and one on which a key was tried.
 use native.Mathlib.Omega.{arith}
 use Prim.Native.Nat.{ℕ, zero, suc, _<_}
 use mathlib.Core.Path.{_≡_, refl, ap, sym, _∙_, subst}

@@ -1,4 +1,4 @@
--- Why the search is right: its invariant, that each turn keeps it, and what it says at the end. Assumes nothing.
+-- Why the search is right: its invariant, that each turn keeps it, and what it says at the end.
 use Prim.Native.Nat.{ℕ, _<_}
 use mathlib.Core.Path.{_≡_, refl, ap, sym, _∙_, subst}
 use mathlib.Core.Logic.{_⊎_, inl, inr, ⊎-elim}

@@ -1,4 +1,3 @@
 pub mod Opened
 pub mod Search
-pub mod Values
 pub mod Entries

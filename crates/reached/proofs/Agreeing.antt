@@ -1,4 +1,4 @@
--- Chains from key 0 end exactly on key 0 and on the keys of the held list. Assumes nothing.
+-- Chains from key 0 end exactly on key 0 and on the keys of the held list.
 use native.Mathlib.Omega.{arith}
 use Prim.Native.Nat.{ℕ, zero, suc, _-_, _<_}
 use mathlib.Core.Path.{_≡_, refl, ap, sym, _∙_, subst}

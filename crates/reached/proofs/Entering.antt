@@ -1,4 +1,4 @@
--- The keys of the cells that are done, entered one after the other. Assumes nothing.
+-- The keys of the cells that are done, entered one after the other.
 use native.Mathlib.Omega.{arith}
 use Prim.Native.Nat.{ℕ, _+_, _≤_, _<_}
 use mathlib.Core.Path.{_≡_, refl, ap, sym, _∙_}

@@ -1,4 +1,4 @@
--- The WRAP_KEYs of a KD body, gathered from bag to bag. Assumes nothing.
+-- The WRAP_KEYs of a KD body, gathered from bag to bag.
 use native.Mathlib.Omega.{arith}
 use Prim.Native.Nat.{ℕ, _+_, _-_, _≤_, _<_}
 use mathlib.Core.Path.{_≡_, refl, ap, sym, _∙_, subst}

@@ -1,4 +1,4 @@
--- The two ways to say that something stands in a list, and the keys of a held list by Key ID. Assumes nothing.
+-- The two ways to say that something stands in a list, and the keys of a held list by Key ID.
 use Prim.Native.Nat.{ℕ}
 use mathlib.Core.Path.{_≡_, refl, sym}
 use mathlib.Core.Bool.{Bool, true, false, false≢true}

@@ -1,4 +1,4 @@
--- The value of a wrapped key in attributes whose layout is whole has the size of the tables. Assumes nothing.
+-- The value of a wrapped key in attributes whose layout is whole has the size of the tables.
 use native.Mathlib.Omega.{arith}
 use Prim.Native.Nat.{ℕ, _≤_}
 use mathlib.Core.Path.{_≡_, ap, sym, _∙_}

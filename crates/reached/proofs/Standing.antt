@@ -1,4 +1,4 @@
--- Where number 8 does not hold of the entries, the keys of the cells that are done are the held list. Assumes nothing.
+-- Where number 8 does not hold of the entries, the keys of the cells that are done are the held list.
 use native.Mathlib.Omega.{arith}
 use Prim.Native.Nat.{ℕ, _<_}
 use mathlib.Core.Path.{_≡_, ap, sym, _∙_, subst}
@@ -22,7 +22,7 @@ use Rattle.reach.specs.declared.open.Cell.{Cell}
 use Rattle.reach.specs.inner.Entries.{Lists}
 use Rattle.keys.specs.Kinds.{wrappingOf, valueOf}
 use Rattle.reach.specs.inner.Search.{keyAt, Gives, Searched, Found-in, Nonzero}
-use Rattle.reach.proofs.Eight.{eight-wrong, eight-clash, found}
+use Rattle.conflicts.proofs.Eight.{eight-wrong, eight-clash, found}
 use Rattle.outcome.specs.After.{Holds, HeldAre}
 use Rattle.chains.proofs.Members.{member-in, in-member}
 use Rattle.reached.proofs.Membership.{all-members, heldKeyOf}

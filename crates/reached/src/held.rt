@@ -1,7 +1,7 @@
 // The keys that a search reached, as a held list.
+use conflicts::is_done;
 use reach::open::Cell;
 use reach::open::Entry;
-use reach::values::is_done;
 use state::held::Held;
 use state::held::HeldKey;
 ghost use mathlib.Core.Path.{_≡_};

@@ -31,7 +31,7 @@ pub fn reached(k: &[u8], lent: WrappingKey) -> Reached
     let places = list.places;
     let n = list.count;
     let cells = reach::search::search(k, lent, places, n);
-    if reach::values::entries_eight(places, cells, n) {
+    if conflicts::entries_eight(places, cells, n) {
         return Reached {
             eight: true,
             held: Held::new(),

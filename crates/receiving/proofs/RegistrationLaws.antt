@@ -19,7 +19,7 @@ use Rattle.chains.specs.Chain.{Root}
 use Rattle.chains.specs.Refusals.{EntriesEight}
 use Rattle.copies.specs.inner.Known.{Agrees}
 use Rattle.reach.specs.inner.Search.{keyZero}
-use Rattle.reach.specs.inner.Values.{Tells}
+use Rattle.conflicts.specs.inner.Values.{Tells}
 use Rattle.reach.proofs.Searching.{is-key-size}
 use Rattle.reached.specs.inner.Reached.{wrapKeysIn, Answers}
 use Rattle.reached.specs.declared.held.Reached.{Reached}

@@ -1,4 +1,4 @@
--- In a rekey there is no entry, so chains end on key 0 and the held keys alone. Assumes nothing.
+-- In a rekey there is no entry, so chains end on key 0 and the held keys alone.
 use Prim.Native.Nat.{ℕ}
 use mathlib.Core.Path.{refl, sym, subst}
 use mathlib.Core.Logic.{⊎-elim}

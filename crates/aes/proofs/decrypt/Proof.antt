@@ -1,4 +1,4 @@
--- `aes::decrypt` meets its contract. What is left to do, rounds r to 1, leads where all of them lead. Assumes nothing.
+-- `aes::decrypt` meets its contract. What is left to do, rounds r to 1, leads where all of them lead.
 use mathlib.Core.Path.{_≡_, refl}
 use Prim.Native.Nat.{_-_, _<_}
 use native.Mathlib.Omega.{arith}

@@ -1,4 +1,4 @@
--- `aes::encrypt` meets its contract. Before round r the state went through rounds 1 to r - 1. Assumes nothing.
+-- `aes::encrypt` meets its contract. Before round r the state went through rounds 1 to r - 1.
 use mathlib.Core.Path.{_≡_, refl}
 use Prim.Native.Nat.{_-_, _<_, _≤_}
 use native.Mathlib.Omega.{arith}

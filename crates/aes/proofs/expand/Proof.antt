@@ -1,4 +1,4 @@
--- `aes::expand` meets its contract. Assumes nothing.
+-- `aes::expand` meets its contract.
 use mathlib.Core.Path.{refl}
 use Prim.Native.Nat.{_/_}
 use native.Mathlib.Omega.{arith}

@@ -1,4 +1,4 @@
--- `aes::expand_inverse` meets its contract. Assumes nothing.
+-- `aes::expand_inverse` meets its contract.
 use Rattle.aes.proofs.Held.{retabled}
 use borrow.Author.Needs.{needs}
 use Rattle.aes.proofs.expand_inverse.Statement.{statement}

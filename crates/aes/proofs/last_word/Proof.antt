@@ -1,4 +1,4 @@
--- `aes::last_word` meets its contract. Assumes nothing.
+-- `aes::last_word` meets its contract.
 use native.Mathlib.Omega.{arith}
 use Rattle.fips197.specs.Sbox.{sbox}
 use Rattle.aes.proofs.Held.{its-rounds, last-is, length-sbox}

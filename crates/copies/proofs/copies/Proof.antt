@@ -1,5 +1,5 @@
 -- `copies::copies` meets its contract. The invariant speaks of any tries of which the answer at the loop's start tells, since key 0's
--- schedule is handed on before the loop. Assumes nothing.
+-- schedule is handed on before the loop.
 use denote.Ref.{now}
 use native.Mathlib.Omega.{arith}
 use Prim.Native.Nat.{_+_, _-_, _≤_}

@@ -1,4 +1,4 @@
--- `keywrap::is_key` meets its contract. Assumes nothing.
+-- `keywrap::is_key` meets its contract.
 use borrow.Author.Tests.{eq-eqb, ne-eqb}
 use Rattle.fips197.specs.Key.{isKey}
 use Rattle.keywrap.proofs.is_key.Statement.{statement}

@@ -1,4 +1,4 @@
--- `keywrap::open` meets its contract. Assumes nothing.
+-- `keywrap::open` meets its contract.
 use borrow.Author.Needs.{needs}
 use mathlib.Core.Path.{refl, subst}
 use Rattle.keywrap.proofs.Answering.{is-so, is-not-so}

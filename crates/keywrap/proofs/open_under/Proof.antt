@@ -1,4 +1,4 @@
--- `keywrap::open_under` meets its contract. Assumes nothing.
+-- `keywrap::open_under` meets its contract.
 use borrow.Author.Needs.{needs}
 use Prim.Native.Nat.{_-_, _/_}
 use native.Mathlib.Omega.{arith}

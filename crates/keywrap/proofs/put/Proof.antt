@@ -1,4 +1,4 @@
--- `keywrap::put` meets its contract. Assumes nothing.
+-- `keywrap::put` meets its contract.
 use borrow.Author.Needs.{needs}
 use mathlib.Core.Path.{sym, ap, _∙_}
 use mathlib.Core.Bool.{Bool}

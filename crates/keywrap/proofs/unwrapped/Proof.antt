@@ -1,4 +1,4 @@
--- `keywrap::unwrapped` meets its contract. Assumes nothing.
+-- `keywrap::unwrapped` meets its contract.
 use borrow.Author.Needs.{needs}
 use native.Mathlib.Omega.{arith}
 use Rattle.octets.specs.Octets.{Octets}

@@ -1,4 +1,4 @@
--- `keywrap::wrap` meets its contract. Assumes nothing.
+-- `keywrap::wrap` meets its contract.
 use borrow.Author.Needs.{needs}
 use mathlib.Core.Path.{refl, ap}
 use native.Mathlib.Omega.{arith}

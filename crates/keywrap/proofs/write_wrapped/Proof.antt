@@ -1,4 +1,4 @@
--- `keywrap::write_wrapped` meets its contract. Assumes nothing.
+-- `keywrap::write_wrapped` meets its contract.
 use borrow.Author.Needs.{needs}
 use mathlib.Core.Path.{ap, _∙_}
 use mathlib.Core.List.{List}

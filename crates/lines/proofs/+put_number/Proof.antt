@@ -1,4 +1,4 @@
--- `lines::put_number` meets its contract: a call at a tenth of the number, which is the measure, puts the higher digits. Assumes nothing.
+-- `lines::put_number` meets its contract: a call at a tenth of the number, which is the measure, puts the higher digits.
 use borrow.Author.Needs.{needs}
 use borrow.Fn.Kinds.{In}
 use borrow.Fn.PlainCycle.{Measures, is, falls, and}

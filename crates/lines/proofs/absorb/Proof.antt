@@ -1,4 +1,4 @@
--- `lines::absorb` meets its contract. The invariant: what was passed of the first line stands in the lent line. Assumes nothing.
+-- `lines::absorb` meets its contract. The invariant: what was passed of the first line stands in the lent line.
 use borrow.Author.Needs.{needs}
 use Prim.Native.Nat.{_-_}
 use lib.ListN.{length}

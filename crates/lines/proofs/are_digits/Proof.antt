@@ -1,4 +1,4 @@
--- `lines::are_digits` meets its contract. The invariant: what is left decides. Assumes nothing.
+-- `lines::are_digits` meets its contract. The invariant: what is left decides.
 use borrow.Author.Needs.{needs}
 use mathlib.Core.Path.{_≡_, refl, sym, _∙_}
 use Prim.Native.Nat.{_≤_, _-_}

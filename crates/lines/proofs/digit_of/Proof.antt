@@ -1,4 +1,4 @@
--- `lines::digit_of` meets its contract. Assumes nothing.
+-- `lines::digit_of` meets its contract.
 use borrow.Author.Needs.{needs}
 use mathlib.Core.Path.{sym}
 use Rattle.lines.proofs.HexLaws.{decimal-digit, letter-digit}

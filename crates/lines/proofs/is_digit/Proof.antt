@@ -1,4 +1,4 @@
--- `lines::is_digit` meets its contract: by the character's range. Assumes nothing.
+-- `lines::is_digit` meets its contract: by the character's range.
 use Rattle.lines.proofs.HexLaws.{low, decimals, between, from-letters}
 use Rattle.lines.proofs.is_digit.Statement.{statement}
 use Rattle.lines.proofs.is_digit.Tie as tie

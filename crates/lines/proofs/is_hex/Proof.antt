@@ -1,4 +1,4 @@
--- `lines::is_hex` meets its contract. Assumes nothing.
+-- `lines::is_hex` meets its contract.
 use borrow.Author.Needs.{needs}
 use mathlib.Core.Path.{sym, _∙_}
 use Rattle.lines.proofs.HexLaws.{hex-even, hex-other}

@@ -1,4 +1,4 @@
--- `lines::is_taken` meets its contract. Assumes nothing.
+-- `lines::is_taken` meets its contract.
 use borrow.Author.Needs.{needs}
 use mathlib.Core.Path.{sym, _∙_}
 use Rattle.lines.proofs.InputLaws.{taken-short, taken-long, taken-within}

@@ -1,4 +1,4 @@
--- `lines::key_line` meets its contract. Assumes nothing.
+-- `lines::key_line` meets its contract.
 use borrow.Author.Needs.{needs}
 use mathlib.Core.Path.{sym, _∙_}
 use lib.ListN.{replicate}

@@ -1,4 +1,4 @@
--- `lines::later_line` meets its contract. Assumes nothing.
+-- `lines::later_line` meets its contract.
 use borrow.Author.Needs.{needs}
 use mathlib.Core.Path.{refl, sym, ap, _∙_}
 use Prim.Native.Nat.{ℕ}

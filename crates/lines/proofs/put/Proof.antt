@@ -1,4 +1,4 @@
--- `lines::put` meets its contract. Assumes nothing.
+-- `lines::put` meets its contract.
 use borrow.Author.Needs.{needs}
 use Rattle.lines.proofs.RoomLaws.{put-full}
 use Rattle.lines.proofs.put.Statement.{statement}

@@ -1,4 +1,4 @@
--- `lines::put_answer` meets its contract: one number is put behind the other. Assumes nothing.
+-- `lines::put_answer` meets its contract: one number is put behind the other.
 use borrow.Author.Needs.{needs}
 use Rattle.lines.proofs.AnswerLaws.{answer-parts}
 use Rattle.lines.proofs.RoomLaws.{put-append, put-as}

@@ -1,4 +1,4 @@
--- `lines::put_bad` meets its contract: one character is put behind the other. Assumes nothing.
+-- `lines::put_bad` meets its contract: one character is put behind the other.
 use borrow.Author.Needs.{needs}
 use Rattle.lines.proofs.RoomLaws.{put-append}
 use Rattle.lines.proofs.put_bad.Statement.{statement}

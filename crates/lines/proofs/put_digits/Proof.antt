@@ -1,4 +1,4 @@
--- `lines::put_digits` meets its contract. The invariant: the digits of the octets passed are put. Assumes nothing.
+-- `lines::put_digits` meets its contract. The invariant: the digits of the octets passed are put.
 use borrow.Author.Needs.{needs}
 use Prim.Native.Nat.{_≤_, _-_}
 use native.Mathlib.Omega.{arith}

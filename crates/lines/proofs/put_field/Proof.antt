@@ -1,4 +1,4 @@
--- `lines::put_field` meets its contract. Assumes nothing.
+-- `lines::put_field` meets its contract.
 use borrow.Author.Needs.{needs}
 use Rattle.lines.proofs.RoomLaws.{put-append}
 use Rattle.lines.proofs.put_field.Statement.{statement}

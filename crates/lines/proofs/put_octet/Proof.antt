@@ -1,4 +1,4 @@
--- `lines::put_octet` meets its contract: one digit is put behind the other. Assumes nothing.
+-- `lines::put_octet` meets its contract: one digit is put behind the other.
 use borrow.Author.Needs.{needs}
 use Rattle.lines.proofs.RoomLaws.{put-append, put-octet-as}
 use Rattle.lines.proofs.put_octet.Statement.{statement}

@@ -1,4 +1,4 @@
--- `lines::put_octets` meets its contract. The invariant: the octets of the digits passed are put. Assumes nothing.
+-- `lines::put_octets` meets its contract. The invariant: the octets of the digits passed are put.
 use borrow.Author.Needs.{needs}
 use Prim.Native.Nat.{_≤_, _-_}
 use native.Mathlib.Omega.{arith}

@@ -1,4 +1,4 @@
--- `lines::tick_of` meets its contract. Assumes nothing.
+-- `lines::tick_of` meets its contract.
 use borrow.Author.Needs.{needs}
 use native.Mathlib.Omega.{arith}
 use Rattle.lines.proofs.InputLaws.{tick-octets}

@@ -1,4 +1,4 @@
--- `lines::value_of` meets its contract: by the character's range. Assumes nothing.
+-- `lines::value_of` meets its contract: by the character's range.
 use borrow.Author.Needs.{needs}
 use mathlib.Core.Path.{sym}
 use Rattle.lines.proofs.HexLaws.{low, decimals, between, letters, high}

@@ -1,4 +1,4 @@
--- `member::main` meets its contract: the room that it lends is as large as `run` asks. Assumes nothing.
+-- `member::main` meets its contract: the room that it lends is as large as `run` asks.
 use borrow.Author.Needs.{needs}
 use Rattle.member.proofs.main.Statement.{statement}
 use Rattle.member.proofs.main.Tie as tie

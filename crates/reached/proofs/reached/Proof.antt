@@ -1,11 +1,11 @@
--- `reached::reached` meets its contract. Assumes nothing.
+-- `reached::reached` meets its contract.
 use denote.Ref.{now}
 use native.Mathlib.Omega.{arith}
 use mathlib.Core.Path.{sym}
 use mathlib.Core.Bool.{false≢true}
 use Rattle.keys.specs.Kinds.{valueOf}
 use Rattle.reach.specs.inner.Search.{keyZero}
-use Rattle.reach.proofs.Clashing.{told-yes, told-not}
+use Rattle.conflicts.proofs.Clashing.{told-yes, told-not}
 use Rattle.reached.specs.inner.Reached.{wrapKeysIn}
 use Rattle.reached.proofs.Agreeing.{held-agrees}
 use borrow.Author.Needs.{needs}

@@ -11,7 +11,7 @@ use Rattle.keys.specs.Limits.{limits}
 use Rattle.keys.specs.declared.kinds.WrappingKey.{WrappingKey}
 use Rattle.state.specs.Held.{heldOf, heldFormed}
 use Rattle.outcome.specs.After.{HeldAre}
-use Rattle.reach.specs.inner.Values.{Tells}
+use Rattle.conflicts.specs.inner.Values.{Tells}
 use Rattle.copies.specs.inner.Known.{Agrees}
 use Rattle.reached.specs.declared.held.Reached.{Reached}
 use Rattle.contents.specs.inner.Bags.{bagsIn}

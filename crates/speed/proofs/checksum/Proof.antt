@@ -1,4 +1,4 @@
--- `speed::checksum` is safe and ends. Assumes nothing.
+-- `speed::checksum` is safe and ends.
 use borrow.Author.Needs.{needs}
 use Prim.Native.Nat.{_≤_, _-_}
 use lib.ListN.{length}

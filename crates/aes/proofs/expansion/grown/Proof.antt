@@ -1,4 +1,4 @@
--- `aes::expansion::grown` meets its contract. At word i the words before it are expanded, and those behind are as lent. Assumes nothing.
+-- `aes::expansion::grown` meets its contract. At word i the words before it are expanded, and those behind are as lent.
 use Prim.Native.Nat.{_+_, _*_, _-_}
 use native.Mathlib.Omega.{arith}
 use Rattle.aes.proofs.Words.{Grown, grown-none, grown-table, grown-more, grown-all}

@@ -1,4 +1,4 @@
--- `aes::expansion::next_word` meets its contract. Assumes nothing.
+-- `aes::expansion::next_word` meets its contract.
 use Prim.Native.Nat.{_-_}
 use Rattle.aes.proofs.Words.{next}
 use borrow.Author.Needs.{needs}

@@ -1,4 +1,4 @@
--- `aes::expansion::pasted` meets its contract. After i turns the first i octets are pasted. Assumes nothing.
+-- `aes::expansion::pasted` meets its contract. After i turns the first i octets are pasted.
 use mathlib.Core.Path.{_≡_, ap, _∙_}
 use Prim.Native.Nat.{_-_, _≤_}
 use native.Mathlib.Omega.{arith}

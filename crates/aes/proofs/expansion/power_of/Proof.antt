@@ -1,4 +1,4 @@
--- `aes::expansion::power_of` meets its contract. After i turns r is x^i. Assumes nothing.
+-- `aes::expansion::power_of` meets its contract. After i turns r is x^i.
 use mathlib.Core.Path.{_≡_, refl, sym, ap, _∙_}
 use Prim.Native.Nat.{_-_, _≤_}
 use native.Mathlib.Omega.{arith}

@@ -1,4 +1,4 @@
--- `aes::expansion::temp_at` meets its contract. Assumes nothing.
+-- `aes::expansion::temp_at` meets its contract.
 use native.Mathlib.Omega.{arith}
 use Rattle.aes.proofs.Words.{turned, subbed, left-long, left-short, later}
 use borrow.Author.Needs.{needs}

@@ -1,4 +1,4 @@
--- `aes::inv_sbox::inv_sbox_table` meets its contract: the two tables are the same, entry by entry. Assumes nothing.
+-- `aes::inv_sbox::inv_sbox_table` meets its contract: the two tables are the same, entry by entry.
 use mathlib.Core.Path.{refl}
 use Rattle.fips197.specs.Sbox.{inv-sbox}
 use Rattle.aes.proofs.inv_sbox.inv_sbox_table.Statement.{statement}

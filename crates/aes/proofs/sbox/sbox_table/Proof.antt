@@ -1,4 +1,4 @@
--- `aes::sbox::sbox_table` meets its contract: the two tables are the same, entry by entry. Assumes nothing.
+-- `aes::sbox::sbox_table` meets its contract: the two tables are the same, entry by entry.
 use mathlib.Core.Path.{refl}
 use Rattle.fips197.specs.Sbox.{sbox}
 use Rattle.aes.proofs.sbox.sbox_table.Statement.{statement}

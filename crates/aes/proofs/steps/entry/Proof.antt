@@ -1,4 +1,4 @@
--- `aes::steps::entry` meets its contract. Assumes nothing.
+-- `aes::steps::entry` meets its contract.
 use native.Mathlib.Omega.{arith}
 use Rattle.aes.proofs.Held.{looked-up}
 use borrow.Author.Needs.{needs}

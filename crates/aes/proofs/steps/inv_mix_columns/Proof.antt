@@ -1,4 +1,4 @@
--- `aes::steps::inv_mix_columns` meets its contract. Assumes nothing.
+-- `aes::steps::inv_mix_columns` meets its contract.
 use Rattle.aes.proofs.Rows.{columns}
 use native.Mathlib.Omega.{arith}
 use Rattle.aes.proofs.steps.inv_mix_columns.Statement.{statement}

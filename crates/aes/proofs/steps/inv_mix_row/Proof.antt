@@ -1,4 +1,4 @@
--- `aes::steps::inv_mix_row` meets its contract. Assumes nothing.
+-- `aes::steps::inv_mix_row` meets its contract.
 use Rattle.aes.proofs.Rows.{inv-row}
 use borrow.Author.Needs.{needs}
 use Rattle.aes.proofs.steps.inv_mix_row.Statement.{statement}

@@ -1,4 +1,4 @@
--- `aes::steps::sub_bytes` meets its contract. The loop fills the state from the front. Assumes nothing.
+-- `aes::steps::sub_bytes` meets its contract. The loop fills the state from the front.
 use mathlib.Core.Path.{refl}
 use native.Mathlib.Omega.{arith}
 use Rattle.octets.specs.Numbers.{oct}

@@ -1,4 +1,4 @@
--- `aes::steps::times2` meets its contract. Assumes nothing.
+-- `aes::steps::times2` meets its contract.
 use mathlib.Core.Path.{ap}
 use Prim.Native.Nat.{ℕ, _*_, _%_}
 use native.Mathlib.Omega.{arith}

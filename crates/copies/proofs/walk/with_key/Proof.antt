@@ -1,4 +1,4 @@
--- `copies::walk::with_key` meets its contract. Assumes nothing.
+-- `copies::walk::with_key` meets its contract.
 use denote.Ref.{now}
 use native.Mathlib.Omega.{arith}
 use mathlib.Core.Path.{_≡_, ap, sym, subst}

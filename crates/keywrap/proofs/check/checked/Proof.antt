@@ -1,4 +1,4 @@
--- `keywrap::check::checked` meets its contract. Assumes nothing.
+-- `keywrap::check::checked` meets its contract.
 use borrow.Author.Needs.{needs}
 use mathlib.Core.Path.{sym, _∙_}
 use Prim.Native.Nat.{suc}

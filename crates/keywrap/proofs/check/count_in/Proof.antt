@@ -1,4 +1,4 @@
--- `keywrap::check::count_in` meets its contract. Assumes nothing.
+-- `keywrap::check::count_in` meets its contract.
 use borrow.Author.Needs.{needs}
 use borrow.Author.Tests.{eq-eqb, ne-eqb}
 use Rattle.keywrap.specs.inner.Unwrap.{countIn}

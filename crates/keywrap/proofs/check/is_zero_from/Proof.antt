@@ -1,4 +1,4 @@
--- `keywrap::check::is_zero_from` meets its contract. Assumes nothing.
+-- `keywrap::check::is_zero_from` meets its contract.
 use borrow.Author.Needs.{needs}
 use mathlib.Core.Path.{_≡_, refl, sym, _∙_}
 use Prim.Native.Nat.{_-_}

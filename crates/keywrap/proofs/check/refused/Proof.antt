@@ -1,4 +1,4 @@
--- `keywrap::check::refused` meets its contract. Assumes nothing.
+-- `keywrap::check::refused` meets its contract.
 use mathlib.Core.Path.{refl}
 use Rattle.keywrap.specs.inner.Blank.{blank}
 use Rattle.keywrap.proofs.check.refused.Statement.{statement}

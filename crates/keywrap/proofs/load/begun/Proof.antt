@@ -1,4 +1,4 @@
--- `keywrap::load::begun` meets its contract. Assumes nothing.
+-- `keywrap::load::begun` meets its contract.
 use borrow.Author.Needs.{needs}
 use mathlib.Core.Path.{sym, ap, _∙_}
 use Prim.Native.Nat.{ℕ, _+_, _-_, _*_}

@@ -1,4 +1,4 @@
--- `keywrap::load::load` meets its contract. Assumes nothing.
+-- `keywrap::load::load` meets its contract.
 use borrow.Author.Needs.{needs}
 use mathlib.Core.Path.{refl, sym, _∙_}
 use Prim.Native.Nat.{ℕ, _*_, _-_}

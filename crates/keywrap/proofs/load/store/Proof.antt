@@ -1,4 +1,4 @@
--- `keywrap::load::store` meets its contract. Assumes nothing.
+-- `keywrap::load::store` meets its contract.
 use borrow.Author.Needs.{needs}
 use mathlib.Core.Path.{_≡_, refl, ap, _∙_}
 use Prim.Native.Nat.{ℕ, _-_, _≤_}

@@ -1,4 +1,4 @@
--- `keywrap::unwrap_steps::backward_in` meets its contract. Assumes nothing.
+-- `keywrap::unwrap_steps::backward_in` meets its contract.
 use borrow.Author.Needs.{needs}
 use Rattle.keywrap.proofs.Turns.{backward-one, backward-more}
 use Rattle.keywrap.proofs.unwrap_steps.backward_in.Statement.{statement}

@@ -1,4 +1,4 @@
--- `keywrap::unwrap_steps::unstep_in` meets its contract. Assumes nothing.
+-- `keywrap::unwrap_steps::unstep_in` meets its contract.
 use borrow.Author.Needs.{needs}
 use Rattle.keywrap.proofs.Turns.{unstepped}
 use Rattle.keywrap.proofs.unwrap_steps.unstep_in.Statement.{statement}

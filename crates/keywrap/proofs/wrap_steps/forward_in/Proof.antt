@@ -1,4 +1,4 @@
--- `keywrap::wrap_steps::forward_in` meets its contract. Assumes nothing.
+-- `keywrap::wrap_steps::forward_in` meets its contract.
 use borrow.Author.Needs.{needs}
 use Rattle.keywrap.proofs.Turns.{forward-one, forward-more}
 use Rattle.keywrap.proofs.wrap_steps.forward_in.Statement.{statement}

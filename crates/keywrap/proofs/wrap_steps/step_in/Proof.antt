@@ -1,4 +1,4 @@
--- `keywrap::wrap_steps::step_in` meets its contract. Assumes nothing.
+-- `keywrap::wrap_steps::step_in` meets its contract.
 use borrow.Author.Needs.{needs}
 use Rattle.keywrap.proofs.Turns.{stepped}
 use Rattle.keywrap.proofs.wrap_steps.step_in.Statement.{statement}

@@ -1,4 +1,4 @@
--- `member::running::advanced` meets its contract. Assumes nothing.
+-- `member::running::advanced` meets its contract.
 use borrow.Author.Needs.{needs}
 use mathlib.Core.Path.{_≡_, sym}
 use lib.ListN.{length}

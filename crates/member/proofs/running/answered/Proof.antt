@@ -1,4 +1,4 @@
--- `member::running::answered` meets its contract. Assumes nothing.
+-- `member::running::answered` meets its contract.
 use borrow.Author.Needs.{needs}
 use mathlib.Core.Bool.{true, false}
 use Rattle.member.proofs.ReplyLaws.{answered-as}

@@ -1,4 +1,4 @@
--- `member::running::begun` meets its contract. Assumes nothing.
+-- `member::running::begun` meets its contract.
 use borrow.Author.Needs.{needs}
 use Rattle.member.proofs.StandingLaws.{starts}
 use Rattle.member.proofs.running.begun.Statement.{statement}

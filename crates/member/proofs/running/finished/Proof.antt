@@ -1,4 +1,4 @@
--- `member::running::finished` meets its contract. Assumes nothing.
+-- `member::running::finished` meets its contract.
 use borrow.Author.Needs.{needs}
 use mathlib.Core.Path.{sym}
 use native.Mathlib.Omega.{arith}

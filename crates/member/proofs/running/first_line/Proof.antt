@@ -1,4 +1,4 @@
--- `member::running::first_line` meets its contract. Assumes nothing.
+-- `member::running::first_line` meets its contract.
 use borrow.Author.Needs.{needs}
 use mathlib.Core.Path.{refl}
 use Rattle.member.proofs.running.first_line.Statement.{statement}

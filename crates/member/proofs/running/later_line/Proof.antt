@@ -1,4 +1,4 @@
--- `member::running::later_line` meets its contract. Assumes nothing.
+-- `member::running::later_line` meets its contract.
 use borrow.Author.Needs.{needs}
 use mathlib.Core.Path.{sym, subst}
 use lib.Seq.{length-take-le}

@@ -1,4 +1,4 @@
--- `member::running::received` meets its contract. Assumes nothing.
+-- `member::running::received` meets its contract.
 use borrow.Author.Needs.{needs}
 use mathlib.Core.Path.{_≡_, sym}
 use native.Mathlib.Omega.{arith}

@@ -1,4 +1,4 @@
--- `member::running::through` meets its contract. The invariant: what was passed of the block was read. Assumes nothing.
+-- `member::running::through` meets its contract. The invariant: what was passed of the block was read.
 use borrow.Author.Needs.{needs}
 use Prim.Native.Nat.{_-_}
 use mathlib.Core.Path.{_≡_}

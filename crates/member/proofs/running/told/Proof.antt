@@ -1,4 +1,4 @@
--- `member::running::told` meets its contract. Assumes nothing.
+-- `member::running::told` meets its contract.
 use borrow.Author.Needs.{needs}
 use mir.Val.{Fits}
 use mir.Syntax.{w64}

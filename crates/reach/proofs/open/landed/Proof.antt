@@ -1,4 +1,4 @@
--- `reach::open::landed` meets its contract. Assumes nothing.
+-- `reach::open::landed` meets its contract.
 use borrow.Author.Needs.{needs}
 use mathlib.Core.Path.{sym, subst}
 use lib.Seq.{length-take-le}

@@ -1,4 +1,4 @@
--- `reach::open::names` meets its contract. Assumes nothing.
+-- `reach::open::names` meets its contract.
 use borrow.Author.Needs.{needs}
 use Rattle.reach.proofs.Opening.{naming-here, naming-other}
 use Rattle.reach.proofs.open.names.Statement.{statement}

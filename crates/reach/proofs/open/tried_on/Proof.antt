@@ -1,4 +1,4 @@
--- `reach::open::tried_on` meets its contract. Assumes nothing.
+-- `reach::open::tried_on` meets its contract.
 use mathlib.Core.Path.{sym, _∙_}
 use Rattle.reach.proofs.Opening.{tried-opened, tried-other}
 use borrow.Author.Needs.{needs}

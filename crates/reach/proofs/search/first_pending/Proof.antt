@@ -1,4 +1,4 @@
--- `reach::search::first_pending` meets its contract. Assumes nothing.
+-- `reach::search::first_pending` meets its contract.
 use native.Mathlib.Omega.{arith}
 use Prim.Native.Nat.{_-_, _≤_}
 use mathlib.Core.Path.{_≡_, sym, _∙_}

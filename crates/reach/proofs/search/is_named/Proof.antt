@@ -1,4 +1,4 @@
--- `reach::search::is_named` meets its contract. Assumes nothing.
+-- `reach::search::is_named` meets its contract.
 use native.Mathlib.Omega.{arith}
 use Prim.Native.Nat.{ℕ, _-_, _≤_}
 use mathlib.Core.Path.{_≡_, sym, _∙_}

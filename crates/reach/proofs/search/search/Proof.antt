@@ -1,5 +1,5 @@
 -- `reach::search::search` meets its contract. The invariant speaks of any key 0 from which the cells at the loop's start follow, since the
--- lent key is handed on before the loop. The measure is the count of cells that are not done. Assumes nothing.
+-- lent key is handed on before the loop. The measure is the count of cells that are not done.
 use native.Mathlib.Omega.{arith}
 use Prim.Native.Nat.{ℕ, _≤_, _<_}
 use mathlib.Core.Path.{_≡_, sym, subst}

@@ -1,4 +1,4 @@
--- `reach::search::tried` meets its contract. Assumes nothing.
+-- `reach::search::tried` meets its contract.
 use native.Mathlib.Omega.{arith}
 use Prim.Native.Nat.{ℕ, _-_, _≤_}
 use mathlib.Core.Path.{_≡_}

@@ -1,4 +1,4 @@
--- `reach::search::with_key` meets its contract. Assumes nothing.
+-- `reach::search::with_key` meets its contract.
 use native.Mathlib.Omega.{arith}
 use Prim.Native.Nat.{ℕ}
 use mathlib.Core.Path.{_≡_, sym, subst}

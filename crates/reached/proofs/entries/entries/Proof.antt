@@ -1,4 +1,4 @@
--- `reached::entries::entries` meets its contract. Assumes nothing.
+-- `reached::entries::entries` meets its contract.
 use denote.Ref.{now}
 use native.Mathlib.Omega.{arith}
 use Prim.Native.Nat.{ℕ, _+_, _-_, _≤_, _<_}

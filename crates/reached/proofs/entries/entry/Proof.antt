@@ -1,4 +1,4 @@
--- `reached::entries::entry` meets its contract. Assumes nothing.
+-- `reached::entries::entry` meets its contract.
 use borrow.Author.Needs.{needs}
 use Rattle.reached.proofs.Gathering.{entry-octets}
 use Rattle.reached.proofs.entries.entry.Statement.{statement}

@@ -1,4 +1,4 @@
--- `reached::entries::with_bag` meets its contract. Assumes nothing.
+-- `reached::entries::with_bag` meets its contract.
 use denote.Ref.{now}
 use native.Mathlib.Omega.{arith}
 use Prim.Native.Nat.{_+_, _-_, _≤_, _<_}

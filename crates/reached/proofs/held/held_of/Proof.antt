@@ -1,11 +1,11 @@
--- `reached::held::held_of` meets its contract. Assumes nothing.
+-- `reached::held::held_of` meets its contract.
 use native.Mathlib.Omega.{arith}
 use Prim.Native.Nat.{ℕ, _-_, _≤_}
 use mathlib.Core.Path.{_≡_, subst}
 use lib.ListN.{length}
 use Rattle.reach.specs.declared.open.Entry.{Entry}
 use Rattle.reach.specs.declared.open.Cell.{Cell}
-use Rattle.reach.proofs.Clashing.{both-at}
+use Rattle.conflicts.proofs.Clashing.{both-at}
 use Rattle.reached.specs.inner.Joins.{Joins}
 use Rattle.reached.proofs.Entering.{Entered, entered-none, entered-next}
 use Rattle.reached.proofs.Standing.{held-are, are-formed}

@@ -1,7 +1,7 @@
--- `reached::held::with_cell` meets its contract. Assumes nothing.
+-- `reached::held::with_cell` meets its contract.
 use mathlib.Core.Path.{refl, ap, sym, _∙_}
 use Rattle.keys.specs.declared.kinds.MadeWrapping.{MadeWrapping}
-use Rattle.reach.proofs.Clashing.{done-is, done-not}
+use Rattle.conflicts.proofs.Clashing.{done-is, done-not}
 use Rattle.reached.specs.inner.Joins.{not-reached, stands, enters}
 use borrow.Author.Needs.{needs}
 use Rattle.reached.proofs.held.with_cell.Statement.{statement}

@@ -1,4 +1,4 @@
--- `vectors::counts::both_ways_each` is safe and ends. Assumes nothing.
+-- `vectors::counts::both_ways_each` is safe and ends.
 use borrow.Author.Needs.{needs}
 use Prim.Native.Nat.{_≤_, _-_}
 use lib.ListN.{length}

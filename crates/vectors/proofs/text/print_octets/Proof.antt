@@ -1,4 +1,4 @@
--- `vectors::text::print_octets` is safe and ends. Assumes nothing.
+-- `vectors::text::print_octets` is safe and ends.
 use borrow.Author.Needs.{needs}
 use Prim.Native.Nat.{_≤_, _-_}
 use lib.ListN.{length}

@@ -1,8 +1,9 @@
-// Whether the cells of a search show number 8: an entry that opened to a wrong size, or two that give one key two values.
-use crate::open::Cell;
-use crate::open::Entry;
-use crate::open::Status;
+// Number 8 of document 01 for the entries of a registration: whether the cells of a search show an entry that opened to a wrong size, or
+// two that give one key two values.
 use keys::kinds::WrappingKey;
+use reach::open::Cell;
+use reach::open::Entry;
+use reach::open::Status;
 ghost use mathlib.Core.Path.{_≡_};
 ghost use mathlib.Core.Bool.{true, false};
 ghost use mathlib.Core.List.{List};
@@ -10,9 +11,9 @@ ghost use Prim.Native.Nat.{ℕ, _≤_};
 ghost use Rattle.attributes.specs.Tree.{WrapKey};
 ghost use Rattle.chains.specs.Chain.{Root};
 ghost use Rattle.chains.specs.Refusals.{EntriesEight};
 ghost use Rattle.reach.specs.inner.Entries.{Lists};
 ghost use Rattle.reach.specs.inner.Search.{Searched, Nonzero};
-ghost use Rattle.reach.specs.inner.Values.{Tells, Clash, ClashAmong, AnyClash, AnyWrong, isDone, isWrong};
+ghost use Rattle.conflicts.specs.inner.Values.{Tells, Clash, ClashAmong, AnyClash, AnyWrong, isDone, isWrong};
 
 // Whether a chain ends with the entry, and its key was tried on the others. Internal.
 pub fn is_done(c: Cell) -> bool

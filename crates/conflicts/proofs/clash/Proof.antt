@@ -1,9 +1,9 @@
--- `reach::values::clash` meets its contract. Assumes nothing.
+-- `reach::values::clash` meets its contract.
 use mathlib.Core.Path.{sym, _∙_}
-use Rattle.reach.proofs.Clashing.{told-yes, told-not, done-is, done-not}
+use Rattle.conflicts.proofs.Clashing.{told-yes, told-not, done-is, done-not}
 use borrow.Author.Needs.{needs}
-use Rattle.reach.proofs.values.clash.Statement.{statement}
-use Rattle.reach.proofs.values.clash.Tie as tie
+use Rattle.conflicts.proofs.clash.Statement.{statement}
+use Rattle.conflicts.proofs.clash.Tie as tie
 
 returns : tie.Need-returns
 returns c h = c .if1 .taken (h .id)

@@ -1,15 +1,15 @@
--- `reach::values::clashes` meets its contract. Assumes nothing.
+-- `reach::values::clashes` meets its contract.
 use native.Mathlib.Omega.{arith}
 use Prim.Native.Nat.{_-_, _≤_}
 use mathlib.Core.Path.{_≡_}
 use lib.ListN.{length, getD}
 use Rattle.reach.specs.inner.Entries.{noEntry}
 use Rattle.reach.specs.inner.Search.{cellAt}
-use Rattle.reach.specs.inner.Values.{Clash}
-use Rattle.reach.proofs.Clashing.{NoneBelow, none-next, none-all, told-yes, told-not, both-at, both-back}
+use Rattle.conflicts.specs.inner.Values.{Clash}
+use Rattle.conflicts.proofs.Clashing.{NoneBelow, none-next, none-all, told-yes, told-not, both-at, both-back}
 use borrow.Author.Needs.{needs}
-use Rattle.reach.proofs.values.clashes.Statement.{statement}
-use Rattle.reach.proofs.values.clashes.Tie as tie
+use Rattle.conflicts.proofs.clashes.Statement.{statement}
+use Rattle.conflicts.proofs.clashes.Tie as tie
 
 abbrev Inv-loop : tie.InvT-loop
 Inv-loop e c n entries cells i₀ i =

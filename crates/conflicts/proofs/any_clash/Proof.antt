@@ -1,17 +1,17 @@
--- `reach::values::any_clash` meets its contract. Assumes nothing.
+-- `reach::values::any_clash` meets its contract.
 use native.Mathlib.Omega.{arith}
 use Prim.Native.Nat.{_-_, _≤_}
 use mathlib.Core.Path.{_≡_}
 use lib.ListN.{length, getD}
 use Rattle.reach.specs.declared.open.Entry.{Entry}
 use Rattle.reach.specs.declared.open.Cell.{Cell}
 use Rattle.reach.specs.inner.Entries.{noEntry}
 use Rattle.reach.specs.inner.Search.{cellAt}
-use Rattle.reach.specs.inner.Values.{ClashAmong}
-use Rattle.reach.proofs.Clashing.{NoneBelow, none-next, none-all, told-yes, told-not, both-at, both-back}
+use Rattle.conflicts.specs.inner.Values.{ClashAmong}
+use Rattle.conflicts.proofs.Clashing.{NoneBelow, none-next, none-all, told-yes, told-not, both-at, both-back}
 use borrow.Author.Needs.{needs}
-use Rattle.reach.proofs.values.any_clash.Statement.{statement}
-use Rattle.reach.proofs.values.any_clash.Tie as tie
+use Rattle.conflicts.proofs.any_clash.Statement.{statement}
+use Rattle.conflicts.proofs.any_clash.Tie as tie
 
 abbrev Inv-loop : tie.InvT-loop
 Inv-loop n entries cells i₀ i =

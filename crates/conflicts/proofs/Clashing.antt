@@ -1,4 +1,4 @@
--- The tests of number 8 over the cells. Assumes nothing.
+-- The tests of number 8 over the cells.
 use native.Mathlib.Omega.{arith}
 use Prim.Native.Nat.{ℕ, _+_, _≤_, _<_}
 use mathlib.Core.Path.{_≡_, refl, ap, sym, _∙_, subst}
@@ -8,15 +8,15 @@ use borrow.Author.Count.{below-more}
 use lib.ListN.{length, getD}
 use lib.Seq.{ext-getD}
 use Rattle.keys.specs.declared.kinds.WrappingKey.{WrappingKey}
 use Rattle.reach.specs.declared.open.Status.{Status}
 use Rattle.reach.specs.declared.open.Status.the-variants.{Waiting, Failed, Wrong, Pending, Done}
 use Rattle.reach.specs.declared.open.Entry.{Entry}
 use Rattle.reach.specs.declared.open.Cell.{Cell}
 use Rattle.reach.specs.inner.Entries.{noEntry}
 use Rattle.reach.specs.inner.Opened.{noCell}
 use Rattle.reach.specs.inner.Search.{cellAt}
-use Rattle.reach.specs.inner.Values.{Tells, Some, isDone, isWrong}
+use Rattle.conflicts.specs.inner.Values.{Tells, Some, isDone, isWrong}
 use Rattle.reach.proofs.Statuses.{getD-any}
 
 -- what an answer tells
 pub told-yes : (b : Bool) (P : Type 0) → b ≡ true → Tells b P → P

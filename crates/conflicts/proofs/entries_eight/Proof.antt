@@ -1,9 +1,9 @@
--- `reach::values::entries_eight` meets its contract. Assumes nothing.
+-- `reach::values::entries_eight` meets its contract.
 use borrow.Author.Needs.{needs}
-use Rattle.reach.proofs.Clashing.{told-yes, told-not}
-use Rattle.reach.proofs.Eight.{eight-wrong, eight-tells}
-use Rattle.reach.proofs.values.entries_eight.Statement.{statement}
-use Rattle.reach.proofs.values.entries_eight.Tie as tie
+use Rattle.conflicts.proofs.Clashing.{told-yes, told-not}
+use Rattle.conflicts.proofs.Eight.{eight-wrong, eight-tells}
+use Rattle.conflicts.proofs.entries_eight.Statement.{statement}
+use Rattle.conflicts.proofs.entries_eight.Tie as tie
 
 any-wrong-requires : tie.Need-any-wrong-requires
 any-wrong-requires c κs = search needs

@@ -1,4 +1,4 @@
--- Number 8 of the entries, from the cells that a search ends with. Assumes nothing.
+-- Number 8 of the entries, from the cells that a search ends with.
 use native.Mathlib.Omega.{arith}
 use Prim.Native.Nat.{ℕ, _<_}
 use mathlib.Core.Path.{_≡_, ap, sym, _∙_, subst}
@@ -11,12 +11,12 @@ use Rattle.keys.specs.Kinds.{wrappingOf, valueOf}
 use Rattle.chains.specs.Chain.{Root, Reached}
 use Rattle.chains.specs.Refusals.{EntriesEight, wrong-size, two-values}
 use Rattle.chains.proofs.Determined.{lists-equal}
 use Rattle.reach.specs.declared.open.Status.the-variants.{Wrong, Done}
 use Rattle.reach.specs.declared.open.Entry.{Entry}
 use Rattle.reach.specs.declared.open.Cell.{Cell}
 use Rattle.reach.specs.inner.Entries.{Lists}
 use Rattle.reach.specs.inner.Search.{keyAt, cellAt, Searched, Found-in, OneEach, Nonzero}
-use Rattle.reach.specs.inner.Values.{Tells, AnyClash, AnyWrong}
+use Rattle.conflicts.specs.inner.Values.{Tells, AnyClash, AnyWrong}
 
 module _ (frame : List ℕ) (places : List Entry) (n : ℕ) (cells : List Cell) (roots : List Root) (l : List WrapKey) (size : ℕ)
     (lists : Lists frame places n l) (s : Searched roots l size cells) where

@@ -1,14 +1,14 @@
--- `reach::values::any_wrong` meets its contract. Assumes nothing.
+-- `reach::values::any_wrong` meets its contract.
 use native.Mathlib.Omega.{arith}
 use Prim.Native.Nat.{_-_, _≤_}
 use mathlib.Core.Path.{_≡_, sym, _∙_}
 use lib.ListN.{length}
 use Rattle.reach.specs.declared.open.Status.the-variants.{Wrong}
 use Rattle.reach.specs.inner.Search.{cellAt}
-use Rattle.reach.proofs.Clashing.{NoneBelow, none-next, none-all, wrong-here, wrong-none}
+use Rattle.conflicts.proofs.Clashing.{NoneBelow, none-next, none-all, wrong-here, wrong-none}
 use borrow.Author.Needs.{needs}
-use Rattle.reach.proofs.values.any_wrong.Statement.{statement}
-use Rattle.reach.proofs.values.any_wrong.Tie as tie
+use Rattle.conflicts.proofs.any_wrong.Statement.{statement}
+use Rattle.conflicts.proofs.any_wrong.Tie as tie
 
 abbrev Inv-loop : tie.InvT-loop
 Inv-loop n cells i₀ i = (n ≤ 32) × (length cells ≡ 32) × (i ≤ n) × NoneBelow i (λ j. cellAt cells j .status ≡ Wrong)

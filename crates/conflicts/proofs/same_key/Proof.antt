@@ -1,14 +1,14 @@
--- `reach::values::same_key` meets its contract. Assumes nothing.
+-- `reach::values::same_key` meets its contract.
 use native.Mathlib.Omega.{arith}
 use Prim.Native.Nat.{ℕ, _-_, _≤_, _<_}
 use mathlib.Core.Path.{_≡_, ap}
 use lib.ListN.{length, getD}
 use borrow.Author.Count.{below-more}
 use Rattle.keys.specs.declared.kinds.WrappingKey.{WrappingKey}
-use Rattle.reach.proofs.Clashing.{keys-equal}
+use Rattle.conflicts.proofs.Clashing.{keys-equal}
 use borrow.Author.Needs.{needs}
-use Rattle.reach.proofs.values.same_key.Statement.{statement}
-use Rattle.reach.proofs.values.same_key.Tie as tie
+use Rattle.conflicts.proofs.same_key.Statement.{statement}
+use Rattle.conflicts.proofs.same_key.Tie as tie
 
 abbrev Inv-loop : tie.InvT-loop
 Inv-loop x y i₀ i = (length x ≡ 32) × (length y ≡ 32) × (i ≤ 32) × ((j : ℕ) → j < i → getD x j 0 ≡ getD y j 0)
