@@ -16,8 +16,8 @@ use Rattle.octets.proofs.Octets.{no-octets, one-octet, join-octets}
 use Rattle.keys.specs.Lists.{all}
 use Rattle.keys.proofs.Cases.{and-parts}
 use Rattle.fips197.specs.Key.{Key}
-use Rattle.keywrap.specs.Wrap.{wrapOf, blocks}
-use Rattle.keywrap.specs.inner.Unwrap.{start, forward}
+use Rattle.keywrap.specs.Wrap.{wrapOf, blocks, start}
+use Rattle.keywrap.specs.inner.Unwrap.{forward}
 use Rattle.keywrap.proofs.Registers.{octets-in-octets}
 use Rattle.keywrap.proofs.Wrapping.{length-wrap, wrap-registers}
 use Rattle.attributes.specs.Tree.{valuesOf}
