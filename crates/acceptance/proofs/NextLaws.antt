@@ -15,7 +15,8 @@ use Rattle.frames.specs.Frame.{Frame, frame}
 use Rattle.frames.specs.declared.exchanges.LeastAfter.{LeastAfter}
 use Rattle.sa.specs.Entry.{rekey, due, retired}
 use Rattle.sa.specs.declared.entry.Sa.{Sa}
-use Rattle.table.specs.Table.{sasOf, tableOf, notDue, swept, retiredIf, retiredAll}
+use Rattle.table.specs.Table.{sasOf, tableOf, notDue, swept, retiredIf}
+use Rattle.table.specs.inner.Changes.{retiredAll}
 use Rattle.table.specs.declared.Table.{Table}
 use Rattle.table.proofs.Laws.{changed-in}
 use Rattle.table.proofs.Kept.{sas-of-table}

@@ -12,7 +12,8 @@ use Rattle.keys.specs.Lists.{any}
 use Rattle.keys.specs.Limits.{Limits}
 use Rattle.sa.specs.Entry.{esp, spiOf}
 use Rattle.sa.specs.declared.entry.Sa.{Sa}
-use Rattle.table.specs.Table.{tableOf, retiredIf, retiredWhere}
+use Rattle.table.specs.Table.{tableOf, retiredIf}
+use Rattle.table.specs.inner.Changes.{retiredWhere}
 use Rattle.table.specs.declared.Table.{Table}
 use Rattle.outcome.specs.After.{isZero}
 use Rattle.acceptance.specs.inner.Tables.{namedBy, namedIn}

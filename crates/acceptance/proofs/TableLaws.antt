@@ -17,7 +17,8 @@ use Rattle.sa.specs.Entry.{esp, before, spiOf, named, retired, retiredBy, withC
 use Rattle.sa.specs.declared.entry.Sa.{Sa}
 use Rattle.sa.specs.declared.entry.Condition.{Condition}
 use Rattle.sa.specs.declared.entry.Condition.the-variants.{Live, Retiring}
-use Rattle.table.specs.Table.{tableOf, entered, retiredIf, retiredWhere}
+use Rattle.table.specs.Table.{tableOf, retiredIf}
+use Rattle.table.specs.inner.Changes.{entered, retiredWhere}
 use Rattle.table.specs.declared.Table.{Table}
 use Rattle.table.proofs.Laws.{changed-in}
 use Rattle.table.proofs.Kept.{sas-of-table}

@@ -1,7 +1,7 @@
 // SAs that a Delete payload names retire.
 ghost use mathlib.Core.Path.{_≡_};
 ghost use Rattle.keys.specs.Limits.{limits};
-ghost use Rattle.table.specs.Table.{retiredWhere};
+ghost use Rattle.table.specs.inner.Changes.{retiredWhere};
 ghost use Rattle.outcome.specs.After.{isZero};
 ghost use mathlib.Core.Bool.{Bool, true, _||_};
 ghost use mathlib.Core.List.{List, [], map};

@@ -4,7 +4,7 @@ use mathlib.Core.List.{List, [], map}
 use Rattle.octets.specs.Compare.{orderOf, less, same}
 use Rattle.keys.specs.Lists.{all, any, count, keep, heads, rising}
 use Rattle.keys.specs.Kinds.{rekeySizes}
-use Rattle.keys.specs.Algorithms.{rowOf, neededIn, neededBy, sizeOf}
+use Rattle.keys.specs.Algorithms.{isRowOf, neededIn, neededBy, sizeOf}
 use Rattle.sa.specs.Clock.{elapsedAtLeast}
 use Rattle.sa.specs.Entry.{before, named, formed, liveRekey, due, espSa, rekeySa}
 use Rattle.table.specs.Table.{tableOf, tableFormed, emptyAt}
@@ -36,7 +36,7 @@ Answered l = map answer l ≡ map (λ (s : Sample). s .number) l
 
 pub samples-answered : Answered samplesOf2And3 × Answered samplesOf4 × Answered samplesOf5 × Answered samplesOf6 × Answered samplesOf7
 unfolding refusal judged one any all count keep heads rising newState stateFormed tableFormed heldFormed tableOf heldOf keyFormed formed
-    before less same orderOf named liveRekey due espSa rekeySa elapsedAtLeast rekeySizes sizeOf neededBy neededIn rowOf emptyAt gather sum
+    before less same orderOf named liveRekey due espSa rekeySa elapsedAtLeast rekeySizes sizeOf neededBy neededIn isRowOf emptyAt gather sum
     exactly multicast nonEmptyMember otherSpis notAcceptable oneGroupAddress encryptionFits keyWrapFits sequenceNumbersFit
     authenticationFits transformsFit criticalUnknown barredMemberBag barredDelete twoGsa twoKd gsaWithoutKd kdWithoutGsa neither
     severalRekeyPolicies severalGroupWide severalMemberBags gsaWithoutSaPolicy keyLengthTwice initialMessageIdTwice delayTwice
@@ -48,5 +48,5 @@ samples-answered = (refl, refl, refl, refl, refl)
 -- the octets that a Rekey policy needs: 28 and 24
 pub needed-octets :
     (encryptionOctets (saPolicy 6 liveSpi group rekeySuite []) ≡ 28) × (keyWrapOctets (saPolicy 6 liveSpi group rekeySuite []) ≡ 24)
-unfolding encryptionOctets keyWrapOctets sum neededBy neededIn rowOf
+unfolding encryptionOctets keyWrapOctets sum neededBy neededIn isRowOf
 needed-octets = (refl, refl)

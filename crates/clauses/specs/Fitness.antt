@@ -39,9 +39,9 @@ oneGroupAddress s =
 -- or 2 (001 bars ID 1). Rekey has exactly one each of type 1, type 13 (one of the three) and the controller authentication type, either
 -- method." RFC 9838, section 4.4.2.1.1: that type is 14, its methods are Implicit (1) and Digital Signature (2); section 4.4.2.1.3:
 -- Sequence Numbers 2 are "32-bit Unspecified Numbers", and 1, "Partially Transmitted 64-bit Sequential Numbers", "MUST NOT be used"
-abbrev pub octetsOf : Needed → ℕ
-octetsOf (Octets n) = n
-octetsOf Nothing = 0
+abbrev pub octetsNeeded : Needed → ℕ
+octetsNeeded (Octets n) = n
+octetsNeeded Nothing = 0
 
 abbrev pub isOctets : Needed → Bool
 isOctets (Octets n) = true
@@ -83,10 +83,10 @@ sum f [] = 0
 sum f (a ∷ l) = f a + sum f l
 
 abbrev pub encryptionNeeds : Transform → ℕ
-encryptionNeeds t = cond (eqb (t .kind) 1) (sum (λ (b : ℕ). octetsOf (neededBy 1 (t .id) b)) (t .keyLengths)) 0
+encryptionNeeds t = cond (eqb (t .kind) 1) (sum (λ (b : ℕ). octetsNeeded (neededBy 1 (t .id) b)) (t .keyLengths)) 0
 
 abbrev pub keyWrapNeeds : Transform → ℕ
-keyWrapNeeds t = cond (eqb (t .kind) 13) (octetsOf (neededBy 13 (t .id) 0)) 0
+keyWrapNeeds t = cond (eqb (t .kind) 13) (octetsNeeded (neededBy 13 (t .id) 0)) 0
 
 unfoldable pub encryptionOctets : GroupSaPolicy → ℕ
 encryptionOctets p = sum encryptionNeeds (p .transforms)

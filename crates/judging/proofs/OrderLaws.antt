@@ -6,7 +6,8 @@ use mathlib.Core.List.{List, [], _∷_}
 use lib.ListN.{length}
 use Rattle.keys.specs.Limits.{Limits}
 use Rattle.table.specs.declared.Table.{Table}
-use Rattle.table.specs.Table.{sasOf, tableOf, notDue, swept, standing}
+use Rattle.table.specs.Table.{sasOf, tableOf, notDue, swept}
+use Rattle.table.specs.inner.Changes.{standingCount}
 use Rattle.table.proofs.Laws.{changed-in}
 use Rattle.clauses.specs.Refusals.{Number, applies, judged}
 
@@ -25,6 +26,6 @@ unfolding judged
 none-judged = refl
 
 -- SAs that stand at the tick
-pub stand : (limits : Limits) (tick : ℕ) (t : Table) → t .count ≤ limits .sas → standing limits tick t ≡ length (notDue tick (sasOf t))
-unfolding standing swept tableOf
+pub stand : (limits : Limits) (tick : ℕ) (t : Table) → t .count ≤ limits .sas → standingCount limits tick t ≡ length (notDue tick (sasOf t))
+unfolding standingCount swept tableOf
 stand limits tick t h = ap (λ (x : Table). x .count) (changed-in limits t (notDue tick) h)

@@ -5,7 +5,7 @@ use mathlib.Core.Path.{_≡_, refl}
 use mathlib.Core.List.{List, [], _∷_, map}
 use Rattle.keys.specs.declared.algorithms.Needed.{Needed}
 use Rattle.keys.specs.declared.algorithms.Needed.the-variants.{Octets, Nothing}
-use Rattle.keys.specs.Algorithms.{rowOf, neededIn, neededBy}
+use Rattle.keys.specs.Algorithms.{isRowOf, neededIn, neededBy}
 
 -- transform type, transform ID, Key Length, and what the transform needs
 pub record Line : Type 0 where
@@ -47,5 +47,5 @@ lines =
     []
 
 pub table-lines : map (λ (l : Line). neededBy (l .kind) (l .id) (l .bits)) lines ≡ map (λ (l : Line). l .needs) lines
-unfolding neededBy neededIn rowOf
+unfolding neededBy neededIn isRowOf
 table-lines = refl

@@ -13,7 +13,7 @@ use lib.Seq.{drop-cons}
 use Rattle.keys.specs.declared.algorithms.Row.{Row}
 use Rattle.keys.specs.declared.algorithms.Needed.the-variants.{Octets, Nothing}
 use Rattle.keys.specs.Lists.{any}
-use Rattle.keys.specs.Algorithms.{rows, sizeOf, rowOf, neededIn, neededBy}
+use Rattle.keys.specs.Algorithms.{rows, sizeOf, isRowOf, neededIn, neededBy}
 use Rattle.keys.specs.Kinds.{rekeySizes}
 use Rattle.keys.proofs.Cases.{bool-cases, and-parts}
 
@@ -71,19 +71,19 @@ pub rekey-le : (e w : ℕ) → rekeySizes e w ≡ true → (e ≤ 36) × (w ≤ 
 rekey-le e w p = let q = rekey-parts e w p in (encryption-le e (q .0), wrapping-le w (q .1))
 
 -- ---- the tests of a row, and the search of one
-pub row-is : (k i b : ℕ) (r : Row) → r .kind ≡ k → r .id ≡ i → k ≡ 1 → eqb (r .bits) b ≡ rowOf k i b r
-unfolding rowOf
+pub row-is : (k i b : ℕ) (r : Row) → r .kind ≡ k → r .id ≡ i → k ≡ 1 → eqb (r .bits) b ≡ isRowOf k i b r
+unfolding isRowOf
 row-is k i b r p q e = rw (eq-eqb (r .kind) k p, eq-eqb (r .id) i q, eq-eqb k 1 e)
 
 abbrev pub blankRow : Row
 blankRow = record { kind = 0; id = 0; bits = 0; octets = 0 }
 
 module _ (k i b : ℕ) (l : List Row) (j : ℕ) (d : Row) (h : j < length l) where
-  pub needed-here : true ≡ rowOf k i b (getD l j d) → neededIn k i b (drop j l) ≡ Octets (getD l j d .octets)
+  pub needed-here : true ≡ isRowOf k i b (getD l j d) → neededIn k i b (drop j l) ≡ Octets (getD l j d .octets)
   unfolding neededIn
   needed-here e = rw (drop-cons l j d, ← e)
 
-  pub needed-next : false ≡ rowOf k i b (getD l j d) → neededIn k i b (drop j l) ≡ neededIn k i b (drop (j + 1) l)
+  pub needed-next : false ≡ isRowOf k i b (getD l j d) → neededIn k i b (drop j l) ≡ neededIn k i b (drop (j + 1) l)
   unfolding neededIn
   needed-next e = rw (drop-cons l j d, ← e, add-one)
 
@@ -93,7 +93,7 @@ needed-end k i b l j h = rw (drop-of-length-le l h)
 
 -- what a row needs is a size of its transform type
 needed-any : (k i b n : ℕ) (l : List Row) → neededIn k i b l ≡ Octets n → any (λ (r : Row). eqb (r .kind) k && eqb n (r .octets)) l ≡ true
-unfolding neededIn any rowOf
+unfolding neededIn any isRowOf
 needed-any k i b n [] e = let z : _≡_ {A = ℕ} 0 1 = cc in absurd (omega arith)
 needed-any k i b n (r ∷ l) e =
     bool-cases (eqb (r .kind) k && (eqb (r .id) i && (not (eqb k 1) || eqb (r .bits) b)))

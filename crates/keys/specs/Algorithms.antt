@@ -17,12 +17,12 @@ abbrev pub rows : List Row
 rows = row 1 20 128 20 ∷ row 1 20 192 28 ∷ row 1 20 256 36 ∷ row 13 1 128 16 ∷ row 13 2 192 24 ∷ row 13 3 256 32 ∷ []
 
 -- the row is that of a transform of type k and ID i, and in type 1, where the Key Length b is read, of these bits
-unfoldable pub rowOf : ℕ → ℕ → ℕ → Row → Bool
-rowOf k i b r = eqb (r .kind) k && (eqb (r .id) i && (not (eqb k 1) || eqb (r .bits) b))
+unfoldable pub isRowOf : ℕ → ℕ → ℕ → Row → Bool
+isRowOf k i b r = eqb (r .kind) k && (eqb (r .id) i && (not (eqb k 1) || eqb (r .bits) b))
 
 unfoldable pub neededIn : ℕ → ℕ → ℕ → List Row → Needed
 neededIn k i b [] = Nothing
-neededIn k i b (r ∷ l) = cond (rowOf k i b r) (Octets (r .octets)) (neededIn k i b l)
+neededIn k i b (r ∷ l) = cond (isRowOf k i b r) (Octets (r .octets)) (neededIn k i b l)
 
 -- the octets that the transform needs, if the table has it
 unfoldable pub neededBy : ℕ → ℕ → ℕ → Needed

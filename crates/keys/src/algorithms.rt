@@ -1,6 +1,6 @@
 // The algorithm table of document 01: the octets of keying material that a transform needs.
 ghost use mathlib.Core.Path.{_≡_};
-ghost use Rattle.keys.specs.Algorithms.{rowOf, neededBy};
+ghost use Rattle.keys.specs.Algorithms.{isRowOf, neededBy};
 
 // Transform type 1, Encryption Algorithm.
 pub const ENCRYPTION: u8 = 1;
@@ -61,7 +61,7 @@ const ROWS: [Row; 6] = [
 
 // Whether a row is the transform's: its type and ID, and, as Key Length is read in type 1 alone, its bits there.
 fn is_row(r: Row, kind: u8, id: u16, bits: u16) -> bool
-    ensures { λ t. ⌜ t ≡ rowOf kind id bits r ⌝ }
+    ensures { λ t. ⌜ t ≡ isRowOf kind id bits r ⌝ }
 {
     if r.kind != kind {
         return false;

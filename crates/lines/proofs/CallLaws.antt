@@ -4,7 +4,7 @@ use mathlib.Core.Path.{_≡_, refl, ap, sym, subst, _∙_}
 use mathlib.Core.List.{List, [], _∷_}
 use native.Mathlib.Omega.{arith}
 use lib.ListN.{length, take, drop, length-drop}
-use Rattle.lines.specs.Hex.{octetsOf}
+use Rattle.lines.specs.Hex.{octetsOfHex}
 use Rattle.lines.specs.Input.{Asked, isTaken, keyOf, frame, askedBy}
 use Rattle.lines.specs.Answer.{badText}
 use Rattle.lines.specs.Transcript.{Step, Outcome, told, RepliesTo, Replies}
@@ -15,8 +15,8 @@ use Rattle.lines.proofs.Cases.{by-test}
 use Rattle.lines.proofs.InputLaws.{taken-bounds, key-taken, key-other, asked-other}
 use Rattle.lines.proofs.RoomLaws.{length-put, put-next, put-taken}
 
-pub length-octets : (text : List ℕ) → length (octetsOf text) ≡ length text / 2
-unfolding octetsOf
+pub length-octets : (text : List ℕ) → length (octetsOfHex text) ≡ length text / 2
+unfolding octetsOfHex
 length-octets [] = refl
 length-octets (h ∷ []) = refl
 length-octets (h ∷ l ∷ text) = let r = length-octets text in omega arith
@@ -40,7 +40,7 @@ given-length line p =
     let e = put-next p (omega arith) in
     omega arith
 
-frame-short : (line : List ℕ) (tick : ℕ) (octets : List ℕ) → askedBy line ≡ frame tick octets → length (octetsOf (drop 8 line)) ≤ 16384
+frame-short : (line : List ℕ) (tick : ℕ) (octets : List ℕ) → askedBy line ≡ frame tick octets → length (octetsOfHex (drop 8 line)) ≤ 16384
 frame-short line tick octets q =
     by-test (isTaken 8 32776 line)
     (λ e.
@@ -53,8 +53,8 @@ frame-short line tick octets q =
 -- the frame of a later line is the first octets of a room that has 16,384
 module _ (line : List ℕ) {room after : List ℕ} {tick len : ℕ}
     (p : Asks line room after (request.Frame tick len)) (h : 16384 ≤ length room) where
-  pub asked-frame : take len after ≡ octetsOf (drop 8 line)
-  asked-frame = let s = frame-short line tick (octetsOf (drop 8 line)) (p .0) in put-taken (p .1) (omega arith)
+  pub asked-frame : take len after ≡ octetsOfHex (drop 8 line)
+  asked-frame = let s = frame-short line tick (octetsOfHex (drop 8 line)) (p .0) in put-taken (p .1) (omega arith)
 
   pub asked-inside : len ≤ length after
   asked-inside = let l = length-put (p .1) in omega (arith, p .1 .place)

@@ -7,7 +7,7 @@ use native.Mathlib.Omega.{arith}
 use lib.ListN.{length, getD, drop, length-drop, drop-of-length-le}
 use lib.Dec.{leb, eqb}
 use borrow.Author.Tests.{le-leb, lt-leb, lt-ltb, le-ltb, leb-true}
-use Rattle.lines.specs.Hex.{within, isDecimal, isLetter, isDigit, valueOf, digitOf, areDigits, isHex, octetsOf, digitsOf}
+use Rattle.lines.specs.Hex.{within, isDecimal, isLetter, isDigit, valueOf, digitOf, areDigits, isHex, octetsOfHex, digitsOf}
 use Rattle.lines.proofs.Cases.{at-place, by-less, by-test, true-not-false, and-true}
 
 module _ (low high c : ℕ) where
@@ -141,20 +141,20 @@ module _ (text : List ℕ) (i : ℕ) where
   written-end h = ap digitsOf (drop-of-length-le text h)
 
 pub read-more : (text : List ℕ) (i : ℕ) → i + 1 < length text
-    → octetsOf (drop i text) ≡ (16 * valueOf (getD text i 0) + valueOf (getD text (i + 1) 0)) ∷ octetsOf (drop (i + 2) text)
-unfolding octetsOf
+    → octetsOfHex (drop i text) ≡ (16 * valueOf (getD text i 0) + valueOf (getD text (i + 1) 0)) ∷ octetsOfHex (drop (i + 2) text)
+unfolding octetsOfHex
 read-more text i h =
     let e : i + 1 + 1 ≡ i + 2 = omega arith in
-    ap octetsOf (at-place text i (omega arith) ∙ ap (λ (l : List ℕ). getD text i 0 ∷ l) (at-place text (i + 1) h))
-    ∙ ap (λ (k : ℕ). (16 * valueOf (getD text i 0) + valueOf (getD text (i + 1) 0)) ∷ octetsOf (drop k text)) e
+    ap octetsOfHex (at-place text i (omega arith) ∙ ap (λ (l : List ℕ). getD text i 0 ∷ l) (at-place text (i + 1) h))
+    ∙ ap (λ (k : ℕ). (16 * valueOf (getD text i 0) + valueOf (getD text (i + 1) 0)) ∷ octetsOfHex (drop k text)) e
 
-short : (l : List ℕ) → length l < 2 → octetsOf l ≡ []
-unfolding octetsOf
+short : (l : List ℕ) → length l < 2 → octetsOfHex l ≡ []
+unfolding octetsOfHex
 short [] k = refl
 short (a ∷ []) k = refl
 short (a ∷ b ∷ l) k = absurd (omega arith)
 
-pub read-end : (text : List ℕ) (i : ℕ) → length text - i < 2 → octetsOf (drop i text) ≡ []
+pub read-end : (text : List ℕ) (i : ℕ) → length text - i < 2 → octetsOfHex (drop i text) ≡ []
 read-end text i h = short (drop i text) (rw length-drop h)
 
 module _ (text : List ℕ) where

@@ -8,7 +8,7 @@ use lib.ListN.{length, take, drop, getD, length-drop}
 use lib.Seq.{take-all}
 use lib.Dec.{leb}
 use borrow.Author.Tests.{le-leb, lt-leb, leb-true}
-use Rattle.lines.specs.Hex.{isHex, valueOf, octetsOf, numberFrom}
+use Rattle.lines.specs.Hex.{isHex, valueOf, octetsOfHex, numberFrom}
 use Rattle.lines.specs.Input.{isTaken, keyOf, bad, frame, askedBy}
 use Rattle.lines.proofs.Cases.{by-test, and-true}
 
@@ -33,7 +33,7 @@ module _ (least most : ℕ) (text : List ℕ) where
       (leb-true least (length text) (q .0), leb-true (length text) most (q .1))
 
 module _ (line : List ℕ) where
-  pub key-taken : isTaken 0 64 line ≡ true → keyOf line ≡ octetsOf line
+  pub key-taken : isTaken 0 64 line ≡ true → keyOf line ≡ octetsOfHex line
   unfolding keyOf
   key-taken e = rw e
 
@@ -41,7 +41,7 @@ module _ (line : List ℕ) where
   unfolding keyOf
   key-other e = rw e
 
-  pub asked-taken : isTaken 8 32776 line ≡ true → askedBy line ≡ frame (numberFrom 0 (take 8 line)) (octetsOf (drop 8 line))
+  pub asked-taken : isTaken 8 32776 line ≡ true → askedBy line ≡ frame (numberFrom 0 (take 8 line)) (octetsOfHex (drop 8 line))
   unfolding askedBy
   asked-taken e = rw e
 

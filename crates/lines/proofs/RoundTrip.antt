@@ -7,7 +7,7 @@ use native.Mathlib.Omega.{arith}
 use lib.ListN.{length, getD}
 use lib.Dec.{eqb}
 use borrow.Author.Tests.{eqb-true, eq-eqb}
-use Rattle.lines.specs.Hex.{isDigit, valueOf, digitOf, areDigits, isHex, octetsOf, digitsOf}
+use Rattle.lines.specs.Hex.{isDigit, valueOf, digitOf, areDigits, isHex, octetsOfHex, digitsOf}
 use Rattle.lines.proofs.Cases.{true-not-false, and-true}
 use Rattle.lines.proofs.HexLaws.{Digit, digit-of, of-digit}
 
@@ -17,8 +17,8 @@ octet-back o h =
     let b = digit-of (o % 16) (omega arith) .counts in
     omega arith
 
-pub read-written : (octets : List ℕ) → ((k : ℕ) → getD octets k 0 < 256) → octetsOf (digitsOf octets) ≡ octets
-unfolding octetsOf digitsOf
+pub read-written : (octets : List ℕ) → ((k : ℕ) → getD octets k 0 < 256) → octetsOfHex (digitsOf octets) ≡ octets
+unfolding octetsOfHex digitsOf
 read-written [] h = refl
 read-written (o ∷ octets) h = let e = octet-back o (h 0) in let r = read-written octets (λ k. h (suc k)) in cc
 
@@ -67,8 +67,8 @@ longer a b text h =
     let e = eqb-true (length (a ∷ b ∷ text) % 2) 0 (p .1) in
     record { first = q .0; second = r .0; rest = rw (r .1) (eq-eqb (length text % 2) 0 (omega arith)) }
 
-pub written-read : (text : List ℕ) → isHex text ≡ true → digitsOf (octetsOf text) ≡ text
-unfolding isHex octetsOf digitsOf
+pub written-read : (text : List ℕ) → isHex text ≡ true → digitsOf (octetsOfHex text) ≡ text
+unfolding isHex octetsOfHex digitsOf
 written-read [] h = refl
 written-read (a ∷ []) h = true-not-false (eqb 1 0) (and-true (areDigits (a ∷ [])) (eqb 1 0) h .1) refl
 written-read (a ∷ b ∷ text) h =

@@ -9,7 +9,7 @@ use mathlib.Core.List.{List, [], _∷_, _++_, map}
 use mathlib.Core.Bool.{cond}
 use lib.ListN.{length}
 use lib.Dec.{ltb}
-use Rattle.lines.specs.Hex.{isDigit, valueOf, areDigits, isHex, octetsOf, numberFrom}
+use Rattle.lines.specs.Hex.{isDigit, valueOf, areDigits, isHex, octetsOfHex, numberFrom}
 use Rattle.lines.specs.Lines.{Line, lines}
 use Rattle.lines.specs.Input.{Asked, bad, frame, isTaken, keyOf, askedBy}
 use Rattle.lines.specs.Answer.{decimalUpTo, decimal, printed, answerText, badText}
@@ -71,7 +71,7 @@ input =
     ++ text "ffffffff0000000000000000000000000000000000200000000000000000001c"))
 
 sample : Transcript (graph toy) 0 input (text "1 0 0\nbad\nbad\nbad\n2 0 0\n")
-unfolding isDigit valueOf areDigits isHex octetsOf numberFrom lines isTaken keyOf askedBy
+unfolding isDigit valueOf areDigits isHex octetsOfHex numberFrom lines isTaken keyOf askedBy
     decimalUpTo decimal printed answerText later
 sample = computed toy 0 input (text "1 0 0\nbad\nbad\nbad\n2 0 0\n") refl
 
@@ -114,6 +114,6 @@ hold [] e = tt
 hold (s ∷ l) e = (computed tell 0 (text (s .input)) (text (s .output)) (cc), hold l (cc))
 
 samples : Hold table
-unfolding isDigit valueOf areDigits isHex octetsOf numberFrom lines isTaken keyOf askedBy
+unfolding isDigit valueOf areDigits isHex octetsOfHex numberFrom lines isTaken keyOf askedBy
     decimalUpTo decimal printed answerText later
 samples = hold table refl

@@ -36,10 +36,10 @@ unfoldable pub isHex : List ℕ → Bool
 isHex text = areDigits text && eqb (length text % 2) 0
 
 -- the octets of a text: two digits each, the higher first; a last digit alone, which `isHex` bars, counts nothing
-unfoldable pub octetsOf : List ℕ → List ℕ
-octetsOf [] = []
-octetsOf (h ∷ []) = []
-octetsOf (h ∷ l ∷ text) = (16 * valueOf h + valueOf l) ∷ octetsOf text
+unfoldable pub octetsOfHex : List ℕ → List ℕ
+octetsOfHex [] = []
+octetsOfHex (h ∷ []) = []
+octetsOfHex (h ∷ l ∷ text) = (16 * valueOf h + valueOf l) ∷ octetsOfHex text
 
 -- the text of octets
 unfoldable pub digitsOf : List ℕ → List ℕ

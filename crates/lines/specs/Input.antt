@@ -4,7 +4,7 @@ use mathlib.Core.List.{List, []}
 use mathlib.Core.Bool.{Bool, cond, _&&_}
 use lib.ListN.{length, take, drop}
 use lib.Dec.{leb}
-use Rattle.lines.specs.Hex.{isHex, octetsOf, numberFrom}
+use Rattle.lines.specs.Hex.{isHex, octetsOfHex, numberFrom}
 
 -- neither another character, nor an odd count, nor fewer digits than `least` or more than `most`
 unfoldable pub isTaken : ℕ → ℕ → List ℕ → Bool
@@ -12,7 +12,7 @@ isTaken least most text = leb least (length text) && leb (length text) most && i
 
 -- "A first line that is missing, has another character, an odd count or over 64 digits counts as an empty key"
 unfoldable pub keyOf : List ℕ → List ℕ
-keyOf text = cond (isTaken 0 64 text) (octetsOf text) []
+keyOf text = cond (isTaken 0 64 text) (octetsOfHex text) []
 
 -- a later line: a tick and a frame, or "bad"
 pub data Asked : Type 0 where
@@ -21,4 +21,4 @@ pub data Asked : Type 0 where
 
 -- "a line with another character, an odd count, under 8 digits or over 32,776 prints "bad""
 unfoldable pub askedBy : List ℕ → Asked
-askedBy text = cond (isTaken 8 32776 text) (frame (numberFrom 0 (take 8 text)) (octetsOf (drop 8 text))) bad
+askedBy text = cond (isTaken 8 32776 text) (frame (numberFrom 0 (take 8 text)) (octetsOfHex (drop 8 text))) bad

@@ -3,7 +3,7 @@ ghost use mathlib.Core.Path.{_≡_};
 ghost use mathlib.Core.List.{_∷_, [], _++_};
 ghost use Prim.Native.Nat.{_+_, _*_, _/_, _%_, _<_, _≤_};
 ghost use lib.ListN.{length, take, getD};
-ghost use Rattle.lines.specs.Hex.{isDigit, valueOf, digitOf, areDigits, isHex, octetsOf, digitsOf, numberFrom};
+ghost use Rattle.lines.specs.Hex.{isDigit, valueOf, digitOf, areDigits, isHex, octetsOfHex, digitsOf, numberFrom};
 ghost use Rattle.lines.specs.Input.{isTaken};
 ghost use Rattle.lines.specs.Answer.{decimal, answerText, badText};
 ghost use Rattle.lines.specs.inner.Room.{Put};
@@ -100,7 +100,7 @@ fn octet_at(text: &[u8], i: usize) -> u8
 
 // Hexadecimal text to octets, into lent room from a place on; the place behind them. Internal.
 pub fn put_octets(room: &mut [u8], at: usize, text: &[u8]) -> usize
-    ensures { λ r. ⌜ Put (now (room .entry)) at (octetsOf (now (text .entry))) (now (room .exit)) r ⌝ }
+    ensures { λ r. ⌜ Put (now (room .entry)) at (octetsOfHex (now (text .entry))) (now (room .exit)) r ⌝ }
 {
     let mut place = at;
     let mut i = 0;

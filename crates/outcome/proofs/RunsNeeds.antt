@@ -16,7 +16,7 @@ use Rattle.keys.proofs.Cases.{bool-cases, and-parts, and-whole}
 use Rattle.keys.proofs.Sizes.{needed-size}
 use Rattle.policies.specs.Transform.{Transform}
 use Rattle.policies.specs.Policy.{GroupSaPolicy}
-use Rattle.clauses.specs.Fitness.{isEsp, isRekey, octetsOf, isOctets, encryptionFits, keyWrapFits, sequenceNumbersFit, authenticationFits}
+use Rattle.clauses.specs.Fitness.{isEsp, isRekey, octetsNeeded, isOctets, encryptionFits, keyWrapFits, sequenceNumbersFit, authenticationFits}
 use Rattle.clauses.specs.Fitness.{exactly, rekeyTransforms, transformsFit, sum, encryptionNeeds, keyWrapNeeds, encryptionOctets}
 use Rattle.clauses.specs.Fitness.{keyWrapOctets}
 use Rattle.clauses.specs.Number4.{twiceInTransform}
@@ -198,19 +198,19 @@ module _ (l : List Transform) where
   rekey-needs false e = rekey-needs-two e
 
 -- ---- what one needs is a number of the algorithm table
-octets-are : (n : Needed) → isOctets n ≡ true → n ≡ Octets (octetsOf n)
+octets-are : (n : Needed) → isOctets n ≡ true → n ≡ Octets (octetsNeeded n)
 octets-are (Octets n) e = refl
 octets-are Nothing e = absurd (false≢true e)
 
 lengths-size : (id : ℕ) (l : List ℕ) → ltb 1 (length l) ≡ false → any (λ (b : ℕ). isOctets (neededBy 1 id b)) l ≡ true →
-    sizeOf 1 (sum (λ (b : ℕ). octetsOf (neededBy 1 id b)) l) ≡ true
+    sizeOf 1 (sum (λ (b : ℕ). octetsNeeded (neededBy 1 id b)) l) ≡ true
 unfolding sum any
 lengths-size id [] s e = absurd (false≢true e)
 lengths-size id (b ∷ []) s e =
     bool-cases (isOctets (neededBy 1 id b))
     (λ g.
-    let z : octetsOf (neededBy 1 id b) ≡ octetsOf (neededBy 1 id b) + 0 = omega arith in
-    ap (sizeOf 1) (sym z) ∙ needed-size 1 id b (octetsOf (neededBy 1 id b)) (octets-are (neededBy 1 id b) g))
+    let z : octetsNeeded (neededBy 1 id b) ≡ octetsNeeded (neededBy 1 id b) + 0 = omega arith in
+    ap (sizeOf 1) (sym z) ∙ needed-size 1 id b (octetsNeeded (neededBy 1 id b)) (octets-are (neededBy 1 id b) g))
     (λ g. absurd (false≢true (rw g at e)))
 lengths-size id (b ∷ c ∷ l) s e = let h = ltb-false 1 (suc (suc (length l))) s in absurd (omega arith)
 
@@ -225,7 +225,7 @@ module _ (t : Transform) where
   unfolding keyWrapFits
   key-wrap-size e =
       let p = and-parts (eqb (t .kind) 13) (isOctets (neededBy 13 (t .id) 0)) e in
-      rw (p .0) (needed-size 13 (t .id) 0 (octetsOf (neededBy 13 (t .id) 0)) (octets-are (neededBy 13 (t .id) 0) (p .1)))
+      rw (p .0) (needed-size 13 (t .id) 0 (octetsNeeded (neededBy 13 (t .id) 0)) (octets-are (neededBy 13 (t .id) 0) (p .1)))
 
 -- ---- a policy whose transforms are fit
 module _ (authentication : Bool) (a : GroupSaPolicy) (fit : transformsFit authentication a ≡ true)

@@ -16,7 +16,8 @@ use Rattle.keys.proofs.Rising.{length-insert, count-insert}
 use Rattle.policies.specs.Policy.{GroupSaPolicy}
 use Rattle.sa.specs.Entry.{spiOf, before, named, liveRekey}
 use Rattle.sa.specs.declared.entry.Sa.{Sa}
-use Rattle.table.specs.Table.{tableOf, entered}
+use Rattle.table.specs.Table.{tableOf}
+use Rattle.table.specs.inner.Changes.{entered}
 use Rattle.table.specs.Blank.{TableBlank}
 use Rattle.table.proofs.Kept.{Fit, fit-entered, sas-of-table}
 use Rattle.table.proofs.Blanks.{entered-blank}

@@ -9,7 +9,7 @@ use lib.ListN.{length}
 use Rattle.octets.proofs.Order.{eq-same}
 use Rattle.keys.specs.Limits.{limits}
 use Rattle.keys.specs.Lists.{all, any, count, keep}
-use Rattle.keys.specs.Algorithms.{sizeOf, rowOf, neededIn, neededBy}
+use Rattle.keys.specs.Algorithms.{sizeOf, isRowOf, neededIn, neededBy}
 use Rattle.attributes.specs.Tree.{WrapKey}
 use Rattle.frames.specs.Exchange.{registration, exchangeOf}
 use Rattle.table.specs.Table.{tableOf, emptyAt}
@@ -57,7 +57,7 @@ module _ (r : Around) (now : ℕ) (w : List ℕ) (l : List WrapKey) where
 
   -- 5 looks at the lent key's size
   fits : transformsFit true (espPolicy r) ≡ true
-  unfolding all any count transformsFit exactly encryptionFits sequenceNumbersFit neededBy neededIn rowOf
+  unfolding all any count transformsFit exactly encryptionFits sequenceNumbersFit neededBy neededIn isRowOf
   fits = refl
 
   pub fresh-5 : (lent : List ℕ) → sizeOf 13 (length lent) ≡ true → None (five lent (registering r w l))

@@ -12,7 +12,7 @@ use Rattle.fips197.specs.Key.{Key}
 use Rattle.keywrap.specs.Wrap.{wrapOf}
 use Rattle.keys.specs.Limits.{limits}
 use Rattle.keys.specs.Lists.{any, keep, insert}
-use Rattle.keys.specs.Algorithms.{rowOf, neededIn, neededBy}
+use Rattle.keys.specs.Algorithms.{isRowOf, neededIn, neededBy}
 use Rattle.keys.proofs.Cases.{never}
 use Rattle.attributes.specs.Tree.{WrapKey}
 use Rattle.frames.specs.Frame.{Frame, frame}
@@ -55,7 +55,7 @@ module _ (r : Around) (now : ℕ) (lent w : List ℕ) (l : List WrapKey) where
   size-is = rw (row-of (r .auth))
 
   sa-is : announcedAs f (espPolicy r) ≡ oneCopy w
-  unfolding gather copiesOf keep needOf encryptionOctets keyWrapOctets sum neededBy neededIn rowOf
+  unfolding gather copiesOf keep needOf encryptionOctets keyWrapOctets sum neededBy neededIn isRowOf
   sa-is = rw (eq-same (r .spi) (r .spi) refl)
 
   keys-are : announcedKeys f ≡ oneCopy w ∷ []

@@ -13,13 +13,13 @@ use Rattle.attributes.specs.Tree.{two}
 use Rattle.attributes.specs.declared.tables.Place.{Place}
 use Rattle.attributes.specs.declared.tables.Meaning.the-variants.{KeyLength}
 use Rattle.keys.specs.Lists.{all}
-use Rattle.keys.specs.Algorithms.{rows, rowOf, neededIn, neededBy}
+use Rattle.keys.specs.Algorithms.{rows, isRowOf, neededIn, neededBy}
 use Rattle.keys.specs.declared.algorithms.Row.{Row}
 use Rattle.keys.specs.declared.algorithms.Needed.{Needed}
 use Rattle.keys.specs.declared.algorithms.Needed.the-variants.{Octets, Nothing}
 use Rattle.keys.proofs.Cases.{bool-cases, and-parts}
 use Rattle.contents.specs.inner.Values.{valuesIn, FoundAt}
-use Rattle.clauses.specs.Fitness.{octetsOf, isOctets, sum}
+use Rattle.clauses.specs.Fitness.{octetsNeeded, isOctets, sum}
 use Rattle.suites.specs.inner.Octets.{keyLengthNeeds}
 
 module _ (k i b : ℕ) where
@@ -31,27 +31,27 @@ module _ (k i b : ℕ) where
   of-rows P t none some (r ∷ l) h =
       let f = and-parts (t r) (all t l) h in
       let Q : Bool → Type 0 = λ u. P (cond u (Octets (r .octets)) (neededIn k i b l)) in
-      bool-cases (rowOf k i b r) (λ e. subst Q (sym e) (some r (f .0))) (λ e. subst Q (sym e) (of-rows P t none some l (f .1)))
+      bool-cases (isRowOf k i b r) (λ e. subst Q (sym e) (some r (f .0))) (λ e. subst Q (sym e) (of-rows P t none some l (f .1)))
 
-  pub at-most : octetsOf (neededBy k i b) ≤ 36
+  pub at-most : octetsNeeded (neededBy k i b) ≤ 36
   unfolding neededBy all
   at-most =
-      of-rows (λ (x : Needed). octetsOf x ≤ 36) (λ (r : Row). leb (r .octets) 36) (omega arith) (λ r e. leb-true (r .octets) 36 e) rows refl
+      of-rows (λ (x : Needed). octetsNeeded x ≤ 36) (λ (r : Row). leb (r .octets) 36) (omega arith) (λ r e. leb-true (r .octets) 36 e) rows refl
 
   -- a row needs some octets
-  pub some-octets : isOctets (neededBy k i b) ≡ ltb 0 (octetsOf (neededBy k i b))
+  pub some-octets : isOctets (neededBy k i b) ≡ ltb 0 (octetsNeeded (neededBy k i b))
   unfolding neededBy all
   some-octets =
-      of-rows (λ (x : Needed). isOctets x ≡ ltb 0 (octetsOf x)) (λ (r : Row). ltb 0 (r .octets)) refl
+      of-rows (λ (x : Needed). isOctets x ≡ ltb 0 (octetsNeeded x)) (λ (r : Row). ltb 0 (r .octets)) refl
       (λ r e. sym e) rows refl
 
-  pub needs-octets : (x : Needed) (n : ℕ) → x ≡ neededBy k i b → x ≡ Octets n → (n ≡ octetsOf (neededBy k i b)) × (n ≤ 36)
+  pub needs-octets : (x : Needed) (n : ℕ) → x ≡ neededBy k i b → x ≡ Octets n → (n ≡ octetsNeeded (neededBy k i b)) × (n ≤ 36)
   needs-octets x n e f =
-      let g : n ≡ octetsOf (neededBy k i b) = ap octetsOf (sym f ∙ e) in
+      let g : n ≡ octetsNeeded (neededBy k i b) = ap octetsNeeded (sym f ∙ e) in
       (g, omega (arith, g, at-most))
 
-  pub needs-none : (x : Needed) → x ≡ neededBy k i b → x ≡ Nothing → (0 ≡ octetsOf (neededBy k i b)) × (0 ≤ 36)
-  needs-none x e f = (ap octetsOf (sym f ∙ e), omega arith)
+  pub needs-none : (x : Needed) → x ≡ neededBy k i b → x ≡ Nothing → (0 ≡ octetsNeeded (neededBy k i b)) × (0 ≤ 36)
+  needs-none x e f = (ap octetsNeeded (sym f ∙ e), omega arith)
 
 -- ONE KEY LENGTH AND THE OTHERS
 module _ (id : ℕ) (p : Place) (s : List ℕ) (from v e : ℕ) (x : FoundAt KeyLength p s from v e) where
@@ -59,13 +59,13 @@ module _ (id : ℕ) (p : Place) (s : List ℕ) (from v e : ℕ) (x : FoundAt Key
   two-octets = omega (arith, eqb-true (e - v) 2 (x .size), x .order, x .inside)
 
   pub one-more : (b : ℕ) → b ≡ be16 s v
-      → keyLengthNeeds id p (drop from s) ≡ octetsOf (neededBy 1 id b) + keyLengthNeeds id p (drop e s)
+      → keyLengthNeeds id p (drop from s) ≡ octetsNeeded (neededBy 1 id b) + keyLengthNeeds id p (drop e s)
   unfolding sum
   one-more b q =
       let w : be16 (part s v e) 0 ≡ b = number-take 2 0 (e - v) (drop v s) (omega (arith, eqb-true (e - v) 2 (x .size))) ∙ sym q in
-      ap (λ (l : List (List ℕ)). sum (λ (n : ℕ). octetsOf (neededBy 1 id n)) (map two l)) (x .first)
-      ∙ ap (λ (n : ℕ). octetsOf (neededBy 1 id n) + keyLengthNeeds id p (drop e s)) w
+      ap (λ (l : List (List ℕ)). sum (λ (n : ℕ). octetsNeeded (neededBy 1 id n)) (map two l)) (x .first)
+      ∙ ap (λ (n : ℕ). octetsNeeded (neededBy 1 id n) + keyLengthNeeds id p (drop e s)) w
 
 pub no-more : (id : ℕ) (p : Place) (s : List ℕ) → valuesIn KeyLength p s ≡ [] → keyLengthNeeds id p s ≡ 0
 unfolding sum
-no-more id p s e = ap (λ (m : List (List ℕ)). sum (λ (n : ℕ). octetsOf (neededBy 1 id n)) (map two m)) e
+no-more id p s e = ap (λ (m : List (List ℕ)). sum (λ (n : ℕ). octetsNeeded (neededBy 1 id n)) (map two m)) e

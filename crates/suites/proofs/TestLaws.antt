@@ -17,7 +17,7 @@ use Rattle.keys.proofs.Cases.{bool-cases}
 use Rattle.policies.specs.Transform.{Transform}
 use Rattle.policies.specs.Policy.{GroupSaPolicy}
 use Rattle.contents.specs.inner.Values.{valuesIn}
-use Rattle.clauses.specs.Fitness.{octetsOf, isOctets, encryptionFits, keyWrapFits, sequenceNumbersFit, authenticationFits, exactly}
+use Rattle.clauses.specs.Fitness.{octetsNeeded, isOctets, encryptionFits, keyWrapFits, sequenceNumbersFit, authenticationFits, exactly}
 use Rattle.clauses.specs.Fitness.{espTransforms, rekeyTransforms, transformsFit, sum, encryptionNeeds, keyWrapNeeds}
 use Rattle.clauses.specs.Number4.{twiceInTransform}
 use Rattle.suites.specs.inner.Suites.{suiteOf}
@@ -61,11 +61,11 @@ module _ (k i : ℕ) (s : List ℕ) where
   pub no-encryption : (k ≡ 1 → ⊥) → 0 ≡ encryptionNeeds (transformIn k i s)
   no-encryption e = ap (λ (t : Bool). cond t (keyLengthNeeds i (inTransform k) s) 0) (sym (ne-eqb k 1 e))
 
-  pub key-wrap-type : (n : ℕ) → k ≡ 13 → n ≡ octetsOf (neededBy 13 i 0) → n ≡ keyWrapNeeds (transformIn k i s)
-  key-wrap-type n e q = q ∙ ap (λ (t : Bool). cond t (octetsOf (neededBy 13 i 0)) 0) (sym (eq-eqb k 13 e))
+  pub key-wrap-type : (n : ℕ) → k ≡ 13 → n ≡ octetsNeeded (neededBy 13 i 0) → n ≡ keyWrapNeeds (transformIn k i s)
+  key-wrap-type n e q = q ∙ ap (λ (t : Bool). cond t (octetsNeeded (neededBy 13 i 0)) 0) (sym (eq-eqb k 13 e))
 
   pub no-key-wrap : (k ≡ 13 → ⊥) → 0 ≡ keyWrapNeeds (transformIn k i s)
-  no-key-wrap e = ap (λ (t : Bool). cond t (octetsOf (neededBy 13 i 0)) 0) (sym (ne-eqb k 13 e))
+  no-key-wrap e = ap (λ (t : Bool). cond t (octetsNeeded (neededBy 13 i 0)) 0) (sym (ne-eqb k 13 e))
 
 -- one that needs octets is fit, as every row needs some
 some-sum : (x y : ℕ) → (ltb 0 x || ltb 0 y) ≡ ltb 0 (x + y)
@@ -74,12 +74,12 @@ some-sum x y =
     (λ e. ap (λ (t : Bool). t || ltb 0 y) e ∙ sym (lt-ltb 0 (x + y) (omega (arith, ltb-true 0 x e))))
     (λ e. let z : x + y ≡ y = omega (arith, ltb-false 0 x e) in ap (λ (t : Bool). t || ltb 0 y) e ∙ ap (ltb 0) (sym z))
 
-any-row : (i : ℕ) (l : List ℕ) → any (λ (b : ℕ). isOctets (neededBy 1 i b)) l ≡ ltb 0 (sum (λ (b : ℕ). octetsOf (neededBy 1 i b)) l)
+any-row : (i : ℕ) (l : List ℕ) → any (λ (b : ℕ). isOctets (neededBy 1 i b)) l ≡ ltb 0 (sum (λ (b : ℕ). octetsNeeded (neededBy 1 i b)) l)
 unfolding any sum
 any-row i [] = refl
 any-row i (b ∷ l) =
     (λ j. some-octets 1 i b j || any-row i l j)
-    ∙ some-sum (octetsOf (neededBy 1 i b)) (sum (λ (b : ℕ). octetsOf (neededBy 1 i b)) l)
+    ∙ some-sum (octetsNeeded (neededBy 1 i b)) (sum (λ (b : ℕ). octetsNeeded (neededBy 1 i b)) l)
 
 if-some : (t : Bool) (n : ℕ) → ltb 0 (cond t n 0) ≡ (t && ltb 0 n)
 if-some true n = refl
@@ -88,13 +88,13 @@ if-some false n = refl
 encryption-fits : (t : Transform) → ltb 0 (encryptionNeeds t) ≡ encryptionFits t
 unfolding encryptionFits
 encryption-fits t =
-    if-some (eqb (t .kind) 1) (sum (λ (b : ℕ). octetsOf (neededBy 1 (t .id) b)) (t .keyLengths))
+    if-some (eqb (t .kind) 1) (sum (λ (b : ℕ). octetsNeeded (neededBy 1 (t .id) b)) (t .keyLengths))
     ∙ ap (λ (u : Bool). eqb (t .kind) 1 && u) (sym (any-row (t .id) (t .keyLengths)))
 
 key-wrap-fits : (t : Transform) → ltb 0 (keyWrapNeeds t) ≡ keyWrapFits t
 unfolding keyWrapFits
 key-wrap-fits t =
-    if-some (eqb (t .kind) 13) (octetsOf (neededBy 13 (t .id) 0))
+    if-some (eqb (t .kind) 13) (octetsNeeded (neededBy 13 (t .id) 0))
     ∙ ap (λ (u : Bool). eqb (t .kind) 13 && u) (sym (some-octets 13 (t .id) 0))
 
 -- WHAT ONE TRANSFORM COMES TO

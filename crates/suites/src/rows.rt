@@ -8,7 +8,7 @@ ghost use Rattle.attributes.specs.Place.{inTransform};
 ghost use Rattle.attributes.specs.Layout.{attributes};
 ghost use Rattle.keys.specs.Algorithms.{neededBy};
 ghost use Rattle.contents.specs.inner.Values.{isWhole};
-ghost use Rattle.clauses.specs.Fitness.{octetsOf, encryptionNeeds, keyWrapNeeds};
+ghost use Rattle.clauses.specs.Fitness.{octetsNeeded, encryptionNeeds, keyWrapNeeds};
 ghost use Rattle.suites.specs.inner.Octets.{keyLengthNeeds, transformIn};
 use attributes::tables::Meaning;
 use attributes::tables::Place;
@@ -18,7 +18,7 @@ use keys::algorithms::Needed;
 // The octets that a row of the algorithm table asks for; 0 for no row. Internal.
 fn needed(kind: usize, id: usize, bits: usize) -> usize
     requires { ⌜ (kind < 256) × (id < 65536) × (bits < 65536) ⌝ }
-    ensures { λ r. ⌜ (r ≡ octetsOf (neededBy kind id bits)) × (r ≤ 36) ⌝ }
+    ensures { λ r. ⌜ (r ≡ octetsNeeded (neededBy kind id bits)) × (r ≤ 36) ⌝ }
 {
     match keys::algorithms::octets_needed(kind as u8, id as u16, bits as u16) {
         Needed::Octets(n) => n,

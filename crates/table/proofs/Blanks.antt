@@ -13,7 +13,8 @@ use Rattle.sa.specs.Blank.{Blank}
 use Rattle.sa.specs.declared.entry.Sa.{Sa}
 use Rattle.sa.proofs.Kept.{retired-blank}
 use Rattle.table.specs.declared.Table.{Table}
-use Rattle.table.specs.Table.{sasOf, tableOf, tableFormed, changed, swept, notDue, retiredIf, retiredWhere, entered}
+use Rattle.table.specs.Table.{sasOf, tableOf, tableFormed, changed, swept, notDue, retiredIf}
+use Rattle.table.specs.inner.Changes.{retiredWhere, entered}
 use Rattle.table.specs.Blank.{AllBlank, no-sa, one-more, TableBlank}
 use Rattle.table.proofs.Laws.{changed-in, changed-out}
 use Rattle.table.proofs.Kept.{sas-of-table, formed-count}

@@ -11,7 +11,8 @@ use Rattle.keys.proofs.Members.{kept-member, member-kept, inserted-member, memb
 use Rattle.sa.specs.Entry.{before, due}
 use Rattle.sa.specs.declared.entry.Sa.{Sa}
 use Rattle.table.specs.declared.Table.{Table}
-use Rattle.table.specs.Table.{sasOf, tableOf, tableFormed, swept, notDue, entered}
+use Rattle.table.specs.Table.{sasOf, tableOf, tableFormed, swept, notDue}
+use Rattle.table.specs.inner.Changes.{entered}
 use Rattle.table.specs.Blank.{TableBlank}
 use Rattle.table.proofs.Laws.{changed-in}
 use Rattle.table.proofs.Kept.{sas-of-table, formed-count}

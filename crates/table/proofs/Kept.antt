@@ -19,7 +19,8 @@ use Rattle.sa.specs.declared.entry.Sa.{Sa}
 use Rattle.sa.proofs.Order.{SameName, before-trans, before-total, is-named}
 use Rattle.sa.proofs.Kept.{retired-formed, retired-before-left, retired-before-right, retired-rekey}
 use Rattle.table.specs.declared.Table.{Table}
-use Rattle.table.specs.Table.{sasOf, tableOf, tableFormed, swept, notDue, retiredIf, retiredWhere, entered}
+use Rattle.table.specs.Table.{sasOf, tableOf, tableFormed, swept, notDue, retiredIf}
+use Rattle.table.specs.inner.Changes.{retiredWhere, entered}
 use Rattle.table.proofs.Laws.{changed-in}
 
 -- the SAs of a table that was made of a list are that list

@@ -16,7 +16,8 @@ use Rattle.sa.specs.Entry.{before, formed, liveRekey, named, due, retired, blan
 use Rattle.sa.specs.declared.entry.Sa.{Sa}
 use Rattle.table.specs.declared.Table.{Table}
 use Rattle.table.specs.declared.Found.{Found}
-use Rattle.table.specs.Table.{sasOf, tableOf, tableFormed, changed, swept, notDue, standing, emptyAt, retiredIf, entered, none}
+use Rattle.table.specs.Table.{sasOf, tableOf, tableFormed, changed, swept, notDue, emptyAt, retiredIf, none}
+use Rattle.table.specs.inner.Changes.{standingCount, entered}
 use Rattle.table.specs.Table.{theOne, foundIn}
 use Rattle.table.specs.inner.Loops.{picked}
 
@@ -110,8 +111,8 @@ empty-out limits now k t h e =
     let q : k ≡ t .count = e ∙ ap (λ (x : Table). x .count) (changed-out limits t (notDue now) h) in
     rw (lt-leb (t .count) (limits .sas) h) (ne-eqb k 0 (λ z. omega arith))
 
-pub empty-is : (limits : Limits) (now k : ℕ) (t : Table) → k ≡ standing limits now t → eqb k 0 ≡ emptyAt limits now t
-unfolding standing
+pub empty-is : (limits : Limits) (now k : ℕ) (t : Table) → k ≡ standingCount limits now t → eqb k 0 ≡ emptyAt limits now t
+unfolding standingCount
 empty-is limits now k t e =
     lt-cases (limits .sas) (t .count) (λ h. empty-out limits now k t h e) (λ h. empty-in limits now k t h e)
 

@@ -10,7 +10,8 @@ use Rattle.sa.specs.Entry.{before, named, saOf}
 use Rattle.sa.specs.declared.entry.Condition.the-variants.{Live}
 use Rattle.sa.specs.declared.entry.Sa.{Sa}
 use Rattle.table.specs.declared.Table.{Table}
-use Rattle.table.specs.Table.{tableOf, entered}
+use Rattle.table.specs.Table.{tableOf}
+use Rattle.table.specs.inner.Changes.{entered}
 
 -- an ESP SA with the high SPI 255.0.0.0, one with the low SPI 0.0.0.9 and octets that are no part of it, and a Rekey SA with SPI 0
 abbrev high : Sa

@@ -1,14 +1,14 @@
 -- "A table of at most 16 SAs, strictly rising by protocol (3 or 6), then SPI octets ... At most one Rekey SA is live."
 use Prim.Native.Nat.{ℕ, _-_}
 use mathlib.Core.Bool.{Bool, true, false, cond, not, _&&_}
-use mathlib.Core.List.{List, [], _∷_, _++_, map}
-use lib.Dec.{leb, ltb, eqb}
+use mathlib.Core.List.{List, [], _∷_, _++_}
+use lib.Dec.{leb}
 use lib.ListN.{length, take, replicate}
-use Rattle.keys.specs.Lists.{all, count, keep, rising, insert}
+use Rattle.keys.specs.Lists.{all, count, keep, rising}
 use Rattle.keys.specs.Limits.{Limits}
 use Rattle.keys.specs.Kinds.{wrappingKey, keyWrapPart}
 use Rattle.keys.specs.declared.kinds.MadeWrapping.{MadeWrapping}
-use Rattle.sa.specs.Entry.{esp, before, named, formed, liveRekey, due, retired, blankSa}
+use Rattle.sa.specs.Entry.{before, named, formed, liveRekey, due, retired, blankSa}
 use Rattle.sa.specs.declared.entry.Sa.{Sa}
 use Rattle.table.specs.declared.Table.{Table}
 use Rattle.table.specs.declared.Found.{Found}
@@ -40,10 +40,6 @@ notDue now l = keep (stays now) l
 unfoldable pub swept : Limits → ℕ → Table → Table
 swept limits now t = changed limits (notDue now) t
 
--- how many SAs stand in the table, those due at the tick not counted
-unfoldable pub standing : Limits → ℕ → Table → ℕ
-standing limits now t = swept limits now t .count
-
 -- "A member is empty when every SA in its table, if any, is due at the tick"
 unfoldable pub emptyAt : Limits → ℕ → Table → Bool
 emptyAt limits now t = leb (t .count) (limits .sas) && all (due now) (sasOf t)
@@ -51,21 +47,6 @@ emptyAt limits now t = leb (t .count) (limits .sas) && all (due now) (sasOf t)
 -- the SAs that pass a test retire at a tick with a delay, the others stay
 unfoldable pub retiredIf : (Sa → Bool) → ℕ → ℕ → Sa → Sa
 retiredIf p now delay s = cond (p s) (retired now delay s) s
-
-abbrev pub retiredWhere : Limits → (Sa → Bool) → ℕ → ℕ → Table → Table
-retiredWhere limits p now delay t = changed limits (map (retiredIf p now delay)) t
-
--- "each ESP SPI named in D that was live retires"
-unfoldable pub retiredEsp : Limits → List ℕ → ℕ → ℕ → Table → Table
-retiredEsp limits x now delay t = retiredWhere limits (named esp x) now delay t
-
--- every SA of a protocol that is live retires: "SPI 0 naming every ESP SA in the table", and "a new Rekey SA turns the old one to retiring"
-unfoldable pub retiredAll : Limits → ℕ → ℕ → ℕ → Table → Table
-retiredAll limits p now delay t = retiredWhere limits (λ (s : Sa). eqb (s .protocol) p) now delay t
-
--- "The new SAs enter as live": one at its place, if there is room
-unfoldable pub entered : Limits → Sa → Table → Table
-entered limits a t = cond (ltb (t .count) (limits .sas)) (tableOf limits (insert before a (sasOf t))) t
 
 -- the SA of a list that passes a test, or none
 abbrev pub none : Found

@@ -3,7 +3,8 @@ ghost use mathlib.Core.Path.{_≡_};
 ghost use mathlib.Core.Bool.{_||_};
 ghost use Rattle.keys.specs.Limits.{limits};
 ghost use Rattle.sa.specs.Entry.{before};
-ghost use Rattle.table.specs.Table.{swept, standing, emptyAt, entered, retiredIf, retiredWhere, retiredEsp, retiredAll};
+ghost use Rattle.table.specs.Table.{swept, emptyAt, retiredIf};
+ghost use Rattle.table.specs.inner.Changes.{standingCount, entered, retiredWhere, retiredEsp, retiredAll};
 ghost use Rattle.table.specs.inner.Loops.{picked};
 use crate::Table;
 use keys::limits::SAS;
@@ -61,7 +62,7 @@ impl Table {
 
     // How many SAs are not due. Internal.
     pub fn standing(self, tick: u32) -> usize
-        ensures { λ r. ⌜ r ≡ standing limits tick self ⌝ }
+        ensures { λ r. ⌜ r ≡ standingCount limits tick self ⌝ }
     {
         let t = self.swept(tick);
         t.count

@@ -4,7 +4,7 @@ use mathlib.Core.Path.{refl, sym, ap, _∙_}
 use Prim.Native.Nat.{ℕ}
 use native.Mathlib.Omega.{arith}
 use lib.ListN.{drop}
-use Rattle.lines.specs.Hex.{octetsOf}
+use Rattle.lines.specs.Hex.{octetsOfHex}
 use Rattle.lines.specs.Input.{frame}
 use Rattle.lines.proofs.InputLaws.{taken-bounds, asked-taken, asked-other, part-rest}
 use Rattle.lines.proofs.RoomLaws.{put-as}
@@ -50,8 +50,8 @@ returns c =
     let b = t .before in
     let line = b .before .before .before .before .args .line .now in
     let e = asked-taken line (sym (b .before .is-taken .ensures) ∙ b .if1 .taken) in
-    let n = ap (λ (n : ℕ). frame n (octetsOf (drop 8 line))) (sym (t .tick-of .ensures)) in
-    (e ∙ n, put-as (ap octetsOf (part-rest 8 line)) (p .put-octets .ensures))
+    let n = ap (λ (n : ℕ). frame n (octetsOfHex (drop 8 line))) (sym (t .tick-of .ensures)) in
+    (e ∙ n, put-as (ap octetsOfHex (part-rest 8 line)) (p .put-octets .ensures))
 
 returns-2 : tie.Need-returns-2
 returns-2 c =

@@ -3,7 +3,7 @@ use borrow.Author.Needs.{needs}
 use Prim.Native.Nat.{_≤_, _-_}
 use native.Mathlib.Omega.{arith}
 use lib.ListN.{length, drop}
-use Rattle.lines.specs.Hex.{octetsOf}
+use Rattle.lines.specs.Hex.{octetsOfHex}
 use Rattle.lines.proofs.HexLaws.{read-more, read-end}
 use Rattle.lines.proofs.RoomLaws.{Puts, puts-start, puts-more, puts-done, length-puts, put-octet-as}
 use Rattle.lines.proofs.put_octets.Statement.{statement}
@@ -11,7 +11,7 @@ use Rattle.lines.proofs.put_octets.Tie as tie
 
 abbrev Inv-loop : tie.InvT-loop
 Inv-loop room₀ at text place₀ i₀ room place i =
-    (i ≤ length text) × Puts room₀ at (octetsOf text) room place (octetsOf (drop i text))
+    (i ≤ length text) × Puts room₀ at (octetsOfHex text) room place (octetsOfHex (drop i text))
 
 abbrev μ-loop : tie.MeasureT-loop
 μ-loop room₀ at text place₀ i₀ room place i = length text - i
@@ -19,7 +19,7 @@ abbrev μ-loop : tie.MeasureT-loop
 loop-holds : tie.Need-loop-holds Inv-loop μ-loop
 loop-holds c =
     let a = c .before .before .args in
-    (search needs, puts-start (a .room .now) (a .at) (octetsOf (a .text .now)))
+    (search needs, puts-start (a .room .now) (a .at) (octetsOfHex (a .text .now)))
 
 sub-loop : tie.Need-sub-loop Inv-loop μ-loop
 sub-loop c = search needs

@@ -3,7 +3,7 @@ use Prim.Native.Nat.{ℕ, _+_}
 use mathlib.Core.Path.{_≡_}
 use mathlib.Core.List.{List}
 use lib.ListN.{length, drop, replicate}
-use Rattle.lines.specs.Hex.{octetsOf}
+use Rattle.lines.specs.Hex.{octetsOfHex}
 use Rattle.lines.specs.Lines.{lines}
 use Rattle.lines.specs.inner.First.{written, firstOf}
 use Rattle.lines.specs.Input.{bad, frame, keyOf, askedBy}
@@ -27,4 +27,4 @@ Gives line r = Put (replicate 32 0) 0 (keyOf line) (r .octets) (r .len)
 abbrev pub Asks : List ℕ → List ℕ → List ℕ → Request → Type 0
 Asks line room after request.Bad = (askedBy line ≡ bad) × (after ≡ room)
 Asks line room after (request.Frame tick len) =
-    (askedBy line ≡ frame tick (octetsOf (drop 8 line))) × Put room 0 (octetsOf (drop 8 line)) after len
+    (askedBy line ≡ frame tick (octetsOfHex (drop 8 line))) × Put room 0 (octetsOfHex (drop 8 line)) after len

@@ -8,11 +8,11 @@ use Rattle.attributes.specs.declared.tables.Meaning.the-variants.{KeyLength}
 use Rattle.policies.specs.Transform.{Transform}
 use Rattle.keys.specs.Algorithms.{neededBy}
 use Rattle.contents.specs.inner.Values.{valuesIn}
-use Rattle.clauses.specs.Fitness.{octetsOf, sum}
+use Rattle.clauses.specs.Fitness.{octetsNeeded, sum}
 
 -- the octets that the Key Lengths among some attributes ask for, with a transform ID of type 1
 abbrev pub keyLengthNeeds : ℕ → Place → List ℕ → ℕ
-keyLengthNeeds id p s = sum (λ (b : ℕ). octetsOf (neededBy 1 id b)) (map two (valuesIn KeyLength p s))
+keyLengthNeeds id p s = sum (λ (b : ℕ). octetsNeeded (neededBy 1 id b)) (map two (valuesIn KeyLength p s))
 
 -- the transform of a type and an ID whose attributes are these octets
 abbrev pub transformIn : ℕ → ℕ → List ℕ → Transform

@@ -4,7 +4,8 @@ use mathlib.Core.Path.{_≡_, sym, ap, _∙_}
 use lib.ListN.{length, take, drop, length-take}
 use Rattle.keys.specs.Limits.{limits}
 use Rattle.keys.proofs.Lists.{length-of-map}
-use Rattle.table.specs.Table.{sasOf, tableOf, entered}
+use Rattle.table.specs.Table.{sasOf, tableOf}
+use Rattle.table.specs.inner.Changes.{entered}
 use Rattle.table.specs.declared.Table.{Table}
 use Rattle.outcome.specs.After.{insertAll}
 use Rattle.acceptance.proofs.TableLaws.{none-entered, one-entered}

@@ -3,7 +3,7 @@ use mathlib.Core.Path.{ap, sym, _∙_}
 use mathlib.Core.Bool.{Bool}
 use Rattle.keys.specs.Limits.{limits}
 use Rattle.sa.specs.declared.entry.Sa.{Sa}
-use Rattle.table.specs.Table.{retiredWhere, retiredAll, retiredEsp}
+use Rattle.table.specs.inner.Changes.{retiredWhere, retiredAll, retiredEsp}
 use Rattle.acceptance.proofs.TableLaws.{all-named, one-named}
 use borrow.Author.Needs.{needs}
 use Rattle.acceptance.proofs.retiring.retired_by.Statement.{statement}

@@ -8,7 +8,8 @@ use lib.ListN.{length, take}
 use lib.Seq.{take-all}
 use Rattle.keys.specs.Limits.{limits}
 use Rattle.sa.specs.declared.entry.Sa.{Sa}
-use Rattle.table.specs.Table.{tableOf, retiredIf, retiredWhere}
+use Rattle.table.specs.Table.{tableOf, retiredIf}
+use Rattle.table.specs.inner.Changes.{retiredWhere}
 use Rattle.frames.specs.Delete.{deleteOf, deleteFits}
 use Rattle.acceptance.specs.inner.Tables.{namedBy}
 use Rattle.acceptance.proofs.RetiringLaws.{After, after-none, after-spi}

@@ -1,19 +1,19 @@
 use borrow.Author.Tests.{eq-eqb, ne-eqb}
-use Rattle.keys.specs.Algorithms.{rowOf}
+use Rattle.keys.specs.Algorithms.{isRowOf}
 use Rattle.keys.proofs.Sizes.{row-is}
 use Rattle.keys.proofs.algorithms.is_row.Statement.{statement}
 use Rattle.keys.proofs.algorithms.is_row.Tie as tie
 
 returns : tie.Need-returns
-unfolding rowOf
+unfolding isRowOf
 returns c = simp (ne-eqb _ _ (c .if1 .taken))
 
 returns-2 : tie.Need-returns-2
-unfolding rowOf
+unfolding isRowOf
 returns-2 c = simp (eq-eqb _ _ (c .before .before .if1 .left), ne-eqb _ _ (c .if2 .taken))
 
 returns-3 : tie.Need-returns-3
-unfolding rowOf
+unfolding isRowOf
 returns-3 c = simp (eq-eqb _ _ (c .before .before .before .if1 .left), eq-eqb _ _ (c .before .if2 .left), ne-eqb _ _ (c .if3 .taken))
 
 returns-4 : tie.Need-returns-4

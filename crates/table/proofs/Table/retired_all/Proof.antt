@@ -1,4 +1,4 @@
-use Rattle.table.specs.Table.{retiredAll}
+use Rattle.table.specs.inner.Changes.{retiredAll}
 use borrow.Author.Needs.{needs}
 use Rattle.table.proofs.Table.retired_all.Statement.{statement}
 use Rattle.table.proofs.Table.retired_all.Tie as tie

@@ -1,4 +1,4 @@
-use Rattle.table.specs.Table.{retiredEsp}
+use Rattle.table.specs.inner.Changes.{retiredEsp}
 use borrow.Author.Needs.{needs}
 use Rattle.table.proofs.Table.retired_esp.Statement.{statement}
 use Rattle.table.proofs.Table.retired_esp.Tie as tie

@@ -1,6 +1,6 @@
 use mathlib.Core.Path.{ap}
 use Rattle.table.specs.declared.Table.{Table}
-use Rattle.table.specs.Table.{standing}
+use Rattle.table.specs.inner.Changes.{standingCount}
 use borrow.Author.Needs.{needs}
 use Rattle.table.proofs.Table.standing.Statement.{statement}
 use Rattle.table.proofs.Table.standing.Tie as tie
@@ -9,7 +9,7 @@ swept-requires : tie.Need-swept-requires
 swept-requires c κs = search needs
 
 returns : tie.Need-returns
-unfolding standing
+unfolding standingCount
 returns c = ap (λ (t : Table). t .count) (c .swept .ensures)
 
 pub standing-spec : {M : Type 1} → statement M

@@ -1,0 +1,30 @@
+-- Changes of a table, one SA or one kind of SA at a time, and a count.
+use Prim.Native.Nat.{ℕ}
+use mathlib.Core.Bool.{Bool, cond}
+use mathlib.Core.List.{List, map}
+use lib.Dec.{ltb, eqb}
+use Rattle.keys.specs.Lists.{insert}
+use Rattle.keys.specs.Limits.{Limits}
+use Rattle.sa.specs.Entry.{esp, before, named}
+use Rattle.sa.specs.declared.entry.Sa.{Sa}
+use Rattle.table.specs.declared.Table.{Table}
+use Rattle.table.specs.Table.{sasOf, tableOf, changed, swept, retiredIf}
+
+-- how many SAs stand in the table, those due at the tick not counted
+unfoldable pub standingCount : Limits → ℕ → Table → ℕ
+standingCount limits now t = swept limits now t .count
+
+abbrev pub retiredWhere : Limits → (Sa → Bool) → ℕ → ℕ → Table → Table
+retiredWhere limits p now delay t = changed limits (map (retiredIf p now delay)) t
+
+-- the live ESP SAs with an SPI
+unfoldable pub retiredEsp : Limits → List ℕ → ℕ → ℕ → Table → Table
+retiredEsp limits x now delay t = retiredWhere limits (named esp x) now delay t
+
+-- the live SAs of a protocol
+unfoldable pub retiredAll : Limits → ℕ → ℕ → ℕ → Table → Table
+retiredAll limits p now delay t = retiredWhere limits (λ (s : Sa). eqb (s .protocol) p) now delay t
+
+-- one SA more at its place, if there is room
+unfoldable pub entered : Limits → Sa → Table → Table
+entered limits a t = cond (ltb (t .count) (limits .sas)) (tableOf limits (insert before a (sasOf t))) t
