@@ -1,5 +1,4 @@
--- What the definitions determine: with no two values, the value of a key that is reached, by its Key ID; and the key of an SA. Assumes
--- nothing.
+-- What the definitions determine: with no two values, the value of a key that is reached, by its Key ID; and the key of an SA.
 use native.Mathlib.Omega.{arith}
 use Prim.Native.Nat.{ℕ, suc}
 use mathlib.Core.Path.{_≡_, refl, ap, ap₂}
@@ -10,8 +9,8 @@ use lib.Dec.{eqb}
 use lib.ListN.{length, getD}
 use borrow.Author.Tests.{eqb-true, eqb-false}
 use Rattle.attributes.specs.Tree.{WrapKey}
-use Rattle.chains.specs.Chain.{In, Root, Chain, root, step, Reached}
-use Rattle.chains.specs.Refusals.{Announced, EntriesEight, KeyOf}
+use Rattle.chains.specs.Chain.{In, Root, Chain, root, step, Reached, CopyOpens}
+use Rattle.chains.specs.Refusals.{Announced, EntriesEight, CopiesEight, Value, KeyOf}
 use Rattle.chains.specs.Refusals as refusals
 
 -- ---- lists of numbers are equal or not
@@ -73,6 +72,14 @@ module _ (roots : List Root) (entries : List WrapKey) (size : ℕ) where
   unfolding Last
   last-entry k x r = last (r .last ∷ r .before) k x (r .chain)
 
-  -- "the octets that every such copy opens to" are one list
+  -- where number 8 does not hold of an SA's copies, each that opens gives the same octets
+  pub copies-one : (a : Announced) → (CopiesEight roots entries size a → ⊥) → (x y : List ℕ) →
+      CopyOpens roots entries size (a .copies) x → CopyOpens roots entries size (a .copies) y → x ≡ y
+  copies-one a none x y p q = ⊎-elim (λ e. e) (λ f. absurd (none (refusals.two-values x y p q f))) (lists-equal x y)
+
+  -- "the value that every chain ending on it gives" is one, and so are "the octets that every such copy opens to"
+  pub value-one : (k : ℕ) (x y : List ℕ) → Value roots entries size k x → Value roots entries size k y → x ≡ y
+  value-one k x y p q = q .every x (p .reached)
+
   pub key-one : (a : Announced) (x y : List ℕ) → KeyOf roots entries size a x → KeyOf roots entries size a y → x ≡ y
   key-one a x y p q = q .every x (p .opens)
