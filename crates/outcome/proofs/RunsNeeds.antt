@@ -16,7 +16,8 @@ use Rattle.keys.proofs.Cases.{bool-cases, and-parts, and-whole}
 use Rattle.keys.proofs.Sizes.{needed-size}
 use Rattle.policies.specs.Transform.{Transform}
 use Rattle.policies.specs.Policy.{GroupSaPolicy}
-use Rattle.clauses.specs.Fitness.{isEsp, isRekey, octetsNeeded, isOctets, encryptionFits, keyWrapFits, sequenceNumbersFit, authenticationFits}
+use Rattle.clauses.specs.Fitness.{isEsp, isRekey, octetsNeeded, isOctets}
+use Rattle.clauses.specs.Fitness.{encryptionFits, keyWrapFits, sequenceNumbersFit, authenticationFits}
 use Rattle.clauses.specs.Fitness.{exactly, rekeyTransforms, transformsFit, sum, encryptionNeeds, keyWrapNeeds, encryptionOctets}
 use Rattle.clauses.specs.Fitness.{keyWrapOctets}
 use Rattle.clauses.specs.Number4.{twiceInTransform}

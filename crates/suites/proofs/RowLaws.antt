@@ -36,7 +36,8 @@ module _ (k i b : ℕ) where
   pub at-most : octetsNeeded (neededBy k i b) ≤ 36
   unfolding neededBy all
   at-most =
-      of-rows (λ (x : Needed). octetsNeeded x ≤ 36) (λ (r : Row). leb (r .octets) 36) (omega arith) (λ r e. leb-true (r .octets) 36 e) rows refl
+      of-rows (λ (x : Needed). octetsNeeded x ≤ 36) (λ (r : Row). leb (r .octets) 36) (omega arith)
+      (λ r e. leb-true (r .octets) 36 e) rows refl
 
   -- a row needs some octets
   pub some-octets : isOctets (neededBy k i b) ≡ ltb 0 (octetsNeeded (neededBy k i b))
