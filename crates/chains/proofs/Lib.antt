@@ -1,4 +1,6 @@
+pub mod Closure
 pub mod Determined
+pub mod Faults
 pub mod Laws
 pub mod Members
 pub mod Samples

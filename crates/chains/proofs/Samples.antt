@@ -1,5 +1,5 @@
 -- Document 01's three samples of chains, on the definitions. Nothing is assumed to open: an entry is any octets of the lent key's size,
--- wrapped by RFC 5649 under a key of that size. This file, Determined.antt and Laws.antt pin the definitions of the crate:
+-- wrapped by RFC 5649 under a key of that size. This file and the laws beside it pin the definitions of the crate:
 -- each of its must-fail edits is refused in one of them.
 use native.Mathlib.Omega.{arith}
 use Prim.Native.Nat.{ℕ}
