@@ -18,7 +18,7 @@ use Rattle.clauses.specs.Contents.{announced}
 use Rattle.clauses.specs.Fitness.{encryptionOctets, keyWrapOctets}
 use Rattle.chains.specs.Chain.{In}
 use Rattle.outcome.specs.Roots.{needOf}
-use Rattle.outcome.proofs.NamedKey.{OpensUnder}
+use Rattle.outcome.specs.NamedKey.{OpensUnder}
 use Rattle.outcome.proofs.Asked.{asked-after}
 use Rattle.group.specs.declared.Member.{Member}
 use Rattle.group.specs.declared.SaAnswer.{SaAnswer}

@@ -20,31 +20,12 @@ use Rattle.chains.specs.Refusals as refusals
 use Rattle.outcome.specs.Roots.{rootsOf, entriesOf, wrappingSize, copiesOf, needOf, announcedAs, announcedKeys}
 use Rattle.outcome.specs.Answer.{EightOf, NineOf, Answers}
 use Rattle.outcome.specs.After.{oldSas, saFrom, insertAll, After}
+use Rattle.outcome.specs.Demand3.{NewBy, EnteredBy}
 use Rattle.outcome.specs.Outcome.{Judged, accepted, Outcome, by-tree}
 use Rattle.outcome.proofs.Readings.{one-whole}
 use Rattle.outcome.proofs.Members.{in-map, map-in}
 use Rattle.outcome.proofs.Enters.{each-enters, entered-is, in-all, all-in, Stayed, old-stayed, stayed-old}
 use Rattle.outcome.proofs.HeldList.{not-other}
-
--- ---- what is known of an announced SA by the octets to which copies of its key open
-module _ (Opens : GroupSaPolicy → List ℕ → Type 0) where
-  -- it stands in a list with the octets that every copy that opens gives, of the size that its policy needs
-  pub record NewBy (l : List Sa) (a : GroupSaPolicy) : Type 0 where
-    pub octets : List ℕ
-    pub opens : Opens a octets
-    pub every : (y : List ℕ) → Opens a y → y ≡ octets
-    pub fits : length octets ≡ needOf a
-    pub stands : In (saFrom a octets) l
-
-  -- the SA of a policy that the frame announces
-  pub record EnteredBy (f : Frame) (b : Sa) : Type 0 where
-    pub policy : GroupSaPolicy
-    pub stands : In policy (announced f)
-    pub octets : List ℕ
-    pub opens : Opens policy octets
-    pub every : (y : List ℕ) → Opens policy y → y ≡ octets
-    pub fits : length octets ≡ needOf policy
-    pub is : b ≡ saFrom policy octets
 
 -- two ways of saying that a copy opens, of which each gives the other
 module _ (P Q : GroupSaPolicy → List ℕ → Type 0) (to : (a : GroupSaPolicy) (x : List ℕ) → P a x → Q a x)

@@ -30,7 +30,7 @@ use Rattle.chains.proofs.Members.{in-member}
 use Rattle.outcome.specs.Roots.{needOf}
 use Rattle.outcome.specs.After.{saFrom}
 use Rattle.outcome.specs.Outcome.{Outcome}
-use Rattle.outcome.proofs.NamedKey.{OpensUnder}
+use Rattle.outcome.specs.NamedKey.{OpensUnder}
 use Rattle.outcome.proofs.Demands.{each-stands}
 use Rattle.outcome.proofs.RunsClear.{taken}
 use Rattle.outcome.proofs.RunsAccepted.{kinds}

@@ -4,32 +4,21 @@ use mathlib.Core.Path.{_≡_, sym, subst}
 use mathlib.Core.Logic.{⊎-elim}
 use mathlib.Core.List.{List}
 use lib.Dec.{eqb}
-use lib.ListN.{length}
 use borrow.Author.Tests.{eqb-true, eq-eqb}
 use Rattle.octets.specs.Compare.{same}
 use Rattle.octets.proofs.Order.{same-eq, eq-same}
 use Rattle.keys.specs.Lists.{keep}
-use Rattle.keys.specs.Kinds.{wrappingOf}
 use Rattle.keys.proofs.Cases.{and-parts, and-whole}
 use Rattle.attributes.specs.Tree.{SaKey, WrapKey}
 use Rattle.policies.specs.Policy.{GroupSaPolicy}
 use Rattle.bags.specs.Bag.{GroupKeyBag, MemberKeyBag}
 use Rattle.frames.specs.Frame.{Frame}
-use Rattle.state.specs.declared.held.HeldKey.{HeldKey}
 use Rattle.clauses.specs.Contents.{groupBags, memberBags, wrapKeysOf}
 use Rattle.clauses.specs.Number6.{bagNamed}
 use Rattle.chains.specs.Chain.{In, Root, Chain, root, step}
 use Rattle.outcome.specs.Roots.{copiesOf}
-use Rattle.outcome.proofs.Rows.{lentRoot}
+use Rattle.outcome.specs.NamedKey.{InOwnBag, InMemberBag}
 use Rattle.outcome.proofs.Members.{in-cases, not-in-none, in-keep, keep-in, in-gather, gather-in}
-
--- a Group Key Bag of the frame with the policy's protocol and SPI has this SA_KEY
-pub record InOwnBag (f : Frame) (a : GroupSaPolicy) (c : SaKey) : Type 0 where
-  pub bag : GroupKeyBag
-  pub stands : In bag (groupBags f)
-  pub protocol : bag .protocol ≡ a .protocol
-  pub spi : bag .spi ≡ a .spi
-  pub copy : In c (bag .keys)
 
 module _ (f : Frame) (a : GroupSaPolicy) (c : SaKey) where
   pub copy-own : In c (copiesOf f a) → InOwnBag f a c
@@ -57,12 +46,6 @@ module _ (f : Frame) (a : GroupSaPolicy) (c : SaKey) where
       (eq-same (b .spi) (a .spi) (r .spi))))
       (r .copy)
 
--- a Member Key Bag of the frame has this WRAP_KEY
-pub record InMemberBag (f : Frame) (e : WrapKey) : Type 0 where
-  pub bag : MemberKeyBag
-  pub stands : In bag (memberBags f)
-  pub entry : In e (bag .keys)
-
 pub entry-own : (f : Frame) (e : WrapKey) → In e (wrapKeysOf f) → InMemberBag f e
 entry-own f e i =
     let r = in-gather (λ (b : MemberKeyBag). b .keys) e (memberBags f) i in record { bag = r .item; stands = r .stands; entry = r .is }
@@ -74,11 +57,3 @@ passed-stand roots entries size _ _ _ (root r m) e i = absurd (not-in-none e i)
 passed-stand roots entries size _ _ _ (step {passed = p} {k = k} {v = v} d c t l) e i =
     ⊎-elim (λ q. subst (λ (x : WrapKey). In x entries) (sym q) (l .entry)) (λ j. passed-stand roots entries size p k v c e j)
     (in-cases e d p i)
-
--- a held key has the value of a chain that starts with the lent default key and passes WRAP_KEYs of Member Key Bags alone
-pub record OfMemberBags (lent : List ℕ) (f : Frame) (k : HeldKey) : Type 0 where
-  pub value : List ℕ
-  pub key-is : k .key ≡ wrappingOf value
-  pub passed : List WrapKey
-  pub chain : Chain (lentRoot lent) (wrapKeysOf f) (length lent) passed (k .id) value
-  pub own : (w : WrapKey) → In w passed → InMemberBag f w

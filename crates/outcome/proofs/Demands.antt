@@ -31,19 +31,25 @@ use Rattle.outcome.specs.Roots.{rootsOf, entriesOf, wrappingSize}
 use Rattle.outcome.specs.Answer.{NineOf}
 use Rattle.outcome.specs.After.{leastAfterwards}
 use Rattle.outcome.specs.Outcome.{Outcome, no-layout}
-use Rattle.outcome.proofs.Meets.{Meets, meets-2, meets-4, at-most-9, nine-met, Refused, Accepted}
+use Rattle.outcome.specs.Meets.{Meets, meets-2, meets-4, Refused, Accepted}
+use Rattle.outcome.proofs.Meets.{at-most-9, nine-met}
 use Rattle.outcome.proofs.Meets.{refused-is, is-refused, refused-layout, accepted-is, is-accepted}
+use Rattle.outcome.specs.Demand3.{Copy, Standing, Entered}
 use Rattle.outcome.proofs.Enters.{enters-live, enters-cut, Stayed}
 use Rattle.outcome.proofs.Answering.{accepts}
 use Rattle.outcome.proofs.RunsClear.{none-applies}
-use Rattle.outcome.proofs.Rows.{Registration, registration-row, rekeys, one-of-three, no-wrap-key, lentRoot}
+use Rattle.outcome.specs.NamedKey.{Registration, lentRoot}
+use Rattle.outcome.proofs.Rows.{registration-row, rekeys, one-of-three, no-wrap-key}
 use Rattle.outcome.proofs.Rows.{lent-roots, lent-size}
 use Rattle.outcome.proofs.NotRead.{same-outcome}
-use Rattle.outcome.proofs.NamedKey.{OpensUnder, to-under, under-to}
-use Rattle.outcome.proofs.Bags.{OfMemberBags, entry-own, passed-stand}
-use Rattle.outcome.proofs.HeldList.{registration-sets, rekey-leaves, HeldExactly, held-exactly}
+use Rattle.outcome.specs.NamedKey.{OpensUnder}
+use Rattle.outcome.proofs.NamedKey.{to-under, under-to}
+use Rattle.outcome.specs.NamedKey.{OfMemberBags}
+use Rattle.outcome.proofs.Bags.{entry-own, passed-stand}
+use Rattle.outcome.specs.Demand3.{HeldExactly}
+use Rattle.outcome.proofs.HeldList.{registration-sets, rekey-leaves, held-exactly}
 use Rattle.outcome.proofs.Accepting.{OpensTo, HasCopy, nine-policy, entries-fit, after-opens, whole-accepted}
-use Rattle.outcome.proofs.Accepting.{NewBy, EnteredBy, new-by, entered-by, new-stands, stands-as, as-stands}
+use Rattle.outcome.proofs.Accepting.{new-by, entered-by, new-stands, stands-as, as-stands}
 
 module _ (limits : Limits) (s : State) (now : ℕ) (lent octets : List ℕ) where
   -- ---- DEMAND 1
@@ -115,12 +121,7 @@ module _ (limits : Limits) (s : State) (now : ℕ) (lent octets : List ℕ) wher
       pub copies-of-own-bag : (a : GroupSaPolicy) (x : List ℕ) → OpensTo limits s now lent f a x ↔ OpensUnder limits s now lent f a x
       copies-of-own-bag a x = (to a x, under-to limits s now lent f a x)
 
-    -- "a copy of its key that opens under the key its KWK ID names, be it key 0, the last key of such a chain or, in a rekey, a key the
-    -- member held"
-    abbrev pub Copy : GroupSaPolicy → Type 0
-    Copy a = (x : List ℕ) × OpensUnder limits s now lent f a x
-
-    copy-has : (a : GroupSaPolicy) → Copy a → HasCopy limits s now lent f a
+    copy-has : (a : GroupSaPolicy) → Copy limits s now lent f a → HasCopy limits s now lent f a
     copy-has a c = (c .0, under-to limits s now lent f a (c .0) (c .1))
 
     -- "A frame that meets none of refusals 1 to 8 is accepted exactly when each SA it announces has a copy of its key that opens under the
@@ -141,19 +142,19 @@ module _ (limits : Limits) (s : State) (now : ℕ) (lent octets : List ℕ) wher
           nine-met limits s now lent octets f e (subst (Meets limits s now lent octets) q m)
 
       opens-at-0 : (n : ℕ) (next : State) → Outcome limits s now lent octets n next → n ≡ 0 → (a : GroupSaPolicy) → In a (announced f) →
-          Copy a
+          Copy limits s now lent f a
       opens-at-0 n next o q a m =
           let h = after-opens limits s now lent f next
           (whole-accepted limits s now lent octets f e next (subst (λ (k : ℕ). Outcome limits s now lent octets k next) q o) .1) a m in
           (h .0, to (none 2 (omega arith)) (none 4 (omega arith)) a (h .0) (h .1))
 
       unopened : (n : ℕ) (next : State) → Outcome limits s now lent octets n next → n ≡ 9 →
-          (a : GroupSaPolicy) × In a (announced f) × (Copy a → ⊥)
+          (a : GroupSaPolicy) × In a (announced f) × (Copy limits s now lent f a → ⊥)
       unopened n next o q =
           let x = nine-policy limits s now lent f (met-9 n next o q) in (x .0, x .1, λ c. x .2 (copy-has (x .0) c))
 
       pub accepted-when-each-opens : (n : ℕ) (next : State) → Outcome limits s now lent octets n next →
-          (n ≡ 0) ↔ ((a : GroupSaPolicy) → In a (announced f) → Copy a)
+          (n ≡ 0) ↔ ((a : GroupSaPolicy) → In a (announced f) → Copy limits s now lent f a)
       accepted-when-each-opens n next o = (
         opens-at-0 n next o,
         λ each.
@@ -163,27 +164,19 @@ module _ (limits : Limits) (s : State) (now : ℕ) (lent octets : List ℕ) wher
       )
 
       pub refused-when-one-does-not : (n : ℕ) (next : State) → Outcome limits s now lent octets n next →
-          (n ≡ 9) ↔ ((a : GroupSaPolicy) × In a (announced f) × (Copy a → ⊥))
+          (n ≡ 9) ↔ ((a : GroupSaPolicy) × In a (announced f) × (Copy limits s now lent f a → ⊥))
       refused-when-one-does-not n next o = (
         unopened n next o,
         λ x. ⊎-elim (λ q. absurd (x .2 (opens-at-0 n next o q (x .0) (x .1)))) (λ q. q) (accepted-or-9 n next o),
       )
 
     -- ---- after acceptance
-    -- an announced SA that stands in the table with the octets that every copy that opens gives, of the size that its policy needs
-    abbrev pub Standing : State → GroupSaPolicy → Type 0
-    Standing next p = NewBy (OpensUnder limits s now lent f) (sasOf (next .table)) p
-
-    -- an SA of the table that a policy of the frame announces, with these octets
-    abbrev pub Entered : Sa → Type 0
-    Entered b = EnteredBy (OpensUnder limits s now lent f) f b
-
     module _ (next : State) (o : Outcome limits s now lent octets 0 next) where
       accepted-to : (a : GroupSaPolicy) (x : List ℕ) → OpensTo limits s now lent f a x → OpensUnder limits s now lent f a x
       accepted-to = let n = accepted-is limits s now lent octets next o .none in to (n 2) (n 4)
 
       -- "On acceptance each of those SAs stands in the table as document 01 enters it, with the octets that every such copy opens to"
-      pub each-stands : (p : GroupSaPolicy) → In p (announced f) → Standing next p
+      pub each-stands : (p : GroupSaPolicy) → In p (announced f) → Standing limits s now lent f next p
       each-stands p m =
           let a = whole-accepted limits s now lent octets f e next o in
           let none = accepts limits s now lent f (a .0) .no-eight in
@@ -192,7 +185,7 @@ module _ (limits : Limits) (s : State) (now : ℕ) (lent octets : List ℕ) wher
 
       -- "and the rest of the member is as that document leaves it": the table has no other SAs than these and the old ones that are not
       -- due (Rest.antt says what becomes of each)
-      pub table-after : (b : Sa) → In b (sasOf (next .table)) ↔ (Entered b ⊎ Stayed s now f b)
+      pub table-after : (b : Sa) → In b (sasOf (next .table)) ↔ (Entered limits s now lent f b ⊎ Stayed s now f b)
       table-after b =
           let a = whole-accepted limits s now lent octets f e next o in
           let none = accepts limits s now lent f (a .0) .no-eight in
@@ -216,10 +209,10 @@ module _ (limits : Limits) (s : State) (now : ℕ) (lent octets : List ℕ) wher
           )
 
     -- "as document 01 enters it": live, and a Rekey SA with the octet counts of its policy's two parts, "44 is 20 + 24 and 28 + 16"
-    pub entered-live : (b : Sa) → Entered b → isLive (b .condition) ≡ true
+    pub entered-live : (b : Sa) → Entered limits s now lent f b → isLive (b .condition) ≡ true
     entered-live b n = rw (n .is) (enters-live (n .policy) (n .octets))
 
-    pub entered-parts : (b : Sa) (n : Entered b) → isEsp (n .policy) ≡ false →
+    pub entered-parts : (b : Sa) (n : Entered limits s now lent f b) → isEsp (n .policy) ≡ false →
         (b .encryption ≡ encryptionOctets (n .policy)) × (b .wrapping ≡ keyWrapOctets (n .policy)) × (b .octets ≡ padded 68 (n .octets))
     entered-parts b n r = rw (n .is) (enters-cut (n .policy) (n .octets) r)
 

@@ -21,6 +21,7 @@ use Rattle.chains.specs.Refusals.{EntriesEight, Value}
 use Rattle.chains.specs.Refusals as refusals
 use Rattle.chains.proofs.Determined.{one-value}
 use Rattle.outcome.specs.After.{HeldAre, HeldBy}
+use Rattle.outcome.specs.Demand3.{HeldExactly}
 
 -- equal counts, where they cannot differ
 pub not-other : (m n : ℕ) → ((m ≡ n → ⊥) → ⊥) → m ≡ n
@@ -36,22 +37,11 @@ rekey-leaves true Set Kept e h = absurd (false≢true (sym e))
 rekey-leaves false Set Kept e h = h
 
 module _ (roots : List Root) (entries : List WrapKey) (size : ℕ) where
-  pub record HeldExactly (h : Held) : Type 0 where
-    -- "each once, rising"
-    pub rise : rising idBefore (keysOf h) ≡ true
-    -- "exactly the Key IDs to which a chain of one or more entries leads"
-    pub only : (k : HeldKey) → In k (keysOf h) → (x : List ℕ) × Reached roots entries size (k .id) x
-    pub each : (i : ℕ) (x : List ℕ) → Reached roots entries size i x → (k : HeldKey) × In k (keysOf h) × (k .id ≡ i)
-    -- "with the value that every chain ending on it gives", of the size that a wrapping key needs
-    pub value : (k : HeldKey) → In k (keysOf h) → (x : List ℕ) → Reached roots entries size (k .id) x → k .key ≡ wrappingOf x
-    pub octets : (k : HeldKey) → In k (keysOf h) → (x : List ℕ) → Reached roots entries size (k .id) x → valueOf (k .key) ≡ x
-    pub fits : (i : ℕ) (x : List ℕ) → Reached roots entries size i x → length x ≡ size
-
   module _ (none : EntriesEight roots entries size → ⊥) where
     every-value : (i : ℕ) (x : List ℕ) → Reached roots entries size i x → Value roots entries size i x
     every-value i x r = record { reached = r; every = λ y q. one-value roots entries size none i y x q r }
 
-    pub held-exactly : (limits : Limits) (h : Held) → HeldAre roots entries size limits h → HeldExactly h
+    pub held-exactly : (limits : Limits) (h : Held) → HeldAre roots entries size limits h → HeldExactly roots entries size h
     held-exactly limits h a =
         let e : keysOf h ≡ a .keys = ap keysOf (a .is) ∙ keys-of-held limits (a .keys) in
         let into : (k : HeldKey) → In k (keysOf h) → In k (a .keys) = λ k m. subst (In k) e m in

@@ -11,6 +11,7 @@ pub mod Accepting
 pub mod NotRead
 pub mod NamedKey
 pub mod Demands
+pub mod EightSays
 pub mod Determined
 pub mod RunsLists
 pub mod RunsClear
@@ -22,7 +23,6 @@ pub mod RunsOld
 pub mod RunsAccepted
 pub mod RunsHeld
 pub mod Runs
-pub mod RestSays
 pub mod RestSpis
 pub mod RestLaws
 pub mod Rest
@@ -30,6 +30,8 @@ pub mod Asked
 pub mod OwnKey
 pub mod RunsLive
 pub mod RunsReplay
+pub mod KeyZero
+pub mod Demand3
 pub mod SamplesAnswers
 pub mod SamplesRekeys
 pub mod SamplesFrame

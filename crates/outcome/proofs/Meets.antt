@@ -1,4 +1,4 @@
--- When the octets of a frame meet the condition of a number: document 01's table, row by row, beside the list that is judged.
+-- The table of specs/Meets.antt beside the list that is judged: a number is given exactly when it is met and none lower is.
 use native.Mathlib.Omega.{arith}
 use Prim.Native.Nat.{ℕ, suc, _≤_, _<_}
 use mathlib.Core.Path.{_≡_, refl, sym, subst}
@@ -12,27 +12,18 @@ use Rattle.state.specs.declared.State.{State}
 use Rattle.clauses.specs.Refusals.{applies, two, three, four, five, six, seven}
 use Rattle.outcome.specs.Answer.{Condition, EightOf, NineOf, conditions}
 use Rattle.outcome.specs.After.{After}
+use Rattle.outcome.specs.Meets.{Meets, meets-1, meets-2, meets-3, meets-4, meets-5, meets-6, meets-7, meets-8, meets-9, Refused}
+use Rattle.outcome.specs.Meets.{Accepted}
 use Rattle.outcome.specs.Outcome.{Judged, refused, accepted, Outcome, no-layout, by-tree}
 use Rattle.outcome.proofs.First.{Holds, above-holds, first-holds, first-lowest, first-none, first-is, none-first}
 use Rattle.outcome.proofs.Readings.{not-both, one-whole}
 use Rattle.outcome.proofs.Answering.{numbers-rise}
 
 module _ (limits : Limits) (s : State) (now : ℕ) (lent octets : List ℕ) where
-  -- the table of document 01: the octets meet the condition of a number. "The other numbers are judged on a frame whose layout is whole."
-  -- Numbers 2 to 7 are met when one of their clauses applies, each with its words in clauses/specs; 8: "a reached wrapping opens to a wrong
-  -- size, or two reached ones give one key two values"; 9: "some announced SA has no copy that opens".
-  pub data Meets : ℕ → Type 0 where
-    meets-1 : (o : ℕ) → frame octets ≡ broken o → Meets 1
-    meets-2 : (f : Frame) → frame octets ≡ whole f [] → applies (two limits s now (f .header .exchange) (f .header .spi)) ≡ true → Meets 2
-    meets-3 : (f : Frame) → frame octets ≡ whole f [] → applies (three s (f .header .exchange) (f .header .messageId)) ≡ true → Meets 3
-    meets-4 : (f : Frame) → frame octets ≡ whole f [] → applies (four f) ≡ true → Meets 4
-    meets-5 : (f : Frame) → frame octets ≡ whole f [] → applies (five lent f) ≡ true → Meets 5
-    meets-6 : (f : Frame) → frame octets ≡ whole f [] → applies (six s now f) ≡ true → Meets 6
-    meets-7 : (f : Frame) → frame octets ≡ whole f [] → applies (seven limits s now f) ≡ true → Meets 7
-    meets-8 : (f : Frame) → frame octets ≡ whole f [] → EightOf limits s now lent f → Meets 8
-    meets-9 : (f : Frame) → frame octets ≡ whole f [] → NineOf limits s now lent f → Meets 9
+  abbrev Met : ℕ → Type 0
+  Met n = Meets limits s now lent octets n
 
-  pub at-most-9 : (n : ℕ) → Meets n → n ≤ 9
+  pub at-most-9 : (n : ℕ) → Met n → n ≤ 9
   at-most-9 _ (meets-1 o e) = omega arith
   at-most-9 _ (meets-2 f e h) = omega arith
   at-most-9 _ (meets-3 f e h) = omega arith
@@ -54,7 +45,7 @@ module _ (limits : Limits) (s : State) (now : ℕ) (lent octets : List ℕ) wher
     layout : frame octets ≡ whole tree []
     holds : Holds (conditions limits s now lent tree) n
 
-  meets-by : (n : ℕ) → Meets n → ByLayout n ⊎ ByTree n
+  meets-by : (n : ℕ) → Met n → ByLayout n ⊎ ByTree n
   meets-by _ (meets-1 o e) = inl (record { offset = o; layout = e; is = refl })
   meets-by _ (meets-2 f e h) = inr (record { tree = f; layout = e; holds = inl (h, refl) })
   meets-by _ (meets-3 f e h) = inr (record { tree = f; layout = e; holds = inr (inl (h, refl)) })
@@ -66,11 +57,11 @@ module _ (limits : Limits) (s : State) (now : ℕ) (lent octets : List ℕ) wher
   meets-by _ (meets-9 f e h) = inr (record { tree = f; layout = e; holds = inr (inr (inr (inr (inr (inr (inr (inl (h, refl)))))))) })
 
   module _ (f : Frame) (e : frame octets ≡ whole f []) where
-    given : (n m : ℕ) → n ≡ m → Meets m → Meets n
-    given n m q x = subst Meets (sym q) x
+    given : (n m : ℕ) → n ≡ m → Met m → Met n
+    given n m q x = subst Met (sym q) x
 
     -- what the tree holds is met
-    pub holds-meets : (n : ℕ) → Holds (conditions limits s now lent f) n → Meets n
+    pub holds-meets : (n : ℕ) → Holds (conditions limits s now lent f) n → Met n
     holds-meets n (inl h) = given n 2 (h .1) (meets-2 f e (h .0))
     holds-meets n (inr (inl h)) = given n 3 (h .1) (meets-3 f e (h .0))
     holds-meets n (inr (inr (inl h))) = given n 4 (h .1) (meets-4 f e (h .0))
@@ -81,7 +72,7 @@ module _ (limits : Limits) (s : State) (now : ℕ) (lent octets : List ℕ) wher
     holds-meets n (inr (inr (inr (inr (inr (inr (inr (inl h)))))))) = given n 9 (h .1) (meets-9 f e (h .0))
 
     -- and nothing else is
-    pub meets-holds : (n : ℕ) → Meets n → Holds (conditions limits s now lent f) n
+    pub meets-holds : (n : ℕ) → Met n → Holds (conditions limits s now lent f) n
     meets-holds n m =
         ⊎-elim (λ b. absurd (not-both (frame octets) f [] (b .offset) e (b .layout)))
         (λ b.
@@ -89,30 +80,18 @@ module _ (limits : Limits) (s : State) (now : ℕ) (lent octets : List ℕ) wher
         (b .holds)) (meets-by n m)
 
   -- 9 is met by the tree
-  pub nine-met : (f : Frame) → frame octets ≡ whole f [] → Meets 9 → NineOf limits s now lent f
+  pub nine-met : (f : Frame) → frame octets ≡ whole f [] → Met 9 → NineOf limits s now lent f
   nine-met f e (meets-9 g d h) = subst (λ (x : Frame). NineOf limits s now lent x) (one-whole (frame octets) g f [] [] d e) h
-
-  -- the number of an outcome is met, none lower is, and the member stays; where it is 0 none is met
-  pub record Refused (n : ℕ) (next : State) : Type 0 where
-    pub meets : Meets n
-    pub lowest : (m : ℕ) → m < n → Meets m → ⊥
-    pub stays : next ≡ s
-
-  pub record Accepted (next : State) : Type 0 where
-    pub none : (m : ℕ) → Meets m → ⊥
-    pub tree : Frame
-    pub layout : frame octets ≡ whole tree []
-    pub after : After limits s now lent tree next
 
   module _ (f : Frame) (e : frame octets ≡ whole f []) where
     abbrev judged : List Condition
     judged = conditions limits s now lent f
 
     -- no number that is met is below 2
-    not-low : (n : ℕ) → Meets n → 1 < n
+    not-low : (n : ℕ) → Met n → 1 < n
     not-low n x = above-holds 1 judged (numbers-rise limits s now lent f) n (meets-holds f e n x)
 
-    by-number : (n : ℕ) (next : State) → Judged limits s now lent f (suc n) next → Refused (suc n) next
+    by-number : (n : ℕ) (next : State) → Judged limits s now lent f (suc n) next → Refused limits s now lent octets (suc n) next
     by-number _ _ (refused n p) =
         record {
           meets = holds-meets f e (suc n) (first-holds judged n p);
@@ -120,7 +99,7 @@ module _ (limits : Limits) (s : State) (now : ℕ) (lent octets : List ℕ) wher
           stays = refl;
         }
 
-    none-met : (next : State) → Judged limits s now lent f 0 next → Accepted next
+    none-met : (next : State) → Judged limits s now lent f 0 next → Accepted limits s now lent octets next
     none-met _ (accepted next p a) =
         record {
           none = λ m x. first-none 1 judged (numbers-rise limits s now lent f) p m (meets-holds f e m x);
@@ -129,27 +108,27 @@ module _ (limits : Limits) (s : State) (now : ℕ) (lent octets : List ℕ) wher
           after = a;
         }
 
-    number-given : (n : ℕ) → Meets (suc n) → ((m : ℕ) → m < suc n → Meets m → ⊥) → Judged limits s now lent f (suc n) s
+    number-given : (n : ℕ) → Met (suc n) → ((m : ℕ) → m < suc n → Met m → ⊥) → Judged limits s now lent f (suc n) s
     number-given n x low =
         refused n
         (first-is 1 judged (numbers-rise limits s now lent f) (suc n) (meets-holds f e (suc n) x)
         (λ m g y. low m g (holds-meets f e m y)))
 
-    zero-given : (next : State) → ((m : ℕ) → Meets m → ⊥) → After limits s now lent f next → Judged limits s now lent f 0 next
+    zero-given : (next : State) → ((m : ℕ) → Met m → ⊥) → After limits s now lent f next → Judged limits s now lent f 0 next
     zero-given next none a = accepted next (none-first judged (λ m y. none m (holds-meets f e m y))) a
 
   -- ---- outcomes
   -- a broken layout meets 1 alone
-  only-one : (o : ℕ) → frame octets ≡ broken o → (m : ℕ) → Meets m → m ≡ 1
+  only-one : (o : ℕ) → frame octets ≡ broken o → (m : ℕ) → Met m → m ≡ 1
   only-one o e m x =
       ⊎-elim (λ b. b .is) (λ b. absurd (not-both (frame octets) (b .tree) [] o (b .layout) e)) (meets-by m x)
 
-  pub refused-is : (n : ℕ) (next : State) → Outcome limits s now lent octets (suc n) next → Refused (suc n) next
+  pub refused-is : (n : ℕ) (next : State) → Outcome limits s now lent octets (suc n) next → Refused limits s now lent octets (suc n) next
   refused-is _ _ (no-layout o e) =
       record { meets = meets-1 o e; lowest = λ m g x. let d = only-one o e m x in absurd (omega arith); stays = refl }
   refused-is n next (by-tree f e j) = by-number f e n next j
 
-  pub is-refused : (n : ℕ) (next : State) → Refused (suc n) next → Outcome limits s now lent octets (suc n) next
+  pub is-refused : (n : ℕ) (next : State) → Refused limits s now lent octets (suc n) next → Outcome limits s now lent octets (suc n) next
   is-refused n next r =
       subst (λ (x : State). Outcome limits s now lent octets (suc n) x) (sym (r .stays))
       (⊎-elim
@@ -158,13 +137,13 @@ module _ (limits : Limits) (s : State) (now : ℕ) (lent octets : List ℕ) wher
       (meets-by (suc n) (r .meets)))
 
   -- 1 is given exactly when the layout is broken
-  pub refused-layout : (next : State) → Refused 1 next → (o : ℕ) × (frame octets ≡ broken o)
+  pub refused-layout : (next : State) → Refused limits s now lent octets 1 next → (o : ℕ) × (frame octets ≡ broken o)
   refused-layout next r =
       ⊎-elim (λ b. (b .offset, b .layout))
       (λ b. let g = not-low (b .tree) (b .layout) 1 (r .meets) in absurd (omega arith)) (meets-by 1 (r .meets))
 
-  pub accepted-is : (next : State) → Outcome limits s now lent octets 0 next → Accepted next
+  pub accepted-is : (next : State) → Outcome limits s now lent octets 0 next → Accepted limits s now lent octets next
   accepted-is _ (by-tree f e j) = none-met f e _ j
 
-  pub is-accepted : (next : State) → Accepted next → Outcome limits s now lent octets 0 next
+  pub is-accepted : (next : State) → Accepted limits s now lent octets next → Outcome limits s now lent octets 0 next
   is-accepted next a = by-tree (a .tree) (a .layout) (zero-given (a .tree) (a .layout) next (a .none) (a .after))

@@ -1,4 +1,4 @@
--- The key that a KWK ID names, and what a copy of an announced SA's key opens to, in the customer's words.
+-- The key that a KWK ID names, and what a copy of an announced SA's key opens to, are as the definitions of the outcome have them.
 use Prim.Native.Nat.{ℕ}
 use mathlib.Core.Path.{_≡_, refl, ap, sym, _∙_, subst}
 use mathlib.Core.Bool.{Bool, true, false, cond, false≢true}
@@ -19,9 +19,10 @@ use Rattle.chains.specs.Chain.{In, Root, root, Reached, Ends}
 use Rattle.chains.proofs.Determined.{ends-by, last-entry}
 use Rattle.keys.specs.Kinds.{valueOf}
 use Rattle.outcome.specs.Roots.{ownKey, keyZero, heldRoot, rootsOf, entriesOf, wrappingSize}
-use Rattle.outcome.proofs.Rows.{names-held, Registration, registration-row, rekeys, lentRoot, lent-roots, lent-size}
+use Rattle.outcome.specs.NamedKey.{Registration, lentRoot, Given, Named, lent-key, own-key, last-of-chain, held-key, OpensUnder}
+use Rattle.outcome.proofs.Rows.{names-held, registration-row, rekeys, lent-roots, lent-size}
 use Rattle.outcome.proofs.Members.{in-head, in-tail, in-cases, not-in-none, in-map, map-in}
-use Rattle.outcome.proofs.Bags.{InOwnBag, copy-own, own-copy}
+use Rattle.outcome.proofs.Bags.{copy-own, own-copy}
 use Rattle.outcome.proofs.Accepting.{OpensTo}
 
 -- a list that is taken on a condition
@@ -34,21 +35,8 @@ cond-in a true l e m = m
 cond-in a false l e m = absurd (false≢true e)
 
 module _ (limits : Limits) (s : State) (now : ℕ) (lent : List ℕ) (f : Frame) where
-  -- "be it key 0, the last key of such a chain or, in a rekey, a key the member held". Key 0 is the lent default key in a registration and
-  -- "the live Rekey SA's own" in a rekey
-  pub data Named (k : ℕ) (v : List ℕ) : Type 0 where
-    lent-key : Registration f → k ≡ 0 → v ≡ lent → Named k v
-    own-key : f .header .exchange ≡ 41 → k ≡ 0 → v ≡ ownKey limits s now → Named k v
-    last-of-chain : Registration f → Reached (lentRoot lent) (wrapKeysOf f) (length lent) k v → Named k v
-    held-key : f .header .exchange ≡ 41 → (h : HeldKey) → In h (keysOf (s .held)) → h .id ≡ k → valueOf (h .key) ≡ v → Named k v
-
-  -- "its SA_KEY attributes, opened under the key their KWK ID names"
-  pub record OpensUnder (a : GroupSaPolicy) (x : List ℕ) : Type 0 where
-    pub copy : SaKey
-    pub own : InOwnBag f a copy
-    pub value : List ℕ
-    pub named : Named (copy .kwkId) value
-    pub opens : Opens value (copy .wrapped) x
+  abbrev Names : ℕ → List ℕ → Type 0
+  Names k v = Named limits s now lent f k v
 
   abbrev roots : List Root
   roots = rootsOf limits s now lent f
@@ -66,7 +54,7 @@ module _ (limits : Limits) (s : State) (now : ℕ) (lent : List ℕ) (f : Frame)
   unfolding keyZero
   zero-lent g = rw (registration-row f g)
 
-  zero-own : f .header .exchange ≡ 41 → keyZero limits s now lent f ≡ ownKey limits s now
+  pub zero-own : f .header .exchange ≡ 41 → keyZero limits s now lent f ≡ ownKey limits s now
   unfolding keyZero
   zero-own x = rw (rekeys (f .header .exchange) x)
 
@@ -86,28 +74,28 @@ module _ (limits : Limits) (s : State) (now : ℕ) (lent : List ℕ) (f : Frame)
       (subst (λ (x : List ℕ). Ends roots (entriesOf f) size (r .id) x) (sym d) (record { passed = []; chain = root r m }))
 
   -- in a registration chains start with the lent key alone
-  from-lent : Registration f → (k : ℕ) (v : List ℕ) → Reached (lentRoot lent) (wrapKeysOf f) (length lent) k v →
+  pub from-lent : Registration f → (k : ℕ) (v : List ℕ) → Given lent f k v →
       Reached roots (entriesOf f) size k v
   from-lent g k v r =
       let row = registration-row f g in
       subst (λ (l : List Root). Reached l (entriesOf f) size k v) (sym (lent-roots limits s now f row lent))
       (subst (λ (n : ℕ). Reached (lentRoot lent) (entriesOf f) n k v) (sym (lent-size limits s now f row lent)) r)
 
-  to-lent : Registration f → (k : ℕ) (v : List ℕ) → Reached roots (entriesOf f) size k v →
-      Reached (lentRoot lent) (wrapKeysOf f) (length lent) k v
+  pub to-lent : Registration f → (k : ℕ) (v : List ℕ) → Reached roots (entriesOf f) size k v →
+      Given lent f k v
   to-lent g k v r =
       let row = registration-row f g in
       subst (λ (l : List Root). Reached l (entriesOf f) (length lent) k v) (lent-roots limits s now f row lent)
       (subst (λ (n : ℕ). Reached roots (entriesOf f) n k v) (lent-size limits s now f row lent) r)
 
-  pub named-ends : (k : ℕ) (v : List ℕ) → Named k v → Ends roots (entriesOf f) size k v
+  pub named-ends : (k : ℕ) (v : List ℕ) → Names k v → Ends roots (entriesOf f) size k v
   named-ends k v (lent-key g e d) = at-root zero-root zero-in k v e (d ∙ sym (zero-lent g))
   named-ends k v (own-key x e d) = at-root zero-root zero-in k v e (d ∙ sym (zero-own x))
   named-ends k v (last-of-chain g c) = let r = from-lent g k v c in record { passed = r .last ∷ r .before; chain = r .chain }
   named-ends k v (held-key e h m q d) =
       at-root (heldRoot h) (held-in (ap (λ (x : Exchange). x .named) (rekeys (f .header .exchange) e)) h m) k v (sym q) (sym d)
 
-  pub under-to : (a : GroupSaPolicy) (x : List ℕ) → OpensUnder a x → OpensTo limits s now lent f a x
+  pub under-to : (a : GroupSaPolicy) (x : List ℕ) → OpensUnder limits s now lent f a x → OpensTo limits s now lent f a x
   under-to a x o =
       record {
         copy = o .copy;
@@ -120,10 +108,10 @@ module _ (limits : Limits) (s : State) (now : ℕ) (lent : List ℕ) (f : Frame)
   -- numbers 2 and 4 let pass registrations, and rekeys with no WRAP_KEY: of these nothing else opens a copy
   module _ (fit : Registration f ⊎ ((f .header .exchange ≡ 41) × (wrapKeysOf f ≡ []))) where
     -- the roots by their meaning
-    zero-named : (k : ℕ) (v : List ℕ) → k ≡ 0 → v ≡ keyZero limits s now lent f → Named k v
+    zero-named : (k : ℕ) (v : List ℕ) → k ≡ 0 → v ≡ keyZero limits s now lent f → Names k v
     zero-named k v e d = ⊎-elim (λ g. lent-key g e (d ∙ zero-lent g)) (λ q. own-key (q .0) e (d ∙ zero-own (q .0))) fit
 
-    root-named : (r : Root) → In r roots → Named (r .id) (r .value)
+    root-named : (r : Root) → In r roots → Names (r .id) (r .value)
     unfolding rootsOf
     root-named r m =
         ⊎-elim (λ e. zero-named (r .id) (r .value) (ap (λ (x : Root). x .id) e) (ap (λ (x : Root). x .value) e))
@@ -135,18 +123,18 @@ module _ (limits : Limits) (s : State) (now : ℕ) (lent : List ℕ) (f : Frame)
         (ap (λ (x : Root). x .value) is))
         (in-cases r zero-root (cond (rowOf f .named) held []) m)
 
-    reached-named : (k : ℕ) (v : List ℕ) → Reached roots (entriesOf f) size k v → Named k v
+    reached-named : (k : ℕ) (v : List ℕ) → Reached roots (entriesOf f) size k v → Names k v
     reached-named k v r =
         ⊎-elim (λ g. last-of-chain g (to-lent g k v r))
         (λ q. absurd (not-in-none (r .last) (subst (In (r .last)) (q .1) (last-entry roots (entriesOf f) size k v r .0)))) fit
 
-    pub ends-named : (k : ℕ) (v : List ℕ) → Ends roots (entriesOf f) size k v → Named k v
+    pub ends-named : (k : ℕ) (v : List ℕ) → Ends roots (entriesOf f) size k v → Names k v
     ends-named k v n =
         ⊎-elim
-        (λ a. subst (λ (i : ℕ). Named i v) (a .id-is) (subst (Named (a .key .id)) (a .value-is) (root-named (a .key) (a .stands))))
+        (λ a. subst (λ (i : ℕ). Names i v) (a .id-is) (subst (Names (a .key .id)) (a .value-is) (root-named (a .key) (a .stands))))
         (λ r. reached-named k v r) (ends-by roots (entriesOf f) size (n .passed) k v (n .chain))
 
-    pub to-under : (a : GroupSaPolicy) (x : List ℕ) → OpensTo limits s now lent f a x → OpensUnder a x
+    pub to-under : (a : GroupSaPolicy) (x : List ℕ) → OpensTo limits s now lent f a x → OpensUnder limits s now lent f a x
     to-under a x o =
         record {
           copy = o .copy;

@@ -40,12 +40,13 @@ use Rattle.outcome.specs.After.{delayOf, newRekey, isZero, namedInDelete
 use Rattle.outcome.specs.After.{leastAfterwards}
 use Rattle.outcome.specs.Outcome.{Outcome}
 use Rattle.outcome.proofs.Rows.{registration-row, rekeys, one-of-three}
-use Rattle.outcome.proofs.RestSays.{NewRekey, NoNewRekey, LeastAs, its-initial-id, else-0, of-registration, own-plus-1}
-use Rattle.outcome.proofs.RestSays.{none-any-more, DelayAs, given, none-in-it, no-group-wide, Ends, by-its-spi, by-spi-0}
-use Rattle.outcome.proofs.RestSays.{by-new-rekey, Becomes, kept, turned, OldSa}
+use Rattle.outcome.specs.RestSays.{NewRekey, NoNewRekey, LeastAs, its-initial-id, else-0, of-registration, own-plus-1}
+use Rattle.outcome.specs.RestSays.{none-any-more, DelayAs, given, none-in-it, no-group-wide, Ends, by-its-spi, by-spi-0}
+use Rattle.outcome.specs.RestSays.{by-new-rekey, Becomes, kept, turned, OldSa}
 use Rattle.outcome.proofs.Members.{in-head, in-cases, not-in-none}
 use Rattle.outcome.proofs.Enters.{Stayed}
-use Rattle.outcome.proofs.Demands.{Entered, table-after}
+use Rattle.outcome.specs.Demand3.{Entered}
+use Rattle.outcome.proofs.Demands.{table-after}
 use Rattle.outcome.proofs.RunsLists.{none-passes, some-passes, passes-some}
 use Rattle.outcome.proofs.RunsClear.{Clear, Taken, taken}
 use Rattle.outcome.proofs.RestSpis.{deleted-size}
@@ -281,7 +282,7 @@ module _ (limits : Limits) (s : State) (now : ℕ) (lent octets : List ℕ) (f :
     -- "First, SAs due at the tick go. Then each ESP SPI named in D that was live retires, SPI 0 naming every ESP SA in the table (001
     -- section 2.4.3); unknown or retiring ones are passed over. A new Rekey SA turns the old one to retiring. The new SAs enter as live.":
     -- the table has exactly the entered SAs and the old ones, each kept or turned
-    pub old-after : (b : Sa) → In b (sasOf (next .table)) ↔ (Entered limits s now lent octets f e b ⊎ OldSa f s now b)
+    pub old-after : (b : Sa) → In b (sasOf (next .table)) ↔ (Entered limits s now lent f b ⊎ OldSa f s now b)
     old-after b =
         let t = table-after limits s now lent octets f e next o b in
         let c = was-taken .is-clear in (

@@ -19,8 +19,8 @@ use Rattle.bags.specs.Bag.{MemberKeyBag}
 use Rattle.clauses.specs.Contents.{rowOf, some, gather, memberBags, wrapKeysOf}
 use Rattle.clauses.specs.Number4.{barredMemberBag}
 use Rattle.clauses.specs.Number5.{lentKeySize}
-use Rattle.chains.specs.Chain.{Root}
 use Rattle.outcome.specs.Roots.{ownKey, keyZero, heldRoot, rootsOf, wrappingSize}
+use Rattle.outcome.specs.NamedKey.{Registration, lentRoot}
 
 -- an exchange that sets the held list is a registration
 pub registers : (x : ℕ) → exchangeOf x .holds ≡ true → exchangeOf x ≡ registration
@@ -37,10 +37,6 @@ names-held x e =
     (λ a.
     bool-cases (eqb x 40) (λ b. absurd (false≢true (rw (a, b) at e)))
     (λ b. bool-cases (eqb x 41) (λ c. eqb-true x 41 c) (λ c. absurd (false≢true (rw (a, b, c) at e)))))
-
--- "Registration frames (GSA_AUTH, GSA_REGISTRATION responses)": exchange types 39 and 40
-abbrev pub Registration : Frame → Type 0
-Registration f = (f .header .exchange ≡ 39) ⊎ (f .header .exchange ≡ 40)
 
 pub registration-row : (f : Frame) → Registration f → rowOf f ≡ registration
 registration-row f (inl e) = ap exchangeOf e
@@ -69,10 +65,6 @@ no-wrap-key f x e =
     none-gathered : (l : List MemberKeyBag) → some l ≡ false → gather (λ (b : MemberKeyBag). b .keys) l ≡ []
     none-gathered [] q = refl
     none-gathered (b ∷ l) q = let h = ltb-false 0 (suc (length l)) q in absurd (omega arith)
-
--- the lent default key as key 0
-abbrev pub lentRoot : List ℕ → List Root
-lentRoot lent = record { id = 0; value = lent } ∷ []
 
 module _ (limits : Limits) (s : State) (now : ℕ) (f : Frame) where
   module _ (e : rowOf f ≡ registration) where

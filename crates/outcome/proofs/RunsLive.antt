@@ -2,9 +2,9 @@
 use native.Mathlib.Omega.{arith}
 use Prim.Native.Nat.{ℕ}
 use mathlib.Core.Path.{_≡_, refl, ap, sym, _∙_, subst}
-use mathlib.Core.Bool.{Bool, true, false, not, _||_, and-false, false≢true}
+use mathlib.Core.Bool.{Bool, true, false, not, _&&_, _||_, and-false, false≢true}
 use mathlib.Core.List.{List, []}
-use borrow.Author.Tests.{eqb-true, ne-eqb}
+use borrow.Author.Tests.{eqb-true, ne-eqb, not-false}
 use lib.Dec.{eqb, leb}
 use Rattle.octets.specs.Walk.{whole, either}
 use Rattle.octets.specs.Compare.{same}
@@ -12,9 +12,10 @@ use Rattle.octets.proofs.Order.{same-eq}
 use Rattle.keys.specs.Limits.{Limits}
 use Rattle.keys.specs.Lists.{all, any}
 use Rattle.keys.proofs.Cases.{bool-cases, and-parts}
-use Rattle.keys.proofs.Members.{member-kept}
+use Rattle.keys.proofs.Members.{member-kept, kept-member}
 use Rattle.frames.specs.Frame.{Frame, frame}
 use Rattle.frames.specs.Exchange.{registration, rekey, other}
+use Rattle.frames.specs.declared.exchanges.Exchange.{Exchange}
 use Rattle.sa.specs.Entry.{esp, named, isLive, liveRekey, dueBy, due}
 use Rattle.sa.specs.Entry as entry
 use Rattle.sa.specs.declared.entry.Condition.{Condition}
@@ -27,13 +28,14 @@ use Rattle.state.specs.Held.{heldFormed}
 use Rattle.state.specs.State.{stateFormed, newState, sweptState}
 use Rattle.state.proofs.Laws.{swept-yes, swept-no}
 use Rattle.clauses.specs.Contents.{rowOf, announced}
-use Rattle.clauses.specs.Number2.{standing, overLiveRekey, breaksWanted, nonEmptyMember, two-ofFrame, two-ofMember}
+use Rattle.clauses.specs.Number2.{standing, overLiveRekey, breaksWanted, nonEmptyMember, otherSpis, two-ofFrame, two-ofMember}
 use Rattle.clauses.specs.Number6.{policyNamed}
+use Rattle.clauses.specs.Refusals.{two}
 use Rattle.outcome.specs.After.{newRekey, namedInDelete, replaced, retires, oldSa, oldSas, insertAll, After}
 use Rattle.outcome.specs.Run.{LiveRekey}
 use Rattle.outcome.proofs.RunsLists.{member-map, all-pass, count-none, none-passes, passes-none, some-passes, passes-some}
 use Rattle.clauses.proofs.Clear.{no-clause}
-use Rattle.outcome.proofs.RunsClear.{Clear}
+use Rattle.outcome.proofs.RunsClear.{None, Clear}
 use Rattle.outcome.proofs.RunsMade.{made-any}
 use Rattle.outcome.proofs.RunsTable.{any-all}
 use Rattle.outcome.proofs.RunsOld.{old-live, swept-sas}
@@ -49,6 +51,19 @@ live-not-due now a e = by (a .condition) (and-parts (eqb (a .protocol) entry.rek
 
 over-parts : (x : List ℕ) (a : Sa) → overLiveRekey x a ≡ true → (liveRekey a ≡ true) × (named entry.rekey x a ≡ true)
 over-parts x a e = and-parts (liveRekey a) (named entry.rekey x a) e
+
+-- a rekey that number 2 lets pass came over the live Rekey SA
+pub passes-over-live : (limits : Limits) (s : State) (now : ℕ) (f : Frame) →
+    None (two limits s now (f .header .exchange) (f .header .spi)) → rowOf f ≡ rekey → LiveRekey (f .header .spi) s
+unfolding otherSpis
+passes-over-live limits s now f n r =
+    let x = f .header .spi in
+    let e = not-false (any (overLiveRekey x) (standing now s))
+    (sym (ap (λ (y : Exchange). y .spis && not (any (overLiveRekey x) (standing now s))) r)
+    ∙ no-clause (two-ofMember limits s now (f .header .exchange) x) 1 (n .ofMember)) in
+    let p = some-passes (overLiveRekey x) (standing now s) e in
+    passes-some (overLiveRekey x) (sasOf (s .table)) (p .one) (kept-member (stays now) (p .one) (sasOf (s .table)) (p .stands) .0)
+    (p .passes)
 
 -- the SAs that are due at a tick do not matter to it
 pub live-stands : (x : List ℕ) (s : State) (now : ℕ) → LiveRekey x s → any (overLiveRekey x) (standing now s) ≡ true

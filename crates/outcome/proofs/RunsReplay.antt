@@ -8,29 +8,24 @@ use mathlib.Core.List.{List, []}
 use borrow.Author.Tests.{lt-leb, not-false}
 use Rattle.octets.specs.Walk.{whole}
 use Rattle.keys.specs.Limits.{Limits}
-use Rattle.keys.specs.Lists.{any}
 use Rattle.keys.proofs.Cases.{bool-cases, lt-cases}
-use Rattle.keys.proofs.Members.{kept-member}
 use Rattle.frames.specs.Frame.{Frame, frame}
 use Rattle.frames.specs.Exchange.{rekey, exchangeOf}
 use Rattle.frames.specs.declared.exchanges.Exchange.{Exchange}
-use Rattle.table.specs.Table.{sasOf, stays}
 use Rattle.state.specs.declared.State.{State}
 use Rattle.state.specs.declared.least.Least.{Least}
 use Rattle.state.specs.Least.{acceptable, afterId}
 use Rattle.state.specs.State.{stateFormed, sweptState}
 use Rattle.state.proofs.Laws.{after-more, after-last}
 use Rattle.clauses.specs.Contents.{rowOf}
-use Rattle.clauses.specs.Number2.{standing, overLiveRekey, otherSpis, two-ofMember}
 use Rattle.clauses.specs.Number3.{notAcceptable, three-ofMember}
 use Rattle.clauses.specs.Refusals.{one}
 use Rattle.outcome.specs.After.{newRekey, leastBy, leastAfterwards, After}
 use Rattle.outcome.specs.Outcome.{Judged, refused, accepted, Outcome, no-layout, by-tree}
 use Rattle.outcome.specs.Run.{Step, Takes, answered, swept, left, Run, ends, goes, Throughout, Quiet, AllQuiet, LiveRekey}
-use Rattle.outcome.proofs.RunsLists.{some-passes, passes-some}
 use Rattle.clauses.proofs.Clear.{no-clause}
 use Rattle.outcome.proofs.RunsClear.{Clear, clear, Taken, taken}
-use Rattle.outcome.proofs.RunsLive.{new-not-live, swept-live, accepted-live, no-new-rekey, was-rekey}
+use Rattle.outcome.proofs.RunsLive.{new-not-live, swept-live, accepted-live, no-new-rekey, was-rekey, passes-over-live}
 
 -- ---- the least Message ID is past i: neither i nor a lower one is acceptable
 abbrev pub Past : ℕ → Least → Type 0
@@ -65,15 +60,7 @@ module _ (limits : Limits) where
 
     -- an accepted rekey came over the live Rekey SA
     pub came-over : rowOf f ≡ rekey → LiveRekey (f .header .spi) s
-    unfolding otherSpis
-    came-over r =
-        let x = f .header .spi in
-        let e = not-false (any (overLiveRekey x) (standing now s))
-        (sym (ap (λ (y : Exchange). y .spis && not (any (overLiveRekey x) (standing now s))) r)
-        ∙ no-clause (two-ofMember limits s now (f .header .exchange) x) 1 (c .no-2 .ofMember)) in
-        let p = some-passes (overLiveRekey x) (standing now s) e in
-        passes-some (overLiveRekey x) (sasOf (s .table)) (p .one) (kept-member (stays now) (p .one) (sasOf (s .table)) (p .stands) .0)
-        (p .passes)
+    came-over = passes-over-live limits s now f (c .no-2)
 
     -- and is past after it, where it announced no Rekey SA
     pub next-least : (next : State) → After limits s now lent f next → rowOf f ≡ rekey → newRekey f ≡ false →

@@ -1,7 +1,7 @@
 -- The samples on Message IDs: rekeys with D alone over a live Rekey SA.
 use native.Mathlib.Omega.{arith}
 use Prim.Native.Nat.{ℕ, _+_, _≤_}
-use mathlib.Core.Path.{_≡_, refl, ap, sym, subst}
+use mathlib.Core.Path.{_≡_, refl, ap, sym, _∙_, subst}
 use mathlib.Core.Bool.{true, false}
 use mathlib.Core.List.{List, [], _++_, append-nil, List·Memᴰ·not-nil}
 use borrow.Author.Tests.{le-ltb, ne-eqb}
@@ -164,7 +164,9 @@ module _ (s : State) (now : ℕ) (x : List ℕ) (i : ℕ) (l : List (List ℕ)) 
 pub least-seven-holds : Says least-seven
 unfolding afterId
 least-seven-holds s x e k n = (
-  λ now lent octets w. rekey-refused s now lent octets (deleting x 6 (w .spis)) (w .reads) refl e k (ap (acceptable 6) n),
+  λ now lent octets g r y z i.
+      rekey-refused s now lent octets g r y e (subst (λ (w : List ℕ). LiveRekey w s) (sym z) k)
+      (ap (λ (j : ℕ). acceptable j (s .least)) i ∙ ap (acceptable 6) n),
   λ now lent octets w.
       let c = ap (acceptable 7) n in
       record {
@@ -180,8 +182,9 @@ least-seven-holds s x e k n = (
       record {
         next = next;
         outcome = delete-taken s now x 9 (w .spis) lent e k octets (w .reads) (w .some) (w .few) c;
-        after = λ now′ lent′ octets′ v.
-            rekey-refused next now′ lent′ octets′ (deleting x 9 (v .spis)) (v .reads) refl formed live refl;
+        after = λ now′ lent′ octets′ g r y z i.
+            rekey-refused next now′ lent′ octets′ g r y formed (subst (λ (w : List ℕ). LiveRekey w next) (sym z) live)
+            (ap (λ (j : ℕ). acceptable j (next .least)) i);
       },
 )
 

@@ -4,3 +4,8 @@ pub mod After
 pub mod Outcome
 pub mod Run
 pub mod Samples
+pub mod NamedKey
+pub mod EightSays
+pub mod Meets
+pub mod RestSays
+pub mod Demand3

@@ -57,9 +57,11 @@ pub record Rekeys (x : List ℕ) (i : ℕ) (octets : List ℕ) : Type 0 where
   pub few : length spis ≤ 32
   pub reads : frame octets ≡ whole (deleting x i spis) []
 
--- each of them is refused as number 3; each is taken, with what holds of the state after it
+-- any rekey over that SA with this Message ID, whatever it holds, is refused as number 3; each of those with D alone is taken, with what
+-- holds of the state after it
 abbrev pub Refuses : State → List ℕ → ℕ → Type 0
-Refuses s x i = (now : ℕ) (lent octets : List ℕ) → Rekeys x i octets → Outcome limits s now lent octets 3 s
+Refuses s x i = (now : ℕ) (lent octets : List ℕ) (g : Frame) → frame octets ≡ whole g [] → g .header .exchange ≡ 41 → g .header .spi ≡ x →
+    g .header .messageId ≡ i → Outcome limits s now lent octets 3 s
 
 pub record Taken (s : State) (now : ℕ) (lent octets : List ℕ) (Then : State → Type 0) : Type 0 where
   pub next : State

@@ -15,7 +15,7 @@ use Rattle.state.specs.declared.least.Least.{Least}
 use Rattle.state.specs.declared.least.Least.the-variants.{Id, NoneAnyMore}
 use Rattle.clauses.specs.Contents.{announced, groupWides, deletedSpis}
 use Rattle.chains.specs.Chain.{In}
-use Rattle.outcome.proofs.Rows.{Registration}
+use Rattle.outcome.specs.NamedKey.{Registration}
 
 module _ (f : Frame) where
   -- "a new Rekey SA": a policy of the frame announces it

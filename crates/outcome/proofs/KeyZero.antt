@@ -1,0 +1,63 @@
+-- KEY 0 OF A REKEY that number 2 lets pass is cut out of the Rekey SA over which it came.
+use Prim.Native.Nat.{ℕ}
+use mathlib.Core.Path.{_≡_, ap, sym, _∙_}
+use mathlib.Core.Bool.{true, not, _&&_}
+use mathlib.Core.List.{List, []}
+use borrow.Author.Tests.{not-false}
+use lib.Dec.{eqb}
+use lib.ListN.{length}
+use Rattle.octets.specs.Walk.{whole}
+use Rattle.octets.specs.Compare.{same}
+use Rattle.octets.proofs.Order.{same-eq}
+use Rattle.keys.specs.Lists.{any}
+use Rattle.keys.specs.Limits.{Limits}
+use Rattle.keys.proofs.Cases.{and-parts}
+use Rattle.frames.specs.Frame.{Frame, frame}
+use Rattle.sa.specs.Entry.{rekey, spiOf, named, liveRekey}
+use Rattle.sa.specs.declared.entry.Sa.{Sa}
+use Rattle.table.specs.Table.{sasOf}
+use Rattle.state.specs.declared.State.{State}
+use Rattle.state.specs.State.{stateFormed}
+use Rattle.clauses.specs.Number2.{overLiveRekey, two-ofMember}
+use Rattle.clauses.specs.Refusals.{two}
+use Rattle.clauses.proofs.Clear.{no-clause}
+use Rattle.chains.specs.Chain.{In}
+use Rattle.chains.proofs.Members.{member-in}
+use Rattle.outcome.specs.Roots.{keyZero}
+use Rattle.outcome.specs.NamedKey.{CameOver}
+use Rattle.outcome.specs.Meets.{Meets, meets-2}
+use Rattle.outcome.proofs.Rows.{rekeys}
+use Rattle.outcome.proofs.NamedKey.{zero-own}
+use Rattle.outcome.proofs.OwnKey.{own-key-of-live}
+use Rattle.outcome.proofs.RunsClear.{None, none-applies}
+use Rattle.outcome.proofs.RunsLists.{some-passes}
+use Rattle.outcome.proofs.RunsLive.{passes-over-live}
+
+module _ (limits : Limits) (s : State) (now : ℕ) (lent octets : List ℕ) (f : Frame) (e : frame octets ≡ whole f [])
+    (x : f .header .exchange ≡ 41) (no-2 : Meets limits s now lent octets 2 → ⊥)
+    -- the octets of an SA are an array of 68
+    (long : (b : Sa) → In b (sasOf (s .table)) → length (b .octets) ≡ 68) where
+  passes : None (two limits s now (f .header .exchange) (f .header .spi))
+  passes = none-applies (two limits s now (f .header .exchange) (f .header .spi)) (λ h. no-2 (meets-2 f e h))
+
+  is-formed : stateFormed limits s ≡ true
+  is-formed =
+      not-false (stateFormed limits s) (no-clause (two-ofMember limits s now (f .header .exchange) (f .header .spi)) 2 (passes .ofMember))
+
+  -- THE CLAIM
+  pub key-zero-of-rekey : CameOver s f (keyZero limits s now lent f)
+  unfolding named
+  key-zero-of-rekey =
+      let spi = f .header .spi in
+      let p = some-passes (overLiveRekey spi) (sasOf (s .table)) (passes-over-live limits s now f passes (rekeys (f .header .exchange) x)) in
+      let b = p .one in
+      let m = member-in b (sasOf (s .table)) (p .stands) in
+      let q = and-parts (liveRekey b) (named rekey spi b) (p .passes) in
+      let n = and-parts (eqb (b .protocol) rekey) (same (spiOf b) spi) (q .1) in
+      record {
+        sa = b;
+        stands = m;
+        live = q .0;
+        spi = same-eq (spiOf b) spi (n .1);
+        cut = zero-own limits s now lent f x ∙ own-key-of-live limits s now is-formed b m (q .0) (long b m);
+      }
