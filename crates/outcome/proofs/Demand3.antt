@@ -1,9 +1,10 @@
--- DEMAND 3 AS ONE CLAIM: "Whatever frame, lent default key, tick and member are handed in, the following holds. After an accepted registration
--- the held list has exactly the Key IDs to which a chain of one or more entries leads from the lent default key, wherever the entries stand
--- in the frame: each once, rising, with the value that every chain ending on it gives. A frame that meets none of refusals 1 to 8 is
--- accepted exactly when each SA it announces has a copy of its key that opens under the key its KWK ID names, be it key 0, the last key of
--- such a chain or, in a rekey, a key the member held; otherwise it is refused as number 9. On acceptance each of those SAs stands in the
--- table as document 01 enters it, with the octets that every such copy opens to, and the rest of the member is as that document leaves it."
+-- DEMAND 3 AS ONE CLAIM: "Whatever frame, lent default key, tick and member are handed in, the following holds. After an accepted
+-- registration the held list has exactly the Key IDs to which a chain of one or more entries leads from the lent default key, wherever the
+-- entries stand in the frame: each once, rising, with the value that every chain ending on it gives. A frame that meets none of refusals 1
+-- to 8 is accepted exactly when each SA it announces has a copy of its key that opens under the key its KWK ID names, be it key 0, the last
+-- key of such a chain or, in a rekey, a key the member held; otherwise it is refused as number 9. On acceptance each of those SAs stands in
+-- the table as document 01 enters it, with the octets that every such copy opens to, and the rest of the member is as that document leaves
+-- it. A chain is defined without running any search."
 use Prim.Native.Nat.{ℕ, _≤_}
 use mathlib.Core.Path.{_≡_, subst}
 use mathlib.Core.List.{List, []}

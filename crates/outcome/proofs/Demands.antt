@@ -100,7 +100,7 @@ module _ (limits : Limits) (s : State) (now : ℕ) (lent octets : List ℕ) wher
         (held-exactly (rootsOf limits s now lent f) (entriesOf f) (wrappingSize limits s now lent f) none limits (next .held) h))
 
     -- ---- what opens a copy
-    passes-2-and-4 : (Meets limits s now lent octets 2 → ⊥) → (Meets limits s now lent octets 4 → ⊥) →
+    pub passes-2-and-4 : (Meets limits s now lent octets 2 → ⊥) → (Meets limits s now lent octets 4 → ⊥) →
         Registration f ⊎ ((f .header .exchange ≡ 41) × (wrapKeysOf f ≡ []))
     unfolding four-ofFrame
     passes-2-and-4 no-2 no-4 =

@@ -7,7 +7,8 @@ use mathlib.Core.List.{List, []}
 use lib.ListN.{length}
 use Rattle.keys.specs.Limits.{Limits}
 use Rattle.policies.specs.Policy.{GroupSaPolicy}
-use Rattle.frames.specs.Frame.{Frame}
+use Rattle.octets.specs.Walk.{whole}
+use Rattle.frames.specs.Frame.{Frame, frame}
 use Rattle.state.specs.declared.State.{State}
 use Rattle.clauses.specs.Contents.{announced, wrapKeysOf}
 use Rattle.chains.specs.Chain.{In, Root, Reached, CopyOpens}
@@ -18,7 +19,10 @@ use Rattle.outcome.specs.Roots.{rootsOf, entriesOf, wrappingSize, announ
 use Rattle.outcome.specs.Answer.{EightOf}
 use Rattle.outcome.specs.NamedKey.{Registration, Given, OpensUnder}
 use Rattle.outcome.specs.EightSays.{EightSays, key-of-wrong-size, key-of-two-values, sa-of-wrong-size, sa-of-two-values}
+use Rattle.outcome.specs.Meets.{Meets, meets-8}
 use Rattle.outcome.proofs.Rows.{registration-row, lent-size}
+use Rattle.outcome.proofs.Meets.{eight-met}
+use Rattle.outcome.proofs.Demands.{passes-2-and-4}
 use Rattle.outcome.proofs.Members.{not-in-none, in-map, map-in}
 use Rattle.outcome.proofs.NamedKey.{to-under, under-to, to-lent, from-lent}
 
@@ -32,7 +36,7 @@ module _ (limits : Limits) (s : State) (now : ℕ) (lent : List ℕ) (f : Frame)
   abbrev size : ℕ
   size = wrappingSize limits s now lent f
 
-  -- numbers 2 and 4 let pass registrations, and rekeys with no WRAP_KEY
+  -- what numbers 2 and 4 let pass: registrations, and rekeys with no WRAP_KEY
   module _ (fit : Registration f ⊎ ((f .header .exchange ≡ 41) × (wrapKeysOf f ≡ []))) where
     -- a rekey reaches nothing
     reached-registers : (k : ℕ) (x : List ℕ) → Reached roots (entriesOf f) size k x → Registration f
@@ -52,7 +56,8 @@ module _ (limits : Limits) (s : State) (now : ℕ) (lent : List ℕ) (f : Frame)
     of-entries-says (refusals.two-values k x y r q d) =
         key-of-two-values (reached-registers k x r) k x y (gives k x r) (gives k y q) d
 
-    opens : (a : GroupSaPolicy) (x : List ℕ) → CopyOpens roots (entriesOf f) size (announcedAs f a .copies) x → OpensUnder limits s now lent f a x
+    opens : (a : GroupSaPolicy) (x : List ℕ) → CopyOpens roots (entriesOf f) size (announcedAs f a .copies) x →
+        OpensUnder limits s now lent f a x
     opens a x o = to-under limits s now lent f fit a x o
 
     of-copies-says : (a : GroupSaPolicy) → In a (announced f) → CopiesEight roots (entriesOf f) size (announcedAs f a) → Says
@@ -66,11 +71,13 @@ module _ (limits : Limits) (s : State) (now : ℕ) (lent : List ℕ) (f : Frame)
         let r = in-map (announcedAs f) b (announced f) m in
         of-copies-says (r .item) (r .stands) (subst (CopiesEight roots (entriesOf f) size) (r .is) h)
 
-    copies-eight : (a : GroupSaPolicy) → In a (announced f) → CopiesEight roots (entriesOf f) size (announcedAs f a) → EightOf limits s now lent f
+    copies-eight : (a : GroupSaPolicy) → In a (announced f) → CopiesEight roots (entriesOf f) size (announcedAs f a) →
+        EightOf limits s now lent f
     unfolding announcedKeys
     copies-eight a m h = of-copies (announcedAs f a) (map-in (announcedAs f) (announcedAs f a) (announced f) a m refl) h
 
-    under : (a : GroupSaPolicy) (x : List ℕ) → OpensUnder limits s now lent f a x → CopyOpens roots (entriesOf f) size (announcedAs f a .copies) x
+    under : (a : GroupSaPolicy) (x : List ℕ) → OpensUnder limits s now lent f a x →
+        CopyOpens roots (entriesOf f) size (announcedAs f a .copies) x
     under a x o = under-to limits s now lent f a x o
 
     says-eight : Says → EightOf limits s now lent f
@@ -81,6 +88,9 @@ module _ (limits : Limits) (s : State) (now : ℕ) (lent : List ℕ) (f : Frame)
     says-eight (sa-of-wrong-size a m x o d) = copies-eight a m (refusals.wrong-size x (under a x o) d)
     says-eight (sa-of-two-values a m x y o p d) = copies-eight a m (refusals.two-values x y (under a x o) (under a y p) d)
 
-    -- THE CLAIM
-    pub eight-exactly : EightOf limits s now lent f ↔ EightSays limits s now lent f
-    eight-exactly = (eight-says, says-eight)
+  -- THE CLAIM, of a frame that numbers 2 and 4 let pass ("each is judged only when the lower ones don't apply")
+  pub eight-exactly : (octets : List ℕ) → frame octets ≡ whole f [] → (Meets limits s now lent octets 2 → ⊥) →
+      (Meets limits s now lent octets 4 → ⊥) → Meets limits s now lent octets 8 ↔ EightSays limits s now lent f
+  eight-exactly octets e no-2 no-4 =
+      let fit = passes-2-and-4 limits s now lent octets f e no-2 no-4 in
+      (λ m. eight-says fit (eight-met limits s now lent octets f e m), λ h. meets-8 f e (says-eight fit h))

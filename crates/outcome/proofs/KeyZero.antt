@@ -1,7 +1,7 @@
 -- KEY 0 OF A REKEY that number 2 lets pass is cut out of the Rekey SA over which it came.
 use Prim.Native.Nat.{ℕ}
-use mathlib.Core.Path.{_≡_, ap, sym, _∙_}
-use mathlib.Core.Bool.{true, not, _&&_}
+use mathlib.Core.Path.{_≡_, _∙_}
+use mathlib.Core.Bool.{true}
 use mathlib.Core.List.{List, []}
 use borrow.Author.Tests.{not-false}
 use lib.Dec.{eqb}
@@ -9,7 +9,6 @@ use lib.ListN.{length}
 use Rattle.octets.specs.Walk.{whole}
 use Rattle.octets.specs.Compare.{same}
 use Rattle.octets.proofs.Order.{same-eq}
-use Rattle.keys.specs.Lists.{any}
 use Rattle.keys.specs.Limits.{Limits}
 use Rattle.keys.proofs.Cases.{and-parts}
 use Rattle.frames.specs.Frame.{Frame, frame}
@@ -49,7 +48,8 @@ module _ (limits : Limits) (s : State) (now : ℕ) (lent octets : List ℕ) (f :
   unfolding named
   key-zero-of-rekey =
       let spi = f .header .spi in
-      let p = some-passes (overLiveRekey spi) (sasOf (s .table)) (passes-over-live limits s now f passes (rekeys (f .header .exchange) x)) in
+      let over = passes-over-live limits s now f passes (rekeys (f .header .exchange) x) in
+      let p = some-passes (overLiveRekey spi) (sasOf (s .table)) over in
       let b = p .one in
       let m = member-in b (sasOf (s .table)) (p .stands) in
       let q = and-parts (liveRekey b) (named rekey spi b) (p .passes) in

@@ -37,6 +37,8 @@ pub mod SamplesRekeys
 pub mod SamplesFrame
 pub mod SamplesChains
 pub mod SamplesTaken
+pub mod SamplesValued
+pub mod SamplesPaths
 pub mod SamplesEntries
 pub mod SamplesHold
 pub mod SamplesRead

@@ -2,14 +2,12 @@
 use native.Mathlib.Omega.{arith}
 use Prim.Native.Nat.{ℕ, suc, _≤_, _<_}
 use mathlib.Core.Path.{_≡_, refl, sym, subst}
-use mathlib.Core.Bool.{true}
 use mathlib.Core.Logic.{_⊎_, inl, inr, ⊎-elim}
 use mathlib.Core.List.{List, []}
 use Rattle.octets.specs.Walk.{whole, broken}
 use Rattle.keys.specs.Limits.{Limits}
 use Rattle.frames.specs.Frame.{Frame, frame}
 use Rattle.state.specs.declared.State.{State}
-use Rattle.clauses.specs.Refusals.{applies, two, three, four, five, six, seven}
 use Rattle.outcome.specs.Answer.{Condition, EightOf, NineOf, conditions}
 use Rattle.outcome.specs.After.{After}
 use Rattle.outcome.specs.Meets.{Meets, meets-1, meets-2, meets-3, meets-4, meets-5, meets-6, meets-7, meets-8, meets-9, Refused}
@@ -79,7 +77,10 @@ module _ (limits : Limits) (s : State) (now : ℕ) (lent octets : List ℕ) wher
         subst (λ (g : Frame). Holds (conditions limits s now lent g) n) (one-whole (frame octets) (b .tree) f [] [] (b .layout) e)
         (b .holds)) (meets-by n m)
 
-  -- 9 is met by the tree
+  -- 8 and 9 are met by the tree
+  pub eight-met : (f : Frame) → frame octets ≡ whole f [] → Met 8 → EightOf limits s now lent f
+  eight-met f e (meets-8 g d h) = subst (λ (x : Frame). EightOf limits s now lent x) (one-whole (frame octets) g f [] [] d e) h
+
   pub nine-met : (f : Frame) → frame octets ≡ whole f [] → Met 9 → NineOf limits s now lent f
   nine-met f e (meets-9 g d h) = subst (λ (x : Frame). NineOf limits s now lent x) (one-whole (frame octets) g f [] [] d e) h
 

@@ -6,8 +6,6 @@ use mathlib.Core.Logic.{_⊎_, ⊎-elim}
 use mathlib.Core.List.{List, [], _∷_, map}
 use lib.ListN.{length}
 use Rattle.keys.specs.Limits.{Limits}
-use Rattle.keywrap.specs.Opens.{Opens}
-use Rattle.attributes.specs.Tree.{SaKey}
 use Rattle.policies.specs.Policy.{GroupSaPolicy}
 use Rattle.frames.specs.Frame.{Frame}
 use Rattle.frames.specs.declared.exchanges.Exchange.{Exchange}
@@ -17,7 +15,6 @@ use Rattle.state.specs.Held.{keysOf}
 use Rattle.clauses.specs.Contents.{rowOf, wrapKeysOf}
 use Rattle.chains.specs.Chain.{In, Root, root, Reached, Ends}
 use Rattle.chains.proofs.Determined.{ends-by, last-entry}
-use Rattle.keys.specs.Kinds.{valueOf}
 use Rattle.outcome.specs.Roots.{ownKey, keyZero, heldRoot, rootsOf, entriesOf, wrappingSize}
 use Rattle.outcome.specs.NamedKey.{Registration, lentRoot, Given, Named, lent-key, own-key, last-of-chain, held-key, OpensUnder}
 use Rattle.outcome.proofs.Rows.{names-held, registration-row, rekeys, lent-roots, lent-size}

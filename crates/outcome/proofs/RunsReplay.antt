@@ -19,7 +19,6 @@ use Rattle.state.specs.State.{stateFormed, sweptState}
 use Rattle.state.proofs.Laws.{after-more, after-last}
 use Rattle.clauses.specs.Contents.{rowOf}
 use Rattle.clauses.specs.Number3.{notAcceptable, three-ofMember}
-use Rattle.clauses.specs.Refusals.{one}
 use Rattle.outcome.specs.After.{newRekey, leastBy, leastAfterwards, After}
 use Rattle.outcome.specs.Outcome.{Judged, refused, accepted, Outcome, no-layout, by-tree}
 use Rattle.outcome.specs.Run.{Step, Takes, answered, swept, left, Run, ends, goes, Throughout, Quiet, AllQuiet, LiveRekey}

@@ -3,6 +3,7 @@ use native.Mathlib.Omega.{arith}
 use Prim.Native.Nat.{ℕ, _≤_}
 use mathlib.Core.Path.{_≡_, refl, ap, sym, _∙_, subst}
 use mathlib.Core.Bool.{Bool, true, false, _||_}
+use mathlib.Core.Logic.{_⊎_, inl, inr}
 use mathlib.Core.List.{List, [], _∷_, List·Memᴰ·eq-of-singleton}
 use lib.Dec.{T, eqb}
 use lib.ListN.{length}
@@ -12,7 +13,7 @@ use Rattle.keywrap.specs.Wrap.{wrapOf}
 use Rattle.keywrap.specs.Opens.{Opens}
 use Rattle.keywrap.proofs.Determined.{opens-one}
 use Rattle.keys.specs.Algorithms.{sizeOf}
-use Rattle.keys.proofs.Sizes.{wrapping-size}
+use Rattle.keys.proofs.Sizes.{wrapping-size, among-is}
 use Rattle.attributes.specs.Tree.{WrapKey, SaKey}
 use Rattle.chains.specs.Chain.{In, Root, Chain, root, step, Ends, CopyOpens}
 use Rattle.chains.specs.Refusals.{Announced, EntriesEight, CopiesEight, wrong-size, two-values, Eight, of-entries, of-copies, Nine, KeyOf}
@@ -50,6 +51,23 @@ key-size n t = wrapping-size n ∙ by (eqb n 16) (eqb n 24) (eqb n 32) t
     by false true c t = refl
     by false false true t = refl
     by false false false t = absurd t
+
+-- a key's octet count is within that of what can be wrapped
+key-range : (v : List ℕ) → Key v → (1 ≤ length v) × (length v ≤ 256)
+key-range v k = by (among-is 16 24 32 (length v) (sym (wrapping-size (length v)) ∙ key-size (length v) (k .size)))
+  where
+    by : (length v ≡ 16) ⊎ ((length v ≡ 24) ⊎ (length v ≡ 32)) → (1 ≤ length v) × (length v ≤ 256)
+    by (inl e) = (omega arith, omega arith)
+    by (inr (inl e)) = (omega arith, omega arith)
+    by (inr (inr e)) = (omega arith, omega arith)
+
+-- a key wrapped under a key
+module _ (k v : List ℕ) (is : Key k) (key : Key v) where
+  pub wraps : Opens k (wrapOf k v) v
+  wraps = let n = key-range v key in opens-own k v is (key .small) (n .0) (n .1)
+
+  pub wraps-only : (y : List ℕ) → Opens k (wrapOf k v) y → y ≡ v
+  wraps-only = let n = key-range v key in opens-only k v is (key .small) (n .0) (n .1)
 
 -- ---- a lent key as key 0, entries with no Key ID 0, and an announced SA with one copy under KWK ID 0 of 20 octets x
 abbrev pub zeroRoot : List ℕ → Root

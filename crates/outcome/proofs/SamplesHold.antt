@@ -1,4 +1,4 @@
--- EACH OF DOCUMENT 01'S SAMPLES MARKED P HOLDS.
+-- EACH OF DOCUMENT 01'S SAMPLES MARKED P HOLDS, and the row of ours.
 use mathlib.Core.Path.{refl, ap, _∙_}
 use Rattle.octets.specs.Numbers.{number}
 use Rattle.octets.specs.Walk.{chain, chainUpTo, many}
@@ -8,10 +8,11 @@ use Rattle.sa.specs.Entry.{due, dueBy}
 use Rattle.sa.proofs.Samples.{wrapped-elapsed, wrapped-not-due, wrapped-due}
 use Rattle.sa.proofs.Samples as clock
 use Rattle.outcome.specs.Samples.{Sample, clock-wraps, delay-zero, least-seven, last-id, two-steps, circle, two-values, lent-of-28}
-use Rattle.outcome.specs.Samples.{key-length-128, Says}
+use Rattle.outcome.specs.Samples.{key-length-128, key-tree, Says}
 use Rattle.outcome.proofs.SamplesRekeys.{least-seven-holds, last-id-holds}
 use Rattle.outcome.proofs.SamplesFrame.{lent-of-28-holds}
-use Rattle.outcome.proofs.SamplesEntries.{two-steps-holds, circle-holds, two-values-holds}
+use Rattle.outcome.proofs.SamplesPaths.{two-steps-holds, key-tree-holds}
+use Rattle.outcome.proofs.SamplesEntries.{circle-holds, two-values-holds}
 
 clock-wraps-holds : Says clock-wraps
 unfolding due
@@ -36,3 +37,4 @@ samples-hold circle = circle-holds
 samples-hold two-values = two-values-holds
 samples-hold lent-of-28 = lent-of-28-holds
 samples-hold key-length-128 = key-length-holds
+samples-hold key-tree = key-tree-holds

@@ -33,10 +33,11 @@ use Rattle.outcome.specs.Outcome.{Outcome}
 use Rattle.outcome.specs.Run.{LiveRekey, ends}
 use Rattle.outcome.specs.Samples.{deleting, Around, registering, entry, Keying, Wrapping, Registers}
 use Rattle.outcome.specs.Samples.{Sample, clock-wraps, delay-zero, least-seven, last-id, two-steps, circle, two-values, lent-of-28}
-use Rattle.outcome.specs.Samples.{key-length-128}
+use Rattle.outcome.specs.Samples.{key-length-128, key-tree}
 use Rattle.outcome.proofs.RunsReplay.{stays-live}
 use Rattle.outcome.proofs.SamplesRekeys.{last-id-holds}
-use Rattle.outcome.proofs.SamplesRead.{around, Rekeyed, two-steps-read, two-values-read, circle-read, plain-read, rekeys-read}
+use Rattle.outcome.proofs.SamplesRead.{around, Rekeyed, two-steps-read, two-values-read, tree-read, circle-read, plain-read}
+use Rattle.outcome.proofs.SamplesRead.{rekeys-read}
 
 -- ---- what a row asks for, as in specs/Samples.antt; the octets of its frame are below 256
 pub record Messages (l : Least → Type 0) (ids : List ℕ → Type 0) : Type 0 where
@@ -81,6 +82,18 @@ pub record Values : Type 0 where
   pub small : Octets octets
   pub registers : Registers r lent x (entry 5 0 (wrapOf lent v) ∷ entry 5 9 (wrapOf v₉ w) ∷ entry 9 0 (wrapOf lent v₉) ∷ []) octets
 
+pub record Tree : Type 0 where
+  pub r : Around
+  pub lent : List ℕ
+  pub x : List ℕ
+  pub v₁ : List ℕ
+  pub v₃ : List ℕ
+  pub v₇ : List ℕ
+  pub fit : Wrapping lent v₁ × Wrapping lent v₃ × Wrapping lent v₇
+  pub octets : List ℕ
+  pub small : Octets octets
+  pub registers : Registers r lent x (entry 1 3 (wrapOf v₃ v₁) ∷ entry 3 7 (wrapOf v₇ v₃) ∷ entry 7 0 (wrapOf lent v₇) ∷ []) octets
+
 pub record Lent : Type 0 where
   pub r : Around
   pub lent : List ℕ
@@ -104,6 +117,7 @@ Inhabited circle = Entries (λ lent w₅ w₉. entry 5 9 w₅ ∷ entry 9 5 w₉
 Inhabited two-values = Values
 Inhabited lent-of-28 = Lent
 Inhabited key-length-128 = Unit {0}
+Inhabited key-tree = Tree
 
 -- ---- a member with one live Rekey SA
 same-octets : (n k : ℕ) → k < 256 → Octets (replicate n k)
@@ -238,3 +252,18 @@ samples-inhabited lent-of-28 =
       reads = plain-read .reads;
     }
 samples-inhabited key-length-128 = tt
+samples-inhabited key-tree =
+    let read = tree-read lentKey (replicate 20 7) (replicate 16 9) (key-16 1 (omega arith)) refl keying (fits 9 (omega arith))
+    (replicate 16 5) (replicate 16 6) (fits 5 (omega arith)) (fits 6 (omega arith)) in
+    record {
+      r = around;
+      lent = lentKey;
+      x = replicate 20 7;
+      v₁ = replicate 16 5;
+      v₃ = replicate 16 6;
+      v₇ = replicate 16 9;
+      fit = (fits 5 (omega arith), fits 6 (omega arith), fits 9 (omega arith));
+      octets = read .octets;
+      small = read .small;
+      registers = record { key = key-16 1 (omega arith); keying = keying; reads = read .reads };
+    }

@@ -90,6 +90,13 @@ unfolding frame payload body policy suite saBody selector transform bag attribut
     selectorOctets gsaOctets firsts entryOctets registrationOctets
 three-read w a b c = refl
 
+path-read : (w a b c : List ℕ) →
+    frame (registrationOctets 1 4 168 112 w (entryOctets 1 3 a ++ (entryOctets 3 7 b ++ entryOctets 7 0 c)))
+    ≡ whole (registering around (firsts 32 w) (entry 1 3 (firsts 24 a) ∷ entry 3 7 (firsts 24 b) ∷ entry 7 0 (firsts 24 c) ∷ [])) []
+unfolding frame payload body policy suite saBody selector transform bag attribute many chain chainUpTo number valuesOf group anywhere around
+    selectorOctets gsaOctets firsts entryOctets registrationOctets
+path-read w a b c = refl
+
 -- ---- keys of 16 octets wrap to 24, the 20 keying octets to 32
 all-firsts : (n : ℕ) (w : List ℕ) → length w ≡ n → firsts n w ≡ w
 unfolding firsts
@@ -193,6 +200,27 @@ module _ (lent x v₉ : List ℕ) (key : Key lent) (size : length lent ≡ 16) (
         ∙ (λ i.
         whole (registering around (x-is i)
         (entry 5 0 (under lent v key kv i) ∷ entry 5 9 (under v₉ w (w₉ .key) kw i) ∷ entry 9 0 (under lent v₉ key w₉ i) ∷ [])) []);
+  }
+
+  pub tree-read : (v₁ v₃ : List ℕ) → Wrapping lent v₁ → Wrapping lent v₃ →
+      Read (registering around (wrapOf lent x)
+      (entry 1 3 (wrapOf v₃ v₁) ∷ entry 3 7 (wrapOf v₉ v₃) ∷ entry 7 0 (wrapOf lent v₉) ∷ []))
+  tree-read v₁ v₃ k₁ k₃ = record {
+    octets = registrationOctets 1 4 168 112 (wrapOf lent x)
+        (entryOctets 1 3 (wrapOf v₃ v₁) ++ (entryOctets 3 7 (wrapOf v₉ v₃) ++ entryOctets 7 0 (wrapOf lent v₉)));
+    small =
+        let a = entryOctets 1 3 (wrapOf v₃ v₁) in
+        let b = entryOctets 3 7 (wrapOf v₉ v₃) in
+        let c = entryOctets 7 0 (wrapOf lent v₉) in
+        registration-octets 1 4 168 112 (wrapOf lent x) (a ++ (b ++ c)) (omega arith) (omega arith) (omega arith) (omega arith) x-octets
+        (join-octets a (b ++ c) (entry-octets 1 3 (wrapOf v₃ v₁) (omega arith) (omega arith) (under-octets v₃ v₁ (k₃ .key) k₁))
+        (join-octets b c (entry-octets 3 7 (wrapOf v₉ v₃) (omega arith) (omega arith) (under-octets v₉ v₃ (w₉ .key) k₃))
+        (entry-octets 7 0 (wrapOf lent v₉) (omega arith) (omega arith) (under-octets lent v₉ key w₉))));
+    reads =
+        path-read (wrapOf lent x) (wrapOf v₃ v₁) (wrapOf v₉ v₃) (wrapOf lent v₉)
+        ∙ (λ i.
+        whole (registering around (x-is i)
+        (entry 1 3 (under v₃ v₁ (k₃ .key) k₁ i) ∷ entry 3 7 (under v₉ v₃ (w₉ .key) k₃ i) ∷ entry 7 0 (under lent v₉ key w₉ i) ∷ [])) []);
   }
 
 pub circle-read : (lent x a b : List ℕ) → Key lent → Keying x → length a ≡ 24 → Octets a → length b ≡ 24 → Octets b →

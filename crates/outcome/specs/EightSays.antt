@@ -16,7 +16,8 @@ use Rattle.outcome.specs.NamedKey.{Registration, Given, OpensUnder}
 
 pub data EightSays (limits : Limits) (s : State) (now : ℕ) (lent : List ℕ) (f : Frame) : Type 0 where
   -- a wrapping key of another size than the lent default key
-  key-of-wrong-size : Registration f → (k : ℕ) (x : List ℕ) → Given lent f k x → (length x ≡ length lent → ⊥) → EightSays limits s now lent f
+  key-of-wrong-size : Registration f → (k : ℕ) (x : List ℕ) → Given lent f k x → (length x ≡ length lent → ⊥) →
+      EightSays limits s now lent f
   key-of-two-values : Registration f → (k : ℕ) (x y : List ℕ) → Given lent f k x → Given lent f k y → (x ≡ y → ⊥) →
       EightSays limits s now lent f
   -- an announced SA's key with other octets than its policy needs

@@ -1,5 +1,5 @@
--- THE KEY THAT A KWK ID NAMES, and what a copy of an announced SA's key opens to, in the customer's words: the vocabulary of the theorems, by
--- exchange type and by where a key stands in the frame. No contract cites this file.
+-- THE KEY THAT A KWK ID NAMES, and what a copy of an announced SA's key opens to, in the customer's words: the vocabulary of the theorems,
+-- by exchange type and by where a key stands in the frame. No contract cites this file.
 use Prim.Native.Nat.{ℕ}
 use mathlib.Core.Path.{_≡_}
 use mathlib.Core.Bool.{true}

@@ -1,6 +1,6 @@
--- DOCUMENT 01'S SAMPLES MARKED P, one row each, with what it says of the definitions. "What a sample does not mention is fit; entries stand
--- in a registration." No row assumes that something opens: what opens is the wrapping of any octets under any key, and octets are any that
--- read as the row's frame.
+-- DOCUMENT 01'S SAMPLES MARKED P, one row each, with what it says of the definitions, and one row of ours. "What a sample does not mention is
+-- fit; entries stand in a registration." No row assumes that something opens: what opens is the wrapping of any octets under any key, and
+-- octets are any that read as the row's frame.
 use Prim.Native.Nat.{ℕ, _≤_}
 use mathlib.Core.Path.{_≡_}
 use mathlib.Core.Bool.{Bool, true, false, cond}
@@ -154,6 +154,12 @@ TwoSteps = (r : Around) (now : ℕ) (lent x v₅ v₉ octets : List ℕ) → Wra
     Registers r lent x (entry 5 9 (wrapOf v₉ v₅) ∷ entry 9 0 (wrapOf lent v₉) ∷ []) octets →
     Outcome limits (newState limits) now lent octets 0 (registered r x (heldWith 5 v₅ ∷ heldWith 9 v₉ ∷ []))
 
+-- RFC 9838, Appendix A.2, the Member Key Bag of member A: "MP(3{1},7{3},GSK_w{7})", "the Key Path K_sa1->1->3->7->GSK_w"
+abbrev KeyTree : Type 0
+KeyTree = (r : Around) (now : ℕ) (lent x v₁ v₃ v₇ octets : List ℕ) → Wrapping lent v₁ → Wrapping lent v₃ → Wrapping lent v₇ →
+    Registers r lent x (entry 1 3 (wrapOf v₃ v₁) ∷ entry 3 7 (wrapOf v₇ v₃) ∷ entry 7 0 (wrapOf lent v₇) ∷ []) octets →
+    Outcome limits (newState limits) now lent octets 0 (registered r x (heldWith 1 v₁ ∷ heldWith 3 v₃ ∷ heldWith 7 v₇ ∷ []))
+
 -- whatever is wrapped
 abbrev Circle : Type 0
 Circle = (r : Around) (now : ℕ) (lent x w₅ w₉ octets : List ℕ) → Registers r lent x (entry 5 9 w₅ ∷ entry 9 5 w₉ ∷ []) octets →
@@ -196,6 +202,8 @@ pub data Sample : Type 0 where
   lent-of-28 : Sample
   -- "octets 80 0e 00 80 read as Key Length 128"
   key-length-128 : Sample
+  -- NOT OF DOCUMENT 01, ours beside its nine: entries (1 under 3), (3 under 7), (7 under 0), all opening: held 1, 3, 7
+  key-tree : Sample
 
 abbrev pub Says : Sample → Type 0
 Says clock-wraps = ClockWraps
@@ -207,3 +215,4 @@ Says circle = Circle
 Says two-values = TwoValues
 Says lent-of-28 = LentOf28
 Says key-length-128 = KeyLength128
+Says key-tree = KeyTree
