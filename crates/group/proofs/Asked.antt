@@ -4,15 +4,15 @@ use native.Mathlib.Omega.{arith}
 use Prim.Native.Nat.{ℕ}
 use mathlib.Core.Path.{_≡_, ap, _∙_}
 use mathlib.Core.Bool.{true, false}
-use mathlib.Core.List.{List, []}
+use mathlib.Core.List.{List}
 use borrow.Author.Tests.{eq-eqb, ne-eqb}
 use lib.Dec.{eqb}
 use lib.ListN.{length}
-use Rattle.octets.specs.Walk.{whole}
 use Rattle.keys.specs.Limits.{limits}
 use Rattle.keys.specs.Kinds.{padded}
 use Rattle.policies.specs.Policy.{GroupSaPolicy}
-use Rattle.frames.specs.Frame.{Frame, frame}
+use Rattle.frames.specs.Frame.{Frame}
+use Rattle.frames.specs.Grammar.{IsFrame}
 use Rattle.sa.specs.declared.entry.Condition.the-variants.{Live}
 use Rattle.clauses.specs.Contents.{announced}
 use Rattle.clauses.specs.Fitness.{encryptionOctets, keyWrapOctets}
@@ -26,7 +26,7 @@ use Rattle.group.specs.declared.receive.Answer.the-variants as answer
 use Rattle.group.specs.Member.{answerOf, answered, saAnswer}
 use Rattle.group.specs.Receive.{Receives}
 
-module _ (m : Member) (now : ℕ) (lent s : List ℕ) (f : Frame) (e : frame s ≡ whole f []) (next : Member)
+module _ (m : Member) (now : ℕ) (lent s : List ℕ) (f : Frame) (e : IsFrame s f) (next : Member)
     (r : Receives m now lent s answer.Accepted next) where
   -- the answer has the octets that every copy of the SA's key opens to, as many as its policy needs, live; of a Rekey SA the octet counts
   -- of its policy's two parts

@@ -18,9 +18,10 @@ use Rattle.frames.proofs.FrameGrammar.{read-frame, frame-read}
 use Rattle.state.specs.declared.State.{State}
 use Rattle.clauses.specs.Refusals.{refusal}
 use Rattle.outcome.specs.Answer.{Condition, First, conditions}
-use Rattle.outcome.specs.Outcome.{Judged, refused, accepted, Outcome, no-layout, by-tree}
+use Rattle.outcome.specs.Outcome.{Judged, refused, accepted, Outcome}
 use Rattle.outcome.proofs.Answering.{answers-clauses}
 use Rattle.outcome.proofs.Determined.{outcome-one}
+use Rattle.outcome.proofs.Readings.{outcome-broken, outcome-read}
 use Rattle.group.specs.declared.Member.{Member}
 use Rattle.group.specs.declared.receive.Answer.{Answer}
 use Rattle.group.specs.declared.receive.Answer.the-variants as answer
@@ -98,11 +99,12 @@ module _ (m : Member) (now : ℕ) (lent octets : List ℕ) where
       Receives m now lent octets a next
   receives-broken o e a next n g =
       subst (λ (x : Member). Outcome limits (m .state) now lent octets (numberOf a) (x .state)) (sym g)
-      (subst (λ (x : ℕ). Outcome limits (m .state) now lent octets x (m .state)) (sym n) (no-layout o e))
+      (subst (λ (x : ℕ). Outcome limits (m .state) now lent octets x (m .state)) (sym n)
+      (outcome-broken limits (m .state) now lent octets o e))
 
   pub receives-tree : (f : Frame) → frame octets ≡ whole f [] → (a : Answer) (next : Member) →
       Judged limits (m .state) now lent f (numberOf a) (next .state) → Receives m now lent octets a next
-  receives-tree f e a next j = by-tree f e j
+  receives-tree f e a next j = outcome-read limits (m .state) now lent octets f e (numberOf a) (next .state) j
 
   -- "Every public call's promise determines its answer and the member .. after it, also on refusal, for all inputs"
   abbrev numbered : ℕ → Answer

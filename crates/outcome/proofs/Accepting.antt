@@ -2,13 +2,14 @@
 use Prim.Native.Nat.{ℕ}
 use mathlib.Core.Path.{_≡_, refl, ap, sym, _∙_, subst}
 use mathlib.Core.Logic.{_⊎_, inl, inr, ⊎-elim}
-use mathlib.Core.List.{List, []}
+use mathlib.Core.List.{List}
 use lib.ListN.{length}
-use Rattle.octets.specs.Walk.{whole}
 use Rattle.keys.specs.Limits.{Limits}
 use Rattle.attributes.specs.Tree.{SaKey}
 use Rattle.policies.specs.Policy.{GroupSaPolicy}
-use Rattle.frames.specs.Frame.{Frame, frame}
+use Rattle.frames.specs.Frame.{Frame}
+use Rattle.frames.specs.Grammar.{IsFrame}
+use Rattle.frames.proofs.FrameGrammar.{one-tree}
 use Rattle.sa.specs.declared.entry.Sa.{Sa}
 use Rattle.table.specs.Table.{sasOf}
 use Rattle.table.proofs.Kept.{sas-of-table}
@@ -22,7 +23,6 @@ use Rattle.outcome.specs.Answer.{EightOf, NineOf, Answers}
 use Rattle.outcome.specs.After.{oldSas, saFrom, insertAll, After}
 use Rattle.outcome.specs.Demand3.{NewBy, EnteredBy}
 use Rattle.outcome.specs.Outcome.{Judged, accepted, Outcome, by-tree}
-use Rattle.outcome.proofs.Readings.{one-whole}
 use Rattle.outcome.proofs.Members.{in-map, map-in}
 use Rattle.outcome.proofs.Enters.{each-enters, entered-is, in-all, all-in, Stayed, old-stayed, stayed-old}
 use Rattle.outcome.proofs.HeldList.{not-other}
@@ -155,11 +155,11 @@ module _ (limits : Limits) (s : State) (now : ℕ) (lent : List ℕ) where
           subst (In b) (sym sas-are) (all-in b (after .new) (oldSas s now f) (inr (stayed-old s now f b r)))
 
   -- ---- an outcome of 0, by the frame's tree
-  module _ (octets : List ℕ) (f : Frame) (e : frame octets ≡ whole f []) where
+  module _ (octets : List ℕ) (f : Frame) (e : IsFrame octets f) where
     by-judged : (next : State) → Judged limits s now lent f 0 next → Answers limits s now lent f 0 × After limits s now lent f next
     by-judged _ (accepted next p a) = (p, a)
 
     pub whole-accepted : (next : State) → Outcome limits s now lent octets 0 next →
         Answers limits s now lent f 0 × After limits s now lent f next
     whole-accepted next (by-tree g d j) =
-        by-judged next (subst (λ (x : Frame). Judged limits s now lent x 0 next) (one-whole (frame octets) g f [] [] d e) j)
+        by-judged next (subst (λ (x : Frame). Judged limits s now lent x 0 next) (one-tree octets g f d e) j)

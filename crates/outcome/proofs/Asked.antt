@@ -3,18 +3,18 @@ use native.Mathlib.Omega.{arith}
 use Prim.Native.Nat.{ℕ, _-_, _≤_}
 use mathlib.Core.Path.{_≡_}
 use mathlib.Core.Bool.{true}
-use mathlib.Core.List.{List, [], _++_}
+use mathlib.Core.List.{List, _++_}
 use borrow.Author.Tests.{eq-eqb, eqb-true}
 use lib.Dec.{eqb}
 use lib.ListN.{length, take, replicate}
 use lib.Seq.{take-append-seam, take-at}
-use Rattle.octets.specs.Walk.{whole}
 use Rattle.octets.specs.Compare.{same}
 use Rattle.octets.proofs.Order.{eq-same}
 use Rattle.keys.specs.Limits.{Limits}
 use Rattle.keys.proofs.Cases.{and-parts, and-whole}
 use Rattle.policies.specs.Policy.{GroupSaPolicy}
-use Rattle.frames.specs.Frame.{Frame, frame}
+use Rattle.frames.specs.Frame.{Frame}
+use Rattle.frames.specs.Grammar.{IsFrame}
 use Rattle.sa.specs.Entry.{spiOf, named, espSa, rekeySa}
 use Rattle.sa.specs.declared.entry.Condition.the-variants.{Live}
 use Rattle.sa.specs.declared.entry.Sa.{Sa}
@@ -68,7 +68,7 @@ module _ (a : GroupSaPolicy) (x : List ℕ) (n : length x ≡ needOf a) where
       (eq-eqb (saFrom a x .protocol) (a .protocol) (made-protocol a x k)) (eq-same (spiOf (saFrom a x)) (a .spi) (made-spi a x k))
 
 module _ (limits : Limits) (enough : limits .wrapKeys ≤ limits .heldKeys) (s : State) (now : ℕ) (lent octets : List ℕ) (f : Frame)
-    (e : frame octets ≡ whole f []) (next : State) (o : Outcome limits s now lent octets 0 next) where
+    (e : IsFrame octets f) (next : State) (o : Outcome limits s now lent octets 0 next) where
   -- the question about an announced SA's protocol and SPI finds an SA with the octets that every copy of its key opens to, as many as its
   -- policy needs, live, and a Rekey SA with the octet counts of its policy's two parts
   pub record Found (p : GroupSaPolicy) : Type 0 where

@@ -6,11 +6,11 @@
 -- the table as document 01 enters it, with the octets that every such copy opens to, and the rest of the member is as that document leaves
 -- it. A chain is defined without running any search."
 use Prim.Native.Nat.{ℕ, _≤_}
-use mathlib.Core.Path.{_≡_, subst}
-use mathlib.Core.List.{List, []}
-use Rattle.octets.specs.Walk.{whole}
+use mathlib.Core.Path.{subst}
+use mathlib.Core.List.{List}
 use Rattle.keys.specs.Limits.{Limits}
-use Rattle.frames.specs.Frame.{Frame, frame}
+use Rattle.frames.specs.Frame.{Frame}
+use Rattle.frames.specs.Grammar.{IsFrame}
 use Rattle.state.specs.declared.State.{State}
 use Rattle.outcome.specs.Outcome.{Outcome}
 use Rattle.outcome.specs.Demand3.{OnAcceptance, Demand3}
@@ -22,7 +22,7 @@ use Rattle.outcome.proofs.Runs.{accepted-formed}
 
 -- within limits by which what a registration reaches can be held
 module _ (limits : Limits) (enough : limits .wrapKeys ≤ limits .heldKeys) (s : State) (now : ℕ) (lent octets : List ℕ) (f : Frame)
-    (e : frame octets ≡ whole f []) where
+    (e : IsFrame octets f) where
   on-acceptance : (next : State) → Outcome limits s now lent octets 0 next → OnAcceptance limits s now lent f next
   on-acceptance next o =
       let t = taken limits s now lent octets f next e o in

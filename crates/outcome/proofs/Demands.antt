@@ -7,12 +7,12 @@ use mathlib.Core.Logic.{_⊎_, inl, inr, ⊎-elim, _↔_}
 use mathlib.Core.List.{List, [], _∷_}
 use borrow.Author.Tests.{not-false}
 use lib.ListN.{length}
-use Rattle.octets.specs.Walk.{whole, broken}
 use Rattle.keys.specs.Limits.{Limits}
 use Rattle.keys.specs.Kinds.{padded}
 use Rattle.keys.proofs.Cases.{lt-cases}
 use Rattle.policies.specs.Policy.{GroupSaPolicy}
-use Rattle.frames.specs.Frame.{Frame, frame}
+use Rattle.frames.specs.Frame.{Frame}
+use Rattle.frames.specs.Grammar.{IsFrame}
 use Rattle.frames.specs.declared.exchanges.Exchange.{Exchange}
 use Rattle.sa.specs.declared.entry.Sa.{Sa}
 use Rattle.sa.specs.Entry.{isLive}
@@ -30,7 +30,7 @@ use Rattle.chains.specs.Chain.{In, Root}
 use Rattle.outcome.specs.Roots.{rootsOf, entriesOf, wrappingSize}
 use Rattle.outcome.specs.Answer.{NineOf}
 use Rattle.outcome.specs.After.{leastAfterwards}
-use Rattle.outcome.specs.Outcome.{Outcome, no-layout}
+use Rattle.outcome.specs.Outcome.{NoTree, Outcome, no-layout}
 use Rattle.outcome.specs.Meets.{Meets, meets-2, meets-4, Refused, Accepted}
 use Rattle.outcome.proofs.Meets.{at-most-9, nine-met}
 use Rattle.outcome.proofs.Meets.{refused-is, is-refused, refused-layout, accepted-is, is-accepted}
@@ -72,11 +72,12 @@ module _ (limits : Limits) (s : State) (now : ℕ) (lent octets : List ℕ) wher
   one-of-nine zero next o = omega arith
   one-of-nine (suc n) next o = at-most-9 limits s now lent octets (suc n) (refused-is limits s now lent octets n next o .meets)
 
-  -- number 1: "any first octet, length, .. or end that breaks the layouts"
-  pub answers-1 : (next : State) → Outcome limits s now lent octets 1 next ↔ (((o : ℕ) × (frame octets ≡ broken o)) × (next ≡ s))
-  answers-1 next = (
+  -- number 1, by the grammar alone: "under 28 or over 16,384 octets, header length .., major version not 2, or any first octet, length, ..
+  -- or end that breaks the layouts". It is given exactly when no tree is laid out as the octets
+  pub one-exactly : (next : State) → Outcome limits s now lent octets 1 next ↔ (NoTree octets × (next ≡ s))
+  one-exactly next = (
     λ o. let r = refused-is limits s now lent octets 0 next o in (refused-layout limits s now lent octets next r, r .stays),
-    λ p. subst (Outcome limits s now lent octets 1) (sym (p .1)) (no-layout (p .0 .0) (p .0 .1)),
+    λ p. subst (Outcome limits s now lent octets 1) (sym (p .1)) (no-layout (p .0)),
   )
 
   -- "a refusal changes nothing in the member"
@@ -85,7 +86,7 @@ module _ (limits : Limits) (s : State) (now : ℕ) (lent octets : List ℕ) wher
   refusal-keeps (suc n) next o not-zero = refused-is limits s now lent octets n next o .stays
 
   -- ---- DEMAND 3, of a frame whose layout is whole
-  module _ (f : Frame) (e : frame octets ≡ whole f []) where
+  module _ (f : Frame) (e : IsFrame octets f) where
     -- "After an accepted registration the held list has exactly the Key IDs to which a chain of one or more entries leads from the lent
     -- default key, wherever the entries stand in the frame: each once, rising, with the value that every chain ending on it gives."
     pub held-after-registration : (next : State) → Outcome limits s now lent octets 0 next → Registration f →
@@ -234,7 +235,7 @@ module _ (limits : Limits) (s : State) (now : ℕ) (lent octets : List ℕ) wher
 
   -- "GSA_REKEY frames use the live Rekey SA's own, and the lent one is not read": with exchange type 41 the outcome is the same for another
   -- lent key
-  pub lent-not-read : ((f : Frame) → frame octets ≡ whole f [] → f .header .exchange ≡ 41) → (other : List ℕ) (n : ℕ) (next : State) →
+  pub lent-not-read : ((f : Frame) → IsFrame octets f → f .header .exchange ≡ 41) → (other : List ℕ) (n : ℕ) (next : State) →
       Outcome limits s now lent octets n next → Outcome limits s now other octets n next
   lent-not-read e other =
       same-outcome limits s now lent other octets (λ f d. rekeys (f .header .exchange) (e f d))

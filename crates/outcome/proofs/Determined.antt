@@ -8,7 +8,8 @@ use Rattle.keys.specs.Limits.{Limits}
 use Rattle.keys.specs.Kinds.{wrappingOf}
 use Rattle.attributes.specs.Tree.{WrapKey}
 use Rattle.policies.specs.Policy.{GroupSaPolicy}
-use Rattle.frames.specs.Frame.{Frame, frame}
+use Rattle.frames.specs.Frame.{Frame}
+use Rattle.frames.proofs.FrameGrammar.{one-tree}
 use Rattle.sa.specs.declared.entry.Sa.{Sa}
 use Rattle.state.specs.declared.State.{State}
 use Rattle.state.specs.declared.held.HeldKey.{HeldKey}
@@ -23,7 +24,6 @@ use Rattle.outcome.specs.Answer.{conditions}
 use Rattle.outcome.specs.After.{Enter, no-sa, one-more, saFrom, HeldAre, HeldBy, After}
 use Rattle.outcome.specs.Outcome.{Judged, refused, accepted, Outcome, no-layout, by-tree}
 use Rattle.outcome.proofs.First.{first-one}
-use Rattle.outcome.proofs.Readings.{not-both, one-whole}
 use Rattle.outcome.proofs.Members.{rising-one}
 
 -- ---- the member after acceptance
@@ -88,9 +88,9 @@ module _ (limits : Limits) (s : State) (now : ℕ) (lent : List ℕ) where
   -- outcomes of the same input are equal
   pub outcome-one : (octets : List ℕ) (n m : ℕ) (next after : State) → Outcome limits s now lent octets n next →
       Outcome limits s now lent octets m after → (n ≡ m) × (next ≡ after)
-  outcome-one octets _ _ _ _ (no-layout o e) (no-layout p d) = (refl, refl)
-  outcome-one octets _ m _ after (no-layout o e) (by-tree f d j) = absurd (not-both (frame octets) f [] o d e)
-  outcome-one octets n _ next _ (by-tree f d j) (no-layout o e) = absurd (not-both (frame octets) f [] o d e)
+  outcome-one octets _ _ _ _ (no-layout none) (no-layout no-other) = (refl, refl)
+  outcome-one octets _ m _ after (no-layout none) (by-tree f d j) = absurd (none f d)
+  outcome-one octets n _ next _ (by-tree f d j) (no-layout none) = absurd (none f d)
   outcome-one octets n m next after (by-tree f e j) (by-tree g d k) =
-      let t = one-whole (frame octets) f g [] [] e d in
+      let t = one-tree octets f g e d in
       judged-one g n m next after (subst (λ (x : Frame). Judged limits s now lent x n next) t j) k

@@ -7,8 +7,8 @@ use mathlib.Core.List.{List, []}
 use lib.ListN.{length}
 use Rattle.keys.specs.Limits.{Limits}
 use Rattle.policies.specs.Policy.{GroupSaPolicy}
-use Rattle.octets.specs.Walk.{whole}
-use Rattle.frames.specs.Frame.{Frame, frame}
+use Rattle.frames.specs.Frame.{Frame}
+use Rattle.frames.specs.Grammar.{IsFrame}
 use Rattle.state.specs.declared.State.{State}
 use Rattle.clauses.specs.Contents.{announced, wrapKeysOf}
 use Rattle.chains.specs.Chain.{In, Root, Reached, CopyOpens}
@@ -89,7 +89,7 @@ module _ (limits : Limits) (s : State) (now : ℕ) (lent : List ℕ) (f : Frame)
     says-eight (sa-of-two-values a m x y o p d) = copies-eight a m (refusals.two-values x y (under a x o) (under a y p) d)
 
   -- THE CLAIM, of a frame that numbers 2 and 4 let pass ("each is judged only when the lower ones don't apply")
-  pub eight-exactly : (octets : List ℕ) → frame octets ≡ whole f [] → (Meets limits s now lent octets 2 → ⊥) →
+  pub eight-exactly : (octets : List ℕ) → IsFrame octets f → (Meets limits s now lent octets 2 → ⊥) →
       (Meets limits s now lent octets 4 → ⊥) → Meets limits s now lent octets 8 ↔ EightSays limits s now lent f
   eight-exactly octets e no-2 no-4 =
       let fit = passes-2-and-4 limits s now lent octets f e no-2 no-4 in

@@ -2,16 +2,16 @@
 use Prim.Native.Nat.{ℕ}
 use mathlib.Core.Path.{_≡_, _∙_}
 use mathlib.Core.Bool.{true}
-use mathlib.Core.List.{List, []}
+use mathlib.Core.List.{List}
 use borrow.Author.Tests.{not-false}
 use lib.Dec.{eqb}
 use lib.ListN.{length}
-use Rattle.octets.specs.Walk.{whole}
 use Rattle.octets.specs.Compare.{same}
 use Rattle.octets.proofs.Order.{same-eq}
 use Rattle.keys.specs.Limits.{Limits}
 use Rattle.keys.proofs.Cases.{and-parts}
-use Rattle.frames.specs.Frame.{Frame, frame}
+use Rattle.frames.specs.Frame.{Frame}
+use Rattle.frames.specs.Grammar.{IsFrame}
 use Rattle.sa.specs.Entry.{rekey, spiOf, named, liveRekey}
 use Rattle.sa.specs.declared.entry.Sa.{Sa}
 use Rattle.table.specs.Table.{sasOf}
@@ -32,7 +32,7 @@ use Rattle.outcome.proofs.RunsClear.{None, none-applies}
 use Rattle.outcome.proofs.RunsLists.{some-passes}
 use Rattle.outcome.proofs.RunsLive.{passes-over-live}
 
-module _ (limits : Limits) (s : State) (now : ℕ) (lent octets : List ℕ) (f : Frame) (e : frame octets ≡ whole f [])
+module _ (limits : Limits) (s : State) (now : ℕ) (lent octets : List ℕ) (f : Frame) (e : IsFrame octets f)
     (x : f .header .exchange ≡ 41) (no-2 : Meets limits s now lent octets 2 → ⊥)
     -- the octets of an SA are an array of 68
     (long : (b : Sa) → In b (sasOf (s .table)) → length (b .octets) ≡ 68) where

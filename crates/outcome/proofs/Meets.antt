@@ -3,18 +3,18 @@ use native.Mathlib.Omega.{arith}
 use Prim.Native.Nat.{ℕ, suc, _≤_, _<_}
 use mathlib.Core.Path.{_≡_, refl, sym, subst}
 use mathlib.Core.Logic.{_⊎_, inl, inr, ⊎-elim}
-use mathlib.Core.List.{List, []}
-use Rattle.octets.specs.Walk.{whole, broken}
+use mathlib.Core.List.{List}
 use Rattle.keys.specs.Limits.{Limits}
-use Rattle.frames.specs.Frame.{Frame, frame}
+use Rattle.frames.specs.Frame.{Frame}
+use Rattle.frames.specs.Grammar.{IsFrame}
+use Rattle.frames.proofs.FrameGrammar.{one-tree}
 use Rattle.state.specs.declared.State.{State}
 use Rattle.outcome.specs.Answer.{Condition, EightOf, NineOf, conditions}
 use Rattle.outcome.specs.After.{After}
 use Rattle.outcome.specs.Meets.{Meets, meets-1, meets-2, meets-3, meets-4, meets-5, meets-6, meets-7, meets-8, meets-9, Refused}
 use Rattle.outcome.specs.Meets.{Accepted}
-use Rattle.outcome.specs.Outcome.{Judged, refused, accepted, Outcome, no-layout, by-tree}
+use Rattle.outcome.specs.Outcome.{Judged, refused, accepted, NoTree, Outcome, no-layout, by-tree}
 use Rattle.outcome.proofs.First.{Holds, above-holds, first-holds, first-lowest, first-none, first-is, none-first}
-use Rattle.outcome.proofs.Readings.{not-both, one-whole}
 use Rattle.outcome.proofs.Answering.{numbers-rise}
 
 module _ (limits : Limits) (s : State) (now : ℕ) (lent octets : List ℕ) where
@@ -22,7 +22,7 @@ module _ (limits : Limits) (s : State) (now : ℕ) (lent octets : List ℕ) wher
   Met n = Meets limits s now lent octets n
 
   pub at-most-9 : (n : ℕ) → Met n → n ≤ 9
-  at-most-9 _ (meets-1 o e) = omega arith
+  at-most-9 _ (meets-1 none) = omega arith
   at-most-9 _ (meets-2 f e h) = omega arith
   at-most-9 _ (meets-3 f e h) = omega arith
   at-most-9 _ (meets-4 f e h) = omega arith
@@ -34,17 +34,16 @@ module _ (limits : Limits) (s : State) (now : ℕ) (lent octets : List ℕ) wher
 
   -- ---- a number is met by the layout, or by the tree
   record ByLayout (n : ℕ) : Type 0 where
-    offset : ℕ
-    layout : frame octets ≡ broken offset
+    layout : NoTree octets
     is : n ≡ 1
 
   record ByTree (n : ℕ) : Type 0 where
     tree : Frame
-    layout : frame octets ≡ whole tree []
+    layout : IsFrame octets tree
     holds : Holds (conditions limits s now lent tree) n
 
   meets-by : (n : ℕ) → Met n → ByLayout n ⊎ ByTree n
-  meets-by _ (meets-1 o e) = inl (record { offset = o; layout = e; is = refl })
+  meets-by _ (meets-1 none) = inl (record { layout = none; is = refl })
   meets-by _ (meets-2 f e h) = inr (record { tree = f; layout = e; holds = inl (h, refl) })
   meets-by _ (meets-3 f e h) = inr (record { tree = f; layout = e; holds = inr (inl (h, refl)) })
   meets-by _ (meets-4 f e h) = inr (record { tree = f; layout = e; holds = inr (inr (inl (h, refl))) })
@@ -54,7 +53,7 @@ module _ (limits : Limits) (s : State) (now : ℕ) (lent octets : List ℕ) wher
   meets-by _ (meets-8 f e h) = inr (record { tree = f; layout = e; holds = inr (inr (inr (inr (inr (inr (inl (h, refl))))))) })
   meets-by _ (meets-9 f e h) = inr (record { tree = f; layout = e; holds = inr (inr (inr (inr (inr (inr (inr (inl (h, refl)))))))) })
 
-  module _ (f : Frame) (e : frame octets ≡ whole f []) where
+  module _ (f : Frame) (e : IsFrame octets f) where
     given : (n m : ℕ) → n ≡ m → Met m → Met n
     given n m q x = subst Met (sym q) x
 
@@ -72,19 +71,19 @@ module _ (limits : Limits) (s : State) (now : ℕ) (lent octets : List ℕ) wher
     -- and nothing else is
     pub meets-holds : (n : ℕ) → Met n → Holds (conditions limits s now lent f) n
     meets-holds n m =
-        ⊎-elim (λ b. absurd (not-both (frame octets) f [] (b .offset) e (b .layout)))
+        ⊎-elim (λ b. absurd (b .layout f e))
         (λ b.
-        subst (λ (g : Frame). Holds (conditions limits s now lent g) n) (one-whole (frame octets) (b .tree) f [] [] (b .layout) e)
+        subst (λ (g : Frame). Holds (conditions limits s now lent g) n) (one-tree octets (b .tree) f (b .layout) e)
         (b .holds)) (meets-by n m)
 
   -- 8 and 9 are met by the tree
-  pub eight-met : (f : Frame) → frame octets ≡ whole f [] → Met 8 → EightOf limits s now lent f
-  eight-met f e (meets-8 g d h) = subst (λ (x : Frame). EightOf limits s now lent x) (one-whole (frame octets) g f [] [] d e) h
+  pub eight-met : (f : Frame) → IsFrame octets f → Met 8 → EightOf limits s now lent f
+  eight-met f e (meets-8 g d h) = subst (λ (x : Frame). EightOf limits s now lent x) (one-tree octets g f d e) h
 
-  pub nine-met : (f : Frame) → frame octets ≡ whole f [] → Met 9 → NineOf limits s now lent f
-  nine-met f e (meets-9 g d h) = subst (λ (x : Frame). NineOf limits s now lent x) (one-whole (frame octets) g f [] [] d e) h
+  pub nine-met : (f : Frame) → IsFrame octets f → Met 9 → NineOf limits s now lent f
+  nine-met f e (meets-9 g d h) = subst (λ (x : Frame). NineOf limits s now lent x) (one-tree octets g f d e) h
 
-  module _ (f : Frame) (e : frame octets ≡ whole f []) where
+  module _ (f : Frame) (e : IsFrame octets f) where
     abbrev judged : List Condition
     judged = conditions limits s now lent f
 
@@ -119,28 +118,27 @@ module _ (limits : Limits) (s : State) (now : ℕ) (lent octets : List ℕ) wher
     zero-given next none a = accepted next (none-first judged (λ m y. none m (holds-meets f e m y))) a
 
   -- ---- outcomes
-  -- a broken layout meets 1 alone
-  only-one : (o : ℕ) → frame octets ≡ broken o → (m : ℕ) → Met m → m ≡ 1
-  only-one o e m x =
-      ⊎-elim (λ b. b .is) (λ b. absurd (not-both (frame octets) (b .tree) [] o (b .layout) e)) (meets-by m x)
+  -- octets of no tree meet 1 alone
+  only-one : NoTree octets → (m : ℕ) → Met m → m ≡ 1
+  only-one none m x = ⊎-elim (λ b. b .is) (λ b. absurd (none (b .tree) (b .layout))) (meets-by m x)
 
   pub refused-is : (n : ℕ) (next : State) → Outcome limits s now lent octets (suc n) next → Refused limits s now lent octets (suc n) next
-  refused-is _ _ (no-layout o e) =
-      record { meets = meets-1 o e; lowest = λ m g x. let d = only-one o e m x in absurd (omega arith); stays = refl }
+  refused-is _ _ (no-layout none) =
+      record { meets = meets-1 none; lowest = λ m g x. let d = only-one none m x in absurd (omega arith); stays = refl }
   refused-is n next (by-tree f e j) = by-number f e n next j
 
   pub is-refused : (n : ℕ) (next : State) → Refused limits s now lent octets (suc n) next → Outcome limits s now lent octets (suc n) next
   is-refused n next r =
       subst (λ (x : State). Outcome limits s now lent octets (suc n) x) (sym (r .stays))
       (⊎-elim
-      (λ b. subst (λ (k : ℕ). Outcome limits s now lent octets k s) (sym (b .is)) (no-layout (b .offset) (b .layout)))
+      (λ b. subst (λ (k : ℕ). Outcome limits s now lent octets k s) (sym (b .is)) (no-layout (b .layout)))
       (λ b. by-tree (b .tree) (b .layout) (number-given (b .tree) (b .layout) n (r .meets) (r .lowest)))
       (meets-by (suc n) (r .meets)))
 
-  -- 1 is given exactly when the layout is broken
-  pub refused-layout : (next : State) → Refused limits s now lent octets 1 next → (o : ℕ) × (frame octets ≡ broken o)
+  -- 1 is given for octets of no tree alone
+  pub refused-layout : (next : State) → Refused limits s now lent octets 1 next → NoTree octets
   refused-layout next r =
-      ⊎-elim (λ b. (b .offset, b .layout))
+      ⊎-elim (λ b. b .layout)
       (λ b. let g = not-low (b .tree) (b .layout) 1 (r .meets) in absurd (omega arith)) (meets-by 1 (r .meets))
 
   pub accepted-is : (next : State) → Outcome limits s now lent octets 0 next → Accepted limits s now lent octets next

@@ -1,10 +1,10 @@
 -- In a rekey the lent key is not read: what a frame of exchange type 41 comes to is the same for any two lent keys.
 use Prim.Native.Nat.{ℕ}
 use mathlib.Core.Path.{_≡_, sym, _∙_, subst}
-use mathlib.Core.List.{List, []}
-use Rattle.octets.specs.Walk.{whole}
+use mathlib.Core.List.{List}
 use Rattle.keys.specs.Limits.{Limits}
-use Rattle.frames.specs.Frame.{Frame, frame}
+use Rattle.frames.specs.Frame.{Frame}
+use Rattle.frames.specs.Grammar.{IsFrame}
 use Rattle.frames.specs.Exchange.{rekey}
 use Rattle.state.specs.declared.State.{State}
 use Rattle.clauses.specs.Contents.{rowOf, announced}
@@ -54,7 +54,7 @@ module _ (limits : Limits) (s : State) (now : ℕ) (lent other : List ℕ) where
     same-judged _ _ (refused n p) = refused n (same-answer _ p)
     same-judged _ _ (accepted next p a) = accepted next (same-answer 0 p) (same-after next a)
 
-  pub same-outcome : (octets : List ℕ) → ((f : Frame) → frame octets ≡ whole f [] → rowOf f ≡ rekey) → (n : ℕ) (next : State) →
+  pub same-outcome : (octets : List ℕ) → ((f : Frame) → IsFrame octets f → rowOf f ≡ rekey) → (n : ℕ) (next : State) →
       Outcome limits s now lent octets n next → Outcome limits s now other octets n next
-  same-outcome octets e _ _ (no-layout o d) = no-layout o d
+  same-outcome octets e _ _ (no-layout none) = no-layout none
   same-outcome octets e n next (by-tree f d j) = by-tree f d (same-judged f (e f d) n next j)

@@ -8,7 +8,6 @@ use mathlib.Core.Logic.{_⊎_, inl, inr, ⊎-elim, _↔_}
 use mathlib.Core.List.{List, [], _∷_, List·Memᴰ}
 use borrow.Author.Tests.{eqb-true, eq-eqb, ltb-false, not-false}
 use lib.Dec.{eqb}
-use Rattle.octets.specs.Walk.{whole}
 use Rattle.octets.specs.Compare.{same}
 use Rattle.octets.proofs.Order.{same-eq, eq-same}
 use Rattle.keys.specs.Limits.{Limits}
@@ -16,7 +15,8 @@ use Rattle.keys.specs.Lists.{any, count}
 use Rattle.keys.proofs.Cases.{bool-cases, lt-cases, and-parts, and-whole}
 use Rattle.policies.specs.Policy.{GroupSaPolicy, GroupWidePolicy}
 use Rattle.frames.specs.Delete.{Delete}
-use Rattle.frames.specs.Frame.{Frame, frame}
+use Rattle.frames.specs.Frame.{Frame}
+use Rattle.frames.specs.Grammar.{IsFrame}
 use Rattle.frames.specs.Exchange.{registration, rekey}
 use Rattle.frames.specs.declared.exchanges.Exchange.{Exchange}
 use Rattle.sa.specs.Entry.{spiOf, withCondition}
@@ -53,7 +53,7 @@ use Rattle.outcome.proofs.RestSpis.{deleted-size}
 use Rattle.outcome.proofs.RestLaws.{sum-at, at-most-one, of-none, of-one, four-zero, zero-four}
 use Rattle.outcome.proofs.RestLaws.{or-left, or-right, or-cases, live-or-retiring}
 
-module _ (limits : Limits) (s : State) (now : ℕ) (lent octets : List ℕ) (f : Frame) (e : frame octets ≡ whole f []) where
+module _ (limits : Limits) (s : State) (now : ℕ) (lent octets : List ℕ) (f : Frame) (e : IsFrame octets f) where
   module _ (c : Clear limits s now lent f) where
     -- number 4 lets pass one Rekey policy, one group-wide policy, one GSA_INITIAL_MESSAGE_ID and one delay in it
     one-rekey : count isRekey (announced f) ≤ 1

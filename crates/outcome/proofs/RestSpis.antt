@@ -2,14 +2,12 @@
 use Prim.Native.Nat.{ℕ}
 use mathlib.Core.Path.{_≡_, sym, _∙_, subst}
 use mathlib.Core.Logic.{⊎-elim}
-use mathlib.Core.List.{List, [], List·Memᴰ, List·Memᴰ·not-nil, List·Memᴰ·cases-cons, List·Memᴰ·eq-of-singleton}
+use mathlib.Core.List.{List, List·Memᴰ, List·Memᴰ·not-nil, List·Memᴰ·cases-cons, List·Memᴰ·eq-of-singleton}
 use lib.ListN.{length, drop}
-use Rattle.octets.specs.Walk.{whole}
 use Rattle.octets.specs.Walk as walk
 use Rattle.frames.specs.Delete.{Delete}
-use Rattle.frames.specs.Frame.{Frame, frame, Payload, Content, noneNext}
-use Rattle.frames.specs.Grammar.{Each, none, more, IsDelete, IsContent, is-gsa, is-kd, is-delete, is-unread, IsPayload}
-use Rattle.frames.proofs.FrameGrammar.{read-frame}
+use Rattle.frames.specs.Frame.{Frame, Payload, Content, noneNext}
+use Rattle.frames.specs.Grammar.{Each, none, more, IsDelete, IsContent, is-gsa, is-kd, is-delete, is-unread, IsPayload, IsFrame}
 use Rattle.clauses.specs.Contents.{deletesIn, deletesOf, deletedSpis}
 use Rattle.outcome.proofs.RunsSpis.{gathered}
 
@@ -38,11 +36,11 @@ each-size none x m = absurd (List·Memᴰ·not-nil m)
 each-size {k} (more {o} e r) x m =
     ⊎-elim (λ q. subst (λ (y : List ℕ). length y ≡ k) (sym q) e) (λ n. each-size r x n) (List·Memᴰ·cases-cons m)
 
-module _ (octets : List ℕ) (f : Frame) (e : frame octets ≡ whole f []) where
+module _ (octets : List ℕ) (f : Frame) (e : IsFrame octets f) where
   pub deleted-size : ((d : Delete) → List·Memᴰ d (deletesOf f) → d .protocol ≡ 3) → (x : List ℕ) → List·Memᴰ x (deletedSpis f) →
       length x ≡ 4
   deleted-size esp x m =
       let q = gathered (λ (d : Delete). d .spis) x (deletesOf f) m in
       let p = gathered (λ (y : Payload). deletesIn (y .content)) (q .from) (f .payloads) (q .stands) in
-      let b = in-spans (read-frame octets f [] e .payloads) (p .from) (p .stands) (q .from) (p .gives) in
+      let b = in-spans (e .payloads) (p .from) (p .stands) (q .from) (p .gives) in
       each-size (b .is .each) x (q .gives) ∙ b .is .esp (esp (q .from) (q .stands))

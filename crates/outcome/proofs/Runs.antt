@@ -3,17 +3,18 @@ use native.Mathlib.Omega.{arith}
 use Prim.Native.Nat.{ℕ, _≤_}
 use mathlib.Core.Path.{_≡_, refl, ap, sym, _∙_, subst}
 use mathlib.Core.Bool.{Bool, true, false, not, _&&_, false≢true}
-use mathlib.Core.List.{List, []}
+use mathlib.Core.List.{List}
 use borrow.Author.Tests.{ltb-false, not-false}
 use lib.Dec.{eqb}
 use lib.ListN.{length}
-use Rattle.octets.specs.Walk.{whole, either}
+use Rattle.octets.specs.Walk.{either}
 use Rattle.keys.specs.Limits.{Limits, limits}
 use Rattle.keys.specs.Lists.{any}
 use Rattle.keys.specs.Algorithms.{sizeOf}
 use Rattle.keys.proofs.Cases.{and-parts, and-whole}
 use Rattle.attributes.specs.Tree.{WrapKey}
-use Rattle.frames.specs.Frame.{Frame, frame}
+use Rattle.frames.specs.Frame.{Frame}
+use Rattle.frames.specs.Grammar.{IsFrame}
 use Rattle.frames.specs.Exchange.{registration, rekey, other}
 use Rattle.frames.specs.declared.exchanges.KeyZero.{KeyZero}
 use Rattle.frames.specs.declared.exchanges.KeyZero.the-variants as zero
@@ -106,7 +107,7 @@ module _ (limits : Limits) (enough : limits .wrapKeys ≤ limits .heldKeys) wher
             values = set-values limits roots (entriesOf f) size (next .held) are;
           })
 
-      module _ (octets : List ℕ) (e : frame octets ≡ whole f []) where
+      module _ (octets : List ℕ) (e : IsFrame octets f) where
         pub accepted-formed : stateFormed limits next ≡ true
         unfolding stateFormed
         accepted-formed =
@@ -126,13 +127,13 @@ module _ (limits : Limits) (enough : limits .wrapKeys ≤ limits .heldKeys) wher
             }
 
   -- ---- each kind of step
-  judged-formed : (s : State) (now : ℕ) (lent octets : List ℕ) (f : Frame) (n : ℕ) (next : State) → frame octets ≡ whole f [] →
+  judged-formed : (s : State) (now : ℕ) (lent octets : List ℕ) (f : Frame) (n : ℕ) (next : State) → IsFrame octets f →
       Judged limits s now lent f n next → stateFormed limits s ≡ true → stateFormed limits next ≡ true
   judged-formed s now lent octets f _ _ e (refused n a) w = w
   judged-formed s now lent octets f _ _ e (accepted next a r) w =
       accepted-formed s now lent f (clear limits s now lent f a) next r octets e
 
-  judged-blank : (s : State) (now : ℕ) (lent octets : List ℕ) (f : Frame) (n : ℕ) (next : State) → frame octets ≡ whole f [] →
+  judged-blank : (s : State) (now : ℕ) (lent octets : List ℕ) (f : Frame) (n : ℕ) (next : State) → IsFrame octets f →
       Judged limits s now lent f n next → StateBlank limits s → StateBlank limits next
   judged-blank s now lent octets f _ _ e (refused n a) w = w
   judged-blank s now lent octets f _ _ e (accepted next a r) w =
@@ -140,12 +141,12 @@ module _ (limits : Limits) (enough : limits .wrapKeys ≤ limits .heldKeys) wher
 
   pub outcome-formed : (s : State) (now : ℕ) (lent octets : List ℕ) (n : ℕ) (next : State) → Outcome limits s now lent octets n next →
       stateFormed limits s ≡ true → stateFormed limits next ≡ true
-  outcome-formed s now lent octets _ _ (no-layout o e) w = w
+  outcome-formed s now lent octets _ _ (no-layout none) w = w
   outcome-formed s now lent octets _ _ (by-tree f {n} {next} e j) w = judged-formed s now lent octets f n next e j w
 
   pub outcome-blank : (s : State) (now : ℕ) (lent octets : List ℕ) (n : ℕ) (next : State) → Outcome limits s now lent octets n next →
       StateBlank limits s → StateBlank limits next
-  outcome-blank s now lent octets _ _ (no-layout o e) w = w
+  outcome-blank s now lent octets _ _ (no-layout none) w = w
   outcome-blank s now lent octets _ _ (by-tree f {n} {next} e j) w = judged-blank s now lent octets f n next e j w
 
   takes-formed : (s : State) (x : Step) (e : State) → Takes limits s x e → stateFormed limits s ≡ true → stateFormed limits e ≡ true

@@ -3,16 +3,16 @@ use native.Mathlib.Omega.{arith}
 use Prim.Native.Nat.{ℕ, _+_, _≤_}
 use mathlib.Core.Path.{_≡_, _∙_}
 use mathlib.Core.Bool.{true, false, not}
-use mathlib.Core.List.{List, [], List·Memᴰ}
+use mathlib.Core.List.{List, List·Memᴰ}
 use borrow.Author.Tests.{eqb-true, eqb-false, ltb-false, not-false}
 use lib.Dec.{eqb, ltb}
 use lib.ListN.{length}
-use Rattle.octets.specs.Walk.{whole}
 use Rattle.keys.specs.Limits.{Limits}
 use Rattle.keys.specs.Lists.{any, count}
 use Rattle.keys.proofs.Cases.{bool-cases, and-parts}
 use Rattle.policies.specs.Policy.{GroupSaPolicy}
-use Rattle.frames.specs.Frame.{Frame, frame}
+use Rattle.frames.specs.Frame.{Frame}
+use Rattle.frames.specs.Grammar.{IsFrame}
 use Rattle.sa.specs.Entry.{named, liveRekey}
 use Rattle.sa.specs.declared.entry.Sa.{Sa}
 use Rattle.table.specs.Table.{tableOf, tableFormed}
@@ -86,7 +86,7 @@ module _ (limits : Limits) (s : State) (now : ℕ) (lent : List ℕ) (f : Frame)
       (no-clause (seven-ofMember limits s now f) 0 (c .no-7 .ofMember))
 
   -- ---- an announced SA, and the octets that its copies open to
-  pub kinds : (octets : List ℕ) → frame octets ≡ whole f [] → (a : GroupSaPolicy) → List·Memᴰ a (announced f) → Kind a
+  pub kinds : (octets : List ℕ) → IsFrame octets f → (a : GroupSaPolicy) → List·Memᴰ a (announced f) → Kind a
   kinds octets e a m =
       let auth = rowOf f .authentication in
       bool-cases (isEsp a)
@@ -122,7 +122,7 @@ module _ (limits : Limits) (s : State) (now : ℕ) (lent : List ℕ) (f : Frame)
       omega arith)
 
   -- ---- the table
-  module _ (octets : List ℕ) (e : frame octets ≡ whole f []) (new : List Sa)
+  module _ (octets : List ℕ) (e : IsFrame octets f) (new : List Sa)
       (n : Enter (rootsOf limits s now lent f) (entriesOf f) (wrappingSize limits s now lent f) f (announced f) new) where
     pub all-made : Made (announced f) new
     all-made = enter-made n (kinds octets e) opened-size

@@ -5,9 +5,10 @@ use mathlib.Core.Path.{_≡_, refl, sym, subst}
 use mathlib.Core.Bool.{Bool, true, false}
 use mathlib.Core.Logic.{inl, inr}
 use mathlib.Core.List.{List, [], _∷_}
-use Rattle.octets.specs.Walk.{whole}
 use Rattle.keys.specs.Limits.{Limits}
-use Rattle.frames.specs.Frame.{Frame, frame}
+use Rattle.frames.specs.Frame.{Frame}
+use Rattle.frames.specs.Grammar.{IsFrame}
+use Rattle.frames.proofs.FrameGrammar.{one-tree}
 use Rattle.state.specs.declared.State.{State}
 use Rattle.clauses.proofs.Clear.{or-none}
 use Rattle.clauses.specs.Refusals.{Number, one, applies, two, three, four, five, six, seven}
@@ -89,12 +90,12 @@ module _ (limits : Limits) (s : State) (now : ℕ) (lent : List ℕ) where
   judged-taken f _ _ (refused n a) e = absurd (omega arith)
   judged-taken f _ _ (accepted next a r) e = record { is-clear = clear limits s now lent f a; after = r }
 
-  outcome-taken : (octets : List ℕ) (f : Frame) (n : ℕ) (next : State) → frame octets ≡ whole f [] →
+  outcome-taken : (octets : List ℕ) (f : Frame) (n : ℕ) (next : State) → IsFrame octets f →
       Outcome limits s now lent octets n next → n ≡ 0 → Taken limits s now lent next f
-  outcome-taken octets f _ _ e (no-layout o g) z = absurd (omega arith)
+  outcome-taken octets f _ _ e (no-layout none) z = absurd (omega arith)
   outcome-taken octets f _ _ e (by-tree h {n} {next} g j) z =
-      let u : h ≡ f = cc in subst (Taken limits s now lent next) u (judged-taken h n next j z)
+      subst (Taken limits s now lent next) (one-tree octets h f g e) (judged-taken h n next j z)
 
-  pub taken : (octets : List ℕ) (f : Frame) (next : State) → frame octets ≡ whole f [] → Outcome limits s now lent octets 0 next →
+  pub taken : (octets : List ℕ) (f : Frame) (next : State) → IsFrame octets f → Outcome limits s now lent octets 0 next →
       Taken limits s now lent next f
   taken octets f next e o = outcome-taken octets f 0 next e o refl

@@ -6,14 +6,15 @@ use mathlib.Core.Bool.{Bool, true, false, not, _&&_, _||_, and-false, false≢tr
 use mathlib.Core.List.{List, []}
 use borrow.Author.Tests.{eqb-true, ne-eqb, not-false}
 use lib.Dec.{eqb, leb}
-use Rattle.octets.specs.Walk.{whole, either}
+use Rattle.octets.specs.Walk.{either}
 use Rattle.octets.specs.Compare.{same}
 use Rattle.octets.proofs.Order.{same-eq}
 use Rattle.keys.specs.Limits.{Limits}
 use Rattle.keys.specs.Lists.{all, any}
 use Rattle.keys.proofs.Cases.{bool-cases, and-parts}
 use Rattle.keys.proofs.Members.{member-kept, kept-member}
-use Rattle.frames.specs.Frame.{Frame, frame}
+use Rattle.frames.specs.Frame.{Frame}
+use Rattle.frames.specs.Grammar.{IsFrame}
 use Rattle.frames.specs.Exchange.{registration, rekey, other}
 use Rattle.frames.specs.declared.exchanges.Exchange.{Exchange}
 use Rattle.sa.specs.Entry.{esp, named, isLive, liveRekey, dueBy, due}
@@ -143,7 +144,7 @@ module _ (limits : Limits) (s : State) (now : ℕ) (lent : List ℕ) (f : Frame)
   pub accepted-live : (x : List ℕ) → LiveRekey x s → newRekey f ≡ false → LiveRekey x next
   accepted-live x l n = next-any (overLiveRekey x) ∙ rw (stays-over x f n s now l) (or-true (any (overLiveRekey x) (a .new)))
 
-  module _ (octets : List ℕ) (e : frame octets ≡ whole f []) (x : List ℕ) (l : LiveRekey x s) where
+  module _ (octets : List ℕ) (e : IsFrame octets f) (x : List ℕ) (l : LiveRekey x s) where
     -- no announced SA has its name
     other-names : any (named entry.rekey x) (a .new) ≡ false
     other-names =

@@ -4,12 +4,12 @@ use native.Mathlib.Omega.{arith}
 use Prim.Native.Nat.{ℕ, _+_, _-_, _^_, _≤_}
 use mathlib.Core.Path.{_≡_, refl, ap, sym, _∙_, subst}
 use mathlib.Core.Bool.{true, false, not, _&&_, false≢true}
-use mathlib.Core.List.{List, []}
+use mathlib.Core.List.{List}
 use borrow.Author.Tests.{lt-leb, not-false}
-use Rattle.octets.specs.Walk.{whole}
 use Rattle.keys.specs.Limits.{Limits}
 use Rattle.keys.proofs.Cases.{bool-cases, lt-cases}
-use Rattle.frames.specs.Frame.{Frame, frame}
+use Rattle.frames.specs.Frame.{Frame}
+use Rattle.frames.specs.Grammar.{IsFrame}
 use Rattle.frames.specs.Exchange.{rekey, exchangeOf}
 use Rattle.frames.specs.declared.exchanges.Exchange.{Exchange}
 use Rattle.state.specs.declared.State.{State}
@@ -69,7 +69,7 @@ module _ (limits : Limits) where
 
   -- ---- a step over which the Rekey SA stays live keeps what is past
   module _ (x : List ℕ) (i : ℕ) (s : State) (live : LiveRekey x s) (past : Past i (s .least)) where
-    judged-past : (now : ℕ) (lent octets : List ℕ) (f : Frame) (n : ℕ) (next : State) → frame octets ≡ whole f [] →
+    judged-past : (now : ℕ) (lent octets : List ℕ) (f : Frame) (n : ℕ) (next : State) → IsFrame octets f →
         Judged limits s now lent f n next → LiveRekey x next → Past i (next .least)
     judged-past now lent octets f _ _ e (refused n a) l = past
     judged-past now lent octets f _ _ e (accepted next a r) l =
@@ -80,7 +80,7 @@ module _ (limits : Limits) where
 
     outcome-past : (now : ℕ) (lent octets : List ℕ) (n : ℕ) (next : State) → Outcome limits s now lent octets n next → LiveRekey x next →
         Past i (next .least)
-    outcome-past now lent octets _ _ (no-layout o e) l = past
+    outcome-past now lent octets _ _ (no-layout none) l = past
     outcome-past now lent octets _ _ (by-tree f {n} {next} e j) l = judged-past now lent octets f n next e j l
 
     takes-past : (y : Step) (e : State) → Takes limits s y e → LiveRekey x e → Past i (e .least)
@@ -107,7 +107,7 @@ module _ (limits : Limits) where
   is-rekey : (f : Frame) → f .header .exchange ≡ 41 → rowOf f ≡ rekey
   is-rekey f e = ap exchangeOf e
 
-  module _ (s₀ s₁ : State) (now : ℕ) (lent octets : List ℕ) (f : Frame) (e : frame octets ≡ whole f [])
+  module _ (s₀ s₁ : State) (now : ℕ) (lent octets : List ℕ) (f : Frame) (e : IsFrame octets f)
       (x : f .header .exchange ≡ 41) (o : Outcome limits s₀ now lent octets 0 s₁) (s₂ : State) (l : List Step)
       (r : Run limits s₁ l s₂) (live : Throughout limits (LiveRekey (f .header .spi)) r) where
     was : Taken limits s₀ now lent s₁ f
@@ -129,7 +129,7 @@ module _ (limits : Limits) where
     all-past-then h i =
         run-past (f .header .spi) i r live (subst (Past i) (sym least-then) (past-last i (f .header .messageId) (omega arith)))
 
-    module _ (now′ : ℕ) (lent′ octets′ : List ℕ) (g : Frame) (e′ : frame octets′ ≡ whole g []) (x′ : g .header .exchange ≡ 41)
+    module _ (now′ : ℕ) (lent′ octets′ : List ℕ) (g : Frame) (e′ : IsFrame octets′ g) (x′ : g .header .exchange ≡ 41)
         (s₃ : State) where
       refused-then : acceptable (g .header .messageId) (s₂ .least) ≡ false → Outcome limits s₂ now′ lent′ octets′ 0 s₃ → ⊥
       refused-then h o′ =
@@ -155,8 +155,8 @@ module _ (limits : Limits) where
   takes-live x s _ _ (answered octets lent now n {next} o) q l = outcome-live n next o q
     where
       outcome-live : (n : ℕ) (next : State) → Outcome limits s now lent octets n next →
-          ((f : Frame) → frame octets ≡ whole f [] → n ≡ 0 → newRekey f ≡ false) → LiveRekey x next
-      outcome-live _ _ (no-layout b g) p = l
+          ((f : Frame) → IsFrame octets f → n ≡ 0 → newRekey f ≡ false) → LiveRekey x next
+      outcome-live _ _ (no-layout none) p = l
       outcome-live _ _ (by-tree f {n} {next} g j) p = judged-live x s now lent octets f n next j (p f g) l
   takes-live x s _ _ (swept now) q l = swept-live limits x now s l
   takes-live x s _ _ left q l = absurd q
@@ -167,7 +167,7 @@ module _ (limits : Limits) where
   quiet-live x (goes s {m} {e} {x = y} t r) q l = (l, quiet-live x r (q .1) (takes-live x s y m t (q .0) l))
 
   -- so it is after a GSA_REKEY that announced none: the law's condition, by the steps alone
-  pub stays-live : (s₀ s₁ : State) (now : ℕ) (lent octets : List ℕ) (f : Frame) → frame octets ≡ whole f [] → f .header .exchange ≡ 41 →
+  pub stays-live : (s₀ s₁ : State) (now : ℕ) (lent octets : List ℕ) (f : Frame) → IsFrame octets f → f .header .exchange ≡ 41 →
       Outcome limits s₀ now lent octets 0 s₁ → newRekey f ≡ false → (s₂ : State) (l : List Step) (r : Run limits s₁ l s₂) →
       AllQuiet limits r → Throughout limits (LiveRekey (f .header .spi)) r
   stays-live s₀ s₁ now lent octets f e x o n s₂ l r q =

@@ -7,12 +7,11 @@ use mathlib.Core.List.{List, [], _∷_, List·Memᴰ, List·Memᴰ·head, List·
 use mathlib.Core.List.{List·Memᴰ·append-cases, List·Memᴰ·eq-of-singleton}
 use lib.ListN.{length, drop, length-drop}
 use lib.Seq.{length-take-le}
-use Rattle.octets.specs.Walk.{whole, Spans, none, more, Row, no-more, then}
+use Rattle.octets.specs.Walk.{Spans, none, more, Row, no-more, then}
 use Rattle.policies.specs.Policy.{spiSize, GroupSaPolicy, Policy}
 use Rattle.policies.specs.Grammar.{IsGroupSa, IsPolicy, is-sa, is-wide}
-use Rattle.frames.specs.Frame.{Frame, frame, Payload, Content, noneNext}
-use Rattle.frames.specs.Grammar.{IsContent, is-gsa, is-kd, is-delete, is-unread, IsPayload}
-use Rattle.frames.proofs.FrameGrammar.{read-frame}
+use Rattle.frames.specs.Frame.{Frame, Payload, Content, noneNext}
+use Rattle.frames.specs.Grammar.{IsContent, is-gsa, is-kd, is-delete, is-unread, IsPayload, IsFrame}
 use Rattle.clauses.specs.Contents.{gather, saOf, policiesIn, policiesOf, announced}
 
 -- ---- what is gathered stands in what one of the list gives
@@ -65,12 +64,12 @@ spi-of o a i =
     let d = length-drop 4 o in
     ap length (sym (i .spi)) ∙ length-take-le ((4 + n) - 4) (drop 4 o) (omega arith) ∙ omega arith
 
-module _ (octets : List ℕ) (f : Frame) (e : frame octets ≡ whole f []) (a : GroupSaPolicy) (m : List·Memᴰ a (announced f)) where
+module _ (octets : List ℕ) (f : Frame) (e : IsFrame octets f) (a : GroupSaPolicy) (m : List·Memᴰ a (announced f)) where
   pub spi-size : length (a .spi) ≡ spiSize (a .protocol)
   spi-size =
       let q = gathered saOf a (policiesOf f) m in
       let p = gathered (λ (x : Payload). policiesIn (x .content)) (q .from) (f .payloads) (q .stands) in
-      let i = in-spans (read-frame octets f [] e .payloads) (p .from) (p .stands) (q .from) (p .gives) in
+      let i = in-spans (e .payloads) (p .from) (p .stands) (q .from) (p .gives) in
       spi-of (i .octets) a (of-policy (i .octets) (q .from) (i .is) a (q .gives))
 
   pub esp-spi : a .protocol ≡ 3 → length (a .spi) ≡ 4

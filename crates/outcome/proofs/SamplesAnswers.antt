@@ -3,10 +3,10 @@ use Prim.Native.Nat.{ℕ}
 use mathlib.Core.Path.{_≡_, refl, sym, _∙_}
 use mathlib.Core.Bool.{Bool, true, false, _||_, false≢true}
 use mathlib.Core.Logic.{inl, inr}
-use mathlib.Core.List.{List, []}
-use Rattle.octets.specs.Walk.{whole}
+use mathlib.Core.List.{List}
 use Rattle.keys.specs.Limits.{Limits}
-use Rattle.frames.specs.Frame.{Frame, frame}
+use Rattle.frames.specs.Frame.{Frame}
+use Rattle.frames.specs.Grammar.{IsFrame}
 use Rattle.state.specs.declared.State.{State}
 use Rattle.clauses.specs.Refusals.{Number, one, applies, two, three, four, five, six, seven}
 use Rattle.outcome.specs.Answer.{EightOf}
@@ -27,7 +27,7 @@ applies-member n e = rw e (or-true (one (n .ofFrame)))
     or-true true = refl
     or-true false = refl
 
-module _ (limits : Limits) (s : State) (now : ℕ) (lent octets : List ℕ) (f : Frame) (e : frame octets ≡ whole f []) where
+module _ (limits : Limits) (s : State) (now : ℕ) (lent octets : List ℕ) (f : Frame) (e : IsFrame octets f) where
   pub outcome-0 : Clear limits s now lent f → (next : State) → After limits s now lent f next → Outcome limits s now lent octets 0 next
   outcome-0 c next a =
       by-tree f e

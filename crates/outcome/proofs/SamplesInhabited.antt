@@ -6,7 +6,6 @@ use mathlib.Core.Bool.{true, false}
 use mathlib.Core.List.{List, [], _∷_}
 use lib.ListN.{length, getD, replicate}
 use Rattle.octets.specs.Octets.{Octets}
-use Rattle.octets.specs.Walk.{whole}
 use Rattle.octets.specs.Compare.{orderOf, same}
 use Rattle.octets.proofs.Octets.{no-octets, one-octet}
 use Rattle.fips197.specs.Key.{Key, isKey}
@@ -16,7 +15,7 @@ use Rattle.keys.specs.Lists.{all, any, count, heads, rising}
 use Rattle.keys.specs.Algorithms.{sizeOf}
 use Rattle.keys.specs.Kinds.{rekeySizes, rekeyOf}
 use Rattle.attributes.specs.Tree.{WrapKey}
-use Rattle.frames.specs.Frame.{frame}
+use Rattle.frames.specs.Grammar.{IsFrame}
 use Rattle.sa.specs.Entry.{named, formed, liveRekey, rekeySa, withCondition}
 use Rattle.sa.specs.declared.entry.Condition.the-variants.{Retiring}
 use Rattle.sa.specs.declared.entry.Sa.{Sa}
@@ -37,7 +36,7 @@ use Rattle.outcome.specs.Samples.{key-length-128, key-tree}
 use Rattle.outcome.proofs.RunsReplay.{stays-live}
 use Rattle.outcome.proofs.SamplesRekeys.{last-id-holds}
 use Rattle.outcome.proofs.SamplesRead.{around, Rekeyed, two-steps-read, two-values-read, tree-read, circle-read, plain-read}
-use Rattle.outcome.proofs.SamplesRead.{rekeys-read}
+use Rattle.outcome.proofs.SamplesRead.{laid-out, rekeys-read}
 
 -- ---- what a row asks for, as in specs/Samples.antt; the octets of its frame are below 256
 pub record Messages (l : Least → Type 0) (ids : List ℕ → Type 0) : Type 0 where
@@ -102,7 +101,7 @@ pub record Lent : Type 0 where
   pub size : length lent ≡ 28
   pub octets : List ℕ
   pub small : Octets octets
-  pub reads : frame octets ≡ whole (registering r wrapped entries) []
+  pub reads : IsFrame octets (registering r wrapped entries)
 
 abbrev pub Inhabited : Sample → Type 0
 Inhabited clock-wraps = (a : Sa) × (a .condition ≡ Retiring 4294967000 1)
@@ -208,7 +207,7 @@ samples-inhabited two-steps =
       asked = (fits 5 (omega arith), fits 9 (omega arith));
       octets = read .octets;
       small = read .small;
-      registers = record { key = key-16 1 (omega arith); keying = keying; reads = read .reads };
+      registers = record { key = key-16 1 (omega arith); keying = keying; reads = laid-out _ read };
     }
 samples-inhabited circle =
     let read = circle-read lentKey (replicate 20 7) (replicate 24 0) (replicate 24 0) (key-16 1 (omega arith)) keying refl
@@ -222,7 +221,7 @@ samples-inhabited circle =
       asked = tt;
       octets = read .octets;
       small = read .small;
-      registers = record { key = key-16 1 (omega arith); keying = keying; reads = read .reads };
+      registers = record { key = key-16 1 (omega arith); keying = keying; reads = laid-out _ read };
     }
 samples-inhabited two-values =
     let read = two-values-read lentKey (replicate 20 7) (replicate 16 9) (key-16 1 (omega arith)) refl keying (fits 9 (omega arith))
@@ -238,7 +237,7 @@ samples-inhabited two-values =
       differ = λ e. let z : _≡_ {A = ℕ} 5 6 = ap (λ (l : List ℕ). getD l 0 0) e in omega arith;
       octets = read .octets;
       small = read .small;
-      registers = record { key = key-16 1 (omega arith); keying = keying; reads = read .reads };
+      registers = record { key = key-16 1 (omega arith); keying = keying; reads = laid-out _ read };
     }
 samples-inhabited lent-of-28 =
     record {
@@ -249,7 +248,7 @@ samples-inhabited lent-of-28 =
       size = refl;
       octets = plain-read .octets;
       small = plain-read .small;
-      reads = plain-read .reads;
+      reads = laid-out (registering around (replicate 32 0) []) plain-read;
     }
 samples-inhabited key-length-128 = tt
 samples-inhabited key-tree =
@@ -265,5 +264,5 @@ samples-inhabited key-tree =
       fit = (fits 5 (omega arith), fits 6 (omega arith), fits 9 (omega arith));
       octets = read .octets;
       small = read .small;
-      registers = record { key = key-16 1 (omega arith); keying = keying; reads = read .reads };
+      registers = record { key = key-16 1 (omega arith); keying = keying; reads = laid-out _ read };
     }

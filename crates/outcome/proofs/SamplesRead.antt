@@ -27,7 +27,9 @@ use Rattle.policies.specs.Transform.{transform}
 use Rattle.policies.specs.Policy.{suite, saBody, policy}
 use Rattle.bags.specs.Bag.{bag}
 use Rattle.frames.specs.Frame.{Frame, frame, body, payload}
+use Rattle.frames.specs.Grammar.{IsFrame}
 use Rattle.frames.specs.Delete.{stretches}
+use Rattle.frames.proofs.FrameGrammar.{read-frame}
 use Rattle.outcome.specs.Samples.{deleting, Around, registering, entry, Keying, Wrapping, Rekeys}
 
 -- ---- a registration
@@ -153,6 +155,9 @@ pub record Read (f : Frame) : Type 0 where
   pub small : Octets octets
   pub reads : frame octets ≡ whole f []
 
+pub laid-out : (f : Frame) (r : Read f) → IsFrame (r .octets) f
+laid-out f r = read-frame (r .octets) f [] (r .reads)
+
 module _ (lent x v₉ : List ℕ) (key : Key lent) (size : length lent ≡ 16) (keying : Keying x) (w₉ : Wrapping lent v₉) where
   x-is : firsts 32 (wrapOf lent x) ≡ wrapOf lent x
   x-is = wrapped-32 lent x key keying
@@ -277,7 +282,9 @@ delete-read x i a b c d n o q e =
         spis = (1 ∷ 2 ∷ 3 ∷ 4 ∷ []) ∷ [];
         some = omega arith;
         few = omega arith;
-        reads = λ j. whole (deleting (p j) (e j) ((1 ∷ 2 ∷ 3 ∷ 4 ∷ []) ∷ [])) [];
+        reads =
+            read-frame (deleteOctets x id) (deleting x i ((1 ∷ 2 ∷ 3 ∷ 4 ∷ []) ∷ [])) []
+            (λ j. whole (deleting (p j) (e j) ((1 ∷ 2 ∷ 3 ∷ 4 ∷ []) ∷ [])) []);
       };
     }
 

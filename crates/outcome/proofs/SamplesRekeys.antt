@@ -6,11 +6,11 @@ use mathlib.Core.Bool.{true, false}
 use mathlib.Core.List.{List, [], _++_, append-nil, List·Memᴰ·not-nil}
 use borrow.Author.Tests.{le-ltb, ne-eqb}
 use lib.ListN.{length}
-use Rattle.octets.specs.Walk.{whole}
 use Rattle.keys.specs.Limits.{limits}
 use Rattle.keys.specs.Lists.{any, count}
 use Rattle.keys.proofs.Cases.{and-parts}
-use Rattle.frames.specs.Frame.{Frame, frame}
+use Rattle.frames.specs.Frame.{Frame}
+use Rattle.frames.specs.Grammar.{IsFrame}
 use Rattle.table.specs.Table.{sasOf, tableOf, tableFormed, stays}
 use Rattle.table.proofs.Kept.{fit-keep, formed-fit}
 use Rattle.state.specs.declared.State.{State}
@@ -70,7 +70,7 @@ unfolding one nonEmptyMember otherSpis
 over-live s now x e k = record { ofFrame = refl; ofMember = rw (e, live-stands x s now k) }
 
 -- a rekey whose Message ID is not acceptable
-pub rekey-refused : (s : State) (now : ℕ) (lent octets : List ℕ) (g : Frame) → frame octets ≡ whole g [] → g .header .exchange ≡ 41 →
+pub rekey-refused : (s : State) (now : ℕ) (lent octets : List ℕ) (g : Frame) → IsFrame octets g → g .header .exchange ≡ 41 →
     stateFormed limits s ≡ true → LiveRekey (g .header .spi) s → acceptable (g .header .messageId) (s .least) ≡ false →
     Outcome limits s now lent octets 3 s
 unfolding one notAcceptable
@@ -148,7 +148,7 @@ module _ (s : State) (now : ℕ) (x : List ℕ) (i : ℕ) (l : List (List ℕ)) 
     after-delete = record { new = []; enter = no-sa; table = refl; held = refl; least = refl }
 
     -- taken; then the Rekey SA is live still, and no other rekey changed the least Message ID
-    module _ (octets : List ℕ) (g : frame octets ≡ whole f []) (a : 1 ≤ length l) (b : length l ≤ 32)
+    module _ (octets : List ℕ) (g : IsFrame octets f) (a : 1 ≤ length l) (b : length l ≤ 32)
         (c : acceptable i (s .least) ≡ true) where
       pub delete-taken : Outcome limits s now lent octets 0 deleted
       delete-taken = outcome-0 limits s now lent octets f g (clear-delete a b c) deleted after-delete
@@ -188,7 +188,7 @@ least-seven-holds s x e k n = (
       },
 )
 
-pub later-refused : (s next : State) (now : ℕ) (lent octets : List ℕ) (f : Frame) → frame octets ≡ whole f [] → f .header .exchange ≡ 41 →
+pub later-refused : (s next : State) (now : ℕ) (lent octets : List ℕ) (f : Frame) → IsFrame octets f → f .header .exchange ≡ 41 →
     f .header .messageId ≡ 4294967295 → Outcome limits s now lent octets 0 next → LaterRefused next (f .header .spi)
 later-refused s next now lent octets f e x i o l z r live now′ lent′ octets′ g e′ x′ q =
     let y = f .header .spi in

@@ -7,7 +7,6 @@ use borrow.Author.Tests.{eq-eqb}
 use lib.Dec.{eqb}
 use lib.ListN.{length}
 use Rattle.octets.proofs.Order.{eq-same}
-use Rattle.octets.specs.Walk.{whole}
 use Rattle.fips197.specs.Key.{Key}
 use Rattle.keywrap.specs.Wrap.{wrapOf}
 use Rattle.keys.specs.Limits.{limits}
@@ -15,7 +14,8 @@ use Rattle.keys.specs.Lists.{any, keep, insert}
 use Rattle.keys.specs.Algorithms.{isRowOf, neededIn, neededBy}
 use Rattle.keys.proofs.Cases.{never}
 use Rattle.attributes.specs.Tree.{WrapKey}
-use Rattle.frames.specs.Frame.{Frame, frame}
+use Rattle.frames.specs.Frame.{Frame}
+use Rattle.frames.specs.Grammar.{IsFrame}
 use Rattle.frames.specs.declared.exchanges.Exchange.{Exchange}
 use Rattle.table.specs.Table.{tableOf}
 use Rattle.state.specs.declared.held.HeldKey.{HeldKey}
@@ -63,7 +63,7 @@ module _ (r : Around) (now : ℕ) (lent w : List ℕ) (l : List WrapKey) where
   keys-are = ap (λ (a : Announced). a ∷ []) sa-is
 
 module _ (r : Around) (now : ℕ) (lent x octets : List ℕ) (l : List WrapKey) (key : Key lent) (keying : Keying x)
-    (reads : frame octets ≡ whole (registering r (wrapOf lent x) l) [])
+    (reads : IsFrame octets (registering r (wrapOf lent x) l))
     (no-zero : any (λ (k : WrapKey). eqb (k .keyId) 0) l ≡ false) (few : length l ≤ 32) where
   abbrev w : List ℕ
   w = wrapOf lent x

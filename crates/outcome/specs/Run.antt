@@ -4,10 +4,10 @@ use Prim.Native.Nat.{ℕ}
 use mathlib.Core.Path.{_≡_}
 use mathlib.Core.Bool.{true, false}
 use mathlib.Core.List.{List, [], _∷_}
-use Rattle.octets.specs.Walk.{whole}
 use Rattle.keys.specs.Limits.{Limits}
 use Rattle.keys.specs.Lists.{any}
-use Rattle.frames.specs.Frame.{Frame, frame}
+use Rattle.frames.specs.Frame.{Frame}
+use Rattle.frames.specs.Grammar.{IsFrame}
 use Rattle.table.specs.Table.{sasOf}
 use Rattle.state.specs.declared.State.{State}
 use Rattle.state.specs.State.{newState, sweptState}
@@ -40,7 +40,7 @@ module _ (limits : Limits) where
 
   -- a step that neither leaves nor is an accepted frame that announces a Rekey SA
   abbrev pub Quiet : {s e : State} {x : Step} → Takes s x e → Type 0
-  Quiet (answered octets lent now n o) = (f : Frame) → frame octets ≡ whole f [] → n ≡ 0 → newRekey f ≡ false
+  Quiet (answered octets lent now n o) = (f : Frame) → IsFrame octets f → n ≡ 0 → newRekey f ≡ false
   Quiet (swept now) = Unit {0}
   Quiet left = ⊥
 

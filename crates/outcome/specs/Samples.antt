@@ -1,5 +1,5 @@
--- DOCUMENT 01'S SAMPLES MARKED P, one row each, with what it says of the definitions, and one row of ours. "What a sample does not mention is
--- fit; entries stand in a registration." No row assumes that something opens: what opens is the wrapping of any octets under any key, and
+-- DOCUMENT 01'S SAMPLES MARKED P, one row each, with what it says of the definitions, and one row of ours. "What a sample does not mention
+-- is fit; entries stand in a registration." No row assumes that something opens: what opens is the wrapping of any octets under any key, and
 -- octets are any that read as the row's frame.
 use Prim.Native.Nat.{ℕ, _≤_}
 use mathlib.Core.Path.{_≡_}
@@ -18,7 +18,8 @@ use Rattle.attributes.specs.Layout.{attributes}
 use Rattle.policies.specs.Selector.{Selector}
 use Rattle.policies.specs.Policy.{GroupSaPolicy, groupSa}
 use Rattle.bags.specs.Bag.{groupKeys, memberKeys}
-use Rattle.frames.specs.Frame.{Frame, frame, Payload, Content, gsa, kd, delete}
+use Rattle.frames.specs.Frame.{Frame, Payload, Content, gsa, kd, delete}
+use Rattle.frames.specs.Grammar.{IsFrame}
 use Rattle.sa.specs.Clock.{elapsed}
 use Rattle.sa.specs.Entry.{due, espSa}
 use Rattle.sa.specs.declared.entry.Condition.the-variants.{Retiring}
@@ -55,12 +56,12 @@ pub record Rekeys (x : List ℕ) (i : ℕ) (octets : List ℕ) : Type 0 where
   pub spis : List (List ℕ)
   pub some : 1 ≤ length spis
   pub few : length spis ≤ 32
-  pub reads : frame octets ≡ whole (deleting x i spis) []
+  pub reads : IsFrame octets (deleting x i spis)
 
 -- any rekey over that SA with this Message ID, whatever it holds, is refused as number 3; each of those with D alone is taken, with what
 -- holds of the state after it
 abbrev pub Refuses : State → List ℕ → ℕ → Type 0
-Refuses s x i = (now : ℕ) (lent octets : List ℕ) (g : Frame) → frame octets ≡ whole g [] → g .header .exchange ≡ 41 → g .header .spi ≡ x →
+Refuses s x i = (now : ℕ) (lent octets : List ℕ) (g : Frame) → IsFrame octets g → g .header .exchange ≡ 41 → g .header .spi ≡ x →
     g .header .messageId ≡ i → Outcome limits s now lent octets 3 s
 
 pub record Taken (s : State) (now : ℕ) (lent octets : List ℕ) (Then : State → Type 0) : Type 0 where
@@ -78,13 +79,13 @@ LeastSeven = (s : State) (x : List ℕ) → stateFormed limits s ≡ true → Li
 -- every rekey that comes after any run over which the Rekey SA with the SPI x stays live
 abbrev pub LaterRefused : State → List ℕ → Type 0
 LaterRefused s x = (l : List Step) (e : State) (r : Run limits s l e) → Throughout limits (LiveRekey x) r → (now : ℕ)
-    (lent octets : List ℕ) (g : Frame) → frame octets ≡ whole g [] → g .header .exchange ≡ 41 → g .header .spi ≡ x →
+    (lent octets : List ℕ) (g : Frame) → IsFrame octets g → g .header .exchange ≡ 41 → g .header .spi ≡ x →
     Outcome limits e now lent octets 3 e
 
 -- any rekey with that Message ID that is taken, and that one is. "With no new Rekey SA": otherwise the SA over which it came is not live
 -- after it
 pub record LastId : Type 0 where
-  pub any-frame : (s next : State) (now : ℕ) (lent octets : List ℕ) (f : Frame) → frame octets ≡ whole f [] → f .header .exchange ≡ 41 →
+  pub any-frame : (s next : State) (now : ℕ) (lent octets : List ℕ) (f : Frame) → IsFrame octets f → f .header .exchange ≡ 41 →
       f .header .messageId ≡ 4294967295 → Outcome limits s now lent octets 0 next → LaterRefused next (f .header .spi)
   pub taken : (s : State) (x : List ℕ) → stateFormed limits s ≡ true → LiveRekey x s → acceptable 4294967295 (s .least) ≡ true →
       TakenThen s x 4294967295 (λ (next : State). LaterRefused next x)
@@ -147,7 +148,7 @@ pub record Wrapping (lent v : List ℕ) : Type 0 where
 pub record Registers (r : Around) (lent x : List ℕ) (entries : List WrapKey) (octets : List ℕ) : Type 0 where
   pub key : Key lent
   pub keying : Keying x
-  pub reads : frame octets ≡ whole (registering r (wrapOf lent x) entries) []
+  pub reads : IsFrame octets (registering r (wrapOf lent x) entries)
 
 abbrev TwoSteps : Type 0
 TwoSteps = (r : Around) (now : ℕ) (lent x v₅ v₉ octets : List ℕ) → Wrapping lent v₅ → Wrapping lent v₉ →
@@ -174,7 +175,7 @@ TwoValues = (r : Around) (now : ℕ) (lent x v w v₉ octets : List ℕ) → Wra
 -- whatever entries there are
 abbrev LentOf28 : Type 0
 LentOf28 = (r : Around) (now : ℕ) (lent wrapped octets : List ℕ) (entries : List WrapKey) → length lent ≡ 28 →
-    frame octets ≡ whole (registering r wrapped entries) [] →
+    IsFrame octets (registering r wrapped entries) →
     Outcome limits (newState limits) now lent octets 5 (newState limits)
 
 -- ---- the attribute, in a type 1 transform at any offset
