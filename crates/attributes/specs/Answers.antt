@@ -1,7 +1,7 @@
 -- What the readers answer, by what the octets are.
-use Prim.Native.Nat.{ℕ, _-_}
+use Prim.Native.Nat.{ℕ, _+_, _-_}
 use mathlib.Core.List.{List, []}
-use lib.ListN.{length}
+use lib.ListN.{length, drop}
 use Rattle.octets.specs.Walk.{either, Reading, whole, broken}
 use Rattle.attributes.specs.Attribute.{isShort, kindOf, startOf, sizeOf, fits, valueOf}
 use Rattle.attributes.specs.declared.Read.{Read}
@@ -23,6 +23,10 @@ spotOf s (broken o) = spot.Broken o
 -- the octets of an attribute's value; none where the attribute is cut short
 abbrev pub valueAt : List ℕ → List ℕ
 valueAt s = either (fits s) (valueOf s) []
+
+-- where in s the value of the attribute at a place starts; 0 where no whole attribute stands there
+abbrev pub valueStart : List ℕ → ℕ → ℕ
+valueStart s at = either (fits (drop at s)) (at + startOf (drop at s)) 0
 
 abbrev pub readOf : List ℕ → Read
 readOf s = either (fits s) (read.Attribute (isShort s) (kindOf s) (startOf s) (sizeOf s)) read.Cut
