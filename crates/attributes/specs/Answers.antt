@@ -1,6 +1,6 @@
 -- What the readers answer, by what the octets are.
 use Prim.Native.Nat.{ℕ, _+_, _-_}
-use mathlib.Core.List.{List, []}
+use mathlib.Core.List.{List, [], _∷_}
 use lib.ListN.{length, drop}
 use Rattle.octets.specs.Walk.{either, Reading, whole, broken}
 use Rattle.attributes.specs.Attribute.{isShort, kindOf, startOf, sizeOf, fits, valueOf}
@@ -14,6 +14,15 @@ use Rattle.attributes.specs.declared.Spot.the-variants as spot
 abbrev pub layoutOf : {A : Type 0} → Reading A → Layout
 layoutOf (whole a rest) = layout.Whole
 layoutOf (broken o) = layout.Broken o
+
+-- document 01's number of each case, and the offset that number 1 carries (document 02, T-06)
+abbrev pub layoutNumber : Layout → ℕ
+layoutNumber layout.Whole = 0
+layoutNumber (layout.Broken o) = 1
+
+abbrev pub layoutOffset : Layout → List ℕ
+layoutOffset layout.Whole = []
+layoutOffset (layout.Broken o) = o ∷ []
 
 -- the end, counted from the first octet of s
 abbrev pub spotOf : {A : Type 0} → List ℕ → Reading A → Spot

@@ -1,3 +1,4 @@
+pub mod AllSamples
 pub mod Apart
 pub mod Asking
 pub mod AskingSlice

@@ -1,6 +1,7 @@
 // What octets show as a policy, for plain slices and numbers.
 ghost use mathlib.Core.Path.{_≡_};
-ghost use Rattle.view.specs.View.{kindOf, spiOf, isAtEnd, nextAfter, itemAt};
+ghost use Prim.Native.Nat.{_+_};
+ghost use Rattle.view.specs.View.{kindOf, spiOf, spiStart, isAtEnd, nextAfter, itemAt};
 use crate::items::Item;
 use attributes::Spot;
 use attributes::tables::Place;
@@ -38,7 +39,8 @@ pub fn kind_of(s: &[u8]) -> Kind
 
 // The SPI of the policy that the octets are, where it stands; none for a group-wide policy and for no policy. Internal.
 pub fn spi_of(s: &[u8]) -> &[u8]
-    ensures { λ r. ⌜ now r ≡ spiOf (now (s .entry)) ⌝ }
+    ensures { λ r. ⌜ (now r ≡ spiOf (now (s .entry)))
+        × (r .ptr ≡ (s .entry .ptr .0, spiStart (now (s .entry)) + s .entry .ptr .1)) ⌝ }
 {
     match kind_of(s) {
         Kind::GroupSa(p) => {
