@@ -4,6 +4,7 @@ pub mod PayloadLaws
 pub mod DeleteGrammar
 pub mod FrameGrammar
 pub mod Ignored
+pub mod LayoutNumbers
 pub mod SamplesOfPolicies
 pub mod SamplesOfBags
 pub mod SamplesOfFrames

@@ -100,7 +100,7 @@ kind-of-none s h = ap firstOctet (sym (none s h))
 pub record Sa (s : List ℕ) (p : ℕ) : Type 0 where
   pub head : 4 + spiSize p ≤ length s
   pub spi : part s 4 (4 + spiSize p) ≡ spiOf s
-  pub place : 4 ≡ spiStart s
+  pub there : 4 ≡ spiStart s
   pub body : SaBody
   pub is : IsSaBody (inPolicy p) (drop (4 + spiSize p) s) body
   pub items : shownBody (inPolicy p) (4 + spiSize p) (length s) body ≡ itemsOf s
@@ -119,7 +119,7 @@ sa-of : (s : List ℕ) (x : GroupSaPolicy) → policy 0 s ≡ whole (groupSa x) 
 sa-of s x e (is-sa i) = record {
   head = i .least;
   spi = i .spi ∙ ap (onAll [] spiIn) (sym e);
-  place = ap (onAll 0 spiStartIn) (sym e);
+  there = ap (onAll 0 spiStartIn) (sym e);
   body = i .body;
   is = i .holds;
   items = sa-items s x e i;
@@ -128,7 +128,7 @@ sa-of s x e (is-sa i) = record {
 pub record Wide (s : List ℕ) : Type 0 where
   pub head : 4 ≤ length s
   pub spi : [] ≡ spiOf s
-  pub place : 0 ≡ spiStart s
+  pub there : 0 ≡ spiStart s
   pub held : isWhole (attributes place.GroupWidePolicy 0 (drop 4 s)) ≡ true
   pub items : shownAttributes place.GroupWidePolicy (length s) (attributesIn place.GroupWidePolicy (drop 4 s)) ≡ itemsOf s
 
@@ -139,7 +139,7 @@ wide-of s x e (is-wide i) =
     record {
       head = i .least;
       spi = ap (onAll [] spiIn) (sym e);
-      place = ap (onAll 0 spiStartIn) (sym e);
+      there = ap (onAll 0 spiStartIn) (sym e);
       held = a .0;
       items =
           ap (shownAttributes p (length s)) (a .1)

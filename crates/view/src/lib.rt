@@ -59,6 +59,28 @@ pub fn here<'a>(v: View<'a>) -> items::Item
     read::item_at(v.src, v.at)
 }
 
+// What stands at the cursor, and the cursor of the view moved on, in one call.
+pub fn step<'a>(v: View<'a>) -> read::Step
+    ensures { λ r. ⌜ (r .item ≡ itemAt (now (v .entry .src)) (v .entry .at))
+        × (r .next ≡ nextAfter (now (v .entry .src)) (v .entry .at)) ⌝ }
+{
+    read::step_at(v.src, v.at)
+}
+
+// Whether a view of the octets shows no more than so many: for every caller that holds no view.
+pub fn shown_end(s: &[u8], at: usize) -> bool
+    ensures { λ r. ⌜ r ≡ isAtEnd (now (s .entry)) at ⌝ }
+{
+    at_end(View { src: s, at })
+}
+
+// The cursor of a view of the octets moved on: for every caller that holds no view.
+pub fn shown_next(s: &[u8], at: usize) -> usize
+    ensures { λ r. ⌜ r ≡ nextAfter (now (s .entry)) at ⌝ }
+{
+    moved(View { src: s, at }).at
+}
+
 // What a view of the octets shows after so many others: for every caller that holds no view.
 pub fn shown(s: &[u8], at: usize) -> items::Item
     ensures { λ r. ⌜ r ≡ itemAt (now (s .entry)) at ⌝ }

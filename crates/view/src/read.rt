@@ -66,6 +66,25 @@ pub fn item_at(s: &[u8], n: usize) -> Item
     }
 }
 
+// What stands at a cursor, and the cursor after it.
+pub struct Step {
+    pub item: Item,
+    pub next: usize,
+}
+
+// What the policy that the octets are shows after n others, and the cursor after that, which stays at the end. Internal.
+pub fn step_at(s: &[u8], n: usize) -> Step
+    ensures { λ r. ⌜ (r .item ≡ itemAt (now (s .entry)) n) × (r .next ≡ nextAfter (now (s .entry)) n) ⌝ }
+{
+    let item = item_at(s, n);
+    match item {
+        Item::Selector { .. } => Step { item, next: n + 1 },
+        Item::Transform { .. } => Step { item, next: n + 1 },
+        Item::Attribute { .. } => Step { item, next: n + 1 },
+        Item::Nothing => Step { item, next: n },
+    }
+}
+
 // Whether the policy that the octets are shows no more than n. Internal.
 pub fn is_at_end(s: &[u8], n: usize) -> bool
     ensures { λ r. ⌜ r ≡ isAtEnd (now (s .entry)) n ⌝ }

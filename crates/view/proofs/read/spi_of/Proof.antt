@@ -64,14 +64,14 @@ returns c =
     let s = now (a .s) in
     let f = of-sa s (k .0 .0) (sym (k .1) ∙ c .before .before .before .before .before .kind-of .ensures) in (
       ap (λ (n : ℕ). part s 4 (4 + n)) (c .before .spi-size .ensures .0) ∙ f .spi,
-      ap (λ (n : ℕ). (a .s .ptr .0, n + a .s .ptr .1)) (f .place),
+      ap (λ (n : ℕ). (a .s .ptr .0, n + a .s .ptr .1)) (f .there),
     )
 
 returns-2 : tie.Need-returns-2
 returns-2 c =
     let a = c .before .before .before .before .before .args in
     let f = of-wide (now (a .s)) (sym (c .before .enum-told .given .1) ∙ c .before .before .before .kind-of .ensures) in
-    (f .spi, ap (λ (n : ℕ). (a .s .ptr .0, n + a .s .ptr .1)) (f .place))
+    (f .spi, ap (λ (n : ℕ). (a .s .ptr .0, n + a .s .ptr .1)) (f .there))
 
 returns-3 : tie.Need-returns-3
 returns-3 c =
