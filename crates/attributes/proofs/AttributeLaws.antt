@@ -15,7 +15,7 @@ use Rattle.octets.proofs.Walks.{by-test, both-true, part-length, Takes, took}
 use Rattle.attributes.specs.Attribute.{attributeOf}
 use Rattle.attributes.specs.Place.{meaningOf, formed}
 use Rattle.attributes.specs.Layout.{formedIn, fitsIn, attribute}
-use Rattle.attributes.specs.Answers.{readOf, valueAt, spotOf}
+use Rattle.attributes.specs.Answers.{readOf, valueAt, valueStart, spotOf}
 use Rattle.attributes.specs.declared.tables.Place.{Place}
 use Rattle.attributes.specs.declared.Spot.the-variants as spot
 use Rattle.attributes.proofs.Loops.{ends-at}
@@ -110,6 +110,17 @@ module _ (s : List ℕ) (at : ℕ) where
   value-past h =
       let l : length (drop at s) ≡ 0 = rw length-drop (omega arith) in
       value-none (lt-leb (sizeOf (drop at s)) (length (drop at s)) (omega (arith, size-least (drop at s))))
+
+  pub starts-there : (short : Bool) (kind a e : ℕ) → IsRead (drop at s) short kind a e → at + a ≡ valueStart s at
+  starts-there short kind a e f = rw (f .all, f .start)
+
+  pub starts-none : fits (drop at s) ≡ false → 0 ≡ valueStart s at
+  starts-none f = rw f
+
+  pub starts-past : length s < at → 0 ≡ valueStart s at
+  starts-past h =
+      let l : length (drop at s) ≡ 0 = rw length-drop (omega arith) in
+      starts-none (lt-leb (sizeOf (drop at s)) (length (drop at s)) (omega (arith, size-least (drop at s))))
 
 -- in its place
 module _ (p : Place) (b : ℕ) (s : List ℕ) where

@@ -32,6 +32,13 @@ valueOf s = part s (startOf s) (sizeOf s)
 abbrev pub attributeOf : List ℕ → Attribute
 attributeOf s = record { short = isShort s; kind = kindOf s; value = valueOf s }
 
+-- the octets before its value, and all its octets
+abbrev pub leadOf : Attribute → ℕ
+leadOf a = either (a .short) 2 4
+
+abbrev pub spanOf : Attribute → ℕ
+spanOf a = leadOf a + length (a .value)
+
 -- all its octets are there
 abbrev pub fits : List ℕ → Bool
 fits s = leb (sizeOf s) (length s)

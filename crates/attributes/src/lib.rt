@@ -3,7 +3,7 @@ ghost use mathlib.Core.Path.{_≡_};
 ghost use Prim.Native.Nat.{_+_, _<_};
 ghost use lib.ListN.{length, drop};
 ghost use Rattle.attributes.specs.Layout.{attribute, attributes};
-ghost use Rattle.attributes.specs.Answers.{layoutOf, spotOf, valueAt, readOf};
+ghost use Rattle.attributes.specs.Answers.{layoutOf, spotOf, valueAt, valueStart, readOf};
 
 pub mod tables;
 
@@ -61,6 +61,7 @@ pub fn attribute_read(s: &[u8]) -> Read
 // The octets of the value of the attribute at a place, where they stand; none if no whole attribute stands there.
 pub fn attribute_value(s: &[u8], at: usize) -> &[u8]
     ensures { λ r. ⌜ now r ≡ valueAt (drop at (now (s .entry))) ⌝ }
+    ensures { λ r. ⌜ r .ptr ≡ (s .entry .ptr .0, valueStart (now (s .entry)) at + s .entry .ptr .1) ⌝ }
 {
     if s.len() < at {
         return &s[0..0];

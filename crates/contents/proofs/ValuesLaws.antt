@@ -12,12 +12,14 @@ use Rattle.octets.specs.Walk.{be16, part, either, Reading, whole, broken}
 use Rattle.octets.proofs.Walks.{both-true, part-length, many-none}
 use Rattle.octets.proofs.Inverse.{inverse-opened}
 use Rattle.octets.proofs.Grammar.{first-rest}
-use Rattle.attributes.specs.Attribute.{Attribute, isShort, kindOf, sizeOf, valueOf, attributeOf, fits}
+use Rattle.attributes.specs.Attribute.{Attribute, isShort, kindOf, sizeOf, valueOf, attributeOf, leadOf, spanOf, fits}
+use Rattle.attributes.specs.Answers.{valueAt}
 use Rattle.attributes.specs.Place.{meaningOf, wrappedSize, formed}
 use Rattle.attributes.specs.Tree.{codeOf, means, valuesOf}
 use Rattle.attributes.specs.Layout.{formedIn, fitsIn, attribute, attributes}
 use Rattle.attributes.specs.Grammar.{IsAttribute}
-use Rattle.contents.specs.inner.Values.{isWhole, itemsOf, attributesIn, valuesIn, valueSize}
+use Rattle.contents.specs.inner.Values.{isWhole, itemsOf, attributesIn, valuesIn, placesOf, placesIn, valueSize}
+use Rattle.contents.specs.declared.Stretch.{Stretch}
 use Rattle.attributes.specs.declared.tables.Place.{Place}
 use Rattle.attributes.specs.declared.tables.Meaning.{Meaning}
 use Rattle.attributes.specs.declared.tables.Meaning.the-variants as meaning
@@ -149,6 +151,32 @@ module _ (m : Meaning) (p : Place) (s : List ℕ) (at : ℕ) (e : isWhole (attri
           let i = read-inside (drop at s) short kind a n f in
           let d : n - a ≡ at + n - (at + a) = omega arith in
           rw (f .start, f .size) (part-length (drop at s) a n (i .0) (i .1) ∙ d)
+
+      -- the value that `attribute_value` hands on ends where its attribute does
+      pub value-fits : length (valueAt (drop at s)) ≡ at + n - (at + a)
+      value-fits = ap (λ (t : Bool). length (either t (valueOf (drop at s)) [])) (f .all) ∙ value-length
+
+      pub value-start : at + n - length (valueAt (drop at s)) ≡ at + a
+      value-start = omega (arith, value-fits, next-inside .2)
+
+      -- where it stands
+      span-is : at + spanOf (attributeOf (drop at s)) ≡ at + n
+      span-is = omega (arith, f .start, value-length, next-inside .2)
+
+      pub miss-place : (c w : ℕ) → c ≡ codeOf (meaningOf p kind) → w ≡ codeOf m → (c ≡ w → ⊥) → placesIn m p s at ≡ placesIn m p s (at + n)
+      unfolding placesOf
+      miss-place c w cq wq ne =
+          ap (placesOf m p at) listed
+          ∙ rw (meant c w cq wq, ne-eqb c w ne) (ap (λ (y : ℕ). placesOf m p y (attributesIn p (drop (at + n) s))) span-is)
+
+      pub hit-place : (c w : ℕ) → c ≡ codeOf (meaningOf p kind) → w ≡ codeOf m → c ≡ w
+          → placesIn m p s at ≡ record { start = at + a; end = at + n } ∷ placesIn m p s (at + n)
+      unfolding placesOf
+      hit-place c w cq wq eq =
+          let here : at + leadOf (attributeOf (drop at s)) ≡ at + a = ap (λ (y : ℕ). at + y) (f .start) in
+          ap (placesOf m p at) listed
+          ∙ rw (meant c w cq wq, eq-eqb c w eq)
+          (λ j. record { start = here j; end = span-is j } ∷ placesOf m p (span-is j) (attributesIn p (drop (at + n) s)))
 
       short-value : isShort (drop at s) ≡ true → at + n - (at + a) ≡ 2
       short-value t =

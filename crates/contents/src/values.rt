@@ -27,13 +27,15 @@ pub fn next_of(m: Meaning, place: Place, s: &[u8], from: usize) -> Found
             Read::Attribute {
                 short: _,
                 kind,
-                start,
+                start: _,
                 end,
             } => {
+                let next = at + end;
                 if attributes::tables::code(attributes::tables::meaning_in(place, kind)) == wanted {
-                    return Found::At(at + start, at + end);
+                    let value = attributes::attribute_value(s, at);
+                    return Found::At(next - value.len(), next);
                 }
-                at = at + end;
+                at = next;
             }
             Read::Cut => {
                 return Found::Nothing;

@@ -27,6 +27,9 @@ use Rattle.frames.specs.Frame.{Content, gsa, kd, delete, unread, body, P
 use Rattle.frames.specs.Frame.{Frame, frameOf, frame}
 use Rattle.frames.specs.Grammar.{IsContent, is-gsa, is-kd, is-delete, is-unread, IsPayload, IsFrame}
 use Rattle.frames.proofs.DeleteGrammar.{delete-to, delete-from}
+use Rattle.octets.specs.Ignored.{Alike}
+use Rattle.frames.specs.Ignored.{frameMask}
+use Rattle.frames.proofs.Ignored.{ignored-octets}
 use Rattle.frames.proofs.PayloadLaws.{takes}
 
 -- THE BODY OF A PAYLOAD
@@ -219,3 +222,8 @@ frame-read s x i =
 -- an accepted frame has one reading
 pub one-tree : (s : List ℕ) (x y : Frame) → IsFrame s x → IsFrame s y → x ≡ y
 one-tree s x y i j = let a = frame-read s x i in let b = frame-read s y j in cc
+
+-- octets that differ in nothing that is read are read to the same tree
+pub ignored-read : (s t : List ℕ) (x : Frame) (rest : List ℕ) (q : frame s ≡ whole x rest)
+    → Alike (frameMask s x (read-frame s x rest q)) s t → frame t ≡ whole x []
+ignored-read s t x rest q h = frame-read t x (ignored-octets s t x (read-frame s x rest q) h)

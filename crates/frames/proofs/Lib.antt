@@ -1,7 +1,10 @@
+pub mod AllIgnored
 pub mod HeaderLaws
 pub mod PayloadLaws
 pub mod DeleteGrammar
 pub mod FrameGrammar
+pub mod Ignored
+pub mod LayoutNumbers
 pub mod SamplesOfPolicies
 pub mod SamplesOfBags
 pub mod SamplesOfFrames

@@ -3,4 +3,5 @@ pub mod Delete
 pub mod Frame
 pub mod Exchange
 pub mod Grammar
+pub mod Ignored
 pub mod inner

@@ -41,6 +41,26 @@ pub enum Answer {
     NoKey,
 }
 
+impl Answer {
+    // Document 01's number of the answer.
+    pub fn number(self) -> usize
+        ensures { λ r. ⌜ r ≡ numberOf self ⌝ }
+    {
+        match self {
+            Answer::Accepted => 0,
+            Answer::BrokenLayout => 1,
+            Answer::NotForMember => 2,
+            Answer::Replayed => 3,
+            Answer::BadComposition => 4,
+            Answer::Unsupported => 5,
+            Answer::Unpaired => 6,
+            Answer::OverLimit => 7,
+            Answer::KeyConflict => 8,
+            Answer::NoKey => 9,
+        }
+    }
+}
+
 // The answer and the next member, on a refusal the member as it was.
 pub struct Received {
     pub answer: Answer,

@@ -41,24 +41,6 @@ pub(crate) fn begun() -> Running
     }
 }
 
-// Document 01's number of an answer.
-fn number(a: Answer) -> usize
-    ensures { λ r. ⌜ r ≡ numberOf a ⌝ }
-{
-    match a {
-        Answer::Accepted => 0,
-        Answer::BrokenLayout => 1,
-        Answer::NotForMember => 2,
-        Answer::Replayed => 3,
-        Answer::BadComposition => 4,
-        Answer::Unsupported => 5,
-        Answer::Unpaired => 6,
-        Answer::OverLimit => 7,
-        Answer::KeyConflict => 8,
-        Answer::NoKey => 9,
-    }
-}
-
 // A whole first line.
 fn first_line(r: Running, line: &[u8]) -> Running
     ensures { λ e. ⌜ ((out : List ℕ) → FirstLine r (now (line .entry)) out out e) ⌝ }
@@ -79,7 +61,7 @@ fn told(out: &mut [u8], at: usize, a: Answer, sas: usize, held: usize) -> usize
     ensures { λ r. ⌜ Put (now (out .entry)) at (answerText (numberOf a) sas held) (now (out .exit)) r ⌝ }
     ensures { λ r. ⌜ length (answerText (numberOf a) sas held) ≤ 63 ⌝ }
 {
-    lines::put_answer(out, at, number(a), sas, held)
+    lines::put_answer(out, at, a.number(), sas, held)
 }
 
 // A frame is received, and the reply to it put into the output.

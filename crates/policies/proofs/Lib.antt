@@ -7,3 +7,4 @@ pub mod TransformGrammar
 pub mod BodyGrammar
 pub mod PolicyGrammar
 pub mod Numbers
+pub mod AlikeLaws

@@ -2,3 +2,4 @@ pub mod Selector
 pub mod Transform
 pub mod Policy
 pub mod Grammar
+pub mod Ignored

@@ -10,7 +10,7 @@ use Rattle.octets.specs.Walk.{part, either, whole, Row, no-more, then}
 use Rattle.octets.proofs.Walks.{many-none, part-length}
 use Rattle.octets.proofs.Inverse.{inverse-opened}
 use Rattle.octets.proofs.Grammar.{first-rest}
-use Rattle.attributes.specs.Attribute.{Attribute, startOf, sizeOf, valueOf, attributeOf}
+use Rattle.attributes.specs.Attribute.{Attribute, startOf, sizeOf, valueOf, attributeOf, leadOf}
 use Rattle.attributes.specs.Place.{meaningOf}
 use Rattle.attributes.specs.Layout.{fitsIn, attribute, attributes}
 use Rattle.attributes.specs.Grammar.{Format, in-short, in-long, IsAttribute}
@@ -20,7 +20,7 @@ use Rattle.attributes.proofs.AttributeLaws.{takes, IsRead, read-inside}
 use Rattle.attributes.proofs.GrammarLaws.{sound, complete, read-are}
 use Rattle.contents.specs.inner.Values.{isWhole, itemsOf, attributesIn}
 use Rattle.contents.proofs.ValuesLaws.{whole-is}
-use Rattle.view.specs.View.{leadOf, shownAttribute, octetsIn, shownAttributes, nth}
+use Rattle.view.specs.View.{shownAttribute, octetsIn, shownAttributes, nth}
 use Rattle.view.specs.declared.items.Item.{Item}
 use Rattle.view.specs.declared.items.Item.the-variants as item
 

@@ -8,7 +8,7 @@ use native.Mathlib.Omega.{arith}
 use lib.ListN.{length, take, drop, length-append, length-drop, take-append-drop}
 use lib.Seq.{drop-drop, take-append-seam, drop-append-seam, drop-append-le}
 use Rattle.octets.specs.Walk.{part, either, Spans, none, more, Row, no-more, then, whole}
-use Rattle.attributes.specs.Attribute.{Attribute}
+use Rattle.attributes.specs.Attribute.{Attribute, leadOf}
 use Rattle.attributes.specs.Place.{inPolicy}
 use Rattle.attributes.specs.Grammar.{Format, in-short, in-long, IsAttribute, Attributes}
 use Rattle.attributes.specs.declared.tables.Place.{Place}
@@ -18,7 +18,7 @@ use Rattle.policies.specs.Transform.{Transform, noMore}
 use Rattle.policies.specs.Policy.{spiSize, GroupSaPolicy, GroupWidePolicy, Policy, groupSa, groupWide, SaBody, policy}
 use Rattle.policies.specs.Grammar.{IsSelector, IsTransform, IsSaBody, IsGroupSa, IsGroupWide, IsPolicy, is-sa, is-wide}
 use Rattle.policies.proofs.PolicyGrammar.{complete}
-use Rattle.view.specs.View.{leadOf, octetsIn, shownSelector, shownTransform, shownAttributes, shownBody, itemsOf}
+use Rattle.view.specs.View.{octetsIn, shownSelector, shownTransform, shownAttributes, shownBody, itemsOf}
 use Rattle.view.specs.declared.items.Item.{Item}
 use Rattle.view.specs.declared.items.Item.the-variants as item
 use Rattle.view.proofs.AttributeLaws.{of-format, row-octets}

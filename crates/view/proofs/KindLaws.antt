@@ -26,7 +26,7 @@ use Rattle.policies.proofs.PolicyGrammar.{inverse, sound}
 use Rattle.policies.proofs.BodyGrammar.{body-from}
 use Rattle.contents.specs.inner.Values.{isWhole, attributesIn}
 use Rattle.contents.proofs.ValuesLaws.{is-whole}
-use Rattle.view.specs.View.{onAll, kindIn, kindOf, spiIn, spiOf}
+use Rattle.view.specs.View.{onAll, firstOctet, kindIn, kindOf, spiIn, spiOf, spiStartIn, spiStart}
 use Rattle.view.specs.View.{shownSelector, shownTransform, shownAttributes, shownBody, itemsIn, itemsOf}
 use Rattle.view.specs.declared.read.Kind.the-variants as kind
 
@@ -85,10 +85,22 @@ module _ (s : List ℕ) where
           go (groupWide x) (is-wide i) = absurd (z (pq ∙ i .first))
           go (groupSa x) (is-sa i) = ap kind.GroupSa (pq ∙ i .protocol)
 
+-- the first octet that the answer names is the policy's: "protocol (6 Rekey, 3 ESP, 2 AH)", "First octet 0: group-wide policy"
+pub kind-octet : (s : List ℕ) (x : Policy) → IsPolicy s x → firstOctet (kindIn x) ≡ oct s 0 ∷ []
+kind-octet s (groupSa x) (is-sa i) = ap (λ (p : ℕ). p ∷ []) (sym (i .protocol))
+kind-octet s (groupWide x) (is-wide i) = ap (λ (p : ℕ). p ∷ []) (sym (i .first))
+
+pub kind-of-policy : (s : List ℕ) (x : Policy) → policy 0 s ≡ whole x [] → firstOctet (kindOf s) ≡ oct s 0 ∷ []
+kind-of-policy s x e = ap (λ (y : Reading Policy). firstOctet (onAll kind.Nothing kindIn y)) e ∙ kind-octet s x (one s x e)
+
+pub kind-of-none : (s : List ℕ) → ((x : Policy) → policy 0 s ≡ whole x [] → ⊥) → firstOctet (kindOf s) ≡ []
+kind-of-none s h = ap firstOctet (sym (none s h))
+
 -- WHAT IT SHOWS
 pub record Sa (s : List ℕ) (p : ℕ) : Type 0 where
   pub head : 4 + spiSize p ≤ length s
   pub spi : part s 4 (4 + spiSize p) ≡ spiOf s
+  pub there : 4 ≡ spiStart s
   pub body : SaBody
   pub is : IsSaBody (inPolicy p) (drop (4 + spiSize p) s) body
   pub items : shownBody (inPolicy p) (4 + spiSize p) (length s) body ≡ itemsOf s
@@ -107,6 +119,7 @@ sa-of : (s : List ℕ) (x : GroupSaPolicy) → policy 0 s ≡ whole (groupSa x) 
 sa-of s x e (is-sa i) = record {
   head = i .least;
   spi = i .spi ∙ ap (onAll [] spiIn) (sym e);
+  there = ap (onAll 0 spiStartIn) (sym e);
   body = i .body;
   is = i .holds;
   items = sa-items s x e i;
@@ -115,6 +128,7 @@ sa-of s x e (is-sa i) = record {
 pub record Wide (s : List ℕ) : Type 0 where
   pub head : 4 ≤ length s
   pub spi : [] ≡ spiOf s
+  pub there : 0 ≡ spiStart s
   pub held : isWhole (attributes place.GroupWidePolicy 0 (drop 4 s)) ≡ true
   pub items : shownAttributes place.GroupWidePolicy (length s) (attributesIn place.GroupWidePolicy (drop 4 s)) ≡ itemsOf s
 
@@ -125,6 +139,7 @@ wide-of s x e (is-wide i) =
     record {
       head = i .least;
       spi = ap (onAll [] spiIn) (sym e);
+      there = ap (onAll 0 spiStartIn) (sym e);
       held = a .0;
       items =
           ap (shownAttributes p (length s)) (a .1)
@@ -156,14 +171,15 @@ module _ (s : List ℕ) where
       go (whole x (y ∷ r)) e q = let z : Absurd = cc in absurd (omega arith)
       go (broken o) e q = let z : Absurd = cc in absurd (omega arith)
 
-  pub of-none : kind.Nothing ≡ kindOf s → ([] ≡ itemsOf s) × ([] ≡ spiOf s)
+  pub of-none : kind.Nothing ≡ kindOf s → ([] ≡ itemsOf s) × ([] ≡ spiOf s) × (0 ≡ spiStart s)
   of-none = go (policy 0 s)
     where
-      go : (y : Reading Policy) → kind.Nothing ≡ onAll kind.Nothing kindIn y → ([] ≡ onAll [] (itemsIn s) y) × ([] ≡ onAll [] spiIn y)
+      go : (y : Reading Policy) → kind.Nothing ≡ onAll kind.Nothing kindIn y
+          → ([] ≡ onAll [] (itemsIn s) y) × ([] ≡ onAll [] spiIn y) × (0 ≡ onAll 0 spiStartIn y)
       go (whole (groupSa x) []) q = let z : Absurd = cc in absurd (omega arith)
       go (whole (groupWide x) []) q = let z : Absurd = cc in absurd (omega arith)
-      go (whole x (y ∷ r)) q = (refl, refl)
-      go (broken o) q = (refl, refl)
+      go (whole x (y ∷ r)) q = (refl, refl, refl)
+      go (broken o) q = (refl, refl, refl)
 
 -- WHAT IS SHOWN IS WHAT THE TREE'S POLICY HOLDS
 pub record ShowsSa (s : List ℕ) (x : GroupSaPolicy) : Type 0 where

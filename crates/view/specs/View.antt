@@ -6,7 +6,7 @@ use mathlib.Core.Bool.{Bool}
 use lib.Dec.{leb}
 use lib.ListN.{length, drop, getD}
 use Rattle.octets.specs.Walk.{either, Reading, whole, broken}
-use Rattle.attributes.specs.Attribute.{Attribute}
+use Rattle.attributes.specs.Attribute.{Attribute, leadOf, spanOf}
 use Rattle.attributes.specs.Place.{meaningOf, inPolicy}
 use Rattle.attributes.specs.Layout.{attributes}
 use Rattle.attributes.specs.declared.tables.Place.{Place}
@@ -25,7 +25,13 @@ onAll nothing f (whole a []) = f a
 onAll nothing f (whole a (x ∷ rest)) = nothing
 onAll nothing f (broken o) = nothing
 
--- PROTOCOL AND SPI
+-- FIRST OCTET AND SPI. The first octet of each answer by document 01: "protocol (6 Rekey, 3 ESP, 2 AH)", "First octet 0: group-wide
+-- policy"; no policy has none
+abbrev pub firstOctet : Kind → List ℕ
+firstOctet (kind.GroupSa p) = p ∷ []
+firstOctet kind.GroupWide = 0 ∷ []
+firstOctet kind.Nothing = []
+
 abbrev pub kindIn : Policy → Kind
 kindIn (groupSa x) = kind.GroupSa (x .protocol)
 kindIn (groupWide x) = kind.GroupWide
@@ -40,6 +46,14 @@ spiIn (groupWide x) = []
 abbrev pub spiOf : List ℕ → List ℕ
 spiOf s = onAll [] spiIn (policy 0 s)
 
+-- where it starts in those octets, behind "protocol, SPI size, length 2"; 0 where there is none
+abbrev pub spiStartIn : Policy → ℕ
+spiStartIn (groupSa x) = 4
+spiStartIn (groupWide x) = 0
+
+abbrev pub spiStart : List ℕ → ℕ
+spiStart s = onAll 0 spiStartIn (policy 0 s)
+
 -- ONE SELECTOR, TRANSFORM OR ATTRIBUTE; a selector and an attribute stand at an offset b of the policy
 abbrev pub shownSelector : ℕ → Selector → Item
 shownSelector b x = item.Selector (x .kind) (x .protocol) (x .startPort) (x .endPort) (b + 8) (b + selectorSize (x .kind))
@@ -47,17 +61,13 @@ shownSelector b x = item.Selector (x .kind) (x .protocol) (x .startPort) (x .end
 abbrev pub shownTransform : Transform → Item
 shownTransform t = item.Transform (t .kind) (t .id) (length (t .keyLengths)) (getD (t .keyLengths) 0 0)
 
--- the octets of an attribute before its value
-abbrev pub leadOf : Attribute → ℕ
-leadOf a = either (a .short) 2 4
-
 abbrev pub shownAttribute : Place → ℕ → Attribute → Item
 shownAttribute p b a = item.Attribute (meaningOf p (a .kind)) (a .short) (a .kind) (b + leadOf a) (b + leadOf a + length (a .value))
 
 -- ALL OF THEM, one after the other. Attributes fill a policy to its end, at the offset e
 unfoldable pub octetsIn : List Attribute → ℕ
 octetsIn [] = 0
-octetsIn (a ∷ l) = leadOf a + length (a .value) + octetsIn l
+octetsIn (a ∷ l) = spanOf a + octetsIn l
 
 unfoldable pub shownAttributes : Place → ℕ → List Attribute → List Item
 shownAttributes p e [] = []

@@ -2,7 +2,8 @@
 // transforms and attributes that were passed. The borrow checker covers no function over a struct that holds a reference, so each function
 // here takes the view apart and leaves the work to `read`.
 ghost use mathlib.Core.Path.{_≡_};
-ghost use Rattle.view.specs.View.{kindOf, spiOf, isAtEnd, nextAfter, itemAt};
+ghost use Prim.Native.Nat.{_+_};
+ghost use Rattle.view.specs.View.{kindOf, spiOf, spiStart, isAtEnd, nextAfter, itemAt};
 
 pub mod items;
 pub mod read;
@@ -28,7 +29,8 @@ pub fn kind<'a>(v: View<'a>) -> read::Kind
 
 // The octets of its SPI, where they stand; none for a group-wide policy and for no policy.
 pub fn spi<'a>(v: View<'a>) -> &'a [u8]
-    ensures { λ r. ⌜ now r ≡ spiOf (now (v .entry .src)) ⌝ }
+    ensures { λ r. ⌜ (now r ≡ spiOf (now (v .entry .src)))
+        × (r .ptr ≡ (v .entry .src .ptr .0, spiStart (now (v .entry .src)) + v .entry .src .ptr .1)) ⌝ }
 {
     read::spi_of(v.src)
 }
@@ -57,6 +59,28 @@ pub fn here<'a>(v: View<'a>) -> items::Item
     read::item_at(v.src, v.at)
 }
 
+// What stands at the cursor, and the cursor of the view moved on, in one call.
+pub fn step<'a>(v: View<'a>) -> read::Step
+    ensures { λ r. ⌜ (r .item ≡ itemAt (now (v .entry .src)) (v .entry .at))
+        × (r .next ≡ nextAfter (now (v .entry .src)) (v .entry .at)) ⌝ }
+{
+    read::step_at(v.src, v.at)
+}
+
+// Whether a view of the octets shows no more than so many: for every caller that holds no view.
+pub fn shown_end(s: &[u8], at: usize) -> bool
+    ensures { λ r. ⌜ r ≡ isAtEnd (now (s .entry)) at ⌝ }
+{
+    at_end(View { src: s, at })
+}
+
+// The cursor of a view of the octets moved on: for every caller that holds no view.
+pub fn shown_next(s: &[u8], at: usize) -> usize
+    ensures { λ r. ⌜ r ≡ nextAfter (now (s .entry)) at ⌝ }
+{
+    moved(View { src: s, at }).at
+}
+
 // What a view of the octets shows after so many others: for every caller that holds no view.
 pub fn shown(s: &[u8], at: usize) -> items::Item
     ensures { λ r. ⌜ r ≡ itemAt (now (s .entry)) at ⌝ }
@@ -73,7 +97,8 @@ pub fn shown_kind(s: &[u8]) -> read::Kind
 
 // The octets of the SPI that a view of the octets shows: for every caller that holds no view.
 pub fn shown_spi(s: &[u8]) -> &[u8]
-    ensures { λ r. ⌜ now r ≡ spiOf (now (s .entry)) ⌝ }
+    ensures { λ r. ⌜ (now r ≡ spiOf (now (s .entry)))
+        × (r .ptr ≡ (s .entry .ptr .0, spiStart (now (s .entry)) + s .entry .ptr .1)) ⌝ }
 {
     spi(View { src: s, at: 0 })
 }

@@ -1,6 +1,7 @@
 // What octets show as a policy, for plain slices and numbers.
 ghost use mathlib.Core.Path.{_≡_};
-ghost use Rattle.view.specs.View.{kindOf, spiOf, isAtEnd, nextAfter, itemAt};
+ghost use Prim.Native.Nat.{_+_};
+ghost use Rattle.view.specs.View.{kindOf, spiOf, spiStart, isAtEnd, nextAfter, itemAt};
 use crate::items::Item;
 use attributes::Spot;
 use attributes::tables::Place;
@@ -38,7 +39,8 @@ pub fn kind_of(s: &[u8]) -> Kind
 
 // The SPI of the policy that the octets are, where it stands; none for a group-wide policy and for no policy. Internal.
 pub fn spi_of(s: &[u8]) -> &[u8]
-    ensures { λ r. ⌜ now r ≡ spiOf (now (s .entry)) ⌝ }
+    ensures { λ r. ⌜ (now r ≡ spiOf (now (s .entry)))
+        × (r .ptr ≡ (s .entry .ptr .0, spiStart (now (s .entry)) + s .entry .ptr .1)) ⌝ }
 {
     match kind_of(s) {
         Kind::GroupSa(p) => {
@@ -61,6 +63,25 @@ pub fn item_at(s: &[u8], n: usize) -> Item
         }
         Kind::GroupWide => crate::items::attribute_item(Place::GroupWidePolicy, &s[4..], 4, n),
         Kind::Nothing => Item::Nothing,
+    }
+}
+
+// What stands at a cursor, and the cursor after it.
+pub struct Step {
+    pub item: Item,
+    pub next: usize,
+}
+
+// What the policy that the octets are shows after n others, and the cursor after that, which stays at the end. Internal.
+pub fn step_at(s: &[u8], n: usize) -> Step
+    ensures { λ r. ⌜ (r .item ≡ itemAt (now (s .entry)) n) × (r .next ≡ nextAfter (now (s .entry)) n) ⌝ }
+{
+    let item = item_at(s, n);
+    match item {
+        Item::Selector { .. } => Step { item, next: n + 1 },
+        Item::Transform { .. } => Step { item, next: n + 1 },
+        Item::Attribute { .. } => Step { item, next: n + 1 },
+        Item::Nothing => Step { item, next: n },
     }
 }
 

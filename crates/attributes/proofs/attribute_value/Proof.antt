@@ -4,7 +4,8 @@ use denote.Ref.{now}
 use mathlib.Core.Path.{ap, sym, _∙_}
 use native.Mathlib.Omega.{arith}
 use Rattle.attributes.proofs.AttributeLaws.{IsRead, read-is, cut-is, read-inside, value-there, value-none, value-past}
-use Prim.Native.Nat.{_≤_}
+use Rattle.attributes.proofs.AttributeLaws.{starts-there, starts-none, starts-past}
+use Prim.Native.Nat.{ℕ, _+_, _≤_}
 use lib.ListN.{length, drop, length-drop}
 use borrow.Author.Needs.{needs}
 use Rattle.attributes.proofs.attribute_value.Statement.{statement}
@@ -20,7 +21,11 @@ part-result-end : tie.Need-part-result-end
 part-result-end c = search needs
 
 returns : tie.Need-returns
-returns c = value-past (now (c .before .before .before .args .s)) (c .before .before .before .args .at) (c .before .if1 .taken)
+returns c =
+    let a = c .before .before .before .args in (
+      value-past (now (a .s)) (a .at) (c .before .if1 .taken),
+      ap (λ (n : ℕ). (a .s .ptr .0, n + a .s .ptr .1)) (starts-past (now (a .s)) (a .at) (c .before .if1 .taken)),
+    )
 
 sub-attribute-read : tie.Need-sub-attribute-read
 sub-attribute-read c = search needs
@@ -103,14 +108,18 @@ part-result-end-3 c = search needs
 returns-2 : tie.Need-returns-2
 returns-2 c =
     let a = c .before .before .before .before .before .before .before .before .args in
-    let v = c .before .before .start .given .0 in
-    value-there (now (a .s)) (a .at) (v .0) (v .1 .0) (v .1 .1 .0) (v .1 .1 .1 .0) (found (c .before))
+    let v = c .before .before .start .given .0 in (
+      value-there (now (a .s)) (a .at) (v .0) (v .1 .0) (v .1 .1 .0) (v .1 .1 .1 .0) (found (c .before)),
+      ap (λ (n : ℕ). (a .s .ptr .0, n + a .s .ptr .1))
+          (starts-there (now (a .s)) (a .at) (v .0) (v .1 .0) (v .1 .1 .0) (v .1 .1 .1 .0) (found (c .before))),
+    )
 
 returns-3 : tie.Need-returns-3
 returns-3 c =
     let a = c .before .before .before .before .before .before .before .args in
-    value-none (now (a .s)) (a .at) (cut-is (drop (a .at) (now (a .s))) (sym (c .before .enum-told .given .1)
-    ∙ c .before .before .before .attribute-read .ensures ∙ ap readOf (to-end (now (a .s)) (a .at))))
+    let f = cut-is (drop (a .at) (now (a .s))) (sym (c .before .enum-told .given .1)
+    ∙ c .before .before .before .attribute-read .ensures ∙ ap readOf (to-end (now (a .s)) (a .at))) in
+    (value-none (now (a .s)) (a .at) f, ap (λ (n : ℕ). (a .s .ptr .0, n + a .s .ptr .1)) (starts-none (now (a .s)) (a .at) f))
 
 pub attribute-value-spec : {M : Type 1} → statement M
 attribute-value-spec =

@@ -1,18 +1,19 @@
 -- Octets whose layout is whole, for the readers that go through them again: their items, and what finding one says.
-use Prim.Native.Nat.{ℕ, _-_, _<_, _≤_}
+use Prim.Native.Nat.{ℕ, _+_, _-_, _<_, _≤_}
 use mathlib.Core.Path.{_≡_}
 use mathlib.Core.List.{List, [], _∷_}
 use mathlib.Core.Bool.{Bool, true, false}
 use lib.Dec.{eqb}
 use lib.ListN.{length, drop}
-use Rattle.octets.specs.Walk.{part, Reading, whole, broken}
-use Rattle.attributes.specs.Attribute.{Attribute}
+use Rattle.octets.specs.Walk.{part, either, Reading, whole, broken}
+use Rattle.attributes.specs.Attribute.{Attribute, leadOf, spanOf}
 use Rattle.attributes.specs.Place.{wrappedSize}
-use Rattle.attributes.specs.Tree.{valuesOf}
+use Rattle.attributes.specs.Tree.{means, valuesOf}
 use Rattle.attributes.specs.Layout.{attributes}
 use Rattle.attributes.specs.declared.tables.Place.{Place}
 use Rattle.attributes.specs.declared.tables.Meaning.{Meaning}
 use Rattle.attributes.specs.declared.tables.Meaning.the-variants as meaning
+use Rattle.contents.specs.declared.Stretch.{Stretch}
 use Rattle.contents.specs.declared.values.Found.{Found}
 use Rattle.contents.specs.declared.values.Found.the-variants as found
 
@@ -31,6 +32,16 @@ attributesIn p s = itemsOf (attributes p 0 s)
 abbrev pub valuesIn : Meaning → Place → List ℕ → List (List ℕ)
 valuesIn m p s = valuesOf m p (attributesIn p s)
 
+-- where they stand: attributes one after the other from the place b on, each with its value behind its lead
+unfoldable pub placesOf : Meaning → Place → ℕ → List Attribute → List Stretch
+placesOf m p b [] = []
+placesOf m p b (a ∷ l) =
+    either (means m p a) (record { start = b + leadOf a; end = b + spanOf a } ∷ placesOf m p (b + spanOf a) l)
+    (placesOf m p (b + spanOf a) l)
+
+abbrev pub placesIn : Meaning → Place → List ℕ → ℕ → List Stretch
+placesIn m p s from = placesOf m p from (attributesIn p (drop from s))
+
 -- the octets that such a value has, where the layout is whole
 abbrev pub valueSize : Meaning → ℕ → Bool
 valueSize meaning.Skipped n = true
@@ -40,9 +51,10 @@ valueSize meaning.DeactivationDelay n = eqb n 2
 valueSize meaning.SaKey n = wrappedSize n
 valueSize meaning.WrapKey n = wrappedSize n
 
--- the first of them from a place on stands from a to e; the others come after it
+-- the first of them from a place on stands from a to e and nowhere else, though the same octets stood there; the others come after it
 pub record FoundAt (m : Meaning) (p : Place) (s : List ℕ) (from a e : ℕ) : Type 0 where
   pub first : valuesIn m p (drop from s) ≡ part s a e ∷ valuesIn m p (drop e s)
+  pub place : placesIn m p s from ≡ record { start = a; end = e } ∷ placesIn m p s e
   pub start : from < a
   pub order : a ≤ e
   pub inside : e ≤ length s

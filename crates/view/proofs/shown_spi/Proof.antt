@@ -1,5 +1,5 @@
 -- `view::shown_spi` meets its contract, by the walk of `Showing` at `spi`.
-use Prim.Native.Nat.{ℕ}
+use Prim.Native.Nat.{ℕ, _+_}
 use mathlib.Core.Path.{_≡_}
 use mathlib.Core.List.{List}
 use mir.Syntax.{Ty, named, imm, w8, tyRef, tyInt}
@@ -11,7 +11,7 @@ use denote.Builtin.{u8}
 use denote.Slice.{sliceTy, ShrSlice, shr-slice-lawful}
 use denote.Triple.Spec.{tripleOf}
 use denote.Triple.Table.{entered, cited}
-use Rattle.view.specs.View.{spiOf}
+use Rattle.view.specs.View.{spiOf, spiStart}
 use Rattle.view.proofs.Showing.{Callee, meets}
 use Rattle.view.proofs.spi.Symbol as callee-def
 use Rattle.view.proofs.spi.Symbol.{name as #callee}
@@ -28,7 +28,7 @@ abbrev τ : Ty
 τ = sliceTy (tyRef (named 0) imm (tyInt w8))
 
 abbrev P : Lfts 1 → RefT (List ℕ) → RefT (List ℕ) → Type 0
-P κs s r = now r ≡ spiOf (now s)
+P κs s r = (now r ≡ spiOf (now s)) × (r .ptr ≡ (s .ptr .0, spiStart (now s) + s .ptr .1))
 
 pub shown-spi-spec : {M : Type 1} → stated.statement M
 unfolding code.routine tablesOf

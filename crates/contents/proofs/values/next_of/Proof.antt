@@ -1,17 +1,19 @@
 use denote.Ref.{now}
 use native.Mathlib.Omega.{arith}
-use mathlib.Core.Path.{_≡_, refl, ap, sym, _∙_}
-use Prim.Native.Nat.{_+_, _-_, _<_, _≤_}
+use mathlib.Core.Path.{_≡_, refl, ap, sym, _∙_, subst}
+use Prim.Native.Nat.{ℕ, _+_, _-_, _<_, _≤_}
+use mathlib.Core.List.{List}
 use mathlib.Core.Bool.{true}
 use lib.ListN.{length, drop}
 use Rattle.octets.proofs.Walks.{to-end}
 use Rattle.attributes.specs.Tree.{codeOf}
 use Rattle.attributes.specs.Layout.{attributes}
 use Rattle.attributes.specs.Answers.{readOf}
-use Rattle.contents.specs.inner.Values.{isWhole, valuesIn}
+use Rattle.contents.specs.inner.Values.{isWhole, valuesIn, placesIn, FoundAt}
 use Rattle.attributes.specs.declared.tables.Meaning.{Meaning}
 use Rattle.attributes.proofs.AttributeLaws.{IsRead, read-is, cut-is}
 use Rattle.contents.proofs.ValuesLaws.{none-left, never-cut, next-inside, next-whole, miss, hit, size, starts-after}
+use Rattle.contents.proofs.ValuesLaws.{value-fits, value-start, miss-place, hit-place}
 use borrow.Author.Needs.{needs}
 use Rattle.contents.proofs.values.next_of.Statement.{statement}
 use Rattle.contents.proofs.values.next_of.Tie as tie
@@ -20,6 +22,7 @@ abbrev Inv-loop : tie.InvT-loop
 Inv-loop place s from wanted at₀ at =
     (from ≤ at) × (at ≤ length s) × (isWhole (attributes place 0 (drop at s)) ≡ true)
     × ((m : Meaning) → wanted ≡ codeOf m → valuesIn m place (drop from s) ≡ valuesIn m place (drop at s))
+    × ((m : Meaning) → wanted ≡ codeOf m → placesIn m place s from ≡ placesIn m place s at)
 
 abbrev μ-loop : tie.MeasureT-loop
 μ-loop place s from wanted at₀ at = length s - at
@@ -28,7 +31,7 @@ code-requires : tie.Need-code-requires Inv-loop μ-loop
 code-requires c κs = search needs
 
 loop-holds : tie.Need-loop-holds Inv-loop μ-loop
-loop-holds c = (omega arith, c .before .before .pre .0, c .before .before .pre .1, λ m e. refl)
+loop-holds c = (omega arith, c .before .before .pre .0, c .before .before .pre .1, λ m e. refl, λ m e. refl)
 
 sub-attribute-read : tie.Need-sub-attribute-read Inv-loop μ-loop
 sub-attribute-read c = search needs
@@ -68,47 +71,80 @@ inside c =
     next-inside (a .m) (a .place) (now (a .s)) (l .at) (l .inv .2) (c .before .before .before .before .before .loop-test .taken)
     (v .0) (v .1 .0) (v .1 .1 .0) (v .1 .1 .1 .0) (read c)
 
+add-next : tie.Need-add-next Inv-loop μ-loop
+add-next c = let i = inside c in record { fits = omega (arith, i .1) }
+
 meaning-in-requires : tie.Need-meaning-in-requires Inv-loop μ-loop
 meaning-in-requires c κs = search needs
 
 code-requires-2 : tie.Need-code-requires-2 Inv-loop μ-loop
 code-requires-2 c κs = search needs
 
-add-t19 : tie.Need-add-t19 Inv-loop μ-loop
-add-t19 c = let i = inside (c .before .before .before) in record { fits = omega (arith, i .1, i .2) }
+attribute-value-requires : tie.Need-attribute-value-requires Inv-loop μ-loop
+attribute-value-requires c κs = search needs
 
-add-t20 : tie.Need-add-t20 Inv-loop μ-loop
-add-t20 c = let i = inside (c .before .before .before) in record { fits = omega (arith, i .1) }
+-- the value ends where its attribute does, so it starts where the attribute says
+starts : (c : tie.After-attribute-value Inv-loop μ-loop)
+    → let b = c .before .before .before .before in
+    let v = b .before .kind .given .0 in
+    let at = b .before .before .before .before .before .before .loop .at in
+    at + v .1 .1 .1 .0 - length (c .attribute-value .result .now) ≡ at + v .1 .1 .0
+starts c =
+    let b = c .before .before .before .before in
+    let l = b .before .before .before .before .before .before .loop in
+    let a = b .before .before .before .before .before .before .before .before .before .args in
+    let h = b .before .before .before .before .before .loop-test .taken in
+    let v = b .before .kind .given .0 in
+    ap (λ (y : List ℕ). l .at + v .1 .1 .1 .0 - length y) (c .attribute-value .ensures .0)
+    ∙ value-start (a .m) (a .place) (now (a .s)) (l .at) (l .inv .2) h (v .0) (v .1 .0) (v .1 .1 .0) (v .1 .1 .1 .0) (read b)
+
+sub-t21 : tie.Need-sub-t21 Inv-loop μ-loop
+sub-t21 c =
+    let b = c .before .before .before .before in
+    let i = inside b in
+    let v = b .before .kind .given .0 in
+    let l = b .before .before .before .before .before .before .loop in
+    let a = b .before .before .before .before .before .before .before .before .before .args in
+    let h = b .before .before .before .before .before .loop-test .taken in
+    let n = ap length (c .attribute-value .ensures .0) in
+    omega (
+      arith,
+      i .2,
+      n,
+      value-fits (a .m) (a .place) (now (a .s)) (l .at) (l .inv .2) h (v .0) (v .1 .0) (v .1 .1 .0) (v .1 .1 .1 .0) (read b),
+    )
 
 returns : tie.Need-returns Inv-loop μ-loop
 returns c =
-    let b = c .before .before .before in
+    let t = c .before in
+    let b = t .before .before .before in
     let l = b .before .before .before .before .before .before .loop in
     let a = b .before .before .before .before .before .before .before .before .before .args in
     let h = b .before .before .before .before .before .loop-test .taken in
     let w = b .before .before .before .before .before .before .before .code .ensures in
-    let k = c .before .code2 .ensures ∙ ap codeOf (c .before .before .meaning-in .ensures) in
+    let k = t .before .code2 .ensures ∙ ap codeOf (t .before .before .meaning-in .ensures) in
     let v = b .before .kind .given .0 in
+    let s = now (a .s) in
     let i = inside b in
-    record {
+    subst (λ (x : ℕ). FoundAt (a .m) (a .place) s (a .from) x (l .at + v .1 .1 .1 .0)) (sym (starts c))
+    (record {
       first =
           l .inv .3 (a .m) w
-          ∙ hit (a .m) (a .place) (now (a .s)) (l .at) (l .inv .2) h (v .0) (v .1 .0) (v .1 .1 .0) (v .1 .1 .1 .0) (read b) _ _ k w
-          (c .if1 .taken);
+          ∙ hit (a .m) (a .place) s (l .at) (l .inv .2) h (v .0) (v .1 .0) (v .1 .1 .0) (v .1 .1 .1 .0) (read b) _ _ k w (t .if1 .taken);
+      place =
+          l .inv .4 (a .m) w
+          ∙ hit-place (a .m) (a .place) s (l .at) (l .inv .2) h (v .0) (v .1 .0) (v .1 .1 .0) (v .1 .1 .1 .0) (read b) _ _ k w
+          (t .if1 .taken);
       start = omega (
         arith,
         l .inv .0,
-        starts-after (a .m) (a .place) (now (a .s)) (l .at) (l .inv .2) h (v .0) (v .1 .0) (v .1 .1 .0) (v .1 .1 .1 .0) (read b),
+        starts-after (a .m) (a .place) s (l .at) (l .inv .2) h (v .0) (v .1 .0) (v .1 .1 .0) (v .1 .1 .1 .0) (read b),
       );
       order = omega (arith, i .2);
       inside = i .1;
-      size = size (a .m) (a .place) (now (a .s)) (l .at) (l .inv .2) h (v .0) (v .1 .0) (v .1 .1 .0) (v .1 .1 .1 .0) (read b) _ _ k w
-          (c .if1 .taken);
-      rest = next-whole (a .m) (a .place) (now (a .s)) (l .at) (l .inv .2) h (v .0) (v .1 .0) (v .1 .1 .0) (v .1 .1 .1 .0) (read b);
-    }
-
-add-at : tie.Need-add-at Inv-loop μ-loop
-add-at c = let i = inside (c .before .before .before) in record { fits = omega (arith, i .1) }
+      size = size (a .m) (a .place) s (l .at) (l .inv .2) h (v .0) (v .1 .0) (v .1 .1 .0) (v .1 .1 .1 .0) (read b) _ _ k w (t .if1 .taken);
+      rest = next-whole (a .m) (a .place) s (l .at) (l .inv .2) h (v .0) (v .1 .0) (v .1 .1 .0) (v .1 .1 .1 .0) (read b);
+    })
 
 loop-less : tie.Need-loop-less Inv-loop μ-loop
 loop-less c = let i = inside (c .before .before .before) in omega (arith, i .0, i .1)
@@ -121,13 +157,15 @@ loop-again c =
     let h = b .before .before .before .before .before .loop-test .taken in
     let k = c .before .code2 .ensures ∙ ap codeOf (c .before .before .meaning-in .ensures) in
     let v = b .before .kind .given .0 in
+    let s = now (a .s) in
     let i = inside b in (
       omega (arith, l .inv .0),
       i .1,
-      next-whole (a .m) (a .place) (now (a .s)) (l .at) (l .inv .2) h (v .0) (v .1 .0) (v .1 .1 .0) (v .1 .1 .1 .0) (read b),
+      next-whole (a .m) (a .place) s (l .at) (l .inv .2) h (v .0) (v .1 .0) (v .1 .1 .0) (v .1 .1 .1 .0) (read b),
       λ m e. l .inv .3 m e
-          ∙ miss m (a .place) (now (a .s)) (l .at) (l .inv .2) h (v .0) (v .1 .0) (v .1 .1 .0) (v .1 .1 .1 .0) (read b) _ _ k e
-          (c .if1 .left),
+          ∙ miss m (a .place) s (l .at) (l .inv .2) h (v .0) (v .1 .0) (v .1 .1 .0) (v .1 .1 .1 .0) (read b) _ _ k e (c .if1 .left),
+      λ m e. l .inv .4 m e
+          ∙ miss-place m (a .place) s (l .at) (l .inv .2) h (v .0) (v .1 .0) (v .1 .1 .0) (v .1 .1 .1 .0) (read b) _ _ k e (c .if1 .left),
     )
 
 enum-told : tie.Need-enum-told Inv-loop μ-loop
@@ -162,12 +200,12 @@ next-of-spec =
     part-attribute-read-end
     attribute-read-requires
     enum-known-kind
+    add-next
     meaning-in-requires
     code-requires-2
-    add-t19
-    add-t20
+    attribute-value-requires
+    sub-t21
     returns
-    add-at
     loop-less
     loop-again
     enum-told

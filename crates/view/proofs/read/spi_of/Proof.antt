@@ -60,19 +60,24 @@ part-result-end-3 c = search needs
 returns : tie.Need-returns
 returns c =
     let k = c .before .before .before .p .given in
-    let s = now (c .before .before .before .before .before .before .before .args .s) in
-    let f = of-sa s (k .0 .0) (sym (k .1) ∙ c .before .before .before .before .before .kind-of .ensures) in
-    ap (λ (n : ℕ). part s 4 (4 + n)) (c .before .spi-size .ensures .0) ∙ f .spi
+    let a = c .before .before .before .before .before .before .before .args in
+    let s = now (a .s) in
+    let f = of-sa s (k .0 .0) (sym (k .1) ∙ c .before .before .before .before .before .kind-of .ensures) in (
+      ap (λ (n : ℕ). part s 4 (4 + n)) (c .before .spi-size .ensures .0) ∙ f .spi,
+      ap (λ (n : ℕ). (a .s .ptr .0, n + a .s .ptr .1)) (f .there),
+    )
 
 returns-2 : tie.Need-returns-2
 returns-2 c =
-    of-wide (now (c .before .before .before .before .before .args .s))
-    (sym (c .before .enum-told .given .1) ∙ c .before .before .before .kind-of .ensures) .spi
+    let a = c .before .before .before .before .before .args in
+    let f = of-wide (now (a .s)) (sym (c .before .enum-told .given .1) ∙ c .before .before .before .kind-of .ensures) in
+    (f .spi, ap (λ (n : ℕ). (a .s .ptr .0, n + a .s .ptr .1)) (f .there))
 
 returns-3 : tie.Need-returns-3
 returns-3 c =
-    of-none (now (c .before .before .before .before .before .args .s))
-    (sym (c .before .enum-told2 .given .1) ∙ c .before .before .before .kind-of .ensures) .1
+    let a = c .before .before .before .before .before .args in
+    let f = of-none (now (a .s)) (sym (c .before .enum-told2 .given .1) ∙ c .before .before .before .kind-of .ensures) in
+    (f .1, ap (λ (n : ℕ). (a .s .ptr .0, n + a .s .ptr .1)) (f .2))
 
 pub spi-of-spec : {M : Type 1} → statement M
 spi-of-spec =

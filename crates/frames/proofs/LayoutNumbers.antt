@@ -1,0 +1,26 @@
+-- The answer `Layout` by document 01's number and offset: 0 where the octets are a frame's, else 1 with the offset at which the reading broke.
+use mathlib.Core.Path.{_≡_, refl, ap, sym, _∙_}
+use mathlib.Core.Logic.{_↔_}
+use mathlib.Core.List.{List, [], _∷_}
+use Prim.Native.Nat.{ℕ}
+use native.Mathlib.Omega.{arith}
+use Rattle.octets.specs.Walk.{Reading, whole, broken}
+use Rattle.attributes.specs.Answers.{layoutOf, layoutNumber, layoutOffset}
+use Rattle.frames.specs.Frame.{Frame, frame, frameLayout}
+use Rattle.frames.specs.Grammar.{IsFrame}
+use Rattle.frames.proofs.FrameGrammar.{read-frame, frame-read}
+
+-- "1: .. any first octet, length, SPI size, selector type, attribute format or end that breaks the layouts"
+pub number-0 : (s : List ℕ) → (layoutNumber (frameLayout s) ≡ 0) ↔ ((x : Frame) × IsFrame s x)
+unfolding frameLayout
+number-0 s = (go (frame s) refl, λ i. ap (λ (y : Reading Frame). layoutNumber (layoutOf y)) (frame-read s (i .0) (i .1)))
+  where
+    go : (y : Reading Frame) → frame s ≡ y → layoutNumber (layoutOf (frame s)) ≡ 0 → (x : Frame) × IsFrame s x
+    go (whole x rest) e q = (x, read-frame s x rest e)
+    go (broken o) e q = absurd (omega (arith, ap (λ (y : Reading Frame). layoutNumber (layoutOf y)) e, q))
+
+-- number 1 carries the offset of the structure that broke first (document 02, T-06); a whole frame has none
+pub number-1 : (s : List ℕ) (o : ℕ) → frame s ≡ broken o → (layoutNumber (frameLayout s) ≡ 1) × (layoutOffset (frameLayout s) ≡ o ∷ [])
+unfolding frameLayout
+number-1 s o e =
+    (ap (λ (y : Reading Frame). layoutNumber (layoutOf y)) e, ap (λ (y : Reading Frame). layoutOffset (layoutOf y)) e)
