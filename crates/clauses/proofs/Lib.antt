@@ -14,5 +14,7 @@ pub mod SamplesOf4
 pub mod SamplesOf5
 pub mod SamplesOf6
 pub mod SamplesOf7
+pub mod SamplesOfLimits
+pub mod SamplesAlone
 pub mod AllSamples
 pub mod Clear
