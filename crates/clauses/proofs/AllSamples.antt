@@ -14,6 +14,7 @@ use Rattle.sa.specs.Entry.{before, named, formed, liveRekey, due, espSa, rekeyS
 use Rattle.table.specs.Table.{tableOf, tableFormed, emptyAt}
 use Rattle.state.specs.Held.{heldOf, keyFormed, heldFormed}
 use Rattle.state.specs.State.{newState, stateFormed}
+use Rattle.state.proofs.ApartLimits.{apart}
 use Rattle.clauses.specs.Contents.{gather}
 use Rattle.clauses.specs.Fitness.{multicast, oneGroupAddress, encryptionFits, keyWrapFits, sequenceNumbersFit, authenticationFits}
 use Rattle.clauses.specs.Fitness.{exactly, transformsFit, sum, encryptionOctets, keyWrapOctets}
@@ -33,7 +34,7 @@ use Rattle.clauses.proofs.SamplesOf4.{samplesOf4}
 use Rattle.clauses.proofs.SamplesOf5.{samplesOf5}
 use Rattle.clauses.proofs.SamplesOf6.{samplesOf6}
 use Rattle.clauses.proofs.SamplesOf7.{samplesOf7}
-use Rattle.clauses.proofs.SamplesOfLimits.{apart, samplesOfLimits}
+use Rattle.clauses.proofs.SamplesOfLimits.{samplesOfLimits}
 use Rattle.clauses.proofs.SamplesAlone.{Alone, alone2, alone4, alone5, alone6, alone7}
 
 -- each has its number, under limits

@@ -2,6 +2,7 @@ pub mod AnyOrder
 pub mod Contents
 pub mod First
 pub mod OneOf
+pub mod BrokenMembers
 pub mod Gather
 pub mod OrderOf4
 pub mod OrderOf5

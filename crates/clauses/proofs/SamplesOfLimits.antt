@@ -1,17 +1,14 @@
 -- Samples under a record of six figures that differ. Document 01 gives four of the limits the same figure, 32, so samples under its own
 -- figures cannot tell one of these from another.
 use mathlib.Core.List.{List, [], _∷_}
-use Rattle.keys.specs.Limits.{Limits}
 use Rattle.sa.specs.declared.entry.Condition.the-variants.{Live}
 use Rattle.sa.specs.declared.entry.Sa.{Sa}
 use Rattle.state.specs.declared.State.{State}
 use Rattle.state.specs.declared.held.HeldKey.{HeldKey}
 use Rattle.state.specs.declared.least.Least.the-variants.{Id}
+use Rattle.state.proofs.ApartLimits.{apart}
 use Rattle.clauses.proofs.SampleParts.{registers, rekeys, fit, deletion, espSas, wrapKeys, copies, deleted, oneMore, sasWith, heldKey}
 use Rattle.clauses.proofs.SampleParts.{memberWithin, Sample, sample}
-
-abbrev pub apart : Limits
-apart = record { heldKeys = 2; espPolicies = 3; wrapKeys = 4; saKeys = 5; deletedSpis = 6; sas = 7 }
 
 abbrev with : List Sa → List HeldKey → State
 with l h = memberWithin apart l h (Id 0)
