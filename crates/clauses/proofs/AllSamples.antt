@@ -13,8 +13,10 @@ use Rattle.sa.specs.Clock.{elapsedAtLeast}
 use Rattle.sa.specs.Entry.{before, named, formed, liveRekey, due, espSa, rekeySa}
 use Rattle.table.specs.Table.{tableOf, tableFormed, emptyAt}
 use Rattle.state.specs.Held.{heldOf, keyFormed, heldFormed}
+use Rattle.state.specs.declared.State.{State}
 use Rattle.state.specs.State.{newState, stateFormed}
 use Rattle.state.proofs.ApartLimits.{apart}
+use Rattle.frames.specs.Frame.{Payload}
 use Rattle.clauses.specs.Contents.{gather}
 use Rattle.clauses.specs.Fitness.{multicast, oneGroupAddress, encryptionFits, keyWrapFits, sequenceNumbersFit, authenticationFits}
 use Rattle.clauses.specs.Fitness.{exactly, transformsFit, sum, encryptionOctets, keyWrapOctets}
@@ -28,7 +30,7 @@ use Rattle.clauses.specs.Number6.{policyUnpaired, bagUnpaired, policyTwi
 use Rattle.clauses.specs.Number6.{saKeyId, espKwkId, wrapKeyId, six-ofFrame, six-ofMember}
 use Rattle.clauses.specs.Number7.{manyEspPolicies, manyWrapKeys, manySaKeys, manyDeletedSpis, manySas, seven-ofFrame, seven-ofMember}
 use Rattle.clauses.specs.Refusals.{Number, one, judged, two, four, five, six, seven, refusal}
-use Rattle.clauses.proofs.SampleParts.{liveSpi, rekeySuite, group, saPolicy, tick, Sample, answerWithin}
+use Rattle.clauses.proofs.SampleParts.{liveSpi, rekeySuite, group, saPolicy, frameOf, tick, Sample, answerWithin}
 use Rattle.clauses.proofs.SamplesOf2And3.{samplesOf2And3}
 use Rattle.clauses.proofs.SamplesOf4.{samplesOf4}
 use Rattle.clauses.proofs.SamplesOf5.{samplesOf5}
@@ -88,6 +90,9 @@ pub record Samples : Type 0 where
   pub alone-7 : MetAlone sevenOf alone7
   -- under six figures that differ
   pub of-limits : AnsweredWithin apart samplesOfLimits
+  -- GSA_AUTH (39) and GSA_REGISTRATION (40) are answered alike, whatever their payloads
+  pub alike : (s : State) (now : ℕ) (lent x : List ℕ) (id : ℕ) (l : List Payload) →
+      refusal limits s now lent (frameOf x 39 id l) ≡ refusal limits s now lent (frameOf x 40 id l)
 
 pub samples-answered : Samples
 unfolding refusal judged one any all count keep heads rising newState stateFormed tableFormed heldFormed tableOf heldOf keyFormed formed
@@ -111,6 +116,7 @@ samples-answered =
       alone-6 = (refl, refl);
       alone-7 = (refl, refl);
       of-limits = refl;
+      alike = λ s now lent x id l. refl;
     }
 
 -- the octets that a Rekey policy needs: 28 and 24

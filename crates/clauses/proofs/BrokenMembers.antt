@@ -16,7 +16,7 @@ use Rattle.clauses.specs.Refusals.{one, judged, two, applies, refusal}
 use Rattle.clauses.proofs.OneOf.{or-true, one-at}
 
 -- number 2 applies, whatever the header says
-two-applies : (limits : Limits) (s : State) (now : ℕ) (h : Header) → stateFormed limits s ≡ false →
+pub two-applies : (limits : Limits) (s : State) (now : ℕ) (h : Header) → stateFormed limits s ≡ false →
     applies (two limits s now (h .exchange) (h .spi)) ≡ true
 two-applies limits s now h e =
     let ofFrame = one (two-ofFrame (h .exchange)) in
