@@ -1,15 +1,22 @@
 -- Samples computed on the definitions: small frames, small members, and the numbers that document 01 gives them.
 use mathlib.Core.Path.{_≡_, refl}
-use mathlib.Core.List.{List, [], map}
+use Prim.Native.Nat.{ℕ, _+_}
+use mathlib.Core.List.{List, [], _∷_, _++_, map}
+use mathlib.Core.Bool.{Bool, cond}
+use lib.ListN.{replicate}
 use Rattle.octets.specs.Compare.{orderOf, less, same}
 use Rattle.keys.specs.Lists.{all, any, count, keep, heads, rising}
+use Rattle.keys.specs.Limits.{Limits, limits}
 use Rattle.keys.specs.Kinds.{rekeySizes}
 use Rattle.keys.specs.Algorithms.{isRowOf, neededIn, neededBy, sizeOf}
 use Rattle.sa.specs.Clock.{elapsedAtLeast}
 use Rattle.sa.specs.Entry.{before, named, formed, liveRekey, due, espSa, rekeySa}
 use Rattle.table.specs.Table.{tableOf, tableFormed, emptyAt}
 use Rattle.state.specs.Held.{heldOf, keyFormed, heldFormed}
+use Rattle.state.specs.declared.State.{State}
 use Rattle.state.specs.State.{newState, stateFormed}
+use Rattle.state.proofs.ApartLimits.{apart}
+use Rattle.frames.specs.Frame.{Payload}
 use Rattle.clauses.specs.Contents.{gather}
 use Rattle.clauses.specs.Fitness.{multicast, oneGroupAddress, encryptionFits, keyWrapFits, sequenceNumbersFit, authenticationFits}
 use Rattle.clauses.specs.Fitness.{exactly, transformsFit, sum, encryptionOctets, keyWrapOctets}
@@ -22,19 +29,72 @@ use Rattle.clauses.specs.Number5.{ahPolicy, ahBag, otherTransforms, dele
 use Rattle.clauses.specs.Number6.{policyUnpaired, bagUnpaired, policyTwice, bagTwice, alreadyInTable, otherSaKeyCount, saKeyCount}
 use Rattle.clauses.specs.Number6.{saKeyId, espKwkId, wrapKeyId, six-ofFrame, six-ofMember}
 use Rattle.clauses.specs.Number7.{manyEspPolicies, manyWrapKeys, manySaKeys, manyDeletedSpis, manySas, seven-ofFrame, seven-ofMember}
-use Rattle.clauses.specs.Refusals.{one, judged, refusal}
-use Rattle.clauses.proofs.SampleParts.{liveSpi, rekeySuite, group, saPolicy, Sample, answer}
+use Rattle.clauses.specs.Refusals.{Number, one, judged, two, four, five, six, seven, refusal}
+use Rattle.clauses.proofs.SampleParts.{liveSpi, rekeySuite, group, saPolicy, frameOf, tick, Sample, answerWithin}
 use Rattle.clauses.proofs.SamplesOf2And3.{samplesOf2And3}
 use Rattle.clauses.proofs.SamplesOf4.{samplesOf4}
 use Rattle.clauses.proofs.SamplesOf5.{samplesOf5}
 use Rattle.clauses.proofs.SamplesOf6.{samplesOf6}
 use Rattle.clauses.proofs.SamplesOf7.{samplesOf7}
+use Rattle.clauses.proofs.SamplesOfLimits.{samplesOfLimits}
+use Rattle.clauses.proofs.SamplesAlone.{Alone, alone2, alone4, alone5, alone6, alone7}
 
--- each has its number
+-- each has its number, under limits
+abbrev pub AnsweredWithin : Limits → List Sample → Type 0
+AnsweredWithin limits l = map (answerWithin limits) l ≡ map (λ (s : Sample). s .number) l
+
 abbrev pub Answered : List Sample → Type 0
-Answered l = map answer l ≡ map (λ (s : Sample). s .number) l
+Answered l = AnsweredWithin limits l
 
-pub samples-answered : Answered samplesOf2And3 × Answered samplesOf4 × Answered samplesOf5 × Answered samplesOf6 × Answered samplesOf7
+-- the places of those that apply, in a list of clauses counted from n
+unfoldable pub placesFrom : ℕ → List Bool → List ℕ
+placesFrom n [] = []
+placesFrom n (b ∷ l) = cond b (n ∷ placesFrom (n + 1) l) (placesFrom (n + 1) l)
+
+abbrev clausesMet : Number → List ℕ
+clausesMet n = placesFrom 0 (n .ofFrame ++ n .ofMember)
+
+-- each has its number, of whose clauses it meets the one that is told and no other
+abbrev pub MetAlone : (Sample → Number) → List Alone → Type 0
+MetAlone number l =
+    Answered (map (λ (a : Alone). a .of) l) ×
+    (map (λ (a : Alone). clausesMet (number (a .of))) l ≡ map (λ (a : Alone). a .clause ∷ []) l)
+
+abbrev twoOf : Sample → Number
+twoOf s = two limits (s .state) tick (s .frame .header .exchange) (s .frame .header .spi)
+
+abbrev fourOf : Sample → Number
+fourOf s = four (s .frame)
+
+abbrev fiveOf : Sample → Number
+fiveOf s = five (replicate (s .lent) 0) (s .frame)
+
+abbrev sixOf : Sample → Number
+sixOf s = six (s .state) tick (s .frame)
+
+abbrev sevenOf : Sample → Number
+sevenOf s = seven limits (s .state) tick (s .frame)
+
+-- what a claim is made of
+pub record Samples : Type 0 where
+  pub of-2-and-3 : Answered samplesOf2And3
+  pub of-4 : Answered samplesOf4
+  pub of-5 : Answered samplesOf5
+  pub of-6 : Answered samplesOf6
+  pub of-7 : Answered samplesOf7
+  -- each clause that can be met alone, in each exchange that can meet it
+  pub alone-2 : MetAlone twoOf alone2
+  pub alone-4 : MetAlone fourOf alone4
+  pub alone-5 : MetAlone fiveOf alone5
+  pub alone-6 : MetAlone sixOf alone6
+  pub alone-7 : MetAlone sevenOf alone7
+  -- under six figures that differ
+  pub of-limits : AnsweredWithin apart samplesOfLimits
+  -- GSA_AUTH (39) and GSA_REGISTRATION (40) are answered alike, whatever their payloads
+  pub alike : (s : State) (now : ℕ) (lent x : List ℕ) (id : ℕ) (l : List Payload) →
+      refusal limits s now lent (frameOf x 39 id l) ≡ refusal limits s now lent (frameOf x 40 id l)
+
+pub samples-answered : Samples
 unfolding refusal judged one any all count keep heads rising newState stateFormed tableFormed heldFormed tableOf heldOf keyFormed formed
     before less same orderOf named liveRekey due espSa rekeySa elapsedAtLeast rekeySizes sizeOf neededBy neededIn isRowOf emptyAt gather sum
     exactly multicast nonEmptyMember otherSpis notAcceptable oneGroupAddress encryptionFits keyWrapFits sequenceNumbersFit
@@ -42,8 +102,22 @@ unfolding refusal judged one any all count keep heads rising newState stateForme
     severalRekeyPolicies severalGroupWide severalMemberBags gsaWithoutSaPolicy keyLengthTwice initialMessageIdTwice delayTwice
     otherDestination four-ofFrame ahPolicy ahBag otherTransforms deleteOfOther deleteOfNone lentKeySize five-ofFrame policyUnpaired
     bagUnpaired policyTwice bagTwice alreadyInTable otherSaKeyCount saKeyCount saKeyId espKwkId wrapKeyId six-ofFrame six-ofMember
-    manyEspPolicies manyWrapKeys manySaKeys manyDeletedSpis manySas seven-ofFrame seven-ofMember
-samples-answered = (refl, refl, refl, refl, refl)
+    manyEspPolicies manyWrapKeys manySaKeys manyDeletedSpis manySas seven-ofFrame seven-ofMember placesFrom
+samples-answered =
+    record {
+      of-2-and-3 = refl;
+      of-4 = refl;
+      of-5 = refl;
+      of-6 = refl;
+      of-7 = refl;
+      alone-2 = (refl, refl);
+      alone-4 = (refl, refl);
+      alone-5 = (refl, refl);
+      alone-6 = (refl, refl);
+      alone-7 = (refl, refl);
+      of-limits = refl;
+      alike = λ s now lent x id l. refl;
+    }
 
 -- the octets that a Rekey policy needs: 28 and 24
 pub needed-octets :

@@ -2,6 +2,7 @@ pub mod AnyOrder
 pub mod Contents
 pub mod First
 pub mod OneOf
+pub mod BrokenMembers
 pub mod Gather
 pub mod OrderOf4
 pub mod OrderOf5
@@ -14,5 +15,7 @@ pub mod SamplesOf4
 pub mod SamplesOf5
 pub mod SamplesOf6
 pub mod SamplesOf7
+pub mod SamplesOfLimits
+pub mod SamplesAlone
 pub mod AllSamples
 pub mod Clear

@@ -1,16 +1,17 @@
 -- Parts of small frames and small members, of which the samples are made. What a sample does not mention is fit.
 use Prim.Native.Nat.{ℕ}
-use mathlib.Core.List.{List, [], _∷_, map}
+use mathlib.Core.List.{List, [], _∷_, _++_, map}
 use mathlib.Core.Bool.{false}
-use lib.ListN.{replicate}
-use Rattle.keys.specs.Limits.{limits}
-use Rattle.keys.specs.Kinds.{espOf, rekeyOf}
+use lib.ListN.{take, replicate}
+use Rattle.keys.specs.Limits.{Limits, limits}
+use Rattle.keys.specs.Kinds.{wrappingOf, espOf, rekeyOf}
 use Rattle.sa.specs.Entry.{withCondition, espSa, rekeySa}
 use Rattle.sa.specs.declared.entry.Condition.{Condition}
 use Rattle.sa.specs.declared.entry.Condition.the-variants.{Live, Retiring}
 use Rattle.sa.specs.declared.entry.Sa.{Sa}
 use Rattle.table.specs.Table.{tableOf}
 use Rattle.state.specs.declared.State.{State}
+use Rattle.state.specs.declared.held.HeldKey.{HeldKey}
 use Rattle.state.specs.declared.least.Least.{Least}
 use Rattle.state.specs.declared.least.Least.the-variants.{Id}
 use Rattle.state.specs.Held.{heldOf}
@@ -23,7 +24,7 @@ use Rattle.bags.specs.Bag.{Bag, groupKeys, memberKeys}
 use Rattle.frames.specs.Frame.{Frame, Payload, Content, gsa, kd, delete, unread}
 use Rattle.clauses.specs.Refusals.{refusal}
 
--- ---- SPIs: an ESP SA's, that of the live Rekey SA, and another Rekey SA's
+-- ---- SPIs: an ESP SA's, that of the live Rekey SA, and two other Rekey SAs'
 abbrev pub spi : ℕ → List ℕ
 spi n = 1 ∷ 2 ∷ 3 ∷ n ∷ []
 
@@ -32,6 +33,9 @@ liveSpi = replicate 16 7
 
 abbrev pub nextSpi : List ℕ
 nextSpi = replicate 16 8
+
+abbrev pub thirdSpi : List ℕ
+thirdSpi = replicate 16 9
 
 -- ---- policies: the transforms, a selector of one address and one port, the whole
 abbrev pub transform : ℕ → ℕ → List ℕ → Transform
@@ -127,6 +131,27 @@ deletion = deletes 3 (spi 4 ∷ [])
 abbrev pub deleting : List ℕ → ℕ → Frame
 deleting x m = frameOf x 41 m (payload deletion ∷ [])
 
+-- 1 up to n, of 15
+abbrev pub upTo : ℕ → List ℕ
+upTo n = take n (1 ∷ 2 ∷ 3 ∷ 4 ∷ 5 ∷ 6 ∷ 7 ∷ 8 ∷ 9 ∷ 10 ∷ 11 ∷ 12 ∷ 13 ∷ 14 ∷ 15 ∷ [])
+
+-- what announces n ESP SAs; what registers with n WRAP_KEY; rekeys with n copies of a new Rekey SA's key, and with n deleted SPIs
+abbrev pub espSas : ℕ → List Content
+espSas n = gsa (map espPolicy (upTo n)) ∷ kd (map espBag (upTo n)) ∷ []
+
+abbrev pub wrapKeys : ℕ → Frame
+wrapKeys n = registers (gsa (espPolicy 1 ∷ []) ∷ kd (memberBag (replicate n (wrapKey 5 0)) ∷ espBag 1 ∷ []) ∷ [])
+
+abbrev pub copies : ℕ → Frame
+copies n = rekeys (gsa (rekeyPolicy nextSpi ∷ []) ∷ kd (rekeyBag nextSpi n ∷ []) ∷ [])
+
+abbrev pub deleted : ℕ → Frame
+deleted n = rekeys (deletes 3 (replicate n (spi 4)) ∷ [])
+
+-- a rekey that announces an ESP SA more
+abbrev pub oneMore : Frame
+oneMore = rekeys (gsa (espPolicy 20 ∷ []) ∷ kd (espBag 20 ∷ []) ∷ [])
+
 -- ---- members
 abbrev pub espAt : ℕ → Condition → Sa
 espAt n c = withCondition c (espSa (spi n) (espOf (replicate 20 0)))
@@ -134,15 +159,36 @@ espAt n c = withCondition c (espSa (spi n) (espOf (replicate 20 0)))
 abbrev pub rekeyAt : Condition → Sa
 rekeyAt c = withCondition c (rekeySa liveSpi (rekeyOf (replicate 36 0) 20 16))
 
--- at tick 1000, at which the samples are judged: an SA that is due, and one that retires and is not due
+-- the tick at which the samples are judged; an SA that is due then, and one that retires and is not due
+abbrev pub tick : ℕ
+tick = 1000
+
 abbrev pub dueNow : Condition
 dueNow = Retiring 0 1
 
 abbrev pub dueLater : Condition
 dueLater = Retiring 0 2
 
+-- n ESP SAs, one more in this condition, and the live Rekey SA
+abbrev pub sasWith : ℕ → Condition → List Sa
+sasWith n c = espAt 0 c ∷ (map (λ (k : ℕ). espAt k Live) (upTo n) ++ rekeyAt Live ∷ [])
+
+-- a held key of n octets
+abbrev pub heldKey : ℕ → ℕ → HeldKey
+heldKey i n = record { id = i; key = wrappingOf (replicate n 1) }
+
+-- under these limits a member with these SAs and held keys
+abbrev pub memberWithin : Limits → List Sa → List HeldKey → Least → State
+memberWithin limits l h m = record { table = tableOf limits l; held = heldOf limits h; least = m }
+
 abbrev pub memberOf : List Sa → Least → State
-memberOf l m = record { table = tableOf limits l; held = heldOf limits []; least = m }
+memberOf l m = memberWithin limits l [] m
+
+abbrev pub holding : List Sa → List HeldKey → State
+holding l h = memberWithin limits l h (Id 0)
+
+abbrev pub having : ℕ → Condition → State
+having n c = memberOf (sasWith n c) (Id 0)
 
 abbrev pub fresh : State
 fresh = newState limits
@@ -168,5 +214,5 @@ anew f k = sample fresh 16 f k
 abbrev pub later : Frame → ℕ → Sample
 later f k = sample (member (Id 0)) 0 f k
 
-abbrev pub answer : Sample → ℕ
-answer s = refusal limits (s .state) 1000 (replicate (s .lent) 0) (s .frame)
+abbrev pub answerWithin : Limits → Sample → ℕ
+answerWithin limits s = refusal limits (s .state) tick (replicate (s .lent) 0) (s .frame)

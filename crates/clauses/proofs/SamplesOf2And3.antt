@@ -1,21 +1,21 @@
 -- Samples of numbers 2 and 3.
 use Prim.Native.Nat.{ℕ}
-use mathlib.Core.List.{List, [], _∷_, map}
+use mathlib.Core.List.{List, [], _∷_, _++_, map}
 use lib.ListN.{take, replicate}
 use Rattle.keys.specs.Limits.{limits}
-use Rattle.keys.specs.Kinds.{wrappingOf, espOf, rekeyOf}
+use Rattle.keys.specs.Kinds.{espOf, rekeyOf}
 use Rattle.sa.specs.Entry.{espSa, rekeySa, blankSa}
 use Rattle.sa.specs.declared.entry.Condition.{Condition}
 use Rattle.sa.specs.declared.entry.Condition.the-variants.{Live}
-use Rattle.table.specs.Table.{tableOf}
 use Rattle.state.specs.declared.State.{State}
 use Rattle.state.specs.declared.held.HeldKey.{HeldKey}
 use Rattle.state.specs.declared.least.Least.the-variants.{Id, NoneAnyMore}
 use Rattle.state.specs.Held.{heldOf}
 use Rattle.clauses.proofs.SampleParts.{spi, liveSpi, nextSpi, payload, frameOf, registers, fit, deletion, deleting}
-use Rattle.clauses.proofs.SampleParts.{espAt, rekeyAt, dueNow, dueLater, memberOf, fresh, member, Sample, sample, anew, later}
+use Rattle.clauses.proofs.SampleParts.{espAt, rekeyAt, dueNow, dueLater, heldKey, memberOf, holding, fresh, member, Sample, sample}
+use Rattle.clauses.proofs.SampleParts.{anew, later}
 
--- a table that says to have 17 SAs; held lists of Key IDs and counts of octets
+-- a table that says to have 17 SAs
 abbrev overfull : State
 overfull = record {
   table = record { sas = rekeyAt Live ∷ replicate 15 blankSa; count = 17 };
@@ -23,20 +23,11 @@ overfull = record {
   least = Id 0;
 }
 
-abbrev holdingAll : List HeldKey → State
-holdingAll l = record { table = tableOf limits []; held = heldOf limits l; least = Id 0 }
-
-abbrev heldKey : ℕ → ℕ → HeldKey
-heldKey i n = record { id = i; key = wrappingOf (replicate n 1) }
-
-abbrev holding : ℕ → ℕ → State
-holding i n = holdingAll (heldKey i n ∷ [])
-
 -- Key IDs 1 to n, of 33
-abbrev holdingFirst : ℕ → State
-holdingFirst n = holdingAll (map (λ (i : ℕ). heldKey i 16) (take n
+abbrev keysTo : ℕ → List HeldKey
+keysTo n = map (λ (i : ℕ). heldKey i 16) (take n
     (1 ∷ 2 ∷ 3 ∷ 4 ∷ 5 ∷ 6 ∷ 7 ∷ 8 ∷ 9 ∷ 10 ∷ 11 ∷ 12 ∷ 13 ∷ 14 ∷ 15 ∷ 16 ∷ 17 ∷ 18 ∷ 19 ∷ 20 ∷ 21 ∷ 22 ∷ 23 ∷ 24 ∷ 25 ∷ 26 ∷ 27 ∷ 28 ∷ 29 ∷
-    30 ∷ 31 ∷ 32 ∷ 33 ∷ [])))
+    30 ∷ 31 ∷ 32 ∷ 33 ∷ []))
 
 -- an ESP SA with n keying octets beside the live Rekey SA; a Rekey SA in this condition beside another that is live
 abbrev withEsp : ℕ → State
@@ -57,20 +48,31 @@ samplesOf2And3 =
     sample (member (Id 4294967295)) 0 (deleting liveSpi 4294967295) 0 ∷
     sample (memberOf [] (Id 7)) 16 (registers fit) 0 ∷
     sample (memberOf [] NoneAnyMore) 16 (registers fit) 0 ∷
+    sample (memberOf [] NoneAnyMore) 16 (frameOf [] 40 0 (map payload fit)) 0 ∷
+    -- Message IDs are compared as numbers without a sign
+    sample (member (Id 7)) 0 (deleting liveSpi 2147483648) 0 ∷
+    sample (member (Id 2147483648)) 0 (deleting liveSpi 7) 3 ∷
     -- 3 before 4, and 2 before 3
     sample (member (Id 7)) 0 (frameOf liveSpi 41 6 []) 3 ∷
     sample (member (Id 7)) 0 (deleting nextSpi 6) 2 ∷
-    -- 2: other SPIs; no live Rekey SA, or one that retires, due or not
+    -- 2: other SPIs, in each octet; no live Rekey SA, or one that retires, due or not
     later (deleting nextSpi 9) 2 ∷
+    later (deleting (8 ∷ replicate 15 7) 9) 2 ∷
+    later (deleting (replicate 7 7 ++ 8 ∷ replicate 8 7) 9) 2 ∷
+    later (deleting (replicate 15 7 ++ 8 ∷ []) 9) 2 ∷
     sample fresh 0 (deleting liveSpi 9) 2 ∷
     sample (memberOf (rekeyAt dueLater ∷ []) (Id 0)) 0 (deleting liveSpi 9) 2 ∷
     sample (memberOf (rekeyAt dueNow ∷ []) (Id 0)) 0 (deleting liveSpi 9) 2 ∷
+    sample (withRekey dueLater) 0 (deleting liveSpi 9) 2 ∷
     -- 2: a registration of a member that is not empty; one whose SAs are all due is
     sample (member (Id 0)) 16 (registers fit) 2 ∷
     sample (memberOf (espAt 9 dueLater ∷ []) (Id 0)) 16 (registers fit) 2 ∷
     sample (memberOf (espAt 9 dueNow ∷ []) (Id 0)) 16 (registers fit) 0 ∷
     sample (memberOf (espAt 8 dueNow ∷ espAt 9 Live ∷ []) (Id 0)) 16 (registers fit) 2 ∷
+    sample (memberOf (espAt 8 Live ∷ espAt 9 dueNow ∷ []) (Id 0)) 16 (registers fit) 2 ∷
+    sample (memberOf (espAt 9 Live ∷ []) (Id 0)) 16 (frameOf [] 40 0 (map payload fit)) 2 ∷
     -- 2: another exchange than GSA_AUTH 39, GSA_REGISTRATION 40 and GSA_REKEY 41
+    anew (frameOf [] 0 0 (map payload fit)) 2 ∷
     anew (frameOf [] 38 0 (map payload fit)) 2 ∷
     anew (frameOf [] 39 0 (map payload fit)) 0 ∷
     anew (frameOf [] 40 0 (map payload fit)) 0 ∷
@@ -85,14 +87,16 @@ samplesOf2And3 =
     sample (withRekey Live) 0 (deleting nextSpi 9) 2 ∷
     sample (withRekey dueLater) 0 (deleting nextSpi 9) 0 ∷
     -- the same: 33 held keys, Key ID 0, a value of 20 octets, Key IDs that do not rise
-    sample (holdingFirst 32) 16 (registers fit) 0 ∷
-    sample (holdingFirst 33) 16 (registers fit) 2 ∷
-    sample (holding 0 16) 16 (registers fit) 2 ∷
-    sample (holding 5 20) 16 (registers fit) 2 ∷
-    sample (holding 5 24) 16 (registers fit) 0 ∷
-    sample (holdingAll (heldKey 5 16 ∷ heldKey 5 16 ∷ [])) 16 (registers fit) 2 ∷
-    sample (holdingAll (heldKey 5 16 ∷ heldKey 9 32 ∷ [])) 16 (registers fit) 0 ∷
-    -- also where another number would be given
-    sample (holding 0 16) 16 (registers (deletion ∷ fit)) 2 ∷
+    sample (holding [] (keysTo 32)) 16 (registers fit) 0 ∷
+    sample (holding [] (keysTo 33)) 16 (registers fit) 2 ∷
+    sample (holding [] (heldKey 0 16 ∷ [])) 16 (registers fit) 2 ∷
+    sample (holding [] (heldKey 5 20 ∷ [])) 16 (registers fit) 2 ∷
+    sample (holding [] (heldKey 5 24 ∷ [])) 16 (registers fit) 0 ∷
+    sample (holding [] (heldKey 5 16 ∷ heldKey 5 16 ∷ [])) 16 (registers fit) 2 ∷
+    sample (holding [] (heldKey 5 16 ∷ heldKey 9 32 ∷ [])) 16 (registers fit) 0 ∷
+    -- in a rekey too, and where another number would be given
+    sample (holding (rekeyAt Live ∷ []) (heldKey 5 24 ∷ [])) 0 (deleting liveSpi 9) 0 ∷
+    sample (holding (rekeyAt Live ∷ []) (heldKey 5 20 ∷ [])) 0 (deleting liveSpi 9) 2 ∷
+    sample (holding [] (heldKey 0 16 ∷ [])) 16 (registers (deletion ∷ fit)) 2 ∷
     sample overfull 16 (registers (deletion ∷ fit)) 2 ∷
     []

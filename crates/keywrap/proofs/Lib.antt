@@ -1,3 +1,4 @@
+pub mod AesKeyWrapExamples
 pub mod Registers
 pub mod Blocks
 pub mod Steps

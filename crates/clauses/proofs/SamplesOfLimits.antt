@@ -1,0 +1,39 @@
+-- Samples under a record of six figures that differ. Document 01 gives four of the limits the same figure, 32, so samples under its own
+-- figures cannot tell one of these from another.
+use mathlib.Core.List.{List, [], _∷_}
+use Rattle.sa.specs.declared.entry.Condition.the-variants.{Live}
+use Rattle.sa.specs.declared.entry.Sa.{Sa}
+use Rattle.state.specs.declared.State.{State}
+use Rattle.state.specs.declared.held.HeldKey.{HeldKey}
+use Rattle.state.specs.declared.least.Least.the-variants.{Id}
+use Rattle.state.proofs.ApartLimits.{apart}
+use Rattle.clauses.proofs.SampleParts.{registers, rekeys, fit, deletion, espSas, wrapKeys, copies, deleted, oneMore, sasWith, heldKey}
+use Rattle.clauses.proofs.SampleParts.{memberWithin, Sample, sample}
+
+abbrev with : List Sa → List HeldKey → State
+with l h = memberWithin apart l h (Id 0)
+
+abbrev pub samplesOfLimits : List Sample
+samplesOfLimits =
+    -- "at most 32 wrapping keys" in the held list: 2
+    sample (with [] (heldKey 1 16 ∷ heldKey 2 16 ∷ [])) 16 (registers fit) 0 ∷
+    sample (with [] (heldKey 1 16 ∷ heldKey 2 16 ∷ heldKey 3 16 ∷ [])) 16 (registers fit) 2 ∷
+    -- "over 8 ESP policies": 3
+    sample (with [] []) 16 (registers (espSas 3)) 0 ∷
+    sample (with [] []) 16 (registers (espSas 4)) 7 ∷
+    -- "32 WRAP_KEY": 4
+    sample (with [] []) 16 (wrapKeys 4) 0 ∷
+    sample (with [] []) 16 (wrapKeys 5) 7 ∷
+    -- "32 SA_KEY in a bag": 5
+    sample (with (sasWith 1 Live) []) 0 (copies 5) 0 ∷
+    sample (with (sasWith 1 Live) []) 0 (copies 6) 7 ∷
+    -- "32 deleted SPIs in the frame": 6
+    sample (with (sasWith 1 Live) []) 0 (deleted 6) 0 ∷
+    sample (with (sasWith 1 Live) []) 0 (deleted 7) 7 ∷
+    -- "over 16 SAs after the frame": 7
+    sample (with (sasWith 4 Live) []) 0 oneMore 0 ∷
+    sample (with (sasWith 5 Live) []) 0 oneMore 7 ∷
+    -- "a table of at most 16 SAs": 7
+    sample (with (sasWith 5 Live) []) 0 (rekeys (deletion ∷ [])) 0 ∷
+    sample (with (sasWith 6 Live) []) 0 (rekeys (deletion ∷ [])) 2 ∷
+    []
