@@ -76,6 +76,7 @@ samplesOf4 =
     4 ∷
     anew (registers (gsa (espPolicy 1 ∷ []) ∷ kd (espBag 1 ∷ []) ∷ kd [] ∷ kd [] ∷ [])) 4 ∷
     anew (registers (unread ∷ kd (espBag 1 ∷ []) ∷ unread ∷ gsa (espPolicy 1 ∷ []) ∷ [])) 0 ∷
+    anew (registers (kd (espBag 1 ∷ []) ∷ gsa (espPolicy 1 ∷ []) ∷ [])) 0 ∷
     later (rekeys (deletion ∷ gsa (espPolicy 1 ∷ []) ∷ deletion ∷ kd (espBag 1 ∷ []) ∷ [])) 0 ∷
     -- one without the other, which D does not heal
     anew (registers (gsa (espPolicy 1 ∷ []) ∷ [])) 4 ∷
