@@ -92,7 +92,7 @@ pub fn shown(s: &[u8], at: usize) -> items::Item
 pub fn shown_kind(s: &[u8]) -> read::Kind
     ensures { λ r. ⌜ r ≡ kindOf (now (s .entry)) ⌝ }
 {
-    kind(View { src: s, at: 0 })
+    kind(new(s))
 }
 
 // The octets of the SPI that a view of the octets shows: for every caller that holds no view.
@@ -100,5 +100,5 @@ pub fn shown_spi(s: &[u8]) -> &[u8]
     ensures { λ r. ⌜ (now r ≡ spiOf (now (s .entry)))
         × (r .ptr ≡ (s .entry .ptr .0, spiStart (now (s .entry)) + s .entry .ptr .1)) ⌝ }
 {
-    spi(View { src: s, at: 0 })
+    spi(new(s))
 }

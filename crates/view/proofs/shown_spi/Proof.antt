@@ -12,7 +12,10 @@ use denote.Slice.{sliceTy, ShrSlice, shr-slice-lawful}
 use denote.Triple.Spec.{tripleOf}
 use denote.Triple.Table.{entered, cited}
 use Rattle.view.specs.View.{spiOf, spiStart}
-use Rattle.view.proofs.Showing.{Callee, meets}
+use Rattle.view.proofs.Showing.{Maker, Callee, meets}
+use Rattle.view.proofs.new.Symbol as new-def
+use Rattle.view.proofs.new.Symbol.{name as #new}
+use Rattle.view.proofs.new.Met as new-thm
 use Rattle.view.proofs.spi.Symbol as callee-def
 use Rattle.view.proofs.spi.Symbol.{name as #callee}
 use Rattle.view.proofs.spi.Met as callee-thm
@@ -38,5 +41,6 @@ shown-spi-spec 𝓤 H 𝓜 𝓖 𝓡 =
     (tables 𝓤 H 𝓜 𝓡 code.env .C) (tables 𝓤 H 𝓜 𝓡 code.env .Λ) #own code.function (code.unfolded 𝓤 H 𝓜 𝓡)
     (meets F τ #callee 𝓤 H (𝓖 .A) W P (λ κ r u is. shr-slice-lawful 𝓤 H (𝓖 .A) W (named 0) κ u8 .typed r _ is .0)
     (tablesOf 𝓤 H 𝓜 (tables 𝓤 H 𝓜 𝓡 code.env))
+    (cited 𝓤 H (Maker 𝓤 H (𝓖 .A)) 𝓜 𝓡 code.env #new new-def.routine code.calls-view·new (new-thm.met 𝓤 H 𝓜 𝓖 𝓡))
     (cited 𝓤 H (Callee F τ #callee 𝓤 H (𝓖 .A) P) 𝓜 𝓡 code.env #callee callee-def.routine
     code.calls-view·spi (callee-thm.met 𝓤 H 𝓜 𝓖 𝓡)))
