@@ -1,4 +1,5 @@
 pub mod Reply
 pub mod Standing
 pub mod Handing
+pub mod Taking
 pub mod Printed

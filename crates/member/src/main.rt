@@ -1,4 +1,5 @@
 // The member program: a default key, then ticks and frames in hexadecimal; a line of answer for each.
+mod input;
 mod output;
 mod running;
 
@@ -6,7 +7,8 @@ ghost use Prim.Native.Nat.{_<_, _≤_};
 ghost use lib.ListN.{length};
 ghost use Rattle.member.specs.inner.Standing.{Ready, Room};
 ghost use Rattle.member.specs.inner.Printed.{Flushed, Consumed, Ended};
-use libc::STDIN_FILENO;
+ghost use Rattle.member.specs.Run.{Runs};
+use input::Taken;
 use output::Handed;
 use running::Running;
 
@@ -75,26 +77,41 @@ fn ended(p: Progress, line: &[u8], room: &mut [u8], out: &mut [u8]) -> Handed
     output::hand_over(handed, out, e.at)
 }
 
+// What a run took from its input, and what it handed to its output.
+pub struct Ran {
+    pub taken: Taken,
+    pub handed: Handed,
+}
+
 // The whole input. A proved loop has to end, and nothing says that an input does: so it counts its turns down from a number that no input
 // uses up.
-fn run(line: &mut [u8], room: &mut [u8], out: &mut [u8], block: &mut [u8])
+fn run(line: &mut [u8], room: &mut [u8], out: &mut [u8], block: &mut [u8]) -> Ran
     requires { ⌜ 32776 < length (now line) ⌝ }
     requires { ⌜ 16384 ≤ length (now room) ⌝ }
     requires { ⌜ 63 ≤ length (now out) ⌝ }
+    ensures { λ r. ⌜ Runs r ⌝ }
 {
     let running = running::begun();
-    let handed = output::nothing();
-    let mut p = Progress { running, handed };
+    let none = output::nothing();
+    let mut p = Progress {
+        running,
+        handed: none,
+    };
+    let mut taken = input::nothing();
     let mut turns = u64::MAX;
     while turns > 0 {
-        let n = io::read_full(STDIN_FILENO, block);
+        let b = input::next(taken, block);
+        let n = b.n;
+        let t = b.taken;
+        taken = t;
         if n == 0 {
             break;
         }
         p = consumed(p, &block[..n], line, room, out);
         turns -= 1;
     }
-    ended(p, line, room, out);
+    let handed = ended(p, line, room, out);
+    Ran { taken, handed }
 }
 
 fn main() {
