@@ -1,19 +1,25 @@
--- A RUN OF THE PROGRAM: what it took from its input and what it handed to its output.
+-- A RUN OF THE PROGRAM: what it read from its input, and what it handed to its output.
 use Prim.Native.Nat.{ℕ, _-_, _%_, _^_, _≤_}
 use mathlib.Core.Path.{_≡_}
 use mathlib.Core.Bool.{true}
-use mathlib.Core.Logic.{_⊎_}
-use mathlib.Core.List.{List}
+use mathlib.Core.List.{List, [], _++_}
 use lib.ListN.{length}
 use Rattle.member.specs.Program.{Prints}
 use Rattle.member.specs.declared.Ran.{Ran}
 
--- octets were taken and octets handed over, as many as the counts say; the second are what the program prints for the first; and the last
--- read gave none, or more were taken than any input has
+-- how a run ends: the last read gave nothing, or 2^64 - 1 octets were read, and nothing of the output is held back; or a write failed
+pub data Ends (r : Ran) (input rest : List ℕ) : Type 0 where
+  input-ended : r .taken .ended ≡ true → rest ≡ [] → Ends r input rest
+  most-read : 2 ^ 64 - 1 ≤ length input → rest ≡ [] → Ends r input rest
+  write-failed : r .handed .failed ≡ true → Ends r input rest
+
+-- `input` was read and `output` handed over, as many octets of each as were counted; with the rest behind it, which is held back, the
+-- output is what the program prints for that input
 pub record Runs (r : Ran) : Type 0 where
   pub input : List ℕ
   pub output : List ℕ
-  pub prints : Prints input output
+  pub rest : List ℕ
+  pub prints : Prints input (output ++ rest)
   pub taken : r .taken .count % 2 ^ 64 ≡ length input % 2 ^ 64
   pub handed : r .handed .count % 2 ^ 64 ≡ length output % 2 ^ 64
-  pub all : (r .taken .ended ≡ true) ⊎ (2 ^ 64 - 1 ≤ length input)
+  pub ends : Ends r input rest

@@ -2,9 +2,8 @@
 // a promise that asks for the input's end asks for a read that gave nothing.
 ghost use Prim.Native.Nat.{_≤_};
 ghost use mathlib.Core.Path.{_≡_};
-ghost use mathlib.Core.Bool.{true, false};
 ghost use lib.ListN.{length, take};
-ghost use Rattle.member.specs.inner.Taking.{TakenIn};
+ghost use Rattle.member.specs.inner.Taking.{nothingTaken, TakenIn};
 use libc::STDIN_FILENO;
 
 // The count goes modulo 2^64.
@@ -21,7 +20,7 @@ pub struct Block {
 
 // Before the first octet.
 pub(crate) fn nothing() -> Taken
-    ensures { λ r. ⌜ (r .count ≡ 0) × (r .ended ≡ false) ⌝ }
+    ensures { λ r. ⌜ r ≡ nothingTaken ⌝ }
 {
     Taken {
         count: 0,
@@ -29,16 +28,25 @@ pub(crate) fn nothing() -> Taken
     }
 }
 
-// The next octets of the input, at the start of a lent block; none at the input's end.
+// What is there of the input, at the start of a lent block: one read, which waits for an octet and not for a full block. None at the
+// input's end, and none where the read fails.
 pub(crate) fn next(taken: Taken, block: &mut [u8]) -> Block
     ensures { λ r. ⌜ r .n ≤ length (now (block .exit)) ⌝ }
     ensures { λ r. ⌜ TakenIn taken (take (r .n) (now (block .exit))) (r .taken) ⌝ }
 {
-    let n = io::read_full(STDIN_FILENO, block);
+    let got = libc::read(STDIN_FILENO, block);
+    let n = io::count(got, block);
     let count = std::num::wrapping_add_usize(taken.count, n);
     let next = Taken {
         count,
         ended: n == 0,
     };
     Block { n, taken: next }
+}
+
+// Whether the last read gave nothing.
+pub(crate) fn ended(taken: Taken) -> bool
+    ensures { λ r. ⌜ r ≡ taken .ended ⌝ }
+{
+    taken.ended
 }

@@ -1,14 +1,12 @@
 -- `member::run` meets its contract: what it hands over is what the octets that it took ask for.
 use borrow.Author.Needs.{needs}
-use mathlib.Core.Path.{_≡_, refl, ap, sym, _∙_}
-use mathlib.Core.Logic.{⊎-elim}
+use mathlib.Core.Path.{_≡_, refl, sym, _∙_}
 use native.Mathlib.Omega.{arith}
-use Prim.Native.Nat.{_<_}
-use lib.ListN.{length, take}
+use lib.ListN.{length}
 use lib.Seq.{length-take-le}
 use Rattle.member.specs.inner.Standing.{Ready, Room}
 use Rattle.member.proofs.StandingLaws.{ready-first}
-use Rattle.member.proofs.RunLaws.{Far, far-start, far-more, far-spent, far-none}
+use Rattle.member.proofs.RunLaws.{Far, left-less, far-start, far-more, far-end}
 use Rattle.member.proofs.run.Statement.{statement}
 use Rattle.member.proofs.run.Tie as tie
 
@@ -39,50 +37,56 @@ loop-holds c =
       refl,
       refl,
       refl,
-      far-start b (c .before .nothing .ensures) (c .nothing2 .ensures .0) (omega arith),
+      far-start b (c .before .nothing .ensures) (c .nothing2 .ensures) (omega arith),
     )
 
 next-requires : tie.Need-next-requires Inv-loop μ-loop
 next-requires c κs = tt
 
 slice-reshare-prefix-consumed : tie.Need-slice-reshare-prefix-consumed Inv-loop μ-loop
-slice-reshare-prefix-consumed c = c .before .before .before .before .next .ensures .0
+slice-reshare-prefix-consumed c = c .before .before .before .next .ensures .0
 
 slice-aggregate-consumed : tie.Need-slice-aggregate-consumed Inv-loop μ-loop
 slice-aggregate-consumed c =
-    let f = c .before .before .before .before .before .next in
+    let f = c .before .before .before .before .next in
     sym (length-take-le (f .result .n) (f .last .1 .0) (f .ensures .0))
 
 consumed-requires : tie.Need-consumed-requires Inv-loop μ-loop
 consumed-requires c κs =
-    let l = c .before .before .before .before .before .before .before .before .before .before .before .loop .inv in
+    let l = c .before .before .before .before .before .before .before .before .before .before .loop .inv in
     (l .0, l .1)
 
-sub-turns : tie.Need-sub-turns Inv-loop μ-loop
-sub-turns c = search needs
+turns-left-requires : tie.Need-turns-left-requires Inv-loop μ-loop
+turns-left-requires c κs = c .before .before .before .before .before .before .before .before .before .before .before .before .before .before .before .before .before .loop-test .taken
 
 loop-less : tie.Need-loop-less Inv-loop μ-loop
-loop-less c = search needs
+loop-less c =
+    let x = c .before .before .before .before .before .before .before .before in
+    let n = x .before .before .before .before .before .before .before .before .next in
+    left-less (n .result .taken) (x .consumed .result .handed) (x .before .before .before .before .before .before .before .before .before .before .loop-test .taken) (c .turns-left .ensures)
 
 loop-again : tie.Need-loop-again Inv-loop μ-loop
 loop-again c =
-    let x = c .before .before .before .before .before .before in
-    let f = x .before .before .before .before .before .before .before .before .before in
-    let l = f .before .before .before .loop in
-    let k : length (x .consumed .last .1 .1 .0) ≡ length (l .line) = search needs in
-    let m : length (x .consumed .last .1 .1 .1 .0) ≡ length (l .room) = search needs in
-    let n : length (x .consumed .last .1 .1 .1 .1 .0) ≡ length (l .out) = search needs in
-    let o : length (f .next .last .1 .0) ≡ length (l .block) = search needs in
+    let x = c .before .before .before .before .before .before .before .before in
+    let f = x .before .before .before .before .before .before .before .before in
+    let t = f .before .before in
+    let l = t .before .loop in
+    let out = c .before .before .before in
+    let room = out .before .before in
+    let line = room .before .before in
+    let k : length (x .consumed .last .1 .1 .0) ≡ length (l .line) = omega (arith, line .line .given) in
+    let m : length (x .consumed .last .1 .1 .1 .0) ≡ length (l .room) = omega (arith, room .room .given) in
+    let n : length (x .consumed .last .1 .1 .1 .1 .0) ≡ length (l .out) = omega (arith, out .out .given) in
+    let o : length (f .next .last .1 .0) ≡ length (l .block) = omega (arith, x .before .before .before .before .before .before .before .block .given) in
     let i = l .inv in
-    let some : 0 < length (take (f .next .result .n) (f .next .last .1 .0)) =
-    omega (arith, length-take-le (f .next .result .n) (f .next .last .1 .0) (f .next .ensures .0), x .before .before .before .before .before .if1 .left) in (
-      x .consumed .ensures .0,
-      x .consumed .ensures .1 .0,
+    let e = x .consumed .ensures in (
+      e .0,
+      e .1 .0,
       k ∙ i .2,
       m ∙ i .3,
       n ∙ i .4,
       o ∙ i .5,
-      far-more (i .6) (f .next .ensures .1) some (x .consumed .ensures .1 .1) (omega arith),
+      far-more (i .6) (t .loop-test .taken) (f .next .ensures .1) (e .1 .1) (c .turns-left .ensures),
     )
 
 ended-requires : tie.Need-ended-requires Inv-loop μ-loop
@@ -91,7 +95,7 @@ ended-requires c κs =
     (l .0, l .1)
 
 same-length : tie.Need-same-length Inv-loop μ-loop
-same-length c = search needs
+same-length c = c .before .before .before .before .before .before .before .before .before .loop .inv .2
 
 same-length-2 : tie.Need-same-length-2 Inv-loop μ-loop
 same-length-2 c = search needs
@@ -100,23 +104,12 @@ same-length-3 : tie.Need-same-length-3 Inv-loop μ-loop
 same-length-3 c = search needs
 
 same-length-4 : tie.Need-same-length-4 Inv-loop μ-loop
-same-length-4 c =
-    let t = c .before .before .before .before .before .before .before .before in
-    let l = t .before .loop in
-    ⊎-elim (λ w. ap length (w .1) ∙ l .inv .5)
-    (λ w. let o : length (w .2 .last .1 .0) ≡ length (l .block) = search needs in ap length (w .7) ∙ o ∙ l .inv .5)
-    (t .loop-test .came)
+same-length-4 c = c .before .before .before .before .before .before .before .before .before .loop .inv .5
 
 returns : tie.Need-returns Inv-loop μ-loop
 returns c =
     let t = c .before .before .before .before .before .before .before .before in
-    let l = t .before .loop in
-    let e = c .before .before .before .before .ended .ensures in
-    ⊎-elim (λ w. far-spent (l .inv .6) e (t .loop-test .taken) (w .2) (omega (arith, w .0 .left)))
-    (λ w.
-    let n = length-take-le (w .2 .result .n) (w .2 .last .1 .0) (w .2 .ensures .0) in
-    far-none (l .inv .6) e (t .loop-test .taken) (w .8) (w .2 .ensures .1) (omega (arith, n, w .6 .taken)))
-    (t .loop-test .came)
+    far-end (t .before .loop .inv .6) (c .before .before .before .before .ended .ensures) (omega (arith, t .loop-test .left))
 
 pub run-spec : {M : Type 1} → statement M
 run-spec =
@@ -132,7 +125,7 @@ run-spec =
     slice-reshare-prefix-consumed
     slice-aggregate-consumed
     consumed-requires
-    sub-turns
+    turns-left-requires
     loop-less
     loop-again
     ended-requires
