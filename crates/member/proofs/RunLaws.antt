@@ -32,7 +32,7 @@ Most input t h turns = (Stops t h × (turns ≡ 0)) ⊎ (2 ^ 64 - 1 ≤ length i
 
 pub left-less : {turns left : ℕ} (t : Taken) (h : Handed) → 0 < turns → TurnsLeft turns t h left → left < turns
 left-less t h z (inl s) = omega (arith, s .1)
-left-less t h z (inr s) = omega (arith, s .1)
+left-less t h z (inr s) = omega (arith, s .2)
 
 -- some octets were read, and some are due: they were handed over, up to a write that failed
 pub record Far (line out : List ℕ) (p : Progress) (t : Taken) (turns : ℕ) : Type 0 where
@@ -71,7 +71,7 @@ module _ {line out : List ℕ} {p : Progress} {t : Taken} {turns : ℕ} (f : Far
       go (inr s) (inr m) =
           let some = eqb-false (length b) 0 (sym (k .ended) ∙ s .0) in
           let l = length-append (f .input) b in
-          inr (omega (arith, s .1))
+          inr (omega (arith, s .2))
 
   pub far-more : {line′ out′ b : List ℕ} {q : Progress} {u : Taken} {left : ℕ} → 0 < turns → TakenIn t b u
       → Consumed p b line out line′ out′ q → TurnsLeft turns u (q .handed) left → Far line′ out′ q u left

@@ -1,6 +1,6 @@
 // Standard input, and how many octets were taken from it so far. What is known of it is private to this file, and `next` alone changes it:
 // a promise that asks for the input's end asks for a read that gave nothing.
-ghost use Prim.Native.Nat.{_≤_};
+ghost use Prim.Native.Nat.{_<_, _≤_};
 ghost use mathlib.Core.Path.{_≡_};
 ghost use lib.ListN.{length, take};
 ghost use Rattle.member.specs.inner.Taking.{nothingTaken, TakenIn};
@@ -29,8 +29,9 @@ pub(crate) fn nothing() -> Taken
 }
 
 // What is there of the input, at the start of a lent block: one read, which waits for an octet and not for a full block. None at the
-// input's end, and none where the read fails.
+// input's end, and none where the read fails. (A block with no room would give none too, and tell nothing of the input.)
 pub(crate) fn next(taken: Taken, block: &mut [u8]) -> Block
+    requires { ⌜ 0 < length (now block) ⌝ }
     ensures { λ r. ⌜ r .n ≤ length (now (block .exit)) ⌝ }
     ensures { λ r. ⌜ TakenIn taken (take (r .n) (now (block .exit))) (r .taken) ⌝ }
 {

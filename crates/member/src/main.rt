@@ -101,10 +101,12 @@ fn turns_left(turns: u64, taken: Taken, handed: Handed) -> u64
     requires { ⌜ 0 < turns ⌝ }
     ensures { λ r. ⌜ TurnsLeft turns taken handed r ⌝ }
 {
-    if input::ended(taken) {
+    let ended = input::ended(taken);
+    let failed = output::failed(handed);
+    if ended {
         return 0;
     }
-    if output::failed(handed) {
+    if failed {
         return 0;
     }
     turns - 1
@@ -116,6 +118,7 @@ fn run(line: &mut [u8], room: &mut [u8], out: &mut [u8], block: &mut [u8]) -> Ra
     requires { ⌜ 32776 < length (now line) ⌝ }
     requires { ⌜ 16384 ≤ length (now room) ⌝ }
     requires { ⌜ 63 ≤ length (now out) ⌝ }
+    requires { ⌜ 0 < length (now block) ⌝ }
     ensures { λ r. ⌜ Runs r ⌝ }
 {
     let running = running::begun();

@@ -1,5 +1,6 @@
 -- `member::run` meets its contract: what it hands over is what the octets that it took ask for.
 use borrow.Author.Needs.{needs}
+use Prim.Native.Nat.{_<_}
 use mathlib.Core.Path.{_≡_, refl, sym, _∙_}
 use native.Mathlib.Omega.{arith}
 use lib.ListN.{length}
@@ -32,7 +33,7 @@ loop-holds c =
     let s = c .before .before .before .before .before .before .before in
     let b = c .before .before .begun .ensures in (
       ready-first b (s .pre .0) (s .pre .1 .0),
-      omega (arith, s .pre .1 .1, b .at),
+      omega (arith, s .pre .1 .1 .0, b .at),
       refl,
       refl,
       refl,
@@ -41,7 +42,11 @@ loop-holds c =
     )
 
 next-requires : tie.Need-next-requires Inv-loop μ-loop
-next-requires c κs = tt
+next-requires c κs =
+    let l = c .before .before .loop in
+    let s = c .before .before .before .before .before .before .before .before .before .before in
+    let h : 0 < length (l .block) = omega (arith, l .inv .5, s .pre .1 .1 .1) in
+    h
 
 slice-reshare-prefix-consumed : tie.Need-slice-reshare-prefix-consumed Inv-loop μ-loop
 slice-reshare-prefix-consumed c = c .before .before .before .next .ensures .0
