@@ -1,5 +1,7 @@
 // For tests: member values that break the list of what a member is. No line of input and no call of the library makes one. On each of them
-// `receive`, `sweep`, `leave` and `sa` are called, and what they give is printed; first on a value that keeps the list.
+// `receive`, `sweep`, `leave` and `sa` are called, and what they give is printed, after a value that keeps the list. Before that stands what
+// the program's own comparison of members tells apart.
+mod apart;
 mod same;
 mod values;
 
@@ -22,7 +24,7 @@ use values::table_of;
 // A tick at which the retiring SA of the values is due.
 const TICK: u32 = 1000;
 
-fn print(text: &[u8]) {
+pub(crate) fn print(text: &[u8]) {
     io::write_all(STDOUT_FILENO, text);
 }
 
@@ -89,7 +91,7 @@ fn number(a: Answer) -> u64 {
 }
 
 // Whether the first of two values came out unchanged.
-fn compared(m: Member, next: Member) {
+pub(crate) fn compared(m: Member, next: Member) {
     if same::same_members(m, next) {
         print(b"same");
     } else {
@@ -260,6 +262,7 @@ fn held_lists() {
 }
 
 fn main() {
+    apart::each();
     counts();
     orders();
     sizes();

@@ -56,6 +56,20 @@ pub(crate) fn retiring(s: Sa) -> Sa {
     }
 }
 
+// Another last octet of the place for SPIs, which an ESP SPI does not use.
+pub(crate) fn changed_spi(s: Sa) -> Sa {
+    let mut t = s;
+    t.spi[15] = 0;
+    t
+}
+
+// Another last octet of the place for keying octets.
+pub(crate) fn changed_octet(s: Sa) -> Sa {
+    let mut t = s;
+    t.octets[67] = 0;
+    t
+}
+
 pub(crate) fn table_of(first: Sa, second: Sa, third: Sa, count: usize) -> Table {
     let unused = sa_of(0, 255, 0, 0, 0);
     let mut sas = [unused; SAS];
@@ -75,12 +89,27 @@ pub(crate) fn sas(count: usize) -> Table {
     )
 }
 
+// Another SA in the last place.
+pub(crate) fn changed_place(t: Table) -> Table {
+    let s = esp(1, 20);
+    let mut u = t;
+    u.sas[15] = s;
+    u
+}
+
 pub(crate) fn key(id: u32, count: usize) -> HeldKey {
     let key = WrappingKey {
         octets: [7; 32],
         count,
     };
     HeldKey { id, key }
+}
+
+// Another last octet of the place for a key.
+pub(crate) fn changed_key(k: HeldKey) -> HeldKey {
+    let mut key = k.key;
+    key.octets[31] = 0;
+    HeldKey { id: k.id, key }
 }
 
 pub(crate) fn held_of(first: HeldKey, second: HeldKey, count: usize) -> Held {
@@ -96,11 +125,32 @@ pub(crate) fn held_keys(count: usize) -> Held {
     held_of(key(1, 16), key(2, 32), count)
 }
 
+// Another key in the last place.
+pub(crate) fn key_at_the_end(h: Held) -> Held {
+    let k = key(9, 16);
+    let mut g = h;
+    g.keys[31] = k;
+    g
+}
+
 pub(crate) fn member_of(table: Table, held: Held) -> Member {
     let state = State {
         table,
         held,
         least: Least::Id(5),
+    };
+    Member { state }
+}
+
+// No Message ID is acceptable any more.
+pub(crate) fn without_id(m: Member) -> Member {
+    let s = m.state;
+    let table = s.table;
+    let held = s.held;
+    let state = State {
+        table,
+        held,
+        least: Least::NoneAnyMore,
     };
     Member { state }
 }

@@ -1,12 +1,11 @@
 -- How far a run has come, from block to block, and what it is at its end.
 use Prim.Native.Nat.{ℕ, _+_, _-_, _%_, _^_, _<_, _≤_}
 use mathlib.Core.Path.{_≡_, refl, ap, sym, subst, _∙_}
-use mathlib.Core.Bool.{true, false}
+use mathlib.Core.Bool.{false}
 use mathlib.Core.Logic.{_⊎_, inl, inr}
 use mathlib.Core.List.{List, [], _++_}
 use native.Mathlib.Omega.{arith}
 use borrow.Author.Tests.{eqb-false}
-use lib.Dec.{eqb}
 use lib.ListN.{length, length-append}
 use Rattle.lines.specs.inner.Reading.{Reading, start, Reads}
 use Rattle.lines.proofs.Cases.{by-test, true-not-false}
@@ -23,7 +22,6 @@ use Rattle.member.specs.inner.Printed.{Consumed, Ended}
 use Rattle.member.specs.declared.output.Handed.{Handed}
 use Rattle.member.specs.declared.input.Taken.{Taken}
 use Rattle.member.specs.declared.Progress.{Progress}
-use Rattle.member.specs.declared.Ran.{Ran}
 use Rattle.member.proofs.HandingLaws.{over-none, over-more}
 
 -- it has stopped, or so many octets were read that with one in each turn that is left they are the most

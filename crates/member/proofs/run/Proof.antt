@@ -62,13 +62,15 @@ consumed-requires c κs =
     (l .0, l .1)
 
 turns-left-requires : tie.Need-turns-left-requires Inv-loop μ-loop
-turns-left-requires c κs = c .before .before .before .before .before .before .before .before .before .before .before .before .before .before .before .before .before .loop-test .taken
+turns-left-requires c κs =
+    let x = c .before .before .before .before .before .before .before in
+    x .before .before .before .before .before .before .before .before .before .before .loop-test .taken
 
 loop-less : tie.Need-loop-less Inv-loop μ-loop
 loop-less c =
     let x = c .before .before .before .before .before .before .before .before in
-    let n = x .before .before .before .before .before .before .before .before .next in
-    left-less (n .result .taken) (x .consumed .result .handed) (x .before .before .before .before .before .before .before .before .before .before .loop-test .taken) (c .turns-left .ensures)
+    let f = x .before .before .before .before .before .before .before .before in
+    left-less (f .next .result .taken) (x .consumed .result .handed) (f .before .before .loop-test .taken) (c .turns-left .ensures)
 
 loop-again : tie.Need-loop-again Inv-loop μ-loop
 loop-again c =
@@ -82,7 +84,8 @@ loop-again c =
     let k : length (x .consumed .last .1 .1 .0) ≡ length (l .line) = omega (arith, line .line .given) in
     let m : length (x .consumed .last .1 .1 .1 .0) ≡ length (l .room) = omega (arith, room .room .given) in
     let n : length (x .consumed .last .1 .1 .1 .1 .0) ≡ length (l .out) = omega (arith, out .out .given) in
-    let o : length (f .next .last .1 .0) ≡ length (l .block) = omega (arith, x .before .before .before .before .before .before .before .block .given) in
+    let block = x .before .before .before .before .before .before .before in
+    let o : length (f .next .last .1 .0) ≡ length (l .block) = omega (arith, block .block .given) in
     let i = l .inv in
     let e = x .consumed .ensures in (
       e .0,
