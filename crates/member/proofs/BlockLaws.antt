@@ -15,7 +15,7 @@ use Rattle.group.specs.declared.Member.{Member}
 use Rattle.member.specs.Program.{Answers}
 use Rattle.member.specs.inner.Reply.{keyIn}
 use Rattle.member.specs.inner.Standing.{Ready, Room, KeyStands, Stands, Goes, Passes}
-use Rattle.member.specs.inner.Printed.{Flushed, Consumed}
+use Rattle.member.specs.inner.Printed.{Emptied, Flushed, Gone, Consumed}
 use Rattle.member.specs.inner.Handing.{HandedOver}
 use Rattle.member.specs.declared.running.Running.{Running}
 use Rattle.member.specs.declared.running.Passed.{Passed}
@@ -163,12 +163,57 @@ module _ (r : Running) (h : Handed) (out : List ℕ) (e : Progress) (f : Flushed
         place = omega (arith, p .place, left .place);
       }
 
+pub emptied-flushed : {r : Running} {h : Handed} {out : List ℕ} {e : Progress} → Emptied r h out e → 63 ≤ length out → Flushed r h out e
+emptied-flushed p n =
+    record {
+      member = p .member;
+      key = p .key;
+      keyed = p .keyed;
+      len = p .len;
+      over = inr (p .over, p .at);
+      room = omega (arith, p .at);
+    }
+
+-- a part of a block more
+gone-more : {block : List ℕ} {at : ℕ} {line₀ out₀ : List ℕ} {p : Progress} {line out : List ℕ} {x : Progress} {line′ room′ out′ : List ℕ}
+    {q : Passed} → Gone p (part block 0 at) line₀ out₀ line out x → Passes block at line out (x .running) line′ room′ out′ q
+    → Gone p (part block 0 (q .next)) line₀ out₀ line′ out′ (record { running = q .running; handed = x .handed })
+gone-more {block} {at} {q = q} g t =
+    record {
+      octets = g .octets;
+      over = g .over;
+      goes =
+          λ printed y s.
+          let w = g .goes printed y s in
+          goes-join block 0 at (q .next) (omega arith) (t .next) y w (t .goes (printed ++ g .octets) (w .then) (w .stands));
+    }
+
+-- the output is handed over, or stays
+gone-flushed : {b line₀ out₀ : List ℕ} {p : Progress} {line out : List ℕ} {m e : Progress} → Gone p b line₀ out₀ line out m
+    → Flushed (m .running) (m .handed) out e → Gone p b line₀ out₀ line out e
+gone-flushed {line = line} {out} {m} {e} g f =
+    let l = left (m .running) (m .handed) out e f in
+    record {
+      octets = g .octets ++ l .octets;
+      over = over-more (g .over) (l .over);
+      goes =
+          λ printed y s.
+          let w = g .goes printed y s in
+          record {
+            then = w .then;
+            reads = w .reads;
+            stands =
+                subst (λ (z : List ℕ). Stands z (w .then) line out (e .running)) (append-assoc printed (g .octets) (l .octets))
+                (l .stands (printed ++ g .octets) (w .then) line (w .stands));
+          };
+    }
+
 -- a loop that goes through a block and hands the output over on the way
 pub record Consuming (block line₀ room₀ out₀ : List ℕ) (p : Progress) (line room out : List ℕ) (x : Progress) (at : ℕ) : Type 0 where
   pub ready : Ready line room out (x .running)
   pub space : Room out (x .running)
   pub inside : at ≤ length block
-  pub went : Consumed p (part block 0 at) line₀ out₀ line out x
+  pub went : Gone p (part block 0 at) line₀ out₀ line out x
   pub line-same : length line ≡ length line₀
   pub room-same : length room ≡ length room₀
   pub out-same : length out ≡ length out₀
@@ -196,44 +241,32 @@ consuming-start block {line} {out = out} {p} r q =
 
 module _ {block line₀ room₀ out₀ : List ℕ} {p : Progress} {line room out : List ℕ} {x : Progress} {at : ℕ}
     (c : Consuming block line₀ room₀ out₀ p line room out x at) where
-  module _ {line′ room′ out′ : List ℕ} {q : Passed} {e : Progress} (t : Passes block at line out (x .running) line′ room′ out′ q)
-      (f : Flushed (q .running) (x .handed) out′ e) where
-    goes-more : (printed : List ℕ) (y : Reading Member) → Stands printed y line₀ out₀ (p .running)
-        → Goes (printed ++ (c .went .octets ++ left (q .running) (x .handed) out′ e f .octets)) y (part block 0 (q .next)) line′ out′
-        (e .running)
-    goes-more printed y s =
-        let o = c .went .octets in
-        let l = left (q .running) (x .handed) out′ e f in
-        let w = c .went .goes printed y s in
-        let g = t .goes (printed ++ o) (w .then) (w .stands) in
-        let d = l .stands (printed ++ o) (g .then) line′ (g .stands) in
-        goes-join block 0 at (q .next) (omega arith) (t .next) y w
-        (record {
-          then = g .then;
-          reads = g .reads;
-          stands =
-              subst (λ (z : List ℕ). Stands z (g .then) line′ out′ (e .running)) (append-assoc printed o (l .octets)) d;
-        })
+  pub consuming-more : {line′ room′ out′ : List ℕ} {q : Passed} {e : Progress} → Passes block at line out (x .running) line′ room′ out′ q
+      → Flushed (q .running) (x .handed) out′ e → length line′ ≡ length line → length room′ ≡ length room → length out′ ≡ length out
+      → Consuming block line₀ room₀ out₀ p line′ room′ out′ e (q .next)
+  consuming-more {out′ = out′} {q} {e} t f k l m =
+      record {
+        ready = ready-flushed (q .running) (x .handed) out′ e f (t .ready);
+        space = f .room;
+        inside = t .inside;
+        went = gone-flushed (gone-more (c .went) t) f;
+        line-same = k ∙ c .line-same;
+        room-same = l ∙ c .room-same;
+        out-same = m ∙ c .out-same;
+      }
 
-    pub consuming-more : length line′ ≡ length line → length room′ ≡ length room → length out′ ≡ length out
-        → Consuming block line₀ room₀ out₀ p line′ room′ out′ e (q .next)
-    consuming-more k l m =
-        record {
-          ready = ready-flushed (q .running) (x .handed) out′ e f (t .ready);
-          space = f .room;
-          inside = t .inside;
-          went =
-              record {
-                octets = c .went .octets ++ left (q .running) (x .handed) out′ e f .octets;
-                over = over-more (c .went .over) (left (q .running) (x .handed) out′ e f .over);
-                goes = goes-more;
-              };
-          line-same = k ∙ c .line-same;
-          room-same = l ∙ c .room-same;
-          out-same = m ∙ c .out-same;
-        }
+  -- the block's end, where all is handed over
+  module _ {e : Progress} (f : Emptied (x .running) (x .handed) out e) where
+    last : Flushed (x .running) (x .handed) out e
+    last = emptied-flushed f (omega (arith, c .space))
 
-  pub consuming-end : length block ≤ at → Consumed p block line₀ out₀ line out x
-  consuming-end h =
-      let e : part block 0 at ≡ block = take-all (at - 0) block (omega arith) in
-      subst (λ (b : List ℕ). Consumed p b line₀ out₀ line out x) e (c .went)
+    pub consuming-ready : Ready line room out (e .running)
+    consuming-ready = ready-flushed (x .running) (x .handed) out e last (c .ready)
+
+    pub consuming-room : Room out (e .running)
+    consuming-room = last .room
+
+    pub consuming-end : length block ≤ at → Consumed p block line₀ out₀ line out e
+    consuming-end h =
+        let b : part block 0 at ≡ block = take-all (at - 0) block (omega arith) in
+        record { gone = gone-flushed (subst (λ (w : List ℕ). Gone p w line₀ out₀ line out x) b (c .went)) last; at = f .at }

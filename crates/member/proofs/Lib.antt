@@ -3,3 +3,4 @@ pub mod StandingLaws
 pub mod HandingLaws
 pub mod BlockLaws
 pub mod Printing
+pub mod RunLaws

@@ -1,4 +1,6 @@
 pub mod Reply
 pub mod Standing
 pub mod Handing
+pub mod Taking
+pub mod Turns
 pub mod Printed

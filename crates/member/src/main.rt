@@ -1,12 +1,15 @@
 // The member program: a default key, then ticks and frames in hexadecimal; a line of answer for each.
+mod input;
 mod output;
 mod running;
 
 ghost use Prim.Native.Nat.{_<_, _≤_};
 ghost use lib.ListN.{length};
 ghost use Rattle.member.specs.inner.Standing.{Ready, Room};
-ghost use Rattle.member.specs.inner.Printed.{Flushed, Consumed, Ended};
-use libc::STDIN_FILENO;
+ghost use Rattle.member.specs.inner.Printed.{Emptied, Flushed, Consumed, Ended};
+ghost use Rattle.member.specs.inner.Turns.{TurnsLeft};
+ghost use Rattle.member.specs.Run.{Runs};
+use input::Taken;
 use output::Handed;
 use running::Running;
 
@@ -16,16 +19,18 @@ pub struct Progress {
     pub handed: Handed,
 }
 
-// Hands the output over where there is little room left in it.
-fn flushed(r: Running, handed: Handed, out: &[u8]) -> Progress
+// What a run took from its input, and what it handed to its output.
+pub struct Ran {
+    pub taken: Taken,
+    pub handed: Handed,
+}
+
+// Hands the output over.
+fn emptied(r: Running, handed: Handed, out: &[u8]) -> Progress
     requires { ⌜ r .at ≤ length (now out) ⌝ }
-    requires { ⌜ 63 ≤ length (now out) ⌝ }
-    ensures { λ e. ⌜ Flushed r handed (now (out .entry)) e ⌝ }
+    ensures { λ e. ⌜ Emptied r handed (now (out .entry)) e ⌝ }
 {
     let at = r.at;
-    if 63 <= out.len() - at {
-        return Progress { running: r, handed };
-    }
     let written = output::hand_over(handed, out, at);
     let member = r.member;
     let key = r.key;
@@ -42,7 +47,21 @@ fn flushed(r: Running, handed: Handed, out: &[u8]) -> Progress
     }
 }
 
-// A whole block. What of the output finds no room is handed over on the way.
+// Hands the output over where there is little room left in it.
+fn flushed(r: Running, handed: Handed, out: &[u8]) -> Progress
+    requires { ⌜ r .at ≤ length (now out) ⌝ }
+    requires { ⌜ 63 ≤ length (now out) ⌝ }
+    ensures { λ e. ⌜ Flushed r handed (now (out .entry)) e ⌝ }
+{
+    let at = r.at;
+    if 63 <= out.len() - at {
+        return Progress { running: r, handed };
+    }
+    emptied(r, handed, out)
+}
+
+// A whole block. The output is handed over on the way where it finds no room, and at the block's end whatever room there is: who sends a
+// line and waits has its answer.
 fn consumed(p: Progress, block: &[u8], line: &mut [u8], room: &mut [u8], out: &mut [u8]) -> Progress
     requires { ⌜ Ready (now line) (now room) (now out) (p .running) ⌝ }
     requires { ⌜ Room (now out) (p .running) ⌝ }
@@ -60,7 +79,9 @@ fn consumed(p: Progress, block: &[u8], line: &mut [u8], room: &mut [u8], out: &m
         let y = q.running;
         x = flushed(y, handed, out);
     }
-    x
+    let r = x.running;
+    let handed = x.handed;
+    emptied(r, handed, out)
 }
 
 // The end of the input: a line that has begun is answered, and what the output holds is handed over.
@@ -75,26 +96,50 @@ fn ended(p: Progress, line: &[u8], room: &mut [u8], out: &mut [u8]) -> Handed
     output::hand_over(handed, out, e.at)
 }
 
-// The whole input. A proved loop has to end, and nothing says that an input does: so it counts its turns down from a number that no input
-// uses up.
-fn run(line: &mut [u8], room: &mut [u8], out: &mut [u8], block: &mut [u8])
+// The turns that are left after one: none where the input has ended or a write failed.
+fn turns_left(turns: u64, taken: Taken, handed: Handed) -> u64
+    requires { ⌜ 0 < turns ⌝ }
+    ensures { λ r. ⌜ TurnsLeft turns taken handed r ⌝ }
+{
+    let ended = input::ended(taken);
+    let failed = output::failed(handed);
+    if ended {
+        return 0;
+    }
+    if failed {
+        return 0;
+    }
+    turns - 1
+}
+
+// The whole input, up to a write that fails. A proved loop has to end, and nothing says that an input does: so it counts its turns down
+// from a number that no input uses up.
+fn run(line: &mut [u8], room: &mut [u8], out: &mut [u8], block: &mut [u8]) -> Ran
     requires { ⌜ 32776 < length (now line) ⌝ }
     requires { ⌜ 16384 ≤ length (now room) ⌝ }
     requires { ⌜ 63 ≤ length (now out) ⌝ }
+    requires { ⌜ 0 < length (now block) ⌝ }
+    ensures { λ r. ⌜ Runs r ⌝ }
 {
     let running = running::begun();
-    let handed = output::nothing();
-    let mut p = Progress { running, handed };
+    let none = output::nothing();
+    let mut p = Progress {
+        running,
+        handed: none,
+    };
+    let mut taken = input::nothing();
     let mut turns = u64::MAX;
     while turns > 0 {
-        let n = io::read_full(STDIN_FILENO, block);
-        if n == 0 {
-            break;
-        }
+        let b = input::next(taken, block);
+        let n = b.n;
+        let t = b.taken;
         p = consumed(p, &block[..n], line, room, out);
-        turns -= 1;
+        let h = p.handed;
+        turns = turns_left(turns, t, h);
+        taken = t;
     }
-    ended(p, line, room, out);
+    let handed = ended(p, line, room, out);
+    Ran { taken, handed }
 }
 
 fn main() {

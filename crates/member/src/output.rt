@@ -1,29 +1,47 @@
-// Standard output, and how many octets it was handed so far. The count is private to this file, and `hand_over` alone raises it: a promise
-// that asks for a higher count asks for that call.
+// Standard output, how many octets it was handed so far, and whether a write of them failed. Both are private to this file, and `hand_over`
+// alone changes them: a promise that asks for a higher count asks for that call.
 ghost use Prim.Native.Nat.{_≤_};
 ghost use mathlib.Core.Path.{_≡_};
 ghost use lib.ListN.{length, take};
-ghost use Rattle.member.specs.inner.Handing.{HandedOver};
+ghost use Rattle.member.specs.inner.Handing.{nothingHanded, HandedOver};
 use libc::STDOUT_FILENO;
 
 // The count goes modulo 2^64.
 pub struct Handed {
     count: usize,
+    failed: bool,
 }
 
 // Before the first octet.
 pub(crate) fn nothing() -> Handed
-    ensures { λ r. ⌜ r .count ≡ 0 ⌝ }
+    ensures { λ r. ⌜ r ≡ nothingHanded ⌝ }
 {
-    Handed { count: 0 }
+    Handed {
+        count: 0,
+        failed: false,
+    }
 }
 
-// Hands the first `at` octets of the output to the write, and counts them.
+// Hands the first `at` octets of the output to the write, and counts them. After a write that failed nothing is handed to it any more:
+// later answers would stand in the place of those that were lost.
 pub(crate) fn hand_over(handed: Handed, out: &[u8], at: usize) -> Handed
     requires { ⌜ at ≤ length (now out) ⌝ }
     ensures { λ e. ⌜ HandedOver handed (take at (now (out .entry))) e ⌝ }
 {
-    io::write_all(STDOUT_FILENO, &out[..at]);
+    if handed.failed {
+        return handed;
+    }
+    let written = io::write_all(STDOUT_FILENO, &out[..at]);
     let count = std::num::wrapping_add_usize(handed.count, at);
-    Handed { count }
+    Handed {
+        count,
+        failed: !written,
+    }
+}
+
+// Whether a write failed.
+pub(crate) fn failed(handed: Handed) -> bool
+    ensures { λ r. ⌜ r ≡ handed .failed ⌝ }
+{
+    handed.failed
 }

@@ -4,7 +4,7 @@ use Prim.Native.Nat.{_-_}
 use mathlib.Core.Path.{_≡_}
 use native.Mathlib.Omega.{arith}
 use lib.ListN.{length}
-use Rattle.member.proofs.BlockLaws.{Consuming, consuming-start, consuming-more, consuming-end}
+use Rattle.member.proofs.BlockLaws.{Consuming, consuming-start, consuming-more, consuming-ready, consuming-room, consuming-end}
 use Rattle.member.proofs.consumed.Statement.{statement}
 use Rattle.member.proofs.consumed.Tie as tie
 
@@ -48,19 +48,24 @@ loop-again c =
     let n : length (t .through .last .1 .1 .1 .1 .1 .0) ≡ length (l .out) = search needs in
     consuming-more (l .inv) (t .through .ensures .0) (c .flushed .ensures) k m n
 
+emptied-requires : tie.Need-emptied-requires Inv-loop μ-loop
+emptied-requires c κs = c .before .before .before .before .loop .inv .ready .place
+
 same-length : tie.Need-same-length Inv-loop μ-loop
-same-length c = c .before .loop .inv .line-same
+same-length c = c .before .before .before .before .before .loop .inv .line-same
 
 same-length-2 : tie.Need-same-length-2 Inv-loop μ-loop
-same-length-2 c = c .before .loop .inv .room-same
+same-length-2 c = c .before .before .before .before .before .loop .inv .room-same
 
 same-length-3 : tie.Need-same-length-3 Inv-loop μ-loop
-same-length-3 c = c .before .loop .inv .out-same
+same-length-3 c = c .before .before .before .before .before .loop .inv .out-same
 
 returns : tie.Need-returns Inv-loop μ-loop
 returns c =
-    let l = c .before .loop .inv in
-    (l .ready, (l .space, consuming-end l (c .loop-test .left)))
+    let t = c .before .before .before .before in
+    let l = t .before .loop .inv in
+    let e = c .emptied .ensures in
+    (consuming-ready l e, (consuming-room l e, consuming-end l e (t .loop-test .left)))
 
 pub consumed-spec : {M : Type 1} → statement M
 consumed-spec =
@@ -73,6 +78,7 @@ consumed-spec =
     flushed-requires
     loop-less
     loop-again
+    emptied-requires
     same-length
     same-length-2
     same-length-3

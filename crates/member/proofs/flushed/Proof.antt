@@ -1,8 +1,9 @@
 -- `member::flushed` meets its contract.
 use borrow.Author.Needs.{needs}
 use mathlib.Core.Path.{refl}
-use mathlib.Core.Logic.{inl, inr}
+use mathlib.Core.Logic.{inl}
 use Rattle.member.proofs.HandingLaws.{over-none}
+use Rattle.member.proofs.BlockLaws.{emptied-flushed}
 use Rattle.member.proofs.flushed.Statement.{statement}
 use Rattle.member.proofs.flushed.Tie as tie
 
@@ -13,13 +14,11 @@ returns : tie.Need-returns
 returns c =
     record { member = refl; key = refl; keyed = refl; len = refl; over = inl (over-none, refl); room = c .if1 .taken }
 
-hand-over-requires : tie.Need-hand-over-requires
-hand-over-requires c κs = search needs
+emptied-requires : tie.Need-emptied-requires
+emptied-requires c κs = search needs
 
 returns-2 : tie.Need-returns-2
-returns-2 c =
-    let h = c .before .before .hand-over .ensures in
-    record { member = refl; key = refl; keyed = refl; len = refl; over = inr (h, refl); room = search needs }
+returns-2 c = emptied-flushed (c .emptied .ensures) (search needs)
 
 pub flushed-spec : {M : Type 1} → statement M
-flushed-spec = tie.close (tie.spec sub-if1 returns hand-over-requires returns-2)
+flushed-spec = tie.close (tie.spec sub-if1 returns emptied-requires returns-2)

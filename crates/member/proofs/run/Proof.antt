@@ -1,22 +1,23 @@
--- `member::run` is safe and ends. The invariant: what is lent is large enough, and keeps its size.
+-- `member::run` meets its contract: what it hands over is what the octets that it took ask for.
 use borrow.Author.Needs.{needs}
-use mathlib.Core.Path.{_≡_, refl, ap, sym, _∙_}
-use mathlib.Core.Logic.{⊎-elim}
+use Prim.Native.Nat.{_<_}
+use mathlib.Core.Path.{_≡_, refl, sym, _∙_}
 use native.Mathlib.Omega.{arith}
 use lib.ListN.{length}
 use lib.Seq.{length-take-le}
 use Rattle.member.specs.inner.Standing.{Ready, Room}
 use Rattle.member.proofs.StandingLaws.{ready-first}
+use Rattle.member.proofs.RunLaws.{Far, left-less, far-start, far-more, far-end}
 use Rattle.member.proofs.run.Statement.{statement}
 use Rattle.member.proofs.run.Tie as tie
 
 abbrev Inv-loop : tie.InvT-loop
-Inv-loop line₀ room₀ out₀ block₀ p₀ turns₀ line room out block p turns =
+Inv-loop line₀ room₀ out₀ block₀ p₀ taken₀ turns₀ line room out block p taken turns =
     Ready line room out (p .running) × Room out (p .running) × (length line ≡ length line₀) × (length room ≡ length room₀)
-    × (length out ≡ length out₀) × (length block ≡ length block₀)
+    × (length out ≡ length out₀) × (length block ≡ length block₀) × Far line out p taken turns
 
 abbrev μ-loop : tie.MeasureT-loop
-μ-loop line₀ room₀ out₀ block₀ p₀ turns₀ line room out block p turns = turns
+μ-loop line₀ room₀ out₀ block₀ p₀ taken₀ turns₀ line room out block p taken turns = turns
 
 begun-requires : tie.Need-begun-requires Inv-loop μ-loop
 begun-requires c κs = tt
@@ -24,45 +25,77 @@ begun-requires c κs = tt
 nothing-requires : tie.Need-nothing-requires Inv-loop μ-loop
 nothing-requires c κs = tt
 
+nothing-requires-2 : tie.Need-nothing-requires-2 Inv-loop μ-loop
+nothing-requires-2 c κs = tt
+
 loop-holds : tie.Need-loop-holds Inv-loop μ-loop
 loop-holds c =
-    let s = c .before .before .before .before .before .before in
-    let b = c .before .begun .ensures in
-    (ready-first b (s .pre .0) (s .pre .1 .0), omega (arith, s .pre .1 .1, b .at), refl, refl, refl, refl)
+    let s = c .before .before .before .before .before .before .before in
+    let b = c .before .before .begun .ensures in (
+      ready-first b (s .pre .0) (s .pre .1 .0),
+      omega (arith, s .pre .1 .1 .0, b .at),
+      refl,
+      refl,
+      refl,
+      refl,
+      far-start b (c .before .nothing .ensures) (c .nothing2 .ensures) (omega arith),
+    )
 
-read-full-requires : tie.Need-read-full-requires Inv-loop μ-loop
-read-full-requires c κs = tt
+next-requires : tie.Need-next-requires Inv-loop μ-loop
+next-requires c κs =
+    let l = c .before .before .loop in
+    let s = c .before .before .before .before .before .before .before .before .before .before in
+    let h : 0 < length (l .block) = omega (arith, l .inv .5, s .pre .1 .1 .1) in
+    h
 
 slice-reshare-prefix-consumed : tie.Need-slice-reshare-prefix-consumed Inv-loop μ-loop
-slice-reshare-prefix-consumed c = c .before .before .before .read-full .ensures .0
+slice-reshare-prefix-consumed c = c .before .before .before .next .ensures .0
 
 slice-aggregate-consumed : tie.Need-slice-aggregate-consumed Inv-loop μ-loop
 slice-aggregate-consumed c =
-    let f = c .before .before .before .before .read-full in
-    sym (length-take-le (f .result) (f .last .1 .0) (f .ensures .0))
+    let f = c .before .before .before .before .next in
+    sym (length-take-le (f .result .n) (f .last .1 .0) (f .ensures .0))
 
 consumed-requires : tie.Need-consumed-requires Inv-loop μ-loop
 consumed-requires c κs =
     let l = c .before .before .before .before .before .before .before .before .before .before .loop .inv in
     (l .0, l .1)
 
-sub-turns : tie.Need-sub-turns Inv-loop μ-loop
-sub-turns c = search needs
+turns-left-requires : tie.Need-turns-left-requires Inv-loop μ-loop
+turns-left-requires c κs =
+    let x = c .before .before .before .before .before .before .before in
+    x .before .before .before .before .before .before .before .before .before .before .loop-test .taken
 
 loop-less : tie.Need-loop-less Inv-loop μ-loop
-loop-less c = search needs
+loop-less c =
+    let x = c .before .before .before .before .before .before .before .before in
+    let f = x .before .before .before .before .before .before .before .before in
+    left-less (f .next .result .taken) (x .consumed .result .handed) (f .before .before .loop-test .taken) (c .turns-left .ensures)
 
 loop-again : tie.Need-loop-again Inv-loop μ-loop
 loop-again c =
-    let x = c .before .before .before .before .before .before in
+    let x = c .before .before .before .before .before .before .before .before in
     let f = x .before .before .before .before .before .before .before .before in
-    let l = f .before .before .before .loop in
-    let k : length (x .consumed .last .1 .1 .0) ≡ length (l .line) = search needs in
-    let m : length (x .consumed .last .1 .1 .1 .0) ≡ length (l .room) = search needs in
-    let n : length (x .consumed .last .1 .1 .1 .1 .0) ≡ length (l .out) = search needs in
-    let o : length (f .read-full .last .1 .0) ≡ length (l .block) = search needs in
+    let t = f .before .before in
+    let l = t .before .loop in
+    let out = c .before .before .before in
+    let room = out .before .before in
+    let line = room .before .before in
+    let k : length (x .consumed .last .1 .1 .0) ≡ length (l .line) = omega (arith, line .line .given) in
+    let m : length (x .consumed .last .1 .1 .1 .0) ≡ length (l .room) = omega (arith, room .room .given) in
+    let n : length (x .consumed .last .1 .1 .1 .1 .0) ≡ length (l .out) = omega (arith, out .out .given) in
+    let block = x .before .before .before .before .before .before .before in
+    let o : length (f .next .last .1 .0) ≡ length (l .block) = omega (arith, block .block .given) in
     let i = l .inv in
-    (x .consumed .ensures .0, x .consumed .ensures .1 .0, k ∙ i .2, m ∙ i .3, n ∙ i .4, o ∙ i .5)
+    let e = x .consumed .ensures in (
+      e .0,
+      e .1 .0,
+      k ∙ i .2,
+      m ∙ i .3,
+      n ∙ i .4,
+      o ∙ i .5,
+      far-more (i .6) (t .loop-test .taken) (f .next .ensures .1) (e .1 .1) (c .turns-left .ensures),
+    )
 
 ended-requires : tie.Need-ended-requires Inv-loop μ-loop
 ended-requires c κs =
@@ -70,7 +103,7 @@ ended-requires c κs =
     (l .0, l .1)
 
 same-length : tie.Need-same-length Inv-loop μ-loop
-same-length c = search needs
+same-length c = c .before .before .before .before .before .before .before .before .before .loop .inv .2
 
 same-length-2 : tie.Need-same-length-2 Inv-loop μ-loop
 same-length-2 c = search needs
@@ -79,15 +112,12 @@ same-length-3 : tie.Need-same-length-3 Inv-loop μ-loop
 same-length-3 c = search needs
 
 same-length-4 : tie.Need-same-length-4 Inv-loop μ-loop
-same-length-4 c =
-    let t = c .before .before .before .before .before .before .before .before in
-    let l = t .before .loop in
-    ⊎-elim (λ w. ap length (w .1) ∙ l .inv .5)
-    (λ w. let o : length (w .2 .last .1 .0) ≡ length (l .block) = search needs in ap length (w .6) ∙ o ∙ l .inv .5)
-    (t .loop-test .came)
+same-length-4 c = c .before .before .before .before .before .before .before .before .before .loop .inv .5
 
 returns : tie.Need-returns Inv-loop μ-loop
-returns c = tt
+returns c =
+    let t = c .before .before .before .before .before .before .before .before in
+    far-end (t .before .loop .inv .6) (c .before .before .before .before .ended .ensures) (omega (arith, t .loop-test .left))
 
 pub run-spec : {M : Type 1} → statement M
 run-spec =
@@ -97,12 +127,13 @@ run-spec =
     μ-loop
     begun-requires
     nothing-requires
+    nothing-requires-2
     loop-holds
-    read-full-requires
+    next-requires
     slice-reshare-prefix-consumed
     slice-aggregate-consumed
     consumed-requires
-    sub-turns
+    turns-left-requires
     loop-less
     loop-again
     ended-requires

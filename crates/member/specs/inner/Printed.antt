@@ -1,5 +1,4 @@
--- What the program hands to its output. That what it hands over for its whole input is what the input asks for is `whole-run`,
--- proofs/Printing.antt.
+-- What the program hands to its output, block by block.
 use Prim.Native.Nat.{ℕ}
 use mathlib.Core.Path.{_≡_}
 use mathlib.Core.Logic.{_⊎_}
@@ -14,6 +13,15 @@ use Rattle.member.specs.declared.running.Running.{Running}
 use Rattle.member.specs.declared.output.Handed.{Handed}
 use Rattle.member.specs.declared.Progress.{Progress}
 
+-- all that the output holds is handed over, and nothing stays
+pub record Emptied (r : Running) (h : Handed) (out : List ℕ) (e : Progress) : Type 0 where
+  pub member : e .running .member ≡ r .member
+  pub key : e .running .key ≡ r .key
+  pub keyed : e .running .keyed ≡ r .keyed
+  pub len : e .running .len ≡ r .len
+  pub over : HandedOver h (take (r .at) out) (e .handed)
+  pub at : e .running .at ≡ 0
+
 -- nothing is handed over and all stays in the output, or all that the output holds is handed over and nothing stays
 pub record Flushed (r : Running) (h : Handed) (out : List ℕ) (e : Progress) : Type 0 where
   pub member : e .running .member ≡ r .member
@@ -24,13 +32,17 @@ pub record Flushed (r : Running) (h : Handed) (out : List ℕ) (e : Progress) : 
       (HandedOver h (take (r .at) out) (e .handed) × (e .running .at ≡ 0))
   pub room : Room out (e .running)
 
--- a block was read, and some octets handed over on the way: they follow what was printed before, and what the output still holds follows
--- them
-pub record Consumed (p : Progress) (block line out line′ out′ : List ℕ) (e : Progress) : Type 0 where
+-- octets were read, and some handed over on the way: they follow what was printed before, and what the output still holds follows them
+pub record Gone (p : Progress) (block line out line′ out′ : List ℕ) (e : Progress) : Type 0 where
   pub octets : List ℕ
   pub over : HandedOver (p .handed) octets (e .handed)
   pub goes : (printed : List ℕ) (x : Reading Member) → Stands printed x line out (p .running) →
       Goes (printed ++ octets) x block line′ out′ (e .running)
+
+-- a block was read, and the output holds nothing: whatever line has ended is answered before the next read
+pub record Consumed (p : Progress) (block line out line′ out′ : List ℕ) (e : Progress) : Type 0 where
+  pub gone : Gone p block line out line′ out′ e
+  pub at : e .running .at ≡ 0
 
 -- the input has ended, and the rest of what it asks for was handed over
 pub record Ended (p : Progress) (line out : List ℕ) (e : Handed) : Type 0 where

@@ -1,0 +1,270 @@
+// For tests: member values that break the list of what a member is. No line of input and no call of the library makes one. On each of them
+// `receive`, `sweep`, `leave` and `sa` are called, and what they give is printed, after a value that keeps the list. Before that stands what
+// the program's own comparison of members tells apart.
+mod apart;
+mod same;
+mod values;
+
+use group::Member;
+use group::receive::Answer;
+use libc::STDOUT_FILENO;
+use sa::entry::ESP;
+use sa::entry::REKEY;
+use values::esp;
+use values::held_keys;
+use values::held_of;
+use values::key;
+use values::member_of;
+use values::rekey;
+use values::retiring;
+use values::sa_of;
+use values::sas;
+use values::table_of;
+
+// A tick at which the retiring SA of the values is due.
+const TICK: u32 = 1000;
+
+pub(crate) fn print(text: &[u8]) {
+    io::write_all(STDOUT_FILENO, text);
+}
+
+// A rekey over the Rekey SA a0: it deletes ESP SA 01010101.
+fn frame() -> [u8; 40] {
+    [
+        160,
+        160,
+        160,
+        160,
+        160,
+        160,
+        160,
+        160,
+        160,
+        160,
+        160,
+        160,
+        160,
+        160,
+        160,
+        160,
+        42,
+        32,
+        41,
+        32,
+        0,
+        0,
+        0,
+        5,
+        0,
+        0,
+        0,
+        40,
+        0,
+        0,
+        0,
+        12,
+        3,
+        4,
+        0,
+        1,
+        1,
+        1,
+        1,
+        1,
+    ]
+}
+
+// Document 01's number of an answer.
+fn number(a: Answer) -> u64 {
+    match a {
+        Answer::Accepted => 0,
+        Answer::BrokenLayout => 1,
+        Answer::NotForMember => 2,
+        Answer::Replayed => 3,
+        Answer::BadComposition => 4,
+        Answer::Unsupported => 5,
+        Answer::Unpaired => 6,
+        Answer::OverLimit => 7,
+        Answer::KeyConflict => 8,
+        Answer::NoKey => 9,
+    }
+}
+
+// Whether the first of two values came out unchanged.
+pub(crate) fn compared(m: Member, next: Member) {
+    if same::same_members(m, next) {
+        print(b"same");
+    } else {
+        print(b"another");
+    }
+}
+
+fn received(m: Member) {
+    let f = frame();
+    let lent = [0u8; 16];
+    let r = m.receive(&f, &lent, TICK);
+    let a = r.answer;
+    let next = r.member;
+    io::print_decimal(STDOUT_FILENO, number(a));
+    print(b" ");
+    compared(m, next);
+}
+
+fn left(m: Member) {
+    let new = Member::new();
+    let next = m.leave();
+    if same::same_members(next, new) {
+        print(b"new");
+    } else {
+        print(b"another");
+    }
+}
+
+// The answers to the questions about an ESP SA and the Rekey SA.
+fn asked(m: Member) {
+    let one = [1u8; 4];
+    let a0 = [160u8; 16];
+    let e = m.sa(ESP, &one);
+    let r = m.sa(REKEY, &a0);
+    if same::is_none(e) && same::is_none(r) {
+        print(b"none");
+    } else {
+        print(b"found");
+    }
+}
+
+fn tried(name: &[u8], m: Member) {
+    print(name);
+    print(b": receive ");
+    received(m);
+    print(b", sweep ");
+    let swept = m.sweep(TICK);
+    compared(m, swept);
+    print(b", leave ");
+    left(m);
+    print(b", sa ");
+    asked(m);
+    print(b"\n");
+}
+
+// Tables that are as a member's must be but for their count.
+fn counts() {
+    tried(b"as it must be", member_of(sas(3), held_keys(2)));
+    tried(b"17 SAs", member_of(sas(17), held_keys(2)));
+    tried(
+        b"2^64 - 1 SAs",
+        member_of(sas(18446744073709551615), held_keys(2)),
+    );
+    tried(
+        b"a blank place among the SAs",
+        member_of(sas(4), held_keys(2)),
+    );
+    tried(b"33 held keys", member_of(sas(3), held_keys(33)));
+    tried(
+        b"a blank place among the held keys",
+        member_of(sas(3), held_keys(3)),
+    );
+}
+
+// Tables whose SAs do not rise, or are not of the protocols or sizes that they may have.
+fn orders() {
+    tried(
+        b"a name twice",
+        member_of(
+            table_of(esp(1, 20), esp(1, 20), rekey(160, 36, 20, 16), 3),
+            held_keys(2),
+        ),
+    );
+    tried(
+        b"SPIs that fall",
+        member_of(
+            table_of(esp(2, 20), esp(1, 20), rekey(160, 36, 20, 16), 3),
+            held_keys(2),
+        ),
+    );
+    tried(
+        b"a Rekey SA before an ESP SA",
+        member_of(
+            table_of(esp(1, 20), rekey(160, 36, 20, 16), esp(2, 20), 3),
+            held_keys(2),
+        ),
+    );
+    tried(
+        b"protocol 2",
+        member_of(
+            table_of(sa_of(2, 1, 20, 0, 0), esp(1, 20), rekey(160, 36, 20, 16), 3),
+            held_keys(2),
+        ),
+    );
+    tried(
+        b"two live Rekey SAs",
+        member_of(
+            table_of(
+                esp(1, 20),
+                rekey(160, 36, 20, 16),
+                rekey(161, 36, 20, 16),
+                3,
+            ),
+            held_keys(2),
+        ),
+    );
+}
+
+fn sizes() {
+    let r = rekey(160, 36, 20, 16);
+    tried(
+        b"an ESP SA of 24 octets",
+        member_of(
+            table_of(esp(1, 24), retiring(esp(2, 20)), r, 3),
+            held_keys(2),
+        ),
+    );
+    tried(
+        b"an ESP SA of 69 octets",
+        member_of(
+            table_of(esp(1, 69), retiring(esp(2, 20)), r, 3),
+            held_keys(2),
+        ),
+    );
+    tried(
+        b"a Rekey SA of 44 octets in parts of 20 and 16",
+        member_of(
+            table_of(esp(1, 20), esp(2, 20), rekey(160, 44, 20, 16), 3),
+            held_keys(2),
+        ),
+    );
+    tried(
+        b"a Rekey SA in parts of 16 and 20",
+        member_of(
+            table_of(esp(1, 20), esp(2, 20), rekey(160, 36, 16, 20), 3),
+            held_keys(2),
+        ),
+    );
+}
+
+fn held_lists() {
+    tried(
+        b"Key ID 0",
+        member_of(sas(3), held_of(key(0, 16), key(2, 32), 2)),
+    );
+    tried(
+        b"a Key ID twice",
+        member_of(sas(3), held_of(key(2, 16), key(2, 32), 2)),
+    );
+    tried(
+        b"Key IDs that fall",
+        member_of(sas(3), held_of(key(2, 16), key(1, 32), 2)),
+    );
+    tried(
+        b"a held key of 20 octets",
+        member_of(sas(3), held_of(key(1, 20), key(2, 32), 2)),
+    );
+}
+
+fn main() {
+    apart::each();
+    counts();
+    orders();
+    sizes();
+    held_lists();
+}

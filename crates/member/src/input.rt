@@ -1,0 +1,53 @@
+// Standard input, and how many octets were taken from it so far. What is known of it is private to this file, and `next` alone changes it:
+// a promise that asks for the input's end asks for a read that gave nothing.
+ghost use Prim.Native.Nat.{_<_, _≤_};
+ghost use mathlib.Core.Path.{_≡_};
+ghost use lib.ListN.{length, take};
+ghost use Rattle.member.specs.inner.Taking.{nothingTaken, TakenIn};
+use libc::STDIN_FILENO;
+
+// The count goes modulo 2^64.
+pub struct Taken {
+    count: usize,
+    ended: bool,
+}
+
+// How many octets stand at the start of a lent block, and what was taken with them.
+pub struct Block {
+    pub n: usize,
+    pub taken: Taken,
+}
+
+// Before the first octet.
+pub(crate) fn nothing() -> Taken
+    ensures { λ r. ⌜ r ≡ nothingTaken ⌝ }
+{
+    Taken {
+        count: 0,
+        ended: false,
+    }
+}
+
+// What is there of the input, at the start of a lent block: one read, which waits for an octet and not for a full block. None at the
+// input's end, and none where the read fails. (A block with no room would give none too, and tell nothing of the input.)
+pub(crate) fn next(taken: Taken, block: &mut [u8]) -> Block
+    requires { ⌜ 0 < length (now block) ⌝ }
+    ensures { λ r. ⌜ r .n ≤ length (now (block .exit)) ⌝ }
+    ensures { λ r. ⌜ TakenIn taken (take (r .n) (now (block .exit))) (r .taken) ⌝ }
+{
+    let got = libc::read(STDIN_FILENO, block);
+    let n = io::count(got, block);
+    let count = std::num::wrapping_add_usize(taken.count, n);
+    let next = Taken {
+        count,
+        ended: n == 0,
+    };
+    Block { n, taken: next }
+}
+
+// Whether the last read gave nothing.
+pub(crate) fn ended(taken: Taken) -> bool
+    ensures { λ r. ⌜ r ≡ taken .ended ⌝ }
+{
+    taken.ended
+}
