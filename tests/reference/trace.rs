@@ -21,8 +21,8 @@ pub fn run(mut input: impl BufRead, mut output: impl Write) -> Result<()> {
 
 /// The member, the lent key, and the text of the member that was printed last.
 pub struct Trace {
-    pub member: Member,
-    pub lent: Vec<u8>,
+    member: Member,
+    lent: Vec<u8>,
     last: String,
 }
 
@@ -35,7 +35,7 @@ impl Trace {
 
     /// What a line prints.
     pub fn line(&mut self, line: &[u8]) -> String {
-        let mut text = self.call(line).unwrap_or_else(|| "bad".to_string()) + "\n";
+        let mut text = call(&mut self.member, &mut self.lent, line).unwrap_or_else(|| "bad".to_string()) + "\n";
         let member = whole(&self.member);
         if member != self.last {
             text += &member;
@@ -43,37 +43,37 @@ impl Trace {
         }
         text
     }
+}
 
-    /// The call that a line asks for, and what it prints first; None for a line that asks for nothing.
-    fn call(&mut self, line: &[u8]) -> Option<String> {
-        let done = || Some("done".to_string());
-        let (letter, digits) = line.split_first()?;
-        if digits.len() > MOST_DIGITS {
-            return None;
+/// The call that a line asks for, and what it prints first; None for a line that asks for nothing.
+pub fn call(member: &mut Member, lent: &mut Vec<u8>, line: &[u8]) -> Option<String> {
+    let done = || Some("done".to_string());
+    let (letter, digits) = line.split_first()?;
+    if digits.len() > MOST_DIGITS {
+        return None;
+    }
+    match letter {
+        b'k' => {
+            *lent = octets(digits)?;
+            done()
         }
-        match letter {
-            b'k' => {
-                self.lent = octets(digits)?;
-                done()
-            }
-            b's' => {
-                let tick: [u8; 4] = octets(digits)?.try_into().ok()?;
-                self.member.sweep(u32::from_be_bytes(tick));
-                done()
-            }
-            b'l' if digits.is_empty() => {
-                self.member.leave();
-                done()
-            }
-            b'q' => {
-                let name = octets(digits)?;
-                let (protocol, spi) = name.split_first()?;
-                Some(self.member.sa(*protocol, spi).map_or("none".to_string(), found))
-            }
-            _ => {
-                let (tick, frame) = tick_and_frame(line)?;
-                Some(format!("answer {}", self.member.take(&self.lent, tick, &frame)))
-            }
+        b's' => {
+            let tick: [u8; 4] = octets(digits)?.try_into().ok()?;
+            member.sweep(u32::from_be_bytes(tick));
+            done()
+        }
+        b'l' if digits.is_empty() => {
+            member.leave();
+            done()
+        }
+        b'q' => {
+            let name = octets(digits)?;
+            let (protocol, spi) = name.split_first()?;
+            Some(member.sa(*protocol, spi).map_or("none".to_string(), found))
+        }
+        _ => {
+            let (tick, frame) = tick_and_frame(line)?;
+            Some(format!("answer {}", member.take(lent, tick, &frame)))
         }
     }
 }
