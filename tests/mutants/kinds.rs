@@ -29,7 +29,7 @@ const TURNED: [(&str, &str, &str); 9] = [
 const NOT_CALLED: [&str; 7] = ["wrap", "wrap_steps", "open", "last_word", "cipher", "mix_columns", "shift_rows"];
 
 /// Keys with a bit flipped and fields left out: the file, a text of one of its lines, and what takes its place.
-const BY_HAND: [(&str, &str, &str, &str); 27] = [
+const BY_HAND: [(&str, &str, &str, &str); 33] = [
     ("key", "keywrap", "Some(padded[..octets].to_vec())", "Some(flipped(&padded[..octets]))"),
     ("key", "reach", "self.0.push(Key { id, value: value.to_vec(),", "self.0.push(Key { id, value: flipped(value),"),
     ("key", "reach", "None => self.add(entry.key_id, &value),", "None => self.add(entry.key_id, &flipped(&value)),"),
@@ -46,7 +46,8 @@ const BY_HAND: [(&str, &str, &str, &str); 27] = [
         "key",
         "member",
         "Sa { protocol, spi, keying, encryption,",
-        "Sa { protocol, spi, keying: if protocol == REKEY { [&flipped(&keying[..20]), &keying[20..]].concat() } else { keying }, encryption,",
+        "Sa { protocol, spi, keying: if protocol == REKEY { [&flipped(&keying[..20]), &keying[20..]].concat() } else { keying }, \
+            encryption,",
     ),
     ("key", "member", "spi, keying, encryption, condition:", "spi: flipped(&spi), keying, encryption, condition:"),
     ("key", "member", "keys.add(*id, value)", "keys.add(*id, &flipped(value))"),
@@ -61,6 +62,12 @@ const BY_HAND: [(&str, &str, &str, &str); 27] = [
     ("left out", "member", "sa.protocol == protocol && sa.spi == spi", "sa.protocol == protocol"),
     ("left out", "member", ".filter(|_| self.is_whole())", ""),
     ("left out", "member", "if request.registration {", "if false {"),
+    ("left out", "member", "start: tick, delay: request.delay", "start: 0, delay: request.delay"),
+    ("left out", "member", "start: tick, delay: request.delay", "start: tick, delay: 0"),
+    ("left out", "member", "Some(request.initial_id.unwrap_or(0))", "Some(0)"),
+    ("left out", "judging", "message_id: frame.message_id,", "message_id: 0,"),
+    ("left out", "judging", "deleted: self.deletes.iter().flat_map(|delete| delete.spis.chunks_exact(4)).collect(),", "deleted: vec![],"),
+    ("left out", "judging", "wrap_keys: self.wrap_keys().copied().collect(),", "wrap_keys: vec![],"),
     ("left out", "judging", "map(|policy| (policy.protocol, policy.spi))", "map(|policy| (0, policy.spi))"),
     ("left out", "judging", "map(|bag| (bag.protocol, bag.spi))", "map(|bag| (0, bag.spi))"),
     ("left out", "judging", "policy.protocol == sa.protocol && policy.spi == sa.spi", "policy.spi == sa.spi"),
@@ -70,8 +77,14 @@ const BY_HAND: [(&str, &str, &str, &str); 27] = [
 ];
 
 /// Octets with a bit of the last one flipped, for the mutants of keys.
-pub const FLIPPED: &str = "pub fn flipped(octets: &[u8]) -> Vec<u8> {\n    let mut octets = octets.to_vec();\n    \
-    if let Some(last) = octets.last_mut() {\n        *last ^= 1;\n    }\n    octets\n}\n";
+pub const FLIPPED: &str = "pub fn flipped(octets: &[u8]) -> Vec<u8> {
+    let mut octets = octets.to_vec();
+    if let Some(last) = octets.last_mut() {
+        *last ^= 1;
+    }
+    octets
+}
+";
 
 /// Every mutant of a file.
 pub fn mutants(file: &'static str, text: &str) -> Vec<Mutant> {

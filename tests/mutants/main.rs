@@ -1,7 +1,8 @@
 //! `mutants SCRIPTS ROOM [TEXT]`: makes every one-line mutant of the second member by the kinds of kinds.rs, one after the other, and runs
 //! it on the scripts of a directory, NAME.in and NAME.trace.in, whose outputs by the product stand beside them, NAME.out and
-//! NAME.trace.out. A mutant is told apart where it prints something else. TEXT keeps the mutants whose line, file and number hold it.
-//! Prints the survivors and the counts, and writes a line for each mutant to ROOM/report.
+//! NAME.trace.out. A mutant is told apart where it prints something else; one that is not is tried by the second member's own tests.
+//! TEXT keeps the mutants whose file, line number, kind or line hold it, @FILE those that stand in a file like the report. Prints what
+//! the scripts do not tell apart and the counts, and writes each mutant with its verdict to ROOM/report.
 
 mod kinds;
 
@@ -17,15 +18,23 @@ const FILES: [&str; 8] = ["aes", "keywrap", "layout", "judging", "reach", "membe
 /// A mutant that takes longer on one script is told apart.
 const LIMIT: Duration = Duration::from_secs(10);
 
-const PROGRAM: &str = "fn main() {\n    let (input, output) = (std::io::stdin().lock(), std::io::BufWriter::new(std::io::stdout().lock()));\n    \
-    match std::env::args().nth(1) {\n        None => text::run(input, output),\n        Some(_) => trace::run(input, output),\n    }\n    \
-    .expect(\"standard input and output\");\n}\n";
+/// Both programs in one: `trace` with an argument, `member` without.
+const PROGRAM: &str = "fn main() {
+    let (input, output) = (std::io::stdin().lock(), std::io::BufWriter::new(std::io::stdout().lock()));
+    match std::env::args().nth(1) {
+        None => text::run(input, output),
+        Some(_) => trace::run(input, output),
+    }
+    .expect(\"standard input and output\");
+}
+";
 
 #[derive(PartialEq)]
 enum Verdict {
     NoProgram,
     ToldByMember(String),
     ToldByTrace(String),
+    ToldByTests,
     Survives,
 }
 
@@ -61,17 +70,23 @@ fn all(scripts: &Path, room: &Path, text: &str) -> std::io::Result<()> {
     }
     std::fs::create_dir_all(room.join("src"))?;
     let head = source("lib")?;
+    std::fs::write(room.join("src/lib.rs"), format!("#![allow(warnings)]\n{head}\n{FLIPPED}"))?;
     std::fs::write(room.join("src/main.rs"), format!("#![allow(warnings)]\n{head}\n{FLIPPED}\n{PROGRAM}"))?;
     for (file, text) in &sources {
         std::fs::write(room.join(format!("src/{file}.rs")), text)?;
     }
+    let listed = text.strip_prefix('@').map(std::fs::read_to_string).transpose()?;
+    let kept = |mutant: &Mutant| match &listed {
+        Some(list) => list.contains(&head_of(mutant)),
+        None => name(mutant).contains(text),
+    };
     let mut report = std::fs::File::create(room.join("report"))?;
     let mut verdicts = Vec::new();
     if verdict(&scripts, room)? != Verdict::Survives {
         return Err(std::io::Error::other("the second member itself is told apart"));
     }
     for (file, source) in &sources {
-        for mutant in mutants(file, source).into_iter().filter(|mutant| name(mutant).contains(text)) {
+        for mutant in mutants(file, source).into_iter().filter(kept) {
             let path = room.join(format!("src/{file}.rs"));
             std::fs::write(&path, mutated(source, &mutant))?;
             let verdict = verdict(&scripts, room)?;
@@ -90,6 +105,11 @@ fn source(file: &str) -> std::io::Result<String> {
 
 fn name(mutant: &Mutant) -> String {
     format!("{}.rs:{}: {}: {}", mutant.file, mutant.line, mutant.kind, mutant.old.trim())
+}
+
+/// What the report says of a mutant before its verdict.
+fn head_of(mutant: &Mutant) -> String {
+    format!("{}\n    -> {}\n", name(mutant), mutant.new.trim())
 }
 
 fn mutated(source: &str, mutant: &Mutant) -> String {
@@ -112,11 +132,7 @@ fn read_scripts(directory: &Path) -> std::io::Result<Vec<Script>> {
 /// Compiles what stands in the room, and runs it up to the first script that tells it apart.
 fn verdict(scripts: &[Script], room: &Path) -> std::io::Result<Verdict> {
     let program = room.join("mutant");
-    // Most mutants end on the first script: a quick compilation counts more than a quick program.
-    let flags = ["--edition", "2021", "-C", "opt-level=0", "-C", "overflow-checks=off", "--crate-name", "reference"];
-    let mut rustc = Command::new("rustc");
-    rustc.args(flags).arg(room.join("src/main.rs")).arg("-o").arg(&program).stderr(Stdio::null());
-    if !rustc.status()?.success() {
+    if !compiled("reference", &room.join("src/main.rs"), &[], &program)? {
         return Ok(Verdict::NoProgram);
     }
     for script in scripts {
@@ -125,7 +141,34 @@ fn verdict(scripts: &[Script], room: &Path) -> std::io::Result<Verdict> {
             return Ok(if script.traced { Verdict::ToldByTrace(name) } else { Verdict::ToldByMember(name) });
         }
     }
-    Ok(Verdict::Survives)
+    Ok(if passes_tests(room)? { Verdict::Survives } else { Verdict::ToldByTests })
+}
+
+/// Most mutants end on the first script: a quick compilation counts more than a quick program.
+fn compiled(name: &str, root: &Path, more: &[&str], output: &Path) -> std::io::Result<bool> {
+    let mut rustc = Command::new("rustc");
+    rustc.args(["--edition", "2021", "-C", "opt-level=0", "-C", "overflow-checks=off", "--crate-name", name]);
+    rustc.args(more).arg(root).arg("-o").arg(output).stderr(Stdio::null());
+    Ok(rustc.status()?.success())
+}
+
+/// Whether the second member in the room passes its own tests.
+fn passes_tests(room: &Path) -> std::io::Result<bool> {
+    let (library, builder, tests) = (room.join("libreference.rlib"), room.join("libbuilder.rlib"), room.join("selftest"));
+    let (reference, built) = (format!("reference={}", library.display()), format!("builder={}", builder.display()));
+    let (rlib, of_reference, of_both) = (["--crate-type", "rlib"], ["--extern", &reference], ["--extern", &built]);
+    let made = compiled("reference", &room.join("src/lib.rs"), &rlib, &library)?
+        && compiled("builder", Path::new("tests/compare/builder.rs"), &[rlib, of_reference].concat(), &builder)?
+        && compiled(
+            "selftest",
+            Path::new("tests/reference/selftest.rs"),
+            &[&["--test"], &of_reference[..], &of_both].concat(),
+            &tests,
+        )?;
+    if !made {
+        return Err(std::io::Error::other("the second member's tests do not compile"));
+    }
+    Ok(Command::new(tests).arg("--quiet").stdout(Stdio::null()).stderr(Stdio::null()).status()?.success())
 }
 
 /// Whether the program prints the script's output, in time, and nothing more.
@@ -158,10 +201,11 @@ fn tell(report: &mut std::fs::File, mutant: &Mutant, verdict: &Verdict) -> std::
         Verdict::NoProgram => "no program".to_string(),
         Verdict::ToldByMember(script) => format!("told apart by member, {script}"),
         Verdict::ToldByTrace(script) => format!("told apart by trace alone, {script}"),
+        Verdict::ToldByTests => "told apart by the second member's own tests alone".to_string(),
         Verdict::Survives => "survives".to_string(),
     };
-    let text = format!("{}\n    -> {}\n    {told}", name(mutant), mutant.new.trim());
-    if *verdict == Verdict::Survives {
+    let text = format!("{}    {told}", head_of(mutant));
+    if matches!(verdict, Verdict::Survives | Verdict::ToldByTests) {
         println!("{text}");
     }
     writeln!(report, "{text}")
@@ -171,9 +215,10 @@ fn count(verdicts: &[(&'static str, Verdict)]) {
     for kind in KINDS {
         let of = |is: &dyn Fn(&Verdict) -> bool| verdicts.iter().filter(|(of, verdict)| *of == kind && is(verdict)).count();
         println!(
-            "mutants: {kind}: {} by member, {} by trace alone, {} survive; {} are no program",
+            "mutants: {kind}: {} by member, {} by trace alone, {} by the tests alone, {} survive; {} are no program",
             of(&|verdict| matches!(verdict, Verdict::ToldByMember(_))),
             of(&|verdict| matches!(verdict, Verdict::ToldByTrace(_))),
+            of(&|verdict| *verdict == Verdict::ToldByTests),
             of(&|verdict| *verdict == Verdict::Survives),
             of(&|verdict| *verdict == Verdict::NoProgram)
         );
