@@ -1,21 +1,24 @@
-//! `compare PROGRAM [COUNT] [FIRST_SEED] [--cases DIRECTORY] [--verbose]`: holds a member program against the second member, line
-//! by line, on scripts made from seeds and on the fixed cases of a directory (its files *.in).
+//! `compare MEMBER TRACE [COUNT] [FIRST_SEED] [--cases DIRECTORY] [--verbose]`: holds a member program and a trace program against the
+//! second member, line by line, on scripts made from seeds and on the fixed cases of a directory (its files *.in, *.trace.in).
 //!
 //! `compare --typical COUNT SEED NAME`: writes a typical run, a registration and so many rekeys, to NAME.in, and the second member's
 //! answers, all 0, to NAME.out.
+//!
+//! `compare --scripts COUNT DIRECTORY`: writes the scripts of the first seeds, SEED.in and SEED.trace.in.
 
+mod calls;
 mod case;
 mod damage;
+mod programs;
 mod scene;
 mod script;
 mod tally;
 mod violations;
 
-use reference::text;
-use script::{typical_run, script, Script};
-use std::io::{Read, Write};
+use programs::{Kind, Program};
+use script::{script, typical_run};
 use std::path::{Path, PathBuf};
-use std::process::{Command, ExitCode, ExitStatus, Stdio};
+use std::process::ExitCode;
 use std::time::{Duration, Instant};
 use tally::Tally;
 
@@ -23,7 +26,7 @@ use tally::Tally;
 const ENOUGH: u64 = 200;
 
 struct Arguments {
-    program: PathBuf,
+    programs: [Program; 2],
     count: u64,
     first_seed: u64,
     cases: Option<PathBuf>,
@@ -41,15 +44,20 @@ fn arguments() -> Option<Arguments> {
         }
     }
     let number = |at: usize, otherwise: u64| plain.get(at).map_or(Some(otherwise), |text| text.parse().ok());
-    Some(Arguments { program: PathBuf::from(plain.first()?), count: number(1, 400)?, first_seed: number(2, 0)?, cases, verbose })
+    let program = |at: usize, kind: Kind| Some(Program { path: PathBuf::from(plain.get(at)?), kind });
+    let programs = [program(0, Kind::Member)?, program(1, Kind::Trace)?];
+    Some(Arguments { programs, count: number(2, 400)?, first_seed: number(3, 0)?, cases, verbose })
 }
 
 fn main() -> ExitCode {
     let given: Vec<String> = std::env::args().skip(1).collect();
     let done = match (given.as_slice(), arguments()) {
         ([option, count, seed, name], _) if option == "--typical" => write_typical(count, seed, name),
+        ([option, count, directory], _) if option == "--scripts" => write_scripts(count, Path::new(directory)),
         (_, Some(arguments)) => compare(&arguments),
-        _ => Err("PROGRAM [COUNT] [FIRST_SEED] [--cases DIRECTORY] [--verbose], or --typical COUNT SEED NAME".to_string()),
+        _ => Err("MEMBER TRACE [COUNT] [FIRST_SEED] [--cases DIRECTORY] [--verbose], or \
+            --typical COUNT SEED NAME, or --scripts COUNT DIRECTORY"
+            .to_string()),
     };
     match done {
         Ok(()) => ExitCode::SUCCESS,
@@ -61,30 +69,42 @@ fn main() -> ExitCode {
 }
 
 fn compare(arguments: &Arguments) -> Result<(), String> {
-    let start = Instant::now();
-    for case in fixed_cases(arguments.cases.as_deref())? {
-        let input = std::fs::read(&case).map_err(|error| format!("{}: {error}", case.display()))?;
-        let (ours, theirs) = (second_member(&input), run(&arguments.program, &input)?);
-        if let Some(at) = difference(&ours, &theirs.output) {
-            return Err(format!("{} differs: {}", case.display(), at.text));
+    let cases = fixed_cases(arguments.cases.as_deref())?;
+    for program in &arguments.programs {
+        for case in cases.iter().filter(|case| Kind::of(case) == program.kind) {
+            let input = std::fs::read(case).map_err(|error| format!("{}: {error}", case.display()))?;
+            program.agrees(&input)?.map_or(Ok(()), |at| Err(format!("{} differs: {}", case.display(), at.text)))?;
         }
-        theirs.check_status()?;
+        compare_scripts(program, arguments)?;
     }
+    Ok(())
+}
+
+fn compare_scripts(program: &Program, arguments: &Arguments) -> Result<(), String> {
+    let start = Instant::now();
     let mut tally = Tally::default();
     let mut in_program = Duration::ZERO;
     for seed in arguments.first_seed..arguments.first_seed + arguments.count {
-        let script = script(seed, &mut tally);
-        let ours = second_member(&script.input);
+        let script = script(seed, program.kind, &mut tally);
         let before = Instant::now();
-        let theirs = run(&arguments.program, &script.input)?;
+        let difference = program.agrees(&script.input)?;
         in_program += before.elapsed();
-        if let Some(at) = difference(&ours, &theirs.output) {
-            return Err(keep(seed, &script, &ours, at)?);
+        if let Some(at) = difference {
+            return Err(programs::keep(seed, program.kind, &script, at)?);
         }
-        theirs.check_status()?;
     }
-    print(&tally, arguments, start.elapsed(), in_program);
-    verdict(&tally, arguments.count)
+    print(program, &tally, arguments, start.elapsed(), in_program);
+    verdict(&tally, program.kind, arguments.count)
+}
+
+fn write_scripts(count: &str, directory: &Path) -> Result<(), String> {
+    let Ok(count) = count.parse() else { return Err(format!("{count} is no number")) };
+    for (seed, kind) in (0..count).flat_map(|seed| [(seed, Kind::Member), (seed, Kind::Trace)]) {
+        let path = directory.join(format!("{seed}{}", kind.ending()));
+        let input = script(seed, kind, &mut Tally::default()).input;
+        std::fs::write(&path, input).map_err(|error| format!("{}: {error}", path.display()))?;
+    }
+    Ok(())
 }
 
 fn write_typical(count: &str, seed: &str, name: &str) -> Result<(), String> {
@@ -94,8 +114,8 @@ fn write_typical(count: &str, seed: &str, name: &str) -> Result<(), String> {
     if let Some(complaint) = tally.complaints.first() {
         return Err(complaint.clone());
     }
-    let written =
-        std::fs::write(format!("{name}.in"), &input).and_then(|()| std::fs::write(format!("{name}.out"), second_member(&input)));
+    let output = Kind::Member.second(&input);
+    let written = std::fs::write(format!("{name}.in"), &input).and_then(|()| std::fs::write(format!("{name}.out"), output));
     written.map_err(|error| format!("{name}: {error}"))
 }
 
@@ -109,85 +129,22 @@ fn fixed_cases(directory: Option<&Path>) -> Result<Vec<PathBuf>, String> {
     Ok(cases)
 }
 
-fn second_member(input: &[u8]) -> Vec<u8> {
-    let mut output = Vec::new();
-    text::run(input, &mut output).expect("writing to memory");
-    output
-}
-
-/// What a program printed, and how it ended.
-struct Run {
-    output: Vec<u8>,
-    status: ExitStatus,
-}
-
-impl Run {
-    fn check_status(&self) -> Result<(), String> {
-        if self.status.success() {
-            return Ok(());
-        }
-        Err(format!("the program printed what it must, but ended with {}", self.status))
-    }
-}
-
-fn run(program: &Path, input: &[u8]) -> Result<Run, String> {
-    let fault = |error: std::io::Error| format!("{}: {error}", program.display());
-    let mut child = Command::new(program).stdin(Stdio::piped()).stdout(Stdio::piped()).spawn().map_err(fault)?;
-    let (mut stdin, mut stdout) = (child.stdin.take().expect("piped"), child.stdout.take().expect("piped"));
-    let mut output = Vec::new();
-    std::thread::scope(|scope| {
-        // A program that stops reading shows in its output.
-        scope.spawn(move || drop(stdin.write_all(input)));
-        stdout.read_to_end(&mut output)
-    })
-    .map_err(fault)?;
-    Ok(Run { output, status: child.wait().map_err(fault)? })
-}
-
-struct Difference {
-    /// The number of the output line, from 0.
-    line: usize,
-    text: String,
-}
-
-fn difference(ours: &[u8], theirs: &[u8]) -> Option<Difference> {
-    if ours == theirs {
-        return None;
-    }
-    let (ours, theirs): (Vec<_>, Vec<_>) =
-        (ours.split(|&octet| octet == b'\n').collect(), theirs.split(|&octet| octet == b'\n').collect());
-    let line = (0..).find(|&line| ours.get(line) != theirs.get(line))?;
-    let shown =
-        |lines: &[&[u8]]| lines.get(line).map_or("nothing".to_string(), |text| format!("\"{}\"", String::from_utf8_lossy(text)));
-    Some(Difference { line, text: format!("answer {}: second member {}, program {}", line + 1, shown(&ours), shown(&theirs)) })
-}
-
-/// Writes the script, and a short form of it: the accepted lines before the one that differs, and that one.
-fn keep(seed: u64, script: &Script, ours: &[u8], at: Difference) -> Result<String, String> {
-    let whole = format!("target/tests/differs-{seed}.in");
-    let short = format!("target/tests/differs-{seed}-short.in");
-    let answers: Vec<&[u8]> = ours.split(|&octet| octet == b'\n').collect();
-    let lines = script.input.split(|&octet| octet == b'\n').enumerate();
-    let needed = lines.filter(|(i, _)| *i == 0 || *i == at.line + 1 || (*i <= at.line && answers[*i - 1].starts_with(b"0 ")));
-    let short_input: Vec<u8> = needed.flat_map(|(_, line)| [line, b"\n"].concat()).collect();
-    std::fs::write(&whole, &script.input).map_err(|error| format!("{whole}: {error}"))?;
-    std::fs::write(&short, short_input).map_err(|error| format!("{short}: {error}"))?;
-    let label = script.labels.get(at.line).map_or("", String::as_str);
-    Ok(format!("seed {seed} differs, {} ({label})\nthe script is in {whole}, the lines that matter in {short}", at.text))
-}
-
-fn print(tally: &Tally, arguments: &Arguments, taken: Duration, in_program: Duration) {
-    let lines: usize = tally.answers.iter().sum();
+fn print(program: &Program, tally: &Tally, arguments: &Arguments, taken: Duration, in_program: Duration) {
+    let lines: usize = tally.answers.iter().chain(tally.calls.values()).sum();
     let answers: Vec<String> =
         (0..11).map(|i| format!("{}: {}", if i < 10 { i.to_string() } else { "bad".into() }, tally.answers[i])).collect();
     println!(
-        "compare: {} scripts, {lines} lines, {:.1} s, of which {:.1} s in {}",
+        "compare: {} scripts, {lines} lines, {:.1} s, of which {:.1} s by {} and the second member",
         arguments.count,
         taken.as_secs_f64(),
         in_program.as_secs_f64(),
-        arguments.program.display()
+        program.path.display()
     );
     println!("compare: answers {}", answers.join(", "));
+    if !tally.calls.is_empty() {
+        let calls: Vec<String> = tally.calls.iter().map(|(call, count)| format!("{call}: {count}")).collect();
+        println!("compare: calls {}", calls.join(", "));
+    }
     println!(
         "compare: {} violations alone, {} pairs of them ({} different ones, {} gave the lower number)",
         violations::all().filter(|violation| tally.alone.contains_key(violation.name)).count(),
@@ -210,12 +167,15 @@ fn print(tally: &Tally, arguments: &Arguments, taken: Duration, in_program: Dura
     }
 }
 
-fn verdict(tally: &Tally, count: u64) -> Result<(), String> {
+fn verdict(tally: &Tally, kind: Kind, count: u64) -> Result<(), String> {
     if let Some(complaint) = tally.complaints.first() {
         return Err(format!("{} claims of the generator failed, first: {complaint}", tally.complaints.len()));
     }
     if let Some(never) = tally.answers.iter().position(|&count| count == 0) {
         return Err(format!("answer {} never occurred", if never < 10 { never.to_string() } else { "bad".into() }));
+    }
+    if let Some(call) = calls::ALL.iter().find(|call| kind == Kind::Trace && !tally.calls.contains_key(*call)) {
+        return Err(format!("never occurred: {call}"));
     }
     let mut missing =
         violations::all().chain(violations::allowed::TABLE).filter(|violation| !tally.alone.contains_key(violation.name));

@@ -3,6 +3,7 @@
 
 use crate::case::Case;
 use crate::damage::{damaged, first_line, hostile_line};
+use crate::programs::Kind;
 use crate::scene::{Scene, Shape};
 use crate::tally::Tally;
 use crate::violations::{allowed, of_place, Violation};
@@ -26,15 +27,17 @@ const LAYOUT_PAIRS: usize = 12;
 const REKEYS: usize = 14;
 
 pub struct Writer<'t> {
-    scene: Scene,
+    pub scene: Scene,
+    /// Whether the script is for `trace`, with other calls between the frames.
+    tracing: bool,
     lines: Vec<Vec<u8>>,
     labels: Vec<String>,
-    tally: &'t mut Tally,
+    pub tally: &'t mut Tally,
     seed: u64,
 }
 
-pub fn script(seed: u64, tally: &mut Tally) -> Script {
-    let mut writer = Writer::new(seed, tally);
+pub fn script(seed: u64, kind: Kind, tally: &mut Tally) -> Script {
+    let mut writer = Writer::new(seed, kind, tally);
     match seed % 16 {
         7 => writer.hostile_first_line(),
         11 => writer.without_rekey_sa(),
@@ -45,7 +48,7 @@ pub fn script(seed: u64, tally: &mut Tally) -> Script {
 
 /// A registration and so many rekeys of all shapes, none refused.
 pub fn typical_run(seed: u64, rekeys: usize, tally: &mut Tally) -> Script {
-    let mut writer = Writer::new(seed, tally);
+    let mut writer = Writer::new(seed, Kind::Member, tally);
     let first = Shape { rekey: true, keys: 12, further: 4, ..writer.scene.any_shape() };
     let registration = writer.scene.registration(first);
     writer.claim(&registration, 0, "plain registration");
@@ -59,13 +62,14 @@ pub fn typical_run(seed: u64, rekeys: usize, tally: &mut Tally) -> Script {
 }
 
 impl<'t> Writer<'t> {
-    fn new(seed: u64, tally: &'t mut Tally) -> Writer<'t> {
+    fn new(seed: u64, kind: Kind, tally: &'t mut Tally) -> Writer<'t> {
         let mut rng = Rng::new(seed);
         let size = [16, 24, 32][(seed % 3) as usize];
         let lent = rng.octets(size);
         let tick = rng.pick(&[0, 1000, 0x7fff_ff00, u32::MAX - 500]);
         let lines = vec![hex(&lent)];
-        Writer { lines, scene: Scene { rng, lent, member: Member::new(), tick }, labels: Vec::new(), tally, seed }
+        let scene = Scene { rng, lent, member: Member::new(), tick };
+        Writer { scene, tracing: kind == Kind::Trace, lines, labels: Vec::new(), tally, seed }
     }
 
     /// Refused registrations, one that is taken, then rekeys of all kinds.
@@ -74,8 +78,13 @@ impl<'t> Writer<'t> {
         let shape = Shape { rekey: true, ..self.scene.any_shape() };
         self.taken(true, shape);
         let mut singles = self.walk(false);
+        let leaves_at = self.tracing.then(|| self.scene.rng.below(2 * REKEYS));
         for turn in 0..REKEYS {
             self.scene.move_clock();
+            if leaves_at == Some(turn) {
+                self.leave();
+                self.taken(true, shape);
+            }
             let waiting = std::mem::take(&mut singles);
             singles = waiting.into_iter().filter(|violation| !self.single(violation, false)).collect();
             self.pairs(false, turn, REKEYS);
@@ -128,6 +137,9 @@ impl<'t> Writer<'t> {
 
     /// Single violations and pairs of them, none of which changes the member.
     fn violations(&mut self, registration: bool) {
+        if self.tracing && registration {
+            self.unfit_lent_key();
+        }
         for violation in self.walk(registration) {
             self.single(violation, registration);
         }
@@ -166,6 +178,9 @@ impl<'t> Writer<'t> {
 
     /// A frame that the member will accept; None if it accepts none any more, which for registrations damage can bring about.
     fn fit_frame(&mut self, registration: bool, shape: Shape) -> Option<Case> {
+        if self.tracing {
+            self.other_calls();
+        }
         match registration {
             true if self.scene.member == Member::new() => Some(self.scene.registration(shape)),
             true => None,
@@ -231,12 +246,15 @@ impl<'t> Writer<'t> {
         }
         if self.lines.len() > 1 && self.scene.rng.chance(15) {
             let line = self.scene.rng.pick(&self.lines[1..]);
-            self.line(line, "once more".to_string());
+            // The run goes on with the member and the lent key that it has.
+            if !line.starts_with(b"l") && !line.starts_with(b"k") {
+                self.line(line, "once more".to_string());
+            }
         }
     }
 
     /// A frame whose answer is known.
-    fn claim(&mut self, case: &Case, number: u8, label: &str) {
+    pub fn claim(&mut self, case: &Case, number: u8, label: &str) {
         let before = self.scene.member.clone();
         let answer = self.frame(&case.frame.octets(), label.to_string());
         if answer != number {
@@ -257,9 +275,12 @@ impl<'t> Writer<'t> {
     }
 
     /// Adds the line, and takes the member through it; None for a bad one.
-    fn line(&mut self, line: Vec<u8>, label: String) -> Option<u8> {
-        let answer = text::tick_and_frame(&line).map(|(tick, frame)| self.scene.member.take(&self.scene.lent, tick, &frame));
-        self.tally.answer(answer);
+    pub fn line(&mut self, line: Vec<u8>, label: String) -> Option<u8> {
+        let frame = text::tick_and_frame(&line);
+        let answer = frame.map(|(tick, frame)| self.scene.member.take(&self.scene.lent, tick, &frame));
+        if answer.is_some() || !self.tracing || !self.other_call(&line) {
+            self.tally.answer(answer);
+        }
         self.lines.push(line);
         self.labels.push(label);
         answer

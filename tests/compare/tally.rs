@@ -7,6 +7,8 @@ use std::collections::{BTreeMap, BTreeSet};
 pub struct Tally {
     /// How often each answer 0 to 9 occurred, and last "bad".
     pub answers: [usize; 11],
+    /// How often each other call of `trace` occurred.
+    pub calls: BTreeMap<&'static str, usize>,
     pub alone: BTreeMap<&'static str, usize>,
     pub paired: BTreeMap<&'static str, usize>,
     pub pairs: BTreeSet<(&'static str, &'static str)>,
@@ -19,6 +21,10 @@ pub struct Tally {
 impl Tally {
     pub fn answer(&mut self, answer: Option<u8>) {
         self.answers[answer.unwrap_or(10) as usize] += 1;
+    }
+
+    pub fn call(&mut self, call: &'static str) {
+        *self.calls.entry(call).or_default() += 1;
     }
 
     pub fn alone(&mut self, name: &'static str) {

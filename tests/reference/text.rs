@@ -6,7 +6,9 @@ use std::io::{BufRead, Result, Write};
 
 const MOST_KEY_DIGITS: usize = 64;
 const TICK_DIGITS: usize = 8;
-const MOST_DIGITS: usize = TICK_DIGITS + 2 * MOST_FRAME;
+pub const MOST_DIGITS: usize = TICK_DIGITS + 2 * MOST_FRAME;
+/// As much of a line as is kept, enough to see that it is too long, also behind the letter of a line of `trace`.
+const KEPT: usize = MOST_DIGITS + 2;
 
 /// The first line is the default key, each later one a tick and a frame.
 pub fn run(mut input: impl BufRead, mut output: impl Write) -> Result<()> {
@@ -47,7 +49,7 @@ pub fn tick_and_frame(line: &[u8]) -> Option<(u32, Vec<u8>)> {
 }
 
 /// Octets from pairs of the digits 0-9 and a-f.
-fn octets(digits: &[u8]) -> Option<Vec<u8>> {
+pub fn octets(digits: &[u8]) -> Option<Vec<u8>> {
     if digits.len() % 2 != 0 {
         return None;
     }
@@ -62,9 +64,8 @@ fn digit(character: u8) -> Option<u8> {
     }
 }
 
-/// Reads up to a newline or the end; false when no line is left. Of a line longer than any good one only the start is kept,
-/// enough to see that it is too long.
-fn read_line(input: &mut impl BufRead, line: &mut Vec<u8>) -> Result<bool> {
+/// Reads up to a newline or the end; false when no line is left. Of a line longer than any good one only the start is kept.
+pub fn read_line(input: &mut impl BufRead, line: &mut Vec<u8>) -> Result<bool> {
     line.clear();
     let mut begun = false;
     loop {
@@ -75,7 +76,7 @@ fn read_line(input: &mut impl BufRead, line: &mut Vec<u8>) -> Result<bool> {
         begun = true;
         let end = block.iter().position(|&octet| octet == b'\n');
         let part = &block[..end.unwrap_or(block.len())];
-        let room = MOST_DIGITS + 1 - line.len();
+        let room = KEPT - line.len();
         line.extend_from_slice(&part[..part.len().min(room)]);
         let used = end.map_or(block.len(), |end| end + 1);
         input.consume(used);

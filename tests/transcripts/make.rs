@@ -1,6 +1,9 @@
-//! `transcripts DIRECTORY` writes the transcripts: NAME.in (what the program reads), NAME.out (what it must print) and NAME.about (a
-//! word on each answer). The answers are written down here by hand, from document 01; no member is asked.
+//! `transcripts DIRECTORY` writes the transcripts: NAME.in (what the program member reads), NAME.out (what it must print) and NAME.about
+//! (a word on each answer). NAME.trace is what the program trace must print for the same input, or for NAME.trace.in, where that has
+//! lines that are no frames. Answers, SAs and keys are written down here by hand, from document 01 and the keys that were wrapped; no
+//! member is asked.
 
+mod calls;
 mod meanings;
 mod parts;
 mod refusals;
@@ -15,18 +18,29 @@ use std::process::ExitCode;
 pub struct Transcript {
     name: &'static str,
     input: Vec<u8>,
-    output: String,
+    /// What the program member prints; None for lines of `trace` that it does not take.
+    output: Option<String>,
     about: String,
+    /// What the program trace prints; it is written if the member was put down somewhere.
+    trace: String,
+    traced: bool,
 }
 
 impl Transcript {
     pub fn new(name: &'static str, first_line: &str) -> Transcript {
-        Transcript { name, input: format!("{first_line}\n").into_bytes(), output: String::new(), about: String::new() }
+        let (input, output) = (format!("{first_line}\n").into_bytes(), Some(String::new()));
+        Transcript { name, input, output, about: String::new(), trace: String::new(), traced: false }
+    }
+
+    /// Lines of `trace`, for which the program member has no answers.
+    pub fn of_calls(name: &'static str, first_line: &str) -> Transcript {
+        Transcript { output: None, traced: true, ..Transcript::new(name, first_line) }
     }
 
     /// An input as it is, and all that is printed.
     pub fn of(name: &'static str, input: &[u8], output: &str, about: &str) -> Transcript {
-        Transcript { name, input: input.to_vec(), output: output.to_string(), about: format!("{about}\n") }
+        let (input, output) = (input.to_vec(), Some(output.to_string()));
+        Transcript { input, output, about: format!("{about}\n"), ..Transcript::new(name, "") }
     }
 
     pub fn frame(&mut self, about: &str, tick: u32, frame: &Frame, answer: &str) {
@@ -37,16 +51,35 @@ impl Transcript {
         self.line(about, &line(tick, octets), answer);
     }
 
+    /// A line with its answer: the number, with the two counts unless the lines are those of `trace`, or another reply.
     pub fn line(&mut self, about: &str, line: &[u8], answer: &str) {
         self.input.extend([line, b"\n"].concat());
-        self.output += &format!("{answer}\n");
         self.about += &format!("{answer}: {about}\n");
+        if let Some(output) = &mut self.output {
+            *output += &format!("{answer}\n");
+        }
+        self.trace += &match answer.split_once(' ') {
+            Some((number, _)) if self.output.is_some() => format!("answer {number}\n"),
+            _ => format!("{answer}\n"),
+        };
+    }
+
+    /// The whole member after the last line, which changed it.
+    pub fn then(&mut self, lines: &[String]) {
+        self.traced = true;
+        self.trace += &lines.iter().map(|line| format!("{line}\n")).collect::<String>();
     }
 
     fn write(&self, directory: &Path) -> std::io::Result<()> {
-        std::fs::write(directory.join(format!("{}.in", self.name)), &self.input)?;
-        std::fs::write(directory.join(format!("{}.out", self.name)), &self.output)?;
-        std::fs::write(directory.join(format!("{}.about", self.name)), &self.about)
+        let write = |ending: &str, text: &[u8]| std::fs::write(directory.join(format!("{}.{ending}", self.name)), text);
+        write(if self.output.is_some() { "in" } else { "trace.in" }, &self.input)?;
+        if let Some(output) = &self.output {
+            write("out", output.as_bytes())?;
+        }
+        if self.traced {
+            write("trace", self.trace.as_bytes())?;
+        }
+        write("about", self.about.as_bytes())
     }
 }
 
@@ -55,7 +88,7 @@ fn main() -> ExitCode {
         eprintln!("transcripts DIRECTORY");
         return ExitCode::from(2);
     };
-    for transcript in [runs::all(), times::all(), meanings::all(), refusals::all()].iter().flatten() {
+    for transcript in [runs::all(), times::all(), meanings::all(), refusals::all(), calls::all()].iter().flatten() {
         if let Err(error) = transcript.write(Path::new(&directory)) {
             eprintln!("{directory}: {error}");
             return ExitCode::FAILURE;

@@ -13,7 +13,7 @@ pub fn all() -> Vec<Transcript> {
 /// SA_KEY and WRAP_KEY are both attribute 1. An ESP key of 20 octets and, under a default key of 24, a wrapping key wrap to 32 octets.
 fn attribute_1() -> Transcript {
     let lent: Vec<u8> = (0x40..0x40 + 24).collect();
-    let mut t = Transcript::new("attribute-1", &lent.iter().map(|octet| format!("{octet:02x}")).collect::<String>());
+    let mut t = Transcript::new("attribute-1", &text(&lent));
     let (esp_key, tree_key) = (wrap(&lent, &esp_keying()), wrap(&lent, &[5; 24]));
     let with = |sa_keys: &[(u32, &[u8])], wrap_keys: &[(u32, &[u8])]| {
         let keys = |keys: &[(u32, &[u8])]| keys.iter().map(|(id, wrapped)| Attribute::key(*id, 0, wrapped)).collect();
@@ -28,6 +28,7 @@ fn attribute_1() -> Transcript {
     t.frame("the ESP key as WRAP_KEY", 0, &with(&[(0, &esp_key)], &[(5, &esp_key)]), "8 0 0");
     t.frame("the tree key as SA_KEY", 0, &with(&[(0, &tree_key)], &[(5, &tree_key)]), "8 0 0");
     t.frame("each in its bag", 0, &with(&[(0, &esp_key)], &[(5, &tree_key)]), "0 2 1");
+    t.then(&[esp_text(1, "live"), rekey_text(0xa0, "live"), held_text(5, &[5; 24]), least(0)]);
     t
 }
 

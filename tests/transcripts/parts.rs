@@ -30,9 +30,14 @@ pub struct Sa {
 
 /// An ESP SA (AES-GCM-16 with 128 bits) whose key is wrapped under `key0`.
 pub fn esp(spi: u32, key0: &[u8]) -> Sa {
+    esp_of(spi, 128, &esp_keying(), key0)
+}
+
+/// An ESP SA of these keying octets.
+pub fn esp_of(spi: u32, bits: u16, keying: &[u8], key0: &[u8]) -> Sa {
     let spi = spi.to_be_bytes();
-    let copy = Attribute::key(0, 0, &wrap(key0, &esp_keying()));
-    Sa { policy: esp_policy(&spi, 128), bag: bag(ESP, &spi, vec![copy]) }
+    let copy = Attribute::key(0, 0, &wrap(key0, keying));
+    Sa { policy: esp_policy(&spi, bits), bag: bag(ESP, &spi, vec![copy]) }
 }
 
 pub fn esp_keying() -> Vec<u8> {
@@ -95,4 +100,36 @@ pub fn first_registration() -> Frame {
 
 pub fn spi(number: u32) -> Vec<u8> {
     number.to_be_bytes().to_vec()
+}
+
+/// The line of `trace` for the ESP SA of that SPI.
+pub fn esp_text(number: u32, condition: &str) -> String {
+    esp_text_of(number, &esp_keying(), condition)
+}
+
+pub fn esp_text_of(number: u32, keying: &[u8], condition: &str) -> String {
+    format!("sa 3 {number:08x} {} 0 0 {condition}", text(keying))
+}
+
+/// The line of `trace` for the Rekey SA of that SPI, with 20 and 16 octets.
+pub fn rekey_text(fill: u8, condition: &str) -> String {
+    rekey_text_of(fill, &rekey_keying(fill, 36), 20, condition)
+}
+
+/// The same for any octets, of which the first so many are for encryption.
+pub fn rekey_text_of(fill: u8, keying: &[u8], first: usize, condition: &str) -> String {
+    format!("sa 6 {} {} {first} {} {condition}", text(&rekey_spi(fill)), text(keying), keying.len() - first)
+}
+
+pub fn held_text(id: u32, value: &[u8]) -> String {
+    format!("held {id} {}", text(value))
+}
+
+pub fn least(id: u32) -> String {
+    format!("least {id}")
+}
+
+/// Octets in hexadecimal.
+pub fn text(octets: &[u8]) -> String {
+    octets.iter().map(|octet| format!("{octet:02x}")).collect()
 }

@@ -71,9 +71,13 @@ fn registration_run() -> Transcript {
     let sas = [rekey_sa(0xa0, &[(0, lent())]), esp(1, &lent()), esp(2, &lent())];
     let frame = registration(&sas, &[entry(9, 9, 0, &lent()), entry(5, 5, 9, &key(9))]);
     t.frame("Rekey SA, two ESP SAs, keys 9 and 5", 0, &frame, "0 3 2");
+    let (one, two, a0) = (esp_text(1, "live"), esp_text(2, "live"), rekey_text(0xa0, "live"));
+    let held = [held_text(5, &key(5)), held_text(9, &key(9))];
+    t.then(&[[one.clone(), two.clone(), a0.clone()].as_slice(), &held, &[least(0)]].concat());
     t.frame("a second registration", 0, &frame, "2 3 2");
     t.frame("a second registration, by GSA_REGISTRATION", 9, &builder::Frame { exchange: GSA_REGISTRATION, ..frame }, "2 3 2");
     t.frame("the first rekey", 0, &rekey(0xa0, 0, announce(&[esp(3, &default_key(0xa0))])), "0 4 2");
+    t.then(&[[one, two, esp_text(3, "live"), a0].as_slice(), &held, &[least(1)]].concat());
     t
 }
 
@@ -97,6 +101,7 @@ fn chains_in_any_order() -> Transcript {
     t.frame("the Rekey SA's key under a key of a cycle", 0, &registration(&sas, &cycle), "9 0 0");
     let backwards = [entry(5, 5, 9, &key(9)), entry(9, 9, 0, &lent())];
     t.frame("5 under 9, then 9 under the default key", 0, &registration(&sas, &backwards), "0 1 2");
+    t.then(&[rekey_text(0xa0, "live"), held_text(5, &key(5)), held_text(9, &key(9)), least(0)]);
     t
 }
 
@@ -108,6 +113,7 @@ fn chains_in_a_cycle() -> Transcript {
     let damaged = Attribute::key(4, 0, &[4; 24]);
     let cycle = [entry(5, 5, 9, &key(9)), entry(9, 9, 5, &key(5)), damaged];
     t.frame("5 under 9, 9 under 5, and an entry that does not open: nothing is reached", 0, &registration(&sas, &cycle), "0 1 0");
+    t.then(&[rekey_text(0xa0, "live"), least(0)]);
     t
 }
 
@@ -115,19 +121,28 @@ fn rekeys() -> Transcript {
     let mut t = Transcript::new("rekeys", LENT);
     let mut sa = rekey_sa(0xa0, &[(0, lent())]);
     sa.policy.attributes = vec![initial_message_id(7)];
-    t.frame("Rekey SA a0, initial Message ID 7", 0, &registration(&[sa], &[]), "0 1 0");
     let (a0, b0) = (default_key(0xa0), default_key(0xb0));
+    let esps = |count: u32, rest: &[String]| [(1..=count).map(|n| esp_text(n, "live")).collect(), rest.to_vec()].concat();
+    let (live, last, new) = (rekey_text(0xa0, "live"), rekey_text(0xa0, "retiring 1000 10"), rekey_text(0xb0, "live"));
+    t.frame("Rekey SA a0, initial Message ID 7", 0, &registration(&[sa], &[]), "0 1 0");
+    t.then(&[live.clone(), least(7)]);
     t.frame("Message ID 6", 0, &rekey(0xa0, 6, announce(&[esp(1, &a0)])), "3 1 0");
     t.frame("Message ID 7: ESP SA 1", 0, &rekey(0xa0, 7, announce(&[esp(1, &a0)])), "0 2 0");
+    t.then(&esps(1, &[live.clone(), least(8)]));
     t.frame("Message ID 9: ESP SA 2", 0, &rekey(0xa0, 9, announce(&[esp(2, &a0)])), "0 3 0");
+    t.then(&esps(2, &[live, least(10)]));
     t.frame("Message ID 9 again", 0, &rekey(0xa0, 9, announce(&[esp(3, &a0)])), "3 3 0");
-    let new = announce_with_delay(&[rekey_sa(0xb0, &[(0, a0.clone())])], 10);
-    t.frame("the last Message ID, with a new Rekey SA b0; a0 retires for 10 s", 1000, &rekey(0xa0, u32::MAX, new), "0 4 0");
+    let b = announce_with_delay(&[rekey_sa(0xb0, &[(0, a0.clone())])], 10);
+    t.frame("the last Message ID, with a new Rekey SA b0; a0 retires for 10 s", 1000, &rekey(0xa0, u32::MAX, b), "0 4 0");
+    t.then(&esps(2, &[last.clone(), new.clone(), least(0)]));
     t.frame("a rekey over the retiring a0", 1000, &rekey(0xa0, 10, announce(&[esp(3, &a0)])), "2 4 0");
     t.frame("over b0, wrapped under a0's default key", 1000, &rekey(0xb0, 0, announce(&[esp(3, &a0)])), "9 4 0");
     t.frame("over b0 from Message ID 0: ESP SA 3, 9,999 ms later", 10_999, &rekey(0xb0, 0, announce(&[esp(3, &b0)])), "0 5 0");
+    t.then(&esps(3, &[last, new.clone(), least(1)]));
     t.frame("10,000 ms later a0 is due and goes, ESP SA 4 comes", 11_000, &rekey(0xb0, 1, announce(&[esp(4, &b0)])), "0 5 0");
+    t.then(&esps(4, &[new.clone(), least(2)]));
     t.frame("the last Message ID, no new Rekey SA", 11_000, &rekey(0xb0, u32::MAX, announce(&[esp(5, &b0)])), "0 6 0");
+    t.then(&esps(5, &[new, "least none".to_string()]));
     for message_id in [0, 2, u32::MAX] {
         t.frame("no Message ID is acceptable any more", 11_000, &rekey(0xb0, message_id, announce(&[esp(6, &b0)])), "3 6 0");
     }
@@ -207,9 +222,12 @@ fn cut(name: &'static str, bits: u16, wrap_id: u16, first: usize) -> Transcript 
     let copy = Attribute::key(0, 0, &wrap(&lent(), &keying));
     let sa = Sa { policy: rekey_policy(&spi, bits, wrap_id), bag: bag(REKEY, &spi, vec![copy]) };
     t.frame("Rekey SA a0 with 44 keying octets", 0, &registration(&[sa], &[]), "0 1 0");
+    let a0 = rekey_text_of(0xa0, &keying, first, "live");
+    t.then(&[a0.clone(), least(0)]);
     let other = if first == 20 { 28 } else { 20 };
     t.frame("an ESP key under the other cut's key wrap part", 0, &rekey(0xa0, 0, announce(&[esp(1, &keying[other..])])), "9 1 0");
     t.frame("under the right one", 0, &rekey(0xa0, 0, announce(&[esp(1, &keying[first..])])), "0 2 0");
+    t.then(&[esp_text(1, "live"), a0, least(1)]);
     t
 }
 
@@ -274,7 +292,7 @@ fn odd_key(name: &'static str, first_line: &str) -> Transcript {
 /// A default key of 24 or 32 octets: the wrapping keys have its size.
 fn other_key(name: &'static str, size: usize) -> Transcript {
     let key: Vec<u8> = (0..size as u8).map(|i| i ^ 0x55).collect();
-    let mut t = Transcript::new(name, &key.iter().map(|octet| format!("{octet:02x}")).collect::<String>());
+    let mut t = Transcript::new(name, &text(&key));
     let tree = |count: usize| {
         vec![Attribute::key(3, 0, &wrap(&key, &vec![3; count])), Attribute::key(2, 3, &wrap(&vec![3; size], &vec![2; size]))]
     };
@@ -285,5 +303,6 @@ fn other_key(name: &'static str, size: usize) -> Transcript {
     };
     t.frame("a wrapping key of 16 octets", 0, &with(tree(16)), "8 0 0");
     t.frame("wrapping keys as long as the default key", 0, &with(tree(size)), "0 1 2");
+    t.then(&[rekey_text(0xa0, "live"), held_text(2, &vec![2; size]), held_text(3, &vec![3; size]), least(0)]);
     t
 }

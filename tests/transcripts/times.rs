@@ -41,19 +41,27 @@ fn full_table() -> Transcript {
 fn retiring_rekey_sas() -> Transcript {
     let mut t = Transcript::new("retiring-rekey-sas", LENT);
     let (a0, b0, c0) = (default_key(0xa0), default_key(0xb0), default_key(0xc0));
+    let live = |fill: u8| rekey_text(fill, "live");
+    let (old_a, old_b) = (rekey_text(0xa0, "retiring 4294966000 3"), rekey_text(0xb0, "retiring 4294967000 1"));
     t.frame("Rekey SA a0", 4_294_965_000, &first_registration(), "0 1 0");
+    t.then(&[live(0xa0), least(0)]);
     let b = announce_with_delay(&[rekey_sa(0xb0, &[(0, a0.clone())])], 3);
     t.frame("b0 comes, a0 retires for 3 s", 4_294_966_000, &rekey(0xa0, 0, b), "0 2 0");
+    t.then(&[old_a.clone(), live(0xb0), least(0)]);
     let c = announce_with_delay(&[rekey_sa(0xc0, &[(0, b0.clone())])], 1);
     t.frame("c0 comes, b0 retires for 1 s", 4_294_967_000, &rekey(0xb0, 0, c), "0 3 0");
+    t.then(&[old_a.clone(), old_b, live(0xc0), least(0)]);
     t.frame("b0 is not live any more", 4_294_967_000, &rekey(0xb0, 1, nothing()), "2 3 0");
     let again = |fill: u8| rekey(0xc0, 1, announce(&[rekey_sa(fill, &[(0, c0.clone())])]));
     t.frame("at 703 b0 is not due", 703, &again(0xb0), "6 3 0");
     t.frame("at 704 it is, and goes", 704, &rekey(0xc0, 0, nothing()), "0 2 0");
+    t.then(&[old_a, live(0xc0), least(1)]);
     t.frame("at 1,703 a0 is not due", 1703, &again(0xa0), "6 2 0");
     t.frame("at 1,704 it is, and another a0 comes; c0 retires without delay", 1704, &again(0xa0), "0 2 0");
+    t.then(&[live(0xa0), rekey_text(0xc0, "retiring 1704 0"), least(0)]);
     t.frame("a rekey over c0", 1704, &rekey(0xc0, 2, nothing()), "2 2 0");
     t.frame("over a0; c0 goes", 1704, &rekey(0xa0, 0, announce(&[esp(1, &a0)])), "0 2 0");
+    t.then(&[esp_text(1, "live"), live(0xa0), least(1)]);
     t
 }
 

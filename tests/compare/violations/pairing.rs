@@ -36,6 +36,14 @@ pub const TABLE: &[Violation] = &[
         c.bags()?.push(bag);
         Some(())
     }),
+    any(6, "one SPI in two policies and two bags, and no other SA", |c| {
+        let (policy, bag) = (c.sa_policy(ESP)?.clone(), c.sa_bag(ESP)?.clone());
+        c.policies()?.retain(|policy| policy.protocol == 0);
+        c.policies()?.extend([policy.clone(), policy]);
+        c.bags()?.retain(|bag| bag.protocol == 0);
+        c.bags()?.extend([bag.clone(), bag]);
+        Some(())
+    }),
     any(6, "one SPI in two policies", |c| {
         let policy = c.policy(ESP)?.clone();
         c.policies()?.push(policy);

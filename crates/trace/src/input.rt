@@ -1,0 +1,177 @@
+// Lines from standard input, each answered as soon as it was read.
+use crate::reply;
+use crate::text;
+use crate::whole;
+use group::Member;
+use libc::STDIN_FILENO;
+use libc::STDOUT_FILENO;
+
+// The member; whether the first line gave the lent key yet, and how many octets it has; how many characters of the line that has begun are
+// held; how many the member's text has that was printed last; whether the input goes on and the output takes what is written.
+pub struct Running {
+    pub member: Member,
+    pub keyed: bool,
+    pub lent: usize,
+    pub len: usize,
+    pub last: usize,
+    pub open: bool,
+}
+
+// A whole first line: the lent key, which goes to the start of its room.
+fn first_line(r: Running, line: &[u8], key: &mut [u8]) -> Running {
+    let k = lines::key_line(line);
+    let octets = k.octets;
+    let lent = text::put(key, 0, text::part(&octets, 0, k.len));
+    let mut x = r;
+    x.keyed = true;
+    x.lent = lent;
+    x.len = 0;
+    x
+}
+
+// A whole later line.
+fn later_line(
+    r: Running,
+    line: &[u8],
+    key: &mut [u8],
+    room: &mut [u8],
+    out: &mut [u8],
+    last: &mut [u8],
+) -> Running {
+    let m = r.member;
+    let c = reply::call(m, line, key, r.lent, room, out);
+    let y = c.reply;
+    let member = y.member;
+    let t = reply::completed(member, y.at, out, last, r.last);
+    let open = io::write_all(STDOUT_FILENO, text::part(out, 0, t.at));
+    Running {
+        member,
+        keyed: true,
+        lent: c.lent,
+        len: 0,
+        last: t.last,
+        open,
+    }
+}
+
+// A whole line. After a write that failed nothing more is answered.
+fn answered(
+    r: Running,
+    line: &[u8],
+    key: &mut [u8],
+    room: &mut [u8],
+    out: &mut [u8],
+    last: &mut [u8],
+) -> Running {
+    if r.keyed {
+        if r.open {
+            return later_line(r, line, key, room, out, last);
+        }
+        return r;
+    }
+    first_line(r, line, key)
+}
+
+// What was absorbed of a block: a whole line, or `len` characters of one that has begun.
+fn absorbed(
+    r: Running,
+    ended: bool,
+    len: usize,
+    line: &[u8],
+    key: &mut [u8],
+    room: &mut [u8],
+    out: &mut [u8],
+    last: &mut [u8],
+) -> Running {
+    if ended {
+        return answered(r, text::part(line, 0, len), key, room, out, last);
+    }
+    let mut x = r;
+    x.len = len;
+    x
+}
+
+fn through(
+    r: Running,
+    block: &[u8],
+    line: &mut [u8],
+    key: &mut [u8],
+    room: &mut [u8],
+    out: &mut [u8],
+    last: &mut [u8],
+) -> Running {
+    let mut x = r;
+    let mut at = 0;
+    while at < block.len() {
+        let a = lines::absorb(block, at, line, x.len);
+        x = absorbed(x, a.ended, a.len, line, key, room, out, last);
+        at = a.next;
+    }
+    x
+}
+
+// The end of the input: a line that has begun is answered.
+fn ended(
+    r: Running,
+    line: &[u8],
+    key: &mut [u8],
+    room: &mut [u8],
+    out: &mut [u8],
+    last: &mut [u8],
+) -> Running {
+    let len = r.len;
+    let mut x = absorbed(r, 0 < len, len, line, key, room, out, last);
+    x.open = false;
+    x
+}
+
+// One read, and the lines that it ends.
+fn advanced(
+    r: Running,
+    line: &mut [u8],
+    key: &mut [u8],
+    room: &mut [u8],
+    out: &mut [u8],
+    last: &mut [u8],
+) -> Running {
+    let mut block = io::buffer();
+    let got = libc::read(STDIN_FILENO, &mut block);
+    let n = io::count(got, &block);
+    if n == 0 {
+        return ended(r, line, key, room, out, last);
+    }
+    through(r, text::part(&block, 0, n), line, key, room, out, last)
+}
+
+// A proved loop has to end, and nothing says that the input does: it counts its turns down from a number that no run uses up.
+fn run(line: &mut [u8], key: &mut [u8], room: &mut [u8], out: &mut [u8], last: &mut [u8]) {
+    let member = Member::new();
+    let new = whole::member(last, 0, member);
+    let mut x = Running {
+        member,
+        keyed: false,
+        lent: 0,
+        len: 0,
+        last: new,
+        open: true,
+    };
+    let mut turns = u64::MAX;
+    while turns > 0 {
+        x = advanced(x, line, key, room, out, last);
+        if x.open {
+            turns -= 1;
+        } else {
+            turns = 0;
+        }
+    }
+}
+
+// Room for a line, and for one character more, which tells that a line is too long; for the octets that a line has at most; for a reply.
+pub(crate) fn trace() {
+    let mut line = [0u8; reply::LINE + 1];
+    let mut key = [0u8; reply::LINE / 2];
+    let mut room = [0u8; reply::LINE / 2];
+    let mut out = [0u8; reply::FIRST + whole::MOST];
+    let mut last = [0u8; whole::MOST];
+    run(&mut line, &mut key, &mut room, &mut out, &mut last);
+}

@@ -1,0 +1,38 @@
+// A line `q`, protocol and SPI: the question about an SA.
+use crate::reply::Reply;
+use crate::reply::bad;
+use crate::text;
+use crate::whole;
+use group::Member;
+use group::SaAnswer;
+
+fn told(a: SaAnswer, out: &mut [u8]) -> usize {
+    if a.found {
+        let octets = a.octets;
+        let c = a.condition;
+        let b = text::put(out, 0, b"found");
+        let d = text::octets(out, b, text::part(&octets, 0, a.count));
+        let e = whole::condition(out, d, c);
+        return text::newline(out, e);
+    }
+    text::put(out, 0, b"none\n")
+}
+
+// A question by a protocol and the octets of an SPI behind it.
+fn asked(m: Member, name: &[u8], out: &mut [u8]) -> Reply {
+    if name.len() == 0 {
+        return bad(m, out);
+    }
+    let a = m.sa(name[0], &name[1..]);
+    let at = told(a, out);
+    Reply { member: m, at }
+}
+
+// `digits` is the line without its letter.
+pub(crate) fn reply(m: Member, digits: &[u8], room: &mut [u8], out: &mut [u8]) -> Reply {
+    if lines::is_hex(digits) {
+        let n = lines::put_octets(room, 0, digits);
+        return asked(m, text::part(room, 0, n), out);
+    }
+    bad(m, out)
+}

@@ -1,0 +1,103 @@
+// The reply to a whole line: what its call prints first, and then the member, if its text differs from the one printed last.
+use crate::frame;
+use crate::key;
+use crate::leave;
+use crate::question;
+use crate::sweep;
+use crate::text;
+use crate::whole;
+use group::Member;
+
+// The most octets of a frame, and the most characters of a line that is taken: a letter, a tick, a frame.
+pub(crate) const FRAME: usize = 16384;
+
+pub(crate) const LINE: usize = 1 + 8 + 2 * FRAME;
+
+// The most characters that a call prints first.
+pub(crate) const FIRST: usize = 256;
+
+// The member after a call, and the place behind what the call prints first.
+pub struct Reply {
+    pub member: Member,
+    pub at: usize,
+}
+
+// The reply, and how many octets the lent key has.
+pub struct Called {
+    pub reply: Reply,
+    pub lent: usize,
+}
+
+pub(crate) fn done(m: Member, out: &mut [u8]) -> Reply {
+    let at = text::put(out, 0, b"done\n");
+    Reply { member: m, at }
+}
+
+pub(crate) fn bad(m: Member, out: &mut [u8]) -> Reply {
+    let at = lines::put_bad(out, 0);
+    Reply { member: m, at }
+}
+
+// The first character of a line, or 0.
+fn letter(line: &[u8]) -> u8 {
+    if line.len() == 0 {
+        return 0;
+    }
+    line[0]
+}
+
+// A call that leaves the lent key as it is.
+fn with_key(m: Member, line: &[u8], key: &[u8], room: &mut [u8], out: &mut [u8]) -> Reply {
+    let rest = text::part(line, 1, line.len());
+    match letter(line) {
+        b's' => sweep::reply(m, rest, room, out),
+        b'l' => leave::reply(m, rest, out),
+        b'q' => question::reply(m, rest, room, out),
+        _ => frame::reply(m, line, key, room, out),
+    }
+}
+
+// The call that a line asks for. The lent key is `count` octets of its room.
+pub(crate) fn call(
+    m: Member,
+    line: &[u8],
+    key: &mut [u8],
+    count: usize,
+    room: &mut [u8],
+    out: &mut [u8],
+) -> Called {
+    if LINE < line.len() {
+        let reply = bad(m, out);
+        return Called { reply, lent: count };
+    }
+    if letter(line) == b'k' {
+        return key::reply(m, text::part(line, 1, line.len()), key, count, out);
+    }
+    let reply = with_key(m, line, text::part(key, 0, count), room, out);
+    Called { reply, lent: count }
+}
+
+// The place behind the reply, and how many characters the member's text has that was printed last.
+pub struct Told {
+    pub at: usize,
+    pub last: usize,
+}
+
+// Puts the member behind what its call prints first, if its text differs from the first `count` characters of `last`, and keeps it there.
+pub(crate) fn completed(
+    m: Member,
+    at: usize,
+    out: &mut [u8],
+    last: &mut [u8],
+    count: usize,
+) -> Told {
+    let end = whole::member(out, at, m);
+    if octets::compare::same(text::part(out, at, end), text::part(last, 0, count)) {
+        return Told { at, last: count };
+    }
+    let kept = text::put(last, 0, text::part(out, at, end));
+    Told {
+        at: end,
+        last: kept,
+    }
+}

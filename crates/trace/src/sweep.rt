@@ -1,0 +1,19 @@
+// A line `s` and tick: a sweep.
+use crate::reply::Reply;
+use crate::reply::bad;
+use crate::reply::done;
+use group::Member;
+use lines::Request;
+
+// `digits` is the line without its letter.
+pub(crate) fn reply(m: Member, digits: &[u8], room: &mut [u8], out: &mut [u8]) -> Reply {
+    match lines::later_line(digits, room) {
+        Request::Bad => bad(m, out),
+        Request::Frame { tick, len } => {
+            if len == 0 {
+                return done(m.sweep(tick), out);
+            }
+            bad(m, out)
+        }
+    }
+}

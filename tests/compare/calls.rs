@@ -1,0 +1,139 @@
+//! Lines of `trace` between the frames: sweeps, leaving, questions, other lent keys, and lines that are nearly one of these.
+
+use crate::script::Writer;
+use builder::line::hex;
+use builder::{ESP, REKEY};
+use reference::member::{Condition, Sa};
+use reference::trace;
+
+/// What must occur.
+pub const ALL: [&str; 8] = [
+    "sweep that removes",
+    "sweep that removes nothing",
+    "leaving",
+    "lent key",
+    "question: none",
+    "question: an SA that is due",
+    "question: a live SA",
+    "question: a retiring SA",
+];
+
+const PERCENT: usize = 25;
+
+impl Writer<'_> {
+    /// Sometimes some other calls. A member that is to be registered keeps a lent key that fits.
+    pub fn other_calls(&mut self) {
+        while self.scene.rng.chance(PERCENT) {
+            match self.scene.rng.below(8) {
+                0 | 1 => self.sweep(),
+                2 if self.scene.member.table.is_empty() => self.fit_lent_key(),
+                2 => self.any_lent_key(),
+                3 => self.nearly_a_call(),
+                _ => self.question(),
+            }
+        }
+    }
+
+    /// Leaves, and takes a lent key that fits.
+    pub fn leave(&mut self) {
+        self.line(b"l".to_vec(), "leaving".to_string());
+        self.question();
+        self.fit_lent_key();
+    }
+
+    /// A registration with a lent key of another size than 16, 24 and 32, and then one that fits.
+    pub fn unfit_lent_key(&mut self) {
+        let before = self.scene.lent.clone();
+        let size = self.scene.rng.pick(&[0, 1, 15, 17, 20, 23, 25, 28, 31, 33, 48, 64, 100]);
+        self.lent_key(size);
+        let shape = self.scene.full_shape();
+        let case = self.scene.registration(shape);
+        self.claim(&case, 5, "registration with an unfit lent key");
+        self.line([b"k", hex(&before).as_slice()].concat(), "the lent key of before".to_string());
+    }
+
+    fn lent_key(&mut self, size: usize) {
+        let octets = self.scene.rng.octets(size);
+        self.line([b"k", hex(&octets).as_slice()].concat(), "another lent key".to_string());
+    }
+
+    fn fit_lent_key(&mut self) {
+        let size = self.scene.rng.pick(&[16, 24, 32]);
+        self.lent_key(size);
+    }
+
+    fn any_lent_key(&mut self) {
+        let size = self.scene.rng.pick(&[0, 16, 16, 20, 24, 32, 33, 64]);
+        self.lent_key(size);
+    }
+
+    /// Now, at the border of being due, or at any time.
+    fn sweep(&mut self) {
+        let dues: Vec<u32> = self.scene.member.table.iter().filter_map(due).collect();
+        let tick = match self.scene.rng.below(8) {
+            0..=2 => self.scene.tick,
+            7 => self.scene.rng.number() as u32,
+            _ if dues.is_empty() => self.scene.tick,
+            _ => self.scene.rng.pick(&dues).wrapping_add(self.scene.rng.below(3) as u32).wrapping_sub(1),
+        };
+        self.line([b"s", hex(&tick.to_be_bytes()).as_slice()].concat(), "sweep".to_string());
+    }
+
+    /// About an SA of the table, or by a protocol or an SPI that is not quite its own.
+    fn question(&mut self) {
+        let any = (self.scene.rng.pick(&[0, 2, ESP, REKEY, 255]), self.scene.rng.octets(4));
+        let names: Vec<(u8, Vec<u8>)> = self.scene.member.table.iter().map(|sa| (sa.protocol, sa.spi.clone())).collect();
+        let (mut protocol, mut spi) = if names.is_empty() { any } else { self.scene.rng.pick(&names) };
+        let at = self.scene.rng.below(spi.len());
+        match self.scene.rng.below(10) {
+            0 => protocol = self.scene.rng.pick(&[0, 1, 2, ESP, REKEY, 7, 131]),
+            1 => spi[at] ^= 1 << self.scene.rng.below(8),
+            2 => spi.truncate(at),
+            3 => spi.resize(self.scene.rng.pick(&[4, 5, 8, 16, 17, 300]), 0),
+            _ => {}
+        }
+        self.line([b"q", hex(&[protocol]).as_slice(), &hex(&spi)].concat(), "question".to_string());
+    }
+
+    fn nearly_a_call(&mut self) {
+        let letter = self.scene.rng.pick(b"kslqkslqjpxyzKSLQ ");
+        let count = self.scene.rng.pick(&[0, 1, 2, 7, 8, 9, 10, 31, 33, 63, 65, 32_776, 32_777, 32_778, 40_000]);
+        let mut line = vec![letter];
+        line.resize(1 + count, b'0');
+        if self.scene.rng.chance(30) {
+            let at = self.scene.rng.below(line.len());
+            line[at] = self.scene.rng.pick(b"AFgx \r\0\xff");
+        }
+        // The run goes on with the member and the lent key that it has.
+        if line == b"l" || trace::call(&mut self.scene.member.clone(), &mut Vec::new(), &line).is_some() && letter == b'k' {
+            return;
+        }
+        self.line(line, "nearly a call".to_string());
+    }
+
+    /// Takes the member and the lent key through a line that is no frame; whether it is a call.
+    pub fn other_call(&mut self, line: &[u8]) -> bool {
+        let (before, tick) = (self.scene.member.clone(), self.scene.tick);
+        let Some(reply) = trace::call(&mut self.scene.member, &mut self.scene.lent, line) else { return false };
+        let swept = before.table.len() - self.scene.member.table.len();
+        let asked = || before.table.iter().find(|sa| line[3..] == hex(&sa.spi)).is_some_and(|sa| sa.is_due(tick));
+        self.tally.call(match (line[0], reply.as_str()) {
+            (b's', _) if swept > 0 => ALL[0],
+            (b's', _) => ALL[1],
+            (b'l', _) => ALL[2],
+            (b'k', _) => ALL[3],
+            (_, "none") => ALL[4],
+            _ if asked() => ALL[5],
+            (_, found) if found.ends_with("live") => ALL[6],
+            _ => ALL[7],
+        });
+        true
+    }
+}
+
+fn due(sa: &Sa) -> Option<u32> {
+    match sa.condition {
+        Condition::Retiring { start, delay } => Some(start.wrapping_add(1000 * delay as u32)),
+        Condition::Live => None,
+    }
+}
