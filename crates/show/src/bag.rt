@@ -1,78 +1,48 @@
 // Key bags: of a wrapped key its Key ID, its KWK ID and how many octets are wrapped, and no octet of it.
-use crate::part::end_at;
-use crate::part::four;
-use crate::part::octet;
-use crate::part::part;
-use crate::text::between;
-use crate::text::labelled;
-use crate::text::print;
-use attributes::Read;
+use crate::line::MIDDLE;
+use faults::places::behind;
+use faults::places::end_at;
+use faults::places::holds;
+use faults::places::octet;
+use faults::places::part;
+use faults::places::span;
 
-// The key bags that a KD payload's body is.
-pub(crate) fn bags(s: &[u8]) {
-    let mut at = 0;
-    while at < s.len() {
-        let end = end_at(s, at, s.len(), 4);
-        bag(part(s, at, end));
+// The key bags of a KD payload's body, up to the offset at which the layout breaks.
+pub(crate) fn bags(
+    out: &mut [u8],
+    n: usize,
+    s: &[u8],
+    from: usize,
+    to: usize,
+    stop: usize,
+) -> usize {
+    let mut m = n;
+    let mut at = from;
+    while at < to {
+        let end = end_at(s, at, to, 4);
+        m = bag(out, m, s, at, end, stop);
+        if holds(at, stop, end) {
+            return m;
+        }
         at = end;
     }
+    m
 }
 
-fn bag(s: &[u8]) {
-    let first = octet(s, 0);
-    let body = 4 + policies::spi_size(first);
+fn bag(out: &mut [u8], n: usize, s: &[u8], at: usize, end: usize, stop: usize) -> usize {
+    if at == stop {
+        return faults::of_head(out, n, b"key bag: ", part(s, at, end), stop);
+    }
+    let first = octet(s, at);
+    let body = behind(at, 4 + policies::spi_size(first));
+    let a = crate::line::head(out, n, MIDDLE, at, span(at, end));
+    let b = bag_head(out, a, first, part(s, behind(at, 4), body));
+    crate::attribute::attributes(out, b, bags::place_of(first), s, body, end, stop)
+}
+
+fn bag_head(out: &mut [u8], n: usize, first: usize, spi: &[u8]) -> usize {
     if first == 0 {
-        print(b"    Member Key Bag\n");
-    } else {
-        crate::names::protocol_and_spi(b"    Group Key Bag ", first, part(s, 4, body));
+        return names::text(out, n, b"Member Key Bag\n");
     }
-    keys(first == 0, part(s, body, s.len()));
-}
-
-// The attributes of a bag.
-fn keys(member: bool, s: &[u8]) {
-    let mut at = 0;
-    while at < s.len() {
-        match attributes::attribute_read(part(s, at, s.len())) {
-            Read::Attribute {
-                short: _,
-                kind,
-                start: _,
-                end,
-            } => {
-                key(member, kind, attributes::attribute_value(s, at));
-                if end == 0 {
-                    return;
-                }
-                if s.len() - at < end {
-                    return;
-                }
-                at = at + end;
-            }
-            Read::Cut => {
-                return;
-            }
-        }
-    }
-}
-
-// Attribute 1 is a wrapped key in both kinds of bag.
-fn key(member: bool, kind: usize, value: &[u8]) {
-    print(b"      ");
-    crate::names::bag_attribute(member, kind);
-    if kind == 1 {
-        wrapped(value);
-    } else {
-        between(b": ", value.len(), b" octets\n");
-    }
-}
-
-fn wrapped(value: &[u8]) {
-    labelled(b": Key ID ", four(value, 0));
-    labelled(b", KWK ID ", four(value, 4));
-    between(
-        b", ",
-        part(value, 8, value.len()).len(),
-        b" octets wrapped\n",
-    );
+    crate::line::protocol_and_spi(out, n, b"Group Key Bag ", first, spi)
 }

@@ -1,34 +1,47 @@
 // A Delete payload's body.
-use crate::part::octet;
-use crate::part::part;
-use crate::part::two;
-use crate::text::print;
+use crate::line::MIDDLE;
+use faults::places::behind;
+use faults::places::octet;
+use faults::places::part;
+use faults::places::two;
 
-pub(crate) fn delete(s: &[u8]) {
-    print(b"    ");
-    crate::names::protocol(octet(s, 0));
-    crate::text::between(b", ", two(s, 2), b" SPIs");
-    spis(octet(s, 1), s);
-    print(b"\n");
+pub(crate) fn delete(out: &mut [u8], n: usize, s: &[u8], from: usize, to: usize) -> usize {
+    let protocol = octet(s, from);
+    let size = octet(s, behind(from, 1));
+    let a = crate::line::head(out, n, MIDDLE, from, 4);
+    let b = delete_head(out, a, protocol, size, two(s, behind(from, 2)));
+    if policies::spi_size(protocol) == 0 {
+        return b;
+    }
+    spis(out, b, size, part(s, 0, to), behind(from, 4))
 }
 
-// SPIs of a size, behind the first four octets.
-fn spis(size: usize, s: &[u8]) {
-    let mut at = 4;
+fn delete_head(out: &mut [u8], n: usize, protocol: usize, size: usize, count: usize) -> usize {
+    let a = names::titled(out, n, b"", names::tables::protocol(protocol), protocol);
+    names::say(out, a, b", SPI size %, count %\n", size, count, 0)
+}
+
+// SPIs of a size, from a place to the end of the octets.
+fn spis(out: &mut [u8], n: usize, size: usize, s: &[u8], from: usize) -> usize {
+    let mut m = n;
+    let mut at = from;
     while at < s.len() {
         if size == 0 {
-            return;
+            return m;
         }
         if s.len() - at < size {
-            return;
+            return m;
         }
         let end = at + size;
-        spi(part(s, at, end));
+        m = spi(out, m, at, part(s, at, end));
         at = end;
     }
+    m
 }
 
-fn spi(octets: &[u8]) {
-    print(b" ");
-    crate::text::hexadecimal(octets);
+fn spi(out: &mut [u8], n: usize, at: usize, octets: &[u8]) -> usize {
+    let a = crate::line::head(out, n, MIDDLE, at, octets.len());
+    let b = names::text(out, a, b"SPI ");
+    let c = names::octets(out, b, octets);
+    crate::line::ended(out, c)
 }

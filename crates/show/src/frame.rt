@@ -1,65 +1,129 @@
-// A frame: its header, its payloads, or where its layout breaks.
-use crate::part::end_at;
-use crate::part::four;
-use crate::part::octet;
-use crate::part::part;
-use crate::text::between;
-use crate::text::line;
-use crate::text::print;
+// A frame: its header and its payloads, up to where its layout breaks.
+use crate::header::SIZE;
+use crate::line::OUTER;
 use attributes::Layout;
+use faults::places::behind;
+use faults::places::end_at;
+use faults::places::holds;
+use faults::places::octet;
+use faults::places::part;
+use faults::places::span;
+use frames::HeaderRead;
 
-pub(crate) fn frame(s: &[u8]) {
-    between(b"frame of ", s.len(), b" octets\n");
-    match frames::frame_layout(s) {
-        Layout::Whole => {
-            header(s);
-            payloads(s);
+pub(crate) fn frame(out: &mut [u8], n: usize, s: &[u8]) -> usize {
+    match frames::header_read(s) {
+        HeaderRead::Header {
+            first,
+            exchange: _,
+            message_id: _,
+        } => {
+            let a = crate::header::header(out, n, s);
+            opened(out, a, s, first)
         }
-        Layout::Broken(o) => {
-            line(b"  1: the layout breaks at offset ", o);
-            crate::broken::broken(s, o);
-        }
+        HeaderRead::Broken => faults::of_header(out, n, s),
     }
 }
 
-fn header(s: &[u8]) {
-    let kind = octet(s, 18);
-    print(b"  header: ");
-    crate::names::exchange(kind);
-    between(b" (", kind, b"), SPI ");
-    crate::text::hexadecimal(part(s, 0, 16));
-    line(b", Message ID ", four(s, 20));
+// A frame with a header of its own.
+fn opened(out: &mut [u8], n: usize, s: &[u8], first: usize) -> usize {
+    if is_encrypted(first) {
+        if SIZE < s.len() {
+            return encrypted(out, n, first, s.len() - SIZE);
+        }
+    }
+    match frames::frame_layout(s) {
+        Layout::Whole => whole(out, n, s),
+        Layout::Broken(o) => broken(out, n, s, o),
+    }
 }
 
-fn payloads(s: &[u8]) {
+// The Encrypted and Authenticated payload (RFC 7296) and the Encrypted and Authenticated Fragment payload (RFC 7383).
+fn is_encrypted(kind: usize) -> bool {
+    match kind {
+        46 => true,
+        53 => true,
+        _ => false,
+    }
+}
+
+fn encrypted(out: &mut [u8], n: usize, kind: usize, len: usize) -> usize {
+    let a = crate::line::head(out, n, OUTER, SIZE, len);
+    let b = names::titled(out, a, b"payload ", names::tables::payload(kind), kind);
+    names::text(out, b, b", encrypted: not opened\n")
+}
+
+// What is shown of a frame whose layout is whole, below its header.
+fn whole(out: &mut [u8], n: usize, s: &[u8]) -> usize {
+    payloads(out, n, s, 0)
+}
+
+// The payloads up to the offset at which the layout breaks. Payloads that do not end with the frame count for the header, at 0.
+fn broken(out: &mut [u8], n: usize, s: &[u8], stop: usize) -> usize {
+    let a = payloads(out, n, s, stop);
+    if stop == 0 {
+        return faults::of_chain(out, a, s);
+    }
+    a
+}
+
+fn payloads(out: &mut [u8], n: usize, s: &[u8], stop: usize) -> usize {
+    let mut m = n;
     let mut kind = octet(s, 16);
-    let mut at = 28;
+    let mut at = SIZE;
     while at < s.len() {
+        if kind == 0 {
+            return m;
+        }
         let end = end_at(s, at, s.len(), 4);
-        payload(kind, part(s, at, end));
+        m = payload(out, m, kind, s, at, end, stop);
+        if holds(at, stop, end) {
+            return m;
+        }
         kind = octet(s, at);
         at = end;
     }
+    m
 }
 
-// A payload by its type.
-fn payload(kind: usize, s: &[u8]) {
-    print(b"  ");
-    crate::names::payload(kind);
-    between(b" payload (", kind, b")");
-    if 128 <= octet(s, 1) {
-        print(b", critical");
+fn payload(
+    out: &mut [u8],
+    n: usize,
+    kind: usize,
+    s: &[u8],
+    at: usize,
+    end: usize,
+    stop: usize,
+) -> usize {
+    if at == stop {
+        return faults::of_payload(out, n, kind, part(s, at, end), stop);
     }
-    body(kind, part(s, 4, s.len()));
+    let a = crate::line::head(out, n, OUTER, at, span(at, end));
+    let b = payload_head(out, a, kind, 128 <= octet(s, behind(at, 1)));
+    body(out, b, kind, s, behind(at, 4), end, stop)
+}
+
+fn payload_head(out: &mut [u8], n: usize, kind: usize, critical: bool) -> usize {
+    let a = names::titled(out, n, b"payload ", names::tables::payload(kind), kind);
+    if critical {
+        return names::text(out, a, b", critical\n");
+    }
+    crate::line::ended(out, a)
 }
 
 // What the body of a payload holds.
-fn body(kind: usize, s: &[u8]) {
-    between(b", body of ", s.len(), b" octets\n");
+fn body(
+    out: &mut [u8],
+    n: usize,
+    kind: usize,
+    s: &[u8],
+    from: usize,
+    to: usize,
+    stop: usize,
+) -> usize {
     match kind {
-        42 => crate::delete::delete(s),
-        51 => crate::policy::policies(s),
-        52 => crate::bag::bags(s),
-        _ => {}
+        42 => crate::delete::delete(out, n, s, from, to),
+        51 => crate::policy::policies(out, n, s, from, to, stop),
+        52 => crate::bag::bags(out, n, s, from, to, stop),
+        _ => n,
     }
 }

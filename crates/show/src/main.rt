@@ -1,13 +1,17 @@
-// Reads frames in hexadecimal, one a line, and prints each as an indented tree, or where its layout breaks. No octet of a key is printed.
+// Reads the lines of the member program, or bare frames, and prints each frame as a tree, or its tree up to where its layout breaks and
+// why it does. No octet of a key is printed, and none that no paper names.
+mod address;
+mod attribute;
 mod bag;
-mod broken;
 mod delete;
 mod frame;
+mod header;
 mod input;
-mod names;
-mod part;
+mod kinds;
+mod line;
+mod partial;
 mod policy;
-mod text;
+mod reading;
 
 fn main() {
     input::show_all();

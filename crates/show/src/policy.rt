@@ -1,55 +1,113 @@
-// A policy, by the view.
-use crate::part::end_at;
-use crate::part::four;
-use crate::part::part;
-use crate::part::two;
-use crate::text::labelled;
-use crate::text::line;
-use crate::text::number;
-use crate::text::print;
-use attributes::tables::Meaning;
+// Policies. A whole one is shown by the view.
+use crate::line::INNER;
+use crate::line::MIDDLE;
+use attributes::tables::Place;
+use faults::places::behind;
+use faults::places::end_at;
+use faults::places::holds;
+use faults::places::part;
+use faults::places::span;
+use faults::places::two;
 use view::items::Item;
 use view::read::Kind;
 
-// The policies that a GSA payload's body is.
-pub(crate) fn policies(s: &[u8]) {
-    let mut at = 0;
-    while at < s.len() {
-        let end = end_at(s, at, s.len(), 4);
-        policy(part(s, at, end));
+// The policies of a GSA payload's body, up to the offset at which the layout breaks.
+pub(crate) fn policies(
+    out: &mut [u8],
+    n: usize,
+    s: &[u8],
+    from: usize,
+    to: usize,
+    stop: usize,
+) -> usize {
+    let mut m = n;
+    let mut at = from;
+    while at < to {
+        let end = end_at(s, at, to, 4);
+        m = policy(out, m, s, at, end, stop);
+        if holds(at, stop, end) {
+            return m;
+        }
         at = end;
+    }
+    m
+}
+
+fn policy(out: &mut [u8], n: usize, s: &[u8], at: usize, end: usize, stop: usize) -> usize {
+    if holds(at, stop, end) {
+        return crate::partial::policy(out, n, s, at, end, stop);
+    }
+    let a = crate::line::head(out, n, MIDDLE, at, span(at, end));
+    whole(out, a, s, at, end)
+}
+
+// The policy between two offsets.
+fn whole(out: &mut [u8], n: usize, s: &[u8], from: usize, to: usize) -> usize {
+    let p = part(s, from, to);
+    match view::shown_kind(p) {
+        Kind::GroupSa(protocol) => {
+            let a = policy_head(out, n, protocol, view::shown_spi(p));
+            let place = attributes::tables::in_policy(protocol);
+            items(out, a, place, s, from, to, 4 + policies::spi_size(protocol))
+        }
+        Kind::GroupWide => {
+            let a = names::text(out, n, b"group-wide policy\n");
+            items(out, a, Place::GroupWidePolicy, s, from, to, 4)
+        }
+        Kind::Nothing => names::text(out, n, b"nothing to show\n"),
     }
 }
 
-fn policy(s: &[u8]) {
-    match view::shown_kind(s) {
-        Kind::GroupSa(p) => {
-            crate::names::protocol_and_spi(b"    policy ", p, view::shown_spi(s));
-            items(s, false);
-        }
-        Kind::GroupWide => {
-            print(b"    group-wide policy\n");
-            items(s, true);
-        }
-        Kind::Nothing => print(b"    nothing to show\n"),
-    }
+pub(crate) fn policy_head(out: &mut [u8], n: usize, protocol: usize, spi: &[u8]) -> usize {
+    crate::line::protocol_and_spi(out, n, b"policy ", protocol, spi)
+}
+
+// Where the text goes on, and where the next item of the policy stands.
+struct Step {
+    n: usize,
+    next: usize,
+    more: bool,
 }
 
 // What the view shows after the head, one after the other.
-fn items(s: &[u8], wide: bool) {
-    let mut n = 0;
-    while n < s.len() {
-        if item(s, n, wide) {
-            n += 1;
+fn items(
+    out: &mut [u8],
+    n: usize,
+    place: Place,
+    s: &[u8],
+    from: usize,
+    to: usize,
+    head: usize,
+) -> usize {
+    let mut m = n;
+    let mut at = behind(from, head);
+    let mut i = 0;
+    while i < s.len() {
+        let step = item(out, m, place, s, from, to, at, i);
+        m = step.n;
+        at = step.next;
+        if step.more {
+            i += 1;
         } else {
-            return;
+            return m;
         }
     }
+    m
 }
 
-// What stands at a cursor; whether something does.
-fn item(s: &[u8], n: usize, wide: bool) -> bool {
-    match view::shown(s, n) {
+// What stands at a cursor of the policy between two offsets, and at an offset.
+fn item(
+    out: &mut [u8],
+    n: usize,
+    place: Place,
+    s: &[u8],
+    from: usize,
+    to: usize,
+    at: usize,
+    cursor: usize,
+) -> Step {
+    let p = part(s, from, to);
+    match view::shown(p, cursor) {
         Item::Selector {
             kind: _,
             protocol,
@@ -58,99 +116,103 @@ fn item(s: &[u8], n: usize, wide: bool) -> bool {
             start,
             end,
         } => {
-            selector_name(n);
-            addresses(part(s, start, end));
-            ports(protocol, start_port, end_port);
+            let next = behind(from, end);
+            let a = selector_head(out, n, cursor == 0, at, span(at, next));
+            let b = addresses(out, a, part(p, start, end));
+            stepped(ports(out, b, protocol, start_port, end_port), next)
         }
         Item::Transform {
             kind,
             id,
-            key_lengths,
-            key_length,
-        } => transform(kind, id, key_lengths, key_length),
+            key_lengths: _,
+            key_length: _,
+        } => {
+            let next = behind(at, two(s, behind(at, 2)));
+            stepped(transform(out, n, kind, id, s, at, next, 0), next)
+        }
         Item::Attribute {
-            meaning,
+            meaning: _,
             short: _,
             kind,
             start,
             end,
-        } => attribute(wide, meaning, kind, part(s, start, end)),
-        Item::Nothing => {
-            return false;
+        } => {
+            let next = behind(from, end);
+            let value = part(p, start, end);
+            stepped(
+                crate::attribute::attribute(out, n, place, at, span(at, next), kind, value),
+                next,
+            )
         }
+        Item::Nothing => Step {
+            n,
+            next: at,
+            more: false,
+        },
     }
-    true
+}
+
+fn stepped(n: usize, next: usize) -> Step {
+    Step {
+        n,
+        next,
+        more: true,
+    }
 }
 
 // The first selector is the source.
-fn selector_name(n: usize) {
-    if n == 0 {
-        print(b"      source ");
-    } else {
-        print(b"      destination ");
+pub(crate) fn selector_head(out: &mut [u8], n: usize, first: bool, at: usize, len: usize) -> usize {
+    let a = crate::line::head(out, n, INNER, at, len);
+    if first {
+        return names::text(out, a, b"source ");
     }
+    names::text(out, a, b"destination ")
 }
 
-fn ports(protocol: usize, start: usize, end: usize) {
-    labelled(b", IP protocol ", protocol);
-    labelled(b", ports ", start);
-    line(b" to ", end);
+pub(crate) fn ports(out: &mut [u8], n: usize, protocol: usize, start: usize, end: usize) -> usize {
+    names::say(
+        out,
+        n,
+        b", IP protocol %, ports % to %\n",
+        protocol,
+        start,
+        end,
+    )
 }
 
 // Two addresses, one behind the other.
-fn addresses(octets: &[u8]) {
+pub(crate) fn addresses(out: &mut [u8], n: usize, octets: &[u8]) -> usize {
     let half = octets.len() / 2;
-    crate::text::address(part(octets, 0, half));
-    print(b" to ");
-    crate::text::address(part(octets, half, octets.len()));
+    let a = crate::address::address(out, n, part(octets, 0, half));
+    let b = names::text(out, a, b" to ");
+    crate::address::address(out, b, part(octets, half, octets.len()))
 }
 
-fn transform(kind: usize, id: usize, key_lengths: usize, key_length: usize) {
-    print(b"      ");
-    crate::names::transform_type(kind);
-    print(b": ");
-    crate::names::transform_id(kind, id);
-    if key_lengths != 0 {
-        labelled(b", Key Length ", key_length);
-    }
-    if 1 < key_lengths {
-        labelled(b", the first of ", key_lengths);
-    }
-    print(b"\n");
+// A transform between two offsets, and its attributes up to the offset at which the layout breaks.
+pub(crate) fn transform(
+    out: &mut [u8],
+    n: usize,
+    kind: usize,
+    id: usize,
+    s: &[u8],
+    at: usize,
+    end: usize,
+    stop: usize,
+) -> usize {
+    let a = crate::line::head(out, n, INNER, at, span(at, end));
+    let b = transform_head(out, a, kind, id);
+    let place = attributes::tables::in_transform(kind);
+    crate::attribute::attributes(out, b, place, s, behind(at, 8), end, stop)
 }
 
-// An attribute of a policy: its name and its value, and whether a member passes over it.
-fn attribute(wide: bool, meaning: Meaning, kind: usize, value: &[u8]) {
-    print(b"      ");
-    crate::names::policy_attribute(wide, kind);
-    print(b": ");
-    valued(is_spi(wide, kind), value);
-    if attributes::tables::code(meaning) == 0 {
-        print(b", skipped");
-    }
-    print(b"\n");
-}
-
-// GSA_NEXT_SPI.
-fn is_spi(wide: bool, kind: usize) -> bool {
-    if wide {
-        return false;
-    }
-    kind == 3
-}
-
-// An SPI, a number of 2 or 4 octets; of any other value how many octets it has.
-fn valued(spi: bool, value: &[u8]) {
-    if spi {
-        crate::text::hexadecimal(value);
-        return;
-    }
-    match value.len() {
-        2 => number(two(value, 0)),
-        4 => number(four(value, 0)),
-        _ => {
-            number(value.len());
-            print(b" octets");
-        }
-    }
+fn transform_head(out: &mut [u8], n: usize, kind: usize, id: usize) -> usize {
+    let a = names::titled(
+        out,
+        n,
+        b"transform ",
+        names::tables::transform_type(kind),
+        kind,
+    );
+    let b = names::titled(out, a, b": ", names::tables::transform_id(kind, id), id);
+    crate::line::ended(out, b)
 }

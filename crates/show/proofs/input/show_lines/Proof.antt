@@ -1,20 +1,24 @@
 use lib.ListN.{length}
-use mathlib.Core.Path.{_≡_, refl}
+use mathlib.Core.Path.{_≡_}
 use borrow.Author.Needs.{needs}
 use Rattle.show.proofs.input.show_lines.Statement.{statement}
 use Rattle.show.proofs.input.show_lines.Tie as tie
 
 abbrev Inv-loop : tie.InvT-loop
-Inv-loop line₀ count₀ turns₀ line count turns = length line ≡ length line₀
+Inv-loop line₀ room₀ out₀ r₀ turns₀ line room out r turns =
+    (length line ≡ length line₀) × (length room ≡ length room₀) × (length out ≡ length out₀)
 
 abbrev μ-loop : tie.MeasureT-loop
-μ-loop line₀ count₀ turns₀ line count turns = turns
+μ-loop line₀ room₀ out₀ r₀ turns₀ line room out r turns = turns
+
+begun-requires : tie.Need-begun-requires Inv-loop μ-loop
+begun-requires c κs = search needs
 
 loop-holds : tie.Need-loop-holds Inv-loop μ-loop
-loop-holds c = refl
+loop-holds c = search needs
 
-show-some-requires : tie.Need-show-some-requires Inv-loop μ-loop
-show-some-requires c κs = search needs
+one-read-requires : tie.Need-one-read-requires Inv-loop μ-loop
+one-read-requires c κs = search needs
 
 sub-turns : tie.Need-sub-turns Inv-loop μ-loop
 sub-turns c = search needs
@@ -31,23 +35,23 @@ loop-less-2 c = search needs
 loop-again-2 : tie.Need-loop-again-2 Inv-loop μ-loop
 loop-again-2 c = search needs
 
-part-requires : tie.Need-part-requires Inv-loop μ-loop
-part-requires c κs = search needs
+finished-requires : tie.Need-finished-requires Inv-loop μ-loop
+finished-requires c κs = search needs
 
-show-line-requires : tie.Need-show-line-requires Inv-loop μ-loop
-show-line-requires c κs = search needs
+handed-over-requires : tie.Need-handed-over-requires Inv-loop μ-loop
+handed-over-requires c κs = search needs
 
 same-length : tie.Need-same-length Inv-loop μ-loop
 same-length c = search needs
 
-returns : tie.Need-returns Inv-loop μ-loop
-returns c = search needs
-
 same-length-2 : tie.Need-same-length-2 Inv-loop μ-loop
 same-length-2 c = search needs
 
-returns-2 : tie.Need-returns-2 Inv-loop μ-loop
-returns-2 c = search needs
+same-length-3 : tie.Need-same-length-3 Inv-loop μ-loop
+same-length-3 c = search needs
+
+returns : tie.Need-returns Inv-loop μ-loop
+returns c = search needs
 
 pub show-lines-spec : {M : Type 1} → statement M
 show-lines-spec =
@@ -55,16 +59,17 @@ show-lines-spec =
     (tie.spec
     Inv-loop
     μ-loop
+    begun-requires
     loop-holds
-    show-some-requires
+    one-read-requires
     sub-turns
     loop-less
     loop-again
     loop-less-2
     loop-again-2
-    part-requires
-    show-line-requires
+    finished-requires
+    handed-over-requires
     same-length
-    returns
     same-length-2
-    returns-2)
+    same-length-3
+    returns)

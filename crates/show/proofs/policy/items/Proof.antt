@@ -1,32 +1,42 @@
 use lib.ListN.{length}
+use mathlib.Core.Path.{_≡_}
 use Prim.Native.Nat.{_-_}
 use borrow.Author.Needs.{needs}
 use Rattle.show.proofs.policy.items.Statement.{statement}
 use Rattle.show.proofs.policy.items.Tie as tie
 
 abbrev Inv-loop : tie.InvT-loop
-Inv-loop s wide n₀ n = Unit {0}
+Inv-loop out₀ n place s from to head m₀ at₀ i₀ out m at i = length out ≡ length out₀
 
 abbrev μ-loop : tie.MeasureT-loop
-μ-loop s wide n₀ n = length s - n
+μ-loop out₀ n place s from to head m₀ at₀ i₀ out m at i = length s - i
+
+behind-requires : tie.Need-behind-requires Inv-loop μ-loop
+behind-requires c κs = search needs
 
 loop-holds : tie.Need-loop-holds Inv-loop μ-loop
-loop-holds c = tt
+loop-holds c = search needs
 
 item-requires : tie.Need-item-requires Inv-loop μ-loop
 item-requires c κs = search needs
 
-add-n : tie.Need-add-n Inv-loop μ-loop
-add-n c = search needs
+add-i : tie.Need-add-i Inv-loop μ-loop
+add-i c = search needs
 
 loop-less : tie.Need-loop-less Inv-loop μ-loop
 loop-less c = search needs
 
 loop-again : tie.Need-loop-again Inv-loop μ-loop
-loop-again c = tt
+loop-again c = search needs
+
+same-length : tie.Need-same-length Inv-loop μ-loop
+same-length c = search needs
 
 returns : tie.Need-returns Inv-loop μ-loop
 returns c = search needs
+
+same-length-2 : tie.Need-same-length-2 Inv-loop μ-loop
+same-length-2 c = search needs
 
 returns-2 : tie.Need-returns-2 Inv-loop μ-loop
 returns-2 c = search needs
@@ -37,10 +47,13 @@ items-spec =
     (tie.spec
     Inv-loop
     μ-loop
+    behind-requires
     loop-holds
     item-requires
-    add-n
+    add-i
     loop-less
     loop-again
+    same-length
     returns
+    same-length-2
     returns-2)

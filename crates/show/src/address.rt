@@ -1,0 +1,35 @@
+// IP addresses.
+use faults::places::octet;
+use faults::places::two;
+
+// An address of 4 octets, or of 16.
+pub(crate) fn address(out: &mut [u8], n: usize, octets: &[u8]) -> usize {
+    if octets.len() == 4 {
+        let a = names::say(out, n, b"%.%.", octet(octets, 0), octet(octets, 1), 0);
+        return names::say(out, a, b"%.%", octet(octets, 2), octet(octets, 3), 0);
+    }
+    groups(out, n, octets)
+}
+
+fn groups(out: &mut [u8], n: usize, octets: &[u8]) -> usize {
+    let mut m = n;
+    let mut i = 0;
+    while i < octets.len() {
+        m = group(out, m, octets, i);
+        if octets.len() - i < 2 {
+            return m;
+        }
+        i += 2;
+    }
+    m
+}
+
+// The number of two octets at a place of an IPv6 address.
+fn group(out: &mut [u8], n: usize, octets: &[u8], at: usize) -> usize {
+    let x = two(octets, at) as u64;
+    if at == 0 {
+        return names::hexadecimal(out, n, x, 1);
+    }
+    let a = names::put(out, n, 58);
+    names::hexadecimal(out, a, x, 1)
+}

@@ -1,0 +1,202 @@
+// Attributes, by their place.
+use crate::line::INMOST;
+use crate::line::INNER;
+use attributes::Read;
+use attributes::tables::Place;
+use faults::places::attribute_end;
+use faults::places::four;
+use faults::places::holds;
+use faults::places::part;
+use faults::places::span;
+use faults::places::two;
+
+// Attributes of a place, up to the offset at which the layout breaks, and why it does, if that is among them.
+pub(crate) fn attributes(
+    out: &mut [u8],
+    n: usize,
+    place: Place,
+    s: &[u8],
+    from: usize,
+    to: usize,
+    stop: usize,
+) -> usize {
+    let mut m = n;
+    let mut at = from;
+    while at < to {
+        let end = attribute_end(s, at, to);
+        m = attribute_at(out, m, place, part(s, at, to), at, stop);
+        if holds(at, stop, end) {
+            return m;
+        }
+        at = end;
+    }
+    m
+}
+
+// The attribute that the octets start with, at an offset.
+fn attribute_at(out: &mut [u8], n: usize, place: Place, s: &[u8], at: usize, stop: usize) -> usize {
+    if at == stop {
+        return faults::of_attribute(out, n, place, s, stop);
+    }
+    match attributes::attribute_read(s) {
+        Read::Attribute {
+            short: _,
+            kind,
+            start: _,
+            end,
+        } => attribute(
+            out,
+            n,
+            place,
+            at,
+            end,
+            kind,
+            attributes::attribute_value(s, 0),
+        ),
+        Read::Cut => n,
+    }
+}
+
+// How far an attribute of a place is set in.
+fn indent(place: Place) -> usize {
+    match place {
+        Place::EncryptionTransform => INMOST,
+        Place::OtherTransform => INMOST,
+        Place::RekeyPolicy => INNER,
+        Place::DataPolicy => INNER,
+        Place::GroupWidePolicy => INNER,
+        Place::RekeyBag => INNER,
+        Place::DataBag => INNER,
+        Place::MemberBag => INNER,
+    }
+}
+
+// An attribute: its name, what is shown of its value, and whether a member passes over it.
+pub(crate) fn attribute(
+    out: &mut [u8],
+    n: usize,
+    place: Place,
+    at: usize,
+    len: usize,
+    kind: usize,
+    value: &[u8],
+) -> usize {
+    let a = crate::line::head(out, n, indent(place), at, len);
+    let b = names::titled(out, a, b"", names::tables::attribute(place, kind), kind);
+    let c = shown(out, b, shape_of(place, kind), value);
+    skipped(out, c, place, kind)
+}
+
+fn skipped(out: &mut [u8], n: usize, place: Place, kind: usize) -> usize {
+    if attributes::tables::code(attributes::tables::meaning_in(place, kind)) == 0 {
+        return names::text(out, n, b", skipped\n");
+    }
+    crate::line::ended(out, n)
+}
+
+// What is shown of a value: a number of 2 or 4 octets, an SPI, the IDs of a wrapped key, or how many octets it has. Octets that no paper
+// names, and those of keys, are counted.
+enum Shape {
+    Number,
+    Spi,
+    Wrapped,
+    Count,
+}
+
+fn shape_of(place: Place, kind: usize) -> Shape {
+    match place {
+        Place::EncryptionTransform => in_transform(kind),
+        Place::OtherTransform => in_transform(kind),
+        Place::RekeyPolicy => in_policy(kind),
+        Place::DataPolicy => in_policy(kind),
+        Place::GroupWidePolicy => in_wide_policy(kind),
+        Place::RekeyBag => in_bag(kind),
+        Place::DataBag => in_bag(kind),
+        Place::MemberBag => in_bag(kind),
+    }
+}
+
+// Key Length.
+fn in_transform(kind: usize) -> Shape {
+    match kind {
+        14 => Shape::Number,
+        _ => Shape::Count,
+    }
+}
+
+// GSA_KEY_LIFETIME, GSA_INITIAL_MESSAGE_ID and GSA_NEXT_SPI.
+fn in_policy(kind: usize) -> Shape {
+    match kind {
+        1 => Shape::Number,
+        2 => Shape::Number,
+        3 => Shape::Spi,
+        _ => Shape::Count,
+    }
+}
+
+// GWP_ATD, GWP_DTD and GWP_SENDER_ID_BITS.
+fn in_wide_policy(kind: usize) -> Shape {
+    match kind {
+        1 => Shape::Number,
+        2 => Shape::Number,
+        3 => Shape::Number,
+        _ => Shape::Count,
+    }
+}
+
+// SA_KEY and WRAP_KEY.
+fn in_bag(kind: usize) -> Shape {
+    match kind {
+        1 => Shape::Wrapped,
+        _ => Shape::Count,
+    }
+}
+
+fn shown(out: &mut [u8], n: usize, shape: Shape, value: &[u8]) -> usize {
+    match shape {
+        Shape::Number => number(out, n, value),
+        Shape::Spi => spi(out, n, value),
+        Shape::Wrapped => wrapped(out, n, value),
+        Shape::Count => counted(out, n, value),
+    }
+}
+
+fn counted(out: &mut [u8], n: usize, value: &[u8]) -> usize {
+    names::say(out, n, b": % octets", value.len(), 0, 0)
+}
+
+fn number(out: &mut [u8], n: usize, value: &[u8]) -> usize {
+    let count = value.len();
+    match count {
+        2 => names::say(out, n, b": %", two(value, 0), 0, 0),
+        4 => names::say(out, n, b": %", four(value, 0), 0, 0),
+        _ => counted(out, n, value),
+    }
+}
+
+// An SPI of AH or ESP, or of a Rekey SA.
+fn spi(out: &mut [u8], n: usize, value: &[u8]) -> usize {
+    let count = value.len();
+    match count {
+        4 => octets(out, n, value),
+        16 => octets(out, n, value),
+        _ => counted(out, n, value),
+    }
+}
+
+fn octets(out: &mut [u8], n: usize, value: &[u8]) -> usize {
+    let a = names::text(out, n, b": ");
+    names::octets(out, a, value)
+}
+
+fn wrapped(out: &mut [u8], n: usize, value: &[u8]) -> usize {
+    let text = b": Key ID %, KWK ID %, % octets wrapped";
+    names::say(
+        out,
+        n,
+        text,
+        four(value, 0),
+        four(value, 4),
+        span(8, value.len()),
+    )
+}

@@ -1,0 +1,47 @@
+// The IKE header of a frame.
+use crate::line::OUTER;
+use faults::places::four;
+use faults::places::octet;
+use faults::places::part;
+
+// The octets of a header.
+pub(crate) const SIZE: usize = 28;
+
+pub(crate) fn header(out: &mut [u8], n: usize, s: &[u8]) -> usize {
+    let kind = octet(s, 18);
+    let a = crate::line::head(out, n, OUTER, 0, SIZE);
+    let b = names::titled(out, a, b"header ", names::tables::exchange(kind), kind);
+    let version = octet(s, 17);
+    let c = names::say(
+        out,
+        b,
+        b", version %.%, flags 0x",
+        version / 16,
+        version % 16,
+        0,
+    );
+    let d = flags(out, c, octet(s, 19));
+    identity(out, d, s)
+}
+
+// RFC 7296, section 3.1: bits 3, 4 and 5 are named.
+fn flags(out: &mut [u8], n: usize, x: usize) -> usize {
+    let a = names::hexadecimal(out, n, x as u64, 2);
+    let b = flag(out, a, x / 8, b" Initiator");
+    let c = flag(out, b, x / 16, b" Version");
+    flag(out, c, x / 32, b" Response")
+}
+
+// The name of a flag that is the lowest bit.
+fn flag(out: &mut [u8], n: usize, x: usize, name: &[u8]) -> usize {
+    if x % 2 == 1 {
+        return names::text(out, n, name);
+    }
+    n
+}
+
+fn identity(out: &mut [u8], n: usize, s: &[u8]) -> usize {
+    let a = names::text(out, n, b", SPI ");
+    let b = names::octets(out, a, part(s, 0, 16));
+    names::say(out, b, b", Message ID %\n", four(s, 20), 0, 0)
+}

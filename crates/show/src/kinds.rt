@@ -1,0 +1,77 @@
+// What a line holds: a default key, a bare frame, or a tick and a frame.
+use crate::header::SIZE;
+use attributes::Layout;
+use faults::places::four;
+use faults::places::part;
+
+// The octets of a tick.
+pub(crate) const TICK: usize = 4;
+
+// The most digits of a default key.
+const KEY: usize = 64;
+
+// Whether a line of so many digits is a default key: no other than the first is, and a short one there is never taken for a frame.
+pub(crate) fn is_key(number: usize, digits: usize) -> bool {
+    if number == 1 {
+        return digits <= KEY;
+    }
+    false
+}
+
+fn is_whole(s: &[u8]) -> bool {
+    match frames::frame_layout(s) {
+        Layout::Whole => true,
+        Layout::Broken(_) => false,
+    }
+}
+
+// Whether a header's length counts the octets.
+fn is_counted(s: &[u8]) -> bool {
+    if s.len() < SIZE {
+        return false;
+    }
+    four(s, 24) == s.len()
+}
+
+// Whether a line's octets are a tick and a frame, and no bare frame: the one of the two that is whole; if none is, the one whose length
+// counts its octets; if both or none does, as the first line says, which is a key in front of ticks and frames.
+pub(crate) fn has_tick(s: &[u8], keyed: bool) -> bool {
+    if s.len() < TICK {
+        return false;
+    }
+    if is_whole(s) {
+        return false;
+    }
+    let rest = part(s, TICK, s.len());
+    if is_whole(rest) {
+        return true;
+    }
+    by_length(is_counted(s), is_counted(rest), keyed)
+}
+
+fn by_length(bare: bool, ticked: bool, keyed: bool) -> bool {
+    if bare {
+        if ticked {
+            return keyed;
+        }
+        return false;
+    }
+    if ticked {
+        return true;
+    }
+    keyed
+}
+
+// The octets of a line that is no key.
+pub(crate) fn show_octets(out: &mut [u8], n: usize, s: &[u8], keyed: bool) -> usize {
+    if has_tick(s, keyed) {
+        let a = names::say(out, n, b"tick %, ", four(s, 0), 0, 0);
+        return framed(out, a, part(s, TICK, s.len()));
+    }
+    framed(out, n, s)
+}
+
+fn framed(out: &mut [u8], n: usize, s: &[u8]) -> usize {
+    let a = names::say(out, n, b"frame of % octets\n", s.len(), 0, 0);
+    crate::frame::frame(out, a, s)
+}

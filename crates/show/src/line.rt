@@ -1,0 +1,35 @@
+// Lines of the tree.
+
+// How far lines are set in: the header and payloads; policies, key bags and the fields of D; what these hold; what a transform holds.
+pub(crate) const OUTER: usize = 2;
+
+pub(crate) const MIDDLE: usize = 4;
+
+pub(crate) const INNER: usize = 6;
+
+pub(crate) const INMOST: usize = 8;
+
+// The start of a line: a structure's offset and length.
+pub(crate) fn head(out: &mut [u8], n: usize, indent: usize, at: usize, len: usize) -> usize {
+    let a = names::column(out, n, at);
+    let b = names::column(out, a, len);
+    names::blanks(out, b, indent)
+}
+
+pub(crate) fn ended(out: &mut [u8], n: usize) -> usize {
+    names::put(out, n, 10)
+}
+
+// The rest of a line that names a structure by its protocol and SPI.
+pub(crate) fn protocol_and_spi(
+    out: &mut [u8],
+    n: usize,
+    what: &[u8],
+    protocol: usize,
+    spi: &[u8],
+) -> usize {
+    let a = names::titled(out, n, what, names::tables::protocol(protocol), protocol);
+    let b = names::text(out, a, b", SPI ");
+    let c = names::octets(out, b, spi);
+    ended(out, c)
+}

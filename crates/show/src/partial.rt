@@ -1,0 +1,131 @@
+// A policy in which the layout breaks: what stands in it up to there. The view shows no such policy.
+use crate::line::MIDDLE;
+use attributes::tables::Place;
+use faults::places::behind;
+use faults::places::end_at;
+use faults::places::holds;
+use faults::places::octet;
+use faults::places::part;
+use faults::places::span;
+use faults::places::two;
+
+// The policy at an offset, up to the one at which the layout breaks.
+pub(crate) fn policy(
+    out: &mut [u8],
+    n: usize,
+    s: &[u8],
+    at: usize,
+    end: usize,
+    stop: usize,
+) -> usize {
+    let p = part(s, at, end);
+    if policies::head_fits(p) {
+        let a = crate::line::head(out, n, MIDDLE, at, span(at, end));
+        return held(out, a, octet(s, at), s, at, end, stop);
+    }
+    faults::of_head(out, n, b"policy: ", p, stop)
+}
+
+// What a policy holds, by its first octet.
+fn held(
+    out: &mut [u8],
+    n: usize,
+    first: usize,
+    s: &[u8],
+    at: usize,
+    end: usize,
+    stop: usize,
+) -> usize {
+    let spi = behind(at, 4);
+    if first == 0 {
+        let a = names::text(out, n, b"group-wide policy\n");
+        return crate::attribute::attributes(out, a, Place::GroupWidePolicy, s, spi, end, stop);
+    }
+    let body = behind(spi, policies::spi_size(first));
+    let b = crate::policy::policy_head(out, n, first, part(s, spi, body));
+    let place = attributes::tables::in_policy(first);
+    source(out, b, place, s, body, end, stop)
+}
+
+// From the source selector on.
+fn source(
+    out: &mut [u8],
+    n: usize,
+    place: Place,
+    s: &[u8],
+    at: usize,
+    to: usize,
+    stop: usize,
+) -> usize {
+    if to <= at {
+        return faults::of_missing(out, n, b"no source selector\n", stop);
+    }
+    if at == stop {
+        return faults::of_selector(out, n, part(s, at, to), stop);
+    }
+    let end = behind(at, policies::selectors::selector_size(octet(s, at)));
+    let a = selector(out, n, true, s, at, end);
+    destination(out, a, place, s, end, to, stop)
+}
+
+// From the destination selector on.
+fn destination(
+    out: &mut [u8],
+    n: usize,
+    place: Place,
+    s: &[u8],
+    at: usize,
+    to: usize,
+    stop: usize,
+) -> usize {
+    if to <= at {
+        return faults::of_missing(out, n, b"no destination selector\n", stop);
+    }
+    if at == stop {
+        return faults::of_selector(out, n, part(s, at, to), stop);
+    }
+    let end = behind(at, policies::selectors::selector_size(octet(s, at)));
+    let a = selector(out, n, false, s, at, end);
+    suite(out, a, place, s, end, to, stop)
+}
+
+fn selector(out: &mut [u8], n: usize, first: bool, s: &[u8], at: usize, end: usize) -> usize {
+    let p = part(s, at, end);
+    let a = crate::policy::selector_head(out, n, first, at, span(at, end));
+    let b = crate::policy::addresses(out, a, part(p, 8, p.len()));
+    crate::policy::ports(out, b, octet(p, 1), two(p, 4), two(p, 6))
+}
+
+// Transforms up to the last, then attributes.
+fn suite(
+    out: &mut [u8],
+    n: usize,
+    place: Place,
+    s: &[u8],
+    from: usize,
+    to: usize,
+    stop: usize,
+) -> usize {
+    let mut m = n;
+    let mut at = from;
+    while at < to {
+        let end = end_at(s, at, to, 8);
+        m = transform(out, m, s, at, end, stop);
+        if holds(at, stop, end) {
+            return m;
+        }
+        if octet(s, at) != 3 {
+            return crate::attribute::attributes(out, m, place, s, end, to, stop);
+        }
+        at = end;
+    }
+    faults::of_missing(out, m, b"no last transform\n", stop)
+}
+
+fn transform(out: &mut [u8], n: usize, s: &[u8], at: usize, end: usize, stop: usize) -> usize {
+    let p = part(s, at, end);
+    if at == stop {
+        return faults::of_transform(out, n, p, stop);
+    }
+    crate::policy::transform(out, n, octet(p, 4), two(p, 6), s, at, end, stop)
+}

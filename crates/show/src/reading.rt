@@ -1,0 +1,201 @@
+// From characters to lines. Blanks, tabs and CR are passed over, capitals are digits, and so is 0x in front of a word no part of it.
+use faults::places::octet;
+use faults::places::part;
+
+// The most digits of a line that is shown: a tick and a frame.
+const MOST: usize = 32776;
+
+// Where the program stands: the place in the output; whether the first line was a key; the number of the line that is read, how many digits
+// of it are held, how many characters it has so far and its last word has, and which of them is the first that is no digit, or 0.
+pub(crate) struct Reading {
+    pub(crate) n: usize,
+    pub(crate) keyed: bool,
+    pub(crate) number: usize,
+    pub(crate) held: usize,
+    pub(crate) seen: usize,
+    pub(crate) word: usize,
+    pub(crate) wrong: usize,
+}
+
+pub(crate) fn begun() -> Reading {
+    Reading {
+        n: 0,
+        keyed: false,
+        number: 1,
+        held: 0,
+        seen: 0,
+        word: 0,
+        wrong: 0,
+    }
+}
+
+fn next(x: usize) -> usize {
+    std::num::wrapping_add_usize(x, 1)
+}
+
+// The line with one character more.
+fn more(r: Reading, held: usize, word: usize, wrong: usize) -> Reading {
+    Reading {
+        n: r.n,
+        keyed: r.keyed,
+        number: r.number,
+        held,
+        seen: next(r.seen),
+        word,
+        wrong,
+    }
+}
+
+fn blank(r: Reading) -> Reading {
+    more(r, r.held, 0, r.wrong)
+}
+
+fn digit(r: Reading, c: u8, line: &mut [u8]) -> Reading {
+    more(r, lines::put(line, r.held, c), next(r.word), r.wrong)
+}
+
+// A character that is no digit; the first one is told.
+fn other(r: Reading) -> Reading {
+    if r.wrong == 0 {
+        return more(r, r.held, next(r.word), next(r.seen));
+    }
+    more(r, r.held, next(r.word), r.wrong)
+}
+
+// An x: it and the 0 that a word starts with are passed over.
+fn prefix(r: Reading, line: &[u8]) -> Reading {
+    let held = r.held;
+    if r.word == 1 {
+        if 0 < held {
+            if octet(line, held - 1) == 48 {
+                return more(r, held - 1, 2, r.wrong);
+            }
+        }
+    }
+    other(r)
+}
+
+// A character of a line.
+fn character(r: Reading, c: u8, line: &mut [u8]) -> Reading {
+    match c {
+        9 => blank(r),
+        13 => blank(r),
+        32 => blank(r),
+        48..=57 => digit(r, c, line),
+        97..=102 => digit(r, c, line),
+        65..=70 => digit(r, c + 32, line),
+        88 => prefix(r, line),
+        120 => prefix(r, line),
+        _ => other(r),
+    }
+}
+
+// The end of a line: it is shown, and the next one begins.
+fn ended(r: Reading, line: &[u8], room: &mut [u8], out: &mut [u8]) -> Reading {
+    let held = r.held;
+    let n = show_line(out, r, part(line, 0, held), room);
+    Reading {
+        n,
+        keyed: keyed(r, held),
+        number: next(r.number),
+        held: 0,
+        seen: 0,
+        word: 0,
+        wrong: 0,
+    }
+}
+
+// Whether the first line, which may be this one, is a key.
+fn keyed(r: Reading, held: usize) -> bool {
+    if r.keyed {
+        return true;
+    }
+    crate::kinds::is_key(r.number, held)
+}
+
+fn taken(r: Reading, c: u8, line: &mut [u8], room: &mut [u8], out: &mut [u8]) -> Reading {
+    if c == 10 {
+        return ended(r, line, room, out);
+    }
+    character(r, c, line)
+}
+
+// All characters of a block.
+pub(crate) fn block(
+    r: Reading,
+    block: &[u8],
+    line: &mut [u8],
+    room: &mut [u8],
+    out: &mut [u8],
+) -> Reading {
+    let mut x = r;
+    let mut i = 0;
+    while i < block.len() {
+        x = taken(x, block[i], line, room, out);
+        i += 1;
+    }
+    x
+}
+
+// The end of the input: a line that has begun is shown.
+pub(crate) fn finished(r: Reading, line: &[u8], room: &mut [u8], out: &mut [u8]) -> Reading {
+    if r.seen == 0 {
+        return r;
+    }
+    ended(r, line, room, out)
+}
+
+// What the output holds is handed over.
+pub(crate) fn handed_over(r: Reading, out: &[u8]) -> Reading {
+    Reading {
+        n: names::handed_over(out, r.n),
+        keyed: r.keyed,
+        number: r.number,
+        held: r.held,
+        seen: r.seen,
+        word: r.word,
+        wrong: r.wrong,
+    }
+}
+
+// A line, by its digits.
+fn show_line(out: &mut [u8], r: Reading, digits: &[u8], room: &mut [u8]) -> usize {
+    let n = names::say(out, r.n, b"line %: ", r.number, 0, 0);
+    let count = digits.len();
+    if r.wrong != 0 {
+        return names::say(
+            out,
+            n,
+            b"character % is no hexadecimal digit\n",
+            r.wrong,
+            0,
+            0,
+        );
+    }
+    if count % 2 == 1 {
+        return names::say(out, n, b"% digits, an odd count\n", count, 0, 0);
+    }
+    if crate::kinds::is_key(r.number, count) {
+        return names::say(
+            out,
+            n,
+            b"default key of % octets, not shown\n",
+            count / 2,
+            0,
+            0,
+        );
+    }
+    show_digits(out, n, r.keyed, digits, room)
+}
+
+fn show_digits(out: &mut [u8], n: usize, keyed: bool, digits: &[u8], room: &mut [u8]) -> usize {
+    let count = digits.len();
+    if count == 0 {
+        return names::text(out, n, b"empty\n");
+    }
+    if MOST < count {
+        return names::say(out, n, b"more than % digits\n", MOST, 0, 0);
+    }
+    let len = lines::put_octets(room, 0, digits);
+    crate::kinds::show_octets(out, n, part(room, 0, len), keyed)
+}
