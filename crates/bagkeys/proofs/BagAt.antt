@@ -16,7 +16,7 @@ use Rattle.bags.proofs.BagLaws.{takes}
 use Rattle.contents.specs.inner.Values.{isWhole, itemsOf, attributesIn}
 use Rattle.contents.specs.inner.Bags.{bagsIn, BagIs}
 use Rattle.contents.specs.declared.policy.Parts.{Parts}
-use Rattle.bagkeys.specs.inner.Questions.{bagWith}
+use Rattle.bagkeys.specs.inner.Facts.{bagWith}
 
 pub part-within : (s : List ℕ) (at a e : ℕ) → part (drop at s) a e ≡ part s (at + a) (at + e)
 part-within s at a e =

@@ -11,7 +11,7 @@ use Rattle.keys.proofs.Parts.{part-cons, part-end}
 use Rattle.sa.specs.Entry.{named, due, spiOf, spiSize}
 use Rattle.sa.specs.declared.entry.Sa.{Sa}
 use Rattle.table.specs.Table.{stays, notDue}
-use Rattle.bagkeys.proofs.Answers.{count-any}
+use Rattle.clauses.proofs.Gather.{any-count}
 use Rattle.pairing.specs.inner.Names.{Name, isSuch, isAnnounced}
 use Rattle.pairing.specs.declared.names.Which.the-variants as which
 use Rattle.pairing.proofs.ListLaws.{same-swap, eqb-swap, any-keep, any-swap}
@@ -29,7 +29,7 @@ module _ (now : ℕ) (s : Sa) (l : List Name) where
     announced-counted h =
         let z : n - 0 ≡ spiSize (s .protocol) = omega arith in
         ap (ltb 0) (h ∙ (λ i. count (isSuch which.Named (f i) (take (z i) (s .spi))) l))
-        ∙ count-any (isSuch which.Named (s .protocol) (spiOf s)) l ∙ (λ i. any (λ (x : Name). such-names x i) l) ∙ rw e
+        ∙ sym (any-count (isSuch which.Named (s .protocol) (spiOf s)) l) ∙ (λ i. any (λ (x : Name). such-names x i) l) ∙ rw e
 
 -- ---- the pass over the SAs of the table
 module _ {A : Type 0} (p : A → Bool) (l : List A) (n : ℕ) (h : n ≤ length l) (j : ℕ) where

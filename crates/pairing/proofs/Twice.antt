@@ -11,7 +11,7 @@ use Rattle.octets.specs.Compare.{same}
 use Rattle.octets.proofs.Order.{same-eq}
 use Rattle.keys.specs.Lists.{any, count}
 use Rattle.keys.proofs.Cases.{and-parts}
-use Rattle.bagkeys.proofs.Answers.{count-any}
+use Rattle.clauses.proofs.Gather.{any-count}
 use Rattle.pairing.specs.inner.Names.{Name, isSuch, isUnpaired}
 use Rattle.pairing.specs.declared.names.Which.the-variants as which
 use Rattle.pairing.proofs.ListLaws.{any-weaker, any-pick}
@@ -38,7 +38,7 @@ module _ (l m : List Name) where
   its-pair : (a : Name) → isUnpaired m a ≡ false → any (isNamed a) m ≡ true
   its-pair a e =
       let f : eqb (count (isNamed a) m) 1 ≡ true = sym (Bool·not-not (eqb (count (isNamed a) m) 1)) ∙ ap not e in
-      sym (count-any (isNamed a) m) ∙ ap (ltb 0) (eqb-true (count (isNamed a) m) 1 f)
+      any-count (isNamed a) m ∙ ap (ltb 0) (eqb-true (count (isNamed a) m) 1 f)
 
   pub twice-unpaired : any (isTwice l) l ≡ true → any (isUnpaired m) l ≡ false → any (isUnpaired l) m ≡ true
   twice-unpaired =

@@ -10,9 +10,12 @@ use Rattle.frames.specs.Frame.{Frame, Payload, frame}
 use Rattle.frames.proofs.FrameGrammar.{read-frame}
 use Rattle.clauses.specs.Number4.{unknownCritical, criticalUnknown}
 use Rattle.payloads.specs.inner.Bodies.{payloadsOf, ofKind, FirstBody, FirstOfKind, IsBodies}
+use Rattle.payloads.specs.inner.Deletion.{IsDeletes}
+use Rattle.payloads.specs.declared.deletion.Deletes.{Deletes}
 use Rattle.contents.specs.declared.Stretch.{Stretch}
 use Rattle.payloads.proofs.FrameLaws.{are-payloads}
 use Rattle.payloads.proofs.HeldLaws.{Formed, formed, count-gsa, count-kd, count-deletes, policies-held, bags-held}
+use Rattle.payloads.proofs.HeldLaws.{gsa-whole, kd-whole}
 
 module _ (s : List ℕ) (f : Frame) (q : frame s ≡ whole f []) where
   same-list : payloadsOf s ≡ f .payloads
@@ -33,8 +36,10 @@ module _ (s : List ℕ) (f : Frame) (q : frame s ≡ whole f []) where
 
   pub bodies-are : (g k : Stretch) → FirstOfKind 51 s g → FirstOfKind 52 s k → (x y z : ℕ) → x ≡ count (ofKind 51) (payloadsOf s)
       → y ≡ count (ofKind 52) (payloadsOf s) → z ≡ count (ofKind 42) (payloadsOf s) → (t : Bool) → t ≡ any unknownCritical (payloadsOf s)
-      → IsBodies s f (record { gsas = x; kds = y; deletes = z; critical = t; gsa = g; kd = k })
-  bodies-are g k gs ks x y z ex ey ez t et = record {
+      → (d : Deletes) → IsDeletes f d
+      → IsBodies s f (record { gsas = x; kds = y; critical = t; gsa = g; kd = k; deletes = z; deletion = d })
+  bodies-are g k gs ks x y z ex ey ez t et d is = record {
+    deletion = is;
     gsas = ex ∙ counted 51 ∙ sym (count-gsa all-formed);
     kds = ey ∙ counted 52 ∙ sym (count-kd all-formed);
     deletes = ez ∙ counted 42 ∙ sym (count-deletes all-formed);
@@ -43,6 +48,8 @@ module _ (s : List ℕ) (f : Frame) (q : frame s ≡ whole f []) where
     gsaInside = gs .inside;
     kdOrder = ks .order;
     kdInside = ks .inside;
+    gsaWhole = gsa-whole (part s (g .start) (g .end)) (gs .body);
+    kdWhole = kd-whole (part s (k .start) (k .end)) (ks .body);
     policies = λ h.
         let p = policies-held all-formed (part s (g .start) (g .end)) (in-frame 51 (part s (g .start) (g .end)) (gs .body))
         (omega (arith, ex, counted 51)) in

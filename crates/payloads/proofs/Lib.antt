@@ -5,3 +5,4 @@ pub mod HeldLaws
 pub mod FoundLaws
 pub mod DeleteLaws
 pub mod DeletedLaws
+pub mod PayloadLaws

@@ -1,97 +1,191 @@
 use denote.Ref.{now}
-use mathlib.Core.Path.{_≡_, ap, sym, _∙_}
-use Rattle.keys.specs.Limits.{limits}
-use mathlib.Core.Bool.{false}
-use mathlib.Core.List.{[], _∷_}
+use mathlib.Core.Path.{_≡_, ap}
 use Rattle.contents.specs.inner.Values.{isWhole}
-use Rattle.clauses.specs.Refusals.{applies, four, five, six, seven}
 use Rattle.payloads.specs.inner.Bodies.{IsBodies}
-use Rattle.judging.proofs.OrderLaws.{applying, passing}
-use Rattle.judging.proofs.BodiesLaws.{holds-policies, holds-bags}
+use Rattle.pairing.proofs.NamesOf.{policy-names, bag-names}
+use Rattle.judging.proofs.FrameLaws.{FrameFacts, at-4, at-5, at-6, at-7, at-none}
+use borrow.Author.Needs.{needs}
 use Rattle.judging.proofs.on_frame.Statement.{statement}
 use Rattle.judging.proofs.on_frame.Tie as tie
 
-number-4-requires : tie.Need-number-4-requires
-number-4-requires c κs = ap isWhole (c .before .before .pre .1 .1)
-
-returns : tie.Need-returns
-returns c =
-    let x = c .before .before .before .before .args in
-    λ f q e. applying (four f) (five (now (x .lent)) f ∷ six (x .state) (x .tick) f ∷ seven limits (x .state) (x .tick) f ∷ [])
-    (sym (c .if1 .taken) ∙ c .before .number-4 .ensures f q e)
-
 bodies-of-requires : tie.Need-bodies-of-requires
-bodies-of-requires c κs = ap isWhole (c .before .before .before .before .pre .1 .1)
+bodies-of-requires c κs = ap isWhole (c .before .before .pre .1 .1)
 
 -- the bodies of the frame that is known to be there
 own : (c : tie.After-bodies-of)
-    → let b = c .before .before .before .before .before in IsBodies (now (b .args .s)) (b .pre .1 .0) (c .bodies-of .result)
-own c = let b = c .before .before .before .before .before in c .bodies-of .ensures (b .pre .1 .0) (b .pre .1 .1)
+    → let b = c .before .before .before in IsBodies (now (b .args .s)) (b .pre .1 .0) (c .bodies-of .result)
+own c = let b = c .before .before .before in c .bodies-of .ensures (b .pre .1 .0) (b .pre .1 .1)
 
-clear : (c : tie.After-bodies-of) → let b = c .before .before .before .before .before in false ≡ applies (four (b .pre .1 .0))
-clear c =
-    let b = c .before .before .before .before .before in
-    sym (c .before .if1 .left) ∙ c .before .before .number-4 .ensures (b .pre .1 .0) (b .pre .1 .1) (b .pre .1 .2)
+sub-policy-facts : tie.Need-sub-policy-facts
+sub-policy-facts c = own (c .before) .gsaOrder
 
-deletes-of-requires : tie.Need-deletes-of-requires
-deletes-of-requires c κs = ap isWhole (c .before .before .before .before .before .pre .1 .1)
+part-policy-facts-start : tie.Need-part-policy-facts-start
+part-policy-facts-start c = own (c .before) .gsaOrder
 
-sub-on-bodies : tie.Need-sub-on-bodies
-sub-on-bodies c = own (c .before) .gsaOrder
+part-policy-facts-end : tie.Need-part-policy-facts-end
+part-policy-facts-end c = own (c .before) .gsaInside
 
-part-on-bodies-start : tie.Need-part-on-bodies-start
-part-on-bodies-start c = own (c .before) .gsaOrder
+policy-facts-requires : tie.Need-policy-facts-requires
+policy-facts-requires c κs = own (c .before .before) .gsaWhole
 
-part-on-bodies-end : tie.Need-part-on-bodies-end
-part-on-bodies-end c = own (c .before) .gsaInside
+sub-bag-facts : tie.Need-sub-bag-facts
+sub-bag-facts c = own (c .before .before .before) .kdOrder
 
-sub-on-bodies-2 : tie.Need-sub-on-bodies-2
-sub-on-bodies-2 c = own (c .before .before) .kdOrder
+part-bag-facts-start : tie.Need-part-bag-facts-start
+part-bag-facts-start c = own (c .before .before .before) .kdOrder
 
-part-on-bodies-start-2 : tie.Need-part-on-bodies-start-2
-part-on-bodies-start-2 c = own (c .before .before) .kdOrder
+part-bag-facts-end : tie.Need-part-bag-facts-end
+part-bag-facts-end c = own (c .before .before .before) .kdInside
 
-part-on-bodies-end-2 : tie.Need-part-on-bodies-end-2
-part-on-bodies-end-2 c = own (c .before .before) .kdInside
+bag-facts-requires : tie.Need-bag-facts-requires
+bag-facts-requires c κs = own (c .before .before .before .before) .kdWhole
 
-on-bodies-requires : tie.Need-on-bodies-requires
-on-bodies-requires c κs =
-    let d = c .before .before .before in
-    let b = d .before .before .before .before .before in
-    let s = now (b .args .s) in (
-      holds-policies s (b .pre .1 .0) (d .bodies-of .result) (own d) (clear d) .held,
-      holds-bags s (b .pre .1 .0) (d .bodies-of .result) (own d) (clear d) .held,
-      b .pre .0,
-    )
+-- what the walks found
+known : (c : tie.After-bag-facts)
+    → let p = c .before .before in
+    let b = p .before .before .before in
+    let a = b .before .before .before .args in
+    FrameFacts (now (a .s)) (a .row) (b .bodies-of .result) (p .policy-facts .result) (c .bag-facts .result)
+known c =
+    let p = c .before .before in
+    let b = p .before .before .before in
+    record { bodies = b .bodies-of .ensures; policies = p .policy-facts .ensures; bags = c .bag-facts .ensures }
+
+number-4-requires : tie.Need-number-4-requires
+number-4-requires c κs = search needs
+
+returns : tie.Need-returns
+returns c =
+    let n4 = c .before in
+    let k = n4 .before in
+    let st = k .before .before .before .before .before .before .before .before in
+    let a = st .args in
+    at-4 (a .state) (a .tick) (now (a .lent)) (now (a .s)) (st .pre .0) (a .row) _ _ _ (known k) _ (n4 .number-4 .ensures) (c .if1 .taken)
+
+number-5-requires : tie.Need-number-5-requires
+number-5-requires c κs = search needs
 
 returns-2 : tie.Need-returns-2
 returns-2 c =
-    let d = c .before .before .before .before in
-    let b = d .before .before .before .before .before in
-    let x = b .args in
-    let s = now (x .s) in
-    λ f q e.
-    let none = sym (d .before .if1 .left) ∙ d .before .before .number-4 .ensures f q e in
-    let is = d .bodies-of .ensures f q in
-    let g = holds-policies s f (d .bodies-of .result) is none in
-    let k = holds-bags s f (d .bodies-of .result) is none in
-    passing (four f) (five (now (x .lent)) f ∷ six (x .state) (x .tick) f ∷ seven limits (x .state) (x .tick) f ∷ [])
-    (c .on-bodies .result) none
-    (c .on-bodies .ensures f (sym (g .all)) (sym (k .all)) e (c .before .before .before .deletes-of .ensures f q))
+    let n5 = c .before in
+    let e4 = n5 .before in
+    let n4 = e4 .before in
+    let k = n4 .before in
+    let st = k .before .before .before .before .before .before .before .before in
+    let a = st .args in
+    at-5 (a .state) (a .tick) (now (a .lent)) (now (a .s)) (st .pre .0) (a .row) _ _ _ (known k) _ (n4 .number-4 .ensures) (e4 .if1 .left)
+    _ (n5 .number-5 .ensures) (c .if2 .taken)
+
+-- the bodies, where number 6 is asked
+own-6 : (c : tie.After-t)
+    → let d = c .before .before .before .before .before .before .before .before .before .before in
+    let b = d .before .before .before in IsBodies (now (b .args .s)) (b .pre .1 .0) (d .bodies-of .result)
+own-6 c = own (c .before .before .before .before .before .before .before .before .before .before)
+
+sub-number-6 : tie.Need-sub-number-6
+sub-number-6 c = own-6 c .gsaOrder
+
+part-number-6-start : tie.Need-part-number-6-start
+part-number-6-start c = own-6 c .gsaOrder
+
+part-number-6-end : tie.Need-part-number-6-end
+part-number-6-end c = own-6 c .gsaInside
+
+sub-number-6-2 : tie.Need-sub-number-6-2
+sub-number-6-2 c = own-6 (c .before) .kdOrder
+
+part-number-6-start-2 : tie.Need-part-number-6-start-2
+part-number-6-start-2 c = own-6 (c .before) .kdOrder
+
+part-number-6-end-2 : tie.Need-part-number-6-end-2
+part-number-6-end-2 c = own-6 (c .before) .kdInside
+
+number-6-requires : tie.Need-number-6-requires
+number-6-requires c κs =
+    let i = own-6 (c .before .before) in
+    let st = c .before .before .before .before .before .before .before .before .before .before .before .before .before .before .before in
+    ((_, policy-names _ (i .gsaWhole)), (_, bag-names _ (i .kdWhole)), st .pre .0)
+
+returns-3 : tie.Need-returns-3
+returns-3 c =
+    let n6 = c .before in
+    let e5 = n6 .before .before .before .before in
+    let n5 = e5 .before in
+    let e4 = n5 .before in
+    let n4 = e4 .before in
+    let k = n4 .before in
+    let st = k .before .before .before .before .before .before .before .before in
+    let a = st .args in
+    at-6 (a .state) (a .tick) (now (a .lent)) (now (a .s)) (st .pre .0) (a .row) _ _ _ (known k) _ (n4 .number-4 .ensures) (e4 .if1 .left)
+    _ (n5 .number-5 .ensures) (e5 .if2 .left) _ (n6 .number-6 .ensures) (c .if3 .taken)
+
+standing-requires : tie.Need-standing-requires
+standing-requires c κs = search needs
+
+number-7-requires : tie.Need-number-7-requires
+number-7-requires c κs = search needs
+
+returns-4 : tie.Need-returns-4
+returns-4 c =
+    let n7 = c .before in
+    let sd = n7 .before in
+    let e6 = sd .before in
+    let n6 = e6 .before in
+    let e5 = n6 .before .before .before .before in
+    let n5 = e5 .before in
+    let e4 = n5 .before in
+    let n4 = e4 .before in
+    let k = n4 .before in
+    let st = k .before .before .before .before .before .before .before .before in
+    let a = st .args in
+    at-7 (a .state) (a .tick) (now (a .lent)) (now (a .s)) (st .pre .0) (a .row) _ _ _ (known k) _ (n4 .number-4 .ensures) (e4 .if1 .left)
+    _ (n5 .number-5 .ensures) (e5 .if2 .left) _ (n6 .number-6 .ensures) (e6 .if3 .left) _ (sd .standing .ensures) _ (n7 .number-7 .ensures)
+    (c .if4 .taken)
+
+returns-5 : tie.Need-returns-5
+returns-5 c =
+    let n7 = c .before in
+    let sd = n7 .before in
+    let e6 = sd .before in
+    let n6 = e6 .before in
+    let e5 = n6 .before .before .before .before in
+    let n5 = e5 .before in
+    let e4 = n5 .before in
+    let n4 = e4 .before in
+    let k = n4 .before in
+    let st = k .before .before .before .before .before .before .before .before in
+    let a = st .args in
+    at-none (a .state) (a .tick) (now (a .lent)) (now (a .s)) (st .pre .0) (a .row) _ _ _ (known k) _ (n4 .number-4 .ensures)
+    (e4 .if1 .left) _ (n5 .number-5 .ensures) (e5 .if2 .left) _ (n6 .number-6 .ensures) (e6 .if3 .left) _ (sd .standing .ensures) _
+    (n7 .number-7 .ensures)
+    (c .if4 .left)
 
 pub on-frame-spec : {M : Type 1} → statement M
 on-frame-spec =
     tie.close
     (tie.spec
+    bodies-of-requires
+    sub-policy-facts
+    part-policy-facts-start
+    part-policy-facts-end
+    policy-facts-requires
+    sub-bag-facts
+    part-bag-facts-start
+    part-bag-facts-end
+    bag-facts-requires
     number-4-requires
     returns
-    bodies-of-requires
-    deletes-of-requires
-    sub-on-bodies
-    part-on-bodies-start
-    part-on-bodies-end
-    sub-on-bodies-2
-    part-on-bodies-start-2
-    part-on-bodies-end-2
-    on-bodies-requires
-    returns-2)
+    number-5-requires
+    returns-2
+    sub-number-6
+    part-number-6-start
+    part-number-6-end
+    sub-number-6-2
+    part-number-6-start-2
+    part-number-6-end-2
+    number-6-requires
+    returns-3
+    standing-requires
+    number-7-requires
+    returns-4
+    returns-5)

@@ -1,43 +1,112 @@
 use denote.Ref.{now}
-use Rattle.payloads.proofs.FoundLaws.{bodies-are}
+use native.Mathlib.Omega.{arith}
+use Prim.Native.Nat.{_-_}
+use lib.ListN.{length}
+use Rattle.payloads.proofs.FrameLaws.{long, short, starts-whole}
+use Rattle.payloads.proofs.StepLaws.{Step, reads-next, step}
+use Rattle.payloads.proofs.PayloadLaws.{PayloadWalk, payloads-start, payload-room, payload-next, payloads-end}
 use borrow.Author.Needs.{needs}
 use Rattle.payloads.proofs.bodies_of.Statement.{statement}
 use Rattle.payloads.proofs.bodies_of.Tie as tie
 
-first-of-kind-requires : tie.Need-first-of-kind-requires
-first-of-kind-requires c κs = search needs
+abbrev Inv-loop : tie.InvT-loop
+Inv-loop s b₀ kind₀ at₀ b kind at = PayloadWalk s b kind at
 
-first-of-kind-requires-2 : tie.Need-first-of-kind-requires-2
-first-of-kind-requires-2 c κs = search needs
+abbrev μ-loop : tie.MeasureT-loop
+μ-loop s b₀ kind₀ at₀ b kind at = length s - at
 
-count-of-kind-requires : tie.Need-count-of-kind-requires
-count-of-kind-requires c κs = search needs
+no-payloads-requires : tie.Need-no-payloads-requires Inv-loop μ-loop
+no-payloads-requires c κs = search needs
 
-count-of-kind-requires-2 : tie.Need-count-of-kind-requires-2
-count-of-kind-requires-2 c κs = search needs
+shared-slice-read-wide : tie.Need-shared-slice-read-wide Inv-loop μ-loop
+shared-slice-read-wide c = let d = c .before .before .before in omega (arith, long (now (d .args .s)) (d .pre))
 
-count-of-kind-requires-3 : tie.Need-count-of-kind-requires-3
-count-of-kind-requires-3 c κs = search needs
+wide-requires : tie.Need-wide-requires Inv-loop μ-loop
+wide-requires c κs = search needs
 
-has-unknown-critical-requires : tie.Need-has-unknown-critical-requires
-has-unknown-critical-requires c κs = search needs
+loop-holds : tie.Need-loop-holds Inv-loop μ-loop
+loop-holds c =
+    let d = c .before .before .before .before in
+    let s = now (d .args .s) in
+    payloads-start s (starts-whole s (d .pre)) (long s (d .pre)) _ (c .before .before .no-payloads .ensures) _ (c .wide .ensures .0)
 
-returns : tie.Need-returns
-returns c =
-    let first = c .before .before .before .before in
-    λ f q. bodies-are (now (c .before .before .before .before .before .before .before .args .s)) f q (first .before .first-of-kind .result)
-    (first .first-of-kind2 .result) (first .before .first-of-kind .ensures) (first .first-of-kind2 .ensures) _ _ _
-    (c .before .before .before .count-of-kind .ensures) (c .before .before .count-of-kind2 .ensures) (c .before .count-of-kind3 .ensures) _
-    (c .has-unknown-critical .ensures)
+sub-payload-parts : tie.Need-sub-payload-parts Inv-loop μ-loop
+sub-payload-parts c = search needs
+
+part-payload-parts-start : tie.Need-part-payload-parts-start Inv-loop μ-loop
+part-payload-parts-start c = search needs
+
+part-payload-parts-end : tie.Need-part-payload-parts-end Inv-loop μ-loop
+part-payload-parts-end c = search needs
+
+payload-parts-requires : tie.Need-payload-parts-requires Inv-loop μ-loop
+payload-parts-requires c κs =
+    let l = c .before .before .loop in
+    let s = now (c .before .before .before .before .before .before .before .args .s) in
+    (c .before .loop-test .taken, reads-next (l .kind) s (l .at) (l .inv .rest))
+
+one : (c : tie.After-payload-parts Inv-loop μ-loop)
+    → let l = c .before .before .before .loop in
+    Step (l .kind) (now (c .before .before .before .before .before .before .before .before .args .s)) (l .at) (c .payload-parts .result)
+one c =
+    let l = c .before .before .before .loop in
+    step (l .kind) (now (c .before .before .before .before .before .before .before .before .args .s)) (l .at) (c .payload-parts .result)
+    (l .inv .inside) (c .payload-parts .ensures)
+
+add-start : tie.Need-add-start Inv-loop μ-loop
+add-start c = let g = one c in record { fits = omega (arith, g .some, g .inside) }
+
+add-end : tie.Need-add-end Inv-loop μ-loop
+add-end c = let g = one (c .before) in record { fits = omega (arith, g .inside) }
+
+sub-with-payload : tie.Need-sub-with-payload Inv-loop μ-loop
+sub-with-payload c = let g = one (c .before) in omega (arith, g .some)
+
+part-with-payload-start : tie.Need-part-with-payload-start Inv-loop μ-loop
+part-with-payload-start c = let g = one (c .before) in omega (arith, g .some)
+
+part-with-payload-end : tie.Need-part-with-payload-end Inv-loop μ-loop
+part-with-payload-end c = let g = one (c .before) in omega (arith, g .inside)
+
+with-payload-requires : tie.Need-with-payload-requires Inv-loop μ-loop
+with-payload-requires c κs =
+    let p = c .before .before in
+    let l = p .before .before .before .loop in
+    let st = p .before .before .before .before .before .before .before .before in
+    payload-room (now (st .args .s)) (l .b) (l .kind) (l .at) (l .inv) _ (one p) (short (now (st .args .s)) (st .pre))
+
+loop-less : tie.Need-loop-less Inv-loop μ-loop
+loop-less c = let g = one (c .before .before .before) in omega (arith, g .some, g .inside)
+
+loop-again : tie.Need-loop-again Inv-loop μ-loop
+loop-again c =
+    let p = c .before .before .before in
+    let l = p .before .before .before .loop in
+    payload-next _ (l .b) (l .kind) (l .at) (l .inv) _ (one p) _ (c .with-payload .ensures)
+
+returns : tie.Need-returns Inv-loop μ-loop
+returns c = let l = c .before .loop in payloads-end _ (l .b) (l .kind) (l .at) (l .inv) (c .loop-test .left)
 
 pub bodies-of-spec : {M : Type 1} → statement M
 bodies-of-spec =
     tie.close
     (tie.spec
-    first-of-kind-requires
-    first-of-kind-requires-2
-    count-of-kind-requires
-    count-of-kind-requires-2
-    count-of-kind-requires-3
-    has-unknown-critical-requires
+    Inv-loop
+    μ-loop
+    no-payloads-requires
+    shared-slice-read-wide
+    wide-requires
+    loop-holds
+    sub-payload-parts
+    part-payload-parts-start
+    part-payload-parts-end
+    payload-parts-requires
+    add-start
+    add-end
+    sub-with-payload
+    part-with-payload-start
+    part-with-payload-end
+    with-payload-requires
+    loop-less
+    loop-again
     returns)

@@ -2,7 +2,7 @@
 use Prim.Native.Nat.{ℕ, _+_, _*_, _<_}
 use mathlib.Core.Path.{_≡_}
 use mathlib.Core.List.{List}
-use mathlib.Core.Bool.{not, _||_}
+use mathlib.Core.Bool.{Bool, not, cond, _||_}
 use lib.ListN.{length}
 use lib.Dec.{eqb}
 use Rattle.octets.specs.Numbers.{oct}
@@ -28,6 +28,13 @@ withOne d x = record {
   none = eqb (length (x .spis)) 0 || d .none;
   spis = d .spis + length (x .spis);
 }
+
+-- the same, with a payload more of a kind and with this body
+abbrev pub deletesWith : Deletes → ℕ → List ℕ → Deletes
+deletesWith d kind o = cond (eqb kind 42) (withOne d (deleteOf o)) d
+
+abbrev pub once : Bool → ℕ
+once b = cond b 1 0
 
 pub record IsDeletes (f : Frame) (r : Deletes) : Type 0 where
   pub other : r .other ≡ deleteOfOther f
