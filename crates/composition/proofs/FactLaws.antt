@@ -15,7 +15,7 @@ use Rattle.keys.proofs.Cases.{bool-cases}
 use Rattle.attributes.specs.Place.{inPolicy}
 use Rattle.attributes.specs.Layout.{attributes}
 use Rattle.attributes.specs.declared.tables.Place.the-variants as place
-use Rattle.policies.specs.Policy.{Policy, groupSa, groupWide, SaBody, groupSaOf, groupWideOf, spiOf, policies}
+use Rattle.policies.specs.Policy.{Policy, groupSa, groupWide, GroupWidePolicy, SaBody, groupSaOf, groupWideOf, spiOf, policies}
 use Rattle.policies.specs.Grammar.{IsSaBody}
 use Rattle.contents.specs.inner.Values.{isWhole, attributesIn}
 use Rattle.contents.specs.inner.Policies.{policiesIn}
@@ -24,8 +24,10 @@ use Rattle.clauses.specs.Contents.{gather, saOf, wideOf}
 use Rattle.clauses.specs.Fitness.{isEsp, isRekey}
 use Rattle.clauses.proofs.OneOf.{or-false, or-joined}
 use Rattle.suites.specs.inner.Adding.{once}
-use Rattle.composition.specs.inner.Facts.{ofSa, ofPolicy, saWith, AtMost, Holds, OfOne, noPolicies, together, Added, factsOf}
+use Rattle.composition.specs.inner.Facts.{givenBy, ofSa, ofPolicy, saWith, AtMost, Holds, OfOne, noPolicies, together, Added, factsOf}
+use Rattle.composition.specs.inner.Numbers.{greatest}
 use Rattle.composition.specs.declared.PolicyFacts.{PolicyFacts}
+use Rattle.composition.proofs.NumberLaws.{greater-none, none-greater, greater-joined, greatest-join}
 use Rattle.composition.proofs.WalkLaws.{PolicyAt, no-policy}
 
 -- ---- facts add up
@@ -46,10 +48,12 @@ from-none f =
       delays = f .delays;
       elsewhere = f .elsewhere;
       unfit = f .unfit;
+      delay = none-greater (f .delay) i;
+      initial = none-greater (f .initial) i;
     }
 
 none-left : (a : Bool) (f : PolicyFacts) → together f (factsOf a []) ≡ f
-unfolding any count gather
+unfolding any count gather greatest
 none-left a f =
     let s : f .sas + 0 ≡ f .sas = omega arith in
     let e : f .esps + 0 ≡ f .esps = omega arith in
@@ -66,6 +70,8 @@ none-left a f =
       delays = or-false (f .delays) i;
       elsewhere = or-false (f .elsewhere) i;
       unfit = or-false (f .unfit) i;
+      delay = greater-none (f .delay) i;
+      initial = greater-none (f .initial) i;
     }
 
 joined : (a b c : PolicyFacts) → together a (together b c) ≡ together (together a b) c
@@ -85,6 +91,8 @@ joined a b c =
       delays = or-joined (a .delays) (b .delays) (c .delays) i;
       elsewhere = or-joined (a .elsewhere) (b .elsewhere) (c .elsewhere) i;
       unfit = or-joined (a .unfit) (b .unfit) (c .unfit) i;
+      delay = greater-joined (a .delay) (b .delay) (c .delay) i;
+      initial = greater-joined (a .initial) (b .initial) (c .initial) i;
     }
 
 counted : (b : Bool) (n : ℕ) → cond b (n + 1) n ≡ once b + n
@@ -109,6 +117,8 @@ one-more a (groupSa p) l =
       delays = f .delays;
       elsewhere = f .elsewhere;
       unfit = f .unfit;
+      delay = sym (none-greater (f .delay)) i;
+      initial = greatest-join (givenBy p) (gather givenBy (gather saOf l)) i;
     }
 one-more a (groupWide w) l =
     let f = factsOf a (groupWide w ∷ l) in
@@ -127,6 +137,8 @@ one-more a (groupWide w) l =
       delays = f .delays;
       elsewhere = f .elsewhere;
       unfit = f .unfit;
+      delay = greatest-join (w .deactivationDelays) (gather (λ (x : GroupWidePolicy). x .deactivationDelays) (gather wideOf l)) i;
+      initial = sym (none-greater (f .initial)) i;
     }
 
 at-most : (n m k : ℕ) (f o g : PolicyFacts) → g ≡ together f o → AtMost n f → AtMost m o → n + m ≤ k → AtMost k g

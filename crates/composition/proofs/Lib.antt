@@ -1,4 +1,5 @@
 pub mod AddressLaws
 pub mod WalkLaws
 pub mod SaLaws
+pub mod NumberLaws
 pub mod FactLaws

@@ -1,10 +1,11 @@
-// The facts of the policies of a GSA payload that numbers 4 to 7 of document 01 ask for, in one walk.
+// The facts of the policies of a GSA payload that numbers 4 to 7 of document 01 and the member afterwards go by, in one walk.
 pub mod addresses;
+pub mod numbers;
 
 ghost use mathlib.Core.Path.{_≡_};
 ghost use mathlib.Core.Bool.{true};
 ghost use mathlib.Core.List.{List};
-ghost use Prim.Native.Nat.{ℕ};
+ghost use Prim.Native.Nat.{ℕ, _<_};
 ghost use Rattle.attributes.specs.Place.{inPolicy};
 ghost use Rattle.attributes.specs.Layout.{attributes};
 ghost use Rattle.attributes.specs.declared.tables.Place.the-variants.{GroupWidePolicy};
@@ -18,7 +19,11 @@ use attributes::tables::Place;
 use contents::policy::AH;
 use contents::policy::ESP;
 use contents::policy::REKEY;
-use contents::values::count_of;
+use numbers::Numbers;
+use numbers::greater_u16;
+use numbers::greater_u32;
+use numbers::if_so;
+use numbers::numbers_of;
 use suites::counts::one_if;
 
 // What the policies of a GSA payload have.
@@ -38,6 +43,10 @@ pub struct PolicyFacts {
     pub elsewhere: bool,
     // the transforms of a Group SA policy are not those that it must have
     pub unfit: bool,
+    // the deactivation delay of the group-wide policies and the first Message ID of the Rekey policies, 0 where they give none, the greatest
+    // where they give several
+    pub delay: u16,
+    pub initial: u32,
 }
 
 // Those of no policy.
@@ -55,12 +64,15 @@ fn no_policies() -> PolicyFacts
         delays: false,
         elsewhere: false,
         unfit: false,
+        delay: 0,
+        initial: 0,
     }
 }
 
-// Those of a group-wide policy with so many deactivation delays.
-fn of_wide(delays: usize) -> PolicyFacts
-    ensures { λ r. ⌜ r ≡ wideBy delays ⌝ }
+// Those of a group-wide policy with these deactivation delays.
+fn of_wide(n: Numbers) -> PolicyFacts
+    requires { ⌜ n .greatest < 65536 ⌝ }
+    ensures { λ r. ⌜ r ≡ wideBy n ⌝ }
 {
     PolicyFacts {
         sas: 0,
@@ -70,9 +82,11 @@ fn of_wide(delays: usize) -> PolicyFacts
         ah: false,
         lengths: false,
         ids: false,
-        delays: 1 < delays,
+        delays: 1 < n.count,
         elsewhere: false,
         unfit: false,
+        delay: n.greatest as u16,
+        initial: 0,
     }
 }
 
@@ -87,7 +101,7 @@ fn of_sa(authentication: bool, protocol: usize, o: &[u8]) -> PolicyFacts
     let t = p.transforms;
     let a = p.attributes;
     let u = suites::suite(&o[t..]);
-    let n = count_of(
+    let n = numbers_of(
         Meaning::InitialMessageId,
         attributes::tables::in_policy(protocol),
         &o[a..],
@@ -101,10 +115,12 @@ fn of_sa(authentication: bool, protocol: usize, o: &[u8]) -> PolicyFacts
         wides: 0,
         ah: protocol == AH,
         lengths: 0 < u.doubled,
-        ids: 1 < n,
+        ids: 1 < n.count,
         delays: false,
         elsewhere: (protocol == REKEY) & !group,
         unfit: !fit,
+        delay: 0,
+        initial: if_so(protocol == REKEY, n.greatest),
     }
 }
 
@@ -114,7 +130,7 @@ fn of_policy(authentication: bool, first: usize, o: &[u8]) -> PolicyFacts
     ensures { λ r. ⌜ OfOne authentication first (now (o .entry)) r ⌝ }
 {
     if first == 0 {
-        return of_wide(count_of(Meaning::DeactivationDelay, Place::GroupWidePolicy, o));
+        return of_wide(numbers_of(Meaning::DeactivationDelay, Place::GroupWidePolicy, o));
     }
     of_sa(authentication, first, o)
 }
@@ -124,17 +140,25 @@ fn together(a: PolicyFacts, b: PolicyFacts) -> PolicyFacts
     requires { ⌜ Added a b ⌝ }
     ensures { λ r. ⌜ r ≡ together a b ⌝ }
 {
+    let delay = greater_u16(a.delay, b.delay);
+    let initial = greater_u32(a.initial, b.initial);
+    let sas = a.sas + b.sas;
+    let esps = a.esps + b.esps;
+    let rekeys = a.rekeys + b.rekeys;
+    let wides = a.wides + b.wides;
     PolicyFacts {
-        sas: a.sas + b.sas,
-        esps: a.esps + b.esps,
-        rekeys: a.rekeys + b.rekeys,
-        wides: a.wides + b.wides,
+        sas,
+        esps,
+        rekeys,
+        wides,
         ah: a.ah | b.ah,
         lengths: a.lengths | b.lengths,
         ids: a.ids | b.ids,
         delays: a.delays | b.delays,
         elsewhere: a.elsewhere | b.elsewhere,
         unfit: a.unfit | b.unfit,
+        delay,
+        initial,
     }
 }
 

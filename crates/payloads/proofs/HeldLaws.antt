@@ -21,7 +21,8 @@ use Rattle.contents.specs.inner.Policies.{policiesIn}
 use Rattle.contents.specs.inner.Bags.{bagsIn}
 use Rattle.contents.proofs.ValuesLaws.{is-whole}
 use Rattle.clauses.specs.Contents.{gather, isGsa, isKd, hasGsa, hasKd, policiesIn as policiesOfOne, bagsIn as bagsOfOne, deletesIn}
-use Rattle.payloads.specs.inner.Bodies.{ofKind, FirstBody, no-body, a-body}
+use Rattle.payloads.specs.inner.Facts.{ofKind}
+use Rattle.payloads.proofs.KindLaws.{FirstBody, no-body, a-body}
 
 -- payloads whose contents are those of their kinds
 pub data Formed : List Payload → Type 0 where

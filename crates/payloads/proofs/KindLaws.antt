@@ -2,7 +2,7 @@
 use Prim.Native.Nat.{ℕ, _+_, _≤_}
 use mathlib.Core.Path.{_≡_, refl, ap, sym, _∙_, subst}
 use mathlib.Core.Logic.{_⊎_, inl, inr}
-use mathlib.Core.List.{List}
+use mathlib.Core.List.{List, [], _∷_}
 use mathlib.Core.Bool.{Bool, true, false, not, _&&_}
 use native.Mathlib.Omega.{arith}
 use borrow.Author.Tests.{eq-eqb, ne-eqb}
@@ -15,8 +15,13 @@ use Rattle.contents.specs.inner.Payloads.{payloadsIn}
 use Rattle.contents.specs.declared.payload.PayloadParts.{PayloadParts}
 use Rattle.clauses.specs.Number4.{unknownCritical}
 use Rattle.clauses.proofs.First.{count-yes, count-no, keep-yes, keep-no}
-use Rattle.payloads.specs.inner.Bodies.{ofKind, FirstBody, a-body}
+use Rattle.payloads.specs.inner.Facts.{ofKind}
 use Rattle.payloads.proofs.StepLaws.{Step}
+
+-- o is the body of the first of some payloads, which are of the kind k; where there is none, it is empty
+pub data FirstBody (k : ℕ) (o : List ℕ) : List Payload → Type 0 where
+  no-body : o ≡ [] → FirstBody k o []
+  a-body : {p : Payload} {l : List Payload} → IsContent k o (p .content) → FirstBody k o (p ∷ l)
 
 -- a count after a test: one more, or the same
 abbrev pub Counted : Type 0 → ℕ → ℕ → Type 0

@@ -1,42 +1,40 @@
 -- The walk over the payloads of a frame.
-use Prim.Native.Nat.{ℕ, _+_, _-_, _*_, _<_, _≤_}
+use Prim.Native.Nat.{ℕ, suc, _+_, _-_, _*_, _<_, _≤_}
 use mathlib.Core.Path.{_≡_, refl, ap, sym, _∙_, subst}
 use mathlib.Core.Logic.{inl, inr}
 use mathlib.Core.List.{List, [], _∷_}
 use mathlib.Core.Bool.{Bool, true, false, not, cond, _&&_, _||_}
 use native.Mathlib.Omega.{arith}
-use borrow.Author.Tests.{eqb-true, eqb-false, eq-eqb}
+use borrow.Author.Tests.{eqb-true, eqb-false}
 use lib.ListN.{length, drop}
 use lib.Dec.{eqb}
 use Rattle.octets.specs.Numbers.{oct}
-use Rattle.octets.specs.Walk.{part, whole}
-use Rattle.keys.specs.Lists.{any, count, keep}
+use Rattle.octets.specs.Walk.{part}
+use Rattle.keys.specs.Lists.{any, count}
 use Rattle.keys.proofs.Cases.{bool-cases}
+use Rattle.frames.specs.Header.{firstPayload}
 use Rattle.frames.specs.Delete.{Delete, deleteOf, deleteFits}
-use Rattle.frames.specs.Frame.{Frame, frame, Payload, isKnown, payloads, exactly}
+use Rattle.frames.specs.Frame.{Payload, isKnown, payloads, exactly}
 use Rattle.contents.specs.inner.Values.{isWhole}
 use Rattle.contents.specs.inner.Payloads.{payloadsIn}
 use Rattle.contents.specs.declared.Stretch.{Stretch}
 use Rattle.contents.specs.declared.payload.PayloadParts.{PayloadParts}
 use Rattle.clauses.specs.Number4.{unknownCritical}
 use Rattle.clauses.proofs.OneOf.{or-false, or-joined}
-use Rattle.payloads.specs.inner.Deletion.{once, withOne, deletesWith}
-use Rattle.payloads.specs.inner.Bodies.{payloadsOf, ofKind, FirstBody, no-body, FirstOfKind, noPayloads, withPayload, Room, Grown}
-use Rattle.payloads.specs.inner.Bodies.{IsBodies}
+use Rattle.payloads.specs.inner.Places.{nowhere, bodyFrom, bodyOf}
+use Rattle.payloads.specs.inner.Deletion.{once, withOne, deletesWith, deletesAmong}
+use Rattle.payloads.specs.inner.Facts.{payloadsOf, ofKind, factsOf, noPayloads, firstWith, withPayload, Room, Grown}
 use Rattle.payloads.specs.declared.deletion.Deletes.{Deletes}
-use Rattle.payloads.specs.declared.Bodies.{Bodies}
+use Rattle.payloads.specs.declared.PayloadFacts.{PayloadFacts}
 use Rattle.payloads.proofs.StepLaws.{Step, none-left}
-use Rattle.payloads.proofs.KindLaws.{count-next, keep-next, first-body, bit}
-use Rattle.payloads.proofs.DeletedLaws.{Sums, sums-start, deletesAmong, fits-here, sums-here, sums-later, sums-last, deletes-are}
-use Rattle.payloads.proofs.FoundLaws.{bodies-are}
+use Rattle.payloads.proofs.KindLaws.{count-next, bit}
+use Rattle.payloads.proofs.DeletedLaws.{Sums, sums-start, fits-here, sums-here, sums-later, sums-last, sums-all}
+use Rattle.payloads.proofs.BodyLaws.{nothing-from, body-here, body-later}
 
-abbrev nowhere : Stretch
-nowhere = record { start = 0; end = 0 }
-
--- n of a kind were passed, r is the body of the first of them, others are left
-pub record FirstSo (w : ℕ) (s : List ℕ) (n : ℕ) (r : Stretch) (left : List Payload) : Type 0 where
-  pub none : n ≡ 0 → (r ≡ nowhere) × (keep (ofKind w) left ≡ keep (ofKind w) (payloadsOf s))
-  pub some : (n ≡ 0 → ⊥) → FirstOfKind w s r
+-- n of a type were passed, x is where the body of the first of them stands; of those that are left it is sought with so much fuel
+pub record FirstSo (w : ℕ) (s : List ℕ) (n : ℕ) (x : Stretch) (fuel kind at : ℕ) : Type 0 where
+  pub none : n ≡ 0 → (x ≡ nowhere) × (bodyFrom fuel w kind at s ≡ bodyOf w s)
+  pub some : (n ≡ 0 → ⊥) → x ≡ bodyOf w s
 
 abbrev leftAt : List ℕ → ℕ → ℕ → List Payload
 leftAt s kind at = payloadsIn kind (drop at s)
@@ -57,35 +55,31 @@ module _ (w k : ℕ) (s : List ℕ) (at : ℕ) (r : PayloadParts) (g : Step k s 
   abbrev place : Stretch
   place = record { start = at + 4; end = at + r .end }
 
-  first-step : (n m : ℕ) (x y : Stretch) → m ≡ n + once (eqb k w) → y ≡ cond (eqb k w && eqb n 0) place x → FirstSo w s n x (leftAt s k at)
-      → FirstSo w s m y after
-  first-step n m x y e q f = bool-cases (eqb k w) this other
+  first-step : (fuel n m : ℕ) (x y : Stretch) → (k ≡ 0 → ⊥) → m ≡ n + once (eqb k w) → y ≡ firstWith (eqb k w) n place x
+      → FirstSo w s n x (suc fuel) k at → FirstSo w s m y fuel (r .next) (at + r .end)
+  first-step fuel n m x y z e q f = bool-cases (eqb k w) this other
     where
-      this : eqb k w ≡ true → FirstSo w s m y after
+      this : eqb k w ≡ true → FirstSo w s m y fuel (r .next) (at + r .end)
       this t =
           let one : m ≡ n + 1 = e ∙ ap (λ (b : Bool). n + once b) t in
           record {
-            none = λ z. absurd (omega arith);
-            some = λ z. bool-cases (eqb n 0)
+            none = λ v. absurd (omega arith);
+            some = λ v. bool-cases (eqb n 0)
                 (λ u.
-                let here : y ≡ place = q ∙ (λ i. cond (t i && u i) place x) in
-                subst (FirstOfKind w s) (sym here) (record {
-                  order = omega (arith, g .some);
-                  inside = g .inside;
-                  body = first-body w k s at r g (eqb-true k w t) (keep (ofKind w) (payloadsOf s)) (sym (f .none (eqb-true n 0 u) .1));
-                }))
-                (λ u. subst (FirstOfKind w s) (sym (q ∙ (λ i. cond (t i && u i) place x))) (f .some (eqb-false n 0 u)));
+                q ∙ (λ i. cond (t i && u i) place x) ∙ sym (body-here fuel w k s at r g z t)
+                ∙ f .none (eqb-true n 0 u) .1)
+                (λ u. q ∙ (λ i. cond (t i && u i) place x) ∙ f .some (eqb-false n 0 u));
           }
 
-      other : eqb k w ≡ false → FirstSo w s m y after
+      other : eqb k w ≡ false → FirstSo w s m y fuel (r .next) (at + r .end)
       other t =
-          let same : m ≡ n = e ∙ ap (λ (b : Bool). n + once b) t ∙ (let z : n + 0 ≡ n = omega arith in z) in
-          let kept : y ≡ x = q ∙ ap (λ (b : Bool). cond (b && eqb n 0) place x) t in
+          let same : m ≡ n = e ∙ ap (λ (b : Bool). n + once b) t ∙ (let v : n + 0 ≡ n = omega arith in v) in
+          let kept : y ≡ x = q ∙ ap (λ (b : Bool). firstWith b n place x) t in
           record {
-            none = λ z.
-                let p = f .none (sym same ∙ z) in
-                (kept ∙ p .0, sym (keep-next w k s at r g (eqb-false k w t)) ∙ p .1);
-            some = λ z. subst (FirstOfKind w s) (sym kept) (f .some (λ u. z (same ∙ u)));
+            none = λ v.
+                let p = f .none (sym same ∙ v) in
+                (kept ∙ p .0, sym (body-later fuel w k s at r g z t) ∙ p .1);
+            some = λ v. kept ∙ f .some (λ u. v (same ∙ u));
           }
 
 -- ---- the rest of what it says
@@ -111,7 +105,7 @@ module _ (k : ℕ) (s : List ℕ) (at : ℕ) (r : PayloadParts) (g : Step k s at
 
 -- ---- the walk: where it stands at a place
 module _ (s : List ℕ) where
-  pub record PayloadWalk (b : Bodies) (kind at : ℕ) : Type 0 where
+  pub record PayloadWalk (b : PayloadFacts) (kind at : ℕ) : Type 0 where
     pub inside : at ≤ length s
     pub rest : isWhole (exactly (payloads kind 0 (drop at s))) ≡ true
     pub few : (b .gsas ≤ at) × (b .kds ≤ at) × (b .deletes ≤ at) × (b .deletion .spis ≤ 65536 * at)
@@ -120,10 +114,13 @@ module _ (s : List ℕ) where
     pub deletes : b .deletes + count (ofKind 42) (leftAt s kind at) ≡ count (ofKind 42) (payloadsOf s)
     pub critical : (b .critical || any unknownCritical (leftAt s kind at)) ≡ any unknownCritical (payloadsOf s)
     pub deletion : Sums (b .deletion) (deletesAmong (leftAt s kind at)) (deletesAmong (payloadsOf s))
-    pub gsa : FirstSo 51 s (b .gsas) (b .gsa) (leftAt s kind at)
-    pub kd : FirstSo 52 s (b .kds) (b .kd) (leftAt s kind at)
+    pub fuel : ℕ
+    pub enough : length s ≤ at + fuel
+    pub gsa : FirstSo 51 s (b .gsas) (b .gsa) fuel kind at
+    pub kd : FirstSo 52 s (b .kds) (b .kd) fuel kind at
+    pub delete : FirstSo 42 s (b .deletes) (b .delete) fuel kind at
 
-  first-none : (w : ℕ) → FirstSo w s 0 nowhere (payloadsOf s)
+  first-none : (w : ℕ) → FirstSo w s 0 nowhere (length s) (firstPayload s) 28
   first-none w = record { none = λ z. (refl, refl); some = λ z. absurd (z refl) }
 
   none-passed : isWhole (exactly (payloads (oct s 16) 0 (drop 28 s))) ≡ true → 28 ≤ length s → PayloadWalk noPayloads (oct s 16) 28
@@ -136,16 +133,19 @@ module _ (s : List ℕ) where
     deletes = omega arith;
     critical = refl;
     deletion = sums-start (deletesAmong (payloadsOf s));
+    fuel = length s;
+    enough = omega arith;
     gsa = first-none 51;
     kd = first-none 52;
+    delete = first-none 42;
   }
 
-  pub payloads-start : isWhole (exactly (payloads (oct s 16) 0 (drop 28 s))) ≡ true → 28 ≤ length s → (b : Bodies) → b ≡ noPayloads
+  pub payloads-start : isWhole (exactly (payloads (oct s 16) 0 (drop 28 s))) ≡ true → 28 ≤ length s → (b : PayloadFacts) → b ≡ noPayloads
       → (k : ℕ) → k ≡ oct s 16 → PayloadWalk b k 28
   payloads-start e h b q k kq =
-      subst (λ (x : Bodies). PayloadWalk x k 28) (sym q) (subst (λ (n : ℕ). PayloadWalk noPayloads n 28) (sym kq) (none-passed e h))
+      subst (λ (x : PayloadFacts). PayloadWalk x k 28) (sym q) (subst (λ (n : ℕ). PayloadWalk noPayloads n 28) (sym kq) (none-passed e h))
 
-  module _ (b : Bodies) (kind at : ℕ) (w : PayloadWalk b kind at) where
+  module _ (b : PayloadFacts) (kind at : ℕ) (w : PayloadWalk b kind at) where
     module _ (r : PayloadParts) (g : Step kind s at r) where
       pub payload-room : length s ≤ 16384 → Room kind (part s (at + 4) (at + r .end)) b
       payload-room h = record {
@@ -156,10 +156,17 @@ module _ (s : List ℕ) where
         fits = fits-here kind s at r g;
       }
 
-      pub payload-next : (n : Bodies)
-          → (n ≡ withPayload b kind (r .critical) (place 0 kind s at r g) (part s (at + 4) (at + r .end))) × Grown b n
+      -- one step of the fuel is used
+      sought : (v n m : ℕ) (x y : Stretch) → (kind ≡ 0 → ⊥) → m ≡ n + once (eqb kind v) → y ≡ firstWith (eqb kind v) n (record { start = at + 4; end = at + r .end }) x
+          → FirstSo v s n x (w .fuel) kind at → FirstSo v s m y (w .fuel - 1) (r .next) (at + r .end)
+      sought v n m x y z e q f =
+          let u : w .fuel ≡ suc (w .fuel - 1) = omega (arith, w .enough, g .some, g .inside) in
+          first-step v kind s at r g (w .fuel - 1) n m x y z e q (subst (λ (l : ℕ). FirstSo v s n x l kind at) u f)
+
+      pub payload-next : (kind ≡ 0 → ⊥) → (n : PayloadFacts)
+          → (n ≡ withPayload b kind (r .critical) (record { start = at + 4; end = at + r .end }) (part s (at + 4) (at + r .end))) × Grown b n
           → PayloadWalk n (r .next) (at + r .end)
-      payload-next n (q, u) = record {
+      payload-next z n (q, u) = record {
         inside = g .inside;
         rest = g .rest;
         few = (
@@ -168,15 +175,19 @@ module _ (s : List ℕ) where
           omega (arith, w .few .2, u .deletes, g .some),
           omega (arith, w .few .3, u .spis, g .some),
         );
-        gsas = count-step 51 kind s at r g (b .gsas) (n .gsas) _ (ap (λ (x : Bodies). x .gsas) q) (w .gsas);
-        kds = count-step 52 kind s at r g (b .kds) (n .kds) _ (ap (λ (x : Bodies). x .kds) q) (w .kds);
-        deletes = count-step 42 kind s at r g (b .deletes) (n .deletes) _ (ap (λ (x : Bodies). x .deletes) q) (w .deletes);
-        critical = critical-step kind s at r g (b .critical) (n .critical) _ (ap (λ (x : Bodies). x .critical) q) (w .critical);
-        deletion = deletes-step kind s at r g (b .deletion) (n .deletion) _ (ap (λ (x : Bodies). x .deletion) q) (w .deletion);
-        gsa = first-step 51 kind s at r g (b .gsas) (n .gsas) (b .gsa) (n .gsa) (ap (λ (x : Bodies). x .gsas) q)
-            (ap (λ (x : Bodies). x .gsa) q) (w .gsa);
-        kd = first-step 52 kind s at r g (b .kds) (n .kds) (b .kd) (n .kd) (ap (λ (x : Bodies). x .kds) q)
-            (ap (λ (x : Bodies). x .kd) q) (w .kd);
+        gsas = count-step 51 kind s at r g (b .gsas) (n .gsas) _ (ap (λ (x : PayloadFacts). x .gsas) q) (w .gsas);
+        kds = count-step 52 kind s at r g (b .kds) (n .kds) _ (ap (λ (x : PayloadFacts). x .kds) q) (w .kds);
+        deletes = count-step 42 kind s at r g (b .deletes) (n .deletes) _ (ap (λ (x : PayloadFacts). x .deletes) q) (w .deletes);
+        critical = critical-step kind s at r g (b .critical) (n .critical) _ (ap (λ (x : PayloadFacts). x .critical) q) (w .critical);
+        deletion = deletes-step kind s at r g (b .deletion) (n .deletion) _ (ap (λ (x : PayloadFacts). x .deletion) q) (w .deletion);
+        fuel = w .fuel - 1;
+        enough = omega (arith, w .enough, g .some, g .inside);
+        gsa = sought 51 (b .gsas) (n .gsas) (b .gsa) (n .gsa) z (ap (λ (x : PayloadFacts). x .gsas) q) (ap (λ (x : PayloadFacts). x .gsa) q)
+            (w .gsa);
+        kd = sought 52 (b .kds) (n .kds) (b .kd) (n .kd) z (ap (λ (x : PayloadFacts). x .kds) q) (ap (λ (x : PayloadFacts). x .kd) q)
+            (w .kd);
+        delete = sought 42 (b .deletes) (n .deletes) (b .delete) (n .delete) z (ap (λ (x : PayloadFacts). x .deletes) q)
+            (ap (λ (x : PayloadFacts). x .delete) q) (w .delete);
       }
 
     module _ (z : kind ≡ 0) where
@@ -193,22 +204,23 @@ module _ (s : List ℕ) where
       all-critical =
           sym (or-false (b .critical)) ∙ ap (λ (l : List Payload). b .critical || any unknownCritical l) (sym none) ∙ w .critical
 
-      found : (v n : ℕ) (x : Stretch) → FirstSo v s n x (leftAt s kind at) → FirstOfKind v s x
-      unfolding keep
+      found : (v n : ℕ) (x : Stretch) → FirstSo v s n x (w .fuel) kind at → x ≡ bodyOf v s
       found v n x f =
           bool-cases (eqb n 0)
-          (λ t.
-          let p = f .none (eqb-true n 0 t) in
-          subst (FirstOfKind v s) (sym (p .0)) (record {
-            order = omega arith;
-            inside = omega arith;
-            body = subst (FirstBody v []) (sym (ap (keep (ofKind v)) none) ∙ p .1) (no-body refl);
-          }))
+          (λ t. let p = f .none (eqb-true n 0 t) in p .0 ∙ sym (nothing-from (w .fuel) v kind at s z) ∙ p .1)
           (λ t. f .some (eqb-false n 0 t))
 
-      pub payloads-end : (f : Frame) → frame s ≡ whole f [] → IsBodies s f b
-      payloads-end f q =
-          bodies-are s f q (b .gsa) (b .kd) (found 51 (b .gsas) (b .gsa) (w .gsa)) (found 52 (b .kds) (b .kd) (w .kd)) (b .gsas) (b .kds)
-          (b .deletes) (all-counted (b .gsas) 51 (w .gsas)) (all-counted (b .kds) 52 (w .kds)) (all-counted (b .deletes) 42 (w .deletes))
-          (b .critical) all-critical (b .deletion)
-          (deletes-are s f q (b .deletion) (sums-last (drop at s) kind (b .deletion) (deletesAmong (payloadsOf s)) z (w .deletion)))
+      pub payloads-end : b ≡ factsOf s
+      payloads-end =
+          let d = sums-all (b .deletion) (deletesAmong (payloadsOf s))
+          (sums-last (drop at s) kind (b .deletion) (deletesAmong (payloadsOf s)) z (w .deletion)) in
+          λ i. record {
+            gsas = all-counted (b .gsas) 51 (w .gsas) i;
+            kds = all-counted (b .kds) 52 (w .kds) i;
+            deletes = all-counted (b .deletes) 42 (w .deletes) i;
+            gsa = found 51 (b .gsas) (b .gsa) (w .gsa) i;
+            kd = found 52 (b .kds) (b .kd) (w .kd) i;
+            delete = found 42 (b .deletes) (b .delete) (w .delete) i;
+            critical = all-critical i;
+            deletion = d i;
+          }

@@ -1,2 +1,3 @@
+pub mod Places
 pub mod Deletion
-pub mod Bodies
+pub mod Facts

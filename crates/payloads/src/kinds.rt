@@ -1,13 +1,12 @@
-// Payloads by their kind, which is the type that the payload before them, or the header, names as the next.
+// Payloads by their type, which the payload before them names, or the header.
 ghost use mathlib.Core.Path.{_≡_};
-ghost use mathlib.Core.Bool.{cond, _&&_};
 ghost use Prim.Native.Nat.{_≤_};
-ghost use lib.Dec.{eqb};
 ghost use Rattle.frames.specs.Frame.{isKnown};
 ghost use Rattle.payloads.specs.inner.Deletion.{once};
+ghost use Rattle.payloads.specs.inner.Facts.{firstWith};
 use contents::Stretch;
 
-// Whether payloads of a kind are known: IDr, CERT, AUTH, N, D, GSA, KD. Internal.
+// Whether payloads of a type are known: IDr, CERT, AUTH, N, D, GSA, KD. Internal.
 pub fn is_known(kind: usize) -> bool
     ensures { λ r. ⌜ r ≡ isKnown kind ⌝ }
 {
@@ -33,9 +32,9 @@ pub fn one_if(b: bool) -> usize
     0
 }
 
-// The body of the first payload of a kind: this one, where it is of the kind and there was none before it. Internal.
-pub fn first(hit: bool, before: usize, known: Stretch, this: Stretch) -> Stretch
-    ensures { λ r. ⌜ r ≡ cond (hit && eqb before 0) this known ⌝ }
+// Where the first payload of a type stands: at this place, where it is one and there was none before it. Internal.
+pub fn first(hit: bool, before: usize, this: Stretch, known: Stretch) -> Stretch
+    ensures { λ r. ⌜ r ≡ firstWith hit before this known ⌝ }
 {
     if hit & (before == 0) {
         return this;

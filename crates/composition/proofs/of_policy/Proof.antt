@@ -1,20 +1,22 @@
 use denote.Ref.{now}
+use native.Mathlib.Omega.{arith}
+use mathlib.Core.Path.{refl}
 use Rattle.composition.proofs.SaLaws.{wide-one, sa-one}
 use borrow.Author.Needs.{needs}
 use Rattle.composition.proofs.of_policy.Statement.{statement}
 use Rattle.composition.proofs.of_policy.Tie as tie
 
-count-of-requires : tie.Need-count-of-requires
-count-of-requires c κs = c .before .before .pre .wide (c .if1 .taken)
+numbers-of-requires : tie.Need-numbers-of-requires
+numbers-of-requires c κs = (refl, c .before .before .pre .wide (c .if1 .taken))
 
 of-wide-requires : tie.Need-of-wide-requires
-of-wide-requires c κs = search needs
+of-wide-requires c κs = omega (arith, c .numbers-of .ensures .1)
 
 returns : tie.Need-returns
 returns c =
     let n = c .before in
     let a = n .before .before .before .args in
-    wide-one (a .authentication) (a .first) (now (a .o)) _ (n .before .if1 .taken) (n .count-of .result) (n .count-of .ensures)
+    wide-one (a .authentication) (a .first) (now (a .o)) _ (n .before .if1 .taken) (n .numbers-of .result) (n .numbers-of .ensures .0)
     (c .of-wide .ensures)
 
 of-sa-requires : tie.Need-of-sa-requires
@@ -28,4 +30,4 @@ returns-2 c =
     sa-one (b .args .authentication) (b .args .first) (now (b .args .o)) _ z (h .0) (h .1) (c .of-sa .ensures)
 
 pub of-policy-spec : {M : Type 1} → statement M
-of-policy-spec = tie.close (tie.spec count-of-requires of-wide-requires returns of-sa-requires returns-2)
+of-policy-spec = tie.close (tie.spec numbers-of-requires of-wide-requires returns of-sa-requires returns-2)

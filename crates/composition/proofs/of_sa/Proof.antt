@@ -1,5 +1,6 @@
 use denote.Ref.{now}
 use native.Mathlib.Omega.{arith}
+use mathlib.Core.Path.{refl}
 use lib.ListN.{drop}
 use Rattle.attributes.specs.Place.{inPolicy}
 use Rattle.policies.specs.Policy.{SaBody}
@@ -48,21 +49,23 @@ suite-requires c κs =
 in-policy-requires : tie.Need-in-policy-requires
 in-policy-requires c κs = search needs
 
-sub-count-of : tie.Need-sub-count-of
-sub-count-of c = own (c .before .before .before) .inside
+sub-numbers-of : tie.Need-sub-numbers-of
+sub-numbers-of c = own (c .before .before .before) .inside
 
-part-count-of-start : tie.Need-part-count-of-start
-part-count-of-start c = own (c .before .before .before) .inside
+part-numbers-of-start : tie.Need-part-numbers-of-start
+part-numbers-of-start c = own (c .before .before .before) .inside
 
-part-count-of-end : tie.Need-part-count-of-end
-part-count-of-end c = search needs
+part-numbers-of-end : tie.Need-part-numbers-of-end
+part-numbers-of-end c = search needs
 
-count-of-requires : tie.Need-count-of-requires
-count-of-requires c κs =
+numbers-of-requires : tie.Need-numbers-of-requires
+numbers-of-requires c κs =
     let d = c .before .before .before .before in
-    let b = d .before .before in
-    attributes-whole (b .args .protocol) (now (b .args .o)) (b .pre .0) (d .sa-parts .result) (own d) (c .before .in-policy .result)
-    (c .before .in-policy .ensures)
+    let b = d .before .before in (
+      refl,
+      attributes-whole (b .args .protocol) (now (b .args .o)) (b .pre .0) (d .sa-parts .result) (own d) (c .before .in-policy .result)
+          (c .before .in-policy .ensures),
+    )
 
 sub-is-group-address : tie.Need-sub-is-group-address
 sub-is-group-address c = own (c .before .before .before .before .before) .order
@@ -87,9 +90,12 @@ one-if-requires c κs = search needs
 one-if-requires-2 : tie.Need-one-if-requires-2
 one-if-requires-2 c κs = search needs
 
+if-so-requires : tie.Need-if-so-requires
+if-so-requires c κs = search needs
+
 returns : tie.Need-returns
 returns c x spi i =
-    let k = c .before in
+    let k = c .before .before .before in
     let t = k .before .before in
     let g = t .before in
     let n = g .before .before in
@@ -102,9 +108,9 @@ returns c x spi i =
     let r = d .sa-parts .result in
     of-sa-is (a .protocol) o x r f (p .in-policy .result) (p .in-policy .ensures) (a .authentication) spi (u .suite .result)
     (u .suite .ensures (x .suite .transforms) (drop (r .attributes) o) (transforms-are (inPolicy (a .protocol)) o x r f))
-    (n .count-of .result) (n .count-of .ensures) (g .is-group-address .result)
+    (n .numbers-of .result) (n .numbers-of .ensures .0) (g .is-group-address .result)
     (g .is-group-address .ensures (x .destination) (f .destination)) (t .is-fit .result) (t .is-fit .ensures) (k .before .one-if .result)
-    (k .one-if2 .result) (k .before .one-if .ensures) (k .one-if2 .ensures)
+    (k .one-if2 .result) (k .before .one-if .ensures) (k .one-if2 .ensures) (c .if-so .result) (c .if-so .ensures)
 
 pub of-sa-spec : {M : Type 1} → statement M
 of-sa-spec =
@@ -116,10 +122,10 @@ of-sa-spec =
     part-suite-end
     suite-requires
     in-policy-requires
-    sub-count-of
-    part-count-of-start
-    part-count-of-end
-    count-of-requires
+    sub-numbers-of
+    part-numbers-of-start
+    part-numbers-of-end
+    numbers-of-requires
     sub-is-group-address
     part-is-group-address-start
     part-is-group-address-end
@@ -127,4 +133,5 @@ of-sa-spec =
     is-fit-requires
     one-if-requires
     one-if-requires-2
+    if-so-requires
     returns)

@@ -1,9 +1,10 @@
 -- The facts of the policies of a GSA payload: of one policy, of all policies. Each is what a clause of numbers 4 to 7 asks of the frame's
--- policies, in the clause's own words. Whether transforms are fit goes by the exchange, which has the controller's authentication or not.
+-- policies, in the clause's own words, or what the member afterwards goes by. Whether transforms are fit goes by the exchange, which has
+-- the controller's authentication or not.
 use Prim.Native.Nat.{ℕ, _+_, _<_, _≤_}
 use mathlib.Core.Path.{_≡_}
-use mathlib.Core.List.{List}
-use mathlib.Core.Bool.{Bool, true, false, not, _&&_, _||_}
+use mathlib.Core.List.{List, []}
+use mathlib.Core.Bool.{Bool, true, false, not, cond, _&&_, _||_}
 use lib.ListN.{length}
 use lib.Dec.{ltb, eqb}
 use Rattle.keys.specs.Lists.{any, count}
@@ -18,9 +19,15 @@ use Rattle.clauses.specs.Contents.{several, gather, saOf, wideOf}
 use Rattle.clauses.specs.Fitness.{ah, isEsp, isRekey, oneGroupAddress, transformsFit}
 use Rattle.clauses.specs.Number4.{twiceInTransform}
 use Rattle.suites.specs.inner.Adding.{once}
+use Rattle.composition.specs.inner.Numbers.{greater, greatest}
+use Rattle.composition.specs.declared.numbers.Numbers.{Numbers}
 use Rattle.composition.specs.declared.PolicyFacts.{PolicyFacts}
 
 -- ---- one policy
+-- the first Message IDs that a Rekey policy gives its SA
+abbrev pub givenBy : GroupSaPolicy → List ℕ
+givenBy p = cond (isRekey p) (p .initialMessageIds) []
+
 abbrev pub ofSa : Bool → GroupSaPolicy → PolicyFacts
 ofSa authentication p = record {
   sas = 1;
@@ -33,10 +40,12 @@ ofSa authentication p = record {
   delays = false;
   elsewhere = isRekey p && not (oneGroupAddress (p .destination));
   unfit = not (transformsFit authentication p);
+  delay = 0;
+  initial = greatest (givenBy p);
 }
 
--- a group-wide policy with so many deactivation delays
-abbrev pub wideBy : ℕ → PolicyFacts
+-- a group-wide policy with these deactivation delays
+abbrev pub wideBy : Numbers → PolicyFacts
 wideBy n = record {
   sas = 0;
   esps = 0;
@@ -45,14 +54,17 @@ wideBy n = record {
   ah = false;
   lengths = false;
   ids = false;
-  delays = ltb 1 n;
+  delays = ltb 1 (n .count);
   elsewhere = false;
   unfit = false;
+  delay = n .greatest;
+  initial = 0;
 }
 
 abbrev pub ofPolicy : Bool → Policy → PolicyFacts
 ofPolicy authentication (groupSa p) = ofSa authentication p
-ofPolicy authentication (groupWide w) = wideBy (length (w .deactivationDelays))
+ofPolicy authentication (groupWide w) =
+    wideBy (record { count = length (w .deactivationDelays); greatest = greatest (w .deactivationDelays) })
 
 -- the Group SA policy of a protocol with this SPI that holds x after it
 abbrev pub saWith : ℕ → List ℕ → SaBody → GroupSaPolicy
@@ -95,6 +107,8 @@ noPolicies = record {
   delays = false;
   elsewhere = false;
   unfit = false;
+  delay = 0;
+  initial = 0;
 }
 
 abbrev pub together : PolicyFacts → PolicyFacts → PolicyFacts
@@ -109,6 +123,8 @@ together a b = record {
   delays = a .delays || b .delays;
   elsewhere = a .elsewhere || b .elsewhere;
   unfit = a .unfit || b .unfit;
+  delay = greater (a .delay) (b .delay);
+  initial = greater (a .initial) (b .initial);
 }
 
 -- the sums can be had
@@ -131,4 +147,6 @@ factsOf authentication l = record {
   delays = any (λ (w : GroupWidePolicy). several (w .deactivationDelays)) (gather wideOf l);
   elsewhere = any (λ (p : GroupSaPolicy). isRekey p && not (oneGroupAddress (p .destination))) (gather saOf l);
   unfit = any (λ (p : GroupSaPolicy). not (transformsFit authentication p)) (gather saOf l);
+  delay = greatest (gather (λ (w : GroupWidePolicy). w .deactivationDelays) (gather wideOf l));
+  initial = greatest (gather givenBy (gather saOf l));
 }

@@ -11,6 +11,9 @@ first-requires c κs = search needs
 first-requires-2 : tie.Need-first-requires-2
 first-requires-2 c κs = search needs
 
+first-requires-3 : tie.Need-first-requires-3
+first-requires-3 c κs = search needs
+
 with-payload-requires : tie.Need-with-payload-requires
 with-payload-requires c κs = search needs
 
@@ -20,45 +23,50 @@ is-known-requires c κs = search needs
 one-if-requires : tie.Need-one-if-requires
 one-if-requires c κs = search needs
 
+add-gsas : tie.Need-add-gsas
+add-gsas c =
+    let n = c .before in
+    let st = n .before .before .before .before .before .before .before .before .before .before .before in
+    record { fits = omega (arith, n .one-if .ensures .1, st .pre .gsas) }
+
 one-if-requires-2 : tie.Need-one-if-requires-2
 one-if-requires-2 c κs = search needs
+
+add-kds : tie.Need-add-kds
+add-kds c =
+    let n = c .before in
+    let st = n .before .before .before .before .before .before .before .before .before .before .before .before .before in
+    record { fits = omega (arith, n .one-if2 .ensures .1, st .pre .kds) }
 
 one-if-requires-3 : tie.Need-one-if-requires-3
 one-if-requires-3 c κs = search needs
 
-add-t17 : tie.Need-add-t17
-add-t17 c = search needs
-
-add-t18 : tie.Need-add-t18
-add-t18 c =
-    let n = c .before .before .before in
-    let st = n .before .before .before .before .before .before .before .before .before .before in
-    record { fits = omega (arith, n .one-if2 .ensures .1, st .pre .kds) }
-
-add-t21 : tie.Need-add-t21
-add-t21 c =
-    let n = c .before .before .before .before in
-    let st = n .before .before .before .before .before .before .before .before .before .before .before in
+add-deletes : tie.Need-add-deletes
+add-deletes c =
+    let n = c .before in
+    let st = n .before .before .before .before .before .before .before .before .before .before .before .before .before .before .before in
     record { fits = omega (arith, n .one-if3 .ensures .1, st .pre .deletes) }
 
 returns : tie.Need-returns
 returns c =
-    let n3 = c .before .before .before .before in
-    let n2 = n3 .before in
-    let n1 = n2 .before in
+    let n3 = c .before .before in
+    let n2 = n3 .before .before in
+    let n1 = n2 .before .before in
     let known = n1 .before in
     let d = known .before in
-    let k = d .before in
+    let x = d .before in
+    let k = x .before in
     let g = k .before in
-    let a = g .before .before .before .before .before .args in
+    let a = g .before .before .before .before .before .before .args in
     let b = a .b in (
       (λ i. record {
         gsas = b .gsas + n1 .one-if .ensures .0 i;
         kds = b .kds + n2 .one-if2 .ensures .0 i;
-        critical = b .critical || (a .critical && not (known .is-known .ensures i));
+        deletes = b .deletes + n3 .one-if3 .ensures .0 i;
         gsa = g .first .ensures i;
         kd = k .first2 .ensures i;
-        deletes = b .deletes + n3 .one-if3 .ensures .0 i;
+        delete = x .first3 .ensures i;
+        critical = b .critical || (a .critical && not (known .is-known .ensures i));
         deletion = d .with-payload .ensures .0 i;
       }),
       record {
@@ -75,12 +83,13 @@ with-payload-spec =
     (tie.spec
     first-requires
     first-requires-2
+    first-requires-3
     with-payload-requires
     is-known-requires
     one-if-requires
+    add-gsas
     one-if-requires-2
+    add-kds
     one-if-requires-3
-    add-t17
-    add-t18
-    add-t21
+    add-deletes
     returns)

@@ -6,8 +6,8 @@ use Rattle.payloads.proofs.FrameLaws.{long, short, starts-whole}
 use Rattle.payloads.proofs.StepLaws.{Step, reads-next, step}
 use Rattle.payloads.proofs.PayloadLaws.{PayloadWalk, payloads-start, payload-room, payload-next, payloads-end}
 use borrow.Author.Needs.{needs}
-use Rattle.payloads.proofs.bodies_of.Statement.{statement}
-use Rattle.payloads.proofs.bodies_of.Tie as tie
+use Rattle.payloads.proofs.payload_facts.Statement.{statement}
+use Rattle.payloads.proofs.payload_facts.Tie as tie
 
 abbrev Inv-loop : tie.InvT-loop
 Inv-loop s b₀ kind₀ at₀ b kind at = PayloadWalk s b kind at
@@ -82,13 +82,13 @@ loop-again : tie.Need-loop-again Inv-loop μ-loop
 loop-again c =
     let p = c .before .before .before in
     let l = p .before .before .before .loop in
-    payload-next _ (l .b) (l .kind) (l .at) (l .inv) _ (one p) _ (c .with-payload .ensures)
+    payload-next _ (l .b) (l .kind) (l .at) (l .inv) _ (one p) (p .before .before .loop-test .taken) _ (c .with-payload .ensures)
 
 returns : tie.Need-returns Inv-loop μ-loop
 returns c = let l = c .before .loop in payloads-end _ (l .b) (l .kind) (l .at) (l .inv) (c .loop-test .left)
 
-pub bodies-of-spec : {M : Type 1} → statement M
-bodies-of-spec =
+pub payload-facts-spec : {M : Type 1} → statement M
+payload-facts-spec =
     tie.close
     (tie.spec
     Inv-loop
