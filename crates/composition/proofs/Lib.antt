@@ -3,3 +3,4 @@ pub mod WalkLaws
 pub mod SaLaws
 pub mod NumberLaws
 pub mod FactLaws
+pub mod GivenLaws

@@ -7,14 +7,14 @@ use mathlib.Core.List.{List}
 use borrow.Author.Tests.{ltb-false}
 use Rattle.keys.specs.Lists.{count}
 use Rattle.frames.specs.Frame.{Frame}
-use Rattle.payloads.specs.declared.Bodies.{Bodies}
-use Rattle.payloads.specs.inner.Bodies.{IsBodies}
+use Rattle.payloads.specs.declared.PayloadFacts.{PayloadFacts}
+use Rattle.payloads.proofs.FoundLaws.{OfFrame}
 use Rattle.clauses.specs.Contents.{hasGsa, hasKd}
 use Rattle.clauses.specs.Number4.{twoGsa, twoKd, four-ofFrame}
 use Rattle.clauses.specs.Refusals.{four, applies}
 use Rattle.clauses.proofs.Clear.{clause-of-frame}
 
-module _ (s : List ℕ) (f : Frame) (b : Bodies) (is : IsBodies s f b) (none : false ≡ applies (four f)) where
+module _ (s : List ℕ) (f : Frame) (b : PayloadFacts) (is : OfFrame s f b) (none : false ≡ applies (four f)) where
   pub one-gsa-at-most : b .gsas ≤ 1
   unfolding twoGsa four-ofFrame
   one-gsa-at-most =

@@ -20,12 +20,12 @@ use Rattle.clauses.specs.Number7.{manyEspPolicies, manyWrapKeys, manySaKeys, ma
 use Rattle.clauses.specs.Refusals.{one, five, seven, applies}
 use Rattle.clauses.proofs.OneOf.{or-false, one-append}
 use Rattle.payloads.specs.declared.deletion.Deletes.{Deletes}
-use Rattle.payloads.specs.inner.Deletion.{IsDeletes}
+use Rattle.payloads.proofs.FoundLaws.{IsDeletes}
 use Rattle.composition.specs.declared.PolicyFacts.{PolicyFacts}
 use Rattle.composition.specs.inner.Facts.{factsOf as policyFacts}
 use Rattle.bagkeys.specs.declared.BagFacts.{BagFacts}
 use Rattle.bagkeys.specs.inner.Facts.{factsOf as bagFacts}
-use Rattle.judging.specs.inner.Tests.{fiveBy, sevenBy}
+use Rattle.judging.specs.inner.Tests.{fiveOf, sevenOf}
 
 -- so many and so many more
 pub over-already : (n m : ℕ) → limits .sas < n → true ≡ ltb (limits .sas) (n + m)
@@ -38,14 +38,14 @@ over-with n m h =
 
 module _ (f : Frame) (row : Exchange) (e : rowOf f ≡ row) (d : Deletes) (is : IsDeletes f d) (p : PolicyFacts) (k : BagFacts)
     (pq : p ≡ policyFacts (rowOf f .authentication) (policiesOf f)) (kq : k ≡ bagFacts limits (bagsOf f)) where
-  pub five-is : (lent : List ℕ) → one (fiveBy row (length lent) d p k) ≡ applies (five lent f)
+  pub five-is : (lent : List ℕ) → one (fiveOf row (length lent) d p k) ≡ applies (five lent f)
   unfolding one ahPolicy ahBag otherTransforms lentKeySize five-ofFrame
   five-is lent =
       (λ i. one (pq i .ah ∷ kq i .ah ∷ pq i .unfit ∷ is .other i ∷ is .none i ∷ (sym e i .lent && not (sizeOf 13 (length lent))) ∷ []))
       ∙ sym (or-false (one (five-ofFrame lent f)))
 
   pub seven-is : (state : State) (now n : ℕ) → n ≡ length (standing now state)
-      → one (sevenBy limits d p k n) ≡ applies (seven limits state now f)
+      → one (sevenOf limits d p k n) ≡ applies (seven limits state now f)
   unfolding manyEspPolicies manyWrapKeys manySaKeys manyDeletedSpis manySas seven-ofFrame seven-ofMember
   seven-is state now n nq =
       (λ i. one (ltb (limits .espPolicies) (pq i .esps) ∷ ltb (limits .wrapKeys) (kq i .wraps) ∷ kq i .overfull

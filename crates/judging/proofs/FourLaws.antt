@@ -23,13 +23,13 @@ use Rattle.clauses.specs.Refusals.{one, applies, four}
 use Rattle.clauses.proofs.First.{any-no, count-yes, count-no}
 use Rattle.clauses.proofs.OneOf.{or-false, one-at}
 use Rattle.clauses.proofs.Gather.{any-count}
-use Rattle.payloads.specs.declared.Bodies.{Bodies}
-use Rattle.payloads.specs.inner.Bodies.{IsBodies}
+use Rattle.payloads.specs.declared.PayloadFacts.{PayloadFacts}
+use Rattle.payloads.proofs.FoundLaws.{OfFrame}
 use Rattle.composition.specs.declared.PolicyFacts.{PolicyFacts}
 use Rattle.composition.specs.inner.Facts.{factsOf as policyFacts}
 use Rattle.bagkeys.specs.declared.BagFacts.{BagFacts}
 use Rattle.bagkeys.specs.inner.Facts.{factsOf as bagFacts}
-use Rattle.judging.specs.inner.Tests.{fourBy}
+use Rattle.judging.specs.inner.Tests.{fourOf}
 
 -- A GSA WITH NO SA POLICY, where there is one GSA at most
 holds-none : (c : Content) → isGsa c ≡ false → policiesOfOne c ≡ []
@@ -84,7 +84,7 @@ one-gsa (p ∷ l) h =
     later-without p l e ∙ one-gsa l (omega arith) ∙ (λ i. ltb 0 (sym c i) && not (withSa (sym q i))))
 
 -- THE TESTS
-module _ (s : List ℕ) (f : Frame) (b : Bodies) (is : IsBodies s f b) (row : Exchange) (e : rowOf f ≡ row) (p : PolicyFacts) (k : BagFacts)
+module _ (s : List ℕ) (f : Frame) (b : PayloadFacts) (is : OfFrame s f b) (row : Exchange) (e : rowOf f ≡ row) (p : PolicyFacts) (k : BagFacts)
     (pq : p ≡ policyFacts (row .authentication) (policiesIn (part s (b .gsa .start) (b .gsa .end))))
     (kq : k ≡ bagFacts limits (bagsIn (part s (b .kd .start) (b .kd .end)))) where
   -- with one GSA and one KD at most, the facts of their bodies are the frame's
@@ -105,7 +105,7 @@ module _ (s : List ℕ) (f : Frame) (b : Bodies) (is : IsBodies s f b) (row : Ex
   without-sa h =
       (λ i. ltb 0 (is .gsas i) && not (ltb 0 (policies-are h i .sas))) ∙ sym (one-gsa (f .payloads) (omega (arith, is .gsas)))
 
-  as-clauses : b .gsas ≤ 1 → b .kds ≤ 1 → fourBy row b p k ≡ four-ofFrame f
+  as-clauses : b .gsas ≤ 1 → b .kds ≤ 1 → fourOf row b p k ≡ four-ofFrame f
   unfolding four-ofFrame barredMemberBag barredDelete twoGsa twoKd gsaWithoutKd kdWithoutGsa neither severalRekeyPolicies severalGroupWide
       severalMemberBags keyLengthTwice initialMessageIdTwice delayTwice otherDestination
   as-clauses g h = λ i.
@@ -116,19 +116,19 @@ module _ (s : List ℕ) (f : Frame) (b : Bodies) (is : IsBodies s f b) (row : Ex
       ∷ policies-are g i .lengths ∷ policies-are g i .ids ∷ policies-are g i .delays ∷ policies-are g i .elsewhere ∷ []
 
   -- with two of them, both apply
-  two-gsas : ltb 1 (b .gsas) ≡ true → one (fourBy row b p k) ≡ applies (four f)
+  two-gsas : ltb 1 (b .gsas) ≡ true → one (fourOf row b p k) ≡ applies (four f)
   unfolding four-ofFrame twoGsa
   two-gsas h =
       let t : twoGsa f ≡ true = ap (ltb 1) (sym (is .gsas)) ∙ h in
-      one-at 3 (fourBy row b p k) h ∙ sym (ap (λ (x : Bool). x || one []) (one-at 3 (four-ofFrame f) t))
+      one-at 3 (fourOf row b p k) h ∙ sym (ap (λ (x : Bool). x || one []) (one-at 3 (four-ofFrame f) t))
 
-  two-kds : ltb 1 (b .kds) ≡ true → one (fourBy row b p k) ≡ applies (four f)
+  two-kds : ltb 1 (b .kds) ≡ true → one (fourOf row b p k) ≡ applies (four f)
   unfolding four-ofFrame twoKd
   two-kds h =
       let t : twoKd f ≡ true = ap (ltb 1) (sym (is .kds)) ∙ h in
-      one-at 4 (fourBy row b p k) h ∙ sym (ap (λ (x : Bool). x || one []) (one-at 4 (four-ofFrame f) t))
+      one-at 4 (fourOf row b p k) h ∙ sym (ap (λ (x : Bool). x || one []) (one-at 4 (four-ofFrame f) t))
 
-  pub four-is : one (fourBy row b p k) ≡ applies (four f)
+  pub four-is : one (fourOf row b p k) ≡ applies (four f)
   unfolding one
   four-is =
       lt-cases 1 (b .gsas) (λ g. two-gsas (lt-ltb 1 (b .gsas) g))

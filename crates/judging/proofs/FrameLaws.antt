@@ -1,10 +1,10 @@
 -- The facts of a frame, and the number that the tests over them give.
 use Prim.Native.Nat.{ℕ, _≤_}
-use mathlib.Core.Path.{_≡_, sym, _∙_}
+use mathlib.Core.Path.{_≡_, ap, sym, _∙_}
 use mathlib.Core.List.{List, [], _∷_}
 use mathlib.Core.Bool.{Bool, true, false}
 use lib.ListN.{length}
-use Rattle.octets.specs.Walk.{part, whole}
+use Rattle.octets.specs.Walk.{whole}
 use Rattle.keys.specs.Limits.{limits}
 use Rattle.table.specs.Table.{sasOf}
 use Rattle.table.specs.inner.Changes.{standingCount}
@@ -15,15 +15,18 @@ use Rattle.contents.specs.inner.Policies.{policiesIn}
 use Rattle.contents.specs.inner.Bags.{bagsIn}
 use Rattle.clauses.specs.Contents.{rowOf, policiesOf, bagsOf}
 use Rattle.clauses.specs.Refusals.{one, four, five, six, seven, applies, judged, onFrame}
-use Rattle.payloads.specs.declared.Bodies.{Bodies}
+use Rattle.payloads.specs.declared.PayloadFacts.{PayloadFacts}
 use Rattle.payloads.specs.declared.deletion.Deletes.{Deletes}
-use Rattle.payloads.specs.inner.Bodies.{IsBodies}
+use Rattle.payloads.specs.inner.Facts.{factsOf as payloadFacts}
+use Rattle.payloads.proofs.FoundLaws.{OfFrame, facts-of}
 use Rattle.composition.specs.declared.PolicyFacts.{PolicyFacts}
 use Rattle.composition.specs.inner.Facts.{factsOf as policyFacts}
 use Rattle.bagkeys.specs.declared.BagFacts.{BagFacts}
 use Rattle.bagkeys.specs.inner.Facts.{factsOf as bagFacts}
 use Rattle.pairing.specs.inner.Names.{Name, Names}
 use Rattle.pairing.proofs.NamesOf.{policyNames, policy-names, bagNames, bag-names}
+use Rattle.judging.specs.declared.facts.Facts.{Facts}
+use Rattle.judging.specs.inner.Facts.{at, factsOf}
 use Rattle.judging.specs.inner.Tests.{fourBy, fiveBy, sixBy, sevenBy}
 use Rattle.judging.proofs.OrderLaws.{applying, passing, none-judged, stand}
 use Rattle.judging.proofs.BodiesLaws.{one-gsa-at-most, one-kd-at-most}
@@ -31,68 +34,87 @@ use Rattle.judging.proofs.FourLaws.{policies-are, bags-are, four-is}
 use Rattle.judging.proofs.FiveLaws.{five-is, seven-is}
 use Rattle.judging.proofs.SixLaws.{six-is}
 
-abbrev pub gsaIn : List ℕ → Bodies → List ℕ
-gsaIn s b = part s (b .gsa .start) (b .gsa .end)
+module _ (state : State) (tick : ℕ) (lent s : List ℕ) (few : state .table .count ≤ limits .sas) (row : Exchange) (x : Facts)
+    (w : x ≡ factsOf (row .authentication) s) where
+  abbrev b : PayloadFacts
+  b = x .payloads
 
-abbrev pub kdIn : List ℕ → Bodies → List ℕ
-kdIn s b = part s (b .kd .start) (b .kd .end)
+  abbrev p : PolicyFacts
+  p = x .policies
 
--- what the walks found
-pub record FrameFacts (s : List ℕ) (row : Exchange) (b : Bodies) (p : PolicyFacts) (k : BagFacts) : Type 0 where
-  pub bodies : (f : Frame) → frame s ≡ whole f [] → IsBodies s f b
-  pub policies : p ≡ policyFacts (row .authentication) (policiesIn (gsaIn s b))
-  pub bags : k ≡ bagFacts limits (bagsIn (kdIn s b))
+  abbrev k : BagFacts
+  k = x .bags
 
-module _ (state : State) (tick : ℕ) (lent s : List ℕ) (few : state .table .count ≤ limits .sas) (row : Exchange) (b : Bodies)
-    (p : PolicyFacts) (k : BagFacts) (w : FrameFacts s row b p k) where
   abbrev d : Deletes
   d = b .deletion
 
+  abbrev gsaIn : List ℕ
+  gsaIn = at s (b .gsa)
+
+  abbrev kdIn : List ℕ
+  kdIn = at s (b .kd)
+
+  -- what the walks found
+  bodies-are : b ≡ payloadFacts s
+  bodies-are = ap (λ (y : Facts). y .payloads) w
+
+  policies-in : p ≡ policyFacts (row .authentication) (policiesIn gsaIn)
+  policies-in =
+      ap (λ (y : Facts). y .policies) w
+      ∙ ap (λ (y : PayloadFacts). policyFacts (row .authentication) (policiesIn (at s (y .gsa)))) (sym bodies-are)
+
+  bags-in : k ≡ bagFacts limits (bagsIn kdIn)
+  bags-in =
+      ap (λ (y : Facts). y .bags) w ∙ ap (λ (y : PayloadFacts). bagFacts limits (bagsIn (at s (y .kd)))) (sym bodies-are)
+
+  pub its-payloads : (f : Frame) → frame s ≡ whole f [] → OfFrame s f (x .payloads)
+  its-payloads f q = facts-of s b bodies-are f q
+
   -- ---- each number of a frame that reads so
   module _ (f : Frame) (q : frame s ≡ whole f []) (e : rowOf f ≡ row) where
-    four-at : (x : Bool) → x ≡ one (fourBy row b p k) → x ≡ applies (four f)
-    four-at x h = h ∙ four-is s f b (w .bodies f q) row e p k (w .policies) (w .bags)
+    four-at : (y : Bool) → y ≡ one (fourBy row x) → y ≡ applies (four f)
+    four-at y h = h ∙ four-is s f b (its-payloads f q) row e p k policies-in bags-in
 
     module _ (none : false ≡ applies (four f)) where
       gsas : b .gsas ≤ 1
-      gsas = one-gsa-at-most s f b (w .bodies f q) none
+      gsas = one-gsa-at-most s f b (its-payloads f q) none
 
       kds : b .kds ≤ 1
-      kds = one-kd-at-most s f b (w .bodies f q) none
+      kds = one-kd-at-most s f b (its-payloads f q) none
 
       its-policies : p ≡ policyFacts (rowOf f .authentication) (policiesOf f)
-      its-policies = policies-are s f b (w .bodies f q) row e p k (w .policies) (w .bags) gsas
+      its-policies = policies-are s f b (its-payloads f q) row e p k policies-in bags-in gsas
 
       its-bags : k ≡ bagFacts limits (bagsOf f)
-      its-bags = bags-are s f b (w .bodies f q) row e p k (w .policies) (w .bags) kds
+      its-bags = bags-are s f b (its-payloads f q) row e p k policies-in bags-in kds
 
-      five-at : (x : Bool) → x ≡ one (fiveBy row (length lent) d p k) → x ≡ applies (five lent f)
-      five-at x h = h ∙ five-is f row e d (w .bodies f q .deletion) p k its-policies its-bags lent
+      five-at : (y : Bool) → y ≡ one (fiveBy row (length lent) x) → y ≡ applies (five lent f)
+      five-at y h = h ∙ five-is f row e d (its-payloads f q .deletion) p k its-policies its-bags lent
 
-      six-at : (x : Bool)
-          → ((l m : List Name) → Names (gsaIn s b) l → Names (kdIn s b) m → x ≡ one (sixBy row k l m tick (sasOf (state .table))))
-          → x ≡ applies (six state tick f)
-      six-at x h =
-          let is = w .bodies f q in
-          h (policyNames (policiesIn (gsaIn s b))) (bagNames (bagsIn (kdIn s b))) (policy-names (gsaIn s b) (is .gsaWhole))
-          (bag-names (kdIn s b) (is .kdWhole))
-          ∙ (λ i. one (sixBy row k (policyNames (is .policies gsas .all i)) (bagNames (is .bags kds .all i)) tick (sasOf (state .table))))
+      six-at : (y : Bool)
+          → ((l m : List Name) → Names gsaIn l → Names kdIn m → y ≡ one (sixBy row x l m tick (sasOf (state .table))))
+          → y ≡ applies (six state tick f)
+      six-at y h =
+          let is = its-payloads f q in
+          h (policyNames (policiesIn gsaIn)) (bagNames (bagsIn kdIn)) (policy-names gsaIn (is .gsaWhole))
+          (bag-names kdIn (is .kdWhole))
+          ∙ (λ i. one (sixBy row x (policyNames (is .policies gsas .all i)) (bagNames (is .bags kds .all i)) tick (sasOf (state .table))))
           ∙ six-is row f e k its-bags state tick
 
-      seven-at : (x : Bool) (n : ℕ) → n ≡ standingCount limits tick (state .table) → x ≡ one (sevenBy limits d p k n)
-          → x ≡ applies (seven limits state tick f)
-      seven-at x n u h =
-          h ∙ seven-is f row e d (w .bodies f q .deletion) p k its-policies its-bags state tick n (u ∙ stand limits tick (state .table) few)
+      seven-at : (y : Bool) (n : ℕ) → n ≡ standingCount limits tick (state .table) → y ≡ one (sevenBy limits x n)
+          → y ≡ applies (seven limits state tick f)
+      seven-at y n u h =
+          h ∙ seven-is f row e d (its-payloads f q .deletion) p k its-policies its-bags state tick n (u ∙ stand limits tick (state .table) few)
 
   -- ---- the first that applies
   abbrev Judged : ℕ → Type 0
   Judged n = (f : Frame) → frame s ≡ whole f [] → rowOf f ≡ row → n ≡ judged (onFrame limits state tick lent f)
 
-  module _ (x4 : Bool) (h4 : x4 ≡ one (fourBy row b p k)) where
+  module _ (x4 : Bool) (h4 : x4 ≡ one (fourBy row x)) where
     pub at-4 : x4 ≡ true → Judged 4
     at-4 t = λ f q e. applying (four f) _ (sym t ∙ four-at f q e x4 h4)
 
-    module _ (n4 : x4 ≡ false) (x5 : Bool) (h5 : x5 ≡ one (fiveBy row (length lent) d p k)) where
+    module _ (n4 : x4 ≡ false) (x5 : Bool) (h5 : x5 ≡ one (fiveBy row (length lent) x)) where
       none-4 : (f : Frame) → frame s ≡ whole f [] → rowOf f ≡ row → false ≡ applies (four f)
       none-4 f q e = sym n4 ∙ four-at f q e x4 h4
 
@@ -102,7 +124,7 @@ module _ (state : State) (tick : ℕ) (lent s : List ℕ) (few : state .table .c
           passing (four f) _ 5 n (applying (five lent f) _ (sym t ∙ five-at f q e n x5 h5))
 
       module _ (n5 : x5 ≡ false) (x6 : Bool)
-          (h6 : (l m : List Name) → Names (gsaIn s b) l → Names (kdIn s b) m → x6 ≡ one (sixBy row k l m tick (sasOf (state .table)))) where
+          (h6 : (l m : List Name) → Names gsaIn l → Names kdIn m → x6 ≡ one (sixBy row x l m tick (sasOf (state .table)))) where
         pub at-6 : x6 ≡ true → Judged 6
         at-6 t = λ f q e.
             let n = none-4 f q e in
@@ -110,7 +132,7 @@ module _ (state : State) (tick : ℕ) (lent s : List ℕ) (few : state .table .c
             (applying (six state tick f) _ (sym t ∙ six-at f q e n x6 h6)))
 
         module _ (n6 : x6 ≡ false) (m : ℕ) (u : m ≡ standingCount limits tick (state .table)) (x7 : Bool)
-            (h7 : x7 ≡ one (sevenBy limits d p k m)) where
+            (h7 : x7 ≡ one (sevenBy limits x m)) where
           after-6 : (r : ℕ) → ((f : Frame) → x7 ≡ applies (seven limits state tick f) → r ≡ judged (seven limits state tick f ∷ []))
               → Judged r
           after-6 r h = λ f q e.

@@ -6,3 +6,4 @@ pub mod FourLaws
 pub mod FiveLaws
 pub mod SixLaws
 pub mod FrameLaws
+pub mod VerdictLaws

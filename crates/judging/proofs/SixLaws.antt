@@ -27,12 +27,11 @@ use Rattle.clauses.proofs.Gather.{any-either}
 use Rattle.bagkeys.specs.declared.BagFacts.{BagFacts}
 use Rattle.bagkeys.specs.inner.Facts.{factsOf as bagFacts}
 use Rattle.bagkeys.proofs.KeyLaws.{any-of-map}
-use Rattle.pairing.specs.inner.Names.{Name, isSuch, isUnpaired, isAnnounced}
-use Rattle.pairing.specs.declared.names.Which.the-variants as which
+use Rattle.pairing.specs.inner.Names.{Name, isNamed, isUnpaired, isAnnounced}
 use Rattle.pairing.proofs.InTable.{in-table}
 use Rattle.pairing.proofs.NamesOf.{policyNames, bagNames, policyName, bagName}
 use Rattle.pairing.proofs.Twice.{isTwice, twice-unpaired}
-use Rattle.judging.specs.inner.Tests.{sixBy}
+use Rattle.judging.specs.inner.Tests.{sixOf}
 
 count-of-map : {A B : Type 0} (f : A → B) (p : B → Bool) (l : List A) → count (λ (a : A). p (f a)) l ≡ count p (map f l)
 unfolding count
@@ -107,11 +106,11 @@ module _ (f : Frame) where
   abbrev ofBags : List Name
   ofBags = bagNames (bagsOf f)
 
-  policy-count : (p : ℕ) (x : List ℕ) → policiesNamed f p x ≡ count (isSuch which.Named p x) ofPolicies
-  policy-count p x = count-of-map policyName (isSuch which.Named p x) (announced f)
+  policy-count : (p : ℕ) (x : List ℕ) → policiesNamed f p x ≡ count (isNamed p x) ofPolicies
+  policy-count p x = count-of-map policyName (isNamed p x) (announced f)
 
-  bag-count : (p : ℕ) (x : List ℕ) → bagsNamed f p x ≡ count (isSuch which.Named p x) ofBags
-  bag-count p x = count-of-map bagName (isSuch which.Named p x) (groupBags f)
+  bag-count : (p : ℕ) (x : List ℕ) → bagsNamed f p x ≡ count (isNamed p x) ofBags
+  bag-count p x = count-of-map bagName (isNamed p x) (groupBags f)
 
   policy-unpaired : policyUnpaired f ≡ any (isUnpaired ofBags) ofPolicies
   unfolding policyUnpaired
@@ -154,7 +153,7 @@ tried k true false false false false f g = sym (or-true k)
 tried k false false false false false f g = sym (or-false k)
 
 module _ (row : Exchange) (f : Frame) (e : rowOf f ≡ row) (k : BagFacts) (kq : k ≡ bagFacts limits (bagsOf f)) (s : State) (now : ℕ) where
-  pub six-is : one (sixBy row k (ofPolicies f) (ofBags f) now (sasOf (s .table))) ≡ applies (six s now f)
+  pub six-is : one (sixOf row k (ofPolicies f) (ofBags f) now (sasOf (s .table))) ≡ applies (six s now f)
   unfolding one saKeyId espKwkId wrapKeyId six-ofFrame six-ofMember
   six-is =
       (λ i. one (sym (policy-unpaired f) i ∷ sym (bag-unpaired f) i ∷ sym (already f s now) i

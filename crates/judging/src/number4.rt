@@ -1,16 +1,17 @@
 // Number 4: what a frame is made up of.
-use bagkeys::BagFacts;
-use composition::PolicyFacts;
+use crate::facts::Facts;
 use frames::exchanges::Exchange;
-use payloads::Bodies;
 ghost use mathlib.Core.Path.{_≡_};
 ghost use Rattle.clauses.specs.Refusals.{one};
 ghost use Rattle.judging.specs.inner.Tests.{fourBy};
 
-// Whether number 4 applies, in an exchange with this row, to a frame with these payloads, policies and key bags. Internal.
-pub fn number_4(row: Exchange, b: Bodies, p: PolicyFacts, k: BagFacts) -> bool
-    ensures { λ r. ⌜ r ≡ one (fourBy row b p k) ⌝ }
+// Whether number 4 applies, in an exchange with this row, to a frame with these facts. Internal.
+pub fn number_4(row: Exchange, x: Facts) -> bool
+    ensures { λ r. ⌜ r ≡ one (fourBy row x) ⌝ }
 {
+    let b = x.payloads;
+    let p = x.policies;
+    let k = x.bags;
     let gsa = 0 < b.gsas;
     let kd = 0 < b.kds;
     let deletes = 0 < b.deletes;

@@ -1,18 +1,19 @@
 // Number 5: what the member does not support.
-use bagkeys::BagFacts;
-use composition::PolicyFacts;
+use crate::facts::Facts;
 use frames::exchanges::Exchange;
 use keys::kinds::WrappingKey;
-use payloads::deletion::Deletes;
 ghost use mathlib.Core.Path.{_≡_};
 ghost use Rattle.clauses.specs.Refusals.{one};
 ghost use Rattle.judging.specs.inner.Tests.{fiveBy};
 
-// Whether number 5 applies, in an exchange with this row and with a lent key of so many octets, to a frame with these Delete payloads,
-// policies and key bags. Internal.
-pub fn number_5(row: Exchange, lent: usize, d: Deletes, p: PolicyFacts, k: BagFacts) -> bool
-    ensures { λ r. ⌜ r ≡ one (fiveBy row lent d p k) ⌝ }
+// Whether number 5 applies, in an exchange with this row and with a lent key of so many octets, to a frame with these facts. Internal.
+pub fn number_5(row: Exchange, lent: usize, x: Facts) -> bool
+    ensures { λ r. ⌜ r ≡ one (fiveBy row lent x) ⌝ }
 {
+    let b = x.payloads;
+    let d = b.deletion;
+    let p = x.policies;
+    let k = x.bags;
     // "an AH policy or bag"
     let ah_policy = p.ah;
     let ah_bag = k.ah;

@@ -1,4 +1,5 @@
 // Number 6: policies, key bags and keys that do not belong together.
+use crate::facts::Facts;
 use bagkeys::BagFacts;
 use frames::exchanges::Exchange;
 use pairing::names::any_unpaired;
@@ -27,13 +28,14 @@ fn any_unfit_key(row: Exchange, k: BagFacts) -> bool
     count | named | nested | unnamed
 }
 
-// Whether number 6 applies, in an exchange with this row and over this table, to a frame with these key bags, whose policies and bags are
-// the bodies of its GSA and KD payloads. The names, which take a walk for each, are compared where no fact decides. Internal.
-pub fn number_6(row: Exchange, k: BagFacts, gsa: &[u8], kd: &[u8], t: Table, tick: u32) -> bool
+// Whether number 6 applies, in an exchange with this row and over this table, to a frame with these facts and these bodies of GSA and KD.
+// The names, which take a walk for each, are compared where no fact decides. Internal.
+pub fn number_6(row: Exchange, x: Facts, gsa: &[u8], kd: &[u8], t: Table, tick: u32) -> bool
     requires { ⌜ ((l : List Name) × Names (now gsa) l) × ((m : List Name) × Names (now kd) m) × (t .count ≤ limits .sas) ⌝ }
     ensures { λ r. ⌜ ((l m : List Name) → Names (now (gsa .entry)) l → Names (now (kd .entry)) m →
-        r ≡ one (sixBy row k l m tick (sasOf t))) ⌝ }
+        r ≡ one (sixBy row x l m tick (sasOf t))) ⌝ }
 {
+    let k = x.bags;
     if any_unfit_key(row, k) {
         return true;
     }

@@ -1,11 +1,9 @@
 // Number 7: what does not fit into the member's limits.
-use bagkeys::BagFacts;
-use composition::PolicyFacts;
+use crate::facts::Facts;
 use keys::limits::DELETED_SPIS;
 use keys::limits::ESP_POLICIES;
 use keys::limits::SAS;
 use keys::limits::WRAP_KEYS;
-use payloads::deletion::Deletes;
 ghost use mathlib.Core.Path.{_≡_};
 ghost use Prim.Native.Nat.{_+_};
 ghost use lib.Dec.{ltb};
@@ -23,10 +21,14 @@ fn is_over(standing: usize, more: usize) -> bool
     SAS - standing < more
 }
 
-// Whether number 7 applies to a frame with these Delete payloads, policies and key bags, where so many SAs stand. Internal.
-pub fn number_7(d: Deletes, p: PolicyFacts, k: BagFacts, standing: usize) -> bool
-    ensures { λ r. ⌜ r ≡ one (sevenBy limits d p k standing) ⌝ }
+// Whether number 7 applies to a frame with these facts, where so many SAs stand. Internal.
+pub fn number_7(x: Facts, standing: usize) -> bool
+    ensures { λ r. ⌜ r ≡ one (sevenBy limits x standing) ⌝ }
 {
+    let b = x.payloads;
+    let d = b.deletion;
+    let p = x.policies;
+    let k = x.bags;
     // "over 8 ESP policies"
     let esps = ESP_POLICIES < p.esps;
     // "32 WRAP_KEY"

@@ -7,3 +7,4 @@ pub mod ListLaws
 pub mod InTable
 pub mod Twice
 pub mod Seeking
+pub mod Places

@@ -9,7 +9,6 @@ ghost use Rattle.keys.specs.Lists.{any};
 ghost use Rattle.keys.specs.Limits.{limits};
 ghost use Rattle.table.specs.Table.{sasOf};
 ghost use Rattle.pairing.specs.inner.Names.{Name, Names, isAnnounced};
-use names::Which;
 use sa::entry::Sa;
 use table::Table;
 
@@ -24,7 +23,7 @@ fn is_announced(s: Sa, g: &[u8], tick: u32) -> bool
     let p = s.protocol;
     let x = s.spi;
     let n = sa::entry::spi_size(p);
-    0 < names::count_names(Which::Named, octets::wide(p), &x[0..n], g)
+    0 < names::count_names(octets::wide(p), &x[0..n], g)
 }
 
 // Whether some SA of the table is not due and has the name of a policy of the GSA body. Internal.

@@ -12,9 +12,12 @@ is-size-requires c κs = search needs
 returns : tie.Need-returns
 unfolding joined joinedTo
 returns c =
-    let a = c .before .before .args in
-    (λ i. ((((a .p .ah || a .k .ah) || a .p .unfit) || a .d .other) || a .d .none) || (a .row .lent && not (c .before .is-size .ensures i)))
-    ∙ joined-is (fiveBy (a .row) (a .lent) (a .d) (a .p) (a .k))
+    let a = c .before .before .before .before .before .before .args in
+    let x = a .x in
+    let d = x .payloads .deletion in
+    (λ i. ((((x .policies .ah || x .bags .ah) || x .policies .unfit) || d .other) || d .none)
+    || (a .row .lent && not (c .before .is-size .ensures i)))
+    ∙ joined-is (fiveBy (a .row) (a .lent) x)
 
 pub number-5-spec : {M : Type 1} → statement M
 number-5-spec = tie.close (tie.spec is-size-requires returns)

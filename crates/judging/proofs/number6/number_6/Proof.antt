@@ -11,7 +11,7 @@ returns : tie.Need-returns
 returns c l m x y = by-list _ _ _ _ _ (c .before .any-unfit-key .ensures) (c .if1 .taken)
 
 any-unpaired-requires : tie.Need-any-unpaired-requires
-any-unpaired-requires c κs = let p = c .before .before .before .before .pre in (p .0, p .1)
+any-unpaired-requires c κs = let p = c .before .before .before .before .before .pre in (p .0, p .1)
 
 returns-2 : tie.Need-returns-2
 returns-2 c l m x y =
@@ -20,7 +20,7 @@ returns-2 c l m x y =
     by-first _ _ _ _ _ (k .before .any-unfit-key .ensures) (k .if1 .left) (sym (p .any-unpaired .ensures l m x y) ∙ c .if2 .taken)
 
 any-unpaired-requires-2 : tie.Need-any-unpaired-requires-2
-any-unpaired-requires-2 c κs = let p = c .before .before .before .before .before .before .pre in (p .1, p .0)
+any-unpaired-requires-2 c κs = let p = c .before .before .before .before .before .before .before .pre in (p .1, p .0)
 
 returns-3 : tie.Need-returns-3
 returns-3 c l m x y =
@@ -31,7 +31,7 @@ returns-3 c l m x y =
     (sym (q .any-unpaired2 .ensures m l y x) ∙ c .if3 .taken)
 
 any-in-table-requires : tie.Need-any-in-table-requires
-any-in-table-requires c κs = let p = c .before .before .before .before .before .before .before .before .pre in (p .0, p .2)
+any-in-table-requires c κs = let p = c .before .before .before .before .before .before .before .before .before .pre in (p .0, p .2)
 
 returns-4 : tie.Need-returns-4
 returns-4 c l m x y =

@@ -14,10 +14,11 @@ is-over-requires c κs = search needs
 returns : tie.Need-returns
 unfolding joined joinedTo
 returns c =
-    let a = c .before .before .before .before .args in
-    (λ i. (((ltb (limits .espPolicies) (a .p .esps) || ltb (limits .wrapKeys) (a .k .wraps)) || a .k .overfull)
-    || ltb (limits .deletedSpis) (a .d .spis)) || c .is-over .ensures i)
-    ∙ joined-is (sevenBy limits (a .d) (a .p) (a .k) (a .standing))
+    let a = c .before .before .before .before .before .before .before .before .args in
+    let x = a .x in
+    (λ i. (((ltb (limits .espPolicies) (x .policies .esps) || ltb (limits .wrapKeys) (x .bags .wraps)) || x .bags .overfull)
+    || ltb (limits .deletedSpis) (x .payloads .deletion .spis)) || c .is-over .ensures i)
+    ∙ joined-is (sevenBy limits x (a .standing))
 
 pub number-7-spec : {M : Type 1} → statement M
 number-7-spec = tie.close (tie.spec is-over-requires returns)
