@@ -1,29 +1,33 @@
 -- SAs that the Delete payloads of a frame retire, one payload after the other.
-use Prim.Native.Nat.{ℕ, _≤_}
+use native.Mathlib.Omega.{arith}
+use Prim.Native.Nat.{ℕ, _+_, _-_, _≤_}
 use mathlib.Core.Path.{_≡_, refl, ap, sym, subst, _∙_}
 use mathlib.Core.Bool.{Bool, true, false, _||_, _&&_}
 use mathlib.Core.List.{List, [], _∷_, _++_, map, append-assoc, append-nil}
+use borrow.Author.Tests.{eqb-true, eqb-false}
 use lib.Dec.{eqb}
 use lib.ListN.{length, drop}
-use Rattle.octets.specs.Walk.{whole}
+use Rattle.octets.specs.Walk.{part}
 use Rattle.octets.specs.Compare.{same}
 use Rattle.keys.specs.Lists.{any}
 use Rattle.keys.specs.Limits.{limits}
+use Rattle.keys.proofs.Cases.{bool-cases}
 use Rattle.sa.specs.Entry.{esp, spiOf}
 use Rattle.sa.specs.declared.entry.Sa.{Sa}
 use Rattle.table.specs.Table.{tableOf, retiredIf}
 use Rattle.table.specs.declared.Table.{Table}
-use Rattle.frames.specs.Delete.{Delete}
-use Rattle.frames.specs.Frame.{Frame, frame}
-use Rattle.frames.proofs.FrameGrammar.{read-frame}
+use Rattle.frames.specs.Delete.{Delete, deleteOf}
+use Rattle.frames.specs.Frame.{payloads, exactly}
+use Rattle.contents.specs.inner.Values.{isWhole}
 use Rattle.contents.specs.inner.Payloads.{payloadsIn}
+use Rattle.contents.specs.declared.payload.PayloadParts.{PayloadParts}
 use Rattle.clauses.specs.Contents.{gather}
-use Rattle.payloads.specs.inner.Bodies.{payloadsOf}
-use Rattle.payloads.proofs.FrameLaws.{are-payloads}
-use Rattle.payloads.proofs.StepLaws.{none-left}
-use Rattle.payloads.proofs.DeletedLaws.{deletesAmong, spisIn}
-use Rattle.outcome.specs.After.{isZero, namedInDelete}
-use Rattle.acceptance.specs.inner.Tables.{namedIn}
+use Rattle.payloads.specs.inner.Deletion.{spisIn, deletesAmong, DeletesFrom}
+use Rattle.payloads.proofs.StepLaws.{Step}
+use Rattle.payloads.proofs.DeletedLaws.{delete-here, delete-later, delete-none}
+use Rattle.outcome.specs.After.{isZero}
+use Rattle.acceptance.specs.declared.retiring.DeletesAt.{DeletesAt}
+use Rattle.acceptance.specs.inner.Tables.{namedIn, AreDeletes}
 use Rattle.acceptance.proofs.RetiringLaws.{After, after-none}
 use Rattle.acceptance.proofs.TableLaws.{none-retired}
 
@@ -87,14 +91,82 @@ module _ (now delay : ℕ) (before : Table) where
       Retires now delay before t left all
   retires-later t list left all e r = subst (λ (y : List Delete). Retires now delay before t y all) e r
 
-  pub retires-all : (t : Table) (s : List ℕ) (at k : ℕ) → k ≡ 0 →
-      Retires now delay before t (deletesAmong (payloadsIn k (drop at s))) (deletesAmong (payloadsOf s)) → (f : Frame) (l : List Sa) →
-      frame s ≡ whole f [] → length l ≤ limits .sas → before ≡ tableOf limits l →
-      t ≡ tableOf limits (map (retiredIf (namedInDelete f) now delay) l)
-  unfolding gather namedInDelete
-  retires-all t s at k z r f l q h e =
-      let none : deletesAmong (payloadsIn k (drop at s)) ≡ [] = ap deletesAmong (none-left (drop at s) k z) in
-      let passed : r .passed ≡ deletesAmong (f .payloads) =
-      sym (append-nil (r .passed)) ∙ ap (λ (y : List Delete). r .passed ++ y) (sym none) ∙ r .joined
-      ∙ ap deletesAmong (sym (are-payloads s f (read-frame s f [] q))) in
-      r .so-far l h e ∙ ap (λ (y : List Delete). tableOf limits (map (retiredIf (λ a. namedIn (spisIn y) a) now delay) l)) passed
+  -- none is left
+  pub retires-all : (t : Table) (left all : List Delete) → left ≡ [] → Retires now delay before t left all → (l : List Sa) →
+      length l ≤ limits .sas → before ≡ tableOf limits l → t ≡ tableOf limits (map (retiredIf (namedIn (spisIn all)) now delay) l)
+  retires-all t left all e r l h q =
+      let passed : r .passed ≡ all = sym (append-nil (r .passed)) ∙ ap (λ (y : List Delete). r .passed ++ y) (sym e) ∙ r .joined in
+      r .so-far l h q ∙ ap (λ (y : List Delete). tableOf limits (map (retiredIf (λ a. namedIn (spisIn y) a) now delay) l)) passed
+
+-- ---- the walk from the first Delete payload to the last
+empty : {A : Type 0} (l : List A) → length l ≡ 0 → l ≡ []
+empty [] z = refl
+empty (x ∷ l) z = absurd (omega arith)
+
+pub same-deletes : (s : List ℕ) (d : DeletesAt) (l m : List Delete) → AreDeletes s d l → AreDeletes s d m → l ≡ m
+same-deletes s d l m x y =
+    bool-cases (eqb (d .count) 0)
+    (λ e. let z = eqb-true (d .count) 0 e in empty l (x .count ∙ z) ∙ sym (empty m (y .count ∙ z)))
+    (λ e. let z = eqb-false (d .count) 0 e in sym (x .from z .all) ∙ y .from z .all)
+
+module _ (s : List ℕ) (now delay : ℕ) (before : Table) where
+  -- where it stands: so many are left, and where one is left, these stand from a payload of a type on
+  pub record Going (all : List Delete) (after : Table) (left kind at : ℕ) : Type 0 where
+    pub others : List Delete
+    pub many : length others ≡ left
+    pub inside : (left ≡ 0 → ⊥) → at ≤ length s
+    pub rest : (left ≡ 0 → ⊥) → isWhole (exactly (payloads kind 0 (drop at s))) ≡ true
+    pub here : (left ≡ 0 → ⊥) → deletesAmong (payloadsIn kind (drop at s)) ≡ others
+    pub so-far : Retires now delay before after others all
+
+  pub going-start : (d : DeletesAt) (l : List Delete) → AreDeletes s d l → Going l before (d .count) 42 (d .start)
+  going-start d l x = record {
+    others = l;
+    many = x .count;
+    inside = λ z. x .from z .inside;
+    rest = λ z. x .from z .rest;
+    here = λ z. x .from z .all;
+    so-far = retires-start now delay before l;
+  }
+
+  module _ (all : List Delete) (t : Table) (left kind at : ℕ) (w : Going all t left kind at) where
+    pub going-end : left ≤ 0 → (l : List Sa) → length l ≤ limits .sas → before ≡ tableOf limits l →
+        t ≡ tableOf limits (map (retiredIf (namedIn (spisIn all)) now delay) l)
+    going-end h = retires-all now delay before t (w .others) all (empty (w .others) (omega (arith, w .many))) (w .so-far)
+
+    module _ (some : left ≡ 0 → ⊥) where
+      -- the type 0 ends the payloads
+      pub going-kind : kind ≡ 0 → ⊥
+      unfolding gather
+      going-kind z = some (sym (w .many) ∙ ap length (sym (w .here some) ∙ delete-none (drop at s) kind z))
+
+      module _ (r : PayloadParts) (g : Step kind s at r) where
+        abbrev Later : List Delete
+        Later = deletesAmong (payloadsIn (r .next) (drop (at + r .end) s))
+
+        pub going-here : kind ≡ 42 → (after : Table) → ((l : List Sa) (p : Sa → Bool) → length l ≤ limits .sas →
+            t ≡ tableOf limits (map (retiredIf p now delay) l) →
+            after ≡ tableOf limits (map (retiredIf (λ a. p a || namedIn (deleteOf (part s (at + 4) (at + r .end)) .spis) a) now delay) l)) →
+            Going all after (left - 1) (r .next) (at + r .end)
+        going-here e after goes =
+            let first : w .others ≡ deleteOf (part s (at + 4) (at + r .end)) ∷ Later = sym (w .here some) ∙ delete-here kind s at r g e in
+            record {
+              others = Later;
+              many = omega (arith, w .many, ap length first);
+              inside = λ z. g .inside;
+              rest = λ z. g .rest;
+              here = λ z. refl;
+              so-far = retires-here now delay before t after _ (w .others) Later all first goes (w .so-far);
+            }
+
+        pub going-later : (kind ≡ 42 → ⊥) → Going all t left (r .next) (at + r .end)
+        going-later e =
+            let same : w .others ≡ Later = sym (w .here some) ∙ delete-later kind s at r g e in
+            record {
+              others = Later;
+              many = ap length (sym same) ∙ w .many;
+              inside = λ z. g .inside;
+              rest = λ z. g .rest;
+              here = λ z. refl;
+              so-far = retires-later now delay before t (w .others) Later all same (w .so-far);
+            }

@@ -2,5 +2,3 @@ pub mod TableLaws
 pub mod NextLaws
 pub mod RetiringLaws
 pub mod FrameLaws
-pub mod ReadingLaws
-pub mod HereLaws

@@ -3,16 +3,13 @@ use native.Mathlib.Omega.{arith}
 use Prim.Native.Nat.{ℕ, _+_, _≤_}
 use mathlib.Core.Path.{_≡_, refl, ap, sym, subst, _∙_}
 use mathlib.Core.Bool.{Bool, true, false, not, cond, _&&_, _||_}
-use mathlib.Core.List.{List, [], map}
+use mathlib.Core.List.{List, map}
 use lib.Dec.{eqb}
 use lib.ListN.{length, length-map, length-take}
-use Rattle.octets.specs.Walk.{whole}
 use Rattle.keys.specs.Limits.{limits}
-use Rattle.keys.specs.Lists.{any}
 use Rattle.keys.proofs.Rising.{length-keep}
-use Rattle.policies.specs.Policy.{Policy}
-use Rattle.frames.specs.Frame.{Frame, frame}
-use Rattle.frames.specs.declared.exchanges.LeastAfter.{LeastAfter}
+use Rattle.frames.specs.Delete.{Delete}
+use Rattle.frames.specs.Frame.{Frame}
 use Rattle.sa.specs.Entry.{rekey, due, retired}
 use Rattle.sa.specs.declared.entry.Sa.{Sa}
 use Rattle.table.specs.Table.{sasOf, tableOf, notDue, swept, retiredIf}
@@ -23,13 +20,12 @@ use Rattle.table.proofs.Kept.{sas-of-table}
 use Rattle.state.specs.declared.State.{State}
 use Rattle.state.specs.declared.least.Least.{Least}
 use Rattle.state.specs.declared.least.Least.the-variants.{Id}
-use Rattle.contents.specs.inner.Policies.{policiesIn}
-use Rattle.clauses.specs.Contents.{gather, saOf}
-use Rattle.clauses.specs.Fitness.{isRekey}
+use Rattle.payloads.specs.inner.Deletion.{spisIn}
+use Rattle.clauses.specs.Contents.{deletesOf}
 use Rattle.clauses.specs.Number2.{standing}
-use Rattle.outcome.specs.After.{delayOf, newRekey, namedInDelete, replaced, oldSas, insertAll, initialMessageId, leastBy, leastAfterwards}
-use Rattle.acceptance.specs.declared.reading.NewRekey.{NewRekey}
-use Rattle.acceptance.specs.inner.Readings.{delayIn, initialIn, Rekeys}
+use Rattle.outcome.specs.After.{delayOf, newRekey, namedInDelete, replaced, oldSas, insertAll, leastBy, leastAfterwards}
+use Rattle.acceptance.specs.declared.next.Said.{Said}
+use Rattle.acceptance.specs.inner.Tables.{namedIn, AreDeletes}
 use Rattle.acceptance.specs.inner.Following.{Told}
 use Rattle.acceptance.proofs.TableLaws.{more-retired}
 
@@ -70,38 +66,23 @@ module _ (f : Frame) (m : State) (now delay : ℕ) (d : delayOf f ≡ delay) whe
       (standing now m)))
 
 -- the code's way to them: swept, then retired by the frame's Delete payloads, then by its new Rekey SA
-module _ (s : List ℕ) (now delay : ℕ) (t stand gone : Table) (h : t .count ≤ limits .sas) (e : stand ≡ swept limits now t)
-    (by-frame : (f : Frame) (l : List Sa) → frame s ≡ whole f [] → length l ≤ limits .sas → stand ≡ tableOf limits l →
-    gone ≡ tableOf limits (map (retiredIf (namedInDelete f) now delay) l))
-    (f : Frame) (m : State) (q : frame s ≡ whole f []) (k : m .table ≡ t) (d : delayOf f ≡ delay) where
-  gone-is : gone ≡ deleted f m now delay d
+module _ (s : List ℕ) (now : ℕ) (x : Said) (t stand gone : Table) (h : t .count ≤ limits .sas) (e : stand ≡ swept limits now t)
+    (by-frame : (l : List Delete) (n : List Sa) → AreDeletes s (x .deletes) l → length n ≤ limits .sas → stand ≡ tableOf limits n →
+    gone ≡ tableOf limits (map (retiredIf (namedIn (spisIn l)) now (x .delay)) n))
+    (f : Frame) (m : State) (q : Told s x f) (k : m .table ≡ t) where
+  gone-is : gone ≡ deleted f m now (x .delay) (q .delay)
+  unfolding namedInDelete
   gone-is =
-      by-frame f (notDue now (sasOf t)) q (standing-room now t h) (e ∙ swept-made now t h)
-      ∙ ap (λ (x : Table). tableOf limits (map (retiredIf (namedInDelete f) now delay) (notDue now (sasOf x)))) (sym k)
+      by-frame (deletesOf f) (notDue now (sasOf t)) (q .deletes) (standing-room now t h) (e ∙ swept-made now t h)
+      ∙ ap (λ (y : Table). tableOf limits (map (retiredIf (namedInDelete f) now (x .delay)) (notDue now (sasOf y)))) (sym k)
 
-  pub gone-kept : newRekey f ≡ false → gone ≡ tableOf limits (oldSas m now f)
-  gone-kept n = gone-is ∙ old-kept f m now delay d n
+  pub gone-kept : x .rekey ≡ false → gone ≡ tableOf limits (oldSas m now f)
+  gone-kept n = gone-is ∙ old-kept f m now (x .delay) (q .delay) (q .rekey ∙ n)
 
-  pub gone-replaced : (r : Table) → r ≡ retiredAll limits rekey now delay gone → newRekey f ≡ true → r ≡ tableOf limits (oldSas m now f)
+  pub gone-replaced : (r : Table) → r ≡ retiredAll limits rekey now (x .delay) gone → x .rekey ≡ true → r ≡ tableOf limits (oldSas m now f)
   gone-replaced r g n =
-      let room : m .table .count ≤ limits .sas = subst (λ (x : Table). x .count ≤ limits .sas) (sym k) h in
-      g ∙ ap (retiredAll limits rekey now delay) gone-is ∙ old-replaced f m now delay d room n
-
--- ---- what the code reads of the frame
-module _ (s g : List ℕ) (least : LeastAfter) (id : ℕ) (f : Frame) (t : Told s g least id f) where
-  pub delay-told : (d : ℕ) → d ≡ delayIn (policiesIn g) → delayOf f ≡ d
-  unfolding delayOf delayIn
-  delay-told d e = ap delayIn (t .policies) ∙ sym e
-
-  module _ (r : NewRekey) (k : Rekeys (policiesIn g) r) where
-    pub rekey-told : newRekey f ≡ r .there
-    rekey-told = ap (λ (l : List Policy). any isRekey (gather saOf l)) (t .policies) ∙ sym (k .there)
-
-    pub least-told : cond (r .there) (Id (r .initial)) (leastBy least id) ≡ leastAfterwards f
-    unfolding leastAfterwards initialMessageId initialIn
-    least-told =
-        let i : r .initial ≡ initialMessageId f = k .initial ∙ ap initialIn (sym (t .policies)) in
-        λ j. cond (sym rekey-told j) (Id (i j)) (leastBy (sym (t .least-is) j) (sym (t .id-is) j))
+      let room : m .table .count ≤ limits .sas = subst (λ (y : Table). y .count ≤ limits .sas) (sym k) h in
+      g ∙ ap (retiredAll limits rekey now (x .delay)) gone-is ∙ old-replaced f m now (x .delay) (q .delay) room (q .rekey ∙ n)
 
 -- ---- there is room for the new ones, and the table is that of these SAs
 module _ (m : State) (now : ℕ) (f : Frame) where
@@ -123,12 +104,17 @@ module _ (m : State) (now : ℕ) (f : Frame) where
       g ∙ ap (λ (l : List Sa). tableOf limits (insertAll new l)) (ap sasOf e ∙ sas-of-table limits (oldSas m now f))
 
 -- ---- the least Message ID
-module _ (r : NewRekey) (least : LeastAfter) (id : ℕ) where
+module _ (x : Said) where
   abbrev pub LeastIs : Least → Type 0
-  LeastIs l = l ≡ cond (r .there) (Id (r .initial)) (leastBy least id)
+  LeastIs l = l ≡ cond (x .rekey) (Id (x .initial)) (leastBy (x .least) (x .id))
 
-  pub least-new : r .there ≡ true → LeastIs (Id (r .initial))
+  pub least-new : x .rekey ≡ true → LeastIs (Id (x .initial))
   least-new e = rw e refl
 
-  pub least-kept : (l : Least) → r .there ≡ false → l ≡ leastBy least id → LeastIs l
+  pub least-kept : (l : Least) → x .rekey ≡ false → l ≡ leastBy (x .least) (x .id) → LeastIs l
   least-kept l e g = rw e g
+
+  pub least-told : (s : List ℕ) (f : Frame) → Told s x f → (l : Least) → LeastIs l → l ≡ leastAfterwards f
+  unfolding leastAfterwards
+  least-told s f t l e =
+      e ∙ (λ j. cond (sym (t .rekey) j) (Id (sym (t .initial) j)) (leastBy (sym (t .least) j) (sym (t .id) j)))

@@ -1,3 +1,2 @@
-pub mod Tables
-pub mod Readings
 pub mod Following
+pub mod Tables

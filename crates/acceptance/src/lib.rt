@@ -1,5 +1,4 @@
 // The state of a member that has accepted a frame.
 pub mod entering;
 pub mod next;
-pub mod reading;
 pub mod retiring;

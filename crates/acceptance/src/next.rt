@@ -1,26 +1,18 @@
 // The state of a member after an accepted frame: its old SAs, the new ones, the held list and the least Message ID.
 ghost use mathlib.Core.Path.{_≡_};
-ghost use mathlib.Core.Bool.{true, cond};
-ghost use mathlib.Core.List.{List, []};
+ghost use mathlib.Core.Bool.{cond};
 ghost use Prim.Native.Nat.{_+_, _≤_};
 ghost use lib.ListN.{length, take};
-ghost use Rattle.octets.specs.Walk.{whole};
 ghost use Rattle.keys.specs.Limits.{limits};
-ghost use Rattle.policies.specs.Policy.{policies};
-ghost use Rattle.frames.specs.Frame.{Frame, frame};
+ghost use Rattle.frames.specs.Frame.{Frame};
 ghost use Rattle.table.specs.Table.{tableOf};
 ghost use Rattle.state.specs.declared.State.{State};
 ghost use Rattle.state.specs.declared.least.Least.the-variants.{Id};
-ghost use Rattle.contents.specs.inner.Values.{isWhole};
-ghost use Rattle.contents.specs.inner.Policies.{policiesIn};
 ghost use Rattle.clauses.specs.Number2.{standing};
-ghost use Rattle.outcome.specs.After.{delayOf, newRekey, oldSas, leastBy};
-ghost use Rattle.acceptance.specs.inner.Readings.{oneDelay, oneInitial};
+ghost use Rattle.outcome.specs.After.{oldSas, leastBy};
 ghost use Rattle.acceptance.specs.inner.Following.{Told, Follows};
 use crate::entering::entered_all;
-use crate::reading::NewRekey;
-use crate::reading::delay;
-use crate::reading::rekey_policy;
+use crate::retiring::DeletesAt;
 use crate::retiring::retired_by_frame;
 use frames::exchanges::LeastAfter;
 use keys::limits::SAS;
@@ -31,58 +23,65 @@ use state::held::Held;
 use state::least::Least;
 use table::Table;
 
+// What an accepted frame says of the member afterwards.
+pub struct Said {
+    // the deactivation delay
+    pub delay: u16,
+    // whether the frame announces a Rekey SA, and the first Message ID of it
+    pub rekey: bool,
+    pub initial: u32,
+    // what the exchange sets the least Message ID to, and the frame's own
+    pub least: LeastAfter,
+    pub id: u32,
+    pub deletes: DeletesAt,
+}
+
 // The SAs of before: those that are due go; those that the frame's Delete payloads name retire, and with a new Rekey SA the old one.
-fn old_sas(t: Table, s: &[u8], tick: u32, delay: u16, replaces: bool) -> Table
-    requires { ⌜ isWhole (frame (now s)) ≡ true ⌝ }
+fn old_sas(t: Table, s: &[u8], tick: u32, x: Said) -> Table
+    requires { ⌜ ((f : Frame) × Told (now s) x f) ⌝ }
     requires { ⌜ t .count ≤ limits .sas ⌝ }
-    ensures { λ r. ⌜ ((f : Frame) (m : State) → frame (now (s .entry)) ≡ whole f [] → m .table ≡ t → delayOf f ≡ delay →
-        newRekey f ≡ replaces → r ≡ tableOf limits (oldSas m tick f)) ⌝ }
+    ensures { λ r. ⌜ ((f : Frame) (m : State) → Told (now (s .entry)) x f → m .table ≡ t → r ≡ tableOf limits (oldSas m tick f)) ⌝ }
 {
     let standing = t.swept(tick);
-    let retired = retired_by_frame(standing, s, tick, delay);
-    if replaces {
-        return retired.retired_all(REKEY, tick, delay);
+    let d = x.deletes;
+    let retired = retired_by_frame(standing, s, d, tick, x.delay);
+    if x.rekey {
+        return retired.retired_all(REKEY, tick, x.delay);
     }
     retired
 }
 
 // The least acceptable Message ID: the new Rekey SA's first one, or what the exchange sets.
-fn least_by(rekey: NewRekey, least: LeastAfter, id: u32) -> Least
-    ensures { λ r. ⌜ r ≡ cond (rekey .there) (Id (rekey .initial)) (leastBy least id) ⌝ }
+fn least_by(x: Said) -> Least
+    ensures { λ r. ⌜ r ≡ cond (x .rekey) (Id (x .initial)) (leastBy (x .least) (x .id)) ⌝ }
 {
-    if rekey.there {
-        return Least::Id(rekey.initial);
+    if x.rekey {
+        return Least::Id(x.initial);
     }
+    let least = x.least;
     match least {
         LeastAfter::Zero => Least::Id(0),
-        LeastAfter::OwnPlusOne => Least::after(id),
+        LeastAfter::OwnPlusOne => Least::after(x.id),
     }
 }
 
-// The state after an accepted frame s with GSA body g and Message ID id, which brings the first n of these new SAs and this held list, in
-// an exchange that sets the least Message ID so. Internal.
+// The state after an accepted frame s that says this, and which brings the first n of these new SAs and this held list. Internal.
 pub fn next(
     state: State,
     s: &[u8],
     tick: u32,
-    g: &[u8],
-    least: LeastAfter,
-    id: u32,
+    x: Said,
     new: [Sa; SAS],
     n: usize,
     held: Held,
 ) -> State
-    requires { ⌜ ((f : Frame) × Told (now s) (now g) least id f) ⌝ }
-    requires { ⌜ isWhole (policies 0 (now g)) ≡ true ⌝ }
-    requires { ⌜ (oneDelay (policiesIn (now g)) ≡ true) × (oneInitial (policiesIn (now g)) ≡ true) ⌝ }
+    requires { ⌜ ((f : Frame) × Told (now s) x f) ⌝ }
     requires { ⌜ (state .table .count ≤ limits .sas) × (length (standing tick state) + n ≤ limits .sas) ⌝ }
-    ensures { λ r. ⌜ ((f : Frame) → Told (now (s .entry)) (now (g .entry)) least id f → Follows state tick f (take n new) held r) ⌝ }
+    ensures { λ r. ⌜ ((f : Frame) → Told (now (s .entry)) x f → Follows state tick f (take n new) held r) ⌝ }
 {
-    let delay = delay(g);
-    let rekey = rekey_policy(g);
     let t = state.table;
-    let old = old_sas(t, s, tick, delay, rekey.there);
+    let old = old_sas(t, s, tick, x);
     let table = entered_all(old, new, n);
-    let least = least_by(rekey, least, id);
+    let least = least_by(x);
     State { table, held, least }
 }

@@ -4,17 +4,14 @@ ghost use Rattle.keys.specs.Limits.{limits};
 ghost use Rattle.table.specs.inner.Changes.{retiredWhere};
 ghost use Rattle.outcome.specs.After.{isZero};
 ghost use mathlib.Core.Bool.{Bool, true, _||_};
-ghost use mathlib.Core.List.{List, [], map};
+ghost use mathlib.Core.List.{List, map};
 ghost use Prim.Native.Nat.{_≤_};
 ghost use lib.ListN.{length};
-ghost use Rattle.octets.specs.Walk.{whole};
 ghost use Rattle.sa.specs.declared.entry.Sa.{Sa};
 ghost use Rattle.table.specs.Table.{tableOf, retiredIf};
-ghost use Rattle.frames.specs.Delete.{deleteOf, deleteFits};
-ghost use Rattle.frames.specs.Frame.{Frame, frame};
-ghost use Rattle.contents.specs.inner.Values.{isWhole};
-ghost use Rattle.outcome.specs.After.{namedInDelete};
-ghost use Rattle.acceptance.specs.inner.Tables.{namedBy, namedIn};
+ghost use Rattle.frames.specs.Delete.{Delete, deleteOf, deleteFits};
+ghost use Rattle.payloads.specs.inner.Deletion.{spisIn};
+ghost use Rattle.acceptance.specs.inner.Tables.{namedBy, namedIn, AreDeletes};
 use contents::payload::DELETE;
 use contents::payload::payload_parts;
 use payloads::deletion::delete_parts;
@@ -64,20 +61,28 @@ fn retired_spis(t: Table, o: &[u8], tick: u32, delay: u16) -> Table
     out
 }
 
-// The ESP SAs that the Delete payloads of a frame name retire. Internal.
-pub fn retired_by_frame(t: Table, s: &[u8], tick: u32, delay: u16) -> Table
-    requires { ⌜ isWhole (frame (now s)) ≡ true ⌝ }
-    ensures { λ r. ⌜ ((f : Frame) (l : List Sa) → frame (now (s .entry)) ≡ whole f [] → length l ≤ limits .sas → t ≡ tableOf limits l →
-        r ≡ tableOf limits (map (retiredIf (namedInDelete f) tick delay) l)) ⌝ }
+// How many Delete payloads a frame has, and where the first one starts.
+pub struct DeletesAt {
+    pub count: usize,
+    pub start: usize,
+}
+
+// The ESP SAs that the Delete payloads of a frame name retire: from the first of these payloads to the last. Internal.
+pub fn retired_by_frame(t: Table, s: &[u8], d: DeletesAt, tick: u32, delay: u16) -> Table
+    requires { ⌜ ((l : List Delete) × AreDeletes (now s) d l) ⌝ }
+    ensures { λ r. ⌜ ((l : List Delete) (m : List Sa) → AreDeletes (now (s .entry)) d l → length m ≤ limits .sas → t ≡ tableOf limits m →
+        r ≡ tableOf limits (map (retiredIf (namedIn (spisIn l)) tick delay) m)) ⌝ }
 {
     let mut out = t;
-    let mut kind = octets::wide(s[16]);
-    let mut at = 28;
-    while kind != 0 {
+    let mut left = d.count;
+    let mut kind = DELETE;
+    let mut at = d.start;
+    while 0 < left {
         let p = payload_parts(kind, &s[at..]);
         let e = at + p.end;
         if kind == DELETE {
             out = retired_spis(out, &s[at + 4..e], tick, delay);
+            left -= 1;
         }
         kind = p.next;
         at = e;

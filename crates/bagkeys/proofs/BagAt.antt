@@ -7,16 +7,16 @@ use native.Mathlib.Omega.{arith}
 use lib.ListN.{length, drop, take, length-drop}
 use lib.Seq.{drop-drop}
 use Rattle.octets.specs.Numbers.{oct}
-use Rattle.octets.specs.Walk.{part, Reading}
+use Rattle.octets.specs.Walk.{be16, part, Reading}
 use Rattle.octets.proofs.Walks.{tail, to-end, many-none}
 use Rattle.attributes.specs.Layout.{attributes}
-use Rattle.policies.specs.Policy.{spiOf}
+use Rattle.policies.specs.Policy.{headSize, spiOf}
 use Rattle.bags.specs.Bag.{Bag, placeOf, bag, bags}
 use Rattle.bags.proofs.BagLaws.{takes}
 use Rattle.contents.specs.inner.Values.{isWhole, itemsOf, attributesIn}
 use Rattle.contents.specs.inner.Bags.{bagsIn, BagIs}
 use Rattle.contents.specs.declared.policy.Parts.{Parts}
-use Rattle.bagkeys.specs.inner.Questions.{bagWith}
+use Rattle.bagkeys.specs.inner.Facts.{bagWith}
 
 pub part-within : (s : List ℕ) (at a e : ℕ) → part (drop at s) a e ≡ part s (at + a) (at + e)
 part-within s at a e =
@@ -34,6 +34,8 @@ bag-there k at h e =
 
 pub record BagAt (k : List ℕ) (at : ℕ) (r : Parts) : Type 0 where
   pub first : r .first ≡ oct (drop at k) 0
+  pub body : r .body ≡ headSize (drop at k)
+  pub end : r .end ≡ be16 (drop at k) 2
   pub some : 4 ≤ r .body
   pub order : r .body ≤ r .end
   pub inside : at + r .end ≤ length k
@@ -52,6 +54,8 @@ bag-at k at r h b =
     let f = c .head .first in
     record {
       first = f;
+      body = c .head .body;
+      end = c .head .end;
       some = c .head .some;
       order = c .head .order;
       inside = omega (arith, c .head .inside, length-drop at k);

@@ -1,6 +1,4 @@
 pub mod Sizes
-pub mod Counting
-pub mod OneBag
 pub mod BagAt
-pub mod Tallying
-pub mod Answers
+pub mod KeyLaws
+pub mod BagLaws

@@ -21,7 +21,7 @@ use Rattle.attributes.specs.declared.tables.Meaning.the-variants as meaning
 use Rattle.attributes.proofs.GrammarLaws.{read-are}
 use Rattle.contents.specs.inner.Values.{isWhole, attributesIn, valuesIn}
 use Rattle.contents.proofs.ValuesLaws.{whole-is}
-use Rattle.bagkeys.specs.inner.Questions.{isKey}
+use Rattle.bagkeys.specs.inner.Facts.{isKey}
 
 by-code : (x : Meaning) → isKey x ≡ leb 4 (codeOf x)
 by-code meaning.Skipped = refl

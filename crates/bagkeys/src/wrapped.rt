@@ -1,54 +1,58 @@
-// The wrapped keys of one bag, SA_KEYs or WRAP_KEYs, by their IDs.
+// The facts of the wrapped keys of one bag, SA_KEYs or WRAP_KEYs, in one walk.
 ghost use mathlib.Core.Path.{_≡_};
 ghost use mathlib.Core.Bool.{true};
-ghost use Prim.Native.Nat.{_≤_};
+ghost use Prim.Native.Nat.{_<_, _≤_};
 ghost use lib.ListN.{length};
-ghost use Rattle.keys.specs.Lists.{count};
 ghost use Rattle.attributes.specs.Layout.{attributes};
 ghost use Rattle.contents.specs.inner.Values.{isWhole, valuesIn};
-ghost use Rattle.bagkeys.specs.inner.Questions.{isKey, isSought};
+ghost use Rattle.bagkeys.specs.inner.Facts.{isKey, withKey, keyFactsOf};
 use attributes::tables::Meaning;
 use attributes::tables::Place;
 use contents::values::Found;
 
-// Which keys: any, those with a Key ID, those with a KWK ID, those without a Key ID. An ID of 0 is none.
-pub enum Sought {
-    Any,
-    KeyId,
-    KwkId,
-    NoKeyId,
+// How many keys, whether one has a Key ID, one has none, one has a KWK ID. An ID of 0 is none.
+pub struct KeyFacts {
+    pub keys: usize,
+    pub named: bool,
+    pub unnamed: bool,
+    pub nested: bool,
 }
 
-// Whether a wrapped key, by the value of its attribute, is one of those.
-fn is_sought(w: Sought, v: &[u8]) -> bool
-    requires { ⌜ 8 ≤ length (now v) ⌝ }
-    ensures { λ r. ⌜ r ≡ isSought w (now (v .entry)) ⌝ }
+// The same, with the key more that is the value of an attribute.
+fn with_key(f: KeyFacts, v: &[u8]) -> KeyFacts
+    requires { ⌜ (8 ≤ length (now v)) × (f .keys < 18446744073709551615) ⌝ }
+    ensures { λ r. ⌜ r ≡ withKey f (now (v .entry)) ⌝ }
 {
-    match w {
-        Sought::Any => true,
-        Sought::KeyId => octets::numbers::be32_at(v, 0) != 0,
-        Sought::KwkId => octets::numbers::be32_at(v, 4) != 0,
-        Sought::NoKeyId => octets::numbers::be32_at(v, 0) == 0,
+    let id = octets::numbers::be32_at(v, 0);
+    let kwk = octets::numbers::be32_at(v, 4);
+    KeyFacts {
+        keys: f.keys + 1,
+        named: f.named | (id != 0),
+        unnamed: f.unnamed | (id == 0),
+        nested: f.nested | (kwk != 0),
     }
 }
 
-// How many keys of a bag's attributes are such. Internal.
-pub fn keys_with(w: Sought, m: Meaning, place: Place, a: &[u8]) -> usize
+// The facts of the keys of a bag's attributes. Internal.
+pub fn keys_of(m: Meaning, place: Place, a: &[u8]) -> KeyFacts
     requires { ⌜ (isKey m ≡ true) × (isWhole (attributes place 0 (now a)) ≡ true) ⌝ }
-    ensures { λ r. ⌜ (r ≡ count (isSought w) (valuesIn m place (now (a .entry)))) × (r ≤ length (now (a .entry))) ⌝ }
+    ensures { λ r. ⌜ (r ≡ keyFactsOf (valuesIn m place (now (a .entry)))) × (r .keys ≤ length (now (a .entry))) ⌝ }
 {
-    let mut n = 0;
+    let mut f = KeyFacts {
+        keys: 0,
+        named: false,
+        unnamed: false,
+        nested: false,
+    };
     let mut at = 0;
     loop {
         match contents::values::next_of(m, place, a, at) {
             Found::At(start, end) => {
-                if is_sought(w, &a[start..end]) {
-                    n = n + 1;
-                }
+                f = with_key(f, &a[start..end]);
                 at = end;
             }
             Found::Nothing => {
-                return n;
+                return f;
             }
         }
     }

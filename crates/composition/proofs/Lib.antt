@@ -1,8 +1,6 @@
-pub mod WalkLaws
-pub mod SortLaws
 pub mod AddressLaws
-pub mod ClauseLaws
-pub mod PlaceLaws
-pub mod BarredLaws
-pub mod GroupLaws
+pub mod WalkLaws
+pub mod SaLaws
 pub mod NumberLaws
+pub mod FactLaws
+pub mod GivenLaws

@@ -1,178 +1,145 @@
--- The groups of clauses together are number 4.
-use Prim.Native.Nat.{ℕ, _+_, _≤_}
-use mathlib.Core.Path.{_≡_, refl, ap, sym, _∙_}
-use mathlib.Core.List.{List, [], _∷_, _++_, append-nil}
-use mathlib.Core.Bool.{Bool, true, false, not, _&&_, _||_}
+-- The greatest of some numbers, and the walk over attributes that give numbers.
+use Prim.Native.Nat.{ℕ, _+_, _-_, _<_, _≤_}
+use mathlib.Core.Path.{_≡_, refl, ap, sym, _∙_, subst}
+use mathlib.Core.List.{List, [], _∷_, _++_, map}
+use mathlib.Core.Bool.{Bool, true, false, cond, false≢true}
 use native.Mathlib.Omega.{arith}
-use borrow.Author.Tests.{lt-ltb, ltb-false}
+use borrow.Author.Tests.{ltb-true, ltb-false, eqb-true}
+use lib.ListN.{length, drop, length-take, length-drop}
 use lib.Dec.{ltb}
-use lib.ListN.{getD}
 use Rattle.octets.specs.Walk.{part}
-use Rattle.keys.specs.Lists.{any, count}
-use Rattle.keys.proofs.Cases.{bool-cases, never}
-use Rattle.policies.specs.Policy.{Policy}
-use Rattle.frames.specs.Frame.{Frame, Payload, Content, gsa, kd, delete, unread}
-use Rattle.frames.specs.declared.exchanges.Exchange.{Exchange}
-use Rattle.contents.specs.inner.Policies.{policiesIn}
-use Rattle.contents.specs.inner.Bags.{bagsIn}
-use Rattle.clauses.specs.Contents.{rowOf, some, several, gather, memberBagOf, isGsa, hasGsa, hasKd, policiesIn as policiesOfOne}
-use Rattle.clauses.specs.Contents.{policiesOf, saOf}
-use Rattle.clauses.specs.Number4.{criticalUnknown, barredMemberBag, barredDelete, twoGsa, twoKd, gsaWithoutKd, kdWithoutGsa, neither}
-use Rattle.clauses.specs.Number4.{severalRekeyPolicies, severalGroupWide, severalMemberBags, gsaWithoutSaPolicy, keyLengthTwice}
-use Rattle.clauses.specs.Number4.{initialMessageIdTwice, delayTwice, otherDestination, withoutSaPolicy, four-ofFrame}
-use Rattle.clauses.specs.Refusals.{one, applies, four}
-use Rattle.clauses.proofs.First.{any-no, count-yes, count-no}
-use Rattle.clauses.proofs.OneOf.{or-false, one-at, one-append, one-later}
-use Rattle.clauses.proofs.Gather.{any-count}
-use Rattle.payloads.specs.declared.Bodies.{Bodies}
-use Rattle.payloads.specs.inner.Bodies.{IsBodies}
-use Rattle.composition.specs.inner.Groups.{onPayloads, onBags, onPolicies}
+use Rattle.keys.proofs.Cases.{bool-cases, lt-cases}
+use Rattle.attributes.specs.Layout.{attributes}
+use Rattle.attributes.specs.declared.tables.Place.{Place}
+use Rattle.attributes.specs.declared.tables.Meaning.{Meaning}
+use Rattle.attributes.specs.declared.tables.Meaning.the-variants as meaning
+use Rattle.contents.specs.inner.Values.{isWhole, valuesIn, valueSize, FoundAt}
+use Rattle.composition.specs.inner.Numbers.{greater, greatest, isNumber, numberBy, most, numbersBy, withNumber}
+use Rattle.composition.specs.declared.numbers.Numbers.{Numbers}
 
--- A GSA WITH NO SA POLICY, where there is one GSA at most
-holds-none : (c : Content) → isGsa c ≡ false → policiesOfOne c ≡ []
-holds-none (gsa l) e = never true refl e
-holds-none (kd l) e = refl
-holds-none (delete d) e = refl
-holds-none unread e = refl
+-- ---- the greater of two
+pub greater-is : (a b : ℕ) → a < b → greater a b ≡ b
+greater-is a b h = bool-cases (ltb a b) (λ e. rw e refl) (λ e. let z = ltb-false a b e in absurd (omega arith))
 
-inAll : List Payload → List Policy
-inAll l = gather (λ (p : Payload). policiesOfOne (p .content)) l
+pub greater-not : (a b : ℕ) → b ≤ a → greater a b ≡ a
+greater-not a b h = bool-cases (ltb a b) (λ e. let z = ltb-true a b e in absurd (omega arith)) (λ e. rw e refl)
 
-withSa : List Policy → Bool
-withSa l = some (gather saOf l)
+pub greater-none : (n : ℕ) → greater n 0 ≡ n
+greater-none n = greater-not n 0 (omega arith)
 
-module _ (p : Payload) (l : List Payload) where
-  next-policies : inAll (p ∷ l) ≡ policiesOfOne (p .content) ++ inAll l
-  unfolding inAll gather
-  next-policies = refl
+pub none-greater : (n : ℕ) → greater 0 n ≡ n
+none-greater n = lt-cases 0 n (λ h. greater-is 0 n h) (λ h. greater-not 0 n h ∙ (let z : 0 ≡ n = omega arith in z))
 
-  first-without : hasGsa p ≡ true → any withoutSaPolicy l ≡ false → any withoutSaPolicy (p ∷ l) ≡ not (withSa (policiesOfOne (p .content)))
-  unfolding any withSa
-  first-without e f =
-      (λ i. (e i && not (withSa (policiesOfOne (p .content)))) || f i) ∙ or-false (not (withSa (policiesOfOne (p .content))))
+pub greater-most : (a b k : ℕ) → a ≤ k → b ≤ k → greater a b ≤ k
+greater-most a b k h g =
+    lt-cases a b (λ l. subst (λ (x : ℕ). x ≤ k) (sym (greater-is a b l)) g)
+    (λ l. subst (λ (x : ℕ). x ≤ k) (sym (greater-not a b l)) h)
 
-  later-without : hasGsa p ≡ false → any withoutSaPolicy (p ∷ l) ≡ any withoutSaPolicy l
-  later-without e =
-      any-no withoutSaPolicy p l (p ∷ l) refl (ap (λ (b : Bool). b && not (some (gather saOf (policiesOfOne (p .content))))) e)
+pub greater-joined : (a b c : ℕ) → greater a (greater b c) ≡ greater (greater a b) c
+greater-joined a b c =
+    lt-cases b c
+    (λ h.
+    ap (greater a) (greater-is b c h)
+    ∙ lt-cases a b (λ g. greater-is a c (omega arith) ∙ sym (ap (λ (x : ℕ). greater x c) (greater-is a b g) ∙ greater-is b c h))
+    (λ g. sym (ap (λ (x : ℕ). greater x c) (greater-not a b g))))
+    (λ h.
+    ap (greater a) (greater-not b c h)
+    ∙ lt-cases a b (λ g. greater-is a b g ∙ sym (ap (λ (x : ℕ). greater x c) (greater-is a b g) ∙ greater-not b c h))
+    (λ g.
+    greater-not a b g ∙ sym (ap (λ (x : ℕ). greater x c) (greater-not a b g) ∙ greater-not a c (omega arith))))
 
-no-gsa-left : (l : List Payload) → count hasGsa l ≤ 0 → (any withoutSaPolicy l ≡ false) × (inAll l ≡ [])
-unfolding any gather inAll
-no-gsa-left [] h = (refl, refl)
-no-gsa-left (p ∷ l) h =
-    bool-cases (hasGsa p) (λ e. absurd (omega (arith, count-yes hasGsa p l (p ∷ l) refl e)))
-    (λ e.
-    let r = no-gsa-left l (omega (arith, count-no hasGsa p l (p ∷ l) refl e)) in
-    (later-without p l e ∙ r .0, (λ i. holds-none (p .content) e i ++ r .1 i)))
+pub greatest-join : (l m : List ℕ) → greatest (l ++ m) ≡ greater (greatest l) (greatest m)
+unfolding greatest
+greatest-join [] m = sym (none-greater (greatest m))
+greatest-join (n ∷ l) m = ap (greater n) (greatest-join l m) ∙ greater-joined n (greatest l) (greatest m)
 
-one-gsa : (l : List Payload) → count hasGsa l ≤ 1 → any withoutSaPolicy l ≡ (ltb 0 (count hasGsa l) && not (withSa (inAll l)))
-unfolding any count
-one-gsa [] h = refl
-one-gsa (p ∷ l) h =
-    bool-cases (hasGsa p)
-    (λ e.
-    let c = count-yes hasGsa p l (p ∷ l) refl e in
-    let r = no-gsa-left l (omega arith) in
-    let q : inAll (p ∷ l) ≡ policiesOfOne (p .content) =
-    next-policies p l ∙ ap (λ (x : List Policy). policiesOfOne (p .content) ++ x) (r .1) ∙ append-nil (policiesOfOne (p .content)) in
-    first-without p l e (r .0) ∙ (λ i. sym (lt-ltb 0 (count hasGsa (p ∷ l)) (omega arith)) i && not (withSa (sym q i))))
-    (λ e.
-    let c = count-no hasGsa p l (p ∷ l) refl e in
-    let q : inAll (p ∷ l) ≡ inAll l = next-policies p l ∙ ap (λ (x : List Policy). x ++ inAll l) (holds-none (p .content) e) in
-    later-without p l e ∙ one-gsa l (omega arith) ∙ (λ i. ltb 0 (sym c i) && not (withSa (sym q i))))
+pub greatest-if : (b : Bool) (l : List ℕ) → cond b (greatest l) 0 ≡ greatest (cond b l [])
+unfolding greatest
+greatest-if true l = refl
+greatest-if false l = refl
 
--- THE GROUPS ARE THE FRAME'S CLAUSES
-abbrev payloadClauses : Frame → List Bool
-payloadClauses f =
-    criticalUnknown f ∷ barredDelete f ∷ twoGsa f ∷ twoKd f ∷ gsaWithoutKd f ∷ kdWithoutGsa f ∷ neither f ∷ []
+-- ---- the number that a value is, by the meaning
+module _ (m : Meaning) (v : List ℕ) (s : valueSize m (length v) ≡ true) where
+  pub four-octets : m ≡ meaning.InitialMessageId → 4 ≤ length v
+  four-octets e = let z = eqb-true (length v) 4 (ap (λ (x : Meaning). valueSize x (length v)) (sym e) ∙ s) in omega arith
 
-abbrev bagClauses : Frame → List Bool
-bagClauses f = barredMemberBag f ∷ severalMemberBags f ∷ []
+  pub two-octets : m ≡ meaning.DeactivationDelay → 2 ≤ length v
+  two-octets e = let z = eqb-true (length v) 2 (ap (λ (x : Meaning). valueSize x (length v)) (sym e) ∙ s) in omega arith
 
-abbrev policyClauses : Frame → List Bool
-policyClauses f =
-    severalRekeyPolicies f ∷ severalGroupWide f ∷ gsaWithoutSaPolicy f ∷ keyLengthTwice f ∷ initialMessageIdTwice f ∷ delayTwice f
-    ∷ otherDestination f ∷ []
+  pub number-is : (x : Meaning) (r : ℕ) → m ≡ x → r ≡ numberBy x v → r ≤ most x → (r ≡ numberBy m v) × (r ≤ most m)
+  number-is x r e q h = (q ∙ ap (λ (y : Meaning). numberBy y v) (sym e), subst (λ (y : Meaning). r ≤ most y) (sym e) h)
 
--- two of the clauses stand elsewhere in the list
-moved : (a b c : Bool) (l m r : List Bool)
-    → one ((a ∷ []) ++ (b ∷ (l ++ (m ++ (c ∷ r))))) ≡ (one (a ∷ l) || (one (b ∷ c ∷ []) || one (m ++ r)))
-unfolding one
-moved a b c l m r =
-    one-later b (a ∷ []) (l ++ (m ++ (c ∷ r))) ∙ sym (one-later b (a ∷ l) (m ++ (c ∷ r))) ∙ one-append (a ∷ l) (b ∷ (m ++ (c ∷ r)))
-    ∙ ap (λ (x : Bool). one (a ∷ l) || x)
-    (ap (λ (x : Bool). b || x) (one-later c m r) ∙ one-append (b ∷ c ∷ []) (m ++ r))
+  pub no-number : (x : Meaning) → isNumber m ≡ true → m ≡ x → isNumber x ≡ false → (0 ≡ numberBy m v) × (0 ≤ most m)
+  no-number x t e f = absurd (false≢true (sym f ∙ ap isNumber (sym e) ∙ t))
 
-grouped : (f : Frame) → applies (four f) ≡ (one (payloadClauses f) || (one (bagClauses f) || one (policyClauses f)))
-unfolding one four-ofFrame
-grouped f =
-    or-false (one (four-ofFrame f))
-    ∙ moved (criticalUnknown f) (barredMemberBag f) (severalMemberBags f)
-    (barredDelete f ∷ twoGsa f ∷ twoKd f ∷ gsaWithoutKd f ∷ kdWithoutGsa f ∷ neither f ∷ [])
-    (severalRekeyPolicies f ∷ severalGroupWide f ∷ [])
-    (gsaWithoutSaPolicy f ∷ keyLengthTwice f ∷ initialMessageIdTwice f ∷ delayTwice f ∷ otherDestination f ∷ [])
+-- ---- what was gone through, and the values left
+module _ (m : Meaning) where
+  abbrev plus : Numbers → List (List ℕ) → Numbers
+  plus n l = record { count = n .count + length l; greatest = greater (n .greatest) (greatest (map (numberBy m) l)) }
 
-module _ (s : List ℕ) (f : Frame) (b : Bodies) (i : IsBodies s f b) where
-  gsa-there : ltb 0 (b .gsas) ≡ any hasGsa (f .payloads)
-  gsa-there = ap (ltb 0) (i .gsas) ∙ sym (any-count hasGsa (f .payloads))
+  abbrev pub noNumbers : Numbers
+  noNumbers = record { count = 0; greatest = 0 }
 
-  kd-there : ltb 0 (b .kds) ≡ any hasKd (f .payloads)
-  kd-there = ap (ltb 0) (i .kds) ∙ sym (any-count hasKd (f .payloads))
+  from-none : (l : List (List ℕ)) → plus noNumbers l ≡ numbersBy m l
+  from-none l =
+      let e : 0 + length l ≡ length l = omega arith in
+      λ i. record { count = e i; greatest = none-greater (greatest (map (numberBy m) l)) i }
 
-  module _ (row : Exchange) (e : rowOf f ≡ row) where
-    pub on-payloads : onPayloads (row .delete) b ≡ payloadClauses f
-    unfolding barredDelete twoGsa twoKd gsaWithoutKd kdWithoutGsa neither
-    on-payloads = λ j.
-        i .critical j ∷ (not (sym e j .delete) && ltb 0 (i .deletes j)) ∷ ltb 1 (i .gsas j) ∷ ltb 1 (i .kds j)
-        ∷ (gsa-there j && not (kd-there j)) ∷ (kd-there j && not (gsa-there j))
-        ∷ (not (gsa-there j) && (not (kd-there j) && not (sym e j .delete && ltb 0 (i .deletes j)))) ∷ []
+  none-left : (n : Numbers) → plus n [] ≡ n
+  unfolding greatest
+  none-left n =
+      let e : n .count + 0 ≡ n .count = omega arith in
+      λ i. record { count = e i; greatest = greater-none (n .greatest) i }
 
-    pub on-bags : b .kds ≤ 1 → onBags (row .bag) (bagsIn (part s (b .kd .start) (b .kd .end))) ≡ bagClauses f
-    unfolding barredMemberBag severalMemberBags
-    on-bags h =
-        let l = i .bags h .all in
-        λ j. (not (sym e j .bag) && some (gather memberBagOf (l j))) ∷ several (gather memberBagOf (l j)) ∷ []
+  one-more : (n : Numbers) (v : List ℕ) (l : List (List ℕ)) → plus n (v ∷ l) ≡ plus (withNumber m n v) l
+  unfolding greatest
+  one-more n v l =
+      let e : n .count + length (v ∷ l) ≡ n .count + 1 + length l = omega arith in
+      λ i. record { count = e i; greatest = greater-joined (n .greatest) (numberBy m v) (greatest (map (numberBy m) l)) i }
 
-  pub on-policies : b .gsas ≤ 1 → onPolicies (b .gsas) (policiesIn (part s (b .gsa .start) (b .gsa .end))) ≡ policyClauses f
-  unfolding severalRekeyPolicies severalGroupWide gsaWithoutSaPolicy keyLengthTwice initialMessageIdTwice delayTwice otherDestination inAll
-      withSa
-  on-policies h =
-      let l = i .policies h .all in
-      let w = one-gsa (f .payloads) (omega (arith, i .gsas)) in
-      ap (onPolicies (b .gsas)) l
-      ∙ (λ j.
-      severalRekeyPolicies f ∷ severalGroupWide f ∷ ((λ k. ltb 0 (i .gsas k) && not (some (gather saOf (policiesOf f)))) ∙ sym w) j
-      ∷ keyLengthTwice f ∷ initialMessageIdTwice f ∷ delayTwice f ∷ otherDestination f ∷ [])
+  -- ---- the walk: where it stands at a place
+  module _ (p : Place) (s : List ℕ) where
+    pub record NumberWalk (n : Numbers) (at : ℕ) : Type 0 where
+      pub few : n .count ≤ at
+      pub small : n .greatest ≤ most m
+      pub inside : at ≤ length s
+      pub rest : isWhole (attributes p 0 (drop at s)) ≡ true
+      pub so-far : plus n (valuesIn m p (drop at s)) ≡ numbersBy m (valuesIn m p s)
 
--- WHAT THE CODE ANSWERS
-not-at : (n : ℕ) (l : List Bool) → one l ≡ false → getD l n false ≡ false
-not-at n l e = bool-cases (getD l n false) (λ t. never (one l) (one-at n l t) e) (λ t. t)
+    pub numbers-start : isWhole (attributes p 0 s) ≡ true → NumberWalk noNumbers 0
+    numbers-start e = record {
+      few = omega arith;
+      small = omega arith;
+      inside = omega arith;
+      rest = e;
+      so-far = from-none (valuesIn m p s);
+    }
 
-module _ (d : Bool) (b : Bodies) (p : one (onPayloads d b) ≡ false) where
-  pub one-gsa-at-most : b .gsas ≤ 1
-  one-gsa-at-most = ltb-false 1 (b .gsas) (not-at 2 (onPayloads d b) p)
+    module _ (n : Numbers) (at : ℕ) (w : NumberWalk n at) where
+      pub numbers-end : valuesIn m p (drop at s) ≡ [] → (n ≡ numbersBy m (valuesIn m p s)) × (n .greatest ≤ most m)
+      numbers-end e = (sym (none-left n) ∙ ap (plus n) (sym e) ∙ w .so-far, w .small)
 
-  pub one-kd-at-most : b .kds ≤ 1
-  one-kd-at-most = ltb-false 1 (b .kds) (not-at 3 (onPayloads d b) p)
+      module _ (a e : ℕ) (o : FoundAt m p s at a e) where
+        pub number-sized : valueSize m (length (part s a e)) ≡ true
+        number-sized =
+            let d = length-drop a s in
+            let t = length-take (e - a) (drop a s) in
+            let z : length (part s a e) ≡ e - a = omega (arith, o .order, o .inside) in
+            ap (valueSize m) z ∙ o .size
 
-module _ (s : List ℕ) (f : Frame) (b : Bodies) (i : IsBodies s f b) (row : Exchange) (e : rowOf f ≡ row)
-    (p : Bool) (pq : p ≡ one (onPayloads (row .delete) b)) where
-  by-payloads : one (payloadClauses f) ≡ p
-  by-payloads = sym (pq ∙ ap one (on-payloads s f b i row e))
+        pub numbers-less : length s - e < length s - at
+        numbers-less = omega (arith, o .start, o .order, o .inside)
 
-  pub payloads-apply : p ≡ true → true ≡ applies (four f)
-  payloads-apply t =
-      sym (grouped f ∙ ap (λ (x : Bool). x || (one (bagClauses f) || one (policyClauses f))) (by-payloads ∙ t))
+        pub numbers-room : n .count + 1 ≤ length s
+        numbers-room = omega (arith, w .few, o .start, o .order, o .inside)
 
-  module _ (t : p ≡ false) (q : Bool) (qq : q ≡ one (onBags (row .bag) (bagsIn (part s (b .kd .start) (b .kd .end))))) where
-    by-bags : one (bagClauses f) ≡ q
-    by-bags = sym (qq ∙ ap one (on-bags s f b i row e (one-kd-at-most (row .delete) b (sym pq ∙ t))))
-
-    pub bags-apply : q ≡ true → true ≡ applies (four f)
-    bags-apply u =
-        sym (grouped f ∙ (λ j. (by-payloads ∙ t) j || ((by-bags ∙ u) j || one (policyClauses f))))
-
-    pub policies-decide : q ≡ false → (r : Bool) → r ≡ one (onPolicies (b .gsas) (policiesIn (part s (b .gsa .start) (b .gsa .end))))
-        → r ≡ applies (four f)
-    policies-decide u r rq =
-        let v = rq ∙ ap one (on-policies s f b i (one-gsa-at-most (row .delete) b (sym pq ∙ t))) in
-        sym (grouped f ∙ (λ j. (by-payloads ∙ t) j || ((by-bags ∙ u) j || sym v j)))
+        pub numbers-next : (r : Numbers) → (r ≡ withNumber m n (part s a e)) × (r .greatest ≤ most m) → NumberWalk r e
+        numbers-next r (q, h) = record {
+          few = omega (arith, ap (λ (x : Numbers). x .count) q, w .few, o .start, o .order);
+          small = h;
+          inside = o .inside;
+          rest = o .rest;
+          so-far =
+              ap (λ (x : Numbers). plus x (valuesIn m p (drop e s))) q ∙ sym (one-more n (part s a e) (valuesIn m p (drop e s)))
+              ∙ ap (plus n) (sym (o .first)) ∙ w .so-far;
+        }

@@ -1,94 +1,180 @@
-// Number 4 of document 01: what a frame whose layout is whole is made up of, apart from algorithms and names.
+// The facts of the policies of a GSA payload that numbers 4 to 7 of document 01 and the member afterwards go by, in one walk.
 pub mod addresses;
-pub mod counts;
-pub mod places;
+pub mod numbers;
 
 ghost use mathlib.Core.Path.{_≡_};
 ghost use mathlib.Core.Bool.{true};
-ghost use mathlib.Core.List.{[]};
-ghost use Rattle.octets.specs.Walk.{whole};
-ghost use Rattle.policies.specs.Policy.{policies};
-ghost use Rattle.bags.specs.Bag.{bags};
-ghost use Rattle.frames.specs.Frame.{Frame, frame};
+ghost use mathlib.Core.List.{List};
+ghost use Prim.Native.Nat.{ℕ, _<_};
+ghost use Rattle.attributes.specs.Place.{inPolicy};
+ghost use Rattle.attributes.specs.Layout.{attributes};
+ghost use Rattle.attributes.specs.declared.tables.Place.the-variants.{GroupWidePolicy};
+ghost use Rattle.policies.specs.Policy.{SaBody, groupWideOf, policies};
+ghost use Rattle.policies.specs.Grammar.{IsSaBody};
 ghost use Rattle.contents.specs.inner.Values.{isWhole};
 ghost use Rattle.contents.specs.inner.Policies.{policiesIn};
-ghost use Rattle.contents.specs.inner.Bags.{bagsIn};
-ghost use Rattle.clauses.specs.Contents.{rowOf};
-ghost use Rattle.clauses.specs.Refusals.{one, four, applies};
-ghost use Rattle.composition.specs.inner.Groups.{onPayloads, onBags, onPolicies};
-use counts::Sort;
-use frames::exchanges::Exchange;
-use payloads::Bodies;
+ghost use Rattle.composition.specs.inner.Facts.{noPolicies, ofSa, saWith, wideBy, together, factsOf, Holds, OfOne, AtMost, Added};
+use attributes::tables::Meaning;
+use attributes::tables::Place;
+use contents::policy::AH;
+use contents::policy::ESP;
+use contents::policy::REKEY;
+use numbers::Numbers;
+use numbers::greater_u16;
+use numbers::greater_u32;
+use numbers::if_so;
+use numbers::numbers_of;
+use suites::counts::one_if;
 
-// The clauses on which payloads there are; whether D is allowed is the exchange's. The tests cover all seven: with at most one GSA, the
-// counts of GSA and KD differ exactly where there are two KDs, a GSA without KD or a KD without GSA; where they are equal and there is
-// no D, "neither" is that they are 0; where there is a D, only whether it is allowed is left.
-fn payload_clauses(delete: bool, b: Bodies) -> bool
-    ensures { λ r. ⌜ r ≡ one (onPayloads delete b) ⌝ }
-{
-    if b.critical {
-        return true;
-    }
-    if 1 < b.gsas {
-        return true;
-    }
-    if b.gsas == b.kds {
-        if b.deletes == 0 {
-            return b.gsas == 0;
-        }
-        if delete {
-            return false;
-        }
-    }
-    true
+// What the policies of a GSA payload have.
+pub struct PolicyFacts {
+    // how many Group SA policies, how many of them of ESP, of a Rekey SA; how many group-wide policies
+    pub sas: usize,
+    pub esps: usize,
+    pub rekeys: usize,
+    pub wides: usize,
+    // a policy is of AH
+    pub ah: bool,
+    // Key Length stands twice in a transform, GSA_INITIAL_MESSAGE_ID twice in a policy, the deactivation delay twice in a group-wide policy
+    pub lengths: bool,
+    pub ids: bool,
+    pub delays: bool,
+    // the destination of a Rekey policy is not one group address and port
+    pub elsewhere: bool,
+    // the transforms of a Group SA policy are not those that it must have
+    pub unfit: bool,
+    // the deactivation delay of the group-wide policies and the first Message ID of the Rekey policies, 0 where they give none, the greatest
+    // where they give several
+    pub delay: u16,
+    pub initial: u32,
 }
 
-// The clauses on Member Key Bags; whether one is allowed is the exchange's.
-fn bag_clauses(bag: bool, k: &[u8]) -> bool
-    requires { ⌜ isWhole (bags 0 (now k)) ≡ true ⌝ }
-    ensures { λ r. ⌜ r ≡ one (onBags bag (bagsIn (now (k .entry)))) ⌝ }
+// Those of no policy.
+fn no_policies() -> PolicyFacts
+    ensures { λ r. ⌜ r ≡ noPolicies ⌝ }
 {
-    let n = bagkeys::member_bags(k);
-    if bag {
-        return 1 < n;
+    PolicyFacts {
+        sas: 0,
+        esps: 0,
+        rekeys: 0,
+        wides: 0,
+        ah: false,
+        lengths: false,
+        ids: false,
+        delays: false,
+        elsewhere: false,
+        unfit: false,
+        delay: 0,
+        initial: 0,
     }
-    0 < n
 }
 
-// The clauses on the policies of the GSA payloads, of which there is one at most.
-fn policy_clauses(gsas: usize, g: &[u8]) -> bool
+// Those of a group-wide policy with these deactivation delays.
+fn of_wide(n: Numbers) -> PolicyFacts
+    requires { ⌜ n .greatest < 65536 ⌝ }
+    ensures { λ r. ⌜ r ≡ wideBy n ⌝ }
+{
+    PolicyFacts {
+        sas: 0,
+        esps: 0,
+        rekeys: 0,
+        wides: 1,
+        ah: false,
+        lengths: false,
+        ids: false,
+        delays: 1 < n.count,
+        elsewhere: false,
+        unfit: false,
+        delay: n.greatest as u16,
+        initial: 0,
+    }
+}
+
+// Those of a Group SA policy of a protocol with these octets after its SPI, where the exchange has the controller's authentication or not.
+fn of_sa(authentication: bool, protocol: usize, o: &[u8]) -> PolicyFacts
+    requires { ⌜ ((x : SaBody) × IsSaBody (inPolicy protocol) (now o) x) ⌝ }
+    ensures { λ r. ⌜ ((x : SaBody) (spi : List ℕ) → IsSaBody (inPolicy protocol) (now (o .entry)) x
+        → r ≡ ofSa authentication (saWith protocol spi x)) ⌝ }
+{
+    let p = contents::body::sa_parts(o);
+    let d = p.destination;
+    let t = p.transforms;
+    let a = p.attributes;
+    let u = suites::suite(&o[t..]);
+    let n = numbers_of(
+        Meaning::InitialMessageId,
+        attributes::tables::in_policy(protocol),
+        &o[a..],
+    );
+    let group = addresses::is_group_address(&o[d..t]);
+    let fit = u.is_fit(authentication, protocol);
+    PolicyFacts {
+        sas: 1,
+        esps: one_if(protocol == ESP),
+        rekeys: one_if(protocol == REKEY),
+        wides: 0,
+        ah: protocol == AH,
+        lengths: 0 < u.doubled,
+        ids: 1 < n.count,
+        delays: false,
+        elsewhere: (protocol == REKEY) & !group,
+        unfit: !fit,
+        delay: 0,
+        initial: if_so(protocol == REKEY, n.greatest),
+    }
+}
+
+// Those of the policy with this first octet and these octets after its head.
+fn of_policy(authentication: bool, first: usize, o: &[u8]) -> PolicyFacts
+    requires { ⌜ Holds first (now o) ⌝ }
+    ensures { λ r. ⌜ OfOne authentication first (now (o .entry)) r ⌝ }
+{
+    if first == 0 {
+        return of_wide(numbers_of(Meaning::DeactivationDelay, Place::GroupWidePolicy, o));
+    }
+    of_sa(authentication, first, o)
+}
+
+// Those of the policies of both.
+fn together(a: PolicyFacts, b: PolicyFacts) -> PolicyFacts
+    requires { ⌜ Added a b ⌝ }
+    ensures { λ r. ⌜ r ≡ together a b ⌝ }
+{
+    let delay = greater_u16(a.delay, b.delay);
+    let initial = greater_u32(a.initial, b.initial);
+    let sas = a.sas + b.sas;
+    let esps = a.esps + b.esps;
+    let rekeys = a.rekeys + b.rekeys;
+    let wides = a.wides + b.wides;
+    PolicyFacts {
+        sas,
+        esps,
+        rekeys,
+        wides,
+        ah: a.ah | b.ah,
+        lengths: a.lengths | b.lengths,
+        ids: a.ids | b.ids,
+        delays: a.delays | b.delays,
+        elsewhere: a.elsewhere | b.elsewhere,
+        unfit: a.unfit | b.unfit,
+        delay,
+        initial,
+    }
+}
+
+// The facts of the policies of a GSA body, where the exchange has the controller's authentication or not. Internal.
+pub fn policy_facts(authentication: bool, g: &[u8]) -> PolicyFacts
     requires { ⌜ isWhole (policies 0 (now g)) ≡ true ⌝ }
-    ensures { λ r. ⌜ r ≡ one (onPolicies gsas (policiesIn (now (g .entry)))) ⌝ }
+    ensures { λ r. ⌜ r ≡ factsOf authentication (policiesIn (now (g .entry))) ⌝ }
 {
-    if 1 < counts::count_of_sort(Sort::Rekey, g) {
-        return true;
+    let mut f = no_policies();
+    let mut at = 0;
+    while at < g.len() {
+        let p = contents::policy::policy_parts(&g[at..]);
+        let start = at + p.body;
+        let end = at + p.end;
+        f = together(f, of_policy(authentication, p.first, &g[start..end]));
+        at = end;
     }
-    if 1 < counts::count_of_sort(Sort::GroupWide, g) {
-        return true;
-    }
-    if 0 < gsas {
-        if counts::count_of_sort(Sort::AnySa, g) == 0 {
-            return true;
-        }
-    }
-    places::has_barred(g)
-}
-
-// Whether number 4 applies to a frame whose layout is whole, of an exchange whose row is given. Internal.
-pub fn number_4(row: Exchange, s: &[u8]) -> bool
-    requires { ⌜ isWhole (frame (now s)) ≡ true ⌝ }
-    ensures { λ r. ⌜ ((f : Frame) → frame (now (s .entry)) ≡ whole f [] → rowOf f ≡ row → r ≡ applies (four f)) ⌝ }
-{
-    let b = payloads::bodies_of(s);
-    if payload_clauses(row.delete, b) {
-        return true;
-    }
-    let k = b.kd.start;
-    let l = b.kd.end;
-    if bag_clauses(row.bag, &s[k..l]) {
-        return true;
-    }
-    let g = b.gsa.start;
-    let h = b.gsa.end;
-    policy_clauses(b.gsas, &s[g..h])
+    f
 }

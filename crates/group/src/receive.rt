@@ -1,6 +1,8 @@
 // The call on an opened frame.
 use crate::Member;
 use attributes::Layout;
+use judging::facts::Facts;
+use judging::refusal::Verdict;
 use receiving::registration::registered;
 use receiving::rekey::rekeyed;
 use receiving::row_of;
@@ -109,26 +111,39 @@ impl Member {
         }
     }
 
-    // A registration that numbers 2 to 7 let pass.
-    fn registering(self, s: &[u8], lent: &[u8], tick: u32) -> Received
-        requires { ⌜ ((f : Frame) × Passed (self .state) tick (now lent) (now s) f × (rowOf f .holds ≡ true)) ⌝ }
-        ensures { λ r. ⌜ ((f : Frame) → Passed (self .state) tick (now (lent .entry)) (now (s .entry)) f → rowOf f .holds ≡ true →
+    // A registration that numbers 2 to 7 let pass, with its facts.
+    fn registering(self, s: &[u8], x: Facts, lent: &[u8], tick: u32) -> Received
+        requires { ⌜ ((f : Frame) × Passed (self .state) tick (now lent) (now s) x f × (rowOf f .holds ≡ true)) ⌝ }
+        ensures { λ r. ⌜ ((f : Frame) → Passed (self .state) tick (now (lent .entry)) (now (s .entry)) x f → rowOf f .holds ≡ true →
             Judged limits (self .state) tick (now (lent .entry)) f (numberOf (r .answer)) (r .member .state)) ⌝ }
     {
         let state = self.state;
-        let next = registered(state, s, lent, tick);
+        let next = registered(state, s, x, lent, tick);
         answered(next.number, next.state)
     }
 
-    // A rekey that numbers 2 to 7 let pass. No lent key is read.
-    fn rekeying(self, s: &[u8], tick: u32) -> Received
-        requires { ⌜ ((f : Frame) × (lent : List ℕ) × Passed (self .state) tick lent (now s) f × (rowOf f .holds ≡ false)) ⌝ }
-        ensures { λ r. ⌜ ((f : Frame) (lent : List ℕ) → Passed (self .state) tick lent (now (s .entry)) f → rowOf f .holds ≡ false →
+    // A rekey that numbers 2 to 7 let pass, with its facts. No lent key is read.
+    fn rekeying(self, s: &[u8], x: Facts, tick: u32) -> Received
+        requires { ⌜ ((f : Frame) × (lent : List ℕ) × Passed (self .state) tick lent (now s) x f × (rowOf f .holds ≡ false)) ⌝ }
+        ensures { λ r. ⌜ ((f : Frame) (lent : List ℕ) → Passed (self .state) tick lent (now (s .entry)) x f → rowOf f .holds ≡ false →
             Judged limits (self .state) tick lent f (numberOf (r .answer)) (r .member .state)) ⌝ }
     {
         let state = self.state;
-        let next = rekeyed(state, s, tick);
+        let next = rekeyed(state, s, x, tick);
         answered(next.number, next.state)
+    }
+
+    // A frame that numbers 2 to 7 let pass, with its facts.
+    fn passed(self, s: &[u8], x: Facts, lent: &[u8], tick: u32) -> Received
+        requires { ⌜ ((f : Frame) × Passed (self .state) tick (now lent) (now s) x f) ⌝ }
+        ensures { λ r. ⌜ ((f : Frame) → Passed (self .state) tick (now (lent .entry)) (now (s .entry)) x f →
+            Judged limits (self .state) tick (now (lent .entry)) f (numberOf (r .answer)) (r .member .state)) ⌝ }
+    {
+        let row = row_of(s);
+        if row.holds {
+            return self.registering(s, x, lent, tick);
+        }
+        self.rekeying(s, x, tick)
     }
 
     // A frame whose layout is whole.
@@ -138,15 +153,10 @@ impl Member {
             Judged limits (self .state) tick (now (lent .entry)) f (numberOf (r .answer)) (r .member .state)) ⌝ }
     {
         let state = self.state;
-        let number = judging::refusal(state, s, lent, tick);
-        if number != 0 {
-            return self.refused(number);
+        match judging::refusal::refusal(state, s, lent, tick) {
+            Verdict::Refused(number) => self.refused(number),
+            Verdict::Passed(x) => self.passed(s, x, lent, tick),
         }
-        let row = row_of(s);
-        if row.holds {
-            return self.registering(s, lent, tick);
-        }
-        self.rekeying(s, tick)
     }
 
     // A frame's octets, opened: the IKE header and the payloads. A registration (GSA_AUTH, GSA_REGISTRATION) comes with a lent default

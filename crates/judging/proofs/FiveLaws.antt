@@ -1,70 +1,53 @@
--- Number 5 from the tests that the code makes, in whatever order.
-use mathlib.Core.Path.{_≡_, refl, sym, _∙_}
-use mathlib.Core.Bool.{Bool, true, false, not, _&&_, _||_}
+-- The tests of numbers 5 and 7 over the facts of a frame are their clauses.
+use Prim.Native.Nat.{ℕ, _+_, _-_, _<_, _≤_}
+use mathlib.Core.Path.{_≡_, refl, ap, sym, _∙_}
 use mathlib.Core.List.{List, [], _∷_}
-use Prim.Native.Nat.{ℕ}
+use mathlib.Core.Bool.{Bool, true, not, _&&_, _||_}
+use native.Mathlib.Omega.{arith}
+use borrow.Author.Tests.{lt-ltb, le-ltb}
 use lib.ListN.{length}
-use lib.Dec.{eqb}
-use Rattle.keys.specs.Lists.{any}
+use lib.Dec.{ltb}
+use Rattle.keys.specs.Limits.{Limits, limits}
 use Rattle.keys.specs.Algorithms.{sizeOf}
-use Rattle.policies.specs.Policy.{Policy, GroupSaPolicy}
-use Rattle.bags.specs.Bag.{Bag, GroupKeyBag}
+use Rattle.keys.proofs.Cases.{lt-cases}
+use Rattle.state.specs.declared.State.{State}
 use Rattle.frames.specs.Frame.{Frame}
 use Rattle.frames.specs.declared.exchanges.Exchange.{Exchange}
+use Rattle.clauses.specs.Contents.{rowOf, policiesOf, bagsOf}
+use Rattle.clauses.specs.Number2.{standing}
+use Rattle.clauses.specs.Number5.{ahPolicy, ahBag, otherTransforms, lentKeySize, five-ofFrame}
+use Rattle.clauses.specs.Number7.{manyEspPolicies, manyWrapKeys, manySaKeys, manyDeletedSpis, manySas, seven-ofFrame, seven-ofMember}
+use Rattle.clauses.specs.Refusals.{one, five, seven, applies}
+use Rattle.clauses.proofs.OneOf.{or-false, one-append}
 use Rattle.payloads.specs.declared.deletion.Deletes.{Deletes}
-use Rattle.payloads.specs.inner.Deletion.{IsDeletes}
-use Rattle.clauses.specs.Contents.{rowOf, gather, saOf, groupBagOf, policiesOf, bagsOf}
-use Rattle.clauses.specs.Fitness.{ah, transformsFit}
-use Rattle.clauses.specs.Number5.{ahPolicy, ahBag, otherTransforms, deleteOfOther, deleteOfNone, lentKeySize, five-ofFrame}
-use Rattle.clauses.specs.Refusals.{one, five, applies}
+use Rattle.payloads.proofs.FoundLaws.{IsDeletes}
+use Rattle.composition.specs.declared.PolicyFacts.{PolicyFacts}
+use Rattle.composition.specs.inner.Facts.{factsOf as policyFacts}
+use Rattle.bagkeys.specs.declared.BagFacts.{BagFacts}
+use Rattle.bagkeys.specs.inner.Facts.{factsOf as bagFacts}
+use Rattle.judging.specs.inner.Tests.{fiveOf, sevenOf}
 
--- six tests, and what is said of all together
-six-tests : (a b t o n l : Bool) → (l || (o || (n || (a || (b || t))))) ≡ (one (a ∷ b ∷ t ∷ o ∷ n ∷ l ∷ []) || one [])
-unfolding one
-six-tests true b t o n true = refl
-six-tests true b t true n false = refl
-six-tests true b t false true false = refl
-six-tests true b t false false false = refl
-six-tests false true t o n true = refl
-six-tests false true t true n false = refl
-six-tests false true t false true false = refl
-six-tests false true t false false false = refl
-six-tests false false true o n true = refl
-six-tests false false true true n false = refl
-six-tests false false true false true false = refl
-six-tests false false true false false false = refl
-six-tests false false false o n true = by o n
-  where
-    by : (o n : Bool) → true ≡ ((o || (n || (true || false))) || false)
-    by true n = refl
-    by false true = refl
-    by false false = refl
-six-tests false false false true n false = refl
-six-tests false false false false true false = refl
-six-tests false false false false false false = refl
+-- so many and so many more
+pub over-already : (n m : ℕ) → limits .sas < n → true ≡ ltb (limits .sas) (n + m)
+over-already n m h = sym (lt-ltb (limits .sas) (n + m) (omega arith))
 
-module _ (lent : List ℕ) (g : List Policy) (k : List Bag) (f : Frame) (row : Exchange) (d : Deletes) (pg : policiesOf f ≡ g)
-    (bk : bagsOf f ≡ k) (r : rowOf f ≡ row) (is : IsDeletes f d) where
-  -- the tests that the code makes, in its order
-  pub five-is : ((row .lent && not (sizeOf 13 (length lent))) || (d .other || (d .none
-      || (any (λ (p : GroupSaPolicy). eqb (p .protocol) ah) (gather saOf g)
-      || (any (λ (b : GroupKeyBag). eqb (b .protocol) ah) (gather groupBagOf k)
-      || any (λ (p : GroupSaPolicy). not (transformsFit (row .authentication) p)) (gather saOf g)))))) ≡ applies (five lent f)
-  unfolding ahPolicy ahBag otherTransforms lentKeySize five-ofFrame
-  five-is =
-      let ahIn : List Policy → Bool = λ l. any (λ (p : GroupSaPolicy). eqb (p .protocol) ah) (gather saOf l) in
-      let ahAmong : List Bag → Bool = λ l. any (λ (b : GroupKeyBag). eqb (b .protocol) ah) (gather groupBagOf l) in
-      let otherIn : Bool → List Policy → Bool = λ a l. any (λ (p : GroupSaPolicy). not (transformsFit a p)) (gather saOf l) in
-      let o = is .other in
-      let n = is .none in
-      (λ i. (sym r i .lent && not (sizeOf 13 (length lent))) || (o i || (n i || (ahIn (sym pg i)
-      || (ahAmong (sym bk i) || otherIn (sym r i .authentication) (sym pg i))))))
-      ∙ six-tests (ahPolicy f) (ahBag f) (otherTransforms f) (deleteOfOther f) (deleteOfNone f) (lentKeySize lent f)
+pub over-with : (n m : ℕ) → n ≤ limits .sas → ltb (limits .sas - n) m ≡ ltb (limits .sas) (n + m)
+over-with n m h =
+    lt-cases (limits .sas - n) m (λ g. lt-ltb (limits .sas - n) m g ∙ sym (lt-ltb (limits .sas) (n + m) (omega arith)))
+    (λ g. le-ltb (limits .sas - n) m g ∙ sym (le-ltb (limits .sas) (n + m) (omega arith)))
 
-  -- from the answers to the tests; one that was not made is what it would have been
-  pub five-by : (l o n a b t : Bool) → l ≡ (row .lent && not (sizeOf 13 (length lent))) → o ≡ d .other → n ≡ d .none
-      → a ≡ any (λ (p : GroupSaPolicy). eqb (p .protocol) ah) (gather saOf g)
-      → b ≡ any (λ (x : GroupKeyBag). eqb (x .protocol) ah) (gather groupBagOf k)
-      → t ≡ any (λ (p : GroupSaPolicy). not (transformsFit (row .authentication) p)) (gather saOf g)
-      → (l || (o || (n || (a || (b || t))))) ≡ applies (five lent f)
-  five-by l o n a b t el eo en ea eb et = (λ i. el i || (eo i || (en i || (ea i || (eb i || et i))))) ∙ five-is
+module _ (f : Frame) (row : Exchange) (e : rowOf f ≡ row) (d : Deletes) (is : IsDeletes f d) (p : PolicyFacts) (k : BagFacts)
+    (pq : p ≡ policyFacts (rowOf f .authentication) (policiesOf f)) (kq : k ≡ bagFacts limits (bagsOf f)) where
+  pub five-is : (lent : List ℕ) → one (fiveOf row (length lent) d p k) ≡ applies (five lent f)
+  unfolding one ahPolicy ahBag otherTransforms lentKeySize five-ofFrame
+  five-is lent =
+      (λ i. one (pq i .ah ∷ kq i .ah ∷ pq i .unfit ∷ is .other i ∷ is .none i ∷ (sym e i .lent && not (sizeOf 13 (length lent))) ∷ []))
+      ∙ sym (or-false (one (five-ofFrame lent f)))
+
+  pub seven-is : (state : State) (now n : ℕ) → n ≡ length (standing now state)
+      → one (sevenOf limits d p k n) ≡ applies (seven limits state now f)
+  unfolding manyEspPolicies manyWrapKeys manySaKeys manyDeletedSpis manySas seven-ofFrame seven-ofMember
+  seven-is state now n nq =
+      (λ i. one (ltb (limits .espPolicies) (pq i .esps) ∷ ltb (limits .wrapKeys) (kq i .wraps) ∷ kq i .overfull
+      ∷ ltb (limits .deletedSpis) (is .spis i) ∷ ltb (limits .sas) (nq i + pq i .sas) ∷ []))
+      ∙ one-append (seven-ofFrame limits f) (seven-ofMember limits state now f)

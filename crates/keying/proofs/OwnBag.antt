@@ -21,7 +21,7 @@ use Rattle.chains.specs.Refusals.{Announced}
 use Rattle.copies.specs.inner.Answer.{copiesIn, announcedIn, Answers}
 use Rattle.copies.specs.declared.answer.Opened.{Opened}
 use Rattle.outcome.specs.Roots.{copiesOf, needOf, announcedAs}
-use Rattle.pairing.specs.inner.Stretches.{StretchIs}
+use Rattle.pairing.proofs.Seeking.{StretchIs}
 use Rattle.contents.specs.declared.Stretch.{Stretch}
 
 module _ (k : List ℕ) (p : ℕ) (x : List ℕ) (s : Stretch) (is : StretchIs k p x s) (place : Place) (in-bag : place ≡ inBag p) where

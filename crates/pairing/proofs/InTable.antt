@@ -11,25 +11,24 @@ use Rattle.keys.proofs.Parts.{part-cons, part-end}
 use Rattle.sa.specs.Entry.{named, due, spiOf, spiSize}
 use Rattle.sa.specs.declared.entry.Sa.{Sa}
 use Rattle.table.specs.Table.{stays, notDue}
-use Rattle.bagkeys.proofs.Answers.{count-any}
-use Rattle.pairing.specs.inner.Names.{Name, isSuch, isAnnounced}
-use Rattle.pairing.specs.declared.names.Which.the-variants as which
+use Rattle.clauses.proofs.Gather.{any-count}
+use Rattle.pairing.specs.inner.Names.{Name, isNamed, isAnnounced}
 use Rattle.pairing.proofs.ListLaws.{same-swap, eqb-swap, any-keep, any-swap}
 
 module _ (now : ℕ) (s : Sa) (l : List Name) where
   pub announced-due : due now s ≡ true → false ≡ isAnnounced now l s
   announced-due e = rw e
 
-  such-names : (n : Name) → isSuch which.Named (s .protocol) (spiOf s) n ≡ named (n .protocol) (n .spi) s
+  such-names : (n : Name) → isNamed (s .protocol) (spiOf s) n ≡ named (n .protocol) (n .spi) s
   unfolding named
   such-names n = λ i. eqb-swap (n .protocol) (s .protocol) i && same-swap (n .spi) (spiOf s) i
 
   module _ (m p n : ℕ) (e : due now s ≡ false) (f : p ≡ s .protocol) (g : n ≡ spiSize (s .protocol)) where
-    pub announced-counted : m ≡ count (isSuch which.Named p (take (n - 0) (s .spi))) l → ltb 0 m ≡ isAnnounced now l s
+    pub announced-counted : m ≡ count (isNamed p (take (n - 0) (s .spi))) l → ltb 0 m ≡ isAnnounced now l s
     announced-counted h =
         let z : n - 0 ≡ spiSize (s .protocol) = omega arith in
-        ap (ltb 0) (h ∙ (λ i. count (isSuch which.Named (f i) (take (z i) (s .spi))) l))
-        ∙ count-any (isSuch which.Named (s .protocol) (spiOf s)) l ∙ (λ i. any (λ (x : Name). such-names x i) l) ∙ rw e
+        ap (ltb 0) (h ∙ (λ i. count (isNamed (f i) (take (z i) (s .spi))) l))
+        ∙ sym (any-count (isNamed (s .protocol) (spiOf s)) l) ∙ (λ i. any (λ (x : Name). such-names x i) l) ∙ rw e
 
 -- ---- the pass over the SAs of the table
 module _ {A : Type 0} (p : A → Bool) (l : List A) (n : ℕ) (h : n ≤ length l) (j : ℕ) where

@@ -6,6 +6,5 @@ pub mod NamesOf
 pub mod ListLaws
 pub mod InTable
 pub mod Twice
-pub mod Six
-pub mod Seven
 pub mod Seeking
+pub mod Places

@@ -1,7 +1,7 @@
 -- Tests on lists: one that passes, by what it is, and in two lists at once.
 use Prim.Native.Nat.{ℕ}
 use mathlib.Core.Path.{_≡_, refl, ap, sym, _∙_}
-use mathlib.Core.List.{List, [], _∷_, map}
+use mathlib.Core.List.{List, [], _∷_}
 use mathlib.Core.Bool.{Bool, true, false, _||_, _&&_}
 use borrow.Author.Tests.{eq-eqb, ne-eqb, eqb-true, eqb-false}
 use lib.Dec.{eqb}
@@ -27,11 +27,6 @@ module _ {A : Type 0} where
   any-keep p q [] = refl
   any-keep p q (a ∷ l) =
       bool-cases (q a) (λ e. rw e (ap (λ (b : Bool). p a || b) (any-keep p q l))) (λ e. rw e (any-keep p q l))
-
-  pub any-of-map : {B : Type 0} (f : A → B) (p : B → Bool) (l : List A) → any p (map f l) ≡ any (λ (a : A). p (f a)) l
-  unfolding any
-  any-of-map f p [] = refl
-  any-of-map f p (a ∷ l) = ap (λ (b : Bool). p (f a) || b) (any-of-map f p l)
 
   -- where one passes, so does one by a weaker test
   pub any-weaker : (p q : A → Bool) → ((a : A) → p a ≡ true → q a ≡ true) → (l : List A) → any p l ≡ true → any q l ≡ true

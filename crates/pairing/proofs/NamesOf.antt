@@ -48,10 +48,10 @@ module _ (ok : List ℕ → Bool) (read : List ℕ → List Name) (none : (s : L
   read-names : (s : List ℕ) → ok s ≡ true → Names s (read s)
   read-names s e = upto (suc (length s)) s (omega arith) e
 
-parts : List ℕ → Parts
+pub parts : List ℕ → Parts
 parts s = record { first = oct s 0; body = headSize s; end = be16 s 2 }
 
-heads : (s : List ℕ) → headFits s ≡ true → Heads s (parts s)
+pub heads : (s : List ℕ) → headFits s ≡ true → Heads s (parts s)
 unfolding parts
 heads s e =
     let i = head-is s e in

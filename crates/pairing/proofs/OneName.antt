@@ -8,9 +8,7 @@ use lib.Dec.{eqb}
 use Rattle.octets.specs.Walk.{either}
 use Rattle.octets.specs.Compare.{same}
 use Rattle.keys.specs.Lists.{any, count}
-use Rattle.pairing.specs.inner.Names.{Name, nameOf, isSuch}
-use Rattle.pairing.specs.declared.names.Which.{Which}
-use Rattle.pairing.specs.declared.names.Which.the-variants as which
+use Rattle.pairing.specs.inner.Names.{Name, nameOf, isNamed}
 
 module _ (q : Name → Bool) (p : ℕ) (x : List ℕ) where
   pub no-name : p ≡ 0 → false ≡ any q (nameOf p x)
@@ -30,24 +28,13 @@ module _ (q : Name → Bool) (m : List Name) where
   pub name-counted : (p : ℕ) (x : List ℕ) → count q (nameOf p x ++ m) ≡ cond (any q (nameOf p x)) (count q m + 1) (count q m)
   name-counted p x = counted-in (eqb p 0) (record { protocol = p; spi = x })
 
--- ---- the three kinds of question
-module _ (w : Which) (protocol : ℕ) (spi : List ℕ) (first : ℕ) (x : List ℕ) (f : first ≡ 0 → ⊥) where
+-- ---- whether it is this protocol and SPI
+module _ (protocol : ℕ) (spi : List ℕ) (first : ℕ) (x : List ℕ) (f : first ≡ 0 → ⊥) where
   abbrev Answer : Bool → Type 0
-  Answer b = b ≡ any (isSuch w protocol spi) (nameOf first x)
+  Answer b = b ≡ any (isNamed protocol spi) (nameOf first x)
 
-  as-asked : (v : Which) (b : Bool) → w ≡ v → b ≡ isSuch v protocol spi (record { protocol = first; spi = x }) → Answer b
-  as-asked v b e g =
-      a-name (isSuch w protocol spi) first x b f
-      (g ∙ sym (ap (λ (u : Which). isSuch u protocol spi (record { protocol = first; spi = x })) e))
+  pub named-so : (b : Bool) → first ≡ protocol → b ≡ same x spi → Answer b
+  named-so b g h = a-name (isNamed protocol spi) first x b f (h ∙ simp (eq-eqb first protocol g))
 
-  pub such-every : w ≡ which.Every → Answer true
-  such-every e = as-asked which.Every true e refl
-
-  pub such-protocol : w ≡ which.OfProtocol → Answer (eqb first protocol)
-  such-protocol e = as-asked which.OfProtocol (eqb first protocol) e refl
-
-  pub such-named : (b : Bool) → w ≡ which.Named → first ≡ protocol → b ≡ same x spi → Answer b
-  such-named b e g h = as-asked which.Named b e (h ∙ simp (eq-eqb first protocol g))
-
-  pub such-other : w ≡ which.Named → (first ≡ protocol → ⊥) → Answer false
-  such-other e g = as-asked which.Named false e (simp (ne-eqb first protocol g))
+  pub named-other : (first ≡ protocol → ⊥) → Answer false
+  named-other g = a-name (isNamed protocol spi) first x false f (simp (ne-eqb first protocol g))

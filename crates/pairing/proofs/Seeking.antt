@@ -1,4 +1,4 @@
--- The pass over the bags of a KD body that looks for the one with a name.
+-- The one bag of a KD body with a name, sought among its bags one after the other.
 use Prim.Native.Nat.{ℕ, _+_, _-_, _<_, _≤_}
 use mathlib.Core.Path.{_≡_, refl, ap, sym, _∙_}
 use mathlib.Core.List.{List, [], _∷_, append-nil}
@@ -23,9 +23,16 @@ use Rattle.contents.specs.declared.policy.Parts.{Parts}
 use Rattle.clauses.specs.Contents.{gather, groupBagOf}
 use Rattle.clauses.specs.Number6.{bagNamed}
 use Rattle.bagkeys.proofs.BagAt.{BagAt, no-bags}
-use Rattle.pairing.specs.inner.Names.{nameOf, isSuch}
-use Rattle.pairing.specs.inner.Stretches.{StretchIs}
-use Rattle.pairing.specs.declared.names.Which.the-variants as which
+use Rattle.pairing.specs.inner.Names.{nameOf, isNamed}
+use Rattle.contents.specs.declared.Stretch.{Stretch}
+
+-- the attributes of the one Group Key Bag with a protocol and SPI stand there
+pub record StretchIs (k : List ℕ) (p : ℕ) (x : List ℕ) (r : Stretch) : Type 0 where
+  pub keys : gather (λ (b : GroupKeyBag). b .keys) (keep (bagNamed p x) (gather groupBagOf (bagsIn k)))
+      ≡ saKeys (inBag p) (attributesIn (inBag p) (part k (r .start) (r .end)))
+  pub held : isWhole (attributes (inBag p) 0 (part k (r .start) (r .end))) ≡ true
+  pub order : r .start ≤ r .end
+  pub inside : r .end ≤ length k
 
 count-kept : {A : Type 0} (q : A → Bool) (l : List A) → count q l ≡ length (keep q l)
 unfolding count keep
@@ -43,14 +50,14 @@ module _ (p : ℕ) (x : List ℕ) where
 
   -- a bag that is a Member Key Bag or not, at the front
   skipped : (t : Bool) (m : MemberKeyBag) (b : GroupKeyBag) (l : List Bag) →
-      any (isSuch which.Named p x) (either t [] (record { protocol = b .protocol; spi = b .spi } ∷ [])) ≡ false →
+      any (isNamed p x) (either t [] (record { protocol = b .protocol; spi = b .spi } ∷ [])) ≡ false →
       named (either t (memberKeys m) (groupKeys b) ∷ l) ≡ named l
   unfolding gather keep any
   skipped true m b l e = refl
   skipped false m b l e = let f : bagNamed p x b ≡ false = sym (or-false (bagNamed p x b)) ∙ e in rw f
 
   taken : (t : Bool) (m : MemberKeyBag) (b : GroupKeyBag) (l : List Bag) →
-      any (isSuch which.Named p x) (either t [] (record { protocol = b .protocol; spi = b .spi } ∷ [])) ≡ true →
+      any (isNamed p x) (either t [] (record { protocol = b .protocol; spi = b .spi } ∷ [])) ≡ true →
       (t ≡ false) × (bagNamed p x b ≡ true) × (named (either t (memberKeys m) (groupKeys b) ∷ l) ≡ b ∷ named l)
   unfolding gather keep any
   taken true m b l e = never true refl (sym e)
@@ -94,9 +101,9 @@ module _ (p : ℕ) (x : List ℕ) where
         abbrev others : List Bag
         others = bagsIn (drop (at + r .end) k)
 
-        module _ (b : Bool) (f : b ≡ any (isSuch which.Named p x) (nameOf (r .first) (part k (at + 4) (at + r .body)))) where
-          its-name : any (isSuch which.Named p x) (nameOf (r .first) (spiOf (drop at k))) ≡ b
-          its-name = sym (f ∙ ap (λ (y : List ℕ). any (isSuch which.Named p x) (nameOf (r .first) y)) (a .spi))
+        module _ (b : Bool) (f : b ≡ any (isNamed p x) (nameOf (r .first) (part k (at + 4) (at + r .body)))) where
+          its-name : any (isNamed p x) (nameOf (r .first) (spiOf (drop at k))) ≡ b
+          its-name = sym (f ∙ ap (λ (y : List ℕ). any (isNamed p x) (nameOf (r .first) y)) (a .spi))
 
           pub seeking-no : b ≡ false → Seeking (at + r .end)
           seeking-no e = record {

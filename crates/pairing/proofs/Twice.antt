@@ -11,36 +11,35 @@ use Rattle.octets.specs.Compare.{same}
 use Rattle.octets.proofs.Order.{same-eq}
 use Rattle.keys.specs.Lists.{any, count}
 use Rattle.keys.proofs.Cases.{and-parts}
-use Rattle.bagkeys.proofs.Answers.{count-any}
-use Rattle.pairing.specs.inner.Names.{Name, isSuch, isUnpaired}
-use Rattle.pairing.specs.declared.names.Which.the-variants as which
+use Rattle.clauses.proofs.Gather.{any-count}
+use Rattle.pairing.specs.inner.Names.{Name, isNamed, isUnpaired}
 use Rattle.pairing.proofs.ListLaws.{any-weaker, any-pick}
 
-abbrev isNamed : Name → Name → Bool
-isNamed n = isSuch which.Named (n .protocol) (n .spi)
+abbrev hasName : Name → Name → Bool
+hasName n = isNamed (n .protocol) (n .spi)
 
 abbrev pub isTwice : List Name → Name → Bool
-isTwice l n = ltb 1 (count (isNamed n) l)
+isTwice l n = ltb 1 (count (hasName n) l)
 
 module _ (l m : List Name) where
   -- one that has the name of another is found as often as it
-  as-often : (a b : Name) → isNamed a b ≡ true → count (isNamed b) l ≡ count (isNamed a) l
+  as-often : (a b : Name) → hasName a b ≡ true → count (hasName b) l ≡ count (hasName a) l
   as-often a b e =
       let p = and-parts (eqb (b .protocol) (a .protocol)) (same (b .spi) (a .spi)) e in
-      (λ i. count (isSuch which.Named (eqb-true (b .protocol) (a .protocol) (p .0) i) (same-eq (b .spi) (a .spi) (p .1) i)) l)
+      (λ i. count (isNamed (eqb-true (b .protocol) (a .protocol) (p .0) i) (same-eq (b .spi) (a .spi) (p .1) i)) l)
 
-  found-twice : (a : Name) → isTwice l a ≡ true → (b : Name) → isNamed a b ≡ true → isUnpaired l b ≡ true
+  found-twice : (a : Name) → isTwice l a ≡ true → (b : Name) → hasName a b ≡ true → isUnpaired l b ≡ true
   found-twice a t b e =
-      let h : 1 < count (isNamed a) l = ltb-true 1 (count (isNamed a) l) t in
+      let h : 1 < count (hasName a) l = ltb-true 1 (count (hasName a) l) t in
       let o = as-often a b e in
-      ap not (ne-eqb (count (isNamed b) l) 1 (λ z. omega arith))
+      ap not (ne-eqb (count (hasName b) l) 1 (λ z. omega arith))
 
-  its-pair : (a : Name) → isUnpaired m a ≡ false → any (isNamed a) m ≡ true
+  its-pair : (a : Name) → isUnpaired m a ≡ false → any (hasName a) m ≡ true
   its-pair a e =
-      let f : eqb (count (isNamed a) m) 1 ≡ true = sym (Bool·not-not (eqb (count (isNamed a) m) 1)) ∙ ap not e in
-      sym (count-any (isNamed a) m) ∙ ap (ltb 0) (eqb-true (count (isNamed a) m) 1 f)
+      let f : eqb (count (hasName a) m) 1 ≡ true = sym (Bool·not-not (eqb (count (hasName a) m) 1)) ∙ ap not e in
+      any-count (hasName a) m ∙ ap (ltb 0) (eqb-true (count (hasName a) m) 1 f)
 
   pub twice-unpaired : any (isTwice l) l ≡ true → any (isUnpaired m) l ≡ false → any (isUnpaired l) m ≡ true
   twice-unpaired =
       any-pick (isTwice l) (isUnpaired m)
-      (λ a t u. any-weaker (isNamed a) (isUnpaired l) (found-twice a t) m (its-pair a u)) l
+      (λ a t u. any-weaker (hasName a) (isUnpaired l) (found-twice a t) m (its-pair a u)) l

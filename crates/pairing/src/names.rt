@@ -3,38 +3,25 @@ ghost use mathlib.Core.Path.{_≡_};
 ghost use mathlib.Core.List.{List};
 ghost use lib.ListN.{length};
 ghost use Rattle.keys.specs.Lists.{any, count};
-ghost use Rattle.pairing.specs.inner.Names.{Name, Names, nameOf, isSuch, isUnpaired};
+ghost use Rattle.pairing.specs.inner.Names.{Name, Names, nameOf, isNamed, isUnpaired};
 
-// Which names: every one, those of a protocol, those of a protocol and SPI.
-pub enum Which {
-    Every,
-    OfProtocol,
-    Named,
-}
-
-// Whether a policy or key bag with this first octet and SPI has a name, and it is such. Internal.
-pub fn is_such(w: Which, protocol: usize, spi: &[u8], first: usize, x: &[u8]) -> bool
-    ensures { λ r. ⌜ r ≡ any (isSuch w protocol (now (spi .entry))) (nameOf first (now (x .entry))) ⌝ }
+// Whether a policy or key bag with this first octet and SPI x has a name, and it is this protocol and SPI. Internal.
+pub fn is_named(protocol: usize, spi: &[u8], first: usize, x: &[u8]) -> bool
+    ensures { λ r. ⌜ r ≡ any (isNamed protocol (now (spi .entry))) (nameOf first (now (x .entry))) ⌝ }
 {
     if first == 0 {
         return false;
     }
-    match w {
-        Which::Every => true,
-        Which::OfProtocol => first == protocol,
-        Which::Named => {
-            if first == protocol {
-                return octets::compare::same(x, spi);
-            }
-            false
-        }
+    if first == protocol {
+        return octets::compare::same(x, spi);
     }
+    false
 }
 
-// How many names are such. Internal.
-pub fn count_names(w: Which, protocol: usize, spi: &[u8], s: &[u8]) -> usize
+// How many of the names are this protocol and SPI. Internal.
+pub fn count_names(protocol: usize, spi: &[u8], s: &[u8]) -> usize
     requires { ⌜ ((l : List Name) × Names (now s) l) ⌝ }
-    ensures { λ r. ⌜ ((l : List Name) → Names (now (s .entry)) l → r ≡ count (isSuch w protocol (now (spi .entry))) l) ⌝ }
+    ensures { λ r. ⌜ ((l : List Name) → Names (now (s .entry)) l → r ≡ count (isNamed protocol (now (spi .entry))) l) ⌝ }
 {
     let mut n = 0;
     let mut at = 0;
@@ -43,7 +30,7 @@ pub fn count_names(w: Which, protocol: usize, spi: &[u8], s: &[u8]) -> usize
         let start = at + 4;
         let end = at + p.body;
         let next = at + p.end;
-        if is_such(w, protocol, spi, p.first, &s[start..end]) {
+        if is_named(protocol, spi, p.first, &s[start..end]) {
             n = n + 1;
         }
         at = next;
@@ -59,7 +46,7 @@ fn is_unpaired(first: usize, x: &[u8], t: &[u8]) -> bool
     if first == 0 {
         return false;
     }
-    count_names(Which::Named, first, x, t) != 1
+    count_names(first, x, t) != 1
 }
 
 // Whether some policy or key bag of the first body has a name that not exactly one of the second body has. Internal.

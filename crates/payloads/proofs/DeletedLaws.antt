@@ -2,10 +2,9 @@
 use Prim.Native.Nat.{ℕ, _+_}
 use mathlib.Core.Path.{_≡_, refl, ap, sym, _∙_, subst}
 use mathlib.Core.List.{List, [], _∷_, _++_}
-use mathlib.Core.Bool.{Bool, true, false, not, _||_}
+use mathlib.Core.Bool.{Bool, true, false, _||_}
 use native.Mathlib.Omega.{arith}
 use lib.ListN.{length, drop, length-append}
-use lib.Dec.{eqb}
 use Rattle.octets.specs.Walk.{part, whole}
 use Rattle.keys.specs.Lists.{any}
 use Rattle.frames.specs.Delete.{Delete, deleteOf, deleteFits}
@@ -16,26 +15,12 @@ use Rattle.frames.proofs.FrameGrammar.{read-frame}
 use Rattle.contents.specs.inner.Payloads.{payloadsIn}
 use Rattle.contents.specs.declared.payload.PayloadParts.{PayloadParts}
 use Rattle.clauses.specs.Contents.{gather, deletesIn, deletesOf}
-use Rattle.sa.specs.Entry.{esp}
-use Rattle.clauses.specs.Number5.{deleteOfOther, deleteOfNone}
 use Rattle.clauses.proofs.OneOf.{or-false}
-use Rattle.payloads.specs.inner.Bodies.{payloadsOf}
-use Rattle.payloads.specs.inner.Deletion.{withOne, IsDeletes}
+use Rattle.payloads.specs.inner.Facts.{payloadsOf}
+use Rattle.payloads.specs.inner.Deletion.{ofOther, ofNone, spisIn, deletesAmong, deletesBy, withOne}
 use Rattle.payloads.specs.declared.deletion.Deletes.{Deletes}
 use Rattle.payloads.proofs.FrameLaws.{are-payloads}
 use Rattle.payloads.proofs.StepLaws.{Step, none-left}
-
-abbrev pub ofOther : Delete → Bool
-ofOther d = not (eqb (d .protocol) esp)
-
-abbrev pub ofNone : Delete → Bool
-ofNone d = eqb (length (d .spis)) 0
-
-abbrev pub spisIn : List Delete → List (List ℕ)
-spisIn l = gather (λ (d : Delete). d .spis) l
-
-abbrev pub deletesAmong : List Payload → List Delete
-deletesAmong l = gather (λ (p : Payload). deletesIn (p .content)) l
 
 -- what was found and what the Delete payloads left hold make up all
 pub record Sums (d : Deletes) (l all : List Delete) : Type 0 where
@@ -60,18 +45,15 @@ sums-next d x l all s = record {
   spis = omega (arith, s .spis, length-append (x .spis) (spisIn l));
 }
 
-module _ (d : Deletes) (all : List Delete) (s : Sums d [] all) where
-  pub other-all : d .other ≡ any ofOther all
-  unfolding any
-  other-all = sym (or-false (d .other)) ∙ s .other
-
-  pub none-all : d .none ≡ any ofNone all
-  unfolding any
-  none-all = sym (or-false (d .none)) ∙ s .none
-
-  pub spis-all : d .spis ≡ length (spisIn all)
-  unfolding gather
-  spis-all = omega (arith, s .spis)
+pub sums-all : (d : Deletes) (all : List Delete) → Sums d [] all → d ≡ deletesBy all
+unfolding any gather
+sums-all d all s =
+    let n : d .spis ≡ length (spisIn all) = omega (arith, s .spis) in
+    λ i. record {
+      other = (sym (or-false (d .other)) ∙ s .other) i;
+      none = (sym (or-false (d .none)) ∙ s .none) i;
+      spis = n i;
+    }
 
 -- THE DELETE PAYLOADS FROM A PAYLOAD ON
 in-delete : {k : ℕ} {o : List ℕ} (c : Content) → IsContent k o c → k ≡ 42 → (deleteFits o ≡ true) × (deletesIn c ≡ deleteOf o ∷ [])
@@ -129,14 +111,3 @@ sums-last s k d all e u = subst (λ (l : List Delete). Sums d l all) (delete-non
 -- THE FRAME'S
 pub among-frame : (s : List ℕ) (f : Frame) → frame s ≡ whole f [] → deletesAmong (payloadsOf s) ≡ deletesOf f
 among-frame s f q = ap deletesAmong (sym (are-payloads s f (read-frame s f [] q)))
-
-pub deletes-are : (s : List ℕ) (f : Frame) → frame s ≡ whole f [] → (d : Deletes) → Sums d [] (deletesAmong (payloadsOf s)) → IsDeletes f d
-unfolding deleteOfOther deleteOfNone
-deletes-are s f q d u =
-    let e = among-frame s f q in
-    let all = deletesAmong (payloadsOf s) in
-    record {
-      other = other-all d all u ∙ ap (any ofOther) e;
-      none = none-all d all u ∙ ap (any ofNone) e;
-      spis = spis-all d all u ∙ ap (λ (l : List Delete). length (spisIn l)) e;
-    }

@@ -13,7 +13,7 @@ use Rattle.frames.specs.Grammar.{IsPayload, IsFrame}
 use Rattle.frames.proofs.PayloadLaws.{takes}
 use Rattle.frames.proofs.FrameGrammar.{sound, complete, read-frame, frame-read}
 use Rattle.contents.specs.inner.Values.{isWhole, itemsOf}
-use Rattle.payloads.specs.inner.Bodies.{payloadsOf}
+use Rattle.payloads.specs.inner.Facts.{payloadsOf}
 
 whole-of : {A : Type 0} (x : Reading A) → isWhole x ≡ true → (a : A) × (rest : List ℕ) × (x ≡ whole a rest)
 whole-of (whole a rest) e = (a, rest, refl)

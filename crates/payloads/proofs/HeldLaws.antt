@@ -21,7 +21,8 @@ use Rattle.contents.specs.inner.Policies.{policiesIn}
 use Rattle.contents.specs.inner.Bags.{bagsIn}
 use Rattle.contents.proofs.ValuesLaws.{is-whole}
 use Rattle.clauses.specs.Contents.{gather, isGsa, isKd, hasGsa, hasKd, policiesIn as policiesOfOne, bagsIn as bagsOfOne, deletesIn}
-use Rattle.payloads.specs.inner.Bodies.{ofKind, FirstBody, no-body, a-body}
+use Rattle.payloads.specs.inner.Facts.{ofKind}
+use Rattle.payloads.proofs.KindLaws.{FirstBody, no-body, a-body}
 
 -- payloads whose contents are those of their kinds
 pub data Formed : List Payload → Type 0 where
@@ -149,3 +150,12 @@ module _ {l : List Payload} (r : Formed l) (o : List ℕ) where
   bags-held f h =
       is-whole (bags 0 o) (gather (λ (p : Payload). bagsOfOne (p .content)) l) []
       (all-held 52 bagsOfOne (λ n b c i e. no-bags c i e) (bags 0) kd-read (bags-read no-more 0) r o f h)
+
+-- the first body of a kind is whole, whatever comes after it
+pub gsa-whole : (o : List ℕ) {l : List Payload} → FirstBody 51 o l → isWhole (policies 0 o) ≡ true
+gsa-whole o (no-body e) = ap (λ (x : List ℕ). isWhole (policies 0 x)) e ∙ ap isWhole (policies-read no-more 0)
+gsa-whole o (a-body {p = q} i) = ap isWhole (gsa-read o (q .content) i)
+
+pub kd-whole : (o : List ℕ) {l : List Payload} → FirstBody 52 o l → isWhole (bags 0 o) ≡ true
+kd-whole o (no-body e) = ap (λ (x : List ℕ). isWhole (bags 0 x)) e ∙ ap isWhole (bags-read no-more 0)
+kd-whole o (a-body {p = q} i) = ap isWhole (kd-read o (q .content) i)

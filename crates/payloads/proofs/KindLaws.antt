@@ -2,21 +2,26 @@
 use Prim.Native.Nat.{ℕ, _+_, _≤_}
 use mathlib.Core.Path.{_≡_, refl, ap, sym, _∙_, subst}
 use mathlib.Core.Logic.{_⊎_, inl, inr}
-use mathlib.Core.List.{List, []}
+use mathlib.Core.List.{List, [], _∷_}
 use mathlib.Core.Bool.{Bool, true, false, not, _&&_}
 use native.Mathlib.Omega.{arith}
 use borrow.Author.Tests.{eq-eqb, ne-eqb}
 use lib.ListN.{drop}
 use Rattle.octets.specs.Walk.{part}
-use Rattle.keys.specs.Lists.{any, count, keep}
+use Rattle.keys.specs.Lists.{count, keep}
 use Rattle.frames.specs.Frame.{Payload, isKnown}
 use Rattle.frames.specs.Grammar.{IsContent}
 use Rattle.contents.specs.inner.Payloads.{payloadsIn}
 use Rattle.contents.specs.declared.payload.PayloadParts.{PayloadParts}
 use Rattle.clauses.specs.Number4.{unknownCritical}
-use Rattle.clauses.proofs.First.{any-yes, any-no, count-yes, count-no, keep-yes, keep-no}
-use Rattle.payloads.specs.inner.Bodies.{ofKind, FirstBody, a-body}
-use Rattle.payloads.proofs.StepLaws.{Step, none-left}
+use Rattle.clauses.proofs.First.{count-yes, count-no, keep-yes, keep-no}
+use Rattle.payloads.specs.inner.Facts.{ofKind}
+use Rattle.payloads.proofs.StepLaws.{Step}
+
+-- o is the body of the first of some payloads, which are of the kind k; where there is none, it is empty
+pub data FirstBody (k : ℕ) (o : List ℕ) : List Payload → Type 0 where
+  no-body : o ≡ [] → FirstBody k o []
+  a-body : {p : Payload} {l : List Payload} → IsContent k o (p .content) → FirstBody k o (p ∷ l)
 
 -- a count after a test: one more, or the same
 abbrev pub Counted : Type 0 → ℕ → ℕ → Type 0
@@ -60,37 +65,7 @@ module _ (w k : ℕ) (s : List ℕ) (at : ℕ) (r : PayloadParts) (g : Step k s 
       subst (FirstBody w (part s (at + 4) (at + r .end)))
       (sym (q ∙ keep-yes (ofKind w) (g .one) others (payloadsIn k (drop at s)) (g .item) (of-kind e))) (a-body i)
 
--- no unknown critical one: its type is known, or its bit is not set
-pub known-bit : (b k : Bool) → k ≡ true → (b && not k) ≡ false
-known-bit true k e = ap not e
-known-bit false k e = refl
-
-pub clear-bit : (b k : Bool) → b ≡ false → (b && not k) ≡ false
-clear-bit b k e = ap (λ (x : Bool). x && not k) e
-
+-- an unknown critical one, by its type and its bit
 module _ (k : ℕ) (s : List ℕ) (at : ℕ) (r : PayloadParts) (g : Step k s at r) where
-  bit : unknownCritical (g .one) ≡ (r .critical && not (isKnown k))
+  pub bit : unknownCritical (g .one) ≡ (r .critical && not (isKnown k))
   bit = λ i. g .critical i && not (isKnown (g .kind i))
-
-  pub critical-here : r .critical ≡ true → isKnown k ≡ false → any unknownCritical (payloadsIn k (drop at s)) ≡ true
-  critical-here e f =
-      any-yes unknownCritical (g .one) (payloadsIn (r .next) (drop (at + r .end) s)) (payloadsIn k (drop at s)) (g .item)
-      (bit ∙ (λ i. e i && not (f i)))
-
-  pub critical-later : (r .critical && not (isKnown k)) ≡ false
-      → any unknownCritical (payloadsIn k (drop at s)) ≡ any unknownCritical (payloadsIn (r .next) (drop (at + r .end) s))
-  critical-later e =
-      any-no unknownCritical (g .one) (payloadsIn (r .next) (drop (at + r .end) s)) (payloadsIn k (drop at s)) (g .item) (bit ∙ e)
-
-module _ (w : ℕ) (s : List ℕ) (k : ℕ) (e : k ≡ 0) where
-  pub count-none : count (ofKind w) (payloadsIn k s) ≡ 0
-  unfolding count
-  count-none = ap (count (ofKind w)) (none-left s k e)
-
-  pub keep-none : keep (ofKind w) (payloadsIn k s) ≡ []
-  unfolding keep
-  keep-none = ap (keep (ofKind w)) (none-left s k e)
-
-  pub critical-none : any unknownCritical (payloadsIn k s) ≡ false
-  unfolding any
-  critical-none = ap (any unknownCritical) (none-left s k e)

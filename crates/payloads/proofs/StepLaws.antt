@@ -6,7 +6,8 @@ use mathlib.Core.Bool.{true}
 use native.Mathlib.Omega.{arith}
 use lib.ListN.{length, drop, length-drop}
 use lib.Seq.{drop-drop}
-use Rattle.octets.specs.Walk.{part}
+use Rattle.octets.specs.Numbers.{oct}
+use Rattle.octets.specs.Walk.{be16, part}
 use Rattle.octets.proofs.Walks.{tail, to-end, chain-stop}
 use Rattle.frames.specs.Frame.{Payload, payload, noneNext, payloads, exactly}
 use Rattle.frames.specs.Grammar.{IsContent}
@@ -14,12 +15,15 @@ use Rattle.frames.proofs.PayloadLaws.{takes}
 use Rattle.contents.specs.inner.Values.{isWhole, itemsOf}
 use Rattle.contents.specs.inner.Payloads.{payloadsIn, PayloadIs}
 use Rattle.contents.specs.declared.payload.PayloadParts.{PayloadParts}
+use Rattle.contents.proofs.PayloadsLaws.{payload-is}
 
 pub none-left : (s : List ℕ) (k : ℕ) → k ≡ 0 → payloadsIn k s ≡ []
 none-left s k e =
     ap (λ (n : ℕ). payloadsIn n s) e ∙ ap itemsOf (chain-stop noneNext payload takes 0 0 s refl)
 
 pub record Step (k : ℕ) (s : List ℕ) (at : ℕ) (r : PayloadParts) : Type 0 where
+  pub next-is : r .next ≡ oct (drop at s) 0
+  pub end-is : r .end ≡ be16 (drop at s) 2
   pub some : 4 ≤ r .end
   pub inside : at + r .end ≤ length s
   pub one : Payload
@@ -34,13 +38,14 @@ pub reads-next : (k : ℕ) (s : List ℕ) (at : ℕ) → isWhole (exactly (paylo
     → isWhole (exactly (payloads k 0 (tail s at))) ≡ true
 reads-next k s at e = ap (λ (l : List ℕ). isWhole (exactly (payloads k 0 l))) (to-end s at) ∙ e
 
-pub step : (k : ℕ) (s : List ℕ) (at : ℕ) (r : PayloadParts) → at ≤ length s → PayloadIs k (tail s at) r → Step k s at r
-step k s at r h f =
-    let d : PayloadIs k (drop at s) r = subst (λ (l : List ℕ). PayloadIs k l r) (to-end s at) f in
+step-at : (k : ℕ) (s : List ℕ) (at : ℕ) (r : PayloadParts) → at ≤ length s → PayloadIs k (drop at s) r → Step k s at r
+step-at k s at r h d =
     let j : drop (r .end) (drop at s) ≡ drop (at + r .end) s = drop-drop (r .end) at s in
     let n : r .end - 4 ≡ at + r .end - (at + 4) = omega arith in
     let p : part (drop at s) 4 (r .end) ≡ part s (at + 4) (at + r .end) = rw (drop-drop 4 at s, n) in
     record {
+      next-is = d .next;
+      end-is = d .end;
       some = d .some;
       inside = omega (arith, d .some, d .inside, length-drop at s);
       one = record { kind = k; critical = r .critical; content = d .content };
@@ -50,3 +55,11 @@ step k s at r h f =
       item = d .item ∙ ap (λ (l : List ℕ). record { kind = k; critical = r .critical; content = d .content } ∷ payloadsIn (r .next) l) j;
       rest = subst (λ (l : List ℕ). isWhole (exactly (payloads (r .next) 0 l)) ≡ true) j (d .rest);
     }
+
+pub step : (k : ℕ) (s : List ℕ) (at : ℕ) (r : PayloadParts) → at ≤ length s → PayloadIs k (tail s at) r → Step k s at r
+step k s at r h f = step-at k s at r h (subst (λ (l : List ℕ). PayloadIs k l r) (to-end s at) f)
+
+-- the same, where no loop has read it
+pub a-step : (k : ℕ) (s : List ℕ) (at : ℕ) → at ≤ length s → (k ≡ 0 → ⊥) → isWhole (exactly (payloads k 0 (drop at s))) ≡ true
+    → (r : PayloadParts) × Step k s at r
+a-step k s at h z e = (_, step-at k s at _ h (payload-is k (drop at s) z e _ _ _ refl refl refl))

@@ -1,2 +1,3 @@
-pub mod Bodies
+pub mod Places
 pub mod Deletion
+pub mod Facts

@@ -4,11 +4,8 @@ ghost use mathlib.Core.Bool.{true};
 ghost use mathlib.Core.List.{[]};
 ghost use Prim.Native.Nat.{_+_, _<_};
 ghost use lib.ListN.{length, getD};
-ghost use Rattle.octets.specs.Walk.{whole};
 ghost use Rattle.frames.specs.Delete.{deleteOf, deleteFits};
-ghost use Rattle.frames.specs.Frame.{Frame, frame};
-ghost use Rattle.contents.specs.inner.Values.{isWhole};
-ghost use Rattle.payloads.specs.inner.Deletion.{DeleteIs, withOne, IsDeletes};
+ghost use Rattle.payloads.specs.inner.Deletion.{DeleteIs, withOne, deletesWith};
 use contents::payload::DELETE;
 use contents::policy::ESP;
 
@@ -70,26 +67,13 @@ fn with_one(d: Deletes, o: &[u8]) -> Deletes
     }
 }
 
-// The Delete payloads of a frame whose layout is whole. Internal.
-pub fn deletes_of(s: &[u8]) -> Deletes
-    requires { ⌜ isWhole (frame (now s)) ≡ true ⌝ }
-    ensures { λ r. ⌜ ((f : Frame) → frame (now (s .entry)) ≡ whole f [] → IsDeletes f r) ⌝ }
+// The same, with this payload more where it is a Delete payload. Internal.
+pub fn with_payload(d: Deletes, kind: usize, o: &[u8]) -> Deletes
+    requires { ⌜ (kind ≡ 42 → deleteFits (now o) ≡ true) × (d .spis < 4294967296) ⌝ }
+    ensures { λ r. ⌜ (r ≡ deletesWith d kind (now (o .entry))) × (r .spis < d .spis + 65536) ⌝ }
 {
-    let mut d = Deletes {
-        other: false,
-        none: false,
-        spis: 0,
-    };
-    let mut kind = octets::wide(s[16]);
-    let mut at = 28;
-    while kind != 0 {
-        let p = contents::payload::payload_parts(kind, &s[at..]);
-        let e = at + p.end;
-        if kind == DELETE {
-            d = with_one(d, &s[at + 4..e]);
-        }
-        kind = p.next;
-        at = e;
+    if kind == DELETE {
+        return with_one(d, o);
     }
     d
 }

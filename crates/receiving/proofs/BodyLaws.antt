@@ -7,14 +7,17 @@ use mathlib.Core.List.{List}
 use borrow.Author.Tests.{eq-eqb}
 use lib.Dec.{eqb}
 use lib.ListN.{length, getD}
-use Rattle.octets.specs.Walk.{part}
 use Rattle.keys.specs.Lists.{any}
 use Rattle.attributes.specs.Tree.{WrapKey}
 use Rattle.frames.specs.Frame.{Frame}
 use Rattle.state.specs.declared.State.{State}
-use Rattle.payloads.specs.declared.Bodies.{Bodies}
-use Rattle.payloads.specs.inner.Bodies.{IsBodies, HoldsPolicies, HoldsBags}
-use Rattle.clauses.specs.Contents.{rowOf, wrapKeysOf}
+use Rattle.contents.specs.inner.Policies.{policiesIn}
+use Rattle.payloads.specs.declared.PayloadFacts.{PayloadFacts}
+use Rattle.payloads.proofs.FoundLaws.{OfFrame, HoldsPolicies, HoldsBags, facts-of}
+use Rattle.composition.specs.inner.Facts.{factsOf as policyFacts}
+use Rattle.judging.specs.declared.facts.Facts.{Facts}
+use Rattle.judging.specs.inner.Facts.{at}
+use Rattle.clauses.specs.Contents.{rowOf, policiesOf, wrapKeysOf}
 use Rattle.clauses.specs.Number6.{wrapKeyId}
 use Rattle.chains.specs.Chain.{In}
 use Rattle.chains.proofs.Members.{in-member}
@@ -33,19 +36,29 @@ nonzero-of l e i h z =
     let m : In k l = record { place = i; inside = h; is = getD-any l i k noKey h } in
     false≢true (sym (none-passes (λ (x : WrapKey). eqb (x .keyId) 0) l e k (in-member k l m)) ∙ eq-eqb (k .keyId) 0 z)
 
--- where the bodies stand
-module _ (m : State) (now : ℕ) (lent s : List ℕ) (f : Frame) (p : Passed m now lent s f) (r : Bodies) (b : IsBodies s f r) where
-  pub holds-policies : HoldsPolicies (part s (r .gsa .start) (r .gsa .end)) f
-  holds-policies = b .policies (omega (arith, b .gsas, one-gsa m now lent f (p .clauses)))
+-- the facts, and where the bodies stand
+module _ (m : State) (now : ℕ) (lent s : List ℕ) (x : Facts) (f : Frame) (p : Passed m now lent s x f) where
+  pub of-frame : OfFrame s f (x .payloads)
+  of-frame = facts-of s (x .payloads) (ap (λ (y : Facts). y .payloads) (p .facts)) f (p .whole-is)
 
-  pub holds-bags : HoldsBags (part s (r .kd .start) (r .kd .end)) f
-  holds-bags = b .bags (omega (arith, b .kds, one-kd m now lent f (p .clauses)))
+  pub holds-policies : HoldsPolicies (at s (x .payloads .gsa)) f
+  holds-policies = of-frame .policies (omega (arith, of-frame .gsas, one-gsa m now lent f (p .clauses)))
 
-  pub bodied : (holds : Bool) → rowOf f .holds ≡ holds →
-      Bodied holds m now lent s (part s (r .gsa .start) (r .gsa .end)) (part s (r .kd .start) (r .kd .end)) f
+  pub holds-bags : HoldsBags (at s (x .payloads .kd)) f
+  holds-bags = of-frame .bags (omega (arith, of-frame .kds, one-kd m now lent f (p .clauses)))
+
+  pub policies-are : x .policies ≡ policyFacts (rowOf f .authentication) (policiesOf f)
+  policies-are =
+      let e = ap (λ (y : Facts). y .payloads) (p .facts) in
+      ap (λ (y : Facts). y .policies) (p .facts)
+      ∙ ap (λ (y : PayloadFacts). policyFacts (rowOf f .authentication) (policiesIn (at s (y .gsa)))) (sym e)
+      ∙ ap (policyFacts (rowOf f .authentication)) (holds-policies .all)
+
+  pub bodied : (holds : Bool) → rowOf f .holds ≡ holds → Bodied holds m now lent s x (at s (x .payloads .gsa)) (at s (x .payloads .kd)) f
   bodied holds e = record { passed = p; row = e; policies = sym (holds-policies .all); bags = sym (holds-bags .all) }
 
-module _ {holds : Bool} {m : State} {now : ℕ} {lent s g k : List ℕ} {f : Frame} (b : Bodied holds m now lent s g k f) where
+module _ {holds : Bool} {m : State} {now : ℕ} {lent s : List ℕ} {x : Facts} {g k : List ℕ} {f : Frame}
+    (b : Bodied holds m now lent s x g k f) where
   pub ready : Ready f g k
   ready =
       let e = b .passed .clauses in

@@ -1,7 +1,7 @@
 -- What is known of a frame to which none of numbers 2 to 7 applies.
 use native.Mathlib.Omega.{arith}
 use Prim.Native.Nat.{ℕ, suc, _+_, _≤_}
-use mathlib.Core.Path.{_≡_, refl, ap, sym, subst}
+use mathlib.Core.Path.{_≡_, refl, ap, sym}
 use mathlib.Core.Bool.{Bool, true, false, not, cond, _&&_, false≢true}
 use mathlib.Core.List.{List, [], _∷_}
 use borrow.Author.Tests.{ltb-false}
@@ -11,14 +11,14 @@ use Rattle.keys.specs.Limits.{limits}
 use Rattle.keys.specs.Lists.{any, count}
 use Rattle.keys.specs.Algorithms.{sizeOf}
 use Rattle.keys.proofs.Cases.{bool-cases}
-use Rattle.policies.specs.Policy.{Policy}
+use Rattle.policies.specs.Policy.{GroupSaPolicy, GroupWidePolicy}
 use Rattle.bags.specs.Bag.{MemberKeyBag}
 use Rattle.frames.specs.Frame.{Frame}
 use Rattle.frames.specs.Exchange.{exchangeOf, registration, rekey}
 use Rattle.state.specs.declared.State.{State}
 use Rattle.state.specs.State.{stateFormed}
-use Rattle.contents.specs.inner.Policies.{policiesIn}
-use Rattle.clauses.specs.Contents.{rowOf, gather, some, hasGsa, hasKd, policiesOf, announced, memberBags, wrapKeysOf}
+use Rattle.clauses.specs.Contents.{rowOf, gather, some, several, hasGsa, hasKd, announced, groupWides, memberBags, wrapKeysOf}
+use Rattle.clauses.specs.Fitness.{isRekey}
 use Rattle.clauses.specs.Number2.{standing, overLiveRekey, otherSpis}
 use Rattle.clauses.specs.Number4.{four-ofFrame, barredMemberBag, twoGsa, twoKd, severalRekeyPolicies, severalGroupWide, keyLengthTwice}
 use Rattle.clauses.specs.Number4.{initialMessageIdTwice, delayTwice}
@@ -28,7 +28,6 @@ use Rattle.clauses.specs.Number7.{seven-ofFrame, seven-ofMember, manyWrapKeys, 
 use Rattle.clauses.specs.Refusals.{Number, one, applies, judged, two, three, four, five, six, seven, refusal}
 use Rattle.clauses.proofs.Clear.{or-none, no-clause}
 use Rattle.outcome.proofs.RunsClear.{None}
-use Rattle.acceptance.specs.inner.Readings.{oneDelay, oneInitial}
 
 -- ---- the numbers, one after the other
 none-by : (n : Number) (l : List Number) (k : ℕ) → n .number ≡ suc k → (b : Bool) → applies n ≡ b →
@@ -107,17 +106,21 @@ module _ (m : State) (now : ℕ) (lent : List ℕ) (f : Frame) (e : refusal limi
   unfolding four-ofFrame twoKd
   one-kd = ltb-false 1 (count hasKd (f .payloads)) (no-4 4)
 
-  both-false : (a b : Bool) → a ≡ false → b ≡ false → (not a && not b) ≡ true
-  both-false a b p q = rw (p, q) refl
+  pub wides-once : several (groupWides f) ≡ false
+  unfolding four-ofFrame severalGroupWide
+  wides-once = no-4 9
 
-  pub one-delay : (g : List ℕ) → policiesOf f ≡ policiesIn g → oneDelay (policiesIn g) ≡ true
-  unfolding four-ofFrame severalGroupWide delayTwice
-  one-delay g h = subst (λ (l : List Policy). oneDelay l ≡ true) h (both-false (severalGroupWide f) (delayTwice f) (no-4 9) (no-4 14))
+  pub delays-once : any (λ (w : GroupWidePolicy). several (w .deactivationDelays)) (groupWides f) ≡ false
+  unfolding four-ofFrame delayTwice
+  delays-once = no-4 14
 
-  pub one-initial : (g : List ℕ) → policiesOf f ≡ policiesIn g → oneInitial (policiesIn g) ≡ true
-  unfolding four-ofFrame severalRekeyPolicies initialMessageIdTwice
-  one-initial g h =
-      subst (λ (l : List Policy). oneInitial l ≡ true) h (both-false (severalRekeyPolicies f) (initialMessageIdTwice f) (no-4 8) (no-4 13))
+  pub rekeys-few : count isRekey (announced f) ≤ 1
+  unfolding four-ofFrame severalRekeyPolicies
+  rekeys-few = ltb-false 1 (count isRekey (announced f)) (no-4 8)
+
+  pub ids-once : any (λ (a : GroupSaPolicy). several (a .initialMessageIds)) (announced f) ≡ false
+  unfolding four-ofFrame initialMessageIdTwice
+  ids-once = no-4 13
 
   pub lengths-once : keyLengthTwice f ≡ false
   unfolding four-ofFrame

@@ -6,7 +6,7 @@ use mathlib.Core.Bool.{true}
 use mathlib.Core.List.{List, []}
 use lib.ListN.{length, take}
 use Rattle.octets.specs.Numbers.{oct}
-use Rattle.octets.specs.Walk.{whole, be32}
+use Rattle.octets.specs.Walk.{whole}
 use Rattle.keys.specs.Limits.{limits}
 use Rattle.keys.proofs.Cases.{and-parts}
 use Rattle.frames.specs.Frame.{Frame, frame}
@@ -33,7 +33,8 @@ use Rattle.outcome.proofs.Answering.{answers-8, answers-9, answers-0}
 use Rattle.outcome.proofs.Accepting.{nine-policy, policy-nine}
 use Rattle.outcome.proofs.Enters.{each-enters}
 use Rattle.outcome.proofs.Members.{in-map, map-in}
-use Rattle.acceptance.specs.inner.Following.{Told, Follows}
+use Rattle.acceptance.specs.inner.Following.{Follows}
+use Rattle.judging.specs.declared.facts.Facts.{Facts}
 use Rattle.keying.specs.inner.Keyed.{SomeEight, NoEight, SomeUnopened, KeysOf}
 use Rattle.keying.specs.declared.joining.Keyed.{Keyed}
 use Rattle.keying.specs.declared.joining.Found.{Found}
@@ -117,24 +118,14 @@ module _ (m : State) (e : stateFormed limits m ≡ true) where
   held-fits = parts .1
 
 -- ---- by what is known of the keys
-module _ (m : State) (now : ℕ) (lent s g : List ℕ) (keyed : Keyed) (held : Held) (f : Frame)
-    (o : Opened m now lent s g keyed held f) where
-  pub told : (row : Exchange) (id : ℕ) → rowOf f ≡ row → id ≡ be32 s 20 → Told s g (row .least) id f
-  told row id e d =
-      let i = read-frame s f [] (o .passed .whole-is) in
-      record {
-        whole-is = o .passed .whole-is;
-        policies = o .policies;
-        least-is = ap (λ (x : Exchange). x .least) e;
-        id-is = sym (i .messageId) ∙ sym d;
-      }
-
-  keys-by : (x : Found) → keyed .found ≡ x →
-      KeysOf (rootsOf limits m now lent f) (entriesOf f) (wrappingSize limits m now lent f) f (announced f) x (keyed .sas) (keyed .count)
-  keys-by x e =
+module _ (m : State) (now : ℕ) (lent s : List ℕ) (x : Facts) (keyed : Keyed) (held : Held) (f : Frame)
+    (o : Opened m now lent s x keyed held f) where
+  keys-by : (y : Found) → keyed .found ≡ y →
+      KeysOf (rootsOf limits m now lent f) (entriesOf f) (wrappingSize limits m now lent f) f (announced f) y (keyed .sas) (keyed .count)
+  keys-by y e =
       subst
-      (λ (y : Found).
-      KeysOf (rootsOf limits m now lent f) (entriesOf f) (wrappingSize limits m now lent f) f (announced f) y (keyed .sas)
+      (λ (z : Found).
+      KeysOf (rootsOf limits m now lent f) (entriesOf f) (wrappingSize limits m now lent f) f (announced f) z (keyed .sas)
       (keyed .count))
       e (o .keys)
 

@@ -5,3 +5,4 @@ pub mod BodyLaws
 pub mod RegistrationLaws
 pub mod Rekeying
 pub mod RekeyLaws
+pub mod SaidLaws

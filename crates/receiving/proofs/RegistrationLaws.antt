@@ -28,6 +28,7 @@ use Rattle.outcome.specs.Roots.{rootsOf, entriesOf, wrappingSize}
 use Rattle.outcome.specs.After.{HeldAre, HeldBy}
 use Rattle.outcome.specs.Outcome.{Judged}
 use Rattle.outcome.proofs.Rows.{registers, lent-roots, lent-size}
+use Rattle.judging.specs.declared.facts.Facts.{Facts}
 use Rattle.keying.specs.inner.Keyed.{KeyedBy}
 use Rattle.keying.specs.declared.joining.Keyed.{Keyed}
 use Rattle.receiving.specs.inner.Passing.{Bodied, Opened}
@@ -36,7 +37,7 @@ use Rattle.receiving.proofs.ZeroLaws.{lent-key}
 use Rattle.receiving.proofs.BodyLaws.{entries-are}
 use Rattle.receiving.proofs.ConcludingLaws.{entries-eight}
 
-module _ {m : State} {now : ℕ} {lent s g k : List ℕ} {f : Frame} (b : Bodied true m now lent s g k f) (zero : WrappingKey)
+module _ {m : State} {now : ℕ} {lent s : List ℕ} {x : Facts} {g k : List ℕ} {f : Frame} (b : Bodied true m now lent s x g k f) (zero : WrappingKey)
     (z : zero ≡ wrappingKey lent .key) where
   row : rowOf f ≡ registration
   row = registers (f .header .exchange) (b .row)
@@ -77,12 +78,11 @@ module _ {m : State} {now : ℕ} {lent s g k : List ℕ} {f : Frame} (b : Bodied
 
     pub registration-opened : r .eight ≡ false → (keyed : Keyed) →
         ((roots : List Root) (entries : List WrapKey) (size : ℕ) → Agrees roots entries size zero (r .held) →
-        KeyedBy roots entries size f keyed) → Opened m now lent s g keyed (r .held) f
+        KeyedBy roots entries size f keyed) → Opened m now lent s x keyed (r .held) f
     registration-opened e keyed by =
         let set = carry (λ (x : List Root) (y : List WrapKey) (n : ℕ). HeldAre x y n limits (r .held)) (a .held e) in
         record {
           passed = b .passed;
-          policies = b .policies;
           entries = carry (λ (x : List Root) (y : List WrapKey) (n : ℕ). EntriesEight x y n → ⊥) (tells false e);
           keys = by _ _ _
               (carry (λ (x : List Root) (y : List WrapKey) (n : ℕ). Agrees x y n zero (r .held)) (a .agrees e));

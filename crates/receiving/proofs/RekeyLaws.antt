@@ -29,6 +29,7 @@ use Rattle.outcome.proofs.Rows.{own-roots}
 use Rattle.outcome.proofs.Members.{not-in-none}
 use Rattle.outcome.proofs.RunsLists.{some-passes, passes-some}
 use Rattle.acceptance.proofs.NextLaws.{swept-made}
+use Rattle.judging.specs.declared.facts.Facts.{Facts}
 use Rattle.keying.specs.inner.Keyed.{KeyedBy}
 use Rattle.keying.specs.declared.joining.Keyed.{Keyed}
 use Rattle.receiving.specs.inner.Passing.{Bodied, IsDefaultKey, Opened}
@@ -49,7 +50,7 @@ none-eight : (roots : List Root) (size : ℕ) → EntriesEight roots [] size →
 none-eight roots size (wrong-size k x r d) = none-reached roots size k x r
 none-eight roots size (two-values k x y r q d) = none-reached roots size k x r
 
-module _ {m : State} {now : ℕ} {lent s g k : List ℕ} {f : Frame} (b : Bodied false m now lent s g k f) (t : Table)
+module _ {m : State} {now : ℕ} {lent s : List ℕ} {x : Facts} {g k : List ℕ} {f : Frame} (b : Bodied false m now lent s x g k f) (t : Table)
     (w : t ≡ swept limits now (m .table)) where
   row : rowOf f ≡ rekey
   row = is-rekey m now lent f (b .passed .clauses) (b .row)
@@ -84,12 +85,11 @@ module _ {m : State} {now : ℕ} {lent s g k : List ℕ} {f : Frame} (b : Bodied
 
     pub rekey-opened : (keyed : Keyed) →
         ((roots : List Root) (entries : List WrapKey) (size : ℕ) → Agrees roots entries size zero (m .held) →
-        KeyedBy roots entries size f keyed) → Opened m now lent s g keyed (m .held) f
+        KeyedBy roots entries size f keyed) → Opened m now lent s x keyed (m .held) f
     rekey-opened keyed by =
         let n = wrappingSize limits m now lent f in
         record {
           passed = b .passed;
-          policies = b .policies;
           entries = carry (λ (x : List Root) (y : List WrapKey). EntriesEight x y n → ⊥) (none-eight (heldRoots zero (m .held)) n);
           keys = by _ _ n (carry (λ (x : List Root) (y : List WrapKey). Agrees x y n zero (m .held)) (rekey-agrees zero (m .held) n));
           held-is = subst (λ (x : Bool).

@@ -1,11 +1,13 @@
 // A frame that numbers 2 to 7 let pass: number 8, number 9, or the state after acceptance.
 pub mod registration;
 pub mod rekey;
+pub mod said;
 pub mod zero;
 
 use acceptance::next::next;
 use frames::exchanges::Exchange;
 use frames::exchanges::exchange_of;
+use judging::facts::Facts;
 use keying::joining::Found;
 use keying::joining::Keyed;
 use state::State;
@@ -16,7 +18,6 @@ ghost use mathlib.Core.List.{List, []};
 ghost use Prim.Native.Nat.{ℕ};
 ghost use Rattle.octets.specs.Walk.{whole};
 ghost use Rattle.keys.specs.Limits.{limits};
-ghost use Rattle.policies.specs.Policy.{policies};
 ghost use Rattle.frames.specs.Frame.{Frame, frame};
 ghost use Rattle.contents.specs.inner.Values.{isWhole};
 ghost use Rattle.clauses.specs.Contents.{rowOf};
@@ -37,12 +38,11 @@ pub fn row_of(s: &[u8]) -> Exchange
     exchange_of(octets::wide(s[18]))
 }
 
-// The outcome of a frame with this GSA body, once its keys are opened: this is known of its SAs, and this is the held list afterwards.
+// The outcome of a frame with these facts, once its keys are opened: this is known of its SAs, and this is the held list afterwards.
 // Internal.
-pub fn concluded(state: State, s: &[u8], g: &[u8], tick: u32, keyed: Keyed, held: Held) -> Next
-    requires { ⌜ isWhole (policies 0 (now g)) ≡ true ⌝ }
-    requires { ⌜ ((f : Frame) × (lent : List ℕ) × Opened state tick lent (now s) (now g) keyed held f) ⌝ }
-    ensures { λ r. ⌜ ((f : Frame) (lent : List ℕ) → Opened state tick lent (now (s .entry)) (now (g .entry)) keyed held f →
+pub fn concluded(state: State, s: &[u8], x: Facts, tick: u32, keyed: Keyed, held: Held) -> Next
+    requires { ⌜ ((f : Frame) × (lent : List ℕ) × Opened state tick lent (now s) x keyed held f) ⌝ }
+    ensures { λ r. ⌜ ((f : Frame) (lent : List ℕ) → Opened state tick lent (now (s .entry)) x keyed held f →
         Judged limits state tick lent f (r .number) (r .state)) ⌝ }
 {
     let found = keyed.found;
@@ -50,11 +50,9 @@ pub fn concluded(state: State, s: &[u8], g: &[u8], tick: u32, keyed: Keyed, held
         Found::Eight => Next { number: 8, state },
         Found::Nine => Next { number: 9, state },
         Found::Keys => {
-            let row = row_of(s);
-            let id = octets::numbers::be32_at(s, 20);
-            let least = row.least;
+            let said = said::said(row_of(s), s, x);
             let sas = keyed.sas;
-            let after = next(state, s, tick, g, least, id, sas, keyed.count, held);
+            let after = next(state, s, tick, said, sas, keyed.count, held);
             Next {
                 number: 0,
                 state: after,

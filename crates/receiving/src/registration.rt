@@ -1,6 +1,7 @@
 // A registration that numbers 2 to 7 let pass.
 use crate::Next;
 use crate::concluded;
+use judging::facts::Facts;
 use keys::kinds::WrappingKey;
 use state::State;
 ghost use mathlib.Core.Path.{_≡_};
@@ -15,11 +16,11 @@ ghost use Rattle.outcome.specs.Outcome.{Judged};
 ghost use Rattle.receiving.specs.inner.Passing.{Passed, Bodied};
 
 // Its outcome, by the bodies of its GSA and its KD: the lent key is key 0, and the keys that are reached from it are the held list.
-fn by_bodies(state: State, s: &[u8], g: &[u8], k: &[u8], lent: &[u8], tick: u32) -> Next
+fn by_bodies(state: State, s: &[u8], x: Facts, g: &[u8], k: &[u8], lent: &[u8], tick: u32) -> Next
     requires { ⌜ (isWhole (policies 0 (now g)) ≡ true) × (isWhole (bags 0 (now k)) ≡ true) ⌝ }
-    requires { ⌜ ((f : Frame) × Bodied true state tick (now lent) (now s) (now g) (now k) f) ⌝ }
+    requires { ⌜ ((f : Frame) × Bodied true state tick (now lent) (now s) x (now g) (now k) f) ⌝ }
     ensures { λ r. ⌜ ((f : Frame) →
-        Bodied true state tick (now (lent .entry)) (now (s .entry)) (now (g .entry)) (now (k .entry)) f →
+        Bodied true state tick (now (lent .entry)) (now (s .entry)) x (now (g .entry)) (now (k .entry)) f →
         Judged limits state tick (now (lent .entry)) f (r .number) (r .state)) ⌝ }
 {
     let made = WrappingKey::new(lent);
@@ -30,19 +31,21 @@ fn by_bodies(state: State, s: &[u8], g: &[u8], k: &[u8], lent: &[u8], tick: u32)
     }
     let held = found.held;
     let keyed = keying::keyed(g, k, zero, held);
-    concluded(state, s, g, tick, keyed, held)
+    concluded(state, s, x, tick, keyed, held)
 }
 
-// The outcome of a registration with a lent default key. Internal.
-pub fn registered(state: State, s: &[u8], lent: &[u8], tick: u32) -> Next
-    requires { ⌜ ((f : Frame) × Passed state tick (now lent) (now s) f × (rowOf f .holds ≡ true)) ⌝ }
-    ensures { λ r. ⌜ ((f : Frame) → Passed state tick (now (lent .entry)) (now (s .entry)) f → rowOf f .holds ≡ true →
+// The outcome of a registration with these facts and a lent default key. Internal.
+pub fn registered(state: State, s: &[u8], x: Facts, lent: &[u8], tick: u32) -> Next
+    requires { ⌜ ((f : Frame) × Passed state tick (now lent) (now s) x f × (rowOf f .holds ≡ true)) ⌝ }
+    ensures { λ r. ⌜ ((f : Frame) → Passed state tick (now (lent .entry)) (now (s .entry)) x f → rowOf f .holds ≡ true →
         Judged limits state tick (now (lent .entry)) f (r .number) (r .state)) ⌝ }
 {
-    let b = payloads::bodies_of(s);
-    let a = b.gsa.start;
-    let e = b.gsa.end;
-    let i = b.kd.start;
-    let j = b.kd.end;
-    by_bodies(state, s, &s[a..e], &s[i..j], lent, tick)
+    let b = x.payloads;
+    let gsa = b.gsa;
+    let kd = b.kd;
+    let a = gsa.start;
+    let e = gsa.end;
+    let i = kd.start;
+    let j = kd.end;
+    by_bodies(state, s, x, &s[a..e], &s[i..j], lent, tick)
 }

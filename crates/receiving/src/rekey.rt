@@ -2,6 +2,7 @@
 use crate::Next;
 use crate::concluded;
 use crate::zero::default_key;
+use judging::facts::Facts;
 use state::State;
 ghost use mathlib.Core.Path.{_≡_};
 ghost use mathlib.Core.Bool.{true, false};
@@ -17,30 +18,32 @@ ghost use Rattle.outcome.specs.Outcome.{Judged};
 ghost use Rattle.receiving.specs.inner.Passing.{Passed, Bodied};
 
 // Its outcome, by the bodies of its GSA and its KD: the default key of the live Rekey SA is key 0, and the held keys stay.
-fn by_bodies(state: State, s: &[u8], g: &[u8], k: &[u8], tick: u32) -> Next
+fn by_bodies(state: State, s: &[u8], x: Facts, g: &[u8], k: &[u8], tick: u32) -> Next
     requires { ⌜ (isWhole (policies 0 (now g)) ≡ true) × (isWhole (bags 0 (now k)) ≡ true) ⌝ }
-    requires { ⌜ ((f : Frame) × (lent : List ℕ) × Bodied false state tick lent (now s) (now g) (now k) f) ⌝ }
+    requires { ⌜ ((f : Frame) × (lent : List ℕ) × Bodied false state tick lent (now s) x (now g) (now k) f) ⌝ }
     ensures { λ r. ⌜ ((f : Frame) (lent : List ℕ) →
-        Bodied false state tick lent (now (s .entry)) (now (g .entry)) (now (k .entry)) f →
+        Bodied false state tick lent (now (s .entry)) x (now (g .entry)) (now (k .entry)) f →
         Judged limits state tick lent f (r .number) (r .state)) ⌝ }
 {
     let t = state.table;
     let zero = default_key(t.swept(tick));
     let held = state.held;
     let keyed = keying::keyed(g, k, zero, held);
-    concluded(state, s, g, tick, keyed, held)
+    concluded(state, s, x, tick, keyed, held)
 }
 
-// The outcome of a rekey. Internal.
-pub fn rekeyed(state: State, s: &[u8], tick: u32) -> Next
-    requires { ⌜ ((f : Frame) × (lent : List ℕ) × Passed state tick lent (now s) f × (rowOf f .holds ≡ false)) ⌝ }
-    ensures { λ r. ⌜ ((f : Frame) (lent : List ℕ) → Passed state tick lent (now (s .entry)) f → rowOf f .holds ≡ false →
+// The outcome of a rekey with these facts. Internal.
+pub fn rekeyed(state: State, s: &[u8], x: Facts, tick: u32) -> Next
+    requires { ⌜ ((f : Frame) × (lent : List ℕ) × Passed state tick lent (now s) x f × (rowOf f .holds ≡ false)) ⌝ }
+    ensures { λ r. ⌜ ((f : Frame) (lent : List ℕ) → Passed state tick lent (now (s .entry)) x f → rowOf f .holds ≡ false →
         Judged limits state tick lent f (r .number) (r .state)) ⌝ }
 {
-    let b = payloads::bodies_of(s);
-    let a = b.gsa.start;
-    let e = b.gsa.end;
-    let i = b.kd.start;
-    let j = b.kd.end;
-    by_bodies(state, s, &s[a..e], &s[i..j], tick)
+    let b = x.payloads;
+    let gsa = b.gsa;
+    let kd = b.kd;
+    let a = gsa.start;
+    let e = gsa.end;
+    let i = kd.start;
+    let j = kd.end;
+    by_bodies(state, s, x, &s[a..e], &s[i..j], tick)
 }

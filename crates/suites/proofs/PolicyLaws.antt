@@ -33,22 +33,6 @@ module _ (p : Place) (s : List ℕ) (b : SaBody) (r : SaParts) (f : SaPartsAre p
   transforms-are =
       subst (λ (y : List ℕ). Transforms y (b .suite .transforms) (drop (r .attributes) s)) (sym (to-end s (r .transforms))) (f .transforms)
 
-module _ (q : GroupSaPolicy → Bool) (l m : List Policy) where
-  any-wide : (w : GroupWidePolicy) → m ≡ groupWide w ∷ l → any q (gather saOf m) ≡ any q (gather saOf l)
-  unfolding gather
-  any-wide w e = ap (λ (x : List Policy). any q (gather saOf x)) e
-
-  any-sa : (p : GroupSaPolicy) (t : Bool) → m ≡ groupSa p ∷ l → q p ≡ t → any q (gather saOf m) ≡ (t || any q (gather saOf l))
-  unfolding gather any
-  any-sa p t e f = ap (λ (x : List Policy). any q (gather saOf x)) e ∙ ap (λ (u : Bool). u || any q (gather saOf l)) f
-
--- no policy is left
-pub at-end : (q : GroupSaPolicy → Bool) (g : List ℕ) (at : ℕ) → length g ≤ at → any q (gather saOf (policiesIn (drop at g))) ≡ false
-unfolding gather any
-at-end q g at h =
-    ap (λ (x : Reading (List Policy)). any q (gather saOf (itemsOf x)))
-    (many-none policy takes 0 (drop at g) (rw length-drop (omega arith)))
-
 -- a policy starts here
 pub starts : (g : List ℕ) (at : ℕ) → at < length g → isWhole (policies 0 (drop at g)) ≡ true
     → (0 < length (cut g at)) × (isWhole (policies 0 (cut g at)) ≡ true)
@@ -71,38 +55,3 @@ module _ (g : List ℕ) (at : ℕ) (r : Parts) (f : PolicyIs (cut g at) r) where
 
   pub rest : isWhole (policies 0 (drop (at + r .end) g)) ≡ true
   rest = subst (λ (y : List ℕ). isWhole (policies 0 y) ≡ true) after (is .rest)
-
-  module _ (z : r .first ≡ 0 → ⊥) where
-    pub bodyOf : SaBody
-    bodyOf = is .sa z .body
-
-    pub body-is : IsSaBody (inPolicy (r .first)) (part g (at + r .body) (at + r .end)) bodyOf
-    unfolding bodyOf
-    body-is =
-        let d : r .end - r .body ≡ at + r .end - (at + r .body) = omega arith in
-        subst (λ (y : List ℕ). IsSaBody (inPolicy (r .first)) y (is .sa z .body))
-        ((λ j. take (d j) (drop (r .body) (drop at g))) ∙ ap (take (at + r .end - (at + r .body))) (drop-drop (r .body) at g))
-        (is .sa z .is)
-
-  module _ (q : GroupSaPolicy → Bool) where
-    next : (z : r .first ≡ 0 → ⊥) (t : Bool)
-        → ((p : GroupSaPolicy) → p .protocol ≡ r .first → p .transforms ≡ bodyOf z .suite .transforms → q p ≡ t)
-        → any q (gather saOf (policiesIn (drop at g))) ≡ (t || any q (gather saOf (policiesIn (drop (at + r .end) g))))
-    unfolding bodyOf
-    next z t a =
-        any-sa q (policiesIn (drop (r .end) (drop at g))) (policiesIn (drop at g)) _ t (is .sa z .item) (a _ (sym (is .head .first)) refl)
-        ∙ ap (λ (y : List ℕ). t || any q (gather saOf (policiesIn y))) after
-
-    pub found : (z : r .first ≡ 0 → ⊥)
-        → ((p : GroupSaPolicy) → p .protocol ≡ r .first → p .transforms ≡ bodyOf z .suite .transforms → q p ≡ true)
-        → any q (gather saOf (policiesIn (drop at g))) ≡ true
-    found z a = next z true a
-
-    pub passed : ((z : r .first ≡ 0 → ⊥) (p : GroupSaPolicy) → p .protocol ≡ r .first → p .transforms ≡ bodyOf z .suite .transforms
-        → q p ≡ false)
-        → any q (gather saOf (policiesIn (drop at g))) ≡ any q (gather saOf (policiesIn (drop (at + r .end) g)))
-    passed a =
-        bool-cases (eqb (r .first) 0)
-        (λ e. any-wide q (policiesIn (drop (r .end) (drop at g))) (policiesIn (drop at g)) _ (is .wide (eqb-true (r .first) 0 e) .item)
-        ∙ ap (λ (y : List ℕ). any q (gather saOf (policiesIn y))) after)
-        (λ e. let z : r .first ≡ 0 → ⊥ = eqb-false (r .first) 0 e in next z false (a z))

@@ -2,9 +2,9 @@
 use Prim.Native.Nat.{ℕ, _+_}
 use mathlib.Core.Path.{_≡_, refl, ap, sym, _∙_}
 use mathlib.Core.List.{List, [], _∷_}
-use mathlib.Core.Bool.{Bool, true, false, cond, _&&_, _||_}
+use mathlib.Core.Bool.{Bool, true, false, not, cond, _&&_, _||_, false≢true}
 use native.Mathlib.Omega.{arith}
-use borrow.Author.Tests.{eq-eqb, ne-eqb, lt-ltb, ltb-true, ltb-false}
+use borrow.Author.Tests.{eq-eqb, ne-eqb, eqb-true, lt-ltb, ltb-true, ltb-false}
 use lib.Dec.{ltb, eqb}
 use lib.ListN.{length, length-map}
 use Rattle.attributes.specs.Place.{inTransform}
@@ -20,7 +20,8 @@ use Rattle.contents.specs.inner.Values.{valuesIn}
 use Rattle.clauses.specs.Fitness.{octetsNeeded, isOctets, encryptionFits, keyWrapFits, sequenceNumbersFit, authenticationFits, exactly}
 use Rattle.clauses.specs.Fitness.{espTransforms, rekeyTransforms, transformsFit, sum, encryptionNeeds, keyWrapNeeds}
 use Rattle.clauses.specs.Number4.{twiceInTransform}
-use Rattle.suites.specs.inner.Suites.{suiteOf}
+use Rattle.clauses.proofs.OneOf.{or-false}
+use Rattle.suites.specs.inner.Suites.{suiteOf, fitBy}
 use Rattle.suites.specs.inner.Octets.{keyLengthNeeds, transformIn}
 use Rattle.suites.specs.inner.Adding.{once}
 use Rattle.suites.specs.declared.counts.Suite.{Suite}
@@ -36,20 +37,6 @@ module _ (k i w a b : ℕ) where
 
   pub other-type : (k ≡ w → ⊥) → false ≡ (eqb k w && (eqb i a || eqb i b))
   other-type e = rw (ne-eqb k w e)
-
--- as many as wanted, and one each
-module _ (n w a b c : ℕ) where
-  pub all-once : n ≡ w → a ≡ 1 → b ≡ 1 → eqb c 1 ≡ (eqb n w && (eqb a 1 && (eqb b 1 && eqb c 1)))
-  all-once e f g = rw (eq-eqb n w e, eq-eqb a 1 f, eq-eqb b 1 g)
-
-  pub not-second : n ≡ w → a ≡ 1 → (b ≡ 1 → ⊥) → false ≡ (eqb n w && (eqb a 1 && (eqb b 1 && eqb c 1)))
-  not-second e f g = rw (eq-eqb n w e, eq-eqb a 1 f, ne-eqb b 1 g)
-
-  pub not-first : n ≡ w → (a ≡ 1 → ⊥) → false ≡ (eqb n w && (eqb a 1 && (eqb b 1 && eqb c 1)))
-  not-first e f = rw (eq-eqb n w e, ne-eqb a 1 f)
-
-  pub not-many : (n ≡ w → ⊥) → false ≡ (eqb n w && (eqb a 1 && (eqb b 1 && eqb c 1)))
-  not-many e = rw (ne-eqb n w e)
 
 -- WHAT ONE TRANSFORM NEEDS
 module _ (k i : ℕ) (s : List ℕ) where
@@ -128,38 +115,35 @@ and-true : (b : Bool) → b ≡ (b && true)
 and-true true = refl
 and-true false = refl
 
-module _ (authentication : Bool) (p : GroupSaPolicy) (s : Suite) (e : s ≡ suiteOf (p .transforms)) (r : Bool) where
-  picked : (k : ℕ) → p .protocol ≡ k → cond (eqb k 3) (exactly espTransforms (p .transforms))
-      (eqb k 6 && exactly (rekeyTransforms authentication) (p .transforms)) ≡ transformsFit authentication p
-  unfolding transformsFit
-  picked k h =
-      ap (λ (n : ℕ). cond (eqb n 3) (exactly espTransforms (p .transforms))
-      (eqb n 6 && exactly (rekeyTransforms authentication) (p .transforms))) (sym h)
+and-last : (a b c : Bool) → ((a && b) && c) ≡ (a && (b && (c && true)))
+and-last true true c = and-true c
+and-last true false c = refl
+and-last false b c = refl
 
-  pub fits-esp : p .protocol ≡ 3 → r ≡ (eqb (s .count) 2 && (eqb (s .encryption) 1 && (eqb (s .sequence) 1 && eqb 1 1)))
-      → r ≡ transformsFit authentication p
-  unfolding exactly all
-  fits-esp h q =
-      q ∙ ap (λ (x : Suite). eqb (x .count) 2 && (eqb (x .encryption) 1 && (eqb (x .sequence) 1 && true))) e ∙ picked 3 h
+-- e for ESP, k for a Rekey policy: the transforms of an ESP policy, of a Rekey policy with authentication and without
+either-way : (e k a x s u : Bool) {v w t : Bool} → x ≡ v → s ≡ w → u ≡ t → (e ≡ true → k ≡ false)
+    → ((e && x) || (k && ((a && s) || (not a && u)))) ≡ cond e v (k && cond a w t)
+either-way true true a x s u p q r f = absurd (false≢true (sym (f refl)))
+either-way true false a x s u p q r f = or-false x ∙ p
+either-way false true true x s u p q r f = or-false s ∙ q
+either-way false true false x s u p q r f = r
+either-way false false a x s u p q r f = refl
 
-  pub fits-rekey : p .protocol ≡ 6 → authentication ≡ true
-      → r ≡ (eqb (s .count) 3 && (eqb (s .encryption) 1 && (eqb (s .wrapping) 1 && eqb (s .authentication) 1)))
-      → r ≡ transformsFit authentication p
-  unfolding exactly all
-  fits-rekey h a q =
-      q ∙ ap (λ (x : Suite). eqb (x .count) 3 && (eqb (x .encryption) 1 && (eqb (x .wrapping) 1 && eqb (x .authentication) 1))) e
-      ∙ ap (λ (u : Bool). eqb (suiteOf (p .transforms) .count) 3 && (eqb (suiteOf (p .transforms) .encryption) 1
-      && (eqb (suiteOf (p .transforms) .wrapping) 1 && u))) (and-true (eqb (suiteOf (p .transforms) .authentication) 1))
-      ∙ ap (λ (u : Bool). exactly (rekeyTransforms u) (p .transforms)) (sym a) ∙ picked 6 h
+module _ (p : GroupSaPolicy) where
+  abbrev u : Suite
+  u = suiteOf (p .transforms)
 
-  pub fits-rekey-alone : p .protocol ≡ 6 → authentication ≡ false
-      → r ≡ (eqb (s .count) 2 && (eqb (s .encryption) 1 && (eqb (s .wrapping) 1 && eqb 1 1)))
-      → r ≡ transformsFit authentication p
-  unfolding exactly all
-  fits-rekey-alone h a q =
-      q ∙ ap (λ (x : Suite). eqb (x .count) 2 && (eqb (x .encryption) 1 && (eqb (x .wrapping) 1 && true))) e
-      ∙ ap (λ (u : Bool). exactly (rekeyTransforms u) (p .transforms)) (sym a) ∙ picked 6 h
+  one-protocol : eqb (p .protocol) 3 ≡ true → eqb (p .protocol) 6 ≡ false
+  one-protocol e = ap (λ (n : ℕ). eqb n 6) (eqb-true (p .protocol) 3 e)
 
-  pub fits-other : (p .protocol ≡ 3 → ⊥) → (p .protocol ≡ 6 → ⊥) → false ≡ transformsFit authentication p
-  unfolding transformsFit
-  fits-other h g = rw (ne-eqb (p .protocol) 3 h, ne-eqb (p .protocol) 6 g)
+  pub fits : (authentication : Bool) → fitBy authentication (p .protocol) u ≡ transformsFit authentication p
+  unfolding transformsFit exactly all
+  fits true =
+      either-way (eqb (p .protocol) 3) (eqb (p .protocol) 6) true _ _ false
+      (ap (λ (b : Bool). eqb (u .count) 2 && (eqb (u .encryption) 1 && b)) (and-true (eqb (u .sequence) 1)))
+      (ap (λ (b : Bool). eqb (u .count) 3 && b) (and-last (eqb (u .encryption) 1) (eqb (u .wrapping) 1) (eqb (u .authentication) 1)))
+      refl one-protocol
+  fits false =
+      either-way (eqb (p .protocol) 3) (eqb (p .protocol) 6) false _ false _
+      (ap (λ (b : Bool). eqb (u .count) 2 && (eqb (u .encryption) 1 && b)) (and-true (eqb (u .sequence) 1)))
+      refl (ap (λ (b : Bool). eqb (u .count) 2 && (eqb (u .encryption) 1 && b)) (and-true (eqb (u .wrapping) 1))) one-protocol

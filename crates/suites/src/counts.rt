@@ -7,10 +7,8 @@ ghost use lib.ListN.{length};
 ghost use lib.Dec.{eqb};
 ghost use Rattle.attributes.specs.Place.{inTransform};
 ghost use Rattle.attributes.specs.Layout.{attributes};
-ghost use Rattle.policies.specs.Policy.{GroupSaPolicy};
 ghost use Rattle.contents.specs.inner.Values.{isWhole};
-ghost use Rattle.clauses.specs.Fitness.{transformsFit};
-ghost use Rattle.suites.specs.inner.Suites.{suiteOf};
+ghost use Rattle.suites.specs.inner.Suites.{suiteOf, fitBy};
 ghost use Rattle.suites.specs.inner.Octets.{transformIn};
 ghost use Rattle.suites.specs.inner.Adding.{once, plus, AtMost};
 use attributes::tables::Meaning;
@@ -34,8 +32,8 @@ pub struct Needs {
     pub wrapping: usize,
 }
 
-// 1 where it is so.
-fn one_if(b: bool) -> usize
+// 1 where it is so. Internal.
+pub fn one_if(b: bool) -> usize
     ensures { λ r. ⌜ r ≡ once b ⌝ }
 {
     if b {
@@ -53,20 +51,6 @@ fn is_one_of(kind: usize, id: usize, wanted: usize, a: usize, b: usize) -> bool
             return true;
         }
         return id == b;
-    }
-    false
-}
-
-// Whether there are as many as wanted, and one each.
-fn are_once(n: usize, wanted: usize, a: usize, b: usize, c: usize) -> bool
-    ensures { λ r. ⌜ r ≡ (eqb n wanted && (eqb a 1 && (eqb b 1 && eqb c 1))) ⌝ }
-{
-    if n == wanted {
-        if a == 1 {
-            if b == 1 {
-                return c == 1;
-            }
-        }
     }
     false
 }
@@ -126,24 +110,13 @@ impl Suite {
     // Whether a policy of a protocol has these transforms: ESP encryption and sequence numbers, a Rekey policy encryption, key wrap and, if
     // the exchange asks for it, authentication; each once and no other. Internal.
     pub fn is_fit(self, authentication: bool, protocol: usize) -> bool
-        ensures { λ r. ⌜ ((p : GroupSaPolicy) → p .protocol ≡ protocol → self ≡ suiteOf (p .transforms)
-            → r ≡ transformsFit authentication p) ⌝ }
+        ensures { λ r. ⌜ r ≡ fitBy authentication protocol self ⌝ }
     {
-        if protocol == ESP {
-            return are_once(self.count, 2, self.encryption, self.sequence, 1);
-        }
-        if protocol == REKEY {
-            if authentication {
-                return are_once(
-                    self.count,
-                    3,
-                    self.encryption,
-                    self.wrapping,
-                    self.authentication,
-                );
-            }
-            return are_once(self.count, 2, self.encryption, self.wrapping, 1);
-        }
-        false
+        let esp = (self.count == 2) & ((self.encryption == 1) & (self.sequence == 1));
+        let keys = (self.encryption == 1) & (self.wrapping == 1);
+        let alone = (self.count == 2) & keys;
+        let signed = (self.count == 3) & (keys & (self.authentication == 1));
+        ((protocol == ESP) & esp)
+            | ((protocol == REKEY) & ((authentication & signed) | (!authentication & alone)))
     }
 }

@@ -3,22 +3,14 @@ pub mod counts;
 pub mod rows;
 
 ghost use mathlib.Core.Path.{_≡_};
-ghost use mathlib.Core.Bool.{true, not};
 ghost use mathlib.Core.List.{List};
 ghost use Prim.Native.Nat.{ℕ, _<_};
 ghost use lib.ListN.{length};
-ghost use lib.Dec.{eqb};
 ghost use Rattle.attributes.specs.declared.tables.Place.{Place};
 ghost use Rattle.policies.specs.Transform.{Transform};
-ghost use Rattle.policies.specs.Policy.{GroupSaPolicy, SaBody, policies};
+ghost use Rattle.policies.specs.Policy.{SaBody};
 ghost use Rattle.policies.specs.Grammar.{Transforms, IsSaBody};
-ghost use Rattle.keys.specs.Lists.{any};
-ghost use Rattle.contents.specs.inner.Values.{isWhole};
-ghost use Rattle.contents.specs.inner.Policies.{policiesIn};
-ghost use Rattle.clauses.specs.Contents.{gather, saOf};
-ghost use Rattle.clauses.specs.Fitness.{ah, transformsFit};
 ghost use Rattle.suites.specs.inner.Suites.{suiteOf, needsOf};
-use contents::policy::AH;
 use counts::Needs;
 use counts::Suite;
 
@@ -72,50 +64,4 @@ pub fn needs(x: &[u8]) -> Needs
 {
     let t = contents::body::sa_parts(x).transforms;
     transforms_need(&x[t..])
-}
-
-// Whether a Group SA policy of a protocol that holds this after its SPI has the transforms that it must. Internal.
-fn has_fit(authentication: bool, protocol: usize, x: &[u8]) -> bool
-    requires { ⌜ ((q : Place) × (b : SaBody) × IsSaBody q (now x) b) ⌝ }
-    ensures { λ r. ⌜ ((q : Place) (b : SaBody) → IsSaBody q (now (x .entry)) b → (p : GroupSaPolicy) → p .protocol ≡ protocol
-        → p .transforms ≡ b .suite .transforms → r ≡ transformsFit authentication p) ⌝ }
-{
-    let t = contents::body::sa_parts(x).transforms;
-    suite(&x[t..]).is_fit(authentication, protocol)
-}
-
-// Whether there is an AH policy among those of a GSA payload's body. Internal.
-pub fn any_ah(g: &[u8]) -> bool
-    requires { ⌜ isWhole (policies 0 (now g)) ≡ true ⌝ }
-    ensures { λ r. ⌜ r ≡ any (λ p. eqb (p .protocol) ah) (gather saOf (policiesIn (now (g .entry)))) ⌝ }
-{
-    let mut at = 0;
-    while at < g.len() {
-        let p = contents::policy::policy_parts(&g[at..]);
-        if p.first == AH {
-            return true;
-        }
-        at = at + p.end;
-    }
-    false
-}
-
-// Whether one of the Group SA policies of a GSA payload's body has not the transforms that it must. Internal.
-pub fn any_other_transforms(authentication: bool, g: &[u8]) -> bool
-    requires { ⌜ isWhole (policies 0 (now g)) ≡ true ⌝ }
-    ensures { λ r. ⌜ r ≡ any (λ p. not (transformsFit authentication p)) (gather saOf (policiesIn (now (g .entry)))) ⌝ }
-{
-    let mut at = 0;
-    while at < g.len() {
-        let p = contents::policy::policy_parts(&g[at..]);
-        let b = at + p.body;
-        let e = at + p.end;
-        if p.first != 0 {
-            if has_fit(authentication, p.first, &g[b..e]) {} else {
-                return true;
-            }
-        }
-        at = e;
-    }
-    false
 }

@@ -1,25 +1,26 @@
--- The state that follows an accepted frame, by what the code reads of it.
+-- The state that follows an accepted frame, by what is known of the frame.
 use Prim.Native.Nat.{ℕ}
 use mathlib.Core.Path.{_≡_}
-use mathlib.Core.List.{List, []}
-use Rattle.octets.specs.Walk.{whole}
+use mathlib.Core.List.{List}
 use Rattle.keys.specs.Limits.{limits}
-use Rattle.frames.specs.Frame.{Frame, frame}
-use Rattle.frames.specs.declared.exchanges.LeastAfter.{LeastAfter}
+use Rattle.frames.specs.Frame.{Frame}
 use Rattle.sa.specs.declared.entry.Sa.{Sa}
 use Rattle.table.specs.Table.{tableOf}
 use Rattle.state.specs.declared.State.{State}
 use Rattle.state.specs.declared.held.Held.{Held}
-use Rattle.contents.specs.inner.Policies.{policiesIn}
-use Rattle.clauses.specs.Contents.{rowOf, policiesOf}
-use Rattle.outcome.specs.After.{insertAll, oldSas, leastAfterwards}
+use Rattle.clauses.specs.Contents.{rowOf, deletesOf}
+use Rattle.outcome.specs.After.{delayOf, newRekey, initialMessageId, insertAll, oldSas, leastAfterwards}
+use Rattle.acceptance.specs.declared.next.Said.{Said}
+use Rattle.acceptance.specs.inner.Tables.{AreDeletes}
 
--- the frame of octets s has the policies of the GSA body g, this Message ID, and an exchange that sets the least one so
-pub record Told (s g : List ℕ) (least : LeastAfter) (id : ℕ) (f : Frame) : Type 0 where
-  pub whole-is : frame s ≡ whole f []
-  pub policies : policiesOf f ≡ policiesIn g
-  pub least-is : rowOf f .least ≡ least
-  pub id-is : f .header .messageId ≡ id
+-- the frame of octets s says this
+pub record Told (s : List ℕ) (x : Said) (f : Frame) : Type 0 where
+  pub delay : delayOf f ≡ x .delay
+  pub rekey : newRekey f ≡ x .rekey
+  pub initial : initialMessageId f ≡ x .initial
+  pub least : rowOf f .least ≡ x .least
+  pub id : f .header .messageId ≡ x .id
+  pub deletes : AreDeletes s (x .deletes) (deletesOf f)
 
 pub record Follows (m : State) (now : ℕ) (f : Frame) (new : List Sa) (held : Held) (r : State) : Type 0 where
   pub table : r .table ≡ tableOf limits (insertAll new (oldSas m now f))

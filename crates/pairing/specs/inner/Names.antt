@@ -14,8 +14,6 @@ use Rattle.sa.specs.Entry.{named}
 use Rattle.sa.specs.declared.entry.Sa.{Sa}
 use Rattle.table.specs.Table.{stays}
 use Rattle.policies.specs.Policy.{headFits, spiOf}
-use Rattle.pairing.specs.declared.names.Which.{Which}
-use Rattle.pairing.specs.declared.names.Which.the-variants as which
 
 pub record Name : Type 0 where
   pub protocol : ℕ
@@ -33,15 +31,13 @@ pub data Names : List ℕ → List Name → Type 0 where
   no-more : (s : List ℕ) → length s ≡ 0 → Names s []
   next : (s : List ℕ) {l : List Name} → 0 < length s → headFits s ≡ true → Names (drop (be16 s 2) s) l → Names s (nameAt s ++ l)
 
--- names of any kind, of a protocol, of a protocol and SPI
-abbrev pub isSuch : Which → ℕ → List ℕ → Name → Bool
-isSuch which.Every p x n = true
-isSuch which.OfProtocol p x n = eqb (n .protocol) p
-isSuch which.Named p x n = eqb (n .protocol) p && same (n .spi) x
+-- this protocol and SPI
+abbrev pub isNamed : ℕ → List ℕ → Name → Bool
+isNamed p x n = eqb (n .protocol) p && same (n .spi) x
 
 -- not exactly one of the list has this name
 abbrev pub isUnpaired : List Name → Name → Bool
-isUnpaired l n = not (eqb (count (isSuch which.Named (n .protocol) (n .spi)) l) 1)
+isUnpaired l n = not (eqb (count (isNamed (n .protocol) (n .spi)) l) 1)
 
 -- an SA of the table that is not due and has a name of the list
 abbrev pub isAnnounced : ℕ → List Name → Sa → Bool

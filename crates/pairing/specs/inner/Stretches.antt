@@ -1,24 +1,27 @@
--- Where the attributes of the one Group Key Bag with a protocol and SPI stand in a KD body.
-use Prim.Native.Nat.{ℕ, _≤_}
-use mathlib.Core.Path.{_≡_}
+-- Where the attributes of the Group Key Bag with a protocol and SPI stand in a KD body.
+use Prim.Native.Nat.{ℕ, zero, suc, _+_}
 use mathlib.Core.List.{List}
-use mathlib.Core.Bool.{true}
-use lib.ListN.{length}
-use Rattle.octets.specs.Walk.{part}
-use Rattle.keys.specs.Lists.{keep}
-use Rattle.attributes.specs.Place.{inBag}
-use Rattle.attributes.specs.Layout.{attributes}
-use Rattle.attributes.specs.Tree.{saKeys}
-use Rattle.bags.specs.Bag.{GroupKeyBag}
-use Rattle.contents.specs.inner.Values.{isWhole, attributesIn}
-use Rattle.contents.specs.inner.Bags.{bagsIn}
-use Rattle.clauses.specs.Contents.{gather, groupBagOf}
-use Rattle.clauses.specs.Number6.{bagNamed}
+use lib.ListN.{length, drop}
+use lib.Dec.{leb}
+use Rattle.octets.specs.Walk.{be16, either}
+use Rattle.keys.specs.Lists.{any}
+use Rattle.policies.specs.Policy.{headSize}
 use Rattle.contents.specs.declared.Stretch.{Stretch}
+use Rattle.pairing.specs.inner.Names.{nameAt, isNamed}
 
-pub record StretchIs (k : List ℕ) (p : ℕ) (x : List ℕ) (r : Stretch) : Type 0 where
-  pub keys : gather (λ (b : GroupKeyBag). b .keys) (keep (bagNamed p x) (gather groupBagOf (bagsIn k)))
-      ≡ saKeys (inBag p) (attributesIn (inBag p) (part k (r .start) (r .end)))
-  pub held : isWhole (attributes (inBag p) 0 (part k (r .start) (r .end))) ≡ true
-  pub order : r .start ≤ r .end
-  pub inside : r .end ≤ length k
+-- where there is none
+abbrev pub nowhere : Stretch
+nowhere = record { start = 0; end = 0 }
+
+-- the first one among n bags at most that stand from `at` on, up to the end of the body: octets 2 and 3 of a bag count all its octets, its
+-- head's before the attributes
+unfoldable pub bagFrom : ℕ → ℕ → List ℕ → ℕ → List ℕ → Stretch
+bagFrom zero p x at k = nowhere
+bagFrom (suc n) p x at k =
+    let end = at + be16 (drop at k) 2 in
+    let later = bagFrom n p x end k in
+    either (leb (length k) at) nowhere
+    (either (any (isNamed p x) (nameAt (drop at k))) (record { start = at + headSize (drop at k); end = end }) later)
+
+abbrev pub bagOf : ℕ → List ℕ → List ℕ → Stretch
+bagOf p x k = bagFrom (length k) p x 0 k

@@ -1,16 +1,18 @@
 -- Delete payloads of a frame whose layout is whole, for the readers that go through them again.
-use Prim.Native.Nat.{ℕ, _+_, _*_, _<_}
+use Prim.Native.Nat.{ℕ, _+_, _*_, _<_, _≤_}
 use mathlib.Core.Path.{_≡_}
 use mathlib.Core.List.{List}
-use mathlib.Core.Bool.{not, _||_}
-use lib.ListN.{length}
+use mathlib.Core.Bool.{Bool, true, not, cond, _||_}
+use lib.ListN.{length, drop}
 use lib.Dec.{eqb}
 use Rattle.octets.specs.Numbers.{oct}
+use Rattle.keys.specs.Lists.{any}
 use Rattle.frames.specs.Delete.{Delete, deleteOf}
-use Rattle.frames.specs.Frame.{Frame}
-use Rattle.clauses.specs.Contents.{deletedSpis}
+use Rattle.frames.specs.Frame.{Payload, payloads, exactly}
+use Rattle.contents.specs.inner.Values.{isWhole}
+use Rattle.contents.specs.inner.Payloads.{payloadsIn}
+use Rattle.clauses.specs.Contents.{gather, deletesIn}
 use Rattle.sa.specs.Entry.{esp}
-use Rattle.clauses.specs.Number5.{deleteOfOther, deleteOfNone}
 use Rattle.payloads.specs.declared.deletion.DeleteParts.{DeleteParts}
 use Rattle.payloads.specs.declared.deletion.Deletes.{Deletes}
 
@@ -21,7 +23,29 @@ pub record DeleteIs (o : List ℕ) (r : DeleteParts) : Type 0 where
   pub few : r .count < 65536
   pub filled : 4 + r .size * r .count ≡ length o
 
--- what is said of some Delete payloads, with one more
+-- ---- what number 5 and number 7 ask of Delete payloads
+abbrev pub ofOther : Delete → Bool
+ofOther d = not (eqb (d .protocol) esp)
+
+abbrev pub ofNone : Delete → Bool
+ofNone d = eqb (length (d .spis)) 0
+
+abbrev pub spisIn : List Delete → List (List ℕ)
+spisIn l = gather (λ (d : Delete). d .spis) l
+
+abbrev pub deletesAmong : List Payload → List Delete
+deletesAmong l = gather (λ (p : Payload). deletesIn (p .content)) l
+
+abbrev pub deletesBy : List Delete → Deletes
+deletesBy l = record { other = any ofOther l; none = any ofNone l; spis = length (spisIn l) }
+
+-- the Delete payloads from a place on, where one stands, are these
+pub record DeletesFrom (s : List ℕ) (l : List Delete) (at : ℕ) : Type 0 where
+  pub inside : at ≤ length s
+  pub rest : isWhole (exactly (payloads 42 0 (drop at s))) ≡ true
+  pub all : deletesAmong (payloadsIn 42 (drop at s)) ≡ l
+
+-- ---- one payload after the other
 abbrev pub withOne : Deletes → Delete → Deletes
 withOne d x = record {
   other = not (eqb (x .protocol) esp) || d .other;
@@ -29,7 +53,9 @@ withOne d x = record {
   spis = d .spis + length (x .spis);
 }
 
-pub record IsDeletes (f : Frame) (r : Deletes) : Type 0 where
-  pub other : r .other ≡ deleteOfOther f
-  pub none : r .none ≡ deleteOfNone f
-  pub spis : r .spis ≡ length (deletedSpis f)
+-- with a payload more of a type and with this body
+abbrev pub deletesWith : Deletes → ℕ → List ℕ → Deletes
+deletesWith d kind o = cond (eqb kind 42) (withOne d (deleteOf o)) d
+
+abbrev pub once : Bool → ℕ
+once b = cond b 1 0

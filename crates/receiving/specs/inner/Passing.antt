@@ -19,25 +19,27 @@ use Rattle.clauses.specs.Refusals.{refusal}
 use Rattle.chains.specs.Refusals.{EntriesEight}
 use Rattle.outcome.specs.Roots.{rootsOf, entriesOf, wrappingSize}
 use Rattle.outcome.specs.After.{HeldAre, HeldBy}
+use Rattle.judging.specs.inner.Facts.{factsOf}
+use Rattle.judging.specs.declared.facts.Facts.{Facts}
 use Rattle.keying.specs.inner.Keyed.{KeyedBy}
 use Rattle.keying.specs.declared.joining.Keyed.{Keyed}
 
--- s is the frame f, and none of numbers 2 to 7 applies to it
-pub record Passed (m : State) (now : ℕ) (lent s : List ℕ) (f : Frame) : Type 0 where
+-- s is the frame f, none of numbers 2 to 7 applies to it, and these are its facts
+pub record Passed (m : State) (now : ℕ) (lent s : List ℕ) (x : Facts) (f : Frame) : Type 0 where
   pub whole-is : frame s ≡ whole f []
   pub clauses : refusal limits m now lent f ≡ 0
+  pub facts : x ≡ factsOf (rowOf f .authentication) s
 
 -- its exchange sets the held list or leaves it, and its policies and its bags are those of these bodies
-pub record Bodied (holds : Bool) (m : State) (now : ℕ) (lent s g k : List ℕ) (f : Frame) : Type 0 where
-  pub passed : Passed m now lent s f
+pub record Bodied (holds : Bool) (m : State) (now : ℕ) (lent s : List ℕ) (x : Facts) (g k : List ℕ) (f : Frame) : Type 0 where
+  pub passed : Passed m now lent s x f
   pub row : rowOf f .holds ≡ holds
   pub policies : policiesOf f ≡ policiesIn g
   pub bags : bagsOf f ≡ bagsIn k
 
 -- number 8 does not hold of its entries; this is known of the keys of its SAs; this is the held list afterwards
-pub record Opened (m : State) (now : ℕ) (lent s g : List ℕ) (keyed : Keyed) (held : Held) (f : Frame) : Type 0 where
-  pub passed : Passed m now lent s f
-  pub policies : policiesOf f ≡ policiesIn g
+pub record Opened (m : State) (now : ℕ) (lent s : List ℕ) (x : Facts) (keyed : Keyed) (held : Held) (f : Frame) : Type 0 where
+  pub passed : Passed m now lent s x f
   pub entries : EntriesEight (rootsOf limits m now lent f) (entriesOf f) (wrappingSize limits m now lent f) → ⊥
   pub keys : KeyedBy (rootsOf limits m now lent f) (entriesOf f) (wrappingSize limits m now lent f) f keyed
   pub held-is :

@@ -1,55 +1,41 @@
 use denote.Ref.{now}
 use native.Mathlib.Omega.{arith}
-use Prim.Native.Nat.{ℕ, _-_, _≤_}
-use mathlib.Core.Path.{_≡_, ap, sym, subst}
-use mathlib.Core.Bool.{true}
-use mathlib.Core.List.{List}
-use lib.ListN.{length, drop}
+use Prim.Native.Nat.{_-_}
+use mathlib.Core.Path.{_≡_, ap, _∙_}
+use mathlib.Core.List.{List, map}
+use lib.ListN.{length}
 use Rattle.frames.specs.Delete.{Delete}
-use Rattle.frames.specs.Frame.{payloads, exactly}
-use Rattle.contents.specs.inner.Values.{isWhole}
-use Rattle.contents.specs.inner.Payloads.{payloadsIn}
-use Rattle.payloads.specs.inner.Bodies.{payloadsOf}
-use Rattle.payloads.proofs.FrameLaws.{long, starts-whole}
 use Rattle.payloads.proofs.StepLaws.{Step, reads-next, step}
-use Rattle.payloads.proofs.DeletedLaws.{deletesAmong, fits-here, delete-here, delete-later}
-use Rattle.acceptance.proofs.FrameLaws.{Retires, retires-start, retires-here, retires-later, retires-all}
+use Rattle.payloads.proofs.DeletedLaws.{fits-here}
+use Rattle.payloads.specs.inner.Deletion.{spisIn}
+use Rattle.keys.specs.Limits.{limits}
+use Rattle.table.specs.Table.{tableOf, retiredIf}
+use Rattle.acceptance.specs.inner.Tables.{namedIn, AreDeletes}
+use Rattle.acceptance.proofs.FrameLaws.{same-deletes, Going, going-start, going-end, going-kind, going-here, going-later}
 use borrow.Author.Needs.{needs}
 use Rattle.acceptance.proofs.retiring.retired_by_frame.Statement.{statement}
 use Rattle.acceptance.proofs.retiring.retired_by_frame.Tie as tie
 
 abbrev Inv-loop : tie.InvT-loop
-Inv-loop s tick delay out₀ kind₀ at₀ out kind at =
-    (at ≤ length s) × (isWhole (exactly (payloads kind 0 (drop at s))) ≡ true)
-    × Retires tick delay out₀ out (deletesAmong (payloadsIn kind (drop at s))) (deletesAmong (payloadsOf s))
+Inv-loop s tick delay out₀ left₀ kind₀ at₀ out left kind at =
+    (all : List Delete) × AreDeletes s (record { count = left₀; start = at₀ }) all × Going s tick delay out₀ all out left kind at
 
 abbrev μ-loop : tie.MeasureT-loop
-μ-loop s tick delay out₀ kind₀ at₀ out kind at = length s - at
-
-shared-slice-read-wide : tie.Need-shared-slice-read-wide Inv-loop μ-loop
-shared-slice-read-wide c = omega (arith, long (now (c .before .before .args .s)) (c .before .before .pre))
-
-wide-requires : tie.Need-wide-requires Inv-loop μ-loop
-wide-requires c κs = search needs
+μ-loop s tick delay out₀ left₀ kind₀ at₀ out left kind at = length s - at
 
 loop-holds : tie.Need-loop-holds Inv-loop μ-loop
 loop-holds c =
-    let s = now (c .before .before .before .args .s) in
-    let a = c .before .before .before .args in
-    let e = c .before .before .before .pre in
-    let k = c .wide .ensures .0 in (
-      long s e,
-      subst (λ (n : ℕ). isWhole (exactly (payloads n 0 (drop 28 s))) ≡ true) (sym k) (starts-whole s e),
-      subst (λ (l : List Delete). Retires (a .tick) (a .delay) (a .t) (a .t) l (deletesAmong (payloadsOf s)))
-          (ap (λ (n : ℕ). deletesAmong (payloadsIn n (drop 28 s))) (sym k)) (retires-start (a .tick) (a .delay) (a .t) (deletesAmong
-          (payloadsOf s))),
-    )
+    let p = c .before .pre in
+    (p .0, record { count = p .1 .count; from = p .1 .from }, going-start _ _ _ _ _ (p .0) (p .1))
+
+some : (c : tie.In-loop Inv-loop μ-loop) → c .before .loop .left ≡ 0 → ⊥
+some c z = omega (arith, c .loop-test .taken)
 
 sub-payload-parts : tie.Need-sub-payload-parts Inv-loop μ-loop
-sub-payload-parts c = search needs
+sub-payload-parts c = c .before .loop .inv .2 .inside (some c)
 
 part-payload-parts-start : tie.Need-part-payload-parts-start Inv-loop μ-loop
-part-payload-parts-start c = search needs
+part-payload-parts-start c = c .before .loop .inv .2 .inside (some c)
 
 part-payload-parts-end : tie.Need-part-payload-parts-end Inv-loop μ-loop
 part-payload-parts-end c = search needs
@@ -57,16 +43,19 @@ part-payload-parts-end c = search needs
 payload-parts-requires : tie.Need-payload-parts-requires Inv-loop μ-loop
 payload-parts-requires c κs =
     let l = c .before .before .loop in
-    let s = now (c .before .before .before .before .before .before .args .s) in
-    (c .before .loop-test .taken, reads-next (l .kind) s (l .at) (l .inv .1))
+    let s = now (c .before .before .before .before .args .s) in
+    let w = l .inv .2 in (
+      going-kind _ _ _ _ _ _ (l .left) (l .kind) (l .at) w (some (c .before)),
+      reads-next (l .kind) s (l .at) (w .rest (some (c .before))),
+    )
 
 one : (c : tie.After-payload-parts Inv-loop μ-loop)
     → let l = c .before .before .before .loop in
-    Step (l .kind) (now (c .before .before .before .before .before .before .before .args .s)) (l .at) (c .payload-parts .result)
+    Step (l .kind) (now (c .before .before .before .before .before .args .s)) (l .at) (c .payload-parts .result)
 one c =
     let l = c .before .before .before .loop in
-    step (l .kind) (now (c .before .before .before .before .before .before .before .args .s)) (l .at) (c .payload-parts .result) (l .inv .0)
-    (c .payload-parts .ensures)
+    step (l .kind) (now (c .before .before .before .before .before .args .s)) (l .at) (c .payload-parts .result)
+    (l .inv .2 .inside (some (c .before .before))) (c .payload-parts .ensures)
 
 add-e : tie.Need-add-e Inv-loop μ-loop
 add-e c = let g = one (c .before) in record { fits = omega (arith, g .inside) }
@@ -85,24 +74,24 @@ part-retired-spis-end c = let g = one (c .before .before) in omega (arith, g .in
 
 retired-spis-requires : tie.Need-retired-spis-requires Inv-loop μ-loop
 retired-spis-requires c κs =
-    let l = c .before .before .before .before .before .before .loop in
-    let d = c .before .before .before .before .before .before .before .before .before .before in
-    let g = one (c .before .before .before) in
-    fits-here (l .kind) (now (d .args .s)) (l .at) (c .before .before .before .payload-parts .result) g (c .before .if1 .taken)
+    let p = c .before .before .before in
+    let l = p .before .before .before .loop in
+    fits-here (l .kind) (now (p .before .before .before .before .before .args .s)) (l .at) (p .payload-parts .result) (one p) (c .before .if1 .taken)
+
+sub-left : tie.Need-sub-left Inv-loop μ-loop
+sub-left c = search (needs, c .before .before .before .before .before .before .loop-test .taken)
 
 loop-less : tie.Need-loop-less Inv-loop μ-loop
 loop-less c = let g = one (c .before .before .before .before) in omega (arith, g .inside, g .some)
 
 loop-again : tie.Need-loop-again Inv-loop μ-loop
 loop-again c =
-    let l = c .before .before .before .before .before .before .before .loop in
-    let s = now (c .before .before .before .before .before .before .before .before .before .before .before .args .s) in
-    let r = c .before .before .before .before .payload-parts .result in
-    let g = one (c .before .before .before .before) in (
-      g .inside,
-      g .rest,
-      retires-here _ _ _ (l .out) (c .retired-spis .result) _ _ _ _ (delete-here (l .kind) s (l .at) r g (c .before .before .if1 .taken))
-          (c .retired-spis .ensures) (l .inv .2),
+    let p = c .before .before .before .before in
+    let l = p .before .before .before .loop in (
+      l .inv .0,
+      l .inv .1,
+      going-here _ _ _ _ _ _ (l .left) (l .kind) (l .at) (l .inv .2) (some (p .before .before)) _ (one p) (c .before .before .if1 .taken) _
+          (c .retired-spis .ensures),
     )
 
 loop-less-2 : tie.Need-loop-less-2 Inv-loop μ-loop
@@ -110,20 +99,22 @@ loop-less-2 c = let g = one (c .before .before) in omega (arith, g .inside, g .s
 
 loop-again-2 : tie.Need-loop-again-2 Inv-loop μ-loop
 loop-again-2 c =
-    let l = c .before .before .before .before .before .loop in
-    let s = now (c .before .before .before .before .before .before .before .before .before .args .s) in
-    let r = c .before .before .payload-parts .result in
-    let g = one (c .before .before) in (
-      g .inside,
-      g .rest,
-      retires-later _ _ _ (l .out) _ _ _ (delete-later (l .kind) s (l .at) r g (c .if1 .left)) (l .inv .2),
+    let p = c .before .before in
+    let l = p .before .before .before .loop in (
+      l .inv .0,
+      l .inv .1,
+      going-later _ _ _ _ _ _ (l .left) (l .kind) (l .at) (l .inv .2) (some (p .before .before)) _ (one p) (c .if1 .left),
     )
 
 returns : tie.Need-returns Inv-loop μ-loop
 returns c =
     let l = c .before .loop in
-    let s = now (c .before .before .before .before .before .args .s) in
-    λ f m q h e. retires-all _ _ _ (l .out) s (l .at) (l .kind) (c .loop-test .left) (l .inv .2) f m q h e
+    let i = l .inv in
+    let a = c .before .before .before .args in
+    λ d m x h e.
+    let y = same-deletes _ _ (i .0) d (i .1) (record { count = x .count; from = x .from }) in
+    going-end _ _ _ _ (i .0) _ (l .left) (l .kind) (l .at) (i .2) (c .loop-test .left) m h e
+    ∙ ap (λ (z : List Delete). tableOf limits (map (retiredIf (namedIn (spisIn z)) (a .tick) (a .delay)) m)) y
 
 pub retired-by-frame-spec : {M : Type 1} → statement M
 retired-by-frame-spec =
@@ -131,8 +122,6 @@ retired-by-frame-spec =
     (tie.spec
     Inv-loop
     μ-loop
-    shared-slice-read-wide
-    wide-requires
     loop-holds
     sub-payload-parts
     part-payload-parts-start
@@ -144,6 +133,7 @@ retired-by-frame-spec =
     part-retired-spis-start
     part-retired-spis-end
     retired-spis-requires
+    sub-left
     loop-less
     loop-again
     loop-less-2

@@ -3,83 +3,69 @@ use mathlib.Core.Path.{_≡_, ap, sym, _∙_}
 use mathlib.Core.List.{[]}
 use Rattle.octets.specs.Walk.{whole}
 use Rattle.frames.specs.Frame.{Frame, frame}
-use Rattle.frames.specs.declared.exchanges.Exchange.{Exchange}
 use Rattle.contents.specs.inner.Values.{isWhole}
+use Rattle.judging.proofs.VerdictLaws.{refused-so, passed-so}
 use Rattle.receiving.specs.inner.Passing.{Passed}
 use Rattle.group.specs.declared.Member.{Member}
 use Rattle.group.proofs.ReceiveLaws.{judged-small, judged-clauses, judged-as}
+use borrow.Author.Needs.{needs}
 use Rattle.group.proofs.Member.judged.Statement.{statement}
 use Rattle.group.proofs.Member.judged.Tie as tie
 
 refusal-requires : tie.Need-refusal-requires
 refusal-requires c κs = ap isWhole (c .before .before .before .pre .1)
 
+enum-known-number : tie.Need-enum-known-number
+enum-known-number c = search needs
+
 refused-requires : tie.Need-refused-requires
 refused-requires c κs =
-    let b = c .before .before .before .before .before in
+    let m = c .before .number .given in
+    let r = c .before .before .before .refusal in
+    let b = c .before .before .before .before .before .before .before in
     let a = b .args in
     let p = b .pre in
-    let r = c .before .refusal in
+    let n = refused-so _ _ (m .0) (sym (m .1) ∙ r .ensures (p .0) (p .1)) in
     judged-small (a .self .state) (a .tick) (now (a .lent)) (p .0) _ _
-    (judged-clauses (a .self .state) (a .tick) (now (a .lent)) (p .0) (r .result) (r .ensures (p .0) (p .1)) (c .if1 .taken))
+    (judged-clauses (a .self .state) (a .tick) (now (a .lent)) (p .0) (m .0) (n .0) (λ z. n .1 (sym (n .0) ∙ z)))
+
+enum-known-x : tie.Need-enum-known-x
+enum-known-x c = search needs
+
+-- numbers 2 to 7 let the frame pass
+passes : (c : tie.After-known-told2) (f : Frame) →
+    let a = c .before .before .before .before .before .before .before .args in
+    frame (now (a .s)) ≡ whole f [] → Passed (a .self .state) (a .tick) (now (a .lent)) (now (a .s)) (c .before .x .given .0) f
+passes c f q =
+    let m = c .before .x .given in
+    let n = passed-so _ _ (m .0) (sym (m .1) ∙ c .before .before .before .refusal .ensures f q) in
+    record { whole-is = q; clauses = n .0; facts = n .1 }
+
+passed-requires : tie.Need-passed-requires
+passed-requires c κs = let p = c .before .before .before .before .before .before .before .pre in (p .0, passes c (p .0) (p .1))
 
 returns : tie.Need-returns
 returns c =
-    let a = c .before .before .before .before .before .before .args in
     let e = c .refused .ensures in
-    let r = c .before .before .refusal in
+    let m = c .before .before .number .given in
+    let r = c .before .before .before .before .refusal in
+    let a = c .before .before .before .before .before .before .before .before .args in
     λ f q.
+    let n = refused-so _ _ (m .0) (sym (m .1) ∙ r .ensures f q) in
     judged-as (a .self .state) (a .tick) (now (a .lent)) f _ _ _ _ (e .0) (ap (λ (x : Member). x .state) (e .1))
-    (judged-clauses (a .self .state) (a .tick) (now (a .lent)) f (r .result) (r .ensures f q) (c .before .if1 .taken))
-
-row-of-requires : tie.Need-row-of-requires
-row-of-requires c κs = ap isWhole (c .before .before .before .before .before .pre .1)
-
--- numbers 2 to 7 let the frame pass
-passed : (c : tie.Else1) (f : Frame) →
-    let a = c .before .before .before .before .before .args in
-    frame (now (a .s)) ≡ whole f [] → Passed (a .self .state) (a .tick) (now (a .lent)) (now (a .s)) f
-passed c f q = record { whole-is = q; clauses = sym (c .before .refusal .ensures f q) ∙ c .if1 .left }
-
-registering-requires : tie.Need-registering-requires
-registering-requires c κs =
-    let d = c .before .before in
-    let p = d .before .before .before .before .before .pre in
-    let row = ap (λ (x : Exchange). x .holds) (c .before .row-of .ensures (p .0) (p .1)) in
-    (p .0, passed d (p .0) (p .1), row ∙ c .if2 .taken)
+    (judged-clauses (a .self .state) (a .tick) (now (a .lent)) f (m .0) (n .0) (λ z. n .1 (sym (n .0) ∙ z)))
 
 returns-2 : tie.Need-returns-2
-returns-2 c =
-    let d = c .before .before .before in
-    λ f q.
-    c .registering .ensures f (passed d f q)
-    (ap (λ (x : Exchange). x .holds) (c .before .before .row-of .ensures f q) ∙ c .before .if2 .taken)
-
-rekeying-requires : tie.Need-rekeying-requires
-rekeying-requires c κs =
-    let d = c .before .before in
-    let s = d .before .before .before .before .before in
-    let p = s .pre in
-    let row = ap (λ (x : Exchange). x .holds) (c .before .row-of .ensures (p .0) (p .1)) in
-    (p .0, now (s .args .lent), passed d (p .0) (p .1), row ∙ c .if2 .left)
-
-returns-3 : tie.Need-returns-3
-returns-3 c =
-    let d = c .before .before .before in
-    let a = d .before .before .before .before .before .args in
-    λ f q.
-    c .rekeying .ensures f (now (a .lent)) (passed d f q)
-    (ap (λ (x : Exchange). x .holds) (c .before .before .row-of .ensures f q) ∙ c .before .if2 .left)
+returns-2 c = λ f q. c .passed .ensures f (passes (c .before) f q)
 
 pub judged-spec : {M : Type 1} → statement M
 judged-spec =
     tie.close
     (tie.spec
     refusal-requires
+    enum-known-number
     refused-requires
+    enum-known-x
+    passed-requires
     returns
-    row-of-requires
-    registering-requires
-    returns-2
-    rekeying-requires
-    returns-3)
+    returns-2)

@@ -2,7 +2,7 @@ use denote.Ref.{now}
 use native.Mathlib.Omega.{arith}
 use Prim.Native.Nat.{_-_}
 use lib.ListN.{length}
-use Rattle.pairing.specs.inner.Names.{isSuch}
+use Rattle.pairing.specs.inner.Names.{isNamed}
 use Rattle.pairing.proofs.Walking.{HeadAt, head-at, along-fits}
 use Rattle.pairing.proofs.Counts.{Counting, counting-start, counting-end, counting-room, counting-less, counting-yes, counting-no}
 use borrow.Author.Needs.{needs}
@@ -10,10 +10,10 @@ use Rattle.pairing.proofs.names.count_names.Statement.{statement}
 use Rattle.pairing.proofs.names.count_names.Tie as tie
 
 abbrev Inv-loop : tie.InvT-loop
-Inv-loop w protocol spi s n₀ at₀ n at = Counting (isSuch w protocol spi) s n at
+Inv-loop protocol spi s n₀ at₀ n at = Counting (isNamed protocol spi) s n at
 
 abbrev μ-loop : tie.MeasureT-loop
-μ-loop w protocol spi s n₀ at₀ n at = length s - at
+μ-loop protocol spi s n₀ at₀ n at = length s - at
 
 loop-holds : tie.Need-loop-holds Inv-loop μ-loop
 loop-holds c = counting-start _ _
@@ -47,17 +47,17 @@ add-end c = let h = stands (c .before) in record { fits = omega (arith, h .order
 add-next : tie.Need-add-next Inv-loop μ-loop
 add-next c = record { fits = omega (arith, stands (c .before .before) .inside) }
 
-sub-is-such : tie.Need-sub-is-such Inv-loop μ-loop
-sub-is-such c = omega (arith, stands (c .before .before) .some)
+sub-is-named : tie.Need-sub-is-named Inv-loop μ-loop
+sub-is-named c = omega (arith, stands (c .before .before) .some)
 
-part-is-such-start : tie.Need-part-is-such-start Inv-loop μ-loop
-part-is-such-start c = omega (arith, stands (c .before .before) .some)
+part-is-named-start : tie.Need-part-is-named-start Inv-loop μ-loop
+part-is-named-start c = omega (arith, stands (c .before .before) .some)
 
-part-is-such-end : tie.Need-part-is-such-end Inv-loop μ-loop
-part-is-such-end c = let h = stands (c .before .before) in omega (arith, h .order, h .inside)
+part-is-named-end : tie.Need-part-is-named-end Inv-loop μ-loop
+part-is-named-end c = let h = stands (c .before .before) in omega (arith, h .order, h .inside)
 
-is-such-requires : tie.Need-is-such-requires Inv-loop μ-loop
-is-such-requires c κs = search needs
+is-named-requires : tie.Need-is-named-requires Inv-loop μ-loop
+is-named-requires c κs = search needs
 
 add-n : tie.Need-add-n Inv-loop μ-loop
 add-n c =
@@ -77,7 +77,7 @@ loop-again c =
     let l = c .before .before .before .before .before .before .before .before .loop in
     counting-yes _ _ (l .n) (l .at) (l .inv) (c .before .before .before .before .before .before .before .loop-test .taken) _
     (stands (c .before .before .before .before .before)) _
-    (c .before .is-such .ensures) (c .if1 .taken)
+    (c .before .is-named .ensures) (c .if1 .taken)
 
 loop-less-2 : tie.Need-loop-less-2 Inv-loop μ-loop
 loop-less-2 c =
@@ -90,7 +90,7 @@ loop-again-2 c =
     let l = c .before .before .before .before .before .before .before .before .loop in
     counting-no _ _ (l .n) (l .at) (l .inv) (c .before .before .before .before .before .before .before .loop-test .taken) _
     (stands (c .before .before .before .before .before)) _
-    (c .before .is-such .ensures) (c .if1 .left)
+    (c .before .is-named .ensures) (c .if1 .left)
 
 returns : tie.Need-returns Inv-loop μ-loop
 returns c = let l = c .before .loop in counting-end _ _ (l .n) (l .at) (l .inv) (c .loop-test .left)
@@ -109,10 +109,10 @@ count-names-spec =
     add-start
     add-end
     add-next
-    sub-is-such
-    part-is-such-start
-    part-is-such-end
-    is-such-requires
+    sub-is-named
+    part-is-named-start
+    part-is-named-end
+    is-named-requires
     add-n
     loop-less
     loop-again

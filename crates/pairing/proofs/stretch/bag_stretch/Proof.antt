@@ -3,19 +3,19 @@ use native.Mathlib.Omega.{arith}
 use Prim.Native.Nat.{_-_}
 use lib.ListN.{length}
 use Rattle.bagkeys.proofs.BagAt.{BagAt, bag-there, bag-at}
-use Rattle.pairing.proofs.Seeking.{Seeking, seeking-start, seeking-end, seeking-less, seeking-yes, seeking-no}
+use Rattle.pairing.proofs.Places.{Going, going-start, going-end, going-yes, going-no}
 use borrow.Author.Needs.{needs}
 use Rattle.pairing.proofs.stretch.bag_stretch.Statement.{statement}
 use Rattle.pairing.proofs.stretch.bag_stretch.Tie as tie
 
 abbrev Inv-loop : tie.InvT-loop
-Inv-loop k protocol spi at₀ at = Seeking protocol spi k at
+Inv-loop k protocol spi at₀ at = Going protocol spi k at
 
 abbrev μ-loop : tie.MeasureT-loop
 μ-loop k protocol spi at₀ at = length k - at
 
 loop-holds : tie.Need-loop-holds Inv-loop μ-loop
-loop-holds c = seeking-start _ _ _ (c .before .before .pre .0)
+loop-holds c = going-start _ _ _ (c .before .before .pre)
 
 sub-bag-parts : tie.Need-sub-bag-parts Inv-loop μ-loop
 sub-bag-parts c = search needs
@@ -44,39 +44,39 @@ add-start c = let b = stands (c .before) in record { fits = omega (arith, b .ord
 add-end : tie.Need-add-end Inv-loop μ-loop
 add-end c = record { fits = omega (arith, stands (c .before .before) .inside) }
 
-sub-is-such : tie.Need-sub-is-such Inv-loop μ-loop
-sub-is-such c = omega (arith, stands (c .before .before) .some)
+sub-is-named : tie.Need-sub-is-named Inv-loop μ-loop
+sub-is-named c = omega (arith, stands (c .before .before) .some)
 
-part-is-such-start : tie.Need-part-is-such-start Inv-loop μ-loop
-part-is-such-start c = omega (arith, stands (c .before .before) .some)
+part-is-named-start : tie.Need-part-is-named-start Inv-loop μ-loop
+part-is-named-start c = omega (arith, stands (c .before .before) .some)
 
-part-is-such-end : tie.Need-part-is-such-end Inv-loop μ-loop
-part-is-such-end c = let b = stands (c .before .before) in omega (arith, b .order, b .inside)
+part-is-named-end : tie.Need-part-is-named-end Inv-loop μ-loop
+part-is-named-end c = let b = stands (c .before .before) in omega (arith, b .order, b .inside)
 
-is-such-requires : tie.Need-is-such-requires Inv-loop μ-loop
-is-such-requires c κs = search needs
+is-named-requires : tie.Need-is-named-requires Inv-loop μ-loop
+is-named-requires c κs = search needs
 
 returns : tie.Need-returns Inv-loop μ-loop
 returns c =
     let l = c .before .before .before .before .before .before .before .before .loop in
-    seeking-yes _ _ _ (l .at) (l .inv) _ (stands (c .before .before .before .before .before)) _ (c .before .is-such .ensures)
-    (c .if1 .taken) (c .before .before .before .before .before .before .before .before .before .before .before .pre .1)
+    let h = c .before .before .before .before .before .before .before .loop-test .taken in
+    going-yes _ _ _ (l .at) (l .inv) h _ (stands (c .before .before .before .before .before)) _ (c .before .is-named .ensures)
+    (c .if1 .taken)
 
 loop-less : tie.Need-loop-less Inv-loop μ-loop
 loop-less c =
-    let l = c .before .before .before .before .before .before .before .before .loop in
-    seeking-less _ _ _ (l .at) (l .inv) _ (stands (c .before .before .before .before .before))
+    let b = stands (c .before .before .before .before .before) in
+    omega (arith, b .some, b .order, b .inside)
 
 loop-again : tie.Need-loop-again Inv-loop μ-loop
 loop-again c =
     let l = c .before .before .before .before .before .before .before .before .loop in
-    seeking-no _ _ _ (l .at) (l .inv) _ (stands (c .before .before .before .before .before)) _ (c .before .is-such .ensures)
+    let h = c .before .before .before .before .before .before .before .loop-test .taken in
+    going-no _ _ _ (l .at) (l .inv) h _ (stands (c .before .before .before .before .before)) _ (c .before .is-named .ensures)
     (c .if1 .left)
 
 returns-2 : tie.Need-returns-2 Inv-loop μ-loop
-returns-2 c =
-    let l = c .before .loop in
-    absurd (seeking-end _ _ _ (l .at) (l .inv) (c .loop-test .left) (c .before .before .before .before .pre .1))
+returns-2 c = let l = c .before .loop in going-end _ _ _ (l .at) (l .inv) (c .loop-test .left)
 
 pub bag-stretch-spec : {M : Type 1} → statement M
 bag-stretch-spec =
@@ -92,10 +92,10 @@ bag-stretch-spec =
     add-name
     add-start
     add-end
-    sub-is-such
-    part-is-such-start
-    part-is-such-end
-    is-such-requires
+    sub-is-named
+    part-is-named-start
+    part-is-named-end
+    is-named-requires
     returns
     loop-less
     loop-again

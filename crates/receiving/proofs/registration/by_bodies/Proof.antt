@@ -47,8 +47,8 @@ keyed-requires c κs =
 
 opened-by : (c : tie.After-keyed) (f : Frame) →
     let a = c .before .before .before .before .before .before .before .before .before .before .args in
-    Bodied true (a .state) (a .tick) (now (a .lent)) (now (a .s)) (now (a .g)) (now (a .k)) f →
-    Opened (a .state) (a .tick) (now (a .lent)) (now (a .s)) (now (a .g)) (c .keyed .result)
+    Bodied true (a .state) (a .tick) (now (a .lent)) (now (a .s)) (a .x) (now (a .g)) (now (a .k)) f →
+    Opened (a .state) (a .tick) (now (a .lent)) (now (a .s)) (a .x) (c .keyed .result)
     (c .before .before .before .reached .result .held) f
 opened-by c f b =
     let z = c .before .before .before .before in
@@ -60,7 +60,7 @@ concluded-requires : tie.Need-concluded-requires
 concluded-requires c κs =
     let b = c .before .before .before .before .before .before .before .before .before .before in
     let f = b .pre .1 .0 in
-    (b .pre .0 .0, (f, now (b .args .lent), opened-by c f (b .pre .1 .1)))
+    (f, now (b .args .lent), opened-by c f (b .pre .1 .1))
 
 returns-2 : tie.Need-returns-2
 returns-2 c =

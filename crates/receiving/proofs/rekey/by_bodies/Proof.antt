@@ -31,8 +31,8 @@ keyed-requires c κs =
 
 opened-by : (c : tie.After-keyed) (f : Frame) (lent : List ℕ) →
     let a = c .before .before .before .before .before .before .before .before .args in
-    Bodied false (a .state) (a .tick) lent (now (a .s)) (now (a .g)) (now (a .k)) f →
-    Opened (a .state) (a .tick) lent (now (a .s)) (now (a .g)) (c .keyed .result) (a .state .held) f
+    Bodied false (a .state) (a .tick) lent (now (a .s)) (a .x) (now (a .g)) (now (a .k)) f →
+    Opened (a .state) (a .tick) lent (now (a .s)) (a .x) (c .keyed .result) (a .state .held) f
 opened-by c f lent b =
     let w = c .before .before .before .swept in
     let z = c .before .before .default-key in
@@ -42,7 +42,7 @@ opened-by c f lent b =
 concluded-requires : tie.Need-concluded-requires
 concluded-requires c κs =
     let p = c .before .before .before .before .before .before .before .before .pre in
-    (p .0 .0, (p .1 .0, p .1 .1, opened-by c (p .1 .0) (p .1 .1) (p .1 .2)))
+    (p .1 .0, p .1 .1, opened-by c (p .1 .0) (p .1 .1) (p .1 .2))
 
 returns : tie.Need-returns
 returns c = λ f lent b. c .concluded .ensures f lent (opened-by (c .before) f lent b)

@@ -1,0 +1,27 @@
+use mathlib.Core.Path.{sym, ap, _∙_}
+use mathlib.Core.Bool.{true, false, not}
+use Rattle.admission.proofs.Laws.{wants-empty}
+use borrow.Author.Needs.{needs}
+use Rattle.admission.proofs.number2.breaks_wanted.Statement.{statement}
+use Rattle.admission.proofs.number2.breaks_wanted.Tie as tie
+
+enum-told : tie.Need-enum-told
+enum-told c = search needs
+
+is-empty-requires : tie.Need-is-empty-requires
+is-empty-requires c κs = search needs
+
+returns : tie.Need-returns
+returns c = wants-empty _ _ false (c .before .before .enum-told .given .1) (ap not (sym (c .if1 .taken) ∙ c .before .is-empty .ensures))
+
+enum-told-2 : tie.Need-enum-told-2
+enum-told-2 c = search needs
+
+returns-2 : tie.Need-returns-2
+returns-2 c = wants-empty _ _ true (c .before .before .enum-told .given .1) (ap not (sym (c .if1 .left) ∙ c .before .is-empty .ensures))
+
+returns-3 : tie.Need-returns-3
+returns-3 c = search needs
+
+pub breaks-wanted-spec : {M : Type 1} → statement M
+breaks-wanted-spec = tie.close (tie.spec enum-told is-empty-requires returns enum-told-2 returns-2 returns-3)

@@ -1,0 +1,57 @@
+-- Numbers 4 to 7 as lists of tests over the facts of a frame, in the order in which document 01 names them.
+use Prim.Native.Nat.{ℕ, _+_}
+use mathlib.Core.List.{List, [], _∷_}
+use mathlib.Core.Bool.{Bool, not, _&&_, _||_}
+use lib.Dec.{ltb}
+use Rattle.keys.specs.Lists.{any}
+use Rattle.keys.specs.Limits.{Limits}
+use Rattle.keys.specs.Algorithms.{sizeOf}
+use Rattle.sa.specs.declared.entry.Sa.{Sa}
+use Rattle.frames.specs.declared.exchanges.Exchange.{Exchange}
+use Rattle.payloads.specs.declared.PayloadFacts.{PayloadFacts}
+use Rattle.payloads.specs.declared.deletion.Deletes.{Deletes}
+use Rattle.composition.specs.declared.PolicyFacts.{PolicyFacts}
+use Rattle.bagkeys.specs.declared.BagFacts.{BagFacts}
+use Rattle.pairing.specs.inner.Names.{Name, isUnpaired, isAnnounced}
+use Rattle.judging.specs.declared.facts.Facts.{Facts}
+
+-- critical, a barred Member bag, a barred D, two GSA, two KD, one without the other, neither; several Rekey policies, group-wide policies,
+-- Member bags; a GSA with no SA policy; Key Length, GSA_INITIAL_MESSAGE_ID, the delay twice; the Rekey destination
+abbrev pub fourOf : Exchange → PayloadFacts → PolicyFacts → BagFacts → List Bool
+fourOf row b p k =
+    b .critical ∷ (not (row .bag) && ltb 0 (k .members)) ∷ (not (row .delete) && ltb 0 (b .deletes)) ∷ ltb 1 (b .gsas) ∷ ltb 1 (b .kds)
+    ∷ (ltb 0 (b .gsas) && not (ltb 0 (b .kds))) ∷ (ltb 0 (b .kds) && not (ltb 0 (b .gsas)))
+    ∷ (not (ltb 0 (b .gsas)) && (not (ltb 0 (b .kds)) && not (row .delete && ltb 0 (b .deletes))))
+    ∷ ltb 1 (p .rekeys) ∷ ltb 1 (p .wides) ∷ ltb 1 (k .members) ∷ (ltb 0 (b .gsas) && not (ltb 0 (p .sas)))
+    ∷ p .lengths ∷ p .ids ∷ p .delays ∷ p .elsewhere ∷ []
+
+-- an AH policy, an AH bag, other transforms, D of another protocol, D with count 0, a lent key of so many octets
+abbrev pub fiveOf : Exchange → ℕ → Deletes → PolicyFacts → BagFacts → List Bool
+fiveOf row lent d p k = p .ah ∷ k .ah ∷ p .unfit ∷ d .other ∷ d .none ∷ (row .lent && not (sizeOf 13 lent)) ∷ []
+
+-- the SA_KEY count, an SA_KEY with a Key ID, one of ESP with a KWK ID, a WRAP_KEY without Key ID
+abbrev pub keysBy : Exchange → BagFacts → List Bool
+keysBy row k = ((k .keyless || k .several) || (not (row .copies) && k .copied)) ∷ k .named ∷ k .nested ∷ k .unnamed ∷ []
+
+-- policies of the names l and bags of the names m not paired one to one, in the table already, and the keys
+abbrev pub sixOf : Exchange → BagFacts → List Name → List Name → ℕ → List Sa → List Bool
+sixOf row k l m now sas = any (isUnpaired m) l ∷ any (isUnpaired l) m ∷ any (isAnnounced now l) sas ∷ keysBy row k
+
+-- ESP policies, WRAP_KEYs, SA_KEYs in a bag, deleted SPIs, SAs after the frame
+abbrev pub sevenOf : Limits → Deletes → PolicyFacts → BagFacts → ℕ → List Bool
+sevenOf limits d p k standing =
+    ltb (limits .espPolicies) (p .esps) ∷ ltb (limits .wrapKeys) (k .wraps) ∷ k .overfull ∷ ltb (limits .deletedSpis) (d .spis)
+    ∷ ltb (limits .sas) (standing + p .sas) ∷ []
+
+-- ---- over the facts of a frame
+abbrev pub fourBy : Exchange → Facts → List Bool
+fourBy row x = fourOf row (x .payloads) (x .policies) (x .bags)
+
+abbrev pub fiveBy : Exchange → ℕ → Facts → List Bool
+fiveBy row lent x = fiveOf row lent (x .payloads .deletion) (x .policies) (x .bags)
+
+abbrev pub sixBy : Exchange → Facts → List Name → List Name → ℕ → List Sa → List Bool
+sixBy row x l m now sas = sixOf row (x .bags) l m now sas
+
+abbrev pub sevenBy : Limits → Facts → ℕ → List Bool
+sevenBy limits x standing = sevenOf limits (x .payloads .deletion) (x .policies) (x .bags) standing

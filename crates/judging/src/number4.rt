@@ -1,0 +1,60 @@
+// Number 4: what a frame is made up of.
+use crate::facts::Facts;
+use frames::exchanges::Exchange;
+ghost use mathlib.Core.Path.{_≡_};
+ghost use Rattle.clauses.specs.Refusals.{one};
+ghost use Rattle.judging.specs.inner.Tests.{fourBy};
+
+// Whether number 4 applies, in an exchange with this row, to a frame with these facts. Internal.
+pub fn number_4(row: Exchange, x: Facts) -> bool
+    ensures { λ r. ⌜ r ≡ one (fourBy row x) ⌝ }
+{
+    let b = x.payloads;
+    let p = x.policies;
+    let k = x.bags;
+    let gsa = 0 < b.gsas;
+    let kd = 0 < b.kds;
+    let deletes = 0 < b.deletes;
+    // "critical unknown payload"
+    let critical = b.critical;
+    // "Member bag in a rekey"
+    let member_bag = !row.bag & (0 < k.members);
+    // "D in a registration"
+    let delete = !row.delete & deletes;
+    // "two GSA or two KD"
+    let two_gsa = 1 < b.gsas;
+    let two_kd = 1 < b.kds;
+    // "one without the other"
+    let gsa_alone = gsa & !kd;
+    let kd_alone = kd & !gsa;
+    // "neither (unless a rekey has D)"
+    let neither = !gsa & (!kd & !(row.delete & deletes));
+    // "more than one Rekey policy, group-wide policy or Member bag"
+    let rekeys = 1 < p.rekeys;
+    let wides = 1 < p.wides;
+    let members = 1 < k.members;
+    // "a GSA with no SA policy"
+    let no_sa = gsa & !(0 < p.sas);
+    // "Key Length, GSA_INITIAL_MESSAGE_ID or the deactivation delay twice in one place"
+    let lengths = p.lengths;
+    let ids = p.ids;
+    let delays = p.delays;
+    // "a Rekey destination that isn't one address (start equals end) in 224.0.0.0/4 or ff00::/8 and one port"
+    let elsewhere = p.elsewhere;
+    critical
+        | member_bag
+        | delete
+        | two_gsa
+        | two_kd
+        | gsa_alone
+        | kd_alone
+        | neither
+        | rekeys
+        | wides
+        | members
+        | no_sa
+        | lengths
+        | ids
+        | delays
+        | elsewhere
+}

@@ -1,0 +1,28 @@
+// Number 5: what the member does not support.
+use crate::facts::Facts;
+use frames::exchanges::Exchange;
+use keys::kinds::WrappingKey;
+ghost use mathlib.Core.Path.{_≡_};
+ghost use Rattle.clauses.specs.Refusals.{one};
+ghost use Rattle.judging.specs.inner.Tests.{fiveBy};
+
+// Whether number 5 applies, in an exchange with this row and with a lent key of so many octets, to a frame with these facts. Internal.
+pub fn number_5(row: Exchange, lent: usize, x: Facts) -> bool
+    ensures { λ r. ⌜ r ≡ one (fiveBy row lent x) ⌝ }
+{
+    let b = x.payloads;
+    let d = b.deletion;
+    let p = x.policies;
+    let k = x.bags;
+    // "an AH policy or bag"
+    let ah_policy = p.ah;
+    let ah_bag = k.ah;
+    // "a policy whose transforms aren't exactly those below"
+    let unfit = p.unfit;
+    // "Delete of another protocol than ESP or with count 0"
+    let other = d.other;
+    let none = d.none;
+    // "a lent default key not of 16, 24 or 32 octets in a registration"
+    let key = row.lent & !WrappingKey::is_size(lent);
+    ah_policy | ah_bag | unfit | other | none | key
+}

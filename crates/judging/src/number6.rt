@@ -1,0 +1,52 @@
+// Number 6: policies, key bags and keys that do not belong together.
+use crate::facts::Facts;
+use bagkeys::BagFacts;
+use frames::exchanges::Exchange;
+use pairing::names::any_unpaired;
+use table::Table;
+ghost use mathlib.Core.Path.{_≡_};
+ghost use mathlib.Core.List.{List};
+ghost use Prim.Native.Nat.{_≤_};
+ghost use Rattle.keys.specs.Limits.{limits};
+ghost use Rattle.table.specs.Table.{sasOf};
+ghost use Rattle.pairing.specs.inner.Names.{Name, Names};
+ghost use Rattle.clauses.specs.Refusals.{one};
+ghost use Rattle.judging.specs.inner.Tests.{keysBy, sixBy};
+
+// Whether one of number 6's clauses on the keys of the bags applies, in an exchange with this row.
+fn any_unfit_key(row: Exchange, k: BagFacts) -> bool
+    ensures { λ r. ⌜ r ≡ one (keysBy row k) ⌝ }
+{
+    // "SA_KEY count not 1 (for a Rekey SA in a rekey: 0)"
+    let count = k.keyless | k.several | (!row.copies & k.copied);
+    // "SA_KEY with Key ID not 0"
+    let named = k.named;
+    // "ESP SA_KEY with KWK ID not 0"
+    let nested = k.nested;
+    // "WRAP_KEY with Key ID 0"
+    let unnamed = k.unnamed;
+    count | named | nested | unnamed
+}
+
+// Whether number 6 applies, in an exchange with this row and over this table, to a frame with these facts and these bodies of GSA and KD.
+// The names, which take a walk for each, are compared where no fact decides. Internal.
+pub fn number_6(row: Exchange, x: Facts, gsa: &[u8], kd: &[u8], t: Table, tick: u32) -> bool
+    requires { ⌜ ((l : List Name) × Names (now gsa) l) × ((m : List Name) × Names (now kd) m) × (t .count ≤ limits .sas) ⌝ }
+    ensures { λ r. ⌜ ((l m : List Name) → Names (now (gsa .entry)) l → Names (now (kd .entry)) m →
+        r ≡ one (sixBy row x l m tick (sasOf t))) ⌝ }
+{
+    let k = x.bags;
+    if any_unfit_key(row, k) {
+        return true;
+    }
+    // "policies and Group Key Bags not paired one to one by protocol and SPI; one protocol and SPI twice": where a name stands twice,
+    // policies and bags are not paired one to one either
+    if any_unpaired(gsa, kd) {
+        return true;
+    }
+    if any_unpaired(kd, gsa) {
+        return true;
+    }
+    // "or already in the table (SAs due at the tick not counted)"
+    pairing::any_in_table(gsa, t, tick)
+}

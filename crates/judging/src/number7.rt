@@ -1,0 +1,43 @@
+// Number 7: what does not fit into the member's limits.
+use crate::facts::Facts;
+use keys::limits::DELETED_SPIS;
+use keys::limits::ESP_POLICIES;
+use keys::limits::SAS;
+use keys::limits::WRAP_KEYS;
+ghost use mathlib.Core.Path.{_≡_};
+ghost use Prim.Native.Nat.{_+_};
+ghost use lib.Dec.{ltb};
+ghost use Rattle.keys.specs.Limits.{limits};
+ghost use Rattle.clauses.specs.Refusals.{one};
+ghost use Rattle.judging.specs.inner.Tests.{sevenBy};
+
+// Whether so many SAs that stand and so many more are too many for the table.
+fn is_over(standing: usize, more: usize) -> bool
+    ensures { λ r. ⌜ r ≡ ltb (limits .sas) (standing + more) ⌝ }
+{
+    if SAS < standing {
+        return true;
+    }
+    SAS - standing < more
+}
+
+// Whether number 7 applies to a frame with these facts, where so many SAs stand. Internal.
+pub fn number_7(x: Facts, standing: usize) -> bool
+    ensures { λ r. ⌜ r ≡ one (sevenBy limits x standing) ⌝ }
+{
+    let b = x.payloads;
+    let d = b.deletion;
+    let p = x.policies;
+    let k = x.bags;
+    // "over 8 ESP policies"
+    let esps = ESP_POLICIES < p.esps;
+    // "32 WRAP_KEY"
+    let wraps = WRAP_KEYS < k.wraps;
+    // "32 SA_KEY in a bag"
+    let overfull = k.overfull;
+    // "32 deleted SPIs in the frame"
+    let spis = DELETED_SPIS < d.spis;
+    // "or over 16 SAs after the frame, those already due when it arrives not counted"
+    let sas = is_over(standing, p.sas);
+    esps | wraps | overfull | spis | sas
+}
