@@ -161,7 +161,6 @@ pub(crate) fn handed_over(r: Reading, out: &[u8]) -> Reading {
 // A line, by its digits.
 fn show_line(out: &mut [u8], r: Reading, digits: &[u8], room: &mut [u8]) -> usize {
     let n = names::say(out, r.n, b"line %: ", r.number, 0, 0);
-    let count = digits.len();
     if r.wrong != 0 {
         return names::say(
             out,
@@ -172,6 +171,14 @@ fn show_line(out: &mut [u8], r: Reading, digits: &[u8], room: &mut [u8]) -> usiz
             0,
         );
     }
+    if MOST < digits.len() {
+        return names::say(out, n, b"more than % digits\n", MOST, 0, 0);
+    }
+    show_digits(out, n, r, digits, room)
+}
+
+fn show_digits(out: &mut [u8], n: usize, r: Reading, digits: &[u8], room: &mut [u8]) -> usize {
+    let count = digits.len();
     if count % 2 == 1 {
         return names::say(out, n, b"% digits, an odd count\n", count, 0, 0);
     }
@@ -185,16 +192,12 @@ fn show_line(out: &mut [u8], r: Reading, digits: &[u8], room: &mut [u8]) -> usiz
             0,
         );
     }
-    show_digits(out, n, r.keyed, digits, room)
+    show_octets(out, n, r.keyed, digits, room)
 }
 
-fn show_digits(out: &mut [u8], n: usize, keyed: bool, digits: &[u8], room: &mut [u8]) -> usize {
-    let count = digits.len();
-    if count == 0 {
+fn show_octets(out: &mut [u8], n: usize, keyed: bool, digits: &[u8], room: &mut [u8]) -> usize {
+    if digits.len() == 0 {
         return names::text(out, n, b"empty\n");
-    }
-    if MOST < count {
-        return names::say(out, n, b"more than % digits\n", MOST, 0, 0);
     }
     let len = lines::put_octets(room, 0, digits);
     crate::kinds::show_octets(out, n, part(room, 0, len), keyed)
