@@ -25,9 +25,9 @@ refused-requires c κs =
     let b = c .before .before .before .before .before .before .before in
     let a = b .args in
     let p = b .pre in
-    let n = refused-so _ _ (m .0) (sym (m .1) ∙ r .ensures (p .0) (p .1)) in
+    let n = refused-so _ _ (m .0 .0) (sym (m .1) ∙ r .ensures (p .0) (p .1)) in
     judged-small (a .self .state) (a .tick) (now (a .lent)) (p .0) _ _
-    (judged-clauses (a .self .state) (a .tick) (now (a .lent)) (p .0) (m .0) (n .0) (λ z. n .1 (sym (n .0) ∙ z)))
+    (judged-clauses (a .self .state) (a .tick) (now (a .lent)) (p .0) (m .0 .0) (n .0) (λ z. n .1 (sym (n .0) ∙ z)))
 
 enum-known-x : tie.Need-enum-known-x
 enum-known-x c = search needs
@@ -35,10 +35,10 @@ enum-known-x c = search needs
 -- numbers 2 to 7 let the frame pass
 passes : (c : tie.After-known-told2) (f : Frame) →
     let a = c .before .before .before .before .before .before .before .args in
-    frame (now (a .s)) ≡ whole f [] → Passed (a .self .state) (a .tick) (now (a .lent)) (now (a .s)) (c .before .x .given .0) f
+    frame (now (a .s)) ≡ whole f [] → Passed (a .self .state) (a .tick) (now (a .lent)) (now (a .s)) (c .before .x .given .0 .0) f
 passes c f q =
     let m = c .before .x .given in
-    let n = passed-so _ _ (m .0) (sym (m .1) ∙ c .before .before .before .refusal .ensures f q) in
+    let n = passed-so _ _ (m .0 .0) (sym (m .1) ∙ c .before .before .before .refusal .ensures f q) in
     record { whole-is = q; clauses = n .0; facts = n .1 }
 
 passed-requires : tie.Need-passed-requires
@@ -51,9 +51,9 @@ returns c =
     let r = c .before .before .before .before .refusal in
     let a = c .before .before .before .before .before .before .before .before .args in
     λ f q.
-    let n = refused-so _ _ (m .0) (sym (m .1) ∙ r .ensures f q) in
+    let n = refused-so _ _ (m .0 .0) (sym (m .1) ∙ r .ensures f q) in
     judged-as (a .self .state) (a .tick) (now (a .lent)) f _ _ _ _ (e .0) (ap (λ (x : Member). x .state) (e .1))
-    (judged-clauses (a .self .state) (a .tick) (now (a .lent)) f (m .0) (n .0) (λ z. n .1 (sym (n .0) ∙ z)))
+    (judged-clauses (a .self .state) (a .tick) (now (a .lent)) f (m .0 .0) (n .0) (λ z. n .1 (sym (n .0) ∙ z)))
 
 returns-2 : tie.Need-returns-2
 returns-2 c = λ f q. c .passed .ensures f (passes (c .before) f q)
