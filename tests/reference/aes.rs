@@ -52,6 +52,15 @@ impl Schedule {
         [a, b, c, d]
     }
 
+    /// A round key of the equivalent inverse cipher (section 5.3.5), which appendix C shows.
+    pub fn equivalent_inverse_key(&self, round: usize) -> Block {
+        let mut key = self.round_keys[self.rounds - round];
+        if round != 0 && round != self.rounds {
+            inv_mix_columns(&mut key);
+        }
+        key
+    }
+
     /// Cipher (section 5.1).
     pub fn cipher(&self, state: &mut Block) {
         add_round_key(state, &self.round_keys[0]);

@@ -1,5 +1,5 @@
 //! Prints the published vectors of FIPS 197 and RFC 5649 and further cases of wrapping and opening, one line a case, as the
-//! program `vectors` does.
+//! program `vectors` does. `vectors random`: 10,000 keys and blocks by a rule, enciphered and deciphered, as that does too.
 
 use reference::aes::{Block, Schedule};
 use reference::keywrap::{open, wrap, wrap_steps};
@@ -9,6 +9,13 @@ const COUNTS: [usize; 14] = [1, 7, 8, 9, 15, 16, 17, 20, 24, 36, 44, 68, 255, 25
 const LENT: u8 = 0xee;
 
 fn main() {
+    match std::env::args().nth(1).as_deref() {
+        Some("random") => random(),
+        _ => all_cases(),
+    }
+}
+
+fn all_cases() {
     ciphers();
     expansions();
     published();
@@ -30,7 +37,33 @@ fn ciphers() {
         println!("cipher {name} {}", hex(&block));
         schedule.inverse_cipher(&mut block);
         println!("inverse {name} {}", hex(&block));
+        for round in [0, 1, key.len() / 4 + 6] {
+            println!("inverse key {name} {round} {}", hex(&schedule.equivalent_inverse_key(round)));
+        }
     }
+}
+
+/// Keys of 16, 24 and 32 octets in turn: the lowest octets of 48 numbers of a generator are a key, the first of 32, and a block.
+fn random() {
+    let mut state: u64 = 0x9e3779b97f4a7c15;
+    let mut next = || {
+        state ^= state << 13;
+        state ^= state >> 7;
+        state ^= state << 17;
+        state as u8
+    };
+    let mut lines = String::new();
+    for turn in 0..10_000 {
+        let octets: [u8; 48] = std::array::from_fn(|_| next());
+        let key = &octets[..KEY_SIZES[turn % 3]];
+        let plain: Block = octets[32..].try_into().expect("a block");
+        let schedule = Schedule::expand(key).expect("a key size");
+        let (mut forward, mut back) = (plain, plain);
+        schedule.cipher(&mut forward);
+        schedule.inverse_cipher(&mut back);
+        lines += &format!("random {} {} {} {}\n", hex(key), hex(&plain), hex(&forward), hex(&back));
+    }
+    print!("{lines}");
 }
 
 /// FIPS 197, appendix A.
