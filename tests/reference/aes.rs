@@ -52,13 +52,8 @@ impl Schedule {
         [a, b, c, d]
     }
 
-    /// A round key of the equivalent inverse cipher (section 5.3.5), which appendix C shows.
-    pub fn equivalent_inverse_key(&self, round: usize) -> Block {
-        let mut key = self.round_keys[self.rounds - round];
-        if round != 0 && round != self.rounds {
-            inv_mix_columns(&mut key);
-        }
-        key
+    pub fn round_key(&self, round: usize) -> Block {
+        self.round_keys[round]
     }
 
     /// Cipher (section 5.1).

@@ -37,10 +37,25 @@ fn ciphers() {
         println!("cipher {name} {}", hex(&block));
         schedule.inverse_cipher(&mut block);
         println!("inverse {name} {}", hex(&block));
-        for round in [0, 1, key.len() / 4 + 6] {
-            println!("inverse key {name} {round} {}", hex(&schedule.equivalent_inverse_key(round)));
-        }
+        let rounds = key.len() / 4 + 6;
+        println!("inverse key {name} 0 {}", hex(&schedule.round_key(rounds)));
+        println!("inverse key {name} 1 {}", hex(&inv_mix_columns(schedule.round_key(rounds - 1))));
+        println!("inverse key {name} {rounds} {}", hex(&schedule.round_key(0)));
     }
+}
+
+/// InvMixColumns of a round key (FIPS 197, section 5.3.5), apart from the cipher's, whose time is measured.
+fn inv_mix_columns(key: Block) -> Block {
+    std::array::from_fn(|i| {
+        let product = |k: usize| times([14, 11, 13, 9][k], key[i / 4 * 4 + (i + k) % 4]);
+        (0..4).fold(0, |sum, k| sum ^ product(k))
+    })
+}
+
+/// The product in GF(2^8).
+fn times(factor: u8, octet: u8) -> u8 {
+    let power = |n: u8| (0..n).fold(octet, |x, _| (x << 1) ^ (0x1b * (x >> 7)));
+    (0..8).filter(|n| factor >> n & 1 == 1).fold(0, |sum, n| sum ^ power(n))
 }
 
 /// Keys of 16, 24 and 32 octets in turn: the lowest octets of 48 numbers of a generator are a key, the first of 32, and a block.
