@@ -1,5 +1,5 @@
 -- The key expansion word by word.
-use mathlib.Core.Path.{_≡_, sym, ap, ap₂, _∙_, subst}
+use mathlib.Core.Path.{_≡_, refl, sym, ap, ap₂, _∙_, subst}
 use mathlib.Core.Bool.{cond, _&&_, and-false}
 use mathlib.Core.Logic.{_⊎_, inl, inr}
 use mathlib.Core.List.{List, [], _∷_, _++_}
@@ -19,7 +19,7 @@ use native.Mathlib.Nat.{
 }
 use native.Mathlib.Omega.{arith}
 use lib.Dec.{T, eqb, ltb, lit<}
-use lib.ListN.{length, getD, set, length-set, List·getD-append}
+use lib.ListN.{length, getD, set, replicate, getD-replicate, length-set, List·getD-append}
 use lib.Seq.{getD-append-add, getD-set-same, getD-set-other}
 use lib.Bits.{bitXor, xor-zero-r}
 use borrow.Author.Tests.{eq-eqb, ne-eqb, lt-ltb, le-ltb}
@@ -36,7 +36,7 @@ use Rattle.fips197.proofs.Expansion.{Sizes, sizes, length-grow}
 use Rattle.aes.specs.inner.Word.{b0, b1, b2, b3, four, wordOf, ror24, lastColumnOf}
 use Rattle.aes.specs.inner.Tables.{Boxed}
 use Rattle.aes.specs.declared.expansion.Place.{Place}
-use Rattle.aes.specs.inner.Schedule.{Expands}
+use Rattle.aes.specs.inner.Schedule.{Blank, Expands}
 use Rattle.aes.specs.inner.Expanding.{Grown, Placed}
 use Rattle.aes.proofs.Bytes.{Bytes, own, bytes-xor, digits, four-is, rotated24, last-column, b0-lt, b1-lt, b2-lt, b3-lt}
 
@@ -193,8 +193,14 @@ module _ (nk i : ℕ) (p : Place) (least : 1 ≤ nk) (past : nk ≤ i) (q : Plac
 
 -- ---- the words in the schedule's array
 
-pub grown-none : (key w : List ℕ) → length w ≡ 61 → Grown key w 0
-grown-none key w e = record { size = e; same = λ j h. absurd (not-suc-le-zero h) }
+pub blank-none : (n : ℕ) → Blank (replicate n 0) 0 n
+blank-none n i h l = getD-replicate n i 0 0 l
+
+pub blank-more : (w : List ℕ) (i v n : ℕ) → Blank w i n → Blank (set w i v) (i + 1) n
+blank-more w i v n b j h l = getD-set-other w i j v 0 (omega arith) ∙ b j (omega arith) l
+
+pub grown-none : (key : List ℕ) → Grown key (replicate 61 0) 0
+grown-none key = record { size = refl; same = λ j h. absurd (not-suc-le-zero h); behind = blank-none 61 }
 
 pub grown-more : (key : List ℕ) (v : ℕ) {w : List ℕ} {i : ℕ} → Grown key w i → i < 61 → four v ≡ word (keyExpansion key) i
     → Grown key (set w i v) (i + 1)
@@ -202,6 +208,7 @@ grown-more key v {w} {i} g h e =
     record {
       size = length-set w i v ∙ g .size;
       same = λ j b. at j (eq-or-lt-of-le (let z : j ≤ i = omega arith in z));
+      behind = blank-more w i v 61 (g .behind);
     }
   where
     at : (j : ℕ) → (j ≡ i) ⊎ (j < i) → four (getD (set w i v) j 0) ≡ word (keyExpansion key) j
@@ -233,11 +240,13 @@ module _ (key : List ℕ) (is : T (isKey (length key))) (small : Octets key) whe
       ∙ ap (λ (m : ℕ). xorWord (word e (i - m)) (temp m e i)) en
       ∙ sym (next-word key is i (omega arith) (omega arith))
 
-  pub all-words : (nk i : ℕ) → nk ≡ wordsOf key → 4 * (nk + 7) ≤ i → i ≤ 60 → {w : List ℕ} → Grown key w i
+  pub all-words : (nk i : ℕ) → nk ≡ wordsOf key → 4 * (nk + 7) ≤ i → i ≤ 4 * (nk + 7) → i ≤ 60 → {w : List ℕ} → Grown key w i
       → Expands key (set w 60 (nk + 6))
-  all-words nk i en h b {w} g =
+  all-words nk i en h u b {w} g =
       record {
         key-is = record { size = is; small = small };
+        size = length-set w 60 (nk + 6) ∙ g .size;
+        unused = λ j l m. getD-set-other w 60 j (nk + 6) 0 (omega arith) ∙ g .behind j (omega arith) (omega arith);
         rounds = getD-set-same w 60 (nk + 6) 0 (omega (arith, g .size)) ∙ ap (λ (m : ℕ). m + 6) en;
         keys = λ r l. ap (λ (n : ℕ). four (getD s n 0) ++ rest r) (let z : 4 * r ≡ 4 * r + 0 = omega arith in z)
             ∙ (λ j. at r l 0 (lit< tt) j ++ (at r l 1 (lit< tt) j ++ (at r l 2 (lit< tt) j ++ at r l 3 (lit< tt) j)));

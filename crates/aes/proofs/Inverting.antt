@@ -5,7 +5,7 @@ use mathlib.Core.List.{List}
 use Prim.Native.Nat.{ℕ, _+_, _*_, _/_, _%_, _-_, _<_, _≤_}
 use native.Mathlib.Omega.{arith}
 use lib.Dec.{lit<}
-use lib.ListN.{length, getD, set}
+use lib.ListN.{length, getD, set, length-set}
 use lib.Seq.{getD-set-same, getD-set-other}
 use lib.Bits.{bitXor, xor-zero-r}
 use borrow.Author.Tests.{lt-ltb, le-ltb}
@@ -22,7 +22,7 @@ use Rattle.aes.specs.inner.Word.{b0, b1, b2, b3, lastColumnOf}
 use Rattle.aes.specs.inner.Tables.{decipherTables}
 use Rattle.aes.specs.inner.Rounds.{blockOf, keyOf, swappedOf}
 use Rattle.aes.specs.inner.Inverse.{unmixedOf, sourceOf, inverseWordOf}
-use Rattle.aes.specs.inner.Schedule.{Expands, ExpandsInverse}
+use Rattle.aes.specs.inner.Schedule.{Blank, Expands, ExpandsInverse}
 use Rattle.aes.proofs.Bytes.{Bytes, column, last-column, b0-lt, b1-lt, b2-lt, b3-lt}
 use Rattle.aes.proofs.Held.{decipher-mixing, decipher-sbox}
 use Rattle.aes.proofs.Running.{state}
@@ -73,7 +73,7 @@ module _ {t : List ℕ} (e : t ≡ decipherTables) (x : ℕ) where
 -- ---- the round keys
 
 module _ {key t w k : List ℕ} (e : t ≡ decipherTables) (x : Expands key w) (n j : ℕ) (nr : n ≡ roundsOf key) (all : 4 * (n + 1) ≤ j)
-    (f : Filled 61 (inverseWordOf t w n) k j) where
+    (end : j ≤ 4 * (n + 1)) (f : Filled 61 (inverseWordOf t w n) k j) (zeros : Blank k j 61) where
   s : List ℕ
   s = set k 60 n
 
@@ -139,6 +139,8 @@ module _ {key t w k : List ℕ} (e : t ≡ decipherTables) (x : Expands key w) (
       let v : List ℕ = keyExpansion key in
       record {
         key-is = x .key-is;
+        size = length-set k 60 n ∙ f .size;
+        unused = λ i l m. getD-set-other k 60 i n 0 (omega arith) ∙ zeros i (omega arith) (omega arith);
         rounds = getD-set-same k 60 n 0 (omega (arith, f .size)) ∙ nr;
         first = ap blockOf (end-key 0 (omega arith) (inl refl))
             ∙ ap (λ (i : ℕ). blockOf (keyOf w i)) (let z : n - 0 ≡ roundsOf key = omega arith in z)

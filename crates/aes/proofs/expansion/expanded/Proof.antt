@@ -110,7 +110,7 @@ returns c =
     let s = l .before .before .before .before in
     let k = s .args .key .now in
     all-words k (s .pre .1) (λ i. l .before .before .shared-slice-known2 .given i .fits) (length k / 4) (l .loop .i) refl
-    (c .loop-test .left) (omega arith) (l .loop .inv .4)
+    (c .loop-test .left) (l .loop .inv .3) (omega arith) (l .loop .inv .4)
 
 pub expanded-spec : {M : Type 1} → statement M
 expanded-spec =

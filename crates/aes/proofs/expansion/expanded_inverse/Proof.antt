@@ -5,14 +5,16 @@ use native.Mathlib.Omega.{arith}
 use lib.ListN.{length}
 use Rattle.octets.proofs.Fill.{Filled, none, more}
 use Rattle.fips197.proofs.Expansion.{sizes}
+use Rattle.aes.specs.inner.Schedule.{Blank}
 use Rattle.aes.specs.inner.Inverse.{inverseWordOf}
+use Rattle.aes.proofs.Growing.{blank-none, blank-more}
 use Rattle.aes.proofs.Held.{decipher-length, decipher-sbox}
 use Rattle.aes.proofs.Inverting.{inverted}
 use Rattle.aes.proofs.expansion.expanded_inverse.Statement.{statement}
 use Rattle.aes.proofs.expansion.expanded_inverse.Tie as tie
 
 abbrev Inv-loop : tie.InvT-loop
-Inv-loop t key w n k₀ j₀ k j = (10 ≤ n) × (n < 15) × (j ≤ 4 * (n + 1)) × Filled 61 (inverseWordOf t w n) k j
+Inv-loop t key w n k₀ j₀ k j = (10 ≤ n) × (n < 15) × (j ≤ 4 * (n + 1)) × Filled 61 (inverseWordOf t w n) k j × Blank k j 61
 
 abbrev μ-loop : tie.MeasureT-loop
 μ-loop t key w n k₀ j₀ k j = 4 * (n + 1) - j
@@ -29,7 +31,7 @@ loop-holds : tie.Need-loop-holds Inv-loop μ-loop
 loop-holds c =
     let s = c .before .before .before in
     let z = sizes (length (s .args .key .now)) (s .pre .1) in
-    (omega (arith, z .least), omega (arith, z .most), omega arith, none 61 _ _ refl)
+    (omega (arith, z .least), omega (arith, z .most), omega arith, none 61 _ _ refl, blank-none 61)
 
 add-loop : tie.Need-add-loop Inv-loop μ-loop
 add-loop c = omega arith
@@ -56,8 +58,13 @@ loop-less c = omega arith
 
 loop-again : tie.Need-loop-again Inv-loop μ-loop
 loop-again c =
-    let l = c .before .before .before in
-    (l .loop .inv .0, l .loop .inv .1, omega arith, more (l .loop .inv .3) (omega arith) (c .inverse-word .ensures))
+    let l = c .before .before .before in (
+      l .loop .inv .0,
+      l .loop .inv .1,
+      omega arith,
+      more (l .loop .inv .3) (omega arith) (c .inverse-word .ensures),
+      blank-more (l .loop .k) (l .loop .j) _ 61 (l .loop .inv .4),
+    )
 
 cast-k : tie.Need-cast-k Inv-loop μ-loop
 cast-k c = omega arith
@@ -69,7 +76,8 @@ returns : tie.Need-returns Inv-loop μ-loop
 returns c =
     let l = c .before in
     let s = l .before .before .before .before in
-    inverted (s .pre .0) (l .before .expanded .ensures) _ (l .loop .j) refl (c .loop-test .left) (l .loop .inv .3)
+    inverted (s .pre .0) (l .before .expanded .ensures) _ (l .loop .j) refl (c .loop-test .left) (l .loop .inv .2) (l .loop .inv .3)
+    (l .loop .inv .4)
 
 pub expanded-inverse-spec : {M : Type 1} → statement M
 expanded-inverse-spec =

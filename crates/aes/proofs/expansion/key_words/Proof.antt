@@ -1,5 +1,5 @@
 -- `aes::expansion::key_words` meets its contract.
-use mathlib.Core.Path.{_≡_, refl, subst}
+use mathlib.Core.Path.{_≡_, subst}
 use Prim.Native.Nat.{_/_, _-_, _≤_}
 use lib.ListN.{length}
 use native.Mathlib.Omega.{arith}
@@ -19,7 +19,7 @@ loop-holds : tie.Need-loop-holds Inv-loop μ-loop
 loop-holds c =
     let s = c .before in
     let z = sizes (length (s .args .key .now)) (s .pre) in
-    (omega (arith, z .least), omega (arith, z .most), omega arith, grown-none (s .args .key .now) _ refl)
+    (omega (arith, z .least), omega (arith, z .most), omega arith, grown-none (s .args .key .now))
 
 mul-join : tie.Need-mul-join Inv-loop μ-loop
 mul-join c = omega arith
