@@ -52,6 +52,10 @@ impl Schedule {
         [a, b, c, d]
     }
 
+    pub fn round_key(&self, round: usize) -> Block {
+        self.round_keys[round]
+    }
+
     /// Cipher (section 5.1).
     pub fn cipher(&self, state: &mut Block) {
         add_round_key(state, &self.round_keys[0]);

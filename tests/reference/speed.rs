@@ -1,6 +1,6 @@
 //! `speed wrap|open K`: 10,000 wraps or openings of 36 octets under a key of K octets, which each call expands. The first 4
 //! octets wrapped are the turn's number; what is opened in each turn is the wrapping of turn 0. Prints a checksum over what was
-//! written, so that nothing can be left out.
+//! written, so that nothing can be left out. In any other mode it does nothing.
 
 use reference::keywrap::{open, wrap};
 
@@ -28,7 +28,8 @@ fn main() {
             let count = wrap(&key, &octets, &mut room).unwrap_or(0);
             add(&room[..count]);
         }
-    } else {
+    }
+    if mode == "open" {
         octets[..4].fill(0);
         let mut wrapped = [0; 264];
         let count = wrap(&key, &octets, &mut wrapped).unwrap_or(0);

@@ -1,5 +1,5 @@
 //! Prints the published vectors of FIPS 197 and RFC 5649 and further cases of wrapping and opening, one line a case, as the
-//! program `vectors` does.
+//! program `vectors` does. `vectors random`: 10,000 keys and blocks by a rule, enciphered and deciphered, as that does too.
 
 use reference::aes::{Block, Schedule};
 use reference::keywrap::{open, wrap, wrap_steps};
@@ -9,6 +9,13 @@ const COUNTS: [usize; 14] = [1, 7, 8, 9, 15, 16, 17, 20, 24, 36, 44, 68, 255, 25
 const LENT: u8 = 0xee;
 
 fn main() {
+    match std::env::args().nth(1).as_deref() {
+        Some("random") => random(),
+        _ => all_cases(),
+    }
+}
+
+fn all_cases() {
     ciphers();
     expansions();
     published();
@@ -30,7 +37,48 @@ fn ciphers() {
         println!("cipher {name} {}", hex(&block));
         schedule.inverse_cipher(&mut block);
         println!("inverse {name} {}", hex(&block));
+        let rounds = key.len() / 4 + 6;
+        println!("inverse key {name} 0 {}", hex(&schedule.round_key(rounds)));
+        println!("inverse key {name} 1 {}", hex(&inv_mix_columns(schedule.round_key(rounds - 1))));
+        println!("inverse key {name} {rounds} {}", hex(&schedule.round_key(0)));
     }
+}
+
+/// InvMixColumns of a round key (FIPS 197, section 5.3.5), apart from the cipher's, whose time is measured.
+fn inv_mix_columns(key: Block) -> Block {
+    std::array::from_fn(|i| {
+        let product = |k: usize| times([14, 11, 13, 9][k], key[i / 4 * 4 + (i + k) % 4]);
+        (0..4).fold(0, |sum, k| sum ^ product(k))
+    })
+}
+
+/// The product in GF(2^8).
+fn times(factor: u8, octet: u8) -> u8 {
+    let power = |n: u8| (0..n).fold(octet, |x, _| (x << 1) ^ (0x1b * (x >> 7)));
+    (0..8).filter(|n| factor >> n & 1 == 1).fold(0, |sum, n| sum ^ power(n))
+}
+
+/// Keys of 16, 24 and 32 octets in turn: the lowest octets of 48 numbers of a generator are a key, the first of 32, and a block.
+fn random() {
+    let mut state: u64 = 0x9e3779b97f4a7c15;
+    let mut next = || {
+        state ^= state << 13;
+        state ^= state >> 7;
+        state ^= state << 17;
+        state as u8
+    };
+    let mut lines = String::new();
+    for turn in 0..10_000 {
+        let octets: [u8; 48] = std::array::from_fn(|_| next());
+        let key = &octets[..KEY_SIZES[turn % 3]];
+        let plain: Block = octets[32..].try_into().expect("a block");
+        let schedule = Schedule::expand(key).expect("a key size");
+        let (mut forward, mut back) = (plain, plain);
+        schedule.cipher(&mut forward);
+        schedule.inverse_cipher(&mut back);
+        lines += &format!("random {} {} {} {}\n", hex(key), hex(&plain), hex(&forward), hex(&back));
+    }
+    print!("{lines}");
 }
 
 /// FIPS 197, appendix A.

@@ -18,10 +18,17 @@ best() {
   done
 }
 
-# ratio A B: A / B with two digits after the point.
+# ratio A B: A / B with two digits after the point, rounded, and - where there is no B.
 ratio() {
-  local hundredths=$(($1 * 100 / ($2 > 0 ? $2 : 1)))
+  if [ -z "$2" ]; then echo -; return; fi
+  local by=$(($2 > 0 ? $2 : 1))
+  local hundredths=$((($1 * 100 + by / 2) / by))
   printf '%d.%02d' $((hundredths / 100)) $((hundredths % 100))
+}
+
+# tenths MICROSECONDS: as milliseconds with one digit after the point, and - where there are none.
+tenths() {
+  if [ -z "$1" ]; then echo -; else printf '%d.%d' $((($1 + 50) / 1000)) $((($1 + 50) / 100 % 10)); fi
 }
 
 # thousands NUMBER: the number with a comma before each three digits.
@@ -31,24 +38,33 @@ thousands() {
   echo "$digits"
 }
 
-# trial INPUT PROGRAM: times the program on INPUT.in and prints that, the lines in a second and its peak memory, without a newline. Fails
-# unless it prints INPUT.out, octet for octet.
+# trial INPUT PROGRAM: sets `best` to the program's time on INPUT.in. Fails unless it prints INPUT.out, octet for octet.
 trial() {
-  local lines
   best "$1.in" "$1.printed" "$2" || return 1
   cmp "$1.out" "$1.printed" || { echo "${1##*/}: $2 does not print what it must"; return 1; }
-  lines=$(wc -l < "$1.out")
-  printf '%s: %s %s ms, %s lines/s, %s kB at most' "${1##*/}" "$2" "$(thousands "$best")" \
-    "$(thousands $((lines * 1000 / (best > 0 ? best : 1))))" "$(thousands "$(target/tests/peak "$2" "$1.in")")"
 }
 
-# both INPUT: the second member on INPUT.in, then the member program, with the ratio of their times.
-both() {
-  local product took
-  trial "$1" "$second" || return 1
-  echo
-  took=$best
+# heading: the heading of the rows that `members` prints.
+heading() {
+  printf '%-12s %9s %9s %9s %10s %10s %9s %9s %9s %9s\n' run second before product to-second to-before lines/s 'kB second' before product
+}
+
+# members INPUT: a row with the milliseconds on INPUT.in of the second member, of the member program of another build, where BEFORE names
+# its directory, and of the member program; the ratios, the lines in a second, and the peak memory of each.
+members() {
+  local product second_took before_took='' before_memory=- lines
   product=$(tests/product member) || return 1
+  lines=$(wc -l < "$1.out")
+  trial "$1" "$second" || return 1
+  second_took=$best
+  if [ -n "${BEFORE:-}" ]; then
+    trial "$1" "$BEFORE/member" || return 1
+    before_took=$best
+    before_memory=$(thousands "$(target/tests/peak "$BEFORE/member" "$1.in")")
+  fi
   trial "$1" "$product" || return 1
-  echo ", ratio $(ratio "$best" "$took")"
+  printf '%-12s %9s %9s %9s %10s %10s %9s %9s %9s %9s\n' "${1##*/}" "$(thousands "$second_took")" "$(thousands "${before_took:--}")" \
+    "$(thousands "$best")" "$(ratio "$best" "$second_took")" "$(ratio "$best" "$before_took")" \
+    "$(thousands $((lines * 1000 / (best > 0 ? best : 1))))" "$(thousands "$(target/tests/peak "$second" "$1.in")")" "$before_memory" \
+    "$(thousands "$(target/tests/peak "$product" "$1.in")")"
 }

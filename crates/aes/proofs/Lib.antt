@@ -1,4 +1,9 @@
-pub mod Rows
+pub mod Turns
+pub mod Bytes
 pub mod Held
-pub mod Words
-pub mod Rounds
+pub mod Running
+pub mod Enciphering
+pub mod Deciphering
+pub mod Pairs
+pub mod Growing
+pub mod Inverting

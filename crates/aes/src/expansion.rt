@@ -1,100 +1,148 @@
-// KEYEXPANSION(): FIPS 197, section 5.2, in a schedule's array whose table is the S-box. Internal, all of it.
+// KEYEXPANSION(): FIPS 197, section 5.2, word by word, and for the equivalent inverse cipher, section 5.3.5. The S-box stands in the lent
+// tables from `at` on. Internal, all of it.
+use crate::words::column;
+use crate::words::join;
+use crate::words::last_column;
+use crate::words::rotated24;
 ghost use mathlib.Core.Path.{_≡_};
-ghost use mathlib.Core.List.{_++_};
-ghost use Prim.Native.Nat.{_<_, _≤_, _+_, _*_, _-_};
-ghost use lib.ListN.{length, take, drop};
-ghost use lib.Seq.{paste};
-ghost use Rattle.fips197.specs.Field.{power};
+ghost use mathlib.Core.List.{List};
+ghost use Prim.Native.Nat.{ℕ, _<_, _≤_, _+_, _*_, _/_, _-_};
+ghost use lib.Dec.{T};
+ghost use lib.ListN.{length};
+ghost use Rattle.fips197.specs.Key.{isKey};
+ghost use Rattle.fips197.specs.Field.{xtimes};
 ghost use Rattle.fips197.specs.Sbox.{sbox};
-ghost use Rattle.fips197.specs.Expansion.{word, xorWord, temp, grow};
-ghost use Rattle.aes.specs.inner.Parts.{tableOf};
-use crate::steps::entry;
-use crate::steps::times2;
+ghost use Rattle.fips197.specs.Expansion.{word, temp};
+ghost use Rattle.aes.specs.inner.Word.{four};
+ghost use Rattle.aes.specs.inner.Tables.{Boxed, decipherTables};
+ghost use Rattle.aes.specs.inner.Schedule.{Expands, ExpandsInverse};
+ghost use Rattle.aes.specs.inner.Expanding.{Grown, Placed};
+ghost use Rattle.aes.specs.inner.Inverse.{unmixedOf, inverseWordOf};
 
-// w with the octets of s from `at` on.
-pub fn pasted(w: [u8; 497], at: usize, s: &[u8]) -> [u8; 497]
-    requires { ⌜ at + length (now s) ≤ 497 ⌝ }
-    ensures { λ r. ⌜ r ≡ paste w at (now (s .entry)) (length (now (s .entry))) ⌝ }
+// XTIMES(x).
+fn times2(x: u8) -> u8
+    ensures { λ r. ⌜ r ≡ xtimes x ⌝ }
 {
-    let mut t = w;
-    let mut i = 0;
-    while i < s.len() {
-        t[at + i] = s[i];
-        i += 1;
-    }
-    t
+    (x << 1) ^ (27 * (x >> 7))
 }
 
-// x^n.
-pub fn power_of(n: usize) -> u8
-    ensures { λ r. ⌜ r ≡ power n ⌝ }
-{
-    let mut r = 1;
-    let mut i = 0;
-    while i < n {
-        r = times2(r);
-        i += 1;
-    }
-    r
+// Where the word that comes next stands: which word of its Nk words it is, and the first octet of its Rcon.
+pub(crate) struct Place {
+    pub word: usize,
+    pub constant: u8,
 }
 
-// temp, from word i - 1.
-pub fn temp_at(w: &[u8; 497], nk: usize, i: usize) -> [u8; 4]
-    requires { ⌜ (4 ≤ nk) × (nk ≤ i) × (i < 60) × (tableOf (now w) ≡ sbox) ⌝ }
-    ensures { λ r. ⌜ r ≡ temp nk (now (w .entry)) i ⌝ }
+// The place of the word behind.
+fn next_place(p: Place, nk: usize) -> Place
+    requires { ⌜ p .word < nk ⌝ }
+    ensures { λ r. ⌜ ((i : ℕ) → nk ≤ i → Placed nk i p → Placed nk (i + 1) r) ⌝ }
 {
-    let at = 4 * (i - 1);
-    let a = w[at];
-    let b = w[at + 1];
-    let c = w[at + 2];
-    let d = w[at + 3];
-    let m = i % nk;
-    if m == 0 {
-        return [
-            entry(w, b) ^ power_of(i / nk - 1),
-            entry(w, c),
-            entry(w, d),
-            entry(w, a),
-        ];
+    let word = p.word + 1;
+    if word < nk {
+        return Place {
+            word,
+            constant: p.constant,
+        };
+    }
+    Place {
+        word: 0,
+        constant: times2(p.constant),
+    }
+}
+
+// temp, from the word before.
+fn temp_at(t: &[u32], at: usize, nk: usize, p: Place, x: u32) -> u32
+    requires { ⌜ (at + 256 ≤ length (now t)) × Boxed sbox (now t) at ⌝ }
+    ensures { λ r. ⌜ ((w : List ℕ) (i : ℕ) → Placed nk i p → four x ≡ word w (i - 1) → four r ≡ temp nk w i) ⌝ }
+{
+    if p.word == 0 {
+        let y = rotated24(x);
+        return last_column(t, at, y, y, y, y, join(p.constant, 0, 0, 0));
     }
     if 6 < nk {
-        if m == 4 {
-            return [entry(w, a), entry(w, b), entry(w, c), entry(w, d)];
+        if p.word == 4 {
+            return last_column(t, at, x, x, x, x, 0);
         }
+        return x;
     }
-    [a, b, c, d]
+    x
 }
 
-// Word i: word i - Nk with temp added.
-pub fn next_word(w: &[u8; 497], nk: usize, i: usize) -> [u8; 4]
-    requires { ⌜ (4 ≤ nk) × (nk ≤ i) × (i < 60) × (tableOf (now w) ≡ sbox) ⌝ }
-    ensures { λ r. ⌜ r ≡ xorWord (word (now (w .entry)) (i - nk)) (temp nk (now (w .entry)) i) ⌝ }
+// The words of the key, and zeros behind them.
+fn key_words(key: &[u8]) -> [u32; 61]
+    requires { ⌜ T (isKey (length (now key))) ⌝ }
+    ensures { λ r. ⌜ Grown (now (key .entry)) r (length (now (key .entry)) / 4) ⌝ }
 {
-    let t = temp_at(w, nk, i);
-    let at = 4 * (i - nk);
-    [
-        w[at] ^ t[0],
-        w[at + 1] ^ t[1],
-        w[at + 2] ^ t[2],
-        w[at + 3] ^ t[3],
-    ]
-}
-
-// The words after the key's nk words, which are there.
-pub fn grown(start: [u8; 497], nk: usize) -> [u8; 497]
-    requires { ⌜ (4 ≤ nk) × (nk ≤ 8) × (tableOf start ≡ sbox) ⌝ }
-    ensures { λ r. ⌜ r ≡ grow nk (take (4 * nk) start) (4 * (nk + 7) - nk) ++ drop (16 * (nk + 7)) start ⌝ }
-{
-    let mut w = start;
-    let mut i = nk;
-    while i < 4 * (nk + 7) {
-        let v = next_word(&w, nk, i);
-        let at = 4 * i;
-        w[at] = v[0];
-        w[at + 1] = v[1];
-        w[at + 2] = v[2];
-        w[at + 3] = v[3];
-        i += 1;
+    let nk = key.len() / 4;
+    let mut w = [0u32; 61];
+    let mut j = 0;
+    while j < nk {
+        w[j] = join(key[4 * j], key[4 * j + 1], key[4 * j + 2], key[4 * j + 3]);
+        j += 1;
     }
     w
+}
+
+// The round keys' words, and the number of rounds behind them.
+pub fn expanded(t: &[u32], at: usize, key: &[u8]) -> [u32; 61]
+    requires { ⌜ (at + 256 ≤ length (now t)) × Boxed sbox (now t) at ⌝ }
+    requires { ⌜ T (isKey (length (now key))) ⌝ }
+    ensures { λ r. ⌜ Expands (now (key .entry)) r ⌝ }
+{
+    let nk = key.len() / 4;
+    let mut w = key_words(key);
+    let mut p = Place {
+        word: 0,
+        constant: 1,
+    };
+    let mut i = nk;
+    while i < 4 * (nk + 7) {
+        w[i] = w[i - nk] ^ temp_at(t, at, nk, p, w[i - 1]);
+        p = next_place(p, nk);
+        i += 1;
+    }
+    w[60] = (nk + 6) as u32;
+    w
+}
+
+// INVMIXCOLUMNS() of a word: the combined table has it of INVSBOX(), so SBOX() comes first.
+fn unmixed(t: &[u32], x: u32) -> u32
+    requires { ⌜ 768 ≤ length (now t) ⌝ }
+    ensures { λ r. ⌜ r ≡ unmixedOf (now (t .entry)) x ⌝ }
+{
+    let y = last_column(t, 512, x, x, x, x, 0);
+    column(t, y, y, y, y, 0)
+}
+
+// Word j of the inverse schedule of n rounds, from the words w of the expanded key.
+fn inverse_word(t: &[u32], w: &[u32; 61], n: usize, j: usize) -> u32
+    requires { ⌜ (768 ≤ length (now t)) × (n < 15) × (j < 4 * (n + 1)) ⌝ }
+    ensures { λ r. ⌜ r ≡ inverseWordOf (now (t .entry)) (now (w .entry)) n j ⌝ }
+{
+    let x = w[4 * (n - j / 4) + (4 - j % 4) % 4];
+    if j < 4 {
+        return x;
+    }
+    if j < 4 * n {
+        return unmixed(t, x);
+    }
+    x
+}
+
+// The round keys' words for the equivalent inverse cipher, and the number of rounds behind them.
+pub fn expanded_inverse(t: &[u32], key: &[u8]) -> [u32; 61]
+    requires { ⌜ now t ≡ decipherTables ⌝ }
+    requires { ⌜ T (isKey (length (now key))) ⌝ }
+    ensures { λ r. ⌜ ExpandsInverse (now (key .entry)) r ⌝ }
+{
+    let w = expanded(t, 512, key);
+    let n = key.len() / 4 + 6;
+    let mut k = [0u32; 61];
+    let mut j = 0;
+    while j < 4 * (n + 1) {
+        k[j] = inverse_word(t, &w, n, j);
+        j += 1;
+    }
+    k[60] = n as u32;
+    k
 }

@@ -1,106 +1,152 @@
-// AES (FIPS 197): a key is expanded once, and its schedule is lent to each block. Callers treat a schedule as opaque: nobody outside this
-// crate looks into its array, which is public because a struct cannot be lent by reference. All functions are internal.
+// AES (FIPS 197): tables are made once and lent, a key is expanded once, and its schedule is lent to each block. Callers treat tables and
+// schedules as opaque: nobody outside this crate looks into their arrays. All functions are internal.
 ghost use mathlib.Core.Path.{_≡_};
-ghost use Prim.Native.Nat.{ℕ, _+_, _*_};
-ghost use mathlib.Core.List.{List};
+ghost use Prim.Native.Nat.{ℕ, _<_, _+_, _*_};
+ghost use mathlib.Core.List.{List, _++_};
 ghost use lib.Dec.{T};
 ghost use lib.ListN.{length};
+ghost use Rattle.octets.specs.Numbers.{octetsOf};
 ghost use Rattle.fips197.specs.Key.{isKey, roundsOf};
 ghost use Rattle.fips197.specs.Expansion.{keyExpansion, word};
 ghost use Rattle.fips197.specs.Cipher.{cipher, invCipher};
+ghost use Rattle.aes.specs.inner.Tables.{encipherTables, decipherTables};
+ghost use Rattle.aes.specs.inner.Rounds.{blockOf, keyOf, swappedOf};
 ghost use Rattle.aes.specs.inner.Schedule.{Expands, ExpandsInverse, Expanded, ExpandedInverse};
 
 mod expansion;
-mod inv_sbox;
-mod sbox;
-mod steps;
+mod lookup;
+mod rounds;
+mod words;
 
-use expansion::grown;
-use expansion::pasted;
-use inv_sbox::inv_sbox_table;
-use octets::wide;
-use sbox::sbox_table;
-use steps::add_round_key;
-use steps::inv_mix_columns;
-use steps::inv_shift_rows;
-use steps::mix_columns;
-use steps::shift_rows;
-use steps::sub_bytes;
+use expansion::expanded;
+use expansion::expanded_inverse;
+use lookup::decipher_tables;
+use lookup::encipher_tables;
+use rounds::load;
+use rounds::run;
+use rounds::split;
+use rounds::store;
+use rounds::swapped;
+use rounds::unite;
+use words::apart;
 
-// For `encrypt`: the round keys from 0 on and zeros behind them, the S-box from 240 on, the number of rounds at 496. The table stands in
-// the schedule because it is then made once per key: the language has no static data.
-pub struct Schedule {
-    pub octets: [u8; 497],
+// The state: a word for each column, the first octet highest.
+pub struct State {
+    pub a: u32,
+    pub b: u32,
+    pub c: u32,
+    pub d: u32,
 }
 
-// For `decrypt`: the same with the inverse S-box.
+// A block as two numbers of 64 bits, the first octet highest.
+pub struct Pair {
+    pub hi: u64,
+    pub lo: u64,
+}
+
+// For `encrypt`: the words of the round keys, zeros behind them, and the number of rounds at 60.
+pub struct Schedule {
+    pub words: [u32; 61],
+}
+
+// For `decrypt`: the same with the round keys of the equivalent inverse cipher.
 pub struct InverseSchedule {
-    pub octets: [u8; 497],
+    pub words: [u32; 61],
+}
+
+// What is lent to `expand`, `encrypt` and `encrypt_pair`: made once, since the language has no static data. Internal.
+pub fn tables() -> [u32; 512]
+    ensures { λ r. ⌜ r ≡ encipherTables ⌝ }
+{
+    encipher_tables()
+}
+
+// What is lent to `expand_inverse`, `decrypt` and `decrypt_pair`. Internal.
+pub fn inverse_tables() -> [u32; 768]
+    ensures { λ r. ⌜ r ≡ decipherTables ⌝ }
+{
+    decipher_tables()
 }
 
 // KEYEXPANSION(key). Internal.
-pub fn expand(key: &[u8]) -> Schedule
+pub fn expand(tables: &[u32; 512], key: &[u8]) -> Schedule
+    requires { ⌜ now tables ≡ encipherTables ⌝ }
     requires { ⌜ T (isKey (length (now key))) ⌝ }
-    ensures { λ r. ⌜ Expands (now (key .entry)) (r .octets) ⌝ }
+    ensures { λ r. ⌜ Expands (now (key .entry)) (r .words) ⌝ }
 {
-    let nk = key.len() / 4;
-    let mut start = [0u8; 497];
-    start[496] = (nk + 6) as u8;
-    let table = sbox_table();
-    let with_table = pasted(start, 240, &table);
-    let with_key = pasted(with_table, 0, key);
-    let octets = grown(with_key, nk);
-    Schedule { octets }
+    let words = expanded(tables, 256, key);
+    Schedule { words }
 }
 
-// KEYEXPANSION(key), for the inverse cipher. Internal.
-pub fn expand_inverse(key: &[u8]) -> InverseSchedule
+// KEYEXPANSION(key) for the equivalent inverse cipher. Internal.
+pub fn expand_inverse(tables: &[u32; 768], key: &[u8]) -> InverseSchedule
+    requires { ⌜ now tables ≡ decipherTables ⌝ }
     requires { ⌜ T (isKey (length (now key))) ⌝ }
-    ensures { λ r. ⌜ ExpandsInverse (now (key .entry)) (r .octets) ⌝ }
+    ensures { λ r. ⌜ ExpandsInverse (now (key .entry)) (r .words) ⌝ }
 {
-    let schedule = expand(key);
-    let forward = schedule.octets;
-    let table = inv_sbox_table();
-    let octets = pasted(forward, 240, &table);
-    InverseSchedule { octets }
+    let words = expanded_inverse(tables, key);
+    InverseSchedule { words }
 }
 
 // CIPHER(). Internal.
-pub fn encrypt(schedule: &[u8; 497], block: [u8; 16]) -> [u8; 16]
+pub fn encrypt(tables: &[u32; 512], schedule: &[u32; 61], block: [u8; 16]) -> [u8; 16]
+    requires { ⌜ now tables ≡ encipherTables ⌝ }
     requires { ⌜ Expanded (now schedule) ⌝ }
     ensures { λ r. ⌜ ((key : List ℕ) → Expands key (now (schedule .entry)) → r ≡ cipher key block) ⌝ }
 {
-    let n = wide(schedule[496]);
-    let mut t = add_round_key(block, schedule, 0);
-    let mut r = 1;
-    while r < n {
-        t = add_round_key(mix_columns(shift_rows(sub_bytes(schedule, t))), schedule, r);
-        r += 1;
-    }
-    add_round_key(shift_rows(sub_bytes(schedule, t)), schedule, n)
+    store(run(tables, schedule, load(block)))
+}
+
+// CIPHER() of the block of two numbers. Internal.
+pub fn encrypt_pair(tables: &[u32; 512], schedule: &[u32; 61], hi: u64, lo: u64) -> Pair
+    requires { ⌜ now tables ≡ encipherTables ⌝ }
+    requires { ⌜ Expanded (now schedule) ⌝ }
+    ensures { λ r. ⌜ ((key : List ℕ) → Expands key (now (schedule .entry)) →
+        octetsOf 8 (r .hi) ++ octetsOf 8 (r .lo) ≡ cipher key (octetsOf 8 hi ++ octetsOf 8 lo)) ⌝ }
+{
+    unite(run(tables, schedule, split(hi, lo)))
 }
 
 // INVCIPHER(). Internal.
-pub fn decrypt(schedule: &[u8; 497], block: [u8; 16]) -> [u8; 16]
+pub fn decrypt(tables: &[u32; 768], schedule: &[u32; 61], block: [u8; 16]) -> [u8; 16]
+    requires { ⌜ now tables ≡ decipherTables ⌝ }
     requires { ⌜ ExpandedInverse (now schedule) ⌝ }
     ensures { λ r. ⌜ ((key : List ℕ) → ExpandsInverse key (now (schedule .entry)) → r ≡ invCipher key block) ⌝ }
 {
-    let n = wide(schedule[496]);
-    let mut t = add_round_key(block, schedule, n);
-    let mut r = n - 1;
-    while 0 < r {
-        t = inv_mix_columns(add_round_key(sub_bytes(schedule, inv_shift_rows(t)), schedule, r));
-        r -= 1;
-    }
-    add_round_key(sub_bytes(schedule, inv_shift_rows(t)), schedule, 0)
+    store(swapped(run(tables, schedule, swapped(load(block)))))
+}
+
+// INVCIPHER() of the block of two numbers. Internal.
+pub fn decrypt_pair(tables: &[u32; 768], schedule: &[u32; 61], hi: u64, lo: u64) -> Pair
+    requires { ⌜ now tables ≡ decipherTables ⌝ }
+    requires { ⌜ ExpandedInverse (now schedule) ⌝ }
+    ensures { λ r. ⌜ ((key : List ℕ) → ExpandsInverse key (now (schedule .entry)) →
+        octetsOf 8 (r .hi) ++ octetsOf 8 (r .lo) ≡ invCipher key (octetsOf 8 hi ++ octetsOf 8 lo)) ⌝ }
+{
+    unite(swapped(run(tables, schedule, swapped(split(hi, lo)))))
 }
 
 // The last word of the expanded key. Internal.
 pub fn last_word(schedule: Schedule) -> [u8; 4]
-    requires { ⌜ Expanded (schedule .octets) ⌝ }
-    ensures { λ r. ⌜ ((key : List ℕ) → Expands key (schedule .octets) → r ≡ word (keyExpansion key) (4 * roundsOf key + 3)) ⌝ }
+    requires { ⌜ Expanded (schedule .words) ⌝ }
+    ensures { λ r. ⌜ ((key : List ℕ) → Expands key (schedule .words) → r ≡ word (keyExpansion key) (4 * roundsOf key + 3)) ⌝ }
 {
-    let w = schedule.octets;
-    let at = 16 * wide(w[496]) + 12;
-    [w[at], w[at + 1], w[at + 2], w[at + 3]]
+    let w = schedule.words;
+    let n = w[60] as usize;
+    let at = 4 * n + 3;
+    apart(w[at])
+}
+
+// Round key r of the equivalent inverse cipher, its columns in the block's order. Internal.
+pub fn inverse_round_key(schedule: &[u32; 61], r: usize) -> [u8; 16]
+    requires { ⌜ r < 15 ⌝ }
+    ensures { λ x. ⌜ x ≡ blockOf (swappedOf (keyOf (now (schedule .entry)) r)) ⌝ }
+{
+    let at = 4 * r;
+    store(State {
+        a: schedule[at],
+        b: schedule[at + 3],
+        c: schedule[at + 2],
+        d: schedule[at + 1],
+    })
 }

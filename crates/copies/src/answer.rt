@@ -6,6 +6,7 @@ use octets::compare::same;
 ghost use mathlib.Core.Path.{_≡_};
 ghost use mathlib.Core.List.{List, [], _∷_, _++_};
 ghost use Prim.Native.Nat.{ℕ, _≤_};
+ghost use Rattle.aes.specs.inner.Tables.{decipherTables};
 ghost use Rattle.aes.specs.inner.Schedule.{ExpandsInverse, ExpandedInverse};
 ghost use Rattle.copies.specs.inner.Tries.{Try, Tells};
 ghost use Rattle.copies.specs.declared.answer.Found.the-variants as found;
@@ -76,13 +77,18 @@ pub(crate) fn joined(a: Opened, b: Opened) -> Opened
 }
 
 // Opens one copy's octets under the key whose schedule this is. Its size is that of what it opens to.
-pub(crate) fn opened_to(schedule: InverseSchedule, wrapped: &[u8], need: usize) -> Opened
-    requires { ⌜ ExpandedInverse (schedule .octets) ⌝ }
+pub(crate) fn opened_to(
+    tables: &[u32; 768],
+    schedule: InverseSchedule,
+    wrapped: &[u8],
+    need: usize,
+) -> Opened
+    requires { ⌜ (now tables ≡ decipherTables) × ExpandedInverse (schedule .words) ⌝ }
     requires { ⌜ need ≤ 68 ⌝ }
-    ensures { λ r. ⌜ ((v : List ℕ) → ExpandsInverse v (schedule .octets) →
+    ensures { λ r. ⌜ ((v : List ℕ) → ExpandsInverse v (schedule .words) →
         Tells (record { key = v; wrapped = now (wrapped .entry) } ∷ []) need r) ⌝ }
 {
-    let opened = open_under(schedule, wrapped);
+    let opened = open_under(tables, schedule, wrapped);
     let octets = opened.octets;
     let answer = opened.answer;
     match answer {

@@ -14,6 +14,7 @@ ghost use mathlib.Core.Path.{_≡_};
 ghost use mathlib.Core.Bool.{true};
 ghost use mathlib.Core.List.{List};
 ghost use Prim.Native.Nat.{ℕ, _≤_};
+ghost use Rattle.aes.specs.inner.Tables.{decipherTables};
 ghost use Rattle.aes.specs.inner.Schedule.{ExpandsInverse, ExpandedInverse};
 ghost use Rattle.attributes.specs.Tree.{WrapKey};
 ghost use Rattle.attributes.specs.Layout.{attributes};
@@ -28,22 +29,29 @@ ghost use Rattle.copies.specs.inner.Answer.{announcedIn, Answers};
 
 // What the copies of one announced SA open to: `a` are the attributes of its Group Key Bag, `need` the octets that its policy needs, the
 // schedule is key 0's, and the other keys that a KWK ID can name are held. Internal.
-pub fn copies(place: Place, a: &[u8], need: usize, schedule: InverseSchedule, held: Held) -> Opened
+pub fn copies(
+    place: Place,
+    a: &[u8],
+    need: usize,
+    tables: &[u32; 768],
+    schedule: InverseSchedule,
+    held: Held,
+) -> Opened
     requires { ⌜ isWhole (attributes place 0 (now a)) ≡ true ⌝ }
     requires { ⌜ need ≤ 68 ⌝ }
-    requires { ⌜ ExpandedInverse (schedule .octets) ⌝ }
+    requires { ⌜ (now tables ≡ decipherTables) × ExpandedInverse (schedule .words) ⌝ }
     requires { ⌜ heldFormed limits held ≡ true ⌝ }
     ensures { λ r. ⌜ ((roots : List Root) (entries : List WrapKey) (size : ℕ) (zero : WrappingKey) →
-        ExpandsInverse (valueOf zero) (schedule .octets) → Agrees roots entries size zero held →
+        ExpandsInverse (valueOf zero) (schedule .words) → Agrees roots entries size zero held →
         Answers roots entries size (announcedIn place (now (a .entry)) need) r) ⌝ }
 {
-    let mut known = tried(place, a, 0, schedule, need);
+    let mut known = tried(place, a, 0, tables, schedule, need);
     let n = held.count;
     let mut i: usize = 0;
     while i < n {
         let k = held.keys[i];
         let key = k.key;
-        let some = with_key(place, a, k.id, key, need);
+        let some = with_key(place, a, k.id, tables, key, need);
         known = joined(known, some);
         i += 1;
     }

@@ -16,6 +16,7 @@ ghost use mathlib.Core.Bool.{true};
 ghost use mathlib.Core.List.{List};
 ghost use Prim.Native.Nat.{ℕ, _≤_};
 ghost use lib.ListN.{length, drop};
+ghost use Rattle.aes.specs.inner.Tables.{decipherTables};
 ghost use Rattle.aes.specs.inner.Schedule.{ExpandsInverse, ExpandedInverse};
 ghost use Rattle.attributes.specs.Layout.{attributes};
 ghost use Rattle.contents.specs.inner.Values.{isWhole};
@@ -52,13 +53,14 @@ pub(crate) fn tried(
     place: Place,
     a: &[u8],
     id: u32,
+    tables: &[u32; 768],
     schedule: InverseSchedule,
     need: usize,
 ) -> Opened
     requires { ⌜ isWhole (attributes place 0 (now a)) ≡ true ⌝ }
-    requires { ⌜ ExpandedInverse (schedule .octets) ⌝ }
+    requires { ⌜ (now tables ≡ decipherTables) × ExpandedInverse (schedule .words) ⌝ }
     requires { ⌜ need ≤ 68 ⌝ }
-    ensures { λ r. ⌜ ((v : List ℕ) → ExpandsInverse v (schedule .octets) →
+    ensures { λ r. ⌜ ((v : List ℕ) → ExpandsInverse v (schedule .words) →
         Tells (triesOf id v (copiesIn place (now (a .entry)))) need r) ⌝ }
 {
     let mut known = nothing();
@@ -66,7 +68,7 @@ pub(crate) fn tried(
     loop {
         match next_named(place, a, id, at) {
             Found::At(start, end) => {
-                let one = opened_to(schedule, &a[start + 8..end], need);
+                let one = opened_to(tables, schedule, &a[start + 8..end], need);
                 known = joined(known, one);
                 at = end;
             }
@@ -78,9 +80,16 @@ pub(crate) fn tried(
 }
 
 // What the copies that name this key open to under it. Its schedule is expanded only if a copy names it.
-pub(crate) fn with_key(place: Place, a: &[u8], id: u32, key: WrappingKey, need: usize) -> Opened
+pub(crate) fn with_key(
+    place: Place,
+    a: &[u8],
+    id: u32,
+    tables: &[u32; 768],
+    key: WrappingKey,
+    need: usize,
+) -> Opened
     requires { ⌜ isWhole (attributes place 0 (now a)) ≡ true ⌝ }
-    requires { ⌜ sizeOf 13 (key .count) ≡ true ⌝ }
+    requires { ⌜ (now tables ≡ decipherTables) × (sizeOf 13 (key .count) ≡ true) ⌝ }
     requires { ⌜ need ≤ 68 ⌝ }
     ensures { λ r. ⌜ Tells (triesOf id (valueOf key) (copiesIn place (now (a .entry)))) need r ⌝ }
 {
@@ -88,7 +97,14 @@ pub(crate) fn with_key(place: Place, a: &[u8], id: u32, key: WrappingKey, need: 
         Found::At(_, _) => {
             let octets = key.octets;
             let n = key.count;
-            tried(place, a, id, expand_inverse(&octets[..n]), need)
+            tried(
+                place,
+                a,
+                id,
+                tables,
+                expand_inverse(tables, &octets[..n]),
+                need,
+            )
         }
         Found::Nothing => nothing(),
     }

@@ -3,6 +3,7 @@ pub mod joining;
 
 use aes::InverseSchedule;
 use aes::expand_inverse;
+use aes::inverse_tables;
 use contents::policy::policy_parts;
 use copies::answer::Opened;
 use joining::Found;
@@ -17,6 +18,7 @@ ghost use mathlib.Core.Bool.{true};
 ghost use mathlib.Core.List.{List};
 ghost use Prim.Native.Nat.{ℕ, _+_, _≤_, _<_};
 ghost use lib.ListN.{length};
+ghost use Rattle.aes.specs.inner.Tables.{decipherTables};
 ghost use Rattle.aes.specs.inner.Schedule.{ExpandedInverse};
 ghost use Rattle.attributes.specs.Tree.{WrapKey};
 ghost use Rattle.policies.specs.Policy.{GroupSaPolicy, policies};
@@ -43,16 +45,17 @@ fn opened(
     spi: &[u8],
     need: usize,
     k: &[u8],
+    tables: &[u32; 768],
     schedule: InverseSchedule,
     held: Held,
 ) -> Opened
     requires { ⌜ isWhole (bags 0 (now k)) ≡ true ⌝ }
     requires { ⌜ count (bagNamed protocol (now spi)) (gather groupBagOf (bagsIn (now k))) ≡ 1 ⌝ }
     requires { ⌜ need ≤ 68 ⌝ }
-    requires { ⌜ ExpandedInverse (schedule .octets) ⌝ }
+    requires { ⌜ (now tables ≡ decipherTables) × ExpandedInverse (schedule .words) ⌝ }
     requires { ⌜ heldFormed limits held ≡ true ⌝ }
     ensures { λ r. ⌜ ((roots : List Root) (entries : List WrapKey) (size : ℕ) (f : Frame) (a : GroupSaPolicy) →
-        Opening (schedule .octets) held roots entries size → bagsOf f ≡ bagsIn (now (k .entry)) → a .protocol ≡ protocol →
+        Opening (schedule .words) held roots entries size → bagsOf f ≡ bagsIn (now (k .entry)) → a .protocol ≡ protocol →
         a .spi ≡ now (spi .entry) → needOf a ≡ need → Answers roots entries size (announcedAs f a) r) ⌝ }
 {
     let s = pairing::stretch::bag_stretch(k, protocol, spi);
@@ -62,6 +65,7 @@ fn opened(
         attributes::tables::in_bag(protocol),
         &k[start..end],
         need,
+        tables,
         schedule,
         held,
     )
@@ -74,24 +78,25 @@ fn with_policy(
     spi: &[u8],
     x: &[u8],
     k: &[u8],
+    tables: &[u32; 768],
     schedule: InverseSchedule,
     held: Held,
 ) -> Keyed
     requires { ⌜ all .count < limits .sas ⌝ }
     requires { ⌜ length (now x) < 65536 ⌝ }
     requires { ⌜ isWhole (bags 0 (now k)) ≡ true ⌝ }
-    requires { ⌜ ExpandedInverse (schedule .octets) ⌝ }
+    requires { ⌜ (now tables ≡ decipherTables) × ExpandedInverse (schedule .words) ⌝ }
     requires { ⌜ heldFormed limits held ≡ true ⌝ }
     requires { ⌜ ((f : Frame) × (a : GroupSaPolicy) × Announces (now k) protocol (now spi) (now x) f a) ⌝ }
     ensures { λ r. ⌜
-        OneMore (IsAnnounced (now (k .entry)) protocol (now (spi .entry)) (now (x .entry)) (schedule .octets) held) all r
+        OneMore (IsAnnounced (now (k .entry)) protocol (now (spi .entry)) (now (x .entry)) (schedule .words) held) all r
         × (r .count ≤ all .count + 1)
         ⌝ }
 {
     let n = suites::needs(x);
     let e = n.encryption;
     let w = n.wrapping;
-    let one = opened(protocol, spi, e + w, k, schedule, held);
+    let one = opened(protocol, spi, e + w, k, tables, schedule, held);
     joined(all, one, protocol, spi, e, w)
 }
 
@@ -107,14 +112,14 @@ fn is_eight(found: Found) -> bool
 }
 
 // The same as `keyed`, with the schedule of key 0.
-fn walked(g: &[u8], k: &[u8], schedule: InverseSchedule, held: Held) -> Keyed
+fn walked(g: &[u8], k: &[u8], tables: &[u32; 768], schedule: InverseSchedule, held: Held) -> Keyed
     requires { ⌜ isWhole (policies 0 (now g)) ≡ true ⌝ }
     requires { ⌜ isWhole (bags 0 (now k)) ≡ true ⌝ }
-    requires { ⌜ ExpandedInverse (schedule .octets) ⌝ }
+    requires { ⌜ (now tables ≡ decipherTables) × ExpandedInverse (schedule .words) ⌝ }
     requires { ⌜ heldFormed limits held ≡ true ⌝ }
     requires { ⌜ ((f : Frame) × Ready f (now g) (now k)) ⌝ }
     ensures { λ r. ⌜ ((roots : List Root) (entries : List WrapKey) (size : ℕ) (f : Frame) → Ready f (now (g .entry)) (now (k .entry)) →
-        Opening (schedule .octets) held roots entries size → KeyedBy roots entries size f r) ⌝ }
+        Opening (schedule .words) held roots entries size → KeyedBy roots entries size f r) ⌝ }
 {
     let mut all = Keyed {
         found: Found::Keys,
@@ -134,6 +139,7 @@ fn walked(g: &[u8], k: &[u8], schedule: InverseSchedule, held: Held) -> Keyed
                 &g[name..body],
                 &g[body..end],
                 k,
+                tables,
                 schedule,
                 held,
             );
@@ -160,5 +166,6 @@ pub fn keyed(g: &[u8], k: &[u8], zero: WrappingKey, held: Held) -> Keyed
 {
     let octets = zero.octets;
     let n = zero.count;
-    walked(g, k, expand_inverse(&octets[..n]), held)
+    let tables = inverse_tables();
+    walked(g, k, &tables, expand_inverse(&tables, &octets[..n]), held)
 }

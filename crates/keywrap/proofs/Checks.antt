@@ -46,6 +46,25 @@ pub zero-from : (s : List ℕ) (m : ℕ) → zeroFrom m s ≡ true → drop m s 
 unfolding zeroFrom
 zero-from s m e = all-zero (drop m s) e ∙ ap (λ (k : ℕ). replicate k 0) (length-drop m s)
 
+-- zeros behind do not matter
+zero-run : (m k : ℕ) → zeroFrom m (replicate k 0) ≡ true
+unfolding zeroFrom
+zero-run zero zero = refl
+zero-run zero (suc k) = zero-run zero k
+zero-run (suc m) zero = refl
+zero-run (suc m) (suc k) = zero-run m k
+
+none-behind : (m : ℕ) → zeroFrom m [] ≡ true
+unfolding zeroFrom
+none-behind zero = refl
+none-behind (suc m) = refl
+
+pub zero-behind : (s : List ℕ) (m k : ℕ) → zeroFrom m (s ++ replicate k 0) ≡ zeroFrom m s
+unfolding zeroFrom
+zero-behind [] m k = zero-run m k ∙ sym (none-behind m)
+zero-behind (x ∷ s) zero k = ap (λ (b : Bool). eqb x 0 && b) (zero-behind s zero k)
+zero-behind (x ∷ s) (suc m) k = zero-behind s m k
+
 pub from-zero : (x : List ℕ) (n : ℕ) → zeroFrom (length x) (x ++ replicate n 0) ≡ true
 unfolding zeroFrom
 from-zero x n = ap allZero (drop-at x (replicate n 0) (length x) refl) ∙ zeros n

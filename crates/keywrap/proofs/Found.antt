@@ -16,7 +16,7 @@ use Rattle.keywrap.specs.inner.Blank.{blank}
 use Rattle.keywrap.specs.inner.Unwrap.{Begins, countIn, zeroFrom}
 use Rattle.keywrap.proofs.Registers.{Registers, registers-octets, octets-registers, length-octets-in, octets-in-octets}
 use Rattle.keywrap.proofs.Wrapping.{length-padded, padded-octets}
-use Rattle.keywrap.proofs.Checks.{count-told, told-count, zero-from, from-zero}
+use Rattle.keywrap.proofs.Checks.{count-told, told-count, zero-from, zero-behind, from-zero}
 
 module _ (s : List ℕ) (n : ℕ) (is : Registers 33 s) (least : 1 ≤ n) (most : n ≤ 32) where
   -- R[1], .., R[n]
@@ -69,7 +69,7 @@ module _ (s : List ℕ) (n : ℕ) (is : Registers 33 s) (least : 1 ≤ n) (most 
         ∙ ap (λ (l : List ℕ). octetsIn r ++ l)
         (ap (λ (k : ℕ). drop k (replicate 256 0)) length-r ∙ drop-replicate (8 * n) 256 0 (omega arith))
 
-    length-out : length out ≡ 256
+    pub length-out : length out ≡ 256
     length-out =
         ap length out-is ∙ length-append (octetsIn r) (replicate (256 - 8 * n) 0)
         ∙ omega (arith, length-r, length-replicate {A = ℕ} (256 - 8 * n) 0)
@@ -79,9 +79,17 @@ module _ (s : List ℕ) (n : ℕ) (is : Registers 33 s) (least : 1 ≤ n) (most 
         subst Octets (sym out-is)
         (join-octets (octetsIn r) (replicate (256 - 8 * n) 0) (octets-in-octets r) (zero-octets (256 - 8 * n)))
 
-    pub not-zero : zeroFrom m out ≡ false → (x : List ℕ) → Begins n (take (suc n) s) x → ⊥
+    -- the padding is checked to the end of the blocks
+    zero-same : zeroFrom m (take (8 * n) out) ≡ zeroFrom m out
+    zero-same =
+        ap (λ (l : List ℕ). zeroFrom m (take (8 * n) l)) out-is
+        ∙ ap (zeroFrom m) (take-at (octetsIn r) (replicate (256 - 8 * n) 0) (8 * n) length-r)
+        ∙ sym (zero-behind (octetsIn r) m (256 - 8 * n)) ∙ ap (zeroFrom m) (sym out-is)
+
+    pub not-zero : zeroFrom m (take (8 * n) out) ≡ false → (x : List ℕ) → Begins n (take (suc n) s) x → ⊥
     unfolding padded
-    not-zero f x b =
+    not-zero h x b =
+        let f : zeroFrom m out ≡ false = sym zero-same ∙ h in
         let g : zeroFrom m out ≡ true =
         ap₂ zeroFrom (sym counted ∙ told x b)
         (out-is ∙ ap (λ (l : List ℕ). l ++ replicate (256 - 8 * n) 0) (behind x b)
@@ -92,7 +100,7 @@ module _ (s : List ℕ) (n : ℕ) (is : Registers 33 s) (least : 1 ≤ n) (most 
         let z : _≡_ {A = ℕ} 0 1 = cc in
         omega arith
 
-    module _ (nonzero : m ≡ 0 → ⊥) (zeros : zeroFrom m out ≡ true) where
+    module _ (nonzero : m ≡ 0 → ⊥) (zeros : zeroFrom m (take (8 * n) out) ≡ true) where
       a-is : register s 0 ≡ initialValue m
       a-is = count-told (register s 0) n m counted nonzero .0
 
@@ -105,7 +113,7 @@ module _ (s : List ℕ) (n : ℕ) (is : Registers 33 s) (least : 1 ≤ n) (most 
       whole : out ≡ take m out ++ replicate (256 - m) 0
       whole =
           sym (take-append-drop m out)
-          ∙ ap (λ (l : List ℕ). take m out ++ l) (zero-from out m zeros ∙ ap (λ (k : ℕ). replicate (k - m) 0) length-out)
+          ∙ ap (λ (l : List ℕ). take m out ++ l) (zero-from out m (sym zero-same ∙ zeros) ∙ ap (λ (k : ℕ). replicate (k - m) 0) length-out)
 
       -- the padded octets are the first 8 * n of those written
       padding : padded (take m out) ≡ octetsIn r

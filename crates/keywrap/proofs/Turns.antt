@@ -1,33 +1,32 @@
 -- What the code of a step stores, and a turn of each loop over the steps.
 use mathlib.Core.Path.{_≡_, sym, ap, ap₂, _∙_}
 use mathlib.Core.List.{List}
-use Prim.Native.Nat.{ℕ, suc, _+_, _*_, _-_, _≤_, _<_}
+use Prim.Native.Nat.{ℕ, suc, _+_, _*_, _-_, _^_, _≤_, _<_}
 use native.Mathlib.Nat.{mul-le-mul-left}
 use native.Mathlib.Numerals.{add-one}
 use native.Mathlib.Omega.{arith}
 use borrow.Author.Tests.{eq-eqb, ne-eqb}
-use lib.ListN.{drop, set}
+use lib.ListN.{set}
 use lib.Bits.{bitXor, xor-zero-r}
-use Rattle.octets.specs.Numbers.{number}
 use Rattle.fips197.specs.Cipher.{cipher, invCipher}
-use Rattle.keywrap.specs.Steps.{register, joined, stored, step, row, rows}
+use Rattle.keywrap.specs.Steps.{register, joined, msb64, stored, step, row, rows}
 use Rattle.keywrap.specs.inner.Unwrap.{unstep, unrow, unrows, forward, backward}
+use Rattle.keywrap.proofs.Blocks.{msb-joined, lsb-joined}
 
 -- ---- a step
 
-module _ (key s : List ℕ) (t i : ℕ) {x b : List ℕ} {a r : ℕ} where
-  pub stepped : x ≡ joined (register s 0) (register s i) → b ≡ cipher key x → a ≡ number 8 (drop 0 b) → r ≡ number 8 (drop 8 b)
-      → set (set s 0 (bitXor a t)) i r ≡ step key t i s
+module _ (key s : List ℕ) (t i a r : ℕ) (ha : a < 256 ^ 8) (hr : r < 256 ^ 8) where
+  pub stepped : joined a r ≡ cipher key (joined (register s 0) (register s i)) → set (set s 0 (bitXor a t)) i r ≡ step key t i s
   unfolding step stored
-  stepped ex eb ea er =
-      ap₂ (λ (y z : ℕ). set (set s 0 (bitXor y t)) i z) ea er ∙ ap (λ (y : List ℕ). stored t i y s) (eb ∙ ap (cipher key) ex)
+  stepped e =
+      ap₂ (λ (y z : ℕ). set (set s 0 (bitXor y t)) i z) (sym (msb-joined a r ha)) (sym (lsb-joined a r hr))
+      ∙ ap (λ (y : List ℕ). stored t i y s) e
 
-  pub unstepped : x ≡ joined (bitXor (register s 0) t) (register s i) → b ≡ invCipher key x → a ≡ number 8 (drop 0 b)
-      → r ≡ number 8 (drop 8 b) → set (set s 0 a) i r ≡ unstep key t i s
+  pub unstepped : joined a r ≡ invCipher key (joined (bitXor (register s 0) t) (register s i)) → set (set s 0 a) i r ≡ unstep key t i s
   unfolding unstep stored
-  unstepped ex eb ea er =
-      ap₂ (λ (y z : ℕ). set (set s 0 y) i z) (ea ∙ sym (xor-zero-r (number 8 b))) er
-      ∙ ap (λ (y : List ℕ). stored 0 i y s) (eb ∙ ap (invCipher key) ex)
+  unstepped e =
+      ap₂ (λ (y z : ℕ). set (set s 0 y) i z) (sym (xor-zero-r (msb64 (joined a r)) ∙ msb-joined a r ha)) (sym (lsb-joined a r hr))
+      ∙ ap (λ (y : List ℕ). stored 0 i y s) e
 
 -- ---- a turn of a loop
 

@@ -1,7 +1,7 @@
 // RFC 5649: wrapping and opening of one key into lent room, and opening over a schedule that was expanded once.
-mod check;
 mod load;
 mod unwrap_steps;
+mod verify;
 mod wrap_steps;
 
 use aes::InverseSchedule;
@@ -11,6 +11,7 @@ ghost use Prim.Native.Nat.{ℕ, suc, _≤_, _*_};
 ghost use lib.Dec.{T};
 ghost use lib.ListN.{length};
 ghost use Rattle.fips197.specs.Key.{isKey};
+ghost use Rattle.aes.specs.inner.Tables.{decipherTables};
 ghost use Rattle.aes.specs.inner.Schedule.{ExpandsInverse, ExpandedInverse};
 ghost use Rattle.keywrap.specs.Wrap.{wrapOf};
 ghost use Rattle.keywrap.specs.Answers.{written, WrapAnswers, OpenAnswers};
@@ -50,8 +51,9 @@ fn write_wrapped(key: &[u8], octets: &[u8], room: &mut [u8])
 {
     let end = (octets.len() + 7) / 8 + 1;
     let mut s = load::begun(octets);
-    let schedule = aes::expand(key);
-    wrap_steps::forward_in(&schedule.octets, &mut s[..end], end - 1);
+    let tables = aes::tables();
+    let schedule = aes::expand(&tables, key);
+    wrap_steps::forward_in(&tables, &schedule.words, &mut s[..end], end - 1);
     load::store(&s[..end], room);
 }
 
@@ -78,35 +80,35 @@ pub fn wrap(key: &[u8], octets: &[u8], room: &mut [u8]) -> Answer
 }
 
 // The registers that `wrapped` had before the steps: A, R[1], .., R[n], and zeros behind.
-fn unwrapped(schedule: &[u8; 497], wrapped: &[u8], n: usize) -> [u64; 33]
-    requires { ⌜ ExpandedInverse (now schedule) ⌝ }
+fn unwrapped(tables: &[u32; 768], schedule: &[u32; 61], wrapped: &[u8], n: usize) -> [u64; 33]
+    requires { ⌜ (now tables ≡ decipherTables) × ExpandedInverse (now schedule) ⌝ }
     requires { ⌜ (1 ≤ n) × (n ≤ 32) × (length (now wrapped) ≡ 8 * suc n) ⌝ }
     ensures { λ r. ⌜ ((key : List ℕ) → ExpandsInverse key (now (schedule .entry)) → Unwraps key n (now (wrapped .entry)) r) ⌝ }
 {
     let end = n + 1;
     let mut s = [0u64; 33];
     load::load(wrapped, &mut s[..end]);
-    unwrap_steps::backward_in(schedule, &mut s[..end], n);
+    unwrap_steps::backward_in(tables, schedule, &mut s[..end], n);
     s
 }
 
 // Opens over a schedule that was expanded once, into blank room. Internal.
-pub fn open_under(schedule: InverseSchedule, wrapped: &[u8]) -> Opened
-    requires { ⌜ ExpandedInverse (schedule .octets) ⌝ }
-    ensures { λ r. ⌜ ((k : List ℕ) → ExpandsInverse k (schedule .octets) → OpensBlank k (now (wrapped .entry)) (r .answer) (r .octets)) ⌝ }
+pub fn open_under(tables: &[u32; 768], schedule: InverseSchedule, wrapped: &[u8]) -> Opened
+    requires { ⌜ (now tables ≡ decipherTables) × ExpandedInverse (schedule .words) ⌝ }
+    ensures { λ r. ⌜ ((k : List ℕ) → ExpandsInverse k (schedule .words) → OpensBlank k (now (wrapped .entry)) (r .answer) (r .octets)) ⌝ }
 {
     let size = wrapped.len();
     if size < 16 {
-        return check::refused();
+        return verify::refused();
     }
     if 264 < size {
-        return check::refused();
+        return verify::refused();
     }
     if size % 8 == 0 {
         let n = size / 8 - 1;
-        return check::checked(unwrapped(&schedule.octets, wrapped, n), n);
+        return verify::checked(unwrapped(tables, &schedule.words, wrapped, n), n);
     }
-    check::refused()
+    verify::refused()
 }
 
 // Octets at the start of a room that holds them.
@@ -125,7 +127,8 @@ pub fn open(key: &[u8], wrapped: &[u8], room: &mut [u8]) -> Answer
     ensures { λ r. ⌜ OpenAnswers (now (key .entry)) (now (wrapped .entry)) (now (room .entry)) r (now (room .exit)) ⌝ }
 {
     if is_key(key.len()) {
-        let opened = open_under(aes::expand_inverse(key), wrapped);
+        let tables = aes::inverse_tables();
+        let opened = open_under(&tables, aes::expand_inverse(&tables, key), wrapped);
         let octets = opened.octets;
         let answer = opened.answer;
         match answer {

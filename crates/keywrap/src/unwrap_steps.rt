@@ -1,58 +1,55 @@
 // The steps of RFC 3394, section 2.2.2, in place, over the registers A, R[1], .., R[n].
-use octets::registers::be64_at;
-use octets::registers::block_of;
 ghost use mathlib.Core.Path.{_≡_};
 ghost use mathlib.Core.List.{List};
 ghost use Prim.Native.Nat.{ℕ, _<_, _≤_};
 ghost use lib.ListN.{length};
+ghost use Rattle.aes.specs.inner.Tables.{decipherTables};
 ghost use Rattle.aes.specs.inner.Schedule.{ExpandsInverse, ExpandedInverse};
 ghost use Rattle.keywrap.specs.inner.Unwrap.{unstep, unrow, unrows, backward};
 
-fn unstep_in(schedule: &[u8; 497], s: &mut [u64], t: u64, i: usize)
-    requires { ⌜ ExpandedInverse (now schedule) ⌝ }
+fn unstep_in(tables: &[u32; 768], schedule: &[u32; 61], s: &mut [u64], t: u64, i: usize)
+    requires { ⌜ (now tables ≡ decipherTables) × ExpandedInverse (now schedule) ⌝ }
     requires { ⌜ (0 < i) × (i < length (now s)) ⌝ }
     ensures { λ _. ⌜ ((key : List ℕ) → ExpandsInverse key (now (schedule .entry)) → now (s .exit) ≡ unstep key t i (now (s .entry))) ⌝ }
 {
-    let b = aes::decrypt(schedule, block_of(s[0] ^ t, s[i]));
-    let a = be64_at(&b, 0);
-    let r = be64_at(&b, 8);
-    s[0] = a;
-    s[i] = r;
+    let b = aes::decrypt_pair(tables, schedule, s[0] ^ t, s[i]);
+    s[0] = b.hi;
+    s[i] = b.lo;
 }
 
-fn unrow_in(schedule: &[u8; 497], s: &mut [u64], base: usize, n: usize)
-    requires { ⌜ ExpandedInverse (now schedule) ⌝ }
+fn unrow_in(tables: &[u32; 768], schedule: &[u32; 61], s: &mut [u64], base: usize, n: usize)
+    requires { ⌜ (now tables ≡ decipherTables) × ExpandedInverse (now schedule) ⌝ }
     requires { ⌜ (base ≤ 160) × (n ≤ 32) × (n < length (now s)) ⌝ }
     ensures { λ _. ⌜ ((key : List ℕ) → ExpandsInverse key (now (schedule .entry)) → now (s .exit) ≡ unrow key base n (now (s .entry))) ⌝ }
 {
     let mut i = n;
     while 0 < i {
-        unstep_in(schedule, s, (base + i) as u64, i);
+        unstep_in(tables, schedule, s, (base + i) as u64, i);
         i -= 1;
     }
 }
 
-fn unrows_in(schedule: &[u8; 497], s: &mut [u64], n: usize)
-    requires { ⌜ ExpandedInverse (now schedule) ⌝ }
+fn unrows_in(tables: &[u32; 768], schedule: &[u32; 61], s: &mut [u64], n: usize)
+    requires { ⌜ (now tables ≡ decipherTables) × ExpandedInverse (now schedule) ⌝ }
     requires { ⌜ (n ≤ 32) × (n < length (now s)) ⌝ }
     ensures { λ _. ⌜ ((key : List ℕ) → ExpandsInverse key (now (schedule .entry)) → now (s .exit) ≡ unrows key n 6 (now (s .entry))) ⌝ }
 {
     let mut j = 6usize;
     while 0 < j {
         j -= 1;
-        unrow_in(schedule, s, n * j, n);
+        unrow_in(tables, schedule, s, n * j, n);
     }
 }
 
 // RFC 5649, section 4.2, step 1, on the registers of n blocks.
-pub(crate) fn backward_in(schedule: &[u8; 497], s: &mut [u64], n: usize)
-    requires { ⌜ ExpandedInverse (now schedule) ⌝ }
+pub(crate) fn backward_in(tables: &[u32; 768], schedule: &[u32; 61], s: &mut [u64], n: usize)
+    requires { ⌜ (now tables ≡ decipherTables) × ExpandedInverse (now schedule) ⌝ }
     requires { ⌜ (1 ≤ n) × (n ≤ 32) × (n < length (now s)) ⌝ }
     ensures { λ _. ⌜ ((key : List ℕ) → ExpandsInverse key (now (schedule .entry)) → now (s .exit) ≡ backward key n (now (s .entry))) ⌝ }
 {
     if n == 1 {
-        unstep_in(schedule, s, 0, 1);
+        unstep_in(tables, schedule, s, 0, 1);
         return;
     }
-    unrows_in(schedule, s, n);
+    unrows_in(tables, schedule, s, n);
 }

@@ -8,6 +8,7 @@ ghost use mathlib.Core.Bool.{true};
 ghost use mathlib.Core.List.{List};
 ghost use Prim.Native.Nat.{ℕ, _≤_};
 ghost use lib.ListN.{length};
+ghost use Rattle.aes.specs.inner.Tables.{decipherTables};
 ghost use Rattle.aes.specs.inner.Schedule.{ExpandsInverse, ExpandedInverse};
 ghost use Rattle.keys.specs.Algorithms.{sizeOf};
 ghost use Rattle.attributes.specs.Tree.{WrapKey};
@@ -78,12 +79,17 @@ pub(crate) fn blank() -> Cell
 }
 
 // Opens an entry's octets under the key whose schedule this is; a wrapping key must have `size` octets.
-pub(crate) fn landed(schedule: InverseSchedule, size: usize, wrapped: &[u8]) -> Cell
-    requires { ⌜ ExpandedInverse (schedule .octets) ⌝ }
+pub(crate) fn landed(
+    tables: &[u32; 768],
+    schedule: InverseSchedule,
+    size: usize,
+    wrapped: &[u8],
+) -> Cell
+    requires { ⌜ (now tables ≡ decipherTables) × ExpandedInverse (schedule .words) ⌝ }
     requires { ⌜ sizeOf 13 size ≡ true ⌝ }
-    ensures { λ r. ⌜ ((v : List ℕ) → ExpandsInverse v (schedule .octets) → Landed v size (now (wrapped .entry)) r) ⌝ }
+    ensures { λ r. ⌜ ((v : List ℕ) → ExpandsInverse v (schedule .words) → Landed v size (now (wrapped .entry)) r) ⌝ }
 {
-    let opened = open_under(schedule, wrapped);
+    let opened = open_under(tables, schedule, wrapped);
     let octets = opened.octets;
     let answer = opened.answer;
     let none = WrappingKey {
@@ -125,22 +131,23 @@ pub(crate) fn names(id: u32, e: Entry, c: Cell) -> bool
 // The entry's cell after the key `id`, whose schedule this is, was tried on it.
 pub(crate) fn tried_on(
     frame: &[u8],
+    tables: &[u32; 768],
     schedule: InverseSchedule,
     size: usize,
     id: u32,
     e: Entry,
     c: Cell,
 ) -> Cell
-    requires { ⌜ ExpandedInverse (schedule .octets) ⌝ }
+    requires { ⌜ (now tables ≡ decipherTables) × ExpandedInverse (schedule .words) ⌝ }
     requires { ⌜ sizeOf 13 size ≡ true ⌝ }
     requires { ⌜ (e .start ≤ e .end) × (e .end ≤ length (now frame)) ⌝ }
-    ensures { λ r. ⌜ ((w : WrapKey) (v : List ℕ) → IsEntry (now (frame .entry)) e w → ExpandsInverse v (schedule .octets) →
+    ensures { λ r. ⌜ ((w : WrapKey) (v : List ℕ) → IsEntry (now (frame .entry)) e w → ExpandsInverse v (schedule .words) →
         Tried id v size w c r) ⌝ }
 {
     if names(id, e, c) {
         let a = e.start;
         let b = e.end;
-        return landed(schedule, size, &frame[a..b]);
+        return landed(tables, schedule, size, &frame[a..b]);
     }
     c
 }

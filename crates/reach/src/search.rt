@@ -9,12 +9,14 @@ use crate::open::pends;
 use crate::open::tried_on;
 use aes::InverseSchedule;
 use aes::expand_inverse;
+use aes::inverse_tables;
 use keys::kinds::WrappingKey;
 ghost use mathlib.Core.Path.{_≡_};
 ghost use mathlib.Core.Bool.{true, false};
 ghost use mathlib.Core.List.{List};
 ghost use Prim.Native.Nat.{ℕ, _≤_, _<_};
 ghost use Rattle.fips197.specs.Key.{Key};
+ghost use Rattle.aes.specs.inner.Tables.{decipherTables};
 ghost use Rattle.aes.specs.inner.Schedule.{ExpandsInverse, ExpandedInverse};
 ghost use Rattle.keys.specs.Algorithms.{sizeOf};
 ghost use Rattle.attributes.specs.Tree.{WrapKey};
@@ -47,6 +49,7 @@ fn is_named(id: u32, entries: [Entry; 32], cells: [Cell; 32], n: usize) -> bool
 // The cells after the key whose schedule this is was tried on each.
 fn tried(
     frame: &[u8],
+    tables: &[u32; 768],
     schedule: InverseSchedule,
     size: usize,
     id: u32,
@@ -55,18 +58,18 @@ fn tried(
     n: usize,
 ) -> [Cell; 32]
     requires { ⌜ n ≤ 32 ⌝ }
-    requires { ⌜ ExpandedInverse (schedule .octets) ⌝ }
+    requires { ⌜ (now tables ≡ decipherTables) × ExpandedInverse (schedule .words) ⌝ }
     requires { ⌜ sizeOf 13 size ≡ true ⌝ }
     requires { ⌜ ((l : List WrapKey) × Lists (now frame) entries n l) ⌝ }
     ensures { λ r. ⌜ ((l : List WrapKey) (v : List ℕ) → Lists (now (frame .entry)) entries n l →
-        ExpandsInverse v (schedule .octets) → AllTried id v size l cells r) ⌝ }
+        ExpandsInverse v (schedule .words) → AllTried id v size l cells r) ⌝ }
 {
     let mut out = cells;
     let mut i: usize = 0;
     while i < n {
         let e = entries[i];
         let c = out[i];
-        out[i] = tried_on(frame, schedule, size, id, e, c);
+        out[i] = tried_on(frame, tables, schedule, size, id, e, c);
         i += 1;
     }
     out
@@ -75,6 +78,7 @@ fn tried(
 // The cells after the key `id` was tried on each; its schedule is expanded only if an entry that waits names it.
 fn with_key(
     frame: &[u8],
+    tables: &[u32; 768],
     key: WrappingKey,
     size: usize,
     id: u32,
@@ -83,7 +87,7 @@ fn with_key(
     n: usize,
 ) -> [Cell; 32]
     requires { ⌜ n ≤ 32 ⌝ }
-    requires { ⌜ sizeOf 13 (key .count) ≡ true ⌝ }
+    requires { ⌜ (now tables ≡ decipherTables) × (sizeOf 13 (key .count) ≡ true) ⌝ }
     requires { ⌜ sizeOf 13 size ≡ true ⌝ }
     requires { ⌜ ((l : List WrapKey) × Lists (now frame) entries n l) ⌝ }
     ensures { λ r. ⌜ ((l : List WrapKey) → Lists (now (frame .entry)) entries n l → AllTried id (valueOf key) size l cells r) ⌝ }
@@ -91,8 +95,8 @@ fn with_key(
     if is_named(id, entries, cells, n) {
         let octets = key.octets;
         let m = key.count;
-        let schedule = expand_inverse(&octets[..m]);
-        return tried(frame, schedule, size, id, entries, cells, n);
+        let schedule = expand_inverse(tables, &octets[..m]);
+        return tried(frame, tables, schedule, size, id, entries, cells, n);
     }
     cells
 }
@@ -122,7 +126,8 @@ pub fn search(frame: &[u8], lent: WrappingKey, entries: [Entry; 32], n: usize) -
     ensures { λ r. ⌜ ((l : List WrapKey) → Lists (now (frame .entry)) entries n l → Searched (keyZero (valueOf lent)) l (lent .count) r) ⌝ }
 {
     let size = lent.count;
-    let mut cells = with_key(frame, lent, size, 0, entries, [blank(); 32], n);
+    let tables = inverse_tables();
+    let mut cells = with_key(frame, &tables, lent, size, 0, entries, [blank(); 32], n);
     loop {
         match first_pending(cells, n) {
             Found::At(j) => {
@@ -133,7 +138,7 @@ pub fn search(frame: &[u8], lent: WrappingKey, entries: [Entry; 32], n: usize) -
                     status: Status::Done,
                     key,
                 };
-                cells = with_key(frame, key, size, e.id, entries, cells, n);
+                cells = with_key(frame, &tables, key, size, e.id, entries, cells, n);
             }
             Found::Nothing => {
                 return cells;

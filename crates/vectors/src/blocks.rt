@@ -1,8 +1,10 @@
 // FIPS 197: appendices A, B and C.
+ghost use Prim.Native.Nat.{_<_};
 ghost use lib.Dec.{T};
 ghost use lib.ListN.{length};
 ghost use Rattle.fips197.specs.Key.{isKey};
 use crate::text::print;
+use crate::text::print_case;
 use crate::text::print_last;
 use octets::registers::block_of;
 
@@ -13,23 +15,48 @@ fn print_line(kind: &[u8], name: &[u8], octets: &[u8]) {
     print_last(octets);
 }
 
-// The cipher of a block, and the inverse cipher of what it gave.
+// A round key of the equivalent inverse cipher.
+fn print_inverse_key(name: &[u8], schedule: &[u32; 61], r: usize)
+    requires { ⌜ r < 15 ⌝ }
+{
+    print(b"inverse key ");
+    print(name);
+    print_case(b" ", r, b" ");
+    print_last(&aes::inverse_round_key(schedule, r));
+}
+
+// Nr.
+fn rounds_of(key: &[u8]) -> usize
+    requires { ⌜ T (isKey (length (now key))) ⌝ }
+    ensures { λ r. ⌜ r < 15 ⌝ }
+{
+    key.len() / 4 + 6
+}
+
+// The cipher of a block, the inverse cipher of what it gave, and the round keys of the equivalent inverse cipher before its rounds, of the
+// first round and of the last.
 fn both_ways(name: &[u8], key: &[u8], block: [u8; 16])
     requires { ⌜ T (isKey (length (now key))) ⌝ }
 {
-    let schedule = aes::expand(key);
-    let encrypted = aes::encrypt(&schedule.octets, block);
+    let tables = aes::tables();
+    let schedule = aes::expand(&tables, key);
+    let encrypted = aes::encrypt(&tables, &schedule.words, block);
     print_line(b"cipher ", name, &encrypted);
-    let inverse = aes::expand_inverse(key);
-    let decrypted = aes::decrypt(&inverse.octets, encrypted);
+    let inverse_tables = aes::inverse_tables();
+    let inverse = aes::expand_inverse(&inverse_tables, key);
+    let decrypted = aes::decrypt(&inverse_tables, &inverse.words, encrypted);
     print_line(b"inverse ", name, &decrypted);
+    print_inverse_key(name, &inverse.words, 0);
+    print_inverse_key(name, &inverse.words, 1);
+    print_inverse_key(name, &inverse.words, rounds_of(key));
 }
 
 // The last word of a key's expansion.
 fn expansion(name: &[u8], key: &[u8])
     requires { ⌜ T (isKey (length (now key))) ⌝ }
 {
-    let word = aes::last_word(aes::expand(key));
+    let tables = aes::tables();
+    let word = aes::last_word(aes::expand(&tables, key));
     print_line(b"expansion ", name, &word);
 }
 

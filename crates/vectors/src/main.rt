@@ -1,14 +1,16 @@
-// Prints the published vectors of FIPS 197 and RFC 5649 and further cases of wrapping and opening, one line a case.
+// Prints the published vectors of FIPS 197 and RFC 5649 and further cases of wrapping and opening, one line a case. `vectors random`:
+// 10,000 keys and blocks by a rule, enciphered and deciphered.
 mod blocks;
 mod counts;
 mod damages;
 mod inputs;
+mod random;
 mod refusals;
 mod rooms;
 mod sizes;
 mod text;
 
-fn main() {
+fn published() {
     blocks::ciphers();
     blocks::expansions();
     counts::published();
@@ -20,4 +22,14 @@ fn main() {
     rooms::rooms(32);
     damages::damages();
     sizes::sizes();
+}
+
+fn main() {
+    let mut mode = [0u8; 8];
+    let m = os::arg(1, &mut mode);
+    if check::same(&mode[..m], b"random") {
+        random::random();
+        return;
+    }
+    published();
 }

@@ -1,35 +1,44 @@
--- What stands in a schedule: an expanded key with what the cipher looks up beside it.
+-- What stands in a schedule: the words of the round keys, zeros up to 60, and there the number of rounds.
 use mathlib.Core.Path.{_≡_}
-use mathlib.Core.List.{List, [], _∷_, _++_}
-use Prim.Native.Nat.{ℕ, _+_, _*_, _-_}
-use lib.ListN.{replicate}
+use mathlib.Core.List.{List}
+use Prim.Native.Nat.{ℕ, _+_, _*_, _-_, _<_, _≤_}
+use lib.ListN.{length, getD}
 use Rattle.fips197.specs.Key.{Key, roundsOf}
-use Rattle.fips197.specs.Sbox.{sbox, inv-sbox}
+use Rattle.fips197.specs.Steps.{invMixColumns}
 use Rattle.fips197.specs.Expansion.{keyExpansion}
+use Rattle.fips197.specs.Cipher.{roundKey}
+use Rattle.aes.specs.inner.Rounds.{blockOf, keyOf, swappedOf}
 
--- the round keys with zeros up to 240 octets, a table, and the number of rounds
-unfoldable pub scheduleWith : List ℕ → List ℕ → List ℕ
-scheduleWith table key =
-    (keyExpansion key ++ replicate (240 - 16 * (roundsOf key + 1)) 0) ++ (table ++ (roundsOf key ∷ []))
+-- the words from `at` on and before `end` are 0
+abbrev pub Blank : List ℕ → ℕ → ℕ → Type 0
+Blank s at end = (i : ℕ) → at ≤ i → i < end → getD s i 0 ≡ 0
 
--- s is the schedule of the key, with a table
-pub record Schedules (table key s : List ℕ) : Type 0 where
+-- s is the key's schedule for `encrypt`: the round keys
+pub record Expands (key s : List ℕ) : Type 0 where
   pub key-is : Key key
-  pub is : s ≡ scheduleWith table key
+  pub size : length s ≡ 61
+  pub rounds : getD s 60 0 ≡ roundsOf key
+  pub keys : (r : ℕ) → r ≤ roundsOf key → blockOf (keyOf s r) ≡ roundKey (keyExpansion key) r
+  pub unused : Blank s (4 * (roundsOf key + 1)) 60
 
-abbrev pub Expands : List ℕ → List ℕ → Type 0
-Expands key s = Schedules sbox key s
+-- s is the key's schedule for `decrypt`, FIPS 197, section 5.3.5: the round keys in the order of use, with INVMIXCOLUMNS() applied to
+-- those between the first and the last. The columns of each are counted the other way round: so counted, INVSHIFTROWS() is SHIFTROWS(),
+-- and the rounds of the cipher serve the inverse cipher.
+pub record ExpandsInverse (key s : List ℕ) : Type 0 where
+  pub key-is : Key key
+  pub size : length s ≡ 61
+  pub rounds : getD s 60 0 ≡ roundsOf key
+  pub first : blockOf (swappedOf (keyOf s 0)) ≡ roundKey (keyExpansion key) (roundsOf key)
+  pub between : (r : ℕ) → 0 < r → r < roundsOf key
+      → blockOf (swappedOf (keyOf s r)) ≡ invMixColumns (roundKey (keyExpansion key) (roundsOf key - r))
+  pub last : blockOf (swappedOf (keyOf s (roundsOf key))) ≡ roundKey (keyExpansion key) 0
+  pub unused : Blank s (4 * (roundsOf key + 1)) 60
 
-abbrev pub ExpandsInverse : List ℕ → List ℕ → Type 0
-ExpandsInverse key s = Schedules inv-sbox key s
-
--- s is the schedule of some key, with a table
-pub record Scheduled (table s : List ℕ) : Type 0 where
+-- s is the schedule of some key
+pub record Expanded (s : List ℕ) : Type 0 where
   pub key : List ℕ
-  pub expands : Schedules table key s
+  pub expands : Expands key s
 
-abbrev pub Expanded : List ℕ → Type 0
-Expanded s = Scheduled sbox s
-
-abbrev pub ExpandedInverse : List ℕ → Type 0
-ExpandedInverse s = Scheduled inv-sbox s
+pub record ExpandedInverse (s : List ℕ) : Type 0 where
+  pub key : List ℕ
+  pub expands : ExpandsInverse key s

@@ -20,12 +20,12 @@ use Rattle.copies.proofs.copies.Statement.{statement}
 use Rattle.copies.proofs.copies.Tie as tie
 
 abbrev Inv-loop : tie.InvT-loop
-Inv-loop place a need held known₀ n i₀ known i =
+Inv-loop place a need tables held known₀ n i₀ known i =
     (length (held .keys) ≡ limits .heldKeys) × (n ≤ length (held .keys)) × (i ≤ n) × ((first : List Try) → Tells first need known₀ →
     Progress need (first ++ triesUnder (keysOf held) (copiesIn place a)) (triesUnder (drop i (keysOf held)) (copiesIn place a)) known)
 
 abbrev μ-loop : tie.MeasureT-loop
-μ-loop place a need held known₀ n i₀ known i = n - i
+μ-loop place a need tables held known₀ n i₀ known i = n - i
 
 tried-requires : tie.Need-tried-requires Inv-loop μ-loop
 tried-requires c κs = let p = c .before .pre in (p .0, (p .1 .1 .0, p .1 .0))
@@ -34,11 +34,11 @@ loop-holds : tie.Need-loop-holds Inv-loop μ-loop
 loop-holds c =
     let s = c .before .before in
     let a = s .args in
-    let e : length (a .t5 .keys) ≡ limits .heldKeys = search (needs, length-of-map) in (
+    let e : length (a .t6 .keys) ≡ limits .heldKeys = search (needs, length-of-map) in (
       e,
-      held-count (a .t5) (s .pre .1 .1 .1) e,
+      held-count (a .t6) (s .pre .1 .1 .1) e,
       omega arith,
-      λ first t. began (a .need) first (triesUnder (keysOf (a .t5)) (copiesIn (a .place) (now (a .a)))) (c .tried .result) t,
+      λ first t. began (a .need) first (triesUnder (keysOf (a .t6)) (copiesIn (a .place) (now (a .a)))) (c .tried .result) t,
     )
 
 mul-k : tie.Need-mul-k Inv-loop μ-loop
@@ -51,7 +51,8 @@ with-key-requires : tie.Need-with-key-requires Inv-loop μ-loop
 with-key-requires c κs =
     let l = c .before .before .before .loop in
     let s = c .before .before .before .before .before .before in
-    (s .pre .0, (held-size (s .args .t5) (s .pre .1 .1 .1) (l .inv .0) (l .i) _ (c .before .before .loop-test .taken), s .pre .1 .0))
+    let size = held-size (s .args .t6) (s .pre .1 .1 .1) (l .inv .0) (l .i) _ (c .before .before .loop-test .taken) in
+    (s .pre .0, ((s .pre .1 .1 .0 .0, size), s .pre .1 .0))
 
 joined-requires : tie.Need-joined-requires Inv-loop μ-loop
 joined-requires c κs = search needs
@@ -72,8 +73,8 @@ loop-again c =
       l .inv .1,
       omega arith,
       λ first t.
-          goes-on (a .need) (first ++ triesUnder (keysOf (a .t5)) g) _ _ _ (l .known) (c .before .with-key .result) (c .joined .result)
-          (tries-next (a .t5) (s .pre .1 .1 .1) (l .inv .0) g (l .i) _ (c .before .before .before .before .loop-test .taken))
+          goes-on (a .need) (first ++ triesUnder (keysOf (a .t6)) g) _ _ _ (l .known) (c .before .with-key .result) (c .joined .result)
+          (tries-next (a .t6) (s .pre .1 .1 .1) (l .inv .0) g (l .i) _ (c .before .before .before .before .loop-test .taken))
           (l .inv .3 first t) (c .before .with-key .ensures) (c .joined .ensures),
     )
 
@@ -84,9 +85,9 @@ returns c roots entries size zero x h =
     let a = s .args in
     let g = copiesIn (a .place) (now (a .a)) in
     let first = triesOf 0 (valueOf zero) g in
-    answers g zero (a .t5) roots entries size h (a .need) (l .known)
-    (ends (a .need) (first ++ triesUnder (keysOf (a .t5)) g) _ (l .known)
-    (tries-end (a .t5) (s .pre .1 .1 .1) (l .inv .0) g (l .i) (c .loop-test .left))
+    answers g zero (a .t6) roots entries size h (a .need) (l .known)
+    (ends (a .need) (first ++ triesUnder (keysOf (a .t6)) g) _ (l .known)
+    (tries-end (a .t6) (s .pre .1 .1 .1) (l .inv .0) g (l .i) (c .loop-test .left))
     (l .inv .3 first (c .before .before .tried .ensures (valueOf zero) x)))
 
 pub copies-spec : {M : Type 1} → statement M

@@ -6,33 +6,37 @@ use borrow.Author.Needs.{needs}
 use Rattle.keying.proofs.keyed.Statement.{statement}
 use Rattle.keying.proofs.keyed.Tie as tie
 
+inverse-tables-requires : tie.Need-inverse-tables-requires
+inverse-tables-requires c κs = search needs
+
 array-share-prefix-octets : tie.Need-array-share-prefix-octets
 array-share-prefix-octets c =
-    let s = c .before .before .before in
+    let s = c .before .before .before .before .before .before in
     let e : length (s .args .zero .octets) ≡ 32 = search needs in
     key-inside (s .args .zero) e (s .pre .1 .1 .0)
 
 slice-aggregate-expand-inverse : tie.Need-slice-aggregate-expand-inverse
 slice-aggregate-expand-inverse c =
-    let s = c .before .before .before .before in
+    let s = c .before .before .before .before .before .before .before in
     let e : length (s .args .zero .octets) ≡ 32 = search needs in
     key-count (s .args .zero) e (s .pre .1 .1 .0)
 
 expand-inverse-requires : tie.Need-expand-inverse-requires
 expand-inverse-requires c κs =
-    let s = c .before .before .before .before in
+    let s = c .before .before .before .before .before .before .before in
     let e : length (s .args .zero .octets) ≡ 32 = search needs in
-    key-fits (s .args .zero) e (s .pre .1 .1 .0)
+    (c .before .before .before .inverse-tables .ensures, key-fits (s .args .zero) e (s .pre .1 .1 .0))
 
 walked-requires : tie.Need-walked-requires
 walked-requires c κs =
-    let s = c .before .before .before .before .before in
+    let s = c .before .before .before .before .before .before .before .before in
     let p = s .pre in
-    (p .0, (p .1 .0, (record { key = valueOf (s .args .zero); expands = c .expand-inverse .ensures }, p .1 .1 .1)))
+    let t = c .before .before .before .before .inverse-tables .ensures in
+    (p .0, (p .1 .0, ((t, record { key = valueOf (s .args .zero); expands = c .expand-inverse .ensures }), p .1 .1 .1)))
 
 returns : tie.Need-returns
 returns c roots entries size f y agrees =
-    let a = c .before .before .before .before .before .before .args in
+    let a = c .before .before .before .before .before .before .before .before .before .args in
     c .walked .ensures roots entries size f y
     (record { zero = a .zero; expands = c .before .expand-inverse .ensures; agrees = agrees })
 
@@ -40,6 +44,7 @@ pub keyed-spec : {M : Type 1} → statement M
 keyed-spec =
     tie.close
     (tie.spec
+    inverse-tables-requires
     array-share-prefix-octets
     slice-aggregate-expand-inverse
     expand-inverse-requires

@@ -11,10 +11,10 @@ use Rattle.keying.proofs.walked.Statement.{statement}
 use Rattle.keying.proofs.walked.Tie as tie
 
 abbrev Inv-loop : tie.InvT-loop
-Inv-loop g k schedule held all₀ at₀ all at = Along g k (schedule .octets) held at all
+Inv-loop g k tables schedule held all₀ at₀ all at = Along g k (schedule .words) held at all
 
 abbrev μ-loop : tie.MeasureT-loop
-μ-loop g k schedule held all₀ at₀ all at = length g - at
+μ-loop g k tables schedule held all₀ at₀ all at = length g - at
 
 blank-requires : tie.Need-blank-requires Inv-loop μ-loop
 blank-requires c κs = search needs
@@ -22,7 +22,7 @@ blank-requires c κs = search needs
 loop-holds : tie.Need-loop-holds Inv-loop μ-loop
 loop-holds c =
     let s = c .before .before .before in
-    along-start (now (s .args .g)) (now (s .args .k)) (s .args .schedule .octets) (s .args .held) _ (s .pre .0) refl refl
+    along-start (now (s .args .g)) (now (s .args .k)) (s .args .schedule .words) (s .args .held) _ (s .pre .0) refl refl
 
 sub-policy-parts : tie.Need-sub-policy-parts Inv-loop μ-loop
 sub-policy-parts c = search needs
@@ -82,7 +82,7 @@ with-policy-requires c κs =
     let z = c .before .before .if1 .taken in
     let g = now (s .args .g) in
     let k = now (s .args .k) in
-    let o = s .args .schedule .octets in
+    let o = s .args .schedule .words in
     let h = s .args .held in
     let a = along-announces g k o h (l .at) (l .all) (l .inv) _ p z (f .0) (f .1) in (
       along-room g k o h (l .at) (l .all) (l .inv) _ p z (f .0) (f .1),
@@ -96,13 +96,13 @@ with-policy-requires c κs =
 onwards : (c : tie.After-with-policy Inv-loop μ-loop) →
     let d = c .before .before .before .before .before .before .before in
     let s = d .before .before .before .before .before .before .before .args in
-    Along (now (s .g)) (now (s .k)) (s .schedule .octets) (s .held)
+    Along (now (s .g)) (now (s .k)) (s .schedule .words) (s .held)
     (d .before .before .before .loop .at + d .policy-parts .result .end) (c .with-policy .result)
 onwards c =
     let d = c .before .before .before .before .before .before .before in
     let l = d .before .before .before .loop in
     let s = d .before .before .before .before .before .before .before .args in
-    along-sa (now (s .g)) (now (s .k)) (s .schedule .octets) (s .held) (l .at) (l .all) (l .inv) _ (here d)
+    along-sa (now (s .g)) (now (s .k)) (s .schedule .words) (s .held) (l .at) (l .all) (l .inv) _ (here d)
     (c .before .before .before .if1 .taken) (c .with-policy .result) (c .with-policy .ensures .0) (c .with-policy .ensures .1)
 
 is-eight-requires : tie.Need-is-eight-requires Inv-loop μ-loop
@@ -113,7 +113,7 @@ returns c =
     let w = c .before .before in
     let d = w .before .before .before .before .before .before .before in
     let s = d .before .before .before .before .before .before .before .args in
-    along-eight (now (s .g)) (now (s .k)) (s .schedule .octets) (s .held) _ (w .with-policy .result) (onwards w)
+    along-eight (now (s .g)) (now (s .k)) (s .schedule .words) (s .held) _ (w .with-policy .result) (onwards w)
     (sym (c .before .is-eight .ensures) ∙ c .if2 .taken)
 
 loop-less : tie.Need-loop-less Inv-loop μ-loop
@@ -131,13 +131,13 @@ loop-again-2 c =
     let d = c .before .before .before .before in
     let l = d .before .before .before .loop in
     let s = d .before .before .before .before .before .before .before .args in
-    along-wide (now (s .g)) (now (s .k)) (s .schedule .octets) (s .held) (l .at) (l .all) (l .inv) _ (here d) (c .if1 .left)
+    along-wide (now (s .g)) (now (s .k)) (s .schedule .words) (s .held) (l .at) (l .all) (l .inv) _ (here d) (c .if1 .left)
 
 returns-2 : tie.Need-returns-2 Inv-loop μ-loop
 returns-2 c =
     let l = c .before .loop in
     let s = c .before .before .before .before .before .args in
-    along-end (now (s .g)) (now (s .k)) (s .schedule .octets) (s .held) (l .at) (l .all) (l .inv) (c .loop-test .left)
+    along-end (now (s .g)) (now (s .k)) (s .schedule .words) (s .held) (l .at) (l .all) (l .inv) (c .loop-test .left)
 
 pub walked-spec : {M : Type 1} → statement M
 walked-spec =

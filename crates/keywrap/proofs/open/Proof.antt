@@ -14,8 +14,13 @@ use Rattle.keywrap.proofs.open.Tie as tie
 is-key-requires : tie.Need-is-key-requires
 is-key-requires c κs = search needs
 
+inverse-tables-requires : tie.Need-inverse-tables-requires
+inverse-tables-requires c κs = search needs
+
 expand-inverse-requires : tie.Need-expand-inverse-requires
-expand-inverse-requires c κs = is-so (c .before .is-key .ensures) (c .if1 .taken)
+expand-inverse-requires c κs =
+    let t = c .before .before in
+    (t .inverse-tables .ensures, is-so (t .before .before .is-key .ensures) (t .before .if1 .taken))
 
 open-under-requires : tie.Need-open-under-requires
 open-under-requires c κs = search needs
@@ -26,7 +31,7 @@ enum-told c = search needs
 returns : tie.Need-returns
 returns c =
     let u = c .before .before .before in
-    let a = u .before .before .before .before .before .before .before .args in
+    let a = u .before .before .before .before .before .before .before .before .before .before .args in
     let e = u .before .expand-inverse .ensures in
     put-none (a .key .now) (a .wrapped .now) (a .room .now) (e .key-is)
     (subst (λ (b : Answer). OpenAnswers (a .key .now) (a .wrapped .now) blank b (u .open-under .result .octets)) (c .enum-told .given .1)
@@ -39,7 +44,7 @@ array-share-prefix-octets : tie.Need-array-share-prefix-octets
 array-share-prefix-octets c =
     let k = c .before in
     let u = k .before .before .before in
-    let a = u .before .before .before .before .before .before .before .args in
+    let a = u .before .before .before .before .before .before .before .before .before .before .args in
     let e = u .before .expand-inverse .ensures in
     let n = k .answer .given .0 .0 in
     let h : Wrote (Opening (a .key .now) (a .wrapped .now) blank) blank n (u .open-under .result .octets) =
@@ -51,7 +56,7 @@ slice-aggregate-put : tie.Need-slice-aggregate-put
 slice-aggregate-put c =
     let k = c .before .before in
     let u = k .before .before .before in
-    let a = u .before .before .before .before .before .before .before .args in
+    let a = u .before .before .before .before .before .before .before .before .before .before .args in
     let e = u .before .expand-inverse .ensures in
     let n = k .answer .given .0 .0 in
     let h : Wrote (Opening (a .key .now) (a .wrapped .now) blank) blank n (u .open-under .result .octets) =
@@ -70,7 +75,7 @@ returns-2 : tie.Need-returns-2
 returns-2 c =
     let k = c .before .before .before .before .before .before in
     let u = k .before .before .before in
-    let a = u .before .before .before .before .before .before .before .args in
+    let a = u .before .before .before .before .before .before .before .before .before .before .args in
     let e = u .before .expand-inverse .ensures in
     let n = k .answer .given .0 .0 in
     let h : Wrote (Opening (a .key .now) (a .wrapped .now) blank) blank n (u .open-under .result .octets) =
@@ -87,6 +92,7 @@ open-spec =
     tie.close
     (tie.spec
     is-key-requires
+    inverse-tables-requires
     expand-inverse-requires
     open-under-requires
     enum-told

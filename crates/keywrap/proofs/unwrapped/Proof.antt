@@ -60,7 +60,7 @@ returns c = λ key e.
     let a = s .before in
     let w = a .args .wrapped .now in
     let o : Octets w = λ i. s .shared-slice-known .given i .fits in
-    unwrapped-is w (a .args .n) o (a .pre .1 .1) (l .load .last .1 .0) (l .load .ensures) key (c .before .backward-in .last .1 .0) _
+    unwrapped-is w (a .args .n) o (a .pre .1 .1) (l .load .last .1 .0) (l .load .ensures) key (c .before .backward-in .last .1 .1 .0) _
     (e .key-is) (a .pre .1 .0) (a .pre .1 .2) (c .before .backward-in .ensures key e)
 
 pub unwrapped-spec : {M : Type 1} → statement M

@@ -17,13 +17,13 @@ use Rattle.copies.proofs.walk.tried.Statement.{statement}
 use Rattle.copies.proofs.walk.tried.Tie as tie
 
 abbrev Inv-loop : tie.InvT-loop
-Inv-loop place a id schedule need known₀ at₀ known at =
+Inv-loop place a id tables schedule need known₀ at₀ known at =
     (at ≤ length a) × (isWhole (attributes place 0 (drop at a)) ≡ true) ×
-    ((v : List ℕ) → ExpandsInverse v (schedule .octets) →
+    ((v : List ℕ) → ExpandsInverse v (schedule .words) →
     Progress need (triesOf id v (copiesIn place a)) (triesOf id v (copiesIn place (drop at a))) known)
 
 abbrev μ-loop : tie.MeasureT-loop
-μ-loop place a id schedule need known₀ at₀ known at = length a - at
+μ-loop place a id tables schedule need known₀ at₀ known at = length a - at
 
 nothing-requires : tie.Need-nothing-requires Inv-loop μ-loop
 nothing-requires c κs = search needs

@@ -24,24 +24,24 @@ array-share-prefix-octets : tie.Need-array-share-prefix-octets
 array-share-prefix-octets c =
     let s = c .before .before .before .before .before in
     let e : length (s .args .key .octets) ≡ 32 = search needs in
-    key-inside (s .args .key) e (s .pre .1 .0)
+    key-inside (s .args .key) e (s .pre .1 .0 .1)
 
 slice-aggregate-expand-inverse : tie.Need-slice-aggregate-expand-inverse
 slice-aggregate-expand-inverse c =
     let s = c .before .before .before .before .before .before in
     let e : length (s .args .key .octets) ≡ 32 = search needs in
-    key-count (s .args .key) e (s .pre .1 .0)
+    key-count (s .args .key) e (s .pre .1 .0 .1)
 
 expand-inverse-requires : tie.Need-expand-inverse-requires
 expand-inverse-requires c κs =
     let s = c .before .before .before .before .before .before in
     let e : length (s .args .key .octets) ≡ 32 = search needs in
-    key-fits (s .args .key) e (s .pre .1 .0)
+    (s .pre .1 .0 .0, key-fits (s .args .key) e (s .pre .1 .0 .1))
 
 tried-requires : tie.Need-tried-requires
 tried-requires c κs =
     let s = c .before .before .before .before .before .before .before in
-    (s .pre .0, (record { key = valueOf (s .args .key); expands = c .expand-inverse .ensures }, s .pre .1 .1))
+    (s .pre .0, ((s .pre .1 .0 .0, record { key = valueOf (s .args .key); expands = c .expand-inverse .ensures }), s .pre .1 .1))
 
 enum-told-2 : tie.Need-enum-told-2
 enum-told-2 c = search needs

@@ -12,11 +12,11 @@ use Rattle.keywrap.proofs.unwrap_steps.unrow_in.Statement.{statement}
 use Rattle.keywrap.proofs.unwrap_steps.unrow_in.Tie as tie
 
 abbrev Inv-loop : tie.InvT-loop
-Inv-loop schedule s₀ base n i₀ s i =
+Inv-loop tables schedule s₀ base n i₀ s i =
     (i ≤ n) × (length s ≡ length s₀) × ((key : List ℕ) → ExpandsInverse key schedule → unrow key base i s ≡ unrow key base n s₀)
 
 abbrev μ-loop : tie.MeasureT-loop
-μ-loop schedule s₀ base n i₀ s i = i
+μ-loop tables schedule s₀ base n i₀ s i = i
 
 loop-holds : tie.Need-loop-holds Inv-loop μ-loop
 loop-holds c = (omega arith, refl, λ key e. refl)

@@ -12,11 +12,11 @@ use Rattle.keywrap.proofs.unwrap_steps.unrows_in.Statement.{statement}
 use Rattle.keywrap.proofs.unwrap_steps.unrows_in.Tie as tie
 
 abbrev Inv-loop : tie.InvT-loop
-Inv-loop schedule s₀ n j₀ s j =
+Inv-loop tables schedule s₀ n j₀ s j =
     (j ≤ 6) × (length s ≡ length s₀) × ((key : List ℕ) → ExpandsInverse key schedule → unrows key n j s ≡ unrows key n 6 s₀)
 
 abbrev μ-loop : tie.MeasureT-loop
-μ-loop schedule s₀ n j₀ s j = j
+μ-loop tables schedule s₀ n j₀ s j = j
 
 loop-holds : tie.Need-loop-holds Inv-loop μ-loop
 loop-holds c = (omega arith, refl, λ key e. refl)

@@ -12,11 +12,11 @@ use Rattle.keywrap.proofs.wrap_steps.row_in.Statement.{statement}
 use Rattle.keywrap.proofs.wrap_steps.row_in.Tie as tie
 
 abbrev Inv-loop : tie.InvT-loop
-Inv-loop schedule s₀ base n i₀ s i =
+Inv-loop tables schedule s₀ base n i₀ s i =
     (i ≤ n) × (length s ≡ length s₀) × ((key : List ℕ) → Expands key schedule → s ≡ row key base i s₀)
 
 abbrev μ-loop : tie.MeasureT-loop
-μ-loop schedule s₀ base n i₀ s i = n - i
+μ-loop tables schedule s₀ base n i₀ s i = n - i
 
 loop-holds : tie.Need-loop-holds Inv-loop μ-loop
 unfolding row

@@ -12,11 +12,11 @@ use Rattle.keywrap.proofs.wrap_steps.rows_in.Statement.{statement}
 use Rattle.keywrap.proofs.wrap_steps.rows_in.Tie as tie
 
 abbrev Inv-loop : tie.InvT-loop
-Inv-loop schedule s₀ n j₀ s j =
+Inv-loop tables schedule s₀ n j₀ s j =
     (j ≤ 6) × (length s ≡ length s₀) × ((key : List ℕ) → Expands key schedule → s ≡ rows key n j s₀)
 
 abbrev μ-loop : tie.MeasureT-loop
-μ-loop schedule s₀ n j₀ s j = 6 - j
+μ-loop tables schedule s₀ n j₀ s j = 6 - j
 
 loop-holds : tie.Need-loop-holds Inv-loop μ-loop
 unfolding rows

@@ -19,24 +19,28 @@ use Rattle.reach.proofs.search.search.Statement.{statement}
 use Rattle.reach.proofs.search.search.Tie as tie
 
 abbrev Inv-loop : tie.InvT-loop
-Inv-loop frame n entries size cells₀ cells =
+Inv-loop frame n entries size tables cells₀ cells =
     (n ≤ 32) × (length entries ≡ 32) × (length cells ≡ 32) ×
     ((v : List ℕ) (is : Key v) (l : List WrapKey) (fit : T (isKey size)) → Lists frame entries n l →
     AllTried 0 v size l (replicate 32 noCell) cells₀ → Kept v is l size fit cells)
 
 abbrev μ-loop : tie.MeasureT-loop
-μ-loop frame n entries size cells₀ cells = undone n (cellAt cells)
+μ-loop frame n entries size tables cells₀ cells = undone n (cellAt cells)
+
+inverse-tables-requires : tie.Need-inverse-tables-requires Inv-loop μ-loop
+inverse-tables-requires c κs = search needs
 
 blank-requires : tie.Need-blank-requires Inv-loop μ-loop
 blank-requires c κs = search needs
 
 with-key-requires : tie.Need-with-key-requires Inv-loop μ-loop
 with-key-requires c κs =
-    let p = c .before .before .pre in (p .0, (p .1 .0, (p .1 .0, p .1 .1 .1)))
+    let p = c .before .before .before .before .pre in
+    (p .0, ((c .before .before .inverse-tables .ensures, p .1 .0), (p .1 .0, p .1 .1 .1)))
 
 loop-holds : tie.Need-loop-holds Inv-loop μ-loop
 loop-holds c =
-    let s = c .before .before .before in
+    let s = c .before .before .before .before .before in
     let e : length (s .args .t3) ≡ 32 = search needs in
     let r : length (c .with-key .result) ≡ 32 = search needs in (
       s .pre .0,
@@ -55,7 +59,7 @@ enum-known-j c = search needs
 mul-e : tie.Need-mul-e Inv-loop μ-loop
 mul-e c =
     let u = c .before .before .before .before in
-    let s = u .before .before .before .before in
+    let s = u .before .before .before .before .before .before in
     let a = s .args in
     let j = c .before .j .given .0 .0 in
     let p : FoundAt (u .loop .cells) (a .n) j =
@@ -65,7 +69,7 @@ mul-e c =
 array-copy-out-e : tie.Need-array-copy-out-e Inv-loop μ-loop
 array-copy-out-e c =
     let u = c .before .before .before .before in
-    let s = u .before .before .before .before in
+    let s = u .before .before .before .before .before .before in
     let a = s .args in
     let j = c .before .j .given .0 .0 in
     let p : FoundAt (u .loop .cells) (a .n) j =
@@ -75,7 +79,7 @@ array-copy-out-e c =
 mul-c : tie.Need-mul-c Inv-loop μ-loop
 mul-c c =
     let u = c .before .before .before .before .before in
-    let s = u .before .before .before .before in
+    let s = u .before .before .before .before .before .before in
     let a = s .args in
     let j = c .before .before .j .given .0 .0 in
     let p : FoundAt (u .loop .cells) (a .n) j =
@@ -85,7 +89,7 @@ mul-c c =
 array-copy-out-c : tie.Need-array-copy-out-c Inv-loop μ-loop
 array-copy-out-c c =
     let u = c .before .before .before .before .before in
-    let s = u .before .before .before .before in
+    let s = u .before .before .before .before .before .before in
     let a = s .args in
     let j = c .before .before .j .given .0 .0 in
     let p : FoundAt (u .loop .cells) (a .n) j =
@@ -95,7 +99,7 @@ array-copy-out-c c =
 mul-cells : tie.Need-mul-cells Inv-loop μ-loop
 mul-cells c =
     let u = c .before .before .before .before .before .before .before in
-    let s = u .before .before .before .before in
+    let s = u .before .before .before .before .before .before in
     let a = s .args in
     let j = c .before .before .before .before .j .given .0 .0 in
     let p : FoundAt (u .loop .cells) (a .n) j =
@@ -106,7 +110,7 @@ mul-cells c =
 array-set-from-cells : tie.Need-array-set-from-cells Inv-loop μ-loop
 array-set-from-cells c =
     let u = c .before .before .before .before .before .before .before in
-    let s = u .before .before .before .before in
+    let s = u .before .before .before .before .before .before in
     let a = s .args in
     let j = c .before .before .before .before .j .given .0 .0 in
     let p : FoundAt (u .loop .cells) (a .n) j =
@@ -116,13 +120,13 @@ array-set-from-cells c =
 
 with-key-requires-2 : tie.Need-with-key-requires-2 Inv-loop μ-loop
 with-key-requires-2 c κs =
-    let u = c .before .before .before .before .before .before .before in
-    let s = u .before .before .before .before in
+    let u = c .before .before .before .before .before .before .before .before in
+    let s = u .before .before .before .before .before .before in
     let a = s .args in
-    let j = c .before .before .before .before .j .given .0 .0 in
+    let j = c .before .before .before .before .before .j .given .0 .0 in
     let p : FoundAt (u .loop .cells) (a .n) j =
-    subst (Finds (u .loop .cells) (a .n)) (c .before .before .before .before .j .given .1)
-    (c .before .before .before .before .before .before .first-pending .ensures) in
+    subst (Finds (u .loop .cells) (a .n)) (c .before .before .before .before .before .j .given .1)
+    (c .before .before .before .before .before .before .before .first-pending .ensures) in
     let l = s .pre .1 .1 .1 in
     let t = subst (λ (b : Cell). AllTried 0 (valueOf (a .lent)) (a .lent .count) (l .0) (replicate 32 b) (u .before .with-key .result))
     (u .before .before .blank .ensures) (u .before .with-key .ensures (l .0) (l .1)) in
@@ -130,22 +134,25 @@ with-key-requires-2 c κs =
     let kept = u .loop .inv .3 (valueOf (a .lent)) (s .pre .1 .1 .0) (l .0) fit (l .1) t in (
       omega (arith, s .pre .0, p .inside),
       (
-        count-at (valueOf (a .lent)) (s .pre .1 .1 .0) (l .0) (a .lent .count) fit (a .frame .now) (a .t3) (a .n)
-            (u .loop .cells) j (l .1) kept p
-            (u .loop .inv .2) _ (s .pre .1 .0),
+        (
+          u .before .before .before .before .inverse-tables .ensures,
+          count-at (valueOf (a .lent)) (s .pre .1 .1 .0) (l .0) (a .lent .count) fit (a .frame .now) (a .t3) (a .n)
+              (u .loop .cells) j (l .1) kept p
+              (u .loop .inv .2) _ (s .pre .1 .0),
+        ),
         (s .pre .1 .0, l),
       ),
     )
 
 loop-less : tie.Need-loop-less Inv-loop μ-loop
 loop-less c =
-    let u = c .before .before .before .before .before .before .before .before in
-    let s = u .before .before .before .before in
+    let u = c .before .before .before .before .before .before .before .before .before in
+    let s = u .before .before .before .before .before .before in
     let a = s .args in
-    let j = c .before .before .before .before .before .j .given .0 .0 in
+    let j = c .before .before .before .before .before .before .j .given .0 .0 in
     let p : FoundAt (u .loop .cells) (a .n) j =
-    subst (Finds (u .loop .cells) (a .n)) (c .before .before .before .before .before .j .given .1)
-    (c .before .before .before .before .before .before .before .first-pending .ensures) in
+    subst (Finds (u .loop .cells) (a .n)) (c .before .before .before .before .before .before .j .given .1)
+    (c .before .before .before .before .before .before .before .before .first-pending .ensures) in
     let l = s .pre .1 .1 .1 in
     subst (λ (m : ℕ). undone m (cellAt (c .with-key2 .result)) < undone m (cellAt (u .loop .cells))) (l .1 .count)
     (fell (l .0) _ _ (a .lent .count) (u .loop .cells) (c .with-key2 .result) j _
@@ -154,13 +161,13 @@ loop-less c =
 
 loop-again : tie.Need-loop-again Inv-loop μ-loop
 loop-again c =
-    let u = c .before .before .before .before .before .before .before .before in
-    let s = u .before .before .before .before in
+    let u = c .before .before .before .before .before .before .before .before .before in
+    let s = u .before .before .before .before .before .before in
     let a = s .args in
-    let j = c .before .before .before .before .before .j .given .0 .0 in
+    let j = c .before .before .before .before .before .before .j .given .0 .0 in
     let p : FoundAt (u .loop .cells) (a .n) j =
-    subst (Finds (u .loop .cells) (a .n)) (c .before .before .before .before .before .j .given .1)
-    (c .before .before .before .before .before .before .before .first-pending .ensures) in
+    subst (Finds (u .loop .cells) (a .n)) (c .before .before .before .before .before .before .j .given .1)
+    (c .before .before .before .before .before .before .before .before .first-pending .ensures) in
     let r : length (c .with-key2 .result) ≡ 32 = search needs in (
       u .loop .inv .0,
       u .loop .inv .1,
@@ -176,7 +183,7 @@ enum-told c = search needs
 returns : tie.Need-returns Inv-loop μ-loop
 returns c l h =
     let u = c .before .before .before in
-    let s = u .before .before .before .before in
+    let s = u .before .before .before .before .before .before in
     let a = s .args in
     let t = subst (λ (b : Cell). AllTried 0 (valueOf (a .lent)) (a .lent .count) l (replicate 32 b) (u .before .with-key .result))
     (u .before .before .blank .ensures) (u .before .with-key .ensures l h) in
@@ -193,6 +200,7 @@ search-spec =
     (tie.spec
     Inv-loop
     μ-loop
+    inverse-tables-requires
     blank-requires
     with-key-requires
     loop-holds

@@ -13,17 +13,17 @@ use Rattle.reach.proofs.search.tried.Statement.{statement}
 use Rattle.reach.proofs.search.tried.Tie as tie
 
 abbrev Inv-loop : tie.InvT-loop
-Inv-loop frame schedule size id n entries out₀ i₀ out i =
+Inv-loop frame tables schedule size id n entries out₀ i₀ out i =
     (n ≤ 32) × (length entries ≡ 32) × (length out ≡ 32) × (i ≤ n) ×
-    ((l : List WrapKey) (v : List ℕ) → Lists frame entries n l → ExpandsInverse v (schedule .octets) → Partly id v size l out₀ out i)
+    ((l : List WrapKey) (v : List ℕ) → Lists frame entries n l → ExpandsInverse v (schedule .words) → Partly id v size l out₀ out i)
 
 abbrev μ-loop : tie.MeasureT-loop
-μ-loop frame schedule size id n entries out₀ i₀ out i = n - i
+μ-loop frame tables schedule size id n entries out₀ i₀ out i = n - i
 
 loop-holds : tie.Need-loop-holds Inv-loop μ-loop
 loop-holds c =
     let a = c .before .args in
-    let e : length (a .t5) ≡ 32 = search needs in
+    let e : length (a .t6) ≡ 32 = search needs in
     let f : length (a .cells) ≡ 32 = search needs in
     (c .before .pre .0, e, f, search needs, λ l v h x. partly-none (a .id) v (a .size) l (a .cells))
 
@@ -45,7 +45,7 @@ tried-on-requires c κs =
     let s = c .before .before .before .before .before in
     let a = s .args in
     let p = s .pre .1 .1 .1 in
-    let e = entry-at (a .frame .now) (a .t5) (a .n) (p .0) (p .1) (l .i) _ (omega arith) (omega arith) in
+    let e = entry-at (a .frame .now) (a .t6) (a .n) (p .0) (p .1) (l .i) _ (omega arith) (omega arith) in
     (s .pre .1 .0, (s .pre .1 .1 .0, (e .starts, e .ends)))
 
 mul-out : tie.Need-mul-out Inv-loop μ-loop
@@ -70,7 +70,7 @@ loop-again c =
       omega arith,
       λ k v h x.
           partly-next (a .id) v (a .size) k (a .cells) (l .out) (l .i) _ (c .tried-on .result) (omega arith)
-          (c .tried-on .ensures _ v (entry-at (a .frame .now) (a .t5) (a .n) k h (l .i) _ (omega arith) (omega arith)) x)
+          (c .tried-on .ensures _ v (entry-at (a .frame .now) (a .t6) (a .n) k h (l .i) _ (omega arith) (omega arith)) x)
           (l .inv .4 k v h x),
     )
 

@@ -19,32 +19,32 @@ is-named-requires c κs = search needs
 array-share-prefix-octets : tie.Need-array-share-prefix-octets
 array-share-prefix-octets c =
     let s = c .before .before .before .before in
-    let h = wrapping-le (s .args .key .count) (s .pre .1 .0) in
+    let h = wrapping-le (s .args .key .count) (s .pre .1 .0 .1) in
     let e : length (s .args .key .octets) ≡ 32 = search needs in
     omega arith
 
 slice-aggregate-expand-inverse : tie.Need-slice-aggregate-expand-inverse
 slice-aggregate-expand-inverse c =
     let s = c .before .before .before .before .before in
-    let h = wrapping-le (s .args .key .count) (s .pre .1 .0) in
+    let h = wrapping-le (s .args .key .count) (s .pre .1 .0 .1) in
     let e : length (s .args .key .octets) ≡ 32 = search needs in
     sym (length-take-le (s .args .key .count) (s .args .key .octets) (omega arith))
 
 expand-inverse-requires : tie.Need-expand-inverse-requires
 expand-inverse-requires c κs =
     let s = c .before .before .before .before .before in
-    let h = wrapping-le (s .args .key .count) (s .pre .1 .0) in
+    let h = wrapping-le (s .args .key .count) (s .pre .1 .0 .1) in
     let e : length (s .args .key .octets) ≡ 32 = search needs in
     let n : length (take (s .args .key .count) (s .args .key .octets)) ≡ s .args .key .count =
     length-take-le (s .args .key .count) (s .args .key .octets) (omega arith) in
-    subst (λ (m : ℕ). T (isKey m)) (sym n) (is-key-size (s .args .key .count) (s .pre .1 .0))
+    (s .pre .1 .0 .0, subst (λ (m : ℕ). T (isKey m)) (sym n) (is-key-size (s .args .key .count) (s .pre .1 .0 .1)))
 
 tried-requires : tie.Need-tried-requires
 tried-requires c κs =
     let s = c .before .before .before .before .before .before in
     let a = s .args in
     let k = take (a .key .count) (a .key .octets) in
-    (s .pre .0, (record { key = k; expands = c .expand-inverse .ensures }, (s .pre .1 .1 .0, s .pre .1 .1 .1)))
+    (s .pre .0, ((s .pre .1 .0 .0, record { key = k; expands = c .expand-inverse .ensures }), (s .pre .1 .1 .0, s .pre .1 .1 .1)))
 
 returns : tie.Need-returns
 returns c l h =

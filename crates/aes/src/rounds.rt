@@ -1,0 +1,134 @@
+// The rounds, on a state of four words. Internal, all of it.
+use crate::Pair;
+use crate::State;
+use crate::words::apart;
+use crate::words::column;
+use crate::words::join;
+use crate::words::last_column;
+ghost use mathlib.Core.Path.{_≡_};
+ghost use Prim.Native.Nat.{_<_, _≤_};
+ghost use lib.ListN.{length, getD};
+ghost use Rattle.aes.specs.inner.Rounds.{blockOf, loadOf, splitOf, uniteOf, swappedOf, startOf, roundOf, lastRoundOf, runOf};
+
+pub(crate) fn load(s: [u8; 16]) -> State
+    ensures { λ x. ⌜ x ≡ loadOf s ⌝ }
+{
+    State {
+        a: join(s[0], s[1], s[2], s[3]),
+        b: join(s[4], s[5], s[6], s[7]),
+        c: join(s[8], s[9], s[10], s[11]),
+        d: join(s[12], s[13], s[14], s[15]),
+    }
+}
+
+pub(crate) fn store(s: State) -> [u8; 16]
+    ensures { λ r. ⌜ r ≡ blockOf s ⌝ }
+{
+    let a = apart(s.a);
+    let b = apart(s.b);
+    let c = apart(s.c);
+    let d = apart(s.d);
+    [
+        a[0],
+        a[1],
+        a[2],
+        a[3],
+        b[0],
+        b[1],
+        b[2],
+        b[3],
+        c[0],
+        c[1],
+        c[2],
+        c[3],
+        d[0],
+        d[1],
+        d[2],
+        d[3],
+    ]
+}
+
+// The state of the block whose halves are two numbers.
+pub(crate) fn split(hi: u64, lo: u64) -> State
+    ensures { λ x. ⌜ x ≡ splitOf hi lo ⌝ }
+{
+    State {
+        a: ((hi >> 32) % 4294967296) as u32,
+        b: (hi % 4294967296) as u32,
+        c: ((lo >> 32) % 4294967296) as u32,
+        d: (lo % 4294967296) as u32,
+    }
+}
+
+pub(crate) fn unite(s: State) -> Pair
+    ensures { λ x. ⌜ x ≡ uniteOf s ⌝ }
+{
+    Pair {
+        hi: (s.a as u64) * 4294967296 + (s.b as u64),
+        lo: (s.c as u64) * 4294967296 + (s.d as u64),
+    }
+}
+
+// The columns counted the other way round.
+pub(crate) fn swapped(s: State) -> State
+    ensures { λ x. ⌜ x ≡ swappedOf s ⌝ }
+{
+    State {
+        a: s.a,
+        b: s.d,
+        c: s.c,
+        d: s.b,
+    }
+}
+
+fn start(k: &[u32; 61], s: State) -> State
+    ensures { λ x. ⌜ x ≡ startOf (now (k .entry)) s ⌝ }
+{
+    State {
+        a: s.a ^ k[0],
+        b: s.b ^ k[1],
+        c: s.c ^ k[2],
+        d: s.d ^ k[3],
+    }
+}
+
+fn round(t: &[u32], k: &[u32; 61], r: usize, s: State) -> State
+    requires { ⌜ (512 ≤ length (now t)) × (r < 15) ⌝ }
+    ensures { λ x. ⌜ x ≡ roundOf (now (t .entry)) (now (k .entry)) r s ⌝ }
+{
+    let at = 4 * r;
+    State {
+        a: column(t, s.a, s.b, s.c, s.d, k[at]),
+        b: column(t, s.b, s.c, s.d, s.a, k[at + 1]),
+        c: column(t, s.c, s.d, s.a, s.b, k[at + 2]),
+        d: column(t, s.d, s.a, s.b, s.c, k[at + 3]),
+    }
+}
+
+fn last(t: &[u32], k: &[u32; 61], r: usize, s: State) -> State
+    requires { ⌜ (512 ≤ length (now t)) × (r < 15) ⌝ }
+    ensures { λ x. ⌜ x ≡ lastRoundOf (now (t .entry)) (now (k .entry)) r s ⌝ }
+{
+    let at = 4 * r;
+    State {
+        a: last_column(t, 256, s.a, s.b, s.c, s.d, k[at]),
+        b: last_column(t, 256, s.b, s.c, s.d, s.a, k[at + 1]),
+        c: last_column(t, 256, s.c, s.d, s.a, s.b, k[at + 2]),
+        d: last_column(t, 256, s.d, s.a, s.b, s.c, k[at + 3]),
+    }
+}
+
+// All rounds over the schedule k.
+pub(crate) fn run(t: &[u32], k: &[u32; 61], s: State) -> State
+    requires { ⌜ (512 ≤ length (now t)) × (1 ≤ getD (now k) 60 0) × (getD (now k) 60 0 < 15) ⌝ }
+    ensures { λ x. ⌜ x ≡ runOf (now (t .entry)) (now (k .entry)) s ⌝ }
+{
+    let n = k[60] as usize;
+    let mut x = start(k, s);
+    let mut r = 1;
+    while r < n {
+        x = round(t, k, r, x);
+        r += 1;
+    }
+    last(t, k, n, x)
+}

@@ -1,0 +1,69 @@
+// The checks of RFC 5649, section 3, on unwrapped registers.
+use crate::Answer;
+use crate::Opened;
+use crate::load::store;
+ghost use mathlib.Core.Path.{_≡_};
+ghost use Prim.Native.Nat.{suc, _≤_};
+ghost use lib.ListN.{take};
+ghost use Rattle.keywrap.specs.Answers.{Answers};
+ghost use Rattle.keywrap.specs.inner.Blank.{blank};
+ghost use Rattle.keywrap.specs.inner.Unwrap.{Begins, countIn, zeroFrom};
+
+// "no", and nothing of what did not open.
+pub(crate) fn refused() -> Opened
+    ensures { λ r. ⌜ (r .answer ≡ Answer.No) × (r .octets ≡ blank) ⌝ }
+{
+    Opened {
+        answer: Answer::No,
+        octets: [0u8; 256],
+    }
+}
+
+// The count that A tells, or 0.
+fn count_in(a: u64, n: usize) -> usize
+    ensures { λ r. ⌜ r ≡ countIn a n ⌝ }
+{
+    if a / 4294967296 == 0xa65959a6 {
+        let m = (a % 4294967296) as usize;
+        if (m + 7) / 8 == n {
+            return m;
+        }
+        return 0;
+    }
+    0
+}
+
+fn is_zero_from(s: &[u8], at: usize) -> bool
+    ensures { λ r. ⌜ r ≡ zeroFrom at (now (s .entry)) ⌝ }
+{
+    let mut i = at;
+    while i < s.len() {
+        if s[i] != 0 {
+            return false;
+        }
+        i += 1;
+    }
+    true
+}
+
+// What the registers s of n blocks were before they were wrapped, if anything.
+pub(crate) fn checked(s: [u64; 33], n: usize) -> Opened
+    requires { ⌜ (1 ≤ n) × (n ≤ 32) ⌝ }
+    ensures { λ r. ⌜ Answers (Begins n (take (suc n) s)) blank (r .answer) (r .octets) ⌝ }
+{
+    let m = count_in(s[0], n);
+    if m == 0 {
+        return refused();
+    }
+    let end = n + 1;
+    let mut octets = [0u8; 256];
+    store(&s[1..end], &mut octets);
+    let full = 8 * n;
+    if is_zero_from(&octets[..full], m) {
+        return Opened {
+            answer: Answer::Count(m),
+            octets,
+        };
+    }
+    refused()
+}
