@@ -104,7 +104,7 @@ module _ (key : List ℕ) (is : T (isKey (length key))) where
 -- ---- temp
 
 -- a word of 32 bits is that of its octets
-whole : (x : ℕ) → x < 4294967296 → x ≡ wordOf (b0 x) (b1 x) (b2 x) (b3 x)
+pub whole : (x : ℕ) → x < 4294967296 → x ≡ wordOf (b0 x) (b1 x) (b2 x) (b3 x)
 whole x h =
     let a : x / 16777216 % 256 ≡ x / 16777216 = omega arith in
     let b : x / 65536 ≡ x / 16777216 * 256 + x / 65536 % 256 = omega arith in

@@ -7,3 +7,4 @@ pub mod Deciphering
 pub mod Pairs
 pub mod Growing
 pub mod Inverting
+pub mod Determined

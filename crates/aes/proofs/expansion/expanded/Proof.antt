@@ -91,7 +91,8 @@ loop-again c =
       omega arith,
       grown-more k _ g (omega arith)
           (from-words k (s .pre .1) (λ i. l .before .before .shared-slice-known2 .given i .fits) (l .loop .i) (length k / 4) refl
-          (l .loop .inv .2) (t .before .loop-test .taken) g (t .temp-at .result) (λ e. t .temp-at .ensures e (l .loop .i) (l .loop .inv .5))),
+          (l .loop .inv .2) (t .before .loop-test .taken) g (t .temp-at .result)
+          (λ e. t .temp-at .ensures e (l .loop .i) (l .loop .inv .5))),
       c .next-place .ensures (l .loop .i) (l .loop .inv .2) (l .loop .inv .5),
     )
 

@@ -30,8 +30,8 @@ returns-2 : tie.Need-returns-2
 returns-2 c =
     let s = c .before .before .before .before .before .before .before in
     let a = s .args in
-    subbed (a .t .now) (a .at) (s .pre .1) (a .nk) (a .x) (a .p) (c .before .before .before .before .if1 .left) (c .before .before .before .if2 .taken)
-    (c .before .if3 .taken) (c .last-column2 .ensures)
+    subbed (a .t .now) (a .at) (s .pre .1) (a .nk) (a .x) (a .p) (c .before .before .before .before .if1 .left)
+    (c .before .before .before .if2 .taken) (c .before .if3 .taken) (c .last-column2 .ensures)
 
 returns-3 : tie.Need-returns-3
 returns-3 c =
