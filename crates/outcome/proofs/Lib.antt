@@ -39,7 +39,9 @@ pub mod SamplesChains
 pub mod SamplesTaken
 pub mod SamplesValued
 pub mod SamplesPaths
+pub mod SamplesTree
 pub mod SamplesEntries
 pub mod SamplesHold
 pub mod SamplesRead
+pub mod SamplesReadTree
 pub mod SamplesInhabited
