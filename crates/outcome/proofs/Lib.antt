@@ -32,6 +32,8 @@ pub mod RunsLive
 pub mod RunsReplay
 pub mod KeyZero
 pub mod Demand3
+pub mod Stands
+pub mod Needs
 pub mod SamplesAnswers
 pub mod SamplesRekeys
 pub mod SamplesFrame
