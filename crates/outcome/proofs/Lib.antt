@@ -34,6 +34,7 @@ pub mod KeyZero
 pub mod Demand3
 pub mod Stands
 pub mod Needs
+pub mod Ignored
 pub mod SamplesAnswers
 pub mod SamplesRekeys
 pub mod SamplesFrame
