@@ -5,10 +5,12 @@
 -- key of such a chain or, in a rekey, a key the member held; otherwise it is refused as number 9. On acceptance each of those SAs stands in
 -- the table as document 01 enters it, with the octets that every such copy opens to, and the rest of the member is as that document leaves
 -- it. A chain is defined without running any search."
+use native.Mathlib.Omega.{arith}
 use Prim.Native.Nat.{ℕ, _≤_}
 use mathlib.Core.Path.{subst}
 use mathlib.Core.List.{List}
 use Rattle.keys.specs.Limits.{Limits}
+use Rattle.keys.specs.Limits as figures
 use Rattle.frames.specs.Frame.{Frame}
 use Rattle.frames.specs.Grammar.{IsFrame}
 use Rattle.state.specs.declared.State.{State}
@@ -47,3 +49,8 @@ module _ (limits : Limits) (enough : limits .wrapKeys ≤ limits .heldKeys) (s :
             };
         after = λ q. on-acceptance next (subst (λ (k : ℕ). Outcome limits s now lent octets k next) q o);
       }
+
+-- within document 01's limits nothing is asked
+pub demand-3-within : (s : State) (now : ℕ) (lent octets : List ℕ) (f : Frame) → IsFrame octets f → (n : ℕ) (next : State) →
+    Outcome figures.limits s now lent octets n next → Demand3 figures.limits s now lent f octets n next
+demand-3-within = demand-3 figures.limits (omega arith)

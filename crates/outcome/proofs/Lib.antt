@@ -32,6 +32,9 @@ pub mod RunsLive
 pub mod RunsReplay
 pub mod KeyZero
 pub mod Demand3
+pub mod Stands
+pub mod Needs
+pub mod Ignored
 pub mod SamplesAnswers
 pub mod SamplesRekeys
 pub mod SamplesFrame
@@ -39,7 +42,9 @@ pub mod SamplesChains
 pub mod SamplesTaken
 pub mod SamplesValued
 pub mod SamplesPaths
+pub mod SamplesTree
 pub mod SamplesEntries
 pub mod SamplesHold
 pub mod SamplesRead
+pub mod SamplesReadTree
 pub mod SamplesInhabited

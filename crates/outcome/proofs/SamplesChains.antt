@@ -17,7 +17,6 @@ use Rattle.keys.proofs.Sizes.{wrapping-size, among-is}
 use Rattle.attributes.specs.Tree.{WrapKey, SaKey}
 use Rattle.chains.specs.Chain.{In, Root, Chain, root, step, Ends, CopyOpens}
 use Rattle.chains.specs.Refusals.{Announced, EntriesEight, CopiesEight, wrong-size, two-values, Eight, of-entries, of-copies, Nine, KeyOf}
-use Rattle.outcome.specs.Samples.{Keying}
 use Rattle.chains.proofs.Members.{in-member}
 
 -- ---- what a property that roots have and steps keep says of every chain
@@ -69,61 +68,61 @@ module _ (k v : List ℕ) (is : Key k) (key : Key v) where
   pub wraps-only : (y : List ℕ) → Opens k (wrapOf k v) y → y ≡ v
   wraps-only = let n = key-range v key in opens-only k v is (key .small) (n .0) (n .1)
 
--- ---- a lent key as key 0, entries with no Key ID 0, and an announced SA with one copy under KWK ID 0 of 20 octets x
-abbrev pub zeroRoot : List ℕ → Root
-zeroRoot lent = record { id = 0; value = lent }
+-- ---- an announced SA with one copy under KWK ID i of n octets x, where each chain that ends on i gives v
+abbrev pub oneCopy : ℕ → ℕ → List ℕ → Announced
+oneCopy i n w = record { copies = record { keyId = 0; kwkId = i; wrapped = w } ∷ []; need = n }
 
-abbrev pub oneCopy : List ℕ → Announced
-oneCopy w = record { copies = record { keyId = 0; kwkId = 0; wrapped = w } ∷ []; need = 20 }
-
-module _ (lent x : List ℕ) (key : Key lent) (keying : Keying x) (l : List WrapKey)
-    (no-zero : (e : WrapKey) → In e l → e .keyId ≡ 0 → ⊥) where
-  abbrev R : List Root
-  R = zeroRoot lent ∷ []
-
-  at-zero : (v : List ℕ) → Ends R l (length lent) 0 v → v ≡ lent
-  at-zero v e =
-      each-chain R l (length lent) (λ (k : ℕ) (y : List ℕ). k ≡ 0 → y ≡ lent)
-      (λ r m i. ap (λ (z : Root). z .value) (one-entry r (zeroRoot lent) m)) (λ e m y z g o i. absurd (no-zero e m i)) (e .passed) 0 v
-      (e .chain) refl
-
-  own : Opens lent (wrapOf lent x) x
-  own = let n = keying .size in opens-own lent x key (keying .octets) (omega arith) (omega arith)
-
+module _ (R : List Root) (l : List WrapKey) (size i n : ℕ) (v x : List ℕ) (key : Key v) (octets : Octets x) (count : length x ≡ n)
+    (least : 1 ≤ n) (most : n ≤ 256) (ends : Ends R l size i v) (only : (y : List ℕ) → Ends R l size i y → y ≡ v) where
   abbrev copy : SaKey
-  copy = record { keyId = 0; kwkId = 0; wrapped = wrapOf lent x }
+  copy = record { keyId = 0; kwkId = i; wrapped = wrapOf v x }
 
-  opens-to-x : (y : List ℕ) → CopyOpens R l (length lent) (copy ∷ []) y → y ≡ x
+  opens-to-x : (y : List ℕ) → CopyOpens R l size (copy ∷ []) y → y ≡ x
   opens-to-x y h =
-      let n = keying .size in
       let c = one-entry (h .copy) copy (h .stands) in
-      let v = at-zero (h .value) (subst (λ (k : SaKey). Ends R l (length lent) (k .kwkId) (h .value)) c (h .named)) in
-      opens-only lent x key (keying .octets) (omega arith) (omega arith) y
-      (subst (λ (k : SaKey). Opens lent (k .wrapped) y) c (subst (λ (z : List ℕ). Opens z (h .copy .wrapped) y) v (h .opens)))
+      let q = only (h .value) (subst (λ (k : SaKey). Ends R l size (k .kwkId) (h .value)) c (h .named)) in
+      opens-only v x key octets (omega arith) (omega arith) y
+      (subst (λ (k : SaKey). Opens v (k .wrapped) y) c (subst (λ (z : List ℕ). Opens z (h .copy .wrapped) y) q (h .opens)))
 
-  pub copy-opens : KeyOf R l (length lent) (oneCopy (wrapOf lent x)) x
+  pub copy-opens : KeyOf R l size (oneCopy i n (wrapOf v x)) x
   copy-opens = record {
     opens =
         record {
           copy = copy;
           stands = record { place = 0; inside = omega arith; is = refl };
-          value = lent;
-          named = record { passed = []; chain = root (zeroRoot lent) (record { place = 0; inside = omega arith; is = refl }) };
-          opens = own;
+          value = v;
+          named = ends;
+          opens = opens-own v x key octets (omega arith) (omega arith);
         };
     every = opens-to-x;
   }
 
-  no-copies-eight : CopiesEight R l (length lent) (oneCopy (wrapOf lent x)) → ⊥
-  no-copies-eight (wrong-size y h n) = n (ap length (opens-to-x y h) ∙ keying .size)
-  no-copies-eight (two-values y z h k n) = n (opens-to-x y h ∙ sym (opens-to-x z k))
+  no-copies-eight : CopiesEight R l size (oneCopy i n (wrapOf v x)) → ⊥
+  no-copies-eight (wrong-size y h d) = d (ap length (opens-to-x y h) ∙ count)
+  no-copies-eight (two-values y z h k d) = d (opens-to-x y h ∙ sym (opens-to-x z k))
 
-  pub no-eight : (EntriesEight R l (length lent) → ⊥) → Eight R l (length lent) (oneCopy (wrapOf lent x) ∷ []) → ⊥
+  pub no-eight : (EntriesEight R l size → ⊥) → Eight R l size (oneCopy i n (wrapOf v x) ∷ []) → ⊥
   no-eight f (of-entries h) = f h
-  no-eight f (of-copies a m h) =
-      no-copies-eight (subst (CopiesEight R l (length lent)) (one-entry a (oneCopy (wrapOf lent x)) m) h)
+  no-eight f (of-copies a m h) = no-copies-eight (subst (CopiesEight R l size) (one-entry a (oneCopy i n (wrapOf v x)) m) h)
 
-  pub no-nine : Nine R l (length lent) (oneCopy (wrapOf lent x) ∷ []) → ⊥
+  pub no-nine : Nine R l size (oneCopy i n (wrapOf v x) ∷ []) → ⊥
   no-nine h =
-      let e = one-entry (h .sa) (oneCopy (wrapOf lent x)) (h .stands) in
-      h .none x (subst (λ (a : Announced). CopyOpens R l (length lent) (a .copies) x) (sym e) (copy-opens .opens))
+      let e = one-entry (h .sa) (oneCopy i n (wrapOf v x)) (h .stands) in
+      h .none x (subst (λ (a : Announced). CopyOpens R l size (a .copies) x) (sym e) (copy-opens .opens))
+
+-- ---- a lent key as key 0, and entries with no Key ID 0
+abbrev pub zeroRoot : List ℕ → Root
+zeroRoot lent = record { id = 0; value = lent }
+
+module _ (lent : List ℕ) (l : List WrapKey) (no-zero : (e : WrapKey) → In e l → e .keyId ≡ 0 → ⊥) where
+  abbrev zeroRoots : List Root
+  zeroRoots = zeroRoot lent ∷ []
+
+  pub at-zero : (v : List ℕ) → Ends zeroRoots l (length lent) 0 v → v ≡ lent
+  at-zero v e =
+      each-chain zeroRoots l (length lent) (λ (k : ℕ) (y : List ℕ). k ≡ 0 → y ≡ lent)
+      (λ r m i. ap (λ (z : Root). z .value) (one-entry r (zeroRoot lent) m)) (λ e m y z g o i. absurd (no-zero e m i)) (e .passed) 0 v
+      (e .chain) refl
+
+  pub ends-zero : Ends zeroRoots l (length lent) 0 lent
+  ends-zero = record { passed = []; chain = root (zeroRoot lent) (record { place = 0; inside = omega arith; is = refl }) }

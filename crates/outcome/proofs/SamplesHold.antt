@@ -11,7 +11,8 @@ use Rattle.outcome.specs.Samples.{Sample, clock-wraps, delay-zero, least
 use Rattle.outcome.specs.Samples.{key-length-128, key-tree, Says}
 use Rattle.outcome.proofs.SamplesRekeys.{least-seven-holds, last-id-holds}
 use Rattle.outcome.proofs.SamplesFrame.{lent-of-28-holds}
-use Rattle.outcome.proofs.SamplesPaths.{two-steps-holds, key-tree-holds}
+use Rattle.outcome.proofs.SamplesPaths.{two-steps-holds}
+use Rattle.outcome.proofs.SamplesTree.{key-tree-holds}
 use Rattle.outcome.proofs.SamplesEntries.{circle-holds, two-values-holds}
 
 clock-wraps-holds : Says clock-wraps

@@ -30,13 +30,14 @@ use Rattle.clauses.specs.Contents.{gather}
 use Rattle.outcome.specs.After.{newRekey}
 use Rattle.outcome.specs.Outcome.{Outcome}
 use Rattle.outcome.specs.Run.{LiveRekey, ends}
-use Rattle.outcome.specs.Samples.{deleting, Around, registering, entry, Keying, Wrapping, Registers}
+use Rattle.outcome.specs.Samples.{deleting, Around, registering, entry, Keying, Wrapping, Registers, Creates}
 use Rattle.outcome.specs.Samples.{Sample, clock-wraps, delay-zero, least-seven, last-id, two-steps, circle, two-values, lent-of-28}
 use Rattle.outcome.specs.Samples.{key-length-128, key-tree}
 use Rattle.outcome.proofs.RunsReplay.{stays-live}
 use Rattle.outcome.proofs.SamplesRekeys.{last-id-holds}
-use Rattle.outcome.proofs.SamplesRead.{around, Rekeyed, two-steps-read, two-values-read, tree-read, circle-read, plain-read}
+use Rattle.outcome.proofs.SamplesRead.{around, Rekeyed, two-steps-read, two-values-read, circle-read, plain-read}
 use Rattle.outcome.proofs.SamplesRead.{laid-out, rekeys-read}
+use Rattle.outcome.proofs.SamplesReadTree.{treeAround, treeAt, tree-octets, tree-creates}
 
 -- ---- what a row asks for, as in specs/Samples.antt; the octets of its frame are below 256
 pub record Messages (l : Least → Type 0) (ids : List ℕ → Type 0) : Type 0 where
@@ -88,10 +89,9 @@ pub record Tree : Type 0 where
   pub v₁ : List ℕ
   pub v₃ : List ℕ
   pub v₇ : List ℕ
-  pub fit : Wrapping lent v₁ × Wrapping lent v₃ × Wrapping lent v₇
   pub octets : List ℕ
   pub small : Octets octets
-  pub registers : Registers r lent x (entry 1 3 (wrapOf v₃ v₁) ∷ entry 3 7 (wrapOf v₇ v₃) ∷ entry 7 0 (wrapOf lent v₇) ∷ []) octets
+  pub creates : Creates r lent x v₁ v₃ v₇ octets
 
 pub record Lent : Type 0 where
   pub r : Around
@@ -252,17 +252,19 @@ samples-inhabited lent-of-28 =
     }
 samples-inhabited key-length-128 = tt
 samples-inhabited key-tree =
-    let read = tree-read lentKey (replicate 20 7) (replicate 16 9) (key-16 1 (omega arith)) refl keying (fits 9 (omega arith))
-    (replicate 16 5) (replicate 16 6) (fits 5 (omega arith)) (fits 6 (omega arith)) in
+    let key = key-16 1 (omega arith) in
+    let w₁ = fits 5 (omega arith) in
+    let w₃ = fits 6 (omega arith) in
+    let w₇ = fits 9 (omega arith) in
+    let small = same-octets 36 7 (omega arith) in
     record {
-      r = around;
+      r = treeAround;
       lent = lentKey;
-      x = replicate 20 7;
+      x = replicate 36 7;
       v₁ = replicate 16 5;
       v₃ = replicate 16 6;
       v₇ = replicate 16 9;
-      fit = (fits 5 (omega arith), fits 6 (omega arith), fits 9 (omega arith));
-      octets = read .octets;
-      small = read .small;
-      registers = record { key = key-16 1 (omega arith); keying = keying; reads = laid-out _ read };
+      octets = treeAt lentKey (replicate 36 7) (replicate 16 5) (replicate 16 6) (replicate 16 9) key refl refl small w₁ w₃ w₇;
+      small = tree-octets lentKey (replicate 36 7) (replicate 16 5) (replicate 16 6) (replicate 16 9) key refl refl small w₁ w₃ w₇;
+      creates = tree-creates lentKey (replicate 36 7) (replicate 16 5) (replicate 16 6) (replicate 16 9) key refl refl small w₁ w₃ w₇;
     }

@@ -1,4 +1,4 @@
--- The samples' entries that lead up a path of keys.
+-- The samples' entries that lead from key to key.
 use native.Mathlib.Omega.{arith}
 use Prim.Native.Nat.{ℕ, _<_}
 use mathlib.Core.Path.{_≡_, refl}
@@ -13,12 +13,12 @@ use Rattle.state.specs.Held.{heldOf}
 use Rattle.chains.specs.Chain.{In, Reached}
 use Rattle.chains.specs.Refusals.{EntriesEight}
 use Rattle.outcome.specs.After.{HeldAre}
-use Rattle.outcome.specs.Samples.{entry, heldWith, Wrapping, two-steps, key-tree, Says}
+use Rattle.outcome.specs.Samples.{entry, heldWith, Wrapping, two-steps, Says}
 use Rattle.outcome.proofs.SamplesChains.{zeroRoot}
 use Rattle.outcome.proofs.SamplesTaken.{registers-0}
 use Rattle.outcome.proofs.SamplesValued.{each-in, at, fit-at, no-fault, first, on, held-are}
 
-here : {A : Type 0} (a : A) (l : List A) (i : ℕ) → i < length l → getD l i a ≡ a → In a l
+pub here : {A : Type 0} (a : A) (l : List A) (i : ℕ) → i < length l → getD l i a ≡ a → In a l
 here a l i h e = record { place = i; inside = h; is = e }
 
 -- ---- (5 under 9), (9 under 0)
@@ -64,59 +64,3 @@ two-steps-holds r now lent x v₅ v₉ octets w₅ w₉ g =
     let k = g .key in
     registers-0 r now lent x octets (entry 5 9 (wrapOf v₉ v₅) ∷ entry 9 0 (wrapOf lent v₉) ∷ []) k (g .keying) (g .reads) refl (omega arith)
     (two-fit lent v₅ v₉ k w₅ w₉) (heldWith 5 v₅ ∷ heldWith 9 v₉ ∷ []) (held-two lent v₅ v₉ k w₅ w₉)
-
--- ---- (1 under 3), (3 under 7), (7 under 0)
-module _ (lent v₁ v₃ v₇ : List ℕ) (key : Key lent) (w₁ : Wrapping lent v₁) (w₃ : Wrapping lent v₃) (w₇ : Wrapping lent v₇) where
-  abbrev e₁ : WrapKey
-  e₁ = entry 1 3 (wrapOf v₃ v₁)
-
-  abbrev e₃ : WrapKey
-  e₃ = entry 3 7 (wrapOf v₇ v₃)
-
-  abbrev e₇ : WrapKey
-  e₇ = entry 7 0 (wrapOf lent v₇)
-
-  abbrev tree : List WrapKey
-  tree = e₁ ∷ e₃ ∷ e₇ ∷ []
-
-  abbrev values : ℕ → List ℕ
-  values = at 1 v₁ (at 3 v₃ (at 7 v₇ (λ (k : ℕ). lent)))
-
-  fits : (k : ℕ) → Wrapping lent (values k)
-  fits =
-      fit-at lent 1 v₁ (at 3 v₃ (at 7 v₇ (λ (k : ℕ). lent))) w₁
-      (fit-at lent 3 v₃ (at 7 v₇ (λ (k : ℕ). lent)) w₃
-      (fit-at lent 7 v₇ (λ (k : ℕ). lent) w₇ (λ k. record { key = key; size = refl })))
-
-  under : (e : WrapKey) → In e tree → e .wrapped ≡ wrapOf (values (e .kwkId)) (values (e .keyId))
-  under = each-in (λ (e : WrapKey). e .wrapped ≡ wrapOf (values (e .kwkId)) (values (e .keyId))) tree (refl, (refl, (refl, tt)))
-
-  tree-fit : EntriesEight (zeroRoot lent ∷ []) tree (length lent) → ⊥
-  tree-fit = no-fault values fits tree under
-
-  to-7 : Reached (zeroRoot lent ∷ []) tree (length lent) 7 v₇
-  to-7 = first values fits tree under e₇ (here e₇ tree 2 (omega arith) refl) refl
-
-  to-3 : Reached (zeroRoot lent ∷ []) tree (length lent) 3 v₃
-  to-3 = on values fits tree under e₃ (here e₃ tree 1 (omega arith) refl) to-7
-
-  to-1 : Reached (zeroRoot lent ∷ []) tree (length lent) 1 v₁
-  to-1 = on values fits tree under e₁ (here e₁ tree 0 (omega arith) refl) to-3
-
-  abbrev ids : List ℕ
-  ids = 1 ∷ 3 ∷ 7 ∷ []
-
-  held-tree : HeldAre (zeroRoot lent ∷ []) tree (length lent) limits
-      (heldOf limits (heldWith 1 v₁ ∷ heldWith 3 v₃ ∷ heldWith 7 v₇ ∷ []))
-  unfolding rising heads
-  held-tree =
-      held-are values fits tree under ids refl (to-1, (to-3, (to-7, tt)))
-      (here 1 ids 0 (omega arith) refl, (here 3 ids 1 (omega arith) refl, (here 7 ids 2 (omega arith) refl, tt)))
-
-pub key-tree-holds : Says key-tree
-unfolding any
-key-tree-holds r now lent x v₁ v₃ v₇ octets w₁ w₃ w₇ g =
-    let k = g .key in
-    registers-0 r now lent x octets (entry 1 3 (wrapOf v₃ v₁) ∷ entry 3 7 (wrapOf v₇ v₃) ∷ entry 7 0 (wrapOf lent v₇) ∷ []) k (g .keying)
-    (g .reads) refl (omega arith) (tree-fit lent v₁ v₃ v₇ k w₁ w₃ w₇) (heldWith 1 v₁ ∷ heldWith 3 v₃ ∷ heldWith 7 v₇ ∷ [])
-    (held-tree lent v₁ v₃ v₇ k w₁ w₃ w₇)

@@ -33,10 +33,10 @@ use Rattle.frames.proofs.FrameGrammar.{read-frame}
 use Rattle.outcome.specs.Samples.{deleting, Around, registering, entry, Keying, Wrapping, Rekeys}
 
 -- ---- a registration
-group : List ℕ
+unfoldable pub group : List ℕ
 group = 239 ∷ 1 ∷ 1 ∷ 1 ∷ []
 
-anywhere : Selector
+unfoldable pub anywhere : Selector
 anywhere = record { kind = 7; protocol = 17; startPort = 848; endPort = 848; startAddress = group; endAddress = group }
 
 pub around : Around
@@ -49,7 +49,7 @@ around = record {
   destination = anywhere;
 }
 
-selectorOctets : List ℕ
+unfoldable pub selectorOctets : List ℕ
 selectorOctets = 7 ∷ 17 ∷ 0 ∷ 16 ∷ 3 ∷ 80 ∷ 3 ∷ 80 ∷ 239 ∷ 1 ∷ 1 ∷ 1 ∷ 239 ∷ 1 ∷ 1 ∷ 1 ∷ []
 
 -- the GSA payload: the policy with its two selectors, Key Length 128 in the first transform
@@ -59,11 +59,11 @@ gsaOctets =
     (3 ∷ 0 ∷ 0 ∷ 12 ∷ 1 ∷ 0 ∷ 0 ∷ 20 ∷ 128 ∷ 14 ∷ 0 ∷ 128 ∷ 0 ∷ 0 ∷ 0 ∷ 8 ∷ 5 ∷ 0 ∷ 0 ∷ 0 ∷ [])))
 
 -- the first n octets of w, one by one
-firsts : ℕ → List ℕ → List ℕ
+unfoldable pub firsts : ℕ → List ℕ → List ℕ
 firsts n w = gen (oct w) 0 n
 
 -- WRAP_KEY with 24 wrapped octets
-entryOctets : ℕ → ℕ → List ℕ → List ℕ
+unfoldable pub entryOctets : ℕ → ℕ → List ℕ → List ℕ
 entryOctets i k w = (0 ∷ 1 ∷ 0 ∷ 32 ∷ 0 ∷ 0 ∷ 0 ∷ i ∷ 0 ∷ 0 ∷ 0 ∷ k ∷ []) ++ firsts 24 w
 
 -- a frame of h * 256 + n octets, its KD payload of d and its Member bag of m
@@ -92,15 +92,8 @@ unfolding frame payload body policy suite saBody selector transform bag attribut
     selectorOctets gsaOctets firsts entryOctets registrationOctets
 three-read w a b c = refl
 
-path-read : (w a b c : List ℕ) →
-    frame (registrationOctets 1 4 168 112 w (entryOctets 1 3 a ++ (entryOctets 3 7 b ++ entryOctets 7 0 c)))
-    ≡ whole (registering around (firsts 32 w) (entry 1 3 (firsts 24 a) ∷ entry 3 7 (firsts 24 b) ∷ entry 7 0 (firsts 24 c) ∷ [])) []
-unfolding frame payload body policy suite saBody selector transform bag attribute many chain chainUpTo number valuesOf group anywhere around
-    selectorOctets gsaOctets firsts entryOctets registrationOctets
-path-read w a b c = refl
-
 -- ---- keys of 16 octets wrap to 24, the 20 keying octets to 32
-all-firsts : (n : ℕ) (w : List ℕ) → length w ≡ n → firsts n w ≡ w
+pub all-firsts : (n : ℕ) (w : List ℕ) → length w ≡ n → firsts n w ≡ w
 unfolding firsts
 all-firsts n w e = ap (gen (oct w) 0) (sym e) ∙ gen-all w
 
@@ -110,12 +103,12 @@ wrapped-32 key x k h =
     all-firsts 32 (wrapOf key x)
     (length-wrap key x k (h .octets) (omega arith) (omega arith) ∙ ap (λ (m : ℕ). 8 * (blocks m + 1)) n)
 
-wrapped-24 : (key v : List ℕ) → Key key → Key v → length v ≡ 16 → firsts 24 (wrapOf key v) ≡ wrapOf key v
+pub wrapped-24 : (key v : List ℕ) → Key key → Key v → length v ≡ 16 → firsts 24 (wrapOf key v) ≡ wrapOf key v
 wrapped-24 key v k h n =
     all-firsts 24 (wrapOf key v) (length-wrap key v k (h .small) (omega arith) (omega arith) ∙ ap (λ (m : ℕ). 8 * (blocks m + 1)) n)
 
 -- ---- they are octets
-literal-octets : (l : List ℕ) → all (λ (o : ℕ). ltb o 256) l ≡ true → Octets l
+pub literal-octets : (l : List ℕ) → all (λ (o : ℕ). ltb o 256) l ≡ true → Octets l
 unfolding all
 literal-octets [] e = no-octets
 literal-octets (o ∷ l) e =
@@ -127,7 +120,7 @@ wrapped-octets key x k o = subst Octets (sym (wrap-registers key x k o)) (octets
 firsts-octets : (n : ℕ) (w : List ℕ) → length w ≡ n → Octets w → Octets (firsts n w)
 firsts-octets n w e o = subst Octets (sym (all-firsts n w e)) o
 
-entry-octets : (i k : ℕ) (w : List ℕ) → i < 256 → k < 256 → Octets (firsts 24 w) → Octets (entryOctets i k w)
+pub entry-octets : (i k : ℕ) (w : List ℕ) → i < 256 → k < 256 → Octets (firsts 24 w) → Octets (entryOctets i k w)
 unfolding entryOctets all
 entry-octets i k w a b o =
     join-octets (0 ∷ 1 ∷ 0 ∷ 32 ∷ 0 ∷ 0 ∷ 0 ∷ i ∷ 0 ∷ 0 ∷ 0 ∷ k ∷ []) (firsts 24 w)
@@ -205,27 +198,6 @@ module _ (lent x v₉ : List ℕ) (key : Key lent) (size : length lent ≡ 16) (
         ∙ (λ i.
         whole (registering around (x-is i)
         (entry 5 0 (under lent v key kv i) ∷ entry 5 9 (under v₉ w (w₉ .key) kw i) ∷ entry 9 0 (under lent v₉ key w₉ i) ∷ [])) []);
-  }
-
-  pub tree-read : (v₁ v₃ : List ℕ) → Wrapping lent v₁ → Wrapping lent v₃ →
-      Read (registering around (wrapOf lent x)
-      (entry 1 3 (wrapOf v₃ v₁) ∷ entry 3 7 (wrapOf v₉ v₃) ∷ entry 7 0 (wrapOf lent v₉) ∷ []))
-  tree-read v₁ v₃ k₁ k₃ = record {
-    octets = registrationOctets 1 4 168 112 (wrapOf lent x)
-        (entryOctets 1 3 (wrapOf v₃ v₁) ++ (entryOctets 3 7 (wrapOf v₉ v₃) ++ entryOctets 7 0 (wrapOf lent v₉)));
-    small =
-        let a = entryOctets 1 3 (wrapOf v₃ v₁) in
-        let b = entryOctets 3 7 (wrapOf v₉ v₃) in
-        let c = entryOctets 7 0 (wrapOf lent v₉) in
-        registration-octets 1 4 168 112 (wrapOf lent x) (a ++ (b ++ c)) (omega arith) (omega arith) (omega arith) (omega arith) x-octets
-        (join-octets a (b ++ c) (entry-octets 1 3 (wrapOf v₃ v₁) (omega arith) (omega arith) (under-octets v₃ v₁ (k₃ .key) k₁))
-        (join-octets b c (entry-octets 3 7 (wrapOf v₉ v₃) (omega arith) (omega arith) (under-octets v₉ v₃ (w₉ .key) k₃))
-        (entry-octets 7 0 (wrapOf lent v₉) (omega arith) (omega arith) (under-octets lent v₉ key w₉))));
-    reads =
-        path-read (wrapOf lent x) (wrapOf v₃ v₁) (wrapOf v₉ v₃) (wrapOf lent v₉)
-        ∙ (λ i.
-        whole (registering around (x-is i)
-        (entry 1 3 (under v₃ v₁ (k₃ .key) k₁ i) ∷ entry 3 7 (under v₉ v₃ (w₉ .key) k₃ i) ∷ entry 7 0 (under lent v₉ key w₉ i) ∷ [])) []);
   }
 
 pub circle-read : (lent x a b : List ℕ) → Key lent → Keying x → length a ≡ 24 → Octets a → length b ≡ 24 → Octets b →

@@ -1,4 +1,5 @@
 -- The registration in which the samples' entries stand is taken, with the held list that its entries lead to; or it is 8.
+use native.Mathlib.Omega.{arith}
 use Prim.Native.Nat.{ℕ, _≤_}
 use mathlib.Core.Path.{_≡_, refl, ap, sym, subst}
 use mathlib.Core.Bool.{false}
@@ -35,7 +36,7 @@ use Rattle.outcome.proofs.RunsLists.{none-passes}
 use Rattle.outcome.proofs.RunsClear.{Clear}
 use Rattle.outcome.proofs.SamplesAnswers.{outcome-0, outcome-8}
 use Rattle.outcome.proofs.SamplesFrame.{row-of, fresh-2, fresh-3, fresh-4, fresh-5, fresh-6, fresh-7}
-use Rattle.outcome.proofs.SamplesChains.{key-size, zeroRoot, oneCopy, copy-opens, no-eight, no-nine}
+use Rattle.outcome.proofs.SamplesChains.{key-size, zeroRoot, oneCopy, copy-opens, no-eight, no-nine, at-zero, ends-zero}
 
 -- ---- what chains go by in that frame
 module _ (r : Around) (now : ℕ) (lent w : List ℕ) (l : List WrapKey) where
@@ -54,11 +55,11 @@ module _ (r : Around) (now : ℕ) (lent w : List ℕ) (l : List WrapKey) where
   unfolding wrappingSize keyZero
   size-is = rw (row-of (r .auth))
 
-  sa-is : announcedAs f (espPolicy r) ≡ oneCopy w
+  sa-is : announcedAs f (espPolicy r) ≡ oneCopy 0 20 w
   unfolding gather copiesOf keep needOf encryptionOctets keyWrapOctets sum neededBy neededIn isRowOf
   sa-is = rw (eq-same (r .spi) (r .spi) refl)
 
-  keys-are : announcedKeys f ≡ oneCopy w ∷ []
+  keys-are : announcedKeys f ≡ oneCopy 0 20 w ∷ []
   unfolding announcedKeys gather
   keys-are = ap (λ (a : Announced). a ∷ []) sa-is
 
@@ -79,13 +80,13 @@ module _ (r : Around) (now : ℕ) (lent x octets : List ℕ) (l : List WrapKey) 
       never (eqb (e .keyId) 0) (eq-eqb (e .keyId) 0 i)
       (none-passes (λ (k : WrapKey). eqb (k .keyId) 0) l no-zero e (in-member e l m))
 
-  eight-is : EightOf limits (newState limits) now lent g ≡ Eight R l (length lent) (oneCopy w ∷ [])
+  eight-is : EightOf limits (newState limits) now lent g ≡ Eight R l (length lent) (oneCopy 0 20 w ∷ [])
   eight-is = λ i. Eight (roots-are r now lent w l i) (entries-are r now lent w l i) (size-is r now lent w l i) (keys-are r now lent w l i)
 
-  nine-is : NineOf limits (newState limits) now lent g ≡ Nine R l (length lent) (oneCopy w ∷ [])
+  nine-is : NineOf limits (newState limits) now lent g ≡ Nine R l (length lent) (oneCopy 0 20 w ∷ [])
   nine-is = λ i. Nine (roots-are r now lent w l i) (entries-are r now lent w l i) (size-is r now lent w l i) (keys-are r now lent w l i)
 
-  key-is : KeyOf R l (length lent) (oneCopy w) x ≡ KeyOf (rootsOf limits (newState limits) now lent g) (entriesOf g)
+  key-is : KeyOf R l (length lent) (oneCopy 0 20 w) x ≡ KeyOf (rootsOf limits (newState limits) now lent g) (entriesOf g)
       (wrappingSize limits (newState limits) now lent g) (announcedAs g (espPolicy r)) x
   key-is = sym (λ i.
       KeyOf (roots-are r now lent w l i) (entries-are r now lent w l i) (size-is r now lent w l i) (sa-is r now lent w l i) x)
@@ -106,8 +107,12 @@ module _ (r : Around) (now : ℕ) (lent x octets : List ℕ) (l : List WrapKey) 
       no-5 = fresh-5 r now w l lent (key-size (length lent) (key .size));
       no-6 = fresh-6 r now w l no-zero;
       no-7 = fresh-7 r now w l few;
-      no-8 = λ h. no-eight lent x key keying l not-zero none (subst (λ (A : Type 0). A) eight-is h);
-      no-9 = λ h. no-nine lent x key keying l not-zero (subst (λ (A : Type 0). A) nine-is h);
+      no-8 = λ h.
+          no-eight R l (length lent) 0 20 lent x key (keying .octets) (keying .size) (omega arith) (omega arith) (ends-zero lent l not-zero)
+          (at-zero lent l not-zero) none (subst (λ (A : Type 0). A) eight-is h);
+      no-9 = λ h.
+          no-nine R l (length lent) 0 20 lent x key (keying .octets) (keying .size) (omega arith) (omega arith) (ends-zero lent l not-zero)
+          (at-zero lent l not-zero) (subst (λ (A : Type 0). A) nine-is h);
     }
 
     Set : Type 0
@@ -125,7 +130,11 @@ module _ (r : Around) (now : ℕ) (lent x octets : List ℕ) (l : List WrapKey) 
     unfolding Set gather newState tableOf keep oldSas insertAll insert saFrom leastAfterwards any
     after-registers = record {
       new = saFrom (espPolicy r) x ∷ [];
-      enter = one-more x (subst (λ (A : Type 0). A) key-is (copy-opens lent x key keying l not-zero)) no-sa;
+      enter =
+          one-more x
+          (subst (λ (A : Type 0). A) key-is
+          (copy-opens R l (length lent) 0 20 lent x key (keying .octets) (keying .size) (omega arith) (omega arith)
+          (ends-zero lent l not-zero) (at-zero lent l not-zero))) no-sa;
       table = refl;
       held = subst (λ (e : Exchange). HeldBy (e .holds) Set (heldOf limits keys ≡ newState limits .held)) (sym (row-of (r .auth))) held-set;
       least = rw (row-of (r .auth));

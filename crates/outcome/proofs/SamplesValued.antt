@@ -13,7 +13,7 @@ use Rattle.keys.specs.Lists.{rising}
 use Rattle.attributes.specs.Tree.{WrapKey}
 use Rattle.state.specs.declared.held.HeldKey.{HeldKey}
 use Rattle.state.specs.Held.{heldOf, idBefore}
-use Rattle.chains.specs.Chain.{In, Root, Reached}
+use Rattle.chains.specs.Chain.{In, Root, Reached, Ends}
 use Rattle.chains.specs.Refusals.{EntriesEight, wrong-size, two-values}
 use Rattle.chains.proofs.Closure.{reached-first, reached-on}
 use Rattle.chains.proofs.Determined.{last-entry}
@@ -58,11 +58,14 @@ module _ (value : ℕ → List ℕ) (fit : (k : ℕ) → Wrapping (value 0) (val
       wraps-only (value (e .kwkId)) (value (e .keyId)) (fit (e .kwkId) .key) (fit (e .keyId) .key) x
       (subst (λ (w : List ℕ). Opens (value (e .kwkId)) w x) (wrapped e m) (subst (λ (z : List ℕ). Opens z (e .wrapped) x) q o))
 
-  valued : (k : ℕ) (y : List ℕ) → Reached R l size k y → y ≡ value k
-  valued k y r =
-      each-chain R l size (λ (i : ℕ) (v : List ℕ). v ≡ value i)
+  pub ended : (k : ℕ) (v : List ℕ) → Ends R l size k v → v ≡ value k
+  ended k v n =
+      each-chain R l size (λ (i : ℕ) (y : List ℕ). y ≡ value i)
       (λ a m. subst (λ (z : Root). z .value ≡ value (z .id)) (sym (List·Memᴰ·eq-of-singleton (in-member a R m))) refl) gives
-      (r .last ∷ r .before) k y (r .chain)
+      (n .passed) k v (n .chain)
+
+  valued : (k : ℕ) (y : List ℕ) → Reached R l size k y → y ≡ value k
+  valued k y r = ended k y (record { passed = r .last ∷ r .before; chain = r .chain })
 
   pub no-fault : EntriesEight R l size → ⊥
   no-fault (wrong-size k y r n) = n (ap length (valued k y r) ∙ fit k .size)

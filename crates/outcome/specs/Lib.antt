@@ -9,3 +9,4 @@ pub mod EightSays
 pub mod Meets
 pub mod RestSays
 pub mod Demand3
+pub mod Stands

@@ -1,6 +1,6 @@
 -- DOCUMENT 01'S SAMPLES MARKED P, one row each, with what it says of the definitions, and one row of ours. "What a sample does not mention
--- is fit; entries stand in a registration." No row assumes that something opens: what opens is the wrapping of any octets under any key, and
--- octets are any that read as the row's frame.
+-- is fit; entries stand in a registration." No row assumes that something opens: what opens is the wrapping of any octets under any key,
+-- and octets are any that are laid out as the row's frame.
 use Prim.Native.Nat.{ℕ, _≤_}
 use mathlib.Core.Path.{_≡_}
 use mathlib.Core.Bool.{Bool, true, false, cond}
@@ -11,7 +11,7 @@ use Rattle.octets.specs.Walk.{whole, mapped}
 use Rattle.fips197.specs.Key.{Key}
 use Rattle.keywrap.specs.Wrap.{wrapOf}
 use Rattle.keys.specs.Limits.{limits}
-use Rattle.keys.specs.Kinds.{wrappingOf, espOf}
+use Rattle.keys.specs.Kinds.{wrappingOf, espOf, rekeyOf}
 use Rattle.attributes.specs.Place.{inTransform}
 use Rattle.attributes.specs.Tree.{WrapKey, keyLengths}
 use Rattle.attributes.specs.Layout.{attributes}
@@ -21,7 +21,7 @@ use Rattle.bags.specs.Bag.{groupKeys, memberKeys}
 use Rattle.frames.specs.Frame.{Frame, Payload, Content, gsa, kd, delete}
 use Rattle.frames.specs.Grammar.{IsFrame}
 use Rattle.sa.specs.Clock.{elapsed}
-use Rattle.sa.specs.Entry.{due, espSa}
+use Rattle.sa.specs.Entry.{due, espSa, rekeySa}
 use Rattle.sa.specs.declared.entry.Condition.the-variants.{Retiring}
 use Rattle.sa.specs.declared.entry.Sa.{Sa}
 use Rattle.table.specs.Table.{tableOf}
@@ -31,6 +31,7 @@ use Rattle.state.specs.declared.held.HeldKey.{HeldKey}
 use Rattle.state.specs.Held.{heldOf}
 use Rattle.state.specs.Least.{acceptable}
 use Rattle.state.specs.State.{newState, stateFormed}
+use Rattle.clauses.specs.Fitness.{oneGroupAddress}
 use Rattle.outcome.specs.Outcome.{Outcome}
 use Rattle.outcome.specs.Run.{Step, Run, Throughout, LiveRekey}
 
@@ -155,12 +156,6 @@ TwoSteps = (r : Around) (now : ℕ) (lent x v₅ v₉ octets : List ℕ) → Wra
     Registers r lent x (entry 5 9 (wrapOf v₉ v₅) ∷ entry 9 0 (wrapOf lent v₉) ∷ []) octets →
     Outcome limits (newState limits) now lent octets 0 (registered r x (heldWith 5 v₅ ∷ heldWith 9 v₉ ∷ []))
 
--- RFC 9838, Appendix A.2, the Member Key Bag of member A: "MP(3{1},7{3},GSK_w{7})", "the Key Path K_sa1->1->3->7->GSK_w"
-abbrev KeyTree : Type 0
-KeyTree = (r : Around) (now : ℕ) (lent x v₁ v₃ v₇ octets : List ℕ) → Wrapping lent v₁ → Wrapping lent v₃ → Wrapping lent v₇ →
-    Registers r lent x (entry 1 3 (wrapOf v₃ v₁) ∷ entry 3 7 (wrapOf v₇ v₃) ∷ entry 7 0 (wrapOf lent v₇) ∷ []) octets →
-    Outcome limits (newState limits) now lent octets 0 (registered r x (heldWith 1 v₁ ∷ heldWith 3 v₃ ∷ heldWith 7 v₇ ∷ []))
-
 -- whatever is wrapped
 abbrev Circle : Type 0
 Circle = (r : Around) (now : ℕ) (lent x w₅ w₉ octets : List ℕ) → Registers r lent x (entry 5 9 w₅ ∷ entry 9 5 w₉ ∷ []) octets →
@@ -177,6 +172,53 @@ abbrev LentOf28 : Type 0
 LentOf28 = (r : Around) (now : ℕ) (lent wrapped octets : List ℕ) (entries : List WrapKey) → length lent ≡ 28 →
     IsFrame octets (registering r wrapped entries) →
     Outcome limits (newState limits) now lent octets 5 (newState limits)
+
+-- ---- RFC 9838, Appendix A.2: a registration that announces one Rekey SA with AES-GCM-16 of 128 bits, KW_5649_128 and implicit
+-- authentication, its SA_KEY under KWK ID 1
+abbrev pub rekeyPolicy : Around → GroupSaPolicy
+rekeyPolicy r = record {
+  protocol = 6;
+  spi = r .spi;
+  source = r .source;
+  destination = r .destination;
+  transforms = record { kind = 1; id = 20; keyLengths = 128 ∷ [] } ∷ record { kind = 13; id = 1; keyLengths = [] }
+      ∷ record { kind = 14; id = 1; keyLengths = [] } ∷ [];
+  initialMessageIds = [];
+}
+
+abbrev pub creating : Around → List ℕ → List WrapKey → Frame
+creating r wrapped entries = record {
+  header = record { spi = r .spis; exchange = cond (r .auth) 39 40; messageId = r .messageId };
+  payloads =
+      payload 51 (gsa (groupSa (rekeyPolicy r) ∷ []))
+      ∷ payload 52 (kd (groupKeys (record {
+        protocol = 6;
+        spi = r .spi;
+        keys = record { keyId = 0; kwkId = 1; wrapped = wrapped } ∷ [];
+      }) ∷ memberKeys (record { keys = entries }) ∷ []))
+      ∷ [];
+}
+
+-- the member after it: the Rekey SA with its keying octets x, 20 to encrypt and 16 to wrap, the held keys
+abbrev pub created : Around → List ℕ → List HeldKey → State
+created r x l = record { table = tableOf limits (rekeySa (r .spi) (rekeyOf x 20 16) ∷ []); held = heldOf limits l; least = Id 0 }
+
+-- the member A: "KD(GP(SA1)(1{K_sa1}),MP(3{1},7{3},GSK_w{7})", "the Key Path K_sa1->1->3->7->GSK_w"
+pub record Creates (r : Around) (lent x v₁ v₃ v₇ octets : List ℕ) : Type 0 where
+  pub key : Key lent
+  pub group : oneGroupAddress (r .destination) ≡ true
+  pub size : length x ≡ 36
+  pub small : Octets x
+  pub first : Wrapping lent v₁
+  pub second : Wrapping lent v₃
+  pub third : Wrapping lent v₇
+  pub reads :
+      IsFrame octets
+      (creating r (wrapOf v₁ x) (entry 1 3 (wrapOf v₃ v₁) ∷ entry 3 7 (wrapOf v₇ v₃) ∷ entry 7 0 (wrapOf lent v₇) ∷ []))
+
+abbrev KeyTree : Type 0
+KeyTree = (r : Around) (now : ℕ) (lent x v₁ v₃ v₇ octets : List ℕ) → Creates r lent x v₁ v₃ v₇ octets →
+    Outcome limits (newState limits) now lent octets 0 (created r x (heldWith 1 v₁ ∷ heldWith 3 v₃ ∷ heldWith 7 v₇ ∷ []))
 
 -- ---- the attribute, in a type 1 transform at any offset
 abbrev KeyLength128 : Type 0
@@ -203,7 +245,8 @@ pub data Sample : Type 0 where
   lent-of-28 : Sample
   -- "octets 80 0e 00 80 read as Key Length 128"
   key-length-128 : Sample
-  -- NOT OF DOCUMENT 01, ours beside its nine: entries (1 under 3), (3 under 7), (7 under 0), all opening: held 1, 3, 7
+  -- NOT OF DOCUMENT 01, ours beside its nine: a Rekey SA's key under 1, entries (1 under 3), (3 under 7), (7 under 0), all opening: taken,
+  -- held 1, 3, 7
   key-tree : Sample
 
 abbrev pub Says : Sample → Type 0
