@@ -3,11 +3,31 @@ use crate::facts::Facts;
 use frames::exchanges::Exchange;
 ghost use mathlib.Core.Path.{_≡_};
 ghost use Rattle.clauses.specs.Refusals.{one};
-ghost use Rattle.judging.specs.inner.Tests.{fourBy};
+ghost use Rattle.judging.specs.inner.Tests.{fourBy, fourIn};
 
-// Whether number 4 applies, in an exchange with this row, to a frame with these facts. Internal.
-pub fn number_4(row: Exchange, x: Facts) -> bool
-    ensures { λ r. ⌜ r ≡ one (fourBy row x) ⌝ }
+// The clauses of number 4, in the order in which document 01 names them: whether each applies.
+pub struct Four {
+    pub critical: bool,
+    pub member_bag: bool,
+    pub delete: bool,
+    pub two_gsa: bool,
+    pub two_kd: bool,
+    pub gsa_alone: bool,
+    pub kd_alone: bool,
+    pub neither: bool,
+    pub rekeys: bool,
+    pub wides: bool,
+    pub members: bool,
+    pub no_sa: bool,
+    pub lengths: bool,
+    pub ids: bool,
+    pub delays: bool,
+    pub elsewhere: bool,
+}
+
+// Which clauses apply, in an exchange with this row, to a frame with these facts. Internal.
+pub fn clauses_4(row: Exchange, x: Facts) -> Four
+    ensures { λ r. ⌜ fourIn r ≡ fourBy row x ⌝ }
 {
     let b = x.payloads;
     let p = x.policies;
@@ -41,20 +61,45 @@ pub fn number_4(row: Exchange, x: Facts) -> bool
     let delays = p.delays;
     // "a Rekey destination that isn't one address (start equals end) in 224.0.0.0/4 or ff00::/8 and one port"
     let elsewhere = p.elsewhere;
-    critical
-        | member_bag
-        | delete
-        | two_gsa
-        | two_kd
-        | gsa_alone
-        | kd_alone
-        | neither
-        | rekeys
-        | wides
-        | members
-        | no_sa
-        | lengths
-        | ids
-        | delays
-        | elsewhere
+    Four {
+        critical,
+        member_bag,
+        delete,
+        two_gsa,
+        two_kd,
+        gsa_alone,
+        kd_alone,
+        neither,
+        rekeys,
+        wides,
+        members,
+        no_sa,
+        lengths,
+        ids,
+        delays,
+        elsewhere,
+    }
+}
+
+// Whether number 4 applies, in an exchange with this row, to a frame with these facts. Internal.
+pub fn number_4(row: Exchange, x: Facts) -> bool
+    ensures { λ r. ⌜ r ≡ one (fourBy row x) ⌝ }
+{
+    let c = clauses_4(row, x);
+    c.critical
+        | c.member_bag
+        | c.delete
+        | c.two_gsa
+        | c.two_kd
+        | c.gsa_alone
+        | c.kd_alone
+        | c.neither
+        | c.rekeys
+        | c.wides
+        | c.members
+        | c.no_sa
+        | c.lengths
+        | c.ids
+        | c.delays
+        | c.elsewhere
 }

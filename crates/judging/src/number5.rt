@@ -4,11 +4,21 @@ use frames::exchanges::Exchange;
 use keys::kinds::WrappingKey;
 ghost use mathlib.Core.Path.{_≡_};
 ghost use Rattle.clauses.specs.Refusals.{one};
-ghost use Rattle.judging.specs.inner.Tests.{fiveBy};
+ghost use Rattle.judging.specs.inner.Tests.{fiveBy, fiveIn};
 
-// Whether number 5 applies, in an exchange with this row and with a lent key of so many octets, to a frame with these facts. Internal.
-pub fn number_5(row: Exchange, lent: usize, x: Facts) -> bool
-    ensures { λ r. ⌜ r ≡ one (fiveBy row lent x) ⌝ }
+// The clauses of number 5, in the order in which document 01 names them: whether each applies.
+pub struct Five {
+    pub ah_policy: bool,
+    pub ah_bag: bool,
+    pub unfit: bool,
+    pub other: bool,
+    pub none: bool,
+    pub key: bool,
+}
+
+// Which clauses apply, in an exchange with this row and with a lent key of so many octets, to a frame with these facts. Internal.
+pub fn clauses_5(row: Exchange, lent: usize, x: Facts) -> Five
+    ensures { λ r. ⌜ fiveIn r ≡ fiveBy row lent x ⌝ }
 {
     let b = x.payloads;
     let d = b.deletion;
@@ -24,5 +34,20 @@ pub fn number_5(row: Exchange, lent: usize, x: Facts) -> bool
     let none = d.none;
     // "a lent default key not of 16, 24 or 32 octets in a registration"
     let key = row.lent & !WrappingKey::is_size(lent);
-    ah_policy | ah_bag | unfit | other | none | key
+    Five {
+        ah_policy,
+        ah_bag,
+        unfit,
+        other,
+        none,
+        key,
+    }
+}
+
+// Whether number 5 applies, in an exchange with this row and with a lent key of so many octets, to a frame with these facts. Internal.
+pub fn number_5(row: Exchange, lent: usize, x: Facts) -> bool
+    ensures { λ r. ⌜ r ≡ one (fiveBy row lent x) ⌝ }
+{
+    let c = clauses_5(row, lent, x);
+    c.ah_policy | c.ah_bag | c.unfit | c.other | c.none | c.key
 }

@@ -11,11 +11,19 @@ ghost use Rattle.keys.specs.Limits.{limits};
 ghost use Rattle.table.specs.Table.{sasOf};
 ghost use Rattle.pairing.specs.inner.Names.{Name, Names};
 ghost use Rattle.clauses.specs.Refusals.{one};
-ghost use Rattle.judging.specs.inner.Tests.{keysBy, sixBy};
+ghost use Rattle.judging.specs.inner.Tests.{keysBy, keysIn, sixBy};
 
-// Whether one of number 6's clauses on the keys of the bags applies, in an exchange with this row.
-fn any_unfit_key(row: Exchange, k: BagFacts) -> bool
-    ensures { λ r. ⌜ r ≡ one (keysBy row k) ⌝ }
+// The clauses of number 6 on the keys of the bags, in the order in which document 01 names them: whether each applies.
+pub struct Keys {
+    pub count: bool,
+    pub named: bool,
+    pub nested: bool,
+    pub unnamed: bool,
+}
+
+// Which clauses on the keys apply, in an exchange with this row, to bags with these facts. Internal.
+pub fn clauses_6(row: Exchange, k: BagFacts) -> Keys
+    ensures { λ r. ⌜ keysIn r ≡ keysBy row k ⌝ }
 {
     // "SA_KEY count not 1 (for a Rekey SA in a rekey: 0)"
     let count = k.keyless | k.several | (!row.copies & k.copied);
@@ -25,7 +33,20 @@ fn any_unfit_key(row: Exchange, k: BagFacts) -> bool
     let nested = k.nested;
     // "WRAP_KEY with Key ID 0"
     let unnamed = k.unnamed;
-    count | named | nested | unnamed
+    Keys {
+        count,
+        named,
+        nested,
+        unnamed,
+    }
+}
+
+// Whether one of number 6's clauses on the keys of the bags applies, in an exchange with this row. Internal.
+pub fn any_unfit_key(row: Exchange, k: BagFacts) -> bool
+    ensures { λ r. ⌜ r ≡ one (keysBy row k) ⌝ }
+{
+    let c = clauses_6(row, k);
+    c.count | c.named | c.nested | c.unnamed
 }
 
 // Whether number 6 applies, in an exchange with this row and over this table, to a frame with these facts and these bodies of GSA and KD.

@@ -9,7 +9,7 @@ ghost use Prim.Native.Nat.{_+_};
 ghost use lib.Dec.{ltb};
 ghost use Rattle.keys.specs.Limits.{limits};
 ghost use Rattle.clauses.specs.Refusals.{one};
-ghost use Rattle.judging.specs.inner.Tests.{sevenBy};
+ghost use Rattle.judging.specs.inner.Tests.{sevenBy, sevenIn};
 
 // Whether so many SAs that stand and so many more are too many for the table.
 fn is_over(standing: usize, more: usize) -> bool
@@ -21,9 +21,18 @@ fn is_over(standing: usize, more: usize) -> bool
     SAS - standing < more
 }
 
-// Whether number 7 applies to a frame with these facts, where so many SAs stand. Internal.
-pub fn number_7(x: Facts, standing: usize) -> bool
-    ensures { λ r. ⌜ r ≡ one (sevenBy limits x standing) ⌝ }
+// The clauses of number 7, in the order in which document 01 names them: whether each applies.
+pub struct Seven {
+    pub esps: bool,
+    pub wraps: bool,
+    pub overfull: bool,
+    pub spis: bool,
+    pub sas: bool,
+}
+
+// Which clauses apply to a frame with these facts, where so many SAs stand. Internal.
+pub fn clauses_7(x: Facts, standing: usize) -> Seven
+    ensures { λ r. ⌜ sevenIn r ≡ sevenBy limits x standing ⌝ }
 {
     let b = x.payloads;
     let d = b.deletion;
@@ -39,5 +48,19 @@ pub fn number_7(x: Facts, standing: usize) -> bool
     let spis = DELETED_SPIS < d.spis;
     // "or over 16 SAs after the frame, those already due when it arrives not counted"
     let sas = is_over(standing, p.sas);
-    esps | wraps | overfull | spis | sas
+    Seven {
+        esps,
+        wraps,
+        overfull,
+        spis,
+        sas,
+    }
+}
+
+// Whether number 7 applies to a frame with these facts, where so many SAs stand. Internal.
+pub fn number_7(x: Facts, standing: usize) -> bool
+    ensures { λ r. ⌜ r ≡ one (sevenBy limits x standing) ⌝ }
+{
+    let c = clauses_7(x, standing);
+    c.esps | c.wraps | c.overfull | c.spis | c.sas
 }

@@ -14,6 +14,10 @@ use Rattle.composition.specs.declared.PolicyFacts.{PolicyFacts}
 use Rattle.bagkeys.specs.declared.BagFacts.{BagFacts}
 use Rattle.pairing.specs.inner.Names.{Name, isUnpaired, isAnnounced}
 use Rattle.judging.specs.declared.facts.Facts.{Facts}
+use Rattle.judging.specs.declared.number4.Four.{Four}
+use Rattle.judging.specs.declared.number5.Five.{Five}
+use Rattle.judging.specs.declared.number6.Keys.{Keys}
+use Rattle.judging.specs.declared.number7.Seven.{Seven}
 
 -- critical, a barred Member bag, a barred D, two GSA, two KD, one without the other, neither; several Rekey policies, group-wide policies,
 -- Member bags; a GSA with no SA policy; Key Length, GSA_INITIAL_MESSAGE_ID, the delay twice; the Rekey destination
@@ -55,3 +59,18 @@ sixBy row x l m now sas = sixOf row (x .bags) l m now sas
 
 abbrev pub sevenBy : Limits → Facts → ℕ → List Bool
 sevenBy limits x standing = sevenOf limits (x .payloads .deletion) (x .policies) (x .bags) standing
+
+-- ---- the clauses that code tells by name, as such lists
+abbrev pub fourIn : Four → List Bool
+fourIn c =
+    c .critical ∷ c .«member_bag» ∷ c .delete ∷ c .«two_gsa» ∷ c .«two_kd» ∷ c .«gsa_alone» ∷ c .«kd_alone» ∷ c .neither ∷ c .rekeys ∷ c .wides
+    ∷ c .members ∷ c .«no_sa» ∷ c .lengths ∷ c .ids ∷ c .delays ∷ c .elsewhere ∷ []
+
+abbrev pub fiveIn : Five → List Bool
+fiveIn c = c .«ah_policy» ∷ c .«ah_bag» ∷ c .unfit ∷ c .other ∷ c .none ∷ c .key ∷ []
+
+abbrev pub keysIn : Keys → List Bool
+keysIn c = c .count ∷ c .named ∷ c .nested ∷ c .unnamed ∷ []
+
+abbrev pub sevenIn : Seven → List Bool
+sevenIn c = c .esps ∷ c .wraps ∷ c .overfull ∷ c .spis ∷ c .sas ∷ []

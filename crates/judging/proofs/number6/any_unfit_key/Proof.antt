@@ -1,10 +1,17 @@
+use mathlib.Core.Path.{ap, _∙_}
+use Rattle.clauses.specs.Refusals.{one}
+use Rattle.judging.specs.inner.Tests.{keysIn}
 use Rattle.judging.proofs.Tests.{joined, joinedTo, joined-is}
+use borrow.Author.Needs.{needs}
 use Rattle.judging.proofs.number6.any_unfit_key.Statement.{statement}
 use Rattle.judging.proofs.number6.any_unfit_key.Tie as tie
 
+clauses-6-requires : tie.Need-clauses-6-requires
+clauses-6-requires c κs = search needs
+
 returns : tie.Need-returns
 unfolding joined joinedTo
-returns c = joined-is _
+returns c = let r = c .before .before .before .clauses-6 in joined-is (keysIn (r .result)) ∙ ap one (r .ensures)
 
 pub any-unfit-key-spec : {M : Type 1} → statement M
-any-unfit-key-spec = tie.close (tie.spec returns)
+any-unfit-key-spec = tie.close (tie.spec clauses-6-requires returns)
