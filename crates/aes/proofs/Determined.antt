@@ -25,6 +25,10 @@ Words s = (i : ℕ) → getD s i 0 < 4294967296
 wordAt : ℕ → List ℕ → ℕ
 wordAt k s = wordOf (oct s (4 * k)) (oct s (4 * k + 1)) (oct s (4 * k + 2)) (oct s (4 * k + 3))
 
+-- round key r of an inverse schedule, in the block's order
+abbrev inverseKey : List ℕ → ℕ → List ℕ
+inverseKey s r = blockOf (swappedOf (keyOf s r))
+
 -- a state of words is that of its octets
 same-state : (p q : State) → ((p .a < 4294967296) × (p .b < 4294967296) × (p .c < 4294967296) × (p .d < 4294967296))
     → ((q .a < 4294967296) × (q .b < 4294967296) × (q .c < 4294967296) × (q .d < 4294967296)) → blockOf p ≡ blockOf q → p ≡ q
@@ -43,7 +47,7 @@ module _ (s t : List ℕ) (small : Words s) (small′ : Words t) where
       same-state (keyOf s r) (keyOf t r) (small (4 * r), small (4 * r + 1), small (4 * r + 2), small (4 * r + 3))
       (small′ (4 * r), small′ (4 * r + 1), small′ (4 * r + 2), small′ (4 * r + 3))
 
-  same-swapped : (r : ℕ) → blockOf (swappedOf (keyOf s r)) ≡ blockOf (swappedOf (keyOf t r)) → keyOf s r ≡ keyOf t r
+  same-swapped : (r : ℕ) → inverseKey s r ≡ inverseKey t r → keyOf s r ≡ keyOf t r
   same-swapped r e =
       ap swappedOf (same-state (swappedOf (keyOf s r)) (swappedOf (keyOf t r))
       (small (4 * r), small (4 * r + 3), small (4 * r + 2), small (4 * r + 1))
@@ -86,11 +90,7 @@ module _ (s t : List ℕ) (small : Words s) (small′ : Words t) where
       same-words (roundsOf key) (x .size) (y .size) (x .rounds ∙ sym (y .rounds)) (λ r l. same-swapped r (at r l (eq-or-lt-of-le l)))
       (x .unused) (y .unused)
     where
-      n : ℕ
-      n = roundsOf key
-
-      at : (r : ℕ) → r ≤ n → (r ≡ n) ⊎ (r < n) → blockOf (swappedOf (keyOf s r)) ≡ blockOf (swappedOf (keyOf t r))
-      at r l (inl e) =
-          ap (λ (j : ℕ). blockOf (swappedOf (keyOf s j))) e ∙ x .last ∙ sym (y .last) ∙ ap (λ (j : ℕ). blockOf (swappedOf (keyOf t j))) (sym e)
+      at : (r : ℕ) → r ≤ roundsOf key → (r ≡ roundsOf key) ⊎ (r < roundsOf key) → inverseKey s r ≡ inverseKey t r
+      at r l (inl e) = ap (inverseKey s) e ∙ x .last ∙ sym (y .last) ∙ ap (inverseKey t) (sym e)
       at zero l (inr h) = x .first ∙ sym (y .first)
       at (suc r) l (inr h) = x .between (suc r) (omega arith) h ∙ sym (y .between (suc r) (omega arith) h)
