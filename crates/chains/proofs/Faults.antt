@@ -1,5 +1,5 @@
--- WHAT IS NO FAULT: "An entry that fails the check, or whose KWK ID names no key, leads nowhere and is no fault." One that does not
--- open may stand anywhere among the others: the same keys are reached, the same copies open, and number 8 holds as without it.
+-- WHAT IS NO FAULT: "An entry that fails the RFC 5649 check leads nowhere and is no fault." One that does not open, or whose KWK ID names
+-- no key, may stand anywhere among the others: the same keys are reached, the same copies open, and number 8 holds as without it.
 use Prim.Native.Nat.{ℕ}
 use mathlib.Core.Path.{_≡_, sym, subst}
 use mathlib.Core.Logic.{_⊎_, inr, ⊎-elim, _↔_}

@@ -23,8 +23,8 @@ use Rattle.clauses.specs.Number6.{bagNamed}
 use Rattle.chains.specs.Chain.{Root}
 use Rattle.chains.specs.Refusals.{Announced}
 
--- "Registration frames come with a lent default key; GSA_REKEY frames use the live Rekey SA's own, and the lent one is not read": that SA's
--- default key, of the table as it stands at the tick
+-- "Registration frames .. come with a lent default key; GSA_REKEY frames use the live Rekey SA's own, and the lent one is not read": that
+-- SA's default key, of the table as it stands at the tick
 abbrev pub ownKey : Limits → State → ℕ → List ℕ
 ownKey limits s now = valueOf (defaultKey limits (swept limits now (s .table)) .key)
 
