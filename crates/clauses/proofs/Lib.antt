@@ -1,5 +1,6 @@
 pub mod AnyOrder
 pub mod Contents
+pub mod ExchangeRows
 pub mod First
 pub mod OneOf
 pub mod BrokenMembers

@@ -6,7 +6,6 @@ use mathlib.Core.Bool.{Bool, true, false, not, _&&_, _||_, and-false, false≢tr
 use mathlib.Core.List.{List, []}
 use borrow.Author.Tests.{eqb-true, ne-eqb, not-false}
 use lib.Dec.{eqb, leb}
-use Rattle.octets.specs.Walk.{either}
 use Rattle.octets.specs.Compare.{same}
 use Rattle.octets.proofs.Order.{same-eq}
 use Rattle.keys.specs.Limits.{Limits}
@@ -15,7 +14,7 @@ use Rattle.keys.proofs.Cases.{bool-cases, and-parts}
 use Rattle.keys.proofs.Members.{member-kept, kept-member}
 use Rattle.frames.specs.Frame.{Frame}
 use Rattle.frames.specs.Grammar.{IsFrame}
-use Rattle.frames.specs.Exchange.{registration, rekey, other}
+use Rattle.frames.specs.Exchange.{exchangeOf, rekey}
 use Rattle.frames.specs.declared.exchanges.Exchange.{Exchange}
 use Rattle.sa.specs.Entry.{esp, named, isLive, liveRekey, dueBy, due}
 use Rattle.sa.specs.Entry as entry
@@ -36,6 +35,7 @@ use Rattle.outcome.specs.After.{newRekey, namedInDelete, replaced, retir
 use Rattle.outcome.specs.Run.{LiveRekey}
 use Rattle.outcome.proofs.RunsLists.{member-map, all-pass, count-none, none-passes, passes-none, some-passes, passes-some}
 use Rattle.clauses.proofs.Clear.{no-clause}
+use Rattle.clauses.proofs.ExchangeRows.{by-row}
 use Rattle.outcome.proofs.RunsClear.{None, Clear}
 use Rattle.outcome.proofs.RunsMade.{made-any}
 use Rattle.outcome.proofs.RunsTable.{any-all}
@@ -103,12 +103,12 @@ module _ (limits : Limits) where
       (λ g. g)
 
 -- an exchange that is taken and does not ask for an empty member is the rekey
-rekey-rows : (a b c empty : Bool) → let x = either a registration (either b registration (either c rekey other)) in
-    not (x .admitted) ≡ false → breaksWanted (x .member) empty ≡ false → empty ≡ false → x ≡ rekey
-rekey-rows true b c d e f g = absurd (false≢true (sym (sym (ap not g) ∙ f)))
-rekey-rows false true c d e f g = absurd (false≢true (sym (sym (ap not g) ∙ f)))
-rekey-rows false false true d e f g = refl
-rekey-rows false false false d e f g = absurd (false≢true (sym e))
+rekey-rows : (x : ℕ) (empty : Bool) → not (exchangeOf x .admitted) ≡ false → breaksWanted (exchangeOf x .member) empty ≡ false →
+    empty ≡ false → exchangeOf x ≡ rekey
+rekey-rows x empty e w g =
+    by-row (exchangeOf x ≡ rekey) x
+    (λ q r. let k : not empty ≡ false = rw r at w in absurd (false≢true (sym k ∙ ap not g))) (λ q r. r)
+    (λ r. absurd (false≢true (sym (rw r at e))))
 
 -- ---- when a frame is accepted
 -- a Rekey SA retires for a new Rekey SA alone
@@ -181,5 +181,5 @@ module _ (limits : Limits) (s : State) (now : ℕ) (lent : List ℕ) (f : Frame)
     unfolding nonEmptyMember
     was-rekey =
         let y = f .header .exchange in
-        rekey-rows (eqb y 39) (eqb y 40) (eqb y 41) (emptyAt limits now (s .table)) (no-clause (two-ofFrame y) 0 (c .no-2 .ofFrame))
+        rekey-rows y (emptyAt limits now (s .table)) (no-clause (two-ofFrame y) 0 (c .no-2 .ofFrame))
         (no-clause (two-ofMember limits s now y (f .header .spi)) 0 (c .no-2 .ofMember)) (live-not-empty limits x s now l)
