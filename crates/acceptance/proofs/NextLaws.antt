@@ -97,11 +97,11 @@ module _ (s g : List ℕ) (least : LeastAfter) (id : ℕ) (f : Frame) (t : Told 
     pub rekey-told : newRekey f ≡ r .there
     rekey-told = ap (λ (l : List Policy). any isRekey (gather saOf l)) (t .policies) ∙ sym (k .there)
 
-    pub least-told : cond (r .there) (Id (r .initial)) (leastBy least id) ≡ leastAfterwards f
+    pub least-told : (m : State) → cond (r .there) (Id (r .initial)) (leastBy least id (m .least)) ≡ leastAfterwards m f
     unfolding leastAfterwards initialMessageId initialIn
-    least-told =
+    least-told m =
         let i : r .initial ≡ initialMessageId f = k .initial ∙ ap initialIn (sym (t .policies)) in
-        λ j. cond (sym rekey-told j) (Id (i j)) (leastBy (sym (t .least-is) j) (sym (t .id-is) j))
+        λ j. cond (sym rekey-told j) (Id (i j)) (leastBy (sym (t .least-is) j) (sym (t .id-is) j) (m .least))
 
 -- ---- there is room for the new ones, and the table is that of these SAs
 module _ (m : State) (now : ℕ) (f : Frame) where
@@ -123,12 +123,12 @@ module _ (m : State) (now : ℕ) (f : Frame) where
       g ∙ ap (λ (l : List Sa). tableOf limits (insertAll new l)) (ap sasOf e ∙ sas-of-table limits (oldSas m now f))
 
 -- ---- the least Message ID
-module _ (r : NewRekey) (least : LeastAfter) (id : ℕ) where
+module _ (r : NewRekey) (least : LeastAfter) (id : ℕ) (before : Least) where
   abbrev pub LeastIs : Least → Type 0
-  LeastIs l = l ≡ cond (r .there) (Id (r .initial)) (leastBy least id)
+  LeastIs l = l ≡ cond (r .there) (Id (r .initial)) (leastBy least id before)
 
   pub least-new : r .there ≡ true → LeastIs (Id (r .initial))
   least-new e = rw e refl
 
-  pub least-kept : (l : Least) → r .there ≡ false → l ≡ leastBy least id → LeastIs l
+  pub least-kept : (l : Least) → r .there ≡ false → l ≡ leastBy least id before → LeastIs l
   least-kept l e g = rw e g

@@ -46,9 +46,9 @@ fn old_sas(t: Table, s: &[u8], tick: u32, delay: u16, replaces: bool) -> Table
     retired
 }
 
-// The least acceptable Message ID: the new Rekey SA's first one, or what the exchange sets.
-fn least_by(rekey: NewRekey, least: LeastAfter, id: u32) -> Least
-    ensures { λ r. ⌜ r ≡ cond (rekey .there) (Id (rekey .initial)) (leastBy least id) ⌝ }
+// The least acceptable Message ID: the new Rekey SA's first one, or what the exchange makes of the one before.
+fn least_by(rekey: NewRekey, least: LeastAfter, id: u32, before: Least) -> Least
+    ensures { λ r. ⌜ r ≡ cond (rekey .there) (Id (rekey .initial)) (leastBy least id before) ⌝ }
 {
     if rekey.there {
         return Least::Id(rekey.initial);
@@ -83,6 +83,7 @@ pub fn next(
     let t = state.table;
     let old = old_sas(t, s, tick, delay, rekey.there);
     let table = entered_all(old, new, n);
-    let least = least_by(rekey, least, id);
+    let before = state.least;
+    let least = least_by(rekey, least, id, before);
     State { table, held, least }
 }

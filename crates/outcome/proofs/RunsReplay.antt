@@ -65,7 +65,7 @@ module _ (limits : Limits) where
     pub next-least : (next : State) → After limits s now lent f next → rowOf f ≡ rekey → newRekey f ≡ false →
         next .least ≡ afterId (f .header .messageId)
     unfolding leastAfterwards
-    next-least next a r n = a .least ∙ rw n (ap (λ (x : Exchange). leastBy (x .least) (f .header .messageId)) r)
+    next-least next a r n = a .least ∙ rw n (ap (λ (x : Exchange). leastBy (x .least) (f .header .messageId) (s .least)) r)
 
   -- ---- a step over which the Rekey SA stays live keeps what is past
   module _ (x : List ℕ) (i : ℕ) (s : State) (live : LiveRekey x s) (past : Past i (s .least)) where

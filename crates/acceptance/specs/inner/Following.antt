@@ -24,4 +24,4 @@ pub record Told (s g : List ℕ) (least : LeastAfter) (id : ℕ) (f : Frame) : T
 pub record Follows (m : State) (now : ℕ) (f : Frame) (new : List Sa) (held : Held) (r : State) : Type 0 where
   pub table : r .table ≡ tableOf limits (insertAll new (oldSas m now f))
   pub held-is : r .held ≡ held
-  pub least : r .least ≡ leastAfterwards f
+  pub least : r .least ≡ leastAfterwards m f

@@ -53,7 +53,7 @@ returns c =
       table = entered-old (a .state) (a .tick) f _ _ _ (old-is (c .before .before) f t) (c .before .entered-all .ensures);
       held-is = refl;
       least = c .least-by .ensures
-          ∙ least-told (now (a .s)) (now (a .g)) (a .least) (a .id) f t (r .result) (r .ensures);
+          ∙ least-told (now (a .s)) (now (a .g)) (a .least) (a .id) f t (r .result) (r .ensures) (a .state);
     }
 
 pub next-spec : {M : Type 1} → statement M
