@@ -30,6 +30,7 @@ pub mod Asked
 pub mod OwnKey
 pub mod RunsLive
 pub mod RunsReplay
+pub mod NeverDue
 pub mod KeyZero
 pub mod Demand3
 pub mod SamplesAnswers
