@@ -5,6 +5,7 @@ pub mod First
 pub mod OneOf
 pub mod BrokenMembers
 pub mod Gather
+pub mod Halves
 pub mod OrderOf4
 pub mod OrderOf5
 pub mod OrderOf6

@@ -28,6 +28,7 @@ pub mod RestLaws
 pub mod Rest
 pub mod Asked
 pub mod OwnKey
+pub mod AtTick
 pub mod RunsLive
 pub mod RunsReplay
 pub mod NeverDue

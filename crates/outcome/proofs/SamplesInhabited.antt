@@ -1,38 +1,31 @@
 -- NO ROW OF THE SAMPLES IS EMPTY: for each there are a member, keys of 16 octets and octets of a frame that are as the row says.
 use native.Mathlib.Omega.{arith}
 use Prim.Native.Nat.{ℕ, zero, suc, _<_}
-use mathlib.Core.Path.{_≡_, refl, ap, sym, subst}
+use mathlib.Core.Path.{_≡_, refl, ap}
 use mathlib.Core.Bool.{true, false}
-use mathlib.Core.List.{List, [], _∷_, List·Memᴰ, List·Memᴰ·head}
+use mathlib.Core.List.{List, [], _∷_}
 use lib.ListN.{length, getD, replicate}
 use Rattle.octets.specs.Octets.{Octets}
-use Rattle.octets.specs.Compare.{orderOf, same}
 use Rattle.octets.proofs.Octets.{no-octets, one-octet}
 use Rattle.fips197.specs.Key.{Key, isKey}
 use Rattle.keywrap.specs.Wrap.{wrapOf}
 use Rattle.keys.specs.Limits.{limits}
-use Rattle.keys.specs.Lists.{all, any, count, keep, heads, rising}
-use Rattle.keys.specs.Algorithms.{sizeOf}
-use Rattle.keys.specs.Kinds.{rekeySizes, rekeyOf}
 use Rattle.attributes.specs.Tree.{WrapKey}
 use Rattle.frames.specs.Grammar.{IsFrame}
-use Rattle.sa.specs.Entry.{named, formed, liveRekey, due, rekeySa, withCondition}
+use Rattle.sa.specs.Entry.{withCondition}
 use Rattle.sa.specs.declared.entry.Condition.the-variants.{Retiring}
 use Rattle.sa.specs.declared.entry.Sa.{Sa}
-use Rattle.table.specs.Table.{tableOf, tableFormed}
 use Rattle.state.specs.declared.State.{State}
 use Rattle.state.specs.declared.least.Least.{Least}
 use Rattle.state.specs.declared.least.Least.the-variants.{Id}
-use Rattle.state.specs.Held.{heldOf, heldFormed}
 use Rattle.state.specs.Least.{acceptable}
 use Rattle.state.specs.State.{stateFormed}
-use Rattle.clauses.specs.Number2.{standing, overLiveRekey}
 use Rattle.outcome.specs.Outcome.{Outcome}
 use Rattle.outcome.specs.Run.{StandsAt}
 use Rattle.outcome.specs.Samples.{Around, registering, entry, Keying, Wrapping, Registers}
 use Rattle.outcome.specs.Samples.{Sample, clock-wraps, delay-zero, least-seven, last-id, two-steps, circle, two-values, lent-of-28}
 use Rattle.outcome.specs.Samples.{key-length-128, key-tree}
-use Rattle.outcome.proofs.RunsLists.{passes-some}
+use Rattle.outcome.proofs.AtTick.{rekeySpi, one, seven, seven-formed, seven-stands, not-due, one-in, over-one}
 use Rattle.outcome.proofs.SamplesRekeys.{deleted, delete-taken, deleted-stands}
 use Rattle.outcome.proofs.SamplesRead.{around, Rekeyed, two-steps-read, two-values-read, tree-read, circle-read, plain-read}
 use Rattle.outcome.proofs.SamplesRead.{laid-out, rekeys-read}
@@ -121,44 +114,11 @@ Inhabited lent-of-28 = Lent
 Inhabited key-length-128 = Unit {0}
 Inhabited key-tree = Tree
 
--- ---- a member with one live Rekey SA
 same-octets : (n k : ℕ) → k < 256 → Octets (replicate n k)
 same-octets zero k h = no-octets
 same-octets (suc n) k h = one-octet k (replicate n k) h (same-octets n k h)
 
-abbrev rekeySpi : List ℕ
-rekeySpi = replicate 16 1
-
-abbrev one : Sa
-one = rekeySa rekeySpi (rekeyOf (replicate 36 2) 20 16)
-
-abbrev seven : State
-seven = record { table = tableOf limits (one ∷ []); held = heldOf limits []; least = Id 7 }
-
-seven-formed : stateFormed limits seven ≡ true
-unfolding stateFormed tableFormed heldFormed tableOf heldOf all count heads rising formed liveRekey rekeySa rekeySizes sizeOf any
-seven-formed = refl
-
--- it stands at every tick
-not-due : (now : ℕ) → due now one ≡ false
-unfolding due rekeySa
-not-due now = refl
-
-standing-one : (now : ℕ) → standing now seven ≡ one ∷ []
-unfolding tableOf keep due rekeySa
-standing-one now = refl
-
-one-in : (now : ℕ) → List·Memᴰ one (standing now seven)
-one-in now = subst (List·Memᴰ one) (sym (standing-one now)) (List·Memᴰ·head refl)
-
-over-one : overLiveRekey rekeySpi one ≡ true
-unfolding named liveRekey rekeySa same orderOf
-over-one = refl
-
-seven-stands : (now : ℕ) → StandsAt now rekeySpi seven
-seven-stands now = passes-some (overLiveRekey rekeySpi) (standing now seven) one (one-in now) over-one
-
--- an ID is taken over it, and it stands at every tick after that too
+-- ---- a member with one live Rekey SA: an ID is taken over it, and it stands at every tick after that too
 taken-once : (i j : ℕ) → acceptable i (Id 7) ≡ true → Rekeyed rekeySpi i → Rekeyed rekeySpi j → Later seven rekeySpi i j
 taken-once i j c r later =
     let k = seven-stands 0 in
