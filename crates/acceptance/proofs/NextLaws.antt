@@ -104,17 +104,18 @@ module _ (m : State) (now : ℕ) (f : Frame) where
       g ∙ ap (λ (l : List Sa). tableOf limits (insertAll new l)) (ap sasOf e ∙ sas-of-table limits (oldSas m now f))
 
 -- ---- the least Message ID
-module _ (x : Said) where
+module _ (x : Said) (before : Least) where
   abbrev pub LeastIs : Least → Type 0
-  LeastIs l = l ≡ cond (x .rekey) (Id (x .initial)) (leastBy (x .least) (x .id))
+  LeastIs l = l ≡ cond (x .rekey) (Id (x .initial)) (leastBy (x .least) (x .id) before)
 
   pub least-new : x .rekey ≡ true → LeastIs (Id (x .initial))
   least-new e = rw e refl
 
-  pub least-kept : (l : Least) → x .rekey ≡ false → l ≡ leastBy (x .least) (x .id) → LeastIs l
+  pub least-kept : (l : Least) → x .rekey ≡ false → l ≡ leastBy (x .least) (x .id) before → LeastIs l
   least-kept l e g = rw e g
 
-  pub least-told : (s : List ℕ) (f : Frame) → Told s x f → (l : Least) → LeastIs l → l ≡ leastAfterwards f
+module _ (x : Said) (m : State) where
+  pub least-told : (s : List ℕ) (f : Frame) → Told s x f → (l : Least) → LeastIs x (m .least) l → l ≡ leastAfterwards m f
   unfolding leastAfterwards
   least-told s f t l e =
-      e ∙ (λ j. cond (sym (t .rekey) j) (Id (sym (t .initial) j)) (leastBy (sym (t .least) j) (sym (t .id) j)))
+      e ∙ (λ j. cond (sym (t .rekey) j) (Id (sym (t .initial) j)) (leastBy (sym (t .least) j) (sym (t .id) j) (m .least)))

@@ -30,7 +30,7 @@ pub struct Said {
     // whether the frame announces a Rekey SA, and the first Message ID of it
     pub rekey: bool,
     pub initial: u32,
-    // what the exchange sets the least Message ID to, and the frame's own
+    // what the exchange makes of the least Message ID, and the frame's own Message ID
     pub least: LeastAfter,
     pub id: u32,
     pub deletes: DeletesAt,
@@ -51,9 +51,9 @@ fn old_sas(t: Table, s: &[u8], tick: u32, x: Said) -> Table
     retired
 }
 
-// The least acceptable Message ID: the new Rekey SA's first one, or what the exchange sets.
-fn least_by(x: Said) -> Least
-    ensures { λ r. ⌜ r ≡ cond (x .rekey) (Id (x .initial)) (leastBy (x .least) (x .id)) ⌝ }
+// The least acceptable Message ID: the new Rekey SA's first one, or what the exchange makes of the one before.
+fn least_by(x: Said, before: Least) -> Least
+    ensures { λ r. ⌜ r ≡ cond (x .rekey) (Id (x .initial)) (leastBy (x .least) (x .id) before) ⌝ }
 {
     if x.rekey {
         return Least::Id(x.initial);
@@ -82,6 +82,7 @@ pub fn next(
     let t = state.table;
     let old = old_sas(t, s, tick, x);
     let table = entered_all(old, new, n);
-    let least = least_by(x);
+    let before = state.least;
+    let least = least_by(x, before);
     State { table, held, least }
 }

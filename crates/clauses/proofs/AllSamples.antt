@@ -3,6 +3,7 @@ use mathlib.Core.Path.{_≡_, refl}
 use Prim.Native.Nat.{ℕ, _+_}
 use mathlib.Core.List.{List, [], _∷_, _++_, map}
 use mathlib.Core.Bool.{Bool, cond}
+use lib.Dec.{ltb}
 use lib.ListN.{replicate}
 use Rattle.octets.specs.Compare.{orderOf, less, same}
 use Rattle.keys.specs.Lists.{all, any, count, keep, heads, rising}
@@ -29,7 +30,8 @@ use Rattle.clauses.specs.Number5.{ahPolicy, ahBag, otherTransforms, dele
 use Rattle.clauses.specs.Number6.{policyUnpaired, bagUnpaired, policyTwice, bagTwice, alreadyInTable, otherSaKeyCount, saKeyCount}
 use Rattle.clauses.specs.Number6.{saKeyId, espKwkId, wrapKeyId, six-ofFrame, six-ofMember}
 use Rattle.clauses.specs.Number7.{manyEspPolicies, manyWrapKeys, manySaKeys, manyDeletedSpis, manySas, seven-ofFrame, seven-ofMember}
-use Rattle.clauses.specs.Refusals.{Number, one, judged, two, four, five, six, seven, refusal}
+use Rattle.clauses.specs.Refusals.{Number, one, judged, two, four, five, six, seven, numbers, refusal}
+use Rattle.clauses.proofs.Halves.{frameHalf}
 use Rattle.clauses.proofs.SampleParts.{liveSpi, rekeySuite, group, saPolicy, frameOf, tick, Sample, answerWithin}
 use Rattle.clauses.proofs.SamplesOf2And3.{samplesOf2And3}
 use Rattle.clauses.proofs.SamplesOf4.{samplesOf4}
@@ -75,6 +77,14 @@ sixOf s = six (s .state) tick (s .frame)
 abbrev sevenOf : Sample → Number
 sevenOf s = seven limits (s .state) tick (s .frame)
 
+-- the number that it is given by clauses on the frame and the lent key alone
+abbrev outsideOf : Sample → ℕ
+outsideOf s = judged (map frameHalf (numbers limits (s .state) tick (replicate (s .lent) 0) (s .frame)))
+
+-- the first k clauses of a number, and no others, are on these
+abbrev pub ByFrame : ℕ → List Alone → Type 0
+ByFrame k l = map (λ (a : Alone). outsideOf (a .of)) l ≡ map (λ (a : Alone). cond (ltb (a .clause) k) (a .of .number) 0) l
+
 -- what a claim is made of
 pub record Samples : Type 0 where
   pub of-2-and-3 : Answered samplesOf2And3
@@ -88,6 +98,9 @@ pub record Samples : Type 0 where
   pub alone-5 : MetAlone fiveOf alone5
   pub alone-6 : MetAlone sixOf alone6
   pub alone-7 : MetAlone sevenOf alone7
+  -- of the member are "registration of a non-empty member; rekey whose two SPIs are not ..; a member value that breaks its list", "already in
+  -- the table" and "over 16 SAs after the frame"
+  pub halves : ByFrame 1 alone2 × ByFrame 16 alone4 × ByFrame 6 alone5 × ByFrame 8 alone6 × ByFrame 4 alone7
   -- under six figures that differ
   pub of-limits : AnsweredWithin apart samplesOfLimits
   -- GSA_AUTH (39) and GSA_REGISTRATION (40) are answered alike, whatever their payloads
@@ -115,6 +128,7 @@ samples-answered =
       alone-5 = (refl, refl);
       alone-6 = (refl, refl);
       alone-7 = (refl, refl);
+      halves = (refl, refl, refl, refl, refl);
       of-limits = refl;
       alike = λ s now lent x id l. refl;
     }

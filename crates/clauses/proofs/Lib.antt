@@ -1,9 +1,11 @@
 pub mod AnyOrder
 pub mod Contents
+pub mod ExchangeRows
 pub mod First
 pub mod OneOf
 pub mod BrokenMembers
 pub mod Gather
+pub mod Halves
 pub mod OrderOf4
 pub mod OrderOf5
 pub mod OrderOf6

@@ -1,5 +1,5 @@
 -- "The lowest number that applies is given; each is judged only when the lower ones don't apply": the numbers with their clauses, in the
--- order in which they are judged. Clauses on the frame and the lent key alone stand apart from those that look at the member or the tick.
+-- order in which they are judged, each with its two halves of clauses.
 use Prim.Native.Nat.{ℕ}
 use mathlib.Core.List.{List, [], _∷_, _++_}
 use mathlib.Core.Bool.{Bool, false, cond, _||_}
@@ -16,7 +16,9 @@ use Rattle.clauses.specs.Number7.{seven-ofFrame, seven-ofMember}
 
 pub record Number : Type 0 where
   pub number : ℕ
+  -- its clauses on the frame and the lent key alone: no member and no tick is among the arguments of a list `N-ofFrame`
   pub ofFrame : List Bool
+  -- those that look at the member or the tick
   pub ofMember : List Bool
 
 -- one of the clauses applies

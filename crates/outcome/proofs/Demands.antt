@@ -200,7 +200,7 @@ module _ (limits : Limits) (s : State) (now : ℕ) (lent octets : List ℕ) wher
           )
 
       -- a rekey leaves the held list; the least Message ID (Rest.antt gives its cases)
-      pub rest-after : (f .header .exchange ≡ 41 → next .held ≡ s .held) × (next .least ≡ leastAfterwards f)
+      pub rest-after : (f .header .exchange ≡ 41 → next .held ≡ s .held) × (next .least ≡ leastAfterwards s f)
       rest-after =
           let a = whole-accepted limits s now lent octets f e next o .1 in (
             λ r.

@@ -3,21 +3,22 @@ use Prim.Native.Nat.{ℕ}
 use mathlib.Core.Path.{_≡_, _∙_}
 use mathlib.Core.Bool.{true}
 use mathlib.Core.List.{List}
-use borrow.Author.Tests.{not-false}
+use borrow.Author.Tests.{not-true, not-false}
 use lib.Dec.{eqb}
 use lib.ListN.{length}
 use Rattle.octets.specs.Compare.{same}
 use Rattle.octets.proofs.Order.{same-eq}
 use Rattle.keys.specs.Limits.{Limits}
 use Rattle.keys.proofs.Cases.{and-parts}
+use Rattle.keys.proofs.Members.{kept-member}
 use Rattle.frames.specs.Frame.{Frame}
 use Rattle.frames.specs.Grammar.{IsFrame}
-use Rattle.sa.specs.Entry.{rekey, spiOf, named, liveRekey}
+use Rattle.sa.specs.Entry.{rekey, spiOf, named, liveRekey, due}
 use Rattle.sa.specs.declared.entry.Sa.{Sa}
-use Rattle.table.specs.Table.{sasOf}
+use Rattle.table.specs.Table.{sasOf, stays}
 use Rattle.state.specs.declared.State.{State}
 use Rattle.state.specs.State.{stateFormed}
-use Rattle.clauses.specs.Number2.{overLiveRekey, two-ofMember}
+use Rattle.clauses.specs.Number2.{standing, overLiveRekey, two-ofMember}
 use Rattle.clauses.specs.Refusals.{two}
 use Rattle.clauses.proofs.Clear.{no-clause}
 use Rattle.chains.specs.Chain.{In}
@@ -30,7 +31,7 @@ use Rattle.outcome.proofs.NamedKey.{zero-own}
 use Rattle.outcome.proofs.OwnKey.{own-key-of-live}
 use Rattle.outcome.proofs.RunsClear.{None, none-applies}
 use Rattle.outcome.proofs.RunsLists.{some-passes}
-use Rattle.outcome.proofs.RunsLive.{passes-over-live}
+use Rattle.outcome.proofs.RunsLive.{passes-over}
 
 module _ (limits : Limits) (s : State) (now : ℕ) (lent octets : List ℕ) (f : Frame) (e : IsFrame octets f)
     (x : f .header .exchange ≡ 41) (no-2 : Meets limits s now lent octets 2 → ⊥)
@@ -48,10 +49,12 @@ module _ (limits : Limits) (s : State) (now : ℕ) (lent octets : List ℕ) (f :
   unfolding named
   key-zero-of-rekey =
       let spi = f .header .spi in
-      let over = passes-over-live limits s now f passes (rekeys (f .header .exchange) x) in
-      let p = some-passes (overLiveRekey spi) (sasOf (s .table)) over in
+      let over = passes-over limits s now f passes (rekeys (f .header .exchange) x) in
+      let p = some-passes (overLiveRekey spi) (standing now s) over in
       let b = p .one in
-      let m = member-in b (sasOf (s .table)) (p .stands) in
+      let k = kept-member (stays now) b (sasOf (s .table)) (p .stands) in
+      let m = member-in b (sasOf (s .table)) (k .0) in
+      let d = not-true (due now b) (k .1) in
       let q = and-parts (liveRekey b) (named rekey spi b) (p .passes) in
       let n = and-parts (eqb (b .protocol) rekey) (same (spiOf b) spi) (q .1) in
       record {
@@ -59,5 +62,5 @@ module _ (limits : Limits) (s : State) (now : ℕ) (lent octets : List ℕ) (f :
         stands = m;
         live = q .0;
         spi = same-eq (spiOf b) spi (n .1);
-        cut = zero-own limits s now lent f x ∙ own-key-of-live limits s now is-formed b m (q .0) (long b m);
+        cut = zero-own limits s now lent f x ∙ own-key-of-live limits s now is-formed b m (q .0) d (long b m);
       }

@@ -28,8 +28,10 @@ pub mod RestLaws
 pub mod Rest
 pub mod Asked
 pub mod OwnKey
+pub mod AtTick
 pub mod RunsLive
 pub mod RunsReplay
+pub mod NeverDue
 pub mod KeyZero
 pub mod Demand3
 pub mod Stands

@@ -1,4 +1,4 @@
--- KEY 0 OF A REKEY: "The default key of the live Rekey SA: the key wrap part of its keying octets, cut as 001 section 3.4 orders."
+-- KEY 0 OF A REKEY over a Rekey SA that stands at the tick: "The default key of the live Rekey SA: the key wrap part of its keying octets, cut as 001 section 3.4 orders."
 use native.Mathlib.Omega.{arith}
 use Prim.Native.Nat.{ℕ, _+_, _-_}
 use mathlib.Core.Path.{_≡_, ap, sym, _∙_, subst}
@@ -14,7 +14,7 @@ use Rattle.keys.specs.Kinds.{valueOf, wrappingKey, rekeySizes, keyWrapPart}
 use Rattle.keys.proofs.Cases.{and-parts}
 use Rattle.keys.proofs.Members.{member-kept}
 use Rattle.keys.proofs.Sizes.{rekey-parts, rekey-le}
-use Rattle.sa.specs.Entry.{esp, rekey, isLive, formed, liveRekey}
+use Rattle.sa.specs.Entry.{esp, rekey, isLive, formed, liveRekey, due}
 use Rattle.sa.specs.declared.entry.Sa.{Sa}
 use Rattle.table.specs.declared.Found.{Found}
 use Rattle.table.specs.Table.{sasOf, tableFormed, swept, stays, foundRekey, keyOf, defaultKey}
@@ -28,10 +28,9 @@ use Rattle.chains.proofs.Members.{in-member}
 use Rattle.outcome.specs.Roots.{ownKey}
 use Rattle.outcome.proofs.RunsLists.{all-pass}
 use Rattle.outcome.proofs.RunsOld.{swept-sas}
-use Rattle.outcome.proofs.RunsLive.{live-not-due}
 
 module _ (limits : Limits) (s : State) (now : ℕ) (is-formed : stateFormed limits s ≡ true) (b : Sa) (m : In b (sasOf (s .table)))
-    (live : liveRekey b ≡ true) where
+    (live : liveRekey b ≡ true) (not-due : due now b ≡ false) where
   table-is : tableFormed limits (s .table) ≡ true
   unfolding stateFormed
   table-is = and-parts (tableFormed limits (s .table)) (heldFormed limits (s .held)) is-formed .0
@@ -40,7 +39,7 @@ module _ (limits : Limits) (s : State) (now : ℕ) (is-formed : stateFormed limi
   stands : List·Memᴰ b (sasOf (swept limits now (s .table)))
   stands =
       subst (List·Memᴰ b) (sym (swept-sas limits s now table-is))
-      (member-kept (stays now) b (sasOf (s .table)) (in-member b (sasOf (s .table)) m) (ap not (live-not-due now b live)))
+      (member-kept (stays now) b (sasOf (s .table)) (in-member b (sasOf (s .table)) m) (ap not not-due))
 
   the-live : foundRekey limits (swept limits now (s .table)) ≡ record { found = true; sa = b }
   the-live = rekey-found limits (swept limits now (s .table)) (swept-formed limits now (s .table) table-is) b stands live

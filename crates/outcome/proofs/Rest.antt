@@ -110,23 +110,24 @@ module _ (limits : Limits) (s : State) (now : ℕ) (lent octets : List ℕ) (f :
         one-rekey p (in-member p (announced f) (n .stands)) t
         ∙ rw t
 
-    by-row : (x : Exchange) → rowOf f ≡ x → leastBy (rowOf f .least) (f .header .messageId) ≡ leastBy (x .least) (f .header .messageId)
-    by-row x q = ap (λ (y : Exchange). leastBy (y .least) (f .header .messageId)) q
+    least-row : (x : Exchange) → rowOf f ≡ x →
+        leastBy (rowOf f .least) (f .header .messageId) (s .least) ≡ leastBy (x .least) (f .header .messageId) (s .least)
+    least-row x q = ap (λ (y : Exchange). leastBy (y .least) (f .header .messageId) (s .least)) q
 
-    as-least : (l : Least) → LeastAs f l → leastAfterwards f ≡ l
+    as-least : (l : Least) → LeastAs f l → leastAfterwards s f ≡ l
     unfolding leastAfterwards
     as-least _ (its-initial-id p n i q) = rw (new-any p n) (ap Id (initial-of p n ∙ of-one (p .initialMessageIds) i q))
     as-least _ (else-0 p n q) = rw (new-any p n) (ap Id (initial-of p n ∙ of-none (p .initialMessageIds) q))
-    as-least _ (of-registration n r) = rw (no-new n) (by-row registration (registration-row f r))
+    as-least _ (of-registration n r) = rw (no-new n) (least-row registration (registration-row f r))
     as-least _ (own-plus-1 n x h) =
-        rw (no-new n) (by-row rekey (rekeys (f .header .exchange) x) ∙ sym (after-more (f .header .messageId) h))
+        rw (no-new n) (least-row rekey (rekeys (f .header .exchange) x) ∙ sym (after-more (f .header .messageId) h))
     as-least _ (none-any-more n x h) =
-        rw (no-new n) (by-row rekey (rekeys (f .header .exchange) x) ∙ sym (after-last (f .header .messageId) h))
+        rw (no-new n) (least-row rekey (rekeys (f .header .exchange) x) ∙ sym (after-last (f .header .messageId) h))
 
-    settled : (l : Least) → LeastAs f l → LeastAs f (leastAfterwards f)
+    settled : (l : Least) → LeastAs f l → LeastAs f (leastAfterwards s f)
     settled l a = subst (LeastAs f) (sym (as-least l a)) a
 
-    least-as : LeastAs f (leastAfterwards f)
+    least-as : LeastAs f (leastAfterwards s f)
     least-as =
         let i = f .header .messageId in
         bool-cases (newRekey f)

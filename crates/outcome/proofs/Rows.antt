@@ -6,11 +6,9 @@ use mathlib.Core.Path.{_≡_, refl, ap}
 use mathlib.Core.Bool.{true, false, false≢true}
 use mathlib.Core.Logic.{_⊎_, inl, inr}
 use mathlib.Core.List.{List, [], _∷_, map}
-use borrow.Author.Tests.{eqb-true, ltb-false}
-use lib.Dec.{eqb}
+use borrow.Author.Tests.{ltb-false}
 use lib.ListN.{length}
 use Rattle.keys.specs.Limits.{Limits}
-use Rattle.keys.proofs.Cases.{bool-cases}
 use Rattle.frames.specs.Frame.{Frame}
 use Rattle.frames.specs.Exchange.{exchangeOf, registration, rekey}
 use Rattle.state.specs.declared.State.{State}
@@ -19,24 +17,19 @@ use Rattle.bags.specs.Bag.{MemberKeyBag}
 use Rattle.clauses.specs.Contents.{rowOf, some, gather, memberBags, wrapKeysOf}
 use Rattle.clauses.specs.Number4.{barredMemberBag}
 use Rattle.clauses.specs.Number5.{lentKeySize}
+use Rattle.clauses.proofs.ExchangeRows.{by-row}
 use Rattle.outcome.specs.Roots.{ownKey, keyZero, heldRoot, rootsOf, wrappingSize}
 use Rattle.outcome.specs.NamedKey.{Registration, lentRoot}
 
 -- an exchange that sets the held list is a registration
 pub registers : (x : ℕ) → exchangeOf x .holds ≡ true → exchangeOf x ≡ registration
 registers x e =
-    bool-cases (eqb x 39) (λ a. rw a)
-    (λ a.
-    bool-cases (eqb x 40) (λ b. rw (a, b))
-    (λ b. bool-cases (eqb x 41) (λ c. absurd (false≢true (rw (a, b, c) at e))) (λ c. absurd (false≢true (rw (a, b, c) at e)))))
+    by-row (exchangeOf x ≡ registration) x (λ q r. r) (λ q r. absurd (false≢true (rw r at e))) (λ r. absurd (false≢true (rw r at e)))
 
 -- one in which held keys open copies is a rekey
 pub names-held : (x : ℕ) → exchangeOf x .named ≡ true → x ≡ 41
 names-held x e =
-    bool-cases (eqb x 39) (λ a. absurd (false≢true (rw a at e)))
-    (λ a.
-    bool-cases (eqb x 40) (λ b. absurd (false≢true (rw (a, b) at e)))
-    (λ b. bool-cases (eqb x 41) (λ c. eqb-true x 41 c) (λ c. absurd (false≢true (rw (a, b, c) at e)))))
+    by-row (x ≡ 41) x (λ q r. absurd (false≢true (rw r at e))) (λ q r. q) (λ r. absurd (false≢true (rw r at e)))
 
 pub registration-row : (f : Frame) → Registration f → rowOf f ≡ registration
 registration-row f (inl e) = ap exchangeOf e
@@ -49,11 +42,8 @@ rekeys x e = ap exchangeOf e
 -- an exchange that number 2 lets pass is one of the three
 pub one-of-three : (f : Frame) → rowOf f .admitted ≡ true → Registration f ⊎ (f .header .exchange ≡ 41)
 one-of-three f e =
-    let x = f .header .exchange in
-    bool-cases (eqb x 39) (λ a. inl (inl (eqb-true x 39 a)))
-    (λ a.
-    bool-cases (eqb x 40) (λ b. inl (inr (eqb-true x 40 b)))
-    (λ b. bool-cases (eqb x 41) (λ c. inr (eqb-true x 41 c)) (λ c. absurd (false≢true (rw (a, b, c) at e)))))
+    by-row (Registration f ⊎ (f .header .exchange ≡ 41)) (f .header .exchange) (λ q r. inl q) (λ q r. inr q)
+    (λ r. absurd (false≢true (rw r at e)))
 
 -- "Member bag in a rekey": a rekey that passes number 4 has no WRAP_KEY
 pub no-wrap-key : (f : Frame) → f .header .exchange ≡ 41 → barredMemberBag f ≡ false → wrapKeysOf f ≡ []

@@ -2,12 +2,11 @@
 use native.Mathlib.Omega.{arith}
 use Prim.Native.Nat.{ℕ, _≤_}
 use mathlib.Core.Path.{_≡_, refl, ap, sym, _∙_, subst}
-use mathlib.Core.Bool.{Bool, true, false, not, _&&_, false≢true}
+use mathlib.Core.Bool.{Bool, true, false, not, _&&_}
 use mathlib.Core.List.{List}
 use borrow.Author.Tests.{ltb-false, not-false}
 use lib.Dec.{eqb}
 use lib.ListN.{length}
-use Rattle.octets.specs.Walk.{either}
 use Rattle.keys.specs.Limits.{Limits, limits}
 use Rattle.keys.specs.Lists.{any}
 use Rattle.keys.specs.Algorithms.{sizeOf}
@@ -15,9 +14,7 @@ use Rattle.keys.proofs.Cases.{and-parts, and-whole}
 use Rattle.attributes.specs.Tree.{WrapKey}
 use Rattle.frames.specs.Frame.{Frame}
 use Rattle.frames.specs.Grammar.{IsFrame}
-use Rattle.frames.specs.Exchange.{registration, rekey, other}
-use Rattle.frames.specs.declared.exchanges.KeyZero.{KeyZero}
-use Rattle.frames.specs.declared.exchanges.KeyZero.the-variants as zero
+use Rattle.frames.specs.declared.exchanges.Exchange.{Exchange}
 use Rattle.table.specs.Table.{tableFormed}
 use Rattle.table.specs.Blank.{TableBlank}
 use Rattle.table.proofs.Kept.{table-formed}
@@ -37,17 +34,10 @@ use Rattle.outcome.specs.After.{After, HeldAre, HeldBy, insertAll, oldSa
 use Rattle.outcome.specs.Outcome.{Judged, refused, accepted, Outcome, no-layout, by-tree}
 use Rattle.outcome.specs.Run.{Step, Takes, answered, swept, left, Run, ends, goes, Throughout}
 use Rattle.clauses.proofs.Clear.{no-clause}
+use Rattle.outcome.proofs.Rows.{registers}
 use Rattle.outcome.proofs.RunsClear.{Clear, clear}
 use Rattle.outcome.proofs.RunsAccepted.{clear-formed, table-fit, table-blank}
 use Rattle.outcome.proofs.RunsHeld.{set-formed, set-places, set-values}
-
--- an exchange that sets the held list has the lent key judged, and takes it as key 0
-holds-rows : (a b c : Bool) → let x = either a registration (either b registration (either c rekey other)) in
-    x .holds ≡ true → (x .lent ≡ true) × (x .zero ≡ zero.Lent)
-holds-rows true b c e = (refl, refl)
-holds-rows false true c e = (refl, refl)
-holds-rows false false true e = absurd (false≢true e)
-holds-rows false false false e = absurd (false≢true e)
 
 -- a held list stays, or is set
 held-by : (b : Bool) (P : Held → Type 0) (Set : Type 0) (h k : Held) → HeldBy b Set (h ≡ k) → P k → (b ≡ true → Set → P h) → P h
@@ -65,11 +55,11 @@ module _ (limits : Limits) (enough : limits .wrapKeys ≤ limits .heldKeys) wher
     lent-size : rowOf f .holds ≡ true → sizeOf 13 (wrappingSize limits s now lent f) ≡ true
     unfolding wrappingSize keyZero five-ofFrame lentKeySize
     lent-size e =
-        let x = f .header .exchange in
-        let h = holds-rows (eqb x 39) (eqb x 40) (eqb x 41) e in
+        let r = registers (f .header .exchange) e in
         let k = no-clause (five-ofFrame lent f) 5 (c .no-5 .ofFrame) in
-        let n : not (sizeOf 13 (length lent)) ≡ false = sym (ap (λ (b : Bool). b && not (sizeOf 13 (length lent))) (h .0)) ∙ k in
-        ap (λ (z : KeyZero). sizeOf 13 (length (keyZeroBy z lent (ownKey limits s now)))) (h .1) ∙ not-false (sizeOf 13 (length lent)) n
+        let n : not (sizeOf 13 (length lent)) ≡ false = sym (ap (λ (x : Exchange). x .lent && not (sizeOf 13 (length lent))) r) ∙ k in
+        ap (λ (x : Exchange). sizeOf 13 (length (keyZeroBy (x .zero) lent (ownKey limits s now)))) r
+        ∙ not-false (sizeOf 13 (length lent)) n
 
     no-zero : any (λ (k : WrapKey). eqb (k .keyId) 0) (entriesOf f) ≡ false
     unfolding six-ofFrame wrapKeyId

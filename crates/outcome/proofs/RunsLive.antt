@@ -1,12 +1,13 @@
--- A live Rekey SA is never due, and what becomes of it when a frame is accepted: it stays live, unless the frame announces a Rekey SA.
+-- What becomes of a live Rekey SA when a frame is accepted: one that stands at the tick stays live, unless the frame announces a Rekey SA; a
+-- registration that announces none leaves none. Nothing here says that a live SA is never due (that is `NeverDue`).
 use native.Mathlib.Omega.{arith}
 use Prim.Native.Nat.{ℕ}
 use mathlib.Core.Path.{_≡_, refl, ap, sym, _∙_, subst}
 use mathlib.Core.Bool.{Bool, true, false, not, _&&_, _||_, and-false, false≢true}
-use mathlib.Core.List.{List, []}
+use mathlib.Core.Logic.{inr}
+use mathlib.Core.List.{List, List·Memᴰ}
 use borrow.Author.Tests.{eqb-true, ne-eqb, not-false}
 use lib.Dec.{eqb, leb}
-use Rattle.octets.specs.Walk.{either}
 use Rattle.octets.specs.Compare.{same}
 use Rattle.octets.proofs.Order.{same-eq}
 use Rattle.keys.specs.Limits.{Limits}
@@ -15,100 +16,78 @@ use Rattle.keys.proofs.Cases.{bool-cases, and-parts}
 use Rattle.keys.proofs.Members.{member-kept, kept-member}
 use Rattle.frames.specs.Frame.{Frame}
 use Rattle.frames.specs.Grammar.{IsFrame}
-use Rattle.frames.specs.Exchange.{registration, rekey, other}
+use Rattle.frames.specs.Exchange.{registration, rekey}
 use Rattle.frames.specs.declared.exchanges.Exchange.{Exchange}
-use Rattle.sa.specs.Entry.{esp, named, isLive, liveRekey, dueBy, due}
+use Rattle.sa.specs.Entry.{esp, named, isLive, liveRekey, due}
 use Rattle.sa.specs.Entry as entry
-use Rattle.sa.specs.declared.entry.Condition.{Condition}
-use Rattle.sa.specs.declared.entry.Condition.the-variants.{Live, Retiring}
 use Rattle.sa.specs.declared.entry.Sa.{Sa}
 use Rattle.table.specs.Table.{sasOf, tableFormed, swept, stays, emptyAt, retiredIf}
 use Rattle.table.proofs.Kept.{sas-of-table}
 use Rattle.state.specs.declared.State.{State}
 use Rattle.state.specs.Held.{heldFormed}
-use Rattle.state.specs.State.{stateFormed, newState, sweptState}
+use Rattle.state.specs.State.{stateFormed, sweptState}
 use Rattle.state.proofs.Laws.{swept-yes, swept-no}
 use Rattle.clauses.specs.Contents.{rowOf, announced}
-use Rattle.clauses.specs.Number2.{standing, overLiveRekey, breaksWanted, nonEmptyMember, otherSpis, two-ofFrame, two-ofMember}
+use Rattle.clauses.specs.Fitness.{isRekey}
+use Rattle.clauses.specs.Number2.{standing, overLiveRekey, breaksWanted, nonEmptyMember, otherSpis, two-ofMember}
 use Rattle.clauses.specs.Number6.{policyNamed}
 use Rattle.clauses.specs.Refusals.{two}
-use Rattle.outcome.specs.After.{newRekey, namedInDelete, replaced, retires, oldSa, oldSas, insertAll, After}
-use Rattle.outcome.specs.Run.{LiveRekey}
-use Rattle.outcome.proofs.RunsLists.{member-map, all-pass, count-none, none-passes, passes-none, some-passes, passes-some}
 use Rattle.clauses.proofs.Clear.{no-clause}
+use Rattle.chains.proofs.Members.{in-member, member-in}
+use Rattle.outcome.specs.After.{newRekey, namedInDelete, replaced, retires, oldSa, oldSas, insertAll, After}
+use Rattle.outcome.specs.Run.{LiveRekey, StandsAt}
+use Rattle.outcome.proofs.Enters.{all-in, old-stayed}
+use Rattle.outcome.proofs.RunsLists.{member-map, all-pass, count-none, none-count, none-passes, passes-none}
+use Rattle.outcome.proofs.RunsLists.{some-passes, passes-some}
 use Rattle.outcome.proofs.RunsClear.{None, Clear}
-use Rattle.outcome.proofs.RunsMade.{made-any}
+use Rattle.outcome.proofs.RunsMade.{made-any, made-count}
 use Rattle.outcome.proofs.RunsTable.{any-all}
 use Rattle.outcome.proofs.RunsOld.{old-live, swept-sas}
 use Rattle.outcome.proofs.RunsAccepted.{all-made, new-name}
 
-pub live-not-due : (now : ℕ) (a : Sa) → liveRekey a ≡ true → due now a ≡ false
-unfolding liveRekey due
-live-not-due now a e = by (a .condition) (and-parts (eqb (a .protocol) entry.rekey) (isLive (a .condition)) e .1)
-  where
-    by : (c : Condition) → isLive c ≡ true → dueBy now c ≡ false
-    by Live g = refl
-    by (Retiring s d) g = absurd (false≢true g)
-
-over-parts : (x : List ℕ) (a : Sa) → overLiveRekey x a ≡ true → (liveRekey a ≡ true) × (named entry.rekey x a ≡ true)
+pub over-parts : (x : List ℕ) (a : Sa) → overLiveRekey x a ≡ true → (liveRekey a ≡ true) × (named entry.rekey x a ≡ true)
 over-parts x a e = and-parts (liveRekey a) (named entry.rekey x a) e
 
--- a rekey that number 2 lets pass came over the live Rekey SA
-pub passes-over-live : (limits : Limits) (s : State) (now : ℕ) (f : Frame) →
-    None (two limits s now (f .header .exchange) (f .header .spi)) → rowOf f ≡ rekey → LiveRekey (f .header .spi) s
-unfolding otherSpis
-passes-over-live limits s now f n r =
-    let x = f .header .spi in
-    let e = not-false (any (overLiveRekey x) (standing now s))
-    (sym (ap (λ (y : Exchange). y .spis && not (any (overLiveRekey x) (standing now s))) r)
-    ∙ no-clause (two-ofMember limits s now (f .header .exchange) x) 1 (n .ofMember)) in
+-- one that stands at a tick is live
+pub stands-live : (x : List ℕ) (s : State) (now : ℕ) → StandsAt now x s → LiveRekey x s
+stands-live x s now e =
     let p = some-passes (overLiveRekey x) (standing now s) e in
     passes-some (overLiveRekey x) (sasOf (s .table)) (p .one) (kept-member (stays now) (p .one) (sasOf (s .table)) (p .stands) .0)
     (p .passes)
 
--- the SAs that are due at a tick do not matter to it
-pub live-stands : (x : List ℕ) (s : State) (now : ℕ) → LiveRekey x s → any (overLiveRekey x) (standing now s) ≡ true
-live-stands x s now l =
-    let r = some-passes (overLiveRekey x) (sasOf (s .table)) l in
-    let d = live-not-due now (r .one) (over-parts x (r .one) (r .passes) .0) in
-    passes-some (overLiveRekey x) (standing now s) (r .one) (member-kept (stays now) (r .one) (sasOf (s .table)) (r .stands) (ap not d))
-    (r .passes)
+-- a rekey that number 2 lets pass came over a Rekey SA that stands at its tick
+pub passes-over : (limits : Limits) (s : State) (now : ℕ) (f : Frame) →
+    None (two limits s now (f .header .exchange) (f .header .spi)) → rowOf f ≡ rekey → StandsAt now (f .header .spi) s
+unfolding otherSpis
+passes-over limits s now f n r =
+    let x = f .header .spi in
+    not-false (any (overLiveRekey x) (standing now s))
+    (sym (ap (λ (y : Exchange). y .spis && not (any (overLiveRekey x) (standing now s))) r)
+    ∙ no-clause (two-ofMember limits s now (f .header .exchange) x) 1 (n .ofMember))
+
+-- ---- no Rekey SA is live
+abbrev pub NoneLive : State → Type 0
+NoneLive s = any liveRekey (sasOf (s .table)) ≡ false
+
+pub none-over : (x : List ℕ) (s : State) → NoneLive s → LiveRekey x s → ⊥
+none-over x s n l =
+    let p = some-passes (overLiveRekey x) (sasOf (s .table)) l in
+    false≢true (sym (none-passes liveRekey (sasOf (s .table)) n (p .one) (p .stands)) ∙ over-parts x (p .one) (p .passes) .0)
 
 module _ (limits : Limits) where
-  pub new-not-live : (x : List ℕ) → LiveRekey x (newState limits) → ⊥
-  unfolding newState any
-  new-not-live x l = false≢true (sym (ap (any (overLiveRekey x)) (sas-of-table limits [])) ∙ l)
-
-  formed-table : (s : State) → stateFormed limits s ≡ true → tableFormed limits (s .table) ≡ true
+  pub formed-table : (s : State) → stateFormed limits s ≡ true → tableFormed limits (s .table) ≡ true
   unfolding stateFormed
   formed-table s e = and-parts (tableFormed limits (s .table)) (heldFormed limits (s .held)) e .0
 
-  pub swept-live : (x : List ℕ) (now : ℕ) (s : State) → LiveRekey x s → LiveRekey x (sweptState limits now s)
-  swept-live x now s l =
+  pub swept-none : (now : ℕ) (s : State) → NoneLive s → NoneLive (sweptState limits now s)
+  swept-none now s n =
       bool-cases (stateFormed limits s)
       (λ e.
-      subst (LiveRekey x) (swept-yes limits s now (swept limits now (s .table)) e refl)
-      (ap (any (overLiveRekey x)) (swept-sas limits s now (formed-table s e)) ∙ live-stands x s now l))
-      (λ e. subst (LiveRekey x) (swept-no limits s now e) l)
-
-  pub live-not-empty : (x : List ℕ) (s : State) (now : ℕ) → LiveRekey x s → emptyAt limits now (s .table) ≡ false
-  unfolding emptyAt
-  live-not-empty x s now l =
-      let r = some-passes (overLiveRekey x) (sasOf (s .table)) l in
-      let d = live-not-due now (r .one) (over-parts x (r .one) (r .passes) .0) in
-      bool-cases (emptyAt limits now (s .table))
-      (λ g.
-      let h = and-parts (leb (s .table .count) (limits .sas)) (all (due now) (sasOf (s .table))) g .1 in
-      absurd (false≢true (sym d ∙ all-pass (due now) (sasOf (s .table)) h (r .one) (r .stands))))
-      (λ g. g)
-
--- an exchange that is taken and does not ask for an empty member is the rekey
-rekey-rows : (a b c empty : Bool) → let x = either a registration (either b registration (either c rekey other)) in
-    not (x .admitted) ≡ false → breaksWanted (x .member) empty ≡ false → empty ≡ false → x ≡ rekey
-rekey-rows true b c d e f g = absurd (false≢true (sym (sym (ap not g) ∙ f)))
-rekey-rows false true c d e f g = absurd (false≢true (sym (sym (ap not g) ∙ f)))
-rekey-rows false false true d e f g = refl
-rekey-rows false false false d e f g = absurd (false≢true (sym e))
+      subst NoneLive (swept-yes limits s now (swept limits now (s .table)) e refl)
+      (ap (any liveRekey) (swept-sas limits s now (formed-table s e))
+      ∙ passes-none liveRekey (standing now s)
+      (λ b m. none-passes liveRekey (sasOf (s .table)) n b (kept-member (stays now) b (sasOf (s .table)) m .0))))
+      (λ e. subst NoneLive (swept-no limits s now e) n)
 
 -- ---- when a frame is accepted
 -- a Rekey SA retires for a new Rekey SA alone
@@ -118,11 +97,11 @@ passed-over f n a e =
     let p = eqb-true (a .protocol) entry.rekey (and-parts (eqb (a .protocol) entry.rekey) (isLive (a .condition)) e .0) in
     rw (ne-eqb (a .protocol) esp (λ q. omega arith), n)
 
-stays-over : (x : List ℕ) (f : Frame) → newRekey f ≡ false → (s : State) (now : ℕ) → LiveRekey x s →
+stays-over : (x : List ℕ) (f : Frame) → newRekey f ≡ false → (s : State) (now : ℕ) → StandsAt now x s →
     any (overLiveRekey x) (oldSas s now f) ≡ true
 unfolding oldSas retiredIf
 stays-over x f n s now l =
-    let r = some-passes (overLiveRekey x) (standing now s) (live-stands x s now l) in
+    let r = some-passes (overLiveRekey x) (standing now s) l in
     let g = oldSa now f in
     let e : g (r .one) ≡ r .one = rw (passed-over f n (r .one) (over-parts x (r .one) (r .passes) .0)) in
     passes-some (overLiveRekey x) (oldSas s now f) (g (r .one)) (member-map g (r .one) (standing now s) (r .stands))
@@ -140,16 +119,56 @@ module _ (limits : Limits) (s : State) (now : ℕ) (lent : List ℕ) (f : Frame)
   next-any : (q : Sa → Bool) → any q (sasOf (next .table)) ≡ (any q (a .new) || any q (oldSas s now f))
   next-any q = ap (any q) next-sas ∙ any-all q (a .new) (oldSas s now f)
 
-  -- it stays live where the frame announces no Rekey SA
-  pub accepted-live : (x : List ℕ) → LiveRekey x s → newRekey f ≡ false → LiveRekey x next
-  accepted-live x l n = next-any (overLiveRekey x) ∙ rw (stays-over x f n s now l) (or-true (any (overLiveRekey x) (a .new)))
+  module _ (n : newRekey f ≡ false) where
+    -- it stays live where it stands at the tick and the frame announces no Rekey SA
+    pub accepted-live : (x : List ℕ) → StandsAt now x s → LiveRekey x next
+    accepted-live x l = next-any (overLiveRekey x) ∙ rw (stays-over x f n s now l) (or-true (any (overLiveRekey x) (a .new)))
 
-  module _ (octets : List ℕ) (e : IsFrame octets f) (x : List ℕ) (l : LiveRekey x s) where
-    -- no announced SA has its name
+    -- as it was, so it stands at any tick at which it is not due
+    pub accepted-stands : (tick : ℕ) (x : List ℕ) (b : Sa) → List·Memᴰ b (standing now s) → overLiveRekey x b ≡ true →
+        due tick b ≡ false → StandsAt tick x next
+    unfolding oldSas retiredIf
+    accepted-stands tick x b m o d =
+        let g = oldSa now f in
+        let e : g b ≡ b = rw (passed-over f n b (over-parts x b o .0)) in
+        let old : List·Memᴰ b (oldSas s now f) =
+        subst (λ (y : Sa). List·Memᴰ y (oldSas s now f)) e (member-map g b (standing now s) m) in
+        let all = all-in b (a .new) (oldSas s now f) (inr (member-in b (oldSas s now f) old)) in
+        let there : List·Memᴰ b (sasOf (next .table)) =
+        subst (List·Memᴰ b) (sym next-sas) (in-member b (insertAll (a .new) (oldSas s now f)) all) in
+        passes-some (overLiveRekey x) (standing tick next) b (member-kept (stays tick) b (sasOf (next .table)) there (ap not d)) o
+
+    -- "registration of a non-empty member": one that is accepted is of a member whose SAs are all due
+    all-due : rowOf f ≡ registration → all (due now) (sasOf (s .table)) ≡ true
+    unfolding nonEmptyMember emptyAt
+    all-due r =
+        let y = f .header .exchange in
+        let g = no-clause (two-ofMember limits s now y (f .header .spi)) 0 (c .no-2 .ofMember) in
+        let e = not-false (emptyAt limits now (s .table))
+        (sym (ap (λ (z : Exchange). breaksWanted (z .member) (emptyAt limits now (s .table))) r) ∙ g) in
+        and-parts (leb (s .table .count) (limits .sas)) (all (due now) (sasOf (s .table))) e .1
+
+    none-old : rowOf f ≡ registration → any liveRekey (oldSas s now f) ≡ false
+    none-old r =
+        passes-none liveRekey (oldSas s now f)
+        (λ b m.
+        let o = old-stayed s now f b (member-in b (oldSas s now f) m) in
+        let d = all-pass (due now) (sasOf (s .table)) (all-due r) (o .old) (in-member (o .old) (sasOf (s .table)) (o .stood)) in
+        absurd (false≢true (sym (o .not-due) ∙ d)))
+
+    -- so no Rekey SA is live after one that announces none
+    pub registered-none : (octets : List ℕ) → IsFrame octets f → rowOf f ≡ registration → NoneLive next
+    registered-none octets e r =
+        let made = all-made limits s now lent f c octets e (a .new) (a .enter) in
+        let none = count-none liveRekey (a .new) (made-count made ∙ none-count isRekey (announced f) n) in
+        next-any liveRekey ∙ rw (none, none-old r)
+
+  module _ (octets : List ℕ) (e : IsFrame octets f) (x : List ℕ) (l : StandsAt now x s) where
+    -- no announced SA has the name of one that stands at the tick
     other-names : any (named entry.rekey x) (a .new) ≡ false
     other-names =
         let made = all-made limits s now lent f c octets e (a .new) (a .enter) in
-        let r = some-passes (overLiveRekey x) (standing now s) (live-stands x s now l) in
+        let r = some-passes (overLiveRekey x) (standing now s) l in
         let there = passes-some (named entry.rekey x) (standing now s) (r .one) (r .stands) (over-parts x (r .one) (r .passes) .1) in
         made-any entry.rekey x made
         ∙ passes-none (policyNamed entry.rekey x) (announced f)
@@ -175,11 +194,3 @@ module _ (limits : Limits) (s : State) (now : ℕ) (lent : List ℕ) (f : Frame)
         let none-new = passes-none (overLiveRekey x) (a .new) (λ b m. rw (new b m) (and-false (liveRekey b))) in
         absurd (false≢true (sym (next-any (overLiveRekey x) ∙ rw (none-new, none)) ∙ k)))
         (λ g. g)
-
-    -- and the frame was a rekey
-    pub was-rekey : rowOf f ≡ rekey
-    unfolding nonEmptyMember
-    was-rekey =
-        let y = f .header .exchange in
-        rekey-rows (eqb y 39) (eqb y 40) (eqb y 41) (emptyAt limits now (s .table)) (no-clause (two-ofFrame y) 0 (c .no-2 .ofFrame))
-        (no-clause (two-ofMember limits s now y (f .header .spi)) 0 (c .no-2 .ofMember)) (live-not-empty limits x s now l)

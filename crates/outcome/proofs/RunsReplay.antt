@@ -1,9 +1,10 @@
--- NO REPLAY: as long as a Rekey SA is live, a Message ID that was accepted over it, or a lower one, is never accepted again; after
--- 4,294,967,295 none is.
+-- NO REPLAY: as long as no step leaves or brings a new Rekey SA, a Message ID that was accepted, or a lower one, is never accepted again;
+-- after 4,294,967,295 none is. `NeverDue` has the same as long as the Rekey SA is live.
 use native.Mathlib.Omega.{arith}
 use Prim.Native.Nat.{ℕ, _+_, _-_, _^_, _≤_}
 use mathlib.Core.Path.{_≡_, refl, ap, sym, _∙_, subst}
 use mathlib.Core.Bool.{true, false, not, _&&_, false≢true}
+use mathlib.Core.Logic.{_⊎_, inl, inr, ⊎-elim}
 use mathlib.Core.List.{List}
 use borrow.Author.Tests.{lt-leb, not-false}
 use Rattle.keys.specs.Limits.{Limits}
@@ -18,13 +19,15 @@ use Rattle.state.specs.Least.{acceptable, afterId}
 use Rattle.state.specs.State.{stateFormed, sweptState}
 use Rattle.state.proofs.Laws.{after-more, after-last}
 use Rattle.clauses.specs.Contents.{rowOf}
+use Rattle.clauses.specs.Number2.{two-ofFrame}
 use Rattle.clauses.specs.Number3.{notAcceptable, three-ofMember}
 use Rattle.outcome.specs.After.{newRekey, leastBy, leastAfterwards, After}
 use Rattle.outcome.specs.Outcome.{Judged, refused, accepted, Outcome, no-layout, by-tree}
-use Rattle.outcome.specs.Run.{Step, Takes, answered, swept, left, Run, ends, goes, Throughout, Quiet, AllQuiet, LiveRekey}
+use Rattle.outcome.specs.Run.{Step, Takes, answered, swept, left, Run, ends, goes, Throughout, Quiet, AllQuiet, LiveRekey, StandsAt}
 use Rattle.clauses.proofs.Clear.{no-clause}
+use Rattle.clauses.proofs.ExchangeRows.{by-row}
 use Rattle.outcome.proofs.RunsClear.{Clear, clear, Taken, taken}
-use Rattle.outcome.proofs.RunsLive.{new-not-live, swept-live, accepted-live, no-new-rekey, was-rekey, passes-over-live}
+use Rattle.outcome.proofs.RunsLive.{NoneLive, stands-live, passes-over, none-over, swept-none, accepted-live, registered-none}
 
 -- ---- the least Message ID is past i: neither i nor a lower one is acceptable
 abbrev pub Past : ℕ → Least → Type 0
@@ -57,36 +60,58 @@ module _ (limits : Limits) where
         (sym (ap (λ (x : Exchange). x .replay && not (acceptable i (s .least))) r)
         ∙ no-clause (three-ofMember s (f .header .exchange) i) 0 (c .no-3 .ofMember))
 
-    -- an accepted rekey came over the live Rekey SA
-    pub came-over : rowOf f ≡ rekey → LiveRekey (f .header .spi) s
-    came-over = passes-over-live limits s now f (c .no-2)
+    -- an accepted rekey came over a Rekey SA that stood at its tick
+    pub came-over : rowOf f ≡ rekey → StandsAt now (f .header .spi) s
+    came-over = passes-over limits s now f (c .no-2)
 
     -- and is past after it, where it announced no Rekey SA
     pub next-least : (next : State) → After limits s now lent f next → rowOf f ≡ rekey → newRekey f ≡ false →
         next .least ≡ afterId (f .header .messageId)
     unfolding leastAfterwards
-    next-least next a r n = a .least ∙ rw n (ap (λ (x : Exchange). leastBy (x .least) (f .header .messageId)) r)
+    next-least next a r n = a .least ∙ rw n (ap (λ (x : Exchange). leastBy (x .least) (f .header .messageId) (s .least)) r)
 
-  -- ---- a step over which the Rekey SA stays live keeps what is past
-  module _ (x : List ℕ) (i : ℕ) (s : State) (live : LiveRekey x s) (past : Past i (s .least)) where
-    judged-past : (now : ℕ) (lent octets : List ℕ) (f : Frame) (n : ℕ) (next : State) → IsFrame octets f →
-        Judged limits s now lent f n next → LiveRekey x next → Past i (next .least)
-    judged-past now lent octets f _ _ e (refused n a) l = past
-    judged-past now lent octets f _ _ e (accepted next a r) l =
-        let c = clear limits s now lent f a in
-        let y = was-rekey limits s now lent f c next r octets e x live in
-        let g = next-least s now lent f c next r y (no-new-rekey limits s now lent f c next r octets e x live l) in
-        subst (Past i) (sym g) (past-on i (f .header .messageId) (s .least) past (taken-id s now lent f c y))
+  -- ---- what bars a Message ID: it is past, or there is no live Rekey SA. The second half is for a registration that announces no Rekey SA:
+  -- it sets the least Message ID to 0
+  abbrev pub Barred : ℕ → State → Type 0
+  Barred i s = Past i (s .least) ⊎ NoneLive s
 
-    outcome-past : (now : ℕ) (lent octets : List ℕ) (n : ℕ) (next : State) → Outcome limits s now lent octets n next → LiveRekey x next →
-        Past i (next .least)
-    outcome-past now lent octets _ _ (no-layout none) l = past
-    outcome-past now lent octets _ _ (by-tree f {n} {next} e j) l = judged-past now lent octets f n next e j l
+  -- a step that does not leave and brings no new Rekey SA keeps it
+  module _ (i : ℕ) (s : State) where
+    accepted-barred : (now : ℕ) (lent octets : List ℕ) (f : Frame) (next : State) → IsFrame octets f → Clear limits s now lent f →
+        After limits s now lent f next → newRekey f ≡ false → Barred i s → Barred i next
+    accepted-barred now lent octets f next e c a n b =
+        let y = f .header .exchange in
+        let x = f .header .spi in
+        by-row (Barred i next) y (λ q r. inr (registered-none limits s now lent f c next a n octets e r))
+        (λ q k.
+        let g = next-least s now lent f c next a k n in
+        ⊎-elim
+        (λ p. inl (subst (Past i) (sym g) (past-on i (f .header .messageId) (s .least) p (taken-id s now lent f c k))))
+        (λ none. absurd (none-over x s none (stands-live x s now (came-over s now lent f c k)))) b)
+        (λ r.
+        let k = not-false (rowOf f .admitted) (no-clause (two-ofFrame y) 0 (c .no-2 .ofFrame)) in
+        absurd (false≢true (rw r at k)))
 
-    takes-past : (y : Step) (e : State) → Takes limits s y e → LiveRekey x e → Past i (e .least)
-    takes-past _ _ (answered octets lent now n {next} o) l = outcome-past now lent octets n next o l
-    takes-past _ _ (swept now) l = subst (Past i) (sym (swept-least now s)) past
-    takes-past _ _ left l = absurd (new-not-live limits x l)
+    judged-barred : (now : ℕ) (lent octets : List ℕ) (f : Frame) (n : ℕ) (next : State) → IsFrame octets f →
+        Judged limits s now lent f n next → (n ≡ 0 → newRekey f ≡ false) → Barred i s → Barred i next
+    judged-barred now lent octets f _ _ e (refused n a) q b = b
+    judged-barred now lent octets f _ _ e (accepted next a r) q b =
+        accepted-barred now lent octets f next e (clear limits s now lent f a) r (q refl) b
+
+    outcome-barred : (now : ℕ) (lent octets : List ℕ) (n : ℕ) (next : State) → Outcome limits s now lent octets n next →
+        ((f : Frame) → IsFrame octets f → n ≡ 0 → newRekey f ≡ false) → Barred i s → Barred i next
+    outcome-barred now lent octets _ _ (no-layout none) q b = b
+    outcome-barred now lent octets _ _ (by-tree f {n} {next} e j) q b = judged-barred now lent octets f n next e j (q f e) b
+
+    takes-barred : (y : Step) (e : State) (t : Takes limits s y e) → Quiet limits t → Barred i s → Barred i e
+    takes-barred _ _ (answered octets lent now n {next} o) q b = outcome-barred now lent octets n next o q b
+    takes-barred _ _ (swept now) q b =
+        ⊎-elim (λ p. inl (subst (Past i) (sym (swept-least now s)) p)) (λ none. inr (swept-none limits now s none)) b
+    takes-barred _ _ left q b = absurd q
+
+  run-barred : (i : ℕ) {s e : State} {l : List Step} (r : Run limits s l e) → AllQuiet limits r → Barred i s → Barred i e
+  run-barred i (ends s) q b = b
+  run-barred i (goes s {m} {e} {x = y} t r) q b = run-barred i r (q .1) (takes-barred i s y m t (q .0) b)
 
   -- the first and the last state of a run
   pub first-of : (P : State → Type 0) {s e : State} {l : List Step} (r : Run limits s l e) → Throughout limits P r → P s
@@ -97,81 +122,57 @@ module _ (limits : Limits) where
   last-of P (ends s) t = t
   last-of P (goes s t r) u = last-of P r (u .1)
 
-  run-past : (x : List ℕ) (i : ℕ) {s e : State} {l : List Step} (r : Run limits s l e) → Throughout limits (LiveRekey x) r →
-      Past i (s .least) → Past i (e .least)
-  run-past x i (ends s) t p = p
-  run-past x i (goes s {m} {e} {x = y} t r) u p =
-      run-past x i r (u .1) (takes-past x i s (u .0) p y m t (first-of (LiveRekey x) r (u .1)))
-
-  -- ---- THE LAW. A GSA_REKEY (exchange 41) was accepted; the Rekey SA over which it came is live in every state up to a later one
-  is-rekey : (f : Frame) → f .header .exchange ≡ 41 → rowOf f ≡ rekey
+  -- ---- THE LAW. A GSA_REKEY (exchange 41) that announced no Rekey SA was accepted; no step up to a later state left or brought one
+  pub is-rekey : (f : Frame) → f .header .exchange ≡ 41 → rowOf f ≡ rekey
   is-rekey f e = ap exchangeOf e
 
   module _ (s₀ s₁ : State) (now : ℕ) (lent octets : List ℕ) (f : Frame) (e : IsFrame octets f)
-      (x : f .header .exchange ≡ 41) (o : Outcome limits s₀ now lent octets 0 s₁) (s₂ : State) (l : List Step)
-      (r : Run limits s₁ l s₂) (live : Throughout limits (LiveRekey (f .header .spi)) r) where
+      (x : f .header .exchange ≡ 41) (none : newRekey f ≡ false) (o : Outcome limits s₀ now lent octets 0 s₁) (s₂ : State)
+      (l : List Step) (r : Run limits s₁ l s₂) (quiet : AllQuiet limits r) where
     was : Taken limits s₀ now lent s₁ f
     was = taken limits s₀ now lent octets f s₁ e o
 
     least-then : s₁ .least ≡ afterId (f .header .messageId)
-    least-then =
-        let c = was .is-clear in
-        let y = is-rekey f x in
-        let z = f .header .spi in
-        next-least s₀ now lent f c s₁ (was .after) y
-        (no-new-rekey limits s₀ now lent f c s₁ (was .after) octets e z (came-over s₀ now lent f c y) (first-of (LiveRekey z) r live))
+    least-then = next-least s₀ now lent f (was .is-clear) s₁ (was .after) (is-rekey f x) none
 
-    pub past-then : Past (f .header .messageId) (s₂ .least)
-    past-then =
-        let i = f .header .messageId in run-past (f .header .spi) i r live (subst (Past i) (sym least-then) (past-after i))
+    barred-then : Barred (f .header .messageId) s₂
+    barred-then =
+        let i = f .header .messageId in run-barred i r quiet (inl (subst (Past i) (sym least-then) (past-after i)))
 
-    pub all-past-then : f .header .messageId ≡ 4294967295 → (i : ℕ) → Past i (s₂ .least)
-    all-past-then h i =
-        run-past (f .header .spi) i r live (subst (Past i) (sym least-then) (past-last i (f .header .messageId) (omega arith)))
+    all-barred-then : f .header .messageId ≡ 4294967295 → (i : ℕ) → Barred i s₂
+    all-barred-then h i = run-barred i r quiet (inl (subst (Past i) (sym least-then) (past-last i (f .header .messageId) (omega arith))))
+
+    -- where a Rekey SA is live there, neither that Message ID nor a lower one is acceptable, and after 4,294,967,295 none is
+    past-of : (i : ℕ) (y : List ℕ) → LiveRekey y s₂ → Barred i s₂ → Past i (s₂ .least)
+    past-of i y k (inl p) = p
+    past-of i y k (inr n) = absurd (none-over y s₂ n k)
+
+    pub past-then : (y : List ℕ) → LiveRekey y s₂ → Past (f .header .messageId) (s₂ .least)
+    past-then y k = past-of (f .header .messageId) y k barred-then
+
+    pub all-past-then : (y : List ℕ) → LiveRekey y s₂ → f .header .messageId ≡ 4294967295 → (i : ℕ) → Past i (s₂ .least)
+    all-past-then y k h i = past-of i y k (all-barred-then h i)
 
     module _ (now′ : ℕ) (lent′ octets′ : List ℕ) (g : Frame) (e′ : IsFrame octets′ g) (x′ : g .header .exchange ≡ 41)
         (s₃ : State) where
-      refused-then : acceptable (g .header .messageId) (s₂ .least) ≡ false → Outcome limits s₂ now′ lent′ octets′ 0 s₃ → ⊥
+      refused-then : ((y : List ℕ) → LiveRekey y s₂ → acceptable (g .header .messageId) (s₂ .least) ≡ false) →
+          Outcome limits s₂ now′ lent′ octets′ 0 s₃ → ⊥
       refused-then h o′ =
           let w = taken limits s₂ now′ lent′ octets′ g s₃ e′ o′ in
-          false≢true (sym h ∙ taken-id s₂ now′ lent′ g (w .is-clear) (is-rekey g x′))
+          let z = g .header .spi in
+          let over = stands-live z s₂ now′ (came-over s₂ now′ lent′ g (w .is-clear) (is-rekey g x′)) in
+          false≢true (sym (h z over) ∙ taken-id s₂ now′ lent′ g (w .is-clear) (is-rekey g x′))
 
-      -- its Message ID and lower ones are not accepted again
+      -- its Message ID and lower ones are not accepted again, over whatever Rekey SA, at whatever tick
       pub no-replay : g .header .messageId ≤ f .header .messageId → Outcome limits s₂ now′ lent′ octets′ 0 s₃ → ⊥
-      no-replay h = refused-then (past-then (g .header .messageId) h)
+      no-replay h = refused-then (λ y k. past-then y k (g .header .messageId) h)
 
       -- after 4,294,967,295 none is
       pub none-any-more : f .header .messageId ≡ 4294967295 → Outcome limits s₂ now′ lent′ octets′ 0 s₃ → ⊥
-      none-any-more h = let j = g .header .messageId in refused-then (all-past-then h j j (omega arith))
+      none-any-more h = let j = g .header .messageId in refused-then (λ y k. all-past-then y k h j j (omega arith))
 
-  -- ---- the Rekey SA is live in every state as long as no step leaves or announces another
-  judged-live : (x : List ℕ) (s : State) (now : ℕ) (lent octets : List ℕ) (f : Frame) (n : ℕ) (next : State) →
-      Judged limits s now lent f n next → (n ≡ 0 → newRekey f ≡ false) → LiveRekey x s → LiveRekey x next
-  judged-live x s now lent octets f _ _ (refused n a) q l = l
-  judged-live x s now lent octets f _ _ (accepted next a r) q l =
-      accepted-live limits s now lent f (clear limits s now lent f a) next r x l (q refl)
-
-  takes-live : (x : List ℕ) (s : State) (y : Step) (e : State) (t : Takes limits s y e) → Quiet limits t → LiveRekey x s → LiveRekey x e
-  takes-live x s _ _ (answered octets lent now n {next} o) q l = outcome-live n next o q
-    where
-      outcome-live : (n : ℕ) (next : State) → Outcome limits s now lent octets n next →
-          ((f : Frame) → IsFrame octets f → n ≡ 0 → newRekey f ≡ false) → LiveRekey x next
-      outcome-live _ _ (no-layout none) p = l
-      outcome-live _ _ (by-tree f {n} {next} g j) p = judged-live x s now lent octets f n next j (p f g) l
-  takes-live x s _ _ (swept now) q l = swept-live limits x now s l
-  takes-live x s _ _ left q l = absurd q
-
-  pub quiet-live : (x : List ℕ) {s e : State} {l : List Step} (r : Run limits s l e) → AllQuiet limits r → LiveRekey x s →
-      Throughout limits (LiveRekey x) r
-  quiet-live x (ends s) q l = l
-  quiet-live x (goes s {m} {e} {x = y} t r) q l = (l, quiet-live x r (q .1) (takes-live x s y m t (q .0) l))
-
-  -- so it is after a GSA_REKEY that announced none: the law's condition, by the steps alone
-  pub stays-live : (s₀ s₁ : State) (now : ℕ) (lent octets : List ℕ) (f : Frame) → IsFrame octets f → f .header .exchange ≡ 41 →
-      Outcome limits s₀ now lent octets 0 s₁ → newRekey f ≡ false → (s₂ : State) (l : List Step) (r : Run limits s₁ l s₂) →
-      AllQuiet limits r → Throughout limits (LiveRekey (f .header .spi)) r
-  stays-live s₀ s₁ now lent octets f e x o n s₂ l r q =
-      let w = taken limits s₀ now lent octets f s₁ e o in
-      let c = w .is-clear in
-      let z = f .header .spi in
-      quiet-live z r q (accepted-live limits s₀ now lent f c s₁ (w .after) z (came-over s₀ now lent f c (is-rekey f x)) n)
+    -- the Rekey SA over which it came is live after it: the law speaks of rekeys that come over it
+    pub still-live : LiveRekey (f .header .spi) s₁
+    still-live =
+        accepted-live limits s₀ now lent f (was .is-clear) s₁ (was .after) none (f .header .spi)
+        (came-over s₀ now lent f (was .is-clear) (is-rekey f x))

@@ -6,35 +6,27 @@ use mathlib.Core.Bool.{true, false}
 use mathlib.Core.List.{List, [], _∷_}
 use lib.ListN.{length, getD, replicate}
 use Rattle.octets.specs.Octets.{Octets}
-use Rattle.octets.specs.Compare.{orderOf, same}
 use Rattle.octets.proofs.Octets.{no-octets, one-octet}
 use Rattle.fips197.specs.Key.{Key, isKey}
 use Rattle.keywrap.specs.Wrap.{wrapOf}
 use Rattle.keys.specs.Limits.{limits}
-use Rattle.keys.specs.Lists.{all, any, count, heads, rising}
-use Rattle.keys.specs.Algorithms.{sizeOf}
-use Rattle.keys.specs.Kinds.{rekeySizes, rekeyOf}
 use Rattle.attributes.specs.Tree.{WrapKey}
 use Rattle.frames.specs.Grammar.{IsFrame}
-use Rattle.sa.specs.Entry.{named, formed, liveRekey, rekeySa, withCondition}
+use Rattle.sa.specs.Entry.{withCondition}
 use Rattle.sa.specs.declared.entry.Condition.the-variants.{Retiring}
 use Rattle.sa.specs.declared.entry.Sa.{Sa}
-use Rattle.table.specs.Table.{tableOf, tableFormed}
 use Rattle.state.specs.declared.State.{State}
 use Rattle.state.specs.declared.least.Least.{Least}
 use Rattle.state.specs.declared.least.Least.the-variants.{Id}
-use Rattle.state.specs.Held.{heldOf, heldFormed}
 use Rattle.state.specs.Least.{acceptable}
 use Rattle.state.specs.State.{stateFormed}
-use Rattle.clauses.specs.Contents.{gather}
-use Rattle.outcome.specs.After.{newRekey}
 use Rattle.outcome.specs.Outcome.{Outcome}
-use Rattle.outcome.specs.Run.{LiveRekey, ends}
-use Rattle.outcome.specs.Samples.{deleting, Around, registering, entry, Keying, Wrapping, Registers, Creates}
+use Rattle.outcome.specs.Run.{StandsAt}
+use Rattle.outcome.specs.Samples.{Around, registering, entry, Keying, Wrapping, Registers, Creates}
 use Rattle.outcome.specs.Samples.{Sample, clock-wraps, delay-zero, least-seven, last-id, two-steps, circle, two-values, lent-of-28}
 use Rattle.outcome.specs.Samples.{key-length-128, key-tree}
-use Rattle.outcome.proofs.RunsReplay.{stays-live}
-use Rattle.outcome.proofs.SamplesRekeys.{last-id-holds}
+use Rattle.outcome.proofs.AtTick.{rekeySpi, one, seven, seven-formed, seven-stands, not-due, one-in, over-one}
+use Rattle.outcome.proofs.SamplesRekeys.{deleted, delete-taken, deleted-stands}
 use Rattle.outcome.proofs.SamplesRead.{around, Rekeyed, two-steps-read, two-values-read, circle-read, plain-read}
 use Rattle.outcome.proofs.SamplesRead.{laid-out, rekeys-read}
 use Rattle.outcome.proofs.SamplesReadTree.{treeAround, treeAt, tree-octets, tree-creates}
@@ -44,19 +36,21 @@ pub record Messages (l : Least → Type 0) (ids : List ℕ → Type 0) : Type 0 
   pub state : State
   pub spi : List ℕ
   pub is-formed : stateFormed limits state ≡ true
-  pub live : LiveRekey spi state
+  pub now : ℕ
+  pub stands : StandsAt now spi state
   pub least : l (state .least)
   pub octets : ids spi
 
--- one that is taken, after which the Rekey SA with the SPI x is still live, and a later rekey over it
-pub record Later (s : State) (x : List ℕ) : Type 0 where
+-- one with ID i that is taken, and a later one, with ID j, at a tick at which the Rekey SA with the SPI x stands
+pub record Later (s : State) (x : List ℕ) (i j : ℕ) : Type 0 where
   pub now : ℕ
   pub lent : List ℕ
-  pub rekey : Rekeyed x 4294967295
+  pub rekey : Rekeyed x i
   pub next : State
   pub outcome : Outcome limits s now lent (rekey .octets) 0 next
-  pub live : LiveRekey x next
-  pub later : Rekeyed x 9
+  pub tick : ℕ
+  pub stands : StandsAt tick x next
+  pub later : Rekeyed x j
 
 pub record Entries (made : List ℕ → List ℕ → List ℕ → List WrapKey) (Asked : List ℕ → List ℕ → List ℕ → Type 0) : Type 0 where
   pub r : Around
@@ -106,9 +100,11 @@ pub record Lent : Type 0 where
 abbrev pub Inhabited : Sample → Type 0
 Inhabited clock-wraps = (a : Sa) × (a .condition ≡ Retiring 4294967000 1)
 Inhabited delay-zero = (a : Sa) × ((start : ℕ) × (a .condition ≡ Retiring start 0))
-Inhabited least-seven = Messages (λ (l : Least). l ≡ Id 7) (λ (x : List ℕ). Rekeyed x 6 × Rekeyed x 7 × Rekeyed x 9)
+Inhabited least-seven =
+    (m : Messages (λ (l : Least). l ≡ Id 7) (λ (x : List ℕ). Rekeyed x 6 × Rekeyed x 7 × Rekeyed x 9)) × Later (m .state) (m .spi) 9 9
 Inhabited last-id =
-    (m : Messages (λ (l : Least). acceptable 4294967295 l ≡ true) (λ (x : List ℕ). Rekeyed x 4294967295)) × Later (m .state) (m .spi)
+    (m : Messages (λ (l : Least). acceptable 4294967295 l ≡ true) (λ (x : List ℕ). Rekeyed x 4294967295))
+    × Later (m .state) (m .spi) 4294967295 9
 Inhabited two-steps =
     Entries (λ lent v₅ v₉. entry 5 9 (wrapOf v₉ v₅) ∷ entry 9 0 (wrapOf lent v₉) ∷ [])
     (λ lent v₅ v₉. Wrapping lent v₅ × Wrapping lent v₉)
@@ -118,47 +114,25 @@ Inhabited lent-of-28 = Lent
 Inhabited key-length-128 = Unit {0}
 Inhabited key-tree = Tree
 
--- ---- a member with one live Rekey SA
 same-octets : (n k : ℕ) → k < 256 → Octets (replicate n k)
 same-octets zero k h = no-octets
 same-octets (suc n) k h = one-octet k (replicate n k) h (same-octets n k h)
 
-abbrev rekeySpi : List ℕ
-rekeySpi = replicate 16 1
-
-abbrev one : Sa
-one = rekeySa rekeySpi (rekeyOf (replicate 36 2) 20 16)
-
-abbrev seven : State
-seven = record { table = tableOf limits (one ∷ []); held = heldOf limits []; least = Id 7 }
-
-seven-formed : stateFormed limits seven ≡ true
-unfolding stateFormed tableFormed heldFormed tableOf heldOf all count heads rising formed liveRekey rekeySa rekeySizes sizeOf any
-seven-formed = refl
-
-seven-live : LiveRekey rekeySpi seven
-unfolding tableOf any named liveRekey rekeySa same orderOf
-seven-live = refl
-
--- ID 4,294,967,295 is taken over it
-announces-none : (x : List ℕ) (i : ℕ) (l : List (List ℕ)) → newRekey (deleting x i l) ≡ false
-unfolding any gather
-announces-none x i l = refl
-
-taken-once : Rekeyed rekeySpi 4294967295 → Rekeyed rekeySpi 9 → Later seven rekeySpi
-taken-once r later =
-    let i = r .is in
-    let f = deleting rekeySpi 4294967295 (i .spis) in
-    let t = last-id-holds .taken seven rekeySpi seven-formed seven-live refl 0 [] (r .octets) i in
+-- ---- a member with one live Rekey SA: an ID is taken over it, and it stands at every tick after that too
+taken-once : (i j : ℕ) → acceptable i (Id 7) ≡ true → Rekeyed rekeySpi i → Rekeyed rekeySpi j → Later seven rekeySpi i j
+taken-once i j c r later =
+    let k = seven-stands 0 in
+    let w = r .is in
     record {
       now = 0;
       lent = [];
       rekey = r;
-      next = t .next;
-      outcome = t .outcome;
-      live =
-          stays-live limits seven (t .next) 0 [] (r .octets) f (i .reads) refl (t .outcome)
-          (announces-none rekeySpi 4294967295 (i .spis)) (t .next) [] (ends (t .next)) tt;
+      next = deleted seven 0 rekeySpi i (w .spis) [] seven-formed k;
+      outcome = delete-taken seven 0 rekeySpi i (w .spis) [] seven-formed k (r .octets) (w .reads) (w .some) (w .few) c;
+      tick = 1;
+      stands =
+          deleted-stands seven 0 rekeySpi i (w .spis) [] seven-formed k (r .octets) (w .reads) (w .some) (w .few) c 1 one (one-in 0)
+          over-one (not-due 1);
       later = later;
     }
 
@@ -181,19 +155,30 @@ pub samples-inhabited : (x : Sample) → Inhabited x
 samples-inhabited clock-wraps = (withCondition (Retiring 4294967000 1) one, refl)
 samples-inhabited delay-zero = (withCondition (Retiring 0 0) one, (0, refl))
 samples-inhabited least-seven =
-    let r = rekeys-read rekeySpi refl (same-octets 16 1 (omega arith)) in
-    record {
-      state = seven;
-      spi = rekeySpi;
-      is-formed = seven-formed;
-      live = seven-live;
-      least = refl;
-      octets = (r .0, r .1, r .2);
-    }
+    let r = rekeys-read rekeySpi refl (same-octets 16 1 (omega arith)) in (
+      record {
+        state = seven;
+        spi = rekeySpi;
+        is-formed = seven-formed;
+        now = 0;
+        stands = seven-stands 0;
+        least = refl;
+        octets = (r .0, r .1, r .2);
+      },
+      taken-once 9 9 refl (r .2) (r .2),
+    )
 samples-inhabited last-id =
     let r = rekeys-read rekeySpi refl (same-octets 16 1 (omega arith)) in (
-      record { state = seven; spi = rekeySpi; is-formed = seven-formed; live = seven-live; least = refl; octets = r .3 },
-      taken-once (r .3) (r .2),
+      record {
+        state = seven;
+        spi = rekeySpi;
+        is-formed = seven-formed;
+        now = 0;
+        stands = seven-stands 0;
+        least = refl;
+        octets = r .3;
+      },
+      taken-once 4294967295 9 refl (r .3) (r .2),
     )
 samples-inhabited two-steps =
     let read = two-steps-read lentKey (replicate 20 7) (replicate 16 9) (key-16 1 (omega arith)) refl keying (fits 9 (omega arith))

@@ -1,9 +1,9 @@
--- The samples on Message IDs: rekeys with D alone over a live Rekey SA.
+-- The samples on Message IDs: rekeys with D alone over a Rekey SA that stands at the tick.
 use native.Mathlib.Omega.{arith}
 use Prim.Native.Nat.{ℕ, _+_, _≤_}
 use mathlib.Core.Path.{_≡_, refl, ap, sym, _∙_, subst}
 use mathlib.Core.Bool.{true, false}
-use mathlib.Core.List.{List, [], _++_, append-nil, List·Memᴰ·not-nil}
+use mathlib.Core.List.{List, [], _++_, append-nil, List·Memᴰ, List·Memᴰ·not-nil}
 use borrow.Author.Tests.{le-ltb, ne-eqb}
 use lib.ListN.{length}
 use Rattle.keys.specs.Limits.{limits}
@@ -11,6 +11,8 @@ use Rattle.keys.specs.Lists.{any, count}
 use Rattle.keys.proofs.Cases.{and-parts}
 use Rattle.frames.specs.Frame.{Frame}
 use Rattle.frames.specs.Grammar.{IsFrame}
+use Rattle.sa.specs.Entry.{due}
+use Rattle.sa.specs.declared.entry.Sa.{Sa}
 use Rattle.table.specs.Table.{sasOf, tableOf, tableFormed, stays}
 use Rattle.table.proofs.Kept.{fit-keep, formed-fit}
 use Rattle.state.specs.declared.State.{State}
@@ -18,7 +20,7 @@ use Rattle.state.specs.Held.{heldFormed}
 use Rattle.state.specs.State.{stateFormed}
 use Rattle.state.specs.Least.{acceptable, afterId}
 use Rattle.clauses.specs.Contents.{gather}
-use Rattle.clauses.specs.Number2.{standing, nonEmptyMember, otherSpis}
+use Rattle.clauses.specs.Number2.{standing, overLiveRekey, nonEmptyMember, otherSpis}
 use Rattle.clauses.specs.Number3.{notAcceptable, three-ofMember}
 use Rattle.clauses.specs.Number4.{criticalUnknown, barredMemberBag, barredDelete, twoGsa, twoKd, gsaWithoutKd, kdWithoutGsa, neither}
 use Rattle.clauses.specs.Number4.{severalRekeyPolicies, severalGroupWide, severalMemberBags, gsaWithoutSaPolicy, keyLengthTwice}
@@ -33,14 +35,14 @@ use Rattle.chains.specs.Refusals.{EntriesEight, wrong-size, two-values, Eight, 
 use Rattle.chains.proofs.Determined.{last-entry}
 use Rattle.outcome.specs.Answer.{EightOf, NineOf}
 use Rattle.outcome.specs.Roots.{announcedKeys, rootsOf, wrappingSize}
-use Rattle.outcome.specs.After.{oldSas, insertAll, no-sa, leastAfterwards, After}
-use Rattle.outcome.specs.Run.{LiveRekey}
+use Rattle.outcome.specs.After.{newRekey, oldSas, insertAll, no-sa, leastAfterwards, After}
+use Rattle.outcome.specs.Run.{StandsAt}
 use Rattle.outcome.specs.Outcome.{Outcome}
 use Rattle.outcome.specs.Samples.{deleting, LaterRefused, least-seven, last-id, Says}
 use Rattle.chains.proofs.Members.{in-member}
 use Rattle.outcome.proofs.RunsClear.{None, Clear, taken}
 use Rattle.outcome.proofs.RunsAccepted.{clear-formed}
-use Rattle.outcome.proofs.RunsLive.{live-stands, accepted-live}
+use Rattle.outcome.proofs.RunsLive.{stands-live, accepted-stands}
 use Rattle.outcome.proofs.Runs.{outcome-formed, run-formed}
 use Rattle.outcome.proofs.RunsReplay.{last-of, all-past-then}
 use Rattle.outcome.proofs.SamplesAnswers.{applies-member, outcome-0, outcome-3}
@@ -64,14 +66,14 @@ module _ (roots : List Root) (size : ℕ) where
   none-nine : Nine roots [] size [] → ⊥
   none-nine h = none-in (h .sa) (h .stands)
 
--- 2 does not apply to a rekey over the live Rekey SA
-over-live : (s : State) (now : ℕ) (x : List ℕ) → stateFormed limits s ≡ true → LiveRekey x s → None (two limits s now 41 x)
+-- 2 does not apply to a rekey over a Rekey SA that stands at the tick
+over-live : (s : State) (now : ℕ) (x : List ℕ) → stateFormed limits s ≡ true → StandsAt now x s → None (two limits s now 41 x)
 unfolding one nonEmptyMember otherSpis
-over-live s now x e k = record { ofFrame = refl; ofMember = rw (e, live-stands x s now k) }
+over-live s now x e k = record { ofFrame = refl; ofMember = rw (e, k) }
 
 -- a rekey whose Message ID is not acceptable
 pub rekey-refused : (s : State) (now : ℕ) (lent octets : List ℕ) (g : Frame) → IsFrame octets g → g .header .exchange ≡ 41 →
-    stateFormed limits s ≡ true → LiveRekey (g .header .spi) s → acceptable (g .header .messageId) (s .least) ≡ false →
+    stateFormed limits s ≡ true → StandsAt now (g .header .spi) s → acceptable (g .header .messageId) (s .least) ≡ false →
     Outcome limits s now lent octets 3 s
 unfolding one notAcceptable
 rekey-refused s now lent octets g r x e k h =
@@ -114,8 +116,8 @@ module _ (s : State) (now : ℕ) (x : List ℕ) (i : ℕ) (l : List (List ℕ)) 
         ofMember = rw (le-ltb 16 (length (standing now s) + 0) (omega arith));
       }
 
-  module _ (lent : List ℕ) (e : stateFormed limits s ≡ true) (k : LiveRekey x s) where
-    abbrev f : Frame
+  module _ (lent : List ℕ) (e : stateFormed limits s ≡ true) (k : StandsAt now x s) where
+    abbrev pub f : Frame
     f = deleting x i l
 
     no-8 : EightOf limits s now lent f → ⊥
@@ -140,22 +142,23 @@ module _ (s : State) (now : ℕ) (x : List ℕ) (i : ℕ) (l : List (List ℕ)) 
     }
 
     -- the member after it
-    abbrev deleted : State
+    abbrev pub deleted : State
     deleted = record { table = tableOf limits (oldSas s now f); held = s .held; least = afterId i }
 
     after-delete : After limits s now lent f deleted
     unfolding gather insertAll leastAfterwards any
     after-delete = record { new = []; enter = no-sa; table = refl; held = refl; least = refl }
 
-    -- taken; then the Rekey SA is live still, and no other rekey changed the least Message ID
+    -- taken; then the Rekey SA stands at every tick at which it is not due
     module _ (octets : List ℕ) (g : IsFrame octets f) (a : 1 ≤ length l) (b : length l ≤ 32)
         (c : acceptable i (s .least) ≡ true) where
       pub delete-taken : Outcome limits s now lent octets 0 deleted
       delete-taken = outcome-0 limits s now lent octets f g (clear-delete a b c) deleted after-delete
 
-      pub deleted-live : LiveRekey x deleted
+      pub deleted-stands : (tick : ℕ) (y : Sa) → List·Memᴰ y (standing now s) → overLiveRekey x y ≡ true → due tick y ≡ false →
+          StandsAt tick x deleted
       unfolding gather any
-      deleted-live = accepted-live limits s now lent f (clear-delete a b c) deleted after-delete x k refl
+      deleted-stands tick y = accepted-stands limits s now lent f (clear-delete a b c) deleted after-delete refl tick x y
 
       pub deleted-formed : stateFormed limits deleted ≡ true
       deleted-formed = outcome-formed limits (omega arith) s now lent octets 0 deleted delete-taken e
@@ -163,52 +166,56 @@ module _ (s : State) (now : ℕ) (x : List ℕ) (i : ℕ) (l : List (List ℕ)) 
 -- ---- the rows
 pub least-seven-holds : Says least-seven
 unfolding afterId
-least-seven-holds s x e k n = (
-  λ now lent octets g r y z i.
-      rekey-refused s now lent octets g r y e (subst (λ (w : List ℕ). LiveRekey w s) (sym z) k)
+least-seven-holds s x e n = (
+  λ now lent octets k g r y z i.
+      rekey-refused s now lent octets g r y e (subst (λ (w : List ℕ). StandsAt now w s) (sym z) k)
       (ap (λ (j : ℕ). acceptable j (s .least)) i ∙ ap (acceptable 6) n),
-  λ now lent octets w.
+  λ now lent octets k w.
       let c = ap (acceptable 7) n in
       record {
         next = deleted s now x 7 (w .spis) lent e k;
         outcome = delete-taken s now x 7 (w .spis) lent e k octets (w .reads) (w .some) (w .few) c;
         after = tt;
       },
-  λ now lent octets w.
+  λ now lent octets k w.
       let c = ap (acceptable 9) n in
-      let live = deleted-live s now x 9 (w .spis) lent e k octets (w .reads) (w .some) (w .few) c in
       let formed = deleted-formed s now x 9 (w .spis) lent e k octets (w .reads) (w .some) (w .few) c in
       let next = deleted s now x 9 (w .spis) lent e k in
       record {
         next = next;
         outcome = delete-taken s now x 9 (w .spis) lent e k octets (w .reads) (w .some) (w .few) c;
-        after = λ now′ lent′ octets′ g r y z i.
-            rekey-refused next now′ lent′ octets′ g r y formed (subst (λ (w : List ℕ). LiveRekey w next) (sym z) live)
+        after = λ now′ lent′ octets′ k′ g r y z i.
+            rekey-refused next now′ lent′ octets′ g r y formed (subst (λ (w : List ℕ). StandsAt now′ w next) (sym z) k′)
             (ap (λ (j : ℕ). acceptable j (next .least)) i);
       },
 )
 
 pub later-refused : (s next : State) (now : ℕ) (lent octets : List ℕ) (f : Frame) → IsFrame octets f → f .header .exchange ≡ 41 →
-    f .header .messageId ≡ 4294967295 → Outcome limits s now lent octets 0 next → LaterRefused next (f .header .spi)
-later-refused s next now lent octets f e x i o l z r live now′ lent′ octets′ g e′ x′ q =
+    f .header .messageId ≡ 4294967295 → newRekey f ≡ false → Outcome limits s now lent octets 0 next → LaterRefused next (f .header .spi)
+later-refused s next now lent octets f e x i n o l z r quiet now′ lent′ octets′ k g e′ x′ q =
     let y = f .header .spi in
     let j = g .header .messageId in
     let was = clear-formed limits s now lent f (taken limits s now lent octets f next e o .is-clear) in
     let start = outcome-formed limits (omega arith) s now lent octets 0 next o was in
     let formed = last-of limits (λ (m : State). stateFormed limits m ≡ true) r (run-formed limits (omega arith) r start) in
-    let over = subst (λ (w : List ℕ). LiveRekey w z) (sym q) (last-of limits (LiveRekey y) r live) in
+    let over = subst (λ (w : List ℕ). StandsAt now′ w z) (sym q) k in
     rekey-refused z now′ lent′ octets′ g e′ x′ formed over
-    (all-past-then limits s next now lent octets f e x o z l r live i j j (omega arith))
+    (all-past-then limits s next now lent octets f e x n o z l r quiet y (stands-live y z now′ k) i j j (omega arith))
+
+announces-none : (x : List ℕ) (i : ℕ) (l : List (List ℕ)) → newRekey (deleting x i l) ≡ false
+unfolding any gather
+announces-none x i l = refl
 
 pub last-id-holds : Says last-id
 last-id-holds = record {
   any-frame = later-refused;
-  taken = λ s x e k c now lent octets w.
+  taken = λ s x e c now lent octets k w.
       let o = delete-taken s now x 4294967295 (w .spis) lent e k octets (w .reads) (w .some) (w .few) c in
       let next = deleted s now x 4294967295 (w .spis) lent e k in
+      let f = deleting x 4294967295 (w .spis) in
       record {
         next = next;
         outcome = o;
-        after = later-refused s next now lent octets (deleting x 4294967295 (w .spis)) (w .reads) refl refl o;
+        after = later-refused s next now lent octets f (w .reads) refl refl (announces-none x 4294967295 (w .spis)) o;
       };
 }

@@ -101,12 +101,13 @@ HeldBy false Set Kept = Kept
 unfoldable pub initialMessageId : Frame → ℕ
 initialMessageId f = sum (λ (a : GroupSaPolicy). cond (isRekey a) (sum (λ (i : ℕ). i) (a .initialMessageIds)) 0) (announced f)
 
-abbrev pub leastBy : LeastAfter → ℕ → Least
-leastBy leastAfter.Zero id = Id 0
-leastBy leastAfter.OwnPlusOne id = afterId id
+-- what an exchange with no new Rekey SA makes of the frame's Message ID and the least one of before; none of the three keeps that
+abbrev pub leastBy : LeastAfter → ℕ → Least → Least
+leastBy leastAfter.Zero id before = Id 0
+leastBy leastAfter.OwnPlusOne id before = afterId id
 
-unfoldable pub leastAfterwards : Frame → Least
-leastAfterwards f = cond (newRekey f) (Id (initialMessageId f)) (leastBy (rowOf f .least) (f .header .messageId))
+unfoldable pub leastAfterwards : State → Frame → Least
+leastAfterwards s f = cond (newRekey f) (Id (initialMessageId f)) (leastBy (rowOf f .least) (f .header .messageId) (s .least))
 
 -- THE MEMBER AFTER AN ACCEPTED FRAME
 pub record After (limits : Limits) (s : State) (now : ℕ) (lent : List ℕ) (f : Frame) (next : State) : Type 0 where
@@ -116,4 +117,4 @@ pub record After (limits : Limits) (s : State) (now : ℕ) (lent : List ℕ) (f 
   pub held :
       HeldBy (rowOf f .holds) (HeldAre (rootsOf limits s now lent f) (entriesOf f) (wrappingSize limits s now lent f) limits (next .held))
       (next .held ≡ s .held)
-  pub least : next .least ≡ leastAfterwards f
+  pub least : next .least ≡ leastAfterwards s f

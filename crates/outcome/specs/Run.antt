@@ -11,7 +11,7 @@ use Rattle.frames.specs.Grammar.{IsFrame}
 use Rattle.table.specs.Table.{sasOf}
 use Rattle.state.specs.declared.State.{State}
 use Rattle.state.specs.State.{newState, sweptState}
-use Rattle.clauses.specs.Number2.{overLiveRekey}
+use Rattle.clauses.specs.Number2.{standing, overLiveRekey}
 use Rattle.outcome.specs.After.{newRekey}
 use Rattle.outcome.specs.Outcome.{Outcome}
 
@@ -52,3 +52,8 @@ module _ (limits : Limits) where
 -- the Rekey SA with this SPI is live
 abbrev pub LiveRekey : List ℕ → State → Type 0
 LiveRekey spi s = any (overLiveRekey spi) (sasOf (s .table)) ≡ true
+
+-- the Rekey SA with this SPI stands at the tick: it is live, and not due then. Number 2 asks for it ("rekey whose two SPIs are not the live
+-- Rekey SA's", where SAs that are due count no more)
+abbrev pub StandsAt : ℕ → List ℕ → State → Type 0
+StandsAt now spi s = any (overLiveRekey spi) (standing now s) ≡ true

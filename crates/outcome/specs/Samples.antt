@@ -33,7 +33,8 @@ use Rattle.state.specs.Least.{acceptable}
 use Rattle.state.specs.State.{newState, stateFormed}
 use Rattle.clauses.specs.Fitness.{oneGroupAddress}
 use Rattle.outcome.specs.Outcome.{Outcome}
-use Rattle.outcome.specs.Run.{Step, Run, Throughout, LiveRekey}
+use Rattle.outcome.specs.After.{newRekey}
+use Rattle.outcome.specs.Run.{Step, Run, AllQuiet, StandsAt}
 
 abbrev payload : ℕ → Content → Payload
 payload k c = record { kind = k; critical = false; content = c }
@@ -59,11 +60,11 @@ pub record Rekeys (x : List ℕ) (i : ℕ) (octets : List ℕ) : Type 0 where
   pub few : length spis ≤ 32
   pub reads : IsFrame octets (deleting x i spis)
 
--- any rekey over that SA with this Message ID, whatever it holds, is refused as number 3; each of those with D alone is taken, with what
--- holds of the state after it
+-- at any tick at which that SA stands: any rekey over it with this Message ID, whatever it holds, is refused as number 3; each of those with
+-- D alone is taken, with what holds of the state after it
 abbrev pub Refuses : State → List ℕ → ℕ → Type 0
-Refuses s x i = (now : ℕ) (lent octets : List ℕ) (g : Frame) → IsFrame octets g → g .header .exchange ≡ 41 → g .header .spi ≡ x →
-    g .header .messageId ≡ i → Outcome limits s now lent octets 3 s
+Refuses s x i = (now : ℕ) (lent octets : List ℕ) → StandsAt now x s → (g : Frame) → IsFrame octets g → g .header .exchange ≡ 41 →
+    g .header .spi ≡ x → g .header .messageId ≡ i → Outcome limits s now lent octets 3 s
 
 pub record Taken (s : State) (now : ℕ) (lent octets : List ℕ) (Then : State → Type 0) : Type 0 where
   pub next : State
@@ -71,24 +72,22 @@ pub record Taken (s : State) (now : ℕ) (lent octets : List ℕ) (Then : State 
   pub after : Then next
 
 abbrev pub TakenThen : State → List ℕ → ℕ → (State → Type 0) → Type 0
-TakenThen s x i Then = (now : ℕ) (lent octets : List ℕ) → Rekeys x i octets → Taken s now lent octets Then
+TakenThen s x i Then = (now : ℕ) (lent octets : List ℕ) → StandsAt now x s → Rekeys x i octets → Taken s now lent octets Then
 
 abbrev LeastSeven : Type 0
-LeastSeven = (s : State) (x : List ℕ) → stateFormed limits s ≡ true → LiveRekey x s → s .least ≡ Id 7 →
+LeastSeven = (s : State) (x : List ℕ) → stateFormed limits s ≡ true → s .least ≡ Id 7 →
     Refuses s x 6 × TakenThen s x 7 (λ (next : State). Unit {0}) × TakenThen s x 9 (λ (next : State). Refuses next x 9)
 
--- every rekey that comes after any run over which the Rekey SA with the SPI x stays live
+-- every rekey over that SA that comes after any run in which no step leaves or brings a new Rekey SA, at a tick at which it stands
 abbrev pub LaterRefused : State → List ℕ → Type 0
-LaterRefused s x = (l : List Step) (e : State) (r : Run limits s l e) → Throughout limits (LiveRekey x) r → (now : ℕ)
-    (lent octets : List ℕ) (g : Frame) → IsFrame octets g → g .header .exchange ≡ 41 → g .header .spi ≡ x →
-    Outcome limits e now lent octets 3 e
+LaterRefused s x = (l : List Step) (e : State) (r : Run limits s l e) → AllQuiet limits r → (now : ℕ) (lent octets : List ℕ) →
+    StandsAt now x e → (g : Frame) → IsFrame octets g → g .header .exchange ≡ 41 → g .header .spi ≡ x → Outcome limits e now lent octets 3 e
 
--- any rekey with that Message ID that is taken, and that one is. "With no new Rekey SA": otherwise the SA over which it came is not live
--- after it
+-- any rekey with that Message ID that is taken "with no new Rekey SA", and each with D alone is taken
 pub record LastId : Type 0 where
   pub any-frame : (s next : State) (now : ℕ) (lent octets : List ℕ) (f : Frame) → IsFrame octets f → f .header .exchange ≡ 41 →
-      f .header .messageId ≡ 4294967295 → Outcome limits s now lent octets 0 next → LaterRefused next (f .header .spi)
-  pub taken : (s : State) (x : List ℕ) → stateFormed limits s ≡ true → LiveRekey x s → acceptable 4294967295 (s .least) ≡ true →
+      f .header .messageId ≡ 4294967295 → newRekey f ≡ false → Outcome limits s now lent octets 0 next → LaterRefused next (f .header .spi)
+  pub taken : (s : State) (x : List ℕ) → stateFormed limits s ≡ true → acceptable 4294967295 (s .least) ≡ true →
       TakenThen s x 4294967295 (λ (next : State). LaterRefused next x)
 
 -- ---- entries in a registration: GSA_AUTH (39) or GSA_REGISTRATION (40), which announces one ESP SA with AES-GCM-16 of 128 bits and

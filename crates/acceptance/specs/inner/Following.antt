@@ -25,4 +25,4 @@ pub record Told (s : List ℕ) (x : Said) (f : Frame) : Type 0 where
 pub record Follows (m : State) (now : ℕ) (f : Frame) (new : List Sa) (held : Held) (r : State) : Type 0 where
   pub table : r .table ≡ tableOf limits (insertAll new (oldSas m now f))
   pub held-is : r .held ≡ held
-  pub least : r .least ≡ leastAfterwards f
+  pub least : r .least ≡ leastAfterwards m f

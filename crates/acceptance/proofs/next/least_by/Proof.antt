@@ -7,7 +7,7 @@ use Rattle.acceptance.proofs.next.least_by.Statement.{statement}
 use Rattle.acceptance.proofs.next.least_by.Tie as tie
 
 returns : tie.Need-returns
-returns c = least-new (c .before .args .x) (c .if1 .taken)
+returns c = let a = c .before .args in least-new (a .x) (a .before) (c .if1 .taken)
 
 enum-told : tie.Need-enum-told
 enum-told c = search needs
@@ -20,15 +20,15 @@ after-requires c κs = search needs
 
 returns-2 : tie.Need-returns-2
 returns-2 c =
-    let x = c .before .before .before .args .x in
-    let e = ap (λ (y : LeastAfter). leastBy y (x .id)) (c .enum-told .given .1) in
-    least-kept x _ (c .before .before .if1 .left) (sym e)
+    let a = c .before .before .before .args in
+    let e = ap (λ (y : LeastAfter). leastBy y (a .x .id) (a .before)) (c .enum-told .given .1) in
+    least-kept (a .x) (a .before) _ (c .before .before .if1 .left) (sym e)
 
 returns-3 : tie.Need-returns-3
 returns-3 c =
-    let x = c .before .before .before .before .args .x in
-    let e = ap (λ (y : LeastAfter). leastBy y (x .id)) (c .before .enum-told2 .given .1) in
-    least-kept x _ (c .before .before .before .if1 .left) (c .after .ensures ∙ sym e)
+    let a = c .before .before .before .before .args in
+    let e = ap (λ (y : LeastAfter). leastBy y (a .x .id) (a .before)) (c .before .enum-told2 .given .1) in
+    least-kept (a .x) (a .before) _ (c .before .before .before .if1 .left) (c .after .ensures ∙ sym e)
 
 pub least-by-spec : {M : Type 1} → statement M
 least-by-spec = tie.close (tie.spec returns enum-told enum-told-2 after-requires returns-2 returns-3)

@@ -39,7 +39,7 @@ returns c =
     λ f t. record {
       table = entered-old (a .state) (a .tick) f _ _ _ (old-is o f t) (c .before .entered-all .ensures);
       held-is = refl;
-      least = least-told (a .x) (now (a .s)) f t _ (c .least-by .ensures);
+      least = least-told (a .x) (a .state) (now (a .s)) f t _ (c .least-by .ensures);
     }
 
 pub next-spec : {M : Type 1} → statement M
