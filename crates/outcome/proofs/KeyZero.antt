@@ -45,7 +45,7 @@ module _ (limits : Limits) (s : State) (now : ℕ) (lent octets : List ℕ) (f :
       not-false (stateFormed limits s) (no-clause (two-ofMember limits s now (f .header .exchange) (f .header .spi)) 2 (passes .ofMember))
 
   -- THE CLAIM
-  pub key-zero-of-rekey : CameOver s f (keyZero limits s now lent f)
+  pub key-zero-of-rekey : CameOver s now f (keyZero limits s now lent f)
   unfolding named
   key-zero-of-rekey =
       let spi = f .header .spi in
@@ -61,6 +61,7 @@ module _ (limits : Limits) (s : State) (now : ℕ) (lent octets : List ℕ) (f :
         sa = b;
         stands = m;
         live = q .0;
+        not-due = d;
         spi = same-eq (spiOf b) spi (n .1);
         cut = zero-own limits s now lent f x ∙ own-key-of-live limits s now is-formed b m (q .0) d (long b m);
       }

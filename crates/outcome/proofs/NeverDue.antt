@@ -28,7 +28,7 @@ use Rattle.outcome.specs.After.{newRekey}
 use Rattle.outcome.specs.Outcome.{Judged, refused, accepted, Outcome, no-layout, by-tree}
 use Rattle.outcome.specs.Run.{Step, Takes, answered, swept, left, Run, ends, goes, Throughout, Quiet, AllQuiet, LiveRekey, StandsAt}
 use Rattle.outcome.proofs.RunsLists.{some-passes, passes-some}
-use Rattle.outcome.proofs.RunsClear.{clear, Taken, taken}
+use Rattle.outcome.proofs.RunsClear.{clear, taken}
 use Rattle.outcome.proofs.RunsOld.{swept-sas}
 use Rattle.outcome.proofs.RunsLive.{over-parts, formed-table, accepted-live, no-new-rekey}
 use Rattle.outcome.specs.Samples.{Refuses, LaterRefused, last-id, Says}

@@ -1,4 +1,5 @@
--- KEY 0 OF A REKEY over a Rekey SA that stands at the tick: "The default key of the live Rekey SA: the key wrap part of its keying octets, cut as 001 section 3.4 orders."
+-- KEY 0 OF A REKEY over a Rekey SA that stands at the tick: "The default key of the live Rekey SA: the key wrap part of its keying octets,
+-- cut as 001 section 3.4 orders."
 use native.Mathlib.Omega.{arith}
 use Prim.Native.Nat.{ℕ, _+_, _-_}
 use mathlib.Core.Path.{_≡_, ap, sym, _∙_, subst}

@@ -1,5 +1,5 @@
--- What becomes of a live Rekey SA when a frame is accepted: one that stands at the tick stays live, unless the frame announces a Rekey SA; a
--- registration that announces none leaves none. Nothing here says that a live SA is never due (that is `NeverDue`).
+-- What becomes of a live Rekey SA when a frame is accepted: one that stands at the tick stays live, unless the frame announces a Rekey SA;
+-- a registration that announces none leaves none. Nothing here says that a live SA is never due (that is `NeverDue`).
 use native.Mathlib.Omega.{arith}
 use Prim.Native.Nat.{ℕ}
 use mathlib.Core.Path.{_≡_, refl, ap, sym, _∙_, subst}

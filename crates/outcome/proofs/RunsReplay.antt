@@ -70,8 +70,8 @@ module _ (limits : Limits) where
     unfolding leastAfterwards
     next-least next a r n = a .least ∙ rw n (ap (λ (x : Exchange). leastBy (x .least) (f .header .messageId) (s .least)) r)
 
-  -- ---- what bars a Message ID: it is past, or there is no live Rekey SA. The second half is for a registration that announces no Rekey SA:
-  -- it sets the least Message ID to 0
+  -- ---- what bars a Message ID: it is past, or there is no live Rekey SA. The second half is for a registration that announces no Rekey
+  -- SA: it sets the least Message ID to 0
   abbrev pub Barred : ℕ → State → Type 0
   Barred i s = Past i (s .least) ⊎ NoneLive s
 

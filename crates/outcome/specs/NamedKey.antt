@@ -2,7 +2,7 @@
 -- by exchange type and by where a key stands in the frame. No contract cites this file.
 use Prim.Native.Nat.{ℕ}
 use mathlib.Core.Path.{_≡_}
-use mathlib.Core.Bool.{true}
+use mathlib.Core.Bool.{true, false}
 use mathlib.Core.Logic.{_⊎_}
 use mathlib.Core.List.{List, [], _∷_}
 use lib.ListN.{length, take, drop}
@@ -13,7 +13,7 @@ use Rattle.attributes.specs.Tree.{SaKey, WrapKey}
 use Rattle.policies.specs.Policy.{GroupSaPolicy}
 use Rattle.bags.specs.Bag.{GroupKeyBag, MemberKeyBag}
 use Rattle.frames.specs.Frame.{Frame}
-use Rattle.sa.specs.Entry.{spiOf, liveRekey}
+use Rattle.sa.specs.Entry.{spiOf, liveRekey, due}
 use Rattle.sa.specs.declared.entry.Sa.{Sa}
 use Rattle.table.specs.Table.{sasOf}
 use Rattle.state.specs.declared.State.{State}
@@ -75,11 +75,12 @@ module _ (limits : Limits) (s : State) (now : ℕ) (lent : List ℕ) (f : Frame)
     pub opens : Opens value (copy .wrapped) x
 
 -- KEY 0 OF A REKEY: "GSA_REKEY frames use the live Rekey SA's own"; "The default key of the live Rekey SA: the key wrap part of its keying
--- octets, cut as 001 section 3.4 orders", "GSK_e | GSK_a | GSK_w = KEYMAT" with no GSK_a. The frame came over that SA: its SPI is the
--- header's two SPIs.
-pub record CameOver (s : State) (f : Frame) (zero : List ℕ) : Type 0 where
+-- octets, cut as 001 section 3.4 orders", "GSK_e | GSK_a | GSK_w = KEYMAT" with no GSK_a. The frame came over that SA, which stands
+-- at its tick: its SPI is the header's two SPIs.
+pub record CameOver (s : State) (now : ℕ) (f : Frame) (zero : List ℕ) : Type 0 where
   pub sa : Sa
   pub stands : In sa (sasOf (s .table))
   pub live : liveRekey sa ≡ true
+  pub not-due : due now sa ≡ false
   pub spi : spiOf sa ≡ f .header .spi
   pub cut : zero ≡ take (sa .wrapping) (drop (sa .encryption) (sa .octets))

@@ -60,8 +60,8 @@ pub record Rekeys (x : List ℕ) (i : ℕ) (octets : List ℕ) : Type 0 where
   pub few : length spis ≤ 32
   pub reads : IsFrame octets (deleting x i spis)
 
--- at any tick at which that SA stands: any rekey over it with this Message ID, whatever it holds, is refused as number 3; each of those with
--- D alone is taken, with what holds of the state after it
+-- at any tick at which that SA stands: any rekey over it with this Message ID, whatever it holds, is refused as number 3; each of those
+-- with D alone is taken, with what holds of the state after it
 abbrev pub Refuses : State → List ℕ → ℕ → Type 0
 Refuses s x i = (now : ℕ) (lent octets : List ℕ) → StandsAt now x s → (g : Frame) → IsFrame octets g → g .header .exchange ≡ 41 →
     g .header .spi ≡ x → g .header .messageId ≡ i → Outcome limits s now lent octets 3 s
