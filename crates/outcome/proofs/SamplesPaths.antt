@@ -62,8 +62,8 @@ pub two-steps-holds : Says two-steps
 unfolding any
 two-steps-holds r now lent x v₅ v₉ octets w₅ w₉ g =
     let k = g .key in
-    registers-0 r now lent x octets (entry 5 9 (wrapOf v₉ v₅) ∷ entry 9 0 (wrapOf lent v₉) ∷ []) k (g .keying) (g .reads) refl (omega arith)
-    (two-fit lent v₅ v₉ k w₅ w₉) (heldWith 5 v₅ ∷ heldWith 9 v₉ ∷ []) (held-two lent v₅ v₉ k w₅ w₉)
+    registers-0 r now lent x octets (entry 5 9 (wrapOf v₉ v₅) ∷ entry 9 0 (wrapOf lent v₉) ∷ []) k (g .keying) (g .reads) refl refl
+    (omega arith) (two-fit lent v₅ v₉ k w₅ w₉) (heldWith 5 v₅ ∷ heldWith 9 v₉ ∷ []) (held-two lent v₅ v₉ k w₅ w₉)
 
 -- ---- (1 under 3), (3 under 7), (7 under 0)
 module _ (lent v₁ v₃ v₇ : List ℕ) (key : Key lent) (w₁ : Wrapping lent v₁) (w₃ : Wrapping lent v₃) (w₇ : Wrapping lent v₇) where
@@ -118,5 +118,5 @@ unfolding any
 key-tree-holds r now lent x v₁ v₃ v₇ octets w₁ w₃ w₇ g =
     let k = g .key in
     registers-0 r now lent x octets (entry 1 3 (wrapOf v₃ v₁) ∷ entry 3 7 (wrapOf v₇ v₃) ∷ entry 7 0 (wrapOf lent v₇) ∷ []) k (g .keying)
-    (g .reads) refl (omega arith) (tree-fit lent v₁ v₃ v₇ k w₁ w₃ w₇) (heldWith 1 v₁ ∷ heldWith 3 v₃ ∷ heldWith 7 v₇ ∷ [])
+    (g .reads) refl refl (omega arith) (tree-fit lent v₁ v₃ v₇ k w₁ w₃ w₇) (heldWith 1 v₁ ∷ heldWith 3 v₃ ∷ heldWith 7 v₇ ∷ [])
     (held-tree lent v₁ v₃ v₇ k w₁ w₃ w₇)
