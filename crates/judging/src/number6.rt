@@ -25,7 +25,9 @@ fn any_unfit_key(row: Exchange, k: BagFacts) -> bool
     let nested = k.nested;
     // "WRAP_KEY with Key ID 0"
     let unnamed = k.unnamed;
-    count | named | nested | unnamed
+    // T-09: "Any such WRAP_KEY, reached or not"
+    let itself = k.itself;
+    count | named | nested | unnamed | itself
 }
 
 // Whether number 6 applies, in an exchange with this row and over this table, to a frame with these facts and these bodies of GSA and KD.
