@@ -172,6 +172,16 @@ impl Case {
         self.keys.get(at).cloned().unwrap_or((0, self.key0.clone()))
     }
 
+    /// The same, but not the key of that ID, which is not 0.
+    pub fn other_key(&mut self, id: u32) -> (u32, Vec<u8>) {
+        let key = self.some_key();
+        if key.0 == id {
+            (0, self.key0.clone())
+        } else {
+            key
+        }
+    }
+
     /// A Key ID that is neither 0 nor that of a key, nor named in the frame.
     pub fn unknown_id(&mut self) -> u32 {
         let octets = self.frame.octets();

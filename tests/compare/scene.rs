@@ -164,7 +164,7 @@ fn tree(case: &mut Case, shape: Shape) -> Vec<Attribute> {
 /// An entry that agrees with the others, or leads nowhere.
 fn further_entry(case: &mut Case, entries: &[Attribute]) -> Attribute {
     let (id, value) = case.rng.pick(&case.keys);
-    let (kwk_id, kwk) = case.some_key();
+    let (kwk_id, kwk) = case.other_key(id);
     match case.rng.below(5) {
         0 => case.rng.pick(entries),
         1 => Attribute::key(id, kwk_id, &case.rng.octets(24)),
@@ -173,9 +173,9 @@ fn further_entry(case: &mut Case, entries: &[Attribute]) -> Attribute {
             Attribute::key(id, unknown, &wrap(&kwk, &value))
         }
         3 => {
-            // A key that nothing reaches, wrapped under itself.
-            let (unknown, other) = (case.unknown_id(), case.rng.octets(value.len()));
-            Attribute::key(unknown, unknown, &wrap(&other, &other))
+            // A key that nothing reaches, wrapped under another one.
+            let (unknown, another, other) = (case.unknown_id(), case.unknown_id(), case.rng.octets(value.len()));
+            Attribute::key(unknown, another, &wrap(&other, &other))
         }
         _ => Attribute::key(id, kwk_id, &wrap(&kwk, &value)),
     }

@@ -186,14 +186,14 @@ impl<'a, 'f> Parts<'a, 'f> {
         known.any(|sa| self.policies.iter().any(|policy| policy.protocol == sa.protocol && policy.spi == sa.spi))
     }
 
-    /// Number 6: counts, Key IDs and KWK IDs.
+    /// Number 6: counts, Key IDs and KWK IDs. A WRAP_KEY whose Key ID equals its KWK ID is document 02's, T-09.
     fn keys_are_named_well(&self, registration: bool) -> bool {
         let bag_fits = |bag: &GroupBag| {
             let count = bag.sa_keys.len();
             let count_fits = if bag.protocol == REKEY && !registration { count > 0 } else { count == 1 };
             count_fits && bag.sa_keys.iter().all(|key| key.key_id == 0 && (bag.protocol == REKEY || key.kwk_id == 0))
         };
-        self.bags.iter().all(|bag| bag_fits(bag)) && self.wrap_keys().all(|key| key.key_id != 0)
+        self.bags.iter().all(|bag| bag_fits(bag)) && self.wrap_keys().all(|key| key.key_id != 0 && key.key_id != key.kwk_id)
     }
 
     /// Number 7.

@@ -188,6 +188,21 @@ fn sample_chains() {
     }
 }
 
+/// T-09: an entry whose Key ID equals its KWK ID gives 6, reached or not.
+#[test]
+fn keys_that_wrap_themselves() {
+    let (five, nine, other) = ([5; 16], [9; 16], [6; 16]);
+    let reached = || entry(5, &five, 0, &LENT);
+    for itself in [entry(5, &five, 5, &five), entry(5, &other, 5, &five), entry(9, &nine, 9, &nine), entry(5, &five, 5, &LENT)] {
+        for entries in [vec![itself.clone()], vec![reached(), itself.clone()], vec![itself.clone(), reached()]] {
+            let mut member = Member::new();
+            assert_eq!(member.take(&LENT, 0, &registration(entries.clone(), vec![]).octets()), 6);
+            assert_eq!(member.take(&[0x11; 28], 0, &registration(entries, vec![]).octets()), 5);
+            assert_eq!(member, Member::new());
+        }
+    }
+}
+
 /// P: a 28-octet default key: 5.
 #[test]
 fn sample_default_key() {

@@ -185,6 +185,11 @@ fn five() -> Transcript {
     t
 }
 
+/// A WRAP_KEY under its own Key ID.
+fn itself() -> Attribute {
+    entry(9, 9, 9, &key(9))
+}
+
 fn six() -> Transcript {
     let mut t = Transcript::new("refusal-6", LENT);
     let mut refused = |about: &str, change: fn(&mut Frame)| t.refused(about, whole(), change, "6 0 0");
@@ -204,7 +209,19 @@ fn six() -> Transcript {
         part(f, 1, 1).attributes = vec![Attribute::key(0, 5, &wrap(&key(5), &esp_keying()))]
     });
     refused("WRAP_KEY with Key ID 0", |f| part(f, 1, 2).attributes.push(entry(0, 6, 0, &lent())));
+    refused("key 5 is reached and wraps itself", |f| part(f, 1, 2).attributes.push(entry(5, 5, 5, &key(5))));
+    refused("the same, before the entry that reaches it", |f| part(f, 1, 2).attributes.insert(0, entry(5, 5, 5, &key(5))));
+    refused("key 9 is not reached and wraps itself", |f| part(f, 1, 2).attributes.push(itself()));
+    refused("key 5 under itself, which does not open", |f| part(f, 1, 2).attributes.push(Attribute::key(5, 5, &[1; 24])));
+    refused("the last Key ID under itself", |f| part(f, 1, 2).attributes.push(Attribute::key(u32::MAX, u32::MAX, &[1; 24])));
+    refused("Key ID 0 under KWK ID 0, which does not open", |f| part(f, 1, 2).attributes.push(Attribute::key(0, 0, &[1; 24])));
+    refused("33 WRAP_KEY, the last under itself", |f| {
+        part(f, 1, 2).attributes = vec![entry(5, 5, 0, &lent()); 32];
+        part(f, 1, 2).attributes.push(itself());
+    });
+    t.refused("it is 4 beside a second Member bag", whole(), |f| add_part(f, 1, Part::unnamed(vec![itself()])), "4 0 0");
     t.frame("as it should be", 0, &whole(), "0 2 1");
+    t.refused("a key under itself in a rekey", whole_rekey(), |f| add_part(f, 1, Part::unnamed(vec![itself()])), "4 2 1");
     let a0 = default_key(0xa0);
     t.frame("ESP SA 1 is in the table", 0, &rekey(0xa0, 0, announce(&[esp(1, &a0)])), "6 2 1");
     let both = [announce(&[esp(1, &a0)]), vec![delete(&[spi(1)])]].concat();
@@ -249,13 +266,21 @@ fn eight() -> Transcript {
         part(f, 1, 2).attributes = vec![Attribute::key(5, 0, &wrap(&lent(), &[5; 15]))]
     });
     refused("two values for key 5", |f| part(f, 1, 2).attributes.push(entry(5, 6, 0, &lent())));
-    refused("key 5 wraps another value of itself", |f| part(f, 1, 2).attributes.push(entry(5, 6, 5, &key(5))));
+    refused("a second value for key 5 by key 9", |f| {
+        part(f, 1, 2).attributes.extend([entry(5, 6, 9, &key(9)), entry(9, 9, 0, &lent())])
+    });
     refused("ESP key of 24 octets, wrapped as long as one of 20", |f| {
         part(f, 1, 1).attributes = vec![Attribute::key(0, 0, &wrap(&lent(), &[1; 24]))]
     });
     refused("Rekey key of 44 octets where 36 are needed", |f| {
         part(f, 1, 0).attributes = vec![Attribute::key(0, 0, &wrap(&lent(), &[1; 44]))]
     });
+    t.refused(
+        "a second value for key 5 by key 5, which is the lower number",
+        whole(),
+        |f| part(f, 1, 2).attributes.push(entry(5, 6, 5, &key(5))),
+        "6 0 0",
+    );
     t.frame("as it should be", 0, &whole(), "0 2 1");
     t.refused(
         "a Rekey copy of a wrong size beside a right one",

@@ -286,6 +286,8 @@ fn odd_key(name: &'static str, first_line: &str) -> Transcript {
     t.frame("a registration with a default key of another size than 16, 24 or 32", 0, &first_registration(), "5 0 0");
     let two = [first_registration().payloads, vec![gsa(vec![])]].concat();
     t.frame("two GSA, which is the lower number", 0, &frame(GSA_AUTH, &[0; 16], 0, two), "4 0 0");
+    let itself = registration(&[rekey_sa(0xa0, &[(0, lent())])], &[entry(5, 5, 5, &key(5))]);
+    t.frame("a WRAP_KEY under its own Key ID, which is a higher number", 0, &itself, "5 0 0");
     t
 }
 

@@ -22,6 +22,7 @@ use Rattle.contents.specs.inner.Values.{isWhole, attributesIn, valuesIn}
 use Rattle.contents.specs.inner.Bags.{bagsIn}
 use Rattle.contents.specs.declared.policy.Parts.{Parts}
 use Rattle.clauses.specs.Contents.{gather, groupBagOf, memberBagOf}
+use Rattle.clauses.specs.Number6.{underItself}
 use Rattle.clauses.proofs.Gather.{any-append}
 use Rattle.clauses.proofs.OneOf.{or-false, or-joined}
 use Rattle.bagkeys.specs.inner.Facts.{keyFactsOf, ofGroup, ofMember, ofBag, bagWith, noBags, together, wrapsIn, factsOf}
@@ -39,6 +40,7 @@ from-none f =
       members = m i;
       wraps = w i;
       unnamed = f .unnamed;
+      itself = f .itself;
       ah = f .ah;
       keyless = f .keyless;
       several = f .several;
@@ -57,6 +59,7 @@ none-left limits f =
       members = m i;
       wraps = w i;
       unnamed = or-false (f .unnamed) i;
+      itself = or-false (f .itself) i;
       ah = or-false (f .ah) i;
       keyless = or-false (f .keyless) i;
       several = or-false (f .several) i;
@@ -74,6 +77,7 @@ joined a b c =
       members = m i;
       wraps = w i;
       unnamed = or-joined (a .unnamed) (b .unnamed) (c .unnamed) i;
+      itself = or-joined (a .itself) (b .itself) (c .itself) i;
       ah = or-joined (a .ah) (b .ah) (c .ah) i;
       keyless = or-joined (a .keyless) (b .keyless) (c .keyless) i;
       several = or-joined (a .several) (b .several) (c .several) i;
@@ -94,6 +98,7 @@ one-more limits (groupKeys b) l =
       members = m i;
       wraps = w i;
       unnamed = f .unnamed;
+      itself = f .itself;
       ah = f .ah;
       keyless = f .keyless;
       several = f .several;
@@ -109,6 +114,7 @@ one-more limits (memberKeys b) l =
       members = m i;
       wraps = length-append (b .keys) (wrapsIn l) i;
       unnamed = any-append (λ (k : WrapKey). eqb (k .keyId) 0) (b .keys) (wrapsIn l) i;
+      itself = any-append underItself (b .keys) (wrapsIn l) i;
       ah = f .ah;
       keyless = f .keyless;
       several = f .several;

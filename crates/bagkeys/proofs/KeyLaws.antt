@@ -13,9 +13,9 @@ use Rattle.attributes.specs.Layout.{attributes}
 use Rattle.attributes.specs.declared.tables.Place.{Place}
 use Rattle.attributes.specs.declared.tables.Meaning.{Meaning}
 use Rattle.contents.specs.inner.Values.{isWhole, valuesIn, FoundAt}
-use Rattle.clauses.specs.Number6.{hasKeyId, hasKwkId}
+use Rattle.clauses.specs.Number6.{hasKeyId, hasKwkId, underItself}
 use Rattle.clauses.proofs.OneOf.{or-false, or-joined}
-use Rattle.bagkeys.specs.inner.Facts.{isKey, noId, noKwk, keyFactsOf, withKey, ofSaKeys, ofWrapKeys}
+use Rattle.bagkeys.specs.inner.Facts.{isKey, noId, noKwk, oneId, keyFactsOf, withKey, ofSaKeys, ofWrapKeys}
 use Rattle.bagkeys.specs.declared.wrapped.KeyFacts.{KeyFacts}
 use Rattle.bagkeys.proofs.Sizes.{first-sized}
 
@@ -37,19 +37,26 @@ plusKeys f l = record {
   named = f .named || any hasId l;
   unnamed = f .unnamed || any noId l;
   nested = f .nested || any hasKwk l;
+  itself = f .itself || any oneId l;
 }
 
 abbrev pub noKeys : KeyFacts
-noKeys = record { keys = 0; named = false; unnamed = false; nested = false }
+noKeys = record { keys = 0; named = false; unnamed = false; nested = false; itself = false }
 
 from-none : (l : List (List ℕ)) → plusKeys noKeys l ≡ keyFactsOf l
 from-none l = let e : 0 + length l ≡ length l = omega arith in
-    λ i. record { keys = e i; named = any hasId l; unnamed = any noId l; nested = any hasKwk l }
+    λ i. record { keys = e i; named = any hasId l; unnamed = any noId l; nested = any hasKwk l; itself = any oneId l }
 
 none-left : (f : KeyFacts) → plusKeys f [] ≡ f
 unfolding any
 none-left f = let e : f .keys + 0 ≡ f .keys = omega arith in
-    λ i. record { keys = e i; named = or-false (f .named) i; unnamed = or-false (f .unnamed) i; nested = or-false (f .nested) i }
+    λ i. record {
+      keys = e i;
+      named = or-false (f .named) i;
+      unnamed = or-false (f .unnamed) i;
+      nested = or-false (f .nested) i;
+      itself = or-false (f .itself) i;
+    }
 
 one-more : (f : KeyFacts) (v : List ℕ) (l : List (List ℕ)) → plusKeys f (v ∷ l) ≡ plusKeys (withKey f v) l
 unfolding any
@@ -59,6 +66,7 @@ one-more f v l = let e : f .keys + length (v ∷ l) ≡ f .keys + 1 + length l =
       named = or-joined (f .named) (hasId v) (any hasId l) i;
       unnamed = or-joined (f .unnamed) (noId v) (any noId l) i;
       nested = or-joined (f .nested) (hasKwk v) (any hasKwk l) i;
+      itself = or-joined (f .itself) (oneId v) (any oneId l) i;
     }
 
 -- ---- the walk: where it stands at a place
@@ -106,6 +114,7 @@ sa-keys-are l = λ i. record {
   named = sym (any-of-map saKeyOf hasKeyId l) i;
   unnamed = sym (any-of-map saKeyOf (λ (k : SaKey). eqb (k .keyId) 0) l) i;
   nested = sym (any-of-map saKeyOf hasKwkId l) i;
+  itself = sym (any-of-map saKeyOf (λ (k : SaKey). eqb (k .keyId) (k .kwkId)) l) i;
 }
 
 pub wrap-keys-are : (l : List (List ℕ)) → keyFactsOf l ≡ ofWrapKeys (map wrapKeyOf l)
@@ -114,4 +123,5 @@ wrap-keys-are l = λ i. record {
   named = sym (any-of-map wrapKeyOf (λ (k : WrapKey). not (eqb (k .keyId) 0)) l) i;
   unnamed = sym (any-of-map wrapKeyOf (λ (k : WrapKey). eqb (k .keyId) 0) l) i;
   nested = sym (any-of-map wrapKeyOf (λ (k : WrapKey). not (eqb (k .kwkId) 0)) l) i;
+  itself = sym (any-of-map wrapKeyOf underItself l) i;
 }

@@ -25,8 +25,9 @@ pub struct BagFacts {
     // how many Member Key Bags, and how many WRAP_KEYs
     pub members: usize,
     pub wraps: usize,
-    // a WRAP_KEY has Key ID 0
+    // a WRAP_KEY has Key ID 0; one has a Key ID that equals its KWK ID
     pub unnamed: bool,
+    pub itself: bool,
     // a Group Key Bag is of AH
     pub ah: bool,
     // one has no SA_KEY; one of ESP or AH has several; one of a Rekey SA has several
@@ -48,6 +49,7 @@ fn no_bags() -> BagFacts
         members: 0,
         wraps: 0,
         unnamed: false,
+        itself: false,
         ah: false,
         keyless: false,
         several: false,
@@ -66,6 +68,7 @@ fn of_group(protocol: usize, k: KeyFacts) -> BagFacts
         members: 0,
         wraps: 0,
         unnamed: false,
+        itself: false,
         ah: protocol == AH,
         keyless: k.keys == 0,
         several: (protocol != REKEY) & (1 < k.keys),
@@ -84,6 +87,7 @@ fn of_member(k: KeyFacts) -> BagFacts
         members: 1,
         wraps: k.keys,
         unnamed: k.unnamed,
+        itself: k.itself,
         ah: false,
         keyless: false,
         several: false,
@@ -103,6 +107,7 @@ fn together(a: BagFacts, b: BagFacts) -> BagFacts
         members: a.members + b.members,
         wraps: a.wraps + b.wraps,
         unnamed: a.unnamed | b.unnamed,
+        itself: a.itself | b.itself,
         ah: a.ah | b.ah,
         keyless: a.keyless | b.keyless,
         several: a.several | b.several,

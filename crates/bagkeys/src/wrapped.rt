@@ -10,12 +10,13 @@ use attributes::tables::Meaning;
 use attributes::tables::Place;
 use contents::values::Found;
 
-// How many keys, whether one has a Key ID, one has none, one has a KWK ID. An ID of 0 is none.
+// How many keys, whether one has a Key ID, one has none, one has a KWK ID, one has one ID for both. An ID of 0 is none.
 pub struct KeyFacts {
     pub keys: usize,
     pub named: bool,
     pub unnamed: bool,
     pub nested: bool,
+    pub itself: bool,
 }
 
 // The same, with the key more that is the value of an attribute.
@@ -30,6 +31,7 @@ fn with_key(f: KeyFacts, v: &[u8]) -> KeyFacts
         named: f.named | (id != 0),
         unnamed: f.unnamed | (id == 0),
         nested: f.nested | (kwk != 0),
+        itself: f.itself | (id == kwk),
     }
 }
 
@@ -43,6 +45,7 @@ pub fn keys_of(m: Meaning, place: Place, a: &[u8]) -> KeyFacts
         named: false,
         unnamed: false,
         nested: false,
+        itself: false,
     };
     let mut at = 0;
     loop {

@@ -28,7 +28,7 @@ use Rattle.clauses.specs.Number4.{severalRekeyPolicies, severalGroupWide
 use Rattle.clauses.specs.Number4.{initialMessageIdTwice, delayTwice, otherDestination, four-ofFrame}
 use Rattle.clauses.specs.Number5.{ahPolicy, ahBag, otherTransforms, deleteOfOther, deleteOfNone, lentKeySize, five-ofFrame}
 use Rattle.clauses.specs.Number6.{policyUnpaired, bagUnpaired, policyTwice, bagTwice, alreadyInTable, otherSaKeyCount, saKeyCount}
-use Rattle.clauses.specs.Number6.{saKeyId, espKwkId, wrapKeyId, six-ofFrame, six-ofMember}
+use Rattle.clauses.specs.Number6.{saKeyId, espKwkId, wrapKeyId, wrapsItself, six-ofFrame, six-ofMember}
 use Rattle.clauses.specs.Number7.{manyEspPolicies, manyWrapKeys, manySaKeys, manyDeletedSpis, manySas, seven-ofFrame, seven-ofMember}
 use Rattle.clauses.specs.Refusals.{Number, one, judged, two, four, five, six, seven, numbers, refusal}
 use Rattle.clauses.proofs.Halves.{frameHalf}
@@ -114,8 +114,8 @@ unfolding refusal judged one any all count keep heads rising newState stateForme
     authenticationFits transformsFit criticalUnknown barredMemberBag barredDelete twoGsa twoKd gsaWithoutKd kdWithoutGsa neither
     severalRekeyPolicies severalGroupWide severalMemberBags gsaWithoutSaPolicy keyLengthTwice initialMessageIdTwice delayTwice
     otherDestination four-ofFrame ahPolicy ahBag otherTransforms deleteOfOther deleteOfNone lentKeySize five-ofFrame policyUnpaired
-    bagUnpaired policyTwice bagTwice alreadyInTable otherSaKeyCount saKeyCount saKeyId espKwkId wrapKeyId six-ofFrame six-ofMember
-    manyEspPolicies manyWrapKeys manySaKeys manyDeletedSpis manySas seven-ofFrame seven-ofMember placesFrom
+    bagUnpaired policyTwice bagTwice alreadyInTable otherSaKeyCount saKeyCount saKeyId espKwkId wrapKeyId wrapsItself six-ofFrame
+    six-ofMember manyEspPolicies manyWrapKeys manySaKeys manyDeletedSpis manySas seven-ofFrame seven-ofMember placesFrom
 samples-answered =
     record {
       of-2-and-3 = refl;

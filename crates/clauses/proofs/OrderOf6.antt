@@ -17,7 +17,7 @@ use Rattle.clauses.specs.Contents.{rowOf, announced, groupBags}
 use Rattle.clauses.specs.Number2.{standing}
 use Rattle.clauses.specs.Number6.{policyNamed, bagNamed, policiesNamed, bagsNamed, policyUnpaired, bagUnpaired, policyTwice, bagTwice}
 use Rattle.clauses.specs.Number6.{alreadyInTable, otherSaKeyCount, saKeyCount, hasKeyId, saKeyId, hasKwkId, espKwkId, wrapKeyId}
-use Rattle.clauses.specs.Number6.{six-ofFrame, six-ofMember}
+use Rattle.clauses.specs.Number6.{underItself, wrapsItself, six-ofFrame, six-ofMember}
 use Rattle.clauses.specs.Reordered.{GroupBagReordered, Reordered}
 use Rattle.clauses.proofs.AnyOrder.{any-order, any-equal, count-order, count-equal, length-order}
 use Rattle.clauses.proofs.Contents.{announced-order, group-bags-order, wrap-keys-order}
@@ -93,11 +93,15 @@ module _ {f g : Frame} (r : Reordered f g) where
   unfolding wrapKeyId
   wrap-key-id-kept = any-equal (λ (k : WrapKey). eqb (k .keyId) 0) (wrap-keys-order r)
 
+  wraps-itself-kept : wrapsItself f ≡ wrapsItself g
+  unfolding wrapsItself
+  wraps-itself-kept = any-equal underItself (wrap-keys-order r)
+
   pub six-kept : six-ofFrame f ≡ six-ofFrame g
   unfolding six-ofFrame
   six-kept = λ i.
       policy-paired-kept i ∷ bag-paired-kept i ∷ policy-twice-kept i ∷ bag-twice-kept i ∷ sa-key-count-kept i ∷ key-id-kept i ∷
-      kwk-id-kept i ∷ wrap-key-id-kept i ∷ []
+      kwk-id-kept i ∷ wrap-key-id-kept i ∷ wraps-itself-kept i ∷ []
 
   pub six-member-kept : (s : State) (now : ℕ) → six-ofMember s now f ≡ six-ofMember s now g
   unfolding six-ofMember

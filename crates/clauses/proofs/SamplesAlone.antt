@@ -121,9 +121,10 @@ alone6 = inBoth 6 (
     case 5 (gsa (rekeyPolicy nextSpi ∷ []) ∷ kd (bag 6 nextSpi (saKey 1 9 ∷ []) ∷ []) ∷ []) ∷
     case 6 (gsa (espPolicy 1 ∷ []) ∷ kd (bag 3 (spi 1) (saKey 0 1 ∷ []) ∷ []) ∷ []) ∷
     [])
-    -- WRAP_KEY with Key ID 0, also under KWK ID 0; a name that is already in the table
-    ++ alone 7 (anew (registers (gsa (espPolicy 1 ∷ []) ∷ kd (memberBag (wrapKey 0 0 ∷ []) ∷ espBag 1 ∷ []) ∷ [])) 6) ∷
-    alone 8 (sample (having 1 dueLater) 0 (rekeys (gsa (espPolicy 1 ∷ []) ∷ kd (espBag 1 ∷ []) ∷ [])) 6) ∷
+    -- WRAP_KEY with Key ID 0, WRAP_KEY whose Key ID equals its KWK ID; a name that is already in the table
+    ++ alone 7 (anew (registers (gsa (espPolicy 1 ∷ []) ∷ kd (memberBag (wrapKey 0 5 ∷ []) ∷ espBag 1 ∷ []) ∷ [])) 6) ∷
+    alone 8 (anew (registers (gsa (espPolicy 1 ∷ []) ∷ kd (memberBag (wrapKey 5 5 ∷ []) ∷ espBag 1 ∷ []) ∷ [])) 6) ∷
+    alone 9 (sample (having 1 dueLater) 0 (rekeys (gsa (espPolicy 1 ∷ []) ∷ kd (espBag 1 ∷ []) ∷ [])) 6) ∷
     []
 
 -- ---- number 7. A registration announces at most 8 ESP SAs and a Rekey SA, so 16 SAs are passed in a rekey alone

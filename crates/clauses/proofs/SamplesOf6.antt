@@ -109,7 +109,18 @@ samplesOf6 =
     anew (holdingNew (wrapKey 5 0 ∷ wrapKey 0 0 ∷ [])) 6 ∷
     anew (holdingNew (wrapKey 0 5 ∷ wrapKey 5 0 ∷ [])) 6 ∷
     anew (holdingNew (wrapKey 5 0 ∷ wrapKey 9 5 ∷ [])) 0 ∷
-    anew (holdingNew (wrapKey 5 5 ∷ [])) 0 ∷
+    -- a WRAP_KEY whose Key ID equals its KWK ID: alone, behind and before good ones, with the last Key ID; two that wrap each other do not
+    anew (holdingNew (wrapKey 5 5 ∷ [])) 6 ∷
+    anew (holdingNew (wrapKey 5 0 ∷ wrapKey 9 5 ∷ wrapKey 7 7 ∷ [])) 6 ∷
+    anew (holdingNew (wrapKey 5 5 ∷ wrapKey 9 0 ∷ [])) 6 ∷
+    anew (holdingNew (wrapKey 0 0 ∷ [])) 6 ∷
+    anew (holdingNew (wrapKey 4294967295 4294967295 ∷ [])) 6 ∷
+    anew (holdingNew (wrapKey 5 9 ∷ wrapKey 9 5 ∷ [])) 0 ∷
+    -- an SA_KEY has Key ID 0 and KWK ID 0, beside WRAP_KEYs of other IDs
+    anew (registers (gsa (rekeyPolicy nextSpi ∷ []) ∷ kd (bag 6 nextSpi (saKey 0 0 ∷ []) ∷ memberBag (wrapKey 5 0 ∷ []) ∷ []) ∷ [])) 0 ∷
     -- 5 before 6
     sample fresh 28 (registers (gsa (espPolicy 1 ∷ []) ∷ kd [] ∷ [])) 5 ∷
+    sample fresh 28 (holdingNew (wrapKey 5 5 ∷ [])) 5 ∷
+    -- 6 before 7
+    anew (holdingNew (wrapKey 5 5 ∷ replicate 32 (wrapKey 5 0))) 6 ∷
     []

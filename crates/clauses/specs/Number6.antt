@@ -1,6 +1,6 @@
 -- Number 6 is given exactly when: "policies and Group Key Bags not paired one to one by protocol and SPI; one protocol and SPI twice, or
 -- already in the table (SAs due at the tick not counted); SA_KEY count not 1 (for a Rekey SA in a rekey: 0); SA_KEY with Key ID not 0; ESP
--- SA_KEY with KWK ID not 0; WRAP_KEY with Key ID 0".
+-- SA_KEY with KWK ID not 0; WRAP_KEY with Key ID 0"; and, by document 02, T-09, when a WRAP_KEY has a Key ID that equals its KWK ID.
 use Prim.Native.Nat.{ℕ}
 use mathlib.Core.List.{List, [], _∷_}
 use mathlib.Core.Bool.{Bool, not, cond, _&&_}
@@ -77,9 +77,19 @@ espKwkId f = any (λ (b : GroupKeyBag). eqb (b .protocol) esp && any hasKwkId (b
 unfoldable pub wrapKeyId : Frame → Bool
 wrapKeyId f = any (λ (k : WrapKey). eqb (k .keyId) 0) (wrapKeysOf f)
 
+-- document 02, T-09: "an entry whose Key ID equals its KWK ID. Any such WRAP_KEY, reached or not, now gives number 6 in a registration." It
+-- counts as it stands, whether or not it opens. The exchange is not asked for, as it is not for Key ID 0: in any other exchange a Member
+-- Key Bag is number 4
+abbrev pub underItself : WrapKey → Bool
+underItself k = eqb (k .keyId) (k .kwkId)
+
+unfoldable pub wrapsItself : Frame → Bool
+wrapsItself f = any underItself (wrapKeysOf f)
+
 unfoldable pub six-ofFrame : Frame → List Bool
 six-ofFrame f =
-    policyUnpaired f ∷ bagUnpaired f ∷ policyTwice f ∷ bagTwice f ∷ saKeyCount f ∷ saKeyId f ∷ espKwkId f ∷ wrapKeyId f ∷ []
+    policyUnpaired f ∷ bagUnpaired f ∷ policyTwice f ∷ bagTwice f ∷ saKeyCount f ∷ saKeyId f ∷ espKwkId f ∷ wrapKeyId f ∷
+    wrapsItself f ∷ []
 
 unfoldable pub six-ofMember : State → ℕ → Frame → List Bool
 six-ofMember s now f = alreadyInTable s now f ∷ []

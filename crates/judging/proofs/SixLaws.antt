@@ -20,7 +20,8 @@ use Rattle.frames.specs.declared.exchanges.Exchange.{Exchange}
 use Rattle.clauses.specs.Contents.{rowOf, policiesOf, bagsOf, announced, groupBags}
 use Rattle.clauses.specs.Number2.{standing}
 use Rattle.clauses.specs.Number6.{policiesNamed, bagsNamed, policyUnpaired, bagUnpaired, policyTwice, bagTwice, alreadyInTable}
-use Rattle.clauses.specs.Number6.{otherSaKeyCount, saKeyCount, saKeyId, espKwkId, wrapKeyId, six-ofFrame, six-ofMember}
+use Rattle.clauses.specs.Number6.{otherSaKeyCount, saKeyCount, saKeyId, espKwkId, wrapKeyId, wrapsItself, six-ofFrame}
+use Rattle.clauses.specs.Number6.{six-ofMember}
 use Rattle.clauses.specs.Refusals.{one, six, applies}
 use Rattle.clauses.proofs.AnyOrder.{or-swap}
 use Rattle.clauses.proofs.Gather.{any-either}
@@ -154,12 +155,14 @@ tried k false false false false false f g = sym (or-false k)
 
 module _ (row : Exchange) (f : Frame) (e : rowOf f ≡ row) (k : BagFacts) (kq : k ≡ bagFacts limits (bagsOf f)) (s : State) (now : ℕ) where
   pub six-is : one (sixOf row k (ofPolicies f) (ofBags f) now (sasOf (s .table))) ≡ applies (six s now f)
-  unfolding one saKeyId espKwkId wrapKeyId six-ofFrame six-ofMember
+  unfolding one saKeyId espKwkId wrapKeyId wrapsItself six-ofFrame six-ofMember
   six-is =
       (λ i. one (sym (policy-unpaired f) i ∷ sym (bag-unpaired f) i ∷ sym (already f s now) i
-      ∷ ((kq i .keyless || kq i .several) || (not (sym e i .copies) && kq i .copied)) ∷ kq i .named ∷ kq i .nested ∷ kq i .unnamed ∷ []))
-      ∙ (λ i. one (policyUnpaired f ∷ bagUnpaired f ∷ alreadyInTable s now f ∷ key-counts f i ∷ saKeyId f ∷ espKwkId f ∷ wrapKeyId f ∷ []))
-      ∙ tried (one (saKeyCount f ∷ saKeyId f ∷ espKwkId f ∷ wrapKeyId f ∷ [])) (alreadyInTable s now f) (policyUnpaired f) (bagUnpaired f)
-      (policyTwice f) (bagTwice f)
+      ∷ ((kq i .keyless || kq i .several) || (not (sym e i .copies) && kq i .copied)) ∷ kq i .named ∷ kq i .nested ∷ kq i .unnamed
+      ∷ kq i .itself ∷ []))
+      ∙ (λ i. one (policyUnpaired f ∷ bagUnpaired f ∷ alreadyInTable s now f ∷ key-counts f i ∷ saKeyId f ∷ espKwkId f ∷ wrapKeyId f
+      ∷ wrapsItself f ∷ []))
+      ∙ tried (one (saKeyCount f ∷ saKeyId f ∷ espKwkId f ∷ wrapKeyId f ∷ wrapsItself f ∷ [])) (alreadyInTable s now f) (policyUnpaired f)
+      (bagUnpaired f) (policyTwice f) (bagTwice f)
       (λ e g. bag-unpaired f ∙ twice-unpaired (ofPolicies f) (ofBags f) (sym (policy-twice f) ∙ e) (sym (policy-unpaired f) ∙ g))
       (λ e g. policy-unpaired f ∙ twice-unpaired (ofBags f) (ofPolicies f) (sym (bag-twice f) ∙ e) (sym (bag-unpaired f) ∙ g))

@@ -13,12 +13,13 @@ ghost use Rattle.pairing.specs.inner.Names.{Name, Names};
 ghost use Rattle.clauses.specs.Refusals.{one};
 ghost use Rattle.judging.specs.inner.Tests.{keysBy, keysIn, sixBy};
 
-// The clauses of number 6 on the keys of the bags, in the order in which document 01 names them: whether each applies.
+// The clauses of number 6 on the keys of the bags, in the order in which document 01 and T-09 name them: whether each applies.
 pub struct Keys {
     pub count: bool,
     pub named: bool,
     pub nested: bool,
     pub unnamed: bool,
+    pub itself: bool,
 }
 
 // Which clauses on the keys apply, in an exchange with this row, to bags with these facts. Internal.
@@ -33,11 +34,14 @@ pub fn clauses_6(row: Exchange, k: BagFacts) -> Keys
     let nested = k.nested;
     // "WRAP_KEY with Key ID 0"
     let unnamed = k.unnamed;
+    // T-09: "Any such WRAP_KEY, reached or not"
+    let itself = k.itself;
     Keys {
         count,
         named,
         nested,
         unnamed,
+        itself,
     }
 }
 
@@ -46,7 +50,7 @@ pub fn any_unfit_key(row: Exchange, k: BagFacts) -> bool
     ensures { λ r. ⌜ r ≡ one (keysBy row k) ⌝ }
 {
     let c = clauses_6(row, k);
-    c.count | c.named | c.nested | c.unnamed
+    c.count | c.named | c.nested | c.unnamed | c.itself
 }
 
 // Whether number 6 applies, in an exchange with this row and over this table, to a frame with these facts and these bodies of GSA and KD.

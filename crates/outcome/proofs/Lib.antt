@@ -14,6 +14,7 @@ pub mod Demands
 pub mod EightSays
 pub mod Determined
 pub mod RunsLists
+pub mod WrapsItself
 pub mod RunsClear
 pub mod RunsNeeds
 pub mod RunsSpis

@@ -67,7 +67,7 @@ module _ (lent a b : List ℕ) where
 pub circle-holds : Says circle
 unfolding any
 circle-holds r now lent x a b octets g =
-    registers-0 r now lent x octets (entry 5 9 a ∷ entry 9 5 b ∷ []) (g .key) (g .keying) (g .reads) refl (omega arith)
+    registers-0 r now lent x octets (entry 5 9 a ∷ entry 9 5 b ∷ []) (g .key) (g .keying) (g .reads) refl refl (omega arith)
     (no-fault-around lent a b) [] (held-none lent a b)
 
 -- ---- (5 under 0) and (5 under 9), (9 under 0), two values for 5
@@ -111,4 +111,4 @@ pub two-values-holds : Says samples.two-values
 unfolding any
 two-values-holds r now lent x v w v₉ octets kv kw k₉ d g =
     registers-8 r now lent x octets (entry 5 0 (wrapOf lent v) ∷ entry 5 9 (wrapOf v₉ w) ∷ entry 9 0 (wrapOf lent v₉) ∷ []) (g .key)
-    (g .keying) (g .reads) refl (omega arith) (faulty lent v w v₉ (g .key) kv kw k₉ d)
+    (g .keying) (g .reads) refl refl (omega arith) (faulty lent v w v₉ (g .key) kv kw k₉ d)

@@ -25,7 +25,7 @@ use Rattle.clauses.specs.Number4.{severalRekeyPolicies, severalGroupWide, sever
 use Rattle.clauses.specs.Number4.{initialMessageIdTwice, delayTwice, otherDestination, four-ofFrame}
 use Rattle.clauses.specs.Number5.{ahPolicy, ahBag, otherTransforms, deleteOfOther, deleteOfNone, lentKeySize, five-ofFrame}
 use Rattle.clauses.specs.Number6.{policyUnpaired, bagUnpaired, policyTwice, bagTwice, alreadyInTable, otherSaKeyCount, saKeyCount}
-use Rattle.clauses.specs.Number6.{saKeyId, espKwkId, wrapKeyId, six-ofFrame, six-ofMember}
+use Rattle.clauses.specs.Number6.{saKeyId, espKwkId, wrapKeyId, underItself, wrapsItself, six-ofFrame, six-ofMember}
 use Rattle.clauses.specs.Number7.{manyEspPolicies, manyWrapKeys, manySaKeys, manyDeletedSpis, manySas, seven-ofFrame, seven-ofMember}
 use Rattle.clauses.specs.Refusals.{one, two, three, four, five, six, seven}
 use Rattle.outcome.specs.Samples.{Around, espPolicy, registering, lent-of-28, Says}
@@ -64,10 +64,11 @@ module _ (r : Around) (now : ℕ) (w : List ℕ) (l : List WrapKey) where
   unfolding one any gather ahPolicy ahBag otherTransforms deleteOfOther deleteOfNone lentKeySize five-ofFrame
   fresh-5 lent e = record { ofFrame = rw (row-of (r .auth), fits, e); ofMember = refl }
 
-  pub fresh-6 : any (λ (k : WrapKey). eqb (k .keyId) 0) l ≡ false → None (six fresh now (registering r w l))
+  pub fresh-6 : any (λ (k : WrapKey). eqb (k .keyId) 0) l ≡ false → any underItself l ≡ false →
+      None (six fresh now (registering r w l))
   unfolding one any count gather policyUnpaired bagUnpaired policyTwice bagTwice alreadyInTable otherSaKeyCount saKeyCount saKeyId espKwkId
-      wrapKeyId six-ofFrame six-ofMember newState tableOf keep
-  fresh-6 e = record { ofFrame = rw (row-of (r .auth), eq-same (r .spi) (r .spi) refl, append-nil l, e); ofMember = refl }
+      wrapKeyId wrapsItself six-ofFrame six-ofMember newState tableOf keep
+  fresh-6 e d = record { ofFrame = rw (row-of (r .auth), eq-same (r .spi) (r .spi) refl, append-nil l, e, d); ofMember = refl }
 
   pub fresh-7 : length l ≤ 32 → None (seven limits fresh now (registering r w l))
   unfolding one any count gather manyEspPolicies manyWrapKeys manySaKeys manyDeletedSpis manySas seven-ofFrame seven-ofMember newState

@@ -62,5 +62,5 @@ pub two-steps-holds : Says two-steps
 unfolding any
 two-steps-holds r now lent x v₅ v₉ octets w₅ w₉ g =
     let k = g .key in
-    registers-0 r now lent x octets (entry 5 9 (wrapOf v₉ v₅) ∷ entry 9 0 (wrapOf lent v₉) ∷ []) k (g .keying) (g .reads) refl (omega arith)
-    (two-fit lent v₅ v₉ k w₅ w₉) (heldWith 5 v₅ ∷ heldWith 9 v₉ ∷ []) (held-two lent v₅ v₉ k w₅ w₉)
+    registers-0 r now lent x octets (entry 5 9 (wrapOf v₉ v₅) ∷ entry 9 0 (wrapOf lent v₉) ∷ []) k (g .keying) (g .reads) refl refl
+    (omega arith) (two-fit lent v₅ v₉ k w₅ w₉) (heldWith 5 v₅ ∷ heldWith 9 v₉ ∷ []) (held-two lent v₅ v₉ k w₅ w₉)

@@ -27,7 +27,7 @@ use Rattle.clauses.specs.Number4.{severalRekeyPolicies, severalGroupWide, sever
 use Rattle.clauses.specs.Number4.{initialMessageIdTwice, delayTwice, otherDestination, four-ofFrame}
 use Rattle.clauses.specs.Number5.{ahPolicy, ahBag, otherTransforms, deleteOfOther, deleteOfNone, lentKeySize, five-ofFrame}
 use Rattle.clauses.specs.Number6.{policyUnpaired, bagUnpaired, policyTwice, bagTwice, alreadyInTable, saKeyCount, saKeyId, espKwkId}
-use Rattle.clauses.specs.Number6.{wrapKeyId, six-ofFrame, six-ofMember}
+use Rattle.clauses.specs.Number6.{wrapKeyId, wrapsItself, six-ofFrame, six-ofMember}
 use Rattle.clauses.specs.Number7.{manyEspPolicies, manyWrapKeys, manySaKeys, manyDeletedSpis, manySas, seven-ofFrame, seven-ofMember}
 use Rattle.clauses.specs.Refusals.{one, two, three, four, five, six, seven}
 use Rattle.chains.specs.Chain.{In, Root, Reached}
@@ -96,8 +96,8 @@ module _ (s : State) (now : ℕ) (x : List ℕ) (i : ℕ) (l : List (List ℕ)) 
   no-5 lent h = record { ofFrame = rw (ne-eqb (length l) 0 (λ e. omega arith)); ofMember = refl }
 
   no-6 : None (six s now (deleting x i l))
-  unfolding one any gather policyUnpaired bagUnpaired policyTwice bagTwice alreadyInTable saKeyCount saKeyId espKwkId wrapKeyId six-ofFrame
-      six-ofMember
+  unfolding one any gather policyUnpaired bagUnpaired policyTwice bagTwice alreadyInTable saKeyCount saKeyId espKwkId wrapKeyId wrapsItself
+      six-ofFrame six-ofMember
   no-6 = record { ofFrame = refl; ofMember = refl }
 
   standing-few : stateFormed limits s ≡ true → length (standing now s) ≤ 16

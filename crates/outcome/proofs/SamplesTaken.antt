@@ -23,6 +23,7 @@ use Rattle.state.specs.declared.held.HeldKey.{HeldKey}
 use Rattle.state.specs.Held.{heldOf}
 use Rattle.state.specs.State.{newState}
 use Rattle.clauses.specs.Contents.{gather}
+use Rattle.clauses.specs.Number6.{underItself}
 use Rattle.clauses.specs.Fitness.{sum, encryptionOctets, keyWrapOctets}
 use Rattle.chains.specs.Chain.{In, Root}
 use Rattle.chains.specs.Refusals.{Announced, EntriesEight, Eight, of-entries, Nine, KeyOf}
@@ -65,7 +66,7 @@ module _ (r : Around) (now : ℕ) (lent w : List ℕ) (l : List WrapKey) where
 
 module _ (r : Around) (now : ℕ) (lent x octets : List ℕ) (l : List WrapKey) (key : Key lent) (keying : Keying x)
     (reads : IsFrame octets (registering r (wrapOf lent x) l))
-    (no-zero : any (λ (k : WrapKey). eqb (k .keyId) 0) l ≡ false) (few : length l ≤ 32) where
+    (no-zero : any (λ (k : WrapKey). eqb (k .keyId) 0) l ≡ false) (no-self : any underItself l ≡ false) (few : length l ≤ 32) where
   abbrev w : List ℕ
   w = wrapOf lent x
 
@@ -94,7 +95,7 @@ module _ (r : Around) (now : ℕ) (lent x octets : List ℕ) (l : List WrapKey) 
   pub registers-8 : EntriesEight R l (length lent) → Outcome limits (newState limits) now lent octets 8 (newState limits)
   registers-8 h =
       outcome-8 limits (newState limits) now lent octets g reads (fresh-2 r now w l) (fresh-3 r now w l) (fresh-4 r now w l)
-      (fresh-5 r now w l lent (key-size (length lent) (key .size))) (fresh-6 r now w l no-zero) (fresh-7 r now w l few)
+      (fresh-5 r now w l lent (key-size (length lent) (key .size))) (fresh-6 r now w l no-zero no-self) (fresh-7 r now w l few)
       (subst (λ (A : Type 0). A) (sym eight-is) (of-entries h))
 
   module _ (none : EntriesEight R l (length lent) → ⊥) (keys : List HeldKey)
@@ -105,7 +106,7 @@ module _ (r : Around) (now : ℕ) (lent x octets : List ℕ) (l : List WrapKey) 
       no-3 = fresh-3 r now w l;
       no-4 = fresh-4 r now w l;
       no-5 = fresh-5 r now w l lent (key-size (length lent) (key .size));
-      no-6 = fresh-6 r now w l no-zero;
+      no-6 = fresh-6 r now w l no-zero no-self;
       no-7 = fresh-7 r now w l few;
       no-8 = λ h.
           no-eight R l (length lent) 0 20 lent x key (keying .octets) (keying .size) (omega arith) (omega arith) (ends-zero lent l not-zero)

@@ -26,7 +26,7 @@ use Rattle.clauses.specs.Number4.{severalRekeyPolicies, severalGroupWide, sever
 use Rattle.clauses.specs.Number4.{initialMessageIdTwice, delayTwice, otherDestination, four-ofFrame}
 use Rattle.clauses.specs.Number5.{ahPolicy, ahBag, otherTransforms, deleteOfOther, deleteOfNone, lentKeySize, five-ofFrame}
 use Rattle.clauses.specs.Number6.{policyUnpaired, bagUnpaired, policyTwice, bagTwice, alreadyInTable, otherSaKeyCount, saKeyCount}
-use Rattle.clauses.specs.Number6.{saKeyId, espKwkId, wrapKeyId, six-ofFrame, six-ofMember}
+use Rattle.clauses.specs.Number6.{saKeyId, espKwkId, wrapKeyId, wrapsItself, six-ofFrame, six-ofMember}
 use Rattle.clauses.specs.Number7.{manyEspPolicies, manyWrapKeys, manySaKeys, manyDeletedSpis, manySas, seven-ofFrame, seven-ofMember}
 use Rattle.clauses.specs.Refusals.{one, four, five, six, seven}
 use Rattle.chains.specs.Chain.{In, Root, Reached, Ends}
@@ -119,7 +119,7 @@ module _ (r : Around) (now : ℕ) (lent w v₁ v₃ v₇ : List ℕ) (key : Key 
 
   tree-6 : None (six (newState limits) now f)
   unfolding one any count gather policyUnpaired bagUnpaired policyTwice bagTwice alreadyInTable otherSaKeyCount saKeyCount saKeyId espKwkId
-      wrapKeyId six-ofFrame six-ofMember newState tableOf keep
+      wrapKeyId wrapsItself six-ofFrame six-ofMember newState tableOf keep
   tree-6 = record { ofFrame = rw (row-of (r .auth), eq-same (r .spi) (r .spi) refl); ofMember = refl }
 
   tree-7 : None (seven limits (newState limits) now f)

@@ -6,6 +6,7 @@ pub mod Run
 pub mod Samples
 pub mod NamedKey
 pub mod EightSays
+pub mod WrapsItself
 pub mod Meets
 pub mod RestSays
 pub mod Demand3

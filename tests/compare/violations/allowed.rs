@@ -108,17 +108,21 @@ pub const TABLE: &[Violation] = &[
         c.bags()?.retain(|bag| bag.protocol != 0);
         Some(())
     }),
-    registration(0, "a key that wraps itself", |c| {
-        let (id, value) = c.keys.first()?.clone();
-        entry(c, id, id, &wrap(&value, &value))
+    registration(0, "two keys that wrap each other", |c| {
+        let (first, second, value) = (c.unknown_id(), c.unknown_id(), c.rng.octets(c.key0.len()));
+        (first != second).then_some(())?;
+        entry(c, first, second, &wrap(&value, &value))?;
+        entry(c, second, first, &wrap(&value, &value))
     }),
     registration(0, "WRAP_KEY under an unknown key", |c| {
         let (id, kwk_id, count) = (c.unknown_id(), c.unknown_id(), c.rng.pick(&[16, 24, 264]));
+        (id != kwk_id).then_some(())?;
         let octets = c.rng.octets(count);
         entry(c, id, kwk_id, &octets)
     }),
     registration(0, "WRAP_KEY that does not open", |c| {
-        let (id, kwk_id) = (c.some_key().0.max(1), c.some_key().0);
+        let id = c.some_key().0.max(1);
+        let kwk_id = c.other_key(id).0;
         let count = c.rng.pick(&[16, 24, 32, 264]);
         let octets = c.rng.octets(count);
         entry(c, id, kwk_id, &octets)

@@ -20,7 +20,8 @@ pub const TABLE: &[Violation] = &[
     }),
     registration(8, "WRAP_KEY of a wrong size for a key that has a value", |c| {
         let value = wrong_size(c, c.key0.len());
-        let ((id, _), (kwk_id, kwk)) = (reached(c)?, c.some_key());
+        let id = reached(c)?.0;
+        let (kwk_id, kwk) = c.other_key(id);
         entry(c, id, &value, kwk_id, &kwk)
     }),
     registration(8, "one key with two values under the default key", |c| {
@@ -32,15 +33,11 @@ pub const TABLE: &[Violation] = &[
         Some(())
     }),
     registration(8, "one key with two values from two chains", |c| {
-        let ((id, mut value), (kwk_id, kwk)) = (reached(c)?, reached(c)?);
+        let (id, mut value) = reached(c)?;
+        let (kwk_id, kwk) = c.other_key(id);
         let at = c.rng.below(value.len());
         value[at] ^= 1;
         entry(c, id, &value, kwk_id, &kwk)
-    }),
-    registration(8, "a key that wraps another value of itself", |c| {
-        let (id, value) = reached(c)?;
-        let other = c.rng.octets(value.len());
-        entry(c, id, &other, id, &value)
     }),
     any(8, "ESP key of a wrong size", |c| {
         let key = wrong_size(c, c.sa_key(ESP)?.len());
@@ -125,6 +122,7 @@ pub const TABLE: &[Violation] = &[
     }),
     registration(9, "Rekey key under a key of a cycle", |c| {
         let (a, b) = (c.unknown_id(), c.unknown_id());
+        (a != b).then_some(())?;
         let (value_a, value_b) = (c.rng.octets(c.key0.len()), c.rng.octets(c.key0.len()));
         entry(c, a, &value_a, b, &value_b)?;
         entry(c, b, &value_b, a, &value_a)?;

@@ -104,6 +104,28 @@ pub const TABLE: &[Violation] = &[
         c.bag(0)?.attributes.insert(0, key);
         Some(())
     }),
+    registration(6, "a reached key that wraps itself", |c| {
+        let (id, value) = reached(c)?;
+        under_itself(c, id, &wrap(&value, &value))
+    }),
+    registration(6, "a reached key that wraps another value of itself", |c| {
+        let (id, value) = reached(c)?;
+        let other = c.rng.octets(value.len());
+        under_itself(c, id, &wrap(&value, &other))
+    }),
+    registration(6, "a reached key under itself that does not open", |c| {
+        let (id, octets) = (reached(c)?.0, c.rng.octets(24));
+        under_itself(c, id, &octets)
+    }),
+    registration(6, "a key that nothing reaches and that wraps itself", |c| {
+        let (id, value) = (c.unknown_id(), c.rng.octets(c.key0.len()));
+        under_itself(c, id, &wrap(&value, &value))
+    }),
+    registration(6, "the last Key ID under itself", |c| {
+        let (count, id) = (c.rng.pick(&[16, 24, 32, 264]), u32::MAX);
+        let octets = c.rng.octets(count);
+        under_itself(c, id, &octets)
+    }),
     any(7, "9 ESP policies", |c| {
         c.policy(ESP)?;
         while c.policies()?.iter().filter(|policy| policy.protocol == ESP).count() < 9 {
@@ -126,6 +148,11 @@ pub const TABLE: &[Violation] = &[
         fill(c, 0, 199)?;
         c.bag(0)?.attributes.push(Attribute::key(0, 0, &[0; 16]));
         Some(())
+    }),
+    registration(6, "33 WRAP_KEY, one under its own Key ID", |c| {
+        fill(c, 0, 32)?;
+        let id = c.unknown_id();
+        under_itself(c, id, &[0; 16])
     }),
     rekey(7, "150 SA_KEY in a bag", |c| fill(c, REKEY, 150)),
     rekey(7, "2,000 deleted SPIs", |c| {
@@ -182,6 +209,19 @@ fn set_ids(c: &mut Case, protocol: u8, key_ids: &[u32], kwk_ids: &[u32]) -> Opti
         Attribute::Long { value, .. } => value.get_mut(..8)?.copy_from_slice(&ids),
         Attribute::Short(..) => return None,
     }
+    Some(())
+}
+
+/// A reached key other than key 0.
+fn reached(c: &mut Case) -> Option<(u32, Vec<u8>)> {
+    c.keys.get(c.rng.below(c.keys.len())).cloned()
+}
+
+/// Adds a WRAP_KEY under its own Key ID at a place by chance.
+fn under_itself(c: &mut Case, id: u32, wrapped: &[u8]) -> Option<()> {
+    let at = c.rng.number() as usize;
+    let entries = &mut c.bag(0)?.attributes;
+    entries.insert(at % (entries.len() + 1), Attribute::key(id, id, wrapped));
     Some(())
 }
 

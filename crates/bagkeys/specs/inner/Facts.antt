@@ -18,7 +18,7 @@ use Rattle.bags.specs.Bag.{Bag, groupKeys, memberKeys, GroupKeyBag, MemberKeyBa
 use Rattle.sa.specs.Entry.{esp, rekey}
 use Rattle.clauses.specs.Contents.{gather, groupBagOf, memberBagOf}
 use Rattle.clauses.specs.Fitness.{ah}
-use Rattle.clauses.specs.Number6.{hasKeyId, hasKwkId}
+use Rattle.clauses.specs.Number6.{hasKeyId, hasKwkId, underItself}
 use Rattle.bagkeys.specs.declared.wrapped.KeyFacts.{KeyFacts}
 use Rattle.bagkeys.specs.declared.BagFacts.{BagFacts}
 
@@ -37,12 +37,16 @@ noId v = eqb (be32 v 0) 0
 abbrev pub noKwk : List ℕ → Bool
 noKwk v = eqb (be32 v 4) 0
 
+abbrev pub oneId : List ℕ → Bool
+oneId v = eqb (be32 v 0) (be32 v 4)
+
 abbrev pub keyFactsOf : List (List ℕ) → KeyFacts
 keyFactsOf l = record {
   keys = length l;
   named = any (λ (v : List ℕ). not (noId v)) l;
   unnamed = any noId l;
   nested = any (λ (v : List ℕ). not (noKwk v)) l;
+  itself = any oneId l;
 }
 
 abbrev pub withKey : KeyFacts → List ℕ → KeyFacts
@@ -51,6 +55,7 @@ withKey f v = record {
   named = f .named || not (noId v);
   unnamed = f .unnamed || noId v;
   nested = f .nested || not (noKwk v);
+  itself = f .itself || oneId v;
 }
 
 -- ---- one bag
@@ -60,6 +65,7 @@ ofGroup limits p k = record {
   members = 0;
   wraps = 0;
   unnamed = false;
+  itself = false;
   ah = eqb p ah;
   keyless = eqb (k .keys) 0;
   several = not (eqb p rekey) && ltb 1 (k .keys);
@@ -74,6 +80,7 @@ ofMember k = record {
   members = 1;
   wraps = k .keys;
   unnamed = k .unnamed;
+  itself = k .itself;
   ah = false;
   keyless = false;
   several = false;
@@ -89,6 +96,7 @@ ofSaKeys l = record {
   named = any hasKeyId l;
   unnamed = any (λ (k : SaKey). eqb (k .keyId) 0) l;
   nested = any hasKwkId l;
+  itself = any (λ (k : SaKey). eqb (k .keyId) (k .kwkId)) l;
 }
 
 abbrev pub ofWrapKeys : List WrapKey → KeyFacts
@@ -97,6 +105,7 @@ ofWrapKeys l = record {
   named = any (λ (k : WrapKey). not (eqb (k .keyId) 0)) l;
   unnamed = any (λ (k : WrapKey). eqb (k .keyId) 0) l;
   nested = any (λ (k : WrapKey). not (eqb (k .kwkId) 0)) l;
+  itself = any underItself l;
 }
 
 abbrev pub ofBag : Limits → Bag → BagFacts
@@ -115,6 +124,7 @@ noBags = record {
   members = 0;
   wraps = 0;
   unnamed = false;
+  itself = false;
   ah = false;
   keyless = false;
   several = false;
@@ -129,6 +139,7 @@ together a b = record {
   members = a .members + b .members;
   wraps = a .wraps + b .wraps;
   unnamed = a .unnamed || b .unnamed;
+  itself = a .itself || b .itself;
   ah = a .ah || b .ah;
   keyless = a .keyless || b .keyless;
   several = a .several || b .several;
@@ -147,6 +158,7 @@ factsOf limits l = record {
   members = length (gather memberBagOf l);
   wraps = length (wrapsIn l);
   unnamed = any (λ (k : WrapKey). eqb (k .keyId) 0) (wrapsIn l);
+  itself = any underItself (wrapsIn l);
   ah = any (λ (b : GroupKeyBag). eqb (b .protocol) ah) (gather groupBagOf l);
   keyless = any (λ (b : GroupKeyBag). eqb (length (b .keys)) 0) (gather groupBagOf l);
   several = any (λ (b : GroupKeyBag). not (eqb (b .protocol) rekey) && ltb 1 (length (b .keys))) (gather groupBagOf l);

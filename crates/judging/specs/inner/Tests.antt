@@ -33,9 +33,10 @@ fourOf row b p k =
 abbrev pub fiveOf : Exchange → ℕ → Deletes → PolicyFacts → BagFacts → List Bool
 fiveOf row lent d p k = p .ah ∷ k .ah ∷ p .unfit ∷ d .other ∷ d .none ∷ (row .lent && not (sizeOf 13 lent)) ∷ []
 
--- the SA_KEY count, an SA_KEY with a Key ID, one of ESP with a KWK ID, a WRAP_KEY without Key ID
+-- the SA_KEY count, an SA_KEY with a Key ID, one of ESP with a KWK ID, a WRAP_KEY without Key ID, one under its own Key ID
 abbrev pub keysBy : Exchange → BagFacts → List Bool
-keysBy row k = ((k .keyless || k .several) || (not (row .copies) && k .copied)) ∷ k .named ∷ k .nested ∷ k .unnamed ∷ []
+keysBy row k = ((k .keyless || k .several) || (not (row .copies) && k .copied)) ∷ k .named ∷ k .nested ∷ k .unnamed ∷
+    k .itself ∷ []
 
 -- policies of the names l and bags of the names m not paired one to one, in the table already, and the keys
 abbrev pub sixOf : Exchange → BagFacts → List Name → List Name → ℕ → List Sa → List Bool
@@ -70,7 +71,7 @@ abbrev pub fiveIn : Five → List Bool
 fiveIn c = c .«ah_policy» ∷ c .«ah_bag» ∷ c .unfit ∷ c .other ∷ c .none ∷ c .key ∷ []
 
 abbrev pub keysIn : Keys → List Bool
-keysIn c = c .count ∷ c .named ∷ c .nested ∷ c .unnamed ∷ []
+keysIn c = c .count ∷ c .named ∷ c .nested ∷ c .unnamed ∷ c .itself ∷ []
 
 abbrev pub sevenIn : Seven → List Bool
 sevenIn c = c .esps ∷ c .wraps ∷ c .overfull ∷ c .spis ∷ c .sas ∷ []

@@ -13,7 +13,7 @@ add-t5 c = search needs
 
 returns : tie.Need-returns
 returns c =
-    let d = c .before .before .before .before in
+    let d = c .before .before .before .before .before in
     rw (d .before .be32-at .ensures, d .be32-at2 .ensures)
 
 pub with-key-spec : {M : Type 1} → statement M
