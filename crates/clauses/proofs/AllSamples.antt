@@ -100,7 +100,7 @@ pub record Samples : Type 0 where
   pub alone-7 : MetAlone sevenOf alone7
   -- of the member are "registration of a non-empty member; rekey whose two SPIs are not ..; a member value that breaks its list" (2),
   -- "already in the table" (6) and "over 16 SAs after the frame" (7)
-  pub halves : ByFrame 1 alone2 × ByFrame 16 alone4 × ByFrame 6 alone5 × ByFrame 8 alone6 × ByFrame 4 alone7
+  pub halves : ByFrame 1 alone2 × ByFrame 16 alone4 × ByFrame 6 alone5 × ByFrame 9 alone6 × ByFrame 4 alone7
   -- under six figures that differ
   pub of-limits : AnsweredWithin apart samplesOfLimits
   -- GSA_AUTH (39) and GSA_REGISTRATION (40) are answered alike, whatever their payloads
