@@ -10,7 +10,7 @@ use attributes::tables::Meaning;
 use attributes::tables::Place;
 use contents::values::Found;
 
-// How many keys, whether one has a Key ID, one has none, one has a KWK ID, one has one ID for both. An ID of 0 is none.
+// How many keys; whether one has a Key ID, one has none, one has a KWK ID, where an ID of 0 is none; whether the IDs of one are equal.
 pub struct KeyFacts {
     pub keys: usize,
     pub named: bool,

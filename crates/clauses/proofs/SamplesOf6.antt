@@ -109,7 +109,8 @@ samplesOf6 =
     anew (holdingNew (wrapKey 5 0 ∷ wrapKey 0 0 ∷ [])) 6 ∷
     anew (holdingNew (wrapKey 0 5 ∷ wrapKey 5 0 ∷ [])) 6 ∷
     anew (holdingNew (wrapKey 5 0 ∷ wrapKey 9 5 ∷ [])) 0 ∷
-    -- a WRAP_KEY whose Key ID equals its KWK ID: alone, behind and before good ones, with the last Key ID; two that wrap each other do not
+    -- a WRAP_KEY whose Key ID equals its KWK ID: alone, behind and before good ones, 0 under 0, the last Key ID; two that wrap each other
+    -- are no fault
     anew (holdingNew (wrapKey 5 5 ∷ [])) 6 ∷
     anew (holdingNew (wrapKey 5 0 ∷ wrapKey 9 5 ∷ wrapKey 7 7 ∷ [])) 6 ∷
     anew (holdingNew (wrapKey 5 5 ∷ wrapKey 9 0 ∷ [])) 6 ∷

@@ -34,7 +34,7 @@ pub fn clauses_6(row: Exchange, k: BagFacts) -> Keys
     let nested = k.nested;
     // "WRAP_KEY with Key ID 0"
     let unnamed = k.unnamed;
-    // T-09: "Any such WRAP_KEY, reached or not"
+    // document 02, T-09: "an entry whose Key ID equals its KWK ID. Any such WRAP_KEY, reached or not"
     let itself = k.itself;
     Keys {
         count,
