@@ -1,6 +1,7 @@
 // The call on an opened frame.
 use crate::Member;
 use attributes::Layout;
+use frames::exchanges::KeyZero;
 use judging::facts::Facts;
 use judging::refusal::Verdict;
 use receiving::registration::registered;
@@ -8,16 +9,14 @@ use receiving::rekey::rekeyed;
 use receiving::row_of;
 use state::State;
 ghost use mathlib.Core.Path.{_≡_};
-ghost use mathlib.Core.Bool.{true, false};
 ghost use mathlib.Core.List.{List, []};
 ghost use Prim.Native.Nat.{ℕ, _≤_};
 ghost use Rattle.octets.specs.Walk.{whole};
 ghost use Rattle.keys.specs.Limits.{limits};
 ghost use Rattle.frames.specs.Frame.{Frame, frame};
 ghost use Rattle.contents.specs.inner.Values.{isWhole};
-ghost use Rattle.clauses.specs.Contents.{rowOf};
 ghost use Rattle.outcome.specs.Outcome.{Judged};
-ghost use Rattle.receiving.specs.inner.Passing.{Passed};
+ghost use Rattle.receiving.specs.inner.Passing.{Passed, Registers, RekeysOver};
 ghost use Rattle.group.specs.Receive.{numberOf, Receives};
 
 // What becomes of a frame.
@@ -113,8 +112,8 @@ impl Member {
 
     // A registration that numbers 2 to 7 let pass, with its facts.
     fn registering(self, s: &[u8], x: Facts, lent: &[u8], tick: u32) -> Received
-        requires { ⌜ ((f : Frame) × Passed (self .state) tick (now lent) (now s) x f × (rowOf f .holds ≡ true)) ⌝ }
-        ensures { λ r. ⌜ ((f : Frame) → Passed (self .state) tick (now (lent .entry)) (now (s .entry)) x f → rowOf f .holds ≡ true →
+        requires { ⌜ ((f : Frame) × Passed (self .state) tick (now lent) (now s) x f × Registers f) ⌝ }
+        ensures { λ r. ⌜ ((f : Frame) → Passed (self .state) tick (now (lent .entry)) (now (s .entry)) x f → Registers f →
             Judged limits (self .state) tick (now (lent .entry)) f (numberOf (r .answer)) (r .member .state)) ⌝ }
     {
         let state = self.state;
@@ -122,10 +121,10 @@ impl Member {
         answered(next.number, next.state)
     }
 
-    // A rekey that numbers 2 to 7 let pass, with its facts. No lent key is read.
+    // A rekey over the live Rekey SA that numbers 2 to 7 let pass, with its facts. No lent key is read.
     fn rekeying(self, s: &[u8], x: Facts, tick: u32) -> Received
-        requires { ⌜ ((f : Frame) × (lent : List ℕ) × Passed (self .state) tick lent (now s) x f × (rowOf f .holds ≡ false)) ⌝ }
-        ensures { λ r. ⌜ ((f : Frame) (lent : List ℕ) → Passed (self .state) tick lent (now (s .entry)) x f → rowOf f .holds ≡ false →
+        requires { ⌜ ((f : Frame) × (lent : List ℕ) × Passed (self .state) tick lent (now s) x f × RekeysOver f) ⌝ }
+        ensures { λ r. ⌜ ((f : Frame) (lent : List ℕ) → Passed (self .state) tick lent (now (s .entry)) x f → RekeysOver f →
             Judged limits (self .state) tick lent f (numberOf (r .answer)) (r .member .state)) ⌝ }
     {
         let state = self.state;
@@ -133,17 +132,18 @@ impl Member {
         answered(next.number, next.state)
     }
 
-    // A frame that numbers 2 to 7 let pass, with its facts.
+    // A frame that numbers 2 to 7 let pass, with its facts. It goes by whose key KWK ID 0 names.
     fn passed(self, s: &[u8], x: Facts, lent: &[u8], tick: u32) -> Received
         requires { ⌜ ((f : Frame) × Passed (self .state) tick (now lent) (now s) x f) ⌝ }
         ensures { λ r. ⌜ ((f : Frame) → Passed (self .state) tick (now (lent .entry)) (now (s .entry)) x f →
             Judged limits (self .state) tick (now (lent .entry)) f (numberOf (r .answer)) (r .member .state)) ⌝ }
     {
         let row = row_of(s);
-        if row.holds {
-            return self.registering(s, x, lent, tick);
+        let zero = row.zero;
+        match zero {
+            KeyZero::Lent => self.registering(s, x, lent, tick),
+            KeyZero::RekeySa => self.rekeying(s, x, tick),
         }
-        self.rekeying(s, x, tick)
     }
 
     // A frame whose layout is whole.

@@ -2,7 +2,7 @@
 use native.Mathlib.Omega.{arith}
 use Prim.Native.Nat.{ℕ, _≤_}
 use mathlib.Core.Path.{_≡_, ap, sym, subst, _∙_}
-use mathlib.Core.Bool.{Bool, false, false≢true}
+use mathlib.Core.Bool.{false, false≢true}
 use mathlib.Core.List.{List}
 use borrow.Author.Tests.{eq-eqb}
 use lib.Dec.{eqb}
@@ -10,6 +10,7 @@ use lib.ListN.{length, getD}
 use Rattle.keys.specs.Lists.{any}
 use Rattle.attributes.specs.Tree.{WrapKey}
 use Rattle.frames.specs.Frame.{Frame}
+use Rattle.frames.specs.declared.exchanges.Exchange.{Exchange}
 use Rattle.state.specs.declared.State.{State}
 use Rattle.contents.specs.inner.Policies.{policiesIn}
 use Rattle.payloads.specs.declared.PayloadFacts.{PayloadFacts}
@@ -54,21 +55,21 @@ module _ (m : State) (now : ℕ) (lent s : List ℕ) (x : Facts) (f : Frame) (p 
       ∙ ap (λ (y : PayloadFacts). policyFacts (rowOf f .authentication) (policiesIn (at s (y .gsa)))) (sym e)
       ∙ ap (policyFacts (rowOf f .authentication)) (holds-policies .all)
 
-  pub bodied : (holds : Bool) → rowOf f .holds ≡ holds → Bodied holds m now lent s x (at s (x .payloads .gsa)) (at s (x .payloads .kd)) f
-  bodied holds e = record { passed = p; row = e; policies = sym (holds-policies .all); bags = sym (holds-bags .all) }
+  pub bodied : (e : Exchange) → rowOf f ≡ e → Bodied e m now lent s x (at s (x .payloads .gsa)) (at s (x .payloads .kd)) f
+  bodied e r = record { passed = p; row = r; policies = sym (holds-policies .all); bags = sym (holds-bags .all) }
 
-module _ {holds : Bool} {m : State} {now : ℕ} {lent s : List ℕ} {x : Facts} {g k : List ℕ} {f : Frame}
-    (b : Bodied holds m now lent s x g k f) where
+module _ {e : Exchange} {m : State} {now : ℕ} {lent s : List ℕ} {x : Facts} {g k : List ℕ} {f : Frame}
+    (b : Bodied e m now lent s x g k f) where
   pub ready : Ready f g k
   ready =
-      let e = b .passed .clauses in
+      let q = b .passed .clauses in
       record {
         policies = b .policies;
         bags = b .bags;
-        lengths = lengths-once m now lent f e;
-        transforms = transforms-fit m now lent f e;
-        paired = all-paired m now lent f e;
-        room = omega (arith, few-sas m now lent f e);
+        lengths = lengths-once m now lent f q;
+        transforms = transforms-fit m now lent f q;
+        paired = all-paired m now lent f q;
+        room = omega (arith, few-sas m now lent f q);
       }
 
   pub entries-are : wrapKeysIn k ≡ wrapKeysOf f

@@ -5,16 +5,16 @@ use mathlib.Core.Path.{_≡_, refl, ap, sym}
 use mathlib.Core.Bool.{Bool, true, false, not, cond, _&&_, false≢true}
 use mathlib.Core.List.{List, [], _∷_}
 use borrow.Author.Tests.{ltb-false}
-use lib.Dec.{eqb}
 use lib.ListN.{length, getD}
 use Rattle.keys.specs.Limits.{limits}
 use Rattle.keys.specs.Lists.{any, count}
 use Rattle.keys.specs.Algorithms.{sizeOf}
-use Rattle.keys.proofs.Cases.{bool-cases}
 use Rattle.policies.specs.Policy.{GroupSaPolicy, GroupWidePolicy}
 use Rattle.bags.specs.Bag.{MemberKeyBag}
 use Rattle.frames.specs.Frame.{Frame}
-use Rattle.frames.specs.Exchange.{exchangeOf, registration, rekey}
+use Rattle.frames.specs.Exchange.{registration, rekey}
+use Rattle.frames.specs.declared.exchanges.KeyZero.{KeyZero}
+use Rattle.frames.specs.declared.exchanges.KeyZero.the-variants as keyZero
 use Rattle.state.specs.declared.State.{State}
 use Rattle.state.specs.State.{stateFormed}
 use Rattle.clauses.specs.Contents.{rowOf, gather, some, several, hasGsa, hasKd, announced, groupWides, memberBags, wrapKeysOf}
@@ -27,7 +27,9 @@ use Rattle.clauses.specs.Number6.{six-ofFrame, policyUnpaired, wrapKeyId}
 use Rattle.clauses.specs.Number7.{seven-ofFrame, seven-ofMember, manyWrapKeys, manySas}
 use Rattle.clauses.specs.Refusals.{Number, one, applies, judged, two, three, four, five, six, seven, refusal}
 use Rattle.clauses.proofs.Clear.{or-none, no-clause}
+use Rattle.clauses.proofs.ExchangeRows.{by-row}
 use Rattle.outcome.proofs.RunsClear.{None}
+use Rattle.receiving.specs.inner.Passing.{Registers, RekeysOver}
 
 -- ---- the numbers, one after the other
 none-by : (n : Number) (l : List Number) (k : ℕ) → n .number ≡ suc k → (b : Bool) → applies n ≡ b →
@@ -39,6 +41,14 @@ none-by n l k h false e g =
 none-first : (n : Number) (l : List Number) (k : ℕ) → n .number ≡ suc k → judged (n ∷ l) ≡ 0 → None n × (judged l ≡ 0)
 unfolding judged
 none-first n l k h e = none-by n l k h (applies n) refl e
+
+-- key 0 is the lent key or the Rekey SA's
+lent-or-own : keyZero.Lent ≡ keyZero.RekeySa → ⊥
+lent-or-own e = false≢true (ap is-own e)
+  where
+    is-own : KeyZero → Bool
+    is-own keyZero.Lent = false
+    is-own keyZero.RekeySa = true
 
 module _ (m : State) (now : ℕ) (lent : List ℕ) (f : Frame) (e : refusal limits m now lent f ≡ 0) where
   from-2 : None (two limits m now (f .header .exchange) (f .header .spi))
@@ -77,16 +87,17 @@ module _ (m : State) (now : ℕ) (lent : List ℕ) (f : Frame) (e : refusal limi
       not-not (rowOf f .admitted)
       (no-clause (two limits m now (f .header .exchange) (f .header .spi) .ofFrame) 0 (from-2 .0 .ofFrame))
 
-  -- an exchange that keeps the held list is a rekey
-  pub is-rekey : rowOf f .holds ≡ false → rowOf f ≡ rekey
-  is-rekey h = kept (f .header .exchange) h admitted
-    where
-      kept : (x : ℕ) → exchangeOf x .holds ≡ false → exchangeOf x .admitted ≡ true → exchangeOf x ≡ rekey
-      kept x h a =
-          bool-cases (eqb x 39) (λ p. absurd (false≢true (sym (rw p at h))))
-          (λ p.
-          bool-cases (eqb x 40) (λ q. absurd (false≢true (sym (rw (p, q) at h))))
-          (λ q. bool-cases (eqb x 41) (λ r. rw (p, q, r)) (λ r. absurd (false≢true (rw (p, q, r) at a)))))
+  -- an exchange whose key 0 is the Rekey SA's is a rekey; of those that are taken the others register
+  pub is-rekey : RekeysOver f → rowOf f ≡ rekey
+  is-rekey z =
+      by-row (rowOf f ≡ rekey) (f .header .exchange) (λ q r. absurd (lent-or-own (rw r at z))) (λ q r. r)
+      (λ r. absurd (lent-or-own (rw r at z)))
+
+  pub lent-registers : rowOf f .zero ≡ keyZero.Lent → Registers f
+  lent-registers z =
+      let a = admitted in
+      by-row (Registers f) (f .header .exchange) (λ q r. rw r) (λ q r. absurd (lent-or-own (sym (rw r at z))))
+      (λ r. absurd (false≢true (rw r at a)))
 
   pub over-live : rowOf f ≡ rekey → any (overLiveRekey (f .header .spi)) (standing now m) ≡ true
   unfolding otherSpis

@@ -13,8 +13,8 @@ use Rattle.keys.specs.declared.kinds.WrappingKey.{WrappingKey}
 use Rattle.attributes.specs.Tree.{WrapKey}
 use Rattle.frames.specs.Frame.{Frame}
 use Rattle.frames.specs.Exchange.{registration}
+use Rattle.frames.specs.declared.exchanges.Exchange.{Exchange}
 use Rattle.state.specs.declared.State.{State}
-use Rattle.clauses.specs.Contents.{rowOf}
 use Rattle.chains.specs.Chain.{Root}
 use Rattle.chains.specs.Refusals.{EntriesEight}
 use Rattle.copies.specs.inner.Known.{Agrees}
@@ -27,7 +27,7 @@ use Rattle.reached.proofs.Agreeing.{value-of}
 use Rattle.outcome.specs.Roots.{rootsOf, entriesOf, wrappingSize}
 use Rattle.outcome.specs.After.{HeldAre, HeldBy}
 use Rattle.outcome.specs.Outcome.{Judged}
-use Rattle.outcome.proofs.Rows.{registers, lent-roots, lent-size}
+use Rattle.outcome.proofs.Rows.{lent-roots, lent-size}
 use Rattle.judging.specs.declared.facts.Facts.{Facts}
 use Rattle.keying.specs.inner.Keyed.{KeyedBy}
 use Rattle.keying.specs.declared.joining.Keyed.{Keyed}
@@ -37,13 +37,10 @@ use Rattle.receiving.proofs.ZeroLaws.{lent-key}
 use Rattle.receiving.proofs.BodyLaws.{entries-are}
 use Rattle.receiving.proofs.ConcludingLaws.{entries-eight}
 
-module _ {m : State} {now : ℕ} {lent s : List ℕ} {x : Facts} {g k : List ℕ} {f : Frame} (b : Bodied true m now lent s x g k f) (zero : WrappingKey)
+module _ {m : State} {now : ℕ} {lent s : List ℕ} {x : Facts} {g k : List ℕ} {f : Frame} (b : Bodied registration m now lent s x g k f) (zero : WrappingKey)
     (z : zero ≡ wrappingKey lent .key) where
-  row : rowOf f ≡ registration
-  row = registers (f .header .exchange) (b .row)
-
   lent-size-fits : sizeOf 13 (length lent) ≡ true
-  lent-size-fits = lent-fits m now lent f (b .passed .clauses) row
+  lent-size-fits = lent-fits m now lent f (b .passed .clauses) (b .row)
 
   zero-is : zero ≡ wrappingOf lent
   zero-is = z ∙ lent-key lent lent-size-fits
@@ -62,9 +59,9 @@ module _ {m : State} {now : ℕ} {lent s : List ℕ} {x : Facts} {g k : List ℕ
       P (rootsOf limits m now lent f) (entriesOf f) (wrappingSize limits m now lent f)
   carry P x =
       let roots : keyZero (valueOf zero) ≡ rootsOf limits m now lent f =
-      ap keyZero value-is ∙ sym (lent-roots limits m now f row lent) in
+      ap keyZero value-is ∙ sym (lent-roots limits m now f (b .row) lent) in
       let size : zero .count ≡ wrappingSize limits m now lent f =
-      ap (λ (y : WrappingKey). y .count) zero-is ∙ sym (lent-size limits m now f row lent) in
+      ap (λ (y : WrappingKey). y .count) zero-is ∙ sym (lent-size limits m now f (b .row) lent) in
       subst (P (rootsOf limits m now lent f) (entriesOf f)) size
       (subst (λ (l : List WrapKey). P (rootsOf limits m now lent f) l (zero .count)) (entries-are b)
       (subst (λ (l : List Root). P l (wrapKeysIn k) (zero .count)) roots x))
@@ -88,5 +85,5 @@ module _ {m : State} {now : ℕ} {lent s : List ℕ} {x : Facts} {g k : List ℕ
               (carry (λ (x : List Root) (y : List WrapKey) (n : ℕ). Agrees x y n zero (r .held)) (a .agrees e));
           held-is = subst (λ (x : Bool).
               HeldBy x (HeldAre (rootsOf limits m now lent f) (entriesOf f) (wrappingSize limits m now lent f) limits (r .held))
-              (r .held ≡ m .held)) (sym (b .row)) set;
+              (r .held ≡ m .held)) (sym (ap (λ (e : Exchange). e .holds) (b .row))) set;
         }

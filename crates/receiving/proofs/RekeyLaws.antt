@@ -12,13 +12,13 @@ use Rattle.keys.proofs.Cases.{and-parts}
 use Rattle.attributes.specs.Tree.{WrapKey}
 use Rattle.frames.specs.Frame.{Frame}
 use Rattle.frames.specs.Exchange.{rekey}
+use Rattle.frames.specs.declared.exchanges.Exchange.{Exchange}
 use Rattle.sa.specs.Entry.{named, liveRekey}
 use Rattle.sa.specs.Entry as entry
 use Rattle.table.specs.Table.{sasOf, tableFormed, swept, defaultKey}
 use Rattle.table.specs.declared.Table.{Table}
 use Rattle.table.proofs.Kept.{sas-of-table, swept-formed}
 use Rattle.state.specs.declared.State.{State}
-use Rattle.clauses.specs.Contents.{rowOf}
 use Rattle.clauses.specs.Number2.{standing, overLiveRekey}
 use Rattle.chains.specs.Chain.{Root, Chain, root, step, Reached}
 use Rattle.chains.specs.Refusals.{EntriesEight, wrong-size, two-values}
@@ -33,7 +33,7 @@ use Rattle.judging.specs.declared.facts.Facts.{Facts}
 use Rattle.keying.specs.inner.Keyed.{KeyedBy}
 use Rattle.keying.specs.declared.joining.Keyed.{Keyed}
 use Rattle.receiving.specs.inner.Passing.{Bodied, IsDefaultKey, Opened}
-use Rattle.receiving.proofs.ClauseLaws.{state-formed, is-rekey, over-live, no-entry}
+use Rattle.receiving.proofs.ClauseLaws.{state-formed, over-live, no-entry}
 use Rattle.receiving.proofs.ConcludingLaws.{table-fits, table-is}
 use Rattle.receiving.proofs.Rekeying.{heldRoots, rekey-agrees}
 
@@ -50,11 +50,8 @@ none-eight : (roots : List Root) (size : ℕ) → EntriesEight roots [] size →
 none-eight roots size (wrong-size k x r d) = none-reached roots size k x r
 none-eight roots size (two-values k x y r q d) = none-reached roots size k x r
 
-module _ {m : State} {now : ℕ} {lent s : List ℕ} {x : Facts} {g k : List ℕ} {f : Frame} (b : Bodied false m now lent s x g k f) (t : Table)
+module _ {m : State} {now : ℕ} {lent s : List ℕ} {x : Facts} {g k : List ℕ} {f : Frame} (b : Bodied rekey m now lent s x g k f) (t : Table)
     (w : t ≡ swept limits now (m .table)) where
-  row : rowOf f ≡ rekey
-  row = is-rekey m now lent f (b .passed .clauses) (b .row)
-
   pub stands-formed : tableFormed limits t ≡ true
   stands-formed =
       ap (tableFormed limits) w
@@ -67,7 +64,7 @@ module _ {m : State} {now : ℕ} {lent s : List ℕ} {x : Facts} {g k : List ℕ
 
   pub stands-live : any liveRekey (sasOf t) ≡ true
   stands-live =
-      let x = some-passes (overLiveRekey (f .header .spi)) (standing now m) (over-live m now lent f (b .passed .clauses) row) in
+      let x = some-passes (overLiveRekey (f .header .spi)) (standing now m) (over-live m now lent f (b .passed .clauses) (b .row)) in
       let l = and-parts (liveRekey (x .one)) (named entry.rekey (f .header .spi) (x .one)) (x .passes) .0 in
       ap (any liveRekey) stands-are ∙ passes-some liveRekey (standing now m) (x .one) (x .stands) l
 
@@ -75,10 +72,10 @@ module _ {m : State} {now : ℕ} {lent s : List ℕ} {x : Facts} {g k : List ℕ
     roots-are : heldRoots zero (m .held) ≡ rootsOf limits m now lent f
     roots-are =
         let own : zero ≡ defaultKey limits (swept limits now (m .table)) .key = d .is ∙ ap (λ (x : Table). defaultKey limits x .key) w in
-        ap (λ (x : WrappingKey). heldRoots x (m .held)) own ∙ sym (own-roots limits m now f row lent)
+        ap (λ (x : WrappingKey). heldRoots x (m .held)) own ∙ sym (own-roots limits m now f (b .row) lent)
 
     none : [] ≡ entriesOf f
-    none = sym (no-entry m now lent f (b .passed .clauses) row)
+    none = sym (no-entry m now lent f (b .passed .clauses) (b .row))
 
     carry : (P : List Root → List WrapKey → Type 0) → P (heldRoots zero (m .held)) [] → P (rootsOf limits m now lent f) (entriesOf f)
     carry P x = subst (P (rootsOf limits m now lent f)) none (subst (λ (l : List Root). P l []) roots-are x)
@@ -94,5 +91,5 @@ module _ {m : State} {now : ℕ} {lent s : List ℕ} {x : Facts} {g k : List ℕ
           keys = by _ _ n (carry (λ (x : List Root) (y : List WrapKey). Agrees x y n zero (m .held)) (rekey-agrees zero (m .held) n));
           held-is = subst (λ (x : Bool).
               HeldBy x (HeldAre (rootsOf limits m now lent f) (entriesOf f) n limits (m .held))
-              (m .held ≡ m .held)) (sym (b .row)) refl;
+              (m .held ≡ m .held)) (sym (ap (λ (e : Exchange). e .holds) (b .row))) refl;
         }

@@ -10,17 +10,17 @@ ghost use Rattle.keys.specs.Limits.{limits};
 ghost use Rattle.policies.specs.Policy.{policies};
 ghost use Rattle.bags.specs.Bag.{bags};
 ghost use Rattle.frames.specs.Frame.{Frame};
+ghost use Rattle.frames.specs.Exchange.{registration};
 ghost use Rattle.contents.specs.inner.Values.{isWhole};
-ghost use Rattle.clauses.specs.Contents.{rowOf};
 ghost use Rattle.outcome.specs.Outcome.{Judged};
-ghost use Rattle.receiving.specs.inner.Passing.{Passed, Bodied};
+ghost use Rattle.receiving.specs.inner.Passing.{Passed, Registers, Bodied};
 
 // Its outcome, by the bodies of its GSA and its KD: the lent key is key 0, and the keys that are reached from it are the held list.
 fn by_bodies(state: State, s: &[u8], x: Facts, g: &[u8], k: &[u8], lent: &[u8], tick: u32) -> Next
     requires { ⌜ (isWhole (policies 0 (now g)) ≡ true) × (isWhole (bags 0 (now k)) ≡ true) ⌝ }
-    requires { ⌜ ((f : Frame) × Bodied true state tick (now lent) (now s) x (now g) (now k) f) ⌝ }
+    requires { ⌜ ((f : Frame) × Bodied registration state tick (now lent) (now s) x (now g) (now k) f) ⌝ }
     ensures { λ r. ⌜ ((f : Frame) →
-        Bodied true state tick (now (lent .entry)) (now (s .entry)) x (now (g .entry)) (now (k .entry)) f →
+        Bodied registration state tick (now (lent .entry)) (now (s .entry)) x (now (g .entry)) (now (k .entry)) f →
         Judged limits state tick (now (lent .entry)) f (r .number) (r .state)) ⌝ }
 {
     let made = WrappingKey::new(lent);
@@ -36,8 +36,8 @@ fn by_bodies(state: State, s: &[u8], x: Facts, g: &[u8], k: &[u8], lent: &[u8], 
 
 // The outcome of a registration with these facts and a lent default key. Internal.
 pub fn registered(state: State, s: &[u8], x: Facts, lent: &[u8], tick: u32) -> Next
-    requires { ⌜ ((f : Frame) × Passed state tick (now lent) (now s) x f × (rowOf f .holds ≡ true)) ⌝ }
-    ensures { λ r. ⌜ ((f : Frame) → Passed state tick (now (lent .entry)) (now (s .entry)) x f → rowOf f .holds ≡ true →
+    requires { ⌜ ((f : Frame) × Passed state tick (now lent) (now s) x f × Registers f) ⌝ }
+    ensures { λ r. ⌜ ((f : Frame) → Passed state tick (now (lent .entry)) (now (s .entry)) x f → Registers f →
         Judged limits state tick (now (lent .entry)) f (r .number) (r .state)) ⌝ }
 {
     let b = x.payloads;

@@ -1,13 +1,15 @@
 -- A frame that numbers 2 to 7 let pass, and what its keys come to.
 use Prim.Native.Nat.{ℕ}
 use mathlib.Core.Path.{_≡_}
-use mathlib.Core.Bool.{Bool, true}
+use mathlib.Core.Bool.{true}
 use mathlib.Core.List.{List, []}
 use Rattle.octets.specs.Walk.{whole}
 use Rattle.keys.specs.Limits.{limits}
 use Rattle.keys.specs.Algorithms.{sizeOf}
 use Rattle.keys.specs.declared.kinds.WrappingKey.{WrappingKey}
 use Rattle.frames.specs.Frame.{Frame, frame}
+use Rattle.frames.specs.declared.exchanges.Exchange.{Exchange}
+use Rattle.frames.specs.declared.exchanges.KeyZero.the-variants as keyZero
 use Rattle.table.specs.Table.{defaultKey}
 use Rattle.table.specs.declared.Table.{Table}
 use Rattle.state.specs.declared.State.{State}
@@ -30,10 +32,18 @@ pub record Passed (m : State) (now : ℕ) (lent s : List ℕ) (x : Facts) (f : F
   pub clauses : refusal limits m now lent f ≡ 0
   pub facts : x ≡ factsOf (rowOf f .authentication) s
 
--- its exchange sets the held list or leaves it, and its policies and its bags are those of these bodies
-pub record Bodied (holds : Bool) (m : State) (now : ℕ) (lent s : List ℕ) (x : Facts) (g k : List ℕ) (f : Frame) : Type 0 where
+-- a registration: its exchange sets the held list
+abbrev pub Registers : Frame → Type 0
+Registers f = rowOf f .holds ≡ true
+
+-- a rekey over the Rekey SA: its exchange has the live Rekey SA's default key as key 0
+abbrev pub RekeysOver : Frame → Type 0
+RekeysOver f = rowOf f .zero ≡ keyZero.RekeySa
+
+-- its exchange has this row, and its policies and its bags are those of these bodies
+pub record Bodied (e : Exchange) (m : State) (now : ℕ) (lent s : List ℕ) (x : Facts) (g k : List ℕ) (f : Frame) : Type 0 where
   pub passed : Passed m now lent s x f
-  pub row : rowOf f .holds ≡ holds
+  pub row : rowOf f ≡ e
   pub policies : policiesOf f ≡ policiesIn g
   pub bags : bagsOf f ≡ bagsIn k
 

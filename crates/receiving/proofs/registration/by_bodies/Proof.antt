@@ -1,10 +1,10 @@
 use denote.Ref.{now}
-use mathlib.Core.Bool.{true}
 use mathlib.Core.Path.{_≡_, ap}
 use Rattle.octets.specs.Octets.{Octets}
 use Rattle.keys.specs.Kinds.{wrappingKey}
 use Rattle.keys.specs.declared.kinds.MadeWrapping.{MadeWrapping}
 use Rattle.frames.specs.Frame.{Frame}
+use Rattle.frames.specs.Exchange.{registration}
 use Rattle.receiving.specs.inner.Passing.{Bodied, Opened}
 use Rattle.receiving.proofs.BodyLaws.{ready, entries-few, entries-nonzero}
 use Rattle.receiving.proofs.RegistrationLaws.{zero-fits, zero-key, registration-eight, registration-opened}
@@ -47,7 +47,7 @@ keyed-requires c κs =
 
 opened-by : (c : tie.After-keyed) (f : Frame) →
     let a = c .before .before .before .before .before .before .before .before .before .before .args in
-    Bodied true (a .state) (a .tick) (now (a .lent)) (now (a .s)) (a .x) (now (a .g)) (now (a .k)) f →
+    Bodied registration (a .state) (a .tick) (now (a .lent)) (now (a .s)) (a .x) (now (a .g)) (now (a .k)) f →
     Opened (a .state) (a .tick) (now (a .lent)) (now (a .s)) (a .x) (c .keyed .result)
     (c .before .before .before .reached .result .held) f
 opened-by c f b =

@@ -1,6 +1,7 @@
 use denote.Ref.{now}
-use mathlib.Core.Bool.{true}
+use Rattle.frames.specs.Exchange.{registration}
 use Rattle.payloads.proofs.FoundLaws.{OfFrame}
+use Rattle.outcome.proofs.Rows.{registers}
 use Rattle.receiving.proofs.BodyLaws.{of-frame, holds-policies, holds-bags, bodied}
 use Rattle.receiving.proofs.registration.registered.Statement.{statement}
 use Rattle.receiving.proofs.registration.registered.Tie as tie
@@ -35,18 +36,21 @@ by-bodies-requires : tie.Need-by-bodies-requires
 by-bodies-requires c κs =
     let b = c .before .before .before .before .before .before .before in
     let a = b .args in
-    let p = b .pre in (
+    let p = b .pre in
+    let row = registers (p .0 .header .exchange) (p .2) in (
       (
         holds-policies (a .state) (a .tick) (now (a .lent)) (now (a .s)) (a .x) (p .0) (p .1) .held,
         holds-bags (a .state) (a .tick) (now (a .lent)) (now (a .s)) (a .x) (p .0) (p .1) .held,
       ),
-      (p .0, bodied (a .state) (a .tick) (now (a .lent)) (now (a .s)) (a .x) (p .0) (p .1) true (p .2)),
+      (p .0, bodied (a .state) (a .tick) (now (a .lent)) (now (a .s)) (a .x) (p .0) (p .1) registration row),
     )
 
 returns : tie.Need-returns
 returns c =
     let a = c .before .before .before .before .before .before .before .before .args in
-    λ f q e. c .by-bodies .ensures f (bodied (a .state) (a .tick) (now (a .lent)) (now (a .s)) (a .x) f q true e)
+    λ f q e.
+    let row = registers (f .header .exchange) e in
+    c .by-bodies .ensures f (bodied (a .state) (a .tick) (now (a .lent)) (now (a .s)) (a .x) f q registration row)
 
 pub registered-spec : {M : Type 1} → statement M
 registered-spec =

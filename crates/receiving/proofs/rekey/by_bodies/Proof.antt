@@ -1,8 +1,8 @@
 use denote.Ref.{now}
-use mathlib.Core.Bool.{false}
 use mathlib.Core.List.{List}
 use Prim.Native.Nat.{ℕ}
 use Rattle.frames.specs.Frame.{Frame}
+use Rattle.frames.specs.Exchange.{rekey}
 use Rattle.receiving.specs.inner.Passing.{Bodied, Opened}
 use Rattle.receiving.proofs.ClauseLaws.{state-formed}
 use Rattle.receiving.proofs.ConcludingLaws.{held-fits}
@@ -31,7 +31,7 @@ keyed-requires c κs =
 
 opened-by : (c : tie.After-keyed) (f : Frame) (lent : List ℕ) →
     let a = c .before .before .before .before .before .before .before .before .args in
-    Bodied false (a .state) (a .tick) lent (now (a .s)) (a .x) (now (a .g)) (now (a .k)) f →
+    Bodied rekey (a .state) (a .tick) lent (now (a .s)) (a .x) (now (a .g)) (now (a .k)) f →
     Opened (a .state) (a .tick) lent (now (a .s)) (a .x) (c .keyed .result) (a .state .held) f
 opened-by c f lent b =
     let w = c .before .before .before .swept in

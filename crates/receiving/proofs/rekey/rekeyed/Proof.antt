@@ -1,6 +1,7 @@
 use denote.Ref.{now}
-use mathlib.Core.Bool.{false}
+use Rattle.frames.specs.Exchange.{rekey}
 use Rattle.payloads.proofs.FoundLaws.{OfFrame}
+use Rattle.receiving.proofs.ClauseLaws.{is-rekey}
 use Rattle.receiving.proofs.BodyLaws.{of-frame, holds-policies, holds-bags, bodied}
 use Rattle.receiving.proofs.rekey.rekeyed.Statement.{statement}
 use Rattle.receiving.proofs.rekey.rekeyed.Tie as tie
@@ -35,18 +36,21 @@ by-bodies-requires : tie.Need-by-bodies-requires
 by-bodies-requires c κs =
     let b = c .before .before .before .before .before .before in
     let a = b .args in
-    let p = b .pre in (
+    let p = b .pre in
+    let row = is-rekey (a .state) (a .tick) (p .1) (p .0) (p .2 .clauses) (p .3) in (
       (
         holds-policies (a .state) (a .tick) (p .1) (now (a .s)) (a .x) (p .0) (p .2) .held,
         holds-bags (a .state) (a .tick) (p .1) (now (a .s)) (a .x) (p .0) (p .2) .held,
       ),
-      (p .0, p .1, bodied (a .state) (a .tick) (p .1) (now (a .s)) (a .x) (p .0) (p .2) false (p .3)),
+      (p .0, p .1, bodied (a .state) (a .tick) (p .1) (now (a .s)) (a .x) (p .0) (p .2) rekey row),
     )
 
 returns : tie.Need-returns
 returns c =
     let a = c .before .before .before .before .before .before .before .args in
-    λ f lent q e. c .by-bodies .ensures f lent (bodied (a .state) (a .tick) lent (now (a .s)) (a .x) f q false e)
+    λ f lent q e.
+    let row = is-rekey (a .state) (a .tick) lent f (q .clauses) e in
+    c .by-bodies .ensures f lent (bodied (a .state) (a .tick) lent (now (a .s)) (a .x) f q rekey row)
 
 pub rekeyed-spec : {M : Type 1} → statement M
 rekeyed-spec =
