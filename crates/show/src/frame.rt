@@ -52,9 +52,10 @@ fn encrypted(out: &mut [u8], n: usize, kind: usize, len: usize) -> usize {
     names::text(out, b, b", encrypted: not opened\n")
 }
 
-// What is shown of a frame whose layout is whole, below its header.
+// What is shown of a frame whose layout is whole, below its header: its payloads, and which clauses apply.
 fn whole(out: &mut [u8], n: usize, s: &[u8]) -> usize {
-    payloads(out, n, s, 0)
+    let a = payloads(out, n, s, 0);
+    refusals::applying(out, a, s)
 }
 
 // The payloads up to the offset at which the layout breaks. Payloads that do not end with the frame count for the header, at 0.
