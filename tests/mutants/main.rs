@@ -156,15 +156,15 @@ fn compiled(name: &str, root: &Path, more: &[&str], output: &Path) -> std::io::R
 fn passes_tests(room: &Path) -> std::io::Result<bool> {
     let (library, builder, tests) = (room.join("libreference.rlib"), room.join("libbuilder.rlib"), room.join("selftest"));
     let (reference, built) = (format!("reference={}", library.display()), format!("builder={}", builder.display()));
-    let (rlib, of_reference, of_both) = (["--crate-type", "rlib"], ["--extern", &reference], ["--extern", &built]);
+    let below = format!("dependency={}", room.display());
+    let (rlib, of_reference, of_both) = (
+        ["--crate-type", "rlib"],
+        ["--extern", &reference],
+        ["--test", "-L", &below, "--extern", &reference, "--extern", &built],
+    );
     let made = compiled("reference", &room.join("src/lib.rs"), &rlib, &library)?
         && compiled("builder", Path::new("tests/compare/builder.rs"), &[rlib, of_reference].concat(), &builder)?
-        && compiled(
-            "selftest",
-            Path::new("tests/reference/selftest.rs"),
-            &[&["--test"], &of_reference[..], &of_both].concat(),
-            &tests,
-        )?;
+        && compiled("selftest", Path::new("tests/reference/selftest.rs"), &of_both, &tests)?;
     if !made {
         return Err(std::io::Error::other("the second member's tests do not compile"));
     }

@@ -143,6 +143,18 @@ fn both_forms_of_wrapping_agree_and_open() {
     }
 }
 
+#[test]
+fn sizes_that_neither_wrap_nor_open() {
+    let (key, mut room) = (keying(16), [0; 300]);
+    for count in [0, 257, 264] {
+        assert_eq!(keywrap::wrap(&key, &vec![1; count], &mut room), None);
+    }
+    for count in [0, 8, 15, 17, 23, 25, 265, 272] {
+        assert_eq!(keywrap::open(&key, &vec![1; count], &mut room), None);
+    }
+    assert_eq!(room, [0; 300]);
+}
+
 /// P: start 4,294,967,000, delay 1: at 703 elapsed 999, not due; at 704 due. Delay 0: due at its own start.
 #[test]
 fn sample_due() {
