@@ -37,8 +37,8 @@ use Rattle.receiving.proofs.ZeroLaws.{lent-key}
 use Rattle.receiving.proofs.BodyLaws.{entries-are}
 use Rattle.receiving.proofs.ConcludingLaws.{entries-eight}
 
-module _ {m : State} {now : ℕ} {lent s : List ℕ} {x : Facts} {g k : List ℕ} {f : Frame} (b : Bodied registration m now lent s x g k f) (zero : WrappingKey)
-    (z : zero ≡ wrappingKey lent .key) where
+module _ {m : State} {now : ℕ} {lent s : List ℕ} {x : Facts} {g k : List ℕ} {f : Frame}
+    (b : Bodied registration m now lent s x g k f) (zero : WrappingKey) (z : zero ≡ wrappingKey lent .key) where
   lent-size-fits : sizeOf 13 (length lent) ≡ true
   lent-size-fits = lent-fits m now lent f (b .passed .clauses) (b .row)
 
