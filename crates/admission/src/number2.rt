@@ -67,11 +67,11 @@ fn is_barred(t: Table, x: Exchange, spi: &[u8], tick: u32) -> bool
     if x.admitted {} else {
         return true;
     }
-    let w = x.member;
+    let w = x.wanted;
     if breaks_wanted(w, t, tick) {
         return true;
     }
-    if x.spis {
+    if x.addresses {
         if has_live_rekey(t, spi, tick) {
             return false;
         }

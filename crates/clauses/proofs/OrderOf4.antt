@@ -41,11 +41,11 @@ module _ {f g : Frame} (r : Reordered f g) where
 
   member-bag-kept : barredMemberBag f ≡ barredMemberBag g
   unfolding barredMemberBag
-  member-bag-kept = λ i. not (row-kept i .bag) && ltb 0 (length-order (member-bags-order r) i)
+  member-bag-kept = λ i. not (row-kept i .members) && ltb 0 (length-order (member-bags-order r) i)
 
   delete-kept : barredDelete f ≡ barredDelete g
   unfolding barredDelete
-  delete-kept = λ i. not (row-kept i .delete) && ltb 0 (length-order (deletes-order r) i)
+  delete-kept = λ i. not (row-kept i .deletes) && ltb 0 (length-order (deletes-order r) i)
 
   two-gsa-kept : twoGsa f ≡ twoGsa g
   unfolding twoGsa
@@ -71,7 +71,7 @@ module _ {f g : Frame} (r : Reordered f g) where
 
   neither-kept : neither f ≡ neither g
   unfolding neither
-  neither-kept = λ i. not (any-gsa i) && (not (any-kd i) && not (row-kept i .delete && ltb 0 (length-order (deletes-order r) i)))
+  neither-kept = λ i. not (any-gsa i) && (not (any-kd i) && not (row-kept i .deletes && ltb 0 (length-order (deletes-order r) i)))
 
   rekeys-kept : severalRekeyPolicies f ≡ severalRekeyPolicies g
   unfolding severalRekeyPolicies

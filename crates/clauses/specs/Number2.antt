@@ -28,14 +28,14 @@ breaksWanted wanted.Empty isEmpty = not isEmpty
 breaksWanted wanted.Any isEmpty = false
 
 unfoldable pub nonEmptyMember : Limits → State → ℕ → ℕ → Bool
-nonEmptyMember limits s now x = breaksWanted ((exchangeOf x) .member) (emptyAt limits now (s .table))
+nonEmptyMember limits s now x = breaksWanted ((exchangeOf x) .wanted) (emptyAt limits now (s .table))
 
 -- "rekey whose two SPIs are not the live Rekey SA's": there is no live Rekey SA with this SPI
 abbrev pub overLiveRekey : List ℕ → Sa → Bool
 overLiveRekey spi s = liveRekey s && named rekey spi s
 
 unfoldable pub otherSpis : State → ℕ → ℕ → List ℕ → Bool
-otherSpis s now x spi = (exchangeOf x) .spis && not (any (overLiveRekey spi) (standing now s))
+otherSpis s now x spi = (exchangeOf x) .addresses && not (any (overLiveRekey spi) (standing now s))
 
 -- "a member value that breaks its list"
 abbrev pub brokenMember : Limits → State → Bool

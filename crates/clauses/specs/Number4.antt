@@ -22,11 +22,11 @@ criticalUnknown f = any unknownCritical (f .payloads)
 
 -- "Member bag in a rekey"
 unfoldable pub barredMemberBag : Frame → Bool
-barredMemberBag f = not (rowOf f .bag) && some (memberBags f)
+barredMemberBag f = not (rowOf f .members) && some (memberBags f)
 
 -- "D in a registration"
 unfoldable pub barredDelete : Frame → Bool
-barredDelete f = not (rowOf f .delete) && some (deletesOf f)
+barredDelete f = not (rowOf f .deletes) && some (deletesOf f)
 
 -- "two GSA or two KD"
 unfoldable pub twoGsa : Frame → Bool
@@ -45,7 +45,7 @@ kdWithoutGsa f = any hasKd (f .payloads) && not (any hasGsa (f .payloads))
 -- "neither (unless a rekey has D)"
 unfoldable pub neither : Frame → Bool
 neither f =
-    not (any hasGsa (f .payloads)) && (not (any hasKd (f .payloads)) && not (rowOf f .delete && some (deletesOf f)))
+    not (any hasGsa (f .payloads)) && (not (any hasKd (f .payloads)) && not (rowOf f .deletes && some (deletesOf f)))
 
 -- "more than one Rekey policy, group-wide policy or Member bag"
 unfoldable pub severalRekeyPolicies : Frame → Bool

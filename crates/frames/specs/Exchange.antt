@@ -15,27 +15,27 @@ registration = record {
   -- not true: "exchange not one of the three" (2)
   admitted = true;
   -- "registration of a non-empty member" (2): what the member must be
-  member = wanted.Empty;
+  wanted = wanted.Empty;
   -- "rekey whose two SPIs are not the live Rekey SA's" (2)
-  spis = false;
+  addresses = false;
   -- "rekey with Message ID below the least acceptable, or none acceptable" (3)
-  replay = false;
+  ordered = false;
   -- "a lent default key not of 16, 24 or 32 octets in a registration" (5)
-  lent = true;
+  lends = true;
   -- "a chain starts with the lent default key as key 0"; in a rekey "with the Rekey SA's default key as key 0"
   zero = keyZero.Lent;
   -- "held keys take the place of reached ones in a rekey": a KWK ID can name a held key
-  named = false;
+  recalls = false;
   -- not true: "Member bag in a rekey" (4)
-  bag = true;
+  members = true;
   -- not true: "D in a registration"; true: "neither (unless a rekey has D)" (4)
-  delete = false;
+  deletes = false;
   -- "SA_KEY count not 1 (for a Rekey SA in a rekey: 0)" (6): a Rekey SA may have several copies
   copies = false;
   -- "Rekey has exactly one each of type 1, type 13 (one of the three) and the controller authentication type" (5), in every exchange
   authentication = true;
   -- "a registration sets the held list as reached; a rekey leaves it"
-  holds = true;
+  registers = true;
   -- with no new Rekey SA "a registration sets 0 and a rekey sets it to its own plus 1"
   least = least.Zero;
 }
@@ -43,17 +43,17 @@ registration = record {
 abbrev pub rekey : Exchange
 rekey = record {
   admitted = true;
-  member = wanted.Any;
-  spis = true;
-  replay = true;
-  lent = false;
+  wanted = wanted.Any;
+  addresses = true;
+  ordered = true;
+  lends = false;
   zero = keyZero.RekeySa;
-  named = true;
-  bag = false;
-  delete = true;
+  recalls = true;
+  members = false;
+  deletes = true;
   copies = true;
   authentication = true;
-  holds = false;
+  registers = false;
   least = least.OwnPlusOne;
 }
 
@@ -61,17 +61,17 @@ rekey = record {
 abbrev pub other : Exchange
 other = record {
   admitted = false;
-  member = wanted.Any;
-  spis = false;
-  replay = false;
-  lent = false;
+  wanted = wanted.Any;
+  addresses = false;
+  ordered = false;
+  lends = false;
   zero = keyZero.Lent;
-  named = false;
-  bag = true;
-  delete = true;
+  recalls = false;
+  members = true;
+  deletes = true;
   copies = true;
   authentication = false;
-  holds = false;
+  registers = false;
   least = least.Zero;
 }
 

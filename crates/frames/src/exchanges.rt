@@ -24,26 +24,26 @@ pub enum LeastAfter {
 pub struct Exchange {
     // one of the exchanges that are taken (number 2)
     pub admitted: bool,
-    pub member: Wanted,
+    pub wanted: Wanted,
     // its two SPIs are compared with the live Rekey SA's
-    pub spis: bool,
+    pub addresses: bool,
     // its Message ID is compared with the least acceptable
-    pub replay: bool,
+    pub ordered: bool,
     // the lent key's size is judged
-    pub lent: bool,
+    pub lends: bool,
     pub zero: KeyZero,
     // held keys can be named by a KWK ID
-    pub named: bool,
+    pub recalls: bool,
     // a Member bag is allowed
-    pub bag: bool,
+    pub members: bool,
     // D is allowed
-    pub delete: bool,
+    pub deletes: bool,
     // a Rekey SA may have more than one SA_KEY
     pub copies: bool,
     // a Rekey policy has the controller authentication transform
     pub authentication: bool,
     // the held list is set to the reached keys, and not kept
-    pub holds: bool,
+    pub registers: bool,
     pub least: LeastAfter,
 }
 
@@ -68,17 +68,17 @@ fn registration() -> Exchange
 {
     Exchange {
         admitted: true,
-        member: Wanted::Empty,
-        spis: false,
-        replay: false,
-        lent: true,
+        wanted: Wanted::Empty,
+        addresses: false,
+        ordered: false,
+        lends: true,
         zero: KeyZero::Lent,
-        named: false,
-        bag: true,
-        delete: false,
+        recalls: false,
+        members: true,
+        deletes: false,
         copies: false,
         authentication: true,
-        holds: true,
+        registers: true,
         least: LeastAfter::Zero,
     }
 }
@@ -88,17 +88,17 @@ fn rekey() -> Exchange
 {
     Exchange {
         admitted: true,
-        member: Wanted::Any,
-        spis: true,
-        replay: true,
-        lent: false,
+        wanted: Wanted::Any,
+        addresses: true,
+        ordered: true,
+        lends: false,
         zero: KeyZero::RekeySa,
-        named: true,
-        bag: false,
-        delete: true,
+        recalls: true,
+        members: false,
+        deletes: true,
         copies: true,
         authentication: true,
-        holds: false,
+        registers: false,
         least: LeastAfter::OwnPlusOne,
     }
 }
@@ -108,17 +108,17 @@ fn other() -> Exchange
 {
     Exchange {
         admitted: false,
-        member: Wanted::Any,
-        spis: false,
-        replay: false,
-        lent: false,
+        wanted: Wanted::Any,
+        addresses: false,
+        ordered: false,
+        lends: false,
         zero: KeyZero::Lent,
-        named: false,
-        bag: true,
-        delete: true,
+        recalls: false,
+        members: true,
+        deletes: true,
         copies: true,
         authentication: false,
-        holds: false,
+        registers: false,
         least: LeastAfter::Zero,
     }
 }

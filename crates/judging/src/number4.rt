@@ -38,9 +38,9 @@ pub fn clauses_4(row: Exchange, x: Facts) -> Four
     // "critical unknown payload"
     let critical = b.critical;
     // "Member bag in a rekey"
-    let member_bag = !row.bag & (0 < k.members);
+    let member_bag = !row.members & (0 < k.members);
     // "D in a registration"
-    let delete = !row.delete & deletes;
+    let delete = !row.deletes & deletes;
     // "two GSA or two KD"
     let two_gsa = 1 < b.gsas;
     let two_kd = 1 < b.kds;
@@ -48,7 +48,7 @@ pub fn clauses_4(row: Exchange, x: Facts) -> Four
     let gsa_alone = gsa & !kd;
     let kd_alone = kd & !gsa;
     // "neither (unless a rekey has D)"
-    let neither = !gsa & (!kd & !(row.delete & deletes));
+    let neither = !gsa & (!kd & !(row.deletes & deletes));
     // "more than one Rekey policy, group-wide policy or Member bag"
     let rekeys = 1 < p.rekeys;
     let wides = 1 < p.wides;

@@ -33,7 +33,7 @@ pub fn clauses_5(row: Exchange, lent: usize, x: Facts) -> Five
     let other = d.other;
     let none = d.none;
     // "a lent default key not of 16, 24 or 32 octets in a registration"
-    let key = row.lent & !WrappingKey::is_size(lent);
+    let key = row.lends & !WrappingKey::is_size(lent);
     Five {
         ah_policy,
         ah_bag,

@@ -94,7 +94,7 @@ module _ (limits : Limits) (s : State) (now : ℕ) (lent octets : List ℕ) wher
     held-after-registration next o registration =
         let a = whole-accepted limits s now lent octets f e next o in
         let r = registration-row f registration in
-        let h = registration-sets (rowOf f .holds) _ _ (ap (λ (x : Exchange). x .holds) r) (a .1 .held) in
+        let h = registration-sets (rowOf f .registers) _ _ (ap (λ (x : Exchange). x .registers) r) (a .1 .held) in
         let none = entries-fit limits s now lent f (accepts limits s now lent f (a .0) .no-eight) in
         subst (λ (l : List Root). HeldExactly l (wrapKeysOf f) (length lent) (next .held)) (lent-roots limits s now f r lent)
         (subst (λ (n : ℕ). HeldExactly (rootsOf limits s now lent f) (wrapKeysOf f) n (next .held)) (lent-size limits s now f r lent)
@@ -204,7 +204,7 @@ module _ (limits : Limits) (s : State) (now : ℕ) (lent octets : List ℕ) wher
       rest-after =
           let a = whole-accepted limits s now lent octets f e next o .1 in (
             λ r.
-                rekey-leaves (rowOf f .holds) _ _ (ap (λ (x : Exchange). x .holds) (rekeys (f .header .exchange) r))
+                rekey-leaves (rowOf f .registers) _ _ (ap (λ (x : Exchange). x .registers) (rekeys (f .header .exchange) r))
                 (a .held),
             a .least,
           )

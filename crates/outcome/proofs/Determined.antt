@@ -70,7 +70,7 @@ module _ (limits : Limits) (s : State) (now : ℕ) (lent : List ℕ) where
         let b = q .table in
         let t : next .table ≡ after .table = cc in
         let h : next .held ≡ after .held =
-        held-by-one (rowOf f .holds) (held-one roots (entriesOf f) size limits (next .held) (after .held)) (λ x y. x ∙ sym y) (p .held)
+        held-by-one (rowOf f .registers) (held-one roots (entriesOf f) size limits (next .held) (after .held)) (λ x y. x ∙ sym y) (p .held)
         (q .held) in
         let l : next .least ≡ after .least = p .least ∙ sym (q .least) in
         λ i. record { table = t i; held = h i; least = l i }

@@ -46,7 +46,7 @@ module _ (limits : Limits) (s : State) (now : ℕ) (lent other : List ℕ) where
           enter = carried (λ r n. Enter r (entriesOf f) n f (announced f) (a .new)) (a .enter);
           table = a .table;
           held =
-              carried (λ r n. HeldBy (rowOf f .holds) (HeldAre r (entriesOf f) n limits (next .held)) (next .held ≡ s .held)) (a .held);
+              carried (λ r n. HeldBy (rowOf f .registers) (HeldAre r (entriesOf f) n limits (next .held)) (next .held ≡ s .held)) (a .held);
           least = a .least;
         }
 

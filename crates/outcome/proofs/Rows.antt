@@ -22,12 +22,12 @@ use Rattle.outcome.specs.Roots.{ownKey, keyZero, heldRoot, rootsOf, wrap
 use Rattle.outcome.specs.NamedKey.{Registration, lentRoot}
 
 -- an exchange that sets the held list is a registration
-pub registers : (x : ℕ) → exchangeOf x .holds ≡ true → exchangeOf x ≡ registration
+pub registers : (x : ℕ) → exchangeOf x .registers ≡ true → exchangeOf x ≡ registration
 registers x e =
     by-row (exchangeOf x ≡ registration) x (λ q r. r) (λ q r. absurd (false≢true (rw r at e))) (λ r. absurd (false≢true (rw r at e)))
 
 -- one in which held keys open copies is a rekey
-pub names-held : (x : ℕ) → exchangeOf x .named ≡ true → x ≡ 41
+pub names-held : (x : ℕ) → exchangeOf x .recalls ≡ true → x ≡ 41
 names-held x e =
     by-row (x ≡ 41) x (λ q r. absurd (false≢true (rw r at e))) (λ q r. q) (λ r. absurd (false≢true (rw r at e)))
 

@@ -52,12 +52,12 @@ record HeldBlank (limits : Limits) (h : Held) : Type 0 where
 module _ (limits : Limits) (enough : limits .wrapKeys ≤ limits .heldKeys) where
   module _ (s : State) (now : ℕ) (lent : List ℕ) (f : Frame) (c : Clear limits s now lent f) where
     -- in a registration a wrapping key needs a size of the algorithm table
-    lent-size : rowOf f .holds ≡ true → sizeOf 13 (wrappingSize limits s now lent f) ≡ true
+    lent-size : rowOf f .registers ≡ true → sizeOf 13 (wrappingSize limits s now lent f) ≡ true
     unfolding wrappingSize keyZero five-ofFrame lentKeySize
     lent-size e =
         let r = registers (f .header .exchange) e in
         let k = no-clause (five-ofFrame lent f) 5 (c .no-5 .ofFrame) in
-        let n : not (sizeOf 13 (length lent)) ≡ false = sym (ap (λ (x : Exchange). x .lent && not (sizeOf 13 (length lent))) r) ∙ k in
+        let n : not (sizeOf 13 (length lent)) ≡ false = sym (ap (λ (x : Exchange). x .lends && not (sizeOf 13 (length lent))) r) ∙ k in
         ap (λ (x : Exchange). sizeOf 13 (length (keyZeroBy (x .zero) lent (ownKey limits s now)))) r
         ∙ not-false (sizeOf 13 (length lent)) n
 
@@ -81,7 +81,7 @@ module _ (limits : Limits) (enough : limits .wrapKeys ≤ limits .heldKeys) wher
           let roots = rootsOf limits s now lent f in
           let size = wrappingSize limits s now lent f in
           let g = and-parts (tableFormed limits (s .table)) (heldFormed limits (s .held)) (clear-formed limits s now lent f c) in
-          held-by (rowOf f .holds) (λ (h : Held). heldFormed limits h ≡ true) Set (next .held) (s .held) (a .held) (g .1)
+          held-by (rowOf f .registers) (λ (h : Held). heldFormed limits h ≡ true) Set (next .held) (s .held) (a .held) (g .1)
           (λ e are.
           set-formed limits roots (entriesOf f) size (next .held) are (lent-size e) (λ x. c .no-8 (of-entries x)) no-zero few)
 
@@ -90,7 +90,7 @@ module _ (limits : Limits) (enough : limits .wrapKeys ≤ limits .heldKeys) wher
       held-blank b =
           let roots = rootsOf limits s now lent f in
           let size = wrappingSize limits s now lent f in
-          held-by (rowOf f .holds) (HeldBlank limits) Set (next .held) (s .held) (a .held) b
+          held-by (rowOf f .registers) (HeldBlank limits) Set (next .held) (s .held) (a .held) b
           (λ e are.
           record {
             places = set-places limits roots (entriesOf f) size (next .held) are;

@@ -62,7 +62,7 @@ unfolding otherSpis
 passes-over limits s now f n r =
     let x = f .header .spi in
     not-false (any (overLiveRekey x) (standing now s))
-    (sym (ap (λ (y : Exchange). y .spis && not (any (overLiveRekey x) (standing now s))) r)
+    (sym (ap (λ (y : Exchange). y .addresses && not (any (overLiveRekey x) (standing now s))) r)
     ∙ no-clause (two-ofMember limits s now (f .header .exchange) x) 1 (n .ofMember))
 
 -- ---- no Rekey SA is live
@@ -145,7 +145,7 @@ module _ (limits : Limits) (s : State) (now : ℕ) (lent : List ℕ) (f : Frame)
         let y = f .header .exchange in
         let g = no-clause (two-ofMember limits s now y (f .header .spi)) 0 (c .no-2 .ofMember) in
         let e = not-false (emptyAt limits now (s .table))
-        (sym (ap (λ (z : Exchange). breaksWanted (z .member) (emptyAt limits now (s .table))) r) ∙ g) in
+        (sym (ap (λ (z : Exchange). breaksWanted (z .wanted) (emptyAt limits now (s .table))) r) ∙ g) in
         and-parts (leb (s .table .count) (limits .sas)) (all (due now) (sasOf (s .table))) e .1
 
     none-old : rowOf f ≡ registration → any liveRekey (oldSas s now f) ≡ false

@@ -137,7 +137,7 @@ module _ (r : Around) (now : ℕ) (lent x octets : List ℕ) (l : List WrapKey) 
           (copy-opens R l (length lent) 0 20 lent x key (keying .octets) (keying .size) (omega arith) (omega arith)
           (ends-zero lent l not-zero) (at-zero lent l not-zero))) no-sa;
       table = refl;
-      held = subst (λ (e : Exchange). HeldBy (e .holds) Set (heldOf limits keys ≡ newState limits .held)) (sym (row-of (r .auth))) held-set;
+      held = subst (λ (e : Exchange). HeldBy (e .registers) Set (heldOf limits keys ≡ newState limits .held)) (sym (row-of (r .auth))) held-set;
       least = rw (row-of (r .auth));
     }
 

@@ -217,7 +217,7 @@ module _ (r : Around) (now : ℕ) (lent x v₁ v₃ v₇ octets : List ℕ) (c :
         (subst (λ (A : Type 0). A) key-is
         (copy-opens R l (length lent) 1 36 v₁ x (c .first .key) (c .small) (c .size) (omega arith) (omega arith) ends only)) no-sa;
     table = refl;
-    held = subst (λ (e : Exchange). HeldBy (e .holds) Set (next .held ≡ s .held)) (sym (row-of (r .auth))) held-set;
+    held = subst (λ (e : Exchange). HeldBy (e .registers) Set (next .held ≡ s .held)) (sym (row-of (r .auth))) held-set;
     least = refl;
   }
 

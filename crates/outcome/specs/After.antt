@@ -115,6 +115,6 @@ pub record After (limits : Limits) (s : State) (now : ℕ) (lent : List ℕ) (f 
   pub enter : Enter (rootsOf limits s now lent f) (entriesOf f) (wrappingSize limits s now lent f) f (announced f) new
   pub table : next .table ≡ tableOf limits (insertAll new (oldSas s now f))
   pub held :
-      HeldBy (rowOf f .holds) (HeldAre (rootsOf limits s now lent f) (entriesOf f) (wrappingSize limits s now lent f) limits (next .held))
+      HeldBy (rowOf f .registers) (HeldAre (rootsOf limits s now lent f) (entriesOf f) (wrappingSize limits s now lent f) limits (next .held))
       (next .held ≡ s .held)
   pub least : next .least ≡ leastAfterwards s f

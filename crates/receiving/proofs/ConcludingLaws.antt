@@ -81,7 +81,7 @@ module _ (m : State) (now : ℕ) (lent : List ℕ) (f : Frame) (e : refusal limi
 
     pub opened : (new : List Sa) (held : Held) (next : State) →
         Enter (rootsOf limits m now lent f) (entriesOf f) (wrappingSize limits m now lent f) f (announced f) new →
-        HeldBy (rowOf f .holds) (HeldAre (rootsOf limits m now lent f) (entriesOf f) (wrappingSize limits m now lent f) limits held)
+        HeldBy (rowOf f .registers) (HeldAre (rootsOf limits m now lent f) (entriesOf f) (wrappingSize limits m now lent f) limits held)
         (held ≡ m .held) → Follows m now f new held next → Judged limits m now lent f 0 next
     opened new held next enter h follows =
         let all-open : NineOf limits m now lent f → ⊥ = λ n.
@@ -94,7 +94,7 @@ module _ (m : State) (now : ℕ) (lent : List ℕ) (f : Frame) (e : refusal limi
           enter = enter;
           table = follows .table;
           held = subst (λ (x : Held).
-              HeldBy (rowOf f .holds) (HeldAre roots (entriesOf f) size limits x) (x ≡ m .held)) (sym (follows .held-is)) h;
+              HeldBy (rowOf f .registers) (HeldAre roots (entriesOf f) size limits x) (x ≡ m .held)) (sym (follows .held-is)) h;
           least = follows .least;
         })
 

@@ -85,5 +85,5 @@ module _ {m : State} {now : ℕ} {lent s : List ℕ} {x : Facts} {g k : List ℕ
               (carry (λ (x : List Root) (y : List WrapKey) (n : ℕ). Agrees x y n zero (r .held)) (a .agrees e));
           held-is = subst (λ (x : Bool).
               HeldBy x (HeldAre (rootsOf limits m now lent f) (entriesOf f) (wrappingSize limits m now lent f) limits (r .held))
-              (r .held ≡ m .held)) (sym (ap (λ (e : Exchange). e .holds) (b .row))) set;
+              (r .held ≡ m .held)) (sym (ap (λ (e : Exchange). e .registers) (b .row))) set;
         }

@@ -91,5 +91,5 @@ module _ {m : State} {now : ℕ} {lent s : List ℕ} {x : Facts} {g k : List ℕ
           keys = by _ _ n (carry (λ (x : List Root) (y : List WrapKey). Agrees x y n zero (m .held)) (rekey-agrees zero (m .held) n));
           held-is = subst (λ (x : Bool).
               HeldBy x (HeldAre (rootsOf limits m now lent f) (entriesOf f) n limits (m .held))
-              (m .held ≡ m .held)) (sym (ap (λ (e : Exchange). e .holds) (b .row))) refl;
+              (m .held ≡ m .held)) (sym (ap (λ (e : Exchange). e .registers) (b .row))) refl;
         }

@@ -18,5 +18,5 @@ isOver now spi s = not (due now s) && overLiveRekey spi s
 -- number 2 of a table that is as a member's must be
 unfoldable pub barred : Limits → Table → Exchange → List ℕ → ℕ → Bool
 barred limits t x spi now =
-    not (x .admitted) || (breaksWanted (x .member) (emptyAt limits now t) ||
-    (x .spis && not (any (overLiveRekey spi) (notDue now (sasOf t)))))
+    not (x .admitted) || (breaksWanted (x .wanted) (emptyAt limits now t) ||
+    (x .addresses && not (any (overLiveRekey spi) (notDue now (sasOf t)))))

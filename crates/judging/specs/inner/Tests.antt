@@ -23,15 +23,15 @@ use Rattle.judging.specs.declared.number7.Seven.{Seven}
 -- Member bags; a GSA with no SA policy; Key Length, GSA_INITIAL_MESSAGE_ID, the delay twice; the Rekey destination
 abbrev pub fourOf : Exchange → PayloadFacts → PolicyFacts → BagFacts → List Bool
 fourOf row b p k =
-    b .critical ∷ (not (row .bag) && ltb 0 (k .members)) ∷ (not (row .delete) && ltb 0 (b .deletes)) ∷ ltb 1 (b .gsas) ∷ ltb 1 (b .kds)
+    b .critical ∷ (not (row .members) && ltb 0 (k .members)) ∷ (not (row .deletes) && ltb 0 (b .deletes)) ∷ ltb 1 (b .gsas) ∷ ltb 1 (b .kds)
     ∷ (ltb 0 (b .gsas) && not (ltb 0 (b .kds))) ∷ (ltb 0 (b .kds) && not (ltb 0 (b .gsas)))
-    ∷ (not (ltb 0 (b .gsas)) && (not (ltb 0 (b .kds)) && not (row .delete && ltb 0 (b .deletes))))
+    ∷ (not (ltb 0 (b .gsas)) && (not (ltb 0 (b .kds)) && not (row .deletes && ltb 0 (b .deletes))))
     ∷ ltb 1 (p .rekeys) ∷ ltb 1 (p .wides) ∷ ltb 1 (k .members) ∷ (ltb 0 (b .gsas) && not (ltb 0 (p .sas)))
     ∷ p .lengths ∷ p .ids ∷ p .delays ∷ p .elsewhere ∷ []
 
 -- an AH policy, an AH bag, other transforms, D of another protocol, D with count 0, a lent key of so many octets
 abbrev pub fiveOf : Exchange → ℕ → Deletes → PolicyFacts → BagFacts → List Bool
-fiveOf row lent d p k = p .ah ∷ k .ah ∷ p .unfit ∷ d .other ∷ d .none ∷ (row .lent && not (sizeOf 13 lent)) ∷ []
+fiveOf row lent d p k = p .ah ∷ k .ah ∷ p .unfit ∷ d .other ∷ d .none ∷ (row .lends && not (sizeOf 13 lent)) ∷ []
 
 -- the SA_KEY count, an SA_KEY with a Key ID, one of ESP with a KWK ID, a WRAP_KEY without Key ID, one under its own Key ID
 abbrev pub keysBy : Exchange → BagFacts → List Bool

@@ -34,7 +34,7 @@ pub record Passed (m : State) (now : ℕ) (lent s : List ℕ) (x : Facts) (f : F
 
 -- a registration: its exchange sets the held list
 abbrev pub Registers : Frame → Type 0
-Registers f = rowOf f .holds ≡ true
+Registers f = rowOf f .registers ≡ true
 
 -- a rekey over the Rekey SA: its exchange has the live Rekey SA's default key as key 0
 abbrev pub RekeysOver : Frame → Type 0
@@ -53,7 +53,7 @@ pub record Opened (m : State) (now : ℕ) (lent s : List ℕ) (x : Facts) (keyed
   pub entries : EntriesEight (rootsOf limits m now lent f) (entriesOf f) (wrappingSize limits m now lent f) → ⊥
   pub keys : KeyedBy (rootsOf limits m now lent f) (entriesOf f) (wrappingSize limits m now lent f) f keyed
   pub held-is :
-      HeldBy (rowOf f .holds) (HeldAre (rootsOf limits m now lent f) (entriesOf f) (wrappingSize limits m now lent f) limits held)
+      HeldBy (rowOf f .registers) (HeldAre (rootsOf limits m now lent f) (entriesOf f) (wrappingSize limits m now lent f) limits held)
       (held ≡ m .held)
 
 -- the default key of the table's live Rekey SA, of a size that a wrapping key has
