@@ -1,4 +1,4 @@
-// The clauses by name, in document 01's words and in its order.
+// The clauses by name, in the words of document 01 and T-09 and in their order.
 use crate::Found;
 use judging::number4::Four;
 use judging::number5::Five;
