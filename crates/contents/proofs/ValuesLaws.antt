@@ -211,6 +211,11 @@ module _ (m : Meaning) (p : Place) (s : List ℕ) (from b e : ℕ) (f : MetAt m 
       let n = ap length (f .octets) ∙ part-length s (valueStart s b) e (f .value .order) (f .value .inside) in
       omega (arith, n)
 
+  pub met-size : valueSize m (length (valueAt (drop b s))) ≡ true
+  met-size =
+      ap (λ (l : List ℕ). valueSize m (length l)) (f .octets)
+      ∙ ap (valueSize m) (part-length s (valueStart s b) e (f .value .order) (f .value .inside)) ∙ f .value .size
+
   -- it is the first, and stands where the first does
   pub met-first : valueAt (drop b s) ≡ firstValue m p s from
   met-first = f .octets ∙ sym (ap (λ (l : List (List ℕ)). getD l 0 []) (f .value .first))

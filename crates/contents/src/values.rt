@@ -4,7 +4,7 @@ ghost use mathlib.Core.Bool.{true};
 ghost use Prim.Native.Nat.{_+_, _≤_, _<_};
 ghost use lib.ListN.{length, drop};
 ghost use Rattle.attributes.specs.Layout.{attributes};
-ghost use Rattle.contents.specs.inner.Values.{isWhole, valuesIn, Finds, Meets, firstValue, firstStart};
+ghost use Rattle.contents.specs.inner.Values.{isWhole, valuesIn, Finds, Meets, firstValue, firstStart, valueSize};
 use attributes::Read;
 use attributes::tables::Meaning;
 use attributes::tables::Place;
@@ -62,7 +62,7 @@ pub fn next_of(m: Meaning, place: Place, s: &[u8], from: usize) -> Found
 // The value of that attribute, where it stands; none where no attribute from the place on has the meaning. Internal.
 pub fn value_of(m: Meaning, place: Place, s: &[u8], from: usize) -> &[u8]
     requires { ⌜ (from ≤ length (now s)) × (isWhole (attributes place 0 (drop from (now s))) ≡ true) ⌝ }
-    ensures { λ r. ⌜ now r ≡ firstValue m place (now (s .entry)) from ⌝ }
+    ensures { λ r. ⌜ (now r ≡ firstValue m place (now (s .entry)) from) × (0 < length (now r) → valueSize m (length (now r)) ≡ true) ⌝ }
     ensures { λ r. ⌜ r .ptr ≡ (s .entry .ptr .0, firstStart m place (now (s .entry)) from + s .entry .ptr .1) ⌝ }
 {
     match next_attribute(m, place, s, from) {
