@@ -2,7 +2,8 @@
 use Prim.Native.Nat.{ℕ}
 use mathlib.Core.List.{List, [], _∷_, _++_, map}
 use mathlib.Core.Bool.{false}
-use lib.ListN.{take, replicate}
+use lib.ListN.{replicate}
+use Rattle.octets.specs.Generate.{gen}
 use Rattle.keys.specs.Limits.{Limits, limits}
 use Rattle.keys.specs.Kinds.{wrappingOf, espOf, rekeyOf}
 use Rattle.sa.specs.Entry.{withCondition, espSa, rekeySa}
@@ -131,9 +132,9 @@ deletion = deletes 3 (spi 4 ∷ [])
 abbrev pub deleting : List ℕ → ℕ → Frame
 deleting x m = frameOf x 41 m (payload deletion ∷ [])
 
--- 1 up to n, of 15
+-- 1 up to n
 abbrev pub upTo : ℕ → List ℕ
-upTo n = take n (1 ∷ 2 ∷ 3 ∷ 4 ∷ 5 ∷ 6 ∷ 7 ∷ 8 ∷ 9 ∷ 10 ∷ 11 ∷ 12 ∷ 13 ∷ 14 ∷ 15 ∷ [])
+upTo n = gen (λ (i : ℕ). i) 1 n
 
 -- what announces n ESP SAs; what registers with n WRAP_KEY; rekeys with n copies of a new Rekey SA's key, and with n deleted SPIs
 abbrev pub espSas : ℕ → List Content

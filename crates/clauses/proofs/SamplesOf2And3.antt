@@ -1,33 +1,32 @@
 -- Samples of numbers 2 and 3.
 use Prim.Native.Nat.{ℕ}
 use mathlib.Core.List.{List, [], _∷_, _++_, map}
-use lib.ListN.{take, replicate}
+use lib.ListN.{replicate}
 use Rattle.keys.specs.Limits.{limits}
 use Rattle.keys.specs.Kinds.{espOf, rekeyOf}
-use Rattle.sa.specs.Entry.{espSa, rekeySa, blankSa}
+use Rattle.sa.specs.Entry.{espSa, rekeySa}
 use Rattle.sa.specs.declared.entry.Condition.{Condition}
 use Rattle.sa.specs.declared.entry.Condition.the-variants.{Live}
+use Rattle.table.specs.Table.{tableOf}
 use Rattle.state.specs.declared.State.{State}
 use Rattle.state.specs.declared.held.HeldKey.{HeldKey}
 use Rattle.state.specs.declared.least.Least.the-variants.{Id, NoneAnyMore}
 use Rattle.state.specs.Held.{heldOf}
 use Rattle.clauses.proofs.SampleParts.{spi, liveSpi, nextSpi, payload, frameOf, registers, fit, deletion, deleting}
 use Rattle.clauses.proofs.SampleParts.{espAt, rekeyAt, dueNow, dueLater, heldKey, memberOf, holding, fresh, member, Sample, sample}
-use Rattle.clauses.proofs.SampleParts.{anew, later}
+use Rattle.clauses.proofs.SampleParts.{upTo, anew, later}
 
 -- a table that says to have 17 SAs
 abbrev overfull : State
 overfull = record {
-  table = record { sas = rekeyAt Live ∷ replicate 15 blankSa; count = 17 };
+  table = record { sas = (tableOf limits (rekeyAt Live ∷ [])) .sas; count = 17 };
   held = heldOf limits [];
   least = Id 0;
 }
 
--- Key IDs 1 to n, of 33
+-- Key IDs 1 to n
 abbrev keysTo : ℕ → List HeldKey
-keysTo n = map (λ (i : ℕ). heldKey i 16) (take n
-    (1 ∷ 2 ∷ 3 ∷ 4 ∷ 5 ∷ 6 ∷ 7 ∷ 8 ∷ 9 ∷ 10 ∷ 11 ∷ 12 ∷ 13 ∷ 14 ∷ 15 ∷ 16 ∷ 17 ∷ 18 ∷ 19 ∷ 20 ∷ 21 ∷ 22 ∷ 23 ∷ 24 ∷ 25 ∷ 26 ∷ 27 ∷ 28 ∷ 29 ∷
-    30 ∷ 31 ∷ 32 ∷ 33 ∷ []))
+keysTo n = map (λ (i : ℕ). heldKey i 16) (upTo n)
 
 -- an ESP SA with n keying octets beside the live Rekey SA; a Rekey SA in this condition beside another that is live
 abbrev withEsp : ℕ → State
