@@ -99,7 +99,7 @@ pub record Samples : Type 0 where
   pub alone-6 : MetAlone sixOf alone6
   pub alone-7 : MetAlone sevenOf alone7
   -- of the member are "registration of a non-empty member; rekey whose two SPIs are not ..; a member value that breaks its list" (2),
-  -- "already in the table" (6) and "over 16 SAs after the frame" (7)
+  -- "already in the table" (6) and "over 16 SAs after the frame" (7; T-01: 64)
   pub halves : ByFrame 1 alone2 × ByFrame 16 alone4 × ByFrame 6 alone5 × ByFrame 9 alone6 × ByFrame 4 alone7
   -- under six figures that differ
   pub of-limits : AnsweredWithin apart samplesOfLimits

@@ -151,7 +151,7 @@ deleted n = rekeys (deletes 3 (replicate n (spi 4)) ∷ [])
 
 -- a rekey that announces an ESP SA more
 abbrev pub oneMore : Frame
-oneMore = rekeys (gsa (espPolicy 20 ∷ []) ∷ kd (espBag 20 ∷ []) ∷ [])
+oneMore = rekeys (gsa (espPolicy 200 ∷ []) ∷ kd (espBag 200 ∷ []) ∷ [])
 
 -- ---- members
 abbrev pub espAt : ℕ → Condition → Sa

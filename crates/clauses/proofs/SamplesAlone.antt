@@ -127,15 +127,15 @@ alone6 = inBoth 6 (
     alone 9 (sample (having 1 dueLater) 0 (rekeys (gsa (espPolicy 1 ∷ []) ∷ kd (espBag 1 ∷ []) ∷ [])) 6) ∷
     []
 
--- ---- number 7. A registration announces at most 8 ESP SAs and a Rekey SA, so 16 SAs are passed in a rekey alone
+-- ---- number 7. A registration announces at most 24 ESP SAs and a Rekey SA, so 64 SAs are passed in a rekey alone
 abbrev pub alone7 : List Alone
 alone7 = inBoth 7 (
     -- ESP policies
-    case 0 (espSas 9) ∷
+    case 0 (espSas 25) ∷
     [])
     -- WRAP_KEY, SA_KEY in a bag, deleted SPIs, SAs
-    ++ alone 1 (anew (wrapKeys 33) 7) ∷
+    ++ alone 1 (anew (wrapKeys 129) 7) ∷
     alone 2 (later (copies 33) 7) ∷
     alone 3 (later (deleted 33) 7) ∷
-    alone 4 (sample (having 14 Live) 0 oneMore 7) ∷
+    alone 4 (sample (having 62 Live) 0 oneMore 7) ∷
     []

@@ -14,12 +14,12 @@ use Rattle.state.specs.declared.least.Least.the-variants.{Id, NoneAnyMore}
 use Rattle.state.specs.Held.{heldOf}
 use Rattle.clauses.proofs.SampleParts.{spi, liveSpi, nextSpi, payload, frameOf, registers, fit, deletion, deleting}
 use Rattle.clauses.proofs.SampleParts.{espAt, rekeyAt, dueNow, dueLater, heldKey, memberOf, holding, fresh, member, Sample, sample}
-use Rattle.clauses.proofs.SampleParts.{upTo, anew, later}
+use Rattle.clauses.proofs.SampleParts.{upTo, having, anew, later}
 
--- a table that says to have 17 SAs
+-- a table of 64 places that says to have 65 SAs
 abbrev overfull : State
 overfull = record {
-  table = record { sas = (tableOf limits (rekeyAt Live ∷ [])) .sas; count = 17 };
+  table = record { sas = (tableOf limits (rekeyAt Live ∷ [])) .sas; count = 65 };
   held = heldOf limits [];
   least = Id 0;
 }
@@ -77,7 +77,10 @@ samplesOf2And3 =
     anew (frameOf [] 40 0 (map payload fit)) 0 ∷
     anew (frameOf [] 42 0 (map payload fit)) 2 ∷
     later (frameOf liveSpi 42 9 (payload deletion ∷ [])) 2 ∷
-    -- 2: a member value that breaks its list: 17 SAs, falling SPIs, keying octets of a size that nothing needs, two live Rekey SAs
+    -- 2: a member value that breaks its list: 65 SAs, falling SPIs, keying octets of a size that nothing needs, two live Rekey SAs
+    sample (having 62 Live) 0 (deleting liveSpi 9) 0 ∷
+    sample (having 63 Live) 0 (deleting liveSpi 9) 2 ∷
+    sample (having 63 dueNow) 0 (deleting liveSpi 9) 2 ∷
     sample overfull 0 (deleting liveSpi 9) 2 ∷
     sample (memberOf (espAt 9 dueNow ∷ espAt 8 dueNow ∷ []) (Id 0)) 16 (registers fit) 2 ∷
     sample (memberOf (espAt 8 dueNow ∷ espAt 9 dueNow ∷ []) (Id 0)) 16 (registers fit) 0 ∷
@@ -85,9 +88,9 @@ samplesOf2And3 =
     sample (withEsp 24) 0 (deleting liveSpi 9) 2 ∷
     sample (withRekey Live) 0 (deleting nextSpi 9) 2 ∷
     sample (withRekey dueLater) 0 (deleting nextSpi 9) 0 ∷
-    -- the same: 33 held keys, Key ID 0, a value of 20 octets, Key IDs that do not rise
-    sample (holding [] (keysTo 32)) 16 (registers fit) 0 ∷
-    sample (holding [] (keysTo 33)) 16 (registers fit) 2 ∷
+    -- the same: 129 held keys, Key ID 0, a value of 20 octets, Key IDs that do not rise
+    sample (holding [] (keysTo 128)) 16 (registers fit) 0 ∷
+    sample (holding [] (keysTo 129)) 16 (registers fit) 2 ∷
     sample (holding [] (heldKey 0 16 ∷ [])) 16 (registers fit) 2 ∷
     sample (holding [] (heldKey 5 20 ∷ [])) 16 (registers fit) 2 ∷
     sample (holding [] (heldKey 5 24 ∷ [])) 16 (registers fit) 0 ∷

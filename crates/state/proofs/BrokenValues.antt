@@ -58,7 +58,7 @@ ofKeys l = value (tableOf limits (espSa 1 ∷ [])) (heldOf limits l)
 
 abbrev pub brokenValues : List State
 brokenValues =
-    -- "a table of at most 16 SAs": a count above the places
+    -- "a table of at most 16 SAs" (T-01: 64): a count above the places
     value (record { sas = (tableOf limits (espSa 1 ∷ [])) .sas; count = limits .sas + 1 }) (heldOf limits []) ∷
     -- "protocol (3 or 6)"
     ofSas (sa 0 1 20 0 0 retiring ∷ []) ∷
@@ -81,7 +81,7 @@ brokenValues =
     ofSas (sa rekey 1 0 0 0 retiring ∷ []) ∷
     -- "at most one Rekey SA is live"
     ofSas (espSa 1 ∷ rekeySa 1 Live ∷ rekeySa 2 Live ∷ []) ∷
-    -- "a held list of at most 32 wrapping keys": a count above the places
+    -- "a held list of at most 32 wrapping keys" (T-01: 128): a count above the places
     value (tableOf limits (espSa 1 ∷ [])) (record { keys = (heldOf limits []) .keys; count = limits .heldKeys + 1 }) ∷
     -- "Key IDs rising, none 0": equal, falling, 0
     ofKeys (key 5 16 ∷ key 5 16 ∷ []) ∷
