@@ -3,6 +3,7 @@
 
 use crate::case::Case;
 use crate::damage::{damaged, first_line, hostile_line};
+use crate::limits::{met, Sizes};
 use crate::programs::Kind;
 use crate::scene::{Scene, Shape};
 use crate::tally::Tally;
@@ -41,6 +42,7 @@ pub fn script(seed: u64, kind: Kind, tally: &mut Tally) -> Script {
     match seed % 16 {
         7 => writer.hostile_first_line(),
         11 => writer.without_rekey_sa(),
+        3 | 8 | 13 => writer.large_run(),
         _ => writer.member_run(),
     }
     writer.finish()
@@ -68,8 +70,14 @@ impl<'t> Writer<'t> {
         let lent = rng.octets(size);
         let tick = rng.pick(&[0, 1000, 0x7fff_ff00, u32::MAX - 500]);
         let lines = vec![hex(&lent)];
-        let scene = Scene { rng, lent, member: Member::new(), tick };
+        let scene = Scene { rng, lent, member: Member::new(), tick, sizes: Sizes::SMALL };
         Writer { scene, tracing: kind == Kind::Trace, lines, labels: Vec::new(), tally, seed }
+    }
+
+    /// The same with a large member, and in every such run all that is refused for room.
+    fn large_run(&mut self) {
+        self.scene.sizes = Sizes::LARGE;
+        self.member_run();
     }
 
     /// Refused registrations, one that is taken, then rekeys of all kinds.
@@ -78,6 +86,7 @@ impl<'t> Writer<'t> {
         let shape = Shape { rekey: true, ..self.scene.any_shape() };
         self.taken(true, shape);
         let mut singles = self.walk(false);
+        singles.extend(self.for_room());
         let leaves_at = self.tracing.then(|| self.scene.rng.below(2 * REKEYS));
         for turn in 0..REKEYS {
             self.scene.move_clock();
@@ -152,6 +161,12 @@ impl<'t> Writer<'t> {
         let table = of_place(registration);
         let start = self.seed as usize * SINGLES;
         (start..start + SINGLES).map(|i| table[i % table.len()]).collect()
+    }
+
+    /// What a rekey is refused for room by, in a large run.
+    fn for_room(&self) -> Vec<&'static Violation> {
+        let all = of_place(false).into_iter().filter(|violation| violation.number == 7);
+        all.filter(|_| self.scene.sizes.sas == Sizes::LARGE.sas).collect()
     }
 
     /// Part `turn` of `turns` of the pairs that this seed has to do: some of a broken layout with anything, more of the others.
@@ -263,6 +278,9 @@ impl<'t> Writer<'t> {
                 self.seed,
                 self.lines.len()
             ));
+        }
+        if answer == 0 {
+            met(case, &self.scene.member).for_each(|limit| self.tally.limit(limit));
         }
         if answer != 0 && before != self.scene.member {
             self.tally.complain(format!("seed {}, line {}: a refusal changed the member", self.seed, self.lines.len()));
