@@ -1,6 +1,7 @@
 //! The limits of number 7 and of what a member is: document 01's, and where it names them those of document 02, T-01.
 
 use crate::case::Case;
+use crate::violations::{of_place, Violation};
 use builder::REKEY;
 use reference::member::Member;
 
@@ -15,8 +16,12 @@ pub const MOST_DELETED: usize = 32;
 const ONCE_HELD: usize = 32;
 
 /// What an accepted frame must bring about in every long run of the comparer.
-pub const MET: [&str; 4] =
-    ["a full table", "a full table in place of another", "a full held list", "all the copies that may be, over 33 to 128 held keys"];
+pub const MET: [&str; 4] = [
+    "a full table",
+    "a full table in place of another",
+    "a full held list",
+    "all the copies that may be, over 33 to 128 held keys",
+];
 
 /// Which of these came about: by the frame, from the member of before to the one after it.
 pub fn met(case: &Case, after: &Member) -> impl Iterator<Item = &'static str> {
@@ -54,4 +59,9 @@ impl Sizes {
         deletes: 40,
         deleted: 15,
     };
+
+    /// Besides its share of the violations a run with the largest sizes has all those that a rekey is refused for room by.
+    pub fn refused_for_room(self) -> impl Iterator<Item = &'static Violation> {
+        of_place(false).into_iter().filter(move |violation| self.sas == MOST_SAS && violation.number == 7)
+    }
 }

@@ -42,8 +42,8 @@ pub fn script(seed: u64, kind: Kind, tally: &mut Tally) -> Script {
     match seed % 16 {
         7 => writer.hostile_first_line(),
         11 => writer.without_rekey_sa(),
-        3 | 8 | 13 => writer.large_run(),
-        _ => writer.member_run(),
+        3 | 8 | 13 => writer.member_run(Sizes::LARGE),
+        _ => writer.member_run(Sizes::SMALL),
     }
     writer.finish()
 }
@@ -74,19 +74,14 @@ impl<'t> Writer<'t> {
         Writer { scene, tracing: kind == Kind::Trace, lines, labels: Vec::new(), tally, seed }
     }
 
-    /// The same with a large member, and in every such run all that is refused for room.
-    fn large_run(&mut self) {
-        self.scene.sizes = Sizes::LARGE;
-        self.member_run();
-    }
-
     /// Refused registrations, one that is taken, then rekeys of all kinds.
-    fn member_run(&mut self) {
+    fn member_run(&mut self, sizes: Sizes) {
+        self.scene.sizes = sizes;
         self.violations(true);
         let shape = Shape { rekey: true, ..self.scene.any_shape() };
         self.taken(true, shape);
         let mut singles = self.walk(false);
-        singles.extend(self.for_room());
+        singles.extend(sizes.refused_for_room());
         let leaves_at = self.tracing.then(|| self.scene.rng.below(2 * REKEYS));
         for turn in 0..REKEYS {
             self.scene.move_clock();
@@ -161,12 +156,6 @@ impl<'t> Writer<'t> {
         let table = of_place(registration);
         let start = self.seed as usize * SINGLES;
         (start..start + SINGLES).map(|i| table[i % table.len()]).collect()
-    }
-
-    /// What a rekey is refused for room by, in a large run.
-    fn for_room(&self) -> Vec<&'static Violation> {
-        let all = of_place(false).into_iter().filter(|violation| violation.number == 7);
-        all.filter(|_| self.scene.sizes.sas == Sizes::LARGE.sas).collect()
     }
 
     /// Part `turn` of `turns` of the pairs that this seed has to do: some of a broken layout with anything, more of the others.

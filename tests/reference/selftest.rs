@@ -329,12 +329,7 @@ fn values_that_are_no_members() {
         assert!(!Member { table, ..Member::new() }.is_whole(), "table {i}");
     }
     let value = vec![0; 16];
-    let lists = [
-        vec![(0, value.clone())],
-        vec![(2, value.clone()), (1, value.clone())],
-        vec![(1, vec![0; 20])],
-        keys(129),
-    ];
+    let lists = [vec![(0, value.clone())], vec![(2, value.clone()), (1, value.clone())], vec![(1, vec![0; 20])], keys(129)];
     for (i, held) in lists.into_iter().enumerate() {
         assert!(!Member { held, ..Member::new() }.is_whole(), "held list {i}");
     }
