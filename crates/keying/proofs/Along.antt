@@ -16,7 +16,6 @@ use Rattle.policies.specs.Policy.{GroupSaPolicy, policies}
 use Rattle.frames.specs.Frame.{Frame}
 use Rattle.contents.specs.inner.Values.{isWhole}
 use Rattle.contents.specs.declared.policy.Parts.{Parts}
-use Rattle.state.specs.declared.held.Held.{Held}
 use Rattle.clauses.specs.Contents.{rowOf, gather, saOf, announced}
 use Rattle.clauses.specs.Fitness.{transformsFit}
 use Rattle.clauses.specs.Number4.{twiceInTransform, keyLengthTwice}
@@ -82,7 +81,7 @@ eight-is Eight e = refl
 eight-is Nine e = absurd (false≢true e)
 eight-is Keys e = absurd (false≢true e)
 
-module _ (g k : List ℕ) (schedule : List ℕ) (held : Held) where
+module _ (g k schedule ids block : List ℕ) where
   pub record Along (at : ℕ) (all : Keyed) : Type 0 where
     pub inside : at ≤ length g
     pub rest : isWhole (policies 0 (drop at g)) ≡ true
@@ -90,7 +89,7 @@ module _ (g k : List ℕ) (schedule : List ℕ) (held : Held) where
     pub all-are : passed ++ sasFrom g at ≡ sasFrom g 0
     pub few : all .count ≤ length passed
     pub known : (roots : List Root) (entries : List WrapKey) (size : ℕ) (f : Frame) → Ready f g k →
-        Opening schedule held roots entries size → KeysIn roots entries size f passed all
+        Opening schedule ids block roots entries size → KeysIn roots entries size f passed all
 
   pub along-start : (all : Keyed) → isWhole (policies 0 g) ≡ true → all .found ≡ Keys → all .count ≡ 0 → Along 0 all
   along-start all w e n =
@@ -107,7 +106,7 @@ module _ (g k : List ℕ) (schedule : List ℕ) (held : Held) where
 
   module _ (at : ℕ) (all : Keyed) (w : Along at all) where
     pub along-end : length g ≤ at → (roots : List Root) (entries : List WrapKey) (size : ℕ) (f : Frame) → Ready f g k →
-        Opening schedule held roots entries size → KeyedBy roots entries size f all
+        Opening schedule ids block roots entries size → KeyedBy roots entries size f all
     along-end h roots entries size f y o =
         subst (λ (l : List GroupSaPolicy). KeysIn roots entries size f l all)
         (sym (append-nil (w .passed)) ∙ ap (λ (l : List GroupSaPolicy). w .passed ++ l) (sym (no-more-sas g at h)) ∙ w .all-are
@@ -115,7 +114,7 @@ module _ (g k : List ℕ) (schedule : List ℕ) (held : Held) where
 
     -- number 8 of those that were passed is number 8
     pub along-eight : isEight (all .found) ≡ true → (roots : List Root) (entries : List WrapKey) (size : ℕ) (f : Frame) → Ready f g k →
-        Opening schedule held roots entries size → KeyedBy roots entries size f all
+        Opening schedule ids block roots entries size → KeyedBy roots entries size f all
     along-eight t roots entries size f y o =
         let e = eight-is (all .found) t in
         let by : Found → List GroupSaPolicy → Type 0 = λ x l. KeysOf roots entries size f l x (all .sas) (all .count) in
@@ -159,7 +158,7 @@ module _ (g k : List ℕ) (schedule : List ℕ) (held : Held) where
             let d = ap length (ap (gather saOf) (y .policies)) in
             omega (arith, w .few, y .room)
 
-        pub along-sa : (next : Keyed) → OneMore (IsAnnounced k (r .first) x b schedule held) all next → next .count ≤ all .count + 1 →
+        pub along-sa : (next : Keyed) → OneMore (IsAnnounced k (r .first) x b schedule ids block) all next → next .count ≤ all .count + 1 →
             Along (at + r .end) next
         along-sa next more h =
             let n = length-append (w .passed) (s .sa ∷ []) in

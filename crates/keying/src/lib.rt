@@ -6,6 +6,8 @@ use aes::expand_inverse;
 use aes::inverse_tables;
 use contents::policy::policy_parts;
 use copies::answer::Opened;
+use copies::lending::PLACE;
+use copies::lending::lend_keys;
 use joining::Found;
 use joining::Keyed;
 use joining::joined;
@@ -30,10 +32,12 @@ ghost use Rattle.keys.specs.Algorithms.{sizeOf};
 ghost use Rattle.keys.specs.Limits.{limits};
 ghost use Rattle.keys.specs.Lists.{count};
 ghost use Rattle.state.specs.Held.{heldFormed};
+ghost use Rattle.state.specs.declared.held.Held.{Held};
 ghost use Rattle.clauses.specs.Contents.{gather, groupBagOf, bagsOf};
 ghost use Rattle.clauses.specs.Number6.{bagNamed};
 ghost use Rattle.chains.specs.Chain.{Root};
 ghost use Rattle.copies.specs.inner.Known.{Agrees};
+ghost use Rattle.copies.specs.inner.Lending.{LendsHeld};
 ghost use Rattle.copies.specs.inner.Answer.{Answers};
 ghost use Rattle.outcome.specs.Roots.{needOf, announcedAs};
 ghost use Rattle.keying.specs.inner.Keyed.{Ready, KeyedBy};
@@ -47,16 +51,17 @@ fn opened(
     k: &[u8],
     tables: &[u32; 768],
     schedule: InverseSchedule,
-    held: Held,
+    ids: &[u32],
+    block: &[u8],
 ) -> Opened
     requires { ⌜ isWhole (bags 0 (now k)) ≡ true ⌝ }
     requires { ⌜ count (bagNamed protocol (now spi)) (gather groupBagOf (bagsIn (now k))) ≡ 1 ⌝ }
     requires { ⌜ need ≤ 68 ⌝ }
     requires { ⌜ (now tables ≡ decipherTables) × ExpandedInverse (schedule .words) ⌝ }
-    requires { ⌜ heldFormed limits held ≡ true ⌝ }
+    requires { ⌜ ((held : Held) × LendsHeld held (now ids) (now block)) ⌝ }
     ensures { λ r. ⌜ ((roots : List Root) (entries : List WrapKey) (size : ℕ) (f : Frame) (a : GroupSaPolicy) →
-        Opening (schedule .words) held roots entries size → bagsOf f ≡ bagsIn (now (k .entry)) → a .protocol ≡ protocol →
-        a .spi ≡ now (spi .entry) → needOf a ≡ need → Answers roots entries size (announcedAs f a) r) ⌝ }
+        Opening (schedule .words) (now (ids .entry)) (now (block .entry)) roots entries size → bagsOf f ≡ bagsIn (now (k .entry)) →
+        a .protocol ≡ protocol → a .spi ≡ now (spi .entry) → needOf a ≡ need → Answers roots entries size (announcedAs f a) r) ⌝ }
 {
     let s = pairing::stretch::bag_stretch(k, protocol, spi);
     let start = s.start;
@@ -67,7 +72,8 @@ fn opened(
         need,
         tables,
         schedule,
-        held,
+        ids,
+        block,
     )
 }
 
@@ -80,23 +86,25 @@ fn with_policy(
     k: &[u8],
     tables: &[u32; 768],
     schedule: InverseSchedule,
-    held: Held,
+    ids: &[u32],
+    block: &[u8],
 ) -> Keyed
     requires { ⌜ all .count < limits .sas ⌝ }
     requires { ⌜ length (now x) < 65536 ⌝ }
     requires { ⌜ isWhole (bags 0 (now k)) ≡ true ⌝ }
     requires { ⌜ (now tables ≡ decipherTables) × ExpandedInverse (schedule .words) ⌝ }
-    requires { ⌜ heldFormed limits held ≡ true ⌝ }
+    requires { ⌜ ((held : Held) × LendsHeld held (now ids) (now block)) ⌝ }
     requires { ⌜ ((f : Frame) × (a : GroupSaPolicy) × Announces (now k) protocol (now spi) (now x) f a) ⌝ }
     ensures { λ r. ⌜
-        OneMore (IsAnnounced (now (k .entry)) protocol (now (spi .entry)) (now (x .entry)) (schedule .words) held) all r
+        OneMore (IsAnnounced (now (k .entry)) protocol (now (spi .entry)) (now (x .entry)) (schedule .words) (now (ids .entry))
+        (now (block .entry))) all r
         × (r .count ≤ all .count + 1)
         ⌝ }
 {
     let n = suites::needs(x);
     let e = n.encryption;
     let w = n.wrapping;
-    let one = opened(protocol, spi, e + w, k, tables, schedule, held);
+    let one = opened(protocol, spi, e + w, k, tables, schedule, ids, block);
     joined(all, one, protocol, spi, e, w)
 }
 
@@ -111,15 +119,22 @@ fn is_eight(found: Found) -> bool
     }
 }
 
-// The same as `keyed`, with the schedule of key 0.
-fn walked(g: &[u8], k: &[u8], tables: &[u32; 768], schedule: InverseSchedule, held: Held) -> Keyed
+// The same as `keyed`, with the schedule of key 0 and the held keys as they are lent.
+fn walked(
+    g: &[u8],
+    k: &[u8],
+    tables: &[u32; 768],
+    schedule: InverseSchedule,
+    ids: &[u32],
+    block: &[u8],
+) -> Keyed
     requires { ⌜ isWhole (policies 0 (now g)) ≡ true ⌝ }
     requires { ⌜ isWhole (bags 0 (now k)) ≡ true ⌝ }
     requires { ⌜ (now tables ≡ decipherTables) × ExpandedInverse (schedule .words) ⌝ }
-    requires { ⌜ heldFormed limits held ≡ true ⌝ }
+    requires { ⌜ ((held : Held) × LendsHeld held (now ids) (now block)) ⌝ }
     requires { ⌜ ((f : Frame) × Ready f (now g) (now k)) ⌝ }
     ensures { λ r. ⌜ ((roots : List Root) (entries : List WrapKey) (size : ℕ) (f : Frame) → Ready f (now (g .entry)) (now (k .entry)) →
-        Opening (schedule .words) held roots entries size → KeyedBy roots entries size f r) ⌝ }
+        Opening (schedule .words) (now (ids .entry)) (now (block .entry)) roots entries size → KeyedBy roots entries size f r) ⌝ }
 {
     let mut all = Keyed {
         found: Found::Keys,
@@ -141,7 +156,8 @@ fn walked(g: &[u8], k: &[u8], tables: &[u32; 768], schedule: InverseSchedule, he
                 k,
                 tables,
                 schedule,
-                held,
+                ids,
+                block,
             );
             let found = all.found;
             if is_eight(found) {
@@ -164,8 +180,20 @@ pub fn keyed(g: &[u8], k: &[u8], zero: WrappingKey, held: Held) -> Keyed
     ensures { λ r. ⌜ ((roots : List Root) (entries : List WrapKey) (size : ℕ) (f : Frame) → Ready f (now (g .entry)) (now (k .entry)) →
         Agrees roots entries size zero held → KeyedBy roots entries size f r) ⌝ }
 {
+    let lent = lend_keys(held);
+    let ids = lent.ids;
+    let block = lent.block;
+    let m = lent.count;
+    let e = PLACE * m;
     let octets = zero.octets;
     let n = zero.count;
     let tables = inverse_tables();
-    walked(g, k, &tables, expand_inverse(&tables, &octets[..n]), held)
+    walked(
+        g,
+        k,
+        &tables,
+        expand_inverse(&tables, &octets[..n]),
+        &ids[..m],
+        &block[..e],
+    )
 }

@@ -11,18 +11,18 @@ use Rattle.keying.proofs.walked.Statement.{statement}
 use Rattle.keying.proofs.walked.Tie as tie
 
 abbrev Inv-loop : tie.InvT-loop
-Inv-loop g k tables schedule held all₀ at₀ all at = Along g k (schedule .words) held at all
+Inv-loop g k tables schedule ids block all₀ at₀ all at = Along g k (schedule .words) ids block at all
 
 abbrev μ-loop : tie.MeasureT-loop
-μ-loop g k tables schedule held all₀ at₀ all at = length g - at
+μ-loop g k tables schedule ids block all₀ at₀ all at = length g - at
 
 blank-requires : tie.Need-blank-requires Inv-loop μ-loop
 blank-requires c κs = search needs
 
 loop-holds : tie.Need-loop-holds Inv-loop μ-loop
 loop-holds c =
-    let s = c .before .before .before in
-    along-start (now (s .args .g)) (now (s .args .k)) (s .args .schedule .words) (s .args .held) _ (s .pre .0) refl refl
+    let s = c .before .before .before .before .before in
+    along-start (now (s .args .g)) (now (s .args .k)) (s .args .schedule .words) (now (s .args .ids)) (now (s .args .block)) _ (s .pre .0) refl refl
 
 sub-policy-parts : tie.Need-sub-policy-parts Inv-loop μ-loop
 sub-policy-parts c = search needs
@@ -36,11 +36,11 @@ part-policy-parts-end c = search needs
 policy-parts-requires : tie.Need-policy-parts-requires Inv-loop μ-loop
 policy-parts-requires c κs =
     let l = c .before .before .loop in
-    starts (now (c .before .before .before .before .before .before .args .g)) (l .at) (c .before .loop-test .taken) (l .inv .rest)
+    starts (now (c .before .before .before .before .before .before .before .before .args .g)) (l .at) (c .before .loop-test .taken) (l .inv .rest)
 
 -- the policy is there
 here : (c : tie.After-policy-parts Inv-loop μ-loop) →
-    PolicyAt (now (c .before .before .before .before .before .before .before .args .g)) (c .before .before .before .loop .at)
+    PolicyAt (now (c .before .before .before .before .before .before .before .before .before .args .g)) (c .before .before .before .loop .at)
     (c .policy-parts .result)
 here c = policy-at _ _ _ (c .policy-parts .ensures)
 
@@ -75,7 +75,7 @@ with-policy-requires : tie.Need-with-policy-requires Inv-loop μ-loop
 with-policy-requires c κs =
     let d = c .before .before .before .before .before .before in
     let l = d .before .before .before .loop in
-    let t = d .before .before .before .before .before .before in
+    let t = d .before .before .before .before .before .before .before .before in
     let s = t .before in
     let f = s .pre .1 .1 .1 .1 in
     let p = here d in
@@ -83,9 +83,10 @@ with-policy-requires c κs =
     let g = now (s .args .g) in
     let k = now (s .args .k) in
     let o = s .args .schedule .words in
-    let h = s .args .held in
-    let a = along-announces g k o h (l .at) (l .all) (l .inv) _ p z (f .0) (f .1) in (
-      along-room g k o h (l .at) (l .all) (l .inv) _ p z (f .0) (f .1),
+    let h = now (s .args .ids) in
+    let b = now (s .args .block) in
+    let a = along-announces g k o h b (l .at) (l .all) (l .inv) _ p z (f .0) (f .1) in (
+      along-room g k o h b (l .at) (l .all) (l .inv) _ p z (f .0) (f .1),
       (
         p .small (λ i. t .shared-slice-known .given i .fits),
         (s .pre .1 .0, (s .pre .1 .1 .0, (s .pre .1 .1 .1 .0, (f .0, p .sa-at z .sa, a)))),
@@ -95,14 +96,14 @@ with-policy-requires c κs =
 -- the next place, with one more SA
 onwards : (c : tie.After-with-policy Inv-loop μ-loop) →
     let d = c .before .before .before .before .before .before .before in
-    let s = d .before .before .before .before .before .before .before .args in
-    Along (now (s .g)) (now (s .k)) (s .schedule .words) (s .held)
+    let s = d .before .before .before .before .before .before .before .before .before .args in
+    Along (now (s .g)) (now (s .k)) (s .schedule .words) (now (s .ids)) (now (s .block))
     (d .before .before .before .loop .at + d .policy-parts .result .end) (c .with-policy .result)
 onwards c =
     let d = c .before .before .before .before .before .before .before in
     let l = d .before .before .before .loop in
-    let s = d .before .before .before .before .before .before .before .args in
-    along-sa (now (s .g)) (now (s .k)) (s .schedule .words) (s .held) (l .at) (l .all) (l .inv) _ (here d)
+    let s = d .before .before .before .before .before .before .before .before .before .args in
+    along-sa (now (s .g)) (now (s .k)) (s .schedule .words) (now (s .ids)) (now (s .block)) (l .at) (l .all) (l .inv) _ (here d)
     (c .before .before .before .if1 .taken) (c .with-policy .result) (c .with-policy .ensures .0) (c .with-policy .ensures .1)
 
 is-eight-requires : tie.Need-is-eight-requires Inv-loop μ-loop
@@ -112,8 +113,8 @@ returns : tie.Need-returns Inv-loop μ-loop
 returns c =
     let w = c .before .before in
     let d = w .before .before .before .before .before .before .before in
-    let s = d .before .before .before .before .before .before .before .args in
-    along-eight (now (s .g)) (now (s .k)) (s .schedule .words) (s .held) _ (w .with-policy .result) (onwards w)
+    let s = d .before .before .before .before .before .before .before .before .before .args in
+    along-eight (now (s .g)) (now (s .k)) (s .schedule .words) (now (s .ids)) (now (s .block)) _ (w .with-policy .result) (onwards w)
     (sym (c .before .is-eight .ensures) ∙ c .if2 .taken)
 
 loop-less : tie.Need-loop-less Inv-loop μ-loop
@@ -130,14 +131,14 @@ loop-again-2 : tie.Need-loop-again-2 Inv-loop μ-loop
 loop-again-2 c =
     let d = c .before .before .before .before in
     let l = d .before .before .before .loop in
-    let s = d .before .before .before .before .before .before .before .args in
-    along-wide (now (s .g)) (now (s .k)) (s .schedule .words) (s .held) (l .at) (l .all) (l .inv) _ (here d) (c .if1 .left)
+    let s = d .before .before .before .before .before .before .before .before .before .args in
+    along-wide (now (s .g)) (now (s .k)) (s .schedule .words) (now (s .ids)) (now (s .block)) (l .at) (l .all) (l .inv) _ (here d) (c .if1 .left)
 
 returns-2 : tie.Need-returns-2 Inv-loop μ-loop
 returns-2 c =
     let l = c .before .loop in
-    let s = c .before .before .before .before .before .args in
-    along-end (now (s .g)) (now (s .k)) (s .schedule .words) (s .held) (l .at) (l .all) (l .inv) (c .loop-test .left)
+    let s = c .before .before .before .before .before .before .before .args in
+    along-end (now (s .g)) (now (s .k)) (s .schedule .words) (now (s .ids)) (now (s .block)) (l .at) (l .all) (l .inv) (c .loop-test .left)
 
 pub walked-spec : {M : Type 1} → statement M
 walked-spec =

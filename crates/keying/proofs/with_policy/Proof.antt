@@ -8,16 +8,16 @@ use Rattle.keying.proofs.with_policy.Tie as tie
 
 needs-requires : tie.Need-needs-requires
 needs-requires c κs =
-    let p = c .before .before .before .pre in
+    let p = c .before .before .before .before .before .pre in
     let a = p .1 .1 .1 .1 .1 .2 in
     let n = p .1 .0 in
     (omega arith, (a .place, a .body, a .is))
 
 -- the sizes of the parts that its transforms need
-sized : (c : tie.After-needs) → let s = c .before .before .before .before .args in
+sized : (c : tie.After-needs) → let s = c .before .before .before .before .before .before .args in
     Sized (s .protocol) (now (s .spi)) (c .needs .result .encryption) (c .needs .result .wrapping)
 sized c =
-    let s = c .before .before .before .before in
+    let s = c .before .before .before .before .before .before in
     let p = s .pre .1 .1 .1 .1 .1 in
     let h = p .2 in
     sizes-are (now (s .args .k)) (s .args .protocol) (now (s .args .spi)) (now (s .args .x)) (p .0) (p .1) h (c .needs .result)
@@ -28,7 +28,7 @@ add-opened c = let h = few-octets _ _ _ _ (sized c) in record { fits = omega ari
 
 opened-requires : tie.Need-opened-requires
 opened-requires c κs =
-    let s = c .before .before .before .before in
+    let s = c .before .before .before .before .before .before in
     let p = s .pre .1 .1 in
     let q = p .1 .1 .1 in (
       p .0,
@@ -39,11 +39,11 @@ opened-requires c κs =
     )
 
 joined-requires : tie.Need-joined-requires
-joined-requires c κs = (c .before .before .before .before .before .pre .0, sized (c .before))
+joined-requires c κs = (c .before .before .before .before .before .before .before .pre .0, sized (c .before))
 
 returns : tie.Need-returns
 returns c =
-    let s = c .before .before .before .before .before .before .args in
+    let s = c .before .before .before .before .before .before .before .before .args in
     let n = c .before .before .needs in (
       λ roots entries size f l a i known.
           let h = i .stands in

@@ -18,6 +18,7 @@ use Rattle.keys.specs.Lists.{any}
 use Rattle.keys.specs.declared.kinds.WrappingKey.{WrappingKey}
 use Rattle.state.specs.declared.held.Held.{Held}
 use Rattle.copies.specs.inner.Known.{Agrees}
+use Rattle.copies.specs.inner.Lending.{LendsHeld}
 use Rattle.clauses.specs.Contents.{rowOf, bagsOf}
 use Rattle.clauses.specs.Number4.{twiceInTransform}
 use Rattle.clauses.specs.Number6.{bagsNamed}
@@ -75,10 +76,12 @@ pub record IsOpened (protocol : ℕ) (spi : List ℕ) (encryption wrapping : ℕ
   pub answers : Answers roots entries size (announcedAs f a) one
 
 -- ---- where a policy and its bag stand
--- chains end on exactly key 0, of which this is the schedule, and the held keys
-pub record Opening (schedule : List ℕ) (held : Held) (roots : List Root) (entries : List WrapKey) (size : ℕ) : Type 0 where
+-- chains end on exactly key 0, of which this is the schedule, and the held keys, which are lent so
+pub record Opening (schedule ids block : List ℕ) (roots : List Root) (entries : List WrapKey) (size : ℕ) : Type 0 where
   pub zero : WrappingKey
+  pub held : Held
   pub expands : ExpandsInverse (valueOf zero) schedule
+  pub lends : LendsHeld held ids block
   pub agrees : Agrees roots entries size zero held
 
 -- the policy a has this name and holds x after its SPI; it is as it must be after numbers 4 to 6, and its bag is one of those that k is
@@ -96,9 +99,9 @@ pub record Announces (k : List ℕ) (protocol : ℕ) (spi x : List ℕ) (f : Fra
   pub paired : bagsNamed f (a .protocol) (a .spi) ≡ 1
 
 -- the policy a has this name and holds x after its SPI, and its copies open under key 0 and the held keys
-pub record IsAnnounced (k : List ℕ) (protocol : ℕ) (spi x : List ℕ) (schedule : List ℕ) (held : Held) (roots : List Root)
+pub record IsAnnounced (k : List ℕ) (protocol : ℕ) (spi x : List ℕ) (schedule ids block : List ℕ) (roots : List Root)
     (entries : List WrapKey) (size : ℕ) (f : Frame) (a : GroupSaPolicy) : Type 0 where
-  pub opening : Opening schedule held roots entries size
+  pub opening : Opening schedule ids block roots entries size
   pub stands : Announces k protocol spi x f a
 
 -- ---- r is known of some policies and one more, where `all` is known of the others
