@@ -10,7 +10,8 @@ use copies::lending::PLACE;
 use copies::lending::lend_keys;
 use joining::Found;
 use joining::Keyed;
-use joining::joined;
+use joining::One;
+use joining::one_sa;
 use keys::kinds::WrappingKey;
 use keys::limits::SAS;
 use sa::entry::Sa;
@@ -18,7 +19,7 @@ use state::held::Held;
 ghost use mathlib.Core.Path.{_≡_};
 ghost use mathlib.Core.Bool.{true};
 ghost use mathlib.Core.List.{List};
-ghost use Prim.Native.Nat.{ℕ, _+_, _≤_, _<_};
+ghost use Prim.Native.Nat.{ℕ, _≤_, _<_};
 ghost use lib.ListN.{length};
 ghost use Rattle.aes.specs.inner.Tables.{decipherTables};
 ghost use Rattle.aes.specs.inner.Schedule.{ExpandedInverse};
@@ -40,8 +41,8 @@ ghost use Rattle.copies.specs.inner.Known.{Agrees};
 ghost use Rattle.copies.specs.inner.Lending.{LendsHeld};
 ghost use Rattle.copies.specs.inner.Answer.{Answers};
 ghost use Rattle.outcome.specs.Roots.{needOf, announcedAs};
-ghost use Rattle.keying.specs.inner.Keyed.{Ready, KeyedBy};
-ghost use Rattle.keying.specs.inner.Policies.{isEight, Opening, Announces, IsAnnounced, OneMore};
+ghost use Rattle.keying.specs.inner.Keyed.{Ready, foundBy, KeyedBy};
+ghost use Rattle.keying.specs.inner.Policies.{Opening, Announces, IsAnnounced, IsOne};
 
 // What the copies of the SA with this name open to, those of its bag.
 fn opened(
@@ -77,9 +78,8 @@ fn opened(
     )
 }
 
-// One more, whose policy has this name and holds x after its SPI.
+// The SA whose policy has this name and holds x after its SPI.
 fn with_policy(
-    all: Keyed,
     protocol: usize,
     spi: &[u8],
     x: &[u8],
@@ -88,35 +88,31 @@ fn with_policy(
     schedule: InverseSchedule,
     ids: &[u32],
     block: &[u8],
-) -> Keyed
-    requires { ⌜ all .count < limits .sas ⌝ }
+) -> One
     requires { ⌜ length (now x) < 65536 ⌝ }
     requires { ⌜ isWhole (bags 0 (now k)) ≡ true ⌝ }
     requires { ⌜ (now tables ≡ decipherTables) × ExpandedInverse (schedule .words) ⌝ }
     requires { ⌜ ((held : Held) × LendsHeld held (now ids) (now block)) ⌝ }
     requires { ⌜ ((f : Frame) × (a : GroupSaPolicy) × Announces (now k) protocol (now spi) (now x) f a) ⌝ }
-    ensures { λ r. ⌜
-        OneMore (IsAnnounced (now (k .entry)) protocol (now (spi .entry)) (now (x .entry)) (schedule .words) (now (ids .entry))
-        (now (block .entry))) all r
-        × (r .count ≤ all .count + 1)
-        ⌝ }
+    ensures { λ r. ⌜ ((roots : List Root) (entries : List WrapKey) (size : ℕ) (f : Frame) (a : GroupSaPolicy) →
+        IsAnnounced (now (k .entry)) protocol (now (spi .entry)) (now (x .entry)) (schedule .words) (now (ids .entry))
+        (now (block .entry)) roots entries size f a → IsOne r roots entries size f a) ⌝ }
 {
     let n = suites::needs(x);
     let e = n.encryption;
     let w = n.wrapping;
     let one = opened(protocol, spi, e + w, k, tables, schedule, ids, block);
-    joined(all, one, protocol, spi, e, w)
+    one_sa(one, protocol, spi, e, w)
 }
 
-// Whether number 8 was found.
-fn is_eight(found: Found) -> bool
-    ensures { λ r. ⌜ r ≡ isEight found ⌝ }
+// What is known of SAs none of which is number 8: whether none of the copies of some SA opens.
+fn found_by(nine: bool) -> Found
+    ensures { λ r. ⌜ r ≡ foundBy nine ⌝ }
 {
-    match found {
-        Found::Eight => true,
-        Found::Nine => false,
-        Found::Keys => false,
+    if nine {
+        return Found::Nine;
     }
+    Found::Keys
 }
 
 // The same as `keyed`, with the schedule of key 0 and the held keys as they are lent.
@@ -136,11 +132,9 @@ fn walked(
     ensures { λ r. ⌜ ((roots : List Root) (entries : List WrapKey) (size : ℕ) (f : Frame) → Ready f (now (g .entry)) (now (k .entry)) →
         Opening (schedule .words) (now (ids .entry)) (now (block .entry)) roots entries size → KeyedBy roots entries size f r) ⌝ }
 {
-    let mut all = Keyed {
-        found: Found::Keys,
-        sas: [Sa::blank(); SAS],
-        count: 0,
-    };
+    let mut nine = false;
+    let mut sas = [Sa::blank(); SAS];
+    let mut count: usize = 0;
     let mut at: usize = 0;
     while at < g.len() {
         let p = policy_parts(&g[at..]);
@@ -148,8 +142,7 @@ fn walked(
         let body = at + p.body;
         let end = at + p.end;
         if p.first != 0 {
-            all = with_policy(
-                all,
+            let one = with_policy(
                 p.first,
                 &g[name..body],
                 &g[body..end],
@@ -159,14 +152,29 @@ fn walked(
                 ids,
                 block,
             );
-            let found = all.found;
-            if is_eight(found) {
-                return all;
+            let found = one.found;
+            match found {
+                copies::answer::Found::Eight => {
+                    return Keyed {
+                        found: Found::Eight,
+                        sas,
+                        count,
+                    };
+                }
+                copies::answer::Found::Nothing => {
+                    nine = true;
+                }
+                copies::answer::Found::Key => {
+                    let sa = one.sa;
+                    sas[count] = sa;
+                    count += 1;
+                }
             }
         }
         at = end;
     }
-    all
+    let found = found_by(nine);
+    Keyed { found, sas, count }
 }
 
 // What the copies of all SAs that a frame announces open to: `g` is its GSA body, `k` its KD body, `zero` key 0, and the other keys that a

@@ -1,8 +1,8 @@
--- What is known of some policies of a frame, and of one more.
+-- What is known of one policy of a frame, and of its copies.
 use Prim.Native.Nat.{ℕ}
 use mathlib.Core.Path.{_≡_}
-use mathlib.Core.Bool.{Bool, true, false}
-use mathlib.Core.List.{List, [], _∷_, _++_}
+use mathlib.Core.Bool.{true, false}
+use mathlib.Core.List.{List}
 use lib.ListN.{length}
 use Rattle.keys.specs.Algorithms.{sizeOf}
 use Rattle.keys.specs.Kinds.{rekeySizes, valueOf}
@@ -19,6 +19,8 @@ use Rattle.keys.specs.declared.kinds.WrappingKey.{WrappingKey}
 use Rattle.state.specs.declared.held.Held.{Held}
 use Rattle.copies.specs.inner.Known.{Agrees}
 use Rattle.copies.specs.inner.Lending.{LendsHeld}
+use Rattle.copies.specs.declared.answer.Found.{Found}
+use Rattle.copies.specs.declared.answer.Found.the-variants as copied
 use Rattle.clauses.specs.Contents.{rowOf, bagsOf}
 use Rattle.clauses.specs.Number4.{twiceInTransform}
 use Rattle.clauses.specs.Number6.{bagsNamed}
@@ -29,16 +31,7 @@ use Rattle.copies.specs.inner.Answer.{Answers}
 use Rattle.copies.specs.declared.answer.Opened.{Opened}
 use Rattle.outcome.specs.Roots.{copiesOf, announcedAs}
 use Rattle.outcome.specs.After.{saFrom}
-use Rattle.keying.specs.inner.Keyed.{KeysIn}
-use Rattle.keying.specs.declared.joining.Found.{Found}
-use Rattle.keying.specs.declared.joining.Found.the-variants as found
-use Rattle.keying.specs.declared.joining.Keyed.{Keyed}
-
--- number 8 was found
-abbrev pub isEight : Found → Bool
-isEight found.Eight = true
-isEight found.Nine = false
-isEight found.Keys = false
+use Rattle.keying.specs.declared.joining.One.{One}
 
 -- ---- of one policy, by its copies
 abbrev pub OfOne : Type 1
@@ -56,6 +49,15 @@ pub record IsSa (sa : Sa) (roots : List Root) (entries : List WrapKey) (size : �
   pub key : KeyOf roots entries size (announcedAs f a) x
   pub fit : CopiesEight roots entries size (announcedAs f a) → ⊥
   pub is : sa ≡ saFrom a x
+
+-- it is number 8 of its copies, none that opens, or this SA
+abbrev pub IsBy : Found → Sa → OfOne
+IsBy copied.Eight sa roots entries size f a = IsEight roots entries size f a
+IsBy copied.Nothing sa roots entries size f a = IsUnopened roots entries size f a
+IsBy copied.Key sa roots entries size f a = IsSa sa roots entries size f a
+
+abbrev pub IsOne : One → OfOne
+IsOne r roots entries size f a = IsBy (r .found) (r .sa) roots entries size f a
 
 -- the octets that an SPI of this protocol has, and the two parts of its SA's keying octets
 pub record Sized (protocol : ℕ) (spi : List ℕ) (encryption wrapping : ℕ) : Type 0 where
@@ -103,9 +105,3 @@ pub record IsAnnounced (k : List ℕ) (protocol : ℕ) (spi x : List ℕ) (sched
     (entries : List WrapKey) (size : ℕ) (f : Frame) (a : GroupSaPolicy) : Type 0 where
   pub opening : Opening schedule ids block roots entries size
   pub stands : Announces k protocol spi x f a
-
--- ---- r is known of some policies and one more, where `all` is known of the others
-abbrev pub OneMore : OfOne → Keyed → Keyed → Type 0
-OneMore Is all r =
-    (roots : List Root) (entries : List WrapKey) (size : ℕ) (f : Frame) (l : List GroupSaPolicy) (a : GroupSaPolicy) →
-    Is roots entries size f a → KeysIn roots entries size f l all → KeysIn roots entries size f (l ++ (a ∷ [])) r
