@@ -11,3 +11,4 @@ pub mod Meets
 pub mod RestSays
 pub mod Demand3
 pub mod Stands
+pub mod Inband
