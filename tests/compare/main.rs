@@ -9,6 +9,7 @@
 mod calls;
 mod case;
 mod damage;
+mod inband;
 mod programs;
 mod scene;
 mod script;
