@@ -17,7 +17,12 @@ fn clause(out: &mut [u8], n: usize, applies: bool, line: &[u8]) -> usize {
 fn payloads(out: &mut [u8], n: usize, x: Four) -> usize {
     let a = clause(out, n, x.critical, b"  4: critical unknown payload\n");
     let b = clause(out, a, x.member_bag, b"  4: Member Key Bag in a rekey\n");
-    let c = clause(out, b, x.delete, b"  4: D in another exchange than GSA_REKEY\n");
+    let c = clause(
+        out,
+        b,
+        x.delete,
+        b"  4: D in another exchange than GSA_REKEY\n",
+    );
     clause(out, c, x.two_gsa, b"  4: two GSA\n")
 }
 

@@ -1,12 +1,12 @@
 use denote.Ref.{now}
 use mathlib.Core.Path.{_≡_, ap, _∙_}
-use Rattle.octets.specs.Walk.{whole}
 use mathlib.Core.List.{[]}
+use Rattle.octets.specs.Walk.{whole}
 use Rattle.frames.specs.Frame.{Frame, frame}
 use Rattle.frames.specs.declared.exchanges.Exchange.{Exchange}
 use Rattle.contents.specs.inner.Values.{isWhole}
 use Rattle.clauses.specs.Contents.{rowOf}
-use Rattle.receiving.specs.inner.Passing.{RekeysOver, RekeysInband}
+use Rattle.receiving.specs.inner.Passing.{RekeysInband}
 use borrow.Author.Needs.{needs}
 use Rattle.group.proofs.Member.passed.Statement.{statement}
 use Rattle.group.proofs.Member.passed.Tie as tie
@@ -51,15 +51,12 @@ rekeying-in-band-requires c κs =
 enum-told-2 : tie.Need-enum-told-2
 enum-told-2 c = search needs
 
-over : (c : tie.After-enum-told-2) (f : Frame) →
-    let a = c .before .before .before .before .before .before .args in frame (now (a .s)) ≡ whole f [] → RekeysOver f
-over c f q = ap (λ (x : Exchange). x .zero) (row-is (c .before .before) f q) ∙ c .enum-told2 .given .1
-
 rekeying-requires : tie.Need-rekeying-requires
 rekeying-requires c κs =
     let b = c .before .before .before .before .before .before in
     let p = b .pre in
-    (p .0, now (b .args .lent), p .1, over c (p .0) (p .1 .whole-is))
+    let row = row-is (c .before .before) (p .0) (p .1 .whole-is) in
+    (p .0, now (b .args .lent), p .1, ap (λ (x : Exchange). x .zero) row ∙ c .enum-told2 .given .1)
 
 returns-2 : tie.Need-returns-2
 returns-2 c = λ f p. c .rekeying-in-band .ensures f p (in-band (c .before) f (p .whole-is))
@@ -67,7 +64,9 @@ returns-2 c = λ f p. c .rekeying-in-band .ensures f p (in-band (c .before) f (p
 returns-3 : tie.Need-returns-3
 returns-3 c =
     let a = c .before .before .before .before .before .before .before .args in
-    λ f p. c .rekeying .ensures f (now (a .lent)) p (over (c .before) f (p .whole-is))
+    λ f p.
+    let row = row-is (c .before .before .before) f (p .whole-is) in
+    c .rekeying .ensures f (now (a .lent)) p (ap (λ (x : Exchange). x .zero) row ∙ c .before .enum-told2 .given .1)
 
 pub passed-spec : {M : Type 1} → statement M
 passed-spec =
