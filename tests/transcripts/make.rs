@@ -4,6 +4,7 @@
 //! member is asked.
 
 mod calls;
+mod inband;
 mod meanings;
 mod parts;
 mod refusals;
@@ -88,7 +89,7 @@ fn main() -> ExitCode {
         eprintln!("transcripts DIRECTORY");
         return ExitCode::from(2);
     };
-    for transcript in [runs::all(), times::all(), meanings::all(), refusals::all(), calls::all()].iter().flatten() {
+    for transcript in [runs::all(), times::all(), inband::all(), meanings::all(), refusals::all(), calls::all()].iter().flatten() {
         if let Err(error) = transcript.write(Path::new(&directory)) {
             eprintln!("{directory}: {error}");
             return ExitCode::FAILURE;

@@ -99,7 +99,7 @@ rekeyBag x n = bag 6 x (replicate n (saKey 0 9))
 abbrev pub memberBag : List WrapKey → Bag
 memberBag l = memberKeys (record { keys = l })
 
--- ---- frames by what their payloads hold, with Message ID 0; rekeys are those over the live Rekey SA
+-- ---- frames by what their payloads hold, with Message ID 0; rekeys are those over the live Rekey SA, in-band ones have SPIs that no SA has
 abbrev pub deletes : ℕ → List (List ℕ) → Content
 deletes p l = delete (record { protocol = p; spis = l })
 
@@ -121,6 +121,9 @@ registers l = frameOf [] 39 0 (map payload l)
 
 abbrev pub rekeys : List Content → Frame
 rekeys l = frameOf liveSpi 41 0 (map payload l)
+
+abbrev pub inband : List Content → Frame
+inband l = frameOf [] 42 0 (map payload l)
 
 -- a registration with an ESP SA and a Rekey SA; a rekey that deletes an ESP SA, with SPIs x and Message ID m
 abbrev pub fit : List Content
@@ -149,9 +152,12 @@ copies n = rekeys (gsa (rekeyPolicy nextSpi ∷ []) ∷ kd (rekeyBag nextSpi n �
 abbrev pub deleted : ℕ → Frame
 deleted n = rekeys (deletes 3 (replicate n (spi 4)) ∷ [])
 
--- a rekey that announces an ESP SA more
+-- what announces an ESP SA more, and a rekey with it
+abbrev pub another : List Content
+another = gsa (espPolicy 200 ∷ []) ∷ kd (espBag 200 ∷ []) ∷ []
+
 abbrev pub oneMore : Frame
-oneMore = rekeys (gsa (espPolicy 200 ∷ []) ∷ kd (espBag 200 ∷ []) ∷ [])
+oneMore = rekeys another
 
 -- ---- members
 abbrev pub espAt : ℕ → Condition → Sa
@@ -214,6 +220,10 @@ anew f k = sample fresh 16 f k
 
 abbrev pub later : Frame → ℕ → Sample
 later f k = sample (member (Id 0)) 0 f k
+
+-- a rekey in-band of that member, whose least acceptable Message ID is 7, with a key of 16 octets
+abbrev pub own : Frame → ℕ → Sample
+own f k = sample (member (Id 7)) 16 f k
 
 abbrev pub answerWithin : Limits → Sample → ℕ
 answerWithin limits s = refusal limits (s .state) tick (replicate (s .lent) 0) (s .frame)

@@ -70,13 +70,14 @@ samplesOf2And3 =
     sample (memberOf (espAt 8 dueNow ∷ espAt 9 Live ∷ []) (Id 0)) 16 (registers fit) 2 ∷
     sample (memberOf (espAt 8 Live ∷ espAt 9 dueNow ∷ []) (Id 0)) 16 (registers fit) 2 ∷
     sample (memberOf (espAt 9 Live ∷ []) (Id 0)) 16 (frameOf [] 40 0 (map payload fit)) 2 ∷
-    -- 2: another exchange than GSA_AUTH 39, GSA_REGISTRATION 40 and GSA_REKEY 41
+    -- 2: another exchange than GSA_AUTH 39, GSA_REGISTRATION 40, GSA_REKEY 41 and GSA_INBAND_REKEY 42, and that of a new member
     anew (frameOf [] 0 0 (map payload fit)) 2 ∷
     anew (frameOf [] 38 0 (map payload fit)) 2 ∷
     anew (frameOf [] 39 0 (map payload fit)) 0 ∷
     anew (frameOf [] 40 0 (map payload fit)) 0 ∷
     anew (frameOf [] 42 0 (map payload fit)) 2 ∷
-    later (frameOf liveSpi 42 9 (payload deletion ∷ [])) 2 ∷
+    anew (frameOf [] 43 0 (map payload fit)) 2 ∷
+    later (frameOf liveSpi 43 9 (payload deletion ∷ [])) 2 ∷
     -- 2: a member value that breaks its list: 65 SAs, falling SPIs, keying octets of a size that nothing needs, two live Rekey SAs
     sample (having 62 Live) 0 (deleting liveSpi 9) 0 ∷
     sample (having 63 Live) 0 (deleting liveSpi 9) 2 ∷

@@ -34,6 +34,8 @@ pub mod AtTick
 pub mod RunsLive
 pub mod RunsReplay
 pub mod NeverDue
+pub mod InbandBeside
+pub mod Inband
 pub mod KeyZero
 pub mod Demand3
 pub mod Stands

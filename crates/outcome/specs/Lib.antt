@@ -12,3 +12,4 @@ pub mod RestSays
 pub mod Demand3
 pub mod Stands
 pub mod Wider
+pub mod Inband
