@@ -5,6 +5,7 @@ pub mod DeleteGrammar
 pub mod FrameGrammar
 pub mod Ignored
 pub mod LayoutNumbers
+pub mod FrameBreaks
 pub mod SamplesOfPolicies
 pub mod SamplesOfBags
 pub mod SamplesOfFrames
