@@ -37,13 +37,6 @@ header k v n = 1 ∷ 2 ∷ 3 ∷ 4 ∷ 5 ∷ 6 ∷ 7 ∷ 8 ∷ 9 ∷ 10 ∷ 11 �
 abbrev framed : ℕ → ℕ → List ℕ → List ℕ
 framed k n l = header k 32 n ++ l
 
--- an ESP policy of n octets up to its transforms
-abbrev ip4 : List ℕ
-ip4 = 7 ∷ 0 ∷ 0 ∷ 16 ∷ 0 ∷ 0 ∷ 0 ∷ 0 ∷ 239 ∷ 1 ∷ 2 ∷ 3 ∷ 239 ∷ 1 ∷ 2 ∷ 3 ∷ []
-
-abbrev esp : ℕ → List ℕ
-esp n = (3 ∷ 4 ∷ 0 ∷ n ∷ 9 ∷ 8 ∷ 7 ∷ 6 ∷ []) ++ (ip4 ++ ip4)
-
 pub record Sample : Type 0 where
   pub octets : List ℕ
   pub layout : Layout
@@ -91,19 +84,6 @@ samples =
     is (framed 52 44 (51 ∷ 0 ∷ 0 ∷ 8 ∷ 1 ∷ 0 ∷ 0 ∷ 4 ∷ 0 ∷ 0 ∷ 0 ∷ 8 ∷ 1 ∷ 0 ∷ 0 ∷ 4 ∷ [])) (layout.Broken 32) ∷
     is (framed 52 40 (41 ∷ 0 ∷ 0 ∷ 8 ∷ 0 ∷ 0 ∷ 0 ∷ 4 ∷ 0 ∷ 0 ∷ 0 ∷ 3 ∷ [])) (layout.Broken 36) ∷
     is (header 52 16 36 ++ (41 ∷ 0 ∷ 0 ∷ 8 ∷ 1 ∷ 0 ∷ 0 ∷ 4 ∷ [])) (layout.Broken 0) ∷
-    -- own fields first: a GSA past the frame, a bag past its KD, though what they hold is broken too
-    is (framed 51 36 (0 ∷ 0 ∷ 0 ∷ 9 ∷ 1 ∷ 0 ∷ 0 ∷ 4 ∷ [])) (layout.Broken 28) ∷
-    is (framed 52 37 (0 ∷ 0 ∷ 0 ∷ 9 ∷ 0 ∷ 0 ∷ 0 ∷ 6 ∷ 0 ∷ [])) (layout.Broken 32) ∷
-    -- then what it holds: a policy before the octets left over, and these for the header
-    is (framed 51 37 (0 ∷ 0 ∷ 0 ∷ 8 ∷ 1 ∷ 0 ∷ 0 ∷ 4 ∷ 9 ∷ [])) (layout.Broken 32) ∷
-    is (framed 51 37 (0 ∷ 0 ∷ 0 ∷ 8 ∷ 0 ∷ 0 ∷ 0 ∷ 4 ∷ 9 ∷ [])) (layout.Broken 0) ∷
-    -- cut short: a bag, an attribute in a bag; a payload missing behind a whole one
-    is (framed 52 35 (0 ∷ 0 ∷ 0 ∷ 7 ∷ 0 ∷ 0 ∷ 0 ∷ [])) (layout.Broken 32) ∷
-    is (framed 52 37 (0 ∷ 0 ∷ 0 ∷ 9 ∷ 0 ∷ 0 ∷ 0 ∷ 5 ∷ 0 ∷ [])) (layout.Broken 36) ∷
-    is (framed 41 32 (41 ∷ 0 ∷ 0 ∷ 4 ∷ [])) (layout.Broken 0) ∷
-    -- in a transform of a policy of a GSA: Key Length as TLV, at its own offset; a transform that a 3 calls for, at the policy's
-    is (framed 51 84 ((0 ∷ 0 ∷ 0 ∷ 56 ∷ []) ++ (esp 52 ++ (0 ∷ 0 ∷ 0 ∷ 12 ∷ 1 ∷ 0 ∷ 0 ∷ 20 ∷ 0 ∷ 14 ∷ 0 ∷ 0 ∷ [])))) (layout.Broken 80) ∷
-    is (framed 51 80 ((0 ∷ 0 ∷ 0 ∷ 52 ∷ []) ++ (esp 48 ++ (3 ∷ 0 ∷ 0 ∷ 8 ∷ 5 ∷ 0 ∷ 0 ∷ 0 ∷ [])))) (layout.Broken 32) ∷
     []
 
 samples-laid : map (λ (s : Sample). frameLayout (s .octets)) samples ≡ map (λ (s : Sample). s .layout) samples
