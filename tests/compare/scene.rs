@@ -84,7 +84,7 @@ impl Scene {
 
     /// A rekey over the member's own channel; None if the member is empty, or has no room.
     pub fn inband(&mut self, shape: Shape) -> Option<Case> {
-        let room = self.sizes.sas - self.member.table.iter().filter(|sa| !sa.is_due(self.tick)).count();
+        let room = self.sizes.sas.saturating_sub(self.member.table.iter().filter(|sa| !sa.is_due(self.tick)).count());
         let rekey = shape.rekey && room > 0;
         let esp = shape.esp.min(room - rekey as usize);
         if self.member.is_empty(self.tick) || !rekey && esp == 0 {

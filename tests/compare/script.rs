@@ -12,7 +12,7 @@ use builder::line::{hex, line};
 use builder::rng::Rng;
 use reference::layout::MOST_FRAME;
 use reference::member::Member;
-use reference::text;
+use reference::{layout, text};
 
 pub struct Script {
     /// The whole input.
@@ -290,7 +290,9 @@ impl<'t> Writer<'t> {
     /// Adds the line, and takes the member through it; None for a bad one.
     pub fn line(&mut self, line: Vec<u8>, label: String) -> Option<u8> {
         let frame = text::tick_and_frame(&line);
-        let answer = frame.map(|(tick, frame)| self.scene.member.take(&self.scene.lent, tick, &frame));
+        let broken = frame.as_ref().and_then(|(_, frame)| layout::frame(frame).err());
+        broken.into_iter().for_each(|broken| self.tally.broken(broken));
+        let answer = frame.map(|(tick, frame)| self.scene.member.take(&self.scene.lent, tick, &frame).number);
         if answer.is_some() || !self.tracing || !self.other_call(&line) {
             self.tally.answer(answer);
         }
