@@ -17,6 +17,7 @@ use Rattle.reach.specs.inner.Entries.{IsEntry, Lists}
 use Rattle.reached.specs.inner.Entries.{bagKeys}
 use Rattle.reached.proofs.Gathering.{Gathered, gathered-next, gathered-all}
 use Rattle.reached.proofs.Gathering.{taken-inside, taken-sized, taken-part, taken-first}
+use Rattle.keys.specs.Limits.{limits}
 use Rattle.keys.proofs.Lists.{length-of-map}
 use borrow.Author.Needs.{needs}
 use Rattle.reached.proofs.entries.with_bag.Statement.{statement}
@@ -24,8 +25,8 @@ use Rattle.reached.proofs.entries.with_bag.Tie as tie
 
 abbrev Inv-loop : tie.InvT-loop
 Inv-loop k a e s places₀ n₀ at₀ places n at =
-    (length places ≡ 32) × (at ≤ length s) × (isWhole (attributes MemberBag 0 (drop at s)) ≡ true) ×
-    (n + length (bagKeys (drop at s)) ≤ 32) ×
+    (length places ≡ limits .wrapKeys) × (at ≤ length s) × (isWhole (attributes MemberBag 0 (drop at s)) ≡ true) ×
+    (n + length (bagKeys (drop at s)) ≤ limits .wrapKeys) ×
     ((l : List WrapKey) → Lists k places₀ n₀ l → Gathered k places n (bagKeys (drop at s)) (l ++ bagKeys s))
 
 abbrev μ-loop : tie.MeasureT-loop
@@ -43,7 +44,7 @@ part-s-end c = search needs
 loop-holds : tie.Need-loop-holds Inv-loop μ-loop
 loop-holds c =
     let s = c .before .before .before in
-    let e : length (s .args .list .places) ≡ 32 = search (needs, length-of-map) in
+    let e : length (s .args .list .places) ≡ limits .wrapKeys = search (needs, length-of-map) in
     (e, omega arith, s .pre .1 .0, s .pre .1 .1, λ l h. record { done = l; lists = h; joined = refl })
 
 next-attribute-requires : tie.Need-next-attribute-requires Inv-loop μ-loop
@@ -110,7 +111,7 @@ is c =
     (taken-inside k (s .args .a) (s .args .e) (s .pre .0 .0) (s .pre .0 .1) (l .at) _ _ (l .inv .2) f .1)
     (taken-part k (s .args .a) (s .args .e) (s .pre .0 .0) (s .pre .0 .1) (l .at) _ _ (l .inv .2) f _ (value (c .before)))
 
-room : (c : tie.After-entry Inv-loop μ-loop) → c .before .before .before .before .before .before .loop .n < 32
+room : (c : tie.After-entry Inv-loop μ-loop) → c .before .before .before .before .before .before .loop .n < limits .wrapKeys
 room c = omega (arith, c .before .before .before .before .before .before .loop .inv .3, ap length (first (c .before)))
 
 mul-places : tie.Need-mul-places Inv-loop μ-loop
@@ -133,7 +134,8 @@ loop-again c =
     let f = met (c .before .before) .value in
     let e = first (c .before) in
     let s = part (now (a .k)) (a .a) (a .e) in
-    let n : length (set (l .places) (l .n) (c .entry .result)) ≡ 32 = length-set (l .places) (l .n) (c .entry .result) ∙ l .inv .0 in (
+    let n : length (set (l .places) (l .n) (c .entry .result)) ≡ limits .wrapKeys =
+    length-set (l .places) (l .n) (c .entry .result) ∙ l .inv .0 in (
       n,
       f .inside,
       f .rest,
