@@ -1,19 +1,21 @@
 //! Rekeys in a burst: each brings 8 ESP SAs and a Rekey SA whose key comes in 32 copies, each under another key that the member holds.
 //!
-//! The table has room for 16 SAs, and SAs that a frame retires count until the next one. So no two such rekeys can follow each other:
-//! between them comes one that deletes the 8 ESP SAs, and without a delay these are due when the next rekey arrives.
+//! Document 01's table had room for 16 SAs, and SAs that a frame retires count until the next one. So no two such rekeys could follow
+//! each other: between them comes one that deletes the 8 ESP SAs, and without a delay these are due when the next rekey arrives. The run
+//! stays as it was, so that times can be held against those before document 02's 64 SAs.
 
 use crate::group::{announce, Group};
 use crate::Input;
 use builder::typical::delete;
 
 const ESP_SAS: u32 = 8;
+const COPIES: u32 = 32;
 
 /// The counter wraps within the run.
 const FIRST_TICK: u32 = 0xffff_0000;
 
 pub fn rekeys(size: usize, count: u32) -> Input {
-    let mut group = Group::new(size);
+    let mut group = Group::new(size, COPIES);
     let mut input = Input::new(&group.lent);
     let mut tick = FIRST_TICK;
     input.frame(tick, &group.registration(), "0 1 32");
