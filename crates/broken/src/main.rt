@@ -1,12 +1,13 @@
 // For tests: member values that break the list of what a member is. No line of input and no call of the library makes one. On each of them
 // `receive`, `sweep`, `leave` and `sa` are called, and what they give is printed, after a value that keeps the list. Before that stands what
-// the program's own comparison of members tells apart.
+// the program's own comparison of members tells apart; last come frames over the member's own channel.
 mod apart;
 mod same;
 mod values;
 
 use group::Member;
-use group::receive::Answer;
+use keys::limits::HELD_KEYS;
+use keys::limits::SAS;
 use libc::STDOUT_FILENO;
 use sa::entry::ESP;
 use sa::entry::REKEY;
@@ -74,22 +75,6 @@ fn frame() -> [u8; 40] {
     ]
 }
 
-// Document 01's number of an answer.
-fn number(a: Answer) -> u64 {
-    match a {
-        Answer::Accepted => 0,
-        Answer::BrokenLayout => 1,
-        Answer::NotForMember => 2,
-        Answer::Replayed => 3,
-        Answer::BadComposition => 4,
-        Answer::Unsupported => 5,
-        Answer::Unpaired => 6,
-        Answer::OverLimit => 7,
-        Answer::KeyConflict => 8,
-        Answer::NoKey => 9,
-    }
-}
-
 // Whether the first of two values came out unchanged.
 pub(crate) fn compared(m: Member, next: Member) {
     if same::same_members(m, next) {
@@ -99,13 +84,12 @@ pub(crate) fn compared(m: Member, next: Member) {
     }
 }
 
-fn received(m: Member) {
-    let f = frame();
+fn received(m: Member, f: &[u8]) {
     let lent = [0u8; 16];
-    let r = m.receive(&f, &lent, TICK);
+    let r = m.receive(f, &lent, TICK);
     let a = r.answer;
     let next = r.member;
-    io::print_decimal(STDOUT_FILENO, number(a));
+    io::print_decimal(STDOUT_FILENO, a.number() as u64);
     print(b" ");
     compared(m, next);
 }
@@ -136,7 +120,8 @@ fn asked(m: Member) {
 fn tried(name: &[u8], m: Member) {
     print(name);
     print(b": receive ");
-    received(m);
+    let f = frame();
+    received(m, &f);
     print(b", sweep ");
     let swept = m.sweep(TICK);
     compared(m, swept);
@@ -150,7 +135,10 @@ fn tried(name: &[u8], m: Member) {
 // Tables that are as a member's must be but for their count.
 fn counts() {
     tried(b"as it must be", member_of(sas(3), held_keys(2)));
-    tried(b"17 SAs", member_of(sas(17), held_keys(2)));
+    tried(
+        b"one SA over the limit",
+        member_of(sas(SAS + 1), held_keys(2)),
+    );
     tried(
         b"2^64 - 1 SAs",
         member_of(sas(18446744073709551615), held_keys(2)),
@@ -159,7 +147,10 @@ fn counts() {
         b"a blank place among the SAs",
         member_of(sas(4), held_keys(2)),
     );
-    tried(b"33 held keys", member_of(sas(3), held_keys(33)));
+    tried(
+        b"one held key over the limit",
+        member_of(sas(3), held_keys(HELD_KEYS + 1)),
+    );
     tried(
         b"a blank place among the held keys",
         member_of(sas(3), held_keys(3)),
@@ -261,10 +252,45 @@ fn held_lists() {
     );
 }
 
+// The frame as a GSA_INBAND_REKEY (exchange type 42).
+fn tried_in_band(name: &[u8], m: Member) {
+    print(name);
+    print(b": receive ");
+    let mut f = frame();
+    f[18] = 42;
+    received(m, &f);
+    print(b"\n");
+}
+
+// D is 4 there; a member whose SAs are all due is empty, so 2.
+fn in_band() {
+    let r = rekey(160, 36, 20, 16);
+    tried_in_band(b"in-band, as it must be", member_of(sas(3), held_keys(2)));
+    tried_in_band(
+        b"in-band, every SA due",
+        member_of(
+            table_of(retiring(esp(1, 20)), retiring(esp(2, 20)), retiring(r), 3),
+            held_keys(2),
+        ),
+    );
+    tried_in_band(
+        b"in-band, one SA not due",
+        member_of(
+            table_of(retiring(esp(1, 20)), esp(2, 20), retiring(r), 3),
+            held_keys(2),
+        ),
+    );
+    tried_in_band(
+        b"in-band, a name twice",
+        member_of(table_of(esp(1, 20), esp(1, 20), r, 3), held_keys(2)),
+    );
+}
+
 fn main() {
     apart::each();
     counts();
     orders();
     sizes();
     held_lists();
+    in_band();
 }

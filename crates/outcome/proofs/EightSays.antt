@@ -17,7 +17,7 @@ use Rattle.chains.specs.Refusals as refusals
 use Rattle.chains.proofs.Determined.{last-entry}
 use Rattle.outcome.specs.Roots.{rootsOf, entriesOf, wrappingSize, announcedAs, announcedKeys}
 use Rattle.outcome.specs.Answer.{EightOf}
-use Rattle.outcome.specs.NamedKey.{Registration, Given, OpensUnder}
+use Rattle.outcome.specs.NamedKey.{Registration, Rekey, Given, OpensUnder}
 use Rattle.outcome.specs.EightSays.{EightSays, key-of-wrong-size, key-of-two-values, sa-of-wrong-size, sa-of-two-values}
 use Rattle.outcome.specs.Meets.{Meets, meets-8}
 use Rattle.outcome.proofs.Rows.{registration-row, lent-size}
@@ -37,7 +37,7 @@ module _ (limits : Limits) (s : State) (now : ℕ) (lent : List ℕ) (f : Frame)
   size = wrappingSize limits s now lent f
 
   -- what numbers 2 and 4 let pass: registrations, and rekeys with no WRAP_KEY
-  module _ (fit : Registration f ⊎ ((f .header .exchange ≡ 41) × (wrapKeysOf f ≡ []))) where
+  module _ (fit : Registration f ⊎ (Rekey f × (wrapKeysOf f ≡ []))) where
     -- a rekey reaches nothing
     reached-registers : (k : ℕ) (x : List ℕ) → Reached roots (entriesOf f) size k x → Registration f
     reached-registers k x r =

@@ -16,8 +16,9 @@ use Rattle.clauses.specs.Contents.{rowOf, wrapKeysOf}
 use Rattle.chains.specs.Chain.{In, Root, root, Reached, Ends}
 use Rattle.chains.proofs.Determined.{ends-by, last-entry}
 use Rattle.outcome.specs.Roots.{ownKey, keyZero, heldRoot, rootsOf, entriesOf, wrappingSize}
-use Rattle.outcome.specs.NamedKey.{Registration, lentRoot, Given, Named, lent-key, own-key, last-of-chain, held-key, OpensUnder}
-use Rattle.outcome.proofs.Rows.{names-held, registration-row, rekeys, lent-roots, lent-size}
+use Rattle.outcome.specs.NamedKey.{Registration, Inband, Rekey, lentRoot, Given, Named, lent-key, lent-in-band, own-key, last-of-chain}
+use Rattle.outcome.specs.NamedKey.{held-key, OpensUnder}
+use Rattle.outcome.proofs.Rows.{names-held, registration-row, rekeys, inband-row, lent-roots, lent-size}
 use Rattle.outcome.proofs.Members.{in-head, in-tail, in-cases, not-in-none, in-map, map-in}
 use Rattle.outcome.proofs.Bags.{copy-own, own-copy}
 use Rattle.outcome.proofs.Accepting.{OpensTo}
@@ -50,6 +51,10 @@ module _ (limits : Limits) (s : State) (now : ℕ) (lent : List ℕ) (f : Frame)
   zero-lent : Registration f → keyZero limits s now lent f ≡ lent
   unfolding keyZero
   zero-lent g = rw (registration-row f g)
+
+  zero-in-band : Inband f → keyZero limits s now lent f ≡ lent
+  unfolding keyZero
+  zero-in-band g = rw (inband-row f g)
 
   pub zero-own : f .header .exchange ≡ 41 → keyZero limits s now lent f ≡ ownKey limits s now
   unfolding keyZero
@@ -87,6 +92,7 @@ module _ (limits : Limits) (s : State) (now : ℕ) (lent : List ℕ) (f : Frame)
 
   pub named-ends : (k : ℕ) (v : List ℕ) → Names k v → Ends roots (entriesOf f) size k v
   named-ends k v (lent-key g e d) = at-root zero-root zero-in k v e (d ∙ sym (zero-lent g))
+  named-ends k v (lent-in-band x e d) = at-root zero-root zero-in k v e (d ∙ sym (zero-in-band x))
   named-ends k v (own-key x e d) = at-root zero-root zero-in k v e (d ∙ sym (zero-own x))
   named-ends k v (last-of-chain g c) = let r = from-lent g k v c in record { passed = r .last ∷ r .before; chain = r .chain }
   named-ends k v (held-key e h m q d) =
@@ -103,10 +109,12 @@ module _ (limits : Limits) (s : State) (now : ℕ) (lent : List ℕ) (f : Frame)
       }
 
   -- numbers 2 and 4 let pass registrations, and rekeys with no WRAP_KEY: of these nothing else opens a copy
-  module _ (fit : Registration f ⊎ ((f .header .exchange ≡ 41) × (wrapKeysOf f ≡ []))) where
+  module _ (fit : Registration f ⊎ (Rekey f × (wrapKeysOf f ≡ []))) where
     -- the roots by their meaning
     zero-named : (k : ℕ) (v : List ℕ) → k ≡ 0 → v ≡ keyZero limits s now lent f → Names k v
-    zero-named k v e d = ⊎-elim (λ g. lent-key g e (d ∙ zero-lent g)) (λ q. own-key (q .0) e (d ∙ zero-own (q .0))) fit
+    zero-named k v e d =
+        ⊎-elim (λ g. lent-key g e (d ∙ zero-lent g))
+        (λ q. ⊎-elim (λ x. own-key x e (d ∙ zero-own x)) (λ x. lent-in-band x e (d ∙ zero-in-band x)) (q .0)) fit
 
     root-named : (r : Root) → In r roots → Names (r .id) (r .value)
     unfolding rootsOf

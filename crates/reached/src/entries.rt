@@ -1,15 +1,18 @@
 // The WRAP_KEYs of a KD body. They stand in its Member Key Bags alone: attribute 1 of a Group Key Bag is an SA_KEY.
+use attributes::attribute_value;
 use attributes::tables::Meaning;
 use attributes::tables::Place;
 use contents::bag::bag_parts;
 use contents::values::Found;
-use contents::values::next_of;
+use contents::values::next_attribute;
+use keys::limits::WRAP_KEYS;
 use reach::open::Entry;
 ghost use mathlib.Core.Path.{_≡_};
 ghost use mathlib.Core.Bool.{true};
 ghost use mathlib.Core.List.{List, _++_};
-ghost use Prim.Native.Nat.{ℕ, _+_, _≤_};
+ghost use Prim.Native.Nat.{ℕ, _+_, _-_, _≤_};
 ghost use lib.ListN.{length};
+ghost use Rattle.keys.specs.Limits.{limits};
 ghost use Rattle.octets.specs.Walk.{part};
 ghost use Rattle.attributes.specs.Tree.{WrapKey, wrapKeyOf};
 ghost use Rattle.attributes.specs.Layout.{attributes};
@@ -22,7 +25,7 @@ ghost use Rattle.reached.specs.inner.Entries.{bagKeys};
 
 // Where WRAP_KEYs stand: the first `count` places.
 pub struct Listing {
-    pub places: [Entry; 32],
+    pub places: [Entry; WRAP_KEYS],
     pub count: usize,
 }
 
@@ -37,16 +40,17 @@ fn blank() -> Entry
     }
 }
 
-// The entry whose attribute's value stands from a to e.
-fn entry(k: &[u8], a: usize, e: usize) -> Entry
-    requires { ⌜ (a + 8 ≤ e) × (e ≤ length (now k)) ⌝ }
-    ensures { λ r. ⌜ IsEntry (now (k .entry)) r (wrapKeyOf (part (now (k .entry)) a e)) ⌝ }
+// The entry whose attribute has this value, which ends at e.
+fn entry(v: &[u8], e: usize) -> Entry
+    requires { ⌜ (8 ≤ length (now v)) × (length (now v) ≤ e) ⌝ }
+    ensures { λ r. ⌜ ((k : List ℕ) → e ≤ length k → now (v .entry) ≡ part k (e - length (now (v .entry))) e
+        → IsEntry k r (wrapKeyOf (now (v .entry)))) ⌝ }
 {
-    let v = &k[a..e];
+    let wrapped = v.len() - 8;
     Entry {
         id: octets::numbers::be32_at(v, 0),
         kwk: octets::numbers::be32_at(v, 4),
-        start: a + 8,
+        start: e - wrapped,
         end: e,
     }
 }
@@ -55,7 +59,7 @@ fn entry(k: &[u8], a: usize, e: usize) -> Entry
 fn with_bag(k: &[u8], a: usize, e: usize, list: Listing) -> Listing
     requires { ⌜ (a ≤ e) × (e ≤ length (now k)) ⌝ }
     requires { ⌜ isWhole (attributes MemberBag 0 (part (now k) a e)) ≡ true ⌝ }
-    requires { ⌜ list .count + length (bagKeys (part (now k) a e)) ≤ 32 ⌝ }
+    requires { ⌜ list .count + length (bagKeys (part (now k) a e)) ≤ limits .wrapKeys ⌝ }
     ensures { λ r. ⌜ ((l : List WrapKey) → Lists (now (k .entry)) (list .places) (list .count) l →
         Lists (now (k .entry)) (r .places) (r .count) (l ++ bagKeys (part (now (k .entry)) a e))) ⌝ }
 {
@@ -64,9 +68,9 @@ fn with_bag(k: &[u8], a: usize, e: usize, list: Listing) -> Listing
     let mut n = list.count;
     let mut at: usize = 0;
     loop {
-        match next_of(Meaning::WrapKey, Place::MemberBag, s, at) {
+        match next_attribute(Meaning::WrapKey, Place::MemberBag, s, at) {
             Found::At(b, d) => {
-                places[n] = entry(k, a + b, a + d);
+                places[n] = entry(attribute_value(s, b), a + d);
                 n = n + 1;
                 at = d;
             }
@@ -80,11 +84,11 @@ fn with_bag(k: &[u8], a: usize, e: usize, list: Listing) -> Listing
 // The WRAP_KEYs of a KD body, in its order. Internal.
 pub fn entries(k: &[u8]) -> Listing
     requires { ⌜ isWhole (bags 0 (now k)) ≡ true ⌝ }
-    requires { ⌜ length (wrapKeysIn (now k)) ≤ 32 ⌝ }
+    requires { ⌜ length (wrapKeysIn (now k)) ≤ limits .wrapKeys ⌝ }
     ensures { λ r. ⌜ Lists (now (k .entry)) (r .places) (r .count) (wrapKeysIn (now (k .entry))) ⌝ }
 {
     let mut list = Listing {
-        places: [blank(); 32],
+        places: [blank(); WRAP_KEYS],
         count: 0,
     };
     let mut at: usize = 0;
