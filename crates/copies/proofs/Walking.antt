@@ -29,11 +29,12 @@ use Rattle.copies.specs.inner.Answer.{copiesIn}
 use Rattle.copies.specs.inner.Named.{named, NamedAt}
 
 -- ---- a SA_KEY has at least 24 octets, where the layout is whole
-size-by : (m : Meaning) (short : Bool) (n : ℕ) → codeOf m ≡ 4 → formed m short n ≡ true → 24 ≤ n
+size-by : (m : Meaning) (short : Bool) (n : ℕ) → codeOf m ≡ 5 → formed m short n ≡ true → 24 ≤ n
 size-by meaning.Skipped short n e f = absurd (omega arith)
 size-by meaning.KeyLength short n e f = absurd (omega arith)
 size-by meaning.InitialMessageId short n e f = absurd (omega arith)
 size-by meaning.DeactivationDelay short n e f = absurd (omega arith)
+size-by meaning.KeyLifetime short n e f = absurd (omega arith)
 size-by meaning.SaKey short n e f =
     leb-true 24 n (both-true (leb 24 n) _ (both-true (not short) (wrappedSize n) f .1) .0)
 size-by meaning.WrapKey short n e f = absurd (omega arith)
@@ -53,7 +54,7 @@ module _ (p : Place) where
       let q : a .value ∷ valuesOf meaning.SaKey p l ≡ v ∷ rest = rw g at e in
       let h = heads (a .value) v (valuesOf meaning.SaKey p l) rest q in
       subst (λ (x : List ℕ). 24 ≤ length x) h
-      (size-by (meaningOf p (a .kind)) (a .short) (length (a .value)) (eqb-true (codeOf (meaningOf p (a .kind))) 4 g) (i .formed)))
+      (size-by (meaningOf p (a .kind)) (a .short) (length (a .value)) (eqb-true (codeOf (meaningOf p (a .kind))) 5 g) (i .formed)))
       (λ g. f v rest (rw g at e))
 
   row-size : (s : List ℕ) (l : List Attribute) → Row (IsAttribute p) s l → sized-first l
