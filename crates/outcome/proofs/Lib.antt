@@ -32,7 +32,7 @@ pub mod OwnKey
 pub mod AtTick
 pub mod RunsLive
 pub mod RunsReplay
-pub mod NeverDue
+pub mod RanOut
 pub mod KeyZero
 pub mod Demand3
 pub mod Stands

@@ -153,7 +153,12 @@ fn seven(out: &mut [u8], n: usize, x: Seven) -> usize {
         x.spis,
         b"  7: more deleted SPIs than a member takes\n",
     );
-    let e = clause(out, d, x.long, b"  7: lifetime of more than 2000000 seconds\n");
+    let e = clause(
+        out,
+        d,
+        x.long,
+        b"  7: lifetime of more than 2000000 seconds\n",
+    );
     clause(out, e, x.sas, b"  7: more SAs than an empty table takes\n")
 }
 
