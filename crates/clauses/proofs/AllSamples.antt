@@ -53,7 +53,7 @@ Answered l = AnsweredWithin limits l
 -- the places of those that apply, in a list of clauses counted from n
 unfoldable pub placesFrom : ℕ → List Bool → List ℕ
 placesFrom n [] = []
-placesFrom n (b ∷ l) = cond b (n ∷ placesFrom (n + 1) l) (placesFrom (n + 1) l)
+placesFrom n (b ∷ l) = cond b (n ∷ []) [] ++ placesFrom (n + 1) l
 
 abbrev clausesMet : Number → List ℕ
 clausesMet n = placesFrom 0 (n .ofFrame ++ n .ofMember)
@@ -118,8 +118,8 @@ unfolding refusal judged one any all count keep heads rising newState stateForme
     gather sum exactly multicast nonEmptyMember otherSpis notAcceptable oneGroupAddress encryptionFits keyWrapFits sequenceNumbersFit
     authenticationFits transformsFit criticalUnknown barredMemberBag barredDelete twoGsa twoKd gsaWithoutKd kdWithoutGsa neither
     severalRekeyPolicies severalGroupWide severalMemberBags gsaWithoutSaPolicy keyLengthTwice initialMessageIdTwice delayTwice
-    otherDestination lifetimeTwice four-ofFrame ahPolicy ahBag otherTransforms deleteOfOther deleteOfNone lentKeySize five-ofFrame policyUnpaired
-    bagUnpaired policyTwice bagTwice alreadyInTable otherSaKeyCount saKeyCount saKeyId espKwkId wrapKeyId wrapsItself six-ofFrame
+    otherDestination lifetimeTwice four-ofFrame ahPolicy ahBag otherTransforms deleteOfOther deleteOfNone lentKeySize five-ofFrame
+    policyUnpaired bagUnpaired policyTwice bagTwice alreadyInTable otherSaKeyCount saKeyCount saKeyId espKwkId wrapKeyId wrapsItself six-ofFrame
     six-ofMember manyEspPolicies manyWrapKeys manySaKeys manyDeletedSpis longLifetime manySas seven-ofFrame seven-ofMember placesFrom
 samples-answered =
     record {

@@ -1,4 +1,5 @@
--- WHAT A QUESTION FINDS after an accepted frame: "the keying octets and condition of the SA with a given protocol and SPI".
+-- WHAT A QUESTION FINDS after an accepted frame: "the keying octets and condition of the SA with a given protocol and SPI"; "the question
+-- about an SA gives them too", its lifetime and the tick of its start (document 02, T-07).
 use native.Mathlib.Omega.{arith}
 use Prim.Native.Nat.{ℕ, _+_, _-_, _≤_}
 use mathlib.Core.Path.{_≡_, refl, ap, sym, _∙_, subst}
@@ -18,7 +19,6 @@ use Rattle.frames.specs.Frame.{Frame}
 use Rattle.frames.specs.Grammar.{IsFrame}
 use Rattle.sa.specs.Entry.{spiOf, named, mostSeconds, espSa, rekeySa}
 use Rattle.sa.specs.declared.entry.Condition.the-variants.{Live}
-use Rattle.sa.specs.declared.entry.Lifetime.{Lifetime}
 use Rattle.sa.specs.declared.entry.Lifetime.the-variants.{Unlimited, Limited}
 use Rattle.sa.specs.declared.entry.Sa.{Sa}
 use Rattle.table.specs.Table.{tableFormed, sasOf}
@@ -34,6 +34,7 @@ use Rattle.outcome.specs.Roots.{needOf}
 use Rattle.outcome.specs.After.{lifetimeFrom, saFrom}
 use Rattle.outcome.specs.Outcome.{Outcome}
 use Rattle.outcome.specs.NamedKey.{OpensUnder}
+use Rattle.outcome.specs.LifetimeSays.{LifetimeAs, its-seconds, no-lifetime}
 use Rattle.outcome.proofs.Demands.{each-stands}
 use Rattle.outcome.proofs.RunsClear.{taken}
 use Rattle.outcome.proofs.RunsAccepted.{kinds, lasts}
@@ -55,11 +56,6 @@ few-seconds n g = by (ltb mostSeconds n) refl g
     by : (b : Bool) → ltb mostSeconds n ≡ b → b || false ≡ false → n ≤ 2000000
     by true e f = absurd (false≢true (sym f))
     by false e f = let k = ltb-false mostSeconds n e in omega arith
-
--- "its lifetime .. and the tick of its start, or "no lifetime" if the attribute is missing" (document 02, T-07)
-pub data LifetimeAs (now : ℕ) (p : GroupSaPolicy) : Lifetime → Type 0 where
-  its-seconds : (n : ℕ) → p .keyLifetimes ≡ n ∷ [] → n ≤ 2000000 → LifetimeAs now p (Limited now n)
-  no-lifetime : p .keyLifetimes ≡ [] → LifetimeAs now p Unlimited
 
 lifetime-as : (now : ℕ) (p : GroupSaPolicy) → Lasts p → LifetimeAs now p (lifetimeFrom now (p .keyLifetimes))
 lifetime-as now p h = go (p .keyLifetimes) refl (h .0) (h .1)
@@ -109,7 +105,7 @@ module _ (now : ℕ) (a : GroupSaPolicy) (x : List ℕ) (n : length x ≡ needOf
 module _ (limits : Limits) (enough : limits .wrapKeys ≤ limits .heldKeys) (s : State) (now : ℕ) (lent octets : List ℕ) (f : Frame)
     (e : IsFrame octets f) (next : State) (o : Outcome limits s now lent octets 0 next) where
   -- the question about an announced SA's protocol and SPI finds an SA with the octets that every copy of its key opens to, as many as its
-  -- policy needs, live, and a Rekey SA with the octet counts of its policy's two parts
+  -- policy needs, live, with its policy's lifetime from the frame's tick on, and a Rekey SA with the octet counts of its policy's two parts
   pub record Found (p : GroupSaPolicy) : Type 0 where
     pub keying : List ℕ
     pub opens : OpensUnder limits s now lent f p keying

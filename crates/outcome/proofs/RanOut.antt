@@ -1,9 +1,9 @@
 -- Document 02, T-07: "A rekey over a Rekey SA that is due at its tick, swept or not, gives 2."
-use Prim.Native.Nat.{ℕ, _≤_}
+use Prim.Native.Nat.{ℕ}
 use mathlib.Core.Path.{_≡_, refl, ap, sym, _∙_, subst}
 use mathlib.Core.Bool.{Bool, true, false, not, _||_, false≢true}
 use mathlib.Core.Logic.{inl}
-use mathlib.Core.List.{List, [], List·Memᴰ}
+use mathlib.Core.List.{List, List·Memᴰ}
 use borrow.Author.Tests.{not-true}
 use Rattle.keys.specs.Limits.{Limits, limits}
 use Rattle.keys.specs.Lists.{any}
@@ -12,8 +12,7 @@ use Rattle.keys.proofs.Members.{kept-member}
 use Rattle.frames.specs.Frame.{Frame}
 use Rattle.frames.specs.Grammar.{IsFrame}
 use Rattle.frames.specs.Exchange.{exchangeOf}
-use Rattle.sa.specs.Entry.{formed, liveRekey, due}
-use Rattle.sa.specs.declared.entry.Lifetime.the-variants.{Limited}
+use Rattle.sa.specs.Entry.{formed, due}
 use Rattle.sa.proofs.Lifetimes.{formed-lifetime}
 use Rattle.sa.specs.declared.entry.Sa.{Sa}
 use Rattle.table.specs.declared.Found.{Found}
@@ -29,6 +28,7 @@ use Rattle.clauses.specs.Refusals.{one, two}
 use Rattle.chains.specs.Chain.{In}
 use Rattle.chains.proofs.Members.{in-member}
 use Rattle.outcome.specs.Outcome.{Outcome, by-tree, refused}
+use Rattle.outcome.specs.LifetimeSays.{LifetimesFit}
 use Rattle.outcome.specs.Run.{Step, Run, ends, goes, Throughout}
 use Rattle.outcome.proofs.RunsLists.{all-pass, passes-none}
 use Rattle.outcome.proofs.Runs.{members-formed}
@@ -117,9 +117,6 @@ module _ (limits : Limits) (now : ℕ) (lent octets : List ℕ) (f : Frame) (e :
         (λ g. subst (λ (t : State). Outcome limits t now lent octets 2 t) (swept-no limits s now g) (broken s g))
 
 -- ---- in every member of a run from the new one lifetimes are of "at most 2,000,000 seconds"
-abbrev pub LifetimesFit : State → Type 0
-LifetimesFit m = (a : Sa) → In a (sasOf (m .table)) → (start n : ℕ) → a .lifetime ≡ Limited start n → n ≤ 2000000
-
 formed-fits : (m : State) → stateFormed limits m ≡ true → LifetimesFit m
 unfolding stateFormed
 formed-fits m e a i start n q =

@@ -114,11 +114,7 @@ module _ (limits : Limits) where
   run-barred i (ends s) q b = b
   run-barred i (goes s {m} {e} {x = y} t r) q b = run-barred i r (q .1) (takes-barred i s y m t (q .0) b)
 
-  -- the first and the last state of a run
-  pub first-of : (P : State → Type 0) {s e : State} {l : List Step} (r : Run limits s l e) → Throughout limits P r → P s
-  first-of P (ends s) t = t
-  first-of P (goes s t r) u = u .0
-
+  -- the last state of a run
   pub last-of : (P : State → Type 0) {s e : State} {l : List Step} (r : Run limits s l e) → Throughout limits P r → P e
   last-of P (ends s) t = t
   last-of P (goes s t r) u = last-of P r (u .1)

@@ -9,5 +9,6 @@ pub mod EightSays
 pub mod WrapsItself
 pub mod Meets
 pub mod RestSays
+pub mod LifetimeSays
 pub mod Demand3
 pub mod Stands

@@ -25,7 +25,7 @@ add-wides c = search needs
 returns : tie.Need-returns
 returns c =
     let g = c .before .before .before .before .before .before .before .before .before .before in
-    let y = g .before .before .before .before .before .before .before .before .before .before in
+    let y = g .before .before .before .before .before .before .before .before .before .before .before .before .before .before in
     let x = y .before in
     let a = x .before .args .a in
     let b = x .before .args .b in
