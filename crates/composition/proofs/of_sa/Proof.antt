@@ -115,7 +115,7 @@ if-so-requires c κs = search needs
 
 returns : tie.Need-returns
 returns c x spi i =
-    let k = c .before .before .before in
+    let k = c .before .before .before .before .before in
     let t = k .before .before in
     let g = t .before in
     let m = g .before .before in

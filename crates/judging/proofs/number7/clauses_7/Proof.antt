@@ -10,7 +10,7 @@ is-over-requires c κs = search needs
 
 returns : tie.Need-returns
 returns c =
-    let a = c .before .before .before .before .before .before .before .before .before .args in
+    let a = c .before .before .before .before .before .before .before .before .args in
     let x = a .x in
     λ i. ltb (limits .espPolicies) (x .policies .esps) ∷ ltb (limits .wrapKeys) (x .bags .wraps) ∷ x .bags .overfull
     ∷ ltb (limits .deletedSpis) (x .payloads .deletion .spis) ∷ x .policies .long ∷ c .is-over .ensures i ∷ []
