@@ -12,7 +12,7 @@ use Rattle.keywrap.specs.Wrap.{wrapOf}
 use Rattle.keys.specs.Limits.{limits}
 use Rattle.attributes.specs.Tree.{WrapKey}
 use Rattle.frames.specs.Grammar.{IsFrame}
-use Rattle.sa.specs.Entry.{withCondition}
+use Rattle.sa.specs.Entry.{rekeySa, withCondition}
 use Rattle.sa.specs.declared.entry.Condition.the-variants.{Retiring}
 use Rattle.sa.specs.declared.entry.Lifetime.the-variants.{Unlimited}
 use Rattle.sa.specs.declared.entry.Sa.{Sa}
