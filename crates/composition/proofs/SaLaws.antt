@@ -57,14 +57,16 @@ module _ (protocol : ℕ) (o : List ℕ) (x : SaBody) (r : SaParts) (f : SaParts
     counted l = λ i. record { count = sym (length-map l four) i; greatest = greatest (map four l) }
 
     ids-are : (n : Numbers) → Numbered meaning.InitialMessageId n → n ≡ fours (values meaning.InitialMessageId)
-    ids-are n nq = nq ∙ ap (numbersBy meaning.InitialMessageId) (values-are meaning.InitialMessageId)
+    ids-are n nq =
+        nq ∙ ap (numbersBy meaning.InitialMessageId) (values-are meaning.InitialMessageId)
         ∙ counted (values meaning.InitialMessageId)
 
-    lifetimes-are : (n : Numbers) → Numbered meaning.KeyLifetime n → n ≡ fours (values meaning.KeyLifetime)
+    pub lifetimes-are : (n : Numbers) → Numbered meaning.KeyLifetime n → n ≡ fours (values meaning.KeyLifetime)
     lifetimes-are n nq = nq ∙ ap (numbersBy meaning.KeyLifetime) (values-are meaning.KeyLifetime) ∙ counted (values meaning.KeyLifetime)
 
     pub of-sa-is : (a : Bool) (spi : List ℕ) (u : Suite) → u ≡ suiteOf (x .suite .transforms)
-        → (n : Numbers) → Numbered meaning.InitialMessageId n → (m : Numbers) → Numbered meaning.KeyLifetime m → (g : Bool) → g ≡ oneGroupAddress (x .destination) → (t : Bool) → t ≡ fitBy a protocol u
+        → (n : Numbers) → Numbered meaning.InitialMessageId n → (m : Numbers) → Numbered meaning.KeyLifetime m
+        → (g : Bool) → g ≡ oneGroupAddress (x .destination) → (t : Bool) → t ≡ fitBy a protocol u
         → (e k : ℕ) → e ≡ once (eqb protocol 3) → k ≡ once (eqb protocol 6) → (h : ℕ) → h ≡ cond (eqb protocol 6) (n .greatest) 0
         → _≡_ {A = PolicyFacts} (record {
           sas = 1;

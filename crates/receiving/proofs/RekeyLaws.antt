@@ -82,7 +82,7 @@ module _ {m : State} {now : ℕ} {lent s : List ℕ} {x : Facts} {g k : List ℕ
 
     pub rekey-opened : (keyed : Keyed) →
         ((roots : List Root) (entries : List WrapKey) (size : ℕ) → Agrees roots entries size zero (m .held) →
-        KeyedBy roots entries size f keyed) → Opened m now lent s x keyed (m .held) f
+        KeyedBy roots entries size f now keyed) → Opened m now lent s x keyed (m .held) f
     rekey-opened keyed by =
         let n = wrappingSize limits m now lent f in
         record {
