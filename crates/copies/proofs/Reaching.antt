@@ -56,20 +56,21 @@ all-at p (a ∷ l) zero d e h = and-parts (p a) (all p l) e .0
 all-at p (a ∷ l) (suc i) d e h = all-at p l i d (and-parts (p a) (all p l) e .1) (omega arith)
 
 module _ (h : Held) (e : heldFormed limits h ≡ true) where
-  abbrev rest : Bool
-  rest = all keyFormed (keysOf h) && rising idBefore (keysOf h)
+  abbrev keys-are : Bool
+  keys-are = all keyFormed (keysOf h) && rising idBefore (keysOf h)
+
+  parts : (leb (h .count) (limits .heldKeys) ≡ true) × (keys-are ≡ true)
+  unfolding heldFormed
+  parts = and-parts (leb (h .count) (limits .heldKeys)) keys-are e
 
   pub held-within : h .count ≤ limits .heldKeys
-  unfolding heldFormed
-  held-within = leb-true (h .count) (limits .heldKeys) (and-parts (leb (h .count) (limits .heldKeys)) rest e .0)
+  held-within = leb-true (h .count) (limits .heldKeys) (parts .0)
 
   pub held-formed : all keyFormed (keysOf h) ≡ true
-  unfolding heldFormed
-  held-formed = and-parts (all keyFormed (keysOf h)) (rising idBefore (keysOf h)) (and-parts (leb (h .count) (limits .heldKeys)) rest e .1) .0
+  held-formed = and-parts (all keyFormed (keysOf h)) (rising idBefore (keysOf h)) (parts .1) .0
 
   pub held-rises : rising idBefore (keysOf h) ≡ true
-  unfolding heldFormed
-  held-rises = and-parts (all keyFormed (keysOf h)) (rising idBefore (keysOf h)) (and-parts (leb (h .count) (limits .heldKeys)) rest e .1) .1
+  held-rises = and-parts (all keyFormed (keysOf h)) (rising idBefore (keysOf h)) (parts .1) .1
 
   pub held-size : length (h .keys) ≡ limits .heldKeys → (i : ℕ) (d : HeldKey) → i < h .count →
       sizeOf 13 (getD (h .keys) i d .key .count) ≡ true

@@ -9,10 +9,11 @@ use answer::Opened;
 use answer::joined;
 use answer::nothing;
 use answer::opened_to;
+use attributes::attribute_value;
 use attributes::tables::Meaning;
 use attributes::tables::Place;
 use contents::values::Found;
-use contents::values::next_of;
+use contents::values::next_attribute;
 use lending::key_named;
 use octets::numbers::be32_at;
 ghost use mathlib.Core.Path.{_≡_};
@@ -84,9 +85,10 @@ pub fn copies(
     let mut known = nothing();
     let mut at = 0;
     loop {
-        match next_of(Meaning::SaKey, place, a, at) {
+        match next_attribute(Meaning::SaKey, place, a, at) {
             Found::At(start, end) => {
-                let one = tried(&a[start..end], need, tables, schedule, ids, block);
+                let copy = attribute_value(a, start);
+                let one = tried(copy, need, tables, schedule, ids, block);
                 known = joined(known, one);
                 at = end;
             }

@@ -1,22 +1,23 @@
 -- `copies::copies` meets its contract: the invariant is what is known of the copies passed.
 use denote.Ref.{now}
 use native.Mathlib.Omega.{arith}
-use Prim.Native.Nat.{ℕ, _+_, _-_, _≤_}
-use mathlib.Core.Path.{_≡_, subst}
+use Prim.Native.Nat.{ℕ, _-_, _≤_}
+use mathlib.Core.Path.{_≡_, _∙_, subst}
 use mathlib.Core.Bool.{true}
 use mathlib.Core.List.{List}
 use lib.ListN.{length, drop}
-use Rattle.octets.proofs.Walks.{part-length}
+use Rattle.octets.specs.Walk.{part}
+use Rattle.attributes.specs.Answers.{valueStart}
 use Rattle.aes.specs.inner.Schedule.{ExpandsInverse}
 use Rattle.attributes.specs.Layout.{attributes}
 use Rattle.attributes.specs.declared.tables.Meaning.the-variants as meaning
-use Rattle.contents.specs.inner.Values.{isWhole, FoundAt, Finds}
+use Rattle.contents.specs.inner.Values.{isWhole, MetAt, Meets}
 use Rattle.keys.specs.Kinds.{valueOf}
 use Rattle.state.specs.declared.held.Held.{Held}
 use Rattle.copies.specs.inner.Answer.{copiesIn}
 use Rattle.copies.specs.inner.Lending.{LendsHeld}
 use Rattle.copies.specs.inner.Named.{triesOf}
-use Rattle.copies.proofs.Walking.{next-size, next-tries, no-tries}
+use Rattle.copies.proofs.Walking.{ids-inside, next-tries, no-tries}
 use Rattle.copies.proofs.Progress.{Progress, starts, goes-on, ends}
 use Rattle.copies.proofs.Reaching.{answers}
 use borrow.Author.Needs.{needs}
@@ -44,8 +45,8 @@ loop-holds c =
       λ v held x lends. starts (a .need) (triesOf v held (copiesIn (a .place) (now (a .a)))) (c .nothing .result) (c .nothing .ensures),
     )
 
-next-of-requires : tie.Need-next-of-requires Inv-loop μ-loop
-next-of-requires c κs = (c .loop .inv .0, c .loop .inv .1)
+next-attribute-requires : tie.Need-next-attribute-requires Inv-loop μ-loop
+next-attribute-requires c κs = (c .loop .inv .0, c .loop .inv .1)
 
 enum-known-start : tie.Need-enum-known-start Inv-loop μ-loop
 enum-known-start c = search needs
@@ -54,55 +55,40 @@ enum-known-start c = search needs
 next : (c : tie.After-known-told Inv-loop μ-loop) →
     let a = c .before .before .before .before .before .before .before .before .before .args in
     let p = c .before .start .given .0 in
-    FoundAt meaning.SaKey (a .place) (now (a .a)) (c .before .before .before .before .loop .at) (p .0) (p .1 .0)
+    MetAt meaning.SaKey (a .place) (now (a .a)) (c .before .before .before .before .loop .at) (p .0) (p .1 .0)
 next c =
     let a = c .before .before .before .before .before .before .before .before .before .args in
-    subst (Finds meaning.SaKey (a .place) (now (a .a)) (c .before .before .before .before .loop .at)) (c .before .start .given .1)
-    (c .before .before .before .next-of .ensures)
+    subst (Meets meaning.SaKey (a .place) (now (a .a)) (c .before .before .before .before .loop .at)) (c .before .start .given .1)
+    (c .before .before .before .next-attribute .ensures)
 
-room : (c : tie.After-known-told Inv-loop μ-loop) →
-    let p = c .before .start .given .0 in
-    (p .0 + 24 ≤ p .1 .0) × (p .1 .0 ≤ length (now (c .before .before .before .before .before .before .before .before .before .args .a)))
-room c =
-    let a = c .before .before .before .before .before .before .before .before .before .args in
-    let p = c .before .start .given .0 in
-    let l = c .before .before .before .before .loop in
-    (next-size (a .place) (now (a .a)) (l .at) (p .0) (p .1 .0) (l .inv .1) (next c), next c .inside)
+attribute-value-requires : tie.Need-attribute-value-requires Inv-loop μ-loop
+attribute-value-requires c κs = search needs
 
-sub-tried : tie.Need-sub-tried Inv-loop μ-loop
-sub-tried c = let r = room c in omega (arith, r .0, r .1)
-
-part-tried-start : tie.Need-part-tried-start Inv-loop μ-loop
-part-tried-start c = let r = room c in omega (arith, r .0, r .1)
-
-part-tried-end : tie.Need-part-tried-end Inv-loop μ-loop
-part-tried-end c = let r = room c in omega (arith, r .0, r .1)
+-- its octets
+octets-are : (c : tie.After-attribute-value Inv-loop μ-loop) →
+    let a = c .before .before .before .before .before .before .before .before .before .before .args in
+    let p = c .before .before .start .given .0 in
+    now (c .attribute-value .result) ≡ part (now (a .a)) (valueStart (now (a .a)) (p .0)) (p .1 .0)
+octets-are c = c .attribute-value .ensures .0 ∙ next (c .before) .octets
 
 tried-requires : tie.Need-tried-requires Inv-loop μ-loop
 tried-requires c κs =
     let t = c .before in
-    let p = t .before .start .given .0 in
-    let f = next t in
-    let r = room t in
     let s = t .before .before .before .before .before .before .before .before .before in
-    let n = part-length (now (s .args .a)) (p .0) (p .1 .0) (f .order) (f .inside) in
-    ((omega (arith, r .0), s .pre .1 .0), s .pre .1 .1)
+    let a = s .args in
+    ((ids-inside (a .place) (now (a .a)) _ _ _ (next t .value) _ (octets-are c), s .pre .1 .0), s .pre .1 .1)
 
 joined-requires : tie.Need-joined-requires Inv-loop μ-loop
 joined-requires c κs = search needs
 
 loop-less : tie.Need-loop-less Inv-loop μ-loop
-loop-less c =
-    let t = c .before .before .before in
-    let f = next t in
-    let r = room t in
-    omega (arith, f .start, r .0, r .1)
+loop-less c = let f = next (c .before .before .before) .value in omega (arith, f .start, f .order, f .inside)
 
 loop-again : tie.Need-loop-again Inv-loop μ-loop
 loop-again c =
-    let t = c .before .before .before in
-    let f = next t in
-    let p = t .before .start .given .0 in
+    let w = c .before .before in
+    let t = w .before in
+    let f = next t .value in
     let l = t .before .before .before .before .loop in
     let a = t .before .before .before .before .before .before .before .before .before .args in
     let s = now (a .a) in (
@@ -110,9 +96,8 @@ loop-again c =
       f .rest,
       λ v held x lends.
           goes-on (a .need) (triesOf v held (copiesIn (a .place) s)) _ _ _ (l .known) (c .before .tried .result) (c .joined .result)
-          (next-tries (a .place) s (l .at) (p .0) (p .1 .0) (l .inv .1) f v held) (l .inv .2 v held x lends)
-          (c .before .tried .ensures v held x lends)
-          (c .joined .ensures),
+          (next-tries (a .place) s (l .at) _ _ f _ (octets-are w) v held) (l .inv .2 v held x lends)
+          (c .before .tried .ensures v held x lends) (c .joined .ensures),
     )
 
 enum-told : tie.Need-enum-told Inv-loop μ-loop
@@ -124,9 +109,9 @@ returns c roots entries size zero held x lends agrees =
     let a = c .before .before .before .before .before .before .before .before .args in
     let s = now (a .a) in
     let v = valueOf zero in
-    let f = subst (Finds meaning.SaKey (a .place) s (l .at)) (c .enum-told .given .1) (c .before .before .next-of .ensures) in
+    let f = subst (Meets meaning.SaKey (a .place) s (l .at)) (c .enum-told .given .1) (c .before .before .next-attribute .ensures) in
     answers zero held (lends .formed) (copiesIn (a .place) s) roots entries size agrees (a .need) (l .known)
-    (ends (a .need) (triesOf v held (copiesIn (a .place) s)) _ (l .known) (no-tries (a .place) s (l .at) v held f)
+    (ends (a .need) (triesOf v held (copiesIn (a .place) s)) _ (l .known) (no-tries (a .place) s (l .at) v held (f .0))
     (l .inv .2 v held x lends))
 
 pub copies-spec : {M : Type 1} → statement M
@@ -137,11 +122,9 @@ copies-spec =
     μ-loop
     nothing-requires
     loop-holds
-    next-of-requires
+    next-attribute-requires
     enum-known-start
-    sub-tried
-    part-tried-start
-    part-tried-end
+    attribute-value-requires
     tried-requires
     joined-requires
     loop-less

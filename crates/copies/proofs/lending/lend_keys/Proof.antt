@@ -1,7 +1,7 @@
 use native.Mathlib.Omega.{arith}
-use Prim.Native.Nat.{_-_, _≤_}
-use mathlib.Core.Path.{_≡_, refl, sym}
-use lib.ListN.{length}
+use Prim.Native.Nat.{ℕ, _-_, _≤_}
+use mathlib.Core.Path.{_≡_, sym}
+use lib.ListN.{length, length-replicate}
 use Rattle.keys.specs.Limits.{limits}
 use Rattle.keys.proofs.Lists.{length-of-map}
 use Rattle.keys.proofs.Sizes.{wrapping-le}
@@ -23,7 +23,7 @@ abbrev μ-loop : tie.MeasureT-loop
 loop-holds : tie.Need-loop-holds Inv-loop μ-loop
 loop-holds c =
     let e : length (c .args .t1 .keys) ≡ limits .heldKeys = search (needs, length-of-map) in
-    (e, held-within (c .args .t1) (c .pre), omega arith, filled-none _ _ _ refl refl)
+    (e, held-within (c .args .t1) (c .pre), omega arith, filled-none _ _ _ (length-replicate {A = ℕ} _ 0) (length-replicate {A = ℕ} _ 0))
 
 mul-k : tie.Need-mul-k Inv-loop μ-loop
 mul-k c = search needs
