@@ -6,7 +6,6 @@ mod same;
 mod values;
 
 use group::Member;
-use group::receive::Answer;
 use libc::STDOUT_FILENO;
 use sa::entry::ESP;
 use sa::entry::REKEY;
@@ -75,22 +74,6 @@ fn frame() -> [u8; 40] {
     ]
 }
 
-// Document 01's number of an answer.
-fn number(a: Answer) -> u64 {
-    match a {
-        Answer::Accepted => 0,
-        Answer::BrokenLayout => 1,
-        Answer::NotForMember => 2,
-        Answer::Replayed => 3,
-        Answer::BadComposition => 4,
-        Answer::Unsupported => 5,
-        Answer::Unpaired => 6,
-        Answer::OverLimit => 7,
-        Answer::KeyConflict => 8,
-        Answer::NoKey => 9,
-    }
-}
-
 // Whether the first of two values came out unchanged.
 pub(crate) fn compared(m: Member, next: Member) {
     if same::same_members(m, next) {
@@ -106,7 +89,7 @@ fn received(m: Member) {
     let r = m.receive(&f, &lent, TICK);
     let a = r.answer;
     let next = r.member;
-    io::print_decimal(STDOUT_FILENO, number(a));
+    io::print_decimal(STDOUT_FILENO, a.number() as u64);
     print(b" ");
     compared(m, next);
 }

@@ -17,13 +17,13 @@ ghost use Rattle.frames.specs.Frame.{Frame, frame};
 ghost use Rattle.contents.specs.inner.Values.{isWhole};
 ghost use Rattle.outcome.specs.Outcome.{Judged};
 ghost use Rattle.receiving.specs.inner.Passing.{Passed, Registers, RekeysOver};
-ghost use Rattle.group.specs.Receive.{numberOf, Receives};
+ghost use Rattle.group.specs.Receive.{numberOf, figureOf, Receives};
 
 // What becomes of a frame.
 pub enum Answer {
     Accepted,
-    // the octets are not laid out as a frame
-    BrokenLayout,
+    // the octets are not laid out as a frame; the offset of the structure that broke first, 0 for the header
+    BrokenLayout(usize),
     // another exchange, a registration of a member that is not empty, a rekey over other SPIs, or a member value that breaks its list
     NotForMember,
     // a rekey whose Message ID is below the least acceptable, or none is acceptable any more
@@ -49,7 +49,7 @@ impl Answer {
     {
         match self {
             Answer::Accepted => 0,
-            Answer::BrokenLayout => 1,
+            Answer::BrokenLayout(_) => 1,
             Answer::NotForMember => 2,
             Answer::Replayed => 3,
             Answer::BadComposition => 4,
@@ -60,6 +60,24 @@ impl Answer {
             Answer::NoKey => 9,
         }
     }
+
+    // The figure that the answer carries (document 02, T-06): on number 1 the offset, else 0.
+    pub fn figure(self) -> usize
+        ensures { λ r. ⌜ r ≡ figureOf self ⌝ }
+    {
+        match self {
+            Answer::Accepted => 0,
+            Answer::BrokenLayout(at) => at,
+            Answer::NotForMember => 0,
+            Answer::Replayed => 0,
+            Answer::BadComposition => 0,
+            Answer::Unsupported => 0,
+            Answer::Unpaired => 0,
+            Answer::OverLimit => 0,
+            Answer::KeyConflict => 0,
+            Answer::NoKey => 0,
+        }
+    }
 }
 
 // The answer and the next member, on a refusal the member as it was.
@@ -68,14 +86,13 @@ pub struct Received {
     pub member: Member,
 }
 
-// The answer with this number.
+// The answer with this number, to a frame whose layout is whole.
 fn answer_of(number: usize) -> Answer
-    requires { ⌜ number ≤ 9 ⌝ }
+    requires { ⌜ (number ≤ 9) × (number ≡ 1 → ⊥) ⌝ }
     ensures { λ r. ⌜ numberOf r ≡ number ⌝ }
 {
     match number {
         0 => Answer::Accepted,
-        1 => Answer::BrokenLayout,
         2 => Answer::NotForMember,
         3 => Answer::Replayed,
         4 => Answer::BadComposition,
@@ -89,7 +106,7 @@ fn answer_of(number: usize) -> Answer
 
 // The answer with this number and the member of this state.
 fn answered(number: usize, state: State) -> Received
-    requires { ⌜ number ≤ 9 ⌝ }
+    requires { ⌜ (number ≤ 9) × (number ≡ 1 → ⊥) ⌝ }
     ensures { λ r. ⌜ (numberOf (r .answer) ≡ number) × (r .member .state ≡ state) ⌝ }
 {
     let answer = answer_of(number);
@@ -98,12 +115,10 @@ fn answered(number: usize, state: State) -> Received
 }
 
 impl Member {
-    // A refusal: its number and the member as it was.
-    fn refused(self, number: usize) -> Received
-        requires { ⌜ number ≤ 9 ⌝ }
-        ensures { λ r. ⌜ (numberOf (r .answer) ≡ number) × (r .member ≡ self) ⌝ }
+    // A refusal: its answer and the member as it was.
+    fn refused(self, answer: Answer) -> Received
+        ensures { λ r. ⌜ (r .answer ≡ answer) × (r .member ≡ self) ⌝ }
     {
-        let answer = answer_of(number);
         Received {
             answer,
             member: self,
@@ -154,7 +169,10 @@ impl Member {
     {
         let state = self.state;
         match judging::refusal::refusal(state, s, lent, tick) {
-            Verdict::Refused(number) => self.refused(number),
+            Verdict::Refused(number) => {
+                let answer = answer_of(number);
+                self.refused(answer)
+            }
             Verdict::Passed(x) => self.passed(s, x, lent, tick),
         }
     }
@@ -166,7 +184,7 @@ impl Member {
     {
         match frames::frame_layout(frame) {
             Layout::Whole => self.judged(frame, lent, tick),
-            Layout::Broken(_) => self.refused(1),
+            Layout::Broken(at) => self.refused(Answer::BrokenLayout(at)),
         }
     }
 }

@@ -226,6 +226,9 @@ pub fn later_line(line: &[u8], room: &mut [u8]) -> Request
     Request::Bad
 }
 
+// Octets enough for the text of any answer: four numbers of at most 20 digits, with a mark behind each.
+pub const REPLY_ROOM: usize = 84;
+
 // A number in decimal, into lent room from a place on; the place behind it. Internal.
 pub fn put_number(room: &mut [u8], at: usize, n: usize) -> usize
     ensures { λ r. ⌜ Put (now (room .entry)) at (decimal n) (now (room .exit)) r ⌝ }
@@ -245,12 +248,23 @@ fn put_field(room: &mut [u8], at: usize, n: usize, mark: u8) -> usize
     put(room, last, mark)
 }
 
-// The text of an answer, into lent room from a place on; the place behind it. Internal.
-pub fn put_answer(room: &mut [u8], at: usize, number: usize, sas: usize, held: usize) -> usize
-    ensures { λ r. ⌜ Put (now (room .entry)) at (answerText number sas held) (now (room .exit)) r ⌝ }
+// The text of an answer, into lent room from a place on; the place behind it. On number 1 the figure is its fourth number. Internal.
+pub fn put_answer(
+    room: &mut [u8],
+    at: usize,
+    number: usize,
+    sas: usize,
+    held: usize,
+    figure: usize,
+) -> usize
+    ensures { λ r. ⌜ Put (now (room .entry)) at (answerText number sas held figure) (now (room .exit)) r ⌝ }
 {
     let second = put_field(room, at, number, 32);
     let third = put_field(room, second, sas, 32);
+    if number == 1 {
+        let fourth = put_field(room, third, held, 32);
+        return put_field(room, fourth, figure, 10);
+    }
     put_field(room, third, held, 10)
 }
 
