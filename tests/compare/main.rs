@@ -9,6 +9,7 @@
 mod calls;
 mod case;
 mod damage;
+mod limits;
 mod programs;
 mod scene;
 mod script;
@@ -141,9 +142,11 @@ fn print(program: &Program, tally: &Tally, arguments: &Arguments, taken: Duratio
         program.path.display()
     );
     println!("compare: answers {}", answers.join(", "));
-    if !tally.calls.is_empty() {
-        let calls: Vec<String> = tally.calls.iter().map(|(call, count)| format!("{call}: {count}")).collect();
-        println!("compare: calls {}", calls.join(", "));
+    for (what, counts) in [("calls", &tally.calls), ("accepted frames that leave or use", &tally.limits)] {
+        if !counts.is_empty() {
+            let counts: Vec<String> = counts.iter().map(|(name, count)| format!("{name}: {count}")).collect();
+            println!("compare: {what} {}", counts.join(", "));
+        }
     }
     println!(
         "compare: {} violations alone, {} pairs of them ({} different ones, {} gave the lower number)",
@@ -177,10 +180,12 @@ fn verdict(tally: &Tally, kind: Kind, count: u64) -> Result<(), String> {
     if let Some(call) = calls::ALL.iter().find(|call| kind == Kind::Trace && !tally.calls.contains_key(*call)) {
         return Err(format!("never occurred: {call}"));
     }
-    let mut missing =
-        violations::all().chain(violations::allowed::TABLE).filter(|violation| !tally.alone.contains_key(violation.name));
-    match missing.next() {
-        Some(violation) if count >= ENOUGH => Err(format!("never occurred alone: {}", violation.name)),
+    let violations = violations::all().chain(violations::allowed::TABLE).map(|violation| violation.name);
+    let mut missing = violations.filter(|name| !tally.alone.contains_key(name));
+    let mut unmet = limits::MET.into_iter().filter(|limit| !tally.limits.contains_key(limit));
+    match (missing.next(), unmet.next()) {
+        (Some(name), _) if count >= ENOUGH => Err(format!("never occurred alone: {name}")),
+        (_, Some(limit)) if count >= ENOUGH => Err(format!("never occurred: {limit}")),
         _ => Ok(()),
     }
 }

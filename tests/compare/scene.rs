@@ -1,11 +1,12 @@
 //! Frames that the member will accept, made from the state it is in.
 
 use crate::case::Case;
+use crate::limits::{Sizes, MOST_DELETED};
 use builder::rng::Rng;
 use builder::typical::*;
 use builder::wrapping::wrap;
 use builder::{Attribute, Part, ESP, REKEY};
-use reference::member::{Condition, Member, MOST_SAS};
+use reference::member::{Condition, Member};
 
 /// The member, the clock and the lent key at a place of a script.
 pub struct Scene {
@@ -13,6 +14,7 @@ pub struct Scene {
     pub lent: Vec<u8>,
     pub member: Member,
     pub tick: u32,
+    pub sizes: Sizes,
 }
 
 /// What a frame is to have.
@@ -35,16 +37,16 @@ impl Scene {
     }
 
     pub fn any_shape(&mut self) -> Shape {
-        let keys = self.rng.pick(&[0, 1, 2, 5, 12, 20, 32]);
-        let further = self.rng.below(33 - keys);
-        let esp = self.rng.pick(&[0, 1, 2, 3, 8]);
+        let keys = self.rng.pick(self.sizes.keys);
+        let further = self.rng.below(self.sizes.entries + 1 - keys);
+        let esp = self.rng.pick(self.sizes.esp);
         Shape {
             rekey: self.rng.chance(40) || esp == 0,
             esp,
             group_wide: self.rng.chance(60),
             keys,
             further,
-            deletes: self.rng.chance(50),
+            deletes: self.rng.chance(self.sizes.deletes),
         }
     }
 
@@ -66,7 +68,7 @@ impl Scene {
         let sa = self.member.live_rekey()?.clone();
         let message_id = self.member.least_id?;
         let mut case = self.case(GSA_REKEY, &sa.spi, message_id, sa.default_key().to_vec(), self.member.held.clone());
-        let room = MOST_SAS - self.member.table.iter().filter(|sa| !sa.is_due(self.tick)).count();
+        let room = self.sizes.sas.saturating_sub(self.member.table.iter().filter(|sa| !sa.is_due(self.tick)).count());
         let rekey = shape.rekey && room > 0;
         let esp = shape.esp.min(room - rekey as usize);
         if !rekey && esp == 0 {
@@ -109,7 +111,7 @@ impl Scene {
     fn deleted(&mut self) -> Vec<Vec<u8>> {
         let mut spis = vec![self.rng.octets(4)];
         for sa in self.member.table.iter().filter(|sa| sa.protocol == ESP) {
-            if self.rng.chance(40) {
+            if self.rng.chance(self.sizes.deleted) {
                 spis.push(sa.spi.clone());
             }
         }
@@ -117,6 +119,7 @@ impl Scene {
             spis.push(vec![0; 4]);
         }
         self.rng.shuffle(&mut spis);
+        spis.truncate(MOST_DELETED);
         spis
     }
 

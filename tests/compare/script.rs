@@ -3,6 +3,7 @@
 
 use crate::case::Case;
 use crate::damage::{damaged, first_line, hostile_line};
+use crate::limits::{met, Sizes};
 use crate::programs::Kind;
 use crate::scene::{Scene, Shape};
 use crate::tally::Tally;
@@ -41,7 +42,8 @@ pub fn script(seed: u64, kind: Kind, tally: &mut Tally) -> Script {
     match seed % 16 {
         7 => writer.hostile_first_line(),
         11 => writer.without_rekey_sa(),
-        _ => writer.member_run(),
+        3 | 8 | 13 => writer.member_run(Sizes::LARGE),
+        _ => writer.member_run(Sizes::SMALL),
     }
     writer.finish()
 }
@@ -68,16 +70,18 @@ impl<'t> Writer<'t> {
         let lent = rng.octets(size);
         let tick = rng.pick(&[0, 1000, 0x7fff_ff00, u32::MAX - 500]);
         let lines = vec![hex(&lent)];
-        let scene = Scene { rng, lent, member: Member::new(), tick };
+        let scene = Scene { rng, lent, member: Member::new(), tick, sizes: Sizes::SMALL };
         Writer { scene, tracing: kind == Kind::Trace, lines, labels: Vec::new(), tally, seed }
     }
 
     /// Refused registrations, one that is taken, then rekeys of all kinds.
-    fn member_run(&mut self) {
+    fn member_run(&mut self, sizes: Sizes) {
+        self.scene.sizes = sizes;
         self.violations(true);
         let shape = Shape { rekey: true, ..self.scene.any_shape() };
         self.taken(true, shape);
         let mut singles = self.walk(false);
+        singles.extend(sizes.refused_for_room());
         let leaves_at = self.tracing.then(|| self.scene.rng.below(2 * REKEYS));
         for turn in 0..REKEYS {
             self.scene.move_clock();
@@ -263,6 +267,9 @@ impl<'t> Writer<'t> {
                 self.seed,
                 self.lines.len()
             ));
+        }
+        if answer == 0 {
+            met(case, &self.scene.member).for_each(|limit| self.tally.limit(limit));
         }
         if answer != 0 && before != self.scene.member {
             self.tally.complain(format!("seed {}, line {}: a refusal changed the member", self.seed, self.lines.len()));

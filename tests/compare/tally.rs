@@ -9,6 +9,8 @@ pub struct Tally {
     pub answers: [usize; 11],
     /// How often each other call of `trace` occurred.
     pub calls: BTreeMap<&'static str, usize>,
+    /// How often accepted frames met the limits (`limits::MET`).
+    pub limits: BTreeMap<&'static str, usize>,
     pub alone: BTreeMap<&'static str, usize>,
     pub paired: BTreeMap<&'static str, usize>,
     pub pairs: BTreeSet<(&'static str, &'static str)>,
@@ -25,6 +27,10 @@ impl Tally {
 
     pub fn call(&mut self, call: &'static str) {
         *self.calls.entry(call).or_default() += 1;
+    }
+
+    pub fn limit(&mut self, name: &'static str) {
+        *self.limits.entry(name).or_default() += 1;
     }
 
     pub fn alone(&mut self, name: &'static str) {

@@ -14,8 +14,10 @@ const SEQUENCE_NUMBERS: u8 = 5;
 const KEY_WRAP: u8 = 13;
 const CONTROLLER_AUTHENTICATION: u8 = 14;
 
-const MOST_ESP_POLICIES: usize = 8;
+/// Document 02, T-01; a held list takes all that a frame may bring.
+const MOST_ESP_POLICIES: usize = 24;
 const MOST_WRAP_KEYS: usize = MOST_HELD;
+/// Document 01; T-01 does not name them.
 const MOST_SA_KEYS: usize = 32;
 const MOST_DELETED: usize = 32;
 

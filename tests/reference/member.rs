@@ -4,8 +4,9 @@ use crate::judging::{judge, Need, Request};
 use crate::layout::{frame, ESP, REKEY};
 use crate::reach::Keys;
 
-pub const MOST_SAS: usize = 16;
-pub const MOST_HELD: usize = 32;
+/// Document 02's figures, T-01.
+pub const MOST_SAS: usize = 64;
+pub const MOST_HELD: usize = 128;
 
 #[derive(Clone, Debug, PartialEq)]
 pub struct Member {

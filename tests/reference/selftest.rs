@@ -235,10 +235,10 @@ fn sample_key_length() {
     assert_eq!(judging::encryption_octets(&policy.transforms[0]), Some(20));
 }
 
-/// 32 WRAP_KEY taken, 33 gives 7.
+/// 128 WRAP_KEY taken, 129 gives 7 (T-01).
 #[test]
 fn sample_wrap_keys() {
-    for (count, answer, held) in [(32, 0, 32), (33, 7, 0)] {
+    for (count, answer, held) in [(32, 0, 32), (33, 0, 33), (128, 0, 128), (129, 7, 0)] {
         let entries = (1..=count).map(|id| entry(id, &[id as u8; 16], 0, &LENT)).collect();
         let mut member = Member::new();
         assert_eq!(member.take(&LENT, 0, &registration(entries, vec![]).octets()), answer);
@@ -246,20 +246,26 @@ fn sample_wrap_keys() {
     }
 }
 
-/// 16 SAs, one due: one more fits.
+/// 64 SAs, one due: one more fits (T-01). 24 ESP policies are taken, 25 give 7.
 #[test]
-fn sample_16_sas() {
+fn sample_64_sas() {
     let mut member = registered(vec![]);
-    assert_eq!(member.take(&[], 0, &rekey(0, esp_sas(&[1, 2, 3, 4, 5, 6, 7, 8])).octets()), 0);
-    assert_eq!(member.take(&[], 0, &rekey(1, esp_sas(&[9, 10, 11, 12, 13, 14, 15])).octets()), 0);
-    assert_eq!(member.table.len(), 16);
-    assert_eq!(member.take(&[], 0, &rekey(2, esp_sas(&[16])).octets()), 7);
-    assert_eq!(member.take(&[], 5, &rekey(2, vec![delete(&[vec![0, 0, 0, 3]])]).octets()), 0);
-    assert_eq!(member.table.len(), 16, "an SA retired with delay 0 stays until the next accepted frame");
-    assert_eq!(member.take(&[], 5, &rekey(3, esp_sas(&[16, 17])).octets()), 7);
-    assert_eq!(member.take(&[], 5, &rekey(3, esp_sas(&[16])).octets()), 0);
-    assert_eq!(member.table.len(), 16);
-    assert!(member.sa(ESP, &[0, 0, 0, 3]).is_none() && member.sa(ESP, &[0, 0, 0, 16]).is_some());
+    let mut rekeyed = |tick: u32, id: u32, payloads: Vec<Payload>, answer: u8, count: usize| {
+        assert_eq!(member.take(&[], tick, &rekey(id, payloads).octets()), answer);
+        assert_eq!(member.table.len(), count);
+        member.clone()
+    };
+    let sas = |spis: std::ops::Range<u32>| esp_sas(&spis.collect::<Vec<_>>());
+    rekeyed(0, 0, sas(1..26), 7, 1);
+    rekeyed(0, 0, sas(1..25), 0, 25);
+    rekeyed(0, 1, sas(25..49), 0, 49);
+    rekeyed(0, 2, sas(49..65), 7, 49);
+    rekeyed(0, 2, sas(49..64), 0, 64);
+    rekeyed(0, 3, sas(64..65), 7, 64);
+    rekeyed(5, 3, vec![delete(&[vec![0, 0, 0, 3]])], 0, 64); // without delay it stays until the next accepted frame
+    rekeyed(5, 4, sas(64..66), 7, 64);
+    let member = rekeyed(5, 4, sas(64..65), 0, 64);
+    assert!(member.sa(ESP, &[0, 0, 0, 3]).is_none() && member.sa(ESP, &[0, 0, 0, 64]).is_some());
 }
 
 /// 44 octets are 20 + 24 under one policy and 28 + 16 under another: the default key is cut by the policy.
@@ -303,6 +309,11 @@ fn values_that_are_no_members() {
     let rekey = Sa { protocol: REKEY, spi: vec![1; 16], keying: keying(36), condition: Condition::Live, ..esp.clone() };
     let other = Sa { spi: vec![2; 16], ..rekey.clone() };
     assert!(Member { table: vec![esp.clone(), rekey.clone()], held: vec![(1, vec![0; 32])], least_id: None }.is_whole());
+    let sas = |count: u8| -> Vec<Sa> { (0..count).map(|i| Sa { spi: vec![0, 0, 0, i], ..esp.clone() }).collect() };
+    let keys = |count: u32| -> Vec<(u32, Vec<u8>)> { (1..=count).map(|id| (id, vec![0; 16])).collect() };
+    for (count, held) in [(16, 32), (17, 33), (64, 128)] {
+        assert!(Member { table: sas(count), held: keys(held), least_id: None }.is_whole(), "{count} SAs, {held} keys");
+    }
     let tables = [
         vec![rekey.clone(), esp.clone()],
         vec![esp.clone(), esp.clone()],
@@ -312,18 +323,13 @@ fn values_that_are_no_members() {
         vec![Sa { keying: keying(24), ..esp.clone() }],
         vec![Sa { encryption: 19, keying: keying(35), ..rekey.clone() }],
         vec![Sa { encryption: 20, keying: keying(44 - 16), ..rekey }],
-        (0..17).map(|i| Sa { spi: vec![0, 0, 0, i], ..esp.clone() }).collect(),
+        sas(65),
     ];
     for (i, table) in tables.into_iter().enumerate() {
         assert!(!Member { table, ..Member::new() }.is_whole(), "table {i}");
     }
     let value = vec![0; 16];
-    let lists = [
-        vec![(0, value.clone())],
-        vec![(2, value.clone()), (1, value.clone())],
-        vec![(1, vec![0; 20])],
-        (1..34).map(|id| (id, value.clone())).collect(),
-    ];
+    let lists = [vec![(0, value.clone())], vec![(2, value.clone()), (1, value.clone())], vec![(1, vec![0; 20])], keys(129)];
     for (i, held) in lists.into_iter().enumerate() {
         assert!(!Member { held, ..Member::new() }.is_whole(), "held list {i}");
     }

@@ -7,7 +7,7 @@ use builder::wrapping::wrap;
 use builder::{Attribute, Body, Frame, Payload, Selector, AH, AUTH, CERT, ESP, IDR, NOTIFY, REKEY};
 
 pub fn all() -> Vec<Transcript> {
-    vec![attribute_1(), chain_32(), lowest_number(), destinations(), odd_frames()]
+    vec![attribute_1(), chain_128(), lowest_number(), destinations(), odd_frames()]
 }
 
 /// SA_KEY and WRAP_KEY are both attribute 1. An ESP key of 20 octets and, under a default key of 24, a wrapping key wrap to 32 octets.
@@ -32,26 +32,27 @@ fn attribute_1() -> Transcript {
     t
 }
 
-/// Keys 1 to 33, each under the one before; the last one stands first.
-fn chain_32() -> Transcript {
-    let mut t = Transcript::new("chain-32", LENT);
+/// Keys 1 to 129, each under the one before; the last one stands first.
+fn chain_128() -> Transcript {
+    let mut t = Transcript::new("chain-128", LENT);
     let value = |id: u32| if id == 0 { lent() } else { key(id as u8) };
     let chain = |ids: std::ops::RangeInclusive<u32>| -> Vec<Attribute> {
         ids.rev().map(|id| entry(id, id as u8, id - 1, &value(id - 1))).collect()
     };
-    let sas = [rekey_sa(0xa0, &[(32, key(32))])];
-    t.frame("33 keys", 0, &registration(&sas, &chain(1..=33)), "7 0 0");
-    t.frame("the chain does not start at the default key", 0, &registration(&sas, &chain(2..=32)), "9 0 0");
-    t.frame("32 keys, the Rekey SA's key under the last", 0, &registration(&sas, &chain(1..=32)), "0 1 32");
+    let sas = [rekey_sa(0xa0, &[(128, key(128))])];
+    t.frame("129 keys", 0, &registration(&sas, &chain(1..=129)), "7 0 0");
+    t.frame("the chain does not start at the default key", 0, &registration(&sas, &chain(2..=128)), "9 0 0");
+    t.frame("128 keys, the Rekey SA's key under the last", 0, &registration(&sas, &chain(1..=128)), "0 1 128");
     let under = |ids: std::ops::RangeInclusive<u32>| -> Vec<(u32, Vec<u8>)> { ids.map(|id| (id, key(id as u8))).collect() };
-    t.frame(
-        "b0 under key 33, which came in a refused frame",
-        0,
-        &rekey(0xa0, 0, announce(&[rekey_sa(0xb0, &under(33..=33))])),
-        "9 1 32",
-    );
-    t.frame("b0 under all 32", 0, &rekey(0xa0, 0, announce(&[rekey_sa(0xb0, &under(1..=32))])), "0 2 32");
-    t.frame("c0 under key 17; a0 goes", 0, &rekey(0xb0, 0, announce(&[rekey_sa(0xc0, &under(17..=17))])), "0 2 32");
+    let mut next = |about: &str, over: u8, fill: u8, ids: std::ops::RangeInclusive<u32>, answer: &str| {
+        t.frame(about, 0, &rekey(over, 0, announce(&[rekey_sa(fill, &under(ids))])), answer);
+    };
+    next("b0 under key 129, which came in a refused frame", 0xa0, 0xb0, 129..=129, "9 1 128");
+    next("b0 under 33 of them", 0xa0, 0xb0, 96..=128, "7 1 128");
+    next("b0 under the last 32", 0xa0, 0xb0, 97..=128, "0 2 128");
+    next("c0 under key 33; a0 goes", 0xb0, 0xc0, 33..=33, "0 2 128");
+    next("d0 under keys 1 to 32; b0 goes", 0xc0, 0xd0, 1..=32, "0 2 128");
+    next("e0 under key 128; c0 goes", 0xd0, 0xe0, 128..=128, "0 2 128");
     t
 }
 
@@ -72,32 +73,32 @@ fn lowest_number() -> Transcript {
     mended("Message ID 7: a critical unknown payload", &|f| f.message_id = fit.message_id, "4 1 1");
     mended("without that payload: an AH policy", &|f| f.payloads.truncate(2), "5 1 1");
     mended("an ESP policy: a bag of another SPI", &|f| f.payloads[0].parts()[3].protocol = ESP, "6 1 1");
-    mended("its own SPI: 9 ESP policies", &|f| f.payloads[1].parts()[2].spi = spi(2), "7 1 1");
-    let eight = |f: &mut Frame| f.payloads.iter_mut().for_each(|payload| drop(payload.parts().pop()));
-    mended("8 of them: a copy of a wrong size", &eight, "8 1 1");
+    mended("its own SPI: 25 ESP policies", &|f| f.payloads[1].parts()[2].spi = spi(2), "7 1 1");
+    let without_last = |f: &mut Frame| f.payloads.iter_mut().for_each(|payload| drop(payload.parts().pop()));
+    mended("24 of them: a copy of a wrong size", &without_last, "8 1 1");
     let one_size = |f: &mut Frame| drop(f.payloads[1].parts()[0].attributes.pop());
     mended("without that copy: an ESP key that does not open", &one_size, "9 1 1");
-    mended("one that opens", &|f| f.payloads[1] = fit.payloads[1].clone(), "0 10 1");
+    mended("one that opens", &|f| f.payloads[1] = fit.payloads[1].clone(), "0 26 1");
     t
 }
 
-/// Over a0: Rekey SA b0, its key under the default key and under key 5, and ESP SAs 1 to 8.
+/// Over a0: Rekey SA b0, its key under the default key and under key 5, and ESP SAs 1 to 24.
 fn fit_rekey() -> Frame {
     let a0 = default_key(0xa0);
     let mut sas = vec![rekey_sa(0xb0, &[(0, a0.clone()), (5, key(5))])];
-    sas.extend((1..=8).map(|number| esp(number, &a0)));
+    sas.extend((1..=24).map(|number| esp(number, &a0)));
     rekey(0xa0, 7, announce(&sas))
 }
 
 /// The same with a fault for every number.
 fn faulty_rekey() -> Frame {
     let mut frame = fit_rekey();
-    let (ninth, closed) = (esp(9, &default_key(0xa0)), esp(1, &lent()));
+    let (last, closed) = (esp(25, &default_key(0xa0)), esp(1, &lent()));
     let wrong_size = Attribute::key(0, 5, &wrap(&key(5), &rekey_keying(0xb0, 35)));
     frame.payloads[1].parts()[1].attributes = closed.bag.attributes;
     frame.payloads[1].parts()[0].attributes.push(wrong_size);
-    frame.payloads[0].parts().push(ninth.policy);
-    frame.payloads[1].parts().push(ninth.bag);
+    frame.payloads[0].parts().push(last.policy);
+    frame.payloads[1].parts().push(last.bag);
     frame.payloads[1].parts()[2].spi = spi(99);
     frame.payloads[0].parts()[3].protocol = AH;
     frame.payloads.push(Payload { flags: 0x80, ..Payload::new(99, Body::Plain(vec![])) });

@@ -240,21 +240,21 @@ fn six() -> Transcript {
 fn seven() -> Transcript {
     let mut t = Transcript::new("refusal-7", LENT);
     let rekey_policy = rekey_sa(0xa0, &[(0, lent())]);
-    let nine: Vec<Sa> = [rekey_policy.clone()].into_iter().chain((1..=9).map(|number| esp(number, &lent()))).collect();
-    t.frame("9 ESP policies", 0, &registration(&nine, &[]), "7 0 0");
-    t.frame("33 WRAP_KEY, all the same", 0, &registration(&[rekey_policy], &vec![entry(5, 5, 0, &lent()); 33]), "7 0 0");
-    t.frame(
-        "8 ESP policies, 32 WRAP_KEY, all the same",
-        0,
-        &registration(&nine[..9], &vec![entry(5, 5, 0, &lent()); 32]),
-        "0 9 1",
-    );
+    let all: Vec<Sa> = [rekey_policy.clone()].into_iter().chain((1..=25).map(|number| esp(number, &lent()))).collect();
+    let same = |count: usize| vec![entry(5, 5, 0, &lent()); count];
+    t.frame("25 ESP policies", 0, &registration(&all, &[]), "7 0 0");
+    t.frame("129 WRAP_KEY, all the same", 0, &registration(&[rekey_policy.clone()], &same(129)), "7 0 0");
+    let with_itself = [same(128), vec![itself()]].concat();
+    t.frame("129 WRAP_KEY, the last under itself: the lower number", 0, &registration(&[rekey_policy], &with_itself), "6 0 0");
+    t.frame("24 ESP policies, 128 WRAP_KEY, all the same", 0, &registration(&all[..25], &same(128)), "0 25 1");
     let a0 = default_key(0xa0);
     let more = |numbers: std::ops::Range<u32>| announce(&numbers.map(|number| esp(number, &a0)).collect::<Vec<_>>());
-    t.frame("17 SAs", 0, &rekey(0xa0, 0, more(11..19)), "7 9 1");
-    t.frame("33 SA_KEY", 0, &rekey(0xa0, 0, announce(&[rekey_sa(0xb0, &vec![(0, a0.clone()); 33])])), "7 9 1");
-    t.frame("33 deleted SPIs, all the same", 0, &rekey(0xa0, 0, vec![delete(&vec![spi(1); 33])]), "7 9 1");
-    t.frame("16 SAs", 0, &rekey(0xa0, 0, more(11..18)), "0 16 1");
+    t.frame("49 SAs", 0, &rekey(0xa0, 0, more(31..55)), "0 49 1");
+    t.frame("65 SAs", 0, &rekey(0xa0, 1, more(61..77)), "7 49 1");
+    t.frame("33 SA_KEY", 0, &rekey(0xa0, 1, announce(&[rekey_sa(0xb0, &vec![(0, a0.clone()); 33])])), "7 49 1");
+    t.frame("33 deleted SPIs, all the same", 0, &rekey(0xa0, 1, vec![delete(&vec![spi(1); 33])]), "7 49 1");
+    t.frame("64 SAs", 0, &rekey(0xa0, 1, more(61..76)), "0 64 1");
+    t.frame("a Rekey SA would be the 65th", 0, &rekey(0xa0, 2, announce(&[rekey_sa(0xb0, &[(0, a0)])])), "7 64 1");
     t
 }
 

@@ -231,33 +231,35 @@ fn cut(name: &'static str, bits: u16, wrap_id: u16, first: usize) -> Transcript 
     t
 }
 
+/// Number 7 from both sides: document 02's figures (T-01), and document 01's for deleted SPIs and SA_KEY.
 fn limits() -> Transcript {
     let mut t = Transcript::new("limits", LENT);
     let sas = [rekey_sa(0xa0, &[(0, lent())])];
-    let entries: Vec<Attribute> = (1..=33).map(|id| entry(id, id as u8, 0, &lent())).collect();
-    t.frame("33 WRAP_KEY", 0, &registration(&sas, &entries), "7 0 0");
-    t.frame("32 WRAP_KEY", 0, &registration(&sas, &entries[..32]), "0 1 32");
+    let entries: Vec<Attribute> = (1..=129).map(|id| entry(id, id as u8, 0, &lent())).collect();
+    t.frame("129 WRAP_KEY", 0, &registration(&sas, &entries), "7 0 0");
+    t.frame("128 WRAP_KEY", 0, &registration(&sas, &entries[..128]), "0 1 128");
     let a0 = default_key(0xa0);
     let esps = |numbers: std::ops::Range<u32>| announce(&numbers.map(|number| esp(number, &a0)).collect::<Vec<_>>());
-    t.frame("9 ESP policies", 0, &rekey(0xa0, 0, esps(1..10)), "7 1 32");
-    t.frame("8 ESP policies", 0, &rekey(0xa0, 0, esps(1..9)), "0 9 32");
-    t.frame("8 more would be 17 SAs", 0, &rekey(0xa0, 1, esps(11..19)), "7 9 32");
-    t.frame("7 more are 16", 0, &rekey(0xa0, 1, esps(11..18)), "0 16 32");
-    t.frame("33 deleted SPIs", 50, &rekey(0xa0, 2, vec![delete(&vec![spi(77); 33])]), "7 16 32");
+    t.frame("25 ESP policies", 0, &rekey(0xa0, 0, esps(1..26)), "7 1 128");
+    t.frame("24 ESP policies", 0, &rekey(0xa0, 0, esps(1..25)), "0 25 128");
+    t.frame("24 more", 0, &rekey(0xa0, 1, esps(25..49)), "0 49 128");
+    t.frame("16 more would be 65 SAs", 0, &rekey(0xa0, 2, esps(49..65)), "7 49 128");
+    t.frame("15 more are 64", 0, &rekey(0xa0, 2, esps(49..64)), "0 64 128");
+    t.frame("33 deleted SPIs", 50, &rekey(0xa0, 3, vec![delete(&vec![spi(77); 33])]), "7 64 128");
     t.frame(
         "33 deleted SPIs in two payloads",
         50,
-        &rekey(0xa0, 2, vec![delete(&vec![spi(77); 32]), delete(&[spi(1)])]),
-        "7 16 32",
+        &rekey(0xa0, 3, vec![delete(&vec![spi(77); 32]), delete(&[spi(1)])]),
+        "7 64 128",
     );
     let deleted = [vec![spi(77); 31], vec![spi(1)]].concat();
-    t.frame("32 deleted SPIs, of which 1 retires without delay", 50, &rekey(0xa0, 2, vec![delete(&deleted)]), "0 16 32");
-    t.frame("16 SAs, one due: two more do not fit", 50, &rekey(0xa0, 3, esps(21..23)), "7 16 32");
-    t.frame("one more fits", 50, &rekey(0xa0, 3, esps(21..22)), "0 16 32");
-    t.frame("all ESP SAs retire", 50, &rekey(0xa0, 4, vec![delete(&[spi(0)])]), "0 16 32");
+    t.frame("32 deleted SPIs, of which 1 retires without delay", 50, &rekey(0xa0, 3, vec![delete(&deleted)]), "0 64 128");
+    t.frame("64 SAs, one due: two more do not fit", 50, &rekey(0xa0, 4, esps(101..103)), "7 64 128");
+    t.frame("one more fits", 50, &rekey(0xa0, 4, esps(101..102)), "0 64 128");
+    t.frame("all ESP SAs retire", 50, &rekey(0xa0, 5, vec![delete(&[spi(0)])]), "0 64 128");
     let copies = |count: usize| announce(&[rekey_sa(0xb0, &vec![(0, a0.clone()); count])]);
-    t.frame("33 SA_KEY in a bag", 50, &rekey(0xa0, 5, copies(33)), "7 16 32");
-    t.frame("32 SA_KEY; the ESP SAs go, a0 retires", 50, &rekey(0xa0, 5, copies(32)), "0 2 32");
+    t.frame("33 SA_KEY in a bag", 50, &rekey(0xa0, 6, copies(33)), "7 64 128");
+    t.frame("32 SA_KEY; the ESP SAs go, a0 retires", 50, &rekey(0xa0, 6, copies(32)), "0 2 128");
     t
 }
 

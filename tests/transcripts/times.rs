@@ -20,20 +20,21 @@ fn esps(numbers: std::ops::RangeInclusive<u32>, key0: &[u8]) -> Vec<Sa> {
 
 fn full_table() -> Transcript {
     let mut t = Transcript::new("full-table", LENT);
-    let sas = [vec![rekey_sa(0xa0, &[(0, lent())])], esps(1..=8, &lent())].concat();
-    t.frame("Rekey SA a0, ESP SAs 1 to 8", 0, &registration(&sas, &[]), "0 9 0");
+    let sas = [vec![rekey_sa(0xa0, &[(0, lent())])], esps(1..=24, &lent())].concat();
+    t.frame("Rekey SA a0, ESP SAs 1 to 24", 0, &registration(&sas, &[]), "0 25 0");
     let a0 = default_key(0xa0);
-    t.frame("ESP SAs 11 to 16", 0, &rekey(0xa0, 0, announce(&esps(11..=16, &a0))), "0 15 0");
-    let last = [announce_with_delay(&[esp(17, &a0)], 5), vec![delete(&[spi(1)])]].concat();
-    t.frame("16 SAs, of which 1 retires for 5 s", 1000, &rekey(0xa0, 1, last), "0 16 0");
-    let one = || announce(&[esp(18, &a0)]);
-    t.frame("after 4,999 ms none is due: one more does not fit", 5999, &rekey(0xa0, 2, one()), "7 16 0");
-    t.frame("after 5,000 ms one is due: two more do not fit", 6000, &rekey(0xa0, 2, announce(&esps(18..=19, &a0))), "7 16 0");
-    t.frame("one more fits", 6000, &rekey(0xa0, 2, one()), "0 16 0");
+    t.frame("ESP SAs 25 to 48", 0, &rekey(0xa0, 0, announce(&esps(25..=48, &a0))), "0 49 0");
+    t.frame("ESP SAs 49 to 62", 0, &rekey(0xa0, 1, announce(&esps(49..=62, &a0))), "0 63 0");
+    let last = [announce_with_delay(&[esp(63, &a0)], 5), vec![delete(&[spi(1)])]].concat();
+    t.frame("64 SAs, of which 1 retires for 5 s", 1000, &rekey(0xa0, 2, last), "0 64 0");
+    let one = || announce(&[esp(64, &a0)]);
+    t.frame("after 4,999 ms none is due: one more does not fit", 5999, &rekey(0xa0, 3, one()), "7 64 0");
+    t.frame("after 5,000 ms one is due: two more do not fit", 6000, &rekey(0xa0, 3, announce(&esps(64..=65, &a0))), "7 64 0");
+    t.frame("one more fits", 6000, &rekey(0xa0, 3, one()), "0 64 0");
     let new = [announce(&[rekey_sa(0xb0, &[(0, a0.clone())])]), vec![delete(&[spi(0)])]].concat();
-    t.frame("what the frame itself retires still counts", 6000, &rekey(0xa0, 3, new.clone()), "7 16 0");
-    t.frame("2 to 8 retire", 6000, &rekey(0xa0, 3, vec![delete(&(2..=8).map(spi).collect::<Vec<_>>())]), "0 16 0");
-    t.frame("they go; b0 comes, a0 and all others retire", 6000, &rekey(0xa0, 4, new), "0 10 0");
+    t.frame("what the frame itself retires still counts", 6000, &rekey(0xa0, 4, new.clone()), "7 64 0");
+    t.frame("2 to 8 retire", 6000, &rekey(0xa0, 4, vec![delete(&(2..=8).map(spi).collect::<Vec<_>>())]), "0 64 0");
+    t.frame("they go; b0 comes, a0 and all others retire", 6000, &rekey(0xa0, 5, new), "0 58 0");
     t.frame("b0 alone is left", 6000, &rekey(0xb0, 0, nothing()), "0 1 0");
     t
 }

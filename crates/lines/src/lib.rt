@@ -20,37 +20,19 @@ pub fn put(room: &mut [u8], at: usize, octet: u8) -> usize
     at
 }
 
-// Whether a character is a hexadecimal digit.
+// Whether a character is a hexadecimal digit. No branch hangs on it: the digits of a frame come in no order that a processor foresees.
 fn is_digit(c: u8) -> bool
     ensures { λ r. ⌜ r ≡ isDigit c ⌝ }
 {
-    if c < 48 {
-        return false;
-    }
-    if c <= 57 {
-        return true;
-    }
-    if c < 97 {
-        return false;
-    }
-    c <= 102
+    ((48 <= c) & (c <= 57)) | ((97 <= c) & (c <= 102))
 }
 
-// What a hexadecimal digit counts; 0 for another character.
+// What a hexadecimal digit counts; 0 for another character. The characters 0 to 9 are 48 to 57, a to f are 97 to 102.
 fn value_of(c: u8) -> u8
     ensures { λ r. ⌜ (r ≡ valueOf c) × (r < 16) ⌝ }
 {
-    if c < 48 {
-        return 0;
-    }
-    if c <= 57 {
-        return c - 48;
-    }
-    if c < 97 {
-        return 0;
-    }
-    if c <= 102 {
-        return c - 87;
+    if is_digit(c) {
+        return c % 16 + 9 * (c / 64);
     }
     0
 }
@@ -66,18 +48,18 @@ fn digit_of(v: u8) -> u8
     87 + v
 }
 
+// Whether every character is a digit. It goes to the end in any case: a test of each character costs more than the rest of a bad line.
 fn are_digits(text: &[u8]) -> bool
     ensures { λ r. ⌜ r ≡ areDigits (now (text .entry)) ⌝ }
 {
+    let mut so_far = true;
     let mut i = 0;
     while i < text.len() {
-        if is_digit(text[i]) {
-            i += 1;
-        } else {
-            return false;
-        }
+        let one = is_digit(text[i]);
+        so_far = so_far & one;
+        i += 1;
     }
-    true
+    so_far
 }
 
 // Whether a text is hexadecimal: digits alone, and an even count of them. Internal.

@@ -1,8 +1,9 @@
 //! What looks odd and must not be refused: number 0. Several may be done to one frame, in the order of the table.
 
-use super::pairing::fill;
+use super::pairing::{esp_policies, fill, one_chain, sas_after};
 use super::{any, registration, rekey, Place, Violation};
 use crate::case::Case;
+use crate::limits::*;
 use builder::typical::*;
 use builder::wrapping::wrap;
 use builder::{Attribute, Body, Part, Payload, AUTH, CERT, DELETE, ESP, GSA, IDR, KD, NOTIFY, REKEY};
@@ -127,8 +128,8 @@ pub const TABLE: &[Violation] = &[
         let octets = c.rng.octets(count);
         entry(c, id, kwk_id, &octets)
     }),
-    registration(0, "32 WRAP_KEY", |c| fill(c, 0, 32)),
-    registration(0, "32 keys in one chain, backwards", one_chain),
+    registration(0, "as many WRAP_KEY as may be", |c| fill(c, 0, MOST_WRAP_KEYS)),
+    registration(0, "as many keys as may be, in one chain, backwards", |c| one_chain(c, MOST_HELD as u32)),
     rekey(0, "Message ID above the least", |c| {
         let more = c.rng.pick(&[1, 2, 1000, 1 << 20]);
         c.frame.message_id = c.frame.message_id.checked_add(more).filter(|id| *id < u32::MAX)?;
@@ -150,30 +151,20 @@ pub const TABLE: &[Violation] = &[
         Some(())
     }),
     rekey(0, "copies under every key", |c| {
-        let (key, keys) = (c.sa_key(REKEY)?, c.keys.clone());
-        let copies = keys.iter().take(20).map(|(id, kwk)| Attribute::key(0, *id, &wrap(kwk, &key)));
+        let (key, mut keys) = (c.sa_key(REKEY)?, c.keys.clone());
+        c.rng.shuffle(&mut keys);
         let bag = c.sa_bag(REKEY)?;
-        bag.attributes.extend(copies);
-        (bag.attributes.len() <= 32).then_some(())
-    }),
-    rekey(0, "32 SA_KEY", |c| fill(c, REKEY, 32)),
-    any(0, "8 ESP policies", |c| {
-        c.policies()?;
-        let others = c.member.table.len() + c.sa_keys.iter().filter(|sa| sa.0 == REKEY).count();
-        while others + 8 <= 16 && c.sa_keys.iter().filter(|sa| sa.0 == ESP).count() < 8 {
-            c.announce_esp()?;
-        }
+        let room = MOST_SA_KEYS.checked_sub(bag.attributes.len())?;
+        bag.attributes.extend(keys.iter().take(room).map(|(id, kwk)| Attribute::key(0, *id, &wrap(kwk, &key))));
         Some(())
     }),
-    rekey(0, "16 SAs", |c| {
-        let tick = c.tick;
-        let staying = c.member.table.iter().filter(|sa| !sa.is_due(tick)).count();
-        while staying + c.sa_keys.len() < 16 {
-            c.policies()?;
-            c.announce_esp()?;
-        }
-        (c.sa_keys.iter().filter(|sa| sa.0 == ESP).count() <= 8).then_some(())
+    rekey(0, "as many SA_KEY as may be", |c| fill(c, REKEY, MOST_SA_KEYS)),
+    any(0, "as many ESP policies as may be", |c| {
+        let others = c.member.table.len() + c.sa_keys.iter().filter(|sa| sa.0 == REKEY).count();
+        (others + MOST_ESP_POLICIES <= MOST_SAS).then_some(())?;
+        esp_policies(c, MOST_ESP_POLICIES)
     }),
+    rekey(0, "as many SAs as may be", |c| sas_after(c, MOST_SAS)),
     rekey(0, "SPI of an SA that is due", |c| {
         let (protocol, tick) = (c.rng.pick(&[ESP, REKEY]), c.tick);
         let spi = c.member.table.iter().find(|sa| sa.protocol == protocol && sa.is_due(tick))?.spi.clone();
@@ -188,7 +179,7 @@ pub const TABLE: &[Violation] = &[
         spis.extend(c.policy(ESP).map(|policy| policy.spi.clone()));
         spis.push(c.rng.octets(4));
         c.rng.shuffle(&mut spis);
-        spis.truncate(16);
+        spis.truncate(MOST_DELETED / 2);
         c.delete()?.spis = [spis.clone(), spis].concat();
         Some(())
     }),
@@ -198,12 +189,12 @@ pub const TABLE: &[Violation] = &[
         spis.iter().for_each(|spi| c.insert(delete(&[spi.clone()])));
         Some(())
     }),
-    rekey(0, "32 deleted SPIs, the last ones of the table", |c| {
-        let mut spis = vec![vec![7; 4]; 32];
+    rekey(0, "as many deleted SPIs as may be, the last ones of the table", |c| {
+        let mut spis = vec![vec![7; 4]; MOST_DELETED];
         let table = c.member.table.iter().filter(|sa| sa.protocol == ESP).map(|sa| sa.spi.clone());
         spis.extend(table);
-        spis.drain(..spis.len() - 32);
-        let first = c.rng.between(1, 32);
+        spis.drain(..spis.len() - MOST_DELETED);
+        let first = c.rng.between(1, MOST_DELETED);
         c.remove(DELETE)?;
         spis.chunks(first).for_each(|spis| c.frame.payloads.push(delete(spis)));
         Some(())
@@ -233,24 +224,6 @@ pub const TABLE: &[Violation] = &[
         Some(())
     }),
 ];
-
-/// Each of 32 keys under the one before, the last one first; the Rekey SA's key, if one is announced, under the last.
-fn one_chain(c: &mut Case) -> Option<()> {
-    let (mut kwk_id, mut kwk) = (0, c.key0.clone());
-    let mut entries = Vec::new();
-    c.keys.clear();
-    for id in (1..=32).map(|i| 7 * i % 37) {
-        let value = c.rng.octets(kwk.len());
-        entries.insert(0, Attribute::key(id, kwk_id, &wrap(&kwk, &value)));
-        c.keys.push((id, value.clone()));
-        (kwk_id, kwk) = (id, value);
-    }
-    c.bag(0)?.attributes = entries;
-    if let Some(key) = c.sa_key(REKEY) {
-        c.sa_bag(REKEY)?.attributes = vec![Attribute::key(0, kwk_id, &wrap(&kwk, &key))];
-    }
-    Some(())
-}
 
 fn reserved(c: &mut Case) -> Option<()> {
     let octet = c.rng.number() as u8 | 1;
@@ -284,7 +257,7 @@ fn skipped(c: &mut Case, kinds: &[u16]) -> Attribute {
 fn entry(c: &mut Case, id: u32, kwk_id: u32, wrapped: &[u8]) -> Option<()> {
     let bag: &mut Part = c.bag(0)?;
     bag.attributes.insert(0, Attribute::key(id, kwk_id, wrapped));
-    (bag.attributes.len() <= 32).then_some(())
+    (bag.attributes.len() <= MOST_WRAP_KEYS).then_some(())
 }
 
 /// The Rekey SA's key, if one is announced, under the default key.

@@ -2,6 +2,7 @@
 
 use super::{any, registration, rekey, Violation};
 use crate::case::Case;
+use crate::limits::*;
 use builder::typical::*;
 use builder::wrapping::wrap;
 use builder::{Attribute, Part, ESP, REKEY};
@@ -126,12 +127,9 @@ pub const TABLE: &[Violation] = &[
         let octets = c.rng.octets(count);
         under_itself(c, id, &octets)
     }),
-    any(7, "9 ESP policies", |c| {
+    any(7, "one ESP policy too many", |c| {
         c.policy(ESP)?;
-        while c.policies()?.iter().filter(|policy| policy.protocol == ESP).count() < 9 {
-            c.announce_esp()?;
-        }
-        Some(())
+        esp_policies(c, MOST_ESP_POLICIES + 1)
     }),
     any(7, "60 ESP policies", many_policies),
     any(6, "60 ESP policies, two of one SPI", |c| {
@@ -142,15 +140,16 @@ pub const TABLE: &[Violation] = &[
         c.bags()?.push(Part { spi, ..bag });
         Some(())
     }),
-    registration(7, "33 WRAP_KEY", |c| fill(c, 0, 33)),
+    registration(7, "one WRAP_KEY too many", |c| fill(c, 0, MOST_WRAP_KEYS + 1)),
+    registration(7, "one key too many in one chain, backwards", |c| one_chain(c, MOST_HELD as u32 + 1)),
     registration(7, "200 WRAP_KEY", |c| fill(c, 0, 200)),
     registration(6, "200 WRAP_KEY, the last with Key ID 0", |c| {
         fill(c, 0, 199)?;
         c.bag(0)?.attributes.push(Attribute::key(0, 0, &[0; 16]));
         Some(())
     }),
-    registration(6, "33 WRAP_KEY, one under its own Key ID", |c| {
-        fill(c, 0, 32)?;
+    registration(6, "one WRAP_KEY too many, one under its own Key ID", |c| {
+        fill(c, 0, MOST_WRAP_KEYS)?;
         let id = c.unknown_id();
         under_itself(c, id, &[0; 16])
     }),
@@ -159,25 +158,22 @@ pub const TABLE: &[Violation] = &[
         c.delete()?.spis = vec![vec![0; 4]; 2000];
         Some(())
     }),
-    rekey(7, "33 SA_KEY in a bag", |c| fill(c, REKEY, 33)),
-    rekey(7, "33 deleted SPIs", |c| {
+    rekey(7, "one SA_KEY in a bag too many", |c| fill(c, REKEY, MOST_SA_KEYS + 1)),
+    rekey(7, "one deleted SPI too many", |c| {
         let spi = c.rng.octets(4);
-        c.delete()?.spis = vec![spi; 33];
+        c.delete()?.spis = vec![spi; MOST_DELETED + 1];
         Some(())
     }),
-    rekey(7, "33 deleted SPIs in two payloads", |c| {
-        let first = c.rng.between(1, 32);
+    rekey(7, "one deleted SPI too many in two payloads", |c| {
+        let first = c.rng.between(1, MOST_DELETED);
         c.delete()?.spis = vec![vec![7; 4]; first];
-        c.insert(delete(&vec![vec![8; 4]; 33 - first]));
+        c.insert(delete(&vec![vec![8; 4]; MOST_DELETED + 1 - first]));
         Some(())
     }),
-    rekey(7, "17 SAs", |c| {
-        let tick = c.tick;
-        let staying = c.member.table.iter().filter(|sa| !sa.is_due(tick)).count();
-        while staying + c.policies()?.iter().filter(|policy| policy.protocol != 0).count() < 17 {
-            c.announce_esp()?;
-        }
-        (c.policies()?.iter().filter(|policy| policy.protocol == ESP).count() <= 8).then_some(())
+    rekey(7, "one SA too many", |c| sas_after(c, MOST_SAS + 1)),
+    rekey(7, "one SA too many, the others live", |c| {
+        c.member.table.iter().all(|sa| sa.condition == Condition::Live).then_some(())?;
+        sas_after(c, MOST_SAS + 1)
     }),
 ];
 
@@ -190,10 +186,25 @@ fn rename_as(c: &mut Case, protocol: u8, fits: fn(&Sa, u32) -> bool) -> Option<(
 
 fn many_policies(c: &mut Case) -> Option<()> {
     c.policy(ESP)?;
-    while c.policies()?.iter().filter(|policy| policy.protocol == ESP).count() < 60 {
+    esp_policies(c, 60)
+}
+
+/// Announces ESP SAs until there are so many policies of ESP.
+pub fn esp_policies(c: &mut Case, count: usize) -> Option<()> {
+    while c.policies()?.iter().filter(|policy| policy.protocol == ESP).count() < count {
         c.announce_esp()?;
     }
     Some(())
+}
+
+/// Announces ESP SAs until there are so many SAs after the frame; None if a frame does not take so many.
+pub fn sas_after(c: &mut Case, count: usize) -> Option<()> {
+    let tick = c.tick;
+    let staying = c.member.table.iter().filter(|sa| !sa.is_due(tick)).count();
+    let of = |c: &mut Case, fits: fn(&Part) -> bool| Some(c.policies()?.iter().filter(|policy| fits(policy)).count());
+    let room = MOST_ESP_POLICIES.checked_sub(of(c, |policy| policy.protocol == ESP)?)?;
+    let more = count.checked_sub(staying + of(c, |policy| policy.protocol != 0)?).filter(|more| *more <= room)?;
+    (0..more).try_for_each(|_| c.announce_esp())
 }
 
 fn two_keys(c: &mut Case, protocol: u8) -> Option<()> {
@@ -222,6 +233,24 @@ fn under_itself(c: &mut Case, id: u32, wrapped: &[u8]) -> Option<()> {
     let at = c.rng.number() as usize;
     let entries = &mut c.bag(0)?.attributes;
     entries.insert(at % (entries.len() + 1), Attribute::key(id, id, wrapped));
+    Some(())
+}
+
+/// Each of so many keys under the one before, the last one first; the Rekey SA's key, if one is announced, under the last.
+pub fn one_chain(c: &mut Case, count: u32) -> Option<()> {
+    let (mut kwk_id, mut kwk) = (0, c.key0.clone());
+    let mut entries = Vec::new();
+    c.keys.clear();
+    for id in (1..=count).map(|i| 7 * i % 131) {
+        let value = c.rng.octets(kwk.len());
+        entries.insert(0, Attribute::key(id, kwk_id, &wrap(&kwk, &value)));
+        c.keys.push((id, value.clone()));
+        (kwk_id, kwk) = (id, value);
+    }
+    c.bag(0)?.attributes = entries;
+    if let Some(key) = c.sa_key(REKEY) {
+        c.sa_bag(REKEY)?.attributes = vec![Attribute::key(0, kwk_id, &wrap(&kwk, &key))];
+    }
     Some(())
 }
 

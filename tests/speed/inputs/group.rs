@@ -5,8 +5,6 @@ use builder::typical::*;
 use builder::wrapping::wrap;
 use builder::{Attribute, Frame, Part, Payload, ESP, REKEY};
 
-pub const TREE_KEYS: u32 = 32;
-
 /// A key by its Key ID.
 pub type Key = (u32, Vec<u8>);
 
@@ -27,10 +25,11 @@ pub struct Group {
 }
 
 impl Group {
-    pub fn new(size: usize) -> Group {
+    /// With so many keys in its tree, all of so many octets.
+    pub fn new(size: usize, keys: u32) -> Group {
         let mut rng = Rng::new(size as u64);
         let lent = rng.octets(size);
-        let held = (1..=TREE_KEYS).map(|number| (257 * number, rng.octets(size))).collect();
+        let held = (1..=keys).map(|number| (257 * number, rng.octets(size))).collect();
         Group { rng, size, key0: lent.clone(), lent, held, rekey_spi: vec![0; 16], message_id: 0 }
     }
 
@@ -53,7 +52,7 @@ impl Group {
         frame
     }
 
-    /// Eight keys under the default key, eight under those, and from the last of these a chain of the other sixteen.
+    /// Eight keys under the default key, eight under those, and from the last of these a chain of the others.
     fn tree(&self) -> Vec<Attribute> {
         let entry = |at: usize| {
             let (kwk_id, kwk) = match at {

@@ -8,13 +8,18 @@ mod names;
 mod openings;
 mod payloads;
 
-use crate::group::{announce, Group, Sa};
+use crate::group::{announce, Group, Key, Sa};
 use crate::Input;
 use builder::line::line;
 use builder::typical::*;
 use builder::{Attribute, Body, Frame, Payload, ESP, NOTIFY, REKEY};
 
 const MOST_FRAME: usize = 16_384;
+
+/// What a member holds at most, and how many of its SAs one frame brings.
+const MOST_HELD: u32 = 128;
+const MOST_SAS: u32 = 64;
+const MOST_ESP_POLICIES: u32 = 24;
 
 /// Of wrapping keys and AES keys: the longest take longest.
 const KEY_SIZE: usize = 32;
@@ -32,11 +37,15 @@ pub struct Hostile {
 /// The member that the frame meets.
 enum Situation {
     New,
-    /// With a Rekey SA and 32 held keys.
+    /// With a Rekey SA and as many held keys as may be.
     Registered,
     /// With one ESP SA besides, of SPI 1.
     OneEsp,
-    /// With 15 of them.
+    /// With 24 of them, as many as a frame brings.
+    ManyEsps,
+    /// With so many of them that 24 more fit.
+    RoomForMany,
+    /// With so many of them that the table is full.
     Full,
 }
 
@@ -59,8 +68,12 @@ const fn full(number: u8, name: &'static str, make: fn(&mut Group) -> Frame) -> 
     Hostile { name, number, situation: Situation::Full, lines: Lines::Alike(make) }
 }
 
-const fn accepted(name: &'static str, make: fn(&mut Group, u32) -> Frame) -> Hostile {
-    Hostile { name, number: 0, situation: Situation::OneEsp, lines: Lines::ByTurn(make) }
+const fn room_for_many(number: u8, name: &'static str, make: fn(&mut Group) -> Frame) -> Hostile {
+    Hostile { name, number, situation: Situation::RoomForMany, lines: Lines::Alike(make) }
+}
+
+const fn accepted(name: &'static str, situation: Situation, make: fn(&mut Group, u32) -> Frame) -> Hostile {
+    Hostile { name, number: 0, situation, lines: Lines::ByTurn(make) }
 }
 
 pub fn all() -> impl Iterator<Item = &'static Hostile> {
@@ -70,19 +83,20 @@ pub fn all() -> impl Iterator<Item = &'static Hostile> {
 
 impl Hostile {
     pub fn answer(&self) -> String {
-        let counts = match self.situation {
-            Situation::New => "0 0",
-            Situation::Registered => "1 32",
-            Situation::OneEsp => "3 32",
-            Situation::Full => "16 32",
-        };
-        format!("{} {counts}", self.number)
+        let esp_sas = self.situation.esp_sas();
+        match self.lines {
+            _ if matches!(self.situation, Situation::New) => format!("{} 0 0", self.number),
+            Lines::Alike(_) => format!("{} {} {MOST_HELD}", self.number, 1 + esp_sas),
+            Lines::ByTurn(_) if matches!(self.situation, Situation::Full) => format!("{} {MOST_SAS} {MOST_HELD}", self.number),
+            // As many ESP SAs come as retire, and those that the frame before retired have gone.
+            Lines::ByTurn(_) => format!("{} {} {MOST_HELD}", self.number, 1 + 2 * esp_sas),
+        }
     }
 
     /// So many frames, and lines of the same digits of which only the last is none: the difference of the two is what a frame costs
     /// beyond reading its digits.
     pub fn inputs(&self, count: u32) -> [Input; 2] {
-        let mut group = Group::new(KEY_SIZE);
+        let mut group = Group::new(KEY_SIZE, MOST_HELD);
         let mut frames = Input::new(&group.lent);
         self.situation.arise(&mut group, &mut frames);
         let mut bad_lines = frames.clone();
@@ -105,18 +119,27 @@ impl Lines {
 }
 
 impl Situation {
+    /// How many ESP SAs the member has before the frames.
+    fn esp_sas(&self) -> u32 {
+        match self {
+            Situation::New | Situation::Registered => 0,
+            Situation::OneEsp => 1,
+            Situation::ManyEsps => MOST_ESP_POLICIES,
+            Situation::Full => MOST_SAS - 1,
+            Situation::RoomForMany => MOST_SAS - 1 - MOST_ESP_POLICIES,
+        }
+    }
+
     /// The lines that bring a new member there.
     fn arise(&self, group: &mut Group, input: &mut Input) {
-        let esp_rekeys: &[(_, &str)] = match self {
-            Situation::New => return,
-            Situation::Registered => &[],
-            Situation::OneEsp => &[(1..2, "0 2 32")],
-            Situation::Full => &[(1..9, "0 9 32"), (9..16, "0 16 32")],
-        };
-        input.frame(0, &group.registration(), "0 1 32");
-        for (spis, answer) in esp_rekeys {
-            let sas = spis.clone().map(|spi| group.esp_sa(spi)).collect();
-            input.frame(0, &group.rekey(announce(sas)), answer);
+        if matches!(self, Situation::New) {
+            return;
+        }
+        input.frame(0, &group.registration(), &format!("0 1 {MOST_HELD}"));
+        let spis: Vec<u32> = (1..=self.esp_sas()).collect();
+        for spis in spis.chunks(MOST_ESP_POLICIES as usize) {
+            let sas = spis.iter().map(|spi| group.esp_sa(*spi)).collect();
+            input.frame(0, &group.rekey(announce(sas)), &format!("0 {} {MOST_HELD}", 1 + spis[spis.len() - 1]));
         }
     }
 }
@@ -178,6 +201,11 @@ fn fill_front(frame: Frame) -> Frame {
 fn closed_esp(spi: u32) -> Sa {
     let spi = spi.to_be_bytes();
     (esp_policy(&spi, 256), bag(ESP, &spi, vec![Attribute::key(0, 0, &closed())]))
+}
+
+/// The last of the keys that a member holds, as many as a bag may have copies.
+fn last_held(group: &Group) -> Vec<Key> {
+    group.held[group.held.len() - 32..].to_vec()
 }
 
 /// A Rekey SA with these copies.

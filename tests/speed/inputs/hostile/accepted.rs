@@ -1,23 +1,36 @@
-//! Frames that are accepted: each brings an ESP SA and deletes the one before, behind thousands of the smallest structures.
+//! Frames that are accepted: each brings ESP SAs and deletes those before, behind thousands of the smallest structures. To a full table
+//! none come, and what is deleted is not there.
 
-use super::{accepted, fill_front, fill_part, Hostile, GSA_AT, KD_AT};
+use super::Situation::{Full, ManyEsps, OneEsp};
+use super::{accepted, fill_front, fill_part, Hostile, GSA_AT, KD_AT, MOST_ESP_POLICIES};
 use crate::group::{announce, Group};
 use builder::typical::*;
 use builder::{Frame, Payload};
 
 pub const TABLE: &[Hostile] = &[
-    accepted("accepted-behind-payloads", |group, turn| fill_front(rekey(group, turn, vec![deleted(turn)]))),
-    accepted("accepted-many-deletes", |group, turn| {
+    accepted("accepted-behind-payloads", OneEsp, |group, turn| fill_front(rekey(group, turn, vec![deleted(turn)]))),
+    accepted("accepted-many-deletes", OneEsp, |group, turn| {
         let unknown = (0..31).map(|number| deleted(0x7700_0000 + number));
         let deletes = unknown.chain([deleted(turn)]).collect();
         fill_front(rekey(group, turn, deletes))
     }),
-    accepted("accepted-behind-attributes", |group, turn| {
+    accepted("accepted-behind-attributes", OneEsp, |group, turn| {
         let mut frame = rekey(group, turn, vec![deleted(turn)]);
         frame.payloads[GSA_AT].parts().insert(0, delay_policy(0));
         fill_part(frame, GSA_AT, 0)
     }),
-    accepted("accepted-key-behind-attributes", |group, turn| fill_part(rekey(group, turn, vec![deleted(turn)]), KD_AT, 0)),
+    accepted("accepted-key-behind-attributes", OneEsp, |group, turn| {
+        fill_part(rekey(group, turn, vec![deleted(turn)]), KD_AT, 0)
+    }),
+    accepted("accepted-24-esps-and-32-deletes", ManyEsps, |group, turn| {
+        let first = MOST_ESP_POLICIES * turn + 1;
+        let sas = (first..first + MOST_ESP_POLICIES).map(|spi| group.esp_sa(spi)).collect();
+        let before = (first - MOST_ESP_POLICIES..first).chain(0x7700_0000..0x7700_0008);
+        fill_front(group.rekey([announce(sas), before.map(deleted).collect()].concat()))
+    }),
+    accepted("accepted-32-deletes-full-table", Full, |group, _| {
+        fill_front(group.rekey((0x7700_0000..0x7700_0020).map(deleted).collect()))
+    }),
 ];
 
 /// The ESP SA after that of the turn comes.

@@ -1,7 +1,8 @@
 //! The smallest policies and bags, and hundreds of names to pair.
 
-use super::{closed_esp, closed_sas, fill, full, new, registration, Hostile, GSA_AT, KD_AT};
-use crate::group::{announce, Sa};
+use super::{closed_esp, closed_sas, fill, full, new, registration, room_for_many, Hostile, GSA_AT, KD_AT};
+use super::{MOST_ESP_POLICIES, MOST_SAS};
+use crate::group::{announce, Group, Sa};
 use builder::typical::*;
 use builder::{Attribute, Frame, Part, Transform, AH, ESP};
 
@@ -42,10 +43,19 @@ pub const TABLE: &[Hostile] = &[
         group.rekey(registration.payloads)
     }),
     full(6, "paired-last-in-table", |group| {
-        let registration = paired(POLICY + BAG, |sas| *sas.last_mut().expect("SAs") = closed_esp(15));
+        let registration = paired(POLICY + BAG, |sas| *sas.last_mut().expect("SAs") = closed_esp(MOST_SAS - 1));
         group.rekey(registration.payloads)
     }),
+    full(7, "esps-and-deletes-full-table", esps_and_deletes),
+    room_for_many(9, "esps-and-deletes", esps_and_deletes),
 ];
+
+/// 24 ESP SAs whose keys do not open, and Deletes of the 32 SAs that come last in a full table, each in its own payload.
+fn esps_and_deletes(group: &mut Group) -> Frame {
+    let sas = (0..MOST_ESP_POLICIES).map(|number| closed_esp(0x5500_0000 + number)).collect();
+    let deleted = (MOST_SAS - 32..MOST_SAS).map(|spi| delete(&[spi.to_be_bytes().to_vec()]));
+    group.rekey(announce(sas).into_iter().chain(deleted).collect())
+}
 
 fn parts(frame: &mut Frame, payload: usize) -> &mut Vec<Part> {
     frame.payloads[payload].parts()
