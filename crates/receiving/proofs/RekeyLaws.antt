@@ -2,28 +2,24 @@
 use native.Mathlib.Omega.{arith}
 use Prim.Native.Nat.{ℕ}
 use mathlib.Core.Path.{_≡_, refl, ap, sym, subst, _∙_}
-use mathlib.Core.Bool.{Bool, true, false, false≢true}
-use mathlib.Core.List.{List, [], _∷_}
-use lib.Dec.{eqb}
+use mathlib.Core.Bool.{Bool, true}
+use mathlib.Core.List.{List, [], _∷_, List·Memᴰ}
 use lib.ListN.{length}
 use Rattle.keys.specs.Limits.{limits}
-use Rattle.keys.specs.Lists.{any, keep}
+use Rattle.keys.specs.Lists.{any}
 use Rattle.keys.specs.declared.kinds.WrappingKey.{WrappingKey}
 use Rattle.keys.specs.declared.kinds.MadeWrapping.{MadeWrapping}
-use Rattle.keys.proofs.Cases.{bool-cases, and-parts}
+use Rattle.keys.proofs.Cases.{and-parts}
+use Rattle.keys.proofs.Members.{kept-member}
 use Rattle.attributes.specs.Tree.{WrapKey}
 use Rattle.frames.specs.Frame.{Frame}
 use Rattle.frames.specs.Exchange.{rekey}
 use Rattle.frames.specs.declared.exchanges.Exchange.{Exchange}
-use Rattle.sa.specs.Entry.{named, isLive, liveRekey, due, dueBy}
+use Rattle.sa.specs.Entry.{named, liveRekey}
 use Rattle.sa.specs.Entry as entry
-use Rattle.sa.specs.declared.entry.Sa.{Sa}
-use Rattle.sa.specs.declared.entry.Condition.{Condition}
-use Rattle.sa.specs.declared.entry.Condition.the-variants.{Live, Retiring}
-use Rattle.table.specs.Table.{sasOf, tableFormed, notDue, swept, theOne, foundRekey, keyOf, defaultKey}
-use Rattle.table.specs.declared.Table.{Table}
-use Rattle.table.proofs.Laws.{found-in}
-use Rattle.table.proofs.Kept.{sas-of-table, formed-count, swept-formed}
+use Rattle.table.specs.Table.{sasOf, tableFormed, stays, swept, keyOf, defaultKey}
+use Rattle.table.proofs.Finds.{rekey-found}
+use Rattle.table.proofs.Kept.{swept-formed}
 use Rattle.state.specs.declared.State.{State}
 use Rattle.clauses.specs.Number2.{standing, overLiveRekey}
 use Rattle.chains.specs.Chain.{Root, Chain, root, step, Reached}
@@ -33,8 +29,8 @@ use Rattle.outcome.specs.Roots.{rootsOf, entriesOf, wrappingSize}
 use Rattle.outcome.specs.After.{HeldAre, HeldBy}
 use Rattle.outcome.proofs.Rows.{own-roots}
 use Rattle.outcome.proofs.Members.{not-in-none}
-use Rattle.outcome.proofs.RunsLists.{some-passes, passes-some}
-use Rattle.acceptance.proofs.NextLaws.{swept-made}
+use Rattle.outcome.proofs.RunsLists.{Passes, some-passes, passes-some}
+use Rattle.outcome.proofs.RunsOld.{swept-sas}
 use Rattle.judging.specs.declared.facts.Facts.{Facts}
 use Rattle.keying.specs.inner.Keyed.{KeyedBy}
 use Rattle.keying.specs.declared.joining.Keyed.{Keyed}
@@ -56,54 +52,38 @@ none-eight : (roots : List Root) (size : ℕ) → EntriesEight roots [] size →
 none-eight roots size (wrong-size k x r d) = none-reached roots size k x r
 none-eight roots size (two-values k x y r q d) = none-reached roots size k x r
 
--- a live SA is not due, so sweeping leaves the live Rekey SA where it is
-module _ (now : ℕ) where
-  live-stays : (a : Sa) → liveRekey a ≡ true → due now a ≡ false
-  unfolding liveRekey due
-  live-stays a e = by (a .condition) (and-parts (eqb (a .protocol) entry.rekey) (isLive (a .condition)) e .1)
-    where
-      by : (c : Condition) → isLive c ≡ true → dueBy now c ≡ false
-      by Live l = refl
-      by (Retiring start delay) l = absurd (false≢true l)
-
-  live-kept : (l : List Sa) → theOne liveRekey (notDue now l) ≡ theOne liveRekey l
-  unfolding theOne keep
-  live-kept [] = refl
-  live-kept (a ∷ l) =
-      bool-cases (liveRekey a) (λ g. rw (live-stays a g) (rw g refl))
-      (λ g. bool-cases (due now a) (λ d. rw (d, g) (live-kept l)) (λ d. rw (d) (rw g (live-kept l))))
-
-  any-kept : (l : List Sa) → any liveRekey (notDue now l) ≡ any liveRekey l
-  unfolding any keep
-  any-kept [] = refl
-  any-kept (a ∷ l) =
-      bool-cases (liveRekey a) (λ g. rw (live-stays a g) (rw g refl))
-      (λ g. bool-cases (due now a) (λ d. rw (d, g) (any-kept l)) (λ d. rw (d) (rw g (any-kept l))))
-
-  default-kept : (t : Table) → tableFormed limits t ≡ true → defaultKey limits (swept limits now t) ≡ defaultKey limits t
-  unfolding defaultKey foundRekey
-  default-kept t e =
-      let h = formed-count limits t e in
-      let s = swept limits now t in
-      let are : sasOf s ≡ notDue now (sasOf t) = ap sasOf (swept-made now t h) ∙ sas-of-table limits (notDue now (sasOf t)) in
-      ap keyOf (found-in limits liveRekey s (formed-count limits s (swept-formed limits now t e)) ∙ ap (theOne liveRekey) are
-      ∙ live-kept (sasOf t) ∙ sym (found-in limits liveRekey t h))
-
 module _ {m : State} {now : ℕ} {lent s : List ℕ} {x : Facts} {g k : List ℕ} {f : Frame} (b : Bodied rekey m now lent s x g k f) where
   pub own-formed : tableFormed limits (m .table) ≡ true
   own-formed = table-is m (state-formed m now lent f (b .passed .clauses))
 
+  -- the live Rekey SA over which it came, which is not due at the tick, is the one of the table as it stands and of the swept one
+  over : Passes (overLiveRekey (f .header .spi)) (standing now m)
+  over = some-passes (overLiveRekey (f .header .spi)) (standing now m) (over-live m now lent f (b .passed .clauses) (b .row))
+
+  is-live : liveRekey (over .one) ≡ true
+  is-live = and-parts (liveRekey (over .one)) (named entry.rekey (f .header .spi) (over .one)) (over .passes) .0
+
+  in-table : List·Memᴰ (over .one) (sasOf (m .table))
+  in-table = kept-member (stays now) (over .one) (sasOf (m .table)) (over .stands) .0
+
   pub own-live : any liveRekey (sasOf (m .table)) ≡ true
-  own-live =
-      let x = some-passes (overLiveRekey (f .header .spi)) (standing now m) (over-live m now lent f (b .passed .clauses) (b .row)) in
-      let l = and-parts (liveRekey (x .one)) (named entry.rekey (f .header .spi) (x .one)) (x .passes) .0 in
-      sym (any-kept now (sasOf (m .table))) ∙ passes-some liveRekey (standing now m) (x .one) (x .stands) l
+  own-live = passes-some liveRekey (sasOf (m .table)) (over .one) in-table is-live
+
+  default-kept : defaultKey limits (swept limits now (m .table)) ≡ defaultKey limits (m .table)
+  unfolding defaultKey
+  default-kept =
+      let t = swept limits now (m .table) in
+      let are : sasOf t ≡ standing now m = swept-sas limits m now own-formed in
+      let there = subst (List·Memᴰ (over .one)) (sym are) (over .stands) in
+      ap keyOf
+      (rekey-found limits t (swept-formed limits now (m .table) own-formed) (over .one) there is-live
+      ∙ sym (rekey-found limits (m .table) own-formed (over .one) in-table is-live))
 
   module _ (zero : WrappingKey) (d : IsDefaultKey (m .table) zero) where
     roots-are : heldRoots zero (m .held) ≡ rootsOf limits m now lent f
     roots-are =
         let own : zero ≡ defaultKey limits (swept limits now (m .table)) .key =
-        d .is ∙ ap (λ (y : MadeWrapping). y .key) (sym (default-kept now (m .table) own-formed)) in
+        d .is ∙ ap (λ (y : MadeWrapping). y .key) (sym default-kept) in
         ap (λ (x : WrappingKey). heldRoots x (m .held)) own ∙ sym (own-roots limits m now f (b .row) lent)
 
     none : [] ≡ entriesOf f
