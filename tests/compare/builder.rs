@@ -8,6 +8,7 @@ pub mod typical;
 pub mod wrapping;
 
 pub use built::{Built, Mark};
+use reference::layout::Kind;
 
 pub const AH: u8 = 2;
 pub const ESP: u8 = 3;
@@ -156,12 +157,16 @@ impl Payload {
 
     fn build(&self, next: u8, out: &mut Built) {
         let start = out.octets.len();
+        out.kind = Kind::Payload;
         out.number(1, self.next.unwrap_or(next) as i64);
         out.number(1, self.flags as i64);
         out.number(2, 0);
         match &self.body {
             Body::Plain(octets) => out.octets.extend_from_slice(octets),
-            Body::Parts(parts) => parts.iter().for_each(|part| part.build(out)),
+            Body::Parts(parts) => {
+                let kind = if self.kind == KD { Kind::Bag } else { Kind::Policy };
+                parts.iter().for_each(|part| part.build(kind, out));
+            }
             Body::Delete(delete) => delete.build(out),
         }
         out.octets.extend_from_slice(&self.tail);
@@ -184,12 +189,13 @@ impl Part {
     /// Makes the length field say `length`.
     pub fn say_length(&mut self, length: usize) {
         let mut out = Built::default();
-        self.build(&mut out);
+        self.build(Kind::Policy, &mut out);
         self.skew = length as i64 - out.octets.len() as i64;
     }
 
-    fn build(&self, out: &mut Built) {
+    fn build(&self, kind: Kind, out: &mut Built) {
         let start = out.octets.len();
+        out.kind = kind;
         out.number(1, self.protocol as i64);
         out.number(1, self.second as i64);
         out.number(2, 0);
@@ -213,6 +219,7 @@ impl Selector {
 
     fn build(&self, out: &mut Built) {
         let start = out.octets.len();
+        out.kind = Kind::Selector;
         out.number(1, self.kind as i64);
         out.number(1, self.ip_protocol as i64);
         out.number(2, 0);
@@ -238,6 +245,7 @@ impl Transform {
 
     fn build(&self, last: bool, out: &mut Built) {
         let start = out.octets.len();
+        out.kind = Kind::Transform;
         out.number(1, self.more.unwrap_or(if last { 0 } else { 3 }) as i64);
         out.number(1, self.reserved.0 as i64);
         out.number(2, 0);
@@ -261,6 +269,7 @@ impl Attribute {
     }
 
     fn build(&self, out: &mut Built) {
+        out.kind = Kind::Attribute;
         match self {
             Attribute::Short(kind, value) => {
                 out.number(2, *kind as i64 | 0x8000);

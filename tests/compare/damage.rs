@@ -2,11 +2,23 @@
 
 use builder::rng::Rng;
 use builder::{Built, Mark};
+use reference::layout::Kind;
 
-/// The octets with one or two damages; the header's length is set right again in most cases where it would no longer be.
+/// What a layout can break in, and must in every long run of the comparer.
+pub const KINDS: [(&str, Kind); 7] = [
+    ("header", Kind::Header),
+    ("payload", Kind::Payload),
+    ("policy", Kind::Policy),
+    ("bag", Kind::Bag),
+    ("selector", Kind::Selector),
+    ("transform", Kind::Transform),
+    ("attribute", Kind::Attribute),
+];
+
+/// The octets with one to three damages; the header's length is set right again in most cases where it would no longer be.
 pub fn damaged(built: &Built, rng: &mut Rng) -> Vec<u8> {
     let mut octets = built.octets.clone();
-    for _ in 0..rng.pick(&[1, 1, 1, 2]) {
+    for _ in 0..rng.pick(&[1, 1, 1, 2, 2, 3]) {
         damage(&mut octets, &built.marks, rng);
     }
     if octets.len() != built.octets.len() && octets.len() >= 28 && rng.chance(85) {
@@ -34,12 +46,24 @@ fn damage(octets: &mut Vec<u8>, marks: &[Mark], rng: &mut Rng) {
         4 | 5 if !octets.is_empty() => octets[at] ^= 1 << rng.below(8),
         6 if !octets.is_empty() => octets[at] = rng.number() as u8,
         _ => {
-            let mark = rng.pick(marks);
+            let mark = some_mark(marks, rng);
             let end = mark.at + mark.size;
             if end <= octets.len() {
                 change_number(&mut octets[mark.at..end], rng);
             }
         }
+    }
+}
+
+/// Any number, or one of a kind of structure by chance: there are many more attributes than selectors, say.
+fn some_mark(marks: &[Mark], rng: &mut Rng) -> Mark {
+    let any = rng.pick(marks);
+    let kind = rng.pick(&KINDS).1;
+    let of_kind: Vec<Mark> = marks.iter().copied().filter(|mark| mark.kind == kind).collect();
+    if of_kind.is_empty() || rng.chance(40) {
+        any
+    } else {
+        rng.pick(&of_kind)
     }
 }
 

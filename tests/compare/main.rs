@@ -9,6 +9,7 @@
 mod calls;
 mod case;
 mod damage;
+mod inband;
 mod limits;
 mod programs;
 mod scene;
@@ -142,7 +143,9 @@ fn print(program: &Program, tally: &Tally, arguments: &Arguments, taken: Duratio
         program.path.display()
     );
     println!("compare: answers {}", answers.join(", "));
-    for (what, counts) in [("calls", &tally.calls), ("accepted frames that leave or use", &tally.limits)] {
+    let counted =
+        [("layouts broken in", &tally.breaks), ("calls", &tally.calls), ("accepted frames that leave or use", &tally.limits)];
+    for (what, counts) in counted {
         if !counts.is_empty() {
             let counts: Vec<String> = counts.iter().map(|(name, count)| format!("{name}: {count}")).collect();
             println!("compare: {what} {}", counts.join(", "));
@@ -182,10 +185,11 @@ fn verdict(tally: &Tally, kind: Kind, count: u64) -> Result<(), String> {
     }
     let violations = violations::all().chain(violations::allowed::TABLE).map(|violation| violation.name);
     let mut missing = violations.filter(|name| !tally.alone.contains_key(name));
-    let mut unmet = limits::MET.into_iter().filter(|limit| !tally.limits.contains_key(limit));
-    match (missing.next(), unmet.next()) {
+    let limits = limits::MET.into_iter().filter(|limit| !tally.limits.contains_key(limit));
+    let breaks = damage::KINDS.iter().map(|(name, _)| *name).filter(|name| !tally.breaks.contains_key(name));
+    match (missing.next(), limits.chain(breaks).next()) {
         (Some(name), _) if count >= ENOUGH => Err(format!("never occurred alone: {name}")),
-        (_, Some(limit)) if count >= ENOUGH => Err(format!("never occurred: {limit}")),
+        (_, Some(name)) if count >= ENOUGH => Err(format!("never occurred: {name}")),
         _ => Ok(()),
     }
 }

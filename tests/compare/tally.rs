@@ -1,6 +1,8 @@
 //! What was generated: answers, violations alone and in pairs, and what turned out other than claimed.
 
+use crate::damage::KINDS;
 use crate::violations::Violation;
+use reference::layout::Broken;
 use std::collections::{BTreeMap, BTreeSet};
 
 #[derive(Default)]
@@ -9,6 +11,8 @@ pub struct Tally {
     pub answers: [usize; 11],
     /// How often each other call of `trace` occurred.
     pub calls: BTreeMap<&'static str, usize>,
+    /// How often a layout broke in each kind of structure (`damage::KINDS`).
+    pub breaks: BTreeMap<&'static str, usize>,
     /// How often accepted frames met the limits (`limits::MET`).
     pub limits: BTreeMap<&'static str, usize>,
     pub alone: BTreeMap<&'static str, usize>,
@@ -27,6 +31,12 @@ impl Tally {
 
     pub fn call(&mut self, call: &'static str) {
         *self.calls.entry(call).or_default() += 1;
+    }
+
+    pub fn broken(&mut self, broken: Broken) {
+        for (name, _) in KINDS.iter().filter(|(_, kind)| *kind == broken.kind) {
+            *self.breaks.entry(name).or_default() += 1;
+        }
     }
 
     pub fn limit(&mut self, name: &'static str) {

@@ -1,14 +1,13 @@
-//! How a frame is laid out: octets to a tree, or refusal 1. Everything is read, also what a later number refuses.
+//! How a frame is laid out: octets to a tree, or refusal 1 with the place. Everything is read, also what a later number refuses.
 //! The tree keeps what the later numbers ask about; parts of the frame stay where they stand.
 
-/// The octets break the layout: refusal 1.
-#[derive(Debug, PartialEq)]
-pub struct Broken;
+use crate::octets::{number_of_4_octets, short, Octets, Read, Value};
+pub use crate::octets::{Broken, Kind};
 
-type Read<T> = Result<T, Broken>;
+/// For the header, and for what is missing or left over among the payloads.
+const IN_HEADER: Broken = Broken { kind: Kind::Header, at: 0 };
 
 pub const MOST_FRAME: usize = 16_384;
-const HEADER: usize = 28;
 
 /// Protocols (001, section 9): what stands in the first octet of a policy or bag, and the SPI size each has.
 pub const AH: u8 = 2;
@@ -91,214 +90,162 @@ pub struct Delete<'f> {
 }
 
 pub fn frame(octets: &[u8]) -> Read<Frame<'_>> {
-    if octets.len() > MOST_FRAME {
-        return Err(Broken);
-    }
-    let mut rest = Octets(octets);
-    let mut header = Octets(rest.take(HEADER)?);
-    let spis = header.take(16)?;
-    let first_payload = header.number1()?;
-    let major_version = header.number1()? >> 4;
-    let exchange = header.number1()?;
-    let _flags = header.number1()?;
-    let message_id = header.number4()?;
-    let length = header.number4()?;
-    if major_version != 2 || length as usize != octets.len() {
-        return Err(Broken);
-    }
-    Ok(Frame { spis, exchange, message_id, payloads: payloads(first_payload, rest)? })
+    let mut rest = Octets { octets, at: 0 };
+    let (mut frame, first_payload) = header(&mut rest).ok_or(IN_HEADER)?;
+    frame.payloads = payloads(first_payload, rest)?;
+    Ok(frame)
 }
 
+/// The frame without its payloads, and the type of the first one.
+fn header<'f>(rest: &mut Octets<'f>) -> Option<(Frame<'f>, u8)> {
+    let count = rest.octets.len();
+    let spis = rest.take(16)?;
+    let first_payload = rest.number1()?;
+    let major_version = rest.number1()? >> 4;
+    let exchange = rest.number1()?;
+    let _flags = rest.number1()?;
+    let message_id = rest.number4()?;
+    let length = rest.number4()?;
+    let fits = count <= MOST_FRAME && major_version == 2 && length as usize == count;
+    fits.then_some((Frame { spis, exchange, message_id, payloads: Vec::new() }, first_payload))
+}
+
+/// A payload that is named and of which no octet is there, and octets behind the last one, count for the header.
 fn payloads(first: u8, mut rest: Octets) -> Read<Vec<Payload>> {
     let mut all = Vec::new();
     let mut kind = first;
     while kind != 0 {
-        let next = rest.number1()?;
-        let critical = rest.number1()? & 0x80 != 0;
-        let body = rest.rest_of_length(4)?;
-        all.push(match kind {
-            36 | 37 | 39 | 41 => Payload::Unread,
-            42 => Payload::Delete(delete(body)?),
-            51 => Payload::Gsa(body.each(policy)?),
-            52 => Payload::Kd(body.each(bag)?),
-            _ => Payload::Unknown { critical },
-        });
+        rest.must_begin(IN_HEADER)?;
+        let (next, payload) = payload(kind, &mut rest)?;
+        all.push(payload);
         kind = next;
     }
     if !rest.is_empty() {
-        return Err(Broken);
+        return Err(IN_HEADER);
     }
     Ok(all)
 }
 
+/// The type of the next payload, and this one. The body of a Delete payload is the payload's own.
+fn payload<'f>(kind: u8, rest: &mut Octets<'f>) -> Read<(u8, Payload<'f>)> {
+    let broken = rest.broken(Kind::Payload);
+    let mut own = || {
+        let next = rest.number1()?;
+        let critical = rest.number1()? & 0x80 != 0;
+        let body = rest.rest_of_length(4)?;
+        let delete = if kind == 42 { Some(delete(body)?) } else { None };
+        Some((next, critical, body, delete))
+    };
+    let (next, critical, body, delete) = own().ok_or(broken)?;
+    let payload = match (kind, delete) {
+        (_, Some(delete)) => Payload::Delete(delete),
+        (36 | 37 | 39 | 41, _) => Payload::Unread,
+        (51, _) => Payload::Gsa(body.each(policy)?),
+        (52, _) => Payload::Kd(body.each(bag)?),
+        _ => Payload::Unknown { critical },
+    };
+    Ok((next, payload))
+}
+
+/// The selectors, the first transform and one behind a "more" count for the policy where no octet of them is there.
 fn policy<'f>(rest: &mut Octets<'f>) -> Read<Policy<'f>> {
-    let protocol = rest.number1()?;
-    let second = rest.number1()?;
-    let mut rest = rest.rest_of_length(4)?;
+    let broken = rest.broken(Kind::Policy);
+    let (protocol, spi, mut rest) = part(rest).ok_or(broken)?;
     if protocol == 0 {
         return Ok(Policy::GroupWide { delays: rest.attributes_of(Some(DEACTIVATION_DELAY), short)? });
     }
-    let spi = rest.spi(protocol, second)?;
-    let _source = selector(&mut rest)?;
-    let destination = selector(&mut rest)?;
-    let transforms = transforms(&mut rest)?;
+    let _source = selector(&mut rest, broken)?;
+    let destination = selector(&mut rest, broken)?;
+    let transforms = transforms(&mut rest, broken)?;
     let read = (protocol == REKEY).then_some(INITIAL_MESSAGE_ID);
     let initial_ids = rest.attributes_of(read, number_of_4_octets)?;
     Ok(Policy::Sa(SaPolicy { protocol, spi, destination, transforms, initial_ids }))
 }
 
+/// The own fields of a policy or bag: protocol and SPI, and what follows them.
+fn part<'f>(rest: &mut Octets<'f>) -> Option<(u8, &'f [u8], Octets<'f>)> {
+    let protocol = rest.number1()?;
+    let second = rest.number1()?;
+    let mut rest = rest.rest_of_length(4)?;
+    let size = match (protocol, second) {
+        (0, _reserved) => 0,
+        (AH | ESP, 4) => 4,
+        (REKEY, 16) => 16,
+        _ => return None,
+    };
+    Some((protocol, rest.take(size)?, rest))
+}
+
+fn selector<'f>(rest: &mut Octets<'f>, missing: Broken) -> Read<Selector<'f>> {
+    rest.must_begin(missing)?;
+    let broken = rest.broken(Kind::Selector);
+    selector_fields(rest).ok_or(broken)
+}
+
 /// RFC 7296, section 3.13.1.
-fn selector<'f>(rest: &mut Octets<'f>) -> Read<Selector<'f>> {
+fn selector_fields<'f>(rest: &mut Octets<'f>) -> Option<Selector<'f>> {
     let kind = rest.number1()?;
     let _ip_protocol = rest.number1()?;
     let length = rest.number2()?;
     let address = match (kind, length) {
         (7, 16) => 4,
         (8, 40) => 16,
-        _ => return Err(Broken),
+        _ => return None,
     };
     let start_port = rest.number2()?;
     let end_port = rest.number2()?;
-    Ok(Selector { start_port, end_port, start: rest.take(address)?, end: rest.take(address)? })
+    Some(Selector { start_port, end_port, start: rest.take(address)?, end: rest.take(address)? })
 }
 
-fn transforms(rest: &mut Octets) -> Read<Vec<Transform>> {
+fn transforms(rest: &mut Octets, missing: Broken) -> Read<Vec<Transform>> {
     let mut all = Vec::new();
-    loop {
-        let more = rest.number1()?;
-        let _reserved = rest.number1()?;
-        let mut body = rest.rest_of_length(4)?;
-        let kind = body.number1()?;
-        let _reserved = body.number1()?;
-        let id = body.number2()?;
+    let mut more = true;
+    while more {
+        rest.must_begin(missing)?;
+        let broken = rest.broken(Kind::Transform);
+        let (follows, kind, id, mut body) = transform_fields(rest).ok_or(broken)?;
         let read = (kind == ENCRYPTION).then_some(KEY_LENGTH);
         all.push(Transform { kind, id, key_lengths: body.attributes_of(read, short)? });
-        match more {
-            3 => continue,
-            0 => return Ok(all),
-            _ => return Err(Broken),
-        }
+        more = follows;
     }
+    Ok(all)
+}
+
+/// Whether another one follows, type and ID, and the attributes.
+fn transform_fields<'f>(rest: &mut Octets<'f>) -> Option<(bool, u8, u16, Octets<'f>)> {
+    let first = rest.number1()?;
+    let _reserved = rest.number1()?;
+    let mut body = rest.rest_of_length(4)?;
+    let kind = body.number1()?;
+    let _reserved = body.number1()?;
+    let id = body.number2()?;
+    matches!(first, 0 | 3).then_some((first == 3, kind, id, body))
 }
 
 fn bag<'f>(rest: &mut Octets<'f>) -> Read<Bag<'f>> {
-    let protocol = rest.number1()?;
-    let second = rest.number1()?;
-    let mut rest = rest.rest_of_length(4)?;
-    if protocol == 0 {
-        return Ok(Bag::Member { wrap_keys: rest.attributes_of(Some(WRAPPED_KEY), wrapped_key)? });
-    }
-    let spi = rest.spi(protocol, second)?;
-    let sa_keys = rest.attributes_of(Some(WRAPPED_KEY), wrapped_key)?;
-    Ok(Bag::Group(GroupBag { protocol, spi, sa_keys }))
+    let broken = rest.broken(Kind::Bag);
+    let (protocol, spi, mut rest) = part(rest).ok_or(broken)?;
+    let keys = rest.attributes_of(Some(WRAPPED_KEY), wrapped_key)?;
+    Ok(match protocol {
+        0 => Bag::Member { wrap_keys: keys },
+        _ => Bag::Group(GroupBag { protocol, spi, sa_keys: keys }),
+    })
 }
 
 /// RFC 7296, section 3.11.
-fn delete(mut rest: Octets) -> Read<Delete> {
+fn delete(mut rest: Octets) -> Option<Delete> {
     let protocol = rest.number1()?;
     let size = rest.number1()?;
     let count = rest.number2()?;
-    let spis = rest.0;
-    if size as usize * count as usize != spis.len() || (protocol == ESP && size != 4) {
-        return Err(Broken);
-    }
-    Ok(Delete { protocol, count, spis })
+    let spis = rest.octets;
+    let fits = size as usize * count as usize == spis.len() && (protocol != ESP || size == 4);
+    fits.then_some(Delete { protocol, count, spis })
 }
 
-/// An attribute's value (RFC 7296, section 3.3.5): 2 octets in the short format (TV), a counted part of the frame in the other (TLV).
-enum Value<'f> {
-    Short(u16),
-    Long(&'f [u8]),
-}
-
-fn short(value: Value) -> Read<u16> {
-    match value {
-        Value::Short(number) => Ok(number),
-        Value::Long(_) => Err(Broken),
-    }
-}
-
-fn number_of_4_octets(value: Value) -> Read<u32> {
-    match value {
-        Value::Long(&[a, b, c, d]) => Ok(u32::from_be_bytes([a, b, c, d])),
-        _ => Err(Broken),
-    }
-}
-
-fn wrapped_key(value: Value) -> Read<WrappedKey> {
-    let Value::Long(octets) = value else { return Err(Broken) };
-    let mut rest = Octets(octets);
-    let (key_id, kwk_id, wrapped) = (rest.number4()?, rest.number4()?, rest.0);
-    if !(16..=264).contains(&wrapped.len()) || wrapped.len() % 8 != 0 {
-        return Err(Broken);
-    }
-    Ok(WrappedKey { key_id, kwk_id, wrapped })
-}
-
-/// What is left to read of a structure. Reading past its end breaks the layout.
-struct Octets<'f>(&'f [u8]);
-
-impl<'f> Octets<'f> {
-    fn is_empty(&self) -> bool {
-        self.0.is_empty()
-    }
-
-    fn take(&mut self, count: usize) -> Read<&'f [u8]> {
-        let (taken, rest) = self.0.split_at_checked(count).ok_or(Broken)?;
-        self.0 = rest;
-        Ok(taken)
-    }
-
-    fn number1(&mut self) -> Read<u8> {
-        Ok(self.take(1)?[0])
-    }
-
-    fn number2(&mut self) -> Read<u16> {
-        let octets = self.take(2)?;
-        Ok(u16::from_be_bytes([octets[0], octets[1]]))
-    }
-
-    fn number4(&mut self) -> Read<u32> {
-        let octets = self.take(4)?;
-        Ok(u32::from_be_bytes([octets[0], octets[1], octets[2], octets[3]]))
-    }
-
-    /// Reads the 2 octets of a length that counts `before` octets up to here too, and takes the rest of it.
-    fn rest_of_length(&mut self, before: usize) -> Read<Octets<'f>> {
-        let length = self.number2()? as usize;
-        Ok(Octets(self.take(length.checked_sub(before).ok_or(Broken)?)?))
-    }
-
-    /// The SPI of a policy or bag, whose size the protocol fixes; a protocol that is none of the three breaks the layout.
-    fn spi(&mut self, protocol: u8, size: u8) -> Read<&'f [u8]> {
-        match (protocol, size) {
-            (AH | ESP, 4) | (REKEY, 16) => self.take(size as usize),
-            _ => Err(Broken),
-        }
-    }
-
-    /// Structures one after the other to the end.
-    fn each<T>(mut self, read: fn(&mut Octets<'f>) -> Read<T>) -> Read<Vec<T>> {
-        let mut all = Vec::new();
-        while !self.is_empty() {
-            all.push(read(&mut self)?);
-        }
-        Ok(all)
-    }
-
-    /// Attributes to the end: the values of one type are read, any other attribute is skipped.
-    fn attributes_of<T>(&mut self, kind: Option<u16>, read: fn(Value<'f>) -> Read<T>) -> Read<Vec<T>> {
-        let mut all = Vec::new();
-        while !self.is_empty() {
-            let first = self.number2()?;
-            let value = match first & 0x8000 {
-                0 => Value::Long(self.rest_of_length(0)?.0),
-                _ => Value::Short(self.number2()?),
-            };
-            if kind == Some(first & 0x7fff) {
-                all.push(read(value)?);
-            }
-        }
-        Ok(all)
-    }
+fn wrapped_key(value: Value) -> Option<WrappedKey> {
+    let Value::Long(octets) = value else { return None };
+    let mut rest = Octets { octets, at: 0 };
+    let (key_id, kwk_id, wrapped) = (rest.number4()?, rest.number4()?, rest.octets);
+    let fits = (16..=264).contains(&wrapped.len()) && wrapped.len() % 8 == 0;
+    fits.then_some(WrappedKey { key_id, kwk_id, wrapped })
 }

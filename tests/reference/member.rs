@@ -1,7 +1,7 @@
 //! What a member is, and what it is after an accepted frame, a sweep and leaving.
 
-use crate::judging::{judge, Need, Request};
-use crate::layout::{frame, ESP, REKEY};
+use crate::judging::{judge, Exchange, Need, Request};
+use crate::layout::{frame, Frame, ESP, REKEY};
 use crate::reach::Keys;
 
 /// Document 02's figures, T-01.
@@ -36,6 +36,23 @@ pub enum Condition {
         start: u32,
         delay: u16,
     },
+}
+
+/// Document 01's number, and document 02's figure (T-06): where the layout broke for number 1, else 0.
+#[derive(Clone, Copy, Debug, PartialEq)]
+pub struct Answer {
+    pub number: u8,
+    pub offset: usize,
+}
+
+impl Answer {
+    /// A number, and behind it the figure, which is printed for number 1 alone.
+    pub fn with_offset(self, text: String) -> String {
+        match self.number {
+            1 => format!("{text} {}", self.offset),
+            _ => text,
+        }
+    }
 }
 
 pub fn is_wrap_key_size(octets: usize) -> bool {
@@ -104,21 +121,20 @@ impl Member {
         self.table.iter().find(|sa| sa.protocol == protocol && sa.spi == spi).filter(|_| self.is_whole())
     }
 
-    /// Registers or rekeys by an opened frame. The answer is 0, or the number of the refusal, which changes nothing.
-    pub fn take(&mut self, lent: &[u8], tick: u32, octets: &[u8]) -> u8 {
-        match self.try_take(lent, tick, octets) {
-            Ok(()) => 0,
-            Err(number) => number,
+    /// Registers or rekeys by an opened frame. The number is 0, or that of the refusal, which changes nothing.
+    pub fn take(&mut self, lent: &[u8], tick: u32, octets: &[u8]) -> Answer {
+        match frame(octets) {
+            Err(broken) => Answer { number: 1, offset: broken.at },
+            Ok(frame) => Answer { number: self.try_take(lent, tick, &frame).err().unwrap_or(0), offset: 0 },
         }
     }
 
-    fn try_take(&mut self, lent: &[u8], tick: u32, octets: &[u8]) -> Result<(), u8> {
-        let frame = frame(octets).map_err(|_| 1)?;
-        let request = judge(&frame, self, tick, lent)?;
+    fn try_take(&mut self, lent: &[u8], tick: u32, frame: &Frame) -> Result<(), u8> {
+        let request = judge(frame, self, tick, lent)?;
         let mut keys = self.keys(lent, &request)?;
         let sa_keys = keys.sa_keys(&request.announced)?;
         self.enter(&request, tick, sa_keys);
-        if request.registration {
+        if request.exchange == Exchange::Registration {
             self.held = keys.held();
         }
         Ok(())
@@ -126,13 +142,14 @@ impl Member {
 
     /// The keys under which copies may open.
     fn keys(&self, lent: &[u8], request: &Request) -> Result<Keys, u8> {
-        if request.registration {
-            let mut keys = Keys::default_key(lent);
-            keys.follow(&request.wrap_keys)?;
+        if request.exchange == Exchange::Rekey {
+            let mut keys = Keys::default_key(self.live_rekey().map_or(&[], Sa::default_key));
+            self.held.iter().for_each(|(id, value)| keys.add(*id, value));
             return Ok(keys);
         }
-        let mut keys = Keys::default_key(self.live_rekey().map_or(&[], Sa::default_key));
-        self.held.iter().for_each(|(id, value)| keys.add(*id, value));
+        // Over the member's own channel there is no WRAP_KEY, so key 0 is the only one.
+        let mut keys = Keys::default_key(lent);
+        keys.follow(&request.wrap_keys)?;
         Ok(keys)
     }
 
@@ -156,10 +173,11 @@ impl Member {
             self.table.push(Sa { protocol, spi, keying, encryption, condition: Condition::Live });
         }
         self.table.sort_by(|a, b| (a.protocol, &a.spi).cmp(&(b.protocol, &b.spi)));
-        self.least_id = match (new_rekey, request.registration) {
+        self.least_id = match (new_rekey, request.exchange) {
             (true, _) => Some(request.initial_id.unwrap_or(0)),
-            (false, true) => Some(0),
-            (false, false) => request.message_id.checked_add(1),
+            (false, Exchange::Registration) => Some(0),
+            (false, Exchange::Rekey) => request.message_id.checked_add(1),
+            (false, Exchange::Inband) => self.least_id,
         };
     }
 

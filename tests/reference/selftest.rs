@@ -4,7 +4,7 @@ use builder::typical::*;
 use builder::wrapping::wrap;
 use builder::{Attribute, Frame, Part, Payload, ESP, REKEY};
 use reference::aes::{Schedule, SBOX};
-use reference::member::{Condition, Member, Sa};
+use reference::member::{Answer, Condition, Member, Sa};
 use reference::{judging, keywrap, layout, text};
 
 const LENT: [u8; 16] = [0x11; 16];
@@ -46,9 +46,14 @@ fn esp_sas(spis: &[u32]) -> Vec<Payload> {
     vec![gsa(policies), kd(bags)]
 }
 
+/// The number of the answer.
+fn take(member: &mut Member, lent: &[u8], tick: u32, octets: &[u8]) -> u8 {
+    member.take(lent, tick, octets).number
+}
+
 fn registered(policy_attributes: Vec<Attribute>) -> Member {
     let mut member = Member::new();
-    assert_eq!(member.take(&LENT, 0, &registration(vec![], policy_attributes).octets()), 0);
+    assert_eq!(take(&mut member, &LENT, 0, &registration(vec![], policy_attributes).octets()), 0);
     member
 }
 
@@ -170,7 +175,7 @@ fn sample_least_id() {
     let mut member = registered(vec![initial_message_id(7)]);
     let ids = [(6, 3), (7, 0), (9, 0), (9, 3)];
     for (spi, (id, answer)) in ids.into_iter().enumerate() {
-        assert_eq!(member.take(&[], 0, &rekey(id, esp_sas(&[spi as u32])).octets()), answer, "Message ID {id}");
+        assert_eq!(take(&mut member, &[], 0, &rekey(id, esp_sas(&[spi as u32])).octets()), answer, "Message ID {id}");
     }
 }
 
@@ -178,9 +183,9 @@ fn sample_least_id() {
 #[test]
 fn sample_last_id() {
     let mut member = registered(vec![]);
-    assert_eq!(member.take(&[], 0, &rekey(u32::MAX, esp_sas(&[1])).octets()), 0);
+    assert_eq!(take(&mut member, &[], 0, &rekey(u32::MAX, esp_sas(&[1])).octets()), 0);
     for id in [0, 1, u32::MAX - 1, u32::MAX] {
-        assert_eq!(member.take(&[], 0, &rekey(id, esp_sas(&[2])).octets()), 3);
+        assert_eq!(take(&mut member, &[], 0, &rekey(id, esp_sas(&[2])).octets()), 3);
     }
 }
 
@@ -195,7 +200,7 @@ fn sample_chains() {
     ];
     for (entries, answer, held) in cases {
         let mut member = Member::new();
-        assert_eq!(member.take(&LENT, 0, &registration(entries, vec![]).octets()), answer);
+        assert_eq!(take(&mut member, &LENT, 0, &registration(entries, vec![]).octets()), answer);
         assert_eq!(held_ids(&member), held);
     }
 }
@@ -208,18 +213,66 @@ fn keys_that_wrap_themselves() {
     for itself in [entry(5, &five, 5, &five), entry(5, &other, 5, &five), entry(9, &nine, 9, &nine), entry(5, &five, 5, &LENT)] {
         for entries in [vec![itself.clone()], vec![reached(), itself.clone()], vec![itself.clone(), reached()]] {
             let mut member = Member::new();
-            assert_eq!(member.take(&LENT, 0, &registration(entries.clone(), vec![]).octets()), 6);
-            assert_eq!(member.take(&[0x11; 28], 0, &registration(entries, vec![]).octets()), 5);
+            assert_eq!(take(&mut member, &LENT, 0, &registration(entries.clone(), vec![]).octets()), 6);
+            assert_eq!(take(&mut member, &[0x11; 28], 0, &registration(entries, vec![]).octets()), 5);
             assert_eq!(member, Member::new());
         }
     }
+}
+
+/// T-02: over the member's own channel, under the lent key alone. The SPIs, the Message ID and the held keys are not asked for.
+#[test]
+fn rekeys_over_the_own_channel() {
+    let esp = |spi: u32, kwk: &[u8]| {
+        let copy = Attribute::key(0, 0, &wrap(kwk, &keying(20)));
+        vec![gsa(vec![esp_policy(&spi.to_be_bytes(), 128)]), kd(vec![bag(ESP, &spi.to_be_bytes(), vec![copy])])]
+    };
+    let next = |copies: &[(u32, &[u8])]| {
+        let copies = copies.iter().map(|(id, kwk)| Attribute::key(0, *id, &wrap(kwk, &keying(36)))).collect();
+        vec![gsa(vec![rekey_policy(&[7; 16], 128, 1)]), kd(vec![bag(REKEY, &[7; 16], copies)])]
+    };
+    let inband = |payloads| frame(GSA_INBAND_REKEY, &[0; 16], u32::MAX, payloads).octets();
+    let five = [5; 16];
+    let mut member = Member::new();
+    assert_eq!(take(&mut member, &LENT, 0, &inband(esp(1, &LENT))), 2);
+    assert_eq!(take(&mut member, &LENT, 0, &registration(vec![entry(5, &five, 0, &LENT)], vec![initial_message_id(9)]).octets()), 0);
+    let before = member.clone();
+    let refused = [
+        (4, [esp(1, &LENT), vec![delete(&[vec![0, 0, 0, 1]])]].concat()),
+        (4, vec![delete(&[vec![0, 0, 0, 1]])]),
+        (4, vec![gsa(vec![]), kd(vec![Part::unnamed(vec![])])]),
+        (6, next(&[(0, &LENT), (0, &LENT)])),
+        (9, next(&[(5, &five)])),
+        (9, next(&[(5, &LENT)])),
+        (9, esp(1, &keying(36)[20..])),
+    ];
+    for (number, payloads) in refused {
+        assert_eq!(take(&mut member, &LENT, 0, &inband(payloads)), number);
+    }
+    assert_eq!(take(&mut member, &[0x11; 20], 0, &inband(esp(1, &LENT))), 5);
+    assert_eq!(member, before);
+    assert_eq!(take(&mut member, &LENT, 0, &inband(esp(1, &LENT))), 0);
+    assert_eq!((member.table.len(), member.least_id, held_ids(&member)), (2, Some(9), vec![5]));
+    assert_eq!(take(&mut member, &LENT, 0, &inband(next(&[(0, &LENT)]))), 0);
+    assert_eq!((member.table.len(), member.least_id, held_ids(&member)), (3, Some(0), vec![5]));
+}
+
+/// What only callers of the library meet: at a tick at which every SA is due the member is empty, and a broken value is 2.
+#[test]
+fn over_the_own_channel_of_no_member() {
+    let frame = frame(GSA_INBAND_REKEY, &[0; 16], 0, esp_sas(&[2])).octets();
+    let mut due = Member { table: vec![retiring_sa(0, 1)], ..Member::new() };
+    assert_eq!(take(&mut due, &keying(36)[20..], 1000, &frame), 2);
+    assert_eq!(take(&mut due, &keying(36)[20..], 999, &frame), 0);
+    let mut broken = Member { held: vec![(0, vec![0; 16])], ..registered(vec![]) };
+    assert_eq!(take(&mut broken, &keying(36)[20..], 0, &frame), 2);
 }
 
 /// P: a 28-octet default key: 5.
 #[test]
 fn sample_default_key() {
     let mut member = Member::new();
-    assert_eq!(member.take(&[0x11; 28], 0, &registration(vec![], vec![]).octets()), 5);
+    assert_eq!(take(&mut member, &[0x11; 28], 0, &registration(vec![], vec![]).octets()), 5);
     assert_eq!(member, Member::new());
 }
 
@@ -241,7 +294,7 @@ fn sample_wrap_keys() {
     for (count, answer, held) in [(32, 0, 32), (33, 0, 33), (128, 0, 128), (129, 7, 0)] {
         let entries = (1..=count).map(|id| entry(id, &[id as u8; 16], 0, &LENT)).collect();
         let mut member = Member::new();
-        assert_eq!(member.take(&LENT, 0, &registration(entries, vec![]).octets()), answer);
+        assert_eq!(take(&mut member, &LENT, 0, &registration(entries, vec![]).octets()), answer);
         assert_eq!(member.held.len(), held);
     }
 }
@@ -251,7 +304,7 @@ fn sample_wrap_keys() {
 fn sample_64_sas() {
     let mut member = registered(vec![]);
     let mut rekeyed = |tick: u32, id: u32, payloads: Vec<Payload>, answer: u8, count: usize| {
-        assert_eq!(member.take(&[], tick, &rekey(id, payloads).octets()), answer);
+        assert_eq!(take(&mut member, &[], tick, &rekey(id, payloads).octets()), answer);
         assert_eq!(member.table.len(), count);
         member.clone()
     };
@@ -275,7 +328,7 @@ fn rekey_key_is_cut_by_its_policy() {
         let copy = Attribute::key(0, 0, &wrap(&LENT, &keying(44)));
         let payloads = vec![gsa(vec![rekey_policy(&REKEY_SPI, bits, wrap_id)]), kd(vec![bag(REKEY, &REKEY_SPI, vec![copy])])];
         let mut member = Member::new();
-        assert_eq!(member.take(&LENT, 0, &frame(GSA_REGISTRATION, &[0; 16], 0, payloads).octets()), 0);
+        assert_eq!(take(&mut member, &LENT, 0, &frame(GSA_REGISTRATION, &[0; 16], 0, payloads).octets()), 0);
         assert_eq!(member.live_rekey().unwrap().default_key(), &keying(44)[cut..]);
     }
 }
@@ -285,7 +338,7 @@ fn rekey_key_is_cut_by_its_policy() {
 fn members_of_the_library() {
     let due = Member { table: vec![retiring_sa(0, 0)], ..Member::new() };
     let mut member = due.clone();
-    assert_eq!(member.take(&LENT, 0, &registration(vec![], vec![]).octets()), 0);
+    assert_eq!(take(&mut member, &LENT, 0, &registration(vec![], vec![]).octets()), 0);
     assert!(member.table.len() == 1 && member.table[0].protocol == REKEY);
     let mut swept = due.clone();
     swept.sweep(0);
@@ -293,8 +346,8 @@ fn members_of_the_library() {
 
     let broken = Member { held: vec![(2, vec![0; 16]), (2, vec![0; 16])], ..due };
     let mut member = broken.clone();
-    assert_eq!(member.take(&LENT, 0, &registration(vec![], vec![]).octets()), 2);
-    assert_eq!(member.take(&LENT, 0, &[0; 28]), 1);
+    assert_eq!(take(&mut member, &LENT, 0, &registration(vec![], vec![]).octets()), 2);
+    assert_eq!(take(&mut member, &LENT, 0, &[0; 28]), 1);
     member.sweep(0);
     assert_eq!(member, broken);
     assert!(member.sa(ESP, &[0, 0, 0, 1]).is_none());
@@ -335,12 +388,27 @@ fn values_that_are_no_members() {
     }
 }
 
+/// T-06: the offset of a broken layout; a refusal by another number, and acceptance, carry 0. Transcript `where` has each place.
+#[test]
+fn offsets() {
+    let mut octets = registration(vec![], vec![]).octets();
+    let answer = |octets: &[u8], lent: &[u8]| Member::new().take(lent, 0, octets);
+    assert_eq!(answer(&octets, &LENT), Answer { number: 0, offset: 0 });
+    assert_eq!(answer(&octets, &[]), Answer { number: 5, offset: 0 });
+    octets[52] = 9; // the type of the source selector
+    assert_eq!(answer(&octets, &LENT), Answer { number: 1, offset: 52 });
+    octets[32] = 9; // the protocol of its policy
+    assert_eq!(answer(&octets, &LENT), Answer { number: 1, offset: 32 });
+    octets.pop();
+    assert_eq!(answer(&octets, &LENT), Answer { number: 1, offset: 0 });
+}
+
 #[test]
 fn example_of_the_program() {
     let input = b"000102030405060708090a0b0c0d0e0f\n0000000000\nxyz\n\
         0000000000000000000000000000000000000000002000000000000000000000001C\n\
         0000000000000000000000000000000000000000002000000000000000000000001 c\n";
-    assert_eq!(output(input), "1 0 0\nbad\nbad\nbad\n");
+    assert_eq!(output(input), "1 0 0 0\nbad\nbad\nbad\n");
     let header = format!("{}{}{}", "0".repeat(34), "20", "0".repeat(18) + "1c");
     assert_eq!(output(format!("\n12345678{header}").as_bytes()), "2 0 0\n");
 }
@@ -351,9 +419,9 @@ fn lines_of_the_program() {
     assert_eq!(output(b"00"), "");
     assert_eq!(output(b"\n"), "");
     assert_eq!(output(b"\n\n"), "bad\n");
-    assert_eq!(output(b"\n00000000"), "1 0 0\n");
+    assert_eq!(output(b"\n00000000"), "1 0 0 0\n");
     assert_eq!(output(b"\n00000000\r\n0000000\n00000000 \n"), "bad\nbad\nbad\n");
-    for (digits, answer) in [(32_776, "1 0 0\n"), (32_777, "bad\n"), (32_778, "bad\n"), (100_000, "bad\n")] {
+    for (digits, answer) in [(32_776, "1 0 0 0\n"), (32_777, "bad\n"), (32_778, "bad\n"), (100_000, "bad\n")] {
         assert_eq!(output(format!("\n{}\n", "0".repeat(digits)).as_bytes()), answer);
     }
     assert_eq!(text::default_key(&[b'0'; 40]).len(), 20);

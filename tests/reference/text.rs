@@ -22,8 +22,9 @@ pub fn run(mut input: impl BufRead, mut output: impl Write) -> Result<()> {
         match tick_and_frame(&line) {
             None => writeln!(output, "bad")?,
             Some((tick, frame)) => {
-                let number = member.take(&lent, tick, &frame);
-                writeln!(output, "{number} {} {}", member.table.len(), member.held.len())?;
+                let answer = member.take(&lent, tick, &frame);
+                let counts = format!("{} {} {}", answer.number, member.table.len(), member.held.len());
+                writeln!(output, "{}", answer.with_offset(counts))?;
             }
         }
     }

@@ -73,7 +73,8 @@ pub fn call(member: &mut Member, lent: &mut Vec<u8>, line: &[u8]) -> Option<Stri
         }
         _ => {
             let (tick, frame) = tick_and_frame(line)?;
-            Some(format!("answer {}", member.take(lent, tick, &frame)))
+            let answer = member.take(lent, tick, &frame);
+            Some(answer.with_offset(format!("answer {}", answer.number)))
         }
     }
 }

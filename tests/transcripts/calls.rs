@@ -200,7 +200,7 @@ fn other_lines() -> Transcript {
     t.line("32,778 digits", &[b"k".as_slice(), &[b'0'; 32_778]].concat(), "bad");
     t.line("a protocol and 16,387 octets", &[b"q".as_slice(), &[b'0'; 32_776]].concat(), "none");
     t.line("32,778 digits", &[b"q".as_slice(), &[b'0'; 32_778]].concat(), "bad");
-    t.line("a frame of 16,384 octets, zeros", &[b'0'; 32_776], "answer 1");
+    t.line("a frame of 16,384 octets, zeros", &[b'0'; 32_776], "answer 1 0");
     t.line("32,778 digits", &[b'0'; 32_778], "bad");
     t
 }

@@ -4,8 +4,10 @@
 //! member is asked.
 
 mod calls;
+mod inband;
 mod meanings;
 mod parts;
+mod places;
 mod refusals;
 mod runs;
 mod times;
@@ -51,15 +53,17 @@ impl Transcript {
         self.line(about, &line(tick, octets), answer);
     }
 
-    /// A line with its answer: the number, with the two counts unless the lines are those of `trace`, or another reply.
+    /// A line with its answer: the number, with the two counts unless the lines are those of `trace`, for number 1 with the offset behind
+    /// these, or another reply.
     pub fn line(&mut self, about: &str, line: &[u8], answer: &str) {
         self.input.extend([line, b"\n"].concat());
         self.about += &format!("{answer}: {about}\n");
         if let Some(output) = &mut self.output {
             *output += &format!("{answer}\n");
         }
-        self.trace += &match answer.split_once(' ') {
-            Some((number, _)) if self.output.is_some() => format!("answer {number}\n"),
+        self.trace += &match answer.split(' ').collect::<Vec<_>>()[..] {
+            [number, _, _] if self.output.is_some() => format!("answer {number}\n"),
+            [number, _, _, offset] => format!("answer {number} {offset}\n"),
             _ => format!("{answer}\n"),
         };
     }
@@ -88,7 +92,8 @@ fn main() -> ExitCode {
         eprintln!("transcripts DIRECTORY");
         return ExitCode::from(2);
     };
-    for transcript in [runs::all(), times::all(), meanings::all(), refusals::all(), calls::all()].iter().flatten() {
+    let all = [runs::all(), times::all(), inband::all(), meanings::all(), refusals::all(), places::all(), calls::all()];
+    for transcript in all.iter().flatten() {
         if let Err(error) = transcript.write(Path::new(&directory)) {
             eprintln!("{directory}: {error}");
             return ExitCode::FAILURE;

@@ -67,7 +67,7 @@ fn lowest_number() -> Transcript {
         mend(&mut frame);
         t.frame(about, 0, &frame, answer);
     };
-    mended("everything at once, also an octet after the last payload", &|_| {}, "1 1 1");
+    mended("everything at once, also an octet after the last payload", &|_| {}, "1 1 1 0");
     mended("without that octet: other SPIs", &|f| f.tail.clear(), "2 1 1");
     mended("over a0: Message ID 6", &|f| f.spis = fit.spis.clone(), "3 1 1");
     mended("Message ID 7: a critical unknown payload", &|f| f.message_id = fit.message_id, "4 1 1");

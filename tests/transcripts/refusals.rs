@@ -45,35 +45,38 @@ impl Transcript {
     }
 }
 
+/// The offsets in `whole`: GSA 28 with the policies at 32 and 112, KD 172 with the bags at 176, 256 and 308, the end 348.
 fn one() -> Transcript {
     let mut t = Transcript::new("refusal-1", LENT);
-    let mut refused = |about: &str, change: fn(&mut Frame)| t.refused(about, whole(), change, "1 0 0");
-    refused("27 octets", |f| f.cut = Some(27));
-    refused("header length one more than the frame's", |f| f.skew = 1);
-    refused("major version 3", |f| f.version = 0x30);
-    refused("an octet after the last payload", |f| f.tail = vec![0]);
-    refused("a payload named that is not there", |f| f.payloads[1].next = Some(NOTIFY));
-    refused("payload length 3", |f| f.payloads[0].say_length(3));
-    refused("payload length past the frame", |f| f.payloads[1].skew = 1);
-    refused("policy's first octet 1", |f| part(f, 0, 0).protocol = 1);
-    refused("bag's first octet 7", |f| part(f, 1, 1).protocol = 7);
-    refused("SPI size 16 for ESP", |f| part(f, 0, 1).second = 16);
-    refused("SPI size 4 for Rekey, in the bag", |f| part(f, 1, 0).second = 4);
-    refused("selector type 9", |f| part(f, 0, 1).selectors[0].kind = 9);
-    refused("selector length 15", |f| part(f, 0, 0).selectors[1].skew = -1);
-    refused("no transform", |f| part(f, 0, 1).transforms.clear());
-    refused("a transform's first octet 2", |f| part(f, 0, 0).transforms[0].more = Some(2));
-    refused("3 in the last transform", |f| part(f, 0, 1).transforms[1].more = Some(3));
-    refused("Key Length with a length", |f| part(f, 0, 1).transforms[0].attributes = vec![Attribute::long(14, &[0, 128])]);
-    refused("GSA_INITIAL_MESSAGE_ID of 2 octets", |f| part(f, 0, 0).attributes = vec![Attribute::long(2, &[0, 7])]);
-    refused("deactivation delay with a length", |f| add_part(f, 0, Part::unnamed(vec![Attribute::long(2, &[0, 7])])));
-    refused("SA_KEY without a length", |f| part(f, 1, 1).attributes = vec![Attribute::Short(1, 0)]);
-    refused("8 wrapped octets", |f| part(f, 1, 1).attributes = vec![Attribute::key(0, 0, &[0; 8])]);
-    refused("272 wrapped octets", |f| part(f, 1, 2).attributes = vec![Attribute::key(5, 0, &[0; 272])]);
-    refused("20 wrapped octets", |f| part(f, 1, 2).attributes = vec![Attribute::key(5, 0, &[0; 20])]);
-    refused("3 octets where an attribute stands", |f| part(f, 1, 2).tail = vec![0; 3]);
-    refused("a Delete payload of 3 octets", |f| f.payloads.push(Payload::new(DELETE, Body::Plain(vec![3, 4, 0]))));
-    refused("a Delete payload of ESP with SPIs of 5 octets", |f| {
+    let mut refused = |offset: usize, about: &str, change: fn(&mut Frame)| {
+        t.refused(about, whole(), change, &format!("1 0 0 {offset}"));
+    };
+    refused(0, "27 octets", |f| f.cut = Some(27));
+    refused(0, "header length one more than the frame's", |f| f.skew = 1);
+    refused(0, "major version 3", |f| f.version = 0x30);
+    refused(0, "an octet after the last payload", |f| f.tail = vec![0]);
+    refused(0, "a payload named that is not there", |f| f.payloads[1].next = Some(NOTIFY));
+    refused(28, "payload length 3", |f| f.payloads[0].say_length(3));
+    refused(172, "payload length past the frame", |f| f.payloads[1].skew = 1);
+    refused(32, "policy's first octet 1", |f| part(f, 0, 0).protocol = 1);
+    refused(256, "bag's first octet 7", |f| part(f, 1, 1).protocol = 7);
+    refused(112, "SPI size 16 for ESP", |f| part(f, 0, 1).second = 16);
+    refused(176, "SPI size 4 for Rekey, in the bag", |f| part(f, 1, 0).second = 4);
+    refused(120, "selector type 9", |f| part(f, 0, 1).selectors[0].kind = 9);
+    refused(68, "selector length 15", |f| part(f, 0, 0).selectors[1].skew = -1);
+    refused(112, "no transform", |f| part(f, 0, 1).transforms.clear());
+    refused(84, "a transform's first octet 2", |f| part(f, 0, 0).transforms[0].more = Some(2));
+    refused(112, "3 in the last transform", |f| part(f, 0, 1).transforms[1].more = Some(3));
+    refused(160, "Key Length with a length", |f| part(f, 0, 1).transforms[0].attributes = vec![Attribute::long(14, &[0, 128])]);
+    refused(112, "GSA_INITIAL_MESSAGE_ID of 2 octets", |f| part(f, 0, 0).attributes = vec![Attribute::long(2, &[0, 7])]);
+    refused(176, "deactivation delay with a length", |f| add_part(f, 0, Part::unnamed(vec![Attribute::long(2, &[0, 7])])));
+    refused(264, "SA_KEY without a length", |f| part(f, 1, 1).attributes = vec![Attribute::Short(1, 0)]);
+    refused(264, "8 wrapped octets", |f| part(f, 1, 1).attributes = vec![Attribute::key(0, 0, &[0; 8])]);
+    refused(312, "272 wrapped octets", |f| part(f, 1, 2).attributes = vec![Attribute::key(5, 0, &[0; 272])]);
+    refused(312, "20 wrapped octets", |f| part(f, 1, 2).attributes = vec![Attribute::key(5, 0, &[0; 20])]);
+    refused(348, "3 octets where an attribute stands", |f| part(f, 1, 2).tail = vec![0; 3]);
+    refused(348, "a Delete payload of 3 octets", |f| f.payloads.push(Payload::new(DELETE, Body::Plain(vec![3, 4, 0]))));
+    refused(348, "a Delete payload of ESP with SPIs of 5 octets", |f| {
         f.payloads.push(Payload::new(DELETE, Body::Delete(Delete::new(ESP, 5, &[vec![0; 5]]))))
     });
     t.frame("as it should be", 0, &whole(), "0 2 1");
@@ -82,14 +85,15 @@ fn one() -> Transcript {
 
 fn two() -> Transcript {
     let mut t = Transcript::new("refusal-2", LENT);
-    for exchange in [0, 38, 42, 255] {
+    for exchange in [0, 38, 43, 255] {
         t.refused("another exchange", whole(), |f| f.exchange = exchange, "2 0 0");
     }
     t.refused("a rekey of a new member", whole(), |f| f.exchange = GSA_REKEY, "2 0 0");
+    t.refused("a rekey over the own channel of a new member", whole(), |f| f.exchange = GSA_INBAND_REKEY, "2 0 0");
     t.refused(
         "another exchange beats a critical unknown payload",
         whole(),
-        |f| (f.exchange, f.payloads[0]) = (42, critical(99)),
+        |f| (f.exchange, f.payloads[0]) = (43, critical(99)),
         "2 0 0",
     );
     t.frame("the registration", 0, &whole(), "0 2 1");

@@ -26,7 +26,7 @@ pub fn all() -> Vec<Transcript> {
         Transcript::of("input-newline", b"\n", "", "an empty first line: nothing is printed"),
         Transcript::of("input-key", LENT.as_bytes(), "", "the default key, without a newline: nothing is printed"),
         Transcript::of("input-newlines", b"\n\n\n", "bad\nbad\n", "an empty first line, then two empty lines"),
-        Transcript::of("input-last-line", b"\n00000000\n00000000", "1 0 0\n1 0 0\n", "the last line has no newline"),
+        Transcript::of("input-last-line", b"\n00000000\n00000000", "1 0 0 0\n1 0 0 0\n", "the last line has no newline"),
         odd_key("key-28", &"1c".repeat(28)),
         odd_key("key-20", &"14".repeat(20)),
         odd_key("key-33", &"21".repeat(33)),
@@ -42,7 +42,7 @@ pub fn all() -> Vec<Transcript> {
 /// Document 01's own.
 fn example() -> Transcript {
     let mut t = Transcript::new("example", LENT);
-    t.line("a frame of one octet", b"0000000000", "1 0 0");
+    t.line("a frame of one octet", b"0000000000", "1 0 0 0");
     t.line("other characters", b"xyz", "bad");
     t.line("a capital", b"0000000000000000000000000000000000000000002000000000000000000000001C", "bad");
     t.line("a blank", b"0000000000000000000000000000000000000000002000000000000000000000001 c", "bad");
@@ -56,13 +56,14 @@ fn header() -> Transcript {
         t.frame("a bare header, all zero but version and length", tick, &bare, "2 0 0");
     }
     t.frame("minor version and flags are ignored", 0, &builder::Frame { version: 0x2f, flags: 255, ..bare.clone() }, "2 0 0");
-    t.frame("major version 1", 0, &builder::Frame { version: 0x10, ..bare.clone() }, "1 0 0");
-    t.frame("27 octets", 0, &builder::Frame { cut: Some(27), ..bare.clone() }, "1 0 0");
-    t.frame("length 29", 0, &builder::Frame { skew: 1, ..bare.clone() }, "1 0 0");
-    t.frame("a 29th octet, and length 29", 0, &builder::Frame { tail: vec![0], ..bare.clone() }, "1 0 0");
-    t.frame("a payload named that is not there", 0, &builder::Frame { first: Some(51), ..bare.clone() }, "1 0 0");
+    t.frame("major version 1", 0, &builder::Frame { version: 0x10, ..bare.clone() }, "1 0 0 0");
+    t.frame("27 octets", 0, &builder::Frame { cut: Some(27), ..bare.clone() }, "1 0 0 0");
+    t.frame("length 29", 0, &builder::Frame { skew: 1, ..bare.clone() }, "1 0 0 0");
+    t.frame("a 29th octet, and length 29", 0, &builder::Frame { tail: vec![0], ..bare.clone() }, "1 0 0 0");
+    t.frame("a payload named that is not there", 0, &builder::Frame { first: Some(51), ..bare.clone() }, "1 0 0 0");
     t.frame("GSA_AUTH with neither GSA nor KD", 0, &builder::Frame { exchange: 39, ..bare.clone() }, "4 0 0");
-    t.frame("GSA_REKEY to a member without a Rekey SA", 0, &builder::Frame { exchange: 41, ..bare }, "2 0 0");
+    t.frame("GSA_REKEY to a member without a Rekey SA", 0, &builder::Frame { exchange: 41, ..bare.clone() }, "2 0 0");
+    t.frame("GSA_INBAND_REKEY to a new member", 0, &builder::Frame { exchange: 42, ..bare }, "2 0 0");
     t
 }
 
@@ -267,7 +268,7 @@ fn lines() -> Transcript {
     let mut t = Transcript::new("lines", LENT);
     t.line("no digits", b"", "bad");
     t.line("7 digits", b"0000000", "bad");
-    t.line("8 digits: an empty frame", b"ffffffff", "1 0 0");
+    t.line("8 digits: an empty frame", b"ffffffff", "1 0 0 0");
     t.line("an odd count", b"000000000", "bad");
     t.line("a carriage return", b"0000000000\r", "bad");
     t.line("NUL", b"00000000\x00\x00", "bad");

@@ -6,6 +6,8 @@ mod same;
 mod values;
 
 use group::Member;
+use keys::limits::HELD_KEYS;
+use keys::limits::SAS;
 use libc::STDOUT_FILENO;
 use sa::entry::ESP;
 use sa::entry::REKEY;
@@ -134,7 +136,10 @@ fn tried(name: &[u8], m: Member) {
 // Tables that are as a member's must be but for their count.
 fn counts() {
     tried(b"as it must be", member_of(sas(3), held_keys(2)));
-    tried(b"17 SAs", member_of(sas(17), held_keys(2)));
+    tried(
+        b"one SA over the limit",
+        member_of(sas(SAS + 1), held_keys(2)),
+    );
     tried(
         b"2^64 - 1 SAs",
         member_of(sas(18446744073709551615), held_keys(2)),
@@ -143,7 +148,10 @@ fn counts() {
         b"a blank place among the SAs",
         member_of(sas(4), held_keys(2)),
     );
-    tried(b"33 held keys", member_of(sas(3), held_keys(33)));
+    tried(
+        b"one held key over the limit",
+        member_of(sas(3), held_keys(HELD_KEYS + 1)),
+    );
     tried(
         b"a blank place among the held keys",
         member_of(sas(3), held_keys(3)),

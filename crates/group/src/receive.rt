@@ -16,7 +16,7 @@ ghost use Rattle.keys.specs.Limits.{limits};
 ghost use Rattle.frames.specs.Frame.{Frame, frame};
 ghost use Rattle.contents.specs.inner.Values.{isWhole};
 ghost use Rattle.outcome.specs.Outcome.{Judged};
-ghost use Rattle.receiving.specs.inner.Passing.{Passed, Registers, RekeysOver};
+ghost use Rattle.receiving.specs.inner.Passing.{Passed, Registers, RekeysOver, RekeysInband};
 ghost use Rattle.group.specs.Receive.{numberOf, figureOf, Receives};
 
 // What becomes of a frame.
@@ -24,9 +24,10 @@ pub enum Answer {
     Accepted,
     // the octets are not laid out as a frame; the offset of the structure that broke first, 0 for the header
     BrokenLayout(usize),
-    // another exchange, a registration of a member that is not empty, a rekey over other SPIs, or a member value that breaks its list
+    // another exchange, a registration of a member that is not empty, a rekey over other SPIs, one in-band of an empty member, or a member
+    // value that breaks its list
     NotForMember,
-    // a rekey whose Message ID is below the least acceptable, or none is acceptable any more
+    // a rekey over the Rekey SA whose Message ID is below the least acceptable, or none is acceptable any more
     Replayed,
     // payloads, policies or bags that a frame of its exchange cannot have together
     BadComposition,
@@ -147,16 +148,31 @@ impl Member {
         answered(next.number, next.state)
     }
 
-    // A frame that numbers 2 to 7 let pass, with its facts. It goes by whose key KWK ID 0 names.
+    // A rekey over the member's own channel that numbers 2 to 7 let pass, with its facts. No held key is read.
+    fn rekeying_in_band(self, s: &[u8], x: Facts, lent: &[u8], tick: u32) -> Received
+        requires { ⌜ ((f : Frame) × Passed (self .state) tick (now lent) (now s) x f × RekeysInband f) ⌝ }
+        ensures { λ r. ⌜ ((f : Frame) → Passed (self .state) tick (now (lent .entry)) (now (s .entry)) x f → RekeysInband f →
+            Judged limits (self .state) tick (now (lent .entry)) f (numberOf (r .answer)) (r .member .state)) ⌝ }
+    {
+        let state = self.state;
+        let next = receiving::inband::rekeyed(state, s, x, lent, tick);
+        answered(next.number, next.state)
+    }
+
+    // A frame that numbers 2 to 7 let pass, with its facts. It goes by whether its exchange sets the held list, then by whose key KWK ID 0
+    // names.
     fn passed(self, s: &[u8], x: Facts, lent: &[u8], tick: u32) -> Received
         requires { ⌜ ((f : Frame) × Passed (self .state) tick (now lent) (now s) x f) ⌝ }
         ensures { λ r. ⌜ ((f : Frame) → Passed (self .state) tick (now (lent .entry)) (now (s .entry)) x f →
             Judged limits (self .state) tick (now (lent .entry)) f (numberOf (r .answer)) (r .member .state)) ⌝ }
     {
         let row = row_of(s);
+        if row.registers {
+            return self.registering(s, x, lent, tick);
+        }
         let zero = row.zero;
         match zero {
-            KeyZero::Lent => self.registering(s, x, lent, tick),
+            KeyZero::Lent => self.rekeying_in_band(s, x, lent, tick),
             KeyZero::RekeySa => self.rekeying(s, x, tick),
         }
     }
@@ -178,7 +194,8 @@ impl Member {
     }
 
     // A frame's octets, opened: the IKE header and the payloads. A registration (GSA_AUTH, GSA_REGISTRATION) comes with a lent default
-    // key; for a rekey (GSA_REKEY) the lent octets are not read.
+    // key, and so does a rekey over the member's own channel (GSA_INBAND_REKEY); for a rekey over the Rekey SA (GSA_REKEY) the lent octets
+    // are not read.
     pub fn receive(self, frame: &[u8], lent: &[u8], tick: u32) -> Received
         ensures { λ r. ⌜ Receives self tick (now (lent .entry)) (now (frame .entry)) (r .answer) (r .member) ⌝ }
     {

@@ -12,3 +12,5 @@ pub mod RestSays
 pub mod LifetimeSays
 pub mod Demand3
 pub mod Stands
+pub mod Wider
+pub mod Inband

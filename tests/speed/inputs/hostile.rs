@@ -30,6 +30,8 @@ const LONGEST: usize = 264;
 pub struct Hostile {
     pub name: &'static str,
     number: u8,
+    /// Where the layout breaks, printed for number 1 alone.
+    offset: usize,
     situation: Situation,
     lines: Lines,
 }
@@ -57,23 +59,28 @@ enum Lines {
 }
 
 const fn new(number: u8, name: &'static str, make: fn(&mut Group) -> Frame) -> Hostile {
-    Hostile { name, number, situation: Situation::New, lines: Lines::Alike(make) }
+    Hostile { name, number, offset: 0, situation: Situation::New, lines: Lines::Alike(make) }
+}
+
+/// A new member's, whose layout breaks at that offset.
+const fn broken(offset: usize, name: &'static str, make: fn(&mut Group) -> Frame) -> Hostile {
+    Hostile { name, number: 1, offset, situation: Situation::New, lines: Lines::Alike(make) }
 }
 
 const fn registered(number: u8, name: &'static str, make: fn(&mut Group) -> Frame) -> Hostile {
-    Hostile { name, number, situation: Situation::Registered, lines: Lines::Alike(make) }
+    Hostile { name, number, offset: 0, situation: Situation::Registered, lines: Lines::Alike(make) }
 }
 
 const fn full(number: u8, name: &'static str, make: fn(&mut Group) -> Frame) -> Hostile {
-    Hostile { name, number, situation: Situation::Full, lines: Lines::Alike(make) }
+    Hostile { name, number, offset: 0, situation: Situation::Full, lines: Lines::Alike(make) }
 }
 
 const fn room_for_many(number: u8, name: &'static str, make: fn(&mut Group) -> Frame) -> Hostile {
-    Hostile { name, number, situation: Situation::RoomForMany, lines: Lines::Alike(make) }
+    Hostile { name, number, offset: 0, situation: Situation::RoomForMany, lines: Lines::Alike(make) }
 }
 
 const fn accepted(name: &'static str, situation: Situation, make: fn(&mut Group, u32) -> Frame) -> Hostile {
-    Hostile { name, number: 0, situation, lines: Lines::ByTurn(make) }
+    Hostile { name, number: 0, offset: 0, situation, lines: Lines::ByTurn(make) }
 }
 
 pub fn all() -> impl Iterator<Item = &'static Hostile> {
@@ -85,6 +92,7 @@ impl Hostile {
     pub fn answer(&self) -> String {
         let esp_sas = self.situation.esp_sas();
         match self.lines {
+            _ if self.number == 1 => format!("1 0 0 {}", self.offset),
             _ if matches!(self.situation, Situation::New) => format!("{} 0 0", self.number),
             Lines::Alike(_) => format!("{} {} {MOST_HELD}", self.number, 1 + esp_sas),
             Lines::ByTurn(_) if matches!(self.situation, Situation::Full) => format!("{} {MOST_SAS} {MOST_HELD}", self.number),

@@ -1,9 +1,13 @@
 //! The smallest attributes and transforms, wherever they stand.
 
-use super::{closed, closed_sas, fill, fill_part, new, registered, registration, rekey_sa, skipped, Hostile, GSA_AT, KD_AT};
+use super::{broken, closed, closed_sas, fill, fill_part, new, registered, registration, rekey_sa, skipped};
+use super::{Hostile, GSA_AT, KD_AT, MOST_FRAME};
 use crate::group::announce;
 use builder::typical::*;
 use builder::{Attribute, Frame, Part, Transform};
+
+/// Where the ESP policy starts: behind the headers, 4 octets that fill the frame up, GSA and the Rekey policy of 88 octets.
+const ESP_POLICY: usize = 28 + 4 + 4 + 88;
 
 pub const TABLE: &[Hostile] = &[
     new(9, "attributes-group-wide-policy", |_| fill_part(base(), GSA_AT, 2)),
@@ -13,7 +17,7 @@ pub const TABLE: &[Hostile] = &[
     new(9, "attributes-rekey-bag", |_| fill_part(base(), KD_AT, 0)),
     new(9, "attributes-esp-bag", |_| fill_part(base(), KD_AT, 1)),
     new(9, "attributes-member-bag", |_| fill_part(base(), KD_AT, 2)),
-    new(1, "attributes-last-length", |_| {
+    broken(MOST_FRAME - 28, "attributes-last-length", |_| {
         let mut frame = fill_part(base(), KD_AT, 2);
         frame.payloads[KD_AT].parts()[2].attributes.pop();
         frame.payloads[KD_AT].parts()[2].attributes.push(Attribute::Long { kind: 99, skew: 1, value: vec![0; 24] });
@@ -23,7 +27,7 @@ pub const TABLE: &[Hostile] = &[
     new(4, "delays", |_| attributes(GSA_AT, 2, 4, Attribute::Short(2, 0))),
     new(4, "initial-message-ids", |_| attributes(GSA_AT, 0, 8, initial_message_id(0))),
     new(5, "transforms", |_| transforms()),
-    new(1, "transforms-last-octet", |_| {
+    broken(ESP_POLICY, "transforms-last-octet", |_| {
         let mut frame = transforms();
         frame.payloads[GSA_AT].parts()[1].transforms.last_mut().expect("transforms").more = Some(3);
         frame

@@ -1,7 +1,7 @@
 //! The smallest policies and bags, and hundreds of names to pair.
 
-use super::{closed_esp, closed_sas, fill, full, new, registration, room_for_many, Hostile, GSA_AT, KD_AT};
-use super::{MOST_ESP_POLICIES, MOST_SAS};
+use super::{broken, closed_esp, closed_sas, fill, full, new, registration, room_for_many, Hostile, GSA_AT, KD_AT};
+use super::{MOST_ESP_POLICIES, MOST_FRAME, MOST_SAS};
 use crate::group::{announce, Group, Sa};
 use builder::typical::*;
 use builder::{Attribute, Frame, Part, Transform, AH, ESP};
@@ -34,7 +34,7 @@ pub const TABLE: &[Hostile] = &[
     }),
     new(6, "paired-last-apart", |_| paired(POLICY + BAG, |sas| last_bag(sas).spi[3] ^= 0x80)),
     new(6, "paired-last-key-id", |_| paired(POLICY + BAG, |sas| last_bag(sas).attributes = vec![Attribute::key(1, 0, &[0; 16])])),
-    new(1, "paired-last-length", |_| {
+    broken(MOST_FRAME - 28, "paired-last-length", |_| {
         let past = Attribute::Long { kind: 99, skew: 1, value: vec![0; 24] };
         paired(POLICY + BAG, |sas| last_bag(sas).attributes = vec![past])
     }),

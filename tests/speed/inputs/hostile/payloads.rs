@@ -1,6 +1,6 @@
 //! The smallest payloads.
 
-use super::{fill, new, registered, registration, Hostile};
+use super::{broken, fill, new, registered, registration, Hostile, MOST_FRAME};
 use builder::typical::delete;
 use builder::{Body, Frame, Payload, DELETE, GSA, KD, NOTIFY};
 
@@ -9,12 +9,12 @@ pub const TABLE: &[Hostile] = &[
     new(4, "payloads-unknown", |_| empty(33)),
     new(4, "payloads-gsa", |_| empty(GSA)),
     new(4, "payloads-kd", |_| empty(KD)),
-    new(1, "payloads-last-length", |_| {
+    broken(MOST_FRAME - 4, "payloads-last-length", |_| {
         let mut frame = empty(NOTIFY);
         frame.payloads.last_mut().expect("payloads").skew = 1;
         frame
     }),
-    new(1, "payloads-last-next", |_| {
+    broken(0, "payloads-last-next", |_| {
         let mut frame = empty(NOTIFY);
         frame.payloads.last_mut().expect("payloads").next = Some(NOTIFY);
         frame
