@@ -14,7 +14,7 @@ use Rattle.state.proofs.ApartLimits.{apart}
 use Rattle.policies.specs.Policy.{Policy}
 use Rattle.frames.specs.Frame.{Frame, Content, gsa, kd}
 use Rattle.clauses.proofs.SampleParts.{spi, liveSpi, nextSpi, espSuite, rekeySuite, group, saPolicy, lasting, espPolicy, espBag, rekeyBag}
-use Rattle.clauses.proofs.SampleParts.{frameOf, registers, rekeys, fit, deletion, deleting, upTo, oneMore, espAt, rekeyAt, espFor, rekeyFor}
+use Rattle.clauses.proofs.SampleParts.{rekeyPolicy, inband, frameOf, registers, rekeys, fit, deletion, deleting, upTo, oneMore, espAt, rekeyAt, espFor, rekeyFor}
 use Rattle.clauses.proofs.SampleParts.{dueNow, dueLater, outNow, outLater, memberOf, memberWithin, Sample, sample, anew, later}
 
 -- ---- policies with these lifetimes; what announces one of them
@@ -40,6 +40,13 @@ rekeyAlone t = of (rekeyFor t ∷ [])
 abbrev espBeside : Lifetime → State
 espBeside t = of (espFor 1 t ∷ rekeyAt Live ∷ [])
 
+-- a live ESP SA beside a Rekey SA with this lifetime; what announces a Rekey SA with the SPI of that one
+abbrev espAnd : Lifetime → State
+espAnd t = of (espAt 9 Live ∷ rekeyFor t ∷ [])
+
+abbrev again : List Content
+again = gsa (rekeyPolicy liveSpi ∷ []) ∷ kd (rekeyBag liveSpi 1 ∷ []) ∷ []
+
 abbrev pub samplesOfLifetimes : List Sample
 samplesOfLifetimes =
     -- "A rekey over a Rekey SA that is due at its tick, swept or not, gives 2": before 3 and 4 too. One that has not run is none the worse
@@ -55,6 +62,11 @@ samplesOfLifetimes =
     sample (rekeyAlone outLater) 16 (registers fit) 2 ∷
     sample (of (espFor 8 outNow ∷ espAt 9 dueNow ∷ rekeyFor outNow ∷ [])) 16 (registers fit) 0 ∷
     sample (of (espFor 8 outNow ∷ espAt 9 dueLater ∷ rekeyFor outNow ∷ [])) 16 (registers fit) 2 ∷
+    -- over the member's own channel: taken unless every SA is due, with the SPI of a Rekey SA that ran out too
+    sample (espAnd outNow) 16 (inband (espLasting (1 ∷ []))) 0 ∷
+    sample (espAnd outNow) 16 (inband again) 0 ∷
+    sample (espAnd outLater) 16 (inband again) 6 ∷
+    sample (rekeyAlone outNow) 16 (inband again) 2 ∷
     -- a member value with a lifetime of more than 2,000,000 seconds breaks its list, due or not; two live Rekey SAs, one of them due, too
     sample (espBeside (Limited 0 2000001)) 0 (deleting liveSpi 9) 2 ∷
     sample (espBeside (Limited 0 2000000)) 0 (deleting liveSpi 9) 0 ∷
