@@ -124,8 +124,8 @@ unfolding refusal judged one any all count keep heads rising newState stateForme
     authenticationFits transformsFit criticalUnknown barredMemberBag barredDelete twoGsa twoKd gsaWithoutKd kdWithoutGsa neither
     severalRekeyPolicies severalGroupWide severalMemberBags gsaWithoutSaPolicy keyLengthTwice initialMessageIdTwice delayTwice
     otherDestination lifetimeTwice four-ofFrame ahPolicy ahBag otherTransforms deleteOfOther deleteOfNone lentKeySize five-ofFrame
-    policyUnpaired bagUnpaired policyTwice bagTwice alreadyInTable otherSaKeyCount saKeyCount saKeyId espKwkId wrapKeyId wrapsItself six-ofFrame
-    six-ofMember manyEspPolicies manyWrapKeys manySaKeys manyDeletedSpis longLifetime manySas seven-ofFrame seven-ofMember placesFrom
+    policyUnpaired bagUnpaired policyTwice bagTwice alreadyInTable otherSaKeyCount saKeyCount saKeyId espKwkId wrapKeyId wrapsItself
+    six-ofFrame six-ofMember manyEspPolicies manyWrapKeys manySaKeys manyDeletedSpis longLifetime manySas seven-ofFrame seven-ofMember placesFrom
 samples-answered =
     record {
       of-2-and-3 = refl;

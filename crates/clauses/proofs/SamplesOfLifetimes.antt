@@ -13,8 +13,9 @@ use Rattle.state.specs.declared.least.Least.the-variants.{Id}
 use Rattle.state.proofs.ApartLimits.{apart}
 use Rattle.policies.specs.Policy.{Policy}
 use Rattle.frames.specs.Frame.{Frame, Content, gsa, kd}
-use Rattle.clauses.proofs.SampleParts.{spi, liveSpi, nextSpi, espSuite, rekeySuite, group, saPolicy, lasting, espPolicy, espBag, rekeyBag}
-use Rattle.clauses.proofs.SampleParts.{rekeyPolicy, inband, frameOf, registers, rekeys, fit, deletion, deleting, upTo, oneMore, espAt, rekeyAt, espFor, rekeyFor}
+use Rattle.clauses.proofs.SampleParts.{spi, liveSpi, nextSpi, espSuite, rekeySuite, group, saPolicy, lasting, espPolicy}
+use Rattle.clauses.proofs.SampleParts.{rekeyPolicy, espBag, rekeyBag, frameOf, registers, rekeys, inband, fit, deletion, deleting, upTo}
+use Rattle.clauses.proofs.SampleParts.{oneMore, espAt, rekeyAt, espFor, rekeyFor}
 use Rattle.clauses.proofs.SampleParts.{dueNow, dueLater, outNow, outLater, memberOf, memberWithin, Sample, sample, anew, later}
 
 -- ---- policies with these lifetimes; what announces one of them

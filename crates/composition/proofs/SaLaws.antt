@@ -90,8 +90,10 @@ module _ (protocol : ℕ) (o : List ℕ) (x : SaBody) (r : SaParts) (f : SaParts
         let v = ids-are n nq in
         let z = lifetimes-are m mq in
         let y =
-        hq ∙ ap (λ (z : Numbers). cond (eqb protocol 6) (z .greatest) 0) v ∙ greatest-if (eqb protocol 6) (map four (values meaning.InitialMessageId)) in
-        let over = ap (λ (t : Numbers). ltb mostSeconds (t .greatest)) z ∙ over-greatest mostSeconds (map four (values meaning.KeyLifetime)) in
+        hq ∙ ap (λ (z : Numbers). cond (eqb protocol 6) (z .greatest) 0) v
+        ∙ greatest-if (eqb protocol 6) (map four (values meaning.InitialMessageId)) in
+        let over =
+        ap (λ (t : Numbers). ltb mostSeconds (t .greatest)) z ∙ over-greatest mostSeconds (map four (values meaning.KeyLifetime)) in
         λ i. record {
           sas = 1;
           esps = eq i;

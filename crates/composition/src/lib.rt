@@ -36,8 +36,8 @@ pub struct PolicyFacts {
     pub wides: usize,
     // a policy is of AH
     pub ah: bool,
-    // Key Length stands twice in a transform, GSA_INITIAL_MESSAGE_ID twice in a policy, the deactivation delay twice in a group-wide policy,
-    // GSA_KEY_LIFETIME twice in a policy
+    // Key Length stands twice in a transform, GSA_INITIAL_MESSAGE_ID twice in a policy, the deactivation delay twice in a group-wide
+    // policy, GSA_KEY_LIFETIME twice in a policy
     pub lengths: bool,
     pub ids: bool,
     pub delays: bool,

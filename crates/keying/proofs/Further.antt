@@ -60,7 +60,8 @@ module _ (roots : List Root) (entries : List WrapKey) (size : ℕ) (f : Frame) (
     pub eight-more : IsEight roots entries size f a → SomeEight roots entries size f (l ++ (a ∷ []))
     eight-more e = record { sa = a; stands = last-in l a; eight = e }
 
-    no-eight : (nine : Bool) (sas : List Sa) (n : ℕ) → KeysOf roots entries size f l tick (foundBy nine) sas n → NoEight roots entries size f l
+    no-eight : (nine : Bool) (sas : List Sa) (n : ℕ) → KeysOf roots entries size f l tick (foundBy nine) sas n →
+        NoEight roots entries size f l
     no-eight true sas n k = k .0
     no-eight false sas n k = k .0
 
@@ -70,7 +71,8 @@ module _ (roots : List Root) (entries : List WrapKey) (size : ℕ) (f : Frame) (
         (fit-further l a (no-eight nine sas n k) (unopened-fit a u), record { sa = a; stands = last-in l a; none = u })
 
     pub sa-more : (nine : Bool) (sas : List Sa) (n : ℕ) → KeysOf roots entries size f l tick (foundBy nine) sas n → (sa : Sa) →
-        n < length sas → IsSa tick sa roots entries size f a → KeysOf roots entries size f (l ++ (a ∷ [])) tick (foundBy nine) (set sas n sa) (n + 1)
+        n < length sas → IsSa tick sa roots entries size f a →
+        KeysOf roots entries size f (l ++ (a ∷ [])) tick (foundBy nine) (set sas n sa) (n + 1)
     sa-more true sas n k sa h u = (fit-further l a (k .0) (u .fit), unopened-wider l (a ∷ []) (k .1))
     sa-more false sas n k sa h u =
         let s = set sas n sa in

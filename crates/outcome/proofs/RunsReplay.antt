@@ -1,6 +1,6 @@
 -- NO REPLAY: as long as no step leaves or brings a new Rekey SA, a Message ID that was accepted, or a lower one, is never accepted again;
--- after 4,294,967,295 none is. GSA_INBAND_REKEY may come between. A live Rekey SA is no premise: one that ran out can be replaced, under its
--- own SPI, with a new least Message ID, and be live in every state all the while (document 02, T-07).
+-- after 4,294,967,295 none is. GSA_INBAND_REKEY may come between. A live Rekey SA is no premise: one that ran out can be replaced, under
+-- its own SPI, with a new least Message ID, and be live in every state all the while (document 02, T-07).
 use native.Mathlib.Omega.{arith}
 use Prim.Native.Nat.{ℕ, _+_, _-_, _^_, _≤_}
 use mathlib.Core.Path.{_≡_, refl, ap, sym, _∙_, subst}

@@ -34,7 +34,8 @@ use Rattle.chains.specs.Chain.{In, Root, Reached, Ends}
 use Rattle.chains.specs.Refusals.{Announced, EntriesEight, Eight, Nine, KeyOf}
 use Rattle.outcome.specs.Answer.{EightOf, NineOf}
 use Rattle.outcome.specs.Roots.{rootsOf, entriesOf, wrappingSize, copiesOf, needOf, announcedAs, announcedKeys}
-use Rattle.outcome.specs.After.{lifetimeFrom, saFrom, oldSas, insertAll, one-more, no-sa, HeldAre, HeldBy, initialMessageId, leastAfterwards, After}
+use Rattle.outcome.specs.After.{lifetimeFrom, saFrom, oldSas, insertAll, one-more, no-sa, HeldAre, HeldBy, initialMessageId}
+use Rattle.outcome.specs.After.{leastAfterwards, After}
 use Rattle.outcome.specs.Samples.{Around, rekeyPolicy, creating, created, Creates, entry, heldWith, Wrapping, key-tree, Says}
 use Rattle.outcome.proofs.Rows.{lent-roots, lent-size}
 use Rattle.outcome.proofs.RunsClear.{None, Clear}
@@ -209,8 +210,8 @@ module _ (r : Around) (now : ℕ) (lent x v₁ v₃ v₇ octets : List ℕ) (c :
       (held-tree lent v₁ v₃ v₇ (c .key) (c .first) (c .second) (c .third))
 
   after-tree : After limits s now lent g next
-  unfolding Set gather newState tableOf keep oldSas insertAll insert saFrom lifetimeFrom leastAfterwards initialMessageId any encryptionOctets
-      keyWrapOctets sum neededBy neededIn isRowOf
+  unfolding Set gather newState tableOf keep oldSas insertAll insert saFrom lifetimeFrom leastAfterwards initialMessageId any
+      encryptionOctets keyWrapOctets sum neededBy neededIn isRowOf
   after-tree = record {
     new = saFrom now (rekeyPolicy r) x ∷ [];
     enter =

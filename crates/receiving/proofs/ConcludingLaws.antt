@@ -121,7 +121,8 @@ module _ (m : State) (e : stateFormed limits m ≡ true) where
 module _ (m : State) (now : ℕ) (lent s : List ℕ) (x : Facts) (keyed : Keyed) (held : Held) (f : Frame)
     (o : Opened m now lent s x keyed held f) where
   keys-by : (y : Found) → keyed .found ≡ y →
-      KeysOf (rootsOf limits m now lent f) (entriesOf f) (wrappingSize limits m now lent f) f (announced f) now y (keyed .sas) (keyed .count)
+      KeysOf (rootsOf limits m now lent f) (entriesOf f) (wrappingSize limits m now lent f) f (announced f) now y (keyed .sas)
+      (keyed .count)
   keys-by y e =
       subst
       (λ (z : Found).

@@ -1,4 +1,5 @@
--- The numbers that attributes of a policy give, GSA_INITIAL_MESSAGE_ID, GSA_KEY_LIFETIME or the deactivation delay: how many there are, and the greatest.
+-- The numbers that attributes of a policy give, GSA_INITIAL_MESSAGE_ID, GSA_KEY_LIFETIME or the deactivation delay: how many
+-- there are, and the greatest.
 use Prim.Native.Nat.{ℕ, _+_}
 use mathlib.Core.List.{List, [], _∷_, map}
 use mathlib.Core.Bool.{Bool, true, false, cond}

@@ -16,7 +16,8 @@ use Rattle.keying.proofs.walked.Statement.{statement}
 use Rattle.keying.proofs.walked.Tie as tie
 
 abbrev Inv-loop : tie.InvT-loop
-Inv-loop g k tables schedule ids block tick nine₀ sas₀ count₀ at₀ nine sas count at = Along g k (schedule .words) ids block tick at nine sas count
+Inv-loop g k tables schedule ids block tick nine₀ sas₀ count₀ at₀ nine sas count at =
+    Along g k (schedule .words) ids block tick at nine sas count
 
 abbrev μ-loop : tie.MeasureT-loop
 μ-loop g k tables schedule ids block tick nine₀ sas₀ count₀ at₀ nine sas count at = length g - at
@@ -27,8 +28,8 @@ blank-requires c κs = search needs
 loop-holds : tie.Need-loop-holds Inv-loop μ-loop
 loop-holds c =
     let s = c .before .before .before .before .before in
-    along-start (now (s .args .g)) (now (s .args .k)) (s .args .schedule .words) (now (s .args .ids)) (now (s .args .block)) (s .args .tick) _
-    (s .pre .0) refl
+    along-start (now (s .args .g)) (now (s .args .k)) (s .args .schedule .words) (now (s .args .ids)) (now (s .args .block))
+    (s .args .tick) _ (s .pre .0) refl
 
 sub-policy-parts : tie.Need-sub-policy-parts Inv-loop μ-loop
 sub-policy-parts c = search needs
@@ -88,8 +89,8 @@ with-policy-requires c κs =
     let p = here d in
     let z = c .before .before .if1 .taken in
     let a = s .args in
-    let n = along-announces (now (a .g)) (now (a .k)) (a .schedule .words) (now (a .ids)) (now (a .block)) (a .tick) (l .at) (l .nine) (l .sas)
-    (l .count) (l .inv) _ p z (f .0) (f .1) in (
+    let n = along-announces (now (a .g)) (now (a .k)) (a .schedule .words) (now (a .ids)) (now (a .block)) (a .tick) (l .at) (l .nine)
+    (l .sas) (l .count) (l .inv) _ p z (f .0) (f .1) in (
       p .small (λ i. t .shared-slice-known .given i .fits),
       (s .pre .1 .0, (s .pre .1 .1 .0, (s .pre .1 .1 .1 .0, (f .0, p .sa-at z .sa, n)))),
     )
@@ -99,8 +100,8 @@ says : (c : tie.After-with-policy Inv-loop μ-loop) (x : Found) → c .with-poli
     let d = c .before .before .before .before .before .before .before in
     let l = d .before .before .before .loop in
     let a = d .before .before .before .before .before .before .before .before .before .args in
-    Says (now (a .g)) (now (a .k)) (a .schedule .words) (now (a .ids)) (now (a .block)) (a .tick) (l .at) (l .nine) (l .sas) (l .count) (l .inv) _
-    (here d) (c .before .before .before .if1 .taken) (IsBy (a .tick) x (c .with-policy .result .sa))
+    Says (now (a .g)) (now (a .k)) (a .schedule .words) (now (a .ids)) (now (a .block)) (a .tick) (l .at) (l .nine) (l .sas) (l .count)
+    (l .inv) _ (here d) (c .before .before .before .if1 .taken) (IsBy (a .tick) x (c .with-policy .result .sa))
 says c x e roots entries size f b i =
     let d = c .before .before .before .before .before .before .before in
     let a = d .before .before .before .before .before .before .before .before .before .args in

@@ -24,7 +24,8 @@ use Rattle.keying.specs.declared.joining.Found.the-variants as found
 use Rattle.keying.specs.declared.joining.Keyed.{Keyed}
 
 -- A frame with this GSA body and this KD body, and what is known of it after numbers 4 to 7: no Key Length and no
--- GSA_KEY_LIFETIME twice in one place; transforms that are exactly those of document 01, so no AH policy; one bag for each policy; no more SAs than a table holds
+-- GSA_KEY_LIFETIME twice in one place; transforms that are exactly those of document 01, so no AH policy; one bag for each policy; no
+-- more SAs than a table holds
 pub record Ready (f : Frame) (g k : List ℕ) : Type 0 where
   pub policies : policiesOf f ≡ policiesIn g
   pub bags : bagsOf f ≡ bagsIn k

@@ -74,8 +74,8 @@ pub record Named (protocol : ℕ) (spi : List ℕ) (encryption wrapping : ℕ) (
   pub lifetime-is : lifetimeFrom tick (a .keyLifetimes) ≡ lifetime
 
 -- such a policy, and what its copies open to
-pub record IsOpened (protocol : ℕ) (spi : List ℕ) (encryption wrapping : ℕ) (lifetime : Lifetime) (tick : ℕ) (one : Opened) (roots : List Root)
-    (entries : List WrapKey) (size : ℕ) (f : Frame) (a : GroupSaPolicy) : Type 0 where
+pub record IsOpened (protocol : ℕ) (spi : List ℕ) (encryption wrapping : ℕ) (lifetime : Lifetime) (tick : ℕ) (one : Opened)
+    (roots : List Root) (entries : List WrapKey) (size : ℕ) (f : Frame) (a : GroupSaPolicy) : Type 0 where
   pub name : Named protocol spi encryption wrapping lifetime tick a
   pub answers : Answers roots entries size (announcedAs f a) one
 

@@ -55,8 +55,8 @@ returns c =
 returns-2 : tie.Need-returns-2
 returns-2 c =
     let b = c .before .before .before .before in
-    number-is (b .args .m) (now (b .args .v)) (b .pre .1) meaning.DeactivationDelay _ (c .before .enum-told2 .given .1) (c .be16-at .ensures .0)
-    (omega arith)
+    number-is (b .args .m) (now (b .args .v)) (b .pre .1) meaning.DeactivationDelay _ (c .before .enum-told2 .given .1)
+    (c .be16-at .ensures .0) (omega arith)
 
 returns-3 : tie.Need-returns-3
 returns-3 c =
