@@ -41,7 +41,7 @@ opened-requires c κs =
 
 of-policy-requires : tie.Need-of-policy-requires
 of-policy-requires c κs =
-    let s = c .before .before .before .before .before .before .before .before in
+    let s = c .before .before .before .before .before .before .before in
     let q = s .pre .1 .1 .1 .1 in
     lifetime-there (now (s .args .k)) (s .args .protocol) (now (s .args .spi)) (now (s .args .x)) (q .0) (q .1) (q .2)
 
