@@ -3,23 +3,21 @@ use native.Mathlib.Omega.{arith}
 use Prim.Native.Nat.{ℕ}
 use mathlib.Core.Path.{_≡_, refl, ap, sym, subst, _∙_}
 use mathlib.Core.Bool.{Bool, true, false}
-use mathlib.Core.List.{List, [], _∷_, List·Memᴰ}
+use mathlib.Core.List.{List, [], _∷_}
 use lib.ListN.{length}
 use Rattle.keys.specs.Limits.{limits}
 use Rattle.keys.specs.Lists.{any}
 use Rattle.keys.specs.declared.kinds.WrappingKey.{WrappingKey}
-use Rattle.keys.specs.declared.kinds.MadeWrapping.{MadeWrapping}
 use Rattle.keys.proofs.Cases.{and-parts}
-use Rattle.keys.proofs.Members.{kept-member}
 use Rattle.attributes.specs.Tree.{WrapKey}
 use Rattle.frames.specs.Frame.{Frame}
 use Rattle.frames.specs.Exchange.{rekey}
 use Rattle.frames.specs.declared.exchanges.Exchange.{Exchange}
 use Rattle.sa.specs.Entry.{named, liveRekey}
 use Rattle.sa.specs.Entry as entry
-use Rattle.table.specs.Table.{sasOf, tableFormed, stays, swept, keyOf, defaultKey}
-use Rattle.table.proofs.Finds.{rekey-found}
-use Rattle.table.proofs.Kept.{swept-formed}
+use Rattle.table.specs.Table.{sasOf, tableFormed, swept, defaultKey}
+use Rattle.table.specs.declared.Table.{Table}
+use Rattle.table.proofs.Kept.{sas-of-table, swept-formed}
 use Rattle.state.specs.declared.State.{State}
 use Rattle.state.specs.declared.held.Held.{Held}
 use Rattle.clauses.specs.Number2.{standing, overLiveRekey}
@@ -30,14 +28,14 @@ use Rattle.outcome.specs.Roots.{rootsOf, entriesOf, wrappingSize}
 use Rattle.outcome.specs.After.{HeldAre, HeldBy}
 use Rattle.outcome.proofs.Rows.{own-roots}
 use Rattle.outcome.proofs.Members.{not-in-none}
-use Rattle.outcome.proofs.RunsLists.{Passes, some-passes, passes-some}
-use Rattle.outcome.proofs.RunsOld.{swept-sas}
+use Rattle.outcome.proofs.RunsLists.{some-passes, passes-some}
+use Rattle.acceptance.proofs.NextLaws.{swept-made}
 use Rattle.judging.specs.declared.facts.Facts.{Facts}
 use Rattle.keying.specs.inner.Keyed.{KeyedBy}
 use Rattle.keying.specs.declared.joining.Keyed.{Keyed}
 use Rattle.receiving.specs.inner.Passing.{Bodied, IsDefaultKey, Opened}
 use Rattle.receiving.proofs.ClauseLaws.{state-formed, over-live, no-entry}
-use Rattle.receiving.proofs.ConcludingLaws.{table-is}
+use Rattle.receiving.proofs.ConcludingLaws.{table-fits, table-is}
 use Rattle.receiving.proofs.Rekeying.{heldRoots, rekey-agrees}
 
 -- with no entry nothing is reached
@@ -77,38 +75,28 @@ module _ {y : Exchange} {m : State} {now : ℕ} {lent s : List ℕ} {x : Facts} 
             (m .held ≡ m .held)) (sym (ap (λ (e : Exchange). e .registers) (b .row) ∙ leaves)) refl;
       }
 
-module _ {m : State} {now : ℕ} {lent s : List ℕ} {x : Facts} {g k : List ℕ} {f : Frame} (b : Bodied rekey m now lent s x g k f) where
-  pub own-formed : tableFormed limits (m .table) ≡ true
-  own-formed = table-is m (state-formed m now lent f (b .passed .clauses))
+module _ {m : State} {now : ℕ} {lent s : List ℕ} {x : Facts} {g k : List ℕ} {f : Frame} (b : Bodied rekey m now lent s x g k f) (t : Table)
+    (w : t ≡ swept limits now (m .table)) where
+  pub stands-formed : tableFormed limits t ≡ true
+  stands-formed =
+      ap (tableFormed limits) w
+      ∙ swept-formed limits now (m .table) (table-is m (state-formed m now lent f (b .passed .clauses)))
 
-  -- the live Rekey SA over which it came, which is not due at the tick, is the one of the table as it stands and of the swept one
-  over : Passes (overLiveRekey (f .header .spi)) (standing now m)
-  over = some-passes (overLiveRekey (f .header .spi)) (standing now m) (over-live m now lent f (b .passed .clauses) (b .row))
+  stands-are : sasOf t ≡ standing now m
+  stands-are =
+      ap sasOf (w ∙ swept-made now (m .table) (table-fits m (state-formed m now lent f (b .passed .clauses))))
+      ∙ sas-of-table limits (standing now m)
 
-  is-live : liveRekey (over .one) ≡ true
-  is-live = and-parts (liveRekey (over .one)) (named entry.rekey (f .header .spi) (over .one)) (over .passes) .0
+  pub stands-live : any liveRekey (sasOf t) ≡ true
+  stands-live =
+      let x = some-passes (overLiveRekey (f .header .spi)) (standing now m) (over-live m now lent f (b .passed .clauses) (b .row)) in
+      let l = and-parts (liveRekey (x .one)) (named entry.rekey (f .header .spi) (x .one)) (x .passes) .0 in
+      ap (any liveRekey) stands-are ∙ passes-some liveRekey (standing now m) (x .one) (x .stands) l
 
-  in-table : List·Memᴰ (over .one) (sasOf (m .table))
-  in-table = kept-member (stays now) (over .one) (sasOf (m .table)) (over .stands) .0
-
-  pub own-live : any liveRekey (sasOf (m .table)) ≡ true
-  own-live = passes-some liveRekey (sasOf (m .table)) (over .one) in-table is-live
-
-  default-kept : defaultKey limits (swept limits now (m .table)) ≡ defaultKey limits (m .table)
-  unfolding defaultKey
-  default-kept =
-      let t = swept limits now (m .table) in
-      let are : sasOf t ≡ standing now m = swept-sas limits m now own-formed in
-      let there = subst (List·Memᴰ (over .one)) (sym are) (over .stands) in
-      ap keyOf
-      (rekey-found limits t (swept-formed limits now (m .table) own-formed) (over .one) there is-live
-      ∙ sym (rekey-found limits (m .table) own-formed (over .one) in-table is-live))
-
-  module _ (zero : WrappingKey) (d : IsDefaultKey (m .table) zero) where
+  module _ (zero : WrappingKey) (d : IsDefaultKey t zero) where
     roots-are : heldRoots zero (m .held) ≡ rootsOf limits m now lent f
     roots-are =
-        let own : zero ≡ defaultKey limits (swept limits now (m .table)) .key =
-        d .is ∙ ap (λ (y : MadeWrapping). y .key) (sym default-kept) in
+        let own : zero ≡ defaultKey limits (swept limits now (m .table)) .key = d .is ∙ ap (λ (x : Table). defaultKey limits x .key) w in
         ap (λ (x : WrappingKey). heldRoots x (m .held)) own ∙ sym (own-roots limits m now f (b .row) lent)
 
     pub rekey-opened : (keyed : Keyed) →
