@@ -13,20 +13,8 @@ use Rattle.sa.specs.declared.entry.Lifetime.the-variants.{Unlimited, Lim
 use Rattle.sa.specs.declared.entry.Sa.{Sa}
 use Rattle.sa.specs.Clock.{elapsed, elapsedAtLeast}
 use Rattle.keys.proofs.Cases.{and-parts}
+use Rattle.sa.specs.DueSays.{DelayRan, LifetimeRan}
 use Rattle.sa.specs.Entry.{mostSeconds, fitLifetime, sized, formed, dueBy, ranOut, due, retired}
-
--- the delay of a retiring SA has run, its lifetime has run
-pub record DelayRan (now : ℕ) (s : Sa) : Type 0 where
-  pub start : ℕ
-  pub delay : ℕ
-  pub retires : s .condition ≡ Retiring start delay
-  pub passed : 1000 * delay ≤ elapsed now start
-
-pub record LifetimeRan (now : ℕ) (s : Sa) : Type 0 where
-  pub start : ℕ
-  pub seconds : ℕ
-  pub limited : s .lifetime ≡ Limited start seconds
-  pub passed : 1000 * seconds ≤ elapsed now start
 
 either-true : (a b : Bool) → a || b ≡ true → (a ≡ true) ⊎ (b ≡ true)
 either-true true b e = inl refl
