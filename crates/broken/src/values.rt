@@ -62,9 +62,20 @@ pub(crate) fn retiring(s: Sa) -> Sa {
 
 // It has a lifetime of so many seconds from tick 0 on.
 pub(crate) fn lasting(s: Sa, seconds: u32) -> Sa {
-    let mut t = s;
-    t.lifetime = Lifetime::Limited { start: 0, seconds };
-    t
+    let spi = s.spi;
+    let octets = s.octets;
+    let condition = s.condition;
+    let lifetime = Lifetime::Limited { start: 0, seconds };
+    Sa {
+        protocol: s.protocol,
+        spi,
+        octets,
+        count: s.count,
+        encryption: s.encryption,
+        wrapping: s.wrapping,
+        condition,
+        lifetime,
+    }
 }
 
 // Another last octet of the place for SPIs, which an ESP SPI does not use.
