@@ -15,6 +15,7 @@ use values::esp;
 use values::held_keys;
 use values::held_of;
 use values::key;
+use values::lasting;
 use values::member_of;
 use values::rekey;
 use values::retiring;
@@ -233,6 +234,24 @@ fn sizes() {
     );
 }
 
+fn lifetimes() {
+    let r = rekey(160, 36, 20, 16);
+    tried(
+        b"an ESP SA with a lifetime of 2000001 seconds",
+        member_of(
+            table_of(lasting(esp(1, 20), 2000001), retiring(esp(2, 20)), r, 3),
+            held_keys(2),
+        ),
+    );
+    tried(
+        b"a Rekey SA with a lifetime of 4294967295 seconds",
+        member_of(
+            table_of(esp(1, 20), retiring(esp(2, 20)), lasting(r, 4294967295), 3),
+            held_keys(2),
+        ),
+    );
+}
+
 fn held_lists() {
     tried(
         b"Key ID 0",
@@ -291,6 +310,7 @@ fn main() {
     counts();
     orders();
     sizes();
+    lifetimes();
     held_lists();
     in_band();
 }

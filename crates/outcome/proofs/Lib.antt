@@ -34,7 +34,7 @@ pub mod OwnKey
 pub mod AtTick
 pub mod RunsLive
 pub mod RunsReplay
-pub mod NeverDue
+pub mod RanOut
 pub mod InbandBeside
 pub mod Inband
 pub mod KeyZero

@@ -35,7 +35,8 @@ use Rattle.clauses.specs.Fitness.{isEsp}
 use Rattle.clauses.specs.Number2.{standing, nonEmptyMember, otherSpis}
 use Rattle.clauses.specs.Number3.{notAcceptable}
 use Rattle.clauses.specs.Number6.{alreadyInTable, six-ofMember}
-use Rattle.clauses.specs.Number7.{manyEspPolicies, manyWrapKeys, manySaKeys, manyDeletedSpis, manySas, seven-ofFrame, seven-ofMember}
+use Rattle.clauses.specs.Number7.{manyEspPolicies, manyWrapKeys, manySaKeys, manyDeletedSpis, longLifetime, manySas}
+use Rattle.clauses.specs.Number7.{seven-ofFrame, seven-ofMember}
 use Rattle.clauses.specs.Refusals.{one, applies, two, three, six, seven}
 use Rattle.clauses.proofs.Clear.{or-none}
 use Rattle.chains.specs.Chain.{Root}
@@ -148,13 +149,15 @@ module _ (a b : Limits) (w : Wider a b) (s t : State) (i : Within a s) (m : Same
           let e1 = or-none (manyEspPolicies a f) _ (p .0) in
           let e2 = or-none (manyWrapKeys a f) _ (e1 .1) in
           let e3 = or-none (manySaKeys a f) _ (e2 .1) in
-          let e4 = or-none (manyDeletedSpis a f) false (e3 .1) in
+          let e4 = or-none (manyDeletedSpis a f) _ (e3 .1) in
+          let e6 = or-none (longLifetime f) false (e4 .1) in
           let e5 = or-none (manySas a s now f) false (p .1) in
           rw (
             not-over (a .espPolicies) (b .espPolicies) (count isEsp (announced f)) (w .espPolicies) (e1 .0),
             not-over (a .wrapKeys) (b .wrapKeys) (length (wrapKeysOf f)) (w .wrapKeys) (e2 .0),
             none-over (a .saKeys) (b .saKeys) (λ (x : GroupKeyBag). length (x .keys)) (groupBags f) (w .saKeys) (e3 .0),
             not-over (a .deletedSpis) (b .deletedSpis) (length (deletedSpis f)) (w .deletedSpis) (e4 .0),
+            e6 .0,
             not-over (a .sas) (b .sas) (length (standing now t) + length (announced f)) (w .sas)
                 (ap (λ (l : List Sa). ltb (a .sas) (length l + length (announced f))) (sym stand) ∙ e5 .0),
           )
@@ -235,8 +238,8 @@ module _ (a b : Limits) (w : Wider a b) (s t : State) (i : Within a s) (m : Same
             after = record {
               new = x .new;
               enter =
-                  subst (λ (r : List Root). Enter r (entriesOf f) (wrappingSize b t now lent f) f (announced f) (x .new)) roots
-                  (subst (λ (n : ℕ). Enter (rootsOf a s now lent f) (entriesOf f) n f (announced f) (x .new)) size (x .enter));
+                  subst (λ (r : List Root). Enter r (entriesOf f) (wrappingSize b t now lent f) now f (announced f) (x .new)) roots
+                  (subst (λ (n : ℕ). Enter (rootsOf a s now lent f) (entriesOf f) n now f (announced f) (x .new)) size (x .enter));
               table = refl;
               held = h .by;
               least = refl;
