@@ -10,6 +10,7 @@ mod calls;
 mod case;
 mod damage;
 mod limits;
+mod lives;
 mod programs;
 mod scene;
 mod script;
@@ -142,8 +143,12 @@ fn print(program: &Program, tally: &Tally, arguments: &Arguments, taken: Duratio
         program.path.display()
     );
     println!("compare: answers {}", answers.join(", "));
-    let counted =
-        [("layouts broken in", &tally.breaks), ("calls", &tally.calls), ("accepted frames that leave or use", &tally.limits)];
+    let counted = [
+        ("layouts broken in", &tally.breaks),
+        ("calls", &tally.calls),
+        ("accepted frames that leave or use", &tally.limits),
+        ("lifetimes:", &tally.lives),
+    ];
     for (what, counts) in counted {
         if !counts.is_empty() {
             let counts: Vec<String> = counts.iter().map(|(name, count)| format!("{name}: {count}")).collect();
@@ -186,7 +191,8 @@ fn verdict(tally: &Tally, kind: Kind, count: u64) -> Result<(), String> {
     let mut missing = violations.filter(|name| !tally.alone.contains_key(name));
     let limits = limits::MET.into_iter().filter(|limit| !tally.limits.contains_key(limit));
     let breaks = damage::KINDS.iter().map(|(name, _)| *name).filter(|name| !tally.breaks.contains_key(name));
-    match (missing.next(), limits.chain(breaks).next()) {
+    let lives = lives::MET.into_iter().filter(|name| !tally.lives.contains_key(name));
+    match (missing.next(), limits.chain(breaks).chain(lives).next()) {
         (Some(name), _) if count >= ENOUGH => Err(format!("never occurred alone: {name}")),
         (_, Some(name)) if count >= ENOUGH => Err(format!("never occurred: {name}")),
         _ => Ok(()),

@@ -3,11 +3,13 @@
 
 use crate::case::Case;
 use crate::damage::{damaged, first_line, hostile_line};
-use crate::limits::{met, Sizes};
+use crate::limits::Sizes;
+use crate::lives::share;
 use crate::programs::Kind;
 use crate::scene::{Scene, Shape};
 use crate::tally::Tally;
 use crate::violations::{allowed, of_place, Violation};
+use crate::{limits, lives};
 use builder::line::{hex, line};
 use builder::rng::Rng;
 use reference::layout::MOST_FRAME;
@@ -30,7 +32,7 @@ const REKEYS: usize = 14;
 pub struct Writer<'t> {
     pub scene: Scene,
     /// Whether the script is for `trace`, with other calls between the frames.
-    tracing: bool,
+    pub tracing: bool,
     lines: Vec<Vec<u8>>,
     labels: Vec<String>,
     pub tally: &'t mut Tally,
@@ -39,6 +41,7 @@ pub struct Writer<'t> {
 
 pub fn script(seed: u64, kind: Kind, tally: &mut Tally) -> Script {
     let mut writer = Writer::new(seed, kind, tally);
+    writer.scene.lives = share(seed);
     match seed % 16 {
         7 => writer.hostile_first_line(),
         11 => writer.without_rekey_sa(),
@@ -70,7 +73,7 @@ impl<'t> Writer<'t> {
         let lent = rng.octets(size);
         let tick = rng.pick(&[0, 1000, 0x7fff_ff00, u32::MAX - 500]);
         let lines = vec![hex(&lent)];
-        let scene = Scene { rng, lent, member: Member::new(), tick, sizes: Sizes::SMALL };
+        let scene = Scene { rng, lent, member: Member::new(), tick, sizes: Sizes::SMALL, lives: 0 };
         Writer { scene, tracing: kind == Kind::Trace, lines, labels: Vec::new(), tally, seed }
     }
 
@@ -88,6 +91,9 @@ impl<'t> Writer<'t> {
             if leaves_at == Some(turn) {
                 self.leave();
                 self.taken(true, shape);
+            }
+            if !self.go_on(shape) {
+                return;
             }
             let waiting = std::mem::take(&mut singles);
             singles = waiting.into_iter().filter(|violation| !self.single(violation, false)).collect();
@@ -111,7 +117,7 @@ impl<'t> Writer<'t> {
         }
     }
 
-    /// A member with ESP SAs alone: no rekey and no second registration can reach it.
+    /// A member with ESP SAs alone: no rekey can reach it, and no second registration unless they have run out.
     fn without_rekey_sa(&mut self) {
         self.violations(true);
         let shape = Shape { rekey: false, esp: 2, ..self.scene.any_shape() };
@@ -121,7 +127,8 @@ impl<'t> Writer<'t> {
             let shape = self.scene.full_shape();
             let mut case = self.scene.registration(shape);
             case.frame.exchange = exchange;
-            self.claim(&case, 2, "a frame to a member without a Rekey SA");
+            let ran_out = exchange != 41 && self.scene.member.is_empty(self.scene.tick);
+            self.claim(&case, if ran_out { 0 } else { 2 }, "a frame to a member without a Rekey SA");
         }
         self.disturbances(true);
     }
@@ -186,7 +193,7 @@ impl<'t> Writer<'t> {
             self.other_calls();
         }
         match registration {
-            true if self.scene.member == Member::new() => Some(self.scene.registration(shape)),
+            true if self.scene.member.is_empty(self.scene.tick) => Some(self.scene.registration(shape)),
             true => None,
             false => self.scene.rekey(shape),
         }
@@ -218,7 +225,7 @@ impl<'t> Writer<'t> {
     }
 
     /// A frame that must be accepted, with up to three oddities.
-    fn taken(&mut self, registration: bool, shape: Shape) {
+    pub fn taken(&mut self, registration: bool, shape: Shape) {
         let Some(mut case) = self.fit_frame(registration, shape) else { return };
         let table = allowed::of_place(registration);
         let mut chosen: Vec<usize> = (0..self.scene.rng.below(4)).map(|_| self.scene.rng.below(table.len())).collect();
@@ -269,7 +276,8 @@ impl<'t> Writer<'t> {
             ));
         }
         if answer == 0 {
-            met(case, &self.scene.member).for_each(|limit| self.tally.limit(limit));
+            limits::met(case, &self.scene.member).for_each(|limit| self.tally.limit(limit));
+            lives::met(case, &self.scene.member).for_each(|name| self.tally.life(name));
         }
         if answer != 0 && before != self.scene.member {
             self.tally.complain(format!("seed {}, line {}: a refusal changed the member", self.seed, self.lines.len()));

@@ -4,7 +4,7 @@ use builder::typical::*;
 use builder::wrapping::wrap;
 use builder::{Attribute, Frame, Part, Payload, ESP, REKEY};
 use reference::aes::{Schedule, SBOX};
-use reference::member::{Answer, Condition, Member, Sa};
+use reference::member::{Answer, Condition, Lifetime, Member, Sa};
 use reference::{judging, keywrap, layout, text};
 
 const LENT: [u8; 16] = [0x11; 16];
@@ -67,7 +67,7 @@ fn entry(id: u32, value: &[u8], kwk_id: u32, kwk: &[u8]) -> Attribute {
 
 fn retiring_sa(start: u32, delay: u16) -> Sa {
     let condition = Condition::Retiring { start, delay };
-    Sa { protocol: ESP, spi: vec![0, 0, 0, 1], keying: keying(20), encryption: 20, condition }
+    Sa { protocol: ESP, spi: vec![0, 0, 0, 1], keying: keying(20), encryption: 20, condition, lifetime: None }
 }
 
 #[test]
@@ -167,6 +167,57 @@ fn sample_due() {
     assert_eq!(703u32.wrapping_sub(4_294_967_000), 999);
     assert!(!sa.is_due(703) && sa.is_due(704));
     assert!(retiring_sa(77, 0).is_due(77));
+}
+
+fn running_sa(start: u32, seconds: u32) -> Sa {
+    Sa { condition: Condition::Live, lifetime: Some(Lifetime { start, seconds }), ..retiring_sa(0, 0) }
+}
+
+/// T-07: a lifetime runs by the same rule, whichever comes first; up to 2,000,000 seconds are part of what a member is.
+#[test]
+fn lifetimes_run_out() {
+    let sa = running_sa(4_294_967_000, 1);
+    assert!(!sa.is_due(703) && sa.is_due(704) && sa.is_due(4_294_966_999));
+    assert!(running_sa(77, 0).is_due(77) && running_sa(77, 0).is_due(76));
+    let longest = running_sa(5, 2_000_000);
+    assert!(longest.is_due(4), "nearly a whole round has gone by");
+    assert!(!longest.is_due(2_000_000_004) && longest.is_due(2_000_000_005) && !longest.is_due(5));
+    let both = |delay: u16, seconds: u32| Sa { lifetime: running_sa(1000, seconds).lifetime, ..retiring_sa(1500, delay) };
+    assert!(!both(1, 9).is_due(2499) && both(1, 9).is_due(2500), "the delay first");
+    assert!(!both(9, 1).is_due(1999) && both(9, 1).is_due(2000), "the lifetime first");
+    for (seconds, whole) in [(0, true), (2_000_000, true), (2_000_001, false), (u32::MAX, false)] {
+        let value = Member { table: vec![running_sa(0, seconds)], ..Member::new() };
+        let mut member = value.clone();
+        assert_eq!(member.is_whole(), whole);
+        assert_eq!(member.sa(ESP, &[0, 0, 0, 1]).is_some(), whole);
+        member.sweep(u32::MAX);
+        assert_eq!(member == Member::new(), whole);
+    }
+}
+
+/// T-07: a rekey over a Rekey SA that ran out gives 2, swept or not; a member whose SAs all ran out may register anew.
+#[test]
+fn rekey_sa_that_ran_out() {
+    let lifetime = |seconds: u32| Attribute::long(1, &seconds.to_be_bytes());
+    let frame = registration(vec![], vec![lifetime(2), initial_message_id(7)]).octets();
+    let mut member = Member::new();
+    assert_eq!(take(&mut member, &LENT, 100, &frame), 0);
+    assert_eq!(take(&mut member, &[], 2099, &rekey(7, vec![delete(&[vec![0; 4]])]).octets()), 0);
+    assert_eq!(take(&mut member, &LENT, 2099, &frame), 2);
+    let over = rekey(8, vec![delete(&[vec![0; 4]])]).octets();
+    let mut swept = member.clone();
+    swept.sweep(2100);
+    assert_eq!(swept.table, []);
+    assert_eq!(take(&mut swept, &[], 2100, &over), 2);
+    assert_eq!(take(&mut member, &[], 2100, &over), 2);
+    assert_eq!((member.table.len(), member.least_id), (1, Some(8)));
+    assert_eq!(take(&mut member, &LENT, 2100, &frame), 0);
+    assert_eq!(member.table[0].lifetime, Some(Lifetime { start: 2100, seconds: 2 }));
+    let mut too_long = Member::new();
+    assert_eq!(take(&mut too_long, &LENT, 0, &registration(vec![], vec![lifetime(2_000_001)]).octets()), 7);
+    assert_eq!(take(&mut too_long, &LENT, 0, &registration(vec![], vec![lifetime(1), lifetime(1)]).octets()), 4);
+    assert_eq!(take(&mut too_long, &LENT, 0, &registration(vec![], vec![Attribute::Short(1, 1)]).octets()), 1);
+    assert_eq!(take(&mut too_long, &LENT, 0, &registration(vec![], vec![lifetime(2_000_000)]).octets()), 0);
 }
 
 /// P: least ID 7: 6 refused (3), 7 and 9 taken; after 9, 9 refused.

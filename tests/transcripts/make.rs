@@ -4,6 +4,7 @@
 //! member is asked.
 
 mod calls;
+mod lifetimes;
 mod meanings;
 mod parts;
 mod places;
@@ -91,8 +92,8 @@ fn main() -> ExitCode {
         eprintln!("transcripts DIRECTORY");
         return ExitCode::from(2);
     };
-    for transcript in [runs::all(), times::all(), meanings::all(), refusals::all(), places::all(), calls::all()].iter().flatten()
-    {
+    let all = [runs::all(), times::all(), lifetimes::all(), meanings::all(), refusals::all(), places::all(), calls::all()];
+    for transcript in all.iter().flatten() {
         if let Err(error) = transcript.write(Path::new(&directory)) {
             eprintln!("{directory}: {error}");
             return ExitCode::FAILURE;
