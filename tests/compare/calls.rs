@@ -2,8 +2,10 @@
 
 use crate::lives::borders;
 use crate::script::Writer;
+use crate::violations::Exchange;
 use builder::line::hex;
 use builder::{ESP, REKEY};
+use reference::member::is_wrap_key_size;
 use reference::trace;
 
 /// What must occur.
@@ -21,12 +23,15 @@ pub const ALL: [&str; 8] = [
 const PERCENT: usize = 25;
 
 impl Writer<'_> {
-    /// Sometimes some other calls. A member that is to be registered keeps a lent key that fits.
-    pub fn other_calls(&mut self) {
+    /// Sometimes some other calls, before a frame of that exchange. One that comes with a lent key finds one that fits.
+    pub fn other_calls(&mut self, exchange: Exchange) {
+        if exchange == Exchange::Inband && !is_wrap_key_size(self.scene.lent.len()) {
+            self.fit_lent_key();
+        }
         while self.scene.rng.chance(PERCENT) {
             match self.scene.rng.below(8) {
                 0 | 1 => self.sweep(),
-                2 if self.scene.member.is_empty(self.scene.tick) => self.fit_lent_key(),
+                2 if self.scene.member.is_empty(self.scene.tick) || exchange != Exchange::Rekey => self.fit_lent_key(),
                 2 => self.any_lent_key(),
                 3 => self.nearly_a_call(),
                 _ => self.question(),
@@ -41,14 +46,16 @@ impl Writer<'_> {
         self.fit_lent_key();
     }
 
-    /// A registration with a lent key of another size than 16, 24 and 32, and then one that fits.
-    pub fn unfit_lent_key(&mut self) {
+    /// A registration, or a rekey over the own channel, with a lent key of another size than 16, 24 and 32, and then the one of before.
+    pub fn unfit_lent_key(&mut self, exchange: Exchange) {
         let before = self.scene.lent.clone();
         let size = self.scene.rng.pick(&[0, 1, 15, 17, 20, 23, 25, 28, 31, 33, 48, 64, 100]);
         self.lent_key(size);
         let shape = self.scene.full_shape();
-        let case = self.scene.registration(shape);
-        self.claim(&case, 5, "registration with an unfit lent key");
+        let case = if exchange == Exchange::Inband { self.scene.inband(shape) } else { Some(self.scene.registration(shape)) };
+        if let Some(case) = case {
+            self.claim(&case, 5, "a frame with an unfit lent key");
+        }
         self.line([b"k", hex(&before).as_slice()].concat(), "the lent key of before".to_string());
     }
 

@@ -1,7 +1,7 @@
 //! The limits of number 7 and of what a member is: document 01's, and where it names them those of document 02, T-01.
 
 use crate::case::Case;
-use crate::violations::{of_place, Violation};
+use crate::violations::{of_exchange, Exchange, Violation};
 use builder::REKEY;
 use reference::member::Member;
 
@@ -64,6 +64,6 @@ impl Sizes {
 
     /// Besides its share of the violations a run with the largest sizes has all those that a rekey is refused for room by.
     pub fn refused_for_room(self) -> impl Iterator<Item = &'static Violation> {
-        of_place(false).into_iter().filter(move |violation| self.sas == MOST_SAS && violation.number == 7)
+        of_exchange(Exchange::Rekey).into_iter().filter(move |violation| self.sas == MOST_SAS && violation.number == 7)
     }
 }

@@ -4,19 +4,21 @@ use crate::case::Case;
 use crate::limits::MOST_SECONDS;
 use crate::scene::{Scene, Shape};
 use crate::script::Writer;
+use crate::violations::Exchange;
 use builder::line::hex;
-use builder::typical::lifetime;
+use builder::typical::{lifetime, GSA_INBAND_REKEY};
 use builder::{Attribute, Part, REKEY};
 use reference::member::{Condition, Member, Sa};
 
 /// What must come about in every long run of the comparer: the first by a refused frame, the others by accepted ones.
-pub const MET: [&str; 6] = [
+pub const MET: [&str; 7] = [
     "a rekey over a Rekey SA that ran out",
     "a registration of a member that ran out",
     "a live SA that ran out goes",
     "a retiring SA goes by its lifetime",
     "a retiring SA with a lifetime goes by its delay",
     "an SPI that comes again",
+    "a rekey over the own channel once the Rekey SA ran out",
 ];
 
 /// Of 100 policies so many have a lifetime: none, some, or all, so that members run out.
@@ -36,6 +38,7 @@ pub fn met(case: &Case, after: &Member) -> impl Iterator<Item = &'static str> {
         due.iter().any(|sa| !live(sa) && by_lifetime(sa) && !by_delay(sa)),
         due.iter().any(|sa| sa.lifetime.is_some() && by_delay(sa) && !by_lifetime(sa)),
         due.iter().any(|sa| after.table.iter().any(|new| new.protocol == sa.protocol && new.spi == sa.spi)),
+        case.frame.exchange == GSA_INBAND_REKEY && due.iter().any(|sa| sa.protocol == REKEY && live(sa)),
     ];
     MET.into_iter().skip(1).zip(all).filter(|(_, met)| *met).map(|(name, _)| name)
 }
@@ -73,6 +76,11 @@ impl Scene {
         }
     }
 
+    /// Whether there is a live Rekey SA that has not run out.
+    pub fn takes_rekeys(&self) -> bool {
+        self.member.live_rekey().is_some_and(|sa| !sa.is_due(self.tick))
+    }
+
     /// A tick at which every SA is due.
     fn tick_of_empty(&mut self) -> Option<u32> {
         let starts = self.member.table.iter().filter_map(|sa| sa.lifetime).map(|lifetime| lifetime.start.wrapping_sub(1));
@@ -83,14 +91,19 @@ impl Scene {
 }
 
 impl Writer<'_> {
-    /// Goes on where the Rekey SA has run out, or was swept. The member registers anew where all its SAs are due, or the clock goes back,
-    /// or it leaves. False if it takes no frame any more.
+    /// Goes on where the Rekey SA has run out, or was swept. A new one comes over the own channel, or the member registers anew where all
+    /// its SAs are due, or the clock goes back, or the member leaves. False if it takes no frame any more.
     pub fn go_on(&mut self, shape: Shape) -> bool {
-        let tick = self.scene.tick;
-        if self.scene.member.live_rekey().is_some_and(|sa| !sa.is_due(tick)) {
+        if self.scene.takes_rekeys() {
             return true;
         }
         self.over_what_ran_out(shape);
+        if self.scene.rng.chance(40) {
+            self.taken(Exchange::Inband, shape);
+        }
+        if self.scene.takes_rekeys() {
+            return true;
+        }
         let lifetime = self.scene.member.live_rekey().and_then(|sa| sa.lifetime).filter(|lifetime| lifetime.seconds > 0);
         match (self.scene.tick_of_empty(), lifetime) {
             (Some(tick), _) => self.register_anew(tick, shape),
@@ -100,7 +113,7 @@ impl Writer<'_> {
             }
             (None, None) if self.tracing => {
                 self.leave();
-                self.taken(true, shape);
+                self.taken(Exchange::Registration, shape);
             }
             (None, None) => return false,
         }
@@ -125,6 +138,6 @@ impl Writer<'_> {
         if self.tracing {
             self.fit_lent_key();
         }
-        self.taken(true, shape);
+        self.taken(Exchange::Registration, shape);
     }
 }

@@ -9,6 +9,7 @@
 mod calls;
 mod case;
 mod damage;
+mod inband;
 mod limits;
 mod lives;
 mod programs;

@@ -90,6 +90,21 @@ impl Scene {
         Some(case)
     }
 
+    /// A rekey over the member's own channel; None if the member is empty, or has no room.
+    pub fn inband(&mut self, shape: Shape) -> Option<Case> {
+        let room = self.sizes.sas.saturating_sub(self.member.table.iter().filter(|sa| !sa.is_due(self.tick)).count());
+        let rekey = shape.rekey && room > 0;
+        let esp = shape.esp.min(room - rekey as usize);
+        if self.member.is_empty(self.tick) || !rekey && esp == 0 {
+            return None;
+        }
+        let (any_spis, any_id) = (self.rng.octets(16), self.rng.number() as u32);
+        let (spis, message_id) = (self.rng.pick(&[vec![0; 16], any_spis]), self.rng.pick(&[0, 1, any_id, u32::MAX]));
+        let mut case = self.case(GSA_INBAND_REKEY, &spis, message_id, self.lent.clone(), Vec::new());
+        self.announce(&mut case, Shape { rekey, esp, ..shape });
+        Some(case)
+    }
+
     fn case(&mut self, exchange: u8, spis: &[u8], message_id: u32, key0: Vec<u8>, keys: Vec<(u32, Vec<u8>)>) -> Case {
         let rng = Rng::new(self.rng.number());
         let frame = frame(exchange, spis, message_id, vec![gsa(vec![]), kd(vec![])]);

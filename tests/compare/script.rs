@@ -8,7 +8,7 @@ use crate::lives::share;
 use crate::programs::Kind;
 use crate::scene::{Scene, Shape};
 use crate::tally::Tally;
-use crate::violations::{allowed, of_place, Violation};
+use crate::violations::{allowed, of_exchange, Exchange, Violation};
 use crate::{limits, lives};
 use builder::line::{hex, line};
 use builder::rng::Rng;
@@ -28,6 +28,7 @@ const SINGLES: usize = 8;
 const PAIRS: usize = 24;
 const LAYOUT_PAIRS: usize = 12;
 const REKEYS: usize = 14;
+const INBAND_PERCENT: usize = 30;
 
 pub struct Writer<'t> {
     pub scene: Scene,
@@ -80,27 +81,29 @@ impl<'t> Writer<'t> {
     /// Refused registrations, one that is taken, then rekeys of all kinds.
     fn member_run(&mut self, sizes: Sizes) {
         self.scene.sizes = sizes;
-        self.violations(true);
+        self.violations(Exchange::Registration);
         let shape = Shape { rekey: true, ..self.scene.any_shape() };
-        self.taken(true, shape);
-        let mut singles = self.walk(false);
-        singles.extend(sizes.refused_for_room());
+        self.taken(Exchange::Registration, shape);
+        let mut singles = [Exchange::Rekey, Exchange::Inband].map(|exchange| (exchange, self.walk(exchange)));
+        singles[0].1.extend(sizes.refused_for_room());
         let leaves_at = self.tracing.then(|| self.scene.rng.below(2 * REKEYS));
         for turn in 0..REKEYS {
             self.scene.move_clock();
             if leaves_at == Some(turn) {
                 self.leave();
-                self.taken(true, shape);
+                self.taken(Exchange::Registration, shape);
             }
             if !self.go_on(shape) {
                 return;
             }
-            let waiting = std::mem::take(&mut singles);
-            singles = waiting.into_iter().filter(|violation| !self.single(violation, false)).collect();
-            self.pairs(false, turn, REKEYS);
-            self.disturbances(false);
+            for (exchange, waiting) in &mut singles {
+                waiting.retain(|violation| !self.single(violation, *exchange));
+                self.pairs(*exchange, turn, REKEYS);
+                self.disturbances(*exchange);
+            }
+            let exchange = if self.scene.rng.chance(INBAND_PERCENT) { Exchange::Inband } else { Exchange::Rekey };
             let shape = self.scene.any_shape();
-            self.taken(false, shape);
+            self.taken(exchange, shape);
         }
         self.last_message_id();
     }
@@ -115,13 +118,14 @@ impl<'t> Writer<'t> {
             case.frame.message_id = message_id;
             self.claim(&case, 3, "no Message ID acceptable");
         }
+        self.inband_after_the_last(&case);
     }
 
-    /// A member with ESP SAs alone: no rekey can reach it, and no second registration unless they have run out.
+    /// A member with ESP SAs alone: no rekey over a Rekey SA can reach it, and no second registration unless they have run out.
     fn without_rekey_sa(&mut self) {
-        self.violations(true);
+        self.violations(Exchange::Registration);
         let shape = Shape { rekey: false, esp: 2, ..self.scene.any_shape() };
-        self.taken(true, shape);
+        self.taken(Exchange::Registration, shape);
         for exchange in [39, 40, 41] {
             self.scene.move_clock();
             let shape = self.scene.full_shape();
@@ -130,7 +134,8 @@ impl<'t> Writer<'t> {
             let ran_out = exchange != 41 && self.scene.member.is_empty(self.scene.tick);
             self.claim(&case, if ran_out { 0 } else { 2 }, "a frame to a member without a Rekey SA");
         }
-        self.disturbances(true);
+        self.inband_to_the_first_rekey_sa();
+        self.disturbances(Exchange::Rekey);
     }
 
     /// A first line that may be none, then frames as if it were one.
@@ -142,66 +147,67 @@ impl<'t> Writer<'t> {
         let fits = matches!(self.scene.lent.len(), 16 | 24 | 32);
         self.claim(&case, if fits { 0 } else { 5 }, "registration after an odd first line");
         for _ in 0..20 {
-            self.disturbances(!fits);
+            self.disturbances(if fits { Exchange::Rekey } else { Exchange::Registration });
         }
     }
 
     /// Single violations and pairs of them, none of which changes the member.
-    fn violations(&mut self, registration: bool) {
-        if self.tracing && registration {
-            self.unfit_lent_key();
+    pub fn violations(&mut self, exchange: Exchange) {
+        if self.tracing && exchange != Exchange::Rekey {
+            self.unfit_lent_key(exchange);
         }
-        for violation in self.walk(registration) {
-            self.single(violation, registration);
+        for violation in self.walk(exchange) {
+            self.single(violation, exchange);
         }
-        self.pairs(registration, 0, 1);
-        self.disturbances(registration);
+        self.pairs(exchange, 0, 1);
+        self.disturbances(exchange);
     }
 
     /// A stretch of the table of violations that goes on from seed to seed.
-    fn walk(&self, registration: bool) -> Vec<&'static Violation> {
-        let table = of_place(registration);
+    fn walk(&self, exchange: Exchange) -> Vec<&'static Violation> {
+        let table = of_exchange(exchange);
         let start = self.seed as usize * SINGLES;
         (start..start + SINGLES).map(|i| table[i % table.len()]).collect()
     }
 
     /// Part `turn` of `turns` of the pairs that this seed has to do: some of a broken layout with anything, more of the others.
-    fn pairs(&mut self, registration: bool, turn: usize, turns: usize) {
-        let table = of_place(registration);
+    fn pairs(&mut self, exchange: Exchange, turn: usize, turns: usize) {
+        let table = of_exchange(exchange);
         let (layout, others): (Vec<_>, Vec<_>) = table.iter().partition(|violation| violation.number == 1);
         let all = others.len() * (others.len() - 1) / 2;
         let first = self.seed as usize * PAIRS;
         for number in (first..first + PAIRS).skip(turn).step_by(turns) {
             let (a, b) = pair(number % all);
-            self.pair(others[a], others[b], registration);
+            self.pair(others[a], others[b], exchange);
         }
         let first = self.seed as usize * LAYOUT_PAIRS;
         for number in (first..first + LAYOUT_PAIRS).skip(turn).step_by(turns) {
             let (a, b) = (number % layout.len(), number / layout.len() % table.len());
-            self.pair(layout[a], table[b], registration);
+            self.pair(layout[a], table[b], exchange);
         }
     }
 
-    fn base(&mut self, registration: bool) -> Option<Case> {
+    fn base(&mut self, exchange: Exchange) -> Option<Case> {
         let shape = self.scene.full_shape();
-        self.fit_frame(registration, shape)
+        self.fit_frame(exchange, shape)
     }
 
     /// A frame that the member will accept; None if it accepts none any more, which for registrations damage can bring about.
-    fn fit_frame(&mut self, registration: bool, shape: Shape) -> Option<Case> {
+    pub fn fit_frame(&mut self, exchange: Exchange, shape: Shape) -> Option<Case> {
         if self.tracing {
-            self.other_calls();
+            self.other_calls(exchange);
         }
-        match registration {
-            true if self.scene.member.is_empty(self.scene.tick) => Some(self.scene.registration(shape)),
-            true => None,
-            false => self.scene.rekey(shape),
+        match exchange {
+            Exchange::Registration if self.scene.member.is_empty(self.scene.tick) => Some(self.scene.registration(shape)),
+            Exchange::Registration => None,
+            Exchange::Rekey => self.scene.rekey(shape),
+            Exchange::Inband => self.scene.inband(shape),
         }
     }
 
     /// False if the frame has not what the violation takes.
-    fn single(&mut self, violation: &'static Violation, registration: bool) -> bool {
-        let Some(mut case) = self.base(registration) else { return false };
+    fn single(&mut self, violation: &'static Violation, exchange: Exchange) -> bool {
+        let Some(mut case) = self.base(exchange) else { return false };
         if (violation.make)(&mut case).is_none() || case.frame.octets().len() > MOST_FRAME {
             return false;
         }
@@ -211,8 +217,8 @@ impl<'t> Writer<'t> {
     }
 
     /// Both violations in one frame, in one order or the other.
-    fn pair(&mut self, a: &'static Violation, b: &'static Violation, registration: bool) {
-        let Some(mut case) = self.base(registration) else { return };
+    fn pair(&mut self, a: &'static Violation, b: &'static Violation, exchange: Exchange) {
+        let Some(mut case) = self.base(exchange) else { return };
         let (first, second) = if self.scene.rng.chance(50) { (a, b) } else { (b, a) };
         if (first.make)(&mut case).is_none() || (second.make)(&mut case).is_none() {
             return;
@@ -225,13 +231,13 @@ impl<'t> Writer<'t> {
     }
 
     /// A frame that must be accepted, with up to three oddities.
-    pub fn taken(&mut self, registration: bool, shape: Shape) {
-        let Some(mut case) = self.fit_frame(registration, shape) else { return };
-        let table = allowed::of_place(registration);
+    pub fn taken(&mut self, exchange: Exchange, shape: Shape) {
+        let Some(mut case) = self.fit_frame(exchange, shape) else { return };
+        let table = allowed::of_exchange(exchange);
         let mut chosen: Vec<usize> = (0..self.scene.rng.below(4)).map(|_| self.scene.rng.below(table.len())).collect();
         chosen.sort();
         chosen.dedup();
-        let mut label = String::from(if registration { "registration" } else { "rekey" });
+        let mut label = String::from(exchange.name());
         for index in chosen {
             let mut odd = case.clone();
             if (table[index].make)(&mut odd).is_some() && odd.frame.octets().len() <= MOST_FRAME {
@@ -244,8 +250,8 @@ impl<'t> Writer<'t> {
     }
 
     /// Damaged frames, frames that came before, hostile lines.
-    fn disturbances(&mut self, registration: bool) {
-        if let Some(case) = self.base(registration) {
+    fn disturbances(&mut self, exchange: Exchange) {
+        if let Some(case) = self.base(exchange) {
             let built = case.frame.build();
             let octets = damaged(&built, &mut self.scene.rng);
             self.frame(&octets, "damaged".to_string());

@@ -6,6 +6,7 @@ use crate::{DELETE, ESP, GSA, KD, REKEY};
 pub const GSA_AUTH: u8 = 39;
 pub const GSA_REGISTRATION: u8 = 40;
 pub const GSA_REKEY: u8 = 41;
+pub const GSA_INBAND_REKEY: u8 = 42;
 
 /// The rows of the algorithm table: Key Length in bits and octets needed, key wrap ID and octets needed.
 pub const ENCRYPTIONS: [(u16, usize); 3] = [(128, 20), (192, 28), (256, 36)];

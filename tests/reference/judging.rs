@@ -8,6 +8,7 @@ use crate::member::{is_wrap_key_size, Member, MOST_HELD, MOST_SAS};
 const GSA_AUTH: u8 = 39;
 const GSA_REGISTRATION: u8 = 40;
 const GSA_REKEY: u8 = 41;
+const GSA_INBAND_REKEY: u8 = 42;
 
 /// Further transform types; 13 and 14 are 001's, section 4.4.2.1.
 const SEQUENCE_NUMBERS: u8 = 5;
@@ -25,7 +26,7 @@ const MOST_DELETED: usize = 32;
 
 /// What a frame that numbers 1 to 7 do not refuse asks for.
 pub struct Request<'f> {
-    pub registration: bool,
+    pub exchange: Exchange,
     pub message_id: u32,
     pub announced: Vec<Announced<'f>>,
     pub wrap_keys: Vec<WrappedKey<'f>>,
@@ -33,6 +34,25 @@ pub struct Request<'f> {
     pub delay: u16,
     /// GSA_INITIAL_MESSAGE_ID of the Rekey policy.
     pub initial_id: Option<u32>,
+}
+
+/// The exchanges that are taken: a registration, a rekey over the live Rekey SA, and (document 02, T-02) one over the member's own channel.
+#[derive(Clone, Copy, PartialEq)]
+pub enum Exchange {
+    Registration,
+    Rekey,
+    Inband,
+}
+
+impl Exchange {
+    fn of(number: u8) -> Option<Exchange> {
+        match number {
+            GSA_AUTH | GSA_REGISTRATION => Some(Exchange::Registration),
+            GSA_REKEY => Some(Exchange::Rekey),
+            GSA_INBAND_REKEY => Some(Exchange::Inband),
+            _ => None,
+        }
+    }
 }
 
 /// An SA that a Group SA policy announces, with the copies of its key.
@@ -62,34 +82,33 @@ impl Need {
 }
 
 pub fn judge<'f>(frame: &Frame<'f>, member: &Member, tick: u32, lent: &[u8]) -> Result<Request<'f>, u8> {
-    let registration = matches!(frame.exchange, GSA_AUTH | GSA_REGISTRATION);
-    if !member.is_whole() || !is_fit_exchange(frame, member, tick, registration) {
-        return Err(2);
-    }
-    if !registration && member.least_id.is_none_or(|least| frame.message_id < least) {
+    let admitted = |&exchange: &Exchange| member.is_whole() && is_fit_exchange(frame, member, tick, exchange);
+    let Some(exchange) = Exchange::of(frame.exchange).filter(admitted) else { return Err(2) };
+    if exchange == Exchange::Rekey && member.least_id.is_none_or(|least| frame.message_id < least) {
         return Err(3);
     }
     let parts = Parts::of(frame);
-    if parts.break_rules(registration) {
+    if parts.break_rules(exchange) {
         return Err(4);
     }
-    let lent_key_fits = !registration || is_wrap_key_size(lent.len());
+    let lent_key_fits = exchange == Exchange::Rekey || is_wrap_key_size(lent.len());
     let needs: Option<Vec<Need>> = parts.policies.iter().map(|policy| need(policy)).collect();
     let Some(needs) = needs.filter(|_| lent_key_fits && !parts.have_unfit_bag_or_delete()) else { return Err(5) };
-    if !parts.are_paired() || parts.name_a_known_sa(member, tick) || !parts.keys_are_named_well(registration) {
+    if !parts.are_paired() || parts.name_a_known_sa(member, tick) || !parts.keys_are_named_well(exchange) {
         return Err(6);
     }
     if parts.exceed_limits(member, tick) {
         return Err(7);
     }
-    Ok(parts.request(frame, registration, &needs))
+    Ok(parts.request(frame, exchange, &needs))
 }
 
-/// Number 2, apart from the member value.
-fn is_fit_exchange(frame: &Frame, member: &Member, tick: u32, registration: bool) -> bool {
-    match frame.exchange {
-        GSA_REKEY => member.live_rekey().is_some_and(|sa| sa.spi == frame.spis && !sa.is_due(tick)),
-        _ => registration && member.is_empty(tick),
+/// Number 2, apart from the member value and other exchanges.
+fn is_fit_exchange(frame: &Frame, member: &Member, tick: u32, exchange: Exchange) -> bool {
+    match exchange {
+        Exchange::Registration => member.is_empty(tick),
+        Exchange::Rekey => member.live_rekey().is_some_and(|sa| sa.spi == frame.spis && !sa.is_due(tick)),
+        Exchange::Inband => !member.is_empty(tick),
     }
 }
 
@@ -152,11 +171,11 @@ impl<'a, 'f> Parts<'a, 'f> {
     }
 
     /// Number 4.
-    fn break_rules(&self, registration: bool) -> bool {
-        let only_delete = !registration && !self.deletes.is_empty();
+    fn break_rules(&self, exchange: Exchange) -> bool {
+        let only_delete = exchange == Exchange::Rekey && !self.deletes.is_empty();
         self.critical_unknown
-            || (!registration && !self.member_bags.is_empty())
-            || (registration && !self.deletes.is_empty())
+            || (exchange != Exchange::Registration && !self.member_bags.is_empty())
+            || (exchange != Exchange::Rekey && !self.deletes.is_empty())
             || self.gsa > 1
             || self.kd > 1
             || self.gsa != self.kd
@@ -193,10 +212,10 @@ impl<'a, 'f> Parts<'a, 'f> {
     }
 
     /// Number 6: counts, Key IDs and KWK IDs. A WRAP_KEY whose Key ID equals its KWK ID is document 02's, T-09.
-    fn keys_are_named_well(&self, registration: bool) -> bool {
+    fn keys_are_named_well(&self, exchange: Exchange) -> bool {
         let bag_fits = |bag: &GroupBag| {
             let count = bag.sa_keys.len();
-            let count_fits = if bag.protocol == REKEY && !registration { count > 0 } else { count == 1 };
+            let count_fits = if bag.protocol == REKEY && exchange == Exchange::Rekey { count > 0 } else { count == 1 };
             count_fits && bag.sa_keys.iter().all(|key| key.key_id == 0 && (bag.protocol == REKEY || key.kwk_id == 0))
         };
         self.bags.iter().all(|bag| bag_fits(bag)) && self.wrap_keys().all(|key| key.key_id != 0 && key.key_id != key.kwk_id)
@@ -215,14 +234,14 @@ impl<'a, 'f> Parts<'a, 'f> {
             || self.policies.iter().flat_map(|policy| &policy.lifetimes).any(|seconds| *seconds > MOST_SECONDS)
     }
 
-    fn request(&self, frame: &Frame, registration: bool, needs: &[Need]) -> Request<'f> {
+    fn request(&self, frame: &Frame, exchange: Exchange, needs: &[Need]) -> Request<'f> {
         let copies = |policy: &SaPolicy| {
             let bag = self.bags.iter().find(|bag| bag.protocol == policy.protocol && bag.spi == policy.spi);
             bag.map_or(Vec::new(), |bag| bag.sa_keys.clone())
         };
         let announced = self.policies.iter().zip(needs);
         Request {
-            registration,
+            exchange,
             message_id: frame.message_id,
             announced: announced
                 .map(|(policy, &need)| Announced {

@@ -1,6 +1,6 @@
 //! What a member is, and what it is after an accepted frame, a sweep and leaving.
 
-use crate::judging::{judge, Need, Request, MOST_SECONDS};
+use crate::judging::{judge, Exchange, Need, Request, MOST_SECONDS};
 use crate::layout::{frame, Frame, ESP, REKEY};
 use crate::reach::Keys;
 
@@ -147,7 +147,7 @@ impl Member {
         let mut keys = self.keys(lent, &request)?;
         let sa_keys = keys.sa_keys(&request.announced)?;
         self.enter(&request, tick, sa_keys);
-        if request.registration {
+        if request.exchange == Exchange::Registration {
             self.held = keys.held();
         }
         Ok(())
@@ -155,13 +155,14 @@ impl Member {
 
     /// The keys under which copies may open.
     fn keys(&self, lent: &[u8], request: &Request) -> Result<Keys, u8> {
-        if request.registration {
-            let mut keys = Keys::default_key(lent);
-            keys.follow(&request.wrap_keys)?;
+        if request.exchange == Exchange::Rekey {
+            let mut keys = Keys::default_key(self.live_rekey().map_or(&[], Sa::default_key));
+            self.held.iter().for_each(|(id, value)| keys.add(*id, value));
             return Ok(keys);
         }
-        let mut keys = Keys::default_key(self.live_rekey().map_or(&[], Sa::default_key));
-        self.held.iter().for_each(|(id, value)| keys.add(*id, value));
+        // Over the member's own channel there is no WRAP_KEY, so key 0 is the only one.
+        let mut keys = Keys::default_key(lent);
+        keys.follow(&request.wrap_keys)?;
         Ok(keys)
     }
 
@@ -186,10 +187,11 @@ impl Member {
             self.table.push(Sa { protocol, spi, keying, encryption, condition: Condition::Live, lifetime });
         }
         self.table.sort_by(|a, b| (a.protocol, &a.spi).cmp(&(b.protocol, &b.spi)));
-        self.least_id = match (new_rekey, request.registration) {
+        self.least_id = match (new_rekey, request.exchange) {
             (true, _) => Some(request.initial_id.unwrap_or(0)),
-            (false, true) => Some(0),
-            (false, false) => request.message_id.checked_add(1),
+            (false, Exchange::Registration) => Some(0),
+            (false, Exchange::Rekey) => request.message_id.checked_add(1),
+            (false, Exchange::Inband) => self.least_id,
         };
     }
 

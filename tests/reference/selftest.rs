@@ -271,6 +271,57 @@ fn keys_that_wrap_themselves() {
     }
 }
 
+/// T-02: over the member's own channel, under the lent key alone. The SPIs, the Message ID and the held keys are not asked for.
+#[test]
+fn rekeys_over_the_own_channel() {
+    let esp = |spi: u32, kwk: &[u8]| {
+        let copy = Attribute::key(0, 0, &wrap(kwk, &keying(20)));
+        vec![gsa(vec![esp_policy(&spi.to_be_bytes(), 128)]), kd(vec![bag(ESP, &spi.to_be_bytes(), vec![copy])])]
+    };
+    let next = |copies: &[(u32, &[u8])]| {
+        let copies = copies.iter().map(|(id, kwk)| Attribute::key(0, *id, &wrap(kwk, &keying(36)))).collect();
+        vec![gsa(vec![rekey_policy(&[7; 16], 128, 1)]), kd(vec![bag(REKEY, &[7; 16], copies)])]
+    };
+    let inband = |payloads| frame(GSA_INBAND_REKEY, &[0; 16], u32::MAX, payloads).octets();
+    let five = [5; 16];
+    let mut member = Member::new();
+    assert_eq!(take(&mut member, &LENT, 0, &inband(esp(1, &LENT))), 2);
+    assert_eq!(
+        take(&mut member, &LENT, 0, &registration(vec![entry(5, &five, 0, &LENT)], vec![initial_message_id(9)]).octets()),
+        0
+    );
+    let before = member.clone();
+    let refused = [
+        (4, [esp(1, &LENT), vec![delete(&[vec![0, 0, 0, 1]])]].concat()),
+        (4, vec![delete(&[vec![0, 0, 0, 1]])]),
+        (4, vec![gsa(vec![]), kd(vec![Part::unnamed(vec![])])]),
+        (6, next(&[(0, &LENT), (0, &LENT)])),
+        (9, next(&[(5, &five)])),
+        (9, next(&[(5, &LENT)])),
+        (9, esp(1, &keying(36)[20..])),
+    ];
+    for (number, payloads) in refused {
+        assert_eq!(take(&mut member, &LENT, 0, &inband(payloads)), number);
+    }
+    assert_eq!(take(&mut member, &[0x11; 20], 0, &inband(esp(1, &LENT))), 5);
+    assert_eq!(member, before);
+    assert_eq!(take(&mut member, &LENT, 0, &inband(esp(1, &LENT))), 0);
+    assert_eq!((member.table.len(), member.least_id, held_ids(&member)), (2, Some(9), vec![5]));
+    assert_eq!(take(&mut member, &LENT, 0, &inband(next(&[(0, &LENT)]))), 0);
+    assert_eq!((member.table.len(), member.least_id, held_ids(&member)), (3, Some(0), vec![5]));
+}
+
+/// What only callers of the library meet: at a tick at which every SA is due the member is empty, and a broken value is 2.
+#[test]
+fn over_the_own_channel_of_no_member() {
+    let frame = frame(GSA_INBAND_REKEY, &[0; 16], 0, esp_sas(&[2])).octets();
+    let mut due = Member { table: vec![retiring_sa(0, 1)], ..Member::new() };
+    assert_eq!(take(&mut due, &keying(36)[20..], 1000, &frame), 2);
+    assert_eq!(take(&mut due, &keying(36)[20..], 999, &frame), 0);
+    let mut broken = Member { held: vec![(0, vec![0; 16])], ..registered(vec![]) };
+    assert_eq!(take(&mut broken, &keying(36)[20..], 0, &frame), 2);
+}
+
 /// P: a 28-octet default key: 5.
 #[test]
 fn sample_default_key() {

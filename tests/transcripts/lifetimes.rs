@@ -1,12 +1,13 @@
 //! SAs that run out (document 02, T-07), and what is refused of lifetimes.
 
+use crate::inband::inband;
 use crate::parts::*;
 use crate::Transcript;
 use builder::typical::*;
 use builder::{Attribute, Body, Frame, Part, Payload, AH};
 
 pub fn all() -> Vec<Transcript> {
-    vec![lifetimes(), renewed(), refused(), asked()]
+    vec![lifetimes(), renewed(), over_the_own_channel(), refused(), asked()]
 }
 
 /// The SA with a lifetime of so many seconds.
@@ -111,6 +112,36 @@ fn renewed() -> Transcript {
     t.frame("a registration: 1 has not", 2_000_011_999, &first, "2 2 0");
     t.frame("a whole round later a0 is not due", 11_999, &rekey(0xa0, 1, nothing()), "0 2 0");
     t.then(&longest(2));
+    t
+}
+
+/// Where the Rekey SA has run out, rekeys over the own channel are taken as long as some SA has not.
+fn over_the_own_channel() -> Transcript {
+    let mut t = Transcript::new("lifetimes-inband", LENT);
+    let sas = [for_seconds(rekey_sa(0xa0, &[(0, lent())]), 1), for_seconds(esp(1, &lent()), 3)];
+    t.frame("Rekey SA a0 for 1 s, ESP SA 1 for 3 s", 0, &registration(&sas, &[]), "0 2 0");
+    let one = lived(esp_text(1, "live"), 0, 3);
+    let a0 = |start: u32| lived(rekey_text(0xa0, "live"), start, 1);
+    t.then(&[one.clone(), a0(0), least(0)]);
+    t.frame("999 ms: over a0", 999, &rekey(0xa0, 4, nothing()), "0 2 0");
+    t.then(&[one.clone(), a0(0), least(5)]);
+    t.frame("1,000 ms: a0 has run out", 1000, &rekey(0xa0, 5, nothing()), "2 2 0");
+    t.frame("ESP SA 2 over the own channel; a0 goes and does not retire", 1000, &inband(announce(&[esp(2, &lent())])), "0 2 0");
+    t.then(&[one.clone(), esp_text(2, "live"), least(5)]);
+    t.frame("a rekey over a0, which is gone", 1000, &rekey(0xa0, 5, nothing()), "2 2 0");
+    let mut again = for_seconds(rekey_sa(0xa0, &[(0, lent())]), 1);
+    again.policy.attributes.push(initial_message_id(7));
+    t.frame("a0 comes again, initial Message ID 7", 1500, &inband(announce(&[again])), "0 3 0");
+    t.then(&[one.clone(), esp_text(2, "live"), a0(1500), least(7)]);
+    t.frame("2 retires for 0 s", 2000, &rekey(0xa0, 7, vec![delete(&[spi(2)])]), "0 3 0");
+    t.then(&[one.clone(), esp_text(2, "retiring 2000 0"), a0(1500), least(8)]);
+    let b0 = for_seconds(rekey_sa(0xb0, &[(0, lent())]), 0);
+    t.frame("a0 is due, and so is 2: b0 comes for 0 s", 2500, &inband(announce(&[b0])), "0 2 0");
+    t.then(&[one, lived(rekey_text(0xb0, "live"), 2500, 0), least(0)]);
+    t.frame("b0 takes no rekey", 2500, &rekey(0xb0, 0, nothing()), "2 2 0");
+    t.frame("3,000 ms: 1 has run out too, and the member is empty", 3000, &inband(announce(&[esp(3, &lent())])), "2 2 0");
+    t.frame("it registers anew, with the same names", 3000, &registration(&sas, &[]), "0 2 0");
+    t.then(&[lived(esp_text(1, "live"), 3000, 3), a0(3000), least(0)]);
     t
 }
 

@@ -85,14 +85,15 @@ fn one() -> Transcript {
 
 fn two() -> Transcript {
     let mut t = Transcript::new("refusal-2", LENT);
-    for exchange in [0, 38, 42, 255] {
+    for exchange in [0, 38, 43, 255] {
         t.refused("another exchange", whole(), |f| f.exchange = exchange, "2 0 0");
     }
     t.refused("a rekey of a new member", whole(), |f| f.exchange = GSA_REKEY, "2 0 0");
+    t.refused("a rekey over the own channel of a new member", whole(), |f| f.exchange = GSA_INBAND_REKEY, "2 0 0");
     t.refused(
         "another exchange beats a critical unknown payload",
         whole(),
-        |f| (f.exchange, f.payloads[0]) = (42, critical(99)),
+        |f| (f.exchange, f.payloads[0]) = (43, critical(99)),
         "2 0 0",
     );
     t.frame("the registration", 0, &whole(), "0 2 1");

@@ -62,7 +62,8 @@ fn header() -> Transcript {
     t.frame("a 29th octet, and length 29", 0, &builder::Frame { tail: vec![0], ..bare.clone() }, "1 0 0 0");
     t.frame("a payload named that is not there", 0, &builder::Frame { first: Some(51), ..bare.clone() }, "1 0 0 0");
     t.frame("GSA_AUTH with neither GSA nor KD", 0, &builder::Frame { exchange: 39, ..bare.clone() }, "4 0 0");
-    t.frame("GSA_REKEY to a member without a Rekey SA", 0, &builder::Frame { exchange: 41, ..bare }, "2 0 0");
+    t.frame("GSA_REKEY to a member without a Rekey SA", 0, &builder::Frame { exchange: 41, ..bare.clone() }, "2 0 0");
+    t.frame("GSA_INBAND_REKEY to a new member", 0, &builder::Frame { exchange: 42, ..bare }, "2 0 0");
     t
 }
 

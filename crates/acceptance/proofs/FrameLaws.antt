@@ -3,18 +3,16 @@ use native.Mathlib.Omega.{arith}
 use Prim.Native.Nat.{ℕ, _+_, _-_, _≤_}
 use mathlib.Core.Path.{_≡_, refl, ap, sym, subst, _∙_}
 use mathlib.Core.Bool.{Bool, true, false, _||_, _&&_}
-use mathlib.Core.List.{List, [], _∷_, _++_, map, append-assoc, append-nil}
+use mathlib.Core.List.{List, [], _∷_, _++_, append-assoc, append-nil}
 use borrow.Author.Tests.{eqb-true, eqb-false}
 use lib.Dec.{eqb}
 use lib.ListN.{length, drop}
 use Rattle.octets.specs.Walk.{part}
 use Rattle.octets.specs.Compare.{same}
 use Rattle.keys.specs.Lists.{any}
-use Rattle.keys.specs.Limits.{limits}
 use Rattle.keys.proofs.Cases.{bool-cases}
 use Rattle.sa.specs.Entry.{esp, spiOf}
 use Rattle.sa.specs.declared.entry.Sa.{Sa}
-use Rattle.table.specs.Table.{tableOf, retiredIf}
 use Rattle.table.specs.declared.Table.{Table}
 use Rattle.frames.specs.Delete.{Delete, deleteOf}
 use Rattle.frames.specs.Frame.{payloads, exactly}
@@ -27,27 +25,19 @@ use Rattle.payloads.proofs.StepLaws.{Step}
 use Rattle.payloads.proofs.DeletedLaws.{delete-here, delete-later, delete-none}
 use Rattle.outcome.specs.After.{isZero}
 use Rattle.acceptance.specs.declared.retiring.DeletesAt.{DeletesAt}
-use Rattle.acceptance.specs.inner.Tables.{namedIn, AreDeletes}
-use Rattle.acceptance.proofs.RetiringLaws.{After, after-none}
-use Rattle.acceptance.proofs.TableLaws.{none-retired}
-
-abbrev pub nobody : Sa → Bool
-nobody a = false
+use Rattle.acceptance.specs.inner.Tables.{namedIn, retiredThere, AreDeletes}
+use Rattle.acceptance.proofs.RetiringLaws.{there-none, there-more}
 
 -- the first of all Delete payloads have retired what they name; the others are left
 pub record Retires (now delay : ℕ) (before after : Table) (left all : List Delete) : Type 0 where
   pub passed : List Delete
   pub joined : passed ++ left ≡ all
-  pub so-far : (l : List Sa) → length l ≤ limits .sas → before ≡ tableOf limits l → After limits now delay l nobody (spisIn passed) after
+  pub so-far : after ≡ retiredThere (namedIn (spisIn passed)) now delay before
 
 module _ (now delay : ℕ) (before : Table) where
   pub retires-start : (all : List Delete) → Retires now delay before before all all
   unfolding gather
-  retires-start all = record {
-    passed = [];
-    joined = refl;
-    so-far = λ l h e. after-none limits now delay l nobody before (e ∙ sym (none-retired now delay limits l h));
-  }
+  retires-start all = record { passed = []; joined = refl; so-far = there-none now delay before }
 
   spis-more : (l : List Delete) (d : Delete) → spisIn (l ++ (d ∷ [])) ≡ spisIn l ++ d .spis
   unfolding gather
@@ -63,7 +53,7 @@ module _ (now delay : ℕ) (before : Table) where
       by true e = refl
       by false e = e
 
-  named-join : (l m : List (List ℕ)) (a : Sa) → ((nobody a || namedIn l a) || namedIn m a) ≡ (nobody a || namedIn (l ++ m) a)
+  named-join : (l m : List (List ℕ)) (a : Sa) → (namedIn l a || namedIn m a) ≡ namedIn (l ++ m) a
   named-join l m a =
       let q : List ℕ → Bool = λ y. isZero y || same (spiOf a) y in
       by (eqb (a .protocol) esp) (any q l) (any q m) (any q (l ++ m)) (any-join q l m)
@@ -73,18 +63,16 @@ module _ (now delay : ℕ) (before : Table) where
       by false x y z g = refl
 
   module _ (now-is after : Table) (d : Delete) (list left all : List Delete) (first : list ≡ d ∷ left)
-      (goes : (l : List Sa) (p : Sa → Bool) → length l ≤ limits .sas → now-is ≡ tableOf limits (map (retiredIf p now delay) l) →
-      after ≡ tableOf limits (map (retiredIf (λ a. p a || namedIn (d .spis) a) now delay) l))
-      (r : Retires now delay before now-is list all) where
+      (goes : after ≡ retiredThere (namedIn (d .spis)) now delay now-is) (r : Retires now delay before now-is list all) where
     pub retires-here : Retires now delay before after left all
     retires-here = record {
       passed = r .passed ++ (d ∷ []);
       joined = append-assoc (r .passed) (d ∷ []) left ∙ ap (λ (y : List Delete). r .passed ++ y) (sym first) ∙ r .joined;
-      so-far = λ l h e.
-          goes l (λ (a : Sa). nobody a || namedIn (spisIn (r .passed)) a) h (r .so-far l h e)
-          ∙ ap (λ (q : Sa → Bool). tableOf limits (map (retiredIf q now delay) l))
+      so-far = goes ∙ ap (retiredThere (namedIn (d .spis)) now delay) (r .so-far)
+          ∙ there-more now delay (spisIn (r .passed)) (d .spis) before
+          ∙ ap (λ (q : Sa → Bool). retiredThere q now delay before)
           (λ i a. (named-join (spisIn (r .passed)) (d .spis) a
-          ∙ ap (λ (y : List (List ℕ)). nobody a || namedIn y a) (sym (spis-more (r .passed) d))) i);
+          ∙ ap (λ (y : List (List ℕ)). namedIn y a) (sym (spis-more (r .passed) d))) i);
     }
 
   pub retires-later : (t : Table) (list left all : List Delete) → list ≡ left → Retires now delay before t list all →
@@ -92,11 +80,11 @@ module _ (now delay : ℕ) (before : Table) where
   retires-later t list left all e r = subst (λ (y : List Delete). Retires now delay before t y all) e r
 
   -- none is left
-  pub retires-all : (t : Table) (left all : List Delete) → left ≡ [] → Retires now delay before t left all → (l : List Sa) →
-      length l ≤ limits .sas → before ≡ tableOf limits l → t ≡ tableOf limits (map (retiredIf (namedIn (spisIn all)) now delay) l)
-  retires-all t left all e r l h q =
+  pub retires-all : (t : Table) (left all : List Delete) → left ≡ [] → Retires now delay before t left all →
+      t ≡ retiredThere (namedIn (spisIn all)) now delay before
+  retires-all t left all e r =
       let passed : r .passed ≡ all = sym (append-nil (r .passed)) ∙ ap (λ (y : List Delete). r .passed ++ y) (sym e) ∙ r .joined in
-      r .so-far l h q ∙ ap (λ (y : List Delete). tableOf limits (map (retiredIf (λ a. namedIn (spisIn y) a) now delay) l)) passed
+      r .so-far ∙ ap (λ (y : List Delete). retiredThere (namedIn (spisIn y)) now delay before) passed
 
 -- ---- the walk from the first Delete payload to the last
 empty : {A : Type 0} (l : List A) → length l ≡ 0 → l ≡ []
@@ -130,8 +118,7 @@ module _ (s : List ℕ) (now delay : ℕ) (before : Table) where
   }
 
   module _ (all : List Delete) (t : Table) (left kind at : ℕ) (w : Going all t left kind at) where
-    pub going-end : left ≤ 0 → (l : List Sa) → length l ≤ limits .sas → before ≡ tableOf limits l →
-        t ≡ tableOf limits (map (retiredIf (namedIn (spisIn all)) now delay) l)
+    pub going-end : left ≤ 0 → t ≡ retiredThere (namedIn (spisIn all)) now delay before
     going-end h = retires-all now delay before t (w .others) all (empty (w .others) (omega (arith, w .many))) (w .so-far)
 
     module _ (some : left ≡ 0 → ⊥) where
@@ -144,10 +131,8 @@ module _ (s : List ℕ) (now delay : ℕ) (before : Table) where
         abbrev Later : List Delete
         Later = deletesAmong (payloadsIn (r .next) (drop (at + r .end) s))
 
-        pub going-here : kind ≡ 42 → (after : Table) → ((l : List Sa) (p : Sa → Bool) → length l ≤ limits .sas →
-            t ≡ tableOf limits (map (retiredIf p now delay) l) →
-            after ≡ tableOf limits (map (retiredIf (λ a. p a || namedIn (deleteOf (part s (at + 4) (at + r .end)) .spis) a) now delay) l)) →
-            Going all after (left - 1) (r .next) (at + r .end)
+        pub going-here : kind ≡ 42 → (after : Table) →
+            after ≡ retiredThere (namedIn (deleteOf (part s (at + 4) (at + r .end)) .spis)) now delay t → Going all after (left - 1) (r .next) (at + r .end)
         going-here e after goes =
             let first : w .others ≡ deleteOf (part s (at + 4) (at + r .end)) ∷ Later = sym (w .here some) ∙ delete-here kind s at r g e in
             record {

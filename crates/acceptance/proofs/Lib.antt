@@ -2,3 +2,4 @@ pub mod TableLaws
 pub mod NextLaws
 pub mod RetiringLaws
 pub mod FrameLaws
+pub mod Turns

@@ -25,9 +25,10 @@ use Rattle.clauses.specs.Contents.{deletesOf}
 use Rattle.clauses.specs.Number2.{standing}
 use Rattle.outcome.specs.After.{delayOf, newRekey, namedInDelete, replaced, oldSas, insertAll, leastBy, leastAfterwards}
 use Rattle.acceptance.specs.declared.next.Said.{Said}
-use Rattle.acceptance.specs.inner.Tables.{namedIn, AreDeletes}
+use Rattle.acceptance.specs.inner.Tables.{namedIn, retiredThere, AreDeletes}
 use Rattle.acceptance.specs.inner.Following.{Told}
 use Rattle.acceptance.proofs.TableLaws.{more-retired}
+use Rattle.acceptance.proofs.RetiringLaws.{there-table}
 
 -- ---- the old SAs
 pub swept-made : (now : ℕ) (t : Table) → t .count ≤ limits .sas → swept limits now t ≡ tableOf limits (notDue now (sasOf t))
@@ -67,13 +68,13 @@ module _ (f : Frame) (m : State) (now delay : ℕ) (d : delayOf f ≡ delay) whe
 
 -- the code's way to them: swept, then retired by the frame's Delete payloads, then by its new Rekey SA
 module _ (s : List ℕ) (now : ℕ) (x : Said) (t stand gone : Table) (h : t .count ≤ limits .sas) (e : stand ≡ swept limits now t)
-    (by-frame : (l : List Delete) (n : List Sa) → AreDeletes s (x .deletes) l → length n ≤ limits .sas → stand ≡ tableOf limits n →
-    gone ≡ tableOf limits (map (retiredIf (namedIn (spisIn l)) now (x .delay)) n))
+    (by-frame : (l : List Delete) → AreDeletes s (x .deletes) l → gone ≡ retiredThere (namedIn (spisIn l)) now (x .delay) stand)
     (f : Frame) (m : State) (q : Told s x f) (k : m .table ≡ t) where
   gone-is : gone ≡ deleted f m now (x .delay) (q .delay)
   unfolding namedInDelete
   gone-is =
-      by-frame (deletesOf f) (notDue now (sasOf t)) (q .deletes) (standing-room now t h) (e ∙ swept-made now t h)
+      by-frame (deletesOf f) (q .deletes)
+      ∙ there-table now (x .delay) (namedInDelete f) stand (notDue now (sasOf t)) (standing-room now t h) (e ∙ swept-made now t h)
       ∙ ap (λ (y : Table). tableOf limits (map (retiredIf (namedInDelete f) now (x .delay)) (notDue now (sasOf y)))) (sym k)
 
   pub gone-kept : x .rekey ≡ false → gone ≡ tableOf limits (oldSas m now f)

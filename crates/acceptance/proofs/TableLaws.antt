@@ -2,18 +2,16 @@
 use native.Mathlib.Omega.{arith}
 use Prim.Native.Nat.{ℕ, _+_, _-_, _≤_, _<_}
 use mathlib.Core.Path.{_≡_, refl, ap, ap₂, sym, _∙_}
-use mathlib.Core.Bool.{Bool, true, false, _&&_, _||_}
-use mathlib.Core.List.{List, [], _∷_, map}
+use mathlib.Core.Bool.{Bool, true, false, _||_}
+use mathlib.Core.List.{List, [], _∷_, _++_, map}
 use borrow.Author.Tests.{lt-ltb}
-use lib.Dec.{eqb}
-use lib.ListN.{length, take, drop, getD, length-map, length-drop}
-use lib.Seq.{length-take-le}
-use Rattle.octets.specs.Compare.{same}
+use lib.ListN.{length, take, drop, getD, replicate, length-map, length-drop}
+use lib.Seq.{length-take-le, take-append-seam, drop-append-seam, drop-append-add}
 use Rattle.keys.specs.Lists.{insert}
 use Rattle.keys.specs.Limits.{Limits}
-use Rattle.keys.proofs.Parts.{part-cons, part-end}
+use Rattle.keys.proofs.Parts.{part-cons, part-end, drop-replicate}
 use Rattle.keys.proofs.Rising.{length-insert}
-use Rattle.sa.specs.Entry.{esp, before, spiOf, named, retired, retiredBy, withCondition}
+use Rattle.sa.specs.Entry.{before, retired, retiredBy, withCondition, blankSa}
 use Rattle.sa.specs.declared.entry.Sa.{Sa}
 use Rattle.sa.specs.declared.entry.Condition.{Condition}
 use Rattle.sa.specs.declared.entry.Condition.the-variants.{Live, Retiring}
@@ -22,8 +20,8 @@ use Rattle.table.specs.inner.Changes.{entered, retiredWhere}
 use Rattle.table.specs.declared.Table.{Table}
 use Rattle.table.proofs.Laws.{changed-in}
 use Rattle.table.proofs.Kept.{sas-of-table}
-use Rattle.outcome.specs.After.{isZero, insertAll}
-use Rattle.acceptance.specs.inner.Tables.{namedBy}
+use Rattle.outcome.specs.After.{insertAll}
+use Rattle.acceptance.specs.inner.Tables.{namedIn}
 
 -- ---- new SAs
 length-all : (m l : List Sa) → length (insertAll m l) ≡ length m + length l
@@ -37,6 +35,24 @@ module _ (limits : Limits) where
   unfolding entered tableOf
   entered-made a l h = rw (lt-ltb (length l) (limits .sas) h, sas-of-table limits l) refl
 
+  -- one that was put in its place among the first of an array
+  pub enter-made : (sas : List Sa) (count : ℕ) (a : Sa) (l out : List Sa) → record { sas = sas; count = count } ≡ tableOf limits l →
+      length l < limits .sas → out ≡ insert before a (take count sas) ++ drop (count + 1) sas →
+      record { sas = out; count = count + 1 } ≡ entered limits a (tableOf limits l)
+  unfolding tableOf
+  enter-made sas count a l out e h q =
+      let b = replicate (limits .sas - length l) blankSa in
+      let s : sas ≡ l ++ b = ap (λ (t : Table). t .sas) e in
+      let c : count ≡ length l = ap (λ (t : Table). t .count) e in
+      let n = length-insert before a l in
+      let t : take count sas ≡ l = (λ i. take (c i) (s i)) ∙ take-append-seam l b in
+      let z : limits .sas - length l - 1 ≡ limits .sas - length (insert before a l) = omega arith in
+      let d : drop (count + 1) sas ≡ replicate (limits .sas - length (insert before a l)) blankSa =
+      (λ i. drop (c i + 1) (s i)) ∙ drop-append-add l b 1 ∙ drop-replicate 1 (limits .sas - length l) blankSa
+      ∙ ap (λ (m : ℕ). replicate m blankSa) z in
+      let k : count + 1 ≡ length (insert before a l) = omega arith in
+      (λ i. record { sas = (q ∙ ap₂ (λ (x y : List Sa). insert before a x ++ y) t d) i; count = k i }) ∙ sym (entered-made a l h)
+
   -- the last of n new SAs have entered, those from a place on
   module _ (new : List Sa) (n : ℕ) (h : n ≤ length new) (l : List Sa) (room : length l + n ≤ limits .sas) where
     abbrev pub withLast : ℕ → Table
@@ -45,6 +61,12 @@ module _ (limits : Limits) where
     pub none-entered : withLast n ≡ tableOf limits l
     unfolding insertAll
     none-entered = ap (λ (m : List Sa). tableOf limits (insertAll m l)) (part-end new n h n (omega arith))
+
+    pub some-entered : (i : ℕ) → i < n → length (insertAll (drop (i + 1) (take n new)) l) < limits .sas
+    some-entered i g =
+        let m = drop (i + 1) (take n new) in
+        let e : length m ≡ n - (i + 1) = length-drop (i + 1) (take n new) ∙ ap (λ (k : ℕ). k - (i + 1)) (length-take-le n new h) in
+        omega (arith, e, length-all m l)
 
     pub one-entered : (i : ℕ) (d : Sa) → i < n → entered limits (getD new i d) (withLast (i + 1)) ≡ withLast i
     unfolding insertAll
@@ -74,23 +96,18 @@ module _ (now delay : ℕ) where
     picked-by s false true e g = rw (e, g) refl
     picked-by s false false e g = rw (e, g) refl
 
+    pub picked-once : (s : Sa) → retiredIf q now delay (retiredIf p now delay s) ≡ retiredIf (λ (a : Sa). p a || q a) now delay s
+    picked-once s = picked-by s (p s) (q s) refl refl
+
     picked-too : (l : List Sa) →
         map (retiredIf q now delay) (map (retiredIf p now delay) l) ≡ map (retiredIf (λ (a : Sa). p a || q a) now delay) l
     picked-too [] = refl
-    picked-too (s ∷ l) = ap₂ (λ (a : Sa) (m : List Sa). a ∷ m) (picked-by s (p s) (q s) refl refl) (picked-too l)
-
-  picked-none : (l : List Sa) → map (retiredIf (λ (a : Sa). false) now delay) l ≡ l
-  unfolding retiredIf
-  picked-none [] = refl
-  picked-none (s ∷ l) = ap (λ (m : List Sa). s ∷ m) (picked-none l)
+    picked-too (s ∷ l) = ap₂ (λ (a : Sa) (m : List Sa). a ∷ m) (picked-once s) (picked-too l)
 
   -- the table of these SAs, those that are picked retired
   module _ (limits : Limits) (l : List Sa) (room : length l ≤ limits .sas) where
     abbrev pub withRetired : (Sa → Bool) → Table
     withRetired p = tableOf limits (map (retiredIf p now delay) l)
-
-    pub none-retired : withRetired (λ (a : Sa). false) ≡ tableOf limits l
-    none-retired = ap (tableOf limits) (picked-none l)
 
     pub more-retired : (p q : Sa → Bool) → ((s : Sa) → q (retired now delay s) ≡ q s) →
         retiredWhere limits q now delay (withRetired p) ≡ withRetired (λ (a : Sa). p a || q a)
@@ -103,18 +120,25 @@ module _ (now delay : ℕ) where
         ∙ ap (λ (k : List Sa). tableOf limits (f k)) (sas-of-table limits m)
         ∙ ap (tableOf limits) (picked-too p q kept l)
 
--- ---- what one SPI of D names
-pub all-named : (x : List ℕ) → isZero x ≡ true → (λ (s : Sa). eqb (s .protocol) esp) ≡ namedBy x
-all-named x e = λ i s. by s (eqb (s .protocol) esp) refl i
-  where
-    by : (s : Sa) (b : Bool) → eqb (s .protocol) esp ≡ b → eqb (s .protocol) esp ≡ namedBy x s
-    by s true g = rw (g, e) refl
-    by s false g = rw (g) refl
+-- ---- the first SAs of a table, changed in their places
+pub turned-table : (limits : Limits) (t : Table) (g : Sa → Sa) (l : List Sa) → length l ≤ limits .sas → t ≡ tableOf limits l →
+    record { sas = map g (take (t .count) (t .sas)) ++ drop (t .count) (t .sas); count = t .count } ≡ tableOf limits (map g l)
+unfolding tableOf
+turned-table limits t g l h e =
+    let b = replicate (limits .sas - length l) blankSa in
+    let n : length (map g l) ≡ length l = length-map l g in
+    let c : t .count ≡ length l = ap (λ (x : Table). x .count) e in
+    let s : t .sas ≡ l ++ b = ap (λ (x : Table). x .sas) e in
+    let first : take (t .count) (t .sas) ≡ l = (λ i. take (c i) (s i)) ∙ take-append-seam l b in
+    let rest : drop (t .count) (t .sas) ≡ replicate (limits .sas - length (map g l)) blankSa =
+    (λ i. drop (c i) (s i)) ∙ drop-append-seam l b ∙ ap (λ (m : ℕ). replicate (limits .sas - m) blankSa) (sym n) in
+    λ i. record { sas = map g (first i) ++ rest i; count = (c ∙ sym n) i }
 
-pub one-named : (x : List ℕ) → isZero x ≡ false → named esp x ≡ namedBy x
-unfolding named
-one-named x e = λ i s. (eqb (s .protocol) esp) && (sym e i || same (spiOf s) x)
+pub within-table : (limits : Limits) (t : Table) (l : List Sa) → length l ≤ limits .sas → t ≡ tableOf limits l → limits .sas < t .count → ⊥
+unfolding tableOf
+within-table limits t l h e g = let c : t .count ≡ length l = ap (λ (x : Table). x .count) e in omega arith
 
-pub named-kept : (now delay : ℕ) (x : List ℕ) (s : Sa) → namedBy x (retired now delay s) ≡ namedBy x s
+-- ---- what the SPIs of D name
+pub named-kept : (now delay : ℕ) (spis : List (List ℕ)) (s : Sa) → namedIn spis (retired now delay s) ≡ namedIn spis s
 unfolding retired
-named-kept now delay x s = refl
+named-kept now delay spis s = refl

@@ -8,18 +8,32 @@ ghost use Rattle.outcome.specs.After.{insertAll};
 use keys::limits::SAS;
 use sa::entry::Sa;
 use table::Table;
+use table::change::goes_ahead;
 
 // The first n of these SAs enter a table that has room for them. Internal.
 pub fn entered_all(t: Table, new: [Sa; SAS], n: usize) -> Table
     requires { ⌜ (t .count + n ≤ limits .sas) × (t ≡ tableOf limits (sasOf t)) ⌝ }
     ensures { λ r. ⌜ r ≡ tableOf limits (insertAll (take n new) (sasOf t)) ⌝ }
 {
-    let mut out = t;
+    let mut sas = t.sas;
+    let mut count = t.count;
     let mut i = n;
     while 0 < i {
         i -= 1;
-        let a = new[i];
-        out = out.entered(a);
+        let mut carried = new[i];
+        let mut placed = false;
+        let mut j: usize = 0;
+        while j < count {
+            let s = sas[j];
+            if goes_ahead(placed, carried, s) {
+                sas[j] = carried;
+                carried = s;
+                placed = true;
+            }
+            j += 1;
+        }
+        sas[count] = carried;
+        count += 1;
     }
-    out
+    Table { sas, count }
 }

@@ -62,6 +62,7 @@ fn least_by(x: Said, before: Least) -> Least
     match least {
         LeastAfter::Zero => Least::Id(0),
         LeastAfter::OwnPlusOne => Least::after(x.id),
+        LeastAfter::Kept => before,
     }
 }
 

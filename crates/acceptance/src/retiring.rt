@@ -1,22 +1,18 @@
 // SAs that a Delete payload names retire.
 ghost use mathlib.Core.Path.{_≡_};
-ghost use Rattle.keys.specs.Limits.{limits};
-ghost use Rattle.table.specs.inner.Changes.{retiredWhere};
 ghost use Rattle.outcome.specs.After.{isZero};
-ghost use mathlib.Core.Bool.{Bool, true, _||_};
-ghost use mathlib.Core.List.{List, map};
-ghost use Prim.Native.Nat.{_≤_};
-ghost use lib.ListN.{length};
-ghost use Rattle.sa.specs.declared.entry.Sa.{Sa};
-ghost use Rattle.table.specs.Table.{tableOf, retiredIf};
+ghost use mathlib.Core.Bool.{true};
+ghost use mathlib.Core.List.{List};
 ghost use Rattle.frames.specs.Delete.{Delete, deleteOf, deleteFits};
 ghost use Rattle.payloads.specs.inner.Deletion.{spisIn};
-ghost use Rattle.acceptance.specs.inner.Tables.{namedBy, namedIn, AreDeletes};
+ghost use Rattle.acceptance.specs.inner.Tables.{namedIn, retiredThere, AreDeletes};
 use contents::payload::DELETE;
 use contents::payload::payload_parts;
+use keys::limits::SAS;
 use payloads::deletion::delete_parts;
 use payloads::deletion::spi_at;
 use sa::entry::ESP;
+use sa::entry::Sa;
 use table::Table;
 
 // Whether all octets are 0.
@@ -33,32 +29,49 @@ fn is_zero(x: &[u8]) -> bool
     true
 }
 
-// The ESP SAs that an SPI of D names retire. Internal.
-pub fn retired_by(t: Table, spi: &[u8], tick: u32, delay: u16) -> Table
-    ensures { λ r. ⌜ r ≡ retiredWhere limits (namedBy (now (spi .entry))) tick delay t ⌝ }
+// Whether an SPI of a Delete payload's body names this SA.
+fn is_named(a: Sa, o: &[u8]) -> bool
+    requires { ⌜ deleteFits (now o) ≡ true ⌝ }
+    ensures { λ r. ⌜ r ≡ namedIn (deleteOf (now (o .entry)) .spis) a ⌝ }
 {
-    if is_zero(spi) {
-        return t.retired_all(ESP, tick, delay);
+    if a.protocol == ESP {
+        let d = delete_parts(o);
+        let n = d.count;
+        let mut i: usize = 0;
+        while i < n {
+            let x = spi_at(o, i);
+            if is_zero(x) {
+                return true;
+            }
+            if a.named(ESP, x) {
+                return true;
+            }
+            i += 1;
+        }
     }
-    t.retired_esp(spi, tick, delay)
+    false
 }
 
-// The ESP SAs that the SPIs of a Delete payload's body name retire.
+// The ESP SAs that the SPIs of a Delete payload's body name retire, in one pass over the table.
 fn retired_spis(t: Table, o: &[u8], tick: u32, delay: u16) -> Table
     requires { ⌜ deleteFits (now o) ≡ true ⌝ }
-    ensures { λ r. ⌜ ((l : List Sa) (p : Sa → Bool) → length l ≤ limits .sas → t ≡ tableOf limits (map (retiredIf p tick delay) l) →
-        r ≡ tableOf limits (map (retiredIf (λ a. p a || namedIn (deleteOf (now (o .entry)) .spis) a) tick delay) l)) ⌝ }
+    ensures { λ r. ⌜ r ≡ retiredThere (namedIn (deleteOf (now (o .entry)) .spis)) tick delay t ⌝ }
 {
-    let d = delete_parts(o);
-    let n = d.count;
-    let mut out = t;
+    let n = t.count;
+    if SAS < n {
+        return t;
+    }
+    let mut sas = t.sas;
     let mut i: usize = 0;
     while i < n {
-        let x = spi_at(o, i);
-        out = retired_by(out, x, tick, delay);
+        let a = sas[i];
+        if is_named(a, o) {
+            let b = a.retired(tick, delay);
+            sas[i] = b;
+        }
         i += 1;
     }
-    out
+    Table { sas, count: n }
 }
 
 // How many Delete payloads a frame has, and where the first one starts.
@@ -70,8 +83,7 @@ pub struct DeletesAt {
 // The ESP SAs that the Delete payloads of a frame name retire: from the first of these payloads to the last. Internal.
 pub fn retired_by_frame(t: Table, s: &[u8], d: DeletesAt, tick: u32, delay: u16) -> Table
     requires { ⌜ ((l : List Delete) × AreDeletes (now s) d l) ⌝ }
-    ensures { λ r. ⌜ ((l : List Delete) (m : List Sa) → AreDeletes (now (s .entry)) d l → length m ≤ limits .sas → t ≡ tableOf limits m →
-        r ≡ tableOf limits (map (retiredIf (namedIn (spisIn l)) tick delay) m)) ⌝ }
+    ensures { λ r. ⌜ ((l : List Delete) → AreDeletes (now (s .entry)) d l → r ≡ retiredThere (namedIn (spisIn l)) tick delay t) ⌝ }
 {
     let mut out = t;
     let mut left = d.count;

@@ -70,6 +70,9 @@ module _ (now : ℕ) (spi : List ℕ) (l : List Sa) (n : ℕ) (h : n ≤ length 
 pub wants-empty : (w : Wanted) (e r : Bool) → w ≡ wanted.Empty → r ≡ not e → r ≡ breaksWanted w e
 wants-empty w e r f g = g ∙ sym (ap (λ (v : Wanted). breaksWanted v e) f)
 
+pub wants-filled : (w : Wanted) (e r : Bool) → w ≡ wanted.NotEmpty → r ≡ e → r ≡ breaksWanted w e
+wants-filled w e r f g = g ∙ sym (ap (λ (v : Wanted). breaksWanted v e) f)
+
 pub wants-any : (w : Wanted) (e : Bool) → w ≡ wanted.Any → false ≡ breaksWanted w e
 wants-any w e f = sym (ap (λ (v : Wanted). breaksWanted v e) f)
 

@@ -55,6 +55,7 @@ fn breaks_wanted(wanted: Wanted, t: Table, tick: u32) -> bool
             }
             true
         }
+        Wanted::NotEmpty => t.is_empty(tick),
         Wanted::Any => false,
     }
 }

@@ -27,7 +27,7 @@ module _ (o r : List ℕ) (h : 4 ≤ length o) where
   second : be16 (o ++ r) 2 ≡ be16 o 2
   second = be16-append o r 2 (omega arith)
 
-  same-size : sizeOf (o ++ r) ≡ sizeOf o
+  pub same-size : sizeOf (o ++ r) ≡ sizeOf o
   same-size = λ i. either (leb 32768 (first i)) 4 (4 + second i)
 
   module _ (k : sizeOf o ≤ length o) where
@@ -36,7 +36,7 @@ module _ (o r : List ℕ) (h : 4 ≤ length o) where
         (λ i. part (o ++ r) (either (leb 32768 (first i)) 2 4) (same-size i))
         ∙ part-append o r (startOf o) (sizeOf o) (value-inside o) k
 
-    same-attribute : attributeOf (o ++ r) ≡ attributeOf o
+    pub same-attribute : attributeOf (o ++ r) ≡ attributeOf o
     same-attribute = λ i. record { short = leb 32768 (first i); kind = first i % 32768; value = same-value i }
 
     same-fits : (p : Place) → fitsIn p (o ++ r) ≡ fitsIn p o
@@ -71,7 +71,7 @@ module _ (p : Place) where
     left-none : drop (sizeOf o) o ≡ [] → sizeOf o ≤ length o → length o ≡ sizeOf o
     left-none e k = omega (arith, ap length e, length-drop (sizeOf o) o)
 
-    formats : (t : Bool) → isShort o ≡ t → length o ≡ sizeOf o → attributeOf o ≡ a → Format o a
+    pub formats : (t : Bool) → isShort o ≡ t → length o ≡ sizeOf o → attributeOf o ≡ a → Format o a
     formats true e l q =
         let m : length o ≡ 4 = l ∙ ap (λ (t : Bool). either t 4 (4 + be16 o 2)) e in
         in-short (record {
@@ -109,27 +109,37 @@ module _ (p : Place) where
         })
         (λ t q. let z : _≡_ {A = ℕ} 0 1 = cc in absurd (omega arith))
 
-    made : (t : Bool) → isShort o ≡ t → length o ≡ either t 4 (4 + be16 o 2) → drop (either t 2 4) o ≡ a .value → be16 o 0 % 32768 ≡ a .kind
-        → a .short ≡ t → formedIn p a ≡ true → (b : ℕ) → attribute p b o ≡ whole a []
+    module _ (t : Bool) (e : isShort o ≡ t) (l : length o ≡ either t 4 (4 + be16 o 2)) where
+      pub made-size : length o ≡ sizeOf o
+      made-size = l ∙ ap (λ (t : Bool). either t 4 (4 + be16 o 2)) (sym e)
+
+      pub made-attribute : drop (either t 2 4) o ≡ a .value → be16 o 0 % 32768 ≡ a .kind → a .short ≡ t → attributeOf o ≡ a
+      made-attribute v k m =
+          let n = made-size in
+          let w : valueOf o ≡ a .value =
+          take-all (sizeOf o - startOf o) (drop (startOf o) o) (rw length-drop (omega arith))
+          ∙ ap (λ (t : Bool). drop (either t 2 4) o) e ∙ v in
+          λ i. record { short = (e ∙ sym m) i; kind = k i; value = w i }
+
+    -- octets in either format are of their size, and say the attribute
+    pub format-size : Format o a → length o ≡ sizeOf o
+    format-size (in-short x) = made-size true (le-leb 32768 (be16 o 0) (x .top)) (x .size)
+    format-size (in-long x) = made-size false (lt-leb 32768 (be16 o 0) (x .top)) (x .size)
+
+    pub format-says : Format o a → attributeOf o ≡ a
+    format-says (in-short x) = made-attribute true (le-leb 32768 (be16 o 0) (x .top)) (x .size) (x .value) (x .kind) (x .format)
+    format-says (in-long x) = made-attribute false (lt-leb 32768 (be16 o 0) (x .top)) (x .size) (x .value) (x .kind) (x .format)
+
+    pub from : IsAttribute p o a → (b : ℕ) → attribute p b o ≡ whole a []
     unfolding attribute
-    made t e l v k m f b =
-        let n : length o ≡ sizeOf o = l ∙ ap (λ (t : Bool). either t 4 (4 + be16 o 2)) (sym e) in
-        let w : valueOf o ≡ a .value =
-        take-all (sizeOf o - startOf o) (drop (startOf o) o) (rw length-drop (omega arith))
-        ∙ ap (λ (t : Bool). drop (either t 2 4) o) e ∙ v in
-        let q : attributeOf o ≡ a = λ i. record { short = (e ∙ sym m) i; kind = k i; value = w i } in
+    from i b =
+        let n = format-size (i .format) in
+        let q = format-says (i .format) in
         let g : fitsIn p o ≡ true =
-        ap (λ (x : Attribute). both (fits o) (formedIn p x)) q ∙ ap (λ (t : Bool). both (fits o) t) f
+        ap (λ (x : Attribute). both (fits o) (formedIn p x)) q ∙ ap (λ (t : Bool). both (fits o) t) (i .formed)
         ∙ ap (λ (t : Bool). both t true) (le-leb (sizeOf o) (length o) (omega arith)) in
         ap (λ (t : Bool). opened b t (whole (attributeOf o) (drop (sizeOf o) o))) g
         ∙ (λ i. whole (q i) (drop (sym n i) o)) ∙ ap (whole a) (drop-length o)
-
-    of-format : Format o a → formedIn p a ≡ true → (b : ℕ) → attribute p b o ≡ whole a []
-    of-format (in-short x) f b = made true (le-leb 32768 (be16 o 0) (x .top)) (x .size) (x .value) (x .kind) (x .format) f b
-    of-format (in-long x) f b = made false (lt-leb 32768 (be16 o 0) (x .top)) (x .size) (x .value) (x .kind) (x .format) f b
-
-    pub from : IsAttribute p o a → (b : ℕ) → attribute p b o ≡ whole a []
-    from i b = of-format (i .format) (i .formed) b
 
   pub sound : (b : ℕ) (s : List ℕ) (a : Attribute) (rest : List ℕ) → attribute p b s ≡ whole a rest → Cuts (IsAttribute p) s a rest
   sound = sound-of (attribute p) 4 sizeOf local (IsAttribute p) (λ b o a q. to o a b q)

@@ -2,4 +2,5 @@ pub mod Loops
 pub mod AttributeLaws
 pub mod SplitGrammar
 pub mod GrammarLaws
+pub mod BreakLaws
 pub mod AttributeTable

@@ -4,3 +4,4 @@ pub mod Tree
 pub mod Layout
 pub mod Answers
 pub mod Grammar
+pub mod Breaks

@@ -81,7 +81,8 @@ pub fn attribute_value(s: &[u8], at: usize) -> &[u8]
     }
 }
 
-// The attribute that the octets, which start at the offset base, start with: where it ends, if it is laid out as its place asks. Internal.
+// THE READER OF ONE ATTRIBUTE: where the attribute that the octets start with ends, if it is laid out as its place asks; else that it is
+// broken at the offset base, where the octets start in the frame.
 pub fn attribute_in(place: tables::Place, s: &[u8], base: usize) -> Spot
     ensures { λ r. ⌜ r ≡ spotOf (now (s .entry)) (attribute place base (now (s .entry))) ⌝ }
 {

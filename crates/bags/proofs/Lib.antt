@@ -1,3 +1,4 @@
 pub mod BagLaws
 pub mod BagGrammar
 pub mod AlikeLaws
+pub mod BagBreaks

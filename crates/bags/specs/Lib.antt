@@ -1,3 +1,4 @@
 pub mod Bag
 pub mod Grammar
 pub mod Ignored
+pub mod Breaks

@@ -6,7 +6,8 @@ mod same;
 mod values;
 
 use group::Member;
-use group::receive::Answer;
+use keys::limits::HELD_KEYS;
+use keys::limits::SAS;
 use libc::STDOUT_FILENO;
 use sa::entry::ESP;
 use sa::entry::REKEY;
@@ -74,22 +75,6 @@ fn frame() -> [u8; 40] {
     ]
 }
 
-// Document 01's number of an answer.
-fn number(a: Answer) -> u64 {
-    match a {
-        Answer::Accepted => 0,
-        Answer::BrokenLayout => 1,
-        Answer::NotForMember => 2,
-        Answer::Replayed => 3,
-        Answer::BadComposition => 4,
-        Answer::Unsupported => 5,
-        Answer::Unpaired => 6,
-        Answer::OverLimit => 7,
-        Answer::KeyConflict => 8,
-        Answer::NoKey => 9,
-    }
-}
-
 // Whether the first of two values came out unchanged.
 pub(crate) fn compared(m: Member, next: Member) {
     if same::same_members(m, next) {
@@ -105,7 +90,7 @@ fn received(m: Member) {
     let r = m.receive(&f, &lent, TICK);
     let a = r.answer;
     let next = r.member;
-    io::print_decimal(STDOUT_FILENO, number(a));
+    io::print_decimal(STDOUT_FILENO, a.number() as u64);
     print(b" ");
     compared(m, next);
 }
@@ -150,7 +135,10 @@ fn tried(name: &[u8], m: Member) {
 // Tables that are as a member's must be but for their count.
 fn counts() {
     tried(b"as it must be", member_of(sas(3), held_keys(2)));
-    tried(b"17 SAs", member_of(sas(17), held_keys(2)));
+    tried(
+        b"one SA over the limit",
+        member_of(sas(SAS + 1), held_keys(2)),
+    );
     tried(
         b"2^64 - 1 SAs",
         member_of(sas(18446744073709551615), held_keys(2)),
@@ -159,7 +147,10 @@ fn counts() {
         b"a blank place among the SAs",
         member_of(sas(4), held_keys(2)),
     );
-    tried(b"33 held keys", member_of(sas(3), held_keys(33)));
+    tried(
+        b"one held key over the limit",
+        member_of(sas(3), held_keys(HELD_KEYS + 1)),
+    );
     tried(
         b"a blank place among the held keys",
         member_of(sas(3), held_keys(3)),

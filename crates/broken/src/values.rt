@@ -93,7 +93,7 @@ pub(crate) fn sas(count: usize) -> Table {
 pub(crate) fn changed_place(t: Table) -> Table {
     let s = esp(1, 20);
     let mut u = t;
-    u.sas[15] = s;
+    u.sas[SAS - 1] = s;
     u
 }
 
@@ -129,7 +129,7 @@ pub(crate) fn held_keys(count: usize) -> Held {
 pub(crate) fn key_at_the_end(h: Held) -> Held {
     let k = key(9, 16);
     let mut g = h;
-    g.keys[31] = k;
+    g.keys[HELD_KEYS - 1] = k;
     g
 }
 

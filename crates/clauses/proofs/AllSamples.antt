@@ -39,6 +39,7 @@ use Rattle.clauses.proofs.SamplesOf5.{samplesOf5}
 use Rattle.clauses.proofs.SamplesOf6.{samplesOf6}
 use Rattle.clauses.proofs.SamplesOf7.{samplesOf7}
 use Rattle.clauses.proofs.SamplesOfLimits.{samplesOfLimits}
+use Rattle.clauses.proofs.SamplesInband.{samplesInband}
 use Rattle.clauses.proofs.SamplesAlone.{Alone, alone2, alone4, alone5, alone6, alone7}
 
 -- each has its number, under limits
@@ -92,20 +93,24 @@ pub record Samples : Type 0 where
   pub of-5 : Answered samplesOf5
   pub of-6 : Answered samplesOf6
   pub of-7 : Answered samplesOf7
+  pub of-inband : Answered samplesInband
   -- each clause that can be met alone, in each exchange that can meet it
   pub alone-2 : MetAlone twoOf alone2
   pub alone-4 : MetAlone fourOf alone4
   pub alone-5 : MetAlone fiveOf alone5
   pub alone-6 : MetAlone sixOf alone6
   pub alone-7 : MetAlone sevenOf alone7
-  -- of the member are "registration of a non-empty member; rekey whose two SPIs are not ..; a member value that breaks its list" (2),
-  -- "already in the table" (6) and "over 16 SAs after the frame" (7)
+  -- of the member are "registration of a non-empty member", GSA_INBAND_REKEY of an empty one, "rekey whose two SPIs are not ..; a member
+  -- value that breaks its list" (2), "already in the table" (6) and "over 16 SAs after the frame" (7; T-01: 64)
   pub halves : ByFrame 1 alone2 × ByFrame 16 alone4 × ByFrame 6 alone5 × ByFrame 9 alone6 × ByFrame 4 alone7
   -- under six figures that differ
   pub of-limits : AnsweredWithin apart samplesOfLimits
   -- GSA_AUTH (39) and GSA_REGISTRATION (40) are answered alike, whatever their payloads
   pub alike : (s : State) (now : ℕ) (lent x : List ℕ) (id : ℕ) (l : List Payload) →
       refusal limits s now lent (frameOf x 39 id l) ≡ refusal limits s now lent (frameOf x 40 id l)
+  -- GSA_INBAND_REKEY (42) is answered alike with any SPIs and any Message ID
+  pub any-header : (s : State) (now : ℕ) (lent x y : List ℕ) (i j : ℕ) (l : List Payload) →
+      refusal limits s now lent (frameOf x 42 i l) ≡ refusal limits s now lent (frameOf y 42 j l)
 
 pub samples-answered : Samples
 unfolding refusal judged one any all count keep heads rising newState stateFormed tableFormed heldFormed tableOf heldOf keyFormed formed
@@ -123,6 +128,7 @@ samples-answered =
       of-5 = refl;
       of-6 = refl;
       of-7 = refl;
+      of-inband = refl;
       alone-2 = (refl, refl);
       alone-4 = (refl, refl);
       alone-5 = (refl, refl);
@@ -131,6 +137,7 @@ samples-answered =
       halves = (refl, refl, refl, refl, refl);
       of-limits = refl;
       alike = λ s now lent x id l. refl;
+      any-header = λ s now lent x y i j l. refl;
     }
 
 -- the octets that a Rekey policy needs: 28 and 24

@@ -2,7 +2,8 @@
 use Prim.Native.Nat.{ℕ}
 use mathlib.Core.List.{List, [], _∷_, _++_, map}
 use mathlib.Core.Bool.{false}
-use lib.ListN.{take, replicate}
+use lib.ListN.{replicate}
+use Rattle.octets.specs.Generate.{gen}
 use Rattle.keys.specs.Limits.{Limits, limits}
 use Rattle.keys.specs.Kinds.{wrappingOf, espOf, rekeyOf}
 use Rattle.sa.specs.Entry.{withCondition, espSa, rekeySa}
@@ -98,7 +99,7 @@ rekeyBag x n = bag 6 x (replicate n (saKey 0 9))
 abbrev pub memberBag : List WrapKey → Bag
 memberBag l = memberKeys (record { keys = l })
 
--- ---- frames by what their payloads hold, with Message ID 0; rekeys are those over the live Rekey SA
+-- ---- frames by what their payloads hold, with Message ID 0; rekeys are those over the live Rekey SA, in-band ones have SPIs that no SA has
 abbrev pub deletes : ℕ → List (List ℕ) → Content
 deletes p l = delete (record { protocol = p; spis = l })
 
@@ -121,6 +122,9 @@ registers l = frameOf [] 39 0 (map payload l)
 abbrev pub rekeys : List Content → Frame
 rekeys l = frameOf liveSpi 41 0 (map payload l)
 
+abbrev pub inband : List Content → Frame
+inband l = frameOf [] 42 0 (map payload l)
+
 -- a registration with an ESP SA and a Rekey SA; a rekey that deletes an ESP SA, with SPIs x and Message ID m
 abbrev pub fit : List Content
 fit = gsa (espPolicy 1 ∷ rekeyPolicy liveSpi ∷ []) ∷ kd (rekeyBag liveSpi 1 ∷ espBag 1 ∷ []) ∷ []
@@ -131,9 +135,9 @@ deletion = deletes 3 (spi 4 ∷ [])
 abbrev pub deleting : List ℕ → ℕ → Frame
 deleting x m = frameOf x 41 m (payload deletion ∷ [])
 
--- 1 up to n, of 15
+-- 1 up to n
 abbrev pub upTo : ℕ → List ℕ
-upTo n = take n (1 ∷ 2 ∷ 3 ∷ 4 ∷ 5 ∷ 6 ∷ 7 ∷ 8 ∷ 9 ∷ 10 ∷ 11 ∷ 12 ∷ 13 ∷ 14 ∷ 15 ∷ [])
+upTo n = gen (λ (i : ℕ). i) 1 n
 
 -- what announces n ESP SAs; what registers with n WRAP_KEY; rekeys with n copies of a new Rekey SA's key, and with n deleted SPIs
 abbrev pub espSas : ℕ → List Content
@@ -148,9 +152,12 @@ copies n = rekeys (gsa (rekeyPolicy nextSpi ∷ []) ∷ kd (rekeyBag nextSpi n �
 abbrev pub deleted : ℕ → Frame
 deleted n = rekeys (deletes 3 (replicate n (spi 4)) ∷ [])
 
--- a rekey that announces an ESP SA more
+-- what announces an ESP SA more, and a rekey with it
+abbrev pub another : List Content
+another = gsa (espPolicy 200 ∷ []) ∷ kd (espBag 200 ∷ []) ∷ []
+
 abbrev pub oneMore : Frame
-oneMore = rekeys (gsa (espPolicy 20 ∷ []) ∷ kd (espBag 20 ∷ []) ∷ [])
+oneMore = rekeys another
 
 -- ---- members
 abbrev pub espAt : ℕ → Condition → Sa
@@ -213,6 +220,10 @@ anew f k = sample fresh 16 f k
 
 abbrev pub later : Frame → ℕ → Sample
 later f k = sample (member (Id 0)) 0 f k
+
+-- a rekey in-band of that member, whose least acceptable Message ID is 7, with a key of 16 octets
+abbrev pub own : Frame → ℕ → Sample
+own f k = sample (member (Id 7)) 16 f k
 
 abbrev pub answerWithin : Limits → Sample → ℕ
 answerWithin limits s = refusal limits (s .state) tick (replicate (s .lent) 0) (s .frame)

@@ -1,17 +1,19 @@
--- Each clause of numbers 2 and 4 to 7 that can be met alone, met alone: in a registration and in a rekey, where that exchange can meet it.
+-- Each clause of numbers 2 and 4 to 7 that can be met alone, met alone: in a registration, in a rekey and in an in-band rekey, where that
+-- exchange can meet it.
 -- Three clauses cannot: an AH policy also has other transforms than those that are fit, and where one protocol and SPI stands twice, in
 -- policies or in bags, policies and bags are not paired one to one either. Number 3 has one clause.
-use Prim.Native.Nat.{ℕ}
+use Prim.Native.Nat.{ℕ, _-_}
 use mathlib.Core.List.{List, [], _∷_, _++_, map}
 use mathlib.Core.Bool.{true}
 use lib.ListN.{replicate}
+use Rattle.keys.specs.Limits.{limits}
 use Rattle.sa.specs.declared.entry.Condition.the-variants.{Live}
 use Rattle.policies.specs.Selector.{Selector}
 use Rattle.policies.specs.Policy.{groupSa}
 use Rattle.frames.specs.Frame.{Payload, Content, gsa, kd, unread}
 use Rattle.clauses.proofs.SampleParts.{spi, liveSpi, nextSpi, thirdSpi, transform, selector, ip4, group, saPolicy, policy, rekeySuite}
 use Rattle.clauses.proofs.SampleParts.{espPolicy, rekeyPolicy, wide, saKey, wrapKey, bag, espBag, rekeyBag, memberBag, deletes}
-use Rattle.clauses.proofs.SampleParts.{payload, frameOf, registers, rekeys, fit, deletion, rekeyAt, dueLater, espSas, wrapKeys}
+use Rattle.clauses.proofs.SampleParts.{payload, frameOf, registers, rekeys, inband, another, own, fit, deletion, rekeyAt, dueLater, espSas, wrapKeys}
 use Rattle.clauses.proofs.SampleParts.{copies, deleted, having, oneMore, fresh, heldKey, holding, Sample, sample, anew, later}
 
 -- a sample and the place of the one clause that it meets, in the list of its number
@@ -30,27 +32,31 @@ pub record Case : Type 0 where
 abbrev case : ℕ → List Content → Case
 case c l = record { clause = c; contents = l }
 
--- in a registration and in a rekey
-abbrev inBoth : ℕ → List Case → List Alone
-inBoth n l =
+-- in a registration, in a rekey and in an in-band rekey
+abbrev inEach : ℕ → List Case → List Alone
+inEach n l =
     map (λ (c : Case). alone (c .clause) (anew (registers (c .contents)) n)) l
     ++ map (λ (c : Case). alone (c .clause) (later (rekeys (c .contents)) n)) l
+    ++ map (λ (c : Case). alone (c .clause) (own (inband (c .contents)) n)) l
 
 -- ---- number 2
 abbrev pub alone2 : List Alone
 alone2 =
     -- another exchange
-    alone 0 (anew (frameOf [] 42 0 (map payload fit)) 2) ∷
-    alone 0 (later (frameOf liveSpi 42 0 (payload deletion ∷ [])) 2) ∷
+    alone 0 (anew (frameOf [] 43 0 (map payload fit)) 2) ∷
+    alone 0 (later (frameOf liveSpi 43 0 (payload deletion ∷ [])) 2) ∷
     -- a registration of a member that is not empty
     alone 1 (sample (having 0 Live) 16 (registers fit) 2) ∷
     alone 1 (sample (having 0 Live) 16 (frameOf [] 40 0 (map payload fit)) 2) ∷
+    -- an in-band rekey of an empty member
+    alone 1 (anew (inband another) 2) ∷
     -- a rekey over other SPIs
     alone 2 (later (frameOf nextSpi 41 0 (payload deletion ∷ [])) 2) ∷
     -- a member value that breaks its list
     alone 3 (sample (holding [] (heldKey 0 16 ∷ [])) 16 (registers fit) 2) ∷
     alone 3 (sample (holding [] (heldKey 0 16 ∷ [])) 16 (frameOf [] 40 0 (map payload fit)) 2) ∷
     alone 3 (sample (holding (rekeyAt Live ∷ []) (heldKey 0 16 ∷ [])) 0 (rekeys (deletion ∷ [])) 2) ∷
+    alone 3 (sample (holding (rekeyAt Live ∷ []) (heldKey 0 16 ∷ [])) 16 (inband another) 2) ∷
     []
 
 -- ---- number 4
@@ -58,7 +64,7 @@ abbrev unknown : Payload
 unknown = record { kind = 40; critical = true; content = unread }
 
 abbrev pub alone4 : List Alone
-alone4 = inBoth 4 (
+alone4 = inEach 4 (
     -- two GSA, two KD
     case 3 (gsa (espPolicy 1 ∷ []) ∷ gsa (espPolicy 2 ∷ []) ∷ kd (espBag 1 ∷ espBag 2 ∷ []) ∷ []) ∷
     case 4 (gsa (espPolicy 1 ∷ espPolicy 2 ∷ []) ∷ kd (espBag 1 ∷ []) ∷ kd (espBag 2 ∷ []) ∷ []) ∷
@@ -86,15 +92,18 @@ alone4 = inBoth 4 (
     -- a critical unknown payload
     ++ alone 0 (anew (frameOf [] 39 0 (unknown ∷ map payload fit)) 4) ∷
     alone 0 (later (frameOf liveSpi 41 0 (payload deletion ∷ unknown ∷ [])) 4) ∷
-    -- a Member bag in a rekey, D in a registration, several Member bags
+    alone 0 (own (frameOf [] 42 0 (unknown ∷ map payload another)) 4) ∷
+    -- a Member bag in a rekey, D in a registration, each in an in-band rekey; several Member bags
     alone 1 (later (rekeys (gsa (espPolicy 1 ∷ []) ∷ kd (espBag 1 ∷ memberBag (wrapKey 5 0 ∷ []) ∷ []) ∷ [])) 4) ∷
+    alone 1 (own (inband (gsa (espPolicy 1 ∷ []) ∷ kd (espBag 1 ∷ memberBag (wrapKey 5 0 ∷ []) ∷ []) ∷ [])) 4) ∷
     alone 2 (anew (registers (deletion ∷ fit)) 4) ∷
+    alone 2 (own (inband (deletion ∷ another)) 4) ∷
     alone 10 (anew (registers (gsa (espPolicy 1 ∷ []) ∷ kd (memberBag [] ∷ espBag 1 ∷ memberBag (wrapKey 5 0 ∷ []) ∷ []) ∷ [])) 4) ∷
     []
 
 -- ---- number 5
 abbrev pub alone5 : List Alone
-alone5 = inBoth 5 (
+alone5 = inEach 5 (
     -- an AH bag
     case 1 (gsa (espPolicy 1 ∷ []) ∷ kd (espBag 1 ∷ bag 2 (spi 2) (saKey 0 0 ∷ []) ∷ []) ∷ []) ∷
     -- other transforms, in an ESP and in a Rekey policy
@@ -106,11 +115,12 @@ alone5 = inBoth 5 (
     alone 4 (later (rekeys (deletes 3 [] ∷ [])) 5) ∷
     alone 5 (sample fresh 28 (registers fit) 5) ∷
     alone 5 (sample fresh 28 (frameOf [] 40 0 (map payload fit)) 5) ∷
+    alone 5 (sample (having 0 Live) 28 (inband another) 5) ∷
     []
 
 -- ---- number 6
 abbrev pub alone6 : List Alone
-alone6 = inBoth 6 (
+alone6 = inEach 6 (
     -- a policy with no bag, a bag with no policy
     case 0 (gsa (espPolicy 1 ∷ espPolicy 2 ∷ []) ∷ kd (espBag 2 ∷ []) ∷ []) ∷
     case 1 (gsa (espPolicy 1 ∷ []) ∷ kd (espBag 1 ∷ espBag 2 ∷ []) ∷ []) ∷
@@ -121,21 +131,25 @@ alone6 = inBoth 6 (
     case 5 (gsa (rekeyPolicy nextSpi ∷ []) ∷ kd (bag 6 nextSpi (saKey 1 9 ∷ []) ∷ []) ∷ []) ∷
     case 6 (gsa (espPolicy 1 ∷ []) ∷ kd (bag 3 (spi 1) (saKey 0 1 ∷ []) ∷ []) ∷ []) ∷
     [])
+    -- two copies of a Rekey SA's key in an in-band rekey
+    ++ alone 4 (own (inband (gsa (rekeyPolicy nextSpi ∷ []) ∷ kd (rekeyBag nextSpi 2 ∷ []) ∷ [])) 6) ∷
     -- WRAP_KEY with Key ID 0, WRAP_KEY whose Key ID equals its KWK ID; a name that is already in the table
-    ++ alone 7 (anew (registers (gsa (espPolicy 1 ∷ []) ∷ kd (memberBag (wrapKey 0 5 ∷ []) ∷ espBag 1 ∷ []) ∷ [])) 6) ∷
+    alone 7 (anew (registers (gsa (espPolicy 1 ∷ []) ∷ kd (memberBag (wrapKey 0 5 ∷ []) ∷ espBag 1 ∷ []) ∷ [])) 6) ∷
     alone 8 (anew (registers (gsa (espPolicy 1 ∷ []) ∷ kd (memberBag (wrapKey 5 5 ∷ []) ∷ espBag 1 ∷ []) ∷ [])) 6) ∷
     alone 9 (sample (having 1 dueLater) 0 (rekeys (gsa (espPolicy 1 ∷ []) ∷ kd (espBag 1 ∷ []) ∷ [])) 6) ∷
+    alone 9 (sample (having 1 dueLater) 16 (inband (gsa (espPolicy 1 ∷ []) ∷ kd (espBag 1 ∷ []) ∷ [])) 6) ∷
     []
 
--- ---- number 7. A registration announces at most 8 ESP SAs and a Rekey SA, so 16 SAs are passed in a rekey alone
+-- ---- number 7. A registration announces at most 24 ESP SAs and a Rekey SA, so 64 SAs are passed in rekeys alone
 abbrev pub alone7 : List Alone
-alone7 = inBoth 7 (
+alone7 = inEach 7 (
     -- ESP policies
-    case 0 (espSas 9) ∷
+    case 0 (espSas 25) ∷
     [])
     -- WRAP_KEY, SA_KEY in a bag, deleted SPIs, SAs
-    ++ alone 1 (anew (wrapKeys 33) 7) ∷
+    ++ alone 1 (anew (wrapKeys 129) 7) ∷
     alone 2 (later (copies 33) 7) ∷
     alone 3 (later (deleted 33) 7) ∷
-    alone 4 (sample (having 14 Live) 0 oneMore 7) ∷
+    alone 4 (sample (having 62 Live) 0 oneMore 7) ∷
+    alone 4 (sample (having (limits .sas - 2) Live) 16 (inband another) 7) ∷
     []

@@ -1,33 +1,32 @@
 -- Samples of numbers 2 and 3.
 use Prim.Native.Nat.{ℕ}
 use mathlib.Core.List.{List, [], _∷_, _++_, map}
-use lib.ListN.{take, replicate}
+use lib.ListN.{replicate}
 use Rattle.keys.specs.Limits.{limits}
 use Rattle.keys.specs.Kinds.{espOf, rekeyOf}
-use Rattle.sa.specs.Entry.{espSa, rekeySa, blankSa}
+use Rattle.sa.specs.Entry.{espSa, rekeySa}
 use Rattle.sa.specs.declared.entry.Condition.{Condition}
 use Rattle.sa.specs.declared.entry.Condition.the-variants.{Live}
+use Rattle.table.specs.Table.{tableOf}
 use Rattle.state.specs.declared.State.{State}
 use Rattle.state.specs.declared.held.HeldKey.{HeldKey}
 use Rattle.state.specs.declared.least.Least.the-variants.{Id, NoneAnyMore}
 use Rattle.state.specs.Held.{heldOf}
 use Rattle.clauses.proofs.SampleParts.{spi, liveSpi, nextSpi, payload, frameOf, registers, fit, deletion, deleting}
 use Rattle.clauses.proofs.SampleParts.{espAt, rekeyAt, dueNow, dueLater, heldKey, memberOf, holding, fresh, member, Sample, sample}
-use Rattle.clauses.proofs.SampleParts.{anew, later}
+use Rattle.clauses.proofs.SampleParts.{upTo, having, anew, later}
 
--- a table that says to have 17 SAs
+-- a table of 64 places that says to have 65 SAs
 abbrev overfull : State
 overfull = record {
-  table = record { sas = rekeyAt Live ∷ replicate 15 blankSa; count = 17 };
+  table = record { sas = (tableOf limits (rekeyAt Live ∷ [])) .sas; count = 65 };
   held = heldOf limits [];
   least = Id 0;
 }
 
--- Key IDs 1 to n, of 33
+-- Key IDs 1 to n
 abbrev keysTo : ℕ → List HeldKey
-keysTo n = map (λ (i : ℕ). heldKey i 16) (take n
-    (1 ∷ 2 ∷ 3 ∷ 4 ∷ 5 ∷ 6 ∷ 7 ∷ 8 ∷ 9 ∷ 10 ∷ 11 ∷ 12 ∷ 13 ∷ 14 ∷ 15 ∷ 16 ∷ 17 ∷ 18 ∷ 19 ∷ 20 ∷ 21 ∷ 22 ∷ 23 ∷ 24 ∷ 25 ∷ 26 ∷ 27 ∷ 28 ∷ 29 ∷
-    30 ∷ 31 ∷ 32 ∷ 33 ∷ []))
+keysTo n = map (λ (i : ℕ). heldKey i 16) (upTo n)
 
 -- an ESP SA with n keying octets beside the live Rekey SA; a Rekey SA in this condition beside another that is live
 abbrev withEsp : ℕ → State
@@ -71,14 +70,18 @@ samplesOf2And3 =
     sample (memberOf (espAt 8 dueNow ∷ espAt 9 Live ∷ []) (Id 0)) 16 (registers fit) 2 ∷
     sample (memberOf (espAt 8 Live ∷ espAt 9 dueNow ∷ []) (Id 0)) 16 (registers fit) 2 ∷
     sample (memberOf (espAt 9 Live ∷ []) (Id 0)) 16 (frameOf [] 40 0 (map payload fit)) 2 ∷
-    -- 2: another exchange than GSA_AUTH 39, GSA_REGISTRATION 40 and GSA_REKEY 41
+    -- 2: another exchange than GSA_AUTH 39, GSA_REGISTRATION 40, GSA_REKEY 41 and GSA_INBAND_REKEY 42, and that of a new member
     anew (frameOf [] 0 0 (map payload fit)) 2 ∷
     anew (frameOf [] 38 0 (map payload fit)) 2 ∷
     anew (frameOf [] 39 0 (map payload fit)) 0 ∷
     anew (frameOf [] 40 0 (map payload fit)) 0 ∷
     anew (frameOf [] 42 0 (map payload fit)) 2 ∷
-    later (frameOf liveSpi 42 9 (payload deletion ∷ [])) 2 ∷
-    -- 2: a member value that breaks its list: 17 SAs, falling SPIs, keying octets of a size that nothing needs, two live Rekey SAs
+    anew (frameOf [] 43 0 (map payload fit)) 2 ∷
+    later (frameOf liveSpi 43 9 (payload deletion ∷ [])) 2 ∷
+    -- 2: a member value that breaks its list: 65 SAs, falling SPIs, keying octets of a size that nothing needs, two live Rekey SAs
+    sample (having 62 Live) 0 (deleting liveSpi 9) 0 ∷
+    sample (having 63 Live) 0 (deleting liveSpi 9) 2 ∷
+    sample (having 63 dueNow) 0 (deleting liveSpi 9) 2 ∷
     sample overfull 0 (deleting liveSpi 9) 2 ∷
     sample (memberOf (espAt 9 dueNow ∷ espAt 8 dueNow ∷ []) (Id 0)) 16 (registers fit) 2 ∷
     sample (memberOf (espAt 8 dueNow ∷ espAt 9 dueNow ∷ []) (Id 0)) 16 (registers fit) 0 ∷
@@ -86,9 +89,9 @@ samplesOf2And3 =
     sample (withEsp 24) 0 (deleting liveSpi 9) 2 ∷
     sample (withRekey Live) 0 (deleting nextSpi 9) 2 ∷
     sample (withRekey dueLater) 0 (deleting nextSpi 9) 0 ∷
-    -- the same: 33 held keys, Key ID 0, a value of 20 octets, Key IDs that do not rise
-    sample (holding [] (keysTo 32)) 16 (registers fit) 0 ∷
-    sample (holding [] (keysTo 33)) 16 (registers fit) 2 ∷
+    -- the same: 129 held keys, Key ID 0, a value of 20 octets, Key IDs that do not rise
+    sample (holding [] (keysTo 128)) 16 (registers fit) 0 ∷
+    sample (holding [] (keysTo 129)) 16 (registers fit) 2 ∷
     sample (holding [] (heldKey 0 16 ∷ [])) 16 (registers fit) 2 ∷
     sample (holding [] (heldKey 5 20 ∷ [])) 16 (registers fit) 2 ∷
     sample (holding [] (heldKey 5 24 ∷ [])) 16 (registers fit) 0 ∷

@@ -1,5 +1,5 @@
--- Samples under a record of six figures that differ. Document 01 gives four of the limits the same figure, 32, so samples under its own
--- figures cannot tell one of these from another.
+-- Samples under a record of six figures that differ. Two of the limits are 128 and two are 32, so samples under the code's figures cannot
+-- tell these apart. The words are document 01's.
 use mathlib.Core.List.{List, [], _∷_}
 use Rattle.sa.specs.declared.entry.Condition.the-variants.{Live}
 use Rattle.sa.specs.declared.entry.Sa.{Sa}

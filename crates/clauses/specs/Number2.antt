@@ -1,5 +1,6 @@
 -- Number 2 is given exactly when: "exchange not one of the three; registration of a non-empty member; rekey whose two SPIs are not the live
--- Rekey SA's; a member value that breaks its list". Of the frame it looks at the header's exchange type x and SPIs alone.
+-- Rekey SA's; a member value that breaks its list"; it "admits a fourth exchange, refuses it for an empty member and does not compare its
+-- SPIs" (document 02, T-02). Of the frame it looks at the header's exchange type x and SPIs alone.
 use Prim.Native.Nat.{ℕ}
 use mathlib.Core.List.{List, [], _∷_}
 use mathlib.Core.Bool.{Bool, false, not, _&&_}
@@ -18,13 +19,14 @@ use Rattle.frames.specs.declared.exchanges.Wanted.the-variants as wanted
 abbrev pub standing : ℕ → State → List Sa
 standing now s = notDue now (sasOf (s .table))
 
--- "exchange not one of the three"
+-- "exchange not one of the three", of the four with T-02's
 abbrev pub otherExchange : ℕ → Bool
 otherExchange x = not ((exchangeOf x) .admitted)
 
--- "registration of a non-empty member"
+-- "registration of a non-empty member"; GSA_INBAND_REKEY of an empty one
 abbrev pub breaksWanted : Wanted → Bool → Bool
 breaksWanted wanted.Empty isEmpty = not isEmpty
+breaksWanted wanted.NotEmpty isEmpty = isEmpty
 breaksWanted wanted.Any isEmpty = false
 
 unfoldable pub nonEmptyMember : Limits → State → ℕ → ℕ → Bool

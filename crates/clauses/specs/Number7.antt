@@ -1,5 +1,6 @@
 -- Number 7 is given exactly when: "over 8 ESP policies, 32 WRAP_KEY, 32 SA_KEY in a bag, 32 deleted SPIs in the frame, or over 16 SAs after
--- the frame, those already due when it arrives not counted". The figures are those of the record of limits.
+-- the frame, those already due when it arrives not counted"; by document 02, T-01, over 24 ESP policies, 128 WRAP_KEY or 64 SAs. The
+-- figures are those of the record of limits.
 use Prim.Native.Nat.{ℕ, _+_}
 use mathlib.Core.List.{List, [], _∷_}
 use mathlib.Core.Bool.{Bool}
@@ -14,11 +15,11 @@ use Rattle.clauses.specs.Contents.{announced, groupBags, wrapKeysOf, del
 use Rattle.clauses.specs.Fitness.{isEsp}
 use Rattle.clauses.specs.Number2.{standing}
 
--- "over 8 ESP policies"
+-- "over 8 ESP policies"; T-01: 24
 unfoldable pub manyEspPolicies : Limits → Frame → Bool
 manyEspPolicies limits f = ltb (limits .espPolicies) (count isEsp (announced f))
 
--- "32 WRAP_KEY"
+-- "32 WRAP_KEY"; T-01: 128
 unfoldable pub manyWrapKeys : Limits → Frame → Bool
 manyWrapKeys limits f = ltb (limits .wrapKeys) (length (wrapKeysOf f))
 
@@ -30,7 +31,8 @@ manySaKeys limits f = any (λ (b : GroupKeyBag). ltb (limits .saKeys) (length (b
 unfoldable pub manyDeletedSpis : Limits → Frame → Bool
 manyDeletedSpis limits f = ltb (limits .deletedSpis) (length (deletedSpis f))
 
--- "over 16 SAs after the frame, those already due when it arrives not counted": those that stand at the tick and those announced
+-- "over 16 SAs after the frame, those already due when it arrives not counted"; T-01: 64. They are those that stand at the tick and those
+-- announced
 unfoldable pub manySas : Limits → State → ℕ → Frame → Bool
 manySas limits s now f = ltb (limits .sas) (length (standing now s) + length (announced f))
 

@@ -1,6 +1,7 @@
 // Number 8 of document 01 for the entries of a registration: whether the cells of a search show an entry that opened to a wrong size, or
 // two that give one key two values.
 use keys::kinds::WrappingKey;
+use keys::limits::WRAP_KEYS;
 use reach::open::Cell;
 use reach::open::Entry;
 use reach::open::Status;
@@ -8,6 +9,7 @@ ghost use mathlib.Core.Path.{_≡_};
 ghost use mathlib.Core.Bool.{true, false};
 ghost use mathlib.Core.List.{List};
 ghost use Prim.Native.Nat.{ℕ, _≤_};
+ghost use Rattle.keys.specs.Limits.{limits};
 ghost use Rattle.attributes.specs.Tree.{WrapKey};
 ghost use Rattle.chains.specs.Chain.{Root};
 ghost use Rattle.chains.specs.Refusals.{EntriesEight};
@@ -82,8 +84,14 @@ fn clash(e: Entry, c: Cell, f: Entry, d: Cell) -> bool
 }
 
 // Whether an entry and one of the first n have the same Key ID and reached values that differ.
-fn clashes(e: Entry, c: Cell, entries: [Entry; 32], cells: [Cell; 32], n: usize) -> bool
-    requires { ⌜ n ≤ 32 ⌝ }
+fn clashes(
+    e: Entry,
+    c: Cell,
+    entries: [Entry; WRAP_KEYS],
+    cells: [Cell; WRAP_KEYS],
+    n: usize,
+) -> bool
+    requires { ⌜ n ≤ limits .wrapKeys ⌝ }
     ensures { λ r. ⌜ Tells r (ClashAmong e c entries cells n) ⌝ }
 {
     let mut i: usize = 0;
@@ -99,8 +107,8 @@ fn clashes(e: Entry, c: Cell, entries: [Entry; 32], cells: [Cell; 32], n: usize)
 }
 
 // Whether any two of the first n entries have the same Key ID and reached values that differ. Internal.
-pub fn any_clash(entries: [Entry; 32], cells: [Cell; 32], n: usize) -> bool
-    requires { ⌜ n ≤ 32 ⌝ }
+pub fn any_clash(entries: [Entry; WRAP_KEYS], cells: [Cell; WRAP_KEYS], n: usize) -> bool
+    requires { ⌜ n ≤ limits .wrapKeys ⌝ }
     ensures { λ r. ⌜ Tells r (AnyClash entries cells n) ⌝ }
 {
     let mut i: usize = 0;
@@ -116,8 +124,8 @@ pub fn any_clash(entries: [Entry; 32], cells: [Cell; 32], n: usize) -> bool
 }
 
 // Whether one of the first n opened to a wrong size. Internal.
-pub fn any_wrong(cells: [Cell; 32], n: usize) -> bool
-    requires { ⌜ n ≤ 32 ⌝ }
+pub fn any_wrong(cells: [Cell; WRAP_KEYS], n: usize) -> bool
+    requires { ⌜ n ≤ limits .wrapKeys ⌝ }
     ensures { λ r. ⌜ Tells r (AnyWrong cells n) ⌝ }
 {
     let mut i: usize = 0;
@@ -132,8 +140,8 @@ pub fn any_wrong(cells: [Cell; 32], n: usize) -> bool
 }
 
 // Whether number 8 holds of the entries that these places and the cells of their search stand for. Internal.
-pub fn entries_eight(entries: [Entry; 32], cells: [Cell; 32], n: usize) -> bool
-    requires { ⌜ n ≤ 32 ⌝ }
+pub fn entries_eight(entries: [Entry; WRAP_KEYS], cells: [Cell; WRAP_KEYS], n: usize) -> bool
+    requires { ⌜ n ≤ limits .wrapKeys ⌝ }
     ensures { λ r. ⌜ ((frame : List ℕ) (roots : List Root) (l : List WrapKey) (size : ℕ) → Lists frame entries n l →
         Searched roots l size cells → Nonzero l → Tells r (EntriesEight roots l size)) ⌝ }
 {

@@ -6,24 +6,25 @@ use mathlib.Core.Bool.{Bool, true, false, not}
 use native.Mathlib.Omega.{arith}
 use borrow.Author.Tests.{eq-eqb, ne-eqb}
 use lib.Dec.{leb, eqb}
-use lib.ListN.{length, drop, length-drop}
+use lib.ListN.{length, drop, getD, length-drop}
 use lib.Seq.{drop-drop}
 use Rattle.octets.specs.Walk.{be16, part, either, Reading, whole, broken}
 use Rattle.octets.proofs.Walks.{both-true, part-length, many-none}
 use Rattle.octets.proofs.Inverse.{inverse-opened}
 use Rattle.octets.proofs.Grammar.{first-rest}
 use Rattle.attributes.specs.Attribute.{Attribute, isShort, kindOf, sizeOf, valueOf, attributeOf, leadOf, spanOf, fits}
-use Rattle.attributes.specs.Answers.{valueAt}
+use Rattle.attributes.specs.Answers.{valueAt, valueStart}
 use Rattle.attributes.specs.Place.{meaningOf, wrappedSize, formed}
 use Rattle.attributes.specs.Tree.{codeOf, means, valuesOf}
 use Rattle.attributes.specs.Layout.{formedIn, fitsIn, attribute, attributes}
 use Rattle.attributes.specs.Grammar.{IsAttribute}
 use Rattle.contents.specs.inner.Values.{isWhole, itemsOf, attributesIn, valuesIn, placesOf, placesIn, valueSize}
+use Rattle.contents.specs.inner.Values.{MetAt, firstValue, firstStart}
 use Rattle.contents.specs.declared.Stretch.{Stretch}
 use Rattle.attributes.specs.declared.tables.Place.{Place}
 use Rattle.attributes.specs.declared.tables.Meaning.{Meaning}
 use Rattle.attributes.specs.declared.tables.Meaning.the-variants as meaning
-use Rattle.attributes.proofs.AttributeLaws.{takes, IsRead, read-inside}
+use Rattle.attributes.proofs.AttributeLaws.{takes, IsRead, read-inside, value-there, starts-there}
 use Rattle.attributes.proofs.GrammarLaws.{sound, complete, are-read, read-are}
 
 -- a whole reading, with its items
@@ -97,6 +98,12 @@ module _ (m : Meaning) (p : Place) (s : List ℕ) (at : ℕ) (e : isWhole (attri
       ap (λ (x : Reading (List Attribute)). valuesOf m p (itemsOf x)) (many-none (attribute p) (takes p) 0 (drop at s) (rw length-drop
       (omega arith)))
 
+  pub none-placed : length s ≤ at → placesIn m p s at ≡ []
+  unfolding placesOf
+  none-placed h =
+      ap (λ (x : Reading (List Attribute)). placesOf m p at (itemsOf x)) (many-none (attribute p) (takes p) 0 (drop at s) (rw length-drop
+      (omega arith)))
+
   module _ (h : at < length s) where
     head : Head p (drop at s)
     head = head-of p (drop at s) e (rw length-drop (omega arith))
@@ -152,12 +159,12 @@ module _ (m : Meaning) (p : Place) (s : List ℕ) (at : ℕ) (e : isWhole (attri
           let d : n - a ≡ at + n - (at + a) = omega arith in
           rw (f .start, f .size) (part-length (drop at s) a n (i .0) (i .1) ∙ d)
 
-      -- the value that `attribute_value` hands on ends where its attribute does
-      pub value-fits : length (valueAt (drop at s)) ≡ at + n - (at + a)
-      value-fits = ap (λ (t : Bool). length (either t (valueOf (drop at s)) [])) (f .all) ∙ value-length
+      -- the value that `attribute_value` hands on stands there
+      pub value-start : at + a ≡ valueStart s at
+      value-start = starts-there s at short kind a n f
 
-      pub value-start : at + n - length (valueAt (drop at s)) ≡ at + a
-      value-start = omega (arith, value-fits, next-inside .2)
+      pub value-octets : valueAt (drop at s) ≡ part s (at + a) (at + n)
+      value-octets = sym (value-there s at short kind a n f)
 
       -- where it stands
       span-is : at + spanOf (attributeOf (drop at s)) ≡ at + n
@@ -190,6 +197,32 @@ module _ (m : Meaning) (p : Place) (s : List ℕ) (at : ℕ) (e : isWhole (attri
           sym (ap (meaningOf p) (f .type) ∙ same-code (meaningOf p kind) m (sym cq ∙ eq ∙ wq)) in
           sized m (isShort (drop at s)) (at + n - (at + a))
           ((λ j. formed (k j) (isShort (drop at s)) (sym value-length j)) ∙ head .formed) short-value
+
+-- what the attribute met says of the value that `attribute_value` hands on
+module _ (m : Meaning) (p : Place) (s : List ℕ) (from b e : ℕ) (f : MetAt m p s from b e) where
+  -- it ends where its attribute does
+  pub met-start : e - length (valueAt (drop b s)) ≡ valueStart s b
+  met-start =
+      let n = ap length (f .octets) ∙ part-length s (valueStart s b) e (f .value .order) (f .value .inside) in
+      omega (arith, n, f .value .order)
+
+  pub met-fits : length (valueAt (drop b s)) ≤ e
+  met-fits =
+      let n = ap length (f .octets) ∙ part-length s (valueStart s b) e (f .value .order) (f .value .inside) in
+      omega (arith, n)
+
+  -- it is the first, and stands where the first does
+  pub met-first : valueAt (drop b s) ≡ firstValue m p s from
+  met-first = f .octets ∙ sym (ap (λ (l : List (List ℕ)). getD l 0 []) (f .value .first))
+
+  pub met-place : valueStart s b ≡ firstStart m p s from
+  met-place = sym (ap (λ (l : List Stretch). getD l 0 (record { start = 0; end = 0 }) .start) (f .value .place))
+
+pub none-first : (m : Meaning) (p : Place) (s : List ℕ) (from : ℕ) → valuesIn m p (drop from s) ≡ [] → [] ≡ firstValue m p s from
+none-first m p s from e = sym (ap (λ (l : List (List ℕ)). getD l 0 []) e)
+
+pub none-start : (m : Meaning) (p : Place) (s : List ℕ) (from : ℕ) → placesIn m p s from ≡ [] → 0 ≡ firstStart m p s from
+none-start m p s from e = sym (ap (λ (l : List Stretch). getD l 0 (record { start = 0; end = 0 }) .start) e)
 
 -- the same list at any offset
 pub any-offset : (p : Place) (b c : ℕ) (s : List ℕ) (l : List Attribute) (rest : List ℕ) → attributes p b s ≡ whole l rest

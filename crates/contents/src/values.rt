@@ -4,21 +4,21 @@ ghost use mathlib.Core.Bool.{true};
 ghost use Prim.Native.Nat.{_+_, _≤_, _<_};
 ghost use lib.ListN.{length, drop};
 ghost use Rattle.attributes.specs.Layout.{attributes};
-ghost use Rattle.contents.specs.inner.Values.{isWhole, valuesIn, Finds};
+ghost use Rattle.contents.specs.inner.Values.{isWhole, valuesIn, Finds, Meets, firstValue, firstStart};
 use attributes::Read;
 use attributes::tables::Meaning;
 use attributes::tables::Place;
 
-// Where a value stands.
+// Where a value or an attribute stands, from and up to.
 pub enum Found {
     At(usize, usize),
     Nothing,
 }
 
-// The value of the first attribute from a place on that has a meaning. Internal.
-pub fn next_of(m: Meaning, place: Place, s: &[u8], from: usize) -> Found
+// The first attribute from a place on that has a meaning: where it stands, for `attributes::attribute_value`, and where it ends. Internal.
+pub fn next_attribute(m: Meaning, place: Place, s: &[u8], from: usize) -> Found
     requires { ⌜ (from ≤ length (now s)) × (isWhole (attributes place 0 (drop from (now s))) ≡ true) ⌝ }
-    ensures { λ r. ⌜ Finds m place (now (s .entry)) from r ⌝ }
+    ensures { λ r. ⌜ Meets m place (now (s .entry)) from r ⌝ }
 {
     let wanted = attributes::tables::code(m);
     let mut at = from;
@@ -32,8 +32,7 @@ pub fn next_of(m: Meaning, place: Place, s: &[u8], from: usize) -> Found
             } => {
                 let next = at + end;
                 if attributes::tables::code(attributes::tables::meaning_in(place, kind)) == wanted {
-                    let value = attributes::attribute_value(s, at);
-                    return Found::At(next - value.len(), next);
+                    return Found::At(at, next);
                 }
                 at = next;
             }
@@ -45,6 +44,33 @@ pub fn next_of(m: Meaning, place: Place, s: &[u8], from: usize) -> Found
     Found::Nothing
 }
 
+// Where the value of that attribute stands. Internal.
+pub fn next_of(m: Meaning, place: Place, s: &[u8], from: usize) -> Found
+    requires { ⌜ (from ≤ length (now s)) × (isWhole (attributes place 0 (drop from (now s))) ≡ true) ⌝ }
+    ensures { λ r. ⌜ Finds m place (now (s .entry)) from r ⌝ }
+{
+    match next_attribute(m, place, s, from) {
+        Found::At(at, end) => {
+            let value = attributes::attribute_value(s, at);
+            let start = end - value.len();
+            Found::At(start, end)
+        }
+        Found::Nothing => Found::Nothing,
+    }
+}
+
+// The value of that attribute, where it stands; none where no attribute from the place on has the meaning. Internal.
+pub fn value_of(m: Meaning, place: Place, s: &[u8], from: usize) -> &[u8]
+    requires { ⌜ (from ≤ length (now s)) × (isWhole (attributes place 0 (drop from (now s))) ≡ true) ⌝ }
+    ensures { λ r. ⌜ now r ≡ firstValue m place (now (s .entry)) from ⌝ }
+    ensures { λ r. ⌜ r .ptr ≡ (s .entry .ptr .0, firstStart m place (now (s .entry)) from + s .entry .ptr .1) ⌝ }
+{
+    match next_attribute(m, place, s, from) {
+        Found::At(at, _) => attributes::attribute_value(s, at),
+        Found::Nothing => &s[0..0],
+    }
+}
+
 // How many attributes have a meaning. Internal.
 pub fn count_of(m: Meaning, place: Place, s: &[u8]) -> usize
     requires { ⌜ isWhole (attributes place 0 (now s)) ≡ true ⌝ }
@@ -53,7 +79,7 @@ pub fn count_of(m: Meaning, place: Place, s: &[u8]) -> usize
     let mut n = 0;
     let mut at = 0;
     loop {
-        match next_of(m, place, s, at) {
+        match next_attribute(m, place, s, at) {
             Found::At(_, e) => {
                 n = n + 1;
                 at = e;

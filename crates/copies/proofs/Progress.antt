@@ -1,20 +1,11 @@
 -- Where a walk over tries stands: what is told of those that were made, and which are left.
-use Prim.Native.Nat.{ℕ, _+_, _-_}
-use native.Mathlib.Omega.{arith}
+use Prim.Native.Nat.{ℕ}
 use mathlib.Core.Path.{_≡_, refl, ap, sym, _∙_, subst}
-use mathlib.Core.List.{List, [], _∷_, _++_, map, append-nil, append-assoc, List·Memᴰ·not-nil}
-use lib.ListN.{drop}
-use lib.Seq.{drop-drop}
-use Rattle.octets.specs.Walk.{part}
-use Rattle.octets.proofs.Numerals.{drop-take}
-use Rattle.attributes.specs.Tree.{saKeyOf}
-use Rattle.attributes.specs.declared.tables.Place.{Place}
+use mathlib.Core.List.{List, [], _++_, append-nil, append-assoc, List·Memᴰ·not-nil}
 use Rattle.chains.proofs.Members.{in-member}
 use Rattle.copies.specs.declared.answer.Found.the-variants.{Nothing}
 use Rattle.copies.specs.declared.answer.Opened.{Opened}
-use Rattle.copies.specs.inner.Answer.{copiesIn}
 use Rattle.copies.specs.inner.Tries.{Try, Tells}
-use Rattle.copies.specs.inner.Named.{tryOf, triesOf, NamedAt}
 use Rattle.copies.proofs.Joining.{tell}
 
 -- of all tries some were made, of which r tells, and the rest is left
@@ -49,16 +40,3 @@ module _ (need : ℕ) (all : List Try) where
   ends rest r e p =
       subst (λ (l : List Try). Tells l need r) (sym (append-nil (p .made)) ∙ ap (λ (l : List Try). p .made ++ l) (sym e) ∙ p .joins)
       (p .tells)
-
--- ---- the next copy that names a key
-module _ (k : ℕ) (v : List ℕ) (p : Place) (s : List ℕ) (from a e : ℕ) (f : NamedAt k p s from a e) where
-  wrapped-is : saKeyOf (part s a e) .wrapped ≡ part s (a + 8) e
-  wrapped-is =
-      let d : e - a - 8 ≡ e - (a + 8) = omega arith in
-      drop-take 8 (e - a) (drop a s) ∙ rw (d, drop-drop 8 a s)
-
-  pub next-left : triesOf k v (copiesIn p (drop from s)) ≡ (record { key = v; wrapped = part s (a + 8) e } ∷ []) ++ triesOf k v
-      (copiesIn p (drop e s))
-  next-left =
-      ap (map (tryOf v)) (f .first)
-      ∙ ap (λ (w : List ℕ). record { key = v; wrapped = w } ∷ triesOf k v (copiesIn p (drop e s))) wrapped-is

@@ -1,154 +1,205 @@
--- The tries of the walks are those of the definitions: a copy under the key that its KWK ID names.
+-- The tries of the walk are those of the definitions: a copy under the key that its KWK ID names.
 use native.Mathlib.Omega.{arith}
-use Prim.Native.Nat.{ℕ, zero, suc, _+_, _≤_, _<_}
+use Prim.Native.Nat.{ℕ, zero, suc, _≤_, _<_}
 use mathlib.Core.Path.{_≡_, refl, ap, sym, _∙_, subst}
-use mathlib.Core.Bool.{Bool, true, not, _&&_}
+use mathlib.Core.Bool.{Bool, true, not, _&&_, false≢true}
 use mathlib.Core.Logic.{⊎-elim}
-use mathlib.Core.List.{List, [], _∷_, _++_, List·Memᴰ, List·Memᴰ·head, List·Memᴰ·tail, List·Memᴰ·not-nil}
-use mathlib.Core.List.{Memᴰ·append-left, Memᴰ·append-right, List·Memᴰ·append-cases, Memᴰ·map, Memᴰ·of-map}
-use borrow.Author.Tests.{eq-eqb, eqb-true, leb-true}
+use mathlib.Core.List.{List, [], _∷_, List·Memᴰ, List·Memᴰ·head, List·Memᴰ·tail, List·Memᴰ·not-nil, List·Memᴰ·cases-cons}
+use mathlib.Core.List.{Memᴰ·append-left, Memᴰ·append-right, List·Memᴰ·append-cases, List·Memᴰ·eq-of-singleton}
+use borrow.Author.Tests.{eq-eqb, ne-eqb, eqb-true, leb-true, ltb-true}
 use lib.Dec.{leb, eqb}
-use lib.ListN.{length, take, drop, getD}
+use lib.ListN.{length, take, getD}
 use lib.Seq.{length-take-le, getD-take}
 use Rattle.keywrap.specs.Opens.{Opens}
 use Rattle.attributes.specs.Tree.{SaKey, WrapKey}
-use Rattle.chains.specs.Chain.{Root, Ends, CopyOpens}
+use Rattle.chains.specs.Chain.{Root, CopyOpens}
 use Rattle.chains.specs.Refusals.{Announced, CopiesEight, wrong-size, two-values}
 use Rattle.chains.proofs.Members.{in-member, member-in}
 use Rattle.keys.specs.Limits.{limits}
 use Rattle.keys.specs.Lists.{all, rising}
 use Rattle.keys.specs.Algorithms.{sizeOf}
+use Rattle.keys.specs.Kinds.{valueOf}
 use Rattle.keys.specs.declared.kinds.WrappingKey.{WrappingKey}
-use Rattle.keys.proofs.Cases.{and-parts}
-use Rattle.keys.proofs.Members.{kept-member, member-kept}
-use Rattle.keys.proofs.Parts.{part-cons, part-end}
-use Rattle.state.specs.Held.{keysOf, keyFormed, idBefore, heldFormed}
+use Rattle.keys.specs.declared.kinds.MadeWrapping.{MadeWrapping}
+use Rattle.keys.proofs.Cases.{bool-cases, and-parts}
+use Rattle.keys.proofs.Rising.{first-before, rising-rest}
+use Rattle.state.specs.Held.{keysOf, keyFormed, idBefore, heldFormed, keyWith, heldKey}
 use Rattle.state.specs.declared.held.HeldKey.{HeldKey}
 use Rattle.state.specs.declared.held.Held.{Held}
+use Rattle.state.proofs.Kept.{id-trans, id-irrefl}
+use Rattle.state.proofs.Laws.{key-in}
 use Rattle.copies.specs.declared.answer.Found.{Found}
 use Rattle.copies.specs.declared.answer.Found.the-variants.{Nothing, Key, Eight}
 use Rattle.copies.specs.declared.answer.Opened.{Opened}
-use Rattle.keys.specs.Kinds.{valueOf}
 use Rattle.copies.specs.inner.Known.{Known, key-zero, named as known-named, Agrees}
 use Rattle.copies.specs.inner.Answer.{AnswersBy, Answers}
 use Rattle.copies.specs.inner.Tries.{Try, SomeOpens, TriesEight, TellsBy, Tells}
 use Rattle.copies.specs.inner.Tries as tries
-use Rattle.copies.specs.inner.Named.{names, named, tryOf, triesOf}
-
--- the copies that name one of some keys, each opened under its value
-unfoldable pub triesUnder : List HeldKey → List SaKey → List Try
-triesUnder [] l = []
-triesUnder (k ∷ keys) l = triesOf (k .id) (valueOf (k .key)) l ++ triesUnder keys l
+use Rattle.copies.specs.inner.Named.{tryOf, underHeld, tryFor, triesOf}
 
 -- ---- a held list that is as it must be
+pub key-size : (k : HeldKey) → keyFormed k ≡ true → sizeOf 13 (k .key .count) ≡ true
+unfolding keyFormed
+key-size k e = and-parts (not (eqb (k .id) 0)) (sizeOf 13 (k .key .count)) e .1
+
+all-member : (k : HeldKey) (l : List HeldKey) → all keyFormed l ≡ true → List·Memᴰ k l → keyFormed k ≡ true
+unfolding all
+all-member k [] q m = absurd (List·Memᴰ·not-nil m)
+all-member k (a ∷ l) q m =
+    let p = and-parts (keyFormed a) (all keyFormed l) q in
+    ⊎-elim (λ z. ap keyFormed z ∙ p .0) (λ z. all-member k l (p .1) z) (List·Memᴰ·cases-cons m)
+
 all-at : {A : Type 0} (p : A → Bool) (l : List A) (i : ℕ) (d : A) → all p l ≡ true → i < length l → p (getD l i d) ≡ true
 unfolding all
 all-at p [] i d e h = absurd (omega arith)
 all-at p (a ∷ l) zero d e h = and-parts (p a) (all p l) e .0
 all-at p (a ∷ l) (suc i) d e h = all-at p l i d (and-parts (p a) (all p l) e .1) (omega arith)
 
-module _ (h : Held) (e : heldFormed limits h ≡ true) (n : length (h .keys) ≡ limits .heldKeys) where
-  pub held-count : h .count ≤ length (h .keys)
+module _ (h : Held) (e : heldFormed limits h ≡ true) where
+  abbrev rest : Bool
+  rest = all keyFormed (keysOf h) && rising idBefore (keysOf h)
+
+  pub held-within : h .count ≤ limits .heldKeys
   unfolding heldFormed
-  held-count =
-      let p = and-parts (leb (h .count) (limits .heldKeys)) (all keyFormed (keysOf h) && rising idBefore (keysOf h)) e .0 in
-      let q = leb-true (h .count) (limits .heldKeys) p in
-      omega arith
+  held-within = leb-true (h .count) (limits .heldKeys) (and-parts (leb (h .count) (limits .heldKeys)) rest e .0)
 
-  pub held-size : (i : ℕ) (d : HeldKey) → i < h .count → sizeOf 13 (getD (h .keys) i d .key .count) ≡ true
-  unfolding heldFormed keyFormed
-  held-size i d g =
-      let p = and-parts (leb (h .count) (limits .heldKeys)) (all keyFormed (keysOf h) && rising idBefore (keysOf h)) e .1 in
-      let q = and-parts (all keyFormed (keysOf h)) (rising idBefore (keysOf h)) p .0 in
-      let m = length-take-le (h .count) (h .keys) held-count in
-      let f : keyFormed (getD (h .keys) i d) ≡ true =
-      ap keyFormed (sym (getD-take (h .count) (h .keys) i d g)) ∙ all-at keyFormed (keysOf h) i d q (omega arith) in
-      and-parts (not (eqb (getD (h .keys) i d .id) 0)) (sizeOf 13 (getD (h .keys) i d .key .count)) f .1
+  pub held-formed : all keyFormed (keysOf h) ≡ true
+  unfolding heldFormed
+  held-formed = and-parts (all keyFormed (keysOf h)) (rising idBefore (keysOf h)) (and-parts (leb (h .count) (limits .heldKeys)) rest e .1) .0
 
-  -- ---- the tries of the keys from a place on
-  module _ (copies : List SaKey) (i : ℕ) where
-    pub tries-next : (d : HeldKey) → i < h .count → triesUnder (drop i (keysOf h)) copies ≡
-        triesOf (getD (h .keys) i d .id) (valueOf (getD (h .keys) i d .key)) copies ++ triesUnder (drop (i + 1) (keysOf h)) copies
-    unfolding triesUnder
-    tries-next d g = ap (λ (l : List HeldKey). triesUnder l copies) (part-cons (h .keys) (h .count) held-count i d g)
+  pub held-rises : rising idBefore (keysOf h) ≡ true
+  unfolding heldFormed
+  held-rises = and-parts (all keyFormed (keysOf h)) (rising idBefore (keysOf h)) (and-parts (leb (h .count) (limits .heldKeys)) rest e .1) .1
 
-    pub tries-end : h .count ≤ i → triesUnder (drop i (keysOf h)) copies ≡ []
-    unfolding triesUnder
-    tries-end g = ap (λ (l : List HeldKey). triesUnder l copies) (part-end (h .keys) (h .count) held-count i g)
+  pub held-size : length (h .keys) ≡ limits .heldKeys → (i : ℕ) (d : HeldKey) → i < h .count →
+      sizeOf 13 (getD (h .keys) i d .key .count) ≡ true
+  held-size n i d g =
+      let w = held-within in
+      let m = length-take-le (h .count) (h .keys) (omega arith) in
+      key-size (getD (h .keys) i d)
+      (ap keyFormed (sym (getD-take (h .count) (h .keys) i d g)) ∙ all-at keyFormed (keysOf h) i d held-formed (omega arith))
 
--- ---- which copy and key a try is of
-module _ (copies : List SaKey) where
-  pub record TryOf (k : ℕ) (v : List ℕ) (t : Try) : Type 0 where
-    pub copy : SaKey
-    pub stands : List·Memᴰ copy copies
-    pub names : copy .kwkId ≡ k
-    pub is : tryOf v copy ≡ t
+  pub named-in : (id : ℕ) → heldKey limits id h ≡ keyWith id (keysOf h)
+  named-in id = key-in limits h id held-within
 
-  try-of : (k : ℕ) (v : List ℕ) (t : Try) → List·Memᴰ t (triesOf k v copies) → TryOf k v t
-  try-of k v t m =
-      let c = Memᴰ·of-map (tryOf v) (named k copies) m in
-      let s = kept-member (names k) (c .0) copies (c .1) in
-      record { copy = c .0; stands = s .0; names = eqb-true (c .0 .kwkId) k (s .1); is = c .2 }
+  -- no held key is key 0
+  pub not-zero : (k : HeldKey) → List·Memᴰ k (keysOf h) → k .id ≡ 0 → ⊥
+  unfolding keyFormed
+  not-zero k m z =
+      let f = and-parts (not (eqb (k .id) 0)) (sizeOf 13 (k .key .count)) (all-member k (keysOf h) held-formed m) .0 in
+      false≢true (sym (ap not (eq-eqb (k .id) 0 z)) ∙ f)
 
-  of-try : (k : ℕ) (v : List ℕ) (c : SaKey) → List·Memᴰ c copies → c .kwkId ≡ k → List·Memᴰ (tryOf v c) (triesOf k v copies)
-  of-try k v c m e = Memᴰ·map (tryOf v) (member-kept (names k) c copies m (eq-eqb (c .kwkId) k e))
+-- ---- the key that is found by its Key ID
+-- one of the list
+pub record Among (id : ℕ) (l : List HeldKey) : Type 0 where
+  pub one : HeldKey
+  pub member : List·Memᴰ one l
+  pub id-is : one .id ≡ id
+  pub is : keyWith id l .key ≡ one .key
 
-  abbrev Under : List HeldKey → Try → Type 0
-  Under keys t = (k : HeldKey) × List·Memᴰ k keys × List·Memᴰ t (triesOf (k .id) (valueOf (k .key)) copies)
+found-among : (id : ℕ) (l : List HeldKey) → keyWith id l .fits ≡ true → Among id l
+unfolding keyWith
+found-among id [] e = absurd (false≢true e)
+found-among id (k ∷ l) e =
+    bool-cases (eqb (k .id) id)
+    (λ g. record { one = k; member = List·Memᴰ·head refl; id-is = eqb-true (k .id) id g; is = rw g })
+    (λ g.
+    let r = found-among id l (rw g at e) in
+    record { one = r .one; member = List·Memᴰ·tail (r .member); id-is = r .id-is; is = rw g (r .is) })
 
-  under : (keys : List HeldKey) (t : Try) → List·Memᴰ t (triesUnder keys copies) → Under keys t
-  unfolding triesUnder
-  under [] t m = absurd (List·Memᴰ·not-nil m)
-  under (k ∷ keys) t m =
-      ⊎-elim (λ d. (k, List·Memᴰ·head refl, d)) (λ d. let r = under keys t d in (r .0, List·Memᴰ·tail (r .1), r .2))
-      (List·Memᴰ·append-cases (triesOf (k .id) (valueOf (k .key)) copies) m)
+-- each of them
+each-found : (k : HeldKey) (l : List HeldKey) → rising idBefore l ≡ true → List·Memᴰ k l → keyWith (k .id) l ≡ record {
+  fits = true;
+  key = k .key;
+}
+unfolding keyWith
+each-found k [] r m = absurd (List·Memᴰ·not-nil m)
+each-found k (a ∷ l) r m =
+    ⊎-elim
+    (λ e.
+    let q : a .id ≡ k .id = ap (λ (x : HeldKey). x .id) (sym e) in
+    rw (eq-eqb (a .id) (k .id) q) (ap (λ (x : HeldKey). record { fits = true; key = x .key }) (sym e)))
+    (λ d.
+    let h = ltb-true (a .id) (k .id) (first-before idBefore id-trans id-irrefl a k l r d) in
+    rw (ne-eqb (a .id) (k .id) (λ e. omega arith)) (each-found k l (rising-rest idBefore id-trans id-irrefl a l r) d))
+    (List·Memᴰ·cases-cons m)
 
-  of-under : (keys : List HeldKey) (k : HeldKey) (t : Try) → List·Memᴰ k keys → List·Memᴰ t (triesOf (k .id) (valueOf (k .key)) copies) →
-      List·Memᴰ t (triesUnder keys copies)
-  unfolding triesUnder
-  of-under _ k t (List·Memᴰ·head {x} {xs} e) m =
-      Memᴰ·append-left (triesUnder xs copies) (subst (λ (a : HeldKey). List·Memᴰ t (triesOf (a .id) (valueOf (a .key)) copies)) e m)
-  of-under _ k t (List·Memᴰ·tail {x} {xs} d) m = Memᴰ·append-right (triesOf (x .id) (valueOf (x .key)) copies) (of-under xs k t d m)
+-- ---- the tries of some copies are those of each
+module _ (v : List ℕ) (held : Held) where
+  pub tries-of : (copies : List SaKey) (t : Try) → List·Memᴰ t (triesOf v held copies) →
+      (c : SaKey) × List·Memᴰ c copies × List·Memᴰ t (tryFor v held c)
+  unfolding triesOf
+  tries-of [] t m = absurd (List·Memᴰ·not-nil m)
+  tries-of (c ∷ l) t m =
+      ⊎-elim (λ d. (c, List·Memᴰ·head refl, d)) (λ d. let r = tries-of l t d in (r .0, List·Memᴰ·tail (r .1), r .2))
+      (List·Memᴰ·append-cases (tryFor v held c) m)
 
-  module _ (zero : WrappingKey) (held : Held) where
-    -- the tries under key 0 and under each held key
+  pub of-tries : (copies : List SaKey) (c : SaKey) (t : Try) → List·Memᴰ c copies → List·Memᴰ t (tryFor v held c) →
+      List·Memᴰ t (triesOf v held copies)
+  unfolding triesOf
+  of-tries _ c t (List·Memᴰ·head {x} {xs} e) m =
+      Memᴰ·append-left (triesOf v held xs) (subst (λ (a : SaKey). List·Memᴰ t (tryFor v held a)) e m)
+  of-tries _ c t (List·Memᴰ·tail {x} {xs} d) m = Memᴰ·append-right (tryFor v held x) (of-tries xs c t d m)
+
+-- ---- the try of a copy is that under the key that it names
+module _ (zero : WrappingKey) (held : Held) (e : heldFormed limits held ≡ true) where
+  abbrev v : List ℕ
+  v = valueOf zero
+
+  known-try : (j : ℕ) (w : List ℕ) (c : SaKey) → Known zero held j w → c .kwkId ≡ j → List·Memᴰ (tryOf w c) (tryFor v held c)
+  known-try _ _ c key-zero q = rw (eq-eqb (c .kwkId) 0 q) (List·Memᴰ·head refl)
+  known-try _ _ c (known-named k i) q =
+      let m = in-member k (keysOf held) i in
+      let f : heldKey limits (c .kwkId) held ≡ record { fits = true; key = k .key } =
+      ap (λ (j : ℕ). heldKey limits j held) q ∙ named-in held e (k .id) ∙ each-found k (keysOf held) (held-rises held e) m in
+      rw (ne-eqb (c .kwkId) 0 (λ z. not-zero held e k m (sym q ∙ z)), f) (List·Memᴰ·head refl)
+
+  try-known : (c : SaKey) (t : Try) → List·Memᴰ t (tryFor v held c) → (w : List ℕ) × Known zero held (c .kwkId) w × (tryOf w c ≡ t)
+  try-known c t m =
+      bool-cases (eqb (c .kwkId) 0)
+      (λ g.
+      let q = List·Memᴰ·eq-of-singleton (rw g at m) in
+      (v, subst (λ (j : ℕ). Known zero held j v) (sym (eqb-true (c .kwkId) 0 g)) key-zero, sym q))
+      (λ g.
+      let u : List·Memᴰ t (underHeld (heldKey limits (c .kwkId) held) c) = rw g at m in
+      bool-cases (heldKey limits (c .kwkId) held .fits)
+      (λ f.
+      let q = List·Memᴰ·eq-of-singleton (rw f at u) in
+      let is = named-in held e (c .kwkId) in
+      let a = found-among (c .kwkId) (keysOf held) (ap (λ (x : MadeWrapping). x .fits) (sym is) ∙ f) in
+      let k : heldKey limits (c .kwkId) held .key ≡ a .one .key = ap (λ (x : MadeWrapping). x .key) is ∙ a .is in (
+        valueOf (a .one .key),
+        subst (λ (j : ℕ). Known zero held j (valueOf (a .one .key))) (a .id-is)
+            (known-named (a .one) (member-in (a .one) (keysOf held) (a .member))),
+        ap (λ (x : WrappingKey). tryOf (valueOf x) c) (sym k) ∙ sym q,
+      ))
+      (λ f. absurd (List·Memᴰ·not-nil (rw f at u))))
+
+  module _ (copies : List SaKey) where
     abbrev pub allTries : List Try
-    allTries = triesOf 0 (valueOf zero) copies ++ triesUnder (keysOf held) copies
-
-    known-try : (j : ℕ) (w : List ℕ) (c : SaKey) → Known zero held j w → List·Memᴰ c copies → c .kwkId ≡ j → List·Memᴰ (tryOf w c) allTries
-    known-try _ _ c key-zero m e = Memᴰ·append-left (triesUnder (keysOf held) copies) (of-try 0 (valueOf zero) c m e)
-    known-try _ _ c (known-named k i) m e =
-        Memᴰ·append-right (triesOf 0 (valueOf zero) copies)
-        (of-under (keysOf held) k (tryOf (valueOf (k .key)) c) (in-member k (keysOf held) i) (of-try (k .id) (valueOf (k .key)) c m e))
-
-    try-known : (t : Try) → List·Memᴰ t allTries → (j : ℕ) × (w : List ℕ) × Known zero held j w × TryOf j w t
-    try-known t m =
-        ⊎-elim (λ d. (0, valueOf zero, key-zero, try-of 0 (valueOf zero) t d))
-        (λ d.
-        let u = under (keysOf held) t d in
-        let k = u .0 in
-        (k .id, valueOf (k .key), known-named k (member-in k (keysOf held) (u .1)), try-of (k .id) (valueOf (k .key)) t (u .2)))
-        (List·Memᴰ·append-cases (triesOf 0 (valueOf zero) copies) m)
+    allTries = triesOf v held copies
 
     module _ (roots : List Root) (entries : List WrapKey) (size : ℕ) (g : Agrees roots entries size zero held) where
       to : (x : List ℕ) → SomeOpens allTries x → CopyOpens roots entries size copies x
       to x s =
-          let k = try-known (s .one) (in-member (s .one) allTries (s .stands)) in
-          let c = k .3 in
+          let d = tries-of v held copies (s .one) (in-member (s .one) allTries (s .stands)) in
+          let c = d .0 in
+          let k = try-known c (s .one) (d .2) in
           record {
-            copy = c .copy;
-            stands = member-in (c .copy) copies (c .stands);
-            value = k .1;
-            named = subst (λ (j : ℕ). Ends roots entries size j (k .1)) (sym (c .names)) (g .ends (k .0) (k .1) (k .2));
-            opens = subst (λ (t : Try). Opens (t .key) (t .wrapped) x) (sym (c .is)) (s .opens);
+            copy = c;
+            stands = member-in c copies (d .1);
+            value = k .0;
+            named = g .ends (c .kwkId) (k .0) (k .1);
+            opens = subst (λ (t : Try). Opens (t .key) (t .wrapped) x) (sym (k .2)) (s .opens);
           }
 
       from : (x : List ℕ) → CopyOpens roots entries size copies x → SomeOpens allTries x
       from x o =
           let c = o .copy in
           let k = g .known (c .kwkId) (o .value) (o .named) in
-          let m = known-try (c .kwkId) (o .value) c k (in-member c copies (o .stands)) refl in
-          record { one = tryOf (o .value) c; stands = member-in (tryOf (o .value) c) allTries m; opens = o .opens }
+          let m = known-try (c .kwkId) (o .value) c k refl in
+          let t = of-tries v held copies c (tryOf (o .value) c) (in-member c copies (o .stands)) m in
+          record { one = tryOf (o .value) c; stands = member-in (tryOf (o .value) c) allTries t; opens = o .opens }
 
       module _ (need : ℕ) where
         abbrev a : Announced

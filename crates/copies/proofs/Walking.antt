@@ -1,97 +1,36 @@
--- Going through the copies of an SA: where the next one that names a key stands, and what it makes of its octets.
+-- Going through the copies of an SA: the next one, its size and its try.
 use native.Mathlib.Omega.{arith}
-use Prim.Native.Nat.{ℕ, _+_, _-_, _≤_}
-use mathlib.Core.Path.{_≡_, ap, sym, _∙_, subst}
-use mathlib.Core.Bool.{Bool, true, not}
-use mathlib.Core.List.{List, _∷_, map}
-use borrow.Author.Tests.{eq-eqb, ne-eqb, eqb-true, leb-true}
+use Prim.Native.Nat.{ℕ, _-_, _≤_}
+use mathlib.Core.Path.{_≡_, ap, sym, _∙_}
+use mathlib.Core.List.{List, [], _++_, map}
+use borrow.Author.Tests.{leb-true}
 use lib.Dec.{leb}
-use lib.ListN.{length, drop, getD}
-use lib.Seq.{drop-drop}
-use Rattle.octets.specs.Numbers.{number}
-use Rattle.octets.specs.Walk.{be32, part, Row, no-more, then}
+use lib.ListN.{length, drop}
+use Rattle.octets.specs.Walk.{part}
 use Rattle.octets.proofs.Walks.{both-true, part-length}
-use Rattle.octets.proofs.Numerals.{number-take}
-use Rattle.attributes.specs.Attribute.{Attribute}
-use Rattle.attributes.specs.Place.{meaningOf, wrappedSize, formed}
-use Rattle.attributes.specs.Tree.{SaKey, saKeyOf, codeOf, means, valuesOf}
-use Rattle.attributes.specs.Layout.{attributes}
-use Rattle.attributes.specs.Grammar.{IsAttribute}
+use Rattle.attributes.specs.Tree.{saKeyOf}
 use Rattle.attributes.specs.declared.tables.Place.{Place}
-use Rattle.attributes.specs.declared.tables.Meaning.{Meaning}
 use Rattle.attributes.specs.declared.tables.Meaning.the-variants as meaning
-use Rattle.attributes.proofs.GrammarLaws.{read-are}
-use Rattle.contents.specs.inner.Values.{isWhole, attributesIn, valuesIn, FoundAt}
-use Rattle.contents.proofs.ValuesLaws.{whole-is}
-use Rattle.keys.specs.Lists.{keep}
-use Rattle.keys.proofs.Cases.{bool-cases}
+use Rattle.contents.specs.inner.Values.{valuesIn, FoundAt}
+use Rattle.state.specs.declared.held.Held.{Held}
 use Rattle.copies.specs.inner.Answer.{copiesIn}
-use Rattle.copies.specs.inner.Named.{named, NamedAt}
+use Rattle.copies.specs.inner.Named.{tryFor, triesOf}
 
--- ---- a SA_KEY has at least 24 octets, where the layout is whole
-size-by : (m : Meaning) (short : Bool) (n : ℕ) → codeOf m ≡ 4 → formed m short n ≡ true → 24 ≤ n
-size-by meaning.Skipped short n e f = absurd (omega arith)
-size-by meaning.KeyLength short n e f = absurd (omega arith)
-size-by meaning.InitialMessageId short n e f = absurd (omega arith)
-size-by meaning.DeactivationDelay short n e f = absurd (omega arith)
-size-by meaning.SaKey short n e f =
-    leb-true 24 n (both-true (leb 24 n) _ (both-true (not short) (wrappedSize n) f .1) .0)
-size-by meaning.WrapKey short n e f = absurd (omega arith)
+module _ (p : Place) (s : List ℕ) (at a e : ℕ) (f : FoundAt meaning.SaKey p s at a e) (x : List ℕ) (is : x ≡ part s a e) where
+  pub ids-inside : 8 ≤ length x
+  ids-inside =
+      let n = ap length is ∙ part-length s a e (f .order) (f .inside) in
+      let h = leb-true 24 (e - a) (both-true (leb 24 (e - a)) _ (f .size) .0) in
+      omega arith
 
-heads : (x y : List ℕ) (l m : List (List ℕ)) → x ∷ l ≡ y ∷ m → x ≡ y
-heads x y l m e = ap (λ (z : List (List ℕ)). getD z 0 x) e
+  pub next-tries : (v : List ℕ) (held : Held) → triesOf v held (copiesIn p (drop at s)) ≡
+      tryFor v held (saKeyOf x) ++ triesOf v held (copiesIn p (drop e s))
+  unfolding triesOf
+  next-tries v held =
+      ap (λ (l : List (List ℕ)). triesOf v held (map saKeyOf l)) (f .first)
+      ∙ ap (λ (y : List ℕ). tryFor v held (saKeyOf y) ++ triesOf v held (copiesIn p (drop e s))) (sym is)
 
-module _ (p : Place) where
-  abbrev sized-first : List Attribute → Type 0
-  sized-first l = (v : List ℕ) (rest : List (List ℕ)) → valuesOf meaning.SaKey p l ≡ v ∷ rest → 24 ≤ length v
-
-  first-size : (a : Attribute) (l : List Attribute) (o : List ℕ) → IsAttribute p o a → sized-first l → sized-first (a ∷ l)
-  unfolding valuesOf
-  first-size a l o i f v rest e =
-      bool-cases (means meaning.SaKey p a)
-      (λ g.
-      let q : a .value ∷ valuesOf meaning.SaKey p l ≡ v ∷ rest = rw g at e in
-      let h = heads (a .value) v (valuesOf meaning.SaKey p l) rest q in
-      subst (λ (x : List ℕ). 24 ≤ length x) h
-      (size-by (meaningOf p (a .kind)) (a .short) (length (a .value)) (eqb-true (codeOf (meaningOf p (a .kind))) 4 g) (i .formed)))
-      (λ g. f v rest (rw g at e))
-
-  row-size : (s : List ℕ) (l : List Attribute) → Row (IsAttribute p) s l → sized-first l
-  unfolding valuesOf
-  row-size _ _ no-more v rest e = let z : _≡_ {A = ℕ} 0 1 = cc in absurd (omega arith)
-  row-size _ _ (then o s {a} {l} i r) v rest e = first-size a l o i (λ x y q. row-size s l r x y q) v rest e
-
-  sa-key-size : (s : List ℕ) → isWhole (attributes p 0 s) ≡ true → sized-first (attributesIn p s)
-  sa-key-size s e = let w = whole-is (attributes p 0 s) e in row-size s (attributesIn p s) (read-are p 0 s (attributesIn p s) (w .0) (w .1))
-
--- ---- the next SA_KEY
-module _ (k : ℕ) (p : Place) (s : List ℕ) (from at a e : ℕ) (w : isWhole (attributes p 0 (drop at s)) ≡ true)
-    (f : FoundAt meaning.SaKey p s at a e) where
-  pub next-size : a + 24 ≤ e
-  next-size =
-      let h = sa-key-size p (drop at s) w (part s a e) (valuesIn meaning.SaKey p (drop e s)) (f .first) in
-      omega (arith, part-length s a e (f .order) (f .inside))
-
-  kwk-is : (r : ℕ) → r ≡ be32 s (a + 4) → r ≡ saKeyOf (part s a e) .kwkId
-  kwk-is r q =
-      q ∙ sym (number-take 4 4 (e - a) (drop a s) (omega (arith, next-size)) ∙ ap (λ (l : List ℕ). number 4 l) (drop-drop 4 a s))
-
-  listed : copiesIn p (drop at s) ≡ saKeyOf (part s a e) ∷ copiesIn p (drop e s)
-  listed = ap (map saKeyOf) (f .first)
-
-  pub passed : (r : ℕ) → r ≡ be32 s (a + 4) → (r ≡ k → ⊥) → named k (copiesIn p (drop at s)) ≡ named k (copiesIn p (drop e s))
-  unfolding keep
-  passed r q n =
-      ap (named k) listed ∙ rw (ne-eqb (saKeyOf (part s a e) .kwkId) k (λ z. n (kwk-is r q ∙ z)))
-
-  pub found-named : (r : ℕ) → from ≤ at → named k (copiesIn p (drop from s)) ≡ named k (copiesIn p (drop at s)) →
-      r ≡ be32 s (a + 4) → r ≡ k → NamedAt k p s from a e
-  unfolding keep
-  found-named r h g q n =
-      record {
-        first = g ∙ ap (named k) listed ∙ rw (eq-eqb (saKeyOf (part s a e) .kwkId) k (sym (kwk-is r q) ∙ n));
-        start = omega (arith, f .start);
-        size = next-size;
-        inside = f .inside;
-        rest = f .rest;
-      }
+pub no-tries : (p : Place) (s : List ℕ) (at : ℕ) (v : List ℕ) (held : Held) → valuesIn meaning.SaKey p (drop at s) ≡ [] →
+    triesOf v held (copiesIn p (drop at s)) ≡ []
+unfolding triesOf
+no-tries p s at v held e = ap (λ (l : List (List ℕ)). triesOf v held (map saKeyOf l)) e

@@ -1,3 +1,4 @@
+pub mod AllBreaks
 pub mod AllIgnored
 pub mod HeaderLaws
 pub mod PayloadLaws
@@ -5,6 +6,8 @@ pub mod DeleteGrammar
 pub mod FrameGrammar
 pub mod Ignored
 pub mod LayoutNumbers
+pub mod PayloadBreaks
+pub mod FrameBreaks
 pub mod SamplesOfPolicies
 pub mod SamplesOfBags
 pub mod SamplesOfFrames

@@ -15,7 +15,7 @@ use Rattle.policies.specs.Policy.{suite, saBody, policy}
 use Rattle.bags.specs.Bag.{bag, memberKeys}
 use Rattle.frames.specs.Delete.{stretches}
 use Rattle.frames.specs.Frame.{isKnown, gsa, kd, delete, unread, body, payload, frame, frameLayout}
-use Rattle.frames.specs.Exchange.{registration, rekey, other, exchangeOf}
+use Rattle.frames.specs.Exchange.{registration, rekey, inband, other, exchangeOf}
 
 -- "Known: IDr 36, CERT 37, AUTH 39, N 41, D 42, GSA 51, KD 52"; others are not, also those that the RFCs name
 known-kinds :
@@ -24,10 +24,10 @@ known-kinds :
     × (map isKnown (0 ∷ 34 ∷ 35 ∷ 44 ∷ 45 ∷ 54 ∷ 255 ∷ []) ≡ false ∷ false ∷ false ∷ false ∷ false ∷ false ∷ false ∷ [])
 known-kinds = (refl, refl, refl)
 
--- GSA_AUTH 39, GSA_REGISTRATION 40, GSA_REKEY 41 (RFC 9838, section 9.2)
+-- GSA_AUTH 39, GSA_REGISTRATION 40, GSA_REKEY 41, GSA_INBAND_REKEY 42 (RFC 9838, section 9.2)
 exchange-types :
-    map exchangeOf (39 ∷ 40 ∷ 41 ∷ 38 ∷ 42 ∷ 34 ∷ 0 ∷ []) ≡
-    registration ∷ registration ∷ rekey ∷ other ∷ other ∷ other ∷ other ∷ []
+    map exchangeOf (39 ∷ 40 ∷ 41 ∷ 42 ∷ 38 ∷ 43 ∷ 34 ∷ 0 ∷ []) ≡
+    registration ∷ registration ∷ rekey ∷ inband ∷ other ∷ other ∷ other ∷ other ∷ []
 exchange-types = refl
 
 -- a frame of n octets whose first payload is of the kind k, with version octet v

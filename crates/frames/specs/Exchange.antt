@@ -1,5 +1,5 @@
--- What differs between exchanges (RFC 9838, section 9.2: GSA_AUTH 39, GSA_REGISTRATION 40, GSA_REKEY 41), one row each; document 01 says
--- "in a registration" and "in a rekey" where a rule depends on it.
+-- What differs between exchanges (RFC 9838, section 9.2: GSA_AUTH 39, GSA_REGISTRATION 40, GSA_REKEY 41, GSA_INBAND_REKEY 42), one row
+-- each; document 01 says "in a registration" and "in a rekey" where a rule depends on it, document 02's T-02 what holds of the fourth.
 use Prim.Native.Nat.{ℕ}
 use mathlib.Core.Bool.{true, false}
 use lib.Dec.{eqb}
@@ -12,7 +12,7 @@ use Rattle.frames.specs.declared.exchanges.LeastAfter.the-variants as le
 -- beside each field the words of document 01 that it stands for
 abbrev pub registration : Exchange
 registration = record {
-  -- not true: "exchange not one of the three" (2)
+  -- not true: "exchange not one of the three" (2), of the four with T-02's
   admitted = true;
   -- "registration of a non-empty member" (2): what the member must be
   wanted = wanted.Empty;
@@ -57,6 +57,36 @@ rekey = record {
   least = least.OwnPlusOne;
 }
 
+-- GSA_INBAND_REKEY, beside each field the words of document 02's T-02 that it stands for
+abbrev pub inband : Exchange
+inband = record {
+  -- "Number 2 now admits a fourth exchange"
+  admitted = true;
+  -- "refuses it for an empty member" (2)
+  wanted = wanted.NotEmpty;
+  -- "and does not compare its SPIs" (2)
+  addresses = false;
+  -- "number 3 is not judged, because IKEv2 guards its order"
+  ordered = false;
+  -- "Number 5 judges the lent key's size as in a registration."
+  lends = true;
+  -- "It comes with a lent default key of the member's IKE SA."; "Its key 0 is the lent key"
+  zero = keyZero.Lent;
+  -- "held keys, in demand 3 too, are for GSA_REKEY only"
+  recalls = false;
+  -- "A Member bag or D in it is number 4"
+  members = false;
+  deletes = false;
+  -- "a Rekey SA has exactly one SA_KEY, in number 6"
+  copies = false;
+  -- in every exchange, as document 01 says
+  authentication = true;
+  -- "The held list stays."
+  registers = false;
+  -- "The least Message ID changes only if a new Rekey SA comes."
+  least = least.Kept;
+}
+
 -- no exchange that is taken: number 2
 abbrev pub other : Exchange
 other = record {
@@ -76,4 +106,4 @@ other = record {
 }
 
 abbrev pub exchangeOf : ℕ → Exchange
-exchangeOf x = either (eqb x 39) registration (either (eqb x 40) registration (either (eqb x 41) rekey other))
+exchangeOf x = either (eqb x 39) registration (either (eqb x 40) registration (either (eqb x 41) rekey (either (eqb x 42) inband other)))

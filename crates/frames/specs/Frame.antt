@@ -8,6 +8,7 @@ use lib.Dec.{eqb}
 use Rattle.octets.specs.Numbers.{oct}
 use Rattle.octets.specs.Walk.{be16, either, Reading, whole, broken, Reader, mapped, opened, begun, within, Linked, chain}
 use Rattle.attributes.specs.declared.Layout.{Layout}
+use Rattle.attributes.specs.declared.Layout.the-variants as layout
 use Rattle.attributes.specs.Answers.{layoutOf}
 use Rattle.policies.specs.Policy.{Policy, policies}
 use Rattle.bags.specs.Bag.{Bag, bags}
@@ -84,3 +85,11 @@ frame s = opened 0 (headerFits s) (mapped (frameOf s) (exactly (payloads (firstP
 -- THE LAYOUT OF A FRAME: whole, or refusal 1 with the offset that it carries
 unfoldable pub frameLayout : List ℕ → Layout
 frameLayout s = layoutOf (frame s)
+
+-- THE FIGURE (document 02, T-06): the offset at which the octets are broken, 0 where they are whole
+abbrev pub offsetOf : Layout → ℕ
+offsetOf layout.Whole = 0
+offsetOf (layout.Broken o) = o
+
+unfoldable pub figure : List ℕ → ℕ
+figure s = offsetOf (frameLayout s)

@@ -4,4 +4,5 @@ pub mod Frame
 pub mod Exchange
 pub mod Grammar
 pub mod Ignored
+pub mod Breaks
 pub mod inner

@@ -2,9 +2,10 @@
 ghost use mathlib.Core.Path.{_≡_};
 ghost use Rattle.frames.specs.Exchange.{exchangeOf};
 
-// What number 2 asks of the member before the frame.
+// What number 2 asks of the member before the frame, at its tick.
 pub enum Wanted {
     Empty,
+    NotEmpty,
     Any,
 }
 
@@ -14,10 +15,11 @@ pub enum KeyZero {
     RekeySa,
 }
 
-// The least acceptable Message ID afterwards, where the frame brings no new Rekey SA.
+// The least acceptable Message ID afterwards, where the frame brings no new Rekey SA: 0, the frame's own plus 1, or as it was.
 pub enum LeastAfter {
     Zero,
     OwnPlusOne,
+    Kept,
 }
 
 // What differs between exchanges.
@@ -60,6 +62,9 @@ pub fn exchange_of(kind: usize) -> Exchange
     if kind == 41 {
         return rekey();
     }
+    if kind == 42 {
+        return inband();
+    }
     other()
 }
 
@@ -100,6 +105,26 @@ fn rekey() -> Exchange
         authentication: true,
         registers: false,
         least: LeastAfter::OwnPlusOne,
+    }
+}
+
+fn inband() -> Exchange
+    ensures { λ r. ⌜ r ≡ exchangeOf 42 ⌝ }
+{
+    Exchange {
+        admitted: true,
+        wanted: Wanted::NotEmpty,
+        addresses: false,
+        ordered: false,
+        lends: true,
+        zero: KeyZero::Lent,
+        recalls: false,
+        members: false,
+        deletes: false,
+        copies: false,
+        authentication: true,
+        registers: false,
+        least: LeastAfter::Kept,
     }
 }
 

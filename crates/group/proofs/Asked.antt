@@ -45,7 +45,7 @@ module _ (m : Member) (now : ℕ) (lent s : List ℕ) (f : Frame) (e : IsFrame s
   pub answered-after : (p : GroupSaPolicy) → In p (announced f) → Answered p (saAnswer (p .protocol) (p .spi) next)
   unfolding answerOf answered saAnswer
   answered-after p i =
-      let w = asked-after limits (omega arith) (m .state) now lent s f e (next .state) r p i in
+      let w = asked-after limits (omega arith) (m .state) now lent s f e (next .state) (r .outcome) p i in
       let a = w .sa in
       let is : saAnswer (p .protocol) (p .spi) next ≡ answerOf a = ap answered (w .found) in
       let rekey : p .protocol ≡ 6 → eqb (a .protocol) 6 ≡ true = λ q. eq-eqb (a .protocol) 6 (w .protocol ∙ q) in

@@ -32,10 +32,10 @@ swept-blank now m b = swept-state-blank limits now (m .state) b
 
 module _ (m : Member) (now : ℕ) (lent octets : List ℕ) (a : Answer) (next : Member) (r : Receives m now lent octets a next) where
   pub received-formed : stateFormed limits (m .state) ≡ true → stateFormed limits (next .state) ≡ true
-  received-formed e = outcome-formed limits (omega arith) (m .state) now lent octets (numberOf a) (next .state) r e
+  received-formed e = outcome-formed limits (omega arith) (m .state) now lent octets (numberOf a) (next .state) (r .outcome) e
 
   pub received-blank : StateBlank limits (m .state) → StateBlank limits (next .state)
-  received-blank b = outcome-blank limits (omega arith) (m .state) now lent octets (numberOf a) (next .state) r b
+  received-blank b = outcome-blank limits (omega arith) (m .state) now lent octets (numberOf a) (next .state) (r .outcome) b
 
 -- two members that leave are one: no octet of a key remains
 pub left-same : (m n : Member) → leftMember m ≡ leftMember n

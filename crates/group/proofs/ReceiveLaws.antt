@@ -13,7 +13,7 @@ use Rattle.keys.proofs.Cases.{bool-cases}
 use Rattle.attributes.specs.Answers.{layoutOf}
 use Rattle.attributes.specs.declared.Layout.{Layout}
 use Rattle.attributes.specs.declared.Layout.the-variants as layout
-use Rattle.frames.specs.Frame.{Frame, frame, frameLayout}
+use Rattle.frames.specs.Frame.{Frame, frame, frameLayout, offsetOf, figure}
 use Rattle.frames.proofs.FrameGrammar.{read-frame, frame-read}
 use Rattle.state.specs.declared.State.{State}
 use Rattle.clauses.specs.Refusals.{refusal}
@@ -25,28 +25,41 @@ use Rattle.outcome.proofs.Readings.{outcome-broken, outcome-read}
 use Rattle.group.specs.declared.Member.{Member}
 use Rattle.group.specs.declared.receive.Answer.{Answer}
 use Rattle.group.specs.declared.receive.Answer.the-variants as answer
-use Rattle.group.specs.Receive.{numberOf, Receives}
+use Rattle.group.specs.Receive.{numberOf, figureOf, Receives}
 
--- ---- the numbers go up to 9
-abbrev Small : List Condition → Type 0
-Small [] = Unit {0}
-Small (c ∷ l) = (c .number ≤ 9) × Small l
+-- ---- the numbers of a frame whose layout is whole: 0 and 2 to 9; number 1 is judged on the octets
+abbrev Numbered : List Condition → Type 0
+Numbered [] = Unit {0}
+Numbered (c ∷ l) = (2 ≤ c .number) × (c .number ≤ 9) × Numbered l
 
-first-small : (l : List Condition) (n : ℕ) → Small l → First l n → n ≤ 9
-first-small [] n s e = omega arith
-first-small (c ∷ l) n s (inl p) = omega (arith, s .0, p .1)
-first-small (c ∷ l) n s (inr p) = first-small l n (s .1) (p .1)
+first-numbered : (l : List Condition) (n : ℕ) → Numbered l → First l n → (n ≤ 9) × (n ≡ 1 → ⊥)
+first-numbered [] n s e = (omega arith, λ q. omega (arith, q))
+first-numbered (c ∷ l) n s (inl p) = (omega (arith, s .1, p .1), λ q. omega (arith, s .0, p .1, q))
+first-numbered (c ∷ l) n s (inr p) = first-numbered l n (s .2) (p .1)
 
 module _ (m : State) (now : ℕ) (lent : List ℕ) (f : Frame) where
-  all-small : Small (conditions limits m now lent f)
-  all-small = (
+  all-numbered : Numbered (conditions limits m now lent f)
+  all-numbered = (
     omega arith,
-    (omega arith, (omega arith, (omega arith, (omega arith, (omega arith, (omega arith, (omega arith, tt))))))),
+    omega arith,
+    (
+      omega arith,
+      omega arith,
+      (
+        omega arith,
+        omega arith,
+        (
+          omega arith,
+          omega arith,
+          (omega arith, omega arith, (omega arith, omega arith, (omega arith, omega arith, (omega arith, omega arith, tt)))),
+        ),
+      ),
+    ),
   )
 
-  pub judged-small : (n : ℕ) (next : State) → Judged limits m now lent f n next → n ≤ 9
-  judged-small _ _ (refused n a) = first-small (conditions limits m now lent f) (suc n) all-small a
-  judged-small _ _ (accepted next a r) = omega arith
+  pub judged-numbered : (n : ℕ) (next : State) → Judged limits m now lent f n next → (n ≤ 9) × (n ≡ 1 → ⊥)
+  judged-numbered _ _ (refused n a) = first-numbered (conditions limits m now lent f) (suc n) all-numbered a
+  judged-numbered _ _ (accepted next a r) = (omega arith, λ q. omega (arith, q))
 
   -- one of numbers 2 to 7 applies
   pub judged-clauses : (n : ℕ) → n ≡ refusal limits m now lent f → (n ≡ 0 → ⊥) → Judged limits m now lent f n m
@@ -93,30 +106,54 @@ module _ (s : List ℕ) (r : Layout) (e : r ≡ frameLayout s) where
   unfolding frameLayout
   no-tree o l = broken-by s (frame s) o refl (sym e ∙ l)
 
+-- ---- the figure: "All other numbers carry 0"
+pub other-figure : (a : Answer) → (numberOf a ≡ 1 → ⊥) → figureOf a ≡ 0
+other-figure answer.Accepted n = refl
+other-figure (answer.BrokenLayout o) n = absurd (n refl)
+other-figure answer.NotForMember n = refl
+other-figure answer.Replayed n = refl
+other-figure answer.BadComposition n = refl
+other-figure answer.Unsupported n = refl
+other-figure answer.Unpaired n = refl
+other-figure answer.OverLimit n = refl
+other-figure answer.KeyConflict n = refl
+other-figure answer.NoKey n = refl
+
+figure-is : (s : List ℕ) (x : Reading Frame) → frame s ≡ x → figure s ≡ offsetOf (layoutOf x)
+unfolding figure frameLayout
+figure-is s x e = ap (λ (y : Reading Frame). offsetOf (layoutOf y)) e
+
 -- ---- the call's promise
 module _ (m : Member) (now : ℕ) (lent octets : List ℕ) where
-  pub receives-broken : (o : ℕ) → frame octets ≡ broken o → (a : Answer) (next : Member) → numberOf a ≡ 1 → next ≡ m →
+  pub receives-broken : (o : ℕ) → frame octets ≡ broken o → (a : Answer) (next : Member) → a ≡ answer.BrokenLayout o → next ≡ m →
       Receives m now lent octets a next
-  receives-broken o e a next n g =
-      subst (λ (x : Member). Outcome limits (m .state) now lent octets (numberOf a) (x .state)) (sym g)
-      (subst (λ (x : ℕ). Outcome limits (m .state) now lent octets x (m .state)) (sym n)
-      (outcome-broken limits (m .state) now lent octets o e))
+  receives-broken o e a next p g =
+      let r : Receives m now lent octets (answer.BrokenLayout o) m =
+      record { outcome = outcome-broken limits (m .state) now lent octets o e; offset = sym (figure-is octets (broken o) e) } in
+      subst (λ (x : Member). Receives m now lent octets a x) (sym g) (subst (λ (x : Answer). Receives m now lent octets x m) (sym p) r)
 
   pub receives-tree : (f : Frame) → frame octets ≡ whole f [] → (a : Answer) (next : Member) →
       Judged limits (m .state) now lent f (numberOf a) (next .state) → Receives m now lent octets a next
-  receives-tree f e a next j = outcome-read limits (m .state) now lent octets f e (numberOf a) (next .state) j
+  receives-tree f e a next j =
+      record {
+        outcome = outcome-read limits (m .state) now lent octets f e (numberOf a) (next .state) j;
+        offset =
+            other-figure a (judged-numbered (m .state) now lent f (numberOf a) (next .state) j .1)
+            ∙ sym (figure-is octets (whole f []) e);
+      }
 
-  -- "Every public call's promise determines its answer and the member .. after it, also on refusal, for all inputs"
-  abbrev numbered : ℕ → Answer
-  numbered n =
+  -- "Every public call's promise determines its answer and the member .. after it, also on refusal, for all inputs": number and figure are
+  -- one answer's
+  abbrev numbered : ℕ → ℕ → Answer
+  numbered n o =
       getD
-      (answer.Accepted ∷ answer.BrokenLayout ∷ answer.NotForMember ∷ answer.Replayed ∷ answer.BadComposition ∷ answer.Unsupported ∷
+      (answer.Accepted ∷ answer.BrokenLayout o ∷ answer.NotForMember ∷ answer.Replayed ∷ answer.BadComposition ∷ answer.Unsupported ∷
       answer.Unpaired ∷ answer.OverLimit ∷ answer.KeyConflict ∷ [])
       n answer.NoKey
 
-  numbered-of : (a : Answer) → numbered (numberOf a) ≡ a
+  numbered-of : (a : Answer) → numbered (numberOf a) (figureOf a) ≡ a
   numbered-of answer.Accepted = refl
-  numbered-of answer.BrokenLayout = refl
+  numbered-of (answer.BrokenLayout o) = refl
   numbered-of answer.NotForMember = refl
   numbered-of answer.Replayed = refl
   numbered-of answer.BadComposition = refl
@@ -126,8 +163,12 @@ module _ (m : Member) (now : ℕ) (lent octets : List ℕ) where
   numbered-of answer.KeyConflict = refl
   numbered-of answer.NoKey = refl
 
+  answer-one : (a b : Answer) → numberOf a ≡ numberOf b → figureOf a ≡ figureOf b → a ≡ b
+  answer-one a b n o = sym (numbered-of a) ∙ (λ i. numbered (n i) (o i)) ∙ numbered-of b
+
   pub receives-one : (a b : Answer) (next after : Member) → Receives m now lent octets a next → Receives m now lent octets b after →
       (a ≡ b) × (next ≡ after)
   receives-one a b next after p q =
-      let r = outcome-one limits (m .state) now lent octets (numberOf a) (numberOf b) (next .state) (after .state) p q in
-      (sym (numbered-of a) ∙ ap numbered (r .0) ∙ numbered-of b, λ i. record { state = r .1 i })
+      let r = outcome-one limits (m .state) now lent octets (numberOf a) (numberOf b) (next .state) (after .state)
+      (p .outcome) (q .outcome) in
+      (answer-one a b (r .0) (p .offset ∙ sym (q .offset)), λ i. record { state = r .1 i })

@@ -16,17 +16,18 @@ ghost use Rattle.keys.specs.Limits.{limits};
 ghost use Rattle.frames.specs.Frame.{Frame, frame};
 ghost use Rattle.contents.specs.inner.Values.{isWhole};
 ghost use Rattle.outcome.specs.Outcome.{Judged};
-ghost use Rattle.receiving.specs.inner.Passing.{Passed, Registers, RekeysOver};
-ghost use Rattle.group.specs.Receive.{numberOf, Receives};
+ghost use Rattle.receiving.specs.inner.Passing.{Passed, Registers, RekeysOver, RekeysInband};
+ghost use Rattle.group.specs.Receive.{numberOf, figureOf, Receives};
 
 // What becomes of a frame.
 pub enum Answer {
     Accepted,
-    // the octets are not laid out as a frame
-    BrokenLayout,
-    // another exchange, a registration of a member that is not empty, a rekey over other SPIs, or a member value that breaks its list
+    // the octets are not laid out as a frame; the offset of the structure that broke first, 0 for the header
+    BrokenLayout(usize),
+    // another exchange, a registration of a member that is not empty, a rekey over other SPIs, one in-band of an empty member, or a member
+    // value that breaks its list
     NotForMember,
-    // a rekey whose Message ID is below the least acceptable, or none is acceptable any more
+    // a rekey over the Rekey SA whose Message ID is below the least acceptable, or none is acceptable any more
     Replayed,
     // payloads, policies or bags that a frame of its exchange cannot have together
     BadComposition,
@@ -49,7 +50,7 @@ impl Answer {
     {
         match self {
             Answer::Accepted => 0,
-            Answer::BrokenLayout => 1,
+            Answer::BrokenLayout(_) => 1,
             Answer::NotForMember => 2,
             Answer::Replayed => 3,
             Answer::BadComposition => 4,
@@ -60,6 +61,24 @@ impl Answer {
             Answer::NoKey => 9,
         }
     }
+
+    // The figure that the answer carries (document 02, T-06): on number 1 the offset, else 0.
+    pub fn figure(self) -> usize
+        ensures { λ r. ⌜ r ≡ figureOf self ⌝ }
+    {
+        match self {
+            Answer::Accepted => 0,
+            Answer::BrokenLayout(at) => at,
+            Answer::NotForMember => 0,
+            Answer::Replayed => 0,
+            Answer::BadComposition => 0,
+            Answer::Unsupported => 0,
+            Answer::Unpaired => 0,
+            Answer::OverLimit => 0,
+            Answer::KeyConflict => 0,
+            Answer::NoKey => 0,
+        }
+    }
 }
 
 // The answer and the next member, on a refusal the member as it was.
@@ -68,14 +87,13 @@ pub struct Received {
     pub member: Member,
 }
 
-// The answer with this number.
+// The answer with this number, to a frame whose layout is whole.
 fn answer_of(number: usize) -> Answer
-    requires { ⌜ number ≤ 9 ⌝ }
+    requires { ⌜ (number ≤ 9) × (number ≡ 1 → ⊥) ⌝ }
     ensures { λ r. ⌜ numberOf r ≡ number ⌝ }
 {
     match number {
         0 => Answer::Accepted,
-        1 => Answer::BrokenLayout,
         2 => Answer::NotForMember,
         3 => Answer::Replayed,
         4 => Answer::BadComposition,
@@ -89,7 +107,7 @@ fn answer_of(number: usize) -> Answer
 
 // The answer with this number and the member of this state.
 fn answered(number: usize, state: State) -> Received
-    requires { ⌜ number ≤ 9 ⌝ }
+    requires { ⌜ (number ≤ 9) × (number ≡ 1 → ⊥) ⌝ }
     ensures { λ r. ⌜ (numberOf (r .answer) ≡ number) × (r .member .state ≡ state) ⌝ }
 {
     let answer = answer_of(number);
@@ -98,12 +116,10 @@ fn answered(number: usize, state: State) -> Received
 }
 
 impl Member {
-    // A refusal: its number and the member as it was.
-    fn refused(self, number: usize) -> Received
-        requires { ⌜ number ≤ 9 ⌝ }
-        ensures { λ r. ⌜ (numberOf (r .answer) ≡ number) × (r .member ≡ self) ⌝ }
+    // A refusal: its answer and the member as it was.
+    fn refused(self, answer: Answer) -> Received
+        ensures { λ r. ⌜ (r .answer ≡ answer) × (r .member ≡ self) ⌝ }
     {
-        let answer = answer_of(number);
         Received {
             answer,
             member: self,
@@ -132,16 +148,31 @@ impl Member {
         answered(next.number, next.state)
     }
 
-    // A frame that numbers 2 to 7 let pass, with its facts. It goes by whose key KWK ID 0 names.
+    // A rekey over the member's own channel that numbers 2 to 7 let pass, with its facts. No held key is read.
+    fn rekeying_in_band(self, s: &[u8], x: Facts, lent: &[u8], tick: u32) -> Received
+        requires { ⌜ ((f : Frame) × Passed (self .state) tick (now lent) (now s) x f × RekeysInband f) ⌝ }
+        ensures { λ r. ⌜ ((f : Frame) → Passed (self .state) tick (now (lent .entry)) (now (s .entry)) x f → RekeysInband f →
+            Judged limits (self .state) tick (now (lent .entry)) f (numberOf (r .answer)) (r .member .state)) ⌝ }
+    {
+        let state = self.state;
+        let next = receiving::inband::rekeyed(state, s, x, lent, tick);
+        answered(next.number, next.state)
+    }
+
+    // A frame that numbers 2 to 7 let pass, with its facts. It goes by whether its exchange sets the held list, then by whose key KWK ID 0
+    // names.
     fn passed(self, s: &[u8], x: Facts, lent: &[u8], tick: u32) -> Received
         requires { ⌜ ((f : Frame) × Passed (self .state) tick (now lent) (now s) x f) ⌝ }
         ensures { λ r. ⌜ ((f : Frame) → Passed (self .state) tick (now (lent .entry)) (now (s .entry)) x f →
             Judged limits (self .state) tick (now (lent .entry)) f (numberOf (r .answer)) (r .member .state)) ⌝ }
     {
         let row = row_of(s);
+        if row.registers {
+            return self.registering(s, x, lent, tick);
+        }
         let zero = row.zero;
         match zero {
-            KeyZero::Lent => self.registering(s, x, lent, tick),
+            KeyZero::Lent => self.rekeying_in_band(s, x, lent, tick),
             KeyZero::RekeySa => self.rekeying(s, x, tick),
         }
     }
@@ -154,19 +185,23 @@ impl Member {
     {
         let state = self.state;
         match judging::refusal::refusal(state, s, lent, tick) {
-            Verdict::Refused(number) => self.refused(number),
+            Verdict::Refused(number) => {
+                let answer = answer_of(number);
+                self.refused(answer)
+            }
             Verdict::Passed(x) => self.passed(s, x, lent, tick),
         }
     }
 
     // A frame's octets, opened: the IKE header and the payloads. A registration (GSA_AUTH, GSA_REGISTRATION) comes with a lent default
-    // key; for a rekey (GSA_REKEY) the lent octets are not read.
+    // key, and so does a rekey over the member's own channel (GSA_INBAND_REKEY); for a rekey over the Rekey SA (GSA_REKEY) the lent octets
+    // are not read.
     pub fn receive(self, frame: &[u8], lent: &[u8], tick: u32) -> Received
         ensures { λ r. ⌜ Receives self tick (now (lent .entry)) (now (frame .entry)) (r .answer) (r .member) ⌝ }
     {
         match frames::frame_layout(frame) {
             Layout::Whole => self.judged(frame, lent, tick),
-            Layout::Broken(_) => self.refused(1),
+            Layout::Broken(at) => self.refused(Answer::BrokenLayout(at)),
         }
     }
 }

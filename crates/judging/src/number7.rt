@@ -38,15 +38,15 @@ pub fn clauses_7(x: Facts, standing: usize) -> Seven
     let d = b.deletion;
     let p = x.policies;
     let k = x.bags;
-    // "over 8 ESP policies"
+    // "over 8 ESP policies", by T-01 24
     let esps = ESP_POLICIES < p.esps;
-    // "32 WRAP_KEY"
+    // "32 WRAP_KEY", by T-01 128
     let wraps = WRAP_KEYS < k.wraps;
     // "32 SA_KEY in a bag"
     let overfull = k.overfull;
     // "32 deleted SPIs in the frame"
     let spis = DELETED_SPIS < d.spis;
-    // "or over 16 SAs after the frame, those already due when it arrives not counted"
+    // "or over 16 SAs after the frame, those already due when it arrives not counted", by T-01 64
     let sas = is_over(standing, p.sas);
     Seven {
         esps,

@@ -2,11 +2,11 @@
 use native.Mathlib.Omega.{arith}
 use Prim.Native.Nat.{ℕ, _+_, _-_, _<_, _≤_}
 use mathlib.Core.Path.{_≡_, refl, ap, sym, _∙_, subst}
-use mathlib.Core.Bool.{true, false, not, false≢true}
+use mathlib.Core.Bool.{Bool, true, false, not}
 use mathlib.Core.List.{List, [], _∷_, _++_, append-nil, append-assoc, List·Memᴰ, List·Memᴰ·head, Memᴰ·append-right}
 use borrow.Author.Tests.{eqb-true, not-false}
 use lib.Dec.{eqb}
-use lib.ListN.{length, drop, length-append}
+use lib.ListN.{length, drop, set, length-append, length-set}
 use Rattle.octets.specs.Walk.{part}
 use Rattle.keys.specs.Limits.{limits}
 use Rattle.keys.specs.Lists.{any}
@@ -16,7 +16,7 @@ use Rattle.policies.specs.Policy.{GroupSaPolicy, policies}
 use Rattle.frames.specs.Frame.{Frame}
 use Rattle.contents.specs.inner.Values.{isWhole}
 use Rattle.contents.specs.declared.policy.Parts.{Parts}
-use Rattle.state.specs.declared.held.Held.{Held}
+use Rattle.sa.specs.declared.entry.Sa.{Sa}
 use Rattle.clauses.specs.Contents.{rowOf, gather, saOf, announced}
 use Rattle.clauses.specs.Fitness.{transformsFit}
 use Rattle.clauses.specs.Number4.{twiceInTransform, keyLengthTwice}
@@ -26,12 +26,10 @@ use Rattle.chains.specs.Chain.{Root}
 use Rattle.outcome.specs.After.{no-sa}
 use Rattle.outcome.proofs.Members.{not-in-none}
 use Rattle.outcome.proofs.RunsLists.{none-passes}
-use Rattle.keying.specs.inner.Keyed.{Ready, KeysOf, KeysIn, KeyedBy, SomeEight}
-use Rattle.keying.specs.inner.Policies.{isEight, Opening, Announces, IsAnnounced, OneMore}
+use Rattle.keying.specs.inner.Keyed.{Ready, foundBy, KeysOf, SomeEight}
+use Rattle.keying.specs.inner.Policies.{OfOne, IsEight, IsUnopened, IsSa, Opening, Announces, IsAnnounced}
 use Rattle.keying.specs.declared.joining.Found.{Found}
-use Rattle.keying.specs.declared.joining.Found.the-variants.{Eight, Nine, Keys}
-use Rattle.keying.specs.declared.joining.Keyed.{Keyed}
-use Rattle.keying.proofs.Further.{eight-wider}
+use Rattle.keying.proofs.Further.{eight-wider, eight-more, unopened-more, sa-more}
 use Rattle.keying.proofs.PolicyAt.{sasFrom, no-more-sas, SaAt, PolicyAt}
 
 -- ---- a policy of a frame that numbers 4 to 7 let pass
@@ -77,60 +75,45 @@ module _ (f : Frame) (g k : List ℕ) (y : Ready f g k) (before : List GroupSaPo
     paired = paired;
   }
 
-eight-is : (x : Found) → isEight x ≡ true → x ≡ Eight
-eight-is Eight e = refl
-eight-is Nine e = absurd (false≢true e)
-eight-is Keys e = absurd (false≢true e)
-
-module _ (g k : List ℕ) (schedule : List ℕ) (held : Held) where
-  pub record Along (at : ℕ) (all : Keyed) : Type 0 where
+module _ (g k schedule ids block : List ℕ) where
+  pub record Along (at : ℕ) (nine : Bool) (sas : List Sa) (count : ℕ) : Type 0 where
     pub inside : at ≤ length g
     pub rest : isWhole (policies 0 (drop at g)) ≡ true
+    pub places : length sas ≡ limits .sas
     pub passed : List GroupSaPolicy
     pub all-are : passed ++ sasFrom g at ≡ sasFrom g 0
-    pub few : all .count ≤ length passed
+    pub few : count ≤ length passed
     pub known : (roots : List Root) (entries : List WrapKey) (size : ℕ) (f : Frame) → Ready f g k →
-        Opening schedule held roots entries size → KeysIn roots entries size f passed all
+        Opening schedule ids block roots entries size → KeysOf roots entries size f passed (foundBy nine) sas count
 
-  pub along-start : (all : Keyed) → isWhole (policies 0 g) ≡ true → all .found ≡ Keys → all .count ≡ 0 → Along 0 all
-  along-start all w e n =
+  pub along-start : (sas : List Sa) → isWhole (policies 0 g) ≡ true → length sas ≡ limits .sas → Along 0 false sas 0
+  along-start sas w n =
       record {
         inside = omega arith;
         rest = w;
+        places = n;
         passed = [];
         all-are = refl;
         few = omega arith;
-        known = λ roots entries size f y o.
-            subst (λ (x : Found). KeysOf roots entries size f [] x (all .sas) (all .count)) (sym e)
-            (subst (λ (m : ℕ). KeysOf roots entries size f [] Keys (all .sas) m) (sym n) (λ a i. absurd (not-in-none a i), no-sa, refl));
+        known = λ roots entries size f y o. (λ a i. absurd (not-in-none a i), no-sa, refl);
       }
 
-  module _ (at : ℕ) (all : Keyed) (w : Along at all) where
-    pub along-end : length g ≤ at → (roots : List Root) (entries : List WrapKey) (size : ℕ) (f : Frame) → Ready f g k →
-        Opening schedule held roots entries size → KeyedBy roots entries size f all
-    along-end h roots entries size f y o =
-        subst (λ (l : List GroupSaPolicy). KeysIn roots entries size f l all)
+  module _ (at : ℕ) (nine : Bool) (sas : List Sa) (count : ℕ) (w : Along at nine sas count) where
+    pub along-end : (found : Found) → found ≡ foundBy nine → length g ≤ at → (roots : List Root) (entries : List WrapKey) (size : ℕ)
+        (f : Frame) → Ready f g k → Opening schedule ids block roots entries size → KeysOf roots entries size f (announced f) found sas count
+    along-end found e h roots entries size f y o =
+        subst (λ (l : List GroupSaPolicy). KeysOf roots entries size f l found sas count)
         (sym (append-nil (w .passed)) ∙ ap (λ (l : List GroupSaPolicy). w .passed ++ l) (sym (no-more-sas g at h)) ∙ w .all-are
-        ∙ ap (gather saOf) (sym (y .policies))) (w .known roots entries size f y o)
-
-    -- number 8 of those that were passed is number 8
-    pub along-eight : isEight (all .found) ≡ true → (roots : List Root) (entries : List WrapKey) (size : ℕ) (f : Frame) → Ready f g k →
-        Opening schedule held roots entries size → KeyedBy roots entries size f all
-    along-eight t roots entries size f y o =
-        let e = eight-is (all .found) t in
-        let by : Found → List GroupSaPolicy → Type 0 = λ x l. KeysOf roots entries size f l x (all .sas) (all .count) in
-        let some = w .known roots entries size f y o in
-        let h : SomeEight roots entries size f (w .passed) = subst (λ (x : Found). by x (w .passed)) e some in
-        let u = eight-wider roots entries size f (w .passed) (sasFrom g at) h in
-        subst (λ (x : Found). by x (announced f)) (sym e)
-        (subst (SomeEight roots entries size f) (w .all-are ∙ ap (gather saOf) (sym (y .policies))) u)
+        ∙ ap (gather saOf) (sym (y .policies)))
+        (subst (λ (x : Found). KeysOf roots entries size f (w .passed) x sas count) (sym e) (w .known roots entries size f y o))
 
     module _ (r : Parts) (p : PolicyAt g at r) where
-      pub along-wide : r .first ≡ 0 → Along (at + r .end) all
+      pub along-wide : r .first ≡ 0 → Along (at + r .end) nine sas count
       along-wide z =
           record {
             inside = p .inside;
             rest = p .others;
+            places = w .places;
             passed = w .passed;
             all-are = ap (λ (l : List GroupSaPolicy). w .passed ++ l) (sym (p .wide z)) ∙ w .all-are;
             few = w .few;
@@ -151,7 +134,7 @@ module _ (g k : List ℕ) (schedule : List ℕ) (held : Held) where
         along-announces f y = announces f g k y (w .passed) at (w .all-are) r s
 
         -- a place is left for its SA
-        pub along-room : (f : Frame) → Ready f g k → all .count < limits .sas
+        pub along-room : (f : Frame) → Ready f g k → count < limits .sas
         along-room f y =
             let n = ap length (w .all-are) in
             let m = length-append (w .passed) (sasFrom g at) in
@@ -159,19 +142,51 @@ module _ (g k : List ℕ) (schedule : List ℕ) (held : Held) where
             let d = ap length (ap (gather saOf) (y .policies)) in
             omega (arith, w .few, y .room)
 
-        pub along-sa : (next : Keyed) → OneMore (IsAnnounced k (r .first) x b schedule held) all next → next .count ≤ all .count + 1 →
-            Along (at + r .end) next
-        along-sa next more h =
+        all-next : (w .passed ++ (s .sa ∷ [])) ++ sasFrom g (at + r .end) ≡ sasFrom g 0
+        all-next =
+            append-assoc (w .passed) (s .sa ∷ []) (sasFrom g (at + r .end))
+            ∙ ap (λ (l : List GroupSaPolicy). w .passed ++ l) (sym (s .first)) ∙ w .all-are
+
+        abbrev pub Says : OfOne → Type 0
+        Says Is = (roots : List Root) (entries : List WrapKey) (size : ℕ) (f : Frame) (a : GroupSaPolicy) →
+            IsAnnounced k (r .first) x b schedule ids block roots entries size f a → Is roots entries size f a
+
+        -- number 8 of one is number 8
+        pub along-eight : Says IsEight → (roots : List Root) (entries : List WrapKey) (size : ℕ) (f : Frame) → Ready f g k →
+            Opening schedule ids block roots entries size → SomeEight roots entries size f (announced f)
+        along-eight more roots entries size f y o =
+            let e = more roots entries size f (s .sa) (record { opening = o; stands = along-announces f y }) in
+            let u = eight-wider roots entries size f (w .passed ++ (s .sa ∷ [])) (sasFrom g (at + r .end))
+            (eight-more roots entries size f (w .passed) (s .sa) e) in
+            subst (SomeEight roots entries size f) (all-next ∙ ap (gather saOf) (sym (y .policies))) u
+
+        pub along-none : Says IsUnopened → Along (at + r .end) true sas count
+        along-none more =
             let n = length-append (w .passed) (s .sa ∷ []) in
             record {
               inside = p .inside;
               rest = p .others;
+              places = w .places;
               passed = w .passed ++ (s .sa ∷ []);
-              all-are =
-                  append-assoc (w .passed) (s .sa ∷ []) (sasFrom g (at + r .end))
-                  ∙ ap (λ (l : List GroupSaPolicy). w .passed ++ l) (sym (s .first)) ∙ w .all-are;
+              all-are = all-next;
               few = omega (arith, w .few);
               known = λ roots entries size f y o.
-                  more roots entries size f (w .passed) (s .sa) (record { opening = o; stands = along-announces f y })
-                  (w .known roots entries size f y o);
+                  unopened-more roots entries size f (w .passed) (s .sa) nine sas count (w .known roots entries size f y o)
+                  (more roots entries size f (s .sa) (record { opening = o; stands = along-announces f y }));
+            }
+
+        pub along-sa : (sa : Sa) → count < limits .sas → Says (IsSa sa) → Along (at + r .end) nine (set sas count sa) (count + 1)
+        along-sa sa h more =
+            let n = length-append (w .passed) (s .sa ∷ []) in
+            let e = w .places in
+            record {
+              inside = p .inside;
+              rest = p .others;
+              places = length-set sas count sa ∙ e;
+              passed = w .passed ++ (s .sa ∷ []);
+              all-are = all-next;
+              few = omega (arith, w .few);
+              known = λ roots entries size f y o.
+                  sa-more roots entries size f (w .passed) (s .sa) nine sas count (w .known roots entries size f y o) sa (omega arith)
+                  (more roots entries size f (s .sa) (record { opening = o; stands = along-announces f y }));
             }

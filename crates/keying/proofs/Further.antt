@@ -3,7 +3,7 @@ use native.Mathlib.Omega.{arith}
 use native.Mathlib.Numerals.{add-one}
 use Prim.Native.Nat.{ℕ, _+_, _<_}
 use mathlib.Core.Path.{_≡_, refl, ap, sym, _∙_, subst}
-use mathlib.Core.Bool.{Bool, true, false, false≢true}
+use mathlib.Core.Bool.{Bool, true, false}
 use mathlib.Core.Logic.{⊎-elim}
 use mathlib.Core.List.{List, [], _∷_, _++_, Memᴰ·append-left, Memᴰ·append-right, List·Memᴰ·append-cases, List·Memᴰ·eq-of-singleton}
 use lib.ListN.{length, take, set, length-append}
@@ -18,16 +18,9 @@ use Rattle.outcome.specs.Roots.{announcedAs}
 use Rattle.outcome.specs.After.{saFrom, Enter, no-sa, one-more}
 use Rattle.chains.proofs.Members.{in-member, member-in}
 use Rattle.outcome.proofs.Members.{in-head}
-use Rattle.keying.specs.inner.Keyed.{SomeEight, NoEight, SomeUnopened, KeysOf, KeysIn}
+use Rattle.keying.specs.inner.Keyed.{foundBy, SomeEight, NoEight, SomeUnopened, KeysOf}
 use Rattle.keying.specs.inner.Policies.{IsEight, IsUnopened, IsSa}
-use Rattle.keying.specs.declared.joining.Found.{Found}
-use Rattle.keying.specs.declared.joining.Found.the-variants.{Eight, Nine, Keys}
-use Rattle.keying.specs.declared.joining.Keyed.{Keyed}
-
-abbrev pub isKeys : Found → Bool
-isKeys Eight = false
-isKeys Nine = false
-isKeys Keys = true
+use Rattle.keying.specs.declared.joining.Found.the-variants.{Nine}
 
 module _ (roots : List Root) (entries : List WrapKey) (size : ℕ) (f : Frame) where
   -- ---- policies among more policies
@@ -64,39 +57,29 @@ module _ (roots : List Root) (entries : List WrapKey) (size : ℕ) (f : Frame) w
 
   -- ---- by what was found
   module _ (l : List GroupSaPolicy) (a : GroupSaPolicy) where
-    stays-by : (g : Found) (sas : List Sa) (n : ℕ) → isKeys g ≡ false → (CopiesEight roots entries size (announcedAs f a) → ⊥) →
-        KeysOf roots entries size f l g sas n → KeysOf roots entries size f (l ++ (a ∷ [])) g sas n
-    stays-by Eight sas n d u k = eight-wider l (a ∷ []) k
-    stays-by Nine sas n d u k = (fit-further l a (k .0) u, unopened-wider l (a ∷ []) (k .1))
-    stays-by Keys sas n d u k = absurd (false≢true (sym d))
+    pub eight-more : IsEight roots entries size f a → SomeEight roots entries size f (l ++ (a ∷ []))
+    eight-more e = record { sa = a; stands = last-in l a; eight = e }
 
-    module _ (all : Keyed) (k : KeysIn roots entries size f l all) where
-      pub eight-more : IsEight roots entries size f a → SomeEight roots entries size f (l ++ (a ∷ []))
-      eight-more e = record { sa = a; stands = last-in l a; eight = e }
+    no-eight : (nine : Bool) (sas : List Sa) (n : ℕ) → KeysOf roots entries size f l (foundBy nine) sas n → NoEight roots entries size f l
+    no-eight true sas n k = k .0
+    no-eight false sas n k = k .0
 
-      pub stays : isKeys (all .found) ≡ false → (CopiesEight roots entries size (announcedAs f a) → ⊥) →
-          KeysIn roots entries size f (l ++ (a ∷ [])) all
-      stays d u = stays-by (all .found) (all .sas) (all .count) d u k
+    pub unopened-more : (nine : Bool) (sas : List Sa) (n : ℕ) → KeysOf roots entries size f l (foundBy nine) sas n →
+        IsUnopened roots entries size f a → KeysOf roots entries size f (l ++ (a ∷ [])) Nine sas n
+    unopened-more nine sas n k u =
+        (fit-further l a (no-eight nine sas n k) (unopened-fit a u), record { sa = a; stands = last-in l a; none = u })
 
-      module _ (e : all .found ≡ Keys) where
-        keys : KeysOf roots entries size f l Keys (all .sas) (all .count)
-        keys = subst (λ (g : Found). KeysOf roots entries size f l g (all .sas) (all .count)) e k
-
-        pub unopened-more : (m : ℕ) → IsUnopened roots entries size f a →
-            KeysOf roots entries size f (l ++ (a ∷ [])) Nine (all .sas) m
-        unopened-more m u = (fit-further l a (keys .0) (unopened-fit a u), record { sa = a; stands = last-in l a; none = u })
-
-        pub sa-more : (sa : Sa) → all .count < length (all .sas) → IsSa sa roots entries size f a →
-            KeysOf roots entries size f (l ++ (a ∷ [])) Keys (set (all .sas) (all .count) sa) (all .count + 1)
-        sa-more sa h u =
-            let n = all .count in
-            let s = set (all .sas) n sa in
-            let t : take (n + 1) s ≡ take n (all .sas) ++ (saFrom a (u .x) ∷ []) =
-            ap (λ (i : ℕ). take i s) (add-one n) ∙ take-suc-set (all .sas) n sa h
-            ∙ ap (λ (x : Sa). take n (all .sas) ++ (x ∷ [])) (u .is) in
-            let c = length-append l (a ∷ []) in
-            let q = keys .2 in (
-              fit-further l a (keys .0) (u .fit),
-              subst (Enter roots entries size f (l ++ (a ∷ []))) (sym t) (enter-further a (u .x) (keys .1) (u .key)),
-              omega arith,
-            )
+    pub sa-more : (nine : Bool) (sas : List Sa) (n : ℕ) → KeysOf roots entries size f l (foundBy nine) sas n → (sa : Sa) →
+        n < length sas → IsSa sa roots entries size f a → KeysOf roots entries size f (l ++ (a ∷ [])) (foundBy nine) (set sas n sa) (n + 1)
+    sa-more true sas n k sa h u = (fit-further l a (k .0) (u .fit), unopened-wider l (a ∷ []) (k .1))
+    sa-more false sas n k sa h u =
+        let s = set sas n sa in
+        let t : take (n + 1) s ≡ take n sas ++ (saFrom a (u .x) ∷ []) =
+        ap (λ (i : ℕ). take i s) (add-one n) ∙ take-suc-set sas n sa h
+        ∙ ap (λ (x : Sa). take n sas ++ (x ∷ [])) (u .is) in
+        let c = length-append l (a ∷ []) in
+        let q = k .2 in (
+          fit-further l a (k .0) (u .fit),
+          subst (Enter roots entries size f (l ++ (a ∷ []))) (sym t) (enter-further a (u .x) (k .1) (u .key)),
+          omega arith,
+        )

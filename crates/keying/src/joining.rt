@@ -1,11 +1,14 @@
-// What is known of the keys of some SAs, and of one more.
+// What is known of the keys of all SAs, and of one.
 ghost use mathlib.Core.Path.{_≡_};
-ghost use Prim.Native.Nat.{_+_, _≤_, _<_};
+ghost use mathlib.Core.List.{List};
+ghost use Prim.Native.Nat.{ℕ, _+_};
 ghost use lib.ListN.{take};
-ghost use Rattle.keys.specs.Limits.{limits};
+ghost use Rattle.attributes.specs.Tree.{WrapKey};
 ghost use Rattle.policies.specs.Policy.{GroupSaPolicy};
+ghost use Rattle.frames.specs.Frame.{Frame};
+ghost use Rattle.chains.specs.Chain.{Root};
 ghost use Rattle.outcome.specs.After.{saFrom};
-ghost use Rattle.keying.specs.inner.Policies.{IsEight, IsUnopened, IsSa, Sized, Named, IsOpened, OneMore};
+ghost use Rattle.keying.specs.inner.Policies.{Sized, Named, IsOpened, IsOne};
 use contents::policy::ESP;
 use copies::answer::Opened;
 use keys::kinds::EspKey;
@@ -27,6 +30,20 @@ pub struct Keyed {
     pub count: usize,
 }
 
+// What the copies of one SA open to, and the SA where they give its key.
+pub struct One {
+    pub found: copies::answer::Found,
+    pub sa: Sa,
+}
+
+// An answer with no SA.
+fn one_without(found: copies::answer::Found) -> One
+    ensures { λ r. ⌜ r .found ≡ found ⌝ }
+{
+    let sa = Sa::blank();
+    One { found, sa }
+}
+
 // The SA that a policy with this protocol and SPI announces, whose keying octets are the first of these: as many as its transforms need,
 // and a Rekey SA's cut in two where they say.
 fn sa_from(protocol: usize, spi: &[u8], encryption: usize, wrapping: usize, octets: [u8; 68]) -> Sa
@@ -43,79 +60,23 @@ fn sa_from(protocol: usize, spi: &[u8], encryption: usize, wrapping: usize, octe
     Sa::rekey(spi, k.key)
 }
 
-// One more, of whose copies number 8 holds.
-fn with_eight(all: Keyed) -> Keyed
-    ensures { λ r. ⌜ OneMore IsEight all r × (r .count ≤ all .count) ⌝ }
-{
-    let sas = all.sas;
-    Keyed {
-        found: Found::Eight,
-        sas,
-        count: 0,
-    }
-}
-
-// One more, of whose copies none opens.
-fn with_none(all: Keyed) -> Keyed
-    ensures { λ r. ⌜ OneMore IsUnopened all r × (r .count ≤ all .count) ⌝ }
-{
-    let found = all.found;
-    match found {
-        Found::Eight => all,
-        Found::Nine => all,
-        Found::Keys => {
-            let sas = all.sas;
-            Keyed {
-                found: Found::Nine,
-                sas,
-                count: 0,
-            }
-        }
-    }
-}
-
-// One more, with its key.
-fn with_sa(all: Keyed, sa: Sa) -> Keyed
-    requires { ⌜ all .count < limits .sas ⌝ }
-    ensures { λ r. ⌜ OneMore (IsSa sa) all r × (r .count ≤ all .count + 1) ⌝ }
-{
-    let found = all.found;
-    match found {
-        Found::Eight => all,
-        Found::Nine => all,
-        Found::Keys => {
-            let n = all.count;
-            let mut sas = all.sas;
-            sas[n] = sa;
-            Keyed {
-                found: Found::Keys,
-                sas,
-                count: n + 1,
-            }
-        }
-    }
-}
-
-// One more, whose policy has this name and these needs, by what its copies open to. Internal.
-pub fn joined(
-    all: Keyed,
-    one: Opened,
-    protocol: usize,
-    spi: &[u8],
-    encryption: usize,
-    wrapping: usize,
-) -> Keyed
-    requires { ⌜ all .count < limits .sas ⌝ }
+// The SA of a policy with this name and these needs, by what its copies open to. Internal.
+pub fn one_sa(one: Opened, protocol: usize, spi: &[u8], encryption: usize, wrapping: usize) -> One
     requires { ⌜ Sized protocol (now spi) encryption wrapping ⌝ }
-    ensures { λ r. ⌜ OneMore (IsOpened protocol (now (spi .entry)) encryption wrapping one) all r × (r .count ≤ all .count + 1) ⌝ }
+    ensures { λ r. ⌜ ((roots : List Root) (entries : List WrapKey) (size : ℕ) (f : Frame) (a : GroupSaPolicy) →
+        IsOpened protocol (now (spi .entry)) encryption wrapping one roots entries size f a → IsOne r roots entries size f a) ⌝ }
 {
     let found = one.found;
     match found {
-        copies::answer::Found::Eight => with_eight(all),
-        copies::answer::Found::Nothing => with_none(all),
+        copies::answer::Found::Eight => one_without(copies::answer::Found::Eight),
+        copies::answer::Found::Nothing => one_without(copies::answer::Found::Nothing),
         copies::answer::Found::Key => {
             let octets = one.octets;
-            with_sa(all, sa_from(protocol, spi, encryption, wrapping, octets))
+            let sa = sa_from(protocol, spi, encryption, wrapping, octets);
+            One {
+                found: copies::answer::Found::Key,
+                sa,
+            }
         }
     }
 }

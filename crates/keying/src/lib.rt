@@ -6,9 +6,12 @@ use aes::expand_inverse;
 use aes::inverse_tables;
 use contents::policy::policy_parts;
 use copies::answer::Opened;
+use copies::lending::PLACE;
+use copies::lending::lend_keys;
 use joining::Found;
 use joining::Keyed;
-use joining::joined;
+use joining::One;
+use joining::one_sa;
 use keys::kinds::WrappingKey;
 use keys::limits::SAS;
 use sa::entry::Sa;
@@ -16,7 +19,7 @@ use state::held::Held;
 ghost use mathlib.Core.Path.{_≡_};
 ghost use mathlib.Core.Bool.{true};
 ghost use mathlib.Core.List.{List};
-ghost use Prim.Native.Nat.{ℕ, _+_, _≤_, _<_};
+ghost use Prim.Native.Nat.{ℕ, _≤_, _<_};
 ghost use lib.ListN.{length};
 ghost use Rattle.aes.specs.inner.Tables.{decipherTables};
 ghost use Rattle.aes.specs.inner.Schedule.{ExpandedInverse};
@@ -30,14 +33,16 @@ ghost use Rattle.keys.specs.Algorithms.{sizeOf};
 ghost use Rattle.keys.specs.Limits.{limits};
 ghost use Rattle.keys.specs.Lists.{count};
 ghost use Rattle.state.specs.Held.{heldFormed};
+ghost use Rattle.state.specs.declared.held.Held.{Held};
 ghost use Rattle.clauses.specs.Contents.{gather, groupBagOf, bagsOf};
 ghost use Rattle.clauses.specs.Number6.{bagNamed};
 ghost use Rattle.chains.specs.Chain.{Root};
 ghost use Rattle.copies.specs.inner.Known.{Agrees};
+ghost use Rattle.copies.specs.inner.Lending.{LendsHeld};
 ghost use Rattle.copies.specs.inner.Answer.{Answers};
 ghost use Rattle.outcome.specs.Roots.{needOf, announcedAs};
-ghost use Rattle.keying.specs.inner.Keyed.{Ready, KeyedBy};
-ghost use Rattle.keying.specs.inner.Policies.{isEight, Opening, Announces, IsAnnounced, OneMore};
+ghost use Rattle.keying.specs.inner.Keyed.{Ready, foundBy, KeyedBy};
+ghost use Rattle.keying.specs.inner.Policies.{Opening, Announces, IsAnnounced, IsOne};
 
 // What the copies of the SA with this name open to, those of its bag.
 fn opened(
@@ -47,16 +52,17 @@ fn opened(
     k: &[u8],
     tables: &[u32; 768],
     schedule: InverseSchedule,
-    held: Held,
+    ids: &[u32],
+    block: &[u8],
 ) -> Opened
     requires { ⌜ isWhole (bags 0 (now k)) ≡ true ⌝ }
     requires { ⌜ count (bagNamed protocol (now spi)) (gather groupBagOf (bagsIn (now k))) ≡ 1 ⌝ }
     requires { ⌜ need ≤ 68 ⌝ }
     requires { ⌜ (now tables ≡ decipherTables) × ExpandedInverse (schedule .words) ⌝ }
-    requires { ⌜ heldFormed limits held ≡ true ⌝ }
+    requires { ⌜ ((held : Held) × LendsHeld held (now ids) (now block)) ⌝ }
     ensures { λ r. ⌜ ((roots : List Root) (entries : List WrapKey) (size : ℕ) (f : Frame) (a : GroupSaPolicy) →
-        Opening (schedule .words) held roots entries size → bagsOf f ≡ bagsIn (now (k .entry)) → a .protocol ≡ protocol →
-        a .spi ≡ now (spi .entry) → needOf a ≡ need → Answers roots entries size (announcedAs f a) r) ⌝ }
+        Opening (schedule .words) (now (ids .entry)) (now (block .entry)) roots entries size → bagsOf f ≡ bagsIn (now (k .entry)) →
+        a .protocol ≡ protocol → a .spi ≡ now (spi .entry) → needOf a ≡ need → Answers roots entries size (announcedAs f a) r) ⌝ }
 {
     let s = pairing::stretch::bag_stretch(k, protocol, spi);
     let start = s.start;
@@ -67,65 +73,68 @@ fn opened(
         need,
         tables,
         schedule,
-        held,
+        ids,
+        block,
     )
 }
 
-// One more, whose policy has this name and holds x after its SPI.
+// The SA whose policy has this name and holds x after its SPI.
 fn with_policy(
-    all: Keyed,
     protocol: usize,
     spi: &[u8],
     x: &[u8],
     k: &[u8],
     tables: &[u32; 768],
     schedule: InverseSchedule,
-    held: Held,
-) -> Keyed
-    requires { ⌜ all .count < limits .sas ⌝ }
+    ids: &[u32],
+    block: &[u8],
+) -> One
     requires { ⌜ length (now x) < 65536 ⌝ }
     requires { ⌜ isWhole (bags 0 (now k)) ≡ true ⌝ }
     requires { ⌜ (now tables ≡ decipherTables) × ExpandedInverse (schedule .words) ⌝ }
-    requires { ⌜ heldFormed limits held ≡ true ⌝ }
+    requires { ⌜ ((held : Held) × LendsHeld held (now ids) (now block)) ⌝ }
     requires { ⌜ ((f : Frame) × (a : GroupSaPolicy) × Announces (now k) protocol (now spi) (now x) f a) ⌝ }
-    ensures { λ r. ⌜
-        OneMore (IsAnnounced (now (k .entry)) protocol (now (spi .entry)) (now (x .entry)) (schedule .words) held) all r
-        × (r .count ≤ all .count + 1)
-        ⌝ }
+    ensures { λ r. ⌜ ((roots : List Root) (entries : List WrapKey) (size : ℕ) (f : Frame) (a : GroupSaPolicy) →
+        IsAnnounced (now (k .entry)) protocol (now (spi .entry)) (now (x .entry)) (schedule .words) (now (ids .entry))
+        (now (block .entry)) roots entries size f a → IsOne r roots entries size f a) ⌝ }
 {
     let n = suites::needs(x);
     let e = n.encryption;
     let w = n.wrapping;
-    let one = opened(protocol, spi, e + w, k, tables, schedule, held);
-    joined(all, one, protocol, spi, e, w)
+    let one = opened(protocol, spi, e + w, k, tables, schedule, ids, block);
+    one_sa(one, protocol, spi, e, w)
 }
 
-// Whether number 8 was found.
-fn is_eight(found: Found) -> bool
-    ensures { λ r. ⌜ r ≡ isEight found ⌝ }
+// What is known of SAs none of which is number 8: whether none of the copies of some SA opens.
+fn found_by(nine: bool) -> Found
+    ensures { λ r. ⌜ r ≡ foundBy nine ⌝ }
 {
-    match found {
-        Found::Eight => true,
-        Found::Nine => false,
-        Found::Keys => false,
+    if nine {
+        return Found::Nine;
     }
+    Found::Keys
 }
 
-// The same as `keyed`, with the schedule of key 0.
-fn walked(g: &[u8], k: &[u8], tables: &[u32; 768], schedule: InverseSchedule, held: Held) -> Keyed
+// The same as `keyed`, with the schedule of key 0 and the held keys as they are lent.
+fn walked(
+    g: &[u8],
+    k: &[u8],
+    tables: &[u32; 768],
+    schedule: InverseSchedule,
+    ids: &[u32],
+    block: &[u8],
+) -> Keyed
     requires { ⌜ isWhole (policies 0 (now g)) ≡ true ⌝ }
     requires { ⌜ isWhole (bags 0 (now k)) ≡ true ⌝ }
     requires { ⌜ (now tables ≡ decipherTables) × ExpandedInverse (schedule .words) ⌝ }
-    requires { ⌜ heldFormed limits held ≡ true ⌝ }
+    requires { ⌜ ((held : Held) × LendsHeld held (now ids) (now block)) ⌝ }
     requires { ⌜ ((f : Frame) × Ready f (now g) (now k)) ⌝ }
     ensures { λ r. ⌜ ((roots : List Root) (entries : List WrapKey) (size : ℕ) (f : Frame) → Ready f (now (g .entry)) (now (k .entry)) →
-        Opening (schedule .words) held roots entries size → KeyedBy roots entries size f r) ⌝ }
+        Opening (schedule .words) (now (ids .entry)) (now (block .entry)) roots entries size → KeyedBy roots entries size f r) ⌝ }
 {
-    let mut all = Keyed {
-        found: Found::Keys,
-        sas: [Sa::blank(); SAS],
-        count: 0,
-    };
+    let mut nine = false;
+    let mut sas = [Sa::blank(); SAS];
+    let mut count: usize = 0;
     let mut at: usize = 0;
     while at < g.len() {
         let p = policy_parts(&g[at..]);
@@ -133,24 +142,39 @@ fn walked(g: &[u8], k: &[u8], tables: &[u32; 768], schedule: InverseSchedule, he
         let body = at + p.body;
         let end = at + p.end;
         if p.first != 0 {
-            all = with_policy(
-                all,
+            let one = with_policy(
                 p.first,
                 &g[name..body],
                 &g[body..end],
                 k,
                 tables,
                 schedule,
-                held,
+                ids,
+                block,
             );
-            let found = all.found;
-            if is_eight(found) {
-                return all;
+            let found = one.found;
+            match found {
+                copies::answer::Found::Eight => {
+                    return Keyed {
+                        found: Found::Eight,
+                        sas,
+                        count,
+                    };
+                }
+                copies::answer::Found::Nothing => {
+                    nine = true;
+                }
+                copies::answer::Found::Key => {
+                    let sa = one.sa;
+                    sas[count] = sa;
+                    count += 1;
+                }
             }
         }
         at = end;
     }
-    all
+    let found = found_by(nine);
+    Keyed { found, sas, count }
 }
 
 // What the copies of all SAs that a frame announces open to: `g` is its GSA body, `k` its KD body, `zero` key 0, and the other keys that a
@@ -164,8 +188,20 @@ pub fn keyed(g: &[u8], k: &[u8], zero: WrappingKey, held: Held) -> Keyed
     ensures { λ r. ⌜ ((roots : List Root) (entries : List WrapKey) (size : ℕ) (f : Frame) → Ready f (now (g .entry)) (now (k .entry)) →
         Agrees roots entries size zero held → KeyedBy roots entries size f r) ⌝ }
 {
+    let lent = lend_keys(held);
+    let ids = lent.ids;
+    let block = lent.block;
+    let m = lent.count;
+    let e = PLACE * m;
     let octets = zero.octets;
     let n = zero.count;
     let tables = inverse_tables();
-    walked(g, k, &tables, expand_inverse(&tables, &octets[..n]), held)
+    walked(
+        g,
+        k,
+        &tables,
+        expand_inverse(&tables, &octets[..n]),
+        &ids[..m],
+        &block[..e],
+    )
 }

@@ -1,13 +1,15 @@
 -- Laws of decimal numbers and printed answers.
 use Prim.Native.Nat.{ℕ, zero, suc, _+_, _-_, _*_, _/_, _%_, _^_, _<_, _≤_}
 use mathlib.Core.Path.{_≡_, refl, ap, sym, subst, _∙_}
+use mathlib.Core.Bool.{Bool, cond}
 use mathlib.Core.List.{List, [], _∷_, _++_, append-assoc}
 use native.Mathlib.Omega.{arith}
 use native.Mathlib.Nat.{pow-suc}
 use lib.ListN.{length, getD, length-append, List·getD-append}
-use borrow.Author.Tests.{lt-ltb, le-ltb}
+use borrow.Author.Tests.{lt-ltb, le-ltb, eq-eqb, ne-eqb}
 use Rattle.lines.specs.Answer.{decimalUpTo, decimal, printed, answerText}
-use Rattle.lines.proofs.Cases.{by-less}
+use Rattle.lines.specs.inner.Room.{replyRoom}
+use Rattle.lines.proofs.Cases.{by-less, by-same}
 
 one-digit : (most n : ℕ) → n < 10 → decimalUpTo (suc most) n ≡ (48 + n) ∷ []
 unfolding decimalUpTo
@@ -38,10 +40,26 @@ module _ (n : ℕ) where
       more-digits n n h
       ∙ ap (λ (x : List ℕ). x ++ ((48 + n % 10) ∷ [])) (enough n (suc (n / 10)) (n / 10) (omega arith) (omega arith))
 
-pub answer-parts : (a b c : ℕ)
-    → (decimal a ++ (32 ∷ [])) ++ ((decimal b ++ (32 ∷ [])) ++ (decimal c ++ (10 ∷ []))) ≡ answerText a b c
-unfolding answerText printed
-answer-parts a b c = simp append-assoc
+-- the parts of an answer's text: four numbers on number 1, else three
+module _ (a b c d : ℕ) where
+  three-printed : (decimal a ++ (32 ∷ [])) ++ ((decimal b ++ (32 ∷ [])) ++ (decimal c ++ (10 ∷ []))) ≡ printed (a ∷ b ∷ c ∷ [])
+  unfolding printed
+  three-printed = simp append-assoc
+
+  four-printed : (decimal a ++ (32 ∷ [])) ++ ((decimal b ++ (32 ∷ [])) ++ ((decimal c ++ (32 ∷ [])) ++ (decimal d ++ (10 ∷ []))))
+      ≡ printed (a ∷ b ∷ c ∷ d ∷ [])
+  unfolding printed
+  four-printed = simp append-assoc
+
+  pub three-parts : (a ≡ 1 → ⊥) → (decimal a ++ (32 ∷ [])) ++ ((decimal b ++ (32 ∷ [])) ++ (decimal c ++ (10 ∷ []))) ≡ answerText a b c d
+  unfolding answerText
+  three-parts n = three-printed ∙ ap (λ (t : Bool). printed (a ∷ b ∷ c ∷ cond t (d ∷ []) [])) (sym (ne-eqb a 1 n))
+
+  pub four-parts : a ≡ 1
+      → (decimal a ++ (32 ∷ [])) ++ ((decimal b ++ (32 ∷ [])) ++ ((decimal c ++ (32 ∷ [])) ++ (decimal d ++ (10 ∷ []))))
+      ≡ answerText a b c d
+  unfolding answerText
+  four-parts e = four-printed ∙ ap (λ (t : Bool). printed (a ∷ b ∷ c ∷ cond t (d ∷ []) [])) (sym (eq-eqb a 1 e))
 
 -- a decimal text is read back
 unfoldable pub decimalFrom : ℕ → List ℕ → ℕ
@@ -92,12 +110,19 @@ decimal-short (suc k) n h =
     let m = r (omega arith) in
     omega arith)
 
--- an answer's text is at most 63 octets long
-pub answer-short : (a b c : ℕ) → a < 2 ^ 64 → b < 2 ^ 64 → c < 2 ^ 64 → length (answerText a b c) ≤ 63
-answer-short a b c p q r =
+-- there is room for any answer's text
+pub answer-short : (a b c d : ℕ) → a < 2 ^ 64 → b < 2 ^ 64 → c < 2 ^ 64 → d < 2 ^ 64 → length (answerText a b c d) ≤ replyRoom
+answer-short a b c d p q r t =
     let x = decimal-short 19 a (omega arith) in
     let y = decimal-short 19 b (omega arith) in
     let z = decimal-short 19 c (omega arith) in
-    let s = ap length (sym (answer-parts a b c)) in
+    let w = decimal-short 19 d (omega arith) in
+    by-same a 1
+    (λ h.
+    let s = ap length (sym (four-parts a b c d h)) in
     let e = simp length-append at s in
-    omega arith
+    omega arith)
+    (λ h.
+    let s = ap length (sym (three-parts a b c d h)) in
+    let e = simp length-append at s in
+    omega arith)

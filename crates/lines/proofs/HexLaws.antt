@@ -2,7 +2,7 @@
 use Prim.Native.Nat.{ℕ, _+_, _-_, _*_, _/_, _%_, _<_, _≤_}
 use mathlib.Core.Path.{_≡_, refl, ap, sym, subst, _∙_}
 use mathlib.Core.List.{List, [], _∷_}
-use mathlib.Core.Bool.{Bool, true, false, cond, _||_}
+use mathlib.Core.Bool.{Bool, true, false, cond, _&&_, _||_}
 use native.Mathlib.Omega.{arith}
 use lib.ListN.{length, getD, drop, length-drop, drop-of-length-le}
 use lib.Dec.{leb, eqb}
@@ -40,22 +40,10 @@ pub record Known (c : ℕ) (is : Bool) (v : ℕ) : Type 0 where
   pub value : valueOf c ≡ v
 
 module _ (c : ℕ) where
-  pub low : c < 48 → Known c false 0
-  low h =
-      let d = below 48 57 c h in
-      let l = below 97 102 c (omega arith) in
-      record { digit = digit-by c d l; value = value-by c d l }
-
   pub decimals : 48 ≤ c → c ≤ 57 → Known c true (c - 48)
   decimals h k =
       let d = inside 48 57 c h k in
       let l = below 97 102 c (omega arith) in
-      record { digit = digit-by c d l; value = value-by c d l }
-
-  pub between : 57 < c → c < 97 → Known c false 0
-  between h k =
-      let d = above 48 57 c h in
-      let l = below 97 102 c k in
       record { digit = digit-by c d l; value = value-by c d l }
 
   pub letters : 97 ≤ c → c ≤ 102 → Known c true (c - 87)
@@ -63,16 +51,6 @@ module _ (c : ℕ) where
       let d = above 48 57 c (omega arith) in
       let l = inside 97 102 c h k in
       record { digit = digit-by c d l; value = value-by c d l }
-
-  pub high : 102 < c → Known c false 0
-  high h =
-      let d = above 48 57 c (omega arith) in
-      let l = above 97 102 c h in
-      record { digit = digit-by c d l; value = value-by c d l }
-
-  -- from the first letter on, the last letter decides
-  pub from-letters : 97 ≤ c → isDigit c ≡ leb c 102
-  from-letters h = digit-by c (above 48 57 c (omega arith)) (rw (le-leb 97 c h))
 
 -- a value and its digit
 pub record Digit (v c : ℕ) : Type 0 where
@@ -117,19 +95,46 @@ of-digit c e = by-test (isDecimal c) decimal (λ d. by-test (isLetter c) letter 
     letter : isLetter c ≡ true → Digit (valueOf c) c
     letter l = let r = range 97 102 c l in from (c - 87) (87 + (c - 87)) (omega arith) (letter-digit (c - 87) (omega arith) (omega arith))
 
+-- what a digit counts, with no question which it is; another character counts nothing
+pub digit-value : (c : ℕ) → isDigit c ≡ true → c % 16 + 9 * (c / 64) ≡ valueOf c
+digit-value c e =
+    by-test (isDecimal c)
+    (λ d.
+    let r = range 48 57 c d in
+    let v : c % 16 + 9 * (c / 64) ≡ c - 48 = omega arith in v ∙ sym (decimals c (r .0) (r .1) .value))
+    (λ d.
+    by-test (isLetter c)
+    (λ l.
+    let r = range 97 102 c l in
+    let v : c % 16 + 9 * (c / 64) ≡ c - 87 = omega arith in v ∙ sym (letters c (r .0) (r .1) .value))
+    (λ l. true-not-false (isDigit c) e (digit-by c d l)))
+
+pub other-value : (c : ℕ) → isDigit c ≡ false → 0 ≡ valueOf c
+other-value c e =
+    by-test (isDecimal c) (λ d. true-not-false (isDigit c) (digit-by c d refl) e)
+    (λ d. by-test (isLetter c) (λ l. true-not-false (isDigit c) (digit-by c d l) e) (λ l. sym (value-by c d l)))
+
 -- the loops over text and octets, one step at a place
 module _ (text : List ℕ) (i : ℕ) where
-  pub digits-more : i < length text → isDigit (getD text i 0) ≡ true → areDigits (drop i text) ≡ areDigits (drop (i + 1) text)
+  -- so far all are digits or not; one character more; none is left
+  pub digits-more : (so-far one : Bool) → i < length text → one ≡ isDigit (getD text i 0) →
+      areDigits text ≡ (so-far && areDigits (drop i text)) → areDigits text ≡ ((so-far && one) && areDigits (drop (i + 1) text))
   unfolding areDigits
-  digits-more h e = rw (at-place text i h, e)
+  digits-more so-far one h e w =
+      w ∙ ap (λ (l : List ℕ). so-far && areDigits l) (at-place text i h)
+      ∙ ap (λ (b : Bool). so-far && (b && areDigits (drop (i + 1) text))) (sym e) ∙ by so-far
+    where
+      by : (b : Bool) → (b && (one && areDigits (drop (i + 1) text))) ≡ ((b && one) && areDigits (drop (i + 1) text))
+      by true = refl
+      by false = refl
 
-  pub digits-stop : i < length text → isDigit (getD text i 0) ≡ false → areDigits (drop i text) ≡ false
+  pub digits-end : (so-far : Bool) → length text ≤ i → (so-far && areDigits (drop i text)) ≡ so-far
   unfolding areDigits
-  digits-stop h e = rw (at-place text i h, e)
-
-  pub digits-end : length text ≤ i → areDigits (drop i text) ≡ true
-  unfolding areDigits
-  digits-end h = rw (drop-of-length-le text h)
+  digits-end so-far h = ap (λ (l : List ℕ). so-far && areDigits l) (drop-of-length-le text h) ∙ by so-far
+    where
+      by : (b : Bool) → (b && true) ≡ b
+      by true = refl
+      by false = refl
 
   pub written-more : i < length text
       → digitsOf (drop i text) ≡ digitOf (getD text i 0 / 16) ∷ digitOf (getD text i 0 % 16) ∷ digitsOf (drop (i + 1) text)

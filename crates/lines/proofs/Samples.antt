@@ -60,7 +60,7 @@ module _ {S : Type 0} (f : S → List ℕ → ℕ → List ℕ → Outcome S) wh
 
 -- a new member's answers to document 01's samples
 abbrev toy : ℕ → List ℕ → ℕ → List ℕ → Outcome ℕ
-toy member key tick octets = record { next = member; number = cond (ltb (length octets) 28) 1 2; sas = 0; held = 0 }
+toy member key tick octets = record { next = member; number = cond (ltb (length octets) 28) 1 2; sas = 0; held = 0; figure = 0 }
 
 -- document 01's input, and its line of a tick and a bare header, with no newline behind it
 abbrev input : List ℕ
@@ -70,14 +70,15 @@ input =
     ++ (text "0000000000000000000000000000000000000000002000000000000000000000001 c\n"
     ++ text "ffffffff0000000000000000000000000000000000200000000000000000001c"))
 
-sample : Transcript (graph toy) 0 input (text "1 0 0\nbad\nbad\nbad\n2 0 0\n")
+sample : Transcript (graph toy) 0 input (text "1 0 0 0\nbad\nbad\nbad\n2 0 0\n")
 unfolding isDigit valueOf areDigits isHex octetsOfHex numberFrom lines isTaken keyOf askedBy
     decimalUpTo decimal printed answerText later
-sample = computed toy 0 input (text "1 0 0\nbad\nbad\nbad\n2 0 0\n") refl
+sample = computed toy 0 input (text "1 0 0 0\nbad\nbad\nbad\n2 0 0\n") refl
 
--- counts the frames, and tells the tick and the sizes of key and frame
+-- counts the frames, and tells the tick and the sizes of key and frame; its figure is a number of two digits
 abbrev tell : ℕ → List ℕ → ℕ → List ℕ → Outcome ℕ
-tell member key tick octets = record { next = member + 1; number = length octets; sas = tick; held = length key + 100 * member }
+tell member key tick octets =
+    record { next = member + 1; number = length octets; sas = tick; held = length key + 100 * member; figure = 47 }
 
 pub record Sample : Type 0 where
   pub input : String
@@ -94,7 +95,7 @@ table =
     ∷ record { input = "\n00000000"; output = "0 0 0\n" }
     ∷ record { input = "\n00000000\n"; output = "0 0 0\n" }
     ∷ record { input = "\n00000000\n\n"; output = "0 0 0\nbad\n" }
-    ∷ record { input = "00\n00000100ab\n0000000\n000000000\nffffffff0000"; output = "1 256 1\nbad\nbad\n2 4294967295 101\n" }
+    ∷ record { input = "00\n00000100ab\n0000000\n000000000\nffffffff0000"; output = "1 256 1 47\nbad\nbad\n2 4294967295 101\n" }
     ∷ record { input = "0\n00000000"; output = "0 0 0\n" }
     ∷ record { input = "0g\n00000000"; output = "0 0 0\n" }
     ∷ record { input = "0A\n00000000\n"; output = "0 0 0\n" }

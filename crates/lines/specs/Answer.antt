@@ -1,9 +1,10 @@
--- What is printed for a line. Document 01, the member program: "Each line after the first prints number, SA count, held count", as in
--- `1 0 0`, or "bad": decimal numbers with one space between two, and a newline.
+-- What is printed for a line. Document 01, the member program: "Each line after the first prints number, SA count, held count", or "bad":
+-- decimal numbers with one space between two, and a newline. Document 02, T-06: "Document 01's table gains that figure, the program prints
+-- it as a fourth number on number 1 only", as in `1 0 0 0`.
 use Prim.Native.Nat.{ℕ, zero, suc, _+_, _/_, _%_}
 use mathlib.Core.List.{List, [], _∷_, _++_}
 use mathlib.Core.Bool.{cond}
-use lib.Dec.{ltb}
+use lib.Dec.{ltb, eqb}
 
 -- the decimal digits of n, the highest first, no 0 before them; n has at most n + 1 digits
 unfoldable pub decimalUpTo : ℕ → ℕ → List ℕ
@@ -21,8 +22,8 @@ printed [] = 10 ∷ []
 printed (n ∷ []) = decimal n ++ (10 ∷ [])
 printed (n ∷ m ∷ ns) = decimal n ++ (32 ∷ printed (m ∷ ns))
 
-unfoldable pub answerText : ℕ → ℕ → ℕ → List ℕ
-answerText number sas held = printed (number ∷ sas ∷ held ∷ [])
+unfoldable pub answerText : ℕ → ℕ → ℕ → ℕ → List ℕ
+answerText number sas held figure = printed (number ∷ sas ∷ held ∷ cond (eqb number 1) (figure ∷ []) [])
 
 -- the characters of "bad", and a newline
 abbrev pub badText : List ℕ

@@ -12,6 +12,7 @@ pub record Outcome (S : Type 0) : Type 0 where
   pub number : ℕ
   pub sas : ℕ
   pub held : ℕ
+  pub figure : ℕ
 
 -- the next member, and the printed text
 pub record Reply (S : Type 0) : Type 0 where
@@ -23,7 +24,7 @@ abbrev pub Step : Type 0 → Type 1
 Step S = S → List ℕ → ℕ → List ℕ → Outcome S → Type 0
 
 abbrev pub told : {S : Type 0} → Outcome S → Reply S
-told o = record { next = o .next; text = answerText (o .number) (o .sas) (o .held) }
+told o = record { next = o .next; text = answerText (o .number) (o .sas) (o .held) (o .figure) }
 
 module _ {S : Type 0} (step : Step S) where
   -- a bad line leaves the member as it was

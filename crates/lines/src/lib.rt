@@ -20,37 +20,19 @@ pub fn put(room: &mut [u8], at: usize, octet: u8) -> usize
     at
 }
 
-// Whether a character is a hexadecimal digit.
+// Whether a character is a hexadecimal digit. No branch hangs on it: the digits of a frame come in no order that a processor foresees.
 fn is_digit(c: u8) -> bool
     ensures { λ r. ⌜ r ≡ isDigit c ⌝ }
 {
-    if c < 48 {
-        return false;
-    }
-    if c <= 57 {
-        return true;
-    }
-    if c < 97 {
-        return false;
-    }
-    c <= 102
+    ((48 <= c) & (c <= 57)) | ((97 <= c) & (c <= 102))
 }
 
-// What a hexadecimal digit counts; 0 for another character.
+// What a hexadecimal digit counts; 0 for another character. The characters 0 to 9 are 48 to 57, a to f are 97 to 102.
 fn value_of(c: u8) -> u8
     ensures { λ r. ⌜ (r ≡ valueOf c) × (r < 16) ⌝ }
 {
-    if c < 48 {
-        return 0;
-    }
-    if c <= 57 {
-        return c - 48;
-    }
-    if c < 97 {
-        return 0;
-    }
-    if c <= 102 {
-        return c - 87;
+    if is_digit(c) {
+        return c % 16 + 9 * (c / 64);
     }
     0
 }
@@ -66,18 +48,18 @@ fn digit_of(v: u8) -> u8
     87 + v
 }
 
+// Whether every character is a digit. It goes to the end in any case: a test of each character costs more than the rest of a bad line.
 fn are_digits(text: &[u8]) -> bool
     ensures { λ r. ⌜ r ≡ areDigits (now (text .entry)) ⌝ }
 {
+    let mut so_far = true;
     let mut i = 0;
     while i < text.len() {
-        if is_digit(text[i]) {
-            i += 1;
-        } else {
-            return false;
-        }
+        let one = is_digit(text[i]);
+        so_far = so_far & one;
+        i += 1;
     }
-    true
+    so_far
 }
 
 // Whether a text is hexadecimal: digits alone, and an even count of them. Internal.
@@ -226,6 +208,9 @@ pub fn later_line(line: &[u8], room: &mut [u8]) -> Request
     Request::Bad
 }
 
+// Octets enough for the text of any answer: four numbers of at most 20 digits, with a mark behind each.
+pub const REPLY_ROOM: usize = 84;
+
 // A number in decimal, into lent room from a place on; the place behind it. Internal.
 pub fn put_number(room: &mut [u8], at: usize, n: usize) -> usize
     ensures { λ r. ⌜ Put (now (room .entry)) at (decimal n) (now (room .exit)) r ⌝ }
@@ -245,12 +230,23 @@ fn put_field(room: &mut [u8], at: usize, n: usize, mark: u8) -> usize
     put(room, last, mark)
 }
 
-// The text of an answer, into lent room from a place on; the place behind it. Internal.
-pub fn put_answer(room: &mut [u8], at: usize, number: usize, sas: usize, held: usize) -> usize
-    ensures { λ r. ⌜ Put (now (room .entry)) at (answerText number sas held) (now (room .exit)) r ⌝ }
+// The text of an answer, into lent room from a place on; the place behind it. On number 1 the figure is its fourth number. Internal.
+pub fn put_answer(
+    room: &mut [u8],
+    at: usize,
+    number: usize,
+    sas: usize,
+    held: usize,
+    figure: usize,
+) -> usize
+    ensures { λ r. ⌜ Put (now (room .entry)) at (answerText number sas held figure) (now (room .exit)) r ⌝ }
 {
     let second = put_field(room, at, number, 32);
     let third = put_field(room, second, sas, 32);
+    if number == 1 {
+        let fourth = put_field(room, third, held, 32);
+        return put_field(room, fourth, figure, 10);
+    }
     put_field(room, third, held, 10)
 }
 

@@ -8,6 +8,7 @@ use lib.ListN.{length, take, drop}
 use lib.Seq.{take-all}
 use Rattle.octets.specs.Walk.{part}
 use Rattle.lines.specs.inner.Reading.{DefaultKey, awaited, given, Reading, Reads, Kept}
+use Rattle.lines.specs.inner.Room.{replyRoom}
 use Rattle.lines.specs.declared.Key.{Key}
 use Rattle.lines.proofs.ReadingLaws.{reads-append}
 use Rattle.lines.proofs.ProgramLaws.{part-join}
@@ -94,10 +95,10 @@ module _ {block : List ℕ} {from : ℕ} {line₀ room₀ out₀ : List ℕ} {r 
       }
 
   -- it ends at the block's end, or for want of room
-  pub passing-end : (length block ≤ at) ⊎ (length out - x .at < 63) → from < length block → Room out₀ r → from < at
+  pub passing-end : (length block ≤ at) ⊎ (length out - x .at < replyRoom) → from < length block → Room out₀ r → from < at
   passing-end e h k = go (p .moved) e
     where
-      go : (from < at) ⊎ ((at ≡ from) × (x .at ≡ r .at)) → (length block ≤ at) ⊎ (length out - x .at < 63) → from < at
+      go : (from < at) ⊎ ((at ≡ from) × (x .at ≡ r .at)) → (length block ≤ at) ⊎ (length out - x .at < replyRoom) → from < at
       go (inl m) e = m
       go (inr m) (inl e) = absurd (omega arith)
       go (inr m) (inr e) = absurd (omega (arith, p .out-same))
@@ -163,7 +164,8 @@ module _ (r : Running) (h : Handed) (out : List ℕ) (e : Progress) (f : Flushed
         place = omega (arith, p .place, left .place);
       }
 
-pub emptied-flushed : {r : Running} {h : Handed} {out : List ℕ} {e : Progress} → Emptied r h out e → 63 ≤ length out → Flushed r h out e
+pub emptied-flushed : {r : Running} {h : Handed} {out : List ℕ} {e : Progress} → Emptied r h out e → replyRoom ≤ length out →
+    Flushed r h out e
 emptied-flushed p n =
     record {
       member = p .member;

@@ -5,7 +5,7 @@ use mathlib.Core.List.{List}
 use Rattle.lines.specs.Transcript.{Outcome}
 use Rattle.lines.proofs.OneTranscript.{transcript-one}
 use Rattle.group.specs.Member.{newMember}
-use Rattle.group.specs.Receive.{numberOf}
+use Rattle.group.specs.Receive.{numberOf, figureOf}
 use Rattle.group.specs.declared.Member.{Member}
 use Rattle.group.proofs.ReceiveLaws.{receives-one}
 use Rattle.member.specs.Program.{Answers, Prints}
@@ -17,7 +17,8 @@ answers-one m key tick octets o p a b =
     let n : o .number ≡ p .number = a .number ∙ ap numberOf (e .0) ∙ sym (b .number) in
     let s : o .sas ≡ p .sas = a .sas ∙ ap (λ (x : Member). x .state .table .count) (e .1) ∙ sym (b .sas) in
     let h : o .held ≡ p .held = a .held ∙ ap (λ (x : Member). x .state .held .count) (e .1) ∙ sym (b .held) in
-    λ i. record { next = e .1 i; number = n i; sas = s i; held = h i }
+    let f : o .figure ≡ p .figure = a .figure ∙ ap figureOf (e .0) ∙ sym (b .figure) in
+    λ i. record { next = e .1 i; number = n i; sas = s i; held = h i; figure = f i }
 
 pub prints-one : (input s t : List ℕ) → Prints input s → Prints input t → s ≡ t
 prints-one input s t p q = transcript-one Answers answers-one newMember input s t p q

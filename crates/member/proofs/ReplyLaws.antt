@@ -7,28 +7,29 @@ use native.Mathlib.Omega.{arith}
 use lib.ListN.{length, take}
 use Rattle.lines.specs.Answer.{answerText, badText}
 use Rattle.lines.specs.Transcript.{Replies}
-use Rattle.lines.specs.inner.Room.{Put}
+use Rattle.lines.specs.inner.Room.{replyRoom, Put}
 use Rattle.lines.specs.inner.Calls.{Asks}
 use Rattle.lines.specs.declared.Key.{Key}
 use Rattle.lines.specs.declared.Request.the-variants as request
 use Rattle.lines.proofs.AnswerLaws.{answer-short}
 use Rattle.lines.proofs.CallLaws.{reply-bad, reply-frame, key-short, given-length}
 use Rattle.lines.proofs.RoomLaws.{length-put, put-as}
-use Rattle.group.specs.Receive.{numberOf, Receives}
+use Rattle.group.specs.Receive.{numberOf, figureOf, Receives}
 use Rattle.group.specs.declared.Member.{Member}
 use Rattle.group.specs.declared.receive.Answer.{Answer}
 use Rattle.member.specs.Program.{Answers}
 use Rattle.member.specs.inner.Reply.{keyIn, LaterLine, Answered, Received}
 use Rattle.member.specs.declared.running.Running.{Running}
 
--- the text of a reply is short, and the number in it as it was computed
-module _ (n : ℕ) (a : Answer) (sas held : ℕ) (e : n ≡ numberOf a) where
-  pub told-is : {out after : List ℕ} {at next : ℕ} → Put out at (answerText n sas held) after next
-      → Put out at (answerText (numberOf a) sas held) after next
-  told-is p = put-as (ap (λ (k : ℕ). answerText k sas held) e) p
+-- the text of a reply is short, and the number and the figure in it as they were computed
+module _ (n : ℕ) (a : Answer) (sas held o : ℕ) (e : n ≡ numberOf a) (f : o ≡ figureOf a) where
+  pub told-is : {out after : List ℕ} {at next : ℕ} → Put out at (answerText n sas held o) after next
+      → Put out at (answerText (numberOf a) sas held (figureOf a)) after next
+  told-is p = put-as (λ i. answerText (e i) sas held (f i)) p
 
-  pub told-short : n < 2 ^ 64 → sas < 2 ^ 64 → held < 2 ^ 64 → length (answerText (numberOf a) sas held) ≤ 63
-  told-short h k l = answer-short (numberOf a) sas held (omega arith) k l
+  pub told-short : n < 2 ^ 64 → sas < 2 ^ 64 → held < 2 ^ 64 → o < 2 ^ 64
+      → length (answerText (numberOf a) sas held (figureOf a)) ≤ replyRoom
+  told-short h k l m = answer-short (numberOf a) sas held (figureOf a) (omega arith) k l (omega arith)
 
 -- the program's place after a later line
 abbrev pub placed : Running → Member → ℕ → Running
@@ -37,14 +38,20 @@ placed r next at = record { member = next; key = r .key; keyed = r .keyed; len =
 module _ (r : Running) {out after : List ℕ} where
   pub received-is : {at : ℕ} (tick : ℕ) (octets : List ℕ) (a : Answer) (next : Member)
       → Receives (r .member) tick (keyIn (r .key)) octets a next
-      → Put out (r .at) (answerText (numberOf a) (next .state .table .count) (next .state .held .count)) after at
-      → length (answerText (numberOf a) (next .state .table .count) (next .state .held .count)) ≤ 63
+      → Put out (r .at) (answerText (numberOf a) (next .state .table .count) (next .state .held .count) (figureOf a)) after at
+      → length (answerText (numberOf a) (next .state .table .count) (next .state .held .count) (figureOf a)) ≤ replyRoom
       → Received r tick octets out after (placed r next at)
   received-is tick octets a next p q h =
       record {
         outcome =
-            record { next = next; number = numberOf a; sas = next .state .table .count; held = next .state .held .count };
-        answers = record { answer = a; receives = p; number = refl; sas = refl; held = refl };
+            record {
+              next = next;
+              number = numberOf a;
+              sas = next .state .table .count;
+              held = next .state .held .count;
+              figure = figureOf a;
+            };
+        answers = record { answer = a; receives = p; number = refl; sas = refl; held = refl; figure = refl };
         next = refl;
         put = q;
         short = h;
@@ -70,7 +77,7 @@ module _ (r : Running) {out after : List ℕ} where
       → 16384 ≤ length room → Received r tick (take len room′) out after e → LaterLine r line out after e
   later-frame line e p h q =
       let o = q .outcome in
-      let text = answerText (o .number) (o .sas) (o .held) in
+      let text = answerText (o .number) (o .sas) (o .held) (o .figure) in
       record {
         text = text;
         replies =

@@ -5,18 +5,19 @@ use mathlib.Core.Path.{_≡_}
 use mathlib.Core.List.{List}
 use Rattle.lines.specs.Transcript.{Outcome, Transcript}
 use Rattle.group.specs.Member.{newMember}
-use Rattle.group.specs.Receive.{numberOf, Receives}
+use Rattle.group.specs.Receive.{numberOf, figureOf, Receives}
 use Rattle.group.specs.declared.Member.{Member}
 use Rattle.group.specs.declared.receive.Answer.{Answer}
 
 -- "Each line after the first prints number, SA count, held count": the number of the member's answer to the frame, and the counts of the
--- member that it leaves
+-- member that it leaves; on number 1 the figure that the answer carries
 pub record Answers (m : Member) (key : List ℕ) (tick : ℕ) (octets : List ℕ) (o : Outcome Member) : Type 0 where
   pub answer : Answer
   pub receives : Receives m tick key octets answer (o .next)
   pub number : o .number ≡ numberOf answer
   pub sas : o .sas ≡ o .next .state .table .count
   pub held : o .held ≡ o .next .state .held .count
+  pub figure : o .figure ≡ figureOf answer
 
 -- what the program prints for its whole input, from a new member on
 abbrev pub Prints : List ℕ → List ℕ → Type 0

@@ -5,11 +5,13 @@ mod running;
 
 ghost use Prim.Native.Nat.{_<_, _≤_};
 ghost use lib.ListN.{length};
+ghost use Rattle.lines.specs.inner.Room.{replyRoom};
 ghost use Rattle.member.specs.inner.Standing.{Ready, Room};
 ghost use Rattle.member.specs.inner.Printed.{Emptied, Flushed, Consumed, Ended};
 ghost use Rattle.member.specs.inner.Turns.{TurnsLeft};
 ghost use Rattle.member.specs.Run.{Runs};
 use input::Taken;
+use lines::REPLY_ROOM;
 use output::Handed;
 use running::Running;
 
@@ -50,11 +52,11 @@ fn emptied(r: Running, handed: Handed, out: &[u8]) -> Progress
 // Hands the output over where there is little room left in it.
 fn flushed(r: Running, handed: Handed, out: &[u8]) -> Progress
     requires { ⌜ r .at ≤ length (now out) ⌝ }
-    requires { ⌜ 63 ≤ length (now out) ⌝ }
+    requires { ⌜ replyRoom ≤ length (now out) ⌝ }
     ensures { λ e. ⌜ Flushed r handed (now (out .entry)) e ⌝ }
 {
     let at = r.at;
-    if 63 <= out.len() - at {
+    if REPLY_ROOM <= out.len() - at {
         return Progress { running: r, handed };
     }
     emptied(r, handed, out)
@@ -117,7 +119,7 @@ fn turns_left(turns: u64, taken: Taken, handed: Handed) -> u64
 fn run(line: &mut [u8], room: &mut [u8], out: &mut [u8], block: &mut [u8]) -> Ran
     requires { ⌜ 32776 < length (now line) ⌝ }
     requires { ⌜ 16384 ≤ length (now room) ⌝ }
-    requires { ⌜ 63 ≤ length (now out) ⌝ }
+    requires { ⌜ replyRoom ≤ length (now out) ⌝ }
     requires { ⌜ 0 < length (now block) ⌝ }
     ensures { λ r. ⌜ Runs r ⌝ }
 {

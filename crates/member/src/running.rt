@@ -5,8 +5,8 @@ ghost use mathlib.Core.List.{List, _++_};
 ghost use lib.ListN.{length, take};
 ghost use Rattle.lines.specs.Answer.{answerText};
 ghost use Rattle.lines.specs.inner.Reading.{Reading, Finishes};
-ghost use Rattle.lines.specs.inner.Room.{Put};
-ghost use Rattle.group.specs.Receive.{numberOf};
+ghost use Rattle.lines.specs.inner.Room.{replyRoom, Put};
+ghost use Rattle.group.specs.Receive.{numberOf, figureOf};
 ghost use Rattle.group.specs.declared.Member.{Member};
 ghost use Rattle.member.specs.Program.{Answers};
 ghost use Rattle.member.specs.inner.Reply.{Answered, FirstLine, LaterLine, Received};
@@ -14,6 +14,7 @@ ghost use Rattle.member.specs.inner.Standing.{Ready, Room, Stands, Start
 use group::Member;
 use group::receive::Answer;
 use lines::Key;
+use lines::REPLY_ROOM;
 use lines::Request;
 
 // The member; the default key, and whether the first line gave it yet; how many characters of the line that has begun are held; the place
@@ -58,10 +59,12 @@ fn first_line(r: Running, line: &[u8]) -> Running
 
 // The reply to a frame, into the output at a place; the place behind it.
 fn told(out: &mut [u8], at: usize, a: Answer, sas: usize, held: usize) -> usize
-    ensures { λ r. ⌜ Put (now (out .entry)) at (answerText (numberOf a) sas held) (now (out .exit)) r ⌝ }
-    ensures { λ r. ⌜ length (answerText (numberOf a) sas held) ≤ 63 ⌝ }
+    ensures { λ r. ⌜ Put (now (out .entry)) at (answerText (numberOf a) sas held (figureOf a)) (now (out .exit)) r ⌝ }
+    ensures { λ r. ⌜ length (answerText (numberOf a) sas held (figureOf a)) ≤ replyRoom ⌝ }
 {
-    lines::put_answer(out, at, a.number(), sas, held)
+    let number = a.number();
+    let figure = a.figure();
+    lines::put_answer(out, at, number, sas, held, figure)
 }
 
 // A frame is received, and the reply to it put into the output.
@@ -180,7 +183,7 @@ pub(crate) fn through(
 {
     let mut x = r;
     let mut at = from;
-    while at < block.len() && 63 <= out.len() - x.at {
+    while at < block.len() && REPLY_ROOM <= out.len() - x.at {
         let p = advanced(x, block, at, line, room, out);
         let running = p.running;
         x = running;

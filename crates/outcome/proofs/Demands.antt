@@ -38,9 +38,9 @@ use Rattle.outcome.specs.Demand3.{Copy, Standing, Entered}
 use Rattle.outcome.proofs.Enters.{enters-live, enters-cut, Stayed}
 use Rattle.outcome.proofs.Answering.{accepts}
 use Rattle.outcome.proofs.RunsClear.{none-applies}
-use Rattle.outcome.specs.NamedKey.{Registration, lentRoot}
-use Rattle.outcome.proofs.Rows.{registration-row, rekeys, one-of-three, no-wrap-key}
-use Rattle.outcome.proofs.Rows.{lent-roots, lent-size}
+use Rattle.outcome.specs.NamedKey.{Registration, Rekey, lentRoot}
+use Rattle.outcome.proofs.Rows.{registration-row, rekeys, rekey-bars, rekey-keeps, one-of-four, no-wrap-key}
+use Rattle.outcome.proofs.Rows.{registration-lent, lent-roots, lent-size}
 use Rattle.outcome.proofs.NotRead.{same-outcome}
 use Rattle.outcome.specs.NamedKey.{OpensUnder}
 use Rattle.outcome.proofs.NamedKey.{to-under, under-to}
@@ -96,20 +96,21 @@ module _ (limits : Limits) (s : State) (now : ℕ) (lent octets : List ℕ) wher
         let r = registration-row f registration in
         let h = registration-sets (rowOf f .registers) _ _ (ap (λ (x : Exchange). x .registers) r) (a .1 .held) in
         let none = entries-fit limits s now lent f (accepts limits s now lent f (a .0) .no-eight) in
-        subst (λ (l : List Root). HeldExactly l (wrapKeysOf f) (length lent) (next .held)) (lent-roots limits s now f r lent)
-        (subst (λ (n : ℕ). HeldExactly (rootsOf limits s now lent f) (wrapKeysOf f) n (next .held)) (lent-size limits s now f r lent)
+        let l = registration-lent f r in
+        subst (λ (l : List Root). HeldExactly l (wrapKeysOf f) (length lent) (next .held)) (lent-roots limits s now f l lent)
+        (subst (λ (n : ℕ). HeldExactly (rootsOf limits s now lent f) (wrapKeysOf f) n (next .held)) (lent-size limits s now f l lent)
         (held-exactly (rootsOf limits s now lent f) (entriesOf f) (wrappingSize limits s now lent f) none limits (next .held) h))
 
     -- ---- what opens a copy
     pub passes-2-and-4 : (Meets limits s now lent octets 2 → ⊥) → (Meets limits s now lent octets 4 → ⊥) →
-        Registration f ⊎ ((f .header .exchange ≡ 41) × (wrapKeysOf f ≡ []))
+        Registration f ⊎ (Rekey f × (wrapKeysOf f ≡ []))
     unfolding four-ofFrame
     passes-2-and-4 no-2 no-4 =
         let x = f .header .exchange in
         let n = none-applies (two limits s now x (f .header .spi)) (λ h. no-2 (meets-2 f e h)) in
         let m = none-applies (four f) (λ h. no-4 (meets-4 f e h)) in
-        ⊎-elim inl (λ r. inr (r, no-wrap-key f r (no-clause (four-ofFrame f) 1 (m .ofFrame))))
-        (one-of-three f (not-false (rowOf f .admitted) (no-clause (two-ofFrame x) 0 (n .ofFrame))))
+        ⊎-elim inl (λ r. inr (r, no-wrap-key f (rekey-bars f r) (no-clause (four-ofFrame f) 1 (m .ofFrame))))
+        (one-of-four f (not-false (rowOf f .admitted) (no-clause (two-ofFrame x) 0 (n .ofFrame))))
 
     -- NO CONFUSION OF KEYS: "A group's key and a tree key are both attribute 1 with the same layout, and their wrapped forms can be equally
     -- long." What a copy of an announced SA's key opens to comes from an SA_KEY of a Group Key Bag with its own protocol and SPI, opened
@@ -199,15 +200,11 @@ module _ (limits : Limits) (s : State) (now : ℕ) (lent octets : List ℕ) wher
                 (⊎-elim (λ x. inl (entered-by Q P from accepted-to f b x)) inr m),
           )
 
-      -- a rekey leaves the held list; the least Message ID (Rest.antt gives its cases)
-      pub rest-after : (f .header .exchange ≡ 41 → next .held ≡ s .held) × (next .least ≡ leastAfterwards s f)
+      -- a rekey leaves the held list, over the Rekey SA or the member's own channel; the least Message ID (Rest.antt gives its cases)
+      pub rest-after : (Rekey f → next .held ≡ s .held) × (next .least ≡ leastAfterwards s f)
       rest-after =
-          let a = whole-accepted limits s now lent octets f e next o .1 in (
-            λ r.
-                rekey-leaves (rowOf f .registers) _ _ (ap (λ (x : Exchange). x .registers) (rekeys (f .header .exchange) r))
-                (a .held),
-            a .least,
-          )
+          let a = whole-accepted limits s now lent octets f e next o .1 in
+          (λ r. rekey-leaves (rowOf f .registers) _ _ (rekey-keeps f r) (a .held), a .least)
 
     -- "as document 01 enters it": live, and a Rekey SA with the octet counts of its policy's two parts, "44 is 20 + 24 and 28 + 16"
     pub entered-live : (b : Sa) → Entered limits s now lent f b → isLive (b .condition) ≡ true

@@ -17,10 +17,10 @@ use Rattle.chains.specs.Refusals as refusals
 use Rattle.chains.proofs.Determined.{last-entry}
 use Rattle.outcome.specs.Roots.{rootsOf, entriesOf, wrappingSize, announcedAs, announcedKeys}
 use Rattle.outcome.specs.Answer.{EightOf}
-use Rattle.outcome.specs.NamedKey.{Registration, Given, OpensUnder}
+use Rattle.outcome.specs.NamedKey.{Registration, Rekey, Given, OpensUnder}
 use Rattle.outcome.specs.EightSays.{EightSays, key-of-wrong-size, key-of-two-values, sa-of-wrong-size, sa-of-two-values}
 use Rattle.outcome.specs.Meets.{Meets, meets-8}
-use Rattle.outcome.proofs.Rows.{registration-row, lent-size}
+use Rattle.outcome.proofs.Rows.{registration-row, registration-lent, lent-size}
 use Rattle.outcome.proofs.Meets.{eight-met}
 use Rattle.outcome.proofs.Demands.{passes-2-and-4}
 use Rattle.outcome.proofs.Members.{not-in-none, in-map, map-in}
@@ -37,7 +37,7 @@ module _ (limits : Limits) (s : State) (now : ℕ) (lent : List ℕ) (f : Frame)
   size = wrappingSize limits s now lent f
 
   -- what numbers 2 and 4 let pass: registrations, and rekeys with no WRAP_KEY
-  module _ (fit : Registration f ⊎ ((f .header .exchange ≡ 41) × (wrapKeysOf f ≡ []))) where
+  module _ (fit : Registration f ⊎ (Rekey f × (wrapKeysOf f ≡ []))) where
     -- a rekey reaches nothing
     reached-registers : (k : ℕ) (x : List ℕ) → Reached roots (entriesOf f) size k x → Registration f
     reached-registers k x r =
@@ -48,7 +48,7 @@ module _ (limits : Limits) (s : State) (now : ℕ) (lent : List ℕ) (f : Frame)
     gives k x r = to-lent limits s now lent f (reached-registers k x r) k x r
 
     size-is : Registration f → size ≡ length lent
-    size-is g = lent-size limits s now f (registration-row f g) lent
+    size-is g = lent-size limits s now f (registration-lent f (registration-row f g)) lent
 
     of-entries-says : EntriesEight roots (entriesOf f) size → Says
     of-entries-says (refusals.wrong-size k x r d) =

@@ -12,6 +12,7 @@ pub mod NotRead
 pub mod NamedKey
 pub mod Demands
 pub mod EightSays
+pub mod Wider
 pub mod Determined
 pub mod RunsLists
 pub mod WrapsItself
@@ -33,6 +34,8 @@ pub mod AtTick
 pub mod RunsLive
 pub mod RunsReplay
 pub mod NeverDue
+pub mod InbandBeside
+pub mod Inband
 pub mod KeyZero
 pub mod Demand3
 pub mod Stands

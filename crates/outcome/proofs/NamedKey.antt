@@ -16,8 +16,9 @@ use Rattle.clauses.specs.Contents.{rowOf, wrapKeysOf}
 use Rattle.chains.specs.Chain.{In, Root, root, Reached, Ends}
 use Rattle.chains.proofs.Determined.{ends-by, last-entry}
 use Rattle.outcome.specs.Roots.{ownKey, keyZero, heldRoot, rootsOf, entriesOf, wrappingSize}
-use Rattle.outcome.specs.NamedKey.{Registration, lentRoot, Given, Named, lent-key, own-key, last-of-chain, held-key, OpensUnder}
-use Rattle.outcome.proofs.Rows.{names-held, registration-row, rekeys, lent-roots, lent-size}
+use Rattle.outcome.specs.NamedKey.{Registration, Inband, Rekey, lentRoot, Given, Named, lent-key, lent-in-band, own-key, last-of-chain}
+use Rattle.outcome.specs.NamedKey.{held-key, OpensUnder}
+use Rattle.outcome.proofs.Rows.{names-held, registration-row, rekeys, inband-row, registration-lent, lent-roots, lent-size}
 use Rattle.outcome.proofs.Members.{in-head, in-tail, in-cases, not-in-none, in-map, map-in}
 use Rattle.outcome.proofs.Bags.{copy-own, own-copy}
 use Rattle.outcome.proofs.Accepting.{OpensTo}
@@ -51,6 +52,10 @@ module _ (limits : Limits) (s : State) (now : ℕ) (lent : List ℕ) (f : Frame)
   unfolding keyZero
   zero-lent g = rw (registration-row f g)
 
+  zero-in-band : Inband f → keyZero limits s now lent f ≡ lent
+  unfolding keyZero
+  zero-in-band g = rw (inband-row f g)
+
   pub zero-own : f .header .exchange ≡ 41 → keyZero limits s now lent f ≡ ownKey limits s now
   unfolding keyZero
   zero-own x = rw (rekeys (f .header .exchange) x)
@@ -74,19 +79,20 @@ module _ (limits : Limits) (s : State) (now : ℕ) (lent : List ℕ) (f : Frame)
   pub from-lent : Registration f → (k : ℕ) (v : List ℕ) → Given lent f k v →
       Reached roots (entriesOf f) size k v
   from-lent g k v r =
-      let row = registration-row f g in
+      let row = registration-lent f (registration-row f g) in
       subst (λ (l : List Root). Reached l (entriesOf f) size k v) (sym (lent-roots limits s now f row lent))
       (subst (λ (n : ℕ). Reached (lentRoot lent) (entriesOf f) n k v) (sym (lent-size limits s now f row lent)) r)
 
   pub to-lent : Registration f → (k : ℕ) (v : List ℕ) → Reached roots (entriesOf f) size k v →
       Given lent f k v
   to-lent g k v r =
-      let row = registration-row f g in
+      let row = registration-lent f (registration-row f g) in
       subst (λ (l : List Root). Reached l (entriesOf f) (length lent) k v) (lent-roots limits s now f row lent)
       (subst (λ (n : ℕ). Reached roots (entriesOf f) n k v) (lent-size limits s now f row lent) r)
 
   pub named-ends : (k : ℕ) (v : List ℕ) → Names k v → Ends roots (entriesOf f) size k v
   named-ends k v (lent-key g e d) = at-root zero-root zero-in k v e (d ∙ sym (zero-lent g))
+  named-ends k v (lent-in-band x e d) = at-root zero-root zero-in k v e (d ∙ sym (zero-in-band x))
   named-ends k v (own-key x e d) = at-root zero-root zero-in k v e (d ∙ sym (zero-own x))
   named-ends k v (last-of-chain g c) = let r = from-lent g k v c in record { passed = r .last ∷ r .before; chain = r .chain }
   named-ends k v (held-key e h m q d) =
@@ -103,10 +109,12 @@ module _ (limits : Limits) (s : State) (now : ℕ) (lent : List ℕ) (f : Frame)
       }
 
   -- numbers 2 and 4 let pass registrations, and rekeys with no WRAP_KEY: of these nothing else opens a copy
-  module _ (fit : Registration f ⊎ ((f .header .exchange ≡ 41) × (wrapKeysOf f ≡ []))) where
+  module _ (fit : Registration f ⊎ (Rekey f × (wrapKeysOf f ≡ []))) where
     -- the roots by their meaning
     zero-named : (k : ℕ) (v : List ℕ) → k ≡ 0 → v ≡ keyZero limits s now lent f → Names k v
-    zero-named k v e d = ⊎-elim (λ g. lent-key g e (d ∙ zero-lent g)) (λ q. own-key (q .0) e (d ∙ zero-own (q .0))) fit
+    zero-named k v e d =
+        ⊎-elim (λ g. lent-key g e (d ∙ zero-lent g))
+        (λ q. ⊎-elim (λ x. own-key x e (d ∙ zero-own x)) (λ x. lent-in-band x e (d ∙ zero-in-band x)) (q .0)) fit
 
     root-named : (r : Root) → In r roots → Names (r .id) (r .value)
     unfolding rootsOf

@@ -17,7 +17,7 @@ use Rattle.policies.specs.Policy.{GroupSaPolicy, GroupWidePolicy}
 use Rattle.frames.specs.Delete.{Delete}
 use Rattle.frames.specs.Frame.{Frame}
 use Rattle.frames.specs.Grammar.{IsFrame}
-use Rattle.frames.specs.Exchange.{registration, rekey}
+use Rattle.frames.specs.Exchange.{registration, rekey, inband}
 use Rattle.frames.specs.declared.exchanges.Exchange.{Exchange}
 use Rattle.sa.specs.Entry.{spiOf, withCondition}
 use Rattle.sa.specs.declared.entry.Condition.the-variants.{Retiring}
@@ -39,9 +39,9 @@ use Rattle.chains.proofs.Members.{in-member, member-in}
 use Rattle.outcome.specs.After.{delayOf, newRekey, isZero, namedInDelete, replaced, retires, oldSa, initialMessageId, leastBy}
 use Rattle.outcome.specs.After.{leastAfterwards}
 use Rattle.outcome.specs.Outcome.{Outcome}
-use Rattle.outcome.proofs.Rows.{registration-row, rekeys, one-of-three}
+use Rattle.outcome.proofs.Rows.{registration-row, rekeys, inband-row, one-of-four}
 use Rattle.outcome.specs.RestSays.{NewRekey, NoNewRekey, LeastAs, its-initial-id, else-0, of-registration, own-plus-1}
-use Rattle.outcome.specs.RestSays.{none-any-more, DelayAs, given, none-in-it, no-group-wide, Ends, by-its-spi, by-spi-0}
+use Rattle.outcome.specs.RestSays.{none-any-more, as-before, DelayAs, given, none-in-it, no-group-wide, Ends, by-its-spi, by-spi-0}
 use Rattle.outcome.specs.RestSays.{by-new-rekey, Becomes, kept, turned, OldSa}
 use Rattle.outcome.proofs.Members.{in-head, in-cases, not-in-none}
 use Rattle.outcome.proofs.Enters.{Stayed}
@@ -114,7 +114,7 @@ module _ (limits : Limits) (s : State) (now : ℕ) (lent octets : List ℕ) (f :
         leastBy (rowOf f .least) (f .header .messageId) (s .least) ≡ leastBy (x .least) (f .header .messageId) (s .least)
     least-row x q = ap (λ (y : Exchange). leastBy (y .least) (f .header .messageId) (s .least)) q
 
-    as-least : (l : Least) → LeastAs f l → leastAfterwards s f ≡ l
+    as-least : (l : Least) → LeastAs f (s .least) l → leastAfterwards s f ≡ l
     unfolding leastAfterwards
     as-least _ (its-initial-id p n i q) = rw (new-any p n) (ap Id (initial-of p n ∙ of-one (p .initialMessageIds) i q))
     as-least _ (else-0 p n q) = rw (new-any p n) (ap Id (initial-of p n ∙ of-none (p .initialMessageIds) q))
@@ -123,11 +123,12 @@ module _ (limits : Limits) (s : State) (now : ℕ) (lent octets : List ℕ) (f :
         rw (no-new n) (least-row rekey (rekeys (f .header .exchange) x) ∙ sym (after-more (f .header .messageId) h))
     as-least _ (none-any-more n x h) =
         rw (no-new n) (least-row rekey (rekeys (f .header .exchange) x) ∙ sym (after-last (f .header .messageId) h))
+    as-least _ (as-before n x) = rw (no-new n) (least-row inband (inband-row f x))
 
-    settled : (l : Least) → LeastAs f l → LeastAs f (leastAfterwards s f)
-    settled l a = subst (LeastAs f) (sym (as-least l a)) a
+    settled : (l : Least) → LeastAs f (s .least) l → LeastAs f (s .least) (leastAfterwards s f)
+    settled l a = subst (LeastAs f (s .least)) (sym (as-least l a)) a
 
-    least-as : LeastAs f (leastAfterwards s f)
+    least-as : LeastAs f (s .least) (leastAfterwards s f)
     least-as =
         let i = f .header .messageId in
         bool-cases (newRekey f)
@@ -138,10 +139,13 @@ module _ (limits : Limits) (s : State) (now : ℕ) (lent octets : List ℕ) (f :
         (at-most-one (p .initialMessageIds) (one-initial p (n .stands))))
         (λ g.
         ⊎-elim (λ r. settled (Id 0) (of-registration (not-new g) r))
+        (λ k.
+        ⊎-elim
         (λ x.
         lt-cases i 4294967295 (λ h. settled (Id (i + 1)) (own-plus-1 (not-new g) x h))
         (λ h. settled NoneAnyMore (none-any-more (not-new g) x h)))
-        (one-of-three f admitted))
+        (λ x. settled (s .least) (as-before (not-new g) x)) k)
+        (one-of-four f admitted))
 
     -- ---- the delay
     the-wide : (w v : GroupWidePolicy) → In w (groupWides f) → groupWides f ≡ v ∷ [] → w ≡ v
@@ -269,10 +273,10 @@ module _ (limits : Limits) (s : State) (now : ℕ) (lent octets : List ℕ) (f :
     was-taken = taken limits s now lent octets f next e o
 
     -- "With a new Rekey SA the least Message ID is its GSA_INITIAL_MESSAGE_ID, else 0; without one, a registration sets 0 and a rekey sets
-    -- it to its own plus 1, or "none any more" after 4,294,967,295."
-    pub least-after : (l : Least) → (next .least ≡ l) ↔ LeastAs f l
+    -- it to its own plus 1, or "none any more" after 4,294,967,295." In GSA_INBAND_REKEY it "changes only if a new Rekey SA comes" (T-02).
+    pub least-after : (l : Least) → (next .least ≡ l) ↔ LeastAs f (s .least) l
     least-after l = (
-      λ q. subst (LeastAs f) (sym (was-taken .after .least) ∙ q) (least-as (was-taken .is-clear)),
+      λ q. subst (LeastAs f (s .least)) (sym (was-taken .after .least) ∙ q) (least-as (was-taken .is-clear)),
       λ a. was-taken .after .least ∙ as-least (was-taken .is-clear) l a,
     )
 

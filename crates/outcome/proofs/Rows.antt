@@ -1,5 +1,5 @@
--- What an exchange's row makes of the keys that chains start with: in a registration the lent default key alone, in a rekey the live Rekey
--- SA's default key and the held keys, with the lent key not read.
+-- What an exchange's row makes of the keys that chains start with: in a registration, and in a rekey over the member's own channel, the
+-- lent default key alone; in a rekey over the Rekey SA its default key and the held keys, with the lent key not read.
 use native.Mathlib.Omega.{arith}
 use Prim.Native.Nat.{ℕ, suc}
 use mathlib.Core.Path.{_≡_, refl, ap}
@@ -10,7 +10,9 @@ use borrow.Author.Tests.{ltb-false}
 use lib.ListN.{length}
 use Rattle.keys.specs.Limits.{Limits}
 use Rattle.frames.specs.Frame.{Frame}
-use Rattle.frames.specs.Exchange.{exchangeOf, registration, rekey}
+use Rattle.frames.specs.Exchange.{exchangeOf, registration, rekey, inband}
+use Rattle.frames.specs.declared.exchanges.Exchange.{Exchange}
+use Rattle.frames.specs.declared.exchanges.KeyZero.the-variants as zero
 use Rattle.state.specs.declared.State.{State}
 use Rattle.state.specs.Held.{keysOf}
 use Rattle.bags.specs.Bag.{MemberKeyBag}
@@ -19,17 +21,19 @@ use Rattle.clauses.specs.Number4.{barredMemberBag}
 use Rattle.clauses.specs.Number5.{lentKeySize}
 use Rattle.clauses.proofs.ExchangeRows.{by-row}
 use Rattle.outcome.specs.Roots.{ownKey, keyZero, heldRoot, rootsOf, wrappingSize}
-use Rattle.outcome.specs.NamedKey.{Registration, lentRoot}
+use Rattle.outcome.specs.NamedKey.{Registration, Inband, Rekey, lentRoot}
 
 -- an exchange that sets the held list is a registration
 pub registers : (x : ℕ) → exchangeOf x .registers ≡ true → exchangeOf x ≡ registration
 registers x e =
-    by-row (exchangeOf x ≡ registration) x (λ q r. r) (λ q r. absurd (false≢true (rw r at e))) (λ r. absurd (false≢true (rw r at e)))
+    by-row (exchangeOf x ≡ registration) x (λ q r. r) (λ q r. absurd (false≢true (rw r at e))) (λ q r. absurd (false≢true (rw r at e)))
+    (λ r. absurd (false≢true (rw r at e)))
 
--- one in which held keys open copies is a rekey
+-- one in which held keys open copies is a rekey over the Rekey SA
 pub names-held : (x : ℕ) → exchangeOf x .recalls ≡ true → x ≡ 41
 names-held x e =
-    by-row (x ≡ 41) x (λ q r. absurd (false≢true (rw r at e))) (λ q r. q) (λ r. absurd (false≢true (rw r at e)))
+    by-row (x ≡ 41) x (λ q r. absurd (false≢true (rw r at e))) (λ q r. q) (λ q r. absurd (false≢true (rw r at e)))
+    (λ r. absurd (false≢true (rw r at e)))
 
 pub registration-row : (f : Frame) → Registration f → rowOf f ≡ registration
 registration-row f (inl e) = ap exchangeOf e
@@ -39,32 +43,56 @@ registration-row f (inr e) = ap exchangeOf e
 pub rekeys : (x : ℕ) → x ≡ 41 → exchangeOf x ≡ rekey
 rekeys x e = ap exchangeOf e
 
--- an exchange that number 2 lets pass is one of the three
-pub one-of-three : (f : Frame) → rowOf f .admitted ≡ true → Registration f ⊎ (f .header .exchange ≡ 41)
-one-of-three f e =
-    by-row (Registration f ⊎ (f .header .exchange ≡ 41)) (f .header .exchange) (λ q r. inl q) (λ q r. inr q)
+-- GSA_INBAND_REKEY: exchange type 42
+pub inband-row : (f : Frame) → Inband f → rowOf f ≡ inband
+inband-row f e = ap exchangeOf e
+
+-- a rekey of either kind takes no Member bag and leaves the held list
+pub rekey-bars : (f : Frame) → Rekey f → rowOf f .members ≡ false
+rekey-bars f (inl e) = ap (λ (x : Exchange). x .members) (rekeys (f .header .exchange) e)
+rekey-bars f (inr e) = ap (λ (x : Exchange). x .members) (inband-row f e)
+
+pub rekey-keeps : (f : Frame) → Rekey f → rowOf f .registers ≡ false
+rekey-keeps f (inl e) = ap (λ (x : Exchange). x .registers) (rekeys (f .header .exchange) e)
+rekey-keeps f (inr e) = ap (λ (x : Exchange). x .registers) (inband-row f e)
+
+-- an exchange that number 2 lets pass is one of the four
+pub one-of-four : (f : Frame) → rowOf f .admitted ≡ true → Registration f ⊎ Rekey f
+one-of-four f e =
+    by-row (Registration f ⊎ Rekey f) (f .header .exchange) (λ q r. inl q) (λ q r. inr (inl q)) (λ q r. inr (inr q))
     (λ r. absurd (false≢true (rw r at e)))
 
--- "Member bag in a rekey": a rekey that passes number 4 has no WRAP_KEY
-pub no-wrap-key : (f : Frame) → f .header .exchange ≡ 41 → barredMemberBag f ≡ false → wrapKeysOf f ≡ []
+-- "Member bag in a rekey", over the Rekey SA or the member's own channel: one that passes number 4 has no WRAP_KEY
+pub no-wrap-key : (f : Frame) → rowOf f .members ≡ false → barredMemberBag f ≡ false → wrapKeysOf f ≡ []
 unfolding barredMemberBag gather
 no-wrap-key f x e =
-    let g : some (memberBags f) ≡ false = rw (rekeys (f .header .exchange) x) at e in
+    let g : some (memberBags f) ≡ false = rw x at e in
     none-gathered (memberBags f) g
   where
     none-gathered : (l : List MemberKeyBag) → some l ≡ false → gather (λ (b : MemberKeyBag). b .keys) l ≡ []
     none-gathered [] q = refl
     none-gathered (b ∷ l) q = let h = ltb-false 0 (suc (length l)) q in absurd (omega arith)
 
+-- of a registration, and of a rekey over the member's own channel: key 0 is the lent key, and no held key is named
+pub record FromLent (x : Exchange) : Type 0 where
+  pub zero-is : x .zero ≡ zero.Lent
+  pub none-held : x .recalls ≡ false
+
+pub registration-lent : (f : Frame) → rowOf f ≡ registration → FromLent (rowOf f)
+registration-lent f e = record { zero-is = ap (λ (x : Exchange). x .zero) e; none-held = ap (λ (x : Exchange). x .recalls) e }
+
+pub inband-lent : (f : Frame) → rowOf f ≡ inband → FromLent (rowOf f)
+inband-lent f e = record { zero-is = ap (λ (x : Exchange). x .zero) e; none-held = ap (λ (x : Exchange). x .recalls) e }
+
 module _ (limits : Limits) (s : State) (now : ℕ) (f : Frame) where
-  module _ (e : rowOf f ≡ registration) where
+  module _ (l : FromLent (rowOf f)) where
     pub lent-roots : (lent : List ℕ) → rootsOf limits s now lent f ≡ lentRoot lent
     unfolding rootsOf keyZero
-    lent-roots lent = rw e
+    lent-roots lent = rw (l .zero-is, l .none-held)
 
     pub lent-size : (lent : List ℕ) → wrappingSize limits s now lent f ≡ length lent
     unfolding wrappingSize keyZero
-    lent-size lent = rw e
+    lent-size lent = rw (l .zero-is)
 
   module _ (e : rowOf f ≡ rekey) where
     pub own-roots : (lent : List ℕ) →

@@ -1,5 +1,5 @@
 -- What becomes of a live Rekey SA when a frame is accepted: one that stands at the tick stays live, unless the frame announces a Rekey SA;
--- a registration that announces none leaves none. Nothing here says that a live SA is never due (that is `NeverDue`).
+-- a registration that announces none leaves none; where none was live, a frame that announces none makes none live. Nothing here says that a live SA is never due (that is `NeverDue`).
 use native.Mathlib.Omega.{arith}
 use Prim.Native.Nat.{ℕ}
 use mathlib.Core.Path.{_≡_, refl, ap, sym, _∙_, subst}
@@ -42,7 +42,7 @@ use Rattle.outcome.proofs.RunsLists.{some-passes, passes-some}
 use Rattle.outcome.proofs.RunsClear.{None, Clear}
 use Rattle.outcome.proofs.RunsMade.{made-any, made-count}
 use Rattle.outcome.proofs.RunsTable.{any-all}
-use Rattle.outcome.proofs.RunsOld.{old-live, swept-sas}
+use Rattle.outcome.proofs.RunsOld.{old-live, not-revived, swept-sas}
 use Rattle.outcome.proofs.RunsAccepted.{all-made, new-name}
 
 pub over-parts : (x : List ℕ) (a : Sa) → overLiveRekey x a ≡ true → (liveRekey a ≡ true) × (named entry.rekey x a ≡ true)
@@ -156,12 +156,28 @@ module _ (limits : Limits) (s : State) (now : ℕ) (lent : List ℕ) (f : Frame)
         let d = all-pass (due now) (sasOf (s .table)) (all-due r) (o .old) (in-member (o .old) (sasOf (s .table)) (o .stood)) in
         absurd (false≢true (sym (o .not-due) ∙ d)))
 
-    -- so no Rekey SA is live after one that announces none
-    pub registered-none : (octets : List ℕ) → IsFrame octets f → rowOf f ≡ registration → NoneLive next
-    registered-none octets e r =
-        let made = all-made limits s now lent f c octets e (a .new) (a .enter) in
-        let none = count-none liveRekey (a .new) (made-count made ∙ none-count isRekey (announced f) n) in
-        next-any liveRekey ∙ rw (none, none-old r)
+    none-revived : NoneLive s → any liveRekey (oldSas s now f) ≡ false
+    none-revived none =
+        passes-none liveRekey (oldSas s now f)
+        (λ b m.
+        let o = old-stayed s now f b (member-in b (oldSas s now f) m) in
+        let stood = in-member (o .old) (sasOf (s .table)) (o .stood) in
+        ap liveRekey (o .is) ∙ not-revived now f (o .old) (none-passes liveRekey (sasOf (s .table)) none (o .old) stood))
+
+    module _ (octets : List ℕ) (e : IsFrame octets f) where
+      none-next : any liveRekey (oldSas s now f) ≡ false → NoneLive next
+      none-next old =
+          let made = all-made limits s now lent f c octets e (a .new) (a .enter) in
+          let none = count-none liveRekey (a .new) (made-count made ∙ none-count isRekey (announced f) n) in
+          next-any liveRekey ∙ rw (none, old)
+
+      -- so no Rekey SA is live after one that announces none
+      pub registered-none : rowOf f ≡ registration → NoneLive next
+      registered-none r = none-next (none-old r)
+
+      -- and none is where none was, after any frame that announces none
+      pub kept-none : NoneLive s → NoneLive next
+      kept-none none = none-next (none-revived none)
 
   module _ (octets : List ℕ) (e : IsFrame octets f) (x : List ℕ) (l : StandsAt now x s) where
     -- no announced SA has the name of one that stands at the tick

@@ -51,6 +51,11 @@ module _ (now : ℕ) (f : Frame) where
       bool-cases (retires f a) (λ g. rw g (retired-rekey _ _ a))
       (λ g. rw g (still n a (or-right (namedInDelete f a) (replaced f a) g)))
 
+-- one that was not live is not live afterwards, whatever the frame does
+pub not-revived : (now : ℕ) (f : Frame) (a : Sa) → liveRekey a ≡ false → liveRekey (oldSa now f a) ≡ false
+unfolding retiredIf
+not-revived now f a e = bool-cases (retires f a) (λ g. rw g (retired-rekey _ _ a)) (λ g. rw g e)
+
 pub swept-sas : (limits : Limits) (s : State) (now : ℕ) → tableFormed limits (s .table) ≡ true →
     sasOf (swept limits now (s .table)) ≡ standing now s
 unfolding swept

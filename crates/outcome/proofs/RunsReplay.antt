@@ -1,5 +1,5 @@
 -- NO REPLAY: as long as no step leaves or brings a new Rekey SA, a Message ID that was accepted, or a lower one, is never accepted again;
--- after 4,294,967,295 none is. `NeverDue` has the same as long as the Rekey SA is live.
+-- after 4,294,967,295 none is. GSA_INBAND_REKEY may come between. `NeverDue` has the same as long as the Rekey SA is live.
 use native.Mathlib.Omega.{arith}
 use Prim.Native.Nat.{ℕ, _+_, _-_, _^_, _≤_}
 use mathlib.Core.Path.{_≡_, refl, ap, sym, _∙_, subst}
@@ -11,7 +11,7 @@ use Rattle.keys.specs.Limits.{Limits}
 use Rattle.keys.proofs.Cases.{bool-cases, lt-cases}
 use Rattle.frames.specs.Frame.{Frame}
 use Rattle.frames.specs.Grammar.{IsFrame}
-use Rattle.frames.specs.Exchange.{rekey, exchangeOf}
+use Rattle.frames.specs.Exchange.{rekey, inband, exchangeOf}
 use Rattle.frames.specs.declared.exchanges.Exchange.{Exchange}
 use Rattle.state.specs.declared.State.{State}
 use Rattle.state.specs.declared.least.Least.{Least}
@@ -27,7 +27,7 @@ use Rattle.outcome.specs.Run.{Step, Takes, answered, swept, left, Run, e
 use Rattle.clauses.proofs.Clear.{no-clause}
 use Rattle.clauses.proofs.ExchangeRows.{by-row}
 use Rattle.outcome.proofs.RunsClear.{Clear, clear, Taken, taken}
-use Rattle.outcome.proofs.RunsLive.{NoneLive, stands-live, passes-over, none-over, swept-none, accepted-live, registered-none}
+use Rattle.outcome.proofs.RunsLive.{NoneLive, stands-live, passes-over, none-over, swept-none, accepted-live, registered-none, kept-none}
 
 -- ---- the least Message ID is past i: neither i nor a lower one is acceptable
 abbrev pub Past : ℕ → Least → Type 0
@@ -70,6 +70,11 @@ module _ (limits : Limits) where
     unfolding leastAfterwards
     next-least next a r n = a .least ∙ rw n (ap (λ (x : Exchange). leastBy (x .least) (f .header .messageId) (s .least)) r)
 
+    -- an accepted frame of the member's own channel keeps the least, where it announced no Rekey SA
+    pub kept-least : (next : State) → After limits s now lent f next → rowOf f ≡ inband → newRekey f ≡ false → next .least ≡ s .least
+    unfolding leastAfterwards
+    kept-least next a r n = a .least ∙ rw n (ap (λ (x : Exchange). leastBy (x .least) (f .header .messageId) (s .least)) r)
+
   -- ---- what bars a Message ID: it is past, or there is no live Rekey SA. The second half is for a registration that announces no Rekey
   -- SA: it sets the least Message ID to 0
   abbrev pub Barred : ℕ → State → Type 0
@@ -88,6 +93,9 @@ module _ (limits : Limits) where
         ⊎-elim
         (λ p. inl (subst (Past i) (sym g) (past-on i (f .header .messageId) (s .least) p (taken-id s now lent f c k))))
         (λ none. absurd (none-over x s none (stands-live x s now (came-over s now lent f c k)))) b)
+        (λ q k.
+        ⊎-elim (λ p. inl (subst (Past i) (sym (kept-least s now lent f c next a k n)) p))
+        (λ none. inr (kept-none limits s now lent f c next a n octets e none)) b)
         (λ r.
         let k = not-false (rowOf f .admitted) (no-clause (two-ofFrame y) 0 (c .no-2 .ofFrame)) in
         absurd (false≢true (rw r at k)))

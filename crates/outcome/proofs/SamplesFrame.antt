@@ -70,10 +70,10 @@ module _ (r : Around) (now : ℕ) (w : List ℕ) (l : List WrapKey) where
       wrapKeyId wrapsItself six-ofFrame six-ofMember newState tableOf keep
   fresh-6 e d = record { ofFrame = rw (row-of (r .auth), eq-same (r .spi) (r .spi) refl, append-nil l, e, d); ofMember = refl }
 
-  pub fresh-7 : length l ≤ 32 → None (seven limits fresh now (registering r w l))
+  pub fresh-7 : length l ≤ limits .wrapKeys → None (seven limits fresh now (registering r w l))
   unfolding one any count gather manyEspPolicies manyWrapKeys manySaKeys manyDeletedSpis manySas seven-ofFrame seven-ofMember newState
       tableOf keep
-  fresh-7 h = record { ofFrame = rw (append-nil l, le-ltb 32 (length l) h); ofMember = refl }
+  fresh-7 h = record { ofFrame = rw (append-nil l, le-ltb (limits .wrapKeys) (length l) h); ofMember = refl }
 
 -- ---- the row on the lent key's size
 lent-28 : (r : Around) (lent w : List ℕ) (l : List WrapKey) → length lent ≡ 28 → one (five-ofFrame lent (registering r w l)) ≡ true

@@ -100,20 +100,21 @@ module _ (s : State) (now : ℕ) (x : List ℕ) (i : ℕ) (l : List (List ℕ)) 
       six-ofFrame six-ofMember
   no-6 = record { ofFrame = refl; ofMember = refl }
 
-  standing-few : stateFormed limits s ≡ true → length (standing now s) ≤ 16
+  standing-few : stateFormed limits s ≡ true → length (standing now s) ≤ limits .sas
   unfolding stateFormed
   standing-few e =
       let t = and-parts (tableFormed limits (s .table)) (heldFormed limits (s .held)) e .0 in
       fit-keep limits (stays now) (sasOf (s .table)) (formed-fit limits (s .table) t) .room
 
-  no-7 : stateFormed limits s ≡ true → length l ≤ 32 → None (seven limits s now (deleting x i l))
+  no-7 : stateFormed limits s ≡ true → length l ≤ limits .deletedSpis → None (seven limits s now (deleting x i l))
   unfolding one any count gather manyEspPolicies manyWrapKeys manySaKeys manyDeletedSpis manySas seven-ofFrame seven-ofMember
   no-7 e h =
       let k = standing-few e in
-      let n : length (l ++ []) ≤ 32 = subst (λ (y : List (List ℕ)). length y ≤ 32) (sym (append-nil l)) h in
+      let n : length (l ++ []) ≤ limits .deletedSpis =
+      subst (λ (y : List (List ℕ)). length y ≤ limits .deletedSpis) (sym (append-nil l)) h in
       record {
-        ofFrame = rw (le-ltb 32 (length (l ++ [])) n);
-        ofMember = rw (le-ltb 16 (length (standing now s) + 0) (omega arith));
+        ofFrame = rw (le-ltb (limits .deletedSpis) (length (l ++ [])) n);
+        ofMember = rw (le-ltb (limits .sas) (length (standing now s) + 0) (omega arith));
       }
 
   module _ (lent : List ℕ) (e : stateFormed limits s ≡ true) (k : StandsAt now x s) where
@@ -128,7 +129,7 @@ module _ (s : State) (now : ℕ) (x : List ℕ) (i : ℕ) (l : List (List ℕ)) 
     unfolding gather announcedKeys
     no-9 = none-nine (rootsOf limits s now lent f) (wrappingSize limits s now lent f)
 
-    clear-delete : 1 ≤ length l → length l ≤ 32 → acceptable i (s .least) ≡ true → Clear limits s now lent f
+    clear-delete : 1 ≤ length l → length l ≤ limits .deletedSpis → acceptable i (s .least) ≡ true → Clear limits s now lent f
     unfolding one notAcceptable
     clear-delete a b c = record {
       no-2 = over-live s now x e k;
@@ -150,7 +151,7 @@ module _ (s : State) (now : ℕ) (x : List ℕ) (i : ℕ) (l : List (List ℕ)) 
     after-delete = record { new = []; enter = no-sa; table = refl; held = refl; least = refl }
 
     -- taken; then the Rekey SA stands at every tick at which it is not due
-    module _ (octets : List ℕ) (g : IsFrame octets f) (a : 1 ≤ length l) (b : length l ≤ 32)
+    module _ (octets : List ℕ) (g : IsFrame octets f) (a : 1 ≤ length l) (b : length l ≤ limits .deletedSpis)
         (c : acceptable i (s .least) ≡ true) where
       pub delete-taken : Outcome limits s now lent octets 0 deleted
       delete-taken = outcome-0 limits s now lent octets f g (clear-delete a b c) deleted after-delete

@@ -66,7 +66,8 @@ module _ (r : Around) (now : ℕ) (lent w : List ℕ) (l : List WrapKey) where
 
 module _ (r : Around) (now : ℕ) (lent x octets : List ℕ) (l : List WrapKey) (key : Key lent) (keying : Keying x)
     (reads : IsFrame octets (registering r (wrapOf lent x) l))
-    (no-zero : any (λ (k : WrapKey). eqb (k .keyId) 0) l ≡ false) (no-self : any underItself l ≡ false) (few : length l ≤ 32) where
+    (no-zero : any (λ (k : WrapKey). eqb (k .keyId) 0) l ≡ false) (no-self : any underItself l ≡ false)
+    (few : length l ≤ limits .wrapKeys) where
   abbrev w : List ℕ
   w = wrapOf lent x
 

@@ -91,20 +91,21 @@ module _ (roots : List Root) (entries : List WrapKey) (size : ℕ) where
     pub each : (k : HeldKey) → In k keys → Holds k
     pub all : (i : ℕ) (x : List ℕ) → Value roots entries size i x → In (record { id = i; key = wrappingOf x }) keys
 
--- "A registration sets the held list as reached; a rekey leaves it."
+-- "A registration sets the held list as reached; a rekey leaves it."; in GSA_INBAND_REKEY "the held list stays" (T-02)
 abbrev pub HeldBy : Bool → Type 0 → Type 0 → Type 0
 HeldBy true Set Kept = Set
 HeldBy false Set Kept = Kept
 
 -- "With a new Rekey SA the least Message ID is its GSA_INITIAL_MESSAGE_ID, else 0; without one, a registration sets 0 and a rekey sets it
--- to its own plus 1, or none any more after 4,294,967,295."
+-- to its own plus 1, or none any more after 4,294,967,295." In GSA_INBAND_REKEY it "changes only if a new Rekey SA comes" (T-02).
 unfoldable pub initialMessageId : Frame → ℕ
 initialMessageId f = sum (λ (a : GroupSaPolicy). cond (isRekey a) (sum (λ (i : ℕ). i) (a .initialMessageIds)) 0) (announced f)
 
--- what an exchange with no new Rekey SA makes of the frame's Message ID and the least one of before; none of the three keeps that
+-- what an exchange with no new Rekey SA makes of the frame's Message ID and the least one of before
 abbrev pub leastBy : LeastAfter → ℕ → Least → Least
 leastBy leastAfter.Zero id before = Id 0
 leastBy leastAfter.OwnPlusOne id before = afterId id
+leastBy leastAfter.Kept id before = before
 
 unfoldable pub leastAfterwards : State → Frame → Least
 leastAfterwards s f = cond (newRekey f) (Id (initialMessageId f)) (leastBy (rowOf f .least) (f .header .messageId) (s .least))

@@ -23,7 +23,7 @@ use Rattle.clauses.specs.Contents.{announced, wrapKeysOf}
 use Rattle.chains.specs.Chain.{In, Root, Reached}
 use Rattle.outcome.specs.Roots.{needOf}
 use Rattle.outcome.specs.After.{saFrom}
-use Rattle.outcome.specs.NamedKey.{Registration, lentRoot, OpensUnder}
+use Rattle.outcome.specs.NamedKey.{Registration, Rekey, lentRoot, OpensUnder}
 use Rattle.outcome.specs.Meets.{Meets}
 use Rattle.outcome.specs.RestSays.{LeastAs, OldSa}
 
@@ -62,7 +62,7 @@ module _ (Opens : GroupSaPolicy → List ℕ → Type 0) where
 
 module _ (limits : Limits) (s : State) (now : ℕ) (lent : List ℕ) (f : Frame) where
   -- "a copy of its key that opens under the key its KWK ID names, be it key 0, the last key of such a chain or, in a rekey, a key the
-  -- member held"
+  -- member held"; "held keys, in demand 3 too, are for GSA_REKEY only" (T-02)
   abbrev pub Copy : GroupSaPolicy → Type 0
   Copy a = (x : List ℕ) × OpensUnder limits s now lent f a x
 
@@ -91,8 +91,8 @@ module _ (limits : Limits) (s : State) (now : ℕ) (lent : List ℕ) (f : Frame)
     -- "and the rest of the member is as that document leaves it": the table has these SAs and the old ones that are not due, a rekey leaves
     -- the held list, and the least Message ID
     pub table : (b : Sa) → In b (sasOf (next .table)) ↔ (Entered b ⊎ OldSa f s now b)
-    pub kept : f .header .exchange ≡ 41 → next .held ≡ s .held
-    pub least : (l : Least) → (next .least ≡ l) ↔ LeastAs f l
+    pub kept : Rekey f → next .held ≡ s .held
+    pub least : (l : Least) → (next .least ≡ l) ↔ LeastAs f (s .least) l
     -- the table rises, and the table and the held list are within their limits
     pub is-formed : stateFormed limits next ≡ true
 

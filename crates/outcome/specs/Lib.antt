@@ -11,3 +11,5 @@ pub mod Meets
 pub mod RestSays
 pub mod Demand3
 pub mod Stands
+pub mod Wider
+pub mod Inband

@@ -27,6 +27,14 @@ use Rattle.outcome.specs.Roots.{ownKey}
 abbrev pub Registration : Frame → Type 0
 Registration f = (f .header .exchange ≡ 39) ⊎ (f .header .exchange ≡ 40)
 
+-- document 02, T-02, "Rekeys over the member's own channel": GSA_INBAND_REKEY, exchange type 42
+abbrev pub Inband : Frame → Type 0
+Inband f = f .header .exchange ≡ 42
+
+-- a rekey over the Rekey SA (GSA_REKEY, exchange type 41) or over the member's own channel
+abbrev pub Rekey : Frame → Type 0
+Rekey f = (f .header .exchange ≡ 41) ⊎ Inband f
+
 -- the lent default key as key 0
 abbrev pub lentRoot : List ℕ → List Root
 lentRoot lent = record { id = 0; value = lent } ∷ []
@@ -59,9 +67,11 @@ pub record OfMemberBags (lent : List ℕ) (f : Frame) (k : HeldKey) : Type 0 whe
 
 module _ (limits : Limits) (s : State) (now : ℕ) (lent : List ℕ) (f : Frame) where
   -- "be it key 0, the last key of such a chain or, in a rekey, a key the member held". Key 0 is the lent default key in a registration and
-  -- "the live Rekey SA's own" in a rekey
+  -- "the live Rekey SA's own" in a rekey. In GSA_INBAND_REKEY "its key 0 is the lent key; held keys, in demand 3 too, are for GSA_REKEY
+  -- only" (T-02)
   pub data Named (k : ℕ) (v : List ℕ) : Type 0 where
     lent-key : Registration f → k ≡ 0 → v ≡ lent → Named k v
+    lent-in-band : Inband f → k ≡ 0 → v ≡ lent → Named k v
     own-key : f .header .exchange ≡ 41 → k ≡ 0 → v ≡ ownKey limits s now → Named k v
     last-of-chain : Registration f → Given lent f k v → Named k v
     held-key : f .header .exchange ≡ 41 → (h : HeldKey) → In h (keysOf (s .held)) → h .id ≡ k → valueOf (h .key) ≡ v → Named k v

@@ -15,7 +15,7 @@ use Rattle.state.specs.declared.least.Least.{Least}
 use Rattle.state.specs.declared.least.Least.the-variants.{Id, NoneAnyMore}
 use Rattle.clauses.specs.Contents.{announced, groupWides, deletedSpis}
 use Rattle.chains.specs.Chain.{In}
-use Rattle.outcome.specs.NamedKey.{Registration}
+use Rattle.outcome.specs.NamedKey.{Registration, Inband}
 
 module _ (f : Frame) where
   -- "a new Rekey SA": a policy of the frame announces it
@@ -27,13 +27,16 @@ module _ (f : Frame) where
   NoNewRekey = (p : GroupSaPolicy) → NewRekey p → ⊥
 
   -- "With a new Rekey SA the least Message ID is its GSA_INITIAL_MESSAGE_ID, else 0; without one, a registration sets 0 and a rekey sets it
-  -- to its own plus 1, or "none any more" after 4,294,967,295."
-  pub data LeastAs : Least → Type 0 where
-    its-initial-id : (p : GroupSaPolicy) → NewRekey p → (i : ℕ) → p .initialMessageIds ≡ i ∷ [] → LeastAs (Id i)
-    else-0 : (p : GroupSaPolicy) → NewRekey p → p .initialMessageIds ≡ [] → LeastAs (Id 0)
-    of-registration : NoNewRekey → Registration f → LeastAs (Id 0)
-    own-plus-1 : NoNewRekey → f .header .exchange ≡ 41 → f .header .messageId < 4294967295 → LeastAs (Id (f .header .messageId + 1))
-    none-any-more : NoNewRekey → f .header .exchange ≡ 41 → 4294967295 ≤ f .header .messageId → LeastAs NoneAnyMore
+  -- to its own plus 1, or "none any more" after 4,294,967,295." In GSA_INBAND_REKEY "the least Message ID changes only if a new Rekey SA
+  -- comes" (T-02): it is the one of before
+  pub data LeastAs (before : Least) : Least → Type 0 where
+    its-initial-id : (p : GroupSaPolicy) → NewRekey p → (i : ℕ) → p .initialMessageIds ≡ i ∷ [] → LeastAs before (Id i)
+    else-0 : (p : GroupSaPolicy) → NewRekey p → p .initialMessageIds ≡ [] → LeastAs before (Id 0)
+    of-registration : NoNewRekey → Registration f → LeastAs before (Id 0)
+    own-plus-1 : NoNewRekey → f .header .exchange ≡ 41 → f .header .messageId < 4294967295 →
+        LeastAs before (Id (f .header .messageId + 1))
+    none-any-more : NoNewRekey → f .header .exchange ≡ 41 → 4294967295 ≤ f .header .messageId → LeastAs before NoneAnyMore
+    as-before : NoNewRekey → Inband f → LeastAs before before
 
   -- "The delay is the frame's deactivation delay, 0 if it has none (house)."
   pub data DelayAs : ℕ → Type 0 where

@@ -24,7 +24,7 @@ use Rattle.chains.specs.Chain.{Root}
 use Rattle.chains.specs.Refusals.{Announced}
 
 -- "Registration frames .. come with a lent default key; GSA_REKEY frames use the live Rekey SA's own, and the lent one is not read": that
--- SA's default key, of the table as it stands at the tick
+-- SA's default key, of the table as it stands at the tick. GSA_INBAND_REKEY "comes with a lent default key of the member's IKE SA" (T-02)
 abbrev pub ownKey : Limits → State → ℕ → List ℕ
 ownKey limits s now = valueOf (defaultKey limits (swept limits now (s .table)) .key)
 
@@ -36,7 +36,7 @@ keyZeroBy zero.RekeySa lent own = own
 unfoldable pub keyZero : Limits → State → ℕ → List ℕ → Frame → List ℕ
 keyZero limits s now lent f = keyZeroBy (rowOf f .zero) lent (ownKey limits s now)
 
--- "Held keys take the place of reached ones in a rekey, with the Rekey SA's default key as key 0"
+-- "Held keys take the place of reached ones in a rekey, with the Rekey SA's default key as key 0"; they "are for GSA_REKEY only" (T-02)
 abbrev pub heldRoot : HeldKey → Root
 heldRoot k = record { id = k .id; value = valueOf (k .key) }
 

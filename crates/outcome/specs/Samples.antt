@@ -57,7 +57,7 @@ deleting x i l = record {
 pub record Rekeys (x : List ℕ) (i : ℕ) (octets : List ℕ) : Type 0 where
   pub spis : List (List ℕ)
   pub some : 1 ≤ length spis
-  pub few : length spis ≤ 32
+  pub few : length spis ≤ limits .deletedSpis
   pub reads : IsFrame octets (deleting x i spis)
 
 -- at any tick at which that SA stands: any rekey over it with this Message ID, whatever it holds, is refused as number 3; each of those

@@ -6,5 +6,7 @@ pub mod SelectorGrammar
 pub mod TransformGrammar
 pub mod BodyGrammar
 pub mod PolicyGrammar
+pub mod SelectorBreaks
+pub mod PolicyBreaks
 pub mod Numbers
 pub mod AlikeLaws

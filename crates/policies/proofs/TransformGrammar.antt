@@ -161,14 +161,14 @@ module _ (h : ℕ) (more : Bool) where
       ∙ ap (mapped (transformOf o)) w ∙ (λ j. whole (e j) (drop (n j) o)) ∙ ap (whole x) (drop-length o)
 
 module _ (h : ℕ) where
-  sound : (more : Bool) (b : ℕ) (s : List ℕ) (x : Linked Bool Transform) (rest : List ℕ) → noMore more s ≡ false
+  pub sound : (more : Bool) (b : ℕ) (s : List ℕ) (x : Linked Bool Transform) (rest : List ℕ) → noMore more s ≡ false
       → transform h more b s ≡ whole x rest
       → Splits IsTransform more s (x .item) (x .next) rest
   sound more b s x rest e q =
       let f = split (transform h more) 8 sizeAt (local h more) b s x rest q in
       record { octets = f .octets; joined = f .joined; is = to h more b (f .octets) x (f .alone) }
 
-  complete : (more : Bool) (b : ℕ) (o rest : List ℕ) (x : Linked Bool Transform) → noMore more (o ++ rest) ≡ false
+  pub complete : (more : Bool) (b : ℕ) (o rest : List ℕ) (x : Linked Bool Transform) → noMore more (o ++ rest) ≡ false
       → IsTransform more o (x .item) (x .next) → transform h more b (o ++ rest) ≡ whole x rest
   complete more b o rest x e i = exact (transform h more) 8 sizeAt (local h more) b o rest x (from h more b o x i)
 

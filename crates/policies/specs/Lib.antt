@@ -3,3 +3,4 @@ pub mod Transform
 pub mod Policy
 pub mod Grammar
 pub mod Ignored
+pub mod Breaks

@@ -10,6 +10,7 @@ use lib.ListN.{length, getD, set, replicate, getD-replicate}
 use lib.Seq.{getD-set-same, getD-set-other}
 use Rattle.fips197.specs.Key.{Key, isKey}
 use Rattle.attributes.specs.Tree.{WrapKey}
+use Rattle.keys.specs.Limits.{limits}
 use Rattle.keys.specs.Algorithms.{sizeOf}
 use Rattle.keys.specs.declared.kinds.WrappingKey.{WrappingKey}
 use Rattle.keys.proofs.Sizes.{wrapping-size, among-is}
@@ -120,10 +121,11 @@ module _ (v : List ℕ) (is : Key v) (l : List WrapKey) (size : ℕ) (fit : T (i
   abbrev pub Kept : List Cell → Type 0
   Kept cells = Inv (keyZero v) l size fit root-keys (cellAt cells)
 
-  pub started : (cells : List Cell) → length l ≤ 32 → AllTried 0 v size l (replicate 32 noCell) cells → Kept cells
+  pub started : (cells : List Cell) → length l ≤ limits .wrapKeys → AllTried 0 v size l (replicate (limits .wrapKeys) noCell) cells →
+      Kept cells
   started cells h t =
-      begun (keyZero v) l size fit root-keys (cellAt (replicate 32 noCell)) (cellAt cells)
-      (λ i g. ap (λ (c : Cell). c .status) (getD-replicate 32 i noCell noCell (omega arith))) zero-root
+      begun (keyZero v) l size fit root-keys (cellAt (replicate (limits .wrapKeys) noCell)) (cellAt cells)
+      (λ i g. ap (λ (c : Cell). c .status) (getD-replicate (limits .wrapKeys) i noCell noCell (omega arith))) zero-root
       (record { place = 0; inside = omega arith; is = refl }) (λ s m. ap (λ (r : Root). r .id) (sym (only s m))) t
 
   pub turned : (cells after : List Cell) (j : ℕ) → Kept cells → FoundAt cells (length l) j → length l ≤ length cells →
@@ -145,7 +147,7 @@ module _ (v : List ℕ) (is : Key v) (l : List WrapKey) (size : ℕ) (fit : T (i
 
   -- the same, of what the code reads at j
   module _ (frame : List ℕ) (places : List Entry) (n : ℕ) (cells : List Cell) (j : ℕ) (lists : Lists frame places n l) (inv : Kept cells)
-      (at : FoundAt cells n j) (full : length cells ≡ 32) where
+      (at : FoundAt cells n j) (full : length cells ≡ limits .wrapKeys) where
     at-j : FoundAt cells (length l) j
     at-j = subst (λ (m : ℕ). FoundAt cells m j) (sym (lists .count)) at
 
@@ -159,7 +161,7 @@ module _ (v : List ℕ) (is : Key v) (l : List WrapKey) (size : ℕ) (fit : T (i
     count-at d e =
         ap (sizeOf 13) (ap (λ (c : Cell). c .key .count) (getD-any cells j d noCell in-cells) ∙ pending-count cells j inv at-j) ∙ e
 
-    pub turned-at : (after : List Cell) (dE : Entry) (dC : Cell) → length places ≡ 32 →
+    pub turned-at : (after : List Cell) (dE : Entry) (dC : Cell) → length places ≡ limits .wrapKeys →
         AllTried (getD places j dE .id) (valueOf (getD cells j dC .key)) size l (marked cells j (getD cells j dC .key)) after → Kept after
     turned-at after dE dC h t =
         let g : j < length places = let z = at .inside in let y = lists .within in omega arith in

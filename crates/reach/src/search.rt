@@ -11,6 +11,7 @@ use aes::InverseSchedule;
 use aes::expand_inverse;
 use aes::inverse_tables;
 use keys::kinds::WrappingKey;
+use keys::limits::WRAP_KEYS;
 ghost use mathlib.Core.Path.{_≡_};
 ghost use mathlib.Core.Bool.{true, false};
 ghost use mathlib.Core.List.{List};
@@ -18,6 +19,7 @@ ghost use Prim.Native.Nat.{ℕ, _≤_, _<_};
 ghost use Rattle.fips197.specs.Key.{Key};
 ghost use Rattle.aes.specs.inner.Tables.{decipherTables};
 ghost use Rattle.aes.specs.inner.Schedule.{ExpandsInverse, ExpandedInverse};
+ghost use Rattle.keys.specs.Limits.{limits};
 ghost use Rattle.keys.specs.Algorithms.{sizeOf};
 ghost use Rattle.attributes.specs.Tree.{WrapKey};
 ghost use Rattle.reach.specs.inner.Entries.{Lists};
@@ -30,8 +32,8 @@ pub enum Found {
 }
 
 // Whether an entry that waits names the key.
-fn is_named(id: u32, entries: [Entry; 32], cells: [Cell; 32], n: usize) -> bool
-    requires { ⌜ n ≤ 32 ⌝ }
+fn is_named(id: u32, entries: [Entry; WRAP_KEYS], cells: [Cell; WRAP_KEYS], n: usize) -> bool
+    requires { ⌜ n ≤ limits .wrapKeys ⌝ }
     ensures { λ r. ⌜ (r ≡ false → Unnamed id entries cells n) ⌝ }
 {
     let mut i: usize = 0;
@@ -53,11 +55,11 @@ fn tried(
     schedule: InverseSchedule,
     size: usize,
     id: u32,
-    entries: [Entry; 32],
-    cells: [Cell; 32],
+    entries: [Entry; WRAP_KEYS],
+    cells: [Cell; WRAP_KEYS],
     n: usize,
-) -> [Cell; 32]
-    requires { ⌜ n ≤ 32 ⌝ }
+) -> [Cell; WRAP_KEYS]
+    requires { ⌜ n ≤ limits .wrapKeys ⌝ }
     requires { ⌜ (now tables ≡ decipherTables) × ExpandedInverse (schedule .words) ⌝ }
     requires { ⌜ sizeOf 13 size ≡ true ⌝ }
     requires { ⌜ ((l : List WrapKey) × Lists (now frame) entries n l) ⌝ }
@@ -82,11 +84,11 @@ fn with_key(
     key: WrappingKey,
     size: usize,
     id: u32,
-    entries: [Entry; 32],
-    cells: [Cell; 32],
+    entries: [Entry; WRAP_KEYS],
+    cells: [Cell; WRAP_KEYS],
     n: usize,
-) -> [Cell; 32]
-    requires { ⌜ n ≤ 32 ⌝ }
+) -> [Cell; WRAP_KEYS]
+    requires { ⌜ n ≤ limits .wrapKeys ⌝ }
     requires { ⌜ (now tables ≡ decipherTables) × (sizeOf 13 (key .count) ≡ true) ⌝ }
     requires { ⌜ sizeOf 13 size ≡ true ⌝ }
     requires { ⌜ ((l : List WrapKey) × Lists (now frame) entries n l) ⌝ }
@@ -102,8 +104,8 @@ fn with_key(
 }
 
 // A cell whose key is yet to be tried.
-fn first_pending(cells: [Cell; 32], n: usize) -> Found
-    requires { ⌜ n ≤ 32 ⌝ }
+fn first_pending(cells: [Cell; WRAP_KEYS], n: usize) -> Found
+    requires { ⌜ n ≤ limits .wrapKeys ⌝ }
     ensures { λ r. ⌜ Finds cells n r ⌝ }
 {
     let mut i: usize = 0;
@@ -118,8 +120,13 @@ fn first_pending(cells: [Cell; 32], n: usize) -> Found
 }
 
 // What becomes of each entry when the chains start with the lent key as key 0. Internal.
-pub fn search(frame: &[u8], lent: WrappingKey, entries: [Entry; 32], n: usize) -> [Cell; 32]
-    requires { ⌜ n ≤ 32 ⌝ }
+pub fn search(
+    frame: &[u8],
+    lent: WrappingKey,
+    entries: [Entry; WRAP_KEYS],
+    n: usize,
+) -> [Cell; WRAP_KEYS]
+    requires { ⌜ n ≤ limits .wrapKeys ⌝ }
     requires { ⌜ sizeOf 13 (lent .count) ≡ true ⌝ }
     requires { ⌜ Key (valueOf lent) ⌝ }
     requires { ⌜ ((l : List WrapKey) × Lists (now frame) entries n l) ⌝ }
@@ -127,7 +134,16 @@ pub fn search(frame: &[u8], lent: WrappingKey, entries: [Entry; 32], n: usize) -
 {
     let size = lent.count;
     let tables = inverse_tables();
-    let mut cells = with_key(frame, &tables, lent, size, 0, entries, [blank(); 32], n);
+    let mut cells = with_key(
+        frame,
+        &tables,
+        lent,
+        size,
+        0,
+        entries,
+        [blank(); WRAP_KEYS],
+        n,
+    );
     loop {
         match first_pending(cells, n) {
             Found::At(j) => {

@@ -54,13 +54,13 @@ module _ (keys : List HeldKey) (held : Held) (is : held ≡ heldOf limits keys) 
   keys-are : keysOf held ≡ keys
   keys-are = ap keysOf is ∙ keys-of-held limits keys
 
-  found-is : (id : ℕ) → length keys ≤ 32 → heldKey limits id held ≡ keyWith id keys
+  found-is : (id : ℕ) → length keys ≤ limits .heldKeys → heldKey limits id held ≡ keyWith id keys
   found-is id h = key-in limits held id (omega (arith, count-is)) ∙ ap (keyWith id) keys-are
 
-  entered-is : (a : HeldKey) → length keys < 32 → enteredKey limits a held ≡ heldOf limits (insert idBefore a keys)
+  entered-is : (a : HeldKey) → length keys < limits .heldKeys → enteredKey limits a held ≡ heldOf limits (insert idBefore a keys)
   unfolding enteredKey
   entered-is a h =
-      rw (lt-ltb (held .count) 32 (omega (arith, count-is)))
+      rw (lt-ltb (held .count) (limits .heldKeys) (omega (arith, count-is)))
       (ap (λ (l : List HeldKey). heldOf limits (insert idBefore a l)) keys-are)
 
 module _ (places : List Entry) (cells : List Cell) where
@@ -75,7 +75,7 @@ module _ (places : List Entry) (cells : List Cell) where
     each = λ i h. absurd (omega arith);
   }
 
-  module _ (n : ℕ) (held : Held) (x : Entered places cells n held) (h : n < 32) where
+  module _ (n : ℕ) (held : Held) (x : Entered places cells n held) (h : n < limits .wrapKeys) where
     later : (k : HeldKey) → Done-at places cells n k → Done-at places cells (n + 1) k
     later k d = record { place = d .place; inside = omega (arith, d .inside); done = d .done; id-is = d .id-is; key-is = d .key-is }
 

@@ -12,6 +12,7 @@ use Rattle.octets.specs.Numbers.{oct}
 use Rattle.octets.specs.Walk.{part, either, Reading}
 use Rattle.octets.proofs.Numerals.{drop-take}
 use Rattle.octets.proofs.Walks.{part-length, many-none}
+use Rattle.keys.specs.Limits.{limits}
 use Rattle.attributes.specs.Place.{inBag}
 use Rattle.attributes.specs.Tree.{WrapKey, wrapKeyOf, wrapKeys, saKeys}
 use Rattle.policies.specs.Policy.{spiOf}
@@ -64,7 +65,7 @@ module _ (k : List ℕ) where
   gathered-left places n rest all g =
       omega (arith, g .lists .count, length-append (g .done) rest, ap length (g .joined))
 
-  one-more : (places : List Entry) (n : ℕ) (l : List WrapKey) (e : Entry) (w : WrapKey) → Lists k places n l → n < 32 →
+  one-more : (places : List Entry) (n : ℕ) (l : List WrapKey) (e : Entry) (w : WrapKey) → Lists k places n l → n < limits .wrapKeys →
       n < length places → IsEntry k e w → Lists k (set places n e) (n + 1) (l ++ (w ∷ []))
   one-more places n l e w lists h g is =
       record {
@@ -81,7 +82,8 @@ module _ (k : List ℕ) where
       }
 
   pub gathered-next : (places : List Entry) (n : ℕ) (rest all : List WrapKey) (e : Entry) (w : WrapKey) →
-      Gathered k places n (w ∷ rest) all → n < 32 → n < length places → IsEntry k e w → Gathered k (set places n e) (n + 1) rest all
+      Gathered k places n (w ∷ rest) all → n < limits .wrapKeys → n < length places → IsEntry k e w →
+      Gathered k (set places n e) (n + 1) rest all
   gathered-next places n rest all e w x h g is =
       record {
         done = x .done ++ (w ∷ []);

@@ -4,12 +4,14 @@ use attributes::tables::Place;
 use contents::bag::bag_parts;
 use contents::values::Found;
 use contents::values::next_of;
+use keys::limits::WRAP_KEYS;
 use reach::open::Entry;
 ghost use mathlib.Core.Path.{_≡_};
 ghost use mathlib.Core.Bool.{true};
 ghost use mathlib.Core.List.{List, _++_};
 ghost use Prim.Native.Nat.{ℕ, _+_, _≤_};
 ghost use lib.ListN.{length};
+ghost use Rattle.keys.specs.Limits.{limits};
 ghost use Rattle.octets.specs.Walk.{part};
 ghost use Rattle.attributes.specs.Tree.{WrapKey, wrapKeyOf};
 ghost use Rattle.attributes.specs.Layout.{attributes};
@@ -22,7 +24,7 @@ ghost use Rattle.reached.specs.inner.Entries.{bagKeys};
 
 // Where WRAP_KEYs stand: the first `count` places.
 pub struct Listing {
-    pub places: [Entry; 32],
+    pub places: [Entry; WRAP_KEYS],
     pub count: usize,
 }
 
@@ -55,7 +57,7 @@ fn entry(k: &[u8], a: usize, e: usize) -> Entry
 fn with_bag(k: &[u8], a: usize, e: usize, list: Listing) -> Listing
     requires { ⌜ (a ≤ e) × (e ≤ length (now k)) ⌝ }
     requires { ⌜ isWhole (attributes MemberBag 0 (part (now k) a e)) ≡ true ⌝ }
-    requires { ⌜ list .count + length (bagKeys (part (now k) a e)) ≤ 32 ⌝ }
+    requires { ⌜ list .count + length (bagKeys (part (now k) a e)) ≤ limits .wrapKeys ⌝ }
     ensures { λ r. ⌜ ((l : List WrapKey) → Lists (now (k .entry)) (list .places) (list .count) l →
         Lists (now (k .entry)) (r .places) (r .count) (l ++ bagKeys (part (now (k .entry)) a e))) ⌝ }
 {
@@ -80,11 +82,11 @@ fn with_bag(k: &[u8], a: usize, e: usize, list: Listing) -> Listing
 // The WRAP_KEYs of a KD body, in its order. Internal.
 pub fn entries(k: &[u8]) -> Listing
     requires { ⌜ isWhole (bags 0 (now k)) ≡ true ⌝ }
-    requires { ⌜ length (wrapKeysIn (now k)) ≤ 32 ⌝ }
+    requires { ⌜ length (wrapKeysIn (now k)) ≤ limits .wrapKeys ⌝ }
     ensures { λ r. ⌜ Lists (now (k .entry)) (r .places) (r .count) (wrapKeysIn (now (k .entry))) ⌝ }
 {
     let mut list = Listing {
-        places: [blank(); 32],
+        places: [blank(); WRAP_KEYS],
         count: 0,
     };
     let mut at: usize = 0;

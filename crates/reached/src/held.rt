@@ -1,5 +1,6 @@
 // The keys that a search reached, as a held list.
 use conflicts::is_done;
+use keys::limits::WRAP_KEYS;
 use reach::open::Cell;
 use reach::open::Entry;
 use state::held::Held;
@@ -42,8 +43,8 @@ fn with_cell(held: Held, e: Entry, c: Cell) -> Held
 }
 
 // The keys that the entries of these places reach, by the cells of their search. Internal.
-pub fn held_of(entries: [Entry; 32], cells: [Cell; 32], n: usize) -> Held
-    requires { ⌜ n ≤ 32 ⌝ }
+pub fn held_of(entries: [Entry; WRAP_KEYS], cells: [Cell; WRAP_KEYS], n: usize) -> Held
+    requires { ⌜ n ≤ limits .wrapKeys ⌝ }
     ensures { λ r. ⌜ ((frame : List ℕ) (roots : List Root) (l : List WrapKey) (size : ℕ) → Lists frame entries n l →
         Searched roots l size cells → Nonzero l → sizeOf 13 size ≡ true → (EntriesEight roots l size → ⊥) →
         HeldAre roots l size limits r × (heldFormed limits r ≡ true)) ⌝ }

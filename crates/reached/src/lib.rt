@@ -12,16 +12,17 @@ ghost use lib.ListN.{length};
 ghost use Rattle.fips197.specs.Key.{Key};
 ghost use Rattle.bags.specs.Bag.{bags};
 ghost use Rattle.contents.specs.inner.Values.{isWhole};
+ghost use Rattle.keys.specs.Limits.{limits};
 ghost use Rattle.keys.specs.Algorithms.{sizeOf};
 ghost use Rattle.keys.specs.Kinds.{valueOf};
 ghost use Rattle.reach.specs.inner.Search.{Nonzero, keyZero};
 ghost use Rattle.reached.specs.inner.Reached.{wrapKeysIn, Answers};
 
 // What the WRAP_KEYs of a KD body reach with the lent key as key 0. Numbers 5, 6 and 7 come before: the lent key has a wrapping key's size,
-// no WRAP_KEY has Key ID 0, and there are at most 32. Internal.
+// no WRAP_KEY has Key ID 0, and there are no more than the limit. Internal.
 pub fn reached(k: &[u8], lent: WrappingKey) -> Reached
     requires { ⌜ isWhole (bags 0 (now k)) ≡ true ⌝ }
-    requires { ⌜ length (wrapKeysIn (now k)) ≤ 32 ⌝ }
+    requires { ⌜ length (wrapKeysIn (now k)) ≤ limits .wrapKeys ⌝ }
     requires { ⌜ Nonzero (wrapKeysIn (now k)) ⌝ }
     requires { ⌜ sizeOf 13 (lent .count) ≡ true ⌝ }
     requires { ⌜ Key (valueOf lent) ⌝ }

@@ -7,6 +7,7 @@ use mathlib.Core.List.{List}
 use borrow.Author.Tests.{eq-eqb}
 use lib.Dec.{eqb}
 use lib.ListN.{length, getD}
+use Rattle.keys.specs.Limits.{limits}
 use Rattle.keys.specs.Lists.{any}
 use Rattle.attributes.specs.Tree.{WrapKey}
 use Rattle.frames.specs.Frame.{Frame}
@@ -75,8 +76,8 @@ module _ {e : Exchange} {m : State} {now : ℕ} {lent s : List ℕ} {x : Facts} 
   pub entries-are : wrapKeysIn k ≡ wrapKeysOf f
   entries-are = ap wrapKeysAmong (sym (b .bags))
 
-  pub entries-few : length (wrapKeysIn k) ≤ 32
-  entries-few = subst (λ (l : List WrapKey). length l ≤ 32) (sym entries-are) (few-entries m now lent f (b .passed .clauses))
+  pub entries-few : length (wrapKeysIn k) ≤ limits .wrapKeys
+  entries-few = subst (λ (l : List WrapKey). length l ≤ limits .wrapKeys) (sym entries-are) (few-entries m now lent f (b .passed .clauses))
 
   pub entries-nonzero : Nonzero (wrapKeysIn k)
   unfolding wrapKeyId

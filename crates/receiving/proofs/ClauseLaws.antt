@@ -12,7 +12,7 @@ use Rattle.keys.specs.Algorithms.{sizeOf}
 use Rattle.policies.specs.Policy.{GroupSaPolicy, GroupWidePolicy}
 use Rattle.bags.specs.Bag.{MemberKeyBag}
 use Rattle.frames.specs.Frame.{Frame}
-use Rattle.frames.specs.Exchange.{registration, rekey}
+use Rattle.frames.specs.Exchange.{rekey, inband}
 use Rattle.frames.specs.declared.exchanges.KeyZero.{KeyZero}
 use Rattle.frames.specs.declared.exchanges.KeyZero.the-variants as keyZero
 use Rattle.state.specs.declared.State.{State}
@@ -29,7 +29,7 @@ use Rattle.clauses.specs.Refusals.{Number, one, applies, judged, two, three, fo
 use Rattle.clauses.proofs.Clear.{or-none, no-clause}
 use Rattle.clauses.proofs.ExchangeRows.{by-row}
 use Rattle.outcome.proofs.RunsClear.{None}
-use Rattle.receiving.specs.inner.Passing.{Registers, RekeysOver}
+use Rattle.receiving.specs.inner.Passing.{RekeysOver, RekeysInband}
 
 -- ---- the numbers, one after the other
 none-by : (n : Number) (l : List Number) (k : ℕ) → n .number ≡ suc k → (b : Bool) → applies n ≡ b →
@@ -87,17 +87,20 @@ module _ (m : State) (now : ℕ) (lent : List ℕ) (f : Frame) (e : refusal limi
       not-not (rowOf f .admitted)
       (no-clause (two limits m now (f .header .exchange) (f .header .spi) .ofFrame) 0 (from-2 .0 .ofFrame))
 
-  -- an exchange whose key 0 is the Rekey SA's is a rekey; of those that are taken the others register
+  -- an exchange whose key 0 is the Rekey SA's is a rekey over it; one that is taken, keeps the held list and has the lent key as key 0 is
+  -- a rekey over the member's own channel
   pub is-rekey : RekeysOver f → rowOf f ≡ rekey
   is-rekey z =
       by-row (rowOf f ≡ rekey) (f .header .exchange) (λ q r. absurd (lent-or-own (rw r at z))) (λ q r. r)
-      (λ r. absurd (lent-or-own (rw r at z)))
+      (λ q r. absurd (lent-or-own (rw r at z))) (λ r. absurd (lent-or-own (rw r at z)))
 
-  pub lent-registers : rowOf f .zero ≡ keyZero.Lent → Registers f
-  lent-registers z =
+  pub is-inband : RekeysInband f → rowOf f ≡ inband
+  is-inband w =
       let a = admitted in
-      by-row (Registers f) (f .header .exchange) (λ q r. rw r) (λ q r. absurd (lent-or-own (sym (rw r at z))))
-      (λ r. absurd (false≢true (rw r at a)))
+      let k = w .keeps in
+      let z = w .zero in
+      by-row (rowOf f ≡ inband) (f .header .exchange) (λ q r. absurd (false≢true (sym (rw r at k))))
+      (λ q r. absurd (lent-or-own (sym (rw r at z)))) (λ q r. r) (λ r. absurd (false≢true (rw r at a)))
 
   pub over-live : rowOf f ≡ rekey → any (overLiveRekey (f .header .spi)) (standing now m) ≡ true
   unfolding otherSpis
@@ -141,7 +144,7 @@ module _ (m : State) (now : ℕ) (lent : List ℕ) (f : Frame) (e : refusal limi
   none-of [] q = refl
   none-of (a ∷ l) q = let h = ltb-false 0 (suc (length l)) q in absurd (omega arith)
 
-  pub no-entry : rowOf f ≡ rekey → wrapKeysOf f ≡ []
+  pub no-entry : rowOf f .members ≡ false → wrapKeysOf f ≡ []
   unfolding four-ofFrame barredMemberBag gather
   no-entry r =
       let n = no-4 1 in
@@ -156,7 +159,7 @@ module _ (m : State) (now : ℕ) (lent : List ℕ) (f : Frame) (e : refusal limi
   unfolding five-ofFrame
   transforms-fit = no-5 2
 
-  pub lent-fits : rowOf f ≡ registration → sizeOf 13 (length lent) ≡ true
+  pub lent-fits : rowOf f .lends ≡ true → sizeOf 13 (length lent) ≡ true
   unfolding five-ofFrame lentKeySize
   lent-fits r = let n = no-5 5 in not-not (sizeOf 13 (length lent)) (rw r at n)
 

@@ -2,7 +2,9 @@ pub mod ClauseLaws
 pub mod ConcludingLaws
 pub mod ZeroLaws
 pub mod BodyLaws
+pub mod LentLaws
 pub mod RegistrationLaws
 pub mod Rekeying
 pub mod RekeyLaws
+pub mod InbandLaws
 pub mod SaidLaws

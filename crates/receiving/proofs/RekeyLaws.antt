@@ -19,6 +19,7 @@ use Rattle.table.specs.Table.{sasOf, tableFormed, swept, defaultKey}
 use Rattle.table.specs.declared.Table.{Table}
 use Rattle.table.proofs.Kept.{sas-of-table, swept-formed}
 use Rattle.state.specs.declared.State.{State}
+use Rattle.state.specs.declared.held.Held.{Held}
 use Rattle.clauses.specs.Number2.{standing, overLiveRekey}
 use Rattle.chains.specs.Chain.{Root, Chain, root, step, Reached}
 use Rattle.chains.specs.Refusals.{EntriesEight, wrong-size, two-values}
@@ -50,6 +51,30 @@ none-eight : (roots : List Root) (size : ℕ) → EntriesEight roots [] size →
 none-eight roots size (wrong-size k x r d) = none-reached roots size k x r
 none-eight roots size (two-values k x y r q d) = none-reached roots size k x r
 
+-- a frame of an exchange that has no Member bag and leaves the held list, opened under key 0 and the keys of a list
+module _ {y : Exchange} {m : State} {now : ℕ} {lent s : List ℕ} {x : Facts} {g k : List ℕ} {f : Frame}
+    (b : Bodied y m now lent s x g k f) (no-bag : y .members ≡ false) (leaves : y .registers ≡ false) (zero : WrappingKey) (opens : Held)
+    (roots-are : heldRoots zero opens ≡ rootsOf limits m now lent f) where
+  none : [] ≡ entriesOf f
+  none = sym (no-entry m now lent f (b .passed .clauses) (ap (λ (e : Exchange). e .members) (b .row) ∙ no-bag))
+
+  carry : (P : List Root → List WrapKey → Type 0) → P (heldRoots zero opens) [] → P (rootsOf limits m now lent f) (entriesOf f)
+  carry P p = subst (P (rootsOf limits m now lent f)) none (subst (λ (l : List Root). P l []) roots-are p)
+
+  pub no-entry-opened : (keyed : Keyed) →
+      ((roots : List Root) (entries : List WrapKey) (size : ℕ) → Agrees roots entries size zero opens →
+      KeyedBy roots entries size f keyed) → Opened m now lent s x keyed (m .held) f
+  no-entry-opened keyed by =
+      let n = wrappingSize limits m now lent f in
+      record {
+        passed = b .passed;
+        entries = carry (λ (r : List Root) (l : List WrapKey). EntriesEight r l n → ⊥) (none-eight (heldRoots zero opens) n);
+        keys = by _ _ n (carry (λ (r : List Root) (l : List WrapKey). Agrees r l n zero opens) (rekey-agrees zero opens n));
+        held-is = subst (λ (h : Bool).
+            HeldBy h (HeldAre (rootsOf limits m now lent f) (entriesOf f) n limits (m .held))
+            (m .held ≡ m .held)) (sym (ap (λ (e : Exchange). e .registers) (b .row) ∙ leaves)) refl;
+      }
+
 module _ {m : State} {now : ℕ} {lent s : List ℕ} {x : Facts} {g k : List ℕ} {f : Frame} (b : Bodied rekey m now lent s x g k f) (t : Table)
     (w : t ≡ swept limits now (m .table)) where
   pub stands-formed : tableFormed limits t ≡ true
@@ -74,22 +99,7 @@ module _ {m : State} {now : ℕ} {lent s : List ℕ} {x : Facts} {g k : List ℕ
         let own : zero ≡ defaultKey limits (swept limits now (m .table)) .key = d .is ∙ ap (λ (x : Table). defaultKey limits x .key) w in
         ap (λ (x : WrappingKey). heldRoots x (m .held)) own ∙ sym (own-roots limits m now f (b .row) lent)
 
-    none : [] ≡ entriesOf f
-    none = sym (no-entry m now lent f (b .passed .clauses) (b .row))
-
-    carry : (P : List Root → List WrapKey → Type 0) → P (heldRoots zero (m .held)) [] → P (rootsOf limits m now lent f) (entriesOf f)
-    carry P x = subst (P (rootsOf limits m now lent f)) none (subst (λ (l : List Root). P l []) roots-are x)
-
     pub rekey-opened : (keyed : Keyed) →
         ((roots : List Root) (entries : List WrapKey) (size : ℕ) → Agrees roots entries size zero (m .held) →
         KeyedBy roots entries size f keyed) → Opened m now lent s x keyed (m .held) f
-    rekey-opened keyed by =
-        let n = wrappingSize limits m now lent f in
-        record {
-          passed = b .passed;
-          entries = carry (λ (x : List Root) (y : List WrapKey). EntriesEight x y n → ⊥) (none-eight (heldRoots zero (m .held)) n);
-          keys = by _ _ n (carry (λ (x : List Root) (y : List WrapKey). Agrees x y n zero (m .held)) (rekey-agrees zero (m .held) n));
-          held-is = subst (λ (x : Bool).
-              HeldBy x (HeldAre (rootsOf limits m now lent f) (entriesOf f) n limits (m .held))
-              (m .held ≡ m .held)) (sym (ap (λ (e : Exchange). e .registers) (b .row))) refl;
-        }
+    rekey-opened = no-entry-opened b refl refl zero (m .held) roots-are

@@ -34,7 +34,7 @@ const STANDING: usize = 0;
 
 // The clauses of a frame.
 pub(crate) struct Found {
-    // the exchange is one of the three that are taken
+    // the exchange is one of the four that are taken
     admitted: bool,
     // one of the clauses applies
     any: bool,

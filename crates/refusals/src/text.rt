@@ -17,7 +17,12 @@ fn clause(out: &mut [u8], n: usize, applies: bool, line: &[u8]) -> usize {
 fn payloads(out: &mut [u8], n: usize, x: Four) -> usize {
     let a = clause(out, n, x.critical, b"  4: critical unknown payload\n");
     let b = clause(out, a, x.member_bag, b"  4: Member Key Bag in a rekey\n");
-    let c = clause(out, b, x.delete, b"  4: D in a registration\n");
+    let c = clause(
+        out,
+        b,
+        x.delete,
+        b"  4: D in another exchange than GSA_REKEY\n",
+    );
     clause(out, c, x.two_gsa, b"  4: two GSA\n")
 }
 
@@ -30,7 +35,7 @@ fn both(out: &mut [u8], n: usize, x: Four) -> usize {
         out,
         c,
         x.neither,
-        b"  4: neither GSA nor KD (nor D in a rekey)\n",
+        b"  4: neither GSA nor KD (nor D in GSA_REKEY)\n",
     )
 }
 
@@ -113,7 +118,7 @@ fn keys(out: &mut [u8], n: usize, x: Keys) -> usize {
         out,
         n,
         x.count,
-        b"  6: SA_KEY count of a bag not 1 (for a Rekey SA in a rekey: 0)\n",
+        b"  6: SA_KEY count of a bag not 1 (for a Rekey SA in GSA_REKEY: 0)\n",
     );
     let b = clause(out, a, x.named, b"  6: SA_KEY with Key ID not 0\n");
     let c = clause(out, b, x.nested, b"  6: ESP SA_KEY with KWK ID not 0\n");
@@ -164,7 +169,7 @@ pub(crate) fn lines(out: &mut [u8], n: usize, x: Found) -> usize {
         return names::text(
             out,
             n,
-            b"  2: exchange not GSA_AUTH, GSA_REGISTRATION or GSA_REKEY\n",
+            b"  2: exchange not GSA_AUTH, GSA_REGISTRATION, GSA_REKEY or GSA_INBAND_REKEY\n",
         );
     }
     if x.any {

@@ -1,5 +1,5 @@
--- The held list under a record of six figures that differ. Document 01 gives four of the limits the same figure, 32, so its own figures
--- cannot tell the limit of the held list from the three of number 7.
+-- The held list under a record of six figures that differ. The held list and a frame's WRAP_KEYs have limits of one figure, 128, so these
+-- figures cannot tell the two limits apart.
 use Prim.Native.Nat.{ℕ}
 use mathlib.Core.Path.{_≡_, refl}
 use mathlib.Core.Bool.{true, false, not}
@@ -26,7 +26,7 @@ two = heldOf apart (key 1 ∷ key 2 ∷ [])
 abbrev three : Held
 three = heldOf apart (key 1 ∷ key 2 ∷ key 3 ∷ [])
 
--- "a held list of at most 32 wrapping keys", of which there are 2 here
+-- "a held list of at most 32 wrapping keys" (T-01: 128), of which there are 2 here
 pub record HeldWithin : Type 0 where
   -- it has so many places
   pub places : heldOf apart [] ≡ record { keys = blankKey ∷ blankKey ∷ []; count = 0 }

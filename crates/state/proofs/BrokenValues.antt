@@ -1,6 +1,6 @@
 -- "A member value that breaks this list is swept to itself and answers none to every question": a value for each way to break it, computed,
 -- and values that do not break it though they look so.
-use Prim.Native.Nat.{ℕ}
+use Prim.Native.Nat.{ℕ, _+_}
 use mathlib.Core.Path.{_≡_, refl}
 use mathlib.Core.Bool.{Bool, true, false}
 use mathlib.Core.List.{List, [], _∷_, _++_, map}
@@ -10,7 +10,7 @@ use Rattle.keys.specs.Lists.{all, any, count, heads, rising}
 use Rattle.keys.specs.Limits.{limits}
 use Rattle.keys.specs.Algorithms.{sizeOf}
 use Rattle.keys.specs.Kinds.{padded, wrappingOf, rekeySizes}
-use Rattle.sa.specs.Entry.{esp, rekey, saOf, blankSa, before, formed, liveRekey}
+use Rattle.sa.specs.Entry.{esp, rekey, saOf, before, formed, liveRekey}
 use Rattle.sa.specs.declared.entry.Condition.{Condition}
 use Rattle.sa.specs.declared.entry.Condition.the-variants.{Live, Retiring}
 use Rattle.sa.specs.declared.entry.Sa.{Sa}
@@ -21,7 +21,7 @@ use Rattle.state.specs.declared.State.{State}
 use Rattle.state.specs.declared.held.Held.{Held}
 use Rattle.state.specs.declared.held.HeldKey.{HeldKey}
 use Rattle.state.specs.declared.least.Least.the-variants.{Id}
-use Rattle.state.specs.Held.{blankKey, heldOf, keyFormed, heldFormed}
+use Rattle.state.specs.Held.{heldOf, keyFormed, heldFormed}
 use Rattle.state.specs.State.{stateFormed, sweptState, askedSa}
 
 -- ---- SAs: of a protocol, with an SPI that ends in n, so many keying octets, and parts of e and w octets
@@ -58,8 +58,8 @@ ofKeys l = value (tableOf limits (espSa 1 ∷ [])) (heldOf limits l)
 
 abbrev pub brokenValues : List State
 brokenValues =
-    -- "a table of at most 16 SAs": a count above the places
-    value (record { sas = espSa 1 ∷ replicate 15 blankSa; count = 17 }) (heldOf limits []) ∷
+    -- "a table of at most 16 SAs" (T-01: 64): a count above the places
+    value (record { sas = (tableOf limits (espSa 1 ∷ [])) .sas; count = limits .sas + 1 }) (heldOf limits []) ∷
     -- "protocol (3 or 6)"
     ofSas (sa 0 1 20 0 0 retiring ∷ []) ∷
     ofSas (sa 2 1 20 0 0 retiring ∷ []) ∷
@@ -81,8 +81,8 @@ brokenValues =
     ofSas (sa rekey 1 0 0 0 retiring ∷ []) ∷
     -- "at most one Rekey SA is live"
     ofSas (espSa 1 ∷ rekeySa 1 Live ∷ rekeySa 2 Live ∷ []) ∷
-    -- "a held list of at most 32 wrapping keys": a count above the places
-    value (tableOf limits (espSa 1 ∷ [])) (record { keys = replicate 32 blankKey; count = 33 }) ∷
+    -- "a held list of at most 32 wrapping keys" (T-01: 128): a count above the places
+    value (tableOf limits (espSa 1 ∷ [])) (record { keys = (heldOf limits []) .keys; count = limits .heldKeys + 1 }) ∷
     -- "Key IDs rising, none 0": equal, falling, 0
     ofKeys (key 5 16 ∷ key 5 16 ∷ []) ∷
     ofKeys (key 9 16 ∷ key 5 16 ∷ []) ∷
@@ -100,8 +100,8 @@ fitValues =
     ofSas (cut 28 16 ∷ []) ∷
     ofSas (espSa 1 ∷ rekeySa 1 retiring ∷ rekeySa 2 Live ∷ []) ∷
     ofKeys (key 5 16 ∷ key 9 24 ∷ key 10 32 ∷ []) ∷
-    value (record { sas = espSa 2 ∷ espSa 1 ∷ sa 4 1 1 1 1 Live ∷ replicate 13 blankSa; count = 1 })
-    (record { keys = key 5 16 ∷ key 0 20 ∷ replicate 30 blankKey; count = 1 }) ∷
+    value (record { sas = (tableOf limits (espSa 2 ∷ espSa 1 ∷ sa 4 1 1 1 1 Live ∷ [])) .sas; count = 1 })
+    (record { keys = (heldOf limits (key 5 16 ∷ key 0 20 ∷ [])) .keys; count = 1 }) ∷
     []
 
 -- ---- the claims

@@ -1,4 +1,5 @@
--- "A held list of at most 32 wrapping keys (Key ID, value), Key IDs rising, none 0, values of 16, 24 or 32 octets."
+-- "A held list of at most 32 wrapping keys (Key ID, value), Key IDs rising, none 0, values of 16, 24 or 32 octets." By document 02, T-01,
+-- at most 128.
 use Prim.Native.Nat.{ℕ, _-_}
 use mathlib.Core.Bool.{Bool, true, false, cond, not, _&&_}
 use mathlib.Core.List.{List, [], _∷_, _++_}

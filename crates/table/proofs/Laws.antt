@@ -2,22 +2,23 @@
 use native.Mathlib.Omega.{arith}
 use Prim.Native.Nat.{ℕ, _+_, _-_, _≤_, _<_}
 use mathlib.Core.Path.{_≡_, refl, ap, sym, _∙_}
-use mathlib.Core.Bool.{Bool, true, false}
+use mathlib.Core.Bool.{Bool, true, false, cond}
 use mathlib.Core.List.{List, [], _∷_, _++_, map}
-use borrow.Author.Tests.{le-leb, lt-leb, lt-ltb, le-ltb, ne-eqb}
+use borrow.Author.Tests.{le-leb, lt-leb, ne-eqb}
 use lib.Dec.{leb, eqb, eqb·suc-zero}
 use lib.ListN.{length, take, drop, getD, replicate}
 use Rattle.keys.specs.Limits.{Limits}
-use Rattle.keys.specs.Lists.{all, count, keep, rising, insert}
+use Rattle.keys.specs.Lists.{all, count, keep, rising}
 use Rattle.keys.proofs.Cases.{bool-cases, lt-cases}
+use Rattle.keys.proofs.Lists.{all-yes, all-no, all-end, count-yes, count-no, count-end, rising-next, rising-end}
 use Rattle.keys.proofs.Parts.{part-cons, part-end}
 use Rattle.keys.proofs.Fill.{Filled, filled-count, filled-all}
 use Rattle.sa.specs.Entry.{before, formed, liveRekey, named, due, retired, blankSa}
 use Rattle.sa.specs.declared.entry.Sa.{Sa}
 use Rattle.table.specs.declared.Table.{Table}
 use Rattle.table.specs.declared.Found.{Found}
-use Rattle.table.specs.Table.{sasOf, tableOf, tableFormed, changed, swept, notDue, emptyAt, retiredIf, none}
-use Rattle.table.specs.inner.Changes.{standingCount, entered}
+use Rattle.table.specs.Table.{sasOf, tableOf, tableFormed, changed, swept, stays, notDue, emptyAt, retiredIf, none}
+use Rattle.table.specs.inner.Changes.{standingCount}
 use Rattle.table.specs.Table.{theOne, foundIn}
 use Rattle.table.specs.inner.Loops.{picked}
 
@@ -90,12 +91,99 @@ module _ (limits : Limits) (t : Table) where
     unfolding tableFormed
     formed-live k e f g = rw (le-leb (t .count) (limits .sas) h, e, f, g)
 
+-- ---- the same by one pass, which stands at i and has met k live Rekey SAs
+module _ (limits : Limits) (t : Table) (h : t .count ≤ limits .sas) (long : length (t .sas) ≡ limits .sas) where
+  abbrev from : ℕ → List Sa
+  from i = drop i (sasOf t)
+
+  inside : t .count ≤ length (t .sas)
+  inside = omega arith
+
+  pub record Testing (k i : ℕ) : Type 0 where
+    pub each : all formed (sasOf t) ≡ all formed (from i)
+    pub rises : rising before (sasOf t) ≡ rising before (from i)
+    pub live : count liveRekey (sasOf t) ≡ count liveRekey (from i) + k
+    pub few : k ≤ i
+
+  pub testing-start : Testing 0 0
+  testing-start = record { each = refl; rises = refl; live = omega arith; few = omega arith }
+
+  rises-not : rising before (sasOf t) ≡ false → false ≡ tableFormed limits t
+  rises-not f = bool-cases (all formed (sasOf t)) (λ e. formed-rises limits t h e f) (λ e. formed-each limits t h e)
+
+  module _ (k i : ℕ) (w : Testing k i) (d : Sa) (g : i < t .count) where
+    abbrev s : Sa
+    s = getD (t .sas) i d
+
+    pub testing-not : false ≡ formed s → false ≡ tableFormed limits t
+    testing-not e = formed-each limits t h (w .each ∙ all-no formed (t .sas) (t .count) inside i d g e)
+
+    pub testing-falls : i + 1 < t .count → false ≡ before s (getD (t .sas) (i + 1) d) → false ≡ tableFormed limits t
+    testing-falls f e = rises-not (w .rises ∙ rising-next before (t .sas) (t .count) inside i d false f e)
+
+    module _ (e : true ≡ formed s) where
+      testing-on : (m : ℕ) → rising before (from i) ≡ rising before (from (i + 1)) →
+          count liveRekey (sasOf t) ≡ count liveRekey (from (i + 1)) + m → m ≤ i + 1 → Testing m (i + 1)
+      testing-on m r l f = record {
+        each = w .each ∙ all-yes formed (t .sas) (t .count) inside i d g e;
+        rises = w .rises ∙ r;
+        live = l;
+        few = f;
+      }
+
+      by-live : (b : Bool) → b ≡ liveRekey s → rising before (from i) ≡ rising before (from (i + 1)) → (m : ℕ) →
+          m ≡ cond b (k + 1) k → Testing m (i + 1)
+      by-live true l r m q =
+          let c = count-yes liveRekey (t .sas) (t .count) inside i d g l in
+          let o = w .live in
+          let f = w .few in
+          testing-on m r (omega arith) (omega arith)
+      by-live false l r m q =
+          let c = count-no liveRekey (t .sas) (t .count) inside i d g l in
+          let o = w .live in
+          let f = w .few in
+          testing-on m r (omega arith) (omega arith)
+
+      -- the next stands behind it, or there is no next
+      pub testing-next : (b : Bool) → b ≡ liveRekey s → i + 1 < t .count → true ≡ before s (getD (t .sas) (i + 1) d) → (m : ℕ) →
+          m ≡ cond b (k + 1) k → Testing m (i + 1)
+      testing-next b l f r = by-live b l (rising-next before (t .sas) (t .count) inside i d true f r)
+
+      pub testing-last : (b : Bool) → b ≡ liveRekey s → t .count ≤ i + 1 → (m : ℕ) → m ≡ cond b (k + 1) k → Testing m (i + 1)
+      testing-last b l f =
+          by-live b l (rising-end before (t .sas) (t .count) inside i d f
+          ∙ sym (rising-end before (t .sas) (t .count) inside (i + 1) d (omega arith)))
+
+  pub testing-end : (k i : ℕ) → Testing k i → t .count ≤ i → leb k 1 ≡ tableFormed limits t
+  testing-end k i w g =
+      let q = count-end liveRekey (t .sas) (t .count) inside i g in
+      let o = w .live in
+      formed-live limits t h k (w .each ∙ all-end formed (t .sas) (t .count) inside i g)
+      (w .rises ∙ rising-end before (t .sas) (t .count) inside i blankSa (omega arith)) (omega arith)
+
 -- ---- what stays
 -- every SA is due exactly when none is kept
 pub none-kept : (now : ℕ) (l : List Sa) → eqb (length (notDue now l)) 0 ≡ all (due now) l
 unfolding keep all
 none-kept now [] = refl
 none-kept now (s ∷ l) = bool-cases (due now s) (λ e. rw e (none-kept now l)) (λ e. rw e (eqb·suc-zero (length (notDue now l))))
+
+-- how many stay is how many a swept table has
+pub kept-count : {A : Type 0} (p : A → Bool) (l : List A) → count p l ≡ length (keep p l)
+unfolding count keep
+kept-count p [] = refl
+kept-count p (a ∷ l) =
+    let h = kept-count p l in bool-cases (p a) (λ g. rw g (omega arith)) (λ g. rw g h)
+
+module _ (limits : Limits) (now : ℕ) (t : Table) where
+  pub standing-in : (k : ℕ) → t .count ≤ limits .sas → k ≡ count (stays now) (sasOf t) → k ≡ standingCount limits now t
+  unfolding standingCount swept tableOf
+  standing-in k h e =
+      e ∙ kept-count (stays now) (sasOf t) ∙ sym (ap (λ (x : Table). x .count) (changed-in limits t (notDue now) h))
+
+  pub standing-out : limits .sas < t .count → t .count ≡ standingCount limits now t
+  unfolding standingCount swept
+  standing-out h = sym (ap (λ (x : Table). x .count) (changed-out limits t (notDue now) h))
 
 empty-in : (limits : Limits) (now k : ℕ)
     (t : Table) → t .count ≤ limits .sas → k ≡ swept limits now t .count → eqb k 0 ≡ emptyAt limits now t
@@ -115,18 +203,6 @@ pub empty-is : (limits : Limits) (now k : ℕ) (t : Table) → k ≡ standingCou
 unfolding standingCount
 empty-is limits now k t e =
     lt-cases (limits .sas) (t .count) (λ h. empty-out limits now k t h e) (λ h. empty-in limits now k t h e)
-
--- ---- one SA more
-module _ (limits : Limits) (a : Sa) (t : Table) where
-  pub entered-in : (out : List Sa) (k : ℕ) → t .count < limits .sas →
-      out ≡ insert before a (sasOf t) ++ replicate (limits .sas - length (insert before a (sasOf t))) blankSa →
-      k ≡ length (insert before a (sasOf t)) → record { sas = out; count = k } ≡ entered limits a t
-  unfolding entered tableOf
-  entered-in out k h p q = rw (lt-ltb (t .count) (limits .sas) h) (λ i. record { sas = p i; count = q i })
-
-  pub entered-out : limits .sas ≤ t .count → t ≡ entered limits a t
-  unfolding entered
-  entered-out h = rw (le-ltb (t .count) (limits .sas) h)
 
 -- ---- each SA changed
 module _ {A : Type 0} (f : A → A) (l : List A) (n : ℕ) (h : n ≤ length l) (j : ℕ) where

@@ -1,4 +1,5 @@
--- "A table of at most 16 SAs, strictly rising by protocol (3 or 6), then SPI octets ... At most one Rekey SA is live."
+-- "A table of at most 16 SAs, strictly rising by protocol (3 or 6), then SPI octets ... At most one Rekey SA is live." By document 02,
+-- T-01, at most 64.
 use Prim.Native.Nat.{ℕ, _-_}
 use mathlib.Core.Bool.{Bool, true, false, cond, not, _&&_}
 use mathlib.Core.List.{List, [], _∷_, _++_}

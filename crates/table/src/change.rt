@@ -4,15 +4,14 @@ ghost use mathlib.Core.Bool.{_||_};
 ghost use Rattle.keys.specs.Limits.{limits};
 ghost use Rattle.sa.specs.Entry.{before};
 ghost use Rattle.table.specs.Table.{swept, emptyAt, retiredIf};
-ghost use Rattle.table.specs.inner.Changes.{standingCount, entered, retiredWhere, retiredEsp, retiredAll};
+ghost use Rattle.table.specs.inner.Changes.{standingCount, retiredWhere, retiredAll};
 ghost use Rattle.table.specs.inner.Loops.{picked};
 use crate::Table;
 use keys::limits::SAS;
-use sa::entry::ESP;
 use sa::entry::Sa;
 
-// Whether s comes after a in the table that a enters: a has its place already, or stands before s.
-fn goes_ahead(placed: bool, a: Sa, s: Sa) -> bool
+// Whether s comes after a in the table that a enters: a has its place already, or stands before s. Internal.
+pub fn goes_ahead(placed: bool, a: Sa, s: Sa) -> bool
     ensures { λ r. ⌜ r ≡ (placed || before a s) ⌝ }
 {
     if placed {
@@ -64,8 +63,20 @@ impl Table {
     pub fn standing(self, tick: u32) -> usize
         ensures { λ r. ⌜ r ≡ standingCount limits tick self ⌝ }
     {
-        let t = self.swept(tick);
-        t.count
+        let n = self.count;
+        if SAS < n {
+            return n;
+        }
+        let mut k: usize = 0;
+        let mut i: usize = 0;
+        while i < n {
+            let s = self.sas[i];
+            if s.due(tick) {} else {
+                k += 1;
+            }
+            i += 1;
+        }
+        k
     }
 
     // Whether every SA, if any, is due. Internal.
@@ -73,36 +84,6 @@ impl Table {
         ensures { λ r. ⌜ r ≡ emptyAt limits tick self ⌝ }
     {
         self.standing(tick) == 0
-    }
-
-    // The table with one SA more, at its place; the same table where it is full. Internal.
-    pub fn entered(self, a: Sa) -> Table
-        ensures { λ r. ⌜ r ≡ entered limits a self ⌝ }
-    {
-        let n = self.count;
-        if SAS <= n {
-            return self;
-        }
-        let mut out = [Sa::blank(); SAS];
-        let mut carried = a;
-        let mut placed = false;
-        let mut i: usize = 0;
-        while i < n {
-            let s = self.sas[i];
-            if goes_ahead(placed, carried, s) {
-                out[i] = carried;
-                carried = s;
-                placed = true;
-            } else {
-                out[i] = s;
-            }
-            i += 1;
-        }
-        out[i] = carried;
-        Table {
-            sas: out,
-            count: n + 1,
-        }
     }
 
     // The table with the picked SAs retired.
@@ -122,13 +103,6 @@ impl Table {
             i += 1;
         }
         Table { sas: out, count: n }
-    }
-
-    // The ESP SA with this SPI retires, if it is live. Internal.
-    pub fn retired_esp(self, spi: &[u8], tick: u32, delay: u16) -> Table
-        ensures { λ r. ⌜ r ≡ retiredEsp limits (now (spi .entry)) tick delay self ⌝ }
-    {
-        self.retired_where(false, ESP, spi, tick, delay)
     }
 
     // Every live SA of the protocol retires. Internal.

@@ -6,29 +6,23 @@ use group::Member;
 use group::receive::Answer;
 use lines::Request;
 
-// Document 01's number of an answer.
-fn number(a: Answer) -> usize {
-    match a {
-        Answer::Accepted => 0,
-        Answer::BrokenLayout => 1,
-        Answer::NotForMember => 2,
-        Answer::Replayed => 3,
-        Answer::BadComposition => 4,
-        Answer::Unsupported => 5,
-        Answer::Unpaired => 6,
-        Answer::OverLimit => 7,
-        Answer::KeyConflict => 8,
-        Answer::NoKey => 9,
+// The line of an answer: its number, and on number 1 its figure.
+fn told(a: Answer, out: &mut [u8]) -> usize {
+    let word = text::put(out, 0, b"answer");
+    let number = a.number();
+    let behind = text::number(out, word, number);
+    if number == 1 {
+        let figure = text::number(out, behind, a.figure());
+        return text::newline(out, figure);
     }
+    text::newline(out, behind)
 }
 
 fn received(m: Member, frame: &[u8], key: &[u8], tick: u32, out: &mut [u8]) -> Reply {
     let x = m.receive(frame, key, tick);
     let member = x.member;
     let answer = x.answer;
-    let a = text::put(out, 0, b"answer");
-    let b = text::number(out, a, number(answer));
-    let at = text::newline(out, b);
+    let at = told(answer, out);
     Reply { member, at }
 }
 

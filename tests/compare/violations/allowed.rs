@@ -1,7 +1,7 @@
 //! What looks odd and must not be refused: number 0. Several may be done to one frame, in the order of the table.
 
 use super::pairing::{esp_policies, fill, one_chain, sas_after};
-use super::{any, registration, rekey, Place, Violation};
+use super::{any, either_rekey, inband, registration, rekey, Exchange, Violation};
 use crate::case::Case;
 use crate::limits::*;
 use crate::lives::without_lifetime;
@@ -9,9 +9,8 @@ use builder::typical::*;
 use builder::wrapping::wrap;
 use builder::{Attribute, Body, Part, Payload, AUTH, CERT, DELETE, ESP, GSA, IDR, KD, NOTIFY, REKEY};
 
-pub fn of_place(of_registration: bool) -> Vec<&'static Violation> {
-    let other = if of_registration { Place::Rekey } else { Place::Registration };
-    TABLE.iter().filter(|allowed| allowed.place != other).collect()
+pub fn of_exchange(exchange: Exchange) -> Vec<&'static Violation> {
+    TABLE.iter().filter(|allowed| allowed.place.has(exchange)).collect()
 }
 
 pub const TABLE: &[Violation] = &[
@@ -154,6 +153,11 @@ pub const TABLE: &[Violation] = &[
         c.frame.message_id = c.frame.message_id.checked_add(more).filter(|id| *id < u32::MAX)?;
         Some(())
     }),
+    inband(0, "the live Rekey SA's SPIs and a Message ID that it would not take, over the own channel", |c| {
+        c.frame.spis = c.member.live_rekey()?.spi.clone();
+        c.frame.message_id = c.member.least_id.map_or(u32::MAX, |least| least.saturating_sub(1));
+        Some(())
+    }),
     rekey(0, "the last Message ID, with a new Rekey SA", |c| {
         c.policy(REKEY)?;
         c.frame.message_id = u32::MAX;
@@ -183,7 +187,7 @@ pub const TABLE: &[Violation] = &[
         (others + MOST_ESP_POLICIES <= MOST_SAS).then_some(())?;
         esp_policies(c, MOST_ESP_POLICIES)
     }),
-    rekey(0, "as many SAs as may be", |c| sas_after(c, MOST_SAS)),
+    either_rekey(0, "as many SAs as may be", |c| sas_after(c, MOST_SAS)),
     any(0, "SPI of an SA that is due", |c| {
         let (protocol, tick) = (c.rng.pick(&[ESP, REKEY]), c.tick);
         let spi = c.member.table.iter().find(|sa| sa.protocol == protocol && sa.is_due(tick))?.spi.clone();

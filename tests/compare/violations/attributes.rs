@@ -1,6 +1,6 @@
 //! Number 1: attributes wherever they stand, bags, Delete payloads.
 
-use super::{any, registration, rekey, Violation};
+use super::{any, either_rekey, registration, Violation};
 use crate::case::Case;
 use builder::{Attribute, Body, Delete, Part, AH, ESP, KD, REKEY};
 
@@ -109,7 +109,7 @@ pub const TABLE: &[Violation] = &[
         c.bag(0)?.attributes.push(Attribute::long(1, &vec![0; count]));
         Some(())
     }),
-    rekey(1, "WRAP_KEY: broken in a rekey's Member bag", |c| {
+    either_rekey(1, "WRAP_KEY: broken in a rekey's Member bag", |c| {
         let key = unfit_key(c, 7);
         c.bags()?.push(Part::unnamed(vec![key]));
         Some(())

@@ -1,6 +1,6 @@
 //! Numbers 8 and 9.
 
-use super::{any, registration, rekey, Violation};
+use super::{any, either_rekey, inband, registration, rekey, Violation};
 use crate::case::Case;
 use builder::wrapping::{wrap, wrap_as};
 use builder::{Attribute, ESP, REKEY};
@@ -133,9 +133,21 @@ pub const TABLE: &[Violation] = &[
         entry(c, id, &value, 0, &other)?;
         only_copy(c, id, &value)
     }),
-    rekey(9, "Rekey key under the announced SA's own default key", |c| {
+    either_rekey(9, "Rekey key under the announced SA's own default key", |c| {
         let key = c.sa_key(REKEY)?;
         only_copy(c, 0, &key[key.len() - 16..])
+    }),
+    inband(9, "Rekey key under a held key, over the own channel", |c| {
+        let (id, key) = c.member.held.first()?.clone();
+        only_copy(c, id, &key)
+    }),
+    inband(9, "Rekey key under the live Rekey SA's default key, over the own channel", |c| {
+        let key = c.member.live_rekey()?.default_key().to_vec();
+        only_copy(c, 0, &key)
+    }),
+    inband(9, "Rekey key under the lent key by another KWK ID, over the own channel", |c| {
+        let (id, key) = (c.unknown_id(), c.key0.clone());
+        only_copy(c, id, &key)
     }),
     rekey(9, "Rekey key with no copy that opens", |c| {
         let (unknown, (id, _)) = (c.unknown_id(), c.some_key());

@@ -1,22 +1,30 @@
 //! Numbers 2, 3 and 4. (A member value that breaks its list cannot come through the program.)
 
 use super::attributes::policy_of;
-use super::{any, registration, rekey, Violation};
+use super::{any, either_rekey, inband, registration, rekey, with_lent_key, Violation};
 use crate::case::Case;
 use builder::typical::*;
 use builder::{Attribute, Body, Delete, Part, Payload, AH, DELETE, ESP, GSA, KD, NOTIFY, REKEY};
 use reference::member::Condition;
 
 pub const TABLE: &[Violation] = &[
-    any(2, "exchange not one of the three", |c| {
-        c.frame.exchange = c.rng.pick(&[0, 34, 35, 36, 37, 38, 42, 43, 44, 169, 255]);
+    any(2, "exchange not one of the four", |c| {
+        c.frame.exchange = c.rng.pick(&[0, 34, 35, 36, 37, 38, 43, 44, 169, 255]);
         Some(())
     }),
     registration(2, "rekey of a member without a Rekey SA", |c| {
         c.frame.exchange = GSA_REKEY;
         Some(())
     }),
-    rekey(2, "registration of a non-empty member", |c| {
+    registration(2, "rekey over the own channel of an empty member", |c| {
+        c.frame.exchange = GSA_INBAND_REKEY;
+        Some(())
+    }),
+    inband(2, "rekey over the own channel as one over the Rekey SA", |c| {
+        c.frame.exchange = GSA_REKEY;
+        c.member.live_rekey().is_none_or(|sa| sa.spi != c.frame.spis).then_some(())
+    }),
+    either_rekey(2, "registration of a non-empty member", |c| {
         c.frame.exchange = c.rng.pick(&[GSA_AUTH, GSA_REGISTRATION]);
         Some(())
     }),
@@ -58,22 +66,28 @@ pub const TABLE: &[Violation] = &[
         c.insert(payload);
         Some(())
     }),
-    rekey(4, "Member bag in a rekey", |c| {
+    either_rekey(4, "Member bag in a rekey", |c| {
         let key = Attribute::key(7, 0, &c.rng.octets(24));
         c.bags()?.push(Part::unnamed(vec![key]));
         Some(())
     }),
-    rekey(4, "Member bag in a rekey, empty", |c| {
+    either_rekey(4, "Member bag in a rekey, empty", |c| {
         c.bags()?.insert(0, Part::unnamed(vec![]));
         Some(())
     }),
-    registration(4, "Delete in a registration", |c| {
+    with_lent_key(4, "Delete in a frame with a lent key", |c| {
         c.made_delete()?;
         Some(())
     }),
-    registration(4, "Delete in a registration, of a kind that a rekey refuses as 5", |c| {
+    with_lent_key(4, "Delete in a frame with a lent key, of a kind that GSA_REKEY refuses as 5", |c| {
         let delete = c.rng.pick(&[Delete::new(ESP, 4, &[]), Delete::new(REKEY, 16, &[vec![0; 16]]), Delete::new(0, 0, &[])]);
         c.insert(Payload::new(DELETE, Body::Delete(delete)));
+        Some(())
+    }),
+    inband(4, "Delete alone over the own channel", |c| {
+        c.remove(GSA)?;
+        c.remove(KD)?;
+        c.made_delete()?;
         Some(())
     }),
     any(4, "two GSA", |c| twice(c, GSA)),

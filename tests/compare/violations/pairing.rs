@@ -1,6 +1,6 @@
 //! Numbers 6 and 7.
 
-use super::{any, registration, rekey, Violation};
+use super::{any, either_rekey, registration, rekey, with_lent_key, Violation};
 use crate::case::Case;
 use crate::limits::*;
 use crate::lives::without_lifetime;
@@ -57,12 +57,12 @@ pub const TABLE: &[Violation] = &[
         c.bags()?.push(bag);
         Some(())
     }),
-    rekey(6, "ESP SA live in the table", |c| rename_as(c, ESP, live)),
-    rekey(6, "ESP SA retiring in the table", |c| {
+    either_rekey(6, "ESP SA live in the table", |c| rename_as(c, ESP, live)),
+    either_rekey(6, "ESP SA retiring in the table", |c| {
         rename_as(c, ESP, |sa, tick| sa.condition != Condition::Live && !sa.is_due(tick))
     }),
-    rekey(6, "the live Rekey SA's own SPI", |c| rename_as(c, REKEY, live)),
-    rekey(6, "Rekey SA retiring in the table", |c| {
+    either_rekey(6, "the live Rekey SA's own SPI", |c| rename_as(c, REKEY, live)),
+    either_rekey(6, "Rekey SA retiring in the table", |c| {
         rename_as(c, REKEY, |sa, tick| sa.condition != Condition::Live && !sa.is_due(tick))
     }),
     rekey(6, "ESP SA in the table that the frame deletes without delay", |c| {
@@ -81,10 +81,10 @@ pub const TABLE: &[Violation] = &[
         c.bag(REKEY)?.attributes.clear();
         Some(())
     }),
-    registration(6, "Rekey: two SA_KEYs in a registration", |c| two_keys(c, REKEY)),
+    with_lent_key(6, "Rekey: two SA_KEYs in a frame with a lent key", |c| two_keys(c, REKEY)),
     any(6, "ESP: SA_KEY with a Key ID", |c| set_ids(c, ESP, &[1, 7, u32::MAX], &[0])),
     any(6, "Rekey: SA_KEY with a Key ID", |c| set_ids(c, REKEY, &[1, 7, u32::MAX], &[0, 9])),
-    rekey(6, "Rekey: one of several SA_KEYs with a Key ID", |c| {
+    either_rekey(6, "Rekey: one of several SA_KEYs with a Key ID", |c| {
         let key = Attribute::key(5, 0, &c.rng.octets(16));
         c.bag(REKEY)?.attributes.push(key);
         Some(())
@@ -173,7 +173,7 @@ pub const TABLE: &[Violation] = &[
     }),
     any(7, "a lifetime one second too long", |c| set_lifetime(c, MOST_SECONDS + 1)),
     any(7, "a lifetime of 4,294,967,295 seconds", |c| set_lifetime(c, u32::MAX)),
-    rekey(7, "one SA too many", |c| sas_after(c, MOST_SAS + 1)),
+    either_rekey(7, "one SA too many", |c| sas_after(c, MOST_SAS + 1)),
     rekey(7, "one SA too many, the others live", |c| {
         c.member.table.iter().all(|sa| sa.condition == Condition::Live).then_some(())?;
         sas_after(c, MOST_SAS + 1)

@@ -1,26 +1,33 @@
 -- The SAs that Delete payloads name, and where the payloads stand.
 use Prim.Native.Nat.{ℕ}
 use mathlib.Core.Path.{_≡_}
-use mathlib.Core.Bool.{Bool, _&&_, _||_}
-use mathlib.Core.List.{List}
-use lib.Dec.{eqb}
-use lib.ListN.{length}
+use mathlib.Core.Bool.{Bool, cond, _&&_, _||_}
+use mathlib.Core.List.{List, _++_, map}
+use lib.Dec.{eqb, leb}
+use lib.ListN.{length, take, drop}
 use Rattle.octets.specs.Compare.{same}
 use Rattle.keys.specs.Lists.{any}
+use Rattle.keys.specs.Limits.{limits}
 use Rattle.frames.specs.Delete.{Delete}
 use Rattle.payloads.specs.inner.Deletion.{DeletesFrom}
 use Rattle.sa.specs.Entry.{esp, spiOf}
 use Rattle.sa.specs.declared.entry.Sa.{Sa}
+use Rattle.table.specs.Table.{retiredIf}
+use Rattle.table.specs.declared.Table.{Table}
 use Rattle.outcome.specs.After.{isZero}
 use Rattle.acceptance.specs.declared.retiring.DeletesAt.{DeletesAt}
 
--- what one SPI names
-abbrev pub namedBy : List ℕ → Sa → Bool
-namedBy x s = eqb (s .protocol) esp && (isZero x || same (spiOf s) x)
-
--- what some of them name
+-- what some of these SPIs name
 abbrev pub namedIn : List (List ℕ) → Sa → Bool
 namedIn l s = eqb (s .protocol) esp && any (λ (x : List ℕ). isZero x || same (spiOf s) x) l
+
+-- the SAs of a table that a test picks retire in their places; where its count is not within the limit, none does
+unfoldable pub retiredThere : (Sa → Bool) → ℕ → ℕ → Table → Table
+retiredThere p now delay t =
+    cond (leb (t .count) (limits .sas)) (record {
+      sas = map (retiredIf p now delay) (take (t .count) (t .sas)) ++ drop (t .count) (t .sas);
+      count = t .count;
+    }) t
 
 -- a frame of octets s has these Delete payloads, so many, and the first starts there
 pub record AreDeletes (s : List ℕ) (d : DeletesAt) (l : List Delete) : Type 0 where

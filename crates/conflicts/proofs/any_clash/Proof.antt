@@ -3,6 +3,7 @@ use native.Mathlib.Omega.{arith}
 use Prim.Native.Nat.{_-_, _≤_}
 use mathlib.Core.Path.{_≡_}
 use lib.ListN.{length, getD}
+use Rattle.keys.specs.Limits.{limits}
 use Rattle.reach.specs.declared.open.Entry.{Entry}
 use Rattle.reach.specs.declared.open.Cell.{Cell}
 use Rattle.reach.specs.inner.Entries.{noEntry}
@@ -15,7 +16,7 @@ use Rattle.conflicts.proofs.any_clash.Tie as tie
 
 abbrev Inv-loop : tie.InvT-loop
 Inv-loop n entries cells i₀ i =
-    (n ≤ 32) × (length entries ≡ 32) × (length cells ≡ 32) × (i ≤ n) ×
+    (n ≤ limits .wrapKeys) × (length entries ≡ limits .wrapKeys) × (length cells ≡ limits .wrapKeys) × (i ≤ n) ×
     NoneBelow i (λ j. ClashAmong (getD entries j noEntry) (cellAt cells j) entries cells n)
 
 abbrev μ-loop : tie.MeasureT-loop
@@ -23,8 +24,8 @@ abbrev μ-loop : tie.MeasureT-loop
 
 loop-holds : tie.Need-loop-holds Inv-loop μ-loop
 loop-holds c =
-    let e : length (c .args .t1) ≡ 32 = search needs in
-    let f : length (c .args .t2) ≡ 32 = search needs in
+    let e : length (c .args .t1) ≡ limits .wrapKeys = search needs in
+    let f : length (c .args .t2) ≡ limits .wrapKeys = search needs in
     (c .pre, e, f, search needs, λ i h. absurd (omega arith))
 
 mul-e : tie.Need-mul-e Inv-loop μ-loop

@@ -3,6 +3,7 @@ use native.Mathlib.Omega.{arith}
 use Prim.Native.Nat.{_-_, _≤_}
 use mathlib.Core.Path.{_≡_, sym, _∙_}
 use lib.ListN.{length}
+use Rattle.keys.specs.Limits.{limits}
 use Rattle.reach.specs.declared.open.Status.the-variants.{Wrong}
 use Rattle.reach.specs.inner.Search.{cellAt}
 use Rattle.conflicts.proofs.Clashing.{NoneBelow, none-next, none-all, wrong-here, wrong-none}
@@ -11,13 +12,14 @@ use Rattle.conflicts.proofs.any_wrong.Statement.{statement}
 use Rattle.conflicts.proofs.any_wrong.Tie as tie
 
 abbrev Inv-loop : tie.InvT-loop
-Inv-loop n cells i₀ i = (n ≤ 32) × (length cells ≡ 32) × (i ≤ n) × NoneBelow i (λ j. cellAt cells j .status ≡ Wrong)
+Inv-loop n cells i₀ i =
+    (n ≤ limits .wrapKeys) × (length cells ≡ limits .wrapKeys) × (i ≤ n) × NoneBelow i (λ j. cellAt cells j .status ≡ Wrong)
 
 abbrev μ-loop : tie.MeasureT-loop
 μ-loop n cells i₀ i = n - i
 
 loop-holds : tie.Need-loop-holds Inv-loop μ-loop
-loop-holds c = let e : length (c .args .t1) ≡ 32 = search needs in (c .pre, e, search needs, λ i h. absurd (omega arith))
+loop-holds c = let e : length (c .args .t1) ≡ limits .wrapKeys = search needs in (c .pre, e, search needs, λ i h. absurd (omega arith))
 
 mul-c : tie.Need-mul-c Inv-loop μ-loop
 mul-c c = search needs

@@ -3,6 +3,7 @@ use native.Mathlib.Omega.{arith}
 use Prim.Native.Nat.{_-_, _≤_}
 use mathlib.Core.Path.{_≡_}
 use lib.ListN.{length, getD}
+use Rattle.keys.specs.Limits.{limits}
 use Rattle.reach.specs.inner.Entries.{noEntry}
 use Rattle.reach.specs.inner.Search.{cellAt}
 use Rattle.conflicts.specs.inner.Values.{Clash}
@@ -13,7 +14,7 @@ use Rattle.conflicts.proofs.clashes.Tie as tie
 
 abbrev Inv-loop : tie.InvT-loop
 Inv-loop e c n entries cells i₀ i =
-    (n ≤ 32) × (length entries ≡ 32) × (length cells ≡ 32) × (i ≤ n) ×
+    (n ≤ limits .wrapKeys) × (length entries ≡ limits .wrapKeys) × (length cells ≡ limits .wrapKeys) × (i ≤ n) ×
     NoneBelow i (λ j. Clash e c (getD entries j noEntry) (cellAt cells j))
 
 abbrev μ-loop : tie.MeasureT-loop
@@ -21,8 +22,8 @@ abbrev μ-loop : tie.MeasureT-loop
 
 loop-holds : tie.Need-loop-holds Inv-loop μ-loop
 loop-holds c =
-    let e : length (c .args .t3) ≡ 32 = search needs in
-    let f : length (c .args .t4) ≡ 32 = search needs in
+    let e : length (c .args .t3) ≡ limits .wrapKeys = search needs in
+    let f : length (c .args .t4) ≡ limits .wrapKeys = search needs in
     (c .pre, e, f, search needs, λ i h. absurd (omega arith))
 
 mul-f : tie.Need-mul-f Inv-loop μ-loop

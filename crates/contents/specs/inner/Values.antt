@@ -4,9 +4,10 @@ use mathlib.Core.Path.{_≡_}
 use mathlib.Core.List.{List, [], _∷_}
 use mathlib.Core.Bool.{Bool, true, false}
 use lib.Dec.{eqb}
-use lib.ListN.{length, drop}
+use lib.ListN.{length, drop, getD}
 use Rattle.octets.specs.Walk.{part, either, Reading, whole, broken}
 use Rattle.attributes.specs.Attribute.{Attribute, leadOf, spanOf}
+use Rattle.attributes.specs.Answers.{valueAt, valueStart}
 use Rattle.attributes.specs.Place.{wrappedSize}
 use Rattle.attributes.specs.Tree.{means, valuesOf}
 use Rattle.attributes.specs.Layout.{attributes}
@@ -64,3 +65,19 @@ pub record FoundAt (m : Meaning) (p : Place) (s : List ℕ) (from a e : ℕ) : T
 abbrev pub Finds : Meaning → Place → List ℕ → ℕ → Found → Type 0
 Finds m p s from (found.At a e) = FoundAt m p s from a e
 Finds m p s from found.Nothing = valuesIn m p (drop from s) ≡ []
+
+-- the attribute that stands at b and ends at e holds that first value
+pub record MetAt (m : Meaning) (p : Place) (s : List ℕ) (from b e : ℕ) : Type 0 where
+  pub value : FoundAt m p s from (valueStart s b) e
+  pub octets : valueAt (drop b s) ≡ part s (valueStart s b) e
+
+abbrev pub Meets : Meaning → Place → List ℕ → ℕ → Found → Type 0
+Meets m p s from (found.At b e) = MetAt m p s from b e
+Meets m p s from found.Nothing = (valuesIn m p (drop from s) ≡ []) × (placesIn m p s from ≡ [])
+
+-- the first value from a place on, and where it starts; no octet at 0 where there is none
+abbrev pub firstValue : Meaning → Place → List ℕ → ℕ → List ℕ
+firstValue m p s from = getD (valuesIn m p (drop from s)) 0 []
+
+abbrev pub firstStart : Meaning → Place → List ℕ → ℕ → ℕ
+firstStart m p s from = getD (placesIn m p s from) 0 (record { start = 0; end = 0 }) .start

@@ -1,94 +1,118 @@
--- `copies::copies` meets its contract. The invariant speaks of any tries of which the answer at the loop's start tells, since key 0's
--- schedule is handed on before the loop.
+-- `copies::copies` meets its contract: the invariant is what is known of the copies passed.
 use denote.Ref.{now}
 use native.Mathlib.Omega.{arith}
-use Prim.Native.Nat.{_+_, _-_, _≤_}
-use mathlib.Core.Path.{_≡_}
-use mathlib.Core.List.{List, _++_}
+use Prim.Native.Nat.{ℕ, _-_, _≤_}
+use mathlib.Core.Path.{_≡_, _∙_, subst}
+use mathlib.Core.Bool.{true}
+use mathlib.Core.List.{List}
 use lib.ListN.{length, drop}
-use Rattle.keys.specs.Limits.{limits}
-use Rattle.keys.proofs.Lists.{length-of-map}
-use Rattle.state.specs.Held.{keysOf}
+use Rattle.octets.specs.Walk.{part}
+use Rattle.attributes.specs.Answers.{valueStart}
+use Rattle.aes.specs.inner.Schedule.{ExpandsInverse}
+use Rattle.attributes.specs.Layout.{attributes}
+use Rattle.attributes.specs.declared.tables.Meaning.the-variants as meaning
+use Rattle.contents.specs.inner.Values.{isWhole, MetAt, Meets}
 use Rattle.keys.specs.Kinds.{valueOf}
+use Rattle.state.specs.declared.held.Held.{Held}
 use Rattle.copies.specs.inner.Answer.{copiesIn}
-use Rattle.copies.specs.inner.Tries.{Try, Tells}
+use Rattle.copies.specs.inner.Lending.{LendsHeld}
 use Rattle.copies.specs.inner.Named.{triesOf}
-use Rattle.copies.proofs.Progress.{Progress, began, goes-on, ends}
-use Rattle.copies.proofs.Reaching.{held-count, held-size, tries-next, tries-end, answers, triesUnder}
+use Rattle.copies.proofs.Walking.{ids-inside, next-tries, no-tries}
+use Rattle.copies.proofs.Progress.{Progress, starts, goes-on, ends}
+use Rattle.copies.proofs.Reaching.{answers}
 use borrow.Author.Needs.{needs}
 use Rattle.copies.proofs.copies.Statement.{statement}
 use Rattle.copies.proofs.copies.Tie as tie
 
 abbrev Inv-loop : tie.InvT-loop
-Inv-loop place a need tables held known₀ n i₀ known i =
-    (length (held .keys) ≡ limits .heldKeys) × (n ≤ length (held .keys)) × (i ≤ n) × ((first : List Try) → Tells first need known₀ →
-    Progress need (first ++ triesUnder (keysOf held) (copiesIn place a)) (triesUnder (drop i (keysOf held)) (copiesIn place a)) known)
+Inv-loop place a need tables schedule ids block known₀ at₀ known at =
+    (at ≤ length a) × (isWhole (attributes place 0 (drop at a)) ≡ true) ×
+    ((v : List ℕ) (held : Held) → ExpandsInverse v (schedule .words) → LendsHeld held ids block →
+    Progress need (triesOf v held (copiesIn place a)) (triesOf v held (copiesIn place (drop at a))) known)
 
 abbrev μ-loop : tie.MeasureT-loop
-μ-loop place a need tables held known₀ n i₀ known i = n - i
+μ-loop place a need tables schedule ids block known₀ at₀ known at = length a - at
 
-tried-requires : tie.Need-tried-requires Inv-loop μ-loop
-tried-requires c κs = let p = c .before .pre in (p .0, (p .1 .1 .0, p .1 .0))
+nothing-requires : tie.Need-nothing-requires Inv-loop μ-loop
+nothing-requires c κs = search needs
 
 loop-holds : tie.Need-loop-holds Inv-loop μ-loop
 loop-holds c =
-    let s = c .before .before in
-    let a = s .args in
-    let e : length (a .t6 .keys) ≡ limits .heldKeys = search (needs, length-of-map) in (
-      e,
-      held-count (a .t6) (s .pre .1 .1 .1) e,
+    let s = c .before .before .before .before in
+    let a = s .args in (
       omega arith,
-      λ first t. began (a .need) first (triesUnder (keysOf (a .t6)) (copiesIn (a .place) (now (a .a)))) (c .tried .result) t,
+      s .pre .0,
+      λ v held x lends. starts (a .need) (triesOf v held (copiesIn (a .place) (now (a .a)))) (c .nothing .result) (c .nothing .ensures),
     )
 
-mul-k : tie.Need-mul-k Inv-loop μ-loop
-mul-k c = search needs
+next-attribute-requires : tie.Need-next-attribute-requires Inv-loop μ-loop
+next-attribute-requires c κs = (c .loop .inv .0, c .loop .inv .1)
 
-element-copy-out-k : tie.Need-element-copy-out-k Inv-loop μ-loop
-element-copy-out-k c = search needs
+enum-known-start : tie.Need-enum-known-start Inv-loop μ-loop
+enum-known-start c = search needs
 
-with-key-requires : tie.Need-with-key-requires Inv-loop μ-loop
-with-key-requires c κs =
-    let l = c .before .before .before .loop in
-    let s = c .before .before .before .before .before .before in
-    let size = held-size (s .args .t6) (s .pre .1 .1 .1) (l .inv .0) (l .i) _ (c .before .before .loop-test .taken) in
-    (s .pre .0, ((s .pre .1 .1 .0 .0, size), s .pre .1 .0))
+-- the next copy
+next : (c : tie.After-known-told Inv-loop μ-loop) →
+    let a = c .before .before .before .before .before .before .before .before .before .args in
+    let p = c .before .start .given .0 in
+    MetAt meaning.SaKey (a .place) (now (a .a)) (c .before .before .before .before .loop .at) (p .0) (p .1 .0)
+next c =
+    let a = c .before .before .before .before .before .before .before .before .before .args in
+    subst (Meets meaning.SaKey (a .place) (now (a .a)) (c .before .before .before .before .loop .at)) (c .before .start .given .1)
+    (c .before .before .before .next-attribute .ensures)
+
+attribute-value-requires : tie.Need-attribute-value-requires Inv-loop μ-loop
+attribute-value-requires c κs = search needs
+
+-- its octets
+octets-are : (c : tie.After-attribute-value Inv-loop μ-loop) →
+    let a = c .before .before .before .before .before .before .before .before .before .before .args in
+    let p = c .before .before .start .given .0 in
+    now (c .attribute-value .result) ≡ part (now (a .a)) (valueStart (now (a .a)) (p .0)) (p .1 .0)
+octets-are c = c .attribute-value .ensures .0 ∙ next (c .before) .octets
+
+tried-requires : tie.Need-tried-requires Inv-loop μ-loop
+tried-requires c κs =
+    let t = c .before in
+    let s = t .before .before .before .before .before .before .before .before .before in
+    let a = s .args in
+    ((ids-inside (a .place) (now (a .a)) _ _ _ (next t .value) _ (octets-are c), s .pre .1 .0), s .pre .1 .1)
 
 joined-requires : tie.Need-joined-requires Inv-loop μ-loop
 joined-requires c κs = search needs
 
-add-i : tie.Need-add-i Inv-loop μ-loop
-add-i c = search needs
-
 loop-less : tie.Need-loop-less Inv-loop μ-loop
-loop-less c = search needs
+loop-less c = let f = next (c .before .before .before) .value in omega (arith, f .start, f .order, f .inside)
 
 loop-again : tie.Need-loop-again Inv-loop μ-loop
 loop-again c =
-    let l = c .before .before .before .before .before .loop in
-    let s = c .before .before .before .before .before .before .before .before in
-    let a = s .args in
-    let g = copiesIn (a .place) (now (a .a)) in (
-      l .inv .0,
-      l .inv .1,
-      omega arith,
-      λ first t.
-          goes-on (a .need) (first ++ triesUnder (keysOf (a .t6)) g) _ _ _ (l .known) (c .before .with-key .result) (c .joined .result)
-          (tries-next (a .t6) (s .pre .1 .1 .1) (l .inv .0) g (l .i) _ (c .before .before .before .before .loop-test .taken))
-          (l .inv .3 first t) (c .before .with-key .ensures) (c .joined .ensures),
+    let w = c .before .before in
+    let t = w .before in
+    let f = next t .value in
+    let l = t .before .before .before .before .loop in
+    let a = t .before .before .before .before .before .before .before .before .before .args in
+    let s = now (a .a) in (
+      f .inside,
+      f .rest,
+      λ v held x lends.
+          goes-on (a .need) (triesOf v held (copiesIn (a .place) s)) _ _ _ (l .known) (c .before .tried .result) (c .joined .result)
+          (next-tries (a .place) s (l .at) _ _ f _ (octets-are w) v held) (l .inv .2 v held x lends)
+          (c .before .tried .ensures v held x lends) (c .joined .ensures),
     )
 
+enum-told : tie.Need-enum-told Inv-loop μ-loop
+enum-told c = search needs
+
 returns : tie.Need-returns Inv-loop μ-loop
-returns c roots entries size zero x h =
-    let l = c .before .loop in
-    let s = c .before .before .before .before in
-    let a = s .args in
-    let g = copiesIn (a .place) (now (a .a)) in
-    let first = triesOf 0 (valueOf zero) g in
-    answers g zero (a .t6) roots entries size h (a .need) (l .known)
-    (ends (a .need) (first ++ triesUnder (keysOf (a .t6)) g) _ (l .known)
-    (tries-end (a .t6) (s .pre .1 .1 .1) (l .inv .0) g (l .i) (c .loop-test .left))
-    (l .inv .3 first (c .before .before .tried .ensures (valueOf zero) x)))
+returns c roots entries size zero held x lends agrees =
+    let l = c .before .before .before .loop in
+    let a = c .before .before .before .before .before .before .before .before .args in
+    let s = now (a .a) in
+    let v = valueOf zero in
+    let f = subst (Meets meaning.SaKey (a .place) s (l .at)) (c .enum-told .given .1) (c .before .before .next-attribute .ensures) in
+    answers zero held (lends .formed) (copiesIn (a .place) s) roots entries size agrees (a .need) (l .known)
+    (ends (a .need) (triesOf v held (copiesIn (a .place) s)) _ (l .known) (no-tries (a .place) s (l .at) v held (f .0))
+    (l .inv .2 v held x lends))
 
 pub copies-spec : {M : Type 1} → statement M
 copies-spec =
@@ -96,13 +120,14 @@ copies-spec =
     (tie.spec
     Inv-loop
     μ-loop
-    tried-requires
+    nothing-requires
     loop-holds
-    mul-k
-    element-copy-out-k
-    with-key-requires
+    next-attribute-requires
+    enum-known-start
+    attribute-value-requires
+    tried-requires
     joined-requires
-    add-i
     loop-less
     loop-again
+    enum-told
     returns)

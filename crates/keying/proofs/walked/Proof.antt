@@ -1,28 +1,34 @@
 use denote.Ref.{now}
 use native.Mathlib.Omega.{arith}
-use Prim.Native.Nat.{_+_, _-_}
-use mathlib.Core.Path.{refl, sym, _∙_}
+use Prim.Native.Nat.{_-_, _<_}
+use mathlib.Core.Path.{_≡_, refl, subst}
 use lib.ListN.{length}
+use Rattle.keys.specs.Limits.{limits}
 use Rattle.suites.proofs.PolicyLaws.{starts}
+use Rattle.copies.specs.declared.answer.Found.{Found}
+use Rattle.copies.specs.declared.answer.Found.the-variants.{Eight, Nothing, Key}
+use Rattle.keying.specs.inner.Policies.{IsBy}
 use Rattle.keying.proofs.PolicyAt.{PolicyAt, policy-at}
-use Rattle.keying.proofs.Along.{Along, along-start, along-end, along-eight, along-wide, along-announces, along-room, along-sa}
+use Rattle.keying.proofs.Along.{Along, along-start, along-end, along-eight, along-wide, along-announces, along-room}
+use Rattle.keying.proofs.Along.{along-none, along-sa, Says}
 use borrow.Author.Needs.{needs}
 use Rattle.keying.proofs.walked.Statement.{statement}
 use Rattle.keying.proofs.walked.Tie as tie
 
 abbrev Inv-loop : tie.InvT-loop
-Inv-loop g k tables schedule held all₀ at₀ all at = Along g k (schedule .words) held at all
+Inv-loop g k tables schedule ids block nine₀ sas₀ count₀ at₀ nine sas count at = Along g k (schedule .words) ids block at nine sas count
 
 abbrev μ-loop : tie.MeasureT-loop
-μ-loop g k tables schedule held all₀ at₀ all at = length g - at
+μ-loop g k tables schedule ids block nine₀ sas₀ count₀ at₀ nine sas count at = length g - at
 
 blank-requires : tie.Need-blank-requires Inv-loop μ-loop
 blank-requires c κs = search needs
 
 loop-holds : tie.Need-loop-holds Inv-loop μ-loop
 loop-holds c =
-    let s = c .before .before .before in
-    along-start (now (s .args .g)) (now (s .args .k)) (s .args .schedule .words) (s .args .held) _ (s .pre .0) refl refl
+    let s = c .before .before .before .before .before in
+    along-start (now (s .args .g)) (now (s .args .k)) (s .args .schedule .words) (now (s .args .ids)) (now (s .args .block)) _
+    (s .pre .0) refl
 
 sub-policy-parts : tie.Need-sub-policy-parts Inv-loop μ-loop
 sub-policy-parts c = search needs
@@ -36,12 +42,13 @@ part-policy-parts-end c = search needs
 policy-parts-requires : tie.Need-policy-parts-requires Inv-loop μ-loop
 policy-parts-requires c κs =
     let l = c .before .before .loop in
-    starts (now (c .before .before .before .before .before .before .args .g)) (l .at) (c .before .loop-test .taken) (l .inv .rest)
+    starts (now (c .before .before .before .before .before .before .before .before .args .g)) (l .at) (c .before .loop-test .taken)
+    (l .inv .rest)
 
 -- the policy is there
 here : (c : tie.After-policy-parts Inv-loop μ-loop) →
-    PolicyAt (now (c .before .before .before .before .before .before .before .args .g)) (c .before .before .before .loop .at)
-    (c .policy-parts .result)
+    PolicyAt (now (c .before .before .before .before .before .before .before .before .before .args .g))
+    (c .before .before .before .loop .at) (c .policy-parts .result)
 here c = policy-at _ _ _ (c .policy-parts .ensures)
 
 add-name : tie.Need-add-name Inv-loop μ-loop
@@ -75,69 +82,119 @@ with-policy-requires : tie.Need-with-policy-requires Inv-loop μ-loop
 with-policy-requires c κs =
     let d = c .before .before .before .before .before .before in
     let l = d .before .before .before .loop in
-    let t = d .before .before .before .before .before .before in
+    let t = d .before .before .before .before .before .before .before .before in
     let s = t .before in
     let f = s .pre .1 .1 .1 .1 in
     let p = here d in
     let z = c .before .before .if1 .taken in
-    let g = now (s .args .g) in
-    let k = now (s .args .k) in
-    let o = s .args .schedule .words in
-    let h = s .args .held in
-    let a = along-announces g k o h (l .at) (l .all) (l .inv) _ p z (f .0) (f .1) in (
-      along-room g k o h (l .at) (l .all) (l .inv) _ p z (f .0) (f .1),
-      (
-        p .small (λ i. t .shared-slice-known .given i .fits),
-        (s .pre .1 .0, (s .pre .1 .1 .0, (s .pre .1 .1 .1 .0, (f .0, p .sa-at z .sa, a)))),
-      ),
+    let a = s .args in
+    let n = along-announces (now (a .g)) (now (a .k)) (a .schedule .words) (now (a .ids)) (now (a .block)) (l .at) (l .nine) (l .sas)
+    (l .count) (l .inv) _ p z (f .0) (f .1) in (
+      p .small (λ i. t .shared-slice-known .given i .fits),
+      (s .pre .1 .0, (s .pre .1 .1 .0, (s .pre .1 .1 .1 .0, (f .0, p .sa-at z .sa, n)))),
     )
 
--- the next place, with one more SA
-onwards : (c : tie.After-with-policy Inv-loop μ-loop) →
-    let d = c .before .before .before .before .before .before .before in
-    let s = d .before .before .before .before .before .before .before .args in
-    Along (now (s .g)) (now (s .k)) (s .schedule .words) (s .held)
-    (d .before .before .before .loop .at + d .policy-parts .result .end) (c .with-policy .result)
-onwards c =
+-- what the copies of this policy's SA open to, by what was found
+says : (c : tie.After-with-policy Inv-loop μ-loop) (x : Found) → c .with-policy .result .found ≡ x →
     let d = c .before .before .before .before .before .before .before in
     let l = d .before .before .before .loop in
-    let s = d .before .before .before .before .before .before .before .args in
-    along-sa (now (s .g)) (now (s .k)) (s .schedule .words) (s .held) (l .at) (l .all) (l .inv) _ (here d)
-    (c .before .before .before .if1 .taken) (c .with-policy .result) (c .with-policy .ensures .0) (c .with-policy .ensures .1)
+    let a = d .before .before .before .before .before .before .before .before .before .args in
+    Says (now (a .g)) (now (a .k)) (a .schedule .words) (now (a .ids)) (now (a .block)) (l .at) (l .nine) (l .sas) (l .count) (l .inv) _
+    (here d) (c .before .before .before .if1 .taken) (IsBy x (c .with-policy .result .sa))
+says c x e roots entries size f b i =
+    subst (λ y. IsBy y (c .with-policy .result .sa) roots entries size f b) e (c .with-policy .ensures roots entries size f b i)
 
-is-eight-requires : tie.Need-is-eight-requires Inv-loop μ-loop
-is-eight-requires c κs = search needs
+enum-told : tie.Need-enum-told Inv-loop μ-loop
+enum-told c = search needs
 
 returns : tie.Need-returns Inv-loop μ-loop
 returns c =
     let w = c .before .before in
     let d = w .before .before .before .before .before .before .before in
-    let s = d .before .before .before .before .before .before .before .args in
-    along-eight (now (s .g)) (now (s .k)) (s .schedule .words) (s .held) _ (w .with-policy .result) (onwards w)
-    (sym (c .before .is-eight .ensures) ∙ c .if2 .taken)
+    let l = d .before .before .before .loop in
+    let a = d .before .before .before .before .before .before .before .before .before .args in
+    let z = w .before .before .before .if1 .taken in
+    along-eight (now (a .g)) (now (a .k)) (a .schedule .words) (now (a .ids)) (now (a .block)) (l .at) (l .nine) (l .sas)
+    (l .count) (l .inv) _ (here d) z
+    (says w Eight (c .enum-told .given .1))
+
+enum-told-2 : tie.Need-enum-told-2 Inv-loop μ-loop
+enum-told-2 c = search needs
+
+enum-told-3 : tie.Need-enum-told-3 Inv-loop μ-loop
+enum-told-3 c = search needs
+
+-- a place is left
+left : (w : tie.After-with-policy Inv-loop μ-loop) →
+    w .before .before .before .before .before .before .before .before .before .before .loop .count < limits .sas
+left w =
+    let d = w .before .before .before .before .before .before .before in
+    let l = d .before .before .before .loop in
+    let s = d .before .before .before .before .before .before .before .before .before in
+    let a = s .args in
+    let f = s .pre .1 .1 .1 .1 in
+    along-room (now (a .g)) (now (a .k)) (a .schedule .words) (now (a .ids)) (now (a .block)) (l .at) (l .nine) (l .sas)
+    (l .count) (l .inv) _ (here d) (w .before .before .before .if1 .taken) (f .0) (f .1)
+
+mul-sas : tie.Need-mul-sas Inv-loop μ-loop
+mul-sas c = let h = left (c .before .before .before) in record { fits = omega arith }
+
+array-set-from-sas : tie.Need-array-set-from-sas Inv-loop μ-loop
+array-set-from-sas c = left (c .before .before .before)
+
+add-count : tie.Need-add-count Inv-loop μ-loop
+add-count c = let h = left (c .before .before .before) in record { fits = omega arith }
 
 loop-less : tie.Need-loop-less Inv-loop μ-loop
-loop-less c =
-    let p = here (c .before .before .before .before .before .before .before .before .before) in omega (arith, p .some, p .order, p .inside)
+loop-less c = let p = here (c .before .before .before .before .before .before .before .before .before) in
+    omega (arith, p .some, p .order, p .inside)
 
 loop-again : tie.Need-loop-again Inv-loop μ-loop
-loop-again c = onwards (c .before .before)
+loop-again c =
+    let w = c .before .before in
+    let d = w .before .before .before .before .before .before .before in
+    let l = d .before .before .before .loop in
+    let a = d .before .before .before .before .before .before .before .before .before .args in
+    let z = w .before .before .before .if1 .taken in
+    along-none (now (a .g)) (now (a .k)) (a .schedule .words) (now (a .ids)) (now (a .block)) (l .at) (l .nine) (l .sas)
+    (l .count) (l .inv) _ (here d) z
+    (says w Nothing (c .enum-told2 .given .1))
 
 loop-less-2 : tie.Need-loop-less-2 Inv-loop μ-loop
-loop-less-2 c = let p = here (c .before .before .before .before) in omega (arith, p .some, p .order, p .inside)
+loop-less-2 c = let p = here (c .before .before .before .before .before .before .before .before .before .before) in
+    omega (arith, p .some, p .order, p .inside)
 
 loop-again-2 : tie.Need-loop-again-2 Inv-loop μ-loop
 loop-again-2 c =
+    let w = c .before .before .before in
+    let d = w .before .before .before .before .before .before .before in
+    let l = d .before .before .before .loop in
+    let a = d .before .before .before .before .before .before .before .before .before .args in
+    let z = w .before .before .before .if1 .taken in
+    along-sa (now (a .g)) (now (a .k)) (a .schedule .words) (now (a .ids)) (now (a .block)) (l .at) (l .nine) (l .sas)
+    (l .count) (l .inv) _ (here d) z
+    (w .with-policy .result .sa) (left w) (says w Key (c .before .enum-told3 .given .1))
+
+loop-less-3 : tie.Need-loop-less-3 Inv-loop μ-loop
+loop-less-3 c = let p = here (c .before .before .before .before) in omega (arith, p .some, p .order, p .inside)
+
+loop-again-3 : tie.Need-loop-again-3 Inv-loop μ-loop
+loop-again-3 c =
     let d = c .before .before .before .before in
     let l = d .before .before .before .loop in
-    let s = d .before .before .before .before .before .before .before .args in
-    along-wide (now (s .g)) (now (s .k)) (s .schedule .words) (s .held) (l .at) (l .all) (l .inv) _ (here d) (c .if1 .left)
+    let a = d .before .before .before .before .before .before .before .before .before .args in
+    along-wide (now (a .g)) (now (a .k)) (a .schedule .words) (now (a .ids)) (now (a .block)) (l .at) (l .nine) (l .sas)
+    (l .count) (l .inv) _ (here d) (c .if1 .left)
+
+found-by-requires : tie.Need-found-by-requires Inv-loop μ-loop
+found-by-requires c κs = search needs
 
 returns-2 : tie.Need-returns-2 Inv-loop μ-loop
 returns-2 c =
-    let l = c .before .loop in
-    let s = c .before .before .before .before .before .args in
-    along-end (now (s .g)) (now (s .k)) (s .schedule .words) (s .held) (l .at) (l .all) (l .inv) (c .loop-test .left)
+    let l = c .before .before .loop in
+    let a = c .before .before .before .before .before .before .before .before .args in
+    along-end (now (a .g)) (now (a .k)) (a .schedule .words) (now (a .ids)) (now (a .block)) (l .at) (l .nine) (l .sas)
+    (l .count) (l .inv) (c .found-by .result) (c .found-by .ensures) (c .before .loop-test .left)
 
 pub walked-spec : {M : Type 1} → statement M
 walked-spec =
@@ -161,10 +218,18 @@ walked-spec =
     part-with-policy-start-2
     part-with-policy-end-2
     with-policy-requires
-    is-eight-requires
+    enum-told
     returns
+    enum-told-2
+    enum-told-3
+    mul-sas
+    array-set-from-sas
+    add-count
     loop-less
     loop-again
     loop-less-2
     loop-again-2
+    loop-less-3
+    loop-again-3
+    found-by-requires
     returns-2)

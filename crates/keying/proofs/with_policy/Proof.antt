@@ -8,17 +8,17 @@ use Rattle.keying.proofs.with_policy.Tie as tie
 
 needs-requires : tie.Need-needs-requires
 needs-requires c κs =
-    let p = c .before .before .before .pre in
-    let a = p .1 .1 .1 .1 .1 .2 in
-    let n = p .1 .0 in
+    let p = c .before .before .before .before .before .pre in
+    let a = p .1 .1 .1 .1 .2 in
+    let n = p .0 in
     (omega arith, (a .place, a .body, a .is))
 
 -- the sizes of the parts that its transforms need
-sized : (c : tie.After-needs) → let s = c .before .before .before .before .args in
+sized : (c : tie.After-needs) → let s = c .before .before .before .before .before .before .args in
     Sized (s .protocol) (now (s .spi)) (c .needs .result .encryption) (c .needs .result .wrapping)
 sized c =
-    let s = c .before .before .before .before in
-    let p = s .pre .1 .1 .1 .1 .1 in
+    let s = c .before .before .before .before .before .before in
+    let p = s .pre .1 .1 .1 .1 in
     let h = p .2 in
     sizes-are (now (s .args .k)) (s .args .protocol) (now (s .args .spi)) (now (s .args .x)) (p .0) (p .1) h (c .needs .result)
     (c .needs .ensures (h .place) (h .body) (h .is))
@@ -28,8 +28,8 @@ add-opened c = let h = few-octets _ _ _ _ (sized c) in record { fits = omega ari
 
 opened-requires : tie.Need-opened-requires
 opened-requires c κs =
-    let s = c .before .before .before .before in
-    let p = s .pre .1 .1 in
+    let s = c .before .before .before .before .before .before in
+    let p = s .pre .1 in
     let q = p .1 .1 .1 in (
       p .0,
       (
@@ -38,27 +38,23 @@ opened-requires c κs =
       ),
     )
 
-joined-requires : tie.Need-joined-requires
-joined-requires c κs = (c .before .before .before .before .before .pre .0, sized (c .before))
+one-sa-requires : tie.Need-one-sa-requires
+one-sa-requires c κs = sized (c .before)
 
 returns : tie.Need-returns
-returns c =
-    let s = c .before .before .before .before .before .before .args in
-    let n = c .before .before .needs in (
-      λ roots entries size f l a i known.
-          let h = i .stands in
-          let is = n .ensures (h .place) (h .body) (h .is) in
-          let name = needs-are (now (s .k)) (s .protocol) (now (s .spi)) (now (s .x)) f a h (n .result) is in
-          let need = need-is (now (s .k)) (s .protocol) (now (s .spi)) (now (s .x)) f a h (n .result) is in
-          c .joined .ensures .0 roots entries size f l a
-          (record {
-            name = name;
-            answers = c .before .opened .ensures roots entries size f a (i .opening) (h .bags) (h .protocol-is) (h .spi-is) need;
-          })
-          known,
-      c .joined .ensures .1,
-    )
+returns c roots entries size f a i =
+    let s = c .before .before .before .before .before .before .before .before .args in
+    let n = c .before .before .needs in
+    let h = i .stands in
+    let is = n .ensures (h .place) (h .body) (h .is) in
+    let name = needs-are (now (s .k)) (s .protocol) (now (s .spi)) (now (s .x)) f a h (n .result) is in
+    let need = need-is (now (s .k)) (s .protocol) (now (s .spi)) (now (s .x)) f a h (n .result) is in
+    c .one-sa .ensures roots entries size f a
+    (record {
+      name = name;
+      answers = c .before .opened .ensures roots entries size f a (i .opening) (h .bags) (h .protocol-is) (h .spi-is) need;
+    })
 
 pub with-policy-spec : {M : Type 1} → statement M
 with-policy-spec =
-    tie.close (tie.spec needs-requires add-opened opened-requires joined-requires returns)
+    tie.close (tie.spec needs-requires add-opened opened-requires one-sa-requires returns)

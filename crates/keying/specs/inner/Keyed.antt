@@ -1,7 +1,7 @@
 -- The keys of all SAs that a frame announces: number 8 of their copies, number 9, or the SAs that enter.
 use Prim.Native.Nat.{ℕ, _≤_}
 use mathlib.Core.Path.{_≡_}
-use mathlib.Core.Bool.{false}
+use mathlib.Core.Bool.{Bool, true, false}
 use mathlib.Core.List.{List}
 use lib.ListN.{length, take}
 use Rattle.keys.specs.Limits.{limits}
@@ -32,6 +32,11 @@ pub record Ready (f : Frame) (g k : List ℕ) : Type 0 where
   pub transforms : otherTransforms f ≡ false
   pub paired : policyUnpaired f ≡ false
   pub room : length (announced f) ≤ limits .sas
+
+-- of SAs none of which is number 8: some SA has no copy that opens, or each has its key
+abbrev pub foundBy : Bool → Found
+foundBy true = found.Nine
+foundBy false = found.Keys
 
 -- ---- of these policies of a frame
 module _ (roots : List Root) (entries : List WrapKey) (size : ℕ) (f : Frame) (l : List GroupSaPolicy) where

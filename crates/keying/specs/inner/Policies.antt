@@ -1,8 +1,8 @@
--- What is known of some policies of a frame, and of one more.
+-- What is known of one policy of a frame, and of its copies.
 use Prim.Native.Nat.{ℕ}
 use mathlib.Core.Path.{_≡_}
-use mathlib.Core.Bool.{Bool, true, false}
-use mathlib.Core.List.{List, [], _∷_, _++_}
+use mathlib.Core.Bool.{true, false}
+use mathlib.Core.List.{List}
 use lib.ListN.{length}
 use Rattle.keys.specs.Algorithms.{sizeOf}
 use Rattle.keys.specs.Kinds.{rekeySizes, valueOf}
@@ -18,6 +18,9 @@ use Rattle.keys.specs.Lists.{any}
 use Rattle.keys.specs.declared.kinds.WrappingKey.{WrappingKey}
 use Rattle.state.specs.declared.held.Held.{Held}
 use Rattle.copies.specs.inner.Known.{Agrees}
+use Rattle.copies.specs.inner.Lending.{LendsHeld}
+use Rattle.copies.specs.declared.answer.Found.{Found}
+use Rattle.copies.specs.declared.answer.Found.the-variants as copied
 use Rattle.clauses.specs.Contents.{rowOf, bagsOf}
 use Rattle.clauses.specs.Number4.{twiceInTransform}
 use Rattle.clauses.specs.Number6.{bagsNamed}
@@ -28,16 +31,7 @@ use Rattle.copies.specs.inner.Answer.{Answers}
 use Rattle.copies.specs.declared.answer.Opened.{Opened}
 use Rattle.outcome.specs.Roots.{copiesOf, announcedAs}
 use Rattle.outcome.specs.After.{saFrom}
-use Rattle.keying.specs.inner.Keyed.{KeysIn}
-use Rattle.keying.specs.declared.joining.Found.{Found}
-use Rattle.keying.specs.declared.joining.Found.the-variants as found
-use Rattle.keying.specs.declared.joining.Keyed.{Keyed}
-
--- number 8 was found
-abbrev pub isEight : Found → Bool
-isEight found.Eight = true
-isEight found.Nine = false
-isEight found.Keys = false
+use Rattle.keying.specs.declared.joining.One.{One}
 
 -- ---- of one policy, by its copies
 abbrev pub OfOne : Type 1
@@ -55,6 +49,15 @@ pub record IsSa (sa : Sa) (roots : List Root) (entries : List WrapKey) (size : �
   pub key : KeyOf roots entries size (announcedAs f a) x
   pub fit : CopiesEight roots entries size (announcedAs f a) → ⊥
   pub is : sa ≡ saFrom a x
+
+-- it is number 8 of its copies, none that opens, or this SA
+abbrev pub IsBy : Found → Sa → OfOne
+IsBy copied.Eight sa roots entries size f a = IsEight roots entries size f a
+IsBy copied.Nothing sa roots entries size f a = IsUnopened roots entries size f a
+IsBy copied.Key sa roots entries size f a = IsSa sa roots entries size f a
+
+abbrev pub IsOne : One → OfOne
+IsOne r roots entries size f a = IsBy (r .found) (r .sa) roots entries size f a
 
 -- the octets that an SPI of this protocol has, and the two parts of its SA's keying octets
 pub record Sized (protocol : ℕ) (spi : List ℕ) (encryption wrapping : ℕ) : Type 0 where
@@ -75,10 +78,12 @@ pub record IsOpened (protocol : ℕ) (spi : List ℕ) (encryption wrapping : ℕ
   pub answers : Answers roots entries size (announcedAs f a) one
 
 -- ---- where a policy and its bag stand
--- chains end on exactly key 0, of which this is the schedule, and the held keys
-pub record Opening (schedule : List ℕ) (held : Held) (roots : List Root) (entries : List WrapKey) (size : ℕ) : Type 0 where
+-- chains end on exactly key 0, of which this is the schedule, and the held keys, which are lent so
+pub record Opening (schedule ids block : List ℕ) (roots : List Root) (entries : List WrapKey) (size : ℕ) : Type 0 where
   pub zero : WrappingKey
+  pub held : Held
   pub expands : ExpandsInverse (valueOf zero) schedule
+  pub lends : LendsHeld held ids block
   pub agrees : Agrees roots entries size zero held
 
 -- the policy a has this name and holds x after its SPI; it is as it must be after numbers 4 to 6, and its bag is one of those that k is
@@ -96,13 +101,7 @@ pub record Announces (k : List ℕ) (protocol : ℕ) (spi x : List ℕ) (f : Fra
   pub paired : bagsNamed f (a .protocol) (a .spi) ≡ 1
 
 -- the policy a has this name and holds x after its SPI, and its copies open under key 0 and the held keys
-pub record IsAnnounced (k : List ℕ) (protocol : ℕ) (spi x : List ℕ) (schedule : List ℕ) (held : Held) (roots : List Root)
+pub record IsAnnounced (k : List ℕ) (protocol : ℕ) (spi x : List ℕ) (schedule ids block : List ℕ) (roots : List Root)
     (entries : List WrapKey) (size : ℕ) (f : Frame) (a : GroupSaPolicy) : Type 0 where
-  pub opening : Opening schedule held roots entries size
+  pub opening : Opening schedule ids block roots entries size
   pub stands : Announces k protocol spi x f a
-
--- ---- r is known of some policies and one more, where `all` is known of the others
-abbrev pub OneMore : OfOne → Keyed → Keyed → Type 0
-OneMore Is all r =
-    (roots : List Root) (entries : List WrapKey) (size : ℕ) (f : Frame) (l : List GroupSaPolicy) (a : GroupSaPolicy) →
-    Is roots entries size f a → KeysIn roots entries size f l all → KeysIn roots entries size f (l ++ (a ∷ [])) r

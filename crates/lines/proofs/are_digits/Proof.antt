@@ -1,18 +1,19 @@
--- `lines::are_digits` meets its contract. The invariant: what is left decides.
+-- `lines::are_digits` meets its contract. The invariant: what is left decides, where all were digits so far.
 use borrow.Author.Needs.{needs}
 use mathlib.Core.Path.{_≡_, refl, sym, _∙_}
+use mathlib.Core.Bool.{_&&_}
 use Prim.Native.Nat.{_≤_, _-_}
 use lib.ListN.{length, drop}
 use Rattle.lines.specs.Hex.{areDigits}
-use Rattle.lines.proofs.HexLaws.{digits-more, digits-stop, digits-end}
+use Rattle.lines.proofs.HexLaws.{digits-more, digits-end}
 use Rattle.lines.proofs.are_digits.Statement.{statement}
 use Rattle.lines.proofs.are_digits.Tie as tie
 
 abbrev Inv-loop : tie.InvT-loop
-Inv-loop text i₀ i = (i ≤ length text) × (areDigits text ≡ areDigits (drop i text))
+Inv-loop text so-far₀ i₀ so-far i = (i ≤ length text) × (areDigits text ≡ (so-far && areDigits (drop i text)))
 
 abbrev μ-loop : tie.MeasureT-loop
-μ-loop text i₀ i = length text - i
+μ-loop text so-far₀ i₀ so-far i = length text - i
 
 loop-holds : tie.Need-loop-holds Inv-loop μ-loop
 loop-holds c = (search needs, refl)
@@ -31,34 +32,16 @@ loop-less c = search needs
 
 loop-again : tie.Need-loop-again Inv-loop μ-loop
 loop-again c =
-    let s = c .before .before .before .before .before .before .args .text .now in
-    let l = c .before .before .before .before .loop in
-    let d = sym (c .before .is-digit .ensures) ∙ c .if1 .taken in
-    (search needs, l .inv .1 ∙ digits-more s (l .i) (c .before .before .before .loop-test .taken) d)
+    let s = c .before .before .before .before .before .args .text .now in
+    let l = c .before .before .before .loop in
+    (search needs, digits-more s (l .i) (l .so-far) _ (c .before .before .loop-test .taken) (c .is-digit .ensures) (l .inv .1))
 
 returns : tie.Need-returns Inv-loop μ-loop
 returns c =
-    let s = c .before .before .before .before .before .before .args .text .now in
-    let l = c .before .before .before .before .loop in
-    let d = sym (c .before .is-digit .ensures) ∙ c .if1 .left in
-    sym (l .inv .1 ∙ digits-stop s (l .i) (c .before .before .before .loop-test .taken) d)
-
-returns-2 : tie.Need-returns-2 Inv-loop μ-loop
-returns-2 c =
     let s = c .before .before .before .args .text .now in
-    sym (c .before .loop .inv .1 ∙ digits-end s (c .before .loop .i) (c .loop-test .left))
+    sym (c .before .loop .inv .1 ∙ digits-end s (c .before .loop .i) (c .before .loop .so-far) (c .loop-test .left))
 
 pub are-digits-spec : {M : Type 1} → statement M
 are-digits-spec =
     tie.close
-    (tie.spec
-    Inv-loop
-    μ-loop
-    loop-holds
-    shared-slice-read-is-digit
-    is-digit-requires
-    add-i
-    loop-less
-    loop-again
-    returns
-    returns-2)
+    (tie.spec Inv-loop μ-loop loop-holds shared-slice-read-is-digit is-digit-requires add-i loop-less loop-again returns)

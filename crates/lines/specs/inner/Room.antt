@@ -5,6 +5,10 @@ use mathlib.Core.List.{List}
 use lib.ListN.{length}
 use lib.Seq.{sets}
 
+-- octets enough for the text of any answer: four numbers of at most 20 digits, with a mark behind each
+abbrev pub replyRoom : ℕ
+replyRoom = 84
+
 -- text is put into the room from a place on, as much of it as there is room for; what stands before and behind it stays.
 -- `next` is the place behind it
 pub record Put (room : List ℕ) (at : ℕ) (text after : List ℕ) (next : ℕ) : Type 0 where

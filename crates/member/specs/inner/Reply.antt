@@ -5,7 +5,7 @@ use mathlib.Core.Bool.{Bool, true, false}
 use mathlib.Core.List.{List}
 use lib.ListN.{length, take}
 use Rattle.lines.specs.Transcript.{Outcome, Replies, told}
-use Rattle.lines.specs.inner.Room.{Put}
+use Rattle.lines.specs.inner.Room.{replyRoom, Put}
 use Rattle.lines.specs.inner.Calls.{Gives}
 use Rattle.lines.specs.declared.Key.{Key}
 use Rattle.group.specs.declared.Member.{Member}
@@ -22,7 +22,7 @@ pub record Received (r : Running) (tick : ℕ) (octets out after : List ℕ) (e 
   pub answers : Answers (r .member) (keyIn (r .key)) tick octets outcome
   pub next : outcome .next ≡ e .member
   pub put : Put out (r .at) (told outcome .text) after (e .at)
-  pub short : length (told outcome .text) ≤ 63
+  pub short : length (told outcome .text) ≤ replyRoom
   pub key : e .key ≡ r .key
   pub keyed : e .keyed ≡ r .keyed
   pub len : e .len ≡ 0
@@ -41,7 +41,7 @@ pub record LaterLine (r : Running) (line out after : List ℕ) (e : Running) : T
   pub text : List ℕ
   pub replies : Replies Answers (keyIn (r .key)) (r .member) line (record { next = e .member; text = text })
   pub put : Put out (r .at) text after (e .at)
-  pub short : length text ≤ 63
+  pub short : length text ≤ replyRoom
   pub key : e .key ≡ r .key
   pub keyed : e .keyed ≡ r .keyed
   pub len : e .len ≡ 0

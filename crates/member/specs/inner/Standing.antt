@@ -5,6 +5,7 @@ use mathlib.Core.Bool.{true, false}
 use mathlib.Core.List.{List, [], _++_}
 use lib.ListN.{length, take}
 use Rattle.octets.specs.Walk.{part}
+use Rattle.lines.specs.inner.Room.{replyRoom}
 use Rattle.lines.specs.inner.Reading.{DefaultKey, awaited, given, Reading, start, Reads, Kept}
 use Rattle.group.specs.Member.{newMember}
 use Rattle.group.specs.declared.Member.{Member}
@@ -23,7 +24,7 @@ pub record Ready (line room out : List ℕ) (r : Running) : Type 0 where
 
 -- there is room for one more reply
 abbrev pub Room : List ℕ → Running → Type 0
-Room out r = 63 ≤ length out - r .at
+Room out r = replyRoom ≤ length out - r .at
 
 abbrev pub KeyStands : DefaultKey → Running → Type 0
 KeyStands awaited r = r .keyed ≡ false

@@ -5,6 +5,7 @@ use mathlib.Core.List.{List, []}
 use lib.ListN.{length, getD}
 use Rattle.octets.specs.Walk.{part}
 use Rattle.attributes.specs.Tree.{WrapKey}
+use Rattle.keys.specs.Limits.{limits}
 use Rattle.reach.specs.declared.open.Entry.{Entry}
 
 abbrev pub noEntry : Entry
@@ -24,5 +25,5 @@ pub record IsEntry (frame : List ℕ) (c : Entry) (e : WrapKey) : Type 0 where
 -- the first n of the array are the entries
 pub record Lists (frame : List ℕ) (cells : List Entry) (n : ℕ) (entries : List WrapKey) : Type 0 where
   pub count : length entries ≡ n
-  pub within : n ≤ 32
+  pub within : n ≤ limits .wrapKeys
   pub at : (i : ℕ) → i < n → IsEntry frame (getD cells i noEntry) (getD entries i noKey)

@@ -1,7 +1,7 @@
 -- A frame that numbers 2 to 7 let pass, and what its keys come to.
 use Prim.Native.Nat.{ℕ}
 use mathlib.Core.Path.{_≡_}
-use mathlib.Core.Bool.{true}
+use mathlib.Core.Bool.{true, false}
 use mathlib.Core.List.{List, []}
 use Rattle.octets.specs.Walk.{whole}
 use Rattle.keys.specs.Limits.{limits}
@@ -39,6 +39,11 @@ Registers f = rowOf f .registers ≡ true
 -- a rekey over the Rekey SA: its exchange has the live Rekey SA's default key as key 0
 abbrev pub RekeysOver : Frame → Type 0
 RekeysOver f = rowOf f .zero ≡ keyZero.RekeySa
+
+-- a rekey over the member's own channel: key 0 is the lent key, and the held list stays
+pub record RekeysInband (f : Frame) : Type 0 where
+  pub keeps : rowOf f .registers ≡ false
+  pub zero : rowOf f .zero ≡ keyZero.Lent
 
 -- its exchange has this row, and its policies and its bags are those of these bodies
 pub record Bodied (e : Exchange) (m : State) (now : ℕ) (lent s : List ℕ) (x : Facts) (g k : List ℕ) (f : Frame) : Type 0 where

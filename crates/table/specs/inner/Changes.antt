@@ -5,7 +5,7 @@ use mathlib.Core.List.{List, map}
 use lib.Dec.{ltb, eqb}
 use Rattle.keys.specs.Lists.{insert}
 use Rattle.keys.specs.Limits.{Limits}
-use Rattle.sa.specs.Entry.{esp, before, named}
+use Rattle.sa.specs.Entry.{before}
 use Rattle.sa.specs.declared.entry.Sa.{Sa}
 use Rattle.table.specs.declared.Table.{Table}
 use Rattle.table.specs.Table.{sasOf, tableOf, changed, swept, retiredIf}
@@ -16,10 +16,6 @@ standingCount limits now t = swept limits now t .count
 
 abbrev pub retiredWhere : Limits → (Sa → Bool) → ℕ → ℕ → Table → Table
 retiredWhere limits p now delay t = changed limits (map (retiredIf p now delay)) t
-
--- the live ESP SAs with an SPI
-unfoldable pub retiredEsp : Limits → List ℕ → ℕ → ℕ → Table → Table
-retiredEsp limits x now delay t = retiredWhere limits (named esp x) now delay t
 
 -- the live SAs of a protocol
 unfoldable pub retiredAll : Limits → ℕ → ℕ → ℕ → Table → Table

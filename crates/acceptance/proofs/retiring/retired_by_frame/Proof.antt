@@ -2,15 +2,13 @@ use denote.Ref.{now}
 use native.Mathlib.Omega.{arith}
 use Prim.Native.Nat.{_-_}
 use mathlib.Core.Path.{_≡_, ap, _∙_}
-use mathlib.Core.List.{List, map}
+use mathlib.Core.List.{List}
 use lib.ListN.{length}
 use Rattle.frames.specs.Delete.{Delete}
 use Rattle.payloads.proofs.StepLaws.{Step, reads-next, step}
 use Rattle.payloads.proofs.DeletedLaws.{fits-here}
 use Rattle.payloads.specs.inner.Deletion.{spisIn}
-use Rattle.keys.specs.Limits.{limits}
-use Rattle.table.specs.Table.{tableOf, retiredIf}
-use Rattle.acceptance.specs.inner.Tables.{namedIn, AreDeletes}
+use Rattle.acceptance.specs.inner.Tables.{namedIn, retiredThere, AreDeletes}
 use Rattle.acceptance.proofs.FrameLaws.{same-deletes, Going, going-start, going-end, going-kind, going-here, going-later}
 use borrow.Author.Needs.{needs}
 use Rattle.acceptance.proofs.retiring.retired_by_frame.Statement.{statement}
@@ -111,10 +109,10 @@ returns c =
     let l = c .before .loop in
     let i = l .inv in
     let a = c .before .before .before .args in
-    λ d m x h e.
+    λ d x.
     let y = same-deletes _ _ (i .0) d (i .1) (record { count = x .count; from = x .from }) in
-    going-end _ _ _ _ (i .0) _ (l .left) (l .kind) (l .at) (i .2) (c .loop-test .left) m h e
-    ∙ ap (λ (z : List Delete). tableOf limits (map (retiredIf (namedIn (spisIn z)) (a .tick) (a .delay)) m)) y
+    going-end _ _ _ _ (i .0) _ (l .left) (l .kind) (l .at) (i .2) (c .loop-test .left)
+    ∙ ap (λ (z : List Delete). retiredThere (namedIn (spisIn z)) (a .tick) (a .delay) (a .t)) y
 
 pub retired-by-frame-spec : {M : Type 1} → statement M
 retired-by-frame-spec =

@@ -1,46 +1,59 @@
-use native.Mathlib.Omega.{arith}
 use denote.Ref.{now}
-use Prim.Native.Nat.{ℕ, _-_, _≤_}
-use mathlib.Core.Path.{_≡_, ap, subst, _∙_}
-use mathlib.Core.Bool.{Bool, true}
-use mathlib.Core.List.{List, map}
-use lib.ListN.{length, take}
-use lib.Seq.{take-all}
+use native.Mathlib.Omega.{arith}
+use Prim.Native.Nat.{_-_, _≤_}
+use mathlib.Core.Path.{_≡_, refl, sym, subst, _∙_}
+use mathlib.Core.Bool.{true}
+use mathlib.Core.Logic.{⊎-elim}
+use lib.ListN.{length, length-set}
 use Rattle.keys.specs.Limits.{limits}
-use Rattle.sa.specs.declared.entry.Sa.{Sa}
-use Rattle.table.specs.Table.{tableOf, retiredIf}
-use Rattle.table.specs.inner.Changes.{retiredWhere}
+use Rattle.keys.proofs.Lists.{length-of-map}
+use Rattle.sa.specs.Entry.{blankSa}
+use Rattle.table.specs.Table.{retiredIf}
+use Rattle.table.proofs.Laws.{retired-yes, retired-no}
 use Rattle.frames.specs.Delete.{deleteOf, deleteFits}
-use Rattle.acceptance.specs.inner.Tables.{namedBy}
-use Rattle.acceptance.proofs.RetiringLaws.{After, after-none, after-spi}
+use Rattle.acceptance.specs.inner.Tables.{namedIn}
+use Rattle.acceptance.proofs.RetiringLaws.{there-out, there-made}
+use Rattle.acceptance.proofs.Turns.{Turned, turned-more, turned-same}
 use borrow.Author.Needs.{needs}
 use Rattle.acceptance.proofs.retiring.retired_spis.Statement.{statement}
 use Rattle.acceptance.proofs.retiring.retired_spis.Tie as tie
 
 abbrev Inv-loop : tie.InvT-loop
-Inv-loop o tick delay n out₀ i₀ out i =
-    (i ≤ n) × (n ≡ length (deleteOf o .spis)) × (deleteFits o ≡ true)
-    × ((l : List Sa) (p : Sa → Bool) → length l ≤ limits .sas → out₀ ≡ tableOf limits (map (retiredIf p tick delay) l) →
-    After limits tick delay l p (take i (deleteOf o .spis)) out)
+Inv-loop o tick delay n sas₀ i₀ sas i =
+    (n ≤ limits .sas) × (length sas₀ ≡ limits .sas) × (length sas ≡ limits .sas) × (i ≤ n)
+    × Turned (retiredIf (namedIn (deleteOf o .spis)) tick delay) sas₀ sas i
 
 abbrev μ-loop : tie.MeasureT-loop
-μ-loop o tick delay n out₀ i₀ out i = n - i
+μ-loop o tick delay n sas₀ i₀ sas i = n - i
 
-delete-parts-requires : tie.Need-delete-parts-requires Inv-loop μ-loop
-delete-parts-requires c κs = search needs
+returns : tie.Need-returns Inv-loop μ-loop
+returns c =
+    let a = c .before .before .args in
+    there-out (a .tick) (a .delay) (namedIn (deleteOf (now (a .o)) .spis)) (a .t) (c .if1 .taken)
 
 loop-holds : tie.Need-loop-holds Inv-loop μ-loop
 loop-holds c =
-    let d = c .delete-parts .ensures in
-    (omega arith, d .count, c .before .before .pre, λ l p h e. after-none limits _ _ l p _ e)
+    let a = c .before .before .before .args in
+    let e : length (a .t .sas) ≡ limits .sas = search (needs, length-of-map) in
+    (c .before .if1 .left, e, e, omega arith, refl)
 
-spi-at-requires : tie.Need-spi-at-requires Inv-loop μ-loop
-spi-at-requires c κs =
-    let l = c .before .loop in
-    (l .inv .2, omega (arith, l .inv .1, c .loop-test .taken))
+mul-a : tie.Need-mul-a Inv-loop μ-loop
+mul-a c = search needs
 
-retired-by-requires : tie.Need-retired-by-requires Inv-loop μ-loop
-retired-by-requires c κs = search needs
+array-copy-out-a : tie.Need-array-copy-out-a Inv-loop μ-loop
+array-copy-out-a c = search needs
+
+is-named-requires : tie.Need-is-named-requires Inv-loop μ-loop
+is-named-requires c κs = search needs
+
+retired-requires : tie.Need-retired-requires Inv-loop μ-loop
+retired-requires c κs = search needs
+
+mul-sas : tie.Need-mul-sas Inv-loop μ-loop
+mul-sas c = search needs
+
+array-set-from-sas : tie.Need-array-set-from-sas Inv-loop μ-loop
+array-set-from-sas c = search needs
 
 add-i : tie.Need-add-i Inv-loop μ-loop
 add-i c = search needs
@@ -50,25 +63,42 @@ loop-less c = search needs
 
 loop-again : tie.Need-loop-again Inv-loop μ-loop
 loop-again c =
-    let k = c .before .before .before .loop in
-    let a = c .before .before .before .before .before .before .args in
-    let x = c .before .spi-at .ensures in
-    let t = c .before .before .loop-test .taken in
-    let g = c .retired-by .ensures ∙ ap (λ (y : List ℕ). retiredWhere limits (namedBy y) (a .tick) (a .delay) (k .out)) x in (
+    let l = c .before .before .before .before .loop in
+    let a = c .before .before .before .before .before .before .before .before .args in
+    let v = l .inv in
+    let q = namedIn (deleteOf (now (a .o)) .spis) in
+    let f = retiredIf q (a .tick) (a .delay) in
+    let n = c .before .is-named .ensures in
+    ⊎-elim
+    (λ w.
+    rw (w .2) (
+      v .0,
+      v .1,
+      length-set (l .sas) (l .i) _ ∙ v .2,
       omega arith,
-      k .inv .1,
-      k .inv .2,
-      λ l p h e. after-spi limits (a .tick) (a .delay) l p (deleteOf (now (a .o)) .spis) (k .i) (k .out) (c .retired-by .result) h
-          (omega (arith, k .inv .1, t)) (k .inv .3 l p h e) g,
-    )
+      turned-more f (a .t .sas) (l .sas) (l .i) _ (omega (arith, v .0, v .1)) (v .4) _
+          (retired-yes q (a .tick) (a .delay) _ _ (sym (w .0 .taken) ∙ n) (w .1 .ensures)),
+    ))
+    (λ w.
+    rw (w .1) (
+      v .0,
+      v .1,
+      v .2,
+      omega arith,
+      turned-same f (a .t .sas) (l .sas) (l .i) _ (omega (arith, v .0, v .1)) (v .4)
+          (retired-no q (a .tick) (a .delay) _ blankSa (sym (w .0 .left) ∙ n)),
+    ))
+    (c .if2 .came)
 
-returns : tie.Need-returns Inv-loop μ-loop
-returns c =
+returns-2 : tie.Need-returns-2 Inv-loop μ-loop
+returns-2 c =
     let k = c .before .loop in
-    let a = c .before .before .before .before .args in
-    let spis = deleteOf (now (a .o)) .spis in
-    let all : take (k .i) spis ≡ spis = take-all (k .i) spis (omega (arith, k .inv .1, c .loop-test .left)) in
-    λ l p h e. subst (λ (y : List (List ℕ)). After limits (a .tick) (a .delay) l p y (k .out)) all (k .inv .3 l p h e)
+    let a = c .before .before .before .before .before .args in
+    let v = k .inv in
+    let t = a .t in
+    let q = namedIn (deleteOf (now (a .o)) .spis) in
+    let e : k .i ≡ t .count = omega (arith, v .3) in
+    there-made (a .tick) (a .delay) q t (k .sas) (v .0) (subst (Turned (retiredIf q (a .tick) (a .delay)) (t .sas) (k .sas)) e (v .4))
 
 pub retired-spis-spec : {M : Type 1} → statement M
 retired-spis-spec =
@@ -76,11 +106,15 @@ retired-spis-spec =
     (tie.spec
     Inv-loop
     μ-loop
-    delete-parts-requires
+    returns
     loop-holds
-    spi-at-requires
-    retired-by-requires
+    mul-a
+    array-copy-out-a
+    is-named-requires
+    retired-requires
+    mul-sas
+    array-set-from-sas
     add-i
     loop-less
     loop-again
-    returns)
+    returns-2)

@@ -3,15 +3,16 @@ use borrow.Author.Needs.{needs}
 use Prim.Native.Nat.{_-_}
 use mathlib.Core.Path.{_≡_}
 use lib.ListN.{length}
+use Rattle.keys.specs.Limits.{limits}
 use Rattle.keys.proofs.Lists.{length-of-map}
 use Rattle.broken.proofs.same.same_lists.Statement.{statement}
 use Rattle.broken.proofs.same.same_lists.Tie as tie
 
 abbrev Inv-loop : tie.InvT-loop
-Inv-loop a b i₀ i = (length (a .keys) ≡ 32) × (length (b .keys) ≡ 32)
+Inv-loop a b i₀ i = (length (a .keys) ≡ limits .heldKeys) × (length (b .keys) ≡ limits .heldKeys)
 
 abbrev μ-loop : tie.MeasureT-loop
-μ-loop a b i₀ i = 32 - i
+μ-loop a b i₀ i = limits .heldKeys - i
 
 loop-holds : tie.Need-loop-holds Inv-loop μ-loop
 loop-holds c = (search (needs, length-of-map), search (needs, length-of-map))

@@ -5,8 +5,9 @@ use Prim.Native.Nat.{_+_, _-_, _≤_}
 use mathlib.Core.Bool.{true}
 use mathlib.Core.List.{[]}
 use lib.ListN.{length, drop}
+use Rattle.attributes.specs.Answers.{valueStart}
 use Rattle.attributes.specs.Layout.{attributes}
-use Rattle.contents.specs.inner.Values.{isWhole, valuesIn, FoundAt, Finds}
+use Rattle.contents.specs.inner.Values.{isWhole, valuesIn, FoundAt, Meets}
 use borrow.Author.Needs.{needs}
 use Rattle.contents.proofs.values.count_of.Statement.{statement}
 use Rattle.contents.proofs.values.count_of.Tie as tie
@@ -22,8 +23,8 @@ abbrev μ-loop : tie.MeasureT-loop
 loop-holds : tie.Need-loop-holds Inv-loop μ-loop
 loop-holds c = (omega arith, omega arith, c .before .pre, omega arith)
 
-next-of-requires : tie.Need-next-of-requires Inv-loop μ-loop
-next-of-requires c κs = (c .loop .inv .1, c .loop .inv .2)
+next-attribute-requires : tie.Need-next-attribute-requires Inv-loop μ-loop
+next-attribute-requires c κs = (c .loop .inv .1, c .loop .inv .2)
 
 enum-known-e : tie.Need-enum-known-e Inv-loop μ-loop
 enum-known-e c = search needs
@@ -31,11 +32,11 @@ enum-known-e c = search needs
 next : (c : tie.After-known-told Inv-loop μ-loop)
     → let a = c .before .before .before .before .before .before .args in
     let v = c .before .e .given .0 in
-    FoundAt (a .m) (a .place) (now (a .s)) (c .before .before .before .before .loop .at) (v .0) (v .1 .0)
+    FoundAt (a .m) (a .place) (now (a .s)) (c .before .before .before .before .loop .at) (valueStart (now (a .s)) (v .0)) (v .1 .0)
 next c =
     let a = c .before .before .before .before .before .before .args in
-    subst (Finds (a .m) (a .place) (now (a .s)) (c .before .before .before .before .loop .at)) (c .before .e .given .1)
-    (c .before .before .before .next-of .ensures)
+    (subst (Meets (a .m) (a .place) (now (a .s)) (c .before .before .before .before .loop .at)) (c .before .e .given .1)
+    (c .before .before .before .next-attribute .ensures)) .value
 
 add-n : tie.Need-add-n Inv-loop μ-loop
 add-n c = let f = next c in record { fits = omega (arith, f .start, f .order, f .inside, c .before .before .before .before .loop .inv .0) }
@@ -60,8 +61,8 @@ returns : tie.Need-returns Inv-loop μ-loop
 returns c =
     let a = c .before .before .before .before .before .args in
     let f : valuesIn (a .m) (a .place) (drop (c .before .before .before .loop .at) (now (a .s))) ≡ [] =
-    subst (Finds (a .m) (a .place) (now (a .s)) (c .before .before .before .loop .at)) (c .enum-told .given .1)
-    (c .before .before .next-of .ensures) in
+    (subst (Meets (a .m) (a .place) (now (a .s)) (c .before .before .before .loop .at)) (c .enum-told .given .1)
+    (c .before .before .next-attribute .ensures)) .0 in
     omega (arith, c .before .before .before .loop .inv .3, ap length f)
 
 pub count-of-spec : {M : Type 1} → statement M
@@ -71,7 +72,7 @@ count-of-spec =
     Inv-loop
     μ-loop
     loop-holds
-    next-of-requires
+    next-attribute-requires
     enum-known-e
     add-n
     loop-less

@@ -1,213 +1,57 @@
 use denote.Ref.{now}
-use native.Mathlib.Omega.{arith}
-use mathlib.Core.Path.{_≡_, refl, ap, sym, _∙_, subst}
-use Prim.Native.Nat.{ℕ, _+_, _-_, _<_, _≤_}
+use mathlib.Core.Path.{_≡_, ap, sym, _∙_, subst}
 use mathlib.Core.List.{List}
-use mathlib.Core.Bool.{true}
-use lib.ListN.{length, drop}
-use Rattle.octets.proofs.Walks.{to-end}
-use Rattle.attributes.specs.Tree.{codeOf}
-use Rattle.attributes.specs.Layout.{attributes}
-use Rattle.attributes.specs.Answers.{readOf}
-use Rattle.contents.specs.inner.Values.{isWhole, valuesIn, placesIn, FoundAt}
-use Rattle.attributes.specs.declared.tables.Meaning.{Meaning}
-use Rattle.attributes.proofs.AttributeLaws.{IsRead, read-is, cut-is}
-use Rattle.contents.proofs.ValuesLaws.{none-left, never-cut, next-inside, next-whole, miss, hit, size, starts-after}
-use Rattle.contents.proofs.ValuesLaws.{value-fits, value-start, miss-place, hit-place}
+use Prim.Native.Nat.{ℕ, _-_, _≤_}
+use lib.ListN.{length}
+use Rattle.contents.specs.inner.Values.{FoundAt, MetAt, Meets}
+use Rattle.contents.proofs.ValuesLaws.{met-start, met-fits}
 use borrow.Author.Needs.{needs}
 use Rattle.contents.proofs.values.next_of.Statement.{statement}
 use Rattle.contents.proofs.values.next_of.Tie as tie
 
-abbrev Inv-loop : tie.InvT-loop
-Inv-loop place s from wanted at₀ at =
-    (from ≤ at) × (at ≤ length s) × (isWhole (attributes place 0 (drop at s)) ≡ true)
-    × ((m : Meaning) → wanted ≡ codeOf m → valuesIn m place (drop from s) ≡ valuesIn m place (drop at s))
-    × ((m : Meaning) → wanted ≡ codeOf m → placesIn m place s from ≡ placesIn m place s at)
+next-attribute-requires : tie.Need-next-attribute-requires
+next-attribute-requires c κs = search needs
 
-abbrev μ-loop : tie.MeasureT-loop
-μ-loop place s from wanted at₀ at = length s - at
+enum-known-at : tie.Need-enum-known-at
+enum-known-at c = search needs
 
-code-requires : tie.Need-code-requires Inv-loop μ-loop
-code-requires c κs = search needs
-
-loop-holds : tie.Need-loop-holds Inv-loop μ-loop
-loop-holds c = (omega arith, c .before .before .pre .0, c .before .before .pre .1, λ m e. refl, λ m e. refl)
-
-sub-attribute-read : tie.Need-sub-attribute-read Inv-loop μ-loop
-sub-attribute-read c = search needs
-
-part-attribute-read-start : tie.Need-part-attribute-read-start Inv-loop μ-loop
-part-attribute-read-start c = search needs
-
-part-attribute-read-end : tie.Need-part-attribute-read-end Inv-loop μ-loop
-part-attribute-read-end c = search needs
-
-attribute-read-requires : tie.Need-attribute-read-requires Inv-loop μ-loop
-attribute-read-requires c κs = search needs
-
-enum-known-kind : tie.Need-enum-known-kind Inv-loop μ-loop
-enum-known-kind c = search needs
-
-read : (c : tie.After-known-told Inv-loop μ-loop)
-    → let v = c .before .kind .given .0 in
-    let s = now (c .before .before .before .before .before .before .before .before .before .args .s) in
-    IsRead (drop (c .before .before .before .before .before .before .loop .at) s) (v .0) (v .1 .0) (v .1 .1 .0) (v .1 .1 .1 .0)
-read c =
-    let v = c .before .kind .given .0 in
-    let s = now (c .before .before .before .before .before .before .before .before .before .args .s) in
-    let at = c .before .before .before .before .before .before .loop .at in
-    read-is (drop at s) (v .0) (v .1 .0) (v .1 .1 .0) (v .1 .1 .1 .0)
-    (sym (c .before .kind .given .1) ∙ c .before .before .before .attribute-read .ensures ∙ ap readOf (to-end s at))
-
-inside : (c : tie.After-known-told Inv-loop μ-loop)
-    → let v = c .before .kind .given .0 in
-    let s = now (c .before .before .before .before .before .before .before .before .before .args .s) in
-    (0 < v .1 .1 .1 .0) × (c .before .before .before .before .before .before .loop .at + v .1 .1 .1 .0 ≤ length s)
-    × (v .1 .1 .0 ≤ v .1 .1 .1 .0)
-inside c =
-    let v = c .before .kind .given .0 in
-    let a = c .before .before .before .before .before .before .before .before .before .args in
-    let l = c .before .before .before .before .before .before .loop in
-    next-inside (a .m) (a .place) (now (a .s)) (l .at) (l .inv .2) (c .before .before .before .before .before .loop-test .taken)
-    (v .0) (v .1 .0) (v .1 .1 .0) (v .1 .1 .1 .0) (read c)
-
-add-next : tie.Need-add-next Inv-loop μ-loop
-add-next c = let i = inside c in record { fits = omega (arith, i .1) }
-
-meaning-in-requires : tie.Need-meaning-in-requires Inv-loop μ-loop
-meaning-in-requires c κs = search needs
-
-code-requires-2 : tie.Need-code-requires-2 Inv-loop μ-loop
-code-requires-2 c κs = search needs
-
-attribute-value-requires : tie.Need-attribute-value-requires Inv-loop μ-loop
+attribute-value-requires : tie.Need-attribute-value-requires
 attribute-value-requires c κs = search needs
 
--- the value ends where its attribute does, so it starts where the attribute says
-starts : (c : tie.After-attribute-value Inv-loop μ-loop)
-    → let b = c .before .before .before .before in
-    let v = b .before .kind .given .0 in
-    let at = b .before .before .before .before .before .before .loop .at in
-    at + v .1 .1 .1 .0 - length (c .attribute-value .result .now) ≡ at + v .1 .1 .0
-starts c =
-    let b = c .before .before .before .before in
-    let l = b .before .before .before .before .before .before .loop in
-    let a = b .before .before .before .before .before .before .before .before .before .args in
-    let h = b .before .before .before .before .before .loop-test .taken in
-    let v = b .before .kind .given .0 in
-    ap (λ (y : List ℕ). l .at + v .1 .1 .1 .0 - length y) (c .attribute-value .ensures .0)
-    ∙ value-start (a .m) (a .place) (now (a .s)) (l .at) (l .inv .2) h (v .0) (v .1 .0) (v .1 .1 .0) (v .1 .1 .1 .0) (read b)
+met : (c : tie.After-attribute-value)
+    → let a = c .before .before .before .before .before .before .args in
+    let v = c .before .before .at .given .0 in
+    MetAt (a .m) (a .place) (now (a .s)) (a .from) (v .0) (v .1 .0)
+met c =
+    let a = c .before .before .before .before .before .before .args in
+    subst (Meets (a .m) (a .place) (now (a .s)) (a .from)) (c .before .before .at .given .1)
+    (c .before .before .before .before .next-attribute .ensures)
 
-sub-t21 : tie.Need-sub-t21 Inv-loop μ-loop
-sub-t21 c =
-    let b = c .before .before .before .before in
-    let i = inside b in
-    let v = b .before .kind .given .0 in
-    let l = b .before .before .before .before .before .before .loop in
-    let a = b .before .before .before .before .before .before .before .before .before .args in
-    let h = b .before .before .before .before .before .loop-test .taken in
-    let n = ap length (c .attribute-value .ensures .0) in
-    omega (
-      arith,
-      i .2,
-      n,
-      value-fits (a .m) (a .place) (now (a .s)) (l .at) (l .inv .2) h (v .0) (v .1 .0) (v .1 .1 .0) (v .1 .1 .1 .0) (read b),
-    )
+sub-start : tie.Need-sub-start
+sub-start c =
+    let a = c .before .before .before .before .before .before .args in
+    let v = c .before .before .at .given .0 in
+    subst (λ (l : List ℕ). length l ≤ v .1 .0) (sym (c .attribute-value .ensures .0))
+    (met-fits (a .m) (a .place) (now (a .s)) (a .from) (v .0) (v .1 .0) (met c))
 
-returns : tie.Need-returns Inv-loop μ-loop
-returns c =
-    let t = c .before in
-    let b = t .before .before .before in
-    let l = b .before .before .before .before .before .before .loop in
-    let a = b .before .before .before .before .before .before .before .before .before .args in
-    let h = b .before .before .before .before .before .loop-test .taken in
-    let w = b .before .before .before .before .before .before .before .code .ensures in
-    let k = t .before .code2 .ensures ∙ ap codeOf (t .before .before .meaning-in .ensures) in
-    let v = b .before .kind .given .0 in
-    let s = now (a .s) in
-    let i = inside b in
-    subst (λ (x : ℕ). FoundAt (a .m) (a .place) s (a .from) x (l .at + v .1 .1 .1 .0)) (sym (starts c))
-    (record {
-      first =
-          l .inv .3 (a .m) w
-          ∙ hit (a .m) (a .place) s (l .at) (l .inv .2) h (v .0) (v .1 .0) (v .1 .1 .0) (v .1 .1 .1 .0) (read b) _ _ k w (t .if1 .taken);
-      place =
-          l .inv .4 (a .m) w
-          ∙ hit-place (a .m) (a .place) s (l .at) (l .inv .2) h (v .0) (v .1 .0) (v .1 .1 .0) (v .1 .1 .1 .0) (read b) _ _ k w
-          (t .if1 .taken);
-      start = omega (
-        arith,
-        l .inv .0,
-        starts-after (a .m) (a .place) s (l .at) (l .inv .2) h (v .0) (v .1 .0) (v .1 .1 .0) (v .1 .1 .1 .0) (read b),
-      );
-      order = omega (arith, i .2);
-      inside = i .1;
-      size = size (a .m) (a .place) s (l .at) (l .inv .2) h (v .0) (v .1 .0) (v .1 .1 .0) (v .1 .1 .1 .0) (read b) _ _ k w (t .if1 .taken);
-      rest = next-whole (a .m) (a .place) s (l .at) (l .inv .2) h (v .0) (v .1 .0) (v .1 .1 .0) (v .1 .1 .1 .0) (read b);
-    })
-
-loop-less : tie.Need-loop-less Inv-loop μ-loop
-loop-less c = let i = inside (c .before .before .before) in omega (arith, i .0, i .1)
-
-loop-again : tie.Need-loop-again Inv-loop μ-loop
-loop-again c =
-    let b = c .before .before .before in
-    let l = b .before .before .before .before .before .before .loop in
-    let a = b .before .before .before .before .before .before .before .before .before .args in
-    let h = b .before .before .before .before .before .loop-test .taken in
-    let k = c .before .code2 .ensures ∙ ap codeOf (c .before .before .meaning-in .ensures) in
-    let v = b .before .kind .given .0 in
-    let s = now (a .s) in
-    let i = inside b in (
-      omega (arith, l .inv .0),
-      i .1,
-      next-whole (a .m) (a .place) s (l .at) (l .inv .2) h (v .0) (v .1 .0) (v .1 .1 .0) (v .1 .1 .1 .0) (read b),
-      λ m e. l .inv .3 m e
-          ∙ miss m (a .place) s (l .at) (l .inv .2) h (v .0) (v .1 .0) (v .1 .1 .0) (v .1 .1 .1 .0) (read b) _ _ k e (c .if1 .left),
-      λ m e. l .inv .4 m e
-          ∙ miss-place m (a .place) s (l .at) (l .inv .2) h (v .0) (v .1 .0) (v .1 .1 .0) (v .1 .1 .1 .0) (read b) _ _ k e (c .if1 .left),
-    )
-
-enum-told : tie.Need-enum-told Inv-loop μ-loop
+enum-told : tie.Need-enum-told
 enum-told c = search needs
 
-returns-2 : tie.Need-returns-2 Inv-loop μ-loop
-returns-2 c =
-    let l = c .before .before .before .before .before .loop in
-    let a = c .before .before .before .before .before .before .before .before .args in
+returns : tie.Need-returns
+returns c =
+    let a = c .before .before .before .before .before .before .args in
+    let v = c .before .before .at .given .0 in
+    let f = met c in
     let s = now (a .s) in
-    absurd
-    (never-cut (a .m) (a .place) s (l .at) (l .inv .2) (c .before .before .before .before .loop-test .taken)
-    (cut-is (drop (l .at) s) (sym (c .enum-told .given .1) ∙ c .before .before .attribute-read .ensures ∙ ap readOf (to-end s (l .at)))))
+    subst (λ (n : ℕ). FoundAt (a .m) (a .place) s (a .from) n (v .1 .0))
+    (sym
+    (ap (λ (l : List ℕ). v .1 .0 - length l) (c .attribute-value .ensures .0)
+    ∙ met-start (a .m) (a .place) s (a .from) (v .0) (v .1 .0) f)) (f .value)
 
-returns-3 : tie.Need-returns-3 Inv-loop μ-loop
-returns-3 c =
-    let l = c .before .loop in
+returns-2 : tie.Need-returns-2
+returns-2 c =
     let a = c .before .before .before .before .args in
-    l .inv .3 (a .m) (c .before .before .code .ensures)
-    ∙ none-left (a .m) (a .place) (now (a .s)) (l .at) (l .inv .2) (c .loop-test .left)
+    (subst (Meets (a .m) (a .place) (now (a .s)) (a .from)) (c .enum-told .given .1) (c .before .before .next-attribute .ensures)) .0
 
 pub next-of-spec : {M : Type 1} → statement M
-next-of-spec =
-    tie.close
-    (tie.spec
-    Inv-loop
-    μ-loop
-    code-requires
-    loop-holds
-    sub-attribute-read
-    part-attribute-read-start
-    part-attribute-read-end
-    attribute-read-requires
-    enum-known-kind
-    add-next
-    meaning-in-requires
-    code-requires-2
-    attribute-value-requires
-    sub-t21
-    returns
-    loop-less
-    loop-again
-    enum-told
-    returns-2
-    returns-3)
+next-of-spec = tie.close (tie.spec next-attribute-requires enum-known-at attribute-value-requires sub-start enum-told returns returns-2)

@@ -27,15 +27,26 @@ returns-3 c = c .rekey .ensures ∙ simp (
   eq-eqb _ _ (c .before .if3 .taken),
 )
 
+inband-requires : tie.Need-inband-requires
+inband-requires c κs = search needs
+
+returns-4 : tie.Need-returns-4
+returns-4 c = c .inband .ensures ∙ simp (
+  ne-eqb _ _ (c .before .before .before .before .if1 .left),
+  ne-eqb _ _ (c .before .before .before .if2 .left),
+  ne-eqb _ _ (c .before .before .if3 .left),
+  eq-eqb _ _ (c .before .if4 .taken),
+)
+
 other-requires : tie.Need-other-requires
 other-requires c κs = search needs
 
-returns-4 : tie.Need-returns-4
-returns-4 c = c .other .ensures ∙ simp (
-  ne-eqb _ _ (c .before .before .before .if1 .left),
-  ne-eqb _ _
-      (c .before .before .if2 .left),
-  ne-eqb _ _ (c .before .if3 .left),
+returns-5 : tie.Need-returns-5
+returns-5 c = c .other .ensures ∙ simp (
+  ne-eqb _ _ (c .before .before .before .before .if1 .left),
+  ne-eqb _ _ (c .before .before .before .if2 .left),
+  ne-eqb _ _ (c .before .before .if3 .left),
+  ne-eqb _ _ (c .before .if4 .left),
 )
 
 pub exchange-of-spec : {M : Type 1} → statement M
@@ -48,5 +59,7 @@ exchange-of-spec =
     returns-2
     rekey-requires
     returns-3
+    inband-requires
+    returns-4
     other-requires
-    returns-4)
+    returns-5)

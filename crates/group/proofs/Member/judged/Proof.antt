@@ -1,4 +1,5 @@
 use denote.Ref.{now}
+use borrow.Author.Needs.{needs}
 use mathlib.Core.Path.{_≡_, ap, sym, _∙_}
 use mathlib.Core.List.{[]}
 use Rattle.octets.specs.Walk.{whole}
@@ -7,8 +8,8 @@ use Rattle.contents.specs.inner.Values.{isWhole}
 use Rattle.judging.proofs.VerdictLaws.{refused-so, passed-so}
 use Rattle.receiving.specs.inner.Passing.{Passed}
 use Rattle.group.specs.declared.Member.{Member}
-use Rattle.group.proofs.ReceiveLaws.{judged-small, judged-clauses, judged-as}
-use borrow.Author.Needs.{needs}
+use Rattle.group.specs.Receive.{numberOf}
+use Rattle.group.proofs.ReceiveLaws.{judged-numbered, judged-clauses, judged-as}
 use Rattle.group.proofs.Member.judged.Statement.{statement}
 use Rattle.group.proofs.Member.judged.Tie as tie
 
@@ -18,16 +19,19 @@ refusal-requires c κs = ap isWhole (c .before .before .before .pre .1)
 enum-known-number : tie.Need-enum-known-number
 enum-known-number c = search needs
 
-refused-requires : tie.Need-refused-requires
-refused-requires c κs =
+answer-of-requires : tie.Need-answer-of-requires
+answer-of-requires c κs =
     let m = c .before .number .given in
     let r = c .before .before .before .refusal in
     let b = c .before .before .before .before .before .before .before in
     let a = b .args in
     let p = b .pre in
     let n = refused-so _ _ (m .0 .0) (sym (m .1) ∙ r .ensures (p .0) (p .1)) in
-    judged-small (a .self .state) (a .tick) (now (a .lent)) (p .0) _ _
+    judged-numbered (a .self .state) (a .tick) (now (a .lent)) (p .0) _ _
     (judged-clauses (a .self .state) (a .tick) (now (a .lent)) (p .0) (m .0 .0) (n .0) (λ z. n .1 (sym (n .0) ∙ z)))
+
+refused-requires : tie.Need-refused-requires
+refused-requires c κs = search needs
 
 enum-known-x : tie.Need-enum-known-x
 enum-known-x c = search needs
@@ -46,13 +50,14 @@ passed-requires c κs = let p = c .before .before .before .before .before .befor
 
 returns : tie.Need-returns
 returns c =
+    let d = c .before .before in
     let e = c .refused .ensures in
-    let m = c .before .before .number .given in
-    let r = c .before .before .before .before .refusal in
-    let a = c .before .before .before .before .before .before .before .before .args in
+    let m = d .before .number .given in
+    let r = d .before .before .before .refusal in
+    let a = d .before .before .before .before .before .before .before .args in
     λ f q.
     let n = refused-so _ _ (m .0 .0) (sym (m .1) ∙ r .ensures f q) in
-    judged-as (a .self .state) (a .tick) (now (a .lent)) f _ _ _ _ (e .0) (ap (λ (x : Member). x .state) (e .1))
+    judged-as (a .self .state) (a .tick) (now (a .lent)) f _ _ _ _ (ap numberOf (e .0) ∙ c .before .answer-of .ensures) (ap (λ (x : Member). x .state) (e .1))
     (judged-clauses (a .self .state) (a .tick) (now (a .lent)) f (m .0 .0) (n .0) (λ z. n .1 (sym (n .0) ∙ z)))
 
 returns-2 : tie.Need-returns-2
@@ -64,6 +69,7 @@ judged-spec =
     (tie.spec
     refusal-requires
     enum-known-number
+    answer-of-requires
     refused-requires
     enum-known-x
     passed-requires

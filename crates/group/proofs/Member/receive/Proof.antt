@@ -15,8 +15,8 @@ judged-requires c κs =
     let r = c .before .before .frame-layout in
     whole-tree (now (c .before .before .before .before .before .args .frame)) (r .result) (r .ensures) (c .enum-told .given .1)
 
-enum-told-2 : tie.Need-enum-told-2
-enum-told-2 c = search needs
+enum-known-at : tie.Need-enum-known-at
+enum-known-at c = search needs
 
 refused-requires : tie.Need-refused-requires
 refused-requires c κs = search needs
@@ -31,9 +31,9 @@ returns c =
 
 returns-2 : tie.Need-returns-2
 returns-2 c =
-    let a = c .before .before .before .before .before .before .args in
-    let r = c .before .before .before .frame-layout in
-    let told = c .before .enum-told2 .given in
+    let a = c .before .before .before .before .before .before .before .args in
+    let r = c .before .before .before .before .frame-layout in
+    let told = c .before .before .at .given in
     let x = c .refused .result in
     let e = c .refused .ensures in
     receives-broken (a .self) (a .tick) (now (a .lent)) (now (a .frame)) (told .0 .0)
@@ -42,4 +42,4 @@ returns-2 c =
 pub receive-spec : {M : Type 1} → statement M
 receive-spec =
     tie.close
-    (tie.spec frame-layout-requires enum-told judged-requires enum-told-2 refused-requires returns returns-2)
+    (tie.spec frame-layout-requires enum-told judged-requires enum-known-at refused-requires returns returns-2)

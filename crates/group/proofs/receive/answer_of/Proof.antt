@@ -28,14 +28,12 @@ returns-8 : tie.Need-returns-8
 returns-8 c = search needs
 
 returns-9 : tie.Need-returns-9
-returns-9 c = search needs
-
-returns-10 : tie.Need-returns-10
-returns-10 c =
+returns-9 c =
     let r = c .match .rest in
     let q = r .0 .0 .0 .0 in
-    is-nine (c .before .args .number) (c .before .pre) (q .0 .0 .0 .0 .1) (q .0 .0 .0 .1) (q .0 .0 .1) (q .0 .1) (q .1) (r .0 .0 .0 .1)
-    (r .0 .0 .1) (r .0 .1) (r .1)
+    let p = c .before .pre in
+    is-nine (c .before .args .number) (p .0) (q .0 .0 .0 .1) (p .1) (q .0 .0 .1) (q .0 .1) (q .1) (r .0 .0 .0 .1) (r .0 .0 .1) (r .0 .1)
+    (r .1)
 
 pub answer-of-spec : {M : Type 1} → statement M
 answer-of-spec =
@@ -49,5 +47,4 @@ answer-of-spec =
     returns-6
     returns-7
     returns-8
-    returns-9
-    returns-10)
+    returns-9)

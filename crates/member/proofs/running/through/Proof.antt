@@ -6,6 +6,7 @@ use mathlib.Core.Logic.{inl, inr}
 use native.Mathlib.Omega.{arith}
 use borrow.Author.Tests.{leb-true}
 use lib.ListN.{length}
+use Rattle.lines.specs.inner.Room.{replyRoom}
 use Rattle.member.proofs.BlockLaws.{Passing, passing-start, passing-more, passing-end}
 use Rattle.member.proofs.running.through.Statement.{statement}
 use Rattle.member.proofs.running.through.Tie as tie
@@ -28,7 +29,7 @@ advanced-requires : tie.Need-advanced-requires Inv-loop μ-loop
 advanced-requires c κs =
     let i = c .before .before .before in
     let l = i .before .before in
-    (l .before .loop .inv .passes .ready, (leb-true 63 _ (i .if1 .taken), l .loop-test .taken))
+    (l .before .loop .inv .passes .ready, (leb-true replyRoom _ (i .if1 .taken), l .loop-test .taken))
 
 loop-less : tie.Need-loop-less Inv-loop μ-loop
 loop-less c = omega (arith, c .before .before .before .before .before .before .before .advanced .ensures .1)

@@ -3,6 +3,7 @@ use native.Mathlib.Omega.{arith}
 use Prim.Native.Nat.{_-_, _≤_}
 use mathlib.Core.Path.{_≡_, sym, _∙_}
 use lib.ListN.{length}
+use Rattle.keys.specs.Limits.{limits}
 use Rattle.reach.specs.inner.Search.{NonePending}
 use Rattle.reach.proofs.Loops.{pend-here, pend-next}
 use borrow.Author.Needs.{needs}
@@ -10,13 +11,13 @@ use Rattle.reach.proofs.search.first_pending.Statement.{statement}
 use Rattle.reach.proofs.search.first_pending.Tie as tie
 
 abbrev Inv-loop : tie.InvT-loop
-Inv-loop n cells i₀ i = (n ≤ 32) × (length cells ≡ 32) × (i ≤ n) × NonePending cells i
+Inv-loop n cells i₀ i = (n ≤ limits .wrapKeys) × (length cells ≡ limits .wrapKeys) × (i ≤ n) × NonePending cells i
 
 abbrev μ-loop : tie.MeasureT-loop
 μ-loop n cells i₀ i = n - i
 
 loop-holds : tie.Need-loop-holds Inv-loop μ-loop
-loop-holds c = let e : length (c .args .t1) ≡ 32 = search needs in (c .pre, e, search needs, λ i h. absurd (omega arith))
+loop-holds c = let e : length (c .args .t1) ≡ limits .wrapKeys = search needs in (c .pre, e, search needs, λ i h. absurd (omega arith))
 
 mul-c : tie.Need-mul-c Inv-loop μ-loop
 mul-c c = search needs

@@ -3,6 +3,7 @@ use native.Mathlib.Omega.{arith}
 use Prim.Native.Nat.{ℕ, _-_, _≤_}
 use mathlib.Core.Path.{_≡_, sym, _∙_}
 use lib.ListN.{length}
+use Rattle.keys.specs.Limits.{limits}
 use Rattle.reach.specs.inner.Search.{Unnamed}
 use Rattle.reach.proofs.Loops.{named-next}
 use borrow.Author.Needs.{needs}
@@ -10,15 +11,16 @@ use Rattle.reach.proofs.search.is_named.Statement.{statement}
 use Rattle.reach.proofs.search.is_named.Tie as tie
 
 abbrev Inv-loop : tie.InvT-loop
-Inv-loop id n entries cells i₀ i = (n ≤ 32) × (length entries ≡ 32) × (length cells ≡ 32) × (i ≤ n) × Unnamed id entries cells i
+Inv-loop id n entries cells i₀ i =
+    (n ≤ limits .wrapKeys) × (length entries ≡ limits .wrapKeys) × (length cells ≡ limits .wrapKeys) × (i ≤ n) × Unnamed id entries cells i
 
 abbrev μ-loop : tie.MeasureT-loop
 μ-loop id n entries cells i₀ i = n - i
 
 loop-holds : tie.Need-loop-holds Inv-loop μ-loop
 loop-holds c =
-    let e : length (c .args .t2) ≡ 32 = search needs in
-    let f : length (c .args .t3) ≡ 32 = search needs in
+    let e : length (c .args .t2) ≡ limits .wrapKeys = search needs in
+    let f : length (c .args .t3) ≡ limits .wrapKeys = search needs in
     (c .pre, e, f, search needs, λ i h. absurd (omega arith))
 
 mul-e : tie.Need-mul-e Inv-loop μ-loop

@@ -10,6 +10,7 @@ use Rattle.fips197.specs.Key.{Key, isKey}
 use Rattle.attributes.specs.Tree.{WrapKey}
 use Rattle.reach.specs.declared.open.Cell.{Cell}
 use Rattle.reach.specs.inner.Entries.{Lists}
+use Rattle.keys.specs.Limits.{limits}
 use Rattle.keys.specs.Kinds.{valueOf}
 use Rattle.reach.specs.inner.Opened.{noCell}
 use Rattle.reach.specs.inner.Search.{cellAt, AllTried, FoundAt, NonePending, Finds}
@@ -20,9 +21,9 @@ use Rattle.reach.proofs.search.search.Tie as tie
 
 abbrev Inv-loop : tie.InvT-loop
 Inv-loop frame n entries size tables cells₀ cells =
-    (n ≤ 32) × (length entries ≡ 32) × (length cells ≡ 32) ×
+    (n ≤ limits .wrapKeys) × (length entries ≡ limits .wrapKeys) × (length cells ≡ limits .wrapKeys) ×
     ((v : List ℕ) (is : Key v) (l : List WrapKey) (fit : T (isKey size)) → Lists frame entries n l →
-    AllTried 0 v size l (replicate 32 noCell) cells₀ → Kept v is l size fit cells)
+    AllTried 0 v size l (replicate (limits .wrapKeys) noCell) cells₀ → Kept v is l size fit cells)
 
 abbrev μ-loop : tie.MeasureT-loop
 μ-loop frame n entries size tables cells₀ cells = undone n (cellAt cells)
@@ -41,8 +42,8 @@ with-key-requires c κs =
 loop-holds : tie.Need-loop-holds Inv-loop μ-loop
 loop-holds c =
     let s = c .before .before .before .before .before in
-    let e : length (s .args .t3) ≡ 32 = search needs in
-    let r : length (c .with-key .result) ≡ 32 = search needs in (
+    let e : length (s .args .t3) ≡ limits .wrapKeys = search needs in
+    let r : length (c .with-key .result) ≡ limits .wrapKeys = search needs in (
       s .pre .0,
       e,
       r,
@@ -128,7 +129,9 @@ with-key-requires-2 c κs =
     subst (Finds (u .loop .cells) (a .n)) (c .before .before .before .before .before .j .given .1)
     (c .before .before .before .before .before .before .before .first-pending .ensures) in
     let l = s .pre .1 .1 .1 in
-    let t = subst (λ (b : Cell). AllTried 0 (valueOf (a .lent)) (a .lent .count) (l .0) (replicate 32 b) (u .before .with-key .result))
+    let t =
+    subst
+    (λ (b : Cell). AllTried 0 (valueOf (a .lent)) (a .lent .count) (l .0) (replicate (limits .wrapKeys) b) (u .before .with-key .result))
     (u .before .before .blank .ensures) (u .before .with-key .ensures (l .0) (l .1)) in
     let fit = is-key-size (a .lent .count) (s .pre .1 .0) in
     let kept = u .loop .inv .3 (valueOf (a .lent)) (s .pre .1 .1 .0) (l .0) fit (l .1) t in (
@@ -168,7 +171,7 @@ loop-again c =
     let p : FoundAt (u .loop .cells) (a .n) j =
     subst (Finds (u .loop .cells) (a .n)) (c .before .before .before .before .before .before .j .given .1)
     (c .before .before .before .before .before .before .before .before .first-pending .ensures) in
-    let r : length (c .with-key2 .result) ≡ 32 = search needs in (
+    let r : length (c .with-key2 .result) ≡ limits .wrapKeys = search needs in (
       u .loop .inv .0,
       u .loop .inv .1,
       r,
@@ -185,7 +188,8 @@ returns c l h =
     let u = c .before .before .before in
     let s = u .before .before .before .before .before .before in
     let a = s .args in
-    let t = subst (λ (b : Cell). AllTried 0 (valueOf (a .lent)) (a .lent .count) l (replicate 32 b) (u .before .with-key .result))
+    let t =
+    subst (λ (b : Cell). AllTried 0 (valueOf (a .lent)) (a .lent .count) l (replicate (limits .wrapKeys) b) (u .before .with-key .result))
     (u .before .before .blank .ensures) (u .before .with-key .ensures l h) in
     let fit = is-key-size (a .lent .count) (s .pre .1 .0) in
     let kept = u .loop .inv .3 (valueOf (a .lent)) (s .pre .1 .1 .0) l fit h t in

@@ -4,6 +4,7 @@ use Prim.Native.Nat.{ℕ, _-_, _≤_}
 use mathlib.Core.Path.{_≡_}
 use mathlib.Core.List.{List}
 use lib.ListN.{length, length-set}
+use Rattle.keys.specs.Limits.{limits}
 use Rattle.aes.specs.inner.Schedule.{ExpandsInverse}
 use Rattle.attributes.specs.Tree.{WrapKey}
 use Rattle.reach.specs.inner.Entries.{Lists}
@@ -14,7 +15,7 @@ use Rattle.reach.proofs.search.tried.Tie as tie
 
 abbrev Inv-loop : tie.InvT-loop
 Inv-loop frame tables schedule size id n entries out₀ i₀ out i =
-    (n ≤ 32) × (length entries ≡ 32) × (length out ≡ 32) × (i ≤ n) ×
+    (n ≤ limits .wrapKeys) × (length entries ≡ limits .wrapKeys) × (length out ≡ limits .wrapKeys) × (i ≤ n) ×
     ((l : List WrapKey) (v : List ℕ) → Lists frame entries n l → ExpandsInverse v (schedule .words) → Partly id v size l out₀ out i)
 
 abbrev μ-loop : tie.MeasureT-loop
@@ -23,8 +24,8 @@ abbrev μ-loop : tie.MeasureT-loop
 loop-holds : tie.Need-loop-holds Inv-loop μ-loop
 loop-holds c =
     let a = c .before .args in
-    let e : length (a .t6) ≡ 32 = search needs in
-    let f : length (a .cells) ≡ 32 = search needs in
+    let e : length (a .t6) ≡ limits .wrapKeys = search needs in
+    let f : length (a .cells) ≡ limits .wrapKeys = search needs in
     (c .before .pre .0, e, f, search needs, λ l v h x. partly-none (a .id) v (a .size) l (a .cells))
 
 mul-e : tie.Need-mul-e Inv-loop μ-loop

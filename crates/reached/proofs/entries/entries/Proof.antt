@@ -9,6 +9,7 @@ use mathlib.Core.List.{List}
 use lib.ListN.{length, drop, length-append, length-drop}
 use Rattle.octets.specs.Walk.{part}
 use Rattle.octets.proofs.Walks.{to-end}
+use Rattle.keys.specs.Limits.{limits}
 use Rattle.attributes.specs.Tree.{WrapKey}
 use Rattle.bags.specs.Bag.{bags}
 use Rattle.contents.specs.inner.Values.{isWhole}
@@ -24,7 +25,7 @@ use Rattle.reached.proofs.entries.entries.Tie as tie
 
 abbrev Inv-loop : tie.InvT-loop
 Inv-loop k list₀ at₀ list at =
-    (at ≤ length k) × (isWhole (bags 0 (drop at k)) ≡ true) × (length (wrapKeysIn k) ≤ 32) ×
+    (at ≤ length k) × (isWhole (bags 0 (drop at k)) ≡ true) × (length (wrapKeysIn k) ≤ limits .wrapKeys) ×
     Gathered k (list .places) (list .count) (wrapKeysIn (drop at k)) (wrapKeysIn k)
 
 abbrev μ-loop : tie.MeasureT-loop

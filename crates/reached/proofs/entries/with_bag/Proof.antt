@@ -15,6 +15,7 @@ use Rattle.contents.specs.inner.Values.{isWhole, Finds, FoundAt}
 use Rattle.reach.specs.inner.Entries.{Lists}
 use Rattle.reached.specs.inner.Entries.{bagKeys}
 use Rattle.reached.proofs.Gathering.{Gathered, gathered-next, gathered-all, taken-inside, taken-first}
+use Rattle.keys.specs.Limits.{limits}
 use Rattle.keys.proofs.Lists.{length-of-map}
 use borrow.Author.Needs.{needs}
 use Rattle.reached.proofs.entries.with_bag.Statement.{statement}
@@ -22,8 +23,8 @@ use Rattle.reached.proofs.entries.with_bag.Tie as tie
 
 abbrev Inv-loop : tie.InvT-loop
 Inv-loop k a e s places₀ n₀ at₀ places n at =
-    (length places ≡ 32) × (at ≤ length s) × (isWhole (attributes MemberBag 0 (drop at s)) ≡ true) ×
-    (n + length (bagKeys (drop at s)) ≤ 32) ×
+    (length places ≡ limits .wrapKeys) × (at ≤ length s) × (isWhole (attributes MemberBag 0 (drop at s)) ≡ true) ×
+    (n + length (bagKeys (drop at s)) ≤ limits .wrapKeys) ×
     ((l : List WrapKey) → Lists k places₀ n₀ l → Gathered k places n (bagKeys (drop at s)) (l ++ bagKeys s))
 
 abbrev μ-loop : tie.MeasureT-loop
@@ -41,7 +42,7 @@ part-s-end c = search needs
 loop-holds : tie.Need-loop-holds Inv-loop μ-loop
 loop-holds c =
     let s = c .before .before .before in
-    let e : length (s .args .list .places) ≡ 32 = search (needs, length-of-map) in
+    let e : length (s .args .list .places) ≡ limits .wrapKeys = search (needs, length-of-map) in
     (e, omega arith, s .pre .1 .0, s .pre .1 .1, λ l h. record { done = l; lists = h; joined = refl })
 
 next-of-requires : tie.Need-next-of-requires Inv-loop μ-loop
@@ -86,7 +87,7 @@ first c =
     let v = c .before .b .given .0 in
     taken-first (now (s .args .k)) (s .args .a) (s .args .e) (s .pre .0 .0) (s .pre .0 .1) (l .at) (v .0) (v .1 .0) (l .inv .2) (next c)
 
-room : (c : tie.After-entry Inv-loop μ-loop) → c .before .before .before .before .before .loop .n < 32
+room : (c : tie.After-entry Inv-loop μ-loop) → c .before .before .before .before .before .loop .n < limits .wrapKeys
 room c = omega (arith, c .before .before .before .before .before .loop .inv .3, ap length (first (c .before)))
 
 mul-places : tie.Need-mul-places Inv-loop μ-loop
@@ -109,7 +110,8 @@ loop-again c =
     let f = next (c .before) in
     let e = first (c .before) in
     let s = part (now (a .k)) (a .a) (a .e) in
-    let n : length (set (l .places) (l .n) (c .entry .result)) ≡ 32 = length-set (l .places) (l .n) (c .entry .result) ∙ l .inv .0 in (
+    let n : length (set (l .places) (l .n) (c .entry .result)) ≡ limits .wrapKeys =
+    length-set (l .places) (l .n) (c .entry .result) ∙ l .inv .0 in (
       n,
       f .inside,
       f .rest,

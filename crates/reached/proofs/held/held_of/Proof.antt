@@ -3,6 +3,7 @@ use native.Mathlib.Omega.{arith}
 use Prim.Native.Nat.{ℕ, _-_, _≤_}
 use mathlib.Core.Path.{_≡_, subst}
 use lib.ListN.{length}
+use Rattle.keys.specs.Limits.{limits}
 use Rattle.reach.specs.declared.open.Entry.{Entry}
 use Rattle.reach.specs.declared.open.Cell.{Cell}
 use Rattle.conflicts.proofs.Clashing.{both-at}
@@ -15,7 +16,8 @@ use Rattle.reached.proofs.held.held_of.Tie as tie
 
 abbrev Inv-loop : tie.InvT-loop
 Inv-loop n entries cells held₀ i₀ held i =
-    (n ≤ 32) × (length entries ≡ 32) × (length cells ≡ 32) × (i ≤ n) × Entered entries cells i held
+    (n ≤ limits .wrapKeys) × (length entries ≡ limits .wrapKeys) × (length cells ≡ limits .wrapKeys) × (i ≤ n) ×
+    Entered entries cells i held
 
 abbrev μ-loop : tie.MeasureT-loop
 μ-loop n entries cells held₀ i₀ held i = n - i
@@ -26,8 +28,8 @@ new-requires c κs = search needs
 loop-holds : tie.Need-loop-holds Inv-loop μ-loop
 loop-holds c =
     let s = c .before in
-    let e : length (s .args .t1) ≡ 32 = search needs in
-    let f : length (s .args .t2) ≡ 32 = search needs in
+    let e : length (s .args .t1) ≡ limits .wrapKeys = search needs in
+    let f : length (s .args .t2) ≡ limits .wrapKeys = search needs in
     (s .pre, e, f, omega arith, entered-none (s .args .t1) (s .args .t2) (c .new .result) (c .new .ensures))
 
 mul-e : tie.Need-mul-e Inv-loop μ-loop

@@ -7,7 +7,8 @@ use Rattle.frames.specs.Frame.{Frame}
 use Rattle.frames.specs.Exchange.{registration}
 use Rattle.receiving.specs.inner.Passing.{Bodied, Opened}
 use Rattle.receiving.proofs.BodyLaws.{ready, entries-few, entries-nonzero}
-use Rattle.receiving.proofs.RegistrationLaws.{zero-fits, zero-key, registration-eight, registration-opened}
+use Rattle.receiving.proofs.LentLaws.{registers-lent, zero-fits, zero-key}
+use Rattle.receiving.proofs.RegistrationLaws.{registration-eight, registration-opened}
 use borrow.Author.Needs.{needs}
 use Rattle.receiving.proofs.registration.by_bodies.Statement.{statement}
 use Rattle.receiving.proofs.registration.by_bodies.Tie as tie
@@ -27,7 +28,8 @@ reached-requires c κs =
     let zero = c .before .new .result .key in
     let known = c .before .before .shared-slice-known4 .given in
     let o : Octets (now (c .before .before .before .before .before .before .args .lent)) = λ i. known i .fits in
-    (p .0 .1, (entries-few b, (entries-nonzero b, (zero-fits b zero (zero-is c), zero-key b zero (zero-is c) o))))
+    let fits = zero-fits b registers-lent zero (zero-is c) in
+    (p .0 .1, (entries-few b, (entries-nonzero b, (fits, zero-key b registers-lent zero (zero-is c) o))))
 
 returns : tie.Need-returns
 returns c =
@@ -43,7 +45,8 @@ keyed-requires c κs =
     let z = c .before .before .before in
     let r = c .before .before .reached in
     let held-formed = r .ensures .formed (c .before .if1 .left) in
-    (p .0 .0, (p .0 .1, (zero-fits b (z .before .new .result .key) (zero-is z), (held-formed, (p .1 .0, ready b)))))
+    let fits = zero-fits b registers-lent (z .before .new .result .key) (zero-is z) in
+    (p .0 .0, (p .0 .1, (fits, (held-formed, (p .1 .0, ready b)))))
 
 opened-by : (c : tie.After-keyed) (f : Frame) →
     let a = c .before .before .before .before .before .before .before .before .before .before .args in

@@ -1,48 +1,151 @@
-use mathlib.Core.Path.{sym, _∙_}
+use native.Mathlib.Omega.{arith}
+use Prim.Native.Nat.{_-_, _≤_}
+use mathlib.Core.Path.{_≡_, refl, sym, _∙_}
+use mathlib.Core.Bool.{true, false}
+use mathlib.Core.Logic.{⊎-elim}
+use lib.ListN.{length}
 use Rattle.keys.specs.Limits.{limits}
-use Rattle.table.proofs.Laws.{formed-over, formed-each, formed-rises, formed-live}
+use Rattle.keys.proofs.Lists.{length-of-map}
+use Rattle.table.proofs.Laws.{formed-over, Testing, testing-start, testing-not}
+use Rattle.table.proofs.Laws.{testing-falls, testing-next, testing-last, testing-end}
 use borrow.Author.Needs.{needs}
 use Rattle.table.proofs.Table.formed.Statement.{statement}
 use Rattle.table.proofs.Table.formed.Tie as tie
 
-returns : tie.Need-returns
-returns c = formed-over limits (c .before .before .args .self) (c .if1 .taken)
+abbrev Inv-loop : tie.InvT-loop
+Inv-loop self n k₀ i₀ k i =
+    (n ≡ self .count) × (i ≤ n) × (h : self .count ≤ limits .sas) ×
+    (long : length (self .sas) ≡ limits .sas) × Testing limits self h long k i
 
-each-formed-requires : tie.Need-each-formed-requires
-each-formed-requires c κs = search needs
+abbrev μ-loop : tie.MeasureT-loop
+μ-loop self n k₀ i₀ k i = n - i
 
-returns-2 : tie.Need-returns-2
+returns : tie.Need-returns Inv-loop μ-loop
+returns c = formed-over limits (c .before .args .t1) (c .if1 .taken)
+
+loop-holds : tie.Need-loop-holds Inv-loop μ-loop
+loop-holds c =
+    let e : length (c .before .args .t1 .sas) ≡ limits .sas = search (needs, length-of-map) in
+    (refl, omega arith, c .if1 .left, e, testing-start limits (c .before .args .t1) (c .if1 .left) e)
+
+mul-s : tie.Need-mul-s Inv-loop μ-loop
+mul-s c = search needs
+
+element-copy-out-s : tie.Need-element-copy-out-s Inv-loop μ-loop
+element-copy-out-s c = search needs
+
+formed-requires : tie.Need-formed-requires Inv-loop μ-loop
+formed-requires c κs = search needs
+
+returns-2 : tie.Need-returns-2 Inv-loop μ-loop
 returns-2 c =
-    formed-each limits (c .before .before .before .before .args .self) (c .before .before .if1 .left)
-    (sym (c .before .each-formed .ensures) ∙ c .if2 .left)
+    let l = c .before .before .before .before .loop in
+    let v = l .inv in
+    testing-not limits (c .before .before .before .before .before .before .args .t1) (v .2) (v .3) (l .k) (l .i) (v .4) _ (omega arith)
+    (sym (c .if2 .left) ∙ c .before .formed .ensures)
 
-rises-requires : tie.Need-rises-requires
-rises-requires c κs = search needs
+add-j : tie.Need-add-j Inv-loop μ-loop
+add-j c = search needs
 
-returns-3 : tie.Need-returns-3
+mul-t : tie.Need-mul-t Inv-loop μ-loop
+mul-t c = search needs
+
+element-copy-out-t : tie.Need-element-copy-out-t Inv-loop μ-loop
+element-copy-out-t c = search needs
+
+before-requires : tie.Need-before-requires Inv-loop μ-loop
+before-requires c κs = search needs
+
+returns-3 : tie.Need-returns-3 Inv-loop μ-loop
 returns-3 c =
-    formed-rises limits (c .before .before .before .before .before .before .args .self) (c .before .before .before .before .if1 .left)
-    (sym (c .before .before .before .each-formed .ensures) ∙ c .before .before .if2 .taken)
-    (sym (c .before .rises .ensures) ∙ c .if3 .left)
+    let l = c .before .before .before .before .before .before .before .before .loop in
+    let v = l .inv in
+    testing-falls limits (c .before .before .before .before .before .before .before .before .before .before .args .t1) (v .2) (v .3)
+    (l .k) (l .i) (v .4) _ (omega arith) (c .before .before .before .if3 .taken)
+    (sym (c .if4 .left) ∙ c .before .before2 .ensures)
 
-live-rekeys-requires : tie.Need-live-rekeys-requires
-live-rekeys-requires c κs = search needs
+is-live-rekey-requires : tie.Need-is-live-rekey-requires Inv-loop μ-loop
+is-live-rekey-requires c κs = search needs
 
-returns-4 : tie.Need-returns-4
+add-k : tie.Need-add-k Inv-loop μ-loop
+add-k c = let l = c .before .before .before .before .before .before .before .loop in let f = l .inv .4 .few in
+    record { fits = omega arith }
+
+loop-less : tie.Need-loop-less Inv-loop μ-loop
+loop-less c = search needs
+
+loop-again : tie.Need-loop-again Inv-loop μ-loop
+loop-again c =
+    let l = c .before .before .before .before .before .before .before .loop in
+    let v = l .inv in
+    let t = c .before .before .before .before .before .before .before .before .before .args .t1 in
+    let x = c .before .before .before in
+    let e = sym (x .if2 .taken) ∙ x .before .formed .ensures in
+    let m = sym (c .if5 .taken) ∙ c .before .is-live-rekey .ensures in (
+      refl,
+      omega arith,
+      v .2,
+      v .3,
+      ⊎-elim
+          (λ w.
+          testing-next limits t (v .2) (v .3) (l .k) (l .i) (v .4) _ (omega arith) e true m (w .0 .taken) (sym (w .3 .taken)
+          ∙ w .2 .ensures) _
+          refl)
+          (λ w. testing-last limits t (v .2) (v .3) (l .k) (l .i) (v .4) _ (omega arith) e true m (w .left) _ refl)
+          (c .before .before .if3 .came),
+    )
+
+loop-less-2 : tie.Need-loop-less-2 Inv-loop μ-loop
+loop-less-2 c = search needs
+
+loop-again-2 : tie.Need-loop-again-2 Inv-loop μ-loop
+loop-again-2 c =
+    let l = c .before .before .before .before .before .before .before .loop in
+    let v = l .inv in
+    let t = c .before .before .before .before .before .before .before .before .before .args .t1 in
+    let x = c .before .before .before in
+    let e = sym (x .if2 .taken) ∙ x .before .formed .ensures in
+    let m = sym (c .if5 .left) ∙ c .before .is-live-rekey .ensures in (
+      refl,
+      omega arith,
+      v .2,
+      v .3,
+      ⊎-elim
+          (λ w.
+          testing-next limits t (v .2) (v .3) (l .k) (l .i) (v .4) _ (omega arith) e false m (w .0 .taken) (sym (w .3 .taken)
+          ∙ w .2 .ensures) _
+          refl)
+          (λ w. testing-last limits t (v .2) (v .3) (l .k) (l .i) (v .4) _ (omega arith) e false m (w .left) _ refl)
+          (c .before .before .if3 .came),
+    )
+
+returns-4 : tie.Need-returns-4 Inv-loop μ-loop
 returns-4 c =
-    formed-live limits (c .before .before .before .before .before .before .before .args .self)
-    (c .before .before .before .before .before .if1 .left) _
-    (sym (c .before .before .before .before .each-formed .ensures) ∙ c .before .before .before .if2 .taken)
-    (sym (c .before .before .rises .ensures) ∙ c .before .if3 .taken) (c .live-rekeys .ensures)
+    let l = c .before .loop in
+    let v = l .inv in
+    testing-end limits (c .before .before .before .args .t1) (v .2) (v .3) (l .k) (l .i) (v .4) (c .loop-test .left)
 
 pub formed-spec : {M : Type 1} → statement M
 formed-spec =
     tie.close
     (tie.spec
+    Inv-loop
+    μ-loop
     returns
-    each-formed-requires
+    loop-holds
+    mul-s
+    element-copy-out-s
+    formed-requires
     returns-2
-    rises-requires
+    add-j
+    mul-t
+    element-copy-out-t
+    before-requires
     returns-3
-    live-rekeys-requires
+    is-live-rekey-requires
+    add-k
+    loop-less
+    loop-again
+    loop-less-2
+    loop-again-2
     returns-4)

@@ -1,0 +1,104 @@
+use native.Mathlib.Omega.{arith}
+use Prim.Native.Nat.{ℕ, _-_, _≤_}
+use mathlib.Core.Path.{_≡_, sym}
+use lib.ListN.{length, length-replicate}
+use Rattle.keys.specs.Limits.{limits}
+use Rattle.keys.proofs.Lists.{length-of-map}
+use Rattle.keys.proofs.Sizes.{wrapping-le}
+use Rattle.reach.proofs.Statuses.{getD-any}
+use Rattle.state.specs.Held.{blankKey}
+use Rattle.copies.proofs.Reaching.{held-within, held-size}
+use Rattle.copies.proofs.Filling.{Filled, filled-none, filled-more, filled-all}
+use borrow.Author.Needs.{needs}
+use Rattle.copies.proofs.lending.lend_keys.Statement.{statement}
+use Rattle.copies.proofs.lending.lend_keys.Tie as tie
+
+abbrev Inv-loop : tie.InvT-loop
+Inv-loop held n ids₀ block₀ i₀ ids block i =
+    (length (held .keys) ≡ limits .heldKeys) × (n ≤ limits .heldKeys) × (i ≤ n) × Filled (held .keys) ids block i
+
+abbrev μ-loop : tie.MeasureT-loop
+μ-loop held n ids₀ block₀ i₀ ids block i = n - i
+
+loop-holds : tie.Need-loop-holds Inv-loop μ-loop
+loop-holds c =
+    let e : length (c .args .t1 .keys) ≡ limits .heldKeys = search (needs, length-of-map) in
+    (e, held-within (c .args .t1) (c .pre), omega arith, filled-none _ _ _ (length-replicate {A = ℕ} _ 0) (length-replicate {A = ℕ} _ 0))
+
+mul-k : tie.Need-mul-k Inv-loop μ-loop
+mul-k c = search needs
+
+element-copy-out-k : tie.Need-element-copy-out-k Inv-loop μ-loop
+element-copy-out-k c = search needs
+
+mul-ids : tie.Need-mul-ids Inv-loop μ-loop
+mul-ids c = search needs
+
+array-write-ids : tie.Need-array-write-ids Inv-loop μ-loop
+array-write-ids c =
+    let l = c .before .before .before .loop in
+    let e = l .inv .0 in
+    omega arith
+
+mul-put : tie.Need-mul-put Inv-loop μ-loop
+mul-put c = search needs
+
+slice-aggregate-put : tie.Need-slice-aggregate-put Inv-loop μ-loop
+slice-aggregate-put c = sym (c .before .before .before .before .loop .inv .3 .block-length)
+
+put-requires : tie.Need-put-requires Inv-loop μ-loop
+put-requires c κs =
+    let l = c .before .before .before .before .loop in
+    let s = c .before .before .before .before .before in
+    let b = l .inv .3 .block-length in
+    let e = l .inv .0 in
+    let n = l .inv .1 in
+    (omega arith, wrapping-le _ (held-size (s .args .t1) (s .pre) e (l .i) _ (c .before .before .before .loop-test .taken)))
+
+add-i : tie.Need-add-i Inv-loop μ-loop
+add-i c = search needs
+
+loop-less : tie.Need-loop-less Inv-loop μ-loop
+loop-less c = search needs
+
+loop-again : tie.Need-loop-again Inv-loop μ-loop
+loop-again c =
+    let l = c .before .before .before .before .before .before .loop in
+    let s = c .before .before .before .before .before .before .before in
+    let e = l .inv .0 in
+    let n = l .inv .1 in (
+      e,
+      n,
+      omega arith,
+      filled-more (s .args .t1 .keys) (l .ids) (l .block) (l .i) (l .inv .3) (omega arith) (omega arith) _
+          (getD-any (s .args .t1 .keys) (l .i) blankKey _ (omega arith))
+          (wrapping-le _ (held-size (s .args .t1) (s .pre) e (l .i) _ (c .before .before .before .before .before .loop-test .taken)))
+          _ (c .before .put .ensures),
+    )
+
+returns : tie.Need-returns Inv-loop μ-loop
+returns c =
+    let l = c .before .loop in
+    let s = c .before .before in
+    let e = l .inv .0 in
+    let n = l .inv .1 in
+    filled-all (s .args .t1) (l .ids) (l .block) (l .i) (s .pre) (omega arith) n (c .loop-test .left) (l .inv .2) (l .inv .3)
+
+pub lend-keys-spec : {M : Type 1} → statement M
+lend-keys-spec =
+    tie.close
+    (tie.spec
+    Inv-loop
+    μ-loop
+    loop-holds
+    mul-k
+    element-copy-out-k
+    mul-ids
+    array-write-ids
+    mul-put
+    slice-aggregate-put
+    put-requires
+    add-i
+    loop-less
+    loop-again
+    returns)

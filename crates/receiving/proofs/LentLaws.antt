@@ -1,0 +1,64 @@
+-- Key 0 where it is the lent key: in a registration, and in a rekey over the member's own channel.
+use Prim.Native.Nat.{ℕ}
+use mathlib.Core.Path.{_≡_, refl, ap, sym, subst, _∙_}
+use mathlib.Core.Bool.{true}
+use mathlib.Core.List.{List}
+use lib.ListN.{length}
+use Rattle.octets.specs.Octets.{Octets}
+use Rattle.fips197.specs.Key.{Key}
+use Rattle.keys.specs.Limits.{limits}
+use Rattle.keys.specs.Algorithms.{sizeOf}
+use Rattle.keys.specs.Kinds.{wrappingOf, wrappingKey, valueOf}
+use Rattle.keys.specs.declared.kinds.WrappingKey.{WrappingKey}
+use Rattle.frames.specs.Frame.{Frame}
+use Rattle.frames.specs.Exchange.{registration, inband}
+use Rattle.frames.specs.declared.exchanges.Exchange.{Exchange}
+use Rattle.state.specs.declared.State.{State}
+use Rattle.clauses.specs.Contents.{rowOf}
+use Rattle.reach.specs.inner.Search.{keyZero}
+use Rattle.reach.proofs.Searching.{is-key-size}
+use Rattle.reached.proofs.Agreeing.{value-of}
+use Rattle.outcome.specs.Roots.{rootsOf, wrappingSize}
+use Rattle.outcome.proofs.Rows.{FromLent, lent-roots, lent-size}
+use Rattle.judging.specs.declared.facts.Facts.{Facts}
+use Rattle.receiving.specs.inner.Passing.{Bodied}
+use Rattle.receiving.proofs.ClauseLaws.{lent-fits}
+use Rattle.receiving.proofs.ZeroLaws.{lent-key}
+
+-- an exchange in which the lent key's size is judged, and chains start with that key alone
+pub record LentRow (y : Exchange) : Type 0 where
+  pub judged : y .lends ≡ true
+  pub from : FromLent y
+
+pub registers-lent : LentRow registration
+registers-lent = record { judged = refl; from = record { zero-is = refl; none-held = refl } }
+
+pub rekeys-lent : LentRow inband
+rekeys-lent = record { judged = refl; from = record { zero-is = refl; none-held = refl } }
+
+module _ {y : Exchange} {m : State} {now : ℕ} {lent s : List ℕ} {x : Facts} {g k : List ℕ} {f : Frame}
+    (b : Bodied y m now lent s x g k f) (l : LentRow y) (zero : WrappingKey) (z : zero ≡ wrappingKey lent .key) where
+  lent-size-fits : sizeOf 13 (length lent) ≡ true
+  lent-size-fits = lent-fits m now lent f (b .passed .clauses) (ap (λ (e : Exchange). e .lends) (b .row) ∙ l .judged)
+
+  from-lent : FromLent (rowOf f)
+  from-lent = subst FromLent (sym (b .row)) (l .from)
+
+  zero-is : zero ≡ wrappingOf lent
+  zero-is = z ∙ lent-key lent lent-size-fits
+
+  value-is : valueOf zero ≡ lent
+  value-is = ap valueOf zero-is ∙ value-of lent
+
+  pub zero-fits : sizeOf 13 (zero .count) ≡ true
+  zero-fits = ap (λ (w : WrappingKey). sizeOf 13 (w .count)) zero-is ∙ lent-size-fits
+
+  pub zero-key : Octets lent → Key (valueOf zero)
+  zero-key o = subst Key (sym value-is) (record { size = is-key-size (length lent) lent-size-fits; small = o })
+
+  -- the code's key 0 is the one that chains start with, and has the size that a wrapping key must have
+  pub zero-roots : keyZero (valueOf zero) ≡ rootsOf limits m now lent f
+  zero-roots = ap keyZero value-is ∙ sym (lent-roots limits m now f from-lent lent)
+
+  pub zero-size : zero .count ≡ wrappingSize limits m now lent f
+  zero-size = ap (λ (w : WrappingKey). w .count) zero-is ∙ sym (lent-size limits m now f from-lent lent)
