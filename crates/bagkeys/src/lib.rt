@@ -67,8 +67,8 @@ fn of_group(protocol: usize, k: KeyFacts) -> BagFacts
     BagFacts {
         members: 0,
         wraps: 0,
-        unnamed: false,
-        itself: false,
+        unnamed: false, // asked of a WRAP_KEY alone
+        itself: false, // likewise
         ah: protocol == AH,
         keyless: k.keys == 0,
         several: (protocol != REKEY) & (1 < k.keys),

@@ -6,9 +6,11 @@ ghost use lib.ListN.{length};
 ghost use Rattle.attributes.specs.Layout.{attributes};
 ghost use Rattle.contents.specs.inner.Values.{isWhole, valuesIn};
 ghost use Rattle.bagkeys.specs.inner.Facts.{isKey, withKey, keyFactsOf};
+use attributes::attribute_value;
 use attributes::tables::Meaning;
 use attributes::tables::Place;
 use contents::values::Found;
+use contents::values::next_attribute;
 
 // How many keys; whether one has a Key ID, one has none, one has a KWK ID, where an ID of 0 is none; whether the IDs of one are equal.
 pub struct KeyFacts {
@@ -49,9 +51,9 @@ pub fn keys_of(m: Meaning, place: Place, a: &[u8]) -> KeyFacts
     };
     let mut at = 0;
     loop {
-        match contents::values::next_of(m, place, a, at) {
+        match next_attribute(m, place, a, at) {
             Found::At(start, end) => {
-                f = with_key(f, &a[start..end]);
+                f = with_key(f, attribute_value(a, start));
                 at = end;
             }
             Found::Nothing => {

@@ -6,10 +6,11 @@ ghost use lib.ListN.{length};
 ghost use Rattle.attributes.specs.Layout.{attributes};
 ghost use Rattle.contents.specs.inner.Values.{isWhole, valuesIn, valueSize};
 ghost use Rattle.composition.specs.inner.Numbers.{greater, isNumber, numberBy, most, numbersBy, withNumber};
+use attributes::attribute_value;
 use attributes::tables::Meaning;
 use attributes::tables::Place;
 use contents::values::Found;
-use contents::values::next_of;
+use contents::values::next_attribute;
 use octets::numbers::be16_at;
 use octets::numbers::be32_at;
 
@@ -85,9 +86,9 @@ pub fn numbers_of(m: Meaning, place: Place, a: &[u8]) -> Numbers
     };
     let mut at = 0;
     loop {
-        match next_of(m, place, a, at) {
+        match next_attribute(m, place, a, at) {
             Found::At(start, end) => {
-                n = with_number(m, n, &a[start..end]);
+                n = with_number(m, n, attribute_value(a, start));
                 at = end;
             }
             Found::Nothing => {

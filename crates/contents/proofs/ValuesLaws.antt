@@ -200,16 +200,10 @@ module _ (m : Meaning) (p : Place) (s : List ℕ) (at : ℕ) (e : isWhole (attri
 
 -- what the attribute met says of the value that `attribute_value` hands on
 module _ (m : Meaning) (p : Place) (s : List ℕ) (from b e : ℕ) (f : MetAt m p s from b e) where
-  -- it ends where its attribute does
-  pub met-start : e - length (valueAt (drop b s)) ≡ valueStart s b
-  met-start =
-      let n = ap length (f .octets) ∙ part-length s (valueStart s b) e (f .value .order) (f .value .inside) in
-      omega (arith, n, f .value .order)
-
-  pub met-fits : length (valueAt (drop b s)) ≤ e
-  met-fits =
-      let n = ap length (f .octets) ∙ part-length s (valueStart s b) e (f .value .order) (f .value .inside) in
-      omega (arith, n)
+  pub met-size : valueSize m (length (valueAt (drop b s))) ≡ true
+  met-size =
+      ap (λ (l : List ℕ). valueSize m (length l)) (f .octets)
+      ∙ ap (valueSize m) (part-length s (valueStart s b) e (f .value .order) (f .value .inside)) ∙ f .value .size
 
   -- it is the first, and stands where the first does
   pub met-first : valueAt (drop b s) ≡ firstValue m p s from

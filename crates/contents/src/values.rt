@@ -4,12 +4,12 @@ ghost use mathlib.Core.Bool.{true};
 ghost use Prim.Native.Nat.{_+_, _≤_, _<_};
 ghost use lib.ListN.{length, drop};
 ghost use Rattle.attributes.specs.Layout.{attributes};
-ghost use Rattle.contents.specs.inner.Values.{isWhole, valuesIn, Finds, Meets, firstValue, firstStart};
+ghost use Rattle.contents.specs.inner.Values.{isWhole, valuesIn, Meets, firstValue, firstStart, valueSize};
 use attributes::Read;
 use attributes::tables::Meaning;
 use attributes::tables::Place;
 
-// Where a value or an attribute stands, from and up to.
+// Where an attribute stands, from and up to.
 pub enum Found {
     At(usize, usize),
     Nothing,
@@ -44,25 +44,10 @@ pub fn next_attribute(m: Meaning, place: Place, s: &[u8], from: usize) -> Found
     Found::Nothing
 }
 
-// Where the value of that attribute stands. Internal.
-pub fn next_of(m: Meaning, place: Place, s: &[u8], from: usize) -> Found
-    requires { ⌜ (from ≤ length (now s)) × (isWhole (attributes place 0 (drop from (now s))) ≡ true) ⌝ }
-    ensures { λ r. ⌜ Finds m place (now (s .entry)) from r ⌝ }
-{
-    match next_attribute(m, place, s, from) {
-        Found::At(at, end) => {
-            let value = attributes::attribute_value(s, at);
-            let start = end - value.len();
-            Found::At(start, end)
-        }
-        Found::Nothing => Found::Nothing,
-    }
-}
-
 // The value of that attribute, where it stands; none where no attribute from the place on has the meaning. Internal.
 pub fn value_of(m: Meaning, place: Place, s: &[u8], from: usize) -> &[u8]
     requires { ⌜ (from ≤ length (now s)) × (isWhole (attributes place 0 (drop from (now s))) ≡ true) ⌝ }
-    ensures { λ r. ⌜ now r ≡ firstValue m place (now (s .entry)) from ⌝ }
+    ensures { λ r. ⌜ (now r ≡ firstValue m place (now (s .entry)) from) × (0 < length (now r) → valueSize m (length (now r)) ≡ true) ⌝ }
     ensures { λ r. ⌜ r .ptr ≡ (s .entry .ptr .0, firstStart m place (now (s .entry)) from + s .entry .ptr .1) ⌝ }
 {
     match next_attribute(m, place, s, from) {

@@ -39,8 +39,8 @@ use Rattle.outcome.proofs.Enters.{enters-live, enters-cut, Stayed}
 use Rattle.outcome.proofs.Answering.{accepts}
 use Rattle.outcome.proofs.RunsClear.{none-applies}
 use Rattle.outcome.specs.NamedKey.{Registration, Rekey, lentRoot}
-use Rattle.outcome.proofs.Rows.{registration-row, rekeys, rekey-bars, rekey-keeps, one-of-four, no-wrap-key}
-use Rattle.outcome.proofs.Rows.{registration-lent, lent-roots, lent-size}
+use Rattle.outcome.proofs.Rows.{registration-row, rekeys, inband-row, rekey-bars, one-of-four, no-wrap-key}
+use Rattle.outcome.proofs.Rows.{lent-roots, lent-size, inband-held}
 use Rattle.outcome.proofs.NotRead.{same-outcome}
 use Rattle.outcome.specs.NamedKey.{OpensUnder}
 use Rattle.outcome.proofs.NamedKey.{to-under, under-to}
@@ -96,9 +96,8 @@ module _ (limits : Limits) (s : State) (now : ℕ) (lent octets : List ℕ) wher
         let r = registration-row f registration in
         let h = registration-sets (rowOf f .registers) _ _ (ap (λ (x : Exchange). x .registers) r) (a .1 .held) in
         let none = entries-fit limits s now lent f (accepts limits s now lent f (a .0) .no-eight) in
-        let l = registration-lent f r in
-        subst (λ (l : List Root). HeldExactly l (wrapKeysOf f) (length lent) (next .held)) (lent-roots limits s now f l lent)
-        (subst (λ (n : ℕ). HeldExactly (rootsOf limits s now lent f) (wrapKeysOf f) n (next .held)) (lent-size limits s now f l lent)
+        subst (λ (l : List Root). HeldExactly l (wrapKeysOf f) (length lent) (next .held)) (lent-roots limits s now f r lent)
+        (subst (λ (n : ℕ). HeldExactly (rootsOf limits s now lent f) (wrapKeysOf f) n (next .held)) (lent-size limits s now f r lent)
         (held-exactly (rootsOf limits s now lent f) (entriesOf f) (wrappingSize limits s now lent f) none limits (next .held) h))
 
     -- ---- what opens a copy
@@ -203,8 +202,13 @@ module _ (limits : Limits) (s : State) (now : ℕ) (lent octets : List ℕ) wher
       -- a rekey leaves the held list, over the Rekey SA or the member's own channel; the least Message ID (Rest.antt gives its cases)
       pub rest-after : (Rekey f → next .held ≡ s .held) × (next .least ≡ leastAfterwards s f)
       rest-after =
-          let a = whole-accepted limits s now lent octets f e next o .1 in
-          (λ r. rekey-leaves (rowOf f .registers) _ _ (rekey-keeps f r) (a .held), a .least)
+          let a = whole-accepted limits s now lent octets f e next o .1 in (
+            ⊎-elim
+                (λ r.
+                rekey-leaves (rowOf f .registers) _ _ (ap (λ (x : Exchange). x .registers) (rekeys (f .header .exchange) r)) (a .held))
+                (λ r. inband-held limits s now f (inband-row f r) lent next a),
+            a .least,
+          )
 
     -- "as document 01 enters it": live, and a Rekey SA with the octet counts of its policy's two parts, "44 is 20 + 24 and 28 + 16"
     pub entered-live : (b : Sa) → Entered limits s now lent f b → isLive (b .condition) ≡ true

@@ -12,6 +12,7 @@ pub mod NotRead
 pub mod NamedKey
 pub mod Demands
 pub mod EightSays
+pub mod Following
 pub mod Wider
 pub mod Determined
 pub mod RunsLists

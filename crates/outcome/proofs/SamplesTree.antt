@@ -35,7 +35,7 @@ use Rattle.outcome.specs.Answer.{EightOf, NineOf}
 use Rattle.outcome.specs.Roots.{rootsOf, entriesOf, wrappingSize, copiesOf, needOf, announcedAs, announcedKeys}
 use Rattle.outcome.specs.After.{saFrom, oldSas, insertAll, one-more, no-sa, HeldAre, HeldBy, initialMessageId, leastAfterwards, After}
 use Rattle.outcome.specs.Samples.{Around, rekeyPolicy, creating, created, Creates, entry, heldWith, Wrapping, key-tree, Says}
-use Rattle.outcome.proofs.Rows.{registration-lent, lent-roots, lent-size}
+use Rattle.outcome.proofs.Rows.{lent-roots, lent-size}
 use Rattle.outcome.proofs.RunsClear.{None, Clear}
 use Rattle.outcome.proofs.SamplesAnswers.{outcome-0}
 use Rattle.outcome.proofs.SamplesFrame.{row-of, fresh-2, fresh-3}
@@ -145,10 +145,10 @@ module _ (r : Around) (now : ℕ) (lent x v₁ v₃ v₇ octets : List ℕ) (c :
   top = oneCopy 1 36 (wrapOf v₁ x)
 
   roots-are : rootsOf limits s now lent g ≡ R
-  roots-are = lent-roots limits s now g (registration-lent g (row-of (r .auth))) lent
+  roots-are = lent-roots limits s now g (row-of (r .auth)) lent
 
   size-is : wrappingSize limits s now lent g ≡ length lent
-  size-is = lent-size limits s now g (registration-lent g (row-of (r .auth))) lent
+  size-is = lent-size limits s now g (row-of (r .auth)) lent
 
   entries-are : entriesOf g ≡ l
   unfolding gather

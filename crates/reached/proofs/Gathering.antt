@@ -9,7 +9,7 @@ use lib.ListN.{length, take, drop, getD, set, length-append, length-drop, List·
 use lib.Seq.{take-take, drop-drop, getD-set-same, getD-set-other, getD-at, append-snoc}
 use borrow.Author.Tests.{eq-eqb, ne-eqb}
 use Rattle.octets.specs.Numbers.{oct}
-use Rattle.octets.specs.Walk.{part, either, Reading}
+use Rattle.octets.specs.Walk.{be32, part, either, Reading}
 use Rattle.octets.proofs.Numerals.{drop-take}
 use Rattle.octets.proofs.Walks.{part-length, many-none}
 use Rattle.keys.specs.Limits.{limits}
@@ -43,11 +43,24 @@ part-of-rest k at b e =
     let n : at + e - (at + b) ≡ e - b = omega arith in
     ap (take (e - b)) (drop-drop b at k) ∙ ap (λ (m : ℕ). take m (drop (at + b) k)) (sym n)
 
--- ---- one entry, whose value stands from a to e: its wrapped octets come after its two IDs
-pub entry-octets : (k : List ℕ) (a e : ℕ) → part k (a + 8) e ≡ drop 8 (part k a e)
+-- ---- one entry, whose value ends at e: its wrapped octets come after its two IDs
+entry-octets : (k : List ℕ) (a e : ℕ) → part k (a + 8) e ≡ drop 8 (part k a e)
 entry-octets k a e =
     let n : e - (a + 8) ≡ e - a - 8 = omega arith in
     ap (λ (m : ℕ). take m (drop (a + 8) k)) n ∙ ap (take (e - a - 8)) (sym (drop-drop 8 a k)) ∙ sym (drop-take 8 (e - a) (drop a k))
+
+pub entry-is : (v : List ℕ) (e i j : ℕ) → 8 ≤ length v → length v ≤ e → i ≡ be32 v 0 → j ≡ be32 v 4 → (k : List ℕ) → e ≤ length k
+    → v ≡ part k (e - length v) e → IsEntry k (record { id = i; kwk = j; start = e - (length v - 8); end = e }) (wrapKeyOf v)
+entry-is v e i j h g p q k l w =
+    let n : e - (length v - 8) ≡ e - length v + 8 = omega (arith, h, g) in
+    record {
+      id = p;
+      kwk = q;
+      starts = omega arith;
+      ends = l;
+      octets =
+          ap (λ (a : ℕ). part k a e) n ∙ entry-octets k (e - length v) e ∙ ap (drop 8) (sym w);
+    }
 
 -- ---- the list: some are gathered, the rest follows
 pub record Gathered (k : List ℕ) (places : List Entry) (n : ℕ) (rest all : List WrapKey) : Type 0 where
@@ -109,16 +122,26 @@ module _ (k : List ℕ) (a e : ℕ) (h : a ≤ e) (g : e ≤ length k) (at b d :
   inside : d ≤ e - a
   inside = omega (arith, part-length k a e h g, f .inside)
 
-  pub taken-inside : (a + b + 8 ≤ a + d) × (a + d ≤ length k)
+  pub taken-inside : (8 ≤ d - b) × (a + d ≤ length k)
   taken-inside =
       let n = wrapped-least (length (part (part k a e) b d)) (wrapped-sized meaning.WrapKey MemberBag (omega arith) (drop at (part k a e))
       (part (part k a e) b d) (valuesIn meaning.WrapKey MemberBag (drop d (part k a e))) w (f .first)) in
       (omega (arith, n, part-length (part k a e) b d (f .order) (f .inside), f .order), omega (arith, inside, h, g))
 
-  pub taken-first : bagKeys (drop at (part k a e)) ≡ wrapKeyOf (part k (a + b) (a + d)) ∷ bagKeys (drop d (part k a e))
-  taken-first =
-      ap (map wrapKeyOf) (f .first)
-      ∙ ap (λ (v : List ℕ). wrapKeyOf v ∷ bagKeys (drop d (part k a e))) (part-in-part k a e b d (f .order) inside)
+  module _ (v : List ℕ) (q : v ≡ part (part k a e) b d) where
+    taken-length : length v ≡ d - b
+    taken-length = ap length q ∙ part-length (part k a e) b d (f .order) (f .inside)
+
+    pub taken-sized : (8 ≤ length v) × (length v ≤ a + d)
+    taken-sized = (omega (arith, taken-length, taken-inside .0), omega (arith, taken-length))
+
+    pub taken-part : v ≡ part k (a + d - length v) (a + d)
+    taken-part =
+        let n : a + b ≡ a + d - length v = omega (arith, taken-length, f .order) in
+        q ∙ part-in-part k a e b d (f .order) inside ∙ ap (λ (i : ℕ). part k i (a + d)) n
+
+    pub taken-first : bagKeys (drop at (part k a e)) ≡ wrapKeyOf v ∷ bagKeys (drop d (part k a e))
+    taken-first = ap (map wrapKeyOf) (f .first) ∙ ap (λ (x : List ℕ). wrapKeyOf x ∷ bagKeys (drop d (part k a e))) (sym q)
 
 -- ---- the bags of a KD body: the first from a place on is a Member Key Bag or it is not
 module _ (k : List ℕ) (at : ℕ) (r : Parts) (is : BagIs (drop at k) r) where

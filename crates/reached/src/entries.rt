@@ -1,15 +1,16 @@
 // The WRAP_KEYs of a KD body. They stand in its Member Key Bags alone: attribute 1 of a Group Key Bag is an SA_KEY.
+use attributes::attribute_value;
 use attributes::tables::Meaning;
 use attributes::tables::Place;
 use contents::bag::bag_parts;
 use contents::values::Found;
-use contents::values::next_of;
+use contents::values::next_attribute;
 use keys::limits::WRAP_KEYS;
 use reach::open::Entry;
 ghost use mathlib.Core.Path.{_≡_};
 ghost use mathlib.Core.Bool.{true};
 ghost use mathlib.Core.List.{List, _++_};
-ghost use Prim.Native.Nat.{ℕ, _+_, _≤_};
+ghost use Prim.Native.Nat.{ℕ, _+_, _-_, _≤_};
 ghost use lib.ListN.{length};
 ghost use Rattle.keys.specs.Limits.{limits};
 ghost use Rattle.octets.specs.Walk.{part};
@@ -39,16 +40,17 @@ fn blank() -> Entry
     }
 }
 
-// The entry whose attribute's value stands from a to e.
-fn entry(k: &[u8], a: usize, e: usize) -> Entry
-    requires { ⌜ (a + 8 ≤ e) × (e ≤ length (now k)) ⌝ }
-    ensures { λ r. ⌜ IsEntry (now (k .entry)) r (wrapKeyOf (part (now (k .entry)) a e)) ⌝ }
+// The entry whose attribute has this value, which ends at e.
+fn entry(v: &[u8], e: usize) -> Entry
+    requires { ⌜ (8 ≤ length (now v)) × (length (now v) ≤ e) ⌝ }
+    ensures { λ r. ⌜ ((k : List ℕ) → e ≤ length k → now (v .entry) ≡ part k (e - length (now (v .entry))) e
+        → IsEntry k r (wrapKeyOf (now (v .entry)))) ⌝ }
 {
-    let v = &k[a..e];
+    let wrapped = v.len() - 8;
     Entry {
         id: octets::numbers::be32_at(v, 0),
         kwk: octets::numbers::be32_at(v, 4),
-        start: a + 8,
+        start: e - wrapped,
         end: e,
     }
 }
@@ -66,9 +68,9 @@ fn with_bag(k: &[u8], a: usize, e: usize, list: Listing) -> Listing
     let mut n = list.count;
     let mut at: usize = 0;
     loop {
-        match next_of(Meaning::WrapKey, Place::MemberBag, s, at) {
+        match next_attribute(Meaning::WrapKey, Place::MemberBag, s, at) {
             Found::At(b, d) => {
-                places[n] = entry(k, a + b, a + d);
+                places[n] = entry(attribute_value(s, b), a + d);
                 n = n + 1;
                 at = d;
             }

@@ -8,7 +8,7 @@ use borrow.Author.Tests.{leb-true, eqb-true}
 use lib.Dec.{leb, ltb}
 use lib.ListN.{length, drop}
 use Rattle.octets.specs.Walk.{be16, part}
-use Rattle.octets.proofs.Numerals.{number-take}
+use Rattle.octets.proofs.Walks.{part-length}
 use Rattle.attributes.specs.Tree.{two}
 use Rattle.attributes.specs.declared.tables.Place.{Place}
 use Rattle.attributes.specs.declared.tables.Meaning.the-variants.{KeyLength}
@@ -56,16 +56,15 @@ module _ (k i b : ℕ) where
 
 -- ONE KEY LENGTH AND THE OTHERS
 module _ (id : ℕ) (p : Place) (s : List ℕ) (from v e : ℕ) (x : FoundAt KeyLength p s from v e) where
-  pub two-octets : v + 2 ≤ length s
-  two-octets = omega (arith, eqb-true (e - v) 2 (x .size), x .order, x .inside)
+  pub two-octets : 0 + 2 ≤ length (part s v e)
+  two-octets = omega (arith, eqb-true (e - v) 2 (x .size), part-length s v e (x .order) (x .inside))
 
-  pub one-more : (b : ℕ) → b ≡ be16 s v
+  pub one-more : (b : ℕ) → b ≡ be16 (part s v e) 0
       → keyLengthNeeds id p (drop from s) ≡ octetsNeeded (neededBy 1 id b) + keyLengthNeeds id p (drop e s)
   unfolding sum
   one-more b q =
-      let w : be16 (part s v e) 0 ≡ b = number-take 2 0 (e - v) (drop v s) (omega (arith, eqb-true (e - v) 2 (x .size))) ∙ sym q in
       ap (λ (l : List (List ℕ)). sum (λ (n : ℕ). octetsNeeded (neededBy 1 id n)) (map two l)) (x .first)
-      ∙ ap (λ (n : ℕ). octetsNeeded (neededBy 1 id n) + keyLengthNeeds id p (drop e s)) w
+      ∙ ap (λ (n : ℕ). octetsNeeded (neededBy 1 id n) + keyLengthNeeds id p (drop e s)) (sym q)
 
 pub no-more : (id : ℕ) (p : Place) (s : List ℕ) → valuesIn KeyLength p s ≡ [] → keyLengthNeeds id p s ≡ 0
 unfolding sum

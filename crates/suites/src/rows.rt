@@ -34,10 +34,11 @@ fn key_length_octets(place: Place, id: usize, a: &[u8]) -> usize
     let mut total = 0;
     let mut at = 0;
     loop {
-        match contents::values::next_of(Meaning::KeyLength, place, a, at) {
-            Found::At(v, e) => {
-                total = total + needed(1, id, octets::numbers::be16_at(a, v));
-                at = e;
+        match contents::values::next_attribute(Meaning::KeyLength, place, a, at) {
+            Found::At(start, end) => {
+                let v = attributes::attribute_value(a, start);
+                total = total + needed(1, id, octets::numbers::be16_at(v, 0));
+                at = end;
             }
             Found::Nothing => {
                 return total;

@@ -26,8 +26,9 @@ use Rattle.policies.proofs.PolicyGrammar.{inverse, sound}
 use Rattle.policies.proofs.BodyGrammar.{body-from}
 use Rattle.contents.specs.inner.Values.{isWhole, attributesIn}
 use Rattle.contents.proofs.ValuesLaws.{is-whole}
-use Rattle.view.specs.View.{onAll, firstOctet, kindIn, kindOf, spiIn, spiOf, spiStartIn, spiStart}
+use Rattle.view.specs.View.{onAll, firstOctet, octetOf, kindIn, kindOf, spiIn, spiOf, spiStartIn, spiStart}
 use Rattle.view.specs.View.{shownSelector, shownTransform, shownAttributes, shownBody, itemsIn, itemsOf}
+use Rattle.view.specs.declared.read.Kind.{Kind}
 use Rattle.view.specs.declared.read.Kind.the-variants as kind
 
 one : (s : List ℕ) (x : Policy) → policy 0 s ≡ whole x [] → IsPolicy s x
@@ -89,6 +90,17 @@ module _ (s : List ℕ) where
 pub kind-octet : (s : List ℕ) (x : Policy) → IsPolicy s x → firstOctet (kindIn x) ≡ oct s 0 ∷ []
 kind-octet s (groupSa x) (is-sa i) = ap (λ (p : ℕ). p ∷ []) (sym (i .protocol))
 kind-octet s (groupWide x) (is-wide i) = ap (λ (p : ℕ). p ∷ []) (sym (i .first))
+
+octet-is : (s : List ℕ) → firstOctet (kindOf s) ≡ octetOf s
+octet-is s = go (policy 0 s) refl
+  where
+    go : (y : Reading Policy) → policy 0 s ≡ y → firstOctet (onAll kind.Nothing kindIn y) ≡ onAll [] (λ (x : Policy). oct s 0 ∷ []) y
+    go (whole x []) e = kind-octet s x (one s x e)
+    go (whole x (n ∷ l)) e = refl
+    go (broken o) e = refl
+
+pub told : (s : List ℕ) (r : Kind) → r ≡ kindOf s → (r ≡ kindOf s) × (firstOctet r ≡ octetOf s)
+told s r e = (e, ap firstOctet e ∙ octet-is s)
 
 pub kind-of-policy : (s : List ℕ) (x : Policy) → policy 0 s ≡ whole x [] → firstOctet (kindOf s) ≡ oct s 0 ∷ []
 kind-of-policy s x e = ap (λ (y : Reading Policy). firstOctet (onAll kind.Nothing kindIn y)) e ∙ kind-octet s x (one s x e)

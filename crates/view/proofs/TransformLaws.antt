@@ -1,35 +1,42 @@
 -- Transforms as a view shows them, and what a Group SA policy holds after its selectors, one after the other.
-use Prim.Native.Nat.{ℕ, _+_, _-_, _≤_}
-use mathlib.Core.Path.{_≡_, ap, sym, _∙_}
-use mathlib.Core.List.{List, [], map}
+use Prim.Native.Nat.{ℕ, _+_, _<_, _≤_}
+use mathlib.Core.Bool.{true}
+use mathlib.Core.Path.{_≡_, refl, ap, sym, _∙_}
+use mathlib.Core.List.{List, [], _∷_, map}
 use native.Mathlib.Omega.{arith}
 use borrow.Author.Tests.{eqb-true}
 use lib.ListN.{length, drop, getD, length-map}
+use Rattle.octets.specs.Numbers.{number}
 use Rattle.octets.specs.Walk.{be16, part}
-use Rattle.octets.proofs.Numerals.{number-take}
 use Rattle.attributes.specs.Place.{inTransform}
 use Rattle.attributes.specs.Tree.{two}
 use Rattle.attributes.specs.declared.tables.Place.{Place}
 use Rattle.attributes.specs.declared.tables.Meaning.the-variants as meaning
 use Rattle.policies.specs.Transform.{Transform}
-use Rattle.contents.specs.inner.Values.{valuesIn, FoundAt}
+use Rattle.contents.specs.inner.Values.{valuesIn, valueSize, firstValue}
 use Rattle.contents.specs.inner.Bodies.{TransformIs}
 use Rattle.contents.specs.declared.body.TransformParts.{TransformParts}
 use Rattle.view.specs.View.{shownTransform, nth}
 use Rattle.view.specs.declared.items.Item.the-variants as item
 
 -- THE FIRST KEY LENGTH
-module _ (p : Place) (s : List ℕ) where
-  pub key-there : (a e : ℕ) → FoundAt meaning.KeyLength p s 0 a e → a + 2 ≤ length s
-  key-there a e f = omega (arith, f .order, f .inside, eqb-true (e - a) 2 (f .size))
+pub key-there : (v : List ℕ) → (0 < length v → valueSize meaning.KeyLength (length v) ≡ true) → (length v ≡ 0 → ⊥) → 0 + 2 ≤ length v
+key-there v f n = let h : 0 < length v = omega (arith, n) in omega (arith, eqb-true (length v) 2 (f h))
 
-  pub key-is : (a e r : ℕ) → FoundAt meaning.KeyLength p s 0 a e → r ≡ be16 s a → r ≡ getD (map two (valuesIn meaning.KeyLength p s)) 0 0
-  key-is a e r f q =
-      q ∙ sym (number-take 2 0 (e - a) (drop a s) (omega (arith, eqb-true (e - a) 2 (f .size))))
-      ∙ ap (λ (l : List (List ℕ)). getD (map two l) 0 0) (sym (f .first))
+pub key-is : (p : Place) (s v : List ℕ) → v ≡ firstValue meaning.KeyLength p s 0
+    → be16 v 0 ≡ getD (map two (valuesIn meaning.KeyLength p s)) 0 0
+unfolding number
+key-is p s v e = ap (λ (x : List ℕ). be16 x 0) e ∙ sym (first-two (valuesIn meaning.KeyLength p s))
+  where
+    first-two : (l : List (List ℕ)) → getD (map two l) 0 0 ≡ be16 (getD l 0 []) 0
+    first-two [] = refl
+    first-two (x ∷ l) = refl
 
-  pub key-none : valuesIn meaning.KeyLength p s ≡ [] → 0 ≡ getD (map two (valuesIn meaning.KeyLength p s)) 0 0
-  key-none e = ap (λ (l : List (List ℕ)). getD (map two l) 0 0) (sym e)
+pub key-none : (p : Place) (s v : List ℕ) → v ≡ firstValue meaning.KeyLength p s 0 → length v ≡ 0
+    → 0 ≡ getD (map two (valuesIn meaning.KeyLength p s)) 0 0
+unfolding number
+key-none p s [] e n = key-is p s [] e
+key-none p s (x ∷ v) e n = absurd (omega (arith, n))
 
 -- ONE TRANSFORM
 pub shown-is : (s : List ℕ) (l : List Transform) (tail : List ℕ) (r : TransformParts) → TransformIs s l tail r

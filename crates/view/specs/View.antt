@@ -5,6 +5,7 @@ use mathlib.Core.List.{List, [], _∷_, _++_, map}
 use mathlib.Core.Bool.{Bool}
 use lib.Dec.{leb}
 use lib.ListN.{length, drop, getD}
+use Rattle.octets.specs.Numbers.{oct}
 use Rattle.octets.specs.Walk.{either, Reading, whole, broken}
 use Rattle.attributes.specs.Attribute.{Attribute, leadOf, spanOf}
 use Rattle.attributes.specs.Place.{meaningOf, inPolicy}
@@ -38,6 +39,10 @@ kindIn (groupWide x) = kind.GroupWide
 
 abbrev pub kindOf : List ℕ → Kind
 kindOf s = onAll kind.Nothing kindIn (policy 0 s)
+
+-- the first octet of the policy that the octets are
+abbrev pub octetOf : List ℕ → List ℕ
+octetOf s = onAll [] (λ (x : Policy). oct s 0 ∷ []) (policy 0 s)
 
 abbrev pub spiIn : Policy → List ℕ
 spiIn (groupSa x) = x .spi

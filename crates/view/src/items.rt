@@ -17,7 +17,6 @@ ghost use Rattle.view.specs.inner.Suites.{IsSuite};
 use attributes::Read;
 use attributes::tables::Meaning;
 use attributes::tables::Place;
-use contents::values::Found;
 
 // A selector, a transform or an attribute of a policy. Offsets count from the policy's first octet.
 pub enum Item {
@@ -68,10 +67,11 @@ fn key_length(place: Place, s: &[u8]) -> usize
     requires { ⌜ isWhole (attributes place 0 (now s)) ≡ true ⌝ }
     ensures { λ r. ⌜ r ≡ getD (map two (valuesIn KeyLength place (now (s .entry)))) 0 0 ⌝ }
 {
-    match contents::values::next_of(Meaning::KeyLength, place, s, 0) {
-        Found::At(a, _) => octets::numbers::be16_at(s, a),
-        Found::Nothing => 0,
+    let v = contents::values::value_of(Meaning::KeyLength, place, s, 0);
+    if v.len() == 0 {
+        return 0;
     }
+    octets::numbers::be16_at(v, 0)
 }
 
 // The first of the transforms that the octets start with. Internal.

@@ -3,7 +3,7 @@
 // here takes the view apart and leaves the work to `read`.
 ghost use mathlib.Core.Path.{_≡_};
 ghost use Prim.Native.Nat.{_+_};
-ghost use Rattle.view.specs.View.{kindOf, spiOf, spiStart, isAtEnd, nextAfter, itemAt};
+ghost use Rattle.view.specs.View.{firstOctet, octetOf, kindOf, spiOf, spiStart, isAtEnd, nextAfter, itemAt};
 
 pub mod items;
 pub mod read;
@@ -22,7 +22,7 @@ pub fn new<'a>(src: &'a [u8]) -> View<'a>
 
 // Which policy it is: a Group SA policy with its protocol, a group-wide policy, or none.
 pub fn kind<'a>(v: View<'a>) -> read::Kind
-    ensures { λ r. ⌜ r ≡ kindOf (now (v .entry .src)) ⌝ }
+    ensures { λ r. ⌜ (r ≡ kindOf (now (v .entry .src))) × (firstOctet r ≡ octetOf (now (v .entry .src))) ⌝ }
 {
     read::kind_of(v.src)
 }
@@ -90,7 +90,7 @@ pub fn shown(s: &[u8], at: usize) -> items::Item
 
 // Which policy a view of the octets shows: for every caller that holds no view.
 pub fn shown_kind(s: &[u8]) -> read::Kind
-    ensures { λ r. ⌜ r ≡ kindOf (now (s .entry)) ⌝ }
+    ensures { λ r. ⌜ (r ≡ kindOf (now (s .entry))) × (firstOctet r ≡ octetOf (now (s .entry))) ⌝ }
 {
     kind(new(s))
 }

@@ -1,7 +1,7 @@
 // What octets show as a policy, for plain slices and numbers.
 ghost use mathlib.Core.Path.{_≡_};
 ghost use Prim.Native.Nat.{_+_};
-ghost use Rattle.view.specs.View.{kindOf, spiOf, spiStart, isAtEnd, nextAfter, itemAt};
+ghost use Rattle.view.specs.View.{firstOctet, octetOf, kindOf, spiOf, spiStart, isAtEnd, nextAfter, itemAt};
 use crate::items::Item;
 use attributes::Spot;
 use attributes::tables::Place;
@@ -15,7 +15,7 @@ pub enum Kind {
 
 // Which policy the octets are, to their end. Internal.
 pub fn kind_of(s: &[u8]) -> Kind
-    ensures { λ r. ⌜ r ≡ kindOf (now (s .entry)) ⌝ }
+    ensures { λ r. ⌜ (r ≡ kindOf (now (s .entry))) × (firstOctet r ≡ octetOf (now (s .entry))) ⌝ }
 {
     if s.len() < 4 {
         return Kind::Nothing;

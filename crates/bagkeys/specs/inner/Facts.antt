@@ -64,8 +64,8 @@ abbrev pub ofGroup : Limits → ℕ → KeyFacts → BagFacts
 ofGroup limits p k = record {
   members = 0;
   wraps = 0;
-  unnamed = false;
-  itself = false;
+  unnamed = false;  -- asked of a WRAP_KEY alone
+  itself = false;  -- likewise
   ah = eqb p ah;
   keyless = eqb (k .keys) 0;
   several = not (eqb p rekey) && ltb 1 (k .keys);

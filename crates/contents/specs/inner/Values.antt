@@ -62,10 +62,6 @@ pub record FoundAt (m : Meaning) (p : Place) (s : List ℕ) (from a e : ℕ) : T
   pub size : valueSize m (e - a) ≡ true
   pub rest : isWhole (attributes p 0 (drop e s)) ≡ true
 
-abbrev pub Finds : Meaning → Place → List ℕ → ℕ → Found → Type 0
-Finds m p s from (found.At a e) = FoundAt m p s from a e
-Finds m p s from found.Nothing = valuesIn m p (drop from s) ≡ []
-
 -- the attribute that stands at b and ends at e holds that first value
 pub record MetAt (m : Meaning) (p : Place) (s : List ℕ) (from b e : ℕ) : Type 0 where
   pub value : FoundAt m p s from (valueStart s b) e

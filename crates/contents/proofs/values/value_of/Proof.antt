@@ -1,8 +1,11 @@
 use denote.Ref.{now}
+use native.Mathlib.Omega.{arith}
 use mathlib.Core.Path.{_≡_, ap, _∙_, subst}
+use mathlib.Core.List.{List}
+use lib.ListN.{length}
 use Prim.Native.Nat.{ℕ, _+_}
-use Rattle.contents.specs.inner.Values.{MetAt, Meets}
-use Rattle.contents.proofs.ValuesLaws.{met-first, met-place, none-first, none-start}
+use Rattle.contents.specs.inner.Values.{MetAt, Meets, valueSize}
+use Rattle.contents.proofs.ValuesLaws.{met-first, met-place, met-size, none-first, none-start}
 use borrow.Author.Needs.{needs}
 use Rattle.contents.proofs.values.value_of.Statement.{statement}
 use Rattle.contents.proofs.values.value_of.Tie as tie
@@ -34,7 +37,11 @@ returns c =
     let s = now (a .s) in
     let v = c .before .before .at .given in
     let f = subst (Meets (a .m) (a .place) s (a .from)) (v .1) (c .before .before .before .before .next-attribute .ensures) in (
-      c .attribute-value .ensures .0 ∙ met-first (a .m) (a .place) s (a .from) (v .0 .0) (v .0 .1 .0) f,
+      (
+        c .attribute-value .ensures .0 ∙ met-first (a .m) (a .place) s (a .from) (v .0 .0) (v .0 .1 .0) f,
+        λ h. ap (λ (l : List ℕ). valueSize (a .m) (length l)) (c .attribute-value .ensures .0)
+            ∙ met-size (a .m) (a .place) s (a .from) (v .0 .0) (v .0 .1 .0) f,
+      ),
       c .attribute-value .ensures .1
           ∙ ap (λ (n : ℕ). (a .s .ptr .0, n + a .s .ptr .1)) (met-place (a .m) (a .place) s (a .from) (v .0 .0) (v .0 .1 .0) f),
     )
@@ -44,7 +51,7 @@ returns-2 c =
     let a = c .before .before .before .before .before .args in
     let s = now (a .s) in
     let f = subst (Meets (a .m) (a .place) s (a .from)) (c .before .enum-told .given .1) (c .before .before .before .next-attribute .ensures) in (
-      none-first (a .m) (a .place) s (a .from) (f .0),
+      (none-first (a .m) (a .place) s (a .from) (f .0), λ h. absurd (omega (arith, h))),
       ap (λ (n : ℕ). (a .s .ptr .0, n + a .s .ptr .1)) (none-start (a .m) (a .place) s (a .from) (f .1)),
     )
 

@@ -8,13 +8,15 @@ use mathlib.Core.List.{List, _∷_, _++_, map}
 use lib.ListN.{length, drop, set, length-set}
 use Rattle.octets.specs.Walk.{part}
 use Rattle.attributes.specs.Tree.{WrapKey, wrapKeyOf}
+use Rattle.attributes.specs.Answers.{valueStart}
 use Rattle.attributes.specs.Layout.{attributes}
 use Rattle.attributes.specs.declared.tables.Place.the-variants.{MemberBag}
 use Rattle.attributes.specs.declared.tables.Meaning.the-variants as meaning
-use Rattle.contents.specs.inner.Values.{isWhole, Finds, FoundAt}
-use Rattle.reach.specs.inner.Entries.{Lists}
+use Rattle.contents.specs.inner.Values.{isWhole, MetAt, Meets}
+use Rattle.reach.specs.inner.Entries.{IsEntry, Lists}
 use Rattle.reached.specs.inner.Entries.{bagKeys}
-use Rattle.reached.proofs.Gathering.{Gathered, gathered-next, gathered-all, taken-inside, taken-first}
+use Rattle.reached.proofs.Gathering.{Gathered, gathered-next, gathered-all}
+use Rattle.reached.proofs.Gathering.{taken-inside, taken-sized, taken-part, taken-first}
 use Rattle.keys.specs.Limits.{limits}
 use Rattle.keys.proofs.Lists.{length-of-map}
 use borrow.Author.Needs.{needs}
@@ -45,50 +47,72 @@ loop-holds c =
     let e : length (s .args .list .places) ≡ limits .wrapKeys = search (needs, length-of-map) in
     (e, omega arith, s .pre .1 .0, s .pre .1 .1, λ l h. record { done = l; lists = h; joined = refl })
 
-next-of-requires : tie.Need-next-of-requires Inv-loop μ-loop
-next-of-requires c κs = (c .loop .inv .1, c .loop .inv .2)
+next-attribute-requires : tie.Need-next-attribute-requires Inv-loop μ-loop
+next-attribute-requires c κs = (c .loop .inv .1, c .loop .inv .2)
 
 enum-known-b : tie.Need-enum-known-b Inv-loop μ-loop
 enum-known-b c = search needs
 
-next : (c : tie.After-known-told Inv-loop μ-loop) → let a = c .before .before .before .before .before .before .before .before .args in
+met : (c : tie.After-known-told Inv-loop μ-loop) → let a = c .before .before .before .before .before .before .before .before .args in
     let v = c .before .b .given .0 in
-    FoundAt meaning.WrapKey MemberBag (part (now (a .k)) (a .a) (a .e)) (c .before .before .before .before .loop .at) (v .0) (v .1 .0)
-next c =
+    MetAt meaning.WrapKey MemberBag (part (now (a .k)) (a .a) (a .e)) (c .before .before .before .before .loop .at) (v .0) (v .1 .0)
+met c =
     let a = c .before .before .before .before .before .before .before .before .args in
-    subst (Finds meaning.WrapKey MemberBag (part (now (a .k)) (a .a) (a .e)) (c .before .before .before .before .loop .at))
-    (c .before .b .given .1) (c .before .before .before .next-of .ensures)
+    subst (Meets meaning.WrapKey MemberBag (part (now (a .k)) (a .a) (a .e)) (c .before .before .before .before .loop .at))
+    (c .before .b .given .1) (c .before .before .before .next-attribute .ensures)
 
-inside : (c : tie.After-known-told Inv-loop μ-loop) → let a = c .before .before .before .before .before .before .before .before .args in
-    let v = c .before .b .given .0 in (a .a + v .0 + 8 ≤ a .a + v .1 .0) × (a .a + v .1 .0 ≤ length (now (a .k)))
-inside c =
-    let s = c .before .before .before .before .before .before .before .before in
-    let l = c .before .before .before .before .loop in
-    let v = c .before .b .given .0 in
-    taken-inside (now (s .args .k)) (s .args .a) (s .args .e) (s .pre .0 .0) (s .pre .0 .1) (l .at) (v .0) (v .1 .0) (l .inv .2) (next c)
+attribute-value-requires : tie.Need-attribute-value-requires Inv-loop μ-loop
+attribute-value-requires c κs = search needs
+
+-- the value handed on is the one found
+value : (c : tie.After-attribute-value Inv-loop μ-loop)
+    → let a = c .before .before .before .before .before .before .before .before .before .args in
+    let v = c .before .before .b .given .0 in
+    let s = part (now (a .k)) (a .a) (a .e) in
+    now (c .attribute-value .result) ≡ part s (valueStart s (v .0)) (v .1 .0)
+value c = c .attribute-value .ensures .0 ∙ met (c .before) .octets
 
 add-entry : tie.Need-add-entry Inv-loop μ-loop
-add-entry c = let i = inside c in record { fits = omega (arith, i .0, i .1) }
-
-add-entry-2 : tie.Need-add-entry-2 Inv-loop μ-loop
-add-entry-2 c = let i = inside c in record { fits = omega (arith, i .1) }
+add-entry c =
+    let s = c .before .before .before .before .before .before .before .before .before in
+    let l = c .before .before .before .before .before .loop in
+    let i = taken-inside (now (s .args .k)) (s .args .a) (s .args .e) (s .pre .0 .0) (s .pre .0 .1) (l .at) _ _ (l .inv .2)
+    (met (c .before) .value) in
+    record { fits = omega (arith, i .1) }
 
 entry-requires : tie.Need-entry-requires Inv-loop μ-loop
-entry-requires c κs = inside c
+entry-requires c κs =
+    let s = c .before .before .before .before .before .before .before .before .before in
+    let l = c .before .before .before .before .before .loop in
+    taken-sized (now (s .args .k)) (s .args .a) (s .args .e) (s .pre .0 .0) (s .pre .0 .1) (l .at) _ _ (l .inv .2) (met (c .before) .value) _
+    (value c)
 
-first : (c : tie.After-known-told Inv-loop μ-loop) → let a = c .before .before .before .before .before .before .before .before .args in
-    let l = c .before .before .before .before .loop in
-    let v = c .before .b .given .0 in
+first : (c : tie.After-attribute-value Inv-loop μ-loop)
+    → let a = c .before .before .before .before .before .before .before .before .before .args in
+    let l = c .before .before .before .before .before .loop in
+    let v = c .before .before .b .given .0 in
     let s = part (now (a .k)) (a .a) (a .e) in
-    bagKeys (drop (l .at) s) ≡ wrapKeyOf (part (now (a .k)) (a .a + v .0) (a .a + v .1 .0)) ∷ bagKeys (drop (v .1 .0) s)
+    bagKeys (drop (l .at) s) ≡ wrapKeyOf (now (c .attribute-value .result)) ∷ bagKeys (drop (v .1 .0) s)
 first c =
-    let s = c .before .before .before .before .before .before .before .before in
-    let l = c .before .before .before .before .loop in
-    let v = c .before .b .given .0 in
-    taken-first (now (s .args .k)) (s .args .a) (s .args .e) (s .pre .0 .0) (s .pre .0 .1) (l .at) (v .0) (v .1 .0) (l .inv .2) (next c)
+    let s = c .before .before .before .before .before .before .before .before .before in
+    let l = c .before .before .before .before .before .loop in
+    taken-first (now (s .args .k)) (s .args .a) (s .args .e) (s .pre .0 .0) (s .pre .0 .1) (l .at) _ _ (l .inv .2) (met (c .before) .value) _
+    (value c)
 
-room : (c : tie.After-entry Inv-loop μ-loop) → c .before .before .before .before .before .loop .n < limits .wrapKeys
-room c = omega (arith, c .before .before .before .before .before .loop .inv .3, ap length (first (c .before)))
+is : (c : tie.After-entry Inv-loop μ-loop)
+    → IsEntry (now (c .before .before .before .before .before .before .before .before .before .before .args .k)) (c .entry .result)
+    (wrapKeyOf (now (c .before .attribute-value .result)))
+is c =
+    let s = c .before .before .before .before .before .before .before .before .before .before in
+    let l = c .before .before .before .before .before .before .loop in
+    let k = now (s .args .k) in
+    let f = met (c .before .before) .value in
+    c .entry .ensures k
+    (taken-inside k (s .args .a) (s .args .e) (s .pre .0 .0) (s .pre .0 .1) (l .at) _ _ (l .inv .2) f .1)
+    (taken-part k (s .args .a) (s .args .e) (s .pre .0 .0) (s .pre .0 .1) (l .at) _ _ (l .inv .2) f _ (value (c .before)))
+
+room : (c : tie.After-entry Inv-loop μ-loop) → c .before .before .before .before .before .before .loop .n < limits .wrapKeys
+room c = omega (arith, c .before .before .before .before .before .before .loop .inv .3, ap length (first (c .before)))
 
 mul-places : tie.Need-mul-places Inv-loop μ-loop
 mul-places c = record { fits = omega (arith, room c) }
@@ -100,14 +124,14 @@ add-n : tie.Need-add-n Inv-loop μ-loop
 add-n c = record { fits = omega (arith, room c) }
 
 loop-less : tie.Need-loop-less Inv-loop μ-loop
-loop-less c = let f = next (c .before) in omega (arith, f .start, f .order, f .inside)
+loop-less c = let f = met (c .before .before) .value in omega (arith, f .start, f .order, f .inside)
 
 loop-again : tie.Need-loop-again Inv-loop μ-loop
 loop-again c =
-    let a = c .before .before .before .before .before .before .before .before .before .args in
-    let l = c .before .before .before .before .before .loop in
-    let v = c .before .before .b .given .0 in
-    let f = next (c .before) in
+    let a = c .before .before .before .before .before .before .before .before .before .before .args in
+    let l = c .before .before .before .before .before .before .loop in
+    let v = c .before .before .before .b .given .0 in
+    let f = met (c .before .before) .value in
     let e = first (c .before) in
     let s = part (now (a .k)) (a .a) (a .e) in
     let n : length (set (l .places) (l .n) (c .entry .result)) ≡ limits .wrapKeys =
@@ -118,9 +142,9 @@ loop-again c =
       omega (arith, l .inv .3, ap length e),
       λ m h.
           gathered-next (now (a .k)) (l .places) (l .n) (bagKeys (drop (v .1 .0) s)) (m ++ bagKeys s) (c .entry .result)
-          (wrapKeyOf (part (now (a .k)) (a .a + v .0) (a .a + v .1 .0)))
+          (wrapKeyOf (now (c .before .attribute-value .result)))
           (subst (λ (x : List WrapKey). Gathered (now (a .k)) (l .places) (l .n) x (m ++ bagKeys s)) e (l .inv .4 m h))
-          (room c) (omega (arith, l .inv .0, room c)) (c .entry .ensures),
+          (room c) (omega (arith, l .inv .0, room c)) (is c),
     )
 
 enum-told : tie.Need-enum-told Inv-loop μ-loop
@@ -131,8 +155,8 @@ returns c l h =
     let a = c .before .before .before .before .before .before .before .args in
     let u = c .before .before .before .loop in
     let s = part (now (a .k)) (a .a) (a .e) in
-    let f = subst (Finds meaning.WrapKey MemberBag s (u .at)) (c .enum-told .given .1) (c .before .before .next-of .ensures) in
-    gathered-all (now (a .k)) (u .places) (u .n) (bagKeys (drop (u .at) s)) (l ++ bagKeys s) (u .inv .4 l h) (ap (map wrapKeyOf) f)
+    let f = subst (Meets meaning.WrapKey MemberBag s (u .at)) (c .enum-told .given .1) (c .before .before .next-attribute .ensures) in
+    gathered-all (now (a .k)) (u .places) (u .n) (bagKeys (drop (u .at) s)) (l ++ bagKeys s) (u .inv .4 l h) (ap (map wrapKeyOf) (f .0))
 
 pub with-bag-spec : {M : Type 1} → statement M
 with-bag-spec =
@@ -144,10 +168,10 @@ with-bag-spec =
     part-s-start
     part-s-end
     loop-holds
-    next-of-requires
+    next-attribute-requires
     enum-known-b
+    attribute-value-requires
     add-entry
-    add-entry-2
     entry-requires
     mul-places
     array-set-from-places

@@ -1,13 +1,15 @@
 use denote.Ref.{now}
 use native.Mathlib.Omega.{arith}
-use mathlib.Core.Path.{_≡_, subst}
-use Prim.Native.Nat.{_+_, _-_, _*_, _≤_}
+use mathlib.Core.Path.{_≡_, ap, sym, _∙_, subst}
+use Prim.Native.Nat.{ℕ, _+_, _-_, _*_, _≤_}
 use mathlib.Core.Bool.{true}
-use mathlib.Core.List.{[]}
+use mathlib.Core.List.{List, []}
 use lib.ListN.{length, drop}
+use Rattle.octets.specs.Walk.{be16, part}
+use Rattle.attributes.specs.Answers.{valueStart}
 use Rattle.attributes.specs.Layout.{attributes}
 use Rattle.attributes.specs.declared.tables.Meaning.the-variants.{KeyLength}
-use Rattle.contents.specs.inner.Values.{isWhole, valuesIn, FoundAt, Finds}
+use Rattle.contents.specs.inner.Values.{isWhole, valuesIn, MetAt, Meets}
 use Rattle.suites.specs.inner.Octets.{keyLengthNeeds}
 use Rattle.suites.proofs.RowLaws.{two-octets, one-more, no-more}
 use borrow.Author.Needs.{needs}
@@ -25,47 +27,55 @@ abbrev μ-loop : tie.MeasureT-loop
 loop-holds : tie.Need-loop-holds Inv-loop μ-loop
 loop-holds c = (omega arith, c .before .pre .1, omega arith, omega arith)
 
-next-of-requires : tie.Need-next-of-requires Inv-loop μ-loop
-next-of-requires c κs = (c .loop .inv .0, c .loop .inv .1)
+next-attribute-requires : tie.Need-next-attribute-requires Inv-loop μ-loop
+next-attribute-requires c κs = (c .loop .inv .0, c .loop .inv .1)
 
-enum-known-v : tie.Need-enum-known-v Inv-loop μ-loop
-enum-known-v c = search needs
+enum-known-start : tie.Need-enum-known-start Inv-loop μ-loop
+enum-known-start c = search needs
 
-next : (c : tie.After-known-told Inv-loop μ-loop)
+met : (c : tie.After-known-told Inv-loop μ-loop)
     → let a = c .before .before .before .before .before .before .args in
-    let v = c .before .v .given .0 in
-    FoundAt KeyLength (a .place) (now (a .a)) (c .before .before .before .before .loop .at) (v .0) (v .1 .0)
-next c =
+    let v = c .before .start .given .0 in
+    MetAt KeyLength (a .place) (now (a .a)) (c .before .before .before .before .loop .at) (v .0) (v .1 .0)
+met c =
     let a = c .before .before .before .before .before .before .args in
-    subst (Finds KeyLength (a .place) (now (a .a)) (c .before .before .before .before .loop .at)) (c .before .v .given .1)
-    (c .before .before .before .next-of .ensures)
+    subst (Meets KeyLength (a .place) (now (a .a)) (c .before .before .before .before .loop .at)) (c .before .start .given .1)
+    (c .before .before .before .next-attribute .ensures)
+
+attribute-value-requires : tie.Need-attribute-value-requires Inv-loop μ-loop
+attribute-value-requires c κs = search needs
+
+-- the value handed on is the one found
+value : (c : tie.After-attribute-value Inv-loop μ-loop)
+    → let s = now (c .before .before .before .before .before .before .before .args .a) in
+    let v = c .before .before .start .given .0 in
+    now (c .attribute-value .result) ≡ part s (valueStart s (v .0)) (v .1 .0)
+value c = c .attribute-value .ensures .0 ∙ met (c .before) .octets
 
 be16-at-requires : tie.Need-be16-at-requires Inv-loop μ-loop
 be16-at-requires c κs =
-    let a = c .before .before .before .before .before .before .args in
-    let v = c .before .v .given .0 in
-    two-octets (a .id) (a .place) (now (a .a)) (c .before .before .before .before .loop .at) (v .0) (v .1 .0) (next c)
+    let a = c .before .before .before .before .before .before .before .args in
+    subst (λ (x : List ℕ). 0 + 2 ≤ length x) (sym (value c)) (two-octets (a .id) (a .place) (now (a .a)) _ _ _ (met (c .before) .value))
 
 needed-requires : tie.Need-needed-requires Inv-loop μ-loop
-needed-requires c κs = (omega arith, c .before .before .before .before .before .before .before .pre .0, c .be16-at .ensures .1)
+needed-requires c κs = (omega arith, c .before .before .before .before .before .before .before .before .pre .0, c .be16-at .ensures .1)
 
 add-total : tie.Need-add-total Inv-loop μ-loop
 add-total c =
-    let l = c .before .before .before .before .before .before .loop in
-    let p = c .before .before .before .before .before .before .before .before .pre in
+    let l = c .before .before .before .before .before .before .before .loop in
+    let p = c .before .before .before .before .before .before .before .before .before .pre in
     record { fits = omega (arith, l .inv .0, l .inv .2, c .needed .ensures .1, p .2) }
 
 loop-less : tie.Need-loop-less Inv-loop μ-loop
-loop-less c = let f = next (c .before .before) in omega (arith, f .start, f .order, f .inside)
+loop-less c = let f = met (c .before .before .before) .value in omega (arith, f .start, f .order, f .inside)
 
 loop-again : tie.Need-loop-again Inv-loop μ-loop
 loop-again c =
-    let f = next (c .before .before) in
-    let l = c .before .before .before .before .before .before .loop in
-    let a = c .before .before .before .before .before .before .before .before .args in
-    let v = c .before .before .before .v .given .0 in
-    let m = one-more (a .id) (a .place) (now (a .a)) (l .at) (v .0) (v .1 .0) f (c .before .be16-at .result) (c .before .be16-at .ensures
-    .0) in (
+    let f = met (c .before .before .before) .value in
+    let l = c .before .before .before .before .before .before .before .loop in
+    let a = c .before .before .before .before .before .before .before .before .before .args in
+    let q = c .before .be16-at .ensures .0 ∙ ap (λ (x : List ℕ). be16 x 0) (value (c .before .before)) in
+    let m = one-more (a .id) (a .place) (now (a .a)) (l .at) _ _ f (c .before .be16-at .result) q in (
       f .inside,
       f .rest,
       omega (arith, l .inv .2, f .start, f .order, c .needed .ensures .1),
@@ -80,7 +90,7 @@ returns c =
     let a = c .before .before .before .before .before .args in
     let l = c .before .before .before .loop in
     let f : valuesIn KeyLength (a .place) (drop (l .at) (now (a .a))) ≡ [] =
-    subst (Finds KeyLength (a .place) (now (a .a)) (l .at)) (c .enum-told .given .1) (c .before .before .next-of .ensures) in
+    (subst (Meets KeyLength (a .place) (now (a .a)) (l .at)) (c .enum-told .given .1) (c .before .before .next-attribute .ensures)) .0 in
     (omega (arith, l .inv .3, no-more (a .id) (a .place) (drop (l .at) (now (a .a))) f), omega (arith, l .inv .0, l .inv .2))
 
 pub key-length-octets-spec : {M : Type 1} → statement M
@@ -90,8 +100,9 @@ key-length-octets-spec =
     Inv-loop
     μ-loop
     loop-holds
-    next-of-requires
-    enum-known-v
+    next-attribute-requires
+    enum-known-start
+    attribute-value-requires
     be16-at-requires
     needed-requires
     add-total

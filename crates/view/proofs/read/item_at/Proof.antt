@@ -29,14 +29,14 @@ sub-body-item : tie.Need-sub-body-item
 sub-body-item c =
     let s = now (c .before .before .before .before .before .before .before .args .s) in
     let k = c .before .before .before .p .given in
-    let f = of-sa s (k .0 .0) (sym (k .1) ∙ c .before .before .before .before .before .kind-of .ensures) in
+    let f = of-sa s (k .0 .0) (sym (k .1) ∙ c .before .before .before .before .before .kind-of .ensures .0) in
     head-there s (k .0 .0) (c .before .spi-size .result) (c .before .spi-size .ensures .0) f
 
 part-body-item-start : tie.Need-part-body-item-start
 part-body-item-start c =
     let s = now (c .before .before .before .before .before .before .before .args .s) in
     let k = c .before .before .before .p .given in
-    let f = of-sa s (k .0 .0) (sym (k .1) ∙ c .before .before .before .before .before .kind-of .ensures) in
+    let f = of-sa s (k .0 .0) (sym (k .1) ∙ c .before .before .before .before .before .kind-of .ensures .0) in
     head-there s (k .0 .0) (c .before .spi-size .result) (c .before .spi-size .ensures .0) f
 
 part-body-item-end : tie.Need-part-body-item-end
@@ -46,7 +46,7 @@ body-item-requires : tie.Need-body-item-requires
 body-item-requires c κs =
     let s = now (c .before .before .before .before .before .before .before .before .args .s) in
     let k = c .before .before .before .before .p .given in
-    let f = of-sa s (k .0 .0) (sym (k .1) ∙ c .before .before .before .before .before .before .kind-of .ensures) in
+    let f = of-sa s (k .0 .0) (sym (k .1) ∙ c .before .before .before .before .before .before .kind-of .ensures .0) in
     let z = c .before .before .spi-size in
     let h = head-there s (k .0 .0) (z .result) (z .ensures .0) f in (
       omega (arith, h, ap length (to-end s (4 + z .result)), length-drop (4 + z .result) s),
@@ -58,11 +58,11 @@ enum-told c = search needs
 
 sub-attribute-item : tie.Need-sub-attribute-item
 sub-attribute-item c =
-    of-wide (now (c .before .before .before .before .args .s)) (sym (c .enum-told .given .1) ∙ c .before .before .kind-of .ensures) .head
+    of-wide (now (c .before .before .before .before .args .s)) (sym (c .enum-told .given .1) ∙ c .before .before .kind-of .ensures .0) .head
 
 part-attribute-item-start : tie.Need-part-attribute-item-start
 part-attribute-item-start c =
-    of-wide (now (c .before .before .before .before .args .s)) (sym (c .enum-told .given .1) ∙ c .before .before .kind-of .ensures) .head
+    of-wide (now (c .before .before .before .before .args .s)) (sym (c .enum-told .given .1) ∙ c .before .before .kind-of .ensures .0) .head
 
 part-attribute-item-end : tie.Need-part-attribute-item-end
 part-attribute-item-end c = search needs
@@ -70,7 +70,7 @@ part-attribute-item-end c = search needs
 attribute-item-requires : tie.Need-attribute-item-requires
 attribute-item-requires c κs =
     let s = now (c .before .before .before .before .before .args .s) in
-    let f = of-wide s (sym (c .before .enum-told .given .1) ∙ c .before .before .before .kind-of .ensures) in
+    let f = of-wide s (sym (c .before .enum-told .given .1) ∙ c .before .before .before .kind-of .ensures .0) in
     (omega (arith, f .head, ap length (to-end s 4), length-drop 4 s), wide-held s f)
 
 enum-told-2 : tie.Need-enum-told-2
@@ -80,7 +80,7 @@ returns : tie.Need-returns
 returns c =
     let s = now (c .before .before .before .before .before .before .before .before .before .args .s) in
     let k = c .before .before .before .before .before .p .given in
-    let f = of-sa s (k .0 .0) (sym (k .1) ∙ c .before .before .before .before .before .before .before .kind-of .ensures) in
+    let f = of-sa s (k .0 .0) (sym (k .1) ∙ c .before .before .before .before .before .before .before .kind-of .ensures .0) in
     let z = c .before .before .before .spi-size in
     let q = c .before .before .in-policy in
     let n = c .before .before .before .before .before .before .before .before .before .args .n in
@@ -93,14 +93,14 @@ returns-2 : tie.Need-returns-2
 returns-2 c =
     let a = c .before .before .before .before .before .before .args in
     let s = now (a .s) in
-    let f = of-wide s (sym (c .before .before .enum-told .given .1) ∙ c .before .before .before .before .kind-of .ensures) in
+    let f = of-wide s (sym (c .before .before .enum-told .given .1) ∙ c .before .before .before .before .kind-of .ensures .0) in
     wide-item s f (a .n) _ (c .attribute-item .result) (omega (arith, f .head, ap length (to-end s 4), length-drop 4 s))
     (c .attribute-item .ensures)
 
 returns-3 : tie.Need-returns-3
 returns-3 c =
     let a = c .before .before .before .before .args in
-    no-item (now (a .s)) (a .n) (of-none (now (a .s)) (sym (c .enum-told2 .given .1) ∙ c .before .before .kind-of .ensures) .0)
+    no-item (now (a .s)) (a .n) (of-none (now (a .s)) (sym (c .enum-told2 .given .1) ∙ c .before .before .kind-of .ensures .0) .0)
 
 pub item-at-spec : {M : Type 1} → statement M
 item-at-spec =

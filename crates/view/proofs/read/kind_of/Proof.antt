@@ -1,12 +1,12 @@
 use denote.Ref.{now}
 use mathlib.Core.Path.{sym, _∙_}
-use Rattle.view.proofs.KindLaws.{too-short, other-size, breaks, wide, sa}
+use Rattle.view.proofs.KindLaws.{too-short, other-size, breaks, wide, sa, told}
 use borrow.Author.Needs.{needs}
 use Rattle.view.proofs.read.kind_of.Statement.{statement}
 use Rattle.view.proofs.read.kind_of.Tie as tie
 
 returns : tie.Need-returns
-returns c = too-short (now (c .before .before .args .s)) (c .if1 .taken)
+returns c = told _ _ (too-short (now (c .before .before .args .s)) (c .if1 .taken))
 
 be16-at-requires : tie.Need-be16-at-requires
 be16-at-requires c κs = search needs
@@ -28,29 +28,32 @@ returns-2 c =
     let b = c .before .before .before .before .before in
     let m = b .before .before .be16-at in
     let e = c .before .before .before .enum-told .given in
-    wide (now (b .before .before .before .before .before .args .s)) (m .result) (e .0 .0) (m .ensures .0) (b .before .if2 .taken)
-    (sym (e .1) ∙ b .policy-spot .ensures) (c .before .wide .result) (c .before .wide .ensures .0) (c .if3 .taken)
+    told _ _
+    (wide (now (b .before .before .before .before .before .args .s)) (m .result) (e .0 .0) (m .ensures .0) (b .before .if2 .taken)
+    (sym (e .1) ∙ b .policy-spot .ensures) (c .before .wide .result) (c .before .wide .ensures .0) (c .if3 .taken))
 
 returns-3 : tie.Need-returns-3
 returns-3 c =
     let b = c .before .before .before .before .before in
     let m = b .before .before .be16-at in
     let e = c .before .before .before .enum-told .given in
-    sa (now (b .before .before .before .before .before .args .s)) (m .result) (e .0 .0) (m .ensures .0) (b .before .if2 .taken)
-    (sym (e .1) ∙ b .policy-spot .ensures) (c .before .wide .result) (c .before .wide .ensures .0) (c .if3 .left)
+    told _ _
+    (sa (now (b .before .before .before .before .before .args .s)) (m .result) (e .0 .0) (m .ensures .0) (b .before .if2 .taken)
+    (sym (e .1) ∙ b .policy-spot .ensures) (c .before .wide .result) (c .before .wide .ensures .0) (c .if3 .left))
 
 enum-told-2 : tie.Need-enum-told-2
 enum-told-2 c = search needs
 
 returns-4 : tie.Need-returns-4
 returns-4 c =
-    breaks (now (c .before .before .before .before .before .before .before .args .s)) (c .enum-told2 .given .0 .0)
-    (sym (c .enum-told2 .given .1) ∙ c .before .before .policy-spot .ensures)
+    told _ _
+    (breaks (now (c .before .before .before .before .before .before .before .args .s)) (c .enum-told2 .given .0 .0)
+    (sym (c .enum-told2 .given .1) ∙ c .before .before .policy-spot .ensures))
 
 returns-5 : tie.Need-returns-5
 returns-5 c =
     let m = c .before .be16-at in
-    other-size (now (c .before .before .before .before .args .s)) (m .result) (m .ensures .0) (c .if2 .left)
+    told _ _ (other-size (now (c .before .before .before .before .args .s)) (m .result) (m .ensures .0) (c .if2 .left))
 
 pub kind-of-spec : {M : Type 1} → statement M
 kind-of-spec =

@@ -30,7 +30,7 @@ part-result-end : tie.Need-part-result-end
 part-result-end c =
     let k = c .before .before .p .given in
     let f = of-sa (now (c .before .before .before .before .before .before .args .s)) (k .0 .0)
-    (sym (k .1) ∙ c .before .before .before .before .kind-of .ensures) in
+    (sym (k .1) ∙ c .before .before .before .before .kind-of .ensures .0) in
     omega (arith, f .head, c .spi-size .ensures .0)
 
 enum-told : tie.Need-enum-told
@@ -62,7 +62,7 @@ returns c =
     let k = c .before .before .before .p .given in
     let a = c .before .before .before .before .before .before .before .args in
     let s = now (a .s) in
-    let f = of-sa s (k .0 .0) (sym (k .1) ∙ c .before .before .before .before .before .kind-of .ensures) in (
+    let f = of-sa s (k .0 .0) (sym (k .1) ∙ c .before .before .before .before .before .kind-of .ensures .0) in (
       ap (λ (n : ℕ). part s 4 (4 + n)) (c .before .spi-size .ensures .0) ∙ f .spi,
       ap (λ (n : ℕ). (a .s .ptr .0, n + a .s .ptr .1)) (f .there),
     )
@@ -70,13 +70,13 @@ returns c =
 returns-2 : tie.Need-returns-2
 returns-2 c =
     let a = c .before .before .before .before .before .args in
-    let f = of-wide (now (a .s)) (sym (c .before .enum-told .given .1) ∙ c .before .before .before .kind-of .ensures) in
+    let f = of-wide (now (a .s)) (sym (c .before .enum-told .given .1) ∙ c .before .before .before .kind-of .ensures .0) in
     (f .spi, ap (λ (n : ℕ). (a .s .ptr .0, n + a .s .ptr .1)) (f .there))
 
 returns-3 : tie.Need-returns-3
 returns-3 c =
     let a = c .before .before .before .before .before .args in
-    let f = of-none (now (a .s)) (sym (c .before .enum-told2 .given .1) ∙ c .before .before .before .kind-of .ensures) in
+    let f = of-none (now (a .s)) (sym (c .before .enum-told2 .given .1) ∙ c .before .before .before .kind-of .ensures .0) in
     (f .1, ap (λ (n : ℕ). (a .s .ptr .0, n + a .s .ptr .1)) (f .2))
 
 pub spi-of-spec : {M : Type 1} → statement M
