@@ -13,6 +13,7 @@ mod inband;
 mod limits;
 mod lives;
 mod programs;
+mod runs;
 mod scene;
 mod script;
 mod tally;
@@ -144,18 +145,7 @@ fn print(program: &Program, tally: &Tally, arguments: &Arguments, taken: Duratio
         program.path.display()
     );
     println!("compare: answers {}", answers.join(", "));
-    let counted = [
-        ("layouts broken in", &tally.breaks),
-        ("calls", &tally.calls),
-        ("accepted frames that leave or use", &tally.limits),
-        ("lifetimes:", &tally.lives),
-    ];
-    for (what, counts) in counted {
-        if !counts.is_empty() {
-            let counts: Vec<String> = counts.iter().map(|(name, count)| format!("{name}: {count}")).collect();
-            println!("compare: {what} {}", counts.join(", "));
-        }
-    }
+    print_counts(tally);
     println!(
         "compare: {} violations alone, {} pairs of them ({} different ones, {} gave the lower number)",
         violations::all().filter(|violation| tally.alone.contains_key(violation.name)).count(),
@@ -174,6 +164,22 @@ fn print(program: &Program, tally: &Tally, arguments: &Arguments, taken: Duratio
                 violation.number,
                 violation.name
             );
+        }
+    }
+}
+
+/// How often each of the things occurred that must.
+fn print_counts(tally: &Tally) {
+    let counted = [
+        ("layouts broken in", &tally.breaks),
+        ("calls", &tally.calls),
+        ("accepted frames that leave or use", &tally.limits),
+        ("lifetimes:", &tally.lives),
+    ];
+    for (what, counts) in counted {
+        if !counts.is_empty() {
+            let counts: Vec<String> = counts.iter().map(|(name, count)| format!("{name}: {count}")).collect();
+            println!("compare: {what} {}", counts.join(", "));
         }
     }
 }
