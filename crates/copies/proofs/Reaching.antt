@@ -35,7 +35,7 @@ use Rattle.copies.specs.inner.Known.{Known, key-zero, named as known-nam
 use Rattle.copies.specs.inner.Answer.{AnswersBy, Answers}
 use Rattle.copies.specs.inner.Tries.{Try, SomeOpens, TriesEight, TellsBy, Tells}
 use Rattle.copies.specs.inner.Tries as tries
-use Rattle.copies.specs.inner.Named.{tryOf, underHeld, tryFor, triesOf}
+use Rattle.copies.specs.inner.Named.{tryOf, tryFor, triesOf}
 
 -- ---- a held list that is as it must be
 pub key-size : (k : HeldKey) → keyFormed k ≡ true → sizeOf 13 (k .key .count) ≡ true
@@ -162,7 +162,7 @@ module _ (zero : WrappingKey) (held : Held) (e : heldFormed limits held ≡ true
       let q = List·Memᴰ·eq-of-singleton (rw g at m) in
       (v, subst (λ (j : ℕ). Known zero held j v) (sym (eqb-true (c .kwkId) 0 g)) key-zero, sym q))
       (λ g.
-      let u : List·Memᴰ t (underHeld (heldKey limits (c .kwkId) held) c) = rw g at m in
+      let u = rw g at m in
       bool-cases (heldKey limits (c .kwkId) held .fits)
       (λ f.
       let q = List·Memᴰ·eq-of-singleton (rw f at u) in
