@@ -78,6 +78,7 @@ fn opened(
         schedule,
         ids,
         block,
+        tick,
     )
 }
 
