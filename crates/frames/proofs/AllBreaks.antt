@@ -286,7 +286,8 @@ pub wholes-whole :
     (header 0 32 28 ∷ framed 41 (held 42 [] ++ held 0 (3 ∷ 4 ∷ 0 ∷ 1 ∷ 1 ∷ 2 ∷ 3 ∷ 4 ∷ [])) ∷ gsa (wide (128 ∷ 2 ∷ 0 ∷ 5 ∷ [])) ∷
     gsa (wide [] ++ esp (ip4 ++ (ip4 ++ (tf 3 5 [] ++ tf 0 1 (128 ∷ 14 ∷ 0 ∷ 128 ∷ []))))) ∷
     gsa (rekey (ip4 ++ (ip4 ++ (tf 0 5 [] ++ (0 ∷ 2 ∷ 0 ∷ 4 ∷ 0 ∷ 0 ∷ 0 ∷ 7 ∷ []))))) ∷
-    kd (esp (0 ∷ 1 ∷ 0 ∷ 24 ∷ (sixteen ++ take 8 sixteen)) ++ wide (0 ∷ 1 ∷ 0 ∷ 24 ∷ (sixteen ++ take 8 sixteen))) ∷ [])
-    ≡ replicate 6 layout.Whole
+    kd (esp (0 ∷ 1 ∷ 0 ∷ 24 ∷ (sixteen ++ take 8 sixteen)) ++ wide (0 ∷ 1 ∷ 0 ∷ 24 ∷ (sixteen ++ take 8 sixteen))) ∷
+    behind 51 (esp (ip6 ++ (ip4 ++ tf 0 1 [])) ++ ah (ip4 ++ (ip4 ++ tf 0 1 []))) ∷ behind 52 (ah (128 ∷ 9 ∷ 0 ∷ 0 ∷ [])) ∷ [])
+    ≡ replicate 8 layout.Whole
 unfolding frameLayout frame payload body policy suite saBody selector transform bag attribute many chain chainUpTo number valuesOf stretches
 wholes-whole = refl
