@@ -20,24 +20,24 @@ mul-e : tie.Need-mul-e
 mul-e c = let h = c .before .before .lend-keys .ensures .most in record { fits = omega arith }
 
 array-share-prefix-ids : tie.Need-array-share-prefix-ids
-array-share-prefix-ids c = ids-there _ _ _ (c .before .before .before .lend-keys .ensures)
+array-share-prefix-ids c = ids-there _ _ _ (c .before .before .lend-keys .ensures)
 
 slice-aggregate-under-lent : tie.Need-slice-aggregate-under-lent
-slice-aggregate-under-lent c = ids-count _ _ _ (c .before .before .before .before .lend-keys .ensures)
+slice-aggregate-under-lent c = ids-count _ _ _ (c .before .before .before .lend-keys .ensures)
 
 array-share-prefix-block : tie.Need-array-share-prefix-block
-array-share-prefix-block c = block-there _ _ _ (c .before .before .before .before .lend-keys .ensures)
+array-share-prefix-block c = block-there _ _ _ (c .before .before .before .lend-keys .ensures)
 
 slice-aggregate-under-lent-2 : tie.Need-slice-aggregate-under-lent-2
-slice-aggregate-under-lent-2 c = block-count _ _ _ (c .before .before .before .before .before .lend-keys .ensures)
+slice-aggregate-under-lent-2 c = block-count _ _ _ (c .before .before .before .before .lend-keys .ensures)
 
 under-lent-requires : tie.Need-under-lent-requires
 under-lent-requires c κs =
-    (search needs, (search needs, (search needs, ((_, c .before .before .before .before .before .lend-keys .ensures .lends), search needs))))
+    (search needs, (search needs, (search needs, ((_, c .before .before .before .before .lend-keys .ensures .lends), search needs))))
 
 returns : tie.Need-returns
 returns c roots entries size f y agrees =
-    c .under-lent .ensures roots entries size f _ y (c .before .before .before .before .before .before .lend-keys .ensures .lends) agrees
+    c .under-lent .ensures roots entries size f _ y (c .before .before .before .before .before .lend-keys .ensures .lends) agrees
 
 pub keyed-spec : {M : Type 1} → statement M
 keyed-spec =
