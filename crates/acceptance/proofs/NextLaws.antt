@@ -46,7 +46,8 @@ or-swap true false = refl
 or-swap false true = refl
 or-swap false false = refl
 
-same-test : (f : Frame) (new : Bool) → newRekey f ≡ new → (a : Sa) → (outdated new a || namedInDelete f a) ≡ (namedInDelete f a || replaced f a)
+same-test : (f : Frame) (new : Bool) → newRekey f ≡ new → (a : Sa) →
+    (outdated new a || namedInDelete f a) ≡ (namedInDelete f a || replaced f a)
 unfolding replaced
 same-test f new e a =
     or-swap (outdated new a) (namedInDelete f a) ∙ ap (λ (b : Bool). namedInDelete f a || (b && eqb (a .protocol) rekey)) (sym e)
