@@ -1,10 +1,11 @@
 //! Lines of `trace` between the frames: sweeps, leaving, questions, other lent keys, and lines that are nearly one of these.
 
+use crate::lives::borders;
 use crate::script::Writer;
 use crate::violations::Exchange;
 use builder::line::hex;
 use builder::{ESP, REKEY};
-use reference::member::{is_wrap_key_size, Condition, Sa};
+use reference::member::is_wrap_key_size;
 use reference::trace;
 
 /// What must occur.
@@ -30,7 +31,7 @@ impl Writer<'_> {
         while self.scene.rng.chance(PERCENT) {
             match self.scene.rng.below(8) {
                 0 | 1 => self.sweep(),
-                2 if self.scene.member.table.is_empty() || exchange != Exchange::Rekey => self.fit_lent_key(),
+                2 if self.scene.member.is_empty(self.scene.tick) || exchange != Exchange::Rekey => self.fit_lent_key(),
                 2 => self.any_lent_key(),
                 3 => self.nearly_a_call(),
                 _ => self.question(),
@@ -63,7 +64,7 @@ impl Writer<'_> {
         self.line([b"k", hex(&octets).as_slice()].concat(), "another lent key".to_string());
     }
 
-    fn fit_lent_key(&mut self) {
+    pub fn fit_lent_key(&mut self) {
         let size = self.scene.rng.pick(&[16, 24, 32]);
         self.lent_key(size);
     }
@@ -75,7 +76,7 @@ impl Writer<'_> {
 
     /// Now, at the border of being due, or at any time.
     fn sweep(&mut self) {
-        let dues: Vec<u32> = self.scene.member.table.iter().filter_map(due).collect();
+        let dues = borders(&self.scene.member);
         let tick = match self.scene.rng.below(8) {
             0..=2 => self.scene.tick,
             7 => self.scene.rng.number() as u32,
@@ -130,16 +131,9 @@ impl Writer<'_> {
             (b'k', _) => ALL[3],
             (_, "none") => ALL[4],
             _ if asked() => ALL[5],
-            (_, found) if found.ends_with("live") => ALL[6],
+            (_, found) if found.contains(" live ") => ALL[6],
             _ => ALL[7],
         });
         true
-    }
-}
-
-fn due(sa: &Sa) -> Option<u32> {
-    match sa.condition {
-        Condition::Retiring { start, delay } => Some(start.wrapping_add(1000 * delay as u32)),
-        Condition::Live => None,
     }
 }

@@ -12,7 +12,8 @@ impl Writer<'_> {
         let shape = Shape { rekey: false, esp: 1, ..self.scene.full_shape() };
         let Some(own) = self.fit_frame(Exchange::Inband, shape) else { return };
         self.claim(&own, 0, "over the own channel after the last Message ID");
-        self.claim(case, 3, "no Message ID acceptable still");
+        // A sweep at another tick may have taken a Rekey SA with a lifetime.
+        self.claim(case, if self.scene.takes_rekeys() { 3 } else { 2 }, "no Message ID acceptable still");
         let Some(own) = self.fit_frame(Exchange::Inband, Shape { rekey: true, ..shape }) else { return };
         self.claim(&own, 0, "a new Rekey SA over the own channel");
         let Some(case) = self.fit_frame(Exchange::Rekey, shape) else { return };

@@ -11,7 +11,9 @@ mod case;
 mod damage;
 mod inband;
 mod limits;
+mod lives;
 mod programs;
+mod runs;
 mod scene;
 mod script;
 mod tally;
@@ -143,14 +145,7 @@ fn print(program: &Program, tally: &Tally, arguments: &Arguments, taken: Duratio
         program.path.display()
     );
     println!("compare: answers {}", answers.join(", "));
-    let counted =
-        [("layouts broken in", &tally.breaks), ("calls", &tally.calls), ("accepted frames that leave or use", &tally.limits)];
-    for (what, counts) in counted {
-        if !counts.is_empty() {
-            let counts: Vec<String> = counts.iter().map(|(name, count)| format!("{name}: {count}")).collect();
-            println!("compare: {what} {}", counts.join(", "));
-        }
-    }
+    print_counts(tally);
     println!(
         "compare: {} violations alone, {} pairs of them ({} different ones, {} gave the lower number)",
         violations::all().filter(|violation| tally.alone.contains_key(violation.name)).count(),
@@ -173,6 +168,22 @@ fn print(program: &Program, tally: &Tally, arguments: &Arguments, taken: Duratio
     }
 }
 
+/// How often each of the things occurred that must.
+fn print_counts(tally: &Tally) {
+    let counted = [
+        ("layouts broken in", &tally.breaks),
+        ("calls", &tally.calls),
+        ("accepted frames that leave or use", &tally.limits),
+        ("lifetimes:", &tally.lives),
+    ];
+    for (what, counts) in counted {
+        if !counts.is_empty() {
+            let counts: Vec<String> = counts.iter().map(|(name, count)| format!("{name}: {count}")).collect();
+            println!("compare: {what} {}", counts.join(", "));
+        }
+    }
+}
+
 fn verdict(tally: &Tally, kind: Kind, count: u64) -> Result<(), String> {
     if let Some(complaint) = tally.complaints.first() {
         return Err(format!("{} claims of the generator failed, first: {complaint}", tally.complaints.len()));
@@ -187,7 +198,8 @@ fn verdict(tally: &Tally, kind: Kind, count: u64) -> Result<(), String> {
     let mut missing = violations.filter(|name| !tally.alone.contains_key(name));
     let limits = limits::MET.into_iter().filter(|limit| !tally.limits.contains_key(limit));
     let breaks = damage::KINDS.iter().map(|(name, _)| *name).filter(|name| !tally.breaks.contains_key(name));
-    match (missing.next(), limits.chain(breaks).next()) {
+    let lives = lives::MET.into_iter().filter(|name| !tally.lives.contains_key(name));
+    match (missing.next(), limits.chain(breaks).chain(lives).next()) {
         (Some(name), _) if count >= ENOUGH => Err(format!("never occurred alone: {name}")),
         (_, Some(name)) if count >= ENOUGH => Err(format!("never occurred: {name}")),
         _ => Ok(()),

@@ -2,11 +2,12 @@
 
 use crate::case::Case;
 use crate::limits::{Sizes, MOST_DELETED};
+use crate::lives::borders;
 use builder::rng::Rng;
 use builder::typical::*;
 use builder::wrapping::wrap;
 use builder::{Attribute, Part, ESP, REKEY};
-use reference::member::{Condition, Member};
+use reference::member::{Member, Sa};
 
 /// The member, the clock and the lent key at a place of a script.
 pub struct Scene {
@@ -15,6 +16,8 @@ pub struct Scene {
     pub member: Member,
     pub tick: u32,
     pub sizes: Sizes,
+    /// How many of 100 policies have a lifetime.
+    pub lives: usize,
 }
 
 /// What a frame is to have.
@@ -63,9 +66,14 @@ impl Scene {
         case
     }
 
-    /// A rekey over the live Rekey SA; None if there is none, or no Message ID left.
+    /// A rekey over the live Rekey SA; None if there is none, if it has run out, or no Message ID is left.
     pub fn rekey(&mut self, shape: Shape) -> Option<Case> {
-        let sa = self.member.live_rekey()?.clone();
+        let sa = self.member.live_rekey().filter(|sa| !sa.is_due(self.tick))?.clone();
+        self.rekey_over(&sa, shape)
+    }
+
+    /// A rekey over this Rekey SA.
+    pub fn rekey_over(&mut self, sa: &Sa, shape: Shape) -> Option<Case> {
         let message_id = self.member.least_id?;
         let mut case = self.case(GSA_REKEY, &sa.spi, message_id, sa.default_key().to_vec(), self.member.held.clone());
         let room = self.sizes.sas.saturating_sub(self.member.table.iter().filter(|sa| !sa.is_due(self.tick)).count());
@@ -120,6 +128,9 @@ impl Scene {
             let at = self.rng.below(2);
             case.policies().expect("GSA").insert(at, delay_policy(delay));
         }
+        if self.lives > 0 {
+            self.give_lifetimes(case);
+        }
     }
 
     /// SPIs to delete: some of the table, some unknown, sometimes 0.
@@ -138,13 +149,9 @@ impl Scene {
         spis
     }
 
-    /// Moves the clock: a little, far, near its wrap, or to where a retiring SA is about to be due.
+    /// Moves the clock: a little, far, near its wrap, or to where an SA is about to be due.
     pub fn move_clock(&mut self) {
-        let dues = self.member.table.iter().filter_map(|sa| match sa.condition {
-            Condition::Retiring { start, delay } => Some(start.wrapping_add(1000 * delay as u32)),
-            Condition::Live => None,
-        });
-        let dues: Vec<u32> = dues.collect();
+        let dues = borders(&self.member);
         self.tick = match self.rng.below(12) {
             0..=3 => self.tick.wrapping_add(self.rng.below(1500) as u32),
             4..=7 if !dues.is_empty() => self.rng.pick(&dues).wrapping_add(self.rng.below(3) as u32).wrapping_sub(1),

@@ -2,12 +2,14 @@
 //! asking the second member.
 
 use crate::case::Case;
-use crate::damage::{damaged, first_line, hostile_line};
-use crate::limits::{met, Sizes};
+use crate::damage::{damaged, hostile_line};
+use crate::limits::Sizes;
+use crate::lives::share;
 use crate::programs::Kind;
 use crate::scene::{Scene, Shape};
 use crate::tally::Tally;
 use crate::violations::{allowed, of_exchange, Exchange, Violation};
+use crate::{limits, lives};
 use builder::line::{hex, line};
 use builder::rng::Rng;
 use reference::layout::MOST_FRAME;
@@ -31,15 +33,16 @@ const INBAND_PERCENT: usize = 30;
 pub struct Writer<'t> {
     pub scene: Scene,
     /// Whether the script is for `trace`, with other calls between the frames.
-    tracing: bool,
-    lines: Vec<Vec<u8>>,
+    pub tracing: bool,
+    pub lines: Vec<Vec<u8>>,
     labels: Vec<String>,
     pub tally: &'t mut Tally,
-    seed: u64,
+    pub seed: u64,
 }
 
 pub fn script(seed: u64, kind: Kind, tally: &mut Tally) -> Script {
     let mut writer = Writer::new(seed, kind, tally);
+    writer.scene.lives = share(seed);
     match seed % 16 {
         7 => writer.hostile_first_line(),
         11 => writer.without_rekey_sa(),
@@ -71,7 +74,7 @@ impl<'t> Writer<'t> {
         let lent = rng.octets(size);
         let tick = rng.pick(&[0, 1000, 0x7fff_ff00, u32::MAX - 500]);
         let lines = vec![hex(&lent)];
-        let scene = Scene { rng, lent, member: Member::new(), tick, sizes: Sizes::SMALL };
+        let scene = Scene { rng, lent, member: Member::new(), tick, sizes: Sizes::SMALL, lives: 0 };
         Writer { scene, tracing: kind == Kind::Trace, lines, labels: Vec::new(), tally, seed }
     }
 
@@ -90,6 +93,9 @@ impl<'t> Writer<'t> {
                 self.leave();
                 self.taken(Exchange::Registration, shape);
             }
+            if !self.go_on(shape) {
+                return;
+            }
             for (exchange, waiting) in &mut singles {
                 waiting.retain(|violation| !self.single(violation, *exchange));
                 self.pairs(*exchange, turn, REKEYS);
@@ -100,48 +106,6 @@ impl<'t> Writer<'t> {
             self.taken(exchange, shape);
         }
         self.last_message_id();
-    }
-
-    /// After the Message ID 4,294,967,295 nothing is acceptable over that Rekey SA any more.
-    fn last_message_id(&mut self) {
-        let shape = Shape { rekey: false, esp: 1, ..self.scene.full_shape() };
-        let Some(mut case) = self.scene.rekey(shape) else { return };
-        case.frame.message_id = u32::MAX;
-        self.claim(&case, 0, "the last Message ID");
-        for message_id in [0, 1, u32::MAX] {
-            case.frame.message_id = message_id;
-            self.claim(&case, 3, "no Message ID acceptable");
-        }
-        self.inband_after_the_last(&case);
-    }
-
-    /// A member with ESP SAs alone: no rekey over a Rekey SA and no second registration can reach it.
-    fn without_rekey_sa(&mut self) {
-        self.violations(Exchange::Registration);
-        let shape = Shape { rekey: false, esp: 2, ..self.scene.any_shape() };
-        self.taken(Exchange::Registration, shape);
-        for exchange in [39, 40, 41] {
-            self.scene.move_clock();
-            let shape = self.scene.full_shape();
-            let mut case = self.scene.registration(shape);
-            case.frame.exchange = exchange;
-            self.claim(&case, 2, "a frame to a member without a Rekey SA");
-        }
-        self.inband_to_the_first_rekey_sa();
-        self.disturbances(Exchange::Rekey);
-    }
-
-    /// A first line that may be none, then frames as if it were one.
-    fn hostile_first_line(&mut self) {
-        self.lines[0] = first_line(self.seed as usize / 16, &mut self.scene.rng);
-        self.scene.lent = text::default_key(&self.lines[0]);
-        let shape = self.scene.full_shape();
-        let case = self.scene.registration(shape);
-        let fits = matches!(self.scene.lent.len(), 16 | 24 | 32);
-        self.claim(&case, if fits { 0 } else { 5 }, "registration after an odd first line");
-        for _ in 0..20 {
-            self.disturbances(if fits { Exchange::Rekey } else { Exchange::Registration });
-        }
     }
 
     /// Single violations and pairs of them, none of which changes the member.
@@ -191,7 +155,7 @@ impl<'t> Writer<'t> {
             self.other_calls(exchange);
         }
         match exchange {
-            Exchange::Registration if self.scene.member == Member::new() => Some(self.scene.registration(shape)),
+            Exchange::Registration if self.scene.member.is_empty(self.scene.tick) => Some(self.scene.registration(shape)),
             Exchange::Registration => None,
             Exchange::Rekey => self.scene.rekey(shape),
             Exchange::Inband => self.scene.inband(shape),
@@ -243,7 +207,7 @@ impl<'t> Writer<'t> {
     }
 
     /// Damaged frames, frames that came before, hostile lines.
-    fn disturbances(&mut self, exchange: Exchange) {
+    pub fn disturbances(&mut self, exchange: Exchange) {
         if let Some(case) = self.base(exchange) {
             let built = case.frame.build();
             let octets = damaged(&built, &mut self.scene.rng);
@@ -275,7 +239,8 @@ impl<'t> Writer<'t> {
             ));
         }
         if answer == 0 {
-            met(case, &self.scene.member).for_each(|limit| self.tally.limit(limit));
+            limits::met(case, &self.scene.member).for_each(|limit| self.tally.limit(limit));
+            lives::met(case, &self.scene.member).for_each(|name| self.tally.life(name));
         }
         if answer != 0 && before != self.scene.member {
             self.tally.complain(format!("seed {}, line {}: a refusal changed the member", self.seed, self.lines.len()));

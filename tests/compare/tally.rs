@@ -15,6 +15,8 @@ pub struct Tally {
     pub breaks: BTreeMap<&'static str, usize>,
     /// How often accepted frames met the limits (`limits::MET`).
     pub limits: BTreeMap<&'static str, usize>,
+    /// How often lifetimes mattered (`lives::MET`).
+    pub lives: BTreeMap<&'static str, usize>,
     pub alone: BTreeMap<&'static str, usize>,
     pub paired: BTreeMap<&'static str, usize>,
     pub pairs: BTreeSet<(&'static str, &'static str)>,
@@ -41,6 +43,10 @@ impl Tally {
 
     pub fn limit(&mut self, name: &'static str) {
         *self.limits.entry(name).or_default() += 1;
+    }
+
+    pub fn life(&mut self, name: &'static str) {
+        *self.lives.entry(name).or_default() += 1;
     }
 
     pub fn alone(&mut self, name: &'static str) {

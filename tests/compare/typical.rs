@@ -57,6 +57,11 @@ pub fn initial_message_id(id: u32) -> Attribute {
     Attribute::long(2, &id.to_be_bytes())
 }
 
+/// GSA_KEY_LIFETIME.
+pub fn lifetime(seconds: u32) -> Attribute {
+    Attribute::long(1, &seconds.to_be_bytes())
+}
+
 pub fn bag(protocol: u8, spi: &[u8], keys: Vec<Attribute>) -> Part {
     Part { attributes: keys, ..Part::named(protocol, spi) }
 }

@@ -29,7 +29,7 @@ const TURNED: [(&str, &str, &str); 9] = [
 const NOT_CALLED: [&str; 7] = ["wrap", "wrap_steps", "open", "last_word", "cipher", "mix_columns", "shift_rows"];
 
 /// Keys with a bit flipped and fields left out: the file, a text of one of its lines, and what takes its place.
-const BY_HAND: [(&str, &str, &str, &str); 33] = [
+const BY_HAND: [(&str, &str, &str, &str); 35] = [
     ("key", "keywrap", "Some(padded[..octets].to_vec())", "Some(flipped(&padded[..octets]))"),
     ("key", "reach", "self.0.push(Key { id, value: value.to_vec(),", "self.0.push(Key { id, value: flipped(value),"),
     ("key", "reach", "None => self.add(entry.key_id, &value),", "None => self.add(entry.key_id, &flipped(&value)),"),
@@ -64,6 +64,7 @@ const BY_HAND: [(&str, &str, &str, &str); 33] = [
     ("left out", "member", "if request.registration {", "if false {"),
     ("left out", "member", "start: tick, delay: request.delay", "start: 0, delay: request.delay"),
     ("left out", "member", "start: tick, delay: request.delay", "start: tick, delay: 0"),
+    ("left out", "member", "Lifetime { start: tick, seconds }", "Lifetime { start: 0, seconds }"),
     ("left out", "member", "Some(request.initial_id.unwrap_or(0))", "Some(0)"),
     ("left out", "judging", "message_id: frame.message_id,", "message_id: 0,"),
     ("left out", "judging", "deleted: self.deletes.iter().flat_map(|delete| delete.spis.chunks_exact(4)).collect(),", "deleted: vec![],"),
@@ -74,6 +75,7 @@ const BY_HAND: [(&str, &str, &str, &str); 33] = [
     ("left out", "judging", "bag.protocol == policy.protocol && bag.spi == policy.spi", "bag.spi == policy.spi"),
     ("left out", "judging", "lent_key_fits && !parts.have_unfit_bag_or_delete()", "!parts.have_unfit_bag_or_delete()"),
     ("left out", "judging", "filter(|sa| !sa.is_due(tick));", "filter(|_| true);"),
+    ("left out", "judging", "sa.spi == frame.spis && !sa.is_due(tick)", "sa.spi == frame.spis"),
 ];
 
 /// Octets with a bit of the last one flipped, for the mutants of keys.

@@ -18,6 +18,8 @@ const CONTROLLER_AUTHENTICATION: u8 = 14;
 /// Document 02, T-01; a held list takes all that a frame may bring.
 const MOST_ESP_POLICIES: usize = 24;
 const MOST_WRAP_KEYS: usize = MOST_HELD;
+/// Of a lifetime, in seconds (document 02, T-07).
+pub const MOST_SECONDS: u32 = 2_000_000;
 /// Document 01; T-01 does not name them.
 const MOST_SA_KEYS: usize = 32;
 const MOST_DELETED: usize = 32;
@@ -58,6 +60,8 @@ pub struct Announced<'f> {
     pub protocol: u8,
     pub spi: &'f [u8],
     pub need: Need,
+    /// Seconds, or no lifetime.
+    pub lifetime: Option<u32>,
     pub copies: Vec<WrappedKey<'f>>,
 }
 
@@ -103,7 +107,7 @@ pub fn judge<'f>(frame: &Frame<'f>, member: &Member, tick: u32, lent: &[u8]) -> 
 fn is_fit_exchange(frame: &Frame, member: &Member, tick: u32, exchange: Exchange) -> bool {
     match exchange {
         Exchange::Registration => member.is_empty(tick),
-        Exchange::Rekey => member.live_rekey().is_some_and(|sa| sa.spi == frame.spis),
+        Exchange::Rekey => member.live_rekey().is_some_and(|sa| sa.spi == frame.spis && !sa.is_due(tick)),
         Exchange::Inband => !member.is_empty(tick),
     }
 }
@@ -181,7 +185,7 @@ impl<'a, 'f> Parts<'a, 'f> {
             || self.member_bags.len() > 1
             || (self.gsa == 1 && self.policies.is_empty())
             || self.policies.iter().flat_map(|policy| &policy.transforms).any(|transform| transform.key_lengths.len() > 1)
-            || self.policies.iter().any(|policy| policy.initial_ids.len() > 1)
+            || self.policies.iter().any(|policy| policy.initial_ids.len() > 1 || policy.lifetimes.len() > 1)
             || self.group_wide.iter().any(|delays| delays.len() > 1)
             || self.rekey_policies().any(|policy| !is_one_multicast_port(&policy.destination))
     }
@@ -227,6 +231,7 @@ impl<'a, 'f> Parts<'a, 'f> {
             || self.bags.iter().any(|bag| bag.sa_keys.len() > MOST_SA_KEYS)
             || deleted > MOST_DELETED
             || staying + self.policies.len() > MOST_SAS
+            || self.policies.iter().flat_map(|policy| &policy.lifetimes).any(|seconds| *seconds > MOST_SECONDS)
     }
 
     fn request(&self, frame: &Frame, exchange: Exchange, needs: &[Need]) -> Request<'f> {
@@ -239,7 +244,13 @@ impl<'a, 'f> Parts<'a, 'f> {
             exchange,
             message_id: frame.message_id,
             announced: announced
-                .map(|(policy, &need)| Announced { protocol: policy.protocol, spi: policy.spi, need, copies: copies(policy) })
+                .map(|(policy, &need)| Announced {
+                    protocol: policy.protocol,
+                    spi: policy.spi,
+                    need,
+                    lifetime: policy.lifetimes.first().copied(),
+                    copies: copies(policy),
+                })
                 .collect(),
             wrap_keys: self.wrap_keys().copied().collect(),
             deleted: self.deletes.iter().flat_map(|delete| delete.spis.chunks_exact(4)).collect(),

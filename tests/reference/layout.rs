@@ -16,6 +16,7 @@ pub const REKEY: u8 = 6;
 
 pub const ENCRYPTION: u8 = 1; // a transform type
 const KEY_LENGTH: u16 = 14; // an attribute of such a transform
+const KEY_LIFETIME: u16 = 1; // GSA_KEY_LIFETIME, in every Group SA policy
 const INITIAL_MESSAGE_ID: u16 = 2; // GSA_INITIAL_MESSAGE_ID, in a Rekey policy
 const DEACTIVATION_DELAY: u16 = 2; // GWP_DTD, in a group-wide policy
 const WRAPPED_KEY: u16 = 1; // SA_KEY in a Group Key Bag, WRAP_KEY in a Member Key Bag
@@ -49,6 +50,8 @@ pub struct SaPolicy<'f> {
     pub spi: &'f [u8],
     pub destination: Selector<'f>,
     pub transforms: Vec<Transform>,
+    /// GSA_KEY_LIFETIME, in seconds.
+    pub lifetimes: Vec<u32>,
     pub initial_ids: Vec<u32>,
 }
 
@@ -157,9 +160,16 @@ fn policy<'f>(rest: &mut Octets<'f>) -> Read<Policy<'f>> {
     let _source = selector(&mut rest, broken)?;
     let destination = selector(&mut rest, broken)?;
     let transforms = transforms(&mut rest, broken)?;
-    let read = (protocol == REKEY).then_some(INITIAL_MESSAGE_ID);
-    let initial_ids = rest.attributes_of(read, number_of_4_octets)?;
-    Ok(Policy::Sa(SaPolicy { protocol, spi, destination, transforms, initial_ids }))
+    let (mut lifetimes, mut initial_ids) = (Vec::new(), Vec::new());
+    rest.attributes(|kind, value| {
+        match kind {
+            KEY_LIFETIME => lifetimes.push(number_of_4_octets(value)?),
+            INITIAL_MESSAGE_ID if protocol == REKEY => initial_ids.push(number_of_4_octets(value)?),
+            _ => {}
+        }
+        Some(())
+    })?;
+    Ok(Policy::Sa(SaPolicy { protocol, spi, destination, transforms, lifetimes, initial_ids }))
 }
 
 /// The own fields of a policy or bag: protocol and SPI, and what follows them.

@@ -1,6 +1,6 @@
 //! What a member is, and what it is after an accepted frame, a sweep and leaving.
 
-use crate::judging::{judge, Exchange, Need, Request};
+use crate::judging::{judge, Exchange, Need, Request, MOST_SECONDS};
 use crate::layout::{frame, Frame, ESP, REKEY};
 use crate::reach::Keys;
 
@@ -26,6 +26,15 @@ pub struct Sa {
     /// How many of a Rekey SA's keying octets are for encryption; the key wrap part follows them.
     pub encryption: usize,
     pub condition: Condition,
+    /// None: no lifetime.
+    pub lifetime: Option<Lifetime>,
+}
+
+/// Start tick in milliseconds, seconds from then on.
+#[derive(Clone, Copy, Debug, PartialEq)]
+pub struct Lifetime {
+    pub start: u32,
+    pub seconds: u32,
 }
 
 #[derive(Clone, Copy, Debug, PartialEq)]
@@ -60,11 +69,14 @@ pub fn is_wrap_key_size(octets: usize) -> bool {
 }
 
 impl Sa {
+    /// Whichever comes first: the delay of a retiring SA has run, or the lifetime.
     pub fn is_due(&self, now: u32) -> bool {
-        match self.condition {
+        let has_run = |start: u32, seconds: u32| now.wrapping_sub(start) as u64 >= 1000 * seconds as u64;
+        let retired = match self.condition {
             Condition::Live => false,
-            Condition::Retiring { start, delay } => now.wrapping_sub(start) >= 1000 * delay as u32,
-        }
+            Condition::Retiring { start, delay } => has_run(start, delay as u32),
+        };
+        retired || self.lifetime.is_some_and(|lifetime| has_run(lifetime.start, lifetime.seconds))
     }
 
     fn is_live(&self) -> bool {
@@ -78,11 +90,12 @@ impl Sa {
 
     fn is_whole(&self) -> bool {
         let encryption_fits = matches!(self.encryption, 20 | 28 | 36);
-        match self.protocol {
+        let keying_fits = match self.protocol {
             ESP => self.spi.len() == 4 && encryption_fits && self.keying.len() == self.encryption,
             REKEY => self.spi.len() == 16 && encryption_fits && is_wrap_key_size(self.default_key().len()),
             _ => false,
-        }
+        };
+        keying_fits && self.lifetime.is_none_or(|lifetime| lifetime.seconds <= MOST_SECONDS)
     }
 }
 
@@ -170,7 +183,8 @@ impl Member {
         for (sa, keying) in request.announced.iter().zip(sa_keys) {
             let (Need::Esp(encryption) | Need::Rekey { encryption, .. }) = sa.need;
             let (protocol, spi) = (sa.protocol, sa.spi.to_vec());
-            self.table.push(Sa { protocol, spi, keying, encryption, condition: Condition::Live });
+            let lifetime = sa.lifetime.map(|seconds| Lifetime { start: tick, seconds });
+            self.table.push(Sa { protocol, spi, keying, encryption, condition: Condition::Live, lifetime });
         }
         self.table.sort_by(|a, b| (a.protocol, &a.spi).cmp(&(b.protocol, &b.spi)));
         self.least_id = match (new_rekey, request.exchange) {

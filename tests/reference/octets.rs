@@ -101,16 +101,25 @@ impl<'f> Octets<'f> {
         Ok(all)
     }
 
-    /// Attributes to the end: the values of one type are read, any other attribute is skipped.
-    pub fn attributes_of<T>(&mut self, kind: Option<u16>, read: fn(Value<'f>) -> Option<T>) -> Read<Vec<T>> {
-        let mut all = Vec::new();
+    /// Attributes to the end, by type and value. None by `read`: the attribute is not as it must be.
+    pub fn attributes(&mut self, mut read: impl FnMut(u16, Value<'f>) -> Option<()>) -> Read<()> {
         while !self.is_empty() {
             let broken = self.broken(Kind::Attribute);
-            let (found, value) = self.attribute().ok_or(broken)?;
-            if kind == Some(found) {
-                all.push(read(value).ok_or(broken)?);
-            }
+            let (kind, value) = self.attribute().ok_or(broken)?;
+            read(kind, value).ok_or(broken)?;
         }
+        Ok(())
+    }
+
+    /// The values of one type among attributes to the end; any other attribute is skipped.
+    pub fn attributes_of<T>(&mut self, kind: Option<u16>, read: fn(Value<'f>) -> Option<T>) -> Read<Vec<T>> {
+        let mut all = Vec::new();
+        self.attributes(|found, value| {
+            if kind == Some(found) {
+                all.push(read(value)?);
+            }
+            Some(())
+        })?;
         Ok(all)
     }
 

@@ -1,11 +1,15 @@
 //! The second member against what document 01 and the standards print: samples, vectors, the example of the program.
 
+#[path = "selftest/cipher.rs"]
+mod cipher;
+#[path = "selftest/requests.rs"]
+mod requests;
+
 use builder::typical::*;
 use builder::wrapping::wrap;
 use builder::{Attribute, Frame, Part, Payload, ESP, REKEY};
-use reference::aes::{Schedule, SBOX};
-use reference::member::{Answer, Condition, Member, Sa};
-use reference::{judging, keywrap, layout, text};
+use reference::member::{Condition, Member, Sa};
+use reference::{judging, layout, text};
 
 const LENT: [u8; 16] = [0x11; 16];
 const REKEY_SPI: [u8; 16] = [0xa5; 16];
@@ -67,97 +71,7 @@ fn entry(id: u32, value: &[u8], kwk_id: u32, kwk: &[u8]) -> Attribute {
 
 fn retiring_sa(start: u32, delay: u16) -> Sa {
     let condition = Condition::Retiring { start, delay };
-    Sa { protocol: ESP, spi: vec![0, 0, 0, 1], keying: keying(20), encryption: 20, condition }
-}
-
-#[test]
-fn sbox_is_inverse_and_affine_map() {
-    let times = |mut a: u32, b: u32| {
-        (0..8).fold(0, |sum, bit| {
-            let next = if b >> bit & 1 == 1 { sum ^ a } else { sum };
-            a = if a & 0x80 != 0 { a << 1 ^ 0x11b } else { a << 1 };
-            next
-        })
-    };
-    for x in 0..256u32 {
-        let inverse = (0..256).find(|&y| times(x, y) == 1).unwrap_or(0);
-        let bit = |i: u32| (inverse >> (i % 8)) & 1;
-        let affine =
-            (0..8).map(|i| (bit(i) ^ bit(i + 4) ^ bit(i + 5) ^ bit(i + 6) ^ bit(i + 7) ^ (0x63 >> i & 1)) << i).sum::<u32>();
-        assert_eq!(SBOX[x as usize] as u32, affine, "entry {x}");
-    }
-}
-
-#[test]
-fn fips_197_vectors() {
-    let block = "00112233445566778899aabbccddeeff";
-    let cases = [
-        ("2b7e151628aed2a6abf7158809cf4f3c", "3243f6a8885a308d313198a2e0370734", "3925841d02dc09fbdc118597196a0b32"),
-        ("000102030405060708090a0b0c0d0e0f", block, "69c4e0d86a7b0430d8cdb78070b4c55a"),
-        ("000102030405060708090a0b0c0d0e0f1011121314151617", block, "dda97ca4864cdfe06eaf70a0ec0d7191"),
-        ("000102030405060708090a0b0c0d0e0f101112131415161718191a1b1c1d1e1f", block, "8ea2b7ca516745bfeafc49904b496089"),
-    ];
-    for (key, plain, cipher) in cases {
-        let schedule = Schedule::expand(&hex(key)).unwrap();
-        let mut state = hex(plain).try_into().unwrap();
-        schedule.cipher(&mut state);
-        assert_eq!(state.to_vec(), hex(cipher));
-        schedule.inverse_cipher(&mut state);
-        assert_eq!(state.to_vec(), hex(plain));
-    }
-    let expansions = [
-        ("2b7e151628aed2a6abf7158809cf4f3c", "b6630ca6"),
-        ("8e73b0f7da0e6452c810f32b809079e562f8ead2522c6b7b", "01002202"),
-        ("603deb1015ca71be2b73aef0857d77811f352c073b6108d72d9810a30914dff4", "706c631e"),
-    ];
-    for (key, word) in expansions {
-        assert_eq!(Schedule::expand(&hex(key)).unwrap().last_word().to_vec(), hex(word));
-    }
-}
-
-#[test]
-fn rfc_5649_vectors() {
-    let key = hex("5840df6e29b02af1ab493b705bf16ea1ae8338f4dcc176a8");
-    let cases = [
-        ("c37b7e6492584340bed12207808941155068f738", "138bdeaa9b8fa7fc61f97742e72248ee5ae6ae5360d1ae6a5f54f373fa543b6a"),
-        ("466f7250617369", "afbeb0f07dfbf5419200f2ccb50bb24f"),
-    ];
-    for (plain, wrapped) in cases {
-        let (plain, wrapped) = (hex(plain), hex(wrapped));
-        let mut room = [0; 264];
-        assert_eq!(keywrap::wrap(&key, &plain, &mut room), Some(wrapped.len()));
-        assert_eq!(room[..wrapped.len()], wrapped);
-        assert_eq!(keywrap::open(&key, &wrapped, &mut room), Some(plain.len()));
-        assert_eq!(room[..plain.len()], plain);
-        assert_eq!(wrap(&key, &plain), wrapped);
-    }
-}
-
-#[test]
-fn both_forms_of_wrapping_agree_and_open() {
-    for size in [16, 24, 32] {
-        for count in 1..=256 {
-            let (key, octets) = (keying(size), vec![count as u8; count]);
-            let mut room = [0; 264];
-            let wrapped = keywrap::wrap(&key, &octets, &mut room).unwrap();
-            assert_eq!(room[..wrapped], wrap(&key, &octets));
-            let mut opened = [0; 256];
-            assert_eq!(keywrap::open(&key, &room[..wrapped], &mut opened), Some(count));
-            assert_eq!(opened[..count], octets);
-        }
-    }
-}
-
-#[test]
-fn sizes_that_neither_wrap_nor_open() {
-    let (key, mut room) = (keying(16), [0; 300]);
-    for count in [0, 257, 264] {
-        assert_eq!(keywrap::wrap(&key, &vec![1; count], &mut room), None);
-    }
-    for count in [0, 8, 15, 17, 23, 25, 265, 272] {
-        assert_eq!(keywrap::open(&key, &vec![1; count], &mut room), None);
-    }
-    assert_eq!(room, [0; 300]);
+    Sa { protocol: ESP, spi: vec![0, 0, 0, 1], keying: keying(20), encryption: 20, condition, lifetime: None }
 }
 
 /// P: start 4,294,967,000, delay 1: at 703 elapsed 999, not due; at 704 due. Delay 0: due at its own start.
@@ -203,69 +117,6 @@ fn sample_chains() {
         assert_eq!(take(&mut member, &LENT, 0, &registration(entries, vec![]).octets()), answer);
         assert_eq!(held_ids(&member), held);
     }
-}
-
-/// T-09: an entry whose Key ID equals its KWK ID gives 6, reached or not.
-#[test]
-fn keys_that_wrap_themselves() {
-    let (five, nine, other) = ([5; 16], [9; 16], [6; 16]);
-    let reached = || entry(5, &five, 0, &LENT);
-    for itself in [entry(5, &five, 5, &five), entry(5, &other, 5, &five), entry(9, &nine, 9, &nine), entry(5, &five, 5, &LENT)] {
-        for entries in [vec![itself.clone()], vec![reached(), itself.clone()], vec![itself.clone(), reached()]] {
-            let mut member = Member::new();
-            assert_eq!(take(&mut member, &LENT, 0, &registration(entries.clone(), vec![]).octets()), 6);
-            assert_eq!(take(&mut member, &[0x11; 28], 0, &registration(entries, vec![]).octets()), 5);
-            assert_eq!(member, Member::new());
-        }
-    }
-}
-
-/// T-02: over the member's own channel, under the lent key alone. The SPIs, the Message ID and the held keys are not asked for.
-#[test]
-fn rekeys_over_the_own_channel() {
-    let esp = |spi: u32, kwk: &[u8]| {
-        let copy = Attribute::key(0, 0, &wrap(kwk, &keying(20)));
-        vec![gsa(vec![esp_policy(&spi.to_be_bytes(), 128)]), kd(vec![bag(ESP, &spi.to_be_bytes(), vec![copy])])]
-    };
-    let next = |copies: &[(u32, &[u8])]| {
-        let copies = copies.iter().map(|(id, kwk)| Attribute::key(0, *id, &wrap(kwk, &keying(36)))).collect();
-        vec![gsa(vec![rekey_policy(&[7; 16], 128, 1)]), kd(vec![bag(REKEY, &[7; 16], copies)])]
-    };
-    let inband = |payloads| frame(GSA_INBAND_REKEY, &[0; 16], u32::MAX, payloads).octets();
-    let five = [5; 16];
-    let mut member = Member::new();
-    assert_eq!(take(&mut member, &LENT, 0, &inband(esp(1, &LENT))), 2);
-    assert_eq!(take(&mut member, &LENT, 0, &registration(vec![entry(5, &five, 0, &LENT)], vec![initial_message_id(9)]).octets()), 0);
-    let before = member.clone();
-    let refused = [
-        (4, [esp(1, &LENT), vec![delete(&[vec![0, 0, 0, 1]])]].concat()),
-        (4, vec![delete(&[vec![0, 0, 0, 1]])]),
-        (4, vec![gsa(vec![]), kd(vec![Part::unnamed(vec![])])]),
-        (6, next(&[(0, &LENT), (0, &LENT)])),
-        (9, next(&[(5, &five)])),
-        (9, next(&[(5, &LENT)])),
-        (9, esp(1, &keying(36)[20..])),
-    ];
-    for (number, payloads) in refused {
-        assert_eq!(take(&mut member, &LENT, 0, &inband(payloads)), number);
-    }
-    assert_eq!(take(&mut member, &[0x11; 20], 0, &inband(esp(1, &LENT))), 5);
-    assert_eq!(member, before);
-    assert_eq!(take(&mut member, &LENT, 0, &inband(esp(1, &LENT))), 0);
-    assert_eq!((member.table.len(), member.least_id, held_ids(&member)), (2, Some(9), vec![5]));
-    assert_eq!(take(&mut member, &LENT, 0, &inband(next(&[(0, &LENT)]))), 0);
-    assert_eq!((member.table.len(), member.least_id, held_ids(&member)), (3, Some(0), vec![5]));
-}
-
-/// What only callers of the library meet: at a tick at which every SA is due the member is empty, and a broken value is 2.
-#[test]
-fn over_the_own_channel_of_no_member() {
-    let frame = frame(GSA_INBAND_REKEY, &[0; 16], 0, esp_sas(&[2])).octets();
-    let mut due = Member { table: vec![retiring_sa(0, 1)], ..Member::new() };
-    assert_eq!(take(&mut due, &keying(36)[20..], 1000, &frame), 2);
-    assert_eq!(take(&mut due, &keying(36)[20..], 999, &frame), 0);
-    let mut broken = Member { held: vec![(0, vec![0; 16])], ..registered(vec![]) };
-    assert_eq!(take(&mut broken, &keying(36)[20..], 0, &frame), 2);
 }
 
 /// P: a 28-octet default key: 5.
@@ -386,21 +237,6 @@ fn values_that_are_no_members() {
     for (i, held) in lists.into_iter().enumerate() {
         assert!(!Member { held, ..Member::new() }.is_whole(), "held list {i}");
     }
-}
-
-/// T-06: the offset of a broken layout; a refusal by another number, and acceptance, carry 0. Transcript `where` has each place.
-#[test]
-fn offsets() {
-    let mut octets = registration(vec![], vec![]).octets();
-    let answer = |octets: &[u8], lent: &[u8]| Member::new().take(lent, 0, octets);
-    assert_eq!(answer(&octets, &LENT), Answer { number: 0, offset: 0 });
-    assert_eq!(answer(&octets, &[]), Answer { number: 5, offset: 0 });
-    octets[52] = 9; // the type of the source selector
-    assert_eq!(answer(&octets, &LENT), Answer { number: 1, offset: 52 });
-    octets[32] = 9; // the protocol of its policy
-    assert_eq!(answer(&octets, &LENT), Answer { number: 1, offset: 32 });
-    octets.pop();
-    assert_eq!(answer(&octets, &LENT), Answer { number: 1, offset: 0 });
 }
 
 #[test]

@@ -2,7 +2,7 @@
 //! it. The first line is the lent default key, as for the member program.
 
 use crate::layout::REKEY;
-use crate::member::{Condition, Member, Sa};
+use crate::member::{Condition, Lifetime, Member, Sa};
 use crate::text::{default_key, octets, read_line, tick_and_frame, MOST_DIGITS};
 use std::fmt::Write as _;
 use std::io::{BufRead, Result, Write};
@@ -99,10 +99,15 @@ pub fn whole(member: &Member) -> String {
     text
 }
 
+/// Live or retiring, and the lifetime.
 fn condition(sa: &Sa) -> String {
-    match sa.condition {
+    let condition = match sa.condition {
         Condition::Live => "live".to_string(),
         Condition::Retiring { start, delay } => format!("retiring {start} {delay}"),
+    };
+    match sa.lifetime {
+        None => format!("{condition} life none"),
+        Some(Lifetime { start, seconds }) => format!("{condition} life {start} {seconds}"),
     }
 }
 

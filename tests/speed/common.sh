@@ -50,7 +50,8 @@ heading() {
 }
 
 # members INPUT: a row with the milliseconds on INPUT.in of the second member, of the member program of another build, where BEFORE names
-# its directory, and of the member program; the ratios, the lines in a second, and the peak memory of each.
+# its directory, and of the member program; the ratios, the lines in a second, and the peak memory of each. Sets `hundredths` to the ratio
+# to the second member.
 members() {
   local product second_took before_took='' before_memory=- lines
   product=$(tests/product member) || return 1
@@ -63,6 +64,7 @@ members() {
     before_memory=$(thousands "$(target/tests/peak "$BEFORE/member" "$1.in")")
   fi
   trial "$1" "$product" || return 1
+  hundredths=$(((best * 100 + second_took / 2) / (second_took > 0 ? second_took : 1)))
   printf '%-12s %9s %9s %9s %10s %10s %9s %9s %9s %9s\n' "${1##*/}" "$(thousands "$second_took")" "$(thousands "${before_took:--}")" \
     "$(thousands "$best")" "$(ratio "$best" "$second_took")" "$(ratio "$best" "$before_took")" \
     "$(thousands $((lines * 1000 / (best > 0 ? best : 1))))" "$(thousands "$(target/tests/peak "$second" "$1.in")")" "$before_memory" \

@@ -114,7 +114,7 @@ fn questions() -> Transcript {
     ask(&mut t, "a new member", ESP, &spi(1), "none");
     t.frame("Rekey SA a0, ESP SAs 1 to 3, key 9", 0, &full_registration(&lent()), "answer 0");
     t.then(&member(&live(), 16, 0));
-    let found = |octets: &[u8], condition: &str| format!("found {} {condition}", text(octets));
+    let found = |octets: &[u8], condition: &str| format!("found {} {condition} life none", text(octets));
     for number in 1..=3 {
         ask(&mut t, "an ESP SA", ESP, &spi(number), &found(&keying(number), "live"));
     }

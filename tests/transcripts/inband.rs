@@ -10,7 +10,7 @@ pub fn all() -> Vec<Transcript> {
 }
 
 /// One whose SPIs no SA has.
-fn inband(payloads: Vec<Payload>) -> Frame {
+pub fn inband(payloads: Vec<Payload>) -> Frame {
     frame(GSA_INBAND_REKEY, &[0; 16], 0, payloads)
 }
 

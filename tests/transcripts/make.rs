@@ -5,6 +5,7 @@
 
 mod calls;
 mod inband;
+mod lifetimes;
 mod meanings;
 mod parts;
 mod places;
@@ -92,7 +93,16 @@ fn main() -> ExitCode {
         eprintln!("transcripts DIRECTORY");
         return ExitCode::from(2);
     };
-    let all = [runs::all(), times::all(), inband::all(), meanings::all(), refusals::all(), places::all(), calls::all()];
+    let all = [
+        runs::all(),
+        times::all(),
+        inband::all(),
+        lifetimes::all(),
+        meanings::all(),
+        refusals::all(),
+        places::all(),
+        calls::all(),
+    ];
     for transcript in all.iter().flatten() {
         if let Err(error) = transcript.write(Path::new(&directory)) {
             eprintln!("{directory}: {error}");

@@ -102,23 +102,23 @@ pub fn spi(number: u32) -> Vec<u8> {
     number.to_be_bytes().to_vec()
 }
 
-/// The line of `trace` for the ESP SA of that SPI.
+/// The line of `trace` for the ESP SA of that SPI, without a lifetime.
 pub fn esp_text(number: u32, condition: &str) -> String {
     esp_text_of(number, &esp_keying(), condition)
 }
 
 pub fn esp_text_of(number: u32, keying: &[u8], condition: &str) -> String {
-    format!("sa 3 {number:08x} {} 0 0 {condition}", text(keying))
+    format!("sa 3 {number:08x} {} 0 0 {condition} life none", text(keying))
 }
 
-/// The line of `trace` for the Rekey SA of that SPI, with 20 and 16 octets.
+/// The line of `trace` for the Rekey SA of that SPI, with 20 and 16 octets, without a lifetime.
 pub fn rekey_text(fill: u8, condition: &str) -> String {
     rekey_text_of(fill, &rekey_keying(fill, 36), 20, condition)
 }
 
 /// The same for any octets, of which the first so many are for encryption.
 pub fn rekey_text_of(fill: u8, keying: &[u8], first: usize, condition: &str) -> String {
-    format!("sa 6 {} {} {first} {} {condition}", text(&rekey_spi(fill)), text(keying), keying.len() - first)
+    format!("sa 6 {} {} {first} {} {condition} life none", text(&rekey_spi(fill)), text(keying), keying.len() - first)
 }
 
 pub fn held_text(id: u32, value: &[u8]) -> String {

@@ -33,11 +33,12 @@ lines =
     line place.OtherTransform 18 meaning.Skipped ∷
     -- RFC 9838, section 4.4.2.2: GSA_KEY_LIFETIME 1, GSA_INITIAL_MESSAGE_ID 2 (GIKE_UPDATE alone), GSA_NEXT_SPI 3
     line place.RekeyPolicy 0 meaning.Skipped ∷
-    line place.RekeyPolicy 1 meaning.Skipped ∷
+    line place.RekeyPolicy 1 meaning.KeyLifetime ∷
     line place.RekeyPolicy 2 meaning.InitialMessageId ∷
     line place.RekeyPolicy 3 meaning.Skipped ∷
     line place.RekeyPolicy 14 meaning.Skipped ∷
-    line place.DataPolicy 1 meaning.Skipped ∷
+    line place.DataPolicy 0 meaning.Skipped ∷
+    line place.DataPolicy 1 meaning.KeyLifetime ∷
     line place.DataPolicy 2 meaning.Skipped ∷
     line place.DataPolicy 3 meaning.Skipped ∷
     -- section 4.4.3.1: GWP_ATD 1, GWP_DTD 2, GWP_SENDER_ID_BITS 3
@@ -100,6 +101,14 @@ forms =
     tlv meaning.InitialMessageId 3 false ∷
     tlv meaning.InitialMessageId 5 false ∷
     tlv meaning.InitialMessageId 8 false ∷
+    -- GSA_KEY_LIFETIME is TLV with "a 4-octet unsigned integer"
+    tlv meaning.KeyLifetime 4 true ∷
+    tv meaning.KeyLifetime false ∷
+    tlv meaning.KeyLifetime 0 false ∷
+    tlv meaning.KeyLifetime 2 false ∷
+    tlv meaning.KeyLifetime 3 false ∷
+    tlv meaning.KeyLifetime 5 false ∷
+    tlv meaning.KeyLifetime 8 false ∷
     -- SA_KEY and WRAP_KEY are TLV: two IDs of 4 octets, then "wrapped octets (16 to 264, a multiple of 8)"
     tv meaning.SaKey false ∷
     tlv meaning.SaKey 0 false ∷

@@ -1,6 +1,6 @@
 -- Which attribute is read where, in which format and size. Document 01: "Read, in the format and size of 001's tables, are Key Length in a
 -- type 1 transform, GSA_INITIAL_MESSAGE_ID in a Rekey policy, the deactivation delay in a group-wide policy, SA_KEY and WRAP_KEY; any other
--- is skipped (house)."
+-- is skipped (house)." Document 02, T-07: "GSA_KEY_LIFETIME, read in every policy": in every Group SA policy.
 use Prim.Native.Nat.{ℕ, _%_}
 use mathlib.Core.Bool.{Bool, true, not}
 use lib.Dec.{leb, eqb}
@@ -14,8 +14,8 @@ use Rattle.attributes.specs.declared.tables.Meaning.the-variants as mean
 abbrev pub meaningOf : Place → ℕ → Meaning
 meaningOf place.EncryptionTransform k = either (eqb k 14) meaning.KeyLength meaning.Skipped
 meaningOf place.OtherTransform k = meaning.Skipped
-meaningOf place.RekeyPolicy k = either (eqb k 2) meaning.InitialMessageId meaning.Skipped
-meaningOf place.DataPolicy k = meaning.Skipped
+meaningOf place.RekeyPolicy k = either (eqb k 1) meaning.KeyLifetime (either (eqb k 2) meaning.InitialMessageId meaning.Skipped)
+meaningOf place.DataPolicy k = either (eqb k 1) meaning.KeyLifetime meaning.Skipped
 meaningOf place.GroupWidePolicy k = either (eqb k 2) meaning.DeactivationDelay meaning.Skipped
 meaningOf place.RekeyBag k = either (eqb k 1) meaning.SaKey meaning.Skipped
 meaningOf place.DataBag k = either (eqb k 1) meaning.SaKey meaning.Skipped
@@ -25,12 +25,17 @@ meaningOf place.MemberBag k = either (eqb k 1) meaning.WrapKey meaning.Skipped
 abbrev pub wrappedSize : ℕ → Bool
 wrappedSize n = both (leb 24 n) (both (leb n 272) (eqb (n % 8) 0))
 
+-- a number of 4 octets, TLV: GSA_INITIAL_MESSAGE_ID, and GSA_KEY_LIFETIME, "a 4-octet unsigned integer" (RFC 9838, section 4.4.2.2.1)
+abbrev pub fourOctets : Bool → ℕ → Bool
+fourOctets short n = both (not short) (eqb n 4)
+
 -- the format (short is TV) and the size of the value that each has by those tables; what is skipped may have any
 abbrev pub formed : Meaning → Bool → ℕ → Bool
 formed meaning.Skipped short n = true
 formed meaning.KeyLength short n = short
-formed meaning.InitialMessageId short n = both (not short) (eqb n 4)
+formed meaning.InitialMessageId short n = fourOctets short n
 formed meaning.DeactivationDelay short n = short
+formed meaning.KeyLifetime short n = fourOctets short n
 formed meaning.SaKey short n = both (not short) (wrappedSize n)
 formed meaning.WrapKey short n = both (not short) (wrappedSize n)
 

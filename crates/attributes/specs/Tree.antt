@@ -36,8 +36,9 @@ codeOf meaning.Skipped = 0
 codeOf meaning.KeyLength = 1
 codeOf meaning.InitialMessageId = 2
 codeOf meaning.DeactivationDelay = 3
-codeOf meaning.SaKey = 4
-codeOf meaning.WrapKey = 5
+codeOf meaning.KeyLifetime = 4
+codeOf meaning.SaKey = 5
+codeOf meaning.WrapKey = 6
 
 abbrev pub means : Meaning → Place → Attribute → Bool
 means m p a = eqb (codeOf (meaningOf p (a .kind))) (codeOf m)
@@ -54,7 +55,7 @@ two v = be16 v 0
 abbrev pub four : List ℕ → ℕ
 four v = be32 v 0
 
--- what those attributes say: Key Length in bits, the first Message ID, the delay in seconds, the wrapped keys
+-- what those attributes say: Key Length in bits, the first Message ID, the delay and the lifetime in seconds, the wrapped keys
 abbrev pub keyLengths : Place → List Attribute → List ℕ
 keyLengths p l = map two (valuesOf meaning.KeyLength p l)
 
@@ -63,6 +64,9 @@ initialMessageIds p l = map four (valuesOf meaning.InitialMessageId p l)
 
 abbrev pub deactivationDelays : Place → List Attribute → List ℕ
 deactivationDelays p l = map two (valuesOf meaning.DeactivationDelay p l)
+
+abbrev pub keyLifetimes : Place → List Attribute → List ℕ
+keyLifetimes p l = map four (valuesOf meaning.KeyLifetime p l)
 
 abbrev pub saKeys : Place → List Attribute → List SaKey
 saKeys p l = map saKeyOf (valuesOf meaning.SaKey p l)

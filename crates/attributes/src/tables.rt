@@ -1,7 +1,7 @@
 // Which attribute is read where, in which format and size.
 ghost use mathlib.Core.Path.{_≡_};
 ghost use Prim.Native.Nat.{_<_};
-ghost use Rattle.attributes.specs.Place.{meaningOf, wrappedSize, formed, inTransform, inPolicy, inBag};
+ghost use Rattle.attributes.specs.Place.{meaningOf, wrappedSize, fourOctets, formed, inTransform, inPolicy, inBag};
 ghost use Rattle.attributes.specs.Tree.{codeOf};
 
 // Where an attribute stands.
@@ -22,6 +22,7 @@ pub enum Meaning {
     KeyLength,
     InitialMessageId,
     DeactivationDelay,
+    KeyLifetime,
     SaKey,
     WrapKey,
 }
@@ -38,6 +39,9 @@ pub fn meaning_in(place: Place, kind: usize) -> Meaning
             Meaning::Skipped
         }
         Place::RekeyPolicy => {
+            if kind == 1 {
+                return Meaning::KeyLifetime;
+            }
             if kind == 2 {
                 return Meaning::InitialMessageId;
             }
@@ -67,8 +71,13 @@ pub fn meaning_in(place: Place, kind: usize) -> Meaning
             }
             Meaning::Skipped
         }
+        Place::DataPolicy => {
+            if kind == 1 {
+                return Meaning::KeyLifetime;
+            }
+            Meaning::Skipped
+        }
         Place::OtherTransform => Meaning::Skipped,
-        Place::DataPolicy => Meaning::Skipped,
     }
 }
 
@@ -85,6 +94,16 @@ fn is_wrapped_size(n: usize) -> bool
     n % 8 == 0
 }
 
+// Whether a value stands as TLV and has four octets.
+fn is_four_octets(short: bool, n: usize) -> bool
+    ensures { λ r. ⌜ r ≡ fourOctets short n ⌝ }
+{
+    if short {
+        return false;
+    }
+    n == 4
+}
+
 // Whether an attribute has the format and the size of value that its meaning asks for. Internal.
 pub fn is_formed(m: Meaning, short: bool, n: usize) -> bool
     ensures { λ r. ⌜ r ≡ formed m short n ⌝ }
@@ -93,12 +112,8 @@ pub fn is_formed(m: Meaning, short: bool, n: usize) -> bool
         Meaning::Skipped => true,
         Meaning::KeyLength => short,
         Meaning::DeactivationDelay => short,
-        Meaning::InitialMessageId => {
-            if short {
-                return false;
-            }
-            n == 4
-        }
+        Meaning::InitialMessageId => is_four_octets(short, n),
+        Meaning::KeyLifetime => is_four_octets(short, n),
         Meaning::SaKey => {
             if short {
                 return false;
@@ -153,7 +168,8 @@ pub fn code(m: Meaning) -> usize
         Meaning::KeyLength => 1,
         Meaning::InitialMessageId => 2,
         Meaning::DeactivationDelay => 3,
-        Meaning::SaKey => 4,
-        Meaning::WrapKey => 5,
+        Meaning::KeyLifetime => 4,
+        Meaning::SaKey => 5,
+        Meaning::WrapKey => 6,
     }
 }

@@ -23,11 +23,12 @@ use Rattle.contents.specs.inner.Values.{isWhole, attributesIn, valuesIn}
 use Rattle.contents.proofs.ValuesLaws.{whole-is}
 use Rattle.bagkeys.specs.inner.Facts.{isKey}
 
-by-code : (x : Meaning) → isKey x ≡ leb 4 (codeOf x)
+by-code : (x : Meaning) → isKey x ≡ leb 5 (codeOf x)
 by-code meaning.Skipped = refl
 by-code meaning.KeyLength = refl
 by-code meaning.InitialMessageId = refl
 by-code meaning.DeactivationDelay = refl
+by-code meaning.KeyLifetime = refl
 by-code meaning.SaKey = refl
 by-code meaning.WrapKey = refl
 
@@ -39,12 +40,13 @@ key-sized meaning.Skipped short n k e = absurd (false≢true k)
 key-sized meaning.KeyLength short n k e = absurd (false≢true k)
 key-sized meaning.InitialMessageId short n k e = absurd (false≢true k)
 key-sized meaning.DeactivationDelay short n k e = absurd (false≢true k)
+key-sized meaning.KeyLifetime short n k e = absurd (false≢true k)
 key-sized meaning.SaKey short n k e = wrapped-sized short n e
 key-sized meaning.WrapKey short n k e = wrapped-sized short n e
 
 module _ (m : Meaning) (k : isKey m ≡ true) (p : Place) where
   is-key : (x : Meaning) → eqb (codeOf x) (codeOf m) ≡ true → isKey x ≡ true
-  is-key x e = by-code x ∙ ap (leb 4) (eqb-true (codeOf x) (codeOf m) e) ∙ sym (by-code m) ∙ k
+  is-key x e = by-code x ∙ ap (leb 5) (eqb-true (codeOf x) (codeOf m) e) ∙ sym (by-code m) ∙ k
 
   sized-in : {s : List ℕ} {l : List Attribute} → Attributes p s l → (v : List ℕ) (r : List (List ℕ)) → valuesOf m p l ≡ v ∷ r →
       24 ≤ length v

@@ -8,6 +8,7 @@ use crate::values::held_keys;
 use crate::values::held_of;
 use crate::values::key;
 use crate::values::key_at_the_end;
+use crate::values::lasting;
 use crate::values::member_of;
 use crate::values::rekey;
 use crate::values::retiring;
@@ -49,6 +50,7 @@ fn sa_fields() {
     beside(b"another first part", first(sa_of(ESP, 1, 20, 1, 0)));
     beside(b"another second part", first(sa_of(ESP, 1, 20, 0, 1)));
     beside(b"another condition", first(retiring(s)));
+    beside(b"a lifetime", first(lasting(s, 0)));
 }
 
 fn other_fields() {

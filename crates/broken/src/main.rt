@@ -1,6 +1,6 @@
 // For tests: member values that break the list of what a member is. No line of input and no call of the library makes one. On each of them
 // `receive`, `sweep`, `leave` and `sa` are called, and what they give is printed, after a value that keeps the list. Before that stands what
-// the program's own comparison of members tells apart.
+// the program's own comparison of members tells apart; last come frames over the member's own channel.
 mod apart;
 mod same;
 mod values;
@@ -15,6 +15,7 @@ use values::esp;
 use values::held_keys;
 use values::held_of;
 use values::key;
+use values::lasting;
 use values::member_of;
 use values::rekey;
 use values::retiring;
@@ -84,10 +85,9 @@ pub(crate) fn compared(m: Member, next: Member) {
     }
 }
 
-fn received(m: Member) {
-    let f = frame();
+fn received(m: Member, f: &[u8]) {
     let lent = [0u8; 16];
-    let r = m.receive(&f, &lent, TICK);
+    let r = m.receive(f, &lent, TICK);
     let a = r.answer;
     let next = r.member;
     io::print_decimal(STDOUT_FILENO, a.number() as u64);
@@ -121,7 +121,8 @@ fn asked(m: Member) {
 fn tried(name: &[u8], m: Member) {
     print(name);
     print(b": receive ");
-    received(m);
+    let f = frame();
+    received(m, &f);
     print(b", sweep ");
     let swept = m.sweep(TICK);
     compared(m, swept);
@@ -233,6 +234,24 @@ fn sizes() {
     );
 }
 
+fn lifetimes() {
+    let r = rekey(160, 36, 20, 16);
+    tried(
+        b"an ESP SA with a lifetime of 2000001 seconds",
+        member_of(
+            table_of(lasting(esp(1, 20), 2000001), retiring(esp(2, 20)), r, 3),
+            held_keys(2),
+        ),
+    );
+    tried(
+        b"a Rekey SA with a lifetime of 4294967295 seconds",
+        member_of(
+            table_of(esp(1, 20), retiring(esp(2, 20)), lasting(r, 4294967295), 3),
+            held_keys(2),
+        ),
+    );
+}
+
 fn held_lists() {
     tried(
         b"Key ID 0",
@@ -252,10 +271,46 @@ fn held_lists() {
     );
 }
 
+// The frame as a GSA_INBAND_REKEY (exchange type 42).
+fn tried_in_band(name: &[u8], m: Member) {
+    print(name);
+    print(b": receive ");
+    let mut f = frame();
+    f[18] = 42;
+    received(m, &f);
+    print(b"\n");
+}
+
+// D is 4 there; a member whose SAs are all due is empty, so 2.
+fn in_band() {
+    let r = rekey(160, 36, 20, 16);
+    tried_in_band(b"in-band, as it must be", member_of(sas(3), held_keys(2)));
+    tried_in_band(
+        b"in-band, every SA due",
+        member_of(
+            table_of(retiring(esp(1, 20)), retiring(esp(2, 20)), retiring(r), 3),
+            held_keys(2),
+        ),
+    );
+    tried_in_band(
+        b"in-band, one SA not due",
+        member_of(
+            table_of(retiring(esp(1, 20)), esp(2, 20), retiring(r), 3),
+            held_keys(2),
+        ),
+    );
+    tried_in_band(
+        b"in-band, a name twice",
+        member_of(table_of(esp(1, 20), esp(1, 20), r, 3), held_keys(2)),
+    );
+}
+
 fn main() {
     apart::each();
     counts();
     orders();
     sizes();
+    lifetimes();
     held_lists();
+    in_band();
 }

@@ -4,6 +4,7 @@ use group::SaAnswer;
 use keys::limits::HELD_KEYS;
 use keys::limits::SAS;
 use sa::entry::Condition;
+use sa::entry::Lifetime;
 use sa::entry::Sa;
 use state::held::Held;
 use state::held::HeldKey;
@@ -15,6 +16,21 @@ fn of_condition(c: Condition) -> u64 {
     match c {
         Condition::Live => 0,
         Condition::Retiring { start, delay } => 1 + (start as u64) * 65536 + (delay as u64),
+    }
+}
+
+// Numbers that tell each lifetime from every other: of its start, of its seconds.
+fn of_start(l: Lifetime) -> u64 {
+    match l {
+        Lifetime::Unlimited => 0,
+        Lifetime::Limited { start, seconds: _ } => 1 + (start as u64),
+    }
+}
+
+fn of_seconds(l: Lifetime) -> u64 {
+    match l {
+        Lifetime::Unlimited => 0,
+        Lifetime::Limited { start: _, seconds } => 1 + (seconds as u64),
     }
 }
 
@@ -45,6 +61,11 @@ fn same_sas(a: Sa, b: Sa) -> bool {
         return false;
     }
     if a.encryption != b.encryption || a.wrapping != b.wrapping {
+        return false;
+    }
+    let l = a.lifetime;
+    let m = b.lifetime;
+    if of_start(l) != of_start(m) || of_seconds(l) != of_seconds(m) {
         return false;
     }
     let x = a.spi;
@@ -112,7 +133,8 @@ pub(crate) fn is_none(a: SaAnswer) -> bool {
     if a.found || a.count != 0 || of_condition(c) != 0 {
         return false;
     }
-    if a.encryption != 0 || a.wrapping != 0 {
+    let l = a.lifetime;
+    if a.encryption != 0 || a.wrapping != 0 || of_start(l) != 0 {
         return false;
     }
     let o = a.octets;

@@ -5,6 +5,7 @@ use keys::limits::HELD_KEYS;
 use keys::limits::SAS;
 use sa::entry::Condition;
 use sa::entry::ESP;
+use sa::entry::Lifetime;
 use sa::entry::REKEY;
 use sa::entry::Sa;
 use state::State;
@@ -29,6 +30,7 @@ pub(crate) fn sa_of(
         encryption,
         wrapping,
         condition: Condition::Live,
+        lifetime: Lifetime::Unlimited,
     }
 }
 
@@ -45,6 +47,7 @@ pub(crate) fn retiring(s: Sa) -> Sa {
     let spi = s.spi;
     let octets = s.octets;
     let condition = Condition::Retiring { start: 0, delay: 0 };
+    let lifetime = s.lifetime;
     Sa {
         protocol: s.protocol,
         spi,
@@ -53,6 +56,25 @@ pub(crate) fn retiring(s: Sa) -> Sa {
         encryption: s.encryption,
         wrapping: s.wrapping,
         condition,
+        lifetime,
+    }
+}
+
+// It has a lifetime of so many seconds from tick 0 on.
+pub(crate) fn lasting(s: Sa, seconds: u32) -> Sa {
+    let spi = s.spi;
+    let octets = s.octets;
+    let condition = s.condition;
+    let lifetime = Lifetime::Limited { start: 0, seconds };
+    Sa {
+        protocol: s.protocol,
+        spi,
+        octets,
+        count: s.count,
+        encryption: s.encryption,
+        wrapping: s.wrapping,
+        condition,
+        lifetime,
     }
 }
 

@@ -11,7 +11,7 @@ use Rattle.keys.specs.Limits.{Limits, limits}
 use Rattle.keys.specs.Kinds.{rekeySizes}
 use Rattle.keys.specs.Algorithms.{isRowOf, neededIn, neededBy, sizeOf}
 use Rattle.sa.specs.Clock.{elapsedAtLeast}
-use Rattle.sa.specs.Entry.{before, named, formed, liveRekey, due, espSa, rekeySa}
+use Rattle.sa.specs.Entry.{before, named, sized, formed, liveRekey, due, espSa, rekeySa}
 use Rattle.table.specs.Table.{tableOf, tableFormed, emptyAt}
 use Rattle.state.specs.Held.{heldOf, keyFormed, heldFormed}
 use Rattle.state.specs.declared.State.{State}
@@ -25,11 +25,12 @@ use Rattle.clauses.specs.Number2.{nonEmptyMember, otherSpis}
 use Rattle.clauses.specs.Number3.{notAcceptable}
 use Rattle.clauses.specs.Number4.{criticalUnknown, barredMemberBag, barredDelete, twoGsa, twoKd, gsaWithoutKd, kdWithoutGsa, neither}
 use Rattle.clauses.specs.Number4.{severalRekeyPolicies, severalGroupWide, severalMemberBags, gsaWithoutSaPolicy, keyLengthTwice}
-use Rattle.clauses.specs.Number4.{initialMessageIdTwice, delayTwice, otherDestination, four-ofFrame}
+use Rattle.clauses.specs.Number4.{initialMessageIdTwice, delayTwice, otherDestination, lifetimeTwice, four-ofFrame}
 use Rattle.clauses.specs.Number5.{ahPolicy, ahBag, otherTransforms, deleteOfOther, deleteOfNone, lentKeySize, five-ofFrame}
 use Rattle.clauses.specs.Number6.{policyUnpaired, bagUnpaired, policyTwice, bagTwice, alreadyInTable, otherSaKeyCount, saKeyCount}
 use Rattle.clauses.specs.Number6.{saKeyId, espKwkId, wrapKeyId, wrapsItself, six-ofFrame, six-ofMember}
-use Rattle.clauses.specs.Number7.{manyEspPolicies, manyWrapKeys, manySaKeys, manyDeletedSpis, manySas, seven-ofFrame, seven-ofMember}
+use Rattle.clauses.specs.Number7.{manyEspPolicies, manyWrapKeys, manySaKeys, manyDeletedSpis, longLifetime, manySas}
+use Rattle.clauses.specs.Number7.{seven-ofFrame, seven-ofMember}
 use Rattle.clauses.specs.Refusals.{Number, one, judged, two, four, five, six, seven, numbers, refusal}
 use Rattle.clauses.proofs.Halves.{frameHalf}
 use Rattle.clauses.proofs.SampleParts.{liveSpi, rekeySuite, group, saPolicy, frameOf, tick, Sample, answerWithin}
@@ -39,6 +40,7 @@ use Rattle.clauses.proofs.SamplesOf5.{samplesOf5}
 use Rattle.clauses.proofs.SamplesOf6.{samplesOf6}
 use Rattle.clauses.proofs.SamplesOf7.{samplesOf7}
 use Rattle.clauses.proofs.SamplesOfLimits.{samplesOfLimits}
+use Rattle.clauses.proofs.SamplesOfLifetimes.{samplesOfLifetimes, samplesOfRoom}
 use Rattle.clauses.proofs.SamplesInband.{samplesInband}
 use Rattle.clauses.proofs.SamplesAlone.{Alone, alone2, alone4, alone5, alone6, alone7}
 
@@ -52,7 +54,7 @@ Answered l = AnsweredWithin limits l
 -- the places of those that apply, in a list of clauses counted from n
 unfoldable pub placesFrom : ℕ → List Bool → List ℕ
 placesFrom n [] = []
-placesFrom n (b ∷ l) = cond b (n ∷ placesFrom (n + 1) l) (placesFrom (n + 1) l)
+placesFrom n (b ∷ l) = cond b (n ∷ []) [] ++ placesFrom (n + 1) l
 
 abbrev clausesMet : Number → List ℕ
 clausesMet n = placesFrom 0 (n .ofFrame ++ n .ofMember)
@@ -93,6 +95,9 @@ pub record Samples : Type 0 where
   pub of-5 : Answered samplesOf5
   pub of-6 : Answered samplesOf6
   pub of-7 : Answered samplesOf7
+  -- document 02, T-07
+  pub of-lifetimes : Answered samplesOfLifetimes
+  pub of-room : AnsweredWithin apart samplesOfRoom
   pub of-inband : Answered samplesInband
   -- each clause that can be met alone, in each exchange that can meet it
   pub alone-2 : MetAlone twoOf alone2
@@ -102,7 +107,7 @@ pub record Samples : Type 0 where
   pub alone-7 : MetAlone sevenOf alone7
   -- of the member are "registration of a non-empty member", GSA_INBAND_REKEY of an empty one, "rekey whose two SPIs are not ..; a member
   -- value that breaks its list" (2), "already in the table" (6) and "over 16 SAs after the frame" (7; T-01: 64)
-  pub halves : ByFrame 1 alone2 × ByFrame 16 alone4 × ByFrame 6 alone5 × ByFrame 9 alone6 × ByFrame 4 alone7
+  pub halves : ByFrame 1 alone2 × ByFrame 17 alone4 × ByFrame 6 alone5 × ByFrame 9 alone6 × ByFrame 5 alone7
   -- under six figures that differ
   pub of-limits : AnsweredWithin apart samplesOfLimits
   -- GSA_AUTH (39) and GSA_REGISTRATION (40) are answered alike, whatever their payloads
@@ -114,13 +119,13 @@ pub record Samples : Type 0 where
 
 pub samples-answered : Samples
 unfolding refusal judged one any all count keep heads rising newState stateFormed tableFormed heldFormed tableOf heldOf keyFormed formed
-    before less same orderOf named liveRekey due espSa rekeySa elapsedAtLeast rekeySizes sizeOf neededBy neededIn isRowOf emptyAt gather sum
-    exactly multicast nonEmptyMember otherSpis notAcceptable oneGroupAddress encryptionFits keyWrapFits sequenceNumbersFit
+    sized before less same orderOf named liveRekey due espSa rekeySa elapsedAtLeast rekeySizes sizeOf neededBy neededIn isRowOf emptyAt
+    gather sum exactly multicast nonEmptyMember otherSpis notAcceptable oneGroupAddress encryptionFits keyWrapFits sequenceNumbersFit
     authenticationFits transformsFit criticalUnknown barredMemberBag barredDelete twoGsa twoKd gsaWithoutKd kdWithoutGsa neither
     severalRekeyPolicies severalGroupWide severalMemberBags gsaWithoutSaPolicy keyLengthTwice initialMessageIdTwice delayTwice
-    otherDestination four-ofFrame ahPolicy ahBag otherTransforms deleteOfOther deleteOfNone lentKeySize five-ofFrame policyUnpaired
-    bagUnpaired policyTwice bagTwice alreadyInTable otherSaKeyCount saKeyCount saKeyId espKwkId wrapKeyId wrapsItself six-ofFrame
-    six-ofMember manyEspPolicies manyWrapKeys manySaKeys manyDeletedSpis manySas seven-ofFrame seven-ofMember placesFrom
+    otherDestination lifetimeTwice four-ofFrame ahPolicy ahBag otherTransforms deleteOfOther deleteOfNone lentKeySize five-ofFrame
+    policyUnpaired bagUnpaired policyTwice bagTwice alreadyInTable otherSaKeyCount saKeyCount saKeyId espKwkId wrapKeyId wrapsItself
+    six-ofFrame six-ofMember manyEspPolicies manyWrapKeys manySaKeys manyDeletedSpis longLifetime manySas seven-ofFrame seven-ofMember placesFrom
 samples-answered =
     record {
       of-2-and-3 = refl;
@@ -128,6 +133,8 @@ samples-answered =
       of-5 = refl;
       of-6 = refl;
       of-7 = refl;
+      of-lifetimes = refl;
+      of-room = refl;
       of-inband = refl;
       alone-2 = (refl, refl);
       alone-4 = (refl, refl);

@@ -18,6 +18,7 @@ pub mod SamplesOf5
 pub mod SamplesOf6
 pub mod SamplesOf7
 pub mod SamplesOfLimits
+pub mod SamplesOfLifetimes
 pub mod SamplesInband
 pub mod SamplesAlone
 pub mod AllSamples

@@ -12,7 +12,8 @@ use Rattle.clauses.specs.Contents.{rowOf, several, hasGsa, hasKd, isGsa,
 use Rattle.clauses.specs.Fitness.{isRekey, oneGroupAddress}
 use Rattle.clauses.specs.Number4.{criticalUnknown, barredMemberBag, barredDelete, twoGsa, twoKd, gsaWithoutKd, kdWithoutGsa, neither}
 use Rattle.clauses.specs.Number4.{severalRekeyPolicies, severalGroupWide, severalMemberBags, gsaWithoutSaPolicy, keyLengthTwice}
-use Rattle.clauses.specs.Number4.{initialMessageIdTwice, delayTwice, otherDestination, unknownCritical, withoutSaPolicy}
+use Rattle.clauses.specs.Number4.{initialMessageIdTwice, delayTwice, otherDestination, lifetimeTwice, unknownCritical}
+use Rattle.clauses.specs.Number4.{withoutSaPolicy}
 use Rattle.clauses.specs.Number4.{twiceInTransform, four-ofFrame}
 use Rattle.clauses.specs.Reordered.{ContentReordered, in-gsa, in-kd, in-delete, not-read, PayloadReordered, Reordered}
 use Rattle.clauses.proofs.AnyOrder.{any-order, any-equal, count-order, count-equal, length-order, gather-order}
@@ -112,9 +113,13 @@ module _ {f g : Frame} (r : Reordered f g) where
   destination-kept =
       any-equal (λ (a : GroupSaPolicy). isRekey a && not (oneGroupAddress (a .destination))) (announced-order r)
 
+  lifetime-kept : lifetimeTwice f ≡ lifetimeTwice g
+  unfolding lifetimeTwice
+  lifetime-kept = any-equal (λ (a : GroupSaPolicy). several (a .keyLifetimes)) (announced-order r)
+
   pub four-kept : four-ofFrame f ≡ four-ofFrame g
   unfolding four-ofFrame
   four-kept = λ i.
       critical-kept i ∷ member-bag-kept i ∷ delete-kept i ∷ two-gsa-kept i ∷ two-kd-kept i ∷ without-kd-kept i ∷ without-gsa-kept i ∷
       neither-kept i ∷ rekeys-kept i ∷ wides-kept i ∷ member-bags-kept i ∷ without-policy-kept i ∷ key-length-kept i ∷ initial-kept i ∷
-      delay-kept i ∷ destination-kept i ∷ []
+      delay-kept i ∷ destination-kept i ∷ lifetime-kept i ∷ []

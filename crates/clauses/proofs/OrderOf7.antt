@@ -4,15 +4,19 @@ use mathlib.Core.Path.{_≡_, ap}
 use mathlib.Core.List.{[], _∷_}
 use lib.ListN.{length}
 use lib.Dec.{ltb}
+use Rattle.keys.specs.Lists.{any}
+use Rattle.sa.specs.Entry.{mostSeconds}
+use Rattle.policies.specs.Policy.{GroupSaPolicy}
 use Rattle.keys.specs.Limits.{Limits}
 use Rattle.state.specs.declared.State.{State}
 use Rattle.bags.specs.Bag.{GroupKeyBag}
 use Rattle.frames.specs.Frame.{Frame}
 use Rattle.clauses.specs.Fitness.{isEsp}
 use Rattle.clauses.specs.Number2.{standing}
-use Rattle.clauses.specs.Number7.{manyEspPolicies, manyWrapKeys, manySaKeys, manyDeletedSpis, manySas, seven-ofFrame, seven-ofMember}
+use Rattle.clauses.specs.Number7.{manyEspPolicies, manyWrapKeys, manySaKeys, manyDeletedSpis, longLifetime, manySas}
+use Rattle.clauses.specs.Number7.{seven-ofFrame, seven-ofMember}
 use Rattle.clauses.specs.Reordered.{Reordered}
-use Rattle.clauses.proofs.AnyOrder.{any-order, count-equal, length-order}
+use Rattle.clauses.proofs.AnyOrder.{any-order, any-equal, count-equal, length-order}
 use Rattle.clauses.proofs.Contents.{announced-order, group-bags-order, wrap-keys-order, deleted-order}
 
 module _ {f g : Frame} (r : Reordered f g) (limits : Limits) where
@@ -34,13 +38,17 @@ module _ {f g : Frame} (r : Reordered f g) (limits : Limits) where
   unfolding manyDeletedSpis
   deleted-kept = rw (length-order (deleted-order r))
 
+  lifetime-kept : longLifetime f ≡ longLifetime g
+  unfolding longLifetime
+  lifetime-kept = any-equal (λ (p : GroupSaPolicy). any (λ (n : ℕ). ltb mostSeconds n) (p .keyLifetimes)) (announced-order r)
+
   sas-kept : (s : State) (now : ℕ) → manySas limits s now f ≡ manySas limits s now g
   unfolding manySas
   sas-kept s now = λ i. ltb (limits .sas) (length (standing now s) + length-order (announced-order r) i)
 
   pub seven-kept : seven-ofFrame limits f ≡ seven-ofFrame limits g
   unfolding seven-ofFrame
-  seven-kept = λ i. esp-kept i ∷ wrap-keys-kept i ∷ sa-keys-kept i ∷ deleted-kept i ∷ []
+  seven-kept = λ i. esp-kept i ∷ wrap-keys-kept i ∷ sa-keys-kept i ∷ deleted-kept i ∷ lifetime-kept i ∷ []
 
   pub seven-member-kept : (s : State) (now : ℕ) → seven-ofMember limits s now f ≡ seven-ofMember limits s now g
   unfolding seven-ofMember

@@ -9,6 +9,8 @@ use Rattle.keys.specs.Kinds.{wrappingOf, espOf, rekeyOf}
 use Rattle.sa.specs.Entry.{withCondition, espSa, rekeySa}
 use Rattle.sa.specs.declared.entry.Condition.{Condition}
 use Rattle.sa.specs.declared.entry.Condition.the-variants.{Live, Retiring}
+use Rattle.sa.specs.declared.entry.Lifetime.{Lifetime}
+use Rattle.sa.specs.declared.entry.Lifetime.the-variants.{Unlimited, Limited}
 use Rattle.sa.specs.declared.entry.Sa.{Sa}
 use Rattle.table.specs.Table.{tableOf}
 use Rattle.state.specs.declared.State.{State}
@@ -65,7 +67,27 @@ abbrev pub alone : Selector
 alone = selector 7 848 848 (ip4 10) (ip4 10)
 
 abbrev pub saPolicy : ℕ → List ℕ → Selector → List Transform → List ℕ → GroupSaPolicy
-saPolicy p x d l m = record { protocol = p; spi = x; source = alone; destination = d; transforms = l; initialMessageIds = m }
+saPolicy p x d l m = record {
+  protocol = p;
+  spi = x;
+  source = alone;
+  destination = d;
+  transforms = l;
+  initialMessageIds = m;
+  keyLifetimes = [];
+}
+
+-- the same policy with these lifetimes
+abbrev pub lasting : List ℕ → GroupSaPolicy → Policy
+lasting t a = groupSa (record {
+  protocol = a .protocol;
+  spi = a .spi;
+  source = a .source;
+  destination = a .destination;
+  transforms = a .transforms;
+  initialMessageIds = a .initialMessageIds;
+  keyLifetimes = t;
+})
 
 abbrev pub policy : ℕ → List ℕ → List Transform → Policy
 policy p x l = groupSa (saPolicy p x group l [])
@@ -99,7 +121,7 @@ rekeyBag x n = bag 6 x (replicate n (saKey 0 9))
 abbrev pub memberBag : List WrapKey → Bag
 memberBag l = memberKeys (record { keys = l })
 
--- ---- frames by what their payloads hold, with Message ID 0; rekeys are those over the live Rekey SA, in-band ones have SPIs that no SA has
+-- ---- frames by what their payloads hold, with Message ID 0; rekeys are those over the live Rekey SA, in-band ones have no SPIs
 abbrev pub deletes : ℕ → List (List ℕ) → Content
 deletes p l = delete (record { protocol = p; spis = l })
 
@@ -161,10 +183,17 @@ oneMore = rekeys another
 
 -- ---- members
 abbrev pub espAt : ℕ → Condition → Sa
-espAt n c = withCondition c (espSa (spi n) (espOf (replicate 20 0)))
+espAt n c = withCondition c (espSa (spi n) (espOf (replicate 20 0)) Unlimited)
 
 abbrev pub rekeyAt : Condition → Sa
-rekeyAt c = withCondition c (rekeySa liveSpi (rekeyOf (replicate 36 0) 20 16))
+rekeyAt c = withCondition c (rekeySa liveSpi (rekeyOf (replicate 36 0) 20 16) Unlimited)
+
+-- live ones with a lifetime
+abbrev pub espFor : ℕ → Lifetime → Sa
+espFor n t = espSa (spi n) (espOf (replicate 20 0)) t
+
+abbrev pub rekeyFor : Lifetime → Sa
+rekeyFor t = rekeySa liveSpi (rekeyOf (replicate 36 0) 20 16) t
 
 -- the tick at which the samples are judged; an SA that is due then, and one that retires and is not due
 abbrev pub tick : ℕ
@@ -175,6 +204,13 @@ dueNow = Retiring 0 1
 
 abbrev pub dueLater : Condition
 dueLater = Retiring 0 2
+
+-- a lifetime that has run at that tick, and one that has not
+abbrev pub outNow : Lifetime
+outNow = Limited 0 1
+
+abbrev pub outLater : Lifetime
+outLater = Limited 1 1
 
 -- n ESP SAs, one more in this condition, and the live Rekey SA
 abbrev pub sasWith : ℕ → Condition → List Sa

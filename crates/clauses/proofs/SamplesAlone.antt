@@ -13,8 +13,10 @@ use Rattle.policies.specs.Policy.{groupSa}
 use Rattle.frames.specs.Frame.{Payload, Content, gsa, kd, unread}
 use Rattle.clauses.proofs.SampleParts.{spi, liveSpi, nextSpi, thirdSpi, transform, selector, ip4, group, saPolicy, policy, rekeySuite}
 use Rattle.clauses.proofs.SampleParts.{espPolicy, rekeyPolicy, wide, saKey, wrapKey, bag, espBag, rekeyBag, memberBag, deletes}
-use Rattle.clauses.proofs.SampleParts.{payload, frameOf, registers, rekeys, inband, another, own, fit, deletion, rekeyAt, dueLater, espSas, wrapKeys}
+use Rattle.clauses.proofs.SampleParts.{payload, frameOf, registers, rekeys, inband, another}
+use Rattle.clauses.proofs.SampleParts.{own, fit, deletion, rekeyAt, dueLater, espSas, wrapKeys}
 use Rattle.clauses.proofs.SampleParts.{copies, deleted, having, oneMore, fresh, heldKey, holding, Sample, sample, anew, later}
+use Rattle.clauses.proofs.SamplesOfLifetimes.{espLasting, rekeyLasting}
 
 -- a sample and the place of the one clause that it meets, in the list of its number
 pub record Alone : Type 0 where
@@ -88,6 +90,9 @@ alone4 = inEach 4 (
     case 15
     (gsa (groupSa (saPolicy 6 nextSpi (selector 7 848 849 (ip4 239) (ip4 239)) rekeySuite []) ∷ []) ∷ kd (rekeyBag nextSpi 1 ∷ []) ∷
     []) ∷
+    -- GSA_KEY_LIFETIME twice, in an ESP and in a Rekey policy
+    case 16 (espLasting (1 ∷ 2 ∷ [])) ∷
+    case 16 (rekeyLasting (1 ∷ 1 ∷ [])) ∷
     [])
     -- a critical unknown payload
     ++ alone 0 (anew (frameOf [] 39 0 (unknown ∷ map payload fit)) 4) ∷
@@ -145,11 +150,14 @@ abbrev pub alone7 : List Alone
 alone7 = inEach 7 (
     -- ESP policies
     case 0 (espSas 25) ∷
+    -- a lifetime
+    case 4 (espLasting (2000001 ∷ [])) ∷
+    case 4 (rekeyLasting (2000001 ∷ [])) ∷
     [])
     -- WRAP_KEY, SA_KEY in a bag, deleted SPIs, SAs
     ++ alone 1 (anew (wrapKeys 129) 7) ∷
     alone 2 (later (copies 33) 7) ∷
     alone 3 (later (deleted 33) 7) ∷
-    alone 4 (sample (having 62 Live) 0 oneMore 7) ∷
-    alone 4 (sample (having (limits .sas - 2) Live) 16 (inband another) 7) ∷
+    alone 5 (sample (having 62 Live) 0 oneMore 7) ∷
+    alone 5 (sample (having (limits .sas - 2) Live) 16 (inband another) 7) ∷
     []

@@ -7,6 +7,7 @@ use Rattle.keys.specs.Kinds.{espOf, rekeyOf}
 use Rattle.sa.specs.Entry.{espSa, rekeySa}
 use Rattle.sa.specs.declared.entry.Condition.{Condition}
 use Rattle.sa.specs.declared.entry.Condition.the-variants.{Live}
+use Rattle.sa.specs.declared.entry.Lifetime.the-variants.{Unlimited}
 use Rattle.table.specs.Table.{tableOf}
 use Rattle.state.specs.declared.State.{State}
 use Rattle.state.specs.declared.held.HeldKey.{HeldKey}
@@ -30,10 +31,10 @@ keysTo n = map (λ (i : ℕ). heldKey i 16) (upTo n)
 
 -- an ESP SA with n keying octets beside the live Rekey SA; a Rekey SA in this condition beside another that is live
 abbrev withEsp : ℕ → State
-withEsp n = memberOf (espSa (spi 1) (espOf (replicate n 0)) ∷ rekeyAt Live ∷ []) (Id 0)
+withEsp n = memberOf (espSa (spi 1) (espOf (replicate n 0)) Unlimited ∷ rekeyAt Live ∷ []) (Id 0)
 
 abbrev withRekey : Condition → State
-withRekey c = memberOf (rekeyAt c ∷ rekeySa nextSpi (rekeyOf (replicate 44 0) 28 16) ∷ []) (Id 0)
+withRekey c = memberOf (rekeyAt c ∷ rekeySa nextSpi (rekeyOf (replicate 44 0) 28 16) Unlimited ∷ []) (Id 0)
 
 abbrev pub samplesOf2And3 : List Sample
 samplesOf2And3 =

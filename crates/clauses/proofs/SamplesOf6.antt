@@ -6,6 +6,7 @@ use Rattle.keys.specs.Kinds.{rekeyOf}
 use Rattle.sa.specs.Entry.{withCondition, rekeySa}
 use Rattle.sa.specs.declared.entry.Condition.{Condition}
 use Rattle.sa.specs.declared.entry.Condition.the-variants.{Live}
+use Rattle.sa.specs.declared.entry.Lifetime.the-variants.{Unlimited}
 use Rattle.state.specs.declared.State.{State}
 use Rattle.state.specs.declared.least.Least.the-variants.{Id}
 use Rattle.attributes.specs.Tree.{SaKey, WrapKey}
@@ -20,7 +21,7 @@ abbrev havingEsp : Condition → State
 havingEsp c = memberOf (espAt 1 c ∷ rekeyAt Live ∷ []) (Id 0)
 
 abbrev havingRekey : Condition → State
-havingRekey c = memberOf (rekeyAt Live ∷ withCondition c (rekeySa nextSpi (rekeyOf (replicate 44 0) 28 16)) ∷ []) (Id 0)
+havingRekey c = memberOf (rekeyAt Live ∷ withCondition c (rekeySa nextSpi (rekeyOf (replicate 44 0) 28 16) Unlimited) ∷ []) (Id 0)
 
 -- an SPI that differs from that of ESP SA 1 in its first octet, and one that differs from nextSpi in its last
 abbrev farSpi : List ℕ

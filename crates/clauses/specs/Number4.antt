@@ -1,7 +1,7 @@
 -- Number 4 is given exactly when: "critical unknown payload; Member bag in a rekey; D in a registration; two GSA or two KD; one without the
 -- other; neither (unless a rekey has D); more than one Rekey policy, group-wide policy or Member bag; a GSA with no SA policy; Key Length,
 -- GSA_INITIAL_MESSAGE_ID or the deactivation delay twice in one place; a Rekey destination that isn't one address (start equals end) in
--- 224.0.0.0/4 or ff00::/8 and one port".
+-- 224.0.0.0/4 or ff00::/8 and one port"; document 02, T-07: GSA_KEY_LIFETIME "twice in one policy".
 use mathlib.Core.List.{List, [], _∷_}
 use mathlib.Core.Bool.{Bool, not, _&&_}
 use lib.Dec.{ltb}
@@ -81,8 +81,12 @@ delayTwice f = any (λ (w : GroupWidePolicy). several (w .deactivationDelays)) (
 unfoldable pub otherDestination : Frame → Bool
 otherDestination f = any (λ (p : GroupSaPolicy). isRekey p && not (oneGroupAddress (p .destination))) (announced f)
 
+-- GSA_KEY_LIFETIME "twice in one policy" (document 02, T-07)
+unfoldable pub lifetimeTwice : Frame → Bool
+lifetimeTwice f = any (λ (p : GroupSaPolicy). several (p .keyLifetimes)) (announced f)
+
 unfoldable pub four-ofFrame : Frame → List Bool
 four-ofFrame f =
     criticalUnknown f ∷ barredMemberBag f ∷ barredDelete f ∷ twoGsa f ∷ twoKd f ∷ gsaWithoutKd f ∷ kdWithoutGsa f ∷ neither f ∷
     severalRekeyPolicies f ∷ severalGroupWide f ∷ severalMemberBags f ∷ gsaWithoutSaPolicy f ∷
-    keyLengthTwice f ∷ initialMessageIdTwice f ∷ delayTwice f ∷ otherDestination f ∷ []
+    keyLengthTwice f ∷ initialMessageIdTwice f ∷ delayTwice f ∷ otherDestination f ∷ lifetimeTwice f ∷ []

@@ -30,6 +30,11 @@ one-total [] e = refl
 one-total (n ∷ []) e = (let z : n + 0 ≡ n = omega arith in z) ∙ sym (greater-none n)
 one-total (n ∷ m ∷ l) e = several-two n m l e
 
+-- what one list gives
+pub sum-given : (l : List ℕ) → several l ≡ false → sum (λ (n : ℕ). n) l ≡ greatest l
+unfolding total
+sum-given l e = one-total l e
+
 -- ---- the deactivation delay
 pub delay-given : (l : List GroupWidePolicy) → several l ≡ false → any (λ (w : GroupWidePolicy). several (w .deactivationDelays)) l ≡ false
     → sum (λ (w : GroupWidePolicy). sum (λ (d : ℕ). d) (w .deactivationDelays)) l

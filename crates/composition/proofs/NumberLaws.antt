@@ -2,12 +2,13 @@
 use Prim.Native.Nat.{ℕ, _+_, _-_, _<_, _≤_}
 use mathlib.Core.Path.{_≡_, refl, ap, sym, _∙_, subst}
 use mathlib.Core.List.{List, [], _∷_, _++_, map}
-use mathlib.Core.Bool.{Bool, true, false, cond, false≢true}
+use mathlib.Core.Bool.{Bool, true, false, cond, false≢true, _||_}
 use native.Mathlib.Omega.{arith}
-use borrow.Author.Tests.{ltb-true, ltb-false, eqb-true}
+use borrow.Author.Tests.{ltb-true, ltb-false, lt-ltb, le-ltb, eqb-true}
 use lib.ListN.{length, drop, length-take, length-drop}
-use lib.Dec.{ltb}
+use lib.Dec.{ltb, eqb}
 use Rattle.octets.specs.Walk.{part}
+use Rattle.keys.specs.Lists.{any}
 use Rattle.keys.proofs.Cases.{bool-cases, lt-cases}
 use Rattle.attributes.specs.Layout.{attributes}
 use Rattle.attributes.specs.declared.tables.Place.{Place}
@@ -58,13 +59,29 @@ unfolding greatest
 greatest-if true l = refl
 greatest-if false l = refl
 
+-- one of them is over a limit exactly when the greatest is
+over-greater : (k a b : ℕ) → ltb k (greater a b) ≡ (ltb k a || ltb k b)
+over-greater k a b =
+    lt-cases a b
+    (λ h.
+    ap (ltb k) (greater-is a b h)
+    ∙ bool-cases (ltb k a) (λ e. lt-ltb k b (omega (arith, ltb-true k a e)) ∙ sym (ap (λ (x : Bool). x || ltb k b) e))
+    (λ e. sym (ap (λ (x : Bool). x || ltb k b) e)))
+    (λ h.
+    ap (ltb k) (greater-not a b h)
+    ∙ bool-cases (ltb k a) (λ e. e ∙ sym (ap (λ (x : Bool). x || ltb k b) e))
+    (λ e. e ∙ sym ((λ i. e i || ltb k b) ∙ le-ltb k b (omega (arith, ltb-false k a e)))))
+
+pub over-greatest : (k : ℕ) (l : List ℕ) → ltb k (greatest l) ≡ any (λ (n : ℕ). ltb k n) l
+unfolding greatest any
+over-greatest k [] = le-ltb k 0 (omega arith)
+over-greatest k (n ∷ l) = over-greater k n (greatest l) ∙ ap (λ (x : Bool). ltb k n || x) (over-greatest k l)
+
 -- ---- the number that a value is, by the meaning
 module _ (m : Meaning) (v : List ℕ) (s : valueSize m (length v) ≡ true) where
-  pub four-octets : m ≡ meaning.InitialMessageId → 4 ≤ length v
-  four-octets e = let z = eqb-true (length v) 4 (ap (λ (x : Meaning). valueSize x (length v)) (sym e) ∙ s) in omega arith
-
-  pub two-octets : m ≡ meaning.DeactivationDelay → 2 ≤ length v
-  two-octets e = let z = eqb-true (length v) 2 (ap (λ (x : Meaning). valueSize x (length v)) (sym e) ∙ s) in omega arith
+  pub octets-of : (x : Meaning) (k : ℕ) → m ≡ x → ((n : ℕ) → valueSize x n ≡ eqb n k) → k ≤ length v
+  octets-of x k e h =
+      let z = eqb-true (length v) k (sym (h (length v)) ∙ ap (λ (y : Meaning). valueSize y (length v)) (sym e) ∙ s) in omega arith
 
   pub number-is : (x : Meaning) (r : ℕ) → m ≡ x → r ≡ numberBy x v → r ≤ most x → (r ≡ numberBy m v) × (r ≤ most m)
   number-is x r e q h = (q ∙ ap (λ (y : Meaning). numberBy y v) (sym e), subst (λ (y : Meaning). r ≤ most y) (sym e) h)

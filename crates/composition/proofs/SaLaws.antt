@@ -13,12 +13,14 @@ use Rattle.attributes.specs.Tree.{two, four, valuesOf}
 use Rattle.attributes.specs.Layout.{attributes}
 use Rattle.attributes.specs.declared.tables.Place.{Place}
 use Rattle.attributes.specs.declared.tables.Place.the-variants as place
+use Rattle.attributes.specs.declared.tables.Meaning.{Meaning}
 use Rattle.attributes.specs.declared.tables.Meaning.the-variants as meaning
 use Rattle.policies.specs.Policy.{SaBody, groupWideOf}
 use Rattle.policies.specs.Grammar.{IsSaBody}
 use Rattle.contents.specs.inner.Values.{isWhole, attributesIn, valuesIn}
 use Rattle.contents.specs.inner.Bodies.{SaPartsAre}
 use Rattle.contents.specs.declared.body.SaParts.{SaParts}
+use Rattle.sa.specs.Entry.{mostSeconds}
 use Rattle.clauses.specs.Fitness.{oneGroupAddress}
 use Rattle.clauses.specs.Number4.{twiceInTransform}
 use Rattle.clauses.proofs.Gather.{any-count}
@@ -30,7 +32,7 @@ use Rattle.composition.specs.inner.Facts.{ofSa, ofPolicy, saWith, wideBy
 use Rattle.composition.specs.inner.Numbers.{greatest, numbersBy}
 use Rattle.composition.specs.declared.numbers.Numbers.{Numbers}
 use Rattle.composition.specs.declared.PolicyFacts.{PolicyFacts}
-use Rattle.composition.proofs.NumberLaws.{greatest-if}
+use Rattle.composition.proofs.NumberLaws.{greatest-if, over-greatest}
 
 -- ---- a Group SA policy
 module _ (protocol : ℕ) (o : List ℕ) (x : SaBody) (r : SaParts) (f : SaPartsAre (inPolicy protocol) o x r) where
@@ -38,23 +40,32 @@ module _ (protocol : ℕ) (o : List ℕ) (x : SaBody) (r : SaParts) (f : SaParts
     pub attributes-whole : isWhole (attributes p 0 (tail o (r .attributes))) ≡ true
     attributes-whole = (λ i. isWhole (attributes (pq i) 0 (to-end o (r .attributes) i))) ∙ f .held
 
-    -- the first Message IDs, by what the code reads of them
-    abbrev values : List (List ℕ)
-    values = valuesOf meaning.InitialMessageId (inPolicy protocol) (x .suite .attributes)
+    -- the first Message IDs and the lifetimes, by what the code reads of them
+    abbrev values : Meaning → List (List ℕ)
+    values m = valuesOf m (inPolicy protocol) (x .suite .attributes)
 
-    values-are : valuesIn meaning.InitialMessageId p (tail o (r .attributes)) ≡ values
-    values-are =
-        (λ i. valuesIn meaning.InitialMessageId (pq i) (to-end o (r .attributes) i))
-        ∙ ap (valuesOf meaning.InitialMessageId (inPolicy protocol)) (f .attributes)
+    values-are : (m : Meaning) → valuesIn m p (tail o (r .attributes)) ≡ values m
+    values-are m = (λ i. valuesIn m (pq i) (to-end o (r .attributes) i)) ∙ ap (valuesOf m (inPolicy protocol)) (f .attributes)
 
-    ids-are : (n : Numbers) → n ≡ numbersBy meaning.InitialMessageId (valuesIn meaning.InitialMessageId p (tail o (r .attributes)))
-        → n ≡ record { count = length (map four values); greatest = greatest (map four values) }
+    abbrev Numbered : Meaning → Numbers → Type 0
+    Numbered m n = n ≡ numbersBy m (valuesIn m p (tail o (r .attributes)))
+
+    abbrev fours : List (List ℕ) → Numbers
+    fours l = record { count = length (map four l); greatest = greatest (map four l) }
+
+    counted : (l : List (List ℕ)) → _≡_ {A = Numbers} (record { count = length l; greatest = greatest (map four l) }) (fours l)
+    counted l = λ i. record { count = sym (length-map l four) i; greatest = greatest (map four l) }
+
+    ids-are : (n : Numbers) → Numbered meaning.InitialMessageId n → n ≡ fours (values meaning.InitialMessageId)
     ids-are n nq =
-        nq ∙ ap (numbersBy meaning.InitialMessageId) values-are
-        ∙ (λ i. record { count = sym (length-map values four) i; greatest = greatest (map four values) })
+        nq ∙ ap (numbersBy meaning.InitialMessageId) (values-are meaning.InitialMessageId)
+        ∙ counted (values meaning.InitialMessageId)
+
+    pub lifetimes-are : (n : Numbers) → Numbered meaning.KeyLifetime n → n ≡ fours (values meaning.KeyLifetime)
+    lifetimes-are n nq = nq ∙ ap (numbersBy meaning.KeyLifetime) (values-are meaning.KeyLifetime) ∙ counted (values meaning.KeyLifetime)
 
     pub of-sa-is : (a : Bool) (spi : List ℕ) (u : Suite) → u ≡ suiteOf (x .suite .transforms)
-        → (n : Numbers) → n ≡ numbersBy meaning.InitialMessageId (valuesIn meaning.InitialMessageId p (tail o (r .attributes)))
+        → (n : Numbers) → Numbered meaning.InitialMessageId n → (m : Numbers) → Numbered meaning.KeyLifetime m
         → (g : Bool) → g ≡ oneGroupAddress (x .destination) → (t : Bool) → t ≡ fitBy a protocol u
         → (e k : ℕ) → e ≡ once (eqb protocol 3) → k ≡ once (eqb protocol 6) → (h : ℕ) → h ≡ cond (eqb protocol 6) (n .greatest) 0
         → _≡_ {A = PolicyFacts} (record {
@@ -66,17 +77,23 @@ module _ (protocol : ℕ) (o : List ℕ) (x : SaBody) (r : SaParts) (f : SaParts
           lengths = ltb 0 (u .doubled);
           ids = ltb 1 (n .count);
           delays = false;
+          lifetimes = ltb 1 (m .count);
           elsewhere = eqb protocol 6 && not g;
+          long = ltb mostSeconds (m .greatest);
           unfit = not t;
           delay = 0;
           initial = h;
         }) (ofSa a (saWith protocol spi x))
-    of-sa-is a spi u uq n nq g gq t tq e k eq kq h hq =
+    of-sa-is a spi u uq n nq m mq g gq t tq e k eq kq h hq =
         let l = ap (λ (s : Suite). ltb 0 (s .doubled)) uq ∙ sym (any-count twiceInTransform (x .suite .transforms)) in
         let w = tq ∙ ap (fitBy a protocol) uq ∙ fits (saWith protocol spi x) a in
         let v = ids-are n nq in
+        let z = lifetimes-are m mq in
         let y =
-        hq ∙ ap (λ (z : Numbers). cond (eqb protocol 6) (z .greatest) 0) v ∙ greatest-if (eqb protocol 6) (map four values) in
+        hq ∙ ap (λ (z : Numbers). cond (eqb protocol 6) (z .greatest) 0) v
+        ∙ greatest-if (eqb protocol 6) (map four (values meaning.InitialMessageId)) in
+        let over =
+        ap (λ (t : Numbers). ltb mostSeconds (t .greatest)) z ∙ over-greatest mostSeconds (map four (values meaning.KeyLifetime)) in
         λ i. record {
           sas = 1;
           esps = eq i;
@@ -86,7 +103,9 @@ module _ (protocol : ℕ) (o : List ℕ) (x : SaBody) (r : SaParts) (f : SaParts
           lengths = l i;
           ids = ltb 1 (v i .count);
           delays = false;
+          lifetimes = ltb 1 (z i .count);
           elsewhere = eqb protocol 6 && not (gq i);
+          long = over i;
           unfit = not (w i);
           delay = 0;
           initial = y i;

@@ -25,6 +25,7 @@ use numbers::greater_u16;
 use numbers::greater_u32;
 use numbers::if_so;
 use numbers::numbers_of;
+use sa::entry::MOST_SECONDS;
 
 // What the policies of a GSA payload have.
 pub struct PolicyFacts {
@@ -35,12 +36,16 @@ pub struct PolicyFacts {
     pub wides: usize,
     // a policy is of AH
     pub ah: bool,
-    // Key Length stands twice in a transform, GSA_INITIAL_MESSAGE_ID twice in a policy, the deactivation delay twice in a group-wide policy
+    // Key Length stands twice in a transform, GSA_INITIAL_MESSAGE_ID twice in a policy, the deactivation delay twice in a group-wide
+    // policy, GSA_KEY_LIFETIME twice in a policy
     pub lengths: bool,
     pub ids: bool,
     pub delays: bool,
+    pub lifetimes: bool,
     // the destination of a Rekey policy is not one group address and port
     pub elsewhere: bool,
+    // a lifetime has more seconds than it may have
+    pub long: bool,
     // the transforms of a Group SA policy are not those that it must have
     pub unfit: bool,
     // the deactivation delay of the group-wide policies and the first Message ID of the Rekey policies, 0 where they give none, the greatest
@@ -62,7 +67,9 @@ fn no_policies() -> PolicyFacts
         lengths: false,
         ids: false,
         delays: false,
+        lifetimes: false,
         elsewhere: false,
+        long: false,
         unfit: false,
         delay: 0,
         initial: 0,
@@ -83,7 +90,9 @@ fn of_wide(n: Numbers) -> PolicyFacts
         lengths: false,
         ids: false,
         delays: 1 < n.count,
+        lifetimes: false,
         elsewhere: false,
+        long: false,
         unfit: false,
         delay: n.greatest as u16,
         initial: 0,
@@ -101,11 +110,9 @@ fn of_sa(authentication: bool, protocol: usize, o: &[u8]) -> PolicyFacts
     let t = p.transforms;
     let a = p.attributes;
     let u = suites::suite(&o[t..]);
-    let n = numbers_of(
-        Meaning::InitialMessageId,
-        attributes::tables::in_policy(protocol),
-        &o[a..],
-    );
+    let place = attributes::tables::in_policy(protocol);
+    let n = numbers_of(Meaning::InitialMessageId, place, &o[a..]);
+    let m = numbers_of(Meaning::KeyLifetime, place, &o[a..]);
     let group = addresses::is_group_address(&o[d..t]);
     let fit = u.is_fit(authentication, protocol);
     PolicyFacts {
@@ -117,7 +124,9 @@ fn of_sa(authentication: bool, protocol: usize, o: &[u8]) -> PolicyFacts
         lengths: 0 < u.doubled,
         ids: 1 < n.count,
         delays: false,
+        lifetimes: 1 < m.count,
         elsewhere: (protocol == REKEY) & !group,
+        long: MOST_SECONDS < m.greatest,
         unfit: !fit,
         delay: 0,
         initial: if_so(protocol == REKEY, n.greatest),
@@ -155,7 +164,9 @@ fn together(a: PolicyFacts, b: PolicyFacts) -> PolicyFacts
         lengths: a.lengths | b.lengths,
         ids: a.ids | b.ids,
         delays: a.delays | b.delays,
+        lifetimes: a.lifetimes | b.lifetimes,
         elsewhere: a.elsewhere | b.elsewhere,
+        long: a.long | b.long,
         unfit: a.unfit | b.unfit,
         delay,
         initial,

@@ -1,4 +1,4 @@
-// The numbers that attributes of a policy give, GSA_INITIAL_MESSAGE_ID or the deactivation delay, in one walk.
+// The numbers that attributes of a policy give, GSA_INITIAL_MESSAGE_ID, GSA_KEY_LIFETIME or the deactivation delay, in one walk.
 ghost use mathlib.Core.Path.{_≡_};
 ghost use mathlib.Core.Bool.{true, cond};
 ghost use Prim.Native.Nat.{_<_, _≤_};
@@ -57,6 +57,7 @@ fn number_of(m: Meaning, v: &[u8]) -> u32
     match m {
         Meaning::InitialMessageId => be32_at(v, 0),
         Meaning::DeactivationDelay => be16_at(v, 0) as u32,
+        Meaning::KeyLifetime => be32_at(v, 0),
         Meaning::Skipped => 0,
         Meaning::KeyLength => 0,
         Meaning::SaKey => 0,

@@ -52,7 +52,7 @@ attribute-is p b s a rest q =
 meaningAt : ℕ → Meaning
 meaningAt n =
     either (eqb n 1) meaning.KeyLength (either (eqb n 2) meaning.InitialMessageId (either (eqb n 3) meaning.DeactivationDelay
-    (either (eqb n 4) meaning.SaKey (either (eqb n 5) meaning.WrapKey meaning.Skipped))))
+    (either (eqb n 4) meaning.KeyLifetime (either (eqb n 5) meaning.SaKey (either (eqb n 6) meaning.WrapKey meaning.Skipped)))))
 
 at-code : (m : Meaning) → meaningAt (codeOf m) ≡ m
 unfolding meaningAt
@@ -60,6 +60,7 @@ at-code meaning.Skipped = refl
 at-code meaning.KeyLength = refl
 at-code meaning.InitialMessageId = refl
 at-code meaning.DeactivationDelay = refl
+at-code meaning.KeyLifetime = refl
 at-code meaning.SaKey = refl
 at-code meaning.WrapKey = refl
 
@@ -72,6 +73,7 @@ sized meaning.Skipped short n f h = refl
 sized meaning.KeyLength short n f h = eq-eqb n 2 (h f)
 sized meaning.InitialMessageId short n f h = both-true (not short) (eqb n 4) f .1
 sized meaning.DeactivationDelay short n f h = eq-eqb n 2 (h f)
+sized meaning.KeyLifetime short n f h = both-true (not short) (eqb n 4) f .1
 sized meaning.SaKey short n f h = both-true (not short) (wrappedSize n) f .1
 sized meaning.WrapKey short n f h = both-true (not short) (wrappedSize n) f .1
 

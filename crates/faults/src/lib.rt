@@ -245,6 +245,7 @@ fn is_short_form(meaning: Meaning) -> bool {
         Meaning::KeyLength => true,
         Meaning::DeactivationDelay => true,
         Meaning::InitialMessageId => false,
+        Meaning::KeyLifetime => false,
         Meaning::SaKey => false,
         Meaning::WrapKey => false,
         Meaning::Skipped => false,
@@ -257,15 +258,19 @@ fn of_format(out: &mut [u8], n: usize, meaning: Meaning, short: bool, size: usiz
         return names::text(out, n, b" in short form\n");
     }
     match meaning {
-        Meaning::InitialMessageId => {
-            names::say(out, n, b" of % octets, must be 4\n", size, 0, 0)
-        }
+        Meaning::InitialMessageId => of_four(out, n, size),
+        Meaning::KeyLifetime => of_four(out, n, size),
         Meaning::SaKey => of_wrapped(out, n, size),
         Meaning::WrapKey => of_wrapped(out, n, size),
         Meaning::KeyLength => in_long_form(out, n),
         Meaning::DeactivationDelay => in_long_form(out, n),
         Meaning::Skipped => names::put(out, n, 10),
     }
+}
+
+// A number of 4 octets.
+fn of_four(out: &mut [u8], n: usize, size: usize) -> usize {
+    names::say(out, n, b" of % octets, must be 4\n", size, 0, 0)
 }
 
 fn in_long_form(out: &mut [u8], n: usize) -> usize {

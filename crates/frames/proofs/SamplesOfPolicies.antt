@@ -87,14 +87,15 @@ ip6 = (8 ∷ 0 ∷ 0 ∷ 40 ∷ 0 ∷ 0 ∷ 255 ∷ 255 ∷ []) ++ (from6 ++ to6
 abbrev isIp6 : Selector
 isIp6 = record { kind = 8; protocol = 0; startPort = 0; endPort = 65535; startAddress = from6; endAddress = to6 }
 
-abbrev isPolicy : ℕ → List ℕ → Selector → List Transform → List ℕ → Policy
-isPolicy p x d l m = groupSa (record {
+abbrev isPolicy : ℕ → List ℕ → Selector → List Transform → List ℕ → List ℕ → Policy
+isPolicy p x d l m t = groupSa (record {
   protocol = p;
   spi = x;
   source = isIp4;
   destination = d;
   transforms = l;
   initialMessageIds = m;
+  keyLifetimes = t;
 })
 
 -- ---- transforms: the last one, and others before it
@@ -122,16 +123,25 @@ policySamples =
     sample [] (whole [] []) ∷
     -- ESP; attribute 2 is skipped there in any format
     sample ((3 ∷ 4 ∷ 0 ∷ 84 ∷ 9 ∷ 8 ∷ 7 ∷ 6 ∷ []) ++ espBody)
-    (whole (isPolicy 3 (9 ∷ 8 ∷ 7 ∷ 6 ∷ []) isIp6 (is 1 20 (192 ∷ []) ∷ is 5 2 [] ∷ []) [] ∷ []) []) ∷
+    (whole (isPolicy 3 (9 ∷ 8 ∷ 7 ∷ 6 ∷ []) isIp6 (is 1 20 (192 ∷ []) ∷ is 5 2 [] ∷ []) [] [] ∷ []) []) ∷
     sample ((3 ∷ 4 ∷ 0 ∷ 88 ∷ 9 ∷ 8 ∷ 7 ∷ 6 ∷ []) ++ (espBody ++ (128 ∷ 2 ∷ 0 ∷ 7 ∷ [])))
-    (whole (isPolicy 3 (9 ∷ 8 ∷ 7 ∷ 6 ∷ []) isIp6 (is 1 20 (192 ∷ []) ∷ is 5 2 [] ∷ []) [] ∷ []) []) ∷
+    (whole (isPolicy 3 (9 ∷ 8 ∷ 7 ∷ 6 ∷ []) isIp6 (is 1 20 (192 ∷ []) ∷ is 5 2 [] ∷ []) [] [] ∷ []) []) ∷
     -- AH; Key Length is read in its type 1 transform too
     sample ((2 ∷ 4 ∷ 0 ∷ 84 ∷ 9 ∷ 8 ∷ 7 ∷ 6 ∷ []) ++ espBody)
-    (whole (isPolicy 2 (9 ∷ 8 ∷ 7 ∷ 6 ∷ []) isIp6 (is 1 20 (192 ∷ []) ∷ is 5 2 [] ∷ []) [] ∷ []) []) ∷
-    -- Rekey, with GSA_KEY_LIFETIME skipped and GSA_INITIAL_MESSAGE_ID read; as TV, or with 2 octets, it breaks at its own offset
-    sample ((6 ∷ 16 ∷ 0 ∷ 80 ∷ []) ++ (spi16 ++ rekeyBody)) (whole (isPolicy 6 spi16 isIp4 rekeySuite [] ∷ []) []) ∷
+    (whole (isPolicy 2 (9 ∷ 8 ∷ 7 ∷ 6 ∷ []) isIp6 (is 1 20 (192 ∷ []) ∷ is 5 2 [] ∷ []) [] [] ∷ []) []) ∷
+    -- GSA_KEY_LIFETIME is read in each, once and twice; as TV, or with 2 octets, it breaks at its own offset
+    sample ((3 ∷ 4 ∷ 0 ∷ 92 ∷ 9 ∷ 8 ∷ 7 ∷ 6 ∷ []) ++ (espBody ++ (0 ∷ 1 ∷ 0 ∷ 4 ∷ 0 ∷ 0 ∷ 14 ∷ 16 ∷ [])))
+    (whole (isPolicy 3 (9 ∷ 8 ∷ 7 ∷ 6 ∷ []) isIp6 (is 1 20 (192 ∷ []) ∷ is 5 2 [] ∷ []) [] (3600 ∷ []) ∷ []) []) ∷
+    sample ((2 ∷ 4 ∷ 0 ∷ 100 ∷ 9 ∷ 8 ∷ 7 ∷ 6 ∷ [])
+    ++ (espBody ++ (0 ∷ 1 ∷ 0 ∷ 4 ∷ 0 ∷ 0 ∷ 14 ∷ 16 ∷ 0 ∷ 1 ∷ 0 ∷ 4 ∷ 0 ∷ 30 ∷ 132 ∷ 128 ∷ [])))
+    (whole (isPolicy 2 (9 ∷ 8 ∷ 7 ∷ 6 ∷ []) isIp6 (is 1 20 (192 ∷ []) ∷ is 5 2 [] ∷ []) [] (3600 ∷ 2000000 ∷ []) ∷ []) []) ∷
+    sample ((3 ∷ 4 ∷ 0 ∷ 88 ∷ 9 ∷ 8 ∷ 7 ∷ 6 ∷ []) ++ (espBody ++ (128 ∷ 1 ∷ 0 ∷ 7 ∷ []))) (broken 184) ∷
+    sample ((2 ∷ 4 ∷ 0 ∷ 90 ∷ 9 ∷ 8 ∷ 7 ∷ 6 ∷ []) ++ (espBody ++ (0 ∷ 1 ∷ 0 ∷ 2 ∷ 0 ∷ 7 ∷ []))) (broken 184) ∷
+    sample ((6 ∷ 16 ∷ 0 ∷ 84 ∷ []) ++ (spi16 ++ (rekeyBody ++ (128 ∷ 1 ∷ 0 ∷ 7 ∷ [])))) (broken 180) ∷
+    -- Rekey, with GSA_KEY_LIFETIME and GSA_INITIAL_MESSAGE_ID read; as TV, or with 2 octets, the latter breaks at its own offset
+    sample ((6 ∷ 16 ∷ 0 ∷ 80 ∷ []) ++ (spi16 ++ rekeyBody)) (whole (isPolicy 6 spi16 isIp4 rekeySuite [] [] ∷ []) []) ∷
     sample ((6 ∷ 16 ∷ 0 ∷ 96 ∷ []) ++ (spi16 ++ (rekeyBody ++ (0 ∷ 1 ∷ 0 ∷ 4 ∷ 0 ∷ 0 ∷ 14 ∷ 16 ∷ 0 ∷ 2 ∷ 0 ∷ 4 ∷ 0 ∷ 1 ∷ 0 ∷ 7 ∷ []))))
-    (whole (isPolicy 6 spi16 isIp4 rekeySuite (65543 ∷ []) ∷ []) []) ∷
+    (whole (isPolicy 6 spi16 isIp4 rekeySuite (65543 ∷ []) (3600 ∷ []) ∷ []) []) ∷
     sample ((6 ∷ 16 ∷ 0 ∷ 84 ∷ []) ++ (spi16 ++ (rekeyBody ++ (128 ∷ 2 ∷ 0 ∷ 7 ∷ [])))) (broken 180) ∷
     sample ((6 ∷ 16 ∷ 0 ∷ 86 ∷ []) ++ (spi16 ++ (rekeyBody ++ (0 ∷ 2 ∷ 0 ∷ 2 ∷ 0 ∷ 7 ∷ [])))) (broken 180) ∷
     -- the SPI size is the protocol's

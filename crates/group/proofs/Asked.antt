@@ -2,7 +2,7 @@
 -- and SPI".
 use native.Mathlib.Omega.{arith}
 use Prim.Native.Nat.{ℕ}
-use mathlib.Core.Path.{_≡_, ap, _∙_}
+use mathlib.Core.Path.{_≡_, ap, sym, _∙_, subst}
 use mathlib.Core.Bool.{true, false}
 use mathlib.Core.List.{List}
 use borrow.Author.Tests.{eq-eqb, ne-eqb}
@@ -19,6 +19,7 @@ use Rattle.clauses.specs.Fitness.{encryptionOctets, keyWrapOctets}
 use Rattle.chains.specs.Chain.{In}
 use Rattle.outcome.specs.Roots.{needOf}
 use Rattle.outcome.specs.NamedKey.{OpensUnder}
+use Rattle.outcome.specs.LifetimeSays.{LifetimeAs}
 use Rattle.outcome.proofs.Asked.{asked-after}
 use Rattle.group.specs.declared.Member.{Member}
 use Rattle.group.specs.declared.SaAnswer.{SaAnswer}
@@ -29,7 +30,7 @@ use Rattle.group.specs.Receive.{Receives}
 module _ (m : Member) (now : ℕ) (lent s : List ℕ) (f : Frame) (e : IsFrame s f) (next : Member)
     (r : Receives m now lent s answer.Accepted next) where
   -- the answer has the octets that every copy of the SA's key opens to, as many as its policy needs, live; of a Rekey SA the octet counts
-  -- of its policy's two parts
+  -- of its policy's two parts; its lifetime as its policy and the frame's tick give it
   pub record Answered (p : GroupSaPolicy) (a : SaAnswer) : Type 0 where
     pub keying : List ℕ
     pub opens : OpensUnder limits (m .state) now lent f p keying
@@ -39,6 +40,7 @@ module _ (m : Member) (now : ℕ) (lent s : List ℕ) (f : Frame) (e : IsFrame s
     pub octets : a .octets ≡ padded 68 keying
     pub count : a .count ≡ needOf p
     pub condition : a .condition ≡ Live
+    pub lifetime : LifetimeAs now p (a .lifetime)
     pub of-rekey : p .protocol ≡ 6 → (a .encryption ≡ encryptionOctets p) × (a .wrapping ≡ keyWrapOctets p)
     pub of-esp : p .protocol ≡ 3 → (a .encryption ≡ 0) × (a .wrapping ≡ 0)
 
@@ -60,6 +62,7 @@ module _ (m : Member) (now : ℕ) (lent s : List ℕ) (f : Frame) (e : IsFrame s
         octets = ap (λ (x : SaAnswer). x .octets) is ∙ ap (padded 68) (w .has);
         count = ap (λ (x : SaAnswer). x .count) is ∙ w .count;
         condition = ap (λ (x : SaAnswer). x .condition) is ∙ w .live;
+        lifetime = subst (LifetimeAs now p) (ap (λ (x : SaAnswer). x .lifetime) (sym is)) (w .lifetime);
         of-rekey = λ q. (
           ap (λ (x : SaAnswer). x .encryption) is ∙ rw (rekey q) (w .parts q .0),
           ap (λ (x : SaAnswer). x .wrapping) is ∙ rw (rekey q) (w .parts q .1),

@@ -40,7 +40,15 @@ module _ (s : Sa) (n : ℕ) (octets : List ℕ) (h : length (s .octets) ≡ 68) 
 
   -- the answer with these octets and part counts
   abbrev pub With : ℕ → ℕ → SaAnswer
-  With a b = record { found = true; octets = octets; count = s .count; encryption = a; wrapping = b; condition = s .condition }
+  With a b = record {
+    found = true;
+    octets = octets;
+    count = s .count;
+    encryption = a;
+    wrapping = b;
+    condition = s .condition;
+    lifetime = s .lifetime;
+  }
 
   pub answer-rekey : s .protocol ≡ rekey → With (s .encryption) (s .wrapping) ≡ answerOf s
   unfolding answerOf

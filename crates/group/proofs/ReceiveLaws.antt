@@ -2,7 +2,6 @@
 use native.Mathlib.Omega.{arith}
 use Prim.Native.Nat.{ℕ, zero, suc, _≤_}
 use mathlib.Core.Path.{_≡_, refl, ap, sym, subst, _∙_}
-use mathlib.Core.Logic.{inl, inr}
 use mathlib.Core.List.{List, [], _∷_}
 use lib.ListN.{getD}
 use Rattle.octets.specs.Walk.{Reading, whole, broken}
@@ -17,9 +16,9 @@ use Rattle.frames.specs.Frame.{Frame, frame, frameLayout, offsetOf, figure}
 use Rattle.frames.proofs.FrameGrammar.{read-frame, frame-read}
 use Rattle.state.specs.declared.State.{State}
 use Rattle.clauses.specs.Refusals.{refusal}
-use Rattle.outcome.specs.Answer.{Condition, First, conditions}
-use Rattle.outcome.specs.Outcome.{Judged, refused, accepted, Outcome}
+use Rattle.outcome.specs.Outcome.{Judged, refused, Outcome}
 use Rattle.outcome.proofs.Answering.{answers-clauses}
+use Rattle.outcome.proofs.Demands.{one-of-nine, one-exactly}
 use Rattle.outcome.proofs.Determined.{outcome-one}
 use Rattle.outcome.proofs.Readings.{outcome-broken, outcome-read}
 use Rattle.group.specs.declared.Member.{Member}
@@ -27,39 +26,17 @@ use Rattle.group.specs.declared.receive.Answer.{Answer}
 use Rattle.group.specs.declared.receive.Answer.the-variants as answer
 use Rattle.group.specs.Receive.{numberOf, figureOf, Receives}
 
--- ---- the numbers of a frame whose layout is whole: 0 and 2 to 9; number 1 is judged on the octets
-abbrev Numbered : List Condition → Type 0
-Numbered [] = Unit {0}
-Numbered (c ∷ l) = (2 ≤ c .number) × (c .number ≤ 9) × Numbered l
-
-first-numbered : (l : List Condition) (n : ℕ) → Numbered l → First l n → (n ≤ 9) × (n ≡ 1 → ⊥)
-first-numbered [] n s e = (omega arith, λ q. omega (arith, q))
-first-numbered (c ∷ l) n s (inl p) = (omega (arith, s .1, p .1), λ q. omega (arith, s .0, p .1, q))
-first-numbered (c ∷ l) n s (inr p) = first-numbered l n (s .2) (p .1)
-
 module _ (m : State) (now : ℕ) (lent : List ℕ) (f : Frame) where
-  all-numbered : Numbered (conditions limits m now lent f)
-  all-numbered = (
-    omega arith,
-    omega arith,
-    (
-      omega arith,
-      omega arith,
-      (
-        omega arith,
-        omega arith,
-        (
-          omega arith,
-          omega arith,
-          (omega arith, omega arith, (omega arith, omega arith, (omega arith, omega arith, (omega arith, omega arith, tt)))),
-        ),
-      ),
-    ),
-  )
-
-  pub judged-numbered : (n : ℕ) (next : State) → Judged limits m now lent f n next → (n ≤ 9) × (n ≡ 1 → ⊥)
-  judged-numbered _ _ (refused n a) = first-numbered (conditions limits m now lent f) (suc n) all-numbered a
-  judged-numbered _ _ (accepted next a r) = (omega arith, λ q. omega (arith, q))
+  -- the numbers of a frame whose layout is whole are 0 and 2 to 9
+  pub judged-numbered : (octets : List ℕ) → frame octets ≡ whole f [] → (n : ℕ) (next : State) → Judged limits m now lent f n next →
+      (n ≤ 9) × (n ≡ 1 → ⊥)
+  judged-numbered octets e n next j =
+      let o = outcome-read limits m now lent octets f e n next j in
+      let one : n ≡ 1 → Outcome limits m now lent octets 1 next =
+      λ q. subst (λ (k : ℕ). Outcome limits m now lent octets k next) q o in (
+        one-of-nine limits m now lent octets n next o,
+        λ q. one-exactly limits m now lent octets next .0 (one q) .0 f (read-frame octets f [] e),
+      )
 
   -- one of numbers 2 to 7 applies
   pub judged-clauses : (n : ℕ) → n ≡ refusal limits m now lent f → (n ≡ 0 → ⊥) → Judged limits m now lent f n m
@@ -138,7 +115,7 @@ module _ (m : Member) (now : ℕ) (lent octets : List ℕ) where
       record {
         outcome = outcome-read limits (m .state) now lent octets f e (numberOf a) (next .state) j;
         offset =
-            other-figure a (judged-numbered (m .state) now lent f (numberOf a) (next .state) j .1)
+            other-figure a (judged-numbered (m .state) now lent f octets e (numberOf a) (next .state) j .1)
             ∙ sym (figure-is octets (whole f []) e);
       }
 

@@ -9,6 +9,7 @@ use Rattle.keys.specs.Kinds.{padded}
 use Rattle.sa.specs.Entry.{rekey}
 use Rattle.sa.specs.declared.entry.Sa.{Sa}
 use Rattle.sa.specs.declared.entry.Condition.the-variants.{Live}
+use Rattle.sa.specs.declared.entry.Lifetime.the-variants.{Unlimited}
 use Rattle.table.specs.declared.Found.{Found}
 use Rattle.state.specs.State.{newState, sweptState, askedSa}
 use Rattle.group.specs.declared.Member.{Member}
@@ -27,7 +28,8 @@ unfoldable pub leftMember : Member → Member
 leftMember m = newMember
 
 -- "the keying octets and condition of the SA with a given protocol and SPI, or none": the SA's own octets, with blanks behind them, and the
--- octet counts of the two parts of a Rekey SA
+-- octet counts of the two parts of a Rekey SA; its lifetime and the tick of its start: "the question about an SA gives them too" (document
+-- 02, T-07)
 unfoldable pub answerOf : Sa → SaAnswer
 answerOf s =
     record {
@@ -37,10 +39,19 @@ answerOf s =
       encryption = cond (eqb (s .protocol) rekey) (s .encryption) 0;
       wrapping = cond (eqb (s .protocol) rekey) (s .wrapping) 0;
       condition = s .condition;
+      lifetime = s .lifetime;
     }
 
 abbrev pub noAnswer : SaAnswer
-noAnswer = record { found = false; octets = padded 68 []; count = 0; encryption = 0; wrapping = 0; condition = Live }
+noAnswer = record {
+  found = false;
+  octets = padded 68 [];
+  count = 0;
+  encryption = 0;
+  wrapping = 0;
+  condition = Live;
+  lifetime = Unlimited;
+}
 
 unfoldable pub answered : Found → SaAnswer
 answered f = cond (f .found) (answerOf (f .sa)) noAnswer

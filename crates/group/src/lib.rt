@@ -4,6 +4,7 @@ pub mod receive;
 ghost use mathlib.Core.Path.{_≡_};
 ghost use Rattle.group.specs.Member.{newMember, sweptMember, leftMember, answerOf, saAnswer};
 use sa::entry::Condition;
+use sa::entry::Lifetime;
 use sa::entry::REKEY;
 use sa::entry::Sa;
 use state::State;
@@ -13,7 +14,7 @@ pub struct Member {
 }
 
 // The answer to the question about an SA: whether the member has it and, if so, its keying octets, the octet counts of their two parts
-// (of a Rekey SA) and its condition. All else is blank.
+// (of a Rekey SA), its condition and its lifetime. All else is blank.
 pub struct SaAnswer {
     pub found: bool,
     pub octets: [u8; 68],
@@ -21,6 +22,7 @@ pub struct SaAnswer {
     pub encryption: usize,
     pub wrapping: usize,
     pub condition: Condition,
+    pub lifetime: Lifetime,
 }
 
 // The answer where the member has the SA.
@@ -42,6 +44,7 @@ fn answer(s: Sa) -> SaAnswer
         wrapping = s.wrapping;
     }
     let condition = s.condition;
+    let lifetime = s.lifetime;
     SaAnswer {
         found: true,
         octets,
@@ -49,6 +52,7 @@ fn answer(s: Sa) -> SaAnswer
         encryption,
         wrapping,
         condition,
+        lifetime,
     }
 }
 
@@ -77,7 +81,7 @@ impl Member {
         Member::new()
     }
 
-    // The keying octets and condition of the SA with this protocol and SPI, or none.
+    // The keying octets, condition and lifetime of the SA with this protocol and SPI, or none.
     pub fn sa(self, protocol: u8, spi: &[u8]) -> SaAnswer
         ensures { λ r. ⌜ r ≡ saAnswer protocol (now (spi .entry)) self ⌝ }
     {
@@ -94,6 +98,7 @@ impl Member {
             encryption: 0,
             wrapping: 0,
             condition: Condition::Live,
+            lifetime: Lifetime::Unlimited,
         }
     }
 }

@@ -16,7 +16,8 @@ use Rattle.frames.specs.declared.exchanges.Exchange.{Exchange}
 use Rattle.clauses.specs.Contents.{rowOf, policiesOf, bagsOf}
 use Rattle.clauses.specs.Number2.{standing}
 use Rattle.clauses.specs.Number5.{ahPolicy, ahBag, otherTransforms, lentKeySize, five-ofFrame}
-use Rattle.clauses.specs.Number7.{manyEspPolicies, manyWrapKeys, manySaKeys, manyDeletedSpis, manySas, seven-ofFrame, seven-ofMember}
+use Rattle.clauses.specs.Number7.{manyEspPolicies, manyWrapKeys, manySaKeys, manyDeletedSpis, longLifetime, manySas}
+use Rattle.clauses.specs.Number7.{seven-ofFrame, seven-ofMember}
 use Rattle.clauses.specs.Refusals.{one, five, seven, applies}
 use Rattle.clauses.proofs.OneOf.{or-false, one-append}
 use Rattle.payloads.specs.declared.deletion.Deletes.{Deletes}
@@ -46,8 +47,8 @@ module _ (f : Frame) (row : Exchange) (e : rowOf f ≡ row) (d : Deletes) (is : 
 
   pub seven-is : (state : State) (now n : ℕ) → n ≡ length (standing now state)
       → one (sevenOf limits d p k n) ≡ applies (seven limits state now f)
-  unfolding manyEspPolicies manyWrapKeys manySaKeys manyDeletedSpis manySas seven-ofFrame seven-ofMember
+  unfolding manyEspPolicies manyWrapKeys manySaKeys manyDeletedSpis longLifetime manySas seven-ofFrame seven-ofMember
   seven-is state now n nq =
       (λ i. one (ltb (limits .espPolicies) (pq i .esps) ∷ ltb (limits .wrapKeys) (kq i .wraps) ∷ kq i .overfull
-      ∷ ltb (limits .deletedSpis) (is .spis i) ∷ ltb (limits .sas) (nq i + pq i .sas) ∷ []))
+      ∷ ltb (limits .deletedSpis) (is .spis i) ∷ pq i .long ∷ ltb (limits .sas) (nq i + pq i .sas) ∷ []))
       ∙ one-append (seven-ofFrame limits f) (seven-ofMember limits state now f)

@@ -18,7 +18,7 @@ use Rattle.contents.specs.inner.Bags.{bagsIn}
 use Rattle.clauses.specs.Contents.{rowOf, some, gather, isGsa, hasGsa, hasKd, policiesIn as policiesOfOne, policiesOf, bagsOf, saOf}
 use Rattle.clauses.specs.Number4.{criticalUnknown, barredMemberBag, barredDelete, twoGsa, twoKd, gsaWithoutKd, kdWithoutGsa, neither}
 use Rattle.clauses.specs.Number4.{severalRekeyPolicies, severalGroupWide, severalMemberBags, gsaWithoutSaPolicy, keyLengthTwice}
-use Rattle.clauses.specs.Number4.{initialMessageIdTwice, delayTwice, otherDestination, withoutSaPolicy, four-ofFrame}
+use Rattle.clauses.specs.Number4.{initialMessageIdTwice, delayTwice, otherDestination, lifetimeTwice, withoutSaPolicy, four-ofFrame}
 use Rattle.clauses.specs.Refusals.{one, applies, four}
 use Rattle.clauses.proofs.First.{any-no, count-yes, count-no}
 use Rattle.clauses.proofs.OneOf.{or-false, one-at}
@@ -107,13 +107,14 @@ module _ (s : List ℕ) (f : Frame) (b : PayloadFacts) (is : OfFrame s f b) (row
 
   as-clauses : b .gsas ≤ 1 → b .kds ≤ 1 → fourOf row b p k ≡ four-ofFrame f
   unfolding four-ofFrame barredMemberBag barredDelete twoGsa twoKd gsaWithoutKd kdWithoutGsa neither severalRekeyPolicies severalGroupWide
-      severalMemberBags keyLengthTwice initialMessageIdTwice delayTwice otherDestination
+      severalMemberBags keyLengthTwice initialMessageIdTwice delayTwice otherDestination lifetimeTwice
   as-clauses g h = λ i.
       is .critical i ∷ (not (sym e i .members) && ltb 0 (bags-are h i .members)) ∷ (not (sym e i .deletes) && ltb 0 (is .deletes i))
       ∷ ltb 1 (is .gsas i) ∷ ltb 1 (is .kds i) ∷ (gsa-there i && not (kd-there i)) ∷ (kd-there i && not (gsa-there i))
       ∷ (not (gsa-there i) && (not (kd-there i) && not (sym e i .deletes && ltb 0 (is .deletes i))))
       ∷ ltb 1 (policies-are g i .rekeys) ∷ ltb 1 (policies-are g i .wides) ∷ ltb 1 (bags-are h i .members) ∷ without-sa g i
-      ∷ policies-are g i .lengths ∷ policies-are g i .ids ∷ policies-are g i .delays ∷ policies-are g i .elsewhere ∷ []
+      ∷ policies-are g i .lengths ∷ policies-are g i .ids ∷ policies-are g i .delays ∷ policies-are g i .elsewhere
+      ∷ policies-are g i .lifetimes ∷ []
 
   -- with two of them, both apply
   two-gsas : ltb 1 (b .gsas) ≡ true → one (fourOf row b p k) ≡ applies (four f)

@@ -5,7 +5,7 @@ ghost use mathlib.Core.Path.{_≡_};
 ghost use Rattle.clauses.specs.Refusals.{one};
 ghost use Rattle.judging.specs.inner.Tests.{fourBy, fourIn};
 
-// The clauses of number 4, in the order in which document 01 names them: whether each applies.
+// The clauses of number 4, in the order in which documents 01 and 02 name them: whether each applies.
 pub struct Four {
     pub critical: bool,
     pub member_bag: bool,
@@ -23,6 +23,7 @@ pub struct Four {
     pub ids: bool,
     pub delays: bool,
     pub elsewhere: bool,
+    pub lifetimes: bool,
 }
 
 // Which clauses apply, in an exchange with this row, to a frame with these facts. Internal.
@@ -61,6 +62,8 @@ pub fn clauses_4(row: Exchange, x: Facts) -> Four
     let delays = p.delays;
     // "a Rekey destination that isn't one address (start equals end) in 224.0.0.0/4 or ff00::/8 and one port"
     let elsewhere = p.elsewhere;
+    // GSA_KEY_LIFETIME "twice in one policy" (document 02, T-07)
+    let lifetimes = p.lifetimes;
     Four {
         critical,
         member_bag,
@@ -78,6 +81,7 @@ pub fn clauses_4(row: Exchange, x: Facts) -> Four
         ids,
         delays,
         elsewhere,
+        lifetimes,
     }
 }
 
@@ -102,4 +106,5 @@ pub fn number_4(row: Exchange, x: Facts) -> bool
         | c.ids
         | c.delays
         | c.elsewhere
+        | c.lifetimes
 }

@@ -21,12 +21,13 @@ fn is_over(standing: usize, more: usize) -> bool
     SAS - standing < more
 }
 
-// The clauses of number 7, in the order in which document 01 names them: whether each applies.
+// The clauses of number 7, those on the frame before that on the table: whether each applies.
 pub struct Seven {
     pub esps: bool,
     pub wraps: bool,
     pub overfull: bool,
     pub spis: bool,
+    pub long: bool,
     pub sas: bool,
 }
 
@@ -46,6 +47,8 @@ pub fn clauses_7(x: Facts, standing: usize) -> Seven
     let overfull = k.overfull;
     // "32 deleted SPIs in the frame"
     let spis = DELETED_SPIS < d.spis;
+    // "More seconds are number 7" (document 02, T-07)
+    let long = p.long;
     // "or over 16 SAs after the frame, those already due when it arrives not counted", by T-01 64
     let sas = is_over(standing, p.sas);
     Seven {
@@ -53,6 +56,7 @@ pub fn clauses_7(x: Facts, standing: usize) -> Seven
         wraps,
         overfull,
         spis,
+        long,
         sas,
     }
 }
@@ -62,5 +66,5 @@ pub fn number_7(x: Facts, standing: usize) -> bool
     ensures { λ r. ⌜ r ≡ one (sevenBy limits x standing) ⌝ }
 {
     let c = clauses_7(x, standing);
-    c.esps | c.wraps | c.overfull | c.spis | c.sas
+    c.esps | c.wraps | c.overfull | c.spis | c.long | c.sas
 }

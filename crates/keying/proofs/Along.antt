@@ -10,16 +10,15 @@ use lib.ListN.{length, drop, set, length-append, length-set}
 use Rattle.octets.specs.Walk.{part}
 use Rattle.keys.specs.Limits.{limits}
 use Rattle.keys.specs.Lists.{any}
-use Rattle.attributes.specs.Place.{inPolicy}
 use Rattle.attributes.specs.Tree.{WrapKey}
 use Rattle.policies.specs.Policy.{GroupSaPolicy, policies}
 use Rattle.frames.specs.Frame.{Frame}
 use Rattle.contents.specs.inner.Values.{isWhole}
 use Rattle.contents.specs.declared.policy.Parts.{Parts}
 use Rattle.sa.specs.declared.entry.Sa.{Sa}
-use Rattle.clauses.specs.Contents.{rowOf, gather, saOf, announced}
+use Rattle.clauses.specs.Contents.{rowOf, several, gather, saOf, announced}
 use Rattle.clauses.specs.Fitness.{transformsFit}
-use Rattle.clauses.specs.Number4.{twiceInTransform, keyLengthTwice}
+use Rattle.clauses.specs.Number4.{twiceInTransform, keyLengthTwice, lifetimeTwice}
 use Rattle.clauses.specs.Number5.{otherTransforms}
 use Rattle.clauses.specs.Number6.{bagsNamed, policyUnpaired}
 use Rattle.chains.specs.Chain.{Root}
@@ -53,6 +52,10 @@ module _ (f : Frame) (g k : List ℕ) (y : Ready f g k) (before : List GroupSaPo
   unfolding keyLengthTwice
   once = none-passes (λ (p : GroupSaPolicy). any twiceInTransform (p .transforms)) (announced f) (y .lengths) a stands
 
+  lasting : several (a .keyLifetimes) ≡ false
+  unfolding lifetimeTwice
+  lasting = none-passes (λ (p : GroupSaPolicy). several (p .keyLifetimes)) (announced f) (y .lifetimes) a stands
+
   paired : bagsNamed f (a .protocol) (a .spi) ≡ 1
   unfolding policyUnpaired
   paired =
@@ -65,17 +68,18 @@ module _ (f : Frame) (g k : List ℕ) (y : Ready f g k) (before : List GroupSaPo
     protocol-is = s .protocol-is;
     spi-is = s .spi-is;
     spi-size = s .spi-size;
-    place = inPolicy (r .first);
     body = s .body;
     is = s .is;
     transforms = s .transforms;
     fits = fits;
     once = once;
+    lifetimes = s .lifetimes;
+    lasting = lasting;
     bags = y .bags;
     paired = paired;
   }
 
-module _ (g k schedule ids block : List ℕ) where
+module _ (g k schedule ids block : List ℕ) (tick : ℕ) where
   pub record Along (at : ℕ) (nine : Bool) (sas : List Sa) (count : ℕ) : Type 0 where
     pub inside : at ≤ length g
     pub rest : isWhole (policies 0 (drop at g)) ≡ true
@@ -84,7 +88,7 @@ module _ (g k schedule ids block : List ℕ) where
     pub all-are : passed ++ sasFrom g at ≡ sasFrom g 0
     pub few : count ≤ length passed
     pub known : (roots : List Root) (entries : List WrapKey) (size : ℕ) (f : Frame) → Ready f g k →
-        Opening schedule ids block roots entries size → KeysOf roots entries size f passed (foundBy nine) sas count
+        Opening schedule ids block roots entries size → KeysOf roots entries size f passed tick (foundBy nine) sas count
 
   pub along-start : (sas : List Sa) → isWhole (policies 0 g) ≡ true → length sas ≡ limits .sas → Along 0 false sas 0
   along-start sas w n =
@@ -100,12 +104,13 @@ module _ (g k schedule ids block : List ℕ) where
 
   module _ (at : ℕ) (nine : Bool) (sas : List Sa) (count : ℕ) (w : Along at nine sas count) where
     pub along-end : (found : Found) → found ≡ foundBy nine → length g ≤ at → (roots : List Root) (entries : List WrapKey) (size : ℕ)
-        (f : Frame) → Ready f g k → Opening schedule ids block roots entries size → KeysOf roots entries size f (announced f) found sas count
+        (f : Frame) → Ready f g k → Opening schedule ids block roots entries size →
+        KeysOf roots entries size f (announced f) tick found sas count
     along-end found e h roots entries size f y o =
-        subst (λ (l : List GroupSaPolicy). KeysOf roots entries size f l found sas count)
+        subst (λ (l : List GroupSaPolicy). KeysOf roots entries size f l tick found sas count)
         (sym (append-nil (w .passed)) ∙ ap (λ (l : List GroupSaPolicy). w .passed ++ l) (sym (no-more-sas g at h)) ∙ w .all-are
         ∙ ap (gather saOf) (sym (y .policies)))
-        (subst (λ (x : Found). KeysOf roots entries size f (w .passed) x sas count) (sym e) (w .known roots entries size f y o))
+        (subst (λ (x : Found). KeysOf roots entries size f (w .passed) tick x sas count) (sym e) (w .known roots entries size f y o))
 
     module _ (r : Parts) (p : PolicyAt g at r) where
       pub along-wide : r .first ≡ 0 → Along (at + r .end) nine sas count
@@ -156,8 +161,8 @@ module _ (g k schedule ids block : List ℕ) where
             Opening schedule ids block roots entries size → SomeEight roots entries size f (announced f)
         along-eight more roots entries size f y o =
             let e = more roots entries size f (s .sa) (record { opening = o; stands = along-announces f y }) in
-            let u = eight-wider roots entries size f (w .passed ++ (s .sa ∷ [])) (sasFrom g (at + r .end))
-            (eight-more roots entries size f (w .passed) (s .sa) e) in
+            let u = eight-wider roots entries size f tick (w .passed ++ (s .sa ∷ [])) (sasFrom g (at + r .end))
+            (eight-more roots entries size f tick (w .passed) (s .sa) e) in
             subst (SomeEight roots entries size f) (all-next ∙ ap (gather saOf) (sym (y .policies))) u
 
         pub along-none : Says IsUnopened → Along (at + r .end) true sas count
@@ -171,11 +176,11 @@ module _ (g k schedule ids block : List ℕ) where
               all-are = all-next;
               few = omega (arith, w .few);
               known = λ roots entries size f y o.
-                  unopened-more roots entries size f (w .passed) (s .sa) nine sas count (w .known roots entries size f y o)
+                  unopened-more roots entries size f tick (w .passed) (s .sa) nine sas count (w .known roots entries size f y o)
                   (more roots entries size f (s .sa) (record { opening = o; stands = along-announces f y }));
             }
 
-        pub along-sa : (sa : Sa) → count < limits .sas → Says (IsSa sa) → Along (at + r .end) nine (set sas count sa) (count + 1)
+        pub along-sa : (sa : Sa) → count < limits .sas → Says (IsSa tick sa) → Along (at + r .end) nine (set sas count sa) (count + 1)
         along-sa sa h more =
             let n = length-append (w .passed) (s .sa ∷ []) in
             let e = w .places in
@@ -187,6 +192,6 @@ module _ (g k schedule ids block : List ℕ) where
               all-are = all-next;
               few = omega (arith, w .few);
               known = λ roots entries size f y o.
-                  sa-more roots entries size f (w .passed) (s .sa) nine sas count (w .known roots entries size f y o) sa (omega arith)
+                  sa-more roots entries size f tick (w .passed) (s .sa) nine sas count (w .known roots entries size f y o) sa (omega arith)
                   (more roots entries size f (s .sa) (record { opening = o; stands = along-announces f y }));
             }

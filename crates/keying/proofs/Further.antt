@@ -22,7 +22,7 @@ use Rattle.keying.specs.inner.Keyed.{foundBy, SomeEight, NoEight, SomeUn
 use Rattle.keying.specs.inner.Policies.{IsEight, IsUnopened, IsSa}
 use Rattle.keying.specs.declared.joining.Found.the-variants.{Nine}
 
-module _ (roots : List Root) (entries : List WrapKey) (size : ℕ) (f : Frame) where
+module _ (roots : List Root) (entries : List WrapKey) (size : ℕ) (f : Frame) (tick : ℕ) where
   -- ---- policies among more policies
   module _ (l m : List GroupSaPolicy) where
     in-more : (a : GroupSaPolicy) → In a l → In a (l ++ m)
@@ -50,8 +50,8 @@ module _ (roots : List Root) (entries : List WrapKey) (size : ℕ) (f : Frame) w
   unopened-fit a n (wrong-size x o h) = n x o
   unopened-fit a n (two-values x y o p h) = n x o
 
-  enter-further : {l : List GroupSaPolicy} {m : List Sa} (a : GroupSaPolicy) (x : List ℕ) → Enter roots entries size f l m →
-      KeyOf roots entries size (announcedAs f a) x → Enter roots entries size f (l ++ (a ∷ [])) (m ++ (saFrom a x ∷ []))
+  enter-further : {l : List GroupSaPolicy} {m : List Sa} (a : GroupSaPolicy) (x : List ℕ) → Enter roots entries size tick f l m →
+      KeyOf roots entries size (announcedAs f a) x → Enter roots entries size tick f (l ++ (a ∷ [])) (m ++ (saFrom tick a x ∷ []))
   enter-further a x no-sa k = one-more x k no-sa
   enter-further a x (one-more y h e) k = one-more y h (enter-further a x e k)
 
@@ -60,26 +60,28 @@ module _ (roots : List Root) (entries : List WrapKey) (size : ℕ) (f : Frame) w
     pub eight-more : IsEight roots entries size f a → SomeEight roots entries size f (l ++ (a ∷ []))
     eight-more e = record { sa = a; stands = last-in l a; eight = e }
 
-    no-eight : (nine : Bool) (sas : List Sa) (n : ℕ) → KeysOf roots entries size f l (foundBy nine) sas n → NoEight roots entries size f l
+    no-eight : (nine : Bool) (sas : List Sa) (n : ℕ) → KeysOf roots entries size f l tick (foundBy nine) sas n →
+        NoEight roots entries size f l
     no-eight true sas n k = k .0
     no-eight false sas n k = k .0
 
-    pub unopened-more : (nine : Bool) (sas : List Sa) (n : ℕ) → KeysOf roots entries size f l (foundBy nine) sas n →
-        IsUnopened roots entries size f a → KeysOf roots entries size f (l ++ (a ∷ [])) Nine sas n
+    pub unopened-more : (nine : Bool) (sas : List Sa) (n : ℕ) → KeysOf roots entries size f l tick (foundBy nine) sas n →
+        IsUnopened roots entries size f a → KeysOf roots entries size f (l ++ (a ∷ [])) tick Nine sas n
     unopened-more nine sas n k u =
         (fit-further l a (no-eight nine sas n k) (unopened-fit a u), record { sa = a; stands = last-in l a; none = u })
 
-    pub sa-more : (nine : Bool) (sas : List Sa) (n : ℕ) → KeysOf roots entries size f l (foundBy nine) sas n → (sa : Sa) →
-        n < length sas → IsSa sa roots entries size f a → KeysOf roots entries size f (l ++ (a ∷ [])) (foundBy nine) (set sas n sa) (n + 1)
+    pub sa-more : (nine : Bool) (sas : List Sa) (n : ℕ) → KeysOf roots entries size f l tick (foundBy nine) sas n → (sa : Sa) →
+        n < length sas → IsSa tick sa roots entries size f a →
+        KeysOf roots entries size f (l ++ (a ∷ [])) tick (foundBy nine) (set sas n sa) (n + 1)
     sa-more true sas n k sa h u = (fit-further l a (k .0) (u .fit), unopened-wider l (a ∷ []) (k .1))
     sa-more false sas n k sa h u =
         let s = set sas n sa in
-        let t : take (n + 1) s ≡ take n sas ++ (saFrom a (u .x) ∷ []) =
+        let t : take (n + 1) s ≡ take n sas ++ (saFrom tick a (u .x) ∷ []) =
         ap (λ (i : ℕ). take i s) (add-one n) ∙ take-suc-set sas n sa h
         ∙ ap (λ (x : Sa). take n sas ++ (x ∷ [])) (u .is) in
         let c = length-append l (a ∷ []) in
         let q = k .2 in (
           fit-further l a (k .0) (u .fit),
-          subst (Enter roots entries size f (l ++ (a ∷ []))) (sym t) (enter-further a (u .x) (k .1) (u .key)),
+          subst (Enter roots entries size tick f (l ++ (a ∷ []))) (sym t) (enter-further a (u .x) (k .1) (u .key)),
           omega arith,
         )

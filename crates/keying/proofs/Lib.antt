@@ -5,3 +5,4 @@ pub mod OwnBag
 pub mod OnePolicy
 pub mod PolicyAt
 pub mod Along
+pub mod LifetimeLaws

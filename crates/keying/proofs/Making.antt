@@ -18,17 +18,19 @@ use Rattle.keys.proofs.Sizes.{encryption-le, rekey-le}
 use Rattle.keys.proofs.Made.{esp-made, rekey-made}
 use Rattle.policies.specs.Policy.{GroupSaPolicy}
 use Rattle.sa.specs.Entry.{espSa, rekeySa}
+use Rattle.sa.specs.declared.entry.Lifetime.{Lifetime}
 use Rattle.sa.specs.declared.entry.Sa.{Sa}
 use Rattle.clauses.specs.Fitness.{isEsp, encryptionOctets, keyWrapOctets}
-use Rattle.outcome.specs.After.{saFrom}
+use Rattle.outcome.specs.After.{lifetimeFrom, saFrom}
 use Rattle.keying.specs.inner.Policies.{Named}
 
-module _ (a : GroupSaPolicy) (x : List ℕ) where
-  of-esp : isEsp a ≡ true → saFrom a x ≡ espSa (a .spi) (espOf x)
+module _ (tick : ℕ) (a : GroupSaPolicy) (x : List ℕ) where
+  of-esp : isEsp a ≡ true → saFrom tick a x ≡ espSa (a .spi) (espOf x) (lifetimeFrom tick (a .keyLifetimes))
   unfolding saFrom
   of-esp e = rw e
 
-  of-rekey : isEsp a ≡ false → saFrom a x ≡ rekeySa (a .spi) (rekeyOf x (encryptionOctets a) (keyWrapOctets a))
+  of-rekey : isEsp a ≡ false →
+      saFrom tick a x ≡ rekeySa (a .spi) (rekeyOf x (encryptionOctets a) (keyWrapOctets a)) (lifetimeFrom tick (a .keyLifetimes))
   unfolding saFrom
   of-rekey e = rw e
 
@@ -53,13 +55,13 @@ module _ (octets : List ℕ) (long : length octets ≡ 68) where
           let n : k .key .count ≡ e = ap (λ (m : EspKey). m .count) esp-key ∙ length-take-le e octets esp-inside in
           omega arith
 
-      pub esp-from : (a : GroupSaPolicy) (p : ℕ) (x : List ℕ) (w : ℕ) (r : Sa) → r ≡ espSa x (k .key) → p ≡ 3 → w ≡ 0 →
-          Named p x e w a → r ≡ saFrom a (take (e + w) octets)
-      esp-from a p x w r made q z h =
+      pub esp-from : (t : Lifetime) (tick : ℕ) (a : GroupSaPolicy) (p : ℕ) (x : List ℕ) (w : ℕ) (r : Sa) → r ≡ espSa x (k .key) t →
+          p ≡ 3 → w ≡ 0 → Named p x e w t tick a → r ≡ saFrom tick a (take (e + w) octets)
+      esp-from t tick a p x w r made q z h =
           let n : e ≡ e + w = omega arith in
           let o = esp-key ∙ ap (λ (m : ℕ). espOf (take m octets)) n in
-          made ∙ (λ i. espSa (sym (h .spi-is) i) (o i))
-          ∙ sym (of-esp a (take (e + w) octets) (eq-eqb (a .protocol) 3 (h .protocol-is ∙ q)))
+          made ∙ (λ i. espSa (sym (h .spi-is) i) (o i) (sym (h .lifetime-is) i))
+          ∙ sym (of-esp tick a (take (e + w) octets) (eq-eqb (a .protocol) 3 (h .protocol-is ∙ q)))
 
   -- ---- a Rekey SA: the first e + w octets, cut after e
   module _ (e w : ℕ) (fit : rekeySizes e w ≡ true) where
@@ -76,9 +78,10 @@ module _ (octets : List ℕ) (long : length octets ≡ 68) where
       pub rekey-small : rekeySizes (k .key .encryption) (k .key .wrapping) ≡ true
       rekey-small = ap (λ (m : RekeyKey). rekeySizes (m .encryption) (m .wrapping)) rekey-key ∙ fit
 
-      pub rekey-from : (a : GroupSaPolicy) (p : ℕ) (x : List ℕ) (r : Sa) → r ≡ rekeySa x (k .key) → (p ≡ 3 → ⊥) →
-          Named p x e w a → r ≡ saFrom a (take (e + w) octets)
-      rekey-from a p x r made q h =
+      pub rekey-from : (t : Lifetime) (tick : ℕ) (a : GroupSaPolicy) (p : ℕ) (x : List ℕ) (r : Sa) → r ≡ rekeySa x (k .key) t →
+          (p ≡ 3 → ⊥) → Named p x e w t tick a → r ≡ saFrom tick a (take (e + w) octets)
+      rekey-from t tick a p x r made q h =
           let y : List ℕ = take (e + w) octets in
           let o = rekey-key ∙ (λ i. rekeyOf y (sym (h .encryption-is) i) (sym (h .wrapping-is) i)) in
-          made ∙ (λ i. rekeySa (sym (h .spi-is) i) (o i)) ∙ sym (of-rekey a y (ne-eqb (a .protocol) 3 (λ z. q (sym (h .protocol-is) ∙ z))))
+          made ∙ (λ i. rekeySa (sym (h .spi-is) i) (o i) (sym (h .lifetime-is) i))
+          ∙ sym (of-rekey tick a y (ne-eqb (a .protocol) 3 (λ z. q (sym (h .protocol-is) ∙ z))))

@@ -1,7 +1,8 @@
--- The needs of an announced policy.
+-- The needs and the lifetime of an announced policy.
 use native.Mathlib.Omega.{arith}
 use Prim.Native.Nat.{ℕ, _+_, _≤_}
 use mathlib.Core.Path.{_≡_, ap, sym, _∙_}
+use mathlib.Core.Bool.{false}
 use mathlib.Core.List.{List}
 use borrow.Author.Tests.{eq-eqb, ne-eqb, eqb-true, eqb-false}
 use lib.Dec.{eqb}
@@ -10,17 +11,21 @@ use Rattle.keys.specs.Algorithms.{sizeOf}
 use Rattle.keys.specs.Kinds.{rekeySizes}
 use Rattle.keys.proofs.Cases.{bool-cases}
 use Rattle.keys.proofs.Sizes.{encryption-le, rekey-le}
-use Rattle.policies.specs.Policy.{spiSize, GroupSaPolicy}
+use Rattle.attributes.specs.Place.{inPolicy}
+use Rattle.policies.specs.Policy.{spiSize, GroupSaPolicy, SaBody}
+use Rattle.policies.specs.Grammar.{IsSaBody}
 use Rattle.frames.specs.Frame.{Frame}
 use Rattle.contents.specs.inner.Bags.{bagsIn}
-use Rattle.clauses.specs.Contents.{rowOf, gather, groupBagOf}
+use Rattle.sa.specs.declared.entry.Lifetime.{Lifetime}
+use Rattle.clauses.specs.Contents.{rowOf, several, gather, groupBagOf}
 use Rattle.clauses.specs.Fitness.{sum, encryptionNeeds, keyWrapNeeds, encryptionOctets, keyWrapOctets}
 use Rattle.clauses.specs.Number6.{bagNamed}
 use Rattle.suites.specs.inner.Suites.{needsOf}
 use Rattle.suites.specs.declared.counts.Needs.{Needs}
 use Rattle.outcome.specs.Roots.{needOf}
+use Rattle.outcome.specs.After.{lifetimeFrom}
 use Rattle.outcome.proofs.RunsNeeds.{esp-sizes, rekey-sizes}
-use Rattle.keying.specs.inner.Policies.{Sized, Named, Announces}
+use Rattle.keying.specs.inner.Policies.{Sized, Named, lifetimesOf, Announces}
 
 -- parts of these sizes have 68 octets at most
 pub few-octets : (p : ℕ) (x : List ℕ) (e w : ℕ) → Sized p x e w → e + w ≤ 68
@@ -33,24 +38,40 @@ module _ (k : List ℕ) (p : ℕ) (x y : List ℕ) (f : Frame) (a : GroupSaPolic
   pub one-bag : count (bagNamed p x) (gather groupBagOf (bagsIn k)) ≡ 1
   one-bag = (λ i. count (bagNamed (sym (h .protocol-is) i) (sym (h .spi-is) i)) (gather groupBagOf (sym (h .bags) i))) ∙ h .paired
 
+  -- its lifetime is read from what it holds after its SPI
+  pub lifetime-there : (b : SaBody) × IsSaBody (inPolicy p) y b × (several (lifetimesOf p b) ≡ false)
+  lifetime-there = (h .body, h .is, ap (λ (l : List ℕ). several l) (sym (h .lifetimes)) ∙ h .lasting)
+
+  pub lifetime-of : (t : Lifetime) (tick : ℕ) → ((b : SaBody) → IsSaBody (inPolicy p) y b → t ≡ lifetimeFrom tick (lifetimesOf p b)) →
+      lifetimeFrom tick (a .keyLifetimes) ≡ t
+  lifetime-of t tick is = ap (lifetimeFrom tick) (h .lifetimes) ∙ sym (is (h .body) (h .is))
+
   module _ (n : Needs) (is : n ≡ needsOf (h .body .suite .transforms)) where
-    pub needs-are : Named p x (n .encryption) (n .wrapping) a
-    unfolding encryptionOctets keyWrapOctets
-    needs-are = record {
+    encryption-of : encryptionOctets a ≡ n .encryption
+    unfolding encryptionOctets
+    encryption-of = ap (sum encryptionNeeds) (h .transforms) ∙ ap (λ (m : Needs). m .encryption) (sym is)
+
+    wrapping-of : keyWrapOctets a ≡ n .wrapping
+    unfolding keyWrapOctets
+    wrapping-of = ap (sum keyWrapNeeds) (h .transforms) ∙ ap (λ (m : Needs). m .wrapping) (sym is)
+
+    pub named-with : (t : Lifetime) (tick : ℕ) → lifetimeFrom tick (a .keyLifetimes) ≡ t → Named p x (n .encryption) (n .wrapping) t tick a
+    named-with t tick l = record {
       protocol-is = h .protocol-is;
       spi-is = h .spi-is;
-      encryption-is = ap (sum encryptionNeeds) (h .transforms) ∙ ap (λ (m : Needs). m .encryption) (sym is);
-      wrapping-is = ap (sum keyWrapNeeds) (h .transforms) ∙ ap (λ (m : Needs). m .wrapping) (sym is);
+      encryption-is = encryption-of;
+      wrapping-is = wrapping-of;
+      lifetime-is = l;
     }
 
     pub need-is : needOf a ≡ n .encryption + n .wrapping
     unfolding needOf
-    need-is = λ i. needs-are .encryption-is i + needs-are .wrapping-is i
+    need-is = λ i. encryption-of i + wrapping-of i
 
     pub sizes-are : Sized p x (n .encryption) (n .wrapping)
     sizes-are =
-        let e = needs-are .encryption-is in
-        let w = needs-are .wrapping-is in
+        let e = encryption-of in
+        let w = wrapping-of in
         let q = h .protocol-is in
         record {
           esp = λ z.

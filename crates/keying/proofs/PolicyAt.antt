@@ -9,7 +9,7 @@ use lib.Seq.{drop-drop, getD-drop}
 use Rattle.octets.specs.Numbers.{oct}
 use Rattle.octets.specs.Octets.{Octets}
 use Rattle.octets.specs.Walk.{part, Reading}
-use Rattle.attributes.specs.Tree.{initialMessageIds}
+use Rattle.attributes.specs.Tree.{initialMessageIds, keyLifetimes}
 use Rattle.octets.proofs.Walks.{tail, to-end, many-none, part-length}
 use Rattle.attributes.specs.Place.{inPolicy}
 use Rattle.policies.specs.Policy.{spiSize, spiOf, GroupSaPolicy, Policy, SaBody, policy, policies}
@@ -21,6 +21,7 @@ use Rattle.contents.specs.declared.policy.Parts.{Parts}
 use Rattle.clauses.specs.Contents.{gather, saOf}
 use Rattle.bagkeys.proofs.BagAt.{part-within}
 use Rattle.suites.proofs.PolicyLaws.{ends, rest}
+use Rattle.keying.specs.inner.Policies.{lifetimesOf}
 
 -- the SAs that the policies from a place on announce
 abbrev pub sasFrom : List ℕ → ℕ → List GroupSaPolicy
@@ -39,6 +40,7 @@ policyOf s x = record {
   destination = x .destination;
   transforms = x .suite .transforms;
   initialMessageIds = initialMessageIds (inPolicy (oct s 0)) (x .suite .attributes);
+  keyLifetimes = keyLifetimes (inPolicy (oct s 0)) (x .suite .attributes);
 }
 
 module _ (g : List ℕ) (at : ℕ) (r : Parts) where
@@ -51,6 +53,7 @@ module _ (g : List ℕ) (at : ℕ) (r : Parts) where
     pub body : SaBody
     pub is : IsSaBody (inPolicy (r .first)) (part g (at + r .body) (at + r .end)) body
     pub transforms : sa .transforms ≡ body .suite .transforms
+    pub lifetimes : sa .keyLifetimes ≡ lifetimesOf (r .first) body
     pub first : sasFrom g at ≡ sa ∷ sasFrom g (at + r .end)
 
   pub record PolicyAt : Type 0 where
@@ -86,6 +89,7 @@ module _ (g : List ℕ) (at : ℕ) (r : Parts) where
           body = w .body;
           is = subst (λ (y : List ℕ). IsSaBody (inPolicy (r .first)) y (w .body)) (part-within g at (r .body) (r .end)) (w .is);
           transforms = refl;
+          lifetimes = ap (λ (n : ℕ). lifetimesOf n (w .body)) (sym (h .first));
           first = ap (gather saOf) (w .item) ∙ ap (λ (m : List GroupSaPolicy). a ∷ m) (sym after);
         }
 

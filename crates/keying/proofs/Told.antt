@@ -6,6 +6,7 @@ use lib.ListN.{take}
 use Rattle.attributes.specs.Tree.{WrapKey}
 use Rattle.policies.specs.Policy.{GroupSaPolicy}
 use Rattle.frames.specs.Frame.{Frame}
+use Rattle.sa.specs.declared.entry.Lifetime.{Lifetime}
 use Rattle.sa.specs.declared.entry.Sa.{Sa}
 use Rattle.chains.specs.Chain.{Root}
 use Rattle.chains.specs.Refusals.{KeyOf}
@@ -17,8 +18,8 @@ use Rattle.outcome.specs.Roots.{needOf, announcedAs}
 use Rattle.outcome.specs.After.{saFrom}
 use Rattle.keying.specs.inner.Policies.{IsEight, IsUnopened, IsSa, Named, IsOpened}
 
-module _ (p : ℕ) (x : List ℕ) (e w : ℕ) (one : Opened) (roots : List Root) (entries : List WrapKey) (size : ℕ) (f : Frame)
-    (a : GroupSaPolicy) (o : IsOpened p x e w one roots entries size f a) where
+module _ (p : ℕ) (x : List ℕ) (e w : ℕ) (t : Lifetime) (tick : ℕ) (one : Opened) (roots : List Root) (entries : List WrapKey) (size : ℕ)
+    (f : Frame) (a : GroupSaPolicy) (o : IsOpened p x e w t tick one roots entries size f a) where
   told : (g : Found) → one .found ≡ g → AnswersBy roots entries size (announcedAs f a) g (one .octets) (one .count)
   told g h = subst (λ (g : Found). AnswersBy roots entries size (announcedAs f a) g (one .octets) (one .count)) h (o .answers)
 
@@ -28,8 +29,9 @@ module _ (p : ℕ) (x : List ℕ) (e w : ℕ) (one : Opened) (roots : List Root)
   pub of-none : one .found ≡ Nothing → IsUnopened roots entries size f a
   of-none h = told Nothing h
 
-  pub of-key : one .found ≡ Key → (sa : Sa) → ((b : GroupSaPolicy) → Named p x e w b → sa ≡ saFrom b (take (e + w) (one .octets))) →
-      IsSa sa roots entries size f a
+  pub of-key : one .found ≡ Key → (sa : Sa) →
+      ((n : ℕ) (b : GroupSaPolicy) → Named p x e w t n b → sa ≡ saFrom n b (take (e + w) (one .octets))) →
+      IsSa tick sa roots entries size f a
   unfolding needOf
   of-key h sa made =
       let k = told Key h in
@@ -38,5 +40,5 @@ module _ (p : ℕ) (x : List ℕ) (e w : ℕ) (one : Opened) (roots : List Root)
         x = take (e + w) (one .octets);
         key = subst (λ (m : ℕ). KeyOf roots entries size (announcedAs f a) (take m (one .octets))) n (k .key);
         fit = k .fit;
-        is = made a (o .name);
+        is = made tick a (o .name);
       }

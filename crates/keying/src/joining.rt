@@ -14,6 +14,7 @@ use copies::answer::Opened;
 use keys::kinds::EspKey;
 use keys::kinds::RekeyKey;
 use keys::limits::SAS;
+use sa::entry::Lifetime;
 use sa::entry::Sa;
 
 // Number 8 holds of the copies of some SA; some SA has no copy that opens; or each has its key.
@@ -45,26 +46,41 @@ fn one_without(found: copies::answer::Found) -> One
 }
 
 // The SA that a policy with this protocol and SPI announces, whose keying octets are the first of these: as many as its transforms need,
-// and a Rekey SA's cut in two where they say.
-fn sa_from(protocol: usize, spi: &[u8], encryption: usize, wrapping: usize, octets: [u8; 68]) -> Sa
+// and a Rekey SA's cut in two where they say. It has this lifetime.
+fn sa_from(
+    protocol: usize,
+    spi: &[u8],
+    encryption: usize,
+    wrapping: usize,
+    octets: [u8; 68],
+    lifetime: Lifetime,
+) -> Sa
     requires { ⌜ Sized protocol (now spi) encryption wrapping ⌝ }
-    ensures { λ r. ⌜ ((a : GroupSaPolicy) → Named protocol (now (spi .entry)) encryption wrapping a →
-        r ≡ saFrom a (take (encryption + wrapping) octets)) ⌝ }
+    ensures { λ r. ⌜ ((tick : ℕ) (a : GroupSaPolicy) → Named protocol (now (spi .entry)) encryption wrapping lifetime tick a →
+        r ≡ saFrom tick a (take (encryption + wrapping) octets)) ⌝ }
 {
     if protocol == ESP {
         let e = EspKey::new(&octets[0..encryption]);
-        return Sa::esp(spi, e.key);
+        return Sa::esp(spi, e.key, lifetime);
     }
     let all = encryption + wrapping;
     let k = RekeyKey::new(&octets[0..all], encryption, wrapping);
-    Sa::rekey(spi, k.key)
+    Sa::rekey(spi, k.key, lifetime)
 }
 
-// The SA of a policy with this name and these needs, by what its copies open to. Internal.
-pub fn one_sa(one: Opened, protocol: usize, spi: &[u8], encryption: usize, wrapping: usize) -> One
+// The SA of a policy with this name, these needs and this lifetime, by what its copies open to. Internal.
+pub fn one_sa(
+    one: Opened,
+    protocol: usize,
+    spi: &[u8],
+    encryption: usize,
+    wrapping: usize,
+    lifetime: Lifetime,
+) -> One
     requires { ⌜ Sized protocol (now spi) encryption wrapping ⌝ }
-    ensures { λ r. ⌜ ((roots : List Root) (entries : List WrapKey) (size : ℕ) (f : Frame) (a : GroupSaPolicy) →
-        IsOpened protocol (now (spi .entry)) encryption wrapping one roots entries size f a → IsOne r roots entries size f a) ⌝ }
+    ensures { λ r. ⌜ ((tick : ℕ) (roots : List Root) (entries : List WrapKey) (size : ℕ) (f : Frame) (a : GroupSaPolicy) →
+        IsOpened protocol (now (spi .entry)) encryption wrapping lifetime tick one roots entries size f a →
+        IsOne tick r roots entries size f a) ⌝ }
 {
     let found = one.found;
     match found {
@@ -72,7 +88,7 @@ pub fn one_sa(one: Opened, protocol: usize, spi: &[u8], encryption: usize, wrapp
         copies::answer::Found::Nothing => one_without(copies::answer::Found::Nothing),
         copies::answer::Found::Key => {
             let octets = one.octets;
-            let sa = sa_from(protocol, spi, encryption, wrapping, octets);
+            let sa = sa_from(protocol, spi, encryption, wrapping, octets, lifetime);
             One {
                 found: copies::answer::Found::Key,
                 sa,

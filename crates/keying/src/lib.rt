@@ -1,11 +1,13 @@
 // The keys of the SAs that a frame announces: number 8 of their copies, number 9, or the new SAs. Numbers 2 to 7 have been judged before.
 pub mod joining;
+pub mod lifetime;
 
 use aes::InverseSchedule;
 use aes::expand_inverse;
 use aes::inverse_tables;
 use contents::policy::policy_parts;
 use copies::answer::Opened;
+use copies::lending::BLOCK;
 use copies::lending::PLACE;
 use copies::lending::lend_keys;
 use joining::Found;
@@ -13,6 +15,7 @@ use joining::Keyed;
 use joining::One;
 use joining::one_sa;
 use keys::kinds::WrappingKey;
+use keys::limits::HELD_KEYS;
 use keys::limits::SAS;
 use sa::entry::Sa;
 use state::held::Held;
@@ -78,7 +81,7 @@ fn opened(
     )
 }
 
-// The SA whose policy has this name and holds x after its SPI.
+// The SA whose policy has this name and holds x after its SPI, in a frame of the tick.
 fn with_policy(
     protocol: usize,
     spi: &[u8],
@@ -88,6 +91,7 @@ fn with_policy(
     schedule: InverseSchedule,
     ids: &[u32],
     block: &[u8],
+    tick: u32,
 ) -> One
     requires { ⌜ length (now x) < 65536 ⌝ }
     requires { ⌜ isWhole (bags 0 (now k)) ≡ true ⌝ }
@@ -96,13 +100,14 @@ fn with_policy(
     requires { ⌜ ((f : Frame) × (a : GroupSaPolicy) × Announces (now k) protocol (now spi) (now x) f a) ⌝ }
     ensures { λ r. ⌜ ((roots : List Root) (entries : List WrapKey) (size : ℕ) (f : Frame) (a : GroupSaPolicy) →
         IsAnnounced (now (k .entry)) protocol (now (spi .entry)) (now (x .entry)) (schedule .words) (now (ids .entry))
-        (now (block .entry)) roots entries size f a → IsOne r roots entries size f a) ⌝ }
+        (now (block .entry)) roots entries size f a → IsOne tick r roots entries size f a) ⌝ }
 {
     let n = suites::needs(x);
     let e = n.encryption;
     let w = n.wrapping;
     let one = opened(protocol, spi, e + w, k, tables, schedule, ids, block);
-    one_sa(one, protocol, spi, e, w)
+    let t = lifetime::of_policy(protocol, x, tick);
+    one_sa(one, protocol, spi, e, w, t)
 }
 
 // What is known of SAs none of which is number 8: whether none of the copies of some SA opens.
@@ -123,6 +128,7 @@ fn walked(
     schedule: InverseSchedule,
     ids: &[u32],
     block: &[u8],
+    tick: u32,
 ) -> Keyed
     requires { ⌜ isWhole (policies 0 (now g)) ≡ true ⌝ }
     requires { ⌜ isWhole (bags 0 (now k)) ≡ true ⌝ }
@@ -130,7 +136,7 @@ fn walked(
     requires { ⌜ ((held : Held) × LendsHeld held (now ids) (now block)) ⌝ }
     requires { ⌜ ((f : Frame) × Ready f (now g) (now k)) ⌝ }
     ensures { λ r. ⌜ ((roots : List Root) (entries : List WrapKey) (size : ℕ) (f : Frame) → Ready f (now (g .entry)) (now (k .entry)) →
-        Opening (schedule .words) (now (ids .entry)) (now (block .entry)) roots entries size → KeyedBy roots entries size f r) ⌝ }
+        Opening (schedule .words) (now (ids .entry)) (now (block .entry)) roots entries size → KeyedBy roots entries size f tick r) ⌝ }
 {
     let mut nine = false;
     let mut sas = [Sa::blank(); SAS];
@@ -151,6 +157,7 @@ fn walked(
                 schedule,
                 ids,
                 block,
+                tick,
             );
             let found = one.found;
             match found {
@@ -177,22 +184,17 @@ fn walked(
     Keyed { found, sas, count }
 }
 
-// What the copies of all SAs that a frame announces open to: `g` is its GSA body, `k` its KD body, `zero` key 0, and the other keys that a
-// KWK ID can name are held. Internal.
-pub fn keyed(g: &[u8], k: &[u8], zero: WrappingKey, held: Held) -> Keyed
+// The same as `keyed`, with the held keys as they are lent.
+fn under_lent(g: &[u8], k: &[u8], zero: WrappingKey, ids: &[u32], block: &[u8], tick: u32) -> Keyed
     requires { ⌜ isWhole (policies 0 (now g)) ≡ true ⌝ }
     requires { ⌜ isWhole (bags 0 (now k)) ≡ true ⌝ }
     requires { ⌜ sizeOf 13 (zero .count) ≡ true ⌝ }
-    requires { ⌜ heldFormed limits held ≡ true ⌝ }
+    requires { ⌜ ((held : Held) × LendsHeld held (now ids) (now block)) ⌝ }
     requires { ⌜ ((f : Frame) × Ready f (now g) (now k)) ⌝ }
-    ensures { λ r. ⌜ ((roots : List Root) (entries : List WrapKey) (size : ℕ) (f : Frame) → Ready f (now (g .entry)) (now (k .entry)) →
-        Agrees roots entries size zero held → KeyedBy roots entries size f r) ⌝ }
+    ensures { λ r. ⌜ ((roots : List Root) (entries : List WrapKey) (size : ℕ) (f : Frame) (held : Held) →
+        Ready f (now (g .entry)) (now (k .entry)) → LendsHeld held (now (ids .entry)) (now (block .entry)) →
+        Agrees roots entries size zero held → KeyedBy roots entries size f tick r) ⌝ }
 {
-    let lent = lend_keys(held);
-    let ids = lent.ids;
-    let block = lent.block;
-    let m = lent.count;
-    let e = PLACE * m;
     let octets = zero.octets;
     let n = zero.count;
     let tables = inverse_tables();
@@ -201,7 +203,27 @@ pub fn keyed(g: &[u8], k: &[u8], zero: WrappingKey, held: Held) -> Keyed
         k,
         &tables,
         expand_inverse(&tables, &octets[..n]),
-        &ids[..m],
-        &block[..e],
+        ids,
+        block,
+        tick,
     )
+}
+
+// What the copies of all SAs that a frame announces open to: `g` is its GSA body, `k` its KD body, `zero` key 0, and the other keys that a
+// KWK ID can name are held; the new SAs start at the tick. Internal.
+pub fn keyed(g: &[u8], k: &[u8], zero: WrappingKey, held: Held, tick: u32) -> Keyed
+    requires { ⌜ isWhole (policies 0 (now g)) ≡ true ⌝ }
+    requires { ⌜ isWhole (bags 0 (now k)) ≡ true ⌝ }
+    requires { ⌜ sizeOf 13 (zero .count) ≡ true ⌝ }
+    requires { ⌜ heldFormed limits held ≡ true ⌝ }
+    requires { ⌜ ((f : Frame) × Ready f (now g) (now k)) ⌝ }
+    ensures { λ r. ⌜ ((roots : List Root) (entries : List WrapKey) (size : ℕ) (f : Frame) → Ready f (now (g .entry)) (now (k .entry)) →
+        Agrees roots entries size zero held → KeyedBy roots entries size f tick r) ⌝ }
+{
+    let mut ids = [0u32; HELD_KEYS];
+    let mut block = [0u8; BLOCK];
+    lend_keys(held, &mut ids, &mut block);
+    let m = held.count;
+    let e = PLACE * m;
+    under_lent(g, k, zero, &ids[..m], &block[..e], tick)
 }

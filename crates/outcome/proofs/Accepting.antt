@@ -28,9 +28,9 @@ use Rattle.outcome.proofs.Enters.{each-enters, entered-is, in-all, all-
 use Rattle.outcome.proofs.HeldList.{not-other}
 
 -- two ways of saying that a copy opens, of which each gives the other
-module _ (P Q : GroupSaPolicy → List ℕ → Type 0) (to : (a : GroupSaPolicy) (x : List ℕ) → P a x → Q a x)
+module _ (now : ℕ) (P Q : GroupSaPolicy → List ℕ → Type 0) (to : (a : GroupSaPolicy) (x : List ℕ) → P a x → Q a x)
     (from : (a : GroupSaPolicy) (x : List ℕ) → Q a x → P a x) where
-  pub new-by : (l : List Sa) (a : GroupSaPolicy) → NewBy P l a → NewBy Q l a
+  pub new-by : (l : List Sa) (a : GroupSaPolicy) → NewBy now P l a → NewBy now Q l a
   new-by l a n =
       record {
         octets = n .octets;
@@ -40,7 +40,7 @@ module _ (P Q : GroupSaPolicy → List ℕ → Type 0) (to : (a : GroupSaPolicy)
         stands = n .stands;
       }
 
-  pub entered-by : (f : Frame) (b : Sa) → EnteredBy P f b → EnteredBy Q f b
+  pub entered-by : (f : Frame) (b : Sa) → EnteredBy now P f b → EnteredBy now Q f b
   entered-by f b n =
       record {
         policy = n .policy;
@@ -95,15 +95,15 @@ module _ (limits : Limits) (s : State) (now : ℕ) (lent : List ℕ) where
     pub after-opens : (next : State) → After limits s now lent f next → (a : GroupSaPolicy) → In a (announced f) → HasCopy a
     after-opens next p a m =
         let roots = rootsOf limits s now lent f in
-        let r = each-enters roots (entriesOf f) (wrappingSize limits s now lent f) f (announced f) (p .new) (p .enter) a m in
+        let r = each-enters roots (entriesOf f) (wrappingSize limits s now lent f) now f (announced f) (p .new) (p .enter) a m in
         (r .octets, r .key .opens)
 
     -- ---- the table after acceptance
     abbrev pub New : List Sa → GroupSaPolicy → Type 0
-    New l a = NewBy OpensTo l a
+    New l a = NewBy now OpensTo l a
 
     abbrev pub Entered : Sa → Type 0
-    Entered b = EnteredBy OpensTo f b
+    Entered b = EnteredBy now OpensTo f b
 
     module _ (next : State) (after : After limits s now lent f next) (none : EightOf limits s now lent f → ⊥) where
       abbrev roots : List Root
@@ -117,8 +117,8 @@ module _ (limits : Limits) (s : State) (now : ℕ) (lent : List ℕ) where
 
       pub new-stands : (a : GroupSaPolicy) → In a (announced f) → New (sasOf (next .table)) a
       new-stands a m =
-          let r = each-enters roots (entriesOf f) size f (announced f) (after .new) (after .enter) a m in
-          let b = saFrom a (r .octets) in
+          let r = each-enters roots (entriesOf f) size now f (announced f) (after .new) (after .enter) a m in
+          let b = saFrom now a (r .octets) in
           record {
             octets = r .octets;
             opens = r .key .opens;
@@ -131,7 +131,7 @@ module _ (limits : Limits) (s : State) (now : ℕ) (lent : List ℕ) where
       stands-as b m =
           ⊎-elim
           (λ i.
-          let r = entered-is roots (entriesOf f) size f (announced f) (after .new) (after .enter) b i in
+          let r = entered-is roots (entriesOf f) size now f (announced f) (after .new) (after .enter) b i in
           inl (record {
             policy = r .policy;
             stands = r .stands;
@@ -146,7 +146,7 @@ module _ (limits : Limits) (s : State) (now : ℕ) (lent : List ℕ) where
       entered-stands : (b : Sa) → Entered b → In b (sasOf (next .table))
       entered-stands b r =
           let n = new-stands (r .policy) (r .stands) in
-          let q = r .is ∙ ap (saFrom (r .policy)) (n .every (r .octets) (r .opens)) in
+          let q = r .is ∙ ap (saFrom now (r .policy)) (n .every (r .octets) (r .opens)) in
           subst (λ (x : Sa). In x (sasOf (next .table))) (sym q) (n .stands)
 
       pub as-stands : (b : Sa) → Entered b ⊎ Stayed s now f b → In b (sasOf (next .table))

@@ -1,76 +1,111 @@
--- WHAT A QUESTION FINDS after an accepted frame: "the keying octets and condition of the SA with a given protocol and SPI".
+-- WHAT A QUESTION FINDS after an accepted frame: "the keying octets and condition of the SA with a given protocol and SPI"; "the question
+-- about an SA gives them too", its lifetime and the tick of its start (document 02, T-07).
 use native.Mathlib.Omega.{arith}
-use Prim.Native.Nat.{ℕ, _-_, _≤_}
-use mathlib.Core.Path.{_≡_}
-use mathlib.Core.Bool.{true}
-use mathlib.Core.List.{List, _++_}
-use borrow.Author.Tests.{eq-eqb, eqb-true}
-use lib.Dec.{eqb}
+use Prim.Native.Nat.{ℕ, _+_, _-_, _≤_}
+use mathlib.Core.Path.{_≡_, refl, ap, sym, _∙_, subst}
+use mathlib.Core.Bool.{Bool, true, false, _||_, false≢true}
+use mathlib.Core.List.{List, [], _∷_, _++_}
+use borrow.Author.Tests.{eq-eqb, eqb-true, ltb-false, lt-ltb}
+use lib.Dec.{eqb, ltb}
 use lib.ListN.{length, take, replicate}
 use lib.Seq.{take-append-seam, take-at}
 use Rattle.octets.specs.Compare.{same}
 use Rattle.octets.proofs.Order.{eq-same}
 use Rattle.keys.specs.Limits.{Limits}
+use Rattle.keys.specs.Lists.{any}
 use Rattle.keys.proofs.Cases.{and-parts, and-whole}
 use Rattle.policies.specs.Policy.{GroupSaPolicy}
 use Rattle.frames.specs.Frame.{Frame}
 use Rattle.frames.specs.Grammar.{IsFrame}
-use Rattle.sa.specs.Entry.{spiOf, named, espSa, rekeySa}
+use Rattle.sa.specs.Entry.{spiOf, named, mostSeconds, espSa, rekeySa}
 use Rattle.sa.specs.declared.entry.Condition.the-variants.{Live}
+use Rattle.sa.specs.declared.entry.Lifetime.the-variants.{Unlimited, Limited}
 use Rattle.sa.specs.declared.entry.Sa.{Sa}
 use Rattle.table.specs.Table.{tableFormed, sasOf}
 use Rattle.table.proofs.Finds.{sa-found}
 use Rattle.state.specs.declared.State.{State}
 use Rattle.state.specs.Held.{heldFormed}
 use Rattle.state.specs.State.{stateFormed, askedSa}
-use Rattle.clauses.specs.Contents.{announced}
-use Rattle.clauses.specs.Fitness.{encryptionOctets, keyWrapOctets}
+use Rattle.clauses.specs.Contents.{several, announced}
+use Rattle.clauses.specs.Fitness.{sum, encryptionOctets, keyWrapOctets}
 use Rattle.chains.specs.Chain.{In}
 use Rattle.chains.proofs.Members.{in-member}
 use Rattle.outcome.specs.Roots.{needOf}
-use Rattle.outcome.specs.After.{saFrom}
+use Rattle.outcome.specs.After.{lifetimeFrom, saFrom}
 use Rattle.outcome.specs.Outcome.{Outcome}
 use Rattle.outcome.specs.NamedKey.{OpensUnder}
+use Rattle.outcome.specs.LifetimeSays.{LifetimeAs, its-seconds, no-lifetime}
 use Rattle.outcome.proofs.Demands.{each-stands}
 use Rattle.outcome.proofs.RunsClear.{taken}
-use Rattle.outcome.proofs.RunsAccepted.{kinds}
-use Rattle.outcome.proofs.RunsMade.{Kind, an-esp, a-rekey, made-protocol, made-spi}
+use Rattle.outcome.proofs.RunsAccepted.{kinds, lasts}
+use Rattle.outcome.proofs.RunsMade.{Kind, an-esp, a-rekey, Lasts, made-protocol, made-spi}
 use Rattle.outcome.proofs.Runs.{accepted-formed}
 
+by-none : (now : ℕ) → lifetimeFrom now [] ≡ Unlimited
+unfolding lifetimeFrom
+by-none now = refl
+
+by-seconds : (now n : ℕ) → lifetimeFrom now (n ∷ []) ≡ Limited now n
+unfolding lifetimeFrom sum
+by-seconds now n = let e : n + 0 ≡ n = omega arith in ap (Limited now) e
+
+few-seconds : (n : ℕ) → any (λ (k : ℕ). ltb mostSeconds k) (n ∷ []) ≡ false → n ≤ 2000000
+unfolding any
+few-seconds n g = by (ltb mostSeconds n) refl g
+  where
+    by : (b : Bool) → ltb mostSeconds n ≡ b → b || false ≡ false → n ≤ 2000000
+    by true e f = absurd (false≢true (sym f))
+    by false e f = let k = ltb-false mostSeconds n e in omega arith
+
+lifetime-as : (now : ℕ) (p : GroupSaPolicy) → Lasts p → LifetimeAs now p (lifetimeFrom now (p .keyLifetimes))
+lifetime-as now p h = go (p .keyLifetimes) refl (h .0) (h .1)
+  where
+    go : (l : List ℕ) → p .keyLifetimes ≡ l → several l ≡ false → any (λ (n : ℕ). ltb mostSeconds n) l ≡ false →
+        LifetimeAs now p (lifetimeFrom now l)
+    go [] e f g = subst (LifetimeAs now p) (sym (by-none now)) (no-lifetime e)
+    go (n ∷ []) e f g = subst (LifetimeAs now p) (sym (by-seconds now n)) (its-seconds n e (few-seconds n g))
+    go (n ∷ m ∷ l) e f g = absurd (false≢true (sym f ∙ lt-ltb 1 (length (n ∷ m ∷ l)) (omega arith)))
+
 -- ---- an SA that a policy announces has the octets x that it is made of, as many as the policy needs, and is live
-module _ (a : GroupSaPolicy) (x : List ℕ) (n : length x ≡ needOf a) where
-  made-octets : Kind a → take (saFrom a x .count) (saFrom a x .octets) ≡ x
+module _ (now : ℕ) (a : GroupSaPolicy) (x : List ℕ) (n : length x ≡ needOf a) where
+  made-octets : Kind a → take (saFrom now a x .count) (saFrom now a x .octets) ≡ x
   unfolding needOf saFrom espSa rekeySa
   made-octets (an-esp e l s k) =
       let g : take (length x) (x ++ replicate (36 - length x) 0) ≡ x = take-append-seam x (replicate (36 - length x) 0) in
       rw (e, g) (take-append-seam x (replicate (68 - length x) 0))
   made-octets (a-rekey e r l s) = rw e (take-at x (replicate (68 - length x) 0) _ n)
 
-  made-size : Kind a → saFrom a x .count ≡ needOf a
+  made-size : Kind a → saFrom now a x .count ≡ needOf a
   unfolding needOf saFrom espSa rekeySa
   made-size (an-esp e l s k) = rw e n
   made-size (a-rekey e r l s) = rw e
 
-  made-condition : Kind a → saFrom a x .condition ≡ Live
+  made-condition : Kind a → saFrom now a x .condition ≡ Live
   unfolding saFrom espSa rekeySa
   made-condition (an-esp e l s k) = rw e
   made-condition (a-rekey e r l s) = rw e
 
-  made-parts : Kind a → a .protocol ≡ 6 → (saFrom a x .encryption ≡ encryptionOctets a) × (saFrom a x .wrapping ≡ keyWrapOctets a)
+  made-lasts : Kind a → saFrom now a x .lifetime ≡ lifetimeFrom now (a .keyLifetimes)
+  unfolding saFrom espSa rekeySa
+  made-lasts (an-esp e l s k) = rw e
+  made-lasts (a-rekey e r l s) = rw e
+
+  made-parts : Kind a → a .protocol ≡ 6 → (saFrom now a x .encryption ≡ encryptionOctets a) × (saFrom now a x .wrapping ≡ keyWrapOctets a)
   unfolding saFrom rekeySa
   made-parts (an-esp e l s k) p = let q : a .protocol ≡ 3 = eqb-true (a .protocol) 3 e in absurd (omega arith)
   made-parts (a-rekey e r l s) p = (rw e, rw e)
 
-  made-name : Kind a → named (a .protocol) (a .spi) (saFrom a x) ≡ true
+  made-name : Kind a → named (a .protocol) (a .spi) (saFrom now a x) ≡ true
   unfolding named
   made-name k =
-      and-whole (eqb (saFrom a x .protocol) (a .protocol)) (same (spiOf (saFrom a x)) (a .spi))
-      (eq-eqb (saFrom a x .protocol) (a .protocol) (made-protocol a x k)) (eq-same (spiOf (saFrom a x)) (a .spi) (made-spi a x k))
+      and-whole (eqb (saFrom now a x .protocol) (a .protocol)) (same (spiOf (saFrom now a x)) (a .spi))
+      (eq-eqb (saFrom now a x .protocol) (a .protocol) (made-protocol now a x k))
+      (eq-same (spiOf (saFrom now a x)) (a .spi) (made-spi now a x k))
 
 module _ (limits : Limits) (enough : limits .wrapKeys ≤ limits .heldKeys) (s : State) (now : ℕ) (lent octets : List ℕ) (f : Frame)
     (e : IsFrame octets f) (next : State) (o : Outcome limits s now lent octets 0 next) where
   -- the question about an announced SA's protocol and SPI finds an SA with the octets that every copy of its key opens to, as many as its
-  -- policy needs, live, and a Rekey SA with the octet counts of its policy's two parts
+  -- policy needs, live, with its policy's lifetime from the frame's tick on, and a Rekey SA with the octet counts of its policy's two parts
   pub record Found (p : GroupSaPolicy) : Type 0 where
     pub keying : List ℕ
     pub opens : OpensUnder limits s now lent f p keying
@@ -82,6 +117,7 @@ module _ (limits : Limits) (enough : limits .wrapKeys ≤ limits .heldKeys) (s :
     pub has : take (sa .count) (sa .octets) ≡ keying
     pub count : sa .count ≡ needOf p
     pub live : sa .condition ≡ Live
+    pub lifetime : LifetimeAs now p (sa .lifetime)
     pub parts : p .protocol ≡ 6 → (sa .encryption ≡ encryptionOctets p) × (sa .wrapping ≡ keyWrapOctets p)
 
   next-formed : stateFormed limits next ≡ true
@@ -107,11 +143,14 @@ module _ (limits : Limits) (enough : limits .wrapKeys ≤ limits .heldKeys) (s :
         opens = n .opens;
         every = n .every;
         size = n .fits;
-        sa = saFrom p x;
-        found = asked-found (p .protocol) (p .spi) (saFrom p x) (n .stands) (made-name p x (n .fits) k);
-        protocol = made-protocol p x k;
-        has = made-octets p x (n .fits) k;
-        count = made-size p x (n .fits) k;
-        live = made-condition p x (n .fits) k;
-        parts = made-parts p x (n .fits) k;
+        sa = saFrom now p x;
+        found = asked-found (p .protocol) (p .spi) (saFrom now p x) (n .stands) (made-name now p x (n .fits) k);
+        protocol = made-protocol now p x k;
+        has = made-octets now p x (n .fits) k;
+        count = made-size now p x (n .fits) k;
+        live = made-condition now p x (n .fits) k;
+        lifetime =
+            subst (LifetimeAs now p) (sym (made-lasts now p x (n .fits) k))
+            (lifetime-as now p (lasts limits s now lent f (t .is-clear) p (in-member p (announced f) m)));
+        parts = made-parts now p x (n .fits) k;
       }

@@ -1,5 +1,5 @@
--- WHAT STANDS AT A TICK, computed on a member with one Rekey SA: a live one stands at every tick, under its own SPI alone; one that retires
--- stands at none, before it is due and then.
+-- WHAT STANDS AT A TICK, computed on a member with one Rekey SA: a live one without a lifetime stands at every tick, under its own SPI
+-- alone; one with a lifetime until that has run; one that retires stands at none, before it is due and then.
 use Prim.Native.Nat.{ℕ}
 use mathlib.Core.Path.{_≡_, refl, sym, subst}
 use mathlib.Core.Bool.{true, false, false≢true}
@@ -11,8 +11,10 @@ use Rattle.keys.specs.Lists.{all, any, count, keep, heads, rising}
 use Rattle.keys.specs.Algorithms.{sizeOf}
 use Rattle.keys.specs.Kinds.{rekeySizes, rekeyOf}
 use Rattle.sa.specs.Clock.{elapsedAtLeast}
-use Rattle.sa.specs.Entry.{named, formed, liveRekey, due, rekeySa, withCondition}
+use Rattle.sa.specs.Entry.{named, sized, formed, liveRekey, due, rekeySa, withCondition}
 use Rattle.sa.specs.declared.entry.Condition.the-variants.{Retiring}
+use Rattle.sa.specs.declared.entry.Lifetime.{Lifetime}
+use Rattle.sa.specs.declared.entry.Lifetime.the-variants.{Unlimited, Limited}
 use Rattle.sa.specs.declared.entry.Sa.{Sa}
 use Rattle.table.specs.Table.{tableOf, tableFormed}
 use Rattle.state.specs.declared.State.{State}
@@ -26,7 +28,7 @@ abbrev pub rekeySpi : List ℕ
 rekeySpi = replicate 16 1
 
 abbrev pub one : Sa
-one = rekeySa rekeySpi (rekeyOf (replicate 36 2) 20 16)
+one = rekeySa rekeySpi (rekeyOf (replicate 36 2) 20 16) Unlimited
 
 -- with least Message ID 7
 abbrev pub having : Sa → State
@@ -36,7 +38,7 @@ abbrev pub seven : State
 seven = having one
 
 pub seven-formed : stateFormed limits seven ≡ true
-unfolding stateFormed tableFormed heldFormed tableOf heldOf all count heads rising formed liveRekey rekeySa rekeySizes sizeOf any
+unfolding stateFormed tableFormed heldFormed tableOf heldOf all count heads rising sized formed liveRekey rekeySa rekeySizes sizeOf any
 seven-formed = refl
 
 pub seven-stands : (now : ℕ) → StandsAt now rekeySpi seven
@@ -52,6 +54,15 @@ pub not-while-retiring :
     let s = having (withCondition (Retiring 0 1) one) in (StandsAt 999 rekeySpi s → ⊥) × (StandsAt 1000 rekeySpi s → ⊥)
 unfolding tableOf any keep named liveRekey due rekeySa elapsedAtLeast same orderOf
 not-while-retiring = (λ e. false≢true e, λ e. false≢true e)
+
+-- "A live SA is due when its lifetime has run" (document 02, T-07): one second from tick 0 on, and 0 seconds
+abbrev lasting : Lifetime → State
+lasting t = having (rekeySa rekeySpi (rekeyOf (replicate 36 2) 20 16) t)
+
+pub until-it-ran : StandsAt 999 rekeySpi (lasting (Limited 0 1)) × (StandsAt 1000 rekeySpi (lasting (Limited 0 1)) → ⊥)
+    × (StandsAt 5 rekeySpi (lasting (Limited 5 0)) → ⊥)
+unfolding tableOf any keep named liveRekey due rekeySa elapsedAtLeast same orderOf
+until-it-ran = (refl, λ e. false≢true e, λ e. false≢true e)
 
 -- ---- the one that stands
 pub not-due : (now : ℕ) → due now one ≡ false

@@ -39,8 +39,8 @@ use Rattle.outcome.proofs.Enters.{enters-live, enters-cut, Stayed}
 use Rattle.outcome.proofs.Answering.{accepts}
 use Rattle.outcome.proofs.RunsClear.{none-applies}
 use Rattle.outcome.specs.NamedKey.{Registration, Rekey, lentRoot}
-use Rattle.outcome.proofs.Rows.{registration-row, rekeys, rekey-bars, rekey-keeps, one-of-four, no-wrap-key}
-use Rattle.outcome.proofs.Rows.{registration-lent, lent-roots, lent-size}
+use Rattle.outcome.proofs.Rows.{registration-row, rekeys, inband-row, rekey-bars, one-of-four, no-wrap-key}
+use Rattle.outcome.proofs.Rows.{lent-roots, lent-size, inband-held}
 use Rattle.outcome.proofs.NotRead.{same-outcome}
 use Rattle.outcome.specs.NamedKey.{OpensUnder}
 use Rattle.outcome.proofs.NamedKey.{to-under, under-to}
@@ -96,9 +96,8 @@ module _ (limits : Limits) (s : State) (now : ℕ) (lent octets : List ℕ) wher
         let r = registration-row f registration in
         let h = registration-sets (rowOf f .registers) _ _ (ap (λ (x : Exchange). x .registers) r) (a .1 .held) in
         let none = entries-fit limits s now lent f (accepts limits s now lent f (a .0) .no-eight) in
-        let l = registration-lent f r in
-        subst (λ (l : List Root). HeldExactly l (wrapKeysOf f) (length lent) (next .held)) (lent-roots limits s now f l lent)
-        (subst (λ (n : ℕ). HeldExactly (rootsOf limits s now lent f) (wrapKeysOf f) n (next .held)) (lent-size limits s now f l lent)
+        subst (λ (l : List Root). HeldExactly l (wrapKeysOf f) (length lent) (next .held)) (lent-roots limits s now f r lent)
+        (subst (λ (n : ℕ). HeldExactly (rootsOf limits s now lent f) (wrapKeysOf f) n (next .held)) (lent-size limits s now f r lent)
         (held-exactly (rootsOf limits s now lent f) (entriesOf f) (wrappingSize limits s now lent f) none limits (next .held) h))
 
     -- ---- what opens a copy
@@ -182,7 +181,7 @@ module _ (limits : Limits) (s : State) (now : ℕ) (lent octets : List ℕ) wher
       each-stands p m =
           let a = whole-accepted limits s now lent octets f e next o in
           let none = accepts limits s now lent f (a .0) .no-eight in
-          new-by (OpensTo limits s now lent f) (OpensUnder limits s now lent f) accepted-to (under-to limits s now lent f)
+          new-by now (OpensTo limits s now lent f) (OpensUnder limits s now lent f) accepted-to (under-to limits s now lent f)
           (sasOf (next .table)) p (new-stands limits s now lent f next (a .1) none p m)
 
       -- "and the rest of the member is as that document leaves it": the table has no other SAs than these and the old ones that are not
@@ -194,25 +193,30 @@ module _ (limits : Limits) (s : State) (now : ℕ) (lent octets : List ℕ) wher
           let P = OpensTo limits s now lent f in
           let Q = OpensUnder limits s now lent f in
           let from = under-to limits s now lent f in (
-            λ m. ⊎-elim (λ x. inl (entered-by P Q accepted-to from f b x)) inr (stands-as limits s now lent f next (a .1) none b m),
+            λ m. ⊎-elim (λ x. inl (entered-by now P Q accepted-to from f b x)) inr (stands-as limits s now lent f next (a .1) none b m),
             λ m.
                 as-stands limits s now lent f next (a .1) none b
-                (⊎-elim (λ x. inl (entered-by Q P from accepted-to f b x)) inr m),
+                (⊎-elim (λ x. inl (entered-by now Q P from accepted-to f b x)) inr m),
           )
 
       -- a rekey leaves the held list, over the Rekey SA or the member's own channel; the least Message ID (Rest.antt gives its cases)
       pub rest-after : (Rekey f → next .held ≡ s .held) × (next .least ≡ leastAfterwards s f)
       rest-after =
-          let a = whole-accepted limits s now lent octets f e next o .1 in
-          (λ r. rekey-leaves (rowOf f .registers) _ _ (rekey-keeps f r) (a .held), a .least)
+          let a = whole-accepted limits s now lent octets f e next o .1 in (
+            ⊎-elim
+                (λ r.
+                rekey-leaves (rowOf f .registers) _ _ (ap (λ (x : Exchange). x .registers) (rekeys (f .header .exchange) r)) (a .held))
+                (λ r. inband-held limits s now f (inband-row f r) lent next a),
+            a .least,
+          )
 
     -- "as document 01 enters it": live, and a Rekey SA with the octet counts of its policy's two parts, "44 is 20 + 24 and 28 + 16"
     pub entered-live : (b : Sa) → Entered limits s now lent f b → isLive (b .condition) ≡ true
-    entered-live b n = rw (n .is) (enters-live (n .policy) (n .octets))
+    entered-live b n = rw (n .is) (enters-live now (n .policy) (n .octets))
 
     pub entered-parts : (b : Sa) (n : Entered limits s now lent f b) → isEsp (n .policy) ≡ false →
         (b .encryption ≡ encryptionOctets (n .policy)) × (b .wrapping ≡ keyWrapOctets (n .policy)) × (b .octets ≡ padded 68 (n .octets))
-    entered-parts b n r = rw (n .is) (enters-cut (n .policy) (n .octets) r)
+    entered-parts b n r = rw (n .is) (enters-cut now (n .policy) (n .octets) r)
 
     -- a held value of an accepted registration is what a chain gives whose entries are all WRAP_KEYs of Member Key Bags
     pub held-of-member-bags : (next : State) → Outcome limits s now lent octets 0 next → Registration f → (k : HeldKey) →

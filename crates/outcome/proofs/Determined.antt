@@ -28,11 +28,13 @@ use Rattle.outcome.proofs.Members.{rising-one}
 
 -- ---- the member after acceptance
 module _ (roots : List Root) (entries : List WrapKey) (size : ℕ) where
-  pub enter-one : (f : Frame) (l : List GroupSaPolicy) (m n : List Sa) → Enter roots entries size f l m → Enter roots entries size f l n →
+  pub enter-one : (now : ℕ) (f : Frame) (l : List GroupSaPolicy) (m n : List Sa) → Enter roots entries size now f l m →
+      Enter roots entries size now f l n →
       m ≡ n
-  enter-one f [] _ _ no-sa no-sa = refl
-  enter-one f (a ∷ l) _ _ (one-more {m = m} x k e) (one-more {m = n} y j d) =
-      ap₂ (λ (z : List ℕ) (q : List Sa). saFrom a z ∷ q) (key-one roots entries size (announcedAs f a) x y k j) (enter-one f l m n e d)
+  enter-one now f [] _ _ no-sa no-sa = refl
+  enter-one now f (a ∷ l) _ _ (one-more {m = m} x k e) (one-more {m = n} y j d) =
+      ap₂ (λ (z : List ℕ) (q : List Sa). saFrom now a z ∷ q) (key-one roots entries size (announcedAs f a) x y k j)
+      (enter-one now f l m n e d)
 
   -- a key of one list stands in any other that has every value
   module _ (limits : Limits) (h k : Held) (p : HeldAre roots entries size limits h) (q : HeldAre roots entries size limits k) where
@@ -65,7 +67,7 @@ module _ (limits : Limits) (s : State) (now : ℕ) (lent : List ℕ) where
 
     pub after-one : (next after : State) → After limits s now lent f next → After limits s now lent f after → next ≡ after
     after-one next after p q =
-        let e = enter-one roots (entriesOf f) size f (announced f) (p .new) (q .new) (p .enter) (q .enter) in
+        let e = enter-one roots (entriesOf f) size now f (announced f) (p .new) (q .new) (p .enter) (q .enter) in
         let a = p .table in
         let b = q .table in
         let t : next .table ≡ after .table = cc in

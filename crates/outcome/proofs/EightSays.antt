@@ -20,7 +20,7 @@ use Rattle.outcome.specs.Answer.{EightOf}
 use Rattle.outcome.specs.NamedKey.{Registration, Rekey, Given, OpensUnder}
 use Rattle.outcome.specs.EightSays.{EightSays, key-of-wrong-size, key-of-two-values, sa-of-wrong-size, sa-of-two-values}
 use Rattle.outcome.specs.Meets.{Meets, meets-8}
-use Rattle.outcome.proofs.Rows.{registration-row, registration-lent, lent-size}
+use Rattle.outcome.proofs.Rows.{registration-row, lent-size}
 use Rattle.outcome.proofs.Meets.{eight-met}
 use Rattle.outcome.proofs.Demands.{passes-2-and-4}
 use Rattle.outcome.proofs.Members.{not-in-none, in-map, map-in}
@@ -48,7 +48,7 @@ module _ (limits : Limits) (s : State) (now : ℕ) (lent : List ℕ) (f : Frame)
     gives k x r = to-lent limits s now lent f (reached-registers k x r) k x r
 
     size-is : Registration f → size ≡ length lent
-    size-is g = lent-size limits s now f (registration-lent f (registration-row f g)) lent
+    size-is g = lent-size limits s now f (registration-row f g) lent
 
     of-entries-says : EntriesEight roots (entriesOf f) size → Says
     of-entries-says (refusals.wrong-size k x r d) =

@@ -26,21 +26,26 @@ use Rattle.chains.proofs.Members.{in-member, member-in}
 use Rattle.outcome.proofs.Members.{in-head, in-tail, in-cases, not-in-none, in-keep, keep-in, in-map, map-in}
 
 -- ---- the new SAs
-module _ (roots : List Root) (entries : List WrapKey) (size : ℕ) (f : Frame) where
+module _ (roots : List Root) (entries : List WrapKey) (size now : ℕ) (f : Frame) where
   -- an announced SA enters with the octets of its key
   pub record EntersIn (m : List Sa) (a : GroupSaPolicy) : Type 0 where
     pub octets : List ℕ
     pub key : KeyOf roots entries size (announcedAs f a) octets
-    pub stands : In (saFrom a octets) m
+    pub stands : In (saFrom now a octets) m
 
-  pub each-enters : (l : List GroupSaPolicy) (m : List Sa) → Enter roots entries size f l m → (a : GroupSaPolicy) → In a l → EntersIn m a
+  pub each-enters : (l : List GroupSaPolicy) (m : List Sa) → Enter roots entries size now f l m → (a : GroupSaPolicy) → In a l →
+      EntersIn m a
   each-enters [] _ no-sa a i = absurd (not-in-none a i)
   each-enters (b ∷ l) _ (one-more {m = m} x k e) a i =
       ⊎-elim
-      (λ q. subst (EntersIn (saFrom b x ∷ m)) (sym q) (record { octets = x; key = k; stands = in-head (saFrom b x) (saFrom b x) m refl }))
+      (λ q. subst (EntersIn (saFrom now b x ∷ m)) (sym q) (record {
+        octets = x;
+        key = k;
+        stands = in-head (saFrom now b x) (saFrom now b x) m refl;
+      }))
       (λ j.
       let r = each-enters l m e a j in
-      record { octets = r .octets; key = r .key; stands = in-tail (saFrom a (r .octets)) (saFrom b x) m (r .stands) })
+      record { octets = r .octets; key = r .key; stands = in-tail (saFrom now a (r .octets)) (saFrom now b x) m (r .stands) })
       (in-cases a b l i)
 
   -- and what enters was announced
@@ -49,26 +54,27 @@ module _ (roots : List Root) (entries : List WrapKey) (size : ℕ) (f : Frame) w
     pub stands : In policy l
     pub octets : List ℕ
     pub key : KeyOf roots entries size (announcedAs f policy) octets
-    pub is : b ≡ saFrom policy octets
+    pub is : b ≡ saFrom now policy octets
 
-  pub entered-is : (l : List GroupSaPolicy) (m : List Sa) → Enter roots entries size f l m → (b : Sa) → In b m → Announces l b
+  pub entered-is : (l : List GroupSaPolicy) (m : List Sa) → Enter roots entries size now f l m → (b : Sa) → In b m → Announces l b
   entered-is [] _ no-sa b i = absurd (not-in-none b i)
   entered-is (a ∷ l) _ (one-more {m = m} x k e) b i =
       ⊎-elim (λ q. record { policy = a; stands = in-head a a l refl; octets = x; key = k; is = q })
       (λ j.
       let r = entered-is l m e b j in
       record { policy = r .policy; stands = in-tail (r .policy) a l (r .stands); octets = r .octets; key = r .key; is = r .is })
-      (in-cases b (saFrom a x) m i)
+      (in-cases b (saFrom now a x) m i)
 
-module _ (a : GroupSaPolicy) (x : List ℕ) where
+module _ (now : ℕ) (a : GroupSaPolicy) (x : List ℕ) where
   -- "The new SAs enter as live"
-  pub enters-live : isLive (saFrom a x .condition) ≡ true
+  pub enters-live : isLive (saFrom now a x .condition) ≡ true
   unfolding saFrom espSa rekeySa
   enters-live = bool-cases (isEsp a) (λ e. rw e) (λ e. rw e)
 
   -- a Rekey SA's octets are cut where its policy says, and not by their count
   pub enters-cut : isEsp a ≡ false →
-      (saFrom a x .encryption ≡ encryptionOctets a) × (saFrom a x .wrapping ≡ keyWrapOctets a) × (saFrom a x .octets ≡ padded 68 x)
+      (saFrom now a x .encryption ≡ encryptionOctets a) × (saFrom now a x .wrapping ≡ keyWrapOctets a)
+      × (saFrom now a x .octets ≡ padded 68 x)
   unfolding saFrom rekeySa
   enters-cut e = (rw e, rw e, rw e)
 

@@ -20,11 +20,12 @@ use Rattle.clauses.specs.Number2.{nonEmptyMember, otherSpis, two-ofFrame}
 use Rattle.clauses.specs.Number3.{notAcceptable}
 use Rattle.clauses.specs.Number4.{criticalUnknown, barredMemberBag, barredDelete, twoGsa, twoKd, gsaWithoutKd, kdWithoutGsa, neither}
 use Rattle.clauses.specs.Number4.{severalRekeyPolicies, severalGroupWide, severalMemberBags, gsaWithoutSaPolicy, keyLengthTwice}
-use Rattle.clauses.specs.Number4.{initialMessageIdTwice, delayTwice, otherDestination, four-ofFrame}
+use Rattle.clauses.specs.Number4.{initialMessageIdTwice, delayTwice, otherDestination, lifetimeTwice, four-ofFrame}
 use Rattle.clauses.specs.Number5.{ahPolicy, ahBag, otherTransforms, deleteOfOther, deleteOfNone, lentKeySize, five-ofFrame}
 use Rattle.clauses.specs.Number6.{policyUnpaired, bagUnpaired, policyTwice, bagTwice, saKeyCount, saKeyId, espKwkId, wrapKeyId}
 use Rattle.clauses.specs.Number6.{wrapsItself, alreadyInTable, six-ofFrame, six-ofMember}
-use Rattle.clauses.specs.Number7.{manyEspPolicies, manyWrapKeys, manySaKeys, manyDeletedSpis, manySas, seven-ofFrame, seven-ofMember}
+use Rattle.clauses.specs.Number7.{manyEspPolicies, manyWrapKeys, manySaKeys, manyDeletedSpis, longLifetime, manySas}
+use Rattle.clauses.specs.Number7.{seven-ofFrame, seven-ofMember}
 use Rattle.clauses.specs.Refusals.{two, three, four, five}
 use Rattle.chains.specs.Chain.{Root}
 use Rattle.chains.specs.Refusals.{Announced, KeyOf, Eight, Nine}
@@ -51,6 +52,7 @@ module _ (limits : Limits) (s t : State) (now : ℕ) (lent : List ℕ) (x y : Li
   same-4 : four f ≡ four g
   unfolding four-ofFrame criticalUnknown barredMemberBag barredDelete twoGsa twoKd gsaWithoutKd kdWithoutGsa neither severalRekeyPolicies
       severalGroupWide severalMemberBags gsaWithoutSaPolicy keyLengthTwice initialMessageIdTwice delayTwice otherDestination
+      lifetimeTwice
   same-4 = refl
 
   same-5 : five lent f ≡ five lent g
@@ -89,7 +91,7 @@ module _ (limits : Limits) (s t : State) (now : ℕ) (lent : List ℕ) (x y : Li
     same-6-member = rw same-table
 
     same-7-frame : seven-ofFrame limits f ≡ seven-ofFrame limits g
-    unfolding seven-ofFrame manyEspPolicies manyWrapKeys manySaKeys manyDeletedSpis
+    unfolding seven-ofFrame manyEspPolicies manyWrapKeys manySaKeys manyDeletedSpis longLifetime
     same-7-frame = refl
 
     same-7-member : seven-ofMember limits s now f ≡ seven-ofMember limits t now g
@@ -119,7 +121,7 @@ module _ (limits : Limits) (s t : State) (now : ℕ) (lent : List ℕ) (x y : Li
     same-old = rw same-table
 
     same-enter : (roots : List Root) (entries : List WrapKey) (size : ℕ) (l : List GroupSaPolicy) (m : List Sa) →
-        Enter roots entries size f l m → Enter roots entries size g l m
+        Enter roots entries size now f l m → Enter roots entries size now g l m
     same-enter roots entries size _ _ no-sa = no-sa
     same-enter roots entries size _ _ (one-more {a} {l} {m} k o e) =
         one-more k (subst (λ (z : Announced). KeyOf roots entries size z k) (same-copies a) o) (same-enter roots entries size l m e)
@@ -133,8 +135,8 @@ module _ (limits : Limits) (s t : State) (now : ℕ) (lent : List ℕ) (x y : Li
         record {
           new = a .new;
           enter =
-              subst (λ (n : ℕ). Enter (rootsOf limits t now lent g) (wrapKeysOf g) n g (announced g) (a .new)) same-size
-              (subst (λ (r : List Root). Enter r (wrapKeysOf g) (wrappingSize limits s now lent f) g (announced g) (a .new)) same-roots
+              subst (λ (n : ℕ). Enter (rootsOf limits t now lent g) (wrapKeysOf g) n now g (announced g) (a .new)) same-size
+              (subst (λ (r : List Root). Enter r (wrapKeysOf g) (wrappingSize limits s now lent f) now g (announced g) (a .new)) same-roots
               (same-enter (rootsOf limits s now lent f) (wrapKeysOf f) (wrappingSize limits s now lent f) (announced f) (a .new)
               (a .enter)));
           table = a .table ∙ ap (λ (l : List Sa). tableOf limits (insertAll (a .new) l)) same-old;

@@ -12,6 +12,7 @@ pub mod NotRead
 pub mod NamedKey
 pub mod Demands
 pub mod EightSays
+pub mod Following
 pub mod Wider
 pub mod Determined
 pub mod RunsLists
@@ -33,7 +34,7 @@ pub mod OwnKey
 pub mod AtTick
 pub mod RunsLive
 pub mod RunsReplay
-pub mod NeverDue
+pub mod RanOut
 pub mod InbandBeside
 pub mod Inband
 pub mod KeyZero

@@ -16,9 +16,9 @@ use Rattle.clauses.specs.Contents.{rowOf, wrapKeysOf}
 use Rattle.chains.specs.Chain.{In, Root, root, Reached, Ends}
 use Rattle.chains.proofs.Determined.{ends-by, last-entry}
 use Rattle.outcome.specs.Roots.{ownKey, keyZero, heldRoot, rootsOf, entriesOf, wrappingSize}
-use Rattle.outcome.specs.NamedKey.{Registration, Inband, Rekey, lentRoot, Given, Named, lent-key, lent-in-band, own-key, last-of-chain}
-use Rattle.outcome.specs.NamedKey.{held-key, OpensUnder}
-use Rattle.outcome.proofs.Rows.{names-held, registration-row, rekeys, inband-row, registration-lent, lent-roots, lent-size}
+use Rattle.outcome.specs.NamedKey.{Registration, Inband, Rekey, lentRoot, Given, OpensUnder}
+use Rattle.outcome.specs.NamedKey.{Named, lent-key, lent-in-band, own-key, last-of-chain, held-key}
+use Rattle.outcome.proofs.Rows.{names-held, registration-row, rekeys, inband-row, lent-roots, lent-size}
 use Rattle.outcome.proofs.Members.{in-head, in-tail, in-cases, not-in-none, in-map, map-in}
 use Rattle.outcome.proofs.Bags.{copy-own, own-copy}
 use Rattle.outcome.proofs.Accepting.{OpensTo}
@@ -79,14 +79,14 @@ module _ (limits : Limits) (s : State) (now : ℕ) (lent : List ℕ) (f : Frame)
   pub from-lent : Registration f → (k : ℕ) (v : List ℕ) → Given lent f k v →
       Reached roots (entriesOf f) size k v
   from-lent g k v r =
-      let row = registration-lent f (registration-row f g) in
+      let row = registration-row f g in
       subst (λ (l : List Root). Reached l (entriesOf f) size k v) (sym (lent-roots limits s now f row lent))
       (subst (λ (n : ℕ). Reached (lentRoot lent) (entriesOf f) n k v) (sym (lent-size limits s now f row lent)) r)
 
   pub to-lent : Registration f → (k : ℕ) (v : List ℕ) → Reached roots (entriesOf f) size k v →
       Given lent f k v
   to-lent g k v r =
-      let row = registration-lent f (registration-row f g) in
+      let row = registration-row f g in
       subst (λ (l : List Root). Reached l (entriesOf f) (length lent) k v) (lent-roots limits s now f row lent)
       (subst (λ (n : ℕ). Reached roots (entriesOf f) n k v) (lent-size limits s now f row lent) r)
 

@@ -32,8 +32,8 @@ pub record Parted : Type 0 where
 abbrev octets : ℕ → ℕ → ℕ → Parted
 octets n a b = record { need = n; first = a; second = b }
 
--- whatever its SPI, its selectors and its GSA_INITIAL_MESSAGE_ID
-module _ (spi : List ℕ) (from to : Selector) (ids : List ℕ) where
+-- whatever its SPI, its selectors, its GSA_INITIAL_MESSAGE_ID and its GSA_KEY_LIFETIME
+module _ (spi : List ℕ) (from to : Selector) (ids seconds : List ℕ) where
   abbrev neededOf : ℕ → List Transform → Parted
   neededOf p l =
       let a : GroupSaPolicy = record {
@@ -43,6 +43,7 @@ module _ (spi : List ℕ) (from to : Selector) (ids : List ℕ) where
         destination = to;
         transforms = l;
         initialMessageIds = ids;
+        keyLifetimes = seconds;
       } in
       octets (needOf a) (encryptionOctets a) (keyWrapOctets a)
 

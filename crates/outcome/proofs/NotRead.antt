@@ -43,7 +43,7 @@ module _ (limits : Limits) (s : State) (now : ℕ) (lent other : List ℕ) where
     same-after next a =
         record {
           new = a .new;
-          enter = carried (λ r n. Enter r (entriesOf f) n f (announced f) (a .new)) (a .enter);
+          enter = carried (λ r n. Enter r (entriesOf f) n now f (announced f) (a .new)) (a .enter);
           table = a .table;
           held =
               carried (λ r n. HeldBy (rowOf f .registers) (HeldAre r (entriesOf f) n limits (next .held)) (next .held ≡ s .held)) (a .held);

@@ -15,7 +15,7 @@ use Rattle.keys.specs.Kinds.{valueOf, wrappingKey, rekeySizes, keyWrapPart}
 use Rattle.keys.proofs.Cases.{and-parts}
 use Rattle.keys.proofs.Members.{member-kept}
 use Rattle.keys.proofs.Sizes.{rekey-parts, rekey-le}
-use Rattle.sa.specs.Entry.{esp, rekey, isLive, formed, liveRekey, due}
+use Rattle.sa.specs.Entry.{esp, rekey, isLive, sized, fitLifetime, formed, liveRekey, due}
 use Rattle.sa.specs.declared.entry.Sa.{Sa}
 use Rattle.table.specs.declared.Found.{Found}
 use Rattle.table.specs.Table.{sasOf, tableFormed, swept, stays, foundRekey, keyOf, defaultKey}
@@ -46,13 +46,14 @@ module _ (limits : Limits) (s : State) (now : ℕ) (is-formed : stateFormed limi
   the-live = rekey-found limits (swept limits now (s .table)) (swept-formed limits now (s .table) table-is) b stands live
 
   sizes : rekeySizes (b .encryption) (b .wrapping) ≡ true
-  unfolding formed liveRekey
+  unfolding sized formed liveRekey
   sizes =
       let e = all-pass formed (sasOf (s .table)) (formed-fit limits (s .table) table-is .each) b (in-member b (sasOf (s .table)) m) in
+      let k = and-parts (sized b) (fitLifetime (b .lifetime)) e .0 in
       let p = eqb-true (b .protocol) rekey (and-parts (eqb (b .protocol) rekey) (isLive (b .condition)) live .0) in
       let n : eqb (b .protocol) esp ≡ false = ap (λ (k : ℕ). eqb k esp) p in
       let g = and-parts (eqb (b .protocol) rekey) (rekeySizes (b .encryption) (b .wrapping) && eqb (b .count) (b .encryption + b .wrapping))
-      (rw n at e) in
+      (rw n at k) in
       and-parts (rekeySizes (b .encryption) (b .wrapping)) (eqb (b .count) (b .encryption + b .wrapping)) (g .1) .0
 
   -- the octets of an SA are an array of 68

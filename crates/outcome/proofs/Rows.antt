@@ -12,7 +12,6 @@ use Rattle.keys.specs.Limits.{Limits}
 use Rattle.frames.specs.Frame.{Frame}
 use Rattle.frames.specs.Exchange.{exchangeOf, registration, rekey, inband}
 use Rattle.frames.specs.declared.exchanges.Exchange.{Exchange}
-use Rattle.frames.specs.declared.exchanges.KeyZero.the-variants as zero
 use Rattle.state.specs.declared.State.{State}
 use Rattle.state.specs.Held.{keysOf}
 use Rattle.bags.specs.Bag.{MemberKeyBag}
@@ -21,6 +20,7 @@ use Rattle.clauses.specs.Number4.{barredMemberBag}
 use Rattle.clauses.specs.Number5.{lentKeySize}
 use Rattle.clauses.proofs.ExchangeRows.{by-row}
 use Rattle.outcome.specs.Roots.{ownKey, keyZero, heldRoot, rootsOf, wrappingSize}
+use Rattle.outcome.specs.After.{After}
 use Rattle.outcome.specs.NamedKey.{Registration, Inband, Rekey, lentRoot}
 
 -- an exchange that sets the held list is a registration
@@ -47,14 +47,10 @@ rekeys x e = ap exchangeOf e
 pub inband-row : (f : Frame) → Inband f → rowOf f ≡ inband
 inband-row f e = ap exchangeOf e
 
--- a rekey of either kind takes no Member bag and leaves the held list
+-- a rekey of either kind takes no Member bag
 pub rekey-bars : (f : Frame) → Rekey f → rowOf f .members ≡ false
 rekey-bars f (inl e) = ap (λ (x : Exchange). x .members) (rekeys (f .header .exchange) e)
 rekey-bars f (inr e) = ap (λ (x : Exchange). x .members) (inband-row f e)
-
-pub rekey-keeps : (f : Frame) → Rekey f → rowOf f .registers ≡ false
-rekey-keeps f (inl e) = ap (λ (x : Exchange). x .registers) (rekeys (f .header .exchange) e)
-rekey-keeps f (inr e) = ap (λ (x : Exchange). x .registers) (inband-row f e)
 
 -- an exchange that number 2 lets pass is one of the four
 pub one-of-four : (f : Frame) → rowOf f .admitted ≡ true → Registration f ⊎ Rekey f
@@ -73,26 +69,28 @@ no-wrap-key f x e =
     none-gathered [] q = refl
     none-gathered (b ∷ l) q = let h = ltb-false 0 (suc (length l)) q in absurd (omega arith)
 
--- of a registration, and of a rekey over the member's own channel: key 0 is the lent key, and no held key is named
-pub record FromLent (x : Exchange) : Type 0 where
-  pub zero-is : x .zero ≡ zero.Lent
-  pub none-held : x .recalls ≡ false
-
-pub registration-lent : (f : Frame) → rowOf f ≡ registration → FromLent (rowOf f)
-registration-lent f e = record { zero-is = ap (λ (x : Exchange). x .zero) e; none-held = ap (λ (x : Exchange). x .recalls) e }
-
-pub inband-lent : (f : Frame) → rowOf f ≡ inband → FromLent (rowOf f)
-inband-lent f e = record { zero-is = ap (λ (x : Exchange). x .zero) e; none-held = ap (λ (x : Exchange). x .recalls) e }
-
 module _ (limits : Limits) (s : State) (now : ℕ) (f : Frame) where
-  module _ (l : FromLent (rowOf f)) where
+  module _ (e : rowOf f ≡ registration) where
     pub lent-roots : (lent : List ℕ) → rootsOf limits s now lent f ≡ lentRoot lent
     unfolding rootsOf keyZero
-    lent-roots lent = rw (l .zero-is, l .none-held)
+    lent-roots lent = rw e
 
     pub lent-size : (lent : List ℕ) → wrappingSize limits s now lent f ≡ length lent
     unfolding wrappingSize keyZero
-    lent-size lent = rw (l .zero-is)
+    lent-size lent = rw e
+
+  module _ (e : rowOf f ≡ inband) where
+    pub inband-roots : (lent : List ℕ) → rootsOf limits s now lent f ≡ lentRoot lent
+    unfolding rootsOf keyZero
+    inband-roots lent = rw e
+
+    pub inband-size : (lent : List ℕ) → wrappingSize limits s now lent f ≡ length lent
+    unfolding wrappingSize keyZero
+    inband-size lent = rw e
+
+    -- "The held list stays."
+    pub inband-held : (lent : List ℕ) (next : State) → After limits s now lent f next → next .held ≡ s .held
+    inband-held lent next a = let h = a .held in rw e at h
 
   module _ (e : rowOf f ≡ rekey) where
     pub own-roots : (lent : List ℕ) →

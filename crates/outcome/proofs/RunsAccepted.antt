@@ -13,7 +13,7 @@ use Rattle.keys.proofs.Cases.{bool-cases, and-parts}
 use Rattle.policies.specs.Policy.{GroupSaPolicy}
 use Rattle.frames.specs.Frame.{Frame}
 use Rattle.frames.specs.Grammar.{IsFrame}
-use Rattle.sa.specs.Entry.{named, liveRekey}
+use Rattle.sa.specs.Entry.{named, mostSeconds, liveRekey}
 use Rattle.sa.specs.declared.entry.Sa.{Sa}
 use Rattle.table.specs.Table.{tableOf, tableFormed}
 use Rattle.table.specs.Blank.{TableBlank}
@@ -21,13 +21,13 @@ use Rattle.table.proofs.Kept.{Fit}
 use Rattle.state.specs.declared.State.{State}
 use Rattle.state.specs.Held.{heldFormed}
 use Rattle.state.specs.State.{stateFormed}
-use Rattle.clauses.specs.Contents.{rowOf, announced}
+use Rattle.clauses.specs.Contents.{rowOf, several, announced}
 use Rattle.clauses.specs.Fitness.{isEsp, isRekey, transformsFit}
 use Rattle.clauses.specs.Number2.{standing, two-ofMember}
-use Rattle.clauses.specs.Number4.{twiceInTransform, severalRekeyPolicies, keyLengthTwice, four-ofFrame}
+use Rattle.clauses.specs.Number4.{twiceInTransform, severalRekeyPolicies, keyLengthTwice, lifetimeTwice, four-ofFrame}
 use Rattle.clauses.specs.Number5.{otherTransforms, five-ofFrame}
 use Rattle.clauses.specs.Number6.{policyNamed, policyTwice, alreadyInTable, six-ofFrame, six-ofMember}
-use Rattle.clauses.specs.Number7.{manySas, seven-ofMember}
+use Rattle.clauses.specs.Number7.{longLifetime, manySas, seven-ofFrame, seven-ofMember}
 use Rattle.chains.specs.Refusals.{of-copies, wrong-size, KeyOf}
 use Rattle.outcome.specs.Roots.{rootsOf, entriesOf, wrappingSize, needOf, announcedAs, announcedKeys}
 use Rattle.outcome.specs.After.{newRekey, insertAll, oldSas, Enter}
@@ -37,7 +37,7 @@ use Rattle.clauses.proofs.Clear.{no-clause}
 use Rattle.outcome.proofs.RunsClear.{Clear}
 use Rattle.outcome.proofs.RunsNeeds.{esp-sizes, rekey-sizes}
 use Rattle.outcome.proofs.RunsSpis.{esp-spi, rekey-spi}
-use Rattle.outcome.proofs.RunsMade.{Kind, an-esp, a-rekey, Made, enter-made}
+use Rattle.outcome.proofs.RunsMade.{Kind, an-esp, a-rekey, Lasts, Made, enter-made}
 use Rattle.outcome.proofs.RunsTable.{Apart, counted-apart, new-fit, new-blank}
 use Rattle.outcome.proofs.RunsOld.{old-length, old-names, old-live, old-fit, old-blank}
 
@@ -63,6 +63,15 @@ module _ (limits : Limits) (s : State) (now : ℕ) (lent : List ℕ) (f : Frame)
       not-false (transformsFit (rowOf f .authentication) a)
       (none-passes (λ (p : GroupSaPolicy). not (transformsFit (rowOf f .authentication) p)) (announced f)
       (no-clause (five-ofFrame lent f) 2 (c .no-5 .ofFrame)) a m)
+
+  -- an announced SA has one lifetime at most, of no more than 2,000,000 seconds
+  pub lasts : (a : GroupSaPolicy) → List·Memᴰ a (announced f) → Lasts a
+  unfolding four-ofFrame lifetimeTwice seven-ofFrame longLifetime
+  lasts a m = (
+    none-passes (λ (p : GroupSaPolicy). several (p .keyLifetimes)) (announced f) (no-clause (four-ofFrame f) 16 (c .no-4 .ofFrame)) a m,
+    none-passes (λ (p : GroupSaPolicy). any (λ (n : ℕ). ltb mostSeconds n) (p .keyLifetimes)) (announced f)
+        (no-clause (seven-ofFrame limits f) 4 (c .no-7 .ofFrame)) a m,
+  )
 
   names-apart : Apart (announced f)
   unfolding six-ofFrame policyTwice
@@ -123,9 +132,9 @@ module _ (limits : Limits) (s : State) (now : ℕ) (lent : List ℕ) (f : Frame)
 
   -- ---- the table
   module _ (octets : List ℕ) (e : IsFrame octets f) (new : List Sa)
-      (n : Enter (rootsOf limits s now lent f) (entriesOf f) (wrappingSize limits s now lent f) f (announced f) new) where
-    pub all-made : Made (announced f) new
-    all-made = enter-made n (kinds octets e) opened-size
+      (n : Enter (rootsOf limits s now lent f) (entriesOf f) (wrappingSize limits s now lent f) now f (announced f) new) where
+    pub all-made : Made now (announced f) new
+    all-made = enter-made n (kinds octets e) lasts opened-size
 
     pub table-fit : Fit limits (insertAll new (oldSas s now f))
     table-fit =

@@ -1,15 +1,13 @@
 -- What becomes of a live Rekey SA when a frame is accepted: one that stands at the tick stays live, unless the frame announces a Rekey SA;
--- a registration that announces none leaves none; where none was live, a frame that announces none makes none live. Nothing here says that a live SA is never due (that is `NeverDue`).
+-- a registration that announces none leaves none; where none was live, a frame that announces none makes none live.
 use native.Mathlib.Omega.{arith}
 use Prim.Native.Nat.{ℕ}
 use mathlib.Core.Path.{_≡_, refl, ap, sym, _∙_, subst}
-use mathlib.Core.Bool.{Bool, true, false, not, _&&_, _||_, and-false, false≢true}
+use mathlib.Core.Bool.{Bool, true, false, not, _&&_, _||_, false≢true}
 use mathlib.Core.Logic.{inr}
 use mathlib.Core.List.{List, List·Memᴰ}
 use borrow.Author.Tests.{eqb-true, ne-eqb, not-false}
 use lib.Dec.{eqb, leb}
-use Rattle.octets.specs.Compare.{same}
-use Rattle.octets.proofs.Order.{same-eq}
 use Rattle.keys.specs.Limits.{Limits}
 use Rattle.keys.specs.Lists.{all, any}
 use Rattle.keys.proofs.Cases.{bool-cases, and-parts}
@@ -30,7 +28,6 @@ use Rattle.state.proofs.Laws.{swept-yes, swept-no}
 use Rattle.clauses.specs.Contents.{rowOf, announced}
 use Rattle.clauses.specs.Fitness.{isRekey}
 use Rattle.clauses.specs.Number2.{standing, overLiveRekey, breaksWanted, nonEmptyMember, otherSpis, two-ofMember}
-use Rattle.clauses.specs.Number6.{policyNamed}
 use Rattle.clauses.specs.Refusals.{two}
 use Rattle.clauses.proofs.Clear.{no-clause}
 use Rattle.chains.proofs.Members.{in-member, member-in}
@@ -40,10 +37,10 @@ use Rattle.outcome.proofs.Enters.{all-in, old-stayed}
 use Rattle.outcome.proofs.RunsLists.{member-map, all-pass, count-none, none-count, none-passes, passes-none}
 use Rattle.outcome.proofs.RunsLists.{some-passes, passes-some}
 use Rattle.outcome.proofs.RunsClear.{None, Clear}
-use Rattle.outcome.proofs.RunsMade.{made-any, made-count}
+use Rattle.outcome.proofs.RunsMade.{made-count}
 use Rattle.outcome.proofs.RunsTable.{any-all}
-use Rattle.outcome.proofs.RunsOld.{old-live, not-revived, swept-sas}
-use Rattle.outcome.proofs.RunsAccepted.{all-made, new-name}
+use Rattle.outcome.proofs.RunsOld.{not-revived, swept-sas}
+use Rattle.outcome.proofs.RunsAccepted.{all-made}
 
 pub over-parts : (x : List ℕ) (a : Sa) → overLiveRekey x a ≡ true → (liveRekey a ≡ true) × (named entry.rekey x a ≡ true)
 over-parts x a e = and-parts (liveRekey a) (named entry.rekey x a) e
@@ -178,35 +175,3 @@ module _ (limits : Limits) (s : State) (now : ℕ) (lent : List ℕ) (f : Frame)
       -- and none is where none was, after any frame that announces none
       pub kept-none : NoneLive s → NoneLive next
       kept-none none = none-next (none-revived none)
-
-  module _ (octets : List ℕ) (e : IsFrame octets f) (x : List ℕ) (l : StandsAt now x s) where
-    -- no announced SA has the name of one that stands at the tick
-    other-names : any (named entry.rekey x) (a .new) ≡ false
-    other-names =
-        let made = all-made limits s now lent f c octets e (a .new) (a .enter) in
-        let r = some-passes (overLiveRekey x) (standing now s) l in
-        let there = passes-some (named entry.rekey x) (standing now s) (r .one) (r .stands) (over-parts x (r .one) (r .passes) .1) in
-        made-any entry.rekey x made
-        ∙ passes-none (policyNamed entry.rekey x) (announced f)
-        (λ b m.
-        bool-cases (policyNamed entry.rekey x b)
-        (λ g.
-        let n = and-parts (eqb (b .protocol) entry.rekey) (same (b .spi) x) g in
-        let p = eqb-true (b .protocol) entry.rekey (n .0) in
-        let q = same-eq (b .spi) x (n .1) in
-        absurd
-        (false≢true
-        (sym (new-name limits s now lent f c b m) ∙ (λ i. any (named (p i) (q i)) (standing now s)) ∙ there)))
-        (λ g. g))
-
-    -- where it is live after the frame, the frame announced no Rekey SA
-    pub no-new-rekey : LiveRekey x next → newRekey f ≡ false
-    no-new-rekey k =
-        bool-cases (newRekey f)
-        (λ g.
-        let old = none-passes liveRekey (oldSas s now f) (count-none liveRekey (oldSas s now f) (old-live limits s now f g)) in
-        let new = none-passes (named entry.rekey x) (a .new) other-names in
-        let none = passes-none (overLiveRekey x) (oldSas s now f) (λ b m. rw (old b m)) in
-        let none-new = passes-none (overLiveRekey x) (a .new) (λ b m. rw (new b m) (and-false (liveRekey b))) in
-        absurd (false≢true (sym (next-any (overLiveRekey x) ∙ rw (none-new, none)) ∙ k)))
-        (λ g. g)

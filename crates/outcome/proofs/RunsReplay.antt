@@ -1,5 +1,6 @@
 -- NO REPLAY: as long as no step leaves or brings a new Rekey SA, a Message ID that was accepted, or a lower one, is never accepted again;
--- after 4,294,967,295 none is. GSA_INBAND_REKEY may come between. `NeverDue` has the same as long as the Rekey SA is live.
+-- after 4,294,967,295 none is. GSA_INBAND_REKEY may come between. A live Rekey SA is no premise: one that ran out can be replaced, under
+-- its own SPI, with a new least Message ID, and be live in every state all the while (document 02, T-07).
 use native.Mathlib.Omega.{arith}
 use Prim.Native.Nat.{ℕ, _+_, _-_, _^_, _≤_}
 use mathlib.Core.Path.{_≡_, refl, ap, sym, _∙_, subst}
@@ -27,7 +28,8 @@ use Rattle.outcome.specs.Run.{Step, Takes, answered, swept, left, Run, e
 use Rattle.clauses.proofs.Clear.{no-clause}
 use Rattle.clauses.proofs.ExchangeRows.{by-row}
 use Rattle.outcome.proofs.RunsClear.{Clear, clear, Taken, taken}
-use Rattle.outcome.proofs.RunsLive.{NoneLive, stands-live, passes-over, none-over, swept-none, accepted-live, registered-none, kept-none}
+use Rattle.outcome.proofs.RunsLive.{NoneLive, stands-live, passes-over, none-over, swept-none, accepted-live, registered-none}
+use Rattle.outcome.proofs.RunsLive.{kept-none}
 
 -- ---- the least Message ID is past i: neither i nor a lower one is acceptable
 abbrev pub Past : ℕ → Least → Type 0
@@ -121,11 +123,7 @@ module _ (limits : Limits) where
   run-barred i (ends s) q b = b
   run-barred i (goes s {m} {e} {x = y} t r) q b = run-barred i r (q .1) (takes-barred i s y m t (q .0) b)
 
-  -- the first and the last state of a run
-  pub first-of : (P : State → Type 0) {s e : State} {l : List Step} (r : Run limits s l e) → Throughout limits P r → P s
-  first-of P (ends s) t = t
-  first-of P (goes s t r) u = u .0
-
+  -- the last state of a run
   pub last-of : (P : State → Type 0) {s e : State} {l : List Step} (r : Run limits s l e) → Throughout limits P r → P e
   last-of P (ends s) t = t
   last-of P (goes s t r) u = last-of P r (u .1)

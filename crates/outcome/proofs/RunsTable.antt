@@ -1,6 +1,6 @@
 -- SAs that enter a table keep it as it must be, and blank in its unused places.
 use native.Mathlib.Omega.{arith}
-use Prim.Native.Nat.{_+_, _-_, _≤_, _<_}
+use Prim.Native.Nat.{ℕ, _+_, _-_, _≤_, _<_}
 use mathlib.Core.Path.{_≡_, refl, ap, _∙_, subst}
 use mathlib.Core.Bool.{Bool, true, false, _||_}
 use mathlib.Core.List.{List, [], _∷_, List·Memᴰ, List·Memᴰ·head, List·Memᴰ·tail}
@@ -86,39 +86,40 @@ counted-apart (a ∷ l) f =
 
 -- ---- the new SAs enter
 module _ (limits : Limits) (old : List Sa) where
-  pub new-fit : Fit limits old → {l : List GroupSaPolicy} {m : List Sa} → Made l m → length l + length old ≤ limits .sas → Apart l →
+  pub new-fit : Fit limits old → {now : ℕ} {l : List GroupSaPolicy} {m : List Sa} → Made now l m →
+      length l + length old ≤ limits .sas → Apart l →
       ((a : GroupSaPolicy) → List·Memᴰ a l → any (named (a .protocol) (a .spi)) old ≡ false) →
       count isRekey l + count liveRekey old ≤ 1 → Fit limits (insertAll m old)
   unfolding insertAll
   new-fit k none-made r d n o = k
-  new-fit k (and-made {l} {m} a x y z e) r (another u d) n o =
+  new-fit k {now} (and-made {l} {m} a x y t z e) r (another u d) n o =
       let fewer = count-rest isRekey a l in
       let h = new-fit k e (omega arith) d (λ b i. n b (List·Memᴰ·tail i)) (omega arith) in
-      let s = saFrom a x in
+      let s = saFrom now a x in
       let w = insertAll m old in
       let c1 = made-length e in
       let c2 = length-all m old in
-      let c3 = made-count (and-made a x y z e) in
+      let c3 = made-count (and-made a x y t z e) in
       let c4 = count-all liveRekey m old in
       let c5 = count-first liveRekey s m w in
       let name : any (named (s .protocol) (spiOf s)) w ≡ false =
-      (λ i. any (named (made-protocol a x y i) (made-spi a x y i)) w) ∙ any-all (named (a .protocol) (a .spi)) m old
+      (λ i. any (named (made-protocol now a x y i) (made-spi now a x y i)) w) ∙ any-all (named (a .protocol) (a .spi)) m old
       ∙ rw (made-any (a .protocol) (a .spi) e, u) (n a (List·Memᴰ·head refl)) in
-      fit-entered limits s w h (omega arith) (made-formed a x z y) name (omega arith)
+      fit-entered limits s w h (omega arith) (made-formed now a x z y t) name (omega arith)
 
   entered-is : (a : Sa) (l : List Sa) → length l < limits .sas → entered limits a (tableOf limits l) ≡ tableOf limits (insert before a l)
   unfolding entered tableOf
   entered-is a l h =
       rw (lt-ltb (length l) (limits .sas) h) (ap (λ (x : List Sa). tableOf limits (insert before a x)) (sas-of-table limits l))
 
-  pub new-blank : TableBlank limits (tableOf limits old) → {l : List GroupSaPolicy} {m : List Sa} → Made l m →
+  pub new-blank : TableBlank limits (tableOf limits old) → {now : ℕ} {l : List GroupSaPolicy} {m : List Sa} → Made now l m →
       length l + length old ≤ limits .sas → TableBlank limits (tableOf limits (insertAll m old))
   unfolding insertAll
   new-blank b none-made r = b
-  new-blank b (and-made {l} {m} a x y z e) r =
-      let s = saFrom a x in
+  new-blank b {now} (and-made {l} {m} a x y t z e) r =
+      let s = saFrom now a x in
       let w = insertAll m old in
       let c1 = made-length e in
       let c2 = length-all m old in
       subst (TableBlank limits) (entered-is s w (omega arith))
-      (entered-blank limits s (tableOf limits w) (made-blank a x z y) (new-blank b e (omega arith)))
+      (entered-blank limits s (tableOf limits w) (made-blank now a x z y) (new-blank b e (omega arith)))

@@ -22,11 +22,12 @@ use Rattle.clauses.specs.Number2.{nonEmptyMember, otherSpis}
 use Rattle.clauses.specs.Number3.{notAcceptable}
 use Rattle.clauses.specs.Number4.{criticalUnknown, barredMemberBag, barredDelete, twoGsa, twoKd, gsaWithoutKd, kdWithoutGsa, neither}
 use Rattle.clauses.specs.Number4.{severalRekeyPolicies, severalGroupWide, severalMemberBags, gsaWithoutSaPolicy, keyLengthTwice}
-use Rattle.clauses.specs.Number4.{initialMessageIdTwice, delayTwice, otherDestination, four-ofFrame}
+use Rattle.clauses.specs.Number4.{initialMessageIdTwice, delayTwice, otherDestination, lifetimeTwice, four-ofFrame}
 use Rattle.clauses.specs.Number5.{ahPolicy, ahBag, otherTransforms, deleteOfOther, deleteOfNone, lentKeySize, five-ofFrame}
 use Rattle.clauses.specs.Number6.{policyUnpaired, bagUnpaired, policyTwice, bagTwice, alreadyInTable, otherSaKeyCount, saKeyCount}
 use Rattle.clauses.specs.Number6.{saKeyId, espKwkId, wrapKeyId, underItself, wrapsItself, six-ofFrame, six-ofMember}
-use Rattle.clauses.specs.Number7.{manyEspPolicies, manyWrapKeys, manySaKeys, manyDeletedSpis, manySas, seven-ofFrame, seven-ofMember}
+use Rattle.clauses.specs.Number7.{manyEspPolicies, manyWrapKeys, manySaKeys, manyDeletedSpis, longLifetime, manySas}
+use Rattle.clauses.specs.Number7.{seven-ofFrame, seven-ofMember}
 use Rattle.clauses.specs.Refusals.{one, two, three, four, five, six, seven}
 use Rattle.outcome.specs.Samples.{Around, espPolicy, registering, lent-of-28, Says}
 use Rattle.outcome.proofs.RunsClear.{None}
@@ -52,7 +53,7 @@ module _ (r : Around) (now : ℕ) (w : List ℕ) (l : List WrapKey) where
   pub fresh-4 : None (four (registering r w l))
   unfolding one any count gather criticalUnknown barredMemberBag barredDelete twoGsa twoKd gsaWithoutKd kdWithoutGsa neither
       severalRekeyPolicies severalGroupWide severalMemberBags gsaWithoutSaPolicy keyLengthTwice initialMessageIdTwice delayTwice
-      otherDestination four-ofFrame
+      otherDestination lifetimeTwice four-ofFrame
   fresh-4 = record { ofFrame = rw (row-of (r .auth)); ofMember = refl }
 
   -- 5 looks at the lent key's size
@@ -71,8 +72,8 @@ module _ (r : Around) (now : ℕ) (w : List ℕ) (l : List WrapKey) where
   fresh-6 e d = record { ofFrame = rw (row-of (r .auth), eq-same (r .spi) (r .spi) refl, append-nil l, e, d); ofMember = refl }
 
   pub fresh-7 : length l ≤ limits .wrapKeys → None (seven limits fresh now (registering r w l))
-  unfolding one any count gather manyEspPolicies manyWrapKeys manySaKeys manyDeletedSpis manySas seven-ofFrame seven-ofMember newState
-      tableOf keep
+  unfolding one any count gather manyEspPolicies manyWrapKeys manySaKeys manyDeletedSpis longLifetime manySas seven-ofFrame seven-ofMember
+      newState tableOf keep
   fresh-7 h = record { ofFrame = rw (append-nil l, le-ltb (limits .wrapKeys) (length l) h); ofMember = refl }
 
 -- ---- the row on the lent key's size

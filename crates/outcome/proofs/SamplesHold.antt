@@ -4,7 +4,8 @@ use Rattle.octets.specs.Numbers.{number}
 use Rattle.octets.specs.Walk.{chain, chainUpTo, many}
 use Rattle.attributes.specs.Tree.{valuesOf}
 use Rattle.attributes.specs.Layout.{attribute}
-use Rattle.sa.specs.Entry.{due, dueBy}
+use Rattle.sa.specs.Entry.{dueBy}
+use Rattle.sa.proofs.Lifetimes.{due-without}
 use Rattle.sa.proofs.Samples.{wrapped-elapsed, wrapped-not-due, wrapped-due}
 use Rattle.sa.proofs.Samples as clock
 use Rattle.outcome.specs.Samples.{Sample, clock-wraps, delay-zero, least-seven, last-id, two-steps, circle, two-values, lent-of-28}
@@ -16,12 +17,14 @@ use Rattle.outcome.proofs.SamplesTree.{key-tree-holds}
 use Rattle.outcome.proofs.SamplesEntries.{circle-holds, two-values-holds}
 
 clock-wraps-holds : Says clock-wraps
-unfolding due
-clock-wraps-holds a e = (wrapped-elapsed, ap (dueBy 703) e ∙ wrapped-not-due, ap (dueBy 704) e ∙ wrapped-due)
+clock-wraps-holds a t e = (
+  wrapped-elapsed,
+  due-without 703 a t ∙ ap (dueBy 703) e ∙ wrapped-not-due,
+  due-without 704 a t ∙ ap (dueBy 704) e ∙ wrapped-due,
+)
 
 delay-zero-holds : Says delay-zero
-unfolding due
-delay-zero-holds a start e = ap (dueBy start) e ∙ clock.delay-zero start
+delay-zero-holds a start t e = due-without start a t ∙ ap (dueBy start) e ∙ clock.delay-zero start
 
 key-length-holds : Says key-length-128
 unfolding attribute many chain chainUpTo number valuesOf

@@ -12,8 +12,9 @@ use Rattle.keywrap.specs.Wrap.{wrapOf}
 use Rattle.keys.specs.Limits.{limits}
 use Rattle.attributes.specs.Tree.{WrapKey}
 use Rattle.frames.specs.Grammar.{IsFrame}
-use Rattle.sa.specs.Entry.{withCondition}
+use Rattle.sa.specs.Entry.{rekeySa, withCondition}
 use Rattle.sa.specs.declared.entry.Condition.the-variants.{Retiring}
+use Rattle.sa.specs.declared.entry.Lifetime.the-variants.{Unlimited}
 use Rattle.sa.specs.declared.entry.Sa.{Sa}
 use Rattle.state.specs.declared.State.{State}
 use Rattle.state.specs.declared.least.Least.{Least}
@@ -98,8 +99,8 @@ pub record Lent : Type 0 where
   pub reads : IsFrame octets (registering r wrapped entries)
 
 abbrev pub Inhabited : Sample → Type 0
-Inhabited clock-wraps = (a : Sa) × (a .condition ≡ Retiring 4294967000 1)
-Inhabited delay-zero = (a : Sa) × ((start : ℕ) × (a .condition ≡ Retiring start 0))
+Inhabited clock-wraps = (a : Sa) × (a .lifetime ≡ Unlimited) × (a .condition ≡ Retiring 4294967000 1)
+Inhabited delay-zero = (a : Sa) × ((start : ℕ) × (a .lifetime ≡ Unlimited) × (a .condition ≡ Retiring start 0))
 Inhabited least-seven =
     (m : Messages (λ (l : Least). l ≡ Id 7) (λ (x : List ℕ). Rekeyed x 6 × Rekeyed x 7 × Rekeyed x 9)) × Later (m .state) (m .spi) 9 9
 Inhabited last-id =
@@ -150,10 +151,14 @@ fits k h = record { key = key-16 k h; size = refl }
 keying : Keying (replicate 20 7)
 keying = record { size = refl; octets = same-octets 20 7 (omega arith) }
 
+lasting : one .lifetime ≡ Unlimited
+unfolding rekeySa
+lasting = refl
+
 -- THE CLAIM
 pub samples-inhabited : (x : Sample) → Inhabited x
-samples-inhabited clock-wraps = (withCondition (Retiring 4294967000 1) one, refl)
-samples-inhabited delay-zero = (withCondition (Retiring 0 0) one, (0, refl))
+samples-inhabited clock-wraps = (withCondition (Retiring 4294967000 1) one, lasting, refl)
+samples-inhabited delay-zero = (withCondition (Retiring 0 0) one, (0, lasting, refl))
 samples-inhabited least-seven =
     let r = rekeys-read rekeySpi refl (same-octets 16 1 (omega arith)) in (
       record {

@@ -24,11 +24,12 @@ use Rattle.clauses.specs.Number2.{standing, overLiveRekey, nonEmptyMember, othe
 use Rattle.clauses.specs.Number3.{notAcceptable, three-ofMember}
 use Rattle.clauses.specs.Number4.{criticalUnknown, barredMemberBag, barredDelete, twoGsa, twoKd, gsaWithoutKd, kdWithoutGsa, neither}
 use Rattle.clauses.specs.Number4.{severalRekeyPolicies, severalGroupWide, severalMemberBags, gsaWithoutSaPolicy, keyLengthTwice}
-use Rattle.clauses.specs.Number4.{initialMessageIdTwice, delayTwice, otherDestination, four-ofFrame}
+use Rattle.clauses.specs.Number4.{initialMessageIdTwice, delayTwice, otherDestination, lifetimeTwice, four-ofFrame}
 use Rattle.clauses.specs.Number5.{ahPolicy, ahBag, otherTransforms, deleteOfOther, deleteOfNone, lentKeySize, five-ofFrame}
 use Rattle.clauses.specs.Number6.{policyUnpaired, bagUnpaired, policyTwice, bagTwice, alreadyInTable, saKeyCount, saKeyId, espKwkId}
 use Rattle.clauses.specs.Number6.{wrapKeyId, wrapsItself, six-ofFrame, six-ofMember}
-use Rattle.clauses.specs.Number7.{manyEspPolicies, manyWrapKeys, manySaKeys, manyDeletedSpis, manySas, seven-ofFrame, seven-ofMember}
+use Rattle.clauses.specs.Number7.{manyEspPolicies, manyWrapKeys, manySaKeys, manyDeletedSpis, longLifetime, manySas}
+use Rattle.clauses.specs.Number7.{seven-ofFrame, seven-ofMember}
 use Rattle.clauses.specs.Refusals.{one, two, three, four, five, six, seven}
 use Rattle.chains.specs.Chain.{In, Root, Reached}
 use Rattle.chains.specs.Refusals.{EntriesEight, wrong-size, two-values, Eight, of-entries, of-copies, Nine}
@@ -88,7 +89,7 @@ module _ (s : State) (now : ℕ) (x : List ℕ) (i : ℕ) (l : List (List ℕ)) 
   no-4 : None (four (deleting x i l))
   unfolding one any count gather criticalUnknown barredMemberBag barredDelete twoGsa twoKd gsaWithoutKd kdWithoutGsa neither
       severalRekeyPolicies severalGroupWide severalMemberBags gsaWithoutSaPolicy keyLengthTwice initialMessageIdTwice delayTwice
-      otherDestination four-ofFrame
+      otherDestination lifetimeTwice four-ofFrame
   no-4 = record { ofFrame = refl; ofMember = refl }
 
   no-5 : (lent : List ℕ) → 1 ≤ length l → None (five lent (deleting x i l))
@@ -107,7 +108,7 @@ module _ (s : State) (now : ℕ) (x : List ℕ) (i : ℕ) (l : List (List ℕ)) 
       fit-keep limits (stays now) (sasOf (s .table)) (formed-fit limits (s .table) t) .room
 
   no-7 : stateFormed limits s ≡ true → length l ≤ limits .deletedSpis → None (seven limits s now (deleting x i l))
-  unfolding one any count gather manyEspPolicies manyWrapKeys manySaKeys manyDeletedSpis manySas seven-ofFrame seven-ofMember
+  unfolding one any count gather manyEspPolicies manyWrapKeys manySaKeys manyDeletedSpis longLifetime manySas seven-ofFrame seven-ofMember
   no-7 e h =
       let k = standing-few e in
       let n : length (l ++ []) ≤ limits .deletedSpis =

@@ -29,7 +29,7 @@ use Rattle.chains.specs.Chain.{In, Root}
 use Rattle.chains.specs.Refusals.{Announced, EntriesEight, Eight, of-entries, Nine, KeyOf}
 use Rattle.outcome.specs.Answer.{EightOf, NineOf}
 use Rattle.outcome.specs.Roots.{keyZero, rootsOf, entriesOf, wrappingSize, copiesOf, needOf, announcedAs, announcedKeys}
-use Rattle.outcome.specs.After.{saFrom, oldSas, insertAll, one-more, no-sa, HeldAre, HeldBy, leastAfterwards, After}
+use Rattle.outcome.specs.After.{lifetimeFrom, saFrom, oldSas, insertAll, one-more, no-sa, HeldAre, HeldBy, leastAfterwards, After}
 use Rattle.outcome.specs.Outcome.{Outcome}
 use Rattle.outcome.specs.Samples.{Around, espPolicy, registering, registered, Keying}
 use Rattle.chains.proofs.Members.{in-member}
@@ -129,9 +129,9 @@ module _ (r : Around) (now : ℕ) (lent x octets : List ℕ) (l : List WrapKey) 
         HeldAre (roots-are r now lent w l i) (entries-are r now lent w l i) (size-is r now lent w l i) limits (heldOf limits keys))) are
 
     after-registers : After limits (newState limits) now lent g (registered r x keys)
-    unfolding Set gather newState tableOf keep oldSas insertAll insert saFrom leastAfterwards any
+    unfolding Set gather newState tableOf keep oldSas insertAll insert saFrom lifetimeFrom leastAfterwards any
     after-registers = record {
-      new = saFrom (espPolicy r) x ∷ [];
+      new = saFrom now (espPolicy r) x ∷ [];
       enter =
           one-more x
           (subst (λ (A : Type 0). A) key-is

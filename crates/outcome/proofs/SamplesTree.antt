@@ -23,19 +23,21 @@ use Rattle.clauses.specs.Fitness.{encryptionFits, keyWrapFits, authenticationFi
 use Rattle.clauses.specs.Fitness.{sum, encryptionOctets, keyWrapOctets}
 use Rattle.clauses.specs.Number4.{criticalUnknown, barredMemberBag, barredDelete, twoGsa, twoKd, gsaWithoutKd, kdWithoutGsa, neither}
 use Rattle.clauses.specs.Number4.{severalRekeyPolicies, severalGroupWide, severalMemberBags, gsaWithoutSaPolicy, keyLengthTwice}
-use Rattle.clauses.specs.Number4.{initialMessageIdTwice, delayTwice, otherDestination, four-ofFrame}
+use Rattle.clauses.specs.Number4.{initialMessageIdTwice, delayTwice, otherDestination, lifetimeTwice, four-ofFrame}
 use Rattle.clauses.specs.Number5.{ahPolicy, ahBag, otherTransforms, deleteOfOther, deleteOfNone, lentKeySize, five-ofFrame}
 use Rattle.clauses.specs.Number6.{policyUnpaired, bagUnpaired, policyTwice, bagTwice, alreadyInTable, otherSaKeyCount, saKeyCount}
 use Rattle.clauses.specs.Number6.{saKeyId, espKwkId, wrapKeyId, wrapsItself, six-ofFrame, six-ofMember}
-use Rattle.clauses.specs.Number7.{manyEspPolicies, manyWrapKeys, manySaKeys, manyDeletedSpis, manySas, seven-ofFrame, seven-ofMember}
+use Rattle.clauses.specs.Number7.{manyEspPolicies, manyWrapKeys, manySaKeys, manyDeletedSpis, longLifetime, manySas}
+use Rattle.clauses.specs.Number7.{seven-ofFrame, seven-ofMember}
 use Rattle.clauses.specs.Refusals.{one, four, five, six, seven}
 use Rattle.chains.specs.Chain.{In, Root, Reached, Ends}
 use Rattle.chains.specs.Refusals.{Announced, EntriesEight, Eight, Nine, KeyOf}
 use Rattle.outcome.specs.Answer.{EightOf, NineOf}
 use Rattle.outcome.specs.Roots.{rootsOf, entriesOf, wrappingSize, copiesOf, needOf, announcedAs, announcedKeys}
-use Rattle.outcome.specs.After.{saFrom, oldSas, insertAll, one-more, no-sa, HeldAre, HeldBy, initialMessageId, leastAfterwards, After}
+use Rattle.outcome.specs.After.{lifetimeFrom, saFrom, oldSas, insertAll, one-more, no-sa, HeldAre, HeldBy, initialMessageId}
+use Rattle.outcome.specs.After.{leastAfterwards, After}
 use Rattle.outcome.specs.Samples.{Around, rekeyPolicy, creating, created, Creates, entry, heldWith, Wrapping, key-tree, Says}
-use Rattle.outcome.proofs.Rows.{registration-lent, lent-roots, lent-size}
+use Rattle.outcome.proofs.Rows.{lent-roots, lent-size}
 use Rattle.outcome.proofs.RunsClear.{None, Clear}
 use Rattle.outcome.proofs.SamplesAnswers.{outcome-0}
 use Rattle.outcome.proofs.SamplesFrame.{row-of, fresh-2, fresh-3}
@@ -106,7 +108,7 @@ module _ (r : Around) (now : ℕ) (lent w v₁ v₃ v₇ : List ℕ) (key : Key 
   tree-4 : oneGroupAddress (r .destination) ≡ true → None (four f)
   unfolding one any count gather criticalUnknown barredMemberBag barredDelete twoGsa twoKd gsaWithoutKd kdWithoutGsa neither
       severalRekeyPolicies severalGroupWide severalMemberBags gsaWithoutSaPolicy keyLengthTwice initialMessageIdTwice delayTwice
-      otherDestination four-ofFrame
+      otherDestination lifetimeTwice four-ofFrame
   tree-4 d = record { ofFrame = rw (row-of (r .auth), d); ofMember = refl }
 
   transforms-fit : transformsFit true (rekeyPolicy r) ≡ true
@@ -123,8 +125,8 @@ module _ (r : Around) (now : ℕ) (lent w v₁ v₃ v₇ : List ℕ) (key : Key 
   tree-6 = record { ofFrame = rw (row-of (r .auth), eq-same (r .spi) (r .spi) refl); ofMember = refl }
 
   tree-7 : None (seven limits (newState limits) now f)
-  unfolding one any count gather manyEspPolicies manyWrapKeys manySaKeys manyDeletedSpis manySas seven-ofFrame seven-ofMember newState
-      tableOf keep
+  unfolding one any count gather manyEspPolicies manyWrapKeys manySaKeys manyDeletedSpis longLifetime manySas seven-ofFrame seven-ofMember
+      newState tableOf keep
   tree-7 = record { ofFrame = refl; ofMember = refl }
 
 -- ---- the row
@@ -145,10 +147,10 @@ module _ (r : Around) (now : ℕ) (lent x v₁ v₃ v₇ octets : List ℕ) (c :
   top = oneCopy 1 36 (wrapOf v₁ x)
 
   roots-are : rootsOf limits s now lent g ≡ R
-  roots-are = lent-roots limits s now g (registration-lent g (row-of (r .auth))) lent
+  roots-are = lent-roots limits s now g (row-of (r .auth)) lent
 
   size-is : wrappingSize limits s now lent g ≡ length lent
-  size-is = lent-size limits s now g (registration-lent g (row-of (r .auth))) lent
+  size-is = lent-size limits s now g (row-of (r .auth)) lent
 
   entries-are : entriesOf g ≡ l
   unfolding gather
@@ -208,10 +210,10 @@ module _ (r : Around) (now : ℕ) (lent x v₁ v₃ v₇ octets : List ℕ) (c :
       (held-tree lent v₁ v₃ v₇ (c .key) (c .first) (c .second) (c .third))
 
   after-tree : After limits s now lent g next
-  unfolding Set gather newState tableOf keep oldSas insertAll insert saFrom leastAfterwards initialMessageId any encryptionOctets
-      keyWrapOctets sum neededBy neededIn isRowOf
+  unfolding Set gather newState tableOf keep oldSas insertAll insert saFrom lifetimeFrom leastAfterwards initialMessageId any
+      encryptionOctets keyWrapOctets sum neededBy neededIn isRowOf
   after-tree = record {
-    new = saFrom (rekeyPolicy r) x ∷ [];
+    new = saFrom now (rekeyPolicy r) x ∷ [];
     enter =
         one-more x
         (subst (λ (A : Type 0). A) key-is

@@ -3,7 +3,6 @@ use native.Mathlib.Omega.{arith}
 use Prim.Native.Nat.{ℕ, suc, _+_, _≤_}
 use mathlib.Core.Path.{_≡_, refl, ap, sym, _∙_, subst}
 use mathlib.Core.Bool.{Bool, true, false, _&&_, _||_, not, cond, false≢true}
-use mathlib.Core.Logic.{_⊎_, inl, inr}
 use mathlib.Core.List.{List, [], _∷_, map}
 use borrow.Author.Tests.{le-leb, le-ltb, ltb-false}
 use lib.Dec.{leb, ltb}
@@ -36,37 +35,18 @@ use Rattle.clauses.specs.Fitness.{isEsp}
 use Rattle.clauses.specs.Number2.{standing, nonEmptyMember, otherSpis}
 use Rattle.clauses.specs.Number3.{notAcceptable}
 use Rattle.clauses.specs.Number6.{alreadyInTable, six-ofMember}
-use Rattle.clauses.specs.Number7.{manyEspPolicies, manyWrapKeys, manySaKeys, manyDeletedSpis, manySas, seven-ofFrame, seven-ofMember}
+use Rattle.clauses.specs.Number7.{manyEspPolicies, manyWrapKeys, manySaKeys, manyDeletedSpis, longLifetime, manySas}
+use Rattle.clauses.specs.Number7.{seven-ofFrame, seven-ofMember}
 use Rattle.clauses.specs.Refusals.{one, applies, two, three, six, seven}
 use Rattle.clauses.proofs.Clear.{or-none}
 use Rattle.chains.specs.Chain.{Root}
 use Rattle.outcome.specs.Roots.{ownKey, keyZeroBy, keyZero, heldRoot, rootsOf, entriesOf, wrappingSize}
-use Rattle.outcome.specs.Answer.{Condition, First, EightOf, NineOf, conditions, Answers}
-use Rattle.outcome.specs.After.{oldSas, oldSa, insertAll, Enter, HeldAre, HeldBy, newRekey, initialMessageId, leastBy, leastAfterwards, After}
+use Rattle.outcome.specs.Answer.{EightOf, NineOf, conditions, Answers}
+use Rattle.outcome.specs.After.{newRekey, oldSas, oldSa, insertAll, Enter, HeldAre, HeldBy, initialMessageId, leastBy}
+use Rattle.outcome.specs.After.{leastAfterwards, After}
 use Rattle.outcome.specs.Outcome.{Judged, refused, accepted, Outcome, no-layout, by-tree}
-use Rattle.outcome.specs.Wider.{Wider, Within, SameMember, Kept, AnswersKept}
-
--- ---- lists of conditions of which the second's hold where the first's do and only there, but for one number
-record Follows (k : ℕ) (c d : Condition) : Type 1 where
-  number : c .number ≡ d .number
-  holds : (c .number ≡ k → ⊥) → c .holds → d .holds
-  fails : (c .holds → ⊥) → d .holds → ⊥
-
-data Follow (k : ℕ) : List Condition → List Condition → Type 1 where
-  none : Follow k [] []
-  more : {c d : Condition} {l m : List Condition} → Follows k c d → Follow k l m → Follow k (c ∷ l) (d ∷ m)
-
-first-kept : (k : ℕ) {l m : List Condition} → Follow k l m → (n : ℕ) → (n ≡ k → ⊥) → First l n → First m n
-first-kept k none n q h = h
-first-kept k (more x r) n q (inl h) = inl (x .holds (λ e. q (h .1 ∙ e)) (h .0), h .1 ∙ x .number)
-first-kept k (more x r) n q (inr h) = inr (x .fails (h .0), first-kept k r n q (h .1))
-
-over : {A B : Type 0} → A ≡ B → A → B
-over e x = subst (λ (X : Type 0). X) e x
-
--- conditions that are equal
-alike : (k n : ℕ) {A B : Type 0} → A ≡ B → Follows k (record { number = n; holds = A }) (record { number = n; holds = B })
-alike k n e = record { number = refl; holds = λ q h. over e h; fails = λ none h. none (over (sym e) h) }
+use Rattle.outcome.proofs.Following.{Follow, none, more, first-kept, alike}
+use Rattle.outcome.specs.Wider.{Wider, Within, SameMember, inPlaces, Kept, AnswersKept}
 
 -- ---- what is not over a limit is not over a wider one
 not-over : (x y n : ℕ) → x ≤ y → ltb x n ≡ false → ltb y n ≡ false
@@ -147,7 +127,8 @@ module _ (a b : Limits) (w : Wider a b) (s t : State) (i : Within a s) (m : Same
       unfolding one nonEmptyMember otherSpis
       two-same = rw (empty, stand, state-formed)
 
-      three-same : applies (three s (f .header .exchange) (f .header .messageId)) ≡ applies (three t (f .header .exchange) (f .header .messageId))
+      three-same : applies (three s (f .header .exchange) (f .header .messageId))
+          ≡ applies (three t (f .header .exchange) (f .header .messageId))
       unfolding one notAcceptable
       three-same = rw (m .least)
 
@@ -168,13 +149,15 @@ module _ (a b : Limits) (w : Wider a b) (s t : State) (i : Within a s) (m : Same
           let e1 = or-none (manyEspPolicies a f) _ (p .0) in
           let e2 = or-none (manyWrapKeys a f) _ (e1 .1) in
           let e3 = or-none (manySaKeys a f) _ (e2 .1) in
-          let e4 = or-none (manyDeletedSpis a f) false (e3 .1) in
+          let e4 = or-none (manyDeletedSpis a f) _ (e3 .1) in
+          let e6 = or-none (longLifetime f) false (e4 .1) in
           let e5 = or-none (manySas a s now f) false (p .1) in
           rw (
             not-over (a .espPolicies) (b .espPolicies) (count isEsp (announced f)) (w .espPolicies) (e1 .0),
             not-over (a .wrapKeys) (b .wrapKeys) (length (wrapKeysOf f)) (w .wrapKeys) (e2 .0),
             none-over (a .saKeys) (b .saKeys) (λ (x : GroupKeyBag). length (x .keys)) (groupBags f) (w .saKeys) (e3 .0),
             not-over (a .deletedSpis) (b .deletedSpis) (length (deletedSpis f)) (w .deletedSpis) (e4 .0),
+            e6 .0,
             not-over (a .sas) (b .sas) (length (standing now t) + length (announced f)) (w .sas)
                 (ap (λ (l : List Sa). ltb (a .sas) (length l + length (announced f))) (sym stand) ∙ e5 .0),
           )
@@ -255,8 +238,8 @@ module _ (a b : Limits) (w : Wider a b) (s t : State) (i : Within a s) (m : Same
             after = record {
               new = x .new;
               enter =
-                  subst (λ (r : List Root). Enter r (entriesOf f) (wrappingSize b t now lent f) f (announced f) (x .new)) roots
-                  (subst (λ (n : ℕ). Enter (rootsOf a s now lent f) (entriesOf f) n f (announced f) (x .new)) size (x .enter));
+                  subst (λ (r : List Root). Enter r (entriesOf f) (wrappingSize b t now lent f) now f (announced f) (x .new)) roots
+                  (subst (λ (n : ℕ). Enter (rootsOf a s now lent f) (entriesOf f) n now f (announced f) (x .new)) size (x .enter));
               table = refl;
               held = h .by;
               least = refl;
@@ -282,6 +265,21 @@ module _ (a b : Limits) (w : Wider a b) (s t : State) (i : Within a s) (m : Same
       Kept b t now lent octets n next
   outcome-kept now lent octets _ _ (no-layout o) q = record { then = t; outcome = no-layout o; same = m }
   outcome-kept now lent octets n next (by-tree f g j) q = judged-kept now lent f octets n next g q j
+
+-- the same member stands in the places of any limits, where it has as many places as it says
+pub same-in-places : (limits : Limits) (s : State) → s .table .count ≤ length (s .table .sas) → s .held .count ≤ length (s .held .keys) →
+    SameMember s (inPlaces limits s)
+unfolding tableOf heldOf
+same-in-places limits s g h =
+    let x = length-take (s .table .count) (s .table .sas) in
+    let y = length-take (s .held .count) (s .held .keys) in
+    record {
+      sas = sym (sas-of-table limits (sasOf (s .table)));
+      sa-count = omega arith;
+      keys = sym (keys-of-held limits (keysOf (s .held)));
+      key-count = omega arith;
+      least = refl;
+    }
 
 -- THE THEOREM, of any two records of limits
 pub answers-kept : (a b : Limits) → Wider a b → AnswersKept a b

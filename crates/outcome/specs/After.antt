@@ -14,6 +14,8 @@ use Rattle.frames.specs.Frame.{Frame}
 use Rattle.frames.specs.declared.exchanges.LeastAfter.{LeastAfter}
 use Rattle.frames.specs.declared.exchanges.LeastAfter.the-variants as leastAfter
 use Rattle.sa.specs.Entry.{esp, rekey, spiOf, before, espSa, rekeySa}
+use Rattle.sa.specs.declared.entry.Lifetime.{Lifetime}
+use Rattle.sa.specs.declared.entry.Lifetime.the-variants.{Unlimited, Limited}
 use Rattle.sa.specs.declared.entry.Sa.{Sa}
 use Rattle.table.specs.Table.{tableOf, retiredIf}
 use Rattle.state.specs.declared.State.{State}
@@ -23,7 +25,7 @@ use Rattle.state.specs.declared.least.Least.{Least}
 use Rattle.state.specs.declared.least.Least.the-variants.{Id}
 use Rattle.state.specs.Held.{heldOf, idBefore}
 use Rattle.state.specs.Least.{afterId}
-use Rattle.clauses.specs.Contents.{rowOf, announced, groupWides, deletedSpis}
+use Rattle.clauses.specs.Contents.{rowOf, some, announced, groupWides, deletedSpis}
 use Rattle.clauses.specs.Fitness.{isEsp, isRekey, sum, encryptionOctets, keyWrapOctets}
 use Rattle.clauses.specs.Number2.{standing}
 use Rattle.chains.specs.Chain.{In, Root}
@@ -61,9 +63,16 @@ oldSa now f = retiredIf (retires f) now (delayOf f)
 unfoldable pub oldSas : State → ℕ → Frame → List Sa
 oldSas s now f = map (oldSa now f) (standing now s)
 
--- "The new SAs enter as live": an announced SA with its keying octets x, which a Rekey SA's policy cuts in two
-unfoldable pub saFrom : GroupSaPolicy → List ℕ → Sa
-saFrom a x = cond (isEsp a) (espSa (a .spi) (espOf x)) (rekeySa (a .spi) (rekeyOf x (encryptionOctets a) (keyWrapOctets a)))
+-- "its lifetime (GSA_KEY_LIFETIME, ..) and the tick of its start, or "no lifetime" if the attribute is missing" (document 02, T-07): the
+-- tick is that of the frame that brings the SA; number 4 leaves one attribute at most
+unfoldable pub lifetimeFrom : ℕ → List ℕ → Lifetime
+lifetimeFrom now l = cond (some l) (Limited now (sum (λ (n : ℕ). n) l)) Unlimited
+
+-- "The new SAs enter as live": an announced SA with its keying octets x, which a Rekey SA's policy cuts in two, and its lifetime
+unfoldable pub saFrom : ℕ → GroupSaPolicy → List ℕ → Sa
+saFrom now a x =
+    cond (isEsp a) (espSa (a .spi) (espOf x) (lifetimeFrom now (a .keyLifetimes)))
+    (rekeySa (a .spi) (rekeyOf x (encryptionOctets a) (keyWrapOctets a)) (lifetimeFrom now (a .keyLifetimes)))
 
 unfoldable pub insertAll : List Sa → List Sa → List Sa
 insertAll [] l = l
@@ -71,10 +80,10 @@ insertAll (a ∷ m) l = insert before a (insertAll m l)
 
 module _ (roots : List Root) (entries : List WrapKey) (size : ℕ) where
   -- "each of those SAs stands in the table .. with the octets that every such copy opens to"
-  pub data Enter (f : Frame) : List GroupSaPolicy → List Sa → Type 0 where
-    no-sa : Enter f [] []
+  pub data Enter (now : ℕ) (f : Frame) : List GroupSaPolicy → List Sa → Type 0 where
+    no-sa : Enter now f [] []
     one-more : {a : GroupSaPolicy} {l : List GroupSaPolicy} {m : List Sa} (x : List ℕ) → KeyOf roots entries size (announcedAs f a) x →
-        Enter f l m → Enter f (a ∷ l) (saFrom a x ∷ m)
+        Enter now f l m → Enter now f (a ∷ l) (saFrom now a x ∷ m)
 
   -- a held key: the value that every chain ending on its Key ID gives, one at least
   pub record Holds (k : HeldKey) : Type 0 where
@@ -113,7 +122,7 @@ leastAfterwards s f = cond (newRekey f) (Id (initialMessageId f)) (leastBy (rowO
 -- THE MEMBER AFTER AN ACCEPTED FRAME
 pub record After (limits : Limits) (s : State) (now : ℕ) (lent : List ℕ) (f : Frame) (next : State) : Type 0 where
   pub new : List Sa
-  pub enter : Enter (rootsOf limits s now lent f) (entriesOf f) (wrappingSize limits s now lent f) f (announced f) new
+  pub enter : Enter (rootsOf limits s now lent f) (entriesOf f) (wrappingSize limits s now lent f) now f (announced f) new
   pub table : next .table ≡ tableOf limits (insertAll new (oldSas s now f))
   pub held :
       HeldBy (rowOf f .registers) (HeldAre (rootsOf limits s now lent f) (entriesOf f) (wrappingSize limits s now lent f) limits (next .held))

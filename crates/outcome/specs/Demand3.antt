@@ -40,15 +40,15 @@ module _ (roots : List Root) (entries : List WrapKey) (size : ℕ) where
     pub octets : (k : HeldKey) → In k (keysOf h) → (x : List ℕ) → Reached roots entries size (k .id) x → valueOf (k .key) ≡ x
     pub fits : (i : ℕ) (x : List ℕ) → Reached roots entries size i x → length x ≡ size
 
--- what is known of an announced SA by the octets to which copies of its key open
-module _ (Opens : GroupSaPolicy → List ℕ → Type 0) where
+-- what is known of an announced SA by the octets to which copies of its key open, in a frame of the tick
+module _ (now : ℕ) (Opens : GroupSaPolicy → List ℕ → Type 0) where
   -- it stands in a list with the octets that every copy that opens gives, of the size that its policy needs
   pub record NewBy (l : List Sa) (a : GroupSaPolicy) : Type 0 where
     pub octets : List ℕ
     pub opens : Opens a octets
     pub every : (y : List ℕ) → Opens a y → y ≡ octets
     pub fits : length octets ≡ needOf a
-    pub stands : In (saFrom a octets) l
+    pub stands : In (saFrom now a octets) l
 
   -- the SA of a policy that the frame announces
   pub record EnteredBy (f : Frame) (b : Sa) : Type 0 where
@@ -58,7 +58,7 @@ module _ (Opens : GroupSaPolicy → List ℕ → Type 0) where
     pub opens : Opens policy octets
     pub every : (y : List ℕ) → Opens policy y → y ≡ octets
     pub fits : length octets ≡ needOf policy
-    pub is : b ≡ saFrom policy octets
+    pub is : b ≡ saFrom now policy octets
 
 module _ (limits : Limits) (s : State) (now : ℕ) (lent : List ℕ) (f : Frame) where
   -- "a copy of its key that opens under the key its KWK ID names, be it key 0, the last key of such a chain or, in a rekey, a key the
@@ -68,11 +68,11 @@ module _ (limits : Limits) (s : State) (now : ℕ) (lent : List ℕ) (f : Frame)
 
   -- an announced SA that stands in the table with the octets that every copy that opens gives, of the size that its policy needs
   abbrev pub Standing : State → GroupSaPolicy → Type 0
-  Standing next p = NewBy (OpensUnder limits s now lent f) (sasOf (next .table)) p
+  Standing next p = NewBy now (OpensUnder limits s now lent f) (sasOf (next .table)) p
 
   -- an SA of the table that a policy of the frame announces, with these octets
   abbrev pub Entered : Sa → Type 0
-  Entered b = EnteredBy (OpensUnder limits s now lent f) f b
+  Entered b = EnteredBy now (OpensUnder limits s now lent f) f b
 
   -- "is accepted exactly when each SA it announces has a copy of its key that opens under the key its KWK ID names ..; otherwise it is
   -- refused as number 9"

@@ -9,6 +9,7 @@ pub mod EightSays
 pub mod WrapsItself
 pub mod Meets
 pub mod RestSays
+pub mod LifetimeSays
 pub mod Demand3
 pub mod Stands
 pub mod Wider

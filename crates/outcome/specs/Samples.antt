@@ -23,6 +23,7 @@ use Rattle.frames.specs.Grammar.{IsFrame}
 use Rattle.sa.specs.Clock.{elapsed}
 use Rattle.sa.specs.Entry.{due, espSa, rekeySa}
 use Rattle.sa.specs.declared.entry.Condition.the-variants.{Retiring}
+use Rattle.sa.specs.declared.entry.Lifetime.the-variants.{Unlimited}
 use Rattle.sa.specs.declared.entry.Sa.{Sa}
 use Rattle.table.specs.Table.{tableOf}
 use Rattle.state.specs.declared.State.{State}
@@ -39,13 +40,13 @@ use Rattle.outcome.specs.Run.{Step, Run, AllQuiet, StandsAt}
 abbrev payload : ℕ → Content → Payload
 payload k c = record { kind = k; critical = false; content = c }
 
--- ---- the clock
+-- ---- the clock, of an SA without a lifetime: "a retiring SA is due at whichever comes first" (document 02, T-07)
 abbrev ClockWraps : Type 0
-ClockWraps = (a : Sa) → a .condition ≡ Retiring 4294967000 1 →
+ClockWraps = (a : Sa) → a .lifetime ≡ Unlimited → a .condition ≡ Retiring 4294967000 1 →
     (elapsed 703 4294967000 ≡ 999) × (due 703 a ≡ false) × (due 704 a ≡ true)
 
 abbrev DelayZero : Type 0
-DelayZero = (a : Sa) (start : ℕ) → a .condition ≡ Retiring start 0 → due start a ≡ true
+DelayZero = (a : Sa) (start : ℕ) → a .lifetime ≡ Unlimited → a .condition ≡ Retiring start 0 → due start a ≡ true
 
 -- ---- Message IDs: rekeys over the Rekey SA with the SPI x, with a Message ID and D alone, which names from 1 to 32 ESP SPIs
 abbrev pub deleting : List ℕ → ℕ → List (List ℕ) → Frame
@@ -91,7 +92,7 @@ pub record LastId : Type 0 where
       TakenThen s x 4294967295 (λ (next : State). LaterRefused next x)
 
 -- ---- entries in a registration: GSA_AUTH (39) or GSA_REGISTRATION (40), which announces one ESP SA with AES-GCM-16 of 128 bits and
--- Sequence Numbers 0; what no sample mentions is any
+-- Sequence Numbers 0, without a lifetime; what no sample mentions is any
 pub record Around : Type 0 where
   pub auth : Bool
   pub spis : List ℕ
@@ -108,6 +109,7 @@ espPolicy r = record {
   destination = r .destination;
   transforms = record { kind = 1; id = 20; keyLengths = 128 ∷ [] } ∷ record { kind = 5; id = 0; keyLengths = [] } ∷ [];
   initialMessageIds = [];
+  keyLifetimes = [];
 }
 
 -- its SA_KEY under KWK ID 0, and a Member bag with the entries
@@ -133,7 +135,7 @@ heldWith i v = record { id = i; key = wrappingOf v }
 
 -- the member after it: the ESP SA with its keying octets x, the held keys
 abbrev pub registered : Around → List ℕ → List HeldKey → State
-registered r x l = record { table = tableOf limits (espSa (r .spi) (espOf x) ∷ []); held = heldOf limits l; least = Id 0 }
+registered r x l = record { table = tableOf limits (espSa (r .spi) (espOf x) Unlimited ∷ []); held = heldOf limits l; least = Id 0 }
 
 -- keying octets that the SA needs, and a wrapping key of the lent key's size
 pub record Keying (x : List ℕ) : Type 0 where
@@ -183,6 +185,7 @@ rekeyPolicy r = record {
   transforms = record { kind = 1; id = 20; keyLengths = 128 ∷ [] } ∷ record { kind = 13; id = 1; keyLengths = [] }
       ∷ record { kind = 14; id = 1; keyLengths = [] } ∷ [];
   initialMessageIds = [];
+  keyLifetimes = [];
 }
 
 abbrev pub creating : Around → List ℕ → List WrapKey → Frame
@@ -200,7 +203,7 @@ creating r wrapped entries = record {
 
 -- the member after it: the Rekey SA with its keying octets x, 20 to encrypt and 16 to wrap, the held keys
 abbrev pub created : Around → List ℕ → List HeldKey → State
-created r x l = record { table = tableOf limits (rekeySa (r .spi) (rekeyOf x 20 16) ∷ []); held = heldOf limits l; least = Id 0 }
+created r x l = record { table = tableOf limits (rekeySa (r .spi) (rekeyOf x 20 16) Unlimited ∷ []); held = heldOf limits l; least = Id 0 }
 
 -- the member A: "KD(GP(SA1)(1{K_sa1}),MP(3{1},7{3},GSK_w{7})", "the Key Path K_sa1->1->3->7->GSK_w"
 pub record Creates (r : Around) (lent x v₁ v₃ v₇ octets : List ℕ) : Type 0 where

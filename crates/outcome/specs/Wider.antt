@@ -4,9 +4,9 @@ use Prim.Native.Nat.{ℕ, _≤_}
 use mathlib.Core.Path.{_≡_}
 use mathlib.Core.List.{List}
 use Rattle.keys.specs.Limits.{Limits}
-use Rattle.table.specs.Table.{sasOf}
+use Rattle.table.specs.Table.{sasOf, tableOf}
 use Rattle.state.specs.declared.State.{State}
-use Rattle.state.specs.Held.{keysOf}
+use Rattle.state.specs.Held.{keysOf, heldOf}
 use Rattle.outcome.specs.Outcome.{Outcome}
 
 -- the second record allows at least what the first does
@@ -30,6 +30,14 @@ pub record SameMember (s t : State) : Type 0 where
   pub keys : keysOf (s .held) ≡ keysOf (t .held)
   pub key-count : s .held .count ≡ t .held .count
   pub least : s .least ≡ t .least
+
+-- a member with the places that limits give it
+abbrev pub inPlaces : Limits → State → State
+inPlaces limits s = record {
+  table = tableOf limits (sasOf (s .table));
+  held = heldOf limits (keysOf (s .held));
+  least = s .least;
+}
 
 -- an answer under limits, with the same member afterwards as `next`
 pub record Kept (limits : Limits) (t : State) (now : ℕ) (lent octets : List ℕ) (n : ℕ) (next : State) : Type 0 where

@@ -181,6 +181,7 @@ module _ (o : List ℕ) (x : GroupSaPolicy) (i : IsGroupSa o x) where
           destination = i .destination;
           transforms = i .transforms;
           initialMessageIds = i .initialMessageIds;
+          keyLifetimes = i .keyLifetimes;
         }
 
 -- A POLICY, AND POLICIES TO THE END

@@ -15,7 +15,7 @@ use Rattle.octets.proofs.Local.{extended, oct-append, be16-append, part-append,
 use Rattle.octets.proofs.Inverse.{inverse-mapped, inverse-opened, inverse-within}
 use Rattle.octets.proofs.Grammar.{Cuts, row-read, read-row, sound-of, complete-of}
 use Rattle.attributes.specs.Place.{inPolicy}
-use Rattle.attributes.specs.Tree.{initialMessageIds, deactivationDelays}
+use Rattle.attributes.specs.Tree.{initialMessageIds, deactivationDelays, keyLifetimes}
 use Rattle.attributes.specs.Layout.{attributes}
 use Rattle.attributes.specs.Grammar.{Attributes}
 use Rattle.attributes.specs.declared.tables.Place.the-variants as place
@@ -90,6 +90,7 @@ module _ (b : ℕ) (o r : List ℕ) (l : 4 ≤ length o) (k : sizeAt o ≤ lengt
         destination = x .destination;
         transforms = x .suite .transforms;
         initialMessageIds = initialMessageIds (inPolicy (first o r l k i)) (x .suite .attributes);
+        keyLifetimes = keyLifetimes (inPolicy (first o r l k i)) (x .suite .attributes);
       }))
       (saBody b (inPolicy (first o r l k i)) c y)))
       b (o ++ r))
@@ -171,6 +172,7 @@ module _ (b : ℕ) (o : List ℕ) where
         destination = refl;
         transforms = refl;
         initialMessageIds = refl;
+        keyLifetimes = refl;
       }))
 
   to : (x : Policy) → policy b o ≡ whole x [] → IsPolicy o x
@@ -227,6 +229,8 @@ module _ (b : ℕ) (o : List ℕ) where
       let sp : spiOf o ≡ x .spi = ap (λ (u : ℕ). part o 4 (4 + spiSize u)) p ∙ i .spi in
       let ids : initialMessageIds (inPolicy (oct o 0)) (i .body .suite .attributes) ≡ x .initialMessageIds =
       ap (λ (u : ℕ). initialMessageIds (inPolicy u) (i .body .suite .attributes)) p ∙ i .initialMessageIds in
+      let lives : keyLifetimes (inPolicy (oct o 0)) (i .body .suite .attributes) ≡ x .keyLifetimes =
+      ap (λ (u : ℕ). keyLifetimes (inPolicy u) (i .body .suite .attributes)) p ∙ i .keyLifetimes in
       opens (groupSa x) e n
       (ap (λ (u : Bool). either u (mapped groupWideOf (attributes place.GroupWidePolicy (b + headSize o) (drop (headSize o) o)))
       (mapped (groupSaOf o) (saBody b (inPolicy (oct o 0)) (b + headSize o) (drop (headSize o) o)))) t
@@ -238,6 +242,7 @@ module _ (b : ℕ) (o : List ℕ) where
         destination = i .destination j;
         transforms = i .transforms j;
         initialMessageIds = ids j;
+        keyLifetimes = lives j;
       })) []))
 
 pub sound : (b : ℕ) (s : List ℕ) (x : Policy) (rest : List ℕ) → policy b s ≡ whole x rest → Cuts IsPolicy s x rest

@@ -8,7 +8,7 @@ use Rattle.octets.specs.Numbers.{oct}
 use Rattle.octets.specs.Walk.{be16, part, Spans, Row}
 use Rattle.attributes.specs.Attribute.{Attribute}
 use Rattle.attributes.specs.Place.{inTransform, inPolicy}
-use Rattle.attributes.specs.Tree.{keyLengths, initialMessageIds, deactivationDelays}
+use Rattle.attributes.specs.Tree.{keyLengths, initialMessageIds, deactivationDelays, keyLifetimes}
 use Rattle.attributes.specs.Grammar.{Attributes}
 use Rattle.attributes.specs.declared.tables.Place.{Place}
 use Rattle.attributes.specs.declared.tables.Place.the-variants as place
@@ -73,6 +73,7 @@ pub record IsGroupSa (o : List ℕ) (x : GroupSaPolicy) : Type 0 where
   pub destination : body .destination ≡ x .destination
   pub transforms : body .suite .transforms ≡ x .transforms
   pub initialMessageIds : initialMessageIds (inPolicy (x .protocol)) (body .suite .attributes) ≡ x .initialMessageIds
+  pub keyLifetimes : keyLifetimes (inPolicy (x .protocol)) (body .suite .attributes) ≡ x .keyLifetimes
 
 -- "group-wide policy (0, reserved, length 2, attributes)"
 pub record IsGroupWide (o : List ℕ) (x : GroupWidePolicy) : Type 0 where

@@ -11,7 +11,7 @@ use Rattle.attributes.specs.Attribute.{Attribute}
 use Rattle.attributes.specs.Place.{inPolicy}
 use Rattle.attributes.specs.declared.tables.Place.{Place}
 use Rattle.attributes.specs.declared.tables.Place.the-variants as place
-use Rattle.attributes.specs.Tree.{initialMessageIds, deactivationDelays}
+use Rattle.attributes.specs.Tree.{initialMessageIds, deactivationDelays, keyLifetimes}
 use Rattle.attributes.specs.Layout.{attributes}
 use Rattle.policies.specs.Selector.{Selector, selector}
 use Rattle.policies.specs.Transform.{Transform, transforms}
@@ -44,6 +44,7 @@ pub record GroupSaPolicy : Type 0 where
   pub destination : Selector
   pub transforms : List Transform
   pub initialMessageIds : List ℕ
+  pub keyLifetimes : List ℕ
 
 pub record GroupWidePolicy : Type 0 where
   pub deactivationDelays : List ℕ
@@ -79,6 +80,7 @@ groupSaOf s x = groupSa (record {
   destination = x .destination;
   transforms = x .suite .transforms;
   initialMessageIds = initialMessageIds (inPolicy (oct s 0)) (x .suite .attributes);
+  keyLifetimes = keyLifetimes (inPolicy (oct s 0)) (x .suite .attributes);
 })
 
 abbrev pub groupWideOf : List Attribute → Policy

@@ -22,11 +22,12 @@ use Rattle.contents.specs.inner.Values.{isWhole, attributesIn, valuesIn}
 use Rattle.contents.proofs.ValuesLaws.{whole-is}
 
 -- SA_KEY and WRAP_KEY are the meanings of a wrapped key
-wrapped-formed : (m : Meaning) (short : Bool) (n : ℕ) → 4 ≤ codeOf m → formed m short n ≡ true → wrappedSize n ≡ true
+wrapped-formed : (m : Meaning) (short : Bool) (n : ℕ) → 5 ≤ codeOf m → formed m short n ≡ true → wrappedSize n ≡ true
 wrapped-formed meaning.Skipped short n h e = absurd (omega arith)
 wrapped-formed meaning.KeyLength short n h e = absurd (omega arith)
 wrapped-formed meaning.InitialMessageId short n h e = absurd (omega arith)
 wrapped-formed meaning.DeactivationDelay short n h e = absurd (omega arith)
+wrapped-formed meaning.KeyLifetime short n h e = absurd (omega arith)
 wrapped-formed meaning.SaKey short n h e = both-true (not short) (wrappedSize n) e .1
 wrapped-formed meaning.WrapKey short n h e = both-true (not short) (wrappedSize n) e .1
 
@@ -34,7 +35,7 @@ abbrev head : List (List ℕ) → List ℕ
 head [] = []
 head (v ∷ l) = v
 
-module _ (m : Meaning) (p : Place) (h : 4 ≤ codeOf m) where
+module _ (m : Meaning) (p : Place) (h : 5 ≤ codeOf m) where
   first-sized : {s : List ℕ} {l : List Attribute} → Attributes p s l → (v : List ℕ) (rest : List (List ℕ)) → valuesOf m p l ≡ v ∷ rest →
       wrappedSize (length v) ≡ true
   unfolding valuesOf

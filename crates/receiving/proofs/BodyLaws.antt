@@ -30,7 +30,8 @@ use Rattle.reach.proofs.Statuses.{getD-any}
 use Rattle.reached.specs.inner.Reached.{wrapKeysAmong, wrapKeysIn}
 use Rattle.keying.specs.inner.Keyed.{Ready}
 use Rattle.receiving.specs.inner.Passing.{Passed, Bodied}
-use Rattle.receiving.proofs.ClauseLaws.{one-gsa, one-kd, lengths-once, transforms-fit, all-paired, no-zero, few-entries, few-sas}
+use Rattle.receiving.proofs.ClauseLaws.{one-gsa, one-kd, lengths-once, lifetimes-once, transforms-fit, all-paired}
+use Rattle.receiving.proofs.ClauseLaws.{no-zero, few-entries, few-sas}
 
 nonzero-of : (l : List WrapKey) → any (λ (k : WrapKey). eqb (k .keyId) 0) l ≡ false → Nonzero l
 nonzero-of l e i h z =
@@ -68,6 +69,7 @@ module _ {e : Exchange} {m : State} {now : ℕ} {lent s : List ℕ} {x : Facts} 
         policies = b .policies;
         bags = b .bags;
         lengths = lengths-once m now lent f q;
+        lifetimes = lifetimes-once m now lent f q;
         transforms = transforms-fit m now lent f q;
         paired = all-paired m now lent f q;
         room = omega (arith, few-sas m now lent f q);

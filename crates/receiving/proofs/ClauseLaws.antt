@@ -21,7 +21,7 @@ use Rattle.clauses.specs.Contents.{rowOf, gather, some, several, hasGsa, hasKd,
 use Rattle.clauses.specs.Fitness.{isRekey}
 use Rattle.clauses.specs.Number2.{standing, overLiveRekey, otherSpis}
 use Rattle.clauses.specs.Number4.{four-ofFrame, barredMemberBag, twoGsa, twoKd, severalRekeyPolicies, severalGroupWide, keyLengthTwice}
-use Rattle.clauses.specs.Number4.{initialMessageIdTwice, delayTwice}
+use Rattle.clauses.specs.Number4.{initialMessageIdTwice, delayTwice, lifetimeTwice}
 use Rattle.clauses.specs.Number5.{five-ofFrame, otherTransforms, lentKeySize}
 use Rattle.clauses.specs.Number6.{six-ofFrame, policyUnpaired, wrapKeyId}
 use Rattle.clauses.specs.Number7.{seven-ofFrame, seven-ofMember, manyWrapKeys, manySas}
@@ -139,6 +139,10 @@ module _ (m : State) (now : ℕ) (lent : List ℕ) (f : Frame) (e : refusal limi
   pub lengths-once : keyLengthTwice f ≡ false
   unfolding four-ofFrame
   lengths-once = no-4 12
+
+  pub lifetimes-once : lifetimeTwice f ≡ false
+  unfolding four-ofFrame
+  lifetimes-once = no-4 16
 
   none-of : {A : Type 0} (l : List A) → some l ≡ false → l ≡ []
   none-of [] q = refl

@@ -80,13 +80,13 @@ module _ (m : State) (now : ℕ) (lent : List ℕ) (f : Frame) (e : refusal limi
         (policy-nine limits m now lent f (x .sa) (x .stands) (λ o. x .none (o .0) (o .1))))
 
     pub opened : (new : List Sa) (held : Held) (next : State) →
-        Enter (rootsOf limits m now lent f) (entriesOf f) (wrappingSize limits m now lent f) f (announced f) new →
+        Enter (rootsOf limits m now lent f) (entriesOf f) (wrappingSize limits m now lent f) now f (announced f) new →
         HeldBy (rowOf f .registers) (HeldAre (rootsOf limits m now lent f) (entriesOf f) (wrappingSize limits m now lent f) limits held)
         (held ≡ m .held) → Follows m now f new held next → Judged limits m now lent f 0 next
     opened new held next enter h follows =
         let all-open : NineOf limits m now lent f → ⊥ = λ n.
         let p = nine-policy limits m now lent f n in
-        let r = each-enters roots (entriesOf f) size f (announced f) new enter (p .0) (p .1) in
+        let r = each-enters roots (entriesOf f) size now f (announced f) new enter (p .0) (p .1) in
         p .2 (r .octets, r .key .opens) in
         accepted next (answers-0 limits m now lent f e no-eight all-open)
         (record {
@@ -121,11 +121,12 @@ module _ (m : State) (e : stateFormed limits m ≡ true) where
 module _ (m : State) (now : ℕ) (lent s : List ℕ) (x : Facts) (keyed : Keyed) (held : Held) (f : Frame)
     (o : Opened m now lent s x keyed held f) where
   keys-by : (y : Found) → keyed .found ≡ y →
-      KeysOf (rootsOf limits m now lent f) (entriesOf f) (wrappingSize limits m now lent f) f (announced f) y (keyed .sas) (keyed .count)
+      KeysOf (rootsOf limits m now lent f) (entriesOf f) (wrappingSize limits m now lent f) f (announced f) now y (keyed .sas)
+      (keyed .count)
   keys-by y e =
       subst
       (λ (z : Found).
-      KeysOf (rootsOf limits m now lent f) (entriesOf f) (wrappingSize limits m now lent f) f (announced f) z (keyed .sas)
+      KeysOf (rootsOf limits m now lent f) (entriesOf f) (wrappingSize limits m now lent f) f (announced f) now z (keyed .sas)
       (keyed .count))
       e (o .keys)
 

@@ -39,5 +39,5 @@ module _ (no-key : Held) (e : no-key ≡ heldOf limits []) where
 
     pub inband-opened : (keyed : Keyed) →
         ((roots : List Root) (entries : List WrapKey) (size : ℕ) → Agrees roots entries size zero no-key →
-        KeyedBy roots entries size f keyed) → Opened m now lent s x keyed (m .held) f
+        KeyedBy roots entries size f now keyed) → Opened m now lent s x keyed (m .held) f
     inband-opened = no-entry-opened b refl refl zero no-key roots-are

@@ -19,30 +19,29 @@ use Rattle.reach.specs.inner.Search.{keyZero}
 use Rattle.reach.proofs.Searching.{is-key-size}
 use Rattle.reached.proofs.Agreeing.{value-of}
 use Rattle.outcome.specs.Roots.{rootsOf, wrappingSize}
-use Rattle.outcome.proofs.Rows.{FromLent, lent-roots, lent-size}
+use Rattle.outcome.specs.NamedKey.{lentRoot}
+use Rattle.outcome.proofs.Rows.{lent-roots, lent-size, inband-roots, inband-size}
 use Rattle.judging.specs.declared.facts.Facts.{Facts}
 use Rattle.receiving.specs.inner.Passing.{Bodied}
 use Rattle.receiving.proofs.ClauseLaws.{lent-fits}
 use Rattle.receiving.proofs.ZeroLaws.{lent-key}
 
--- an exchange in which the lent key's size is judged, and chains start with that key alone
+-- the row of an exchange in which the lent key's size is judged, and chains start with that key alone
 pub record LentRow (y : Exchange) : Type 0 where
   pub judged : y .lends ≡ true
-  pub from : FromLent y
+  pub roots : (m : State) (now : ℕ) (f : Frame) → rowOf f ≡ y → (lent : List ℕ) → rootsOf limits m now lent f ≡ lentRoot lent
+  pub size : (m : State) (now : ℕ) (f : Frame) → rowOf f ≡ y → (lent : List ℕ) → wrappingSize limits m now lent f ≡ length lent
 
 pub registers-lent : LentRow registration
-registers-lent = record { judged = refl; from = record { zero-is = refl; none-held = refl } }
+registers-lent = record { judged = refl; roots = lent-roots limits; size = lent-size limits }
 
 pub rekeys-lent : LentRow inband
-rekeys-lent = record { judged = refl; from = record { zero-is = refl; none-held = refl } }
+rekeys-lent = record { judged = refl; roots = inband-roots limits; size = inband-size limits }
 
 module _ {y : Exchange} {m : State} {now : ℕ} {lent s : List ℕ} {x : Facts} {g k : List ℕ} {f : Frame}
     (b : Bodied y m now lent s x g k f) (l : LentRow y) (zero : WrappingKey) (z : zero ≡ wrappingKey lent .key) where
   lent-size-fits : sizeOf 13 (length lent) ≡ true
   lent-size-fits = lent-fits m now lent f (b .passed .clauses) (ap (λ (e : Exchange). e .lends) (b .row) ∙ l .judged)
-
-  from-lent : FromLent (rowOf f)
-  from-lent = subst FromLent (sym (b .row)) (l .from)
 
   zero-is : zero ≡ wrappingOf lent
   zero-is = z ∙ lent-key lent lent-size-fits
@@ -58,7 +57,7 @@ module _ {y : Exchange} {m : State} {now : ℕ} {lent s : List ℕ} {x : Facts} 
 
   -- the code's key 0 is the one that chains start with, and has the size that a wrapping key must have
   pub zero-roots : keyZero (valueOf zero) ≡ rootsOf limits m now lent f
-  zero-roots = ap keyZero value-is ∙ sym (lent-roots limits m now f from-lent lent)
+  zero-roots = ap keyZero value-is ∙ sym (l .roots m now f (b .row) lent)
 
   pub zero-size : zero .count ≡ wrappingSize limits m now lent f
-  zero-size = ap (λ (w : WrappingKey). w .count) zero-is ∙ sym (lent-size limits m now f from-lent lent)
+  zero-size = ap (λ (w : WrappingKey). w .count) zero-is ∙ sym (l .size m now f (b .row) lent)

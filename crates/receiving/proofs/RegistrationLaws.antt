@@ -50,7 +50,7 @@ module _ {m : State} {now : ℕ} {lent s : List ℕ} {x : Facts} {g k : List ℕ
 
     pub registration-opened : r .eight ≡ false → (keyed : Keyed) →
         ((roots : List Root) (entries : List WrapKey) (size : ℕ) → Agrees roots entries size zero (r .held) →
-        KeyedBy roots entries size f keyed) → Opened m now lent s x keyed (r .held) f
+        KeyedBy roots entries size f now keyed) → Opened m now lent s x keyed (r .held) f
     registration-opened e keyed by =
         let set = carry (λ (x : List Root) (y : List WrapKey) (n : ℕ). HeldAre x y n limits (r .held)) (a .held e) in
         record {

@@ -63,7 +63,7 @@ module _ {y : Exchange} {m : State} {now : ℕ} {lent s : List ℕ} {x : Facts} 
 
   pub no-entry-opened : (keyed : Keyed) →
       ((roots : List Root) (entries : List WrapKey) (size : ℕ) → Agrees roots entries size zero opens →
-      KeyedBy roots entries size f keyed) → Opened m now lent s x keyed (m .held) f
+      KeyedBy roots entries size f now keyed) → Opened m now lent s x keyed (m .held) f
   no-entry-opened keyed by =
       let n = wrappingSize limits m now lent f in
       record {
@@ -101,5 +101,5 @@ module _ {m : State} {now : ℕ} {lent s : List ℕ} {x : Facts} {g k : List ℕ
 
     pub rekey-opened : (keyed : Keyed) →
         ((roots : List Root) (entries : List WrapKey) (size : ℕ) → Agrees roots entries size zero (m .held) →
-        KeyedBy roots entries size f keyed) → Opened m now lent s x keyed (m .held) f
+        KeyedBy roots entries size f now keyed) → Opened m now lent s x keyed (m .held) f
     rekey-opened = no-entry-opened b refl refl zero (m .held) roots-are

@@ -15,7 +15,7 @@ use Rattle.keys.specs.Kinds.{wrappingOf, wrappingKey, rekeySizes, keyWrapPart}
 use Rattle.keys.specs.declared.kinds.MadeWrapping.{MadeWrapping}
 use Rattle.keys.proofs.Cases.{and-parts}
 use Rattle.keys.proofs.Sizes.{rekey-parts, rekey-le}
-use Rattle.sa.specs.Entry.{esp, rekey, isLive, formed, liveRekey}
+use Rattle.sa.specs.Entry.{esp, rekey, isLive, sized, fitLifetime, formed, liveRekey}
 use Rattle.sa.specs.declared.entry.Sa.{Sa}
 use Rattle.table.specs.Table.{sasOf, tableFormed, foundRekey, keyOf, defaultKey}
 use Rattle.table.specs.declared.Table.{Table}
@@ -27,12 +27,13 @@ use Rattle.receiving.specs.inner.Passing.{IsDefaultKey}
 
 -- a live Rekey SA that is formed has parts of the algorithm table
 live-sizes : (s : Sa) → formed s ≡ true → liveRekey s ≡ true → rekeySizes (s .encryption) (s .wrapping) ≡ true
-unfolding formed liveRekey
+unfolding sized formed liveRekey
 live-sizes s e l =
+    let k = and-parts (sized s) (fitLifetime (s .lifetime)) e .0 in
     let p = eqb-true (s .protocol) rekey (and-parts (eqb (s .protocol) rekey) (isLive (s .condition)) l .0) in
     let n : eqb (s .protocol) esp ≡ false = ap (λ (k : ℕ). eqb k esp) p in
     let g = and-parts (eqb (s .protocol) rekey) (rekeySizes (s .encryption) (s .wrapping) && eqb (s .count) (s .encryption + s .wrapping))
-    (rw n at e) in
+    (rw n at k) in
     and-parts (rekeySizes (s .encryption) (s .wrapping)) (eqb (s .count) (s .encryption + s .wrapping)) (g .1) .0
 
 pub lent-key : (x : List ℕ) → sizeOf 13 (length x) ≡ true → wrappingKey x .key ≡ wrappingOf x

@@ -27,7 +27,7 @@ fn by_bodies(state: State, s: &[u8], x: Facts, g: &[u8], k: &[u8], lent: &[u8], 
     let made = WrappingKey::new(lent);
     let zero = made.key;
     let none = Held::new();
-    let keyed = keying::keyed(g, k, zero, none);
+    let keyed = keying::keyed(g, k, zero, none, tick);
     let held = state.held;
     concluded(state, s, x, tick, keyed, held)
 }

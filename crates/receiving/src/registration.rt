@@ -30,7 +30,7 @@ fn by_bodies(state: State, s: &[u8], x: Facts, g: &[u8], k: &[u8], lent: &[u8], 
         return Next { number: 8, state };
     }
     let held = found.held;
-    let keyed = keying::keyed(g, k, zero, held);
+    let keyed = keying::keyed(g, k, zero, held, tick);
     concluded(state, s, x, tick, keyed, held)
 }
 

@@ -28,7 +28,7 @@ fn by_bodies(state: State, s: &[u8], x: Facts, g: &[u8], k: &[u8], tick: u32) ->
     let t = state.table;
     let zero = default_key(t.swept(tick));
     let held = state.held;
-    let keyed = keying::keyed(g, k, zero, held);
+    let keyed = keying::keyed(g, k, zero, held, tick);
     concluded(state, s, x, tick, keyed, held)
 }
 

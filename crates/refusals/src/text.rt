@@ -67,11 +67,17 @@ fn policies(out: &mut [u8], n: usize, x: Four) -> usize {
         x.delays,
         b"  4: deactivation delay (GWP_DTD) twice in one policy\n",
     );
-    clause(
+    let d = clause(
         out,
         c,
         x.elsewhere,
         b"  4: Rekey destination is not one address in 224.0.0.0/4 or ff00::/8 and one port\n",
+    );
+    clause(
+        out,
+        d,
+        x.lifetimes,
+        b"  4: GSA_KEY_LIFETIME twice in one policy\n",
     )
 }
 
@@ -152,7 +158,13 @@ fn seven(out: &mut [u8], n: usize, x: Seven) -> usize {
         x.spis,
         b"  7: more deleted SPIs than a member takes\n",
     );
-    clause(out, d, x.sas, b"  7: more SAs than an empty table takes\n")
+    let e = clause(
+        out,
+        d,
+        x.long,
+        b"  7: lifetime of more than 2000000 seconds\n",
+    );
+    clause(out, e, x.sas, b"  7: more SAs than an empty table takes\n")
 }
 
 fn each(out: &mut [u8], n: usize, x: Found) -> usize {

@@ -2,7 +2,7 @@
 use native.Mathlib.Omega.{arith}
 use Prim.Native.Nat.{ℕ, _+_, _-_}
 use mathlib.Core.Path.{_≡_, refl, ap, sym, _∙_}
-use mathlib.Core.Bool.{true, false, and-false}
+use mathlib.Core.Bool.{true, false, _&&_, and-false}
 use mathlib.Core.List.{List}
 use borrow.Author.Tests.{eq-eqb}
 use lib.Dec.{eqb}
@@ -12,8 +12,9 @@ use Rattle.keys.specs.Algorithms.{sizeOf}
 use Rattle.keys.specs.Kinds.{padded, espOf, rekeyOf, rekeySizes}
 use Rattle.sa.specs.declared.entry.Condition.{Condition}
 use Rattle.sa.specs.declared.entry.Condition.the-variants.{Live, Retiring}
+use Rattle.sa.specs.declared.entry.Lifetime.{Lifetime}
 use Rattle.sa.specs.declared.entry.Sa.{Sa}
-use Rattle.sa.specs.Entry.{rekey, before, formed, isLive, liveRekey, retiredBy, retired, espSa, rekeySa}
+use Rattle.sa.specs.Entry.{rekey, before, sized, fitLifetime, formed, isLive, liveRekey, retiredBy, retired, espSa, rekeySa}
 use Rattle.sa.specs.Blank.{Blank}
 
 -- ---- retiring leaves an SA's name and octets
@@ -23,7 +24,7 @@ module _ (now delay : ℕ) where
   retired-protocol s = refl
 
   pub retired-formed : (s : Sa) → formed (retired now delay s) ≡ formed s
-  unfolding retired formed
+  unfolding retired sized formed
   retired-formed s = refl
 
   pub retired-before : (a b : Sa) → before (retired now delay a) (retired now delay b) ≡ before a b
@@ -52,9 +53,9 @@ module _ (now delay : ℕ) where
   retired-blank s b = record { spi = b .spi; octets = b .octets; parts = b .parts }
 
 -- ---- what is made is blank in its unused places
-pub esp-blank : (x y : List ℕ) → length x ≡ 4 → Blank (espSa x (espOf y))
+pub esp-blank : (x y : List ℕ) (t : Lifetime) → length x ≡ 4 → Blank (espSa x (espOf y) t)
 unfolding espSa
-esp-blank x y e =
+esp-blank x y t e =
     let g : take (length y) (padded 36 y) ≡ y = take-append-seam y (replicate (36 - length y) 0) in
     record {
       spi = ap (padded 16) (sym (take-at x (replicate (16 - length x) 0) 4 e));
@@ -65,9 +66,9 @@ esp-blank x y e =
       parts = λ p. (refl, refl);
     }
 
-pub rekey-blank : (x o : List ℕ) (e w : ℕ) → length x ≡ 16 → length o ≡ e + w → Blank (rekeySa x (rekeyOf o e w))
+pub rekey-blank : (x o : List ℕ) (e w : ℕ) (t : Lifetime) → length x ≡ 16 → length o ≡ e + w → Blank (rekeySa x (rekeyOf o e w) t)
 unfolding rekeySa
-rekey-blank x o e w f g =
+rekey-blank x o e w t f g =
     record {
       spi = ap (padded 16) (sym (take-at x (replicate (16 - length x) 0) 16 f));
       octets = ap (padded 68) (sym (take-at o (replicate (68 - length o) 0) (e + w) g));
@@ -75,10 +76,11 @@ rekey-blank x o e w f g =
     }
 
 -- ---- what is made of fitting keys is as a table's SAs must be
-pub esp-formed : (x y : List ℕ) → sizeOf 1 (length y) ≡ true → formed (espSa x (espOf y)) ≡ true
-unfolding espSa formed
-esp-formed x y e = e
+pub esp-formed : (x y : List ℕ) (t : Lifetime) → sizeOf 1 (length y) ≡ true → fitLifetime t ≡ true → formed (espSa x (espOf y) t) ≡ true
+unfolding espSa sized formed
+esp-formed x y t e h = rw (e, h)
 
-pub rekey-formed : (x o : List ℕ) (e w : ℕ) → rekeySizes e w ≡ true → formed (rekeySa x (rekeyOf o e w)) ≡ true
-unfolding rekeySa formed
-rekey-formed x o e w f = rw (f, eq-eqb (e + w) (e + w) refl)
+pub rekey-formed : (x o : List ℕ) (e w : ℕ) (t : Lifetime) → rekeySizes e w ≡ true → fitLifetime t ≡ true →
+    formed (rekeySa x (rekeyOf o e w) t) ≡ true
+unfolding rekeySa sized formed
+rekey-formed x o e w t f h = rw (f, eq-eqb (e + w) (e + w) refl, h)

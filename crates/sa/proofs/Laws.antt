@@ -14,9 +14,11 @@ use Rattle.keys.specs.declared.kinds.RekeyKey.{RekeyKey}
 use Rattle.keys.proofs.Parts.{copied}
 use Rattle.sa.specs.declared.entry.Condition.{Condition}
 use Rattle.sa.specs.declared.entry.Condition.the-variants.{Live, Retiring}
+use Rattle.sa.specs.declared.entry.Lifetime.{Lifetime}
+use Rattle.sa.specs.declared.entry.Lifetime.the-variants.{Unlimited, Limited}
 use Rattle.sa.specs.declared.entry.Sa.{Sa}
 use Rattle.sa.specs.Clock.{elapsedAtLeast}
-use Rattle.sa.specs.Entry.{esp, rekey, spiSize, spiOf, before, named, formed, liveRekey, dueBy, due, retiredBy, retired}
+use Rattle.sa.specs.Entry.{esp, rekey, spiSize, spiOf, before, named, sized, liveRekey, dueBy, ranOut, retiredBy, retired}
 use Rattle.sa.specs.Entry.{withCondition, saOf, espSa, rekeySa}
 
 -- ---- the clock
@@ -34,14 +36,19 @@ elapsed-is r now start seconds hr hs hn e =
 
 -- ---- due and retiring
 module _ (s : Sa) where
-  pub due-live : (now : ℕ) → s .condition ≡ Live → false ≡ due now s
-  unfolding due
+  pub due-live : (now : ℕ) → s .condition ≡ Live → false ≡ dueBy now (s .condition)
   due-live now e = sym (ap (dueBy now) e)
 
   pub due-retiring : (now start delay : ℕ)
-      (r : Bool) → s .condition ≡ Retiring start delay → r ≡ elapsedAtLeast now start delay → r ≡ due now s
-  unfolding due
+      (r : Bool) → s .condition ≡ Retiring start delay → r ≡ elapsedAtLeast now start delay → r ≡ dueBy now (s .condition)
   due-retiring now start delay r e f = f ∙ sym (ap (dueBy now) e)
+
+  pub never-out : (now : ℕ) → s .lifetime ≡ Unlimited → false ≡ ranOut now (s .lifetime)
+  never-out now e = sym (ap (ranOut now) e)
+
+  pub out-by : (now start seconds : ℕ)
+      (r : Bool) → s .lifetime ≡ Limited start seconds → r ≡ elapsedAtLeast now start seconds → r ≡ ranOut now (s .lifetime)
+  out-by now start seconds r e f = f ∙ sym (ap (ranOut now) e)
 
   pub retired-live : (now delay : ℕ) (r : Sa) → s .condition ≡ Live → r ≡ withCondition (Retiring now delay) s → r ≡ retired now delay s
   unfolding retired
@@ -61,10 +68,10 @@ module _ (s : Sa) where
   retiring-rekey start wait p e = rw (eq-eqb (s .protocol) rekey p, e)
 
   -- ---- the tests of its octet counts
-  pub formed-rekey : (r : Bool) → (s .protocol ≡ esp → ⊥) → s .protocol ≡ rekey → rekeySizes (s .encryption) (s .wrapping) ≡ true →
-      r ≡ eqb (s .count) (s .encryption + s .wrapping) → r ≡ formed s
-  unfolding formed
-  formed-rekey r a b e f = rw (ne-eqb (s .protocol) esp a, eq-eqb (s .protocol) rekey b, e) f
+  pub sized-rekey : (r : Bool) → (s .protocol ≡ esp → ⊥) → s .protocol ≡ rekey → rekeySizes (s .encryption) (s .wrapping) ≡ true →
+      r ≡ eqb (s .count) (s .encryption + s .wrapping) → r ≡ sized s
+  unfolding sized
+  sized-rekey r a b e f = rw (ne-eqb (s .protocol) esp a, eq-eqb (s .protocol) rekey b, e) f
 
 -- ---- the order and the name, by the octets in use
 pub before-spi : (a b : Sa) (n m : ℕ) (r : Bool) → b .protocol ≤ a .protocol → a .protocol ≤ b .protocol → n ≡ spiSize (a .protocol) →
@@ -89,18 +96,18 @@ abbrev Copied : ℕ → List ℕ → List ℕ → Type 0
 Copied n x out = out ≡ take (length x) x ++ drop (length x) (replicate n 0)
 
 pub esp-made : (x name octets : List ℕ) (k : EspKey) → Copied 16 x name → Copied 68 (take (k .count - 0) (k .octets)) octets →
-    saOf esp name octets (k .count) 0 0 Live ≡ espSa x k
+    (t : Lifetime) → saOf esp name octets (k .count) 0 0 Live t ≡ espSa x k t
 unfolding espSa
-esp-made x name octets k f g =
+esp-made x name octets k f g t =
     let e : k .count - 0 ≡ k .count = omega arith in
     let p : name ≡ padded 16 x = copied 16 x name f in
     let q : octets ≡ padded 68 (take (k .count) (k .octets)) =
     copied 68 (take (k .count - 0) (k .octets)) octets g ∙ ap (λ (m : ℕ). padded 68 (take m (k .octets))) e in
-    λ i. saOf esp (p i) (q i) (k .count) 0 0 Live
+    λ i. saOf esp (p i) (q i) (k .count) 0 0 Live t
 
 pub rekey-made : (x name : List ℕ) (k : RekeyKey) → Copied 16 x name →
-    saOf rekey name (k .octets) (k .encryption + k .wrapping) (k .encryption) (k .wrapping) Live ≡ rekeySa x k
+    (t : Lifetime) → saOf rekey name (k .octets) (k .encryption + k .wrapping) (k .encryption) (k .wrapping) Live t ≡ rekeySa x k t
 unfolding rekeySa
-rekey-made x name k f =
+rekey-made x name k f t =
     let p : name ≡ padded 16 x = copied 16 x name f in
-    λ i. saOf rekey (p i) (k .octets) (k .encryption + k .wrapping) (k .encryption) (k .wrapping) Live
+    λ i. saOf rekey (p i) (k .octets) (k .encryption + k .wrapping) (k .encryption) (k .wrapping) Live t

@@ -1,9 +1,10 @@
 -- An SA of the table: "protocol, SPI, keying octets of a size the table below needs (a Rekey SA also the octet counts of their two parts),
--- and is live or retiring (start tick, delay in seconds)".
+-- and is live or retiring (start tick, delay in seconds)". Document 02, T-07: "Each SA entry gains its lifetime (GSA_KEY_LIFETIME, ..) and
+-- the tick of its start, or "no lifetime" if the attribute is missing".
 use Prim.Native.Nat.{ℕ, _+_}
-use mathlib.Core.Bool.{Bool, true, false, cond, _&&_}
+use mathlib.Core.Bool.{Bool, true, false, cond, _&&_, _||_}
 use mathlib.Core.List.{List, []}
-use lib.Dec.{ltb, eqb}
+use lib.Dec.{leb, ltb, eqb}
 use lib.ListN.{take}
 use Rattle.octets.specs.Compare.{less, same}
 use Rattle.keys.specs.Algorithms.{sizeOf}
@@ -12,6 +13,8 @@ use Rattle.keys.specs.declared.kinds.EspKey.{EspKey}
 use Rattle.keys.specs.declared.kinds.RekeyKey.{RekeyKey}
 use Rattle.sa.specs.declared.entry.Condition.{Condition}
 use Rattle.sa.specs.declared.entry.Condition.the-variants.{Live, Retiring}
+use Rattle.sa.specs.declared.entry.Lifetime.{Lifetime}
+use Rattle.sa.specs.declared.entry.Lifetime.the-variants.{Unlimited, Limited}
 use Rattle.sa.specs.declared.entry.Sa.{Sa}
 use Rattle.sa.specs.Clock.{elapsedAtLeast}
 
@@ -39,10 +42,21 @@ unfoldable pub named : ℕ → List ℕ → Sa → Bool
 named p x s = eqb (s .protocol) p && same (spiOf s) x
 
 -- "protocol (3 or 6) ... keying octets of a size the table below needs": an ESP SA "the first number, a Rekey SA the sum of both"
-unfoldable pub formed : Sa → Bool
-formed s =
+unfoldable pub sized : Sa → Bool
+sized s =
     cond (eqb (s .protocol) esp) (sizeOf 1 (s .count))
     (eqb (s .protocol) rekey && (rekeySizes (s .encryption) (s .wrapping) && eqb (s .count) (s .encryption + s .wrapping)))
+
+-- "at most 2,000,000 seconds"
+abbrev pub mostSeconds : ℕ
+mostSeconds = 2000000
+
+abbrev pub fitLifetime : Lifetime → Bool
+fitLifetime Unlimited = true
+fitLifetime (Limited start seconds) = leb seconds mostSeconds
+
+unfoldable pub formed : Sa → Bool
+formed s = sized s && fitLifetime (s .lifetime)
 
 abbrev pub isLive : Condition → Bool
 isLive Live = true
@@ -57,16 +71,31 @@ abbrev pub dueBy : ℕ → Condition → Bool
 dueBy now Live = false
 dueBy now (Retiring start delay) = elapsedAtLeast now start delay
 
+-- "A live SA is due when its lifetime has run, by the same modulo rule as retiring" (document 02, T-07)
+abbrev pub ranOut : ℕ → Lifetime → Bool
+ranOut now Unlimited = false
+ranOut now (Limited start seconds) = elapsedAtLeast now start seconds
+
+-- "A retiring SA is due at whichever comes first."
 unfoldable pub due : ℕ → Sa → Bool
-due now s = dueBy now (s .condition)
+due now s = dueBy now (s .condition) || ranOut now (s .lifetime)
 
--- an SA by its parts: protocol, SPI, keying octets with their count and the counts of their two parts, condition
-abbrev pub saOf : ℕ → List ℕ → List ℕ → ℕ → ℕ → ℕ → Condition → Sa
-saOf p x o n e w c = record { protocol = p; spi = x; octets = o; count = n; encryption = e; wrapping = w; condition = c }
+-- an SA by its parts: protocol, SPI, keying octets with their count and the counts of their two parts, condition, lifetime
+abbrev pub saOf : ℕ → List ℕ → List ℕ → ℕ → ℕ → ℕ → Condition → Lifetime → Sa
+saOf p x o n e w c t = record {
+  protocol = p;
+  spi = x;
+  octets = o;
+  count = n;
+  encryption = e;
+  wrapping = w;
+  condition = c;
+  lifetime = t;
+}
 
--- the same SA in another condition
+-- the same SA in another condition, with its lifetime
 abbrev pub withCondition : Condition → Sa → Sa
-withCondition c s = saOf (s .protocol) (s .spi) (s .octets) (s .count) (s .encryption) (s .wrapping) c
+withCondition c s = saOf (s .protocol) (s .spi) (s .octets) (s .count) (s .encryption) (s .wrapping) c (s .lifetime)
 
 -- a live SA retires at a tick with a delay; a retiring one keeps its start and delay
 abbrev pub retiredBy : ℕ → ℕ → Condition → Condition
@@ -76,13 +105,13 @@ retiredBy now delay (Retiring s d) = Retiring s d
 unfoldable pub retired : ℕ → ℕ → Sa → Sa
 retired now delay s = withCondition (retiredBy now delay (s .condition)) s
 
--- "The new SAs enter as live": with SPI x and a key of their kind. An ESP SA has no part counts
-unfoldable pub espSa : List ℕ → EspKey → Sa
-espSa x k = saOf esp (padded 16 x) (padded 68 (take (k .count) (k .octets))) (k .count) 0 0 Live
+-- "The new SAs enter as live": with SPI x, a key of their kind and a lifetime t. An ESP SA has no part counts
+unfoldable pub espSa : List ℕ → EspKey → Lifetime → Sa
+espSa x k t = saOf esp (padded 16 x) (padded 68 (take (k .count) (k .octets))) (k .count) 0 0 Live t
 
-unfoldable pub rekeySa : List ℕ → RekeyKey → Sa
-rekeySa x k = saOf rekey (padded 16 x) (k .octets) (k .encryption + k .wrapping) (k .encryption) (k .wrapping) Live
+unfoldable pub rekeySa : List ℕ → RekeyKey → Lifetime → Sa
+rekeySa x k t = saOf rekey (padded 16 x) (k .octets) (k .encryption + k .wrapping) (k .encryption) (k .wrapping) Live t
 
 -- the value of an unused place of the table
 abbrev pub blankSa : Sa
-blankSa = saOf 0 (padded 16 []) (padded 68 []) 0 0 0 Live
+blankSa = saOf 0 (padded 16 []) (padded 68 []) 0 0 0 Live Unlimited

@@ -1,3 +1,4 @@
 pub mod Clock
 pub mod Entry
 pub mod Blank
+pub mod DueSays

@@ -5,7 +5,8 @@ ghost use mathlib.Core.Bool.{true};
 ghost use Prim.Native.Nat.{_+_, _≤_};
 ghost use lib.ListN.{length};
 ghost use Rattle.keys.specs.Kinds.{rekeySizes};
-ghost use Rattle.sa.specs.Entry.{saOf, blankSa, spiSize, before, named, formed, liveRekey, due, retired, espSa, rekeySa};
+ghost use Rattle.sa.specs.Entry.{saOf, blankSa, spiSize, before, named, sized, fitLifetime, formed, liveRekey, dueBy, ranOut, due};
+ghost use Rattle.sa.specs.Entry.{retired, espSa, rekeySa};
 use keys::kinds::EspKey;
 use keys::kinds::RekeyKey;
 
@@ -20,6 +21,15 @@ pub enum Condition {
     Retiring { start: u32, delay: u16 },
 }
 
+// No lifetime, or one of so many seconds from a tick on.
+pub enum Lifetime {
+    Unlimited,
+    Limited { start: u32, seconds: u32 },
+}
+
+// The most seconds of a lifetime.
+pub const MOST_SECONDS: u32 = 2000000;
+
 pub struct Sa {
     pub protocol: u8,
     pub spi: [u8; 16],
@@ -28,6 +38,7 @@ pub struct Sa {
     pub encryption: usize,
     pub wrapping: usize,
     pub condition: Condition,
+    pub lifetime: Lifetime,
 }
 
 // The octets of an SPI of a protocol. Internal.
@@ -53,8 +64,9 @@ impl Sa {
         encryption: usize,
         wrapping: usize,
         condition: Condition,
+        lifetime: Lifetime,
     ) -> Sa
-        ensures { λ r. ⌜ r ≡ saOf protocol spi octets count encryption wrapping condition ⌝ }
+        ensures { λ r. ⌜ r ≡ saOf protocol spi octets count encryption wrapping condition lifetime ⌝ }
     {
         Sa {
             protocol,
@@ -64,6 +76,7 @@ impl Sa {
             encryption,
             wrapping,
             condition,
+            lifetime,
         }
     }
 
@@ -71,13 +84,22 @@ impl Sa {
     pub fn blank() -> Sa
         ensures { λ r. ⌜ r ≡ blankSa ⌝ }
     {
-        Sa::built(0, [0u8; 16], [0u8; 68], 0, 0, 0, Condition::Live)
+        Sa::built(
+            0,
+            [0u8; 16],
+            [0u8; 68],
+            0,
+            0,
+            0,
+            Condition::Live,
+            Lifetime::Unlimited,
+        )
     }
 
     // A live ESP SA. Internal.
-    pub fn esp(spi: &[u8], key: EspKey) -> Sa
+    pub fn esp(spi: &[u8], key: EspKey, lifetime: Lifetime) -> Sa
         requires { ⌜ (length (now spi) ≡ 4) × (key .count ≤ 36) ⌝ }
-        ensures { λ r. ⌜ r ≡ espSa (now (spi .entry)) key ⌝ }
+        ensures { λ r. ⌜ r ≡ espSa (now (spi .entry)) key lifetime ⌝ }
     {
         let n = key.count;
         let o = key.octets;
@@ -85,25 +107,35 @@ impl Sa {
         bytes::copy(spi, &mut name);
         let mut octets = [0u8; 68];
         bytes::copy(&o[0..n], &mut octets);
-        Sa::built(ESP, name, octets, n, 0, 0, Condition::Live)
+        Sa::built(ESP, name, octets, n, 0, 0, Condition::Live, lifetime)
     }
 
     // A live Rekey SA. Internal.
-    pub fn rekey(spi: &[u8], key: RekeyKey) -> Sa
+    pub fn rekey(spi: &[u8], key: RekeyKey, lifetime: Lifetime) -> Sa
         requires { ⌜ (length (now spi) ≡ 16) × (rekeySizes (key .encryption) (key .wrapping) ≡ true) ⌝ }
-        ensures { λ r. ⌜ r ≡ rekeySa (now (spi .entry)) key ⌝ }
+        ensures { λ r. ⌜ r ≡ rekeySa (now (spi .entry)) key lifetime ⌝ }
     {
         let e = key.encryption;
         let w = key.wrapping;
         let o = key.octets;
         let mut name = [0u8; 16];
         bytes::copy(spi, &mut name);
-        Sa::built(REKEY, name, o, e + w, e, w, Condition::Live)
+        Sa::built(REKEY, name, o, e + w, e, w, Condition::Live, lifetime)
     }
 
     // Whether it is due at a tick. Internal.
     pub fn due(self, now: u32) -> bool
         ensures { λ r. ⌜ r ≡ due now self ⌝ }
+    {
+        if self.delay_passed(now) {
+            return true;
+        }
+        self.ran_out(now)
+    }
+
+    // Whether it is retiring and its delay has passed.
+    fn delay_passed(self, now: u32) -> bool
+        ensures { λ r. ⌜ r ≡ dueBy now (self .condition) ⌝ }
     {
         let c = self.condition;
         match c {
@@ -116,7 +148,22 @@ impl Sa {
         }
     }
 
-    // It retires at a tick with a delay. Internal.
+    // Whether it has a lifetime and that has passed.
+    fn ran_out(self, now: u32) -> bool
+        ensures { λ r. ⌜ r ≡ ranOut now (self .lifetime) ⌝ }
+    {
+        let l = self.lifetime;
+        match l {
+            Lifetime::Unlimited => false,
+            Lifetime::Limited { start, seconds } => crate::clock::elapsed_at_least(
+                now,
+                start,
+                seconds,
+            ),
+        }
+    }
+
+    // It retires at a tick with a delay, and keeps its lifetime. Internal.
     pub fn retired(self, now: u32, delay: u16) -> Sa
         ensures { λ r. ⌜ r ≡ retired now delay self ⌝ }
     {
@@ -126,6 +173,7 @@ impl Sa {
                 let spi = self.spi;
                 let octets = self.octets;
                 let next = Condition::Retiring { start: now, delay };
+                let lifetime = self.lifetime;
                 Sa::built(
                     self.protocol,
                     spi,
@@ -134,6 +182,7 @@ impl Sa {
                     self.encryption,
                     self.wrapping,
                     next,
+                    lifetime,
                 )
             }
             Condition::Retiring { start: _, delay: _ } => self,
@@ -169,9 +218,30 @@ impl Sa {
         octets::compare::same(&x[0..n], spi)
     }
 
-    // Whether its protocol is one of the two and its octet counts are those that the protocol needs. Internal.
+    // Whether it is as an SA of the table must be. Internal.
     pub fn formed(self) -> bool
         ensures { λ r. ⌜ r ≡ formed self ⌝ }
+    {
+        if self.sized() {
+            return self.fit_lifetime();
+        }
+        false
+    }
+
+    // Whether its lifetime has no more seconds than it may have.
+    fn fit_lifetime(self) -> bool
+        ensures { λ r. ⌜ r ≡ fitLifetime (self .lifetime) ⌝ }
+    {
+        let l = self.lifetime;
+        match l {
+            Lifetime::Unlimited => true,
+            Lifetime::Limited { start: _, seconds } => seconds <= MOST_SECONDS,
+        }
+    }
+
+    // Whether its protocol is one of the two and its octet counts are those that the protocol needs.
+    fn sized(self) -> bool
+        ensures { λ r. ⌜ r ≡ sized self ⌝ }
     {
         if self.protocol == ESP {
             return EspKey::is_size(self.count);

@@ -10,9 +10,10 @@ use Rattle.keys.specs.Lists.{all, any, count, heads, rising}
 use Rattle.keys.specs.Limits.{limits}
 use Rattle.keys.specs.Algorithms.{sizeOf}
 use Rattle.keys.specs.Kinds.{padded, wrappingOf, rekeySizes}
-use Rattle.sa.specs.Entry.{esp, rekey, saOf, before, formed, liveRekey}
+use Rattle.sa.specs.Entry.{esp, rekey, saOf, before, sized, formed, liveRekey}
 use Rattle.sa.specs.declared.entry.Condition.{Condition}
 use Rattle.sa.specs.declared.entry.Condition.the-variants.{Live, Retiring}
+use Rattle.sa.specs.declared.entry.Lifetime.the-variants.{Unlimited, Limited}
 use Rattle.sa.specs.declared.entry.Sa.{Sa}
 use Rattle.table.specs.Table.{tableOf, tableFormed, none}
 use Rattle.table.specs.declared.Found.{Found}
@@ -26,7 +27,7 @@ use Rattle.state.specs.State.{stateFormed, sweptState, askedSa}
 
 -- ---- SAs: of a protocol, with an SPI that ends in n, so many keying octets, and parts of e and w octets
 abbrev sa : ℕ → ℕ → ℕ → ℕ → ℕ → Condition → Sa
-sa p n count e w c = saOf p (padded 16 (0 ∷ 0 ∷ 0 ∷ n ∷ [])) (replicate 68 5) count e w c
+sa p n count e w c = saOf p (padded 16 (0 ∷ 0 ∷ 0 ∷ n ∷ [])) (replicate 68 5) count e w c Unlimited
 
 -- an SA that a sweep would take from its table, so that a value is seen to be kept
 abbrev retiring : Condition
@@ -37,6 +38,10 @@ espSa n = sa esp n 20 0 0 retiring
 
 abbrev rekeySa : ℕ → Condition → Sa
 rekeySa n c = sa rekey n 36 20 16 c
+
+-- an ESP SA with a lifetime of so many seconds
+abbrev lasting : ℕ → Sa
+lasting n = saOf esp (padded 16 (0 ∷ 0 ∷ 0 ∷ 1 ∷ [])) (replicate 68 5) 20 0 0 retiring (Limited 0 n)
 
 -- a Rekey SA of 44 octets in parts of e and w
 abbrev cut : ℕ → ℕ → Sa
@@ -81,6 +86,9 @@ brokenValues =
     ofSas (sa rekey 1 0 0 0 retiring ∷ []) ∷
     -- "at most one Rekey SA is live"
     ofSas (espSa 1 ∷ rekeySa 1 Live ∷ rekeySa 2 Live ∷ []) ∷
+    -- a lifetime of "at most 2,000,000 seconds" (document 02, T-07)
+    ofSas (lasting 2000001 ∷ []) ∷
+    ofSas (lasting 4294967295 ∷ rekeySa 1 Live ∷ []) ∷
     -- "a held list of at most 32 wrapping keys" (T-01: 128): a count above the places
     value (tableOf limits (espSa 1 ∷ [])) (record { keys = (heldOf limits []) .keys; count = limits .heldKeys + 1 }) ∷
     -- "Key IDs rising, none 0": equal, falling, 0
@@ -92,13 +100,14 @@ brokenValues =
     ofKeys (key 5 16 ∷ key 9 0 ∷ []) ∷
     []
 
--- 44 octets are 20 + 24 and 28 + 16; a Rekey SA that retires beside one that is live; values of different sizes; what stands past a count
--- is not looked at
+-- 44 octets are 20 + 24 and 28 + 16; a Rekey SA that retires beside one that is live; the longest lifetime; values of different sizes; what
+-- stands past a count is not looked at
 abbrev pub fitValues : List State
 fitValues =
     ofSas (cut 20 24 ∷ []) ∷
     ofSas (cut 28 16 ∷ []) ∷
     ofSas (espSa 1 ∷ rekeySa 1 retiring ∷ rekeySa 2 Live ∷ []) ∷
+    ofSas (lasting 2000000 ∷ []) ∷
     ofKeys (key 5 16 ∷ key 9 24 ∷ key 10 32 ∷ []) ∷
     value (record { sas = (tableOf limits (espSa 2 ∷ espSa 1 ∷ sa 4 1 1 1 1 Live ∷ [])) .sas; count = 1 })
     (record { keys = (heldOf limits (key 5 16 ∷ key 0 20 ∷ [])) .keys; count = 1 }) ∷
@@ -116,11 +125,11 @@ pub record BrokenKept (l : List State) : Type 0 where
   pub asked : (p : ℕ) (x : List ℕ) → map (askedSa limits p x) l ≡ map (λ (s : State). none) l
 
 pub broken-kept : BrokenKept brokenValues
-unfolding stateFormed sweptState askedSa tableOf tableFormed heldOf heldFormed keyFormed formed before less orderOf liveRekey rekeySizes
-    sizeOf all any count heads rising
+unfolding stateFormed sweptState askedSa tableOf tableFormed heldOf heldFormed keyFormed formed sized before less orderOf liveRekey
+    rekeySizes sizeOf all any count heads rising
 broken-kept = record { broken = refl; swept = λ now. refl; asked = λ p x. refl }
 
 pub fit-formed : Formed true fitValues
-unfolding stateFormed tableOf tableFormed heldOf heldFormed keyFormed formed before less orderOf liveRekey rekeySizes sizeOf all any count
-    heads rising
+unfolding stateFormed tableOf tableFormed heldOf heldFormed keyFormed formed sized before less orderOf liveRekey rekeySizes sizeOf all any
+    count heads rising
 fit-formed = refl

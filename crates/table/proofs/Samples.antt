@@ -8,6 +8,7 @@ use Rattle.keys.specs.Limits.{limits}
 use Rattle.keys.specs.Lists.{insert}
 use Rattle.sa.specs.Entry.{before, named, saOf}
 use Rattle.sa.specs.declared.entry.Condition.the-variants.{Live}
+use Rattle.sa.specs.declared.entry.Lifetime.the-variants.{Unlimited}
 use Rattle.sa.specs.declared.entry.Sa.{Sa}
 use Rattle.table.specs.declared.Table.{Table}
 use Rattle.table.specs.Table.{tableOf}
@@ -15,13 +16,13 @@ use Rattle.table.specs.inner.Changes.{entered}
 
 -- an ESP SA with the high SPI 255.0.0.0, one with the low SPI 0.0.0.9 and octets that are no part of it, and a Rekey SA with SPI 0
 abbrev high : Sa
-high = saOf 3 (255 ∷ replicate 15 0) (replicate 68 0) 20 0 0 Live
+high = saOf 3 (255 ∷ replicate 15 0) (replicate 68 0) 20 0 0 Live Unlimited
 
 abbrev low : Sa
-low = saOf 3 (0 ∷ 0 ∷ 0 ∷ 9 ∷ replicate 12 7) (replicate 68 0) 20 0 0 Live
+low = saOf 3 (0 ∷ 0 ∷ 0 ∷ 9 ∷ replicate 12 7) (replicate 68 0) 20 0 0 Live Unlimited
 
 abbrev rekeying : Sa
-rekeying = saOf 6 (replicate 16 0) (replicate 68 0) 36 20 16 Live
+rekeying = saOf 6 (replicate 16 0) (replicate 68 0) 36 20 16 Live Unlimited
 
 abbrev in-any-order : Sa → Sa → Sa → Table
 in-any-order a b c = entered limits a (entered limits b (entered limits c (tableOf limits [])))

@@ -10,10 +10,12 @@ fn told(a: SaAnswer, out: &mut [u8]) -> usize {
     if a.found {
         let octets = a.octets;
         let c = a.condition;
+        let l = a.lifetime;
         let b = text::put(out, 0, b"found");
         let d = text::octets(out, b, text::part(&octets, 0, a.count));
         let e = whole::condition(out, d, c);
-        return text::newline(out, e);
+        let f = whole::lifetime(out, e, l);
+        return text::newline(out, f);
     }
     text::put(out, 0, b"none\n")
 }

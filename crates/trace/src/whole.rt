@@ -8,6 +8,7 @@ use keys::limits::HELD_KEYS;
 use keys::limits::SAS;
 use sa::entry::Condition;
 use sa::entry::ESP;
+use sa::entry::Lifetime;
 use sa::entry::Sa;
 use state::held::Held;
 use state::held::HeldKey;
@@ -21,8 +22,8 @@ const WORDS: usize = 32;
 
 const SPI: usize = 16;
 
-// The most characters of a line: an SA's has six numbers at most, a held key's one.
-const SA_LINE: usize = WORDS + 2 * SPI + 2 * RekeyKey::MOST + 6 * NUMBER;
+// The most characters of a line: an SA's has seven numbers at most, a held key's one.
+const SA_LINE: usize = WORDS + 2 * SPI + 2 * RekeyKey::MOST + 7 * NUMBER;
 
 const HELD_LINE: usize = WORDS + 2 * WrappingKey::KW_256 + NUMBER;
 
@@ -39,6 +40,18 @@ pub(crate) fn condition(out: &mut [u8], at: usize, c: Condition) -> usize {
             let a = text::put(out, at, b" retiring");
             let b = text::number(out, a, start as usize);
             text::number(out, b, delay as usize)
+        }
+    }
+}
+
+// A blank and an SA's lifetime.
+pub(crate) fn lifetime(out: &mut [u8], at: usize, l: Lifetime) -> usize {
+    match l {
+        Lifetime::Unlimited => text::put(out, at, b" life none"),
+        Lifetime::Limited { start, seconds } => {
+            let a = text::put(out, at, b" life");
+            let b = text::number(out, a, start as usize);
+            text::number(out, b, seconds as usize)
         }
     }
 }
@@ -69,10 +82,12 @@ fn keying(out: &mut [u8], at: usize, s: Sa) -> usize {
 
 fn sa(out: &mut [u8], at: usize, s: Sa) -> usize {
     let c = s.condition;
+    let l = s.lifetime;
     let a = name(out, at, s);
     let b = keying(out, a, s);
     let d = condition(out, b, c);
-    text::newline(out, d)
+    let e = lifetime(out, d, l);
+    text::newline(out, e)
 }
 
 // A count of a list that may be broken, or the most that the list holds.

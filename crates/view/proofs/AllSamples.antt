@@ -35,7 +35,7 @@ nothing = record { kind = kind.Nothing; first = []; spi = []; start = 0; items =
 abbrev ip4 : List ℕ
 ip4 = 7 ∷ 17 ∷ 0 ∷ 16 ∷ 3 ∷ 80 ∷ 3 ∷ 80 ∷ 239 ∷ 1 ∷ 2 ∷ 3 ∷ 239 ∷ 1 ∷ 2 ∷ 3 ∷ []
 
--- an ESP policy whose one transform has the Key Lengths 128 and 256, and GSA_KEY_LIFETIME, which is skipped
+-- an ESP policy whose one transform has the Key Lengths 128 and 256, and GSA_KEY_LIFETIME
 abbrev esp : List ℕ
 esp =
     (3 ∷ 4 ∷ 0 ∷ 64 ∷ 9 ∷ 8 ∷ 7 ∷ 6 ∷ []) ++ (ip4 ++ (ip4 ++
@@ -48,7 +48,7 @@ two-key-lengths : shown esp ≡ record {
   start = 4;
   items =
       item.Selector 7 17 848 848 16 24 ∷ item.Selector 7 17 848 848 32 40 ∷ item.Transform 1 20 2 128
-      ∷ item.Attribute meaning.Skipped false 1 60 64 ∷ [];
+      ∷ item.Attribute meaning.KeyLifetime false 1 60 64 ∷ [];
 }
 unfolding policy suite saBody selector transform attribute many chain chainUpTo number valuesOf octetsIn shownAttributes
 two-key-lengths = refl

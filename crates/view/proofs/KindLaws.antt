@@ -11,7 +11,7 @@ use Rattle.octets.specs.Walk.{be16, part, Reading, whole, broken}
 use Rattle.octets.proofs.Walks.{takes-keeps}
 use Rattle.attributes.specs.Attribute.{Attribute}
 use Rattle.attributes.specs.Place.{inPolicy}
-use Rattle.attributes.specs.Tree.{initialMessageIds, deactivationDelays}
+use Rattle.attributes.specs.Tree.{initialMessageIds, deactivationDelays, keyLifetimes}
 use Rattle.attributes.specs.Layout.{attributes}
 use Rattle.attributes.specs.Answers.{spotOf}
 use Rattle.attributes.specs.declared.tables.Place.the-variants as place
@@ -197,6 +197,7 @@ module _ (s : List ℕ) where
 pub record ShowsSa (s : List ℕ) (x : GroupSaPolicy) : Type 0 where
   pub attributes : List Attribute
   pub read : initialMessageIds (inPolicy (x .protocol)) attributes ≡ x .initialMessageIds
+  pub lifetimes : keyLifetimes (inPolicy (x .protocol)) attributes ≡ x .keyLifetimes
   pub items : itemsOf s
       ≡ shownSelector (4 + spiSize (x .protocol)) (x .source)
       ∷ shownSelector (4 + spiSize (x .protocol) + selectorSize (x .source .kind)) (x .destination)
@@ -213,6 +214,7 @@ shows-sa s x e = go (one s (groupSa x) e)
         record {
           attributes = l;
           read = i .initialMessageIds;
+          lifetimes = i .keyLifetimes;
           items =
               sym (sa-items s x e i)
               ∙ (λ j. shownSelector h (i .source j) ∷ shownSelector (h + selectorSize (i .source j .kind)) (i .destination j)

@@ -4,6 +4,7 @@ use super::pairing::{esp_policies, fill, one_chain, sas_after};
 use super::{any, either_rekey, inband, registration, rekey, Exchange, Violation};
 use crate::case::Case;
 use crate::limits::*;
+use crate::lives::without_lifetime;
 use builder::typical::*;
 use builder::wrapping::wrap;
 use builder::{Attribute, Body, Part, Payload, AUTH, CERT, DELETE, ESP, GSA, IDR, KD, NOTIFY, REKEY};
@@ -41,7 +42,7 @@ pub const TABLE: &[Violation] = &[
         Some(())
     }),
     any(0, "skipped attributes in policies and transforms", |c| {
-        let attributes: Vec<Attribute> = (0..8).map(|_| skipped(c, &[0, 1, 3, 4, 13, 15, 18, 0x0300, 0x4001, 0x7fff])).collect();
+        let attributes: Vec<Attribute> = (0..8).map(|_| skipped(c, &[0, 3, 4, 13, 15, 18, 0x0300, 0x4001, 0x7fff])).collect();
         for (i, policy) in c.policies()?.iter_mut().enumerate() {
             policy.attributes.insert(0, attributes[i % 8].clone());
             policy.attributes.push(attributes[(i + 1) % 8].clone());
@@ -79,6 +80,24 @@ pub const TABLE: &[Violation] = &[
         let policy = c.policy(ESP)?;
         policy.attributes.extend(two.clone());
         policy.transforms.iter_mut().for_each(|transform| transform.attributes.extend(two.clone()));
+        Some(())
+    }),
+    any(0, "attribute 1 in the group-wide policy and in transforms", |c| {
+        let two = [skipped(c, &[1]), skipped(c, &[1])];
+        for policy in c.policies()? {
+            if policy.protocol == 0 {
+                policy.attributes.extend(two.clone());
+            }
+            policy.transforms.iter_mut().for_each(|transform| transform.attributes.extend(two.clone()));
+        }
+        Some(())
+    }),
+    any(0, "lifetimes up to the longest", |c| {
+        let (esp, rekey) = (c.rng.pick(&[0, 1, MOST_SECONDS]), c.rng.pick(&[1, 1000, MOST_SECONDS]));
+        for policy in c.policies()?.iter_mut().filter(|policy| policy.protocol != 0) {
+            without_lifetime(policy);
+            policy.attributes.push(lifetime(if policy.protocol == ESP { esp } else { rekey }));
+        }
         Some(())
     }),
     any(0, "empty group-wide policy", |c| {
@@ -169,7 +188,7 @@ pub const TABLE: &[Violation] = &[
         esp_policies(c, MOST_ESP_POLICIES)
     }),
     either_rekey(0, "as many SAs as may be", |c| sas_after(c, MOST_SAS)),
-    either_rekey(0, "SPI of an SA that is due", |c| {
+    any(0, "SPI of an SA that is due", |c| {
         let (protocol, tick) = (c.rng.pick(&[ESP, REKEY]), c.tick);
         let spi = c.member.table.iter().find(|sa| sa.protocol == protocol && sa.is_due(tick))?.spi.clone();
         c.rename(protocol, &spi)

@@ -65,6 +65,12 @@ pub const TABLE: &[Violation] = &[
         c.policy(REKEY)?.attributes.push(Attribute::long(2, &vec![0; count]));
         Some(())
     }),
+    any(1, "GSA_KEY_LIFETIME: short format, in ESP", |c| short_lifetime(c, ESP)),
+    any(1, "GSA_KEY_LIFETIME: short format, in Rekey", |c| short_lifetime(c, REKEY)),
+    any(1, "GSA_KEY_LIFETIME: short format, in AH", |c| short_lifetime(c, AH)),
+    any(1, "GSA_KEY_LIFETIME: not 4 octets, in ESP", |c| unfit_lifetime(c, ESP)),
+    any(1, "GSA_KEY_LIFETIME: not 4 octets, in Rekey", |c| unfit_lifetime(c, REKEY)),
+    any(1, "GSA_KEY_LIFETIME: not 4 octets, in AH", |c| unfit_lifetime(c, AH)),
     any(1, "deactivation delay: long format", |c| {
         c.policy(0)?.attributes = vec![Attribute::long(2, &[0, 1])];
         Some(())
@@ -184,6 +190,26 @@ fn long_key_length(c: &mut Case, protocol: u8) -> Option<()> {
         attributes.clear();
     }
     attributes.push(Attribute::long(14, &[0, 128, 0, 0][..count]));
+    Some(())
+}
+
+/// A policy of that protocol; one of AH is made.
+pub fn policy_of(c: &mut Case, protocol: u8) -> Option<&mut Part> {
+    if protocol == AH {
+        let policy = Part { protocol, ..c.policy(ESP)?.clone() };
+        c.policies()?.push(policy);
+    }
+    c.policy(protocol)
+}
+
+fn short_lifetime(c: &mut Case, protocol: u8) -> Option<()> {
+    policy_of(c, protocol)?.attributes.push(Attribute::Short(1, 30));
+    Some(())
+}
+
+fn unfit_lifetime(c: &mut Case, protocol: u8) -> Option<()> {
+    let count = c.rng.pick(&[0, 1, 2, 3, 5, 8]);
+    policy_of(c, protocol)?.attributes.push(Attribute::long(1, &vec![0; count]));
     Some(())
 }
 

@@ -2,6 +2,8 @@
 
 use super::{any, rekey, Violation};
 use crate::case::Case;
+use crate::limits::MOST_SECONDS;
+use crate::lives::without_lifetime;
 use builder::typical::*;
 use builder::{Attribute, Body, Delete, Part, Payload, Transform, AH, DELETE, ESP, REKEY};
 
@@ -19,6 +21,13 @@ pub const TABLE: &[Violation] = &[
     any(5, "AH bag without a policy", ah_bag),
     any(5, "AH policy with an ESP SA's transforms", |c| {
         let policy = Part { protocol: AH, ..c.policy(ESP)?.clone() };
+        c.policies()?.push(policy);
+        Some(())
+    }),
+    any(5, "AH policy with a lifetime that is too long", |c| {
+        let mut policy = Part { protocol: AH, ..c.policy(ESP)?.clone() };
+        without_lifetime(&mut policy);
+        policy.attributes.push(lifetime(MOST_SECONDS + 1));
         c.policies()?.push(policy);
         Some(())
     }),

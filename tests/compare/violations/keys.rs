@@ -145,9 +145,13 @@ pub const TABLE: &[Violation] = &[
         let key = c.member.live_rekey()?.default_key().to_vec();
         only_copy(c, 0, &key)
     }),
-    inband(9, "Rekey key under the lent key by another KWK ID, over the own channel", |c| {
-        let (id, key) = (c.unknown_id(), c.key0.clone());
+    inband(9, "Rekey key under the lent key by a held key's ID, over the own channel", |c| {
+        let (id, key) = (c.member.held.first()?.0, c.key0.clone());
         only_copy(c, id, &key)
+    }),
+    inband(9, "ESP key under the live Rekey SA's default key, over the own channel", |c| {
+        let (kwk, key) = (c.member.live_rekey()?.default_key().to_vec(), c.sa_key(ESP)?);
+        set_esp_copy(c, |_| wrap(&kwk, &key))
     }),
     rekey(9, "Rekey key with no copy that opens", |c| {
         let (unknown, (id, _)) = (c.unknown_id(), c.some_key());

@@ -1,5 +1,6 @@
 //! Numbers 2, 3 and 4. (A member value that breaks its list cannot come through the program.)
 
+use super::attributes::policy_of;
 use super::{any, either_rekey, inband, registration, rekey, with_lent_key, Violation};
 use crate::case::Case;
 use builder::typical::*;
@@ -161,6 +162,9 @@ pub const TABLE: &[Violation] = &[
         attributes.extend([initial_message_id(1), initial_message_id(1)]);
         Some(())
     }),
+    any(4, "GSA_KEY_LIFETIME twice, in ESP", |c| two_lifetimes(c, ESP)),
+    any(4, "GSA_KEY_LIFETIME twice, in Rekey", |c| two_lifetimes(c, REKEY)),
+    any(4, "GSA_KEY_LIFETIME twice, in AH", |c| two_lifetimes(c, AH)),
     any(4, "deactivation delay twice", |c| {
         let value = c.rng.pick(&[0, 7]);
         c.policy(0)?.attributes = vec![Attribute::Short(2, 7), Attribute::Short(2, value)];
@@ -189,6 +193,13 @@ pub const TABLE: &[Violation] = &[
         Some(())
     }),
 ];
+
+/// Equal ones, or one of them too long.
+fn two_lifetimes(c: &mut Case, protocol: u8) -> Option<()> {
+    let seconds = c.rng.pick(&[30, 31, u32::MAX]);
+    policy_of(c, protocol)?.attributes.extend([lifetime(30), lifetime(seconds)]);
+    Some(())
+}
 
 /// The payload of that kind once more.
 fn twice(c: &mut Case, kind: u8) -> Option<()> {

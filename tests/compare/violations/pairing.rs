@@ -3,6 +3,7 @@
 use super::{any, either_rekey, registration, rekey, with_lent_key, Violation};
 use crate::case::Case;
 use crate::limits::*;
+use crate::lives::without_lifetime;
 use builder::typical::*;
 use builder::wrapping::wrap;
 use builder::{Attribute, Part, ESP, REKEY};
@@ -56,16 +57,16 @@ pub const TABLE: &[Violation] = &[
         c.bags()?.push(bag);
         Some(())
     }),
-    either_rekey(6, "ESP SA live in the table", |c| rename_as(c, ESP, |sa, _| sa.condition == Condition::Live)),
+    either_rekey(6, "ESP SA live in the table", |c| rename_as(c, ESP, live)),
     either_rekey(6, "ESP SA retiring in the table", |c| {
         rename_as(c, ESP, |sa, tick| sa.condition != Condition::Live && !sa.is_due(tick))
     }),
-    either_rekey(6, "the live Rekey SA's own SPI", |c| rename_as(c, REKEY, |sa, _| sa.condition == Condition::Live)),
+    either_rekey(6, "the live Rekey SA's own SPI", |c| rename_as(c, REKEY, live)),
     either_rekey(6, "Rekey SA retiring in the table", |c| {
         rename_as(c, REKEY, |sa, tick| sa.condition != Condition::Live && !sa.is_due(tick))
     }),
     rekey(6, "ESP SA in the table that the frame deletes without delay", |c| {
-        rename_as(c, ESP, |sa, _| sa.condition == Condition::Live)?;
+        rename_as(c, ESP, live)?;
         let spi = c.sa_policy(ESP)?.spi.clone();
         c.delete()?.spis = vec![spi];
         c.policies()?.retain(|policy| policy.protocol != 0);
@@ -170,6 +171,8 @@ pub const TABLE: &[Violation] = &[
         c.insert(delete(&vec![vec![8; 4]; MOST_DELETED + 1 - first]));
         Some(())
     }),
+    any(7, "a lifetime one second too long", |c| set_lifetime(c, MOST_SECONDS + 1)),
+    any(7, "a lifetime of 4,294,967,295 seconds", |c| set_lifetime(c, u32::MAX)),
     either_rekey(7, "one SA too many", |c| sas_after(c, MOST_SAS + 1)),
     rekey(7, "one SA too many, the others live", |c| {
         c.member.table.iter().all(|sa| sa.condition == Condition::Live).then_some(())?;
@@ -177,11 +180,22 @@ pub const TABLE: &[Violation] = &[
     }),
 ];
 
+fn live(sa: &Sa, tick: u32) -> bool {
+    sa.condition == Condition::Live && !sa.is_due(tick)
+}
+
 /// Gives the announced SA the SPI of one in the table.
 fn rename_as(c: &mut Case, protocol: u8, fits: fn(&Sa, u32) -> bool) -> Option<()> {
     let fitting: Vec<_> = c.member.table.iter().filter(|sa| sa.protocol == protocol && fits(sa, c.tick)).collect();
     let spi = fitting.get(c.rng.below(fitting.len()))?.spi.clone();
     c.rename(protocol, &spi)
+}
+
+fn set_lifetime(c: &mut Case, seconds: u32) -> Option<()> {
+    let policy = c.some_sa_policy()?;
+    without_lifetime(policy);
+    policy.attributes.insert(0, lifetime(seconds));
+    Some(())
 }
 
 fn many_policies(c: &mut Case) -> Option<()> {

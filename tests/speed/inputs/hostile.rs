@@ -95,6 +95,7 @@ impl Hostile {
             _ if self.number == 1 => format!("1 0 0 {}", self.offset),
             _ if matches!(self.situation, Situation::New) => format!("{} 0 0", self.number),
             Lines::Alike(_) => format!("{} {} {MOST_HELD}", self.number, 1 + esp_sas),
+            Lines::ByTurn(_) if matches!(self.situation, Situation::Full) => format!("{} {MOST_SAS} {MOST_HELD}", self.number),
             // As many ESP SAs come as retire, and those that the frame before retired have gone.
             Lines::ByTurn(_) => format!("{} {} {MOST_HELD}", self.number, 1 + 2 * esp_sas),
         }

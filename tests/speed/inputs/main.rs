@@ -1,7 +1,7 @@
 //! Inputs to time a member with, each as NAME.in and what a member must print as NAME.out.
 //!
-//! `inputs rekeys SIZE COUNT NAME`: so many rekeys, all keys of so many octets. `inputs hostile`: the names of the hostile frames and
-//! their answers. `inputs hostile FRAME COUNT NAME`: one of them so many times, and as NAME-bad the lines of the same digits that are
+//! `inputs rekeys SIZE COUNT NAME`: so many rekeys, all keys of so many octets, a delete after each. `inputs runs SIZE COUNT NAME`: the
+//! same with as few deletes as the table allows. `inputs hostile`: the names of the hostile frames and their answers. `inputs hostile FRAME COUNT NAME`: one of them so many times, and as NAME-bad the lines of the same digits that are
 //! "bad" by the last one.
 
 mod group;
@@ -54,6 +54,7 @@ fn run(arguments: &[&str]) -> Result<()> {
         ["rekeys", size @ ("16" | "24" | "32"), count, name] => {
             rekeys::rekeys(number(size)? as usize, number(count)?).write(name)
         }
+        ["runs", size @ ("16" | "24" | "32"), count, name] => rekeys::runs(number(size)? as usize, number(count)?).write(name),
         ["hostile"] => {
             hostile::all().for_each(|hostile| println!("{} {}", hostile.name, hostile.answer()));
             Ok(())
@@ -65,7 +66,7 @@ fn run(arguments: &[&str]) -> Result<()> {
             frames.write(name)?;
             bad_lines.write(&format!("{name}-bad"))
         }
-        _ => Err(Error::other("inputs rekeys 16|24|32 COUNT NAME, or inputs hostile [FRAME COUNT NAME]")),
+        _ => Err(Error::other("inputs rekeys|runs 16|24|32 COUNT NAME, or inputs hostile [FRAME COUNT NAME]")),
     }
 }
 

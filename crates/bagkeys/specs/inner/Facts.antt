@@ -28,6 +28,7 @@ isKey meaning.Skipped = false
 isKey meaning.KeyLength = false
 isKey meaning.InitialMessageId = false
 isKey meaning.DeactivationDelay = false
+isKey meaning.KeyLifetime = false
 isKey meaning.SaKey = true
 isKey meaning.WrapKey = true
 

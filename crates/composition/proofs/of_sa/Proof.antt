@@ -67,18 +67,38 @@ numbers-of-requires c κs =
           (c .before .in-policy .ensures),
     )
 
+sub-numbers-of-2 : tie.Need-sub-numbers-of-2
+sub-numbers-of-2 c = own (c .before .before .before .before .before) .inside
+
+part-numbers-of-start-2 : tie.Need-part-numbers-of-start-2
+part-numbers-of-start-2 c = own (c .before .before .before .before .before) .inside
+
+part-numbers-of-end-2 : tie.Need-part-numbers-of-end-2
+part-numbers-of-end-2 c = search needs
+
+numbers-of-requires-2 : tie.Need-numbers-of-requires-2
+numbers-of-requires-2 c κs =
+    let p = c .before .before .before in
+    let d = p .before .before .before in
+    let b = d .before .before in (
+      refl,
+      attributes-whole (b .args .protocol) (now (b .args .o)) (b .pre .0) (d .sa-parts .result) (own d) (p .in-policy .result)
+          (p .in-policy .ensures),
+    )
+
 sub-is-group-address : tie.Need-sub-is-group-address
-sub-is-group-address c = own (c .before .before .before .before .before) .order
+sub-is-group-address c = own (c .before .before .before .before .before .before .before) .order
 
 part-is-group-address-start : tie.Need-part-is-group-address-start
-part-is-group-address-start c = own (c .before .before .before .before .before) .order
+part-is-group-address-start c = own (c .before .before .before .before .before .before .before) .order
 
 part-is-group-address-end : tie.Need-part-is-group-address-end
-part-is-group-address-end c = let f = own (c .before .before .before .before .before) in omega (arith, f .then, f .inside)
+part-is-group-address-end c =
+    let f = own (c .before .before .before .before .before .before .before) in omega (arith, f .then, f .inside)
 
 is-group-address-requires : tie.Need-is-group-address-requires
 is-group-address-requires c κs =
-    let d = c .before .before .before .before .before .before in
+    let d = c .before .before .before .before .before .before .before .before in
     (d .before .before .pre .0 .destination, own d .destination)
 
 is-fit-requires : tie.Need-is-fit-requires
@@ -95,10 +115,11 @@ if-so-requires c κs = search needs
 
 returns : tie.Need-returns
 returns c x spi i =
-    let k = c .before .before .before in
+    let k = c .before .before .before .before .before in
     let t = k .before .before in
     let g = t .before in
-    let n = g .before .before in
+    let m = g .before .before in
+    let n = m .before .before in
     let p = n .before .before in
     let u = p .before in
     let d = u .before .before in
@@ -108,7 +129,7 @@ returns c x spi i =
     let r = d .sa-parts .result in
     of-sa-is (a .protocol) o x r f (p .in-policy .result) (p .in-policy .ensures) (a .authentication) spi (u .suite .result)
     (u .suite .ensures (x .suite .transforms) (drop (r .attributes) o) (transforms-are (inPolicy (a .protocol)) o x r f))
-    (n .numbers-of .result) (n .numbers-of .ensures .0) (g .is-group-address .result)
+    (n .numbers-of .result) (n .numbers-of .ensures .0) (m .numbers-of2 .result) (m .numbers-of2 .ensures .0) (g .is-group-address .result)
     (g .is-group-address .ensures (x .destination) (f .destination)) (t .is-fit .result) (t .is-fit .ensures) (k .before .one-if .result)
     (k .one-if2 .result) (k .before .one-if .ensures) (k .one-if2 .ensures) (c .if-so .result) (c .if-so .ensures)
 
@@ -126,6 +147,10 @@ of-sa-spec =
     part-numbers-of-start
     part-numbers-of-end
     numbers-of-requires
+    sub-numbers-of-2
+    part-numbers-of-start-2
+    part-numbers-of-end-2
+    numbers-of-requires-2
     sub-is-group-address
     part-is-group-address-start
     part-is-group-address-end

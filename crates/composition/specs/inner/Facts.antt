@@ -9,12 +9,13 @@ use lib.ListN.{length}
 use lib.Dec.{ltb, eqb}
 use Rattle.keys.specs.Lists.{any, count}
 use Rattle.attributes.specs.Place.{inPolicy}
-use Rattle.attributes.specs.Tree.{initialMessageIds}
+use Rattle.attributes.specs.Tree.{initialMessageIds, keyLifetimes}
 use Rattle.attributes.specs.Layout.{attributes}
 use Rattle.attributes.specs.declared.tables.Place.the-variants as place
 use Rattle.policies.specs.Policy.{Policy, groupSa, groupWide, GroupSaPolicy, GroupWidePolicy, SaBody, groupWideOf}
 use Rattle.policies.specs.Grammar.{IsSaBody}
 use Rattle.contents.specs.inner.Values.{isWhole, attributesIn}
+use Rattle.sa.specs.Entry.{mostSeconds}
 use Rattle.clauses.specs.Contents.{several, gather, saOf, wideOf}
 use Rattle.clauses.specs.Fitness.{ah, isEsp, isRekey, oneGroupAddress, transformsFit}
 use Rattle.clauses.specs.Number4.{twiceInTransform}
@@ -24,6 +25,10 @@ use Rattle.composition.specs.declared.numbers.Numbers.{Numbers}
 use Rattle.composition.specs.declared.PolicyFacts.{PolicyFacts}
 
 -- ---- one policy
+-- a lifetime of more seconds than it may have
+abbrev pub hasLong : GroupSaPolicy → Bool
+hasLong p = any (λ (n : ℕ). ltb mostSeconds n) (p .keyLifetimes)
+
 -- the first Message IDs that a Rekey policy gives its SA
 abbrev pub givenBy : GroupSaPolicy → List ℕ
 givenBy p = cond (isRekey p) (p .initialMessageIds) []
@@ -38,7 +43,9 @@ ofSa authentication p = record {
   lengths = any twiceInTransform (p .transforms);
   ids = several (p .initialMessageIds);
   delays = false;
+  lifetimes = several (p .keyLifetimes);
   elsewhere = isRekey p && not (oneGroupAddress (p .destination));
+  long = hasLong p;
   unfit = not (transformsFit authentication p);
   delay = 0;
   initial = greatest (givenBy p);
@@ -55,7 +62,9 @@ wideBy n = record {
   lengths = false;
   ids = false;
   delays = ltb 1 (n .count);
+  lifetimes = false;
   elsewhere = false;
+  long = false;
   unfit = false;
   delay = n .greatest;
   initial = 0;
@@ -75,6 +84,7 @@ saWith p spi x = record {
   destination = x .destination;
   transforms = x .suite .transforms;
   initialMessageIds = initialMessageIds (inPolicy p) (x .suite .attributes);
+  keyLifetimes = keyLifetimes (inPolicy p) (x .suite .attributes);
 }
 
 -- how many there can be of each
@@ -105,7 +115,9 @@ noPolicies = record {
   lengths = false;
   ids = false;
   delays = false;
+  lifetimes = false;
   elsewhere = false;
+  long = false;
   unfit = false;
   delay = 0;
   initial = 0;
@@ -121,7 +133,9 @@ together a b = record {
   lengths = a .lengths || b .lengths;
   ids = a .ids || b .ids;
   delays = a .delays || b .delays;
+  lifetimes = a .lifetimes || b .lifetimes;
   elsewhere = a .elsewhere || b .elsewhere;
+  long = a .long || b .long;
   unfit = a .unfit || b .unfit;
   delay = greater (a .delay) (b .delay);
   initial = greater (a .initial) (b .initial);
@@ -145,7 +159,9 @@ factsOf authentication l = record {
   lengths = any (λ (p : GroupSaPolicy). any twiceInTransform (p .transforms)) (gather saOf l);
   ids = any (λ (p : GroupSaPolicy). several (p .initialMessageIds)) (gather saOf l);
   delays = any (λ (w : GroupWidePolicy). several (w .deactivationDelays)) (gather wideOf l);
+  lifetimes = any (λ (p : GroupSaPolicy). several (p .keyLifetimes)) (gather saOf l);
   elsewhere = any (λ (p : GroupSaPolicy). isRekey p && not (oneGroupAddress (p .destination))) (gather saOf l);
+  long = any hasLong (gather saOf l);
   unfit = any (λ (p : GroupSaPolicy). not (transformsFit authentication p)) (gather saOf l);
   delay = greatest (gather (λ (w : GroupWidePolicy). w .deactivationDelays) (gather wideOf l));
   initial = greatest (gather givenBy (gather saOf l));

@@ -1,4 +1,5 @@
--- The numbers that attributes of a policy give, GSA_INITIAL_MESSAGE_ID or the deactivation delay: how many there are, and the greatest.
+-- The numbers that attributes of a policy give, GSA_INITIAL_MESSAGE_ID, GSA_KEY_LIFETIME or the deactivation delay: how many
+-- there are, and the greatest.
 use Prim.Native.Nat.{ℕ, _+_}
 use mathlib.Core.List.{List, [], _∷_, map}
 use mathlib.Core.Bool.{Bool, true, false, cond}
@@ -22,6 +23,7 @@ isNumber meaning.Skipped = false
 isNumber meaning.KeyLength = false
 isNumber meaning.InitialMessageId = true
 isNumber meaning.DeactivationDelay = true
+isNumber meaning.KeyLifetime = true
 isNumber meaning.SaKey = false
 isNumber meaning.WrapKey = false
 
@@ -30,6 +32,7 @@ numberBy meaning.Skipped v = 0
 numberBy meaning.KeyLength v = 0
 numberBy meaning.InitialMessageId v = four v
 numberBy meaning.DeactivationDelay v = two v
+numberBy meaning.KeyLifetime v = four v
 numberBy meaning.SaKey v = 0
 numberBy meaning.WrapKey v = 0
 
@@ -38,6 +41,7 @@ most meaning.Skipped = 0
 most meaning.KeyLength = 0
 most meaning.InitialMessageId = 4294967295
 most meaning.DeactivationDelay = 65535
+most meaning.KeyLifetime = 4294967295
 most meaning.SaKey = 0
 most meaning.WrapKey = 0
 

@@ -57,6 +57,7 @@ valueSize meaning.Skipped n = true
 valueSize meaning.KeyLength n = eqb n 2
 valueSize meaning.InitialMessageId n = eqb n 4
 valueSize meaning.DeactivationDelay n = eqb n 2
+valueSize meaning.KeyLifetime n = eqb n 4
 valueSize meaning.SaKey n = wrappedSize n
 valueSize meaning.WrapKey n = wrappedSize n
 

@@ -20,14 +20,15 @@ use Rattle.judging.specs.declared.number6.Keys.{Keys}
 use Rattle.judging.specs.declared.number7.Seven.{Seven}
 
 -- critical, a barred Member bag, a barred D, two GSA, two KD, one without the other, neither; several Rekey policies, group-wide policies,
--- Member bags; a GSA with no SA policy; Key Length, GSA_INITIAL_MESSAGE_ID, the delay twice; the Rekey destination
+-- Member bags; a GSA with no SA policy; Key Length, GSA_INITIAL_MESSAGE_ID, the delay twice; the Rekey destination;
+-- GSA_KEY_LIFETIME twice
 abbrev pub fourOf : Exchange → PayloadFacts → PolicyFacts → BagFacts → List Bool
 fourOf row b p k =
     b .critical ∷ (not (row .members) && ltb 0 (k .members)) ∷ (not (row .deletes) && ltb 0 (b .deletes)) ∷ ltb 1 (b .gsas) ∷ ltb 1 (b .kds)
     ∷ (ltb 0 (b .gsas) && not (ltb 0 (b .kds))) ∷ (ltb 0 (b .kds) && not (ltb 0 (b .gsas)))
     ∷ (not (ltb 0 (b .gsas)) && (not (ltb 0 (b .kds)) && not (row .deletes && ltb 0 (b .deletes))))
     ∷ ltb 1 (p .rekeys) ∷ ltb 1 (p .wides) ∷ ltb 1 (k .members) ∷ (ltb 0 (b .gsas) && not (ltb 0 (p .sas)))
-    ∷ p .lengths ∷ p .ids ∷ p .delays ∷ p .elsewhere ∷ []
+    ∷ p .lengths ∷ p .ids ∷ p .delays ∷ p .elsewhere ∷ p .lifetimes ∷ []
 
 -- an AH policy, an AH bag, other transforms, D of another protocol, D with count 0, a lent key of so many octets
 abbrev pub fiveOf : Exchange → ℕ → Deletes → PolicyFacts → BagFacts → List Bool
@@ -42,11 +43,11 @@ keysBy row k = ((k .keyless || k .several) || (not (row .copies) && k .copied)) 
 abbrev pub sixOf : Exchange → BagFacts → List Name → List Name → ℕ → List Sa → List Bool
 sixOf row k l m now sas = any (isUnpaired m) l ∷ any (isUnpaired l) m ∷ any (isAnnounced now l) sas ∷ keysBy row k
 
--- ESP policies, WRAP_KEYs, SA_KEYs in a bag, deleted SPIs, SAs after the frame
+-- ESP policies, WRAP_KEYs, SA_KEYs in a bag, deleted SPIs, a lifetime, SAs after the frame
 abbrev pub sevenOf : Limits → Deletes → PolicyFacts → BagFacts → ℕ → List Bool
 sevenOf limits d p k standing =
     ltb (limits .espPolicies) (p .esps) ∷ ltb (limits .wrapKeys) (k .wraps) ∷ k .overfull ∷ ltb (limits .deletedSpis) (d .spis)
-    ∷ ltb (limits .sas) (standing + p .sas) ∷ []
+    ∷ p .long ∷ ltb (limits .sas) (standing + p .sas) ∷ []
 
 -- ---- over the facts of a frame
 abbrev pub fourBy : Exchange → Facts → List Bool
@@ -65,7 +66,7 @@ sevenBy limits x standing = sevenOf limits (x .payloads .deletion) (x .policies)
 abbrev pub fourIn : Four → List Bool
 fourIn c =
     c .critical ∷ c .«member_bag» ∷ c .delete ∷ c .«two_gsa» ∷ c .«two_kd» ∷ c .«gsa_alone» ∷ c .«kd_alone» ∷ c .neither ∷ c .rekeys ∷ c .wides
-    ∷ c .members ∷ c .«no_sa» ∷ c .lengths ∷ c .ids ∷ c .delays ∷ c .elsewhere ∷ []
+    ∷ c .members ∷ c .«no_sa» ∷ c .lengths ∷ c .ids ∷ c .delays ∷ c .elsewhere ∷ c .lifetimes ∷ []
 
 abbrev pub fiveIn : Five → List Bool
 fiveIn c = c .«ah_policy» ∷ c .«ah_bag» ∷ c .unfit ∷ c .other ∷ c .none ∷ c .key ∷ []
@@ -74,4 +75,4 @@ abbrev pub keysIn : Keys → List Bool
 keysIn c = c .count ∷ c .named ∷ c .nested ∷ c .unnamed ∷ c .itself ∷ []
 
 abbrev pub sevenIn : Seven → List Bool
-sevenIn c = c .esps ∷ c .wraps ∷ c .overfull ∷ c .spis ∷ c .sas ∷ []
+sevenIn c = c .esps ∷ c .wraps ∷ c .overfull ∷ c .spis ∷ c .long ∷ c .sas ∷ []

@@ -16,10 +16,11 @@ use Rattle.keying.proofs.walked.Statement.{statement}
 use Rattle.keying.proofs.walked.Tie as tie
 
 abbrev Inv-loop : tie.InvT-loop
-Inv-loop g k tables schedule ids block nine₀ sas₀ count₀ at₀ nine sas count at = Along g k (schedule .words) ids block at nine sas count
+Inv-loop g k tables schedule ids block tick nine₀ sas₀ count₀ at₀ nine sas count at =
+    Along g k (schedule .words) ids block tick at nine sas count
 
 abbrev μ-loop : tie.MeasureT-loop
-μ-loop g k tables schedule ids block nine₀ sas₀ count₀ at₀ nine sas count at = length g - at
+μ-loop g k tables schedule ids block tick nine₀ sas₀ count₀ at₀ nine sas count at = length g - at
 
 blank-requires : tie.Need-blank-requires Inv-loop μ-loop
 blank-requires c κs = search needs
@@ -27,8 +28,8 @@ blank-requires c κs = search needs
 loop-holds : tie.Need-loop-holds Inv-loop μ-loop
 loop-holds c =
     let s = c .before .before .before .before .before in
-    along-start (now (s .args .g)) (now (s .args .k)) (s .args .schedule .words) (now (s .args .ids)) (now (s .args .block)) _
-    (s .pre .0) refl
+    along-start (now (s .args .g)) (now (s .args .k)) (s .args .schedule .words) (now (s .args .ids)) (now (s .args .block))
+    (s .args .tick) _ (s .pre .0) refl
 
 sub-policy-parts : tie.Need-sub-policy-parts Inv-loop μ-loop
 sub-policy-parts c = search needs
@@ -88,8 +89,8 @@ with-policy-requires c κs =
     let p = here d in
     let z = c .before .before .if1 .taken in
     let a = s .args in
-    let n = along-announces (now (a .g)) (now (a .k)) (a .schedule .words) (now (a .ids)) (now (a .block)) (l .at) (l .nine) (l .sas)
-    (l .count) (l .inv) _ p z (f .0) (f .1) in (
+    let n = along-announces (now (a .g)) (now (a .k)) (a .schedule .words) (now (a .ids)) (now (a .block)) (a .tick) (l .at) (l .nine)
+    (l .sas) (l .count) (l .inv) _ p z (f .0) (f .1) in (
       p .small (λ i. t .shared-slice-known .given i .fits),
       (s .pre .1 .0, (s .pre .1 .1 .0, (s .pre .1 .1 .1 .0, (f .0, p .sa-at z .sa, n)))),
     )
@@ -99,10 +100,12 @@ says : (c : tie.After-with-policy Inv-loop μ-loop) (x : Found) → c .with-poli
     let d = c .before .before .before .before .before .before .before in
     let l = d .before .before .before .loop in
     let a = d .before .before .before .before .before .before .before .before .before .args in
-    Says (now (a .g)) (now (a .k)) (a .schedule .words) (now (a .ids)) (now (a .block)) (l .at) (l .nine) (l .sas) (l .count) (l .inv) _
-    (here d) (c .before .before .before .if1 .taken) (IsBy x (c .with-policy .result .sa))
+    Says (now (a .g)) (now (a .k)) (a .schedule .words) (now (a .ids)) (now (a .block)) (a .tick) (l .at) (l .nine) (l .sas) (l .count)
+    (l .inv) _ (here d) (c .before .before .before .if1 .taken) (IsBy (a .tick) x (c .with-policy .result .sa))
 says c x e roots entries size f b i =
-    subst (λ y. IsBy y (c .with-policy .result .sa) roots entries size f b) e (c .with-policy .ensures roots entries size f b i)
+    let d = c .before .before .before .before .before .before .before in
+    let a = d .before .before .before .before .before .before .before .before .before .args in
+    subst (λ y. IsBy (a .tick) y (c .with-policy .result .sa) roots entries size f b) e (c .with-policy .ensures roots entries size f b i)
 
 enum-told : tie.Need-enum-told Inv-loop μ-loop
 enum-told c = search needs
@@ -114,7 +117,7 @@ returns c =
     let l = d .before .before .before .loop in
     let a = d .before .before .before .before .before .before .before .before .before .args in
     let z = w .before .before .before .if1 .taken in
-    along-eight (now (a .g)) (now (a .k)) (a .schedule .words) (now (a .ids)) (now (a .block)) (l .at) (l .nine) (l .sas)
+    along-eight (now (a .g)) (now (a .k)) (a .schedule .words) (now (a .ids)) (now (a .block)) (a .tick) (l .at) (l .nine) (l .sas)
     (l .count) (l .inv) _ (here d) z
     (says w Eight (c .enum-told .given .1))
 
@@ -133,7 +136,7 @@ left w =
     let s = d .before .before .before .before .before .before .before .before .before in
     let a = s .args in
     let f = s .pre .1 .1 .1 .1 in
-    along-room (now (a .g)) (now (a .k)) (a .schedule .words) (now (a .ids)) (now (a .block)) (l .at) (l .nine) (l .sas)
+    along-room (now (a .g)) (now (a .k)) (a .schedule .words) (now (a .ids)) (now (a .block)) (a .tick) (l .at) (l .nine) (l .sas)
     (l .count) (l .inv) _ (here d) (w .before .before .before .if1 .taken) (f .0) (f .1)
 
 mul-sas : tie.Need-mul-sas Inv-loop μ-loop
@@ -156,7 +159,7 @@ loop-again c =
     let l = d .before .before .before .loop in
     let a = d .before .before .before .before .before .before .before .before .before .args in
     let z = w .before .before .before .if1 .taken in
-    along-none (now (a .g)) (now (a .k)) (a .schedule .words) (now (a .ids)) (now (a .block)) (l .at) (l .nine) (l .sas)
+    along-none (now (a .g)) (now (a .k)) (a .schedule .words) (now (a .ids)) (now (a .block)) (a .tick) (l .at) (l .nine) (l .sas)
     (l .count) (l .inv) _ (here d) z
     (says w Nothing (c .enum-told2 .given .1))
 
@@ -171,7 +174,7 @@ loop-again-2 c =
     let l = d .before .before .before .loop in
     let a = d .before .before .before .before .before .before .before .before .before .args in
     let z = w .before .before .before .if1 .taken in
-    along-sa (now (a .g)) (now (a .k)) (a .schedule .words) (now (a .ids)) (now (a .block)) (l .at) (l .nine) (l .sas)
+    along-sa (now (a .g)) (now (a .k)) (a .schedule .words) (now (a .ids)) (now (a .block)) (a .tick) (l .at) (l .nine) (l .sas)
     (l .count) (l .inv) _ (here d) z
     (w .with-policy .result .sa) (left w) (says w Key (c .before .enum-told3 .given .1))
 
@@ -183,7 +186,7 @@ loop-again-3 c =
     let d = c .before .before .before .before in
     let l = d .before .before .before .loop in
     let a = d .before .before .before .before .before .before .before .before .before .args in
-    along-wide (now (a .g)) (now (a .k)) (a .schedule .words) (now (a .ids)) (now (a .block)) (l .at) (l .nine) (l .sas)
+    along-wide (now (a .g)) (now (a .k)) (a .schedule .words) (now (a .ids)) (now (a .block)) (a .tick) (l .at) (l .nine) (l .sas)
     (l .count) (l .inv) _ (here d) (c .if1 .left)
 
 found-by-requires : tie.Need-found-by-requires Inv-loop μ-loop
@@ -193,7 +196,7 @@ returns-2 : tie.Need-returns-2 Inv-loop μ-loop
 returns-2 c =
     let l = c .before .before .loop in
     let a = c .before .before .before .before .before .before .before .before .args in
-    along-end (now (a .g)) (now (a .k)) (a .schedule .words) (now (a .ids)) (now (a .block)) (l .at) (l .nine) (l .sas)
+    along-end (now (a .g)) (now (a .k)) (a .schedule .words) (now (a .ids)) (now (a .block)) (a .tick) (l .at) (l .nine) (l .sas)
     (l .count) (l .inv) (c .found-by .result) (c .found-by .ensures) (c .before .loop-test .left)
 
 pub walked-spec : {M : Type 1} → statement M

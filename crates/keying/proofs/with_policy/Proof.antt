@@ -1,7 +1,8 @@
 use denote.Ref.{now}
 use native.Mathlib.Omega.{arith}
+use Rattle.attributes.specs.Place.{inPolicy}
 use Rattle.keying.specs.inner.Policies.{Sized}
-use Rattle.keying.proofs.OnePolicy.{few-octets, one-bag, needs-are, need-is, sizes-are}
+use Rattle.keying.proofs.OnePolicy.{few-octets, one-bag, lifetime-there, lifetime-of, named-with, need-is, sizes-are}
 use borrow.Author.Needs.{needs}
 use Rattle.keying.proofs.with_policy.Statement.{statement}
 use Rattle.keying.proofs.with_policy.Tie as tie
@@ -11,7 +12,7 @@ needs-requires c κs =
     let p = c .before .before .before .before .before .pre in
     let a = p .1 .1 .1 .1 .2 in
     let n = p .0 in
-    (omega arith, (a .place, a .body, a .is))
+    (omega arith, (inPolicy (c .before .before .before .before .before .args .protocol), a .body, a .is))
 
 -- the sizes of the parts that its transforms need
 sized : (c : tie.After-needs) → let s = c .before .before .before .before .before .before .args in
@@ -21,7 +22,7 @@ sized c =
     let p = s .pre .1 .1 .1 .1 in
     let h = p .2 in
     sizes-are (now (s .args .k)) (s .args .protocol) (now (s .args .spi)) (now (s .args .x)) (p .0) (p .1) h (c .needs .result)
-    (c .needs .ensures (h .place) (h .body) (h .is))
+    (c .needs .ensures (inPolicy (s .args .protocol)) (h .body) (h .is))
 
 add-opened : tie.Need-add-opened
 add-opened c = let h = few-octets _ _ _ _ (sized c) in record { fits = omega arith }
@@ -38,23 +39,32 @@ opened-requires c κs =
       ),
     )
 
+of-policy-requires : tie.Need-of-policy-requires
+of-policy-requires c κs =
+    let s = c .before .before .before .before .before .before .before in
+    let q = s .pre .1 .1 .1 .1 in
+    lifetime-there (now (s .args .k)) (s .args .protocol) (now (s .args .spi)) (now (s .args .x)) (q .0) (q .1) (q .2)
+
 one-sa-requires : tie.Need-one-sa-requires
-one-sa-requires c κs = sized (c .before)
+one-sa-requires c κs = sized (c .before .before)
 
 returns : tie.Need-returns
 returns c roots entries size f a i =
-    let s = c .before .before .before .before .before .before .before .before .args in
-    let n = c .before .before .needs in
+    let d = c .before in
+    let s = d .before .before .before .before .before .before .before .before .args in
+    let n = d .before .before .needs in
     let h = i .stands in
-    let is = n .ensures (h .place) (h .body) (h .is) in
-    let name = needs-are (now (s .k)) (s .protocol) (now (s .spi)) (now (s .x)) f a h (n .result) is in
+    let is = n .ensures (inPolicy (s .protocol)) (h .body) (h .is) in
+    let t = d .of-policy in
+    let lasts = lifetime-of (now (s .k)) (s .protocol) (now (s .spi)) (now (s .x)) f a h (t .result) (s .tick) (t .ensures) in
+    let name = named-with (now (s .k)) (s .protocol) (now (s .spi)) (now (s .x)) f a h (n .result) is (t .result) (s .tick) lasts in
     let need = need-is (now (s .k)) (s .protocol) (now (s .spi)) (now (s .x)) f a h (n .result) is in
-    c .one-sa .ensures roots entries size f a
+    c .one-sa .ensures (s .tick) roots entries size f a
     (record {
       name = name;
-      answers = c .before .opened .ensures roots entries size f a (i .opening) (h .bags) (h .protocol-is) (h .spi-is) need;
+      answers = d .before .opened .ensures roots entries size f a (i .opening) (h .bags) (h .protocol-is) (h .spi-is) need;
     })
 
 pub with-policy-spec : {M : Type 1} → statement M
 with-policy-spec =
-    tie.close (tie.spec needs-requires add-opened opened-requires one-sa-requires returns)
+    tie.close (tie.spec needs-requires add-opened opened-requires of-policy-requires one-sa-requires returns)

@@ -12,7 +12,7 @@ use Rattle.contents.specs.inner.Policies.{policiesIn}
 use Rattle.contents.specs.inner.Bags.{bagsIn}
 use Rattle.sa.specs.declared.entry.Sa.{Sa}
 use Rattle.clauses.specs.Contents.{policiesOf, bagsOf, announced}
-use Rattle.clauses.specs.Number4.{keyLengthTwice}
+use Rattle.clauses.specs.Number4.{keyLengthTwice, lifetimeTwice}
 use Rattle.clauses.specs.Number5.{otherTransforms}
 use Rattle.clauses.specs.Number6.{policyUnpaired}
 use Rattle.chains.specs.Chain.{In, Root, CopyOpens}
@@ -23,12 +23,14 @@ use Rattle.keying.specs.declared.joining.Found.{Found}
 use Rattle.keying.specs.declared.joining.Found.the-variants as found
 use Rattle.keying.specs.declared.joining.Keyed.{Keyed}
 
--- A frame with this GSA body and this KD body, and what is known of it after numbers 4 to 7: no Key Length twice in one place; transforms
--- that are exactly those of document 01, so no AH policy; one bag for each policy; no more SAs than a table holds
+-- A frame with this GSA body and this KD body, and what is known of it after numbers 4 to 7: no Key Length and no
+-- GSA_KEY_LIFETIME twice in one place; transforms that are exactly those of document 01, so no AH policy; one bag for each policy; no
+-- more SAs than a table holds
 pub record Ready (f : Frame) (g k : List ℕ) : Type 0 where
   pub policies : policiesOf f ≡ policiesIn g
   pub bags : bagsOf f ≡ bagsIn k
   pub lengths : keyLengthTwice f ≡ false
+  pub lifetimes : lifetimeTwice f ≡ false
   pub transforms : otherTransforms f ≡ false
   pub paired : policyUnpaired f ≡ false
   pub room : length (announced f) ≤ limits .sas
@@ -55,15 +57,15 @@ module _ (roots : List Root) (entries : List WrapKey) (size : ℕ) (f : Frame) (
     pub stands : In sa l
     pub none : (x : List ℕ) → CopyOpens roots entries size (copiesOf f sa) x → ⊥
 
-  -- "each is judged only when the lower ones don't apply"
-  abbrev pub KeysOf : Found → List Sa → ℕ → Type 0
-  KeysOf found.Eight sas count = SomeEight
-  KeysOf found.Nine sas count = NoEight × SomeUnopened
-  KeysOf found.Keys sas count = NoEight × Enter roots entries size f l (take count sas) × (count ≡ length l)
+  -- "each is judged only when the lower ones don't apply"; the SAs start at a tick
+  abbrev pub KeysOf : ℕ → Found → List Sa → ℕ → Type 0
+  KeysOf tick found.Eight sas count = SomeEight
+  KeysOf tick found.Nine sas count = NoEight × SomeUnopened
+  KeysOf tick found.Keys sas count = NoEight × Enter roots entries size tick f l (take count sas) × (count ≡ length l)
 
-  abbrev pub KeysIn : Keyed → Type 0
-  KeysIn r = KeysOf (r .found) (r .sas) (r .count)
+  abbrev pub KeysIn : ℕ → Keyed → Type 0
+  KeysIn tick r = KeysOf tick (r .found) (r .sas) (r .count)
 
 -- ---- of all that it announces: the first SAs of the answer are the new ones, one for each, in the frame's order
-abbrev pub KeyedBy : List Root → List WrapKey → ℕ → Frame → Keyed → Type 0
-KeyedBy roots entries size f r = KeysIn roots entries size f (announced f) r
+abbrev pub KeyedBy : List Root → List WrapKey → ℕ → Frame → ℕ → Keyed → Type 0
+KeyedBy roots entries size f tick r = KeysIn roots entries size f (announced f) tick r

@@ -56,7 +56,7 @@ pub record Bodied (e : Exchange) (m : State) (now : ℕ) (lent s : List ℕ) (x 
 pub record Opened (m : State) (now : ℕ) (lent s : List ℕ) (x : Facts) (keyed : Keyed) (held : Held) (f : Frame) : Type 0 where
   pub passed : Passed m now lent s x f
   pub entries : EntriesEight (rootsOf limits m now lent f) (entriesOf f) (wrappingSize limits m now lent f) → ⊥
-  pub keys : KeyedBy (rootsOf limits m now lent f) (entriesOf f) (wrappingSize limits m now lent f) f keyed
+  pub keys : KeyedBy (rootsOf limits m now lent f) (entriesOf f) (wrappingSize limits m now lent f) f now keyed
   pub held-is :
       HeldBy (rowOf f .registers) (HeldAre (rootsOf limits m now lent f) (entriesOf f) (wrappingSize limits m now lent f) limits held)
       (held ≡ m .held)

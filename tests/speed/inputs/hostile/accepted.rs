@@ -1,6 +1,7 @@
-//! Frames that are accepted: each brings ESP SAs and deletes those before, behind thousands of the smallest structures.
+//! Frames that are accepted: each brings ESP SAs and deletes those before, behind thousands of the smallest structures. To a full table
+//! none come, and what is deleted is not there.
 
-use super::Situation::{ManyEsps, OneEsp};
+use super::Situation::{Full, ManyEsps, OneEsp};
 use super::{accepted, fill_front, fill_part, Hostile, GSA_AT, KD_AT, MOST_ESP_POLICIES};
 use crate::group::{announce, Group};
 use builder::typical::*;
@@ -26,6 +27,9 @@ pub const TABLE: &[Hostile] = &[
         let sas = (first..first + MOST_ESP_POLICIES).map(|spi| group.esp_sa(spi)).collect();
         let before = (first - MOST_ESP_POLICIES..first).chain(0x7700_0000..0x7700_0008);
         fill_front(group.rekey([announce(sas), before.map(deleted).collect()].concat()))
+    }),
+    accepted("accepted-32-deletes-full-table", Full, |group, _| {
+        fill_front(group.rekey((0x7700_0000..0x7700_0020).map(deleted).collect()))
     }),
 ];
 

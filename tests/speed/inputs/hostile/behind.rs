@@ -1,7 +1,7 @@
 //! What a frame is judged by stands behind thousands of the smallest structures, for members that look for each thing from the start.
 
-use super::{closed, closed_esp, fill_front, fill_part, new, registered, registration, rekey_sa, Hostile, GSA_AT, KD_AT};
-use super::{last_held, MOST_ESP_POLICIES, MOST_HELD};
+use super::{closed, closed_esp, fill, fill_front, fill_part, new, registered, registration, rekey_sa, skipped, Hostile};
+use super::{last_held, GSA_AT, KD_AT, MOST_ESP_POLICIES, MOST_HELD};
 use crate::group::{announce, Group, Sa};
 use builder::typical::*;
 use builder::{Attribute, Frame, Part, Payload};
@@ -31,6 +31,13 @@ pub const TABLE: &[Hostile] = &[
         let mut frame = rekey(group);
         frame.payloads[GSA_AT].parts()[SAS - 1].attributes.push(initial_message_id(7));
         fill_part(frame, KD_AT, SAS - 1)
+    }),
+    registered(9, "esp-bags-behind-attributes", |group| {
+        let frame = rekey(group);
+        fill(frame, 4 * MOST_ESP_POLICIES as usize, |frame, count| {
+            let bags = &mut frame.payloads[KD_AT].parts()[..MOST_ESP_POLICIES as usize];
+            bags.iter_mut().for_each(|bag| drop(bag.attributes.splice(0..0, vec![skipped(); count])));
+        })
     }),
     registered(9, "deletes-behind-payloads", |group| {
         let mut frame = rekey(group);

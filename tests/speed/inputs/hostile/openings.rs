@@ -11,6 +11,10 @@ use builder::{Attribute, Frame, Part, ESP};
 pub const TABLE: &[Hostile] = &[
     new(9, "entries-closed", |_| with_longest_entries(|id, _| closed(id, 0))),
     new(9, "entries-in-a-chain", |group| with_closed_copies(chain(group, MOST_HELD))),
+    new(9, "entries-in-a-chain-alone", |group| {
+        let sas = vec![rekey_sa(vec![Attribute::key(0, 0, &super::closed())])];
+        with_entries(sas, chain(group, MOST_HELD))
+    }),
     new(9, "entries-half-in-a-chain", |group| {
         let closed = (1..=16).map(|id| closed(id, 0)).collect();
         let entries = [closed, chain(group, MOST_HELD - 16)].concat();

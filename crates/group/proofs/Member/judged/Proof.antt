@@ -27,7 +27,7 @@ answer-of-requires c κs =
     let a = b .args in
     let p = b .pre in
     let n = refused-so _ _ (m .0 .0) (sym (m .1) ∙ r .ensures (p .0) (p .1)) in
-    judged-numbered (a .self .state) (a .tick) (now (a .lent)) (p .0) _ _
+    judged-numbered (a .self .state) (a .tick) (now (a .lent)) (p .0) (now (a .s)) (p .1) _ _
     (judged-clauses (a .self .state) (a .tick) (now (a .lent)) (p .0) (m .0 .0) (n .0) (λ z. n .1 (sym (n .0) ∙ z)))
 
 refused-requires : tie.Need-refused-requires
@@ -57,7 +57,8 @@ returns c =
     let a = d .before .before .before .before .before .before .before .args in
     λ f q.
     let n = refused-so _ _ (m .0 .0) (sym (m .1) ∙ r .ensures f q) in
-    judged-as (a .self .state) (a .tick) (now (a .lent)) f _ _ _ _ (ap numberOf (e .0) ∙ c .before .answer-of .ensures) (ap (λ (x : Member). x .state) (e .1))
+    judged-as (a .self .state) (a .tick) (now (a .lent)) f _ _ _ _ (ap numberOf (e .0) ∙ c .before .answer-of .ensures)
+    (ap (λ (x : Member). x .state) (e .1))
     (judged-clauses (a .self .state) (a .tick) (now (a .lent)) f (m .0 .0) (n .0) (λ z. n .1 (sym (n .0) ∙ z)))
 
 returns-2 : tie.Need-returns-2

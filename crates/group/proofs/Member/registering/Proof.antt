@@ -12,7 +12,8 @@ answered-requires c κs =
     let b = c .before .before .before .before in
     let a = b .args in
     let p = b .pre in
-    judged-numbered (a .self .state) (a .tick) (now (a .lent)) (p .0) _ _ (c .registered .ensures (p .0) (p .1) (p .2))
+    judged-numbered (a .self .state) (a .tick) (now (a .lent)) (p .0) (now (a .s)) (p .1 .whole-is) _ _
+    (c .registered .ensures (p .0) (p .1) (p .2))
 
 returns : tie.Need-returns
 returns c =

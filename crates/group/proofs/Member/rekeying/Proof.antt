@@ -1,3 +1,4 @@
+use denote.Ref.{now}
 use Rattle.group.proofs.ReceiveLaws.{judged-numbered, judged-as}
 use borrow.Author.Needs.{needs}
 use Rattle.group.proofs.Member.rekeying.Statement.{statement}
@@ -11,7 +12,8 @@ answered-requires c κs =
     let b = c .before .before .before in
     let a = b .args in
     let p = b .pre in
-    judged-numbered (a .self .state) (a .tick) (p .1) (p .0) _ _ (c .rekeyed .ensures (p .0) (p .1) (p .2) (p .3))
+    judged-numbered (a .self .state) (a .tick) (p .1) (p .0) (now (a .s)) (p .2 .whole-is) _ _
+    (c .rekeyed .ensures (p .0) (p .1) (p .2) (p .3))
 
 returns : tie.Need-returns
 returns c =

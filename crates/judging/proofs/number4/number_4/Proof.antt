@@ -13,7 +13,7 @@ returns : tie.Need-returns
 unfolding joined joinedTo
 returns c =
     let a = c .before .before .before .before .before .before .before .before in
-    let r = a .before .before .before .before .before .before .before .clauses-4 in
+    let r = a .before .before .before .before .before .before .before .before .clauses-4 in
     joined-is (fourIn (r .result)) ∙ ap one (r .ensures)
 
 pub number-4-spec : {M : Type 1} → statement M

@@ -30,13 +30,13 @@ esp-requires c κs =
     (p .0, esp-small (s .args .t5) n (s .args .encryption) (p .1) (c .new .result) (c .new .ensures))
 
 returns : tie.Need-returns
-returns c a h =
+returns c tick a h =
     let s = c .before .before .before .before .before .before in
     let n : length (s .args .t5) ≡ 68 = search needs in
     let t = c .before .before .before .before .if1 .taken in
     let p = s .pre .esp t in
-    esp-from (s .args .t5) n (s .args .encryption) (p .1) (c .before .new .result) (c .before .new .ensures) a (s .args .protocol)
-    (s .args .spi .now) (s .args .wrapping) (c .esp .result) (c .esp .ensures) t (p .2) h
+    esp-from (s .args .t5) n (s .args .encryption) (p .1) (c .before .new .result) (c .before .new .ensures)
+    (s .args .lifetime) tick a (s .args .protocol) (s .args .spi .now) (s .args .wrapping) (c .esp .result) (c .esp .ensures) t (p .2) h
 
 add-all : tie.Need-add-all
 add-all c =
@@ -67,13 +67,13 @@ rekey-requires c κs =
     (p .0, rekey-small (s .args .t5) n (s .args .encryption) (s .args .wrapping) (p .1) (c .new2 .result) (c .new2 .ensures))
 
 returns-2 : tie.Need-returns-2
-returns-2 c a h =
+returns-2 c tick a h =
     let s = c .before .before .before .before .before .before in
     let n : length (s .args .t5) ≡ 68 = search needs in
     let t = c .before .before .before .before .if1 .left in
     let p = s .pre .rekey t in
-    rekey-from (s .args .t5) n (s .args .encryption) (s .args .wrapping) (p .1) (c .before .new2 .result) (c .before .new2 .ensures) a
-    (s .args .protocol) (s .args .spi .now) (c .rekey .result) (c .rekey .ensures) t h
+    rekey-from (s .args .t5) n (s .args .encryption) (s .args .wrapping) (p .1) (c .before .new2 .result) (c .before .new2 .ensures)
+    (s .args .lifetime) tick a (s .args .protocol) (s .args .spi .now) (c .rekey .result) (c .rekey .ensures) t h
 
 pub sa-from-spec : {M : Type 1} → statement M
 sa-from-spec =

@@ -8,14 +8,14 @@ use Rattle.reached.proofs.entries.entry.Tie as tie
 sub-wrapped : tie.Need-sub-wrapped
 sub-wrapped c = search needs
 
+sub-start : tie.Need-sub-start
+sub-start c = search needs
+
 be32-at-requires : tie.Need-be32-at-requires
 be32-at-requires c κs = search needs
 
 be32-at-requires-2 : tie.Need-be32-at-requires-2
 be32-at-requires-2 c κs = search needs
-
-sub-start : tie.Need-sub-start
-sub-start c = search needs
 
 returns : tie.Need-returns
 returns c = search (needs, entry-is)

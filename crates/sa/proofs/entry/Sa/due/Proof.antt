@@ -1,35 +1,22 @@
-use Rattle.sa.proofs.Laws.{due-live, due-retiring}
+use mathlib.Core.Path.{sym, _∙_}
+use Rattle.sa.specs.Entry.{due}
 use borrow.Author.Needs.{needs}
 use Rattle.sa.proofs.entry.Sa.due.Statement.{statement}
 use Rattle.sa.proofs.entry.Sa.due.Tie as tie
 
-enum-told : tie.Need-enum-told
-enum-told c = search needs
-
-enum-known-c : tie.Need-enum-known-c
-enum-known-c c = search needs
-
-cast-elapsed-at-least : tie.Need-cast-elapsed-at-least
-cast-elapsed-at-least c = search needs
-
-elapsed-at-least-requires : tie.Need-elapsed-at-least-requires
-elapsed-at-least-requires c κs = search needs
+delay-passed-requires : tie.Need-delay-passed-requires
+delay-passed-requires c κs = search needs
 
 returns : tie.Need-returns
-returns c = let a = c .before .before .args in due-live (a .self) (a .now) (c .enum-told .given .1)
+unfolding due
+returns c = rw (sym (c .before .delay-passed .ensures) ∙ c .if1 .taken)
+
+ran-out-requires : tie.Need-ran-out-requires
+ran-out-requires c κs = search needs
 
 returns-2 : tie.Need-returns-2
-returns-2 c =
-    let a = c .before .before .before .before .args in
-    due-retiring (a .self) (a .now) _ _ _ (c .before .before .c .given .1) (c .elapsed-at-least .ensures)
+unfolding due
+returns-2 c = rw (sym (c .before .before .delay-passed .ensures) ∙ c .before .if1 .left) (c .ran-out .ensures)
 
 pub due-spec : {M : Type 1} → statement M
-due-spec =
-    tie.close
-    (tie.spec
-    enum-told
-    enum-known-c
-    cast-elapsed-at-least
-    elapsed-at-least-requires
-    returns
-    returns-2)
+due-spec = tie.close (tie.spec delay-passed-requires returns ran-out-requires returns-2)

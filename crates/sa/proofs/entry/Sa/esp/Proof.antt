@@ -34,7 +34,7 @@ returns : tie.Need-returns
 returns c =
     let a = c .before .before .before .before .before .before .before .before .before .before .before .args in
     c .built .ensures ∙ esp-made (a .spi .now) _ _ (a .key) (c .before .before .before .before .before .before .before .copy .ensures .1)
-    (c .before .before .copy2 .ensures .1)
+    (c .before .before .copy2 .ensures .1) (a .lifetime)
 
 pub esp-spec : {M : Type 1} → statement M
 esp-spec =

@@ -1,43 +1,22 @@
-use native.Mathlib.Omega.{arith}
-use mathlib.Core.Path.{sym, refl, _∙_}
-use borrow.Author.Tests.{eq-eqb, ne-eqb}
-use Rattle.keys.proofs.Sizes.{rekey-le}
+use mathlib.Core.Path.{sym, _∙_}
 use Rattle.sa.specs.Entry.{formed}
-use Rattle.sa.proofs.Laws.{formed-rekey}
 use borrow.Author.Needs.{needs}
 use Rattle.sa.proofs.entry.Sa.formed.Statement.{statement}
 use Rattle.sa.proofs.entry.Sa.formed.Tie as tie
 
-is-size-requires : tie.Need-is-size-requires
-is-size-requires c κs = search needs
+sized-requires : tie.Need-sized-requires
+sized-requires c κs = search needs
+
+fit-lifetime-requires : tie.Need-fit-lifetime-requires
+fit-lifetime-requires c κs = search needs
 
 returns : tie.Need-returns
 unfolding formed
-returns c = rw (eq-eqb _ _ (c .before .if1 .taken)) (c .is-size .ensures)
+returns c = rw (sym (c .before .before .sized .ensures) ∙ c .before .if1 .taken) (c .fit-lifetime .ensures)
 
 returns-2 : tie.Need-returns-2
 unfolding formed
-returns-2 c = simp (ne-eqb _ _ (c .before .before .if1 .left), ne-eqb _ _ (c .if2 .taken))
-
-are-sizes-requires : tie.Need-are-sizes-requires
-are-sizes-requires c κs = search needs
-
-add-result : tie.Need-add-result
-add-result c = let b = rekey-le _ _ (sym (c .before .are-sizes .ensures) ∙ c .if3 .taken) in record { fits = omega arith }
-
-returns-3 : tie.Need-returns-3
-returns-3 c =
-    formed-rekey (c .before .before .before .before .before .before .before .args .self) _
-    (c .before .before .before .before .before .if1 .left) (c .before .before .before .if2 .left)
-    (sym (c .before .before .are-sizes .ensures) ∙ c .before .if3 .taken) refl
-
-returns-4 : tie.Need-returns-4
-unfolding formed
-returns-4 c =
-    let e = sym (c .before .are-sizes .ensures) ∙ c .if3 .left in
-    simp (ne-eqb _ _ (c .before .before .before .before .if1 .left), eq-eqb _ _ (c .before .before .if2 .left), e)
+returns-2 c = rw (sym (c .before .sized .ensures) ∙ c .if1 .left)
 
 pub formed-spec : {M : Type 1} → statement M
-formed-spec =
-    tie.close
-    (tie.spec is-size-requires returns returns-2 are-sizes-requires add-result returns-3 returns-4)
+formed-spec = tie.close (tie.spec sized-requires fit-lifetime-requires returns returns-2)

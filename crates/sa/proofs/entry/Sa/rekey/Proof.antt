@@ -21,7 +21,7 @@ built-requires c κs = search needs
 returns : tie.Need-returns
 returns c =
     let a = c .before .before .before .before .before .before .args in
-    c .built .ensures ∙ rekey-made (a .spi .now) _ (a .key) (c .before .before .copy .ensures .1)
+    c .built .ensures ∙ rekey-made (a .spi .now) _ (a .key) (c .before .before .copy .ensures .1) (a .lifetime)
 
 pub rekey-spec : {M : Type 1} → statement M
 rekey-spec =

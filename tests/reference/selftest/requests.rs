@@ -1,0 +1,136 @@
+//! What document 02's requests ask for.
+
+use crate::*;
+use reference::member::{Answer, Lifetime};
+
+/// T-09: an entry whose Key ID equals its KWK ID gives 6, reached or not.
+#[test]
+fn keys_that_wrap_themselves() {
+    let (five, nine, other) = ([5; 16], [9; 16], [6; 16]);
+    let reached = || entry(5, &five, 0, &LENT);
+    for itself in [entry(5, &five, 5, &five), entry(5, &other, 5, &five), entry(9, &nine, 9, &nine), entry(5, &five, 5, &LENT)] {
+        for entries in [vec![itself.clone()], vec![reached(), itself.clone()], vec![itself.clone(), reached()]] {
+            let mut member = Member::new();
+            assert_eq!(take(&mut member, &LENT, 0, &registration(entries.clone(), vec![]).octets()), 6);
+            assert_eq!(take(&mut member, &[0x11; 28], 0, &registration(entries, vec![]).octets()), 5);
+            assert_eq!(member, Member::new());
+        }
+    }
+}
+
+/// T-02: over the member's own channel, under the lent key alone. The SPIs, the Message ID and the held keys are not asked for.
+#[test]
+fn rekeys_over_the_own_channel() {
+    let esp = |spi: u32, kwk: &[u8]| {
+        let copy = Attribute::key(0, 0, &wrap(kwk, &keying(20)));
+        vec![gsa(vec![esp_policy(&spi.to_be_bytes(), 128)]), kd(vec![bag(ESP, &spi.to_be_bytes(), vec![copy])])]
+    };
+    let next = |copies: &[(u32, &[u8])]| {
+        let copies = copies.iter().map(|(id, kwk)| Attribute::key(0, *id, &wrap(kwk, &keying(36)))).collect();
+        vec![gsa(vec![rekey_policy(&[7; 16], 128, 1)]), kd(vec![bag(REKEY, &[7; 16], copies)])]
+    };
+    let inband = |payloads| frame(GSA_INBAND_REKEY, &[0; 16], u32::MAX, payloads).octets();
+    let five = [5; 16];
+    let mut member = Member::new();
+    assert_eq!(take(&mut member, &LENT, 0, &inband(esp(1, &LENT))), 2);
+    assert_eq!(
+        take(&mut member, &LENT, 0, &registration(vec![entry(5, &five, 0, &LENT)], vec![initial_message_id(9)]).octets()),
+        0
+    );
+    let before = member.clone();
+    let refused = [
+        (4, [esp(1, &LENT), vec![delete(&[vec![0, 0, 0, 1]])]].concat()),
+        (4, vec![delete(&[vec![0, 0, 0, 1]])]),
+        (4, vec![gsa(vec![]), kd(vec![Part::unnamed(vec![])])]),
+        (6, next(&[(0, &LENT), (0, &LENT)])),
+        (9, next(&[(5, &five)])),
+        (9, next(&[(5, &LENT)])),
+        (9, esp(1, &keying(36)[20..])),
+    ];
+    for (number, payloads) in refused {
+        assert_eq!(take(&mut member, &LENT, 0, &inband(payloads)), number);
+    }
+    assert_eq!(take(&mut member, &[0x11; 20], 0, &inband(esp(1, &LENT))), 5);
+    assert_eq!(member, before);
+    assert_eq!(take(&mut member, &LENT, 0, &inband(esp(1, &LENT))), 0);
+    assert_eq!((member.table.len(), member.least_id, held_ids(&member)), (2, Some(9), vec![5]));
+    assert_eq!(take(&mut member, &LENT, 0, &inband(next(&[(0, &LENT)]))), 0);
+    assert_eq!((member.table.len(), member.least_id, held_ids(&member)), (3, Some(0), vec![5]));
+}
+
+/// What only callers of the library meet: at a tick at which every SA is due the member is empty, and a broken value is 2.
+#[test]
+fn over_the_own_channel_of_no_member() {
+    let frame = frame(GSA_INBAND_REKEY, &[0; 16], 0, esp_sas(&[2])).octets();
+    let mut due = Member { table: vec![retiring_sa(0, 1)], ..Member::new() };
+    assert_eq!(take(&mut due, &keying(36)[20..], 1000, &frame), 2);
+    assert_eq!(take(&mut due, &keying(36)[20..], 999, &frame), 0);
+    let mut broken = Member { held: vec![(0, vec![0; 16])], ..registered(vec![]) };
+    assert_eq!(take(&mut broken, &keying(36)[20..], 0, &frame), 2);
+}
+
+/// T-06: the offset of a broken layout; a refusal by another number, and acceptance, carry 0. Transcript `where` has each place.
+#[test]
+fn offsets() {
+    let mut octets = registration(vec![], vec![]).octets();
+    let answer = |octets: &[u8], lent: &[u8]| Member::new().take(lent, 0, octets);
+    assert_eq!(answer(&octets, &LENT), Answer { number: 0, offset: 0 });
+    assert_eq!(answer(&octets, &[]), Answer { number: 5, offset: 0 });
+    octets[52] = 9; // the type of the source selector
+    assert_eq!(answer(&octets, &LENT), Answer { number: 1, offset: 52 });
+    octets[32] = 9; // the protocol of its policy
+    assert_eq!(answer(&octets, &LENT), Answer { number: 1, offset: 32 });
+    octets.pop();
+    assert_eq!(answer(&octets, &LENT), Answer { number: 1, offset: 0 });
+}
+
+fn running_sa(start: u32, seconds: u32) -> Sa {
+    Sa { condition: Condition::Live, lifetime: Some(Lifetime { start, seconds }), ..retiring_sa(0, 0) }
+}
+
+/// T-07: a lifetime runs by the same rule, whichever comes first; up to 2,000,000 seconds are part of what a member is.
+#[test]
+fn lifetimes_run_out() {
+    let sa = running_sa(4_294_967_000, 1);
+    assert!(!sa.is_due(703) && sa.is_due(704) && sa.is_due(4_294_966_999));
+    assert!(running_sa(77, 0).is_due(77) && running_sa(77, 0).is_due(76));
+    let longest = running_sa(5, 2_000_000);
+    assert!(longest.is_due(4), "nearly a whole round has gone by");
+    assert!(!longest.is_due(2_000_000_004) && longest.is_due(2_000_000_005) && !longest.is_due(5));
+    let both = |delay: u16, seconds: u32| Sa { lifetime: running_sa(1000, seconds).lifetime, ..retiring_sa(1500, delay) };
+    assert!(!both(1, 9).is_due(2499) && both(1, 9).is_due(2500), "the delay first");
+    assert!(!both(9, 1).is_due(1999) && both(9, 1).is_due(2000), "the lifetime first");
+    for (seconds, whole) in [(0, true), (2_000_000, true), (2_000_001, false), (u32::MAX, false)] {
+        let value = Member { table: vec![running_sa(0, seconds)], ..Member::new() };
+        let mut member = value.clone();
+        assert_eq!(member.is_whole(), whole);
+        assert_eq!(member.sa(ESP, &[0, 0, 0, 1]).is_some(), whole);
+        member.sweep(u32::MAX);
+        assert_eq!(member == Member::new(), whole);
+    }
+}
+
+/// T-07: a rekey over a Rekey SA that ran out gives 2, swept or not; a member whose SAs all ran out may register anew.
+#[test]
+fn rekey_sa_that_ran_out() {
+    let lifetime = |seconds: u32| Attribute::long(1, &seconds.to_be_bytes());
+    let frame = registration(vec![], vec![lifetime(2), initial_message_id(7)]).octets();
+    let mut member = Member::new();
+    assert_eq!(take(&mut member, &LENT, 100, &frame), 0);
+    assert_eq!(take(&mut member, &[], 2099, &rekey(7, vec![delete(&[vec![0; 4]])]).octets()), 0);
+    assert_eq!(take(&mut member, &LENT, 2099, &frame), 2);
+    let over = rekey(8, vec![delete(&[vec![0; 4]])]).octets();
+    let mut swept = member.clone();
+    swept.sweep(2100);
+    assert_eq!(swept.table, []);
+    assert_eq!(take(&mut swept, &[], 2100, &over), 2);
+    assert_eq!(take(&mut member, &[], 2100, &over), 2);
+    assert_eq!((member.table.len(), member.least_id), (1, Some(8)));
+    assert_eq!(take(&mut member, &LENT, 2100, &frame), 0);
+    assert_eq!(member.table[0].lifetime, Some(Lifetime { start: 2100, seconds: 2 }));
+    let mut too_long = Member::new();
+    assert_eq!(take(&mut too_long, &LENT, 0, &registration(vec![], vec![lifetime(2_000_001)]).octets()), 7);
+    assert_eq!(take(&mut too_long, &LENT, 0, &registration(vec![], vec![lifetime(1), lifetime(1)]).octets()), 4);
+    assert_eq!(take(&mut too_long, &LENT, 0, &registration(vec![], vec![Attribute::Short(1, 1)]).octets()), 1);
+    assert_eq!(take(&mut too_long, &LENT, 0, &registration(vec![], vec![lifetime(2_000_000)]).octets()), 0);
+}
