@@ -15,14 +15,15 @@ use Rattle.keys.proofs.Cases.{bool-cases}
 use Rattle.frames.specs.Header.{firstPayload}
 use Rattle.frames.specs.Delete.{Delete, deleteOf, deleteFits}
 use Rattle.frames.specs.Frame.{Payload, isKnown, payloads, exactly}
-use Rattle.contents.specs.inner.Values.{isWhole}
+use Rattle.contents.specs.inner.Values.{nowhere, isWhole}
 use Rattle.contents.specs.inner.Payloads.{payloadsIn}
 use Rattle.contents.specs.declared.Stretch.{Stretch}
 use Rattle.contents.specs.declared.payload.PayloadParts.{PayloadParts}
 use Rattle.clauses.specs.Number4.{unknownCritical}
 use Rattle.clauses.proofs.OneOf.{or-false, or-joined}
-use Rattle.payloads.specs.inner.Places.{nowhere, bodyFrom, bodyOf}
-use Rattle.payloads.specs.inner.Deletion.{once, withOne, deletesWith, deletesAmong}
+use Rattle.payloads.specs.inner.Places.{bodyFrom, bodyOf}
+use Rattle.contents.specs.inner.Values.{once}
+use Rattle.payloads.specs.inner.Deletion.{withOne, deletesWith, deletesAmong}
 use Rattle.payloads.specs.inner.Facts.{payloadsOf, ofKind, factsOf, noPayloads, firstWith, withPayload, Room, Grown}
 use Rattle.payloads.specs.declared.deletion.Deletes.{Deletes}
 use Rattle.payloads.specs.declared.PayloadFacts.{PayloadFacts}
