@@ -158,7 +158,8 @@ module _ (s : List ℕ) where
       }
 
       -- one step of the fuel is used
-      sought : (v n m : ℕ) (x y : Stretch) → (kind ≡ 0 → ⊥) → m ≡ n + once (eqb kind v) → y ≡ firstWith (eqb kind v) n (record { start = at + 4; end = at + r .end }) x
+      sought : (v n m : ℕ) (x y : Stretch) → (kind ≡ 0 → ⊥) → m ≡ n + once (eqb kind v) →
+          y ≡ firstWith (eqb kind v) n (record { start = at + 4; end = at + r .end }) x
           → FirstSo v s n x (w .fuel) kind at → FirstSo v s m y (w .fuel - 1) (r .next) (at + r .end)
       sought v n m x y z e q f =
           let u : w .fuel ≡ suc (w .fuel - 1) = omega (arith, w .enough, g .some, g .inside) in
