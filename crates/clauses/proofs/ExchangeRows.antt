@@ -1,6 +1,6 @@
 -- THE ROW OF AN EXCHANGE TYPE, by cases: 39 and 40 register, 41 rekeys over the Rekey SA, 42 over the member's own channel (RFC 9838,
--- section 9.2), any other is number 2. Every law that goes by the exchange goes through this one, so that one exchange more is one case more
--- in each of them.
+-- section 9.2), any other is number 2. Every law that goes by the exchange goes through this one, so that one exchange more is one case
+-- more in each of them.
 use Prim.Native.Nat.{ℕ}
 use mathlib.Core.Path.{_≡_}
 use mathlib.Core.Logic.{_⊎_, inl, inr}

@@ -99,7 +99,7 @@ rekeyBag x n = bag 6 x (replicate n (saKey 0 9))
 abbrev pub memberBag : List WrapKey → Bag
 memberBag l = memberKeys (record { keys = l })
 
--- ---- frames by what their payloads hold, with Message ID 0; rekeys are those over the live Rekey SA, in-band ones have SPIs that no SA has
+-- ---- frames by what their payloads hold, with Message ID 0; rekeys are those over the live Rekey SA, in-band ones have no SPIs
 abbrev pub deletes : ℕ → List (List ℕ) → Content
 deletes p l = delete (record { protocol = p; spis = l })
 

@@ -13,7 +13,8 @@ use Rattle.policies.specs.Policy.{groupSa}
 use Rattle.frames.specs.Frame.{Payload, Content, gsa, kd, unread}
 use Rattle.clauses.proofs.SampleParts.{spi, liveSpi, nextSpi, thirdSpi, transform, selector, ip4, group, saPolicy, policy, rekeySuite}
 use Rattle.clauses.proofs.SampleParts.{espPolicy, rekeyPolicy, wide, saKey, wrapKey, bag, espBag, rekeyBag, memberBag, deletes}
-use Rattle.clauses.proofs.SampleParts.{payload, frameOf, registers, rekeys, inband, another, own, fit, deletion, rekeyAt, dueLater, espSas, wrapKeys}
+use Rattle.clauses.proofs.SampleParts.{payload, frameOf, registers, rekeys, inband, another}
+use Rattle.clauses.proofs.SampleParts.{own, fit, deletion, rekeyAt, dueLater, espSas, wrapKeys}
 use Rattle.clauses.proofs.SampleParts.{copies, deleted, having, oneMore, fresh, heldKey, holding, Sample, sample, anew, later}
 
 -- a sample and the place of the one clause that it meets, in the list of its number

@@ -14,7 +14,7 @@ use Rattle.keys.proofs.Cases.{lt-cases}
 use Rattle.state.specs.Held.{blankKey, heldFormed}
 use Rattle.state.specs.declared.held.HeldKey.{HeldKey}
 use Rattle.state.specs.declared.held.Held.{Held}
-use Rattle.copies.specs.inner.Lending.{keyOctets, placeOctets, placeOf, blockOf, idsOf, FitsPlace, LendsFirst, Puts}
+use Rattle.copies.specs.inner.Lending.{keyOctets, placeOctets, placeOf, blockOf, idsOf, FitsPlace, Rooms, LendsFirst, Puts}
 
 -- ---- a count and the octets of an array put into a place
 pub put-is : (s o : List ℕ) (at c : ℕ) {y : List ℕ} → at < length s → length o ≡ keyOctets →
@@ -45,18 +45,15 @@ put-length s o at c h e =
 
 -- ---- the first places are those of the first keys
 pub record Filled (keys : List HeldKey) (ids block : List ℕ) (i : ℕ) : Type 0 where
-  pub ids-length : length ids ≡ limits .heldKeys
-  pub block-length : length block ≡ placeOctets * limits .heldKeys
+  pub rooms : Rooms ids block
   pub fit : (j : ℕ) → j < i → FitsPlace (getD keys j blankKey .key)
   pub ids-are : take i ids ≡ idsOf (take i keys)
   pub block-is : take (placeOctets * i) block ≡ blockOf (take i keys)
 
-pub filled-none : (keys : List HeldKey) (ids block : List ℕ) → length ids ≡ limits .heldKeys →
-    length block ≡ placeOctets * limits .heldKeys → Filled keys ids block 0
+pub filled-none : (keys : List HeldKey) (ids block : List ℕ) → Rooms ids block → Filled keys ids block 0
 unfolding blockOf
-filled-none keys ids block e f = record {
-  ids-length = e;
-  block-length = f;
+filled-none keys ids block e = record {
+  rooms = e;
   fit = λ j h. absurd (omega arith);
   ids-are = refl;
   block-is = refl;
@@ -80,8 +77,8 @@ module _ (keys : List HeldKey) (ids block : List ℕ) (i : ℕ) (m : Filled keys
 
   pub filled-more : (out : List ℕ) → Puts (k .key) (placeOctets * i) block out → Filled keys (set ids i (k .id)) out (i + 1)
   filled-more out p =
-      let n = m .ids-length in
-      let b = m .block-length in
+      let n = m .rooms .ids-length in
+      let b = m .rooms .block-length in
       let size = p .array in
       let o = placeOf (k .key) in
       let q : length o ≡ placeOctets = omega arith in
@@ -90,8 +87,11 @@ module _ (keys : List HeldKey) (ids block : List ℕ) (i : ℕ) (m : Filled keys
       let l : length t ≡ placeOctets * i = length-take-le (placeOctets * i) block (omega arith) in
       let w : length (t ++ o) ≡ placeOctets * (i + 1) = length-append t o ∙ omega arith in
       record {
-        ids-length = length-set ids i (k .id) ∙ n;
-        block-length = ap length (p .is) ∙ put-length block (k .key .octets) (placeOctets * i) (k .key .count) (omega arith) size ∙ b;
+        rooms = record {
+          ids-length = length-set ids i (k .id) ∙ n;
+          block-length =
+              ap length (p .is) ∙ put-length block (k .key .octets) (placeOctets * i) (k .key .count) (omega arith) size ∙ b;
+        };
         fit = λ j g.
             lt-cases j i (m .fit j)
             (λ z. let e : i ≡ j = omega arith in
@@ -105,23 +105,38 @@ module _ (keys : List HeldKey) (ids block : List ℕ) (i : ℕ) (m : Filled keys
             ∙ ap (λ (x : List ℕ). x ++ o) (m .block-is) ∙ sym (block-more (take i keys) k) ∙ ap blockOf (sym next-keys);
       }
 
-pub filled-all : (held : Held) (ids block : List ℕ) (i : ℕ) → heldFormed limits held ≡ true → held .count ≤ length (held .keys) →
-    held .count ≤ limits .heldKeys → held .count ≤ i → i ≤ held .count → Filled (held .keys) ids block i →
-    LendsFirst held ids block (held .count)
-filled-all held ids block i formed places most g h m =
-    let e : i ≡ held .count = omega arith in
-    let o = subst (Filled (held .keys) ids block) e m in
-    let n = length-take-le (held .count) (held .keys) places in
-    record {
-      lends = record {
-        formed = formed;
+module _ (held : Held) (ids block : List ℕ) where
+  pub filled-all : (i : ℕ) → heldFormed limits held ≡ true → held .count ≤ length (held .keys) → held .count ≤ limits .heldKeys →
+      held .count ≤ i → i ≤ held .count → Filled (held .keys) ids block i → LendsFirst held ids block
+  filled-all i formed places most g h m =
+      let e : i ≡ held .count = omega arith in
+      let o = subst (Filled (held .keys) ids block) e m in
+      let n = length-take-le (held .count) (held .keys) places in
+      record {
         lends = record {
-          fit = λ j f.
-              let z : j < held .count = omega arith in
-              subst (λ (k : HeldKey). FitsPlace (k .key)) (sym (getD-take (held .count) (held .keys) j blankKey z)) (o .fit j z);
-          ids-are = o .ids-are;
-          block-is = o .block-is;
+          formed = formed;
+          lends = record {
+            fit = λ j f.
+                let z : j < held .count = omega arith in
+                subst (λ (k : HeldKey). FitsPlace (k .key)) (sym (getD-take (held .count) (held .keys) j blankKey z)) (o .fit j z);
+            ids-are = o .ids-are;
+            block-is = o .block-is;
+          };
         };
-      };
-      most = most;
-    }
+        rooms = o .rooms;
+        most = most;
+      }
+
+  -- ---- the parts of the room that are lent
+  module _ (f : LendsFirst held ids block) where
+    pub ids-there : held .count ≤ length ids
+    ids-there = let e = f .rooms .ids-length in let h = f .most in omega arith
+
+    pub ids-count : held .count ≡ length (take (held .count) ids)
+    ids-count = sym (length-take-le (held .count) ids ids-there)
+
+    pub block-there : placeOctets * held .count ≤ length block
+    block-there = let e = f .rooms .block-length in let h = f .most in omega arith
+
+    pub block-count : placeOctets * held .count ≡ length (take (placeOctets * held .count) block)
+    block-count = sym (length-take-le (placeOctets * held .count) block block-there)

@@ -35,7 +35,7 @@ use Rattle.copies.specs.inner.Known.{Known, key-zero, named as known-nam
 use Rattle.copies.specs.inner.Answer.{AnswersBy, Answers}
 use Rattle.copies.specs.inner.Tries.{Try, SomeOpens, TriesEight, TellsBy, Tells}
 use Rattle.copies.specs.inner.Tries as tries
-use Rattle.copies.specs.inner.Named.{tryOf, underHeld, tryFor, triesOf}
+use Rattle.copies.specs.inner.Named.{tryOf, tryFor, triesOf}
 
 -- ---- a held list that is as it must be
 pub key-size : (k : HeldKey) → keyFormed k ≡ true → sizeOf 13 (k .key .count) ≡ true
@@ -56,20 +56,21 @@ all-at p (a ∷ l) zero d e h = and-parts (p a) (all p l) e .0
 all-at p (a ∷ l) (suc i) d e h = all-at p l i d (and-parts (p a) (all p l) e .1) (omega arith)
 
 module _ (h : Held) (e : heldFormed limits h ≡ true) where
-  abbrev rest : Bool
-  rest = all keyFormed (keysOf h) && rising idBefore (keysOf h)
+  abbrev keys-are : Bool
+  keys-are = all keyFormed (keysOf h) && rising idBefore (keysOf h)
+
+  parts : (leb (h .count) (limits .heldKeys) ≡ true) × (keys-are ≡ true)
+  unfolding heldFormed
+  parts = and-parts (leb (h .count) (limits .heldKeys)) keys-are e
 
   pub held-within : h .count ≤ limits .heldKeys
-  unfolding heldFormed
-  held-within = leb-true (h .count) (limits .heldKeys) (and-parts (leb (h .count) (limits .heldKeys)) rest e .0)
+  held-within = leb-true (h .count) (limits .heldKeys) (parts .0)
 
   pub held-formed : all keyFormed (keysOf h) ≡ true
-  unfolding heldFormed
-  held-formed = and-parts (all keyFormed (keysOf h)) (rising idBefore (keysOf h)) (and-parts (leb (h .count) (limits .heldKeys)) rest e .1) .0
+  held-formed = and-parts (all keyFormed (keysOf h)) (rising idBefore (keysOf h)) (parts .1) .0
 
   pub held-rises : rising idBefore (keysOf h) ≡ true
-  unfolding heldFormed
-  held-rises = and-parts (all keyFormed (keysOf h)) (rising idBefore (keysOf h)) (and-parts (leb (h .count) (limits .heldKeys)) rest e .1) .1
+  held-rises = and-parts (all keyFormed (keysOf h)) (rising idBefore (keysOf h)) (parts .1) .1
 
   pub held-size : length (h .keys) ≡ limits .heldKeys → (i : ℕ) (d : HeldKey) → i < h .count →
       sizeOf 13 (getD (h .keys) i d .key .count) ≡ true
@@ -161,7 +162,7 @@ module _ (zero : WrappingKey) (held : Held) (e : heldFormed limits held ≡ true
       let q = List·Memᴰ·eq-of-singleton (rw g at m) in
       (v, subst (λ (j : ℕ). Known zero held j v) (sym (eqb-true (c .kwkId) 0 g)) key-zero, sym q))
       (λ g.
-      let u : List·Memᴰ t (underHeld (heldKey limits (c .kwkId) held) c) = rw g at m in
+      let u = rw g at m in
       bool-cases (heldKey limits (c .kwkId) held .fits)
       (λ f.
       let q = List·Memᴰ·eq-of-singleton (rw f at u) in

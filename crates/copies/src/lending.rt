@@ -10,18 +10,13 @@ ghost use lib.ListN.{length};
 ghost use Rattle.keys.specs.Limits.{limits};
 ghost use Rattle.state.specs.Held.{heldFormed};
 ghost use Rattle.state.specs.declared.held.HeldKey.{HeldKey};
-ghost use Rattle.copies.specs.inner.Lending.{keyOctets, placeOctets, Lends, LendsFirst, Puts, FirstAt, valueNamed};
+ghost use Rattle.copies.specs.inner.Lending.{keyOctets, placeOctets, Lends, Rooms, LendsFirst, Puts, FirstAt, valueNamed};
 
 // A key's place in the block: its octet count, then the octets of its array.
 pub const PLACE: usize = 1 + WrappingKey::KW_256;
 
-const OCTETS: usize = PLACE * HELD_KEYS;
-
-pub struct Lent {
-    pub ids: [u32; HELD_KEYS],
-    pub block: [u8; OCTETS],
-    pub count: usize,
-}
+// The places of all held keys.
+pub const BLOCK: usize = PLACE * HELD_KEYS;
 
 // A key put into its place.
 fn put(key: WrappingKey, at: usize, block: &mut [u8])
@@ -35,26 +30,20 @@ fn put(key: WrappingKey, at: usize, block: &mut [u8])
     bytes::copy(&octets, &mut block[start..]);
 }
 
-// The keys of a held list, to be lent. Internal.
-pub fn lend_keys(held: Held) -> Lent
+// The keys of a held list, to be lent: each Key ID and each key put into its place. Internal.
+pub fn lend_keys(held: Held, ids: &mut [u32], block: &mut [u8])
     requires { ⌜ heldFormed limits held ≡ true ⌝ }
-    ensures { λ r. ⌜ LendsFirst held (r .ids) (r .block) (r .count) ⌝ }
+    requires { ⌜ Rooms (now ids) (now block) ⌝ }
+    ensures { λ _. ⌜ LendsFirst held (now (ids .exit)) (now (block .exit)) ⌝ }
 {
     let n = held.count;
-    let mut ids = [0u32; HELD_KEYS];
-    let mut block = [0u8; OCTETS];
     let mut i: usize = 0;
     while i < n {
         let k = held.keys[i];
         let key = k.key;
         ids[i] = k.id;
-        put(key, PLACE * i, &mut block);
+        put(key, PLACE * i, block);
         i += 1;
-    }
-    Lent {
-        ids,
-        block,
-        count: n,
     }
 }
 

@@ -30,12 +30,13 @@ pub enum Verdict {
     Passed(Facts),
 }
 
-// The first of numbers 4 to 7 that applies to a frame with these facts, of an exchange with this row; 0 where none does.
+// The first of numbers 4 to 7 that applies to a frame with these facts, whose exchange has this row; 0 where none does.
 fn on_facts(state: State, row: Exchange, s: &[u8], x: Facts, lent: &[u8], tick: u32) -> usize
     requires { ⌜ state .table .count ≤ limits .sas ⌝ }
     requires { ⌜ isWhole (frame (now s)) ≡ true ⌝ }
     requires { ⌜ x ≡ factsOf (row .authentication) (now s) ⌝ }
-    ensures { λ r. ⌜ ((f : Frame) → frame (now (s .entry)) ≡ whole f [] → rowOf f ≡ row →
+    requires { ⌜ ((f : Frame) → frame (now s) ≡ whole f [] → rowOf f ≡ row) ⌝ }
+    ensures { λ r. ⌜ ((f : Frame) → frame (now (s .entry)) ≡ whole f [] →
         r ≡ judged (onFrame limits state tick (now (lent .entry)) f)) ⌝ }
 {
     if number_4(row, x) {
@@ -61,11 +62,12 @@ fn on_facts(state: State, row: Exchange, s: &[u8], x: Facts, lent: &[u8], tick: 
     0
 }
 
-// What numbers 4 to 7 make of a frame of an exchange with this row.
+// What numbers 4 to 7 make of a frame whose exchange has this row.
 fn on_frame(state: State, row: Exchange, s: &[u8], lent: &[u8], tick: u32) -> Verdict
     requires { ⌜ state .table .count ≤ limits .sas ⌝ }
     requires { ⌜ isWhole (frame (now s)) ≡ true ⌝ }
-    ensures { λ r. ⌜ ((f : Frame) → frame (now (s .entry)) ≡ whole f [] → rowOf f ≡ row →
+    requires { ⌜ ((f : Frame) → frame (now s) ≡ whole f [] → rowOf f ≡ row) ⌝ }
+    ensures { λ r. ⌜ ((f : Frame) → frame (now (s .entry)) ≡ whole f [] →
         r ≡ verdictBy (judged (onFrame limits state tick (now (lent .entry)) f)) (factsOf (row .authentication) (now (s .entry)))) ⌝ }
 {
     let x = facts_of(row.authentication, s);

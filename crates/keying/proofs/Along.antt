@@ -100,7 +100,8 @@ module _ (g k schedule ids block : List ℕ) where
 
   module _ (at : ℕ) (nine : Bool) (sas : List Sa) (count : ℕ) (w : Along at nine sas count) where
     pub along-end : (found : Found) → found ≡ foundBy nine → length g ≤ at → (roots : List Root) (entries : List WrapKey) (size : ℕ)
-        (f : Frame) → Ready f g k → Opening schedule ids block roots entries size → KeysOf roots entries size f (announced f) found sas count
+        (f : Frame) → Ready f g k → Opening schedule ids block roots entries size →
+        KeysOf roots entries size f (announced f) found sas count
     along-end found e h roots entries size f y o =
         subst (λ (l : List GroupSaPolicy). KeysOf roots entries size f l found sas count)
         (sym (append-nil (w .passed)) ∙ ap (λ (l : List GroupSaPolicy). w .passed ++ l) (sym (no-more-sas g at h)) ∙ w .all-are

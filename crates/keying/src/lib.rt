@@ -6,6 +6,7 @@ use aes::expand_inverse;
 use aes::inverse_tables;
 use contents::policy::policy_parts;
 use copies::answer::Opened;
+use copies::lending::BLOCK;
 use copies::lending::PLACE;
 use copies::lending::lend_keys;
 use joining::Found;
@@ -13,6 +14,7 @@ use joining::Keyed;
 use joining::One;
 use joining::one_sa;
 use keys::kinds::WrappingKey;
+use keys::limits::HELD_KEYS;
 use keys::limits::SAS;
 use sa::entry::Sa;
 use state::held::Held;
@@ -177,6 +179,30 @@ fn walked(
     Keyed { found, sas, count }
 }
 
+// The same as `keyed`, with the held keys as they are lent.
+fn under_lent(g: &[u8], k: &[u8], zero: WrappingKey, ids: &[u32], block: &[u8]) -> Keyed
+    requires { ⌜ isWhole (policies 0 (now g)) ≡ true ⌝ }
+    requires { ⌜ isWhole (bags 0 (now k)) ≡ true ⌝ }
+    requires { ⌜ sizeOf 13 (zero .count) ≡ true ⌝ }
+    requires { ⌜ ((held : Held) × LendsHeld held (now ids) (now block)) ⌝ }
+    requires { ⌜ ((f : Frame) × Ready f (now g) (now k)) ⌝ }
+    ensures { λ r. ⌜ ((roots : List Root) (entries : List WrapKey) (size : ℕ) (f : Frame) (held : Held) →
+        Ready f (now (g .entry)) (now (k .entry)) → LendsHeld held (now (ids .entry)) (now (block .entry)) →
+        Agrees roots entries size zero held → KeyedBy roots entries size f r) ⌝ }
+{
+    let octets = zero.octets;
+    let n = zero.count;
+    let tables = inverse_tables();
+    walked(
+        g,
+        k,
+        &tables,
+        expand_inverse(&tables, &octets[..n]),
+        ids,
+        block,
+    )
+}
+
 // What the copies of all SAs that a frame announces open to: `g` is its GSA body, `k` its KD body, `zero` key 0, and the other keys that a
 // KWK ID can name are held. Internal.
 pub fn keyed(g: &[u8], k: &[u8], zero: WrappingKey, held: Held) -> Keyed
@@ -188,20 +214,10 @@ pub fn keyed(g: &[u8], k: &[u8], zero: WrappingKey, held: Held) -> Keyed
     ensures { λ r. ⌜ ((roots : List Root) (entries : List WrapKey) (size : ℕ) (f : Frame) → Ready f (now (g .entry)) (now (k .entry)) →
         Agrees roots entries size zero held → KeyedBy roots entries size f r) ⌝ }
 {
-    let lent = lend_keys(held);
-    let ids = lent.ids;
-    let block = lent.block;
-    let m = lent.count;
+    let mut ids = [0u32; HELD_KEYS];
+    let mut block = [0u8; BLOCK];
+    lend_keys(held, &mut ids, &mut block);
+    let m = held.count;
     let e = PLACE * m;
-    let octets = zero.octets;
-    let n = zero.count;
-    let tables = inverse_tables();
-    walked(
-        g,
-        k,
-        &tables,
-        expand_inverse(&tables, &octets[..n]),
-        &ids[..m],
-        &block[..e],
-    )
+    under_lent(g, k, zero, &ids[..m], &block[..e])
 }

@@ -16,8 +16,8 @@ use Rattle.clauses.specs.Contents.{rowOf, wrapKeysOf}
 use Rattle.chains.specs.Chain.{In, Root, root, Reached, Ends}
 use Rattle.chains.proofs.Determined.{ends-by, last-entry}
 use Rattle.outcome.specs.Roots.{ownKey, keyZero, heldRoot, rootsOf, entriesOf, wrappingSize}
-use Rattle.outcome.specs.NamedKey.{Registration, Inband, Rekey, lentRoot, Given, Named, lent-key, lent-in-band, own-key, last-of-chain}
-use Rattle.outcome.specs.NamedKey.{held-key, OpensUnder}
+use Rattle.outcome.specs.NamedKey.{Registration, Inband, Rekey, lentRoot, Given, OpensUnder}
+use Rattle.outcome.specs.NamedKey.{Named, lent-key, lent-in-band, own-key, last-of-chain, held-key}
 use Rattle.outcome.proofs.Rows.{names-held, registration-row, rekeys, inband-row, lent-roots, lent-size}
 use Rattle.outcome.proofs.Members.{in-head, in-tail, in-cases, not-in-none, in-map, map-in}
 use Rattle.outcome.proofs.Bags.{copy-own, own-copy}

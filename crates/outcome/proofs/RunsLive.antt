@@ -1,5 +1,6 @@
 -- What becomes of a live Rekey SA when a frame is accepted: one that stands at the tick stays live, unless the frame announces a Rekey SA;
--- a registration that announces none leaves none; where none was live, a frame that announces none makes none live. Nothing here says that a live SA is never due (that is `NeverDue`).
+-- a registration that announces none leaves none; where none was live, a frame that announces none makes none live. Nothing here says that
+-- a live SA is never due (that is `NeverDue`).
 use native.Mathlib.Omega.{arith}
 use Prim.Native.Nat.{ℕ}
 use mathlib.Core.Path.{_≡_, refl, ap, sym, _∙_, subst}

@@ -27,7 +27,8 @@ use Rattle.outcome.specs.Run.{Step, Takes, answered, swept, left, Run, e
 use Rattle.clauses.proofs.Clear.{no-clause}
 use Rattle.clauses.proofs.ExchangeRows.{by-row}
 use Rattle.outcome.proofs.RunsClear.{Clear, clear, Taken, taken}
-use Rattle.outcome.proofs.RunsLive.{NoneLive, stands-live, passes-over, none-over, swept-none, accepted-live, registered-none, kept-none}
+use Rattle.outcome.proofs.RunsLive.{NoneLive, stands-live, passes-over, none-over, swept-none, accepted-live, registered-none}
+use Rattle.outcome.proofs.RunsLive.{kept-none}
 
 -- ---- the least Message ID is past i: neither i nor a lower one is acceptable
 abbrev pub Past : ℕ → Least → Type 0

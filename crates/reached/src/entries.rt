@@ -47,10 +47,11 @@ fn entry(v: &[u8], e: usize) -> Entry
         → IsEntry k r (wrapKeyOf (now (v .entry)))) ⌝ }
 {
     let wrapped = v.len() - 8;
+    let start = e - wrapped;
     Entry {
         id: octets::numbers::be32_at(v, 0),
         kwk: octets::numbers::be32_at(v, 4),
-        start: e - wrapped,
+        start,
         end: e,
     }
 }

@@ -45,10 +45,16 @@ pub record LendsHeld (held : Held) (ids block : List ℕ) : Type 0 where
   pub formed : heldFormed limits held ≡ true
   pub lends : Lends (keysOf held) ids block
 
--- the first n Key IDs and the first n places are
-pub record LendsFirst (held : Held) (ids block : List ℕ) (n : ℕ) : Type 0 where
-  pub lends : LendsHeld held (take n ids) (take (placeOctets * n) block)
-  pub most : n ≤ limits .heldKeys
+-- room for the Key IDs and the places of all held keys
+pub record Rooms (ids block : List ℕ) : Type 0 where
+  pub ids-length : length ids ≡ limits .heldKeys
+  pub block-length : length block ≡ placeOctets * limits .heldKeys
+
+-- the Key IDs and the places at the start of such room are
+pub record LendsFirst (held : Held) (ids block : List ℕ) : Type 0 where
+  pub lends : LendsHeld held (take (held .count) ids) (take (placeOctets * held .count) block)
+  pub rooms : Rooms ids block
+  pub most : held .count ≤ limits .heldKeys
 
 -- a key put into its place, which starts at `at`
 pub record Puts (k : WrappingKey) (at : ℕ) (before after : List ℕ) : Type 0 where

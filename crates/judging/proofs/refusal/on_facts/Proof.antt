@@ -16,8 +16,9 @@ returns c =
     let n4 = c .before in
     let st = n4 .before .before .before in
     let a = st .args in
-    at-4 (a .state) (a .tick) (now (a .lent)) (now (a .s)) (st .pre .0) (a .row) (a .x) (st .pre .1 .1) _ (n4 .number-4 .ensures)
-    (c .if1 .taken)
+    λ f q.
+    at-4 (a .state) (a .tick) (now (a .lent)) (now (a .s)) (st .pre .0) (a .row) (a .x) (st .pre .1 .1 .0) _ (n4 .number-4 .ensures)
+    (c .if1 .taken) f q (st .pre .1 .1 .1 f q)
 
 number-5-requires : tie.Need-number-5-requires
 number-5-requires c κs = search needs
@@ -29,8 +30,9 @@ returns-2 c =
     let n4 = e4 .before in
     let st = n4 .before .before .before in
     let a = st .args in
-    at-5 (a .state) (a .tick) (now (a .lent)) (now (a .s)) (st .pre .0) (a .row) (a .x) (st .pre .1 .1) _ (n4 .number-4 .ensures)
-    (e4 .if1 .left) _ (n5 .number-5 .ensures) (c .if2 .taken)
+    λ f q.
+    at-5 (a .state) (a .tick) (now (a .lent)) (now (a .s)) (st .pre .0) (a .row) (a .x) (st .pre .1 .1 .0) _ (n4 .number-4 .ensures)
+    (e4 .if1 .left) _ (n5 .number-5 .ensures) (c .if2 .taken) f q (st .pre .1 .1 .1 f q)
 
 -- the bodies, where number 6 is asked
 own : (c : tie.After-k)
@@ -40,7 +42,7 @@ own c =
     let st = c .before .before .before .before .before .before .before .before .before .before in
     let a = st .args in
     let f = reads-to (now (a .s)) (st .pre .1 .0) in
-    its-payloads (a .state) (a .tick) (now (a .lent)) (now (a .s)) (st .pre .0) (a .row) (a .x) (st .pre .1 .1) (f .0) (f .1)
+    its-payloads (a .state) (a .tick) (now (a .lent)) (now (a .s)) (st .pre .0) (a .row) (a .x) (st .pre .1 .1 .0) (f .0) (f .1)
 
 sub-number-6 : tie.Need-sub-number-6
 sub-number-6 c = own c .gsaOrder
@@ -76,8 +78,9 @@ returns-3 c =
     let n4 = e4 .before in
     let st = n4 .before .before .before in
     let a = st .args in
-    at-6 (a .state) (a .tick) (now (a .lent)) (now (a .s)) (st .pre .0) (a .row) (a .x) (st .pre .1 .1) _ (n4 .number-4 .ensures)
-    (e4 .if1 .left) _ (n5 .number-5 .ensures) (e5 .if2 .left) _ (n6 .number-6 .ensures) (c .if3 .taken)
+    λ f q.
+    at-6 (a .state) (a .tick) (now (a .lent)) (now (a .s)) (st .pre .0) (a .row) (a .x) (st .pre .1 .1 .0) _ (n4 .number-4 .ensures)
+    (e4 .if1 .left) _ (n5 .number-5 .ensures) (e5 .if2 .left) _ (n6 .number-6 .ensures) (c .if3 .taken) f q (st .pre .1 .1 .1 f q)
 
 standing-requires : tie.Need-standing-requires
 standing-requires c κs = search needs
@@ -97,9 +100,10 @@ returns-4 c =
     let n4 = e4 .before in
     let st = n4 .before .before .before in
     let a = st .args in
-    at-7 (a .state) (a .tick) (now (a .lent)) (now (a .s)) (st .pre .0) (a .row) (a .x) (st .pre .1 .1) _ (n4 .number-4 .ensures)
+    λ f q.
+    at-7 (a .state) (a .tick) (now (a .lent)) (now (a .s)) (st .pre .0) (a .row) (a .x) (st .pre .1 .1 .0) _ (n4 .number-4 .ensures)
     (e4 .if1 .left) _ (n5 .number-5 .ensures) (e5 .if2 .left) _ (n6 .number-6 .ensures) (e6 .if3 .left) _ (sd .standing .ensures) _
-    (n7 .number-7 .ensures) (c .if4 .taken)
+    (n7 .number-7 .ensures) (c .if4 .taken) f q (st .pre .1 .1 .1 f q)
 
 returns-5 : tie.Need-returns-5
 returns-5 c =
@@ -113,9 +117,10 @@ returns-5 c =
     let n4 = e4 .before in
     let st = n4 .before .before .before in
     let a = st .args in
-    at-none (a .state) (a .tick) (now (a .lent)) (now (a .s)) (st .pre .0) (a .row) (a .x) (st .pre .1 .1) _ (n4 .number-4 .ensures)
+    λ f q.
+    at-none (a .state) (a .tick) (now (a .lent)) (now (a .s)) (st .pre .0) (a .row) (a .x) (st .pre .1 .1 .0) _ (n4 .number-4 .ensures)
     (e4 .if1 .left) _ (n5 .number-5 .ensures) (e5 .if2 .left) _ (n6 .number-6 .ensures) (e6 .if3 .left) _ (sd .standing .ensures) _
-    (n7 .number-7 .ensures) (c .if4 .left)
+    (n7 .number-7 .ensures) (c .if4 .left) f q (st .pre .1 .1 .1 f q)
 
 pub on-facts-spec : {M : Type 1} → statement M
 on-facts-spec =

@@ -73,9 +73,15 @@ on-frame-requires c κs =
     let s = now (a .s) in
     let m = c .before .before .before .before .before .before .before .exchange .given in
     let v = m .0 in
+    let e = sym (m .1) ∙ c .before .before .before .before .before .before .before .before .before .header-read .ensures in
     let n2 = sym (c .before .before .before .if1 .left) ∙ c .before .before .before .before .number-2 .ensures in (
       few-sas limits (a .state) (a .tick) (v .1 .0) (take 16 s) n2,
-      b .pre,
+      (
+        b .pre,
+        λ f q.
+            row-is limits (a .state) (a .tick) (now (a .lent)) s f q (v .0) (v .1 .0) (v .1 .1 .0) e (c .exchange-of .result)
+            (c .exchange-of .ensures),
+      ),
     )
 
 enum-told : tie.Need-enum-told
@@ -96,7 +102,7 @@ returns-3 c =
     row-is limits (a .state) (a .tick) (now (a .lent)) s f q (v .0) (v .1 .0) (v .1 .1 .0) e (c .before .exchange-of .result)
     (c .before .exchange-of .ensures) in
     let n = further limits (a .state) (a .tick) (now (a .lent)) s f q (v .0) (v .1 .0) (v .1 .1 .0) e _ n2 n3 refl in
-    c .on-frame .ensures f q r ∙ (λ i. verdictBy (n i) (factsOf (sym r i .authentication) s))
+    c .on-frame .ensures f q ∙ (λ i. verdictBy (n i) (factsOf (sym r i .authentication) s))
 
 returns-4 : tie.Need-returns-4
 returns-4 c =

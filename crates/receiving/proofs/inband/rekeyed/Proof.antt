@@ -7,7 +7,8 @@ use Rattle.receiving.proofs.inband.rekeyed.Statement.{statement}
 use Rattle.receiving.proofs.inband.rekeyed.Tie as tie
 
 -- the payloads of the frame that is known to be there
-own : (c : tie.After-kd) → let b = c .before .before .before .before .before in OfFrame (now (b .args .s)) (b .pre .0) (b .args .x .payloads)
+own : (c : tie.After-kd) →
+    let b = c .before .before .before .before .before in OfFrame (now (b .args .s)) (b .pre .0) (b .args .x .payloads)
 own c =
     let b = c .before .before .before .before .before in
     let a = b .args in
