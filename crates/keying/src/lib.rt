@@ -78,7 +78,6 @@ fn opened(
         schedule,
         ids,
         block,
-        tick,
     )
 }
 

@@ -1,5 +1,5 @@
 use denote.Ref.{now}
-use Rattle.group.proofs.ReceiveLaws.{judged-small, judged-as}
+use Rattle.group.proofs.ReceiveLaws.{judged-numbered, judged-as}
 use borrow.Author.Needs.{needs}
 use Rattle.group.proofs.Member.rekeying_in_band.Statement.{statement}
 use Rattle.group.proofs.Member.rekeying_in_band.Tie as tie
@@ -12,7 +12,8 @@ answered-requires c κs =
     let b = c .before .before .before .before in
     let a = b .args in
     let p = b .pre in
-    judged-small (a .self .state) (a .tick) (now (a .lent)) (p .0) _ _ (c .rekeyed .ensures (p .0) (p .1) (p .2))
+    judged-numbered (a .self .state) (a .tick) (now (a .lent)) (p .0) (now (a .s)) (p .1 .whole-is) _ _
+    (c .rekeyed .ensures (p .0) (p .1) (p .2))
 
 returns : tie.Need-returns
 returns c =

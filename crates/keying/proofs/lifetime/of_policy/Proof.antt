@@ -65,7 +65,7 @@ few c =
 
 returns : tie.Need-returns
 returns c =
-    let n = c .before in
+    let n = c .before .before in
     let d = n .before .before .before in
     let a = d .before .before .args in
     let p = n .before .before .in-policy in
@@ -77,7 +77,7 @@ returns c =
 
 returns-2 : tie.Need-returns-2
 returns-2 c =
-    let n = c .before in
+    let n = c .before .before in
     let d = n .before .before .before in
     let a = d .before .before .args in
     let p = n .before .before .in-policy in
