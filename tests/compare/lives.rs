@@ -10,9 +10,10 @@ use builder::typical::{lifetime, GSA_INBAND_REKEY};
 use builder::{Attribute, Part, REKEY};
 use reference::member::{Condition, Member, Sa};
 
-/// What must come about in every long run of the comparer: the first by a refused frame, the others by accepted ones.
-pub const MET: [&str; 7] = [
+/// What must come about in every long run of the comparer: the first two by refused frames, the others by accepted ones.
+pub const MET: [&str; 8] = [
     "a rekey over a Rekey SA that ran out",
+    "a rekey over the own channel of a member that ran out",
     "a registration of a member that ran out",
     "a live SA that ran out goes",
     "a retiring SA goes by its lifetime",
@@ -40,7 +41,7 @@ pub fn met(case: &Case, after: &Member) -> impl Iterator<Item = &'static str> {
         due.iter().any(|sa| after.table.iter().any(|new| new.protocol == sa.protocol && new.spi == sa.spi)),
         case.frame.exchange == GSA_INBAND_REKEY && due.iter().any(|sa| sa.protocol == REKEY && live(sa)),
     ];
-    MET.into_iter().skip(1).zip(all).filter(|(_, met)| *met).map(|(name, _)| name)
+    MET.into_iter().skip(2).zip(all).filter(|(_, met)| *met).map(|(name, _)| name)
 }
 
 /// Where the delay or the lifetime of an SA has just run.
@@ -132,12 +133,16 @@ impl Writer<'_> {
         }
     }
 
-    /// A registration of a member that has run out at that tick, with a lent key that fits.
+    /// A registration of a member that has run out at that tick, with a lent key that fits. The same over the own channel is 2 before that.
     fn register_anew(&mut self, tick: u32, shape: Shape) {
         self.scene.tick = tick;
         if self.tracing {
             self.fit_lent_key();
         }
+        let mut own = self.scene.registration(shape);
+        own.frame.exchange = GSA_INBAND_REKEY;
+        self.claim(&own, 2, MET[1]);
+        self.tally.life(MET[1]);
         self.taken(Exchange::Registration, shape);
     }
 }

@@ -7,7 +7,7 @@ use lib.Dec.{ltb}
 use lib.ListN.{replicate}
 use Rattle.octets.specs.Compare.{orderOf, less, same}
 use Rattle.keys.specs.Lists.{all, any, count, keep, heads, rising}
-use Rattle.keys.specs.Limits.{Limits, limits}
+use Rattle.keys.specs.Limits.{Limits, limits, limitsBeforeT01}
 use Rattle.keys.specs.Kinds.{rekeySizes}
 use Rattle.keys.specs.Algorithms.{isRowOf, neededIn, neededBy, sizeOf}
 use Rattle.sa.specs.Clock.{elapsedAtLeast}
@@ -39,7 +39,7 @@ use Rattle.clauses.proofs.SamplesOf4.{samplesOf4}
 use Rattle.clauses.proofs.SamplesOf5.{samplesOf5}
 use Rattle.clauses.proofs.SamplesOf6.{samplesOf6}
 use Rattle.clauses.proofs.SamplesOf7.{samplesOf7}
-use Rattle.clauses.proofs.SamplesOfLimits.{samplesOfLimits}
+use Rattle.clauses.proofs.SamplesOfLimits.{samplesOfLimits, samplesBeforeT01}
 use Rattle.clauses.proofs.SamplesOfLifetimes.{samplesOfLifetimes, samplesOfRoom}
 use Rattle.clauses.proofs.SamplesInband.{samplesInband}
 use Rattle.clauses.proofs.SamplesAlone.{Alone, alone2, alone4, alone5, alone6, alone7}
@@ -110,6 +110,8 @@ pub record Samples : Type 0 where
   pub halves : ByFrame 1 alone2 × ByFrame 17 alone4 × ByFrame 6 alone5 × ByFrame 9 alone6 × ByFrame 5 alone7
   -- under six figures that differ
   pub of-limits : AnsweredWithin apart samplesOfLimits
+  -- under document 01's own figures, T-01's "old limits"
+  pub before-t01 : AnsweredWithin limitsBeforeT01 samplesBeforeT01
   -- GSA_AUTH (39) and GSA_REGISTRATION (40) are answered alike, whatever their payloads
   pub alike : (s : State) (now : ℕ) (lent x : List ℕ) (id : ℕ) (l : List Payload) →
       refusal limits s now lent (frameOf x 39 id l) ≡ refusal limits s now lent (frameOf x 40 id l)
@@ -125,7 +127,8 @@ unfolding refusal judged one any all count keep heads rising newState stateForme
     severalRekeyPolicies severalGroupWide severalMemberBags gsaWithoutSaPolicy keyLengthTwice initialMessageIdTwice delayTwice
     otherDestination lifetimeTwice four-ofFrame ahPolicy ahBag otherTransforms deleteOfOther deleteOfNone lentKeySize five-ofFrame
     policyUnpaired bagUnpaired policyTwice bagTwice alreadyInTable otherSaKeyCount saKeyCount saKeyId espKwkId wrapKeyId wrapsItself
-    six-ofFrame six-ofMember manyEspPolicies manyWrapKeys manySaKeys manyDeletedSpis longLifetime manySas seven-ofFrame seven-ofMember placesFrom
+    six-ofFrame six-ofMember manyEspPolicies manyWrapKeys manySaKeys manyDeletedSpis longLifetime manySas seven-ofFrame seven-ofMember
+    placesFrom
 samples-answered =
     record {
       of-2-and-3 = refl;
@@ -143,6 +146,7 @@ samples-answered =
       alone-7 = (refl, refl);
       halves = (refl, refl, refl, refl, refl);
       of-limits = refl;
+      before-t01 = refl;
       alike = λ s now lent x id l. refl;
       any-header = λ s now lent x y i j l. refl;
     }

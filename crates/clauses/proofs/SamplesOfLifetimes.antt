@@ -14,9 +14,8 @@ use Rattle.state.proofs.ApartLimits.{apart}
 use Rattle.policies.specs.Policy.{Policy}
 use Rattle.frames.specs.Frame.{Frame, Content, gsa, kd}
 use Rattle.clauses.proofs.SampleParts.{spi, liveSpi, nextSpi, espSuite, rekeySuite, group, saPolicy, lasting, espPolicy}
-use Rattle.clauses.proofs.SampleParts.{rekeyPolicy, espBag, rekeyBag, frameOf, registers}
-use Rattle.clauses.proofs.SampleParts.{rekeys, inband, fit, deletion, deleting, upTo}
-use Rattle.clauses.proofs.SampleParts.{oneMore, espAt, rekeyAt, espFor, rekeyFor}
+use Rattle.clauses.proofs.SampleParts.{rekeyPolicy, espBag, rekeyBag, frameOf, registers, rekeys, inband, fit, deletion, deleting}
+use Rattle.clauses.proofs.SampleParts.{upTo, oneMore, espAt, rekeyAt, espFor, rekeyFor}
 use Rattle.clauses.proofs.SampleParts.{dueNow, dueLater, outNow, outLater, memberOf, memberWithin, Sample, sample, anew, later}
 
 -- ---- policies with these lifetimes; what announces one of them
@@ -97,7 +96,8 @@ samplesOfLifetimes =
     anew (registers (ahLasting (2000001 ∷ []))) 5 ∷
     []
 
--- "over 16 SAs after the frame, those already due when it arrives not counted": 7 of 7 places, one of them taken by an SA that has run out
+-- "over 16 SAs after the frame, those already due when it arrives not counted" (T-01: 64): here 7 of 7 places, one of them taken by an SA
+-- whose lifetime has run
 abbrev full : Lifetime → State
 full t = memberWithin apart (espFor 0 t ∷ (map (λ (k : ℕ). espAt k Live) (upTo 5) ++ rekeyAt Live ∷ [])) [] (Id 0)
 

@@ -1,5 +1,6 @@
--- Number 3 is given exactly when: "rekey with Message ID below the least acceptable, or none acceptable". Of the frame it looks
--- at the header's exchange type x and Message ID alone.
+-- Number 3 is given exactly when: "rekey with Message ID below the least acceptable, or none acceptable". In GSA_INBAND_REKEY
+-- it "is not judged, because IKEv2 guards its order" (document 02, T-02). Of the frame it looks at the header's exchange type x and Message
+-- ID alone.
 use Prim.Native.Nat.{ℕ}
 use mathlib.Core.List.{List, [], _∷_}
 use mathlib.Core.Bool.{Bool, not, _&&_}

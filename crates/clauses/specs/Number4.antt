@@ -1,7 +1,8 @@
 -- Number 4 is given exactly when: "critical unknown payload; Member bag in a rekey; D in a registration; two GSA or two KD; one without the
 -- other; neither (unless a rekey has D); more than one Rekey policy, group-wide policy or Member bag; a GSA with no SA policy; Key Length,
 -- GSA_INITIAL_MESSAGE_ID or the deactivation delay twice in one place; a Rekey destination that isn't one address (start equals end) in
--- 224.0.0.0/4 or ff00::/8 and one port"; document 02, T-07: GSA_KEY_LIFETIME "twice in one policy".
+-- 224.0.0.0/4 or ff00::/8 and one port". "A Member bag or D in it is number 4" (document 02, T-02, of GSA_INBAND_REKEY). GSA_KEY_LIFETIME
+-- "twice in one policy" (document 02, T-07).
 use mathlib.Core.List.{List, [], _∷_}
 use mathlib.Core.Bool.{Bool, not, _&&_}
 use lib.Dec.{ltb}
@@ -20,11 +21,11 @@ unknownCritical p = p .critical && not (isKnown (p .kind))
 unfoldable pub criticalUnknown : Frame → Bool
 criticalUnknown f = any unknownCritical (f .payloads)
 
--- "Member bag in a rekey"
+-- "Member bag in a rekey", of either kind
 unfoldable pub barredMemberBag : Frame → Bool
 barredMemberBag f = not (rowOf f .members) && some (memberBags f)
 
--- "D in a registration"
+-- "D in a registration"; in GSA_INBAND_REKEY too (T-02)
 unfoldable pub barredDelete : Frame → Bool
 barredDelete f = not (rowOf f .deletes) && some (deletesOf f)
 
@@ -42,7 +43,7 @@ gsaWithoutKd f = any hasGsa (f .payloads) && not (any hasKd (f .payloads))
 unfoldable pub kdWithoutGsa : Frame → Bool
 kdWithoutGsa f = any hasKd (f .payloads) && not (any hasGsa (f .payloads))
 
--- "neither (unless a rekey has D)"
+-- "neither (unless a rekey has D)": GSA_REKEY alone may have D
 unfoldable pub neither : Frame → Bool
 neither f =
     not (any hasGsa (f .payloads)) && (not (any hasKd (f .payloads)) && not (rowOf f .deletes && some (deletesOf f)))

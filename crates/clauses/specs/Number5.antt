@@ -1,5 +1,6 @@
 -- Number 5 is given exactly when: "an AH policy or bag, a policy whose transforms aren't exactly those below, Delete of another protocol
--- than ESP or with count 0, a lent default key not of 16, 24 or 32 octets in a registration".
+-- than ESP or with count 0, a lent default key not of 16, 24 or 32 octets in a registration". In GSA_INBAND_REKEY it "judges the lent
+-- key's size as in a registration" (document 02, T-02).
 use Prim.Native.Nat.{ℕ}
 use mathlib.Core.List.{List, [], _∷_}
 use mathlib.Core.Bool.{Bool, not, _&&_}
@@ -33,7 +34,8 @@ deleteOfOther f = any (λ (d : Delete). not (eqb (d .protocol) esp)) (deletesOf 
 unfoldable pub deleteOfNone : Frame → Bool
 deleteOfNone f = any (λ (d : Delete). eqb (length (d .spis)) 0) (deletesOf f)
 
--- "a lent default key not of 16, 24 or 32 octets in a registration": the sizes of the key wrap algorithms
+-- "a lent default key not of 16, 24 or 32 octets in a registration", in GSA_INBAND_REKEY too (T-02): the sizes of the key wrap
+-- algorithms
 unfoldable pub lentKeySize : List ℕ → Frame → Bool
 lentKeySize lent f = rowOf f .lends && not (sizeOf 13 (length lent))
 

@@ -1,6 +1,7 @@
 -- Number 6 is given exactly when: "policies and Group Key Bags not paired one to one by protocol and SPI; one protocol and SPI twice, or
 -- already in the table (SAs due at the tick not counted); SA_KEY count not 1 (for a Rekey SA in a rekey: 0); SA_KEY with Key ID not 0; ESP
 -- SA_KEY with KWK ID not 0; WRAP_KEY with Key ID 0"; and, by document 02, T-09, when a WRAP_KEY has a Key ID that equals its KWK ID.
+-- In GSA_INBAND_REKEY "a Rekey SA has exactly one SA_KEY" (document 02, T-02).
 use Prim.Native.Nat.{ℕ}
 use mathlib.Core.List.{List, [], _∷_}
 use mathlib.Core.Bool.{Bool, not, cond, _&&_}
@@ -51,7 +52,7 @@ bagTwice f = any (λ (b : GroupKeyBag). ltb 1 (bagsNamed f (b .protocol) (b .spi
 unfoldable pub alreadyInTable : State → ℕ → Frame → Bool
 alreadyInTable s now f = any (λ (a : GroupSaPolicy). any (named (a .protocol) (a .spi)) (standing now s)) (announced f)
 
--- "SA_KEY count not 1 (for a Rekey SA in a rekey: 0)"
+-- "SA_KEY count not 1 (for a Rekey SA in a rekey: 0)", where the rekey is a GSA_REKEY
 unfoldable pub otherSaKeyCount : Exchange → GroupKeyBag → Bool
 otherSaKeyCount x b =
     cond (x .copies && eqb (b .protocol) rekey) (eqb (length (b .keys)) 0) (not (eqb (length (b .keys)) 1))

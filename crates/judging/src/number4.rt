@@ -38,9 +38,9 @@ pub fn clauses_4(row: Exchange, x: Facts) -> Four
     let deletes = 0 < b.deletes;
     // "critical unknown payload"
     let critical = b.critical;
-    // "Member bag in a rekey"
+    // "Member bag in a rekey", of either kind
     let member_bag = !row.members & (0 < k.members);
-    // "D in a registration"
+    // "D in a registration", by T-02 in GSA_INBAND_REKEY too
     let delete = !row.deletes & deletes;
     // "two GSA or two KD"
     let two_gsa = 1 < b.gsas;

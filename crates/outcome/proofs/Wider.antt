@@ -4,7 +4,7 @@ use Prim.Native.Nat.{ℕ, suc, _+_, _≤_}
 use mathlib.Core.Path.{_≡_, refl, ap, sym, _∙_, subst}
 use mathlib.Core.Bool.{Bool, true, false, _&&_, _||_, not, cond, false≢true}
 use mathlib.Core.List.{List, [], _∷_, map}
-use borrow.Author.Tests.{le-leb, le-ltb, ltb-false}
+use borrow.Author.Tests.{le-leb, leb-true, le-ltb, ltb-false}
 use lib.Dec.{leb, ltb}
 use lib.ListN.{length, length-take}
 use Rattle.keys.specs.Limits.{Limits, limits, limitsBeforeT01}
@@ -12,7 +12,7 @@ use Rattle.keys.specs.Lists.{all, any, count, rising}
 use Rattle.keys.specs.Kinds.{valueOf}
 use Rattle.keys.specs.declared.kinds.MadeWrapping.{MadeWrapping}
 use Rattle.keys.proofs.Rising.{length-keep}
-use Rattle.keys.proofs.Cases.{bool-cases}
+use Rattle.keys.proofs.Cases.{bool-cases, and-parts}
 use Rattle.bags.specs.Bag.{GroupKeyBag}
 use Rattle.frames.specs.Frame.{Frame}
 use Rattle.frames.specs.Grammar.{IsFrame}
@@ -20,7 +20,7 @@ use Rattle.sa.specs.Entry.{formed, before, liveRekey, due}
 use Rattle.sa.specs.declared.entry.Sa.{Sa}
 use Rattle.table.specs.declared.Table.{Table}
 use Rattle.table.specs.Table.{sasOf, tableOf, tableFormed, swept, notDue, stays, emptyAt, foundRekey, keyOf, defaultKey, theOne}
-use Rattle.table.proofs.Kept.{sas-of-table}
+use Rattle.table.proofs.Kept.{sas-of-table, formed-count}
 use Rattle.table.proofs.Laws.{changed-in, found-in}
 use Rattle.state.specs.declared.State.{State}
 use Rattle.state.specs.declared.least.Least.{Least}
@@ -61,13 +61,16 @@ none-over x y m (a ∷ l) h e =
 
 module _ (a b : Limits) (w : Wider a b) (s t : State) (i : Within a s) (m : SameMember s t) where
   -- ---- the member keeps its list under both or under neither
+  sas-a : s .table .count ≤ a .sas
+  sas-a = let g = i .sas in omega arith
+
   sas-b : t .table .count ≤ b .sas
   sas-b = let h = m .sa-count in let g = i .sas in let k = w .sas in omega arith
 
   table-formed : tableFormed a (s .table) ≡ tableFormed b (t .table)
   unfolding tableFormed
   table-formed =
-      rw (le-leb (s .table .count) (a .sas) (i .sas), le-leb (t .table .count) (b .sas) sas-b)
+      rw (le-leb (s .table .count) (a .sas) sas-a, le-leb (t .table .count) (b .sas) sas-b)
       (ap (λ (l : List Sa). all formed l && (rising before l && leb (count liveRekey l) 1)) (m .sas))
 
   held-b : t .held .count ≤ b .heldKeys
@@ -87,7 +90,7 @@ module _ (a b : Limits) (w : Wider a b) (s t : State) (i : Within a s) (m : Same
     empty : emptyAt a now (s .table) ≡ emptyAt b now (t .table)
     unfolding emptyAt
     empty =
-        rw (le-leb (s .table .count) (a .sas) (i .sas), le-leb (t .table .count) (b .sas) sas-b) (ap (all (due now)) (m .sas))
+        rw (le-leb (s .table .count) (a .sas) sas-a, le-leb (t .table .count) (b .sas) sas-b) (ap (all (due now)) (m .sas))
 
     stand : standing now s ≡ standing now t
     stand = ap (notDue now) (m .sas)
@@ -106,7 +109,7 @@ module _ (a b : Limits) (w : Wider a b) (s t : State) (i : Within a s) (m : Same
     own : ownKey a s now ≡ ownKey b t now
     own =
         ap (λ (k : MadeWrapping). valueOf (k .key))
-        (made a (s .table) (i .sas) ∙ ap (λ (l : List Sa). keyOf (theOne liveRekey l)) stand ∙ sym (made b (t .table) sas-b))
+        (made a (s .table) sas-a ∙ ap (λ (l : List Sa). keyOf (theOne liveRekey l)) stand ∙ sym (made b (t .table) sas-b))
 
     module _ (lent : List ℕ) (f : Frame) where
       -- ---- chains go by the same keys
@@ -279,6 +282,17 @@ same-in-places limits s g h =
       keys = sym (keys-of-held limits (keysOf (s .held)));
       key-count = omega arith;
       least = refl;
+    }
+
+-- a member that keeps its list under limits is within them
+pub formed-within : (limits : Limits) (s : State) → stateFormed limits s ≡ true → Within limits s
+unfolding stateFormed heldFormed
+formed-within limits s e =
+    let p = and-parts (tableFormed limits (s .table)) (heldFormed limits (s .held)) e in
+    record {
+      sas = formed-count limits (s .table) (p .0);
+      heldKeys =
+          leb-true (s .held .count) (limits .heldKeys) (and-parts (leb (s .held .count) (limits .heldKeys)) _ (p .1) .0);
     }
 
 -- THE THEOREM, of any two records of limits

@@ -1,6 +1,6 @@
 // `speed wrap|open K`: 10,000 wraps or openings of 36 octets under a key of K octets, which each call expands. `speed frame K`: 100 times
-// 41 openings of 264 octets. That is the most that a frame can ask for: a registration has at most 32 WRAP_KEYs and 9 SA_KEYs, a rekey 40
-// SA_KEYs. Prints a checksum over what was written, so that nothing can be left out, and nothing where the arguments are others.
+// 41 openings of 264 octets. That was the most that a frame could ask for under document 01's limits: 32 WRAP_KEYs and 9 SA_KEYs in a
+// registration, 40 SA_KEYs in a rekey. By T-01 its octets allow 58; the count stays, so that times can be compared. Prints a checksum over what was written, so that nothing can be left out, and nothing where the arguments are others.
 use keywrap::Answer;
 use libc::STDOUT_FILENO;
 use octets::wide;
