@@ -228,6 +228,34 @@ ofBehind =
     at 49 (behind 52 (ah (128 ∷ 1 ∷ 0 ∷ 0 ∷ []))) ∷
     []
 
+-- ---- GSA_KEY_LIFETIME (document 02, T-07), in a policy of ESP, of AH and of the Rekey SA
+abbrev ofAh : List ℕ → List ℕ
+ofAh l = gsa (ah (ip4 ++ (ip4 ++ (tf 0 5 [] ++ l))))
+
+abbrev ofRekey : List ℕ → List ℕ
+ofRekey l = gsa (rekey (ip4 ++ (ip4 ++ (tf 0 5 [] ++ l))))
+
+abbrev hour : List ℕ
+hour = 0 ∷ 1 ∷ 0 ∷ 4 ∷ 0 ∷ 0 ∷ 14 ∷ 16 ∷ []
+
+abbrev ofLifetime : List Break
+ofLifetime =
+    -- in short form
+    at 80 (suited (tf 0 5 [] ++ (128 ∷ 1 ∷ 0 ∷ 4 ∷ []))) ∷
+    at 80 (ofAh (128 ∷ 1 ∷ 0 ∷ 4 ∷ [])) ∷
+    at 92 (ofRekey (128 ∷ 1 ∷ 0 ∷ 4 ∷ [])) ∷
+    -- not of 4 octets: none, one fewer, one more, twice as many
+    at 80 (suited (tf 0 5 [] ++ (0 ∷ 1 ∷ 0 ∷ 0 ∷ []))) ∷
+    at 80 (ofAh (0 ∷ 1 ∷ 0 ∷ 3 ∷ 0 ∷ 14 ∷ 16 ∷ [])) ∷
+    at 80 (suited (tf 0 5 [] ++ (0 ∷ 1 ∷ 0 ∷ 5 ∷ 0 ∷ 0 ∷ 0 ∷ 14 ∷ 16 ∷ []))) ∷
+    at 92 (ofRekey (0 ∷ 1 ∷ 0 ∷ 8 ∷ 0 ∷ 0 ∷ 0 ∷ 0 ∷ 0 ∷ 0 ∷ 14 ∷ 16 ∷ [])) ∷
+    -- behind one that is right; before GSA_INITIAL_MESSAGE_ID, where both are broken; in a policy behind a group-wide one
+    at 88 (suited (tf 0 5 [] ++ (hour ++ (128 ∷ 1 ∷ 0 ∷ 4 ∷ [])))) ∷
+    at 92 (ofRekey (128 ∷ 1 ∷ 0 ∷ 4 ∷ 128 ∷ 2 ∷ 0 ∷ 7 ∷ [])) ∷
+    at 100 (ofRekey (hour ++ (128 ∷ 2 ∷ 0 ∷ 7 ∷ []))) ∷
+    at 88 (gsa (wide (128 ∷ 1 ∷ 0 ∷ 4 ∷ []) ++ esp (ip4 ++ (ip4 ++ (tf 0 5 [] ++ (128 ∷ 1 ∷ 0 ∷ 4 ∷ [])))))) ∷
+    []
+
 -- ---- two breaks in one frame
 abbrev ofTwo : List Break
 ofTwo =
@@ -257,7 +285,7 @@ ofTwo =
 abbrev breaks : List Break
 breaks =
     ofHeader
-    ++ (ofPayload ++ (ofHead gsa ++ (ofHead kd ++ (ofMissing ++ (ofSelector ++ (ofTransform ++ (ofAttribute ++ (ofBehind ++ ofTwo))))))))
+    ++ (ofPayload ++ (ofHead gsa ++ (ofHead kd ++ (ofMissing ++ (ofSelector ++ (ofTransform ++ (ofAttribute ++ (ofLifetime ++ (ofBehind ++ ofTwo)))))))))
 
 -- "Number 1 carries the offset of the innermost payload, policy, bag, selector, transform or attribute whose layout broke first, or 0 for
 -- the header"
@@ -287,7 +315,10 @@ pub wholes-whole :
     gsa (wide [] ++ esp (ip4 ++ (ip4 ++ (tf 3 5 [] ++ tf 0 1 (128 ∷ 14 ∷ 0 ∷ 128 ∷ []))))) ∷
     gsa (rekey (ip4 ++ (ip4 ++ (tf 0 5 [] ++ (0 ∷ 2 ∷ 0 ∷ 4 ∷ 0 ∷ 0 ∷ 0 ∷ 7 ∷ []))))) ∷
     kd (esp (0 ∷ 1 ∷ 0 ∷ 24 ∷ (sixteen ++ take 8 sixteen)) ++ wide (0 ∷ 1 ∷ 0 ∷ 24 ∷ (sixteen ++ take 8 sixteen))) ∷
-    behind 51 (esp (ip6 ++ (ip4 ++ tf 0 1 [])) ++ ah (ip4 ++ (ip4 ++ tf 0 1 []))) ∷ behind 52 (ah (128 ∷ 9 ∷ 0 ∷ 0 ∷ [])) ∷ [])
-    ≡ replicate 8 layout.Whole
+    behind 51 (esp (ip6 ++ (ip4 ++ tf 0 1 [])) ++ ah (ip4 ++ (ip4 ++ tf 0 1 []))) ∷ behind 52 (ah (128 ∷ 9 ∷ 0 ∷ 0 ∷ [])) ∷
+    suited (tf 0 5 [] ++ (hour ++ hour)) ∷ ofAh hour ∷ ofRekey (hour ++ (0 ∷ 2 ∷ 0 ∷ 4 ∷ 0 ∷ 0 ∷ 0 ∷ 7 ∷ [])) ∷
+    -- in a group-wide policy attribute 1 is another one, in any form
+    gsa (wide (128 ∷ 1 ∷ 0 ∷ 4 ∷ 0 ∷ 1 ∷ 0 ∷ 3 ∷ 0 ∷ 14 ∷ 16 ∷ [])) ∷ [])
+    ≡ replicate 12 layout.Whole
 unfolding frameLayout frame payload body policy suite saBody selector transform bag attribute many chain chainUpTo number valuesOf stretches
 wholes-whole = refl

@@ -49,11 +49,11 @@ by-seconds : (now n : ℕ) → lifetimeFrom now (n ∷ []) ≡ Limited now n
 unfolding lifetimeFrom sum
 by-seconds now n = let e : n + 0 ≡ n = omega arith in ap (Limited now) e
 
-few-seconds : (n : ℕ) → any (λ (k : ℕ). ltb mostSeconds k) (n ∷ []) ≡ false → n ≤ 2000000
+few-seconds : (n : ℕ) → any (λ (k : ℕ). ltb mostSeconds k) (n ∷ []) ≡ false → n ≤ mostSeconds
 unfolding any
 few-seconds n g = by (ltb mostSeconds n) refl g
   where
-    by : (b : Bool) → ltb mostSeconds n ≡ b → b || false ≡ false → n ≤ 2000000
+    by : (b : Bool) → ltb mostSeconds n ≡ b → b || false ≡ false → n ≤ mostSeconds
     by true e f = absurd (false≢true (sym f))
     by false e f = let k = ltb-false mostSeconds n e in omega arith
 

@@ -34,6 +34,7 @@ pub mod OwnKey
 pub mod AtTick
 pub mod RunsLive
 pub mod RunsReplay
+pub mod RunsQuiet
 pub mod RanOut
 pub mod InbandBeside
 pub mod Inband

@@ -3,6 +3,7 @@ use Prim.Native.Nat.{ℕ, _≤_}
 use mathlib.Core.Path.{_≡_}
 use mathlib.Core.List.{[], _∷_}
 use Rattle.policies.specs.Policy.{GroupSaPolicy}
+use Rattle.sa.specs.Entry.{mostSeconds}
 use Rattle.sa.specs.declared.entry.Lifetime.{Lifetime}
 use Rattle.sa.specs.declared.entry.Lifetime.the-variants.{Unlimited, Limited}
 use Rattle.sa.specs.declared.entry.Sa.{Sa}
@@ -13,9 +14,9 @@ use Rattle.chains.specs.Chain.{In}
 -- "its lifetime (GSA_KEY_LIFETIME, ..) and the tick of its start, or "no lifetime" if the attribute is missing": the start is the tick of
 -- the frame that brings the SA of the policy p
 pub data LifetimeAs (now : ℕ) (p : GroupSaPolicy) : Lifetime → Type 0 where
-  its-seconds : (n : ℕ) → p .keyLifetimes ≡ n ∷ [] → n ≤ 2000000 → LifetimeAs now p (Limited now n)
+  its-seconds : (n : ℕ) → p .keyLifetimes ≡ n ∷ [] → n ≤ mostSeconds → LifetimeAs now p (Limited now n)
   no-lifetime : p .keyLifetimes ≡ [] → LifetimeAs now p Unlimited
 
 -- "at most 2,000,000 seconds", in each entry of a member
 abbrev pub LifetimesFit : State → Type 0
-LifetimesFit m = (a : Sa) → In a (sasOf (m .table)) → (start n : ℕ) → a .lifetime ≡ Limited start n → n ≤ 2000000
+LifetimesFit m = (a : Sa) → In a (sasOf (m .table)) → (start n : ℕ) → a .lifetime ≡ Limited start n → n ≤ mostSeconds
