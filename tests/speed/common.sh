@@ -50,8 +50,8 @@ heading() {
 }
 
 # members INPUT: a row with the milliseconds on INPUT.in of the second member, of the member program of another build, where BEFORE names
-# its directory, and of the member program; the ratios, the lines in a second, and the peak memory of each. Sets `hundredths` to the ratio
-# to the second member.
+# its directory, and of the member program; the ratios, the lines in a second, and the peak memory of each. The other build may have other
+# limits: where it answers otherwise, its time is left out. Sets `hundredths` to the ratio to the second member.
 members() {
   local product second_took before_took='' before_memory=- lines
   product=$(tests/product member) || return 1
@@ -59,9 +59,13 @@ members() {
   trial "$1" "$second" || return 1
   second_took=$best
   if [ -n "${BEFORE:-}" ]; then
-    trial "$1" "$BEFORE/member" || return 1
-    before_took=$best
-    before_memory=$(thousands "$(target/tests/peak "$BEFORE/member" "$1.in")")
+    if trial "$1" "$BEFORE/member" > "$1.said"; then
+      before_took=$best
+      before_memory=$(thousands "$(target/tests/peak "$BEFORE/member" "$1.in")")
+    else
+      echo "  no time of $BEFORE/member, which does not answer this run as it must"
+    fi
+    rm -f "$1.said"
   fi
   trial "$1" "$product" || return 1
   hundredths=$(((best * 100 + second_took / 2) / (second_took > 0 ? second_took : 1)))

@@ -1,5 +1,6 @@
 //! What looks odd and must not be refused: number 0. Several may be done to one frame, in the order of the table.
 
+use super::copies::{far_apart, under_none, under_one};
 use super::pairing::{esp_policies, fill, one_chain, sas_after};
 use super::{any, either_rekey, inband, registration, rekey, Exchange, Violation};
 use crate::case::Case;
@@ -181,6 +182,9 @@ pub const TABLE: &[Violation] = &[
         bag.attributes.extend(keys.iter().take(room).map(|(id, kwk)| Attribute::key(0, *id, &wrap(kwk, &key))));
         Some(())
     }),
+    rekey(0, "copies that all name one held key", under_one),
+    rekey(0, "copies that name none of the held keys", under_none),
+    rekey(0, "copies far apart that name one held key", |c| far_apart(c, &c.sa_key(REKEY)?)),
     rekey(0, "as many SA_KEY as may be", |c| fill(c, REKEY, MOST_SA_KEYS)),
     any(0, "as many ESP policies as may be", |c| {
         let others = c.member.table.len() + c.sa_keys.iter().filter(|sa| sa.0 == REKEY).count();

@@ -1,5 +1,6 @@
 //! Numbers 8 and 9.
 
+use super::copies::far_apart;
 use super::{any, either_rekey, inband, registration, rekey, Violation};
 use crate::case::Case;
 use builder::wrapping::{wrap, wrap_as};
@@ -63,6 +64,11 @@ pub const TABLE: &[Violation] = &[
         let at = c.rng.below(key.len());
         key[at] ^= 0x10;
         copy(c, &key)
+    }),
+    rekey(8, "Rekey key with another value in the last of copies far apart that name one held key", |c| {
+        let mut key = c.sa_key(REKEY)?;
+        *key.last_mut()? ^= 1;
+        far_apart(c, &key)
     }),
     any(8, "Rekey key of a wrong size, and an ESP key that does not open", |c| {
         let key = wrong_size(c, c.sa_key(REKEY)?.len());

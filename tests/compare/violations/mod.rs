@@ -3,6 +3,7 @@
 pub mod allowed;
 mod attributes;
 mod content;
+mod copies;
 mod keys;
 mod layout;
 mod order;
