@@ -132,7 +132,8 @@ module _ (s : List ℕ) (now delay : ℕ) (before : Table) where
         Later = deletesAmong (payloadsIn (r .next) (drop (at + r .end) s))
 
         pub going-here : kind ≡ 42 → (after : Table) →
-            after ≡ retiredThere (namedIn (deleteOf (part s (at + 4) (at + r .end)) .spis)) now delay t → Going all after (left - 1) (r .next) (at + r .end)
+            after ≡ retiredThere (namedIn (deleteOf (part s (at + 4) (at + r .end)) .spis)) now delay t →
+            Going all after (left - 1) (r .next) (at + r .end)
         going-here e after goes =
             let first : w .others ≡ deleteOf (part s (at + 4) (at + r .end)) ∷ Later = sym (w .here some) ∙ delete-here kind s at r g e in
             record {

@@ -3,3 +3,4 @@ pub mod NextLaws
 pub mod RetiringLaws
 pub mod FrameLaws
 pub mod Turns
+pub mod Renewed

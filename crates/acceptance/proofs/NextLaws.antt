@@ -10,10 +10,9 @@ use Rattle.keys.specs.Limits.{limits}
 use Rattle.keys.proofs.Rising.{length-keep}
 use Rattle.frames.specs.Delete.{Delete}
 use Rattle.frames.specs.Frame.{Frame}
-use Rattle.sa.specs.Entry.{rekey, due, retired}
+use Rattle.sa.specs.Entry.{rekey, due}
 use Rattle.sa.specs.declared.entry.Sa.{Sa}
 use Rattle.table.specs.Table.{sasOf, tableOf, notDue, swept, retiredIf}
-use Rattle.table.specs.inner.Changes.{retiredAll}
 use Rattle.table.specs.declared.Table.{Table}
 use Rattle.table.proofs.Laws.{changed-in}
 use Rattle.table.proofs.Kept.{sas-of-table}
@@ -25,9 +24,9 @@ use Rattle.clauses.specs.Contents.{deletesOf}
 use Rattle.clauses.specs.Number2.{standing}
 use Rattle.outcome.specs.After.{delayOf, newRekey, namedInDelete, replaced, oldSas, insertAll, leastBy, leastAfterwards}
 use Rattle.acceptance.specs.declared.next.Said.{Said}
-use Rattle.acceptance.specs.inner.Tables.{namedIn, retiredThere, AreDeletes}
+use Rattle.acceptance.specs.inner.Tables.{namedIn, outdated, retiredThere, AreDeletes}
 use Rattle.acceptance.specs.inner.Following.{Told}
-use Rattle.acceptance.proofs.TableLaws.{more-retired}
+use Rattle.acceptance.proofs.TableLaws.{picked-too, named-kept}
 use Rattle.acceptance.proofs.RetiringLaws.{there-table}
 
 -- ---- the old SAs
@@ -41,49 +40,35 @@ standing-room now t h =
     let n = length-take (t .count) (t .sas) in
     omega arith
 
-module _ (f : Frame) (m : State) (now delay : ℕ) (d : delayOf f ≡ delay) where
-  -- those of the frame's Delete payloads have retired, with this delay
-  abbrev pub deleted : Table
-  deleted = tableOf limits (map (retiredIf (namedInDelete f) now delay) (standing now m))
+or-swap : (a b : Bool) → (a || b) ≡ (b || a)
+or-swap true true = refl
+or-swap true false = refl
+or-swap false true = refl
+or-swap false false = refl
 
-  pub old-kept : newRekey f ≡ false → deleted ≡ tableOf limits (oldSas m now f)
-  unfolding oldSas replaced
-  old-kept e = λ i. tableOf limits (map (retiredIf (λ (a : Sa). same-test a i) now (sym d i)) (standing now m))
-    where
-      same-test : (a : Sa) → namedInDelete f a ≡ (namedInDelete f a || (newRekey f && eqb (a .protocol) rekey))
-      same-test a = rw e (or-false (namedInDelete f a))
-        where
-          or-false : (b : Bool) → b ≡ (b || false)
-          or-false true = refl
-          or-false false = refl
+same-test : (f : Frame) (new : Bool) → newRekey f ≡ new → (a : Sa) →
+    (outdated new a || namedInDelete f a) ≡ (namedInDelete f a || replaced f a)
+unfolding replaced
+same-test f new e a =
+    or-swap (outdated new a) (namedInDelete f a) ∙ ap (λ (b : Bool). namedInDelete f a || (b && eqb (a .protocol) rekey)) (sym e)
 
-  pub old-replaced : m .table .count ≤ limits .sas → newRekey f ≡ true →
-      retiredAll limits rekey now delay deleted ≡ tableOf limits (oldSas m now f)
-  unfolding oldSas replaced retiredAll retired
-  old-replaced h e =
-      more-retired now delay limits (standing now m) (standing-room now (m .table) h) (namedInDelete f)
-      (λ (a : Sa). eqb (a .protocol) rekey) (λ a. refl)
-      ∙ (λ i. tableOf limits (map (retiredIf (λ (a : Sa). namedInDelete f a || (sym e i && eqb (a .protocol) rekey)) now (sym d i))
-      (standing now m)))
-
--- the code's way to them: swept, then retired by the frame's Delete payloads, then by its new Rekey SA
-module _ (s : List ℕ) (now : ℕ) (x : Said) (t stand gone : Table) (h : t .count ≤ limits .sas) (e : stand ≡ swept limits now t)
+-- the code's way to them: those that stand, with a new Rekey SA the old one retired, then retired by the frame's Delete payloads
+module _ (s : List ℕ) (now : ℕ) (x : Said) (t stand gone : Table) (h : t .count ≤ limits .sas)
+    (e : stand ≡ tableOf limits (map (retiredIf (outdated (x .rekey)) now (x .delay)) (notDue now (sasOf t))))
     (by-frame : (l : List Delete) → AreDeletes s (x .deletes) l → gone ≡ retiredThere (namedIn (spisIn l)) now (x .delay) stand)
     (f : Frame) (m : State) (q : Told s x f) (k : m .table ≡ t) where
-  gone-is : gone ≡ deleted f m now (x .delay) (q .delay)
-  unfolding namedInDelete
+  pub gone-is : gone ≡ tableOf limits (oldSas m now f)
+  unfolding namedInDelete oldSas
   gone-is =
-      by-frame (deletesOf f) (q .deletes)
-      ∙ there-table now (x .delay) (namedInDelete f) stand (notDue now (sasOf t)) (standing-room now t h) (e ∙ swept-made now t h)
-      ∙ ap (λ (y : Table). tableOf limits (map (retiredIf (namedInDelete f) now (x .delay)) (notDue now (sasOf y)))) (sym k)
-
-  pub gone-kept : x .rekey ≡ false → gone ≡ tableOf limits (oldSas m now f)
-  gone-kept n = gone-is ∙ old-kept f m now (x .delay) (q .delay) (q .rekey ∙ n)
-
-  pub gone-replaced : (r : Table) → r ≡ retiredAll limits rekey now (x .delay) gone → x .rekey ≡ true → r ≡ tableOf limits (oldSas m now f)
-  gone-replaced r g n =
-      let room : m .table .count ≤ limits .sas = subst (λ (y : Table). y .count ≤ limits .sas) (sym k) h in
-      g ∙ ap (retiredAll limits rekey now (x .delay)) gone-is ∙ old-replaced f m now (x .delay) (q .delay) room (q .rekey ∙ n)
+      let l = notDue now (sasOf t) in
+      let old = retiredIf (outdated (x .rekey)) now (x .delay) in
+      let n = length-map l old in
+      let room : length (map old l) ≤ limits .sas = omega (arith, n, standing-room now t h) in
+      by-frame (deletesOf f) (q .deletes) ∙ there-table now (x .delay) (namedInDelete f) stand (map old l) room e
+      ∙ ap (tableOf limits) (picked-too now (x .delay) (outdated (x .rekey)) (namedInDelete f) (named-kept now (x .delay)
+      (spisIn (deletesOf f))) l)
+      ∙ (λ i. tableOf limits (map (retiredIf (λ (a : Sa). same-test f (x .rekey) (q .rekey) a i) now (sym (q .delay) i))
+      (notDue now (sasOf (sym k i)))))
 
 -- ---- there is room for the new ones, and the table is that of these SAs
 module _ (m : State) (now : ℕ) (f : Frame) where

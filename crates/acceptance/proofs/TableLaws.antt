@@ -16,9 +16,8 @@ use Rattle.sa.specs.declared.entry.Sa.{Sa}
 use Rattle.sa.specs.declared.entry.Condition.{Condition}
 use Rattle.sa.specs.declared.entry.Condition.the-variants.{Live, Retiring}
 use Rattle.table.specs.Table.{tableOf, retiredIf}
-use Rattle.table.specs.inner.Changes.{entered, retiredWhere}
+use Rattle.table.specs.inner.Changes.{entered}
 use Rattle.table.specs.declared.Table.{Table}
-use Rattle.table.proofs.Laws.{changed-in}
 use Rattle.table.proofs.Kept.{sas-of-table}
 use Rattle.outcome.specs.After.{insertAll}
 use Rattle.acceptance.specs.inner.Tables.{namedIn}
@@ -99,26 +98,10 @@ module _ (now delay : ℕ) where
     pub picked-once : (s : Sa) → retiredIf q now delay (retiredIf p now delay s) ≡ retiredIf (λ (a : Sa). p a || q a) now delay s
     picked-once s = picked-by s (p s) (q s) refl refl
 
-    picked-too : (l : List Sa) →
+    pub picked-too : (l : List Sa) →
         map (retiredIf q now delay) (map (retiredIf p now delay) l) ≡ map (retiredIf (λ (a : Sa). p a || q a) now delay) l
     picked-too [] = refl
     picked-too (s ∷ l) = ap₂ (λ (a : Sa) (m : List Sa). a ∷ m) (picked-once s) (picked-too l)
-
-  -- the table of these SAs, those that are picked retired
-  module _ (limits : Limits) (l : List Sa) (room : length l ≤ limits .sas) where
-    abbrev pub withRetired : (Sa → Bool) → Table
-    withRetired p = tableOf limits (map (retiredIf p now delay) l)
-
-    pub more-retired : (p q : Sa → Bool) → ((s : Sa) → q (retired now delay s) ≡ q s) →
-        retiredWhere limits q now delay (withRetired p) ≡ withRetired (λ (a : Sa). p a || q a)
-    unfolding tableOf
-    more-retired p q kept =
-        let m = map (retiredIf p now delay) l in
-        let n : length m ≡ length l = length-map l (retiredIf p now delay) in
-        let f : List Sa → List Sa = map (retiredIf q now delay) in
-        changed-in limits (tableOf limits m) f (omega arith)
-        ∙ ap (λ (k : List Sa). tableOf limits (f k)) (sas-of-table limits m)
-        ∙ ap (tableOf limits) (picked-too p q kept l)
 
 -- ---- the first SAs of a table, changed in their places
 pub turned-table : (limits : Limits) (t : Table) (g : Sa → Sa) (l : List Sa) → length l ≤ limits .sas → t ≡ tableOf limits l →

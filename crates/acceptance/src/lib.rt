@@ -2,3 +2,4 @@
 pub mod entering;
 pub mod next;
 pub mod retiring;
+pub mod standing;

@@ -14,9 +14,9 @@ ghost use Rattle.acceptance.specs.inner.Following.{Told, Follows};
 use crate::entering::entered_all;
 use crate::retiring::DeletesAt;
 use crate::retiring::retired_by_frame;
+use crate::standing::standing;
 use frames::exchanges::LeastAfter;
 use keys::limits::SAS;
-use sa::entry::REKEY;
 use sa::entry::Sa;
 use state::State;
 use state::held::Held;
@@ -36,19 +36,15 @@ pub struct Said {
     pub deletes: DeletesAt,
 }
 
-// The SAs of before: those that are due go; those that the frame's Delete payloads name retire, and with a new Rekey SA the old one.
+// The SAs of before: those that are due go; with a new Rekey SA the old one retires, and those that the frame's Delete payloads name.
 fn old_sas(t: Table, s: &[u8], tick: u32, x: Said) -> Table
     requires { ⌜ ((f : Frame) × Told (now s) x f) ⌝ }
     requires { ⌜ t .count ≤ limits .sas ⌝ }
     ensures { λ r. ⌜ ((f : Frame) (m : State) → Told (now (s .entry)) x f → m .table ≡ t → r ≡ tableOf limits (oldSas m tick f)) ⌝ }
 {
-    let standing = t.swept(tick);
     let d = x.deletes;
-    let retired = retired_by_frame(standing, s, d, tick, x.delay);
-    if x.rekey {
-        return retired.retired_all(REKEY, tick, x.delay);
-    }
-    retired
+    let stand = standing(t, x.rekey, tick, x.delay);
+    retired_by_frame(stand, s, d, tick, x.delay)
 }
 
 // The least acceptable Message ID: the new Rekey SA's first one, or what the exchange makes of the one before.

@@ -3,7 +3,7 @@ use native.Mathlib.Omega.{arith}
 use Prim.Native.Nat.{ℕ, _+_, _-_, _≤_, _<_}
 use mathlib.Core.Path.{_≡_, refl, ap, sym, _∙_}
 use mathlib.Core.Bool.{Bool, true, false, cond}
-use mathlib.Core.List.{List, [], _∷_, _++_, map}
+use mathlib.Core.List.{List, [], _∷_, _++_}
 use borrow.Author.Tests.{le-leb, lt-leb, ne-eqb}
 use lib.Dec.{leb, eqb, eqb·suc-zero}
 use lib.ListN.{length, take, drop, getD, replicate}
@@ -13,14 +13,13 @@ use Rattle.keys.proofs.Cases.{bool-cases, lt-cases}
 use Rattle.keys.proofs.Lists.{all-yes, all-no, all-end, count-yes, count-no, count-end, rising-next, rising-end}
 use Rattle.keys.proofs.Parts.{part-cons, part-end}
 use Rattle.keys.proofs.Fill.{Filled, filled-count, filled-all}
-use Rattle.sa.specs.Entry.{before, formed, liveRekey, named, due, retired, blankSa}
+use Rattle.sa.specs.Entry.{before, formed, liveRekey, due, retired, blankSa}
 use Rattle.sa.specs.declared.entry.Sa.{Sa}
 use Rattle.table.specs.declared.Table.{Table}
 use Rattle.table.specs.declared.Found.{Found}
 use Rattle.table.specs.Table.{sasOf, tableOf, tableFormed, changed, swept, stays, notDue, emptyAt, retiredIf, none}
 use Rattle.table.specs.inner.Changes.{standingCount}
 use Rattle.table.specs.Table.{theOne, foundIn}
-use Rattle.table.specs.inner.Loops.{picked}
 
 -- ---- a table that was filled
 pub table-made : (limits : Limits) (out l : List Sa) (k : ℕ) → Filled
@@ -204,14 +203,7 @@ unfolding standingCount
 empty-is limits now k t e =
     lt-cases (limits .sas) (t .count) (λ h. empty-out limits now k t h e) (λ h. empty-in limits now k t h e)
 
--- ---- each SA changed
-module _ {A : Type 0} (f : A → A) (l : List A) (n : ℕ) (h : n ≤ length l) (j : ℕ) where
-  pub map-next : (d : A) → j < n → map f (drop j (take n l)) ≡ f (getD l j d) ∷ map f (drop (j + 1) (take n l))
-  map-next d g = rw (part-cons l n h j d g)
-
-  pub map-end : n ≤ j → map f (drop j (take n l)) ≡ []
-  map-end g = rw (part-end l n h j g)
-
+-- ---- an SA that is picked, and one that is not
 module _ (p : Sa → Bool) (now delay : ℕ) (s r : Sa) where
   pub retired-yes : true ≡ p s → r ≡ retired now delay s → r ≡ retiredIf p now delay s
   unfolding retiredIf
@@ -220,11 +212,3 @@ module _ (p : Sa → Bool) (now delay : ℕ) (s r : Sa) where
   pub retired-no : false ≡ p s → s ≡ retiredIf p now delay s
   unfolding retiredIf
   retired-no e = rw (← e)
-
--- which SAs are picked
-module _ (all : Bool) (p : ℕ) (x : List ℕ) (s : Sa) where
-  pub picked-protocol : all ≡ true → (b : Bool) → eqb (s .protocol) p ≡ b → b ≡ picked all p x s
-  picked-protocol e b f = sym f ∙ sym (ap (λ (a : Bool). picked a p x s) e)
-
-  pub picked-named : all ≡ false → (b r : Bool) → r ≡ b → r ≡ named p x s → b ≡ picked all p x s
-  picked-named e b r f g = sym f ∙ g ∙ sym (ap (λ (a : Bool). picked a p x s) e)

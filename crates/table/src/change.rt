@@ -3,9 +3,8 @@ ghost use mathlib.Core.Path.{_≡_};
 ghost use mathlib.Core.Bool.{_||_};
 ghost use Rattle.keys.specs.Limits.{limits};
 ghost use Rattle.sa.specs.Entry.{before};
-ghost use Rattle.table.specs.Table.{swept, emptyAt, retiredIf};
-ghost use Rattle.table.specs.inner.Changes.{standingCount, retiredWhere, retiredAll};
-ghost use Rattle.table.specs.inner.Loops.{picked};
+ghost use Rattle.table.specs.Table.{swept, emptyAt};
+ghost use Rattle.table.specs.inner.Changes.{standingCount};
 use crate::Table;
 use keys::limits::SAS;
 use sa::entry::Sa;
@@ -18,22 +17,6 @@ pub fn goes_ahead(placed: bool, a: Sa, s: Sa) -> bool
         return true;
     }
     a.before(s)
-}
-
-// The SA as it retires if it is picked: every SA of the protocol, or the one with this SPI.
-fn retired_if(s: Sa, all: bool, protocol: u8, spi: &[u8], tick: u32, delay: u16) -> Sa
-    ensures { λ r. ⌜ r ≡ retiredIf (picked all protocol (now (spi .entry))) tick delay s ⌝ }
-{
-    if all {
-        if s.protocol == protocol {
-            return s.retired(tick, delay);
-        }
-        return s;
-    }
-    if s.named(protocol, spi) {
-        return s.retired(tick, delay);
-    }
-    s
 }
 
 impl Table {
@@ -84,32 +67,5 @@ impl Table {
         ensures { λ r. ⌜ r ≡ emptyAt limits tick self ⌝ }
     {
         self.standing(tick) == 0
-    }
-
-    // The table with the picked SAs retired.
-    fn retired_where(self, all: bool, protocol: u8, spi: &[u8], tick: u32, delay: u16) -> Table
-        ensures { λ r. ⌜ r ≡ retiredWhere limits (picked all protocol (now (spi .entry))) tick delay self ⌝ }
-    {
-        let n = self.count;
-        if SAS < n {
-            return self;
-        }
-        let mut out = [Sa::blank(); SAS];
-        let mut i: usize = 0;
-        while i < n {
-            let s = self.sas[i];
-            let t = retired_if(s, all, protocol, spi, tick, delay);
-            out[i] = t;
-            i += 1;
-        }
-        Table { sas: out, count: n }
-    }
-
-    // Every live SA of the protocol retires. Internal.
-    pub fn retired_all(self, protocol: u8, tick: u32, delay: u16) -> Table
-        ensures { λ r. ⌜ r ≡ retiredAll limits protocol tick delay self ⌝ }
-    {
-        let none = [0u8; 1];
-        self.retired_where(true, protocol, &none[0..0], tick, delay)
     }
 }

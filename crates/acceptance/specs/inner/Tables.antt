@@ -10,7 +10,7 @@ use Rattle.keys.specs.Lists.{any}
 use Rattle.keys.specs.Limits.{limits}
 use Rattle.frames.specs.Delete.{Delete}
 use Rattle.payloads.specs.inner.Deletion.{DeletesFrom}
-use Rattle.sa.specs.Entry.{esp, spiOf}
+use Rattle.sa.specs.Entry.{esp, rekey, spiOf}
 use Rattle.sa.specs.declared.entry.Sa.{Sa}
 use Rattle.table.specs.Table.{retiredIf}
 use Rattle.table.specs.declared.Table.{Table}
@@ -20,6 +20,10 @@ use Rattle.acceptance.specs.declared.retiring.DeletesAt.{DeletesAt}
 -- what some of these SPIs name
 abbrev pub namedIn : List (List ℕ) → Sa → Bool
 namedIn l s = eqb (s .protocol) esp && any (λ (x : List ℕ). isZero x || same (spiOf s) x) l
+
+-- with a new Rekey SA, the old one
+abbrev pub outdated : Bool → Sa → Bool
+outdated new s = new && eqb (s .protocol) rekey
 
 -- the SAs of a table that a test picks retire in their places; where its count is not within the limit, none does
 unfoldable pub retiredThere : (Sa → Bool) → ℕ → ℕ → Table → Table

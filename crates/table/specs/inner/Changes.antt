@@ -1,8 +1,8 @@
--- Changes of a table, one SA or one kind of SA at a time, and a count.
+-- Changes of a table, and a count.
 use Prim.Native.Nat.{ℕ}
 use mathlib.Core.Bool.{Bool, cond}
 use mathlib.Core.List.{List, map}
-use lib.Dec.{ltb, eqb}
+use lib.Dec.{ltb}
 use Rattle.keys.specs.Lists.{insert}
 use Rattle.keys.specs.Limits.{Limits}
 use Rattle.sa.specs.Entry.{before}
@@ -16,10 +16,6 @@ standingCount limits now t = swept limits now t .count
 
 abbrev pub retiredWhere : Limits → (Sa → Bool) → ℕ → ℕ → Table → Table
 retiredWhere limits p now delay t = changed limits (map (retiredIf p now delay)) t
-
--- the live SAs of a protocol
-unfoldable pub retiredAll : Limits → ℕ → ℕ → ℕ → Table → Table
-retiredAll limits p now delay t = retiredWhere limits (λ (s : Sa). eqb (s .protocol) p) now delay t
 
 -- one SA more at its place, if there is room
 unfoldable pub entered : Limits → Sa → Table → Table

@@ -74,7 +74,8 @@ retired-spis-requires : tie.Need-retired-spis-requires Inv-loop μ-loop
 retired-spis-requires c κs =
     let p = c .before .before .before in
     let l = p .before .before .before .loop in
-    fits-here (l .kind) (now (p .before .before .before .before .before .args .s)) (l .at) (p .payload-parts .result) (one p) (c .before .if1 .taken)
+    fits-here (l .kind) (now (p .before .before .before .before .before .args .s)) (l .at) (p .payload-parts .result)
+    (one p) (c .before .if1 .taken)
 
 sub-left : tie.Need-sub-left Inv-loop μ-loop
 sub-left c = search (needs, c .before .before .before .before .before .before .loop-test .taken)
