@@ -21,7 +21,7 @@ pub struct KeyFacts {
     pub itself: bool,
 }
 
-// The same, with the key more that is the value of an attribute.
+// The same with one key more, the value of an attribute.
 fn with_key(f: KeyFacts, v: &[u8]) -> KeyFacts
     requires { ⌜ (8 ≤ length (now v)) × (f .keys < 18446744073709551615) ⌝ }
     ensures { λ r. ⌜ r ≡ withKey f (now (v .entry)) ⌝ }

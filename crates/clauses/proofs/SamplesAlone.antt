@@ -11,7 +11,8 @@ use Rattle.sa.specs.declared.entry.Condition.the-variants.{Live}
 use Rattle.policies.specs.Selector.{Selector}
 use Rattle.policies.specs.Policy.{groupSa}
 use Rattle.frames.specs.Frame.{Payload, Content, gsa, kd, unread}
-use Rattle.clauses.proofs.SampleParts.{spi, liveSpi, nextSpi, thirdSpi, transform, selector, ip4, group, saPolicy, policy, rekeySuite}
+use Rattle.clauses.proofs.SampleParts.{spi, liveSpi, nextSpi, thirdSpi, transform}
+use Rattle.clauses.proofs.SampleParts.{selector, ip4, group, saPolicy, policy, rekeySuite}
 use Rattle.clauses.proofs.SampleParts.{espPolicy, rekeyPolicy, wide, saKey, wrapKey, bag, espBag, rekeyBag, memberBag, deletes}
 use Rattle.clauses.proofs.SampleParts.{payload, frameOf, registers, rekeys, inband, another}
 use Rattle.clauses.proofs.SampleParts.{own, fit, deletion, rekeyAt, dueLater, espSas, wrapKeys}

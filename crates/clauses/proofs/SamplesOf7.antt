@@ -3,7 +3,8 @@ use mathlib.Core.List.{List, [], _∷_, map}
 use lib.ListN.{replicate}
 use Rattle.sa.specs.declared.entry.Condition.the-variants.{Live}
 use Rattle.frames.specs.Frame.{Frame, gsa, kd}
-use Rattle.clauses.proofs.SampleParts.{spi, nextSpi, espPolicy, rekeyPolicy, espBag, rekeyBag, deletes, registers, rekeys, upTo, espSas}
+use Rattle.clauses.proofs.SampleParts.{spi, nextSpi, espPolicy, rekeyPolicy, espBag}
+use Rattle.clauses.proofs.SampleParts.{rekeyBag, deletes, registers, rekeys, upTo, espSas}
 use Rattle.clauses.proofs.SampleParts.{wrapKeys, copies, deleted, oneMore, dueNow, dueLater, having, Sample, sample, anew, later}
 
 -- a rekey that announces two ESP SAs more, one that announces a Rekey SA, and one that announces both kinds

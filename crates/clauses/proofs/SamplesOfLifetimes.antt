@@ -14,7 +14,8 @@ use Rattle.state.proofs.ApartLimits.{apart}
 use Rattle.policies.specs.Policy.{Policy}
 use Rattle.frames.specs.Frame.{Frame, Content, gsa, kd}
 use Rattle.clauses.proofs.SampleParts.{spi, liveSpi, nextSpi, espSuite, rekeySuite, group, saPolicy, lasting, espPolicy}
-use Rattle.clauses.proofs.SampleParts.{rekeyPolicy, espBag, rekeyBag, frameOf, registers, rekeys, inband, fit, deletion, deleting, upTo}
+use Rattle.clauses.proofs.SampleParts.{rekeyPolicy, espBag, rekeyBag, frameOf, registers}
+use Rattle.clauses.proofs.SampleParts.{rekeys, inband, fit, deletion, deleting, upTo}
 use Rattle.clauses.proofs.SampleParts.{oneMore, espAt, rekeyAt, espFor, rekeyFor}
 use Rattle.clauses.proofs.SampleParts.{dueNow, dueLater, outNow, outLater, memberOf, memberWithin, Sample, sample, anew, later}
 

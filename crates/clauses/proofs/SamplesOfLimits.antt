@@ -7,7 +7,8 @@ use Rattle.state.specs.declared.State.{State}
 use Rattle.state.specs.declared.held.HeldKey.{HeldKey}
 use Rattle.state.specs.declared.least.Least.the-variants.{Id}
 use Rattle.state.proofs.ApartLimits.{apart}
-use Rattle.clauses.proofs.SampleParts.{registers, rekeys, fit, deletion, espSas, wrapKeys, copies, deleted, oneMore, sasWith, heldKey}
+use Rattle.clauses.proofs.SampleParts.{registers, rekeys, fit, deletion, espSas}
+use Rattle.clauses.proofs.SampleParts.{wrapKeys, copies, deleted, oneMore, sasWith, heldKey}
 use Rattle.clauses.proofs.SampleParts.{memberWithin, Sample, sample}
 
 abbrev with : List Sa → List HeldKey → State

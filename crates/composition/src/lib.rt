@@ -16,6 +16,7 @@ ghost use Rattle.contents.specs.inner.Policies.{policiesIn};
 ghost use Rattle.composition.specs.inner.Facts.{noPolicies, ofSa, saWith, wideBy, together, factsOf, Holds, OfOne, AtMost, Added};
 use attributes::tables::Meaning;
 use attributes::tables::Place;
+use contents::one_if;
 use contents::policy::AH;
 use contents::policy::ESP;
 use contents::policy::REKEY;
@@ -25,7 +26,6 @@ use numbers::greater_u32;
 use numbers::if_so;
 use numbers::numbers_of;
 use sa::entry::MOST_SECONDS;
-use suites::counts::one_if;
 
 // What the policies of a GSA payload have.
 pub struct PolicyFacts {

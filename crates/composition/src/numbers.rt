@@ -65,7 +65,7 @@ fn number_of(m: Meaning, v: &[u8]) -> u32
     }
 }
 
-// The same, with the number more that is the value of an attribute.
+// The same with one number more, the value of an attribute.
 fn with_number(m: Meaning, n: Numbers, v: &[u8]) -> Numbers
     requires { ⌜ (isNumber m ≡ true) × (valueSize m (length (now v)) ≡ true) × (n .count < 18446744073709551615) × (n .greatest ≤ most m) ⌝ }
     ensures { λ r. ⌜ (r ≡ withNumber m n (now (v .entry))) × (r .greatest ≤ most m) ⌝ }

@@ -19,13 +19,17 @@ use Rattle.attributes.specs.Tree.{codeOf, means, valuesOf}
 use Rattle.attributes.specs.Layout.{formedIn, fitsIn, attribute, attributes}
 use Rattle.attributes.specs.Grammar.{IsAttribute}
 use Rattle.contents.specs.inner.Values.{isWhole, itemsOf, attributesIn, valuesIn, placesOf, placesIn, valueSize}
-use Rattle.contents.specs.inner.Values.{MetAt, firstValue, firstStart}
+use Rattle.contents.specs.inner.Values.{once, nowhere, MetAt, firstValue, firstStart}
 use Rattle.contents.specs.declared.Stretch.{Stretch}
 use Rattle.attributes.specs.declared.tables.Place.{Place}
 use Rattle.attributes.specs.declared.tables.Meaning.{Meaning}
 use Rattle.attributes.specs.declared.tables.Meaning.the-variants as meaning
 use Rattle.attributes.proofs.AttributeLaws.{takes, IsRead, read-inside, value-there, starts-there}
 use Rattle.attributes.proofs.GrammarLaws.{sound, complete, are-read, read-are}
+
+pub few-once : (n : ℕ) (b : Bool) → n ≡ once b → n ≤ 1
+few-once n true e = omega (arith, e)
+few-once n false e = omega (arith, e)
 
 -- a whole reading, with its items
 pub whole-is : {A : Type 0} (x : Reading (List A)) → isWhole x ≡ true → (rest : List ℕ) × (x ≡ whole (itemsOf x) rest)
@@ -212,13 +216,13 @@ module _ (m : Meaning) (p : Place) (s : List ℕ) (from b e : ℕ) (f : MetAt m 
   met-first = f .octets ∙ sym (ap (λ (l : List (List ℕ)). getD l 0 []) (f .value .first))
 
   pub met-place : valueStart s b ≡ firstStart m p s from
-  met-place = sym (ap (λ (l : List Stretch). getD l 0 (record { start = 0; end = 0 }) .start) (f .value .place))
+  met-place = sym (ap (λ (l : List Stretch). getD l 0 nowhere .start) (f .value .place))
 
 pub none-first : (m : Meaning) (p : Place) (s : List ℕ) (from : ℕ) → valuesIn m p (drop from s) ≡ [] → [] ≡ firstValue m p s from
 none-first m p s from e = sym (ap (λ (l : List (List ℕ)). getD l 0 []) e)
 
 pub none-start : (m : Meaning) (p : Place) (s : List ℕ) (from : ℕ) → placesIn m p s from ≡ [] → 0 ≡ firstStart m p s from
-none-start m p s from e = sym (ap (λ (l : List Stretch). getD l 0 (record { start = 0; end = 0 }) .start) e)
+none-start m p s from e = sym (ap (λ (l : List Stretch). getD l 0 nowhere .start) e)
 
 -- the same list at any offset
 pub any-offset : (p : Place) (b c : ℕ) (s : List ℕ) (l : List Attribute) (rest : List ℕ) → attributes p b s ≡ whole l rest

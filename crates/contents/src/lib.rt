@@ -1,4 +1,7 @@
 // What a frame whose layout is whole holds, gone through again by the judging that follows.
+ghost use mathlib.Core.Path.{_≡_};
+ghost use Rattle.contents.specs.inner.Values.{once};
+
 pub mod bag;
 pub mod body;
 pub mod payload;
@@ -9,4 +12,14 @@ pub mod values;
 pub struct Stretch {
     pub start: usize,
     pub end: usize,
+}
+
+// 1 where it is so. Internal.
+pub fn one_if(b: bool) -> usize
+    ensures { λ r. ⌜ r ≡ once b ⌝ }
+{
+    if b {
+        return 1;
+    }
+    0
 }

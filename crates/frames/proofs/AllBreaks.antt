@@ -44,7 +44,7 @@ gsa l = framed 51 (held 0 l)
 abbrev kd : List ℕ → List ℕ
 kd l = framed 52 (held 0 l)
 
--- a group-wide policy or Member Key Bag; a policy or bag of ESP, and of the Rekey SA
+-- a group-wide policy or Member Key Bag; a policy or bag of ESP, of the Rekey SA, and of AH
 abbrev wide : List ℕ → List ℕ
 wide l = 0 ∷ 0 ∷ 0 ∷ (4 + length l) ∷ l
 
@@ -57,12 +57,18 @@ sixteen = 1 ∷ 2 ∷ 3 ∷ 4 ∷ 5 ∷ 6 ∷ 7 ∷ 8 ∷ 9 ∷ 10 ∷ 11 ∷ 12
 abbrev rekey : List ℕ → List ℕ
 rekey l = 6 ∷ 16 ∷ 0 ∷ (20 + length l) ∷ (sixteen ++ l)
 
+abbrev ah : List ℕ → List ℕ
+ah l = 2 ∷ 4 ∷ 0 ∷ (8 + length l) ∷ 9 ∷ 8 ∷ 7 ∷ 6 ∷ l
+
 -- a selector of 16 octets: type and length
 abbrev ts : ℕ → ℕ → List ℕ
 ts t n = t ∷ 0 ∷ 0 ∷ n ∷ 0 ∷ 0 ∷ 0 ∷ 0 ∷ 239 ∷ 1 ∷ 2 ∷ 3 ∷ 239 ∷ 1 ∷ 2 ∷ 3 ∷ []
 
 abbrev ip4 : List ℕ
 ip4 = ts 7 16
+
+abbrev ip6 : List ℕ
+ip6 = 8 ∷ 0 ∷ 0 ∷ 40 ∷ replicate 36 0
 
 -- a transform: 3 or 0, its type, its attributes
 abbrev tf : ℕ → ℕ → List ℕ → List ℕ
@@ -203,6 +209,25 @@ ofAttribute =
     at 40 (kd (wide (128 ∷ 2 ∷ 0 ∷ 0 ∷ 128 ∷ 1 ∷ 0 ∷ 0 ∷ []))) ∷
     []
 
+-- ---- behind others of its kind and of other sizes: a payload of 5 octets, then one of kind k, whose first item of 4 octets stands at 37
+abbrev behind : ℕ → List ℕ → List ℕ
+behind k l = framed 41 (held k (9 ∷ []) ++ held 0 (wide [] ++ l))
+
+abbrev ofBehind : List Break
+ofBehind =
+    -- a policy's head, one that ends where a selector is due, a bag's head
+    at 41 (behind 51 (1 ∷ 0 ∷ 0 ∷ 4 ∷ [])) ∷
+    at 41 (behind 51 (esp [])) ∷
+    at 41 (behind 52 (1 ∷ 0 ∷ 0 ∷ 4 ∷ [])) ∷
+    -- a selector behind one of 40 octets, the second attribute of the second transform, the second of a bag
+    at 89 (behind 51 (esp (ip6 ++ (ts 9 16 ++ tf 0 5 [])))) ∷
+    at 125 (behind 51 (esp (ip6 ++ (ip4 ++ (tf 3 5 [] ++ tf 0 1 (128 ∷ 14 ∷ 0 ∷ 128 ∷ 0 ∷ 14 ∷ 0 ∷ 0 ∷ [])))))) ∷
+    at 53 (behind 52 (esp (128 ∷ 9 ∷ 0 ∷ 0 ∷ 0 ∷ 1 ∷ 0 ∷ 0 ∷ []))) ∷
+    -- in AH, which is not supported: Key Length in long form, SA_KEY in short form
+    at 89 (behind 51 (ah (ip4 ++ (ip4 ++ tf 0 1 (0 ∷ 14 ∷ 0 ∷ 0 ∷ []))))) ∷
+    at 49 (behind 52 (ah (128 ∷ 1 ∷ 0 ∷ 0 ∷ []))) ∷
+    []
+
 -- ---- two breaks in one frame
 abbrev ofTwo : List Break
 ofTwo =
@@ -231,7 +256,8 @@ ofTwo =
 
 abbrev breaks : List Break
 breaks =
-    ofHeader ++ (ofPayload ++ (ofHead gsa ++ (ofHead kd ++ (ofMissing ++ (ofSelector ++ (ofTransform ++ (ofAttribute ++ ofTwo)))))))
+    ofHeader
+    ++ (ofPayload ++ (ofHead gsa ++ (ofHead kd ++ (ofMissing ++ (ofSelector ++ (ofTransform ++ (ofAttribute ++ (ofBehind ++ ofTwo))))))))
 
 -- "Number 1 carries the offset of the innermost payload, policy, bag, selector, transform or attribute whose layout broke first, or 0 for
 -- the header"
@@ -244,13 +270,24 @@ pub too-long : frameLayout (take 24 (header 41 32 0) ++ (0 ∷ 0 ∷ 64 ∷ 1 �
 unfolding frameLayout frame number
 too-long = refl
 
+-- an SA_KEY of 256 + n octets in a bag of ESP: at most 264 are wrapped, behind the two IDs
+abbrev longKey : ℕ → List ℕ
+longKey n =
+    take 24 (header 52 32 0)
+    ++ (0 ∷ 0 ∷ 1 ∷ (44 + n) ∷ 0 ∷ 0 ∷ 1 ∷ (16 + n) ∷ 3 ∷ 4 ∷ 1 ∷ (12 + n) ∷ 9 ∷ 8 ∷ 7 ∷ 6 ∷ 0 ∷ 1 ∷ 1 ∷ n ∷ replicate (256 + n) 0)
+
+pub key-too-long : map frameLayout (longKey 16 ∷ longKey 24 ∷ []) ≡ layout.Whole ∷ layout.Broken 40 ∷ []
+unfolding frameLayout frame payload body bag attribute many chain chainUpTo number valuesOf
+key-too-long = refl
+
 -- without its fault each of these would be whole: what the rows are made of
 pub wholes-whole :
     map frameLayout
     (header 0 32 28 ∷ framed 41 (held 42 [] ++ held 0 (3 ∷ 4 ∷ 0 ∷ 1 ∷ 1 ∷ 2 ∷ 3 ∷ 4 ∷ [])) ∷ gsa (wide (128 ∷ 2 ∷ 0 ∷ 5 ∷ [])) ∷
     gsa (wide [] ++ esp (ip4 ++ (ip4 ++ (tf 3 5 [] ++ tf 0 1 (128 ∷ 14 ∷ 0 ∷ 128 ∷ []))))) ∷
     gsa (rekey (ip4 ++ (ip4 ++ (tf 0 5 [] ++ (0 ∷ 2 ∷ 0 ∷ 4 ∷ 0 ∷ 0 ∷ 0 ∷ 7 ∷ []))))) ∷
-    kd (esp (0 ∷ 1 ∷ 0 ∷ 24 ∷ (sixteen ++ take 8 sixteen)) ++ wide (0 ∷ 1 ∷ 0 ∷ 24 ∷ (sixteen ++ take 8 sixteen))) ∷ [])
-    ≡ replicate 6 layout.Whole
+    kd (esp (0 ∷ 1 ∷ 0 ∷ 24 ∷ (sixteen ++ take 8 sixteen)) ++ wide (0 ∷ 1 ∷ 0 ∷ 24 ∷ (sixteen ++ take 8 sixteen))) ∷
+    behind 51 (esp (ip6 ++ (ip4 ++ tf 0 1 [])) ++ ah (ip4 ++ (ip4 ++ tf 0 1 []))) ∷ behind 52 (ah (128 ∷ 9 ∷ 0 ∷ 0 ∷ [])) ∷ [])
+    ≡ replicate 8 layout.Whole
 unfolding frameLayout frame payload body policy suite saBody selector transform bag attribute many chain chainUpTo number valuesOf stretches
 wholes-whole = refl

@@ -14,7 +14,7 @@ use Rattle.keys.specs.Lists.{any, count}
 use Rattle.keys.proofs.Cases.{bool-cases, lt-cases}
 use Rattle.policies.specs.Policy.{headSize}
 use Rattle.bags.specs.Bag.{bags}
-use Rattle.contents.specs.inner.Values.{isWhole}
+use Rattle.contents.specs.inner.Values.{nowhere, isWhole}
 use Rattle.contents.specs.inner.Bags.{bagsIn, BagIs}
 use Rattle.contents.specs.declared.Stretch.{Stretch}
 use Rattle.contents.specs.declared.policy.Parts.{Parts}
@@ -23,7 +23,7 @@ use Rattle.clauses.specs.Contents.{gather, groupBagOf}
 use Rattle.clauses.specs.Number6.{bagNamed}
 use Rattle.bagkeys.proofs.BagAt.{BagAt, bag-there, bag-at}
 use Rattle.pairing.specs.inner.Names.{nameOf, nameAt, isNamed}
-use Rattle.pairing.specs.inner.Stretches.{nowhere, bagFrom, bagOf}
+use Rattle.pairing.specs.inner.Stretches.{bagFrom, bagOf}
 use Rattle.pairing.proofs.NamesOf.{parts, heads}
 use Rattle.pairing.proofs.Seeking.{StretchIs, Seeking, seeking-start, seeking-end, seeking-yes, seeking-no}
 

@@ -38,7 +38,7 @@ pub fn count_names(protocol: usize, spi: &[u8], s: &[u8]) -> usize
     n
 }
 
-// Whether a policy or key bag with this first octet and SPI has a name that not exactly one of the other body has.
+// Whether the name of a policy or key bag, by this first octet and SPI, stands in the other body never or more than once.
 fn is_unpaired(first: usize, x: &[u8], t: &[u8]) -> bool
     requires { ⌜ ((m : List Name) × Names (now t) m) ⌝ }
     ensures { λ r. ⌜ ((m : List Name) → Names (now (t .entry)) m → r ≡ any (isUnpaired m) (nameOf first (now (x .entry)))) ⌝ }
@@ -49,7 +49,7 @@ fn is_unpaired(first: usize, x: &[u8], t: &[u8]) -> bool
     count_names(first, x, t) != 1
 }
 
-// Whether some policy or key bag of the first body has a name that not exactly one of the second body has. Internal.
+// Whether some name of the first body stands in the second never or more than once. Internal.
 pub fn any_unpaired(s: &[u8], t: &[u8]) -> bool
     requires { ⌜ ((l : List Name) × Names (now s) l) × ((m : List Name) × Names (now t) m) ⌝ }
     ensures { λ r. ⌜

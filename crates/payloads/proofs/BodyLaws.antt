@@ -12,11 +12,11 @@ use Rattle.keys.specs.Lists.{keep}
 use Rattle.keys.proofs.Cases.{bool-cases}
 use Rattle.frames.specs.Delete.{Delete}
 use Rattle.frames.specs.Frame.{Payload, payloads, exactly}
-use Rattle.contents.specs.inner.Values.{isWhole}
+use Rattle.contents.specs.inner.Values.{nowhere, isWhole}
 use Rattle.contents.specs.inner.Payloads.{payloadsIn}
 use Rattle.contents.specs.declared.Stretch.{Stretch}
 use Rattle.contents.specs.declared.payload.PayloadParts.{PayloadParts}
-use Rattle.payloads.specs.inner.Places.{nowhere, bodyFrom}
+use Rattle.payloads.specs.inner.Places.{bodyFrom}
 use Rattle.payloads.specs.inner.Facts.{ofKind}
 use Rattle.payloads.specs.inner.Deletion.{deletesAmong, DeletesFrom}
 use Rattle.payloads.proofs.StepLaws.{Step, none-left, a-step}

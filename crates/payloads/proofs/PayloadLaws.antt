@@ -15,14 +15,15 @@ use Rattle.keys.proofs.Cases.{bool-cases}
 use Rattle.frames.specs.Header.{firstPayload}
 use Rattle.frames.specs.Delete.{Delete, deleteOf, deleteFits}
 use Rattle.frames.specs.Frame.{Payload, isKnown, payloads, exactly}
-use Rattle.contents.specs.inner.Values.{isWhole}
+use Rattle.contents.specs.inner.Values.{nowhere, isWhole}
 use Rattle.contents.specs.inner.Payloads.{payloadsIn}
 use Rattle.contents.specs.declared.Stretch.{Stretch}
 use Rattle.contents.specs.declared.payload.PayloadParts.{PayloadParts}
 use Rattle.clauses.specs.Number4.{unknownCritical}
 use Rattle.clauses.proofs.OneOf.{or-false, or-joined}
-use Rattle.payloads.specs.inner.Places.{nowhere, bodyFrom, bodyOf}
-use Rattle.payloads.specs.inner.Deletion.{once, withOne, deletesWith, deletesAmong}
+use Rattle.payloads.specs.inner.Places.{bodyFrom, bodyOf}
+use Rattle.contents.specs.inner.Values.{once}
+use Rattle.payloads.specs.inner.Deletion.{withOne, deletesWith, deletesAmong}
 use Rattle.payloads.specs.inner.Facts.{payloadsOf, ofKind, factsOf, noPayloads, firstWith, withPayload, Room, Grown}
 use Rattle.payloads.specs.declared.deletion.Deletes.{Deletes}
 use Rattle.payloads.specs.declared.PayloadFacts.{PayloadFacts}
@@ -157,7 +158,8 @@ module _ (s : List ℕ) where
       }
 
       -- one step of the fuel is used
-      sought : (v n m : ℕ) (x y : Stretch) → (kind ≡ 0 → ⊥) → m ≡ n + once (eqb kind v) → y ≡ firstWith (eqb kind v) n (record { start = at + 4; end = at + r .end }) x
+      sought : (v n m : ℕ) (x y : Stretch) → (kind ≡ 0 → ⊥) → m ≡ n + once (eqb kind v) →
+          y ≡ firstWith (eqb kind v) n (record { start = at + 4; end = at + r .end }) x
           → FirstSo v s n x (w .fuel) kind at → FirstSo v s m y (w .fuel - 1) (r .next) (at + r .end)
       sought v n m x y z e q f =
           let u : w .fuel ≡ suc (w .fuel - 1) = omega (arith, w .enough, g .some, g .inside) in

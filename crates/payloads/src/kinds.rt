@@ -1,8 +1,6 @@
 // Payloads by their type, which the payload before them names, or the header.
 ghost use mathlib.Core.Path.{_≡_};
-ghost use Prim.Native.Nat.{_≤_};
 ghost use Rattle.frames.specs.Frame.{isKnown};
-ghost use Rattle.payloads.specs.inner.Deletion.{once};
 ghost use Rattle.payloads.specs.inner.Facts.{firstWith};
 use contents::Stretch;
 
@@ -20,16 +18,6 @@ pub fn is_known(kind: usize) -> bool
         52 => true,
         _ => false,
     }
-}
-
-// 1 where it is so. Internal.
-pub fn one_if(b: bool) -> usize
-    ensures { λ r. ⌜ (r ≡ once b) × (r ≤ 1) ⌝ }
-{
-    if b {
-        return 1;
-    }
-    0
 }
 
 // Where the first payload of a type stands: at this place, where it is one and there was none before it. Internal.

@@ -8,6 +8,7 @@ ghost use Rattle.frames.specs.Frame.{frame};
 ghost use Rattle.contents.specs.inner.Values.{isWhole};
 ghost use Rattle.payloads.specs.inner.Facts.{factsOf, noPayloads, withPayload, Room, Grown};
 use contents::Stretch;
+use contents::one_if;
 use contents::payload::DELETE;
 use contents::payload::GSA;
 use contents::payload::KD;
@@ -15,7 +16,6 @@ use contents::payload::payload_parts;
 use deletion::Deletes;
 use kinds::first;
 use kinds::is_known;
-use kinds::one_if;
 
 // What the payloads of a frame are.
 pub struct PayloadFacts {
@@ -53,7 +53,7 @@ fn no_payloads() -> PayloadFacts
     }
 }
 
-// The same, with the payload more that is of a type, critical or not, and whose body o stands at a place.
+// The same with one payload more: its type, whether it is critical, where its body stands, and the body o.
 fn with_payload(
     b: PayloadFacts,
     kind: usize,

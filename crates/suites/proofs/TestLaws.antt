@@ -23,7 +23,7 @@ use Rattle.clauses.specs.Number4.{twiceInTransform}
 use Rattle.clauses.proofs.OneOf.{or-false}
 use Rattle.suites.specs.inner.Suites.{suiteOf, fitBy}
 use Rattle.suites.specs.inner.Octets.{keyLengthNeeds, transformIn}
-use Rattle.suites.specs.inner.Adding.{once}
+use Rattle.contents.specs.inner.Values.{once}
 use Rattle.suites.specs.declared.counts.Suite.{Suite}
 use Rattle.suites.proofs.RowLaws.{some-octets}
 

@@ -10,8 +10,9 @@ ghost use Rattle.attributes.specs.Layout.{attributes};
 ghost use Rattle.contents.specs.inner.Values.{isWhole};
 ghost use Rattle.suites.specs.inner.Suites.{suiteOf, fitBy};
 ghost use Rattle.suites.specs.inner.Octets.{transformIn};
-ghost use Rattle.suites.specs.inner.Adding.{once, plus, AtMost};
+ghost use Rattle.suites.specs.inner.Adding.{plus, AtMost};
 use attributes::tables::Meaning;
+use contents::one_if;
 use contents::policy::ESP;
 use contents::policy::REKEY;
 
@@ -32,25 +33,22 @@ pub struct Needs {
     pub wrapping: usize,
 }
 
-// 1 where it is so. Internal.
-pub fn one_if(b: bool) -> usize
-    ensures { λ r. ⌜ r ≡ once b ⌝ }
-{
-    if b {
-        return 1;
-    }
-    0
+// A type of transforms, and two of its IDs.
+pub struct EitherId {
+    pub kind: usize,
+    pub one: usize,
+    pub other: usize,
 }
 
-// Whether a transform has a type, and one of two IDs.
-fn is_one_of(kind: usize, id: usize, wanted: usize, a: usize, b: usize) -> bool
-    ensures { λ r. ⌜ r ≡ (eqb kind wanted && (eqb id a || eqb id b)) ⌝ }
+// Whether a transform has the type and one of the two IDs.
+fn is_one_of(kind: usize, id: usize, w: EitherId) -> bool
+    ensures { λ r. ⌜ r ≡ (eqb kind (w .kind) && (eqb id (w .one) || eqb id (w .other))) ⌝ }
 {
-    if kind == wanted {
-        if id == a {
+    if kind == w.kind {
+        if id == w.one {
             return true;
         }
-        return id == b;
+        return id == w.other;
     }
     false
 }
@@ -67,12 +65,22 @@ pub fn one_transform(kind: usize, id: usize, a: &[u8]) -> Suite
         attributes::tables::in_transform(kind),
         a,
     );
+    let sequence = EitherId {
+        kind: 5,
+        one: 0,
+        other: 2,
+    };
+    let authentication = EitherId {
+        kind: 14,
+        one: 1,
+        other: 2,
+    };
     Suite {
         count: 1,
         encryption: one_if(0 < e),
         wrapping: one_if(0 < w),
-        sequence: one_if(is_one_of(kind, id, 5, 0, 2)),
-        authentication: one_if(is_one_of(kind, id, 14, 1, 2)),
+        sequence: one_if(is_one_of(kind, id, sequence)),
+        authentication: one_if(is_one_of(kind, id, authentication)),
         doubled: one_if(1 < n),
     }
 }

@@ -14,7 +14,7 @@ ghost use Rattle.suites.specs.inner.Suites.{suiteOf, needsOf};
 use counts::Needs;
 use counts::Suite;
 
-// What the transforms that the octets start with come to. Internal.
+// What the transforms at the start of the octets come to. Internal.
 pub fn suite(t: &[u8]) -> Suite
     requires { ⌜ ((l : List Transform) × (tail : List ℕ) × Transforms (now t) l tail) ⌝ }
     ensures { λ r. ⌜ ((l : List Transform) (tail : List ℕ) → Transforms (now (t .entry)) l tail → r ≡ suiteOf l) ⌝ }
@@ -33,7 +33,7 @@ pub fn suite(t: &[u8]) -> Suite
     s
 }
 
-// The keying octets that the transforms which the octets start with need. Internal.
+// The keying octets needed by the transforms at the start of the octets. Internal.
 fn transforms_need(t: &[u8]) -> Needs
     requires { ⌜ (length (now t) < 4294967296) × ((l : List Transform) × (tail : List ℕ) × Transforms (now t) l tail) ⌝ }
     ensures { λ r. ⌜ ((l : List Transform) (tail : List ℕ) → Transforms (now (t .entry)) l tail → r ≡ needsOf l) ⌝ }

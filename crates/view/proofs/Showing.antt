@@ -16,7 +16,8 @@ use prog.Wp.{Heap, Calls, Loops, WpFn, Tables}
 use ghost.Atoms.{Atoms, sem}
 use contract.Lifetimes.{Lfts}
 use contract.Monad.{fact}
-use types.Kit.{Given, ‵, raw, _⊛_, given, learn, rewrite, ⋆, some, later, _$_, _∵_, !, qed, by, move, use1, use2, split, join, pick, fsplit, fjoin}
+use types.Kit.{Given, ‵, raw, _⊛_, given, learn, rewrite, ⋆, some, later, _$_}
+use types.Kit.{_∵_, !, qed, by, move, use1, use2, split, join, pick, fsplit, fjoin}
 use types.Kit.{drop, suffices, frame, await, done}
 use types.Run.{look, init, forget, stop, from, load, and-then, no-more, land, returns, enter}
 use types.Run.{alloc1, alloc0, params1, pass1, pass0, free1, free0}

@@ -1,8 +1,8 @@
 //! Inputs to time a member with, each as NAME.in and what a member must print as NAME.out.
 //!
 //! `inputs rekeys SIZE COUNT NAME`: so many rekeys, all keys of so many octets, a delete after each. `inputs runs SIZE COUNT NAME`: the
-//! same with as few deletes as the table allows. `inputs hostile`: the names of the hostile frames and their answers. `inputs hostile FRAME
-//! COUNT NAME`: one of them so many times, and as NAME-bad the lines of the same digits that are "bad" by the last one.
+//! same with as few deletes as the table allows. `inputs hostile`: the names of the hostile frames and their answers. `inputs hostile
+//! FRAME COUNT NAME`: one of them so many times, and as NAME-bad the lines of the same digits that are "bad" by the last one.
 
 mod group;
 mod hostile;

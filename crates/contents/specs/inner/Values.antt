@@ -2,7 +2,7 @@
 use Prim.Native.Nat.{ℕ, _+_, _-_, _<_, _≤_}
 use mathlib.Core.Path.{_≡_}
 use mathlib.Core.List.{List, [], _∷_}
-use mathlib.Core.Bool.{Bool, true, false}
+use mathlib.Core.Bool.{Bool, true, false, cond}
 use lib.Dec.{eqb}
 use lib.ListN.{length, drop, getD}
 use Rattle.octets.specs.Walk.{part, either, Reading, whole, broken}
@@ -21,6 +21,14 @@ use Rattle.contents.specs.declared.values.Found.the-variants as found
 abbrev pub isWhole : {A : Type 0} → Reading A → Bool
 isWhole (whole a rest) = true
 isWhole (broken o) = false
+
+-- 1 where it is so
+abbrev pub once : Bool → ℕ
+once b = cond b 1 0
+
+-- the stretch of what does not stand in some octets
+abbrev pub nowhere : Stretch
+nowhere = record { start = 0; end = 0 }
 
 abbrev pub itemsOf : {A : Type 0} → Reading (List A) → List A
 itemsOf (whole l rest) = l
@@ -77,4 +85,4 @@ abbrev pub firstValue : Meaning → Place → List ℕ → ℕ → List ℕ
 firstValue m p s from = getD (valuesIn m p (drop from s)) 0 []
 
 abbrev pub firstStart : Meaning → Place → List ℕ → ℕ → ℕ
-firstStart m p s from = getD (placesIn m p s from) 0 (record { start = 0; end = 0 }) .start
+firstStart m p s from = getD (placesIn m p s from) 0 nowhere .start

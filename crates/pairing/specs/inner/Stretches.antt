@@ -7,11 +7,8 @@ use Rattle.octets.specs.Walk.{be16, either}
 use Rattle.keys.specs.Lists.{any}
 use Rattle.policies.specs.Policy.{headSize}
 use Rattle.contents.specs.declared.Stretch.{Stretch}
+use Rattle.contents.specs.inner.Values.{nowhere}
 use Rattle.pairing.specs.inner.Names.{nameAt, isNamed}
-
--- where there is none
-abbrev pub nowhere : Stretch
-nowhere = record { start = 0; end = 0 }
 
 -- the first one among n bags at most that stand from `at` on, up to the end of the body: octets 2 and 3 of a bag count all its octets, its
 -- head's before the attributes

@@ -1,6 +1,8 @@
 use native.Mathlib.Omega.{arith}
 use Prim.Native.Nat.{_+_}
 use mathlib.Core.Bool.{_||_, _&&_, not}
+use lib.Dec.{eqb}
+use Rattle.contents.proofs.ValuesLaws.{few-once}
 use borrow.Author.Needs.{needs}
 use Rattle.payloads.proofs.with_payload.Statement.{statement}
 use Rattle.payloads.proofs.with_payload.Tie as tie
@@ -27,7 +29,7 @@ add-gsas : tie.Need-add-gsas
 add-gsas c =
     let n = c .before in
     let st = n .before .before .before .before .before .before .before .before .before .before .before in
-    record { fits = omega (arith, n .one-if .ensures .1, st .pre .gsas) }
+    record { fits = omega (arith, few-once (n .one-if .result) (eqb (st .args .kind) 51) (n .one-if .ensures), st .pre .gsas) }
 
 one-if-requires-2 : tie.Need-one-if-requires-2
 one-if-requires-2 c κs = search needs
@@ -36,7 +38,7 @@ add-kds : tie.Need-add-kds
 add-kds c =
     let n = c .before in
     let st = n .before .before .before .before .before .before .before .before .before .before .before .before .before in
-    record { fits = omega (arith, n .one-if2 .ensures .1, st .pre .kds) }
+    record { fits = omega (arith, few-once (n .one-if2 .result) (eqb (st .args .kind) 52) (n .one-if2 .ensures), st .pre .kds) }
 
 one-if-requires-3 : tie.Need-one-if-requires-3
 one-if-requires-3 c κs = search needs
@@ -45,7 +47,7 @@ add-deletes : tie.Need-add-deletes
 add-deletes c =
     let n = c .before in
     let st = n .before .before .before .before .before .before .before .before .before .before .before .before .before .before .before in
-    record { fits = omega (arith, n .one-if3 .ensures .1, st .pre .deletes) }
+    record { fits = omega (arith, few-once (n .one-if3 .result) (eqb (st .args .kind) 42) (n .one-if3 .ensures), st .pre .deletes) }
 
 returns : tie.Need-returns
 returns c =
@@ -60,9 +62,9 @@ returns c =
     let a = g .before .before .before .before .before .before .args in
     let b = a .b in (
       (λ i. record {
-        gsas = b .gsas + n1 .one-if .ensures .0 i;
-        kds = b .kds + n2 .one-if2 .ensures .0 i;
-        deletes = b .deletes + n3 .one-if3 .ensures .0 i;
+        gsas = b .gsas + n1 .one-if .ensures i;
+        kds = b .kds + n2 .one-if2 .ensures i;
+        deletes = b .deletes + n3 .one-if3 .ensures i;
         gsa = g .first .ensures i;
         kd = k .first2 .ensures i;
         delete = x .first3 .ensures i;
@@ -70,9 +72,9 @@ returns c =
         deletion = d .with-payload .ensures .0 i;
       }),
       record {
-        gsas = omega (arith, n1 .one-if .ensures .1);
-        kds = omega (arith, n2 .one-if2 .ensures .1);
-        deletes = omega (arith, n3 .one-if3 .ensures .1);
+        gsas = omega (arith, few-once (n1 .one-if .result) (eqb (a .kind) 51) (n1 .one-if .ensures));
+        kds = omega (arith, few-once (n2 .one-if2 .result) (eqb (a .kind) 52) (n2 .one-if2 .ensures));
+        deletes = omega (arith, few-once (n3 .one-if3 .result) (eqb (a .kind) 42) (n3 .one-if3 .ensures));
         spis = d .with-payload .ensures .1;
       },
     )

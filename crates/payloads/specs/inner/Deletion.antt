@@ -56,6 +56,3 @@ withOne d x = record {
 -- with a payload more of a type and with this body
 abbrev pub deletesWith : Deletes → ℕ → List ℕ → Deletes
 deletesWith d kind o = cond (eqb kind 42) (withOne d (deleteOf o)) d
-
-abbrev pub once : Bool → ℕ
-once b = cond b 1 0

@@ -14,8 +14,9 @@ use Rattle.contents.specs.inner.Payloads.{payloadsIn}
 use Rattle.contents.specs.declared.Stretch.{Stretch}
 use Rattle.clauses.specs.Number4.{unknownCritical}
 use Rattle.payloads.specs.declared.PayloadFacts.{PayloadFacts}
-use Rattle.payloads.specs.inner.Places.{nowhere, bodyOf}
-use Rattle.payloads.specs.inner.Deletion.{deletesAmong, deletesBy, deletesWith, once}
+use Rattle.payloads.specs.inner.Places.{bodyOf}
+use Rattle.contents.specs.inner.Values.{nowhere, once}
+use Rattle.payloads.specs.inner.Deletion.{deletesAmong, deletesBy, deletesWith}
 
 -- the payloads that the octets of a frame are
 abbrev pub payloadsOf : List ℕ → List Payload
@@ -54,7 +55,7 @@ noPayloads = record {
 abbrev pub firstWith : Bool → ℕ → Stretch → Stretch → Stretch
 firstWith hit before this known = cond (hit && eqb before 0) this known
 
--- with the payload more that is of a type, critical or not, and whose body o stands at a place
+-- with one payload more: its type, whether it is critical, where its body stands, and the body o
 abbrev pub withPayload : PayloadFacts → ℕ → Bool → Stretch → List ℕ → PayloadFacts
 withPayload b kind critical place o = record {
   gsas = b .gsas + once (eqb kind 51);

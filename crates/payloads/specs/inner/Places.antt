@@ -7,10 +7,7 @@ use Rattle.octets.specs.Numbers.{oct}
 use Rattle.octets.specs.Walk.{be16, either}
 use Rattle.frames.specs.Header.{firstPayload}
 use Rattle.contents.specs.declared.Stretch.{Stretch}
-
--- where there is none
-abbrev pub nowhere : Stretch
-nowhere = record { start = 0; end = 0 }
+use Rattle.contents.specs.inner.Values.{nowhere}
 
 -- among n payloads at most, which stand from `at` on and of which the first is of type k: "Next Payload" names the type of the next one,
 -- "Payload Length" counts all octets of this one, 4 of them before its body (RFC 7296, section 3.2); the type 0 ends them

@@ -72,7 +72,9 @@ part-any-unpaired-end-4 : tie.Need-part-any-unpaired-end-4
 part-any-unpaired-end-4 c = own (c .before .before .before .before) .gsaInside
 
 any-unpaired-requires-2 : tie.Need-any-unpaired-requires-2
-any-unpaired-requires-2 c κs = let i = own (c .before .before .before .before .before) in ((_, bag-names _ (i .kdWhole)), (_, policy-names _ (i .gsaWhole)))
+any-unpaired-requires-2 c κs =
+    let i = own (c .before .before .before .before .before) in
+    ((_, bag-names _ (i .kdWhole)), (_, policy-names _ (i .gsaWhole)))
 
 by-facts-requires : tie.Need-by-facts-requires
 by-facts-requires c κs = search needs

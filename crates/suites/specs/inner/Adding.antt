@@ -1,10 +1,7 @@
 -- Counts of transforms added up one transform after the other.
 use Prim.Native.Nat.{ℕ, _+_, _≤_}
-use mathlib.Core.Bool.{Bool, cond}
 use Rattle.suites.specs.declared.counts.Suite.{Suite}
-
-abbrev pub once : Bool → ℕ
-once b = cond b 1 0
+pub use Rattle.contents.specs.inner.Values.{once}
 
 abbrev pub plus : Suite → Suite → Suite
 plus x y = record {

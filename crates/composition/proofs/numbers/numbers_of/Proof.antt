@@ -9,7 +9,8 @@ use Rattle.octets.specs.Walk.{part}
 use Rattle.attributes.specs.Answers.{valueStart}
 use Rattle.contents.specs.inner.Values.{valueSize, MetAt, Meets}
 use Rattle.composition.specs.inner.Numbers.{isNumber, withNumber}
-use Rattle.composition.proofs.NumberLaws.{NumberWalk, numbers-start, numbers-end, number-sized, numbers-less, numbers-room, numbers-next}
+use Rattle.composition.proofs.NumberLaws.{NumberWalk, numbers-start, numbers-end}
+use Rattle.composition.proofs.NumberLaws.{number-sized, numbers-less, numbers-room, numbers-next}
 use borrow.Author.Needs.{needs}
 use Rattle.composition.proofs.numbers.numbers_of.Statement.{statement}
 use Rattle.composition.proofs.numbers.numbers_of.Tie as tie
