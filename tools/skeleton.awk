@@ -15,7 +15,7 @@ function named(text,    lines, words, i, c, w) {
   for (i = 1; i <= c; i++) {
     if (lines[i] ~ /^(--|unfolding )/ || lines[i] == "") continue
     split(lines[i], words, " ")
-    for (w = 1; words[w] ~ /^(pub|abbrev|opaque)$/; w++) ;
+    for (w = 1; words[w] ~ /^(pub|abbrev|unfoldable)$/; w++) ;
     return words[w]
   }
   return ""
