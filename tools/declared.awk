@@ -1,5 +1,5 @@
-# declared.awk: "NAME<tab>TEXT" for each declaration of a file, without comments, blank lines and layout (tools/landing). Of an .antt file (it
-# has no `fn`) the text is all of the declaration; of an .rt file it is the `requires` and `ensures` of each function that has some.
+# declared.awk: "NAME<tab>TEXT" for each declaration of a file, without comments, blank lines and layout (tools/landing). Of an .antt file
+# the text is all of the declaration; of an .rt file it is the `requires` and `ensures` of each function that has some.
 
 function put() {
   if (name != "") { gsub(/[ \t]+/, " ", text); print name "\t" text }

@@ -31,7 +31,10 @@ function joined(id, new, old,    a, b, i, c, d, out, x, y) {
   for (y = x; y <= c && !clause(id, a[y]); y++) out = out a[y] "\n"
   for (; i <= d && !clause(id, b[i]); i++) ;
   # an invariant or a measure over other variables takes the new names
-  if (new ~ / : tie\.(InvT|MeasureT)-/ && words(a[y]) != words(b[i])) { sub(/^[^=]* =/, "", b[i]); sub(/ =.*/, " =", a[y]); b[i] = a[y] b[i] }
+  if (new ~ / : tie\.(InvT|MeasureT)-/ && words(a[y]) != words(b[i])) {
+    sub(/^[^=]* =/, "", b[i]); sub(/ =.*/, " =", a[y])
+    b[i] = a[y] b[i]
+  }
   for (; i <= d; i++) out = out b[i] (i < d ? "\n" : "")
   return out
 }
@@ -49,11 +52,12 @@ END {
   keep(last, text)
   # lines of use: the old ones, then those of the new file that are missing, but for modules that only shorten printed goals
   first = 1
-  while (first <= n[2] && (name[2, first] == "use" || name[2, first] == "")) { head = head (head == "" ? "" : "\n") block[2, first]; first++ }
+  for (; first <= n[2] && (name[2, first] == "use" || name[2, first] == ""); first++) head = head (head == "" ? "" : "\n") block[2, first]
   for (i = 1; i <= n[1] && name[1, i] == "use"; i++) {
     c = split(block[1, i], lines, "\n")
     for (k = 1; k <= c; k++)
-      if (index("\n" head "\n", "\n" lines[k] "\n") == 0 && lines[k] !~ / as (reads|lts|.*-reads)$/ && !covers(lines[k])) head = head "\n" lines[k]
+      if (index("\n" head "\n", "\n" lines[k] "\n") == 0 && lines[k] !~ / as (reads|lts|.*-reads)$/ && !covers(lines[k]))
+        head = head "\n" lines[k]
   }
   print head
   at = first
