@@ -5,4 +5,5 @@ pub mod Exchange
 pub mod Grammar
 pub mod Ignored
 pub mod Breaks
+pub mod Laid
 pub mod inner

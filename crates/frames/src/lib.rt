@@ -4,7 +4,8 @@ ghost use Prim.Native.Nat.{_+_, _<_};
 ghost use lib.ListN.{length};
 ghost use Rattle.attributes.specs.Answers.{layoutOf, spotOf};
 ghost use Rattle.frames.specs.Delete.{deleteFits};
-ghost use Rattle.frames.specs.Frame.{body, payload, payloads, exactly, frameLayout};
+ghost use Rattle.frames.specs.Frame.{body, payload, payloads, exactly};
+ghost use Rattle.frames.specs.Laid.{Laid};
 ghost use Rattle.frames.specs.inner.Answers.{headerRead, payloadRead};
 use attributes::Layout;
 use attributes::Spot;
@@ -152,7 +153,7 @@ fn payloads_layout(first: usize, s: &[u8], base: usize) -> Layout
 
 // The layout of a frame, for all octets: whole, or broken (number 1) with the offset of the structure that broke first.
 pub fn frame_layout(s: &[u8]) -> Layout
-    ensures { λ r. ⌜ r ≡ frameLayout (now (s .entry)) ⌝ }
+    ensures { λ r. ⌜ Laid (now (s .entry)) r ⌝ }
 {
     match header_read(s) {
         HeaderRead::Header {

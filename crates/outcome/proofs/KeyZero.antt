@@ -1,5 +1,5 @@
 -- KEY 0 OF A REKEY that number 2 lets pass is cut out of the Rekey SA over which it came.
-use Prim.Native.Nat.{ℕ}
+use Prim.Native.Nat.{ℕ, _≤_}
 use mathlib.Core.Path.{_≡_, _∙_}
 use mathlib.Core.Bool.{true}
 use mathlib.Core.List.{List}
@@ -35,8 +35,8 @@ use Rattle.outcome.proofs.RunsLive.{passes-over}
 
 module _ (limits : Limits) (s : State) (now : ℕ) (lent octets : List ℕ) (f : Frame) (e : IsFrame octets f)
     (x : f .header .exchange ≡ 41) (no-2 : Meets limits s now lent octets 2 → ⊥)
-    -- the octets of an SA are an array of 68
-    (long : (b : Sa) → In b (sasOf (s .table)) → length (b .octets) ≡ 68) where
+    -- the octets of an SA are an array of 68; `KeyZeroInRuns` has the claim without this premise
+    (long : (b : Sa) → In b (sasOf (s .table)) → 68 ≤ length (b .octets)) where
   passes : None (two limits s now (f .header .exchange) (f .header .spi))
   passes = none-applies (two limits s now (f .header .exchange) (f .header .spi)) (λ h. no-2 (meets-2 f e h))
 

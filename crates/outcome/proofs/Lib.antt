@@ -39,6 +39,7 @@ pub mod RanOut
 pub mod InbandBeside
 pub mod Inband
 pub mod KeyZero
+pub mod KeyZeroInRuns
 pub mod Demand3
 pub mod Stands
 pub mod Needs

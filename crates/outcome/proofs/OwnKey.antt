@@ -1,7 +1,7 @@
 -- KEY 0 OF A REKEY over a Rekey SA that stands at the tick: "The default key of the live Rekey SA: the key wrap part of its keying octets,
 -- cut as 001 section 3.4 orders."
 use native.Mathlib.Omega.{arith}
-use Prim.Native.Nat.{ℕ, _+_, _-_}
+use Prim.Native.Nat.{ℕ, _+_, _-_, _≤_}
 use mathlib.Core.Path.{_≡_, ap, sym, _∙_, subst}
 use mathlib.Core.Bool.{true, false, not, _&&_}
 use mathlib.Core.List.{List, List·Memᴰ}
@@ -57,7 +57,7 @@ module _ (limits : Limits) (s : State) (now : ℕ) (is-formed : stateFormed limi
       and-parts (rekeySizes (b .encryption) (b .wrapping)) (eqb (b .count) (b .encryption + b .wrapping)) (g .1) .0
 
   -- the octets of an SA are an array of 68
-  module _ (long : length (b .octets) ≡ 68) where
+  module _ (long : 68 ≤ length (b .octets)) where
     abbrev part : List ℕ
     part = take (b .wrapping) (drop (b .encryption) (b .octets))
 

@@ -29,9 +29,9 @@ use Rattle.chains.specs.Chain.{In}
 use Rattle.chains.proofs.Members.{in-member}
 use Rattle.outcome.specs.Outcome.{Outcome, by-tree, refused}
 use Rattle.outcome.specs.LifetimeSays.{LifetimesFit}
-use Rattle.outcome.specs.Run.{Step, Run, ends, goes, Throughout}
+use Rattle.outcome.specs.Run.{Step, Run, Throughout}
 use Rattle.outcome.proofs.RunsLists.{all-pass, passes-none}
-use Rattle.outcome.proofs.Runs.{members-formed}
+use Rattle.outcome.proofs.Runs.{each-of, members-formed}
 use Rattle.outcome.proofs.RunsOld.{swept-sas}
 use Rattle.outcome.proofs.RunsLive.{over-parts}
 use Rattle.outcome.proofs.SamplesAnswers.{applies-member}
@@ -124,10 +124,5 @@ formed-fits m e a i start n q =
     let f = all-pass formed (sasOf (m .table)) (formed-fit limits (m .table) t .each) a (in-member a (sasOf (m .table)) i) in
     formed-lifetime a f start n q
 
-each-of : (P Q : State → Type 0) → ((m : State) → P m → Q m) → {s e : State} {l : List Step} (r : Run limits s l e) →
-    Throughout limits P r → Throughout limits Q r
-each-of P Q f (ends s) t = f s t
-each-of P Q f (goes s t r) u = (f s (u .0), each-of P Q f r (u .1))
-
 pub members-lifetimes : {e : State} {l : List Step} (r : Run limits (newState limits) l e) → Throughout limits LifetimesFit r
-members-lifetimes r = each-of (λ (m : State). stateFormed limits m ≡ true) LifetimesFit formed-fits r (members-formed r)
+members-lifetimes r = each-of limits (λ (m : State). stateFormed limits m ≡ true) LifetimesFit formed-fits r (members-formed r)

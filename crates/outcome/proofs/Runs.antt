@@ -166,6 +166,12 @@ module _ (limits : Limits) (enough : limits .wrapKeys ≤ limits .heldKeys) wher
   pub new-run-blank : {e : State} {l : List Step} (r : Run limits (newState limits) l e) → Throughout limits (StateBlank limits) r
   new-run-blank r = run-blank r (new-state-blank limits)
 
+-- what follows from P holds in each member of a run in which P does
+pub each-of : (limits : Limits) (P Q : State → Type 0) → ((m : State) → P m → Q m) → {s e : State} {l : List Step} (r : Run limits s l e) →
+    Throughout limits P r → Throughout limits Q r
+each-of limits P Q f (ends s) t = f s t
+each-of limits P Q f (goes s t r) u = (f s (u .0), each-of limits P Q f r (u .1))
+
 -- the same with document 01's limits
 pub members-formed : {e : State} {l : List Step} (r : Run limits (newState limits) l e) →
     Throughout limits (λ (m : State). stateFormed limits m ≡ true) r

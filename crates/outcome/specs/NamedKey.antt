@@ -13,6 +13,7 @@ use Rattle.attributes.specs.Tree.{SaKey, WrapKey}
 use Rattle.policies.specs.Policy.{GroupSaPolicy}
 use Rattle.bags.specs.Bag.{GroupKeyBag, MemberKeyBag}
 use Rattle.frames.specs.Frame.{Frame}
+use Rattle.frames.specs.Grammar.{IsFrame}
 use Rattle.sa.specs.Entry.{spiOf, liveRekey, due}
 use Rattle.sa.specs.declared.entry.Sa.{Sa}
 use Rattle.table.specs.Table.{sasOf}
@@ -21,7 +22,8 @@ use Rattle.state.specs.declared.held.HeldKey.{HeldKey}
 use Rattle.state.specs.Held.{keysOf}
 use Rattle.clauses.specs.Contents.{groupBags, memberBags, wrapKeysOf}
 use Rattle.chains.specs.Chain.{In, Root, Chain, Reached}
-use Rattle.outcome.specs.Roots.{ownKey}
+use Rattle.outcome.specs.Roots.{ownKey, keyZero}
+use Rattle.outcome.specs.Meets.{Meets}
 
 -- "Registration frames (GSA_AUTH, GSA_REGISTRATION responses)": exchange types 39 and 40
 abbrev pub Registration : Frame → Type 0
@@ -94,3 +96,9 @@ pub record CameOver (s : State) (now : ℕ) (f : Frame) (zero : List ℕ) : Type
   pub not-due : due now sa ≡ false
   pub spi : spiOf sa ≡ f .header .spi
   pub cut : zero ≡ take (sa .wrapping) (drop (sa .encryption) (sa .octets))
+
+-- so of every rekey that number 2 lets pass, accepted or not
+abbrev pub ZeroOfRekeys : Limits → State → Type 0
+ZeroOfRekeys limits s =
+    (now : ℕ) (lent octets : List ℕ) (f : Frame) → IsFrame octets f → f .header .exchange ≡ 41 → (Meets limits s now lent octets 2 → ⊥) →
+    CameOver s now f (keyZero limits s now lent f)

@@ -5,6 +5,7 @@ use lib.ListN.{length}
 use Rattle.octets.proofs.Walks.{part-short}
 use Rattle.frames.proofs.HeaderLaws.{header-is, header-not, header-long}
 use Rattle.frames.proofs.PayloadLaws.{frame-is, frame-broken}
+use Rattle.frames.proofs.LayoutNumbers.{laid}
 use borrow.Author.Needs.{needs}
 use Rattle.frames.proofs.frame_layout.Statement.{statement}
 use Rattle.frames.proofs.frame_layout.Tie as tie
@@ -56,11 +57,13 @@ returns c =
     let v = c .before .before .before .first .given .0 in
     let i = header-is (now (c .before .before .before .before .before .before .before .args .s)) (v .0) (v .1 .0) (v .1 .1 .0) (sym
     (c .before .before .before .first .given .1) ∙ c .before .before .before .before .before .header-read .ensures) in
-    frame-is (now (c .before .before .before .before .before .before .before .args .s)) (i .0) _ (i .1) _ (c .payloads-layout .ensures)
+    laid (now (c .before .before .before .before .before .before .before .args .s)) _
+    (frame-is (now (c .before .before .before .before .before .before .before .args .s)) (i .0) _ (i .1) _ (c .payloads-layout .ensures))
 
 returns-2 : tie.Need-returns-2
-returns-2 c = frame-broken (now (c .before .before .before .before .args .s)) (header-not (now
-    (c .before .before .before .before .args .s)) (sym (c .enum-told .given .1) ∙ c .before .before .header-read .ensures))
+returns-2 c =
+    let s = now (c .before .before .before .before .args .s) in
+    laid s _ (frame-broken s (header-not s (sym (c .enum-told .given .1) ∙ c .before .before .header-read .ensures)))
 
 pub frame-layout-spec : {M : Type 1} → statement M
 frame-layout-spec =

@@ -13,7 +13,7 @@ enum-told c = search needs
 of-frame-requires : tie.Need-of-frame-requires
 of-frame-requires c κs =
     let r = c .before .before .before .frame-layout in
-    is-whole _ (r .result) (r .ensures) (c .before .enum-told .given .1)
+    is-whole _ (r .result) (r .ensures .layout) (c .before .enum-told .given .1)
 
 lines-requires : tie.Need-lines-requires
 lines-requires c κs = search needs

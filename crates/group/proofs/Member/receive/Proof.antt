@@ -13,7 +13,7 @@ enum-told c = search needs
 judged-requires : tie.Need-judged-requires
 judged-requires c κs =
     let r = c .before .before .frame-layout in
-    whole-tree (now (c .before .before .before .before .before .args .frame)) (r .result) (r .ensures) (c .enum-told .given .1)
+    whole-tree (now (c .before .before .before .before .before .args .frame)) (r .result) (r .ensures .layout) (c .enum-told .given .1)
 
 enum-known-at : tie.Need-enum-known-at
 enum-known-at c = search needs
@@ -25,7 +25,7 @@ returns : tie.Need-returns
 returns c =
     let a = c .before .before .before .before .before .before .args in
     let r = c .before .before .before .frame-layout in
-    let t = whole-tree (now (a .frame)) (r .result) (r .ensures) (c .before .enum-told .given .1) in
+    let t = whole-tree (now (a .frame)) (r .result) (r .ensures .layout) (c .before .enum-told .given .1) in
     receives-tree (a .self) (a .tick) (now (a .lent)) (now (a .frame)) (t .0) (t .1) (c .judged .result .answer) (c .judged .result .member)
     (c .judged .ensures (t .0) (t .1))
 
@@ -37,7 +37,7 @@ returns-2 c =
     let x = c .refused .result in
     let e = c .refused .ensures in
     receives-broken (a .self) (a .tick) (now (a .lent)) (now (a .frame)) (told .0 .0)
-    (no-tree (now (a .frame)) (r .result) (r .ensures) (told .0 .0) (told .1)) (x .answer) (x .member) (e .0) (e .1)
+    (no-tree (now (a .frame)) (r .result) (r .ensures .layout) (told .0 .0) (told .1)) (x .answer) (x .member) (e .0) (e .1)
 
 pub receive-spec : {M : Type 1} → statement M
 receive-spec =
