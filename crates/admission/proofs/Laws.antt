@@ -92,12 +92,13 @@ module _ (limits : Limits) (t : Table) (x : Exchange) (spi : List ℕ) (now : �
   unfolding barred
   barred-member e f = rw (e, f)
 
-  pub barred-spis : (r : Bool) → x .admitted ≡ true → breaksWanted (x .wanted) empty ≡ false → x .addresses ≡ true → r ≡ not over →
+  pub barred-spis : (r : Bool) → x .admitted ≡ true → breaksWanted (x .wanted) empty ≡ false → x .«compares_spis» ≡ true → r ≡ not over →
       r ≡ barred limits t x spi now
   unfolding barred
   barred-spis r e f g h = rw (e, f, g) h
 
-  pub barred-not : x .admitted ≡ true → breaksWanted (x .wanted) empty ≡ false → x .addresses ≡ false → false ≡ barred limits t x spi now
+  pub barred-not : x .admitted ≡ true → breaksWanted (x .wanted) empty ≡ false → x .«compares_spis» ≡ false →
+      false ≡ barred limits t x spi now
   unfolding barred
   barred-not e f g = rw (e, f, g)
 
@@ -132,10 +133,11 @@ module _ (limits : Limits) (s : State) (now : ℕ) (x : ℕ) (spi : List ℕ) wh
 
 -- ---- number 3
 module _ (s : State) (x id : ℕ) where
-  pub three-judged : (r : Bool) → (exchangeOf x) .ordered ≡ true → r ≡ not (acceptable id (s .least)) → r ≡ applies (three s x id)
+  pub three-judged : (r : Bool) → (exchangeOf x) .«compares_message_id» ≡ true → r ≡ not (acceptable id (s .least)) →
+      r ≡ applies (three s x id)
   unfolding one notAcceptable
   three-judged r e f = rw (e, or-false) f
 
-  pub three-not : (exchangeOf x) .ordered ≡ false → false ≡ applies (three s x id)
+  pub three-not : (exchangeOf x) .«compares_message_id» ≡ false → false ≡ applies (three s x id)
   unfolding one notAcceptable
   three-not e = rw e

@@ -72,7 +72,7 @@ fn is_barred(t: Table, x: Exchange, spi: &[u8], tick: u32) -> bool
     if breaks_wanted(w, t, tick) {
         return true;
     }
-    if x.addresses {
+    if x.compares_spis {
         if has_live_rekey(t, spi, tick) {
             return false;
         }

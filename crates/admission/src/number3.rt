@@ -8,7 +8,7 @@ pub fn number_3(state: State, exchange: usize, id: u32) -> bool
     ensures { λ r. ⌜ r ≡ applies (three state exchange id) ⌝ }
 {
     let x = frames::exchanges::exchange_of(exchange);
-    if x.ordered {
+    if x.compares_message_id {
         let least = state.least;
         if least.accepts(id) {
             return false;

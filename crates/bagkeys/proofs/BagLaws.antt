@@ -44,10 +44,10 @@ from-none f =
       ah = f .ah;
       keyless = f .keyless;
       several = f .several;
-      copied = f .copied;
+      «several_of_rekey» = f .«several_of_rekey»;
       overfull = f .overfull;
       named = f .named;
-      nested = f .nested;
+      «esp_with_kwk_id» = f .«esp_with_kwk_id»;
     }
 
 none-left : (limits : Limits) (f : BagFacts) → together f (factsOf limits []) ≡ f
@@ -63,10 +63,10 @@ none-left limits f =
       ah = or-false (f .ah) i;
       keyless = or-false (f .keyless) i;
       several = or-false (f .several) i;
-      copied = or-false (f .copied) i;
+      «several_of_rekey» = or-false (f .«several_of_rekey») i;
       overfull = or-false (f .overfull) i;
       named = or-false (f .named) i;
-      nested = or-false (f .nested) i;
+      «esp_with_kwk_id» = or-false (f .«esp_with_kwk_id») i;
     }
 
 joined : (a b c : BagFacts) → together a (together b c) ≡ together (together a b) c
@@ -81,10 +81,10 @@ joined a b c =
       ah = or-joined (a .ah) (b .ah) (c .ah) i;
       keyless = or-joined (a .keyless) (b .keyless) (c .keyless) i;
       several = or-joined (a .several) (b .several) (c .several) i;
-      copied = or-joined (a .copied) (b .copied) (c .copied) i;
+      «several_of_rekey» = or-joined (a .«several_of_rekey») (b .«several_of_rekey») (c .«several_of_rekey») i;
       overfull = or-joined (a .overfull) (b .overfull) (c .overfull) i;
       named = or-joined (a .named) (b .named) (c .named) i;
-      nested = or-joined (a .nested) (b .nested) (c .nested) i;
+      «esp_with_kwk_id» = or-joined (a .«esp_with_kwk_id») (b .«esp_with_kwk_id») (c .«esp_with_kwk_id») i;
     }
 
 -- the first bag, and the others
@@ -102,10 +102,10 @@ one-more limits (groupKeys b) l =
       ah = f .ah;
       keyless = f .keyless;
       several = f .several;
-      copied = f .copied;
+      «several_of_rekey» = f .«several_of_rekey»;
       overfull = f .overfull;
       named = f .named;
-      nested = f .nested;
+      «esp_with_kwk_id» = f .«esp_with_kwk_id»;
     }
 one-more limits (memberKeys b) l =
     let f = factsOf limits (memberKeys b ∷ l) in
@@ -118,10 +118,10 @@ one-more limits (memberKeys b) l =
       ah = f .ah;
       keyless = f .keyless;
       several = f .several;
-      copied = f .copied;
+      «several_of_rekey» = f .«several_of_rekey»;
       overfull = f .overfull;
       named = f .named;
-      nested = f .nested;
+      «esp_with_kwk_id» = f .«esp_with_kwk_id»;
     }
 
 -- ---- one bag, by its first octet

@@ -36,16 +36,16 @@ plusKeys f l = record {
   keys = f .keys + length l;
   named = f .named || any hasId l;
   unnamed = f .unnamed || any noId l;
-  nested = f .nested || any hasKwk l;
+  «with_kwk_id» = f .«with_kwk_id» || any hasKwk l;
   itself = f .itself || any oneId l;
 }
 
 abbrev pub noKeys : KeyFacts
-noKeys = record { keys = 0; named = false; unnamed = false; nested = false; itself = false }
+noKeys = record { keys = 0; named = false; unnamed = false; «with_kwk_id» = false; itself = false }
 
 from-none : (l : List (List ℕ)) → plusKeys noKeys l ≡ keyFactsOf l
 from-none l = let e : 0 + length l ≡ length l = omega arith in
-    λ i. record { keys = e i; named = any hasId l; unnamed = any noId l; nested = any hasKwk l; itself = any oneId l }
+    λ i. record { keys = e i; named = any hasId l; unnamed = any noId l; «with_kwk_id» = any hasKwk l; itself = any oneId l }
 
 none-left : (f : KeyFacts) → plusKeys f [] ≡ f
 unfolding any
@@ -54,7 +54,7 @@ none-left f = let e : f .keys + 0 ≡ f .keys = omega arith in
       keys = e i;
       named = or-false (f .named) i;
       unnamed = or-false (f .unnamed) i;
-      nested = or-false (f .nested) i;
+      «with_kwk_id» = or-false (f .«with_kwk_id») i;
       itself = or-false (f .itself) i;
     }
 
@@ -65,7 +65,7 @@ one-more f v l = let e : f .keys + length (v ∷ l) ≡ f .keys + 1 + length l =
       keys = e i;
       named = or-joined (f .named) (hasId v) (any hasId l) i;
       unnamed = or-joined (f .unnamed) (noId v) (any noId l) i;
-      nested = or-joined (f .nested) (hasKwk v) (any hasKwk l) i;
+      «with_kwk_id» = or-joined (f .«with_kwk_id») (hasKwk v) (any hasKwk l) i;
       itself = or-joined (f .itself) (oneId v) (any oneId l) i;
     }
 
@@ -113,7 +113,7 @@ sa-keys-are l = λ i. record {
   keys = sym (length-map l saKeyOf) i;
   named = sym (any-of-map saKeyOf hasKeyId l) i;
   unnamed = sym (any-of-map saKeyOf (λ (k : SaKey). eqb (k .keyId) 0) l) i;
-  nested = sym (any-of-map saKeyOf hasKwkId l) i;
+  «with_kwk_id» = sym (any-of-map saKeyOf hasKwkId l) i;
   itself = sym (any-of-map saKeyOf (λ (k : SaKey). eqb (k .keyId) (k .kwkId)) l) i;
 }
 
@@ -122,6 +122,6 @@ wrap-keys-are l = λ i. record {
   keys = sym (length-map l wrapKeyOf) i;
   named = sym (any-of-map wrapKeyOf (λ (k : WrapKey). not (eqb (k .keyId) 0)) l) i;
   unnamed = sym (any-of-map wrapKeyOf (λ (k : WrapKey). eqb (k .keyId) 0) l) i;
-  nested = sym (any-of-map wrapKeyOf (λ (k : WrapKey). not (eqb (k .kwkId) 0)) l) i;
+  «with_kwk_id» = sym (any-of-map wrapKeyOf (λ (k : WrapKey). not (eqb (k .kwkId) 0)) l) i;
   itself = sym (any-of-map wrapKeyOf underItself l) i;
 }

@@ -33,12 +33,12 @@ pub struct BagFacts {
     // one has no SA_KEY; one of ESP or AH has several; one of a Rekey SA has several
     pub keyless: bool,
     pub several: bool,
-    pub copied: bool,
+    pub several_of_rekey: bool,
     // one has more SA_KEYs than the limit
     pub overfull: bool,
     // an SA_KEY has a Key ID; one of ESP has a KWK ID
     pub named: bool,
-    pub nested: bool,
+    pub esp_with_kwk_id: bool,
 }
 
 // Those of no bag.
@@ -53,10 +53,10 @@ fn no_bags() -> BagFacts
         ah: false,
         keyless: false,
         several: false,
-        copied: false,
+        several_of_rekey: false,
         overfull: false,
         named: false,
-        nested: false,
+        esp_with_kwk_id: false,
     }
 }
 
@@ -72,10 +72,10 @@ fn of_group(protocol: usize, k: KeyFacts) -> BagFacts
         ah: protocol == AH,
         keyless: k.keys == 0,
         several: (protocol != REKEY) & (1 < k.keys),
-        copied: (protocol == REKEY) & (1 < k.keys),
+        several_of_rekey: (protocol == REKEY) & (1 < k.keys),
         overfull: SA_KEYS < k.keys,
         named: k.named,
-        nested: (protocol == ESP) & k.nested,
+        esp_with_kwk_id: (protocol == ESP) & k.with_kwk_id,
     }
 }
 
@@ -91,10 +91,10 @@ fn of_member(k: KeyFacts) -> BagFacts
         ah: false,
         keyless: false,
         several: false,
-        copied: false,
+        several_of_rekey: false,
         overfull: false,
         named: false,
-        nested: false,
+        esp_with_kwk_id: false,
     }
 }
 
@@ -111,10 +111,10 @@ fn together(a: BagFacts, b: BagFacts) -> BagFacts
         ah: a.ah | b.ah,
         keyless: a.keyless | b.keyless,
         several: a.several | b.several,
-        copied: a.copied | b.copied,
+        several_of_rekey: a.several_of_rekey | b.several_of_rekey,
         overfull: a.overfull | b.overfull,
         named: a.named | b.named,
-        nested: a.nested | b.nested,
+        esp_with_kwk_id: a.esp_with_kwk_id | b.esp_with_kwk_id,
     }
 }
 

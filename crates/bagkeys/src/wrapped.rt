@@ -17,7 +17,7 @@ pub struct KeyFacts {
     pub keys: usize,
     pub named: bool,
     pub unnamed: bool,
-    pub nested: bool,
+    pub with_kwk_id: bool,
     pub itself: bool,
 }
 
@@ -32,7 +32,7 @@ fn with_key(f: KeyFacts, v: &[u8]) -> KeyFacts
         keys: f.keys + 1,
         named: f.named | (id != 0),
         unnamed: f.unnamed | (id == 0),
-        nested: f.nested | (kwk != 0),
+        with_kwk_id: f.with_kwk_id | (kwk != 0),
         itself: f.itself | (id == kwk),
     }
 }
@@ -46,7 +46,7 @@ pub fn keys_of(m: Meaning, place: Place, a: &[u8]) -> KeyFacts
         keys: 0,
         named: false,
         unnamed: false,
-        nested: false,
+        with_kwk_id: false,
         itself: false,
     };
     let mut at = 0;

@@ -42,7 +42,7 @@ module _ {f g : Frame} (r : Reordered f g) where
 
   member-bag-kept : barredMemberBag f ≡ barredMemberBag g
   unfolding barredMemberBag
-  member-bag-kept = λ i. not (row-kept i .members) && ltb 0 (length-order (member-bags-order r) i)
+  member-bag-kept = λ i. not (row-kept i .«allows_member_bag») && ltb 0 (length-order (member-bags-order r) i)
 
   delete-kept : barredDelete f ≡ barredDelete g
   unfolding barredDelete

@@ -37,7 +37,7 @@ abbrev pub overLiveRekey : List ℕ → Sa → Bool
 overLiveRekey spi s = liveRekey s && named rekey spi s
 
 unfoldable pub otherSpis : State → ℕ → ℕ → List ℕ → Bool
-otherSpis s now x spi = (exchangeOf x) .addresses && not (any (overLiveRekey spi) (standing now s))
+otherSpis s now x spi = (exchangeOf x) .«compares_spis» && not (any (overLiveRekey spi) (standing now s))
 
 -- "a member value that breaks its list"
 abbrev pub brokenMember : Limits → State → Bool

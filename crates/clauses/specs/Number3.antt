@@ -9,7 +9,7 @@ use Rattle.state.specs.Least.{acceptable}
 use Rattle.frames.specs.Exchange.{exchangeOf}
 
 unfoldable pub notAcceptable : State → ℕ → ℕ → Bool
-notAcceptable s x id = (exchangeOf x) .ordered && not (acceptable id (s .least))
+notAcceptable s x id = (exchangeOf x) .«compares_message_id» && not (acceptable id (s .least))
 
 abbrev pub three-ofMember : State → ℕ → ℕ → List Bool
 three-ofMember s x id = notAcceptable s x id ∷ []

@@ -23,7 +23,7 @@ criticalUnknown f = any unknownCritical (f .payloads)
 
 -- "Member bag in a rekey", of either kind
 unfoldable pub barredMemberBag : Frame → Bool
-barredMemberBag f = not (rowOf f .members) && some (memberBags f)
+barredMemberBag f = not (rowOf f .«allows_member_bag») && some (memberBags f)
 
 -- "D in a registration"; in GSA_INBAND_REKEY too (T-02)
 unfoldable pub barredDelete : Frame → Bool

@@ -37,7 +37,7 @@ deleteOfNone f = any (λ (d : Delete). eqb (length (d .spis)) 0) (deletesOf f)
 -- "a lent default key not of 16, 24 or 32 octets in a registration", in GSA_INBAND_REKEY too (T-02): the sizes of the key wrap
 -- algorithms
 unfoldable pub lentKeySize : List ℕ → Frame → Bool
-lentKeySize lent f = rowOf f .lends && not (sizeOf 13 (length lent))
+lentKeySize lent f = rowOf f .«judges_lent_key» && not (sizeOf 13 (length lent))
 
 unfoldable pub five-ofFrame : List ℕ → Frame → List Bool
 five-ofFrame lent f =

@@ -17,17 +17,17 @@ registration = record {
   -- "registration of a non-empty member" (2): what the member must be
   wanted = wanted.Empty;
   -- "rekey whose two SPIs are not the live Rekey SA's" (2)
-  addresses = false;
+  «compares_spis» = false;
   -- "rekey with Message ID below the least acceptable, or none acceptable" (3)
-  ordered = false;
+  «compares_message_id» = false;
   -- "a lent default key not of 16, 24 or 32 octets in a registration" (5)
-  lends = true;
+  «judges_lent_key» = true;
   -- "a chain starts with the lent default key as key 0"; in a rekey "with the Rekey SA's default key as key 0"
   zero = keyZero.Lent;
   -- "held keys take the place of reached ones in a rekey": a KWK ID can name a held key
-  recalls = false;
+  «names_held_keys» = false;
   -- not true: "Member bag in a rekey" (4)
-  members = true;
+  «allows_member_bag» = true;
   -- not true: "D in a registration"; true: "neither (unless a rekey has D)" (4)
   deletes = false;
   -- "SA_KEY count not 1 (for a Rekey SA in a rekey: 0)" (6): a Rekey SA may have several copies
@@ -44,12 +44,12 @@ abbrev pub rekey : Exchange
 rekey = record {
   admitted = true;
   wanted = wanted.Any;
-  addresses = true;
-  ordered = true;
-  lends = false;
+  «compares_spis» = true;
+  «compares_message_id» = true;
+  «judges_lent_key» = false;
   zero = keyZero.RekeySa;
-  recalls = true;
-  members = false;
+  «names_held_keys» = true;
+  «allows_member_bag» = false;
   deletes = true;
   copies = true;
   authentication = true;
@@ -65,17 +65,17 @@ inband = record {
   -- "refuses it for an empty member" (2)
   wanted = wanted.NotEmpty;
   -- "and does not compare its SPIs" (2)
-  addresses = false;
+  «compares_spis» = false;
   -- "number 3 is not judged, because IKEv2 guards its order"
-  ordered = false;
+  «compares_message_id» = false;
   -- "Number 5 judges the lent key's size as in a registration."
-  lends = true;
+  «judges_lent_key» = true;
   -- "It comes with a lent default key of the member's IKE SA."; "Its key 0 is the lent key"
   zero = keyZero.Lent;
   -- "held keys, in demand 3 too, are for GSA_REKEY only"
-  recalls = false;
+  «names_held_keys» = false;
   -- "A Member bag or D in it is number 4"
-  members = false;
+  «allows_member_bag» = false;
   deletes = false;
   -- "a Rekey SA has exactly one SA_KEY, in number 6"
   copies = false;
@@ -92,12 +92,12 @@ abbrev pub other : Exchange
 other = record {
   admitted = false;
   wanted = wanted.Any;
-  addresses = false;
-  ordered = false;
-  lends = false;
+  «compares_spis» = false;
+  «compares_message_id» = false;
+  «judges_lent_key» = false;
   zero = keyZero.Lent;
-  recalls = false;
-  members = true;
+  «names_held_keys» = false;
+  «allows_member_bag» = true;
   deletes = true;
   copies = true;
   authentication = false;

@@ -42,7 +42,8 @@ module _ (f : Frame) (row : Exchange) (e : rowOf f ≡ row) (d : Deletes) (is : 
   pub five-is : (lent : List ℕ) → one (fiveOf row (length lent) d p k) ≡ applies (five lent f)
   unfolding one ahPolicy ahBag otherTransforms lentKeySize five-ofFrame
   five-is lent =
-      (λ i. one (pq i .ah ∷ kq i .ah ∷ pq i .unfit ∷ is .other i ∷ is .none i ∷ (sym e i .lends && not (sizeOf 13 (length lent))) ∷ []))
+      (λ i. one (pq i .ah ∷ kq i .ah ∷ pq i .unfit ∷ is .other i ∷ is .none i
+      ∷ (sym e i .«judges_lent_key» && not (sizeOf 13 (length lent))) ∷ []))
       ∙ sym (or-false (one (five-ofFrame lent f)))
 
   pub seven-is : (state : State) (now n : ℕ) → n ≡ length (standing now state)

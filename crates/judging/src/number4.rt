@@ -19,11 +19,11 @@ pub struct Four {
     pub wides: bool,
     pub members: bool,
     pub no_sa: bool,
-    pub lengths: bool,
-    pub ids: bool,
-    pub delays: bool,
+    pub two_lengths: bool,
+    pub two_message_ids: bool,
+    pub two_delays: bool,
     pub elsewhere: bool,
-    pub lifetimes: bool,
+    pub two_lifetimes: bool,
 }
 
 // Which clauses apply, in an exchange with this row, to a frame with these facts. Internal.
@@ -36,52 +36,35 @@ pub fn clauses_4(row: Exchange, x: Facts) -> Four
     let gsa = 0 < b.gsas;
     let kd = 0 < b.kds;
     let deletes = 0 < b.deletes;
-    // "critical unknown payload"
-    let critical = b.critical;
-    // "Member bag in a rekey", of either kind
-    let member_bag = !row.members & (0 < k.members);
-    // "D in a registration", by T-02 in GSA_INBAND_REKEY too
-    let delete = !row.deletes & deletes;
-    // "two GSA or two KD"
-    let two_gsa = 1 < b.gsas;
-    let two_kd = 1 < b.kds;
-    // "one without the other"
-    let gsa_alone = gsa & !kd;
-    let kd_alone = kd & !gsa;
-    // "neither (unless a rekey has D)"
-    let neither = !gsa & (!kd & !(row.deletes & deletes));
-    // "more than one Rekey policy, group-wide policy or Member bag"
-    let rekeys = 1 < p.rekeys;
-    let wides = 1 < p.wides;
-    let members = 1 < k.members;
-    // "a GSA with no SA policy"
-    let no_sa = gsa & !(0 < p.sas);
-    // "Key Length, GSA_INITIAL_MESSAGE_ID or the deactivation delay twice in one place"
-    let lengths = p.lengths;
-    let ids = p.ids;
-    let delays = p.delays;
-    // "a Rekey destination that isn't one address (start equals end) in 224.0.0.0/4 or ff00::/8 and one port"
-    let elsewhere = p.elsewhere;
-    // GSA_KEY_LIFETIME "twice in one policy" (document 02, T-07)
-    let lifetimes = p.lifetimes;
     Four {
-        critical,
-        member_bag,
-        delete,
-        two_gsa,
-        two_kd,
-        gsa_alone,
-        kd_alone,
-        neither,
-        rekeys,
-        wides,
-        members,
-        no_sa,
-        lengths,
-        ids,
-        delays,
-        elsewhere,
-        lifetimes,
+        // "critical unknown payload"
+        critical: b.critical,
+        // "Member bag in a rekey", of either kind
+        member_bag: !row.allows_member_bag & (0 < k.members),
+        // "D in a registration", by T-02 in GSA_INBAND_REKEY too
+        delete: !row.deletes & deletes,
+        // "two GSA or two KD"
+        two_gsa: 1 < b.gsas,
+        two_kd: 1 < b.kds,
+        // "one without the other"
+        gsa_alone: gsa & !kd,
+        kd_alone: kd & !gsa,
+        // "neither (unless a rekey has D)"
+        neither: !gsa & (!kd & !(row.deletes & deletes)),
+        // "more than one Rekey policy, group-wide policy or Member bag"
+        rekeys: 1 < p.rekeys,
+        wides: 1 < p.wides,
+        members: 1 < k.members,
+        // "a GSA with no SA policy"
+        no_sa: gsa & !(0 < p.sas),
+        // "Key Length, GSA_INITIAL_MESSAGE_ID or the deactivation delay twice in one place"
+        two_lengths: p.two_lengths,
+        two_message_ids: p.two_message_ids,
+        two_delays: p.two_delays,
+        // "a Rekey destination that isn't one address (start equals end) in 224.0.0.0/4 or ff00::/8 and one port"
+        elsewhere: p.elsewhere,
+        // GSA_KEY_LIFETIME "twice in one policy" (document 02, T-07)
+        two_lifetimes: p.two_lifetimes,
     }
 }
 
@@ -102,9 +85,9 @@ pub fn number_4(row: Exchange, x: Facts) -> bool
         | c.wides
         | c.members
         | c.no_sa
-        | c.lengths
-        | c.ids
-        | c.delays
+        | c.two_lengths
+        | c.two_message_ids
+        | c.two_delays
         | c.elsewhere
-        | c.lifetimes
+        | c.two_lifetimes
 }

@@ -33,7 +33,7 @@ pub fn clauses_5(row: Exchange, lent: usize, x: Facts) -> Five
     let other = d.other;
     let none = d.none;
     // "a lent default key not of 16, 24 or 32 octets in a registration", by T-02 in GSA_INBAND_REKEY too
-    let key = row.lends & !WrappingKey::is_size(lent);
+    let key = row.judges_lent_key & !WrappingKey::is_size(lent);
     Five {
         ah_policy,
         ah_bag,

@@ -17,7 +17,7 @@ ghost use Rattle.judging.specs.inner.Tests.{keysBy, keysIn, sixBy};
 pub struct Keys {
     pub count: bool,
     pub named: bool,
-    pub nested: bool,
+    pub esp_with_kwk_id: bool,
     pub unnamed: bool,
     pub itself: bool,
 }
@@ -27,11 +27,11 @@ pub fn clauses_6(row: Exchange, k: BagFacts) -> Keys
     ensures { λ r. ⌜ keysIn r ≡ keysBy row k ⌝ }
 {
     // "SA_KEY count not 1 (for a Rekey SA in a rekey: 0)", where the rekey is a GSA_REKEY
-    let count = k.keyless | k.several | (!row.copies & k.copied);
+    let count = k.keyless | k.several | (!row.copies & k.several_of_rekey);
     // "SA_KEY with Key ID not 0"
     let named = k.named;
     // "ESP SA_KEY with KWK ID not 0"
-    let nested = k.nested;
+    let esp_with_kwk_id = k.esp_with_kwk_id;
     // "WRAP_KEY with Key ID 0"
     let unnamed = k.unnamed;
     // document 02, T-09: "an entry whose Key ID equals its KWK ID. Any such WRAP_KEY, reached or not"
@@ -39,7 +39,7 @@ pub fn clauses_6(row: Exchange, k: BagFacts) -> Keys
     Keys {
         count,
         named,
-        nested,
+        esp_with_kwk_id,
         unnamed,
         itself,
     }
@@ -50,7 +50,7 @@ pub fn any_unfit_key(row: Exchange, k: BagFacts) -> bool
     ensures { λ r. ⌜ r ≡ one (keysBy row k) ⌝ }
 {
     let c = clauses_6(row, k);
-    c.count | c.named | c.nested | c.unnamed | c.itself
+    c.count | c.named | c.esp_with_kwk_id | c.unnamed | c.itself
 }
 
 // Whether number 6 applies, in an exchange with this row and over this table, to a frame with these facts and these bodies of GSA and KD.

@@ -62,13 +62,13 @@ module _ (limits : Limits) (s : State) (now : ℕ) (lent : List ℕ) (f : Frame)
 
   zero-in : In zero-root roots
   unfolding rootsOf
-  zero-in = in-head zero-root zero-root (cond (rowOf f .recalls) held []) refl
+  zero-in = in-head zero-root zero-root (cond (rowOf f .«names_held_keys») held []) refl
 
-  held-in : rowOf f .recalls ≡ true → (h : HeldKey) → In h (keysOf (s .held)) → In (heldRoot h) roots
+  held-in : rowOf f .«names_held_keys» ≡ true → (h : HeldKey) → In h (keysOf (s .held)) → In (heldRoot h) roots
   unfolding rootsOf
   held-in e h m =
-      in-tail (heldRoot h) zero-root (cond (rowOf f .recalls) held [])
-      (cond-in (heldRoot h) (rowOf f .recalls) held e (map-in heldRoot (heldRoot h) (keysOf (s .held)) h m refl))
+      in-tail (heldRoot h) zero-root (cond (rowOf f .«names_held_keys») held [])
+      (cond-in (heldRoot h) (rowOf f .«names_held_keys») held e (map-in heldRoot (heldRoot h) (keysOf (s .held)) h m refl))
 
   at-root : (r : Root) → In r roots → (k : ℕ) (v : List ℕ) → k ≡ r .id → v ≡ r .value → Ends roots (entriesOf f) size k v
   at-root r m k v e d =
@@ -96,7 +96,7 @@ module _ (limits : Limits) (s : State) (now : ℕ) (lent : List ℕ) (f : Frame)
   named-ends k v (own-key x e d) = at-root zero-root zero-in k v e (d ∙ sym (zero-own x))
   named-ends k v (last-of-chain g c) = let r = from-lent g k v c in record { passed = r .last ∷ r .before; chain = r .chain }
   named-ends k v (held-key e h m q d) =
-      at-root (heldRoot h) (held-in (ap (λ (x : Exchange). x .recalls) (rekeys (f .header .exchange) e)) h m) k v (sym q) (sym d)
+      at-root (heldRoot h) (held-in (ap (λ (x : Exchange). x .«names_held_keys») (rekeys (f .header .exchange) e)) h m) k v (sym q) (sym d)
 
   pub under-to : (a : GroupSaPolicy) (x : List ℕ) → OpensUnder limits s now lent f a x → OpensTo limits s now lent f a x
   under-to a x o =
@@ -121,12 +121,12 @@ module _ (limits : Limits) (s : State) (now : ℕ) (lent : List ℕ) (f : Frame)
     root-named r m =
         ⊎-elim (λ e. zero-named (r .id) (r .value) (ap (λ (x : Root). x .id) e) (ap (λ (x : Root). x .value) e))
         (λ i.
-        let c = in-cond r (rowOf f .recalls) held i in
+        let c = in-cond r (rowOf f .«names_held_keys») held i in
         let h = in-map heldRoot r (keysOf (s .held)) (c .1) in
         let is = sym (h .is) in
         held-key (names-held (f .header .exchange) (c .0)) (h .item) (h .stands) (ap (λ (x : Root). x .id) is)
         (ap (λ (x : Root). x .value) is))
-        (in-cases r zero-root (cond (rowOf f .recalls) held []) m)
+        (in-cases r zero-root (cond (rowOf f .«names_held_keys») held []) m)
 
     reached-named : (k : ℕ) (v : List ℕ) → Reached roots (entriesOf f) size k v → Names k v
     reached-named k v r =

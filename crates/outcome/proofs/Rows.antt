@@ -30,7 +30,7 @@ registers x e =
     (λ r. absurd (false≢true (rw r at e)))
 
 -- one in which held keys open copies is a rekey over the Rekey SA
-pub names-held : (x : ℕ) → exchangeOf x .recalls ≡ true → x ≡ 41
+pub names-held : (x : ℕ) → exchangeOf x .«names_held_keys» ≡ true → x ≡ 41
 names-held x e =
     by-row (x ≡ 41) x (λ q r. absurd (false≢true (rw r at e))) (λ q r. q) (λ q r. absurd (false≢true (rw r at e)))
     (λ r. absurd (false≢true (rw r at e)))
@@ -48,9 +48,9 @@ pub inband-row : (f : Frame) → Inband f → rowOf f ≡ inband
 inband-row f e = ap exchangeOf e
 
 -- a rekey of either kind takes no Member bag
-pub rekey-bars : (f : Frame) → Rekey f → rowOf f .members ≡ false
-rekey-bars f (inl e) = ap (λ (x : Exchange). x .members) (rekeys (f .header .exchange) e)
-rekey-bars f (inr e) = ap (λ (x : Exchange). x .members) (inband-row f e)
+pub rekey-bars : (f : Frame) → Rekey f → rowOf f .«allows_member_bag» ≡ false
+rekey-bars f (inl e) = ap (λ (x : Exchange). x .«allows_member_bag») (rekeys (f .header .exchange) e)
+rekey-bars f (inr e) = ap (λ (x : Exchange). x .«allows_member_bag») (inband-row f e)
 
 -- an exchange that number 2 lets pass is one of the four
 pub one-of-four : (f : Frame) → rowOf f .admitted ≡ true → Registration f ⊎ Rekey f
@@ -59,7 +59,7 @@ one-of-four f e =
     (λ r. absurd (false≢true (rw r at e)))
 
 -- "Member bag in a rekey", over the Rekey SA or the member's own channel: one that passes number 4 has no WRAP_KEY
-pub no-wrap-key : (f : Frame) → rowOf f .members ≡ false → barredMemberBag f ≡ false → wrapKeysOf f ≡ []
+pub no-wrap-key : (f : Frame) → rowOf f .«allows_member_bag» ≡ false → barredMemberBag f ≡ false → wrapKeysOf f ≡ []
 unfolding barredMemberBag gather
 no-wrap-key f x e =
     let g : some (memberBags f) ≡ false = rw x at e in

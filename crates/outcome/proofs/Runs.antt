@@ -57,7 +57,8 @@ module _ (limits : Limits) (enough : limits .wrapKeys ≤ limits .heldKeys) wher
     lent-size e =
         let r = registers (f .header .exchange) e in
         let k = no-clause (five-ofFrame lent f) 5 (c .no-5 .ofFrame) in
-        let n : not (sizeOf 13 (length lent)) ≡ false = sym (ap (λ (x : Exchange). x .lends && not (sizeOf 13 (length lent))) r) ∙ k in
+        let n : not (sizeOf 13 (length lent)) ≡ false =
+        sym (ap (λ (x : Exchange). x .«judges_lent_key» && not (sizeOf 13 (length lent))) r) ∙ k in
         ap (λ (x : Exchange). sizeOf 13 (length (keyZeroBy (x .zero) lent (ownKey limits s now)))) r
         ∙ not-false (sizeOf 13 (length lent)) n
 

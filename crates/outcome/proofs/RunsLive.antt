@@ -59,7 +59,7 @@ unfolding otherSpis
 passes-over limits s now f n r =
     let x = f .header .spi in
     not-false (any (overLiveRekey x) (standing now s))
-    (sym (ap (λ (y : Exchange). y .addresses && not (any (overLiveRekey x) (standing now s))) r)
+    (sym (ap (λ (y : Exchange). y .«compares_spis» && not (any (overLiveRekey x) (standing now s))) r)
     ∙ no-clause (two-ofMember limits s now (f .header .exchange) x) 1 (n .ofMember))
 
 -- ---- no Rekey SA is live

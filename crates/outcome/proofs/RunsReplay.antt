@@ -59,7 +59,7 @@ module _ (limits : Limits) where
     taken-id r =
         let i = f .header .messageId in
         not-false (acceptable i (s .least))
-        (sym (ap (λ (x : Exchange). x .ordered && not (acceptable i (s .least))) r)
+        (sym (ap (λ (x : Exchange). x .«compares_message_id» && not (acceptable i (s .least))) r)
         ∙ no-clause (three-ofMember s (f .header .exchange) i) 0 (c .no-3 .ofMember))
 
     -- an accepted rekey came over a Rekey SA that stood at its tick

@@ -119,7 +119,7 @@ module _ (a b : Limits) (w : Wider a b) (s t : State) (i : Within a s) (m : Same
 
       roots : rootsOf a s now lent f ≡ rootsOf b t now lent f
       unfolding rootsOf
-      roots = λ j. record { id = 0; value = zero-same j } ∷ cond (rowOf f .recalls) (map heldRoot (m .keys j)) []
+      roots = λ j. record { id = 0; value = zero-same j } ∷ cond (rowOf f .«names_held_keys») (map heldRoot (m .keys j)) []
 
       size : wrappingSize a s now lent f ≡ wrappingSize b t now lent f
       unfolding wrappingSize

@@ -42,7 +42,7 @@ heldRoot k = record { id = k .id; value = valueOf (k .key) }
 
 unfoldable pub rootsOf : Limits → State → ℕ → List ℕ → Frame → List Root
 rootsOf limits s now lent f =
-    record { id = 0; value = keyZero limits s now lent f } ∷ cond (rowOf f .recalls) (map heldRoot (keysOf (s .held))) []
+    record { id = 0; value = keyZero limits s now lent f } ∷ cond (rowOf f .«names_held_keys») (map heldRoot (keysOf (s .held))) []
 
 -- "goes on by WRAP_KEY entries"
 abbrev pub entriesOf : Frame → List WrapKey

@@ -148,7 +148,7 @@ module _ (m : State) (now : ℕ) (lent : List ℕ) (f : Frame) (e : refusal limi
   none-of [] q = refl
   none-of (a ∷ l) q = let h = ltb-false 0 (suc (length l)) q in absurd (omega arith)
 
-  pub no-entry : rowOf f .members ≡ false → wrapKeysOf f ≡ []
+  pub no-entry : rowOf f .«allows_member_bag» ≡ false → wrapKeysOf f ≡ []
   unfolding four-ofFrame barredMemberBag gather
   no-entry r =
       let n = no-4 1 in
@@ -163,7 +163,7 @@ module _ (m : State) (now : ℕ) (lent : List ℕ) (f : Frame) (e : refusal limi
   unfolding five-ofFrame
   transforms-fit = no-5 2
 
-  pub lent-fits : rowOf f .lends ≡ true → sizeOf 13 (length lent) ≡ true
+  pub lent-fits : rowOf f .«judges_lent_key» ≡ true → sizeOf 13 (length lent) ≡ true
   unfolding five-ofFrame lentKeySize
   lent-fits r = let n = no-5 5 in not-not (sizeOf 13 (length lent)) (rw r at n)
 

@@ -28,7 +28,7 @@ use Rattle.receiving.proofs.ZeroLaws.{lent-key}
 
 -- the row of an exchange in which the lent key's size is judged, and chains start with that key alone
 pub record LentRow (y : Exchange) : Type 0 where
-  pub judged : y .lends ≡ true
+  pub judged : y .«judges_lent_key» ≡ true
   pub roots : (m : State) (now : ℕ) (f : Frame) → rowOf f ≡ y → (lent : List ℕ) → rootsOf limits m now lent f ≡ lentRoot lent
   pub size : (m : State) (now : ℕ) (f : Frame) → rowOf f ≡ y → (lent : List ℕ) → wrappingSize limits m now lent f ≡ length lent
 
@@ -41,7 +41,7 @@ rekeys-lent = record { judged = refl; roots = inband-roots limits; size = inband
 module _ {y : Exchange} {m : State} {now : ℕ} {lent s : List ℕ} {x : Facts} {g k : List ℕ} {f : Frame}
     (b : Bodied y m now lent s x g k f) (l : LentRow y) (zero : WrappingKey) (z : zero ≡ wrappingKey lent .key) where
   lent-size-fits : sizeOf 13 (length lent) ≡ true
-  lent-size-fits = lent-fits m now lent f (b .passed .clauses) (ap (λ (e : Exchange). e .lends) (b .row) ∙ l .judged)
+  lent-size-fits = lent-fits m now lent f (b .passed .clauses) (ap (λ (e : Exchange). e .«judges_lent_key») (b .row) ∙ l .judged)
 
   zero-is : zero ≡ wrappingOf lent
   zero-is = z ∙ lent-key lent lent-size-fits

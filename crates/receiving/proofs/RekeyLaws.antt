@@ -53,10 +53,11 @@ none-eight roots size (two-values k x y r q d) = none-reached roots size k x r
 
 -- a frame of an exchange that has no Member bag and leaves the held list, opened under key 0 and the keys of a list
 module _ {y : Exchange} {m : State} {now : ℕ} {lent s : List ℕ} {x : Facts} {g k : List ℕ} {f : Frame}
-    (b : Bodied y m now lent s x g k f) (no-bag : y .members ≡ false) (leaves : y .registers ≡ false) (zero : WrappingKey) (opens : Held)
+    (b : Bodied y m now lent s x g k f) (no-bag : y .«allows_member_bag» ≡ false) (leaves : y .registers ≡ false)
+    (zero : WrappingKey) (opens : Held)
     (roots-are : heldRoots zero opens ≡ rootsOf limits m now lent f) where
   none : [] ≡ entriesOf f
-  none = sym (no-entry m now lent f (b .passed .clauses) (ap (λ (e : Exchange). e .members) (b .row) ∙ no-bag))
+  none = sym (no-entry m now lent f (b .passed .clauses) (ap (λ (e : Exchange). e .«allows_member_bag») (b .row) ∙ no-bag))
 
   carry : (P : List Root → List WrapKey → Type 0) → P (heldRoots zero opens) [] → P (rootsOf limits m now lent f) (entriesOf f)
   carry P p = subst (P (rootsOf limits m now lent f)) none (subst (λ (l : List Root). P l []) roots-are p)

@@ -52,19 +52,19 @@ fn policies(out: &mut [u8], n: usize, x: Four) -> usize {
     let a = clause(
         out,
         n,
-        x.lengths,
+        x.two_lengths,
         b"  4: Key Length twice in one transform\n",
     );
     let b = clause(
         out,
         a,
-        x.ids,
+        x.two_message_ids,
         b"  4: GSA_INITIAL_MESSAGE_ID twice in one policy\n",
     );
     let c = clause(
         out,
         b,
-        x.delays,
+        x.two_delays,
         b"  4: deactivation delay (GWP_DTD) twice in one policy\n",
     );
     let d = clause(
@@ -76,7 +76,7 @@ fn policies(out: &mut [u8], n: usize, x: Four) -> usize {
     clause(
         out,
         d,
-        x.lifetimes,
+        x.two_lifetimes,
         b"  4: GSA_KEY_LIFETIME twice in one policy\n",
     )
 }
@@ -127,7 +127,12 @@ fn keys(out: &mut [u8], n: usize, x: Keys) -> usize {
         b"  6: SA_KEY count of a bag not 1 (for a Rekey SA in GSA_REKEY: 0)\n",
     );
     let b = clause(out, a, x.named, b"  6: SA_KEY with Key ID not 0\n");
-    let c = clause(out, b, x.nested, b"  6: ESP SA_KEY with KWK ID not 0\n");
+    let c = clause(
+        out,
+        b,
+        x.esp_with_kwk_id,
+        b"  6: ESP SA_KEY with KWK ID not 0\n",
+    );
     let d = clause(out, c, x.unnamed, b"  6: WRAP_KEY with Key ID 0\n");
     clause(
         out,

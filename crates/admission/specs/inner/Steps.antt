@@ -19,4 +19,4 @@ isOver now spi s = not (due now s) && overLiveRekey spi s
 unfoldable pub barred : Limits → Table → Exchange → List ℕ → ℕ → Bool
 barred limits t x spi now =
     not (x .admitted) || (breaksWanted (x .wanted) (emptyAt limits now t) ||
-    (x .addresses && not (any (overLiveRekey spi) (notDue now (sasOf t)))))
+    (x .«compares_spis» && not (any (overLiveRekey spi) (notDue now (sasOf t)))))

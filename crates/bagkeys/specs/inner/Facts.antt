@@ -46,7 +46,7 @@ keyFactsOf l = record {
   keys = length l;
   named = any (λ (v : List ℕ). not (noId v)) l;
   unnamed = any noId l;
-  nested = any (λ (v : List ℕ). not (noKwk v)) l;
+  «with_kwk_id» = any (λ (v : List ℕ). not (noKwk v)) l;
   itself = any oneId l;
 }
 
@@ -55,7 +55,7 @@ withKey f v = record {
   keys = f .keys + 1;
   named = f .named || not (noId v);
   unnamed = f .unnamed || noId v;
-  nested = f .nested || not (noKwk v);
+  «with_kwk_id» = f .«with_kwk_id» || not (noKwk v);
   itself = f .itself || oneId v;
 }
 
@@ -70,10 +70,10 @@ ofGroup limits p k = record {
   ah = eqb p ah;
   keyless = eqb (k .keys) 0;
   several = not (eqb p rekey) && ltb 1 (k .keys);
-  copied = eqb p rekey && ltb 1 (k .keys);
+  «several_of_rekey» = eqb p rekey && ltb 1 (k .keys);
   overfull = ltb (limits .saKeys) (k .keys);
   named = k .named;
-  nested = eqb p esp && k .nested;
+  «esp_with_kwk_id» = eqb p esp && k .«with_kwk_id»;
 }
 
 abbrev pub ofMember : KeyFacts → BagFacts
@@ -85,10 +85,10 @@ ofMember k = record {
   ah = false;
   keyless = false;
   several = false;
-  copied = false;
+  «several_of_rekey» = false;
   overfull = false;
   named = false;
-  nested = false;
+  «esp_with_kwk_id» = false;
 }
 
 abbrev pub ofSaKeys : List SaKey → KeyFacts
@@ -96,7 +96,7 @@ ofSaKeys l = record {
   keys = length l;
   named = any hasKeyId l;
   unnamed = any (λ (k : SaKey). eqb (k .keyId) 0) l;
-  nested = any hasKwkId l;
+  «with_kwk_id» = any hasKwkId l;
   itself = any (λ (k : SaKey). eqb (k .keyId) (k .kwkId)) l;
 }
 
@@ -105,7 +105,7 @@ ofWrapKeys l = record {
   keys = length l;
   named = any (λ (k : WrapKey). not (eqb (k .keyId) 0)) l;
   unnamed = any (λ (k : WrapKey). eqb (k .keyId) 0) l;
-  nested = any (λ (k : WrapKey). not (eqb (k .kwkId) 0)) l;
+  «with_kwk_id» = any (λ (k : WrapKey). not (eqb (k .kwkId) 0)) l;
   itself = any underItself l;
 }
 
@@ -129,10 +129,10 @@ noBags = record {
   ah = false;
   keyless = false;
   several = false;
-  copied = false;
+  «several_of_rekey» = false;
   overfull = false;
   named = false;
-  nested = false;
+  «esp_with_kwk_id» = false;
 }
 
 abbrev pub together : BagFacts → BagFacts → BagFacts
@@ -144,10 +144,10 @@ together a b = record {
   ah = a .ah || b .ah;
   keyless = a .keyless || b .keyless;
   several = a .several || b .several;
-  copied = a .copied || b .copied;
+  «several_of_rekey» = a .«several_of_rekey» || b .«several_of_rekey»;
   overfull = a .overfull || b .overfull;
   named = a .named || b .named;
-  nested = a .nested || b .nested;
+  «esp_with_kwk_id» = a .«esp_with_kwk_id» || b .«esp_with_kwk_id»;
 }
 
 abbrev pub wrapsIn : List Bag → List WrapKey
@@ -163,8 +163,8 @@ factsOf limits l = record {
   ah = any (λ (b : GroupKeyBag). eqb (b .protocol) ah) (gather groupBagOf l);
   keyless = any (λ (b : GroupKeyBag). eqb (length (b .keys)) 0) (gather groupBagOf l);
   several = any (λ (b : GroupKeyBag). not (eqb (b .protocol) rekey) && ltb 1 (length (b .keys))) (gather groupBagOf l);
-  copied = any (λ (b : GroupKeyBag). eqb (b .protocol) rekey && ltb 1 (length (b .keys))) (gather groupBagOf l);
+  «several_of_rekey» = any (λ (b : GroupKeyBag). eqb (b .protocol) rekey && ltb 1 (length (b .keys))) (gather groupBagOf l);
   overfull = any (λ (b : GroupKeyBag). ltb (limits .saKeys) (length (b .keys))) (gather groupBagOf l);
   named = any (λ (b : GroupKeyBag). any hasKeyId (b .keys)) (gather groupBagOf l);
-  nested = any (λ (b : GroupKeyBag). eqb (b .protocol) esp && any hasKwkId (b .keys)) (gather groupBagOf l);
+  «esp_with_kwk_id» = any (λ (b : GroupKeyBag). eqb (b .protocol) esp && any hasKwkId (b .keys)) (gather groupBagOf l);
 }

@@ -24,19 +24,20 @@ use Rattle.judging.specs.declared.number7.Seven.{Seven}
 -- GSA_KEY_LIFETIME twice
 abbrev pub fourOf : Exchange → PayloadFacts → PolicyFacts → BagFacts → List Bool
 fourOf row b p k =
-    b .critical ∷ (not (row .members) && ltb 0 (k .members)) ∷ (not (row .deletes) && ltb 0 (b .deletes)) ∷ ltb 1 (b .gsas) ∷ ltb 1 (b .kds)
+    b .critical ∷ (not (row .«allows_member_bag») && ltb 0 (k .members)) ∷ (not (row .deletes) && ltb 0 (b .deletes))
+    ∷ ltb 1 (b .gsas) ∷ ltb 1 (b .kds)
     ∷ (ltb 0 (b .gsas) && not (ltb 0 (b .kds))) ∷ (ltb 0 (b .kds) && not (ltb 0 (b .gsas)))
     ∷ (not (ltb 0 (b .gsas)) && (not (ltb 0 (b .kds)) && not (row .deletes && ltb 0 (b .deletes))))
     ∷ ltb 1 (p .rekeys) ∷ ltb 1 (p .wides) ∷ ltb 1 (k .members) ∷ (ltb 0 (b .gsas) && not (ltb 0 (p .sas)))
-    ∷ p .lengths ∷ p .ids ∷ p .delays ∷ p .elsewhere ∷ p .lifetimes ∷ []
+    ∷ p .«two_lengths» ∷ p .«two_message_ids» ∷ p .«two_delays» ∷ p .elsewhere ∷ p .«two_lifetimes» ∷ []
 
 -- an AH policy, an AH bag, other transforms, D of another protocol, D with count 0, a lent key of so many octets
 abbrev pub fiveOf : Exchange → ℕ → Deletes → PolicyFacts → BagFacts → List Bool
-fiveOf row lent d p k = p .ah ∷ k .ah ∷ p .unfit ∷ d .other ∷ d .none ∷ (row .lends && not (sizeOf 13 lent)) ∷ []
+fiveOf row lent d p k = p .ah ∷ k .ah ∷ p .unfit ∷ d .other ∷ d .none ∷ (row .«judges_lent_key» && not (sizeOf 13 lent)) ∷ []
 
 -- the SA_KEY count, an SA_KEY with a Key ID, one of ESP with a KWK ID, a WRAP_KEY without Key ID, one under its own Key ID
 abbrev pub keysBy : Exchange → BagFacts → List Bool
-keysBy row k = ((k .keyless || k .several) || (not (row .copies) && k .copied)) ∷ k .named ∷ k .nested ∷ k .unnamed ∷
+keysBy row k = ((k .keyless || k .several) || (not (row .copies) && k .«several_of_rekey»)) ∷ k .named ∷ k .«esp_with_kwk_id» ∷ k .unnamed ∷
     k .itself ∷ []
 
 -- policies of the names l and bags of the names m not paired one to one, in the table already, and the keys
@@ -66,13 +67,13 @@ sevenBy limits x standing = sevenOf limits (x .payloads .deletion) (x .policies)
 abbrev pub fourIn : Four → List Bool
 fourIn c =
     c .critical ∷ c .«member_bag» ∷ c .delete ∷ c .«two_gsa» ∷ c .«two_kd» ∷ c .«gsa_alone» ∷ c .«kd_alone» ∷ c .neither ∷ c .rekeys ∷ c .wides
-    ∷ c .members ∷ c .«no_sa» ∷ c .lengths ∷ c .ids ∷ c .delays ∷ c .elsewhere ∷ c .lifetimes ∷ []
+    ∷ c .members ∷ c .«no_sa» ∷ c .«two_lengths» ∷ c .«two_message_ids» ∷ c .«two_delays» ∷ c .elsewhere ∷ c .«two_lifetimes» ∷ []
 
 abbrev pub fiveIn : Five → List Bool
 fiveIn c = c .«ah_policy» ∷ c .«ah_bag» ∷ c .unfit ∷ c .other ∷ c .none ∷ c .key ∷ []
 
 abbrev pub keysIn : Keys → List Bool
-keysIn c = c .count ∷ c .named ∷ c .nested ∷ c .unnamed ∷ c .itself ∷ []
+keysIn c = c .count ∷ c .named ∷ c .«esp_with_kwk_id» ∷ c .unnamed ∷ c .itself ∷ []
 
 abbrev pub sevenIn : Seven → List Bool
 sevenIn c = c .esps ∷ c .wraps ∷ c .overfull ∷ c .spis ∷ c .long ∷ c .sas ∷ []

@@ -16,21 +16,23 @@ returns : tie.Need-returns
 returns c =
     let a = c .before .before .before .before .args in
     three-judged (a .state) (a .exchange) (a .id) false
-    (sym (ap (λ (x : Exchange). x .ordered) (c .before .before .before .exchange-of .ensures)) ∙ c .before .before .if1 .taken)
+    (sym (ap (λ (x : Exchange). x .«compares_message_id») (c .before .before .before .exchange-of .ensures))
+    ∙ c .before .before .if1 .taken)
     (ap not (sym (c .if2 .taken) ∙ c .before .accepts .ensures))
 
 returns-2 : tie.Need-returns-2
 returns-2 c =
     let a = c .before .before .before .before .args in
     three-judged (a .state) (a .exchange) (a .id) true
-    (sym (ap (λ (x : Exchange). x .ordered) (c .before .before .before .exchange-of .ensures)) ∙ c .before .before .if1 .taken)
+    (sym (ap (λ (x : Exchange). x .«compares_message_id») (c .before .before .before .exchange-of .ensures))
+    ∙ c .before .before .if1 .taken)
     (ap not (sym (c .if2 .left) ∙ c .before .accepts .ensures))
 
 returns-3 : tie.Need-returns-3
 returns-3 c =
     let a = c .before .before .args in
     three-not (a .state) (a .exchange) (a .id)
-    (sym (ap (λ (x : Exchange). x .ordered) (c .before .exchange-of .ensures)) ∙ c .if1 .left)
+    (sym (ap (λ (x : Exchange). x .«compares_message_id») (c .before .exchange-of .ensures)) ∙ c .if1 .left)
 
 pub number-3-spec : {M : Type 1} → statement M
 number-3-spec = tie.close (tie.spec exchange-of-requires accepts-requires returns returns-2 returns-3)

@@ -12,7 +12,8 @@ returns c =
     let a = c .before .before .before .before .before .before .args in
     let x = a .x in
     let d = x .payloads .deletion in
-    λ i. x .policies .ah ∷ x .bags .ah ∷ x .policies .unfit ∷ d .other ∷ d .none ∷ (a .row .lends && not (c .before .is-size .ensures i)) ∷ []
+    λ i. x .policies .ah ∷ x .bags .ah ∷ x .policies .unfit ∷ d .other ∷ d .none
+    ∷ (a .row .«judges_lent_key» && not (c .before .is-size .ensures i)) ∷ []
 
 pub clauses-5-spec : {M : Type 1} → statement M
 clauses-5-spec = tie.close (tie.spec is-size-requires returns)
