@@ -1,22 +1,19 @@
 // The call on an opened frame.
 use crate::Member;
 use attributes::Layout;
-use frames::exchanges::KeyZero;
 use judging::facts::Facts;
 use judging::refusal::Verdict;
-use receiving::registration::registered;
-use receiving::rekey::rekeyed;
-use receiving::row_of;
+use receiving::deciding::decided;
 use state::State;
 ghost use mathlib.Core.Path.{_≡_};
-ghost use mathlib.Core.List.{List, []};
-ghost use Prim.Native.Nat.{ℕ, _≤_};
+ghost use mathlib.Core.List.{[]};
+ghost use Prim.Native.Nat.{_≤_};
 ghost use Rattle.octets.specs.Walk.{whole};
 ghost use Rattle.keys.specs.Limits.{limits};
 ghost use Rattle.frames.specs.Frame.{Frame, frame};
 ghost use Rattle.contents.specs.inner.Values.{isWhole};
 ghost use Rattle.outcome.specs.Outcome.{Judged};
-ghost use Rattle.receiving.specs.inner.Passing.{Passed, Registers, RekeysOver, RekeysInband};
+ghost use Rattle.receiving.specs.inner.Passing.{Passed};
 ghost use Rattle.group.specs.Receive.{numberOf, figureOf, Receives};
 
 // What becomes of a frame.
@@ -126,55 +123,15 @@ impl Member {
         }
     }
 
-    // A registration that numbers 2 to 7 let pass, with its facts.
-    fn registering(self, s: &[u8], x: Facts, lent: &[u8], tick: u32) -> Received
-        requires { ⌜ ((f : Frame) × Passed (self .state) tick (now lent) (now s) x f × Registers f) ⌝ }
-        ensures { λ r. ⌜ ((f : Frame) → Passed (self .state) tick (now (lent .entry)) (now (s .entry)) x f → Registers f →
-            Judged limits (self .state) tick (now (lent .entry)) f (numberOf (r .answer)) (r .member .state)) ⌝ }
-    {
-        let state = self.state;
-        let next = registered(state, s, x, lent, tick);
-        answered(next.number, next.state)
-    }
-
-    // A rekey over the live Rekey SA that numbers 2 to 7 let pass, with its facts. No lent key is read.
-    fn rekeying(self, s: &[u8], x: Facts, tick: u32) -> Received
-        requires { ⌜ ((f : Frame) × (lent : List ℕ) × Passed (self .state) tick lent (now s) x f × RekeysOver f) ⌝ }
-        ensures { λ r. ⌜ ((f : Frame) (lent : List ℕ) → Passed (self .state) tick lent (now (s .entry)) x f → RekeysOver f →
-            Judged limits (self .state) tick lent f (numberOf (r .answer)) (r .member .state)) ⌝ }
-    {
-        let state = self.state;
-        let next = rekeyed(state, s, x, tick);
-        answered(next.number, next.state)
-    }
-
-    // A rekey over the member's own channel that numbers 2 to 7 let pass, with its facts. No held key is read.
-    fn rekeying_in_band(self, s: &[u8], x: Facts, lent: &[u8], tick: u32) -> Received
-        requires { ⌜ ((f : Frame) × Passed (self .state) tick (now lent) (now s) x f × RekeysInband f) ⌝ }
-        ensures { λ r. ⌜ ((f : Frame) → Passed (self .state) tick (now (lent .entry)) (now (s .entry)) x f → RekeysInband f →
-            Judged limits (self .state) tick (now (lent .entry)) f (numberOf (r .answer)) (r .member .state)) ⌝ }
-    {
-        let state = self.state;
-        let next = receiving::inband::rekeyed(state, s, x, lent, tick);
-        answered(next.number, next.state)
-    }
-
-    // A frame that numbers 2 to 7 let pass, with its facts. It goes by whether its exchange sets the held list, then by whose key KWK ID 0
-    // names.
+    // A frame that numbers 2 to 7 let pass, with its facts.
     fn passed(self, s: &[u8], x: Facts, lent: &[u8], tick: u32) -> Received
         requires { ⌜ ((f : Frame) × Passed (self .state) tick (now lent) (now s) x f) ⌝ }
         ensures { λ r. ⌜ ((f : Frame) → Passed (self .state) tick (now (lent .entry)) (now (s .entry)) x f →
             Judged limits (self .state) tick (now (lent .entry)) f (numberOf (r .answer)) (r .member .state)) ⌝ }
     {
-        let row = row_of(s);
-        if row.registers {
-            return self.registering(s, x, lent, tick);
-        }
-        let zero = row.zero;
-        match zero {
-            KeyZero::Lent => self.rekeying_in_band(s, x, lent, tick),
-            KeyZero::RekeySa => self.rekeying(s, x, tick),
-        }
+        let state = self.state;
+        let next = decided(state, s, x, lent, tick);
+        answered(next.number, next.state)
     }
 
     // A frame whose layout is whole.

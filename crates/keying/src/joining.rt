@@ -45,8 +45,8 @@ fn one_without(found: copies::answer::Found) -> One
     One { found, sa }
 }
 
-// The SA that a policy with this protocol and SPI announces, whose keying octets are the first of these: as many as its transforms need,
-// and a Rekey SA's cut in two where they say. It has this lifetime.
+// The SA of a policy with this protocol, SPI and lifetime. Its keying octets are the first of these, as many as its transforms need. Those
+// of a Rekey SA are cut in two behind the encryption key.
 fn sa_from(
     protocol: usize,
     spi: &[u8],

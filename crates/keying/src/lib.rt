@@ -110,7 +110,7 @@ fn with_policy(
     one_sa(one, protocol, spi, e, w, t)
 }
 
-// What is known of SAs none of which is number 8: whether none of the copies of some SA opens.
+// The answer where number 8 holds of no SA. With `nine` no copy of some SA opens.
 fn found_by(nine: bool) -> Found
     ensures { λ r. ⌜ r ≡ foundBy nine ⌝ }
 {

@@ -29,7 +29,7 @@ use Rattle.reach.specs.inner.Search.{Nonzero}
 use Rattle.reach.proofs.Statuses.{getD-any}
 use Rattle.reached.specs.inner.Reached.{wrapKeysAmong, wrapKeysIn}
 use Rattle.keying.specs.inner.Keyed.{Ready}
-use Rattle.receiving.specs.inner.Passing.{Passed, Bodied}
+use Rattle.receiving.specs.inner.Passing.{Passed, Bodied, Bagged}
 use Rattle.receiving.proofs.ClauseLaws.{one-gsa, one-kd, lengths-once, lifetimes-once, transforms-fit, all-paired}
 use Rattle.receiving.proofs.ClauseLaws.{no-zero, few-entries, few-sas}
 
@@ -57,11 +57,11 @@ module _ (m : State) (now : ℕ) (lent s : List ℕ) (x : Facts) (f : Frame) (p 
       ∙ ap (λ (y : PayloadFacts). policyFacts (rowOf f .authentication) (policiesIn (at s (y .gsa)))) (sym e)
       ∙ ap (policyFacts (rowOf f .authentication)) (holds-policies .all)
 
-  pub bodied : (e : Exchange) → rowOf f ≡ e → Bodied e m now lent s x (at s (x .payloads .gsa)) (at s (x .payloads .kd)) f
-  bodied e r = record { passed = p; row = r; policies = sym (holds-policies .all); bags = sym (holds-bags .all) }
+  pub bodied : Bodied m now lent s x (at s (x .payloads .gsa)) (at s (x .payloads .kd)) f
+  bodied = record { passed = p; policies = sym (holds-policies .all); bags = sym (holds-bags .all) }
 
-module _ {e : Exchange} {m : State} {now : ℕ} {lent s : List ℕ} {x : Facts} {g k : List ℕ} {f : Frame}
-    (b : Bodied e m now lent s x g k f) where
+module _ {m : State} {now : ℕ} {lent s : List ℕ} {x : Facts} {g k : List ℕ} {f : Frame}
+    (b : Bodied m now lent s x g k f) where
   pub ready : Ready f g k
   ready =
       let q = b .passed .clauses in
@@ -75,15 +75,19 @@ module _ {e : Exchange} {m : State} {now : ℕ} {lent s : List ℕ} {x : Facts} 
         room = omega (arith, few-sas m now lent f q);
       }
 
+  pub bagged : (e : Exchange) → rowOf f ≡ e → Bagged e m now lent k f
+  bagged e r = record { clauses = b .passed .clauses; row = r; bags = b .bags }
+
+module _ {e : Exchange} {m : State} {now : ℕ} {lent k : List ℕ} {f : Frame} (b : Bagged e m now lent k f) where
   pub entries-are : wrapKeysIn k ≡ wrapKeysOf f
   entries-are = ap wrapKeysAmong (sym (b .bags))
 
   pub entries-few : length (wrapKeysIn k) ≤ limits .wrapKeys
-  entries-few = subst (λ (l : List WrapKey). length l ≤ limits .wrapKeys) (sym entries-are) (few-entries m now lent f (b .passed .clauses))
+  entries-few = subst (λ (l : List WrapKey). length l ≤ limits .wrapKeys) (sym entries-are) (few-entries m now lent f (b .clauses))
 
   pub entries-nonzero : Nonzero (wrapKeysIn k)
   unfolding wrapKeyId
   entries-nonzero =
       nonzero-of (wrapKeysIn k)
       (subst (λ (l : List WrapKey). any (λ (x : WrapKey). eqb (x .keyId) 0) l ≡ false) (sym entries-are)
-      (no-zero m now lent f (b .passed .clauses)))
+      (no-zero m now lent f (b .clauses)))

@@ -1,12 +1,11 @@
 -- A rekey over the member's own channel: key 0 is the lent key, no held key can be named, there is no entry, and the held list stays.
 use Prim.Native.Nat.{ℕ}
 use mathlib.Core.Path.{_≡_, refl, ap, _∙_}
-use mathlib.Core.Bool.{true}
+use mathlib.Core.Bool.{true, false}
 use mathlib.Core.List.{List, [], _∷_, map}
 use Rattle.keys.specs.Limits.{limits}
 use Rattle.keys.specs.Kinds.{wrappingKey, valueOf}
 use Rattle.keys.specs.declared.kinds.WrappingKey.{WrappingKey}
-use Rattle.attributes.specs.Tree.{WrapKey}
 use Rattle.frames.specs.Frame.{Frame}
 use Rattle.frames.specs.Exchange.{inband}
 use Rattle.state.specs.declared.State.{State}
@@ -15,29 +14,24 @@ use Rattle.state.specs.declared.held.HeldKey.{HeldKey}
 use Rattle.state.specs.Held.{keysOf, heldOf, heldFormed}
 use Rattle.state.proofs.Kept.{keys-of-held, no-key-formed}
 use Rattle.chains.specs.Chain.{Root}
-use Rattle.copies.specs.inner.Known.{Agrees}
 use Rattle.outcome.specs.Roots.{heldRoot, rootsOf}
-use Rattle.judging.specs.declared.facts.Facts.{Facts}
-use Rattle.keying.specs.inner.Keyed.{KeyedBy}
-use Rattle.keying.specs.declared.joining.Keyed.{Keyed}
-use Rattle.receiving.specs.inner.Passing.{Bodied, Opened}
-use Rattle.receiving.proofs.LentLaws.{rekeys-lent, zero-roots}
+use Rattle.receiving.specs.inner.Passing.{Bagged}
+use Rattle.receiving.specs.inner.Rooted.{Rooted}
+use Rattle.receiving.proofs.LentLaws.{rekeys-lent, zero-fits, zero-roots}
 use Rattle.receiving.proofs.Rekeying.{heldRoots}
-use Rattle.receiving.proofs.RekeyLaws.{no-entry-opened}
+use Rattle.receiving.proofs.RekeyLaws.{no-entry-rooted}
 
 -- a list with no key
 module _ (no-key : Held) (e : no-key ≡ heldOf limits []) where
-  pub no-key-fits : heldFormed limits no-key ≡ true
+  no-key-fits : heldFormed limits no-key ≡ true
   no-key-fits = ap (heldFormed limits) e ∙ no-key-formed limits
 
-  module _ {m : State} {now : ℕ} {lent s : List ℕ} {x : Facts} {g k : List ℕ} {f : Frame} (b : Bodied inband m now lent s x g k f)
+  module _ {m : State} {now : ℕ} {lent k : List ℕ} {f : Frame} (b : Bagged inband m now lent k f)
       (zero : WrappingKey) (z : zero ≡ wrappingKey lent .key) where
     roots-are : heldRoots zero no-key ≡ rootsOf limits m now lent f
     roots-are =
         ap (λ (l : List HeldKey). record { id = 0; value = valueOf zero } ∷ map heldRoot l) (ap keysOf e ∙ keys-of-held limits [])
         ∙ zero-roots b rekeys-lent zero z
 
-    pub inband-opened : (keyed : Keyed) →
-        ((roots : List Root) (entries : List WrapKey) (size : ℕ) → Agrees roots entries size zero no-key →
-        KeyedBy roots entries size f now keyed) → Opened m now lent s x keyed (m .held) f
-    inband-opened = no-entry-opened b refl refl zero no-key roots-are
+    pub inband-rooted : Rooted m now lent (record { eight = false; zero = zero; opens = no-key }) f
+    inband-rooted = no-entry-rooted b refl refl zero no-key roots-are (zero-fits b rekeys-lent zero z) no-key-fits

@@ -21,8 +21,7 @@ use Rattle.reached.proofs.Agreeing.{value-of}
 use Rattle.outcome.specs.Roots.{rootsOf, wrappingSize}
 use Rattle.outcome.specs.NamedKey.{lentRoot}
 use Rattle.outcome.proofs.Rows.{lent-roots, lent-size, inband-roots, inband-size}
-use Rattle.judging.specs.declared.facts.Facts.{Facts}
-use Rattle.receiving.specs.inner.Passing.{Bodied}
+use Rattle.receiving.specs.inner.Passing.{Bagged}
 use Rattle.receiving.proofs.ClauseLaws.{lent-fits}
 use Rattle.receiving.proofs.ZeroLaws.{lent-key}
 
@@ -38,10 +37,10 @@ registers-lent = record { judged = refl; roots = lent-roots limits; size = lent-
 pub rekeys-lent : LentRow inband
 rekeys-lent = record { judged = refl; roots = inband-roots limits; size = inband-size limits }
 
-module _ {y : Exchange} {m : State} {now : ℕ} {lent s : List ℕ} {x : Facts} {g k : List ℕ} {f : Frame}
-    (b : Bodied y m now lent s x g k f) (l : LentRow y) (zero : WrappingKey) (z : zero ≡ wrappingKey lent .key) where
+module _ {y : Exchange} {m : State} {now : ℕ} {lent k : List ℕ} {f : Frame} (b : Bagged y m now lent k f)
+    (l : LentRow y) (zero : WrappingKey) (z : zero ≡ wrappingKey lent .key) where
   lent-size-fits : sizeOf 13 (length lent) ≡ true
-  lent-size-fits = lent-fits m now lent f (b .passed .clauses) (ap (λ (e : Exchange). e .«judges_lent_key») (b .row) ∙ l .judged)
+  lent-size-fits = lent-fits m now lent f (b .clauses) (ap (λ (e : Exchange). e .«judges_lent_key») (b .row) ∙ l .judged)
 
   zero-is : zero ≡ wrappingOf lent
   zero-is = z ∙ lent-key lent lent-size-fits

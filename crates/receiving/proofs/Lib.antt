@@ -7,4 +7,6 @@ pub mod RegistrationLaws
 pub mod Rekeying
 pub mod RekeyLaws
 pub mod InbandLaws
+pub mod RowLaws
+pub mod DecidingLaws
 pub mod SaidLaws

@@ -2,11 +2,12 @@
 use native.Mathlib.Omega.{arith}
 use Prim.Native.Nat.{ℕ}
 use mathlib.Core.Path.{_≡_, refl, ap, sym, subst, _∙_}
-use mathlib.Core.Bool.{Bool, true, false}
+use mathlib.Core.Bool.{true, false, false≢true}
 use mathlib.Core.List.{List, [], _∷_}
 use lib.ListN.{length}
 use Rattle.keys.specs.Limits.{limits}
 use Rattle.keys.specs.Lists.{any}
+use Rattle.keys.specs.Algorithms.{sizeOf}
 use Rattle.keys.specs.declared.kinds.WrappingKey.{WrappingKey}
 use Rattle.keys.proofs.Cases.{and-parts}
 use Rattle.attributes.specs.Tree.{WrapKey}
@@ -18,6 +19,7 @@ use Rattle.sa.specs.Entry as entry
 use Rattle.table.specs.Table.{sasOf, tableFormed, swept, defaultKey}
 use Rattle.table.specs.declared.Table.{Table}
 use Rattle.table.proofs.Kept.{sas-of-table, swept-formed}
+use Rattle.state.specs.Held.{heldFormed}
 use Rattle.state.specs.declared.State.{State}
 use Rattle.state.specs.declared.held.Held.{Held}
 use Rattle.clauses.specs.Number2.{standing, overLiveRekey}
@@ -25,17 +27,14 @@ use Rattle.chains.specs.Chain.{Root, Chain, root, step, Reached}
 use Rattle.chains.specs.Refusals.{EntriesEight, wrong-size, two-values}
 use Rattle.copies.specs.inner.Known.{Agrees}
 use Rattle.outcome.specs.Roots.{rootsOf, entriesOf, wrappingSize}
-use Rattle.outcome.specs.After.{HeldAre, HeldBy}
 use Rattle.outcome.proofs.Rows.{own-roots}
 use Rattle.outcome.proofs.Members.{not-in-none}
 use Rattle.outcome.proofs.RunsLists.{some-passes, passes-some}
 use Rattle.acceptance.proofs.NextLaws.{swept-made}
-use Rattle.judging.specs.declared.facts.Facts.{Facts}
-use Rattle.keying.specs.inner.Keyed.{KeyedBy}
-use Rattle.keying.specs.declared.joining.Keyed.{Keyed}
-use Rattle.receiving.specs.inner.Passing.{Bodied, IsDefaultKey, Opened}
+use Rattle.receiving.specs.inner.Passing.{Bagged, IsDefaultKey}
+use Rattle.receiving.specs.inner.Rooted.{Rooted}
 use Rattle.receiving.proofs.ClauseLaws.{state-formed, over-live, no-entry}
-use Rattle.receiving.proofs.ConcludingLaws.{table-fits, table-is}
+use Rattle.receiving.proofs.ConcludingLaws.{table-fits, table-is, held-fits}
 use Rattle.receiving.proofs.Rekeying.{heldRoots, rekey-agrees}
 
 -- with no entry nothing is reached
@@ -52,45 +51,42 @@ none-eight roots size (wrong-size k x r d) = none-reached roots size k x r
 none-eight roots size (two-values k x y r q d) = none-reached roots size k x r
 
 -- a frame of an exchange that has no Member bag and leaves the held list, opened under key 0 and the keys of a list
-module _ {y : Exchange} {m : State} {now : ℕ} {lent s : List ℕ} {x : Facts} {g k : List ℕ} {f : Frame}
-    (b : Bodied y m now lent s x g k f) (no-bag : y .«allows_member_bag» ≡ false) (leaves : y .registers ≡ false)
-    (zero : WrappingKey) (opens : Held)
+module _ {y : Exchange} {m : State} {now : ℕ} {lent k : List ℕ} {f : Frame}
+    (b : Bagged y m now lent k f) (no-bag : y .«allows_member_bag» ≡ false) (leaves : y .registers ≡ false) (zero : WrappingKey) (opens : Held)
     (roots-are : heldRoots zero opens ≡ rootsOf limits m now lent f) where
   none : [] ≡ entriesOf f
-  none = sym (no-entry m now lent f (b .passed .clauses) (ap (λ (e : Exchange). e .«allows_member_bag») (b .row) ∙ no-bag))
+  none = sym (no-entry m now lent f (b .clauses) (ap (λ (e : Exchange). e .«allows_member_bag») (b .row) ∙ no-bag))
 
   carry : (P : List Root → List WrapKey → Type 0) → P (heldRoots zero opens) [] → P (rootsOf limits m now lent f) (entriesOf f)
   carry P p = subst (P (rootsOf limits m now lent f)) none (subst (λ (l : List Root). P l []) roots-are p)
 
-  pub no-entry-opened : (keyed : Keyed) →
-      ((roots : List Root) (entries : List WrapKey) (size : ℕ) → Agrees roots entries size zero opens →
-      KeyedBy roots entries size f now keyed) → Opened m now lent s x keyed (m .held) f
-  no-entry-opened keyed by =
+  pub no-entry-rooted : sizeOf 13 (zero .count) ≡ true → heldFormed limits opens ≡ true →
+      Rooted m now lent (record { eight = false; zero = zero; opens = opens }) f
+  no-entry-rooted fits formed =
       let n = wrappingSize limits m now lent f in
       record {
-        passed = b .passed;
-        entries = carry (λ (r : List Root) (l : List WrapKey). EntriesEight r l n → ⊥) (none-eight (heldRoots zero opens) n);
-        keys = by _ _ n (carry (λ (r : List Root) (l : List WrapKey). Agrees r l n zero opens) (rekey-agrees zero opens n));
-        held-is = subst (λ (h : Bool).
-            HeldBy h (HeldAre (rootsOf limits m now lent f) (entriesOf f) n limits (m .held))
-            (m .held ≡ m .held)) (sym (ap (λ (e : Exchange). e .registers) (b .row) ∙ leaves)) refl;
+        eight = carry (λ (r : List Root) (l : List WrapKey). EntriesEight r l n → ⊥) (none-eight (heldRoots zero opens) n);
+        fits = fits;
+        formed = λ e. formed;
+        agrees = λ e. carry (λ (r : List Root) (l : List WrapKey). Agrees r l n zero opens) (rekey-agrees zero opens n);
+        set = λ e i. absurd (false≢true (sym (ap (λ (e : Exchange). e .registers) (b .row) ∙ leaves) ∙ i));
       }
 
-module _ {m : State} {now : ℕ} {lent s : List ℕ} {x : Facts} {g k : List ℕ} {f : Frame} (b : Bodied rekey m now lent s x g k f) (t : Table)
+module _ {m : State} {now : ℕ} {lent k : List ℕ} {f : Frame} (b : Bagged rekey m now lent k f) (t : Table)
     (w : t ≡ swept limits now (m .table)) where
   pub stands-formed : tableFormed limits t ≡ true
   stands-formed =
       ap (tableFormed limits) w
-      ∙ swept-formed limits now (m .table) (table-is m (state-formed m now lent f (b .passed .clauses)))
+      ∙ swept-formed limits now (m .table) (table-is m (state-formed m now lent f (b .clauses)))
 
   stands-are : sasOf t ≡ standing now m
   stands-are =
-      ap sasOf (w ∙ swept-made now (m .table) (table-fits m (state-formed m now lent f (b .passed .clauses))))
+      ap sasOf (w ∙ swept-made now (m .table) (table-fits m (state-formed m now lent f (b .clauses))))
       ∙ sas-of-table limits (standing now m)
 
   pub stands-live : any liveRekey (sasOf t) ≡ true
   stands-live =
-      let x = some-passes (overLiveRekey (f .header .spi)) (standing now m) (over-live m now lent f (b .passed .clauses) (b .row)) in
+      let x = some-passes (overLiveRekey (f .header .spi)) (standing now m) (over-live m now lent f (b .clauses) (b .row)) in
       let l = and-parts (liveRekey (x .one)) (named entry.rekey (f .header .spi) (x .one)) (x .passes) .0 in
       ap (any liveRekey) stands-are ∙ passes-some liveRekey (standing now m) (x .one) (x .stands) l
 
@@ -100,7 +96,6 @@ module _ {m : State} {now : ℕ} {lent s : List ℕ} {x : Facts} {g k : List ℕ
         let own : zero ≡ defaultKey limits (swept limits now (m .table)) .key = d .is ∙ ap (λ (x : Table). defaultKey limits x .key) w in
         ap (λ (x : WrappingKey). heldRoots x (m .held)) own ∙ sym (own-roots limits m now f (b .row) lent)
 
-    pub rekey-opened : (keyed : Keyed) →
-        ((roots : List Root) (entries : List WrapKey) (size : ℕ) → Agrees roots entries size zero (m .held) →
-        KeyedBy roots entries size f now keyed) → Opened m now lent s x keyed (m .held) f
-    rekey-opened = no-entry-opened b refl refl zero (m .held) roots-are
+    pub rekey-rooted : Rooted m now lent (record { eight = false; zero = zero; opens = m .held }) f
+    rekey-rooted =
+        no-entry-rooted b refl refl zero (m .held) roots-are (d .fits) (held-fits m (state-formed m now lent f (b .clauses)))

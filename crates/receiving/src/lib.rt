@@ -1,7 +1,6 @@
 // A frame that numbers 2 to 7 let pass: number 8, number 9, or the state after acceptance.
-pub mod inband;
-pub mod registration;
-pub mod rekey;
+pub mod deciding;
+pub mod roots;
 pub mod said;
 pub mod zero;
 

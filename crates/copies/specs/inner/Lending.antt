@@ -17,7 +17,7 @@ keyOctets = 32
 
 -- a key's place in the block: its octet count, then the octets of its array
 abbrev pub placeOctets : ℕ
-placeOctets = 33
+placeOctets = 1 + keyOctets
 
 abbrev pub placeOf : WrappingKey → List ℕ
 placeOf k = k .count ∷ k .octets

@@ -32,10 +32,6 @@ pub record Passed (m : State) (now : ℕ) (lent s : List ℕ) (x : Facts) (f : F
   pub clauses : refusal limits m now lent f ≡ 0
   pub facts : x ≡ factsOf (rowOf f .authentication) s
 
--- a registration: its exchange sets the held list
-abbrev pub Registers : Frame → Type 0
-Registers f = rowOf f .registers ≡ true
-
 -- a rekey over the Rekey SA: its exchange has the live Rekey SA's default key as key 0
 abbrev pub RekeysOver : Frame → Type 0
 RekeysOver f = rowOf f .zero ≡ keyZero.RekeySa
@@ -45,11 +41,16 @@ pub record RekeysInband (f : Frame) : Type 0 where
   pub keeps : rowOf f .registers ≡ false
   pub zero : rowOf f .zero ≡ keyZero.Lent
 
--- its exchange has this row, and its policies and its bags are those of these bodies
-pub record Bodied (e : Exchange) (m : State) (now : ℕ) (lent s : List ℕ) (x : Facts) (g k : List ℕ) (f : Frame) : Type 0 where
+-- its policies and its bags are those of these bodies
+pub record Bodied (m : State) (now : ℕ) (lent s : List ℕ) (x : Facts) (g k : List ℕ) (f : Frame) : Type 0 where
   pub passed : Passed m now lent s x f
-  pub row : rowOf f ≡ e
   pub policies : policiesOf f ≡ policiesIn g
+  pub bags : bagsOf f ≡ bagsIn k
+
+-- none of numbers 2 to 7 applies to the frame, its exchange has this row, and its bags are those of this body
+pub record Bagged (e : Exchange) (m : State) (now : ℕ) (lent k : List ℕ) (f : Frame) : Type 0 where
+  pub clauses : refusal limits m now lent f ≡ 0
+  pub row : rowOf f ≡ e
   pub bags : bagsOf f ≡ bagsIn k
 
 -- number 8 does not hold of its entries; this is known of the keys of its SAs; this is the held list afterwards

@@ -1,14 +1,11 @@
 use denote.Ref.{now}
-use Rattle.frames.specs.Exchange.{inband}
 use Rattle.payloads.proofs.FoundLaws.{OfFrame}
-use Rattle.receiving.proofs.ClauseLaws.{is-inband}
 use Rattle.receiving.proofs.BodyLaws.{of-frame, holds-policies, holds-bags, bodied}
-use Rattle.receiving.proofs.inband.rekeyed.Statement.{statement}
-use Rattle.receiving.proofs.inband.rekeyed.Tie as tie
+use Rattle.receiving.proofs.deciding.decided.Statement.{statement}
+use Rattle.receiving.proofs.deciding.decided.Tie as tie
 
 -- the payloads of the frame that is known to be there
-own : (c : tie.After-kd) →
-    let b = c .before .before .before .before .before in OfFrame (now (b .args .s)) (b .pre .0) (b .args .x .payloads)
+own : (c : tie.After-kd) → let b = c .before .before .before .before .before in OfFrame (now (b .args .s)) (b .pre .0) (b .args .x .payloads)
 own c =
     let b = c .before .before .before .before .before in
     let a = b .args in
@@ -37,24 +34,21 @@ by-bodies-requires : tie.Need-by-bodies-requires
 by-bodies-requires c κs =
     let b = c .before .before .before .before .before .before .before in
     let a = b .args in
-    let p = b .pre in
-    let row = is-inband (a .state) (a .tick) (now (a .lent)) (p .0) (p .1 .clauses) (p .2) in (
+    let p = b .pre in (
       (
         holds-policies (a .state) (a .tick) (now (a .lent)) (now (a .s)) (a .x) (p .0) (p .1) .held,
         holds-bags (a .state) (a .tick) (now (a .lent)) (now (a .s)) (a .x) (p .0) (p .1) .held,
       ),
-      (p .0, bodied (a .state) (a .tick) (now (a .lent)) (now (a .s)) (a .x) (p .0) (p .1) inband row),
+      (p .0, bodied (a .state) (a .tick) (now (a .lent)) (now (a .s)) (a .x) (p .0) (p .1)),
     )
 
 returns : tie.Need-returns
 returns c =
     let a = c .before .before .before .before .before .before .before .before .args in
-    λ f q e.
-    let row = is-inband (a .state) (a .tick) (now (a .lent)) f (q .clauses) e in
-    c .by-bodies .ensures f (bodied (a .state) (a .tick) (now (a .lent)) (now (a .s)) (a .x) f q inband row)
+    λ f q. c .by-bodies .ensures f (bodied (a .state) (a .tick) (now (a .lent)) (now (a .s)) (a .x) f q)
 
-pub rekeyed-spec : {M : Type 1} → statement M
-rekeyed-spec =
+pub decided-spec : {M : Type 1} → statement M
+decided-spec =
     tie.close
     (tie.spec
     sub-by-bodies
