@@ -16,10 +16,10 @@ use crate::values::sa_of;
 use crate::values::sas;
 use crate::values::table_of;
 use crate::values::without_id;
-use group::Member;
-use sa::entry::ESP;
-use sa::entry::Sa;
+use gikev2::Member;
 use state::held::HeldKey;
+use state_sa::entry::ESP;
+use state_sa::entry::Sa;
 
 fn beside(name: &[u8], other: Member) {
     let m = member_of(sas(3), held_keys(2));

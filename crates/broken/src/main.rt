@@ -5,12 +5,12 @@ mod apart;
 mod same;
 mod values;
 
-use group::Member;
-use keys::limits::HELD_KEYS;
-use keys::limits::SAS;
+use gikev2::Member;
 use libc::STDOUT_FILENO;
-use sa::entry::ESP;
-use sa::entry::REKEY;
+use state_keys::limits::HELD_KEYS;
+use state_keys::limits::SAS;
+use state_sa::entry::ESP;
+use state_sa::entry::REKEY;
 use values::esp;
 use values::held_keys;
 use values::held_of;

@@ -1,15 +1,15 @@
 // Whether two members are the same value, in unused places too.
-use group::Member;
-use group::SaAnswer;
-use keys::limits::HELD_KEYS;
-use keys::limits::SAS;
-use sa::entry::Condition;
-use sa::entry::Lifetime;
-use sa::entry::Sa;
+use gikev2::Member;
+use gikev2::SaAnswer;
 use state::held::Held;
 use state::held::HeldKey;
 use state::least::Least;
-use table::Table;
+use state_keys::limits::HELD_KEYS;
+use state_keys::limits::SAS;
+use state_sa::entry::Condition;
+use state_sa::entry::Lifetime;
+use state_sa::entry::Sa;
+use state_table::Table;
 
 // A number for each condition.
 fn of_condition(c: Condition) -> u64 {

@@ -1,18 +1,18 @@
 // Members by their parts. Unused places hold octets too: a call that leaves a value as it is leaves these.
-use group::Member;
-use keys::kinds::WrappingKey;
-use keys::limits::HELD_KEYS;
-use keys::limits::SAS;
-use sa::entry::Condition;
-use sa::entry::ESP;
-use sa::entry::Lifetime;
-use sa::entry::REKEY;
-use sa::entry::Sa;
+use gikev2::Member;
 use state::State;
 use state::held::Held;
 use state::held::HeldKey;
 use state::least::Least;
-use table::Table;
+use state_keys::kinds::WrappingKey;
+use state_keys::limits::HELD_KEYS;
+use state_keys::limits::SAS;
+use state_sa::entry::Condition;
+use state_sa::entry::ESP;
+use state_sa::entry::Lifetime;
+use state_sa::entry::REKEY;
+use state_sa::entry::Sa;
+use state_table::Table;
 
 // A live SA whose SPI and keying octets are one octet, over and over.
 pub(crate) fn sa_of(

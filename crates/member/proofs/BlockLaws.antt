@@ -7,12 +7,12 @@ use native.Mathlib.Omega.{arith}
 use lib.ListN.{length, take, drop}
 use lib.Seq.{take-all}
 use Rattle.octets.specs.Walk.{part}
-use Rattle.lines.specs.inner.Reading.{DefaultKey, awaited, given, Reading, Reads, Kept}
-use Rattle.lines.specs.inner.Room.{replyRoom}
-use Rattle.lines.specs.declared.Key.{Key}
-use Rattle.lines.proofs.ReadingLaws.{reads-append}
-use Rattle.lines.proofs.ProgramLaws.{part-join}
-use Rattle.group.specs.declared.Member.{Member}
+use Rattle.text_lines.specs.inner.Reading.{DefaultKey, awaited, given, Reading, Reads, Kept}
+use Rattle.text_lines.specs.inner.Room.{replyRoom}
+use Rattle.text_lines.specs.declared.Key.{Key}
+use Rattle.text_lines.proofs.ReadingLaws.{reads-append}
+use Rattle.text_lines.proofs.ProgramLaws.{part-join}
+use Rattle.gikev2.specs.declared.Member.{Member}
 use Rattle.member.specs.Program.{Answers}
 use Rattle.member.specs.inner.Reply.{keyIn}
 use Rattle.member.specs.inner.Standing.{Ready, Room, KeyStands, Stands, Goes, Passes}

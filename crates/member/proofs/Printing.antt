@@ -2,12 +2,12 @@
 use Prim.Native.Nat.{ℕ}
 use mathlib.Core.Path.{_≡_, ap, sym, _∙_}
 use mathlib.Core.List.{List}
-use Rattle.lines.specs.Transcript.{Outcome}
-use Rattle.lines.proofs.OneTranscript.{transcript-one}
-use Rattle.group.specs.Member.{newMember}
-use Rattle.group.specs.Receive.{numberOf, figureOf}
-use Rattle.group.specs.declared.Member.{Member}
-use Rattle.group.proofs.ReceiveLaws.{receives-one}
+use Rattle.text_lines.specs.Transcript.{Outcome}
+use Rattle.text_lines.proofs.OneTranscript.{transcript-one}
+use Rattle.gikev2.specs.Member.{newMember}
+use Rattle.gikev2.specs.Receive.{numberOf, figureOf}
+use Rattle.gikev2.specs.declared.Member.{Member}
+use Rattle.gikev2.proofs.ReceiveLaws.{receives-one}
 use Rattle.member.specs.Program.{Answers, Prints}
 
 answers-one : (m : Member) (key : List ℕ) (tick : ℕ) (octets : List ℕ) (o p : Outcome Member)

@@ -5,18 +5,18 @@ use mathlib.Core.Bool.{Bool, true, false}
 use mathlib.Core.List.{List}
 use native.Mathlib.Omega.{arith}
 use lib.ListN.{length, take}
-use Rattle.lines.specs.Answer.{answerText, badText}
-use Rattle.lines.specs.Transcript.{Replies}
-use Rattle.lines.specs.inner.Room.{replyRoom, Put}
-use Rattle.lines.specs.inner.Calls.{Asks}
-use Rattle.lines.specs.declared.Key.{Key}
-use Rattle.lines.specs.declared.Request.the-variants as request
-use Rattle.lines.proofs.AnswerLaws.{answer-short}
-use Rattle.lines.proofs.CallLaws.{reply-bad, reply-frame, key-short, given-length}
-use Rattle.lines.proofs.RoomLaws.{length-put, put-as}
-use Rattle.group.specs.Receive.{numberOf, figureOf, Receives}
-use Rattle.group.specs.declared.Member.{Member}
-use Rattle.group.specs.declared.receive.Answer.{Answer}
+use Rattle.text_lines.specs.Answer.{answerText, badText}
+use Rattle.text_lines.specs.Transcript.{Replies}
+use Rattle.text_lines.specs.inner.Room.{replyRoom, Put}
+use Rattle.text_lines.specs.inner.Calls.{Asks}
+use Rattle.text_lines.specs.declared.Key.{Key}
+use Rattle.text_lines.specs.declared.Request.the-variants as request
+use Rattle.text_lines.proofs.AnswerLaws.{answer-short}
+use Rattle.text_lines.proofs.CallLaws.{reply-bad, reply-frame, key-short, given-length}
+use Rattle.text_lines.proofs.RoomLaws.{length-put, put-as}
+use Rattle.gikev2.specs.Receive.{numberOf, figureOf, Receives}
+use Rattle.gikev2.specs.declared.Member.{Member}
+use Rattle.gikev2.specs.declared.call.Answer.{Answer}
 use Rattle.member.specs.Program.{Answers}
 use Rattle.member.specs.inner.Reply.{keyIn, LaterLine, Answered, Received}
 use Rattle.member.specs.declared.running.Running.{Running}

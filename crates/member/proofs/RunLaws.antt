@@ -7,11 +7,11 @@ use mathlib.Core.List.{List, [], _++_}
 use native.Mathlib.Omega.{arith}
 use borrow.Author.Tests.{eqb-false}
 use lib.ListN.{length, length-append}
-use Rattle.lines.specs.inner.Reading.{Reading, start, Reads}
-use Rattle.lines.proofs.Cases.{by-test, true-not-false}
-use Rattle.lines.proofs.ReadingLaws.{reads-append, whole}
-use Rattle.group.specs.Member.{newMember}
-use Rattle.group.specs.declared.Member.{Member}
+use Rattle.text_lines.specs.inner.Reading.{Reading, start, Reads}
+use Rattle.text_lines.proofs.Cases.{by-test, true-not-false}
+use Rattle.text_lines.proofs.ReadingLaws.{reads-append, whole}
+use Rattle.gikev2.specs.Member.{newMember}
+use Rattle.gikev2.specs.declared.Member.{Member}
 use Rattle.member.specs.Program.{Answers, Prints}
 use Rattle.member.specs.Run.{Ends, input-ended, most-read, write-failed, Runs}
 use Rattle.member.specs.inner.Standing.{Stands, Starts}

@@ -6,17 +6,17 @@ use mathlib.Core.List.{List, [], _++_, append-assoc}
 use native.Mathlib.Omega.{arith}
 use lib.ListN.{length, take}
 use Rattle.octets.specs.Walk.{part}
-use Rattle.lines.specs.Transcript.{Reply, Replies}
-use Rattle.lines.specs.inner.Calls.{Absorbs, Gives}
-use Rattle.lines.specs.inner.Reading.{DefaultKey, awaited, given, Reading, keyed, replied, extend, LineEnds, Finishes, Kept}
-use Rattle.lines.specs.declared.Absorbed.{Absorbed}
-use Rattle.lines.specs.declared.Key.{Key}
-use Rattle.lines.proofs.CallLaws.{given-key, given-length, key-short}
-use Rattle.lines.proofs.RoomLaws.{length-put, put-taken}
-use Rattle.lines.proofs.ProgramLaws.{kept-none, absorbed-inside, absorbed-some, absorbed-held, longer, longer-kept, reads-on, reads-end}
-use Rattle.lines.proofs.ProgramLaws.{finishes-none, finishes-line}
-use Rattle.group.specs.Member.{newMember}
-use Rattle.group.specs.declared.Member.{Member}
+use Rattle.text_lines.specs.Transcript.{Reply, Replies}
+use Rattle.text_lines.specs.inner.Calls.{Absorbs, Gives}
+use Rattle.text_lines.specs.inner.Reading.{DefaultKey, awaited, given, Reading, keyed, replied, extend, LineEnds, Finishes, Kept}
+use Rattle.text_lines.specs.declared.Absorbed.{Absorbed}
+use Rattle.text_lines.specs.declared.Key.{Key}
+use Rattle.text_lines.proofs.CallLaws.{given-key, given-length, key-short}
+use Rattle.text_lines.proofs.RoomLaws.{length-put, put-taken}
+use Rattle.text_lines.proofs.ProgramLaws.{kept-none, absorbed-inside, absorbed-some, absorbed-held, longer, longer-kept, reads-on, reads-end}
+use Rattle.text_lines.proofs.ProgramLaws.{finishes-none, finishes-line}
+use Rattle.gikev2.specs.Member.{newMember}
+use Rattle.gikev2.specs.declared.Member.{Member}
 use Rattle.member.specs.Program.{Answers}
 use Rattle.member.specs.inner.Reply.{keyIn, FirstLine, LaterLine, Answered}
 use Rattle.member.specs.inner.Standing.{Ready, Room, KeyStands, Stands, Starts, Goes, Passes}

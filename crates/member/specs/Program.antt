@@ -3,11 +3,11 @@
 use Prim.Native.Nat.{ℕ}
 use mathlib.Core.Path.{_≡_}
 use mathlib.Core.List.{List}
-use Rattle.lines.specs.Transcript.{Outcome, Transcript}
-use Rattle.group.specs.Member.{newMember}
-use Rattle.group.specs.Receive.{numberOf, figureOf, Receives}
-use Rattle.group.specs.declared.Member.{Member}
-use Rattle.group.specs.declared.receive.Answer.{Answer}
+use Rattle.text_lines.specs.Transcript.{Outcome, Transcript}
+use Rattle.gikev2.specs.Member.{newMember}
+use Rattle.gikev2.specs.Receive.{numberOf, figureOf, Receives}
+use Rattle.gikev2.specs.declared.Member.{Member}
+use Rattle.gikev2.specs.declared.call.Answer.{Answer}
 
 -- "Each line after the first prints number, SA count, held count": the number of the member's answer to the frame, and the counts of the
 -- member that it leaves; on number 1 the figure that the answer carries

@@ -5,15 +5,15 @@ mod running;
 
 ghost use Prim.Native.Nat.{_<_, _≤_};
 ghost use lib.ListN.{length};
-ghost use Rattle.lines.specs.inner.Room.{replyRoom};
+ghost use Rattle.text_lines.specs.inner.Room.{replyRoom};
 ghost use Rattle.member.specs.inner.Standing.{Ready, Room};
 ghost use Rattle.member.specs.inner.Printed.{Emptied, Flushed, Consumed, Ended};
 ghost use Rattle.member.specs.inner.Turns.{TurnsLeft};
 ghost use Rattle.member.specs.Run.{Runs};
 use input::Taken;
-use lines::REPLY_ROOM;
 use output::Handed;
 use running::Running;
+use text_lines::REPLY_ROOM;
 
 // Where the program stands, and what it handed to its output so far.
 pub struct Progress {

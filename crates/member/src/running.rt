@@ -3,19 +3,19 @@ ghost use Prim.Native.Nat.{ℕ, _-_, _<_, _≤_};
 ghost use mathlib.Core.Path.{_≡_};
 ghost use mathlib.Core.List.{List, _++_};
 ghost use lib.ListN.{length, take};
-ghost use Rattle.lines.specs.Answer.{answerText};
-ghost use Rattle.lines.specs.inner.Reading.{Reading, Finishes};
-ghost use Rattle.lines.specs.inner.Room.{replyRoom, Put};
-ghost use Rattle.group.specs.Receive.{numberOf, figureOf};
-ghost use Rattle.group.specs.declared.Member.{Member};
+ghost use Rattle.text_lines.specs.Answer.{answerText};
+ghost use Rattle.text_lines.specs.inner.Reading.{Reading, Finishes};
+ghost use Rattle.text_lines.specs.inner.Room.{replyRoom, Put};
+ghost use Rattle.gikev2.specs.Receive.{numberOf, figureOf};
+ghost use Rattle.gikev2.specs.declared.Member.{Member};
 ghost use Rattle.member.specs.Program.{Answers};
 ghost use Rattle.member.specs.inner.Reply.{Answered, FirstLine, LaterLine, Received};
 ghost use Rattle.member.specs.inner.Standing.{Ready, Room, Stands, Starts, Passes};
-use group::Member;
-use group::receive::Answer;
-use lines::Key;
-use lines::REPLY_ROOM;
-use lines::Request;
+use gikev2::Member;
+use gikev2::call::Answer;
+use text_lines::Key;
+use text_lines::REPLY_ROOM;
+use text_lines::Request;
 
 // The member; the default key, and whether the first line gave it yet; how many characters of the line that has begun are held; the place
 // in the output.
@@ -32,7 +32,7 @@ pub(crate) fn begun() -> Running
     ensures { λ r. ⌜ Starts r ⌝ }
 {
     let member = Member::new();
-    let key = lines::key_line(b"");
+    let key = text_lines::key_line(b"");
     Running {
         member,
         key,
@@ -47,7 +47,7 @@ fn first_line(r: Running, line: &[u8]) -> Running
     ensures { λ e. ⌜ ((out : List ℕ) → FirstLine r (now (line .entry)) out out e) ⌝ }
 {
     let member = r.member;
-    let key = lines::key_line(line);
+    let key = text_lines::key_line(line);
     Running {
         member,
         key,
@@ -64,7 +64,7 @@ fn told(out: &mut [u8], at: usize, a: Answer, sas: usize, held: usize) -> usize
 {
     let number = a.number();
     let figure = a.figure();
-    lines::put_answer(out, at, number, sas, held, figure)
+    text_lines::put_answer(out, at, number, sas, held, figure)
 }
 
 // A frame is received, and the reply to it put into the output.
@@ -96,11 +96,11 @@ fn later_line(r: Running, line: &[u8], room: &mut [u8], out: &mut [u8]) -> Runni
     requires { ⌜ 16384 ≤ length (now room) ⌝ }
     ensures { λ e. ⌜ LaterLine r (now (line .entry)) (now (out .entry)) (now (out .exit)) e ⌝ }
 {
-    match lines::later_line(line, room) {
+    match text_lines::later_line(line, room) {
         Request::Bad => {
             let member = r.member;
             let key = r.key;
-            let next = lines::put_bad(out, r.at);
+            let next = text_lines::put_bad(out, r.at);
             Running {
                 member,
                 key,
@@ -147,7 +147,7 @@ fn advanced(
         (now (out .exit)) e ⌝ }
     ensures { λ e. ⌜ from < e .next ⌝ }
 {
-    let a = lines::absorb(block, from, line, r.len);
+    let a = text_lines::absorb(block, from, line, r.len);
     let next = a.next;
     let len = a.len;
     if a.ended {

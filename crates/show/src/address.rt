@@ -1,12 +1,12 @@
 // IP addresses.
-use faults::places::octet;
-use faults::places::two;
+use text_faults::places::octet;
+use text_faults::places::two;
 
 // An address of 4 octets, or of 16.
 pub(crate) fn address(out: &mut [u8], n: usize, octets: &[u8]) -> usize {
     if octets.len() == 4 {
-        let a = names::say(out, n, b"%.%.", octet(octets, 0), octet(octets, 1), 0);
-        return names::say(out, a, b"%.%", octet(octets, 2), octet(octets, 3), 0);
+        let a = text_names::say(out, n, b"%.%.", octet(octets, 0), octet(octets, 1), 0);
+        return text_names::say(out, a, b"%.%", octet(octets, 2), octet(octets, 3), 0);
     }
     groups(out, n, octets)
 }
@@ -28,8 +28,8 @@ fn groups(out: &mut [u8], n: usize, octets: &[u8]) -> usize {
 fn group(out: &mut [u8], n: usize, octets: &[u8], at: usize) -> usize {
     let x = two(octets, at) as u64;
     if at == 0 {
-        return names::hexadecimal(out, n, x, 1);
+        return text_names::hexadecimal(out, n, x, 1);
     }
-    let a = names::put(out, n, 58);
-    names::hexadecimal(out, a, x, 1)
+    let a = text_names::put(out, n, 58);
+    text_names::hexadecimal(out, a, x, 1)
 }

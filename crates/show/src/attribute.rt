@@ -1,14 +1,14 @@
 // Attributes, by their place.
 use crate::line::INMOST;
 use crate::line::INNER;
-use attributes::Read;
-use attributes::tables::Place;
-use faults::places::attribute_end;
-use faults::places::four;
-use faults::places::holds;
-use faults::places::part;
-use faults::places::span;
-use faults::places::two;
+use text_faults::places::attribute_end;
+use text_faults::places::four;
+use text_faults::places::holds;
+use text_faults::places::part;
+use text_faults::places::span;
+use text_faults::places::two;
+use wire_attributes::Read;
+use wire_attributes::tables::Place;
 
 // Attributes of a place, up to the offset at which the layout breaks, and why it does, if that is among them.
 pub(crate) fn attributes(
@@ -36,9 +36,9 @@ pub(crate) fn attributes(
 // The attribute that the octets start with, at an offset.
 fn attribute_at(out: &mut [u8], n: usize, place: Place, s: &[u8], at: usize, stop: usize) -> usize {
     if at == stop {
-        return faults::of_attribute(out, n, place, s, stop);
+        return text_faults::of_attribute(out, n, place, s, stop);
     }
-    match attributes::attribute_read(s) {
+    match wire_attributes::attribute_read(s) {
         Read::Attribute {
             short: _,
             kind,
@@ -51,7 +51,7 @@ fn attribute_at(out: &mut [u8], n: usize, place: Place, s: &[u8], at: usize, sto
             at,
             end,
             kind,
-            attributes::attribute_value(s, 0),
+            wire_attributes::attribute_value(s, 0),
         ),
         Read::Cut => n,
     }
@@ -82,14 +82,20 @@ pub(crate) fn attribute(
     value: &[u8],
 ) -> usize {
     let a = crate::line::head(out, n, indent(place), at, len);
-    let b = names::titled(out, a, b"", names::tables::attribute(place, kind), kind);
+    let b = text_names::titled(
+        out,
+        a,
+        b"",
+        text_names::tables::attribute(place, kind),
+        kind,
+    );
     let c = shown(out, b, shape_of(place, kind), value);
     skipped(out, c, place, kind)
 }
 
 fn skipped(out: &mut [u8], n: usize, place: Place, kind: usize) -> usize {
-    if attributes::tables::code(attributes::tables::meaning_in(place, kind)) == 0 {
-        return names::text(out, n, b", skipped\n");
+    if wire_attributes::tables::code(wire_attributes::tables::meaning_in(place, kind)) == 0 {
+        return text_names::text(out, n, b", skipped\n");
     }
     crate::line::ended(out, n)
 }
@@ -162,14 +168,14 @@ fn shown(out: &mut [u8], n: usize, shape: Shape, value: &[u8]) -> usize {
 }
 
 fn counted(out: &mut [u8], n: usize, value: &[u8]) -> usize {
-    names::say(out, n, b": % octets", value.len(), 0, 0)
+    text_names::say(out, n, b": % octets", value.len(), 0, 0)
 }
 
 fn number(out: &mut [u8], n: usize, value: &[u8]) -> usize {
     let count = value.len();
     match count {
-        2 => names::say(out, n, b": %", two(value, 0), 0, 0),
-        4 => names::say(out, n, b": %", four(value, 0), 0, 0),
+        2 => text_names::say(out, n, b": %", two(value, 0), 0, 0),
+        4 => text_names::say(out, n, b": %", four(value, 0), 0, 0),
         _ => counted(out, n, value),
     }
 }
@@ -185,13 +191,13 @@ fn spi(out: &mut [u8], n: usize, value: &[u8]) -> usize {
 }
 
 fn octets(out: &mut [u8], n: usize, value: &[u8]) -> usize {
-    let a = names::text(out, n, b": ");
-    names::octets(out, a, value)
+    let a = text_names::text(out, n, b": ");
+    text_names::octets(out, a, value)
 }
 
 fn wrapped(out: &mut [u8], n: usize, value: &[u8]) -> usize {
     let text = b": Key ID %, KWK ID %, % octets wrapped";
-    names::say(
+    text_names::say(
         out,
         n,
         text,

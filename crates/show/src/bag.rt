@@ -1,11 +1,11 @@
 // Key bags: of a wrapped key its Key ID, its KWK ID and how many octets are wrapped, and no octet of it.
 use crate::line::MIDDLE;
-use faults::places::behind;
-use faults::places::end_at;
-use faults::places::holds;
-use faults::places::octet;
-use faults::places::part;
-use faults::places::span;
+use text_faults::places::behind;
+use text_faults::places::end_at;
+use text_faults::places::holds;
+use text_faults::places::octet;
+use text_faults::places::part;
+use text_faults::places::span;
 
 // The key bags of a KD payload's body, up to the offset at which the layout breaks.
 pub(crate) fn bags(
@@ -31,18 +31,18 @@ pub(crate) fn bags(
 
 fn bag(out: &mut [u8], n: usize, s: &[u8], at: usize, end: usize, stop: usize) -> usize {
     if at == stop {
-        return faults::of_head(out, n, b"key bag: ", part(s, at, end), stop);
+        return text_faults::of_head(out, n, b"key bag: ", part(s, at, end), stop);
     }
     let first = octet(s, at);
-    let body = behind(at, 4 + policies::spi_size(first));
+    let body = behind(at, 4 + wire_policies::spi_size(first));
     let a = crate::line::head(out, n, MIDDLE, at, span(at, end));
     let b = bag_head(out, a, first, part(s, behind(at, 4), body));
-    crate::attribute::attributes(out, b, bags::place_of(first), s, body, end, stop)
+    crate::attribute::attributes(out, b, wire_bags::place_of(first), s, body, end, stop)
 }
 
 fn bag_head(out: &mut [u8], n: usize, first: usize, spi: &[u8]) -> usize {
     if first == 0 {
-        return names::text(out, n, b"Member Key Bag\n");
+        return text_names::text(out, n, b"Member Key Bag\n");
     }
     crate::line::protocol_and_spi(out, n, b"Group Key Bag ", first, spi)
 }

@@ -1,24 +1,30 @@
 // A Delete payload's body.
 use crate::line::MIDDLE;
-use faults::places::behind;
-use faults::places::octet;
-use faults::places::part;
-use faults::places::two;
+use text_faults::places::behind;
+use text_faults::places::octet;
+use text_faults::places::part;
+use text_faults::places::two;
 
 pub(crate) fn delete(out: &mut [u8], n: usize, s: &[u8], from: usize, to: usize) -> usize {
     let protocol = octet(s, from);
     let size = octet(s, behind(from, 1));
     let a = crate::line::head(out, n, MIDDLE, from, 4);
     let b = delete_head(out, a, protocol, size, two(s, behind(from, 2)));
-    if policies::spi_size(protocol) == 0 {
+    if wire_policies::spi_size(protocol) == 0 {
         return b;
     }
     spis(out, b, size, part(s, 0, to), behind(from, 4))
 }
 
 fn delete_head(out: &mut [u8], n: usize, protocol: usize, size: usize, count: usize) -> usize {
-    let a = names::titled(out, n, b"", names::tables::protocol(protocol), protocol);
-    names::say(out, a, b", SPI size %, count %\n", size, count, 0)
+    let a = text_names::titled(
+        out,
+        n,
+        b"",
+        text_names::tables::protocol(protocol),
+        protocol,
+    );
+    text_names::say(out, a, b", SPI size %, count %\n", size, count, 0)
 }
 
 // SPIs of a size, from a place to the end of the octets.
@@ -41,7 +47,7 @@ fn spis(out: &mut [u8], n: usize, size: usize, s: &[u8], from: usize) -> usize {
 
 fn spi(out: &mut [u8], n: usize, at: usize, octets: &[u8]) -> usize {
     let a = crate::line::head(out, n, MIDDLE, at, octets.len());
-    let b = names::text(out, a, b"SPI ");
-    let c = names::octets(out, b, octets);
+    let b = text_names::text(out, a, b"SPI ");
+    let c = text_names::octets(out, b, octets);
     crate::line::ended(out, c)
 }

@@ -1,17 +1,17 @@
 // A frame: its header and its payloads, up to where its layout breaks.
 use crate::header::SIZE;
 use crate::line::OUTER;
-use attributes::Layout;
-use faults::places::behind;
-use faults::places::end_at;
-use faults::places::holds;
-use faults::places::octet;
-use faults::places::part;
-use faults::places::span;
-use frames::HeaderRead;
+use text_faults::places::behind;
+use text_faults::places::end_at;
+use text_faults::places::holds;
+use text_faults::places::octet;
+use text_faults::places::part;
+use text_faults::places::span;
+use wire_attributes::Layout;
+use wire_frames::HeaderRead;
 
 pub(crate) fn frame(out: &mut [u8], n: usize, s: &[u8]) -> usize {
-    match frames::header_read(s) {
+    match wire_frames::header_read(s) {
         HeaderRead::Header {
             first,
             exchange: _,
@@ -20,7 +20,7 @@ pub(crate) fn frame(out: &mut [u8], n: usize, s: &[u8]) -> usize {
             let a = crate::header::header(out, n, s);
             opened(out, a, s, first)
         }
-        HeaderRead::Broken => faults::of_header(out, n, s),
+        HeaderRead::Broken => text_faults::of_header(out, n, s),
     }
 }
 
@@ -31,7 +31,7 @@ fn opened(out: &mut [u8], n: usize, s: &[u8], first: usize) -> usize {
             return encrypted(out, n, first, s.len() - SIZE);
         }
     }
-    match frames::frame_layout(s) {
+    match wire_frames::frame_layout(s) {
         Layout::Whole => whole(out, n, s),
         Layout::Broken(o) => broken(out, n, s, o),
     }
@@ -48,21 +48,21 @@ fn is_encrypted(kind: usize) -> bool {
 
 fn encrypted(out: &mut [u8], n: usize, kind: usize, len: usize) -> usize {
     let a = crate::line::head(out, n, OUTER, SIZE, len);
-    let b = names::titled(out, a, b"payload ", names::tables::payload(kind), kind);
-    names::text(out, b, b", encrypted: not opened\n")
+    let b = text_names::titled(out, a, b"payload ", text_names::tables::payload(kind), kind);
+    text_names::text(out, b, b", encrypted: not opened\n")
 }
 
 // What is shown of a frame whose layout is whole, below its header: its payloads, and which clauses apply.
 fn whole(out: &mut [u8], n: usize, s: &[u8]) -> usize {
     let a = payloads(out, n, s, 0);
-    refusals::applying(out, a, s)
+    text_refusals::applying(out, a, s)
 }
 
 // The payloads up to the offset at which the layout breaks. Payloads that do not end with the frame count for the header, at 0.
 fn broken(out: &mut [u8], n: usize, s: &[u8], stop: usize) -> usize {
     let a = payloads(out, n, s, stop);
     if stop == 0 {
-        return faults::of_chain(out, a, s);
+        return text_faults::of_chain(out, a, s);
     }
     a
 }
@@ -96,7 +96,7 @@ fn payload(
     stop: usize,
 ) -> usize {
     if at == stop {
-        return faults::of_payload(out, n, kind, part(s, at, end), stop);
+        return text_faults::of_payload(out, n, kind, part(s, at, end), stop);
     }
     let a = crate::line::head(out, n, OUTER, at, span(at, end));
     let b = payload_head(out, a, kind, 128 <= octet(s, behind(at, 1)));
@@ -104,9 +104,9 @@ fn payload(
 }
 
 fn payload_head(out: &mut [u8], n: usize, kind: usize, critical: bool) -> usize {
-    let a = names::titled(out, n, b"payload ", names::tables::payload(kind), kind);
+    let a = text_names::titled(out, n, b"payload ", text_names::tables::payload(kind), kind);
     if critical {
-        return names::text(out, a, b", critical\n");
+        return text_names::text(out, a, b", critical\n");
     }
     crate::line::ended(out, a)
 }

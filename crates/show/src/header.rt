@@ -1,8 +1,8 @@
 // The IKE header of a frame.
 use crate::line::OUTER;
-use faults::places::four;
-use faults::places::octet;
-use faults::places::part;
+use text_faults::places::four;
+use text_faults::places::octet;
+use text_faults::places::part;
 
 // The octets of a header.
 pub(crate) const SIZE: usize = 28;
@@ -10,9 +10,9 @@ pub(crate) const SIZE: usize = 28;
 pub(crate) fn header(out: &mut [u8], n: usize, s: &[u8]) -> usize {
     let kind = octet(s, 18);
     let a = crate::line::head(out, n, OUTER, 0, SIZE);
-    let b = names::titled(out, a, b"header ", names::tables::exchange(kind), kind);
+    let b = text_names::titled(out, a, b"header ", text_names::tables::exchange(kind), kind);
     let version = octet(s, 17);
-    let c = names::say(
+    let c = text_names::say(
         out,
         b,
         b", version %.%, flags 0x",
@@ -26,7 +26,7 @@ pub(crate) fn header(out: &mut [u8], n: usize, s: &[u8]) -> usize {
 
 // RFC 7296, section 3.1: bits 3, 4 and 5 are named.
 fn flags(out: &mut [u8], n: usize, x: usize) -> usize {
-    let a = names::hexadecimal(out, n, x as u64, 2);
+    let a = text_names::hexadecimal(out, n, x as u64, 2);
     let b = flag(out, a, x / 8, b" Initiator");
     let c = flag(out, b, x / 16, b" Version");
     flag(out, c, x / 32, b" Response")
@@ -35,13 +35,13 @@ fn flags(out: &mut [u8], n: usize, x: usize) -> usize {
 // The name of a flag that is the lowest bit.
 fn flag(out: &mut [u8], n: usize, x: usize, name: &[u8]) -> usize {
     if x % 2 == 1 {
-        return names::text(out, n, name);
+        return text_names::text(out, n, name);
     }
     n
 }
 
 fn identity(out: &mut [u8], n: usize, s: &[u8]) -> usize {
-    let a = names::text(out, n, b", SPI ");
-    let b = names::octets(out, a, part(s, 0, 16));
-    names::say(out, b, b", Message ID %\n", four(s, 20), 0, 0)
+    let a = text_names::text(out, n, b", SPI ");
+    let b = text_names::octets(out, a, part(s, 0, 16));
+    text_names::say(out, b, b", Message ID %\n", four(s, 20), 0, 0)
 }

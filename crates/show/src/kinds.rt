@@ -1,8 +1,8 @@
 // What a line holds: a default key, a bare frame, or a tick and a frame.
 use crate::header::SIZE;
-use attributes::Layout;
-use faults::places::four;
-use faults::places::part;
+use text_faults::places::four;
+use text_faults::places::part;
+use wire_attributes::Layout;
 
 // The octets of a tick.
 pub(crate) const TICK: usize = 4;
@@ -19,7 +19,7 @@ pub(crate) fn is_key(number: usize, digits: usize) -> bool {
 }
 
 fn is_whole(s: &[u8]) -> bool {
-    match frames::frame_layout(s) {
+    match wire_frames::frame_layout(s) {
         Layout::Whole => true,
         Layout::Broken(_) => false,
     }
@@ -65,13 +65,13 @@ fn by_length(bare: bool, ticked: bool, keyed: bool) -> bool {
 // The octets of a line that is no key.
 pub(crate) fn show_octets(out: &mut [u8], n: usize, s: &[u8], keyed: bool) -> usize {
     if has_tick(s, keyed) {
-        let a = names::say(out, n, b"tick %, ", four(s, 0), 0, 0);
+        let a = text_names::say(out, n, b"tick %, ", four(s, 0), 0, 0);
         return framed(out, a, part(s, TICK, s.len()));
     }
     framed(out, n, s)
 }
 
 fn framed(out: &mut [u8], n: usize, s: &[u8]) -> usize {
-    let a = names::say(out, n, b"frame of % octets\n", s.len(), 0, 0);
+    let a = text_names::say(out, n, b"frame of % octets\n", s.len(), 0, 0);
     crate::frame::frame(out, a, s)
 }

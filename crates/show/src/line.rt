@@ -11,13 +11,13 @@ pub(crate) const INMOST: usize = 8;
 
 // The start of a line: a structure's offset and length.
 pub(crate) fn head(out: &mut [u8], n: usize, indent: usize, at: usize, len: usize) -> usize {
-    let a = names::column(out, n, at);
-    let b = names::column(out, a, len);
-    names::blanks(out, b, indent)
+    let a = text_names::column(out, n, at);
+    let b = text_names::column(out, a, len);
+    text_names::blanks(out, b, indent)
 }
 
 pub(crate) fn ended(out: &mut [u8], n: usize) -> usize {
-    names::put(out, n, 10)
+    text_names::put(out, n, 10)
 }
 
 // The rest of a line that names a structure by its protocol and SPI.
@@ -28,8 +28,14 @@ pub(crate) fn protocol_and_spi(
     protocol: usize,
     spi: &[u8],
 ) -> usize {
-    let a = names::titled(out, n, what, names::tables::protocol(protocol), protocol);
-    let b = names::text(out, a, b", SPI ");
-    let c = names::octets(out, b, spi);
+    let a = text_names::titled(
+        out,
+        n,
+        what,
+        text_names::tables::protocol(protocol),
+        protocol,
+    );
+    let b = text_names::text(out, a, b", SPI ");
+    let c = text_names::octets(out, b, spi);
     ended(out, c)
 }

@@ -1,13 +1,13 @@
 // A policy in which the layout breaks: what stands in it up to there. The view shows no such policy.
 use crate::line::MIDDLE;
-use attributes::tables::Place;
-use faults::places::behind;
-use faults::places::end_at;
-use faults::places::holds;
-use faults::places::octet;
-use faults::places::part;
-use faults::places::span;
-use faults::places::two;
+use text_faults::places::behind;
+use text_faults::places::end_at;
+use text_faults::places::holds;
+use text_faults::places::octet;
+use text_faults::places::part;
+use text_faults::places::span;
+use text_faults::places::two;
+use wire_attributes::tables::Place;
 
 // The policy at an offset, up to the one at which the layout breaks.
 pub(crate) fn policy(
@@ -19,11 +19,11 @@ pub(crate) fn policy(
     stop: usize,
 ) -> usize {
     let p = part(s, at, end);
-    if policies::head_fits(p) {
+    if wire_policies::head_fits(p) {
         let a = crate::line::head(out, n, MIDDLE, at, span(at, end));
         return held(out, a, octet(s, at), s, at, end, stop);
     }
-    faults::of_head(out, n, b"policy: ", p, stop)
+    text_faults::of_head(out, n, b"policy: ", p, stop)
 }
 
 // What a policy holds, by its first octet.
@@ -38,12 +38,12 @@ fn held(
 ) -> usize {
     let spi = behind(at, 4);
     if first == 0 {
-        let a = names::text(out, n, b"group-wide policy\n");
+        let a = text_names::text(out, n, b"group-wide policy\n");
         return crate::attribute::attributes(out, a, Place::GroupWidePolicy, s, spi, end, stop);
     }
-    let body = behind(spi, policies::spi_size(first));
+    let body = behind(spi, wire_policies::spi_size(first));
     let b = crate::policy::policy_head(out, n, first, part(s, spi, body));
-    let place = attributes::tables::in_policy(first);
+    let place = wire_attributes::tables::in_policy(first);
     source(out, b, place, s, body, end, stop)
 }
 
@@ -58,12 +58,12 @@ fn source(
     stop: usize,
 ) -> usize {
     if to <= at {
-        return faults::of_missing(out, n, b"no source selector\n", stop);
+        return text_faults::of_missing(out, n, b"no source selector\n", stop);
     }
     if at == stop {
-        return faults::of_selector(out, n, part(s, at, to), stop);
+        return text_faults::of_selector(out, n, part(s, at, to), stop);
     }
-    let end = behind(at, policies::selectors::selector_size(octet(s, at)));
+    let end = behind(at, wire_policies::selectors::selector_size(octet(s, at)));
     let a = selector(out, n, true, s, at, end);
     destination(out, a, place, s, end, to, stop)
 }
@@ -79,12 +79,12 @@ fn destination(
     stop: usize,
 ) -> usize {
     if to <= at {
-        return faults::of_missing(out, n, b"no destination selector\n", stop);
+        return text_faults::of_missing(out, n, b"no destination selector\n", stop);
     }
     if at == stop {
-        return faults::of_selector(out, n, part(s, at, to), stop);
+        return text_faults::of_selector(out, n, part(s, at, to), stop);
     }
-    let end = behind(at, policies::selectors::selector_size(octet(s, at)));
+    let end = behind(at, wire_policies::selectors::selector_size(octet(s, at)));
     let a = selector(out, n, false, s, at, end);
     suite(out, a, place, s, end, to, stop)
 }
@@ -119,13 +119,13 @@ fn suite(
         }
         at = end;
     }
-    faults::of_missing(out, m, b"no last transform\n", stop)
+    text_faults::of_missing(out, m, b"no last transform\n", stop)
 }
 
 fn transform(out: &mut [u8], n: usize, s: &[u8], at: usize, end: usize, stop: usize) -> usize {
     let p = part(s, at, end);
     if at == stop {
-        return faults::of_transform(out, n, p, stop);
+        return text_faults::of_transform(out, n, p, stop);
     }
     crate::policy::transform(out, n, octet(p, 4), two(p, 6), s, at, end, stop)
 }

@@ -1,15 +1,15 @@
 // Policies. A whole one is shown by the view.
 use crate::line::INNER;
 use crate::line::MIDDLE;
-use attributes::tables::Place;
-use faults::places::behind;
-use faults::places::end_at;
-use faults::places::holds;
-use faults::places::part;
-use faults::places::span;
-use faults::places::two;
-use view::items::Item;
-use view::read::Kind;
+use text_faults::places::behind;
+use text_faults::places::end_at;
+use text_faults::places::holds;
+use text_faults::places::part;
+use text_faults::places::span;
+use text_faults::places::two;
+use wire_attributes::tables::Place;
+use wire_view::items::Item;
+use wire_view::read::Kind;
 
 // The policies of a GSA payload's body, up to the offset at which the layout breaks.
 pub(crate) fn policies(
@@ -44,17 +44,25 @@ fn policy(out: &mut [u8], n: usize, s: &[u8], at: usize, end: usize, stop: usize
 // The policy between two offsets.
 fn whole(out: &mut [u8], n: usize, s: &[u8], from: usize, to: usize) -> usize {
     let p = part(s, from, to);
-    match view::shown_kind(p) {
+    match wire_view::shown_kind(p) {
         Kind::GroupSa(protocol) => {
-            let a = policy_head(out, n, protocol, view::shown_spi(p));
-            let place = attributes::tables::in_policy(protocol);
-            items(out, a, place, s, from, to, 4 + policies::spi_size(protocol))
+            let a = policy_head(out, n, protocol, wire_view::shown_spi(p));
+            let place = wire_attributes::tables::in_policy(protocol);
+            items(
+                out,
+                a,
+                place,
+                s,
+                from,
+                to,
+                4 + wire_policies::spi_size(protocol),
+            )
         }
         Kind::GroupWide => {
-            let a = names::text(out, n, b"group-wide policy\n");
+            let a = text_names::text(out, n, b"group-wide policy\n");
             items(out, a, Place::GroupWidePolicy, s, from, to, 4)
         }
-        Kind::Nothing => names::text(out, n, b"nothing to show\n"),
+        Kind::Nothing => text_names::text(out, n, b"nothing to show\n"),
     }
 }
 
@@ -107,7 +115,7 @@ fn item(
     cursor: usize,
 ) -> Step {
     let p = part(s, from, to);
-    match view::shown(p, cursor) {
+    match wire_view::shown(p, cursor) {
         Item::Selector {
             kind: _,
             protocol,
@@ -164,13 +172,13 @@ fn stepped(n: usize, next: usize) -> Step {
 pub(crate) fn selector_head(out: &mut [u8], n: usize, first: bool, at: usize, len: usize) -> usize {
     let a = crate::line::head(out, n, INNER, at, len);
     if first {
-        return names::text(out, a, b"source ");
+        return text_names::text(out, a, b"source ");
     }
-    names::text(out, a, b"destination ")
+    text_names::text(out, a, b"destination ")
 }
 
 pub(crate) fn ports(out: &mut [u8], n: usize, protocol: usize, start: usize, end: usize) -> usize {
-    names::say(
+    text_names::say(
         out,
         n,
         b", IP protocol %, ports % to %\n",
@@ -184,7 +192,7 @@ pub(crate) fn ports(out: &mut [u8], n: usize, protocol: usize, start: usize, end
 pub(crate) fn addresses(out: &mut [u8], n: usize, octets: &[u8]) -> usize {
     let half = octets.len() / 2;
     let a = crate::address::address(out, n, part(octets, 0, half));
-    let b = names::text(out, a, b" to ");
+    let b = text_names::text(out, a, b" to ");
     crate::address::address(out, b, part(octets, half, octets.len()))
 }
 
@@ -201,18 +209,24 @@ pub(crate) fn transform(
 ) -> usize {
     let a = crate::line::head(out, n, INNER, at, span(at, end));
     let b = transform_head(out, a, kind, id);
-    let place = attributes::tables::in_transform(kind);
+    let place = wire_attributes::tables::in_transform(kind);
     crate::attribute::attributes(out, b, place, s, behind(at, 8), end, stop)
 }
 
 fn transform_head(out: &mut [u8], n: usize, kind: usize, id: usize) -> usize {
-    let a = names::titled(
+    let a = text_names::titled(
         out,
         n,
         b"transform ",
-        names::tables::transform_type(kind),
+        text_names::tables::transform_type(kind),
         kind,
     );
-    let b = names::titled(out, a, b": ", names::tables::transform_id(kind, id), id);
+    let b = text_names::titled(
+        out,
+        a,
+        b": ",
+        text_names::tables::transform_id(kind, id),
+        id,
+    );
     crate::line::ended(out, b)
 }

@@ -1,6 +1,6 @@
 // From characters to lines. Blanks, tabs and CR are passed over, capitals are digits, and so is 0x in front of a word no part of it.
-use faults::places::octet;
-use faults::places::part;
+use text_faults::places::octet;
+use text_faults::places::part;
 
 // The most digits of a line that is shown: a tick and a frame.
 const MOST: usize = 32776;
@@ -51,7 +51,7 @@ fn blank(r: Reading) -> Reading {
 }
 
 fn digit(r: Reading, c: u8, line: &mut [u8]) -> Reading {
-    more(r, lines::put(line, r.held, c), next(r.word), r.wrong)
+    more(r, text_lines::put(line, r.held, c), next(r.word), r.wrong)
 }
 
 // A character that is no digit; the first one is told.
@@ -148,7 +148,7 @@ pub(crate) fn finished(r: Reading, line: &[u8], room: &mut [u8], out: &mut [u8])
 // What the output holds is handed over.
 pub(crate) fn handed_over(r: Reading, out: &[u8]) -> Reading {
     Reading {
-        n: names::handed_over(out, r.n),
+        n: text_names::handed_over(out, r.n),
         keyed: r.keyed,
         number: r.number,
         held: r.held,
@@ -160,9 +160,9 @@ pub(crate) fn handed_over(r: Reading, out: &[u8]) -> Reading {
 
 // A line, by its digits.
 fn show_line(out: &mut [u8], r: Reading, digits: &[u8], room: &mut [u8]) -> usize {
-    let n = names::say(out, r.n, b"line %: ", r.number, 0, 0);
+    let n = text_names::say(out, r.n, b"line %: ", r.number, 0, 0);
     if r.wrong != 0 {
-        return names::say(
+        return text_names::say(
             out,
             n,
             b"character % is no hexadecimal digit\n",
@@ -172,7 +172,7 @@ fn show_line(out: &mut [u8], r: Reading, digits: &[u8], room: &mut [u8]) -> usiz
         );
     }
     if MOST < digits.len() {
-        return names::say(out, n, b"more than % digits\n", MOST, 0, 0);
+        return text_names::say(out, n, b"more than % digits\n", MOST, 0, 0);
     }
     show_digits(out, n, r, digits, room)
 }
@@ -180,10 +180,10 @@ fn show_line(out: &mut [u8], r: Reading, digits: &[u8], room: &mut [u8]) -> usiz
 fn show_digits(out: &mut [u8], n: usize, r: Reading, digits: &[u8], room: &mut [u8]) -> usize {
     let count = digits.len();
     if count % 2 == 1 {
-        return names::say(out, n, b"% digits, an odd count\n", count, 0, 0);
+        return text_names::say(out, n, b"% digits, an odd count\n", count, 0, 0);
     }
     if crate::kinds::is_key(r.number, count) {
-        return names::say(
+        return text_names::say(
             out,
             n,
             b"default key of % octets, not shown\n",
@@ -197,8 +197,8 @@ fn show_digits(out: &mut [u8], n: usize, r: Reading, digits: &[u8], room: &mut [
 
 fn show_octets(out: &mut [u8], n: usize, keyed: bool, digits: &[u8], room: &mut [u8]) -> usize {
     if digits.len() == 0 {
-        return names::text(out, n, b"empty\n");
+        return text_names::text(out, n, b"empty\n");
     }
-    let len = lines::put_octets(room, 0, digits);
+    let len = text_lines::put_octets(room, 0, digits);
     crate::kinds::show_octets(out, n, part(room, 0, len), keyed)
 }

@@ -5,10 +5,10 @@ use mathlib.Core.Path.{_≡_, refl}
 use mathlib.Core.Bool.{true, false, not}
 use mathlib.Core.List.{List, [], _∷_}
 use lib.ListN.{replicate}
-use Rattle.keys.specs.Lists.{all, any, heads, rising, insert}
-use Rattle.keys.specs.Limits.{Limits}
-use Rattle.keys.specs.Algorithms.{sizeOf}
-use Rattle.keys.specs.Kinds.{wrappingOf}
+use Rattle.state_keys.specs.Lists.{all, any, heads, rising, insert}
+use Rattle.state_keys.specs.Limits.{Limits}
+use Rattle.state_keys.specs.Algorithms.{sizeOf}
+use Rattle.state_keys.specs.Kinds.{wrappingOf}
 use Rattle.state.specs.declared.held.Held.{Held}
 use Rattle.state.specs.declared.held.HeldKey.{HeldKey}
 use Rattle.state.specs.Held.{blankKey, heldOf, keyFormed, heldFormed, noKey, keyWith, heldKey, enteredKey}

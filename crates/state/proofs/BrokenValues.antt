@@ -6,18 +6,18 @@ use mathlib.Core.Bool.{Bool, true, false}
 use mathlib.Core.List.{List, [], _∷_, _++_, map}
 use lib.ListN.{replicate}
 use Rattle.octets.specs.Compare.{orderOf, less}
-use Rattle.keys.specs.Lists.{all, any, count, heads, rising}
-use Rattle.keys.specs.Limits.{limits}
-use Rattle.keys.specs.Algorithms.{sizeOf}
-use Rattle.keys.specs.Kinds.{padded, wrappingOf, rekeySizes}
-use Rattle.sa.specs.Entry.{esp, rekey, saOf, before, sized, formed, liveRekey}
-use Rattle.sa.specs.declared.entry.Condition.{Condition}
-use Rattle.sa.specs.declared.entry.Condition.the-variants.{Live, Retiring}
-use Rattle.sa.specs.declared.entry.Lifetime.the-variants.{Unlimited, Limited}
-use Rattle.sa.specs.declared.entry.Sa.{Sa}
-use Rattle.table.specs.Table.{tableOf, tableFormed, none}
-use Rattle.table.specs.declared.Found.{Found}
-use Rattle.table.specs.declared.Table.{Table}
+use Rattle.state_keys.specs.Lists.{all, any, count, heads, rising}
+use Rattle.state_keys.specs.Limits.{limits}
+use Rattle.state_keys.specs.Algorithms.{sizeOf}
+use Rattle.state_keys.specs.Kinds.{padded, wrappingOf, rekeySizes}
+use Rattle.state_sa.specs.Entry.{esp, rekey, saOf, before, sized, formed, liveRekey}
+use Rattle.state_sa.specs.declared.entry.Condition.{Condition}
+use Rattle.state_sa.specs.declared.entry.Condition.the-variants.{Live, Retiring}
+use Rattle.state_sa.specs.declared.entry.Lifetime.the-variants.{Unlimited, Limited}
+use Rattle.state_sa.specs.declared.entry.Sa.{Sa}
+use Rattle.state_table.specs.Table.{tableOf, tableFormed, none}
+use Rattle.state_table.specs.declared.Found.{Found}
+use Rattle.state_table.specs.declared.Table.{Table}
 use Rattle.state.specs.declared.State.{State}
 use Rattle.state.specs.declared.held.Held.{Held}
 use Rattle.state.specs.declared.held.HeldKey.{HeldKey}

@@ -9,13 +9,13 @@ use borrow.Author.Tests.{le-leb, lt-ltb, le-ltb, ltb-true, eqb-false}
 use lib.Dec.{eqb}
 use lib.ListN.{length, replicate}
 use lib.Seq.{take-append-seam}
-use Rattle.keys.specs.Limits.{Limits}
-use Rattle.keys.specs.Lists.{all, any, count, rising, insert}
-use Rattle.keys.proofs.Cases.{bool-cases, lt-cases, and-parts, and-whole}
-use Rattle.keys.proofs.Rising.{length-insert, all-insert, rising-insert}
-use Rattle.table.specs.Table.{tableFormed, swept}
-use Rattle.table.proofs.Kept.{new-formed, swept-formed}
-use Rattle.table.proofs.Blanks.{new-blank, swept-blank}
+use Rattle.state_keys.specs.Limits.{Limits}
+use Rattle.state_keys.specs.Lists.{all, any, count, rising, insert}
+use Rattle.state_keys.proofs.Cases.{bool-cases, lt-cases, and-parts, and-whole}
+use Rattle.state_keys.proofs.Rising.{length-insert, all-insert, rising-insert}
+use Rattle.state_table.specs.Table.{tableFormed, swept}
+use Rattle.state_table.proofs.Kept.{new-formed, swept-formed}
+use Rattle.state_table.proofs.Blanks.{new-blank, swept-blank}
 use Rattle.state.specs.declared.held.HeldKey.{HeldKey}
 use Rattle.state.specs.declared.held.Held.{Held}
 use Rattle.state.specs.declared.State.{State}

@@ -5,13 +5,13 @@ use mathlib.Core.Bool.{Bool, true, false}
 use mathlib.Core.List.{List, _++_}
 use borrow.Author.Tests.{le-leb, lt-leb, lt-ltb, le-ltb, eq-eqb, ne-eqb}
 use lib.ListN.{length, take, drop, getD, replicate}
-use Rattle.keys.specs.Limits.{Limits}
-use Rattle.keys.specs.Lists.{all, rising, insert}
-use Rattle.keys.specs.Algorithms.{sizeOf}
-use Rattle.keys.proofs.Parts.{part-cons, part-end}
-use Rattle.table.specs.declared.Table.{Table}
-use Rattle.table.specs.declared.Found.{Found}
-use Rattle.table.specs.Table.{tableFormed, swept, none, foundSa}
+use Rattle.state_keys.specs.Limits.{Limits}
+use Rattle.state_keys.specs.Lists.{all, rising, insert}
+use Rattle.state_keys.specs.Algorithms.{sizeOf}
+use Rattle.state_keys.proofs.Parts.{part-cons, part-end}
+use Rattle.state_table.specs.declared.Table.{Table}
+use Rattle.state_table.specs.declared.Found.{Found}
+use Rattle.state_table.specs.Table.{tableFormed, swept, none, foundSa}
 use Rattle.state.specs.declared.least.Least.the-variants.{Id, NoneAnyMore}
 use Rattle.state.specs.declared.held.HeldKey.{HeldKey}
 use Rattle.state.specs.declared.held.Held.{Held}

@@ -3,9 +3,9 @@ use Prim.Native.Nat.{ℕ}
 use mathlib.Core.Path.{_≡_, refl}
 use mathlib.Core.Bool.{true, false}
 use lib.ListN.{replicate}
-use Rattle.keys.specs.Lists.{any}
-use Rattle.keys.specs.Algorithms.{sizeOf}
-use Rattle.keys.specs.Kinds.{wrappingKey}
+use Rattle.state_keys.specs.Lists.{any}
+use Rattle.state_keys.specs.Algorithms.{sizeOf}
+use Rattle.state_keys.specs.Kinds.{wrappingKey}
 use Rattle.state.specs.declared.least.Least.the-variants.{Id}
 use Rattle.state.specs.Least.{acceptable, afterId}
 

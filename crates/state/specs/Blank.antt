@@ -3,9 +3,9 @@
 use mathlib.Core.Path.{_≡_}
 use mathlib.Core.List.{List, [], _∷_}
 use lib.ListN.{take}
-use Rattle.keys.specs.Limits.{Limits}
-use Rattle.keys.specs.Kinds.{padded}
-use Rattle.table.specs.Blank.{TableBlank}
+use Rattle.state_keys.specs.Limits.{Limits}
+use Rattle.state_keys.specs.Kinds.{padded}
+use Rattle.state_table.specs.Blank.{TableBlank}
 use Rattle.state.specs.declared.held.HeldKey.{HeldKey}
 use Rattle.state.specs.declared.State.{State}
 use Rattle.state.specs.Held.{keysOf, heldOf}

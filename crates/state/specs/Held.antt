@@ -5,11 +5,11 @@ use mathlib.Core.Bool.{Bool, true, false, cond, not, _&&_}
 use mathlib.Core.List.{List, [], _∷_, _++_}
 use lib.Dec.{leb, ltb, eqb}
 use lib.ListN.{length, take, replicate}
-use Rattle.keys.specs.Lists.{all, rising, insert}
-use Rattle.keys.specs.Limits.{Limits}
-use Rattle.keys.specs.Algorithms.{sizeOf}
-use Rattle.keys.specs.Kinds.{wrappingOf}
-use Rattle.keys.specs.declared.kinds.MadeWrapping.{MadeWrapping}
+use Rattle.state_keys.specs.Lists.{all, rising, insert}
+use Rattle.state_keys.specs.Limits.{Limits}
+use Rattle.state_keys.specs.Algorithms.{sizeOf}
+use Rattle.state_keys.specs.Kinds.{wrappingOf}
+use Rattle.state_keys.specs.declared.kinds.MadeWrapping.{MadeWrapping}
 use Rattle.state.specs.declared.held.HeldKey.{HeldKey}
 use Rattle.state.specs.declared.held.Held.{Held}
 

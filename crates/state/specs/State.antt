@@ -3,10 +3,10 @@
 use Prim.Native.Nat.{ℕ}
 use mathlib.Core.Bool.{Bool, cond, _&&_}
 use mathlib.Core.List.{List, []}
-use Rattle.keys.specs.Limits.{Limits}
-use Rattle.table.specs.declared.Table.{Table}
-use Rattle.table.specs.declared.Found.{Found}
-use Rattle.table.specs.Table.{tableOf, tableFormed, swept, none, foundSa}
+use Rattle.state_keys.specs.Limits.{Limits}
+use Rattle.state_table.specs.declared.Table.{Table}
+use Rattle.state_table.specs.declared.Found.{Found}
+use Rattle.state_table.specs.Table.{tableOf, tableFormed, swept, none, foundSa}
 use Rattle.state.specs.declared.State.{State}
 use Rattle.state.specs.declared.least.Least.the-variants.{Id}
 use Rattle.state.specs.Held.{heldOf, heldFormed}

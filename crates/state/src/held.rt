@@ -3,12 +3,12 @@ ghost use mathlib.Core.Path.{_≡_};
 ghost use mathlib.Core.Bool.{_||_};
 ghost use mathlib.Core.List.{[]};
 ghost use Prim.Native.Nat.{_≤_};
-ghost use Rattle.keys.specs.Limits.{limits};
-ghost use Rattle.keys.specs.Lists.{all, rising};
+ghost use Rattle.state_keys.specs.Limits.{limits};
+ghost use Rattle.state_keys.specs.Lists.{all, rising};
 ghost use Rattle.state.specs.Held.{blankKey, keysOf, heldOf, keyFormed, idBefore, heldFormed, heldKey, enteredKey};
-use keys::kinds::MadeWrapping;
-use keys::kinds::WrappingKey;
-use keys::limits::HELD_KEYS;
+use state_keys::kinds::MadeWrapping;
+use state_keys::kinds::WrappingKey;
+use state_keys::limits::HELD_KEYS;
 
 // A wrapping key with its Key ID.
 pub struct HeldKey {

@@ -3,12 +3,12 @@ pub mod held;
 pub mod least;
 
 ghost use mathlib.Core.Path.{_≡_};
-ghost use Rattle.keys.specs.Limits.{limits};
+ghost use Rattle.state_keys.specs.Limits.{limits};
 ghost use Rattle.state.specs.State.{newState, stateFormed, sweptState, askedSa};
 use held::Held;
 use least::Least;
-use table::Found;
-use table::Table;
+use state_table::Found;
+use state_table::Table;
 
 pub struct State {
     pub table: Table,
@@ -64,6 +64,6 @@ impl State {
             let t = self.table;
             return t.find(protocol, spi);
         }
-        table::test::nothing()
+        state_table::test::nothing()
     }
 }

@@ -2,9 +2,9 @@
 use crate::reply::Reply;
 use crate::reply::bad;
 use crate::text;
-use group::Member;
-use group::receive::Answer;
-use lines::Request;
+use gikev2::Member;
+use gikev2::call::Answer;
+use text_lines::Request;
 
 // The line of an answer: its number, and on number 1 its figure.
 fn told(a: Answer, out: &mut [u8]) -> usize {
@@ -27,7 +27,7 @@ fn received(m: Member, frame: &[u8], key: &[u8], tick: u32, out: &mut [u8]) -> R
 }
 
 pub(crate) fn reply(m: Member, line: &[u8], key: &[u8], room: &mut [u8], out: &mut [u8]) -> Reply {
-    match lines::later_line(line, room) {
+    match text_lines::later_line(line, room) {
         Request::Bad => bad(m, out),
         Request::Frame { tick, len } => received(m, text::part(room, 0, len), key, tick, out),
     }

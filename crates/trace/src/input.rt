@@ -2,7 +2,7 @@
 use crate::reply;
 use crate::text;
 use crate::whole;
-use group::Member;
+use gikev2::Member;
 use libc::STDIN_FILENO;
 use libc::STDOUT_FILENO;
 
@@ -19,7 +19,7 @@ pub struct Running {
 
 // A whole first line: the lent key, which goes to the start of its room.
 fn first_line(r: Running, line: &[u8], key: &mut [u8]) -> Running {
-    let k = lines::key_line(line);
+    let k = text_lines::key_line(line);
     let octets = k.octets;
     let lent = text::put(key, 0, text::part(&octets, 0, k.len));
     let mut x = r;
@@ -103,7 +103,7 @@ fn through(
     let mut x = r;
     let mut at = 0;
     while at < block.len() {
-        let a = lines::absorb(block, at, line, x.len);
+        let a = text_lines::absorb(block, at, line, x.len);
         x = absorbed(x, a.ended, a.len, line, key, room, out, last);
         at = a.next;
     }

@@ -2,7 +2,7 @@
 use crate::reply::Called;
 use crate::reply::bad;
 use crate::reply::done;
-use group::Member;
+use gikev2::Member;
 
 // `digits` is the line without its letter. The lent key goes to the start of its room; `count` octets of it are lent so far.
 pub(crate) fn reply(
@@ -12,8 +12,8 @@ pub(crate) fn reply(
     count: usize,
     out: &mut [u8],
 ) -> Called {
-    if lines::is_hex(digits) {
-        let lent = lines::put_octets(key, 0, digits);
+    if text_lines::is_hex(digits) {
+        let lent = text_lines::put_octets(key, 0, digits);
         let reply = done(m, out);
         return Called { reply, lent };
     }

@@ -2,7 +2,7 @@
 use crate::reply::Reply;
 use crate::reply::bad;
 use crate::reply::done;
-use group::Member;
+use gikev2::Member;
 
 // `rest` is the line without its letter.
 pub(crate) fn reply(m: Member, rest: &[u8], out: &mut [u8]) -> Reply {

@@ -3,8 +3,8 @@ use crate::reply::Reply;
 use crate::reply::bad;
 use crate::text;
 use crate::whole;
-use group::Member;
-use group::SaAnswer;
+use gikev2::Member;
+use gikev2::SaAnswer;
 
 fn told(a: SaAnswer, out: &mut [u8]) -> usize {
     if a.found {
@@ -32,8 +32,8 @@ fn asked(m: Member, name: &[u8], out: &mut [u8]) -> Reply {
 
 // `digits` is the line without its letter.
 pub(crate) fn reply(m: Member, digits: &[u8], room: &mut [u8], out: &mut [u8]) -> Reply {
-    if lines::is_hex(digits) {
-        let n = lines::put_octets(room, 0, digits);
+    if text_lines::is_hex(digits) {
+        let n = text_lines::put_octets(room, 0, digits);
         return asked(m, text::part(room, 0, n), out);
     }
     bad(m, out)

@@ -6,7 +6,7 @@ use crate::question;
 use crate::sweep;
 use crate::text;
 use crate::whole;
-use group::Member;
+use gikev2::Member;
 
 // The most octets of a frame, and the most characters of a line that is taken: a letter, a tick, a frame.
 pub(crate) const FRAME: usize = 16384;
@@ -34,7 +34,7 @@ pub(crate) fn done(m: Member, out: &mut [u8]) -> Reply {
 }
 
 pub(crate) fn bad(m: Member, out: &mut [u8]) -> Reply {
-    let at = lines::put_bad(out, 0);
+    let at = text_lines::put_bad(out, 0);
     Reply { member: m, at }
 }
 

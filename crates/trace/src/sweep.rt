@@ -2,12 +2,12 @@
 use crate::reply::Reply;
 use crate::reply::bad;
 use crate::reply::done;
-use group::Member;
-use lines::Request;
+use gikev2::Member;
+use text_lines::Request;
 
 // `digits` is the line without its letter.
 pub(crate) fn reply(m: Member, digits: &[u8], room: &mut [u8], out: &mut [u8]) -> Reply {
-    match lines::later_line(digits, room) {
+    match text_lines::later_line(digits, room) {
         Request::Bad => bad(m, out),
         Request::Frame { tick, len } => {
             if len == 0 {

@@ -15,7 +15,7 @@ pub(crate) fn put(out: &mut [u8], at: usize, text: &[u8]) -> usize {
     let mut place = at;
     let mut i = 0;
     while i < text.len() {
-        place = lines::put(out, place, text[i]);
+        place = text_lines::put(out, place, text[i]);
         i += 1;
     }
     place
@@ -23,16 +23,16 @@ pub(crate) fn put(out: &mut [u8], at: usize, text: &[u8]) -> usize {
 
 // A blank and a number.
 pub(crate) fn number(out: &mut [u8], at: usize, n: usize) -> usize {
-    let behind = lines::put(out, at, b' ');
-    lines::put_number(out, behind, n)
+    let behind = text_lines::put(out, at, b' ');
+    text_lines::put_number(out, behind, n)
 }
 
 // A blank and octets.
 pub(crate) fn octets(out: &mut [u8], at: usize, octets: &[u8]) -> usize {
-    let behind = lines::put(out, at, b' ');
-    lines::put_digits(out, behind, octets)
+    let behind = text_lines::put(out, at, b' ');
+    text_lines::put_digits(out, behind, octets)
 }
 
 pub(crate) fn newline(out: &mut [u8], at: usize) -> usize {
-    lines::put(out, at, b'\n')
+    text_lines::put(out, at, b'\n')
 }

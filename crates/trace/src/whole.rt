@@ -1,19 +1,19 @@
 // The text of the whole member: its SAs and held keys, each on a line, and the least Message ID.
 ghost use Prim.Native.Nat.{_≤_};
 use crate::text;
-use group::Member;
-use keys::kinds::RekeyKey;
-use keys::kinds::WrappingKey;
-use keys::limits::HELD_KEYS;
-use keys::limits::SAS;
-use sa::entry::Condition;
-use sa::entry::ESP;
-use sa::entry::Lifetime;
-use sa::entry::Sa;
+use gikev2::Member;
 use state::held::Held;
 use state::held::HeldKey;
 use state::least::Least;
-use table::Table;
+use state_keys::kinds::RekeyKey;
+use state_keys::kinds::WrappingKey;
+use state_keys::limits::HELD_KEYS;
+use state_keys::limits::SAS;
+use state_sa::entry::Condition;
+use state_sa::entry::ESP;
+use state_sa::entry::Lifetime;
+use state_sa::entry::Sa;
+use state_table::Table;
 
 // The most characters of a number, and of the words and blanks of a line with its newline.
 const NUMBER: usize = 20;

@@ -5,7 +5,7 @@ use mathlib.Core.List.{List}
 use mathlib.Core.Bool.{Bool, false}
 use native.Mathlib.Omega.{arith}
 use Rattle.octets.specs.Walk.{either}
-use Rattle.view.specs.View.{isAtEnd, nextAfter}
+use Rattle.wire_view.specs.View.{isAtEnd, nextAfter}
 
 pub rises : (s : List ℕ) (n : ℕ) (end : Bool) (next : ℕ) → end ≡ isAtEnd s n → end ≡ false → next ≡ nextAfter s n → n < next
 rises s n end next e f q =

@@ -1,6 +1,6 @@
 // Walks through views of policies by the calls of `view`. Prints for each how many selectors, transforms and attributes it shows.
 use libc::STDOUT_FILENO;
-use view::items::Item;
+use wire_view::items::Item;
 
 fn print(text: &[u8]) {
     io::write_all(STDOUT_FILENO, text);
@@ -10,10 +10,10 @@ fn print(text: &[u8]) {
 fn counted(s: &[u8]) -> usize {
     let mut n = 0;
     while n < s.len() {
-        if view::shown_end(s, n) {
+        if wire_view::shown_end(s, n) {
             return n;
         }
-        n = view::shown_next(s, n);
+        n = wire_view::shown_next(s, n);
     }
     n
 }
@@ -22,7 +22,7 @@ fn counted(s: &[u8]) -> usize {
 fn walked(s: &[u8]) {
     let n = counted(s);
     io::print_decimal(STDOUT_FILENO, n as u64);
-    match view::shown(s, n) {
+    match wire_view::shown(s, n) {
         Item::Selector { .. } => print(b" and a selector\n"),
         Item::Transform { .. } => print(b" and a transform\n"),
         Item::Attribute { .. } => print(b" and an attribute\n"),

@@ -4,8 +4,8 @@ use mathlib.Core.Path.{_≡_}
 use mathlib.Core.Logic.{_⊎_}
 use mathlib.Core.List.{List, [], _++_}
 use lib.ListN.{take}
-use Rattle.lines.specs.inner.Reading.{Reading, Finishes}
-use Rattle.group.specs.declared.Member.{Member}
+use Rattle.text_lines.specs.inner.Reading.{Reading, Finishes}
+use Rattle.gikev2.specs.declared.Member.{Member}
 use Rattle.member.specs.Program.{Answers}
 use Rattle.member.specs.inner.Handing.{HandedOver}
 use Rattle.member.specs.inner.Standing.{Room, Stands, Goes}

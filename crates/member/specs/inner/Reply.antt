@@ -4,11 +4,11 @@ use mathlib.Core.Path.{_≡_}
 use mathlib.Core.Bool.{Bool, true, false}
 use mathlib.Core.List.{List}
 use lib.ListN.{length, take}
-use Rattle.lines.specs.Transcript.{Outcome, Replies, told}
-use Rattle.lines.specs.inner.Room.{replyRoom, Put}
-use Rattle.lines.specs.inner.Calls.{Gives}
-use Rattle.lines.specs.declared.Key.{Key}
-use Rattle.group.specs.declared.Member.{Member}
+use Rattle.text_lines.specs.Transcript.{Outcome, Replies, told}
+use Rattle.text_lines.specs.inner.Room.{replyRoom, Put}
+use Rattle.text_lines.specs.inner.Calls.{Gives}
+use Rattle.text_lines.specs.declared.Key.{Key}
+use Rattle.gikev2.specs.declared.Member.{Member}
 use Rattle.member.specs.Program.{Answers}
 use Rattle.member.specs.declared.running.Running.{Running}
 

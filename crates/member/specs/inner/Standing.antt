@@ -5,10 +5,10 @@ use mathlib.Core.Bool.{true, false}
 use mathlib.Core.List.{List, [], _++_}
 use lib.ListN.{length, take}
 use Rattle.octets.specs.Walk.{part}
-use Rattle.lines.specs.inner.Room.{replyRoom}
-use Rattle.lines.specs.inner.Reading.{DefaultKey, awaited, given, Reading, start, Reads, Kept}
-use Rattle.group.specs.Member.{newMember}
-use Rattle.group.specs.declared.Member.{Member}
+use Rattle.text_lines.specs.inner.Room.{replyRoom}
+use Rattle.text_lines.specs.inner.Reading.{DefaultKey, awaited, given, Reading, start, Reads, Kept}
+use Rattle.gikev2.specs.Member.{newMember}
+use Rattle.gikev2.specs.declared.Member.{Member}
 use Rattle.member.specs.Program.{Answers}
 use Rattle.member.specs.inner.Reply.{keyIn}
 use Rattle.member.specs.declared.running.Running.{Running}

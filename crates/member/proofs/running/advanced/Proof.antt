@@ -3,7 +3,7 @@ use borrow.Author.Needs.{needs}
 use mathlib.Core.Path.{_≡_, sym}
 use lib.ListN.{length}
 use lib.Seq.{length-take-le}
-use Rattle.lines.proofs.ProgramLaws.{absorbed-held, absorbed-some}
+use Rattle.text_lines.proofs.ProgramLaws.{absorbed-held, absorbed-some}
 use Rattle.member.proofs.StandingLaws.{passes-ended, passes-on}
 use Rattle.member.proofs.running.advanced.Statement.{statement}
 use Rattle.member.proofs.running.advanced.Tie as tie

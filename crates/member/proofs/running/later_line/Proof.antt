@@ -2,9 +2,9 @@
 use borrow.Author.Needs.{needs}
 use mathlib.Core.Path.{sym, subst}
 use lib.Seq.{length-take-le}
-use Rattle.lines.specs.inner.Calls.{Asks}
-use Rattle.lines.specs.declared.Request.{Request}
-use Rattle.lines.proofs.CallLaws.{asked-inside}
+use Rattle.text_lines.specs.inner.Calls.{Asks}
+use Rattle.text_lines.specs.declared.Request.{Request}
+use Rattle.text_lines.proofs.CallLaws.{asked-inside}
 use Rattle.member.proofs.ReplyLaws.{later-bad, later-frame}
 use Rattle.member.proofs.running.later_line.Statement.{statement}
 use Rattle.member.proofs.running.later_line.Tie as tie

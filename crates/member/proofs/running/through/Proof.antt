@@ -6,7 +6,7 @@ use mathlib.Core.Logic.{inl, inr}
 use native.Mathlib.Omega.{arith}
 use borrow.Author.Tests.{leb-true}
 use lib.ListN.{length}
-use Rattle.lines.specs.inner.Room.{replyRoom}
+use Rattle.text_lines.specs.inner.Room.{replyRoom}
 use Rattle.member.proofs.BlockLaws.{Passing, passing-start, passing-more, passing-end}
 use Rattle.member.proofs.running.through.Statement.{statement}
 use Rattle.member.proofs.running.through.Tie as tie

@@ -1,5 +1,5 @@
 use mathlib.Core.Path.{sym, _∙_}
-use Rattle.keys.specs.Limits.{limits}
+use Rattle.state_keys.specs.Limits.{limits}
 use Rattle.state.proofs.Laws.{formed-parts, formed-not}
 use borrow.Author.Needs.{needs}
 use Rattle.state.proofs.State.formed.Statement.{statement}

@@ -4,8 +4,8 @@ use mathlib.Core.Path.{_≡_, refl, _∙_}
 use native.Mathlib.Omega.{arith}
 use borrow.Author.Needs.{needs}
 use lib.ListN.{length}
-use Rattle.lines.proofs.ProgramLaws.{absorbed-some}
-use Rattle.lines.proofs.RoomLaws.{length-put}
+use Rattle.text_lines.proofs.ProgramLaws.{absorbed-some}
+use Rattle.text_lines.proofs.RoomLaws.{length-put}
 use Rattle.trace.proofs.input.through.Statement.{statement}
 use Rattle.trace.proofs.input.through.Tie as tie
 

@@ -3,7 +3,7 @@ use Prim.Native.Nat.{_-_}
 use mathlib.Core.Path.{_≡_, refl, _∙_}
 use borrow.Author.Needs.{needs}
 use lib.ListN.{length}
-use Rattle.lines.proofs.RoomLaws.{length-put}
+use Rattle.text_lines.proofs.RoomLaws.{length-put}
 use Rattle.trace.proofs.text.put.Statement.{statement}
 use Rattle.trace.proofs.text.put.Tie as tie
 

@@ -3,9 +3,9 @@ use Prim.Native.Nat.{_-_, _≤_, _<_}
 use mathlib.Core.Path.{_≡_, sym, _∙_}
 use mathlib.Core.Logic.{⊎-elim}
 use lib.ListN.{length}
-use Rattle.keys.specs.Limits.{limits}
-use Rattle.keys.proofs.Lists.{length-of-map}
-use Rattle.keys.proofs.Place.{Placing, placing-start, placing-ahead, placing-behind, placing-count, placing-all}
+use Rattle.state_keys.specs.Limits.{limits}
+use Rattle.state_keys.proofs.Lists.{length-of-map}
+use Rattle.state_keys.proofs.Place.{Placing, placing-start, placing-ahead, placing-behind, placing-count, placing-all}
 use Rattle.state.specs.Held.{idBefore, blankKey}
 use Rattle.state.proofs.Laws.{entered-in, entered-out}
 use borrow.Author.Needs.{needs}

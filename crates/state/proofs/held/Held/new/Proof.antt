@@ -1,6 +1,6 @@
 use mathlib.Core.Path.{ap}
 use lib.ListN.{replicate}
-use Rattle.keys.specs.Limits.{limits}
+use Rattle.state_keys.specs.Limits.{limits}
 use Rattle.state.specs.declared.held.HeldKey.{HeldKey}
 use Rattle.state.specs.Held.{heldOf}
 use borrow.Author.Needs.{needs}

@@ -4,9 +4,9 @@ use mathlib.Core.Path.{_≡_, sym, refl, _∙_}
 use mathlib.Core.Bool.{true, false}
 use borrow.Author.Tests.{lt-ltb, le-ltb}
 use lib.ListN.{length, take, drop}
-use Rattle.keys.specs.Limits.{limits}
-use Rattle.keys.specs.Lists.{rising}
-use Rattle.keys.proofs.Lists.{length-of-map, rising-next, rising-end}
+use Rattle.state_keys.specs.Limits.{limits}
+use Rattle.state_keys.specs.Lists.{rising}
+use Rattle.state_keys.proofs.Lists.{length-of-map, rising-next, rising-end}
 use Rattle.state.specs.Held.{blankKey, idBefore}
 use borrow.Author.Needs.{needs}
 use Rattle.state.proofs.held.Held.rises.Statement.{statement}

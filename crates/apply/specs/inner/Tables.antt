@@ -1,0 +1,39 @@
+-- The SAs that Delete payloads name, and where the payloads stand.
+use Prim.Native.Nat.{ℕ}
+use mathlib.Core.Path.{_≡_}
+use mathlib.Core.Bool.{Bool, cond, _&&_, _||_}
+use mathlib.Core.List.{List, _++_, map}
+use lib.Dec.{eqb, leb}
+use lib.ListN.{length, take, drop}
+use Rattle.octets.specs.Compare.{same}
+use Rattle.state_keys.specs.Lists.{any}
+use Rattle.state_keys.specs.Limits.{limits}
+use Rattle.wire_frames.specs.Delete.{Delete}
+use Rattle.check_payloads.specs.inner.Deletion.{DeletesFrom}
+use Rattle.state_sa.specs.Entry.{esp, rekey, spiOf}
+use Rattle.state_sa.specs.declared.entry.Sa.{Sa}
+use Rattle.state_table.specs.Table.{retiredIf}
+use Rattle.state_table.specs.declared.Table.{Table}
+use Rattle.rules_outcome.specs.After.{isZero}
+use Rattle.apply.specs.declared.retiring.DeletesAt.{DeletesAt}
+
+-- what some of these SPIs name
+abbrev pub namedIn : List (List ℕ) → Sa → Bool
+namedIn l s = eqb (s .protocol) esp && any (λ (x : List ℕ). isZero x || same (spiOf s) x) l
+
+-- with a new Rekey SA, the old one
+abbrev pub outdated : Bool → Sa → Bool
+outdated new s = new && eqb (s .protocol) rekey
+
+-- the SAs of a table that a test picks retire in their places; where its count is not within the limit, none does
+unfoldable pub retiredThere : (Sa → Bool) → ℕ → ℕ → Table → Table
+retiredThere p now delay t =
+    cond (leb (t .count) (limits .sas)) (record {
+      sas = map (retiredIf p now delay) (take (t .count) (t .sas)) ++ drop (t .count) (t .sas);
+      count = t .count;
+    }) t
+
+-- a frame of octets s has these Delete payloads, so many, and the first starts there
+pub record AreDeletes (s : List ℕ) (d : DeletesAt) (l : List Delete) : Type 0 where
+  pub count : length l ≡ d .count
+  pub from : (d .count ≡ 0 → ⊥) → DeletesFrom s l (d .start)

@@ -1,0 +1,39 @@
+// New SAs enter the table.
+ghost use mathlib.Core.Path.{_≡_};
+ghost use Prim.Native.Nat.{_+_, _≤_};
+ghost use lib.ListN.{take};
+ghost use Rattle.state_keys.specs.Limits.{limits};
+ghost use Rattle.state_table.specs.Table.{sasOf, tableOf};
+ghost use Rattle.rules_outcome.specs.After.{insertAll};
+use state_keys::limits::SAS;
+use state_sa::entry::Sa;
+use state_table::Table;
+use state_table::change::goes_ahead;
+
+// The first n of these SAs enter a table that has room for them. Internal.
+pub fn entered_all(t: Table, new: [Sa; SAS], n: usize) -> Table
+    requires { ⌜ (t .count + n ≤ limits .sas) × (t ≡ tableOf limits (sasOf t)) ⌝ }
+    ensures { λ r. ⌜ r ≡ tableOf limits (insertAll (take n new) (sasOf t)) ⌝ }
+{
+    let mut sas = t.sas;
+    let mut count = t.count;
+    let mut i = n;
+    while 0 < i {
+        i -= 1;
+        let mut carried = new[i];
+        let mut placed = false;
+        let mut j: usize = 0;
+        while j < count {
+            let s = sas[j];
+            if goes_ahead(placed, carried, s) {
+                sas[j] = carried;
+                carried = s;
+                placed = true;
+            }
+            j += 1;
+        }
+        sas[count] = carried;
+        count += 1;
+    }
+    Table { sas, count }
+}

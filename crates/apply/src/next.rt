@@ -1,0 +1,85 @@
+// The state of a member after an accepted frame: its old SAs, the new ones, the held list and the least Message ID.
+ghost use mathlib.Core.Path.{_≡_};
+ghost use mathlib.Core.Bool.{cond};
+ghost use Prim.Native.Nat.{_+_, _≤_};
+ghost use lib.ListN.{length, take};
+ghost use Rattle.state_keys.specs.Limits.{limits};
+ghost use Rattle.wire_frames.specs.Frame.{Frame};
+ghost use Rattle.state_table.specs.Table.{tableOf};
+ghost use Rattle.state.specs.declared.State.{State};
+ghost use Rattle.state.specs.declared.least.Least.the-variants.{Id};
+ghost use Rattle.rules_refusals.specs.Number2.{standing};
+ghost use Rattle.rules_outcome.specs.After.{oldSas, leastBy};
+ghost use Rattle.apply.specs.inner.Following.{Told, Follows};
+use crate::entering::entered_all;
+use crate::retiring::DeletesAt;
+use crate::retiring::retired_by_frame;
+use crate::standing::standing;
+use state::State;
+use state::held::Held;
+use state::least::Least;
+use state_keys::limits::SAS;
+use state_sa::entry::Sa;
+use state_table::Table;
+use wire_frames::exchanges::LeastAfter;
+
+// What an accepted frame says of the member afterwards.
+pub struct Said {
+    // the deactivation delay
+    pub delay: u16,
+    // whether the frame announces a Rekey SA, and the first Message ID of it
+    pub rekey: bool,
+    pub initial: u32,
+    // what the exchange makes of the least Message ID, and the frame's own Message ID
+    pub least: LeastAfter,
+    pub id: u32,
+    pub deletes: DeletesAt,
+}
+
+// The SAs of before: those that are due go; with a new Rekey SA the old one retires, and those that the frame's Delete payloads name.
+fn old_sas(t: Table, s: &[u8], tick: u32, x: Said) -> Table
+    requires { ⌜ ((f : Frame) × Told (now s) x f) ⌝ }
+    requires { ⌜ t .count ≤ limits .sas ⌝ }
+    ensures { λ r. ⌜ ((f : Frame) (m : State) → Told (now (s .entry)) x f → m .table ≡ t → r ≡ tableOf limits (oldSas m tick f)) ⌝ }
+{
+    let d = x.deletes;
+    let stand = standing(t, x.rekey, tick, x.delay);
+    retired_by_frame(stand, s, d, tick, x.delay)
+}
+
+// The least acceptable Message ID: the new Rekey SA's first one, or what the exchange makes of the one before.
+fn least_by(x: Said, before: Least) -> Least
+    ensures { λ r. ⌜ r ≡ cond (x .rekey) (Id (x .initial)) (leastBy (x .least) (x .id) before) ⌝ }
+{
+    if x.rekey {
+        return Least::Id(x.initial);
+    }
+    let least = x.least;
+    match least {
+        LeastAfter::Zero => Least::Id(0),
+        LeastAfter::OwnPlusOne => Least::after(x.id),
+        LeastAfter::Kept => before,
+    }
+}
+
+// The state after an accepted frame s that says this, and which brings the first n of these new SAs and this held list. Internal.
+pub fn next(
+    state: State,
+    s: &[u8],
+    tick: u32,
+    x: Said,
+    new: [Sa; SAS],
+    n: usize,
+    held: Held,
+) -> State
+    requires { ⌜ ((f : Frame) × Told (now s) x f) ⌝ }
+    requires { ⌜ (state .table .count ≤ limits .sas) × (length (standing tick state) + n ≤ limits .sas) ⌝ }
+    ensures { λ r. ⌜ ((f : Frame) → Told (now (s .entry)) x f → Follows state tick f (take n new) held r) ⌝ }
+{
+    let t = state.table;
+    let old = old_sas(t, s, tick, x);
+    let table = entered_all(old, new, n);
+    let before = state.least;
+    let least = least_by(x, before);
+    State { table, held, least }
+}

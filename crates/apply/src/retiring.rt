@@ -1,0 +1,103 @@
+// SAs that a Delete payload names retire.
+ghost use mathlib.Core.Path.{_≡_};
+ghost use Rattle.rules_outcome.specs.After.{isZero};
+ghost use mathlib.Core.Bool.{true};
+ghost use mathlib.Core.List.{List};
+ghost use Rattle.wire_frames.specs.Delete.{Delete, deleteOf, deleteFits};
+ghost use Rattle.check_payloads.specs.inner.Deletion.{spisIn};
+ghost use Rattle.apply.specs.inner.Tables.{namedIn, retiredThere, AreDeletes};
+use check_payloads::deletion::delete_parts;
+use check_payloads::deletion::spi_at;
+use state_keys::limits::SAS;
+use state_sa::entry::ESP;
+use state_sa::entry::Sa;
+use state_table::Table;
+use wire_readers::payload::DELETE;
+use wire_readers::payload::payload_parts;
+
+// Whether all octets are 0.
+fn is_zero(x: &[u8]) -> bool
+    ensures { λ r. ⌜ r ≡ isZero (now (x .entry)) ⌝ }
+{
+    let mut i: usize = 0;
+    while i < x.len() {
+        if x[i] != 0 {
+            return false;
+        }
+        i += 1;
+    }
+    true
+}
+
+// Whether an SPI of a Delete payload's body names this SA.
+fn is_named(a: Sa, o: &[u8]) -> bool
+    requires { ⌜ deleteFits (now o) ≡ true ⌝ }
+    ensures { λ r. ⌜ r ≡ namedIn (deleteOf (now (o .entry)) .spis) a ⌝ }
+{
+    if a.protocol == ESP {
+        let d = delete_parts(o);
+        let n = d.count;
+        let mut i: usize = 0;
+        while i < n {
+            let x = spi_at(o, i);
+            if is_zero(x) {
+                return true;
+            }
+            if a.named(ESP, x) {
+                return true;
+            }
+            i += 1;
+        }
+    }
+    false
+}
+
+// The ESP SAs that the SPIs of a Delete payload's body name retire, in one pass over the table.
+fn retired_spis(t: Table, o: &[u8], tick: u32, delay: u16) -> Table
+    requires { ⌜ deleteFits (now o) ≡ true ⌝ }
+    ensures { λ r. ⌜ r ≡ retiredThere (namedIn (deleteOf (now (o .entry)) .spis)) tick delay t ⌝ }
+{
+    let n = t.count;
+    if SAS < n {
+        return t;
+    }
+    let mut sas = t.sas;
+    let mut i: usize = 0;
+    while i < n {
+        let a = sas[i];
+        if is_named(a, o) {
+            let b = a.retired(tick, delay);
+            sas[i] = b;
+        }
+        i += 1;
+    }
+    Table { sas, count: n }
+}
+
+// How many Delete payloads a frame has, and where the first one starts.
+pub struct DeletesAt {
+    pub count: usize,
+    pub start: usize,
+}
+
+// The ESP SAs that the Delete payloads of a frame name retire: from the first of these payloads to the last. Internal.
+pub fn retired_by_frame(t: Table, s: &[u8], d: DeletesAt, tick: u32, delay: u16) -> Table
+    requires { ⌜ ((l : List Delete) × AreDeletes (now s) d l) ⌝ }
+    ensures { λ r. ⌜ ((l : List Delete) → AreDeletes (now (s .entry)) d l → r ≡ retiredThere (namedIn (spisIn l)) tick delay t) ⌝ }
+{
+    let mut out = t;
+    let mut left = d.count;
+    let mut kind = DELETE;
+    let mut at = d.start;
+    while 0 < left {
+        let p = payload_parts(kind, &s[at..]);
+        let e = at + p.end;
+        if kind == DELETE {
+            out = retired_spis(out, &s[at + 4..e], tick, delay);
+            left -= 1;
+        }
+        kind = p.next;
+        at = e;
+    }
+    out
+}

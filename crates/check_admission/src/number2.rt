@@ -1,0 +1,94 @@
+// Number 2: a frame that is not for this member.
+ghost use mathlib.Core.Path.{_≡_};
+ghost use Prim.Native.Nat.{_≤_};
+ghost use Rattle.state_keys.specs.Limits.{limits};
+ghost use Rattle.state_keys.specs.Lists.{any};
+ghost use Rattle.state_table.specs.Table.{sasOf, notDue, emptyAt};
+ghost use Rattle.rules_refusals.specs.Number2.{breaksWanted, overLiveRekey};
+ghost use Rattle.rules_refusals.specs.Refusals.{two, applies};
+ghost use Rattle.check_admission.specs.inner.Steps.{isOver, barred};
+use state::State;
+use state_sa::entry::REKEY;
+use state_sa::entry::Sa;
+use state_table::Table;
+use wire_frames::exchanges::Exchange;
+use wire_frames::exchanges::Wanted;
+
+// Whether an SA is a live Rekey SA with this SPI that is not due.
+fn is_over(s: Sa, spi: &[u8], tick: u32) -> bool
+    ensures { λ r. ⌜ r ≡ isOver tick (now (spi .entry)) s ⌝ }
+{
+    if s.due(tick) {
+        return false;
+    }
+    if s.is_live_rekey() {
+        return s.named(REKEY, spi);
+    }
+    false
+}
+
+// Whether the table has a live Rekey SA with this SPI that is not due.
+fn has_live_rekey(t: Table, spi: &[u8], tick: u32) -> bool
+    requires { ⌜ t .count ≤ limits .sas ⌝ }
+    ensures { λ r. ⌜ r ≡ any (overLiveRekey (now (spi .entry))) (notDue tick (sasOf t)) ⌝ }
+{
+    let n = t.count;
+    let mut i: usize = 0;
+    while i < n {
+        let s = t.sas[i];
+        if is_over(s, spi, tick) {
+            return true;
+        }
+        i += 1;
+    }
+    false
+}
+
+// Whether the table is not what the exchange wants of the member.
+fn breaks_wanted(wanted: Wanted, t: Table, tick: u32) -> bool
+    ensures { λ r. ⌜ r ≡ breaksWanted wanted (emptyAt limits tick t) ⌝ }
+{
+    match wanted {
+        Wanted::Empty => {
+            if t.is_empty(tick) {
+                return false;
+            }
+            true
+        }
+        Wanted::NotEmpty => t.is_empty(tick),
+        Wanted::Any => false,
+    }
+}
+
+// Number 2 for a table as a member's must be.
+fn is_barred(t: Table, x: Exchange, spi: &[u8], tick: u32) -> bool
+    requires { ⌜ t .count ≤ limits .sas ⌝ }
+    ensures { λ r. ⌜ r ≡ barred limits t x (now (spi .entry)) tick ⌝ }
+{
+    if x.admitted {} else {
+        return true;
+    }
+    let w = x.wanted;
+    if breaks_wanted(w, t, tick) {
+        return true;
+    }
+    if x.compares_spis {
+        if has_live_rekey(t, spi, tick) {
+            return false;
+        }
+        return true;
+    }
+    false
+}
+
+// Whether number 2 applies to a frame of this exchange type and these two SPIs. Internal.
+pub fn number_2(state: State, exchange: usize, spi: &[u8], tick: u32) -> bool
+    ensures { λ r. ⌜ r ≡ applies (two limits state tick exchange (now (spi .entry))) ⌝ }
+{
+    if state.formed() {
+        let t = state.table;
+        let x = wire_frames::exchanges::exchange_of(exchange);
+        return is_barred(t, x, spi, tick);
+    }
+    true
+}

@@ -1,0 +1,170 @@
+-- The facts of the key bags of a KD payload: of the wrapped keys of one bag, of one bag, of all bags. Each is what a clause of numbers 4 to
+-- 7 asks of the frame's bags, in the clause's own words.
+use Prim.Native.Nat.{ℕ, _+_}
+use mathlib.Core.List.{List}
+use mathlib.Core.Bool.{Bool, true, false, not, _&&_, _||_}
+use lib.ListN.{length}
+use lib.Dec.{ltb, eqb}
+use Rattle.octets.specs.Walk.{be32, either}
+use Rattle.state_keys.specs.Lists.{any}
+use Rattle.state_keys.specs.Limits.{Limits}
+use Rattle.wire_attributes.specs.Attribute.{Attribute}
+use Rattle.wire_attributes.specs.Place.{inBag}
+use Rattle.wire_attributes.specs.Tree.{SaKey, WrapKey, saKeys, wrapKeys}
+use Rattle.wire_attributes.specs.declared.tables.Meaning.{Meaning}
+use Rattle.wire_attributes.specs.declared.tables.Meaning.the-variants as meaning
+use Rattle.wire_attributes.specs.declared.tables.Place.the-variants as place
+use Rattle.wire_bags.specs.Bag.{Bag, groupKeys, memberKeys, GroupKeyBag, MemberKeyBag}
+use Rattle.state_sa.specs.Entry.{esp, rekey}
+use Rattle.rules_refusals.specs.Contents.{gather, groupBagOf, memberBagOf}
+use Rattle.rules_refusals.specs.Fitness.{ah}
+use Rattle.rules_refusals.specs.Number6.{hasKeyId, hasKwkId, underItself}
+use Rattle.check_bagkeys.specs.declared.wrapped.KeyFacts.{KeyFacts}
+use Rattle.check_bagkeys.specs.declared.BagFacts.{BagFacts}
+
+-- ---- the wrapped keys of one bag, by the values of their attributes
+abbrev pub isKey : Meaning → Bool
+isKey meaning.Skipped = false
+isKey meaning.KeyLength = false
+isKey meaning.InitialMessageId = false
+isKey meaning.DeactivationDelay = false
+isKey meaning.KeyLifetime = false
+isKey meaning.SaKey = true
+isKey meaning.WrapKey = true
+
+abbrev pub noId : List ℕ → Bool
+noId v = eqb (be32 v 0) 0
+
+abbrev pub noKwk : List ℕ → Bool
+noKwk v = eqb (be32 v 4) 0
+
+abbrev pub oneId : List ℕ → Bool
+oneId v = eqb (be32 v 0) (be32 v 4)
+
+abbrev pub keyFactsOf : List (List ℕ) → KeyFacts
+keyFactsOf l = record {
+  keys = length l;
+  named = any (λ (v : List ℕ). not (noId v)) l;
+  unnamed = any noId l;
+  «with_kwk_id» = any (λ (v : List ℕ). not (noKwk v)) l;
+  itself = any oneId l;
+}
+
+abbrev pub withKey : KeyFacts → List ℕ → KeyFacts
+withKey f v = record {
+  keys = f .keys + 1;
+  named = f .named || not (noId v);
+  unnamed = f .unnamed || noId v;
+  «with_kwk_id» = f .«with_kwk_id» || not (noKwk v);
+  itself = f .itself || oneId v;
+}
+
+-- ---- one bag
+-- a Group Key Bag of protocol p with such keys, a Member Key Bag with such keys
+abbrev pub ofGroup : Limits → ℕ → KeyFacts → BagFacts
+ofGroup limits p k = record {
+  members = 0;
+  wraps = 0;
+  unnamed = false;  -- asked of a WRAP_KEY alone
+  itself = false;  -- likewise
+  ah = eqb p ah;
+  keyless = eqb (k .keys) 0;
+  several = not (eqb p rekey) && ltb 1 (k .keys);
+  «several_of_rekey» = eqb p rekey && ltb 1 (k .keys);
+  overfull = ltb (limits .saKeys) (k .keys);
+  named = k .named;
+  «esp_with_kwk_id» = eqb p esp && k .«with_kwk_id»;
+}
+
+abbrev pub ofMember : KeyFacts → BagFacts
+ofMember k = record {
+  members = 1;
+  wraps = k .keys;
+  unnamed = k .unnamed;
+  itself = k .itself;
+  ah = false;
+  keyless = false;
+  several = false;
+  «several_of_rekey» = false;
+  overfull = false;
+  named = false;
+  «esp_with_kwk_id» = false;
+}
+
+abbrev pub ofSaKeys : List SaKey → KeyFacts
+ofSaKeys l = record {
+  keys = length l;
+  named = any hasKeyId l;
+  unnamed = any (λ (k : SaKey). eqb (k .keyId) 0) l;
+  «with_kwk_id» = any hasKwkId l;
+  itself = any (λ (k : SaKey). eqb (k .keyId) (k .kwkId)) l;
+}
+
+abbrev pub ofWrapKeys : List WrapKey → KeyFacts
+ofWrapKeys l = record {
+  keys = length l;
+  named = any (λ (k : WrapKey). not (eqb (k .keyId) 0)) l;
+  unnamed = any (λ (k : WrapKey). eqb (k .keyId) 0) l;
+  «with_kwk_id» = any (λ (k : WrapKey). not (eqb (k .kwkId) 0)) l;
+  itself = any underItself l;
+}
+
+abbrev pub ofBag : Limits → Bag → BagFacts
+ofBag limits (groupKeys b) = ofGroup limits (b .protocol) (ofSaKeys (b .keys))
+ofBag limits (memberKeys b) = ofMember (ofWrapKeys (b .keys))
+
+-- the bag with this first octet, SPI and attributes
+abbrev pub bagWith : ℕ → List ℕ → List Attribute → Bag
+bagWith p x l =
+    either (eqb p 0) (memberKeys (record { keys = wrapKeys place.MemberBag l }))
+    (groupKeys (record { protocol = p; spi = x; keys = saKeys (inBag p) l }))
+
+-- ---- all bags
+abbrev pub noBags : BagFacts
+noBags = record {
+  members = 0;
+  wraps = 0;
+  unnamed = false;
+  itself = false;
+  ah = false;
+  keyless = false;
+  several = false;
+  «several_of_rekey» = false;
+  overfull = false;
+  named = false;
+  «esp_with_kwk_id» = false;
+}
+
+abbrev pub together : BagFacts → BagFacts → BagFacts
+together a b = record {
+  members = a .members + b .members;
+  wraps = a .wraps + b .wraps;
+  unnamed = a .unnamed || b .unnamed;
+  itself = a .itself || b .itself;
+  ah = a .ah || b .ah;
+  keyless = a .keyless || b .keyless;
+  several = a .several || b .several;
+  «several_of_rekey» = a .«several_of_rekey» || b .«several_of_rekey»;
+  overfull = a .overfull || b .overfull;
+  named = a .named || b .named;
+  «esp_with_kwk_id» = a .«esp_with_kwk_id» || b .«esp_with_kwk_id»;
+}
+
+abbrev pub wrapsIn : List Bag → List WrapKey
+wrapsIn l = gather (λ (b : MemberKeyBag). b .keys) (gather memberBagOf l)
+
+-- THE FACTS OF THESE BAGS
+abbrev pub factsOf : Limits → List Bag → BagFacts
+factsOf limits l = record {
+  members = length (gather memberBagOf l);
+  wraps = length (wrapsIn l);
+  unnamed = any (λ (k : WrapKey). eqb (k .keyId) 0) (wrapsIn l);
+  itself = any underItself (wrapsIn l);
+  ah = any (λ (b : GroupKeyBag). eqb (b .protocol) ah) (gather groupBagOf l);
+  keyless = any (λ (b : GroupKeyBag). eqb (length (b .keys)) 0) (gather groupBagOf l);
+  several = any (λ (b : GroupKeyBag). not (eqb (b .protocol) rekey) && ltb 1 (length (b .keys))) (gather groupBagOf l);
+  «several_of_rekey» = any (λ (b : GroupKeyBag). eqb (b .protocol) rekey && ltb 1 (length (b .keys))) (gather groupBagOf l);
+  overfull = any (λ (b : GroupKeyBag). ltb (limits .saKeys) (length (b .keys))) (gather groupBagOf l);
+  named = any (λ (b : GroupKeyBag). any hasKeyId (b .keys)) (gather groupBagOf l);
+  «esp_with_kwk_id» = any (λ (b : GroupKeyBag). eqb (b .protocol) esp && any hasKwkId (b .keys)) (gather groupBagOf l);
+}

@@ -1,0 +1,153 @@
+// The facts of the key bags of a KD payload that numbers 4 to 7 of document 01 ask for, in one walk.
+pub mod wrapped;
+
+ghost use mathlib.Core.Path.{_≡_};
+ghost use mathlib.Core.Bool.{true};
+ghost use mathlib.Core.List.{List};
+ghost use Prim.Native.Nat.{ℕ, _+_, _<_, _≤_};
+ghost use lib.ListN.{length};
+ghost use Rattle.state_keys.specs.Limits.{limits};
+ghost use Rattle.wire_attributes.specs.Layout.{attributes};
+ghost use Rattle.wire_bags.specs.Bag.{placeOf, bags};
+ghost use Rattle.wire_readers.specs.inner.Values.{isWhole, attributesIn};
+ghost use Rattle.wire_readers.specs.inner.Bags.{bagsIn};
+ghost use Rattle.check_bagkeys.specs.inner.Facts.{noBags, ofGroup, ofMember, bagWith, ofBag, together, factsOf};
+use state_keys::limits::SA_KEYS;
+use wire_attributes::tables::Meaning;
+use wire_attributes::tables::Place;
+use wire_readers::policy::AH;
+use wire_readers::policy::ESP;
+use wire_readers::policy::REKEY;
+use wrapped::KeyFacts;
+
+// What the key bags of a KD payload have.
+pub struct BagFacts {
+    // how many Member Key Bags, and how many WRAP_KEYs
+    pub members: usize,
+    pub wraps: usize,
+    // a WRAP_KEY has Key ID 0; one has a Key ID that equals its KWK ID
+    pub unnamed: bool,
+    pub itself: bool,
+    // a Group Key Bag is of AH
+    pub ah: bool,
+    // one has no SA_KEY; one of ESP or AH has several; one of a Rekey SA has several
+    pub keyless: bool,
+    pub several: bool,
+    pub several_of_rekey: bool,
+    // one has more SA_KEYs than the limit
+    pub overfull: bool,
+    // an SA_KEY has a Key ID; one of ESP has a KWK ID
+    pub named: bool,
+    pub esp_with_kwk_id: bool,
+}
+
+// Those of no bag.
+fn no_bags() -> BagFacts
+    ensures { λ r. ⌜ r ≡ noBags ⌝ }
+{
+    BagFacts {
+        members: 0,
+        wraps: 0,
+        unnamed: false,
+        itself: false,
+        ah: false,
+        keyless: false,
+        several: false,
+        several_of_rekey: false,
+        overfull: false,
+        named: false,
+        esp_with_kwk_id: false,
+    }
+}
+
+// Those of a Group Key Bag of a protocol with such SA_KEYs.
+fn of_group(protocol: usize, k: KeyFacts) -> BagFacts
+    ensures { λ r. ⌜ r ≡ ofGroup limits protocol k ⌝ }
+{
+    BagFacts {
+        members: 0,
+        wraps: 0,
+        unnamed: false, // asked of a WRAP_KEY alone
+        itself: false, // likewise
+        ah: protocol == AH,
+        keyless: k.keys == 0,
+        several: (protocol != REKEY) & (1 < k.keys),
+        several_of_rekey: (protocol == REKEY) & (1 < k.keys),
+        overfull: SA_KEYS < k.keys,
+        named: k.named,
+        esp_with_kwk_id: (protocol == ESP) & k.with_kwk_id,
+    }
+}
+
+// Those of a Member Key Bag with such WRAP_KEYs.
+fn of_member(k: KeyFacts) -> BagFacts
+    ensures { λ r. ⌜ r ≡ ofMember k ⌝ }
+{
+    BagFacts {
+        members: 1,
+        wraps: k.keys,
+        unnamed: k.unnamed,
+        itself: k.itself,
+        ah: false,
+        keyless: false,
+        several: false,
+        several_of_rekey: false,
+        overfull: false,
+        named: false,
+        esp_with_kwk_id: false,
+    }
+}
+
+// Those of the bags of both.
+fn together(a: BagFacts, b: BagFacts) -> BagFacts
+    requires { ⌜ (a .members + b .members < 18446744073709551616) × (a .wraps + b .wraps < 18446744073709551616) ⌝ }
+    ensures { λ r. ⌜ r ≡ together a b ⌝ }
+{
+    BagFacts {
+        members: a.members + b.members,
+        wraps: a.wraps + b.wraps,
+        unnamed: a.unnamed | b.unnamed,
+        itself: a.itself | b.itself,
+        ah: a.ah | b.ah,
+        keyless: a.keyless | b.keyless,
+        several: a.several | b.several,
+        several_of_rekey: a.several_of_rekey | b.several_of_rekey,
+        overfull: a.overfull | b.overfull,
+        named: a.named | b.named,
+        esp_with_kwk_id: a.esp_with_kwk_id | b.esp_with_kwk_id,
+    }
+}
+
+// Those of the bag with this first octet and these attributes.
+fn of_bag(first: usize, a: &[u8]) -> BagFacts
+    requires { ⌜ isWhole (attributes (placeOf first) 0 (now a)) ≡ true ⌝ }
+    ensures { λ r. ⌜
+        ((x : List ℕ) → r ≡ ofBag limits (bagWith first x (attributesIn (placeOf first) (now (a .entry)))))
+        × (r .members ≤ 1) × (r .wraps ≤ length (now (a .entry)))
+        ⌝ }
+{
+    if first == 0 {
+        return of_member(wrapped::keys_of(Meaning::WrapKey, Place::MemberBag, a));
+    }
+    of_group(
+        first,
+        wrapped::keys_of(Meaning::SaKey, wire_attributes::tables::in_bag(first), a),
+    )
+}
+
+// The facts of the key bags of a KD body. Internal.
+pub fn bag_facts(k: &[u8]) -> BagFacts
+    requires { ⌜ isWhole (bags 0 (now k)) ≡ true ⌝ }
+    ensures { λ r. ⌜ r ≡ factsOf limits (bagsIn (now (k .entry))) ⌝ }
+{
+    let mut f = no_bags();
+    let mut at = 0;
+    while at < k.len() {
+        let p = wire_readers::bag::bag_parts(&k[at..]);
+        let start = at + p.body;
+        let end = at + p.end;
+        f = together(f, of_bag(p.first, &k[start..end]));
+        at = end;
+    }
+    f
+}

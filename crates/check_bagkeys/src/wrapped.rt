@@ -1,0 +1,64 @@
+// The facts of the wrapped keys of one bag, SA_KEYs or WRAP_KEYs, in one walk.
+ghost use mathlib.Core.Path.{_≡_};
+ghost use mathlib.Core.Bool.{true};
+ghost use Prim.Native.Nat.{_<_, _≤_};
+ghost use lib.ListN.{length};
+ghost use Rattle.wire_attributes.specs.Layout.{attributes};
+ghost use Rattle.wire_readers.specs.inner.Values.{isWhole, valuesIn};
+ghost use Rattle.check_bagkeys.specs.inner.Facts.{isKey, withKey, keyFactsOf};
+use wire_attributes::attribute_value;
+use wire_attributes::tables::Meaning;
+use wire_attributes::tables::Place;
+use wire_readers::values::Found;
+use wire_readers::values::next_attribute;
+
+// How many keys; whether one has a Key ID, one has none, one has a KWK ID, where an ID of 0 is none; whether the IDs of one are equal.
+pub struct KeyFacts {
+    pub keys: usize,
+    pub named: bool,
+    pub unnamed: bool,
+    pub with_kwk_id: bool,
+    pub itself: bool,
+}
+
+// The same with one key more, the value of an attribute.
+fn with_key(f: KeyFacts, v: &[u8]) -> KeyFacts
+    requires { ⌜ (8 ≤ length (now v)) × (f .keys < 18446744073709551615) ⌝ }
+    ensures { λ r. ⌜ r ≡ withKey f (now (v .entry)) ⌝ }
+{
+    let id = octets::numbers::be32_at(v, 0);
+    let kwk = octets::numbers::be32_at(v, 4);
+    KeyFacts {
+        keys: f.keys + 1,
+        named: f.named | (id != 0),
+        unnamed: f.unnamed | (id == 0),
+        with_kwk_id: f.with_kwk_id | (kwk != 0),
+        itself: f.itself | (id == kwk),
+    }
+}
+
+// The facts of the keys of a bag's attributes. Internal.
+pub fn keys_of(m: Meaning, place: Place, a: &[u8]) -> KeyFacts
+    requires { ⌜ (isKey m ≡ true) × (isWhole (attributes place 0 (now a)) ≡ true) ⌝ }
+    ensures { λ r. ⌜ (r ≡ keyFactsOf (valuesIn m place (now (a .entry)))) × (r .keys ≤ length (now (a .entry))) ⌝ }
+{
+    let mut f = KeyFacts {
+        keys: 0,
+        named: false,
+        unnamed: false,
+        with_kwk_id: false,
+        itself: false,
+    };
+    let mut at = 0;
+    loop {
+        match next_attribute(m, place, a, at) {
+            Found::At(start, end) => {
+                f = with_key(f, attribute_value(a, start));
+                at = end;
+            }
+            Found::Nothing => {
+                return f;
+            }
+        }
+    }
+}

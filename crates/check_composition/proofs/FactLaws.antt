@@ -1,0 +1,247 @@
+-- The walk over the policies of a GSA body.
+use Prim.Native.Nat.{ℕ, _+_, _-_, _≤_}
+use mathlib.Core.Path.{_≡_, refl, ap, sym, _∙_, subst}
+use mathlib.Core.List.{List, [], _∷_}
+use mathlib.Core.Bool.{Bool, true, false, cond, _||_}
+use native.Mathlib.Omega.{arith}
+use borrow.Author.Tests.{eqb-true, eqb-false}
+use lib.ListN.{length, take, drop}
+use lib.Seq.{drop-drop}
+use lib.Dec.{eqb}
+use Rattle.octets.specs.Numbers.{oct}
+use Rattle.octets.specs.Walk.{part}
+use Rattle.state_keys.specs.Lists.{any, count}
+use Rattle.state_keys.proofs.Cases.{bool-cases}
+use Rattle.wire_attributes.specs.Place.{inPolicy}
+use Rattle.wire_attributes.specs.Layout.{attributes}
+use Rattle.wire_attributes.specs.declared.tables.Place.the-variants as place
+use Rattle.wire_policies.specs.Policy.{Policy, groupSa, groupWide, GroupWidePolicy, SaBody, groupSaOf, groupWideOf, spiOf, policies}
+use Rattle.wire_policies.specs.Grammar.{IsSaBody}
+use Rattle.wire_readers.specs.inner.Values.{isWhole, attributesIn}
+use Rattle.wire_readers.specs.inner.Policies.{policiesIn}
+use Rattle.wire_readers.specs.declared.policy.Parts.{Parts}
+use Rattle.rules_refusals.specs.Contents.{gather, saOf, wideOf}
+use Rattle.rules_refusals.specs.Fitness.{isEsp, isRekey}
+use Rattle.rules_refusals.proofs.OneOf.{or-false, or-joined}
+use Rattle.check_suites.specs.inner.Adding.{once}
+use Rattle.check_composition.specs.inner.Facts.{givenBy, ofSa, ofPolicy, saWith, AtMost, Holds, OfOne, noPolicies, together, Added, factsOf}
+use Rattle.check_composition.specs.inner.Numbers.{greatest}
+use Rattle.check_composition.specs.declared.PolicyFacts.{PolicyFacts}
+use Rattle.check_composition.proofs.NumberLaws.{greater-none, none-greater, greater-joined, greatest-join}
+use Rattle.check_composition.proofs.WalkLaws.{PolicyAt, no-policy}
+
+-- ---- facts add up
+from-none : (f : PolicyFacts) → together noPolicies f ≡ f
+from-none f =
+    let s : 0 + f .sas ≡ f .sas = omega arith in
+    let e : 0 + f .esps ≡ f .esps = omega arith in
+    let r : 0 + f .rekeys ≡ f .rekeys = omega arith in
+    let w : 0 + f .wides ≡ f .wides = omega arith in
+    λ i. record {
+      sas = s i;
+      esps = e i;
+      rekeys = r i;
+      wides = w i;
+      ah = f .ah;
+      «two_lengths» = f .«two_lengths»;
+      «two_message_ids» = f .«two_message_ids»;
+      «two_delays» = f .«two_delays»;
+      «two_lifetimes» = f .«two_lifetimes»;
+      elsewhere = f .elsewhere;
+      long = f .long;
+      unfit = f .unfit;
+      delay = none-greater (f .delay) i;
+      initial = none-greater (f .initial) i;
+    }
+
+none-left : (a : Bool) (f : PolicyFacts) → together f (factsOf a []) ≡ f
+unfolding any count gather greatest
+none-left a f =
+    let s : f .sas + 0 ≡ f .sas = omega arith in
+    let e : f .esps + 0 ≡ f .esps = omega arith in
+    let r : f .rekeys + 0 ≡ f .rekeys = omega arith in
+    let w : f .wides + 0 ≡ f .wides = omega arith in
+    λ i. record {
+      sas = s i;
+      esps = e i;
+      rekeys = r i;
+      wides = w i;
+      ah = or-false (f .ah) i;
+      «two_lengths» = or-false (f .«two_lengths») i;
+      «two_message_ids» = or-false (f .«two_message_ids») i;
+      «two_delays» = or-false (f .«two_delays») i;
+      «two_lifetimes» = or-false (f .«two_lifetimes») i;
+      elsewhere = or-false (f .elsewhere) i;
+      long = or-false (f .long) i;
+      unfit = or-false (f .unfit) i;
+      delay = greater-none (f .delay) i;
+      initial = greater-none (f .initial) i;
+    }
+
+joined : (a b c : PolicyFacts) → together a (together b c) ≡ together (together a b) c
+joined a b c =
+    let s : a .sas + (b .sas + c .sas) ≡ a .sas + b .sas + c .sas = omega arith in
+    let e : a .esps + (b .esps + c .esps) ≡ a .esps + b .esps + c .esps = omega arith in
+    let r : a .rekeys + (b .rekeys + c .rekeys) ≡ a .rekeys + b .rekeys + c .rekeys = omega arith in
+    let w : a .wides + (b .wides + c .wides) ≡ a .wides + b .wides + c .wides = omega arith in
+    λ i. record {
+      sas = s i;
+      esps = e i;
+      rekeys = r i;
+      wides = w i;
+      ah = or-joined (a .ah) (b .ah) (c .ah) i;
+      «two_lengths» = or-joined (a .«two_lengths») (b .«two_lengths») (c .«two_lengths») i;
+      «two_message_ids» = or-joined (a .«two_message_ids») (b .«two_message_ids») (c .«two_message_ids») i;
+      «two_delays» = or-joined (a .«two_delays») (b .«two_delays») (c .«two_delays») i;
+      «two_lifetimes» = or-joined (a .«two_lifetimes») (b .«two_lifetimes») (c .«two_lifetimes») i;
+      elsewhere = or-joined (a .elsewhere) (b .elsewhere) (c .elsewhere) i;
+      long = or-joined (a .long) (b .long) (c .long) i;
+      unfit = or-joined (a .unfit) (b .unfit) (c .unfit) i;
+      delay = greater-joined (a .delay) (b .delay) (c .delay) i;
+      initial = greater-joined (a .initial) (b .initial) (c .initial) i;
+    }
+
+counted : (b : Bool) (n : ℕ) → cond b (n + 1) n ≡ once b + n
+counted true n = omega arith
+counted false n = omega arith
+
+-- the first policy, and the others
+one-more : (a : Bool) (p : Policy) (l : List Policy) → factsOf a (p ∷ l) ≡ together (ofPolicy a p) (factsOf a l)
+unfolding any count gather
+one-more a (groupSa p) l =
+    let f = factsOf a (groupSa p ∷ l) in
+    let s : length (gather saOf (groupSa p ∷ l)) ≡ 1 + length (gather saOf l) = omega arith in
+    let w : length (gather wideOf l) ≡ 0 + length (gather wideOf l) = omega arith in
+    λ i. record {
+      sas = s i;
+      esps = counted (isEsp p) (count isEsp (gather saOf l)) i;
+      rekeys = counted (isRekey p) (count isRekey (gather saOf l)) i;
+      wides = w i;
+      ah = f .ah;
+      «two_lengths» = f .«two_lengths»;
+      «two_message_ids» = f .«two_message_ids»;
+      «two_delays» = f .«two_delays»;
+      «two_lifetimes» = f .«two_lifetimes»;
+      elsewhere = f .elsewhere;
+      long = f .long;
+      unfit = f .unfit;
+      delay = sym (none-greater (f .delay)) i;
+      initial = greatest-join (givenBy p) (gather givenBy (gather saOf l)) i;
+    }
+one-more a (groupWide w) l =
+    let f = factsOf a (groupWide w ∷ l) in
+    let s : length (gather saOf l) ≡ 0 + length (gather saOf l) = omega arith in
+    let e : count isEsp (gather saOf l) ≡ 0 + count isEsp (gather saOf l) = omega arith in
+    let r : count isRekey (gather saOf l) ≡ 0 + count isRekey (gather saOf l) = omega arith in
+    let v : length (gather wideOf (groupWide w ∷ l)) ≡ 1 + length (gather wideOf l) = omega arith in
+    λ i. record {
+      sas = s i;
+      esps = e i;
+      rekeys = r i;
+      wides = v i;
+      ah = f .ah;
+      «two_lengths» = f .«two_lengths»;
+      «two_message_ids» = f .«two_message_ids»;
+      «two_delays» = f .«two_delays»;
+      «two_lifetimes» = f .«two_lifetimes»;
+      elsewhere = f .elsewhere;
+      long = f .long;
+      unfit = f .unfit;
+      delay = greatest-join (w .deactivationDelays) (gather (λ (x : GroupWidePolicy). x .deactivationDelays) (gather wideOf l)) i;
+      initial = sym (none-greater (f .initial)) i;
+    }
+
+at-most : (n m k : ℕ) (f o g : PolicyFacts) → g ≡ together f o → AtMost n f → AtMost m o → n + m ≤ k → AtMost k g
+at-most n m k f o g q x y h = record {
+  sas = omega (arith, ap (λ (z : PolicyFacts). z .sas) q, x .sas, y .sas);
+  esps = omega (arith, ap (λ (z : PolicyFacts). z .esps) q, x .esps, y .esps);
+  rekeys = omega (arith, ap (λ (z : PolicyFacts). z .rekeys) q, x .rekeys, y .rekeys);
+  wides = omega (arith, ap (λ (z : PolicyFacts). z .wides) q, x .wides, y .wides);
+}
+
+-- ---- one policy
+module _ (s : List ℕ) (at : ℕ) (r : Parts) (q : PolicyAt s at r) where
+  abbrev body : List ℕ
+  body = part s (at + r .body) (at + r .end)
+
+  body-is : part (drop at s) (r .body) (r .end) ≡ body
+  body-is =
+      let n : r .end - r .body ≡ at + r .end - (at + r .body) = omega (arith, q .is .head .order) in
+      λ i. take (n i) (drop-drop (r .body) at s i)
+
+  pub holds-one : Holds (r .first) body
+  holds-one = record {
+    wide = λ z. ap (λ (y : List ℕ). isWhole (attributes place.GroupWidePolicy 0 y)) (sym body-is) ∙ q .is .wide z .held;
+    sa = λ z.
+        let f = q .is .sa z in
+        (f .body, subst (λ (y : List ℕ). IsSaBody (inPolicy (r .first)) y (f .body)) body-is (f .is));
+  }
+
+  abbrev After : List Policy
+  After = policiesIn (drop (at + r .end) s)
+
+  item-of : (a : Bool) (o : PolicyFacts) → OfOne a (r .first) body o
+      → (p : Policy) × (policiesIn (drop at s) ≡ p ∷ After) × (o ≡ ofPolicy a p)
+  unfolding holds-one
+  item-of a o h =
+      bool-cases (eqb (r .first) 0)
+      (λ e.
+      let z = eqb-true (r .first) 0 e in
+      let w = q .is .wide z in (
+        groupWideOf (attributesIn place.GroupWidePolicy body),
+        w .item ∙ (λ i. groupWideOf (attributesIn place.GroupWidePolicy (body-is i)) ∷ policiesIn (q .next i)),
+        h .wide z,
+      ))
+      (λ e.
+      let z = eqb-false (r .first) 0 e in
+      let f = q .is .sa z in
+      let x = spiOf (drop at s) in (
+        groupSaOf (drop at s) (f .body),
+        f .item ∙ ap (λ (y : List ℕ). groupSaOf (drop at s) (f .body) ∷ policiesIn y) (q .next),
+        h .sa z (f .body) x (holds-one .sa z .1) ∙ ap (λ (n : ℕ). ofSa a (saWith n x (f .body))) (q .is .head .first),
+      ))
+
+-- ---- the walk: where it stands at a place
+module _ (a : Bool) (g : List ℕ) where
+  pub record PolicyWalk (f : PolicyFacts) (at : ℕ) : Type 0 where
+    pub few : AtMost at f
+    pub inside : at ≤ length g
+    pub rest : isWhole (policies 0 (drop at g)) ≡ true
+    pub so-far : together f (factsOf a (policiesIn (drop at g))) ≡ factsOf a (policiesIn g)
+
+  pub policies-start : isWhole (policies 0 g) ≡ true → (f : PolicyFacts) → f ≡ noPolicies → PolicyWalk f 0
+  policies-start e f q = record {
+    few = record {
+      sas = omega (arith, ap (λ (z : PolicyFacts). z .sas) q);
+      esps = omega (arith, ap (λ (z : PolicyFacts). z .esps) q);
+      rekeys = omega (arith, ap (λ (z : PolicyFacts). z .rekeys) q);
+      wides = omega (arith, ap (λ (z : PolicyFacts). z .wides) q);
+    };
+    inside = omega arith;
+    rest = e;
+    so-far = ap (λ (x : PolicyFacts). together x (factsOf a (policiesIn g))) q ∙ from-none (factsOf a (policiesIn g));
+  }
+
+  module _ (f : PolicyFacts) (at : ℕ) (w : PolicyWalk f at) where
+    pub policies-end : length g ≤ at → f ≡ factsOf a (policiesIn g)
+    policies-end h =
+        sym (none-left a f) ∙ ap (λ (l : List Policy). together f (factsOf a l)) (sym (no-policy g at h)) ∙ w .so-far
+
+    module _ (r : Parts) (q : PolicyAt g at r) (o : PolicyFacts) (h : OfOne a (r .first) (body g at r q) o) where
+      pub policies-room : AtMost (length g) (together f o)
+      policies-room = at-most at 1 (length g) f o (together f o) refl (w .few) (h .few) (omega (arith, q .some, q .inside))
+
+      pub policies-next : (n : PolicyFacts) → n ≡ together f o → PolicyWalk n (at + r .end)
+      policies-next n e =
+          let i = item-of g at r q a o h in
+          let after = factsOf a (After g at r q) in
+          record {
+            few = at-most at 1 (at + r .end) f o n e (w .few) (h .few) (omega (arith, q .some));
+            inside = q .inside;
+            rest = q .rest;
+            so-far =
+                ap (λ (x : PolicyFacts). together x after) e ∙ sym (joined f o after)
+                ∙ ap (λ (x : PolicyFacts). together f (together x after)) (i .2)
+                ∙ ap (together f) (sym (one-more a (i .0) (After g at r q)))
+                ∙ ap (λ (l : List Policy). together f (factsOf a l)) (sym (i .1)) ∙ w .so-far;
+          }

@@ -1,0 +1,168 @@
+-- The facts of the policies of a GSA payload: of one policy, of all policies. Each is what a clause of numbers 4 to 7 asks of the frame's
+-- policies, in the clause's own words, or what the member afterwards goes by. Whether transforms are fit goes by the exchange, which has
+-- the controller's authentication or not.
+use Prim.Native.Nat.{ℕ, _+_, _<_, _≤_}
+use mathlib.Core.Path.{_≡_}
+use mathlib.Core.List.{List, []}
+use mathlib.Core.Bool.{Bool, true, false, not, cond, _&&_, _||_}
+use lib.ListN.{length}
+use lib.Dec.{ltb, eqb}
+use Rattle.state_keys.specs.Lists.{any, count}
+use Rattle.wire_attributes.specs.Place.{inPolicy}
+use Rattle.wire_attributes.specs.Tree.{initialMessageIds, keyLifetimes}
+use Rattle.wire_attributes.specs.Layout.{attributes}
+use Rattle.wire_attributes.specs.declared.tables.Place.the-variants as place
+use Rattle.wire_policies.specs.Policy.{Policy, groupSa, groupWide, GroupSaPolicy, GroupWidePolicy, SaBody, groupWideOf}
+use Rattle.wire_policies.specs.Grammar.{IsSaBody}
+use Rattle.wire_readers.specs.inner.Values.{isWhole, attributesIn}
+use Rattle.state_sa.specs.Entry.{mostSeconds}
+use Rattle.rules_refusals.specs.Contents.{several, gather, saOf, wideOf}
+use Rattle.rules_refusals.specs.Fitness.{ah, isEsp, isRekey, oneGroupAddress, transformsFit}
+use Rattle.rules_refusals.specs.Number4.{twiceInTransform}
+use Rattle.check_suites.specs.inner.Adding.{once}
+use Rattle.check_composition.specs.inner.Numbers.{greater, greatest}
+use Rattle.check_composition.specs.declared.numbers.Numbers.{Numbers}
+use Rattle.check_composition.specs.declared.PolicyFacts.{PolicyFacts}
+
+-- ---- one policy
+-- a lifetime of more seconds than it may have
+abbrev pub hasLong : GroupSaPolicy → Bool
+hasLong p = any (λ (n : ℕ). ltb mostSeconds n) (p .keyLifetimes)
+
+-- the first Message IDs that a Rekey policy gives its SA
+abbrev pub givenBy : GroupSaPolicy → List ℕ
+givenBy p = cond (isRekey p) (p .initialMessageIds) []
+
+abbrev pub ofSa : Bool → GroupSaPolicy → PolicyFacts
+ofSa authentication p = record {
+  sas = 1;
+  esps = once (isEsp p);
+  rekeys = once (isRekey p);
+  wides = 0;
+  ah = eqb (p .protocol) ah;
+  «two_lengths» = any twiceInTransform (p .transforms);
+  «two_message_ids» = several (p .initialMessageIds);
+  «two_delays» = false;
+  «two_lifetimes» = several (p .keyLifetimes);
+  elsewhere = isRekey p && not (oneGroupAddress (p .destination));
+  long = hasLong p;
+  unfit = not (transformsFit authentication p);
+  delay = 0;
+  initial = greatest (givenBy p);
+}
+
+-- a group-wide policy with these deactivation delays
+abbrev pub wideBy : Numbers → PolicyFacts
+wideBy n = record {
+  sas = 0;
+  esps = 0;
+  rekeys = 0;
+  wides = 1;
+  ah = false;
+  «two_lengths» = false;
+  «two_message_ids» = false;
+  «two_delays» = ltb 1 (n .count);
+  «two_lifetimes» = false;
+  elsewhere = false;
+  long = false;
+  unfit = false;
+  delay = n .greatest;
+  initial = 0;
+}
+
+abbrev pub ofPolicy : Bool → Policy → PolicyFacts
+ofPolicy authentication (groupSa p) = ofSa authentication p
+ofPolicy authentication (groupWide w) =
+    wideBy (record { count = length (w .deactivationDelays); greatest = greatest (w .deactivationDelays) })
+
+-- the Group SA policy of a protocol with this SPI that holds x after it
+abbrev pub saWith : ℕ → List ℕ → SaBody → GroupSaPolicy
+saWith p spi x = record {
+  protocol = p;
+  spi = spi;
+  source = x .source;
+  destination = x .destination;
+  transforms = x .suite .transforms;
+  initialMessageIds = initialMessageIds (inPolicy p) (x .suite .attributes);
+  keyLifetimes = keyLifetimes (inPolicy p) (x .suite .attributes);
+}
+
+-- how many there can be of each
+pub record AtMost (n : ℕ) (f : PolicyFacts) : Type 0 where
+  pub sas : f .sas ≤ n
+  pub esps : f .esps ≤ n
+  pub rekeys : f .rekeys ≤ n
+  pub wides : f .wides ≤ n
+
+-- the octets o after the head of a policy with this first octet, and the facts of that policy
+pub record Holds (first : ℕ) (o : List ℕ) : Type 0 where
+  pub wide : first ≡ 0 → isWhole (attributes place.GroupWidePolicy 0 o) ≡ true
+  pub sa : (first ≡ 0 → ⊥) → (x : SaBody) × IsSaBody (inPolicy first) o x
+
+pub record OfOne (authentication : Bool) (first : ℕ) (o : List ℕ) (r : PolicyFacts) : Type 0 where
+  pub wide : first ≡ 0 → r ≡ ofPolicy authentication (groupWideOf (attributesIn place.GroupWidePolicy o))
+  pub sa : (first ≡ 0 → ⊥) → (x : SaBody) (spi : List ℕ) → IsSaBody (inPolicy first) o x → r ≡ ofSa authentication (saWith first spi x)
+  pub few : AtMost 1 r
+
+-- ---- all policies
+abbrev pub noPolicies : PolicyFacts
+noPolicies = record {
+  sas = 0;
+  esps = 0;
+  rekeys = 0;
+  wides = 0;
+  ah = false;
+  «two_lengths» = false;
+  «two_message_ids» = false;
+  «two_delays» = false;
+  «two_lifetimes» = false;
+  elsewhere = false;
+  long = false;
+  unfit = false;
+  delay = 0;
+  initial = 0;
+}
+
+abbrev pub together : PolicyFacts → PolicyFacts → PolicyFacts
+together a b = record {
+  sas = a .sas + b .sas;
+  esps = a .esps + b .esps;
+  rekeys = a .rekeys + b .rekeys;
+  wides = a .wides + b .wides;
+  ah = a .ah || b .ah;
+  «two_lengths» = a .«two_lengths» || b .«two_lengths»;
+  «two_message_ids» = a .«two_message_ids» || b .«two_message_ids»;
+  «two_delays» = a .«two_delays» || b .«two_delays»;
+  «two_lifetimes» = a .«two_lifetimes» || b .«two_lifetimes»;
+  elsewhere = a .elsewhere || b .elsewhere;
+  long = a .long || b .long;
+  unfit = a .unfit || b .unfit;
+  delay = greater (a .delay) (b .delay);
+  initial = greater (a .initial) (b .initial);
+}
+
+-- the sums can be had
+pub record Added (a b : PolicyFacts) : Type 0 where
+  pub sas : a .sas + b .sas < 18446744073709551616
+  pub esps : a .esps + b .esps < 18446744073709551616
+  pub rekeys : a .rekeys + b .rekeys < 18446744073709551616
+  pub wides : a .wides + b .wides < 18446744073709551616
+
+-- THE FACTS OF THESE POLICIES
+abbrev pub factsOf : Bool → List Policy → PolicyFacts
+factsOf authentication l = record {
+  sas = length (gather saOf l);
+  esps = count isEsp (gather saOf l);
+  rekeys = count isRekey (gather saOf l);
+  wides = length (gather wideOf l);
+  ah = any (λ (p : GroupSaPolicy). eqb (p .protocol) ah) (gather saOf l);
+  «two_lengths» = any (λ (p : GroupSaPolicy). any twiceInTransform (p .transforms)) (gather saOf l);
+  «two_message_ids» = any (λ (p : GroupSaPolicy). several (p .initialMessageIds)) (gather saOf l);
+  «two_delays» = any (λ (w : GroupWidePolicy). several (w .deactivationDelays)) (gather wideOf l);
+  «two_lifetimes» = any (λ (p : GroupSaPolicy). several (p .keyLifetimes)) (gather saOf l);
+  elsewhere = any (λ (p : GroupSaPolicy). isRekey p && not (oneGroupAddress (p .destination))) (gather saOf l);
+  long = any hasLong (gather saOf l);
+  unfit = any (λ (p : GroupSaPolicy). not (transformsFit authentication p)) (gather saOf l);
+  delay = greatest (gather (λ (w : GroupWidePolicy). w .deactivationDelays) (gather wideOf l));
+  initial = greatest (gather givenBy (gather saOf l));
+}

@@ -1,0 +1,28 @@
+-- The bodies of a frame to which number 4 does not apply.
+use native.Mathlib.Omega.{arith}
+use Prim.Native.Nat.{ℕ, _≤_}
+use mathlib.Core.Path.{_≡_, sym}
+use mathlib.Core.Bool.{false}
+use mathlib.Core.List.{List}
+use borrow.Author.Tests.{ltb-false}
+use Rattle.state_keys.specs.Lists.{count}
+use Rattle.wire_frames.specs.Frame.{Frame}
+use Rattle.check_payloads.specs.declared.PayloadFacts.{PayloadFacts}
+use Rattle.check_payloads.proofs.FoundLaws.{OfFrame}
+use Rattle.rules_refusals.specs.Contents.{hasGsa, hasKd}
+use Rattle.rules_refusals.specs.Number4.{twoGsa, twoKd, four-ofFrame}
+use Rattle.rules_refusals.specs.Refusals.{four, applies}
+use Rattle.rules_refusals.proofs.Clear.{clause-of-frame}
+
+module _ (s : List ℕ) (f : Frame) (b : PayloadFacts) (is : OfFrame s f b) (none : false ≡ applies (four f)) where
+  pub one-gsa-at-most : b .gsas ≤ 1
+  unfolding twoGsa four-ofFrame
+  one-gsa-at-most =
+      let e : twoGsa f ≡ false = clause-of-frame (four f) 3 (sym none) in
+      omega (arith, is .gsas, ltb-false 1 (count hasGsa (f .payloads)) e)
+
+  pub one-kd-at-most : b .kds ≤ 1
+  unfolding twoKd four-ofFrame
+  one-kd-at-most =
+      let e : twoKd f ≡ false = clause-of-frame (four f) 4 (sym none) in
+      omega (arith, is .kds, ltb-false 1 (count hasKd (f .payloads)) e)

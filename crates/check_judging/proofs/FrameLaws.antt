@@ -1,0 +1,147 @@
+-- The facts of a frame, and the number that the tests over them give.
+use Prim.Native.Nat.{ℕ, _≤_}
+use mathlib.Core.Path.{_≡_, ap, sym, _∙_}
+use mathlib.Core.List.{List, [], _∷_}
+use mathlib.Core.Bool.{Bool, true, false}
+use lib.ListN.{length}
+use Rattle.octets.specs.Walk.{whole}
+use Rattle.state_keys.specs.Limits.{limits}
+use Rattle.state_table.specs.Table.{sasOf}
+use Rattle.state_table.specs.inner.Changes.{standingCount}
+use Rattle.state.specs.declared.State.{State}
+use Rattle.wire_frames.specs.Frame.{Frame, frame}
+use Rattle.wire_frames.specs.declared.exchanges.Exchange.{Exchange}
+use Rattle.wire_readers.specs.inner.Policies.{policiesIn}
+use Rattle.wire_readers.specs.inner.Bags.{bagsIn}
+use Rattle.rules_refusals.specs.Contents.{rowOf, policiesOf, bagsOf}
+use Rattle.rules_refusals.specs.Refusals.{one, four, five, six, seven, applies, judged, onFrame}
+use Rattle.check_payloads.specs.declared.PayloadFacts.{PayloadFacts}
+use Rattle.check_payloads.specs.declared.deletion.Deletes.{Deletes}
+use Rattle.check_payloads.specs.inner.Facts.{factsOf as payloadFacts}
+use Rattle.check_payloads.proofs.FoundLaws.{OfFrame, facts-of}
+use Rattle.check_composition.specs.declared.PolicyFacts.{PolicyFacts}
+use Rattle.check_composition.specs.inner.Facts.{factsOf as policyFacts}
+use Rattle.check_bagkeys.specs.declared.BagFacts.{BagFacts}
+use Rattle.check_bagkeys.specs.inner.Facts.{factsOf as bagFacts}
+use Rattle.check_pairing.specs.inner.Names.{Name, Names}
+use Rattle.check_pairing.proofs.NamesOf.{policyNames, policy-names, bagNames, bag-names}
+use Rattle.check_judging.specs.declared.facts.Facts.{Facts}
+use Rattle.check_judging.specs.inner.Facts.{at, factsOf}
+use Rattle.check_judging.specs.inner.Tests.{fourBy, fiveBy, sixBy, sevenBy}
+use Rattle.check_judging.proofs.OrderLaws.{applying, passing, none-judged, stand}
+use Rattle.check_judging.proofs.BodiesLaws.{one-gsa-at-most, one-kd-at-most}
+use Rattle.check_judging.proofs.FourLaws.{policies-are, bags-are, four-is}
+use Rattle.check_judging.proofs.FiveLaws.{five-is, seven-is}
+use Rattle.check_judging.proofs.SixLaws.{six-is}
+
+module _ (state : State) (tick : ℕ) (lent s : List ℕ) (few : state .table .count ≤ limits .sas) (row : Exchange) (x : Facts)
+    (w : x ≡ factsOf (row .authentication) s) where
+  abbrev b : PayloadFacts
+  b = x .payloads
+
+  abbrev p : PolicyFacts
+  p = x .policies
+
+  abbrev k : BagFacts
+  k = x .bags
+
+  abbrev d : Deletes
+  d = b .deletion
+
+  abbrev gsaIn : List ℕ
+  gsaIn = at s (b .gsa)
+
+  abbrev kdIn : List ℕ
+  kdIn = at s (b .kd)
+
+  -- what the walks found
+  bodies-are : b ≡ payloadFacts s
+  bodies-are = ap (λ (y : Facts). y .payloads) w
+
+  policies-in : p ≡ policyFacts (row .authentication) (policiesIn gsaIn)
+  policies-in =
+      ap (λ (y : Facts). y .policies) w
+      ∙ ap (λ (y : PayloadFacts). policyFacts (row .authentication) (policiesIn (at s (y .gsa)))) (sym bodies-are)
+
+  bags-in : k ≡ bagFacts limits (bagsIn kdIn)
+  bags-in =
+      ap (λ (y : Facts). y .bags) w ∙ ap (λ (y : PayloadFacts). bagFacts limits (bagsIn (at s (y .kd)))) (sym bodies-are)
+
+  pub its-payloads : (f : Frame) → frame s ≡ whole f [] → OfFrame s f (x .payloads)
+  its-payloads f q = facts-of s b bodies-are f q
+
+  -- ---- each number of a frame that reads so
+  module _ (f : Frame) (q : frame s ≡ whole f []) (e : rowOf f ≡ row) where
+    four-at : (y : Bool) → y ≡ one (fourBy row x) → y ≡ applies (four f)
+    four-at y h = h ∙ four-is s f b (its-payloads f q) row e p k policies-in bags-in
+
+    module _ (none : false ≡ applies (four f)) where
+      gsas : b .gsas ≤ 1
+      gsas = one-gsa-at-most s f b (its-payloads f q) none
+
+      kds : b .kds ≤ 1
+      kds = one-kd-at-most s f b (its-payloads f q) none
+
+      its-policies : p ≡ policyFacts (rowOf f .authentication) (policiesOf f)
+      its-policies = policies-are s f b (its-payloads f q) row e p k policies-in bags-in gsas
+
+      its-bags : k ≡ bagFacts limits (bagsOf f)
+      its-bags = bags-are s f b (its-payloads f q) row e p k policies-in bags-in kds
+
+      five-at : (y : Bool) → y ≡ one (fiveBy row (length lent) x) → y ≡ applies (five lent f)
+      five-at y h = h ∙ five-is f row e d (its-payloads f q .deletion) p k its-policies its-bags lent
+
+      six-at : (y : Bool)
+          → ((l m : List Name) → Names gsaIn l → Names kdIn m → y ≡ one (sixBy row x l m tick (sasOf (state .table))))
+          → y ≡ applies (six state tick f)
+      six-at y h =
+          let is = its-payloads f q in
+          h (policyNames (policiesIn gsaIn)) (bagNames (bagsIn kdIn)) (policy-names gsaIn (is .gsaWhole))
+          (bag-names kdIn (is .kdWhole))
+          ∙ (λ i. one (sixBy row x (policyNames (is .policies gsas .all i)) (bagNames (is .bags kds .all i)) tick (sasOf (state .table))))
+          ∙ six-is row f e k its-bags state tick
+
+      seven-at : (y : Bool) (n : ℕ) → n ≡ standingCount limits tick (state .table) → y ≡ one (sevenBy limits x n)
+          → y ≡ applies (seven limits state tick f)
+      seven-at y n u h =
+          h ∙ seven-is f row e d (its-payloads f q .deletion) p k its-policies its-bags state tick n (u ∙ stand limits tick (state .table) few)
+
+  -- ---- the first that applies
+  abbrev Judged : ℕ → Type 0
+  Judged n = (f : Frame) → frame s ≡ whole f [] → rowOf f ≡ row → n ≡ judged (onFrame limits state tick lent f)
+
+  module _ (x4 : Bool) (h4 : x4 ≡ one (fourBy row x)) where
+    pub at-4 : x4 ≡ true → Judged 4
+    at-4 t = λ f q e. applying (four f) _ (sym t ∙ four-at f q e x4 h4)
+
+    module _ (n4 : x4 ≡ false) (x5 : Bool) (h5 : x5 ≡ one (fiveBy row (length lent) x)) where
+      none-4 : (f : Frame) → frame s ≡ whole f [] → rowOf f ≡ row → false ≡ applies (four f)
+      none-4 f q e = sym n4 ∙ four-at f q e x4 h4
+
+      pub at-5 : x5 ≡ true → Judged 5
+      at-5 t = λ f q e.
+          let n = none-4 f q e in
+          passing (four f) _ 5 n (applying (five lent f) _ (sym t ∙ five-at f q e n x5 h5))
+
+      module _ (n5 : x5 ≡ false) (x6 : Bool)
+          (h6 : (l m : List Name) → Names gsaIn l → Names kdIn m → x6 ≡ one (sixBy row x l m tick (sasOf (state .table)))) where
+        pub at-6 : x6 ≡ true → Judged 6
+        at-6 t = λ f q e.
+            let n = none-4 f q e in
+            passing (four f) _ 6 n (passing (five lent f) _ 6 (sym n5 ∙ five-at f q e n x5 h5)
+            (applying (six state tick f) _ (sym t ∙ six-at f q e n x6 h6)))
+
+        module _ (n6 : x6 ≡ false) (m : ℕ) (u : m ≡ standingCount limits tick (state .table)) (x7 : Bool)
+            (h7 : x7 ≡ one (sevenBy limits x m)) where
+          after-6 : (r : ℕ) → ((f : Frame) → x7 ≡ applies (seven limits state tick f) → r ≡ judged (seven limits state tick f ∷ []))
+              → Judged r
+          after-6 r h = λ f q e.
+              let n = none-4 f q e in
+              passing (four f) _ r n (passing (five lent f) _ r (sym n5 ∙ five-at f q e n x5 h5)
+              (passing (six state tick f) _ r (sym n6 ∙ six-at f q e n x6 h6) (h f (seven-at f q e n x7 m u h7))))
+
+          pub at-7 : x7 ≡ true → Judged 7
+          at-7 t = after-6 7 (λ f h. applying (seven limits state tick f) [] (sym t ∙ h))
+
+          pub at-none : x7 ≡ false → Judged 0
+          at-none t = after-6 0 (λ f h. passing (seven limits state tick f) [] 0 (sym t ∙ h) none-judged)

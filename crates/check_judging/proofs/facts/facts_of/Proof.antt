@@ -1,0 +1,78 @@
+use denote.Ref.{now}
+use mathlib.Core.Path.{_≡_, ap, sym, _∙_}
+use Rattle.state_keys.specs.Limits.{limits}
+use Rattle.wire_readers.specs.inner.Values.{isWhole}
+use Rattle.wire_readers.specs.inner.Policies.{policiesIn}
+use Rattle.wire_readers.specs.inner.Bags.{bagsIn}
+use Rattle.check_payloads.specs.declared.PayloadFacts.{PayloadFacts}
+use Rattle.check_payloads.proofs.FrameLaws.{reads-to}
+use Rattle.check_payloads.proofs.FoundLaws.{OfFrame, facts-of}
+use Rattle.check_composition.specs.inner.Facts.{factsOf as policyFacts}
+use Rattle.check_bagkeys.specs.inner.Facts.{factsOf as bagFacts}
+use Rattle.check_judging.specs.inner.Facts.{at}
+use borrow.Author.Needs.{needs}
+use Rattle.check_judging.proofs.facts.facts_of.Statement.{statement}
+use Rattle.check_judging.proofs.facts.facts_of.Tie as tie
+
+payload-facts-requires : tie.Need-payload-facts-requires
+payload-facts-requires c κs = search needs
+
+-- the payloads of the frame that the octets are
+own : (c : tie.After-payload-facts)
+    → let b = c .before .before in OfFrame (now (b .args .s)) (reads-to (now (b .args .s)) (b .pre) .0) (c .payload-facts .result)
+own c =
+    let b = c .before .before in
+    let f = reads-to (now (b .args .s)) (b .pre) in
+    facts-of (now (b .args .s)) (c .payload-facts .result) (c .payload-facts .ensures) (f .0) (f .1)
+
+sub-policy-facts : tie.Need-sub-policy-facts
+sub-policy-facts c = own (c .before) .gsaOrder
+
+part-policy-facts-start : tie.Need-part-policy-facts-start
+part-policy-facts-start c = own (c .before) .gsaOrder
+
+part-policy-facts-end : tie.Need-part-policy-facts-end
+part-policy-facts-end c = own (c .before) .gsaInside
+
+policy-facts-requires : tie.Need-policy-facts-requires
+policy-facts-requires c κs = own (c .before .before) .gsaWhole
+
+sub-bag-facts : tie.Need-sub-bag-facts
+sub-bag-facts c = own (c .before .before .before .before) .kdOrder
+
+part-bag-facts-start : tie.Need-part-bag-facts-start
+part-bag-facts-start c = own (c .before .before .before .before) .kdOrder
+
+part-bag-facts-end : tie.Need-part-bag-facts-end
+part-bag-facts-end c = own (c .before .before .before .before) .kdInside
+
+bag-facts-requires : tie.Need-bag-facts-requires
+bag-facts-requires c κs = own (c .before .before .before .before .before) .kdWhole
+
+returns : tie.Need-returns
+returns c =
+    let p = c .before .before .before in
+    let b = p .before .before .before in
+    let a = b .before .before .args in
+    let s = now (a .s) in
+    let e = b .payload-facts .ensures in
+    λ i. record {
+      payloads = e i;
+      policies = (p .policy-facts .ensures ∙ ap (λ (y : PayloadFacts). policyFacts (a .authentication) (policiesIn (at s (y .gsa)))) e) i;
+      bags = (c .bag-facts .ensures ∙ ap (λ (y : PayloadFacts). bagFacts limits (bagsIn (at s (y .kd)))) e) i;
+    }
+
+pub facts-of-spec : {M : Type 1} → statement M
+facts-of-spec =
+    tie.close
+    (tie.spec
+    payload-facts-requires
+    sub-policy-facts
+    part-policy-facts-start
+    part-policy-facts-end
+    policy-facts-requires
+    sub-bag-facts
+    part-bag-facts-start
+    part-bag-facts-end
+    bag-facts-requires
+    returns)

@@ -1,0 +1,79 @@
+-- Numbers 4 to 7 as lists of tests over the facts of a frame, in the order in which document 01 names them.
+use Prim.Native.Nat.{ℕ, _+_}
+use mathlib.Core.List.{List, [], _∷_}
+use mathlib.Core.Bool.{Bool, not, _&&_, _||_}
+use lib.Dec.{ltb}
+use Rattle.state_keys.specs.Lists.{any}
+use Rattle.state_keys.specs.Limits.{Limits}
+use Rattle.state_keys.specs.Algorithms.{sizeOf}
+use Rattle.state_sa.specs.declared.entry.Sa.{Sa}
+use Rattle.wire_frames.specs.declared.exchanges.Exchange.{Exchange}
+use Rattle.check_payloads.specs.declared.PayloadFacts.{PayloadFacts}
+use Rattle.check_payloads.specs.declared.deletion.Deletes.{Deletes}
+use Rattle.check_composition.specs.declared.PolicyFacts.{PolicyFacts}
+use Rattle.check_bagkeys.specs.declared.BagFacts.{BagFacts}
+use Rattle.check_pairing.specs.inner.Names.{Name, isUnpaired, isAnnounced}
+use Rattle.check_judging.specs.declared.facts.Facts.{Facts}
+use Rattle.check_judging.specs.declared.number4.Four.{Four}
+use Rattle.check_judging.specs.declared.number5.Five.{Five}
+use Rattle.check_judging.specs.declared.number6.Keys.{Keys}
+use Rattle.check_judging.specs.declared.number7.Seven.{Seven}
+
+-- critical, a barred Member bag, a barred D, two GSA, two KD, one without the other, neither; several Rekey policies, group-wide policies,
+-- Member bags; a GSA with no SA policy; Key Length, GSA_INITIAL_MESSAGE_ID, the delay twice; the Rekey destination;
+-- GSA_KEY_LIFETIME twice
+abbrev pub fourOf : Exchange → PayloadFacts → PolicyFacts → BagFacts → List Bool
+fourOf row b p k =
+    b .critical ∷ (not (row .«allows_member_bag») && ltb 0 (k .members)) ∷ (not (row .deletes) && ltb 0 (b .deletes))
+    ∷ ltb 1 (b .gsas) ∷ ltb 1 (b .kds)
+    ∷ (ltb 0 (b .gsas) && not (ltb 0 (b .kds))) ∷ (ltb 0 (b .kds) && not (ltb 0 (b .gsas)))
+    ∷ (not (ltb 0 (b .gsas)) && (not (ltb 0 (b .kds)) && not (row .deletes && ltb 0 (b .deletes))))
+    ∷ ltb 1 (p .rekeys) ∷ ltb 1 (p .wides) ∷ ltb 1 (k .members) ∷ (ltb 0 (b .gsas) && not (ltb 0 (p .sas)))
+    ∷ p .«two_lengths» ∷ p .«two_message_ids» ∷ p .«two_delays» ∷ p .elsewhere ∷ p .«two_lifetimes» ∷ []
+
+-- an AH policy, an AH bag, other transforms, D of another protocol, D with count 0, a lent key of so many octets
+abbrev pub fiveOf : Exchange → ℕ → Deletes → PolicyFacts → BagFacts → List Bool
+fiveOf row lent d p k = p .ah ∷ k .ah ∷ p .unfit ∷ d .other ∷ d .none ∷ (row .«judges_lent_key» && not (sizeOf 13 lent)) ∷ []
+
+-- the SA_KEY count, an SA_KEY with a Key ID, one of ESP with a KWK ID, a WRAP_KEY without Key ID, one under its own Key ID
+abbrev pub keysBy : Exchange → BagFacts → List Bool
+keysBy row k = ((k .keyless || k .several) || (not (row .copies) && k .«several_of_rekey»)) ∷ k .named ∷ k .«esp_with_kwk_id» ∷ k .unnamed ∷
+    k .itself ∷ []
+
+-- policies of the names l and bags of the names m not paired one to one, in the table already, and the keys
+abbrev pub sixOf : Exchange → BagFacts → List Name → List Name → ℕ → List Sa → List Bool
+sixOf row k l m now sas = any (isUnpaired m) l ∷ any (isUnpaired l) m ∷ any (isAnnounced now l) sas ∷ keysBy row k
+
+-- ESP policies, WRAP_KEYs, SA_KEYs in a bag, deleted SPIs, a lifetime, SAs after the frame
+abbrev pub sevenOf : Limits → Deletes → PolicyFacts → BagFacts → ℕ → List Bool
+sevenOf limits d p k standing =
+    ltb (limits .espPolicies) (p .esps) ∷ ltb (limits .wrapKeys) (k .wraps) ∷ k .overfull ∷ ltb (limits .deletedSpis) (d .spis)
+    ∷ p .long ∷ ltb (limits .sas) (standing + p .sas) ∷ []
+
+-- ---- over the facts of a frame
+abbrev pub fourBy : Exchange → Facts → List Bool
+fourBy row x = fourOf row (x .payloads) (x .policies) (x .bags)
+
+abbrev pub fiveBy : Exchange → ℕ → Facts → List Bool
+fiveBy row lent x = fiveOf row lent (x .payloads .deletion) (x .policies) (x .bags)
+
+abbrev pub sixBy : Exchange → Facts → List Name → List Name → ℕ → List Sa → List Bool
+sixBy row x l m now sas = sixOf row (x .bags) l m now sas
+
+abbrev pub sevenBy : Limits → Facts → ℕ → List Bool
+sevenBy limits x standing = sevenOf limits (x .payloads .deletion) (x .policies) (x .bags) standing
+
+-- ---- the clauses that code tells by name, as such lists
+abbrev pub fourIn : Four → List Bool
+fourIn c =
+    c .critical ∷ c .«member_bag» ∷ c .delete ∷ c .«two_gsa» ∷ c .«two_kd» ∷ c .«gsa_alone» ∷ c .«kd_alone» ∷ c .neither ∷ c .rekeys ∷ c .wides
+    ∷ c .members ∷ c .«no_sa» ∷ c .«two_lengths» ∷ c .«two_message_ids» ∷ c .«two_delays» ∷ c .elsewhere ∷ c .«two_lifetimes» ∷ []
+
+abbrev pub fiveIn : Five → List Bool
+fiveIn c = c .«ah_policy» ∷ c .«ah_bag» ∷ c .unfit ∷ c .other ∷ c .none ∷ c .key ∷ []
+
+abbrev pub keysIn : Keys → List Bool
+keysIn c = c .count ∷ c .named ∷ c .«esp_with_kwk_id» ∷ c .unnamed ∷ c .itself ∷ []
+
+abbrev pub sevenIn : Seven → List Bool
+sevenIn c = c .esps ∷ c .wraps ∷ c .overfull ∷ c .spis ∷ c .long ∷ c .sas ∷ []

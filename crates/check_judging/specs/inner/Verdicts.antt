@@ -1,0 +1,10 @@
+-- What numbers 2 to 7 make of a frame: the number judged first of those that apply, or, where none does, the facts of the frame.
+use Prim.Native.Nat.{ℕ}
+use lib.Dec.{eqb}
+use Rattle.octets.specs.Walk.{either}
+use Rattle.check_judging.specs.declared.facts.Facts.{Facts}
+use Rattle.check_judging.specs.declared.refusal.Verdict.{Verdict}
+use Rattle.check_judging.specs.declared.refusal.Verdict.the-variants as verdict
+
+abbrev pub verdictBy : ℕ → Facts → Verdict
+verdictBy n x = either (eqb n 0) (verdict.Passed x) (verdict.Refused n)

@@ -1,0 +1,70 @@
+// Number 7: what does not fit into the member's limits.
+use crate::facts::Facts;
+use state_keys::limits::DELETED_SPIS;
+use state_keys::limits::ESP_POLICIES;
+use state_keys::limits::SAS;
+use state_keys::limits::WRAP_KEYS;
+ghost use mathlib.Core.Path.{_≡_};
+ghost use Prim.Native.Nat.{_+_};
+ghost use lib.Dec.{ltb};
+ghost use Rattle.state_keys.specs.Limits.{limits};
+ghost use Rattle.rules_refusals.specs.Refusals.{one};
+ghost use Rattle.check_judging.specs.inner.Tests.{sevenBy, sevenIn};
+
+// Whether so many SAs that stand and so many more are too many for the table.
+fn is_over(standing: usize, more: usize) -> bool
+    ensures { λ r. ⌜ r ≡ ltb (limits .sas) (standing + more) ⌝ }
+{
+    if SAS < standing {
+        return true;
+    }
+    SAS - standing < more
+}
+
+// The clauses of number 7, those on the frame before that on the table: whether each applies.
+pub struct Seven {
+    pub esps: bool,
+    pub wraps: bool,
+    pub overfull: bool,
+    pub spis: bool,
+    pub long: bool,
+    pub sas: bool,
+}
+
+// Which clauses apply to a frame with these facts, where so many SAs stand. Internal.
+pub fn clauses_7(x: Facts, standing: usize) -> Seven
+    ensures { λ r. ⌜ sevenIn r ≡ sevenBy limits x standing ⌝ }
+{
+    let b = x.payloads;
+    let d = b.deletion;
+    let p = x.policies;
+    let k = x.bags;
+    // "over 8 ESP policies", by T-01 24
+    let esps = ESP_POLICIES < p.esps;
+    // "32 WRAP_KEY", by T-01 128
+    let wraps = WRAP_KEYS < k.wraps;
+    // "32 SA_KEY in a bag"
+    let overfull = k.overfull;
+    // "32 deleted SPIs in the frame"
+    let spis = DELETED_SPIS < d.spis;
+    // "More seconds are number 7" (document 02, T-07)
+    let long = p.long;
+    // "or over 16 SAs after the frame, those already due when it arrives not counted", by T-01 64
+    let sas = is_over(standing, p.sas);
+    Seven {
+        esps,
+        wraps,
+        overfull,
+        spis,
+        long,
+        sas,
+    }
+}
+
+// Whether number 7 applies to a frame with these facts, where so many SAs stand. Internal.
+pub fn number_7(x: Facts, standing: usize) -> bool
+    ensures { λ r. ⌜ r ≡ one (sevenBy limits x standing) ⌝ }
+{
+    let c = clauses_7(x, standing);
+    c.esps | c.wraps | c.overfull | c.spis | c.long | c.sas
+}

@@ -1,0 +1,140 @@
+-- The one bag of a KD body with a name, sought among its bags one after the other.
+use Prim.Native.Nat.{ℕ, _+_, _-_, _<_, _≤_}
+use mathlib.Core.Path.{_≡_, refl, ap, sym, _∙_}
+use mathlib.Core.List.{List, [], _∷_, append-nil}
+use mathlib.Core.Bool.{Bool, true, false, or-false}
+use native.Mathlib.Omega.{arith}
+use borrow.Author.Tests.{eqb-true}
+use lib.ListN.{length, drop}
+use lib.Dec.{eqb}
+use Rattle.octets.specs.Walk.{part, either}
+use Rattle.octets.specs.Compare.{same}
+use Rattle.state_keys.specs.Lists.{any, count, keep}
+use Rattle.state_keys.proofs.Cases.{bool-cases, never, and-parts}
+use Rattle.wire_attributes.specs.Place.{inBag}
+use Rattle.wire_attributes.specs.Layout.{attributes}
+use Rattle.wire_attributes.specs.declared.tables.Place.the-variants as place
+use Rattle.wire_attributes.specs.Tree.{saKeys, wrapKeys}
+use Rattle.wire_policies.specs.Policy.{spiOf}
+use Rattle.wire_bags.specs.Bag.{Bag, groupKeys, memberKeys, GroupKeyBag, MemberKeyBag, placeOf, bags}
+use Rattle.wire_readers.specs.inner.Values.{isWhole, attributesIn}
+use Rattle.wire_readers.specs.inner.Bags.{bagsIn}
+use Rattle.wire_readers.specs.declared.policy.Parts.{Parts}
+use Rattle.rules_refusals.specs.Contents.{gather, groupBagOf}
+use Rattle.rules_refusals.specs.Number6.{bagNamed}
+use Rattle.check_bagkeys.proofs.BagAt.{BagAt, no-bags}
+use Rattle.check_pairing.specs.inner.Names.{nameOf, isNamed}
+use Rattle.wire_readers.specs.declared.Stretch.{Stretch}
+
+-- the attributes of the one Group Key Bag with a protocol and SPI stand there
+pub record StretchIs (k : List ℕ) (p : ℕ) (x : List ℕ) (r : Stretch) : Type 0 where
+  pub keys : gather (λ (b : GroupKeyBag). b .keys) (keep (bagNamed p x) (gather groupBagOf (bagsIn k)))
+      ≡ saKeys (inBag p) (attributesIn (inBag p) (part k (r .start) (r .end)))
+  pub held : isWhole (attributes (inBag p) 0 (part k (r .start) (r .end))) ≡ true
+  pub order : r .start ≤ r .end
+  pub inside : r .end ≤ length k
+
+count-kept : {A : Type 0} (q : A → Bool) (l : List A) → count q l ≡ length (keep q l)
+unfolding count keep
+count-kept q [] = refl
+count-kept q (a ∷ l) = let e = count-kept q l in bool-cases (q a) (λ f. rw f (omega arith)) (λ f. rw f e)
+
+-- a list of one element, that one first
+only-one : {A : Type 0} (a : A) (l : List A) → length (a ∷ l) ≡ 1 → l ≡ []
+only-one a [] e = refl
+only-one a (b ∷ l) e = absurd (omega arith)
+
+module _ (p : ℕ) (x : List ℕ) where
+  abbrev named : List Bag → List GroupKeyBag
+  named l = keep (bagNamed p x) (gather groupBagOf l)
+
+  -- a bag that is a Member Key Bag or not, at the front
+  skipped : (t : Bool) (m : MemberKeyBag) (b : GroupKeyBag) (l : List Bag) →
+      any (isNamed p x) (either t [] (record { protocol = b .protocol; spi = b .spi } ∷ [])) ≡ false →
+      named (either t (memberKeys m) (groupKeys b) ∷ l) ≡ named l
+  unfolding gather keep any
+  skipped true m b l e = refl
+  skipped false m b l e = let f : bagNamed p x b ≡ false = sym (or-false (bagNamed p x b)) ∙ e in rw f
+
+  taken : (t : Bool) (m : MemberKeyBag) (b : GroupKeyBag) (l : List Bag) →
+      any (isNamed p x) (either t [] (record { protocol = b .protocol; spi = b .spi } ∷ [])) ≡ true →
+      (t ≡ false) × (bagNamed p x b ≡ true) × (named (either t (memberKeys m) (groupKeys b) ∷ l) ≡ b ∷ named l)
+  unfolding gather keep any
+  taken true m b l e = never true refl (sym e)
+  taken false m b l e = let f : bagNamed p x b ≡ true = sym (or-false (bagNamed p x b)) ∙ e in (refl, f, rw f)
+
+  module _ (k : List ℕ) where
+    -- it was not there so far
+    pub record Seeking (at : ℕ) : Type 0 where
+      pub inside : at ≤ length k
+      pub rest : isWhole (bags 0 (drop at k)) ≡ true
+      pub left : named (bagsIn k) ≡ named (bagsIn (drop at k))
+
+    pub seeking-start : isWhole (bags 0 k) ≡ true → Seeking 0
+    seeking-start e = record { inside = omega arith; rest = e; left = refl }
+
+    module _ (at : ℕ) (c : Seeking at) where
+      pub seeking-end : length k ≤ at → count (bagNamed p x) (gather groupBagOf (bagsIn k)) ≡ 1 → ⊥
+      unfolding gather keep
+      seeking-end h e =
+          let f : named (bagsIn k) ≡ [] = c .left ∙ ap named (no-bags k at h) in
+          let z : _≡_ {A = ℕ} 1 0 = sym e ∙ count-kept (bagNamed p x) (gather groupBagOf (bagsIn k)) ∙ ap length f in
+          omega arith
+
+      module _ (r : Parts) (a : BagAt k at r) where
+        pub seeking-less : length k - (at + r .end) < length k - at
+        seeking-less = omega (arith, a .some, a .order, a .inside)
+
+        abbrev octets : List ℕ
+        octets = part k (at + r .body) (at + r .end)
+
+        abbrev asMember : MemberKeyBag
+        asMember = record { keys = wrapKeys place.MemberBag (attributesIn (placeOf (r .first)) octets) }
+
+        abbrev asGroup : GroupKeyBag
+        asGroup = record {
+          protocol = r .first;
+          spi = spiOf (drop at k);
+          keys = saKeys (inBag (r .first)) (attributesIn (placeOf (r .first)) octets);
+        }
+
+        abbrev others : List Bag
+        others = bagsIn (drop (at + r .end) k)
+
+        module _ (b : Bool) (f : b ≡ any (isNamed p x) (nameOf (r .first) (part k (at + 4) (at + r .body)))) where
+          its-name : any (isNamed p x) (nameOf (r .first) (spiOf (drop at k))) ≡ b
+          its-name = sym (f ∙ ap (λ (y : List ℕ). any (isNamed p x) (nameOf (r .first) y)) (a .spi))
+
+          pub seeking-no : b ≡ false → Seeking (at + r .end)
+          seeking-no e = record {
+            inside = a .inside;
+            rest = a .rest;
+            left = c .left ∙ ap named (a .item) ∙ skipped (eqb (r .first) 0) asMember asGroup others (its-name ∙ e);
+          }
+
+          module _ (e : b ≡ true) (o : count (bagNamed p x) (gather groupBagOf (bagsIn k)) ≡ 1) where
+            found : (eqb (r .first) 0 ≡ false) × (bagNamed p x asGroup ≡ true)
+                × (named (either (eqb (r .first) 0) (memberKeys asMember) (groupKeys asGroup) ∷ others) ≡ asGroup ∷ named others)
+            found = taken (eqb (r .first) 0) asMember asGroup others (its-name ∙ e)
+
+            alone : named (bagsIn k) ≡ asGroup ∷ []
+            alone =
+                let g : named (bagsIn k) ≡ asGroup ∷ named others = c .left ∙ ap named (a .item) ∙ found .2 in
+                let n = sym (ap length g) ∙ sym (count-kept (bagNamed p x) (gather groupBagOf (bagsIn k))) ∙ o in
+                g ∙ ap (λ (l : List GroupKeyBag). asGroup ∷ l) (only-one asGroup (named others) n)
+
+            protocol-is : r .first ≡ p
+            protocol-is = eqb-true (r .first) p (and-parts (eqb (r .first) p) (same (spiOf (drop at k)) x) (found .1) .0)
+
+            place-is : placeOf (r .first) ≡ inBag p
+            place-is = ap (λ (t : Bool). either t place.MemberBag (inBag (r .first))) (found .0) ∙ ap inBag protocol-is
+
+            pub seeking-yes : StretchIs k p x (record { start = at + r .body; end = at + r .end })
+            unfolding gather
+            seeking-yes = record {
+              keys = ap (gather (λ (y : GroupKeyBag). y .keys)) alone ∙ append-nil (asGroup .keys)
+                  ∙ (λ i. saKeys (inBag (protocol-is i)) (attributesIn (place-is i) octets));
+              held = (λ i. isWhole (attributes (sym place-is i) 0 octets)) ∙ a .held;
+              order = omega (arith, a .order);
+              inside = a .inside;
+            }

@@ -1,0 +1,24 @@
+-- Where the attributes of the Group Key Bag with a protocol and SPI stand in a KD body.
+use Prim.Native.Nat.{ℕ, zero, suc, _+_}
+use mathlib.Core.List.{List}
+use lib.ListN.{length, drop}
+use lib.Dec.{leb}
+use Rattle.octets.specs.Walk.{be16, either}
+use Rattle.state_keys.specs.Lists.{any}
+use Rattle.wire_policies.specs.Policy.{headSize}
+use Rattle.wire_readers.specs.declared.Stretch.{Stretch}
+use Rattle.wire_readers.specs.inner.Values.{nowhere}
+use Rattle.check_pairing.specs.inner.Names.{nameAt, isNamed}
+
+-- the first one among n bags at most that stand from `at` on, up to the end of the body: octets 2 and 3 of a bag count all its octets, its
+-- head's before the attributes
+unfoldable pub bagFrom : ℕ → ℕ → List ℕ → ℕ → List ℕ → Stretch
+bagFrom zero p x at k = nowhere
+bagFrom (suc n) p x at k =
+    let end = at + be16 (drop at k) 2 in
+    let later = bagFrom n p x end k in
+    either (leb (length k) at) nowhere
+    (either (any (isNamed p x) (nameAt (drop at k))) (record { start = at + headSize (drop at k); end = end }) later)
+
+abbrev pub bagOf : ℕ → List ℕ → List ℕ → Stretch
+bagOf p x k = bagFrom (length k) p x 0 k

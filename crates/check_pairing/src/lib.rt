@@ -1,0 +1,44 @@
+// Which policies, key bags and SAs of the table have one protocol and SPI, over the two bodies of a frame.
+pub mod names;
+pub mod stretch;
+
+ghost use mathlib.Core.Path.{_≡_};
+ghost use mathlib.Core.List.{List};
+ghost use Prim.Native.Nat.{_≤_};
+ghost use Rattle.state_keys.specs.Lists.{any};
+ghost use Rattle.state_keys.specs.Limits.{limits};
+ghost use Rattle.state_table.specs.Table.{sasOf};
+ghost use Rattle.check_pairing.specs.inner.Names.{Name, Names, isAnnounced};
+use state_sa::entry::Sa;
+use state_table::Table;
+
+// Whether this SA of the table is not due and has the name of a policy of the GSA body.
+fn is_announced(s: Sa, g: &[u8], tick: u32) -> bool
+    requires { ⌜ ((l : List Name) × Names (now g) l) ⌝ }
+    ensures { λ r. ⌜ ((l : List Name) → Names (now (g .entry)) l → r ≡ isAnnounced tick l s) ⌝ }
+{
+    if s.due(tick) {
+        return false;
+    }
+    let p = s.protocol;
+    let x = s.spi;
+    let n = state_sa::entry::spi_size(p);
+    0 < names::count_names(octets::wide(p), &x[0..n], g)
+}
+
+// Whether some SA of the table is not due and has the name of a policy of the GSA body. Internal.
+pub fn any_in_table(g: &[u8], t: Table, tick: u32) -> bool
+    requires { ⌜ ((l : List Name) × Names (now g) l) × (t .count ≤ limits .sas) ⌝ }
+    ensures { λ r. ⌜ ((l : List Name) → Names (now (g .entry)) l → r ≡ any (isAnnounced tick l) (sasOf t)) ⌝ }
+{
+    let n = t.count;
+    let mut i: usize = 0;
+    while i < n {
+        let s = t.sas[i];
+        if is_announced(s, g, tick) {
+            return true;
+        }
+        i += 1;
+    }
+    false
+}

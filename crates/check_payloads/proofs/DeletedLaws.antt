@@ -1,0 +1,113 @@
+-- Going through the Delete payloads of a frame.
+use Prim.Native.Nat.{ℕ, _+_}
+use mathlib.Core.Path.{_≡_, refl, ap, sym, _∙_, subst}
+use mathlib.Core.List.{List, [], _∷_, _++_}
+use mathlib.Core.Bool.{Bool, true, false, _||_}
+use native.Mathlib.Omega.{arith}
+use lib.ListN.{length, drop, length-append}
+use Rattle.octets.specs.Walk.{part, whole}
+use Rattle.state_keys.specs.Lists.{any}
+use Rattle.wire_frames.specs.Delete.{Delete, deleteOf, deleteFits}
+use Rattle.wire_frames.specs.Frame.{Content, gsa, kd, delete, unread, Payload, Frame, frame}
+use Rattle.wire_frames.specs.Grammar.{IsContent, is-gsa, is-kd, is-delete, is-unread}
+use Rattle.wire_frames.proofs.DeleteGrammar.{delete-from}
+use Rattle.wire_frames.proofs.FrameGrammar.{read-frame}
+use Rattle.wire_readers.specs.inner.Payloads.{payloadsIn}
+use Rattle.wire_readers.specs.declared.payload.PayloadParts.{PayloadParts}
+use Rattle.rules_refusals.specs.Contents.{gather, deletesIn, deletesOf}
+use Rattle.rules_refusals.proofs.OneOf.{or-false}
+use Rattle.check_payloads.specs.inner.Facts.{payloadsOf}
+use Rattle.check_payloads.specs.inner.Deletion.{ofOther, ofNone, spisIn, deletesAmong, deletesBy, withOne}
+use Rattle.check_payloads.specs.declared.deletion.Deletes.{Deletes}
+use Rattle.check_payloads.proofs.FrameLaws.{are-payloads}
+use Rattle.check_payloads.proofs.StepLaws.{Step, none-left}
+
+-- what was found and what the Delete payloads left hold make up all
+pub record Sums (d : Deletes) (l all : List Delete) : Type 0 where
+  pub other : (d .other || any ofOther l) ≡ any ofOther all
+  pub none : (d .none || any ofNone l) ≡ any ofNone all
+  pub spis : d .spis + length (spisIn l) ≡ length (spisIn all)
+
+pub sums-start : (all : List Delete) → Sums (record { other = false; none = false; spis = 0 }) all all
+sums-start all = record { other = refl; none = refl; spis = omega arith }
+
+moved : (a b c : Bool) → ((a || b) || c) ≡ (b || (a || c))
+moved true true c = refl
+moved true false c = refl
+moved false true c = refl
+moved false false c = refl
+
+sums-next : (d : Deletes) (x : Delete) (l all : List Delete) → Sums d (x ∷ l) all → Sums (withOne d x) l all
+unfolding any gather
+sums-next d x l all s = record {
+  other = moved (ofOther x) (d .other) (any ofOther l) ∙ s .other;
+  none = moved (ofNone x) (d .none) (any ofNone l) ∙ s .none;
+  spis = omega (arith, s .spis, length-append (x .spis) (spisIn l));
+}
+
+pub sums-all : (d : Deletes) (all : List Delete) → Sums d [] all → d ≡ deletesBy all
+unfolding any gather
+sums-all d all s =
+    let n : d .spis ≡ length (spisIn all) = omega (arith, s .spis) in
+    λ i. record {
+      other = (sym (or-false (d .other)) ∙ s .other) i;
+      none = (sym (or-false (d .none)) ∙ s .none) i;
+      spis = n i;
+    }
+
+-- THE DELETE PAYLOADS FROM A PAYLOAD ON
+in-delete : {k : ℕ} {o : List ℕ} (c : Content) → IsContent k o c → k ≡ 42 → (deleteFits o ≡ true) × (deletesIn c ≡ deleteOf o ∷ [])
+in-delete (gsa l) (is-gsa e f) q = absurd (omega (arith, e, q))
+in-delete (kd l) (is-kd e f) q = absurd (omega (arith, e, q))
+in-delete {o = o} (delete d) (is-delete e f) q = let g = delete-from o d f in (g .0, ap (λ (x : Delete). x ∷ []) (sym (g .1)))
+in-delete unread (is-unread a b c) q = absurd (c q)
+
+not-delete : {k : ℕ} {o : List ℕ} (c : Content) → IsContent k o c → (k ≡ 42 → ⊥) → deletesIn c ≡ []
+not-delete (gsa l) (is-gsa e f) q = refl
+not-delete (kd l) (is-kd e f) q = refl
+not-delete (delete d) (is-delete e f) q = absurd (q e)
+not-delete unread (is-unread a b c) q = refl
+
+module _ (k : ℕ) (s : List ℕ) (at : ℕ) (r : PayloadParts) (g : Step k s at r) where
+  next-list : deletesAmong (payloadsIn k (drop at s))
+      ≡ deletesIn (g .one .content) ++ deletesAmong (payloadsIn (r .next) (drop (at + r .end) s))
+  unfolding gather
+  next-list = ap deletesAmong (g .item)
+
+  pub fits-here : k ≡ 42 → deleteFits (part s (at + 4) (at + r .end)) ≡ true
+  fits-here e = in-delete (g .one .content) (g .is) e .0
+
+  pub delete-here : k ≡ 42
+      → deletesAmong (payloadsIn k (drop at s))
+      ≡ deleteOf (part s (at + 4) (at + r .end)) ∷ deletesAmong (payloadsIn (r .next) (drop (at + r .end) s))
+  delete-here h =
+      next-list ∙ ap (λ (x : List Delete). x ++ deletesAmong (payloadsIn (r .next) (drop (at + r .end) s)))
+      (in-delete (g .one .content) (g .is) h .1)
+
+  pub delete-later : (k ≡ 42 → ⊥) → deletesAmong (payloadsIn k (drop at s)) ≡ deletesAmong (payloadsIn (r .next) (drop (at + r .end) s))
+  delete-later h =
+      next-list ∙ ap (λ (x : List Delete). x ++ deletesAmong (payloadsIn (r .next) (drop (at + r .end) s)))
+      (not-delete (g .one .content) (g .is) h)
+
+  pub sums-here : (d e : Deletes) (all : List Delete) → k ≡ 42 → e ≡ withOne d (deleteOf (part s (at + 4) (at + r .end)))
+      → Sums d (deletesAmong (payloadsIn k (drop at s))) all → Sums e (deletesAmong (payloadsIn (r .next) (drop (at + r .end) s))) all
+  sums-here d e all h q u =
+      let o = part s (at + 4) (at + r .end) in
+      let left = deletesAmong (payloadsIn (r .next) (drop (at + r .end) s)) in
+      subst (λ (x : Deletes). Sums x left all) (sym q)
+      (sums-next d (deleteOf o) left all (subst (λ (x : List Delete). Sums d x all) (delete-here h) u))
+
+  pub sums-later : (d : Deletes) (all : List Delete) → (k ≡ 42 → ⊥) → Sums d (deletesAmong (payloadsIn k (drop at s))) all
+      → Sums d (deletesAmong (payloadsIn (r .next) (drop (at + r .end) s))) all
+  sums-later d all h u = subst (λ (x : List Delete). Sums d x all) (delete-later h) u
+
+pub delete-none : (s : List ℕ) (k : ℕ) → k ≡ 0 → deletesAmong (payloadsIn k s) ≡ []
+unfolding gather
+delete-none s k e = ap deletesAmong (none-left s k e)
+
+pub sums-last : (s : List ℕ) (k : ℕ) (d : Deletes) (all : List Delete) → k ≡ 0 → Sums d (deletesAmong (payloadsIn k s)) all → Sums d [] all
+sums-last s k d all e u = subst (λ (l : List Delete). Sums d l all) (delete-none s k e) u
+
+-- THE FRAME'S
+pub among-frame : (s : List ℕ) (f : Frame) → frame s ≡ whole f [] → deletesAmong (payloadsOf s) ≡ deletesOf f
+among-frame s f q = ap deletesAmong (sym (are-payloads s f (read-frame s f [] q)))

@@ -1,0 +1,58 @@
+-- Delete payloads of a frame whose layout is whole, for the readers that go through them again.
+use Prim.Native.Nat.{ℕ, _+_, _*_, _<_, _≤_}
+use mathlib.Core.Path.{_≡_}
+use mathlib.Core.List.{List}
+use mathlib.Core.Bool.{Bool, true, not, cond, _||_}
+use lib.ListN.{length, drop}
+use lib.Dec.{eqb}
+use Rattle.octets.specs.Numbers.{oct}
+use Rattle.state_keys.specs.Lists.{any}
+use Rattle.wire_frames.specs.Delete.{Delete, deleteOf}
+use Rattle.wire_frames.specs.Frame.{Payload, payloads, exactly}
+use Rattle.wire_readers.specs.inner.Values.{isWhole}
+use Rattle.wire_readers.specs.inner.Payloads.{payloadsIn}
+use Rattle.rules_refusals.specs.Contents.{gather, deletesIn}
+use Rattle.state_sa.specs.Entry.{esp}
+use Rattle.check_payloads.specs.declared.deletion.DeleteParts.{DeleteParts}
+use Rattle.check_payloads.specs.declared.deletion.Deletes.{Deletes}
+
+pub record DeleteIs (o : List ℕ) (r : DeleteParts) : Type 0 where
+  pub protocol : r .protocol ≡ deleteOf o .protocol
+  pub size : r .size ≡ oct o 1
+  pub count : r .count ≡ length (deleteOf o .spis)
+  pub few : r .count < 65536
+  pub filled : 4 + r .size * r .count ≡ length o
+
+-- ---- what number 5 and number 7 ask of Delete payloads
+abbrev pub ofOther : Delete → Bool
+ofOther d = not (eqb (d .protocol) esp)
+
+abbrev pub ofNone : Delete → Bool
+ofNone d = eqb (length (d .spis)) 0
+
+abbrev pub spisIn : List Delete → List (List ℕ)
+spisIn l = gather (λ (d : Delete). d .spis) l
+
+abbrev pub deletesAmong : List Payload → List Delete
+deletesAmong l = gather (λ (p : Payload). deletesIn (p .content)) l
+
+abbrev pub deletesBy : List Delete → Deletes
+deletesBy l = record { other = any ofOther l; none = any ofNone l; spis = length (spisIn l) }
+
+-- the Delete payloads from a place on, where one stands, are these
+pub record DeletesFrom (s : List ℕ) (l : List Delete) (at : ℕ) : Type 0 where
+  pub inside : at ≤ length s
+  pub rest : isWhole (exactly (payloads 42 0 (drop at s))) ≡ true
+  pub all : deletesAmong (payloadsIn 42 (drop at s)) ≡ l
+
+-- ---- one payload after the other
+abbrev pub withOne : Deletes → Delete → Deletes
+withOne d x = record {
+  other = not (eqb (x .protocol) esp) || d .other;
+  none = eqb (length (x .spis)) 0 || d .none;
+  spis = d .spis + length (x .spis);
+}
+
+-- with a payload more of a type and with this body
+abbrev pub deletesWith : Deletes → ℕ → List ℕ → Deletes
+deletesWith d kind o = cond (eqb kind 42) (withOne d (deleteOf o)) d

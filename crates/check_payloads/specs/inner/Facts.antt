@@ -1,0 +1,83 @@
+-- The facts of the payloads of a frame whose layout is whole. Each is what a clause of numbers 4, 5 and 7 asks of them, or where the
+-- first payload of a type stands.
+use Prim.Native.Nat.{ℕ, _+_, _<_, _≤_}
+use mathlib.Core.Path.{_≡_}
+use mathlib.Core.List.{List}
+use mathlib.Core.Bool.{Bool, true, false, not, cond, _&&_, _||_}
+use lib.ListN.{drop}
+use lib.Dec.{eqb}
+use Rattle.state_keys.specs.Lists.{any, count}
+use Rattle.wire_frames.specs.Header.{firstPayload}
+use Rattle.wire_frames.specs.Delete.{deleteFits}
+use Rattle.wire_frames.specs.Frame.{Payload, isKnown}
+use Rattle.wire_readers.specs.inner.Payloads.{payloadsIn}
+use Rattle.wire_readers.specs.declared.Stretch.{Stretch}
+use Rattle.rules_refusals.specs.Number4.{unknownCritical}
+use Rattle.check_payloads.specs.declared.PayloadFacts.{PayloadFacts}
+use Rattle.check_payloads.specs.inner.Places.{bodyOf}
+use Rattle.wire_readers.specs.inner.Values.{nowhere, once}
+use Rattle.check_payloads.specs.inner.Deletion.{deletesAmong, deletesBy, deletesWith}
+
+-- the payloads that the octets of a frame are
+abbrev pub payloadsOf : List ℕ → List Payload
+payloadsOf s = payloadsIn (firstPayload s) (drop 28 s)
+
+abbrev pub ofKind : ℕ → Payload → Bool
+ofKind k p = eqb (p .kind) k
+
+-- THE FACTS OF THE PAYLOADS OF THIS FRAME: of GSA, KD and D how many there are and where the first one's body stands
+abbrev pub factsOf : List ℕ → PayloadFacts
+factsOf s = record {
+  gsas = count (ofKind 51) (payloadsOf s);
+  kds = count (ofKind 52) (payloadsOf s);
+  deletes = count (ofKind 42) (payloadsOf s);
+  gsa = bodyOf 51 s;
+  kd = bodyOf 52 s;
+  delete = bodyOf 42 s;
+  critical = any unknownCritical (payloadsOf s);
+  deletion = deletesBy (deletesAmong (payloadsOf s));
+}
+
+-- ---- one payload after the other
+abbrev pub noPayloads : PayloadFacts
+noPayloads = record {
+  gsas = 0;
+  kds = 0;
+  deletes = 0;
+  gsa = nowhere;
+  kd = nowhere;
+  delete = nowhere;
+  critical = false;
+  deletion = record { other = false; none = false; spis = 0 };
+}
+
+-- the first place: this one, where it is one and there was none before it
+abbrev pub firstWith : Bool → ℕ → Stretch → Stretch → Stretch
+firstWith hit before this known = cond (hit && eqb before 0) this known
+
+-- with one payload more: its type, whether it is critical, where its body stands, and the body o
+abbrev pub withPayload : PayloadFacts → ℕ → Bool → Stretch → List ℕ → PayloadFacts
+withPayload b kind critical place o = record {
+  gsas = b .gsas + once (eqb kind 51);
+  kds = b .kds + once (eqb kind 52);
+  deletes = b .deletes + once (eqb kind 42);
+  gsa = firstWith (eqb kind 51) (b .gsas) place (b .gsa);
+  kd = firstWith (eqb kind 52) (b .kds) place (b .kd);
+  delete = firstWith (eqb kind 42) (b .deletes) place (b .delete);
+  critical = b .critical || (critical && not (isKnown kind));
+  deletion = deletesWith (b .deletion) kind o;
+}
+
+-- the counts can grow, and by how much they do
+pub record Room (kind : ℕ) (o : List ℕ) (b : PayloadFacts) : Type 0 where
+  pub gsas : b .gsas < 4294967296
+  pub kds : b .kds < 4294967296
+  pub deletes : b .deletes < 4294967296
+  pub spis : b .deletion .spis < 4294967296
+  pub fits : kind ≡ 42 → deleteFits o ≡ true
+
+pub record Grown (b r : PayloadFacts) : Type 0 where
+  pub gsas : r .gsas ≤ b .gsas + 1
+  pub kds : r .kds ≤ b .kds + 1
+  pub deletes : r .deletes ≤ b .deletes + 1
+  pub spis : r .deletion .spis < b .deletion .spis + 65536

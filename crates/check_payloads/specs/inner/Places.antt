@@ -1,0 +1,23 @@
+-- Where the body of the first payload of a type stands in a frame whose layout is whole.
+use Prim.Native.Nat.{ℕ, zero, suc, _+_}
+use mathlib.Core.List.{List}
+use lib.ListN.{length, drop}
+use lib.Dec.{eqb}
+use Rattle.octets.specs.Numbers.{oct}
+use Rattle.octets.specs.Walk.{be16, either}
+use Rattle.wire_frames.specs.Header.{firstPayload}
+use Rattle.wire_readers.specs.declared.Stretch.{Stretch}
+use Rattle.wire_readers.specs.inner.Values.{nowhere}
+
+-- among n payloads at most, which stand from `at` on and of which the first is of type k: "Next Payload" names the type of the next one,
+-- "Payload Length" counts all octets of this one, 4 of them before its body (RFC 7296, section 3.2); the type 0 ends them
+unfoldable pub bodyFrom : ℕ → ℕ → ℕ → ℕ → List ℕ → Stretch
+bodyFrom zero w k at s = nowhere
+bodyFrom (suc n) w k at s =
+    let end = at + be16 (drop at s) 2 in
+    let later = bodyFrom n w (oct (drop at s) 0) end s in
+    either (eqb k 0) nowhere (either (eqb k w) (record { start = at + 4; end = end }) later)
+
+-- in the frame, whose payloads stand after the 28 octets of its header
+abbrev pub bodyOf : ℕ → List ℕ → Stretch
+bodyOf w s = bodyFrom (length s) w (firstPayload s) 28 s

@@ -1,0 +1,31 @@
+// Payloads by their type, which the payload before them names, or the header.
+ghost use mathlib.Core.Path.{_≡_};
+ghost use Rattle.wire_frames.specs.Frame.{isKnown};
+ghost use Rattle.check_payloads.specs.inner.Facts.{firstWith};
+use wire_readers::Stretch;
+
+// Whether payloads of a type are known: IDr, CERT, AUTH, N, D, GSA, KD. Internal.
+pub fn is_known(kind: usize) -> bool
+    ensures { λ r. ⌜ r ≡ isKnown kind ⌝ }
+{
+    match kind {
+        36 => true,
+        37 => true,
+        39 => true,
+        41 => true,
+        42 => true,
+        51 => true,
+        52 => true,
+        _ => false,
+    }
+}
+
+// Where the first payload of a type stands: at this place, where it is one and there was none before it. Internal.
+pub fn first(hit: bool, before: usize, this: Stretch, known: Stretch) -> Stretch
+    ensures { λ r. ⌜ r ≡ firstWith hit before this known ⌝ }
+{
+    if hit & (before == 0) {
+        return this;
+    }
+    known
+}

@@ -1,0 +1,108 @@
+// The facts of the payloads of a frame whose layout is whole, in one walk.
+pub mod deletion;
+pub mod kinds;
+
+ghost use mathlib.Core.Path.{_≡_};
+ghost use mathlib.Core.Bool.{true};
+ghost use Rattle.wire_frames.specs.Frame.{frame};
+ghost use Rattle.wire_readers.specs.inner.Values.{isWhole};
+ghost use Rattle.check_payloads.specs.inner.Facts.{factsOf, noPayloads, withPayload, Room, Grown};
+use deletion::Deletes;
+use kinds::first;
+use kinds::is_known;
+use wire_readers::Stretch;
+use wire_readers::one_if;
+use wire_readers::payload::DELETE;
+use wire_readers::payload::GSA;
+use wire_readers::payload::KD;
+use wire_readers::payload::payload_parts;
+
+// What the payloads of a frame are.
+pub struct PayloadFacts {
+    // how many GSA, KD and D
+    pub gsas: usize,
+    pub kds: usize,
+    pub deletes: usize,
+    // where the body of the first of each stands; where there is none, the stretch is empty
+    pub gsa: Stretch,
+    pub kd: Stretch,
+    pub delete: Stretch,
+    // a payload of an unknown type is critical
+    pub critical: bool,
+    // what the D payloads say
+    pub deletion: Deletes,
+}
+
+// Those of no payload.
+fn no_payloads() -> PayloadFacts
+    ensures { λ r. ⌜ r ≡ noPayloads ⌝ }
+{
+    PayloadFacts {
+        gsas: 0,
+        kds: 0,
+        deletes: 0,
+        gsa: Stretch { start: 0, end: 0 },
+        kd: Stretch { start: 0, end: 0 },
+        delete: Stretch { start: 0, end: 0 },
+        critical: false,
+        deletion: Deletes {
+            other: false,
+            none: false,
+            spis: 0,
+        },
+    }
+}
+
+// The same with one payload more: its type, whether it is critical, where its body stands, and the body o.
+fn with_payload(
+    b: PayloadFacts,
+    kind: usize,
+    critical: bool,
+    place: Stretch,
+    o: &[u8],
+) -> PayloadFacts
+    requires { ⌜ Room kind (now o) b ⌝ }
+    ensures { λ r. ⌜ (r ≡ withPayload b kind critical place (now (o .entry))) × Grown b r ⌝ }
+{
+    let g = b.gsa;
+    let k = b.kd;
+    let x = b.delete;
+    let d = b.deletion;
+    let gsa = first(kind == GSA, b.gsas, place, g);
+    let kd = first(kind == KD, b.kds, place, k);
+    let delete = first(kind == DELETE, b.deletes, place, x);
+    let deletion = deletion::with_payload(d, kind, o);
+    let known = is_known(kind);
+    let gsas = b.gsas + one_if(kind == GSA);
+    let kds = b.kds + one_if(kind == KD);
+    let deletes = b.deletes + one_if(kind == DELETE);
+    PayloadFacts {
+        gsas,
+        kds,
+        deletes,
+        gsa,
+        kd,
+        delete,
+        critical: b.critical | (critical & !known),
+        deletion,
+    }
+}
+
+// The facts of the payloads of a frame. Internal.
+pub fn payload_facts(s: &[u8]) -> PayloadFacts
+    requires { ⌜ isWhole (frame (now s)) ≡ true ⌝ }
+    ensures { λ r. ⌜ r ≡ factsOf (now (s .entry)) ⌝ }
+{
+    let mut b = no_payloads();
+    let mut kind = octets::wide(s[16]);
+    let mut at = 28;
+    while kind != 0 {
+        let p = payload_parts(kind, &s[at..]);
+        let start = at + 4;
+        let end = at + p.end;
+        b = with_payload(b, kind, p.critical, Stretch { start, end }, &s[start..end]);
+        kind = p.next;
+        at = end;
+    }
+    b
+}

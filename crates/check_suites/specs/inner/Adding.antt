@@ -1,0 +1,22 @@
+-- Counts of transforms added up one transform after the other.
+use Prim.Native.Nat.{ℕ, _+_, _≤_}
+use Rattle.check_suites.specs.declared.counts.Suite.{Suite}
+pub use Rattle.wire_readers.specs.inner.Values.{once}
+
+abbrev pub plus : Suite → Suite → Suite
+plus x y = record {
+  count = x .count + y .count;
+  encryption = x .encryption + y .encryption;
+  wrapping = x .wrapping + y .wrapping;
+  sequence = x .sequence + y .sequence;
+  authentication = x .authentication + y .authentication;
+  doubled = x .doubled + y .doubled;
+}
+
+pub record AtMost (n : ℕ) (x : Suite) : Type 0 where
+  pub count : x .count ≤ n
+  pub encryption : x .encryption ≤ n
+  pub wrapping : x .wrapping ≤ n
+  pub sequence : x .sequence ≤ n
+  pub authentication : x .authentication ≤ n
+  pub doubled : x .doubled ≤ n

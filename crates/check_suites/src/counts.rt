@@ -1,0 +1,130 @@
+// What transforms come to, one transform and several.
+ghost use mathlib.Core.Path.{_≡_};
+ghost use mathlib.Core.Bool.{true, _&&_, _||_};
+ghost use mathlib.Core.List.{[], _∷_};
+ghost use Prim.Native.Nat.{ℕ, _<_};
+ghost use lib.ListN.{length};
+ghost use lib.Dec.{eqb};
+ghost use Rattle.wire_attributes.specs.Place.{inTransform};
+ghost use Rattle.wire_attributes.specs.Layout.{attributes};
+ghost use Rattle.wire_readers.specs.inner.Values.{isWhole};
+ghost use Rattle.check_suites.specs.inner.Suites.{suiteOf, fitBy};
+ghost use Rattle.check_suites.specs.inner.Octets.{transformIn};
+ghost use Rattle.check_suites.specs.inner.Adding.{plus, AtMost};
+use wire_attributes::tables::Meaning;
+use wire_readers::one_if;
+use wire_readers::policy::ESP;
+use wire_readers::policy::REKEY;
+
+// How many transforms there are; how many are fit for encryption, key wrap, sequence numbers and the controller's authentication; how many
+// have several Key Lengths.
+pub struct Suite {
+    pub count: usize,
+    pub encryption: usize,
+    pub wrapping: usize,
+    pub sequence: usize,
+    pub authentication: usize,
+    pub doubled: usize,
+}
+
+// The keying octets that transforms need for encryption and for key wrap.
+pub struct Needs {
+    pub encryption: usize,
+    pub wrapping: usize,
+}
+
+// A type of transforms, and two of its IDs.
+pub struct EitherId {
+    pub kind: usize,
+    pub one: usize,
+    pub other: usize,
+}
+
+// Whether a transform has the type and one of the two IDs.
+fn is_one_of(kind: usize, id: usize, w: EitherId) -> bool
+    ensures { λ r. ⌜ r ≡ (eqb kind (w .kind) && (eqb id (w .one) || eqb id (w .other))) ⌝ }
+{
+    if kind == w.kind {
+        if id == w.one {
+            return true;
+        }
+        return id == w.other;
+    }
+    false
+}
+
+// What one transform comes to. Internal.
+pub fn one_transform(kind: usize, id: usize, a: &[u8]) -> Suite
+    requires { ⌜ (id < 65536) × (isWhole (attributes (inTransform kind) 0 (now a)) ≡ true) × (length (now a) < 4294967296) ⌝ }
+    ensures { λ r. ⌜ r ≡ suiteOf (transformIn kind id (now (a .entry)) ∷ []) ⌝ }
+{
+    let e = crate::rows::encryption_octets(kind, id, a);
+    let w = crate::rows::wrapping_octets(kind, id);
+    let n = wire_readers::values::count_of(
+        Meaning::KeyLength,
+        wire_attributes::tables::in_transform(kind),
+        a,
+    );
+    let sequence = EitherId {
+        kind: 5,
+        one: 0,
+        other: 2,
+    };
+    let authentication = EitherId {
+        kind: 14,
+        one: 1,
+        other: 2,
+    };
+    Suite {
+        count: 1,
+        encryption: one_if(0 < e),
+        wrapping: one_if(0 < w),
+        sequence: one_if(is_one_of(kind, id, sequence)),
+        authentication: one_if(is_one_of(kind, id, authentication)),
+        doubled: one_if(1 < n),
+    }
+}
+
+impl Suite {
+    // What no transform comes to. Internal.
+    pub fn none() -> Suite
+        ensures { λ r. ⌜ r ≡ suiteOf [] ⌝ }
+    {
+        Suite {
+            count: 0,
+            encryption: 0,
+            wrapping: 0,
+            sequence: 0,
+            authentication: 0,
+            doubled: 0,
+        }
+    }
+
+    // Both together, the second that of one transform. Internal.
+    pub fn plus(self, x: Suite) -> Suite
+        requires { ⌜ ((n : ℕ) × (n < 18446744073709551615) × AtMost n self × AtMost 1 x) ⌝ }
+        ensures { λ r. ⌜ r ≡ plus self x ⌝ }
+    {
+        Suite {
+            count: self.count + x.count,
+            encryption: self.encryption + x.encryption,
+            wrapping: self.wrapping + x.wrapping,
+            sequence: self.sequence + x.sequence,
+            authentication: self.authentication + x.authentication,
+            doubled: self.doubled + x.doubled,
+        }
+    }
+
+    // Whether a policy of a protocol has these transforms: ESP encryption and sequence numbers, a Rekey policy encryption, key wrap and, if
+    // the exchange asks for it, authentication; each once and no other. Internal.
+    pub fn is_fit(self, authentication: bool, protocol: usize) -> bool
+        ensures { λ r. ⌜ r ≡ fitBy authentication protocol self ⌝ }
+    {
+        let esp = (self.count == 2) & ((self.encryption == 1) & (self.sequence == 1));
+        let keys = (self.encryption == 1) & (self.wrapping == 1);
+        let alone = (self.count == 2) & keys;
+        let signed = (self.count == 3) & (keys & (self.authentication == 1));
+        ((protocol == ESP) & esp)
+            | ((protocol == REKEY) & ((authentication & signed) | (!authentication & alone)))
+    }
+}

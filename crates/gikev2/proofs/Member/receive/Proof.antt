@@ -1,0 +1,45 @@
+use denote.Ref.{now}
+use Rattle.gikev2.proofs.ReceiveLaws.{whole-tree, no-tree, receives-broken, receives-tree}
+use borrow.Author.Needs.{needs}
+use Rattle.gikev2.proofs.Member.receive.Statement.{statement}
+use Rattle.gikev2.proofs.Member.receive.Tie as tie
+
+frame-layout-requires : tie.Need-frame-layout-requires
+frame-layout-requires c κs = search needs
+
+enum-told : tie.Need-enum-told
+enum-told c = search needs
+
+judged-requires : tie.Need-judged-requires
+judged-requires c κs =
+    let r = c .before .before .frame-layout in
+    whole-tree (now (c .before .before .before .before .before .args .frame)) (r .result) (r .ensures .layout) (c .enum-told .given .1)
+
+enum-known-at : tie.Need-enum-known-at
+enum-known-at c = search needs
+
+refused-requires : tie.Need-refused-requires
+refused-requires c κs = search needs
+
+returns : tie.Need-returns
+returns c =
+    let a = c .before .before .before .before .before .before .args in
+    let r = c .before .before .before .frame-layout in
+    let t = whole-tree (now (a .frame)) (r .result) (r .ensures .layout) (c .before .enum-told .given .1) in
+    receives-tree (a .self) (a .tick) (now (a .lent)) (now (a .frame)) (t .0) (t .1) (c .judged .result .answer) (c .judged .result .member)
+    (c .judged .ensures (t .0) (t .1))
+
+returns-2 : tie.Need-returns-2
+returns-2 c =
+    let a = c .before .before .before .before .before .before .before .args in
+    let r = c .before .before .before .before .frame-layout in
+    let told = c .before .before .at .given in
+    let x = c .refused .result in
+    let e = c .refused .ensures in
+    receives-broken (a .self) (a .tick) (now (a .lent)) (now (a .frame)) (told .0 .0)
+    (no-tree (now (a .frame)) (r .result) (r .ensures .layout) (told .0 .0) (told .1)) (x .answer) (x .member) (e .0) (e .1)
+
+pub receive-spec : {M : Type 1} → statement M
+receive-spec =
+    tie.close
+    (tie.spec frame-layout-requires enum-told judged-requires enum-known-at refused-requires returns returns-2)

@@ -1,0 +1,60 @@
+-- The calls on a member. "Registering, rekeying, sweeping and leaving each take the member as it was and give back the next."
+use Prim.Native.Nat.{ℕ}
+use mathlib.Core.Bool.{true, false, cond}
+use mathlib.Core.List.{List, []}
+use lib.Dec.{eqb}
+use lib.ListN.{take}
+use Rattle.state_keys.specs.Limits.{limits}
+use Rattle.state_keys.specs.Kinds.{padded}
+use Rattle.state_sa.specs.Entry.{rekey}
+use Rattle.state_sa.specs.declared.entry.Sa.{Sa}
+use Rattle.state_sa.specs.declared.entry.Condition.the-variants.{Live}
+use Rattle.state_sa.specs.declared.entry.Lifetime.the-variants.{Unlimited}
+use Rattle.state_table.specs.declared.Found.{Found}
+use Rattle.state.specs.State.{newState, sweptState, askedSa}
+use Rattle.gikev2.specs.declared.Member.{Member}
+use Rattle.gikev2.specs.declared.SaAnswer.{SaAnswer}
+
+-- "A new member has no SA, no held key and least Message ID 0."
+unfoldable pub newMember : Member
+newMember = record { state = newState limits }
+
+-- "Sweeping removes exactly those due."
+unfoldable pub sweptMember : ℕ → Member → Member
+sweptMember now m = record { state = sweptState limits now (m .state) }
+
+-- "Leaving gives the new member."
+unfoldable pub leftMember : Member → Member
+leftMember m = newMember
+
+-- "the keying octets and condition of the SA with a given protocol and SPI, or none": the SA's own octets, with blanks behind them, and the
+-- octet counts of the two parts of a Rekey SA; its lifetime and the tick of its start: "the question about an SA gives them too" (document
+-- 02, T-07)
+unfoldable pub answerOf : Sa → SaAnswer
+answerOf s =
+    record {
+      found = true;
+      octets = padded 68 (take (s .count) (s .octets));
+      count = s .count;
+      encryption = cond (eqb (s .protocol) rekey) (s .encryption) 0;
+      wrapping = cond (eqb (s .protocol) rekey) (s .wrapping) 0;
+      condition = s .condition;
+      lifetime = s .lifetime;
+    }
+
+abbrev pub noAnswer : SaAnswer
+noAnswer = record {
+  found = false;
+  octets = padded 68 [];
+  count = 0;
+  encryption = 0;
+  wrapping = 0;
+  condition = Live;
+  lifetime = Unlimited;
+}
+
+unfoldable pub answered : Found → SaAnswer
+answered f = cond (f .found) (answerOf (f .sa)) noAnswer
+
+unfoldable pub saAnswer : ℕ → List ℕ → Member → SaAnswer
+saAnswer p x m = answered (askedSa limits p x (m .state))

@@ -1,0 +1,104 @@
+// A group member: what a customer of the library holds.
+pub mod call;
+
+ghost use mathlib.Core.Path.{_≡_};
+ghost use Rattle.gikev2.specs.Member.{newMember, sweptMember, leftMember, answerOf, saAnswer};
+use state::State;
+use state_sa::entry::Condition;
+use state_sa::entry::Lifetime;
+use state_sa::entry::REKEY;
+use state_sa::entry::Sa;
+
+pub struct Member {
+    pub state: State,
+}
+
+// The answer to the question about an SA: whether the member has it and, if so, its keying octets, the octet counts of their two parts
+// (of a Rekey SA), its condition and its lifetime. All else is blank.
+pub struct SaAnswer {
+    pub found: bool,
+    pub octets: [u8; 68],
+    pub count: usize,
+    pub encryption: usize,
+    pub wrapping: usize,
+    pub condition: Condition,
+    pub lifetime: Lifetime,
+}
+
+// The answer where the member has the SA.
+fn answer(s: Sa) -> SaAnswer
+    ensures { λ r. ⌜ r ≡ answerOf s ⌝ }
+{
+    let count = s.count;
+    let mut n = count;
+    if 68 < n {
+        n = 68;
+    }
+    let o = s.octets;
+    let mut octets = [0u8; 68];
+    bytes::copy(&o[0..n], &mut octets);
+    let mut encryption: usize = 0;
+    let mut wrapping: usize = 0;
+    if s.protocol == REKEY {
+        encryption = s.encryption;
+        wrapping = s.wrapping;
+    }
+    let condition = s.condition;
+    let lifetime = s.lifetime;
+    SaAnswer {
+        found: true,
+        octets,
+        count,
+        encryption,
+        wrapping,
+        condition,
+        lifetime,
+    }
+}
+
+impl Member {
+    // A new member: no SA, no held key, least Message ID 0.
+    pub fn new() -> Member
+        ensures { λ r. ⌜ r ≡ newMember ⌝ }
+    {
+        let state = State::new();
+        Member { state }
+    }
+
+    // The member without the SAs that are due at the tick. One that breaks its list stays as it is.
+    pub fn sweep(self, tick: u32) -> Member
+        ensures { λ r. ⌜ r ≡ sweptMember tick self ⌝ }
+    {
+        let s = self.state;
+        let state = s.swept(tick);
+        Member { state }
+    }
+
+    // Leaving gives the new member, whatever the member was.
+    pub fn leave(self) -> Member
+        ensures { λ r. ⌜ r ≡ leftMember self ⌝ }
+    {
+        Member::new()
+    }
+
+    // The keying octets, condition and lifetime of the SA with this protocol and SPI, or none.
+    pub fn sa(self, protocol: u8, spi: &[u8]) -> SaAnswer
+        ensures { λ r. ⌜ r ≡ saAnswer protocol (now (spi .entry)) self ⌝ }
+    {
+        let s = self.state;
+        let f = s.find(protocol, spi);
+        if f.found {
+            let a = f.sa;
+            return answer(a);
+        }
+        SaAnswer {
+            found: false,
+            octets: [0u8; 68],
+            count: 0,
+            encryption: 0,
+            wrapping: 0,
+            condition: Condition::Live,
+            lifetime: Lifetime::Unlimited,
+        }
+    }
+}

@@ -1,0 +1,93 @@
+-- The bodies of the GSA and the KD of a frame that numbers 2 to 7 let pass: what the readers of them ask for.
+use native.Mathlib.Omega.{arith}
+use Prim.Native.Nat.{ℕ, _≤_}
+use mathlib.Core.Path.{_≡_, ap, sym, subst, _∙_}
+use mathlib.Core.Bool.{false, false≢true}
+use mathlib.Core.List.{List}
+use borrow.Author.Tests.{eq-eqb}
+use lib.Dec.{eqb}
+use lib.ListN.{length, getD}
+use Rattle.state_keys.specs.Limits.{limits}
+use Rattle.state_keys.specs.Lists.{any}
+use Rattle.wire_attributes.specs.Tree.{WrapKey}
+use Rattle.wire_frames.specs.Frame.{Frame}
+use Rattle.wire_frames.specs.declared.exchanges.Exchange.{Exchange}
+use Rattle.state.specs.declared.State.{State}
+use Rattle.wire_readers.specs.inner.Policies.{policiesIn}
+use Rattle.check_payloads.specs.declared.PayloadFacts.{PayloadFacts}
+use Rattle.check_payloads.proofs.FoundLaws.{OfFrame, HoldsPolicies, HoldsBags, facts-of}
+use Rattle.check_composition.specs.inner.Facts.{factsOf as policyFacts}
+use Rattle.check_judging.specs.declared.facts.Facts.{Facts}
+use Rattle.check_judging.specs.inner.Facts.{at}
+use Rattle.rules_refusals.specs.Contents.{rowOf, policiesOf, wrapKeysOf}
+use Rattle.rules_refusals.specs.Number6.{wrapKeyId}
+use Rattle.rules_chains.specs.Chain.{In}
+use Rattle.rules_chains.proofs.Members.{in-member}
+use Rattle.rules_outcome.proofs.RunsLists.{none-passes}
+use Rattle.unwrap_search.specs.inner.Entries.{noKey}
+use Rattle.unwrap_search.specs.inner.Search.{Nonzero}
+use Rattle.unwrap_search.proofs.Statuses.{getD-any}
+use Rattle.unwrap_tree.specs.inner.Reached.{wrapKeysAmong, wrapKeysIn}
+use Rattle.unwrap_sas.specs.inner.Keyed.{Ready}
+use Rattle.receive.specs.inner.Passing.{Passed, Bodied, Bagged}
+use Rattle.receive.proofs.ClauseLaws.{one-gsa, one-kd, lengths-once, lifetimes-once, transforms-fit, all-paired}
+use Rattle.receive.proofs.ClauseLaws.{no-zero, few-entries, few-sas}
+
+nonzero-of : (l : List WrapKey) → any (λ (k : WrapKey). eqb (k .keyId) 0) l ≡ false → Nonzero l
+nonzero-of l e i h z =
+    let k = getD l i noKey in
+    let m : In k l = record { place = i; inside = h; is = getD-any l i k noKey h } in
+    false≢true (sym (none-passes (λ (x : WrapKey). eqb (x .keyId) 0) l e k (in-member k l m)) ∙ eq-eqb (k .keyId) 0 z)
+
+-- the facts, and where the bodies stand
+module _ (m : State) (now : ℕ) (lent s : List ℕ) (x : Facts) (f : Frame) (p : Passed m now lent s x f) where
+  pub of-frame : OfFrame s f (x .payloads)
+  of-frame = facts-of s (x .payloads) (ap (λ (y : Facts). y .payloads) (p .facts)) f (p .whole-is)
+
+  pub holds-policies : HoldsPolicies (at s (x .payloads .gsa)) f
+  holds-policies = of-frame .policies (omega (arith, of-frame .gsas, one-gsa m now lent f (p .clauses)))
+
+  pub holds-bags : HoldsBags (at s (x .payloads .kd)) f
+  holds-bags = of-frame .bags (omega (arith, of-frame .kds, one-kd m now lent f (p .clauses)))
+
+  pub policies-are : x .policies ≡ policyFacts (rowOf f .authentication) (policiesOf f)
+  policies-are =
+      let e = ap (λ (y : Facts). y .payloads) (p .facts) in
+      ap (λ (y : Facts). y .policies) (p .facts)
+      ∙ ap (λ (y : PayloadFacts). policyFacts (rowOf f .authentication) (policiesIn (at s (y .gsa)))) (sym e)
+      ∙ ap (policyFacts (rowOf f .authentication)) (holds-policies .all)
+
+  pub bodied : Bodied m now lent s x (at s (x .payloads .gsa)) (at s (x .payloads .kd)) f
+  bodied = record { passed = p; policies = sym (holds-policies .all); bags = sym (holds-bags .all) }
+
+module _ {m : State} {now : ℕ} {lent s : List ℕ} {x : Facts} {g k : List ℕ} {f : Frame}
+    (b : Bodied m now lent s x g k f) where
+  pub ready : Ready f g k
+  ready =
+      let q = b .passed .clauses in
+      record {
+        policies = b .policies;
+        bags = b .bags;
+        lengths = lengths-once m now lent f q;
+        lifetimes = lifetimes-once m now lent f q;
+        transforms = transforms-fit m now lent f q;
+        paired = all-paired m now lent f q;
+        room = omega (arith, few-sas m now lent f q);
+      }
+
+  pub bagged : (e : Exchange) → rowOf f ≡ e → Bagged e m now lent k f
+  bagged e r = record { clauses = b .passed .clauses; row = r; bags = b .bags }
+
+module _ {e : Exchange} {m : State} {now : ℕ} {lent k : List ℕ} {f : Frame} (b : Bagged e m now lent k f) where
+  pub entries-are : wrapKeysIn k ≡ wrapKeysOf f
+  entries-are = ap wrapKeysAmong (sym (b .bags))
+
+  pub entries-few : length (wrapKeysIn k) ≤ limits .wrapKeys
+  entries-few = subst (λ (l : List WrapKey). length l ≤ limits .wrapKeys) (sym entries-are) (few-entries m now lent f (b .clauses))
+
+  pub entries-nonzero : Nonzero (wrapKeysIn k)
+  unfolding wrapKeyId
+  entries-nonzero =
+      nonzero-of (wrapKeysIn k)
+      (subst (λ (l : List WrapKey). any (λ (x : WrapKey). eqb (x .keyId) 0) l ≡ false) (sym entries-are)
+      (no-zero m now lent f (b .clauses)))

@@ -1,0 +1,188 @@
+-- What is known of a frame to which none of numbers 2 to 7 applies.
+use native.Mathlib.Omega.{arith}
+use Prim.Native.Nat.{ℕ, suc, _+_, _≤_}
+use mathlib.Core.Path.{_≡_, refl, ap, sym}
+use mathlib.Core.Bool.{Bool, true, false, not, cond, _&&_, false≢true}
+use mathlib.Core.List.{List, [], _∷_}
+use borrow.Author.Tests.{ltb-false}
+use lib.ListN.{length, getD}
+use Rattle.state_keys.specs.Limits.{limits}
+use Rattle.state_keys.specs.Lists.{any, count}
+use Rattle.state_keys.specs.Algorithms.{sizeOf}
+use Rattle.wire_policies.specs.Policy.{GroupSaPolicy, GroupWidePolicy}
+use Rattle.wire_bags.specs.Bag.{MemberKeyBag}
+use Rattle.wire_frames.specs.Frame.{Frame}
+use Rattle.wire_frames.specs.Exchange.{rekey, inband}
+use Rattle.wire_frames.specs.declared.exchanges.KeyZero.{KeyZero}
+use Rattle.wire_frames.specs.declared.exchanges.KeyZero.the-variants as keyZero
+use Rattle.state.specs.declared.State.{State}
+use Rattle.state.specs.State.{stateFormed}
+use Rattle.rules_refusals.specs.Contents.{rowOf, gather, some, several, hasGsa, hasKd, announced, groupWides, memberBags, wrapKeysOf}
+use Rattle.rules_refusals.specs.Fitness.{isRekey}
+use Rattle.rules_refusals.specs.Number2.{standing, overLiveRekey, otherSpis}
+use Rattle.rules_refusals.specs.Number4.{four-ofFrame, barredMemberBag, twoGsa, twoKd, severalRekeyPolicies, severalGroupWide, keyLengthTwice}
+use Rattle.rules_refusals.specs.Number4.{initialMessageIdTwice, delayTwice, lifetimeTwice}
+use Rattle.rules_refusals.specs.Number5.{five-ofFrame, otherTransforms, lentKeySize}
+use Rattle.rules_refusals.specs.Number6.{six-ofFrame, policyUnpaired, wrapKeyId}
+use Rattle.rules_refusals.specs.Number7.{seven-ofFrame, seven-ofMember, manyWrapKeys, manySas}
+use Rattle.rules_refusals.specs.Refusals.{Number, one, applies, judged, two, three, four, five, six, seven, refusal}
+use Rattle.rules_refusals.proofs.Clear.{or-none, no-clause}
+use Rattle.rules_refusals.proofs.ExchangeRows.{by-row}
+use Rattle.rules_outcome.proofs.RunsClear.{None}
+use Rattle.receive.specs.inner.Passing.{RekeysOver, RekeysInband}
+
+-- ---- the numbers, one after the other
+none-by : (n : Number) (l : List Number) (k : ℕ) → n .number ≡ suc k → (b : Bool) → applies n ≡ b →
+    cond b (n .number) (judged l) ≡ 0 → None n × (judged l ≡ 0)
+none-by n l k h true e g = absurd (omega arith)
+none-by n l k h false e g =
+    let p = or-none (one (n .ofFrame)) (one (n .ofMember)) e in (record { ofFrame = p .0; ofMember = p .1 }, g)
+
+none-first : (n : Number) (l : List Number) (k : ℕ) → n .number ≡ suc k → judged (n ∷ l) ≡ 0 → None n × (judged l ≡ 0)
+unfolding judged
+none-first n l k h e = none-by n l k h (applies n) refl e
+
+-- key 0 is the lent key or the Rekey SA's
+lent-or-own : keyZero.Lent ≡ keyZero.RekeySa → ⊥
+lent-or-own e = false≢true (ap is-own e)
+  where
+    is-own : KeyZero → Bool
+    is-own keyZero.Lent = false
+    is-own keyZero.RekeySa = true
+
+module _ (m : State) (now : ℕ) (lent : List ℕ) (f : Frame) (e : refusal limits m now lent f ≡ 0) where
+  from-2 : None (two limits m now (f .header .exchange) (f .header .spi))
+      × (judged (three m (f .header .exchange) (f .header .messageId) ∷ four f ∷ five lent f ∷ six m now f ∷ seven limits m now f ∷ []) ≡ 0)
+  unfolding refusal
+  from-2 = none-first (two limits m now (f .header .exchange) (f .header .spi)) _ 1 refl e
+
+  from-3 : None (three m (f .header .exchange) (f .header .messageId))
+      × (judged (four f ∷ five lent f ∷ six m now f ∷ seven limits m now f ∷ []) ≡ 0)
+  from-3 = none-first (three m (f .header .exchange) (f .header .messageId)) _ 2 refl (from-2 .1)
+
+  from-4 : None (four f) × (judged (five lent f ∷ six m now f ∷ seven limits m now f ∷ []) ≡ 0)
+  from-4 = none-first (four f) _ 3 refl (from-3 .1)
+
+  from-5 : None (five lent f) × (judged (six m now f ∷ seven limits m now f ∷ []) ≡ 0)
+  from-5 = none-first (five lent f) _ 4 refl (from-4 .1)
+
+  from-6 : None (six m now f) × (judged (seven limits m now f ∷ []) ≡ 0)
+  from-6 = none-first (six m now f) _ 5 refl (from-5 .1)
+
+  from-7 : None (seven limits m now f)
+  from-7 = none-first (seven limits m now f) [] 6 refl (from-6 .1) .0
+
+  -- ---- number 2
+  not-not : (b : Bool) → not b ≡ false → b ≡ true
+  not-not true g = refl
+  not-not false g = absurd (false≢true (sym g))
+
+  pub state-formed : stateFormed limits m ≡ true
+  state-formed =
+      not-not (stateFormed limits m)
+      (no-clause (two limits m now (f .header .exchange) (f .header .spi) .ofMember) 2 (from-2 .0 .ofMember))
+
+  pub admitted : rowOf f .admitted ≡ true
+  admitted =
+      not-not (rowOf f .admitted)
+      (no-clause (two limits m now (f .header .exchange) (f .header .spi) .ofFrame) 0 (from-2 .0 .ofFrame))
+
+  -- an exchange whose key 0 is the Rekey SA's is a rekey over it; one that is taken, keeps the held list and has the lent key as key 0 is
+  -- a rekey over the member's own channel
+  pub is-rekey : RekeysOver f → rowOf f ≡ rekey
+  is-rekey z =
+      by-row (rowOf f ≡ rekey) (f .header .exchange) (λ q r. absurd (lent-or-own (rw r at z))) (λ q r. r)
+      (λ q r. absurd (lent-or-own (rw r at z))) (λ r. absurd (lent-or-own (rw r at z)))
+
+  pub is-inband : RekeysInband f → rowOf f ≡ inband
+  is-inband w =
+      let a = admitted in
+      let k = w .keeps in
+      let z = w .zero in
+      by-row (rowOf f ≡ inband) (f .header .exchange) (λ q r. absurd (false≢true (sym (rw r at k))))
+      (λ q r. absurd (lent-or-own (sym (rw r at z)))) (λ q r. r) (λ r. absurd (false≢true (rw r at a)))
+
+  pub over-live : rowOf f ≡ rekey → any (overLiveRekey (f .header .spi)) (standing now m) ≡ true
+  unfolding otherSpis
+  over-live r =
+      let q = no-clause (two limits m now (f .header .exchange) (f .header .spi) .ofMember) 1 (from-2 .0 .ofMember) in
+      not-not (any (overLiveRekey (f .header .spi)) (standing now m)) (rw r at q)
+
+  -- ---- number 4
+  pub no-4 : (k : ℕ) → getD (four-ofFrame f) k false ≡ false
+  no-4 k = no-clause (four-ofFrame f) k (from-4 .0 .ofFrame)
+
+  pub one-gsa : count hasGsa (f .payloads) ≤ 1
+  unfolding four-ofFrame twoGsa
+  one-gsa = ltb-false 1 (count hasGsa (f .payloads)) (no-4 3)
+
+  pub one-kd : count hasKd (f .payloads) ≤ 1
+  unfolding four-ofFrame twoKd
+  one-kd = ltb-false 1 (count hasKd (f .payloads)) (no-4 4)
+
+  pub wides-once : several (groupWides f) ≡ false
+  unfolding four-ofFrame severalGroupWide
+  wides-once = no-4 9
+
+  pub delays-once : any (λ (w : GroupWidePolicy). several (w .deactivationDelays)) (groupWides f) ≡ false
+  unfolding four-ofFrame delayTwice
+  delays-once = no-4 14
+
+  pub rekeys-few : count isRekey (announced f) ≤ 1
+  unfolding four-ofFrame severalRekeyPolicies
+  rekeys-few = ltb-false 1 (count isRekey (announced f)) (no-4 8)
+
+  pub ids-once : any (λ (a : GroupSaPolicy). several (a .initialMessageIds)) (announced f) ≡ false
+  unfolding four-ofFrame initialMessageIdTwice
+  ids-once = no-4 13
+
+  pub lengths-once : keyLengthTwice f ≡ false
+  unfolding four-ofFrame
+  lengths-once = no-4 12
+
+  pub lifetimes-once : lifetimeTwice f ≡ false
+  unfolding four-ofFrame
+  lifetimes-once = no-4 16
+
+  none-of : {A : Type 0} (l : List A) → some l ≡ false → l ≡ []
+  none-of [] q = refl
+  none-of (a ∷ l) q = let h = ltb-false 0 (suc (length l)) q in absurd (omega arith)
+
+  pub no-entry : rowOf f .«allows_member_bag» ≡ false → wrapKeysOf f ≡ []
+  unfolding four-ofFrame barredMemberBag gather
+  no-entry r =
+      let n = no-4 1 in
+      let q : some (memberBags f) ≡ false = rw r at n in
+      ap (gather (λ (b : MemberKeyBag). b .keys)) (none-of (memberBags f) q)
+
+  -- ---- number 5
+  pub no-5 : (k : ℕ) → getD (five-ofFrame lent f) k false ≡ false
+  no-5 k = no-clause (five-ofFrame lent f) k (from-5 .0 .ofFrame)
+
+  pub transforms-fit : otherTransforms f ≡ false
+  unfolding five-ofFrame
+  transforms-fit = no-5 2
+
+  pub lent-fits : rowOf f .«judges_lent_key» ≡ true → sizeOf 13 (length lent) ≡ true
+  unfolding five-ofFrame lentKeySize
+  lent-fits r = let n = no-5 5 in not-not (sizeOf 13 (length lent)) (rw r at n)
+
+  -- ---- number 6
+  pub all-paired : policyUnpaired f ≡ false
+  unfolding six-ofFrame
+  all-paired = no-clause (six-ofFrame f) 0 (from-6 .0 .ofFrame)
+
+  pub no-zero : wrapKeyId f ≡ false
+  unfolding six-ofFrame
+  no-zero = no-clause (six-ofFrame f) 7 (from-6 .0 .ofFrame)
+
+  -- ---- number 7
+  pub few-entries : length (wrapKeysOf f) ≤ limits .wrapKeys
+  unfolding seven-ofFrame manyWrapKeys
+  few-entries = ltb-false (limits .wrapKeys) (length (wrapKeysOf f)) (no-clause (seven-ofFrame limits f) 1 (from-7 .ofFrame))
+
+  pub few-sas : length (standing now m) + length (announced f) ≤ limits .sas
+  unfolding seven-ofMember manySas
+  few-sas =
+      ltb-false (limits .sas) (length (standing now m) + length (announced f))
+      (no-clause (seven-ofMember limits m now f) 0 (from-7 .ofMember))

@@ -1,0 +1,152 @@
+-- What the keys of a frame that numbers 2 to 7 let pass make of it: number 8, number 9, or the state after acceptance.
+use native.Mathlib.Omega.{arith}
+use Prim.Native.Nat.{ℕ, _+_, _≤_}
+use mathlib.Core.Path.{_≡_, refl, ap, sym, subst, _∙_}
+use mathlib.Core.Bool.{true}
+use mathlib.Core.List.{List, []}
+use lib.ListN.{length, take}
+use Rattle.octets.specs.Numbers.{oct}
+use Rattle.octets.specs.Walk.{whole}
+use Rattle.state_keys.specs.Limits.{limits}
+use Rattle.state_keys.proofs.Cases.{and-parts}
+use Rattle.wire_frames.specs.Frame.{Frame, frame}
+use Rattle.wire_frames.specs.Exchange.{exchangeOf}
+use Rattle.wire_frames.specs.declared.exchanges.Exchange.{Exchange}
+use Rattle.wire_frames.proofs.FrameGrammar.{read-frame}
+use Rattle.state_table.specs.Table.{tableFormed}
+use Rattle.state_table.proofs.Kept.{formed-count}
+use Rattle.state.specs.State.{stateFormed}
+use Rattle.state.specs.Held.{heldFormed}
+use Rattle.rules_refusals.specs.Number2.{standing}
+use Rattle.state_sa.specs.declared.entry.Sa.{Sa}
+use Rattle.state.specs.declared.State.{State}
+use Rattle.state.specs.declared.held.Held.{Held}
+use Rattle.rules_refusals.specs.Contents.{rowOf, announced}
+use Rattle.rules_refusals.specs.Refusals.{refusal}
+use Rattle.rules_chains.specs.Chain.{Root}
+use Rattle.rules_chains.specs.Refusals.{EntriesEight, CopiesEight, of-entries, of-copies}
+use Rattle.rules_outcome.specs.Roots.{rootsOf, entriesOf, wrappingSize, announcedAs, announcedKeys}
+use Rattle.rules_outcome.specs.Answer.{EightOf, NineOf}
+use Rattle.rules_outcome.specs.After.{Enter, HeldAre, HeldBy}
+use Rattle.rules_outcome.specs.Outcome.{Judged, refused, accepted}
+use Rattle.rules_outcome.proofs.Answering.{answers-8, answers-9, answers-0}
+use Rattle.rules_outcome.proofs.Accepting.{nine-policy, policy-nine}
+use Rattle.rules_outcome.proofs.Enters.{each-enters}
+use Rattle.rules_outcome.proofs.Members.{in-map, map-in}
+use Rattle.apply.specs.inner.Following.{Follows}
+use Rattle.check_judging.specs.declared.facts.Facts.{Facts}
+use Rattle.unwrap_sas.specs.inner.Keyed.{SomeEight, NoEight, SomeUnopened, KeysOf}
+use Rattle.unwrap_sas.specs.declared.joining.Keyed.{Keyed}
+use Rattle.unwrap_sas.specs.declared.joining.Found.{Found}
+use Rattle.unwrap_sas.specs.declared.joining.Found.the-variants as found
+use Rattle.receive.specs.inner.Passing.{Opened}
+use Rattle.receive.proofs.ClauseLaws.{few-sas}
+
+module _ (m : State) (now : ℕ) (lent : List ℕ) (f : Frame) (e : refusal limits m now lent f ≡ 0) where
+  abbrev roots : List Root
+  roots = rootsOf limits m now lent f
+
+  abbrev size : ℕ
+  size = wrappingSize limits m now lent f
+
+  -- number 8 of the entries
+  pub entries-eight : EntriesEight (rootsOf limits m now lent f) (entriesOf f) (wrappingSize limits m now lent f) →
+      Judged limits m now lent f 8 m
+  entries-eight x = refused 7 (answers-8 limits m now lent f e (of-entries x))
+
+  pub copies-eight : SomeEight (rootsOf limits m now lent f) (entriesOf f) (wrappingSize limits m now lent f) f (announced f) →
+      Judged limits m now lent f 8 m
+  unfolding announcedKeys
+  copies-eight x =
+      let a = announcedAs f (x .sa) in
+      refused 7
+      (answers-8 limits m now lent f e
+      (of-copies a (map-in (announcedAs f) a (announced f) (x .sa) (x .stands) refl) (x .eight)))
+
+  module _ (none : EntriesEight (rootsOf limits m now lent f) (entriesOf f) (wrappingSize limits m now lent f) → ⊥)
+      (fit : NoEight (rootsOf limits m now lent f) (entriesOf f) (wrappingSize limits m now lent f) f (announced f)) where
+    no-eight : EightOf limits m now lent f → ⊥
+    unfolding announcedKeys
+    no-eight (of-entries x) = none x
+    no-eight (of-copies a i x) =
+        let r = in-map (announcedAs f) a (announced f) i in
+        fit (r .item) (r .stands) (subst (CopiesEight roots (entriesOf f) size) (r .is) x)
+
+    pub unopened : SomeUnopened (rootsOf limits m now lent f) (entriesOf f) (wrappingSize limits m now lent f) f (announced f) →
+        Judged limits m now lent f 9 m
+    unopened x =
+        refused 8
+        (answers-9 limits m now lent f e no-eight
+        (policy-nine limits m now lent f (x .sa) (x .stands) (λ o. x .none (o .0) (o .1))))
+
+    pub opened : (new : List Sa) (held : Held) (next : State) →
+        Enter (rootsOf limits m now lent f) (entriesOf f) (wrappingSize limits m now lent f) now f (announced f) new →
+        HeldBy (rowOf f .registers) (HeldAre (rootsOf limits m now lent f) (entriesOf f) (wrappingSize limits m now lent f) limits held)
+        (held ≡ m .held) → Follows m now f new held next → Judged limits m now lent f 0 next
+    opened new held next enter h follows =
+        let all-open : NineOf limits m now lent f → ⊥ = λ n.
+        let p = nine-policy limits m now lent f n in
+        let r = each-enters roots (entriesOf f) size now f (announced f) new enter (p .0) (p .1) in
+        p .2 (r .octets, r .key .opens) in
+        accepted next (answers-0 limits m now lent f e no-eight all-open)
+        (record {
+          new = new;
+          enter = enter;
+          table = follows .table;
+          held = subst (λ (x : Held).
+              HeldBy (rowOf f .registers) (HeldAre roots (entriesOf f) size limits x) (x ≡ m .held)) (sym (follows .held-is)) h;
+          least = follows .least;
+        })
+
+-- ---- the header's fields that acceptance reads
+pub row-is : (s : List ℕ) (f : Frame) (x : ℕ) (r : Exchange) → frame s ≡ whole f [] → x ≡ oct s 18 → r ≡ exchangeOf x → rowOf f ≡ r
+row-is s f x r w e g = ap exchangeOf (sym (read-frame s f [] w .exchange) ∙ sym e) ∙ sym g
+
+-- ---- a state that is formed
+module _ (m : State) (e : stateFormed limits m ≡ true) where
+  parts : (tableFormed limits (m .table) ≡ true) × (heldFormed limits (m .held) ≡ true)
+  unfolding stateFormed
+  parts = and-parts (tableFormed limits (m .table)) (heldFormed limits (m .held)) e
+
+  pub table-fits : m .table .count ≤ limits .sas
+  table-fits = formed-count limits (m .table) (parts .0)
+
+  pub table-is : tableFormed limits (m .table) ≡ true
+  table-is = parts .0
+
+  pub held-fits : heldFormed limits (m .held) ≡ true
+  held-fits = parts .1
+
+-- ---- by what is known of the keys
+module _ (m : State) (now : ℕ) (lent s : List ℕ) (x : Facts) (keyed : Keyed) (held : Held) (f : Frame)
+    (o : Opened m now lent s x keyed held f) where
+  keys-by : (y : Found) → keyed .found ≡ y →
+      KeysOf (rootsOf limits m now lent f) (entriesOf f) (wrappingSize limits m now lent f) f (announced f) now y (keyed .sas)
+      (keyed .count)
+  keys-by y e =
+      subst
+      (λ (z : Found).
+      KeysOf (rootsOf limits m now lent f) (entriesOf f) (wrappingSize limits m now lent f) f (announced f) now z (keyed .sas)
+      (keyed .count))
+      e (o .keys)
+
+  pub by-eight : keyed .found ≡ found.Eight → Judged limits m now lent f 8 m
+  by-eight e = copies-eight m now lent f (o .passed .clauses) (keys-by found.Eight e)
+
+  pub by-nine : keyed .found ≡ found.Nine → Judged limits m now lent f 9 m
+  by-nine e =
+      let k = keys-by found.Nine e in
+      unopened m now lent f (o .passed .clauses) (o .entries) (k .0) (k .1)
+
+  module _ (e : keyed .found ≡ found.Keys) where
+    pub by-keys : (next : State) → Follows m now f (take (keyed .count) (keyed .sas)) held next → Judged limits m now lent f 0 next
+    by-keys next follows =
+        let k = keys-by found.Keys e in
+        let new = take (keyed .count) (keyed .sas) in
+        opened m now lent f (o .passed .clauses) (o .entries) (k .0) new held next (k .1) (o .held-is) follows
+
+    pub room-is : length (standing now m) + keyed .count ≤ limits .sas
+    room-is =
+        let k = keys-by found.Keys e in
+        let n = few-sas m now lent f (o .passed .clauses) in
+        omega (arith, k .2)

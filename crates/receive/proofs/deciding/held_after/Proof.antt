@@ -1,0 +1,13 @@
+use mathlib.Core.Path.{ap, sym}
+use mathlib.Core.Bool.{Bool, cond}
+use Rattle.receive.proofs.deciding.held_after.Statement.{statement}
+use Rattle.receive.proofs.deciding.held_after.Tie as tie
+
+returns : tie.Need-returns
+returns c = let a = c .before .args in ap (λ (b : Bool). cond b (a .reached) (a .before)) (sym (c .if1 .taken))
+
+returns-2 : tie.Need-returns-2
+returns-2 c = let a = c .before .args in ap (λ (b : Bool). cond b (a .reached) (a .before)) (sym (c .if1 .left))
+
+pub held-after-spec : {M : Type 1} → statement M
+held-after-spec = tie.close (tie.spec returns returns-2)

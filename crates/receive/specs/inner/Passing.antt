@@ -1,0 +1,68 @@
+-- A frame that numbers 2 to 7 let pass, and what its keys come to.
+use Prim.Native.Nat.{ℕ}
+use mathlib.Core.Path.{_≡_}
+use mathlib.Core.Bool.{true, false}
+use mathlib.Core.List.{List, []}
+use Rattle.octets.specs.Walk.{whole}
+use Rattle.state_keys.specs.Limits.{limits}
+use Rattle.state_keys.specs.Algorithms.{sizeOf}
+use Rattle.state_keys.specs.declared.kinds.WrappingKey.{WrappingKey}
+use Rattle.wire_frames.specs.Frame.{Frame, frame}
+use Rattle.wire_frames.specs.declared.exchanges.Exchange.{Exchange}
+use Rattle.wire_frames.specs.declared.exchanges.KeyZero.the-variants as keyZero
+use Rattle.state_table.specs.Table.{defaultKey}
+use Rattle.state_table.specs.declared.Table.{Table}
+use Rattle.state.specs.declared.State.{State}
+use Rattle.state.specs.declared.held.Held.{Held}
+use Rattle.wire_readers.specs.inner.Policies.{policiesIn}
+use Rattle.wire_readers.specs.inner.Bags.{bagsIn}
+use Rattle.rules_refusals.specs.Contents.{rowOf, policiesOf, bagsOf}
+use Rattle.rules_refusals.specs.Refusals.{refusal}
+use Rattle.rules_chains.specs.Refusals.{EntriesEight}
+use Rattle.rules_outcome.specs.Roots.{rootsOf, entriesOf, wrappingSize}
+use Rattle.rules_outcome.specs.After.{HeldAre, HeldBy}
+use Rattle.check_judging.specs.inner.Facts.{factsOf}
+use Rattle.check_judging.specs.declared.facts.Facts.{Facts}
+use Rattle.unwrap_sas.specs.inner.Keyed.{KeyedBy}
+use Rattle.unwrap_sas.specs.declared.joining.Keyed.{Keyed}
+
+-- s is the frame f, none of numbers 2 to 7 applies to it, and these are its facts
+pub record Passed (m : State) (now : ℕ) (lent s : List ℕ) (x : Facts) (f : Frame) : Type 0 where
+  pub whole-is : frame s ≡ whole f []
+  pub clauses : refusal limits m now lent f ≡ 0
+  pub facts : x ≡ factsOf (rowOf f .authentication) s
+
+-- a rekey over the Rekey SA: its exchange has the live Rekey SA's default key as key 0
+abbrev pub RekeysOver : Frame → Type 0
+RekeysOver f = rowOf f .zero ≡ keyZero.RekeySa
+
+-- a rekey over the member's own channel: key 0 is the lent key, and the held list stays
+pub record RekeysInband (f : Frame) : Type 0 where
+  pub keeps : rowOf f .registers ≡ false
+  pub zero : rowOf f .zero ≡ keyZero.Lent
+
+-- its policies and its bags are those of these bodies
+pub record Bodied (m : State) (now : ℕ) (lent s : List ℕ) (x : Facts) (g k : List ℕ) (f : Frame) : Type 0 where
+  pub passed : Passed m now lent s x f
+  pub policies : policiesOf f ≡ policiesIn g
+  pub bags : bagsOf f ≡ bagsIn k
+
+-- none of numbers 2 to 7 applies to the frame, its exchange has this row, and its bags are those of this body
+pub record Bagged (e : Exchange) (m : State) (now : ℕ) (lent k : List ℕ) (f : Frame) : Type 0 where
+  pub clauses : refusal limits m now lent f ≡ 0
+  pub row : rowOf f ≡ e
+  pub bags : bagsOf f ≡ bagsIn k
+
+-- number 8 does not hold of its entries; this is known of the keys of its SAs; this is the held list afterwards
+pub record Opened (m : State) (now : ℕ) (lent s : List ℕ) (x : Facts) (keyed : Keyed) (held : Held) (f : Frame) : Type 0 where
+  pub passed : Passed m now lent s x f
+  pub entries : EntriesEight (rootsOf limits m now lent f) (entriesOf f) (wrappingSize limits m now lent f) → ⊥
+  pub keys : KeyedBy (rootsOf limits m now lent f) (entriesOf f) (wrappingSize limits m now lent f) f now keyed
+  pub held-is :
+      HeldBy (rowOf f .registers) (HeldAre (rootsOf limits m now lent f) (entriesOf f) (wrappingSize limits m now lent f) limits held)
+      (held ≡ m .held)
+
+-- the default key of the table's live Rekey SA, of a size that a wrapping key has
+pub record IsDefaultKey (t : Table) (r : WrappingKey) : Type 0 where
+  pub is : r ≡ defaultKey limits t .key
+  pub fits : sizeOf 13 (r .count) ≡ true

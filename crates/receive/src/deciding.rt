@@ -1,0 +1,61 @@
+// A frame that numbers 2 to 7 let pass, of any exchange: its keys are opened and its outcome found in one place.
+use crate::Next;
+use crate::concluded;
+use crate::roots::roots;
+use crate::row_of;
+use check_judging::facts::Facts;
+use state::State;
+use state::held::Held;
+ghost use mathlib.Core.Path.{_≡_};
+ghost use mathlib.Core.Bool.{true, cond};
+ghost use Rattle.state_keys.specs.Limits.{limits};
+ghost use Rattle.wire_policies.specs.Policy.{policies};
+ghost use Rattle.wire_bags.specs.Bag.{bags};
+ghost use Rattle.wire_frames.specs.Frame.{Frame};
+ghost use Rattle.wire_readers.specs.inner.Values.{isWhole};
+ghost use Rattle.rules_outcome.specs.Outcome.{Judged};
+ghost use Rattle.receive.specs.inner.Passing.{Passed, Bodied};
+
+// The held list afterwards: the keys that a registration reached, else the list of before.
+fn held_after(registers: bool, reached: Held, before: Held) -> Held
+    ensures { λ r. ⌜ r ≡ cond registers reached before ⌝ }
+{
+    if registers {
+        return reached;
+    }
+    before
+}
+
+// The outcome, by the bodies of the frame's GSA and its KD.
+fn by_bodies(state: State, s: &[u8], x: Facts, g: &[u8], k: &[u8], lent: &[u8], tick: u32) -> Next
+    requires { ⌜ (isWhole (policies 0 (now g)) ≡ true) × (isWhole (bags 0 (now k)) ≡ true) ⌝ }
+    requires { ⌜ ((f : Frame) × Bodied state tick (now lent) (now s) x (now g) (now k) f) ⌝ }
+    ensures { λ r. ⌜ ((f : Frame) →
+        Bodied state tick (now (lent .entry)) (now (s .entry)) x (now (g .entry)) (now (k .entry)) f →
+        Judged limits state tick (now (lent .entry)) f (r .number) (r .state)) ⌝ }
+{
+    let row = row_of(s);
+    let r = roots(state, row, k, lent, tick);
+    if r.eight {
+        return Next { number: 8, state };
+    }
+    let keyed = unwrap_sas::keyed(g, k, r.zero, r.opens, tick);
+    let held = held_after(row.registers, r.opens, state.held);
+    concluded(state, s, x, tick, keyed, held)
+}
+
+// The outcome of a frame with these facts and lent octets. Internal.
+pub fn decided(state: State, s: &[u8], x: Facts, lent: &[u8], tick: u32) -> Next
+    requires { ⌜ ((f : Frame) × Passed state tick (now lent) (now s) x f) ⌝ }
+    ensures { λ r. ⌜ ((f : Frame) → Passed state tick (now (lent .entry)) (now (s .entry)) x f →
+        Judged limits state tick (now (lent .entry)) f (r .number) (r .state)) ⌝ }
+{
+    let b = x.payloads;
+    let gsa = b.gsa;
+    let kd = b.kd;
+    let a = gsa.start;
+    let e = gsa.end;
+    let i = kd.start;
+    let j = kd.end;
+    by_bodies(state, s, x, &s[a..e], &s[i..j], lent, tick)
+}

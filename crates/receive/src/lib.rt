@@ -1,0 +1,62 @@
+// A frame that numbers 2 to 7 let pass: number 8, number 9, or the state after acceptance.
+pub mod deciding;
+pub mod roots;
+pub mod said;
+pub mod zero;
+
+use apply::next::next;
+use check_judging::facts::Facts;
+use state::State;
+use state::held::Held;
+use unwrap_sas::joining::Found;
+use unwrap_sas::joining::Keyed;
+use wire_frames::exchanges::Exchange;
+use wire_frames::exchanges::exchange_of;
+ghost use mathlib.Core.Path.{_≡_};
+ghost use mathlib.Core.Bool.{true};
+ghost use mathlib.Core.List.{List, []};
+ghost use Prim.Native.Nat.{ℕ};
+ghost use Rattle.octets.specs.Walk.{whole};
+ghost use Rattle.state_keys.specs.Limits.{limits};
+ghost use Rattle.wire_frames.specs.Frame.{Frame, frame};
+ghost use Rattle.wire_readers.specs.inner.Values.{isWhole};
+ghost use Rattle.rules_refusals.specs.Contents.{rowOf};
+ghost use Rattle.rules_outcome.specs.Outcome.{Judged};
+ghost use Rattle.receive.specs.inner.Passing.{Opened};
+
+// The answer's number and the next state.
+pub struct Next {
+    pub number: usize,
+    pub state: State,
+}
+
+// What the exchange of a frame makes different. Internal.
+pub fn row_of(s: &[u8]) -> Exchange
+    requires { ⌜ isWhole (frame (now s)) ≡ true ⌝ }
+    ensures { λ r. ⌜ ((f : Frame) → frame (now (s .entry)) ≡ whole f [] → rowOf f ≡ r) ⌝ }
+{
+    exchange_of(octets::wide(s[18]))
+}
+
+// The outcome of a frame with these facts, once its keys are opened: this is known of its SAs, and this is the held list afterwards.
+// Internal.
+pub fn concluded(state: State, s: &[u8], x: Facts, tick: u32, keyed: Keyed, held: Held) -> Next
+    requires { ⌜ ((f : Frame) × (lent : List ℕ) × Opened state tick lent (now s) x keyed held f) ⌝ }
+    ensures { λ r. ⌜ ((f : Frame) (lent : List ℕ) → Opened state tick lent (now (s .entry)) x keyed held f →
+        Judged limits state tick lent f (r .number) (r .state)) ⌝ }
+{
+    let found = keyed.found;
+    match found {
+        Found::Eight => Next { number: 8, state },
+        Found::Nine => Next { number: 9, state },
+        Found::Keys => {
+            let said = said::said(row_of(s), s, x);
+            let sas = keyed.sas;
+            let after = next(state, s, tick, said, sas, keyed.count, held);
+            Next {
+                number: 0,
+                state: after,
+            }
+        }
+    }
+}

@@ -1,0 +1,92 @@
+// The keys that a KWK ID of a frame can name, by the frame's exchange.
+use crate::zero::default_key;
+use state::State;
+use state::held::Held;
+use state_keys::kinds::WrappingKey;
+use wire_frames::exchanges::Exchange;
+use wire_frames::exchanges::KeyZero;
+ghost use mathlib.Core.Path.{_≡_};
+ghost use mathlib.Core.Bool.{true};
+ghost use mathlib.Core.List.{List};
+ghost use Prim.Native.Nat.{ℕ};
+ghost use Rattle.wire_bags.specs.Bag.{bags};
+ghost use Rattle.wire_frames.specs.Frame.{Frame};
+ghost use Rattle.wire_frames.specs.Exchange.{registration, rekey, inband};
+ghost use Rattle.state.specs.declared.State.{State};
+ghost use Rattle.wire_readers.specs.inner.Values.{isWhole};
+ghost use Rattle.receive.specs.inner.Passing.{Bagged};
+ghost use Rattle.receive.specs.inner.Rooted.{Rooted};
+
+// Whether number 8 holds of the frame's entries; where it does not, key 0 and the other keys that a KWK ID can name.
+pub struct StartingKeys {
+    pub eight: bool,
+    pub zero: WrappingKey,
+    pub opens: Held,
+}
+
+// Those of a registration: the lent key is key 0, and the others are reached from it.
+fn reached_from(k: &[u8], lent: &[u8]) -> StartingKeys
+    requires { ⌜ isWhole (bags 0 (now k)) ≡ true ⌝ }
+    requires { ⌜ ((m : State) × (tick : ℕ) × (f : Frame) × Bagged registration m tick (now lent) (now k) f) ⌝ }
+    ensures { λ r. ⌜ ((m : State) (tick : ℕ) (f : Frame) → Bagged registration m tick (now (lent .entry)) (now (k .entry)) f →
+        Rooted m tick (now (lent .entry)) r f) ⌝ }
+{
+    let made = WrappingKey::new(lent);
+    let zero = made.key;
+    let found = unwrap_tree::reached(k, zero);
+    let opens = found.held;
+    StartingKeys {
+        eight: found.eight,
+        zero,
+        opens,
+    }
+}
+
+// Those of a rekey over the member's own channel (document 02, T-02): the lent key is key 0, and there is no other.
+fn lent_alone(lent: &[u8]) -> StartingKeys
+    requires { ⌜ ((m : State) × (tick : ℕ) × (k : List ℕ) × (f : Frame) × Bagged inband m tick (now lent) k f) ⌝ }
+    ensures { λ r. ⌜ ((m : State) (tick : ℕ) (k : List ℕ) (f : Frame) → Bagged inband m tick (now (lent .entry)) k f →
+        Rooted m tick (now (lent .entry)) r f) ⌝ }
+{
+    let made = WrappingKey::new(lent);
+    let zero = made.key;
+    let opens = Held::new();
+    StartingKeys {
+        eight: false,
+        zero,
+        opens,
+    }
+}
+
+// Those of a rekey over the live Rekey SA: its default key is key 0, and the others are held. No lent key is read.
+fn of_rekey_sa(state: State, tick: u32) -> StartingKeys
+    requires { ⌜ ((lent : List ℕ) × (k : List ℕ) × (f : Frame) × Bagged rekey state tick lent k f) ⌝ }
+    ensures { λ r. ⌜ ((lent k : List ℕ) (f : Frame) → Bagged rekey state tick lent k f → Rooted state tick lent r f) ⌝ }
+{
+    let t = state.table;
+    let zero = default_key(t.swept(tick));
+    let opens = state.held;
+    StartingKeys {
+        eight: false,
+        zero,
+        opens,
+    }
+}
+
+// Those of a frame whose exchange has this row and whose KD has this body. It goes by whether the exchange sets the held list, then by
+// whose key KWK ID 0 names. Internal.
+pub fn roots(state: State, row: Exchange, k: &[u8], lent: &[u8], tick: u32) -> StartingKeys
+    requires { ⌜ isWhole (bags 0 (now k)) ≡ true ⌝ }
+    requires { ⌜ ((f : Frame) × Bagged row state tick (now lent) (now k) f) ⌝ }
+    ensures { λ r. ⌜ ((f : Frame) → Bagged row state tick (now (lent .entry)) (now (k .entry)) f →
+        Rooted state tick (now (lent .entry)) r f) ⌝ }
+{
+    if row.registers {
+        return reached_from(k, lent);
+    }
+    let zero = row.zero;
+    match zero {
+        KeyZero::Lent => lent_alone(lent),
+        KeyZero::RekeySa => of_rekey_sa(state, tick),
+    }
+}

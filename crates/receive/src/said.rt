@@ -1,0 +1,45 @@
+// What a frame says of the member afterwards, out of its facts.
+use apply::next::Said;
+use apply::retiring::DeletesAt;
+use check_judging::facts::Facts;
+use wire_frames::exchanges::Exchange;
+ghost use mathlib.Core.Path.{_≡_};
+ghost use Prim.Native.Nat.{_-_, _≤_};
+ghost use lib.ListN.{length};
+ghost use Rattle.octets.specs.Walk.{be32};
+ghost use Rattle.receive.specs.inner.Saying.{saidBy};
+
+// Four less, 0 at least.
+fn four_less(n: usize) -> usize
+    ensures { λ r. ⌜ r ≡ n - 4 ⌝ }
+{
+    if n < 4 {
+        return 0;
+    }
+    n - 4
+}
+
+// What a frame with this row of its exchange and these facts says. Its Message ID stands in the header, at 20. Internal.
+pub fn said(row: Exchange, s: &[u8], x: Facts) -> Said
+    requires { ⌜ 28 ≤ length (now s) ⌝ }
+    ensures { λ r. ⌜ r ≡ saidBy row (be32 (now (s .entry)) 20) x ⌝ }
+{
+    let b = x.payloads;
+    let p = x.policies;
+    let d = b.delete;
+    let id = octets::numbers::be32_at(s, 20);
+    let start = four_less(d.start);
+    let least = row.least;
+    let deletes = DeletesAt {
+        count: b.deletes,
+        start,
+    };
+    Said {
+        delay: p.delay,
+        rekey: 0 < p.rekeys,
+        initial: p.initial,
+        least,
+        id,
+        deletes,
+    }
+}

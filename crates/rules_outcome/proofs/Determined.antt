@@ -1,0 +1,98 @@
+-- THE OUTCOME IS ONE: two outcomes of the same member, frame, lent key and tick have the same number and leave the same member.
+use native.Mathlib.Omega.{arith}
+use Prim.Native.Nat.{ℕ, suc}
+use mathlib.Core.Path.{_≡_, refl, ap, ap₂, sym, _∙_, subst}
+use mathlib.Core.Bool.{Bool, true, false}
+use mathlib.Core.List.{List, [], _∷_}
+use Rattle.state_keys.specs.Limits.{Limits}
+use Rattle.state_keys.specs.Kinds.{wrappingOf}
+use Rattle.wire_attributes.specs.Tree.{WrapKey}
+use Rattle.wire_policies.specs.Policy.{GroupSaPolicy}
+use Rattle.wire_frames.specs.Frame.{Frame}
+use Rattle.wire_frames.proofs.FrameGrammar.{one-tree}
+use Rattle.state_sa.specs.declared.entry.Sa.{Sa}
+use Rattle.state.specs.declared.State.{State}
+use Rattle.state.specs.declared.held.HeldKey.{HeldKey}
+use Rattle.state.specs.declared.held.Held.{Held}
+use Rattle.state.specs.Held.{heldOf, idBefore}
+use Rattle.state.proofs.Kept.{id-trans, id-irrefl}
+use Rattle.rules_refusals.specs.Contents.{rowOf, announced}
+use Rattle.rules_chains.specs.Chain.{In, Root}
+use Rattle.rules_chains.proofs.Determined.{key-one}
+use Rattle.rules_outcome.specs.Roots.{rootsOf, entriesOf, wrappingSize, announcedAs}
+use Rattle.rules_outcome.specs.Answer.{conditions}
+use Rattle.rules_outcome.specs.After.{Enter, no-sa, one-more, saFrom, HeldAre, HeldBy, After}
+use Rattle.rules_outcome.specs.Outcome.{Judged, refused, accepted, Outcome, no-layout, by-tree}
+use Rattle.rules_outcome.proofs.First.{first-one}
+use Rattle.rules_outcome.proofs.Members.{rising-one}
+
+-- ---- the member after acceptance
+module _ (roots : List Root) (entries : List WrapKey) (size : ℕ) where
+  pub enter-one : (now : ℕ) (f : Frame) (l : List GroupSaPolicy) (m n : List Sa) → Enter roots entries size now f l m →
+      Enter roots entries size now f l n →
+      m ≡ n
+  enter-one now f [] _ _ no-sa no-sa = refl
+  enter-one now f (a ∷ l) _ _ (one-more {m = m} x k e) (one-more {m = n} y j d) =
+      ap₂ (λ (z : List ℕ) (q : List Sa). saFrom now a z ∷ q) (key-one roots entries size (announcedAs f a) x y k j)
+      (enter-one now f l m n e d)
+
+  -- a key of one list stands in any other that has every value
+  module _ (limits : Limits) (h k : Held) (p : HeldAre roots entries size limits h) (q : HeldAre roots entries size limits k) where
+    stands-too : (a : HeldKey) → In a (p .keys) → In a (q .keys)
+    stands-too a m =
+        let v = p .each a m in
+        let e : record { id = a .id; key = wrappingOf (v .x) } ≡ a = λ i. record { id = a .id; key = sym (v .key-is) i } in
+        subst (λ (b : HeldKey). In b (q .keys)) e (q .all (a .id) (v .x) (v .value))
+
+  pub held-one : (limits : Limits) (h k : Held) → HeldAre roots entries size limits h → HeldAre roots entries size limits k → h ≡ k
+  held-one limits h k p q =
+      p .is ∙
+      ap (heldOf limits)
+      (rising-one idBefore id-trans id-irrefl (p .keys) (q .keys) (p .rise) (q .rise) (stands-too limits h k p q)
+      (stands-too limits k h q p))
+      ∙ sym (q .is)
+
+held-by-one : (b : Bool) {Set Kept Set′ Kept′ : Type 0} {h k : Held} → (Set → Set′ → h ≡ k) → (Kept → Kept′ → h ≡ k) →
+    HeldBy b Set Kept → HeldBy b Set′ Kept′ → h ≡ k
+held-by-one true set kept p q = set p q
+held-by-one false set kept p q = kept p q
+
+module _ (limits : Limits) (s : State) (now : ℕ) (lent : List ℕ) where
+  module _ (f : Frame) where
+    abbrev roots : List Root
+    roots = rootsOf limits s now lent f
+
+    abbrev size : ℕ
+    size = wrappingSize limits s now lent f
+
+    pub after-one : (next after : State) → After limits s now lent f next → After limits s now lent f after → next ≡ after
+    after-one next after p q =
+        let e = enter-one roots (entriesOf f) size now f (announced f) (p .new) (q .new) (p .enter) (q .enter) in
+        let a = p .table in
+        let b = q .table in
+        let t : next .table ≡ after .table = cc in
+        let h : next .held ≡ after .held =
+        held-by-one (rowOf f .registers) (held-one roots (entriesOf f) size limits (next .held) (after .held)) (λ x y. x ∙ sym y) (p .held)
+        (q .held) in
+        let l : next .least ≡ after .least = p .least ∙ sym (q .least) in
+        λ i. record { table = t i; held = h i; least = l i }
+
+    pub judged-one : (n m : ℕ) (next after : State) → Judged limits s now lent f n next → Judged limits s now lent f m after →
+        (n ≡ m) × (next ≡ after)
+    judged-one _ _ _ _ (refused n p) (refused m q) = (first-one (conditions limits s now lent f) (suc n) (suc m) p q, refl)
+    judged-one _ _ _ _ (refused n p) (accepted after q a) =
+        let e = first-one (conditions limits s now lent f) (suc n) 0 p q in absurd (omega arith)
+    judged-one _ _ _ _ (accepted next p a) (refused m q) =
+        let e = first-one (conditions limits s now lent f) 0 (suc m) p q in absurd (omega arith)
+    judged-one _ _ _ _ (accepted next p a) (accepted after q b) = (refl, after-one next after a b)
+
+  -- "Every public call's promise determines its answer and the member or lent storage after it, also on refusal, for all inputs": two
+  -- outcomes of the same input are equal
+  pub outcome-one : (octets : List ℕ) (n m : ℕ) (next after : State) → Outcome limits s now lent octets n next →
+      Outcome limits s now lent octets m after → (n ≡ m) × (next ≡ after)
+  outcome-one octets _ _ _ _ (no-layout none) (no-layout no-other) = (refl, refl)
+  outcome-one octets _ m _ after (no-layout none) (by-tree f d j) = absurd (none f d)
+  outcome-one octets n _ next _ (by-tree f d j) (no-layout none) = absurd (none f d)
+  outcome-one octets n m next after (by-tree f e j) (by-tree g d k) =
+      let t = one-tree octets f g e d in
+      judged-one g n m next after (subst (λ (x : Frame). Judged limits s now lent x n next) t j) k

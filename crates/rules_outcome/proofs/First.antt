@@ -1,0 +1,139 @@
+-- The first condition that holds, in judging order: it is one, and it is given exactly when a condition of its number holds and none with a
+-- lower number does; 0 exactly when none holds. Lists whose numbers rise, from 1 on, are meant.
+use native.Mathlib.Omega.{arith}
+use Prim.Native.Nat.{ℕ, suc, _<_}
+use mathlib.Core.Path.{_≡_, refl, ap, sym, _∙_, subst}
+use mathlib.Core.Bool.{Bool, true, _&&_, false≢true}
+use mathlib.Core.Logic.{_⊎_, inl, inr, ⊎-elim}
+use mathlib.Core.List.{List, [], _∷_, _++_, map}
+use lib.Dec.{ltb}
+use borrow.Author.Tests.{ltb-true}
+use Rattle.state_keys.proofs.Cases.{bool-cases, and-parts}
+use Rattle.rules_refusals.specs.Refusals.{Number, applies, judged}
+use Rattle.rules_outcome.specs.Answer.{Condition, First, byClauses}
+
+-- a condition of the list with this number holds
+abbrev pub Holds : List Condition → ℕ → Type 0
+Holds [] n = ⊥
+Holds (c ∷ l) n = (c .holds × (n ≡ c .number)) ⊎ Holds l n
+
+-- the numbers of the list rise, each above k
+abbrev pub above : ℕ → List Condition → Bool
+above k [] = true
+above k (c ∷ l) = ltb k (c .number) && above (c .number) l
+
+next-above : (k : ℕ) (c : Condition) (l : List Condition) → above k (c ∷ l) ≡ true → (k < c .number) × (above (c .number) l ≡ true)
+next-above k c l a =
+    let p = and-parts (ltb k (c .number)) (above (c .number) l) a in (ltb-true k (c .number) (p .0), p .1)
+
+-- there is one first
+pub first-one : (l : List Condition) (n m : ℕ) → First l n → First l m → n ≡ m
+first-one [] n m p q = p ∙ sym q
+first-one (c ∷ l) n m (inl p) (inl q) = p .1 ∙ sym (q .1)
+first-one (c ∷ l) n m (inl p) (inr q) = absurd (q .0 (p .0))
+first-one (c ∷ l) n m (inr p) (inl q) = absurd (p .0 (q .0))
+first-one (c ∷ l) n m (inr p) (inr q) = first-one l n m (p .1) (q .1)
+
+-- what holds has a number above
+pub above-holds : (k : ℕ) (l : List Condition) → above k l ≡ true → (n : ℕ) → Holds l n → k < n
+above-holds k (c ∷ l) a n (inl h) = let p = next-above k c l a .0 in let e = h .1 in omega arith
+above-holds k (c ∷ l) a n (inr h) =
+    let p = next-above k c l a in let g = p .0 in let q = above-holds (c .number) l (p .1) n h in omega arith
+
+-- the first holds
+pub first-holds : (l : List Condition) (n : ℕ) → First l (suc n) → Holds l (suc n)
+first-holds [] n e = absurd (omega arith)
+first-holds (c ∷ l) n (inl p) = inl p
+first-holds (c ∷ l) n (inr p) = inr (first-holds l n (p .1))
+
+-- none with a lower number does
+pub first-lowest : (k : ℕ) (l : List Condition) → above k l ≡ true → (n : ℕ) → First l n → (m : ℕ) → m < n → Holds l m → ⊥
+first-lowest k (c ∷ l) a n (inl p) m g (inl h) = let e = p .1 in let d = h .1 in absurd (omega arith)
+first-lowest k (c ∷ l) a n (inl p) m g (inr h) =
+    let e = p .1 in let d = above-holds (c .number) l (next-above k c l a .1) m h in absurd (omega arith)
+first-lowest k (c ∷ l) a n (inr p) m g (inl h) = p .0 (h .0)
+first-lowest k (c ∷ l) a n (inr p) m g (inr h) = first-lowest (c .number) l (next-above k c l a .1) n (p .1) m g h
+
+-- 0 says that none holds
+pub first-none : (k : ℕ) (l : List Condition) → above k l ≡ true → First l 0 → (m : ℕ) → Holds l m → ⊥
+first-none k (c ∷ l) a (inl p) m h = let e = p .1 in let g = next-above k c l a .0 in absurd (omega arith)
+first-none k (c ∷ l) a (inr p) m (inl h) = p .0 (h .0)
+first-none k (c ∷ l) a (inr p) m (inr h) = first-none (c .number) l (next-above k c l a .1) (p .1) m h
+
+-- and conversely
+pub first-is : (k : ℕ) (l : List Condition) → above k l ≡ true → (n : ℕ) → Holds l n → ((m : ℕ) → m < n → Holds l m → ⊥) → First l n
+first-is k (c ∷ l) a n (inl h) none = inl h
+first-is k (c ∷ l) a n (inr h) none =
+    let g = above-holds (c .number) l (next-above k c l a .1) n h in
+    inr (λ x. none (c .number) g (inl (x, refl)), first-is (c .number) l (next-above k c l a .1) n h (λ m e x. none m e (inr x)))
+
+pub none-first : (l : List Condition) → ((m : ℕ) → Holds l m → ⊥) → First l 0
+none-first [] none = refl
+none-first (c ∷ l) none = inr (λ x. none (c .number) (inl (x, refl)), none-first l (λ m x. none m (inr x)))
+
+-- ---- the same by the order of judging, whatever the numbers: it holds, and none judged earlier does
+pub record FirstAt (l : List Condition) (n : ℕ) : Type 1 where
+  pub earlier : List Condition
+  pub it : Condition
+  pub later : List Condition
+  pub all : l ≡ earlier ++ (it ∷ later)
+  pub number : n ≡ it .number
+  pub holds : it .holds
+  pub none : (m : ℕ) → Holds earlier m → ⊥
+
+pub first-at : (l : List Condition) (n : ℕ) → First l (suc n) → FirstAt l (suc n)
+first-at [] n e = absurd (omega arith)
+first-at (c ∷ l) n (inl p) =
+    record { earlier = []; it = c; later = l; all = refl; number = p .1; holds = p .0; none = λ m h. h }
+first-at (c ∷ l) n (inr p) =
+    let r = first-at l n (p .1) in
+    record {
+      earlier = c ∷ r .earlier;
+      it = r .it;
+      later = r .later;
+      all = ap (λ (x : List Condition). c ∷ x) (r .all);
+      number = r .number;
+      holds = r .holds;
+      none = λ m h. ⊎-elim (λ q. p .0 (q .0)) (r .none m) h;
+    }
+
+after-earlier : (l : List Condition) (c : Condition) (m : List Condition) → c .holds → ((k : ℕ) → Holds l k → ⊥) →
+    First (l ++ (c ∷ m)) (c .number)
+after-earlier [] c m h none = inl (h, refl)
+after-earlier (d ∷ l) c m h none = inr (λ x. none (d .number) (inl (x, refl)), after-earlier l c m h (λ k x. none k (inr x)))
+
+pub at-first : (l : List Condition) (n : ℕ) → FirstAt l n → First l n
+at-first l n r =
+    let p = after-earlier (r .earlier) (r .it) (r .later) (r .holds) (r .none) in
+    subst (λ (x : List Condition). First x n) (sym (r .all)) (subst (First (r .earlier ++ (r .it ∷ r .later))) (sym (r .number)) p)
+
+-- ---- numbers by clauses, and conditions behind them
+module _ (rest : List Condition) where
+  pub by-clauses : (l : List Number) (n : ℕ) → judged l ≡ suc n → First (map byClauses l ++ rest) (suc n)
+  unfolding judged
+  by-clauses [] n e = absurd (omega arith)
+  by-clauses (c ∷ l) n e =
+      bool-cases (applies c) (λ g. inl (g, sym (rw g at e))) (λ g. inr (λ h. false≢true (sym g ∙ h), by-clauses l n (rw g at e)))
+
+  pub past-clauses : (k : ℕ) (l : List Number) → above k (map byClauses l) ≡ true → judged l ≡ 0 → (n : ℕ) → First rest n →
+      First (map byClauses l ++ rest) n
+  unfolding judged
+  past-clauses k [] a e n f = f
+  past-clauses k (c ∷ l) a e n f =
+      let p = next-above k (byClauses c) (map byClauses l) a in
+      let h = p .0 in
+      bool-cases (applies c) (λ g. let d : c .number ≡ 0 = rw g at e in absurd (omega arith))
+      (λ g. inr (λ h. false≢true (sym g ∙ h), past-clauses (c .number) l (p .1) (rw g at e) n f))
+
+  -- what is first is judged by the clauses, or they judge nothing and it is the first of the rest
+  pub clauses-or-rest : (k : ℕ) (l : List Number) → above k (map byClauses l) ≡ true → (n : ℕ) → First (map byClauses l ++ rest) n →
+      ((k < n) × (judged l ≡ n)) ⊎ ((judged l ≡ 0) × First rest n)
+  unfolding judged
+  clauses-or-rest k [] a n f = inr (refl, f)
+  clauses-or-rest k (c ∷ l) a n (inl p) =
+      let g = next-above k (byClauses c) (map byClauses l) a .0 in let e = p .1 in inl (omega arith, rw (p .0) (sym e))
+  clauses-or-rest k (c ∷ l) a n (inr p) =
+      let g = next-above k (byClauses c) (map byClauses l) a in
+      let h = g .0 in
+      bool-cases (applies c) (λ e. absurd (p .0 e))
+      (λ e. rw e (⊎-elim (λ q. let j = q .0 in inl (omega arith, q .1)) inr (clauses-or-rest (c .number) l (g .1) n (p .1))))

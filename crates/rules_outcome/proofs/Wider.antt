@@ -1,0 +1,314 @@
+-- WIDER LIMITS (document 02, T-01): "Frames not refused for room keep their answers, on any member within the old limits."
+use native.Mathlib.Omega.{arith}
+use Prim.Native.Nat.{ℕ, suc, _+_, _≤_}
+use mathlib.Core.Path.{_≡_, refl, ap, sym, _∙_, subst}
+use mathlib.Core.Bool.{Bool, true, false, _&&_, _||_, not, cond, false≢true}
+use mathlib.Core.List.{List, [], _∷_, map}
+use borrow.Author.Tests.{le-leb, leb-true, le-ltb, ltb-false}
+use lib.Dec.{leb, ltb}
+use lib.ListN.{length, length-take}
+use Rattle.state_keys.specs.Limits.{Limits, limits, limitsBeforeT01}
+use Rattle.state_keys.specs.Lists.{all, any, count, rising}
+use Rattle.state_keys.specs.Kinds.{valueOf}
+use Rattle.state_keys.specs.declared.kinds.MadeWrapping.{MadeWrapping}
+use Rattle.state_keys.proofs.Rising.{length-keep}
+use Rattle.state_keys.proofs.Cases.{bool-cases, and-parts}
+use Rattle.wire_bags.specs.Bag.{GroupKeyBag}
+use Rattle.wire_frames.specs.Frame.{Frame}
+use Rattle.wire_frames.specs.Grammar.{IsFrame}
+use Rattle.state_sa.specs.Entry.{formed, before, liveRekey, due}
+use Rattle.state_sa.specs.declared.entry.Sa.{Sa}
+use Rattle.state_table.specs.declared.Table.{Table}
+use Rattle.state_table.specs.Table.{sasOf, tableOf, tableFormed, swept, notDue, stays, emptyAt, foundRekey, keyOf, defaultKey, theOne}
+use Rattle.state_table.proofs.Kept.{sas-of-table, formed-count}
+use Rattle.state_table.proofs.Laws.{changed-in, found-in}
+use Rattle.state.specs.declared.State.{State}
+use Rattle.state.specs.declared.least.Least.{Least}
+use Rattle.state.specs.declared.least.Least.the-variants.{Id}
+use Rattle.state.specs.declared.held.HeldKey.{HeldKey}
+use Rattle.state.specs.declared.held.Held.{Held}
+use Rattle.state.specs.Held.{keysOf, heldOf, heldFormed, keyFormed, idBefore}
+use Rattle.state.specs.State.{stateFormed}
+use Rattle.state.proofs.Kept.{keys-of-held}
+use Rattle.rules_refusals.specs.Contents.{rowOf, announced, groupBags, wrapKeysOf, deletedSpis}
+use Rattle.rules_refusals.specs.Fitness.{isEsp}
+use Rattle.rules_refusals.specs.Number2.{standing, nonEmptyMember, otherSpis}
+use Rattle.rules_refusals.specs.Number3.{notAcceptable}
+use Rattle.rules_refusals.specs.Number6.{alreadyInTable, six-ofMember}
+use Rattle.rules_refusals.specs.Number7.{manyEspPolicies, manyWrapKeys, manySaKeys, manyDeletedSpis, longLifetime, manySas}
+use Rattle.rules_refusals.specs.Number7.{seven-ofFrame, seven-ofMember}
+use Rattle.rules_refusals.specs.Refusals.{one, applies, two, three, six, seven}
+use Rattle.rules_refusals.proofs.Clear.{or-none}
+use Rattle.rules_chains.specs.Chain.{Root}
+use Rattle.rules_outcome.specs.Roots.{ownKey, keyZeroBy, keyZero, heldRoot, rootsOf, entriesOf, wrappingSize}
+use Rattle.rules_outcome.specs.Answer.{EightOf, NineOf, conditions, Answers}
+use Rattle.rules_outcome.specs.After.{newRekey, oldSas, oldSa, insertAll, Enter, HeldAre, HeldBy, initialMessageId, leastBy}
+use Rattle.rules_outcome.specs.After.{leastAfterwards, After}
+use Rattle.rules_outcome.specs.Outcome.{Judged, refused, accepted, Outcome, no-layout, by-tree}
+use Rattle.rules_outcome.proofs.Following.{Follow, none, more, first-kept, alike}
+use Rattle.rules_outcome.specs.Wider.{Wider, Within, SameMember, inPlaces, Kept, AnswersKept}
+
+-- ---- what is not over a limit is not over a wider one
+not-over : (x y n : ℕ) → x ≤ y → ltb x n ≡ false → ltb y n ≡ false
+not-over x y n h e = let g = ltb-false x n e in le-ltb y n (omega arith)
+
+none-over : {A : Type 0} (x y : ℕ) (m : A → ℕ) (l : List A) → x ≤ y → any (λ (a : A). ltb x (m a)) l ≡ false →
+    any (λ (a : A). ltb y (m a)) l ≡ false
+unfolding any
+none-over x y m [] h e = refl
+none-over x y m (a ∷ l) h e =
+    let p = or-none (ltb x (m a)) (any (λ b. ltb x (m b)) l) e in rw (not-over x y (m a) h (p .0), none-over x y m l h (p .1))
+
+module _ (a b : Limits) (w : Wider a b) (s t : State) (i : Within a s) (m : SameMember s t) where
+  -- ---- the member keeps its list under both or under neither
+  sas-a : s .table .count ≤ a .sas
+  sas-a = let g = i .sas in omega arith
+
+  sas-b : t .table .count ≤ b .sas
+  sas-b = let h = m .sa-count in let g = i .sas in let k = w .sas in omega arith
+
+  table-formed : tableFormed a (s .table) ≡ tableFormed b (t .table)
+  unfolding tableFormed
+  table-formed =
+      rw (le-leb (s .table .count) (a .sas) sas-a, le-leb (t .table .count) (b .sas) sas-b)
+      (ap (λ (l : List Sa). all formed l && (rising before l && leb (count liveRekey l) 1)) (m .sas))
+
+  held-b : t .held .count ≤ b .heldKeys
+  held-b = let h = m .key-count in let g = i .heldKeys in let k = w .heldKeys in omega arith
+
+  held-formed : heldFormed a (s .held) ≡ heldFormed b (t .held)
+  unfolding heldFormed
+  held-formed =
+      rw (le-leb (s .held .count) (a .heldKeys) (i .heldKeys), le-leb (t .held .count) (b .heldKeys) held-b)
+      (ap (λ (l : List HeldKey). all keyFormed l && rising idBefore l) (m .keys))
+
+  state-formed : stateFormed a s ≡ stateFormed b t
+  unfolding stateFormed
+  state-formed = λ j. table-formed j && held-formed j
+
+  module _ (now : ℕ) where
+    empty : emptyAt a now (s .table) ≡ emptyAt b now (t .table)
+    unfolding emptyAt
+    empty =
+        rw (le-leb (s .table .count) (a .sas) sas-a, le-leb (t .table .count) (b .sas) sas-b) (ap (all (due now)) (m .sas))
+
+    stand : standing now s ≡ standing now t
+    stand = ap (notDue now) (m .sas)
+
+    -- the default key of the table as it stands
+    made : (limits : Limits) (u : Table) → u .count ≤ limits .sas →
+        defaultKey limits (swept limits now u) ≡ keyOf (theOne liveRekey (notDue now (sasOf u)))
+    unfolding defaultKey foundRekey swept tableOf
+    made limits u h =
+        let l = notDue now (sasOf u) in
+        let n = length-keep (stays now) (sasOf u) in
+        let k = length-take (u .count) (u .sas) in
+        ap (λ (x : Table). keyOf (foundRekey limits x)) (changed-in limits u (notDue now) h)
+        ∙ ap keyOf (found-in limits liveRekey (tableOf limits l) (omega arith) ∙ ap (theOne liveRekey) (sas-of-table limits l))
+
+    own : ownKey a s now ≡ ownKey b t now
+    own =
+        ap (λ (k : MadeWrapping). valueOf (k .key))
+        (made a (s .table) sas-a ∙ ap (λ (l : List Sa). keyOf (theOne liveRekey l)) stand ∙ sym (made b (t .table) sas-b))
+
+    module _ (lent : List ℕ) (f : Frame) where
+      -- ---- chains go by the same keys
+      zero-same : keyZero a s now lent f ≡ keyZero b t now lent f
+      unfolding keyZero
+      zero-same = ap (keyZeroBy (rowOf f .zero) lent) own
+
+      roots : rootsOf a s now lent f ≡ rootsOf b t now lent f
+      unfolding rootsOf
+      roots = λ j. record { id = 0; value = zero-same j } ∷ cond (rowOf f .«names_held_keys») (map heldRoot (m .keys j)) []
+
+      size : wrappingSize a s now lent f ≡ wrappingSize b t now lent f
+      unfolding wrappingSize
+      size = ap length zero-same
+
+      -- ---- numbers 2, 3, 6, 8 and 9 say the same; 7 that does not hold does not hold under the wider limits
+      two-same : applies (two a s now (f .header .exchange) (f .header .spi)) ≡ applies (two b t now (f .header .exchange) (f .header .spi))
+      unfolding one nonEmptyMember otherSpis
+      two-same = rw (empty, stand, state-formed)
+
+      three-same : applies (three s (f .header .exchange) (f .header .messageId))
+          ≡ applies (three t (f .header .exchange) (f .header .messageId))
+      unfolding one notAcceptable
+      three-same = rw (m .least)
+
+      six-same : applies (six s now f) ≡ applies (six t now f)
+      unfolding one six-ofMember alreadyInTable
+      six-same = rw stand
+
+      eight-same : EightOf a s now lent f ≡ EightOf b t now lent f
+      eight-same = rw (roots, size)
+
+      nine-same : NineOf a s now lent f ≡ NineOf b t now lent f
+      nine-same = rw (roots, size)
+
+      seven-less : applies (seven a s now f) ≡ false → applies (seven b t now f) ≡ false
+      unfolding one seven-ofFrame seven-ofMember manyEspPolicies manyWrapKeys manySaKeys manyDeletedSpis manySas
+      seven-less e =
+          let p = or-none (one (seven-ofFrame a f)) (one (seven-ofMember a s now f)) e in
+          let e1 = or-none (manyEspPolicies a f) _ (p .0) in
+          let e2 = or-none (manyWrapKeys a f) _ (e1 .1) in
+          let e3 = or-none (manySaKeys a f) _ (e2 .1) in
+          let e4 = or-none (manyDeletedSpis a f) _ (e3 .1) in
+          let e6 = or-none (longLifetime f) false (e4 .1) in
+          let e5 = or-none (manySas a s now f) false (p .1) in
+          rw (
+            not-over (a .espPolicies) (b .espPolicies) (count isEsp (announced f)) (w .espPolicies) (e1 .0),
+            not-over (a .wrapKeys) (b .wrapKeys) (length (wrapKeysOf f)) (w .wrapKeys) (e2 .0),
+            none-over (a .saKeys) (b .saKeys) (λ (x : GroupKeyBag). length (x .keys)) (groupBags f) (w .saKeys) (e3 .0),
+            not-over (a .deletedSpis) (b .deletedSpis) (length (deletedSpis f)) (w .deletedSpis) (e4 .0),
+            e6 .0,
+            not-over (a .sas) (b .sas) (length (standing now t) + length (announced f)) (w .sas)
+                (ap (λ (l : List Sa). ltb (a .sas) (length l + length (announced f))) (sym stand) ∙ e5 .0),
+          )
+
+      seven-none : (applies (seven a s now f) ≡ true → ⊥) → applies (seven b t now f) ≡ true → ⊥
+      seven-none never h =
+          bool-cases (applies (seven a s now f)) (λ g. absurd (never g)) (λ g. absurd (false≢true (sym (seven-less g) ∙ h)))
+
+      conditions-follow : Follow 7 (conditions a s now lent f) (conditions b t now lent f)
+      conditions-follow =
+          more (alike 7 2 (ap (λ (x : Bool). x ≡ true) two-same))
+          (more (alike 7 3 (ap (λ (x : Bool). x ≡ true) three-same))
+          (more (alike 7 4 refl)
+          (more (alike 7 5 refl)
+          (more (alike 7 6 (ap (λ (x : Bool). x ≡ true) six-same))
+          (more (record { number = refl; holds = λ q h. absurd (q refl); fails = seven-none })
+          (more (alike 7 8 eight-same)
+          (more (alike 7 9 nine-same)
+          none)))))))
+
+      answers-same : (n : ℕ) → (n ≡ 7 → ⊥) → Answers a s now lent f n → Answers b t now lent f n
+      answers-same n q h = first-kept 7 conditions-follow n q h
+
+      -- ---- the member after it is the same
+      old-same : oldSas s now f ≡ oldSas t now f
+      unfolding oldSas
+      old-same = ap (map (oldSa now f)) stand
+
+      least-same : leastAfterwards s f ≡ leastAfterwards t f
+      unfolding leastAfterwards
+      least-same =
+          ap (λ (x : Least). cond (newRekey f) (Id (initialMessageId f)) (leastBy (rowOf f .least) (f .header .messageId) x)) (m .least)
+
+      abbrev HeldUnder : Bool → Held → Type 0
+      HeldUnder r h = HeldBy r (HeldAre (rootsOf b t now lent f) (entriesOf f) (wrappingSize b t now lent f) b h) (h ≡ t .held)
+
+      record HeldThen (old : Held) : Type 0 where
+        then : Held
+        keys : keysOf old ≡ keysOf then
+        count : old .count ≡ then .count
+        by : HeldUnder (rowOf f .registers) then
+
+      held-then : (old : Held) (r : Bool) → rowOf f .registers ≡ r →
+          HeldBy r (HeldAre (rootsOf a s now lent f) (entriesOf f) (wrappingSize a s now lent f) a old) (old ≡ s .held) → HeldThen old
+      unfolding heldOf
+      held-then old true e x =
+          record {
+            then = heldOf b (x .keys);
+            keys = ap keysOf (x .is) ∙ keys-of-held a (x .keys) ∙ sym (keys-of-held b (x .keys));
+            count = ap (λ (g : Held). g .count) (x .is);
+            by =
+                subst (λ (r : Bool). HeldUnder r (heldOf b (x .keys))) (sym e)
+                (subst (λ (r : List Root). HeldAre r (entriesOf f) (wrappingSize b t now lent f) b (heldOf b (x .keys))) roots
+                (subst (λ (n : ℕ). HeldAre (rootsOf a s now lent f) (entriesOf f) n b (heldOf b (x .keys))) size
+                (record { keys = x .keys; is = refl; rise = x .rise; each = x .each; all = x .all })));
+          }
+      held-then old false e x =
+          record {
+            then = t .held;
+            keys = ap keysOf x ∙ m .keys;
+            count = ap (λ (g : Held). g .count) x ∙ m .key-count;
+            by = subst (λ (r : Bool). HeldUnder r (t .held)) (sym e) refl;
+          }
+
+      record Next (next : State) : Type 0 where
+        then : State
+        after : After b t now lent f then
+        same : SameMember next then
+
+      after-same : (next : State) → After a s now lent f next → Next next
+      unfolding tableOf
+      after-same next x =
+          let l = insertAll (x .new) (oldSas t now f) in
+          let h = held-then (next .held) (rowOf f .registers) refl (x .held) in
+          let e : next .table ≡ tableOf a l = x .table ∙ ap (λ (o : List Sa). tableOf a (insertAll (x .new) o)) old-same in
+          record {
+            then = record { table = tableOf b l; held = h .then; least = leastAfterwards t f };
+            after = record {
+              new = x .new;
+              enter =
+                  subst (λ (r : List Root). Enter r (entriesOf f) (wrappingSize b t now lent f) now f (announced f) (x .new)) roots
+                  (subst (λ (n : ℕ). Enter (rootsOf a s now lent f) (entriesOf f) n now f (announced f) (x .new)) size (x .enter));
+              table = refl;
+              held = h .by;
+              least = refl;
+            };
+            same = record {
+              sas = ap sasOf e ∙ sas-of-table a l ∙ sym (sas-of-table b l);
+              sa-count = ap (λ (u : Table). u .count) e;
+              keys = h .keys;
+              key-count = h .count;
+              least = x .least ∙ least-same;
+            };
+          }
+
+      judged-kept : (octets : List ℕ) (n : ℕ) (next : State) → IsFrame octets f → (n ≡ 7 → ⊥) → Judged a s now lent f n next →
+          Kept b t now lent octets n next
+      judged-kept octets _ _ g q (refused n p) =
+          record { then = t; outcome = by-tree f g (refused n (answers-same (suc n) q p)); same = m }
+      judged-kept octets _ _ g q (accepted next p x) =
+          let y = after-same next x in
+          record { then = y .then; outcome = by-tree f g (accepted (y .then) (answers-same 0 q p) (y .after)); same = y .same }
+
+  outcome-kept : (now : ℕ) (lent octets : List ℕ) (n : ℕ) (next : State) → Outcome a s now lent octets n next → (n ≡ 7 → ⊥) →
+      Kept b t now lent octets n next
+  outcome-kept now lent octets _ _ (no-layout o) q = record { then = t; outcome = no-layout o; same = m }
+  outcome-kept now lent octets n next (by-tree f g j) q = judged-kept now lent f octets n next g q j
+
+-- the same member stands in the places of any limits, where it has as many places as it says
+pub same-in-places : (limits : Limits) (s : State) → s .table .count ≤ length (s .table .sas) → s .held .count ≤ length (s .held .keys) →
+    SameMember s (inPlaces limits s)
+unfolding tableOf heldOf
+same-in-places limits s g h =
+    let x = length-take (s .table .count) (s .table .sas) in
+    let y = length-take (s .held .count) (s .held .keys) in
+    record {
+      sas = sym (sas-of-table limits (sasOf (s .table)));
+      sa-count = omega arith;
+      keys = sym (keys-of-held limits (keysOf (s .held)));
+      key-count = omega arith;
+      least = refl;
+    }
+
+-- a member that keeps its list under limits is within them
+pub formed-within : (limits : Limits) (s : State) → stateFormed limits s ≡ true → Within limits s
+unfolding stateFormed heldFormed
+formed-within limits s e =
+    let p = and-parts (tableFormed limits (s .table)) (heldFormed limits (s .held)) e in
+    record {
+      sas = formed-count limits (s .table) (p .0);
+      heldKeys =
+          leb-true (s .held .count) (limits .heldKeys) (and-parts (leb (s .held .count) (limits .heldKeys)) _ (p .1) .0);
+    }
+
+-- THE THEOREM, of any two records of limits
+pub answers-kept : (a b : Limits) → Wider a b → AnswersKept a b
+answers-kept a b w s t i m now lent octets n next o q = outcome-kept a b w s t i m now lent octets n next o q
+
+-- and at document 01's own and those of T-01
+pub wider : Wider limitsBeforeT01 limits
+wider = record {
+  sas = omega arith;
+  heldKeys = omega arith;
+  espPolicies = omega arith;
+  wrapKeys = omega arith;
+  saKeys = omega arith;
+  deletedSpis = omega arith;
+}
+
+pub answers-kept-by-t01 : AnswersKept limitsBeforeT01 limits
+answers-kept-by-t01 = answers-kept limitsBeforeT01 limits wider

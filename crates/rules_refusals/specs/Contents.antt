@@ -1,0 +1,114 @@
+-- What a frame holds, wherever it stands in it: its payloads of a kind, policies, bags, keys and deleted SPIs. The clauses of document 01
+-- go by "is there one", "each" and "how many" of these, so that their order cannot matter.
+use Prim.Native.Nat.{ℕ}
+use mathlib.Core.List.{List, [], _∷_, _++_}
+use mathlib.Core.Bool.{Bool, true, false}
+use lib.ListN.{length}
+use lib.Dec.{ltb}
+use Rattle.wire_attributes.specs.Tree.{WrapKey}
+use Rattle.wire_policies.specs.Policy.{Policy, groupSa, groupWide, GroupSaPolicy, GroupWidePolicy}
+use Rattle.wire_bags.specs.Bag.{Bag, groupKeys, memberKeys, GroupKeyBag, MemberKeyBag}
+use Rattle.wire_frames.specs.Delete.{Delete}
+use Rattle.wire_frames.specs.Frame.{Frame, Payload, Content, gsa, kd, delete, unread}
+use Rattle.wire_frames.specs.Exchange.{exchangeOf}
+use Rattle.wire_frames.specs.declared.exchanges.Exchange.{Exchange}
+
+-- what differs between exchanges, for this frame's
+abbrev pub rowOf : Frame → Exchange
+rowOf f = exchangeOf (f .header .exchange)
+
+-- there is one at least, and more than one
+abbrev pub some : {A : Type 0} → List A → Bool
+some l = ltb 0 (length l)
+
+abbrev pub several : {A : Type 0} → List A → Bool
+several l = ltb 1 (length l)
+
+-- what each of a list gives, together
+unfoldable pub gather : {A B : Type 0} → (A → List B) → List A → List B
+gather f [] = []
+gather f (a ∷ l) = f a ++ gather f l
+
+-- ---- payloads
+abbrev pub isGsa : Content → Bool
+isGsa (gsa l) = true
+isGsa (kd l) = false
+isGsa (delete d) = false
+isGsa unread = false
+
+abbrev pub isKd : Content → Bool
+isKd (gsa l) = false
+isKd (kd l) = true
+isKd (delete d) = false
+isKd unread = false
+
+abbrev pub hasGsa : Payload → Bool
+hasGsa p = isGsa (p .content)
+
+abbrev pub hasKd : Payload → Bool
+hasKd p = isKd (p .content)
+
+-- ---- what is in one
+abbrev pub policiesIn : Content → List Policy
+policiesIn (gsa l) = l
+policiesIn (kd l) = []
+policiesIn (delete d) = []
+policiesIn unread = []
+
+abbrev pub bagsIn : Content → List Bag
+bagsIn (gsa l) = []
+bagsIn (kd l) = l
+bagsIn (delete d) = []
+bagsIn unread = []
+
+abbrev pub deletesIn : Content → List Delete
+deletesIn (gsa l) = []
+deletesIn (kd l) = []
+deletesIn (delete d) = d ∷ []
+deletesIn unread = []
+
+-- ---- what is in one of them: a policy is a Group SA policy or a group-wide one, a bag a Group or a Member Key Bag
+abbrev pub saOf : Policy → List GroupSaPolicy
+saOf (groupSa p) = p ∷ []
+saOf (groupWide w) = []
+
+abbrev pub wideOf : Policy → List GroupWidePolicy
+wideOf (groupSa p) = []
+wideOf (groupWide w) = w ∷ []
+
+abbrev pub groupBagOf : Bag → List GroupKeyBag
+groupBagOf (groupKeys b) = b ∷ []
+groupBagOf (memberKeys b) = []
+
+abbrev pub memberBagOf : Bag → List MemberKeyBag
+memberBagOf (groupKeys b) = []
+memberBagOf (memberKeys b) = b ∷ []
+
+-- ---- what is in the frame
+abbrev pub policiesOf : Frame → List Policy
+policiesOf f = gather (λ (p : Payload). policiesIn (p .content)) (f .payloads)
+
+abbrev pub bagsOf : Frame → List Bag
+bagsOf f = gather (λ (p : Payload). bagsIn (p .content)) (f .payloads)
+
+abbrev pub deletesOf : Frame → List Delete
+deletesOf f = gather (λ (p : Payload). deletesIn (p .content)) (f .payloads)
+
+-- "The SAs a frame announces are those of its Group SA policies."
+abbrev pub announced : Frame → List GroupSaPolicy
+announced f = gather saOf (policiesOf f)
+
+abbrev pub groupWides : Frame → List GroupWidePolicy
+groupWides f = gather wideOf (policiesOf f)
+
+abbrev pub groupBags : Frame → List GroupKeyBag
+groupBags f = gather groupBagOf (bagsOf f)
+
+abbrev pub memberBags : Frame → List MemberKeyBag
+memberBags f = gather memberBagOf (bagsOf f)
+
+abbrev pub wrapKeysOf : Frame → List WrapKey
+wrapKeysOf f = gather (λ (b : MemberKeyBag). b .keys) (memberBags f)
+
+abbrev pub deletedSpis : Frame → List (List ℕ)
+deletedSpis f = gather (λ (d : Delete). d .spis) (deletesOf f)

@@ -1,0 +1,95 @@
+-- What single structures of a frame must be.
+use Prim.Native.Nat.{ℕ, _+_}
+use mathlib.Core.List.{List, [], _∷_}
+use mathlib.Core.Bool.{Bool, true, false, cond, _&&_, _||_}
+use lib.ListN.{length}
+use lib.Dec.{leb, eqb}
+use Rattle.octets.specs.Numbers.{oct}
+use Rattle.octets.specs.Compare.{same}
+use Rattle.state_keys.specs.Lists.{all, any, count}
+use Rattle.state_keys.specs.Algorithms.{neededBy}
+use Rattle.state_keys.specs.declared.algorithms.Needed.{Needed}
+use Rattle.state_keys.specs.declared.algorithms.Needed.the-variants.{Octets, Nothing}
+use Rattle.state_sa.specs.Entry.{esp, rekey}
+use Rattle.wire_policies.specs.Selector.{Selector}
+use Rattle.wire_policies.specs.Transform.{Transform}
+use Rattle.wire_policies.specs.Policy.{GroupSaPolicy}
+
+-- protocol AH (RFC 9838, section 4.4.2)
+abbrev pub ah : ℕ
+ah = 2
+
+abbrev pub isEsp : GroupSaPolicy → Bool
+isEsp p = eqb (p .protocol) esp
+
+abbrev pub isRekey : GroupSaPolicy → Bool
+isRekey p = eqb (p .protocol) rekey
+
+-- ---- "one address (start equals end) in 224.0.0.0/4 or ff00::/8 and one port": selector type 7 is IPv4, 8 IPv6 (RFC 7296, section
+-- 3.13.1); RFC 9838, section 4.4.2, wants "a single multicast IP address" and "a single port". An IPv4 address in 224.0.0.0/4 has a first
+-- octet of 224 to 239, an IPv6 address in ff00::/8 one of 255
+unfoldable pub multicast : ℕ → List ℕ → Bool
+multicast kind a = cond (eqb kind 7) (leb 224 (oct a 0) && leb (oct a 0) 239) (eqb (oct a 0) 255)
+
+unfoldable pub oneGroupAddress : Selector → Bool
+oneGroupAddress s =
+    same (s .startAddress) (s .endAddress) && (multicast (s .kind) (s .startAddress) && eqb (s .startPort) (s .endPort))
+
+-- ---- "Transforms: type 1 is a row of the algorithm table. ESP has exactly one of type 1 and one of type 5 (Sequence Numbers) with ID 0
+-- or 2 (001 bars ID 1). Rekey has exactly one each of type 1, type 13 (one of the three) and the controller authentication type, either
+-- method." RFC 9838, section 4.4.2.1.1: that type is 14, its methods are Implicit (1) and Digital Signature (2); section 4.4.2.1.3:
+-- Sequence Numbers 2 are "32-bit Unspecified Numbers", and 1, "Partially Transmitted 64-bit Sequential Numbers", "MUST NOT be used"
+abbrev pub octetsNeeded : Needed → ℕ
+octetsNeeded (Octets n) = n
+octetsNeeded Nothing = 0
+
+abbrev pub isOctets : Needed → Bool
+isOctets (Octets n) = true
+isOctets Nothing = false
+
+-- a row of the table by one of its Key Lengths
+unfoldable pub encryptionFits : Transform → Bool
+encryptionFits t = eqb (t .kind) 1 && any (λ (b : ℕ). isOctets (neededBy 1 (t .id) b)) (t .keyLengths)
+
+unfoldable pub keyWrapFits : Transform → Bool
+keyWrapFits t = eqb (t .kind) 13 && isOctets (neededBy 13 (t .id) 0)
+
+unfoldable pub sequenceNumbersFit : Transform → Bool
+sequenceNumbersFit t = eqb (t .kind) 5 && (eqb (t .id) 0 || eqb (t .id) 2)
+
+unfoldable pub authenticationFits : Transform → Bool
+authenticationFits t = eqb (t .kind) 14 && (eqb (t .id) 1 || eqb (t .id) 2)
+
+-- exactly one that is fit in each of these ways, and no other
+unfoldable pub exactly : List (Transform → Bool) → List Transform → Bool
+exactly wanted l = eqb (length l) (length wanted) && all (λ (p : Transform → Bool). eqb (count p l) 1) wanted
+
+abbrev pub espTransforms : List (Transform → Bool)
+espTransforms = encryptionFits ∷ sequenceNumbersFit ∷ []
+
+-- whether a Rekey policy has the controller authentication type is the exchange's
+abbrev pub rekeyTransforms : Bool → List (Transform → Bool)
+rekeyTransforms authentication =
+    cond authentication (encryptionFits ∷ keyWrapFits ∷ authenticationFits ∷ []) (encryptionFits ∷ keyWrapFits ∷ [])
+
+unfoldable pub transformsFit : Bool → GroupSaPolicy → Bool
+transformsFit authentication p =
+    cond (isEsp p) (exactly espTransforms (p .transforms)) (isRekey p && exactly (rekeyTransforms authentication) (p .transforms))
+
+-- ---- "An ESP SA needs the first number, a Rekey SA the sum of both": the octets that the transforms of a policy need, in which a policy
+-- whose transforms are fit has one of type 1 and, a Rekey policy, one of type 13
+unfoldable pub sum : {A : Type 0} → (A → ℕ) → List A → ℕ
+sum f [] = 0
+sum f (a ∷ l) = f a + sum f l
+
+abbrev pub encryptionNeeds : Transform → ℕ
+encryptionNeeds t = cond (eqb (t .kind) 1) (sum (λ (b : ℕ). octetsNeeded (neededBy 1 (t .id) b)) (t .keyLengths)) 0
+
+abbrev pub keyWrapNeeds : Transform → ℕ
+keyWrapNeeds t = cond (eqb (t .kind) 13) (octetsNeeded (neededBy 13 (t .id) 0)) 0
+
+unfoldable pub encryptionOctets : GroupSaPolicy → ℕ
+encryptionOctets p = sum encryptionNeeds (p .transforms)
+
+unfoldable pub keyWrapOctets : GroupSaPolicy → ℕ
+keyWrapOctets p = sum keyWrapNeeds (p .transforms)

@@ -1,0 +1,92 @@
+// The algorithm table of document 01: the octets of keying material that a transform needs.
+ghost use mathlib.Core.Path.{_≡_};
+ghost use Rattle.state_keys.specs.Algorithms.{isRowOf, neededBy};
+
+// Transform type 1, Encryption Algorithm.
+pub const ENCRYPTION: u8 = 1;
+
+// Transform type, transform ID, key bits, octets needed.
+pub struct Row {
+    pub kind: u8,
+    pub id: u16,
+    pub bits: u16,
+    pub octets: usize,
+}
+
+// The octets that a transform needs, or that it is no row of the table.
+pub enum Needed {
+    Octets(usize),
+    Nothing,
+}
+
+// AES-GCM-16 by its Key Length, with 4 octets of salt; KW_5649_128, _192 and _256.
+const ROWS: [Row; 6] = [
+    Row {
+        kind: 1,
+        id: 20,
+        bits: 128,
+        octets: 20,
+    },
+    Row {
+        kind: 1,
+        id: 20,
+        bits: 192,
+        octets: 28,
+    },
+    Row {
+        kind: 1,
+        id: 20,
+        bits: 256,
+        octets: 36,
+    },
+    Row {
+        kind: 13,
+        id: 1,
+        bits: 128,
+        octets: 16,
+    },
+    Row {
+        kind: 13,
+        id: 2,
+        bits: 192,
+        octets: 24,
+    },
+    Row {
+        kind: 13,
+        id: 3,
+        bits: 256,
+        octets: 32,
+    },
+];
+
+// Whether a row is the transform's: its type and ID, and, as Key Length is read in type 1 alone, its bits there.
+fn is_row(r: Row, kind: u8, id: u16, bits: u16) -> bool
+    ensures { λ t. ⌜ t ≡ isRowOf kind id bits r ⌝ }
+{
+    if r.kind != kind {
+        return false;
+    }
+    if r.id != id {
+        return false;
+    }
+    if kind != ENCRYPTION {
+        return true;
+    }
+    r.bits == bits
+}
+
+// The octets that a transform of this type, ID and Key Length needs. The Key Length counts in type 1 alone. Internal.
+pub fn octets_needed(kind: u8, id: u16, bits: u16) -> Needed
+    ensures { λ r. ⌜ r ≡ neededBy kind id bits ⌝ }
+{
+    let rows = ROWS;
+    let mut i: usize = 0;
+    while i < 6 {
+        let r = rows[i];
+        if is_row(r, kind, id, bits) {
+            return Needed::Octets(r.octets);
+        }
+        i += 1;
+    }
+    Needed::Nothing
+}

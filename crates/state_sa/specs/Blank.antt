@@ -1,0 +1,12 @@
+-- The unused places of an SA, which are 0 in every SA that is made of a key that its constructor made: the 12 octets behind an ESP SPI,
+-- octets behind the keying octets, an ESP SA's part counts.
+use mathlib.Core.Path.{_≡_}
+use lib.ListN.{take}
+use Rattle.state_keys.specs.Kinds.{padded}
+use Rattle.state_sa.specs.declared.entry.Sa.{Sa}
+use Rattle.state_sa.specs.Entry.{esp, spiOf}
+
+pub record Blank (s : Sa) : Type 0 where
+  pub spi : s .spi ≡ padded 16 (spiOf s)
+  pub octets : s .octets ≡ padded 68 (take (s .count) (s .octets))
+  pub parts : s .protocol ≡ esp → (s .encryption ≡ 0) × (s .wrapping ≡ 0)

@@ -1,0 +1,117 @@
+-- An SA of the table: "protocol, SPI, keying octets of a size the table below needs (a Rekey SA also the octet counts of their two parts),
+-- and is live or retiring (start tick, delay in seconds)". Document 02, T-07: "Each SA entry gains its lifetime (GSA_KEY_LIFETIME, ..) and
+-- the tick of its start, or "no lifetime" if the attribute is missing".
+use Prim.Native.Nat.{ℕ, _+_}
+use mathlib.Core.Bool.{Bool, true, false, cond, _&&_, _||_}
+use mathlib.Core.List.{List, []}
+use lib.Dec.{leb, ltb, eqb}
+use lib.ListN.{take}
+use Rattle.octets.specs.Compare.{less, same}
+use Rattle.state_keys.specs.Algorithms.{sizeOf}
+use Rattle.state_keys.specs.Kinds.{padded, rekeySizes}
+use Rattle.state_keys.specs.declared.kinds.EspKey.{EspKey}
+use Rattle.state_keys.specs.declared.kinds.RekeyKey.{RekeyKey}
+use Rattle.state_sa.specs.declared.entry.Condition.{Condition}
+use Rattle.state_sa.specs.declared.entry.Condition.the-variants.{Live, Retiring}
+use Rattle.state_sa.specs.declared.entry.Lifetime.{Lifetime}
+use Rattle.state_sa.specs.declared.entry.Lifetime.the-variants.{Unlimited, Limited}
+use Rattle.state_sa.specs.declared.entry.Sa.{Sa}
+use Rattle.state_sa.specs.Clock.{elapsedAtLeast}
+
+-- protocols (RFC 9838, section 4.4.2): ESP and GIKE_UPDATE, the Rekey SA's; and the octets of an SPI of each
+abbrev pub esp : ℕ
+esp = 3
+
+abbrev pub rekey : ℕ
+rekey = 6
+
+abbrev pub spiSize : ℕ → ℕ
+spiSize p = cond (eqb p esp) 4 (cond (eqb p rekey) 16 0)
+
+-- the octets of the SPI, those in use
+abbrev pub spiOf : Sa → List ℕ
+spiOf s = take (spiSize (s .protocol)) (s .spi)
+
+-- "strictly rising by protocol (3 or 6), then SPI octets": a stands before b
+unfoldable pub before : Sa → Sa → Bool
+before a b =
+    cond (ltb (a .protocol) (b .protocol)) true (cond (ltb (b .protocol) (a .protocol)) false (less (spiOf a) (spiOf b)))
+
+-- the SA has protocol p and SPI x
+unfoldable pub named : ℕ → List ℕ → Sa → Bool
+named p x s = eqb (s .protocol) p && same (spiOf s) x
+
+-- "protocol (3 or 6) ... keying octets of a size the table below needs": an ESP SA "the first number, a Rekey SA the sum of both"
+unfoldable pub sized : Sa → Bool
+sized s =
+    cond (eqb (s .protocol) esp) (sizeOf 1 (s .count))
+    (eqb (s .protocol) rekey && (rekeySizes (s .encryption) (s .wrapping) && eqb (s .count) (s .encryption + s .wrapping)))
+
+-- "at most 2,000,000 seconds"
+abbrev pub mostSeconds : ℕ
+mostSeconds = 2000000
+
+abbrev pub fitLifetime : Lifetime → Bool
+fitLifetime Unlimited = true
+fitLifetime (Limited start seconds) = leb seconds mostSeconds
+
+unfoldable pub formed : Sa → Bool
+formed s = sized s && fitLifetime (s .lifetime)
+
+abbrev pub isLive : Condition → Bool
+isLive Live = true
+isLive (Retiring start delay) = false
+
+-- a live Rekey SA
+unfoldable pub liveRekey : Sa → Bool
+liveRekey s = eqb (s .protocol) rekey && isLive (s .condition)
+
+-- "A retiring SA is due when (now − start) modulo 2^32 is at least 1,000 × delay"
+abbrev pub dueBy : ℕ → Condition → Bool
+dueBy now Live = false
+dueBy now (Retiring start delay) = elapsedAtLeast now start delay
+
+-- "A live SA is due when its lifetime has run, by the same modulo rule as retiring" (document 02, T-07)
+abbrev pub ranOut : ℕ → Lifetime → Bool
+ranOut now Unlimited = false
+ranOut now (Limited start seconds) = elapsedAtLeast now start seconds
+
+-- "A retiring SA is due at whichever comes first."
+unfoldable pub due : ℕ → Sa → Bool
+due now s = dueBy now (s .condition) || ranOut now (s .lifetime)
+
+-- an SA by its parts: protocol, SPI, keying octets with their count and the counts of their two parts, condition, lifetime
+abbrev pub saOf : ℕ → List ℕ → List ℕ → ℕ → ℕ → ℕ → Condition → Lifetime → Sa
+saOf p x o n e w c t = record {
+  protocol = p;
+  spi = x;
+  octets = o;
+  count = n;
+  encryption = e;
+  wrapping = w;
+  condition = c;
+  lifetime = t;
+}
+
+-- the same SA in another condition, with its lifetime
+abbrev pub withCondition : Condition → Sa → Sa
+withCondition c s = saOf (s .protocol) (s .spi) (s .octets) (s .count) (s .encryption) (s .wrapping) c (s .lifetime)
+
+-- a live SA retires at a tick with a delay; a retiring one keeps its start and delay
+abbrev pub retiredBy : ℕ → ℕ → Condition → Condition
+retiredBy now delay Live = Retiring now delay
+retiredBy now delay (Retiring s d) = Retiring s d
+
+unfoldable pub retired : ℕ → ℕ → Sa → Sa
+retired now delay s = withCondition (retiredBy now delay (s .condition)) s
+
+-- "The new SAs enter as live": with SPI x, a key of their kind and a lifetime t. An ESP SA has no part counts
+unfoldable pub espSa : List ℕ → EspKey → Lifetime → Sa
+espSa x k t = saOf esp (padded 16 x) (padded 68 (take (k .count) (k .octets))) (k .count) 0 0 Live t
+
+unfoldable pub rekeySa : List ℕ → RekeyKey → Lifetime → Sa
+rekeySa x k t = saOf rekey (padded 16 x) (k .octets) (k .encryption + k .wrapping) (k .encryption) (k .wrapping) Live t
+
+-- the value of an unused place of the table
+abbrev pub blankSa : Sa
+blankSa = saOf 0 (padded 16 []) (padded 68 []) 0 0 0 Live Unlimited

@@ -1,0 +1,71 @@
+// Changes of a table.
+ghost use mathlib.Core.Path.{_≡_};
+ghost use mathlib.Core.Bool.{_||_};
+ghost use Rattle.state_keys.specs.Limits.{limits};
+ghost use Rattle.state_sa.specs.Entry.{before};
+ghost use Rattle.state_table.specs.Table.{swept, emptyAt};
+ghost use Rattle.state_table.specs.inner.Changes.{standingCount};
+use crate::Table;
+use state_keys::limits::SAS;
+use state_sa::entry::Sa;
+
+// Whether s comes after a in the table that a enters: a has its place already, or stands before s. Internal.
+pub fn goes_ahead(placed: bool, a: Sa, s: Sa) -> bool
+    ensures { λ r. ⌜ r ≡ (placed || before a s) ⌝ }
+{
+    if placed {
+        return true;
+    }
+    a.before(s)
+}
+
+impl Table {
+    // The table without the SAs that are due. Internal.
+    pub fn swept(self, tick: u32) -> Table
+        ensures { λ r. ⌜ r ≡ swept limits tick self ⌝ }
+    {
+        let n = self.count;
+        if SAS < n {
+            return self;
+        }
+        let mut out = [Sa::blank(); SAS];
+        let mut k: usize = 0;
+        let mut i: usize = 0;
+        while i < n {
+            let s = self.sas[i];
+            if s.due(tick) {} else {
+                out[k] = s;
+                k += 1;
+            }
+            i += 1;
+        }
+        Table { sas: out, count: k }
+    }
+
+    // How many SAs are not due. Internal.
+    pub fn standing(self, tick: u32) -> usize
+        ensures { λ r. ⌜ r ≡ standingCount limits tick self ⌝ }
+    {
+        let n = self.count;
+        if SAS < n {
+            return n;
+        }
+        let mut k: usize = 0;
+        let mut i: usize = 0;
+        while i < n {
+            let s = self.sas[i];
+            if s.due(tick) {} else {
+                k += 1;
+            }
+            i += 1;
+        }
+        k
+    }
+
+    // Whether every SA, if any, is due. Internal.
+    pub fn is_empty(self, tick: u32) -> bool
+        ensures { λ r. ⌜ r ≡ emptyAt limits tick self ⌝ }
+    {
+        self.standing(tick) == 0
+    }
+}

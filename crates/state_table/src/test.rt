@@ -1,0 +1,87 @@
+// Questions to a table.
+ghost use mathlib.Core.Path.{_≡_};
+ghost use Rattle.state_keys.specs.Limits.{limits};
+ghost use Rattle.state_table.specs.Table.{tableFormed, foundSa, foundRekey, none};
+use crate::Found;
+use crate::Table;
+use state_keys::limits::SAS;
+use state_sa::entry::Sa;
+
+// No SA. Internal.
+pub fn nothing() -> Found
+    ensures { λ r. ⌜ r ≡ none ⌝ }
+{
+    let sa = Sa::blank();
+    Found { found: false, sa }
+}
+
+impl Table {
+    // Whether the table is as a member's must be: each SA is of a protocol and of octet counts that a table may hold, each stands before
+    // the next, and at most one is a live Rekey SA. Internal.
+    pub fn formed(self) -> bool
+        ensures { λ r. ⌜ r ≡ tableFormed limits self ⌝ }
+    {
+        let n = self.count;
+        if SAS < n {
+            return false;
+        }
+        let mut k: usize = 0;
+        let mut i: usize = 0;
+        while i < n {
+            let s = self.sas[i];
+            if s.formed() {} else {
+                return false;
+            }
+            let j = i + 1;
+            if j < n {
+                let t = self.sas[j];
+                if s.before(t) {} else {
+                    return false;
+                }
+            }
+            if s.is_live_rekey() {
+                k += 1;
+            }
+            i = j;
+        }
+        k <= 1
+    }
+
+    // The SA with this protocol and SPI. Internal.
+    pub fn find(self, protocol: u8, spi: &[u8]) -> Found
+        ensures { λ r. ⌜ r ≡ foundSa limits protocol (now (spi .entry)) self ⌝ }
+    {
+        let n = self.count;
+        if SAS < n {
+            return nothing();
+        }
+        let mut i: usize = 0;
+        while i < n {
+            let s = self.sas[i];
+            if s.named(protocol, spi) {
+                return Found { found: true, sa: s };
+            }
+            i += 1;
+        }
+        nothing()
+    }
+
+    // The live Rekey SA. Internal.
+    pub fn live_rekey(self) -> Found
+        ensures { λ r. ⌜ r ≡ foundRekey limits self ⌝ }
+    {
+        let n = self.count;
+        if SAS < n {
+            return nothing();
+        }
+        let mut i: usize = 0;
+        while i < n {
+            let s = self.sas[i];
+            if s.is_live_rekey() {
+                return Found { found: true, sa: s };
+            }
+            i += 1;
+        }
+        nothing()
+    }
+}

@@ -1,0 +1,289 @@
+// Why a layout breaks, for the program `show`: the structure at its offset, and a phrase. Each function puts its text into lent room, as
+// those of `names` do.
+use crate::places::four;
+use crate::places::octet;
+use crate::places::part;
+use crate::places::span;
+use crate::places::two;
+use wire_attributes::Read;
+use wire_attributes::tables::Meaning;
+use wire_attributes::tables::Place;
+
+pub mod places;
+
+// The least sizes of structures, by their own fields, and the greatest of a frame.
+const HEADER: usize = 28;
+
+const FRAME: usize = 16384;
+
+const PAYLOAD: usize = 4;
+
+const TRANSFORM: usize = 8;
+
+const ATTRIBUTE: usize = 4;
+
+// Which structure breaks, and where.
+fn breaks(out: &mut [u8], n: usize, offset: usize, what: &[u8]) -> usize {
+    let a = text_names::say(out, n, b"  1: breaks at offset %, ", offset, 0, 0);
+    text_names::text(out, a, what)
+}
+
+fn short(out: &mut [u8], n: usize, count: usize) -> usize {
+    text_names::say(out, n, b"ends % octets short\n", count, 0, 0)
+}
+
+// Octets that are too few for a structure of a least size, or for the one whose length stands in octets 2 and 3.
+fn of_size(out: &mut [u8], n: usize, s: &[u8], least: usize) -> usize {
+    if s.len() < 4 {
+        return short(out, n, span(s.len(), least));
+    }
+    let length = two(s, 2);
+    if length < least {
+        return text_names::say(out, n, b"length %, at least %\n", length, least, 0);
+    }
+    short(out, n, span(s.len(), length))
+}
+
+// The faults of a header's own fields. Internal.
+pub fn of_header(out: &mut [u8], n: usize, s: &[u8]) -> usize {
+    let a = breaks(out, n, 0, b"header: ");
+    let size = s.len();
+    if size < HEADER {
+        return text_names::say(out, a, b"% octets, at least %\n", size, HEADER, 0);
+    }
+    if FRAME < size {
+        return text_names::say(out, a, b"% octets, at most %\n", size, FRAME, 0);
+    }
+    of_length(out, a, s)
+}
+
+fn of_length(out: &mut [u8], n: usize, s: &[u8]) -> usize {
+    let length = four(s, 24);
+    if length == s.len() {
+        return text_names::say(
+            out,
+            n,
+            b"major version %, must be 2\n",
+            octet(s, 17) / 16,
+            0,
+            0,
+        );
+    }
+    text_names::say(out, n, b"length %, octets %\n", length, s.len(), 0)
+}
+
+// Where a chain of payloads ends: an offset, and the type of the payload that is due there.
+struct End {
+    at: usize,
+    kind: usize,
+}
+
+fn chain_end(s: &[u8]) -> End {
+    let mut kind = octet(s, 16);
+    let mut at = HEADER;
+    while at < s.len() {
+        if kind == 0 {
+            return End { at, kind };
+        }
+        kind = octet(s, at);
+        at = crate::places::end_at(s, at, s.len(), PAYLOAD);
+    }
+    End { at, kind }
+}
+
+// Payloads that do not end with the frame. Internal.
+pub fn of_chain(out: &mut [u8], n: usize, s: &[u8]) -> usize {
+    let a = breaks(out, n, 0, b"header: ");
+    let e = chain_end(s);
+    if e.kind == 0 {
+        return text_names::say(
+            out,
+            a,
+            b"next payload 0, % octets left\n",
+            span(e.at, s.len()),
+            0,
+            0,
+        );
+    }
+    text_names::say(out, a, b"next payload %, no octet left\n", e.kind, 0, 0)
+}
+
+// The faults of a payload's own fields, and of the body of D, for which the payload counts. Internal.
+pub fn of_payload(out: &mut [u8], n: usize, kind: usize, s: &[u8], offset: usize) -> usize {
+    let a = breaks(out, n, offset, b"");
+    let b = text_names::titled(out, a, b"payload ", text_names::tables::payload(kind), kind);
+    let c = text_names::text(out, b, b": ");
+    if octets::numbers::is_sized(s, PAYLOAD) {
+        return of_delete(out, c, part(s, 4, s.len()));
+    }
+    of_size(out, c, s, PAYLOAD)
+}
+
+fn of_delete(out: &mut [u8], n: usize, s: &[u8]) -> usize {
+    if s.len() < 4 {
+        return text_names::say(out, n, b"body of % octets, at least 4\n", s.len(), 0, 0);
+    }
+    let protocol = octet(s, 0);
+    let size = octet(s, 1);
+    if protocol == 3 {
+        if size != 4 {
+            return of_spi_size(out, n, protocol, size);
+        }
+    }
+    let text = b"SPI size %, count %, but % octets of SPIs\n";
+    text_names::say(out, n, text, size, two(s, 2), s.len() - 4)
+}
+
+// An SPI size that is not the protocol's.
+fn of_spi_size(out: &mut [u8], n: usize, protocol: usize, size: usize) -> usize {
+    let a = text_names::say(out, n, b"SPI size %, ", size, 0, 0);
+    let b = text_names::name(out, a, text_names::tables::protocol(protocol));
+    text_names::say(out, b, b" has %\n", wire_policies::spi_size(protocol), 0, 0)
+}
+
+// The faults of a policy's or key bag's own fields. Internal.
+pub fn of_head(out: &mut [u8], n: usize, what: &[u8], s: &[u8], offset: usize) -> usize {
+    let a = breaks(out, n, offset, what);
+    let first = octet(s, 0);
+    if first == 0 {
+        return of_size(out, a, s, 4);
+    }
+    if s.len() < 4 {
+        return of_size(out, a, s, 4);
+    }
+    of_protocol(out, a, first, s)
+}
+
+fn of_protocol(out: &mut [u8], n: usize, first: usize, s: &[u8]) -> usize {
+    let size = wire_policies::spi_size(first);
+    if size == 0 {
+        return text_names::say(
+            out,
+            n,
+            b"first octet %, must be 0, 2, 3 or 6\n",
+            first,
+            0,
+            0,
+        );
+    }
+    if octet(s, 1) == size {
+        return of_size(out, n, s, 4 + size);
+    }
+    of_spi_size(out, n, first, octet(s, 1))
+}
+
+// What is missing at a policy's end counts for the policy. Internal.
+pub fn of_missing(out: &mut [u8], n: usize, what: &[u8], offset: usize) -> usize {
+    let a = breaks(out, n, offset, b"policy: ");
+    text_names::text(out, a, what)
+}
+
+// The faults of a selector. Internal.
+pub fn of_selector(out: &mut [u8], n: usize, s: &[u8], offset: usize) -> usize {
+    let a = breaks(out, n, offset, b"selector: ");
+    let kind = octet(s, 0);
+    let size = wire_policies::selectors::selector_size(kind);
+    if size == 0 {
+        return text_names::say(out, a, b"type %, must be 7 or 8\n", kind, 0, 0);
+    }
+    if s.len() < size {
+        return short(out, a, span(s.len(), size));
+    }
+    text_names::say(out, a, b"length %, type % has %\n", two(s, 2), kind, size)
+}
+
+// The faults of a transform's own fields. Internal.
+pub fn of_transform(out: &mut [u8], n: usize, s: &[u8], offset: usize) -> usize {
+    let a = breaks(out, n, offset, b"transform: ");
+    if octets::numbers::is_sized(s, TRANSFORM) {
+        return text_names::say(
+            out,
+            a,
+            b"first octet %, must be 0 or 3\n",
+            octet(s, 0),
+            0,
+            0,
+        );
+    }
+    of_size(out, a, s, TRANSFORM)
+}
+
+// The faults of an attribute of a place. Internal.
+pub fn of_attribute(out: &mut [u8], n: usize, place: Place, s: &[u8], offset: usize) -> usize {
+    let a = breaks(out, n, offset, b"attribute: ");
+    match wire_attributes::attribute_read(s) {
+        Read::Attribute {
+            short,
+            kind,
+            start,
+            end,
+        } => {
+            let b = text_names::name(out, a, text_names::tables::attribute(place, kind));
+            let meaning = wire_attributes::tables::meaning_in(place, kind);
+            of_format(out, b, meaning, short, span(start, end))
+        }
+        Read::Cut => of_cut(out, a, place, s),
+    }
+}
+
+// An attribute that its octets are too few for: the long form may itself be the fault.
+fn of_cut(out: &mut [u8], n: usize, place: Place, s: &[u8]) -> usize {
+    if s.len() < ATTRIBUTE {
+        return short(out, n, span(s.len(), ATTRIBUTE));
+    }
+    let kind = two(s, 0);
+    if is_short_form(wire_attributes::tables::meaning_in(place, kind)) {
+        let a = text_names::name(out, n, text_names::tables::attribute(place, kind));
+        return in_long_form(out, a);
+    }
+    short(out, n, span(s.len(), ATTRIBUTE + two(s, 2)))
+}
+
+// Whether an attribute is read in the short form.
+fn is_short_form(meaning: Meaning) -> bool {
+    match meaning {
+        Meaning::KeyLength => true,
+        Meaning::DeactivationDelay => true,
+        Meaning::InitialMessageId => false,
+        Meaning::KeyLifetime => false,
+        Meaning::SaKey => false,
+        Meaning::WrapKey => false,
+        Meaning::Skipped => false,
+    }
+}
+
+// A read attribute in the other format, or of a wrong size.
+fn of_format(out: &mut [u8], n: usize, meaning: Meaning, short: bool, size: usize) -> usize {
+    if short {
+        return text_names::text(out, n, b" in short form\n");
+    }
+    match meaning {
+        Meaning::InitialMessageId => of_four(out, n, size),
+        Meaning::KeyLifetime => of_four(out, n, size),
+        Meaning::SaKey => of_wrapped(out, n, size),
+        Meaning::WrapKey => of_wrapped(out, n, size),
+        Meaning::KeyLength => in_long_form(out, n),
+        Meaning::DeactivationDelay => in_long_form(out, n),
+        Meaning::Skipped => text_names::put(out, n, 10),
+    }
+}
+
+// A number of 4 octets.
+fn of_four(out: &mut [u8], n: usize, size: usize) -> usize {
+    text_names::say(out, n, b" of % octets, must be 4\n", size, 0, 0)
+}
+
+fn in_long_form(out: &mut [u8], n: usize) -> usize {
+    text_names::text(out, n, b" in long form\n")
+}
+
+// Two IDs of 4 octets, and 16 to 264 wrapped octets.
+fn of_wrapped(out: &mut [u8], n: usize, size: usize) -> usize {
+    if size < 24 {
+        return text_names::say(out, n, b" of % octets, at least 24\n", size, 0, 0);
+    }
+    if 272 < size {
+        return text_names::say(out, n, b" of % octets, at most 272\n", size, 0, 0);
+    }
+    text_names::say(out, n, b" of % octets, no multiple of 8\n", size, 0, 0)
+}

@@ -1,0 +1,12 @@
+-- `text_lines::is_digit` meets its contract: it is the definition.
+use mathlib.Core.Path.{refl}
+use Rattle.text_lines.specs.Hex.{isDigit}
+use Rattle.text_lines.proofs.is_digit.Statement.{statement}
+use Rattle.text_lines.proofs.is_digit.Tie as tie
+
+returns : tie.Need-returns
+unfolding isDigit
+returns c = refl
+
+pub is-digit-spec : {M : Type 1} → statement M
+is-digit-spec = tie.close (tie.spec returns)

@@ -1,0 +1,24 @@
+-- What a line of input asks. Document 01, the member program: "first the default key, then lines of tick (8 digits) and frame".
+use Prim.Native.Nat.{ℕ}
+use mathlib.Core.List.{List, []}
+use mathlib.Core.Bool.{Bool, cond, _&&_}
+use lib.ListN.{length, take, drop}
+use lib.Dec.{leb}
+use Rattle.text_lines.specs.Hex.{isHex, octetsOfHex, numberFrom}
+
+-- neither another character, nor an odd count, nor fewer digits than `least` or more than `most`
+unfoldable pub isTaken : ℕ → ℕ → List ℕ → Bool
+isTaken least most text = leb least (length text) && leb (length text) most && isHex text
+
+-- "A first line that is missing, has another character, an odd count or over 64 digits counts as an empty key"
+unfoldable pub keyOf : List ℕ → List ℕ
+keyOf text = cond (isTaken 0 64 text) (octetsOfHex text) []
+
+-- a later line: a tick and a frame, or "bad"
+pub data Asked : Type 0 where
+  bad : Asked
+  frame : (tick : ℕ) → (octets : List ℕ) → Asked
+
+-- "a line with another character, an odd count, under 8 digits or over 32,776 prints "bad""
+unfoldable pub askedBy : List ℕ → Asked
+askedBy text = cond (isTaken 8 32776 text) (frame (numberFrom 0 (take 8 text)) (octetsOfHex (drop 8 text))) bad

@@ -1,0 +1,30 @@
+-- What the calls on lines promise.
+use Prim.Native.Nat.{ℕ, _+_}
+use mathlib.Core.Path.{_≡_}
+use mathlib.Core.List.{List}
+use lib.ListN.{length, drop, replicate}
+use Rattle.text_lines.specs.Hex.{octetsOfHex}
+use Rattle.text_lines.specs.Lines.{lines}
+use Rattle.text_lines.specs.inner.First.{written, firstOf}
+use Rattle.text_lines.specs.Input.{bad, frame, keyOf, askedBy}
+use Rattle.text_lines.specs.inner.Room.{Put}
+use Rattle.text_lines.specs.declared.Absorbed.{Absorbed}
+use Rattle.text_lines.specs.declared.Key.{Key}
+use Rattle.text_lines.specs.declared.Request.{Request}
+use Rattle.text_lines.specs.declared.Request.the-variants as request
+
+-- the first line of what is left of a block is put into a lent line, behind the characters that it has
+pub record Absorbs (block : List ℕ) (from : ℕ) (line : List ℕ) (len : ℕ) (after : List ℕ) (r : Absorbed) : Type 0 where
+  pub ended : r .ended ≡ firstOf (lines (drop from block)) .ended
+  pub next : r .next ≡ from + length (written (firstOf (lines (drop from block))))
+  pub kept : Put line len (firstOf (lines (drop from block)) .text) after (r .len)
+
+-- the key that a first line gives, at the start of 32 octets that are 0 behind it
+abbrev pub Gives : List ℕ → Key → Type 0
+Gives line r = Put (replicate 32 0) 0 (keyOf line) (r .octets) (r .len)
+
+-- what a later line asks, its frame at the start of a lent room
+abbrev pub Asks : List ℕ → List ℕ → List ℕ → Request → Type 0
+Asks line room after request.Bad = (askedBy line ≡ bad) × (after ≡ room)
+Asks line room after (request.Frame tick len) =
+    (askedBy line ≡ frame tick (octetsOfHex (drop 8 line))) × Put room 0 (octetsOfHex (drop 8 line)) after len

@@ -1,0 +1,14 @@
+-- The first line of an input, and the octets that it takes.
+use Prim.Native.Nat.{ℕ}
+use mathlib.Core.List.{List, [], _∷_, _++_}
+use mathlib.Core.Bool.{false, cond}
+use Rattle.text_lines.specs.Lines.{Line}
+
+-- the octets that a line takes in the input
+unfoldable pub written : Line → List ℕ
+written l = l .text ++ cond (l .ended) (10 ∷ []) []
+
+-- the first line; where there is none, one with no character that no newline ended
+abbrev pub firstOf : List Line → Line
+firstOf [] = record { text = []; ended = false }
+firstOf (l ∷ ls) = l

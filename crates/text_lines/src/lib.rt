@@ -1,0 +1,261 @@
+// The text of the member program, on slices: hexadecimal, lines, what a line asks, what is printed. Nothing here knows the member.
+ghost use mathlib.Core.Path.{_≡_};
+ghost use mathlib.Core.List.{_∷_, [], _++_};
+ghost use Prim.Native.Nat.{_+_, _*_, _/_, _%_, _<_, _≤_};
+ghost use lib.ListN.{length, take, getD};
+ghost use Rattle.text_lines.specs.Hex.{isDigit, valueOf, digitOf, areDigits, isHex, octetsOfHex, digitsOf, numberFrom};
+ghost use Rattle.text_lines.specs.Input.{isTaken};
+ghost use Rattle.text_lines.specs.Answer.{decimal, answerText, badText};
+ghost use Rattle.text_lines.specs.inner.Room.{Put};
+ghost use Rattle.text_lines.specs.inner.Calls.{Absorbs, Gives, Asks};
+
+// One octet at a place of lent room, where the place is within it; the place behind it. Internal.
+pub fn put(room: &mut [u8], at: usize, octet: u8) -> usize
+    ensures { λ r. ⌜ Put (now (room .entry)) at (octet ∷ []) (now (room .exit)) r ⌝ }
+{
+    if at < room.len() {
+        room[at] = octet;
+        return at + 1;
+    }
+    at
+}
+
+// Whether a character is a hexadecimal digit. No branch hangs on it: the digits of a frame come in no order that a processor foresees.
+fn is_digit(c: u8) -> bool
+    ensures { λ r. ⌜ r ≡ isDigit c ⌝ }
+{
+    ((48 <= c) & (c <= 57)) | ((97 <= c) & (c <= 102))
+}
+
+// What a hexadecimal digit counts; 0 for another character. The characters 0 to 9 are 48 to 57, a to f are 97 to 102.
+fn value_of(c: u8) -> u8
+    ensures { λ r. ⌜ (r ≡ valueOf c) × (r < 16) ⌝ }
+{
+    if is_digit(c) {
+        return c % 16 + 9 * (c / 64);
+    }
+    0
+}
+
+// The digit that counts v.
+fn digit_of(v: u8) -> u8
+    requires { ⌜ v < 16 ⌝ }
+    ensures { λ r. ⌜ r ≡ digitOf v ⌝ }
+{
+    if v < 10 {
+        return 48 + v;
+    }
+    87 + v
+}
+
+// Whether every character is a digit. It goes to the end in any case: a test of each character costs more than the rest of a bad line.
+fn are_digits(text: &[u8]) -> bool
+    ensures { λ r. ⌜ r ≡ areDigits (now (text .entry)) ⌝ }
+{
+    let mut so_far = true;
+    let mut i = 0;
+    while i < text.len() {
+        let one = is_digit(text[i]);
+        so_far = so_far & one;
+        i += 1;
+    }
+    so_far
+}
+
+// Whether a text is hexadecimal: digits alone, and an even count of them. Internal.
+pub fn is_hex(text: &[u8]) -> bool
+    ensures { λ r. ⌜ r ≡ isHex (now (text .entry)) ⌝ }
+{
+    if are_digits(text) {
+        return text.len() % 2 == 0;
+    }
+    false
+}
+
+// The octet that two digits write.
+fn octet_at(text: &[u8], i: usize) -> u8
+    requires { ⌜ i + 1 < length (now text) ⌝ }
+    ensures { λ r. ⌜ r ≡ 16 * valueOf (getD (now (text .entry)) i 0) + valueOf (getD (now (text .entry)) (i + 1) 0) ⌝ }
+{
+    16 * value_of(text[i]) + value_of(text[i + 1])
+}
+
+// Hexadecimal text to octets, into lent room from a place on; the place behind them. Internal.
+pub fn put_octets(room: &mut [u8], at: usize, text: &[u8]) -> usize
+    ensures { λ r. ⌜ Put (now (room .entry)) at (octetsOfHex (now (text .entry))) (now (room .exit)) r ⌝ }
+{
+    let mut place = at;
+    let mut i = 0;
+    while 2 <= text.len() - i {
+        place = put(room, place, octet_at(text, i));
+        i += 2;
+    }
+    place
+}
+
+// The two digits of an octet, the higher first.
+fn put_octet(room: &mut [u8], at: usize, octet: u8) -> usize
+    ensures { λ r. ⌜ Put (now (room .entry)) at (digitOf (octet / 16) ∷ digitOf (octet % 16) ∷ []) (now (room .exit)) r ⌝ }
+{
+    let half = put(room, at, digit_of(octet / 16));
+    put(room, half, digit_of(octet % 16))
+}
+
+// Octets to hexadecimal text, into lent room from a place on; the place behind it. Internal.
+pub fn put_digits(room: &mut [u8], at: usize, octets: &[u8]) -> usize
+    ensures { λ r. ⌜ Put (now (room .entry)) at (digitsOf (now (octets .entry))) (now (room .exit)) r ⌝ }
+{
+    let mut place = at;
+    let mut i = 0;
+    while i < octets.len() {
+        place = put_octet(room, place, octets[i]);
+        i += 1;
+    }
+    place
+}
+
+// What was taken from a block: the place behind it, how many characters the lent line holds now, and whether a newline ended the line.
+pub struct Absorbed {
+    pub next: usize,
+    pub len: usize,
+    pub ended: bool,
+}
+
+// Takes a block from a place on, up to the first newline or to the block's end, into a lent line that holds `len` characters of a line that
+// has begun. Of a line that is longer than the lent one the characters behind are passed over. Internal.
+pub fn absorb(block: &[u8], from: usize, line: &mut [u8], len: usize) -> Absorbed
+    ensures { λ r. ⌜ Absorbs (now (block .entry)) from (now (line .entry)) len (now (line .exit)) r ⌝ }
+{
+    let mut at = from;
+    let mut held = len;
+    while at < block.len() {
+        let c = block[at];
+        if c == 10 {
+            return Absorbed {
+                next: at + 1,
+                len: held,
+                ended: true,
+            };
+        }
+        held = put(line, held, c);
+        at += 1;
+    }
+    Absorbed {
+        next: at,
+        len: held,
+        ended: false,
+    }
+}
+
+// Whether a line is hexadecimal with a count of digits within two bounds.
+fn is_taken(text: &[u8], least: usize, most: usize) -> bool
+    ensures { λ r. ⌜ r ≡ isTaken least most (now (text .entry)) ⌝ }
+{
+    if text.len() < least {
+        return false;
+    }
+    if most < text.len() {
+        return false;
+    }
+    is_hex(text)
+}
+
+// The default key: `len` octets, and 0 in the places behind.
+pub struct Key {
+    pub octets: [u8; 32],
+    pub len: usize,
+}
+
+// The default key that a first line gives. Internal.
+pub fn key_line(line: &[u8]) -> Key
+    ensures { λ r. ⌜ Gives (now (line .entry)) r ⌝ }
+{
+    let mut octets = [0u8; 32];
+    if is_taken(line, 0, 64) {
+        let len = put_octets(&mut octets, 0, line);
+        return Key { octets, len };
+    }
+    Key { octets, len: 0 }
+}
+
+// The number that the first 8 digits of a text write.
+fn tick_of(text: &[u8]) -> u32
+    requires { ⌜ 8 ≤ length (now text) ⌝ }
+    ensures { λ r. ⌜ r ≡ numberFrom 0 (take 8 (now (text .entry))) ⌝ }
+{
+    let a = octet_at(text, 0) as u32;
+    let b = octet_at(text, 2) as u32;
+    let c = octet_at(text, 4) as u32;
+    let d = octet_at(text, 6) as u32;
+    ((a * 256 + b) * 256 + c) * 256 + d
+}
+
+// What a later line asks: nothing that can be answered, or an answer to a frame, which is `len` octets of a lent room, at a tick.
+pub enum Request {
+    Bad,
+    Frame { tick: u32, len: usize },
+}
+
+// What a later line asks. The frame goes to the room's start; a room of 16,384 octets holds every frame. Internal.
+pub fn later_line(line: &[u8], room: &mut [u8]) -> Request
+    ensures { λ r. ⌜ Asks (now (line .entry)) (now (room .entry)) (now (room .exit)) r ⌝ }
+{
+    if is_taken(line, 8, 32776) {
+        let tick = tick_of(line);
+        let len = put_octets(room, 0, &line[8..]);
+        return Request::Frame { tick, len };
+    }
+    Request::Bad
+}
+
+// Octets enough for the text of any answer: four numbers of at most 20 digits, with a mark behind each.
+pub const REPLY_ROOM: usize = 84;
+
+// A number in decimal, into lent room from a place on; the place behind it. Internal.
+pub fn put_number(room: &mut [u8], at: usize, n: usize) -> usize
+    ensures { λ r. ⌜ Put (now (room .entry)) at (decimal n) (now (room .exit)) r ⌝ }
+{
+    if n < 10 {
+        return put(room, at, (48 + n) as u8);
+    }
+    let last = put_number(room, at, n / 10);
+    put(room, last, (48 + n % 10) as u8)
+}
+
+// A number and the character behind it.
+fn put_field(room: &mut [u8], at: usize, n: usize, mark: u8) -> usize
+    ensures { λ r. ⌜ Put (now (room .entry)) at (decimal n ++ (mark ∷ [])) (now (room .exit)) r ⌝ }
+{
+    let last = put_number(room, at, n);
+    put(room, last, mark)
+}
+
+// The text of an answer, into lent room from a place on; the place behind it. On number 1 the figure is its fourth number. Internal.
+pub fn put_answer(
+    room: &mut [u8],
+    at: usize,
+    number: usize,
+    sas: usize,
+    held: usize,
+    figure: usize,
+) -> usize
+    ensures { λ r. ⌜ Put (now (room .entry)) at (answerText number sas held figure) (now (room .exit)) r ⌝ }
+{
+    let second = put_field(room, at, number, 32);
+    let third = put_field(room, second, sas, 32);
+    if number == 1 {
+        let fourth = put_field(room, third, held, 32);
+        return put_field(room, fourth, figure, 10);
+    }
+    put_field(room, third, held, 10)
+}
+
+// The text for a bad line, into lent room from a place on; the place behind it. Internal.
+pub fn put_bad(room: &mut [u8], at: usize) -> usize
+    ensures { λ r. ⌜ Put (now (room .entry)) at badText (now (room .exit)) r ⌝ }
+{
+    let a = put(room, at, 98);
+    let b = put(room, a, 97);
+    let c = put(room, b, 100);
+    put(room, c, 10)
+}

@@ -1,0 +1,152 @@
+// Number 8 of document 01 for the entries of a registration: whether the cells of a search show an entry that opened to a wrong size, or
+// two that give one key two values.
+use state_keys::kinds::WrappingKey;
+use state_keys::limits::WRAP_KEYS;
+use unwrap_search::open::Cell;
+use unwrap_search::open::Entry;
+use unwrap_search::open::Status;
+ghost use mathlib.Core.Path.{_≡_};
+ghost use mathlib.Core.Bool.{true, false};
+ghost use mathlib.Core.List.{List};
+ghost use Prim.Native.Nat.{ℕ, _≤_};
+ghost use Rattle.state_keys.specs.Limits.{limits};
+ghost use Rattle.wire_attributes.specs.Tree.{WrapKey};
+ghost use Rattle.rules_chains.specs.Chain.{Root};
+ghost use Rattle.rules_chains.specs.Refusals.{EntriesEight};
+ghost use Rattle.unwrap_search.specs.inner.Entries.{Lists};
+ghost use Rattle.unwrap_search.specs.inner.Search.{Searched, Nonzero};
+ghost use Rattle.unwrap_conflicts.specs.inner.Values.{Tells, Clash, ClashAmong, AnyClash, AnyWrong, isDone, isWrong};
+
+// Whether a chain ends with the entry, and its key was tried on the others. Internal.
+pub fn is_done(c: Cell) -> bool
+    ensures { λ r. ⌜ r ≡ isDone (c .status) ⌝ }
+{
+    let s = c.status;
+    match s {
+        Status::Waiting => false,
+        Status::Failed => false,
+        Status::Wrong => false,
+        Status::Pending => false,
+        Status::Done => true,
+    }
+}
+
+fn is_wrong(c: Cell) -> bool
+    ensures { λ r. ⌜ r ≡ isWrong (c .status) ⌝ }
+{
+    let s = c.status;
+    match s {
+        Status::Waiting => false,
+        Status::Failed => false,
+        Status::Wrong => true,
+        Status::Pending => false,
+        Status::Done => false,
+    }
+}
+
+// Whether two keys are the same, with the octets past their counts.
+fn same_key(a: WrappingKey, b: WrappingKey) -> bool
+    ensures { λ r. ⌜ Tells r (a ≡ b) ⌝ }
+{
+    if a.count != b.count {
+        return false;
+    }
+    let x = a.octets;
+    let y = b.octets;
+    let mut i: usize = 0;
+    while i < 32 {
+        if x[i] != y[i] {
+            return false;
+        }
+        i += 1;
+    }
+    true
+}
+
+// Whether two entries give one key two values.
+fn clash(e: Entry, c: Cell, f: Entry, d: Cell) -> bool
+    ensures { λ r. ⌜ Tells r (Clash e c f d) ⌝ }
+{
+    if e.id != f.id {
+        return false;
+    }
+    if is_done(c) {
+        if is_done(d) {
+            let a = c.key;
+            let b = d.key;
+            if same_key(a, b) {
+                return false;
+            }
+            return true;
+        }
+    }
+    false
+}
+
+// Whether an entry and one of the first n have the same Key ID and reached values that differ.
+fn clashes(
+    e: Entry,
+    c: Cell,
+    entries: [Entry; WRAP_KEYS],
+    cells: [Cell; WRAP_KEYS],
+    n: usize,
+) -> bool
+    requires { ⌜ n ≤ limits .wrapKeys ⌝ }
+    ensures { λ r. ⌜ Tells r (ClashAmong e c entries cells n) ⌝ }
+{
+    let mut i: usize = 0;
+    while i < n {
+        let f = entries[i];
+        let d = cells[i];
+        if clash(e, c, f, d) {
+            return true;
+        }
+        i += 1;
+    }
+    false
+}
+
+// Whether any two of the first n entries have the same Key ID and reached values that differ. Internal.
+pub fn any_clash(entries: [Entry; WRAP_KEYS], cells: [Cell; WRAP_KEYS], n: usize) -> bool
+    requires { ⌜ n ≤ limits .wrapKeys ⌝ }
+    ensures { λ r. ⌜ Tells r (AnyClash entries cells n) ⌝ }
+{
+    let mut i: usize = 0;
+    while i < n {
+        let e = entries[i];
+        let c = cells[i];
+        if clashes(e, c, entries, cells, n) {
+            return true;
+        }
+        i += 1;
+    }
+    false
+}
+
+// Whether one of the first n opened to a wrong size. Internal.
+pub fn any_wrong(cells: [Cell; WRAP_KEYS], n: usize) -> bool
+    requires { ⌜ n ≤ limits .wrapKeys ⌝ }
+    ensures { λ r. ⌜ Tells r (AnyWrong cells n) ⌝ }
+{
+    let mut i: usize = 0;
+    while i < n {
+        let c = cells[i];
+        if is_wrong(c) {
+            return true;
+        }
+        i += 1;
+    }
+    false
+}
+
+// Whether number 8 holds of the entries that these places and the cells of their search stand for. Internal.
+pub fn entries_eight(entries: [Entry; WRAP_KEYS], cells: [Cell; WRAP_KEYS], n: usize) -> bool
+    requires { ⌜ n ≤ limits .wrapKeys ⌝ }
+    ensures { λ r. ⌜ ((frame : List ℕ) (roots : List Root) (l : List WrapKey) (size : ℕ) → Lists frame entries n l →
+        Searched roots l size cells → Nonzero l → Tells r (EntriesEight roots l size)) ⌝ }
+{
+    if any_wrong(cells, n) {
+        return true;
+    }
+    any_clash(entries, cells, n)
+}

@@ -1,0 +1,40 @@
+-- What opening the copies of an announced SA answers.
+use Prim.Native.Nat.{ℕ}
+use mathlib.Core.Path.{_≡_}
+use mathlib.Core.List.{List, map}
+use lib.ListN.{length, take}
+use Rattle.wire_attributes.specs.Tree.{SaKey, WrapKey, saKeyOf}
+use Rattle.wire_attributes.specs.declared.tables.Place.{Place}
+use Rattle.wire_attributes.specs.declared.tables.Meaning.the-variants as meaning
+use Rattle.wire_readers.specs.inner.Values.{valuesIn}
+use Rattle.rules_chains.specs.Chain.{Root, CopyOpens}
+use Rattle.rules_chains.specs.Refusals.{Announced, CopiesEight, KeyOf}
+use Rattle.state_keys.specs.Kinds.{padded}
+use Rattle.unwrap_copies.specs.declared.answer.Found.{Found}
+use Rattle.unwrap_copies.specs.declared.answer.Found.the-variants.{Nothing, Key, Eight}
+use Rattle.unwrap_copies.specs.declared.answer.Opened.{Opened}
+
+-- "The copies of an announced key are its SA_KEY attributes": those of its Group Key Bag
+abbrev pub copiesIn : Place → List ℕ → List SaKey
+copiesIn p s = map saKeyOf (valuesIn meaning.SaKey p s)
+
+-- the SA whose bag has these attributes and whose policy needs so many octets
+abbrev pub announcedIn : Place → List ℕ → ℕ → Announced
+announcedIn p s need = record { copies = copiesIn p s; need = need }
+
+module _ (roots : List Root) (entries : List WrapKey) (size : ℕ) (a : Announced) where
+  -- neither 8 nor 9 holds of the SA: its key is the first octets, with blanks behind them
+  pub record HasKey (octets : List ℕ) (count : ℕ) : Type 0 where
+    pub key : KeyOf roots entries size a (take count octets)
+    pub need : count ≡ a .need
+    pub length-is : length (take count octets) ≡ a .need
+    pub blanks : octets ≡ padded 68 (take count octets)
+    pub fit : CopiesEight roots entries size a → ⊥
+
+  abbrev pub AnswersBy : Found → List ℕ → ℕ → Type 0
+  AnswersBy Eight octets count = CopiesEight roots entries size a
+  AnswersBy Nothing octets count = (x : List ℕ) → CopyOpens roots entries size (a .copies) x → ⊥
+  AnswersBy Key octets count = HasKey octets count
+
+  abbrev pub Answers : Opened → Type 0
+  Answers r = AnswersBy (r .found) (r .octets) (r .count)

@@ -1,0 +1,44 @@
+-- Wrapped octets that are opened, each under one key, and what is told of them all. Inner.
+use Prim.Native.Nat.{ℕ}
+use mathlib.Core.Path.{_≡_}
+use mathlib.Core.List.{List}
+use lib.ListN.{length, take}
+use Rattle.keywrap.specs.Opens.{Opens}
+use Rattle.rules_chains.specs.Chain.{In}
+use Rattle.state_keys.specs.Kinds.{padded}
+use Rattle.unwrap_copies.specs.declared.answer.Found.{Found}
+use Rattle.unwrap_copies.specs.declared.answer.Found.the-variants.{Nothing, Key, Eight}
+use Rattle.unwrap_copies.specs.declared.answer.Opened.{Opened}
+
+-- the value of a key, and the octets that are opened under it
+pub record Try : Type 0 where
+  pub key : List ℕ
+  pub wrapped : List ℕ
+
+module _ (tries : List Try) where
+  -- one of them opens to x
+  pub record SomeOpens (x : List ℕ) : Type 0 where
+    pub one : Try
+    pub stands : In one tries
+    pub opens : Opens (one .key) (one .wrapped) x
+
+  -- one opens to a wrong size, or two open to two values
+  pub data TriesEight (need : ℕ) : Type 0 where
+    wrong-size : (x : List ℕ) → SomeOpens x → (length x ≡ need → ⊥) → TriesEight need
+    two-values : (x y : List ℕ) → SomeOpens x → SomeOpens y → (x ≡ y → ⊥) → TriesEight need
+
+  -- one opens, and each that does opens to the first octets, as many as are needed, with blanks behind them
+  pub record TriesKey (need : ℕ) (octets : List ℕ) (count : ℕ) : Type 0 where
+    pub opens : SomeOpens (take count octets)
+    pub every : (x : List ℕ) → SomeOpens x → x ≡ take count octets
+    pub size : length (take count octets) ≡ need
+    pub need-is : count ≡ need
+    pub blanks : octets ≡ padded 68 (take count octets)
+
+  abbrev pub TellsBy : ℕ → Found → List ℕ → ℕ → Type 0
+  TellsBy need Eight octets count = TriesEight need
+  TellsBy need Nothing octets count = (x : List ℕ) → SomeOpens x → ⊥
+  TellsBy need Key octets count = TriesKey need octets count
+
+  abbrev pub Tells : ℕ → Opened → Type 0
+  Tells need r = TellsBy need (r .found) (r .octets) (r .count)

@@ -1,0 +1,100 @@
+// The copies of an announced SA, its SA_KEY attributes, opened under the keys that their KWK IDs name. They are gone through once, and
+// each copy is opened at most once. A key that two copies name is expanded twice.
+pub mod answer;
+pub mod lending;
+
+use aes::InverseSchedule;
+use aes::expand_inverse;
+use answer::Opened;
+use answer::joined;
+use answer::nothing;
+use answer::opened_to;
+use lending::key_named;
+use octets::numbers::be32_at;
+use wire_attributes::attribute_value;
+use wire_attributes::tables::Meaning;
+use wire_attributes::tables::Place;
+use wire_readers::values::Found;
+use wire_readers::values::next_attribute;
+ghost use mathlib.Core.Path.{_≡_};
+ghost use mathlib.Core.Bool.{true};
+ghost use mathlib.Core.List.{List};
+ghost use Prim.Native.Nat.{ℕ, _≤_};
+ghost use lib.ListN.{length};
+ghost use Rattle.aes.specs.inner.Tables.{decipherTables};
+ghost use Rattle.aes.specs.inner.Schedule.{ExpandsInverse, ExpandedInverse};
+ghost use Rattle.wire_attributes.specs.Tree.{WrapKey, saKeyOf};
+ghost use Rattle.wire_attributes.specs.Layout.{attributes};
+ghost use Rattle.wire_readers.specs.inner.Values.{isWhole};
+ghost use Rattle.rules_chains.specs.Chain.{Root};
+ghost use Rattle.state_keys.specs.declared.kinds.WrappingKey.{WrappingKey};
+ghost use Rattle.state_keys.specs.Kinds.{valueOf};
+ghost use Rattle.state.specs.declared.held.Held.{Held};
+ghost use Rattle.unwrap_copies.specs.inner.Known.{Agrees};
+ghost use Rattle.unwrap_copies.specs.inner.Lending.{LendsHeld};
+ghost use Rattle.unwrap_copies.specs.inner.Named.{tryFor};
+ghost use Rattle.unwrap_copies.specs.inner.Tries.{Tells};
+ghost use Rattle.unwrap_copies.specs.inner.Answer.{announcedIn, Answers};
+
+// What one copy, the value of a SA_KEY, opens to under the key that its KWK ID names: key 0, whose schedule this is, or a lent one.
+fn tried(
+    copy: &[u8],
+    need: usize,
+    tables: &[u32; 768],
+    schedule: InverseSchedule,
+    ids: &[u32],
+    block: &[u8],
+) -> Opened
+    requires { ⌜ (8 ≤ length (now copy)) × (need ≤ 68) ⌝ }
+    requires { ⌜ (now tables ≡ decipherTables) × ExpandedInverse (schedule .words) ⌝ }
+    requires { ⌜ ((held : Held) × LendsHeld held (now ids) (now block)) ⌝ }
+    ensures { λ r. ⌜ ((v : List ℕ) (held : Held) → ExpandsInverse v (schedule .words) →
+        LendsHeld held (now (ids .entry)) (now (block .entry)) → Tells (tryFor v held (saKeyOf (now (copy .entry)))) need r) ⌝ }
+{
+    let kwk = be32_at(copy, 4);
+    let wrapped = &copy[8..];
+    if kwk == 0 {
+        return opened_to(tables, schedule, wrapped, need);
+    }
+    let key = key_named(kwk, ids, block);
+    if key.len() == 0 {
+        return nothing();
+    }
+    opened_to(tables, expand_inverse(tables, key), wrapped, need)
+}
+
+// What the copies of one announced SA open to: `a` are the attributes of its Group Key Bag, `need` the octets that its policy needs, the
+// schedule is key 0's, and the other keys that a KWK ID can name are lent. Internal.
+pub fn copies(
+    place: Place,
+    a: &[u8],
+    need: usize,
+    tables: &[u32; 768],
+    schedule: InverseSchedule,
+    ids: &[u32],
+    block: &[u8],
+) -> Opened
+    requires { ⌜ isWhole (attributes place 0 (now a)) ≡ true ⌝ }
+    requires { ⌜ need ≤ 68 ⌝ }
+    requires { ⌜ (now tables ≡ decipherTables) × ExpandedInverse (schedule .words) ⌝ }
+    requires { ⌜ ((held : Held) × LendsHeld held (now ids) (now block)) ⌝ }
+    ensures { λ r. ⌜ ((roots : List Root) (entries : List WrapKey) (size : ℕ) (zero : WrappingKey) (held : Held) →
+        ExpandsInverse (valueOf zero) (schedule .words) → LendsHeld held (now (ids .entry)) (now (block .entry)) →
+        Agrees roots entries size zero held → Answers roots entries size (announcedIn place (now (a .entry)) need) r) ⌝ }
+{
+    let mut known = nothing();
+    let mut at = 0;
+    loop {
+        match next_attribute(Meaning::SaKey, place, a, at) {
+            Found::At(start, end) => {
+                let copy = attribute_value(a, start);
+                let one = tried(copy, need, tables, schedule, ids, block);
+                known = joined(known, one);
+                at = end;
+            }
+            Found::Nothing => {
+                return known;
+            }
+        }
+    }
+}

@@ -1,0 +1,44 @@
+-- What the copies of one SA open to, by what was found.
+use Prim.Native.Nat.{ℕ, _+_}
+use mathlib.Core.Path.{_≡_, _∙_, subst}
+use mathlib.Core.List.{List}
+use lib.ListN.{take}
+use Rattle.wire_attributes.specs.Tree.{WrapKey}
+use Rattle.wire_policies.specs.Policy.{GroupSaPolicy}
+use Rattle.wire_frames.specs.Frame.{Frame}
+use Rattle.state_sa.specs.declared.entry.Lifetime.{Lifetime}
+use Rattle.state_sa.specs.declared.entry.Sa.{Sa}
+use Rattle.rules_chains.specs.Chain.{Root}
+use Rattle.rules_chains.specs.Refusals.{KeyOf}
+use Rattle.unwrap_copies.specs.inner.Answer.{AnswersBy}
+use Rattle.unwrap_copies.specs.declared.answer.Found.{Found}
+use Rattle.unwrap_copies.specs.declared.answer.Found.the-variants.{Eight, Nothing, Key}
+use Rattle.unwrap_copies.specs.declared.answer.Opened.{Opened}
+use Rattle.rules_outcome.specs.Roots.{needOf, announcedAs}
+use Rattle.rules_outcome.specs.After.{saFrom}
+use Rattle.unwrap_sas.specs.inner.Policies.{IsEight, IsUnopened, IsSa, Named, IsOpened}
+
+module _ (p : ℕ) (x : List ℕ) (e w : ℕ) (t : Lifetime) (tick : ℕ) (one : Opened) (roots : List Root) (entries : List WrapKey) (size : ℕ)
+    (f : Frame) (a : GroupSaPolicy) (o : IsOpened p x e w t tick one roots entries size f a) where
+  told : (g : Found) → one .found ≡ g → AnswersBy roots entries size (announcedAs f a) g (one .octets) (one .count)
+  told g h = subst (λ (g : Found). AnswersBy roots entries size (announcedAs f a) g (one .octets) (one .count)) h (o .answers)
+
+  pub of-eight : one .found ≡ Eight → IsEight roots entries size f a
+  of-eight h = told Eight h
+
+  pub of-none : one .found ≡ Nothing → IsUnopened roots entries size f a
+  of-none h = told Nothing h
+
+  pub of-key : one .found ≡ Key → (sa : Sa) →
+      ((n : ℕ) (b : GroupSaPolicy) → Named p x e w t n b → sa ≡ saFrom n b (take (e + w) (one .octets))) →
+      IsSa tick sa roots entries size f a
+  unfolding needOf
+  of-key h sa made =
+      let k = told Key h in
+      let n : one .count ≡ e + w = k .need ∙ (λ i. o .name .encryption-is i + o .name .wrapping-is i) in
+      record {
+        x = take (e + w) (one .octets);
+        key = subst (λ (m : ℕ). KeyOf roots entries size (announcedAs f a) (take m (one .octets))) n (k .key);
+        fit = k .fit;
+        is = made tick a (o .name);
+      }

@@ -1,0 +1,114 @@
+-- What is known of one policy of a frame, and of its copies.
+use Prim.Native.Nat.{ℕ}
+use mathlib.Core.Path.{_≡_}
+use mathlib.Core.Bool.{true, false}
+use mathlib.Core.List.{List}
+use lib.ListN.{length}
+use Rattle.state_keys.specs.Algorithms.{sizeOf}
+use Rattle.state_keys.specs.Kinds.{rekeySizes, valueOf}
+use Rattle.wire_attributes.specs.Place.{inPolicy}
+use Rattle.wire_attributes.specs.Tree.{WrapKey, keyLifetimes}
+use Rattle.wire_policies.specs.Policy.{spiSize, GroupSaPolicy, SaBody}
+use Rattle.wire_frames.specs.Frame.{Frame}
+use Rattle.state_sa.specs.declared.entry.Lifetime.{Lifetime}
+use Rattle.state_sa.specs.declared.entry.Sa.{Sa}
+use Rattle.aes.specs.inner.Schedule.{ExpandsInverse}
+use Rattle.wire_policies.specs.Grammar.{IsSaBody}
+use Rattle.wire_readers.specs.inner.Bags.{bagsIn}
+use Rattle.state_keys.specs.Lists.{any}
+use Rattle.state_keys.specs.declared.kinds.WrappingKey.{WrappingKey}
+use Rattle.state.specs.declared.held.Held.{Held}
+use Rattle.unwrap_copies.specs.inner.Known.{Agrees}
+use Rattle.unwrap_copies.specs.inner.Lending.{LendsHeld}
+use Rattle.unwrap_copies.specs.declared.answer.Found.{Found}
+use Rattle.unwrap_copies.specs.declared.answer.Found.the-variants as copied
+use Rattle.rules_refusals.specs.Contents.{rowOf, several, bagsOf}
+use Rattle.rules_refusals.specs.Number4.{twiceInTransform}
+use Rattle.rules_refusals.specs.Number6.{bagsNamed}
+use Rattle.rules_refusals.specs.Fitness.{encryptionOctets, keyWrapOctets, transformsFit}
+use Rattle.rules_chains.specs.Chain.{Root, CopyOpens}
+use Rattle.rules_chains.specs.Refusals.{CopiesEight, KeyOf}
+use Rattle.unwrap_copies.specs.inner.Answer.{Answers}
+use Rattle.unwrap_copies.specs.declared.answer.Opened.{Opened}
+use Rattle.rules_outcome.specs.Roots.{copiesOf, announcedAs}
+use Rattle.rules_outcome.specs.After.{lifetimeFrom, saFrom}
+use Rattle.unwrap_sas.specs.declared.joining.One.{One}
+
+-- ---- of one policy, by its copies
+abbrev pub OfOne : Type 1
+OfOne = List Root → List WrapKey → ℕ → Frame → GroupSaPolicy → Type 0
+
+abbrev pub IsEight : OfOne
+IsEight roots entries size f a = CopiesEight roots entries size (announcedAs f a)
+
+abbrev pub IsUnopened : OfOne
+IsUnopened roots entries size f a = (x : List ℕ) → CopyOpens roots entries size (copiesOf f a) x → ⊥
+
+-- its SA is this one, from a tick on
+pub record IsSa (tick : ℕ) (sa : Sa) (roots : List Root) (entries : List WrapKey) (size : ℕ) (f : Frame) (a : GroupSaPolicy) : Type 0 where
+  pub x : List ℕ
+  pub key : KeyOf roots entries size (announcedAs f a) x
+  pub fit : CopiesEight roots entries size (announcedAs f a) → ⊥
+  pub is : sa ≡ saFrom tick a x
+
+-- it is number 8 of its copies, none that opens, or this SA
+abbrev pub IsBy : ℕ → Found → Sa → OfOne
+IsBy tick copied.Eight sa roots entries size f a = IsEight roots entries size f a
+IsBy tick copied.Nothing sa roots entries size f a = IsUnopened roots entries size f a
+IsBy tick copied.Key sa roots entries size f a = IsSa tick sa roots entries size f a
+
+abbrev pub IsOne : ℕ → One → OfOne
+IsOne tick r roots entries size f a = IsBy tick (r .found) (r .sa) roots entries size f a
+
+-- the octets that an SPI of this protocol has, and the two parts of its SA's keying octets
+pub record Sized (protocol : ℕ) (spi : List ℕ) (encryption wrapping : ℕ) : Type 0 where
+  pub esp : protocol ≡ 3 → (length spi ≡ 4) × (sizeOf 1 encryption ≡ true) × (wrapping ≡ 0)
+  pub rekey : (protocol ≡ 3 → ⊥) → (length spi ≡ 16) × (rekeySizes encryption wrapping ≡ true)
+
+-- a policy with this name whose transforms need so many octets, and whose SA has this lifetime from a tick on
+pub record Named (protocol : ℕ) (spi : List ℕ) (encryption wrapping : ℕ) (lifetime : Lifetime) (tick : ℕ) (a : GroupSaPolicy) : Type 0 where
+  pub protocol-is : a .protocol ≡ protocol
+  pub spi-is : a .spi ≡ spi
+  pub encryption-is : encryptionOctets a ≡ encryption
+  pub wrapping-is : keyWrapOctets a ≡ wrapping
+  pub lifetime-is : lifetimeFrom tick (a .keyLifetimes) ≡ lifetime
+
+-- such a policy, and what its copies open to
+pub record IsOpened (protocol : ℕ) (spi : List ℕ) (encryption wrapping : ℕ) (lifetime : Lifetime) (tick : ℕ) (one : Opened)
+    (roots : List Root) (entries : List WrapKey) (size : ℕ) (f : Frame) (a : GroupSaPolicy) : Type 0 where
+  pub name : Named protocol spi encryption wrapping lifetime tick a
+  pub answers : Answers roots entries size (announcedAs f a) one
+
+-- ---- where a policy and its bag stand
+-- chains end on exactly key 0, of which this is the schedule, and the held keys, which are lent so
+pub record Opening (schedule ids block : List ℕ) (roots : List Root) (entries : List WrapKey) (size : ℕ) : Type 0 where
+  pub zero : WrappingKey
+  pub held : Held
+  pub expands : ExpandsInverse (valueOf zero) schedule
+  pub lends : LendsHeld held ids block
+  pub agrees : Agrees roots entries size zero held
+
+-- the lifetimes of a Group SA policy of a protocol that holds this after its SPI
+abbrev pub lifetimesOf : ℕ → SaBody → List ℕ
+lifetimesOf protocol x = keyLifetimes (inPolicy protocol) (x .suite .attributes)
+
+-- the policy a has this name and holds x after its SPI; it is as it must be after numbers 4 to 6, and its bag is one of those that k is
+pub record Announces (k : List ℕ) (protocol : ℕ) (spi x : List ℕ) (f : Frame) (a : GroupSaPolicy) : Type 0 where
+  pub protocol-is : a .protocol ≡ protocol
+  pub spi-is : a .spi ≡ spi
+  pub spi-size : length spi ≡ spiSize protocol
+  pub body : SaBody
+  pub is : IsSaBody (inPolicy protocol) x body
+  pub transforms : a .transforms ≡ body .suite .transforms
+  pub fits : transformsFit (rowOf f .authentication) a ≡ true
+  pub once : any twiceInTransform (a .transforms) ≡ false
+  pub lifetimes : a .keyLifetimes ≡ lifetimesOf protocol body
+  pub lasting : several (a .keyLifetimes) ≡ false
+  pub bags : bagsOf f ≡ bagsIn k
+  pub paired : bagsNamed f (a .protocol) (a .spi) ≡ 1
+
+-- the policy a has this name and holds x after its SPI, and its copies open under key 0 and the held keys
+pub record IsAnnounced (k : List ℕ) (protocol : ℕ) (spi x : List ℕ) (schedule ids block : List ℕ) (roots : List Root)
+    (entries : List WrapKey) (size : ℕ) (f : Frame) (a : GroupSaPolicy) : Type 0 where
+  pub opening : Opening schedule ids block roots entries size
+  pub stands : Announces k protocol spi x f a

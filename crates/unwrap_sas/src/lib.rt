@@ -1,0 +1,229 @@
+// The keys of the SAs that a frame announces: number 8 of their copies, number 9, or the new SAs. Numbers 2 to 7 have been judged before.
+pub mod joining;
+pub mod lifetime;
+
+use aes::InverseSchedule;
+use aes::expand_inverse;
+use aes::inverse_tables;
+use joining::Found;
+use joining::Keyed;
+use joining::One;
+use joining::one_sa;
+use state::held::Held;
+use state_keys::kinds::WrappingKey;
+use state_keys::limits::HELD_KEYS;
+use state_keys::limits::SAS;
+use state_sa::entry::Sa;
+use unwrap_copies::answer::Opened;
+use unwrap_copies::lending::BLOCK;
+use unwrap_copies::lending::PLACE;
+use unwrap_copies::lending::lend_keys;
+use wire_readers::policy::policy_parts;
+ghost use mathlib.Core.Path.{_≡_};
+ghost use mathlib.Core.Bool.{true};
+ghost use mathlib.Core.List.{List};
+ghost use Prim.Native.Nat.{ℕ, _≤_, _<_};
+ghost use lib.ListN.{length};
+ghost use Rattle.aes.specs.inner.Tables.{decipherTables};
+ghost use Rattle.aes.specs.inner.Schedule.{ExpandedInverse};
+ghost use Rattle.wire_attributes.specs.Tree.{WrapKey};
+ghost use Rattle.wire_policies.specs.Policy.{GroupSaPolicy, policies};
+ghost use Rattle.wire_bags.specs.Bag.{bags};
+ghost use Rattle.wire_frames.specs.Frame.{Frame};
+ghost use Rattle.wire_readers.specs.inner.Values.{isWhole};
+ghost use Rattle.wire_readers.specs.inner.Bags.{bagsIn};
+ghost use Rattle.state_keys.specs.Algorithms.{sizeOf};
+ghost use Rattle.state_keys.specs.Limits.{limits};
+ghost use Rattle.state_keys.specs.Lists.{count};
+ghost use Rattle.state.specs.Held.{heldFormed};
+ghost use Rattle.state.specs.declared.held.Held.{Held};
+ghost use Rattle.rules_refusals.specs.Contents.{gather, groupBagOf, bagsOf};
+ghost use Rattle.rules_refusals.specs.Number6.{bagNamed};
+ghost use Rattle.rules_chains.specs.Chain.{Root};
+ghost use Rattle.unwrap_copies.specs.inner.Known.{Agrees};
+ghost use Rattle.unwrap_copies.specs.inner.Lending.{LendsHeld};
+ghost use Rattle.unwrap_copies.specs.inner.Answer.{Answers};
+ghost use Rattle.rules_outcome.specs.Roots.{needOf, announcedAs};
+ghost use Rattle.unwrap_sas.specs.inner.Keyed.{Ready, foundBy, KeyedBy};
+ghost use Rattle.unwrap_sas.specs.inner.Policies.{Opening, Announces, IsAnnounced, IsOne};
+
+// What the copies of the SA with this name open to, those of its bag.
+fn opened(
+    protocol: usize,
+    spi: &[u8],
+    need: usize,
+    k: &[u8],
+    tables: &[u32; 768],
+    schedule: InverseSchedule,
+    ids: &[u32],
+    block: &[u8],
+) -> Opened
+    requires { ⌜ isWhole (bags 0 (now k)) ≡ true ⌝ }
+    requires { ⌜ count (bagNamed protocol (now spi)) (gather groupBagOf (bagsIn (now k))) ≡ 1 ⌝ }
+    requires { ⌜ need ≤ 68 ⌝ }
+    requires { ⌜ (now tables ≡ decipherTables) × ExpandedInverse (schedule .words) ⌝ }
+    requires { ⌜ ((held : Held) × LendsHeld held (now ids) (now block)) ⌝ }
+    ensures { λ r. ⌜ ((roots : List Root) (entries : List WrapKey) (size : ℕ) (f : Frame) (a : GroupSaPolicy) →
+        Opening (schedule .words) (now (ids .entry)) (now (block .entry)) roots entries size → bagsOf f ≡ bagsIn (now (k .entry)) →
+        a .protocol ≡ protocol → a .spi ≡ now (spi .entry) → needOf a ≡ need → Answers roots entries size (announcedAs f a) r) ⌝ }
+{
+    let s = check_pairing::stretch::bag_stretch(k, protocol, spi);
+    let start = s.start;
+    let end = s.end;
+    unwrap_copies::copies(
+        wire_attributes::tables::in_bag(protocol),
+        &k[start..end],
+        need,
+        tables,
+        schedule,
+        ids,
+        block,
+    )
+}
+
+// The SA whose policy has this name and holds x after its SPI, in a frame of the tick.
+fn with_policy(
+    protocol: usize,
+    spi: &[u8],
+    x: &[u8],
+    k: &[u8],
+    tables: &[u32; 768],
+    schedule: InverseSchedule,
+    ids: &[u32],
+    block: &[u8],
+    tick: u32,
+) -> One
+    requires { ⌜ length (now x) < 65536 ⌝ }
+    requires { ⌜ isWhole (bags 0 (now k)) ≡ true ⌝ }
+    requires { ⌜ (now tables ≡ decipherTables) × ExpandedInverse (schedule .words) ⌝ }
+    requires { ⌜ ((held : Held) × LendsHeld held (now ids) (now block)) ⌝ }
+    requires { ⌜ ((f : Frame) × (a : GroupSaPolicy) × Announces (now k) protocol (now spi) (now x) f a) ⌝ }
+    ensures { λ r. ⌜ ((roots : List Root) (entries : List WrapKey) (size : ℕ) (f : Frame) (a : GroupSaPolicy) →
+        IsAnnounced (now (k .entry)) protocol (now (spi .entry)) (now (x .entry)) (schedule .words) (now (ids .entry))
+        (now (block .entry)) roots entries size f a → IsOne tick r roots entries size f a) ⌝ }
+{
+    let n = check_suites::needs(x);
+    let e = n.encryption;
+    let w = n.wrapping;
+    let one = opened(protocol, spi, e + w, k, tables, schedule, ids, block);
+    let t = lifetime::of_policy(protocol, x, tick);
+    one_sa(one, protocol, spi, e, w, t)
+}
+
+// The answer where number 8 holds of no SA. With `nine` no copy of some SA opens.
+fn found_by(nine: bool) -> Found
+    ensures { λ r. ⌜ r ≡ foundBy nine ⌝ }
+{
+    if nine {
+        return Found::Nine;
+    }
+    Found::Keys
+}
+
+// The same as `keyed`, with the schedule of key 0 and the held keys as they are lent.
+fn walked(
+    g: &[u8],
+    k: &[u8],
+    tables: &[u32; 768],
+    schedule: InverseSchedule,
+    ids: &[u32],
+    block: &[u8],
+    tick: u32,
+) -> Keyed
+    requires { ⌜ isWhole (policies 0 (now g)) ≡ true ⌝ }
+    requires { ⌜ isWhole (bags 0 (now k)) ≡ true ⌝ }
+    requires { ⌜ (now tables ≡ decipherTables) × ExpandedInverse (schedule .words) ⌝ }
+    requires { ⌜ ((held : Held) × LendsHeld held (now ids) (now block)) ⌝ }
+    requires { ⌜ ((f : Frame) × Ready f (now g) (now k)) ⌝ }
+    ensures { λ r. ⌜ ((roots : List Root) (entries : List WrapKey) (size : ℕ) (f : Frame) → Ready f (now (g .entry)) (now (k .entry)) →
+        Opening (schedule .words) (now (ids .entry)) (now (block .entry)) roots entries size → KeyedBy roots entries size f tick r) ⌝ }
+{
+    let mut nine = false;
+    let mut sas = [Sa::blank(); SAS];
+    let mut count: usize = 0;
+    let mut at: usize = 0;
+    while at < g.len() {
+        let p = policy_parts(&g[at..]);
+        let name = at + 4;
+        let body = at + p.body;
+        let end = at + p.end;
+        if p.first != 0 {
+            let one = with_policy(
+                p.first,
+                &g[name..body],
+                &g[body..end],
+                k,
+                tables,
+                schedule,
+                ids,
+                block,
+                tick,
+            );
+            let found = one.found;
+            match found {
+                unwrap_copies::answer::Found::Eight => {
+                    return Keyed {
+                        found: Found::Eight,
+                        sas,
+                        count,
+                    };
+                }
+                unwrap_copies::answer::Found::Nothing => {
+                    nine = true;
+                }
+                unwrap_copies::answer::Found::Key => {
+                    let sa = one.sa;
+                    sas[count] = sa;
+                    count += 1;
+                }
+            }
+        }
+        at = end;
+    }
+    let found = found_by(nine);
+    Keyed { found, sas, count }
+}
+
+// The same as `keyed`, with the held keys as they are lent.
+fn under_lent(g: &[u8], k: &[u8], zero: WrappingKey, ids: &[u32], block: &[u8], tick: u32) -> Keyed
+    requires { ⌜ isWhole (policies 0 (now g)) ≡ true ⌝ }
+    requires { ⌜ isWhole (bags 0 (now k)) ≡ true ⌝ }
+    requires { ⌜ sizeOf 13 (zero .count) ≡ true ⌝ }
+    requires { ⌜ ((held : Held) × LendsHeld held (now ids) (now block)) ⌝ }
+    requires { ⌜ ((f : Frame) × Ready f (now g) (now k)) ⌝ }
+    ensures { λ r. ⌜ ((roots : List Root) (entries : List WrapKey) (size : ℕ) (f : Frame) (held : Held) →
+        Ready f (now (g .entry)) (now (k .entry)) → LendsHeld held (now (ids .entry)) (now (block .entry)) →
+        Agrees roots entries size zero held → KeyedBy roots entries size f tick r) ⌝ }
+{
+    let octets = zero.octets;
+    let n = zero.count;
+    let tables = inverse_tables();
+    walked(
+        g,
+        k,
+        &tables,
+        expand_inverse(&tables, &octets[..n]),
+        ids,
+        block,
+        tick,
+    )
+}
+
+// What the copies of all SAs that a frame announces open to: `g` is its GSA body, `k` its KD body, `zero` key 0, and the other keys that a
+// KWK ID can name are held; the new SAs start at the tick. Internal.
+pub fn keyed(g: &[u8], k: &[u8], zero: WrappingKey, held: Held, tick: u32) -> Keyed
+    requires { ⌜ isWhole (policies 0 (now g)) ≡ true ⌝ }
+    requires { ⌜ isWhole (bags 0 (now k)) ≡ true ⌝ }
+    requires { ⌜ sizeOf 13 (zero .count) ≡ true ⌝ }
+    requires { ⌜ heldFormed limits held ≡ true ⌝ }
+    requires { ⌜ ((f : Frame) × Ready f (now g) (now k)) ⌝ }
+    ensures { λ r. ⌜ ((roots : List Root) (entries : List WrapKey) (size : ℕ) (f : Frame) → Ready f (now (g .entry)) (now (k .entry)) →
+        Agrees roots entries size zero held → KeyedBy roots entries size f tick r) ⌝ }
+{
+    let mut ids = [0u32; HELD_KEYS];
+    let mut block = [0u8; BLOCK];
+    lend_keys(held, &mut ids, &mut block);
+    let m = held.count;
+    let e = PLACE * m;
+    under_lent(g, k, zero, &ids[..m], &block[..e], tick)
+}

@@ -1,0 +1,235 @@
+-- The search with key 0 as its one root: its start, a turn, its end, and that it ends.
+use native.Mathlib.Omega.{arith}
+use Prim.Native.Nat.{ℕ, zero, suc, _+_, _≤_, _<_}
+use mathlib.Core.Path.{_≡_, refl, ap, sym, _∙_, subst}
+use mathlib.Core.Bool.{true}
+use mathlib.Core.Logic.{_⊎_, inl, inr, ⊎-elim}
+use mathlib.Core.List.{List, [], _∷_}
+use lib.Dec.{T}
+use lib.ListN.{length, getD, set, replicate, getD-replicate}
+use lib.Seq.{getD-set-same, getD-set-other}
+use Rattle.fips197.specs.Key.{Key, isKey}
+use Rattle.wire_attributes.specs.Tree.{WrapKey}
+use Rattle.state_keys.specs.Limits.{limits}
+use Rattle.state_keys.specs.Algorithms.{sizeOf}
+use Rattle.state_keys.specs.declared.kinds.WrappingKey.{WrappingKey}
+use Rattle.state_keys.proofs.Sizes.{wrapping-size, among-is}
+use Rattle.rules_chains.specs.Chain.{In, Root, step, Reached}
+use Rattle.rules_chains.proofs.Determined.{last-entry}
+use Rattle.unwrap_search.specs.declared.open.Status.{Status}
+use Rattle.unwrap_search.specs.declared.open.Status.the-variants.{Waiting, Failed, Wrong, Pending, Done}
+use Rattle.unwrap_search.specs.declared.open.Entry.{Entry}
+use Rattle.unwrap_search.specs.declared.open.Cell.{Cell}
+use Rattle.unwrap_search.specs.inner.Entries.{noKey, noEntry, Lists}
+use Rattle.state_keys.specs.Kinds.{valueOf}
+use Rattle.unwrap_search.specs.inner.Opened.{noCell, WrongSize}
+use Rattle.unwrap_search.specs.inner.Search.{keyAt, cellAt, AllTried, FoundAt, NonePending, keyZero}
+use Rattle.unwrap_search.specs.inner.Search.{Misfits, Found-in, OneEach, Searched}
+use Rattle.unwrap_search.proofs.Statuses.{Holds, GoodBy, holds-done, holds-good, getD-any, eq-cases, tried-stays}
+use Rattle.unwrap_search.proofs.Theory.{Inv, K, Root-is, Stands, begun, turn, chain-known, known-live, in-at}
+
+-- a size of the algorithm table is one of a key
+pub is-key-size : (n : ℕ) → sizeOf 13 n ≡ true → T (isKey n)
+unfolding isKey
+is-key-size n e =
+    ⊎-elim (λ p. subst (λ (k : ℕ). T (isKey k)) (sym p) tt)
+    (⊎-elim (λ p. subst (λ (k : ℕ). T (isKey k)) (sym p) tt) (λ p. subst (λ (k : ℕ). T (isKey k)) (sym p) tt))
+    (among-is 16 24 32 n (sym (wrapping-size n) ∙ e))
+
+-- ---- the cells that are not done: the search's measure
+abbrev pub undoneBy : Status → ℕ
+undoneBy Waiting = 1
+undoneBy Failed = 1
+undoneBy Wrong = 1
+undoneBy Pending = 1
+undoneBy Done = 0
+
+unfoldable pub undone : ℕ → (ℕ → Cell) → ℕ
+undone zero C = 0
+undone (suc n) C = undoneBy (C n .status) + undone n C
+
+undone-most : (s : Status) → undoneBy s ≤ 1
+undone-most Waiting = omega arith
+undone-most Failed = omega arith
+undone-most Wrong = omega arith
+undone-most Pending = omega arith
+undone-most Done = omega arith
+
+undone-one : (s t : Status) → (s ≡ Done → t ≡ Done) → undoneBy t ≤ undoneBy s
+undone-one Waiting t f = undone-most t
+undone-one Failed t f = undone-most t
+undone-one Wrong t f = undone-most t
+undone-one Pending t f = undone-most t
+undone-one Done t f = subst (λ (u : Status). undoneBy u ≤ 0) (sym (f refl)) (omega arith)
+
+undone-le : (n : ℕ) (C D : ℕ → Cell) → ((i : ℕ) → i < n → C i .status ≡ Done → D i .status ≡ Done) → undone n D ≤ undone n C
+unfolding undone
+undone-le zero C D f = omega arith
+undone-le (suc n) C D f =
+    let a = undone-one (C n .status) (D n .status) (f n (omega arith)) in
+    let b = undone-le n C D (λ i h. f i (omega arith)) in
+    omega arith
+
+undone-mark : (n : ℕ) (C M : ℕ → Cell) (j : ℕ) → j < n → C j .status ≡ Pending → M j .status ≡ Done →
+    ((i : ℕ) → (i ≡ j → ⊥) → M i ≡ C i) → undone n M < undone n C
+unfolding undone
+undone-mark zero C M j h p q f = absurd (omega arith)
+undone-mark (suc n) C M j h p q f =
+    eq-cases n j
+    (λ e.
+    let a : undoneBy (M n .status) ≡ 0 = ap undoneBy (ap (λ (t : ℕ). M t .status) e ∙ q) in
+    let b : undoneBy (C n .status) ≡ 1 = ap undoneBy (ap (λ (t : ℕ). C t .status) e ∙ p) in
+    let c = undone-le n C M (λ i g d. ap (λ (t : Cell). t .status) (f i (λ z. omega arith)) ∙ d) in
+    omega arith)
+    (λ ne.
+    let a : undoneBy (M n .status) ≡ undoneBy (C n .status) = ap (λ (t : Cell). undoneBy (t .status)) (f n ne) in
+    let b = undone-mark n C M j (let z : (n ≡ j → ⊥) = ne in omega arith) p q f in
+    omega arith)
+
+abbrev pub marked : List Cell → ℕ → WrappingKey → List Cell
+marked cells j key = set cells j (record { status = Done; key = key })
+
+pub fell : (l : List WrapKey) (k : ℕ) (v : List ℕ) (size : ℕ) (cells after : List Cell) (j : ℕ) (key : WrappingKey) →
+    FoundAt cells (length l) j → length l ≤ length cells → AllTried k v size l (marked cells j key) after →
+    undone (length l) (cellAt after) < undone (length l) (cellAt cells)
+fell l k v size cells after j key at h t =
+    let d : Cell = record { status = Done; key = key } in
+    let g : j < length cells = let z = at .inside in omega arith in
+    let here : cellAt (marked cells j key) j ≡ d = getD-set-same cells j d noCell g in
+    let a = undone-mark (length l) (cellAt cells) (cellAt (marked cells j key)) j (at .inside) (at .pends)
+    (ap (λ (c : Cell). c .status) here)
+    (λ i ne. getD-set-other cells j i d noCell ne) in
+    let b = undone-le (length l) (cellAt (marked cells j key)) (cellAt after)
+    (λ i q e. ap (λ (c : Cell). c .status)
+    (tried-stays k v size (keyAt l i) (cellAt (marked cells j key) i) (cellAt after i) (subst Holds (sym e) tt) (t i q)) ∙ e) in
+    omega arith
+
+one-root : (r z : Root) (p : ℕ) → p < 1 → getD (z ∷ []) p r ≡ r → z ≡ r
+one-root r z zero h e = e
+one-root r z (suc p) h e = absurd (omega arith)
+
+module _ (v : List ℕ) (is : Key v) (l : List WrapKey) (size : ℕ) (fit : T (isKey size)) where
+  abbrev pub zero-root : Root
+  zero-root = record { id = 0; value = v }
+
+  only : (r : Root) → In r (keyZero v) → zero-root ≡ r
+  only r m = one-root r zero-root (m .place) (m .inside) (m .is)
+
+  pub root-keys : (r : Root) → In r (keyZero v) → Key (r .value)
+  root-keys r m = subst (λ (q : Root). Key (q .value)) (only r m) is
+
+  abbrev pub Kept : List Cell → Type 0
+  Kept cells = Inv (keyZero v) l size fit root-keys (cellAt cells)
+
+  pub started : (cells : List Cell) → length l ≤ limits .wrapKeys → AllTried 0 v size l (replicate (limits .wrapKeys) noCell) cells →
+      Kept cells
+  started cells h t =
+      begun (keyZero v) l size fit root-keys (cellAt (replicate (limits .wrapKeys) noCell)) (cellAt cells)
+      (λ i g. ap (λ (c : Cell). c .status) (getD-replicate (limits .wrapKeys) i noCell noCell (omega arith))) zero-root
+      (record { place = 0; inside = omega arith; is = refl }) (λ s m. ap (λ (r : Root). r .id) (sym (only s m))) t
+
+  pub turned : (cells after : List Cell) (j : ℕ) → Kept cells → FoundAt cells (length l) j → length l ≤ length cells →
+      AllTried (keyAt l j .keyId) (valueOf (cellAt cells j .key)) size l (marked cells j (cellAt cells j .key)) after → Kept after
+  turned cells after j inv at h t =
+      let d : Cell = record { status = Done; key = cellAt cells j .key } in
+      let g : j < length cells = let z = at .inside in omega arith in
+      turn (keyZero v) l size fit root-keys (cellAt cells) (cellAt (marked cells j (cellAt cells j .key))) inv j (at .inside) (at .pends)
+      (getD-set-same cells j d noCell g) (λ i ne. getD-set-other cells j i d noCell ne) (cellAt after) t
+
+  -- the key of a pending cell is of a right size
+  pub pending-count : (cells : List Cell) (j : ℕ) → Kept cells → FoundAt cells (length l) j → cellAt cells j .key .count ≡ size
+  pending-count cells j inv at =
+      let c = cellAt cells j in
+      let g = holds-good size (K (keyZero v) l size fit root-keys (cellAt cells)) (keyAt l j) (c .status) (c .key)
+      (subst Holds (sym (at .pends)) tt)
+      (inv .good j (at .inside)) in
+      ap (λ (k : WrappingKey). k .count) (g .2 .is) ∙ g .2 .fits
+
+  -- the same, of what the code reads at j
+  module _ (frame : List ℕ) (places : List Entry) (n : ℕ) (cells : List Cell) (j : ℕ) (lists : Lists frame places n l) (inv : Kept cells)
+      (at : FoundAt cells n j) (full : length cells ≡ limits .wrapKeys) where
+    at-j : FoundAt cells (length l) j
+    at-j = subst (λ (m : ℕ). FoundAt cells m j) (sym (lists .count)) at
+
+    in-cells : j < length cells
+    in-cells = let z = at .inside in let y = lists .within in omega arith
+
+    long : length l ≤ length cells
+    long = let z = lists .count in let y = lists .within in omega arith
+
+    pub count-at : (d : Cell) → sizeOf 13 size ≡ true → sizeOf 13 (getD cells j d .key .count) ≡ true
+    count-at d e =
+        ap (sizeOf 13) (ap (λ (c : Cell). c .key .count) (getD-any cells j d noCell in-cells) ∙ pending-count cells j inv at-j) ∙ e
+
+    pub turned-at : (after : List Cell) (dE : Entry) (dC : Cell) → length places ≡ limits .wrapKeys →
+        AllTried (getD places j dE .id) (valueOf (getD cells j dC .key)) size l (marked cells j (getD cells j dC .key)) after → Kept after
+    turned-at after dE dC h t =
+        let g : j < length places = let z = at .inside in let y = lists .within in omega arith in
+        let id : getD places j dE .id ≡ keyAt l j .keyId =
+        ap (λ (e : Entry). e .id) (getD-any places j dE noEntry g) ∙ lists .at j (at .inside) .id in
+        let c : getD cells j dC ≡ cellAt cells j = getD-any cells j dC noCell in-cells in
+        turned cells after j inv at-j long
+        (subst (λ (k : ℕ). AllTried k (valueOf (cellAt cells j .key)) size l (marked cells j (cellAt cells j .key)) after) id
+        (subst (λ (b : Cell). AllTried (getD places j dE .id) (valueOf (b .key)) size l (marked cells j (b .key)) after) c t))
+
+  -- ---- the end
+  module _ (cells : List Cell) (inv : Kept cells) (last : NonePending cells (length l)) where
+    abbrev Known : ℕ → List ℕ → Type 0
+    Known = K (keyZero v) l size fit root-keys (cellAt cells)
+
+    wrong-at : (i : ℕ) → i < length l → (a : List ℕ) × Known (keyAt l i .kwkId) a × WrongSize a size (keyAt l i .wrapped) →
+        Misfits (keyZero v) l size (keyAt l i)
+    wrong-at i h g =
+        let live = known-live (keyZero v) l size fit root-keys (cellAt cells) inv (keyAt l i .kwkId) (g .0) (g .1) in
+        record {
+          x = g .2 .x;
+          passed = live .passed;
+          chain = step (keyAt l i) (live .chain) (live .goes-on)
+              (record { entry = in-at (keyZero v) l size fit root-keys i h; names = refl; opens = g .2 .opens });
+          misfit = g .2 .misfit;
+        }
+
+    done-at : (k : ℕ) (x : List ℕ) → Stands (keyZero v) l size fit root-keys (cellAt cells) k x → Found-in (keyZero v) l size cells k x
+    done-at k x p =
+        record {
+          place = p .place;
+          inside = p .inside;
+          done = holds-done (cellAt cells (p .place) .status) (p .holds) (last (p .place) (p .inside));
+          id-is = p .id-is;
+          value-is = p .value-is;
+        }
+
+    module _ (nonzero : (i : ℕ) → i < length l → keyAt l i .keyId ≡ 0 → ⊥) (one : OneEach (keyZero v) l size cells) where
+      root-id : (k : ℕ) (x : List ℕ) → Root-is (keyZero v) l size fit root-keys k x → k ≡ 0
+      root-id k x p = sym (ap (λ (r : Root). r .id) (only (p .key) (p .stands)) ∙ p .id-is)
+
+      root-value : (k : ℕ) (x : List ℕ) → Root-is (keyZero v) l size fit root-keys k x → v ≡ x
+      root-value k x p = ap (λ (r : Root). r .value) (only (p .key) (p .stands)) ∙ p .value-is
+
+      known-one : (k : ℕ) (a b : List ℕ) → Known k a → Known k b → a ≡ b
+      known-one k a b (inl p) (inl q) = sym (root-value k a p) ∙ root-value k b q
+      known-one k a b (inl p) (inr q) = absurd (nonzero (q .place) (q .inside) (q .id-is ∙ root-id k a p))
+      known-one k a b (inr p) (inl q) = absurd (nonzero (p .place) (p .inside) (p .id-is ∙ root-id k b q))
+      known-one k a b (inr p) (inr q) = one k a b (done-at k a p) (done-at k b q)
+
+      known-found : (k : ℕ) (x : List ℕ) → Reached (keyZero v) l size k x → Known k x → Found-in (keyZero v) l size cells k x
+      known-found k x r (inr p) = done-at k x p
+      known-found k x r (inl p) =
+          let e = last-entry (keyZero v) l size k x r in
+          let q : keyAt l (e .0 .place) ≡ r .last = getD-any l (e .0 .place) noKey (r .last) (e .0 .inside) ∙ e .0 .is in
+          absurd (nonzero (e .0 .place) (e .0 .inside) (ap (λ (a : WrapKey). a .keyId) q ∙ e .1 ∙ root-id k x p))
+
+    pub ended : Searched (keyZero v) l size cells
+    ended =
+        record {
+          gives = λ i h d.
+              let t : Holds (cellAt cells i .status) = subst Holds (sym d) tt in
+              let s = inv .sound i h t in
+              let g = holds-good size Known (keyAt l i) (cellAt cells i .status) (cellAt cells i .key) t (inv .good i h) in
+              record { passed = s .0; chain = s .1; fits = g .2 .fits; is = g .2 .is };
+          misfits = λ i h w. wrong-at i h (subst (λ (s : Status). GoodBy size Known (keyAt l i) s (cellAt cells i .key)) w (inv .good i h));
+          complete = λ nonzero fits one k x r.
+              known-found nonzero one k x r
+              (chain-known (keyZero v) l size fit root-keys (cellAt cells) inv last fits (known-one nonzero one) (r .last ∷ r .before) k x
+              (r .chain));
+        }

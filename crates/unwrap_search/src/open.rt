@@ -1,0 +1,153 @@
+// An entry of the frame, and what opening it under one key makes of it.
+use aes::InverseSchedule;
+use keywrap::Answer;
+use keywrap::open_under;
+use state_keys::kinds::WrappingKey;
+ghost use mathlib.Core.Path.{_≡_};
+ghost use mathlib.Core.Bool.{true};
+ghost use mathlib.Core.List.{List};
+ghost use Prim.Native.Nat.{ℕ, _≤_};
+ghost use lib.ListN.{length};
+ghost use Rattle.aes.specs.inner.Tables.{decipherTables};
+ghost use Rattle.aes.specs.inner.Schedule.{ExpandsInverse, ExpandedInverse};
+ghost use Rattle.state_keys.specs.Algorithms.{sizeOf};
+ghost use Rattle.wire_attributes.specs.Tree.{WrapKey};
+ghost use Rattle.unwrap_search.specs.inner.Entries.{IsEntry};
+ghost use Rattle.unwrap_search.specs.inner.Opened.{Landed, Tried, noCell, waiting, pending, naming};
+
+// A wrapped key of the frame: its Key ID, its KWK ID, and where its wrapped octets stand.
+pub struct Entry {
+    pub id: u32,
+    pub kwk: u32,
+    pub start: usize,
+    pub end: usize,
+}
+
+// What became of an entry: no key that it names is known; it did not open; it opened to a wrong size; it opened, and its own key is yet to
+// be tried on the others, or was.
+pub enum Status {
+    Waiting,
+    Failed,
+    Wrong,
+    Pending,
+    Done,
+}
+
+pub struct Cell {
+    pub status: Status,
+    pub key: WrappingKey,
+}
+
+pub(crate) fn waits(c: Cell) -> bool
+    ensures { λ r. ⌜ r ≡ waiting (c .status) ⌝ }
+{
+    let s = c.status;
+    match s {
+        Status::Waiting => true,
+        Status::Failed => false,
+        Status::Wrong => false,
+        Status::Pending => false,
+        Status::Done => false,
+    }
+}
+
+pub(crate) fn pends(c: Cell) -> bool
+    ensures { λ r. ⌜ r ≡ pending (c .status) ⌝ }
+{
+    let s = c.status;
+    match s {
+        Status::Waiting => false,
+        Status::Failed => false,
+        Status::Wrong => false,
+        Status::Pending => true,
+        Status::Done => false,
+    }
+}
+
+// The cell of an entry of which nothing is known yet.
+pub(crate) fn blank() -> Cell
+    ensures { λ r. ⌜ r ≡ noCell ⌝ }
+{
+    let key = WrappingKey {
+        octets: [0u8; 32],
+        count: 0,
+    };
+    Cell {
+        status: Status::Waiting,
+        key,
+    }
+}
+
+// Opens an entry's octets under the key whose schedule this is; a wrapping key must have `size` octets.
+pub(crate) fn landed(
+    tables: &[u32; 768],
+    schedule: InverseSchedule,
+    size: usize,
+    wrapped: &[u8],
+) -> Cell
+    requires { ⌜ (now tables ≡ decipherTables) × ExpandedInverse (schedule .words) ⌝ }
+    requires { ⌜ sizeOf 13 size ≡ true ⌝ }
+    ensures { λ r. ⌜ ((v : List ℕ) → ExpandsInverse v (schedule .words) → Landed v size (now (wrapped .entry)) r) ⌝ }
+{
+    let opened = open_under(tables, schedule, wrapped);
+    let octets = opened.octets;
+    let answer = opened.answer;
+    let none = WrappingKey {
+        octets: [0u8; 32],
+        count: 0,
+    };
+    match answer {
+        Answer::No => Cell {
+            status: Status::Failed,
+            key: none,
+        },
+        Answer::Count(n) => {
+            if n == size {
+                let made = WrappingKey::new(&octets[..n]);
+                let key = made.key;
+                return Cell {
+                    status: Status::Pending,
+                    key,
+                };
+            }
+            Cell {
+                status: Status::Wrong,
+                key: none,
+            }
+        }
+    }
+}
+
+// Whether the entry waits for the key `id`.
+pub(crate) fn names(id: u32, e: Entry, c: Cell) -> bool
+    ensures { λ r. ⌜ r ≡ naming id e c ⌝ }
+{
+    if e.kwk == id {
+        return waits(c);
+    }
+    false
+}
+
+// The entry's cell after the key `id`, whose schedule this is, was tried on it.
+pub(crate) fn tried_on(
+    frame: &[u8],
+    tables: &[u32; 768],
+    schedule: InverseSchedule,
+    size: usize,
+    id: u32,
+    e: Entry,
+    c: Cell,
+) -> Cell
+    requires { ⌜ (now tables ≡ decipherTables) × ExpandedInverse (schedule .words) ⌝ }
+    requires { ⌜ sizeOf 13 size ≡ true ⌝ }
+    requires { ⌜ (e .start ≤ e .end) × (e .end ≤ length (now frame)) ⌝ }
+    ensures { λ r. ⌜ ((w : WrapKey) (v : List ℕ) → IsEntry (now (frame .entry)) e w → ExpandsInverse v (schedule .words) →
+        Tried id v size w c r) ⌝ }
+{
+    if names(id, e, c) {
+        let a = e.start;
+        let b = e.end;
+        return landed(tables, schedule, size, &frame[a..b]);
+    }
+    c
+}

@@ -1,0 +1,164 @@
+// The search: which entries a chain from key 0 leads to. Each entry is opened at most once, wherever it stands, and each key's schedule is
+// expanded once, and only if an entry that waits names it.
+use crate::open::Cell;
+use crate::open::Entry;
+use crate::open::Status;
+use crate::open::blank;
+use crate::open::names;
+use crate::open::pends;
+use crate::open::tried_on;
+use aes::InverseSchedule;
+use aes::expand_inverse;
+use aes::inverse_tables;
+use state_keys::kinds::WrappingKey;
+use state_keys::limits::WRAP_KEYS;
+ghost use mathlib.Core.Path.{_≡_};
+ghost use mathlib.Core.Bool.{true, false};
+ghost use mathlib.Core.List.{List};
+ghost use Prim.Native.Nat.{ℕ, _≤_, _<_};
+ghost use Rattle.fips197.specs.Key.{Key};
+ghost use Rattle.aes.specs.inner.Tables.{decipherTables};
+ghost use Rattle.aes.specs.inner.Schedule.{ExpandsInverse, ExpandedInverse};
+ghost use Rattle.state_keys.specs.Limits.{limits};
+ghost use Rattle.state_keys.specs.Algorithms.{sizeOf};
+ghost use Rattle.wire_attributes.specs.Tree.{WrapKey};
+ghost use Rattle.unwrap_search.specs.inner.Entries.{Lists};
+ghost use Rattle.state_keys.specs.Kinds.{valueOf};
+ghost use Rattle.unwrap_search.specs.inner.Search.{AllTried, Unnamed, Finds, Searched, keyZero};
+
+pub enum Found {
+    At(usize),
+    Nothing,
+}
+
+// Whether an entry that waits names the key.
+fn is_named(id: u32, entries: [Entry; WRAP_KEYS], cells: [Cell; WRAP_KEYS], n: usize) -> bool
+    requires { ⌜ n ≤ limits .wrapKeys ⌝ }
+    ensures { λ r. ⌜ (r ≡ false → Unnamed id entries cells n) ⌝ }
+{
+    let mut i: usize = 0;
+    while i < n {
+        let e = entries[i];
+        let c = cells[i];
+        if names(id, e, c) {
+            return true;
+        }
+        i += 1;
+    }
+    false
+}
+
+// The cells after the key whose schedule this is was tried on each.
+fn tried(
+    frame: &[u8],
+    tables: &[u32; 768],
+    schedule: InverseSchedule,
+    size: usize,
+    id: u32,
+    entries: [Entry; WRAP_KEYS],
+    cells: [Cell; WRAP_KEYS],
+    n: usize,
+) -> [Cell; WRAP_KEYS]
+    requires { ⌜ n ≤ limits .wrapKeys ⌝ }
+    requires { ⌜ (now tables ≡ decipherTables) × ExpandedInverse (schedule .words) ⌝ }
+    requires { ⌜ sizeOf 13 size ≡ true ⌝ }
+    requires { ⌜ ((l : List WrapKey) × Lists (now frame) entries n l) ⌝ }
+    ensures { λ r. ⌜ ((l : List WrapKey) (v : List ℕ) → Lists (now (frame .entry)) entries n l →
+        ExpandsInverse v (schedule .words) → AllTried id v size l cells r) ⌝ }
+{
+    let mut out = cells;
+    let mut i: usize = 0;
+    while i < n {
+        let e = entries[i];
+        let c = out[i];
+        out[i] = tried_on(frame, tables, schedule, size, id, e, c);
+        i += 1;
+    }
+    out
+}
+
+// The cells after the key `id` was tried on each; its schedule is expanded only if an entry that waits names it.
+fn with_key(
+    frame: &[u8],
+    tables: &[u32; 768],
+    key: WrappingKey,
+    size: usize,
+    id: u32,
+    entries: [Entry; WRAP_KEYS],
+    cells: [Cell; WRAP_KEYS],
+    n: usize,
+) -> [Cell; WRAP_KEYS]
+    requires { ⌜ n ≤ limits .wrapKeys ⌝ }
+    requires { ⌜ (now tables ≡ decipherTables) × (sizeOf 13 (key .count) ≡ true) ⌝ }
+    requires { ⌜ sizeOf 13 size ≡ true ⌝ }
+    requires { ⌜ ((l : List WrapKey) × Lists (now frame) entries n l) ⌝ }
+    ensures { λ r. ⌜ ((l : List WrapKey) → Lists (now (frame .entry)) entries n l → AllTried id (valueOf key) size l cells r) ⌝ }
+{
+    if is_named(id, entries, cells, n) {
+        let octets = key.octets;
+        let m = key.count;
+        let schedule = expand_inverse(tables, &octets[..m]);
+        return tried(frame, tables, schedule, size, id, entries, cells, n);
+    }
+    cells
+}
+
+// A cell whose key is yet to be tried.
+fn first_pending(cells: [Cell; WRAP_KEYS], n: usize) -> Found
+    requires { ⌜ n ≤ limits .wrapKeys ⌝ }
+    ensures { λ r. ⌜ Finds cells n r ⌝ }
+{
+    let mut i: usize = 0;
+    while i < n {
+        let c = cells[i];
+        if pends(c) {
+            return Found::At(i);
+        }
+        i += 1;
+    }
+    Found::Nothing
+}
+
+// What becomes of each entry when the chains start with the lent key as key 0. Internal.
+pub fn search(
+    frame: &[u8],
+    lent: WrappingKey,
+    entries: [Entry; WRAP_KEYS],
+    n: usize,
+) -> [Cell; WRAP_KEYS]
+    requires { ⌜ n ≤ limits .wrapKeys ⌝ }
+    requires { ⌜ sizeOf 13 (lent .count) ≡ true ⌝ }
+    requires { ⌜ Key (valueOf lent) ⌝ }
+    requires { ⌜ ((l : List WrapKey) × Lists (now frame) entries n l) ⌝ }
+    ensures { λ r. ⌜ ((l : List WrapKey) → Lists (now (frame .entry)) entries n l → Searched (keyZero (valueOf lent)) l (lent .count) r) ⌝ }
+{
+    let size = lent.count;
+    let tables = inverse_tables();
+    let mut cells = with_key(
+        frame,
+        &tables,
+        lent,
+        size,
+        0,
+        entries,
+        [blank(); WRAP_KEYS],
+        n,
+    );
+    loop {
+        match first_pending(cells, n) {
+            Found::At(j) => {
+                let e = entries[j];
+                let c = cells[j];
+                let key = c.key;
+                cells[j] = Cell {
+                    status: Status::Done,
+                    key,
+                };
+                cells = with_key(frame, &tables, key, size, e.id, entries, cells, n);
+            }
+            Found::Nothing => {
+                return cells;
+            }
+        }
+    }
+}

@@ -1,0 +1,16 @@
+-- What an entry's cell adds to the keys that are reached. Inner.
+use mathlib.Core.Path.{_≡_}
+use mathlib.Core.Bool.{true, false}
+use Rattle.state_keys.specs.Limits.{limits}
+use Rattle.state.specs.Held.{heldKey, enteredKey}
+use Rattle.state.specs.declared.held.Held.{Held}
+use Rattle.unwrap_search.specs.declared.open.Status.the-variants.{Done}
+use Rattle.unwrap_search.specs.declared.open.Entry.{Entry}
+use Rattle.unwrap_search.specs.declared.open.Cell.{Cell}
+
+-- the held list r is `held` with the key of entry e, unless the entry is not reached or its Key ID stands there
+pub data Joins (e : Entry) (c : Cell) (held r : Held) : Type 0 where
+  not-reached : (c .status ≡ Done → ⊥) → r ≡ held → Joins e c held r
+  stands : heldKey limits (e .id) held .fits ≡ true → r ≡ held → Joins e c held r
+  enters : c .status ≡ Done → heldKey limits (e .id) held .fits ≡ false →
+      r ≡ enteredKey limits (record { id = e .id; key = c .key }) held → Joins e c held r

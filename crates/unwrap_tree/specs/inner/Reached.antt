@@ -1,0 +1,36 @@
+-- What a registration's KD body says of chains: its entries, number 8 of them, and the held list.
+use Prim.Native.Nat.{ℕ}
+use mathlib.Core.Path.{_≡_}
+use mathlib.Core.Bool.{true, false}
+use mathlib.Core.List.{List, []}
+use Rattle.wire_attributes.specs.Tree.{WrapKey}
+use Rattle.wire_bags.specs.Bag.{Bag, MemberKeyBag}
+use Rattle.rules_chains.specs.Chain.{Root}
+use Rattle.rules_chains.specs.Refusals.{EntriesEight}
+use Rattle.state_keys.specs.Limits.{limits}
+use Rattle.state_keys.specs.declared.kinds.WrappingKey.{WrappingKey}
+use Rattle.state.specs.Held.{heldOf, heldFormed}
+use Rattle.rules_outcome.specs.After.{HeldAre}
+use Rattle.unwrap_conflicts.specs.inner.Values.{Tells}
+use Rattle.unwrap_copies.specs.inner.Known.{Agrees}
+use Rattle.unwrap_tree.specs.declared.held.Reached.{Reached}
+use Rattle.wire_readers.specs.inner.Bags.{bagsIn}
+use Rattle.rules_refusals.specs.Contents.{gather, memberBagOf}
+
+-- the WRAP_KEYs of these bags: they stand in Member Key Bags alone
+abbrev pub wrapKeysAmong : List Bag → List WrapKey
+wrapKeysAmong l = gather (λ (b : MemberKeyBag). b .keys) (gather memberBagOf l)
+
+-- those of a KD body
+abbrev pub wrapKeysIn : List ℕ → List WrapKey
+wrapKeysIn k = wrapKeysAmong (bagsIn k)
+
+module _ (roots : List Root) (entries : List WrapKey) (size : ℕ) where
+  -- the answer: whether number 8 holds of the entries; where it does not, the held list, which is as a member's must be, and with `zero` as
+  -- key 0 the keys on which a chain ends; where it does, no list
+  pub record Answers (zero : WrappingKey) (r : Reached) : Type 0 where
+    pub eight : Tells (r .eight) (EntriesEight roots entries size)
+    pub held : r .eight ≡ false → HeldAre roots entries size limits (r .held)
+    pub formed : r .eight ≡ false → heldFormed limits (r .held) ≡ true
+    pub agrees : r .eight ≡ false → Agrees roots entries size zero (r .held)
+    pub none : r .eight ≡ true → r .held ≡ heldOf limits []

@@ -1,0 +1,61 @@
+// The keys that a search reached, as a held list.
+use state::held::Held;
+use state::held::HeldKey;
+use state_keys::limits::WRAP_KEYS;
+use unwrap_conflicts::is_done;
+use unwrap_search::open::Cell;
+use unwrap_search::open::Entry;
+ghost use mathlib.Core.Path.{_≡_};
+ghost use mathlib.Core.Bool.{true};
+ghost use mathlib.Core.List.{List};
+ghost use Prim.Native.Nat.{ℕ, _≤_};
+ghost use Rattle.wire_attributes.specs.Tree.{WrapKey};
+ghost use Rattle.state_keys.specs.Algorithms.{sizeOf};
+ghost use Rattle.state_keys.specs.Limits.{limits};
+ghost use Rattle.state.specs.Held.{heldFormed};
+ghost use Rattle.rules_outcome.specs.After.{HeldAre};
+ghost use Rattle.rules_chains.specs.Chain.{Root};
+ghost use Rattle.rules_chains.specs.Refusals.{EntriesEight};
+ghost use Rattle.unwrap_search.specs.inner.Entries.{Lists};
+ghost use Rattle.unwrap_search.specs.inner.Search.{Searched, Nonzero};
+ghost use Rattle.unwrap_tree.specs.inner.Joins.{Joins};
+
+// Whether number 8 holds of the entries; if not, the keys that they reach.
+pub struct Reached {
+    pub eight: bool,
+    pub held: Held,
+}
+
+// The list with the key of an entry that was reached. Two entries may give one key; they give it one value where number 8 does not hold.
+fn with_cell(held: Held, e: Entry, c: Cell) -> Held
+    ensures { λ r. ⌜ Joins e c held r ⌝ }
+{
+    if is_done(c) {
+        let id = e.id;
+        let there = held.find(id);
+        if there.fits {
+            return held;
+        }
+        let key = c.key;
+        return held.entered(HeldKey { id, key });
+    }
+    held
+}
+
+// The keys that the entries of these places reach, by the cells of their search. Internal.
+pub fn held_of(entries: [Entry; WRAP_KEYS], cells: [Cell; WRAP_KEYS], n: usize) -> Held
+    requires { ⌜ n ≤ limits .wrapKeys ⌝ }
+    ensures { λ r. ⌜ ((frame : List ℕ) (roots : List Root) (l : List WrapKey) (size : ℕ) → Lists frame entries n l →
+        Searched roots l size cells → Nonzero l → sizeOf 13 size ≡ true → (EntriesEight roots l size → ⊥) →
+        HeldAre roots l size limits r × (heldFormed limits r ≡ true)) ⌝ }
+{
+    let mut held = Held::new();
+    let mut i: usize = 0;
+    while i < n {
+        let e = entries[i];
+        let c = cells[i];
+        held = with_cell(held, e, c);
+        i += 1;
+    }
+    held
+}

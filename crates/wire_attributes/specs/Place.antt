@@ -1,0 +1,50 @@
+-- Which attribute is read where, in which format and size. Document 01: "Read, in the format and size of 001's tables, are Key Length in a
+-- type 1 transform, GSA_INITIAL_MESSAGE_ID in a Rekey policy, the deactivation delay in a group-wide policy, SA_KEY and WRAP_KEY; any other
+-- is skipped (house)." Document 02, T-07: "GSA_KEY_LIFETIME, read in every policy": in every Group SA policy.
+use Prim.Native.Nat.{ℕ, _%_}
+use mathlib.Core.Bool.{Bool, true, not}
+use lib.Dec.{leb, eqb}
+use Rattle.octets.specs.Walk.{either, both}
+use Rattle.wire_attributes.specs.declared.tables.Place.{Place}
+use Rattle.wire_attributes.specs.declared.tables.Place.the-variants as place
+use Rattle.wire_attributes.specs.declared.tables.Meaning.{Meaning}
+use Rattle.wire_attributes.specs.declared.tables.Meaning.the-variants as meaning
+
+-- the table: a place, an attribute's type, what it is there (RFC 7296, section 3.3.5; RFC 9838, sections 4.4.2.2, 4.4.3.1, 4.5.2, 4.5.3)
+abbrev pub meaningOf : Place → ℕ → Meaning
+meaningOf place.EncryptionTransform k = either (eqb k 14) meaning.KeyLength meaning.Skipped
+meaningOf place.OtherTransform k = meaning.Skipped
+meaningOf place.RekeyPolicy k = either (eqb k 1) meaning.KeyLifetime (either (eqb k 2) meaning.InitialMessageId meaning.Skipped)
+meaningOf place.DataPolicy k = either (eqb k 1) meaning.KeyLifetime meaning.Skipped
+meaningOf place.GroupWidePolicy k = either (eqb k 2) meaning.DeactivationDelay meaning.Skipped
+meaningOf place.RekeyBag k = either (eqb k 1) meaning.SaKey meaning.Skipped
+meaningOf place.DataBag k = either (eqb k 1) meaning.SaKey meaning.Skipped
+meaningOf place.MemberBag k = either (eqb k 1) meaning.WrapKey meaning.Skipped
+
+-- a wrapped key's value: Key ID 4, KWK ID 4, then 16 to 264 octets, a multiple of 8 (document 01)
+abbrev pub wrappedSize : ℕ → Bool
+wrappedSize n = both (leb 24 n) (both (leb n 272) (eqb (n % 8) 0))
+
+-- a number of 4 octets, TLV: GSA_INITIAL_MESSAGE_ID, and GSA_KEY_LIFETIME, "a 4-octet unsigned integer" (RFC 9838, section 4.4.2.2.1)
+abbrev pub fourOctets : Bool → ℕ → Bool
+fourOctets short n = both (not short) (eqb n 4)
+
+-- the format (short is TV) and the size of the value that each has by those tables; what is skipped may have any
+abbrev pub formed : Meaning → Bool → ℕ → Bool
+formed meaning.Skipped short n = true
+formed meaning.KeyLength short n = short
+formed meaning.InitialMessageId short n = fourOctets short n
+formed meaning.DeactivationDelay short n = short
+formed meaning.KeyLifetime short n = fourOctets short n
+formed meaning.SaKey short n = both (not short) (wrappedSize n)
+formed meaning.WrapKey short n = both (not short) (wrappedSize n)
+
+-- a transform of type 1 (Encryption Algorithm), a policy or a Group Key Bag of protocol 6 (GIKE_UPDATE, the Rekey SA)
+abbrev pub inTransform : ℕ → Place
+inTransform t = either (eqb t 1) place.EncryptionTransform place.OtherTransform
+
+abbrev pub inPolicy : ℕ → Place
+inPolicy p = either (eqb p 6) place.RekeyPolicy place.DataPolicy
+
+abbrev pub inBag : ℕ → Place
+inBag p = either (eqb p 6) place.RekeyBag place.DataBag

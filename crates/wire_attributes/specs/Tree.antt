@@ -1,0 +1,75 @@
+-- What the attributes that are read say. SA_KEY and WRAP_KEY have the same number and layout and are two types here: only the place, the
+-- bag in which it stands, makes an attribute one of them.
+use Prim.Native.Nat.{ℕ}
+use mathlib.Core.List.{List, [], _∷_, map}
+use mathlib.Core.Bool.{Bool}
+use lib.ListN.{drop}
+use lib.Dec.{eqb}
+use Rattle.octets.specs.Walk.{be16, be32, either}
+use Rattle.wire_attributes.specs.Attribute.{Attribute}
+use Rattle.wire_attributes.specs.Place.{meaningOf}
+use Rattle.wire_attributes.specs.declared.tables.Place.{Place}
+use Rattle.wire_attributes.specs.declared.tables.Meaning.{Meaning}
+use Rattle.wire_attributes.specs.declared.tables.Meaning.the-variants as meaning
+
+-- the keying octets of an SA, wrapped (RFC 9838, sections 4.5.2.1 and 4.5.4)
+pub record SaKey : Type 0 where
+  pub keyId : ℕ
+  pub kwkId : ℕ
+  pub wrapped : List ℕ
+
+-- a key that wraps others, itself wrapped (RFC 9838, sections 4.5.3.1 and 4.5.4)
+pub record WrapKey : Type 0 where
+  pub keyId : ℕ
+  pub kwkId : ℕ
+  pub wrapped : List ℕ
+
+abbrev pub saKeyOf : List ℕ → SaKey
+saKeyOf v = record { keyId = be32 v 0; kwkId = be32 v 4; wrapped = drop 8 v }
+
+abbrev pub wrapKeyOf : List ℕ → WrapKey
+wrapKeyOf v = record { keyId = be32 v 0; kwkId = be32 v 4; wrapped = drop 8 v }
+
+-- a number for each meaning, to compare them by
+abbrev pub codeOf : Meaning → ℕ
+codeOf meaning.Skipped = 0
+codeOf meaning.KeyLength = 1
+codeOf meaning.InitialMessageId = 2
+codeOf meaning.DeactivationDelay = 3
+codeOf meaning.KeyLifetime = 4
+codeOf meaning.SaKey = 5
+codeOf meaning.WrapKey = 6
+
+abbrev pub means : Meaning → Place → Attribute → Bool
+means m p a = eqb (codeOf (meaningOf p (a .kind))) (codeOf m)
+
+-- the values of the attributes that have a meaning in a place, in their order
+unfoldable pub valuesOf : Meaning → Place → List Attribute → List (List ℕ)
+valuesOf m p [] = []
+valuesOf m p (a ∷ l) = either (means m p a) (a .value ∷ valuesOf m p l) (valuesOf m p l)
+
+-- the number that a value of two octets is, and one of four
+abbrev pub two : List ℕ → ℕ
+two v = be16 v 0
+
+abbrev pub four : List ℕ → ℕ
+four v = be32 v 0
+
+-- what those attributes say: Key Length in bits, the first Message ID, the delay and the lifetime in seconds, the wrapped keys
+abbrev pub keyLengths : Place → List Attribute → List ℕ
+keyLengths p l = map two (valuesOf meaning.KeyLength p l)
+
+abbrev pub initialMessageIds : Place → List Attribute → List ℕ
+initialMessageIds p l = map four (valuesOf meaning.InitialMessageId p l)
+
+abbrev pub deactivationDelays : Place → List Attribute → List ℕ
+deactivationDelays p l = map two (valuesOf meaning.DeactivationDelay p l)
+
+abbrev pub keyLifetimes : Place → List Attribute → List ℕ
+keyLifetimes p l = map four (valuesOf meaning.KeyLifetime p l)
+
+abbrev pub saKeys : Place → List Attribute → List SaKey
+saKeys p l = map saKeyOf (valuesOf meaning.SaKey p l)
+
+abbrev pub wrapKeys : Place → List Attribute → List WrapKey
+wrapKeys p l = map wrapKeyOf (valuesOf meaning.WrapKey p l)

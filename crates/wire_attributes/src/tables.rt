@@ -1,0 +1,175 @@
+// Which attribute is read where, in which format and size.
+ghost use mathlib.Core.Path.{_≡_};
+ghost use Prim.Native.Nat.{_<_};
+ghost use Rattle.wire_attributes.specs.Place.{meaningOf, wrappedSize, fourOctets, formed, inTransform, inPolicy, inBag};
+ghost use Rattle.wire_attributes.specs.Tree.{codeOf};
+
+// Where an attribute stands.
+pub enum Place {
+    EncryptionTransform,
+    OtherTransform,
+    RekeyPolicy,
+    DataPolicy,
+    GroupWidePolicy,
+    RekeyBag,
+    DataBag,
+    MemberBag,
+}
+
+// What an attribute is in its place.
+pub enum Meaning {
+    Skipped,
+    KeyLength,
+    InitialMessageId,
+    DeactivationDelay,
+    KeyLifetime,
+    SaKey,
+    WrapKey,
+}
+
+// The table of attributes by place. Internal.
+pub fn meaning_in(place: Place, kind: usize) -> Meaning
+    ensures { λ r. ⌜ r ≡ meaningOf place kind ⌝ }
+{
+    match place {
+        Place::EncryptionTransform => {
+            if kind == 14 {
+                return Meaning::KeyLength;
+            }
+            Meaning::Skipped
+        }
+        Place::RekeyPolicy => {
+            if kind == 1 {
+                return Meaning::KeyLifetime;
+            }
+            if kind == 2 {
+                return Meaning::InitialMessageId;
+            }
+            Meaning::Skipped
+        }
+        Place::GroupWidePolicy => {
+            if kind == 2 {
+                return Meaning::DeactivationDelay;
+            }
+            Meaning::Skipped
+        }
+        Place::RekeyBag => {
+            if kind == 1 {
+                return Meaning::SaKey;
+            }
+            Meaning::Skipped
+        }
+        Place::DataBag => {
+            if kind == 1 {
+                return Meaning::SaKey;
+            }
+            Meaning::Skipped
+        }
+        Place::MemberBag => {
+            if kind == 1 {
+                return Meaning::WrapKey;
+            }
+            Meaning::Skipped
+        }
+        Place::DataPolicy => {
+            if kind == 1 {
+                return Meaning::KeyLifetime;
+            }
+            Meaning::Skipped
+        }
+        Place::OtherTransform => Meaning::Skipped,
+    }
+}
+
+// The size of a wrapped key's value: two IDs and 16 to 264 octets, a multiple of 8. Internal.
+fn is_wrapped_size(n: usize) -> bool
+    ensures { λ r. ⌜ r ≡ wrappedSize n ⌝ }
+{
+    if n < 24 {
+        return false;
+    }
+    if 272 < n {
+        return false;
+    }
+    n % 8 == 0
+}
+
+// Whether a value stands as TLV and has four octets.
+fn is_four_octets(short: bool, n: usize) -> bool
+    ensures { λ r. ⌜ r ≡ fourOctets short n ⌝ }
+{
+    if short {
+        return false;
+    }
+    n == 4
+}
+
+// Whether an attribute has the format and the size of value that its meaning asks for. Internal.
+pub fn is_formed(m: Meaning, short: bool, n: usize) -> bool
+    ensures { λ r. ⌜ r ≡ formed m short n ⌝ }
+{
+    match m {
+        Meaning::Skipped => true,
+        Meaning::KeyLength => short,
+        Meaning::DeactivationDelay => short,
+        Meaning::InitialMessageId => is_four_octets(short, n),
+        Meaning::KeyLifetime => is_four_octets(short, n),
+        Meaning::SaKey => {
+            if short {
+                return false;
+            }
+            is_wrapped_size(n)
+        }
+        Meaning::WrapKey => {
+            if short {
+                return false;
+            }
+            is_wrapped_size(n)
+        }
+    }
+}
+
+// The place of a transform's attributes. Internal.
+pub fn in_transform(kind: usize) -> Place
+    ensures { λ r. ⌜ r ≡ inTransform kind ⌝ }
+{
+    if kind == 1 {
+        return Place::EncryptionTransform;
+    }
+    Place::OtherTransform
+}
+
+// The place of a Group SA policy's attributes. Internal.
+pub fn in_policy(protocol: usize) -> Place
+    ensures { λ r. ⌜ r ≡ inPolicy protocol ⌝ }
+{
+    if protocol == 6 {
+        return Place::RekeyPolicy;
+    }
+    Place::DataPolicy
+}
+
+// The place of a Group Key Bag's attributes. Internal.
+pub fn in_bag(protocol: usize) -> Place
+    ensures { λ r. ⌜ r ≡ inBag protocol ⌝ }
+{
+    if protocol == 6 {
+        return Place::RekeyBag;
+    }
+    Place::DataBag
+}
+
+// A number for each meaning. Internal.
+pub fn code(m: Meaning) -> usize
+    ensures { λ r. ⌜ r ≡ codeOf m ⌝ }
+{
+    match m {
+        Meaning::Skipped => 0,
+        Meaning::KeyLength => 1,
+        Meaning::InitialMessageId => 2,
+        Meaning::DeactivationDelay => 3,
+        Meaning::KeyLifetime => 4,
+        Meaning::SaKey => 5,
+        Meaning::WrapKey => 6,
+    }
+}

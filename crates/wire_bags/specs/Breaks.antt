@@ -1,0 +1,22 @@
+-- WHERE KEY BAGS BREAK, defined without the readers (document 02, T-06): s is the octets from the bag's first on, to the end of its
+-- payload, and b the offset of that first octet.
+use Prim.Native.Nat.{ℕ, _+_}
+use mathlib.Core.List.{List}
+use Rattle.octets.specs.Numbers.{oct}
+use Rattle.octets.specs.Walk.{be16, part}
+use Rattle.octets.specs.Breaks.{BreaksStructure, BreaksInRow}
+use Rattle.wire_attributes.specs.Breaks.{BreaksAttributes}
+use Rattle.wire_policies.specs.Policy.{spiSize}
+use Rattle.wire_policies.specs.Breaks.{FaultOfHead}
+use Rattle.wire_bags.specs.Bag.{placeOf}
+use Rattle.wire_bags.specs.Grammar.{IsBag}
+
+-- what it holds after its head, an SPI or none: attributes
+abbrev pub BreaksBag : ℕ → List ℕ → ℕ → Type 0
+BreaksBag b s o =
+    BreaksStructure (FaultOfHead s)
+    (BreaksAttributes (placeOf (oct s 0)) (b + (4 + spiSize (oct s 0))) (part s (4 + spiSize (oct s 0)) (be16 s 2)) o) b o
+
+-- bags to the end
+abbrev pub BreaksBags : ℕ → List ℕ → ℕ → Type 0
+BreaksBags b s o = BreaksInRow IsBag BreaksBag b s o

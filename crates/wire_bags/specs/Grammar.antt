@@ -1,0 +1,42 @@
+-- THESE OCTETS ARE THIS KEY BAG, defined without the readers (RFC 9838, sections 4.5.2 and 4.5.3).
+use Prim.Native.Nat.{ℕ, _+_, _<_, _≤_}
+use mathlib.Core.Path.{_≡_}
+use mathlib.Core.List.{List}
+use lib.ListN.{length, drop}
+use Rattle.octets.specs.Numbers.{oct}
+use Rattle.octets.specs.Walk.{be16, part, Row}
+use Rattle.wire_attributes.specs.Attribute.{Attribute}
+use Rattle.wire_attributes.specs.Place.{inBag}
+use Rattle.wire_attributes.specs.Tree.{saKeys, wrapKeys}
+use Rattle.wire_attributes.specs.Grammar.{Attributes}
+use Rattle.wire_attributes.specs.declared.tables.Place.the-variants as place
+use Rattle.wire_policies.specs.Policy.{spiSize}
+use Rattle.wire_bags.specs.Bag.{GroupKeyBag, MemberKeyBag, Bag, groupKeys, memberKeys}
+
+-- "Group Key Bag (protocol, SPI size, length 2, SPI, attributes; SA_KEY 1)"
+pub record IsGroupKeyBag (o : List ℕ) (x : GroupKeyBag) : Type 0 where
+  pub protocol : oct o 0 ≡ x .protocol
+  pub known : 0 < spiSize (x .protocol)
+  pub spiOctets : oct o 1 ≡ spiSize (x .protocol)
+  pub size : be16 o 2 ≡ length o
+  pub least : 4 + spiSize (x .protocol) ≤ length o
+  pub spi : part o 4 (4 + spiSize (x .protocol)) ≡ x .spi
+  pub attributes : List Attribute
+  pub held : Attributes (inBag (x .protocol)) (drop (4 + spiSize (x .protocol)) o) attributes
+  pub keys : saKeys (inBag (x .protocol)) attributes ≡ x .keys
+
+-- "Member Key Bag (0, reserved, length 2, attributes; WRAP_KEY 1, ..)"
+pub record IsMemberKeyBag (o : List ℕ) (x : MemberKeyBag) : Type 0 where
+  pub first : oct o 0 ≡ 0
+  pub size : be16 o 2 ≡ length o
+  pub least : 4 ≤ length o
+  pub attributes : List Attribute
+  pub held : Attributes place.MemberBag (drop 4 o) attributes
+  pub keys : wrapKeys place.MemberBag attributes ≡ x .keys
+
+pub data IsBag (o : List ℕ) : Bag → Type 0 where
+  is-group : {x : GroupKeyBag} → IsGroupKeyBag o x → IsBag o (groupKeys x)
+  is-member : {x : MemberKeyBag} → IsMemberKeyBag o x → IsBag o (memberKeys x)
+
+abbrev pub Bags : List ℕ → List Bag → Type 0
+Bags s l = Row IsBag s l

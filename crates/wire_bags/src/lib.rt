@@ -1,0 +1,56 @@
+// Key bags of a KD payload (RFC 9838, section 4.5).
+ghost use mathlib.Core.Path.{_≡_};
+ghost use Prim.Native.Nat.{_+_, _<_};
+ghost use lib.ListN.{length};
+ghost use Rattle.wire_attributes.specs.Answers.{layoutOf, spotOf};
+ghost use Rattle.wire_bags.specs.Bag.{placeOf, bag, bags};
+use wire_attributes::Layout;
+use wire_attributes::Spot;
+use wire_attributes::tables::Place;
+
+// The place of a bag's attributes, by the bag's first octet. Internal.
+pub fn place_of(first: usize) -> Place
+    ensures { λ r. ⌜ r ≡ placeOf first ⌝ }
+{
+    if first == 0 {
+        return Place::MemberBag;
+    }
+    wire_attributes::tables::in_bag(first)
+}
+
+// The key bag that the octets, which start at the offset base, start with: where it ends. Internal.
+pub fn bag_spot(s: &[u8], base: usize) -> Spot
+    requires { ⌜ base + length (now s) < 4294967296 ⌝ }
+    ensures { λ r. ⌜ r ≡ spotOf (now (s .entry)) (bag base (now (s .entry))) ⌝ }
+{
+    if wire_policies::head_fits(s) {
+        let p = octets::wide(s[0]);
+        let n = octets::numbers::be16_at(s, 2);
+        let z = 4 + wire_policies::spi_size(p);
+        match wire_attributes::are_attributes(place_of(p), &s[z..n], base + z) {
+            Layout::Whole => Spot::Ends(n),
+            Layout::Broken(o) => Spot::Broken(o),
+        }
+    } else {
+        Spot::Broken(base)
+    }
+}
+
+// Whether the octets, which start at the offset base, are key bags to their end. Internal.
+pub fn are_bags(s: &[u8], base: usize) -> Layout
+    requires { ⌜ base + length (now s) < 4294967296 ⌝ }
+    ensures { λ r. ⌜ r ≡ layoutOf (bags base (now (s .entry))) ⌝ }
+{
+    let mut at = 0;
+    while at < s.len() {
+        match bag_spot(&s[at..], base + at) {
+            Spot::Ends(e) => {
+                at = at + e;
+            }
+            Spot::Broken(o) => {
+                return Layout::Broken(o);
+            }
+        }
+    }
+    Layout::Whole
+}

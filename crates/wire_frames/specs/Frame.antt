@@ -1,0 +1,95 @@
+-- A frame (document 01): "a plain 28-octet IKE header (RFC 7296 section 3.1), then the opened payloads", as a tree, or the offset of the
+-- structure whose layout broke first.
+use Prim.Native.Nat.{ℕ}
+use mathlib.Core.List.{List, [], _∷_}
+use mathlib.Core.Bool.{Bool, true}
+use lib.ListN.{drop}
+use lib.Dec.{eqb}
+use Rattle.octets.specs.Numbers.{oct}
+use Rattle.octets.specs.Walk.{be16, either, Reading, whole, broken, Reader, mapped, opened, begun, within, Linked, chain}
+use Rattle.wire_attributes.specs.declared.Layout.{Layout}
+use Rattle.wire_attributes.specs.declared.Layout.the-variants as layout
+use Rattle.wire_attributes.specs.Answers.{layoutOf}
+use Rattle.wire_policies.specs.Policy.{Policy, policies}
+use Rattle.wire_bags.specs.Bag.{Bag, bags}
+use Rattle.wire_frames.specs.Header.{Header, headerOf, firstPayload, headerFits, payloadFits, isCritical}
+use Rattle.wire_frames.specs.Delete.{Delete, deleteOf, deleteFits}
+
+-- "Known: IDr 36, CERT 37, AUTH 39, N 41, D 42, GSA 51, KD 52. The bodies of 36, 37, 39 and 41 are not read. Others are skipped"
+abbrev pub isKnown : ℕ → Bool
+isKnown k =
+    either (eqb k 36) true (either (eqb k 37) true (either (eqb k 39) true (either (eqb k 41) true
+    (either (eqb k 42) true (either (eqb k 51) true (eqb k 52))))))
+
+pub data Content : Type 0 where
+  gsa : List Policy → Content
+  kd : List Bag → Content
+  delete : Delete → Content
+  unread : Content
+
+pub record Payload : Type 0 where
+  pub kind : ℕ
+  pub critical : Bool
+  pub content : Content
+
+pub record Frame : Type 0 where
+  pub header : Header
+  pub payloads : List Payload
+
+-- the bodies that are read: GSA holds policies, KD key bags; a broken Delete counts for its payload, whose offset is h
+abbrev pub gsaBody : Reader Content
+gsaBody b s = mapped gsa (policies b s)
+
+abbrev pub kdBody : Reader Content
+kdBody b s = mapped kd (bags b s)
+
+abbrev pub deleteBody : ℕ → Reader Content
+deleteBody h b s = opened h (deleteFits s) (whole (delete (deleteOf s)) [])
+
+-- the others, known or not, are not read
+abbrev pub unreadBody : Reader Content
+unreadBody b s = whole unread []
+
+-- the body of a payload of the kind k whose offset is h
+unfoldable pub body : ℕ → ℕ → Reader Content
+body k h b s = either (eqb k 51) (gsaBody b s) (either (eqb k 52) (kdBody b s) (either (eqb k 42) (deleteBody h b s) (unreadBody b s)))
+
+-- the payload s of the kind k, and the kind of the next
+abbrev pub payloadOf : ℕ → List ℕ → Content → Linked ℕ Payload
+payloadOf k s c = record { item = record { kind = k; critical = isCritical s; content = c }; next = oct s 0 }
+
+-- a payload that "next payload" names and of which not one octet is there counts for the header, at 0
+unfoldable pub payload : ℕ → Reader (Linked ℕ Payload)
+payload k b s =
+    begun 0 s (opened b (payloadFits s) (mapped (payloadOf k s) (within 4 (be16 s 2) (body k b) b s)))
+
+-- payloads one after the other, up to the one with next payload 0
+abbrev pub noneNext : ℕ → List ℕ → Bool
+noneNext k s = eqb k 0
+
+abbrev pub payloads : ℕ → Reader (List Payload)
+payloads k b s = chain noneNext payload k b s
+
+-- "Next payload 0 ends the frame exactly at its length": octets left over count for the header too
+abbrev pub exactly : {A : Type 0} → Reading A → Reading A
+exactly (whole a []) = whole a []
+exactly (whole a (x ∷ rest)) = broken 0
+exactly (broken o) = broken o
+
+abbrev pub frameOf : List ℕ → List Payload → Frame
+frameOf s l = record { header = headerOf s; payloads = l }
+
+unfoldable pub frame : List ℕ → Reading Frame
+frame s = opened 0 (headerFits s) (mapped (frameOf s) (exactly (payloads (firstPayload s) 28 (drop 28 s))))
+
+-- THE LAYOUT OF A FRAME: whole, or refusal 1 with the offset that it carries
+unfoldable pub frameLayout : List ℕ → Layout
+frameLayout s = layoutOf (frame s)
+
+-- THE FIGURE (document 02, T-06): the offset at which the octets are broken, 0 where they are whole
+abbrev pub offsetOf : Layout → ℕ
+offsetOf layout.Whole = 0
+offsetOf (layout.Broken o) = o
+
+unfoldable pub figure : List ℕ → ℕ
+figure s = offsetOf (frameLayout s)

@@ -1,0 +1,166 @@
+// Opened frames: the IKE header, the chain of payloads and the Delete payload (RFC 7296, sections 3.1, 3.2 and 3.11).
+ghost use mathlib.Core.Path.{_≡_};
+ghost use Prim.Native.Nat.{_+_, _<_};
+ghost use lib.ListN.{length};
+ghost use Rattle.wire_attributes.specs.Answers.{layoutOf, spotOf};
+ghost use Rattle.wire_frames.specs.Delete.{deleteFits};
+ghost use Rattle.wire_frames.specs.Frame.{body, payload, payloads, exactly};
+ghost use Rattle.wire_frames.specs.Laid.{Laid};
+ghost use Rattle.wire_frames.specs.inner.Answers.{headerRead, payloadRead};
+use wire_attributes::Layout;
+use wire_attributes::Spot;
+
+pub mod exchanges;
+
+// An IKE header: the type of the first payload, the exchange type and the Message ID; or a broken one.
+pub enum HeaderRead {
+    Header {
+        first: usize,
+        exchange: usize,
+        message_id: u32,
+    },
+    Broken,
+}
+
+// The IKE header that the octets start with, if it is that of a frame of all these octets. Internal.
+pub fn header_read(s: &[u8]) -> HeaderRead
+    ensures { λ r. ⌜ r ≡ headerRead (now (s .entry)) ⌝ }
+{
+    if s.len() < 28 {
+        return HeaderRead::Broken;
+    }
+    if 16384 < s.len() {
+        return HeaderRead::Broken;
+    }
+    if octets::numbers::be32_at(s, 24) as usize != s.len() {
+        return HeaderRead::Broken;
+    }
+    if octets::wide(s[17]) / 16 != 2 {
+        return HeaderRead::Broken;
+    }
+    HeaderRead::Header {
+        first: octets::wide(s[16]),
+        exchange: octets::wide(s[18]),
+        message_id: octets::numbers::be32_at(s, 20),
+    }
+}
+
+// A generic payload header: the type of the next payload, the critical bit, where the payload ends; or a broken one.
+pub enum PayloadRead {
+    Payload {
+        next: usize,
+        critical: bool,
+        end: usize,
+    },
+    Broken,
+}
+
+// The generic payload header that the octets start with. Internal.
+pub fn payload_read(s: &[u8]) -> PayloadRead
+    ensures { λ r. ⌜ r ≡ payloadRead (now (s .entry)) ⌝ }
+{
+    if octets::numbers::is_sized(s, 4) {
+        return PayloadRead::Payload {
+            next: octets::wide(s[0]),
+            critical: 128 <= octets::wide(s[1]),
+            end: octets::numbers::be16_at(s, 2),
+        };
+    }
+    PayloadRead::Broken
+}
+
+// Whether a Delete payload's body is laid out as it should be. Internal.
+fn delete_fits(s: &[u8]) -> bool
+    ensures { λ r. ⌜ r ≡ deleteFits (now (s .entry)) ⌝ }
+{
+    if s.len() < 4 {
+        return false;
+    }
+    let z = octets::wide(s[1]);
+    if 4 + z * octets::numbers::be16_at(s, 2) != s.len() {
+        return false;
+    }
+    if octets::wide(s[0]) == 3 {
+        return z == 4;
+    }
+    true
+}
+
+// What the body of a payload of a kind holds; the payload's offset is holder, the body's base. Internal.
+fn body_layout(kind: usize, s: &[u8], base: usize, holder: usize) -> Layout
+    requires { ⌜ base + length (now s) < 4294967296 ⌝ }
+    ensures { λ r. ⌜ r ≡ layoutOf (body kind holder base (now (s .entry))) ⌝ }
+{
+    if kind == 51 {
+        return wire_policies::are_policies(s, base);
+    }
+    if kind == 52 {
+        return wire_bags::are_bags(s, base);
+    }
+    if kind == 42 {
+        if delete_fits(s) {
+            return Layout::Whole;
+        }
+        return Layout::Broken(holder);
+    }
+    Layout::Whole
+}
+
+// The payload of a kind that the octets, which start at the offset base, start with: where it ends. Internal.
+pub fn payload_spot(kind: usize, s: &[u8], base: usize) -> Spot
+    requires { ⌜ base + length (now s) < 4294967296 ⌝ }
+    ensures { λ r. ⌜ r ≡ spotOf (now (s .entry)) (payload kind base (now (s .entry))) ⌝ }
+{
+    if s.len() == 0 {
+        return Spot::Broken(0);
+    }
+    match payload_read(s) {
+        PayloadRead::Payload {
+            next: _,
+            critical: _,
+            end,
+        } => match body_layout(kind, &s[4..end], base + 4, base) {
+            Layout::Whole => Spot::Ends(end),
+            Layout::Broken(o) => Spot::Broken(o),
+        },
+        PayloadRead::Broken => Spot::Broken(base),
+    }
+}
+
+// Whether the octets, which start at the offset base, are payloads to their end, the first of a kind. Internal.
+fn payloads_layout(first: usize, s: &[u8], base: usize) -> Layout
+    requires { ⌜ base + length (now s) < 4294967296 ⌝ }
+    ensures { λ r. ⌜ r ≡ layoutOf (exactly (payloads first base (now (s .entry)))) ⌝ }
+{
+    let mut kind = first;
+    let mut at = 0;
+    while kind != 0 {
+        match payload_spot(kind, &s[at..], base + at) {
+            Spot::Ends(e) => {
+                kind = octets::wide(s[at]);
+                at = at + e;
+            }
+            Spot::Broken(o) => {
+                return Layout::Broken(o);
+            }
+        }
+    }
+    if at == s.len() {
+        return Layout::Whole;
+    }
+    Layout::Broken(0)
+}
+
+// The layout of a frame, for all octets: whole, or broken (number 1) with the offset of the structure that broke first.
+pub fn frame_layout(s: &[u8]) -> Layout
+    ensures { λ r. ⌜ Laid (now (s .entry)) r ⌝ }
+{
+    match header_read(s) {
+        HeaderRead::Header {
+            first,
+            exchange: _,
+            message_id: _,
+        } => payloads_layout(first, &s[28..], 28),
+        HeaderRead::Broken => Layout::Broken(0),
+    }
+}

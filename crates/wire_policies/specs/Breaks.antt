@@ -1,0 +1,72 @@
+-- WHERE SELECTORS, TRANSFORMS AND POLICIES BREAK, defined without the readers (document 02, T-06). In each s is the octets from the
+-- structure's first on, to the end of what holds it, b the offset of that first octet, and h the offset of the policy that holds it.
+use Prim.Native.Nat.{ℕ, _+_, _-_, _<_}
+use mathlib.Core.Path.{_≡_}
+use mathlib.Core.List.{List, _++_}
+use mathlib.Core.Bool.{Bool, true}
+use lib.ListN.{length}
+use Rattle.octets.specs.Numbers.{oct}
+use Rattle.octets.specs.Walk.{be16, part}
+use Rattle.octets.specs.Breaks.{FaultOfLength, BreaksStructure, BreaksDue, BreaksInChain, BreaksInRow}
+use Rattle.wire_attributes.specs.Place.{inTransform, inPolicy}
+use Rattle.wire_attributes.specs.Breaks.{BreaksAttributes}
+use Rattle.wire_attributes.specs.declared.tables.Place.{Place}
+use Rattle.wire_attributes.specs.declared.tables.Place.the-variants as place
+use Rattle.wire_policies.specs.Selector.{Selector, selectorSize}
+use Rattle.wire_policies.specs.Transform.{Transform, noMore}
+use Rattle.wire_policies.specs.Policy.{spiSize}
+use Rattle.wire_policies.specs.Grammar.{IsSelector, IsTransform, Transforms, IsPolicy}
+
+-- A SELECTOR: "type 7 (16 octets) or 8 (40 octets)"
+pub data FaultOfSelector (s : List ℕ) : Type 0 where
+  unknown : (oct s 0 ≡ 7 → ⊥) → (oct s 0 ≡ 8 → ⊥) → FaultOfSelector s
+  cut : length s < selectorSize (oct s 0) → FaultOfSelector s
+  other-length : (be16 s 2 ≡ selectorSize (oct s 0) → ⊥) → FaultOfSelector s
+
+-- one of which not one octet is there is missing in its policy; a selector holds nothing
+abbrev pub BreaksSelector : ℕ → ℕ → List ℕ → ℕ → Type 0
+BreaksSelector h b s o = BreaksDue h s (BreaksStructure (FaultOfSelector s) ⊥ b o) o
+
+-- A TRANSFORM: "3 (more) or 0 (last), reserved, length 2, type, reserved, ID 2, attributes"
+pub data FaultOfTransform (s : List ℕ) : Type 0 where
+  by-length : FaultOfLength 8 s → FaultOfTransform s
+  unmarked : (oct s 0 ≡ 3 → ⊥) → (oct s 0 ≡ 0 → ⊥) → FaultOfTransform s
+
+abbrev pub BreaksTransform : ℕ → Bool → ℕ → List ℕ → ℕ → Type 0
+BreaksTransform h more b s o =
+    BreaksDue h s (BreaksStructure (FaultOfTransform s) (BreaksAttributes (inTransform (oct s 4)) (b + 8) (part s 8 (be16 s 2)) o) b o) o
+
+-- "one or more": the first is due, and each after a 3
+abbrev pub BreaksTransforms : ℕ → ℕ → List ℕ → ℕ → Type 0
+BreaksTransforms h b s o = BreaksInChain noMore IsTransform (BreaksTransform h) true b s o
+
+-- WHAT FOLLOWS AN SPI, one after the other: source and destination selector, transforms, attributes
+pub data BreaksSaBody (h : ℕ) (p : Place) (b : ℕ) (s : List ℕ) (o : ℕ) : Type 0 where
+  in-source : BreaksSelector h b s o → BreaksSaBody h p b s o
+  in-destination : (source rest : List ℕ) {x : Selector} → s ≡ source ++ rest → IsSelector source x
+      → BreaksSelector h (b + length source) rest o → BreaksSaBody h p b s o
+  in-transforms : (source destination rest : List ℕ) {x y : Selector} → s ≡ source ++ (destination ++ rest) → IsSelector source x
+      → IsSelector destination y → BreaksTransforms h (b + length source + length destination) rest o → BreaksSaBody h p b s o
+  in-attributes : (source destination after tail : List ℕ) {x y : Selector} {l : List Transform}
+      → s ≡ source ++ (destination ++ after) → IsSelector source x → IsSelector destination y → Transforms after l tail
+      → BreaksAttributes p (b + (length s - length tail)) tail o → BreaksSaBody h p b s o
+
+-- THE HEAD that policies and key bags share: "protocol (6 Rekey, 3 ESP, 2 AH), SPI size (16, 4, 4), length 2, SPI", or "0, reserved,
+-- length 2". "Another first octet breaks the layout, in KD too."
+pub data FaultOfHead (s : List ℕ) : Type 0 where
+  by-length : FaultOfLength (4 + spiSize (oct s 0)) s → FaultOfHead s
+  unknown : (oct s 0 ≡ 0 → ⊥) → (oct s 0 ≡ 6 → ⊥) → (oct s 0 ≡ 3 → ⊥) → (oct s 0 ≡ 2 → ⊥) → FaultOfHead s
+  other-size : (oct s 0 ≡ 0 → ⊥) → (oct s 1 ≡ spiSize (oct s 0) → ⊥) → FaultOfHead s
+
+-- A POLICY at the offset b, and what it holds
+pub data BreaksHeld (b : ℕ) (s : List ℕ) (o : ℕ) : Type 0 where
+  in-wide : oct s 0 ≡ 0 → BreaksAttributes place.GroupWidePolicy (b + 4) (part s 4 (be16 s 2)) o → BreaksHeld b s o
+  in-sa : (oct s 0 ≡ 0 → ⊥)
+      → BreaksSaBody b (inPolicy (oct s 0)) (b + (4 + spiSize (oct s 0))) (part s (4 + spiSize (oct s 0)) (be16 s 2)) o → BreaksHeld b s o
+
+abbrev pub BreaksPolicy : ℕ → List ℕ → ℕ → Type 0
+BreaksPolicy b s o = BreaksStructure (FaultOfHead s) (BreaksHeld b s o) b o
+
+-- policies to the end
+abbrev pub BreaksPolicies : ℕ → List ℕ → ℕ → Type 0
+BreaksPolicies b s o = BreaksInRow IsPolicy BreaksPolicy b s o

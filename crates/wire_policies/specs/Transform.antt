@@ -1,0 +1,42 @@
+-- Transforms (RFC 7296, section 3.3.2). Document 01: "3 (more) or 0 (last), reserved, length 2, type, reserved, ID 2, attributes".
+use Prim.Native.Nat.{ℕ}
+use mathlib.Core.List.{List}
+use mathlib.Core.Bool.{Bool, true, not}
+use lib.Dec.{eqb}
+use Rattle.octets.specs.Numbers.{oct}
+use Rattle.octets.specs.Walk.{be16, either, both, sized, Reader, mapped, opened, begun, within, Linked, chain}
+use Rattle.wire_attributes.specs.Attribute.{Attribute}
+use Rattle.wire_attributes.specs.Place.{inTransform}
+use Rattle.wire_attributes.specs.Tree.{keyLengths}
+use Rattle.wire_attributes.specs.Layout.{attributes}
+
+pub record Transform : Type 0 where
+  pub kind : ℕ
+  pub id : ℕ
+  pub keyLengths : List ℕ
+
+abbrev pub isMark : ℕ → Bool
+isMark m = either (eqb m 3) true (eqb m 0)
+
+abbrev pub transformFits : List ℕ → Bool
+transformFits s = both (sized 8 s) (isMark (oct s 0))
+
+-- the transform whose attributes are l, and whether another follows
+abbrev pub transformOf : List ℕ → List Attribute → Linked Bool Transform
+transformOf s l = record {
+  item = record { kind = oct s 4; id = be16 s 6; keyLengths = keyLengths (inTransform (oct s 4)) l };
+  next = eqb (oct s 0) 3;
+}
+
+-- h is the offset of the policy that holds it
+unfoldable pub transform : ℕ → Bool → Reader (Linked Bool Transform)
+transform h more b s =
+    begun h s
+    (opened b (transformFits s) (mapped (transformOf s) (within 8 (be16 s 2) (attributes (inTransform (oct s 4))) b s)))
+
+-- "one or more": the first is due, and each after a 3
+abbrev pub noMore : Bool → List ℕ → Bool
+noMore more s = not more
+
+abbrev pub transforms : ℕ → Reader (List Transform)
+transforms h b s = chain noMore (transform h) true b s

@@ -1,0 +1,134 @@
+// Policies of a GSA payload (RFC 9838, section 4.4): selectors, transforms, Group SA policies and group-wide policies.
+ghost use mathlib.Core.Path.{_≡_};
+ghost use mathlib.Core.Bool.{true};
+ghost use Prim.Native.Nat.{_+_, _<_};
+ghost use lib.ListN.{length};
+ghost use Rattle.octets.specs.Walk.{be16, part};
+ghost use Rattle.wire_attributes.specs.Answers.{layoutOf, spotOf};
+ghost use Rattle.wire_policies.specs.Policy.{suite, saBody, spiSize, headSize, headFits, policyHolds, policy, policies};
+use wire_attributes::Layout;
+use wire_attributes::Spot;
+use wire_attributes::tables::Place;
+
+pub mod selectors;
+pub mod transforms;
+
+// Transforms, then attributes to the end; holder is the offset of the policy. Internal.
+fn suite_layout(place: Place, s: &[u8], base: usize, holder: usize) -> Layout
+    requires { ⌜ base + length (now s) < 4294967296 ⌝ }
+    ensures { λ r. ⌜ r ≡ layoutOf (suite holder place base (now (s .entry))) ⌝ }
+{
+    match transforms::transforms_spot(s, base, holder) {
+        Spot::Ends(e) => wire_attributes::are_attributes(place, &s[e..], base + e),
+        Spot::Broken(o) => Layout::Broken(o),
+    }
+}
+
+// What a Group SA policy holds after its SPI. Internal.
+fn body_layout(place: Place, s: &[u8], base: usize, holder: usize) -> Layout
+    requires { ⌜ base + length (now s) < 4294967296 ⌝ }
+    ensures { λ r. ⌜ r ≡ layoutOf (saBody holder place base (now (s .entry))) ⌝ }
+{
+    match selectors::selector_spot(s, base, holder) {
+        Spot::Ends(a) => match selectors::selector_spot(&s[a..], base + a, holder) {
+            Spot::Ends(d) => {
+                let t = a + d;
+                suite_layout(place, &s[t..], base + t, holder)
+            }
+            Spot::Broken(o) => Layout::Broken(o),
+        },
+        Spot::Broken(o) => Layout::Broken(o),
+    }
+}
+
+// The size of a protocol's SPI; 0 for no protocol. Internal.
+pub fn spi_size(protocol: usize) -> usize
+    ensures { λ r. ⌜ (r ≡ spiSize protocol) × (r < 17) ⌝ }
+{
+    if protocol == 6 {
+        return 16;
+    }
+    if protocol == 3 {
+        return 4;
+    }
+    if protocol == 2 {
+        return 4;
+    }
+    0
+}
+
+// Whether the octets start with the head of a policy or of a key bag, as long as it says. Internal.
+pub fn head_fits(s: &[u8]) -> bool
+    ensures { λ r. ⌜ r ≡ headFits (now (s .entry)) ⌝ }
+{
+    if s.len() < 4 {
+        return false;
+    }
+    let p = octets::wide(s[0]);
+    if p == 0 {
+        return octets::numbers::is_sized(s, 4);
+    }
+    let z = spi_size(p);
+    if z == 0 {
+        return false;
+    }
+    if octets::wide(s[1]) == z {
+        return octets::numbers::is_sized(s, 4 + z);
+    }
+    false
+}
+
+// What a policy whose head fits holds after its head. Internal.
+fn policy_layout(s: &[u8], base: usize) -> Layout
+    requires { ⌜ (headFits (now s) ≡ true) × (base + length (now s) < 4294967296) ⌝ }
+    ensures { λ r. ⌜ r ≡ layoutOf (policyHolds base (now (s .entry)) (base + headSize (now (s .entry)))
+        (part (now (s .entry)) (headSize (now (s .entry))) (be16 (now (s .entry)) 2))) ⌝ }
+{
+    let p = octets::wide(s[0]);
+    let n = octets::numbers::be16_at(s, 2);
+    let z = 4 + spi_size(p);
+    if p == 0 {
+        return wire_attributes::are_attributes(Place::GroupWidePolicy, &s[z..n], base + z);
+    }
+    body_layout(
+        wire_attributes::tables::in_policy(p),
+        &s[z..n],
+        base + z,
+        base,
+    )
+}
+
+// The policy that the octets, which start at the offset base, start with: where it ends. Internal.
+pub fn policy_spot(s: &[u8], base: usize) -> Spot
+    requires { ⌜ base + length (now s) < 4294967296 ⌝ }
+    ensures { λ r. ⌜ r ≡ spotOf (now (s .entry)) (policy base (now (s .entry))) ⌝ }
+{
+    if head_fits(s) {
+        let n = octets::numbers::be16_at(s, 2);
+        match policy_layout(s, base) {
+            Layout::Whole => Spot::Ends(n),
+            Layout::Broken(o) => Spot::Broken(o),
+        }
+    } else {
+        Spot::Broken(base)
+    }
+}
+
+// Whether the octets, which start at the offset base, are policies to their end. Internal.
+pub fn are_policies(s: &[u8], base: usize) -> Layout
+    requires { ⌜ base + length (now s) < 4294967296 ⌝ }
+    ensures { λ r. ⌜ r ≡ layoutOf (policies base (now (s .entry))) ⌝ }
+{
+    let mut at = 0;
+    while at < s.len() {
+        match policy_spot(&s[at..], base + at) {
+            Spot::Ends(e) => {
+                at = at + e;
+            }
+            Spot::Broken(o) => {
+                return Layout::Broken(o);
+            }
+        }
+    }
+    Layout::Whole
+}

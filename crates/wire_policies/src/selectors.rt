@@ -1,0 +1,39 @@
+// Traffic selectors (RFC 7296, section 3.13.1).
+ghost use mathlib.Core.Path.{_≡_};
+ghost use Prim.Native.Nat.{_<_};
+ghost use Rattle.wire_attributes.specs.Answers.{spotOf};
+ghost use Rattle.wire_policies.specs.Selector.{selectorSize, selector};
+use wire_attributes::Spot;
+
+// The size of a selector by its type; 0 for no type. Internal.
+pub fn selector_size(kind: usize) -> usize
+    ensures { λ r. ⌜ (r ≡ selectorSize kind) × (r < 41) ⌝ }
+{
+    if kind == 7 {
+        return 16;
+    }
+    if kind == 8 {
+        return 40;
+    }
+    0
+}
+
+// The selector that the octets, which start at the offset base, start with: where it ends; holder is the offset of its policy. Internal.
+pub fn selector_spot(s: &[u8], base: usize, holder: usize) -> Spot
+    ensures { λ r. ⌜ r ≡ spotOf (now (s .entry)) (selector holder base (now (s .entry))) ⌝ }
+{
+    if s.len() == 0 {
+        return Spot::Broken(holder);
+    }
+    let n = selector_size(octets::wide(s[0]));
+    if n == 0 {
+        return Spot::Broken(base);
+    }
+    if s.len() < n {
+        return Spot::Broken(base);
+    }
+    if octets::numbers::be16_at(s, 2) == n {
+        return Spot::Ends(n);
+    }
+    Spot::Broken(base)
+}

@@ -1,0 +1,21 @@
+-- Key bags whose layout is whole, for the readers that go through them again: the first one, and the others.
+use Prim.Native.Nat.{ℕ}
+use mathlib.Core.Path.{_≡_}
+use mathlib.Core.List.{List, _∷_}
+use mathlib.Core.Bool.{true}
+use lib.ListN.{drop}
+use Rattle.octets.specs.Walk.{part}
+use Rattle.wire_attributes.specs.Layout.{attributes}
+use Rattle.wire_readers.specs.inner.Values.{isWhole, itemsOf, attributesIn}
+use Rattle.wire_readers.specs.inner.Policies.{Heads}
+use Rattle.wire_readers.specs.declared.policy.Parts.{Parts}
+use Rattle.wire_bags.specs.Bag.{Bag, placeOf, bagOf, bags}
+
+abbrev pub bagsIn : List ℕ → List Bag
+bagsIn s = itemsOf (bags 0 s)
+
+pub record BagIs (s : List ℕ) (r : Parts) : Type 0 where
+  pub head : Heads s r
+  pub item : bagsIn s ≡ bagOf s (attributesIn (placeOf (r .first)) (part s (r .body) (r .end))) ∷ bagsIn (drop (r .end) s)
+  pub held : isWhole (attributes (placeOf (r .first)) 0 (part s (r .body) (r .end))) ≡ true
+  pub rest : isWhole (bags 0 (drop (r .end) s)) ≡ true

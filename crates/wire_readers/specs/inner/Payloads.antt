@@ -1,0 +1,27 @@
+-- Payloads whose layout is whole, for the readers that go through them again: the first one, and the others.
+use Prim.Native.Nat.{ℕ, _≤_}
+use mathlib.Core.Path.{_≡_}
+use mathlib.Core.List.{List, _∷_}
+use mathlib.Core.Bool.{true}
+use lib.ListN.{length, drop}
+use Rattle.octets.specs.Numbers.{oct}
+use Rattle.octets.specs.Walk.{be16, part}
+use Rattle.wire_readers.specs.inner.Values.{isWhole, itemsOf}
+use Rattle.wire_frames.specs.Header.{isCritical}
+use Rattle.wire_frames.specs.Frame.{Content, Payload, payloads, exactly}
+use Rattle.wire_frames.specs.Grammar.{IsContent}
+use Rattle.wire_readers.specs.declared.payload.PayloadParts.{PayloadParts}
+
+abbrev pub payloadsIn : ℕ → List ℕ → List Payload
+payloadsIn k s = itemsOf (payloads k 0 s)
+
+pub record PayloadIs (k : ℕ) (s : List ℕ) (r : PayloadParts) : Type 0 where
+  pub next : r .next ≡ oct s 0
+  pub critical : r .critical ≡ isCritical s
+  pub end : r .end ≡ be16 s 2
+  pub some : 4 ≤ r .end
+  pub inside : r .end ≤ length s
+  pub content : Content
+  pub is : IsContent k (part s 4 (r .end)) content
+  pub item : payloadsIn k s ≡ record { kind = k; critical = r .critical; content = content } ∷ payloadsIn (r .next) (drop (r .end) s)
+  pub rest : isWhole (exactly (payloads (r .next) 0 (drop (r .end) s))) ≡ true

@@ -1,0 +1,17 @@
+// Key bags of a body whose layout is whole, gone through again.
+ghost use mathlib.Core.Path.{_≡_};
+ghost use mathlib.Core.Bool.{true};
+ghost use Prim.Native.Nat.{_<_};
+ghost use lib.ListN.{length};
+ghost use Rattle.wire_readers.specs.inner.Values.{isWhole};
+ghost use Rattle.wire_bags.specs.Bag.{bags};
+ghost use Rattle.wire_readers.specs.inner.Bags.{BagIs};
+use crate::policy::Parts;
+
+// The first of the key bags that the octets are. Internal.
+pub fn bag_parts(s: &[u8]) -> Parts
+    requires { ⌜ (0 < length (now s)) × (isWhole (bags 0 (now s)) ≡ true) ⌝ }
+    ensures { λ r. ⌜ BagIs (now (s .entry)) r ⌝ }
+{
+    crate::policy::head_parts(s)
+}

@@ -1,0 +1,45 @@
+// Policies of a body whose layout is whole, gone through again.
+ghost use mathlib.Core.Path.{_≡_};
+ghost use mathlib.Core.Bool.{true};
+ghost use Prim.Native.Nat.{_<_};
+ghost use lib.ListN.{length};
+ghost use Rattle.wire_readers.specs.inner.Values.{isWhole};
+ghost use Rattle.wire_policies.specs.Policy.{headFits, policies};
+ghost use Rattle.wire_readers.specs.inner.Policies.{Heads, PolicyIs};
+
+// The protocols that a policy or a key bag begins with: AH, ESP, and GIKE_UPDATE, the Rekey SA's.
+pub const AH: usize = 2;
+
+pub const ESP: usize = 3;
+
+pub const REKEY: usize = 6;
+
+// A policy or a key bag: its first octet, where its head and where it ends.
+pub struct Parts {
+    pub first: usize,
+    pub body: usize,
+    pub end: usize,
+}
+
+// The parts of a policy or key bag whose head fits. Internal.
+pub fn head_parts(s: &[u8]) -> Parts
+    requires { ⌜ headFits (now s) ≡ true ⌝ }
+    ensures { λ r. ⌜ Heads (now (s .entry)) r ⌝ }
+{
+    let p = octets::wide(s[0]);
+    let n = octets::numbers::be16_at(s, 2);
+    let z = 4 + wire_policies::spi_size(p);
+    Parts {
+        first: p,
+        body: z,
+        end: n,
+    }
+}
+
+// The first of the policies that the octets are. Internal.
+pub fn policy_parts(s: &[u8]) -> Parts
+    requires { ⌜ (0 < length (now s)) × (isWhole (policies 0 (now s)) ≡ true) ⌝ }
+    ensures { λ r. ⌜ PolicyIs (now (s .entry)) r ⌝ }
+{
+    head_parts(s)
+}
