@@ -36,4 +36,4 @@ at-end-spec 𝓤 H 𝓜 𝓖 𝓡 =
     (meets F tyBool #callee 𝓤 H (𝓖 .A) W P (λ κ r u is. bool-lawful 𝓤 H (𝓖 .A) W .typed r _ is .0)
     (tablesOf 𝓤 H 𝓜 (tables 𝓤 H 𝓜 𝓡 code.env))
     (cited 𝓤 H (Callee F tyBool #callee 𝓤 H (𝓖 .A) P) 𝓜 𝓡 code.env #callee callee-def.routine
-    code.calls-view·read·is-at-end (callee-thm.met 𝓤 H 𝓜 𝓖 𝓡)))
+    code.calls-wire-view·read·is-at-end (callee-thm.met 𝓤 H 𝓜 𝓖 𝓡)))

@@ -41,6 +41,6 @@ shown-spi-spec 𝓤 H 𝓜 𝓖 𝓡 =
     (tables 𝓤 H 𝓜 𝓡 code.env .C) (tables 𝓤 H 𝓜 𝓡 code.env .Λ) #own code.function (code.unfolded 𝓤 H 𝓜 𝓡)
     (meets F τ #callee 𝓤 H (𝓖 .A) W P (λ κ r u is. shr-slice-lawful 𝓤 H (𝓖 .A) W (named 0) κ u8 .typed r _ is .0)
     (tablesOf 𝓤 H 𝓜 (tables 𝓤 H 𝓜 𝓡 code.env))
-    (cited 𝓤 H (Maker 𝓤 H (𝓖 .A)) 𝓜 𝓡 code.env #new new-def.routine code.calls-view·new (new-thm.met 𝓤 H 𝓜 𝓖 𝓡))
+    (cited 𝓤 H (Maker 𝓤 H (𝓖 .A)) 𝓜 𝓡 code.env #new new-def.routine code.calls-wire-view·new (new-thm.met 𝓤 H 𝓜 𝓖 𝓡))
     (cited 𝓤 H (Callee F τ #callee 𝓤 H (𝓖 .A) P) 𝓜 𝓡 code.env #callee callee-def.routine
-    code.calls-view·spi (callee-thm.met 𝓤 H 𝓜 𝓖 𝓡)))
+    code.calls-wire-view·spi (callee-thm.met 𝓤 H 𝓜 𝓖 𝓡)))
