@@ -11,7 +11,8 @@ use Rattle.wire_attributes.specs.declared.tables.Meaning.the-variants as meanin
 use Rattle.wire_policies.specs.Selector.{selector}
 use Rattle.wire_policies.specs.Transform.{transform}
 use Rattle.wire_policies.specs.Policy.{suite, saBody, policy}
-use Rattle.wire_view.specs.View.{firstOctet, kindOf, spiOf, spiStart, octetsIn, shownAttributes, itemsOf, itemAt, isAtEnd, nextAfter}
+use Rattle.wire_view.specs.View.{firstOctet, kindOf, spiOf, spiStart, octetsIn, shownAttributes, itemsOf}
+use Rattle.wire_view.specs.View.{stays, stepAt, itemAt, nextAfter, isAtEnd, shownIn}
 use Rattle.wire_view.specs.declared.items.Item.{Item}
 use Rattle.wire_view.specs.declared.items.Item.the-variants as item
 use Rattle.wire_view.specs.declared.read.Kind.{Kind}
@@ -53,19 +54,36 @@ two-key-lengths : shown esp ≡ record {
 unfolding policy suite saBody selector transform attribute many chain chainUpTo number valuesOf octetsIn shownAttributes
 two-key-lengths = refl
 
--- the cursor goes from one to the next, and stays at the end, which is behind the last
-cursor : (map (isAtEnd esp) (0 ∷ 3 ∷ 4 ∷ 5 ∷ []) ≡ false ∷ false ∷ true ∷ true ∷ [])
-    × (map (nextAfter esp) (0 ∷ 3 ∷ 4 ∷ 9 ∷ []) ≡ 1 ∷ 4 ∷ 4 ∷ 9 ∷ []) × (itemAt esp 2 ≡ item.Transform 1 20 2 128)
-    × (itemAt esp 4 ≡ item.Nothing)
-unfolding policy suite saBody selector transform attribute many chain chainUpTo number valuesOf octetsIn shownAttributes
-cursor = (refl, refl, refl, refl)
+-- THE STEPS THROUGH IT, from offset to offset: the destination selector stands at 24, the transform at 40, the attribute at 56; at 64 it ends
+steps : (shownIn 9 esp 0 ≡ itemsOf esp)
+    × (map (nextAfter esp) (0 ∷ 97 ∷ 162 ∷ 227 ∷ 259 ∷ []) ≡ 97 ∷ 162 ∷ 227 ∷ 259 ∷ 259 ∷ [])
+    × (map (isAtEnd esp) (0 ∷ 97 ∷ 162 ∷ 227 ∷ 259 ∷ []) ≡ false ∷ false ∷ false ∷ false ∷ true ∷ [])
+    × (itemAt esp 162 ≡ item.Transform 1 20 2 128)
+unfolding policy suite saBody selector transform attribute many chain chainUpTo number valuesOf octetsIn shownAttributes shownIn
+steps = (refl, refl, refl, refl)
+
+-- of two transforms the second comes behind the first
+two-transforms : map (nextAfter ((3 ∷ 4 ∷ 0 ∷ 56 ∷ 9 ∷ 8 ∷ 7 ∷ 6 ∷ []) ++ (ip4 ++ (ip4 ++
+    (3 ∷ 0 ∷ 0 ∷ 8 ∷ 1 ∷ 0 ∷ 0 ∷ 20 ∷ 0 ∷ 0 ∷ 0 ∷ 8 ∷ 5 ∷ 0 ∷ 0 ∷ 0 ∷ []))))) (162 ∷ 194 ∷ []) ≡ 194 ∷ 227 ∷ []
+unfolding transform attribute many chain chainUpTo number valuesOf
+two-transforms = refl
+
+-- cursors that no step answers: inside a selector, at the octets' end, behind it; an attribute is read where a transform stands
+nowhere : map (stepAt esp) (41 ∷ 257 ∷ 258 ∷ 9999 ∷ []) ≡ map stays (41 ∷ 257 ∷ 258 ∷ 9999 ∷ [])
+unfolding selector transform attribute number
+nowhere = refl
+
+elsewhere : itemAt esp 163 ≡ item.Attribute meaning.Skipped false 0 44 60
+unfolding attribute number
+elsewhere = refl
 
 -- group-wide policies: an empty one shows nothing and is at its end at once; one with a delay of 5
 wide : (shown (0 ∷ 9 ∷ 0 ∷ 4 ∷ []) ≡ record { kind = kind.GroupWide; first = 0 ∷ []; spi = []; start = 0; items = [] })
-    × (isAtEnd (0 ∷ 9 ∷ 0 ∷ 4 ∷ []) 0 ≡ true) × (itemAt (0 ∷ 9 ∷ 0 ∷ 4 ∷ []) 0 ≡ item.Nothing)
+    × (stepAt (0 ∷ 9 ∷ 0 ∷ 4 ∷ []) 0 ≡ stays 0) × (isAtEnd (0 ∷ 9 ∷ 0 ∷ 4 ∷ []) 0 ≡ true)
     × (itemsOf (0 ∷ 9 ∷ 0 ∷ 8 ∷ 128 ∷ 2 ∷ 0 ∷ 5 ∷ []) ≡ item.Attribute meaning.DeactivationDelay true 2 6 8 ∷ [])
+    × (map (nextAfter (0 ∷ 9 ∷ 0 ∷ 8 ∷ 128 ∷ 2 ∷ 0 ∷ 5 ∷ [])) (0 ∷ 19 ∷ 35 ∷ []) ≡ 35 ∷ 35 ∷ 35 ∷ [])
 unfolding policy suite saBody selector transform attribute many chain chainUpTo number valuesOf octetsIn shownAttributes
-wide = (refl, refl, refl, refl)
+wide = (refl, refl, refl, refl, refl)
 
 -- no policy: no octet, one octet left over, another first octet, a policy cut short
 none : map shown ([] ∷ (0 ∷ 9 ∷ 0 ∷ 4 ∷ 0 ∷ []) ∷ (1 ∷ 4 ∷ 0 ∷ 8 ∷ 9 ∷ 8 ∷ 7 ∷ 6 ∷ []) ∷ (3 ∷ 4 ∷ 0 ∷ 9 ∷ 9 ∷ 8 ∷ 7 ∷ 6 ∷ []) ∷ [])
@@ -73,6 +91,9 @@ none : map shown ([] ∷ (0 ∷ 9 ∷ 0 ∷ 4 ∷ 0 ∷ []) ∷ (1 ∷ 4 ∷ 0 �
 unfolding policy suite saBody selector transform attribute many chain chainUpTo number valuesOf octetsIn shownAttributes
 none = refl
 
-none-at-end : map (λ (n : ℕ). isAtEnd (1 ∷ []) n) (0 ∷ 7 ∷ []) ≡ true ∷ true ∷ []
-unfolding policy number
-none-at-end = refl
+-- a step through no policy shows nothing, from the start and, where the length counts other octets, from anywhere
+none-shown : (map (stepAt (1 ∷ 4 ∷ 0 ∷ 8 ∷ 9 ∷ 8 ∷ 7 ∷ 6 ∷ [])) (0 ∷ 17 ∷ 18 ∷ []) ≡ map stays (0 ∷ 17 ∷ 18 ∷ []))
+    × (map (stepAt (0 ∷ 9 ∷ 0 ∷ 4 ∷ 128 ∷ 2 ∷ 0 ∷ 5 ∷ [])) (0 ∷ 19 ∷ []) ≡ map stays (0 ∷ 19 ∷ []))
+    × (map (stepAt []) (0 ∷ 3 ∷ 19 ∷ []) ≡ map stays (0 ∷ 3 ∷ 19 ∷ []))
+unfolding policy selector transform attribute number
+none-shown = (refl, refl, refl)

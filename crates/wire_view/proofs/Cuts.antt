@@ -22,7 +22,7 @@ use Rattle.wire_view.specs.View.{octetsIn, shownSelector, shownTransform
 use Rattle.wire_view.specs.declared.items.Item.{Item}
 use Rattle.wire_view.specs.declared.items.Item.the-variants as item
 use Rattle.wire_view.proofs.AttributeLaws.{of-format, row-octets}
-use Rattle.wire_view.proofs.BodyLaws.{selector-room}
+use Rattle.wire_view.proofs.SelectorLaws.{selector-room}
 use Rattle.wire_view.proofs.KindLaws.{sa-items, wide-items}
 
 -- what is cut out of the octets for an item; a transform and nothing have no stretch

@@ -2,18 +2,21 @@
 use Prim.Native.Nat.{ℕ, _+_, _<_, _≤_}
 use mathlib.Core.Path.{_≡_, refl, ap, sym, _∙_, subst}
 use mathlib.Core.List.{List, [], _∷_, _++_, map, append-nil}
-use mathlib.Core.Bool.{true}
+use mathlib.Core.Bool.{Bool, true, false}
 use native.Mathlib.Omega.{arith}
+use borrow.Author.Tests.{le-leb, eq-eqb, ne-eqb}
+use lib.Dec.{eqb}
 use lib.ListN.{length, drop}
 use lib.Seq.{drop-length}
 use Rattle.octets.specs.Numbers.{oct}
-use Rattle.octets.specs.Walk.{be16, part, Reading, whole, broken}
+use Rattle.octets.specs.Walk.{be16, part, either, both, Reading, whole, broken}
 use Rattle.octets.proofs.Walks.{takes-keeps}
 use Rattle.wire_attributes.specs.Attribute.{Attribute}
 use Rattle.wire_attributes.specs.Place.{inPolicy}
 use Rattle.wire_attributes.specs.Tree.{initialMessageIds, deactivationDelays, keyLifetimes}
 use Rattle.wire_attributes.specs.Layout.{attributes}
 use Rattle.wire_attributes.specs.Answers.{spotOf}
+use Rattle.wire_attributes.specs.declared.tables.Place.{Place}
 use Rattle.wire_attributes.specs.declared.tables.Place.the-variants as place
 use Rattle.wire_attributes.specs.declared.Spot.the-variants as spot
 use Rattle.wire_attributes.proofs.Loops.{ended, spot-broken}
@@ -28,8 +31,10 @@ use Rattle.wire_readers.specs.inner.Values.{isWhole, attributesIn}
 use Rattle.wire_readers.proofs.ValuesLaws.{is-whole}
 use Rattle.wire_view.specs.View.{onAll, firstOctet, octetOf, kindIn, kindOf, spiIn, spiOf, spiStartIn, spiStart}
 use Rattle.wire_view.specs.View.{shownSelector, shownTransform, shownAttributes, shownBody, itemsIn, itemsOf}
+use Rattle.wire_view.specs.View.{stays, atDestination, selectorStep, placeOf, attributeStep, firstIn, firstStep, counted}
 use Rattle.wire_view.specs.declared.read.Kind.{Kind}
 use Rattle.wire_view.specs.declared.read.Kind.the-variants as kind
+use Rattle.wire_view.specs.declared.read.Step.{Step}
 
 one : (s : List ℕ) (x : Policy) → policy 0 s ≡ whole x [] → IsPolicy s x
 one s x q =
@@ -109,6 +114,9 @@ pub kind-of-none : (s : List ℕ) → ((x : Policy) → policy 0 s ≡ whole x [
 kind-of-none s h = ap firstOctet (sym (none s h))
 
 -- WHAT IT SHOWS
+pub counts : (s : List ℕ) → 4 ≤ length s → be16 s 2 ≡ length s → counted s ≡ true
+counts s h e = ap (λ (t : Bool). both t (eqb (be16 s 2) (length s))) (le-leb 4 (length s) h) ∙ eq-eqb (be16 s 2) (length s) e
+
 pub record Sa (s : List ℕ) (p : ℕ) : Type 0 where
   pub head : 4 + spiSize p ≤ length s
   pub spi : part s 4 (4 + spiSize p) ≡ spiOf s
@@ -116,6 +124,9 @@ pub record Sa (s : List ℕ) (p : ℕ) : Type 0 where
   pub body : SaBody
   pub is : IsSaBody (inPolicy p) (drop (4 + spiSize p) s) body
   pub items : shownBody (inPolicy p) (4 + spiSize p) (length s) body ≡ itemsOf s
+  pub counts : counted s ≡ true
+  pub place : inPolicy p ≡ placeOf s
+  pub first : (c : ℕ) → selectorStep s c atDestination (4 + spiSize p) ≡ firstStep s c
 
 pub sa-items : (s : List ℕ) (x : GroupSaPolicy) → policy 0 s ≡ whole (groupSa x) [] → (i : IsGroupSa s x)
     → shownBody (inPolicy (x .protocol)) (4 + spiSize (x .protocol)) (length s) (i .body) ≡ itemsOf s
@@ -135,6 +146,12 @@ sa-of s x e (is-sa i) = record {
   body = i .body;
   is = i .holds;
   items = sa-items s x e i;
+  counts = counts s (omega (arith, i .least)) (i .size);
+  place =
+      let z : eqb (oct s 0) 0 ≡ false = ne-eqb (oct s 0) 0 (λ y. omega (arith, i .known, ap spiSize (sym (i .protocol) ∙ y))) in
+      ap inPolicy (sym (i .protocol)) ∙ ap (λ (t : Bool). either t place.GroupWidePolicy (inPolicy (oct s 0))) (sym z);
+  first = λ c.
+      ap (λ (n : ℕ). selectorStep s c atDestination (4 + spiSize n)) (sym (i .protocol)) ∙ ap (onAll (stays c) (firstIn s c)) (sym e);
 }
 
 pub record Wide (s : List ℕ) : Type 0 where
@@ -143,6 +160,9 @@ pub record Wide (s : List ℕ) : Type 0 where
   pub there : 0 ≡ spiStart s
   pub held : isWhole (attributes place.GroupWidePolicy 0 (drop 4 s)) ≡ true
   pub items : shownAttributes place.GroupWidePolicy (length s) (attributesIn place.GroupWidePolicy (drop 4 s)) ≡ itemsOf s
+  pub counts : counted s ≡ true
+  pub place : place.GroupWidePolicy ≡ placeOf s
+  pub first : (c : ℕ) → attributeStep s c 4 ≡ firstStep s c
 
 wide-of : (s : List ℕ) (x : GroupWidePolicy) → policy 0 s ≡ whole (groupWide x) [] → IsPolicy s (groupWide x) → Wide s
 wide-of s x e (is-wide i) =
@@ -156,7 +176,16 @@ wide-of s x e (is-wide i) =
       items =
           ap (shownAttributes p (length s)) (a .1)
           ∙ ap (onAll [] (shownAttributes p (length s))) (sym (are-read p (i .held) 4)) ∙ ap (onAll [] (itemsIn s)) (sym e);
+      counts = counts s (i .least) (i .size);
+      place = ap (λ (t : Bool). either t p (inPolicy (oct s 0))) (sym (eq-eqb (oct s 0) 0 (i .first)));
+      first = λ c. ap (onAll (stays c) (firstIn s c)) (sym e);
     }
+
+pub record Nowhere (s : List ℕ) : Type 0 where
+  pub spi : [] ≡ spiOf s
+  pub there : 0 ≡ spiStart s
+  pub items : [] ≡ itemsOf s
+  pub first : (c : ℕ) → stays c ≡ firstStep s c
 
 module _ (s : List ℕ) where
   -- two answers are not the same
@@ -183,15 +212,24 @@ module _ (s : List ℕ) where
       go (whole x (y ∷ r)) e q = let z : Absurd = cc in absurd (omega arith)
       go (broken o) e q = let z : Absurd = cc in absurd (omega arith)
 
-  pub of-none : kind.Nothing ≡ kindOf s → ([] ≡ itemsOf s) × ([] ≡ spiOf s) × (0 ≡ spiStart s)
-  of-none = go (policy 0 s)
+  pub of-none : kind.Nothing ≡ kindOf s → Nowhere s
+  of-none = go (policy 0 s) refl
     where
-      go : (y : Reading Policy) → kind.Nothing ≡ onAll kind.Nothing kindIn y
-          → ([] ≡ onAll [] (itemsIn s) y) × ([] ≡ onAll [] spiIn y) × (0 ≡ onAll 0 spiStartIn y)
-      go (whole (groupSa x) []) q = let z : Absurd = cc in absurd (omega arith)
-      go (whole (groupWide x) []) q = let z : Absurd = cc in absurd (omega arith)
-      go (whole x (y ∷ r)) q = (refl, refl, refl)
-      go (broken o) q = (refl, refl, refl)
+      go : (y : Reading Policy) → policy 0 s ≡ y → kind.Nothing ≡ onAll kind.Nothing kindIn y → Nowhere s
+      go (whole (groupSa x) []) e q = let z : Absurd = cc in absurd (omega arith)
+      go (whole (groupWide x) []) e q = let z : Absurd = cc in absurd (omega arith)
+      go (whole x (y ∷ r)) e q = record {
+        spi = ap (onAll [] spiIn) (sym e);
+        there = ap (onAll 0 spiStartIn) (sym e);
+        items = ap (onAll [] (itemsIn s)) (sym e);
+        first = λ c. ap (onAll (stays c) (firstIn s c)) (sym e);
+      }
+      go (broken o) e q = record {
+        spi = ap (onAll [] spiIn) (sym e);
+        there = ap (onAll 0 spiStartIn) (sym e);
+        items = ap (onAll [] (itemsIn s)) (sym e);
+        first = λ c. ap (onAll (stays c) (firstIn s c)) (sym e);
+      }
 
 -- WHAT IS SHOWN IS WHAT THE TREE'S POLICY HOLDS
 pub record ShowsSa (s : List ℕ) (x : GroupSaPolicy) : Type 0 where

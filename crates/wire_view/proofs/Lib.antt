@@ -7,7 +7,7 @@ pub mod ShowingAt
 pub mod KindLaws
 pub mod AttributeLaws
 pub mod TransformLaws
-pub mod SuiteLaws
-pub mod BodyLaws
-pub mod CursorLaws
+pub mod SelectorLaws
+pub mod StepLaws
+pub mod WalkLaws
 pub mod Cuts

@@ -1,22 +1,26 @@
--- Transforms as a view shows them, and what a Group SA policy holds after its selectors, one after the other.
+-- A transform as a view shows it.
 use Prim.Native.Nat.{ℕ, _+_, _<_, _≤_}
-use mathlib.Core.Bool.{true}
+use mathlib.Core.Bool.{Bool, true}
 use mathlib.Core.Path.{_≡_, refl, ap, sym, _∙_}
 use mathlib.Core.List.{List, [], _∷_, map}
 use native.Mathlib.Omega.{arith}
 use borrow.Author.Tests.{eqb-true}
 use lib.ListN.{length, drop, getD, length-map}
-use Rattle.octets.specs.Numbers.{number}
-use Rattle.octets.specs.Walk.{be16, part}
+use Rattle.octets.specs.Numbers.{oct, number}
+use Rattle.octets.specs.Walk.{be16}
+use Rattle.octets.proofs.Walks.{tail as cut, to-end}
+use Rattle.wire_attributes.specs.Attribute.{Attribute}
 use Rattle.wire_attributes.specs.Place.{inTransform}
-use Rattle.wire_attributes.specs.Tree.{two}
+use Rattle.wire_attributes.specs.Tree.{two, valuesOf}
+use Rattle.wire_attributes.specs.Layout.{attributes}
 use Rattle.wire_attributes.specs.declared.tables.Place.{Place}
 use Rattle.wire_attributes.specs.declared.tables.Meaning.the-variants as meaning
+use Rattle.wire_attributes.proofs.GrammarLaws.{are-read}
 use Rattle.wire_policies.specs.Transform.{Transform}
-use Rattle.wire_readers.specs.inner.Values.{valuesIn, valueSize, firstValue}
-use Rattle.wire_readers.specs.inner.Bodies.{TransformIs}
-use Rattle.wire_readers.specs.declared.body.TransformParts.{TransformParts}
-use Rattle.wire_view.specs.View.{shownTransform, nth}
+use Rattle.wire_policies.specs.Grammar.{IsTransform}
+use Rattle.wire_readers.specs.inner.Values.{isWhole, attributesIn, valuesIn, valueSize, firstValue}
+use Rattle.wire_readers.proofs.ValuesLaws.{is-whole}
+use Rattle.wire_view.specs.View.{shownTransform}
 use Rattle.wire_view.specs.declared.items.Item.the-variants as item
 
 -- THE FIRST KEY LENGTH
@@ -39,12 +43,27 @@ key-none p s [] e n = key-is p s [] e
 key-none p s (x ∷ v) e n = absurd (omega (arith, n))
 
 -- ONE TRANSFORM
-pub shown-is : (s : List ℕ) (l : List Transform) (tail : List ℕ) (r : TransformParts) → TransformIs s l tail r
-    → let v = valuesIn meaning.KeyLength (inTransform (r .kind)) (part s 8 (r .end)) in
-    (n k : ℕ) → n ≡ length v → k ≡ getD (map two v) 0 0 → item.Transform (r .kind) (r .id) n k ≡ nth (map shownTransform l) 0
-shown-is s l tail r f n k nq kq =
-    let v = valuesIn meaning.KeyLength (inTransform (r .kind)) (part s 8 (r .end)) in
-    let c : n ≡ length (f .head .keyLengths) = nq ∙ sym (ap length (f .keyLengths) ∙ length-map v two) in
-    let g : k ≡ getD (f .head .keyLengths) 0 0 = kq ∙ ap (λ (x : List ℕ). getD x 0 0) (sym (f .keyLengths)) in
-    (λ j. item.Transform (sym (f .kind) j) (sym (f .id) j) (c j) (g j))
-    ∙ ap (λ (x : List Transform). nth (map shownTransform x) 0) (sym (f .all))
+module _ (s : List ℕ) (t : Transform) (more : Bool) (i : IsTransform true s t more) (k : ℕ) (kq : k ≡ oct s 4) (p : Place)
+    (pq : p ≡ inTransform k) where
+  place-is : p ≡ inTransform (t .kind)
+  place-is = pq ∙ ap inTransform (kq ∙ i .kind)
+
+  -- its attributes, as the code lends them
+  held-is : (isWhole (attributes p 0 (cut s 8)) ≡ true) × (attributesIn p (cut s 8) ≡ i .attributes)
+  held-is =
+      is-whole (attributes p 0 (cut s 8)) (i .attributes) []
+      ((λ j. attributes (place-is j) 0 (to-end s 8 j)) ∙ are-read (inTransform (t .kind)) (i .held) 0)
+
+  pub held : isWhole (attributes p 0 (cut s 8)) ≡ true
+  held = held-is .0
+
+  lengths : map two (valuesIn meaning.KeyLength p (cut s 8)) ≡ t .keyLengths
+  lengths = (λ j. map two (valuesOf meaning.KeyLength (place-is j) (held-is .1 j))) ∙ i .keyLengths
+
+  pub shown-is : (id n l : ℕ) → id ≡ be16 s 6 → n ≡ length (valuesIn meaning.KeyLength p (cut s 8))
+      → l ≡ getD (map two (valuesIn meaning.KeyLength p (cut s 8))) 0 0 → item.Transform k id n l ≡ shownTransform t
+  shown-is id n l dq nq lq =
+      let v = valuesIn meaning.KeyLength p (cut s 8) in
+      let c : n ≡ length (t .keyLengths) = nq ∙ sym (length-map v two) ∙ ap length lengths in
+      let g : l ≡ getD (t .keyLengths) 0 0 = lq ∙ ap (λ (x : List ℕ). getD x 0 0) lengths in
+      λ j. item.Transform ((kq ∙ i .kind) j) ((dq ∙ i .id) j) (c j) (g j)

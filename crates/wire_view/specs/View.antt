@@ -1,24 +1,25 @@
 -- WHAT A VIEW SHOWS of some octets: the policy that they are, to their end; nothing, if they are none. Document 01: "For printing, a policy
 -- is shown as a view that holds a reference to its stretch of the frame".
-use Prim.Native.Nat.{ℕ, _+_, _-_}
+use Prim.Native.Nat.{ℕ, zero, suc, _+_, _-_, _*_, _/_, _%_}
 use mathlib.Core.List.{List, [], _∷_, _++_, map}
-use mathlib.Core.Bool.{Bool}
-use lib.Dec.{leb}
+use mathlib.Core.Bool.{Bool, true, false}
+use lib.Dec.{leb, eqb}
 use lib.ListN.{length, drop, getD}
 use Rattle.octets.specs.Numbers.{oct}
-use Rattle.octets.specs.Walk.{either, Reading, whole, broken}
+use Rattle.octets.specs.Walk.{be16, either, both, Reading, whole, broken, Linked}
 use Rattle.wire_attributes.specs.Attribute.{Attribute, leadOf, spanOf}
 use Rattle.wire_attributes.specs.Place.{meaningOf, inPolicy}
-use Rattle.wire_attributes.specs.Layout.{attributes}
+use Rattle.wire_attributes.specs.Layout.{attribute, attributes}
 use Rattle.wire_attributes.specs.declared.tables.Place.{Place}
 use Rattle.wire_attributes.specs.declared.tables.Place.the-variants as place
-use Rattle.wire_policies.specs.Selector.{Selector, selectorSize}
-use Rattle.wire_policies.specs.Transform.{Transform}
+use Rattle.wire_policies.specs.Selector.{Selector, selectorSize, selector}
+use Rattle.wire_policies.specs.Transform.{Transform, transform}
 use Rattle.wire_policies.specs.Policy.{headSize, Policy, groupSa, groupWide, Suite, SaBody, saBody, policy}
 use Rattle.wire_view.specs.declared.items.Item.{Item}
 use Rattle.wire_view.specs.declared.items.Item.the-variants as item
 use Rattle.wire_view.specs.declared.read.Kind.{Kind}
 use Rattle.wire_view.specs.declared.read.Kind.the-variants as kind
+use Rattle.wire_view.specs.declared.read.Step.{Step}
 
 -- what a reading that leaves no octet holds, by f; of any other there is nothing
 abbrev pub onAll : {A B : Type 0} → B → (A → B) → Reading A → B
@@ -98,15 +99,84 @@ itemsIn s (groupWide x) = onAll [] (shownAttributes place.GroupWidePolicy (lengt
 abbrev pub itemsOf : List ℕ → List Item
 itemsOf s = onAll [] (itemsIn s) (policy 0 s)
 
--- THE CURSOR n counts those that were passed
-abbrev pub nth : List Item → ℕ → Item
-nth l n = getD l n item.Nothing
+-- ONE STEP reads the selector, transform or attribute that stands at the cursor's offset, and no other octet but the policy's head, and
+-- answers it with the cursor behind it; where none is laid out there it shows nothing, and the cursor stays. A cursor is four times the
+-- offset, plus what comes there: 1 the destination selector, 2 a transform, 3 an attribute; plus 0 is before the first, wherever that is
+abbrev pub atDestination : ℕ
+atDestination = 1
 
+abbrev pub atTransform : ℕ
+atTransform = 2
+
+abbrev pub atAttribute : ℕ
+atAttribute = 3
+
+abbrev pub cursorAt : ℕ → ℕ → ℕ
+cursorAt b comes = 4 * b + comes
+
+abbrev pub stays : ℕ → Step
+stays c = record { item = item.Nothing; next = c }
+
+-- by what is read at the cursor c: what it shows, and what comes where the octets that are left start
+abbrev pub stepped : {A : Type 0} → List ℕ → ℕ → (A → Item) → (A → ℕ) → Reading A → Step
+stepped s c show comes (whole a rest) = record { item = show a; next = cursorAt (length s - length rest) (comes a) }
+stepped s c show comes (broken o) = stays c
+
+abbrev pub selectorStep : List ℕ → ℕ → ℕ → ℕ → Step
+selectorStep s c comes b = stepped s c (shownSelector b) (λ (x : Selector). comes) (selector 0 b (drop b s))
+
+abbrev pub transformStep : List ℕ → ℕ → ℕ → Step
+transformStep s c b =
+    stepped s c (λ (x : Linked Bool Transform). shownTransform (x .item))
+    (λ (x : Linked Bool Transform). either (x .next) atTransform atAttribute) (transform 0 true b (drop b s))
+
+abbrev pub placeOf : List ℕ → Place
+placeOf s = either (eqb (oct s 0) 0) place.GroupWidePolicy (inPolicy (oct s 0))
+
+abbrev pub attributeStep : List ℕ → ℕ → ℕ → Step
+attributeStep s c b =
+    stepped s c (shownAttribute (placeOf s) b) (λ (a : Attribute). atAttribute) (attribute (placeOf s) b (drop b s))
+
+-- the first step finds out which policy the octets are: it alone reads all of them
+abbrev pub firstIn : List ℕ → ℕ → Policy → Step
+firstIn s c (groupSa x) = selectorStep s c atDestination (headSize s)
+firstIn s c (groupWide x) = attributeStep s c 4
+
+abbrev pub firstStep : List ℕ → ℕ → Step
+firstStep s c = onAll (stays c) (firstIn s c) (policy 0 s)
+
+abbrev pub stepBy : List ℕ → ℕ → ℕ → ℕ → Step
+stepBy s c comes b =
+    either (eqb comes 0) (firstStep s c)
+    (either (eqb comes atDestination) (selectorStep s c atTransform b)
+    (either (eqb comes atTransform) (transformStep s c b) (attributeStep s c b)))
+
+-- of octets that "length 2" does not count nothing is shown
+abbrev pub counted : List ℕ → Bool
+counted s = both (leb 4 (length s)) (eqb (be16 s 2) (length s))
+
+abbrev pub stepAt : List ℕ → ℕ → Step
+stepAt s c = either (counted s) (stepBy s c (c % 4) (c / 4)) (stays c)
+
+-- its parts: what stands at the cursor, the cursor behind it, and whether nothing stands there
 abbrev pub itemAt : List ℕ → ℕ → Item
-itemAt s n = nth (itemsOf s) n
-
-abbrev pub isAtEnd : List ℕ → ℕ → Bool
-isAtEnd s n = leb (length (itemsOf s)) n
+itemAt s c = stepAt s c .item
 
 abbrev pub nextAfter : List ℕ → ℕ → ℕ
-nextAfter s n = either (isAtEnd s n) n (n + 1)
+nextAfter s c = stepAt s c .next
+
+abbrev pub isNothing : Item → Bool
+isNothing (item.Selector k p a b start end) = false
+isNothing (item.Transform k i n f) = false
+isNothing (item.Attribute m t k start end) = false
+isNothing item.Nothing = true
+
+abbrev pub isAtEnd : List ℕ → ℕ → Bool
+isAtEnd s c = isNothing (itemAt s c)
+
+-- A WALK: what n steps show from a cursor on, up to the end
+unfoldable pub shownIn : ℕ → List ℕ → ℕ → List Item
+shownIn zero s c = []
+shownIn (suc n) s c =
+    let rest = shownIn n s (nextAfter s c) in
+    either (isAtEnd s c) [] (itemAt s c ∷ rest)

@@ -1,19 +1,18 @@
-// What stands in a policy one after the other, on octets that are known to be laid out as they should be.
+// A selector, a transform and an attribute as a view shows them.
 ghost use mathlib.Core.Path.{_≡_};
 ghost use mathlib.Core.List.{List, map};
-ghost use mathlib.Core.Bool.{true};
-ghost use Prim.Native.Nat.{ℕ, _+_, _<_, _^_};
+ghost use mathlib.Core.Bool.{Bool, true};
+ghost use Prim.Native.Nat.{_+_, _<_, _^_};
 ghost use lib.ListN.{length, getD};
+ghost use Rattle.wire_attributes.specs.Attribute.{attributeOf, fits};
 ghost use Rattle.wire_attributes.specs.Layout.{attributes};
 ghost use Rattle.wire_attributes.specs.Tree.{two};
 ghost use Rattle.wire_attributes.specs.declared.tables.Meaning.the-variants.{KeyLength};
 ghost use Rattle.wire_policies.specs.Selector.{Selector};
 ghost use Rattle.wire_policies.specs.Transform.{Transform};
-ghost use Rattle.wire_policies.specs.Policy.{Suite, SaBody};
-ghost use Rattle.wire_policies.specs.Grammar.{IsSelector, Transforms, IsSaBody};
-ghost use Rattle.wire_readers.specs.inner.Values.{isWhole, attributesIn, valuesIn};
-ghost use Rattle.wire_view.specs.View.{shownSelector, shownTransform, shownAttributes, shownSuite, shownBody, nth};
-ghost use Rattle.wire_view.specs.inner.Suites.{IsSuite};
+ghost use Rattle.wire_policies.specs.Grammar.{IsSelector, IsTransform};
+ghost use Rattle.wire_readers.specs.inner.Values.{isWhole, valuesIn};
+ghost use Rattle.wire_view.specs.View.{shownSelector, shownTransform, shownAttribute};
 use wire_attributes::Read;
 use wire_attributes::tables::Meaning;
 use wire_attributes::tables::Place;
@@ -48,7 +47,7 @@ pub enum Item {
 }
 
 // The selector that the octets are, at an offset of the policy. Internal.
-fn selector_item(s: &[u8], base: usize) -> Item
+pub fn selector_item(s: &[u8], base: usize) -> Item
     requires { ⌜ (base + length (now s) < 2 ^ 64) × ((x : Selector) × IsSelector (now s) x) ⌝ }
     ensures { λ r. ⌜ ((x : Selector) → IsSelector (now (s .entry)) x → r ≡ shownSelector base x) ⌝ }
 {
@@ -74,93 +73,40 @@ fn key_length(place: Place, s: &[u8]) -> usize
     octets::numbers::be16_at(v, 0)
 }
 
-// The first of the transforms that the octets start with. Internal.
-fn transform_item(s: &[u8]) -> Item
-    requires { ⌜ ((l : List Transform) × (tail : List ℕ) × Transforms (now s) l tail) ⌝ }
-    ensures { λ r. ⌜ ((l : List Transform) (tail : List ℕ) → Transforms (now (s .entry)) l tail
-        → r ≡ nth (map shownTransform l) 0) ⌝ }
+// The transform that the octets are. Internal.
+pub fn transform_item(s: &[u8]) -> Item
+    requires { ⌜ ((t : Transform) × (more : Bool) × IsTransform true (now s) t more) ⌝ }
+    ensures { λ r. ⌜ ((t : Transform) (more : Bool) → IsTransform true (now (s .entry)) t more → r ≡ shownTransform t) ⌝ }
 {
-    let t = wire_readers::body::transform_parts(s);
-    let place = wire_attributes::tables::in_transform(t.kind);
-    let end = t.end;
-    let held = &s[8..end];
+    let kind = octets::wide(s[4]);
+    let place = wire_attributes::tables::in_transform(kind);
+    let held = &s[8..];
     Item::Transform {
-        kind: t.kind,
-        id: t.id,
+        kind,
+        id: octets::numbers::be16_at(s, 6),
         key_lengths: wire_readers::values::count_of(Meaning::KeyLength, place, held),
         key_length: key_length(place, held),
     }
 }
 
-// The attribute that n others stand before; the octets are attributes of a place to the policy's end, from an offset on. Internal.
-pub fn attribute_item(place: Place, s: &[u8], base: usize, n: usize) -> Item
-    requires { ⌜ (base + length (now s) < 2 ^ 64) × (isWhole (attributes place 0 (now s)) ≡ true) ⌝ }
-    ensures { λ r. ⌜ r ≡ nth (shownAttributes place (base + length (now (s .entry))) (attributesIn place (now (s .entry)))) n ⌝ }
+// The attribute that the octets start with, in a place and at an offset of the policy. Internal.
+pub fn attribute_item(place: Place, s: &[u8], base: usize) -> Item
+    requires { ⌜ base + length (now s) < 2 ^ 64 ⌝ }
+    ensures { λ r. ⌜ (fits (now (s .entry)) ≡ true → r ≡ shownAttribute place base (attributeOf (now (s .entry)))) ⌝ }
 {
-    let mut at = 0;
-    let mut left = n;
-    while at < s.len() {
-        match wire_attributes::attribute_read(&s[at..]) {
-            Read::Attribute {
-                short,
-                kind,
-                start,
-                end,
-            } => {
-                if left == 0 {
-                    return Item::Attribute {
-                        meaning: wire_attributes::tables::meaning_in(place, kind),
-                        short,
-                        kind,
-                        start: base + at + start,
-                        end: base + at + end,
-                    };
-                }
-                left = left - 1;
-                at = at + end;
-            }
-            Read::Cut => {
-                return Item::Nothing;
-            }
-        }
+    match wire_attributes::attribute_read(s) {
+        Read::Attribute {
+            short,
+            kind,
+            start,
+            end,
+        } => Item::Attribute {
+            meaning: wire_attributes::tables::meaning_in(place, kind),
+            short,
+            kind,
+            start: base + start,
+            end: base + end,
+        },
+        Read::Cut => Item::Nothing,
     }
-    Item::Nothing
-}
-
-// The transform or attribute that n others stand before, of what a Group SA policy holds after its selectors. Internal.
-fn suite_item(place: Place, s: &[u8], base: usize, n: usize) -> Item
-    requires { ⌜ (base + length (now s) < 2 ^ 64) × ((x : Suite) × IsSuite place (now s) x) ⌝ }
-    ensures { λ r. ⌜ ((x : Suite) → IsSuite place (now (s .entry)) x
-        → r ≡ nth (shownSuite place (base + length (now (s .entry))) x) n) ⌝ }
-{
-    let mut at = 0;
-    let mut left = n;
-    let mut more = true;
-    while more {
-        if left == 0 {
-            return transform_item(&s[at..]);
-        }
-        let t = wire_readers::body::transform_parts(&s[at..]);
-        left = left - 1;
-        at = at + t.end;
-        more = t.more;
-    }
-    attribute_item(place, &s[at..], base + at, left)
-}
-
-// What n others stand before, of what a Group SA policy holds after its SPI, from an offset on. Internal.
-pub fn body_item(place: Place, s: &[u8], base: usize, n: usize) -> Item
-    requires { ⌜ (base + length (now s) < 2 ^ 64) × ((x : SaBody) × IsSaBody place (now s) x) ⌝ }
-    ensures { λ r. ⌜ ((x : SaBody) → IsSaBody place (now (s .entry)) x
-        → r ≡ nth (shownBody place base (base + length (now (s .entry))) x) n) ⌝ }
-{
-    let d = wire_policies::selectors::selector_size(octets::wide(s[0]));
-    let t = d + wire_policies::selectors::selector_size(octets::wide(s[d]));
-    if n == 0 {
-        return selector_item(&s[0..d], base);
-    }
-    if n == 1 {
-        return selector_item(&s[d..t], base + d);
-    }
-    suite_item(place, &s[t..], base + t, n - 2)
 }

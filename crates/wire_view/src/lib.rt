@@ -1,9 +1,9 @@
-// A policy of a GSA payload, shown where it stands in the frame: a view holds the policy's octets and a cursor, which counts the selectors,
-// transforms and attributes that were passed. The borrow checker covers no function over a struct that holds a reference, so each function
-// here takes the view apart and leaves the work to `read`.
+// A policy of a GSA payload, shown where it stands in the frame: a view holds the policy's octets and a cursor, which says what comes next
+// and at which offset, so that a step reads that alone. The borrow checker covers no function over a struct that holds a reference, so each
+// function here takes the view apart and leaves the work to `read`.
 ghost use mathlib.Core.Path.{_≡_};
 ghost use Prim.Native.Nat.{_+_};
-ghost use Rattle.wire_view.specs.View.{firstOctet, octetOf, kindOf, spiOf, spiStart, isAtEnd, nextAfter, itemAt};
+ghost use Rattle.wire_view.specs.View.{firstOctet, octetOf, kindOf, spiOf, spiStart, isAtEnd, nextAfter, itemAt, stepAt};
 
 pub mod items;
 pub mod read;
@@ -61,13 +61,19 @@ pub fn here<'a>(v: View<'a>) -> items::Item
 
 // What stands at the cursor, and the cursor of the view moved on, in one call.
 pub fn step<'a>(v: View<'a>) -> read::Step
-    ensures { λ r. ⌜ (r .item ≡ itemAt (now (v .entry .src)) (v .entry .at))
-        × (r .next ≡ nextAfter (now (v .entry .src)) (v .entry .at)) ⌝ }
+    ensures { λ r. ⌜ r ≡ stepAt (now (v .entry .src)) (v .entry .at) ⌝ }
 {
     read::step_at(v.src, v.at)
 }
 
-// Whether a view of the octets shows no more than so many: for every caller that holds no view.
+// What stands at a cursor of a view of the octets, and the cursor behind it: for every caller that holds no view. A walk starts at 0.
+pub fn shown_step(s: &[u8], at: usize) -> read::Step
+    ensures { λ r. ⌜ r ≡ stepAt (now (s .entry)) at ⌝ }
+{
+    step(View { src: s, at })
+}
+
+// Whether a view of the octets is at its end: for every caller that holds no view.
 pub fn shown_end(s: &[u8], at: usize) -> bool
     ensures { λ r. ⌜ r ≡ isAtEnd (now (s .entry)) at ⌝ }
 {
@@ -81,7 +87,7 @@ pub fn shown_next(s: &[u8], at: usize) -> usize
     moved(View { src: s, at }).at
 }
 
-// What a view of the octets shows after so many others: for every caller that holds no view.
+// What a view of the octets shows at a cursor: for every caller that holds no view.
 pub fn shown(s: &[u8], at: usize) -> items::Item
     ensures { λ r. ⌜ r ≡ itemAt (now (s .entry)) at ⌝ }
 {

@@ -1,7 +1,10 @@
 // What octets show as a policy, for plain slices and numbers.
 ghost use mathlib.Core.Path.{_≡_};
-ghost use Prim.Native.Nat.{_+_};
-ghost use Rattle.wire_view.specs.View.{firstOctet, octetOf, kindOf, spiOf, spiStart, isAtEnd, nextAfter, itemAt};
+ghost use Prim.Native.Nat.{_+_, _<_};
+ghost use lib.ListN.{length};
+ghost use Rattle.wire_view.specs.View.{firstOctet, octetOf, kindOf, spiOf, spiStart};
+ghost use Rattle.wire_view.specs.View.{selectorStep, transformStep, placeOf, attributeStep, firstStep, stepBy};
+ghost use Rattle.wire_view.specs.View.{stepAt, itemAt, nextAfter, isAtEnd};
 use crate::items::Item;
 use wire_attributes::Spot;
 use wire_attributes::tables::Place;
@@ -52,57 +55,153 @@ pub fn spi_of(s: &[u8]) -> &[u8]
     }
 }
 
-// What the policy that the octets are shows after n others. Internal.
-pub fn item_at(s: &[u8], n: usize) -> Item
-    ensures { λ r. ⌜ r ≡ itemAt (now (s .entry)) n ⌝ }
-{
-    match kind_of(s) {
-        Kind::GroupSa(p) => {
-            let h = 4 + wire_policies::spi_size(p);
-            crate::items::body_item(wire_attributes::tables::in_policy(p), &s[h..], h, n)
-        }
-        Kind::GroupWide => crate::items::attribute_item(Place::GroupWidePolicy, &s[4..], 4, n),
-        Kind::Nothing => Item::Nothing,
-    }
-}
-
-// What stands at a cursor, and the cursor after it.
+// What stands at a cursor, and the cursor behind it.
 pub struct Step {
     pub item: Item,
     pub next: usize,
 }
 
-// What the policy that the octets are shows after n others, and the cursor after that, which stays at the end. Internal.
-pub fn step_at(s: &[u8], n: usize) -> Step
-    ensures { λ r. ⌜ (r .item ≡ itemAt (now (s .entry)) n) × (r .next ≡ nextAfter (now (s .entry)) n) ⌝ }
+// What comes at a cursor's offset. A cursor is four times the offset, plus one of these, or plus 0 before the first.
+const DESTINATION: usize = 1;
+const TRANSFORM: usize = 2;
+const ATTRIBUTE: usize = 3;
+
+// The step over the selector at an offset, behind which comes another part of the policy. Internal.
+fn selector_step(s: &[u8], c: usize, comes: usize, at: usize) -> Step
+    requires { ⌜ (length (now s) < 65536) × (comes < 4) ⌝ }
+    ensures { λ r. ⌜ r ≡ selectorStep (now (s .entry)) c comes at ⌝ }
 {
-    let item = item_at(s, n);
-    match item {
-        Item::Selector { .. } => Step { item, next: n + 1 },
-        Item::Transform { .. } => Step { item, next: n + 1 },
-        Item::Attribute { .. } => Step { item, next: n + 1 },
-        Item::Nothing => Step { item, next: n },
+    if s.len() < at {
+        return Step { item: Item::Nothing, next: c };
+    }
+    match wire_policies::selectors::selector_spot(&s[at..], at, 0) {
+        Spot::Ends(e) => {
+            let end = at + e;
+            let item = crate::items::selector_item(&s[at..end], at);
+            Step { item, next: 4 * end + comes }
+        }
+        Spot::Broken(_) => Step { item: Item::Nothing, next: c },
     }
 }
 
-// Whether the policy that the octets are shows no more than n. Internal.
-pub fn is_at_end(s: &[u8], n: usize) -> bool
-    ensures { λ r. ⌜ r ≡ isAtEnd (now (s .entry)) n ⌝ }
+// The step over the transform at an offset. Internal.
+fn transform_step(s: &[u8], c: usize, at: usize) -> Step
+    requires { ⌜ length (now s) < 65536 ⌝ }
+    ensures { λ r. ⌜ r ≡ transformStep (now (s .entry)) c at ⌝ }
 {
-    match item_at(s, n) {
+    if s.len() < at {
+        return Step { item: Item::Nothing, next: c };
+    }
+    match wire_policies::transforms::transform_spot(&s[at..], at, 0) {
+        Spot::Ends(e) => {
+            let end = at + e;
+            let item = crate::items::transform_item(&s[at..end]);
+            if octets::wide(s[at]) == 3 {
+                return Step { item, next: 4 * end + TRANSFORM };
+            }
+            Step { item, next: 4 * end + ATTRIBUTE }
+        }
+        Spot::Broken(_) => Step { item: Item::Nothing, next: c },
+    }
+}
+
+// The place of a policy's attributes, by its first octet. Internal.
+fn place_of(s: &[u8]) -> Place
+    requires { ⌜ 0 < length (now s) ⌝ }
+    ensures { λ r. ⌜ r ≡ placeOf (now (s .entry)) ⌝ }
+{
+    let p = octets::wide(s[0]);
+    if p == 0 {
+        return Place::GroupWidePolicy;
+    }
+    wire_attributes::tables::in_policy(p)
+}
+
+// The step over the attribute at an offset. Internal.
+fn attribute_step(s: &[u8], c: usize, at: usize) -> Step
+    requires { ⌜ (0 < length (now s)) × (length (now s) < 65536) ⌝ }
+    ensures { λ r. ⌜ r ≡ attributeStep (now (s .entry)) c at ⌝ }
+{
+    if s.len() < at {
+        return Step { item: Item::Nothing, next: c };
+    }
+    let place = place_of(s);
+    match wire_attributes::attribute_in(place, &s[at..], at) {
+        Spot::Ends(e) => {
+            let end = at + e;
+            let item = crate::items::attribute_item(place, &s[at..], at);
+            Step { item, next: 4 * end + ATTRIBUTE }
+        }
+        Spot::Broken(_) => Step { item: Item::Nothing, next: c },
+    }
+}
+
+// The step over the first of all that the policy holds. Internal.
+fn first_step(s: &[u8], c: usize) -> Step
+    requires { ⌜ (0 < length (now s)) × (length (now s) < 65536) ⌝ }
+    ensures { λ r. ⌜ r ≡ firstStep (now (s .entry)) c ⌝ }
+{
+    match kind_of(s) {
+        Kind::GroupSa(p) => selector_step(s, c, DESTINATION, 4 + wire_policies::spi_size(p)),
+        Kind::GroupWide => attribute_step(s, c, 4),
+        Kind::Nothing => Step { item: Item::Nothing, next: c },
+    }
+}
+
+// The step from a cursor, by what comes there and at which offset. Internal.
+fn step_by(s: &[u8], c: usize, comes: usize, at: usize) -> Step
+    requires { ⌜ (0 < length (now s)) × (length (now s) < 65536) ⌝ }
+    ensures { λ r. ⌜ r ≡ stepBy (now (s .entry)) c comes at ⌝ }
+{
+    if comes == 0 {
+        return first_step(s, c);
+    }
+    if comes == DESTINATION {
+        return selector_step(s, c, TRANSFORM, at);
+    }
+    if comes == TRANSFORM {
+        return transform_step(s, c, at);
+    }
+    attribute_step(s, c, at)
+}
+
+// What stands at a cursor of the policy that the octets are, and the cursor behind it, which stays at the end. Internal.
+pub fn step_at(s: &[u8], c: usize) -> Step
+    ensures { λ r. ⌜ r ≡ stepAt (now (s .entry)) c ⌝ }
+{
+    if s.len() < 4 {
+        return Step { item: Item::Nothing, next: c };
+    }
+    if octets::numbers::be16_at(s, 2) == s.len() {
+        return step_by(s, c, c % 4, c / 4);
+    }
+    Step { item: Item::Nothing, next: c }
+}
+
+// What stands at a cursor. Internal.
+pub fn item_at(s: &[u8], c: usize) -> Item
+    ensures { λ r. ⌜ r ≡ itemAt (now (s .entry)) c ⌝ }
+{
+    let step = step_at(s, c);
+    step.item
+}
+
+// The cursor behind it, which stays at the end. Internal.
+pub fn next_after(s: &[u8], c: usize) -> usize
+    ensures { λ r. ⌜ r ≡ nextAfter (now (s .entry)) c ⌝ }
+{
+    let step = step_at(s, c);
+    step.next
+}
+
+// Whether nothing stands at a cursor. Internal.
+pub fn is_at_end(s: &[u8], c: usize) -> bool
+    ensures { λ r. ⌜ r ≡ isAtEnd (now (s .entry)) c ⌝ }
+{
+    match item_at(s, c) {
         Item::Selector { .. } => false,
         Item::Transform { .. } => false,
         Item::Attribute { .. } => false,
         Item::Nothing => true,
     }
-}
-
-// The cursor after n, which stays at the end. Internal.
-pub fn next_after(s: &[u8], n: usize) -> usize
-    ensures { λ r. ⌜ r ≡ nextAfter (now (s .entry)) n ⌝ }
-{
-    if is_at_end(s, n) {
-        return n;
-    }
-    n + 1
 }

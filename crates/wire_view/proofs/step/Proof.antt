@@ -7,7 +7,7 @@ use denote.Ref.{now}
 use denote.Struct.Laws as LL
 use denote.Triple.Spec.{tripleOf}
 use denote.Triple.Table.{entered, cited}
-use Rattle.wire_view.specs.View.{itemAt, nextAfter}
+use Rattle.wire_view.specs.View.{stepAt}
 use Rattle.wire_view.specs.declared.View.{View}
 use Rattle.wire_view.specs.declared.read.Step.{Step}
 use Rattle.wire_view.proofs.read.Step as S
@@ -25,7 +25,7 @@ abbrev F : Lfts 1 → RattleType
 F κs = S.the-row
 
 abbrev P : Lfts 1 → View → Step → Type 0
-P κs d r = (r .item ≡ itemAt (now (d .src)) (d .at)) × (r .next ≡ nextAfter (now (d .src)) (d .at))
+P κs d r = r ≡ stepAt (now (d .src)) (d .at)
 
 pub step-spec : {M : Type 1} → stated.statement M
 unfolding code.routine tablesOf

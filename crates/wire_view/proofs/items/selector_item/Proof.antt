@@ -1,6 +1,6 @@
 use denote.Ref.{now}
 use native.Mathlib.Omega.{arith}
-use Rattle.wire_view.proofs.BodyLaws.{selector-room, selector-is}
+use Rattle.wire_view.proofs.SelectorLaws.{selector-room, selector-is}
 use borrow.Author.Needs.{needs}
 use Rattle.wire_view.proofs.items.selector_item.Statement.{statement}
 use Rattle.wire_view.proofs.items.selector_item.Tie as tie

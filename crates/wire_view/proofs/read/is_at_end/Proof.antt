@@ -1,6 +1,5 @@
-use denote.Ref.{now}
-use mathlib.Core.Path.{refl, sym, _∙_}
-use Rattle.wire_view.proofs.CursorLaws.{at-the-end, not-at-end}
+use mathlib.Core.Path.{ap, sym, _∙_}
+use Rattle.wire_view.specs.View.{isNothing}
 use borrow.Author.Needs.{needs}
 use Rattle.wire_view.proofs.read.is_at_end.Statement.{statement}
 use Rattle.wire_view.proofs.read.is_at_end.Tie as tie
@@ -21,24 +20,16 @@ enum-told-4 : tie.Need-enum-told-4
 enum-told-4 c = search needs
 
 returns : tie.Need-returns
-returns c =
-    let a = c .before .before .before .before .args in
-    not-at-end (now (a .s)) (a .n) _ refl (sym (c .enum-told .given .1) ∙ c .before .before .item-at .ensures)
+returns c = ap isNothing (sym (c .enum-told .given .1) ∙ c .before .before .item-at .ensures)
 
 returns-2 : tie.Need-returns-2
-returns-2 c =
-    let a = c .before .before .before .before .args in
-    not-at-end (now (a .s)) (a .n) _ refl (sym (c .enum-told2 .given .1) ∙ c .before .before .item-at .ensures)
+returns-2 c = ap isNothing (sym (c .enum-told2 .given .1) ∙ c .before .before .item-at .ensures)
 
 returns-3 : tie.Need-returns-3
-returns-3 c =
-    let a = c .before .before .before .before .args in
-    not-at-end (now (a .s)) (a .n) _ refl (sym (c .enum-told3 .given .1) ∙ c .before .before .item-at .ensures)
+returns-3 c = ap isNothing (sym (c .enum-told3 .given .1) ∙ c .before .before .item-at .ensures)
 
 returns-4 : tie.Need-returns-4
-returns-4 c =
-    let a = c .before .before .before .before .args in
-    at-the-end (now (a .s)) (a .n) (sym (c .enum-told4 .given .1) ∙ c .before .before .item-at .ensures)
+returns-4 c = ap isNothing (sym (c .enum-told4 .given .1) ∙ c .before .before .item-at .ensures)
 
 pub is-at-end-spec : {M : Type 1} → statement M
 is-at-end-spec =

@@ -77,7 +77,7 @@ returns-3 : tie.Need-returns-3
 returns-3 c =
     let a = c .before .before .before .before .before .args in
     let f = of-none (now (a .s)) (sym (c .before .enum-told2 .given .1) ∙ c .before .before .before .kind-of .ensures .0) in
-    (f .1, ap (λ (n : ℕ). (a .s .ptr .0, n + a .s .ptr .1)) (f .2))
+    (f .spi, ap (λ (n : ℕ). (a .s .ptr .0, n + a .s .ptr .1)) (f .there))
 
 pub spi-of-spec : {M : Type 1} → statement M
 spi-of-spec =
