@@ -70,10 +70,11 @@ pub(crate) fn policy_head(out: &mut [u8], n: usize, protocol: usize, spi: &[u8])
     crate::line::protocol_and_spi(out, n, b"policy ", protocol, spi)
 }
 
-// Where the text goes on, and where the next item of the policy stands.
+// Where the text goes on, where the next item of the policy stands, and the view's cursor there.
 struct Step {
     n: usize,
     next: usize,
+    cursor: usize,
     more: bool,
 }
 
@@ -89,11 +90,13 @@ fn items(
 ) -> usize {
     let mut m = n;
     let mut at = behind(from, head);
+    let mut cursor = 0;
     let mut i = 0;
     while i < s.len() {
-        let step = item(out, m, place, s, from, to, at, i);
+        let step = item(out, m, place, s, from, to, at, cursor);
         m = step.n;
         at = step.next;
+        cursor = step.cursor;
         if step.more {
             i += 1;
         } else {
@@ -115,7 +118,10 @@ fn item(
     cursor: usize,
 ) -> Step {
     let p = part(s, from, to);
-    match wire_view::shown(p, cursor) {
+    let shown = wire_view::shown_step(p, cursor);
+    let here = shown.item;
+    let then = shown.next;
+    match here {
         Item::Selector {
             kind: _,
             protocol,
@@ -127,7 +133,7 @@ fn item(
             let next = behind(from, end);
             let a = selector_head(out, n, cursor == 0, at, span(at, next));
             let b = addresses(out, a, part(p, start, end));
-            stepped(ports(out, b, protocol, start_port, end_port), next)
+            stepped(ports(out, b, protocol, start_port, end_port), next, then)
         }
         Item::Transform {
             kind,
@@ -136,7 +142,7 @@ fn item(
             key_length: _,
         } => {
             let next = behind(at, two(s, behind(at, 2)));
-            stepped(transform(out, n, kind, id, s, at, next, 0), next)
+            stepped(transform(out, n, kind, id, s, at, next, 0), next, then)
         }
         Item::Attribute {
             meaning: _,
@@ -150,20 +156,23 @@ fn item(
             stepped(
                 crate::attribute::attribute(out, n, place, at, span(at, next), kind, value),
                 next,
+                then,
             )
         }
         Item::Nothing => Step {
             n,
             next: at,
+            cursor: then,
             more: false,
         },
     }
 }
 
-fn stepped(n: usize, next: usize) -> Step {
+fn stepped(n: usize, next: usize, cursor: usize) -> Step {
     Step {
         n,
         next,
+        cursor,
         more: true,
     }
 }

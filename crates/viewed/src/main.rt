@@ -1,4 +1,5 @@
-// Walks through views of policies by the calls of `view`. Prints for each how many selectors, transforms and attributes it shows.
+// Walks through views of policies by the calls of `wire_view`: twice through each, by steps and by the calls that a step puts into one.
+// Prints for each walk a word for each selector, transform and attribute, and how many it came by.
 use libc::STDOUT_FILENO;
 use wire_view::items::Item;
 
@@ -6,28 +7,56 @@ fn print(text: &[u8]) {
     io::write_all(STDOUT_FILENO, text);
 }
 
-// How many the view shows, from the start up to its end.
-fn counted(s: &[u8]) -> usize {
+// Prints a word for what stands at a cursor. Answers whether anything does.
+fn named(item: Item) -> bool {
+    match item {
+        Item::Selector { .. } => print(b"selector "),
+        Item::Transform { .. } => print(b"transform "),
+        Item::Attribute { .. } => print(b"attribute "),
+        Item::Nothing => {
+            return false;
+        }
+    }
+    true
+}
+
+fn by_steps(s: &[u8]) -> usize {
     let mut n = 0;
+    let mut at = 0;
     while n < s.len() {
-        if wire_view::shown_end(s, n) {
+        let step = wire_view::shown_step(s, at);
+        let item = step.item;
+        if !named(item) {
             return n;
         }
-        n = wire_view::shown_next(s, n);
+        at = step.next;
+        n += 1;
     }
     n
 }
 
-// The count, and whether nothing stands behind the last.
-fn walked(s: &[u8]) {
-    let n = counted(s);
-    io::print_decimal(STDOUT_FILENO, n as u64);
-    match wire_view::shown(s, n) {
-        Item::Selector { .. } => print(b" and a selector\n"),
-        Item::Transform { .. } => print(b" and a transform\n"),
-        Item::Attribute { .. } => print(b" and an attribute\n"),
-        Item::Nothing => print(b" shown\n"),
+fn by_moves(s: &[u8]) -> usize {
+    let mut n = 0;
+    let mut at = 0;
+    while n < s.len() {
+        if wire_view::shown_end(s, at) {
+            return n;
+        }
+        named(wire_view::shown(s, at));
+        at = wire_view::shown_next(s, at);
+        n += 1;
     }
+    n
+}
+
+fn counted(n: usize) {
+    io::print_decimal(STDOUT_FILENO, n as u64);
+    print(b" shown\n");
+}
+
+fn walked(s: &[u8]) {
+    counted(by_steps(s));
+    counted(by_moves(s));
 }
 
 fn main() {
@@ -35,9 +64,12 @@ fn main() {
     walked(b"\x00\x00\x00\x04");
     walked(b"\x00\x00\x00\x08\x80\x02\x00\x05");
     walked(b"\x00\x00\x00\x04\x00");
-    // an ESP policy: two selectors, a transform
+    // ESP policies: two selectors and a transform; two transforms, the first with a Key Length, and an attribute
     walked(
         b"\x03\x04\x00\x30spi \x07a\x00\x10PPPPaaaabbbb\x07a\x00\x10PPPPaaaabbbb\x00\x00\x00\x08\x05\x00\x00\x02",
+    );
+    walked(
+        b"\x03\x04\x00\x44spi \x07a\x00\x10PPPPaaaabbbb\x07a\x00\x10PPPPaaaabbbb\x03\x00\x00\x0c\x01\x00\x00\x14\x80\x0e\x01\x00\x00\x00\x00\x08\x05\x00\x00\x02\x00\x01\x00\x04\x00\x00\x0e\x10",
     );
     walked(b"");
 }

@@ -37,15 +37,18 @@ use Rattle.wire_view.specs.declared.items.Item.{Item}
 use Rattle.wire_view.specs.declared.read.Step.{Step}
 use Rattle.wire_view.proofs.KindLaws.{counts}
 
+abbrev pub told : Item → ℕ → Step
+told r n = record { item = r; next = n }
+
 -- BY WHAT WAS READ
 module _ {A : Type 0} (s : List ℕ) (c : ℕ) (show : A → Item) (comes : A → ℕ) (x : Reading A) where
-  pub on : (a : A) (e : ℕ) → x ≡ whole a (drop e s) → e ≤ length s → (r : Item) (m : ℕ) → r ≡ show a → m ≡ comes a
-      → _≡_ {A = Step} (record { item = r; next = 4 * e + m }) (stepped s c show comes x)
-  on a e q h r m rq mq =
+  on : (a : A) (e : ℕ) → x ≡ whole a (drop e s) → e ≤ length s → (r : Item) (n : ℕ) → r ≡ show a → n ≡ cursorAt e (comes a)
+      → told r n ≡ stepped s c show comes x
+  on a e q h r n rq nq =
       let d : e ≡ length s - length (drop e s) = omega (arith, length-drop e s, h) in
-      (λ j. record { item = rq j; next = cursorAt (d j) (mq j) }) ∙ ap (stepped s c show comes) (sym q)
+      (λ j. told (rq j) ((nq ∙ ap (λ (k : ℕ). cursorAt k (comes a)) d) j)) ∙ ap (stepped s c show comes) (sym q)
 
-  pub off : (o : ℕ) → x ≡ broken o → stays c ≡ stepped s c show comes x
+  off : (o : ℕ) → x ≡ broken o → stays c ≡ stepped s c show comes x
   off o q = ap (stepped s c show comes) (sym q)
 
 -- the octets of what was read
@@ -114,10 +117,10 @@ module _ (s : List ℕ) (c at : ℕ) where
       selector-there = (read .item, selector-is)
 
       pub over-selector : (r : Item) → ((x : Selector) → IsSelector (part s at (at + e)) x → r ≡ shownSelector at x)
-          → _≡_ {A = Step} (record { item = r; next = 4 * (at + e) + comes }) (selectorStep s c comes at)
-      over-selector r k =
+          → (n : ℕ) → n ≡ cursorAt (at + e) comes → told r n ≡ selectorStep s c comes at
+      over-selector r k n nq =
           on s c (shownSelector at) (λ (x : Selector). comes) (selector 0 at (drop at s)) (read .item) (at + e) (read .is) (read .inside)
-          r comes (k (read .item) selector-is) refl
+          r n (k (read .item) selector-is) nq
 
   -- A TRANSFORM
   abbrev shows : Linked Bool Transform → Item
@@ -162,17 +165,18 @@ module _ (s : List ℕ) (c at : ℕ) where
             next-of 0 true at (drop at s) (read-transform .item) (drop (at + e) s) (read-transform .is)
             ∙ ap (λ (y : ℕ). eqb y 3) (u ∙ sym mq)
 
-        over : (n : ℕ) → n ≡ comes-next (read-transform .item)
-            → _≡_ {A = Step} (record { item = r; next = 4 * (at + e) + n }) (transformStep s c at)
+        over : (n : ℕ) → n ≡ cursorAt (at + e) (comes-next (read-transform .item)) → told r n ≡ transformStep s c at
         over n nq =
             on s c shows comes-next (transform 0 true at (drop at s)) (read-transform .item) (at + e) (read-transform .is)
             (read-transform .inside) r n (k (read-transform .item .item) (read-transform .item .next) transform-is) nq
 
-        pub over-transform : m ≡ 3 → _≡_ {A = Step} (record { item = r; next = 4 * (at + e) + atTransform }) (transformStep s c at)
-        over-transform z = over atTransform (ap (λ (t : Bool). either t atTransform atAttribute) (sym (mark ∙ eq-eqb m 3 z)))
+        pub over-transform : m ≡ 3 → (n : ℕ) → n ≡ cursorAt (at + e) atTransform → told r n ≡ transformStep s c at
+        over-transform z n nq =
+            over n (nq ∙ ap (λ (t : Bool). cursorAt (at + e) (either t atTransform atAttribute)) (sym (mark ∙ eq-eqb m 3 z)))
 
-        pub over-last : (m ≡ 3 → ⊥) → _≡_ {A = Step} (record { item = r; next = 4 * (at + e) + atAttribute }) (transformStep s c at)
-        over-last z = over atAttribute (ap (λ (t : Bool). either t atTransform atAttribute) (sym (mark ∙ ne-eqb m 3 z)))
+        pub over-last : (m ≡ 3 → ⊥) → (n : ℕ) → n ≡ cursorAt (at + e) atAttribute → told r n ≡ transformStep s c at
+        over-last z n nq =
+            over n (nq ∙ ap (λ (t : Bool). cursorAt (at + e) (either t atTransform atAttribute)) (sym (mark ∙ ne-eqb m 3 z)))
 
   -- AN ATTRIBUTE
   pub attribute-past : length s < at → stays c ≡ attributeStep s c at
@@ -209,14 +213,14 @@ module _ (s : List ℕ) (c at : ℕ) where
           (both-true (fits y) (formedIn p (attributeOf y)) (g .0) .0, u)
 
       pub over-attribute : (r : Item) → (fits (tail s at) ≡ true → r ≡ shownAttribute p at (attributeOf (tail s at)))
-          → _≡_ {A = Step} (record { item = r; next = 4 * (at + e) + atAttribute }) (attributeStep s c at)
+          → (n : ℕ) → n ≡ cursorAt (at + e) atAttribute → told r n ≡ attributeStep s c at
       unfolding stepOf
-      over-attribute r k =
+      over-attribute r k n nq =
           let f = ap fits (to-end s at) ∙ whole-one .0 in
           let g : r ≡ shownAttribute p at (read-attribute .item) =
           k f ∙ ap (λ (y : List ℕ). shownAttribute p at (attributeOf y)) (to-end s at) ∙ ap (shownAttribute p at) (whole-one .1) in
           on s c (shownAttribute p at) (λ (a : Attribute). atAttribute) (attribute p at (drop at s)) (read-attribute .item) (at + e)
-          (read-attribute .is) (read-attribute .inside) r atAttribute g refl
+          (read-attribute .is) (read-attribute .inside) r n g nq
           ∙ ap stepOf pq
 
 -- WHICH OF THEM

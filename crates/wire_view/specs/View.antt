@@ -111,8 +111,11 @@ atTransform = 2
 abbrev pub atAttribute : ℕ
 atAttribute = 3
 
+abbrev pub parts : ℕ
+parts = 4
+
 abbrev pub cursorAt : ℕ → ℕ → ℕ
-cursorAt b comes = 4 * b + comes
+cursorAt b comes = parts * b + comes
 
 abbrev pub stays : ℕ → Step
 stays c = record { item = item.Nothing; next = c }
@@ -156,7 +159,7 @@ abbrev pub counted : List ℕ → Bool
 counted s = both (leb 4 (length s)) (eqb (be16 s 2) (length s))
 
 abbrev pub stepAt : List ℕ → ℕ → Step
-stepAt s c = either (counted s) (stepBy s c (c % 4) (c / 4)) (stays c)
+stepAt s c = either (counted s) (stepBy s c (c % parts) (c / parts)) (stays c)
 
 -- its parts: what stands at the cursor, the cursor behind it, and whether nothing stands there
 abbrev pub itemAt : List ℕ → ℕ → Item

@@ -3,7 +3,7 @@ ghost use mathlib.Core.Path.{_≡_};
 ghost use Prim.Native.Nat.{_+_, _<_};
 ghost use lib.ListN.{length};
 ghost use Rattle.wire_view.specs.View.{firstOctet, octetOf, kindOf, spiOf, spiStart};
-ghost use Rattle.wire_view.specs.View.{selectorStep, transformStep, placeOf, attributeStep, firstStep, stepBy};
+ghost use Rattle.wire_view.specs.View.{cursorAt, stays, selectorStep, transformStep, placeOf, attributeStep, firstStep, stepBy};
 ghost use Rattle.wire_view.specs.View.{stepAt, itemAt, nextAfter, isAtEnd};
 use crate::items::Item;
 use wire_attributes::Spot;
@@ -61,10 +61,32 @@ pub struct Step {
     pub next: usize,
 }
 
-// What comes at a cursor's offset. A cursor is four times the offset, plus one of these, or plus 0 before the first.
+// What comes at a cursor's offset; 0 is before the first. A cursor is the offset times their number, plus one of them.
 const DESTINATION: usize = 1;
+
 const TRANSFORM: usize = 2;
+
 const ATTRIBUTE: usize = 3;
+
+const PARTS: usize = 4;
+
+// The cursor at an offset for what comes there. Internal.
+fn cursor_at(at: usize, comes: usize) -> usize
+    requires { ⌜ (at < 65536) × (comes < 4) ⌝ }
+    ensures { λ r. ⌜ r ≡ cursorAt at comes ⌝ }
+{
+    PARTS * at + comes
+}
+
+// The step that shows nothing and stays. Internal.
+fn stay(c: usize) -> Step
+    ensures { λ r. ⌜ r ≡ stays c ⌝ }
+{
+    Step {
+        item: Item::Nothing,
+        next: c,
+    }
+}
 
 // The step over the selector at an offset, behind which comes another part of the policy. Internal.
 fn selector_step(s: &[u8], c: usize, comes: usize, at: usize) -> Step
@@ -72,15 +94,18 @@ fn selector_step(s: &[u8], c: usize, comes: usize, at: usize) -> Step
     ensures { λ r. ⌜ r ≡ selectorStep (now (s .entry)) c comes at ⌝ }
 {
     if s.len() < at {
-        return Step { item: Item::Nothing, next: c };
+        return stay(c);
     }
     match wire_policies::selectors::selector_spot(&s[at..], at, 0) {
         Spot::Ends(e) => {
             let end = at + e;
             let item = crate::items::selector_item(&s[at..end], at);
-            Step { item, next: 4 * end + comes }
+            Step {
+                item,
+                next: cursor_at(end, comes),
+            }
         }
-        Spot::Broken(_) => Step { item: Item::Nothing, next: c },
+        Spot::Broken(_) => stay(c),
     }
 }
 
@@ -90,18 +115,24 @@ fn transform_step(s: &[u8], c: usize, at: usize) -> Step
     ensures { λ r. ⌜ r ≡ transformStep (now (s .entry)) c at ⌝ }
 {
     if s.len() < at {
-        return Step { item: Item::Nothing, next: c };
+        return stay(c);
     }
     match wire_policies::transforms::transform_spot(&s[at..], at, 0) {
         Spot::Ends(e) => {
             let end = at + e;
             let item = crate::items::transform_item(&s[at..end]);
             if octets::wide(s[at]) == 3 {
-                return Step { item, next: 4 * end + TRANSFORM };
+                return Step {
+                    item,
+                    next: cursor_at(end, TRANSFORM),
+                };
             }
-            Step { item, next: 4 * end + ATTRIBUTE }
+            Step {
+                item,
+                next: cursor_at(end, ATTRIBUTE),
+            }
         }
-        Spot::Broken(_) => Step { item: Item::Nothing, next: c },
+        Spot::Broken(_) => stay(c),
     }
 }
 
@@ -123,16 +154,19 @@ fn attribute_step(s: &[u8], c: usize, at: usize) -> Step
     ensures { λ r. ⌜ r ≡ attributeStep (now (s .entry)) c at ⌝ }
 {
     if s.len() < at {
-        return Step { item: Item::Nothing, next: c };
+        return stay(c);
     }
     let place = place_of(s);
     match wire_attributes::attribute_in(place, &s[at..], at) {
         Spot::Ends(e) => {
             let end = at + e;
             let item = crate::items::attribute_item(place, &s[at..], at);
-            Step { item, next: 4 * end + ATTRIBUTE }
+            Step {
+                item,
+                next: cursor_at(end, ATTRIBUTE),
+            }
         }
-        Spot::Broken(_) => Step { item: Item::Nothing, next: c },
+        Spot::Broken(_) => stay(c),
     }
 }
 
@@ -144,7 +178,7 @@ fn first_step(s: &[u8], c: usize) -> Step
     match kind_of(s) {
         Kind::GroupSa(p) => selector_step(s, c, DESTINATION, 4 + wire_policies::spi_size(p)),
         Kind::GroupWide => attribute_step(s, c, 4),
-        Kind::Nothing => Step { item: Item::Nothing, next: c },
+        Kind::Nothing => stay(c),
     }
 }
 
@@ -170,12 +204,13 @@ pub fn step_at(s: &[u8], c: usize) -> Step
     ensures { λ r. ⌜ r ≡ stepAt (now (s .entry)) c ⌝ }
 {
     if s.len() < 4 {
-        return Step { item: Item::Nothing, next: c };
+        return stay(c);
     }
-    if octets::numbers::be16_at(s, 2) == s.len() {
-        return step_by(s, c, c % 4, c / 4);
+    let n = octets::numbers::be16_at(s, 2);
+    if n == s.len() {
+        return step_by(s, c, c % PARTS, c / PARTS);
     }
-    Step { item: Item::Nothing, next: c }
+    stay(c)
 }
 
 // What stands at a cursor. Internal.

@@ -6,10 +6,10 @@ use Rattle.show.proofs.policy.items.Statement.{statement}
 use Rattle.show.proofs.policy.items.Tie as tie
 
 abbrev Inv-loop : tie.InvT-loop
-Inv-loop out₀ n place s from to head m₀ at₀ i₀ out m at i = length out ≡ length out₀
+Inv-loop out₀ n place s from to head m₀ at₀ cursor₀ i₀ out m at cursor i = length out ≡ length out₀
 
 abbrev μ-loop : tie.MeasureT-loop
-μ-loop out₀ n place s from to head m₀ at₀ i₀ out m at i = length s - i
+μ-loop out₀ n place s from to head m₀ at₀ cursor₀ i₀ out m at cursor i = length s - i
 
 behind-requires : tie.Need-behind-requires Inv-loop μ-loop
 behind-requires c κs = search needs

@@ -12,10 +12,13 @@ use borrow.Author.Needs.{needs}
 use Rattle.wire_view.proofs.read.attribute_step.Statement.{statement}
 use Rattle.wire_view.proofs.read.attribute_step.Tie as tie
 
+stay-requires : tie.Need-stay-requires
+stay-requires c κs = search needs
+
 returns : tie.Need-returns
 returns c =
-    let a = c .before .before .args in
-    attribute-past (now (a .s)) (a .c) (a .at) (c .if1 .taken)
+    let a = c .before .before .before .args in
+    c .stay .ensures ∙ attribute-past (now (a .s)) (a .c) (a .at) (c .before .if1 .taken)
 
 place-of-requires : tie.Need-place-of-requires
 place-of-requires c κs = search needs
@@ -49,7 +52,8 @@ inside c =
     let b = c .before .before .before .before .before .before .before .before in
     let a = b .args in
     let p = c .before .before .before .before .before .place-of in
-    (attribute-inside (now (a .s)) (a .c) (a .at) (c .before .before .before .before .before .before .if1 .left) (p .result) (p .ensures) _ (ends c), b .pre .1)
+    let h = c .before .before .before .before .before .before .if1 .left in
+    (attribute-inside (now (a .s)) (a .c) (a .at) h (p .result) (p .ensures) _ (ends c), b .pre .1)
 
 add-end : tie.Need-add-end
 add-end c = let i = inside c in record { fits = omega (arith, i .0, i .1) }
@@ -66,34 +70,40 @@ part-attribute-item-end c = search needs
 attribute-item-requires : tie.Need-attribute-item-requires
 attribute-item-requires c κs = search needs
 
-mul-t17 : tie.Need-mul-t17
-mul-t17 c = let i = inside (c .before .before) in record { fits = omega (arith, i .0, i .1) }
-
-add-t20 : tie.Need-add-t20
-add-t20 c = let i = inside (c .before .before) in record { fits = omega (arith, i .0, i .1) }
+cursor-at-requires : tie.Need-cursor-at-requires
+cursor-at-requires c κs = let i = inside (c .before .before) in (omega (arith, i .0, i .1), omega arith)
 
 enum-told : tie.Need-enum-told
 enum-told c = search needs
 
 returns-2 : tie.Need-returns-2
 returns-2 c =
-    let b = c .before .before in
+    let r = c .before .attribute-item in
+    let b = c .before .before .before in
     let a = b .before .before .before .before .before .before .before .before .args in
     let p = b .before .before .before .before .before .place-of in
-    over-attribute (now (a .s)) (a .c) (a .at) (b .before .before .before .before .before .before .if1 .left) (p .result) (p .ensures) _ (ends b)
-    (c .attribute-item .result) (c .attribute-item .ensures)
+    let h = b .before .before .before .before .before .before .if1 .left in
+    over-attribute (now (a .s)) (a .c) (a .at) h (p .result) (p .ensures) _ (ends b) (r .result) (r .ensures) (c .cursor-at .result)
+    (c .cursor-at .ensures)
+
+stay-requires-2 : tie.Need-stay-requires-2
+stay-requires-2 c κs = search needs
 
 returns-3 : tie.Need-returns-3
 returns-3 c =
-    let a = c .before .before .before .before .before .before .before .args in
-    let p = c .before .before .before .before .place-of in
-    no-attribute (now (a .s)) (a .c) (a .at) (c .before .before .before .before .before .if1 .left) (p .result) (p .ensures) (c .enum-told .given .0 .0)
-    (sym (c .enum-told .given .1) ∙ c .before .before .attribute-in .ensures)
+    let b = c .before in
+    let a = b .before .before .before .before .before .before .before .args in
+    let p = b .before .before .before .before .place-of in
+    let h = b .before .before .before .before .before .if1 .left in
+    c .stay2 .ensures
+    ∙ no-attribute (now (a .s)) (a .c) (a .at) h (p .result) (p .ensures) (b .enum-told .given .0 .0)
+    (sym (b .enum-told .given .1) ∙ b .before .before .attribute-in .ensures)
 
 pub attribute-step-spec : {M : Type 1} → statement M
 attribute-step-spec =
     tie.close
     (tie.spec
+    stay-requires
     returns
     place-of-requires
     sub-attribute-in
@@ -106,8 +116,8 @@ attribute-step-spec =
     part-attribute-item-start
     part-attribute-item-end
     attribute-item-requires
-    mul-t17
-    add-t20
+    cursor-at-requires
     enum-told
+    stay-requires-2
     returns-2
     returns-3)

@@ -45,10 +45,15 @@ returns-2 c =
     let f = of-wide (now (a .s)) (sym (c .before .enum-told .given .1) ∙ c .before .before .before .kind-of .ensures .0) in
     c .attribute-step .ensures ∙ f .first (a .c)
 
+stay-requires : tie.Need-stay-requires
+stay-requires c κs = search needs
+
 returns-3 : tie.Need-returns-3
 returns-3 c =
-    let a = c .before .before .before .before .args in
-    of-none (now (a .s)) (sym (c .enum-told2 .given .1) ∙ c .before .before .kind-of .ensures .0) .first (a .c)
+    let b = c .before in
+    let a = b .before .before .before .before .args in
+    let f = of-none (now (a .s)) (sym (b .enum-told2 .given .1) ∙ b .before .before .kind-of .ensures .0) in
+    c .stay .ensures ∙ f .first (a .c)
 
 pub first-step-spec : {M : Type 1} → statement M
 first-step-spec =
@@ -62,6 +67,7 @@ first-step-spec =
     enum-told
     attribute-step-requires
     enum-told-2
+    stay-requires
     returns
     returns-2
     returns-3)

@@ -13,10 +13,13 @@ use borrow.Author.Needs.{needs}
 use Rattle.wire_view.proofs.read.selector_step.Statement.{statement}
 use Rattle.wire_view.proofs.read.selector_step.Tie as tie
 
+stay-requires : tie.Need-stay-requires
+stay-requires c κs = search needs
+
 returns : tie.Need-returns
 returns c =
-    let a = c .before .before .args in
-    selector-past (now (a .s)) (a .c) (a .at) (a .comes) (c .if1 .taken)
+    let a = c .before .before .before .args in
+    c .stay .ensures ∙ selector-past (now (a .s)) (a .c) (a .at) (a .comes) (c .before .if1 .taken)
 
 sub-selector-spot : tie.Need-sub-selector-spot
 sub-selector-spot c = search needs
@@ -46,7 +49,8 @@ inside : (c : tie.After-known-told)
 inside c =
     let b = c .before .before .before .before .before .before .before in
     let a = b .args in
-    (selector-inside (now (a .s)) (a .c) (a .at) (c .before .before .before .before .before .if1 .left) (a .comes) _ (ends c), b .pre .0, b .pre .1)
+    let h = c .before .before .before .before .before .if1 .left in
+    (selector-inside (now (a .s)) (a .c) (a .at) h (a .comes) _ (ends c), b .pre .0, b .pre .1)
 
 add-end : tie.Need-add-end
 add-end c = let i = inside c in record { fits = omega (arith, i .0, i .1) }
@@ -68,34 +72,41 @@ selector-item-requires c κs =
     let e = a .at + b .before .e .given .0 .0 in
     let i = inside b in
     let l : a .at + length (part s (a .at) e) < 2 ^ 64 = omega (arith, part-length s (a .at) e (omega arith) (i .0), i .0, i .1) in
-    (l, selector-there s (a .c) (a .at) (b .before .before .before .before .before .if1 .left) (a .comes) _ (ends b))
+    let h = b .before .before .before .before .before .if1 .left in
+    (l, selector-there s (a .c) (a .at) h (a .comes) _ (ends b))
 
-mul-t17 : tie.Need-mul-t17
-mul-t17 c = let i = inside (c .before .before) in record { fits = omega (arith, i .0, i .1) }
-
-add-t20 : tie.Need-add-t20
-add-t20 c = let i = inside (c .before .before) in record { fits = omega (arith, i .0, i .1, i .2) }
+cursor-at-requires : tie.Need-cursor-at-requires
+cursor-at-requires c κs = let i = inside (c .before .before) in (omega (arith, i .0, i .1), i .2)
 
 enum-told : tie.Need-enum-told
 enum-told c = search needs
 
 returns-2 : tie.Need-returns-2
 returns-2 c =
-    let b = c .before .before in
+    let r = c .before .selector-item in
+    let b = c .before .before .before in
     let a = b .before .before .before .before .before .before .before .args in
-    over-selector (now (a .s)) (a .c) (a .at) (b .before .before .before .before .before .if1 .left) (a .comes) _ (ends b) (c .selector-item .result)
-    (c .selector-item .ensures)
+    let h = b .before .before .before .before .before .if1 .left in
+    over-selector (now (a .s)) (a .c) (a .at) h (a .comes) _ (ends b) (r .result) (r .ensures) (c .cursor-at .result)
+    (c .cursor-at .ensures)
+
+stay-requires-2 : tie.Need-stay-requires-2
+stay-requires-2 c κs = search needs
 
 returns-3 : tie.Need-returns-3
 returns-3 c =
-    let a = c .before .before .before .before .before .before .args in
-    no-selector (now (a .s)) (a .c) (a .at) (c .before .before .before .before .if1 .left) (a .comes) (c .enum-told .given .0 .0)
-    (sym (c .enum-told .given .1) ∙ c .before .before .selector-spot .ensures)
+    let b = c .before in
+    let a = b .before .before .before .before .before .before .args in
+    let h = b .before .before .before .before .if1 .left in
+    c .stay2 .ensures
+    ∙ no-selector (now (a .s)) (a .c) (a .at) h (a .comes) (b .enum-told .given .0 .0)
+    (sym (b .enum-told .given .1) ∙ b .before .before .selector-spot .ensures)
 
 pub selector-step-spec : {M : Type 1} → statement M
 selector-step-spec =
     tie.close
     (tie.spec
+    stay-requires
     returns
     sub-selector-spot
     part-selector-spot-start
@@ -107,8 +118,8 @@ selector-step-spec =
     part-selector-item-start
     part-selector-item-end
     selector-item-requires
-    mul-t17
-    add-t20
+    cursor-at-requires
     enum-told
+    stay-requires-2
     returns-2
     returns-3)

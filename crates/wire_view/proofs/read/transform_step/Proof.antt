@@ -13,10 +13,13 @@ use borrow.Author.Needs.{needs}
 use Rattle.wire_view.proofs.read.transform_step.Statement.{statement}
 use Rattle.wire_view.proofs.read.transform_step.Tie as tie
 
+stay-requires : tie.Need-stay-requires
+stay-requires c κs = search needs
+
 returns : tie.Need-returns
 returns c =
-    let a = c .before .before .args in
-    transform-past (now (a .s)) (a .c) (a .at) (c .if1 .taken)
+    let a = c .before .before .before .args in
+    c .stay .ensures ∙ transform-past (now (a .s)) (a .c) (a .at) (c .before .if1 .taken)
 
 sub-transform-spot : tie.Need-sub-transform-spot
 sub-transform-spot c = search needs
@@ -65,7 +68,8 @@ transform-item-requires : tie.Need-transform-item-requires
 transform-item-requires c κs =
     let b = c .before in
     let a = b .before .before .before .before .before .before .before .args in
-    transform-there (now (a .s)) (a .c) (a .at) (b .before .before .before .before .before .if1 .left) _ (ends b)
+    let h = b .before .before .before .before .before .if1 .left in
+    transform-there (now (a .s)) (a .c) (a .at) h _ (ends b)
 
 shared-slice-read-wide : tie.Need-shared-slice-read-wide
 shared-slice-read-wide c = let i = inside (c .before .before .before) in omega (arith, i .0, i .1)
@@ -73,47 +77,52 @@ shared-slice-read-wide c = let i = inside (c .before .before .before) in omega (
 wide-requires : tie.Need-wide-requires
 wide-requires c κs = search needs
 
-mul-t22 : tie.Need-mul-t22
-mul-t22 c = let i = inside (c .before .before .before .before .before) in record { fits = omega (arith, i .1, i .2) }
-
-add-t23 : tie.Need-add-t23
-add-t23 c = let i = inside (c .before .before .before .before .before) in record { fits = omega (arith, i .1, i .2) }
+cursor-at-requires : tie.Need-cursor-at-requires
+cursor-at-requires c κs = let i = inside (c .before .before .before .before .before) in (omega (arith, i .1, i .2), omega arith)
 
 returns-2 : tie.Need-returns-2
 returns-2 c =
-    let b = c .before .before .before .before .before in
+    let r = c .before .before .before .before .transform-item in
+    let w = c .before .before .wide in
+    let b = c .before .before .before .before .before .before in
     let a = b .before .before .before .before .before .before .before .args in
-    let t = c .before .before .before .transform-item in
-    over-transform (now (a .s)) (a .c) (a .at) (b .before .before .before .before .before .if1 .left) _ (ends b) (t .result) (t .ensures) (c .before .wide .result)
-    (c .before .wide .ensures .0) (c .if2 .taken)
+    let h = b .before .before .before .before .before .if1 .left in
+    over-transform (now (a .s)) (a .c) (a .at) h _ (ends b) (r .result) (r .ensures) (w .result) (w .ensures .0) (c .before .if2 .taken)
+    (c .cursor-at .result) (c .cursor-at .ensures)
 
-mul-t16 : tie.Need-mul-t16
-mul-t16 c = let i = inside (c .before .before .before .before .before) in record { fits = omega (arith, i .1, i .2) }
-
-add-t24 : tie.Need-add-t24
-add-t24 c = let i = inside (c .before .before .before .before .before) in record { fits = omega (arith, i .1, i .2) }
+cursor-at-requires-2 : tie.Need-cursor-at-requires-2
+cursor-at-requires-2 c κs = let i = inside (c .before .before .before .before .before) in (omega (arith, i .1, i .2), omega arith)
 
 enum-told : tie.Need-enum-told
 enum-told c = search needs
 
 returns-3 : tie.Need-returns-3
 returns-3 c =
-    let b = c .before .before .before .before .before in
+    let r = c .before .before .before .before .transform-item in
+    let w = c .before .before .wide in
+    let b = c .before .before .before .before .before .before in
     let a = b .before .before .before .before .before .before .before .args in
-    let t = c .before .before .before .transform-item in
-    over-last (now (a .s)) (a .c) (a .at) (b .before .before .before .before .before .if1 .left) _ (ends b) (t .result) (t .ensures) (c .before .wide .result)
-    (c .before .wide .ensures .0) (c .if2 .left)
+    let h = b .before .before .before .before .before .if1 .left in
+    over-last (now (a .s)) (a .c) (a .at) h _ (ends b) (r .result) (r .ensures) (w .result) (w .ensures .0) (c .before .if2 .left)
+    (c .cursor-at2 .result) (c .cursor-at2 .ensures)
+
+stay-requires-2 : tie.Need-stay-requires-2
+stay-requires-2 c κs = search needs
 
 returns-4 : tie.Need-returns-4
 returns-4 c =
-    let a = c .before .before .before .before .before .before .args in
-    no-transform (now (a .s)) (a .c) (a .at) (c .before .before .before .before .if1 .left) (c .enum-told .given .0 .0)
-    (sym (c .enum-told .given .1) ∙ c .before .before .transform-spot .ensures)
+    let b = c .before in
+    let a = b .before .before .before .before .before .before .args in
+    let h = b .before .before .before .before .if1 .left in
+    c .stay2 .ensures
+    ∙ no-transform (now (a .s)) (a .c) (a .at) h (b .enum-told .given .0 .0)
+    (sym (b .enum-told .given .1) ∙ b .before .before .transform-spot .ensures)
 
 pub transform-step-spec : {M : Type 1} → statement M
 transform-step-spec =
     tie.close
     (tie.spec
+    stay-requires
     returns
     sub-transform-spot
     part-transform-spot-start
@@ -127,11 +136,10 @@ transform-step-spec =
     transform-item-requires
     shared-slice-read-wide
     wide-requires
-    mul-t22
-    add-t23
+    cursor-at-requires
     returns-2
-    mul-t16
-    add-t24
+    cursor-at-requires-2
     enum-told
+    stay-requires-2
     returns-3
     returns-4)
