@@ -2,7 +2,7 @@
 use Prim.Native.Nat.{ℕ}
 use mathlib.Core.Path.{_≡_, refl}
 use mathlib.Core.List.{List, [], _∷_, _++_, map}
-use mathlib.Core.Bool.{Bool, true, false}
+use mathlib.Core.Bool.{true, false}
 use Rattle.octets.specs.Numbers.{number}
 use Rattle.octets.specs.Walk.{chain, chainUpTo, many}
 use Rattle.wire_attributes.specs.Tree.{valuesOf}
@@ -54,7 +54,8 @@ two-key-lengths : shown esp ≡ record {
 unfolding policy suite saBody selector transform attribute many chain chainUpTo number valuesOf octetsIn shownAttributes
 two-key-lengths = refl
 
--- THE STEPS THROUGH IT, from offset to offset: the destination selector stands at 24, the transform at 40, the attribute at 56; at 64 it ends
+-- THE STEPS THROUGH IT, from offset to offset: the destination selector stands at 24, the transform at 40, the attribute at 56, and 64 is
+-- the end
 steps : (shownIn 9 esp 0 ≡ itemsOf esp)
     × (map (nextAfter esp) (0 ∷ 97 ∷ 162 ∷ 227 ∷ 259 ∷ []) ≡ 97 ∷ 162 ∷ 227 ∷ 259 ∷ 259 ∷ [])
     × (map (isAtEnd esp) (0 ∷ 97 ∷ 162 ∷ 227 ∷ 259 ∷ []) ≡ false ∷ false ∷ false ∷ false ∷ true ∷ [])

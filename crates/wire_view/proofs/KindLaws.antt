@@ -16,7 +16,6 @@ use Rattle.wire_attributes.specs.Place.{inPolicy}
 use Rattle.wire_attributes.specs.Tree.{initialMessageIds, deactivationDelays, keyLifetimes}
 use Rattle.wire_attributes.specs.Layout.{attributes}
 use Rattle.wire_attributes.specs.Answers.{spotOf}
-use Rattle.wire_attributes.specs.declared.tables.Place.{Place}
 use Rattle.wire_attributes.specs.declared.tables.Place.the-variants as place
 use Rattle.wire_attributes.specs.declared.Spot.the-variants as spot
 use Rattle.wire_attributes.proofs.Loops.{ended, spot-broken}
@@ -34,7 +33,6 @@ use Rattle.wire_view.specs.View.{shownSelector, shownTransform, shownAtt
 use Rattle.wire_view.specs.View.{stays, atDestination, selectorStep, placeOf, attributeStep, firstIn, firstStep, counted}
 use Rattle.wire_view.specs.declared.read.Kind.{Kind}
 use Rattle.wire_view.specs.declared.read.Kind.the-variants as kind
-use Rattle.wire_view.specs.declared.read.Step.{Step}
 
 one : (s : List ℕ) (x : Policy) → policy 0 s ≡ whole x [] → IsPolicy s x
 one s x q =

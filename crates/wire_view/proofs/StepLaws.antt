@@ -1,7 +1,7 @@
 -- What the readers of one selector, transform or attribute say of a step from a cursor.
-use Prim.Native.Nat.{ℕ, _+_, _-_, _*_, _/_, _%_, _<_, _≤_}
+use Prim.Native.Nat.{ℕ, _+_, _-_, _/_, _%_, _<_, _≤_}
 use mathlib.Core.Path.{_≡_, refl, ap, sym, _∙_, subst}
-use mathlib.Core.List.{List, [], _∷_, _++_}
+use mathlib.Core.List.{List, [], _++_}
 use mathlib.Core.Bool.{Bool, true, false}
 use native.Mathlib.Nat.{add-zero}
 use native.Mathlib.Omega.{arith}
@@ -31,8 +31,8 @@ use Rattle.wire_policies.proofs.SelectorGrammar.{sound as selector-sound}
 use Rattle.wire_policies.proofs.TransformLaws.{takes as transform-takes, next-of}
 use Rattle.wire_policies.proofs.TransformGrammar.{sound as transform-sound}
 use Rattle.wire_view.specs.View.{shownSelector, shownTransform, shownAttribute}
-use Rattle.wire_view.specs.View.{atDestination, atTransform, atAttribute, cursorAt, stays, stepped, selectorStep, transformStep, placeOf}
-use Rattle.wire_view.specs.View.{attributeStep, firstStep, stepBy, counted, stepAt}
+use Rattle.wire_view.specs.View.{atDestination, atTransform, atAttribute, cursorAt, stays, stepped, selectorStep}
+use Rattle.wire_view.specs.View.{transformStep, placeOf, attributeStep, firstStep, stepBy, counted, stepAt}
 use Rattle.wire_view.specs.declared.items.Item.{Item}
 use Rattle.wire_view.specs.declared.read.Step.{Step}
 use Rattle.wire_view.proofs.KindLaws.{counts}

@@ -5,11 +5,10 @@ use mathlib.Core.Path.{_≡_, refl, ap, sym, _∙_}
 use mathlib.Core.List.{List, [], _∷_, map}
 use native.Mathlib.Omega.{arith}
 use borrow.Author.Tests.{eqb-true}
-use lib.ListN.{length, drop, getD, length-map}
+use lib.ListN.{length, getD, length-map}
 use Rattle.octets.specs.Numbers.{oct, number}
 use Rattle.octets.specs.Walk.{be16}
 use Rattle.octets.proofs.Walks.{tail as cut, to-end}
-use Rattle.wire_attributes.specs.Attribute.{Attribute}
 use Rattle.wire_attributes.specs.Place.{inTransform}
 use Rattle.wire_attributes.specs.Tree.{two, valuesOf}
 use Rattle.wire_attributes.specs.Layout.{attributes}

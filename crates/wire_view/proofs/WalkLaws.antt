@@ -1,17 +1,17 @@
--- THE STEPS FROM THE START SHOW WHAT THE POLICY HOLDS, each once and in its order, and then nothing: n steps show the first n of all that is
--- shown, whatever n and the octets are. Each step reads one of them alone, so a walk reads the policy twice, and not once for each.
-use Prim.Native.Nat.{ℕ, zero, suc, _+_, _-_, _*_, _/_, _%_, _≤_}
+-- THE STEPS FROM THE START SHOW WHAT THE POLICY HOLDS, each selector, transform and attribute once and in its order, and then nothing: n
+-- steps show the first n of them, whatever n and the octets are (`walk-shows`).
+use Prim.Native.Nat.{ℕ, zero, suc, _+_, _-_, _/_, _%_, _≤_}
 use mathlib.Core.Path.{_≡_, refl, ap, sym, _∙_, subst}
 use mathlib.Core.List.{List, [], _∷_, _++_, map}
 use mathlib.Core.Bool.{Bool, true, false}
 use native.Mathlib.Omega.{arith}
 use lib.ListN.{length, take, drop, length-append, length-drop}
 use lib.Seq.{drop-drop, drop-append-seam}
-use Rattle.octets.specs.Walk.{either, Reading, whole, Linked, Spans, none, more, Row, no-more, then}
+use Rattle.octets.specs.Walk.{either, Linked, Spans, none, more, Row, no-more, then}
 use Rattle.octets.proofs.Walks.{by-test}
 use Rattle.wire_attributes.specs.Attribute.{Attribute}
 use Rattle.wire_attributes.specs.Layout.{attribute, attributes}
-use Rattle.wire_attributes.specs.Grammar.{IsAttribute, Attributes}
+use Rattle.wire_attributes.specs.Grammar.{IsAttribute}
 use Rattle.wire_attributes.specs.Place.{inPolicy}
 use Rattle.wire_attributes.specs.declared.tables.Place.{Place}
 use Rattle.wire_attributes.specs.declared.tables.Place.the-variants as place
@@ -20,14 +20,14 @@ use Rattle.wire_attributes.proofs.GrammarLaws.{complete as attribute-complete}
 use Rattle.wire_policies.specs.Selector.{Selector, selectorSize, selector}
 use Rattle.wire_policies.specs.Transform.{Transform, transform, noMore}
 use Rattle.wire_policies.specs.Policy.{spiSize, SaBody}
-use Rattle.wire_policies.specs.Grammar.{IsSelector, IsTransform, IsSaBody}
+use Rattle.wire_policies.specs.Grammar.{IsTransform, IsSaBody}
 use Rattle.wire_policies.proofs.SelectorGrammar.{complete as selector-complete}
 use Rattle.wire_policies.proofs.TransformGrammar.{complete as transform-complete}
 use Rattle.wire_readers.specs.inner.Values.{attributesIn}
 use Rattle.wire_readers.proofs.ValuesLaws.{whole-is}
-use Rattle.wire_view.specs.View.{kindOf, shownSelector, shownTransform, shownAttribute, octetsIn, shownAttributes, shownSuite, shownBody}
-use Rattle.wire_view.specs.View.{itemsOf, atDestination, atTransform, atAttribute, cursorAt, stays, stepped, selectorStep, placeOf}
-use Rattle.wire_view.specs.View.{attributeStep, firstStep, counted, stepAt, isNothing, shownIn}
+use Rattle.wire_view.specs.View.{kindOf, shownSelector, shownTransform, shownAttribute, octetsIn, shownAttributes, shownSuite}
+use Rattle.wire_view.specs.View.{shownBody, itemsOf, atDestination, atTransform, atAttribute, cursorAt, stays, stepped, selectorStep}
+use Rattle.wire_view.specs.View.{placeOf, attributeStep, counted, stepAt, isNothing, shownIn}
 use Rattle.wire_view.specs.declared.items.Item.{Item}
 use Rattle.wire_view.specs.declared.read.Kind.{Kind}
 use Rattle.wire_view.specs.declared.read.Kind.the-variants as kind
@@ -144,8 +144,8 @@ module _ (s : List ℕ) where
       attributes-are : Row (IsAttribute (placeOf s)) (i .tail) (x .suite .attributes)
       attributes-are = subst (λ (y : Place). Row (IsAttribute y) (i .tail) (x .suite .attributes)) pq (i .attributes)
 
-      destination-walk : (n : ℕ)
-          → shownIn n s (cursorAt d atDestination) ≡ take n (shownSelector d (x .destination) ∷ shownSuite (placeOf s) (length s) (x .suite))
+      destination-walk : (n : ℕ) → shownIn n s (cursorAt d atDestination)
+          ≡ take n (shownSelector d (x .destination) ∷ shownSuite (placeOf s) (length s) (x .suite))
       unfolding shownIn
       destination-walk zero = refl
       destination-walk (suc n) =

@@ -1,6 +1,6 @@
--- `wire_view::moved` meets its contract: a walk of its MIR, by hand. The view is taken apart, `read::next_after` is called on its slice and its
--- cursor, and a view is made anew of the slice and the number that comes back. What the old view owns is had twice: one copy is kept whole
--- for the exit, and the other, with the facts of the number in the place of the cursor's, is what the result owns.
+-- `wire_view::moved` meets its contract: a walk of its MIR, by hand. The view is taken apart, `read::next_after` is called on its slice and
+-- its cursor, and a view is made anew of the slice and the number that comes back. What the old view owns is had twice: one copy is kept
+-- whole for the exit, and the other, with the facts of the number in the place of the cursor's, is what the result owns.
 use mathlib.Core.Path.{_≡_, refl, ap}
 use mathlib.Core.List.{[], _∷_}
 use Prim.Native.Nat.{ℕ, _<_, _^_}

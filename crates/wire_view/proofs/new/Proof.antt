@@ -1,5 +1,5 @@
--- `wire_view::new` meets its contract: a walk of its MIR, by hand. A view is made of the slice passed and 0, in the result's local. A `&[u8]` is
--- Copy, so what it owns is had twice: once for src at exit, and once inside the result, beside the facts of the cursor.
+-- `wire_view::new` meets its contract: a walk of its MIR, by hand. A view is made of the slice passed and 0, in the result's local. A
+-- `&[u8]` is Copy, so what it owns is had twice: once for src at exit, and once inside the result, beside the facts of the cursor.
 use mathlib.Core.Path.{refl}
 use Prim.Native.Nat.{ℕ}
 use mathlib.Core.List.{List, [], _∷_}

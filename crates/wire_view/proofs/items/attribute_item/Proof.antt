@@ -49,7 +49,8 @@ returns c =
 
 returns-2 : tie.Need-returns-2
 returns-2 c =
-    let q = cut-is (now (c .before .before .before .before .args .s)) (sym (c .enum-told .given .1) ∙ c .before .before .attribute-read .ensures) in
+    let s = now (c .before .before .before .before .args .s) in
+    let q = cut-is s (sym (c .enum-told .given .1) ∙ c .before .before .attribute-read .ensures) in
     λ f.
     let y : _≡_ {A = Bool} false true = sym q ∙ f in
     let z : _≡_ {A = ℕ} 0 1 = cc in absurd (omega arith)

@@ -1,6 +1,5 @@
 use denote.Ref.{now}
-use mathlib.Core.Path.{_∙_, ap}
-use Rattle.wire_attributes.specs.Place.{inPolicy}
+use mathlib.Core.Path.{_∙_}
 use Rattle.wire_view.proofs.StepLaws.{place-wide, place-sa}
 use borrow.Author.Needs.{needs}
 use Rattle.wire_view.proofs.read.place_of.Statement.{statement}
@@ -13,7 +12,9 @@ wide-requires : tie.Need-wide-requires
 wide-requires c κs = search needs
 
 returns : tie.Need-returns
-returns c = place-wide (now (c .before .before .before .before .args .s)) (c .before .wide .result) (c .before .wide .ensures .0) (c .if1 .taken)
+returns c =
+    let w = c .before .wide in
+    place-wide (now (c .before .before .before .before .args .s)) (w .result) (w .ensures .0) (c .if1 .taken)
 
 in-policy-requires : tie.Need-in-policy-requires
 in-policy-requires c κs = search needs
@@ -21,7 +22,8 @@ in-policy-requires c κs = search needs
 returns-2 : tie.Need-returns-2
 returns-2 c =
     let w = c .before .before .wide in
-    c .in-policy .ensures ∙ place-sa (now (c .before .before .before .before .before .args .s)) (w .result) (w .ensures .0) (c .before .if1 .left)
+    let s = now (c .before .before .before .before .before .args .s) in
+    c .in-policy .ensures ∙ place-sa s (w .result) (w .ensures .0) (c .before .if1 .left)
 
 pub place-of-spec : {M : Type 1} → statement M
 place-of-spec =

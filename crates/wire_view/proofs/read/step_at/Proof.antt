@@ -1,5 +1,5 @@
 use denote.Ref.{now}
-use mathlib.Core.Path.{sym, _∙_}
+use mathlib.Core.Path.{_∙_}
 use Rattle.wire_view.proofs.StepLaws.{too-short, other-size, whole-size}
 use borrow.Author.Needs.{needs}
 use Rattle.wire_view.proofs.read.step_at.Statement.{statement}

@@ -9,7 +9,9 @@ first-step-requires : tie.Need-first-step-requires
 first-step-requires c κs = search needs
 
 returns : tie.Need-returns
-returns c = let a = c .before .before .before .args in c .first-step .ensures ∙ by-first (now (a .s)) (a .c) (a .comes) (a .at) (c .before .if1 .taken)
+returns c =
+    let a = c .before .before .before .args in
+    c .first-step .ensures ∙ by-first (now (a .s)) (a .c) (a .comes) (a .at) (c .before .if1 .taken)
 
 selector-step-requires : tie.Need-selector-step-requires
 selector-step-requires c κs = search needs

@@ -1,0 +1,50 @@
+use Prim.Native.Nat.{_-_}
+use lib.ListN.{length}
+use borrow.Author.Needs.{needs}
+use Rattle.viewed.proofs.by_steps.Statement.{statement}
+use Rattle.viewed.proofs.by_steps.Tie as tie
+
+abbrev Inv-loop : tie.InvT-loop
+Inv-loop s n₀ at₀ n at = Unit {0}
+
+abbrev μ-loop : tie.MeasureT-loop
+μ-loop s n₀ at₀ n at = length s - n
+
+loop-holds : tie.Need-loop-holds Inv-loop μ-loop
+loop-holds c = tt
+
+shown-step-requires : tie.Need-shown-step-requires Inv-loop μ-loop
+shown-step-requires c κs = search needs
+
+named-requires : tie.Need-named-requires Inv-loop μ-loop
+named-requires c κs = search needs
+
+returns : tie.Need-returns Inv-loop μ-loop
+returns c = search needs
+
+add-n : tie.Need-add-n Inv-loop μ-loop
+add-n c = search needs
+
+loop-less : tie.Need-loop-less Inv-loop μ-loop
+loop-less c = search needs
+
+loop-again : tie.Need-loop-again Inv-loop μ-loop
+loop-again c = tt
+
+returns-2 : tie.Need-returns-2 Inv-loop μ-loop
+returns-2 c = search needs
+
+pub by-steps-spec : {M : Type 1} → statement M
+by-steps-spec =
+    tie.close
+    (tie.spec
+    Inv-loop
+    μ-loop
+    loop-holds
+    shown-step-requires
+    named-requires
+    returns
+    add-n
+    loop-less
+    loop-again
+    returns-2)
