@@ -1,4 +1,4 @@
-// The facts of the key bags of a KD payload that numbers 4 to 7 of document 01 ask for, in one walk.
+// The facts of a KD payload, in one walk: what numbers 4 to 7 of document 01 ask of its key bags, and where the Member Key Bag stands.
 pub mod wrapped;
 
 ghost use mathlib.Core.Path.{_≡_};
@@ -10,11 +10,12 @@ ghost use Rattle.state_keys.specs.Limits.{limits};
 ghost use Rattle.wire_attributes.specs.Layout.{attributes};
 ghost use Rattle.wire_bags.specs.Bag.{placeOf, bags};
 ghost use Rattle.wire_readers.specs.inner.Values.{isWhole, attributesIn};
-ghost use Rattle.wire_readers.specs.inner.Bags.{bagsIn};
-ghost use Rattle.check_bagkeys.specs.inner.Facts.{noBags, ofGroup, ofMember, bagWith, ofBag, together, factsOf};
+ghost use Rattle.check_bagkeys.specs.inner.Facts.{noBags, ofGroup, ofMember, bagWith, ofBag, together};
+ghost use Rattle.check_bagkeys.specs.inner.Places.{firstMember, kdFactsOf};
 use state_keys::limits::SA_KEYS;
 use wire_attributes::tables::Meaning;
 use wire_attributes::tables::Place;
+use wire_readers::Stretch;
 use wire_readers::policy::AH;
 use wire_readers::policy::ESP;
 use wire_readers::policy::REKEY;
@@ -39,6 +40,13 @@ pub struct BagFacts {
     // an SA_KEY has a Key ID; one of ESP has a KWK ID
     pub named: bool,
     pub esp_with_kwk_id: bool,
+}
+
+// What a KD body has: the facts of its bags, and where the attributes of the first Member Key Bag stand in it. The stretch is empty where
+// there is no such bag. Where there are several, number 4 applies.
+pub struct KdFacts {
+    pub bags: BagFacts,
+    pub member: Stretch,
 }
 
 // Those of no bag.
@@ -135,19 +143,31 @@ fn of_bag(first: usize, a: &[u8]) -> BagFacts
     )
 }
 
-// The facts of the key bags of a KD body. Internal.
-pub fn bag_facts(k: &[u8]) -> BagFacts
+// Where the first Member Key Bag has its attributes: here, where this bag begins as one and none is known.
+fn first_member(first: usize, here: Stretch, known: Stretch) -> Stretch
+    ensures { λ r. ⌜ r ≡ firstMember first here known ⌝ }
+{
+    if (first == 0) & (known.end == 0) {
+        return here;
+    }
+    known
+}
+
+// The facts of a KD body. Internal.
+pub fn kd_facts(k: &[u8]) -> KdFacts
     requires { ⌜ isWhole (bags 0 (now k)) ≡ true ⌝ }
-    ensures { λ r. ⌜ r ≡ factsOf limits (bagsIn (now (k .entry))) ⌝ }
+    ensures { λ r. ⌜ r ≡ kdFactsOf limits (now (k .entry)) ⌝ }
 {
     let mut f = no_bags();
+    let mut member = Stretch { start: 0, end: 0 };
     let mut at = 0;
     while at < k.len() {
         let p = wire_readers::bag::bag_parts(&k[at..]);
         let start = at + p.body;
         let end = at + p.end;
+        member = first_member(p.first, Stretch { start, end }, member);
         f = together(f, of_bag(p.first, &k[start..end]));
         at = end;
     }
-    f
+    KdFacts { bags: f, member }
 }

@@ -6,4 +6,5 @@ pub mod FourLaws
 pub mod FiveLaws
 pub mod SixLaws
 pub mod FrameLaws
+pub mod MemberLaws
 pub mod VerdictLaws

@@ -1,10 +1,11 @@
 // The facts of a frame whose layout is whole: of its payloads, of the policies of its GSA and of the key bags of its KD, in one walk each.
 use check_bagkeys::BagFacts;
-use check_bagkeys::bag_facts;
+use check_bagkeys::kd_facts;
 use check_composition::PolicyFacts;
 use check_composition::policy_facts;
 use check_payloads::PayloadFacts;
 use check_payloads::payload_facts;
+use wire_readers::Stretch;
 ghost use mathlib.Core.Path.{_≡_};
 ghost use mathlib.Core.Bool.{true};
 ghost use Rattle.wire_frames.specs.Frame.{frame};
@@ -15,6 +16,8 @@ pub struct Facts {
     pub payloads: PayloadFacts,
     pub policies: PolicyFacts,
     pub bags: BagFacts,
+    // where the attributes of the Member Key Bag stand in the body of the KD; where there is none, the stretch is empty
+    pub member: Stretch,
 }
 
 // The facts of a frame of an exchange that has the controller's authentication or not. Internal.
@@ -30,10 +33,13 @@ pub fn facts_of(authentication: bool, s: &[u8]) -> Facts
     let k = payloads.kd;
     let i = k.start;
     let j = k.end;
-    let bags = bag_facts(&s[i..j]);
+    let kd = kd_facts(&s[i..j]);
+    let bags = kd.bags;
+    let member = kd.member;
     Facts {
         payloads,
         policies,
         bags,
+        member,
     }
 }

@@ -10,6 +10,7 @@ use lib.ListN.{length, getD}
 use Rattle.state_keys.specs.Limits.{limits}
 use Rattle.state_keys.specs.Lists.{any}
 use Rattle.wire_attributes.specs.Tree.{WrapKey}
+use Rattle.wire_bags.specs.Bag.{Bag}
 use Rattle.wire_frames.specs.Frame.{Frame}
 use Rattle.wire_frames.specs.declared.exchanges.Exchange.{Exchange}
 use Rattle.state.specs.declared.State.{State}
@@ -17,9 +18,11 @@ use Rattle.wire_readers.specs.inner.Policies.{policiesIn}
 use Rattle.check_payloads.specs.declared.PayloadFacts.{PayloadFacts}
 use Rattle.check_payloads.proofs.FoundLaws.{OfFrame, HoldsPolicies, HoldsBags, facts-of}
 use Rattle.check_composition.specs.inner.Facts.{factsOf as policyFacts}
+use Rattle.check_bagkeys.specs.inner.Places.{memberIn}
 use Rattle.check_judging.specs.declared.facts.Facts.{Facts}
 use Rattle.check_judging.specs.inner.Facts.{at}
-use Rattle.rules_refusals.specs.Contents.{rowOf, policiesOf, wrapKeysOf}
+use Rattle.check_judging.proofs.MemberLaws.{member-is}
+use Rattle.rules_refusals.specs.Contents.{rowOf, gather, memberBagOf, policiesOf, wrapKeysOf}
 use Rattle.rules_refusals.specs.Number6.{wrapKeyId}
 use Rattle.rules_chains.specs.Chain.{In}
 use Rattle.rules_chains.proofs.Members.{in-member}
@@ -28,9 +31,10 @@ use Rattle.unwrap_search.specs.inner.Entries.{noKey}
 use Rattle.unwrap_search.specs.inner.Search.{Nonzero}
 use Rattle.unwrap_search.proofs.Statuses.{getD-any}
 use Rattle.unwrap_tree.specs.inner.Reached.{wrapKeysAmong, wrapKeysIn}
+use Rattle.unwrap_tree.specs.inner.Entries.{HoldsEntries}
 use Rattle.unwrap_sas.specs.inner.Keyed.{Ready}
 use Rattle.receive.specs.inner.Passing.{Passed, Bodied, Bagged}
-use Rattle.receive.proofs.ClauseLaws.{one-gsa, one-kd, lengths-once, lifetimes-once, transforms-fit, all-paired}
+use Rattle.receive.proofs.ClauseLaws.{one-gsa, one-kd, one-member-bag, lengths-once, lifetimes-once, transforms-fit, all-paired}
 use Rattle.receive.proofs.ClauseLaws.{no-zero, few-entries, few-sas}
 
 nonzero-of : (l : List WrapKey) → any (λ (k : WrapKey). eqb (k .keyId) 0) l ≡ false → Nonzero l
@@ -57,8 +61,20 @@ module _ (m : State) (now : ℕ) (lent s : List ℕ) (x : Facts) (f : Frame) (p 
       ∙ ap (λ (y : PayloadFacts). policyFacts (rowOf f .authentication) (policiesIn (at s (y .gsa)))) (sym e)
       ∙ ap (policyFacts (rowOf f .authentication)) (holds-policies .all)
 
+  -- its WRAP_KEYs stand where the facts say, since number 4 leaves one Member Key Bag at most
+  member-stands : x .member ≡ memberIn (at s (x .payloads .kd))
+  member-stands =
+      let e = ap (λ (y : Facts). y .payloads) (p .facts) in
+      ap (λ (y : Facts). y .member) (p .facts) ∙ ap (λ (y : PayloadFacts). memberIn (at s (y .kd))) (sym e)
+
+  holds-entries : HoldsEntries (at s (x .payloads .kd)) (x .member)
+  holds-entries =
+      let few = subst (λ (l : List Bag). length (gather memberBagOf l) ≤ 1) (sym (holds-bags .all)) (one-member-bag m now lent f (p .clauses)) in
+      let i = member-is (at s (x .payloads .kd)) (x .member) member-stands (holds-bags .held) few in
+      record { order = i .order; inside = i .inside; held = i .held; keys = i .keys }
+
   pub bodied : Bodied m now lent s x (at s (x .payloads .gsa)) (at s (x .payloads .kd)) f
-  bodied = record { passed = p; policies = sym (holds-policies .all); bags = sym (holds-bags .all) }
+  bodied = record { passed = p; policies = sym (holds-policies .all); bags = sym (holds-bags .all); entries = holds-entries }
 
 module _ {m : State} {now : ℕ} {lent s : List ℕ} {x : Facts} {g k : List ℕ} {f : Frame}
     (b : Bodied m now lent s x g k f) where

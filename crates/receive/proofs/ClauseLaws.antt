@@ -20,8 +20,8 @@ use Rattle.state.specs.State.{stateFormed}
 use Rattle.rules_refusals.specs.Contents.{rowOf, gather, some, several, hasGsa, hasKd, announced, groupWides, memberBags, wrapKeysOf}
 use Rattle.rules_refusals.specs.Fitness.{isRekey}
 use Rattle.rules_refusals.specs.Number2.{standing, overLiveRekey, otherSpis}
-use Rattle.rules_refusals.specs.Number4.{four-ofFrame, barredMemberBag, twoGsa, twoKd, severalRekeyPolicies, severalGroupWide, keyLengthTwice}
-use Rattle.rules_refusals.specs.Number4.{initialMessageIdTwice, delayTwice, lifetimeTwice}
+use Rattle.rules_refusals.specs.Number4.{four-ofFrame, barredMemberBag, twoGsa, twoKd, severalRekeyPolicies, severalGroupWide, severalMemberBags}
+use Rattle.rules_refusals.specs.Number4.{keyLengthTwice, initialMessageIdTwice, delayTwice, lifetimeTwice}
 use Rattle.rules_refusals.specs.Number5.{five-ofFrame, otherTransforms, lentKeySize}
 use Rattle.rules_refusals.specs.Number6.{six-ofFrame, policyUnpaired, wrapKeyId}
 use Rattle.rules_refusals.specs.Number7.{seven-ofFrame, seven-ofMember, manyWrapKeys, manySas}
@@ -123,6 +123,10 @@ module _ (m : State) (now : ℕ) (lent : List ℕ) (f : Frame) (e : refusal limi
   pub wides-once : several (groupWides f) ≡ false
   unfolding four-ofFrame severalGroupWide
   wides-once = no-4 9
+
+  pub one-member-bag : length (memberBags f) ≤ 1
+  unfolding four-ofFrame severalMemberBags
+  one-member-bag = ltb-false 1 (length (memberBags f)) (no-4 10)
 
   pub delays-once : any (λ (w : GroupWidePolicy). several (w .deactivationDelays)) (groupWides f) ≡ false
   unfolding four-ofFrame delayTwice

@@ -5,15 +5,13 @@ use state::held::Held;
 use state_keys::kinds::WrappingKey;
 use wire_frames::exchanges::Exchange;
 use wire_frames::exchanges::KeyZero;
-ghost use mathlib.Core.Path.{_≡_};
-ghost use mathlib.Core.Bool.{true};
+use wire_readers::Stretch;
 ghost use mathlib.Core.List.{List};
 ghost use Prim.Native.Nat.{ℕ};
-ghost use Rattle.wire_bags.specs.Bag.{bags};
 ghost use Rattle.wire_frames.specs.Frame.{Frame};
 ghost use Rattle.wire_frames.specs.Exchange.{registration, rekey, inband};
 ghost use Rattle.state.specs.declared.State.{State};
-ghost use Rattle.wire_readers.specs.inner.Values.{isWhole};
+ghost use Rattle.unwrap_tree.specs.inner.Entries.{HoldsEntries};
 ghost use Rattle.receive.specs.inner.Passing.{Bagged};
 ghost use Rattle.receive.specs.inner.Rooted.{Rooted};
 
@@ -25,15 +23,15 @@ pub struct StartingKeys {
 }
 
 // Those of a registration: the lent key is key 0, and the others are reached from it.
-fn reached_from(k: &[u8], lent: &[u8]) -> StartingKeys
-    requires { ⌜ isWhole (bags 0 (now k)) ≡ true ⌝ }
+fn reached_from(k: &[u8], member: Stretch, lent: &[u8]) -> StartingKeys
+    requires { ⌜ HoldsEntries (now k) member ⌝ }
     requires { ⌜ ((m : State) × (tick : ℕ) × (f : Frame) × Bagged registration m tick (now lent) (now k) f) ⌝ }
     ensures { λ r. ⌜ ((m : State) (tick : ℕ) (f : Frame) → Bagged registration m tick (now (lent .entry)) (now (k .entry)) f →
         Rooted m tick (now (lent .entry)) r f) ⌝ }
 {
     let made = WrappingKey::new(lent);
     let zero = made.key;
-    let found = unwrap_tree::reached(k, zero);
+    let found = unwrap_tree::reached(k, member, zero);
     let opens = found.held;
     StartingKeys {
         eight: found.eight,
@@ -73,16 +71,23 @@ fn of_rekey_sa(state: State, tick: u32) -> StartingKeys
     }
 }
 
-// Those of a frame whose exchange has this row and whose KD has this body. It goes by whether the exchange sets the held list, then by
-// whose key KWK ID 0 names. Internal.
-pub fn roots(state: State, row: Exchange, k: &[u8], lent: &[u8], tick: u32) -> StartingKeys
-    requires { ⌜ isWhole (bags 0 (now k)) ≡ true ⌝ }
+// Those of a frame whose exchange has this row and whose KD has this body, in which the WRAP_KEYs stand there. It goes by whether the
+// exchange sets the held list, then by whose key KWK ID 0 names. Internal.
+pub fn roots(
+    state: State,
+    row: Exchange,
+    k: &[u8],
+    member: Stretch,
+    lent: &[u8],
+    tick: u32,
+) -> StartingKeys
+    requires { ⌜ HoldsEntries (now k) member ⌝ }
     requires { ⌜ ((f : Frame) × Bagged row state tick (now lent) (now k) f) ⌝ }
     ensures { λ r. ⌜ ((f : Frame) → Bagged row state tick (now (lent .entry)) (now (k .entry)) f →
         Rooted state tick (now (lent .entry)) r f) ⌝ }
 {
     if row.registers {
-        return reached_from(k, lent);
+        return reached_from(k, member, lent);
     }
     let zero = row.zero;
     match zero {

@@ -1,33 +1,23 @@
--- The WRAP_KEYs of a KD body, gathered from bag to bag.
+-- The WRAP_KEYs of a Member Key Bag, gathered one after the other.
 use native.Mathlib.Omega.{arith}
 use Prim.Native.Nat.{ℕ, _+_, _-_, _≤_, _<_}
 use mathlib.Core.Path.{_≡_, refl, ap, sym, _∙_, subst}
-use mathlib.Core.Bool.{Bool, true}
-use mathlib.Core.List.{List, [], _∷_, _++_, map, append-assoc, append-nil}
+use mathlib.Core.Bool.{true}
+use mathlib.Core.List.{List, [], _∷_, _++_, map, append-nil}
 use borrow.Author.Count.{below-more}
-use lib.ListN.{length, take, drop, getD, set, length-append, length-drop, List·getD-append}
+use lib.ListN.{length, take, drop, getD, set, length-append, List·getD-append}
 use lib.Seq.{take-take, drop-drop, getD-set-same, getD-set-other, getD-at, append-snoc}
-use borrow.Author.Tests.{eq-eqb, ne-eqb}
-use Rattle.octets.specs.Numbers.{oct}
-use Rattle.octets.specs.Walk.{be32, part, either, Reading}
+use Rattle.octets.specs.Walk.{be32, part}
 use Rattle.octets.proofs.Numerals.{drop-take}
-use Rattle.octets.proofs.Walks.{part-length, many-none}
+use Rattle.octets.proofs.Walks.{part-length}
 use Rattle.state_keys.specs.Limits.{limits}
-use Rattle.wire_attributes.specs.Place.{inBag}
-use Rattle.wire_attributes.specs.Tree.{WrapKey, wrapKeyOf, wrapKeys, saKeys}
-use Rattle.wire_policies.specs.Policy.{spiOf}
-use Rattle.wire_bags.specs.Bag.{Bag, memberKeys, groupKeys, placeOf, bag, bags}
-use Rattle.wire_bags.proofs.BagLaws.{takes}
+use Rattle.wire_attributes.specs.Tree.{WrapKey, wrapKeyOf}
 use Rattle.wire_attributes.specs.Layout.{attributes}
 use Rattle.wire_attributes.specs.declared.tables.Place.the-variants.{MemberBag}
 use Rattle.wire_attributes.specs.declared.tables.Meaning.the-variants as meaning
-use Rattle.wire_readers.specs.declared.policy.Parts.{Parts}
-use Rattle.wire_readers.specs.inner.Values.{isWhole, itemsOf, attributesIn, valuesIn, FoundAt}
-use Rattle.wire_readers.specs.inner.Bags.{bagsIn, BagIs}
-use Rattle.rules_refusals.specs.Contents.{gather}
+use Rattle.wire_readers.specs.inner.Values.{isWhole, valuesIn, FoundAt}
 use Rattle.unwrap_search.specs.declared.open.Entry.{Entry}
 use Rattle.unwrap_search.specs.inner.Entries.{IsEntry, Lists, noEntry, noKey}
-use Rattle.unwrap_tree.specs.inner.Reached.{wrapKeysAmong, wrapKeysIn}
 use Rattle.unwrap_tree.specs.inner.Entries.{bagKeys}
 use Rattle.unwrap_tree.proofs.Sizes.{wrapped-sized, wrapped-least}
 
@@ -37,11 +27,6 @@ part-in-part k a e b d h g =
     let n : a + d - (a + b) ≡ d - b = omega arith in
     ap (take (d - b)) (drop-take b (e - a) (drop a k)) ∙ take-take (d - b) (e - a - b) (drop b (drop a k)) (omega arith)
     ∙ ap (take (d - b)) (drop-drop b a k) ∙ ap (λ (m : ℕ). take m (drop (a + b) k)) (sym n)
-
-pub part-of-rest : (k : List ℕ) (at b e : ℕ) → part (drop at k) b e ≡ part k (at + b) (at + e)
-part-of-rest k at b e =
-    let n : at + e - (at + b) ≡ e - b = omega arith in
-    ap (take (e - b)) (drop-drop b at k) ∙ ap (λ (m : ℕ). take m (drop (at + b) k)) (sym n)
 
 -- ---- one entry, whose value ends at e: its wrapped octets come after its two IDs
 entry-octets : (k : List ℕ) (a e : ℕ) → part k (a + 8) e ≡ drop 8 (part k a e)
@@ -73,11 +58,6 @@ module _ (k : List ℕ) where
   gathered-none places all =
       record { done = []; lists = record { count = refl; within = omega arith; at = λ i h. absurd (omega arith) }; joined = refl }
 
-  pub gathered-left : (places : List Entry) (n : ℕ) (rest all : List WrapKey) → Gathered k places n rest all →
-      n + length rest ≡ length all
-  gathered-left places n rest all g =
-      omega (arith, g .lists .count, length-append (g .done) rest, ap length (g .joined))
-
   one-more : (places : List Entry) (n : ℕ) (l : List WrapKey) (e : Entry) (w : WrapKey) → Lists k places n l → n < limits .wrapKeys →
       n < length places → IsEntry k e w → Lists k (set places n e) (n + 1) (l ++ (w ∷ []))
   one-more places n l e w lists h g is =
@@ -103,12 +83,6 @@ module _ (k : List ℕ) where
         lists = one-more places n (x .done) e w (x .lists) h g is;
         joined = append-snoc (x .done) w rest ∙ x .joined;
       }
-
-  -- a whole bag more
-  pub gathered-more : (places next : List Entry) (n m : ℕ) (x rest all : List WrapKey) → Gathered k places n (x ++ rest) all →
-      ((l : List WrapKey) → Lists k places n l → Lists k next m (l ++ x)) → Gathered k next m rest all
-  gathered-more places next n m x rest all g f =
-      record { done = g .done ++ x; lists = f (g .done) (g .lists); joined = append-assoc (g .done) x rest ∙ g .joined }
 
   pub gathered-all : (places : List Entry) (n : ℕ) (rest all : List WrapKey) → Gathered k places n rest all → rest ≡ [] →
       Lists k places n all
@@ -142,44 +116,3 @@ module _ (k : List ℕ) (a e : ℕ) (h : a ≤ e) (g : e ≤ length k) (at b d :
 
     pub taken-first : bagKeys (drop at (part k a e)) ≡ wrapKeyOf v ∷ bagKeys (drop d (part k a e))
     taken-first = ap (map wrapKeyOf) (f .first) ∙ ap (λ (x : List ℕ). wrapKeyOf x ∷ bagKeys (drop d (part k a e))) (sym q)
-
--- ---- the bags of a KD body: the first from a place on is a Member Key Bag or it is not
-module _ (k : List ℕ) (at : ℕ) (r : Parts) (is : BagIs (drop at k) r) where
-  pub member-first : r .first ≡ 0 →
-      wrapKeysIn (drop at k) ≡ bagKeys (part k (at + r .body) (at + r .end)) ++ wrapKeysIn (drop (at + r .end) k)
-  unfolding gather
-  member-first e =
-      let s = drop at k in
-      let l = attributesIn (placeOf (r .first)) (part s (r .body) (r .end)) in
-      let m : Bag = memberKeys (record { keys = wrapKeys MemberBag l }) in
-      let o : Bag = groupKeys (record { protocol = oct s 0; spi = spiOf s; keys = saKeys (inBag (oct s 0)) l }) in
-      ap wrapKeysAmong (is .item)
-      ∙ ap (λ (t : Bool). wrapKeysAmong (either t m o ∷ bagsIn (drop (r .end) s))) (eq-eqb (oct s 0) 0 (sym (is .head .first) ∙ e))
-      ∙ (λ i. wrapKeys MemberBag (attributesIn (placeOf (e i)) (part-of-rest k at (r .body) (r .end) i)) ++ wrapKeysIn
-      (drop-drop (r .end) at k i))
-
-  pub group-first : (r .first ≡ 0 → ⊥) → wrapKeysIn (drop at k) ≡ wrapKeysIn (drop (at + r .end) k)
-  unfolding gather
-  group-first n =
-      let s = drop at k in
-      let l = attributesIn (placeOf (r .first)) (part s (r .body) (r .end)) in
-      let m : Bag = memberKeys (record { keys = wrapKeys MemberBag l }) in
-      let o : Bag = groupKeys (record { protocol = oct s 0; spi = spiOf s; keys = saKeys (inBag (oct s 0)) l }) in
-      ap wrapKeysAmong (is .item)
-      ∙ ap (λ (t : Bool). wrapKeysAmong (either t m o ∷ bagsIn (drop (r .end) s))) (ne-eqb (oct s 0) 0 (λ e. n (is .head .first ∙ e)))
-      ∙ ap wrapKeysIn (drop-drop (r .end) at k)
-
-  pub next-whole : isWhole (bags 0 (drop (at + r .end) k)) ≡ true
-  next-whole = subst (λ (x : List ℕ). isWhole (bags 0 x) ≡ true) (drop-drop (r .end) at k) (is .rest)
-
-  pub member-whole : r .first ≡ 0 → isWhole (attributes MemberBag 0 (part k (at + r .body) (at + r .end))) ≡ true
-  member-whole e =
-      (λ i. isWhole (attributes (placeOf (sym e i)) 0 (sym (part-of-rest k at (r .body) (r .end)) i))) ∙ is .held
-
-  pub bag-inside : at ≤ length k → (4 ≤ r .body) × (r .body ≤ r .end) × (at + r .end ≤ length k)
-  bag-inside h = (is .head .some, is .head .order, omega (arith, is .head .inside, length-drop at k))
-
-pub none-left : (k : List ℕ) (at : ℕ) → length k ≤ at → wrapKeysIn (drop at k) ≡ []
-unfolding gather
-none-left k at h =
-    ap (λ (x : Reading (List Bag)). wrapKeysAmong (itemsOf x)) (many-none bag takes 0 (drop at k) (rw length-drop (omega arith)))

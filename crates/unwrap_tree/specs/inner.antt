@@ -1,3 +1,3 @@
-pub mod Entries
 pub mod Joins
 pub mod Reached
+pub mod Entries

@@ -1,4 +1,5 @@
--- The facts of a frame: of its payloads, of the policies of the first GSA and of the key bags of the first KD.
+-- The facts of a frame: of its payloads, of the policies of the first GSA and of the key bags of the first KD, and where its first Member
+-- Key Bag stands.
 use Prim.Native.Nat.{ℕ}
 use mathlib.Core.List.{List}
 use mathlib.Core.Bool.{Bool}
@@ -10,6 +11,7 @@ use Rattle.wire_readers.specs.declared.Stretch.{Stretch}
 use Rattle.check_payloads.specs.inner.Facts.{factsOf as payloadFacts}
 use Rattle.check_composition.specs.inner.Facts.{factsOf as policyFacts}
 use Rattle.check_bagkeys.specs.inner.Facts.{factsOf as bagFacts}
+use Rattle.check_bagkeys.specs.inner.Places.{memberIn}
 use Rattle.check_judging.specs.declared.facts.Facts.{Facts}
 
 -- the octets of a stretch
@@ -22,4 +24,5 @@ factsOf authentication s = record {
   payloads = payloadFacts s;
   policies = policyFacts authentication (policiesIn (at s (payloadFacts s .gsa)));
   bags = bagFacts limits (bagsIn (at s (payloadFacts s .kd)));
+  member = memberIn (at s (payloadFacts s .kd));
 }

@@ -23,6 +23,7 @@ use Rattle.rules_outcome.specs.Roots.{rootsOf, entriesOf, wrappingSize}
 use Rattle.rules_outcome.specs.After.{HeldAre, HeldBy}
 use Rattle.check_judging.specs.inner.Facts.{factsOf}
 use Rattle.check_judging.specs.declared.facts.Facts.{Facts}
+use Rattle.unwrap_tree.specs.inner.Entries.{HoldsEntries}
 use Rattle.unwrap_sas.specs.inner.Keyed.{KeyedBy}
 use Rattle.unwrap_sas.specs.declared.joining.Keyed.{Keyed}
 
@@ -41,11 +42,12 @@ pub record RekeysInband (f : Frame) : Type 0 where
   pub keeps : rowOf f .registers ≡ false
   pub zero : rowOf f .zero ≡ keyZero.Lent
 
--- its policies and its bags are those of these bodies
+-- its policies and its bags are those of these bodies, and the facts say where the WRAP_KEYs stand
 pub record Bodied (m : State) (now : ℕ) (lent s : List ℕ) (x : Facts) (g k : List ℕ) (f : Frame) : Type 0 where
   pub passed : Passed m now lent s x f
   pub policies : policiesOf f ≡ policiesIn g
   pub bags : bagsOf f ≡ bagsIn k
+  pub entries : HoldsEntries k (x .member)
 
 -- none of numbers 2 to 7 applies to the frame, its exchange has this row, and its bags are those of this body
 pub record Bagged (e : Exchange) (m : State) (now : ℕ) (lent k : List ℕ) (f : Frame) : Type 0 where

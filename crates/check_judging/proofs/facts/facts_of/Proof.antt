@@ -9,6 +9,8 @@ use Rattle.check_payloads.proofs.FrameLaws.{reads-to}
 use Rattle.check_payloads.proofs.FoundLaws.{OfFrame, facts-of}
 use Rattle.check_composition.specs.inner.Facts.{factsOf as policyFacts}
 use Rattle.check_bagkeys.specs.inner.Facts.{factsOf as bagFacts}
+use Rattle.check_bagkeys.specs.inner.Places.{memberIn}
+use Rattle.check_bagkeys.specs.declared.KdFacts.{KdFacts}
 use Rattle.check_judging.specs.inner.Facts.{at}
 use borrow.Author.Needs.{needs}
 use Rattle.check_judging.proofs.facts.facts_of.Statement.{statement}
@@ -37,29 +39,32 @@ part-policy-facts-end c = own (c .before) .gsaInside
 policy-facts-requires : tie.Need-policy-facts-requires
 policy-facts-requires c κs = own (c .before .before) .gsaWhole
 
-sub-bag-facts : tie.Need-sub-bag-facts
-sub-bag-facts c = own (c .before .before .before .before) .kdOrder
+sub-kd-facts : tie.Need-sub-kd-facts
+sub-kd-facts c = own (c .before .before .before .before) .kdOrder
 
-part-bag-facts-start : tie.Need-part-bag-facts-start
-part-bag-facts-start c = own (c .before .before .before .before) .kdOrder
+part-kd-facts-start : tie.Need-part-kd-facts-start
+part-kd-facts-start c = own (c .before .before .before .before) .kdOrder
 
-part-bag-facts-end : tie.Need-part-bag-facts-end
-part-bag-facts-end c = own (c .before .before .before .before) .kdInside
+part-kd-facts-end : tie.Need-part-kd-facts-end
+part-kd-facts-end c = own (c .before .before .before .before) .kdInside
 
-bag-facts-requires : tie.Need-bag-facts-requires
-bag-facts-requires c κs = own (c .before .before .before .before .before) .kdWhole
+kd-facts-requires : tie.Need-kd-facts-requires
+kd-facts-requires c κs = own (c .before .before .before .before .before) .kdWhole
 
 returns : tie.Need-returns
 returns c =
-    let p = c .before .before .before in
+    let d = c .before .before in
+    let p = d .before .before .before in
     let b = p .before .before .before in
     let a = b .before .before .args in
     let s = now (a .s) in
     let e = b .payload-facts .ensures in
+    let k = d .kd-facts .ensures in
     λ i. record {
       payloads = e i;
       policies = (p .policy-facts .ensures ∙ ap (λ (y : PayloadFacts). policyFacts (a .authentication) (policiesIn (at s (y .gsa)))) e) i;
-      bags = (c .bag-facts .ensures ∙ ap (λ (y : PayloadFacts). bagFacts limits (bagsIn (at s (y .kd)))) e) i;
+      bags = (ap (λ (y : KdFacts). y .bags) k ∙ ap (λ (y : PayloadFacts). bagFacts limits (bagsIn (at s (y .kd)))) e) i;
+      member = (ap (λ (y : KdFacts). y .member) k ∙ ap (λ (y : PayloadFacts). memberIn (at s (y .kd))) e) i;
     }
 
 pub facts-of-spec : {M : Type 1} → statement M
@@ -71,8 +76,8 @@ facts-of-spec =
     part-policy-facts-start
     part-policy-facts-end
     policy-facts-requires
-    sub-bag-facts
-    part-bag-facts-start
-    part-bag-facts-end
-    bag-facts-requires
+    sub-kd-facts
+    part-kd-facts-start
+    part-kd-facts-end
+    kd-facts-requires
     returns)

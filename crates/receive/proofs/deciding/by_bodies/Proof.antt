@@ -18,7 +18,7 @@ roots-requires c κs =
     let p = c .before .before .before .before .before .pre in
     let b = p .1 .1 in
     let row = c .row-of in
-    (p .0 .1, (p .1 .0, bagged b (row .result) (row .ensures (p .1 .0) (b .passed .whole-is))))
+    (b .entries, (p .1 .0, bagged b (row .result) (row .ensures (p .1 .0) (b .passed .whole-is))))
 
 -- the keys that a KWK ID can name, for every frame that the octets are
 rooted : (c : tie.After-roots) (f : Frame) →

@@ -1,137 +1,173 @@
 -- `unwrap_tree::entries::entries` meets its contract.
 use denote.Ref.{now}
 use native.Mathlib.Omega.{arith}
-use Prim.Native.Nat.{ℕ, _+_, _-_, _≤_, _<_}
-use mathlib.Core.Path.{_≡_, ap, sym, subst}
+use Prim.Native.Nat.{_+_, _-_, _≤_, _<_}
+use mathlib.Core.Path.{_≡_, ap, sym, _∙_, subst}
 use mathlib.Core.Bool.{true}
-use mathlib.Core.Logic.{⊎-elim}
-use mathlib.Core.List.{List}
-use lib.ListN.{length, drop, length-append, length-drop}
+use mathlib.Core.List.{List, _∷_, map}
+use lib.ListN.{length, drop, set, length-set}
 use Rattle.octets.specs.Walk.{part}
-use Rattle.octets.proofs.Walks.{to-end}
-use Rattle.state_keys.specs.Limits.{limits}
-use Rattle.wire_attributes.specs.Tree.{WrapKey}
-use Rattle.wire_bags.specs.Bag.{bags}
-use Rattle.wire_readers.specs.inner.Values.{isWhole}
-use Rattle.wire_readers.specs.inner.Bags.{BagIs}
-use Rattle.unwrap_tree.specs.inner.Reached.{wrapKeysIn}
-use Rattle.unwrap_tree.specs.declared.entries.Listing.{Listing}
+use Rattle.wire_attributes.specs.Tree.{WrapKey, wrapKeyOf}
+use Rattle.wire_attributes.specs.Answers.{valueStart}
+use Rattle.wire_attributes.specs.Layout.{attributes}
+use Rattle.wire_attributes.specs.declared.tables.Place.the-variants.{MemberBag}
+use Rattle.wire_attributes.specs.declared.tables.Meaning.the-variants as meaning
+use Rattle.wire_readers.specs.inner.Values.{isWhole, MetAt, Meets}
+use Rattle.wire_readers.specs.declared.Stretch.{Stretch}
+use Rattle.unwrap_search.specs.inner.Entries.{IsEntry, Lists}
 use Rattle.unwrap_tree.specs.inner.Entries.{bagKeys}
-use Rattle.unwrap_tree.proofs.Gathering.{Gathered, gathered-none, gathered-left, gathered-more, gathered-all}
-use Rattle.unwrap_tree.proofs.Gathering.{member-first, group-first, next-whole, member-whole, bag-inside, none-left}
+use Rattle.unwrap_tree.proofs.Gathering.{Gathered, gathered-none, gathered-next, gathered-all}
+use Rattle.unwrap_tree.proofs.Gathering.{taken-inside, taken-sized, taken-part, taken-first}
+use Rattle.state_keys.specs.Limits.{limits}
 use borrow.Author.Needs.{needs}
 use Rattle.unwrap_tree.proofs.entries.entries.Statement.{statement}
 use Rattle.unwrap_tree.proofs.entries.entries.Tie as tie
 
 abbrev Inv-loop : tie.InvT-loop
-Inv-loop k list₀ at₀ list at =
-    (at ≤ length k) × (isWhole (bags 0 (drop at k)) ≡ true) × (length (wrapKeysIn k) ≤ limits .wrapKeys) ×
-    Gathered k (list .places) (list .count) (wrapKeysIn (drop at k)) (wrapKeysIn k)
+Inv-loop k a e s places₀ n₀ at₀ places n at =
+    (length places ≡ limits .wrapKeys) × (at ≤ length s) × (isWhole (attributes MemberBag 0 (drop at s)) ≡ true) ×
+    (n + length (bagKeys (drop at s)) ≤ limits .wrapKeys) × Gathered k places n (bagKeys (drop at s)) (bagKeys s)
 
 abbrev μ-loop : tie.MeasureT-loop
-μ-loop k list₀ at₀ list at = length k - at
+μ-loop k a e s places₀ n₀ at₀ places n at = length s - at
+
+sub-s : tie.Need-sub-s Inv-loop μ-loop
+sub-s c = c .before .pre .0 .order
+
+part-s-start : tie.Need-part-s-start Inv-loop μ-loop
+part-s-start c = c .before .pre .0 .order
+
+part-s-end : tie.Need-part-s-end Inv-loop μ-loop
+part-s-end c = c .before .pre .0 .inside
 
 blank-requires : tie.Need-blank-requires Inv-loop μ-loop
 blank-requires c κs = search needs
 
 loop-holds : tie.Need-loop-holds Inv-loop μ-loop
 loop-holds c =
-    let s = c .before .before in (
-      omega arith,
-      s .pre .0,
-      s .pre .1,
-      gathered-none (now (s .args .k)) _ (wrapKeysIn (now (s .args .k))),
-    )
+    let st = c .before .before .before in
+    let h = st .pre .0 in
+    (omega arith, omega arith, h .held, omega (arith, st .pre .1, ap length (h .keys)), gathered-none (now (st .args .k)) _ _)
 
-sub-bag-parts : tie.Need-sub-bag-parts Inv-loop μ-loop
-sub-bag-parts c = search needs
+next-attribute-requires : tie.Need-next-attribute-requires Inv-loop μ-loop
+next-attribute-requires c κs = (c .loop .inv .1, c .loop .inv .2)
 
-part-bag-parts-start : tie.Need-part-bag-parts-start Inv-loop μ-loop
-part-bag-parts-start c = search needs
+enum-known-b : tie.Need-enum-known-b Inv-loop μ-loop
+enum-known-b c = search needs
 
-part-bag-parts-end : tie.Need-part-bag-parts-end Inv-loop μ-loop
-part-bag-parts-end c = search needs
+met : (c : tie.After-known-told Inv-loop μ-loop) →
+    let w = c .before .before .before .before in
+    let st = w .before .before .before .before in
+    let v = c .before .b .given .0 in
+    let x = st .args .member in
+    MetAt meaning.WrapKey MemberBag (part (now (st .args .k)) (x .start) (x .end)) (w .loop .at) (v .0) (v .1 .0)
+met c =
+    let w = c .before .before .before .before in
+    let st = w .before .before .before .before in
+    let x = st .args .member in
+    subst (Meets meaning.WrapKey MemberBag (part (now (st .args .k)) (x .start) (x .end)) (w .loop .at))
+    (c .before .b .given .1) (c .before .before .before .next-attribute .ensures)
 
-bag-parts-requires : tie.Need-bag-parts-requires Inv-loop μ-loop
-bag-parts-requires c κs =
-    let k = now (c .before .before .before .before .before .args .k) in
-    let l = c .before .before .loop in
-    subst (λ (x : List ℕ). (0 < length x) × (isWhole (bags 0 x) ≡ true)) (sym (to-end k (l .at)))
-    (omega (arith, length-drop (l .at) k, c .before .loop-test .taken), l .inv .1)
+attribute-value-requires : tie.Need-attribute-value-requires Inv-loop μ-loop
+attribute-value-requires c κs = search needs
 
-is : (c : tie.After-bag-parts Inv-loop μ-loop) → let k = now (c .before .before .before .before .before .before .args .k) in
-    BagIs (drop (c .before .before .before .loop .at) k) (c .bag-parts .result)
+-- the value handed on is the one found
+value : (c : tie.After-attribute-value Inv-loop μ-loop) →
+    let st = c .before .before .before .before .before .before .before .before .before in
+    let v = c .before .before .b .given .0 in
+    let s = part (now (st .args .k)) (st .args .member .start) (st .args .member .end) in
+    now (c .attribute-value .result) ≡ part s (valueStart s (v .0)) (v .1 .0)
+value c = c .attribute-value .ensures .0 ∙ met (c .before) .octets
+
+add-entry : tie.Need-add-entry Inv-loop μ-loop
+add-entry c =
+    let w = c .before .before .before .before .before in
+    let st = w .before .before .before .before in
+    let h = st .pre .0 in
+    let i = taken-inside (now (st .args .k)) _ _ (h .order) (h .inside) (w .loop .at) _ _ (w .loop .inv .2) (met (c .before) .value) in
+    record { fits = omega (arith, i .1) }
+
+entry-requires : tie.Need-entry-requires Inv-loop μ-loop
+entry-requires c κs =
+    let w = c .before .before .before .before .before in
+    let st = w .before .before .before .before in
+    let h = st .pre .0 in
+    taken-sized (now (st .args .k)) _ _ (h .order) (h .inside) (w .loop .at) _ _ (w .loop .inv .2) (met (c .before) .value) _ (value c)
+
+first : (c : tie.After-attribute-value Inv-loop μ-loop) →
+    let w = c .before .before .before .before .before in
+    let st = w .before .before .before .before in
+    let v = c .before .before .b .given .0 in
+    let s = part (now (st .args .k)) (st .args .member .start) (st .args .member .end) in
+    bagKeys (drop (w .loop .at) s) ≡ wrapKeyOf (now (c .attribute-value .result)) ∷ bagKeys (drop (v .1 .0) s)
+first c =
+    let w = c .before .before .before .before .before in
+    let st = w .before .before .before .before in
+    let h = st .pre .0 in
+    taken-first (now (st .args .k)) _ _ (h .order) (h .inside) (w .loop .at) _ _ (w .loop .inv .2) (met (c .before) .value) _ (value c)
+
+is : (c : tie.After-entry Inv-loop μ-loop) →
+    let st = c .before .before .before .before .before .before .before .before .before .before in
+    IsEntry (now (st .args .k)) (c .entry .result) (wrapKeyOf (now (c .before .attribute-value .result)))
 is c =
-    let k = now (c .before .before .before .before .before .before .args .k) in
-    let l = c .before .before .before .loop in
-    subst (λ (x : List ℕ). BagIs x (c .bag-parts .result)) (to-end k (l .at)) (c .bag-parts .ensures)
+    let w = c .before .before .before .before .before .before in
+    let st = w .before .before .before .before in
+    let h = st .pre .0 in
+    let k = now (st .args .k) in
+    let f = met (c .before .before) .value in
+    c .entry .ensures k
+    (taken-inside k _ _ (h .order) (h .inside) (w .loop .at) _ _ (w .loop .inv .2) f .1)
+    (taken-part k _ _ (h .order) (h .inside) (w .loop .at) _ _ (w .loop .inv .2) f _ (value (c .before)))
 
-inside : (c : tie.After-bag-parts Inv-loop μ-loop) → let b = c .bag-parts .result in
-    (4 ≤ b .body) × (b .body ≤ b .end) ×
-    (c .before .before .before .loop .at + b .end ≤ length (now (c .before .before .before .before .before .before .args .k)))
-inside c =
-    let l = c .before .before .before .loop in
-    bag-inside (now (c .before .before .before .before .before .before .args .k)) (l .at) (c .bag-parts .result) (is c) (l .inv .0)
+room : (c : tie.After-entry Inv-loop μ-loop) → c .before .before .before .before .before .before .loop .n < limits .wrapKeys
+room c = omega (arith, c .before .before .before .before .before .before .loop .inv .3, ap length (first (c .before)))
 
-add-with-bag : tie.Need-add-with-bag Inv-loop μ-loop
-add-with-bag c = let i = inside (c .before .before .before) in record { fits = omega (arith, i .1, i .2) }
+mul-places : tie.Need-mul-places Inv-loop μ-loop
+mul-places c = record { fits = omega (arith, room c) }
 
-add-with-bag-2 : tie.Need-add-with-bag-2 Inv-loop μ-loop
-add-with-bag-2 c = let i = inside (c .before .before .before .before) in record { fits = omega (arith, i .2) }
+array-set-from-places : tie.Need-array-set-from-places Inv-loop μ-loop
+array-set-from-places c = room c
 
-with-bag-requires : tie.Need-with-bag-requires Inv-loop μ-loop
-with-bag-requires c κs =
-    let k = now (c .before .before .before .before .before .before .before .before .before .before .args .k) in
-    let l = c .before .before .before .before .before .before .before .loop in
-    let u = c .before .before .before .before in
-    let b = u .bag-parts .result in
-    let i = inside u in
-    let e = c .before .before .if1 .taken in
-    let x = bagKeys (part k (l .at + b .body) (l .at + b .end)) in
-    let n = gathered-left k (l .list .places) (l .list .count) (wrapKeysIn (drop (l .at) k)) (wrapKeysIn k) (l .inv .3) in (
-      (omega (arith, i .1), i .2),
-      (
-        member-whole k (l .at) b (is u) e,
-        omega (arith, n, l .inv .2, ap length (member-first k (l .at) b (is u) e), length-append x (wrapKeysIn (drop (l .at + b .end) k))),
-      ),
-    )
-
-add-at : tie.Need-add-at Inv-loop μ-loop
-add-at c = let i = inside (c .before .before .before) in record { fits = omega (arith, i .2) }
+add-n : tie.Need-add-n Inv-loop μ-loop
+add-n c = record { fits = omega (arith, room c) }
 
 loop-less : tie.Need-loop-less Inv-loop μ-loop
-loop-less c = let i = inside (c .before .before .before) in omega (arith, i .0, i .1, i .2)
+loop-less c = let f = met (c .before .before) .value in omega (arith, f .start, f .order, f .inside)
 
 loop-again : tie.Need-loop-again Inv-loop μ-loop
 loop-again c =
-    let k = now (c .before .before .before .before .before .before .before .before .before .args .k) in
-    let l = c .before .before .before .before .before .before .loop in
-    let b = c .before .before .before .bag-parts .result in
-    let rest = wrapKeysIn (drop (l .at + b .end) k) in
-    let f = is (c .before .before .before) in (
-      inside (c .before .before .before) .2,
-      next-whole k (l .at) b f,
-      l .inv .2,
-      ⊎-elim
-          (λ w.
-          subst (λ (m : Listing). Gathered k (m .places) (m .count) rest (wrapKeysIn k)) (sym (w .4))
-          (gathered-more k (l .list .places) (w .3 .result .places) (l .list .count) (w .3 .result .count)
-          (bagKeys (part k (l .at + b .body) (l .at + b .end))) rest (wrapKeysIn k)
-          (subst (λ (x : List WrapKey). Gathered k (l .list .places) (l .list .count) x (wrapKeysIn k))
-          (member-first k (l .at) b f (w .0 .taken)) (l .inv .3)) (w .3 .ensures)))
-          (λ w.
-          subst (λ (m : Listing). Gathered k (m .places) (m .count) rest (wrapKeysIn k)) (sym (w .1))
-          (subst (λ (x : List WrapKey). Gathered k (l .list .places) (l .list .count) x (wrapKeysIn k))
-          (group-first k (l .at) b f (w .0 .left)) (l .inv .3)))
-          (c .before .if1 .came),
+    let w = c .before .before .before .before .before .before in
+    let a = w .before .before .before .before .args in
+    let l = w .loop in
+    let v = c .before .before .before .b .given .0 in
+    let f = met (c .before .before) .value in
+    let e = first (c .before) in
+    let s = part (now (a .k)) (a .member .start) (a .member .end) in
+    let n : length (set (l .places) (l .n) (c .entry .result)) ≡ limits .wrapKeys =
+    length-set (l .places) (l .n) (c .entry .result) ∙ l .inv .0 in (
+      n,
+      f .inside,
+      f .rest,
+      omega (arith, l .inv .3, ap length e),
+      gathered-next (now (a .k)) (l .places) (l .n) (bagKeys (drop (v .1 .0) s)) (bagKeys s) (c .entry .result)
+          (wrapKeyOf (now (c .before .attribute-value .result)))
+          (subst (λ (x : List WrapKey). Gathered (now (a .k)) (l .places) (l .n) x (bagKeys s)) e (l .inv .4))
+          (room c) (omega (arith, l .inv .0, room c)) (is c),
     )
+
+enum-told : tie.Need-enum-told Inv-loop μ-loop
+enum-told c = search needs
 
 returns : tie.Need-returns Inv-loop μ-loop
 returns c =
-    let k = now (c .before .before .before .before .args .k) in
-    let l = c .before .loop in
-    gathered-all k (l .list .places) (l .list .count) (wrapKeysIn (drop (l .at) k)) (wrapKeysIn k) (l .inv .3)
-    (none-left k (l .at) (c .loop-test .left))
+    let w = c .before .before .before in
+    let st = w .before .before .before .before in
+    let k = now (st .args .k) in
+    let u = w .loop in
+    let s = part k (st .args .member .start) (st .args .member .end) in
+    let f = subst (Meets meaning.WrapKey MemberBag s (u .at)) (c .enum-told .given .1) (c .before .before .next-attribute .ensures) in
+    subst (Lists k (u .places) (u .n)) (sym (st .pre .0 .keys))
+    (gathered-all k (u .places) (u .n) (bagKeys (drop (u .at) s)) (bagKeys s) (u .inv .4) (ap (map wrapKeyOf) (f .0)))
 
 pub entries-spec : {M : Type 1} → statement M
 entries-spec =
@@ -139,16 +175,20 @@ entries-spec =
     (tie.spec
     Inv-loop
     μ-loop
+    sub-s
+    part-s-start
+    part-s-end
     blank-requires
     loop-holds
-    sub-bag-parts
-    part-bag-parts-start
-    part-bag-parts-end
-    bag-parts-requires
-    add-with-bag
-    add-with-bag-2
-    with-bag-requires
-    add-at
+    next-attribute-requires
+    enum-known-b
+    attribute-value-requires
+    add-entry
+    entry-requires
+    mul-places
+    array-set-from-places
+    add-n
     loop-less
     loop-again
+    enum-told
     returns)

@@ -1,0 +1,37 @@
+-- Where the attributes of the first Member Key Bag stand in a KD body whose layout is whole, and all facts of the body.
+use Prim.Native.Nat.{ℕ, zero, suc, _+_}
+use mathlib.Core.List.{List}
+use mathlib.Core.Bool.{cond, _&&_}
+use lib.ListN.{length, drop}
+use lib.Dec.{leb, eqb}
+use Rattle.octets.specs.Numbers.{oct}
+use Rattle.octets.specs.Walk.{be16, either}
+use Rattle.state_keys.specs.Limits.{Limits}
+use Rattle.wire_policies.specs.Policy.{headSize}
+use Rattle.wire_readers.specs.inner.Values.{nowhere}
+use Rattle.wire_readers.specs.inner.Bags.{bagsIn}
+use Rattle.wire_readers.specs.declared.Stretch.{Stretch}
+use Rattle.check_bagkeys.specs.inner.Facts.{factsOf}
+use Rattle.check_bagkeys.specs.declared.KdFacts.{KdFacts}
+
+-- the first one among n bags at most that stand from `at` on, up to the end of the body: a Member Key Bag is "0, reserved, length 2,
+-- attributes" (document 01), and the length of a bag counts all its octets
+unfoldable pub memberFrom : ℕ → ℕ → List ℕ → Stretch
+memberFrom zero at k = nowhere
+memberFrom (suc n) at k =
+    let end = at + be16 (drop at k) 2 in
+    let later = memberFrom n end k in
+    either (leb (length k) at) nowhere
+    (either (eqb (oct (drop at k) 0) 0) (record { start = at + headSize (drop at k); end = end }) later)
+
+-- in the body; no octets where it has no such bag
+abbrev pub memberIn : List ℕ → Stretch
+memberIn k = memberFrom (length k) 0 k
+
+-- of a bag that begins with this octet and has its attributes here: here, where it is a Member Key Bag and none is known
+abbrev pub firstMember : ℕ → Stretch → Stretch → Stretch
+firstMember first here known = cond (eqb first 0 && eqb (known .end) 0) here known
+
+-- THE FACTS OF THIS BODY
+abbrev pub kdFactsOf : Limits → List ℕ → KdFacts
+kdFactsOf limits k = record { bags = factsOf limits (bagsIn k); member = memberIn k }
