@@ -103,4 +103,4 @@ module _ (k : List ℕ) where
 -- ---- the walk over a KD body: the facts of the bags passed, and the first Member Key Bag
 pub record KdWalk (k : List ℕ) (f : BagFacts) (x : Stretch) (at : ℕ) : Type 0 where
   pub bags : BagWalk limits k f at
-  pub member : Sought k x at
+  pub found : Sought k x at

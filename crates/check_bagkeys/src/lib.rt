@@ -46,7 +46,7 @@ pub struct BagFacts {
 // there is no such bag. Where there are several, number 4 applies.
 pub struct KdFacts {
     pub bags: BagFacts,
-    pub member: Stretch,
+    pub member_bag: Stretch,
 }
 
 // Those of no bag.
@@ -143,7 +143,7 @@ fn of_bag(first: usize, a: &[u8]) -> BagFacts
     )
 }
 
-// Where the first Member Key Bag has its attributes: here, where this bag begins as one and none is known.
+// Where the first Member Key Bag has its attributes: here, where this bag begins as one and none is known. No bag ends at octet 0.
 fn first_member(first: usize, here: Stretch, known: Stretch) -> Stretch
     ensures { λ r. ⌜ r ≡ firstMember first here known ⌝ }
 {
@@ -159,15 +159,18 @@ pub fn kd_facts(k: &[u8]) -> KdFacts
     ensures { λ r. ⌜ r ≡ kdFactsOf limits (now (k .entry)) ⌝ }
 {
     let mut f = no_bags();
-    let mut member = Stretch { start: 0, end: 0 };
+    let mut found = Stretch { start: 0, end: 0 };
     let mut at = 0;
     while at < k.len() {
         let p = wire_readers::bag::bag_parts(&k[at..]);
         let start = at + p.body;
         let end = at + p.end;
-        member = first_member(p.first, Stretch { start, end }, member);
+        found = first_member(p.first, Stretch { start, end }, found);
         f = together(f, of_bag(p.first, &k[start..end]));
         at = end;
     }
-    KdFacts { bags: f, member }
+    KdFacts {
+        bags: f,
+        member_bag: found,
+    }
 }

@@ -17,7 +17,7 @@ pub struct Facts {
     pub policies: PolicyFacts,
     pub bags: BagFacts,
     // where the attributes of the Member Key Bag stand in the body of the KD; where there is none, the stretch is empty
-    pub member: Stretch,
+    pub member_bag: Stretch,
 }
 
 // The facts of a frame of an exchange that has the controller's authentication or not. Internal.
@@ -35,11 +35,11 @@ pub fn facts_of(authentication: bool, s: &[u8]) -> Facts
     let j = k.end;
     let kd = kd_facts(&s[i..j]);
     let bags = kd.bags;
-    let member = kd.member;
+    let member_bag = kd.member_bag;
     Facts {
         payloads,
         policies,
         bags,
-        member,
+        member_bag,
     }
 }

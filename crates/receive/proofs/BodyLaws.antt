@@ -62,15 +62,16 @@ module _ (m : State) (now : ℕ) (lent s : List ℕ) (x : Facts) (f : Frame) (p 
       ∙ ap (policyFacts (rowOf f .authentication)) (holds-policies .all)
 
   -- its WRAP_KEYs stand where the facts say, since number 4 leaves one Member Key Bag at most
-  member-stands : x .member ≡ memberIn (at s (x .payloads .kd))
-  member-stands =
+  bag-stands : x .«member_bag» ≡ memberIn (at s (x .payloads .kd))
+  bag-stands =
       let e = ap (λ (y : Facts). y .payloads) (p .facts) in
-      ap (λ (y : Facts). y .member) (p .facts) ∙ ap (λ (y : PayloadFacts). memberIn (at s (y .kd))) (sym e)
+      ap (λ (y : Facts). y .«member_bag») (p .facts) ∙ ap (λ (y : PayloadFacts). memberIn (at s (y .kd))) (sym e)
 
-  holds-entries : HoldsEntries (at s (x .payloads .kd)) (x .member)
+  holds-entries : HoldsEntries (at s (x .payloads .kd)) (x .«member_bag»)
   holds-entries =
-      let few = subst (λ (l : List Bag). length (gather memberBagOf l) ≤ 1) (sym (holds-bags .all)) (one-member-bag m now lent f (p .clauses)) in
-      let i = member-is (at s (x .payloads .kd)) (x .member) member-stands (holds-bags .held) few in
+      let one = one-member-bag m now lent f (p .clauses) in
+      let few = subst (λ (l : List Bag). length (gather memberBagOf l) ≤ 1) (sym (holds-bags .all)) one in
+      let i = member-is (at s (x .payloads .kd)) (x .«member_bag») bag-stands (holds-bags .held) few in
       record { order = i .order; inside = i .inside; held = i .held; keys = i .keys }
 
   pub bodied : Bodied m now lent s x (at s (x .payloads .gsa)) (at s (x .payloads .kd)) f

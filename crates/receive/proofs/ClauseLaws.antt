@@ -20,8 +20,8 @@ use Rattle.state.specs.State.{stateFormed}
 use Rattle.rules_refusals.specs.Contents.{rowOf, gather, some, several, hasGsa, hasKd, announced, groupWides, memberBags, wrapKeysOf}
 use Rattle.rules_refusals.specs.Fitness.{isRekey}
 use Rattle.rules_refusals.specs.Number2.{standing, overLiveRekey, otherSpis}
-use Rattle.rules_refusals.specs.Number4.{four-ofFrame, barredMemberBag, twoGsa, twoKd, severalRekeyPolicies, severalGroupWide, severalMemberBags}
-use Rattle.rules_refusals.specs.Number4.{keyLengthTwice, initialMessageIdTwice, delayTwice, lifetimeTwice}
+use Rattle.rules_refusals.specs.Number4.{four-ofFrame, barredMemberBag, twoGsa, twoKd, severalRekeyPolicies, severalGroupWide}
+use Rattle.rules_refusals.specs.Number4.{severalMemberBags, keyLengthTwice, initialMessageIdTwice, delayTwice, lifetimeTwice}
 use Rattle.rules_refusals.specs.Number5.{five-ofFrame, otherTransforms, lentKeySize}
 use Rattle.rules_refusals.specs.Number6.{six-ofFrame, policyUnpaired, wrapKeyId}
 use Rattle.rules_refusals.specs.Number7.{seven-ofFrame, seven-ofMember, manyWrapKeys, manySas}

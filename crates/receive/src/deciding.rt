@@ -35,7 +35,7 @@ fn by_bodies(state: State, s: &[u8], x: Facts, g: &[u8], k: &[u8], lent: &[u8], 
         Judged limits state tick (now (lent .entry)) f (r .number) (r .state)) ⌝ }
 {
     let row = row_of(s);
-    let r = roots(state, row, k, x.member, lent, tick);
+    let r = roots(state, row, k, x.member_bag, lent, tick);
     if r.eight {
         return Next { number: 8, state };
     }

@@ -23,15 +23,15 @@ pub struct StartingKeys {
 }
 
 // Those of a registration: the lent key is key 0, and the others are reached from it.
-fn reached_from(k: &[u8], member: Stretch, lent: &[u8]) -> StartingKeys
-    requires { ⌜ HoldsEntries (now k) member ⌝ }
+fn reached_from(k: &[u8], bag: Stretch, lent: &[u8]) -> StartingKeys
+    requires { ⌜ HoldsEntries (now k) bag ⌝ }
     requires { ⌜ ((m : State) × (tick : ℕ) × (f : Frame) × Bagged registration m tick (now lent) (now k) f) ⌝ }
     ensures { λ r. ⌜ ((m : State) (tick : ℕ) (f : Frame) → Bagged registration m tick (now (lent .entry)) (now (k .entry)) f →
         Rooted m tick (now (lent .entry)) r f) ⌝ }
 {
     let made = WrappingKey::new(lent);
     let zero = made.key;
-    let found = unwrap_tree::reached(k, member, zero);
+    let found = unwrap_tree::reached(k, bag, zero);
     let opens = found.held;
     StartingKeys {
         eight: found.eight,
@@ -77,17 +77,17 @@ pub fn roots(
     state: State,
     row: Exchange,
     k: &[u8],
-    member: Stretch,
+    bag: Stretch,
     lent: &[u8],
     tick: u32,
 ) -> StartingKeys
-    requires { ⌜ HoldsEntries (now k) member ⌝ }
+    requires { ⌜ HoldsEntries (now k) bag ⌝ }
     requires { ⌜ ((f : Frame) × Bagged row state tick (now lent) (now k) f) ⌝ }
     ensures { λ r. ⌜ ((f : Frame) → Bagged row state tick (now (lent .entry)) (now (k .entry)) f →
         Rooted state tick (now (lent .entry)) r f) ⌝ }
 {
     if row.registers {
-        return reached_from(k, member, lent);
+        return reached_from(k, bag, lent);
     }
     let zero = row.zero;
     match zero {

@@ -52,13 +52,13 @@ fn entry(v: &[u8], e: usize) -> Entry
 }
 
 // The WRAP_KEYs of a KD body whose Member Key Bag has its attributes there, in their order. Internal.
-pub fn entries(k: &[u8], member: Stretch) -> Listing
-    requires { ⌜ HoldsEntries (now k) member ⌝ }
+pub fn entries(k: &[u8], bag: Stretch) -> Listing
+    requires { ⌜ HoldsEntries (now k) bag ⌝ }
     requires { ⌜ length (wrapKeysIn (now k)) ≤ limits .wrapKeys ⌝ }
     ensures { λ r. ⌜ Lists (now (k .entry)) (r .places) (r .count) (wrapKeysIn (now (k .entry))) ⌝ }
 {
-    let a = member.start;
-    let e = member.end;
+    let a = bag.start;
+    let e = bag.end;
     let s = &k[a..e];
     let mut places = [blank(); WRAP_KEYS];
     let mut n: usize = 0;

@@ -20,15 +20,15 @@ ghost use Rattle.unwrap_tree.specs.inner.Entries.{HoldsEntries};
 
 // What the WRAP_KEYs of a KD body reach with the lent key as key 0; they stand in the stretch. Numbers 4 to 7 come before: there is one
 // Member Key Bag at most, the lent key has a wrapping key's size, no WRAP_KEY has Key ID 0, and there are no more than the limit. Internal.
-pub fn reached(k: &[u8], member: Stretch, lent: WrappingKey) -> Reached
-    requires { ⌜ HoldsEntries (now k) member ⌝ }
+pub fn reached(k: &[u8], bag: Stretch, lent: WrappingKey) -> Reached
+    requires { ⌜ HoldsEntries (now k) bag ⌝ }
     requires { ⌜ length (wrapKeysIn (now k)) ≤ limits .wrapKeys ⌝ }
     requires { ⌜ Nonzero (wrapKeysIn (now k)) ⌝ }
     requires { ⌜ sizeOf 13 (lent .count) ≡ true ⌝ }
     requires { ⌜ Key (valueOf lent) ⌝ }
     ensures { λ r. ⌜ Answers (keyZero (valueOf lent)) (wrapKeysIn (now (k .entry))) (lent .count) lent r ⌝ }
 {
-    let list = entries::entries(k, member);
+    let list = entries::entries(k, bag);
     let places = list.places;
     let n = list.count;
     let cells = unwrap_search::search::search(k, lent, places, n);

@@ -11,17 +11,17 @@ use Rattle.check_bagkeys.proofs.kd_facts.Statement.{statement}
 use Rattle.check_bagkeys.proofs.kd_facts.Tie as tie
 
 abbrev Inv-loop : tie.InvT-loop
-Inv-loop k f₀ member₀ at₀ f member at = KdWalk k f member at
+Inv-loop k f₀ found₀ at₀ f found at = KdWalk k f found at
 
 abbrev μ-loop : tie.MeasureT-loop
-μ-loop k f₀ member₀ at₀ f member at = length k - at
+μ-loop k f₀ found₀ at₀ f found at = length k - at
 
 no-bags-requires : tie.Need-no-bags-requires Inv-loop μ-loop
 no-bags-requires c κs = search needs
 
 loop-holds : tie.Need-loop-holds Inv-loop μ-loop
 loop-holds c =
-    record { bags = bags-start _ _ (c .before .before .pre) _ (c .no-bags .ensures); member = sought-start _ }
+    record { bags = bags-start _ _ (c .before .before .pre) _ (c .no-bags .ensures); found = sought-start _ }
 
 sub-bag-parts : tie.Need-sub-bag-parts Inv-loop μ-loop
 sub-bag-parts c = search needs
@@ -86,7 +86,7 @@ loop-again c =
     let l = s .before .before .before .before .loop in
     record {
       bags = bags-next _ _ (l .f) (l .at) (l .inv .bags) _ (stands s) _ (o .of-bag .ensures) _ (c .together .ensures);
-      member = sought-next _ (l .member) (l .at) (l .inv .member) (s .before .before .before .loop-test .taken) _ (stands s) _
+      found = sought-next _ (l .found) (l .at) (l .inv .found) (s .before .before .before .loop-test .taken) _ (stands s) _
           (m .first-member .ensures);
     }
 
@@ -94,8 +94,8 @@ returns : tie.Need-returns Inv-loop μ-loop
 returns c =
     let l = c .before .loop in
     let e = bags-end _ _ (l .f) (l .at) (l .inv .bags) (c .loop-test .left) in
-    let m = sought-end _ (l .member) (l .at) (l .inv .member) (c .loop-test .left) in
-    λ i. record { bags = e i; member = m i }
+    let m = sought-end _ (l .found) (l .at) (l .inv .found) (c .loop-test .left) in
+    λ i. record { bags = e i; «member_bag» = m i }
 
 pub kd-facts-spec : {M : Type 1} → statement M
 kd-facts-spec =

@@ -34,4 +34,4 @@ firstMember first here known = cond (eqb first 0 && eqb (known .end) 0) here kno
 
 -- THE FACTS OF THIS BODY
 abbrev pub kdFactsOf : Limits → List ℕ → KdFacts
-kdFactsOf limits k = record { bags = factsOf limits (bagsIn k); member = memberIn k }
+kdFactsOf limits k = record { bags = factsOf limits (bagsIn k); «member_bag» = memberIn k }

@@ -24,5 +24,5 @@ factsOf authentication s = record {
   payloads = payloadFacts s;
   policies = policyFacts authentication (policiesIn (at s (payloadFacts s .gsa)));
   bags = bagFacts limits (bagsIn (at s (payloadFacts s .kd)));
-  member = memberIn (at s (payloadFacts s .kd));
+  «member_bag» = memberIn (at s (payloadFacts s .kd));
 }

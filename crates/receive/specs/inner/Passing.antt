@@ -47,7 +47,7 @@ pub record Bodied (m : State) (now : ℕ) (lent s : List ℕ) (x : Facts) (g k :
   pub passed : Passed m now lent s x f
   pub policies : policiesOf f ≡ policiesIn g
   pub bags : bagsOf f ≡ bagsIn k
-  pub entries : HoldsEntries k (x .member)
+  pub entries : HoldsEntries k (x .«member_bag»)
 
 -- none of numbers 2 to 7 applies to the frame, its exchange has this row, and its bags are those of this body
 pub record Bagged (e : Exchange) (m : State) (now : ℕ) (lent k : List ℕ) (f : Frame) : Type 0 where

@@ -64,7 +64,7 @@ returns c =
       payloads = e i;
       policies = (p .policy-facts .ensures ∙ ap (λ (y : PayloadFacts). policyFacts (a .authentication) (policiesIn (at s (y .gsa)))) e) i;
       bags = (ap (λ (y : KdFacts). y .bags) k ∙ ap (λ (y : PayloadFacts). bagFacts limits (bagsIn (at s (y .kd)))) e) i;
-      member = (ap (λ (y : KdFacts). y .member) k ∙ ap (λ (y : PayloadFacts). memberIn (at s (y .kd))) e) i;
+      «member_bag» = (ap (λ (y : KdFacts). y .«member_bag») k ∙ ap (λ (y : PayloadFacts). memberIn (at s (y .kd))) e) i;
     }
 
 pub facts-of-spec : {M : Type 1} → statement M

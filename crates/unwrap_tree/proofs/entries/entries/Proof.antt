@@ -59,12 +59,12 @@ met : (c : tie.After-known-told Inv-loop μ-loop) →
     let w = c .before .before .before .before in
     let st = w .before .before .before .before in
     let v = c .before .b .given .0 in
-    let x = st .args .member in
+    let x = st .args .bag in
     MetAt meaning.WrapKey MemberBag (part (now (st .args .k)) (x .start) (x .end)) (w .loop .at) (v .0) (v .1 .0)
 met c =
     let w = c .before .before .before .before in
     let st = w .before .before .before .before in
-    let x = st .args .member in
+    let x = st .args .bag in
     subst (Meets meaning.WrapKey MemberBag (part (now (st .args .k)) (x .start) (x .end)) (w .loop .at))
     (c .before .b .given .1) (c .before .before .before .next-attribute .ensures)
 
@@ -75,7 +75,7 @@ attribute-value-requires c κs = search needs
 value : (c : tie.After-attribute-value Inv-loop μ-loop) →
     let st = c .before .before .before .before .before .before .before .before .before in
     let v = c .before .before .b .given .0 in
-    let s = part (now (st .args .k)) (st .args .member .start) (st .args .member .end) in
+    let s = part (now (st .args .k)) (st .args .bag .start) (st .args .bag .end) in
     now (c .attribute-value .result) ≡ part s (valueStart s (v .0)) (v .1 .0)
 value c = c .attribute-value .ensures .0 ∙ met (c .before) .octets
 
@@ -98,7 +98,7 @@ first : (c : tie.After-attribute-value Inv-loop μ-loop) →
     let w = c .before .before .before .before .before in
     let st = w .before .before .before .before in
     let v = c .before .before .b .given .0 in
-    let s = part (now (st .args .k)) (st .args .member .start) (st .args .member .end) in
+    let s = part (now (st .args .k)) (st .args .bag .start) (st .args .bag .end) in
     bagKeys (drop (w .loop .at) s) ≡ wrapKeyOf (now (c .attribute-value .result)) ∷ bagKeys (drop (v .1 .0) s)
 first c =
     let w = c .before .before .before .before .before in
@@ -142,7 +142,7 @@ loop-again c =
     let v = c .before .before .before .b .given .0 in
     let f = met (c .before .before) .value in
     let e = first (c .before) in
-    let s = part (now (a .k)) (a .member .start) (a .member .end) in
+    let s = part (now (a .k)) (a .bag .start) (a .bag .end) in
     let n : length (set (l .places) (l .n) (c .entry .result)) ≡ limits .wrapKeys =
     length-set (l .places) (l .n) (c .entry .result) ∙ l .inv .0 in (
       n,
@@ -164,7 +164,7 @@ returns c =
     let st = w .before .before .before .before in
     let k = now (st .args .k) in
     let u = w .loop in
-    let s = part k (st .args .member .start) (st .args .member .end) in
+    let s = part k (st .args .bag .start) (st .args .bag .end) in
     let f = subst (Meets meaning.WrapKey MemberBag s (u .at)) (c .enum-told .given .1) (c .before .before .next-attribute .ensures) in
     subst (Lists k (u .places) (u .n)) (sym (st .pre .0 .keys))
     (gathered-all k (u .places) (u .n) (bagKeys (drop (u .at) s)) (bagKeys s) (u .inv .4) (ap (map wrapKeyOf) (f .0)))
