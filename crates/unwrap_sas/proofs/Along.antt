@@ -7,7 +7,6 @@ use mathlib.Core.List.{List, [], _∷_, _++_, append-nil, append-assoc, List·Me
 use borrow.Author.Tests.{eqb-true, not-false}
 use lib.Dec.{eqb}
 use lib.ListN.{length, drop, set, length-append, length-set}
-use Rattle.octets.specs.Walk.{part}
 use Rattle.state_keys.specs.Limits.{limits}
 use Rattle.state_keys.specs.Lists.{any}
 use Rattle.wire_attributes.specs.Tree.{WrapKey}
@@ -26,7 +25,7 @@ use Rattle.rules_outcome.specs.After.{no-sa}
 use Rattle.rules_outcome.proofs.Members.{not-in-none}
 use Rattle.rules_outcome.proofs.RunsLists.{none-passes}
 use Rattle.unwrap_sas.specs.inner.Keyed.{Ready, foundBy, KeysOf, SomeEight}
-use Rattle.unwrap_sas.specs.inner.Policies.{OfOne, IsEight, IsUnopened, IsSa, Opening, Announces, IsAnnounced}
+use Rattle.unwrap_sas.specs.inner.Policies.{OfOne, IsEight, IsUnopened, IsSa, Opening, spiAt, bodyAt, Announces, IsAnnounced}
 use Rattle.unwrap_sas.specs.declared.joining.Found.{Found}
 use Rattle.unwrap_sas.proofs.Further.{eight-wider, eight-more, unopened-more, sa-more}
 use Rattle.unwrap_sas.proofs.PolicyAt.{sasFrom, no-more-sas, SaAt, PolicyAt}
@@ -63,7 +62,7 @@ module _ (f : Frame) (g k : List ℕ) (y : Ready f g k) (before : List GroupSaPo
       (not-false (eqb (bagsNamed f (a .protocol) (a .spi)) 1)
       (none-passes (λ (p : GroupSaPolicy). not (eqb (bagsNamed f (p .protocol) (p .spi)) 1)) (announced f) (y .paired) a stands))
 
-  pub announces : Announces k (r .first) (part g (at + 4) (at + r .body)) (part g (at + r .body) (at + r .end)) f a
+  pub announces : Announces k (r .first) (spiAt g at r) (bodyAt g at r) f a
   announces = record {
     protocol-is = s .protocol-is;
     spi-is = s .spi-is;
@@ -130,10 +129,10 @@ module _ (g k schedule ids block : List ℕ) (tick : ℕ) where
         s = p .sa-at z
 
         abbrev x : List ℕ
-        x = part g (at + 4) (at + r .body)
+        x = spiAt g at r
 
         abbrev b : List ℕ
-        b = part g (at + r .body) (at + r .end)
+        b = bodyAt g at r
 
         pub along-announces : (f : Frame) → Ready f g k → Announces k (r .first) x b f (s .sa)
         along-announces f y = announces f g k y (w .passed) at (w .all-are) r s

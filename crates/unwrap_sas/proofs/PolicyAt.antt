@@ -21,7 +21,7 @@ use Rattle.wire_readers.specs.declared.policy.Parts.{Parts}
 use Rattle.rules_refusals.specs.Contents.{gather, saOf}
 use Rattle.check_bagkeys.proofs.BagAt.{part-within}
 use Rattle.check_suites.proofs.PolicyLaws.{ends, rest}
-use Rattle.unwrap_sas.specs.inner.Policies.{lifetimesOf}
+use Rattle.unwrap_sas.specs.inner.Policies.{lifetimesOf, spiAt, bodyAt}
 
 -- the SAs that the policies from a place on announce
 abbrev pub sasFrom : List ℕ → ℕ → List GroupSaPolicy
@@ -48,10 +48,10 @@ module _ (g : List ℕ) (at : ℕ) (r : Parts) where
   pub record SaAt : Type 0 where
     pub sa : GroupSaPolicy
     pub protocol-is : sa .protocol ≡ r .first
-    pub spi-is : sa .spi ≡ part g (at + 4) (at + r .body)
-    pub spi-size : length (part g (at + 4) (at + r .body)) ≡ spiSize (r .first)
+    pub spi-is : sa .spi ≡ spiAt g at r
+    pub spi-size : length (spiAt g at r) ≡ spiSize (r .first)
     pub body : SaBody
-    pub is : IsSaBody (inPolicy (r .first)) (part g (at + r .body) (at + r .end)) body
+    pub is : IsSaBody (inPolicy (r .first)) (bodyAt g at r) body
     pub transforms : sa .transforms ≡ body .suite .transforms
     pub lifetimes : sa .keyLifetimes ≡ lifetimesOf (r .first) body
     pub first : sasFrom g at ≡ sa ∷ sasFrom g (at + r .end)
@@ -60,7 +60,7 @@ module _ (g : List ℕ) (at : ℕ) (r : Parts) where
     pub some : 4 ≤ r .body
     pub order : r .body ≤ r .end
     pub inside : at + r .end ≤ length g
-    pub small : Octets g → length (part g (at + r .body) (at + r .end)) < 65536
+    pub small : Octets g → length (bodyAt g at r) < 65536
     pub others : isWhole (policies 0 (drop (at + r .end) g)) ≡ true
     pub wide : r .first ≡ 0 → sasFrom g at ≡ sasFrom g (at + r .end)
     pub sa-at : (r .first ≡ 0 → ⊥) → SaAt

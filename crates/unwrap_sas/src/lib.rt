@@ -18,6 +18,7 @@ use unwrap_copies::answer::Opened;
 use unwrap_copies::lending::BLOCK;
 use unwrap_copies::lending::PLACE;
 use unwrap_copies::lending::lend_keys;
+use wire_readers::policy::Parts;
 use wire_readers::policy::policy_parts;
 ghost use mathlib.Core.Path.{_≡_};
 ghost use mathlib.Core.Bool.{true};
@@ -45,7 +46,7 @@ ghost use Rattle.unwrap_copies.specs.inner.Lending.{LendsHeld};
 ghost use Rattle.unwrap_copies.specs.inner.Answer.{Answers};
 ghost use Rattle.rules_outcome.specs.Roots.{needOf, announcedAs};
 ghost use Rattle.unwrap_sas.specs.inner.Keyed.{Ready, foundBy, KeyedBy};
-ghost use Rattle.unwrap_sas.specs.inner.Policies.{Opening, Announces, IsAnnounced, IsOne};
+ghost use Rattle.unwrap_sas.specs.inner.Policies.{Opening, spiAt, bodyAt, StandsAt, Announces, IsAnnounced, IsOne};
 
 // What the copies of the SA with this name open to, those of its bag.
 fn opened(
@@ -110,6 +111,43 @@ fn with_policy(
     one_sa(one, protocol, spi, e, w, t)
 }
 
+// Opens the keys of the SA whose policy starts at `at` of the GSA body `g` and has the parts `p`, in a frame of the tick.
+fn open_policy_at(
+    g: &[u8],
+    at: usize,
+    p: Parts,
+    k: &[u8],
+    tables: &[u32; 768],
+    schedule: InverseSchedule,
+    ids: &[u32],
+    block: &[u8],
+    tick: u32,
+) -> One
+    requires { ⌜ StandsAt (now g) at p ⌝ }
+    requires { ⌜ isWhole (bags 0 (now k)) ≡ true ⌝ }
+    requires { ⌜ (now tables ≡ decipherTables) × ExpandedInverse (schedule .words) ⌝ }
+    requires { ⌜ ((held : Held) × LendsHeld held (now ids) (now block)) ⌝ }
+    requires { ⌜ ((f : Frame) × (a : GroupSaPolicy) × Announces (now k) (p .first) (spiAt (now g) at p) (bodyAt (now g) at p) f a) ⌝ }
+    ensures { λ r. ⌜ ((roots : List Root) (entries : List WrapKey) (size : ℕ) (f : Frame) (a : GroupSaPolicy) →
+        IsAnnounced (now (k .entry)) (p .first) (spiAt (now (g .entry)) at p) (bodyAt (now (g .entry)) at p) (schedule .words)
+        (now (ids .entry)) (now (block .entry)) roots entries size f a → IsOne tick r roots entries size f a) ⌝ }
+{
+    let name = at + 4;
+    let body = at + p.body;
+    let end = at + p.end;
+    with_policy(
+        p.first,
+        &g[name..body],
+        &g[body..end],
+        k,
+        tables,
+        schedule,
+        ids,
+        block,
+        tick,
+    )
+}
+
 // The answer where number 8 holds of no SA. With `nine` no copy of some SA opens.
 fn found_by(nine: bool) -> Found
     ensures { λ r. ⌜ r ≡ foundBy nine ⌝ }
@@ -120,8 +158,8 @@ fn found_by(nine: bool) -> Found
     Found::Keys
 }
 
-// The same as `keyed`, with the schedule of key 0 and the held keys as they are lent.
-fn walked(
+// Opens the keys of all SAs that a frame announces, as `keyed` does, with the schedule of key 0 and the held keys as they are lent.
+fn open_policies(
     g: &[u8],
     k: &[u8],
     tables: &[u32; 768],
@@ -144,29 +182,14 @@ fn walked(
     let mut at: usize = 0;
     while at < g.len() {
         let p = policy_parts(&g[at..]);
-        let name = at + 4;
-        let body = at + p.body;
         let end = at + p.end;
         if p.first != 0 {
-            let one = with_policy(
-                p.first,
-                &g[name..body],
-                &g[body..end],
-                k,
-                tables,
-                schedule,
-                ids,
-                block,
-                tick,
-            );
+            let one = open_policy_at(g, at, p, k, tables, schedule, ids, block, tick);
             let found = one.found;
             match found {
                 unwrap_copies::answer::Found::Eight => {
-                    return Keyed {
-                        found: Found::Eight,
-                        sas,
-                        count,
-                    };
+                    let found = Found::Eight;
+                    return Keyed { found, sas, count };
                 }
                 unwrap_copies::answer::Found::Nothing => {
                     nine = true;
@@ -198,7 +221,7 @@ fn under_lent(g: &[u8], k: &[u8], zero: WrappingKey, ids: &[u32], block: &[u8], 
     let octets = zero.octets;
     let n = zero.count;
     let tables = inverse_tables();
-    walked(
+    open_policies(
         g,
         k,
         &tables,

@@ -1,9 +1,10 @@
 -- What is known of one policy of a frame, and of its copies.
-use Prim.Native.Nat.{ℕ}
+use Prim.Native.Nat.{ℕ, _+_, _≤_, _<_}
 use mathlib.Core.Path.{_≡_}
 use mathlib.Core.Bool.{true, false}
 use mathlib.Core.List.{List}
 use lib.ListN.{length}
+use Rattle.octets.specs.Walk.{part}
 use Rattle.state_keys.specs.Algorithms.{sizeOf}
 use Rattle.state_keys.specs.Kinds.{rekeySizes, valueOf}
 use Rattle.wire_attributes.specs.Place.{inPolicy}
@@ -15,6 +16,7 @@ use Rattle.state_sa.specs.declared.entry.Sa.{Sa}
 use Rattle.aes.specs.inner.Schedule.{ExpandsInverse}
 use Rattle.wire_policies.specs.Grammar.{IsSaBody}
 use Rattle.wire_readers.specs.inner.Bags.{bagsIn}
+use Rattle.wire_readers.specs.declared.policy.Parts.{Parts}
 use Rattle.state_keys.specs.Lists.{any}
 use Rattle.state_keys.specs.declared.kinds.WrappingKey.{WrappingKey}
 use Rattle.state.specs.declared.held.Held.{Held}
@@ -80,6 +82,20 @@ pub record IsOpened (protocol : ℕ) (spi : List ℕ) (encryption wrapping : ℕ
   pub answers : Answers roots entries size (announcedAs f a) one
 
 -- ---- where a policy and its bag stand
+-- the SPI of a policy with these parts that starts at a place of a GSA body, and what it holds after its SPI
+abbrev pub spiAt : List ℕ → ℕ → Parts → List ℕ
+spiAt g at p = part g (at + 4) (at + p .body)
+
+abbrev pub bodyAt : List ℕ → ℕ → Parts → List ℕ
+bodyAt g at p = part g (at + p .body) (at + p .end)
+
+-- such a policy stands inside the body
+pub record StandsAt (g : List ℕ) (at : ℕ) (p : Parts) : Type 0 where
+  pub head : 4 ≤ p .body
+  pub order : p .body ≤ p .end
+  pub inside : at + p .end ≤ length g
+  pub small : length (bodyAt g at p) < 65536
+
 -- chains end on exactly key 0, of which this is the schedule, and the held keys, which are lent so
 pub record Opening (schedule ids block : List ℕ) (roots : List Root) (entries : List WrapKey) (size : ℕ) : Type 0 where
   pub zero : WrappingKey

@@ -7,13 +7,13 @@ use Rattle.state_keys.specs.Limits.{limits}
 use Rattle.check_suites.proofs.PolicyLaws.{starts}
 use Rattle.unwrap_copies.specs.declared.answer.Found.{Found}
 use Rattle.unwrap_copies.specs.declared.answer.Found.the-variants.{Eight, Nothing, Key}
-use Rattle.unwrap_sas.specs.inner.Policies.{IsBy}
+use Rattle.unwrap_sas.specs.inner.Policies.{IsBy, StandsAt}
 use Rattle.unwrap_sas.proofs.PolicyAt.{PolicyAt, policy-at}
 use Rattle.unwrap_sas.proofs.Along.{Along, along-start, along-end, along-eight, along-wide, along-announces, along-room}
 use Rattle.unwrap_sas.proofs.Along.{along-none, along-sa, Says}
 use borrow.Author.Needs.{needs}
-use Rattle.unwrap_sas.proofs.walked.Statement.{statement}
-use Rattle.unwrap_sas.proofs.walked.Tie as tie
+use Rattle.unwrap_sas.proofs.open_policies.Statement.{statement}
+use Rattle.unwrap_sas.proofs.open_policies.Tie as tie
 
 abbrev Inv-loop : tie.InvT-loop
 Inv-loop g k tables schedule ids block tick nine₀ sas₀ count₀ at₀ nine sas count at =
@@ -52,60 +52,40 @@ here : (c : tie.After-policy-parts Inv-loop μ-loop) →
     (c .before .before .before .loop .at) (c .policy-parts .result)
 here c = policy-at _ _ _ (c .policy-parts .ensures)
 
-add-name : tie.Need-add-name Inv-loop μ-loop
-add-name c = let p = here c in record { fits = omega (arith, p .some, p .order, p .inside) }
-
-add-body : tie.Need-add-body Inv-loop μ-loop
-add-body c = let p = here (c .before) in record { fits = omega (arith, p .order, p .inside) }
-
 add-end : tie.Need-add-end Inv-loop μ-loop
-add-end c = let p = here (c .before .before) in record { fits = omega (arith, p .inside) }
+add-end c = let p = here (c .before) in record { fits = omega (arith, p .inside) }
 
-sub-with-policy : tie.Need-sub-with-policy Inv-loop μ-loop
-sub-with-policy c = let p = here (c .before .before .before .before) in omega (arith, p .some)
-
-part-with-policy-start : tie.Need-part-with-policy-start Inv-loop μ-loop
-part-with-policy-start c = let p = here (c .before .before .before .before) in omega (arith, p .some)
-
-part-with-policy-end : tie.Need-part-with-policy-end Inv-loop μ-loop
-part-with-policy-end c = let p = here (c .before .before .before .before) in omega (arith, p .order, p .inside)
-
-sub-with-policy-2 : tie.Need-sub-with-policy-2 Inv-loop μ-loop
-sub-with-policy-2 c = let p = here (c .before .before .before .before .before) in omega (arith, p .order)
-
-part-with-policy-start-2 : tie.Need-part-with-policy-start-2 Inv-loop μ-loop
-part-with-policy-start-2 c = let p = here (c .before .before .before .before .before) in omega (arith, p .order)
-
-part-with-policy-end-2 : tie.Need-part-with-policy-end-2 Inv-loop μ-loop
-part-with-policy-end-2 c = here (c .before .before .before .before .before) .inside
-
-with-policy-requires : tie.Need-with-policy-requires Inv-loop μ-loop
-with-policy-requires c κs =
-    let d = c .before .before .before .before .before .before in
+open-policy-at-requires : tie.Need-open-policy-at-requires Inv-loop μ-loop
+open-policy-at-requires c κs =
+    let d = c .before .before .before in
     let l = d .before .before .before .loop in
     let t = d .before .before .before .before .before .before .before .before in
     let s = t .before in
     let f = s .pre .1 .1 .1 .1 in
     let p = here d in
-    let z = c .before .before .if1 .taken in
+    let z = c .if1 .taken in
     let a = s .args in
     let n = along-announces (now (a .g)) (now (a .k)) (a .schedule .words) (now (a .ids)) (now (a .block)) (a .tick) (l .at) (l .nine)
-    (l .sas) (l .count) (l .inv) _ p z (f .0) (f .1) in (
-      p .small (λ i. t .shared-slice-known .given i .fits),
-      (s .pre .1 .0, (s .pre .1 .1 .0, (s .pre .1 .1 .1 .0, (f .0, p .sa-at z .sa, n)))),
-    )
+    (l .sas) (l .count) (l .inv) _ p z (f .0) (f .1) in
+    let q : StandsAt (now (a .g)) (l .at) (d .policy-parts .result) = record {
+      head = p .some;
+      order = p .order;
+      inside = p .inside;
+      small = p .small (λ i. t .shared-slice-known .given i .fits);
+    } in
+    (q, (s .pre .1 .0, (s .pre .1 .1 .0, (s .pre .1 .1 .1 .0, (f .0, p .sa-at z .sa, n)))))
 
 -- what the copies of this policy's SA open to, by what was found
-says : (c : tie.After-with-policy Inv-loop μ-loop) (x : Found) → c .with-policy .result .found ≡ x →
-    let d = c .before .before .before .before .before .before .before in
+says : (c : tie.After-open-policy-at Inv-loop μ-loop) (x : Found) → c .open-policy-at .result .found ≡ x →
+    let d = c .before .before .before .before in
     let l = d .before .before .before .loop in
     let a = d .before .before .before .before .before .before .before .before .before .args in
     Says (now (a .g)) (now (a .k)) (a .schedule .words) (now (a .ids)) (now (a .block)) (a .tick) (l .at) (l .nine) (l .sas) (l .count)
-    (l .inv) _ (here d) (c .before .before .before .if1 .taken) (IsBy (a .tick) x (c .with-policy .result .sa))
+    (l .inv) _ (here d) (c .before .if1 .taken) (IsBy (a .tick) x (c .open-policy-at .result .sa))
 says c x e roots entries size f b i =
-    let d = c .before .before .before .before .before .before .before in
+    let d = c .before .before .before .before in
     let a = d .before .before .before .before .before .before .before .before .before .args in
-    subst (λ y. IsBy (a .tick) y (c .with-policy .result .sa) roots entries size f b) e (c .with-policy .ensures roots entries size f b i)
+    subst (λ y. IsBy (a .tick) y (c .open-policy-at .result .sa) roots entries size f b) e (c .open-policy-at .ensures roots entries size f b i)
 
 enum-told : tie.Need-enum-told Inv-loop μ-loop
 enum-told c = search needs
@@ -113,10 +93,10 @@ enum-told c = search needs
 returns : tie.Need-returns Inv-loop μ-loop
 returns c =
     let w = c .before .before in
-    let d = w .before .before .before .before .before .before .before in
+    let d = w .before .before .before .before in
     let l = d .before .before .before .loop in
     let a = d .before .before .before .before .before .before .before .before .before .args in
-    let z = w .before .before .before .if1 .taken in
+    let z = w .before .if1 .taken in
     along-eight (now (a .g)) (now (a .k)) (a .schedule .words) (now (a .ids)) (now (a .block)) (a .tick) (l .at) (l .nine) (l .sas)
     (l .count) (l .inv) _ (here d) z
     (says w Eight (c .enum-told .given .1))
@@ -128,16 +108,16 @@ enum-told-3 : tie.Need-enum-told-3 Inv-loop μ-loop
 enum-told-3 c = search needs
 
 -- a place is left
-left : (w : tie.After-with-policy Inv-loop μ-loop) →
-    w .before .before .before .before .before .before .before .before .before .before .loop .count < limits .sas
+left : (w : tie.After-open-policy-at Inv-loop μ-loop) →
+    w .before .before .before .before .before .before .before .loop .count < limits .sas
 left w =
-    let d = w .before .before .before .before .before .before .before in
+    let d = w .before .before .before .before in
     let l = d .before .before .before .loop in
     let s = d .before .before .before .before .before .before .before .before .before in
     let a = s .args in
     let f = s .pre .1 .1 .1 .1 in
     along-room (now (a .g)) (now (a .k)) (a .schedule .words) (now (a .ids)) (now (a .block)) (a .tick) (l .at) (l .nine) (l .sas)
-    (l .count) (l .inv) _ (here d) (w .before .before .before .if1 .taken) (f .0) (f .1)
+    (l .count) (l .inv) _ (here d) (w .before .if1 .taken) (f .0) (f .1)
 
 mul-sas : tie.Need-mul-sas Inv-loop μ-loop
 mul-sas c = let h = left (c .before .before .before) in record { fits = omega arith }
@@ -149,41 +129,41 @@ add-count : tie.Need-add-count Inv-loop μ-loop
 add-count c = let h = left (c .before .before .before) in record { fits = omega arith }
 
 loop-less : tie.Need-loop-less Inv-loop μ-loop
-loop-less c = let p = here (c .before .before .before .before .before .before .before .before .before) in
+loop-less c = let p = here (c .before .before .before .before .before .before) in
     omega (arith, p .some, p .order, p .inside)
 
 loop-again : tie.Need-loop-again Inv-loop μ-loop
 loop-again c =
     let w = c .before .before in
-    let d = w .before .before .before .before .before .before .before in
+    let d = w .before .before .before .before in
     let l = d .before .before .before .loop in
     let a = d .before .before .before .before .before .before .before .before .before .args in
-    let z = w .before .before .before .if1 .taken in
+    let z = w .before .if1 .taken in
     along-none (now (a .g)) (now (a .k)) (a .schedule .words) (now (a .ids)) (now (a .block)) (a .tick) (l .at) (l .nine) (l .sas)
     (l .count) (l .inv) _ (here d) z
     (says w Nothing (c .enum-told2 .given .1))
 
 loop-less-2 : tie.Need-loop-less-2 Inv-loop μ-loop
-loop-less-2 c = let p = here (c .before .before .before .before .before .before .before .before .before .before) in
+loop-less-2 c = let p = here (c .before .before .before .before .before .before .before) in
     omega (arith, p .some, p .order, p .inside)
 
 loop-again-2 : tie.Need-loop-again-2 Inv-loop μ-loop
 loop-again-2 c =
     let w = c .before .before .before in
-    let d = w .before .before .before .before .before .before .before in
+    let d = w .before .before .before .before in
     let l = d .before .before .before .loop in
     let a = d .before .before .before .before .before .before .before .before .before .args in
-    let z = w .before .before .before .if1 .taken in
+    let z = w .before .if1 .taken in
     along-sa (now (a .g)) (now (a .k)) (a .schedule .words) (now (a .ids)) (now (a .block)) (a .tick) (l .at) (l .nine) (l .sas)
     (l .count) (l .inv) _ (here d) z
-    (w .with-policy .result .sa) (left w) (says w Key (c .before .enum-told3 .given .1))
+    (w .open-policy-at .result .sa) (left w) (says w Key (c .before .enum-told3 .given .1))
 
 loop-less-3 : tie.Need-loop-less-3 Inv-loop μ-loop
-loop-less-3 c = let p = here (c .before .before .before .before) in omega (arith, p .some, p .order, p .inside)
+loop-less-3 c = let p = here (c .before .before .before) in omega (arith, p .some, p .order, p .inside)
 
 loop-again-3 : tie.Need-loop-again-3 Inv-loop μ-loop
 loop-again-3 c =
-    let d = c .before .before .before .before in
+    let d = c .before .before .before in
     let l = d .before .before .before .loop in
     let a = d .before .before .before .before .before .before .before .before .before .args in
     along-wide (now (a .g)) (now (a .k)) (a .schedule .words) (now (a .ids)) (now (a .block)) (a .tick) (l .at) (l .nine) (l .sas)
@@ -199,8 +179,8 @@ returns-2 c =
     along-end (now (a .g)) (now (a .k)) (a .schedule .words) (now (a .ids)) (now (a .block)) (a .tick) (l .at) (l .nine) (l .sas)
     (l .count) (l .inv) (c .found-by .result) (c .found-by .ensures) (c .before .loop-test .left)
 
-pub walked-spec : {M : Type 1} → statement M
-walked-spec =
+pub open-policies-spec : {M : Type 1} → statement M
+open-policies-spec =
     tie.close
     (tie.spec
     Inv-loop
@@ -211,16 +191,8 @@ walked-spec =
     part-policy-parts-start
     part-policy-parts-end
     policy-parts-requires
-    add-name
-    add-body
     add-end
-    sub-with-policy
-    part-with-policy-start
-    part-with-policy-end
-    sub-with-policy-2
-    part-with-policy-start-2
-    part-with-policy-end-2
-    with-policy-requires
+    open-policy-at-requires
     enum-told
     returns
     enum-told-2
