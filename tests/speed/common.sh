@@ -74,3 +74,23 @@ members() {
     "$(thousands $((lines * 1000 / (best > 0 ? best : 1))))" "$(thousands "$(target/tests/peak "$second" "$1.in")")" "$before_memory" \
     "$(thousands "$(target/tests/peak "$product" "$1.in")")"
 }
+
+# find_openssl: sets `openssl` to the program over OpenSSL's library (openssl.c), and to nothing where it cannot be made.
+find_openssl() {
+  openssl=target/tests/openssl
+  if ! "${CC:-cc}" -O2 -o "$openssl" tests/speed/openssl.c -lcrypto 2> "$openssl.log"; then
+    echo 'skipped OpenSSL: its headers, or a C compiler, are not there'
+    openssl=
+  fi
+}
+
+# by_openssl ARGUMENT..: sets `took` to the least microseconds of a run and `sum` to its checksum. They are what the program tells of its
+# loop, so that loading the library is not counted.
+by_openssl() {
+  local turn time
+  took=
+  for ((turn = 0; turn < ${turns:-5}; turn++)); do
+    read -r sum time < <("$openssl" "$@")
+    if [ -z "$took" ] || [ "$time" -lt "$took" ]; then took=$time; fi
+  done
+}
