@@ -1,6 +1,6 @@
 //! `painted PROGRAM ADDRESS INPUT`: how much stack the calls of one function take. The program runs on the input. Each time that it comes
 //! to the function at this address (as `nm` prints it), the stack below is painted; when the function returns, the paint that is gone
-//! tells how deep the stack went. Prints the octets of the deepest call, its return address among them. For Linux on x86-64.
+//! tells how deep the stack went. Prints the octets of each call on a line, its return address among them. For Linux on x86-64.
 //!
 //! What a frame takes and does not write is not seen below the last octet that is written.
 
@@ -143,16 +143,16 @@ fn base(id: c_int) -> Result<u64> {
     u64::from_str_radix(start, 16).map_err(Error::other)
 }
 
-/// The octets of the deepest call.
-fn deepest(program: &str, address: &str, input: &str) -> Result<u64> {
+/// The octets of each call.
+fn depths(program: &str, address: &str, input: &str) -> Result<Vec<u64>> {
     let address = u64::from_str_radix(address, 16).map_err(Error::other)?;
     let traced = Traced::start(program, input)?;
     let at = base(traced.id)? + address;
-    let mut most = None;
+    let mut depths = Vec::new();
     while traced.go_to(at)? {
-        most = most.max(Some(traced.depth(at)?));
+        depths.push(traced.depth(at)?);
     }
-    most.ok_or_else(|| Error::other("the function is not called"))
+    Ok(depths)
 }
 
 fn main() -> ExitCode {
@@ -161,9 +161,9 @@ fn main() -> ExitCode {
         eprintln!("painted PROGRAM ADDRESS INPUT");
         return ExitCode::from(2);
     };
-    match deepest(program, address, input) {
-        Ok(octets) => {
-            println!("{octets}");
+    match depths(program, address, input) {
+        Ok(depths) => {
+            depths.iter().for_each(|octets| println!("{octets}"));
             ExitCode::SUCCESS
         }
         Err(error) => {
