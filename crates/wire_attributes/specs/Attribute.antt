@@ -4,6 +4,7 @@ use mathlib.Core.List.{List}
 use mathlib.Core.Bool.{Bool}
 use lib.ListN.{length}
 use lib.Dec.{leb}
+use Rattle.ikev2_numbers.specs.Codes.{attributeHeadOctets, formatBit, shortHeadOctets}
 use Rattle.octets.specs.Walk.{be16, part, either}
 
 -- document 01: "top bit 1: 15-bit type and 2-octet value. Top bit 0: type, length 2, value"
@@ -14,17 +15,17 @@ pub record Attribute : Type 0 where
 
 -- the format TV (top bit 1)
 abbrev pub isShort : List ℕ → Bool
-isShort s = leb 32768 (be16 s 0)
+isShort s = leb formatBit (be16 s 0)
 
 abbrev pub kindOf : List ℕ → ℕ
-kindOf s = be16 s 0 % 32768
+kindOf s = be16 s 0 % formatBit
 
 -- where its value starts, and how many octets it takes
 abbrev pub startOf : List ℕ → ℕ
-startOf s = either (isShort s) 2 4
+startOf s = either (isShort s) shortHeadOctets attributeHeadOctets
 
 abbrev pub sizeOf : List ℕ → ℕ
-sizeOf s = either (isShort s) 4 (4 + be16 s 2)
+sizeOf s = either (isShort s) attributeHeadOctets (attributeHeadOctets + be16 s 2)
 
 abbrev pub valueOf : List ℕ → List ℕ
 valueOf s = part s (startOf s) (sizeOf s)
@@ -34,7 +35,7 @@ attributeOf s = record { short = isShort s; kind = kindOf s; value = valueOf s }
 
 -- the octets before its value, and all its octets
 abbrev pub leadOf : Attribute → ℕ
-leadOf a = either (a .short) 2 4
+leadOf a = either (a .short) shortHeadOctets attributeHeadOctets
 
 abbrev pub spanOf : Attribute → ℕ
 spanOf a = leadOf a + length (a .value)

@@ -5,6 +5,7 @@ use mathlib.Core.Path.{_≡_}
 use mathlib.Core.List.{List, _++_}
 use mathlib.Core.Bool.{false}
 use lib.ListN.{length}
+use Rattle.ikev2_numbers.specs.Codes.{attributeHeadOctets, formatBit}
 use Rattle.octets.specs.Walk.{be16}
 use Rattle.octets.specs.Breaks.{BreaksStructure, BreaksInRow}
 use Rattle.wire_attributes.specs.Attribute.{Attribute}
@@ -14,9 +15,9 @@ use Rattle.wire_attributes.specs.declared.tables.Place.{Place}
 
 pub data FaultOfAttribute (p : Place) (s : List ℕ) : Type 0 where
   -- "one cut short has begun"
-  cut : length s < 4 → FaultOfAttribute p s
+  cut : length s < attributeHeadOctets → FaultOfAttribute p s
   -- top bit 0: the value that its length counts is not all there
-  runs-past : be16 s 0 < 32768 → length s < 4 + be16 s 2 → FaultOfAttribute p s
+  runs-past : be16 s 0 < formatBit → length s < attributeHeadOctets + be16 s 2 → FaultOfAttribute p s
   -- all its octets are there, it is read in this place, and it has not the format or size of the tables
   unformed : (o rest : List ℕ) {a : Attribute} → s ≡ o ++ rest → Format o a → formedIn p a ≡ false → FaultOfAttribute p s
 

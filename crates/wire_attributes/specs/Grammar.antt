@@ -4,6 +4,7 @@ use mathlib.Core.Path.{_≡_}
 use mathlib.Core.List.{List}
 use mathlib.Core.Bool.{true, false}
 use lib.ListN.{length, drop}
+use Rattle.ikev2_numbers.specs.Codes.{attributeHeadOctets, formatBit, shortHeadOctets}
 use Rattle.octets.specs.Walk.{be16, Row}
 use Rattle.wire_attributes.specs.Attribute.{Attribute}
 use Rattle.wire_attributes.specs.Layout.{formedIn}
@@ -12,18 +13,18 @@ use Rattle.wire_attributes.specs.declared.tables.Place.{Place}
 -- "top bit 1: 15-bit type and 2-octet value"
 pub record IsShort (o : List ℕ) (a : Attribute) : Type 0 where
   pub format : a .short ≡ true
-  pub top : 32768 ≤ be16 o 0
-  pub kind : be16 o 0 % 32768 ≡ a .kind
-  pub size : length o ≡ 4
-  pub value : drop 2 o ≡ a .value
+  pub top : formatBit ≤ be16 o 0
+  pub kind : be16 o 0 % formatBit ≡ a .kind
+  pub size : length o ≡ attributeHeadOctets
+  pub value : drop shortHeadOctets o ≡ a .value
 
 -- "top bit 0: type, length 2, value"
 pub record IsLong (o : List ℕ) (a : Attribute) : Type 0 where
   pub format : a .short ≡ false
-  pub top : be16 o 0 < 32768
-  pub kind : be16 o 0 % 32768 ≡ a .kind
-  pub size : length o ≡ 4 + be16 o 2
-  pub value : drop 4 o ≡ a .value
+  pub top : be16 o 0 < formatBit
+  pub kind : be16 o 0 % formatBit ≡ a .kind
+  pub size : length o ≡ attributeHeadOctets + be16 o 2
+  pub value : drop attributeHeadOctets o ≡ a .value
 
 pub data Format (o : List ℕ) (a : Attribute) : Type 0 where
   in-short : IsShort o a → Format o a

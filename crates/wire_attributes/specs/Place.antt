@@ -4,6 +4,8 @@
 use Prim.Native.Nat.{ℕ, _%_}
 use mathlib.Core.Bool.{Bool, true, not}
 use lib.Dec.{leb, eqb}
+use Rattle.ikev2_numbers.specs.Codes.{attributeDtd, attributeInitialMessageId, attributeKeyLength, attributeKeyLifetime, attributeSaKey}
+use Rattle.ikev2_numbers.specs.Codes.{attributeWrapKey, leastWrapped, mostWrapped, protocolGikeUpdate, transformEncr, wrappedBlock}
 use Rattle.octets.specs.Walk.{either, both}
 use Rattle.wire_attributes.specs.declared.tables.Place.{Place}
 use Rattle.wire_attributes.specs.declared.tables.Place.the-variants as place
@@ -12,18 +14,20 @@ use Rattle.wire_attributes.specs.declared.tables.Meaning.the-variants as
 
 -- the table: a place, an attribute's type, what it is there (RFC 7296, section 3.3.5; RFC 9838, sections 4.4.2.2, 4.4.3.1, 4.5.2, 4.5.3)
 abbrev pub meaningOf : Place → ℕ → Meaning
-meaningOf place.EncryptionTransform k = either (eqb k 14) meaning.KeyLength meaning.Skipped
+meaningOf place.EncryptionTransform k = either (eqb k attributeKeyLength) meaning.KeyLength meaning.Skipped
 meaningOf place.OtherTransform k = meaning.Skipped
-meaningOf place.RekeyPolicy k = either (eqb k 1) meaning.KeyLifetime (either (eqb k 2) meaning.InitialMessageId meaning.Skipped)
-meaningOf place.DataPolicy k = either (eqb k 1) meaning.KeyLifetime meaning.Skipped
-meaningOf place.GroupWidePolicy k = either (eqb k 2) meaning.DeactivationDelay meaning.Skipped
-meaningOf place.RekeyBag k = either (eqb k 1) meaning.SaKey meaning.Skipped
-meaningOf place.DataBag k = either (eqb k 1) meaning.SaKey meaning.Skipped
-meaningOf place.MemberBag k = either (eqb k 1) meaning.WrapKey meaning.Skipped
+meaningOf place.RekeyPolicy k =
+    either (eqb k attributeKeyLifetime) meaning.KeyLifetime
+    (either (eqb k attributeInitialMessageId) meaning.InitialMessageId meaning.Skipped)
+meaningOf place.DataPolicy k = either (eqb k attributeKeyLifetime) meaning.KeyLifetime meaning.Skipped
+meaningOf place.GroupWidePolicy k = either (eqb k attributeDtd) meaning.DeactivationDelay meaning.Skipped
+meaningOf place.RekeyBag k = either (eqb k attributeSaKey) meaning.SaKey meaning.Skipped
+meaningOf place.DataBag k = either (eqb k attributeSaKey) meaning.SaKey meaning.Skipped
+meaningOf place.MemberBag k = either (eqb k attributeWrapKey) meaning.WrapKey meaning.Skipped
 
 -- a wrapped key's value: Key ID 4, KWK ID 4, then 16 to 264 octets, a multiple of 8 (document 01)
 abbrev pub wrappedSize : ℕ → Bool
-wrappedSize n = both (leb 24 n) (both (leb n 272) (eqb (n % 8) 0))
+wrappedSize n = both (leb leastWrapped n) (both (leb n mostWrapped) (eqb (n % wrappedBlock) 0))
 
 -- a number of 4 octets, TLV: GSA_INITIAL_MESSAGE_ID, and GSA_KEY_LIFETIME, "a 4-octet unsigned integer" (RFC 9838, section 4.4.2.2.1)
 abbrev pub fourOctets : Bool → ℕ → Bool
@@ -41,10 +45,10 @@ formed meaning.WrapKey short n = both (not short) (wrappedSize n)
 
 -- a transform of type 1 (Encryption Algorithm), a policy or a Group Key Bag of protocol 6 (GIKE_UPDATE, the Rekey SA)
 abbrev pub inTransform : ℕ → Place
-inTransform t = either (eqb t 1) place.EncryptionTransform place.OtherTransform
+inTransform t = either (eqb t transformEncr) place.EncryptionTransform place.OtherTransform
 
 abbrev pub inPolicy : ℕ → Place
-inPolicy p = either (eqb p 6) place.RekeyPolicy place.DataPolicy
+inPolicy p = either (eqb p protocolGikeUpdate) place.RekeyPolicy place.DataPolicy
 
 abbrev pub inBag : ℕ → Place
-inBag p = either (eqb p 6) place.RekeyBag place.DataBag
+inBag p = either (eqb p protocolGikeUpdate) place.RekeyBag place.DataBag

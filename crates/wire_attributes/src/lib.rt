@@ -4,6 +4,9 @@ ghost use Prim.Native.Nat.{_+_, _<_};
 ghost use lib.ListN.{length, drop};
 ghost use Rattle.wire_attributes.specs.Layout.{attribute, attributes};
 ghost use Rattle.wire_attributes.specs.Answers.{layoutOf, spotOf, valueAt, valueStart, readOf};
+use ikev2_numbers::ATTRIBUTE_HEAD;
+use ikev2_numbers::FORMAT_BIT;
+use ikev2_numbers::SHORT_HEAD;
 
 pub mod tables;
 
@@ -34,27 +37,27 @@ pub enum Read {
 pub fn attribute_read(s: &[u8]) -> Read
     ensures { λ r. ⌜ r ≡ readOf (now (s .entry)) ⌝ }
 {
-    if s.len() < 4 {
+    if s.len() < ATTRIBUTE_HEAD {
         return Read::Cut;
     }
     let t = octets::numbers::be16_at(s, 0);
-    if 32768 <= t {
+    if FORMAT_BIT <= t {
         return Read::Attribute {
             short: true,
-            kind: t % 32768,
-            start: 2,
-            end: 4,
+            kind: t % FORMAT_BIT,
+            start: SHORT_HEAD,
+            end: ATTRIBUTE_HEAD,
         };
     }
     let n = octets::numbers::be16_at(s, 2);
-    if s.len() - 4 < n {
+    if s.len() - ATTRIBUTE_HEAD < n {
         return Read::Cut;
     }
     Read::Attribute {
         short: false,
-        kind: t % 32768,
-        start: 4,
-        end: 4 + n,
+        kind: t % FORMAT_BIT,
+        start: ATTRIBUTE_HEAD,
+        end: ATTRIBUTE_HEAD + n,
     }
 }
 

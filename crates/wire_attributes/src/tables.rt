@@ -3,6 +3,17 @@ ghost use mathlib.Core.Path.{_≡_};
 ghost use Prim.Native.Nat.{_<_};
 ghost use Rattle.wire_attributes.specs.Place.{meaningOf, wrappedSize, fourOctets, formed, inTransform, inPolicy, inBag};
 ghost use Rattle.wire_attributes.specs.Tree.{codeOf};
+use ikev2_numbers::ENCR;
+use ikev2_numbers::GIKE_UPDATE;
+use ikev2_numbers::GSA_INITIAL_MESSAGE_ID;
+use ikev2_numbers::GSA_KEY_LIFETIME;
+use ikev2_numbers::GWP_DTD;
+use ikev2_numbers::KEY_LENGTH;
+use ikev2_numbers::LEAST_WRAPPED;
+use ikev2_numbers::MOST_WRAPPED;
+use ikev2_numbers::SA_KEY;
+use ikev2_numbers::WRAP_KEY;
+use ikev2_numbers::WRAPPED_BLOCK;
 
 // Where an attribute stands.
 pub enum Place {
@@ -33,46 +44,46 @@ pub fn meaning_in(place: Place, kind: usize) -> Meaning
 {
     match place {
         Place::EncryptionTransform => {
-            if kind == 14 {
+            if kind == KEY_LENGTH {
                 return Meaning::KeyLength;
             }
             Meaning::Skipped
         }
         Place::RekeyPolicy => {
-            if kind == 1 {
+            if kind == GSA_KEY_LIFETIME {
                 return Meaning::KeyLifetime;
             }
-            if kind == 2 {
+            if kind == GSA_INITIAL_MESSAGE_ID {
                 return Meaning::InitialMessageId;
             }
             Meaning::Skipped
         }
         Place::GroupWidePolicy => {
-            if kind == 2 {
+            if kind == GWP_DTD {
                 return Meaning::DeactivationDelay;
             }
             Meaning::Skipped
         }
         Place::RekeyBag => {
-            if kind == 1 {
+            if kind == SA_KEY {
                 return Meaning::SaKey;
             }
             Meaning::Skipped
         }
         Place::DataBag => {
-            if kind == 1 {
+            if kind == SA_KEY {
                 return Meaning::SaKey;
             }
             Meaning::Skipped
         }
         Place::MemberBag => {
-            if kind == 1 {
+            if kind == WRAP_KEY {
                 return Meaning::WrapKey;
             }
             Meaning::Skipped
         }
         Place::DataPolicy => {
-            if kind == 1 {
+            if kind == GSA_KEY_LIFETIME {
                 return Meaning::KeyLifetime;
             }
             Meaning::Skipped
@@ -85,13 +96,13 @@ pub fn meaning_in(place: Place, kind: usize) -> Meaning
 fn is_wrapped_size(n: usize) -> bool
     ensures { λ r. ⌜ r ≡ wrappedSize n ⌝ }
 {
-    if n < 24 {
+    if n < LEAST_WRAPPED {
         return false;
     }
-    if 272 < n {
+    if MOST_WRAPPED < n {
         return false;
     }
-    n % 8 == 0
+    n % WRAPPED_BLOCK == 0
 }
 
 // Whether a value stands as TLV and has four octets.
@@ -133,7 +144,7 @@ pub fn is_formed(m: Meaning, short: bool, n: usize) -> bool
 pub fn in_transform(kind: usize) -> Place
     ensures { λ r. ⌜ r ≡ inTransform kind ⌝ }
 {
-    if kind == 1 {
+    if kind == ENCR {
         return Place::EncryptionTransform;
     }
     Place::OtherTransform
@@ -143,7 +154,7 @@ pub fn in_transform(kind: usize) -> Place
 pub fn in_policy(protocol: usize) -> Place
     ensures { λ r. ⌜ r ≡ inPolicy protocol ⌝ }
 {
-    if protocol == 6 {
+    if protocol == GIKE_UPDATE {
         return Place::RekeyPolicy;
     }
     Place::DataPolicy
@@ -153,7 +164,7 @@ pub fn in_policy(protocol: usize) -> Place
 pub fn in_bag(protocol: usize) -> Place
     ensures { λ r. ⌜ r ≡ inBag protocol ⌝ }
 {
-    if protocol == 6 {
+    if protocol == GIKE_UPDATE {
         return Place::RekeyBag;
     }
     Place::DataBag

@@ -1,0 +1,138 @@
+// The code numbers of IKEv2 and G-IKEv2, and the sizes and places of their fields. Each stands here once, with the section that gives it;
+// `specs/Codes` has the same numbers for the definitions.
+
+// Exchange types (RFC 9838, section 9.2).
+pub const GSA_AUTH: usize = 39;
+
+pub const GSA_REGISTRATION: usize = 40;
+
+pub const GSA_REKEY: usize = 41;
+
+pub const GSA_INBAND_REKEY: usize = 42;
+
+// Payload types (RFC 7296, section 3.2; GSA and KD: RFC 9838, section 9.2). 0 ends the chain of payloads.
+pub const NO_PAYLOAD: usize = 0;
+
+pub const IDR: usize = 36;
+
+pub const CERT: usize = 37;
+
+pub const AUTH: usize = 39;
+
+pub const NOTIFY: usize = 41;
+
+pub const DELETE: usize = 42;
+
+pub const GSA: usize = 51;
+
+pub const KD: usize = 52;
+
+// Security protocols (RFC 7296, section 3.3.1; GIKE_UPDATE: RFC 9838, section 4.4.2). 0 stands in their place in a group-wide policy and in a
+// Member Key Bag (RFC 9838, sections 4.4.3 and 4.5.3).
+pub const NO_PROTOCOL: usize = 0;
+
+pub const AH: usize = 2;
+
+pub const ESP: usize = 3;
+
+pub const GIKE_UPDATE: usize = 6;
+
+// Transform types (RFC 7296, section 3.3.2; KWA and GCAUTH: RFC 9838, sections 4.4.2.1.2 and 4.4.2.1.1).
+pub const ENCR: usize = 1;
+
+pub const SN: usize = 5;
+
+pub const KWA: usize = 13;
+
+pub const GCAUTH: usize = 14;
+
+// The first octet of a transform (RFC 7296, section 3.3.2).
+pub const LAST_TRANSFORM: usize = 0;
+
+pub const MORE_TRANSFORMS: usize = 3;
+
+// Attribute types: of a transform (RFC 7296, section 3.3.5), a Group SA policy (RFC 9838, section 4.4.2.2), a group-wide policy (section
+// 4.4.3.1), a Group Key Bag (section 4.5.2) and a Member Key Bag (section 4.5.3).
+pub const KEY_LENGTH: usize = 14;
+
+pub const GSA_KEY_LIFETIME: usize = 1;
+
+pub const GSA_INITIAL_MESSAGE_ID: usize = 2;
+
+pub const GWP_DTD: usize = 2;
+
+pub const SA_KEY: usize = 1;
+
+pub const WRAP_KEY: usize = 1;
+
+// Traffic selector types (RFC 7296, section 3.13.1), the octets of a selector and of its addresses.
+pub const TS_IPV4_ADDR_RANGE: usize = 7;
+
+pub const TS_IPV6_ADDR_RANGE: usize = 8;
+
+pub const IPV4_SELECTOR: usize = 16;
+
+pub const IPV6_SELECTOR: usize = 40;
+
+pub const IPV4_ADDRESS: usize = 4;
+
+pub const IPV6_ADDRESS: usize = 16;
+
+// The IKE header (RFC 7296, section 3.1): its octets, where its fields stand, the major version in the high four bits of its octet. Document
+// 01: a frame has at most 16,384 octets.
+pub const HEADER: usize = 28;
+
+pub const MOST_OCTETS: usize = 16384;
+
+pub const FIRST_PAYLOAD_AT: usize = 16;
+
+pub const VERSION_AT: usize = 17;
+
+pub const EXCHANGE_AT: usize = 18;
+
+pub const MESSAGE_ID_AT: usize = 20;
+
+pub const LENGTH_AT: usize = 24;
+
+pub const MAJOR_VERSION: usize = 2;
+
+pub const MINOR_VERSIONS: usize = 16;
+
+// The generic payload header (RFC 7296, section 3.2): its octets, the critical bit, where the length stands in it. Policies, key bags,
+// selectors and transforms have their length in the same place.
+pub const PAYLOAD_HEADER: usize = 4;
+
+pub const CRITICAL: usize = 128;
+
+pub const STRUCTURE_LENGTH_AT: usize = 2;
+
+// Octets of the fixed fields: of a Delete payload's body (RFC 7296, section 3.11), of a policy or key bag up to its SPI (RFC 9838, sections
+// 4.4.2 and 4.5.2), of a transform (RFC 7296, section 3.3.2).
+pub const DELETE_HEAD: usize = 4;
+
+pub const POLICY_HEAD: usize = 4;
+
+pub const TRANSFORM_HEAD: usize = 8;
+
+// Octets of an SPI, by protocol (RFC 9838, section 4.4.2).
+pub const DATA_SPI: usize = 4;
+
+pub const REKEY_SPI: usize = 16;
+
+// Attributes (RFC 7296, section 3.3.5): the format bit, the octets of type and length, and of a type with its value in short form.
+pub const FORMAT_BIT: usize = 32768;
+
+pub const ATTRIBUTE_HEAD: usize = 4;
+
+pub const SHORT_HEAD: usize = 2;
+
+// The value of SA_KEY and WRAP_KEY: Key ID and KWK ID of four octets each, then 16 to 264 wrapped octets in blocks of 8 (document 01).
+pub const ID: usize = 4;
+
+pub const WRAPPED_AT: usize = 8;
+
+pub const LEAST_WRAPPED: usize = 24;
+
+pub const MOST_WRAPPED: usize = 272;
+
+pub const WRAPPED_BLOCK: usize = 8;
