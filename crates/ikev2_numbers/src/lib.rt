@@ -27,8 +27,8 @@ pub const GSA: usize = 51;
 
 pub const KD: usize = 52;
 
-// Security protocols (RFC 7296, section 3.3.1; GIKE_UPDATE: RFC 9838, section 4.4.2). 0 stands in their place in a group-wide policy and in a
-// Member Key Bag (RFC 9838, sections 4.4.3 and 4.5.3).
+// Security protocols (RFC 7296, section 3.3.1; GIKE_UPDATE: RFC 9838, section 4.4.2). 0 stands in their place in a group-wide policy and in
+// a Member Key Bag (RFC 9838, sections 4.4.3 and 4.5.3).
 pub const NO_PROTOCOL: usize = 0;
 
 pub const AH: usize = 2;
@@ -45,6 +45,16 @@ pub const SN: usize = 5;
 pub const KWA: usize = 13;
 
 pub const GCAUTH: usize = 14;
+
+// Transform IDs that document 01 takes beside those of its algorithm table: sequential and unspecified 32-bit sequence numbers (RFC 9838,
+// section 4.4.2.1.3), controller authentication that is implicit or by digital signature (section 4.4.2.1.1).
+pub const SEQUENTIAL: usize = 0;
+
+pub const UNSPECIFIED: usize = 2;
+
+pub const IMPLICIT: usize = 1;
+
+pub const DIGITAL_SIGNATURE: usize = 2;
 
 // The first octet of a transform (RFC 7296, section 3.3.2).
 pub const LAST_TRANSFORM: usize = 0;
@@ -78,8 +88,22 @@ pub const IPV4_ADDRESS: usize = 4;
 
 pub const IPV6_ADDRESS: usize = 16;
 
-// The IKE header (RFC 7296, section 3.1): its octets, where its fields stand, the major version in the high four bits of its octet. Document
-// 01: a frame has at most 16,384 octets.
+// Where the fields of a selector stand (RFC 7296, section 3.13.1): start port, end port, starting address with the ending one behind it.
+pub const START_PORT_AT: usize = 4;
+
+pub const END_PORT_AT: usize = 6;
+
+pub const ADDRESSES_AT: usize = 8;
+
+// The first octet of a group address: 224.0.0.0/4 and ff00::/8 (document 01).
+pub const IPV4_GROUP_FIRST: usize = 224;
+
+pub const IPV4_GROUP_LAST: usize = 239;
+
+pub const IPV6_GROUP: usize = 255;
+
+// The IKE header (RFC 7296, section 3.1): its octets, where its fields stand, the major version in the high four bits of its octet.
+// Document 01: a frame has at most 16,384 octets.
 pub const HEADER: usize = 28;
 
 pub const MOST_OCTETS: usize = 16384;
@@ -113,6 +137,13 @@ pub const DELETE_HEAD: usize = 4;
 pub const POLICY_HEAD: usize = 4;
 
 pub const TRANSFORM_HEAD: usize = 8;
+
+// Where the type and the ID of a transform stand, and the count of SPIs in a Delete payload's body (the same sections).
+pub const TRANSFORM_TYPE_AT: usize = 4;
+
+pub const TRANSFORM_ID_AT: usize = 6;
+
+pub const DELETE_COUNT_AT: usize = 2;
 
 // Octets of an SPI, by protocol (RFC 9838, section 4.4.2).
 pub const DATA_SPI: usize = 4;

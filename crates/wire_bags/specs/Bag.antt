@@ -3,6 +3,7 @@
 use Prim.Native.Nat.{ℕ}
 use mathlib.Core.List.{List}
 use lib.Dec.{eqb}
+use Rattle.ikev2_numbers.specs.Codes.{structureLengthAt}
 use Rattle.octets.specs.Numbers.{oct}
 use Rattle.octets.specs.Walk.{be16, either, Reader, mapped, opened, within, many}
 use Rattle.wire_attributes.specs.Attribute.{Attribute}
@@ -36,7 +37,7 @@ bagOf s l =
     (groupKeys (record { protocol = oct s 0; spi = spiOf s; keys = saKeys (inBag (oct s 0)) l }))
 
 unfoldable pub bag : Reader Bag
-bag b s = opened b (headFits s) (mapped (bagOf s) (within (headSize s) (be16 s 2) (attributes (placeOf (oct s 0))) b s))
+bag b s = opened b (headFits s) (mapped (bagOf s) (within (headSize s) (be16 s structureLengthAt) (attributes (placeOf (oct s 0))) b s))
 
 -- the bags that a KD payload's body is, to its end
 abbrev pub bags : Reader (List Bag)

@@ -2,6 +2,7 @@
 -- payload, and b the offset of that first octet.
 use Prim.Native.Nat.{ℕ, _+_}
 use mathlib.Core.List.{List}
+use Rattle.ikev2_numbers.specs.Codes.{policyHeadOctets, structureLengthAt}
 use Rattle.octets.specs.Numbers.{oct}
 use Rattle.octets.specs.Walk.{be16, part}
 use Rattle.octets.specs.Breaks.{BreaksStructure, BreaksInRow}
@@ -15,7 +16,8 @@ use Rattle.wire_bags.specs.Grammar.{IsBag}
 abbrev pub BreaksBag : ℕ → List ℕ → ℕ → Type 0
 BreaksBag b s o =
     BreaksStructure (FaultOfHead s)
-    (BreaksAttributes (placeOf (oct s 0)) (b + (4 + spiSize (oct s 0))) (part s (4 + spiSize (oct s 0)) (be16 s 2)) o) b o
+    (BreaksAttributes (placeOf (oct s 0)) (b + (policyHeadOctets + spiSize (oct s 0)))
+    (part s (policyHeadOctets + spiSize (oct s 0)) (be16 s structureLengthAt)) o) b o
 
 -- bags to the end
 abbrev pub BreaksBags : ℕ → List ℕ → ℕ → Type 0

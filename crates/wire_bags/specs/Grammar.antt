@@ -3,6 +3,7 @@ use Prim.Native.Nat.{ℕ, _+_, _<_, _≤_}
 use mathlib.Core.Path.{_≡_}
 use mathlib.Core.List.{List}
 use lib.ListN.{length, drop}
+use Rattle.ikev2_numbers.specs.Codes.{policyHeadOctets, structureLengthAt}
 use Rattle.octets.specs.Numbers.{oct}
 use Rattle.octets.specs.Walk.{be16, part, Row}
 use Rattle.wire_attributes.specs.Attribute.{Attribute}
@@ -18,20 +19,20 @@ pub record IsGroupKeyBag (o : List ℕ) (x : GroupKeyBag) : Type 0 where
   pub protocol : oct o 0 ≡ x .protocol
   pub known : 0 < spiSize (x .protocol)
   pub spiOctets : oct o 1 ≡ spiSize (x .protocol)
-  pub size : be16 o 2 ≡ length o
-  pub least : 4 + spiSize (x .protocol) ≤ length o
-  pub spi : part o 4 (4 + spiSize (x .protocol)) ≡ x .spi
+  pub size : be16 o structureLengthAt ≡ length o
+  pub least : policyHeadOctets + spiSize (x .protocol) ≤ length o
+  pub spi : part o policyHeadOctets (policyHeadOctets + spiSize (x .protocol)) ≡ x .spi
   pub attributes : List Attribute
-  pub held : Attributes (inBag (x .protocol)) (drop (4 + spiSize (x .protocol)) o) attributes
+  pub held : Attributes (inBag (x .protocol)) (drop (policyHeadOctets + spiSize (x .protocol)) o) attributes
   pub keys : saKeys (inBag (x .protocol)) attributes ≡ x .keys
 
 -- "Member Key Bag (0, reserved, length 2, attributes; WRAP_KEY 1, ..)"
 pub record IsMemberKeyBag (o : List ℕ) (x : MemberKeyBag) : Type 0 where
   pub first : oct o 0 ≡ 0
-  pub size : be16 o 2 ≡ length o
-  pub least : 4 ≤ length o
+  pub size : be16 o structureLengthAt ≡ length o
+  pub least : policyHeadOctets ≤ length o
   pub attributes : List Attribute
-  pub held : Attributes place.MemberBag (drop 4 o) attributes
+  pub held : Attributes place.MemberBag (drop policyHeadOctets o) attributes
   pub keys : wrapKeys place.MemberBag attributes ≡ x .keys
 
 pub data IsBag (o : List ℕ) : Bag → Type 0 where

@@ -4,6 +4,9 @@ ghost use Prim.Native.Nat.{_+_, _<_};
 ghost use lib.ListN.{length};
 ghost use Rattle.wire_attributes.specs.Answers.{layoutOf, spotOf};
 ghost use Rattle.wire_bags.specs.Bag.{placeOf, bag, bags};
+use ikev2_numbers::NO_PROTOCOL;
+use ikev2_numbers::POLICY_HEAD;
+use ikev2_numbers::STRUCTURE_LENGTH_AT;
 use wire_attributes::Layout;
 use wire_attributes::Spot;
 use wire_attributes::tables::Place;
@@ -12,7 +15,7 @@ use wire_attributes::tables::Place;
 pub fn place_of(first: usize) -> Place
     ensures { λ r. ⌜ r ≡ placeOf first ⌝ }
 {
-    if first == 0 {
+    if first == NO_PROTOCOL {
         return Place::MemberBag;
     }
     wire_attributes::tables::in_bag(first)
@@ -25,8 +28,8 @@ pub fn bag_spot(s: &[u8], base: usize) -> Spot
 {
     if wire_policies::head_fits(s) {
         let p = octets::wide(s[0]);
-        let n = octets::numbers::be16_at(s, 2);
-        let z = 4 + wire_policies::spi_size(p);
+        let n = octets::numbers::be16_at(s, STRUCTURE_LENGTH_AT);
+        let z = POLICY_HEAD + wire_policies::spi_size(p);
         match wire_attributes::are_attributes(place_of(p), &s[z..n], base + z) {
             Layout::Whole => Spot::Ends(n),
             Layout::Broken(o) => Spot::Broken(o),

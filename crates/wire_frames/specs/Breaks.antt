@@ -5,6 +5,9 @@ use Prim.Native.Nat.{ℕ, _+_, _*_, _/_, _<_}
 use mathlib.Core.Path.{_≡_}
 use mathlib.Core.List.{List}
 use lib.ListN.{length, drop}
+use Rattle.ikev2_numbers.specs.Codes.{dataSpiOctets, deleteCountAt, deleteHeadOctets, firstPayloadAt, headerOctets, lengthAt}
+use Rattle.ikev2_numbers.specs.Codes.{majorVersion, minorVersions, mostOctets, payloadDelete, payloadGsa, payloadHeaderOctets, payloadKd}
+use Rattle.ikev2_numbers.specs.Codes.{protocolEsp, structureLengthAt, versionAt}
 use Rattle.octets.specs.Numbers.{oct}
 use Rattle.octets.specs.Walk.{be16, be32, part, Spans}
 use Rattle.octets.specs.Breaks.{FaultOfLength, BreaksStructure, BreaksDue, BreaksInChain}
@@ -15,36 +18,41 @@ use Rattle.wire_frames.specs.Grammar.{IsPayload}
 
 -- the body of D: "protocol, SPI size, count 2, SPIs; size times count fills the body, and the size is 4 for ESP"
 pub data FaultOfDelete (s : List ℕ) : Type 0 where
-  cut : length s < 4 → FaultOfDelete s
-  unfilled : (4 + oct s 1 * be16 s 2 ≡ length s → ⊥) → FaultOfDelete s
-  other-size : oct s 0 ≡ 3 → (oct s 1 ≡ 4 → ⊥) → FaultOfDelete s
+  cut : length s < deleteHeadOctets → FaultOfDelete s
+  unfilled : (deleteHeadOctets + oct s 1 * be16 s deleteCountAt ≡ length s → ⊥) → FaultOfDelete s
+  other-size : oct s 0 ≡ protocolEsp → (oct s 1 ≡ dataSpiOctets → ⊥) → FaultOfDelete s
 
 -- A PAYLOAD of the kind k, and s the octets from its first on, to the end of the frame: "next payload, critical bit and reserved, length 2
 -- (header included)". D's body holds none of the six structures: it is the payload's own
 pub data FaultOfPayload (k : ℕ) (s : List ℕ) : Type 0 where
-  by-length : FaultOfLength 4 s → FaultOfPayload k s
-  in-delete : k ≡ 42 → FaultOfDelete (part s 4 (be16 s 2)) → FaultOfPayload k s
+  by-length : FaultOfLength payloadHeaderOctets s → FaultOfPayload k s
+  in-delete : k ≡ payloadDelete → FaultOfDelete (part s payloadHeaderOctets (be16 s structureLengthAt)) → FaultOfPayload k s
 
 -- what it holds: GSA policies, KD key bags, the others nothing that is read
 pub data BreaksContent (k b : ℕ) (s : List ℕ) (o : ℕ) : Type 0 where
-  in-gsa : k ≡ 51 → BreaksPolicies b s o → BreaksContent k b s o
-  in-kd : k ≡ 52 → BreaksBags b s o → BreaksContent k b s o
+  in-gsa : k ≡ payloadGsa → BreaksPolicies b s o → BreaksContent k b s o
+  in-kd : k ≡ payloadKd → BreaksBags b s o → BreaksContent k b s o
 
 -- one that "next payload" names and of which not one octet is there counts for the header, at 0
 abbrev pub BreaksPayload : ℕ → ℕ → List ℕ → ℕ → Type 0
-BreaksPayload k b s o = BreaksDue 0 s (BreaksStructure (FaultOfPayload k s) (BreaksContent k (b + 4) (part s 4 (be16 s 2)) o) b o) o
+BreaksPayload k b s o =
+    BreaksDue 0 s
+    (BreaksStructure (FaultOfPayload k s)
+    (BreaksContent k (b + payloadHeaderOctets) (part s payloadHeaderOctets (be16 s structureLengthAt)) o) b o) o
 
 -- THE HEADER: "under 28 or over 16,384 octets, header length unequal to the frame's, major version not 2"
 pub data FaultOfHeader (s : List ℕ) : Type 0 where
-  under : length s < 28 → FaultOfHeader s
-  over : 16384 < length s → FaultOfHeader s
-  other-length : (be32 s 24 ≡ length s → ⊥) → FaultOfHeader s
-  other-version : (oct s 17 / 16 ≡ 2 → ⊥) → FaultOfHeader s
+  under : length s < headerOctets → FaultOfHeader s
+  over : mostOctets < length s → FaultOfHeader s
+  other-length : (be32 s lengthAt ≡ length s → ⊥) → FaultOfHeader s
+  other-version : (oct s versionAt / minorVersions ≡ majorVersion → ⊥) → FaultOfHeader s
 
 -- what the header of the frame s holds: payloads up to the one with next payload 0, which "ends the frame exactly at its length"
 pub data BreaksPayloads (s : List ℕ) (o : ℕ) : Type 0 where
-  in-payload : BreaksInChain noneNext IsPayload BreaksPayload (oct s 16) 28 (drop 28 s) o → BreaksPayloads s o
-  left-over : {l : List Payload} {rest : List ℕ} → Spans noneNext IsPayload (oct s 16) (drop 28 s) l rest → 0 < length rest → o ≡ 0
+  in-payload : BreaksInChain noneNext IsPayload BreaksPayload (oct s firstPayloadAt) headerOctets (drop headerOctets s) o
+      → BreaksPayloads s o
+  left-over : {l : List Payload} {rest : List ℕ} → Spans noneNext IsPayload (oct s firstPayloadAt) (drop headerOctets s) l rest
+      → 0 < length rest → o ≡ 0
       → BreaksPayloads s o
 
 -- A FRAME

@@ -5,6 +5,7 @@ use mathlib.Core.List.{List, [], _∷_}
 use mathlib.Core.Bool.{Bool, true}
 use lib.ListN.{length, take, drop}
 use lib.Dec.{leb, eqb}
+use Rattle.ikev2_numbers.specs.Codes.{dataSpiOctets, deleteCountAt, deleteHeadOctets, protocolEsp}
 use Rattle.octets.specs.Numbers.{oct}
 use Rattle.octets.specs.Walk.{be16, either, both}
 
@@ -18,9 +19,10 @@ stretches zero k s = []
 stretches (suc n) k s = take k s ∷ stretches n k (drop k s)
 
 abbrev pub deleteOf : List ℕ → Delete
-deleteOf s = record { protocol = oct s 0; spis = stretches (be16 s 2) (oct s 1) (drop 4 s) }
+deleteOf s = record { protocol = oct s 0; spis = stretches (be16 s deleteCountAt) (oct s 1) (drop deleteHeadOctets s) }
 
 abbrev pub deleteFits : List ℕ → Bool
 deleteFits s =
-    both (leb 4 (length s))
-    (both (eqb (4 + oct s 1 * be16 s 2) (length s)) (either (eqb (oct s 0) 3) (eqb (oct s 1) 4) true))
+    both (leb deleteHeadOctets (length s))
+    (both (eqb (deleteHeadOctets + oct s 1 * be16 s deleteCountAt) (length s))
+    (either (eqb (oct s 0) protocolEsp) (eqb (oct s 1) dataSpiOctets) true))

@@ -3,6 +3,7 @@
 use Prim.Native.Nat.{ℕ}
 use mathlib.Core.Bool.{true, false}
 use lib.Dec.{eqb}
+use Rattle.ikev2_numbers.specs.Codes.{gsaAuth, gsaInbandRekey, gsaRegistration, gsaRekey}
 use Rattle.octets.specs.Walk.{either}
 use Rattle.wire_frames.specs.declared.exchanges.Exchange.{Exchange}
 use Rattle.wire_frames.specs.declared.exchanges.Wanted.the-variants as wanted
@@ -106,4 +107,6 @@ other = record {
 }
 
 abbrev pub exchangeOf : ℕ → Exchange
-exchangeOf x = either (eqb x 39) registration (either (eqb x 40) registration (either (eqb x 41) rekey (either (eqb x 42) inband other)))
+exchangeOf x =
+    either (eqb x gsaAuth) registration (either (eqb x gsaRegistration) registration
+    (either (eqb x gsaRekey) rekey (either (eqb x gsaInbandRekey) inband other)))

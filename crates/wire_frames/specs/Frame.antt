@@ -5,6 +5,8 @@ use mathlib.Core.List.{List, [], _∷_}
 use mathlib.Core.Bool.{Bool, true}
 use lib.ListN.{drop}
 use lib.Dec.{eqb}
+use Rattle.ikev2_numbers.specs.Codes.{headerOctets, noPayload, payloadAuth, payloadCert, payloadDelete, payloadGsa, payloadHeaderOctets}
+use Rattle.ikev2_numbers.specs.Codes.{payloadIdr, payloadKd, payloadNotify, structureLengthAt}
 use Rattle.octets.specs.Numbers.{oct}
 use Rattle.octets.specs.Walk.{be16, either, Reading, whole, broken, Reader, mapped, opened, begun, within, Linked, chain}
 use Rattle.wire_attributes.specs.declared.Layout.{Layout}
@@ -18,8 +20,8 @@ use Rattle.wire_frames.specs.Delete.{Delete, deleteOf, deleteFits}
 -- "Known: IDr 36, CERT 37, AUTH 39, N 41, D 42, GSA 51, KD 52. The bodies of 36, 37, 39 and 41 are not read. Others are skipped"
 abbrev pub isKnown : ℕ → Bool
 isKnown k =
-    either (eqb k 36) true (either (eqb k 37) true (either (eqb k 39) true (either (eqb k 41) true
-    (either (eqb k 42) true (either (eqb k 51) true (eqb k 52))))))
+    either (eqb k payloadIdr) true (either (eqb k payloadCert) true (either (eqb k payloadAuth) true (either (eqb k payloadNotify) true
+    (either (eqb k payloadDelete) true (either (eqb k payloadGsa) true (eqb k payloadKd))))))
 
 pub data Content : Type 0 where
   gsa : List Policy → Content
@@ -52,7 +54,9 @@ unreadBody b s = whole unread []
 
 -- the body of a payload of the kind k whose offset is h
 unfoldable pub body : ℕ → ℕ → Reader Content
-body k h b s = either (eqb k 51) (gsaBody b s) (either (eqb k 52) (kdBody b s) (either (eqb k 42) (deleteBody h b s) (unreadBody b s)))
+body k h b s =
+    either (eqb k payloadGsa) (gsaBody b s)
+    (either (eqb k payloadKd) (kdBody b s) (either (eqb k payloadDelete) (deleteBody h b s) (unreadBody b s)))
 
 -- the payload s of the kind k, and the kind of the next
 abbrev pub payloadOf : ℕ → List ℕ → Content → Linked ℕ Payload
@@ -61,11 +65,11 @@ payloadOf k s c = record { item = record { kind = k; critical = isCritical s; co
 -- a payload that "next payload" names and of which not one octet is there counts for the header, at 0
 unfoldable pub payload : ℕ → Reader (Linked ℕ Payload)
 payload k b s =
-    begun 0 s (opened b (payloadFits s) (mapped (payloadOf k s) (within 4 (be16 s 2) (body k b) b s)))
+    begun 0 s (opened b (payloadFits s) (mapped (payloadOf k s) (within payloadHeaderOctets (be16 s structureLengthAt) (body k b) b s)))
 
 -- payloads one after the other, up to the one with next payload 0
 abbrev pub noneNext : ℕ → List ℕ → Bool
-noneNext k s = eqb k 0
+noneNext k s = eqb k noPayload
 
 abbrev pub payloads : ℕ → Reader (List Payload)
 payloads k b s = chain noneNext payload k b s
@@ -80,7 +84,7 @@ abbrev pub frameOf : List ℕ → List Payload → Frame
 frameOf s l = record { header = headerOf s; payloads = l }
 
 unfoldable pub frame : List ℕ → Reading Frame
-frame s = opened 0 (headerFits s) (mapped (frameOf s) (exactly (payloads (firstPayload s) 28 (drop 28 s))))
+frame s = opened 0 (headerFits s) (mapped (frameOf s) (exactly (payloads (firstPayload s) headerOctets (drop headerOctets s))))
 
 -- THE LAYOUT OF A FRAME: whole, or refusal 1 with the offset that it carries
 unfoldable pub frameLayout : List ℕ → Layout

@@ -4,6 +4,9 @@ use mathlib.Core.Path.{_≡_}
 use mathlib.Core.List.{List, [], _∷_, _++_}
 use lib.ListN.{length, take, drop}
 use lib.Dec.{leb}
+use Rattle.ikev2_numbers.specs.Codes.{criticalBit, dataSpiOctets, deleteCountAt, deleteHeadOctets, exchangeAt, firstPayloadAt}
+use Rattle.ikev2_numbers.specs.Codes.{headerOctets, lengthAt, majorVersion, messageIdAt, minorVersions, mostOctets, payloadDelete}
+use Rattle.ikev2_numbers.specs.Codes.{payloadGsa, payloadHeaderOctets, payloadKd, protocolEsp, structureLengthAt, versionAt}
 use Rattle.octets.specs.Numbers.{oct}
 use Rattle.octets.specs.Walk.{be16, be32, Spans}
 use Rattle.wire_policies.specs.Policy.{Policy}
@@ -24,37 +27,37 @@ joined (o ∷ l) = o ++ joined l
 
 -- "protocol, SPI size, count 2, SPIs; size times count fills the body, and the size is 4 for ESP"
 pub record IsDelete (s : List ℕ) (d : Delete) : Type 0 where
-  pub least : 4 ≤ length s
+  pub least : deleteHeadOctets ≤ length s
   pub protocol : oct s 0 ≡ d .protocol
-  pub count : be16 s 2 ≡ length (d .spis)
+  pub count : be16 s deleteCountAt ≡ length (d .spis)
   pub each : Each (oct s 1) (d .spis)
-  pub spis : drop 4 s ≡ joined (d .spis)
-  pub esp : d .protocol ≡ 3 → oct s 1 ≡ 4
+  pub spis : drop deleteHeadOctets s ≡ joined (d .spis)
+  pub esp : d .protocol ≡ protocolEsp → oct s 1 ≡ dataSpiOctets
 
 -- the body of a payload of the kind k
 pub data IsContent (k : ℕ) (s : List ℕ) : Content → Type 0 where
-  is-gsa : {l : List Policy} → k ≡ 51 → Policies s l → IsContent k s (gsa l)
-  is-kd : {l : List Bag} → k ≡ 52 → Bags s l → IsContent k s (kd l)
-  is-delete : {d : Delete} → k ≡ 42 → IsDelete s d → IsContent k s (delete d)
-  is-unread : (k ≡ 51 → ⊥) → (k ≡ 52 → ⊥) → (k ≡ 42 → ⊥) → IsContent k s unread
+  is-gsa : {l : List Policy} → k ≡ payloadGsa → Policies s l → IsContent k s (gsa l)
+  is-kd : {l : List Bag} → k ≡ payloadKd → Bags s l → IsContent k s (kd l)
+  is-delete : {d : Delete} → k ≡ payloadDelete → IsDelete s d → IsContent k s (delete d)
+  is-unread : (k ≡ payloadGsa → ⊥) → (k ≡ payloadKd → ⊥) → (k ≡ payloadDelete → ⊥) → IsContent k s unread
 
 -- "Payload: next payload, critical bit and reserved, length 2 (header included)"
 pub record IsPayload (k : ℕ) (o : List ℕ) (x : Payload) (next : ℕ) : Type 0 where
   pub kind : k ≡ x .kind
   pub following : oct o 0 ≡ next
   -- the critical bit is the top one of the octet
-  pub critical : leb 128 (oct o 1) ≡ x .critical
-  pub size : be16 o 2 ≡ length o
-  pub least : 4 ≤ length o
-  pub content : IsContent k (drop 4 o) (x .content)
+  pub critical : leb criticalBit (oct o 1) ≡ x .critical
+  pub size : be16 o structureLengthAt ≡ length o
+  pub least : payloadHeaderOctets ≤ length o
+  pub content : IsContent k (drop payloadHeaderOctets o) (x .content)
 
 -- "a plain 28-octet IKE header, then the opened payloads"; "Next payload 0 ends the frame exactly at its length"
 pub record IsFrame (s : List ℕ) (x : Frame) : Type 0 where
-  pub least : 28 ≤ length s
-  pub most : length s ≤ 16384
-  pub size : be32 s 24 ≡ length s
-  pub major : oct s 17 / 16 ≡ 2
-  pub spi : take 16 s ≡ x .header .spi
-  pub exchange : oct s 18 ≡ x .header .exchange
-  pub messageId : be32 s 20 ≡ x .header .messageId
-  pub payloads : Spans noneNext IsPayload (oct s 16) (drop 28 s) (x .payloads) []
+  pub least : headerOctets ≤ length s
+  pub most : length s ≤ mostOctets
+  pub size : be32 s lengthAt ≡ length s
+  pub major : oct s versionAt / minorVersions ≡ majorVersion
+  pub spi : take firstPayloadAt s ≡ x .header .spi
+  pub exchange : oct s exchangeAt ≡ x .header .exchange
+  pub messageId : be32 s messageIdAt ≡ x .header .messageId
+  pub payloads : Spans noneNext IsPayload (oct s firstPayloadAt) (drop headerOctets s) (x .payloads) []

@@ -5,6 +5,8 @@ use mathlib.Core.List.{List}
 use mathlib.Core.Bool.{Bool}
 use lib.ListN.{length, take}
 use lib.Dec.{leb, eqb}
+use Rattle.ikev2_numbers.specs.Codes.{criticalBit, exchangeAt, firstPayloadAt, headerOctets, lengthAt, majorVersion, messageIdAt}
+use Rattle.ikev2_numbers.specs.Codes.{minorVersions, mostOctets, payloadHeaderOctets, versionAt}
 use Rattle.octets.specs.Numbers.{oct}
 use Rattle.octets.specs.Walk.{be32, both, sized}
 
@@ -15,20 +17,21 @@ pub record Header : Type 0 where
   pub messageId : ℕ
 
 abbrev pub headerOf : List ℕ → Header
-headerOf s = record { spi = take 16 s; exchange = oct s 18; messageId = be32 s 20 }
+headerOf s = record { spi = take firstPayloadAt s; exchange = oct s exchangeAt; messageId = be32 s messageIdAt }
 
 abbrev pub firstPayload : List ℕ → ℕ
-firstPayload s = oct s 16
+firstPayload s = oct s firstPayloadAt
 
 -- number 1: "under 28 or over 16,384 octets, header length unequal to the frame's, major version not 2"
 abbrev pub headerFits : List ℕ → Bool
 headerFits s =
-    both (leb 28 (length s)) (both (leb (length s) 16384) (both (eqb (be32 s 24) (length s)) (eqb (oct s 17 / 16) 2)))
+    both (leb headerOctets (length s)) (both (leb (length s) mostOctets)
+    (both (eqb (be32 s lengthAt) (length s)) (eqb (oct s versionAt / minorVersions) majorVersion)))
 
 -- a payload: next payload 1, critical bit and reserved 1, length 2 (this header included)
 abbrev pub payloadFits : List ℕ → Bool
-payloadFits s = sized 4 s
+payloadFits s = sized payloadHeaderOctets s
 
 -- the critical bit is the top one of its octet, and the rest is reserved
 abbrev pub isCritical : List ℕ → Bool
-isCritical s = leb 128 (oct s 1)
+isCritical s = leb criticalBit (oct s 1)

@@ -1,6 +1,10 @@
 // What differs between exchanges (RFC 9838, section 9): one row for each.
 ghost use mathlib.Core.Path.{_≡_};
 ghost use Rattle.wire_frames.specs.Exchange.{exchangeOf};
+use ikev2_numbers::GSA_AUTH;
+use ikev2_numbers::GSA_INBAND_REKEY;
+use ikev2_numbers::GSA_REGISTRATION;
+use ikev2_numbers::GSA_REKEY;
 
 // What number 2 asks of the member before the frame, at its tick.
 pub enum Wanted {
@@ -53,16 +57,16 @@ pub struct Exchange {
 pub fn exchange_of(kind: usize) -> Exchange
     ensures { λ r. ⌜ r ≡ exchangeOf kind ⌝ }
 {
-    if kind == 39 {
+    if kind == GSA_AUTH {
         return registration();
     }
-    if kind == 40 {
+    if kind == GSA_REGISTRATION {
         return registration();
     }
-    if kind == 41 {
+    if kind == GSA_REKEY {
         return rekey();
     }
-    if kind == 42 {
+    if kind == GSA_INBAND_REKEY {
         return inband();
     }
     other()

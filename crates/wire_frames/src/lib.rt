@@ -7,6 +7,26 @@ ghost use Rattle.wire_frames.specs.Delete.{deleteFits};
 ghost use Rattle.wire_frames.specs.Frame.{body, payload, payloads, exactly};
 ghost use Rattle.wire_frames.specs.Laid.{Laid};
 ghost use Rattle.wire_frames.specs.inner.Answers.{headerRead, payloadRead};
+use ikev2_numbers::CRITICAL;
+use ikev2_numbers::DATA_SPI;
+use ikev2_numbers::DELETE;
+use ikev2_numbers::DELETE_COUNT_AT;
+use ikev2_numbers::DELETE_HEAD;
+use ikev2_numbers::ESP;
+use ikev2_numbers::EXCHANGE_AT;
+use ikev2_numbers::FIRST_PAYLOAD_AT;
+use ikev2_numbers::GSA;
+use ikev2_numbers::HEADER;
+use ikev2_numbers::KD;
+use ikev2_numbers::LENGTH_AT;
+use ikev2_numbers::MAJOR_VERSION;
+use ikev2_numbers::MESSAGE_ID_AT;
+use ikev2_numbers::MINOR_VERSIONS;
+use ikev2_numbers::MOST_OCTETS;
+use ikev2_numbers::NO_PAYLOAD;
+use ikev2_numbers::PAYLOAD_HEADER;
+use ikev2_numbers::STRUCTURE_LENGTH_AT;
+use ikev2_numbers::VERSION_AT;
 use wire_attributes::Layout;
 use wire_attributes::Spot;
 
@@ -26,22 +46,22 @@ pub enum HeaderRead {
 pub fn header_read(s: &[u8]) -> HeaderRead
     ensures { λ r. ⌜ r ≡ headerRead (now (s .entry)) ⌝ }
 {
-    if s.len() < 28 {
+    if s.len() < HEADER {
         return HeaderRead::Broken;
     }
-    if 16384 < s.len() {
+    if MOST_OCTETS < s.len() {
         return HeaderRead::Broken;
     }
-    if octets::numbers::be32_at(s, 24) as usize != s.len() {
+    if octets::numbers::be32_at(s, LENGTH_AT) as usize != s.len() {
         return HeaderRead::Broken;
     }
-    if octets::wide(s[17]) / 16 != 2 {
+    if octets::wide(s[VERSION_AT]) / MINOR_VERSIONS != MAJOR_VERSION {
         return HeaderRead::Broken;
     }
     HeaderRead::Header {
-        first: octets::wide(s[16]),
-        exchange: octets::wide(s[18]),
-        message_id: octets::numbers::be32_at(s, 20),
+        first: octets::wide(s[FIRST_PAYLOAD_AT]),
+        exchange: octets::wide(s[EXCHANGE_AT]),
+        message_id: octets::numbers::be32_at(s, MESSAGE_ID_AT),
     }
 }
 
@@ -59,11 +79,11 @@ pub enum PayloadRead {
 pub fn payload_read(s: &[u8]) -> PayloadRead
     ensures { λ r. ⌜ r ≡ payloadRead (now (s .entry)) ⌝ }
 {
-    if octets::numbers::is_sized(s, 4) {
+    if octets::numbers::is_sized(s, PAYLOAD_HEADER) {
         return PayloadRead::Payload {
             next: octets::wide(s[0]),
-            critical: 128 <= octets::wide(s[1]),
-            end: octets::numbers::be16_at(s, 2),
+            critical: CRITICAL <= octets::wide(s[1]),
+            end: octets::numbers::be16_at(s, STRUCTURE_LENGTH_AT),
         };
     }
     PayloadRead::Broken
@@ -73,15 +93,15 @@ pub fn payload_read(s: &[u8]) -> PayloadRead
 fn delete_fits(s: &[u8]) -> bool
     ensures { λ r. ⌜ r ≡ deleteFits (now (s .entry)) ⌝ }
 {
-    if s.len() < 4 {
+    if s.len() < DELETE_HEAD {
         return false;
     }
     let z = octets::wide(s[1]);
-    if 4 + z * octets::numbers::be16_at(s, 2) != s.len() {
+    if DELETE_HEAD + z * octets::numbers::be16_at(s, DELETE_COUNT_AT) != s.len() {
         return false;
     }
-    if octets::wide(s[0]) == 3 {
-        return z == 4;
+    if octets::wide(s[0]) == ESP {
+        return z == DATA_SPI;
     }
     true
 }
@@ -91,13 +111,13 @@ fn body_layout(kind: usize, s: &[u8], base: usize, holder: usize) -> Layout
     requires { ⌜ base + length (now s) < 4294967296 ⌝ }
     ensures { λ r. ⌜ r ≡ layoutOf (body kind holder base (now (s .entry))) ⌝ }
 {
-    if kind == 51 {
+    if kind == GSA {
         return wire_policies::are_policies(s, base);
     }
-    if kind == 52 {
+    if kind == KD {
         return wire_bags::are_bags(s, base);
     }
-    if kind == 42 {
+    if kind == DELETE {
         if delete_fits(s) {
             return Layout::Whole;
         }
@@ -119,7 +139,7 @@ pub fn payload_spot(kind: usize, s: &[u8], base: usize) -> Spot
             next: _,
             critical: _,
             end,
-        } => match body_layout(kind, &s[4..end], base + 4, base) {
+        } => match body_layout(kind, &s[PAYLOAD_HEADER..end], base + PAYLOAD_HEADER, base) {
             Layout::Whole => Spot::Ends(end),
             Layout::Broken(o) => Spot::Broken(o),
         },
@@ -134,7 +154,7 @@ fn payloads_layout(first: usize, s: &[u8], base: usize) -> Layout
 {
     let mut kind = first;
     let mut at = 0;
-    while kind != 0 {
+    while kind != NO_PAYLOAD {
         match payload_spot(kind, &s[at..], base + at) {
             Spot::Ends(e) => {
                 kind = octets::wide(s[at]);
@@ -160,7 +180,7 @@ pub fn frame_layout(s: &[u8]) -> Layout
             first,
             exchange: _,
             message_id: _,
-        } => payloads_layout(first, &s[28..], 28),
+        } => payloads_layout(first, &s[HEADER..], HEADER),
         HeaderRead::Broken => Layout::Broken(0),
     }
 }

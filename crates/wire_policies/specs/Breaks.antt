@@ -5,6 +5,8 @@ use mathlib.Core.Path.{_≡_}
 use mathlib.Core.List.{List, _++_}
 use mathlib.Core.Bool.{Bool, true}
 use lib.ListN.{length}
+use Rattle.ikev2_numbers.specs.Codes.{ipv4Range, ipv6Range, lastTransform, moreTransforms, noProtocol, policyHeadOctets, protocolAh}
+use Rattle.ikev2_numbers.specs.Codes.{protocolEsp, protocolGikeUpdate, structureLengthAt, transformHeadOctets, transformTypeAt}
 use Rattle.octets.specs.Numbers.{oct}
 use Rattle.octets.specs.Walk.{be16, part}
 use Rattle.octets.specs.Breaks.{FaultOfLength, BreaksStructure, BreaksDue, BreaksInChain, BreaksInRow}
@@ -19,9 +21,9 @@ use Rattle.wire_policies.specs.Grammar.{IsSelector, IsTransform, Transfo
 
 -- A SELECTOR: "type 7 (16 octets) or 8 (40 octets)"
 pub data FaultOfSelector (s : List ℕ) : Type 0 where
-  unknown : (oct s 0 ≡ 7 → ⊥) → (oct s 0 ≡ 8 → ⊥) → FaultOfSelector s
+  unknown : (oct s 0 ≡ ipv4Range → ⊥) → (oct s 0 ≡ ipv6Range → ⊥) → FaultOfSelector s
   cut : length s < selectorSize (oct s 0) → FaultOfSelector s
-  other-length : (be16 s 2 ≡ selectorSize (oct s 0) → ⊥) → FaultOfSelector s
+  other-length : (be16 s structureLengthAt ≡ selectorSize (oct s 0) → ⊥) → FaultOfSelector s
 
 -- one of which not one octet is there is missing in its policy; a selector holds nothing
 abbrev pub BreaksSelector : ℕ → ℕ → List ℕ → ℕ → Type 0
@@ -29,12 +31,14 @@ BreaksSelector h b s o = BreaksDue h s (BreaksStructure (FaultOfSelector s) ⊥ 
 
 -- A TRANSFORM: "3 (more) or 0 (last), reserved, length 2, type, reserved, ID 2, attributes"
 pub data FaultOfTransform (s : List ℕ) : Type 0 where
-  by-length : FaultOfLength 8 s → FaultOfTransform s
-  unmarked : (oct s 0 ≡ 3 → ⊥) → (oct s 0 ≡ 0 → ⊥) → FaultOfTransform s
+  by-length : FaultOfLength transformHeadOctets s → FaultOfTransform s
+  unmarked : (oct s 0 ≡ moreTransforms → ⊥) → (oct s 0 ≡ lastTransform → ⊥) → FaultOfTransform s
 
 abbrev pub BreaksTransform : ℕ → Bool → ℕ → List ℕ → ℕ → Type 0
 BreaksTransform h more b s o =
-    BreaksDue h s (BreaksStructure (FaultOfTransform s) (BreaksAttributes (inTransform (oct s 4)) (b + 8) (part s 8 (be16 s 2)) o) b o) o
+    BreaksDue h s
+    (BreaksStructure (FaultOfTransform s)
+    (BreaksAttributes (inTransform (oct s transformTypeAt)) (b + transformHeadOctets) (part s transformHeadOctets (be16 s structureLengthAt)) o) b o) o
 
 -- "one or more": the first is due, and each after a 3
 abbrev pub BreaksTransforms : ℕ → ℕ → List ℕ → ℕ → Type 0
@@ -54,15 +58,19 @@ pub data BreaksSaBody (h : ℕ) (p : Place) (b : ℕ) (s : List ℕ) (o : ℕ) :
 -- THE HEAD that policies and key bags share: "protocol (6 Rekey, 3 ESP, 2 AH), SPI size (16, 4, 4), length 2, SPI", or "0, reserved,
 -- length 2". "Another first octet breaks the layout, in KD too."
 pub data FaultOfHead (s : List ℕ) : Type 0 where
-  by-length : FaultOfLength (4 + spiSize (oct s 0)) s → FaultOfHead s
-  unknown : (oct s 0 ≡ 0 → ⊥) → (oct s 0 ≡ 6 → ⊥) → (oct s 0 ≡ 3 → ⊥) → (oct s 0 ≡ 2 → ⊥) → FaultOfHead s
-  other-size : (oct s 0 ≡ 0 → ⊥) → (oct s 1 ≡ spiSize (oct s 0) → ⊥) → FaultOfHead s
+  by-length : FaultOfLength (policyHeadOctets + spiSize (oct s 0)) s → FaultOfHead s
+  unknown : (oct s 0 ≡ noProtocol → ⊥) → (oct s 0 ≡ protocolGikeUpdate → ⊥)
+      → (oct s 0 ≡ protocolEsp → ⊥) → (oct s 0 ≡ protocolAh → ⊥) → FaultOfHead s
+  other-size : (oct s 0 ≡ noProtocol → ⊥) → (oct s 1 ≡ spiSize (oct s 0) → ⊥) → FaultOfHead s
 
 -- A POLICY at the offset b, and what it holds
 pub data BreaksHeld (b : ℕ) (s : List ℕ) (o : ℕ) : Type 0 where
-  in-wide : oct s 0 ≡ 0 → BreaksAttributes place.GroupWidePolicy (b + 4) (part s 4 (be16 s 2)) o → BreaksHeld b s o
-  in-sa : (oct s 0 ≡ 0 → ⊥)
-      → BreaksSaBody b (inPolicy (oct s 0)) (b + (4 + spiSize (oct s 0))) (part s (4 + spiSize (oct s 0)) (be16 s 2)) o → BreaksHeld b s o
+  in-wide : oct s 0 ≡ noProtocol
+      → BreaksAttributes place.GroupWidePolicy (b + policyHeadOctets) (part s policyHeadOctets (be16 s structureLengthAt)) o → BreaksHeld b s o
+  in-sa : (oct s 0 ≡ noProtocol → ⊥)
+      → BreaksSaBody b (inPolicy (oct s 0)) (b + (policyHeadOctets + spiSize (oct s 0)))
+      (part s (policyHeadOctets + spiSize (oct s 0)) (be16 s structureLengthAt)) o
+      → BreaksHeld b s o
 
 abbrev pub BreaksPolicy : ℕ → List ℕ → ℕ → Type 0
 BreaksPolicy b s o = BreaksStructure (FaultOfHead s) (BreaksHeld b s o) b o

@@ -4,6 +4,8 @@ use mathlib.Core.Path.{_≡_}
 use mathlib.Core.List.{List, _++_}
 use mathlib.Core.Bool.{Bool, true, false}
 use lib.ListN.{length, drop}
+use Rattle.ikev2_numbers.specs.Codes.{addressesAt, endPortAt, id, lastTransform, moreTransforms, policyHeadOctets, startPortAt}
+use Rattle.ikev2_numbers.specs.Codes.{structureLengthAt, transformHeadOctets, transformIdAt, transformTypeAt}
 use Rattle.octets.specs.Numbers.{oct}
 use Rattle.octets.specs.Walk.{be16, part, Spans, Row}
 use Rattle.wire_attributes.specs.Attribute.{Attribute}
@@ -21,26 +23,26 @@ pub record IsSelector (o : List ℕ) (x : Selector) : Type 0 where
   pub kind : oct o 0 ≡ x .kind
   pub known : 0 < selectorSize (x .kind)
   pub all : length o ≡ selectorSize (x .kind)
-  pub size : be16 o 2 ≡ selectorSize (x .kind)
+  pub size : be16 o structureLengthAt ≡ selectorSize (x .kind)
   pub protocol : oct o 1 ≡ x .protocol
-  pub startPort : be16 o 4 ≡ x .startPort
-  pub endPort : be16 o 6 ≡ x .endPort
-  pub startAddress : part o 8 (8 + addressSize (x .kind)) ≡ x .startAddress
-  pub endAddress : drop (8 + addressSize (x .kind)) o ≡ x .endAddress
+  pub startPort : be16 o startPortAt ≡ x .startPort
+  pub endPort : be16 o endPortAt ≡ x .endPort
+  pub startAddress : part o addressesAt (addressesAt + addressSize (x .kind)) ≡ x .startAddress
+  pub endAddress : drop (addressesAt + addressSize (x .kind)) o ≡ x .endAddress
 
 -- "3 (more) or 0 (last), reserved, length 2, type, reserved, ID 2, attributes" (RFC 7296, section 3.3.2)
 abbrev pub mark : Bool → ℕ
-mark true = 3
-mark false = 0
+mark true = moreTransforms
+mark false = lastTransform
 
 pub record IsTransform (more : Bool) (o : List ℕ) (t : Transform) (next : Bool) : Type 0 where
   pub first : oct o 0 ≡ mark next
-  pub size : be16 o 2 ≡ length o
-  pub least : 8 ≤ length o
-  pub kind : oct o 4 ≡ t .kind
-  pub id : be16 o 6 ≡ t .id
+  pub size : be16 o structureLengthAt ≡ length o
+  pub least : transformHeadOctets ≤ length o
+  pub kind : oct o transformTypeAt ≡ t .kind
+  pub id : be16 o transformIdAt ≡ t .id
   pub attributes : List Attribute
-  pub held : Attributes (inTransform (t .kind)) (drop 8 o) attributes
+  pub held : Attributes (inTransform (t .kind)) (drop transformHeadOctets o) attributes
   pub keyLengths : keyLengths (inTransform (t .kind)) attributes ≡ t .keyLengths
 
 -- one or more transforms, up to the last, and the octets after it
@@ -64,11 +66,11 @@ pub record IsGroupSa (o : List ℕ) (x : GroupSaPolicy) : Type 0 where
   pub protocol : oct o 0 ≡ x .protocol
   pub known : 0 < spiSize (x .protocol)
   pub spiOctets : oct o 1 ≡ spiSize (x .protocol)
-  pub size : be16 o 2 ≡ length o
-  pub least : 4 + spiSize (x .protocol) ≤ length o
-  pub spi : part o 4 (4 + spiSize (x .protocol)) ≡ x .spi
+  pub size : be16 o structureLengthAt ≡ length o
+  pub least : policyHeadOctets + spiSize (x .protocol) ≤ length o
+  pub spi : part o policyHeadOctets (policyHeadOctets + spiSize (x .protocol)) ≡ x .spi
   pub body : SaBody
-  pub holds : IsSaBody (inPolicy (x .protocol)) (drop (4 + spiSize (x .protocol)) o) body
+  pub holds : IsSaBody (inPolicy (x .protocol)) (drop (policyHeadOctets + spiSize (x .protocol)) o) body
   pub source : body .source ≡ x .source
   pub destination : body .destination ≡ x .destination
   pub transforms : body .suite .transforms ≡ x .transforms
@@ -78,10 +80,10 @@ pub record IsGroupSa (o : List ℕ) (x : GroupSaPolicy) : Type 0 where
 -- "group-wide policy (0, reserved, length 2, attributes)"
 pub record IsGroupWide (o : List ℕ) (x : GroupWidePolicy) : Type 0 where
   pub first : oct o 0 ≡ 0
-  pub size : be16 o 2 ≡ length o
-  pub least : 4 ≤ length o
+  pub size : be16 o structureLengthAt ≡ length o
+  pub least : policyHeadOctets ≤ length o
   pub attributes : List Attribute
-  pub held : Attributes place.GroupWidePolicy (drop 4 o) attributes
+  pub held : Attributes place.GroupWidePolicy (drop policyHeadOctets o) attributes
   pub deactivationDelays : deactivationDelays place.GroupWidePolicy attributes ≡ x .deactivationDelays
 
 pub data IsPolicy (o : List ℕ) : Policy → Type 0 where

@@ -5,6 +5,8 @@ use Prim.Native.Nat.{ℕ, _+_}
 use mathlib.Core.List.{List}
 use mathlib.Core.Bool.{Bool, true}
 use lib.Dec.{ltb, eqb}
+use Rattle.ikev2_numbers.specs.Codes.{dataSpiOctets, noProtocol, policyHeadOctets, protocolAh, protocolEsp, protocolGikeUpdate}
+use Rattle.ikev2_numbers.specs.Codes.{rekeySpiOctets, structureLengthAt}
 use Rattle.octets.specs.Numbers.{oct}
 use Rattle.octets.specs.Walk.{be16, part, either, both, sized, Reader, mapped, opened, within, andThen, many}
 use Rattle.wire_attributes.specs.Attribute.{Attribute}
@@ -18,23 +20,25 @@ use Rattle.wire_policies.specs.Transform.{Transform, transforms}
 
 -- THE HEAD that policies and key bags share: protocol or 0, SPI size or reserved, length, SPI
 abbrev pub spiSize : ℕ → ℕ
-spiSize p = either (eqb p 6) 16 (either (eqb p 3) 4 (either (eqb p 2) 4 0))
+spiSize p =
+    either (eqb p protocolGikeUpdate) rekeySpiOctets
+    (either (eqb p protocolEsp) dataSpiOctets (either (eqb p protocolAh) dataSpiOctets 0))
 
 -- 0 stands for the group-wide policy and the Member Key Bag, which have no SPI
 abbrev pub firstKnown : ℕ → Bool
-firstKnown p = either (eqb p 0) true (ltb 0 (spiSize p))
+firstKnown p = either (eqb p noProtocol) true (ltb 0 (spiSize p))
 
 abbrev pub spiSized : List ℕ → Bool
-spiSized s = either (eqb (oct s 0) 0) true (eqb (oct s 1) (spiSize (oct s 0)))
+spiSized s = either (eqb (oct s 0) noProtocol) true (eqb (oct s 1) (spiSize (oct s 0)))
 
 abbrev pub headSize : List ℕ → ℕ
-headSize s = 4 + spiSize (oct s 0)
+headSize s = policyHeadOctets + spiSize (oct s 0)
 
 abbrev pub headFits : List ℕ → Bool
 headFits s = both (sized (headSize s) s) (both (firstKnown (oct s 0)) (spiSized s))
 
 abbrev pub spiOf : List ℕ → List ℕ
-spiOf s = part s 4 (headSize s)
+spiOf s = part s policyHeadOctets (headSize s)
 
 -- THE TREE
 pub record GroupSaPolicy : Type 0 where
@@ -89,11 +93,11 @@ groupWideOf l = groupWide (record { deactivationDelays = deactivationDelays plac
 -- what the policy s, whose offset is h, holds after its head
 abbrev pub policyHolds : ℕ → List ℕ → Reader Policy
 policyHolds h s b r =
-    either (eqb (oct s 0) 0) (mapped groupWideOf (attributes place.GroupWidePolicy b r))
+    either (eqb (oct s 0) noProtocol) (mapped groupWideOf (attributes place.GroupWidePolicy b r))
     (mapped (groupSaOf s) (saBody h (inPolicy (oct s 0)) b r))
 
 unfoldable pub policy : Reader Policy
-policy b s = opened b (headFits s) (within (headSize s) (be16 s 2) (policyHolds b s) b s)
+policy b s = opened b (headFits s) (within (headSize s) (be16 s structureLengthAt) (policyHolds b s) b s)
 
 -- the policies that a GSA payload's body is, to its end
 abbrev pub policies : Reader (List Policy)

@@ -5,6 +5,8 @@ use mathlib.Core.List.{List}
 use mathlib.Core.Bool.{Bool}
 use lib.ListN.{length, drop}
 use lib.Dec.{leb, ltb, eqb}
+use Rattle.ikev2_numbers.specs.Codes.{addressesAt, endPortAt, ipv4AddressOctets, ipv4Range, ipv4SelectorOctets, ipv6AddressOctets}
+use Rattle.ikev2_numbers.specs.Codes.{ipv6Range, ipv6SelectorOctets, startPortAt, structureLengthAt}
 use Rattle.octets.specs.Numbers.{oct}
 use Rattle.octets.specs.Walk.{be16, part, either, both, whole, Reader, opened, begun}
 
@@ -18,26 +20,26 @@ pub record Selector : Type 0 where
 
 -- octets of an address and of a whole selector, by type; 0 for no type
 abbrev pub addressSize : ℕ → ℕ
-addressSize t = either (eqb t 7) 4 (either (eqb t 8) 16 0)
+addressSize t = either (eqb t ipv4Range) ipv4AddressOctets (either (eqb t ipv6Range) ipv6AddressOctets 0)
 
 abbrev pub selectorSize : ℕ → ℕ
-selectorSize t = either (eqb t 7) 16 (either (eqb t 8) 40 0)
+selectorSize t = either (eqb t ipv4Range) ipv4SelectorOctets (either (eqb t ipv6Range) ipv6SelectorOctets 0)
 
 abbrev pub selectorOf : List ℕ → Selector
 selectorOf s = record {
   kind = oct s 0;
   protocol = oct s 1;
-  startPort = be16 s 4;
-  endPort = be16 s 6;
-  startAddress = part s 8 (8 + addressSize (oct s 0));
-  endAddress = part s (8 + addressSize (oct s 0)) (selectorSize (oct s 0));
+  startPort = be16 s startPortAt;
+  endPort = be16 s endPortAt;
+  startAddress = part s addressesAt (addressesAt + addressSize (oct s 0));
+  endAddress = part s (addressesAt + addressSize (oct s 0)) (selectorSize (oct s 0));
 }
 
 -- its type is known, its length is the type's, and its octets are there
 abbrev pub selectorFits : List ℕ → Bool
 selectorFits s =
     let n = selectorSize (oct s 0) in
-    both (ltb 0 n) (both (leb n (length s)) (eqb (be16 s 2) n))
+    both (ltb 0 n) (both (leb n (length s)) (eqb (be16 s structureLengthAt) n))
 
 -- h is the offset of the policy that holds it
 unfoldable pub selector : ℕ → Reader Selector

@@ -3,6 +3,8 @@ use Prim.Native.Nat.{ℕ}
 use mathlib.Core.List.{List}
 use mathlib.Core.Bool.{Bool, true, not}
 use lib.Dec.{eqb}
+use Rattle.ikev2_numbers.specs.Codes.{id, lastTransform, moreTransforms, structureLengthAt, transformHeadOctets, transformIdAt}
+use Rattle.ikev2_numbers.specs.Codes.{transformTypeAt}
 use Rattle.octets.specs.Numbers.{oct}
 use Rattle.octets.specs.Walk.{be16, either, both, sized, Reader, mapped, opened, begun, within, Linked, chain}
 use Rattle.wire_attributes.specs.Attribute.{Attribute}
@@ -16,23 +18,28 @@ pub record Transform : Type 0 where
   pub keyLengths : List ℕ
 
 abbrev pub isMark : ℕ → Bool
-isMark m = either (eqb m 3) true (eqb m 0)
+isMark m = either (eqb m moreTransforms) true (eqb m lastTransform)
 
 abbrev pub transformFits : List ℕ → Bool
-transformFits s = both (sized 8 s) (isMark (oct s 0))
+transformFits s = both (sized transformHeadOctets s) (isMark (oct s 0))
 
 -- the transform whose attributes are l, and whether another follows
 abbrev pub transformOf : List ℕ → List Attribute → Linked Bool Transform
 transformOf s l = record {
-  item = record { kind = oct s 4; id = be16 s 6; keyLengths = keyLengths (inTransform (oct s 4)) l };
-  next = eqb (oct s 0) 3;
+  item = record {
+    kind = oct s transformTypeAt;
+    id = be16 s transformIdAt;
+    keyLengths = keyLengths (inTransform (oct s transformTypeAt)) l;
+  };
+  next = eqb (oct s 0) moreTransforms;
 }
 
 -- h is the offset of the policy that holds it
 unfoldable pub transform : ℕ → Bool → Reader (Linked Bool Transform)
 transform h more b s =
     begun h s
-    (opened b (transformFits s) (mapped (transformOf s) (within 8 (be16 s 2) (attributes (inTransform (oct s 4))) b s)))
+    (opened b (transformFits s) (mapped (transformOf s)
+    (within transformHeadOctets (be16 s structureLengthAt) (attributes (inTransform (oct s transformTypeAt))) b s)))
 
 -- "one or more": the first is due, and each after a 3
 abbrev pub noMore : Bool → List ℕ → Bool

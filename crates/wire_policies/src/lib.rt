@@ -6,6 +6,14 @@ ghost use lib.ListN.{length};
 ghost use Rattle.octets.specs.Walk.{be16, part};
 ghost use Rattle.wire_attributes.specs.Answers.{layoutOf, spotOf};
 ghost use Rattle.wire_policies.specs.Policy.{suite, saBody, spiSize, headSize, headFits, policyHolds, policy, policies};
+use ikev2_numbers::AH;
+use ikev2_numbers::DATA_SPI;
+use ikev2_numbers::ESP;
+use ikev2_numbers::GIKE_UPDATE;
+use ikev2_numbers::NO_PROTOCOL;
+use ikev2_numbers::POLICY_HEAD;
+use ikev2_numbers::REKEY_SPI;
+use ikev2_numbers::STRUCTURE_LENGTH_AT;
 use wire_attributes::Layout;
 use wire_attributes::Spot;
 use wire_attributes::tables::Place;
@@ -45,14 +53,14 @@ fn body_layout(place: Place, s: &[u8], base: usize, holder: usize) -> Layout
 pub fn spi_size(protocol: usize) -> usize
     ensures { λ r. ⌜ (r ≡ spiSize protocol) × (r < 17) ⌝ }
 {
-    if protocol == 6 {
-        return 16;
+    if protocol == GIKE_UPDATE {
+        return REKEY_SPI;
     }
-    if protocol == 3 {
-        return 4;
+    if protocol == ESP {
+        return DATA_SPI;
     }
-    if protocol == 2 {
-        return 4;
+    if protocol == AH {
+        return DATA_SPI;
     }
     0
 }
@@ -61,19 +69,19 @@ pub fn spi_size(protocol: usize) -> usize
 pub fn head_fits(s: &[u8]) -> bool
     ensures { λ r. ⌜ r ≡ headFits (now (s .entry)) ⌝ }
 {
-    if s.len() < 4 {
+    if s.len() < POLICY_HEAD {
         return false;
     }
     let p = octets::wide(s[0]);
-    if p == 0 {
-        return octets::numbers::is_sized(s, 4);
+    if p == NO_PROTOCOL {
+        return octets::numbers::is_sized(s, POLICY_HEAD);
     }
     let z = spi_size(p);
     if z == 0 {
         return false;
     }
     if octets::wide(s[1]) == z {
-        return octets::numbers::is_sized(s, 4 + z);
+        return octets::numbers::is_sized(s, POLICY_HEAD + z);
     }
     false
 }
@@ -85,9 +93,9 @@ fn policy_layout(s: &[u8], base: usize) -> Layout
         (part (now (s .entry)) (headSize (now (s .entry))) (be16 (now (s .entry)) 2))) ⌝ }
 {
     let p = octets::wide(s[0]);
-    let n = octets::numbers::be16_at(s, 2);
-    let z = 4 + spi_size(p);
-    if p == 0 {
+    let n = octets::numbers::be16_at(s, STRUCTURE_LENGTH_AT);
+    let z = POLICY_HEAD + spi_size(p);
+    if p == NO_PROTOCOL {
         return wire_attributes::are_attributes(Place::GroupWidePolicy, &s[z..n], base + z);
     }
     body_layout(
@@ -104,7 +112,7 @@ pub fn policy_spot(s: &[u8], base: usize) -> Spot
     ensures { λ r. ⌜ r ≡ spotOf (now (s .entry)) (policy base (now (s .entry))) ⌝ }
 {
     if head_fits(s) {
-        let n = octets::numbers::be16_at(s, 2);
+        let n = octets::numbers::be16_at(s, STRUCTURE_LENGTH_AT);
         match policy_layout(s, base) {
             Layout::Whole => Spot::Ends(n),
             Layout::Broken(o) => Spot::Broken(o),

@@ -3,17 +3,22 @@ ghost use mathlib.Core.Path.{_≡_};
 ghost use Prim.Native.Nat.{_<_};
 ghost use Rattle.wire_attributes.specs.Answers.{spotOf};
 ghost use Rattle.wire_policies.specs.Selector.{selectorSize, selector};
+use ikev2_numbers::IPV4_SELECTOR;
+use ikev2_numbers::IPV6_SELECTOR;
+use ikev2_numbers::STRUCTURE_LENGTH_AT;
+use ikev2_numbers::TS_IPV4_ADDR_RANGE;
+use ikev2_numbers::TS_IPV6_ADDR_RANGE;
 use wire_attributes::Spot;
 
 // The size of a selector by its type; 0 for no type. Internal.
 pub fn selector_size(kind: usize) -> usize
     ensures { λ r. ⌜ (r ≡ selectorSize kind) × (r < 41) ⌝ }
 {
-    if kind == 7 {
-        return 16;
+    if kind == TS_IPV4_ADDR_RANGE {
+        return IPV4_SELECTOR;
     }
-    if kind == 8 {
-        return 40;
+    if kind == TS_IPV6_ADDR_RANGE {
+        return IPV6_SELECTOR;
     }
     0
 }
@@ -32,7 +37,7 @@ pub fn selector_spot(s: &[u8], base: usize, holder: usize) -> Spot
     if s.len() < n {
         return Spot::Broken(base);
     }
-    if octets::numbers::be16_at(s, 2) == n {
+    if octets::numbers::be16_at(s, STRUCTURE_LENGTH_AT) == n {
         return Spot::Ends(n);
     }
     Spot::Broken(base)

@@ -5,6 +5,11 @@ ghost use Prim.Native.Nat.{_+_, _<_};
 ghost use lib.ListN.{length};
 ghost use Rattle.wire_attributes.specs.Answers.{spotOf};
 ghost use Rattle.wire_policies.specs.Transform.{transformFits, transform, transforms};
+use ikev2_numbers::LAST_TRANSFORM;
+use ikev2_numbers::MORE_TRANSFORMS;
+use ikev2_numbers::STRUCTURE_LENGTH_AT;
+use ikev2_numbers::TRANSFORM_HEAD;
+use ikev2_numbers::TRANSFORM_TYPE_AT;
 use wire_attributes::Layout;
 use wire_attributes::Spot;
 
@@ -12,12 +17,12 @@ use wire_attributes::Spot;
 fn transform_fits(s: &[u8]) -> bool
     ensures { λ r. ⌜ r ≡ transformFits (now (s .entry)) ⌝ }
 {
-    if octets::numbers::is_sized(s, 8) {
+    if octets::numbers::is_sized(s, TRANSFORM_HEAD) {
         let m = octets::wide(s[0]);
-        if m == 3 {
+        if m == MORE_TRANSFORMS {
             return true;
         }
-        return m == 0;
+        return m == LAST_TRANSFORM;
     }
     false
 }
@@ -31,9 +36,9 @@ pub fn transform_spot(s: &[u8], base: usize, holder: usize) -> Spot
         return Spot::Broken(holder);
     }
     if transform_fits(s) {
-        let n = octets::numbers::be16_at(s, 2);
-        let place = wire_attributes::tables::in_transform(octets::wide(s[4]));
-        match wire_attributes::are_attributes(place, &s[8..n], base + 8) {
+        let n = octets::numbers::be16_at(s, STRUCTURE_LENGTH_AT);
+        let place = wire_attributes::tables::in_transform(octets::wide(s[TRANSFORM_TYPE_AT]));
+        match wire_attributes::are_attributes(place, &s[TRANSFORM_HEAD..n], base + TRANSFORM_HEAD) {
             Layout::Whole => Spot::Ends(n),
             Layout::Broken(o) => Spot::Broken(o),
         }
@@ -53,7 +58,7 @@ pub fn transforms_spot(s: &[u8], base: usize, holder: usize) -> Spot
             Spot::Ends(e) => {
                 let m = octets::wide(s[at]);
                 at = at + e;
-                if m != 3 {
+                if m != MORE_TRANSFORMS {
                     return Spot::Ends(at);
                 }
             }

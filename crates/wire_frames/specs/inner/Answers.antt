@@ -1,6 +1,7 @@
 -- What the readers of a header and of a generic payload header answer, by what the octets are.
 use Prim.Native.Nat.{ℕ}
 use mathlib.Core.List.{List}
+use Rattle.ikev2_numbers.specs.Codes.{structureLengthAt}
 use Rattle.octets.specs.Numbers.{oct}
 use Rattle.octets.specs.Walk.{be16, either}
 use Rattle.wire_frames.specs.Header.{headerOf, firstPayload, headerFits, payloadFits, isCritical}
@@ -13,4 +14,4 @@ abbrev pub headerRead : List ℕ → HeaderRead
 headerRead s = either (headerFits s) (header.Header (firstPayload s) (headerOf s .exchange) (headerOf s .messageId)) header.Broken
 
 abbrev pub payloadRead : List ℕ → PayloadRead
-payloadRead s = either (payloadFits s) (payload.Payload (oct s 0) (isCritical s) (be16 s 2)) payload.Broken
+payloadRead s = either (payloadFits s) (payload.Payload (oct s 0) (isCritical s) (be16 s structureLengthAt)) payload.Broken
