@@ -8,11 +8,11 @@ ghost use Rattle.check_payloads.specs.inner.Deletion.{spisIn};
 ghost use Rattle.apply.specs.inner.Tables.{namedIn, retiredThere, AreDeletes};
 use check_payloads::deletion::delete_parts;
 use check_payloads::deletion::spi_at;
+use ikev2_numbers::DELETE;
 use state_keys::limits::SAS;
 use state_sa::entry::ESP;
 use state_sa::entry::Sa;
 use state_table::Table;
-use wire_readers::payload::DELETE;
 use wire_readers::payload::payload_parts;
 
 // Whether all octets are 0.

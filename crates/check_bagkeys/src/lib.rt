@@ -12,13 +12,13 @@ ghost use Rattle.wire_bags.specs.Bag.{placeOf, bags};
 ghost use Rattle.wire_readers.specs.inner.Values.{isWhole, attributesIn};
 ghost use Rattle.check_bagkeys.specs.inner.Facts.{noBags, ofGroup, ofMember, bagWith, ofBag, together};
 ghost use Rattle.check_bagkeys.specs.inner.Places.{firstMember, kdFactsOf};
+use ikev2_numbers::AH;
+use ikev2_numbers::ESP;
+use ikev2_numbers::GIKE_UPDATE;
 use state_keys::limits::SA_KEYS;
 use wire_attributes::tables::Meaning;
 use wire_attributes::tables::Place;
 use wire_readers::Stretch;
-use wire_readers::policy::AH;
-use wire_readers::policy::ESP;
-use wire_readers::policy::REKEY;
 use wrapped::KeyFacts;
 
 // What the key bags of a KD payload have.
@@ -79,8 +79,8 @@ fn of_group(protocol: usize, k: KeyFacts) -> BagFacts
         itself: false, // likewise
         ah: protocol == AH,
         keyless: k.keys == 0,
-        several: (protocol != REKEY) & (1 < k.keys),
-        several_of_rekey: (protocol == REKEY) & (1 < k.keys),
+        several: (protocol != GIKE_UPDATE) & (1 < k.keys),
+        several_of_rekey: (protocol == GIKE_UPDATE) & (1 < k.keys),
         overfull: SA_KEYS < k.keys,
         named: k.named,
         esp_with_kwk_id: (protocol == ESP) & k.with_kwk_id,

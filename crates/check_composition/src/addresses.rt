@@ -5,16 +5,26 @@ ghost use Prim.Native.Nat.{_<_};
 ghost use Rattle.wire_policies.specs.Selector.{Selector, addressSize};
 ghost use Rattle.wire_policies.specs.Grammar.{IsSelector};
 ghost use Rattle.rules_refusals.specs.Fitness.{multicast, oneGroupAddress};
+use ikev2_numbers::ADDRESSES_AT;
+use ikev2_numbers::END_PORT_AT;
+use ikev2_numbers::IPV4_ADDRESS;
+use ikev2_numbers::IPV4_GROUP_FIRST;
+use ikev2_numbers::IPV4_GROUP_LAST;
+use ikev2_numbers::IPV6_ADDRESS;
+use ikev2_numbers::IPV6_GROUP;
+use ikev2_numbers::START_PORT_AT;
+use ikev2_numbers::TS_IPV4_ADDR_RANGE;
+use ikev2_numbers::TS_IPV6_ADDR_RANGE;
 
 // The octets of an address in a selector of a type; 0 for no type.
 fn address_size(kind: usize) -> usize
     ensures { λ r. ⌜ (r ≡ addressSize kind) × (r < 17) ⌝ }
 {
-    if kind == 7 {
-        return 4;
+    if kind == TS_IPV4_ADDR_RANGE {
+        return IPV4_ADDRESS;
     }
-    if kind == 8 {
-        return 16;
+    if kind == TS_IPV6_ADDR_RANGE {
+        return IPV6_ADDRESS;
     }
     0
 }
@@ -23,13 +33,13 @@ fn address_size(kind: usize) -> usize
 fn is_multicast(kind: usize, first: usize) -> bool
     ensures { λ r. ⌜ r ≡ multicast kind (first ∷ []) ⌝ }
 {
-    if kind == 7 {
-        if first < 224 {
+    if kind == TS_IPV4_ADDR_RANGE {
+        if first < IPV4_GROUP_FIRST {
             return false;
         }
-        return first <= 239;
+        return first <= IPV4_GROUP_LAST;
     }
-    first == 255
+    first == IPV6_GROUP
 }
 
 // Whether a selector is one group address and one port. Internal.
@@ -38,10 +48,11 @@ pub fn is_group_address(o: &[u8]) -> bool
     ensures { λ r. ⌜ ((x : Selector) → IsSelector (now (o .entry)) x → r ≡ oneGroupAddress x) ⌝ }
 {
     let kind = octets::wide(o[0]);
-    let e = 8 + address_size(kind);
-    if octets::compare::same(&o[8..e], &o[e..]) {
-        if is_multicast(kind, octets::wide(o[8])) {
-            return octets::numbers::be16_at(o, 4) == octets::numbers::be16_at(o, 6);
+    let e = ADDRESSES_AT + address_size(kind);
+    if octets::compare::same(&o[ADDRESSES_AT..e], &o[e..]) {
+        if is_multicast(kind, octets::wide(o[ADDRESSES_AT])) {
+            return octets::numbers::be16_at(o, START_PORT_AT)
+                == octets::numbers::be16_at(o, END_PORT_AT);
         }
     }
     false

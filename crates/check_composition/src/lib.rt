@@ -14,6 +14,9 @@ ghost use Rattle.wire_policies.specs.Grammar.{IsSaBody};
 ghost use Rattle.wire_readers.specs.inner.Values.{isWhole};
 ghost use Rattle.wire_readers.specs.inner.Policies.{policiesIn};
 ghost use Rattle.check_composition.specs.inner.Facts.{noPolicies, ofSa, saWith, wideBy, together, factsOf, Holds, OfOne, AtMost, Added};
+use ikev2_numbers::AH;
+use ikev2_numbers::ESP;
+use ikev2_numbers::GIKE_UPDATE;
 use numbers::Numbers;
 use numbers::greater_u16;
 use numbers::greater_u32;
@@ -23,9 +26,6 @@ use state_sa::entry::MOST_SECONDS;
 use wire_attributes::tables::Meaning;
 use wire_attributes::tables::Place;
 use wire_readers::one_if;
-use wire_readers::policy::AH;
-use wire_readers::policy::ESP;
-use wire_readers::policy::REKEY;
 
 // What the policies of a GSA payload have.
 pub struct PolicyFacts {
@@ -118,18 +118,18 @@ fn of_sa(authentication: bool, protocol: usize, o: &[u8]) -> PolicyFacts
     PolicyFacts {
         sas: 1,
         esps: one_if(protocol == ESP),
-        rekeys: one_if(protocol == REKEY),
+        rekeys: one_if(protocol == GIKE_UPDATE),
         wides: 0,
         ah: protocol == AH,
         two_lengths: 0 < u.doubled,
         two_message_ids: 1 < n.count,
         two_delays: false,
         two_lifetimes: 1 < m.count,
-        elsewhere: (protocol == REKEY) & !group,
+        elsewhere: (protocol == GIKE_UPDATE) & !group,
         long: MOST_SECONDS < m.greatest,
         unfit: !fit,
         delay: 0,
-        initial: if_so(protocol == REKEY, n.greatest),
+        initial: if_so(protocol == GIKE_UPDATE, n.greatest),
     }
 }
 

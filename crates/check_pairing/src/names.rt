@@ -4,6 +4,7 @@ ghost use mathlib.Core.List.{List};
 ghost use lib.ListN.{length};
 ghost use Rattle.state_keys.specs.Lists.{any, count};
 ghost use Rattle.check_pairing.specs.inner.Names.{Name, Names, nameOf, isNamed, isUnpaired};
+use ikev2_numbers::POLICY_HEAD;
 
 // Whether a policy or key bag with this first octet and SPI x has a name, and it is this protocol and SPI. Internal.
 pub fn is_named(protocol: usize, spi: &[u8], first: usize, x: &[u8]) -> bool
@@ -27,7 +28,7 @@ pub fn count_names(protocol: usize, spi: &[u8], s: &[u8]) -> usize
     let mut at = 0;
     while at < s.len() {
         let p = wire_readers::policy::head_parts(&s[at..]);
-        let start = at + 4;
+        let start = at + POLICY_HEAD;
         let end = at + p.body;
         let next = at + p.end;
         if is_named(protocol, spi, p.first, &s[start..end]) {
@@ -59,7 +60,7 @@ pub fn any_unpaired(s: &[u8], t: &[u8]) -> bool
     let mut at = 0;
     while at < s.len() {
         let p = wire_readers::policy::head_parts(&s[at..]);
-        let start = at + 4;
+        let start = at + POLICY_HEAD;
         let end = at + p.body;
         if is_unpaired(p.first, &s[start..end], t) {
             return true;

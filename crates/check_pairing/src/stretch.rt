@@ -5,6 +5,7 @@ ghost use Rattle.wire_bags.specs.Bag.{bags};
 ghost use Rattle.wire_readers.specs.inner.Values.{isWhole};
 ghost use Rattle.check_pairing.specs.inner.Stretches.{bagOf};
 use crate::names::is_named;
+use ikev2_numbers::POLICY_HEAD;
 use wire_readers::Stretch;
 
 // Where the attributes of the first Group Key Bag of a KD body with this protocol and SPI stand in the body. Internal.
@@ -15,7 +16,7 @@ pub fn bag_stretch(k: &[u8], protocol: usize, spi: &[u8]) -> Stretch
     let mut at = 0;
     while at < k.len() {
         let p = wire_readers::bag::bag_parts(&k[at..]);
-        let name = at + 4;
+        let name = at + POLICY_HEAD;
         let start = at + p.body;
         let end = at + p.end;
         if is_named(protocol, spi, p.first, &k[name..start]) {

@@ -6,8 +6,10 @@ ghost use Prim.Native.Nat.{_+_, _<_};
 ghost use lib.ListN.{length, getD};
 ghost use Rattle.wire_frames.specs.Delete.{deleteOf, deleteFits};
 ghost use Rattle.check_payloads.specs.inner.Deletion.{DeleteIs, withOne, deletesWith};
-use wire_readers::payload::DELETE;
-use wire_readers::policy::ESP;
+use ikev2_numbers::DELETE;
+use ikev2_numbers::DELETE_COUNT_AT;
+use ikev2_numbers::DELETE_HEAD;
+use ikev2_numbers::ESP;
 
 // The body of a Delete payload: its protocol, the octets of each SPI, how many SPIs.
 pub struct DeleteParts {
@@ -24,7 +26,7 @@ pub fn delete_parts(o: &[u8]) -> DeleteParts
     DeleteParts {
         protocol: octets::wide(o[0]),
         size: octets::wide(o[1]),
-        count: octets::numbers::be16_at(o, 2),
+        count: octets::numbers::be16_at(o, DELETE_COUNT_AT),
     }
 }
 
@@ -34,7 +36,7 @@ pub fn spi_at(o: &[u8], i: usize) -> &[u8]
     ensures { λ r. ⌜ now r ≡ getD (deleteOf (now (o .entry)) .spis) i [] ⌝ }
 {
     let size = octets::wide(o[1]);
-    let a = 4 + size * i;
+    let a = DELETE_HEAD + size * i;
     let e = a + size;
     &o[a..e]
 }

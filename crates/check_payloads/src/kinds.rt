@@ -2,6 +2,13 @@
 ghost use mathlib.Core.Path.{_≡_};
 ghost use Rattle.wire_frames.specs.Frame.{isKnown};
 ghost use Rattle.check_payloads.specs.inner.Facts.{firstWith};
+use ikev2_numbers::AUTH;
+use ikev2_numbers::CERT;
+use ikev2_numbers::DELETE;
+use ikev2_numbers::GSA;
+use ikev2_numbers::IDR;
+use ikev2_numbers::KD;
+use ikev2_numbers::NOTIFY;
 use wire_readers::Stretch;
 
 // Whether payloads of a type are known: IDr, CERT, AUTH, N, D, GSA, KD. Internal.
@@ -9,13 +16,13 @@ pub fn is_known(kind: usize) -> bool
     ensures { λ r. ⌜ r ≡ isKnown kind ⌝ }
 {
     match kind {
-        36 => true,
-        37 => true,
-        39 => true,
-        41 => true,
-        42 => true,
-        51 => true,
-        52 => true,
+        IDR => true,
+        CERT => true,
+        AUTH => true,
+        NOTIFY => true,
+        DELETE => true,
+        GSA => true,
+        KD => true,
         _ => false,
     }
 }

@@ -8,13 +8,16 @@ ghost use Rattle.wire_frames.specs.Frame.{frame};
 ghost use Rattle.wire_readers.specs.inner.Values.{isWhole};
 ghost use Rattle.check_payloads.specs.inner.Facts.{factsOf, noPayloads, withPayload, Room, Grown};
 use deletion::Deletes;
+use ikev2_numbers::DELETE;
+use ikev2_numbers::FIRST_PAYLOAD_AT;
+use ikev2_numbers::GSA;
+use ikev2_numbers::HEADER;
+use ikev2_numbers::KD;
+use ikev2_numbers::PAYLOAD_HEADER;
 use kinds::first;
 use kinds::is_known;
 use wire_readers::Stretch;
 use wire_readers::one_if;
-use wire_readers::payload::DELETE;
-use wire_readers::payload::GSA;
-use wire_readers::payload::KD;
 use wire_readers::payload::payload_parts;
 
 // What the payloads of a frame are.
@@ -94,11 +97,11 @@ pub fn payload_facts(s: &[u8]) -> PayloadFacts
     ensures { λ r. ⌜ r ≡ factsOf (now (s .entry)) ⌝ }
 {
     let mut b = no_payloads();
-    let mut kind = octets::wide(s[16]);
-    let mut at = 28;
+    let mut kind = octets::wide(s[FIRST_PAYLOAD_AT]);
+    let mut at = HEADER;
     while kind != 0 {
         let p = payload_parts(kind, &s[at..]);
-        let start = at + 4;
+        let start = at + PAYLOAD_HEADER;
         let end = at + p.end;
         b = with_payload(b, kind, p.critical, Stretch { start, end }, &s[start..end]);
         kind = p.next;

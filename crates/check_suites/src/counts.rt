@@ -11,10 +11,16 @@ ghost use Rattle.wire_readers.specs.inner.Values.{isWhole};
 ghost use Rattle.check_suites.specs.inner.Suites.{suiteOf, fitBy};
 ghost use Rattle.check_suites.specs.inner.Octets.{transformIn};
 ghost use Rattle.check_suites.specs.inner.Adding.{plus, AtMost};
+use ikev2_numbers::DIGITAL_SIGNATURE;
+use ikev2_numbers::ESP;
+use ikev2_numbers::GCAUTH;
+use ikev2_numbers::GIKE_UPDATE;
+use ikev2_numbers::IMPLICIT;
+use ikev2_numbers::SEQUENTIAL;
+use ikev2_numbers::SN;
+use ikev2_numbers::UNSPECIFIED;
 use wire_attributes::tables::Meaning;
 use wire_readers::one_if;
-use wire_readers::policy::ESP;
-use wire_readers::policy::REKEY;
 
 // How many transforms there are; how many are fit for encryption, key wrap, sequence numbers and the controller's authentication; how many
 // have several Key Lengths.
@@ -66,14 +72,14 @@ pub fn one_transform(kind: usize, id: usize, a: &[u8]) -> Suite
         a,
     );
     let sequence = EitherId {
-        kind: 5,
-        one: 0,
-        other: 2,
+        kind: SN,
+        one: SEQUENTIAL,
+        other: UNSPECIFIED,
     };
     let authentication = EitherId {
-        kind: 14,
-        one: 1,
-        other: 2,
+        kind: GCAUTH,
+        one: IMPLICIT,
+        other: DIGITAL_SIGNATURE,
     };
     Suite {
         count: 1,
@@ -125,6 +131,6 @@ impl Suite {
         let alone = (self.count == 2) & keys;
         let signed = (self.count == 3) & (keys & (self.authentication == 1));
         ((protocol == ESP) & esp)
-            | ((protocol == REKEY) & ((authentication & signed) | (!authentication & alone)))
+            | ((protocol == GIKE_UPDATE) & ((authentication & signed) | (!authentication & alone)))
     }
 }

@@ -13,6 +13,7 @@ ghost use Rattle.wire_policies.specs.Grammar.{Transforms, IsSaBody};
 ghost use Rattle.check_suites.specs.inner.Suites.{suiteOf, needsOf};
 use counts::Needs;
 use counts::Suite;
+use ikev2_numbers::TRANSFORM_HEAD;
 
 // What the transforms at the start of the octets come to. Internal.
 pub fn suite(t: &[u8]) -> Suite
@@ -24,7 +25,7 @@ pub fn suite(t: &[u8]) -> Suite
     let mut more = true;
     while more {
         let p = wire_readers::body::transform_parts(&t[at..]);
-        let a = at + 8;
+        let a = at + TRANSFORM_HEAD;
         let e = at + p.end;
         s = s.plus(counts::one_transform(p.kind, p.id, &t[a..e]));
         at = e;
@@ -44,7 +45,7 @@ fn transforms_need(t: &[u8]) -> Needs
     let mut more = true;
     while more {
         let p = wire_readers::body::transform_parts(&t[at..]);
-        let a = at + 8;
+        let a = at + TRANSFORM_HEAD;
         let e = at + p.end;
         encryption = encryption + rows::encryption_octets(p.kind, p.id, &t[a..e]);
         wrapping = wrapping + rows::wrapping_octets(p.kind, p.id);

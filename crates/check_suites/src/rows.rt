@@ -10,6 +10,8 @@ ghost use Rattle.state_keys.specs.Algorithms.{neededBy};
 ghost use Rattle.wire_readers.specs.inner.Values.{isWhole};
 ghost use Rattle.rules_refusals.specs.Fitness.{octetsNeeded, encryptionNeeds, keyWrapNeeds};
 ghost use Rattle.check_suites.specs.inner.Octets.{keyLengthNeeds, transformIn};
+use ikev2_numbers::ENCR;
+use ikev2_numbers::KWA;
 use state_keys::algorithms::Needed;
 use wire_attributes::tables::Meaning;
 use wire_attributes::tables::Place;
@@ -52,7 +54,7 @@ pub fn encryption_octets(kind: usize, id: usize, a: &[u8]) -> usize
     requires { ⌜ (id < 65536) × (isWhole (attributes (inTransform kind) 0 (now a)) ≡ true) × (length (now a) < 4294967296) ⌝ }
     ensures { λ r. ⌜ (r ≡ encryptionNeeds (transformIn kind id (now (a .entry)))) × (r ≤ 36 * length (now (a .entry))) ⌝ }
 {
-    if kind == 1 {
+    if kind == ENCR {
         return key_length_octets(wire_attributes::tables::in_transform(kind), id, a);
     }
     0
@@ -63,7 +65,7 @@ pub fn wrapping_octets(kind: usize, id: usize) -> usize
     requires { ⌜ id < 65536 ⌝ }
     ensures { λ r. ⌜ ((a : List ℕ) → r ≡ keyWrapNeeds (transformIn kind id a)) × (r ≤ 36) ⌝ }
 {
-    if kind == 13 {
+    if kind == KWA {
         return needed(13, id, 0);
     }
     0

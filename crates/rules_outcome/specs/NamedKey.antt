@@ -6,6 +6,7 @@ use mathlib.Core.Bool.{true, false}
 use mathlib.Core.Logic.{_⊎_}
 use mathlib.Core.List.{List, [], _∷_}
 use lib.ListN.{length, take, drop}
+use Rattle.ikev2_numbers.specs.Codes.{gsaAuth, gsaInbandRekey, gsaRegistration, gsaRekey, id}
 use Rattle.keywrap.specs.Opens.{Opens}
 use Rattle.state_keys.specs.Limits.{Limits}
 use Rattle.state_keys.specs.Kinds.{valueOf, wrappingOf}
@@ -27,15 +28,15 @@ use Rattle.rules_outcome.specs.Meets.{Meets}
 
 -- "Registration frames (GSA_AUTH, GSA_REGISTRATION responses)": exchange types 39 and 40
 abbrev pub Registration : Frame → Type 0
-Registration f = (f .header .exchange ≡ 39) ⊎ (f .header .exchange ≡ 40)
+Registration f = (f .header .exchange ≡ gsaAuth) ⊎ (f .header .exchange ≡ gsaRegistration)
 
 -- document 02, T-02, "Rekeys over the member's own channel": GSA_INBAND_REKEY, exchange type 42
 abbrev pub Inband : Frame → Type 0
-Inband f = f .header .exchange ≡ 42
+Inband f = f .header .exchange ≡ gsaInbandRekey
 
 -- a rekey over the Rekey SA (GSA_REKEY, exchange type 41) or over the member's own channel
 abbrev pub Rekey : Frame → Type 0
-Rekey f = (f .header .exchange ≡ 41) ⊎ Inband f
+Rekey f = (f .header .exchange ≡ gsaRekey) ⊎ Inband f
 
 -- the lent default key as key 0
 abbrev pub lentRoot : List ℕ → List Root
@@ -74,9 +75,9 @@ module _ (limits : Limits) (s : State) (now : ℕ) (lent : List ℕ) (f : Frame)
   pub data Named (k : ℕ) (v : List ℕ) : Type 0 where
     lent-key : Registration f → k ≡ 0 → v ≡ lent → Named k v
     lent-in-band : Inband f → k ≡ 0 → v ≡ lent → Named k v
-    own-key : f .header .exchange ≡ 41 → k ≡ 0 → v ≡ ownKey limits s now → Named k v
+    own-key : f .header .exchange ≡ gsaRekey → k ≡ 0 → v ≡ ownKey limits s now → Named k v
     last-of-chain : Registration f → Given lent f k v → Named k v
-    held-key : f .header .exchange ≡ 41 → (h : HeldKey) → In h (keysOf (s .held)) → h .id ≡ k → valueOf (h .key) ≡ v → Named k v
+    held-key : f .header .exchange ≡ gsaRekey → (h : HeldKey) → In h (keysOf (s .held)) → h .id ≡ k → valueOf (h .key) ≡ v → Named k v
 
   -- "its SA_KEY attributes, opened under the key their KWK ID names"
   pub record OpensUnder (a : GroupSaPolicy) (x : List ℕ) : Type 0 where
@@ -100,5 +101,5 @@ pub record CameOver (s : State) (now : ℕ) (f : Frame) (zero : List ℕ) : Type
 -- so of every rekey that number 2 lets pass, accepted or not
 abbrev pub ZeroOfRekeys : Limits → State → Type 0
 ZeroOfRekeys limits s =
-    (now : ℕ) (lent octets : List ℕ) (f : Frame) → IsFrame octets f → f .header .exchange ≡ 41 → (Meets limits s now lent octets 2 → ⊥) →
+    (now : ℕ) (lent octets : List ℕ) (f : Frame) → IsFrame octets f → f .header .exchange ≡ gsaRekey → (Meets limits s now lent octets 2 → ⊥) →
     CameOver s now f (keyZero limits s now lent f)

@@ -4,6 +4,7 @@ use mathlib.Core.Path.{_≡_}
 use mathlib.Core.Bool.{false}
 use mathlib.Core.Logic.{_⊎_}
 use mathlib.Core.List.{[], _∷_}
+use Rattle.ikev2_numbers.specs.Codes.{gsaRekey, id, protocolEsp, protocolGikeUpdate}
 use Rattle.wire_policies.specs.Policy.{GroupSaPolicy, GroupWidePolicy}
 use Rattle.wire_frames.specs.Frame.{Frame}
 use Rattle.state_sa.specs.Entry.{spiOf, due, withCondition}
@@ -21,7 +22,7 @@ module _ (f : Frame) where
   -- "a new Rekey SA": a policy of the frame announces it
   pub record NewRekey (p : GroupSaPolicy) : Type 0 where
     pub stands : In p (announced f)
-    pub is-rekey : p .protocol ≡ 6
+    pub is-rekey : p .protocol ≡ protocolGikeUpdate
 
   abbrev pub NoNewRekey : Type 0
   NoNewRekey = (p : GroupSaPolicy) → NewRekey p → ⊥
@@ -33,9 +34,9 @@ module _ (f : Frame) where
     its-initial-id : (p : GroupSaPolicy) → NewRekey p → (i : ℕ) → p .initialMessageIds ≡ i ∷ [] → LeastAs before (Id i)
     else-0 : (p : GroupSaPolicy) → NewRekey p → p .initialMessageIds ≡ [] → LeastAs before (Id 0)
     of-registration : NoNewRekey → Registration f → LeastAs before (Id 0)
-    own-plus-1 : NoNewRekey → f .header .exchange ≡ 41 → f .header .messageId < 4294967295 →
+    own-plus-1 : NoNewRekey → f .header .exchange ≡ gsaRekey → f .header .messageId < 4294967295 →
         LeastAs before (Id (f .header .messageId + 1))
-    none-any-more : NoNewRekey → f .header .exchange ≡ 41 → 4294967295 ≤ f .header .messageId → LeastAs before NoneAnyMore
+    none-any-more : NoNewRekey → f .header .exchange ≡ gsaRekey → 4294967295 ≤ f .header .messageId → LeastAs before NoneAnyMore
     as-before : NoNewRekey → Inband f → LeastAs before before
 
   -- "The delay is the frame's deactivation delay, 0 if it has none (house)."
@@ -47,9 +48,9 @@ module _ (f : Frame) where
   -- "each ESP SPI named in D .., SPI 0 naming every ESP SA in the table (001 section 2.4.3)"; "A new Rekey SA turns the old one to
   -- retiring."
   pub data Ends (a : Sa) : Type 0 where
-    by-its-spi : a .protocol ≡ 3 → In (spiOf a) (deletedSpis f) → Ends a
-    by-spi-0 : a .protocol ≡ 3 → In (0 ∷ 0 ∷ 0 ∷ 0 ∷ []) (deletedSpis f) → Ends a
-    by-new-rekey : a .protocol ≡ 6 → (p : GroupSaPolicy) → NewRekey p → Ends a
+    by-its-spi : a .protocol ≡ protocolEsp → In (spiOf a) (deletedSpis f) → Ends a
+    by-spi-0 : a .protocol ≡ protocolEsp → In (0 ∷ 0 ∷ 0 ∷ 0 ∷ []) (deletedSpis f) → Ends a
+    by-new-rekey : a .protocol ≡ protocolGikeUpdate → (p : GroupSaPolicy) → NewRekey p → Ends a
 
   -- what an SA that stood becomes: it is kept as it was, where the frame does not end it or where it is retiring already ("unknown or
   -- retiring ones are passed over"), or a live one is retired: all of it stays but its condition, which has the frame's tick and delay

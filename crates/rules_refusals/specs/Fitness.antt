@@ -4,6 +4,8 @@ use mathlib.Core.List.{List, [], _∷_}
 use mathlib.Core.Bool.{Bool, true, false, cond, _&&_, _||_}
 use lib.ListN.{length}
 use lib.Dec.{leb, eqb}
+use Rattle.ikev2_numbers.specs.Codes.{gcauthDigitalSignature, gcauthImplicit, id, ipv4GroupFirst, ipv4GroupLast, ipv4Range, ipv6Group}
+use Rattle.ikev2_numbers.specs.Codes.{protocolAh, snSequential, snUnspecified, transformEncr, transformGcauth, transformKwa, transformSn}
 use Rattle.octets.specs.Numbers.{oct}
 use Rattle.octets.specs.Compare.{same}
 use Rattle.state_keys.specs.Lists.{all, any, count}
@@ -17,7 +19,7 @@ use Rattle.wire_policies.specs.Policy.{GroupSaPolicy}
 
 -- protocol AH (RFC 9838, section 4.4.2)
 abbrev pub ah : ℕ
-ah = 2
+ah = protocolAh
 
 abbrev pub isEsp : GroupSaPolicy → Bool
 isEsp p = eqb (p .protocol) esp
@@ -29,7 +31,7 @@ isRekey p = eqb (p .protocol) rekey
 -- 3.13.1); RFC 9838, section 4.4.2, wants "a single multicast IP address" and "a single port". An IPv4 address in 224.0.0.0/4 has a first
 -- octet of 224 to 239, an IPv6 address in ff00::/8 one of 255
 unfoldable pub multicast : ℕ → List ℕ → Bool
-multicast kind a = cond (eqb kind 7) (leb 224 (oct a 0) && leb (oct a 0) 239) (eqb (oct a 0) 255)
+multicast kind a = cond (eqb kind ipv4Range) (leb ipv4GroupFirst (oct a 0) && leb (oct a 0) ipv4GroupLast) (eqb (oct a 0) ipv6Group)
 
 unfoldable pub oneGroupAddress : Selector → Bool
 oneGroupAddress s =
@@ -49,16 +51,16 @@ isOctets Nothing = false
 
 -- a row of the table by one of its Key Lengths
 unfoldable pub encryptionFits : Transform → Bool
-encryptionFits t = eqb (t .kind) 1 && any (λ (b : ℕ). isOctets (neededBy 1 (t .id) b)) (t .keyLengths)
+encryptionFits t = eqb (t .kind) transformEncr && any (λ (b : ℕ). isOctets (neededBy transformEncr (t .id) b)) (t .keyLengths)
 
 unfoldable pub keyWrapFits : Transform → Bool
-keyWrapFits t = eqb (t .kind) 13 && isOctets (neededBy 13 (t .id) 0)
+keyWrapFits t = eqb (t .kind) transformKwa && isOctets (neededBy transformKwa (t .id) 0)
 
 unfoldable pub sequenceNumbersFit : Transform → Bool
-sequenceNumbersFit t = eqb (t .kind) 5 && (eqb (t .id) 0 || eqb (t .id) 2)
+sequenceNumbersFit t = eqb (t .kind) transformSn && (eqb (t .id) snSequential || eqb (t .id) snUnspecified)
 
 unfoldable pub authenticationFits : Transform → Bool
-authenticationFits t = eqb (t .kind) 14 && (eqb (t .id) 1 || eqb (t .id) 2)
+authenticationFits t = eqb (t .kind) transformGcauth && (eqb (t .id) gcauthImplicit || eqb (t .id) gcauthDigitalSignature)
 
 -- exactly one that is fit in each of these ways, and no other
 unfoldable pub exactly : List (Transform → Bool) → List Transform → Bool
@@ -83,10 +85,10 @@ sum f [] = 0
 sum f (a ∷ l) = f a + sum f l
 
 abbrev pub encryptionNeeds : Transform → ℕ
-encryptionNeeds t = cond (eqb (t .kind) 1) (sum (λ (b : ℕ). octetsNeeded (neededBy 1 (t .id) b)) (t .keyLengths)) 0
+encryptionNeeds t = cond (eqb (t .kind) transformEncr) (sum (λ (b : ℕ). octetsNeeded (neededBy transformEncr (t .id) b)) (t .keyLengths)) 0
 
 abbrev pub keyWrapNeeds : Transform → ℕ
-keyWrapNeeds t = cond (eqb (t .kind) 13) (octetsNeeded (neededBy 13 (t .id) 0)) 0
+keyWrapNeeds t = cond (eqb (t .kind) transformKwa) (octetsNeeded (neededBy transformKwa (t .id) 0)) 0
 
 unfoldable pub encryptionOctets : GroupSaPolicy → ℕ
 encryptionOctets p = sum encryptionNeeds (p .transforms)

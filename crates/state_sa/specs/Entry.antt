@@ -6,6 +6,7 @@ use mathlib.Core.Bool.{Bool, true, false, cond, _&&_, _||_}
 use mathlib.Core.List.{List, []}
 use lib.Dec.{leb, ltb, eqb}
 use lib.ListN.{take}
+use Rattle.ikev2_numbers.specs.Codes.{dataSpiOctets, protocolEsp, protocolGikeUpdate, rekeySpiOctets}
 use Rattle.octets.specs.Compare.{less, same}
 use Rattle.state_keys.specs.Algorithms.{sizeOf}
 use Rattle.state_keys.specs.Kinds.{padded, rekeySizes}
@@ -20,13 +21,13 @@ use Rattle.state_sa.specs.Clock.{elapsedAtLeast}
 
 -- protocols (RFC 9838, section 4.4.2): ESP and GIKE_UPDATE, the Rekey SA's; and the octets of an SPI of each
 abbrev pub esp : ℕ
-esp = 3
+esp = protocolEsp
 
 abbrev pub rekey : ℕ
-rekey = 6
+rekey = protocolGikeUpdate
 
 abbrev pub spiSize : ℕ → ℕ
-spiSize p = cond (eqb p esp) 4 (cond (eqb p rekey) 16 0)
+spiSize p = cond (eqb p esp) dataSpiOctets (cond (eqb p rekey) rekeySpiOctets 0)
 
 -- the octets of the SPI, those in use
 abbrev pub spiOf : Sa → List ℕ

@@ -9,13 +9,13 @@ ghost use Rattle.wire_frames.specs.Frame.{Frame};
 ghost use Rattle.rules_chains.specs.Chain.{Root};
 ghost use Rattle.rules_outcome.specs.After.{saFrom};
 ghost use Rattle.unwrap_sas.specs.inner.Policies.{Sized, Named, IsOpened, IsOne};
+use ikev2_numbers::ESP;
 use state_keys::kinds::EspKey;
 use state_keys::kinds::RekeyKey;
 use state_keys::limits::SAS;
 use state_sa::entry::Lifetime;
 use state_sa::entry::Sa;
 use unwrap_copies::answer::Opened;
-use wire_readers::policy::ESP;
 
 // Number 8 holds of the copies of some SA; some SA has no copy that opens; or each has its key.
 pub enum Found {

@@ -38,7 +38,8 @@ abbrev pub BreaksTransform : ℕ → Bool → ℕ → List ℕ → ℕ → Type 
 BreaksTransform h more b s o =
     BreaksDue h s
     (BreaksStructure (FaultOfTransform s)
-    (BreaksAttributes (inTransform (oct s transformTypeAt)) (b + transformHeadOctets) (part s transformHeadOctets (be16 s structureLengthAt)) o) b o) o
+    (BreaksAttributes (inTransform (oct s transformTypeAt)) (b + transformHeadOctets)
+    (part s transformHeadOctets (be16 s structureLengthAt)) o) b o) o
 
 -- "one or more": the first is due, and each after a 3
 abbrev pub BreaksTransforms : ℕ → ℕ → List ℕ → ℕ → Type 0
@@ -66,7 +67,8 @@ pub data FaultOfHead (s : List ℕ) : Type 0 where
 -- A POLICY at the offset b, and what it holds
 pub data BreaksHeld (b : ℕ) (s : List ℕ) (o : ℕ) : Type 0 where
   in-wide : oct s 0 ≡ noProtocol
-      → BreaksAttributes place.GroupWidePolicy (b + policyHeadOctets) (part s policyHeadOctets (be16 s structureLengthAt)) o → BreaksHeld b s o
+      → BreaksAttributes place.GroupWidePolicy (b + policyHeadOctets) (part s policyHeadOctets (be16 s structureLengthAt)) o
+      → BreaksHeld b s o
   in-sa : (oct s 0 ≡ noProtocol → ⊥)
       → BreaksSaBody b (inPolicy (oct s 0)) (b + (policyHeadOctets + spiSize (oct s 0)))
       (part s (policyHeadOctets + spiSize (oct s 0)) (be16 s structureLengthAt)) o

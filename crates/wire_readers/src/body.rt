@@ -8,6 +8,10 @@ ghost use Rattle.wire_policies.specs.Transform.{Transform};
 ghost use Rattle.wire_policies.specs.Policy.{SaBody};
 ghost use Rattle.wire_policies.specs.Grammar.{Transforms, IsSaBody};
 ghost use Rattle.wire_readers.specs.inner.Bodies.{TransformIs, SaPartsAre};
+use ikev2_numbers::MORE_TRANSFORMS;
+use ikev2_numbers::STRUCTURE_LENGTH_AT;
+use ikev2_numbers::TRANSFORM_ID_AT;
+use ikev2_numbers::TRANSFORM_TYPE_AT;
 
 // A transform: its type, its ID, whether another follows, where it ends. Its attributes start at 8.
 pub struct TransformParts {
@@ -30,10 +34,10 @@ pub fn transform_parts(s: &[u8]) -> TransformParts
     ensures { λ r. ⌜ ((l : List Transform) (tail : List ℕ) → Transforms (now (s .entry)) l tail → TransformIs (now (s .entry)) l tail r) ⌝ }
 {
     TransformParts {
-        kind: octets::wide(s[4]),
-        id: octets::numbers::be16_at(s, 6),
-        more: octets::wide(s[0]) == 3,
-        end: octets::numbers::be16_at(s, 2),
+        kind: octets::wide(s[TRANSFORM_TYPE_AT]),
+        id: octets::numbers::be16_at(s, TRANSFORM_ID_AT),
+        more: octets::wide(s[0]) == MORE_TRANSFORMS,
+        end: octets::numbers::be16_at(s, STRUCTURE_LENGTH_AT),
     }
 }
 

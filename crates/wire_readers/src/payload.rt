@@ -4,15 +4,10 @@ ghost use mathlib.Core.Bool.{true};
 ghost use Rattle.wire_readers.specs.inner.Values.{isWhole};
 ghost use Rattle.wire_frames.specs.Frame.{payloads, exactly};
 ghost use Rattle.wire_readers.specs.inner.Payloads.{PayloadIs};
+use ikev2_numbers::CRITICAL;
+use ikev2_numbers::STRUCTURE_LENGTH_AT;
 
-// The types of the payloads D, GSA and KD.
-pub const DELETE: usize = 42;
-
-pub const GSA: usize = 51;
-
-pub const KD: usize = 52;
-
-// A payload: the type of the next one, its critical bit, where it ends. Its body starts at 4.
+// A payload: the type of the next one, its critical bit, where it ends. Its body starts behind its header.
 pub struct PayloadParts {
     pub next: usize,
     pub critical: bool,
@@ -26,7 +21,7 @@ pub fn payload_parts(kind: usize, s: &[u8]) -> PayloadParts
 {
     PayloadParts {
         next: octets::wide(s[0]),
-        critical: 128 <= octets::wide(s[1]),
-        end: octets::numbers::be16_at(s, 2),
+        critical: CRITICAL <= octets::wide(s[1]),
+        end: octets::numbers::be16_at(s, STRUCTURE_LENGTH_AT),
     }
 }

@@ -6,13 +6,8 @@ ghost use lib.ListN.{length};
 ghost use Rattle.wire_readers.specs.inner.Values.{isWhole};
 ghost use Rattle.wire_policies.specs.Policy.{headFits, policies};
 ghost use Rattle.wire_readers.specs.inner.Policies.{Heads, PolicyIs};
-
-// The protocols that a policy or a key bag begins with: AH, ESP, and GIKE_UPDATE, the Rekey SA's.
-pub const AH: usize = 2;
-
-pub const ESP: usize = 3;
-
-pub const REKEY: usize = 6;
+use ikev2_numbers::POLICY_HEAD;
+use ikev2_numbers::STRUCTURE_LENGTH_AT;
 
 // A policy or a key bag: its first octet, where its head and where it ends.
 pub struct Parts {
@@ -27,8 +22,8 @@ pub fn head_parts(s: &[u8]) -> Parts
     ensures { λ r. ⌜ Heads (now (s .entry)) r ⌝ }
 {
     let p = octets::wide(s[0]);
-    let n = octets::numbers::be16_at(s, 2);
-    let z = 4 + wire_policies::spi_size(p);
+    let n = octets::numbers::be16_at(s, STRUCTURE_LENGTH_AT);
+    let z = POLICY_HEAD + wire_policies::spi_size(p);
     Parts {
         first: p,
         body: z,

@@ -6,6 +6,7 @@ use mathlib.Core.List.{List, [], _∷_, _++_}
 use mathlib.Core.Bool.{Bool, true, not, _&&_}
 use lib.ListN.{length, drop}
 use lib.Dec.{eqb}
+use Rattle.ikev2_numbers.specs.Codes.{structureLengthAt}
 use Rattle.octets.specs.Numbers.{oct}
 use Rattle.octets.specs.Walk.{be16, either}
 use Rattle.octets.specs.Compare.{same}
@@ -29,7 +30,7 @@ nameAt s = nameOf (oct s 0) (spiOf s)
 -- THESE OCTETS ARE POLICIES OR KEY BAGS WITH THESE NAMES
 pub data Names : List ℕ → List Name → Type 0 where
   no-more : (s : List ℕ) → length s ≡ 0 → Names s []
-  next : (s : List ℕ) {l : List Name} → 0 < length s → headFits s ≡ true → Names (drop (be16 s 2) s) l → Names s (nameAt s ++ l)
+  next : (s : List ℕ) {l : List Name} → 0 < length s → headFits s ≡ true → Names (drop (be16 s structureLengthAt) s) l → Names s (nameAt s ++ l)
 
 -- this protocol and SPI
 abbrev pub isNamed : ℕ → List ℕ → Name → Bool

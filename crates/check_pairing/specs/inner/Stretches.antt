@@ -3,6 +3,7 @@ use Prim.Native.Nat.{ℕ, zero, suc, _+_}
 use mathlib.Core.List.{List}
 use lib.ListN.{length, drop}
 use lib.Dec.{leb}
+use Rattle.ikev2_numbers.specs.Codes.{structureLengthAt}
 use Rattle.octets.specs.Walk.{be16, either}
 use Rattle.state_keys.specs.Lists.{any}
 use Rattle.wire_policies.specs.Policy.{headSize}
@@ -15,7 +16,7 @@ use Rattle.check_pairing.specs.inner.Names.{nameAt, isNamed}
 unfoldable pub bagFrom : ℕ → ℕ → List ℕ → ℕ → List ℕ → Stretch
 bagFrom zero p x at k = nowhere
 bagFrom (suc n) p x at k =
-    let end = at + be16 (drop at k) 2 in
+    let end = at + be16 (drop at k) structureLengthAt in
     let later = bagFrom n p x end k in
     either (leb (length k) at) nowhere
     (either (any (isNamed p x) (nameAt (drop at k))) (record { start = at + headSize (drop at k); end = end }) later)

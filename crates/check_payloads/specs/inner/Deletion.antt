@@ -5,6 +5,7 @@ use mathlib.Core.List.{List}
 use mathlib.Core.Bool.{Bool, true, not, cond, _||_}
 use lib.ListN.{length, drop}
 use lib.Dec.{eqb}
+use Rattle.ikev2_numbers.specs.Codes.{deleteHeadOctets, payloadDelete}
 use Rattle.octets.specs.Numbers.{oct}
 use Rattle.state_keys.specs.Lists.{any}
 use Rattle.wire_frames.specs.Delete.{Delete, deleteOf}
@@ -21,7 +22,7 @@ pub record DeleteIs (o : List ℕ) (r : DeleteParts) : Type 0 where
   pub size : r .size ≡ oct o 1
   pub count : r .count ≡ length (deleteOf o .spis)
   pub few : r .count < 65536
-  pub filled : 4 + r .size * r .count ≡ length o
+  pub filled : deleteHeadOctets + r .size * r .count ≡ length o
 
 -- ---- what number 5 and number 7 ask of Delete payloads
 abbrev pub ofOther : Delete → Bool
@@ -42,8 +43,8 @@ deletesBy l = record { other = any ofOther l; none = any ofNone l; spis = length
 -- the Delete payloads from a place on, where one stands, are these
 pub record DeletesFrom (s : List ℕ) (l : List Delete) (at : ℕ) : Type 0 where
   pub inside : at ≤ length s
-  pub rest : isWhole (exactly (payloads 42 0 (drop at s))) ≡ true
-  pub all : deletesAmong (payloadsIn 42 (drop at s)) ≡ l
+  pub rest : isWhole (exactly (payloads payloadDelete 0 (drop at s))) ≡ true
+  pub all : deletesAmong (payloadsIn payloadDelete (drop at s)) ≡ l
 
 -- ---- one payload after the other
 abbrev pub withOne : Deletes → Delete → Deletes
@@ -55,4 +56,4 @@ withOne d x = record {
 
 -- with a payload more of a type and with this body
 abbrev pub deletesWith : Deletes → ℕ → List ℕ → Deletes
-deletesWith d kind o = cond (eqb kind 42) (withOne d (deleteOf o)) d
+deletesWith d kind o = cond (eqb kind payloadDelete) (withOne d (deleteOf o)) d

@@ -6,6 +6,7 @@ use mathlib.Core.List.{List}
 use mathlib.Core.Bool.{Bool, true, false, not, cond, _&&_, _||_}
 use lib.ListN.{drop}
 use lib.Dec.{eqb}
+use Rattle.ikev2_numbers.specs.Codes.{headerOctets, payloadDelete, payloadGsa, payloadKd}
 use Rattle.state_keys.specs.Lists.{any, count}
 use Rattle.wire_frames.specs.Header.{firstPayload}
 use Rattle.wire_frames.specs.Delete.{deleteFits}
@@ -20,7 +21,7 @@ use Rattle.check_payloads.specs.inner.Deletion.{deletesAmong, deletesBy,
 
 -- the payloads that the octets of a frame are
 abbrev pub payloadsOf : List ℕ → List Payload
-payloadsOf s = payloadsIn (firstPayload s) (drop 28 s)
+payloadsOf s = payloadsIn (firstPayload s) (drop headerOctets s)
 
 abbrev pub ofKind : ℕ → Payload → Bool
 ofKind k p = eqb (p .kind) k
@@ -28,12 +29,12 @@ ofKind k p = eqb (p .kind) k
 -- THE FACTS OF THE PAYLOADS OF THIS FRAME: of GSA, KD and D how many there are and where the first one's body stands
 abbrev pub factsOf : List ℕ → PayloadFacts
 factsOf s = record {
-  gsas = count (ofKind 51) (payloadsOf s);
-  kds = count (ofKind 52) (payloadsOf s);
-  deletes = count (ofKind 42) (payloadsOf s);
-  gsa = bodyOf 51 s;
-  kd = bodyOf 52 s;
-  delete = bodyOf 42 s;
+  gsas = count (ofKind payloadGsa) (payloadsOf s);
+  kds = count (ofKind payloadKd) (payloadsOf s);
+  deletes = count (ofKind payloadDelete) (payloadsOf s);
+  gsa = bodyOf payloadGsa s;
+  kd = bodyOf payloadKd s;
+  delete = bodyOf payloadDelete s;
   critical = any unknownCritical (payloadsOf s);
   deletion = deletesBy (deletesAmong (payloadsOf s));
 }
@@ -58,12 +59,12 @@ firstWith hit before this known = cond (hit && eqb before 0) this known
 -- with one payload more: its type, whether it is critical, where its body stands, and the body o
 abbrev pub withPayload : PayloadFacts → ℕ → Bool → Stretch → List ℕ → PayloadFacts
 withPayload b kind critical place o = record {
-  gsas = b .gsas + once (eqb kind 51);
-  kds = b .kds + once (eqb kind 52);
-  deletes = b .deletes + once (eqb kind 42);
-  gsa = firstWith (eqb kind 51) (b .gsas) place (b .gsa);
-  kd = firstWith (eqb kind 52) (b .kds) place (b .kd);
-  delete = firstWith (eqb kind 42) (b .deletes) place (b .delete);
+  gsas = b .gsas + once (eqb kind payloadGsa);
+  kds = b .kds + once (eqb kind payloadKd);
+  deletes = b .deletes + once (eqb kind payloadDelete);
+  gsa = firstWith (eqb kind payloadGsa) (b .gsas) place (b .gsa);
+  kd = firstWith (eqb kind payloadKd) (b .kds) place (b .kd);
+  delete = firstWith (eqb kind payloadDelete) (b .deletes) place (b .delete);
   critical = b .critical || (critical && not (isKnown kind));
   deletion = deletesWith (b .deletion) kind o;
 }
@@ -74,7 +75,7 @@ pub record Room (kind : ℕ) (o : List ℕ) (b : PayloadFacts) : Type 0 where
   pub kds : b .kds < 4294967296
   pub deletes : b .deletes < 4294967296
   pub spis : b .deletion .spis < 4294967296
-  pub fits : kind ≡ 42 → deleteFits o ≡ true
+  pub fits : kind ≡ payloadDelete → deleteFits o ≡ true
 
 pub record Grown (b r : PayloadFacts) : Type 0 where
   pub gsas : r .gsas ≤ b .gsas + 1

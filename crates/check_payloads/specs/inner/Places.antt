@@ -3,6 +3,7 @@ use Prim.Native.Nat.{ℕ, zero, suc, _+_}
 use mathlib.Core.List.{List}
 use lib.ListN.{length, drop}
 use lib.Dec.{eqb}
+use Rattle.ikev2_numbers.specs.Codes.{headerOctets, payloadHeaderOctets, structureLengthAt}
 use Rattle.octets.specs.Numbers.{oct}
 use Rattle.octets.specs.Walk.{be16, either}
 use Rattle.wire_frames.specs.Header.{firstPayload}
@@ -14,10 +15,10 @@ use Rattle.wire_readers.specs.inner.Values.{nowhere}
 unfoldable pub bodyFrom : ℕ → ℕ → ℕ → ℕ → List ℕ → Stretch
 bodyFrom zero w k at s = nowhere
 bodyFrom (suc n) w k at s =
-    let end = at + be16 (drop at s) 2 in
+    let end = at + be16 (drop at s) structureLengthAt in
     let later = bodyFrom n w (oct (drop at s) 0) end s in
-    either (eqb k 0) nowhere (either (eqb k w) (record { start = at + 4; end = end }) later)
+    either (eqb k 0) nowhere (either (eqb k w) (record { start = at + payloadHeaderOctets; end = end }) later)
 
 -- in the frame, whose payloads stand after the 28 octets of its header
 abbrev pub bodyOf : ℕ → List ℕ → Stretch
-bodyOf w s = bodyFrom (length s) w (firstPayload s) 28 s
+bodyOf w s = bodyFrom (length s) w (firstPayload s) headerOctets s

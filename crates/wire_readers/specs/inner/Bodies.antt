@@ -5,6 +5,7 @@ use mathlib.Core.Path.{_≡_}
 use mathlib.Core.List.{List, _∷_, map}
 use mathlib.Core.Bool.{true}
 use lib.ListN.{length, drop}
+use Rattle.ikev2_numbers.specs.Codes.{id, transformHeadOctets}
 use Rattle.octets.specs.Walk.{part, Spans}
 use Rattle.wire_attributes.specs.Place.{inTransform}
 use Rattle.wire_attributes.specs.Tree.{two}
@@ -25,12 +26,12 @@ pub record TransformIs (s : List ℕ) (l : List Transform) (tail : List ℕ) (r 
   pub all : l ≡ head ∷ rest
   pub kind : head .kind ≡ r .kind
   pub id : head .id ≡ r .id
-  pub keyLengths : head .keyLengths ≡ map two (valuesIn meaning.KeyLength (inTransform (r .kind)) (part s 8 (r .end)))
-  pub held : isWhole (attributes (inTransform (r .kind)) 0 (part s 8 (r .end))) ≡ true
+  pub keyLengths : head .keyLengths ≡ map two (valuesIn meaning.KeyLength (inTransform (r .kind)) (part s transformHeadOctets (r .end)))
+  pub held : isWhole (attributes (inTransform (r .kind)) 0 (part s transformHeadOctets (r .end))) ≡ true
   pub octet : r .kind < 256
   pub twoOctets : r .id < 65536
   pub short : r .end < 65536
-  pub least : 8 ≤ r .end
+  pub least : transformHeadOctets ≤ r .end
   pub inside : r .end ≤ length s
   pub others : Spans noMore IsTransform (r .more) (drop (r .end) s) rest tail
 

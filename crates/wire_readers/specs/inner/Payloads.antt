@@ -4,6 +4,7 @@ use mathlib.Core.Path.{_≡_}
 use mathlib.Core.List.{List, _∷_}
 use mathlib.Core.Bool.{true}
 use lib.ListN.{length, drop}
+use Rattle.ikev2_numbers.specs.Codes.{payloadHeaderOctets, structureLengthAt}
 use Rattle.octets.specs.Numbers.{oct}
 use Rattle.octets.specs.Walk.{be16, part}
 use Rattle.wire_readers.specs.inner.Values.{isWhole, itemsOf}
@@ -18,10 +19,10 @@ payloadsIn k s = itemsOf (payloads k 0 s)
 pub record PayloadIs (k : ℕ) (s : List ℕ) (r : PayloadParts) : Type 0 where
   pub next : r .next ≡ oct s 0
   pub critical : r .critical ≡ isCritical s
-  pub end : r .end ≡ be16 s 2
-  pub some : 4 ≤ r .end
+  pub end : r .end ≡ be16 s structureLengthAt
+  pub some : payloadHeaderOctets ≤ r .end
   pub inside : r .end ≤ length s
   pub content : Content
-  pub is : IsContent k (part s 4 (r .end)) content
+  pub is : IsContent k (part s payloadHeaderOctets (r .end)) content
   pub item : payloadsIn k s ≡ record { kind = k; critical = r .critical; content = content } ∷ payloadsIn (r .next) (drop (r .end) s)
   pub rest : isWhole (exactly (payloads (r .next) 0 (drop (r .end) s))) ≡ true

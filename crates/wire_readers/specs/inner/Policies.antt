@@ -4,6 +4,7 @@ use mathlib.Core.Path.{_≡_}
 use mathlib.Core.List.{List, _∷_}
 use mathlib.Core.Bool.{true}
 use lib.ListN.{length, drop}
+use Rattle.ikev2_numbers.specs.Codes.{policyHeadOctets, structureLengthAt}
 use Rattle.octets.specs.Numbers.{oct}
 use Rattle.octets.specs.Walk.{be16, part}
 use Rattle.wire_attributes.specs.Place.{inPolicy}
@@ -18,8 +19,8 @@ use Rattle.wire_readers.specs.declared.policy.Parts.{Parts}
 pub record Heads (s : List ℕ) (r : Parts) : Type 0 where
   pub first : r .first ≡ oct s 0
   pub body : r .body ≡ headSize s
-  pub end : r .end ≡ be16 s 2
-  pub some : 4 ≤ r .body
+  pub end : r .end ≡ be16 s structureLengthAt
+  pub some : policyHeadOctets ≤ r .body
   pub order : r .body ≤ r .end
   pub inside : r .end ≤ length s
   pub twoOctets : oct s 2 < 256 → oct s 3 < 256 → r .end < 65536
