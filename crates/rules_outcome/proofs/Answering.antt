@@ -10,7 +10,8 @@ use Rattle.wire_frames.specs.Frame.{Frame}
 use Rattle.state.specs.declared.State.{State}
 use Rattle.rules_refusals.specs.Refusals.{numbers, refusal}
 use Rattle.rules_outcome.specs.Answer.{Condition, First, byClauses, EightOf, NineOf, conditions, Answers}
-use Rattle.rules_outcome.proofs.First.{FirstAt, first-at, at-first, above, by-clauses, past-clauses, clauses-or-rest}
+use Rattle.rules_outcome.specs.Judging.{FirstAt, above}
+use Rattle.rules_outcome.proofs.First.{first-at, at-first, by-clauses, past-clauses, clauses-or-rest}
 
 module _ (limits : Limits) (s : State) (now : ℕ) (lent : List ℕ) (f : Frame) where
   -- the numbers rise in judging order, from 2 on

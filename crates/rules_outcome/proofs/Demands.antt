@@ -31,8 +31,8 @@ use Rattle.rules_outcome.specs.Roots.{rootsOf, entriesOf, wrappingSize}
 use Rattle.rules_outcome.specs.Answer.{NineOf}
 use Rattle.rules_outcome.specs.After.{leastAfterwards}
 use Rattle.rules_outcome.specs.Outcome.{NoTree, Outcome, no-layout}
-use Rattle.rules_outcome.specs.Meets.{Meets, meets-2, meets-4, Refused, Accepted}
-use Rattle.rules_outcome.proofs.Meets.{at-most-9, nine-met}
+use Rattle.rules_outcome.specs.Meets.{Meets, Refused, Accepted}
+use Rattle.rules_outcome.proofs.Meets.{meets-2, meets-4, at-most-9, nine-met}
 use Rattle.rules_outcome.proofs.Meets.{refused-is, is-refused, refused-layout, accepted-is, is-accepted}
 use Rattle.rules_outcome.specs.Demand3.{Copy, Standing, Entered}
 use Rattle.rules_outcome.proofs.Enters.{enters-live, enters-cut, Stayed}
@@ -106,8 +106,8 @@ module _ (limits : Limits) (s : State) (now : ℕ) (lent octets : List ℕ) wher
     unfolding four-ofFrame
     passes-2-and-4 no-2 no-4 =
         let x = f .header .exchange in
-        let n = none-applies (two limits s now x (f .header .spi)) (λ h. no-2 (meets-2 f e h)) in
-        let m = none-applies (four f) (λ h. no-4 (meets-4 f e h)) in
+        let n = none-applies (two limits s now x (f .header .spi)) (λ h. no-2 (meets-2 limits s now lent octets f e h)) in
+        let m = none-applies (four f) (λ h. no-4 (meets-4 limits s now lent octets f e h)) in
         ⊎-elim inl (λ r. inr (r, no-wrap-key f (rekey-bars f r) (no-clause (four-ofFrame f) 1 (m .ofFrame))))
         (one-of-four f (not-false (rowOf f .admitted) (no-clause (two-ofFrame x) 0 (n .ofFrame))))
 

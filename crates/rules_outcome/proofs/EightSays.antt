@@ -19,9 +19,9 @@ use Rattle.rules_outcome.specs.Roots.{rootsOf, entriesOf, wrappingSize, 
 use Rattle.rules_outcome.specs.Answer.{EightOf}
 use Rattle.rules_outcome.specs.NamedKey.{Registration, Rekey, Given, OpensUnder}
 use Rattle.rules_outcome.specs.EightSays.{EightSays, key-of-wrong-size, key-of-two-values, sa-of-wrong-size, sa-of-two-values}
-use Rattle.rules_outcome.specs.Meets.{Meets, meets-8}
+use Rattle.rules_outcome.specs.Meets.{Meets}
 use Rattle.rules_outcome.proofs.Rows.{registration-row, lent-size}
-use Rattle.rules_outcome.proofs.Meets.{eight-met}
+use Rattle.rules_outcome.proofs.Meets.{meets-8, eight-met}
 use Rattle.rules_outcome.proofs.Demands.{passes-2-and-4}
 use Rattle.rules_outcome.proofs.Members.{not-in-none, in-map, map-in}
 use Rattle.rules_outcome.proofs.NamedKey.{to-under, under-to, to-lent, from-lent}
@@ -92,5 +92,7 @@ module _ (limits : Limits) (s : State) (now : ℕ) (lent : List ℕ) (f : Frame)
   pub eight-exactly : (octets : List ℕ) → IsFrame octets f → (Meets limits s now lent octets 2 → ⊥) →
       (Meets limits s now lent octets 4 → ⊥) → Meets limits s now lent octets 8 ↔ EightSays limits s now lent f
   eight-exactly octets e no-2 no-4 =
-      let fit = passes-2-and-4 limits s now lent octets f e no-2 no-4 in
-      (λ m. eight-says fit (eight-met limits s now lent octets f e m), λ h. meets-8 f e (says-eight fit h))
+      let fit = passes-2-and-4 limits s now lent octets f e no-2 no-4 in (
+        λ m. eight-says fit (eight-met limits s now lent octets f e m),
+        λ h. meets-8 limits s now lent octets f e (says-eight fit h),
+      )

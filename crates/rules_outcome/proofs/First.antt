@@ -1,7 +1,7 @@
 -- The first condition that holds, in judging order: it is one, and it is given exactly when a condition of its number holds and none with a
 -- lower number does; 0 exactly when none holds. Lists whose numbers rise, from 1 on, are meant.
 use native.Mathlib.Omega.{arith}
-use Prim.Native.Nat.{ℕ, suc, _<_}
+use Prim.Native.Nat.{ℕ, suc, _≤_, _<_}
 use mathlib.Core.Path.{_≡_, refl, ap, sym, _∙_, subst}
 use mathlib.Core.Bool.{Bool, true, _&&_, false≢true}
 use mathlib.Core.Logic.{_⊎_, inl, inr, ⊎-elim}
@@ -11,16 +11,7 @@ use borrow.Author.Tests.{ltb-true}
 use Rattle.state_keys.proofs.Cases.{bool-cases, and-parts}
 use Rattle.rules_refusals.specs.Refusals.{Number, applies, judged}
 use Rattle.rules_outcome.specs.Answer.{Condition, First, byClauses}
-
--- a condition of the list with this number holds
-abbrev pub Holds : List Condition → ℕ → Type 0
-Holds [] n = ⊥
-Holds (c ∷ l) n = (c .holds × (n ≡ c .number)) ⊎ Holds l n
-
--- the numbers of the list rise, each above k
-abbrev pub above : ℕ → List Condition → Bool
-above k [] = true
-above k (c ∷ l) = ltb k (c .number) && above (c .number) l
+use Rattle.rules_outcome.specs.Judging.{SomeHolds, FirstAt, above}
 
 next-above : (k : ℕ) (c : Condition) (l : List Condition) → above k (c ∷ l) ≡ true → (k < c .number) × (above (c .number) l ≡ true)
 next-above k c l a =
@@ -35,19 +26,37 @@ first-one (c ∷ l) n m (inr p) (inl q) = absurd (p .0 (q .0))
 first-one (c ∷ l) n m (inr p) (inr q) = first-one l n m (p .1) (q .1)
 
 -- what holds has a number above
-pub above-holds : (k : ℕ) (l : List Condition) → above k l ≡ true → (n : ℕ) → Holds l n → k < n
+pub above-holds : (k : ℕ) (l : List Condition) → above k l ≡ true → (n : ℕ) → SomeHolds l n → k < n
 above-holds k (c ∷ l) a n (inl h) = let p = next-above k c l a .0 in let e = h .1 in omega arith
 above-holds k (c ∷ l) a n (inr h) =
     let p = next-above k c l a in let g = p .0 in let q = above-holds (c .number) l (p .1) n h in omega arith
 
+-- the numbers of the list are all below k
+abbrev pub below : ℕ → List Condition → Bool
+below k [] = true
+below k (c ∷ l) = ltb (c .number) k && below k l
+
+-- what holds has a number below
+pub below-holds : (k : ℕ) (l : List Condition) → below k l ≡ true → (n : ℕ) → SomeHolds l n → n < k
+below-holds k (c ∷ l) b n (inl h) =
+    let p = ltb-true (c .number) k (and-parts (ltb (c .number) k) (below k l) b .0) in let e = h .1 in omega arith
+below-holds k (c ∷ l) b n (inr h) = below-holds k l (and-parts (ltb (c .number) k) (below k l) b .1) n h
+
+-- what holds and is not below stands behind them
+pub past-holds : (k : ℕ) (l m : List Condition) → below k l ≡ true → (n : ℕ) → k ≤ n → SomeHolds (l ++ m) n → SomeHolds m n
+past-holds k [] m b n g h = h
+past-holds k (c ∷ l) m b n g (inl h) =
+    let p = ltb-true (c .number) k (and-parts (ltb (c .number) k) (below k l) b .0) in let e = h .1 in absurd (omega arith)
+past-holds k (c ∷ l) m b n g (inr h) = past-holds k l m (and-parts (ltb (c .number) k) (below k l) b .1) n g h
+
 -- the first holds
-pub first-holds : (l : List Condition) (n : ℕ) → First l (suc n) → Holds l (suc n)
+pub first-holds : (l : List Condition) (n : ℕ) → First l (suc n) → SomeHolds l (suc n)
 first-holds [] n e = absurd (omega arith)
 first-holds (c ∷ l) n (inl p) = inl p
 first-holds (c ∷ l) n (inr p) = inr (first-holds l n (p .1))
 
 -- none with a lower number does
-pub first-lowest : (k : ℕ) (l : List Condition) → above k l ≡ true → (n : ℕ) → First l n → (m : ℕ) → m < n → Holds l m → ⊥
+pub first-lowest : (k : ℕ) (l : List Condition) → above k l ≡ true → (n : ℕ) → First l n → (m : ℕ) → m < n → SomeHolds l m → ⊥
 first-lowest k (c ∷ l) a n (inl p) m g (inl h) = let e = p .1 in let d = h .1 in absurd (omega arith)
 first-lowest k (c ∷ l) a n (inl p) m g (inr h) =
     let e = p .1 in let d = above-holds (c .number) l (next-above k c l a .1) m h in absurd (omega arith)
@@ -55,32 +64,23 @@ first-lowest k (c ∷ l) a n (inr p) m g (inl h) = p .0 (h .0)
 first-lowest k (c ∷ l) a n (inr p) m g (inr h) = first-lowest (c .number) l (next-above k c l a .1) n (p .1) m g h
 
 -- 0 says that none holds
-pub first-none : (k : ℕ) (l : List Condition) → above k l ≡ true → First l 0 → (m : ℕ) → Holds l m → ⊥
+pub first-none : (k : ℕ) (l : List Condition) → above k l ≡ true → First l 0 → (m : ℕ) → SomeHolds l m → ⊥
 first-none k (c ∷ l) a (inl p) m h = let e = p .1 in let g = next-above k c l a .0 in absurd (omega arith)
 first-none k (c ∷ l) a (inr p) m (inl h) = p .0 (h .0)
 first-none k (c ∷ l) a (inr p) m (inr h) = first-none (c .number) l (next-above k c l a .1) (p .1) m h
 
 -- and conversely
-pub first-is : (k : ℕ) (l : List Condition) → above k l ≡ true → (n : ℕ) → Holds l n → ((m : ℕ) → m < n → Holds l m → ⊥) → First l n
+pub first-is : (k : ℕ) (l : List Condition) → above k l ≡ true → (n : ℕ) → SomeHolds l n → ((m : ℕ) → m < n → SomeHolds l m → ⊥) → First l n
 first-is k (c ∷ l) a n (inl h) none = inl h
 first-is k (c ∷ l) a n (inr h) none =
     let g = above-holds (c .number) l (next-above k c l a .1) n h in
     inr (λ x. none (c .number) g (inl (x, refl)), first-is (c .number) l (next-above k c l a .1) n h (λ m e x. none m e (inr x)))
 
-pub none-first : (l : List Condition) → ((m : ℕ) → Holds l m → ⊥) → First l 0
+pub none-first : (l : List Condition) → ((m : ℕ) → SomeHolds l m → ⊥) → First l 0
 none-first [] none = refl
 none-first (c ∷ l) none = inr (λ x. none (c .number) (inl (x, refl)), none-first l (λ m x. none m (inr x)))
 
 -- ---- the same by the order of judging, whatever the numbers: it holds, and none judged earlier does
-pub record FirstAt (l : List Condition) (n : ℕ) : Type 1 where
-  pub earlier : List Condition
-  pub it : Condition
-  pub later : List Condition
-  pub all : l ≡ earlier ++ (it ∷ later)
-  pub number : n ≡ it .number
-  pub holds : it .holds
-  pub none : (m : ℕ) → Holds earlier m → ⊥
-
 pub first-at : (l : List Condition) (n : ℕ) → First l (suc n) → FirstAt l (suc n)
 first-at [] n e = absurd (omega arith)
 first-at (c ∷ l) n (inl p) =
@@ -97,7 +97,7 @@ first-at (c ∷ l) n (inr p) =
       none = λ m h. ⊎-elim (λ q. p .0 (q .0)) (r .none m) h;
     }
 
-after-earlier : (l : List Condition) (c : Condition) (m : List Condition) → c .holds → ((k : ℕ) → Holds l k → ⊥) →
+after-earlier : (l : List Condition) (c : Condition) (m : List Condition) → c .holds → ((k : ℕ) → SomeHolds l k → ⊥) →
     First (l ++ (c ∷ m)) (c .number)
 after-earlier [] c m h none = inl (h, refl)
 after-earlier (d ∷ l) c m h none = inr (λ x. none (d .number) (inl (x, refl)), after-earlier l c m h (λ k x. none k (inr x)))

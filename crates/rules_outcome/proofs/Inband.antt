@@ -33,11 +33,12 @@ use Rattle.rules_outcome.specs.Answer.{byClauses, conditions}
 use Rattle.rules_outcome.specs.After.{newRekey}
 use Rattle.rules_outcome.specs.Outcome.{Judged, refused, accepted, Outcome, no-layout, by-tree}
 use Rattle.rules_outcome.specs.NamedKey.{Inband, Named, lent-key, lent-in-band, own-key, last-of-chain, held-key, OpensUnder}
-use Rattle.rules_outcome.specs.Meets.{Meets, meets-2}
+use Rattle.rules_outcome.specs.Meets.{Meets}
+use Rattle.rules_outcome.specs.Judging.{SomeHolds}
 use Rattle.rules_outcome.specs.Inband.{Beside, UnderLent}
-use Rattle.rules_outcome.proofs.First.{Holds, above-holds}
+use Rattle.rules_outcome.proofs.First.{above-holds}
 use Rattle.rules_outcome.proofs.Answering.{numbers-rise, lasts}
-use Rattle.rules_outcome.proofs.Meets.{meets-holds, refused-is, accepted-is}
+use Rattle.rules_outcome.proofs.Meets.{meets-2, meets-holds, refused-is, accepted-is}
 use Rattle.rules_outcome.proofs.Rows.{inband-row}
 use Rattle.rules_outcome.proofs.RunsClear.{clear}
 use Rattle.rules_outcome.proofs.RunsReplay.{kept-least}
@@ -78,7 +79,7 @@ unfolding notAcceptable one
 no-3 s f b = rw (inband-row f b)
 
 module _ (limits : Limits) (s : State) (now : ℕ) (lent octets : List ℕ) (f : Frame) (e : IsFrame octets f) (b : Inband f) where
-  holds-3 : Holds (conditions limits s now lent f) 3 → ⊥
+  holds-3 : SomeHolds (conditions limits s now lent f) 3 → ⊥
   holds-3 (inl h) = let y = h .1 in omega arith
   holds-3 (inr (inl h)) = false≢true (sym (no-3 s f b) ∙ h .0)
   holds-3 (inr (inr h)) =
@@ -90,7 +91,7 @@ module _ (limits : Limits) (s : State) (now : ℕ) (lent octets : List ℕ) (f :
   not-3 zero next o z = omega arith
   not-3 (suc n) next o z =
       holds-3
-      (subst (Holds (conditions limits s now lent f)) z
+      (subst (SomeHolds (conditions limits s now lent f)) z
       (meets-holds limits s now lent octets f e (suc n) (refused-is limits s now lent octets n next o .meets)))
 
 -- ---- THE THEOREMS
@@ -130,7 +131,7 @@ module _ (limits : Limits) (s : State) (now : ℕ) (lent octets : List ℕ) (f :
   -- "refuses it for an empty member": at a tick at which every SA is due, or with none, it is number 2, whatever the frame holds and
   -- whatever the member is otherwise
   pub empty-is-2 : all (due now) (sasOf (s .table)) ≡ true → (n ≡ 2) × (next ≡ s)
-  empty-is-2 a = met-2 limits s now lent octets f e (meets-2 f e (empty-applies limits s now f b a)) n next o
+  empty-is-2 a = met-2 limits s now lent octets f e (meets-2 limits s now lent octets f e (empty-applies limits s now f b a)) n next o
 
   -- "The held list stays."
   pub held-stays : next .held ≡ s .held

@@ -25,7 +25,8 @@ use Rattle.rules_chains.specs.Chain.{In}
 use Rattle.rules_chains.proofs.Members.{member-in}
 use Rattle.rules_outcome.specs.Roots.{keyZero}
 use Rattle.rules_outcome.specs.NamedKey.{CameOver}
-use Rattle.rules_outcome.specs.Meets.{Meets, meets-2}
+use Rattle.rules_outcome.specs.Meets.{Meets}
+use Rattle.rules_outcome.proofs.Meets.{meets-2}
 use Rattle.rules_outcome.proofs.Rows.{rekeys}
 use Rattle.rules_outcome.proofs.NamedKey.{zero-own}
 use Rattle.rules_outcome.proofs.OwnKey.{own-key-of-live}
@@ -38,7 +39,7 @@ module _ (limits : Limits) (s : State) (now : ℕ) (lent octets : List ℕ) (f :
     -- the octets of an SA are an array of 68; `KeyZeroInRuns` has the claim without this premise
     (long : (b : Sa) → In b (sasOf (s .table)) → 68 ≤ length (b .octets)) where
   passes : None (two limits s now (f .header .exchange) (f .header .spi))
-  passes = none-applies (two limits s now (f .header .exchange) (f .header .spi)) (λ h. no-2 (meets-2 f e h))
+  passes = none-applies (two limits s now (f .header .exchange) (f .header .spi)) (λ h. no-2 (meets-2 limits s now lent octets f e h))
 
   is-formed : stateFormed limits s ≡ true
   is-formed =

@@ -11,6 +11,7 @@ pub mod Accepting
 pub mod NotRead
 pub mod NamedKey
 pub mod Demands
+pub mod EachAnswered
 pub mod EightSays
 pub mod Following
 pub mod Wider
@@ -41,6 +42,7 @@ pub mod Inband
 pub mod KeyZero
 pub mod KeyZeroInRuns
 pub mod Demand3
+pub mod DemandsHold
 pub mod Stands
 pub mod Needs
 pub mod Ignored

@@ -6,6 +6,7 @@ use mathlib.Core.List.{List, []}
 use Rattle.octets.specs.Walk.{Reading, whole, broken}
 use Rattle.state_keys.specs.Limits.{Limits}
 use Rattle.wire_frames.specs.Frame.{Frame, frame}
+use Rattle.wire_frames.specs.Grammar.{IsFrame}
 use Rattle.wire_frames.proofs.FrameGrammar.{read-frame, frame-read}
 use Rattle.state.specs.declared.State.{State}
 use Rattle.rules_outcome.specs.Outcome.{Judged, NoTree, Outcome, no-layout, by-tree}
@@ -27,6 +28,14 @@ none-broken octets none = go (frame octets) refl
     go : (r : Reading Frame) → frame octets ≡ r → (o : ℕ) × (frame octets ≡ broken o)
     go (whole f rest) e = absurd (none f (read-frame octets f rest e))
     go (broken o) e = (o, e)
+
+-- where not every tree is ruled out, one is laid out as the octets
+pub tree-of : (octets : List ℕ) → (NoTree octets → ⊥) → (f : Frame) × IsFrame octets f
+tree-of octets some = go (frame octets) refl
+  where
+    go : (r : Reading Frame) → frame octets ≡ r → (f : Frame) × IsFrame octets f
+    go (whole f rest) e = (f, read-frame octets f rest e)
+    go (broken o) e = absurd (some (broken-none octets o e))
 
 module _ (limits : Limits) (s : State) (now : ℕ) (lent octets : List ℕ) where
   pub outcome-broken : (o : ℕ) → frame octets ≡ broken o → Outcome limits s now lent octets 1 s

@@ -21,11 +21,11 @@ use Rattle.rules_chains.specs.Chain.{In}
 use Rattle.rules_chains.proofs.Members.{in-member, member-in}
 use Rattle.rules_outcome.specs.NamedKey.{Registration}
 use Rattle.rules_outcome.specs.Outcome.{Outcome}
-use Rattle.rules_outcome.specs.Meets.{Meets, meets-6}
+use Rattle.rules_outcome.specs.Meets.{Meets}
 use Rattle.rules_outcome.specs.WrapsItself.{WrapsItself}
 use Rattle.rules_outcome.proofs.Members.{gather-in, not-in-none}
 use Rattle.rules_outcome.proofs.Bags.{entry-own}
-use Rattle.rules_outcome.proofs.Meets.{is-refused, accepted-is}
+use Rattle.rules_outcome.proofs.Meets.{meets-6, is-refused, accepted-is}
 use Rattle.rules_outcome.proofs.Determined.{outcome-one}
 use Rattle.rules_outcome.proofs.RunsLists.{passes-some, some-passes}
 use Rattle.rules_outcome.proofs.Demands.{passes-2-and-4}
@@ -63,7 +63,9 @@ module _ (limits : Limits) (s : State) (now : ℕ) (lent octets : List ℕ) (f :
   -- "Any such WRAP_KEY, reached or not, now gives number 6": its condition is met, whatever the member, the lent key and the tick are
   pub meets-six : Met 6
   unfolding six-ofFrame
-  meets-six = meets-6 f e (ap (λ (b : Bool). b || one (six-ofMember s now f)) (one-at 8 (six-ofFrame f) (clause f w)))
+  meets-six =
+      meets-6 limits s now lent octets f e
+      (ap (λ (b : Bool). b || one (six-ofMember s now f)) (one-at 8 (six-ofFrame f) (clause f w)))
 
   -- so it is the answer where none lower is met, and the member stays
   module _ (low : (m : ℕ) → m < 6 → Met m → ⊥) where

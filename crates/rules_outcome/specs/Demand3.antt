@@ -97,7 +97,7 @@ module _ (limits : Limits) (s : State) (now : ℕ) (lent : List ℕ) (f : Frame)
     pub is-formed : stateFormed limits next ≡ true
 
   -- THE DEMAND, of the answer's number and the member afterwards
-  pub record Demand3 (octets : List ℕ) (n : ℕ) (next : State) : Type 0 where
+  pub record Demand3 (octets : List ℕ) (n : ℕ) (next : State) : Type 1 where
     -- "A frame that meets none of refusals 1 to 8"
     pub judged : ((m : ℕ) → m < 9 → Meets limits s now lent octets m → ⊥) → Judged9 n
     pub after : n ≡ 0 → OnAcceptance next

@@ -7,10 +7,12 @@ pub mod Samples
 pub mod NamedKey
 pub mod EightSays
 pub mod WrapsItself
+pub mod Judging
 pub mod Meets
 pub mod RestSays
 pub mod LifetimeSays
 pub mod Demand3
+pub mod Demands
 pub mod Stands
 pub mod Wider
 pub mod Inband

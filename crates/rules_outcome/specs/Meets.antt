@@ -1,31 +1,55 @@
--- When the octets of a frame meet the condition of a number: document 01's table, row by row. No contract cites this file.
+-- When the octets of a frame meet the condition of a number: document 01's table, row by row, in the order in which the rows are judged. No
+-- contract cites this file.
 use Prim.Native.Nat.{ℕ, _<_}
 use mathlib.Core.Path.{_≡_}
 use mathlib.Core.Bool.{true}
-use mathlib.Core.List.{List}
+use mathlib.Core.List.{List, [], _∷_, map}
 use Rattle.state_keys.specs.Limits.{Limits}
 use Rattle.wire_frames.specs.Frame.{Frame}
 use Rattle.wire_frames.specs.Grammar.{IsFrame}
 use Rattle.state.specs.declared.State.{State}
 use Rattle.rules_refusals.specs.Refusals.{applies, two, three, four, five, six, seven}
-use Rattle.rules_outcome.specs.Answer.{EightOf, NineOf}
+use Rattle.rules_outcome.specs.Answer.{Condition, EightOf, NineOf}
 use Rattle.rules_outcome.specs.After.{After}
 use Rattle.rules_outcome.specs.Outcome.{NoTree}
+use Rattle.rules_outcome.specs.Judging.{SomeHolds}
+
+-- a row of the table that is judged by a frame's tree: its number, and which trees meet it
+pub record Row : Type 1 where
+  pub number : ℕ
+  pub meets : Frame → Type 0
+
+-- numbers 2 to 7 are met when one of their clauses applies, each with its words in rules_refusals/specs; 8: "a reached wrapping opens to a
+-- wrong size, or two reached ones give one key two values"; 9: "some announced SA has no copy that opens"
+abbrev pub rows : Limits → State → ℕ → List ℕ → List Row
+rows limits s now lent =
+    record { number = 2; meets = λ (f : Frame). applies (two limits s now (f .header .exchange) (f .header .spi)) ≡ true }
+    ∷ record { number = 3; meets = λ (f : Frame). applies (three s (f .header .exchange) (f .header .messageId)) ≡ true }
+    ∷ record { number = 4; meets = λ (f : Frame). applies (four f) ≡ true }
+    ∷ record { number = 5; meets = λ (f : Frame). applies (five lent f) ≡ true }
+    ∷ record { number = 6; meets = λ (f : Frame). applies (six s now f) ≡ true }
+    ∷ record { number = 7; meets = λ (f : Frame). applies (seven limits s now f) ≡ true }
+    ∷ record { number = 8; meets = EightOf limits s now lent }
+    ∷ record { number = 9; meets = NineOf limits s now lent }
+    ∷ []
+
+-- "The other numbers are judged on a frame whose layout is whole": by the tree that is laid out as the octets
+pub record OfTree (octets : List ℕ) (P : Frame → Type 0) : Type 0 where
+  pub tree : Frame
+  pub layout : IsFrame octets tree
+  pub meets : P tree
+
+abbrev pub ofTree : List ℕ → Row → Condition
+ofTree octets r = record { number = r .number; holds = OfTree octets (r .meets) }
 
 module _ (limits : Limits) (s : State) (now : ℕ) (lent octets : List ℕ) where
-  -- the table of document 01: the octets meet the condition of a number. "The other numbers are judged on a frame whose layout is whole."
-  -- Numbers 2 to 7 are met when one of their clauses applies, each with its words in rules_refusals/specs; 8: "a reached wrapping opens to a wrong
-  -- size, or two reached ones give one key two values"; 9: "some announced SA has no copy that opens".
-  pub data Meets : ℕ → Type 0 where
-    meets-1 : NoTree octets → Meets 1
-    meets-2 : (f : Frame) → IsFrame octets f → applies (two limits s now (f .header .exchange) (f .header .spi)) ≡ true → Meets 2
-    meets-3 : (f : Frame) → IsFrame octets f → applies (three s (f .header .exchange) (f .header .messageId)) ≡ true → Meets 3
-    meets-4 : (f : Frame) → IsFrame octets f → applies (four f) ≡ true → Meets 4
-    meets-5 : (f : Frame) → IsFrame octets f → applies (five lent f) ≡ true → Meets 5
-    meets-6 : (f : Frame) → IsFrame octets f → applies (six s now f) ≡ true → Meets 6
-    meets-7 : (f : Frame) → IsFrame octets f → applies (seven limits s now f) ≡ true → Meets 7
-    meets-8 : (f : Frame) → IsFrame octets f → EightOf limits s now lent f → Meets 8
-    meets-9 : (f : Frame) → IsFrame octets f → NineOf limits s now lent f → Meets 9
+  -- THE TABLE OF DOCUMENT 01, of octets and in judging order
+  abbrev pub judgingOrder : List Condition
+  judgingOrder = record { number = 1; holds = NoTree octets } ∷ map (ofTree octets) (rows limits s now lent)
+
+  -- the octets meet the condition of a number
+  pub record Meets (n : ℕ) : Type 0 where
+    pub row : SomeHolds judgingOrder n
 
   -- the number of an outcome is met, none lower is, and the member stays; where it is 0 none is met
   pub record Refused (n : ℕ) (next : State) : Type 0 where
