@@ -10,7 +10,7 @@ use Rattle.wire_frames.specs.Frame.{Frame}
 use Rattle.state.specs.declared.State.{State}
 use Rattle.rules_refusals.specs.Refusals.{numbers, refusal}
 use Rattle.rules_outcome.specs.Answer.{Condition, First, byClauses, EightOf, NineOf, conditions, Answers}
-use Rattle.rules_outcome.specs.Judging.{FirstAt, above}
+use Rattle.rules_outcome.specs.Judging.{JudgedFirst, above}
 use Rattle.rules_outcome.proofs.First.{first-at, at-first, by-clauses, past-clauses, clauses-or-rest}
 
 module _ (limits : Limits) (s : State) (now : ℕ) (lent : List ℕ) (f : Frame) where
@@ -65,5 +65,5 @@ module _ (limits : Limits) (s : State) (now : ℕ) (lent : List ℕ) (f : Frame)
       ⊎-elim (λ q. let z = q .0 in absurd (omega arith)) (λ q. none-last (q .0) (q .1)) (judged-or-past 0 p)
 
   -- "each is judged only when the lower ones don't apply"
-  pub answers-at : (n : ℕ) → Answers limits s now lent f (suc n) ↔ FirstAt (conditions limits s now lent f) (suc n)
+  pub answers-at : (n : ℕ) → Answers limits s now lent f (suc n) ↔ JudgedFirst (conditions limits s now lent f) (suc n)
   answers-at n = (first-at (conditions limits s now lent f) n, at-first (conditions limits s now lent f) (suc n))

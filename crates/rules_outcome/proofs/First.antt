@@ -11,7 +11,7 @@ use borrow.Author.Tests.{ltb-true}
 use Rattle.state_keys.proofs.Cases.{bool-cases, and-parts}
 use Rattle.rules_refusals.specs.Refusals.{Number, applies, judged}
 use Rattle.rules_outcome.specs.Answer.{Condition, First, byClauses}
-use Rattle.rules_outcome.specs.Judging.{SomeHolds, FirstAt, above}
+use Rattle.rules_outcome.specs.Judging.{SomeHolds, JudgedFirst, above}
 
 next-above : (k : ℕ) (c : Condition) (l : List Condition) → above k (c ∷ l) ≡ true → (k < c .number) × (above (c .number) l ≡ true)
 next-above k c l a =
@@ -81,7 +81,7 @@ none-first [] none = refl
 none-first (c ∷ l) none = inr (λ x. none (c .number) (inl (x, refl)), none-first l (λ m x. none m (inr x)))
 
 -- ---- the same by the order of judging, whatever the numbers: it holds, and none judged earlier does
-pub first-at : (l : List Condition) (n : ℕ) → First l (suc n) → FirstAt l (suc n)
+pub first-at : (l : List Condition) (n : ℕ) → First l (suc n) → JudgedFirst l (suc n)
 first-at [] n e = absurd (omega arith)
 first-at (c ∷ l) n (inl p) =
     record { earlier = []; it = c; later = l; all = refl; number = p .1; holds = p .0; none = λ m h. h }
@@ -102,7 +102,7 @@ after-earlier : (l : List Condition) (c : Condition) (m : List Condition) → c 
 after-earlier [] c m h none = inl (h, refl)
 after-earlier (d ∷ l) c m h none = inr (λ x. none (d .number) (inl (x, refl)), after-earlier l c m h (λ k x. none k (inr x)))
 
-pub at-first : (l : List Condition) (n : ℕ) → FirstAt l n → First l n
+pub at-first : (l : List Condition) (n : ℕ) → JudgedFirst l n → First l n
 at-first l n r =
     let p = after-earlier (r .earlier) (r .it) (r .later) (r .holds) (r .none) in
     subst (λ (x : List Condition). First x n) (sym (r .all)) (subst (First (r .earlier ++ (r .it ∷ r .later))) (sym (r .number)) p)

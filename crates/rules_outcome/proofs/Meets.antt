@@ -14,8 +14,8 @@ use Rattle.state.specs.declared.State.{State}
 use Rattle.rules_refusals.specs.Refusals.{applies, two, four, six, numbers}
 use Rattle.rules_outcome.specs.Answer.{Condition, First, byClauses, EightOf, NineOf, conditions}
 use Rattle.rules_outcome.specs.After.{After}
-use Rattle.rules_outcome.specs.Judging.{SomeHolds, FirstAt, above}
-use Rattle.rules_outcome.specs.Meets.{Row, rows, OfTree, ofTree, judgingOrder, Meets, Refused, Accepted}
+use Rattle.rules_outcome.specs.Judging.{SomeHolds, JudgedFirst, above}
+use Rattle.rules_outcome.specs.Meets.{RefusalRow, refusalRows, OfTree, ofTree, judgingOrder, Meets, Refused, Accepted}
 use Rattle.rules_outcome.specs.Outcome.{Judged, refused, accepted, NoTree, Outcome, no-layout, by-tree}
 use Rattle.rules_outcome.proofs.First.{above-holds, below-holds, past-holds, first-holds, first-lowest, first-none, first-is}
 use Rattle.rules_outcome.proofs.First.{none-first, first-at, at-first}
@@ -23,35 +23,35 @@ use Rattle.rules_outcome.proofs.Readings.{tree-of}
 use Rattle.rules_outcome.proofs.Answering.{numbers-rise, lasts}
 
 -- ---- rows on a tree and on the octets that it is laid out as
-abbrev onFrame : Frame → Row → Condition
+abbrev onFrame : Frame → RefusalRow → Condition
 onFrame f r = record { number = r .number; holds = r .meets f }
 
 module _ (octets : List ℕ) where
   module _ (f : Frame) (e : IsFrame octets f) where
-    from : (r : Row) → OfTree octets (r .meets) → r .meets f
+    from : (r : RefusalRow) → OfTree octets (r .meets) → r .meets f
     from r t = subst (r .meets) (one-tree octets (t .tree) f (t .layout) e) (t .meets)
 
-    some-to : (l : List Row) (n : ℕ) → SomeHolds (map (onFrame f) l) n → SomeHolds (map (ofTree octets) l) n
+    some-to : (l : List RefusalRow) (n : ℕ) → SomeHolds (map (onFrame f) l) n → SomeHolds (map (ofTree octets) l) n
     some-to (r ∷ l) n (inl h) = inl (record { tree = f; layout = e; meets = h .0 }, h .1)
     some-to (r ∷ l) n (inr h) = inr (some-to l n h)
 
-    some-from : (l : List Row) (n : ℕ) → SomeHolds (map (ofTree octets) l) n → SomeHolds (map (onFrame f) l) n
+    some-from : (l : List RefusalRow) (n : ℕ) → SomeHolds (map (ofTree octets) l) n → SomeHolds (map (onFrame f) l) n
     some-from (r ∷ l) n (inl h) = inl (from r (h .0), h .1)
     some-from (r ∷ l) n (inr h) = inr (some-from l n h)
 
-    first-to : (l : List Row) (n : ℕ) → First (map (onFrame f) l) n → First (map (ofTree octets) l) n
+    first-to : (l : List RefusalRow) (n : ℕ) → First (map (onFrame f) l) n → First (map (ofTree octets) l) n
     first-to [] n p = p
     first-to (r ∷ l) n (inl p) = inl (record { tree = f; layout = e; meets = p .0 }, p .1)
     first-to (r ∷ l) n (inr p) = inr (λ t. p .0 (from r t), first-to l n (p .1))
 
-    first-from : (l : List Row) (n : ℕ) → First (map (ofTree octets) l) n → First (map (onFrame f) l) n
+    first-from : (l : List RefusalRow) (n : ℕ) → First (map (ofTree octets) l) n → First (map (onFrame f) l) n
     first-from [] n p = p
     first-from (r ∷ l) n (inl p) = inl (from r (p .0), p .1)
     first-from (r ∷ l) n (inr p) =
         inr (λ h. p .0 (record { tree = f; layout = e; meets = h }), first-from l n (p .1))
 
   -- a row that holds has a tree
-  some-tree : (l : List Row) (n : ℕ) → SomeHolds (map (ofTree octets) l) n → (f : Frame) × IsFrame octets f
+  some-tree : (l : List RefusalRow) (n : ℕ) → SomeHolds (map (ofTree octets) l) n → (f : Frame) × IsFrame octets f
   some-tree (r ∷ l) n (inl h) = (h .0 .tree, h .0 .layout)
   some-tree (r ∷ l) n (inr h) = some-tree l n h
 
@@ -62,8 +62,8 @@ module _ (limits : Limits) (s : State) (now : ℕ) (lent octets : List ℕ) wher
   abbrev order : List Condition
   order = judgingOrder limits s now lent octets
 
-  abbrev table : List Row
-  table = rows limits s now lent
+  abbrev table : List RefusalRow
+  table = refusalRows limits s now lent
 
   -- today's numbers rise in judging order
   pub order-rises : above 0 (judgingOrder limits s now lent octets) ≡ true
@@ -138,7 +138,7 @@ module _ (limits : Limits) (s : State) (now : ℕ) (lent octets : List ℕ) wher
       by-tree (t .0) (t .1) (refused n (first-from octets (t .0) (t .1) table (suc n) (p .1)))
 
   pub refused-first : (n : ℕ) (next : State) →
-      Outcome limits s now lent octets (suc n) next ↔ (FirstAt (judgingOrder limits s now lent octets) (suc n) × (next ≡ s))
+      Outcome limits s now lent octets (suc n) next ↔ (JudgedFirst (judgingOrder limits s now lent octets) (suc n) × (next ≡ s))
   refused-first n next = (
     λ o. let g = given n next o in (first-at order n (g .first), g .stays),
     λ p.
@@ -148,7 +148,7 @@ module _ (limits : Limits) (s : State) (now : ℕ) (lent octets : List ℕ) wher
 
   -- as the numbers rise, judged earlier is lower
   pub earlier-is-lower : (n : ℕ) →
-      FirstAt (judgingOrder limits s now lent octets) (suc n)
+      JudgedFirst (judgingOrder limits s now lent octets) (suc n)
       ↔ (Meets limits s now lent octets (suc n) × ((m : ℕ) → m < suc n → Meets limits s now lent octets m → ⊥))
   earlier-is-lower n = (
     λ a.

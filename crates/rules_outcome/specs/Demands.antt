@@ -23,7 +23,7 @@ use Rattle.state.specs.State.{stateFormed}
 use Rattle.rules_chains.specs.Chain.{In, Root, Reached}
 use Rattle.rules_outcome.specs.After.{After}
 use Rattle.rules_outcome.specs.Outcome.{Outcome}
-use Rattle.rules_outcome.specs.Judging.{FirstAt, above}
+use Rattle.rules_outcome.specs.Judging.{JudgedFirst, above}
 use Rattle.rules_outcome.specs.Meets.{judgingOrder, Meets, Accepted}
 use Rattle.rules_outcome.specs.Demand3.{Demand3}
 
@@ -42,7 +42,7 @@ module _ (s : State) (now : ℕ) (lent octets : List ℕ) where
     -- "each exactly when its condition holds and no lower one does", lower being judged earlier, "and a refusal changes nothing in the
     -- member"
     pub exactly : (n : ℕ) (next : State) →
-        Outcome limits s now lent octets (suc n) next ↔ (FirstAt (judgingOrder limits s now lent octets) (suc n) × (next ≡ s))
+        Outcome limits s now lent octets (suc n) next ↔ (JudgedFirst (judgingOrder limits s now lent octets) (suc n) × (next ≡ s))
     -- "Bad input": 0 is given exactly when no condition holds
     pub accepted : (next : State) → Outcome limits s now lent octets 0 next ↔ Accepted limits s now lent octets next
     pub zero-due : (n : ℕ) (next : State) → Outcome limits s now lent octets n next → ((m : ℕ) → Meets limits s now lent octets m → ⊥) →
@@ -50,7 +50,7 @@ module _ (s : State) (now : ℕ) (lent octets : List ℕ) where
     -- today's numbers rise in judging order, so what is judged earlier has a lower number
     pub rise : above 0 (judgingOrder limits s now lent octets) ≡ true
     pub lower : (n : ℕ) →
-        FirstAt (judgingOrder limits s now lent octets) (suc n)
+        JudgedFirst (judgingOrder limits s now lent octets) (suc n)
         ↔ (Meets limits s now lent octets (suc n) × ((m : ℕ) → m < suc n → Meets limits s now lent octets m → ⊥))
 
   -- ---- demand 2

@@ -15,7 +15,7 @@ SomeHolds (c ∷ l) n = (c .holds × (n ≡ c .number)) ⊎ SomeHolds l n
 
 -- "each exactly when its condition holds and no lower one does", where ""lower" in demand 1 and document 01 means judged earlier" (document
 -- 02, T-05): the condition at some place of the list has this number and holds, and none at an earlier place does
-pub record FirstAt (l : List Condition) (n : ℕ) : Type 1 where
+pub record JudgedFirst (l : List Condition) (n : ℕ) : Type 1 where
   pub earlier : List Condition
   pub it : Condition
   pub later : List Condition

@@ -15,22 +15,21 @@ use Rattle.rules_outcome.specs.Outcome.{NoTree}
 use Rattle.rules_outcome.specs.Judging.{SomeHolds}
 
 -- a row of the table that is judged by a frame's tree: its number, and which trees meet it
-pub record Row : Type 1 where
+pub record RefusalRow : Type 1 where
   pub number : ℕ
   pub meets : Frame → Type 0
 
 -- numbers 2 to 7 are met when one of their clauses applies, each with its words in rules_refusals/specs; 8: "a reached wrapping opens to a
 -- wrong size, or two reached ones give one key two values"; 9: "some announced SA has no copy that opens"
-abbrev pub rows : Limits → State → ℕ → List ℕ → List Row
-rows limits s now lent =
+abbrev pub refusalRows : Limits → State → ℕ → List ℕ → List RefusalRow
+refusalRows limits s now lent =
     record { number = 2; meets = λ (f : Frame). applies (two limits s now (f .header .exchange) (f .header .spi)) ≡ true }
     ∷ record { number = 3; meets = λ (f : Frame). applies (three s (f .header .exchange) (f .header .messageId)) ≡ true }
     ∷ record { number = 4; meets = λ (f : Frame). applies (four f) ≡ true }
     ∷ record { number = 5; meets = λ (f : Frame). applies (five lent f) ≡ true }
     ∷ record { number = 6; meets = λ (f : Frame). applies (six s now f) ≡ true }
     ∷ record { number = 7; meets = λ (f : Frame). applies (seven limits s now f) ≡ true }
-    ∷ record { number = 8; meets = EightOf limits s now lent }
-    ∷ record { number = 9; meets = NineOf limits s now lent }
+    ∷ record { number = 8; meets = EightOf limits s now lent } ∷ record { number = 9; meets = NineOf limits s now lent }
     ∷ []
 
 -- "The other numbers are judged on a frame whose layout is whole": by the tree that is laid out as the octets
@@ -39,13 +38,13 @@ pub record OfTree (octets : List ℕ) (P : Frame → Type 0) : Type 0 where
   pub layout : IsFrame octets tree
   pub meets : P tree
 
-abbrev pub ofTree : List ℕ → Row → Condition
+abbrev pub ofTree : List ℕ → RefusalRow → Condition
 ofTree octets r = record { number = r .number; holds = OfTree octets (r .meets) }
 
 module _ (limits : Limits) (s : State) (now : ℕ) (lent octets : List ℕ) where
   -- THE TABLE OF DOCUMENT 01, of octets and in judging order
   abbrev pub judgingOrder : List Condition
-  judgingOrder = record { number = 1; holds = NoTree octets } ∷ map (ofTree octets) (rows limits s now lent)
+  judgingOrder = record { number = 1; holds = NoTree octets } ∷ map (ofTree octets) (refusalRows limits s now lent)
 
   -- the octets meet the condition of a number
   pub record Meets (n : ℕ) : Type 0 where
