@@ -10,10 +10,10 @@ use Rattle.state_table.specs.Table.{tableFormed, sasOf, swept}
 use Rattle.state_table.specs.declared.Table.{Table}
 use Rattle.state_table.proofs.Exactly as ofExactly
 
-pub sweep-leaves : (limits : Limits) (t : Table) (f : tableFormed limits t ≡ true) → (now : ℕ) (s : Sa) →
+pub sweep-leaves : (limits : Limits) (t : Table) (f : tableFormed limits t ≡ true) (now : ℕ) (s : Sa) →
     List·Memᴰ s (sasOf (swept limits now t)) → List·Memᴰ s (sasOf t) × (due now s ≡ false)
 sweep-leaves = ofExactly.sweep-leaves
 
-pub sweep-keeps : (limits : Limits) (t : Table) (f : tableFormed limits t ≡ true) → (now : ℕ) (s : Sa) → List·Memᴰ s (sasOf t) →
+pub sweep-keeps : (limits : Limits) (t : Table) (f : tableFormed limits t ≡ true) (now : ℕ) (s : Sa) → List·Memᴰ s (sasOf t) →
     due now s ≡ false → List·Memᴰ s (sasOf (swept limits now t))
 sweep-keeps = ofExactly.sweep-keeps

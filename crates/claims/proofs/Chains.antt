@@ -22,33 +22,33 @@ use Rattle.rules_chains.proofs.Faults as ofFaults
 use Rattle.keywrap.proofs.Wrapping as ofWrapping
 pub use Rattle.rules_chains.proofs.Faults.{copy-no-fault}
 
-pub announced-are : (f : Frame) → (p : GroupSaPolicy) → In p (announced f) ↔ HasPolicy f (groupSa p)
+pub announced-are : (f : Frame) (p : GroupSaPolicy) → In p (announced f) ↔ HasPolicy f (groupSa p)
 announced-are = ofStands.announced-are
 
-pub group-bags-are : (f : Frame) → (b : GroupKeyBag) → In b (groupBags f) ↔ HasBag f (groupKeys b)
+pub group-bags-are : (f : Frame) (b : GroupKeyBag) → In b (groupBags f) ↔ HasBag f (groupKeys b)
 group-bags-are = ofStands.group-bags-are
 
-pub deleted-are : (f : Frame) → (x : List ℕ) → In x (deletedSpis f) ↔ HasSpi f x
+pub deleted-are : (f : Frame) (x : List ℕ) → In x (deletedSpis f) ↔ HasSpi f x
 deleted-are = ofStands.deleted-are
 
-pub reached-first : (roots : List Root) (entries : List WrapKey) (size : ℕ) → (r : Root) → In r roots → (e : WrapKey) → In e entries →
+pub reached-first : (roots : List Root) (entries : List WrapKey) (size : ℕ) (r : Root) → In r roots → (e : WrapKey) → In e entries →
     e .kwkId ≡ r .id → (x : List ℕ) → Opens (r .value) (e .wrapped) x → Reached roots entries size (e .keyId) x
 reached-first = ofClosure.reached-first
 
-pub reached-on : (roots : List Root) (entries : List WrapKey) (size : ℕ) → (k : ℕ) (v : List ℕ) → Reached roots entries size k v →
+pub reached-on : (roots : List Root) (entries : List WrapKey) (size : ℕ) (k : ℕ) (v : List ℕ) → Reached roots entries size k v →
     length v ≡ size → (e : WrapKey) → In e entries → e .kwkId ≡ k → (x : List ℕ) → Opens v (e .wrapped) x →
     Reached roots entries size (e .keyId) x
 reached-on = ofClosure.reached-on
 
 pub reached-least : (roots : List Root) (entries : List WrapKey) (size : ℕ) (P : ℕ → List ℕ → Type 0) (first : (r : Root) → In r roots → (e
     : WrapKey) → In e entries → e .kwkId ≡ r .id → (x : List ℕ) → Opens (r .value) (e .wrapped) x → P (e .keyId) x) (on : (k : ℕ) (v : List
-    ℕ) → P k v → length v ≡ size → (e : WrapKey) → In e entries → e .kwkId ≡ k → (x : List ℕ) → Opens v (e .wrapped) x → P (e .keyId) x) →
+    ℕ) → P k v → length v ≡ size → (e : WrapKey) → In e entries → e .kwkId ≡ k → (x : List ℕ) → Opens v (e .wrapped) x → P (e .keyId) x)
     (k : ℕ) (x : List ℕ) → Reached roots entries size k x → P k x
 reached-least = ofClosure.reached-least
 
 pub leads-nowhere : (roots : List Root) (size : ℕ) (entries more : List WrapKey) (added : WrapKey)
     (adds : (e : WrapKey) → In e more ↔ ((e ≡ added) ⊎ In e entries))
-    (fails : (v x : List ℕ) → Ends roots entries size (added .kwkId) v → Opens v (added .wrapped) x → ⊥) → (k : ℕ) (x : List ℕ) →
+    (fails : (v x : List ℕ) → Ends roots entries size (added .kwkId) v → Opens v (added .wrapped) x → ⊥) (k : ℕ) (x : List ℕ) →
     Reached roots more size k x ↔ Reached roots entries size k x
 leads-nowhere = ofFaults.leads-nowhere
 
@@ -60,7 +60,7 @@ entry-no-fault = ofFaults.entry-no-fault
 
 pub opens-nothing : (roots : List Root) (size : ℕ) (entries : List WrapKey) (copies more : List SaKey) (need : ℕ) (added : SaKey)
     (adds : (c : SaKey) → In c more ↔ ((c ≡ added) ⊎ In c copies))
-    (fails : (v x : List ℕ) → Ends roots entries size (added .kwkId) v → Opens v (added .wrapped) x → ⊥) → (x : List ℕ) →
+    (fails : (v x : List ℕ) → Ends roots entries size (added .kwkId) v → Opens v (added .wrapped) x → ⊥) (x : List ℕ) →
     CopyOpens roots entries size more x ↔ CopyOpens roots entries size copies x
 opens-nothing = ofFaults.opens-nothing
 

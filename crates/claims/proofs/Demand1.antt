@@ -22,34 +22,34 @@ pub each-answered : (limits : Limits) (s : State) (now : ℕ) (lent octets : Lis
     (none : (n : ℕ) (next : State) → Outcome limits s now lent octets n next → ⊥) → ⊥
 each-answered = ofEachAnswered.each-answered
 
-pub one-of-nine : (limits : Limits) (s : State) (now : ℕ) (lent octets : List ℕ) → (n : ℕ) (next : State) →
+pub one-of-nine : (limits : Limits) (s : State) (now : ℕ) (lent octets : List ℕ) (n : ℕ) (next : State) →
     Outcome limits s now lent octets n next → n ≤ 9
 one-of-nine = ofDemands.one-of-nine
 
-pub refused-first : (limits : Limits) (s : State) (now : ℕ) (lent octets : List ℕ) → (n : ℕ) (next : State) →
+pub refused-first : (limits : Limits) (s : State) (now : ℕ) (lent octets : List ℕ) (n : ℕ) (next : State) →
     Outcome limits s now lent octets (suc n) next ↔ (JudgedFirst (judgingOrder limits s now lent octets) (suc n) × (next ≡ s))
 refused-first = ofMeets.refused-first
 
 pub order-rises : (limits : Limits) (s : State) (now : ℕ) (lent octets : List ℕ) → above 0 (judgingOrder limits s now lent octets) ≡ true
 order-rises = ofMeets.order-rises
 
-pub earlier-is-lower : (limits : Limits) (s : State) (now : ℕ) (lent octets : List ℕ) → (n : ℕ) → JudgedFirst
+pub earlier-is-lower : (limits : Limits) (s : State) (now : ℕ) (lent octets : List ℕ) (n : ℕ) → JudgedFirst
     (judgingOrder limits s now lent octets) (suc n) ↔
     (Meets limits s now lent octets (suc n) × ((m : ℕ) → m < suc n → Meets limits s now lent octets m → ⊥))
 earlier-is-lower = ofMeets.earlier-is-lower
 
-pub refused-exactly : (limits : Limits) (s : State) (now : ℕ) (lent octets : List ℕ) → (n : ℕ) (next : State) →
+pub refused-exactly : (limits : Limits) (s : State) (now : ℕ) (lent octets : List ℕ) (n : ℕ) (next : State) →
     Outcome limits s now lent octets (suc n) next ↔ Refused limits s now lent octets (suc n) next
 refused-exactly = ofDemands.refused-exactly
 
-pub accepted-exactly : (limits : Limits) (s : State) (now : ℕ) (lent octets : List ℕ) → (next : State) →
+pub accepted-exactly : (limits : Limits) (s : State) (now : ℕ) (lent octets : List ℕ) (next : State) →
     Outcome limits s now lent octets 0 next ↔ Accepted limits s now lent octets next
 accepted-exactly = ofDemands.accepted-exactly
 
-pub zero-due : (limits : Limits) (s : State) (now : ℕ) (lent octets : List ℕ) → (n : ℕ) (next : State) →
+pub zero-due : (limits : Limits) (s : State) (now : ℕ) (lent octets : List ℕ) (n : ℕ) (next : State) →
     Outcome limits s now lent octets n next → ((m : ℕ) → Meets limits s now lent octets m → ⊥) → n ≡ 0
 zero-due = ofDemands.zero-due
 
-pub refusal-keeps : (limits : Limits) (s : State) (now : ℕ) (lent octets : List ℕ) → (n : ℕ) (next : State) →
+pub refusal-keeps : (limits : Limits) (s : State) (now : ℕ) (lent octets : List ℕ) (n : ℕ) (next : State) →
     Outcome limits s now lent octets n next → (n ≡ 0 → ⊥) → next ≡ s
 refusal-keeps = ofDemands.refusal-keeps

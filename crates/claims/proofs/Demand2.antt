@@ -26,7 +26,7 @@ frame-read = ofFrameGrammar.frame-read
 pub one-tree : (s : List ℕ) (x y : Frame) → IsFrame s x → IsFrame s y → x ≡ y
 one-tree = ofFrameGrammar.one-tree
 
-pub outcome-one : (limits : Limits) (s : State) (now : ℕ) (lent : List ℕ) → (octets : List ℕ) (n m : ℕ) (next after : State) →
+pub outcome-one : (limits : Limits) (s : State) (now : ℕ) (lent : List ℕ) (octets : List ℕ) (n m : ℕ) (next after : State) →
     Outcome limits s now lent octets n next → Outcome limits s now lent octets m after → (n ≡ m) × (next ≡ after)
 outcome-one = ofDetermined.outcome-one
 

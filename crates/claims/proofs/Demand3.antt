@@ -19,15 +19,13 @@ use Rattle.state.specs.declared.least.Least.{Least}
 use Rattle.rules_refusals.specs.Contents.{wrapKeysOf, announced}
 use Rattle.rules_refusals.specs.Fitness.{isEsp, encryptionOctets, keyWrapOctets}
 use Rattle.rules_chains.specs.Chain.{In}
-use Rattle.rules_outcome.proofs.Accepting.{OpensTo}
-use Rattle.rules_outcome.proofs.Asked.{Found}
-use Rattle.rules_outcome.proofs.Enters.{Stayed}
 use Rattle.rules_outcome.specs.After.{leastAfterwards, delayOf}
+use Rattle.rules_outcome.specs.AskedSays.{AskedSays}
 use Rattle.rules_outcome.specs.Demand3.{Demand3, HeldExactly, Copy, Standing, Entered}
 use Rattle.rules_outcome.specs.Meets.{Meets}
-use Rattle.rules_outcome.specs.NamedKey.{Registration, lentRoot, OpensUnder, Rekey}
+use Rattle.rules_outcome.specs.NamedKey.{Registration, lentRoot, OpensTo, OpensUnder, Rekey}
 use Rattle.rules_outcome.specs.Outcome.{Outcome}
-use Rattle.rules_outcome.specs.RestSays.{LeastAs, DelayAs, OldSa}
+use Rattle.rules_outcome.specs.RestSays.{Stayed, LeastAs, DelayAs, OldSa}
 use Rattle.rules_outcome.specs.Stands.{HasWrapKey}
 use Rattle.gikev2.proofs.Asked.{Answered}
 use Rattle.gikev2.specs.Member.{saAnswer}
@@ -47,53 +45,52 @@ pub demand-3-within : (s : State) (now : ℕ) (lent octets : List ℕ) (f : Fram
 demand-3-within = ofDemand3.demand-3-within
 
 pub demand-3 : (limits : Limits) (enough : limits .wrapKeys ≤ limits .heldKeys) (s : State) (now : ℕ) (lent octets : List ℕ) (f : Frame)
-    (e : IsFrame octets f) → (n : ℕ) (next : State) → Outcome limits s now lent octets n next → Demand3 limits s now lent f octets n next
+    (e : IsFrame octets f) (n : ℕ) (next : State) → Outcome limits s now lent octets n next → Demand3 limits s now lent f octets n next
 demand-3 = ofDemand3.demand-3
 
-pub held-after-registration : (limits : Limits) (s : State) (now : ℕ) (lent octets : List ℕ) (f : Frame) (e : IsFrame octets f) →
-    (next : State) → Outcome limits s now lent octets 0 next → Registration f →
-    HeldExactly (lentRoot lent) (wrapKeysOf f) (length lent) (next .held)
+pub held-after-registration :
+    (limits : Limits) (s : State) (now : ℕ) (lent octets : List ℕ) (f : Frame) (e : IsFrame octets f) (next : State) →
+    Outcome limits s now lent octets 0 next → Registration f → HeldExactly (lentRoot lent) (wrapKeysOf f) (length lent) (next .held)
 held-after-registration = ofDemands.held-after-registration
 
-pub entries-are : (f : Frame) → (e : WrapKey) → In e (wrapKeysOf f) ↔ HasWrapKey f e
+pub entries-are : (f : Frame) (e : WrapKey) → In e (wrapKeysOf f) ↔ HasWrapKey f e
 entries-are = ofStands.entries-are
 
 pub accepted-when-each-opens : (limits : Limits) (s : State) (now : ℕ) (lent octets : List ℕ) (f : Frame) (e : IsFrame octets f)
-    (none : (m : ℕ) → m < 9 → Meets limits s now lent octets m → ⊥) → (n : ℕ) (next : State) → Outcome limits s now lent octets n next →
+    (none : (m : ℕ) → m < 9 → Meets limits s now lent octets m → ⊥) (n : ℕ) (next : State) → Outcome limits s now lent octets n next →
     (n ≡ 0) ↔ ((a : GroupSaPolicy) → In a (announced f) → Copy limits s now lent f a)
 accepted-when-each-opens = ofDemands.accepted-when-each-opens
 
 pub copies-of-own-bag : (limits : Limits) (s : State) (now : ℕ) (lent octets : List ℕ) (f : Frame) (e : IsFrame octets f)
-    (no-2 : Meets limits s now lent octets 2 → ⊥) (no-4 : Meets limits s now lent octets 4 → ⊥) → (a : GroupSaPolicy) (x : List ℕ) →
+    (no-2 : Meets limits s now lent octets 2 → ⊥) (no-4 : Meets limits s now lent octets 4 → ⊥) (a : GroupSaPolicy) (x : List ℕ) →
     OpensTo limits s now lent f a x ↔ OpensUnder limits s now lent f a x
 copies-of-own-bag = ofDemands.copies-of-own-bag
 
 pub refused-when-one-does-not : (limits : Limits) (s : State) (now : ℕ) (lent octets : List ℕ) (f : Frame) (e : IsFrame octets f)
-    (none : (m : ℕ) → m < 9 → Meets limits s now lent octets m → ⊥) → (n : ℕ) (next : State) → Outcome limits s now lent octets n next →
+    (none : (m : ℕ) → m < 9 → Meets limits s now lent octets m → ⊥) (n : ℕ) (next : State) → Outcome limits s now lent octets n next →
     (n ≡ 9) ↔ ((a : GroupSaPolicy) × In a (announced f) × (Copy limits s now lent f a → ⊥))
 refused-when-one-does-not = ofDemands.refused-when-one-does-not
 
 pub accepted-or-9 : (limits : Limits) (s : State) (now : ℕ) (lent octets : List ℕ) (f : Frame) (e : IsFrame octets f)
-    (none : (m : ℕ) → m < 9 → Meets limits s now lent octets m → ⊥) → (n : ℕ) (next : State) → Outcome limits s now lent octets n next →
+    (none : (m : ℕ) → m < 9 → Meets limits s now lent octets m → ⊥) (n : ℕ) (next : State) → Outcome limits s now lent octets n next →
     (n ≡ 0) ⊎ (n ≡ 9)
 accepted-or-9 = ofDemands.accepted-or-9
 
 pub each-stands : (limits : Limits) (s : State) (now : ℕ) (lent octets : List ℕ) (f : Frame) (e : IsFrame octets f) (next : State)
-    (o : Outcome limits s now lent octets 0 next) → (p : GroupSaPolicy) → In p (announced f) → Standing limits s now lent f next p
+    (o : Outcome limits s now lent octets 0 next) (p : GroupSaPolicy) → In p (announced f) → Standing limits s now lent f next p
 each-stands = ofDemands.each-stands
 
-pub entered-live : (limits : Limits) (s : State) (now : ℕ) (lent octets : List ℕ) (f : Frame) (e : IsFrame octets f) → (b : Sa) →
+pub entered-live : (limits : Limits) (s : State) (now : ℕ) (lent octets : List ℕ) (f : Frame) (e : IsFrame octets f) (b : Sa) →
     Entered limits s now lent f b → isLive (b .condition) ≡ true
 entered-live = ofDemands.entered-live
 
-pub entered-parts : (limits : Limits) (s : State) (now : ℕ) (lent octets : List ℕ) (f : Frame) (e : IsFrame octets f) →
-    (b : Sa) (n : Entered limits s now lent f b) → isEsp (n .policy) ≡ false →
+pub entered-parts : (limits : Limits) (s : State) (now : ℕ) (lent octets : List ℕ) (f : Frame) (e : IsFrame octets f) (b : Sa)
+    (n : Entered limits s now lent f b) → isEsp (n .policy) ≡ false →
     (b .encryption ≡ encryptionOctets (n .policy)) × (b .wrapping ≡ keyWrapOctets (n .policy)) × (b .octets ≡ padded 68 (n .octets))
 entered-parts = ofDemands.entered-parts
 
 pub table-after : (limits : Limits) (s : State) (now : ℕ) (lent octets : List ℕ) (f : Frame) (e : IsFrame octets f) (next : State)
-    (o : Outcome limits s now lent octets 0 next) → (b : Sa) →
-    In b (sasOf (next .table)) ↔ (Entered limits s now lent f b ⊎ Stayed s now f b)
+    (o : Outcome limits s now lent octets 0 next) (b : Sa) → In b (sasOf (next .table)) ↔ (Entered limits s now lent f b ⊎ Stayed s now f b)
 table-after = ofDemands.table-after
 
 pub rest-after : (limits : Limits) (s : State) (now : ℕ) (lent octets : List ℕ) (f : Frame) (e : IsFrame octets f) (next : State)
@@ -101,24 +98,23 @@ pub rest-after : (limits : Limits) (s : State) (now : ℕ) (lent octets : List �
 rest-after = ofDemands.rest-after
 
 pub least-after : (limits : Limits) (s : State) (now : ℕ) (lent octets : List ℕ) (f : Frame) (e : IsFrame octets f) (next : State)
-    (o : Outcome limits s now lent octets 0 next) → (l : Least) → (next .least ≡ l) ↔ LeastAs f (s .least) l
+    (o : Outcome limits s now lent octets 0 next) (l : Least) → (next .least ≡ l) ↔ LeastAs f (s .least) l
 least-after = ofRest.least-after
 
 pub delay-after : (limits : Limits) (s : State) (now : ℕ) (lent octets : List ℕ) (f : Frame) (e : IsFrame octets f) (next : State)
-    (o : Outcome limits s now lent octets 0 next) → (d : ℕ) → (delayOf f ≡ d) ↔ DelayAs f d
+    (o : Outcome limits s now lent octets 0 next) (d : ℕ) → (delayOf f ≡ d) ↔ DelayAs f d
 delay-after = ofRest.delay-after
 
 pub old-after : (limits : Limits) (s : State) (now : ℕ) (lent octets : List ℕ) (f : Frame) (e : IsFrame octets f) (next : State)
-    (o : Outcome limits s now lent octets 0 next) → (b : Sa) →
-    In b (sasOf (next .table)) ↔ (Entered limits s now lent f b ⊎ OldSa f s now b)
+    (o : Outcome limits s now lent octets 0 next) (b : Sa) → In b (sasOf (next .table)) ↔ (Entered limits s now lent f b ⊎ OldSa f s now b)
 old-after = ofRest.old-after
 
 pub asked-after : (limits : Limits) (enough : limits .wrapKeys ≤ limits .heldKeys) (s : State) (now : ℕ) (lent octets : List ℕ) (f : Frame)
-    (e : IsFrame octets f) (next : State) (o : Outcome limits s now lent octets 0 next) → (p : GroupSaPolicy) → In p (announced f) →
-    Found limits enough s now lent octets f e next o p
+    (e : IsFrame octets f) (next : State) (o : Outcome limits s now lent octets 0 next) (p : GroupSaPolicy) → In p (announced f) →
+    AskedSays limits s now lent f next p
 asked-after = ofAsked.asked-after
 
 pub answered-after : (m : Member) (now : ℕ) (lent s : List ℕ) (f : Frame) (e : IsFrame s f) (next : Member)
-    (r : Receives m now lent s answer.Accepted next) → (p : GroupSaPolicy) → In p (announced f) →
+    (r : Receives m now lent s answer.Accepted next) (p : GroupSaPolicy) → In p (announced f) →
     Answered m now lent s f e next r p (saAnswer (p .protocol) (p .spi) next)
 answered-after = ofGikev2Asked.answered-after

@@ -54,10 +54,10 @@ key-zero-in-runs = ofKeyZeroInRuns.key-zero-in-runs
 pub left-new : (m : Member) → leftMember m ≡ newMember
 left-new = ofKept.left-new
 
-pub swept-no : (limits : Limits) (s : State) → (now : ℕ) → stateFormed limits s ≡ false → s ≡ sweptState limits now s
+pub swept-no : (limits : Limits) (s : State) (now : ℕ) → stateFormed limits s ≡ false → s ≡ sweptState limits now s
 swept-no = ofLaws.swept-no
 
-pub asked-no : (limits : Limits) (s : State) → (p : ℕ) (x : List ℕ) (r : Found) → stateFormed limits s ≡ false → r ≡ none →
+pub asked-no : (limits : Limits) (s : State) (p : ℕ) (x : List ℕ) (r : Found) → stateFormed limits s ≡ false → r ≡ none →
     r ≡ askedSa limits p x s
 asked-no = ofLaws.asked-no
 
@@ -74,7 +74,7 @@ pub ignored-octets : (s t : List ℕ) (x : Frame) (i : IsFrame s x) → Alike (f
 ignored-octets = ofIgnored.ignored-octets
 
 pub ignored-outcome : (limits : Limits) (s : State) (now : ℕ) (lent octets other : List ℕ) (f : Frame) (i : IsFrame octets f)
-    (a : Alike (frameMask octets f i) octets other) → (n : ℕ) (next : State) → Outcome limits s now lent octets n next →
+    (a : Alike (frameMask octets f i) octets other) (n : ℕ) (next : State) → Outcome limits s now lent octets n next →
     Outcome limits s now lent other n next
 ignored-outcome = ofRulesoutcomeIgnored.ignored-outcome
 

@@ -12,10 +12,10 @@ use Rattle.gikev2.specs.declared.call.Answer.{Answer}
 use Rattle.gikev2.proofs.ReceiveLaws as ofReceiveLaws
 use Rattle.rules_outcome.proofs.Determined as ofDetermined
 
-pub receives-one : (m : Member) (now : ℕ) (lent octets : List ℕ) → (a b : Answer) (next after : Member) →
-    Receives m now lent octets a next → Receives m now lent octets b after → (a ≡ b) × (next ≡ after)
+pub receives-one : (m : Member) (now : ℕ) (lent octets : List ℕ) (a b : Answer) (next after : Member) → Receives m now lent octets a next →
+    Receives m now lent octets b after → (a ≡ b) × (next ≡ after)
 receives-one = ofReceiveLaws.receives-one
 
-pub judged-one : (limits : Limits) (s : State) (now : ℕ) (lent : List ℕ) (f : Frame) → (n m : ℕ) (next after : State) →
+pub judged-one : (limits : Limits) (s : State) (now : ℕ) (lent : List ℕ) (f : Frame) (n m : ℕ) (next after : State) →
     Judged limits s now lent f n next → Judged limits s now lent f m after → (n ≡ m) × (next ≡ after)
 judged-one = ofDetermined.judged-one

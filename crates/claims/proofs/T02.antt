@@ -27,7 +27,7 @@ use Rattle.rules_outcome.proofs.Runs as ofRuns
 pub use Rattle.rules_refusals.proofs.SamplesAlone.{alone4, alone5}
 pub use Rattle.rules_refusals.proofs.SamplesInband.{samplesInband}
 
-pub inband-roots : (limits : Limits) (s : State) (now : ℕ) (f : Frame) (e : rowOf f ≡ inband) → (lent : List ℕ) →
+pub inband-roots : (limits : Limits) (s : State) (now : ℕ) (f : Frame) (e : rowOf f ≡ inband) (lent : List ℕ) →
     rootsOf limits s now lent f ≡ lentRoot lent
 inband-roots = ofRows.inband-roots
 
@@ -35,12 +35,12 @@ pub one-of-four : (f : Frame) → rowOf f .admitted ≡ true → Registration f 
 one-of-four = ofRows.one-of-four
 
 pub header-not-read : (limits : Limits) (s : State) (now : ℕ) (lent octets : List ℕ) (f : Frame) (e : IsFrame octets f) (b : Inband f)
-    (n : ℕ) (next : State) (o : Outcome limits s now lent octets n next) → (others : List ℕ) (g : Frame) → IsFrame others g → Inband g →
+    (n : ℕ) (next : State) (o : Outcome limits s now lent octets n next) (others : List ℕ) (g : Frame) → IsFrame others g → Inband g →
     f .payloads ≡ g .payloads → Outcome limits s now lent others n next
 header-not-read = ofInband.header-not-read
 
 pub least-not-judged : (limits : Limits) (s : State) (now : ℕ) (lent octets : List ℕ) (f : Frame) (e : IsFrame octets f) (b : Inband f)
-    (n : ℕ) (next : State) (o : Outcome limits s now lent octets n next) → (l : Least) →
+    (n : ℕ) (next : State) (o : Outcome limits s now lent octets n next) (l : Least) →
     Beside limits s (record { table = s .table; held = s .held; least = l }) now lent octets n next
 least-not-judged = ofInband.least-not-judged
 
@@ -54,15 +54,15 @@ no-wrap-key = ofRows.no-wrap-key
 pub rekey-bars : (f : Frame) → Rekey f → rowOf f .«allows_member_bag» ≡ false
 rekey-bars = ofRows.rekey-bars
 
-pub opens-under-lent : (limits : Limits) (s : State) (now : ℕ) (lent : List ℕ) (f : Frame) (b : Inband f) →
-    (a : GroupSaPolicy) (x : List ℕ) → OpensUnder limits s now lent f a x ↔ UnderLent lent f a x
+pub opens-under-lent : (limits : Limits) (s : State) (now : ℕ) (lent : List ℕ) (f : Frame) (b : Inband f) (a : GroupSaPolicy) (x : List ℕ) →
+    OpensUnder limits s now lent f a x ↔ UnderLent lent f a x
 opens-under-lent = ofInband.opens-under-lent
 
 pub names-held : (x : ℕ) → exchangeOf x .«names_held_keys» ≡ true → x ≡ 41
 names-held = ofRows.names-held
 
 pub held-not-read : (limits : Limits) (s : State) (now : ℕ) (lent octets : List ℕ) (f : Frame) (e : IsFrame octets f) (b : Inband f) (n : ℕ)
-    (next : State) (o : Outcome limits s now lent octets n next) → (h : Held) → stateFormed limits s ≡ true →
+    (next : State) (o : Outcome limits s now lent octets n next) (h : Held) → stateFormed limits s ≡ true →
     stateFormed limits (record { table = s .table; held = h; least = s .least }) ≡ true →
     Beside limits s (record { table = s .table; held = h; least = s .least }) now lent octets n next
 held-not-read = ofInband.held-not-read

@@ -12,17 +12,17 @@ use Rattle.aes.proofs.Enciphering as ofEnciphering
 use Rattle.aes.proofs.Deciphering as ofDeciphering
 use Rattle.aes.proofs.Determined as ofDetermined
 
-pub enciphered : {key t k : List ℕ} (e : t ≡ encipherTables) (x : Expands key k) → (s : State) →
+pub enciphered : {key t k : List ℕ} (e : t ≡ encipherTables) (x : Expands key k) (s : State) →
     blockOf (runOf t k s) ≡ cipher key (blockOf s)
 enciphered = ofEnciphering.enciphered
 
-pub deciphered : {key t k : List ℕ} (e : t ≡ decipherTables) (x : ExpandsInverse key k) → (s : State) →
+pub deciphered : {key t k : List ℕ} (e : t ≡ decipherTables) (x : ExpandsInverse key k) (s : State) →
     blockOf (swappedOf (runOf t k (swappedOf s))) ≡ invCipher key (blockOf s)
 deciphered = ofDeciphering.deciphered
 
-pub expands-one : (s t : List ℕ) (small : Words s) (small′ : Words t) → (key : List ℕ) → Expands key s → Expands key t → s ≡ t
+pub expands-one : (s t : List ℕ) (small : Words s) (small′ : Words t) (key : List ℕ) → Expands key s → Expands key t → s ≡ t
 expands-one = ofDetermined.expands-one
 
-pub expands-inverse-one : (s t : List ℕ) (small : Words s) (small′ : Words t) → (key : List ℕ) → ExpandsInverse key s →
-    ExpandsInverse key t → s ≡ t
+pub expands-inverse-one : (s t : List ℕ) (small : Words s) (small′ : Words t) (key : List ℕ) → ExpandsInverse key s → ExpandsInverse key t →
+    s ≡ t
 expands-inverse-one = ofDetermined.expands-inverse-one

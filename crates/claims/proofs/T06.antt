@@ -23,14 +23,13 @@ use Rattle.wire_frames.proofs.FrameBreaks as ofFrameBreaks
 use Rattle.gikev2.proofs.Where as ofWhere
 pub use Rattle.wire_frames.proofs.AllBreaks.{too-long, key-too-long}
 
-pub spot-broken : (p : Place) → (b : ℕ) (s : List ℕ) (o : ℕ) →
-    (spotOf s (attribute p b s) ≡ spot.Broken o) ↔ (FaultOfAttribute p s × (o ≡ b))
+pub spot-broken : (p : Place) (b : ℕ) (s : List ℕ) (o : ℕ) → (spotOf s (attribute p b s) ≡ spot.Broken o) ↔ (FaultOfAttribute p s × (o ≡ b))
 spot-broken = ofBreakLaws.spot-broken
 
 pub broken-exactly : (s : List ℕ) (o : ℕ) → (frame s ≡ broken o) ↔ BreaksFrame s o
 broken-exactly = ofFrameBreaks.broken-exactly
 
-pub layout-broken : (s : List ℕ) → (o : ℕ) → (frameLayout s ≡ layout.Broken o) ↔ BreaksFrame s o
+pub layout-broken : (s : List ℕ) (o : ℕ) → (frameLayout s ≡ layout.Broken o) ↔ BreaksFrame s o
 layout-broken = ofFrameBreaks.layout-broken
 
 pub one-break : (s : List ℕ) (m n : ℕ) → BreaksFrame s m → BreaksFrame s n → m ≡ n
@@ -46,8 +45,8 @@ pub where-1 : (m : Member) (now : ℕ) (lent octets : List ℕ) (a : Answer) (ne
     numberOf a ≡ 1 → BreaksFrame octets (figureOf a)
 where-1 = ofWhere.where-1
 
-pub breaks-1 : (m : Member) (now : ℕ) (lent octets : List ℕ) (a : Answer) (next : Member) (r : Receives m now lent octets a next) →
-    (o : ℕ) → BreaksFrame octets o → (a ≡ answer.BrokenLayout o) × (next ≡ m)
+pub breaks-1 : (m : Member) (now : ℕ) (lent octets : List ℕ) (a : Answer) (next : Member) (r : Receives m now lent octets a next) (o : ℕ) →
+    BreaksFrame octets o → (a ≡ answer.BrokenLayout o) × (next ≡ m)
 breaks-1 = ofWhere.breaks-1
 
 pub others-0 : (m : Member) (now : ℕ) (lent octets : List ℕ) (a : Answer) (next : Member) (r : Receives m now lent octets a next) →

@@ -55,7 +55,7 @@ means-due = ofLifetimes.means-due
 pub runs-out : (start n : ℕ) (inside : start < 2 ^ 32) → n ≤ mostSeconds → ranOut ((start + 1000 * n) % 2 ^ 32) (Limited start n) ≡ true
 runs-out = ofLifetimes.runs-out
 
-pub not-before : (start n : ℕ) (inside : start < 2 ^ 32) → (k : ℕ) → k < 1000 * n → k < 2 ^ 32 →
+pub not-before : (start n : ℕ) (inside : start < 2 ^ 32) (k : ℕ) → k < 1000 * n → k < 2 ^ 32 →
     ranOut ((start + k) % 2 ^ 32) (Limited start n) ≡ false
 not-before = ofLifetimes.not-before
 

@@ -27,15 +27,15 @@ use Rattle.rules_outcome.proofs.RunsReplay as ofRunsReplay
 use Rattle.rules_outcome.proofs.RunsQuiet as ofRunsQuiet
 use Rattle.rules_outcome.proofs.EightSays as ofEightSays
 
-pub outside-state : (limits : Limits) (s t : State) (now tick : ℕ) (f : Frame) → (lent : List ℕ) →
+pub outside-state : (limits : Limits) (s t : State) (now tick : ℕ) (f : Frame) (lent : List ℕ) →
     map frameHalf (numbers limits s now lent f) ≡ map frameHalf (numbers limits t tick lent f)
 outside-state = ofHalves.outside-state
 
-pub own-state : (limits : Limits) (s t : State) (now tick : ℕ) (f : Frame) → (lent other : List ℕ) →
+pub own-state : (limits : Limits) (s t : State) (now tick : ℕ) (f : Frame) (lent other : List ℕ) →
     map (λ (n : Number). n .ofMember) (numbers limits s now lent f) ≡ map (λ (n : Number). n .ofMember) (numbers limits s now other f)
 own-state = ofHalves.own-state
 
-pub one-for-all : (limits : Limits) (s t : State) (now tick : ℕ) (f : Frame) → (lent : List ℕ) →
+pub one-for-all : (limits : Limits) (s t : State) (now tick : ℕ) (f : Frame) (lent : List ℕ) →
     all sparesMember (numbers limits s now lent f) ≡ true → all sparesMember (numbers limits t tick lent f) ≡ true →
     refusal limits s now lent f ≡ refusal limits t tick lent f
 one-for-all = ofHalves.one-for-all
@@ -43,7 +43,7 @@ one-for-all = ofHalves.one-for-all
 pub numbers-rise : (limits : Limits) (s : State) (now : ℕ) (lent : List ℕ) (f : Frame) → above 1 (conditions limits s now lent f) ≡ true
 numbers-rise = ofAnswering.numbers-rise
 
-pub one-exactly : (limits : Limits) (s : State) (now : ℕ) (lent octets : List ℕ) → (next : State) →
+pub one-exactly : (limits : Limits) (s : State) (now : ℕ) (lent octets : List ℕ) (next : State) →
     Outcome limits s now lent octets 1 next ↔ (NoTree octets × (next ≡ s))
 one-exactly = ofDemands.one-exactly
 
@@ -53,11 +53,11 @@ broken-none = ofReadings.broken-none
 pub none-broken : (octets : List ℕ) → NoTree octets → (o : ℕ) × (frame octets ≡ broken o)
 none-broken = ofReadings.none-broken
 
-pub outcome-broken : (limits : Limits) (s : State) (now : ℕ) (lent octets : List ℕ) → (o : ℕ) → frame octets ≡ broken o →
+pub outcome-broken : (limits : Limits) (s : State) (now : ℕ) (lent octets : List ℕ) (o : ℕ) → frame octets ≡ broken o →
     Outcome limits s now lent octets 1 s
 outcome-broken = ofReadings.outcome-broken
 
-pub outcome-read : (limits : Limits) (s : State) (now : ℕ) (lent octets : List ℕ) → (f : Frame) → frame octets ≡ whole f [] →
+pub outcome-read : (limits : Limits) (s : State) (now : ℕ) (lent octets : List ℕ) (f : Frame) → frame octets ≡ whole f [] →
     (n : ℕ) (next : State) → Judged limits s now lent f n next → Outcome limits s now lent octets n next
 outcome-read = ofReadings.outcome-read
 
@@ -79,15 +79,15 @@ pub refused-quiet :
     (n ≡ 0 → ⊥) → Quiet limits (answered octets lent now n o)
 refused-quiet = ofRunsQuiet.refused-quiet
 
-pub without-rekey-quiet :
-    (limits : Limits) (s : State) (octets lent : List ℕ) (now n : ℕ) (next : State) (o : Outcome limits s now lent octets n next) →
-    (f : Frame) → IsFrame octets f → newRekey f ≡ false → Quiet limits (answered octets lent now n o)
+pub without-rekey-quiet : (limits : Limits) (s : State) (octets lent : List ℕ) (now n : ℕ) (next : State)
+    (o : Outcome limits s now lent octets n next) (f : Frame) → IsFrame octets f → newRekey f ≡ false →
+    Quiet limits (answered octets lent now n o)
 without-rekey-quiet = ofRunsQuiet.without-rekey-quiet
 
-pub sweep-quiet : (limits : Limits) (s : State) → (now : ℕ) → Quiet limits {s = s} (swept now)
+pub sweep-quiet : (limits : Limits) (s : State) (now : ℕ) → Quiet limits {s = s} (swept now)
 sweep-quiet = ofRunsQuiet.sweep-quiet
 
-pub eight-exactly : (limits : Limits) (s : State) (now : ℕ) (lent : List ℕ) (f : Frame) → (octets : List ℕ) → IsFrame octets f →
+pub eight-exactly : (limits : Limits) (s : State) (now : ℕ) (lent : List ℕ) (f : Frame) (octets : List ℕ) → IsFrame octets f →
     (Meets limits s now lent octets 2 → ⊥) → (Meets limits s now lent octets 4 → ⊥) →
     Meets limits s now lent octets 8 ↔ EightSays limits s now lent f
 eight-exactly = ofEightSays.eight-exactly

@@ -18,13 +18,15 @@ use Rattle.rules_refusals.specs.Contents.{announced}
 use Rattle.rules_chains.specs.Chain.{In, Root, CopyOpens}
 use Rattle.rules_chains.specs.Refusals.{Announced, EntriesEight, of-entries, of-copies}
 use Rattle.rules_chains.specs.Refusals as refusals
-use Rattle.rules_outcome.specs.Roots.{rootsOf, entriesOf, wrappingSize, copiesOf, needOf, announcedAs, announcedKeys}
+use Rattle.rules_outcome.specs.Roots.{rootsOf, entriesOf, wrappingSize, needOf, announcedAs, announcedKeys}
 use Rattle.rules_outcome.specs.Answer.{EightOf, NineOf, Answers}
 use Rattle.rules_outcome.specs.After.{oldSas, saFrom, insertAll, After}
 use Rattle.rules_outcome.specs.Demand3.{NewBy, EnteredBy}
+use Rattle.rules_outcome.specs.NamedKey.{OpensTo}
+use Rattle.rules_outcome.specs.RestSays.{Stayed}
 use Rattle.rules_outcome.specs.Outcome.{Judged, accepted, Outcome, by-tree}
 use Rattle.rules_outcome.proofs.Members.{in-map, map-in}
-use Rattle.rules_outcome.proofs.Enters.{each-enters, entered-is, in-all, all-in, Stayed, old-stayed, stayed-old}
+use Rattle.rules_outcome.proofs.Enters.{each-enters, entered-is, in-all, all-in, old-stayed, stayed-old}
 use Rattle.rules_outcome.proofs.HeldList.{not-other}
 
 -- two ways of saying that a copy opens, of which each gives the other
@@ -57,13 +59,9 @@ module _ (limits : Limits) (s : State) (now : ℕ) (lent : List ℕ) where
     abbrev pub Opened : List SaKey → List ℕ → Type 0
     Opened l x = CopyOpens (rootsOf limits s now lent f) (entriesOf f) (wrappingSize limits s now lent f) l x
 
-    -- a copy of the announced SA's key opens to x
-    abbrev pub OpensTo : GroupSaPolicy → List ℕ → Type 0
-    OpensTo a x = Opened (copiesOf f a) x
-
     -- a copy opens, to something
     abbrev pub HasCopy : GroupSaPolicy → Type 0
-    HasCopy a = (x : List ℕ) × OpensTo a x
+    HasCopy a = (x : List ℕ) × OpensTo limits s now lent f a x
 
     -- number 9 by the policies
     pub nine-policy : NineOf limits s now lent f → (a : GroupSaPolicy) × In a (announced f) × (HasCopy a → ⊥)
@@ -83,7 +81,7 @@ module _ (limits : Limits) (s : State) (now : ℕ) (lent : List ℕ) where
       pub entries-fit : EntriesEight (rootsOf limits s now lent f) (entriesOf f) (wrappingSize limits s now lent f) → ⊥
       entries-fit e = none (of-entries e)
 
-      pub copy-fits : (a : GroupSaPolicy) → In a (announced f) → (x : List ℕ) → OpensTo a x → length x ≡ needOf a
+      pub copy-fits : (a : GroupSaPolicy) → In a (announced f) → (x : List ℕ) → OpensTo limits s now lent f a x → length x ≡ needOf a
       unfolding announcedKeys
       copy-fits a m x o =
           not-other (length x) (needOf a)
@@ -100,10 +98,10 @@ module _ (limits : Limits) (s : State) (now : ℕ) (lent : List ℕ) where
 
     -- ---- the table after acceptance
     abbrev pub New : List Sa → GroupSaPolicy → Type 0
-    New l a = NewBy now OpensTo l a
+    New l a = NewBy now (OpensTo limits s now lent f) l a
 
     abbrev pub Entered : Sa → Type 0
-    Entered b = EnteredBy now OpensTo f b
+    Entered b = EnteredBy now (OpensTo limits s now lent f) f b
 
     module _ (next : State) (after : After limits s now lent f next) (none : EightOf limits s now lent f → ⊥) where
       abbrev roots : List Root

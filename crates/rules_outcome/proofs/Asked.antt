@@ -33,8 +33,8 @@ use Rattle.rules_chains.proofs.Members.{in-member}
 use Rattle.rules_outcome.specs.Roots.{needOf}
 use Rattle.rules_outcome.specs.After.{lifetimeFrom, saFrom}
 use Rattle.rules_outcome.specs.Outcome.{Outcome}
-use Rattle.rules_outcome.specs.NamedKey.{OpensUnder}
 use Rattle.rules_outcome.specs.LifetimeSays.{LifetimeAs, its-seconds, no-lifetime}
+use Rattle.rules_outcome.specs.AskedSays.{AskedSays}
 use Rattle.rules_outcome.proofs.Demands.{each-stands}
 use Rattle.rules_outcome.proofs.RunsClear.{taken}
 use Rattle.rules_outcome.proofs.RunsAccepted.{kinds, lasts}
@@ -104,22 +104,6 @@ module _ (now : ℕ) (a : GroupSaPolicy) (x : List ℕ) (n : length x ≡ needOf
 
 module _ (limits : Limits) (enough : limits .wrapKeys ≤ limits .heldKeys) (s : State) (now : ℕ) (lent octets : List ℕ) (f : Frame)
     (e : IsFrame octets f) (next : State) (o : Outcome limits s now lent octets 0 next) where
-  -- the question about an announced SA's protocol and SPI finds an SA with the octets that every copy of its key opens to, as many as its
-  -- policy needs, live, with its policy's lifetime from the frame's tick on, and a Rekey SA with the octet counts of its policy's two parts
-  pub record Found (p : GroupSaPolicy) : Type 0 where
-    pub keying : List ℕ
-    pub opens : OpensUnder limits s now lent f p keying
-    pub every : (y : List ℕ) → OpensUnder limits s now lent f p y → y ≡ keying
-    pub size : length keying ≡ needOf p
-    pub sa : Sa
-    pub found : askedSa limits (p .protocol) (p .spi) next ≡ record { found = true; sa = sa }
-    pub protocol : sa .protocol ≡ p .protocol
-    pub has : take (sa .count) (sa .octets) ≡ keying
-    pub count : sa .count ≡ needOf p
-    pub live : sa .condition ≡ Live
-    pub lifetime : LifetimeAs now p (sa .lifetime)
-    pub parts : p .protocol ≡ 6 → (sa .encryption ≡ encryptionOctets p) × (sa .wrapping ≡ keyWrapOctets p)
-
   next-formed : stateFormed limits next ≡ true
   next-formed =
       let t = taken limits s now lent octets f next e o in
@@ -132,7 +116,7 @@ module _ (limits : Limits) (enough : limits .wrapKeys ≤ limits .heldKeys) (s :
       let t = and-parts (tableFormed limits (next .table)) (heldFormed limits (next .held)) next-formed in
       rw next-formed (sa-found limits (next .table) (t .0) p x b (in-member b (sasOf (next .table)) m) n)
 
-  pub asked-after : (p : GroupSaPolicy) → In p (announced f) → Found p
+  pub asked-after : (p : GroupSaPolicy) → In p (announced f) → AskedSays limits s now lent f next p
   asked-after p m =
       let n = each-stands limits s now lent octets f e next o p m in
       let x = n .octets in

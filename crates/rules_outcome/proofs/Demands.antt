@@ -34,21 +34,22 @@ use Rattle.rules_outcome.specs.Outcome.{NoTree, Outcome, no-layout}
 use Rattle.rules_outcome.specs.Meets.{Meets, Refused, Accepted}
 use Rattle.rules_outcome.proofs.Meets.{meets-2, meets-4, at-most-9, nine-met}
 use Rattle.rules_outcome.proofs.Meets.{refused-is, is-refused, refused-layout, accepted-is, is-accepted}
+use Rattle.rules_outcome.specs.RestSays.{Stayed}
 use Rattle.rules_outcome.specs.Demand3.{Copy, Standing, Entered}
-use Rattle.rules_outcome.proofs.Enters.{enters-live, enters-cut, Stayed}
+use Rattle.rules_outcome.proofs.Enters.{enters-live, enters-cut}
 use Rattle.rules_outcome.proofs.Answering.{accepts}
 use Rattle.rules_outcome.proofs.RunsClear.{none-applies}
 use Rattle.rules_outcome.specs.NamedKey.{Registration, Rekey, lentRoot}
 use Rattle.rules_outcome.proofs.Rows.{registration-row, rekeys, inband-row, rekey-bars, one-of-four, no-wrap-key}
 use Rattle.rules_outcome.proofs.Rows.{lent-roots, lent-size, inband-held}
 use Rattle.rules_outcome.proofs.NotRead.{same-outcome}
-use Rattle.rules_outcome.specs.NamedKey.{OpensUnder}
+use Rattle.rules_outcome.specs.NamedKey.{OpensUnder, OpensTo}
 use Rattle.rules_outcome.proofs.NamedKey.{to-under, under-to}
 use Rattle.rules_outcome.specs.NamedKey.{OfMemberBags}
 use Rattle.rules_outcome.proofs.Bags.{entry-own, passed-stand}
 use Rattle.rules_outcome.specs.Demand3.{HeldExactly}
 use Rattle.rules_outcome.proofs.HeldList.{registration-sets, rekey-leaves, held-exactly}
-use Rattle.rules_outcome.proofs.Accepting.{OpensTo, HasCopy, nine-policy, entries-fit, after-opens, whole-accepted}
+use Rattle.rules_outcome.proofs.Accepting.{HasCopy, nine-policy, entries-fit, after-opens, whole-accepted}
 use Rattle.rules_outcome.proofs.Accepting.{new-by, entered-by, new-stands, stands-as, as-stands}
 
 module _ (limits : Limits) (s : State) (now : ℕ) (lent octets : List ℕ) where

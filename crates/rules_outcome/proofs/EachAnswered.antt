@@ -31,7 +31,8 @@ use Rattle.rules_chains.proofs.Determined.{copies-one, value-one, last-entry}
 use Rattle.rules_chains.proofs.Members.{in-member, member-in}
 use Rattle.rules_outcome.specs.Roots.{rootsOf, entriesOf, wrappingSize, announcedAs, announcedKeys}
 use Rattle.rules_outcome.specs.Answer.{Condition, First, conditions, Answers}
-use Rattle.rules_outcome.specs.After.{Enter, no-sa, one-more, saFrom, insertAll, oldSas, leastAfterwards, Holds, HeldAre, HeldBy, After}
+use Rattle.rules_outcome.specs.After.{Enter, no-sa, one-more, saFrom, insertAll, oldSas, leastAfterwards, Holds, HeldAre, HeldBy}
+use Rattle.rules_outcome.specs.After.{After}
 use Rattle.rules_outcome.specs.Outcome.{refused, accepted, Outcome, no-layout, by-tree}
 use Rattle.rules_outcome.proofs.Members.{in-head, in-tail, in-cases, not-in-none, map-in}
 use Rattle.rules_outcome.proofs.RunsLists.{some-passes}
@@ -76,7 +77,8 @@ module _ (roots : List Root) (entries : List WrapKey) (size : ℕ) where
           ⊎-elim
           (λ e.
           let u : Value roots entries size i y = subst (λ (n : ℕ). Value roots entries size n y) e w in
-          let q : record { id = j; key = wrappingOf y } ≡ record { id = i; key = wrappingOf y } = λ n. record { id = e n; key = wrappingOf y } in
+          let q : record { id = j; key = wrappingOf y } ≡ record { id = i; key = wrappingOf y } =
+          λ n. record { id = e n; key = wrappingOf y } in
           subst (λ (a : HeldKey). In a l) (sym (q ∙ same-key y u)) m)
           (λ h. into (record { id = j; key = wrappingOf y }) (g .all j h y w))
           (in-cases j i ids h)

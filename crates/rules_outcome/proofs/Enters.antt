@@ -22,6 +22,7 @@ use Rattle.rules_chains.specs.Chain.{In, Root}
 use Rattle.rules_chains.specs.Refusals.{KeyOf}
 use Rattle.rules_outcome.specs.Roots.{announcedAs}
 use Rattle.rules_outcome.specs.After.{oldSa, oldSas, saFrom, insertAll, Enter, no-sa, one-more}
+use Rattle.rules_outcome.specs.RestSays.{Stayed}
 use Rattle.rules_chains.proofs.Members.{in-member, member-in}
 use Rattle.rules_outcome.proofs.Members.{in-head, in-tail, in-cases, not-in-none, in-keep, keep-in, in-map, map-in}
 
@@ -99,20 +100,14 @@ module _ (b : Sa) where
 
 -- ---- the old ones
 module _ (s : State) (now : ℕ) (f : Frame) where
-  pub record Stayed (b : Sa) : Type 0 where
-    pub old : Sa
-    pub stood : In old (sasOf (s .table))
-    pub not-due : due now old ≡ false
-    pub is : b ≡ oldSa now f old
-
-  pub old-stayed : (b : Sa) → In b (oldSas s now f) → Stayed b
+  pub old-stayed : (b : Sa) → In b (oldSas s now f) → Stayed s now f b
   unfolding oldSas
   old-stayed b i =
       let r = in-map (oldSa now f) b (standing now s) i in
       let k = in-keep (r .item) (stays now) (sasOf (s .table)) (r .stands) in
       record { old = r .item; stood = k .0; not-due = not-true (due now (r .item)) (k .1); is = r .is }
 
-  pub stayed-old : (b : Sa) → Stayed b → In b (oldSas s now f)
+  pub stayed-old : (b : Sa) → Stayed s now f b → In b (oldSas s now f)
   unfolding oldSas
   stayed-old b r =
       map-in (oldSa now f) b (standing now s) (r .old)

@@ -16,12 +16,11 @@ use Rattle.rules_refusals.specs.Contents.{rowOf, wrapKeysOf}
 use Rattle.rules_chains.specs.Chain.{In, Root, root, Reached, Ends}
 use Rattle.rules_chains.proofs.Determined.{ends-by, last-entry}
 use Rattle.rules_outcome.specs.Roots.{ownKey, keyZero, heldRoot, rootsOf, entriesOf, wrappingSize}
-use Rattle.rules_outcome.specs.NamedKey.{Registration, Inband, Rekey, lentRoot, Given, OpensUnder}
+use Rattle.rules_outcome.specs.NamedKey.{Registration, Inband, Rekey, lentRoot, Given, OpensUnder, OpensTo}
 use Rattle.rules_outcome.specs.NamedKey.{Named, lent-key, lent-in-band, own-key, last-of-chain, held-key}
 use Rattle.rules_outcome.proofs.Rows.{names-held, registration-row, rekeys, inband-row, lent-roots, lent-size}
 use Rattle.rules_outcome.proofs.Members.{in-head, in-tail, in-cases, not-in-none, in-map, map-in}
 use Rattle.rules_outcome.proofs.Bags.{copy-own, own-copy}
-use Rattle.rules_outcome.proofs.Accepting.{OpensTo}
 
 -- a list that is taken on a condition
 in-cond : {A : Type 0} (a : A) (b : Bool) (l : List A) → In a (cond b l []) → (b ≡ true) × In a l

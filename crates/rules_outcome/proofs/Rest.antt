@@ -42,9 +42,8 @@ use Rattle.rules_outcome.specs.Outcome.{Outcome}
 use Rattle.rules_outcome.proofs.Rows.{registration-row, rekeys, inband-row, one-of-four}
 use Rattle.rules_outcome.specs.RestSays.{NewRekey, NoNewRekey, LeastAs, its-initial-id, else-0, of-registration, own-plus-1}
 use Rattle.rules_outcome.specs.RestSays.{none-any-more, as-before, DelayAs, given, none-in-it, no-group-wide, Ends, by-its-spi, by-spi-0}
-use Rattle.rules_outcome.specs.RestSays.{by-new-rekey, Becomes, kept, turned, OldSa}
+use Rattle.rules_outcome.specs.RestSays.{by-new-rekey, Becomes, kept, turned, OldSa, Stayed}
 use Rattle.rules_outcome.proofs.Members.{in-head, in-cases, not-in-none}
-use Rattle.rules_outcome.proofs.Enters.{Stayed}
 use Rattle.rules_outcome.specs.Demand3.{Entered}
 use Rattle.rules_outcome.proofs.Demands.{table-after}
 use Rattle.rules_outcome.proofs.RunsLists.{none-passes, some-passes, passes-some}

@@ -11,6 +11,7 @@ pub mod Judging
 pub mod Meets
 pub mod RestSays
 pub mod LifetimeSays
+pub mod AskedSays
 pub mod Demand3
 pub mod Demands
 pub mod Stands

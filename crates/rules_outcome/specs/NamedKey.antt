@@ -22,8 +22,8 @@ use Rattle.state.specs.declared.State.{State}
 use Rattle.state.specs.declared.held.HeldKey.{HeldKey}
 use Rattle.state.specs.Held.{keysOf}
 use Rattle.rules_refusals.specs.Contents.{groupBags, memberBags, wrapKeysOf}
-use Rattle.rules_chains.specs.Chain.{In, Root, Chain, Reached}
-use Rattle.rules_outcome.specs.Roots.{ownKey, keyZero}
+use Rattle.rules_chains.specs.Chain.{In, Root, Chain, Reached, CopyOpens}
+use Rattle.rules_outcome.specs.Roots.{ownKey, keyZero, rootsOf, entriesOf, wrappingSize, copiesOf}
 use Rattle.rules_outcome.specs.Meets.{Meets}
 
 -- "Registration frames (GSA_AUTH, GSA_REGISTRATION responses)": exchange types 39 and 40
@@ -86,6 +86,10 @@ module _ (limits : Limits) (s : State) (now : ℕ) (lent : List ℕ) (f : Frame)
     pub value : List ℕ
     pub named : Named (copy .kwkId) value
     pub opens : Opens value (copy .wrapped) x
+
+  -- the same in the words of the outcome: a copy of the announced SA's key opens to x (`copies-of-own-bag`, proofs/Demands.antt)
+  abbrev pub OpensTo : GroupSaPolicy → List ℕ → Type 0
+  OpensTo a x = CopyOpens (rootsOf limits s now lent f) (entriesOf f) (wrappingSize limits s now lent f) (copiesOf f a) x
 
 -- KEY 0 OF A REKEY: "GSA_REKEY frames use the live Rekey SA's own"; "The default key of the live Rekey SA: the key wrap part of its keying
 -- octets, cut as 001 section 3.4 orders", "GSK_e | GSK_a | GSK_w = KEYMAT" with no GSK_a. The frame came over that SA, which stands

@@ -16,6 +16,7 @@ use Rattle.state.specs.declared.least.Least.{Least}
 use Rattle.state.specs.declared.least.Least.the-variants.{Id, NoneAnyMore}
 use Rattle.rules_refusals.specs.Contents.{announced, groupWides, deletedSpis}
 use Rattle.rules_chains.specs.Chain.{In}
+use Rattle.rules_outcome.specs.After.{oldSa}
 use Rattle.rules_outcome.specs.NamedKey.{Registration, Inband}
 
 module _ (f : Frame) where
@@ -64,3 +65,10 @@ module _ (f : Frame) where
     pub stood : In was (sasOf (s .table))
     pub not-due : due now was ≡ false
     pub becomes : Becomes now was b
+
+-- the same in the words of the outcome
+pub record Stayed (s : State) (now : ℕ) (f : Frame) (b : Sa) : Type 0 where
+  pub old : Sa
+  pub stood : In old (sasOf (s .table))
+  pub not-due : due now old ≡ false
+  pub is : b ≡ oldSa now f old
