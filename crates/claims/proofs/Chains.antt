@@ -6,8 +6,8 @@ use mathlib.Core.Path.{_≡_}
 use lib.ListN.{length}
 use Rattle.octets.specs.Octets.{Octets}
 use Rattle.fips197.specs.Key.{Key}
-use Rattle.keywrap.specs.Opens.{Opens}
-use Rattle.keywrap.specs.Wrap.{wrapOf, blocks}
+use Rattle.rfc5649.specs.Opens.{Opens}
+use Rattle.rfc5649.specs.Wrap.{wrapOf, blocks}
 use Rattle.wire_attributes.specs.Tree.{WrapKey, SaKey}
 use Rattle.wire_policies.specs.Policy.{GroupSaPolicy, groupSa}
 use Rattle.wire_bags.specs.Bag.{GroupKeyBag, groupKeys}

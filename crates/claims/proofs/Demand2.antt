@@ -6,7 +6,7 @@ use Rattle.octets.specs.Octets.{Octets}
 use Rattle.octets.specs.Walk.{whole}
 use Rattle.fips197.specs.Key.{Key}
 use Rattle.keywrap.specs.Answers.{OpenAnswers, WrapAnswers}
-use Rattle.keywrap.specs.Opens.{Opens}
+use Rattle.rfc5649.specs.Opens.{Opens}
 use Rattle.keywrap.specs.declared.Answer.{Answer}
 use Rattle.wire_frames.specs.Frame.{Frame, frame}
 use Rattle.wire_frames.specs.Grammar.{IsFrame}
@@ -15,6 +15,7 @@ use Rattle.state.specs.declared.State.{State}
 use Rattle.rules_outcome.specs.Outcome.{Outcome}
 use Rattle.wire_frames.proofs.FrameGrammar as ofFrameGrammar
 use Rattle.rules_outcome.proofs.Determined as ofDetermined
+use Rattle.rfc5649.proofs.Determined as ofRfc5649Determined
 use Rattle.keywrap.proofs.Determined as ofKeywrapDetermined
 
 pub read-frame : (s : List ℕ) (x : Frame) (rest : List ℕ) → frame s ≡ whole x rest → IsFrame s x
@@ -31,7 +32,7 @@ pub outcome-one : (limits : Limits) (s : State) (now : ℕ) (lent : List ℕ) (o
 outcome-one = ofDetermined.outcome-one
 
 pub opens-one : (key wrapped x y : List ℕ) → Key key → Opens key wrapped x → Opens key wrapped y → x ≡ y
-opens-one = ofKeywrapDetermined.opens-one
+opens-one = ofRfc5649Determined.opens-one
 
 pub open-determined : (key wrapped room : List ℕ) → Octets key → (a b : Answer) (r s : List ℕ) → OpenAnswers key wrapped room a r →
     OpenAnswers key wrapped room b s → (a ≡ b) × (r ≡ s)

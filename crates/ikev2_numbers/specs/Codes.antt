@@ -226,8 +226,8 @@ abbrev pub shortHeadOctets : ℕ
 shortHeadOctets = 2
 
 -- the value of SA_KEY and WRAP_KEY: Key ID and KWK ID of four octets each, then 16 to 264 wrapped octets in blocks of 8 (document 01)
-abbrev pub id : ℕ
-id = 4
+abbrev pub kwkIdAt : ℕ
+kwkIdAt = 4
 
 abbrev pub wrappedAt : ℕ
 wrappedAt = 8

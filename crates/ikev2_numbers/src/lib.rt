@@ -158,7 +158,7 @@ pub const ATTRIBUTE_HEAD: usize = 4;
 pub const SHORT_HEAD: usize = 2;
 
 // The value of SA_KEY and WRAP_KEY: Key ID and KWK ID of four octets each, then 16 to 264 wrapped octets in blocks of 8 (document 01).
-pub const ID: usize = 4;
+pub const KWK_ID_AT: usize = 4;
 
 pub const WRAPPED_AT: usize = 8;
 

@@ -9,14 +9,14 @@ use lib.Seq.{drop-cons, take-at, take-append-add, length-take-le, getD-drop}
 use Rattle.octets.specs.Octets.{Octets}
 use Rattle.octets.proofs.Octets.{join-octets, take-octets, zero-octets}
 use Rattle.octets.proofs.Replicate.{drop-replicate, take-replicate}
-use Rattle.keywrap.specs.Steps.{register}
-use Rattle.keywrap.specs.Wrap.{initialValue, blocks, padded, registers, octetsIn, start}
+use Rattle.rfc5649.specs.Steps.{register}
+use Rattle.rfc5649.specs.Wrap.{initialValue, blocks, padded, registers, octetsIn, start}
 use Rattle.keywrap.specs.Answers.{written, Wrote}
 use Rattle.keywrap.specs.inner.Blank.{blank}
-use Rattle.keywrap.specs.inner.Unwrap.{Begins, countIn, zeroFrom}
-use Rattle.keywrap.proofs.Registers.{Registers, registers-octets, octets-registers, length-octets-in, octets-in-octets}
-use Rattle.keywrap.proofs.Wrapping.{length-padded, padded-octets}
-use Rattle.keywrap.proofs.Checks.{count-told, told-count, zero-from, zero-behind, from-zero}
+use Rattle.rfc5649.specs.inner.Unwrap.{Begins, countIn, zeroFrom}
+use Rattle.rfc5649.proofs.Registers.{Registers, registers-octets, octets-registers, length-octets-in, octets-in-octets}
+use Rattle.rfc5649.proofs.Wrapping.{length-padded, padded-octets}
+use Rattle.rfc5649.proofs.Checks.{count-told, told-count, zero-from, zero-behind, from-zero}
 
 module _ (s : List ℕ) (n : ℕ) (is : Registers 33 s) (least : 1 ≤ n) (most : n ≤ 32) where
   -- R[1], .., R[n]

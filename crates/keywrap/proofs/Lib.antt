@@ -1,12 +1,7 @@
-pub mod AesKeyWrapExamples
-pub mod Registers
-pub mod Blocks
-pub mod Steps
-pub mod Wrapping
+pub mod Front
 pub mod Determined
 pub mod Turns
 pub mod Loading
-pub mod Checks
 pub mod Found
 pub mod Answering
 pub mod Opening

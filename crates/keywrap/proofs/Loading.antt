@@ -11,10 +11,10 @@ use Rattle.octets.specs.Numbers.{octetsOf}
 use Rattle.octets.proofs.RoundTrip.{length-octets}
 use Rattle.octets.proofs.Parts.{copied-end}
 use Rattle.octets.proofs.Replicate.{take-replicate, drop-replicate}
-use Rattle.keywrap.specs.Steps.{register}
-use Rattle.keywrap.specs.Wrap.{initialValue, blocks, padded, registers, octetsIn, start}
+use Rattle.rfc5649.specs.Steps.{register}
+use Rattle.rfc5649.specs.Wrap.{initialValue, blocks, padded, registers, octetsIn, start}
 use Rattle.keywrap.specs.Answers.{written}
-use Rattle.keywrap.proofs.Registers.{length-octets-in, octets-in-append}
+use Rattle.rfc5649.proofs.Registers.{length-octets-in, octets-in-append}
 
 module _ (s room₀ room : List ℕ) (i : ℕ) (more : i < length s) (e : room ≡ written (octetsIn (take i s)) room₀) where
   w : List ℕ

@@ -13,15 +13,15 @@ use Rattle.octets.specs.Octets.{Octets}
 use Rattle.fips197.specs.Key.{Key}
 use Rattle.keywrap.specs.declared.Answer.{Answer}
 use Rattle.keywrap.specs.declared.Answer.the-variants.{No}
-use Rattle.keywrap.specs.Wrap.{blocks, registers}
+use Rattle.rfc5649.specs.Wrap.{blocks, registers}
 use Rattle.keywrap.specs.Answers.{Opening, Answers, OpenAnswers, Wrote}
 use Rattle.keywrap.specs.inner.Blank.{blank}
-use Rattle.keywrap.specs.inner.Unwrap.{backward, Begins}
+use Rattle.rfc5649.specs.inner.Unwrap.{backward, Begins}
 use Rattle.keywrap.specs.inner.Room.{answerBy, roomBy, putAnswer, putRoom}
-use Rattle.keywrap.proofs.Registers.{registers-are}
-use Rattle.keywrap.proofs.Wrapping as wrapping
-use Rattle.keywrap.proofs.Wrapping.{length-wrapped, backward-registers, opens}
-use Rattle.keywrap.proofs.Determined.{opens-one}
+use Rattle.rfc5649.proofs.Registers.{registers-are}
+use Rattle.rfc5649.proofs.Wrapping as wrapping
+use Rattle.rfc5649.proofs.Wrapping.{length-wrapped, backward-registers, opens}
+use Rattle.rfc5649.proofs.Determined.{opens-one}
 use Rattle.keywrap.proofs.Answering.{answers-map}
 
 -- ---- n + 1 registers at the start of an array of 33: l are those loaded, b those unwrapped

@@ -9,9 +9,9 @@ use borrow.Author.Tests.{eq-eqb, ne-eqb}
 use lib.ListN.{set}
 use lib.Bits.{bitXor, xor-zero-r}
 use Rattle.fips197.specs.Cipher.{cipher, invCipher}
-use Rattle.keywrap.specs.Steps.{register, joined, msb64, stored, step, row, rows}
-use Rattle.keywrap.specs.inner.Unwrap.{unstep, unrow, unrows, forward, backward}
-use Rattle.keywrap.proofs.Blocks.{msb-joined, lsb-joined}
+use Rattle.rfc5649.specs.Steps.{register, joined, msb64, stored, step, row, rows}
+use Rattle.rfc5649.specs.inner.Unwrap.{unstep, unrow, unrows, forward, backward}
+use Rattle.rfc5649.proofs.Blocks.{msb-joined, lsb-joined}
 
 -- ---- a step
 

@@ -9,8 +9,8 @@ use lib.ListN.{length, drop}
 use Rattle.fips197.specs.Key.{isKey}
 use Rattle.keywrap.specs.declared.Answer.{Answer}
 use Rattle.keywrap.specs.declared.Answer.the-variants.{No, Count}
-use Rattle.keywrap.specs.Wrap.{wrapOf}
-use Rattle.keywrap.specs.Opens.{Opens}
+use Rattle.rfc5649.specs.Wrap.{wrapOf}
+use Rattle.rfc5649.specs.Opens.{Opens}
 
 -- the room with x at its start and the rest as lent
 abbrev pub written : List ℕ → List ℕ → List ℕ

@@ -1,3 +1,2 @@
-pub mod Unwrap
 pub mod Room
 pub mod Blank

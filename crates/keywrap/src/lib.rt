@@ -13,10 +13,10 @@ ghost use lib.ListN.{length};
 ghost use Rattle.fips197.specs.Key.{isKey};
 ghost use Rattle.aes.specs.inner.Tables.{decipherTables};
 ghost use Rattle.aes.specs.inner.Schedule.{ExpandsInverse, ExpandedInverse};
-ghost use Rattle.keywrap.specs.Wrap.{wrapOf};
+ghost use Rattle.rfc5649.specs.Wrap.{wrapOf};
 ghost use Rattle.keywrap.specs.Answers.{written, WrapAnswers, OpenAnswers};
 ghost use Rattle.keywrap.specs.inner.Blank.{OpensBlank};
-ghost use Rattle.keywrap.specs.inner.Unwrap.{Unwraps};
+ghost use Rattle.rfc5649.specs.inner.Unwrap.{Unwraps};
 ghost use Rattle.keywrap.specs.inner.Room.{putAnswer, putRoom};
 
 // What wrapping and opening answer: document 01's "no", or the count of octets written at the room's start.

@@ -5,7 +5,7 @@ ghost use mathlib.Core.Path.{_≡_};
 ghost use mathlib.Core.List.{_++_};
 ghost use Prim.Native.Nat.{_+_, _-_, _*_, _/_, _≤_};
 ghost use lib.ListN.{length, replicate};
-ghost use Rattle.keywrap.specs.Wrap.{blocks, registers, octetsIn, start};
+ghost use Rattle.rfc5649.specs.Wrap.{blocks, registers, octetsIn, start};
 ghost use Rattle.keywrap.specs.Answers.{written};
 
 pub(crate) fn load(octets: &[u8], s: &mut [u64])

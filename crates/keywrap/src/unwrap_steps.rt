@@ -5,7 +5,7 @@ ghost use Prim.Native.Nat.{ℕ, _<_, _≤_};
 ghost use lib.ListN.{length};
 ghost use Rattle.aes.specs.inner.Tables.{decipherTables};
 ghost use Rattle.aes.specs.inner.Schedule.{ExpandsInverse, ExpandedInverse};
-ghost use Rattle.keywrap.specs.inner.Unwrap.{unstep, unrow, unrows, backward};
+ghost use Rattle.rfc5649.specs.inner.Unwrap.{unstep, unrow, unrows, backward};
 
 fn unstep_in(tables: &[u32; 768], schedule: &[u32; 61], s: &mut [u64], t: u64, i: usize)
     requires { ⌜ (now tables ≡ decipherTables) × ExpandedInverse (now schedule) ⌝ }

@@ -7,7 +7,7 @@ ghost use Prim.Native.Nat.{suc, _≤_};
 ghost use lib.ListN.{take};
 ghost use Rattle.keywrap.specs.Answers.{Answers};
 ghost use Rattle.keywrap.specs.inner.Blank.{blank};
-ghost use Rattle.keywrap.specs.inner.Unwrap.{Begins, countIn, zeroFrom};
+ghost use Rattle.rfc5649.specs.inner.Unwrap.{Begins, countIn, zeroFrom};
 
 // "no", and nothing of what did not open.
 pub(crate) fn refused() -> Opened

@@ -5,8 +5,8 @@ ghost use Prim.Native.Nat.{ℕ, _+_, _*_, _<_, _≤_};
 ghost use lib.ListN.{length};
 ghost use Rattle.aes.specs.inner.Tables.{encipherTables};
 ghost use Rattle.aes.specs.inner.Schedule.{Expands, Expanded};
-ghost use Rattle.keywrap.specs.Steps.{step, row, rows};
-ghost use Rattle.keywrap.specs.inner.Unwrap.{forward};
+ghost use Rattle.rfc5649.specs.Steps.{step, row, rows};
+ghost use Rattle.rfc5649.specs.inner.Unwrap.{forward};
 
 fn step_in(tables: &[u32; 512], schedule: &[u32; 61], s: &mut [u64], t: u64, i: usize)
     requires { ⌜ (now tables ≡ encipherTables) × Expanded (now schedule) ⌝ }

@@ -12,9 +12,9 @@ use lib.ListN.{length}
 use Rattle.octets.specs.Octets.{Octets}
 use Rattle.fips197.specs.Key.{Key, isKey}
 use Rattle.fips197.proofs.Expansion.{sizes}
-use Rattle.keywrap.specs.Wrap.{wrapOf}
-use Rattle.keywrap.specs.Opens.{Opens}
-use Rattle.keywrap.proofs.Determined.{opens-one}
+use Rattle.rfc5649.specs.Wrap.{wrapOf}
+use Rattle.rfc5649.specs.Opens.{Opens}
+use Rattle.rfc5649.proofs.Determined.{opens-one}
 use Rattle.wire_attributes.specs.Tree.{WrapKey}
 use Rattle.rules_chains.specs.Chain.{In, Root, Chain, root, step, Reached}
 use Rattle.rules_chains.specs.Refusals.{EntriesEight, wrong-size, two-values}

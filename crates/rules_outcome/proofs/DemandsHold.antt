@@ -5,8 +5,8 @@ use mathlib.Core.List.{List}
 use lib.ListN.{length, take, drop}
 use lib.Seq.{take-append-seam}
 use Rattle.fips197.specs.Key.{Key}
-use Rattle.keywrap.specs.Wrap.{wrapOf}
-use Rattle.keywrap.specs.Opens.{Opens}
+use Rattle.rfc5649.specs.Wrap.{wrapOf}
+use Rattle.rfc5649.specs.Opens.{Opens}
 use Rattle.keywrap.specs.Answers.{written, Wrote, Opening, OpenAnswers}
 use Rattle.keywrap.specs.declared.Answer.{Answer}
 use Rattle.keywrap.specs.declared.Answer.the-variants.{Count}

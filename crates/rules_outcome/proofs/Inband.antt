@@ -10,7 +10,7 @@ use lib.Dec.{leb}
 use Rattle.state_keys.specs.Limits.{Limits}
 use Rattle.state_keys.specs.Lists.{all}
 use Rattle.state_keys.proofs.Cases.{bool-cases, lt-cases, and-parts, and-whole}
-use Rattle.keywrap.specs.Opens.{Opens}
+use Rattle.rfc5649.specs.Opens.{Opens}
 use Rattle.wire_policies.specs.Policy.{GroupSaPolicy}
 use Rattle.wire_frames.specs.Frame.{Frame}
 use Rattle.wire_frames.specs.Grammar.{IsFrame}

@@ -9,9 +9,9 @@ use lib.Dec.{T, eqb}
 use lib.ListN.{length}
 use Rattle.octets.specs.Octets.{Octets}
 use Rattle.fips197.specs.Key.{Key, isKey}
-use Rattle.keywrap.specs.Wrap.{wrapOf}
-use Rattle.keywrap.specs.Opens.{Opens}
-use Rattle.keywrap.proofs.Determined.{opens-one}
+use Rattle.rfc5649.specs.Wrap.{wrapOf}
+use Rattle.rfc5649.specs.Opens.{Opens}
+use Rattle.rfc5649.proofs.Determined.{opens-one}
 use Rattle.state_keys.specs.Algorithms.{sizeOf}
 use Rattle.state_keys.proofs.Sizes.{wrapping-size, among-is}
 use Rattle.wire_attributes.specs.Tree.{WrapKey, SaKey}

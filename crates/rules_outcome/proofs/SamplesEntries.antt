@@ -6,8 +6,8 @@ use mathlib.Core.Logic.{_⊎_, inl, inr, ⊎-elim}
 use mathlib.Core.List.{List, [], _∷_, List·Memᴰ·eq-of-singleton, List·Memᴰ·not-nil, List·Memᴰ·cases-cons}
 use lib.ListN.{length}
 use Rattle.fips197.specs.Key.{Key}
-use Rattle.keywrap.specs.Wrap.{wrapOf}
-use Rattle.keywrap.specs.Opens.{Opens}
+use Rattle.rfc5649.specs.Wrap.{wrapOf}
+use Rattle.rfc5649.specs.Opens.{Opens}
 use Rattle.state_keys.specs.Limits.{limits}
 use Rattle.state_keys.specs.Lists.{any, rising}
 use Rattle.wire_attributes.specs.Tree.{WrapKey}

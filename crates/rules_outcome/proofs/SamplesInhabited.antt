@@ -8,7 +8,7 @@ use lib.ListN.{length, getD, replicate}
 use Rattle.octets.specs.Octets.{Octets}
 use Rattle.octets.proofs.Octets.{no-octets, one-octet}
 use Rattle.fips197.specs.Key.{Key, isKey}
-use Rattle.keywrap.specs.Wrap.{wrapOf}
+use Rattle.rfc5649.specs.Wrap.{wrapOf}
 use Rattle.state_keys.specs.Limits.{limits}
 use Rattle.wire_attributes.specs.Tree.{WrapKey}
 use Rattle.wire_frames.specs.Grammar.{IsFrame}

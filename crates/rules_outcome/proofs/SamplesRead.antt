@@ -16,10 +16,10 @@ use Rattle.octets.proofs.Octets.{no-octets, one-octet, join-octets}
 use Rattle.state_keys.specs.Lists.{all}
 use Rattle.state_keys.proofs.Cases.{and-parts}
 use Rattle.fips197.specs.Key.{Key}
-use Rattle.keywrap.specs.Wrap.{wrapOf, blocks, start}
-use Rattle.keywrap.specs.inner.Unwrap.{forward}
-use Rattle.keywrap.proofs.Registers.{octets-in-octets}
-use Rattle.keywrap.proofs.Wrapping.{length-wrap, wrap-registers}
+use Rattle.rfc5649.specs.Wrap.{wrapOf, blocks, start}
+use Rattle.rfc5649.specs.inner.Unwrap.{forward}
+use Rattle.rfc5649.proofs.Registers.{octets-in-octets}
+use Rattle.rfc5649.proofs.Wrapping.{length-wrap, wrap-registers}
 use Rattle.wire_attributes.specs.Tree.{valuesOf}
 use Rattle.wire_attributes.specs.Layout.{attribute}
 use Rattle.wire_policies.specs.Selector.{Selector, selector}

@@ -12,8 +12,8 @@ use Rattle.octets.specs.Walk.{whole, chain, chainUpTo, many}
 use Rattle.octets.proofs.Octets.{join-octets}
 use Rattle.state_keys.specs.Lists.{all}
 use Rattle.fips197.specs.Key.{Key}
-use Rattle.keywrap.specs.Wrap.{wrapOf, blocks}
-use Rattle.keywrap.proofs.Wrapping.{length-wrap}
+use Rattle.rfc5649.specs.Wrap.{wrapOf, blocks}
+use Rattle.rfc5649.proofs.Wrapping.{length-wrap}
 use Rattle.wire_attributes.specs.Tree.{valuesOf}
 use Rattle.wire_attributes.specs.Layout.{attribute}
 use Rattle.wire_policies.specs.Selector.{selector}

@@ -7,7 +7,7 @@ use mathlib.Core.List.{List, [], _∷_}
 use lib.ListN.{length}
 use Rattle.octets.proofs.Order.{eq-same}
 use Rattle.fips197.specs.Key.{Key}
-use Rattle.keywrap.specs.Wrap.{wrapOf}
+use Rattle.rfc5649.specs.Wrap.{wrapOf}
 use Rattle.state_keys.specs.Limits.{limits}
 use Rattle.state_keys.specs.Lists.{all, any, count, keep, insert, heads, rising}
 use Rattle.state_keys.specs.Algorithms.{sizeOf, isRowOf, neededIn, neededBy}

@@ -6,8 +6,8 @@ use mathlib.Core.Logic.{⊎-elim}
 use mathlib.Core.List.{List, [], _∷_, map, List·Memᴰ·eq-of-singleton}
 use lib.Dec.{eqb}
 use lib.ListN.{length}
-use Rattle.keywrap.specs.Wrap.{wrapOf}
-use Rattle.keywrap.specs.Opens.{Opens}
+use Rattle.rfc5649.specs.Wrap.{wrapOf}
+use Rattle.rfc5649.specs.Opens.{Opens}
 use Rattle.state_keys.specs.Limits.{limits}
 use Rattle.state_keys.specs.Lists.{rising}
 use Rattle.wire_attributes.specs.Tree.{WrapKey}

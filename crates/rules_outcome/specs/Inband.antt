@@ -4,7 +4,7 @@ use Prim.Native.Nat.{ℕ}
 use mathlib.Core.Path.{_≡_}
 use mathlib.Core.Logic.{_⊎_}
 use mathlib.Core.List.{List}
-use Rattle.keywrap.specs.Opens.{Opens}
+use Rattle.rfc5649.specs.Opens.{Opens}
 use Rattle.state_keys.specs.Limits.{Limits}
 use Rattle.wire_attributes.specs.Tree.{SaKey}
 use Rattle.wire_policies.specs.Policy.{GroupSaPolicy}

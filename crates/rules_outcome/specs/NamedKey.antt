@@ -6,8 +6,8 @@ use mathlib.Core.Bool.{true, false}
 use mathlib.Core.Logic.{_⊎_}
 use mathlib.Core.List.{List, [], _∷_}
 use lib.ListN.{length, take, drop}
-use Rattle.ikev2_numbers.specs.Codes.{gsaAuth, gsaInbandRekey, gsaRegistration, gsaRekey, id}
-use Rattle.keywrap.specs.Opens.{Opens}
+use Rattle.ikev2_numbers.specs.Codes.{gsaAuth, gsaInbandRekey, gsaRegistration, gsaRekey}
+use Rattle.rfc5649.specs.Opens.{Opens}
 use Rattle.state_keys.specs.Limits.{Limits}
 use Rattle.state_keys.specs.Kinds.{valueOf, wrappingOf}
 use Rattle.wire_attributes.specs.Tree.{SaKey, WrapKey}

@@ -4,7 +4,7 @@ use mathlib.Core.Path.{_≡_}
 use mathlib.Core.Bool.{false}
 use mathlib.Core.Logic.{_⊎_}
 use mathlib.Core.List.{[], _∷_}
-use Rattle.ikev2_numbers.specs.Codes.{gsaRekey, id, protocolEsp, protocolGikeUpdate}
+use Rattle.ikev2_numbers.specs.Codes.{gsaRekey, protocolEsp, protocolGikeUpdate}
 use Rattle.wire_policies.specs.Policy.{GroupSaPolicy, GroupWidePolicy}
 use Rattle.wire_frames.specs.Frame.{Frame}
 use Rattle.state_sa.specs.Entry.{spiOf, due, withCondition}

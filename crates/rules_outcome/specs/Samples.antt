@@ -9,7 +9,7 @@ use lib.ListN.{length}
 use Rattle.octets.specs.Octets.{Octets}
 use Rattle.octets.specs.Walk.{whole, mapped}
 use Rattle.fips197.specs.Key.{Key}
-use Rattle.keywrap.specs.Wrap.{wrapOf}
+use Rattle.rfc5649.specs.Wrap.{wrapOf}
 use Rattle.state_keys.specs.Limits.{limits}
 use Rattle.state_keys.specs.Kinds.{wrappingOf, espOf, rekeyOf}
 use Rattle.wire_attributes.specs.Place.{inTransform}

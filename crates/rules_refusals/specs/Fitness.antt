@@ -4,7 +4,7 @@ use mathlib.Core.List.{List, [], _∷_}
 use mathlib.Core.Bool.{Bool, true, false, cond, _&&_, _||_}
 use lib.ListN.{length}
 use lib.Dec.{leb, eqb}
-use Rattle.ikev2_numbers.specs.Codes.{gcauthDigitalSignature, gcauthImplicit, id, ipv4GroupFirst, ipv4GroupLast, ipv4Range, ipv6Group}
+use Rattle.ikev2_numbers.specs.Codes.{gcauthDigitalSignature, gcauthImplicit, ipv4GroupFirst, ipv4GroupLast, ipv4Range, ipv6Group}
 use Rattle.ikev2_numbers.specs.Codes.{protocolAh, snSequential, snUnspecified, transformEncr, transformGcauth, transformKwa, transformSn}
 use Rattle.octets.specs.Numbers.{oct}
 use Rattle.octets.specs.Compare.{same}

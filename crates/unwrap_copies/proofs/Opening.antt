@@ -8,10 +8,10 @@ use lib.Dec.{T}
 use lib.ListN.{length, take, drop, replicate}
 use lib.Seq.{take-at, length-take-le}
 use Rattle.fips197.specs.Key.{Key, isKey}
-use Rattle.keywrap.specs.Opens.{Opens}
+use Rattle.rfc5649.specs.Opens.{Opens}
 use Rattle.keywrap.specs.inner.Blank.{blank, OpensBlank}
 use Rattle.keywrap.specs.declared.Answer.the-variants.{No, Count}
-use Rattle.keywrap.proofs.Determined.{opens-one}
+use Rattle.rfc5649.proofs.Determined.{opens-one}
 use Rattle.rules_chains.proofs.Members.{in-member}
 use Rattle.state_keys.specs.Algorithms.{sizeOf}
 use Rattle.state_keys.specs.Kinds.{padded, valueOf}

@@ -10,7 +10,7 @@ use borrow.Author.Tests.{eq-eqb, ne-eqb, eqb-true, leb-true, ltb-true}
 use lib.Dec.{leb, eqb}
 use lib.ListN.{length, take, getD}
 use lib.Seq.{length-take-le, getD-take}
-use Rattle.keywrap.specs.Opens.{Opens}
+use Rattle.rfc5649.specs.Opens.{Opens}
 use Rattle.wire_attributes.specs.Tree.{SaKey, WrapKey}
 use Rattle.rules_chains.specs.Chain.{Root, CopyOpens}
 use Rattle.rules_chains.specs.Refusals.{Announced, CopiesEight, wrong-size, two-values}

@@ -10,7 +10,7 @@ use lib.ListN.{length, take, drop, replicate, length-replicate}
 use lib.Seq.{take-at, take-append-seam}
 use Rattle.octets.specs.Walk.{part, both}
 use Rattle.fips197.specs.Key.{Key}
-use Rattle.keywrap.specs.Opens.{Opens}
+use Rattle.rfc5649.specs.Opens.{Opens}
 use Rattle.keywrap.specs.inner.Blank.{blank, OpensBlank}
 use Rattle.keywrap.specs.declared.Answer.the-variants.{No, Count}
 use Rattle.wire_attributes.specs.Tree.{WrapKey}

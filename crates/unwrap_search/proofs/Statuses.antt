@@ -6,8 +6,8 @@ use mathlib.Core.List.{List, [], _∷_}
 use borrow.Author.Tests.{eqb-true, eqb-false}
 use Rattle.state_keys.proofs.Cases.{bool-cases}
 use lib.ListN.{length, getD}
-use Rattle.keywrap.specs.Opens.{Opens}
-use Rattle.keywrap.proofs.Determined.{opens-one}
+use Rattle.rfc5649.specs.Opens.{Opens}
+use Rattle.rfc5649.proofs.Determined.{opens-one}
 use Rattle.wire_attributes.specs.Tree.{WrapKey}
 use Rattle.state_keys.specs.declared.kinds.WrappingKey.{WrappingKey}
 use Rattle.unwrap_search.specs.declared.open.Status.{Status}

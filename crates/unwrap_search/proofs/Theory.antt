@@ -5,7 +5,7 @@ use mathlib.Core.Logic.{_⊎_, inl, inr, ⊎-elim}
 use mathlib.Core.List.{List, [], _∷_}
 use lib.ListN.{length}
 use Rattle.fips197.specs.Key.{Key, isKey}
-use Rattle.keywrap.specs.Opens.{Opens}
+use Rattle.rfc5649.specs.Opens.{Opens}
 use Rattle.wire_attributes.specs.Tree.{WrapKey}
 use Rattle.state_keys.specs.declared.kinds.WrappingKey.{WrappingKey}
 use Rattle.rules_chains.specs.Chain.{In, Root, Extended, Leads, Chain, root, step}

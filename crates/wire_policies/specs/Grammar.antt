@@ -4,7 +4,7 @@ use mathlib.Core.Path.{_≡_}
 use mathlib.Core.List.{List, _++_}
 use mathlib.Core.Bool.{Bool, true, false}
 use lib.ListN.{length, drop}
-use Rattle.ikev2_numbers.specs.Codes.{addressesAt, endPortAt, id, lastTransform, moreTransforms, policyHeadOctets, startPortAt}
+use Rattle.ikev2_numbers.specs.Codes.{addressesAt, endPortAt, lastTransform, moreTransforms, policyHeadOctets, startPortAt}
 use Rattle.ikev2_numbers.specs.Codes.{structureLengthAt, transformHeadOctets, transformIdAt, transformTypeAt}
 use Rattle.octets.specs.Numbers.{oct}
 use Rattle.octets.specs.Walk.{be16, part, Spans, Row}

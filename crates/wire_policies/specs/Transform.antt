@@ -3,7 +3,7 @@ use Prim.Native.Nat.{ℕ}
 use mathlib.Core.List.{List}
 use mathlib.Core.Bool.{Bool, true, not}
 use lib.Dec.{eqb}
-use Rattle.ikev2_numbers.specs.Codes.{id, lastTransform, moreTransforms, structureLengthAt, transformHeadOctets, transformIdAt}
+use Rattle.ikev2_numbers.specs.Codes.{lastTransform, moreTransforms, structureLengthAt, transformHeadOctets, transformIdAt}
 use Rattle.ikev2_numbers.specs.Codes.{transformTypeAt}
 use Rattle.octets.specs.Numbers.{oct}
 use Rattle.octets.specs.Walk.{be16, either, both, sized, Reader, mapped, opened, begun, within, Linked, chain}

@@ -4,9 +4,9 @@ use mathlib.Core.Path.{refl, ap}
 use native.Mathlib.Omega.{arith}
 use lib.ListN.{length}
 use Rattle.octets.specs.Octets.{Octets}
-use Rattle.keywrap.specs.Wrap.{wrapOf}
+use Rattle.rfc5649.specs.Wrap.{wrapOf}
 use Rattle.keywrap.proofs.Answering.{is-so, is-not-so}
-use Rattle.keywrap.proofs.Wrapping.{length-wrap}
+use Rattle.rfc5649.proofs.Wrapping.{length-wrap}
 use Rattle.keywrap.proofs.wrap.Statement.{statement}
 use Rattle.keywrap.proofs.wrap.Tie as tie
 

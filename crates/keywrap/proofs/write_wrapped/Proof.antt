@@ -6,7 +6,8 @@ use Prim.Native.Nat.{ℕ}
 use native.Mathlib.Omega.{arith}
 use Rattle.octets.specs.Octets.{Octets}
 use Rattle.keywrap.specs.Answers.{written}
-use Rattle.keywrap.proofs.Wrapping.{front-count, front-within, front-kept, wrapped-is, length-wrap}
+use Rattle.rfc5649.proofs.Wrapping.{length-wrap}
+use Rattle.keywrap.proofs.Front.{front-count, front-within, front-kept, wrapped-is}
 use Rattle.keywrap.proofs.write_wrapped.Statement.{statement}
 use Rattle.keywrap.proofs.write_wrapped.Tie as tie
 

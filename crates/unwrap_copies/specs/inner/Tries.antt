@@ -3,7 +3,7 @@ use Prim.Native.Nat.{ℕ}
 use mathlib.Core.Path.{_≡_}
 use mathlib.Core.List.{List}
 use lib.ListN.{length, take}
-use Rattle.keywrap.specs.Opens.{Opens}
+use Rattle.rfc5649.specs.Opens.{Opens}
 use Rattle.rules_chains.specs.Chain.{In}
 use Rattle.state_keys.specs.Kinds.{padded}
 use Rattle.unwrap_copies.specs.declared.answer.Found.{Found}

@@ -6,7 +6,7 @@ use mathlib.Core.List.{List, []}
 use lib.Dec.{eqb}
 use lib.ListN.{length}
 use Rattle.octets.specs.Walk.{both}
-use Rattle.keywrap.specs.Opens.{Opens}
+use Rattle.rfc5649.specs.Opens.{Opens}
 use Rattle.wire_attributes.specs.Tree.{WrapKey}
 use Rattle.state_keys.specs.Kinds.{wrappingOf, valueOf}
 use Rattle.state_keys.specs.declared.kinds.WrappingKey.{WrappingKey}

@@ -5,7 +5,7 @@ use mathlib.Core.Path.{_≡_}
 use mathlib.Core.List.{List, _∷_, map}
 use mathlib.Core.Bool.{true}
 use lib.ListN.{length, drop}
-use Rattle.ikev2_numbers.specs.Codes.{id, transformHeadOctets}
+use Rattle.ikev2_numbers.specs.Codes.{transformHeadOctets}
 use Rattle.octets.specs.Walk.{part, Spans}
 use Rattle.wire_attributes.specs.Place.{inTransform}
 use Rattle.wire_attributes.specs.Tree.{two}

@@ -5,7 +5,7 @@ use Prim.Native.Nat.{ℕ, _+_, _-_, _*_}
 use native.Mathlib.Omega.{arith}
 use lib.ListN.{length, replicate}
 use lib.Seq.{length-take-le}
-use Rattle.keywrap.specs.Wrap.{blocks}
+use Rattle.rfc5649.specs.Wrap.{blocks}
 use Rattle.keywrap.proofs.Loading.{length-filled, begun-is}
 use Rattle.keywrap.proofs.load.begun.Statement.{statement}
 use Rattle.keywrap.proofs.load.begun.Tie as tie

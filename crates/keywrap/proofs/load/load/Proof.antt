@@ -6,7 +6,7 @@ use native.Mathlib.Omega.{arith}
 use lib.ListN.{length, drop}
 use Rattle.octets.specs.Numbers.{number}
 use Rattle.octets.proofs.Fill.{Filled, none, more, all}
-use Rattle.keywrap.proofs.Registers.{registers-gen}
+use Rattle.rfc5649.proofs.Registers.{registers-gen}
 use Rattle.keywrap.proofs.load.load.Statement.{statement}
 use Rattle.keywrap.proofs.load.load.Tie as tie
 

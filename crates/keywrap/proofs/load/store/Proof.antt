@@ -4,7 +4,7 @@ use mathlib.Core.Path.{_≡_, refl, ap, _∙_}
 use Prim.Native.Nat.{ℕ, _-_, _≤_}
 use native.Mathlib.Omega.{arith}
 use lib.ListN.{length, take}
-use Rattle.keywrap.specs.Wrap.{octetsIn}
+use Rattle.rfc5649.specs.Wrap.{octetsIn}
 use Rattle.keywrap.specs.Answers.{written}
 use mathlib.Core.List.{List}
 use lib.Seq.{take-all}

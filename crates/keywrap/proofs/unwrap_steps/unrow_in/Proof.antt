@@ -6,7 +6,7 @@ use Prim.Native.Nat.{ℕ, _-_, _≤_}
 use native.Mathlib.Omega.{arith}
 use lib.ListN.{length}
 use Rattle.aes.specs.inner.Schedule.{ExpandsInverse}
-use Rattle.keywrap.specs.inner.Unwrap.{unrow}
+use Rattle.rfc5649.specs.inner.Unwrap.{unrow}
 use Rattle.keywrap.proofs.Turns.{unrow-turn}
 use Rattle.keywrap.proofs.unwrap_steps.unrow_in.Statement.{statement}
 use Rattle.keywrap.proofs.unwrap_steps.unrow_in.Tie as tie

@@ -6,7 +6,7 @@ use Prim.Native.Nat.{ℕ, _-_, _≤_}
 use native.Mathlib.Omega.{arith}
 use lib.ListN.{length}
 use Rattle.aes.specs.inner.Schedule.{ExpandsInverse}
-use Rattle.keywrap.specs.inner.Unwrap.{unrows}
+use Rattle.rfc5649.specs.inner.Unwrap.{unrows}
 use Rattle.keywrap.proofs.Turns.{unrows-turn, base-small}
 use Rattle.keywrap.proofs.unwrap_steps.unrows_in.Statement.{statement}
 use Rattle.keywrap.proofs.unwrap_steps.unrows_in.Tie as tie

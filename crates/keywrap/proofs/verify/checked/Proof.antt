@@ -7,10 +7,10 @@ use lib.ListN.{take}
 use lib.Seq.{length-take-le}
 use mir.Val.{Fits}
 use mir.Syntax.{w64}
-use Rattle.keywrap.specs.Steps.{register}
+use Rattle.rfc5649.specs.Steps.{register}
 use Rattle.keywrap.specs.inner.Blank.{blank}
-use Rattle.keywrap.specs.inner.Unwrap.{Begins}
-use Rattle.keywrap.proofs.Registers.{Registers}
+use Rattle.rfc5649.specs.inner.Unwrap.{Begins}
+use Rattle.rfc5649.proofs.Registers.{Registers}
 use Rattle.keywrap.proofs.Answering.{no-answer}
 use Rattle.keywrap.proofs.Found.{none-told, length-out, not-zero, found}
 use Rattle.keywrap.proofs.verify.checked.Statement.{statement}

@@ -1,7 +1,7 @@
 -- `keywrap::verify::count_in` meets its contract.
 use borrow.Author.Needs.{needs}
 use borrow.Author.Tests.{eq-eqb, ne-eqb}
-use Rattle.keywrap.specs.inner.Unwrap.{countIn}
+use Rattle.rfc5649.specs.inner.Unwrap.{countIn}
 use Rattle.keywrap.proofs.verify.count_in.Statement.{statement}
 use Rattle.keywrap.proofs.verify.count_in.Tie as tie
 

@@ -3,8 +3,8 @@ use mathlib.Core.Path.{_≡_, refl, sym, _∙_}
 use Prim.Native.Nat.{_-_}
 use native.Mathlib.Omega.{arith}
 use lib.ListN.{length}
-use Rattle.keywrap.specs.inner.Unwrap.{zeroFrom}
-use Rattle.keywrap.proofs.Checks.{zero-next, zero-not, zero-end}
+use Rattle.rfc5649.specs.inner.Unwrap.{zeroFrom}
+use Rattle.rfc5649.proofs.Checks.{zero-next, zero-not, zero-end}
 use Rattle.keywrap.proofs.verify.is_zero_from.Statement.{statement}
 use Rattle.keywrap.proofs.verify.is_zero_from.Tie as tie
 

@@ -6,7 +6,7 @@ use Prim.Native.Nat.{ℕ, _-_, _≤_}
 use native.Mathlib.Omega.{arith}
 use lib.ListN.{length}
 use Rattle.aes.specs.inner.Schedule.{Expands}
-use Rattle.keywrap.specs.Steps.{rows}
+use Rattle.rfc5649.specs.Steps.{rows}
 use Rattle.keywrap.proofs.Turns.{rows-turn, base-small}
 use Rattle.keywrap.proofs.wrap_steps.rows_in.Statement.{statement}
 use Rattle.keywrap.proofs.wrap_steps.rows_in.Tie as tie

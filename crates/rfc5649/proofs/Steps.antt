@@ -15,10 +15,10 @@ use Rattle.fips197.specs.Block.{Block}
 use Rattle.fips197.specs.Key.{Key}
 use Rattle.fips197.specs.Cipher.{cipher, invCipher}
 use Rattle.fips197.proofs.Inverse.{cipher-block, inv-cipher-block, inv-cipher-cipher, cipher-inv-cipher}
-use Rattle.keywrap.specs.Steps.{register, joined, msb64, lsb64, stored, step, row, rows}
-use Rattle.keywrap.specs.inner.Unwrap.{unstep, unrow, unrows, forwardBy, forward, backwardBy, backward}
-use Rattle.keywrap.proofs.Registers.{Registers, set-registers}
-use Rattle.keywrap.proofs.Blocks.{joined-block, msb-joined, lsb-joined, msb-lt, lsb-lt, joined-parts}
+use Rattle.rfc5649.specs.Steps.{register, joined, msb64, lsb64, stored, step, row, rows}
+use Rattle.rfc5649.specs.inner.Unwrap.{unstep, unrow, unrows, forwardBy, forward, backwardBy, backward}
+use Rattle.rfc5649.proofs.Registers.{Registers, set-registers}
+use Rattle.rfc5649.proofs.Blocks.{joined-block, msb-joined, lsb-joined, msb-lt, lsb-lt, joined-parts}
 
 -- ---- what a step stores, at an index i of the registers s
 

@@ -9,8 +9,8 @@ use borrow.Author.Tests.{eqb-true, eq-eqb, ne-eqb}
 use lib.Dec.{eqb}
 use lib.ListN.{length, getD, drop, replicate, length-drop, drop-of-length-le}
 use lib.Seq.{drop-cons, drop-at}
-use Rattle.keywrap.specs.Wrap.{initialValue, blocks}
-use Rattle.keywrap.specs.inner.Unwrap.{within, countBy, countIn, allZero, zeroFrom}
+use Rattle.rfc5649.specs.Wrap.{initialValue, blocks}
+use Rattle.rfc5649.specs.inner.Unwrap.{within, countBy, countIn, allZero, zeroFrom}
 
 -- ---- octets from an index on
 

@@ -6,7 +6,7 @@ use lib.Dec.{eqb}
 use lib.ListN.{length, drop, replicate}
 use Rattle.octets.specs.Numbers.{number, octetsOf}
 use Rattle.fips197.specs.Cipher.{cipher}
-use Rattle.keywrap.specs.Steps.{rows}
+use Rattle.rfc5649.specs.Steps.{rows}
 
 -- section 3, the alternative initial value: A65959A6, then the message length indicator, the count of octets in 32 bits
 abbrev pub initialValue : ℕ → ℕ

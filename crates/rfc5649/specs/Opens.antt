@@ -5,7 +5,7 @@ use Prim.Native.Nat.{ℕ, _≤_}
 use mathlib.Core.List.{List}
 use lib.ListN.{length}
 use Rattle.octets.specs.Octets.{Octets}
-use Rattle.keywrap.specs.Wrap.{wrapOf}
+use Rattle.rfc5649.specs.Wrap.{wrapOf}
 
 -- `wrapped` opens under `key` to x
 pub record Opens (key wrapped x : List ℕ) : Type 0 where

@@ -13,8 +13,8 @@ use Rattle.octets.specs.Generate.{gen}
 use Rattle.octets.proofs.Numerals.{number-append}
 use Rattle.octets.proofs.RoundTrip.{length-octets, octets-octets, number-lt, number-octets, octets-number}
 use Rattle.octets.proofs.Octets.{no-octets, join-octets, drop-octets}
-use Rattle.keywrap.specs.Steps.{register}
-use Rattle.keywrap.specs.Wrap.{registers, octetsIn}
+use Rattle.rfc5649.specs.Steps.{register}
+use Rattle.rfc5649.specs.Wrap.{registers, octetsIn}
 
 -- k registers
 pub record Registers (k : ℕ) (s : List ℕ) : Type 0 where

@@ -6,8 +6,8 @@ use Prim.Native.Nat.{ℕ, suc, _+_, _*_, _-_, _≤_}
 use native.Mathlib.Numerals.{add-one}
 use native.Mathlib.Omega.{arith}
 use lib.Dec.{T, eqb, eqb→eq}
-use lib.ListN.{length, take, drop, replicate, length-append, length-replicate}
-use lib.Seq.{take-at, take-all}
+use lib.ListN.{length, replicate, length-append, length-replicate}
+use lib.Seq.{take-all}
 use lib.Bits.{xor-zero-r}
 use Rattle.octets.specs.Numbers.{number, octetsOf}
 use Rattle.octets.specs.Octets.{Octets}
@@ -17,13 +17,13 @@ use Rattle.octets.proofs.Undo.{Undo}
 use Rattle.fips197.specs.Key.{Key}
 use Rattle.fips197.specs.Cipher.{cipher}
 use Rattle.fips197.proofs.Inverse.{cipher-block}
-use Rattle.keywrap.specs.Steps.{joined, msb64, lsb64, stored, step}
-use Rattle.keywrap.specs.Wrap.{initialValue, blocks, padded, registers, octetsIn, wrapBy, wrapOf, start}
-use Rattle.keywrap.specs.Opens.{Opens}
-use Rattle.keywrap.specs.inner.Unwrap.{forwardBy, forward, backward}
-use Rattle.keywrap.proofs.Registers.{Registers, cons-registers, registers-are, octets-registers, registers-octets, length-octets-in}
-use Rattle.keywrap.proofs.Blocks.{joined-block, joined-parts}
-use Rattle.keywrap.proofs.Steps.{forward-undone, backward-undone}
+use Rattle.rfc5649.specs.Steps.{joined, msb64, lsb64, stored, step}
+use Rattle.rfc5649.specs.Wrap.{initialValue, blocks, padded, registers, octetsIn, wrapBy, wrapOf, start}
+use Rattle.rfc5649.specs.Opens.{Opens}
+use Rattle.rfc5649.specs.inner.Unwrap.{forwardBy, forward, backward}
+use Rattle.rfc5649.proofs.Registers.{Registers, cons-registers, registers-are, octets-registers, registers-octets, length-octets-in}
+use Rattle.rfc5649.proofs.Blocks.{joined-block, joined-parts}
+use Rattle.rfc5649.proofs.Steps.{forward-undone, backward-undone}
 
 -- ---- padding
 
@@ -125,52 +125,6 @@ module _ (key wrapped : List ℕ) (n : ℕ) (is : Key key) (o : Octets wrapped) 
             ∙ ap octetsIn (undo′ .undone (registers (suc n) wrapped) found)
             ∙ octets-registers (suc n) wrapped o size;
       }
-
--- ---- the code that wraps: b is the array before the steps, f its first registers after them
-
-module _ (x b : List ℕ) (o : Octets x) (least : 1 ≤ length x) (most : length x ≤ 256)
-    (eb : b ≡ start x ++ replicate (32 - blocks (length x)) 0) where
-  end : ℕ
-  end = blocks (length x) + 1
-
-  start-size : length (start x) ≡ end
-  unfolding end
-  start-size = start-registers x o most .size ∙ sym (add-one (blocks (length x)))
-
-  front : take end b ≡ start x
-  unfolding end
-  front = ap (take end) eb ∙ take-at (start x) (replicate (32 - blocks (length x)) 0) end start-size
-
-  pub front-count : blocks (length x) + 1 ≡ length (take (blocks (length x) + 1) b)
-  unfolding end
-  front-count = sym (ap length front ∙ start-size)
-
-  module _ (key f : List ℕ) (is : Key key) (ef : f ≡ forward key (blocks (length x) + 1 - 1) (take (blocks (length x) + 1) b)) where
-    turned : f ≡ forward key (blocks (length x)) (start x)
-    unfolding end
-    turned = ef ∙ ap₂ (forward key) (let z : blocks (length x) + 1 - 1 ≡ blocks (length x) = omega arith in z) front
-
-    count : length f ≡ end
-    unfolding end
-    count =
-        ap length turned
-        ∙ forward-undone key is (blocks (length x)) (omega arith) (omega arith) .keeps (start x) (start-registers x o most) .size
-        ∙ sym (add-one (blocks (length x)))
-
-    pub front-of : take (blocks (length x) + 1) (f ++ drop (blocks (length x) + 1) b) ≡ f
-    unfolding end
-    front-of = take-at f (drop end b) end count
-
-    pub front-within : blocks (length x) + 1 ≤ length (f ++ drop (blocks (length x) + 1) b)
-    unfolding end
-    front-within = omega (arith, count, length-append f (drop end b))
-
-    pub front-kept : blocks (length x) + 1 ≡ length (take (blocks (length x) + 1) (f ++ drop (blocks (length x) + 1) b))
-    unfolding end
-    front-kept = sym (ap length front-of ∙ count)
-
-    pub wrapped-is : octetsIn (take (blocks (length x) + 1) (f ++ drop (blocks (length x) + 1) b)) ≡ wrapOf key x
-    wrapped-is = ap octetsIn (front-of ∙ turned) ∙ sym (wrap-registers key x is o)
 
 -- 8 octets for A and each block
 pub length-wrap : (key x : List ℕ) → Key key → Octets x → 1 ≤ length x → length x ≤ 256

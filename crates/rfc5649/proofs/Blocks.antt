@@ -10,7 +10,7 @@ use Rattle.octets.proofs.Numerals.{number-append}
 use Rattle.octets.proofs.RoundTrip.{length-octets, octets-octets, number-lt, number-octets, octets-number}
 use Rattle.octets.proofs.Octets.{join-octets, drop-octets}
 use Rattle.fips197.specs.Block.{Block}
-use Rattle.keywrap.specs.Steps.{joined, msb64, lsb64}
+use Rattle.rfc5649.specs.Steps.{joined, msb64, lsb64}
 
 pub joined-block : (a r : ℕ) → Block (joined a r)
 joined-block a r =

@@ -8,8 +8,8 @@ use lib.ListN.{length, take, drop}
 use lib.Bits.{bitXor}
 use Rattle.octets.specs.Octets.{Octets}
 use Rattle.fips197.specs.Cipher.{invCipher}
-use Rattle.keywrap.specs.Wrap.{blocks, registers, start}
-use Rattle.keywrap.specs.Steps.{register, joined, stored, step, rows}
+use Rattle.rfc5649.specs.Wrap.{blocks, registers, start}
+use Rattle.rfc5649.specs.Steps.{register, joined, stored, step, rows}
 
 -- "B = AES-1(K, (A ^ t) | R[i])", "A = MSB(64, B)", "R[i] = LSB(64, B)"
 unfoldable pub unstep : List ℕ → ℕ → ℕ → List ℕ → List ℕ

@@ -1,0 +1,4 @@
+pub mod Steps
+pub mod Wrap
+pub mod Opens
+pub mod inner
