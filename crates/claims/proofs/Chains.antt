@@ -19,7 +19,7 @@ use Rattle.rules_outcome.specs.Stands.{HasPolicy, HasBag, HasSpi}
 use Rattle.rules_outcome.proofs.Stands as ofStands
 use Rattle.rules_chains.proofs.Closure as ofClosure
 use Rattle.rules_chains.proofs.Faults as ofFaults
-use Rattle.keywrap.proofs.Wrapping as ofWrapping
+use Rattle.rfc5649.proofs.Wrapping as ofWrapping
 pub use Rattle.rules_chains.proofs.Faults.{copy-no-fault}
 
 pub announced-are : (f : Frame) (p : GroupSaPolicy) → In p (announced f) ↔ HasPolicy f (groupSa p)

@@ -7,7 +7,7 @@ use Rattle.rules_outcome.specs.Samples.{Sample, Says}
 use Rattle.rules_outcome.proofs.SamplesHold as ofSamplesHold
 use Rattle.rules_outcome.proofs.AtTick as ofAtTick
 use Rattle.rules_outcome.proofs.SamplesInhabited as ofSamplesInhabited
-pub use Rattle.keywrap.proofs.AesKeyWrapExamples.{wraps-twenty-octets, wraps-seven-octets}
+pub use Rattle.rfc5649.proofs.AesKeyWrapExamples.{wraps-twenty-octets, wraps-seven-octets}
 
 pub samples-hold : (x : Sample) → Says x
 samples-hold = ofSamplesHold.samples-hold
