@@ -2,13 +2,15 @@
 use Prim.Native.Nat.{ℕ}
 use mathlib.Core.List.{List, map, _∷_, _++_}
 use mathlib.Core.Path.{_≡_}
+use lib.ListN.{take}
 use Rattle.wire_policies.specs.Grammar.{IsGroupSa, IsGroupWide}
 use Rattle.wire_policies.specs.Policy.{GroupSaPolicy, GroupWidePolicy}
 use Rattle.wire_policies.specs.Selector.{Selector}
 use Rattle.wire_view.proofs.Cuts.{stretch, addresses, no-stretch, value}
-use Rattle.wire_view.specs.View.{itemsOf}
+use Rattle.wire_view.specs.View.{itemsOf, shownIn}
 use Rattle.rules_outcome.proofs.Needs.{Needs}
 use Rattle.wire_view.proofs.Cuts as ofCuts
+use Rattle.wire_view.proofs.WalkLaws as ofWalkLaws
 use Rattle.rules_outcome.proofs.Needs as ofNeeds
 pub use Rattle.wire_attributes.proofs.AttributeTable.{table-meanings, table-places, table-forms}
 pub use Rattle.state_keys.proofs.Rows.{table-lines}
@@ -19,6 +21,9 @@ cuts-sa = ofCuts.cuts-sa
 
 pub cuts-wide : (s : List ℕ) (x : GroupWidePolicy) (i : IsGroupWide s x) → map (stretch s) (itemsOf s) ≡ map value (i .attributes)
 cuts-wide = ofCuts.cuts-wide
+
+pub walk-shows : (s : List ℕ) (n : ℕ) → shownIn n s 0 ≡ take n (itemsOf s)
+walk-shows = ofWalkLaws.walk-shows
 
 pub policies-need : (spi : List ℕ) (from to : Selector) (ids seconds : List ℕ) → Needs spi from to ids seconds
 policies-need = ofNeeds.policies-need
