@@ -18,6 +18,7 @@ ghost use Rattle.aes.specs.inner.Tables.{Boxed, decipherTables};
 ghost use Rattle.aes.specs.inner.Schedule.{Expands, ExpandsInverse};
 ghost use Rattle.aes.specs.inner.Expanding.{Grown, Placed};
 ghost use Rattle.aes.specs.inner.Inverse.{unmixedOf, inverseWordOf};
+use crate::SCHEDULE_WORDS;
 
 // XTIMES(x).
 fn times2(x: u8) -> u8
@@ -69,12 +70,12 @@ fn temp_at(t: &[u32], at: usize, nk: usize, p: Place, x: u32) -> u32
 }
 
 // The words of the key, and zeros behind them.
-fn key_words(key: &[u8]) -> [u32; 61]
+fn key_words(key: &[u8]) -> [u32; SCHEDULE_WORDS]
     requires { ⌜ T (isKey (length (now key))) ⌝ }
     ensures { λ r. ⌜ Grown (now (key .entry)) r (length (now (key .entry)) / 4) ⌝ }
 {
     let nk = key.len() / 4;
-    let mut w = [0u32; 61];
+    let mut w = [0u32; SCHEDULE_WORDS];
     let mut j = 0;
     while j < nk {
         w[j] = join(key[4 * j], key[4 * j + 1], key[4 * j + 2], key[4 * j + 3]);
@@ -84,7 +85,7 @@ fn key_words(key: &[u8]) -> [u32; 61]
 }
 
 // The round keys' words, and the number of rounds behind them.
-pub fn expanded(t: &[u32], at: usize, key: &[u8]) -> [u32; 61]
+pub fn expanded(t: &[u32], at: usize, key: &[u8]) -> [u32; SCHEDULE_WORDS]
     requires { ⌜ (at + 256 ≤ length (now t)) × Boxed sbox (now t) at ⌝ }
     requires { ⌜ T (isKey (length (now key))) ⌝ }
     ensures { λ r. ⌜ Expands (now (key .entry)) r ⌝ }
@@ -115,7 +116,7 @@ fn unmixed(t: &[u32], x: u32) -> u32
 }
 
 // Word j of the inverse schedule of n rounds, from the words w of the expanded key.
-fn inverse_word(t: &[u32], w: &[u32; 61], n: usize, j: usize) -> u32
+fn inverse_word(t: &[u32], w: &[u32; SCHEDULE_WORDS], n: usize, j: usize) -> u32
     requires { ⌜ (768 ≤ length (now t)) × (n < 15) × (j < 4 * (n + 1)) ⌝ }
     ensures { λ r. ⌜ r ≡ inverseWordOf (now (t .entry)) (now (w .entry)) n j ⌝ }
 {
@@ -130,14 +131,14 @@ fn inverse_word(t: &[u32], w: &[u32; 61], n: usize, j: usize) -> u32
 }
 
 // The round keys' words for the equivalent inverse cipher, and the number of rounds behind them.
-pub fn expanded_inverse(t: &[u32], key: &[u8]) -> [u32; 61]
+pub fn expanded_inverse(t: &[u32], key: &[u8]) -> [u32; SCHEDULE_WORDS]
     requires { ⌜ now t ≡ decipherTables ⌝ }
     requires { ⌜ T (isKey (length (now key))) ⌝ }
     ensures { λ r. ⌜ ExpandsInverse (now (key .entry)) r ⌝ }
 {
     let w = expanded(t, 512, key);
     let n = key.len() / 4 + 6;
-    let mut k = [0u32; 61];
+    let mut k = [0u32; SCHEDULE_WORDS];
     let mut j = 0;
     while j < 4 * (n + 1) {
         k[j] = inverse_word(t, &w, n, j);

@@ -30,6 +30,14 @@ use rounds::swapped;
 use rounds::unite;
 use words::apart;
 
+// The words of the tables that are lent: a combined table and the substitution box; for deciphering the inverse ones, and the substitution
+// box for the key expansion. The words of a schedule: those of the expanded key, and the count of rounds.
+pub const TABLE_WORDS: usize = 512;
+
+pub const INVERSE_TABLE_WORDS: usize = 768;
+
+pub const SCHEDULE_WORDS: usize = 61;
+
 // The state: a word for each column, the first octet highest.
 pub struct State {
     pub a: u32,
@@ -46,30 +54,30 @@ pub struct Pair {
 
 // For `encrypt`: the words of the round keys, zeros behind them, and the number of rounds at 60.
 pub struct Schedule {
-    pub words: [u32; 61],
+    pub words: [u32; SCHEDULE_WORDS],
 }
 
 // For `decrypt`: the same with the round keys of the equivalent inverse cipher.
 pub struct InverseSchedule {
-    pub words: [u32; 61],
+    pub words: [u32; SCHEDULE_WORDS],
 }
 
 // What is lent to `expand`, `encrypt` and `encrypt_pair`: made once, since the language has no static data. Internal.
-pub fn tables() -> [u32; 512]
+pub fn tables() -> [u32; TABLE_WORDS]
     ensures { λ r. ⌜ r ≡ encipherTables ⌝ }
 {
     encipher_tables()
 }
 
 // What is lent to `expand_inverse`, `decrypt` and `decrypt_pair`. Internal.
-pub fn inverse_tables() -> [u32; 768]
+pub fn inverse_tables() -> [u32; INVERSE_TABLE_WORDS]
     ensures { λ r. ⌜ r ≡ decipherTables ⌝ }
 {
     decipher_tables()
 }
 
 // KEYEXPANSION(key). Internal.
-pub fn expand(tables: &[u32; 512], key: &[u8]) -> Schedule
+pub fn expand(tables: &[u32; TABLE_WORDS], key: &[u8]) -> Schedule
     requires { ⌜ now tables ≡ encipherTables ⌝ }
     requires { ⌜ T (isKey (length (now key))) ⌝ }
     ensures { λ r. ⌜ Expands (now (key .entry)) (r .words) ⌝ }
@@ -79,7 +87,7 @@ pub fn expand(tables: &[u32; 512], key: &[u8]) -> Schedule
 }
 
 // KEYEXPANSION(key) for the equivalent inverse cipher. Internal.
-pub fn expand_inverse(tables: &[u32; 768], key: &[u8]) -> InverseSchedule
+pub fn expand_inverse(tables: &[u32; INVERSE_TABLE_WORDS], key: &[u8]) -> InverseSchedule
     requires { ⌜ now tables ≡ decipherTables ⌝ }
     requires { ⌜ T (isKey (length (now key))) ⌝ }
     ensures { λ r. ⌜ ExpandsInverse (now (key .entry)) (r .words) ⌝ }
@@ -89,7 +97,11 @@ pub fn expand_inverse(tables: &[u32; 768], key: &[u8]) -> InverseSchedule
 }
 
 // CIPHER(). Internal.
-pub fn encrypt(tables: &[u32; 512], schedule: &[u32; 61], block: [u8; 16]) -> [u8; 16]
+pub fn encrypt(
+    tables: &[u32; TABLE_WORDS],
+    schedule: &[u32; SCHEDULE_WORDS],
+    block: [u8; 16],
+) -> [u8; 16]
     requires { ⌜ now tables ≡ encipherTables ⌝ }
     requires { ⌜ Expanded (now schedule) ⌝ }
     ensures { λ r. ⌜ ((key : List ℕ) → Expands key (now (schedule .entry)) → r ≡ cipher key block) ⌝ }
@@ -98,7 +110,12 @@ pub fn encrypt(tables: &[u32; 512], schedule: &[u32; 61], block: [u8; 16]) -> [u
 }
 
 // CIPHER() of the block of two numbers. Internal.
-pub fn encrypt_pair(tables: &[u32; 512], schedule: &[u32; 61], hi: u64, lo: u64) -> Pair
+pub fn encrypt_pair(
+    tables: &[u32; TABLE_WORDS],
+    schedule: &[u32; SCHEDULE_WORDS],
+    hi: u64,
+    lo: u64,
+) -> Pair
     requires { ⌜ now tables ≡ encipherTables ⌝ }
     requires { ⌜ Expanded (now schedule) ⌝ }
     ensures { λ r. ⌜ ((key : List ℕ) → Expands key (now (schedule .entry)) →
@@ -108,7 +125,11 @@ pub fn encrypt_pair(tables: &[u32; 512], schedule: &[u32; 61], hi: u64, lo: u64)
 }
 
 // INVCIPHER(). Internal.
-pub fn decrypt(tables: &[u32; 768], schedule: &[u32; 61], block: [u8; 16]) -> [u8; 16]
+pub fn decrypt(
+    tables: &[u32; INVERSE_TABLE_WORDS],
+    schedule: &[u32; SCHEDULE_WORDS],
+    block: [u8; 16],
+) -> [u8; 16]
     requires { ⌜ now tables ≡ decipherTables ⌝ }
     requires { ⌜ ExpandedInverse (now schedule) ⌝ }
     ensures { λ r. ⌜ ((key : List ℕ) → ExpandsInverse key (now (schedule .entry)) → r ≡ invCipher key block) ⌝ }
@@ -117,7 +138,12 @@ pub fn decrypt(tables: &[u32; 768], schedule: &[u32; 61], block: [u8; 16]) -> [u
 }
 
 // INVCIPHER() of the block of two numbers. Internal.
-pub fn decrypt_pair(tables: &[u32; 768], schedule: &[u32; 61], hi: u64, lo: u64) -> Pair
+pub fn decrypt_pair(
+    tables: &[u32; INVERSE_TABLE_WORDS],
+    schedule: &[u32; SCHEDULE_WORDS],
+    hi: u64,
+    lo: u64,
+) -> Pair
     requires { ⌜ now tables ≡ decipherTables ⌝ }
     requires { ⌜ ExpandedInverse (now schedule) ⌝ }
     ensures { λ r. ⌜ ((key : List ℕ) → ExpandsInverse key (now (schedule .entry)) →
@@ -138,7 +164,7 @@ pub fn last_word(schedule: Schedule) -> [u8; 4]
 }
 
 // Round key r of the equivalent inverse cipher, its columns in the block's order. Internal.
-pub fn inverse_round_key(schedule: &[u32; 61], r: usize) -> [u8; 16]
+pub fn inverse_round_key(schedule: &[u32; SCHEDULE_WORDS], r: usize) -> [u8; 16]
     requires { ⌜ r < 15 ⌝ }
     ensures { λ x. ⌜ x ≡ blockOf (swappedOf (keyOf (now (schedule .entry)) r)) ⌝ }
 {

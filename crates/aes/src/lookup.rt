@@ -2,8 +2,10 @@
 // of it.
 ghost use mathlib.Core.Path.{_≡_};
 ghost use Rattle.aes.specs.inner.Tables.{encipherTables, decipherTables};
+use crate::INVERSE_TABLE_WORDS;
+use crate::TABLE_WORDS;
 
-const ENCIPHER: [u32; 512] = [
+const ENCIPHER: [u32; TABLE_WORDS] = [
     0xc66363a5,
     0xf87c7c84,
     0xee777799,
@@ -518,7 +520,7 @@ const ENCIPHER: [u32; 512] = [
     0x16,
 ];
 
-const DECIPHER: [u32; 768] = [
+const DECIPHER: [u32; INVERSE_TABLE_WORDS] = [
     0x51f4a750,
     0x7e416553,
     0x1a17a4c3,
@@ -1289,13 +1291,13 @@ const DECIPHER: [u32; 768] = [
     0x16,
 ];
 
-pub fn encipher_tables() -> [u32; 512]
+pub fn encipher_tables() -> [u32; TABLE_WORDS]
     ensures { λ r. ⌜ r ≡ encipherTables ⌝ }
 {
     ENCIPHER
 }
 
-pub fn decipher_tables() -> [u32; 768]
+pub fn decipher_tables() -> [u32; INVERSE_TABLE_WORDS]
     ensures { λ r. ⌜ r ≡ decipherTables ⌝ }
 {
     DECIPHER

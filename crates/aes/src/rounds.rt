@@ -9,6 +9,7 @@ ghost use mathlib.Core.Path.{_≡_};
 ghost use Prim.Native.Nat.{_<_, _≤_};
 ghost use lib.ListN.{length, getD};
 ghost use Rattle.aes.specs.inner.Rounds.{blockOf, loadOf, splitOf, uniteOf, swappedOf, startOf, roundOf, lastRoundOf, runOf};
+use crate::SCHEDULE_WORDS;
 
 pub(crate) fn load(s: [u8; 16]) -> State
     ensures { λ x. ⌜ x ≡ loadOf s ⌝ }
@@ -81,7 +82,7 @@ pub(crate) fn swapped(s: State) -> State
     }
 }
 
-fn start(k: &[u32; 61], s: State) -> State
+fn start(k: &[u32; SCHEDULE_WORDS], s: State) -> State
     ensures { λ x. ⌜ x ≡ startOf (now (k .entry)) s ⌝ }
 {
     State {
@@ -92,7 +93,7 @@ fn start(k: &[u32; 61], s: State) -> State
     }
 }
 
-fn round(t: &[u32], k: &[u32; 61], r: usize, s: State) -> State
+fn round(t: &[u32], k: &[u32; SCHEDULE_WORDS], r: usize, s: State) -> State
     requires { ⌜ (512 ≤ length (now t)) × (r < 15) ⌝ }
     ensures { λ x. ⌜ x ≡ roundOf (now (t .entry)) (now (k .entry)) r s ⌝ }
 {
@@ -105,7 +106,7 @@ fn round(t: &[u32], k: &[u32; 61], r: usize, s: State) -> State
     }
 }
 
-fn last(t: &[u32], k: &[u32; 61], r: usize, s: State) -> State
+fn last(t: &[u32], k: &[u32; SCHEDULE_WORDS], r: usize, s: State) -> State
     requires { ⌜ (512 ≤ length (now t)) × (r < 15) ⌝ }
     ensures { λ x. ⌜ x ≡ lastRoundOf (now (t .entry)) (now (k .entry)) r s ⌝ }
 {
@@ -119,7 +120,7 @@ fn last(t: &[u32], k: &[u32; 61], r: usize, s: State) -> State
 }
 
 // All rounds over the schedule k.
-pub(crate) fn run(t: &[u32], k: &[u32; 61], s: State) -> State
+pub(crate) fn run(t: &[u32], k: &[u32; SCHEDULE_WORDS], s: State) -> State
     requires { ⌜ (512 ≤ length (now t)) × (1 ≤ getD (now k) 60 0) × (getD (now k) 60 0 < 15) ⌝ }
     ensures { λ x. ⌜ x ≡ runOf (now (t .entry)) (now (k .entry)) s ⌝ }
 {

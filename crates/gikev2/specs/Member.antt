@@ -4,6 +4,7 @@ use mathlib.Core.Bool.{true, false, cond}
 use mathlib.Core.List.{List, []}
 use lib.Dec.{eqb}
 use lib.ListN.{take}
+use Rattle.state_keys.specs.Rooms.{saRoom}
 use Rattle.state_keys.specs.Limits.{limits}
 use Rattle.state_keys.specs.Kinds.{padded}
 use Rattle.state_sa.specs.Entry.{rekey}
@@ -34,7 +35,7 @@ unfoldable pub answerOf : Sa → SaAnswer
 answerOf s =
     record {
       found = true;
-      octets = padded 68 (take (s .count) (s .octets));
+      octets = padded saRoom (take (s .count) (s .octets));
       count = s .count;
       encryption = cond (eqb (s .protocol) rekey) (s .encryption) 0;
       wrapping = cond (eqb (s .protocol) rekey) (s .wrapping) 0;
@@ -45,7 +46,7 @@ answerOf s =
 abbrev pub noAnswer : SaAnswer
 noAnswer = record {
   found = false;
-  octets = padded 68 [];
+  octets = padded saRoom [];
   count = 0;
   encryption = 0;
   wrapping = 0;

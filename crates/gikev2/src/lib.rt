@@ -4,6 +4,7 @@ pub mod call;
 ghost use mathlib.Core.Path.{_≡_};
 ghost use Rattle.gikev2.specs.Member.{newMember, sweptMember, leftMember, answerOf, saAnswer};
 use state::State;
+use state_keys::rooms::SA_OCTETS;
 use state_sa::entry::Condition;
 use state_sa::entry::Lifetime;
 use state_sa::entry::REKEY;
@@ -17,7 +18,7 @@ pub struct Member {
 // (of a Rekey SA), its condition and its lifetime. All else is blank.
 pub struct SaAnswer {
     pub found: bool,
-    pub octets: [u8; 68],
+    pub octets: [u8; SA_OCTETS],
     pub count: usize,
     pub encryption: usize,
     pub wrapping: usize,
@@ -31,11 +32,11 @@ fn answer(s: Sa) -> SaAnswer
 {
     let count = s.count;
     let mut n = count;
-    if 68 < n {
-        n = 68;
+    if SA_OCTETS < n {
+        n = SA_OCTETS;
     }
     let o = s.octets;
-    let mut octets = [0u8; 68];
+    let mut octets = [0u8; SA_OCTETS];
     bytes::copy(&o[0..n], &mut octets);
     let mut encryption: usize = 0;
     let mut wrapping: usize = 0;
@@ -93,7 +94,7 @@ impl Member {
         }
         SaAnswer {
             found: false,
-            octets: [0u8; 68],
+            octets: [0u8; SA_OCTETS],
             count: 0,
             encryption: 0,
             wrapping: 0,

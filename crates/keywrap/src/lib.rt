@@ -18,6 +18,8 @@ ghost use Rattle.keywrap.specs.Answers.{written, WrapAnswers, OpenAnswer
 ghost use Rattle.keywrap.specs.inner.Blank.{OpensBlank};
 ghost use Rattle.rfc5649.specs.inner.Unwrap.{Unwraps};
 ghost use Rattle.keywrap.specs.inner.Room.{putAnswer, putRoom};
+use aes::INVERSE_TABLE_WORDS;
+use aes::SCHEDULE_WORDS;
 
 // What wrapping and opening answer: document 01's "no", or the count of octets written at the room's start.
 pub enum Answer {
@@ -80,7 +82,12 @@ pub fn wrap(key: &[u8], octets: &[u8], room: &mut [u8]) -> Answer
 }
 
 // The registers that `wrapped` had before the steps: A, R[1], .., R[n], and zeros behind.
-fn unwrapped(tables: &[u32; 768], schedule: &[u32; 61], wrapped: &[u8], n: usize) -> [u64; 33]
+fn unwrapped(
+    tables: &[u32; INVERSE_TABLE_WORDS],
+    schedule: &[u32; SCHEDULE_WORDS],
+    wrapped: &[u8],
+    n: usize,
+) -> [u64; 33]
     requires { ⌜ (now tables ≡ decipherTables) × ExpandedInverse (now schedule) ⌝ }
     requires { ⌜ (1 ≤ n) × (n ≤ 32) × (length (now wrapped) ≡ 8 * suc n) ⌝ }
     ensures { λ r. ⌜ ((key : List ℕ) → ExpandsInverse key (now (schedule .entry)) → Unwraps key n (now (wrapped .entry)) r) ⌝ }
@@ -93,7 +100,11 @@ fn unwrapped(tables: &[u32; 768], schedule: &[u32; 61], wrapped: &[u8], n: usize
 }
 
 // Opens over a schedule that was expanded once, into blank room. Internal.
-pub fn open_under(tables: &[u32; 768], schedule: InverseSchedule, wrapped: &[u8]) -> Opened
+pub fn open_under(
+    tables: &[u32; INVERSE_TABLE_WORDS],
+    schedule: InverseSchedule,
+    wrapped: &[u8],
+) -> Opened
     requires { ⌜ (now tables ≡ decipherTables) × ExpandedInverse (schedule .words) ⌝ }
     ensures { λ r. ⌜ ((k : List ℕ) → ExpandsInverse k (schedule .words) → OpensBlank k (now (wrapped .entry)) (r .answer) (r .octets)) ⌝ }
 {

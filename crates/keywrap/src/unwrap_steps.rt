@@ -6,8 +6,16 @@ ghost use lib.ListN.{length};
 ghost use Rattle.aes.specs.inner.Tables.{decipherTables};
 ghost use Rattle.aes.specs.inner.Schedule.{ExpandsInverse, ExpandedInverse};
 ghost use Rattle.rfc5649.specs.inner.Unwrap.{unstep, unrow, unrows, backward};
+use aes::INVERSE_TABLE_WORDS;
+use aes::SCHEDULE_WORDS;
 
-fn unstep_in(tables: &[u32; 768], schedule: &[u32; 61], s: &mut [u64], t: u64, i: usize)
+fn unstep_in(
+    tables: &[u32; INVERSE_TABLE_WORDS],
+    schedule: &[u32; SCHEDULE_WORDS],
+    s: &mut [u64],
+    t: u64,
+    i: usize,
+)
     requires { ⌜ (now tables ≡ decipherTables) × ExpandedInverse (now schedule) ⌝ }
     requires { ⌜ (0 < i) × (i < length (now s)) ⌝ }
     ensures { λ _. ⌜ ((key : List ℕ) → ExpandsInverse key (now (schedule .entry)) → now (s .exit) ≡ unstep key t i (now (s .entry))) ⌝ }
@@ -17,7 +25,13 @@ fn unstep_in(tables: &[u32; 768], schedule: &[u32; 61], s: &mut [u64], t: u64, i
     s[i] = b.lo;
 }
 
-fn unrow_in(tables: &[u32; 768], schedule: &[u32; 61], s: &mut [u64], base: usize, n: usize)
+fn unrow_in(
+    tables: &[u32; INVERSE_TABLE_WORDS],
+    schedule: &[u32; SCHEDULE_WORDS],
+    s: &mut [u64],
+    base: usize,
+    n: usize,
+)
     requires { ⌜ (now tables ≡ decipherTables) × ExpandedInverse (now schedule) ⌝ }
     requires { ⌜ (base ≤ 160) × (n ≤ 32) × (n < length (now s)) ⌝ }
     ensures { λ _. ⌜ ((key : List ℕ) → ExpandsInverse key (now (schedule .entry)) → now (s .exit) ≡ unrow key base n (now (s .entry))) ⌝ }
@@ -29,7 +43,12 @@ fn unrow_in(tables: &[u32; 768], schedule: &[u32; 61], s: &mut [u64], base: usiz
     }
 }
 
-fn unrows_in(tables: &[u32; 768], schedule: &[u32; 61], s: &mut [u64], n: usize)
+fn unrows_in(
+    tables: &[u32; INVERSE_TABLE_WORDS],
+    schedule: &[u32; SCHEDULE_WORDS],
+    s: &mut [u64],
+    n: usize,
+)
     requires { ⌜ (now tables ≡ decipherTables) × ExpandedInverse (now schedule) ⌝ }
     requires { ⌜ (n ≤ 32) × (n < length (now s)) ⌝ }
     ensures { λ _. ⌜ ((key : List ℕ) → ExpandsInverse key (now (schedule .entry)) → now (s .exit) ≡ unrows key n 6 (now (s .entry))) ⌝ }
@@ -42,7 +61,12 @@ fn unrows_in(tables: &[u32; 768], schedule: &[u32; 61], s: &mut [u64], n: usize)
 }
 
 // RFC 5649, section 4.2, step 1, on the registers of n blocks.
-pub(crate) fn backward_in(tables: &[u32; 768], schedule: &[u32; 61], s: &mut [u64], n: usize)
+pub(crate) fn backward_in(
+    tables: &[u32; INVERSE_TABLE_WORDS],
+    schedule: &[u32; SCHEDULE_WORDS],
+    s: &mut [u64],
+    n: usize,
+)
     requires { ⌜ (now tables ≡ decipherTables) × ExpandedInverse (now schedule) ⌝ }
     requires { ⌜ (1 ≤ n) × (n ≤ 32) × (n < length (now s)) ⌝ }
     ensures { λ _. ⌜ ((key : List ℕ) → ExpandsInverse key (now (schedule .entry)) → now (s .exit) ≡ backward key n (now (s .entry))) ⌝ }

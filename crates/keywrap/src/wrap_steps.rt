@@ -7,8 +7,16 @@ ghost use Rattle.aes.specs.inner.Tables.{encipherTables};
 ghost use Rattle.aes.specs.inner.Schedule.{Expands, Expanded};
 ghost use Rattle.rfc5649.specs.Steps.{step, row, rows};
 ghost use Rattle.rfc5649.specs.inner.Unwrap.{forward};
+use aes::SCHEDULE_WORDS;
+use aes::TABLE_WORDS;
 
-fn step_in(tables: &[u32; 512], schedule: &[u32; 61], s: &mut [u64], t: u64, i: usize)
+fn step_in(
+    tables: &[u32; TABLE_WORDS],
+    schedule: &[u32; SCHEDULE_WORDS],
+    s: &mut [u64],
+    t: u64,
+    i: usize,
+)
     requires { ⌜ (now tables ≡ encipherTables) × Expanded (now schedule) ⌝ }
     requires { ⌜ (0 < i) × (i < length (now s)) ⌝ }
     ensures { λ _. ⌜ ((key : List ℕ) → Expands key (now (schedule .entry)) → now (s .exit) ≡ step key t i (now (s .entry))) ⌝ }
@@ -18,7 +26,13 @@ fn step_in(tables: &[u32; 512], schedule: &[u32; 61], s: &mut [u64], t: u64, i: 
     s[i] = b.lo;
 }
 
-fn row_in(tables: &[u32; 512], schedule: &[u32; 61], s: &mut [u64], base: usize, n: usize)
+fn row_in(
+    tables: &[u32; TABLE_WORDS],
+    schedule: &[u32; SCHEDULE_WORDS],
+    s: &mut [u64],
+    base: usize,
+    n: usize,
+)
     requires { ⌜ (now tables ≡ encipherTables) × Expanded (now schedule) ⌝ }
     requires { ⌜ (base ≤ 160) × (n ≤ 32) × (n < length (now s)) ⌝ }
     ensures { λ _. ⌜ ((key : List ℕ) → Expands key (now (schedule .entry)) → now (s .exit) ≡ row key base n (now (s .entry))) ⌝ }
@@ -30,7 +44,7 @@ fn row_in(tables: &[u32; 512], schedule: &[u32; 61], s: &mut [u64], base: usize,
     }
 }
 
-fn rows_in(tables: &[u32; 512], schedule: &[u32; 61], s: &mut [u64], n: usize)
+fn rows_in(tables: &[u32; TABLE_WORDS], schedule: &[u32; SCHEDULE_WORDS], s: &mut [u64], n: usize)
     requires { ⌜ (now tables ≡ encipherTables) × Expanded (now schedule) ⌝ }
     requires { ⌜ (n ≤ 32) × (n < length (now s)) ⌝ }
     ensures { λ _. ⌜ ((key : List ℕ) → Expands key (now (schedule .entry)) → now (s .exit) ≡ rows key n 6 (now (s .entry))) ⌝ }
@@ -43,7 +57,12 @@ fn rows_in(tables: &[u32; 512], schedule: &[u32; 61], s: &mut [u64], n: usize)
 }
 
 // RFC 5649, section 4.1, step 2, on the registers of n blocks.
-pub(crate) fn forward_in(tables: &[u32; 512], schedule: &[u32; 61], s: &mut [u64], n: usize)
+pub(crate) fn forward_in(
+    tables: &[u32; TABLE_WORDS],
+    schedule: &[u32; SCHEDULE_WORDS],
+    s: &mut [u64],
+    n: usize,
+)
     requires { ⌜ (now tables ≡ encipherTables) × Expanded (now schedule) ⌝ }
     requires { ⌜ (1 ≤ n) × (n ≤ 32) × (n < length (now s)) ⌝ }
     ensures { λ _. ⌜ ((key : List ℕ) → Expands key (now (schedule .entry)) → now (s .exit) ≡ forward key n (now (s .entry))) ⌝ }

@@ -3,6 +3,7 @@
 use mathlib.Core.Path.{_≡_}
 use mathlib.Core.List.{List, [], _∷_}
 use lib.ListN.{take}
+use Rattle.state_keys.specs.Rooms.{wrappingKeyRoom}
 use Rattle.state_keys.specs.Limits.{Limits}
 use Rattle.state_keys.specs.Kinds.{padded}
 use Rattle.state_table.specs.Blank.{TableBlank}
@@ -12,7 +13,7 @@ use Rattle.state.specs.Held.{keysOf, heldOf}
 
 pub data AllKeysBlank : List HeldKey → Type 0 where
   no-key : AllKeysBlank []
-  one-more : {k : HeldKey} {l : List HeldKey} → k .key .octets ≡ padded 32 (take (k .key .count) (k .key .octets)) → AllKeysBlank l →
+  one-more : {k : HeldKey} {l : List HeldKey} → k .key .octets ≡ padded wrappingKeyRoom (take (k .key .count) (k .key .octets)) → AllKeysBlank l →
       AllKeysBlank (k ∷ l)
 
 pub record StateBlank (limits : Limits) (s : State) : Type 0 where

@@ -9,6 +9,7 @@ ghost use Rattle.state.specs.Held.{blankKey, keysOf, heldOf, keyFormed, 
 use state_keys::kinds::MadeWrapping;
 use state_keys::kinds::WrappingKey;
 use state_keys::limits::HELD_KEYS;
+use state_keys::rooms::WRAPPING_KEY;
 
 // A wrapping key with its Key ID.
 pub struct HeldKey {
@@ -26,7 +27,7 @@ fn blank() -> HeldKey
     ensures { λ r. ⌜ r ≡ blankKey ⌝ }
 {
     let key = WrappingKey {
-        octets: [0u8; 32],
+        octets: [0u8; WRAPPING_KEY],
         count: 0,
     };
     HeldKey { id: 0, key }
@@ -122,7 +123,7 @@ impl Held {
     {
         let n = self.count;
         let none = WrappingKey {
-            octets: [0u8; 32],
+            octets: [0u8; WRAPPING_KEY],
             count: 0,
         };
         if HELD_KEYS < n {

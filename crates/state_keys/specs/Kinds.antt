@@ -6,6 +6,7 @@ use mathlib.Core.Bool.{Bool, true, false, cond, _&&_}
 use mathlib.Core.List.{List, [], _++_}
 use lib.Dec.{eqb}
 use lib.ListN.{length, take, drop, replicate}
+use Rattle.state_keys.specs.Rooms.{encryptionKeyRoom, saRoom, wrappingKeyRoom}
 use Rattle.state_keys.specs.Algorithms.{sizeOf}
 use Rattle.state_keys.specs.declared.kinds.WrappingKey.{WrappingKey}
 use Rattle.state_keys.specs.declared.kinds.EspKey.{EspKey}
@@ -22,7 +23,7 @@ padded n x = x ++ replicate (n - length x) 0
 
 -- ---- a wrapping key: the second number of the algorithm table (transform type 13)
 abbrev pub wrappingOf : List ℕ → WrappingKey
-wrappingOf x = record { octets = padded 32 x; count = length x }
+wrappingOf x = record { octets = padded wrappingKeyRoom x; count = length x }
 
 -- its octets
 abbrev pub valueOf : WrappingKey → List ℕ
@@ -34,14 +35,14 @@ wrappingKey x =
 
 -- ---- the keying octets of an ESP SA: the first number (transform type 1)
 abbrev pub espOf : List ℕ → EspKey
-espOf x = record { octets = padded 36 x; count = length x }
+espOf x = record { octets = padded encryptionKeyRoom x; count = length x }
 
 unfoldable pub espKey : List ℕ → MadeEsp
 espKey x = cond (sizeOf 1 (length x)) (record { fits = true; key = espOf x }) (record { fits = false; key = espOf [] })
 
 -- ---- the encryption part of a Rekey SA's keying octets
 abbrev pub encryptionOf : List ℕ → EncryptionKey
-encryptionOf x = record { octets = padded 36 x; count = length x }
+encryptionOf x = record { octets = padded encryptionKeyRoom x; count = length x }
 
 unfoldable pub encryptionKey : List ℕ → MadeEncryption
 encryptionKey x =
@@ -52,7 +53,7 @@ unfoldable pub rekeySizes : ℕ → ℕ → Bool
 rekeySizes e w = sizeOf 1 e && sizeOf 13 w
 
 abbrev pub rekeyOf : List ℕ → ℕ → ℕ → RekeyKey
-rekeyOf x e w = record { octets = padded 68 x; encryption = e; wrapping = w }
+rekeyOf x e w = record { octets = padded saRoom x; encryption = e; wrapping = w }
 
 -- octets are those of parts of e and w octets where these are such numbers, and sum to them
 unfoldable pub rekeyKey : List ℕ → ℕ → ℕ → MadeRekey

@@ -1,4 +1,5 @@
 pub mod Lists
 pub mod Limits
 pub mod Algorithms
+pub mod Rooms
 pub mod Kinds

@@ -3,28 +3,31 @@
 ghost use mathlib.Core.Path.{_≡_};
 ghost use Rattle.state_keys.specs.Algorithms.{sizeOf};
 ghost use Rattle.state_keys.specs.Kinds.{wrappingKey, espKey, encryptionKey, rekeySizes, rekeyKey, keyWrapPart, encryptionPart};
+use crate::rooms::ENCRYPTION_KEY;
+use crate::rooms::SA_OCTETS;
+use crate::rooms::WRAPPING_KEY;
 
 // A wrapping key: 16, 24 or 32 octets.
 pub struct WrappingKey {
-    pub octets: [u8; 32],
+    pub octets: [u8; WRAPPING_KEY],
     pub count: usize,
 }
 
 // The keying octets of an ESP SA: 20, 28 or 36 octets.
 pub struct EspKey {
-    pub octets: [u8; 36],
+    pub octets: [u8; ENCRYPTION_KEY],
     pub count: usize,
 }
 
 // The encryption part of a Rekey SA's keying octets, GSK_e: 20, 28 or 36 octets.
 pub struct EncryptionKey {
-    pub octets: [u8; 36],
+    pub octets: [u8; ENCRYPTION_KEY],
     pub count: usize,
 }
 
 // The keying octets of a Rekey SA with the octet counts of their two parts, GSK_e and then GSK_w.
 pub struct RekeyKey {
-    pub octets: [u8; 68],
+    pub octets: [u8; SA_OCTETS],
     pub encryption: usize,
     pub wrapping: usize,
 }
@@ -76,7 +79,7 @@ impl WrappingKey {
         ensures { λ r. ⌜ r ≡ wrappingKey (now (octets .entry)) ⌝ }
     {
         let n = octets.len();
-        let mut out = [0u8; 32];
+        let mut out = [0u8; WRAPPING_KEY];
         if WrappingKey::is_size(n) {
             bytes::copy(octets, &mut out);
             let key = WrappingKey {
@@ -119,7 +122,7 @@ impl EncryptionKey {
         ensures { λ r. ⌜ r ≡ encryptionKey (now (octets .entry)) ⌝ }
     {
         let n = octets.len();
-        let mut out = [0u8; 36];
+        let mut out = [0u8; ENCRYPTION_KEY];
         if EncryptionKey::is_size(n) {
             bytes::copy(octets, &mut out);
             let key = EncryptionKey {
@@ -162,7 +165,7 @@ impl EspKey {
         ensures { λ r. ⌜ r ≡ espKey (now (octets .entry)) ⌝ }
     {
         let n = octets.len();
-        let mut out = [0u8; 36];
+        let mut out = [0u8; ENCRYPTION_KEY];
         if EspKey::is_size(n) {
             bytes::copy(octets, &mut out);
             let key = EspKey {

@@ -2,3 +2,4 @@
 pub mod algorithms;
 pub mod kinds;
 pub mod limits;
+pub mod rooms;

@@ -2,11 +2,12 @@
 -- octets behind the keying octets, an ESP SA's part counts.
 use mathlib.Core.Path.{_≡_}
 use lib.ListN.{take}
+use Rattle.state_keys.specs.Rooms.{saRoom, spiRoom}
 use Rattle.state_keys.specs.Kinds.{padded}
 use Rattle.state_sa.specs.declared.entry.Sa.{Sa}
 use Rattle.state_sa.specs.Entry.{esp, spiOf}
 
 pub record Blank (s : Sa) : Type 0 where
-  pub spi : s .spi ≡ padded 16 (spiOf s)
-  pub octets : s .octets ≡ padded 68 (take (s .count) (s .octets))
+  pub spi : s .spi ≡ padded spiRoom (spiOf s)
+  pub octets : s .octets ≡ padded saRoom (take (s .count) (s .octets))
   pub parts : s .protocol ≡ esp → (s .encryption ≡ 0) × (s .wrapping ≡ 0)

@@ -6,6 +6,7 @@ use mathlib.Core.Bool.{Bool, true, false, cond, _&&_, _||_}
 use mathlib.Core.List.{List, []}
 use lib.Dec.{leb, ltb, eqb}
 use lib.ListN.{take}
+use Rattle.state_keys.specs.Rooms.{saRoom, spiRoom}
 use Rattle.ikev2_numbers.specs.Codes.{dataSpiOctets, protocolEsp, protocolGikeUpdate, rekeySpiOctets}
 use Rattle.octets.specs.Compare.{less, same}
 use Rattle.state_keys.specs.Algorithms.{sizeOf}
@@ -108,11 +109,11 @@ retired now delay s = withCondition (retiredBy now delay (s .condition)) s
 
 -- "The new SAs enter as live": with SPI x, a key of their kind and a lifetime t. An ESP SA has no part counts
 unfoldable pub espSa : List ℕ → EspKey → Lifetime → Sa
-espSa x k t = saOf esp (padded 16 x) (padded 68 (take (k .count) (k .octets))) (k .count) 0 0 Live t
+espSa x k t = saOf esp (padded spiRoom x) (padded saRoom (take (k .count) (k .octets))) (k .count) 0 0 Live t
 
 unfoldable pub rekeySa : List ℕ → RekeyKey → Lifetime → Sa
-rekeySa x k t = saOf rekey (padded 16 x) (k .octets) (k .encryption + k .wrapping) (k .encryption) (k .wrapping) Live t
+rekeySa x k t = saOf rekey (padded spiRoom x) (k .octets) (k .encryption + k .wrapping) (k .encryption) (k .wrapping) Live t
 
 -- the value of an unused place of the table
 abbrev pub blankSa : Sa
-blankSa = saOf 0 (padded 16 []) (padded 68 []) 0 0 0 Live Unlimited
+blankSa = saOf 0 (padded spiRoom []) (padded saRoom []) 0 0 0 Live Unlimited

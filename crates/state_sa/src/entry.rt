@@ -7,8 +7,12 @@ ghost use lib.ListN.{length};
 ghost use Rattle.state_keys.specs.Kinds.{rekeySizes};
 ghost use Rattle.state_sa.specs.Entry.{saOf, blankSa, spiSize, before, named, sized, fitLifetime, formed, liveRekey, dueBy, ranOut, due};
 ghost use Rattle.state_sa.specs.Entry.{retired, espSa, rekeySa};
+use ikev2_numbers::DATA_SPI;
+use ikev2_numbers::REKEY_SPI;
 use state_keys::kinds::EspKey;
 use state_keys::kinds::RekeyKey;
+use state_keys::rooms::SA_OCTETS;
+use state_keys::rooms::SA_SPI;
 
 // The protocols of the table.
 pub const ESP: u8 = 3;
@@ -32,8 +36,8 @@ pub const MOST_SECONDS: u32 = 2000000;
 
 pub struct Sa {
     pub protocol: u8,
-    pub spi: [u8; 16],
-    pub octets: [u8; 68],
+    pub spi: [u8; SA_SPI],
+    pub octets: [u8; SA_OCTETS],
     pub count: usize,
     pub encryption: usize,
     pub wrapping: usize,
@@ -46,10 +50,10 @@ pub fn spi_size(protocol: u8) -> usize
     ensures { λ r. ⌜ (r ≡ spiSize protocol) × (r ≤ 16) ⌝ }
 {
     if protocol == ESP {
-        return 4;
+        return DATA_SPI;
     }
     if protocol == REKEY {
-        return 16;
+        return REKEY_SPI;
     }
     0
 }
@@ -58,8 +62,8 @@ impl Sa {
     // The one place where an SA is written out.
     fn built(
         protocol: u8,
-        spi: [u8; 16],
-        octets: [u8; 68],
+        spi: [u8; SA_SPI],
+        octets: [u8; SA_OCTETS],
         count: usize,
         encryption: usize,
         wrapping: usize,
@@ -86,8 +90,8 @@ impl Sa {
     {
         Sa::built(
             0,
-            [0u8; 16],
-            [0u8; 68],
+            [0u8; SA_SPI],
+            [0u8; SA_OCTETS],
             0,
             0,
             0,
@@ -103,9 +107,9 @@ impl Sa {
     {
         let n = key.count;
         let o = key.octets;
-        let mut name = [0u8; 16];
+        let mut name = [0u8; SA_SPI];
         bytes::copy(spi, &mut name);
-        let mut octets = [0u8; 68];
+        let mut octets = [0u8; SA_OCTETS];
         bytes::copy(&o[0..n], &mut octets);
         Sa::built(ESP, name, octets, n, 0, 0, Condition::Live, lifetime)
     }
@@ -118,7 +122,7 @@ impl Sa {
         let e = key.encryption;
         let w = key.wrapping;
         let o = key.octets;
-        let mut name = [0u8; 16];
+        let mut name = [0u8; SA_SPI];
         bytes::copy(spi, &mut name);
         Sa::built(REKEY, name, o, e + w, e, w, Condition::Live, lifetime)
     }

@@ -10,6 +10,8 @@ ghost use Rattle.aes.specs.inner.Tables.{decipherTables};
 ghost use Rattle.aes.specs.inner.Schedule.{ExpandsInverse, ExpandedInverse};
 ghost use Rattle.unwrap_copies.specs.inner.Tries.{Try, Tells};
 ghost use Rattle.unwrap_copies.specs.declared.answer.Found.the-variants as found;
+use aes::INVERSE_TABLE_WORDS;
+use state_keys::rooms::SA_OCTETS;
 
 // None opens; those that open open to one value of the right size; or number 8 holds.
 pub enum Found {
@@ -21,7 +23,7 @@ pub enum Found {
 // The value, with blanks behind its octets.
 pub struct Opened {
     pub found: Found,
-    pub octets: [u8; 68],
+    pub octets: [u8; SA_OCTETS],
     pub count: usize,
 }
 
@@ -31,7 +33,7 @@ pub(crate) fn nothing() -> Opened
 {
     Opened {
         found: Found::Nothing,
-        octets: [0u8; 68],
+        octets: [0u8; SA_OCTETS],
         count: 0,
     }
 }
@@ -41,7 +43,7 @@ fn eight() -> Opened
 {
     Opened {
         found: Found::Eight,
-        octets: [0u8; 68],
+        octets: [0u8; SA_OCTETS],
         count: 0,
     }
 }
@@ -78,7 +80,7 @@ pub(crate) fn joined(a: Opened, b: Opened) -> Opened
 
 // Opens one copy's octets under the key whose schedule this is. Its size is that of what it opens to.
 pub(crate) fn opened_to(
-    tables: &[u32; 768],
+    tables: &[u32; INVERSE_TABLE_WORDS],
     schedule: InverseSchedule,
     wrapped: &[u8],
     need: usize,
@@ -95,7 +97,7 @@ pub(crate) fn opened_to(
         Answer::No => nothing(),
         Answer::Count(n) => {
             if n == need {
-                let mut out = [0u8; 68];
+                let mut out = [0u8; SA_OCTETS];
                 bytes::copy(&octets[..n], &mut out);
                 return Opened {
                     found: Found::Key,

@@ -35,12 +35,13 @@ ghost use Rattle.unwrap_copies.specs.inner.Lending.{LendsHeld};
 ghost use Rattle.unwrap_copies.specs.inner.Named.{tryFor};
 ghost use Rattle.unwrap_copies.specs.inner.Tries.{Tells};
 ghost use Rattle.unwrap_copies.specs.inner.Answer.{announcedIn, Answers};
+use aes::INVERSE_TABLE_WORDS;
 
 // What one copy, the value of a SA_KEY, opens to under the key that its KWK ID names: key 0, whose schedule this is, or a lent one.
 fn tried(
     copy: &[u8],
     need: usize,
-    tables: &[u32; 768],
+    tables: &[u32; INVERSE_TABLE_WORDS],
     schedule: InverseSchedule,
     ids: &[u32],
     block: &[u8],
@@ -69,7 +70,7 @@ pub fn copies(
     place: Place,
     a: &[u8],
     need: usize,
-    tables: &[u32; 768],
+    tables: &[u32; INVERSE_TABLE_WORDS],
     schedule: InverseSchedule,
     ids: &[u32],
     block: &[u8],

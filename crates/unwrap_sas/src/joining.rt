@@ -13,6 +13,7 @@ use ikev2_numbers::ESP;
 use state_keys::kinds::EspKey;
 use state_keys::kinds::RekeyKey;
 use state_keys::limits::SAS;
+use state_keys::rooms::SA_OCTETS;
 use state_sa::entry::Lifetime;
 use state_sa::entry::Sa;
 use unwrap_copies::answer::Opened;
@@ -52,7 +53,7 @@ fn sa_from(
     spi: &[u8],
     encryption: usize,
     wrapping: usize,
-    octets: [u8; 68],
+    octets: [u8; SA_OCTETS],
     lifetime: Lifetime,
 ) -> Sa
     requires { ⌜ Sized protocol (now spi) encryption wrapping ⌝ }

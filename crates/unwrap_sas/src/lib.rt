@@ -47,6 +47,7 @@ ghost use Rattle.unwrap_copies.specs.inner.Answer.{Answers};
 ghost use Rattle.rules_outcome.specs.Roots.{needOf, announcedAs};
 ghost use Rattle.unwrap_sas.specs.inner.Keyed.{Ready, foundBy, KeyedBy};
 ghost use Rattle.unwrap_sas.specs.inner.Policies.{Opening, spiAt, bodyAt, StandsAt, Announces, IsAnnounced, IsOne};
+use aes::INVERSE_TABLE_WORDS;
 
 // What the copies of the SA with this name open to, those of its bag.
 fn opened(
@@ -54,7 +55,7 @@ fn opened(
     spi: &[u8],
     need: usize,
     k: &[u8],
-    tables: &[u32; 768],
+    tables: &[u32; INVERSE_TABLE_WORDS],
     schedule: InverseSchedule,
     ids: &[u32],
     block: &[u8],
@@ -88,7 +89,7 @@ fn with_policy(
     spi: &[u8],
     x: &[u8],
     k: &[u8],
-    tables: &[u32; 768],
+    tables: &[u32; INVERSE_TABLE_WORDS],
     schedule: InverseSchedule,
     ids: &[u32],
     block: &[u8],
@@ -117,7 +118,7 @@ fn open_policy_at(
     at: usize,
     p: Parts,
     k: &[u8],
-    tables: &[u32; 768],
+    tables: &[u32; INVERSE_TABLE_WORDS],
     schedule: InverseSchedule,
     ids: &[u32],
     block: &[u8],
@@ -162,7 +163,7 @@ fn found_by(nine: bool) -> Found
 fn open_policies(
     g: &[u8],
     k: &[u8],
-    tables: &[u32; 768],
+    tables: &[u32; INVERSE_TABLE_WORDS],
     schedule: InverseSchedule,
     ids: &[u32],
     block: &[u8],

@@ -14,6 +14,8 @@ ghost use Rattle.state_keys.specs.Algorithms.{sizeOf};
 ghost use Rattle.wire_attributes.specs.Tree.{WrapKey};
 ghost use Rattle.unwrap_search.specs.inner.Entries.{IsEntry};
 ghost use Rattle.unwrap_search.specs.inner.Opened.{Landed, Tried, noCell, waiting, pending, naming};
+use aes::INVERSE_TABLE_WORDS;
+use state_keys::rooms::WRAPPING_KEY;
 
 // A wrapped key of the frame: its Key ID, its KWK ID, and where its wrapped octets stand.
 pub struct Entry {
@@ -69,7 +71,7 @@ pub(crate) fn blank() -> Cell
     ensures { λ r. ⌜ r ≡ noCell ⌝ }
 {
     let key = WrappingKey {
-        octets: [0u8; 32],
+        octets: [0u8; WRAPPING_KEY],
         count: 0,
     };
     Cell {
@@ -80,7 +82,7 @@ pub(crate) fn blank() -> Cell
 
 // Opens an entry's octets under the key whose schedule this is; a wrapping key must have `size` octets.
 pub(crate) fn landed(
-    tables: &[u32; 768],
+    tables: &[u32; INVERSE_TABLE_WORDS],
     schedule: InverseSchedule,
     size: usize,
     wrapped: &[u8],
@@ -93,7 +95,7 @@ pub(crate) fn landed(
     let octets = opened.octets;
     let answer = opened.answer;
     let none = WrappingKey {
-        octets: [0u8; 32],
+        octets: [0u8; WRAPPING_KEY],
         count: 0,
     };
     match answer {
@@ -131,7 +133,7 @@ pub(crate) fn names(id: u32, e: Entry, c: Cell) -> bool
 // The entry's cell after the key `id`, whose schedule this is, was tried on it.
 pub(crate) fn tried_on(
     frame: &[u8],
-    tables: &[u32; 768],
+    tables: &[u32; INVERSE_TABLE_WORDS],
     schedule: InverseSchedule,
     size: usize,
     id: u32,

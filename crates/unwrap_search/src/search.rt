@@ -25,6 +25,7 @@ ghost use Rattle.wire_attributes.specs.Tree.{WrapKey};
 ghost use Rattle.unwrap_search.specs.inner.Entries.{Lists};
 ghost use Rattle.state_keys.specs.Kinds.{valueOf};
 ghost use Rattle.unwrap_search.specs.inner.Search.{AllTried, Unnamed, Finds, Searched, keyZero};
+use aes::INVERSE_TABLE_WORDS;
 
 pub enum Found {
     At(usize),
@@ -51,7 +52,7 @@ fn is_named(id: u32, entries: [Entry; WRAP_KEYS], cells: [Cell; WRAP_KEYS], n: u
 // The cells after the key whose schedule this is was tried on each.
 fn tried(
     frame: &[u8],
-    tables: &[u32; 768],
+    tables: &[u32; INVERSE_TABLE_WORDS],
     schedule: InverseSchedule,
     size: usize,
     id: u32,
@@ -80,7 +81,7 @@ fn tried(
 // The cells after the key `id` was tried on each; its schedule is expanded only if an entry that waits names it.
 fn with_key(
     frame: &[u8],
-    tables: &[u32; 768],
+    tables: &[u32; INVERSE_TABLE_WORDS],
     key: WrappingKey,
     size: usize,
     id: u32,

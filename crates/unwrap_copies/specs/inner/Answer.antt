@@ -3,6 +3,7 @@ use Prim.Native.Nat.{ℕ}
 use mathlib.Core.Path.{_≡_}
 use mathlib.Core.List.{List, map}
 use lib.ListN.{length, take}
+use Rattle.state_keys.specs.Rooms.{saRoom}
 use Rattle.wire_attributes.specs.Tree.{SaKey, WrapKey, saKeyOf}
 use Rattle.wire_attributes.specs.declared.tables.Place.{Place}
 use Rattle.wire_attributes.specs.declared.tables.Meaning.the-variants as meaning
@@ -28,7 +29,7 @@ module _ (roots : List Root) (entries : List WrapKey) (size : ℕ) (a : Announce
     pub key : KeyOf roots entries size a (take count octets)
     pub need : count ≡ a .need
     pub length-is : length (take count octets) ≡ a .need
-    pub blanks : octets ≡ padded 68 (take count octets)
+    pub blanks : octets ≡ padded saRoom (take count octets)
     pub fit : CopiesEight roots entries size a → ⊥
 
   abbrev pub AnswersBy : Found → List ℕ → ℕ → Type 0

@@ -3,6 +3,7 @@ use Prim.Native.Nat.{ℕ}
 use mathlib.Core.Path.{_≡_}
 use mathlib.Core.List.{List}
 use lib.ListN.{length, take}
+use Rattle.state_keys.specs.Rooms.{saRoom}
 use Rattle.rfc5649.specs.Opens.{Opens}
 use Rattle.rules_chains.specs.Chain.{In}
 use Rattle.state_keys.specs.Kinds.{padded}
@@ -33,7 +34,7 @@ module _ (tries : List Try) where
     pub every : (x : List ℕ) → SomeOpens x → x ≡ take count octets
     pub size : length (take count octets) ≡ need
     pub need-is : count ≡ need
-    pub blanks : octets ≡ padded 68 (take count octets)
+    pub blanks : octets ≡ padded saRoom (take count octets)
 
   abbrev pub TellsBy : ℕ → Found → List ℕ → ℕ → Type 0
   TellsBy need Eight octets count = TriesEight need
