@@ -9,6 +9,8 @@ ghost use Rattle.apply.specs.inner.Tables.{namedIn, retiredThere, AreDel
 use check_payloads::deletion::delete_parts;
 use check_payloads::deletion::spi_at;
 use ikev2_numbers::DELETE;
+use ikev2_numbers::ESP;
+use ikev2_numbers::PAYLOAD_HEADER;
 use state_keys::limits::SAS;
 use state_sa::entry::ESP;
 use state_sa::entry::Sa;
@@ -93,7 +95,7 @@ pub fn retired_by_frame(t: Table, s: &[u8], d: DeletesAt, tick: u32, delay: u16)
         let p = payload_parts(kind, &s[at..]);
         let e = at + p.end;
         if kind == DELETE {
-            out = retired_spis(out, &s[at + 4..e], tick, delay);
+            out = retired_spis(out, &s[at + PAYLOAD_HEADER..e], tick, delay);
             left -= 1;
         }
         kind = p.next;

@@ -6,6 +6,7 @@ ghost use lib.ListN.{length};
 ghost use Rattle.wire_attributes.specs.Layout.{attributes};
 ghost use Rattle.wire_readers.specs.inner.Values.{isWhole, valuesIn};
 ghost use Rattle.check_bagkeys.specs.inner.Facts.{isKey, withKey, keyFactsOf};
+use ikev2_numbers::KWK_ID_AT;
 use wire_attributes::attribute_value;
 use wire_attributes::tables::Meaning;
 use wire_attributes::tables::Place;
@@ -27,7 +28,7 @@ fn with_key(f: KeyFacts, v: &[u8]) -> KeyFacts
     ensures { λ r. ⌜ r ≡ withKey f (now (v .entry)) ⌝ }
 {
     let id = octets::numbers::be32_at(v, 0);
-    let kwk = octets::numbers::be32_at(v, 4);
+    let kwk = octets::numbers::be32_at(v, KWK_ID_AT);
     KeyFacts {
         keys: f.keys + 1,
         named: f.named | (id != 0),

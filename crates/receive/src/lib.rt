@@ -23,6 +23,7 @@ ghost use Rattle.wire_readers.specs.inner.Values.{isWhole};
 ghost use Rattle.rules_refusals.specs.Contents.{rowOf};
 ghost use Rattle.rules_outcome.specs.Outcome.{Judged};
 ghost use Rattle.receive.specs.inner.Passing.{Opened};
+use ikev2_numbers::EXCHANGE_AT;
 
 // The answer's number and the next state.
 pub struct Next {
@@ -35,7 +36,7 @@ pub fn row_of(s: &[u8]) -> Exchange
     requires { ⌜ isWhole (frame (now s)) ≡ true ⌝ }
     ensures { λ r. ⌜ ((f : Frame) → frame (now (s .entry)) ≡ whole f [] → rowOf f ≡ r) ⌝ }
 {
-    exchange_of(octets::wide(s[18]))
+    exchange_of(octets::wide(s[EXCHANGE_AT]))
 }
 
 // The outcome of a frame with these facts, once its keys are opened: this is known of its SAs, and this is the held list afterwards.

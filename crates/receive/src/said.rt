@@ -8,15 +8,17 @@ ghost use Prim.Native.Nat.{_-_, _≤_};
 ghost use lib.ListN.{length};
 ghost use Rattle.octets.specs.Walk.{be32};
 ghost use Rattle.receive.specs.inner.Saying.{saidBy};
+use ikev2_numbers::MESSAGE_ID_AT;
+use ikev2_numbers::PAYLOAD_HEADER;
 
 // Four less, 0 at least.
 fn four_less(n: usize) -> usize
-    ensures { λ r. ⌜ r ≡ n - 4 ⌝ }
+    ensures { λ r. ⌜ r ≡ n - PAYLOAD_HEADER ⌝ }
 {
-    if n < 4 {
+    if n < PAYLOAD_HEADER {
         return 0;
     }
-    n - 4
+    n - PAYLOAD_HEADER
 }
 
 // What a frame with this row of its exchange and these facts says. Its Message ID stands in the header, at 20. Internal.
@@ -27,7 +29,7 @@ pub fn said(row: Exchange, s: &[u8], x: Facts) -> Said
     let b = x.payloads;
     let p = x.policies;
     let d = b.delete;
-    let id = octets::numbers::be32_at(s, 20);
+    let id = octets::numbers::be32_at(s, MESSAGE_ID_AT);
     let start = four_less(d.start);
     let least = row.least;
     let deletes = DeletesAt {

@@ -36,6 +36,8 @@ ghost use Rattle.unwrap_copies.specs.inner.Named.{tryFor};
 ghost use Rattle.unwrap_copies.specs.inner.Tries.{Tells};
 ghost use Rattle.unwrap_copies.specs.inner.Answer.{announcedIn, Answers};
 use aes::INVERSE_TABLE_WORDS;
+use ikev2_numbers::KWK_ID_AT;
+use ikev2_numbers::WRAPPED_AT;
 
 // What one copy, the value of a SA_KEY, opens to under the key that its KWK ID names: key 0, whose schedule this is, or a lent one.
 fn tried(
@@ -52,8 +54,8 @@ fn tried(
     ensures { λ r. ⌜ ((v : List ℕ) (held : Held) → ExpandsInverse v (schedule .words) →
         LendsHeld held (now (ids .entry)) (now (block .entry)) → Tells (tryFor v held (saKeyOf (now (copy .entry)))) need r) ⌝ }
 {
-    let kwk = be32_at(copy, 4);
-    let wrapped = &copy[8..];
+    let kwk = be32_at(copy, KWK_ID_AT);
+    let wrapped = &copy[WRAPPED_AT..];
     if kwk == 0 {
         return opened_to(tables, schedule, wrapped, need);
     }

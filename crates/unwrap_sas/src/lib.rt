@@ -48,6 +48,7 @@ ghost use Rattle.rules_outcome.specs.Roots.{needOf, announcedAs};
 ghost use Rattle.unwrap_sas.specs.inner.Keyed.{Ready, foundBy, KeyedBy};
 ghost use Rattle.unwrap_sas.specs.inner.Policies.{Opening, spiAt, bodyAt, StandsAt, Announces, IsAnnounced, IsOne};
 use aes::INVERSE_TABLE_WORDS;
+use ikev2_numbers::POLICY_HEAD;
 
 // What the copies of the SA with this name open to, those of its bag.
 fn opened(
@@ -133,7 +134,7 @@ fn open_policy_at(
         IsAnnounced (now (k .entry)) (p .first) (spiAt (now (g .entry)) at p) (bodyAt (now (g .entry)) at p) (schedule .words)
         (now (ids .entry)) (now (block .entry)) roots entries size f a → IsOne tick r roots entries size f a) ⌝ }
 {
-    let name = at + 4;
+    let name = at + POLICY_HEAD;
     let body = at + p.body;
     let end = at + p.end;
     with_policy(

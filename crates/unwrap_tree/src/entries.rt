@@ -17,6 +17,8 @@ ghost use Rattle.wire_attributes.specs.Tree.{wrapKeyOf};
 ghost use Rattle.unwrap_search.specs.inner.Entries.{IsEntry, Lists, noEntry};
 ghost use Rattle.unwrap_tree.specs.inner.Reached.{wrapKeysIn};
 ghost use Rattle.unwrap_tree.specs.inner.Entries.{HoldsEntries};
+use ikev2_numbers::KWK_ID_AT;
+use ikev2_numbers::WRAPPED_AT;
 
 // Where WRAP_KEYs stand: the first `count` places.
 pub struct Listing {
@@ -41,11 +43,11 @@ fn entry(v: &[u8], e: usize) -> Entry
     ensures { λ r. ⌜ ((k : List ℕ) → e ≤ length k → now (v .entry) ≡ part k (e - length (now (v .entry))) e
         → IsEntry k r (wrapKeyOf (now (v .entry)))) ⌝ }
 {
-    let wrapped = v.len() - 8;
+    let wrapped = v.len() - WRAPPED_AT;
     let start = e - wrapped;
     Entry {
         id: octets::numbers::be32_at(v, 0),
-        kwk: octets::numbers::be32_at(v, 4),
+        kwk: octets::numbers::be32_at(v, KWK_ID_AT),
         start,
         end: e,
     }

@@ -13,6 +13,11 @@ ghost use Rattle.wire_policies.specs.Transform.{Transform};
 ghost use Rattle.wire_policies.specs.Grammar.{IsSelector, IsTransform};
 ghost use Rattle.wire_readers.specs.inner.Values.{isWhole, valuesIn};
 ghost use Rattle.wire_view.specs.View.{shownSelector, shownTransform, shownAttribute};
+use ikev2_numbers::ADDRESSES_AT;
+use ikev2_numbers::END_PORT_AT;
+use ikev2_numbers::START_PORT_AT;
+use ikev2_numbers::TRANSFORM_HEAD;
+use ikev2_numbers::TRANSFORM_TYPE_AT;
 use wire_attributes::Read;
 use wire_attributes::tables::Meaning;
 use wire_attributes::tables::Place;
@@ -54,9 +59,9 @@ pub fn selector_item(s: &[u8], base: usize) -> Item
     Item::Selector {
         kind: octets::wide(s[0]),
         protocol: octets::wide(s[1]),
-        start_port: octets::numbers::be16_at(s, 4),
-        end_port: octets::numbers::be16_at(s, 6),
-        start: base + 8,
+        start_port: octets::numbers::be16_at(s, START_PORT_AT),
+        end_port: octets::numbers::be16_at(s, END_PORT_AT),
+        start: base + ADDRESSES_AT,
         end: base + s.len(),
     }
 }
@@ -78,12 +83,12 @@ pub fn transform_item(s: &[u8]) -> Item
     requires { ⌜ ((t : Transform) × (more : Bool) × IsTransform true (now s) t more) ⌝ }
     ensures { λ r. ⌜ ((t : Transform) (more : Bool) → IsTransform true (now (s .entry)) t more → r ≡ shownTransform t) ⌝ }
 {
-    let kind = octets::wide(s[4]);
+    let kind = octets::wide(s[TRANSFORM_TYPE_AT]);
     let place = wire_attributes::tables::in_transform(kind);
-    let held = &s[8..];
+    let held = &s[TRANSFORM_HEAD..];
     Item::Transform {
         kind,
-        id: octets::numbers::be16_at(s, 6),
+        id: octets::numbers::be16_at(s, END_PORT_AT),
         key_lengths: wire_readers::values::count_of(Meaning::KeyLength, place, held),
         key_length: key_length(place, held),
     }

@@ -6,6 +6,9 @@ ghost use Rattle.wire_view.specs.View.{firstOctet, octetOf, kindOf, spiO
 ghost use Rattle.wire_view.specs.View.{cursorAt, stays, selectorStep, transformStep, placeOf, attributeStep, firstStep, stepBy};
 ghost use Rattle.wire_view.specs.View.{stepAt, itemAt, nextAfter, isAtEnd};
 use crate::items::Item;
+use ikev2_numbers::MORE_TRANSFORMS;
+use ikev2_numbers::POLICY_HEAD;
+use ikev2_numbers::STRUCTURE_LENGTH_AT;
 use wire_attributes::Spot;
 use wire_attributes::tables::Place;
 
@@ -20,10 +23,10 @@ pub enum Kind {
 pub fn kind_of(s: &[u8]) -> Kind
     ensures { λ r. ⌜ (r ≡ kindOf (now (s .entry))) × (firstOctet r ≡ octetOf (now (s .entry))) ⌝ }
 {
-    if s.len() < 4 {
+    if s.len() < POLICY_HEAD {
         return Kind::Nothing;
     }
-    if octets::numbers::be16_at(s, 2) == s.len() {
+    if octets::numbers::be16_at(s, STRUCTURE_LENGTH_AT) == s.len() {
         match wire_policies::policy_spot(s, 0) {
             Spot::Ends(_) => {
                 let p = octets::wide(s[0]);
@@ -47,8 +50,8 @@ pub fn spi_of(s: &[u8]) -> &[u8]
 {
     match kind_of(s) {
         Kind::GroupSa(p) => {
-            let e = 4 + wire_policies::spi_size(p);
-            &s[4..e]
+            let e = POLICY_HEAD + wire_policies::spi_size(p);
+            &s[POLICY_HEAD..e]
         }
         Kind::GroupWide => &s[0..0],
         Kind::Nothing => &s[0..0],
@@ -121,7 +124,7 @@ fn transform_step(s: &[u8], c: usize, at: usize) -> Step
         Spot::Ends(e) => {
             let end = at + e;
             let item = crate::items::transform_item(&s[at..end]);
-            if octets::wide(s[at]) == 3 {
+            if octets::wide(s[at]) == MORE_TRANSFORMS {
                 return Step {
                     item,
                     next: cursor_at(end, TRANSFORM),
@@ -176,8 +179,13 @@ fn first_step(s: &[u8], c: usize) -> Step
     ensures { λ r. ⌜ r ≡ firstStep (now (s .entry)) c ⌝ }
 {
     match kind_of(s) {
-        Kind::GroupSa(p) => selector_step(s, c, DESTINATION, 4 + wire_policies::spi_size(p)),
-        Kind::GroupWide => attribute_step(s, c, 4),
+        Kind::GroupSa(p) => selector_step(
+            s,
+            c,
+            DESTINATION,
+            POLICY_HEAD + wire_policies::spi_size(p),
+        ),
+        Kind::GroupWide => attribute_step(s, c, POLICY_HEAD),
         Kind::Nothing => stay(c),
     }
 }
@@ -203,10 +211,10 @@ fn step_by(s: &[u8], c: usize, comes: usize, at: usize) -> Step
 pub fn step_at(s: &[u8], c: usize) -> Step
     ensures { λ r. ⌜ r ≡ stepAt (now (s .entry)) c ⌝ }
 {
-    if s.len() < 4 {
+    if s.len() < POLICY_HEAD {
         return stay(c);
     }
-    let n = octets::numbers::be16_at(s, 2);
+    let n = octets::numbers::be16_at(s, STRUCTURE_LENGTH_AT);
     if n == s.len() {
         return step_by(s, c, c % PARTS, c / PARTS);
     }

@@ -5,6 +5,7 @@ use mathlib.Core.List.{List}
 use mathlib.Core.Bool.{Bool, true, false, not, _&&_, _||_}
 use lib.ListN.{length}
 use lib.Dec.{ltb, eqb}
+use Rattle.ikev2_numbers.specs.Codes.{kwkIdAt}
 use Rattle.octets.specs.Walk.{be32, either}
 use Rattle.state_keys.specs.Lists.{any}
 use Rattle.state_keys.specs.Limits.{Limits}
@@ -36,10 +37,10 @@ abbrev pub noId : List ℕ → Bool
 noId v = eqb (be32 v 0) 0
 
 abbrev pub noKwk : List ℕ → Bool
-noKwk v = eqb (be32 v 4) 0
+noKwk v = eqb (be32 v kwkIdAt) 0
 
 abbrev pub oneId : List ℕ → Bool
-oneId v = eqb (be32 v 0) (be32 v 4)
+oneId v = eqb (be32 v 0) (be32 v kwkIdAt)
 
 abbrev pub keyFactsOf : List (List ℕ) → KeyFacts
 keyFactsOf l = record {

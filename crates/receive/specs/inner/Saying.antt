@@ -1,6 +1,7 @@
 -- What a frame says of the member afterwards, out of its facts, the row of its exchange and its Message ID.
 use Prim.Native.Nat.{ℕ, _-_}
 use lib.Dec.{ltb}
+use Rattle.ikev2_numbers.specs.Codes.{payloadHeaderOctets}
 use Rattle.wire_frames.specs.declared.exchanges.Exchange.{Exchange}
 use Rattle.check_judging.specs.declared.facts.Facts.{Facts}
 use Rattle.apply.specs.declared.next.Said.{Said}
@@ -13,5 +14,5 @@ saidBy row id x = record {
   initial = x .policies .initial;
   least = row .least;
   id = id;
-  deletes = record { count = x .payloads .deletes; start = x .payloads .delete .start - 4 };
+  deletes = record { count = x .payloads .deletes; start = x .payloads .delete .start - payloadHeaderOctets };
 }
