@@ -161,7 +161,7 @@ fn found_by(nine: bool) -> Found
 }
 
 // Opens the keys of all SAs that a frame announces, as `keyed` does, with the schedule of key 0 and the held keys as they are lent.
-fn open_policies(
+fn walk_policies(
     g: &[u8],
     k: &[u8],
     tables: &[u32; INVERSE_TABLE_WORDS],
@@ -223,7 +223,7 @@ fn under_lent(g: &[u8], k: &[u8], zero: WrappingKey, ids: &[u32], block: &[u8], 
     let octets = zero.octets;
     let n = zero.count;
     let tables = inverse_tables();
-    open_policies(
+    walk_policies(
         g,
         k,
         &tables,

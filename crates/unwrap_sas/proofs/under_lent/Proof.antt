@@ -29,8 +29,8 @@ expand-inverse-requires c κs =
     let e : length (s .args .zero .octets) ≡ keyOctets = search needs in
     (c .before .before .before .inverse-tables .ensures, key-fits (s .args .zero) e (s .pre .1 .1 .0))
 
-open-policies-requires : tie.Need-open-policies-requires
-open-policies-requires c κs =
+walk-policies-requires : tie.Need-walk-policies-requires
+walk-policies-requires c κs =
     let s = c .before .before .before .before .before .before .before .before .before .before in
     let p = s .pre in
     let t = c .before .before .before .before .inverse-tables .ensures in
@@ -39,7 +39,7 @@ open-policies-requires c κs =
 returns : tie.Need-returns
 returns c roots entries size f held y lends agrees =
     let a = c .before .before .before .before .before .before .before .before .before .before .before .args in
-    c .open-policies .ensures roots entries size f y
+    c .walk-policies .ensures roots entries size f y
     (record { zero = a .zero; held = held; expands = c .before .expand-inverse .ensures; lends = lends; agrees = agrees })
 
 pub under-lent-spec : {M : Type 1} → statement M
@@ -50,5 +50,5 @@ under-lent-spec =
     array-share-prefix-octets
     slice-aggregate-expand-inverse
     expand-inverse-requires
-    open-policies-requires
+    walk-policies-requires
     returns)

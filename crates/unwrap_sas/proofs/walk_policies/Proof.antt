@@ -12,8 +12,8 @@ use Rattle.unwrap_sas.proofs.PolicyAt.{PolicyAt, policy-at}
 use Rattle.unwrap_sas.proofs.Along.{Along, along-start, along-end, along-eight, along-wide, along-announces, along-room}
 use Rattle.unwrap_sas.proofs.Along.{along-none, along-sa, Says}
 use borrow.Author.Needs.{needs}
-use Rattle.unwrap_sas.proofs.open_policies.Statement.{statement}
-use Rattle.unwrap_sas.proofs.open_policies.Tie as tie
+use Rattle.unwrap_sas.proofs.walk_policies.Statement.{statement}
+use Rattle.unwrap_sas.proofs.walk_policies.Tie as tie
 
 abbrev Inv-loop : tie.InvT-loop
 Inv-loop g k tables schedule ids block tick nine₀ sas₀ count₀ at₀ nine sas count at =
@@ -179,8 +179,8 @@ returns-2 c =
     along-end (now (a .g)) (now (a .k)) (a .schedule .words) (now (a .ids)) (now (a .block)) (a .tick) (l .at) (l .nine) (l .sas)
     (l .count) (l .inv) (c .found-by .result) (c .found-by .ensures) (c .before .loop-test .left)
 
-pub open-policies-spec : {M : Type 1} → statement M
-open-policies-spec =
+pub walk-policies-spec : {M : Type 1} → statement M
+walk-policies-spec =
     tie.close
     (tie.spec
     Inv-loop
