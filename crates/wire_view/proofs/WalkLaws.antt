@@ -1,13 +1,14 @@
 -- THE STEPS FROM THE START SHOW WHAT THE POLICY HOLDS, each selector, transform and attribute once and in its order, and then nothing: n
--- steps show the first n of them, whatever n and the octets are (`walk-shows`).
+-- steps show the first n of them, whatever n and the octets are (`walk-shows`). A cursor at the end stays (`end-stays`).
 use Prim.Native.Nat.{ℕ, zero, suc, _+_, _-_, _/_, _%_, _≤_}
 use mathlib.Core.Path.{_≡_, refl, ap, sym, _∙_, subst}
 use mathlib.Core.List.{List, [], _∷_, _++_, map}
 use mathlib.Core.Bool.{Bool, true, false}
 use native.Mathlib.Omega.{arith}
+use lib.Dec.{eqb}
 use lib.ListN.{length, take, drop, length-append, length-drop}
 use lib.Seq.{drop-drop, drop-append-seam}
-use Rattle.octets.specs.Walk.{either, Linked, Spans, none, more, Row, no-more, then}
+use Rattle.octets.specs.Walk.{either, Reading, whole, broken, Linked, Spans, none, more, Row, no-more, then}
 use Rattle.octets.proofs.Walks.{by-test}
 use Rattle.wire_attributes.specs.Attribute.{Attribute}
 use Rattle.wire_attributes.specs.Layout.{attribute, attributes}
@@ -19,15 +20,16 @@ use Rattle.wire_attributes.proofs.GrammarLaws.{read-are}
 use Rattle.wire_attributes.proofs.GrammarLaws.{complete as attribute-complete}
 use Rattle.wire_policies.specs.Selector.{Selector, selectorSize, selector}
 use Rattle.wire_policies.specs.Transform.{Transform, transform, noMore}
-use Rattle.wire_policies.specs.Policy.{spiSize, SaBody}
+use Rattle.wire_policies.specs.Policy.{spiSize, headSize, Policy, groupSa, groupWide, SaBody, policy}
 use Rattle.wire_policies.specs.Grammar.{IsTransform, IsSaBody}
 use Rattle.wire_policies.proofs.SelectorGrammar.{complete as selector-complete}
 use Rattle.wire_policies.proofs.TransformGrammar.{complete as transform-complete}
 use Rattle.wire_readers.specs.inner.Values.{attributesIn}
 use Rattle.wire_readers.proofs.ValuesLaws.{whole-is}
-use Rattle.wire_view.specs.View.{kindOf, shownSelector, shownTransform, shownAttribute, octetsIn, shownAttributes, shownSuite}
+use Rattle.wire_view.specs.View.{onAll, kindOf, shownSelector, shownTransform, shownAttribute, octetsIn, shownAttributes, shownSuite}
 use Rattle.wire_view.specs.View.{shownBody, itemsOf, atDestination, atTransform, atAttribute, cursorAt, stays, stepped, selectorStep}
-use Rattle.wire_view.specs.View.{placeOf, attributeStep, counted, stepAt, isNothing, shownIn}
+use Rattle.wire_view.specs.View.{transformStep, placeOf, attributeStep, firstIn, counted, stepAt, nextAfter, isNothing, isAtEnd}
+use Rattle.wire_view.specs.View.{shownIn}
 use Rattle.wire_view.specs.declared.items.Item.{Item}
 use Rattle.wire_view.specs.declared.read.Kind.{Kind}
 use Rattle.wire_view.specs.declared.read.Kind.the-variants as kind
@@ -203,3 +205,41 @@ module _ (s : List ℕ) where
           (omega (arith, f .head, length-drop 4 s))
           ∙ ap (λ (z : Place). take n (shownAttributes z (length s) (attributesIn v y))) (sym (f .place)) ∙ ap (take n) (f .items)
       go kind.Nothing q = none-walk (of-none s q) n
+
+-- AT THE END A CURSOR STAYS, wherever it points
+abbrev Stays : ℕ → Step → Type 0
+Stays c x = isNothing (x .item) ≡ true → x .next ≡ c
+
+module _ (s : List ℕ) (c : ℕ) where
+  by-reading : {A : Type 0} (show : A → Item) (comes : A → ℕ) → ((a : A) → isNothing (show a) ≡ false) → (x : Reading A)
+      → Stays c (stepped s c show comes x)
+  by-reading show comes some (whole a rest) e =
+      let y : _≡_ {A = Bool} false true = sym (some a) ∙ e in
+      let z : _≡_ {A = ℕ} 0 1 = cc in absurd (omega arith)
+  by-reading show comes some (broken o) e = refl
+
+  selector-stays : (comes b : ℕ) → Stays c (selectorStep s c comes b)
+  selector-stays comes b = by-reading (shownSelector b) (λ (x : Selector). comes) (λ x. refl) (selector 0 b (drop b s))
+
+  transform-stays : (b : ℕ) → Stays c (transformStep s c b)
+  transform-stays b =
+      by-reading (λ (x : Linked Bool Transform). shownTransform (x .item))
+      (λ (x : Linked Bool Transform). either (x .next) atTransform atAttribute) (λ x. refl) (transform 0 true b (drop b s))
+
+  attribute-stays : (b : ℕ) → Stays c (attributeStep s c b)
+  attribute-stays b =
+      by-reading (shownAttribute (placeOf s) b) (λ (a : Attribute). atAttribute) (λ a. refl) (attribute (placeOf s) b (drop b s))
+
+  first-stays : (x : Reading Policy) → Stays c (onAll (stays c) (firstIn s c) x)
+  first-stays (whole (groupSa x) []) = selector-stays atDestination (headSize s)
+  first-stays (whole (groupWide x) []) = attribute-stays 4
+  first-stays (whole x (n ∷ l)) = λ e. refl
+  first-stays (broken o) = λ e. refl
+
+  pub end-stays : isAtEnd s c ≡ true → nextAfter s c ≡ c
+  end-stays =
+      by-test (Stays c) (counted s)
+      (λ t. by-test (Stays c) (eqb (c % 4) 0) (λ u. first-stays (policy 0 s))
+      (λ u. by-test (Stays c) (eqb (c % 4) atDestination) (λ v. selector-stays atTransform (c / 4))
+      (λ v. by-test (Stays c) (eqb (c % 4) atTransform) (λ w. transform-stays (c / 4)) (λ w. attribute-stays (c / 4)))))
+      (λ t e. refl)

@@ -125,6 +125,8 @@ abbrev pub stepped : {A : Type 0} → List ℕ → ℕ → (A → Item) → (A �
 stepped s c show comes (whole a rest) = record { item = show a; next = cursorAt (length s - length rest) (comes a) }
 stepped s c show comes (broken o) = stays c
 
+-- over a selector, behind which comes a part that the caller names; over a transform, behind which comes another one or an attribute; over
+-- an attribute
 abbrev pub selectorStep : List ℕ → ℕ → ℕ → ℕ → Step
 selectorStep s c comes b = stepped s c (shownSelector b) (λ (x : Selector). comes) (selector 0 b (drop b s))
 
@@ -133,6 +135,7 @@ transformStep s c b =
     stepped s c (λ (x : Linked Bool Transform). shownTransform (x .item))
     (λ (x : Linked Bool Transform). either (x .next) atTransform atAttribute) (transform 0 true b (drop b s))
 
+-- where the attributes of a policy stand, by its first octet
 abbrev pub placeOf : List ℕ → Place
 placeOf s = either (eqb (oct s 0) 0) place.GroupWidePolicy (inPolicy (oct s 0))
 
@@ -148,13 +151,14 @@ firstIn s c (groupWide x) = attributeStep s c 4
 abbrev pub firstStep : List ℕ → ℕ → Step
 firstStep s c = onAll (stays c) (firstIn s c) (policy 0 s)
 
+-- from the cursor c, by what comes and at which offset
 abbrev pub stepBy : List ℕ → ℕ → ℕ → ℕ → Step
 stepBy s c comes b =
     either (eqb comes 0) (firstStep s c)
     (either (eqb comes atDestination) (selectorStep s c atTransform b)
     (either (eqb comes atTransform) (transformStep s c b) (attributeStep s c b)))
 
--- of octets that "length 2" does not count nothing is shown
+-- octets that are not as many as their "length 2" says show nothing
 abbrev pub counted : List ℕ → Bool
 counted s = both (leb 4 (length s)) (eqb (be16 s 2) (length s))
 
