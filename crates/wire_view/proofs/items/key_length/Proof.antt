@@ -19,7 +19,8 @@ returns c =
 returns-2 : tie.Need-returns-2
 returns-2 c =
     let a = c .before .before .before .before .args in
-    c .be16-at .ensures .0 ∙ key-is (a .place) (now (a .s)) (now (c .before .before .value-of .result)) (c .before .before .value-of .ensures .0 .0)
+    let v = c .before .before .value-of in
+    c .be16-at .ensures .0 ∙ key-is (a .place) (now (a .s)) (now (v .result)) (v .ensures .0 .0)
 
 pub key-length-spec : {M : Type 1} → statement M
 key-length-spec = tie.close (tie.spec value-of-requires returns be16-at-requires returns-2)
