@@ -2,12 +2,13 @@
 use Prim.Native.Nat.{ℕ}
 use mathlib.Core.List.{List, map, _∷_, _++_}
 use mathlib.Core.Path.{_≡_}
+use mathlib.Core.Bool.{true}
 use lib.ListN.{take}
 use Rattle.wire_policies.specs.Grammar.{IsGroupSa, IsGroupWide}
 use Rattle.wire_policies.specs.Policy.{GroupSaPolicy, GroupWidePolicy}
 use Rattle.wire_policies.specs.Selector.{Selector}
 use Rattle.wire_view.proofs.Cuts.{stretch, addresses, no-stretch, value}
-use Rattle.wire_view.specs.View.{itemsOf, shownIn}
+use Rattle.wire_view.specs.View.{itemsOf, shownIn, isAtEnd, nextAfter}
 use Rattle.rules_outcome.proofs.Needs.{Needs}
 use Rattle.wire_view.proofs.Cuts as ofCuts
 use Rattle.wire_view.proofs.WalkLaws as ofWalkLaws
@@ -24,6 +25,9 @@ cuts-wide = ofCuts.cuts-wide
 
 pub walk-shows : (s : List ℕ) (n : ℕ) → shownIn n s 0 ≡ take n (itemsOf s)
 walk-shows = ofWalkLaws.walk-shows
+
+pub end-stays : (s : List ℕ) (c : ℕ) → isAtEnd s c ≡ true → nextAfter s c ≡ c
+end-stays = ofWalkLaws.end-stays
 
 pub policies-need : (spi : List ℕ) (from to : Selector) (ids seconds : List ℕ) → Needs spi from to ids seconds
 policies-need = ofNeeds.policies-need
