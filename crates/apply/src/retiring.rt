@@ -9,7 +9,6 @@ ghost use Rattle.apply.specs.inner.Tables.{namedIn, retiredThere, AreDel
 use check_payloads::deletion::delete_parts;
 use check_payloads::deletion::spi_at;
 use ikev2_numbers::DELETE;
-use ikev2_numbers::ESP;
 use ikev2_numbers::PAYLOAD_HEADER;
 use state_keys::limits::SAS;
 use state_sa::entry::ESP;

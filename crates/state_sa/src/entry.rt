@@ -15,9 +15,9 @@ use state_keys::rooms::SA_OCTETS;
 use state_keys::rooms::SA_SPI;
 
 // The protocols of the table.
-pub const ESP: u8 = 3;
+pub const ESP: u8 = ikev2_numbers::ESP as u8;
 
-pub const REKEY: u8 = 6;
+pub const REKEY: u8 = ikev2_numbers::GIKE_UPDATE as u8;
 
 // Live, or retiring from a tick on with a delay in seconds.
 pub enum Condition {
