@@ -36,10 +36,14 @@ nothing = record { kind = kind.Nothing; first = []; spi = []; start = 0; items =
 abbrev ip4 : List ℕ
 ip4 = 7 ∷ 17 ∷ 0 ∷ 16 ∷ 3 ∷ 80 ∷ 3 ∷ 80 ∷ 239 ∷ 1 ∷ 2 ∷ 3 ∷ 239 ∷ 1 ∷ 2 ∷ 3 ∷ []
 
+-- and that of 224.0.0.9, UDP, port 849
+abbrev other : List ℕ
+other = 7 ∷ 17 ∷ 0 ∷ 16 ∷ 3 ∷ 81 ∷ 3 ∷ 81 ∷ 224 ∷ 0 ∷ 0 ∷ 9 ∷ 224 ∷ 0 ∷ 0 ∷ 9 ∷ []
+
 -- an ESP policy whose one transform has the Key Lengths 128 and 256, and GSA_KEY_LIFETIME
 abbrev esp : List ℕ
 esp =
-    (3 ∷ 4 ∷ 0 ∷ 64 ∷ 9 ∷ 8 ∷ 7 ∷ 6 ∷ []) ++ (ip4 ++ (ip4 ++
+    (3 ∷ 4 ∷ 0 ∷ 64 ∷ 9 ∷ 8 ∷ 7 ∷ 6 ∷ []) ++ (ip4 ++ (other ++
     (0 ∷ 0 ∷ 0 ∷ 16 ∷ 1 ∷ 0 ∷ 0 ∷ 20 ∷ 128 ∷ 14 ∷ 0 ∷ 128 ∷ 128 ∷ 14 ∷ 1 ∷ 0 ∷ 0 ∷ 1 ∷ 0 ∷ 4 ∷ 0 ∷ 0 ∷ 14 ∷ 16 ∷ [])))
 
 two-key-lengths : shown esp ≡ record {
@@ -48,7 +52,7 @@ two-key-lengths : shown esp ≡ record {
   spi = 9 ∷ 8 ∷ 7 ∷ 6 ∷ [];
   start = 4;
   items =
-      item.Selector 7 17 848 848 16 24 ∷ item.Selector 7 17 848 848 32 40 ∷ item.Transform 1 20 2 128
+      item.Selector 7 17 848 848 16 24 ∷ item.Selector 7 17 849 849 32 40 ∷ item.Transform 1 20 2 128
       ∷ item.Attribute meaning.KeyLifetime false 1 60 64 ∷ [];
 }
 unfolding policy suite saBody selector transform attribute many chain chainUpTo number valuesOf octetsIn shownAttributes

@@ -31,8 +31,10 @@ use Rattle.wire_readers.proofs.ValuesLaws.{is-whole}
 use Rattle.wire_view.specs.View.{onAll, firstOctet, octetOf, kindIn, kindOf, spiIn, spiOf, spiStartIn, spiStart}
 use Rattle.wire_view.specs.View.{shownSelector, shownTransform, shownAttributes, shownBody, itemsIn, itemsOf}
 use Rattle.wire_view.specs.View.{stays, atDestination, selectorStep, placeOf, attributeStep, firstIn, firstStep, counted}
+use Rattle.wire_view.specs.declared.items.Item.{Item}
 use Rattle.wire_view.specs.declared.read.Kind.{Kind}
 use Rattle.wire_view.specs.declared.read.Kind.the-variants as kind
+use Rattle.wire_view.specs.declared.read.Step.{Step}
 
 one : (s : List ℕ) (x : Policy) → policy 0 s ≡ whole x [] → IsPolicy s x
 one s x q =
@@ -210,24 +212,22 @@ module _ (s : List ℕ) where
       go (whole x (y ∷ r)) e q = let z : Absurd = cc in absurd (omega arith)
       go (broken o) e q = let z : Absurd = cc in absurd (omega arith)
 
+  nowhere : (y : Reading Policy) → policy 0 s ≡ y → ((B : Type 0) (z : B) (f : Policy → B) → z ≡ onAll z f y) → Nowhere s
+  nowhere y e h = record {
+    spi = h (List ℕ) [] spiIn ∙ ap (onAll [] spiIn) (sym e);
+    there = h ℕ 0 spiStartIn ∙ ap (onAll 0 spiStartIn) (sym e);
+    items = h (List Item) [] (itemsIn s) ∙ ap (onAll [] (itemsIn s)) (sym e);
+    first = λ c. h Step (stays c) (firstIn s c) ∙ ap (onAll (stays c) (firstIn s c)) (sym e);
+  }
+
   pub of-none : kind.Nothing ≡ kindOf s → Nowhere s
   of-none = go (policy 0 s) refl
     where
       go : (y : Reading Policy) → policy 0 s ≡ y → kind.Nothing ≡ onAll kind.Nothing kindIn y → Nowhere s
       go (whole (groupSa x) []) e q = let z : Absurd = cc in absurd (omega arith)
       go (whole (groupWide x) []) e q = let z : Absurd = cc in absurd (omega arith)
-      go (whole x (y ∷ r)) e q = record {
-        spi = ap (onAll [] spiIn) (sym e);
-        there = ap (onAll 0 spiStartIn) (sym e);
-        items = ap (onAll [] (itemsIn s)) (sym e);
-        first = λ c. ap (onAll (stays c) (firstIn s c)) (sym e);
-      }
-      go (broken o) e q = record {
-        spi = ap (onAll [] spiIn) (sym e);
-        there = ap (onAll 0 spiStartIn) (sym e);
-        items = ap (onAll [] (itemsIn s)) (sym e);
-        first = λ c. ap (onAll (stays c) (firstIn s c)) (sym e);
-      }
+      go (whole x (y ∷ r)) e q = nowhere (whole x (y ∷ r)) e (λ B z f. refl)
+      go (broken o) e q = nowhere (broken o) e (λ B z f. refl)
 
 -- WHAT IS SHOWN IS WHAT THE TREE'S POLICY HOLDS
 pub record ShowsSa (s : List ℕ) (x : GroupSaPolicy) : Type 0 where
