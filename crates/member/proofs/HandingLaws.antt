@@ -5,7 +5,7 @@ use mathlib.Core.Bool.{true, false}
 use mathlib.Core.List.{List, [], _++_, append-nil, append-assoc}
 use native.Mathlib.Omega.{arith}
 use lib.ListN.{length, length-append}
-use Rattle.text_lines.proofs.Cases.{by-test, true-not-false}
+use Rattle.text_rules.proofs.Cases.{by-test, true-not-false}
 use Rattle.member.specs.inner.Handing.{HandedOver}
 use Rattle.member.specs.declared.output.Handed.{Handed}
 

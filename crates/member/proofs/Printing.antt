@@ -2,8 +2,8 @@
 use Prim.Native.Nat.{ℕ}
 use mathlib.Core.Path.{_≡_, ap, sym, _∙_}
 use mathlib.Core.List.{List}
-use Rattle.text_lines.specs.Transcript.{Outcome}
-use Rattle.text_lines.proofs.OneTranscript.{transcript-one}
+use Rattle.text_rules.specs.Transcript.{Outcome}
+use Rattle.text_rules.proofs.OneTranscript.{transcript-one}
 use Rattle.gikev2.specs.Member.{newMember}
 use Rattle.gikev2.specs.Receive.{numberOf, figureOf}
 use Rattle.gikev2.specs.declared.Member.{Member}

@@ -5,8 +5,8 @@ use mathlib.Core.Bool.{Bool, true, false}
 use mathlib.Core.List.{List}
 use native.Mathlib.Omega.{arith}
 use lib.ListN.{length, take}
-use Rattle.text_lines.specs.Answer.{answerText, badText}
-use Rattle.text_lines.specs.Transcript.{Replies}
+use Rattle.text_rules.specs.Answer.{answerText, badText}
+use Rattle.text_rules.specs.Transcript.{Replies}
 use Rattle.text_lines.specs.inner.Room.{replyRoom, Put}
 use Rattle.text_lines.specs.inner.Calls.{Asks}
 use Rattle.text_lines.specs.declared.Key.{Key}

@@ -8,7 +8,7 @@ use native.Mathlib.Omega.{arith}
 use borrow.Author.Tests.{eqb-false}
 use lib.ListN.{length, length-append}
 use Rattle.text_lines.specs.inner.Reading.{Reading, start, Reads}
-use Rattle.text_lines.proofs.Cases.{by-test, true-not-false}
+use Rattle.text_rules.proofs.Cases.{by-test, true-not-false}
 use Rattle.text_lines.proofs.ReadingLaws.{reads-append, whole}
 use Rattle.gikev2.specs.Member.{newMember}
 use Rattle.gikev2.specs.declared.Member.{Member}

@@ -6,7 +6,7 @@ use mathlib.Core.List.{List, [], _++_, append-assoc}
 use native.Mathlib.Omega.{arith}
 use lib.ListN.{length, take}
 use Rattle.octets.specs.Walk.{part}
-use Rattle.text_lines.specs.Transcript.{Reply, Replies}
+use Rattle.text_rules.specs.Transcript.{Reply, Replies}
 use Rattle.text_lines.specs.inner.Calls.{Absorbs, Gives}
 use Rattle.text_lines.specs.inner.Reading.{DefaultKey, awaited, given, Reading, keyed, replied, extend, LineEnds, Finishes, Kept}
 use Rattle.text_lines.specs.declared.Absorbed.{Absorbed}

@@ -3,7 +3,7 @@
 use Prim.Native.Nat.{ℕ}
 use mathlib.Core.Path.{_≡_}
 use mathlib.Core.List.{List}
-use Rattle.text_lines.specs.Transcript.{Outcome, Transcript}
+use Rattle.text_rules.specs.Transcript.{Outcome, Transcript}
 use Rattle.gikev2.specs.Member.{newMember}
 use Rattle.gikev2.specs.Receive.{numberOf, figureOf, Receives}
 use Rattle.gikev2.specs.declared.Member.{Member}

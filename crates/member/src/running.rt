@@ -3,7 +3,7 @@ ghost use Prim.Native.Nat.{ℕ, _-_, _<_, _≤_};
 ghost use mathlib.Core.Path.{_≡_};
 ghost use mathlib.Core.List.{List, _++_};
 ghost use lib.ListN.{length, take};
-ghost use Rattle.text_lines.specs.Answer.{answerText};
+ghost use Rattle.text_rules.specs.Answer.{answerText};
 ghost use Rattle.text_lines.specs.inner.Reading.{Reading, Finishes};
 ghost use Rattle.text_lines.specs.inner.Room.{replyRoom, Put};
 ghost use Rattle.gikev2.specs.Receive.{numberOf, figureOf};

@@ -7,9 +7,9 @@ use native.Mathlib.Omega.{arith}
 use native.Mathlib.Nat.{pow-suc}
 use lib.ListN.{length, getD, length-append, List·getD-append}
 use borrow.Author.Tests.{lt-ltb, le-ltb, eq-eqb, ne-eqb}
-use Rattle.text_lines.specs.Answer.{decimalUpTo, decimal, printed, answerText}
+use Rattle.text_rules.specs.Answer.{decimalUpTo, decimal, printed, answerText}
 use Rattle.text_lines.specs.inner.Room.{replyRoom}
-use Rattle.text_lines.proofs.Cases.{by-less, by-same}
+use Rattle.text_rules.proofs.Cases.{by-less, by-same}
 
 one-digit : (most n : ℕ) → n < 10 → decimalUpTo (suc most) n ≡ (48 + n) ∷ []
 unfolding decimalUpTo

@@ -4,15 +4,15 @@ use mathlib.Core.Path.{_≡_, refl, ap, sym, subst, _∙_}
 use mathlib.Core.List.{List, [], _∷_}
 use native.Mathlib.Omega.{arith}
 use lib.ListN.{length, take, drop, length-drop}
-use Rattle.text_lines.specs.Hex.{octetsOfHex}
-use Rattle.text_lines.specs.Input.{Asked, isTaken, keyOf, frame, askedBy}
-use Rattle.text_lines.specs.Answer.{badText}
-use Rattle.text_lines.specs.Transcript.{Step, Outcome, told, RepliesTo, Replies}
+use Rattle.text_rules.specs.Hex.{octetsOfHex}
+use Rattle.text_rules.specs.Input.{Asked, isTaken, keyOf, frame, askedBy}
+use Rattle.text_rules.specs.Answer.{badText}
+use Rattle.text_rules.specs.Transcript.{Step, Outcome, told, RepliesTo, Replies}
 use Rattle.text_lines.specs.inner.Calls.{Gives, Asks}
 use Rattle.text_lines.specs.declared.Key.{Key}
 use Rattle.text_lines.specs.declared.Request.the-variants as request
-use Rattle.text_lines.proofs.Cases.{by-test}
-use Rattle.text_lines.proofs.InputLaws.{taken-bounds, key-taken, key-other, asked-other}
+use Rattle.text_rules.proofs.Cases.{by-test}
+use Rattle.text_rules.proofs.InputLaws.{taken-bounds, key-taken, key-other, asked-other}
 use Rattle.text_lines.proofs.RoomLaws.{length-put, put-next, put-taken}
 
 pub length-octets : (text : List ℕ) → length (octetsOfHex text) ≡ length text / 2

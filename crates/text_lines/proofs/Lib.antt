@@ -1,13 +1,7 @@
-pub mod Cases
-pub mod HexLaws
-pub mod RoundTrip
 pub mod LineLaws
 pub mod SplitLaws
-pub mod InputLaws
 pub mod AnswerLaws
 pub mod CallLaws
 pub mod ReadingLaws
-pub mod OneTranscript
 pub mod ProgramLaws
-pub mod Samples
 pub mod RoomLaws

@@ -6,11 +6,11 @@ use mathlib.Core.Bool.{true, false}
 use native.Mathlib.Omega.{arith}
 use lib.ListN.{length, drop, getD, drop-of-length-le}
 use borrow.Author.Tests.{eq-eqb, ne-eqb}
-use Rattle.text_lines.specs.Lines.{Line, before, lines}
+use Rattle.text_rules.specs.Lines.{Line, before, lines}
 use Rattle.text_lines.specs.inner.First.{written, firstOf}
 use Rattle.text_lines.specs.inner.Room.{Put}
 use Rattle.text_lines.specs.inner.Calls.{Absorbs}
-use Rattle.text_lines.proofs.Cases.{at-place}
+use Rattle.text_rules.proofs.Cases.{at-place}
 use Rattle.text_lines.proofs.RoomLaws.{Puts, puts-start, puts-more, puts-done}
 
 pub lines-newline : (c : ℕ) (s : List ℕ) → c ≡ 10 → lines (c ∷ s) ≡ record { text = []; ended = true } ∷ lines s

@@ -7,17 +7,17 @@ use mathlib.Core.Bool.{Bool, true, false, cond}
 use native.Mathlib.Omega.{arith}
 use lib.ListN.{length, take, drop, set, length-append, length-take, length-drop, length-set}
 use lib.Seq.{sets, drop-drop, take-add, take-all, take-suc-set, take-append-le, take-append-seam, length-take-le}
-use Rattle.text_lines.specs.Lines.{Line, lines}
+use Rattle.text_rules.specs.Lines.{Line, lines}
 use Rattle.text_lines.specs.inner.First.{written, firstOf}
-use Rattle.text_lines.specs.Input.{Asked, bad, keyOf, askedBy}
-use Rattle.text_lines.specs.Transcript.{Step, RepliesTo}
+use Rattle.text_rules.specs.Input.{Asked, bad, keyOf, askedBy}
+use Rattle.text_rules.specs.Transcript.{Step, RepliesTo}
 use Rattle.text_lines.specs.inner.Room.{Put}
 use Rattle.text_lines.specs.inner.Calls.{Absorbs}
 use Rattle.text_lines.specs.inner.Reading.{awaited, given, DefaultKey, Reading, extend, LineEnds, Closes, Reads}
 use Rattle.text_lines.specs.inner.Reading.{FinishesBy, Finishes, Kept}
 use Rattle.text_lines.specs.declared.Absorbed.{Absorbed}
-use Rattle.text_lines.proofs.Cases.{by-less}
-use Rattle.text_lines.proofs.InputLaws.{taken-long, key-other, asked-other}
+use Rattle.text_rules.proofs.Cases.{by-less}
+use Rattle.text_rules.proofs.InputLaws.{taken-long, key-other, asked-other}
 use Rattle.text_lines.proofs.LineLaws.{NoNewline}
 use Rattle.text_lines.proofs.SplitLaws.{joined, Last, Proper, joined-lines, lines-proper}
 use Rattle.text_lines.proofs.ReadingLaws.{reads-characters, reads-line}

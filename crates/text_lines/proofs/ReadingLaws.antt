@@ -5,11 +5,11 @@ use mathlib.Core.List.{List, [], _∷_, _++_, append-assoc, append-nil, flatten}
 use mathlib.Core.Bool.{Bool, true, false}
 use lib.Dec.{eqb}
 use borrow.Author.Tests.{eq-eqb, ne-eqb}
-use Rattle.text_lines.specs.Lines.{Line, lines}
-use Rattle.text_lines.specs.Transcript.{Step, Later, OutputOf, Transcript}
+use Rattle.text_rules.specs.Lines.{Line, lines}
+use Rattle.text_rules.specs.Transcript.{Step, Later, OutputOf, Transcript}
 use Rattle.text_lines.specs.inner.Reading.{DefaultKey, awaited, given, Reading, start, extend}
 use Rattle.text_lines.specs.inner.Reading.{LineEnds, Closes, FeedsBy, Reads, FinishesBy, Finishes}
-use Rattle.text_lines.proofs.Cases.{by-same}
+use Rattle.text_rules.proofs.Cases.{by-same}
 use Rattle.text_lines.proofs.LineLaws.{NoNewline, no-newline-snoc, lines-ended, lines-begun}
 
 module _ {S : Type 0} where

@@ -6,7 +6,7 @@ use native.Mathlib.Omega.{arith}
 use lib.ListN.{length, take, drop, set, length-append, length-set}
 use lib.Seq.{sets, length-sets, set-out, sets-eq, length-take-le, take-at}
 use Rattle.text_lines.specs.inner.Room.{Put}
-use Rattle.text_lines.proofs.Cases.{by-less}
+use Rattle.text_rules.proofs.Cases.{by-less}
 
 pub sets-out : (text room : List ℕ) (n : ℕ) → length room ≤ n → sets room n text ≡ room
 sets-out [] room n h = refl

@@ -5,9 +5,9 @@ use mathlib.Core.Path.{_≡_, refl, ap, sym, subst, _∙_}
 use mathlib.Core.List.{List, [], _∷_, _++_, append-assoc, append-nil}
 use mathlib.Core.Bool.{Bool, true, false}
 use native.Mathlib.Omega.{arith}
-use Rattle.text_lines.specs.Lines.{Line, before, lines}
+use Rattle.text_rules.specs.Lines.{Line, before, lines}
 use Rattle.text_lines.specs.inner.First.{written}
-use Rattle.text_lines.proofs.Cases.{by-same}
+use Rattle.text_rules.proofs.Cases.{by-same}
 use Rattle.text_lines.proofs.LineLaws.{NoNewline, lines-newline, lines-other, lines-ended, lines-begun}
 
 unfoldable pub joined : List Line → List ℕ

@@ -1,6 +1,1 @@
-pub mod Hex
-pub mod Lines
-pub mod Input
-pub mod Answer
-pub mod Transcript
 pub mod inner

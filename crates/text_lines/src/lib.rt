@@ -3,9 +3,9 @@ ghost use mathlib.Core.Path.{_≡_};
 ghost use mathlib.Core.List.{_∷_, [], _++_};
 ghost use Prim.Native.Nat.{_+_, _*_, _/_, _%_, _<_, _≤_};
 ghost use lib.ListN.{length, take, getD};
-ghost use Rattle.text_lines.specs.Hex.{isDigit, valueOf, digitOf, areDigits, isHex, octetsOfHex, digitsOf, numberFrom};
-ghost use Rattle.text_lines.specs.Input.{isTaken};
-ghost use Rattle.text_lines.specs.Answer.{decimal, answerText, badText};
+ghost use Rattle.text_rules.specs.Hex.{isDigit, valueOf, digitOf, areDigits, isHex, octetsOfHex, digitsOf, numberFrom};
+ghost use Rattle.text_rules.specs.Input.{isTaken};
+ghost use Rattle.text_rules.specs.Answer.{decimal, answerText, badText};
 ghost use Rattle.text_lines.specs.inner.Room.{Put};
 ghost use Rattle.text_lines.specs.inner.Calls.{Absorbs, Gives, Asks};
 

@@ -4,7 +4,7 @@ use mathlib.Core.Path.{_≡_}
 use mathlib.Core.Bool.{Bool, true, false}
 use mathlib.Core.List.{List}
 use lib.ListN.{length, take}
-use Rattle.text_lines.specs.Transcript.{Outcome, Replies, told}
+use Rattle.text_rules.specs.Transcript.{Outcome, Replies, told}
 use Rattle.text_lines.specs.inner.Room.{replyRoom, Put}
 use Rattle.text_lines.specs.inner.Calls.{Gives}
 use Rattle.text_lines.specs.declared.Key.{Key}

@@ -4,8 +4,8 @@ use mathlib.Core.Path.{_≡_, refl, sym, _∙_}
 use mathlib.Core.Bool.{_&&_}
 use Prim.Native.Nat.{_≤_, _-_}
 use lib.ListN.{length, drop}
-use Rattle.text_lines.specs.Hex.{areDigits}
-use Rattle.text_lines.proofs.HexLaws.{digits-more, digits-end}
+use Rattle.text_rules.specs.Hex.{areDigits}
+use Rattle.text_rules.proofs.HexLaws.{digits-more, digits-end}
 use Rattle.text_lines.proofs.are_digits.Statement.{statement}
 use Rattle.text_lines.proofs.are_digits.Tie as tie
 

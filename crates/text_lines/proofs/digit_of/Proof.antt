@@ -1,7 +1,7 @@
 -- `text_lines::digit_of` meets its contract.
 use borrow.Author.Needs.{needs}
 use mathlib.Core.Path.{sym}
-use Rattle.text_lines.proofs.HexLaws.{decimal-digit, letter-digit}
+use Rattle.text_rules.proofs.HexLaws.{decimal-digit, letter-digit}
 use Rattle.text_lines.proofs.digit_of.Statement.{statement}
 use Rattle.text_lines.proofs.digit_of.Tie as tie
 

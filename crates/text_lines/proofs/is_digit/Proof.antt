@@ -1,6 +1,6 @@
 -- `text_lines::is_digit` meets its contract: it is the definition.
 use mathlib.Core.Path.{refl}
-use Rattle.text_lines.specs.Hex.{isDigit}
+use Rattle.text_rules.specs.Hex.{isDigit}
 use Rattle.text_lines.proofs.is_digit.Statement.{statement}
 use Rattle.text_lines.proofs.is_digit.Tie as tie
 

@@ -1,7 +1,7 @@
 -- `text_lines::is_hex` meets its contract.
 use borrow.Author.Needs.{needs}
 use mathlib.Core.Path.{sym, _∙_}
-use Rattle.text_lines.proofs.HexLaws.{hex-even, hex-other}
+use Rattle.text_rules.proofs.HexLaws.{hex-even, hex-other}
 use Rattle.text_lines.proofs.is_hex.Statement.{statement}
 use Rattle.text_lines.proofs.is_hex.Tie as tie
 

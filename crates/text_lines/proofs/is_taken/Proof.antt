@@ -1,7 +1,7 @@
 -- `text_lines::is_taken` meets its contract.
 use borrow.Author.Needs.{needs}
 use mathlib.Core.Path.{sym, _∙_}
-use Rattle.text_lines.proofs.InputLaws.{taken-short, taken-long, taken-within}
+use Rattle.text_rules.proofs.InputLaws.{taken-short, taken-long, taken-within}
 use Rattle.text_lines.proofs.is_taken.Statement.{statement}
 use Rattle.text_lines.proofs.is_taken.Tie as tie
 

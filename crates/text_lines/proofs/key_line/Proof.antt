@@ -2,7 +2,7 @@
 use borrow.Author.Needs.{needs}
 use mathlib.Core.Path.{sym, _∙_}
 use lib.ListN.{replicate}
-use Rattle.text_lines.proofs.InputLaws.{key-taken, key-other}
+use Rattle.text_rules.proofs.InputLaws.{key-taken, key-other}
 use Rattle.text_lines.proofs.RoomLaws.{put-as, put-none}
 use Rattle.text_lines.proofs.key_line.Statement.{statement}
 use Rattle.text_lines.proofs.key_line.Tie as tie

@@ -4,9 +4,9 @@ use mathlib.Core.Path.{refl, sym, ap, _∙_}
 use Prim.Native.Nat.{ℕ}
 use native.Mathlib.Omega.{arith}
 use lib.ListN.{drop}
-use Rattle.text_lines.specs.Hex.{octetsOfHex}
-use Rattle.text_lines.specs.Input.{frame}
-use Rattle.text_lines.proofs.InputLaws.{taken-bounds, asked-taken, asked-other, part-rest}
+use Rattle.text_rules.specs.Hex.{octetsOfHex}
+use Rattle.text_rules.specs.Input.{frame}
+use Rattle.text_rules.proofs.InputLaws.{taken-bounds, asked-taken, asked-other, part-rest}
 use Rattle.text_lines.proofs.RoomLaws.{put-as}
 use Rattle.text_lines.proofs.later_line.Statement.{statement}
 use Rattle.text_lines.proofs.later_line.Tie as tie

@@ -3,8 +3,8 @@ use borrow.Author.Needs.{needs}
 use Prim.Native.Nat.{_≤_, _-_}
 use native.Mathlib.Omega.{arith}
 use lib.ListN.{length, drop}
-use Rattle.text_lines.specs.Hex.{digitsOf}
-use Rattle.text_lines.proofs.HexLaws.{written-more, written-end}
+use Rattle.text_rules.specs.Hex.{digitsOf}
+use Rattle.text_rules.proofs.HexLaws.{written-more, written-end}
 use Rattle.text_lines.proofs.RoomLaws.{Puts, puts-start, puts-more, puts-done, length-puts}
 use Rattle.text_lines.proofs.put_digits.Statement.{statement}
 use Rattle.text_lines.proofs.put_digits.Tie as tie

@@ -3,8 +3,8 @@ use borrow.Author.Needs.{needs}
 use Prim.Native.Nat.{_≤_, _-_}
 use native.Mathlib.Omega.{arith}
 use lib.ListN.{length, drop}
-use Rattle.text_lines.specs.Hex.{octetsOfHex}
-use Rattle.text_lines.proofs.HexLaws.{read-more, read-end}
+use Rattle.text_rules.specs.Hex.{octetsOfHex}
+use Rattle.text_rules.proofs.HexLaws.{read-more, read-end}
 use Rattle.text_lines.proofs.RoomLaws.{Puts, puts-start, puts-more, puts-done, length-puts, put-octet-as}
 use Rattle.text_lines.proofs.put_octets.Statement.{statement}
 use Rattle.text_lines.proofs.put_octets.Tie as tie

@@ -1,7 +1,7 @@
 -- `text_lines::tick_of` meets its contract.
 use borrow.Author.Needs.{needs}
 use native.Mathlib.Omega.{arith}
-use Rattle.text_lines.proofs.InputLaws.{tick-octets}
+use Rattle.text_rules.proofs.InputLaws.{tick-octets}
 use Rattle.text_lines.proofs.tick_of.Statement.{statement}
 use Rattle.text_lines.proofs.tick_of.Tie as tie
 

@@ -2,7 +2,7 @@
 use borrow.Author.Needs.{needs}
 use native.Mathlib.Omega.{arith}
 use mathlib.Core.Path.{sym, _∙_}
-use Rattle.text_lines.proofs.HexLaws.{of-digit, digit-value, other-value}
+use Rattle.text_rules.proofs.HexLaws.{of-digit, digit-value, other-value}
 use Rattle.text_lines.proofs.value_of.Statement.{statement}
 use Rattle.text_lines.proofs.value_of.Tie as tie
 

@@ -3,10 +3,10 @@ use Prim.Native.Nat.{ℕ, _+_}
 use mathlib.Core.Path.{_≡_}
 use mathlib.Core.List.{List}
 use lib.ListN.{length, drop, replicate}
-use Rattle.text_lines.specs.Hex.{octetsOfHex}
-use Rattle.text_lines.specs.Lines.{lines}
+use Rattle.text_rules.specs.Hex.{octetsOfHex}
+use Rattle.text_rules.specs.Lines.{lines}
 use Rattle.text_lines.specs.inner.First.{written, firstOf}
-use Rattle.text_lines.specs.Input.{bad, frame, keyOf, askedBy}
+use Rattle.text_rules.specs.Input.{bad, frame, keyOf, askedBy}
 use Rattle.text_lines.specs.inner.Room.{Put}
 use Rattle.text_lines.specs.declared.Absorbed.{Absorbed}
 use Rattle.text_lines.specs.declared.Key.{Key}

@@ -2,7 +2,7 @@
 use Prim.Native.Nat.{ℕ}
 use mathlib.Core.List.{List, [], _∷_, _++_}
 use mathlib.Core.Bool.{false, cond}
-use Rattle.text_lines.specs.Lines.{Line}
+use Rattle.text_rules.specs.Lines.{Line}
 
 -- the octets that a line takes in the input
 unfoldable pub written : Line → List ℕ

@@ -5,8 +5,8 @@ use mathlib.Core.List.{List, [], _∷_, _++_}
 use mathlib.Core.Bool.{Bool, true, false}
 use lib.ListN.{length, take}
 use lib.Dec.{eqb}
-use Rattle.text_lines.specs.Input.{keyOf}
-use Rattle.text_lines.specs.Transcript.{Step, Reply, Replies}
+use Rattle.text_rules.specs.Input.{keyOf}
+use Rattle.text_rules.specs.Transcript.{Step, Reply, Replies}
 
 -- the default key, once the first line has ended
 pub data DefaultKey : Type 0 where

@@ -9,11 +9,11 @@ use mathlib.Core.List.{List, [], _∷_, _++_, map}
 use mathlib.Core.Bool.{cond}
 use lib.ListN.{length}
 use lib.Dec.{ltb}
-use Rattle.text_lines.specs.Hex.{isDigit, valueOf, areDigits, isHex, octetsOfHex, numberFrom}
-use Rattle.text_lines.specs.Lines.{Line, lines}
-use Rattle.text_lines.specs.Input.{Asked, bad, frame, isTaken, keyOf, askedBy}
-use Rattle.text_lines.specs.Answer.{decimalUpTo, decimal, printed, answerText, badText}
-use Rattle.text_lines.specs.Transcript.{Step, Outcome, Reply, told, RepliesTo, Later, OutputOf, Transcript}
+use Rattle.text_rules.specs.Hex.{isDigit, valueOf, areDigits, isHex, octetsOfHex, numberFrom}
+use Rattle.text_rules.specs.Lines.{Line, lines}
+use Rattle.text_rules.specs.Input.{Asked, bad, frame, isTaken, keyOf, askedBy}
+use Rattle.text_rules.specs.Answer.{decimalUpTo, decimal, printed, answerText, badText}
+use Rattle.text_rules.specs.Transcript.{Step, Outcome, Reply, told, RepliesTo, Later, OutputOf, Transcript}
 
 abbrev text : String → List ℕ
 text none = []
@@ -96,6 +96,7 @@ table =
     ∷ record { input = "\n00000000\n"; output = "0 0 0\n" }
     ∷ record { input = "\n00000000\n\n"; output = "0 0 0\nbad\n" }
     ∷ record { input = "00\n00000100ab\n0000000\n000000000\nffffffff0000"; output = "1 256 1 47\nbad\nbad\n2 4294967295 101\n" }
+    ∷ record { input = "\n000000\n00000000"; output = "bad\n0 0 0\n" }
     ∷ record { input = "0\n00000000"; output = "0 0 0\n" }
     ∷ record { input = "0g\n00000000"; output = "0 0 0\n" }
     ∷ record { input = "0A\n00000000\n"; output = "0 0 0\n" }

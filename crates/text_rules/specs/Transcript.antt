@@ -2,9 +2,9 @@
 use Prim.Native.Nat.{ℕ}
 use mathlib.Core.Path.{_≡_}
 use mathlib.Core.List.{List, [], _∷_, _++_}
-use Rattle.text_lines.specs.Lines.{Line, lines}
-use Rattle.text_lines.specs.Input.{Asked, bad, frame, keyOf, askedBy}
-use Rattle.text_lines.specs.Answer.{answerText, badText}
+use Rattle.text_rules.specs.Lines.{Line, lines}
+use Rattle.text_rules.specs.Input.{Asked, bad, frame, keyOf, askedBy}
+use Rattle.text_rules.specs.Answer.{answerText, badText}
 
 -- what a member answers to a frame: the next member, and the numbers that are printed
 pub record Outcome (S : Type 0) : Type 0 where

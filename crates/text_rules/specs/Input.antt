@@ -4,7 +4,7 @@ use mathlib.Core.List.{List, []}
 use mathlib.Core.Bool.{Bool, cond, _&&_}
 use lib.ListN.{length, take, drop}
 use lib.Dec.{leb}
-use Rattle.text_lines.specs.Hex.{isHex, octetsOfHex, numberFrom}
+use Rattle.text_rules.specs.Hex.{isHex, octetsOfHex, numberFrom}
 
 -- neither another character, nor an odd count, nor fewer digits than `least` or more than `most`
 unfoldable pub isTaken : ℕ → ℕ → List ℕ → Bool

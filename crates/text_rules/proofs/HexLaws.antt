@@ -7,8 +7,8 @@ use native.Mathlib.Omega.{arith}
 use lib.ListN.{length, getD, drop, length-drop, drop-of-length-le}
 use lib.Dec.{leb, eqb}
 use borrow.Author.Tests.{le-leb, lt-leb, lt-ltb, le-ltb, leb-true}
-use Rattle.text_lines.specs.Hex.{within, isDecimal, isLetter, isDigit, valueOf, digitOf, areDigits, isHex, octetsOfHex, digitsOf}
-use Rattle.text_lines.proofs.Cases.{at-place, by-less, by-test, true-not-false, and-true}
+use Rattle.text_rules.specs.Hex.{within, isDecimal, isLetter, isDigit, valueOf, digitOf, areDigits, isHex, octetsOfHex, digitsOf}
+use Rattle.text_rules.proofs.Cases.{at-place, by-less, by-test, true-not-false, and-true}
 
 module _ (low high c : ℕ) where
   pub inside : low ≤ c → c ≤ high → within low high c ≡ true

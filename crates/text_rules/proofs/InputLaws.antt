@@ -8,9 +8,9 @@ use lib.ListN.{length, take, drop, getD, length-drop}
 use lib.Seq.{take-all}
 use lib.Dec.{leb}
 use borrow.Author.Tests.{le-leb, lt-leb, leb-true}
-use Rattle.text_lines.specs.Hex.{isHex, valueOf, octetsOfHex, numberFrom}
-use Rattle.text_lines.specs.Input.{isTaken, keyOf, bad, frame, askedBy}
-use Rattle.text_lines.proofs.Cases.{by-test, and-true}
+use Rattle.text_rules.specs.Hex.{isHex, valueOf, octetsOfHex, numberFrom}
+use Rattle.text_rules.specs.Input.{isTaken, keyOf, bad, frame, askedBy}
+use Rattle.text_rules.proofs.Cases.{by-test, and-true}
 
 module _ (least most : ℕ) (text : List ℕ) where
   pub taken-short : length text < least → isTaken least most text ≡ false

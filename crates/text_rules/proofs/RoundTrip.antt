@@ -7,9 +7,9 @@ use native.Mathlib.Omega.{arith}
 use lib.ListN.{length, getD}
 use lib.Dec.{eqb}
 use borrow.Author.Tests.{eqb-true, eq-eqb}
-use Rattle.text_lines.specs.Hex.{isDigit, valueOf, digitOf, areDigits, isHex, octetsOfHex, digitsOf}
-use Rattle.text_lines.proofs.Cases.{true-not-false, and-true}
-use Rattle.text_lines.proofs.HexLaws.{Digit, digit-of, of-digit}
+use Rattle.text_rules.specs.Hex.{isDigit, valueOf, digitOf, areDigits, isHex, octetsOfHex, digitsOf}
+use Rattle.text_rules.proofs.Cases.{true-not-false, and-true}
+use Rattle.text_rules.proofs.HexLaws.{Digit, digit-of, of-digit}
 
 octet-back : (o : ℕ) → o < 256 → 16 * valueOf (digitOf (o / 16)) + valueOf (digitOf (o % 16)) ≡ o
 octet-back o h =

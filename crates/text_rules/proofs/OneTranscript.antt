@@ -2,9 +2,9 @@
 use Prim.Native.Nat.{ℕ}
 use mathlib.Core.Path.{_≡_, ap, sym, subst, _∙_}
 use mathlib.Core.List.{List, [], _∷_, _++_}
-use Rattle.text_lines.specs.Lines.{Line, lines}
-use Rattle.text_lines.specs.Input.{Asked, bad, frame, keyOf, askedBy}
-use Rattle.text_lines.specs.Transcript.{Step, Outcome, Reply, told, RepliesTo, Later, OutputOf, Transcript}
+use Rattle.text_rules.specs.Lines.{Line, lines}
+use Rattle.text_rules.specs.Input.{Asked, bad, frame, keyOf, askedBy}
+use Rattle.text_rules.specs.Transcript.{Step, Outcome, Reply, told, RepliesTo, Later, OutputOf, Transcript}
 
 module _ {S : Type 0} (step : Step S)
     (one : (member : S) (key : List ℕ) (tick : ℕ) (octets : List ℕ) (o p : Outcome S) → step member key tick octets o →

@@ -1,0 +1,6 @@
+pub mod Cases
+pub mod HexLaws
+pub mod RoundTrip
+pub mod InputLaws
+pub mod OneTranscript
+pub mod Samples

@@ -1,0 +1,5 @@
+pub mod Hex
+pub mod Lines
+pub mod Input
+pub mod Answer
+pub mod Transcript
