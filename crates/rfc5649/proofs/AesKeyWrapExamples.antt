@@ -36,7 +36,7 @@ twentyWrapped =
 abbrev twentyBegun : List ℕ
 twentyBegun = 0xa65959a600000014 ∷ 0xc37b7e6492584340 ∷ 0xbed1220780894115 ∷ 0x5068f73800000000 ∷ []
 
--- computed as an order: an equation of lists takes twice the time where it fails, as it does in each edit
+-- computed as an order: an equation of lists takes longer where it fails, as it does in most edits
 twenty-wrapped : orderOf (octetsIn (rows kek 3 6 twentyBegun)) twentyWrapped ≡ Equal
 unfolding orderOf octetsIn number octetsOf rows row step stored cipher cipherWith keyExpansion temp power xtimes sbox
 twenty-wrapped = refl
