@@ -1,7 +1,7 @@
-# agrees.awk -v KEYED=1 LINES ANSWERS: the first number that `show` names for each line with the offset of a break (LINES: "N NUMBER OFFSET",
-# number 0 where no clause applies) and the answer of `member` (ANSWERS, from the second line on). A number that the frame alone gives is
-# the answer, or the answer is another and looks at the member: 2, 3; 5 by a default key that does not fit (KEYED=0); 6 and 7 by the
-# table. Number 1 has the same offset behind its counts, any other number has none. Prints each line that is otherwise.
+# agrees.awk -v KEYED=1 LINES ANSWERS: the first number that `show` names for each line with the offset of a break (LINES: "N NUMBER
+# OFFSET", number 0 where no clause applies) and the answer of `member` (ANSWERS, from the second line on). A number that the frame alone
+# gives is the answer, or the answer is another and looks at the member: 2, 3; 5 by a default key that does not fit (KEYED=0); 6 and 7 by
+# the table. Number 1 has the same offset behind its counts, any other number has none. Prints each line that is otherwise.
 FNR == NR { named[$1] = $2; offset[$1] = $3; next }
 {
   line = FNR + 1; m = $1

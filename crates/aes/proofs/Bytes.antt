@@ -13,7 +13,7 @@ use Rattle.octets.proofs.Xor.{term, plus, same-sum}
 use Rattle.fips197.specs.Field.{gmul}
 use Rattle.fips197.specs.Steps.{mixRow}
 use Rattle.fips197.proofs.Field.{gmul-lt}
-use Rattle.aes.specs.inner.Word.{b0, b1, b2, b3, four, wordOf, ror8, ror16, ror24, columnOf, lastColumnOf}
+use Rattle.aes.specs.inner.Word.{b0, b1, b2, b3, wordOctets, wordOf, ror8, ror16, ror24, columnOf, lastColumnOf}
 use Rattle.aes.specs.inner.Tables.{mixedWord, Boxed}
 
 -- the octets of the word x are p q r t
@@ -23,7 +23,7 @@ pub record Bytes (x p q r t : ℕ) : Type 0 where
   pub at2 : b2 x ≡ r
   pub at3 : b3 x ≡ t
 
-pub four-is : {x p q r t : ℕ} → Bytes x p q r t → four x ≡ p ∷ q ∷ r ∷ t ∷ []
+pub four-is : {x p q r t : ℕ} → Bytes x p q r t → wordOctets x ≡ p ∷ q ∷ r ∷ t ∷ []
 four-is u = λ i. u .at0 i ∷ u .at1 i ∷ u .at2 i ∷ u .at3 i ∷ []
 
 pub own : (x : ℕ) → Bytes x (b0 x) (b1 x) (b2 x) (b3 x)

@@ -18,9 +18,9 @@ use Rattle.fips197.specs.Cipher.{roundKey, invRound, invRounds, invCipherWith, 
 use Rattle.fips197.proofs.Field.{gmul-linear}
 use Rattle.fips197.proofs.Expansion.{Sizes, sizes}
 use Rattle.fips197.proofs.Sbox.{inv-sbox-octets}
-use Rattle.aes.specs.declared.State.{State}
+use Rattle.aes.specs.declared.AesState.{AesState}
 use Rattle.aes.specs.inner.Tables.{decipherTables}
-use Rattle.aes.specs.inner.Rounds.{blockOf, swappedOf, keyOf, runOf}
+use Rattle.aes.specs.inner.Rounds.{stateOctets, swappedOf, roundKeyOf, runOf}
 use Rattle.aes.specs.inner.Schedule.{ExpandsInverse, ExpandedInverse}
 use Rattle.aes.proofs.Held.{decipher-mixing, decipher-boxed}
 use Rattle.aes.proofs.Running.{roundBy, roundsBy, Lent, run-is}
@@ -30,7 +30,7 @@ use Rattle.aes.proofs.Running.{roundBy, roundsBy, Lent, run-is}
 abbrev pub mirror : List ℕ → List ℕ
 mirror s = block (λ i. oct s (4 * ((4 - i / 4) % 4) + i % 4))
 
-swapped-block : (s : State) → blockOf (swappedOf s) ≡ mirror (blockOf s)
+swapped-block : (s : AesState) → stateOctets (swappedOf s) ≡ mirror (stateOctets s)
 swapped-block s = refl
 
 mirror-keys : (s k : List ℕ) → addRoundKey (mirror s) (mirror k) ≡ mirror (addRoundKey s k)
@@ -71,7 +71,7 @@ module _ {key t k : List ℕ} (e : t ≡ decipherTables) (x : ExpandsInverse key
   w = keyExpansion key
 
   keys : ℕ → List ℕ
-  keys r = blockOf (keyOf k r)
+  keys r = stateOctets (roundKeyOf k r)
 
   lent : Lent 14 11 13 9 inv-sbox keys n t k
   unfolding n keys
@@ -87,7 +87,7 @@ module _ {key t k : List ℕ} (e : t ≡ decipherTables) (x : ExpandsInverse key
       }
 
   -- a round key as lent is a mirrored one
-  mirrored : (r : ℕ) {y : List ℕ} → blockOf (swappedOf (keyOf k r)) ≡ y → keys r ≡ mirror y
+  mirrored : (r : ℕ) {y : List ℕ} → stateOctets (swappedOf (roundKeyOf k r)) ≡ y → keys r ≡ mirror y
   unfolding keys
   mirrored r h = ap mirror h
 
@@ -120,16 +120,16 @@ module _ {key t k : List ℕ} (e : t ≡ decipherTables) (x : ExpandsInverse key
             ∙ a .rest;
       }
 
-  pub deciphered : (s : State) → blockOf (swappedOf (runOf t k (swappedOf s))) ≡ invCipher key (blockOf s)
+  pub deciphered : (s : AesState) → stateOctets (swappedOf (runOf t k (swappedOf s))) ≡ invCipher key (stateOctets s)
   unfolding invCipher invCipherWith n w
   deciphered s =
       let z : Sizes (length key) = sizes (length key) (x .key-is .size) in
-      let s₀ : List ℕ = addRoundKey (blockOf s) (roundKey w n) in
+      let s₀ : List ℕ = addRoundKey (stateOctets s) (roundKey w n) in
       let a : Along (n - 1) s₀ = rounds-are (n - 1) (omega arith) s₀ in
       ap mirror
       (run-is lent (swappedOf s)
       ∙ ap₂ (λ (u v : List ℕ). addRoundKey (shiftRows (substitute inv-sbox u)) v)
-      (ap (roundsBy 14 11 13 9 inv-sbox keys (n - 1)) (ap (addRoundKey (mirror (blockOf s))) (mirrored 0 (x .first))) ∙ a .is)
+      (ap (roundsBy 14 11 13 9 inv-sbox keys (n - 1)) (ap (addRoundKey (mirror (stateOctets s))) (mirrored 0 (x .first))) ∙ a .is)
       (mirrored n (x .last)))
       ∙ ap (λ (u : List ℕ). addRoundKey (invSubBytes (invShiftRows u)) (roundKey w 0))
       (ap (λ (j : ℕ). invRounds w j (a .at)) (let y : 0 ≡ n - 1 - (n - 1) = omega arith in y) ∙ a .rest)

@@ -11,10 +11,10 @@ use lib.Seq.{ext-getD}
 use Rattle.octets.specs.Numbers.{oct}
 use Rattle.octets.proofs.Order.{lt-cases}
 use Rattle.fips197.specs.Key.{roundsOf}
-use Rattle.aes.specs.declared.State.{State}
+use Rattle.aes.specs.declared.AesState.{AesState}
 use Rattle.aes.specs.inner.Word.{wordOf}
-use Rattle.aes.specs.inner.Rounds.{blockOf, keyOf, swappedOf}
-use Rattle.aes.specs.inner.Schedule.{Blank, Expands, ExpandsInverse}
+use Rattle.aes.specs.inner.Rounds.{stateOctets, roundKeyOf, swappedOf}
+use Rattle.aes.specs.inner.Schedule.{ZeroWords, Expands, ExpandsInverse}
 use Rattle.aes.proofs.Growing.{whole}
 
 -- each element is below 2 ^ 32, as those of an array of `u32` are
@@ -27,11 +27,11 @@ wordAt k s = wordOf (oct s (4 * k)) (oct s (4 * k + 1)) (oct s (4 * k + 2)) (oct
 
 -- round key r of an inverse schedule, in the block's order
 abbrev inverseKey : List ℕ → ℕ → List ℕ
-inverseKey s r = blockOf (swappedOf (keyOf s r))
+inverseKey s r = stateOctets (swappedOf (roundKeyOf s r))
 
 -- a state of words is that of its octets
-same-state : (p q : State) → ((p .a < 4294967296) × (p .b < 4294967296) × (p .c < 4294967296) × (p .d < 4294967296))
-    → ((q .a < 4294967296) × (q .b < 4294967296) × (q .c < 4294967296) × (q .d < 4294967296)) → blockOf p ≡ blockOf q → p ≡ q
+same-state : (p q : AesState) → ((p .a < 4294967296) × (p .b < 4294967296) × (p .c < 4294967296) × (p .d < 4294967296))
+    → ((q .a < 4294967296) × (q .b < 4294967296) × (q .c < 4294967296) × (q .d < 4294967296)) → stateOctets p ≡ stateOctets q → p ≡ q
 unfolding wordAt
 same-state p q (pa, pb, pc, pd) (qa, qb, qc, qd) e =
     λ i. record {
@@ -42,30 +42,30 @@ same-state p q (pa, pb, pc, pd) (qa, qb, qc, qd) e =
     }
 
 module _ (s t : List ℕ) (small : Words s) (small′ : Words t) where
-  same-key : (r : ℕ) → blockOf (keyOf s r) ≡ blockOf (keyOf t r) → keyOf s r ≡ keyOf t r
+  same-key : (r : ℕ) → stateOctets (roundKeyOf s r) ≡ stateOctets (roundKeyOf t r) → roundKeyOf s r ≡ roundKeyOf t r
   same-key r =
-      same-state (keyOf s r) (keyOf t r) (small (4 * r), small (4 * r + 1), small (4 * r + 2), small (4 * r + 3))
+      same-state (roundKeyOf s r) (roundKeyOf t r) (small (4 * r), small (4 * r + 1), small (4 * r + 2), small (4 * r + 3))
       (small′ (4 * r), small′ (4 * r + 1), small′ (4 * r + 2), small′ (4 * r + 3))
 
-  same-swapped : (r : ℕ) → inverseKey s r ≡ inverseKey t r → keyOf s r ≡ keyOf t r
+  same-swapped : (r : ℕ) → inverseKey s r ≡ inverseKey t r → roundKeyOf s r ≡ roundKeyOf t r
   same-swapped r e =
-      ap swappedOf (same-state (swappedOf (keyOf s r)) (swappedOf (keyOf t r))
+      ap swappedOf (same-state (swappedOf (roundKeyOf s r)) (swappedOf (roundKeyOf t r))
       (small (4 * r), small (4 * r + 3), small (4 * r + 2), small (4 * r + 1))
       (small′ (4 * r), small′ (4 * r + 3), small′ (4 * r + 2), small′ (4 * r + 1)) e)
 
   -- word m of round key r
-  in-key : (r m : ℕ) → m < 4 → keyOf s r ≡ keyOf t r → getD s (4 * r + m) 0 ≡ getD t (4 * r + m) 0
-  in-key r zero l e = bare s ∙ ap (λ (q : State). q .a) e ∙ sym (bare t)
+  in-key : (r m : ℕ) → m < 4 → roundKeyOf s r ≡ roundKeyOf t r → getD s (4 * r + m) 0 ≡ getD t (4 * r + m) 0
+  in-key r zero l e = bare s ∙ ap (λ (q : AesState). q .a) e ∙ sym (bare t)
     where
       bare : (w : List ℕ) → getD w (4 * r + 0) 0 ≡ getD w (4 * r) 0
       bare w = ap (λ (i : ℕ). getD w i 0) (let z : 4 * r + 0 ≡ 4 * r = omega arith in z)
-  in-key r (suc zero) l e = ap (λ (q : State). q .b) e
-  in-key r (suc (suc zero)) l e = ap (λ (q : State). q .c) e
-  in-key r (suc (suc (suc zero))) l e = ap (λ (q : State). q .d) e
+  in-key r (suc zero) l e = ap (λ (q : AesState). q .b) e
+  in-key r (suc (suc zero)) l e = ap (λ (q : AesState). q .c) e
+  in-key r (suc (suc (suc zero))) l e = ap (λ (q : AesState). q .d) e
   in-key r (suc (suc (suc (suc m)))) l e = absurd (omega arith)
 
-  same-words : (n : ℕ) → length s ≡ 61 → length t ≡ 61 → getD s 60 0 ≡ getD t 60 0 → ((r : ℕ) → r ≤ n → keyOf s r ≡ keyOf t r)
-      → Blank s (4 * (n + 1)) 60 → Blank t (4 * (n + 1)) 60 → s ≡ t
+  same-words : (n : ℕ) → length s ≡ 61 → length t ≡ 61 → getD s 60 0 ≡ getD t 60 0 → ((r : ℕ) → r ≤ n → roundKeyOf s r ≡ roundKeyOf t r)
+      → ZeroWords s (4 * (n + 1)) 60 → ZeroWords t (4 * (n + 1)) 60 → s ≡ t
   same-words n ls lt count keys blank blank′ =
       ext-getD 0 s t (ls ∙ sym lt) (λ i h. at i (eq-or-lt-of-le (let z : i ≤ 60 = omega (arith, ls) in z)))
     where

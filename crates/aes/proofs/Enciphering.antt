@@ -15,17 +15,17 @@ use Rattle.fips197.specs.Cipher.{roundKey, rounds, cipherWith, cipher}
 use Rattle.fips197.proofs.Expansion.{Sizes, sizes}
 use Rattle.fips197.proofs.Sbox.{sbox-octets}
 use Rattle.fips197.proofs.Steps.{block-all}
-use Rattle.aes.specs.declared.State.{State}
-use Rattle.aes.specs.inner.Word.{four}
+use Rattle.aes.specs.declared.AesState.{AesState}
+use Rattle.aes.specs.inner.Word.{wordOctets}
 use Rattle.aes.specs.inner.Tables.{encipherTables}
-use Rattle.aes.specs.inner.Rounds.{blockOf, loadOf, runOf}
+use Rattle.aes.specs.inner.Rounds.{stateOctets, loadOf, runOf}
 use Rattle.aes.specs.inner.Schedule.{Expands, Expanded}
 use Rattle.aes.proofs.Bytes.{digits}
 use Rattle.aes.proofs.Held.{encipher-mixing, encipher-boxed}
 use Rattle.aes.proofs.Running.{roundsBy, Lent, state, run-is}
 
 -- a block's octets, as words
-pub loaded : (s : List ℕ) → Block s → blockOf (loadOf s) ≡ s
+pub loaded : (s : List ℕ) → Block s → stateOctets (loadOf s) ≡ s
 unfolding loadOf
 loaded s b =
     let h : Octets s = b .small in
@@ -53,14 +53,14 @@ module _ {key t k : List ℕ} (e : t ≡ encipherTables) (x : Expands key k) whe
         key = x .keys;
       }
 
-  pub enciphered : (s : State) → blockOf (runOf t k s) ≡ cipher key (blockOf s)
+  pub enciphered : (s : AesState) → stateOctets (runOf t k s) ≡ cipher key (stateOctets s)
   unfolding cipher cipherWith
   enciphered s =
       let w : List ℕ = keyExpansion key in
       let n : ℕ = roundsOf key in
       run-is lent s
       ∙ ap (λ (y : List ℕ). addRoundKey (shiftRows (subBytes y)) (roundKey w n))
-      (same-rounds w (n - 1) (addRoundKey (blockOf s) (roundKey w 0)))
+      (same-rounds w (n - 1) (addRoundKey (stateOctets s) (roundKey w 0)))
 
 -- the count of rounds in some key's schedule
 pub its-rounds : {k : List ℕ} → Expanded k → (9 < getD k 60 0) × (getD k 60 0 < 15)
@@ -69,11 +69,12 @@ its-rounds {k} x =
     (omega (arith, x .expands .rounds), omega (arith, x .expands .rounds))
 
 -- the last word of the expanded key, from the place that the number of rounds gives
-pub last-is : (key k : List ℕ) → Expands key k → four (getD k (4 * getD k 60 0 + 3) 0) ≡ word (keyExpansion key) (4 * roundsOf key + 3)
+pub last-is : (key k : List ℕ) → Expands key k →
+    wordOctets (getD k (4 * getD k 60 0 + 3) 0) ≡ word (keyExpansion key) (4 * roundsOf key + 3)
 last-is key k x =
     let e : List ℕ = keyExpansion key in
     let n : ℕ = roundsOf key in
-    ap (λ (m : ℕ). four (getD k (4 * m + 3) 0)) (x .rounds)
+    ap (λ (m : ℕ). wordOctets (getD k (4 * m + 3) 0)) (x .rounds)
     ∙ ap (λ (s : List ℕ). oct s 12 ∷ oct s 13 ∷ oct s 14 ∷ oct s 15 ∷ []) (x .keys n (omega arith))
     ∙ (λ i. oct e (place 0 i) ∷ oct e (place 1 i) ∷ oct e (place 2 i) ∷ oct e (place 3 i) ∷ [])
   where

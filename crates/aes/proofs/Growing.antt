@@ -33,11 +33,11 @@ use Rattle.fips197.specs.Expansion.{word, xorWord, rotWord, subWord, rcon, temp
 use Rattle.fips197.proofs.Field.{power-lt}
 use Rattle.fips197.proofs.Sbox.{sbox-octets}
 use Rattle.fips197.proofs.Expansion.{Sizes, sizes, length-grow}
-use Rattle.aes.specs.inner.Word.{b0, b1, b2, b3, four, wordOf, ror24, lastColumnOf}
+use Rattle.aes.specs.inner.Word.{b0, b1, b2, b3, wordOctets, wordOf, ror24, lastColumnOf}
 use Rattle.aes.specs.inner.Tables.{Boxed}
-use Rattle.aes.specs.declared.expansion.Place.{Place}
-use Rattle.aes.specs.inner.Schedule.{Blank, Expands}
-use Rattle.aes.specs.inner.Expanding.{Grown, Placed}
+use Rattle.aes.specs.declared.expansion.WordPlace.{WordPlace}
+use Rattle.aes.specs.inner.Schedule.{ZeroWords, Expands}
+use Rattle.aes.specs.inner.Expanding.{ExpandedTo, Placed}
 use Rattle.aes.proofs.Bytes.{Bytes, own, bytes-xor, digits, four-is, rotated24, last-column, b0-lt, b1-lt, b2-lt, b3-lt}
 
 -- ---- the words of the expanded key
@@ -118,16 +118,16 @@ rotated-bytes x h =
     (sym (ap ror24 (whole x h) ∙ rotated24 (b0 x) (b1 x) (b2 x) (b3 x) (b0-lt x) (b1-lt x) (b2-lt x) (b3-lt x)))
     (digits (b1 x) (b2 x) (b3 x) (b0 x) (b1-lt x) (b2-lt x) (b3-lt x) (b0-lt x))
 
-module _ (t : List ℕ) (at : ℕ) (boxed : Boxed sbox t at) (nk x : ℕ) (p : Place) where
+module _ (t : List ℕ) (at : ℕ) (boxed : Boxed sbox t at) (nk x : ℕ) (p : WordPlace) where
   pub rotated : p .word ≡ 0 → x < 4294967296 → {y k r : ℕ} → y ≡ ror24 x → k ≡ wordOf (p .constant) 0 0 0
-      → r ≡ lastColumnOf t at y y y y k → (w : List ℕ) (i : ℕ) → Placed nk i p → four x ≡ word w (i - 1) → four r ≡ temp nk w i
+      → r ≡ lastColumnOf t at y y y y k → (w : List ℕ) (i : ℕ) → Placed nk i p → wordOctets x ≡ word w (i - 1) → wordOctets r ≡ temp nk w i
   unfolding temp
   rotated h l {y} {k} ey ek er w i q e =
       let c : ℕ = power (i / nk - 1) in
       let u = last-column sbox t at sbox-octets boxed (ror24 x) (ror24 x) (ror24 x) (ror24 x) (wordOf c 0 0 0) in
       let v = rotated-bytes x l in
       let d = digits c 0 0 0 (power-lt (i / nk - 1)) (lit< tt) (lit< tt) (lit< tt) in
-      ap four
+      ap wordOctets
       (er ∙ ap₂ (λ (a b : ℕ). lastColumnOf t at a a a a b) ey (ek ∙ ap (λ (a : ℕ). wordOf a 0 0 0) (q .rcon)))
       ∙ four-is u
       ∙ (λ j. bitXor (oct sbox (v .at0 j)) (d .at0 j) ∷ bitXor (oct sbox (v .at1 j)) (d .at1 j) ∷ bitXor (oct sbox (v .at2 j)) (d .at2 j)
@@ -136,23 +136,24 @@ module _ (t : List ℕ) (at : ℕ) (boxed : Boxed sbox t at) (nk x : ℕ) (p : P
       ∙ sym (simp (eq-eqb _ _ (sym (q .among) ∙ h)))
 
   pub subbed : (p .word ≡ 0 → ⊥) → 6 < nk → p .word ≡ 4 → {r : ℕ} → r ≡ lastColumnOf t at x x x x 0
-      → (w : List ℕ) (i : ℕ) → Placed nk i p → four x ≡ word w (i - 1) → four r ≡ temp nk w i
+      → (w : List ℕ) (i : ℕ) → Placed nk i p → wordOctets x ≡ word w (i - 1) → wordOctets r ≡ temp nk w i
   unfolding temp
   subbed h l m er w i q e =
       let u = last-column sbox t at sbox-octets boxed x x x x 0 in
-      ap four er ∙ four-is u
+      ap wordOctets er ∙ four-is u
       ∙ (λ j. xor-zero-r (oct sbox (b0 x)) j ∷ xor-zero-r (oct sbox (b1 x)) j ∷ xor-zero-r (oct sbox (b2 x)) j
       ∷ xor-zero-r (oct sbox (b3 x)) j ∷ [])
       ∙ ap subWord e
       ∙ sym (simp (ne-eqb _ _ (λ z. h (q .among ∙ z)), lt-ltb _ _ l, eq-eqb _ _ (sym (q .among) ∙ m)))
 
-module _ (nk x : ℕ) (p : Place) where
-  pub left-long : (p .word ≡ 0 → ⊥) → (p .word ≡ 4 → ⊥) → (w : List ℕ) (i : ℕ) → Placed nk i p → four x ≡ word w (i - 1)
-      → four x ≡ temp nk w i
+module _ (nk x : ℕ) (p : WordPlace) where
+  pub left-long : (p .word ≡ 0 → ⊥) → (p .word ≡ 4 → ⊥) → (w : List ℕ) (i : ℕ) → Placed nk i p → wordOctets x ≡ word w (i - 1)
+      → wordOctets x ≡ temp nk w i
   unfolding temp
   left-long h m w i q e = e ∙ sym (simp (ne-eqb _ _ (λ z. h (q .among ∙ z)), ne-eqb _ _ (λ z. m (q .among ∙ z)), and-false))
 
-  pub left-short : (p .word ≡ 0 → ⊥) → nk ≤ 6 → (w : List ℕ) (i : ℕ) → Placed nk i p → four x ≡ word w (i - 1) → four x ≡ temp nk w i
+  pub left-short : (p .word ≡ 0 → ⊥) → nk ≤ 6 → (w : List ℕ) (i : ℕ) → Placed nk i p → wordOctets x ≡ word w (i - 1) →
+      wordOctets x ≡ temp nk w i
   unfolding temp
   left-short h l w i q e = e ∙ sym (simp (ne-eqb _ _ (λ z. h (q .among ∙ z)), le-ltb _ _ l))
 
@@ -163,7 +164,7 @@ unfolding power
 first-place nk h =
     record { among = sym (mod-self nk); rcon = ap (λ (n : ℕ). power (n - 1)) (sym (div-self (let z : 0 < nk = omega arith in z))) }
 
-module _ (nk i : ℕ) (p : Place) (least : 1 ≤ nk) (past : nk ≤ i) (q : Placed nk i p) where
+module _ (nk i : ℕ) (p : WordPlace) (least : 1 ≤ nk) (past : nk ≤ i) (q : Placed nk i p) where
   split : i + 1 ≡ nk * (i / nk) + (p .word + 1)
   split = omega (arith, div-add-mod i nk, q .among)
 
@@ -193,17 +194,17 @@ module _ (nk i : ℕ) (p : Place) (least : 1 ≤ nk) (past : nk ≤ i) (q : Plac
 
 -- ---- the words in the schedule's array
 
-pub blank-none : (n : ℕ) → Blank (replicate n 0) 0 n
+pub blank-none : (n : ℕ) → ZeroWords (replicate n 0) 0 n
 blank-none n i h l = getD-replicate n i 0 0 l
 
-pub blank-more : (w : List ℕ) (i v n : ℕ) → Blank w i n → Blank (set w i v) (i + 1) n
+pub blank-more : (w : List ℕ) (i v n : ℕ) → ZeroWords w i n → ZeroWords (set w i v) (i + 1) n
 blank-more w i v n b j h l = getD-set-other w i j v 0 (omega arith) ∙ b j (omega arith) l
 
-pub grown-none : (key : List ℕ) → Grown key (replicate 61 0) 0
+pub grown-none : (key : List ℕ) → ExpandedTo key (replicate 61 0) 0
 grown-none key = record { size = refl; same = λ j h. absurd (not-suc-le-zero h); behind = blank-none 61 }
 
-pub grown-more : (key : List ℕ) (v : ℕ) {w : List ℕ} {i : ℕ} → Grown key w i → i < 61 → four v ≡ word (keyExpansion key) i
-    → Grown key (set w i v) (i + 1)
+pub grown-more : (key : List ℕ) (v : ℕ) {w : List ℕ} {i : ℕ} → ExpandedTo key w i → i < 61 → wordOctets v ≡ word (keyExpansion key) i
+    → ExpandedTo key (set w i v) (i + 1)
 grown-more key v {w} {i} g h e =
     record {
       size = length-set w i v ∙ g .size;
@@ -211,26 +212,27 @@ grown-more key v {w} {i} g h e =
       behind = blank-more w i v 61 (g .behind);
     }
   where
-    at : (j : ℕ) → (j ≡ i) ⊎ (j < i) → four (getD (set w i v) j 0) ≡ word (keyExpansion key) j
+    at : (j : ℕ) → (j ≡ i) ⊎ (j < i) → wordOctets (getD (set w i v) j 0) ≡ word (keyExpansion key) j
     at j (inl q) =
-        ap (λ (m : ℕ). four (getD (set w i v) m 0)) q ∙ ap four (getD-set-same w i v 0 (omega (arith, g .size)))
+        ap (λ (m : ℕ). wordOctets (getD (set w i v) m 0)) q ∙ ap wordOctets (getD-set-same w i v 0 (omega (arith, g .size)))
         ∙ e ∙ ap (word (keyExpansion key)) (sym q)
-    at j (inr q) = ap four (getD-set-other w i j v 0 (omega arith)) ∙ g .same j q
+    at j (inr q) = ap wordOctets (getD-set-other w i j v 0 (omega arith)) ∙ g .same j q
 
 module _ (key : List ℕ) (is : T (isKey (length key))) (small : Octets key) where
   pub from-key : (j v : ℕ) → j < wordsOf key
-      → v ≡ wordOf (oct key (4 * j)) (oct key (4 * j + 1)) (oct key (4 * j + 2)) (oct key (4 * j + 3)) → four v ≡ word (keyExpansion key) j
+      → v ≡ wordOf (oct key (4 * j)) (oct key (4 * j + 1)) (oct key (4 * j + 2)) (oct key (4 * j + 3)) →
+      wordOctets v ≡ word (keyExpansion key) j
   from-key j v h e =
       let d = digits (oct key (4 * j)) (oct key (4 * j + 1)) (oct key (4 * j + 2)) (oct key (4 * j + 3))
       (small (4 * j)) (small (4 * j + 1)) (small (4 * j + 2)) (small (4 * j + 3)) in
-      ap four e ∙ four-is d
+      ap wordOctets e ∙ four-is d
       ∙ (λ i. oct key ((let z : 4 * j ≡ 4 * j + 0 = omega arith in z) i)
       ∷ oct key (4 * j + 1) ∷ oct key (4 * j + 2) ∷ oct key (4 * j + 3) ∷ [])
       ∙ sym (first-word key is j h)
 
-  pub from-words : (i nk : ℕ) → nk ≡ wordsOf key → nk ≤ i → i < 4 * (nk + 7) → {w : List ℕ} → Grown key w i → (t : ℕ)
-      → ((e : List ℕ) → four (getD w (i - 1) 0) ≡ word e (i - 1) → four t ≡ temp nk e i)
-      → four (bitXor (getD w (i - nk) 0) t) ≡ word (keyExpansion key) i
+  pub from-words : (i nk : ℕ) → nk ≡ wordsOf key → nk ≤ i → i < 4 * (nk + 7) → {w : List ℕ} → ExpandedTo key w i → (t : ℕ)
+      → ((e : List ℕ) → wordOctets (getD w (i - 1) 0) ≡ word e (i - 1) → wordOctets t ≡ temp nk e i)
+      → wordOctets (bitXor (getD w (i - nk) 0) t) ≡ word (keyExpansion key) i
   from-words i nk en h l {w} g t ht =
       let z : Sizes (length key) = sizes (length key) is in
       let x : ℕ = getD w (i - nk) 0 in
@@ -240,7 +242,7 @@ module _ (key : List ℕ) (is : T (isKey (length key))) (small : Octets key) whe
       ∙ ap (λ (m : ℕ). xorWord (word e (i - m)) (temp m e i)) en
       ∙ sym (next-word key is i (omega arith) (omega arith))
 
-  pub all-words : (nk i : ℕ) → nk ≡ wordsOf key → 4 * (nk + 7) ≤ i → i ≤ 4 * (nk + 7) → i ≤ 60 → {w : List ℕ} → Grown key w i
+  pub all-words : (nk i : ℕ) → nk ≡ wordsOf key → 4 * (nk + 7) ≤ i → i ≤ 4 * (nk + 7) → i ≤ 60 → {w : List ℕ} → ExpandedTo key w i
       → Expands key (set w 60 (nk + 6))
   all-words nk i en h u b {w} g =
       record {
@@ -248,7 +250,7 @@ module _ (key : List ℕ) (is : T (isKey (length key))) (small : Octets key) whe
         size = length-set w 60 (nk + 6) ∙ g .size;
         unused = λ j l m. getD-set-other w 60 j (nk + 6) 0 (omega arith) ∙ g .behind j (omega arith) (omega arith);
         rounds = getD-set-same w 60 (nk + 6) 0 (omega (arith, g .size)) ∙ ap (λ (m : ℕ). m + 6) en;
-        keys = λ r l. ap (λ (n : ℕ). four (getD s n 0) ++ rest r) (let z : 4 * r ≡ 4 * r + 0 = omega arith in z)
+        keys = λ r l. ap (λ (n : ℕ). wordOctets (getD s n 0) ++ rest r) (let z : 4 * r ≡ 4 * r + 0 = omega arith in z)
             ∙ (λ j. at r l 0 (lit< tt) j ++ (at r l 1 (lit< tt) j ++ (at r l 2 (lit< tt) j ++ at r l 3 (lit< tt) j)));
       }
     where
@@ -259,14 +261,14 @@ module _ (key : List ℕ) (is : T (isKey (length key))) (small : Octets key) whe
       e = keyExpansion key
 
       rest : ℕ → List ℕ
-      rest r = four (getD s (4 * r + 1) 0) ++ (four (getD s (4 * r + 2) 0) ++ four (getD s (4 * r + 3) 0))
+      rest r = wordOctets (getD s (4 * r + 1) 0) ++ (wordOctets (getD s (4 * r + 2) 0) ++ wordOctets (getD s (4 * r + 3) 0))
 
       -- word k of round key r
       at : (r : ℕ) → r ≤ roundsOf key → (k : ℕ) → k < 4
-          → four (getD s (4 * r + k) 0)
+          → wordOctets (getD s (4 * r + k) 0)
           ≡ oct e (16 * r + (4 * k + 0)) ∷ oct e (16 * r + (4 * k + 1)) ∷ oct e (16 * r + (4 * k + 2)) ∷ oct e (16 * r + (4 * k + 3)) ∷ []
       at r l k c =
-          ap four (getD-set-other w 60 (4 * r + k) (nk + 6) 0 (omega arith)) ∙ g .same (4 * r + k) (omega arith)
+          ap wordOctets (getD-set-other w 60 (4 * r + k) (nk + 6) 0 (omega arith)) ∙ g .same (4 * r + k) (omega arith)
           ∙ (λ i. oct e (place 0 i) ∷ oct e (place 1 i) ∷ oct e (place 2 i) ∷ oct e (place 3 i) ∷ [])
         where
           place : (j : ℕ) → 4 * (4 * r + k) + j ≡ 16 * r + (4 * k + j)

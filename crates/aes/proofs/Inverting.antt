@@ -17,12 +17,12 @@ use Rattle.fips197.specs.Steps.{mixRow, invMixColumns}
 use Rattle.fips197.specs.Expansion.{keyExpansion}
 use Rattle.fips197.proofs.Expansion.{Sizes, sizes}
 use Rattle.fips197.proofs.Sbox.{sbox-octets, inv-sbox-octets, sbox-back}
-use Rattle.aes.specs.declared.State.{State}
+use Rattle.aes.specs.declared.AesState.{AesState}
 use Rattle.aes.specs.inner.Word.{b0, b1, b2, b3, lastColumnOf}
 use Rattle.aes.specs.inner.Tables.{decipherTables}
-use Rattle.aes.specs.inner.Rounds.{blockOf, keyOf, swappedOf}
+use Rattle.aes.specs.inner.Rounds.{stateOctets, roundKeyOf, swappedOf}
 use Rattle.aes.specs.inner.Inverse.{unmixedOf, sourceOf, inverseWordOf}
-use Rattle.aes.specs.inner.Schedule.{Blank, Expands, ExpandsInverse}
+use Rattle.aes.specs.inner.Schedule.{ZeroWords, Expands, ExpandsInverse}
 use Rattle.aes.proofs.Bytes.{Bytes, column, last-column, b0-lt, b1-lt, b2-lt, b3-lt}
 use Rattle.aes.proofs.Held.{decipher-mixing, decipher-sbox}
 use Rattle.aes.proofs.Running.{state}
@@ -73,7 +73,7 @@ module _ {t : List ℕ} (e : t ≡ decipherTables) (x : ℕ) where
 -- ---- the round keys
 
 module _ {key t w k : List ℕ} (e : t ≡ decipherTables) (x : Expands key w) (n j : ℕ) (nr : n ≡ roundsOf key) (all : 4 * (n + 1) ≤ j)
-    (end : j ≤ 4 * (n + 1)) (f : Filled 61 (inverseWordOf t w n) k j) (zeros : Blank k j 61) where
+    (end : j ≤ 4 * (n + 1)) (f : Filled 61 (inverseWordOf t w n) k j) (zeros : ZeroWords k j 61) where
   s : List ℕ
   s = set k 60 n
 
@@ -110,7 +110,7 @@ module _ {key t w k : List ℕ} (e : t ≡ decipherTables) (x : Expands key w) (
   bare : (l : List ℕ) (r : ℕ) → getD l (4 * r) 0 ≡ getD l (4 * r + 0) 0
   bare l r = ap (λ (i : ℕ). getD l i 0) (let z : 4 * r ≡ 4 * r + 0 = omega arith in z)
 
-  end-key : (r : ℕ) → r ≤ n → ((r ≡ 0) ⊎ (r ≡ n)) → swappedOf (keyOf s r) ≡ keyOf w (n - r)
+  end-key : (r : ℕ) → r ≤ n → ((r ≡ 0) ⊎ (r ≡ n)) → swappedOf (roundKeyOf s r) ≡ roundKeyOf w (n - r)
   end-key r h c =
       λ i. record {
         a = (bare s r ∙ end-word r 0 h (lit< tt) c ∙ sym (bare w (n - r))) i;
@@ -119,11 +119,11 @@ module _ {key t w k : List ℕ} (e : t ≡ decipherTables) (x : Expands key w) (
         d = end-word r 1 h (lit< tt) c i;
       }
 
-  mid-key : (r : ℕ) → 0 < r → r < n → blockOf (swappedOf (keyOf s r)) ≡ invMixColumns (blockOf (keyOf w (n - r)))
+  mid-key : (r : ℕ) → 0 < r → r < n → stateOctets (swappedOf (roundKeyOf s r)) ≡ invMixColumns (stateOctets (roundKeyOf w (n - r)))
   mid-key r g h =
-      let q : State = keyOf w (n - r) in
-      ap blockOf
-      (let z : swappedOf (keyOf s r)
+      let q : AesState = roundKeyOf w (n - r) in
+      ap stateOctets
+      (let z : swappedOf (roundKeyOf s r)
       ≡ record { a = unmixedOf t (q .a); b = unmixedOf t (q .b); c = unmixedOf t (q .c); d = unmixedOf t (q .d) } =
       λ i. record {
         a = (bare s r ∙ mid-word r 0 g h (lit< tt) ∙ ap (unmixedOf t) (sym (bare w (n - r)))) i;
@@ -142,11 +142,12 @@ module _ {key t w k : List ℕ} (e : t ≡ decipherTables) (x : Expands key w) (
         size = length-set k 60 n ∙ f .size;
         unused = λ i l m. getD-set-other k 60 i n 0 (omega arith) ∙ zeros i (omega arith) (omega arith);
         rounds = getD-set-same k 60 n 0 (omega (arith, f .size)) ∙ nr;
-        first = ap blockOf (end-key 0 (omega arith) (inl refl))
-            ∙ ap (λ (i : ℕ). blockOf (keyOf w i)) (let z : n - 0 ≡ roundsOf key = omega arith in z)
+        first = ap stateOctets (end-key 0 (omega arith) (inl refl))
+            ∙ ap (λ (i : ℕ). stateOctets (roundKeyOf w i)) (let z : n - 0 ≡ roundsOf key = omega arith in z)
             ∙ x .keys (roundsOf key) (omega arith);
         between = λ r g h. mid-key r g (omega arith)
-            ∙ ap (λ (i : ℕ). invMixColumns (blockOf (keyOf w (i - r)))) nr ∙ ap invMixColumns (x .keys (roundsOf key - r) (omega arith));
-        last = ap (λ (i : ℕ). blockOf (swappedOf (keyOf s i))) (sym nr) ∙ ap blockOf (end-key n (omega arith) (inr refl))
-            ∙ ap (λ (i : ℕ). blockOf (keyOf w i)) (let z : n - n ≡ 0 = omega arith in z) ∙ x .keys 0 (omega arith);
+            ∙ ap (λ (i : ℕ). invMixColumns (stateOctets (roundKeyOf w (i - r)))) nr
+            ∙ ap invMixColumns (x .keys (roundsOf key - r) (omega arith));
+        last = ap (λ (i : ℕ). stateOctets (swappedOf (roundKeyOf s i))) (sym nr) ∙ ap stateOctets (end-key n (omega arith) (inr refl))
+            ∙ ap (λ (i : ℕ). stateOctets (roundKeyOf w i)) (let z : n - n ≡ 0 = omega arith in z) ∙ x .keys 0 (omega arith);
       }

@@ -13,10 +13,10 @@ ghost use Rattle.fips197.specs.Key.{isKey};
 ghost use Rattle.fips197.specs.Field.{xtimes};
 ghost use Rattle.fips197.specs.Sbox.{sbox};
 ghost use Rattle.fips197.specs.Expansion.{word, temp};
-ghost use Rattle.aes.specs.inner.Word.{four};
+ghost use Rattle.aes.specs.inner.Word.{wordOctets};
 ghost use Rattle.aes.specs.inner.Tables.{Boxed, decipherTables};
 ghost use Rattle.aes.specs.inner.Schedule.{Expands, ExpandsInverse};
-ghost use Rattle.aes.specs.inner.Expanding.{Grown, Placed};
+ghost use Rattle.aes.specs.inner.Expanding.{ExpandedTo, Placed};
 ghost use Rattle.aes.specs.inner.Inverse.{unmixedOf, inverseWordOf};
 use crate::SCHEDULE_WORDS;
 
@@ -28,33 +28,33 @@ fn times2(x: u8) -> u8
 }
 
 // Where the word that comes next stands: which word of its Nk words it is, and the first octet of its Rcon.
-pub(crate) struct Place {
+pub(crate) struct WordPlace {
     pub word: usize,
     pub constant: u8,
 }
 
 // The place of the word behind.
-fn next_place(p: Place, nk: usize) -> Place
+fn next_place(p: WordPlace, nk: usize) -> WordPlace
     requires { ⌜ p .word < nk ⌝ }
     ensures { λ r. ⌜ ((i : ℕ) → nk ≤ i → Placed nk i p → Placed nk (i + 1) r) ⌝ }
 {
     let word = p.word + 1;
     if word < nk {
-        return Place {
+        return WordPlace {
             word,
             constant: p.constant,
         };
     }
-    Place {
+    WordPlace {
         word: 0,
         constant: times2(p.constant),
     }
 }
 
 // temp, from the word before.
-fn temp_at(t: &[u32], at: usize, nk: usize, p: Place, x: u32) -> u32
+fn temp_at(t: &[u32], at: usize, nk: usize, p: WordPlace, x: u32) -> u32
     requires { ⌜ (at + 256 ≤ length (now t)) × Boxed sbox (now t) at ⌝ }
-    ensures { λ r. ⌜ ((w : List ℕ) (i : ℕ) → Placed nk i p → four x ≡ word w (i - 1) → four r ≡ temp nk w i) ⌝ }
+    ensures { λ r. ⌜ ((w : List ℕ) (i : ℕ) → Placed nk i p → wordOctets x ≡ word w (i - 1) → wordOctets r ≡ temp nk w i) ⌝ }
 {
     if p.word == 0 {
         let y = rotated24(x);
@@ -72,7 +72,7 @@ fn temp_at(t: &[u32], at: usize, nk: usize, p: Place, x: u32) -> u32
 // The words of the key, and zeros behind them.
 fn key_words(key: &[u8]) -> [u32; SCHEDULE_WORDS]
     requires { ⌜ T (isKey (length (now key))) ⌝ }
-    ensures { λ r. ⌜ Grown (now (key .entry)) r (length (now (key .entry)) / 4) ⌝ }
+    ensures { λ r. ⌜ ExpandedTo (now (key .entry)) r (length (now (key .entry)) / 4) ⌝ }
 {
     let nk = key.len() / 4;
     let mut w = [0u32; SCHEDULE_WORDS];
@@ -85,14 +85,14 @@ fn key_words(key: &[u8]) -> [u32; SCHEDULE_WORDS]
 }
 
 // The round keys' words, and the number of rounds behind them.
-pub fn expanded(t: &[u32], at: usize, key: &[u8]) -> [u32; SCHEDULE_WORDS]
+pub fn expand_words(t: &[u32], at: usize, key: &[u8]) -> [u32; SCHEDULE_WORDS]
     requires { ⌜ (at + 256 ≤ length (now t)) × Boxed sbox (now t) at ⌝ }
     requires { ⌜ T (isKey (length (now key))) ⌝ }
     ensures { λ r. ⌜ Expands (now (key .entry)) r ⌝ }
 {
     let nk = key.len() / 4;
     let mut w = key_words(key);
-    let mut p = Place {
+    let mut p = WordPlace {
         word: 0,
         constant: 1,
     };
@@ -107,7 +107,7 @@ pub fn expanded(t: &[u32], at: usize, key: &[u8]) -> [u32; SCHEDULE_WORDS]
 }
 
 // INVMIXCOLUMNS() of a word: the combined table has it of INVSBOX(), so SBOX() comes first.
-fn unmixed(t: &[u32], x: u32) -> u32
+fn unmix(t: &[u32], x: u32) -> u32
     requires { ⌜ 768 ≤ length (now t) ⌝ }
     ensures { λ r. ⌜ r ≡ unmixedOf (now (t .entry)) x ⌝ }
 {
@@ -125,7 +125,7 @@ fn inverse_word(t: &[u32], w: &[u32; SCHEDULE_WORDS], n: usize, j: usize) -> u32
         return x;
     }
     if j < 4 * n {
-        return unmixed(t, x);
+        return unmix(t, x);
     }
     x
 }
@@ -136,7 +136,7 @@ pub fn expanded_inverse(t: &[u32], key: &[u8]) -> [u32; SCHEDULE_WORDS]
     requires { ⌜ T (isKey (length (now key))) ⌝ }
     ensures { λ r. ⌜ ExpandsInverse (now (key .entry)) r ⌝ }
 {
-    let w = expanded(t, 512, key);
+    let w = expand_words(t, 512, key);
     let n = key.len() / 4 + 6;
     let mut k = [0u32; SCHEDULE_WORDS];
     let mut j = 0;

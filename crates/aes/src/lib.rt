@@ -10,7 +10,7 @@ ghost use Rattle.fips197.specs.Key.{isKey, roundsOf};
 ghost use Rattle.fips197.specs.Expansion.{keyExpansion, word};
 ghost use Rattle.fips197.specs.Cipher.{cipher, invCipher};
 ghost use Rattle.aes.specs.inner.Tables.{encipherTables, decipherTables};
-ghost use Rattle.aes.specs.inner.Rounds.{blockOf, keyOf, swappedOf};
+ghost use Rattle.aes.specs.inner.Rounds.{stateOctets, roundKeyOf, swappedOf};
 ghost use Rattle.aes.specs.inner.Schedule.{Expands, ExpandsInverse, Expanded, ExpandedInverse};
 
 mod expansion;
@@ -18,15 +18,15 @@ mod lookup;
 mod rounds;
 mod words;
 
-use expansion::expanded;
+use expansion::expand_words;
 use expansion::expanded_inverse;
 use lookup::decipher_tables;
 use lookup::encipher_tables;
 use rounds::load;
+use rounds::reverse_columns;
 use rounds::run;
 use rounds::split;
 use rounds::store;
-use rounds::swapped;
 use rounds::unite;
 use words::apart;
 
@@ -39,7 +39,7 @@ pub const INVERSE_TABLE_WORDS: usize = 768;
 pub const SCHEDULE_WORDS: usize = 61;
 
 // The state: a word for each column, the first octet highest.
-pub struct State {
+pub struct AesState {
     pub a: u32,
     pub b: u32,
     pub c: u32,
@@ -82,7 +82,7 @@ pub fn expand(tables: &[u32; TABLE_WORDS], key: &[u8]) -> Schedule
     requires { ⌜ T (isKey (length (now key))) ⌝ }
     ensures { λ r. ⌜ Expands (now (key .entry)) (r .words) ⌝ }
 {
-    let words = expanded(tables, 256, key);
+    let words = expand_words(tables, 256, key);
     Schedule { words }
 }
 
@@ -134,7 +134,7 @@ pub fn decrypt(
     requires { ⌜ ExpandedInverse (now schedule) ⌝ }
     ensures { λ r. ⌜ ((key : List ℕ) → ExpandsInverse key (now (schedule .entry)) → r ≡ invCipher key block) ⌝ }
 {
-    store(swapped(run(tables, schedule, swapped(load(block)))))
+    store(reverse_columns(run(tables, schedule, reverse_columns(load(block)))))
 }
 
 // INVCIPHER() of the block of two numbers. Internal.
@@ -149,7 +149,7 @@ pub fn decrypt_pair(
     ensures { λ r. ⌜ ((key : List ℕ) → ExpandsInverse key (now (schedule .entry)) →
         octetsOf 8 (r .hi) ++ octetsOf 8 (r .lo) ≡ invCipher key (octetsOf 8 hi ++ octetsOf 8 lo)) ⌝ }
 {
-    unite(swapped(run(tables, schedule, swapped(split(hi, lo)))))
+    unite(reverse_columns(run(tables, schedule, reverse_columns(split(hi, lo)))))
 }
 
 // The last word of the expanded key. Internal.
@@ -166,10 +166,10 @@ pub fn last_word(schedule: Schedule) -> [u8; 4]
 // Round key r of the equivalent inverse cipher, its columns in the block's order. Internal.
 pub fn inverse_round_key(schedule: &[u32; SCHEDULE_WORDS], r: usize) -> [u8; 16]
     requires { ⌜ r < 15 ⌝ }
-    ensures { λ x. ⌜ x ≡ blockOf (swappedOf (keyOf (now (schedule .entry)) r)) ⌝ }
+    ensures { λ x. ⌜ x ≡ stateOctets (swappedOf (roundKeyOf (now (schedule .entry)) r)) ⌝ }
 {
     let at = 4 * r;
-    store(State {
+    store(AesState {
         a: schedule[at],
         b: schedule[at + 3],
         c: schedule[at + 2],

@@ -1,6 +1,6 @@
 // The rounds, on a state of four words. Internal, all of it.
+use crate::AesState;
 use crate::Pair;
-use crate::State;
 use crate::words::apart;
 use crate::words::column;
 use crate::words::join;
@@ -8,13 +8,13 @@ use crate::words::last_column;
 ghost use mathlib.Core.Path.{_≡_};
 ghost use Prim.Native.Nat.{_<_, _≤_};
 ghost use lib.ListN.{length, getD};
-ghost use Rattle.aes.specs.inner.Rounds.{blockOf, loadOf, splitOf, uniteOf, swappedOf, startOf, roundOf, lastRoundOf, runOf};
+ghost use Rattle.aes.specs.inner.Rounds.{stateOctets, loadOf, splitOf, uniteOf, swappedOf, addFirstKey, roundOf, lastRoundOf, runOf};
 use crate::SCHEDULE_WORDS;
 
-pub(crate) fn load(s: [u8; 16]) -> State
+pub(crate) fn load(s: [u8; 16]) -> AesState
     ensures { λ x. ⌜ x ≡ loadOf s ⌝ }
 {
-    State {
+    AesState {
         a: join(s[0], s[1], s[2], s[3]),
         b: join(s[4], s[5], s[6], s[7]),
         c: join(s[8], s[9], s[10], s[11]),
@@ -22,8 +22,8 @@ pub(crate) fn load(s: [u8; 16]) -> State
     }
 }
 
-pub(crate) fn store(s: State) -> [u8; 16]
-    ensures { λ r. ⌜ r ≡ blockOf s ⌝ }
+pub(crate) fn store(s: AesState) -> [u8; 16]
+    ensures { λ r. ⌜ r ≡ stateOctets s ⌝ }
 {
     let a = apart(s.a);
     let b = apart(s.b);
@@ -50,10 +50,10 @@ pub(crate) fn store(s: State) -> [u8; 16]
 }
 
 // The state of the block whose halves are two numbers.
-pub(crate) fn split(hi: u64, lo: u64) -> State
+pub(crate) fn split(hi: u64, lo: u64) -> AesState
     ensures { λ x. ⌜ x ≡ splitOf hi lo ⌝ }
 {
-    State {
+    AesState {
         a: ((hi >> 32) % 4294967296) as u32,
         b: (hi % 4294967296) as u32,
         c: ((lo >> 32) % 4294967296) as u32,
@@ -61,7 +61,7 @@ pub(crate) fn split(hi: u64, lo: u64) -> State
     }
 }
 
-pub(crate) fn unite(s: State) -> Pair
+pub(crate) fn unite(s: AesState) -> Pair
     ensures { λ x. ⌜ x ≡ uniteOf s ⌝ }
 {
     Pair {
@@ -71,10 +71,10 @@ pub(crate) fn unite(s: State) -> Pair
 }
 
 // The columns counted the other way round.
-pub(crate) fn swapped(s: State) -> State
+pub(crate) fn reverse_columns(s: AesState) -> AesState
     ensures { λ x. ⌜ x ≡ swappedOf s ⌝ }
 {
-    State {
+    AesState {
         a: s.a,
         b: s.d,
         c: s.c,
@@ -82,10 +82,10 @@ pub(crate) fn swapped(s: State) -> State
     }
 }
 
-fn start(k: &[u32; SCHEDULE_WORDS], s: State) -> State
-    ensures { λ x. ⌜ x ≡ startOf (now (k .entry)) s ⌝ }
+fn start(k: &[u32; SCHEDULE_WORDS], s: AesState) -> AesState
+    ensures { λ x. ⌜ x ≡ addFirstKey (now (k .entry)) s ⌝ }
 {
-    State {
+    AesState {
         a: s.a ^ k[0],
         b: s.b ^ k[1],
         c: s.c ^ k[2],
@@ -93,12 +93,12 @@ fn start(k: &[u32; SCHEDULE_WORDS], s: State) -> State
     }
 }
 
-fn round(t: &[u32], k: &[u32; SCHEDULE_WORDS], r: usize, s: State) -> State
+fn round(t: &[u32], k: &[u32; SCHEDULE_WORDS], r: usize, s: AesState) -> AesState
     requires { ⌜ (512 ≤ length (now t)) × (r < 15) ⌝ }
     ensures { λ x. ⌜ x ≡ roundOf (now (t .entry)) (now (k .entry)) r s ⌝ }
 {
     let at = 4 * r;
-    State {
+    AesState {
         a: column(t, s.a, s.b, s.c, s.d, k[at]),
         b: column(t, s.b, s.c, s.d, s.a, k[at + 1]),
         c: column(t, s.c, s.d, s.a, s.b, k[at + 2]),
@@ -106,12 +106,12 @@ fn round(t: &[u32], k: &[u32; SCHEDULE_WORDS], r: usize, s: State) -> State
     }
 }
 
-fn last(t: &[u32], k: &[u32; SCHEDULE_WORDS], r: usize, s: State) -> State
+fn last(t: &[u32], k: &[u32; SCHEDULE_WORDS], r: usize, s: AesState) -> AesState
     requires { ⌜ (512 ≤ length (now t)) × (r < 15) ⌝ }
     ensures { λ x. ⌜ x ≡ lastRoundOf (now (t .entry)) (now (k .entry)) r s ⌝ }
 {
     let at = 4 * r;
-    State {
+    AesState {
         a: last_column(t, 256, s.a, s.b, s.c, s.d, k[at]),
         b: last_column(t, 256, s.b, s.c, s.d, s.a, k[at + 1]),
         c: last_column(t, 256, s.c, s.d, s.a, s.b, k[at + 2]),
@@ -120,7 +120,7 @@ fn last(t: &[u32], k: &[u32; SCHEDULE_WORDS], r: usize, s: State) -> State
 }
 
 // All rounds over the schedule k.
-pub(crate) fn run(t: &[u32], k: &[u32; SCHEDULE_WORDS], s: State) -> State
+pub(crate) fn run(t: &[u32], k: &[u32; SCHEDULE_WORDS], s: AesState) -> AesState
     requires { ⌜ (512 ≤ length (now t)) × (1 ≤ getD (now k) 60 0) × (getD (now k) 60 0 < 15) ⌝ }
     ensures { λ x. ⌜ x ≡ runOf (now (t .entry)) (now (k .entry)) s ⌝ }
 {

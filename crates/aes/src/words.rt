@@ -2,7 +2,7 @@
 ghost use mathlib.Core.Path.{_≡_};
 ghost use Prim.Native.Nat.{_+_, _≤_};
 ghost use lib.ListN.{length};
-ghost use Rattle.aes.specs.inner.Word.{wordOf, four, ror8, ror16, ror24, columnOf, lastColumnOf};
+ghost use Rattle.aes.specs.inner.Word.{wordOf, wordOctets, ror8, ror16, ror24, columnOf, lastColumnOf};
 
 // The word of four octets.
 pub fn join(p: u8, q: u8, r: u8, t: u8) -> u32
@@ -13,7 +13,7 @@ pub fn join(p: u8, q: u8, r: u8, t: u8) -> u32
 
 // The octets of a word.
 pub fn apart(x: u32) -> [u8; 4]
-    ensures { λ r. ⌜ r ≡ four x ⌝ }
+    ensures { λ r. ⌜ r ≡ wordOctets x ⌝ }
 {
     [
         ((x >> 24) % 256) as u8,

@@ -11,11 +11,11 @@ use Rattle.octets.specs.Walk.{part}
 use Rattle.octets.specs.Compare.{same}
 use Rattle.state_keys.specs.Lists.{any}
 use Rattle.state_keys.proofs.Cases.{bool-cases}
-use Rattle.state_sa.specs.Entry.{esp, spiOf}
+use Rattle.state_sa.specs.Entry.{espProtocol, saSpi}
 use Rattle.state_sa.specs.declared.entry.Sa.{Sa}
 use Rattle.state_table.specs.declared.Table.{Table}
 use Rattle.wire_frames.specs.Delete.{Delete, deleteOf}
-use Rattle.wire_frames.specs.Frame.{payloads, exactly}
+use Rattle.wire_frames.specs.Frame.{payloads, nothingLeft}
 use Rattle.wire_readers.specs.inner.Values.{isWhole}
 use Rattle.wire_readers.specs.inner.Payloads.{payloadsIn}
 use Rattle.wire_readers.specs.declared.payload.PayloadParts.{PayloadParts}
@@ -55,8 +55,8 @@ module _ (now delay : ℕ) (before : Table) where
 
   named-join : (l m : List (List ℕ)) (a : Sa) → (namedIn l a || namedIn m a) ≡ namedIn (l ++ m) a
   named-join l m a =
-      let q : List ℕ → Bool = λ y. isZero y || same (spiOf a) y in
-      by (eqb (a .protocol) esp) (any q l) (any q m) (any q (l ++ m)) (any-join q l m)
+      let q : List ℕ → Bool = λ y. isZero y || same (saSpi a) y in
+      by (eqb (a .protocol) espProtocol) (any q l) (any q m) (any q (l ++ m)) (any-join q l m)
     where
       by : (e x y z : Bool) → z ≡ (x || y) → ((e && x) || (e && y)) ≡ (e && z)
       by true x y z g = sym g
@@ -103,7 +103,7 @@ module _ (s : List ℕ) (now delay : ℕ) (before : Table) where
     pub others : List Delete
     pub many : length others ≡ left
     pub inside : (left ≡ 0 → ⊥) → at ≤ length s
-    pub rest : (left ≡ 0 → ⊥) → isWhole (exactly (payloads kind 0 (drop at s))) ≡ true
+    pub rest : (left ≡ 0 → ⊥) → isWhole (nothingLeft (payloads kind 0 (drop at s))) ≡ true
     pub here : (left ≡ 0 → ⊥) → deletesAmong (payloadsIn kind (drop at s)) ≡ others
     pub so-far : Retires now delay before after others all
 

@@ -10,7 +10,7 @@ use Rattle.state_keys.specs.Limits.{limits}
 use Rattle.state_keys.proofs.Rising.{length-keep}
 use Rattle.wire_frames.specs.Delete.{Delete}
 use Rattle.wire_frames.specs.Frame.{Frame}
-use Rattle.state_sa.specs.Entry.{rekey, due}
+use Rattle.state_sa.specs.Entry.{rekeyProtocol, due}
 use Rattle.state_sa.specs.declared.entry.Sa.{Sa}
 use Rattle.state_table.specs.Table.{sasOf, tableOf, notDue, swept, retiredIf}
 use Rattle.state_table.specs.declared.Table.{Table}
@@ -21,7 +21,7 @@ use Rattle.state.specs.declared.least.Least.{Least}
 use Rattle.state.specs.declared.least.Least.the-variants.{Id}
 use Rattle.check_payloads.specs.inner.Deletion.{spisIn}
 use Rattle.rules_refusals.specs.Contents.{deletesOf}
-use Rattle.rules_refusals.specs.Number2.{standing}
+use Rattle.rules_refusals.specs.Number2.{notDueSas}
 use Rattle.rules_outcome.specs.After.{delayOf, newRekey, namedInDelete, replaced, oldSas, insertAll, leastBy, leastAfterwards}
 use Rattle.apply.specs.declared.next.Said.{Said}
 use Rattle.apply.specs.inner.Tables.{namedIn, outdated, retiredThere, AreDeletes}
@@ -50,7 +50,7 @@ same-test : (f : Frame) (new : Bool) → newRekey f ≡ new → (a : Sa) →
     (outdated new a || namedInDelete f a) ≡ (namedInDelete f a || replaced f a)
 unfolding replaced
 same-test f new e a =
-    or-swap (outdated new a) (namedInDelete f a) ∙ ap (λ (b : Bool). namedInDelete f a || (b && eqb (a .protocol) rekey)) (sym e)
+    or-swap (outdated new a) (namedInDelete f a) ∙ ap (λ (b : Bool). namedInDelete f a || (b && eqb (a .protocol) rekeyProtocol)) (sym e)
 
 -- the code's way to them: those that stand, with a new Rekey SA the old one retired, then retired by the frame's Delete payloads
 module _ (s : List ℕ) (now : ℕ) (x : Said) (t stand gone : Table) (h : t .count ≤ limits .sas)
@@ -72,17 +72,17 @@ module _ (s : List ℕ) (now : ℕ) (x : Said) (t stand gone : Table) (h : t .co
 
 -- ---- there is room for the new ones, and the table is that of these SAs
 module _ (m : State) (now : ℕ) (f : Frame) where
-  pub old-length : length (oldSas m now f) ≡ length (standing now m)
+  pub old-length : length (oldSas m now f) ≡ length (notDueSas now m)
   unfolding oldSas
-  old-length = length-map (standing now m) (retiredIf (λ (a : Sa). namedInDelete f a || replaced f a) now (delayOf f))
+  old-length = length-map (notDueSas now m) (retiredIf (λ (a : Sa). namedInDelete f a || replaced f a) now (delayOf f))
 
   pub old-made : (t : Table) → t ≡ tableOf limits (oldSas m now f) → t ≡ tableOf limits (sasOf t)
   old-made t e = e ∙ ap (tableOf limits) (sym (sas-of-table limits (oldSas m now f)) ∙ ap sasOf (sym e))
 
-  pub old-room : (t : Table) (n : ℕ) → t ≡ tableOf limits (oldSas m now f) → length (standing now m) + n ≤ limits .sas →
+  pub old-room : (t : Table) (n : ℕ) → t ≡ tableOf limits (oldSas m now f) → length (notDueSas now m) + n ≤ limits .sas →
       t .count + n ≤ limits .sas
   unfolding tableOf
-  old-room t n e h = let k : t .count ≡ length (standing now m) = ap (λ (x : Table). x .count) e ∙ old-length in omega arith
+  old-room t n e h = let k : t .count ≡ length (notDueSas now m) = ap (λ (x : Table). x .count) e ∙ old-length in omega arith
 
   pub entered-old : (t r : Table) (new : List Sa) → t ≡ tableOf limits (oldSas m now f) →
       r ≡ tableOf limits (insertAll new (sasOf t)) → r ≡ tableOf limits (insertAll new (oldSas m now f))

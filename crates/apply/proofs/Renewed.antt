@@ -10,7 +10,7 @@ use lib.ListN.{length, take, drop, getD, set, replicate}
 use Rattle.state_keys.specs.Lists.{keep}
 use Rattle.state_keys.proofs.Lists.{keep-yes, keep-no, keep-end}
 use Rattle.state_keys.proofs.Fill.{Filled, filled-none, filled-more, written-more}
-use Rattle.state_sa.specs.Entry.{rekey, retired}
+use Rattle.state_sa.specs.Entry.{rekeyProtocol, retired}
 use Rattle.state_sa.specs.declared.entry.Sa.{Sa}
 use Rattle.state_table.specs.Table.{retiredIf}
 use Rattle.apply.specs.inner.Tables.{outdated}
@@ -53,13 +53,13 @@ module _ {A : Type 0} (m : ℕ) (b : A) (p : A → Bool) (f : A → A) (l : List
 
 -- ---- the old Rekey SA
 module _ (now delay : ℕ) (s : Sa) where
-  pub left-old : s .protocol ≡ rekey → retired now delay s ≡ retiredIf (outdated true) now delay s
+  pub left-old : s .protocol ≡ rekeyProtocol → retired now delay s ≡ retiredIf (outdated true) now delay s
   unfolding retiredIf
-  left-old e = rw (eq-eqb (s .protocol) rekey e)
+  left-old e = rw (eq-eqb (s .protocol) rekeyProtocol e)
 
-  pub left-other : (s .protocol ≡ rekey → ⊥) → s ≡ retiredIf (outdated true) now delay s
+  pub left-other : (s .protocol ≡ rekeyProtocol → ⊥) → s ≡ retiredIf (outdated true) now delay s
   unfolding retiredIf
-  left-other e = rw (ne-eqb (s .protocol) rekey e)
+  left-other e = rw (ne-eqb (s .protocol) rekeyProtocol e)
 
   pub left-all : s ≡ retiredIf (outdated false) now delay s
   unfolding retiredIf

@@ -13,7 +13,7 @@ use Rattle.octets.specs.Compare.{same}
 use Rattle.state_keys.specs.Lists.{any}
 use Rattle.state_keys.specs.Limits.{limits}
 use Rattle.state_keys.proofs.Cases.{lt-cases}
-use Rattle.state_sa.specs.Entry.{esp, spiOf, named, retired}
+use Rattle.state_sa.specs.Entry.{espProtocol, saSpi, named, retired}
 use Rattle.state_sa.specs.declared.entry.Sa.{Sa}
 use Rattle.state_table.specs.Table.{tableOf, retiredIf}
 use Rattle.state_table.specs.declared.Table.{Table}
@@ -25,40 +25,40 @@ use Rattle.apply.proofs.Turns.{Turned, turned-twice, turned-none}
 -- ---- the search of an SPI that names an SA
 module _ (s : Sa) (l : List (List ℕ)) where
   abbrev names : List ℕ → Bool
-  names x = isZero x || same (spiOf s) x
+  names x = isZero x || same (saSpi s) x
 
-  pub other-named : (s .protocol ≡ esp → ⊥) → false ≡ namedIn l s
-  other-named e = rw (ne-eqb (s .protocol) esp e)
+  pub other-named : (s .protocol ≡ espProtocol → ⊥) → false ≡ namedIn l s
+  other-named e = rw (ne-eqb (s .protocol) espProtocol e)
 
-  module _ (e : s .protocol ≡ esp) (i : ℕ) where
+  module _ (e : s .protocol ≡ espProtocol) (i : ℕ) where
     -- none of the first i does
     abbrev pub NonePassed : Type 0
     NonePassed = any names l ≡ any names (drop i l)
 
     all-named : namedIn l s ≡ any names l
-    all-named = ap (λ (b : Bool). b && any names l) (eq-eqb (s .protocol) esp e)
+    all-named = ap (λ (b : Bool). b && any names l) (eq-eqb (s .protocol) espProtocol e)
 
     here : i < length l → any names (drop i l) ≡ (names (getD l i []) || any names (drop (i + 1) l))
     unfolding any
     here g = ap (any names) (drop-cons l i [] g) ∙ ap (λ (n : ℕ). names (getD l i []) || any names (drop n l)) (sym (add-one i))
 
-    by-spi : (x : List ℕ) → x ≡ getD l i [] → (b : Bool) → isZero x ≡ false → b ≡ named esp x s → b ≡ names (getD l i [])
+    by-spi : (x : List ℕ) → x ≡ getD l i [] → (b : Bool) → isZero x ≡ false → b ≡ named espProtocol x s → b ≡ names (getD l i [])
     unfolding named
     by-spi x q b z n =
-        n ∙ ap (λ (c : Bool). c && same (spiOf s) x) (eq-eqb (s .protocol) esp e) ∙ ap (λ (c : Bool). c || same (spiOf s) x) (sym z)
+        n ∙ ap (λ (c : Bool). c && same (saSpi s) x) (eq-eqb (s .protocol) espProtocol e) ∙ ap (λ (c : Bool). c || same (saSpi s) x) (sym z)
         ∙ ap names q
 
     found : i < length l → NonePassed → true ≡ names (getD l i []) → true ≡ namedIn l s
     found g w n = sym (all-named ∙ w ∙ here g ∙ ap (λ (b : Bool). b || any names (drop (i + 1) l)) (sym n))
 
     pub zero-named : (x : List ℕ) → x ≡ getD l i [] → i < length l → NonePassed → isZero x ≡ true → true ≡ namedIn l s
-    zero-named x q g w z = found g w (ap (λ (c : Bool). c || same (spiOf s) x) (sym z) ∙ ap names q)
+    zero-named x q g w z = found g w (ap (λ (c : Bool). c || same (saSpi s) x) (sym z) ∙ ap names q)
 
-    pub spi-named : (x : List ℕ) → x ≡ getD l i [] → i < length l → NonePassed → isZero x ≡ false → true ≡ named esp x s →
+    pub spi-named : (x : List ℕ) → x ≡ getD l i [] → i < length l → NonePassed → isZero x ≡ false → true ≡ named espProtocol x s →
         true ≡ namedIn l s
     spi-named x q g w z n = found g w (by-spi x q true z n)
 
-    pub spi-passed : (x : List ℕ) → x ≡ getD l i [] → i < length l → NonePassed → isZero x ≡ false → false ≡ named esp x s →
+    pub spi-passed : (x : List ℕ) → x ≡ getD l i [] → i < length l → NonePassed → isZero x ≡ false → false ≡ named espProtocol x s →
         any names l ≡ any names (drop (i + 1) l)
     spi-passed x q g w z n = w ∙ here g ∙ ap (λ (b : Bool). b || any names (drop (i + 1) l)) (sym (by-spi x q false z n))
 
@@ -70,7 +70,7 @@ module _ (s : Sa) (l : List (List ℕ)) where
 module _ (now delay : ℕ) where
   nobody : (s : Sa) → retiredIf (namedIn []) now delay s ≡ s
   unfolding retiredIf any
-  nobody s = by (eqb (s .protocol) esp)
+  nobody s = by (eqb (s .protocol) espProtocol)
     where
       by : (e : Bool) → cond (e && false) (retired now delay s) s ≡ s
       by true = refl

@@ -11,7 +11,7 @@ use Rattle.state_keys.specs.Lists.{insert}
 use Rattle.state_keys.specs.Limits.{Limits}
 use Rattle.state_keys.proofs.Parts.{part-cons, part-end, drop-replicate}
 use Rattle.state_keys.proofs.Rising.{length-insert}
-use Rattle.state_sa.specs.Entry.{before, retired, retiredBy, withCondition, blankSa}
+use Rattle.state_sa.specs.Entry.{saBefore, retired, retiredBy, withCondition, blankSa}
 use Rattle.state_sa.specs.declared.entry.Sa.{Sa}
 use Rattle.state_sa.specs.declared.entry.Condition.{Condition}
 use Rattle.state_sa.specs.declared.entry.Condition.the-variants.{Live, Retiring}
@@ -26,31 +26,31 @@ use Rattle.apply.specs.inner.Tables.{namedIn}
 length-all : (m l : List Sa) → length (insertAll m l) ≡ length m + length l
 unfolding insertAll
 length-all [] l = omega arith
-length-all (a ∷ m) l = length-insert before a (insertAll m l) ∙ ap (λ (n : ℕ). n + 1) (length-all m l) ∙ omega arith
+length-all (a ∷ m) l = length-insert saBefore a (insertAll m l) ∙ ap (λ (n : ℕ). n + 1) (length-all m l) ∙ omega arith
 
 module _ (limits : Limits) where
   entered-made : (a : Sa) (l : List Sa) → length l < limits .sas →
-      entered limits a (tableOf limits l) ≡ tableOf limits (insert before a l)
+      entered limits a (tableOf limits l) ≡ tableOf limits (insert saBefore a l)
   unfolding entered tableOf
   entered-made a l h = rw (lt-ltb (length l) (limits .sas) h, sas-of-table limits l) refl
 
   -- one that was put in its place among the first of an array
   pub enter-made : (sas : List Sa) (count : ℕ) (a : Sa) (l out : List Sa) → record { sas = sas; count = count } ≡ tableOf limits l →
-      length l < limits .sas → out ≡ insert before a (take count sas) ++ drop (count + 1) sas →
+      length l < limits .sas → out ≡ insert saBefore a (take count sas) ++ drop (count + 1) sas →
       record { sas = out; count = count + 1 } ≡ entered limits a (tableOf limits l)
   unfolding tableOf
   enter-made sas count a l out e h q =
       let b = replicate (limits .sas - length l) blankSa in
       let s : sas ≡ l ++ b = ap (λ (t : Table). t .sas) e in
       let c : count ≡ length l = ap (λ (t : Table). t .count) e in
-      let n = length-insert before a l in
+      let n = length-insert saBefore a l in
       let t : take count sas ≡ l = (λ i. take (c i) (s i)) ∙ take-append-seam l b in
-      let z : limits .sas - length l - 1 ≡ limits .sas - length (insert before a l) = omega arith in
-      let d : drop (count + 1) sas ≡ replicate (limits .sas - length (insert before a l)) blankSa =
+      let z : limits .sas - length l - 1 ≡ limits .sas - length (insert saBefore a l) = omega arith in
+      let d : drop (count + 1) sas ≡ replicate (limits .sas - length (insert saBefore a l)) blankSa =
       (λ i. drop (c i + 1) (s i)) ∙ drop-append-add l b 1 ∙ drop-replicate 1 (limits .sas - length l) blankSa
       ∙ ap (λ (m : ℕ). replicate m blankSa) z in
-      let k : count + 1 ≡ length (insert before a l) = omega arith in
-      (λ i. record { sas = (q ∙ ap₂ (λ (x y : List Sa). insert before a x ++ y) t d) i; count = k i }) ∙ sym (entered-made a l h)
+      let k : count + 1 ≡ length (insert saBefore a l) = omega arith in
+      (λ i. record { sas = (q ∙ ap₂ (λ (x y : List Sa). insert saBefore a x ++ y) t d) i; count = k i }) ∙ sym (entered-made a l h)
 
   -- the last of n new SAs have entered, those from a place on
   module _ (new : List Sa) (n : ℕ) (h : n ≤ length new) (l : List Sa) (room : length l + n ≤ limits .sas) where

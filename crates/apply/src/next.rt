@@ -8,10 +8,10 @@ ghost use Rattle.wire_frames.specs.Frame.{Frame};
 ghost use Rattle.state_table.specs.Table.{tableOf};
 ghost use Rattle.state.specs.declared.State.{State};
 ghost use Rattle.state.specs.declared.least.Least.the-variants.{Id};
-ghost use Rattle.rules_refusals.specs.Number2.{standing};
+ghost use Rattle.rules_refusals.specs.Number2.{notDueSas};
 ghost use Rattle.rules_outcome.specs.After.{oldSas, leastBy};
 ghost use Rattle.apply.specs.inner.Following.{Told, Follows};
-use crate::entering::entered_all;
+use crate::entering::enter_all;
 use crate::retiring::DeletesAt;
 use crate::retiring::retired_by_frame;
 use crate::standing::standing;
@@ -73,12 +73,12 @@ pub fn next(
     held: Held,
 ) -> State
     requires { ⌜ ((f : Frame) × Told (now s) x f) ⌝ }
-    requires { ⌜ (state .table .count ≤ limits .sas) × (length (standing tick state) + n ≤ limits .sas) ⌝ }
+    requires { ⌜ (state .table .count ≤ limits .sas) × (length (notDueSas tick state) + n ≤ limits .sas) ⌝ }
     ensures { λ r. ⌜ ((f : Frame) → Told (now (s .entry)) x f → Follows state tick f (take n new) held r) ⌝ }
 {
     let t = state.table;
     let old = old_sas(t, s, tick, x);
-    let table = entered_all(old, new, n);
+    let table = enter_all(old, new, n);
     let before = state.least;
     let least = least_by(x, before);
     State { table, held, least }

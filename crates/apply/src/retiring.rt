@@ -44,7 +44,7 @@ fn is_named(a: Sa, o: &[u8]) -> bool
             if is_zero(x) {
                 return true;
             }
-            if a.named(ESP, x) {
+            if a.is_named(ESP, x) {
                 return true;
             }
             i += 1;
@@ -54,7 +54,7 @@ fn is_named(a: Sa, o: &[u8]) -> bool
 }
 
 // The ESP SAs that the SPIs of a Delete payload's body name retire, in one pass over the table.
-fn retired_spis(t: Table, o: &[u8], tick: u32, delay: u16) -> Table
+fn retire_spis(t: Table, o: &[u8], tick: u32, delay: u16) -> Table
     requires { ⌜ deleteFits (now o) ≡ true ⌝ }
     ensures { λ r. ⌜ r ≡ retiredThere (namedIn (deleteOf (now (o .entry)) .spis)) tick delay t ⌝ }
 {
@@ -67,7 +67,7 @@ fn retired_spis(t: Table, o: &[u8], tick: u32, delay: u16) -> Table
     while i < n {
         let a = sas[i];
         if is_named(a, o) {
-            let b = a.retired(tick, delay);
+            let b = a.retire(tick, delay);
             sas[i] = b;
         }
         i += 1;
@@ -94,7 +94,7 @@ pub fn retired_by_frame(t: Table, s: &[u8], d: DeletesAt, tick: u32, delay: u16)
         let p = payload_parts(kind, &s[at..]);
         let e = at + p.end;
         if kind == DELETE {
-            out = retired_spis(out, &s[at + PAYLOAD_HEADER..e], tick, delay);
+            out = retire_spis(out, &s[at + PAYLOAD_HEADER..e], tick, delay);
             left -= 1;
         }
         kind = p.next;

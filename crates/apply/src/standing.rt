@@ -11,12 +11,12 @@ use state_sa::entry::Sa;
 use state_table::Table;
 
 // The SA as a new Rekey SA leaves it, if there is one.
-fn left(a: Sa, new: bool, tick: u32, delay: u16) -> Sa
+fn retire_old(a: Sa, new: bool, tick: u32, delay: u16) -> Sa
     ensures { λ r. ⌜ r ≡ retiredIf (outdated new) tick delay a ⌝ }
 {
     if new {
         if a.protocol == REKEY {
-            return a.retired(tick, delay);
+            return a.retire(tick, delay);
         }
     }
     a
@@ -34,7 +34,7 @@ pub fn standing(t: Table, new: bool, tick: u32, delay: u16) -> Table
     while i < n {
         let a = t.sas[i];
         if a.due(tick) {} else {
-            let b = left(a, new, tick, delay);
+            let b = retire_old(a, new, tick, delay);
             out[k] = b;
             k += 1;
         }

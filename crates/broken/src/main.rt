@@ -1,6 +1,6 @@
 // For tests: member values that break the list of what a member is. No line of input and no call of the library makes one. On each of them
-// `receive`, `sweep`, `leave` and `sa` are called, and what they give is printed, after a value that keeps the list. Before that stands what
-// the program's own comparison of members tells apart; last come frames over the member's own channel.
+// `receive`, `sweep`, `leave` and `sa` are called, and what they give is printed, after a value that keeps the list. Before that stands
+// what the program's own comparison of members tells apart; last come frames over the member's own channel.
 mod apart;
 mod same;
 mod values;

@@ -10,7 +10,7 @@ use Rattle.state_keys.specs.Limits.{Limits}
 use Rattle.state_keys.specs.Lists.{any, keep}
 use Rattle.state_keys.proofs.Cases.{lt-cases}
 use Rattle.state_keys.proofs.Parts.{part-cons, part-end}
-use Rattle.state_sa.specs.Entry.{rekey, named, liveRekey, due}
+use Rattle.state_sa.specs.Entry.{rekeyProtocol, named, liveRekey, due}
 use Rattle.state_sa.specs.declared.entry.Sa.{Sa}
 use Rattle.state_table.specs.declared.Table.{Table}
 use Rattle.state_table.specs.Table.{sasOf, notDue, emptyAt, tableFormed}
@@ -23,7 +23,7 @@ use Rattle.wire_frames.specs.declared.exchanges.Wanted.{Wanted}
 use Rattle.wire_frames.specs.declared.exchanges.Wanted.the-variants as wanted
 use Rattle.rules_refusals.specs.Number2.{breaksWanted, overLiveRekey, nonEmptyMember, otherSpis}
 use Rattle.rules_refusals.specs.Number3.{notAcceptable}
-use Rattle.rules_refusals.specs.Refusals.{two, three, one, applies}
+use Rattle.rules_refusals.specs.Refusals.{number2, number3, one, applies}
 use Rattle.check_admission.specs.inner.Steps.{isOver, barred}
 
 -- ---- one SA
@@ -32,7 +32,7 @@ module _ (now : ℕ) (spi : List ℕ) (s : Sa) where
   unfolding isOver
   over-due e = rw e
 
-  pub over-named : (r : Bool) → due now s ≡ false → liveRekey s ≡ true → r ≡ named rekey spi s → r ≡ isOver now spi s
+  pub over-named : (r : Bool) → due now s ≡ false → liveRekey s ≡ true → r ≡ named rekeyProtocol spi s → r ≡ isOver now spi s
   unfolding isOver
   over-named r e f g = rw (e, f) g
 
@@ -114,11 +114,11 @@ last-true false false false = refl
 
 module _ (limits : Limits) (s : State) (now : ℕ) (x : ℕ) (spi : List ℕ) where
   pub two-formed : (r : Bool) → stateFormed limits s ≡ true → r ≡ barred limits (s .table) (exchangeOf x) spi now →
-      r ≡ applies (two limits s now x spi)
+      r ≡ applies (number2 limits s now x spi)
   unfolding barred one nonEmptyMember otherSpis
   two-formed r e f = rw (e, or-false, or-false) f
 
-  pub two-broken : stateFormed limits s ≡ false → true ≡ applies (two limits s now x spi)
+  pub two-broken : stateFormed limits s ≡ false → true ≡ applies (number2 limits s now x spi)
   unfolding one
   two-broken e =
       rw e (last-true (not ((exchangeOf x) .admitted)) (nonEmptyMember limits s now x) (otherSpis s now x spi))
@@ -134,10 +134,10 @@ module _ (limits : Limits) (s : State) (now : ℕ) (x : ℕ) (spi : List ℕ) wh
 -- ---- number 3
 module _ (s : State) (x id : ℕ) where
   pub three-judged : (r : Bool) → (exchangeOf x) .«compares_message_id» ≡ true → r ≡ not (acceptable id (s .least)) →
-      r ≡ applies (three s x id)
+      r ≡ applies (number3 s x id)
   unfolding one notAcceptable
   three-judged r e f = rw (e, or-false) f
 
-  pub three-not : (exchangeOf x) .«compares_message_id» ≡ false → false ≡ applies (three s x id)
+  pub three-not : (exchangeOf x) .«compares_message_id» ≡ false → false ≡ applies (number3 s x id)
   unfolding one notAcceptable
   three-not e = rw e

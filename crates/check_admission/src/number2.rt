@@ -5,7 +5,7 @@ ghost use Rattle.state_keys.specs.Limits.{limits};
 ghost use Rattle.state_keys.specs.Lists.{any};
 ghost use Rattle.state_table.specs.Table.{sasOf, notDue, emptyAt};
 ghost use Rattle.rules_refusals.specs.Number2.{breaksWanted, overLiveRekey};
-ghost use Rattle.rules_refusals.specs.Refusals.{two, applies};
+ghost use Rattle.rules_refusals.specs.Refusals.{number2, applies};
 ghost use Rattle.check_admission.specs.inner.Steps.{isOver, barred};
 use state::State;
 use state_sa::entry::REKEY;
@@ -22,7 +22,7 @@ fn is_over(s: Sa, spi: &[u8], tick: u32) -> bool
         return false;
     }
     if s.is_live_rekey() {
-        return s.named(REKEY, spi);
+        return s.is_named(REKEY, spi);
     }
     false
 }
@@ -83,9 +83,9 @@ fn is_barred(t: Table, x: Exchange, spi: &[u8], tick: u32) -> bool
 
 // Whether number 2 applies to a frame of this exchange type and these two SPIs. Internal.
 pub fn number_2(state: State, exchange: usize, spi: &[u8], tick: u32) -> bool
-    ensures { λ r. ⌜ r ≡ applies (two limits state tick exchange (now (spi .entry))) ⌝ }
+    ensures { λ r. ⌜ r ≡ applies (number2 limits state tick exchange (now (spi .entry))) ⌝ }
 {
-    if state.formed() {
+    if state.is_formed() {
         let t = state.table;
         let x = wire_frames::exchanges::exchange_of(exchange);
         return is_barred(t, x, spi, tick);

@@ -1,11 +1,11 @@
 // Number 3: a Message ID that is not acceptable any more.
 ghost use mathlib.Core.Path.{_≡_};
-ghost use Rattle.rules_refusals.specs.Refusals.{three, applies};
+ghost use Rattle.rules_refusals.specs.Refusals.{number3, applies};
 use state::State;
 
 // Whether number 3 applies to a frame of this exchange type and Message ID. Internal.
 pub fn number_3(state: State, exchange: usize, id: u32) -> bool
-    ensures { λ r. ⌜ r ≡ applies (three state exchange id) ⌝ }
+    ensures { λ r. ⌜ r ≡ applies (number3 state exchange id) ⌝ }
 {
     let x = wire_frames::exchanges::exchange_of(exchange);
     if x.compares_message_id {

@@ -10,7 +10,7 @@ use Rattle.octets.specs.Numbers.{oct}
 use Rattle.octets.specs.Walk.{be16, part, Reading}
 use Rattle.octets.proofs.Walks.{tail, to-end, many-none}
 use Rattle.wire_attributes.specs.Layout.{attributes}
-use Rattle.wire_policies.specs.Policy.{headSize, spiOf}
+use Rattle.wire_policies.specs.Policy.{headSize, headSpi}
 use Rattle.wire_bags.specs.Bag.{Bag, placeOf, bag, bags}
 use Rattle.wire_bags.proofs.BagLaws.{takes}
 use Rattle.wire_readers.specs.inner.Values.{isWhole, itemsOf, attributesIn}
@@ -39,9 +39,9 @@ pub record BagAt (k : List ℕ) (at : ℕ) (r : Parts) : Type 0 where
   pub some : 4 ≤ r .body
   pub order : r .body ≤ r .end
   pub inside : at + r .end ≤ length k
-  pub spi : part k (at + 4) (at + r .body) ≡ spiOf (drop at k)
+  pub spi : part k (at + 4) (at + r .body) ≡ headSpi (drop at k)
   pub item : bagsIn (drop at k)
-      ≡ bagWith (r .first) (spiOf (drop at k)) (attributesIn (placeOf (r .first)) (part k (at + r .body) (at + r .end)))
+      ≡ bagWith (r .first) (headSpi (drop at k)) (attributesIn (placeOf (r .first)) (part k (at + r .body) (at + r .end)))
       ∷ bagsIn (drop (at + r .end) k)
   pub held : isWhole (attributes (placeOf (r .first)) 0 (part k (at + r .body) (at + r .end))) ≡ true
   pub rest : isWhole (bags 0 (drop (at + r .end) k)) ≡ true
@@ -62,7 +62,7 @@ bag-at k at r h b =
       spi = sym (part-within k at 4 (r .body)) ∙ ap (part (drop at k) 4) (c .head .body);
       item =
           c .item
-          ∙ (λ i. bagWith (sym f i) (spiOf (drop at k)) (attributesIn (placeOf (r .first)) (q i)) ∷ bagsIn (d i));
+          ∙ (λ i. bagWith (sym f i) (headSpi (drop at k)) (attributesIn (placeOf (r .first)) (q i)) ∷ bagsIn (d i));
       held = (λ i. isWhole (attributes (placeOf (r .first)) 0 (sym q i))) ∙ c .held;
       rest = (λ i. isWhole (bags 0 (sym d i))) ∙ c .rest;
     }

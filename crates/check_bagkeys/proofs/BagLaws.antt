@@ -25,14 +25,14 @@ use Rattle.rules_refusals.specs.Contents.{gather, groupBagOf, memberBagOf}
 use Rattle.rules_refusals.specs.Number6.{underItself}
 use Rattle.rules_refusals.proofs.Gather.{any-append}
 use Rattle.rules_refusals.proofs.OneOf.{or-false, or-joined}
-use Rattle.check_bagkeys.specs.inner.Facts.{keyFactsOf, ofGroup, ofMember, ofBag, bagWith, noBags, together, wrapsIn, factsOf}
+use Rattle.check_bagkeys.specs.inner.Facts.{keyFactsOf, ofGroup, ofMember, ofBag, bagWith, noBags, mergeBagFacts, wrapsIn, bagFactsOf}
 use Rattle.check_bagkeys.specs.declared.wrapped.KeyFacts.{KeyFacts}
 use Rattle.check_bagkeys.specs.declared.BagFacts.{BagFacts}
 use Rattle.check_bagkeys.proofs.BagAt.{BagAt, no-bags}
 use Rattle.check_bagkeys.proofs.KeyLaws.{sa-keys-are, wrap-keys-are}
 
 -- ---- facts add up
-from-none : (f : BagFacts) → together noBags f ≡ f
+from-none : (f : BagFacts) → mergeBagFacts noBags f ≡ f
 from-none f =
     let m : 0 + f .members ≡ f .members = omega arith in
     let w : 0 + f .wraps ≡ f .wraps = omega arith in
@@ -50,7 +50,7 @@ from-none f =
       «esp_with_kwk_id» = f .«esp_with_kwk_id»;
     }
 
-none-left : (limits : Limits) (f : BagFacts) → together f (factsOf limits []) ≡ f
+none-left : (limits : Limits) (f : BagFacts) → mergeBagFacts f (bagFactsOf limits []) ≡ f
 unfolding any gather
 none-left limits f =
     let m : f .members + 0 ≡ f .members = omega arith in
@@ -69,7 +69,7 @@ none-left limits f =
       «esp_with_kwk_id» = or-false (f .«esp_with_kwk_id») i;
     }
 
-joined : (a b c : BagFacts) → together a (together b c) ≡ together (together a b) c
+joined : (a b c : BagFacts) → mergeBagFacts a (mergeBagFacts b c) ≡ mergeBagFacts (mergeBagFacts a b) c
 joined a b c =
     let m : a .members + (b .members + c .members) ≡ a .members + b .members + c .members = omega arith in
     let w : a .wraps + (b .wraps + c .wraps) ≡ a .wraps + b .wraps + c .wraps = omega arith in
@@ -88,10 +88,10 @@ joined a b c =
     }
 
 -- the first bag, and the others
-one-more : (limits : Limits) (b : Bag) (l : List Bag) → factsOf limits (b ∷ l) ≡ together (ofBag limits b) (factsOf limits l)
+one-more : (limits : Limits) (b : Bag) (l : List Bag) → bagFactsOf limits (b ∷ l) ≡ mergeBagFacts (ofBag limits b) (bagFactsOf limits l)
 unfolding any gather
 one-more limits (groupKeys b) l =
-    let f = factsOf limits (groupKeys b ∷ l) in
+    let f = bagFactsOf limits (groupKeys b ∷ l) in
     let m : length (gather memberBagOf l) ≡ 0 + length (gather memberBagOf l) = omega arith in
     let w : length (wrapsIn l) ≡ 0 + length (wrapsIn l) = omega arith in
     λ i. record {
@@ -108,7 +108,7 @@ one-more limits (groupKeys b) l =
       «esp_with_kwk_id» = f .«esp_with_kwk_id»;
     }
 one-more limits (memberKeys b) l =
-    let f = factsOf limits (memberKeys b ∷ l) in
+    let f = bagFactsOf limits (memberKeys b ∷ l) in
     let m : length (gather memberBagOf (memberKeys b ∷ l)) ≡ 1 + length (gather memberBagOf l) = omega arith in
     λ i. record {
       members = m i;
@@ -167,7 +167,7 @@ module _ (limits : Limits) (k : List ℕ) where
     pub fewWraps : f .wraps ≤ at
     pub inside : at ≤ length k
     pub rest : isWhole (bags 0 (drop at k)) ≡ true
-    pub so-far : together f (factsOf limits (bagsIn (drop at k))) ≡ factsOf limits (bagsIn k)
+    pub so-far : mergeBagFacts f (bagFactsOf limits (bagsIn (drop at k))) ≡ bagFactsOf limits (bagsIn k)
 
   pub bags-start : isWhole (bags 0 k) ≡ true → (f : BagFacts) → f ≡ noBags → BagWalk f 0
   bags-start e f q = record {
@@ -175,13 +175,13 @@ module _ (limits : Limits) (k : List ℕ) where
     fewWraps = omega (arith, ap (λ (x : BagFacts). x .wraps) q);
     inside = omega arith;
     rest = e;
-    so-far = ap (λ (x : BagFacts). together x (factsOf limits (bagsIn k))) q ∙ from-none (factsOf limits (bagsIn k));
+    so-far = ap (λ (x : BagFacts). mergeBagFacts x (bagFactsOf limits (bagsIn k))) q ∙ from-none (bagFactsOf limits (bagsIn k));
   }
 
   module _ (f : BagFacts) (at : ℕ) (w : BagWalk f at) where
-    pub bags-end : length k ≤ at → f ≡ factsOf limits (bagsIn k)
+    pub bags-end : length k ≤ at → f ≡ bagFactsOf limits (bagsIn k)
     bags-end h =
-        sym (none-left limits f) ∙ ap (λ (l : List Bag). together f (factsOf limits l)) (sym (no-bags k at h)) ∙ w .so-far
+        sym (none-left limits f) ∙ ap (λ (l : List Bag). mergeBagFacts f (bagFactsOf limits l)) (sym (no-bags k at h)) ∙ w .so-far
 
     module _ (r : Parts) (b : BagAt k at r) (o : BagFacts) (h : IsOfBag limits (r .first) (part k (at + r .body) (at + r .end)) o) where
       held-few : (f .members + o .members ≤ at + r .end) × (f .wraps + o .wraps ≤ at + r .end)
@@ -192,17 +192,17 @@ module _ (limits : Limits) (k : List ℕ) where
       pub bags-room : (f .members + o .members ≤ length k) × (f .wraps + o .wraps ≤ length k)
       bags-room = (omega (arith, held-few .0, b .inside), omega (arith, held-few .1, b .inside))
 
-      pub bags-next : (g : BagFacts) → g ≡ together f o → BagWalk g (at + r .end)
+      pub bags-next : (g : BagFacts) → g ≡ mergeBagFacts f o → BagWalk g (at + r .end)
       bags-next g q =
-          let after = factsOf limits (bagsIn (drop (at + r .end) k)) in
+          let after = bagFactsOf limits (bagsIn (drop (at + r .end) k)) in
           record {
             few = omega (arith, ap (λ (x : BagFacts). x .members) q, held-few .0);
             fewWraps = omega (arith, ap (λ (x : BagFacts). x .wraps) q, held-few .1);
             inside = b .inside;
             rest = b .rest;
             so-far =
-                ap (λ (x : BagFacts). together x after) q ∙ sym (joined f o after)
-                ∙ ap (λ (x : BagFacts). together f (together x after)) (h .0 _)
-                ∙ ap (together f) (sym (one-more limits _ (bagsIn (drop (at + r .end) k))))
-                ∙ ap (λ (l : List Bag). together f (factsOf limits l)) (sym (b .item)) ∙ w .so-far;
+                ap (λ (x : BagFacts). mergeBagFacts x after) q ∙ sym (joined f o after)
+                ∙ ap (λ (x : BagFacts). mergeBagFacts f (mergeBagFacts x after)) (h .0 _)
+                ∙ ap (mergeBagFacts f) (sym (one-more limits _ (bagsIn (drop (at + r .end) k))))
+                ∙ ap (λ (l : List Bag). mergeBagFacts f (bagFactsOf limits l)) (sym (b .item)) ∙ w .so-far;
           }

@@ -12,10 +12,10 @@ use Rattle.wire_attributes.specs.Tree.{SaKey, WrapKey, saKeyOf, wrapKeyOf}
 use Rattle.wire_attributes.specs.Layout.{attributes}
 use Rattle.wire_attributes.specs.declared.tables.Place.{Place}
 use Rattle.wire_attributes.specs.declared.tables.Meaning.{Meaning}
-use Rattle.wire_readers.specs.inner.Values.{isWhole, valuesIn, FoundAt}
+use Rattle.wire_readers.specs.inner.Values.{isWhole, valuesIn, ValueFoundAt}
 use Rattle.rules_refusals.specs.Number6.{hasKeyId, hasKwkId, underItself}
 use Rattle.rules_refusals.proofs.OneOf.{or-false, or-joined}
-use Rattle.check_bagkeys.specs.inner.Facts.{isKey, noId, noKwk, oneId, keyFactsOf, withKey, ofSaKeys, ofWrapKeys}
+use Rattle.check_bagkeys.specs.inner.Facts.{carriesKey, noId, noKwk, oneId, keyFactsOf, withKey, ofSaKeys, ofWrapKeys}
 use Rattle.check_bagkeys.specs.declared.wrapped.KeyFacts.{KeyFacts}
 use Rattle.check_bagkeys.proofs.Sizes.{first-sized}
 
@@ -87,8 +87,8 @@ module _ (m : Meaning) (p : Place) (s : List ℕ) where
       omega (arith, w .few, w .inside),
     )
 
-    module _ (a e : ℕ) (o : FoundAt m p s at a e) where
-      pub key-sized : isKey m ≡ true → 8 ≤ length (part s a e)
+    module _ (a e : ℕ) (o : ValueFoundAt m p s at a e) where
+      pub key-sized : carriesKey m ≡ true → 8 ≤ length (part s a e)
       key-sized k = let z = first-sized m k p (drop at s) (w .rest) _ _ (o .first) in omega arith
 
       pub keys-less : length s - e < length s - at

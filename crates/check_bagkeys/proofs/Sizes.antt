@@ -11,7 +11,7 @@ use Rattle.octets.specs.Walk.{both, no-more, then}
 use Rattle.octets.proofs.Walks.{both-true}
 use Rattle.state_keys.proofs.Cases.{bool-cases}
 use Rattle.wire_attributes.specs.Attribute.{Attribute}
-use Rattle.wire_attributes.specs.Place.{meaningOf, wrappedSize, formed}
+use Rattle.wire_attributes.specs.Place.{meaningOf, wrappedSize, formatFits}
 use Rattle.wire_attributes.specs.Tree.{codeOf, means, valuesOf}
 use Rattle.wire_attributes.specs.Layout.{attributes}
 use Rattle.wire_attributes.specs.Grammar.{Attributes}
@@ -21,9 +21,9 @@ use Rattle.wire_attributes.specs.declared.tables.Meaning.the-variants as meanin
 use Rattle.wire_attributes.proofs.GrammarLaws.{read-are}
 use Rattle.wire_readers.specs.inner.Values.{isWhole, attributesIn, valuesIn}
 use Rattle.wire_readers.proofs.ValuesLaws.{whole-is}
-use Rattle.check_bagkeys.specs.inner.Facts.{isKey}
+use Rattle.check_bagkeys.specs.inner.Facts.{carriesKey}
 
-by-code : (x : Meaning) → isKey x ≡ leb 5 (codeOf x)
+by-code : (x : Meaning) → carriesKey x ≡ leb 5 (codeOf x)
 by-code meaning.Skipped = refl
 by-code meaning.KeyLength = refl
 by-code meaning.InitialMessageId = refl
@@ -35,7 +35,7 @@ by-code meaning.WrapKey = refl
 wrapped-sized : (short : Bool) (n : ℕ) → both (not short) (wrappedSize n) ≡ true → 24 ≤ n
 wrapped-sized short n e = leb-true 24 n (both-true _ _ (both-true (not short) (wrappedSize n) e .1) .0)
 
-key-sized : (x : Meaning) (short : Bool) (n : ℕ) → isKey x ≡ true → formed x short n ≡ true → 24 ≤ n
+key-sized : (x : Meaning) (short : Bool) (n : ℕ) → carriesKey x ≡ true → formatFits x short n ≡ true → 24 ≤ n
 key-sized meaning.Skipped short n k e = absurd (false≢true k)
 key-sized meaning.KeyLength short n k e = absurd (false≢true k)
 key-sized meaning.InitialMessageId short n k e = absurd (false≢true k)
@@ -44,8 +44,8 @@ key-sized meaning.KeyLifetime short n k e = absurd (false≢true k)
 key-sized meaning.SaKey short n k e = wrapped-sized short n e
 key-sized meaning.WrapKey short n k e = wrapped-sized short n e
 
-module _ (m : Meaning) (k : isKey m ≡ true) (p : Place) where
-  is-key : (x : Meaning) → eqb (codeOf x) (codeOf m) ≡ true → isKey x ≡ true
+module _ (m : Meaning) (k : carriesKey m ≡ true) (p : Place) where
+  is-key : (x : Meaning) → eqb (codeOf x) (codeOf m) ≡ true → carriesKey x ≡ true
   is-key x e = by-code x ∙ ap (leb 5) (eqb-true (codeOf x) (codeOf m) e) ∙ sym (by-code m) ∙ k
 
   sized-in : {s : List ℕ} {l : List Attribute} → Attributes p s l → (v : List ℕ) (r : List (List ℕ)) → valuesOf m p l ≡ v ∷ r →

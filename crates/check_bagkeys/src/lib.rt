@@ -10,7 +10,7 @@ ghost use Rattle.state_keys.specs.Limits.{limits};
 ghost use Rattle.wire_attributes.specs.Layout.{attributes};
 ghost use Rattle.wire_bags.specs.Bag.{placeOf, bags};
 ghost use Rattle.wire_readers.specs.inner.Values.{isWhole, attributesIn};
-ghost use Rattle.check_bagkeys.specs.inner.Facts.{noBags, ofGroup, ofMember, bagWith, ofBag, together};
+ghost use Rattle.check_bagkeys.specs.inner.Facts.{noBags, ofGroup, ofMember, bagWith, ofBag, mergeBagFacts};
 ghost use Rattle.check_bagkeys.specs.inner.Places.{firstMember, kdFactsOf};
 use ikev2_numbers::AH;
 use ikev2_numbers::ESP;
@@ -107,9 +107,9 @@ fn of_member(k: KeyFacts) -> BagFacts
 }
 
 // Those of the bags of both.
-fn together(a: BagFacts, b: BagFacts) -> BagFacts
+fn merge(a: BagFacts, b: BagFacts) -> BagFacts
     requires { ⌜ (a .members + b .members < 18446744073709551616) × (a .wraps + b .wraps < 18446744073709551616) ⌝ }
-    ensures { λ r. ⌜ r ≡ together a b ⌝ }
+    ensures { λ r. ⌜ r ≡ mergeBagFacts a b ⌝ }
 {
     BagFacts {
         members: a.members + b.members,
@@ -154,19 +154,19 @@ fn first_member(first: usize, here: Stretch, known: Stretch) -> Stretch
 }
 
 // The facts of a KD body. Internal.
-pub fn kd_facts(k: &[u8]) -> KdFacts
-    requires { ⌜ isWhole (bags 0 (now k)) ≡ true ⌝ }
-    ensures { λ r. ⌜ r ≡ kdFactsOf limits (now (k .entry)) ⌝ }
+pub fn kd_facts(kd: &[u8]) -> KdFacts
+    requires { ⌜ isWhole (bags 0 (now kd)) ≡ true ⌝ }
+    ensures { λ r. ⌜ r ≡ kdFactsOf limits (now (kd .entry)) ⌝ }
 {
     let mut f = no_bags();
     let mut found = Stretch { start: 0, end: 0 };
     let mut at = 0;
-    while at < k.len() {
-        let p = wire_readers::bag::bag_parts(&k[at..]);
+    while at < kd.len() {
+        let p = wire_readers::bag::bag_parts(&kd[at..]);
         let start = at + p.body;
         let end = at + p.end;
         found = first_member(p.first, Stretch { start, end }, found);
-        f = together(f, of_bag(p.first, &k[start..end]));
+        f = merge(f, of_bag(p.first, &kd[start..end]));
         at = end;
     }
     KdFacts {

@@ -5,12 +5,12 @@ ghost use Prim.Native.Nat.{_<_, _≤_};
 ghost use lib.ListN.{length};
 ghost use Rattle.wire_attributes.specs.Layout.{attributes};
 ghost use Rattle.wire_readers.specs.inner.Values.{isWhole, valuesIn};
-ghost use Rattle.check_bagkeys.specs.inner.Facts.{isKey, withKey, keyFactsOf};
+ghost use Rattle.check_bagkeys.specs.inner.Facts.{carriesKey, withKey, keyFactsOf};
 use ikev2_numbers::KWK_ID_AT;
 use wire_attributes::attribute_value;
 use wire_attributes::tables::Meaning;
 use wire_attributes::tables::Place;
-use wire_readers::values::Found;
+use wire_readers::values::ValueFound;
 use wire_readers::values::next_attribute;
 
 // How many keys; whether one has a Key ID, one has none, one has a KWK ID, where an ID of 0 is none; whether the IDs of one are equal.
@@ -40,7 +40,7 @@ fn with_key(f: KeyFacts, v: &[u8]) -> KeyFacts
 
 // The facts of the keys of a bag's attributes. Internal.
 pub fn keys_of(m: Meaning, place: Place, a: &[u8]) -> KeyFacts
-    requires { ⌜ (isKey m ≡ true) × (isWhole (attributes place 0 (now a)) ≡ true) ⌝ }
+    requires { ⌜ (carriesKey m ≡ true) × (isWhole (attributes place 0 (now a)) ≡ true) ⌝ }
     ensures { λ r. ⌜ (r ≡ keyFactsOf (valuesIn m place (now (a .entry)))) × (r .keys ≤ length (now (a .entry))) ⌝ }
 {
     let mut f = KeyFacts {
@@ -53,11 +53,11 @@ pub fn keys_of(m: Meaning, place: Place, a: &[u8]) -> KeyFacts
     let mut at = 0;
     loop {
         match next_attribute(m, place, a, at) {
-            Found::At(start, end) => {
+            ValueFound::At(start, end) => {
                 f = with_key(f, attribute_value(a, start));
                 at = end;
             }
-            Found::Nothing => {
+            ValueFound::Nothing => {
                 return f;
             }
         }

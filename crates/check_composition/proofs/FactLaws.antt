@@ -15,23 +15,24 @@ use Rattle.state_keys.proofs.Cases.{bool-cases}
 use Rattle.wire_attributes.specs.Place.{inPolicy}
 use Rattle.wire_attributes.specs.Layout.{attributes}
 use Rattle.wire_attributes.specs.declared.tables.Place.the-variants as place
-use Rattle.wire_policies.specs.Policy.{Policy, groupSa, groupWide, GroupWidePolicy, SaBody, groupSaOf, groupWideOf, spiOf, policies}
+use Rattle.wire_policies.specs.Policy.{Policy, groupSa, groupWide, GroupWidePolicy, SaBody, groupSaOf, groupWideOf, headSpi, policies}
 use Rattle.wire_policies.specs.Grammar.{IsSaBody}
 use Rattle.wire_readers.specs.inner.Values.{isWhole, attributesIn}
 use Rattle.wire_readers.specs.inner.Policies.{policiesIn}
 use Rattle.wire_readers.specs.declared.policy.Parts.{Parts}
-use Rattle.rules_refusals.specs.Contents.{gather, saOf, wideOf}
+use Rattle.rules_refusals.specs.Contents.{gather, groupSaIn, wideOf}
 use Rattle.rules_refusals.specs.Fitness.{isEsp, isRekey}
 use Rattle.rules_refusals.proofs.OneOf.{or-false, or-joined}
 use Rattle.check_suites.specs.inner.Adding.{once}
-use Rattle.check_composition.specs.inner.Facts.{givenBy, ofSa, ofPolicy, saWith, AtMost, Holds, OfOne, noPolicies, together, Added, factsOf}
+use Rattle.check_composition.specs.inner.Facts.{givenBy, ofSa, ofPolicy, saWith, PolicyFactsAtMost, PolicyBodyHolds, FactsOfPolicy}
+use Rattle.check_composition.specs.inner.Facts.{noPolicies, mergePolicyFacts, Added, policyFactsOf}
 use Rattle.check_composition.specs.inner.Numbers.{greatest}
 use Rattle.check_composition.specs.declared.PolicyFacts.{PolicyFacts}
 use Rattle.check_composition.proofs.NumberLaws.{greater-none, none-greater, greater-joined, greatest-join}
 use Rattle.check_composition.proofs.WalkLaws.{PolicyAt, no-policy}
 
 -- ---- facts add up
-from-none : (f : PolicyFacts) → together noPolicies f ≡ f
+from-none : (f : PolicyFacts) → mergePolicyFacts noPolicies f ≡ f
 from-none f =
     let s : 0 + f .sas ≡ f .sas = omega arith in
     let e : 0 + f .esps ≡ f .esps = omega arith in
@@ -54,7 +55,7 @@ from-none f =
       initial = none-greater (f .initial) i;
     }
 
-none-left : (a : Bool) (f : PolicyFacts) → together f (factsOf a []) ≡ f
+none-left : (a : Bool) (f : PolicyFacts) → mergePolicyFacts f (policyFactsOf a []) ≡ f
 unfolding any count gather greatest
 none-left a f =
     let s : f .sas + 0 ≡ f .sas = omega arith in
@@ -78,7 +79,7 @@ none-left a f =
       initial = greater-none (f .initial) i;
     }
 
-joined : (a b c : PolicyFacts) → together a (together b c) ≡ together (together a b) c
+joined : (a b c : PolicyFacts) → mergePolicyFacts a (mergePolicyFacts b c) ≡ mergePolicyFacts (mergePolicyFacts a b) c
 joined a b c =
     let s : a .sas + (b .sas + c .sas) ≡ a .sas + b .sas + c .sas = omega arith in
     let e : a .esps + (b .esps + c .esps) ≡ a .esps + b .esps + c .esps = omega arith in
@@ -106,16 +107,16 @@ counted true n = omega arith
 counted false n = omega arith
 
 -- the first policy, and the others
-one-more : (a : Bool) (p : Policy) (l : List Policy) → factsOf a (p ∷ l) ≡ together (ofPolicy a p) (factsOf a l)
+one-more : (a : Bool) (p : Policy) (l : List Policy) → policyFactsOf a (p ∷ l) ≡ mergePolicyFacts (ofPolicy a p) (policyFactsOf a l)
 unfolding any count gather
 one-more a (groupSa p) l =
-    let f = factsOf a (groupSa p ∷ l) in
-    let s : length (gather saOf (groupSa p ∷ l)) ≡ 1 + length (gather saOf l) = omega arith in
+    let f = policyFactsOf a (groupSa p ∷ l) in
+    let s : length (gather groupSaIn (groupSa p ∷ l)) ≡ 1 + length (gather groupSaIn l) = omega arith in
     let w : length (gather wideOf l) ≡ 0 + length (gather wideOf l) = omega arith in
     λ i. record {
       sas = s i;
-      esps = counted (isEsp p) (count isEsp (gather saOf l)) i;
-      rekeys = counted (isRekey p) (count isRekey (gather saOf l)) i;
+      esps = counted (isEsp p) (count isEsp (gather groupSaIn l)) i;
+      rekeys = counted (isRekey p) (count isRekey (gather groupSaIn l)) i;
       wides = w i;
       ah = f .ah;
       «two_lengths» = f .«two_lengths»;
@@ -126,13 +127,13 @@ one-more a (groupSa p) l =
       long = f .long;
       unfit = f .unfit;
       delay = sym (none-greater (f .delay)) i;
-      initial = greatest-join (givenBy p) (gather givenBy (gather saOf l)) i;
+      initial = greatest-join (givenBy p) (gather givenBy (gather groupSaIn l)) i;
     }
 one-more a (groupWide w) l =
-    let f = factsOf a (groupWide w ∷ l) in
-    let s : length (gather saOf l) ≡ 0 + length (gather saOf l) = omega arith in
-    let e : count isEsp (gather saOf l) ≡ 0 + count isEsp (gather saOf l) = omega arith in
-    let r : count isRekey (gather saOf l) ≡ 0 + count isRekey (gather saOf l) = omega arith in
+    let f = policyFactsOf a (groupWide w ∷ l) in
+    let s : length (gather groupSaIn l) ≡ 0 + length (gather groupSaIn l) = omega arith in
+    let e : count isEsp (gather groupSaIn l) ≡ 0 + count isEsp (gather groupSaIn l) = omega arith in
+    let r : count isRekey (gather groupSaIn l) ≡ 0 + count isRekey (gather groupSaIn l) = omega arith in
     let v : length (gather wideOf (groupWide w ∷ l)) ≡ 1 + length (gather wideOf l) = omega arith in
     λ i. record {
       sas = s i;
@@ -151,7 +152,8 @@ one-more a (groupWide w) l =
       initial = sym (none-greater (f .initial)) i;
     }
 
-at-most : (n m k : ℕ) (f o g : PolicyFacts) → g ≡ together f o → AtMost n f → AtMost m o → n + m ≤ k → AtMost k g
+at-most : (n m k : ℕ) (f o g : PolicyFacts) → g ≡ mergePolicyFacts f o → PolicyFactsAtMost n f → PolicyFactsAtMost m o → n + m ≤ k →
+    PolicyFactsAtMost k g
 at-most n m k f o g q x y h = record {
   sas = omega (arith, ap (λ (z : PolicyFacts). z .sas) q, x .sas, y .sas);
   esps = omega (arith, ap (λ (z : PolicyFacts). z .esps) q, x .esps, y .esps);
@@ -169,7 +171,7 @@ module _ (s : List ℕ) (at : ℕ) (r : Parts) (q : PolicyAt s at r) where
       let n : r .end - r .body ≡ at + r .end - (at + r .body) = omega (arith, q .is .head .order) in
       λ i. take (n i) (drop-drop (r .body) at s i)
 
-  pub holds-one : Holds (r .first) body
+  pub holds-one : PolicyBodyHolds (r .first) body
   holds-one = record {
     wide = λ z. ap (λ (y : List ℕ). isWhole (attributes place.GroupWidePolicy 0 y)) (sym body-is) ∙ q .is .wide z .held;
     sa = λ z.
@@ -180,7 +182,7 @@ module _ (s : List ℕ) (at : ℕ) (r : Parts) (q : PolicyAt s at r) where
   abbrev After : List Policy
   After = policiesIn (drop (at + r .end) s)
 
-  item-of : (a : Bool) (o : PolicyFacts) → OfOne a (r .first) body o
+  item-of : (a : Bool) (o : PolicyFacts) → FactsOfPolicy a (r .first) body o
       → (p : Policy) × (policiesIn (drop at s) ≡ p ∷ After) × (o ≡ ofPolicy a p)
   unfolding holds-one
   item-of a o h =
@@ -195,7 +197,7 @@ module _ (s : List ℕ) (at : ℕ) (r : Parts) (q : PolicyAt s at r) where
       (λ e.
       let z = eqb-false (r .first) 0 e in
       let f = q .is .sa z in
-      let x = spiOf (drop at s) in (
+      let x = headSpi (drop at s) in (
         groupSaOf (drop at s) (f .body),
         f .item ∙ ap (λ (y : List ℕ). groupSaOf (drop at s) (f .body) ∷ policiesIn y) (q .next),
         h .sa z (f .body) x (holds-one .sa z .1) ∙ ap (λ (n : ℕ). ofSa a (saWith n x (f .body))) (q .is .head .first),
@@ -204,10 +206,10 @@ module _ (s : List ℕ) (at : ℕ) (r : Parts) (q : PolicyAt s at r) where
 -- ---- the walk: where it stands at a place
 module _ (a : Bool) (g : List ℕ) where
   pub record PolicyWalk (f : PolicyFacts) (at : ℕ) : Type 0 where
-    pub few : AtMost at f
+    pub few : PolicyFactsAtMost at f
     pub inside : at ≤ length g
     pub rest : isWhole (policies 0 (drop at g)) ≡ true
-    pub so-far : together f (factsOf a (policiesIn (drop at g))) ≡ factsOf a (policiesIn g)
+    pub so-far : mergePolicyFacts f (policyFactsOf a (policiesIn (drop at g))) ≡ policyFactsOf a (policiesIn g)
 
   pub policies-start : isWhole (policies 0 g) ≡ true → (f : PolicyFacts) → f ≡ noPolicies → PolicyWalk f 0
   policies-start e f q = record {
@@ -219,29 +221,29 @@ module _ (a : Bool) (g : List ℕ) where
     };
     inside = omega arith;
     rest = e;
-    so-far = ap (λ (x : PolicyFacts). together x (factsOf a (policiesIn g))) q ∙ from-none (factsOf a (policiesIn g));
+    so-far = ap (λ (x : PolicyFacts). mergePolicyFacts x (policyFactsOf a (policiesIn g))) q ∙ from-none (policyFactsOf a (policiesIn g));
   }
 
   module _ (f : PolicyFacts) (at : ℕ) (w : PolicyWalk f at) where
-    pub policies-end : length g ≤ at → f ≡ factsOf a (policiesIn g)
+    pub policies-end : length g ≤ at → f ≡ policyFactsOf a (policiesIn g)
     policies-end h =
-        sym (none-left a f) ∙ ap (λ (l : List Policy). together f (factsOf a l)) (sym (no-policy g at h)) ∙ w .so-far
+        sym (none-left a f) ∙ ap (λ (l : List Policy). mergePolicyFacts f (policyFactsOf a l)) (sym (no-policy g at h)) ∙ w .so-far
 
-    module _ (r : Parts) (q : PolicyAt g at r) (o : PolicyFacts) (h : OfOne a (r .first) (body g at r q) o) where
-      pub policies-room : AtMost (length g) (together f o)
-      policies-room = at-most at 1 (length g) f o (together f o) refl (w .few) (h .few) (omega (arith, q .some, q .inside))
+    module _ (r : Parts) (q : PolicyAt g at r) (o : PolicyFacts) (h : FactsOfPolicy a (r .first) (body g at r q) o) where
+      pub policies-room : PolicyFactsAtMost (length g) (mergePolicyFacts f o)
+      policies-room = at-most at 1 (length g) f o (mergePolicyFacts f o) refl (w .few) (h .few) (omega (arith, q .some, q .inside))
 
-      pub policies-next : (n : PolicyFacts) → n ≡ together f o → PolicyWalk n (at + r .end)
+      pub policies-next : (n : PolicyFacts) → n ≡ mergePolicyFacts f o → PolicyWalk n (at + r .end)
       policies-next n e =
           let i = item-of g at r q a o h in
-          let after = factsOf a (After g at r q) in
+          let after = policyFactsOf a (After g at r q) in
           record {
             few = at-most at 1 (at + r .end) f o n e (w .few) (h .few) (omega (arith, q .some));
             inside = q .inside;
             rest = q .rest;
             so-far =
-                ap (λ (x : PolicyFacts). together x after) e ∙ sym (joined f o after)
-                ∙ ap (λ (x : PolicyFacts). together f (together x after)) (i .2)
-                ∙ ap (together f) (sym (one-more a (i .0) (After g at r q)))
-                ∙ ap (λ (l : List Policy). together f (factsOf a l)) (sym (i .1)) ∙ w .so-far;
+                ap (λ (x : PolicyFacts). mergePolicyFacts x after) e ∙ sym (joined f o after)
+                ∙ ap (λ (x : PolicyFacts). mergePolicyFacts f (mergePolicyFacts x after)) (i .2)
+                ∙ ap (mergePolicyFacts f) (sym (one-more a (i .0) (After g at r q)))
+                ∙ ap (λ (l : List Policy). mergePolicyFacts f (policyFactsOf a l)) (sym (i .1)) ∙ w .so-far;
           }

@@ -14,7 +14,7 @@ use Rattle.wire_attributes.specs.Layout.{attributes}
 use Rattle.wire_attributes.specs.declared.tables.Place.{Place}
 use Rattle.wire_attributes.specs.declared.tables.Meaning.{Meaning}
 use Rattle.wire_attributes.specs.declared.tables.Meaning.the-variants as meaning
-use Rattle.wire_readers.specs.inner.Values.{isWhole, valuesIn, valueSize, FoundAt}
+use Rattle.wire_readers.specs.inner.Values.{isWhole, valuesIn, valueSize, ValueFoundAt}
 use Rattle.check_composition.specs.inner.Numbers.{greater, greatest, isNumber, numberBy, most, numbersBy, withNumber}
 use Rattle.check_composition.specs.declared.numbers.Numbers.{Numbers}
 
@@ -136,7 +136,7 @@ module _ (m : Meaning) where
       pub numbers-end : valuesIn m p (drop at s) ≡ [] → (n ≡ numbersBy m (valuesIn m p s)) × (n .greatest ≤ most m)
       numbers-end e = (sym (none-left n) ∙ ap (plus n) (sym e) ∙ w .so-far, w .small)
 
-      module _ (a e : ℕ) (o : FoundAt m p s at a e) where
+      module _ (a e : ℕ) (o : ValueFoundAt m p s at a e) where
         pub number-sized : valueSize m (length (part s a e)) ≡ true
         number-sized =
             let d = length-drop a s in

@@ -9,7 +9,7 @@ use lib.ListN.{length, length-map}
 use Rattle.octets.proofs.Walks.{tail, to-end}
 use Rattle.state_keys.specs.Lists.{any, count}
 use Rattle.wire_attributes.specs.Place.{inPolicy}
-use Rattle.wire_attributes.specs.Tree.{two, four, valuesOf}
+use Rattle.wire_attributes.specs.Tree.{number16, number32, valuesOf}
 use Rattle.wire_attributes.specs.Layout.{attributes}
 use Rattle.wire_attributes.specs.declared.tables.Place.{Place}
 use Rattle.wire_attributes.specs.declared.tables.Place.the-variants as place
@@ -26,9 +26,9 @@ use Rattle.rules_refusals.specs.Number4.{twiceInTransform}
 use Rattle.rules_refusals.proofs.Gather.{any-count}
 use Rattle.check_suites.specs.inner.Adding.{once}
 use Rattle.check_suites.specs.inner.Suites.{suiteOf, fitBy}
-use Rattle.check_suites.specs.declared.counts.Suite.{Suite}
+use Rattle.check_suites.specs.declared.counts.SuiteCounts.{SuiteCounts}
 use Rattle.check_suites.proofs.TestLaws.{fits}
-use Rattle.check_composition.specs.inner.Facts.{ofSa, ofPolicy, saWith, wideBy, AtMost, OfOne}
+use Rattle.check_composition.specs.inner.Facts.{ofSa, ofPolicy, saWith, wideBy, PolicyFactsAtMost, FactsOfPolicy}
 use Rattle.check_composition.specs.inner.Numbers.{greatest, numbersBy}
 use Rattle.check_composition.specs.declared.numbers.Numbers.{Numbers}
 use Rattle.check_composition.specs.declared.PolicyFacts.{PolicyFacts}
@@ -51,10 +51,10 @@ module _ (protocol : ℕ) (o : List ℕ) (x : SaBody) (r : SaParts) (f : SaParts
     Numbered m n = n ≡ numbersBy m (valuesIn m p (tail o (r .attributes)))
 
     abbrev fours : List (List ℕ) → Numbers
-    fours l = record { count = length (map four l); greatest = greatest (map four l) }
+    fours l = record { count = length (map number32 l); greatest = greatest (map number32 l) }
 
-    counted : (l : List (List ℕ)) → _≡_ {A = Numbers} (record { count = length l; greatest = greatest (map four l) }) (fours l)
-    counted l = λ i. record { count = sym (length-map l four) i; greatest = greatest (map four l) }
+    counted : (l : List (List ℕ)) → _≡_ {A = Numbers} (record { count = length l; greatest = greatest (map number32 l) }) (fours l)
+    counted l = λ i. record { count = sym (length-map l number32) i; greatest = greatest (map number32 l) }
 
     ids-are : (n : Numbers) → Numbered meaning.InitialMessageId n → n ≡ fours (values meaning.InitialMessageId)
     ids-are n nq =
@@ -64,7 +64,7 @@ module _ (protocol : ℕ) (o : List ℕ) (x : SaBody) (r : SaParts) (f : SaParts
     pub lifetimes-are : (n : Numbers) → Numbered meaning.KeyLifetime n → n ≡ fours (values meaning.KeyLifetime)
     lifetimes-are n nq = nq ∙ ap (numbersBy meaning.KeyLifetime) (values-are meaning.KeyLifetime) ∙ counted (values meaning.KeyLifetime)
 
-    pub of-sa-is : (a : Bool) (spi : List ℕ) (u : Suite) → u ≡ suiteOf (x .suite .transforms)
+    pub of-sa-is : (a : Bool) (spi : List ℕ) (u : SuiteCounts) → u ≡ suiteOf (x .suite .transforms)
         → (n : Numbers) → Numbered meaning.InitialMessageId n → (m : Numbers) → Numbered meaning.KeyLifetime m
         → (g : Bool) → g ≡ oneGroupAddress (x .destination) → (t : Bool) → t ≡ fitBy a protocol u
         → (e k : ℕ) → e ≡ once (eqb protocol 3) → k ≡ once (eqb protocol 6) → (h : ℕ) → h ≡ cond (eqb protocol 6) (n .greatest) 0
@@ -85,15 +85,15 @@ module _ (protocol : ℕ) (o : List ℕ) (x : SaBody) (r : SaParts) (f : SaParts
           initial = h;
         }) (ofSa a (saWith protocol spi x))
     of-sa-is a spi u uq n nq m mq g gq t tq e k eq kq h hq =
-        let l = ap (λ (s : Suite). ltb 0 (s .doubled)) uq ∙ sym (any-count twiceInTransform (x .suite .transforms)) in
+        let l = ap (λ (s : SuiteCounts). ltb 0 (s .doubled)) uq ∙ sym (any-count twiceInTransform (x .suite .transforms)) in
         let w = tq ∙ ap (fitBy a protocol) uq ∙ fits (saWith protocol spi x) a in
         let v = ids-are n nq in
         let z = lifetimes-are m mq in
         let y =
         hq ∙ ap (λ (z : Numbers). cond (eqb protocol 6) (z .greatest) 0) v
-        ∙ greatest-if (eqb protocol 6) (map four (values meaning.InitialMessageId)) in
+        ∙ greatest-if (eqb protocol 6) (map number32 (values meaning.InitialMessageId)) in
         let over =
-        ap (λ (t : Numbers). ltb mostSeconds (t .greatest)) z ∙ over-greatest mostSeconds (map four (values meaning.KeyLifetime)) in
+        ap (λ (t : Numbers). ltb mostSeconds (t .greatest)) z ∙ over-greatest mostSeconds (map number32 (values meaning.KeyLifetime)) in
         λ i. record {
           sas = 1;
           esps = eq i;
@@ -119,11 +119,11 @@ once-few false = omega arith
 module _ (a : Bool) (first : ℕ) (o : List ℕ) (r : PolicyFacts) where
   pub wide-one : first ≡ 0 → (n : Numbers)
       → n ≡ numbersBy meaning.DeactivationDelay (valuesIn meaning.DeactivationDelay place.GroupWidePolicy o) → r ≡ wideBy n
-      → OfOne a first o r
+      → FactsOfPolicy a first o r
   wide-one z n nq q =
       let l = valuesIn meaning.DeactivationDelay place.GroupWidePolicy o in
-      let m : n ≡ record { count = length (map two l); greatest = greatest (map two l) } =
-      nq ∙ (λ i. record { count = sym (length-map l two) i; greatest = greatest (map two l) }) in
+      let m : n ≡ record { count = length (map number16 l); greatest = greatest (map number16 l) } =
+      nq ∙ (λ i. record { count = sym (length-map l number16) i; greatest = greatest (map number16 l) }) in
       record {
         wide = λ y. q ∙ ap wideBy m;
         sa = λ y. absurd (y z);
@@ -136,7 +136,7 @@ module _ (a : Bool) (first : ℕ) (o : List ℕ) (r : PolicyFacts) where
       }
 
   pub sa-one : (first ≡ 0 → ⊥) → (x : SaBody) → IsSaBody (inPolicy first) o x
-      → ((x : SaBody) (spi : List ℕ) → IsSaBody (inPolicy first) o x → r ≡ ofSa a (saWith first spi x)) → OfOne a first o r
+      → ((x : SaBody) (spi : List ℕ) → IsSaBody (inPolicy first) o x → r ≡ ofSa a (saWith first spi x)) → FactsOfPolicy a first o r
   sa-one z x i h =
       let q = h x [] i in
       record {

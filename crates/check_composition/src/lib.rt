@@ -13,7 +13,8 @@ ghost use Rattle.wire_policies.specs.Policy.{SaBody, groupWideOf, policies};
 ghost use Rattle.wire_policies.specs.Grammar.{IsSaBody};
 ghost use Rattle.wire_readers.specs.inner.Values.{isWhole};
 ghost use Rattle.wire_readers.specs.inner.Policies.{policiesIn};
-ghost use Rattle.check_composition.specs.inner.Facts.{noPolicies, ofSa, saWith, wideBy, together, factsOf, Holds, OfOne, AtMost, Added};
+ghost use Rattle.check_composition.specs.inner.Facts.{noPolicies, ofSa, saWith, wideBy, mergePolicyFacts, policyFactsOf};
+ghost use Rattle.check_composition.specs.inner.Facts.{PolicyBodyHolds, FactsOfPolicy, PolicyFactsAtMost, Added};
 use ikev2_numbers::AH;
 use ikev2_numbers::ESP;
 use ikev2_numbers::GIKE_UPDATE;
@@ -48,8 +49,8 @@ pub struct PolicyFacts {
     pub long: bool,
     // the transforms of a Group SA policy are not those that it must have
     pub unfit: bool,
-    // the deactivation delay of the group-wide policies and the first Message ID of the Rekey policies, 0 where they give none, the greatest
-    // where they give several
+    // the deactivation delay of the group-wide policies and the first Message ID of the Rekey policies, 0 where they give none, the
+    // greatest where they give several
     pub delay: u16,
     pub initial: u32,
 }
@@ -135,8 +136,8 @@ fn of_sa(authentication: bool, protocol: usize, o: &[u8]) -> PolicyFacts
 
 // Those of the policy with this first octet and these octets after its head.
 fn of_policy(authentication: bool, first: usize, o: &[u8]) -> PolicyFacts
-    requires { ⌜ Holds first (now o) ⌝ }
-    ensures { λ r. ⌜ OfOne authentication first (now (o .entry)) r ⌝ }
+    requires { ⌜ PolicyBodyHolds first (now o) ⌝ }
+    ensures { λ r. ⌜ FactsOfPolicy authentication first (now (o .entry)) r ⌝ }
 {
     if first == 0 {
         return of_wide(numbers_of(Meaning::DeactivationDelay, Place::GroupWidePolicy, o));
@@ -145,9 +146,9 @@ fn of_policy(authentication: bool, first: usize, o: &[u8]) -> PolicyFacts
 }
 
 // Those of the policies of both.
-fn together(a: PolicyFacts, b: PolicyFacts) -> PolicyFacts
+fn merge(a: PolicyFacts, b: PolicyFacts) -> PolicyFacts
     requires { ⌜ Added a b ⌝ }
-    ensures { λ r. ⌜ r ≡ together a b ⌝ }
+    ensures { λ r. ⌜ r ≡ mergePolicyFacts a b ⌝ }
 {
     let delay = greater_u16(a.delay, b.delay);
     let initial = greater_u32(a.initial, b.initial);
@@ -174,17 +175,17 @@ fn together(a: PolicyFacts, b: PolicyFacts) -> PolicyFacts
 }
 
 // The facts of the policies of a GSA body, where the exchange has the controller's authentication or not. Internal.
-pub fn policy_facts(authentication: bool, g: &[u8]) -> PolicyFacts
-    requires { ⌜ isWhole (policies 0 (now g)) ≡ true ⌝ }
-    ensures { λ r. ⌜ r ≡ factsOf authentication (policiesIn (now (g .entry))) ⌝ }
+pub fn policy_facts(authentication: bool, gsa: &[u8]) -> PolicyFacts
+    requires { ⌜ isWhole (policies 0 (now gsa)) ≡ true ⌝ }
+    ensures { λ r. ⌜ r ≡ policyFactsOf authentication (policiesIn (now (gsa .entry))) ⌝ }
 {
     let mut f = no_policies();
     let mut at = 0;
-    while at < g.len() {
-        let p = wire_readers::policy::policy_parts(&g[at..]);
+    while at < gsa.len() {
+        let p = wire_readers::policy::policy_parts(&gsa[at..]);
         let start = at + p.body;
         let end = at + p.end;
-        f = together(f, of_policy(authentication, p.first, &g[start..end]));
+        f = merge(f, of_policy(authentication, p.first, &gsa[start..end]));
         at = end;
     }
     f

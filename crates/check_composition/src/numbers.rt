@@ -11,7 +11,7 @@ use octets::numbers::be32_at;
 use wire_attributes::attribute_value;
 use wire_attributes::tables::Meaning;
 use wire_attributes::tables::Place;
-use wire_readers::values::Found;
+use wire_readers::values::ValueFound;
 use wire_readers::values::next_attribute;
 
 // How many numbers, and the greatest; 0 where there is none.
@@ -88,11 +88,11 @@ pub fn numbers_of(m: Meaning, place: Place, a: &[u8]) -> Numbers
     let mut at = 0;
     loop {
         match next_attribute(m, place, a, at) {
-            Found::At(start, end) => {
+            ValueFound::At(start, end) => {
                 n = with_number(m, n, attribute_value(a, start));
                 at = end;
             }
-            Found::Nothing => {
+            ValueFound::Nothing => {
                 return n;
             }
         }

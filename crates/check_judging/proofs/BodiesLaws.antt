@@ -10,19 +10,19 @@ use Rattle.wire_frames.specs.Frame.{Frame}
 use Rattle.check_payloads.specs.declared.PayloadFacts.{PayloadFacts}
 use Rattle.check_payloads.proofs.FoundLaws.{OfFrame}
 use Rattle.rules_refusals.specs.Contents.{hasGsa, hasKd}
-use Rattle.rules_refusals.specs.Number4.{twoGsa, twoKd, four-ofFrame}
-use Rattle.rules_refusals.specs.Refusals.{four, applies}
+use Rattle.rules_refusals.specs.Number4.{twoGsa, twoKd, number4OfFrame}
+use Rattle.rules_refusals.specs.Refusals.{number4, applies}
 use Rattle.rules_refusals.proofs.Clear.{clause-of-frame}
 
-module _ (s : List ℕ) (f : Frame) (b : PayloadFacts) (is : OfFrame s f b) (none : false ≡ applies (four f)) where
+module _ (s : List ℕ) (f : Frame) (b : PayloadFacts) (is : OfFrame s f b) (none : false ≡ applies (number4 f)) where
   pub one-gsa-at-most : b .gsas ≤ 1
-  unfolding twoGsa four-ofFrame
+  unfolding twoGsa number4OfFrame
   one-gsa-at-most =
-      let e : twoGsa f ≡ false = clause-of-frame (four f) 3 (sym none) in
+      let e : twoGsa f ≡ false = clause-of-frame (number4 f) 3 (sym none) in
       omega (arith, is .gsas, ltb-false 1 (count hasGsa (f .payloads)) e)
 
   pub one-kd-at-most : b .kds ≤ 1
-  unfolding twoKd four-ofFrame
+  unfolding twoKd number4OfFrame
   one-kd-at-most =
-      let e : twoKd f ≡ false = clause-of-frame (four f) 4 (sym none) in
+      let e : twoKd f ≡ false = clause-of-frame (number4 f) 4 (sym none) in
       omega (arith, is .kds, ltb-false 1 (count hasKd (f .payloads)) e)

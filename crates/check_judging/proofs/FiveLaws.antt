@@ -14,19 +14,19 @@ use Rattle.state.specs.declared.State.{State}
 use Rattle.wire_frames.specs.Frame.{Frame}
 use Rattle.wire_frames.specs.declared.exchanges.Exchange.{Exchange}
 use Rattle.rules_refusals.specs.Contents.{rowOf, policiesOf, bagsOf}
-use Rattle.rules_refusals.specs.Number2.{standing}
-use Rattle.rules_refusals.specs.Number5.{ahPolicy, ahBag, otherTransforms, lentKeySize, five-ofFrame}
+use Rattle.rules_refusals.specs.Number2.{notDueSas}
+use Rattle.rules_refusals.specs.Number5.{ahPolicy, ahBag, otherTransforms, lentKeySize, number5OfFrame}
 use Rattle.rules_refusals.specs.Number7.{manyEspPolicies, manyWrapKeys, manySaKeys, manyDeletedSpis, longLifetime, manySas}
-use Rattle.rules_refusals.specs.Number7.{seven-ofFrame, seven-ofMember}
-use Rattle.rules_refusals.specs.Refusals.{one, five, seven, applies}
+use Rattle.rules_refusals.specs.Number7.{number7OfFrame, number7OfMember}
+use Rattle.rules_refusals.specs.Refusals.{one, number5, number7, applies}
 use Rattle.rules_refusals.proofs.OneOf.{or-false, one-append}
 use Rattle.check_payloads.specs.declared.deletion.Deletes.{Deletes}
 use Rattle.check_payloads.proofs.FoundLaws.{IsDeletes}
 use Rattle.check_composition.specs.declared.PolicyFacts.{PolicyFacts}
-use Rattle.check_composition.specs.inner.Facts.{factsOf as policyFacts}
+use Rattle.check_composition.specs.inner.Facts.{policyFactsOf as policyFacts}
 use Rattle.check_bagkeys.specs.declared.BagFacts.{BagFacts}
-use Rattle.check_bagkeys.specs.inner.Facts.{factsOf as bagFacts}
-use Rattle.check_judging.specs.inner.Tests.{fiveOf, sevenOf}
+use Rattle.check_bagkeys.specs.inner.Facts.{bagFactsOf as bagFacts}
+use Rattle.check_judging.specs.inner.Tests.{number5Of, number7Of}
 
 -- so many and so many more
 pub over-already : (n m : ℕ) → limits .sas < n → true ≡ ltb (limits .sas) (n + m)
@@ -39,17 +39,17 @@ over-with n m h =
 
 module _ (f : Frame) (row : Exchange) (e : rowOf f ≡ row) (d : Deletes) (is : IsDeletes f d) (p : PolicyFacts) (k : BagFacts)
     (pq : p ≡ policyFacts (rowOf f .authentication) (policiesOf f)) (kq : k ≡ bagFacts limits (bagsOf f)) where
-  pub five-is : (lent : List ℕ) → one (fiveOf row (length lent) d p k) ≡ applies (five lent f)
-  unfolding one ahPolicy ahBag otherTransforms lentKeySize five-ofFrame
+  pub five-is : (lent : List ℕ) → one (number5Of row (length lent) d p k) ≡ applies (number5 lent f)
+  unfolding one ahPolicy ahBag otherTransforms lentKeySize number5OfFrame
   five-is lent =
       (λ i. one (pq i .ah ∷ kq i .ah ∷ pq i .unfit ∷ is .other i ∷ is .none i
       ∷ (sym e i .«judges_lent_key» && not (sizeOf 13 (length lent))) ∷ []))
-      ∙ sym (or-false (one (five-ofFrame lent f)))
+      ∙ sym (or-false (one (number5OfFrame lent f)))
 
-  pub seven-is : (state : State) (now n : ℕ) → n ≡ length (standing now state)
-      → one (sevenOf limits d p k n) ≡ applies (seven limits state now f)
-  unfolding manyEspPolicies manyWrapKeys manySaKeys manyDeletedSpis longLifetime manySas seven-ofFrame seven-ofMember
+  pub seven-is : (state : State) (now n : ℕ) → n ≡ length (notDueSas now state)
+      → one (number7Of limits d p k n) ≡ applies (number7 limits state now f)
+  unfolding manyEspPolicies manyWrapKeys manySaKeys manyDeletedSpis longLifetime manySas number7OfFrame number7OfMember
   seven-is state now n nq =
       (λ i. one (ltb (limits .espPolicies) (pq i .esps) ∷ ltb (limits .wrapKeys) (kq i .wraps) ∷ kq i .overfull
       ∷ ltb (limits .deletedSpis) (is .spis i) ∷ pq i .long ∷ ltb (limits .sas) (nq i + pq i .sas) ∷ []))
-      ∙ one-append (seven-ofFrame limits f) (seven-ofMember limits state now f)
+      ∙ one-append (number7OfFrame limits f) (number7OfMember limits state now f)

@@ -15,21 +15,23 @@ use Rattle.wire_frames.specs.Frame.{Frame, Payload, Content, gsa, kd, delete, u
 use Rattle.wire_frames.specs.declared.exchanges.Exchange.{Exchange}
 use Rattle.wire_readers.specs.inner.Policies.{policiesIn}
 use Rattle.wire_readers.specs.inner.Bags.{bagsIn}
-use Rattle.rules_refusals.specs.Contents.{rowOf, some, gather, isGsa, hasGsa, hasKd, policiesIn as policiesOfOne, policiesOf, bagsOf, saOf}
+use Rattle.rules_refusals.specs.Contents.{rowOf, some, gather, isGsa, hasGsa, hasKd, policiesOfContent as policiesOfOne, policiesOf, bagsOf}
+use Rattle.rules_refusals.specs.Contents.{groupSaIn}
 use Rattle.rules_refusals.specs.Number4.{criticalUnknown, barredMemberBag, barredDelete, twoGsa, twoKd, gsaWithoutKd, kdWithoutGsa, neither}
 use Rattle.rules_refusals.specs.Number4.{severalRekeyPolicies, severalGroupWide, severalMemberBags, gsaWithoutSaPolicy, keyLengthTwice}
-use Rattle.rules_refusals.specs.Number4.{initialMessageIdTwice, delayTwice, otherDestination, lifetimeTwice, withoutSaPolicy, four-ofFrame}
-use Rattle.rules_refusals.specs.Refusals.{one, applies, four}
+use Rattle.rules_refusals.specs.Number4.{initialMessageIdTwice, delayTwice, otherDestination, lifetimeTwice, withoutSaPolicy}
+use Rattle.rules_refusals.specs.Number4.{number4OfFrame}
+use Rattle.rules_refusals.specs.Refusals.{one, applies, number4}
 use Rattle.rules_refusals.proofs.First.{any-no, count-yes, count-no}
 use Rattle.rules_refusals.proofs.OneOf.{or-false, one-at}
 use Rattle.rules_refusals.proofs.Gather.{any-count}
 use Rattle.check_payloads.specs.declared.PayloadFacts.{PayloadFacts}
 use Rattle.check_payloads.proofs.FoundLaws.{OfFrame}
 use Rattle.check_composition.specs.declared.PolicyFacts.{PolicyFacts}
-use Rattle.check_composition.specs.inner.Facts.{factsOf as policyFacts}
+use Rattle.check_composition.specs.inner.Facts.{policyFactsOf as policyFacts}
 use Rattle.check_bagkeys.specs.declared.BagFacts.{BagFacts}
-use Rattle.check_bagkeys.specs.inner.Facts.{factsOf as bagFacts}
-use Rattle.check_judging.specs.inner.Tests.{fourOf}
+use Rattle.check_bagkeys.specs.inner.Facts.{bagFactsOf as bagFacts}
+use Rattle.check_judging.specs.inner.Tests.{number4Of}
 
 -- A GSA WITH NO SA POLICY, where there is one GSA at most
 holds-none : (c : Content) → isGsa c ≡ false → policiesOfOne c ≡ []
@@ -42,7 +44,7 @@ inAll : List Payload → List Policy
 inAll l = gather (λ (p : Payload). policiesOfOne (p .content)) l
 
 withSa : List Policy → Bool
-withSa l = some (gather saOf l)
+withSa l = some (gather groupSaIn l)
 
 module _ (p : Payload) (l : List Payload) where
   next-policies : inAll (p ∷ l) ≡ policiesOfOne (p .content) ++ inAll l
@@ -56,7 +58,7 @@ module _ (p : Payload) (l : List Payload) where
 
   later-without : hasGsa p ≡ false → any withoutSaPolicy (p ∷ l) ≡ any withoutSaPolicy l
   later-without e =
-      any-no withoutSaPolicy p l (p ∷ l) refl (ap (λ (b : Bool). b && not (some (gather saOf (policiesOfOne (p .content))))) e)
+      any-no withoutSaPolicy p l (p ∷ l) refl (ap (λ (b : Bool). b && not (some (gather groupSaIn (policiesOfOne (p .content))))) e)
 
 no-gsa-left : (l : List Payload) → count hasGsa l ≤ 0 → (any withoutSaPolicy l ≡ false) × (inAll l ≡ [])
 unfolding any gather inAll
@@ -84,7 +86,8 @@ one-gsa (p ∷ l) h =
     later-without p l e ∙ one-gsa l (omega arith) ∙ (λ i. ltb 0 (sym c i) && not (withSa (sym q i))))
 
 -- THE TESTS
-module _ (s : List ℕ) (f : Frame) (b : PayloadFacts) (is : OfFrame s f b) (row : Exchange) (e : rowOf f ≡ row) (p : PolicyFacts) (k : BagFacts)
+module _ (s : List ℕ) (f : Frame) (b : PayloadFacts) (is : OfFrame s f b) (row : Exchange) (e : rowOf f ≡ row) (p : PolicyFacts)
+    (k : BagFacts)
     (pq : p ≡ policyFacts (row .authentication) (policiesIn (part s (b .gsa .start) (b .gsa .end))))
     (kq : k ≡ bagFacts limits (bagsIn (part s (b .kd .start) (b .kd .end)))) where
   -- with one GSA and one KD at most, the facts of their bodies are the frame's
@@ -105,8 +108,8 @@ module _ (s : List ℕ) (f : Frame) (b : PayloadFacts) (is : OfFrame s f b) (row
   without-sa h =
       (λ i. ltb 0 (is .gsas i) && not (ltb 0 (policies-are h i .sas))) ∙ sym (one-gsa (f .payloads) (omega (arith, is .gsas)))
 
-  as-clauses : b .gsas ≤ 1 → b .kds ≤ 1 → fourOf row b p k ≡ four-ofFrame f
-  unfolding four-ofFrame barredMemberBag barredDelete twoGsa twoKd gsaWithoutKd kdWithoutGsa neither severalRekeyPolicies severalGroupWide
+  as-clauses : b .gsas ≤ 1 → b .kds ≤ 1 → number4Of row b p k ≡ number4OfFrame f
+  unfolding number4OfFrame barredMemberBag barredDelete twoGsa twoKd gsaWithoutKd kdWithoutGsa neither severalRekeyPolicies severalGroupWide
       severalMemberBags keyLengthTwice initialMessageIdTwice delayTwice otherDestination lifetimeTwice
   as-clauses g h = λ i.
       is .critical i ∷ (not (sym e i .«allows_member_bag») && ltb 0 (bags-are h i .members))
@@ -118,21 +121,21 @@ module _ (s : List ℕ) (f : Frame) (b : PayloadFacts) (is : OfFrame s f b) (row
       ∷ policies-are g i .«two_lifetimes» ∷ []
 
   -- with two of them, both apply
-  two-gsas : ltb 1 (b .gsas) ≡ true → one (fourOf row b p k) ≡ applies (four f)
-  unfolding four-ofFrame twoGsa
+  two-gsas : ltb 1 (b .gsas) ≡ true → one (number4Of row b p k) ≡ applies (number4 f)
+  unfolding number4OfFrame twoGsa
   two-gsas h =
       let t : twoGsa f ≡ true = ap (ltb 1) (sym (is .gsas)) ∙ h in
-      one-at 3 (fourOf row b p k) h ∙ sym (ap (λ (x : Bool). x || one []) (one-at 3 (four-ofFrame f) t))
+      one-at 3 (number4Of row b p k) h ∙ sym (ap (λ (x : Bool). x || one []) (one-at 3 (number4OfFrame f) t))
 
-  two-kds : ltb 1 (b .kds) ≡ true → one (fourOf row b p k) ≡ applies (four f)
-  unfolding four-ofFrame twoKd
+  two-kds : ltb 1 (b .kds) ≡ true → one (number4Of row b p k) ≡ applies (number4 f)
+  unfolding number4OfFrame twoKd
   two-kds h =
       let t : twoKd f ≡ true = ap (ltb 1) (sym (is .kds)) ∙ h in
-      one-at 4 (fourOf row b p k) h ∙ sym (ap (λ (x : Bool). x || one []) (one-at 4 (four-ofFrame f) t))
+      one-at 4 (number4Of row b p k) h ∙ sym (ap (λ (x : Bool). x || one []) (one-at 4 (number4OfFrame f) t))
 
-  pub four-is : one (fourOf row b p k) ≡ applies (four f)
+  pub four-is : one (number4Of row b p k) ≡ applies (number4 f)
   unfolding one
   four-is =
       lt-cases 1 (b .gsas) (λ g. two-gsas (lt-ltb 1 (b .gsas) g))
       (λ g. lt-cases 1 (b .kds) (λ h. two-kds (lt-ltb 1 (b .kds) h))
-      (λ h. ap one (as-clauses g h) ∙ sym (or-false (one (four-ofFrame f)))))
+      (λ h. ap one (as-clauses g h) ∙ sym (or-false (one (number4OfFrame f)))))

@@ -14,20 +14,20 @@ use Rattle.wire_frames.specs.declared.exchanges.Exchange.{Exchange}
 use Rattle.wire_readers.specs.inner.Policies.{policiesIn}
 use Rattle.wire_readers.specs.inner.Bags.{bagsIn}
 use Rattle.rules_refusals.specs.Contents.{rowOf, policiesOf, bagsOf}
-use Rattle.rules_refusals.specs.Refusals.{one, four, five, six, seven, applies, judged, onFrame}
+use Rattle.rules_refusals.specs.Refusals.{one, number4, number5, number6, number7, applies, judged, onFrame}
 use Rattle.check_payloads.specs.declared.PayloadFacts.{PayloadFacts}
 use Rattle.check_payloads.specs.declared.deletion.Deletes.{Deletes}
-use Rattle.check_payloads.specs.inner.Facts.{factsOf as payloadFacts}
+use Rattle.check_payloads.specs.inner.Facts.{payloadFactsOf as payloadFacts}
 use Rattle.check_payloads.proofs.FoundLaws.{OfFrame, facts-of}
 use Rattle.check_composition.specs.declared.PolicyFacts.{PolicyFacts}
-use Rattle.check_composition.specs.inner.Facts.{factsOf as policyFacts}
+use Rattle.check_composition.specs.inner.Facts.{policyFactsOf as policyFacts}
 use Rattle.check_bagkeys.specs.declared.BagFacts.{BagFacts}
-use Rattle.check_bagkeys.specs.inner.Facts.{factsOf as bagFacts}
+use Rattle.check_bagkeys.specs.inner.Facts.{bagFactsOf as bagFacts}
 use Rattle.check_pairing.specs.inner.Names.{Name, Names}
 use Rattle.check_pairing.proofs.NamesOf.{policyNames, policy-names, bagNames, bag-names}
 use Rattle.check_judging.specs.declared.facts.Facts.{Facts}
-use Rattle.check_judging.specs.inner.Facts.{at, factsOf}
-use Rattle.check_judging.specs.inner.Tests.{fourBy, fiveBy, sixBy, sevenBy}
+use Rattle.check_judging.specs.inner.Facts.{at, frameFactsOf}
+use Rattle.check_judging.specs.inner.Tests.{number4By, number5By, number6By, number7By}
 use Rattle.check_judging.proofs.OrderLaws.{applying, passing, none-judged, stand}
 use Rattle.check_judging.proofs.BodiesLaws.{one-gsa-at-most, one-kd-at-most}
 use Rattle.check_judging.proofs.FourLaws.{policies-are, bags-are, four-is}
@@ -35,7 +35,7 @@ use Rattle.check_judging.proofs.FiveLaws.{five-is, seven-is}
 use Rattle.check_judging.proofs.SixLaws.{six-is}
 
 module _ (state : State) (tick : ℕ) (lent s : List ℕ) (few : state .table .count ≤ limits .sas) (row : Exchange) (x : Facts)
-    (w : x ≡ factsOf (row .authentication) s) where
+    (w : x ≡ frameFactsOf (row .authentication) s) where
   abbrev b : PayloadFacts
   b = x .payloads
 
@@ -72,10 +72,10 @@ module _ (state : State) (tick : ℕ) (lent s : List ℕ) (few : state .table .c
 
   -- ---- each number of a frame that reads so
   module _ (f : Frame) (q : frame s ≡ whole f []) (e : rowOf f ≡ row) where
-    four-at : (y : Bool) → y ≡ one (fourBy row x) → y ≡ applies (four f)
+    four-at : (y : Bool) → y ≡ one (number4By row x) → y ≡ applies (number4 f)
     four-at y h = h ∙ four-is s f b (its-payloads f q) row e p k policies-in bags-in
 
-    module _ (none : false ≡ applies (four f)) where
+    module _ (none : false ≡ applies (number4 f)) where
       gsas : b .gsas ≤ 1
       gsas = one-gsa-at-most s f b (its-payloads f q) none
 
@@ -88,60 +88,62 @@ module _ (state : State) (tick : ℕ) (lent s : List ℕ) (few : state .table .c
       its-bags : k ≡ bagFacts limits (bagsOf f)
       its-bags = bags-are s f b (its-payloads f q) row e p k policies-in bags-in kds
 
-      five-at : (y : Bool) → y ≡ one (fiveBy row (length lent) x) → y ≡ applies (five lent f)
+      five-at : (y : Bool) → y ≡ one (number5By row (length lent) x) → y ≡ applies (number5 lent f)
       five-at y h = h ∙ five-is f row e d (its-payloads f q .deletion) p k its-policies its-bags lent
 
       six-at : (y : Bool)
-          → ((l m : List Name) → Names gsaIn l → Names kdIn m → y ≡ one (sixBy row x l m tick (sasOf (state .table))))
-          → y ≡ applies (six state tick f)
+          → ((l m : List Name) → Names gsaIn l → Names kdIn m → y ≡ one (number6By row x l m tick (sasOf (state .table))))
+          → y ≡ applies (number6 state tick f)
       six-at y h =
           let is = its-payloads f q in
           h (policyNames (policiesIn gsaIn)) (bagNames (bagsIn kdIn)) (policy-names gsaIn (is .gsaWhole))
           (bag-names kdIn (is .kdWhole))
-          ∙ (λ i. one (sixBy row x (policyNames (is .policies gsas .all i)) (bagNames (is .bags kds .all i)) tick (sasOf (state .table))))
+          ∙ (λ i. one (number6By row x (policyNames (is .policies gsas .all i)) (bagNames (is .bags kds .all i)) tick
+          (sasOf (state .table))))
           ∙ six-is row f e k its-bags state tick
 
-      seven-at : (y : Bool) (n : ℕ) → n ≡ standingCount limits tick (state .table) → y ≡ one (sevenBy limits x n)
-          → y ≡ applies (seven limits state tick f)
+      seven-at : (y : Bool) (n : ℕ) → n ≡ standingCount limits tick (state .table) → y ≡ one (number7By limits x n)
+          → y ≡ applies (number7 limits state tick f)
       seven-at y n u h =
-          h ∙ seven-is f row e d (its-payloads f q .deletion) p k its-policies its-bags state tick n (u ∙ stand limits tick (state .table) few)
+          h ∙ seven-is f row e d (its-payloads f q .deletion) p k its-policies its-bags state tick n
+          (u ∙ stand limits tick (state .table) few)
 
   -- ---- the first that applies
   abbrev Judged : ℕ → Type 0
   Judged n = (f : Frame) → frame s ≡ whole f [] → rowOf f ≡ row → n ≡ judged (onFrame limits state tick lent f)
 
-  module _ (x4 : Bool) (h4 : x4 ≡ one (fourBy row x)) where
+  module _ (x4 : Bool) (h4 : x4 ≡ one (number4By row x)) where
     pub at-4 : x4 ≡ true → Judged 4
-    at-4 t = λ f q e. applying (four f) _ (sym t ∙ four-at f q e x4 h4)
+    at-4 t = λ f q e. applying (number4 f) _ (sym t ∙ four-at f q e x4 h4)
 
-    module _ (n4 : x4 ≡ false) (x5 : Bool) (h5 : x5 ≡ one (fiveBy row (length lent) x)) where
-      none-4 : (f : Frame) → frame s ≡ whole f [] → rowOf f ≡ row → false ≡ applies (four f)
+    module _ (n4 : x4 ≡ false) (x5 : Bool) (h5 : x5 ≡ one (number5By row (length lent) x)) where
+      none-4 : (f : Frame) → frame s ≡ whole f [] → rowOf f ≡ row → false ≡ applies (number4 f)
       none-4 f q e = sym n4 ∙ four-at f q e x4 h4
 
       pub at-5 : x5 ≡ true → Judged 5
       at-5 t = λ f q e.
           let n = none-4 f q e in
-          passing (four f) _ 5 n (applying (five lent f) _ (sym t ∙ five-at f q e n x5 h5))
+          passing (number4 f) _ 5 n (applying (number5 lent f) _ (sym t ∙ five-at f q e n x5 h5))
 
       module _ (n5 : x5 ≡ false) (x6 : Bool)
-          (h6 : (l m : List Name) → Names gsaIn l → Names kdIn m → x6 ≡ one (sixBy row x l m tick (sasOf (state .table)))) where
+          (h6 : (l m : List Name) → Names gsaIn l → Names kdIn m → x6 ≡ one (number6By row x l m tick (sasOf (state .table)))) where
         pub at-6 : x6 ≡ true → Judged 6
         at-6 t = λ f q e.
             let n = none-4 f q e in
-            passing (four f) _ 6 n (passing (five lent f) _ 6 (sym n5 ∙ five-at f q e n x5 h5)
-            (applying (six state tick f) _ (sym t ∙ six-at f q e n x6 h6)))
+            passing (number4 f) _ 6 n (passing (number5 lent f) _ 6 (sym n5 ∙ five-at f q e n x5 h5)
+            (applying (number6 state tick f) _ (sym t ∙ six-at f q e n x6 h6)))
 
         module _ (n6 : x6 ≡ false) (m : ℕ) (u : m ≡ standingCount limits tick (state .table)) (x7 : Bool)
-            (h7 : x7 ≡ one (sevenBy limits x m)) where
-          after-6 : (r : ℕ) → ((f : Frame) → x7 ≡ applies (seven limits state tick f) → r ≡ judged (seven limits state tick f ∷ []))
+            (h7 : x7 ≡ one (number7By limits x m)) where
+          after-6 : (r : ℕ) → ((f : Frame) → x7 ≡ applies (number7 limits state tick f) → r ≡ judged (number7 limits state tick f ∷ []))
               → Judged r
           after-6 r h = λ f q e.
               let n = none-4 f q e in
-              passing (four f) _ r n (passing (five lent f) _ r (sym n5 ∙ five-at f q e n x5 h5)
-              (passing (six state tick f) _ r (sym n6 ∙ six-at f q e n x6 h6) (h f (seven-at f q e n x7 m u h7))))
+              passing (number4 f) _ r n (passing (number5 lent f) _ r (sym n5 ∙ five-at f q e n x5 h5)
+              (passing (number6 state tick f) _ r (sym n6 ∙ six-at f q e n x6 h6) (h f (seven-at f q e n x7 m u h7))))
 
           pub at-7 : x7 ≡ true → Judged 7
-          at-7 t = after-6 7 (λ f h. applying (seven limits state tick f) [] (sym t ∙ h))
+          at-7 t = after-6 7 (λ f h. applying (number7 limits state tick f) [] (sym t ∙ h))
 
           pub at-none : x7 ≡ false → Judged 0
-          at-none t = after-6 0 (λ f h. passing (seven limits state tick f) [] 0 (sym t ∙ h) none-judged)
+          at-none t = after-6 0 (λ f h. passing (number7 limits state tick f) [] 0 (sym t ∙ h) none-judged)

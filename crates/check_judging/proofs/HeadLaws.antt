@@ -12,7 +12,7 @@ use Rattle.state_keys.specs.Limits.{Limits}
 use Rattle.state_keys.proofs.Cases.{never, and-parts}
 use Rattle.wire_frames.specs.Header.{firstPayload, headerFits}
 use Rattle.wire_frames.specs.inner.Answers.{headerRead}
-use Rattle.wire_frames.specs.Frame.{Frame, frame, frameOf, exactly, payloads}
+use Rattle.wire_frames.specs.Frame.{Frame, frame, frameOf, nothingLeft, payloads}
 use Rattle.wire_frames.proofs.HeaderLaws.{header-not}
 use Rattle.wire_frames.specs.Exchange.{exchangeOf}
 use Rattle.wire_frames.specs.declared.exchanges.Exchange.{Exchange}
@@ -24,7 +24,7 @@ use Rattle.state.specs.declared.State.{State}
 use Rattle.state.specs.State.{stateFormed}
 use Rattle.state.specs.Held.{heldFormed}
 use Rattle.rules_refusals.specs.Contents.{rowOf}
-use Rattle.rules_refusals.specs.Refusals.{one, applies, judged, two, three, onFrame, refusal}
+use Rattle.rules_refusals.specs.Refusals.{one, applies, judged, number2, number3, onFrame, refusal}
 use Rattle.rules_refusals.proofs.Clear.{or-none, no-clause}
 use Rattle.check_judging.proofs.OrderLaws.{applying, passing}
 
@@ -44,38 +44,39 @@ module _ (limits : Limits) (state : State) (tick : ℕ) (lent s : List ℕ) (f :
   id-is : i ≡ f .header .messageId
   id-is = header-fields s p x i e .1 ∙ read-frame s f [] q .messageId
 
-  two-is : applies (two limits state tick x (take 16 s)) ≡ applies (two limits state tick (f .header .exchange) (f .header .spi))
-  two-is = λ j. applies (two limits state tick (exchange-is j) (read-frame s f [] q .spi j))
+  two-is : applies (number2 limits state tick x (take 16 s)) ≡ applies (number2 limits state tick (f .header .exchange) (f .header .spi))
+  two-is = λ j. applies (number2 limits state tick (exchange-is j) (read-frame s f [] q .spi j))
 
-  three-is : applies (three state x i) ≡ applies (three state (f .header .exchange) (f .header .messageId))
-  three-is = λ j. applies (three state (exchange-is j) (id-is j))
+  three-is : applies (number3 state x i) ≡ applies (number3 state (f .header .exchange) (f .header .messageId))
+  three-is = λ j. applies (number3 state (exchange-is j) (id-is j))
 
   pub row-is : (r : Exchange) → r ≡ exchangeOf x → rowOf f ≡ r
   row-is r g = sym (g ∙ ap exchangeOf exchange-is)
 
-  pub at-2 : true ≡ applies (two limits state tick x (take 16 s)) → 2 ≡ refusal limits state tick lent f
+  pub at-2 : true ≡ applies (number2 limits state tick x (take 16 s)) → 2 ≡ refusal limits state tick lent f
   unfolding refusal
-  at-2 g = applying (two limits state tick (f .header .exchange) (f .header .spi)) _ (g ∙ two-is)
+  at-2 g = applying (number2 limits state tick (f .header .exchange) (f .header .spi)) _ (g ∙ two-is)
 
-  pub at-3 : false ≡ applies (two limits state tick x (take 16 s)) → true ≡ applies (three state x i) → 3 ≡ refusal limits state tick lent f
+  pub at-3 : false ≡ applies (number2 limits state tick x (take 16 s)) → true ≡ applies (number3 state x i) →
+      3 ≡ refusal limits state tick lent f
   unfolding refusal
   at-3 g h =
-      passing (two limits state tick (f .header .exchange) (f .header .spi)) _ 3 (g ∙ two-is)
-      (applying (three state (f .header .exchange) (f .header .messageId)) _ (h ∙ three-is))
+      passing (number2 limits state tick (f .header .exchange) (f .header .spi)) _ 3 (g ∙ two-is)
+      (applying (number3 state (f .header .exchange) (f .header .messageId)) _ (h ∙ three-is))
 
-  pub further : (r : ℕ) → false ≡ applies (two limits state tick x (take 16 s)) → false ≡ applies (three state x i)
+  pub further : (r : ℕ) → false ≡ applies (number2 limits state tick x (take 16 s)) → false ≡ applies (number3 state x i)
       → r ≡ judged (onFrame limits state tick lent f) → r ≡ refusal limits state tick lent f
   unfolding refusal
   further r g h k =
-      passing (two limits state tick (f .header .exchange) (f .header .spi)) _ r (g ∙ two-is)
-      (passing (three state (f .header .exchange) (f .header .messageId)) _ r (h ∙ three-is) k)
+      passing (number2 limits state tick (f .header .exchange) (f .header .spi)) _ r (g ∙ two-is)
+      (passing (number3 state (f .header .exchange) (f .header .messageId)) _ r (h ∙ three-is) k)
 
 -- a member that keeps its list
-pub few-sas : (limits : Limits) (state : State) (tick x : ℕ) (spi : List ℕ) → false ≡ applies (two limits state tick x spi)
+pub few-sas : (limits : Limits) (state : State) (tick x : ℕ) (spi : List ℕ) → false ≡ applies (number2 limits state tick x spi)
     → state .table .count ≤ limits .sas
 unfolding stateFormed
 few-sas limits state tick x spi e =
-    let n = two limits state tick x spi in
+    let n = number2 limits state tick x spi in
     let b = no-clause (n .ofMember) 2 (or-none (one (n .ofFrame)) (one (n .ofMember)) (sym e) .1) in
     let g = and-parts (tableFormed limits (state .table)) (heldFormed limits (state .held)) (is-true (stateFormed limits state) b) in
     formed-count limits (state .table) (g .0)
@@ -88,5 +89,5 @@ few-sas limits state tick x spi e =
 pub no-header : (s : List ℕ) (f : Frame) → frame s ≡ whole f [] → header.Broken ≡ headerRead s → ⊥
 unfolding frame
 no-header s f q e =
-    let r = inverse-opened 0 (headerFits s) (mapped (frameOf s) (exactly (payloads (firstPayload s) 28 (drop 28 s)))) f [] q in
+    let r = inverse-opened 0 (headerFits s) (mapped (frameOf s) (nothingLeft (payloads (firstPayload s) 28 (drop 28 s)))) f [] q in
     never (headerFits s) (r .0) (header-not s e)

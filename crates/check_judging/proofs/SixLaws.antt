@@ -10,7 +10,7 @@ use lib.Dec.{ltb, eqb}
 use Rattle.state_keys.specs.Lists.{any, count}
 use Rattle.state_keys.specs.Limits.{limits}
 use Rattle.state_keys.proofs.Cases.{never, lt-cases}
-use Rattle.state_sa.specs.Entry.{named, rekey}
+use Rattle.state_sa.specs.Entry.{named, rekeyProtocol}
 use Rattle.state_table.specs.Table.{sasOf}
 use Rattle.state.specs.declared.State.{State}
 use Rattle.wire_policies.specs.Policy.{GroupSaPolicy}
@@ -18,21 +18,21 @@ use Rattle.wire_bags.specs.Bag.{GroupKeyBag}
 use Rattle.wire_frames.specs.Frame.{Frame}
 use Rattle.wire_frames.specs.declared.exchanges.Exchange.{Exchange}
 use Rattle.rules_refusals.specs.Contents.{rowOf, policiesOf, bagsOf, announced, groupBags}
-use Rattle.rules_refusals.specs.Number2.{standing}
+use Rattle.rules_refusals.specs.Number2.{notDueSas}
 use Rattle.rules_refusals.specs.Number6.{policiesNamed, bagsNamed, policyUnpaired, bagUnpaired, policyTwice, bagTwice, alreadyInTable}
-use Rattle.rules_refusals.specs.Number6.{otherSaKeyCount, saKeyCount, saKeyId, espKwkId, wrapKeyId, wrapsItself, six-ofFrame}
-use Rattle.rules_refusals.specs.Number6.{six-ofMember}
-use Rattle.rules_refusals.specs.Refusals.{one, six, applies}
+use Rattle.rules_refusals.specs.Number6.{otherSaKeyCount, saKeyCount, saKeyId, espKwkId, wrapKeyId, wrapsItself, number6OfFrame}
+use Rattle.rules_refusals.specs.Number6.{number6OfMember}
+use Rattle.rules_refusals.specs.Refusals.{one, number6, applies}
 use Rattle.rules_refusals.proofs.AnyOrder.{or-swap}
 use Rattle.rules_refusals.proofs.Gather.{any-either}
 use Rattle.check_bagkeys.specs.declared.BagFacts.{BagFacts}
-use Rattle.check_bagkeys.specs.inner.Facts.{factsOf as bagFacts}
+use Rattle.check_bagkeys.specs.inner.Facts.{bagFactsOf as bagFacts}
 use Rattle.check_bagkeys.proofs.KeyLaws.{any-of-map}
 use Rattle.check_pairing.specs.inner.Names.{Name, isNamed, isUnpaired, isAnnounced}
 use Rattle.check_pairing.proofs.InTable.{in-table}
 use Rattle.check_pairing.proofs.NamesOf.{policyNames, bagNames, policyName, bagName}
 use Rattle.check_pairing.proofs.Twice.{isTwice, twice-unpaired}
-use Rattle.check_judging.specs.inner.Tests.{sixOf}
+use Rattle.check_judging.specs.inner.Tests.{number6Of}
 
 count-of-map : {A B : Type 0} (f : A → B) (p : B → Bool) (l : List A) → count (λ (a : A). p (f a)) l ≡ count p (map f l)
 unfolding count
@@ -92,10 +92,10 @@ module _ (f : Frame) where
   key-counts =
       let c = rowOf f .copies in
       let none : GroupKeyBag → Bool = λ b. eqb (length (b .keys)) 0 in
-      let several : GroupKeyBag → Bool = λ b. not (eqb (b .protocol) rekey) && ltb 1 (length (b .keys)) in
-      let copied : GroupKeyBag → Bool = λ b. eqb (b .protocol) rekey && ltb 1 (length (b .keys)) in
+      let several : GroupKeyBag → Bool = λ b. not (eqb (b .protocol) rekeyProtocol) && ltb 1 (length (b .keys)) in
+      let copied : GroupKeyBag → Bool = λ b. eqb (b .protocol) rekeyProtocol && ltb 1 (length (b .keys)) in
       sym (
-      (λ i. inBags (λ (b : GroupKeyBag). by-count c (eqb (b .protocol) rekey) (length (b .keys)) i))
+      (λ i. inBags (λ (b : GroupKeyBag). by-count c (eqb (b .protocol) rekeyProtocol) (length (b .keys)) i))
       ∙ any-either (λ (b : GroupKeyBag). none b || several b) (λ (b : GroupKeyBag). not c && copied b) (groupBags f)
       ∙ (λ i. any-either none several (groupBags f) i || any-where (not c) copied (groupBags f) i))
 
@@ -140,7 +140,7 @@ module _ (f : Frame) where
   already : (s : State) (now : ℕ) → alreadyInTable s now f ≡ any (isAnnounced now ofPolicies) (sasOf (s .table))
   unfolding alreadyInTable
   already s now =
-      sym (any-of-map policyName (λ (n : Name). any (named (n .protocol) (n .spi)) (standing now s)) (announced f))
+      sym (any-of-map policyName (λ (n : Name). any (named (n .protocol) (n .spi)) (notDueSas now s)) (announced f))
       ∙ in-table now ofPolicies (sasOf (s .table))
 
 -- ---- all of them: k on keys, t on the table, p and q unpaired, pp and qq twice
@@ -154,8 +154,8 @@ tried k true false false false false f g = sym (or-true k)
 tried k false false false false false f g = sym (or-false k)
 
 module _ (row : Exchange) (f : Frame) (e : rowOf f ≡ row) (k : BagFacts) (kq : k ≡ bagFacts limits (bagsOf f)) (s : State) (now : ℕ) where
-  pub six-is : one (sixOf row k (ofPolicies f) (ofBags f) now (sasOf (s .table))) ≡ applies (six s now f)
-  unfolding one saKeyId espKwkId wrapKeyId wrapsItself six-ofFrame six-ofMember
+  pub six-is : one (number6Of row k (ofPolicies f) (ofBags f) now (sasOf (s .table))) ≡ applies (number6 s now f)
+  unfolding one saKeyId espKwkId wrapKeyId wrapsItself number6OfFrame number6OfMember
   six-is =
       (λ i. one (sym (policy-unpaired f) i ∷ sym (bag-unpaired f) i ∷ sym (already f s now) i
       ∷ ((kq i .keyless || kq i .several) || (not (sym e i .copies) && kq i .«several_of_rekey»))

@@ -14,7 +14,8 @@ use Rattle.check_judging.specs.inner.Verdicts.{verdictBy}
 
 module _ (n : ℕ) (x : Facts) where
   pub as-refused : (m : ℕ) → m ≡ n → (n ≡ 0 → ⊥) → verdict.Refused m ≡ verdictBy n x
-  as-refused m e z = ap (λ (k : ℕ). verdict.Refused k) e ∙ sym (ap (λ (b : Bool). either b (verdict.Passed x) (verdict.Refused n)) (ne-eqb n 0 z))
+  as-refused m e z = ap (λ (k : ℕ). verdict.Refused k) e ∙ sym
+      (ap (λ (b : Bool). either b (verdict.Passed x) (verdict.Refused n)) (ne-eqb n 0 z))
 
   pub as-passed : (y : Facts) → y ≡ x → n ≡ 0 → verdict.Passed y ≡ verdictBy n x
   as-passed y e z =

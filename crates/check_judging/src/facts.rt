@@ -10,7 +10,7 @@ ghost use mathlib.Core.Path.{_≡_};
 ghost use mathlib.Core.Bool.{true};
 ghost use Rattle.wire_frames.specs.Frame.{frame};
 ghost use Rattle.wire_readers.specs.inner.Values.{isWhole};
-ghost use Rattle.check_judging.specs.inner.Facts.{factsOf};
+ghost use Rattle.check_judging.specs.inner.Facts.{frameFactsOf};
 
 pub struct Facts {
     pub payloads: PayloadFacts,
@@ -23,7 +23,7 @@ pub struct Facts {
 // The facts of a frame of an exchange that has the controller's authentication or not. Internal.
 pub fn facts_of(authentication: bool, s: &[u8]) -> Facts
     requires { ⌜ isWhole (frame (now s)) ≡ true ⌝ }
-    ensures { λ r. ⌜ r ≡ factsOf authentication (now (s .entry)) ⌝ }
+    ensures { λ r. ⌜ r ≡ frameFactsOf authentication (now (s .entry)) ⌝ }
 {
     let payloads = payload_facts(s);
     let g = payloads.gsa;

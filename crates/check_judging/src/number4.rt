@@ -3,7 +3,7 @@ use crate::facts::Facts;
 use wire_frames::exchanges::Exchange;
 ghost use mathlib.Core.Path.{_≡_};
 ghost use Rattle.rules_refusals.specs.Refusals.{one};
-ghost use Rattle.check_judging.specs.inner.Tests.{fourBy, fourIn};
+ghost use Rattle.check_judging.specs.inner.Tests.{number4By, number4In};
 
 // The clauses of number 4, in the order in which documents 01 and 02 name them: whether each applies.
 pub struct Four {
@@ -28,7 +28,7 @@ pub struct Four {
 
 // Which clauses apply, in an exchange with this row, to a frame with these facts. Internal.
 pub fn clauses_4(row: Exchange, x: Facts) -> Four
-    ensures { λ r. ⌜ fourIn r ≡ fourBy row x ⌝ }
+    ensures { λ r. ⌜ number4In r ≡ number4By row x ⌝ }
 {
     let b = x.payloads;
     let p = x.policies;
@@ -70,7 +70,7 @@ pub fn clauses_4(row: Exchange, x: Facts) -> Four
 
 // Whether number 4 applies, in an exchange with this row, to a frame with these facts. Internal.
 pub fn number_4(row: Exchange, x: Facts) -> bool
-    ensures { λ r. ⌜ r ≡ one (fourBy row x) ⌝ }
+    ensures { λ r. ⌜ r ≡ one (number4By row x) ⌝ }
 {
     let c = clauses_4(row, x);
     c.critical

@@ -4,7 +4,7 @@ use state_keys::kinds::WrappingKey;
 use wire_frames::exchanges::Exchange;
 ghost use mathlib.Core.Path.{_≡_};
 ghost use Rattle.rules_refusals.specs.Refusals.{one};
-ghost use Rattle.check_judging.specs.inner.Tests.{fiveBy, fiveIn};
+ghost use Rattle.check_judging.specs.inner.Tests.{number5By, number5In};
 
 // The clauses of number 5, in the order in which document 01 names them: whether each applies.
 pub struct Five {
@@ -18,7 +18,7 @@ pub struct Five {
 
 // Which clauses apply, in an exchange with this row and with a lent key of so many octets, to a frame with these facts. Internal.
 pub fn clauses_5(row: Exchange, lent: usize, x: Facts) -> Five
-    ensures { λ r. ⌜ fiveIn r ≡ fiveBy row lent x ⌝ }
+    ensures { λ r. ⌜ number5In r ≡ number5By row lent x ⌝ }
 {
     let b = x.payloads;
     let d = b.deletion;
@@ -46,7 +46,7 @@ pub fn clauses_5(row: Exchange, lent: usize, x: Facts) -> Five
 
 // Whether number 5 applies, in an exchange with this row and with a lent key of so many octets, to a frame with these facts. Internal.
 pub fn number_5(row: Exchange, lent: usize, x: Facts) -> bool
-    ensures { λ r. ⌜ r ≡ one (fiveBy row lent x) ⌝ }
+    ensures { λ r. ⌜ r ≡ one (number5By row lent x) ⌝ }
 {
     let c = clauses_5(row, lent, x);
     c.ah_policy | c.ah_bag | c.unfit | c.other | c.none | c.key

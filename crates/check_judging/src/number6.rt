@@ -11,7 +11,7 @@ ghost use Rattle.state_keys.specs.Limits.{limits};
 ghost use Rattle.state_table.specs.Table.{sasOf};
 ghost use Rattle.check_pairing.specs.inner.Names.{Name, Names};
 ghost use Rattle.rules_refusals.specs.Refusals.{one};
-ghost use Rattle.check_judging.specs.inner.Tests.{keysBy, keysIn, sixBy};
+ghost use Rattle.check_judging.specs.inner.Tests.{keysBy, keysIn, number6By};
 
 // The clauses of number 6 on the keys of the bags, in the order in which document 01 and T-09 name them: whether each applies.
 pub struct Keys {
@@ -58,7 +58,7 @@ pub fn any_unfit_key(row: Exchange, k: BagFacts) -> bool
 pub fn number_6(row: Exchange, x: Facts, gsa: &[u8], kd: &[u8], t: Table, tick: u32) -> bool
     requires { ⌜ ((l : List Name) × Names (now gsa) l) × ((m : List Name) × Names (now kd) m) × (t .count ≤ limits .sas) ⌝ }
     ensures { λ r. ⌜ ((l m : List Name) → Names (now (gsa .entry)) l → Names (now (kd .entry)) m →
-        r ≡ one (sixBy row x l m tick (sasOf t))) ⌝ }
+        r ≡ one (number6By row x l m tick (sasOf t))) ⌝ }
 {
     let k = x.bags;
     if any_unfit_key(row, k) {

@@ -9,7 +9,7 @@ ghost use Prim.Native.Nat.{_+_};
 ghost use lib.Dec.{ltb};
 ghost use Rattle.state_keys.specs.Limits.{limits};
 ghost use Rattle.rules_refusals.specs.Refusals.{one};
-ghost use Rattle.check_judging.specs.inner.Tests.{sevenBy, sevenIn};
+ghost use Rattle.check_judging.specs.inner.Tests.{number7By, number7In};
 
 // Whether so many SAs that stand and so many more are too many for the table.
 fn is_over(standing: usize, more: usize) -> bool
@@ -33,7 +33,7 @@ pub struct Seven {
 
 // Which clauses apply to a frame with these facts, where so many SAs stand. Internal.
 pub fn clauses_7(x: Facts, standing: usize) -> Seven
-    ensures { λ r. ⌜ sevenIn r ≡ sevenBy limits x standing ⌝ }
+    ensures { λ r. ⌜ number7In r ≡ number7By limits x standing ⌝ }
 {
     let b = x.payloads;
     let d = b.deletion;
@@ -63,7 +63,7 @@ pub fn clauses_7(x: Facts, standing: usize) -> Seven
 
 // Whether number 7 applies to a frame with these facts, where so many SAs stand. Internal.
 pub fn number_7(x: Facts, standing: usize) -> bool
-    ensures { λ r. ⌜ r ≡ one (sevenBy limits x standing) ⌝ }
+    ensures { λ r. ⌜ r ≡ one (number7By limits x standing) ⌝ }
 {
     let c = clauses_7(x, standing);
     c.esps | c.wraps | c.overfull | c.spis | c.long | c.sas

@@ -21,7 +21,7 @@ ghost use Rattle.wire_frames.specs.Frame.{Frame, frame};
 ghost use Rattle.wire_readers.specs.inner.Values.{isWhole};
 ghost use Rattle.rules_refusals.specs.Contents.{rowOf};
 ghost use Rattle.rules_refusals.specs.Refusals.{judged, onFrame, refusal as refusalOf};
-ghost use Rattle.check_judging.specs.inner.Facts.{factsOf};
+ghost use Rattle.check_judging.specs.inner.Facts.{frameFactsOf};
 ghost use Rattle.check_judging.specs.inner.Verdicts.{verdictBy};
 
 // The number that applies first, or, where none does, the facts of the frame for what follows.
@@ -34,7 +34,7 @@ pub enum Verdict {
 fn on_facts(state: State, row: Exchange, s: &[u8], x: Facts, lent: &[u8], tick: u32) -> usize
     requires { ⌜ state .table .count ≤ limits .sas ⌝ }
     requires { ⌜ isWhole (frame (now s)) ≡ true ⌝ }
-    requires { ⌜ x ≡ factsOf (row .authentication) (now s) ⌝ }
+    requires { ⌜ x ≡ frameFactsOf (row .authentication) (now s) ⌝ }
     requires { ⌜ ((f : Frame) → frame (now s) ≡ whole f [] → rowOf f ≡ row) ⌝ }
     ensures { λ r. ⌜ ((f : Frame) → frame (now (s .entry)) ≡ whole f [] →
         r ≡ judged (onFrame limits state tick (now (lent .entry)) f)) ⌝ }
@@ -68,7 +68,7 @@ fn on_frame(state: State, row: Exchange, s: &[u8], lent: &[u8], tick: u32) -> Ve
     requires { ⌜ isWhole (frame (now s)) ≡ true ⌝ }
     requires { ⌜ ((f : Frame) → frame (now s) ≡ whole f [] → rowOf f ≡ row) ⌝ }
     ensures { λ r. ⌜ ((f : Frame) → frame (now (s .entry)) ≡ whole f [] →
-        r ≡ verdictBy (judged (onFrame limits state tick (now (lent .entry)) f)) (factsOf (row .authentication) (now (s .entry)))) ⌝ }
+        r ≡ verdictBy (judged (onFrame limits state tick (now (lent .entry)) f)) (frameFactsOf (row .authentication) (now (s .entry)))) ⌝ }
 {
     let x = facts_of(row.authentication, s);
     let n = on_facts(state, row, s, x, lent, tick);
@@ -82,9 +82,9 @@ fn on_frame(state: State, row: Exchange, s: &[u8], lent: &[u8], tick: u32) -> Ve
 pub fn refusal(state: State, s: &[u8], lent: &[u8], tick: u32) -> Verdict
     requires { ⌜ isWhole (frame (now s)) ≡ true ⌝ }
     ensures { λ r. ⌜ ((f : Frame) → frame (now (s .entry)) ≡ whole f [] →
-        r ≡ verdictBy (refusalOf limits state tick (now (lent .entry)) f) (factsOf (rowOf f .authentication) (now (s .entry)))) ⌝ }
+        r ≡ verdictBy (refusalOf limits state tick (now (lent .entry)) f) (frameFactsOf (rowOf f .authentication) (now (s .entry)))) ⌝ }
 {
-    match wire_frames::header_read(s) {
+    match wire_frames::read_header(s) {
         HeaderRead::Header {
             first: _,
             exchange,

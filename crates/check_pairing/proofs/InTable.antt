@@ -8,7 +8,7 @@ use lib.ListN.{length, take, drop, getD}
 use lib.Dec.{ltb}
 use Rattle.state_keys.specs.Lists.{any, count}
 use Rattle.state_keys.proofs.Parts.{part-cons, part-end}
-use Rattle.state_sa.specs.Entry.{named, due, spiOf, spiSize}
+use Rattle.state_sa.specs.Entry.{named, due, saSpi, saSpiSize}
 use Rattle.state_sa.specs.declared.entry.Sa.{Sa}
 use Rattle.state_table.specs.Table.{stays, notDue}
 use Rattle.rules_refusals.proofs.Gather.{any-count}
@@ -19,16 +19,16 @@ module _ (now : ℕ) (s : Sa) (l : List Name) where
   pub announced-due : due now s ≡ true → false ≡ isAnnounced now l s
   announced-due e = rw e
 
-  such-names : (n : Name) → isNamed (s .protocol) (spiOf s) n ≡ named (n .protocol) (n .spi) s
+  such-names : (n : Name) → isNamed (s .protocol) (saSpi s) n ≡ named (n .protocol) (n .spi) s
   unfolding named
-  such-names n = λ i. eqb-swap (n .protocol) (s .protocol) i && same-swap (n .spi) (spiOf s) i
+  such-names n = λ i. eqb-swap (n .protocol) (s .protocol) i && same-swap (n .spi) (saSpi s) i
 
-  module _ (m p n : ℕ) (e : due now s ≡ false) (f : p ≡ s .protocol) (g : n ≡ spiSize (s .protocol)) where
+  module _ (m p n : ℕ) (e : due now s ≡ false) (f : p ≡ s .protocol) (g : n ≡ saSpiSize (s .protocol)) where
     pub announced-counted : m ≡ count (isNamed p (take (n - 0) (s .spi))) l → ltb 0 m ≡ isAnnounced now l s
     announced-counted h =
-        let z : n - 0 ≡ spiSize (s .protocol) = omega arith in
+        let z : n - 0 ≡ saSpiSize (s .protocol) = omega arith in
         ap (ltb 0) (h ∙ (λ i. count (isNamed (f i) (take (z i) (s .spi))) l))
-        ∙ sym (any-count (isNamed (s .protocol) (spiOf s)) l) ∙ (λ i. any (λ (x : Name). such-names x i) l) ∙ rw e
+        ∙ sym (any-count (isNamed (s .protocol) (saSpi s)) l) ∙ (λ i. any (λ (x : Name). such-names x i) l) ∙ rw e
 
 -- ---- the pass over the SAs of the table
 module _ {A : Type 0} (p : A → Bool) (l : List A) (n : ℕ) (h : n ≤ length l) (j : ℕ) where

@@ -22,7 +22,7 @@ use Rattle.wire_readers.specs.inner.Bags.{bagsIn}
 use Rattle.wire_readers.specs.declared.policy.Parts.{Parts}
 use Rattle.wire_readers.proofs.PoliciesLaws.{policy-is, fits-first as policy-fits}
 use Rattle.wire_readers.proofs.BagsLaws.{bag-is, fits-first as bag-fits}
-use Rattle.rules_refusals.specs.Contents.{gather, saOf, groupBagOf}
+use Rattle.rules_refusals.specs.Contents.{gather, groupSaIn, groupBagOf}
 use Rattle.check_bagkeys.proofs.BagAt.{no-bags}
 use Rattle.check_pairing.specs.inner.Names.{Name, nameAt, Names, no-more, next}
 
@@ -75,7 +75,7 @@ bagName b = record { protocol = b .protocol; spi = b .spi }
 
 -- ---- policies
 abbrev pub policyNames : List Policy → List Name
-policyNames l = map policyName (gather saOf l)
+policyNames l = map policyName (gather groupSaIn l)
 
 policies-done : (s : List ℕ) → length s ≡ 0 → policyNames (policiesIn s) ≡ []
 unfolding gather

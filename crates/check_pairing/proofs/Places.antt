@@ -23,7 +23,7 @@ use Rattle.rules_refusals.specs.Contents.{gather, groupBagOf}
 use Rattle.rules_refusals.specs.Number6.{bagNamed}
 use Rattle.check_bagkeys.proofs.BagAt.{BagAt, bag-there, bag-at}
 use Rattle.check_pairing.specs.inner.Names.{nameOf, nameAt, isNamed}
-use Rattle.check_pairing.specs.inner.Stretches.{bagFrom, bagOf}
+use Rattle.check_pairing.specs.inner.Stretches.{bagFrom, bagStretch}
 use Rattle.check_pairing.proofs.NamesOf.{parts, heads}
 use Rattle.check_pairing.proofs.Seeking.{StretchIs, Seeking, seeking-start, seeking-end, seeking-yes, seeking-no}
 
@@ -56,21 +56,21 @@ module _ (p : ℕ) (x : List ℕ) (k : List ℕ) where
     pub rest : isWhole (bags 0 (drop at k)) ≡ true
     pub fuel : ℕ
     pub enough : length k ≤ at + fuel
-    pub left : bagFrom fuel p x at k ≡ bagOf p x k
+    pub left : bagFrom fuel p x at k ≡ bagStretch p x k
 
   pub going-start : isWhole (bags 0 k) ≡ true → Going 0
   going-start e = record { inside = omega arith; rest = e; fuel = length k; enough = omega arith; left = refl }
 
   module _ (at : ℕ) (g : Going at) where
-    pub going-end : length k ≤ at → nowhere ≡ bagOf p x k
+    pub going-end : length k ≤ at → nowhere ≡ bagStretch p x k
     going-end h = sym (nothing-from (g .fuel) at h) ∙ g .left
 
     module _ (h : at < length k) (r : Parts) (a : BagAt k at r) (b : Bool)
         (f : b ≡ any (isNamed p x) (nameOf (r .first) (part k (at + 4) (at + r .body)))) where
-      one-less : bagFrom (suc (g .fuel - 1)) p x at k ≡ bagOf p x k
+      one-less : bagFrom (suc (g .fuel - 1)) p x at k ≡ bagStretch p x k
       one-less = let u : suc (g .fuel - 1) ≡ g .fuel = omega (arith, g .enough) in ap (λ (n : ℕ). bagFrom n p x at k) u ∙ g .left
 
-      pub going-yes : b ≡ true → record { start = at + r .body; end = at + r .end } ≡ bagOf p x k
+      pub going-yes : b ≡ true → record { start = at + r .body; end = at + r .end } ≡ bagStretch p x k
       going-yes t = sym (bag-here (g .fuel - 1) at h r a b f t) ∙ one-less
 
       pub going-no : b ≡ false → Going (at + r .end)
@@ -108,6 +108,6 @@ module _ (p : ℕ) (x : List ℕ) (k : List ℕ) where
       (stretch-from n (at + r .end) (omega (arith, a .1 .some, a .1 .order)) (seeking-no p x k at s r (a .1) y refl t) o)))
       (λ h. absurd (seeking-end p x k at s h o))
 
-  pub stretch-is : (r : Stretch) → r ≡ bagOf p x k → isWhole (bags 0 k) ≡ true
+  pub stretch-is : (r : Stretch) → r ≡ bagStretch p x k → isWhole (bags 0 k) ≡ true
       → count (bagNamed p x) (gather groupBagOf (bagsIn k)) ≡ 1 → StretchIs k p x r
   stretch-is r e w o = subst (StretchIs k p x) (sym e) (stretch-from (length k) 0 (omega arith) (seeking-start p x k w) o)

@@ -15,7 +15,7 @@ use Rattle.wire_attributes.specs.Place.{inBag}
 use Rattle.wire_attributes.specs.Layout.{attributes}
 use Rattle.wire_attributes.specs.declared.tables.Place.the-variants as place
 use Rattle.wire_attributes.specs.Tree.{saKeys, wrapKeys}
-use Rattle.wire_policies.specs.Policy.{spiOf}
+use Rattle.wire_policies.specs.Policy.{headSpi}
 use Rattle.wire_bags.specs.Bag.{Bag, groupKeys, memberKeys, GroupKeyBag, MemberKeyBag, placeOf, bags}
 use Rattle.wire_readers.specs.inner.Values.{isWhole, attributesIn}
 use Rattle.wire_readers.specs.inner.Bags.{bagsIn}
@@ -94,7 +94,7 @@ module _ (p : ℕ) (x : List ℕ) where
         abbrev asGroup : GroupKeyBag
         asGroup = record {
           protocol = r .first;
-          spi = spiOf (drop at k);
+          spi = headSpi (drop at k);
           keys = saKeys (inBag (r .first)) (attributesIn (placeOf (r .first)) octets);
         }
 
@@ -102,7 +102,7 @@ module _ (p : ℕ) (x : List ℕ) where
         others = bagsIn (drop (at + r .end) k)
 
         module _ (b : Bool) (f : b ≡ any (isNamed p x) (nameOf (r .first) (part k (at + 4) (at + r .body)))) where
-          its-name : any (isNamed p x) (nameOf (r .first) (spiOf (drop at k))) ≡ b
+          its-name : any (isNamed p x) (nameOf (r .first) (headSpi (drop at k))) ≡ b
           its-name = sym (f ∙ ap (λ (y : List ℕ). any (isNamed p x) (nameOf (r .first) y)) (a .spi))
 
           pub seeking-no : b ≡ false → Seeking (at + r .end)
@@ -124,7 +124,7 @@ module _ (p : ℕ) (x : List ℕ) where
                 g ∙ ap (λ (l : List GroupKeyBag). asGroup ∷ l) (only-one asGroup (named others) n)
 
             protocol-is : r .first ≡ p
-            protocol-is = eqb-true (r .first) p (and-parts (eqb (r .first) p) (same (spiOf (drop at k)) x) (found .1) .0)
+            protocol-is = eqb-true (r .first) p (and-parts (eqb (r .first) p) (same (headSpi (drop at k)) x) (found .1) .0)
 
             place-is : placeOf (r .first) ≡ inBag p
             place-is = ap (λ (t : Bool). either t place.MemberBag (inBag (r .first))) (found .0) ∙ ap inBag protocol-is

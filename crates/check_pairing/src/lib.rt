@@ -13,9 +13,9 @@ use state_sa::entry::Sa;
 use state_table::Table;
 
 // Whether this SA of the table is not due and has the name of a policy of the GSA body.
-fn is_announced(s: Sa, g: &[u8], tick: u32) -> bool
-    requires { ⌜ ((l : List Name) × Names (now g) l) ⌝ }
-    ensures { λ r. ⌜ ((l : List Name) → Names (now (g .entry)) l → r ≡ isAnnounced tick l s) ⌝ }
+fn is_announced(s: Sa, gsa: &[u8], tick: u32) -> bool
+    requires { ⌜ ((l : List Name) × Names (now gsa) l) ⌝ }
+    ensures { λ r. ⌜ ((l : List Name) → Names (now (gsa .entry)) l → r ≡ isAnnounced tick l s) ⌝ }
 {
     if s.due(tick) {
         return false;
@@ -23,19 +23,19 @@ fn is_announced(s: Sa, g: &[u8], tick: u32) -> bool
     let p = s.protocol;
     let x = s.spi;
     let n = state_sa::entry::spi_size(p);
-    0 < names::count_names(octets::wide(p), &x[0..n], g)
+    0 < names::count_names(octets::wide(p), &x[0..n], gsa)
 }
 
 // Whether some SA of the table is not due and has the name of a policy of the GSA body. Internal.
-pub fn any_in_table(g: &[u8], t: Table, tick: u32) -> bool
-    requires { ⌜ ((l : List Name) × Names (now g) l) × (t .count ≤ limits .sas) ⌝ }
-    ensures { λ r. ⌜ ((l : List Name) → Names (now (g .entry)) l → r ≡ any (isAnnounced tick l) (sasOf t)) ⌝ }
+pub fn any_in_table(gsa: &[u8], t: Table, tick: u32) -> bool
+    requires { ⌜ ((l : List Name) × Names (now gsa) l) × (t .count ≤ limits .sas) ⌝ }
+    ensures { λ r. ⌜ ((l : List Name) → Names (now (gsa .entry)) l → r ≡ any (isAnnounced tick l) (sasOf t)) ⌝ }
 {
     let n = t.count;
     let mut i: usize = 0;
     while i < n {
         let s = t.sas[i];
-        if is_announced(s, g, tick) {
+        if is_announced(s, gsa, tick) {
             return true;
         }
         i += 1;

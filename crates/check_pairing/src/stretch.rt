@@ -3,23 +3,23 @@ ghost use mathlib.Core.Path.{_≡_};
 ghost use mathlib.Core.Bool.{true};
 ghost use Rattle.wire_bags.specs.Bag.{bags};
 ghost use Rattle.wire_readers.specs.inner.Values.{isWhole};
-ghost use Rattle.check_pairing.specs.inner.Stretches.{bagOf};
+ghost use Rattle.check_pairing.specs.inner.Stretches.{bagStretch};
 use crate::names::is_named;
 use ikev2_numbers::POLICY_HEAD;
 use wire_readers::Stretch;
 
 // Where the attributes of the first Group Key Bag of a KD body with this protocol and SPI stand in the body. Internal.
-pub fn bag_stretch(k: &[u8], protocol: usize, spi: &[u8]) -> Stretch
-    requires { ⌜ isWhole (bags 0 (now k)) ≡ true ⌝ }
-    ensures { λ r. ⌜ r ≡ bagOf protocol (now (spi .entry)) (now (k .entry)) ⌝ }
+pub fn bag_stretch(kd: &[u8], protocol: usize, spi: &[u8]) -> Stretch
+    requires { ⌜ isWhole (bags 0 (now kd)) ≡ true ⌝ }
+    ensures { λ r. ⌜ r ≡ bagStretch protocol (now (spi .entry)) (now (kd .entry)) ⌝ }
 {
     let mut at = 0;
-    while at < k.len() {
-        let p = wire_readers::bag::bag_parts(&k[at..]);
+    while at < kd.len() {
+        let p = wire_readers::bag::bag_parts(&kd[at..]);
         let name = at + POLICY_HEAD;
         let start = at + p.body;
         let end = at + p.end;
-        if is_named(protocol, spi, p.first, &k[name..start]) {
+        if is_named(protocol, spi, p.first, &kd[name..start]) {
             return Stretch { start, end };
         }
         at = end;

@@ -11,7 +11,7 @@ use Rattle.octets.specs.Walk.{part, either}
 use Rattle.state_keys.specs.Lists.{keep}
 use Rattle.state_keys.proofs.Cases.{bool-cases}
 use Rattle.wire_frames.specs.Delete.{Delete}
-use Rattle.wire_frames.specs.Frame.{Payload, payloads, exactly}
+use Rattle.wire_frames.specs.Frame.{Payload, payloads, nothingLeft}
 use Rattle.wire_readers.specs.inner.Values.{nowhere, isWhole}
 use Rattle.wire_readers.specs.inner.Payloads.{payloadsIn}
 use Rattle.wire_readers.specs.declared.Stretch.{Stretch}
@@ -80,7 +80,7 @@ module _ (w : ℕ) (s : List ℕ) where
         body = subst (FirstBody w (part s (y .start) (y .end))) (sym (keep-next w k s at r g e)) (f .body);
       })
 
-  pub first-from : (n k at : ℕ) → at ≤ length s → length s ≤ at + n → isWhole (exactly (payloads k 0 (drop at s))) ≡ true
+  pub first-from : (n k at : ℕ) → at ≤ length s → length s ≤ at + n → isWhole (nothingLeft (payloads k 0 (drop at s))) ≡ true
       → FirstOf w s (payloadsIn k (drop at s)) (bodyFrom n w k at s)
   first-from zero k at h m e =
       bool-cases (eqb k 0)
@@ -104,7 +104,7 @@ module _ (s : List ℕ) where
   FirstDelete l x = (4 ≤ x .start) × DeletesFrom s l (x .start - 4)
 
   this-delete : (k at : ℕ) (r : PayloadParts) (x : Stretch) → Step k s at r → at ≤ length s
-      → isWhole (exactly (payloads k 0 (drop at s))) ≡ true → k ≡ 42 → x ≡ record { start = at + 4; end = at + r .end }
+      → isWhole (nothingLeft (payloads k 0 (drop at s))) ≡ true → k ≡ 42 → x ≡ record { start = at + 4; end = at + r .end }
       → FirstDelete (deletesAmong (payloadsIn k (drop at s))) x
   this-delete k at r x g h e d q =
       let a : x .start ≡ at + 4 = ap (λ (y : Stretch). y .start) q in
@@ -113,13 +113,14 @@ module _ (s : List ℕ) where
         subst (DeletesFrom s (deletesAmong (payloadsIn k (drop at s)))) b
             (record {
               inside = h;
-              rest = subst (λ (n : ℕ). isWhole (exactly (payloads n 0 (drop at s))) ≡ true) d e;
+              rest = subst (λ (n : ℕ). isWhole (nothingLeft (payloads n 0 (drop at s))) ≡ true) d e;
               all = ap (λ (n : ℕ). deletesAmong (payloadsIn n (drop at s))) (sym d);
             }),
       )
 
-  pub deletes-from : (n k at : ℕ) → at ≤ length s → length s ≤ at + n → isWhole (exactly (payloads k 0 (drop at s))) ≡ true
-      → (length (deletesAmong (payloadsIn k (drop at s))) ≡ 0 → ⊥) → FirstDelete (deletesAmong (payloadsIn k (drop at s))) (bodyFrom n 42 k at s)
+  pub deletes-from : (n k at : ℕ) → at ≤ length s → length s ≤ at + n → isWhole (nothingLeft (payloads k 0 (drop at s))) ≡ true
+      → (length (deletesAmong (payloadsIn k (drop at s))) ≡ 0 → ⊥) → FirstDelete (deletesAmong (payloadsIn k (drop at s)))
+      (bodyFrom n 42 k at s)
   deletes-from zero k at h m e some =
       bool-cases (eqb k 0) (λ t. absurd (some (ap length (delete-none (drop at s) k (eqb-true k 0 t)))))
       (λ t. let g = a-step k s at h (eqb-false k 0 t) e in absurd (omega (arith, g .1 .some, g .1 .inside)))

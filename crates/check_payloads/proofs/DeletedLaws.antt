@@ -14,7 +14,7 @@ use Rattle.wire_frames.proofs.DeleteGrammar.{delete-from}
 use Rattle.wire_frames.proofs.FrameGrammar.{read-frame}
 use Rattle.wire_readers.specs.inner.Payloads.{payloadsIn}
 use Rattle.wire_readers.specs.declared.payload.PayloadParts.{PayloadParts}
-use Rattle.rules_refusals.specs.Contents.{gather, deletesIn, deletesOf}
+use Rattle.rules_refusals.specs.Contents.{gather, deletesOfContent, deletesOf}
 use Rattle.rules_refusals.proofs.OneOf.{or-false}
 use Rattle.check_payloads.specs.inner.Facts.{payloadsOf}
 use Rattle.check_payloads.specs.inner.Deletion.{ofOther, ofNone, spisIn, deletesAmong, deletesBy, withOne}
@@ -56,13 +56,13 @@ sums-all d all s =
     }
 
 -- THE DELETE PAYLOADS FROM A PAYLOAD ON
-in-delete : {k : ℕ} {o : List ℕ} (c : Content) → IsContent k o c → k ≡ 42 → (deleteFits o ≡ true) × (deletesIn c ≡ deleteOf o ∷ [])
+in-delete : {k : ℕ} {o : List ℕ} (c : Content) → IsContent k o c → k ≡ 42 → (deleteFits o ≡ true) × (deletesOfContent c ≡ deleteOf o ∷ [])
 in-delete (gsa l) (is-gsa e f) q = absurd (omega (arith, e, q))
 in-delete (kd l) (is-kd e f) q = absurd (omega (arith, e, q))
 in-delete {o = o} (delete d) (is-delete e f) q = let g = delete-from o d f in (g .0, ap (λ (x : Delete). x ∷ []) (sym (g .1)))
 in-delete unread (is-unread a b c) q = absurd (c q)
 
-not-delete : {k : ℕ} {o : List ℕ} (c : Content) → IsContent k o c → (k ≡ 42 → ⊥) → deletesIn c ≡ []
+not-delete : {k : ℕ} {o : List ℕ} (c : Content) → IsContent k o c → (k ≡ 42 → ⊥) → deletesOfContent c ≡ []
 not-delete (gsa l) (is-gsa e f) q = refl
 not-delete (kd l) (is-kd e f) q = refl
 not-delete (delete d) (is-delete e f) q = absurd (q e)
@@ -70,7 +70,7 @@ not-delete unread (is-unread a b c) q = refl
 
 module _ (k : ℕ) (s : List ℕ) (at : ℕ) (r : PayloadParts) (g : Step k s at r) where
   next-list : deletesAmong (payloadsIn k (drop at s))
-      ≡ deletesIn (g .one .content) ++ deletesAmong (payloadsIn (r .next) (drop (at + r .end) s))
+      ≡ deletesOfContent (g .one .content) ++ deletesAmong (payloadsIn (r .next) (drop (at + r .end) s))
   unfolding gather
   next-list = ap deletesAmong (g .item)
 

@@ -21,7 +21,7 @@ use Rattle.rules_refusals.specs.Contents.{hasGsa, hasKd, policiesOf, bagsOf, de
 use Rattle.rules_refusals.specs.Number4.{unknownCritical, criticalUnknown}
 use Rattle.rules_refusals.specs.Number5.{deleteOfOther, deleteOfNone}
 use Rattle.check_payloads.specs.inner.Places.{bodyOf}
-use Rattle.check_payloads.specs.inner.Facts.{payloadsOf, ofKind, factsOf}
+use Rattle.check_payloads.specs.inner.Facts.{payloadsOf, ofKind, payloadFactsOf}
 use Rattle.check_payloads.specs.inner.Deletion.{ofOther, ofNone, spisIn, deletesAmong, DeletesFrom}
 use Rattle.check_payloads.specs.declared.PayloadFacts.{PayloadFacts}
 use Rattle.check_payloads.specs.declared.deletion.Deletes.{Deletes}
@@ -89,7 +89,7 @@ module _ (s : List ℕ) (f : Frame) (q : frame s ≡ whole f []) where
       (λ z. some (ap length (sym e) ∙ z)) in
       (d .0, subst (λ (l : List Delete). DeletesFrom s l (bodyOf 42 s .start - 4)) e (d .1))
 
-  pub of-frame : OfFrame s f (factsOf s)
+  pub of-frame : OfFrame s f (payloadFactsOf s)
   unfolding criticalUnknown deleteOfOther deleteOfNone
   of-frame =
       let e = among-frame s f q in
@@ -119,5 +119,5 @@ module _ (s : List ℕ) (f : Frame) (q : frame s ≡ whole f []) where
       }
 
 -- of facts that equal them
-pub facts-of : (s : List ℕ) (r : PayloadFacts) → r ≡ factsOf s → (f : Frame) → frame s ≡ whole f [] → OfFrame s f r
+pub facts-of : (s : List ℕ) (r : PayloadFacts) → r ≡ payloadFactsOf s → (f : Frame) → frame s ≡ whole f [] → OfFrame s f r
 facts-of s r e f q = subst (OfFrame s f) (sym e) (of-frame s f q)

@@ -8,7 +8,7 @@ use lib.ListN.{length, drop}
 use Rattle.octets.specs.Walk.{Reading, whole, broken}
 use Rattle.octets.proofs.Grammar.{reads}
 use Rattle.wire_frames.specs.Header.{firstPayload}
-use Rattle.wire_frames.specs.Frame.{Frame, Payload, payload, noneNext, payloads, exactly, frame}
+use Rattle.wire_frames.specs.Frame.{Frame, Payload, payload, noneNext, payloads, nothingLeft, frame}
 use Rattle.wire_frames.specs.Grammar.{IsPayload, IsFrame}
 use Rattle.wire_frames.proofs.PayloadLaws.{takes}
 use Rattle.wire_frames.proofs.FrameGrammar.{sound, complete, read-frame, frame-read}
@@ -26,8 +26,8 @@ module _ (s : List ℕ) (f : Frame) (i : IsFrame s f) where
   pub are-payloads : f .payloads ≡ payloadsOf s
   are-payloads = ap itemsOf (sym read-at)
 
-  pub whole-payloads : isWhole (exactly (payloads (firstPayload s) 0 (drop 28 s))) ≡ true
-  whole-payloads = ap (λ (x : Reading (List Payload)). isWhole (exactly x)) read-at
+  pub whole-payloads : isWhole (nothingLeft (payloads (firstPayload s) 0 (drop 28 s))) ≡ true
+  whole-payloads = ap (λ (x : Reading (List Payload)). isWhole (nothingLeft x)) read-at
 
 module _ (s : List ℕ) (e : isWhole (frame s) ≡ true) where
   pub is-frame : (f : Frame) × IsFrame s f
@@ -42,5 +42,5 @@ module _ (s : List ℕ) (e : isWhole (frame s) ≡ true) where
   pub short : length s ≤ 16384
   short = is-frame .1 .most
 
-  pub starts-whole : isWhole (exactly (payloads (firstPayload s) 0 (drop 28 s))) ≡ true
+  pub starts-whole : isWhole (nothingLeft (payloads (firstPayload s) 0 (drop 28 s))) ≡ true
   starts-whole = let w = is-frame in whole-payloads s (w .0) (w .1)

@@ -20,7 +20,8 @@ use Rattle.wire_readers.specs.inner.Values.{isWhole}
 use Rattle.wire_readers.specs.inner.Policies.{policiesIn}
 use Rattle.wire_readers.specs.inner.Bags.{bagsIn}
 use Rattle.wire_readers.proofs.ValuesLaws.{is-whole}
-use Rattle.rules_refusals.specs.Contents.{gather, isGsa, isKd, hasGsa, hasKd, policiesIn as policiesOfOne, bagsIn as bagsOfOne, deletesIn}
+use Rattle.rules_refusals.specs.Contents.{gather, isGsa, isKd, hasGsa, hasKd, policiesOfContent as policiesOfOne}
+use Rattle.rules_refusals.specs.Contents.{bagsOfContent as bagsOfOne, deletesOfContent}
 use Rattle.check_payloads.specs.inner.Facts.{ofKind}
 use Rattle.check_payloads.proofs.KindLaws.{FirstBody, no-body, a-body}
 
@@ -51,7 +52,7 @@ module _ {k : ℕ} {o : List ℕ} where
   kd-kind (is-delete e f) = at-kind 42 52 e
   kd-kind (is-unread a b c) = sym (ne-eqb k 52 b)
 
-  delete-kind : {c : Content} → IsContent k o c → length (deletesIn c) ≡ cond (eqb k 42) 1 0
+  delete-kind : {c : Content} → IsContent k o c → length (deletesOfContent c) ≡ cond (eqb k 42) 1 0
   delete-kind (is-gsa e f) = ap (λ (t : Bool). cond t 1 0) (at-kind 51 42 e)
   delete-kind (is-kd e f) = ap (λ (t : Bool). cond t 1 0) (at-kind 52 42 e)
   delete-kind (is-delete e f) = ap (λ (t : Bool). cond t 1 0) (at-kind 42 42 e)
@@ -84,13 +85,14 @@ one-more : (t : Bool) (n m x y : ℕ) → x ≡ cond t 1 0 → n ≡ x + y → y
 one-more true n m x y e f g = omega arith
 one-more false n m x y e f g = omega arith
 
-pub count-deletes : {l : List Payload} → Formed l → length (gather (λ (p : Payload). deletesIn (p .content)) l) ≡ count (ofKind 42) l
+pub count-deletes : {l : List Payload} → Formed l → length (gather (λ (p : Payload). deletesOfContent (p .content)) l) ≡ count (ofKind 42) l
 unfolding count gather
 count-deletes nothing = refl
 count-deletes (also {p} {l} o i r) =
-    one-more (eqb (p .kind) 42) _ (count (ofKind 42) l) (length (deletesIn (p .content)))
-    (length (gather (λ (q : Payload). deletesIn (q .content)) l))
-    (delete-kind i) (length-append (deletesIn (p .content)) (gather (λ (q : Payload). deletesIn (q .content)) l)) (count-deletes r)
+    one-more (eqb (p .kind) 42) _ (count (ofKind 42) l) (length (deletesOfContent (p .content)))
+    (length (gather (λ (q : Payload). deletesOfContent (q .content)) l))
+    (delete-kind i) (length-append (deletesOfContent (p .content)) (gather (λ (q : Payload). deletesOfContent (q .content)) l))
+    (count-deletes r)
 
 -- WHAT IS IN THEM
 pub length-kept : {A : Type 0} (p : A → Bool) (l : List A) → length (keep p l) ≡ count p l

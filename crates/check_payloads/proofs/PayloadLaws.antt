@@ -14,7 +14,7 @@ use Rattle.state_keys.specs.Lists.{any, count}
 use Rattle.state_keys.proofs.Cases.{bool-cases}
 use Rattle.wire_frames.specs.Header.{firstPayload}
 use Rattle.wire_frames.specs.Delete.{Delete, deleteOf, deleteFits}
-use Rattle.wire_frames.specs.Frame.{Payload, isKnown, payloads, exactly}
+use Rattle.wire_frames.specs.Frame.{Payload, isKnown, payloads, nothingLeft}
 use Rattle.wire_readers.specs.inner.Values.{nowhere, isWhole}
 use Rattle.wire_readers.specs.inner.Payloads.{payloadsIn}
 use Rattle.wire_readers.specs.declared.Stretch.{Stretch}
@@ -24,7 +24,8 @@ use Rattle.rules_refusals.proofs.OneOf.{or-false, or-joined}
 use Rattle.check_payloads.specs.inner.Places.{bodyFrom, bodyOf}
 use Rattle.wire_readers.specs.inner.Values.{once}
 use Rattle.check_payloads.specs.inner.Deletion.{withOne, deletesWith, deletesAmong}
-use Rattle.check_payloads.specs.inner.Facts.{payloadsOf, ofKind, factsOf, noPayloads, firstWith, withPayload, Room, Grown}
+use Rattle.check_payloads.specs.inner.Facts.{payloadsOf, ofKind, payloadFactsOf, noPayloads, firstWith, withPayload, CountsFit}
+use Rattle.check_payloads.specs.inner.Facts.{CountsGrown}
 use Rattle.check_payloads.specs.declared.deletion.Deletes.{Deletes}
 use Rattle.check_payloads.specs.declared.PayloadFacts.{PayloadFacts}
 use Rattle.check_payloads.proofs.StepLaws.{Step, none-left}
@@ -108,7 +109,7 @@ module _ (k : ℕ) (s : List ℕ) (at : ℕ) (r : PayloadParts) (g : Step k s at
 module _ (s : List ℕ) where
   pub record PayloadWalk (b : PayloadFacts) (kind at : ℕ) : Type 0 where
     pub inside : at ≤ length s
-    pub rest : isWhole (exactly (payloads kind 0 (drop at s))) ≡ true
+    pub rest : isWhole (nothingLeft (payloads kind 0 (drop at s))) ≡ true
     pub few : (b .gsas ≤ at) × (b .kds ≤ at) × (b .deletes ≤ at) × (b .deletion .spis ≤ 65536 * at)
     pub gsas : b .gsas + count (ofKind 51) (leftAt s kind at) ≡ count (ofKind 51) (payloadsOf s)
     pub kds : b .kds + count (ofKind 52) (leftAt s kind at) ≡ count (ofKind 52) (payloadsOf s)
@@ -124,7 +125,7 @@ module _ (s : List ℕ) where
   first-none : (w : ℕ) → FirstSo w s 0 nowhere (length s) (firstPayload s) 28
   first-none w = record { none = λ z. (refl, refl); some = λ z. absurd (z refl) }
 
-  none-passed : isWhole (exactly (payloads (oct s 16) 0 (drop 28 s))) ≡ true → 28 ≤ length s → PayloadWalk noPayloads (oct s 16) 28
+  none-passed : isWhole (nothingLeft (payloads (oct s 16) 0 (drop 28 s))) ≡ true → 28 ≤ length s → PayloadWalk noPayloads (oct s 16) 28
   none-passed e h = record {
     inside = h;
     rest = e;
@@ -141,14 +142,15 @@ module _ (s : List ℕ) where
     delete = first-none 42;
   }
 
-  pub payloads-start : isWhole (exactly (payloads (oct s 16) 0 (drop 28 s))) ≡ true → 28 ≤ length s → (b : PayloadFacts) → b ≡ noPayloads
+  pub payloads-start : isWhole (nothingLeft (payloads (oct s 16) 0 (drop 28 s))) ≡ true → 28 ≤ length s → (b : PayloadFacts) →
+      b ≡ noPayloads
       → (k : ℕ) → k ≡ oct s 16 → PayloadWalk b k 28
   payloads-start e h b q k kq =
       subst (λ (x : PayloadFacts). PayloadWalk x k 28) (sym q) (subst (λ (n : ℕ). PayloadWalk noPayloads n 28) (sym kq) (none-passed e h))
 
   module _ (b : PayloadFacts) (kind at : ℕ) (w : PayloadWalk b kind at) where
     module _ (r : PayloadParts) (g : Step kind s at r) where
-      pub payload-room : length s ≤ 16384 → Room kind (part s (at + 4) (at + r .end)) b
+      pub payload-room : length s ≤ 16384 → CountsFit kind (part s (at + 4) (at + r .end)) b
       payload-room h = record {
         gsas = omega (arith, w .few .0, w .inside);
         kds = omega (arith, w .few .1, w .inside);
@@ -166,7 +168,8 @@ module _ (s : List ℕ) where
           first-step v kind s at r g (w .fuel - 1) n m x y z e q (subst (λ (l : ℕ). FirstSo v s n x l kind at) u f)
 
       pub payload-next : (kind ≡ 0 → ⊥) → (n : PayloadFacts)
-          → (n ≡ withPayload b kind (r .critical) (record { start = at + 4; end = at + r .end }) (part s (at + 4) (at + r .end))) × Grown b n
+          → (n ≡ withPayload b kind (r .critical) (record { start = at + 4; end = at + r .end }) (part s (at + 4) (at + r .end)))
+          × CountsGrown b n
           → PayloadWalk n (r .next) (at + r .end)
       payload-next z n (q, u) = record {
         inside = g .inside;
@@ -212,7 +215,7 @@ module _ (s : List ℕ) where
           (λ t. let p = f .none (eqb-true n 0 t) in p .0 ∙ sym (nothing-from (w .fuel) v kind at s z) ∙ p .1)
           (λ t. f .some (eqb-false n 0 t))
 
-      pub payloads-end : b ≡ factsOf s
+      pub payloads-end : b ≡ payloadFactsOf s
       payloads-end =
           let d = sums-all (b .deletion) (deletesAmong (payloadsOf s))
           (sums-last (drop at s) kind (b .deletion) (deletesAmong (payloadsOf s)) z (w .deletion)) in

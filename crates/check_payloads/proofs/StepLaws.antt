@@ -9,7 +9,7 @@ use lib.Seq.{drop-drop}
 use Rattle.octets.specs.Numbers.{oct}
 use Rattle.octets.specs.Walk.{be16, part}
 use Rattle.octets.proofs.Walks.{tail, to-end, chain-stop}
-use Rattle.wire_frames.specs.Frame.{Payload, payload, noneNext, payloads, exactly}
+use Rattle.wire_frames.specs.Frame.{Payload, payload, noneNext, payloads, nothingLeft}
 use Rattle.wire_frames.specs.Grammar.{IsContent}
 use Rattle.wire_frames.proofs.PayloadLaws.{takes}
 use Rattle.wire_readers.specs.inner.Values.{isWhole, itemsOf}
@@ -31,12 +31,12 @@ pub record Step (k : ℕ) (s : List ℕ) (at : ℕ) (r : PayloadParts) : Type 0 
   pub critical : one .critical ≡ r .critical
   pub is : IsContent k (part s (at + 4) (at + r .end)) (one .content)
   pub item : payloadsIn k (drop at s) ≡ one ∷ payloadsIn (r .next) (drop (at + r .end) s)
-  pub rest : isWhole (exactly (payloads (r .next) 0 (drop (at + r .end) s))) ≡ true
+  pub rest : isWhole (nothingLeft (payloads (r .next) 0 (drop (at + r .end) s))) ≡ true
 
 -- what a loop asks before it reads the next one
-pub reads-next : (k : ℕ) (s : List ℕ) (at : ℕ) → isWhole (exactly (payloads k 0 (drop at s))) ≡ true
-    → isWhole (exactly (payloads k 0 (tail s at))) ≡ true
-reads-next k s at e = ap (λ (l : List ℕ). isWhole (exactly (payloads k 0 l))) (to-end s at) ∙ e
+pub reads-next : (k : ℕ) (s : List ℕ) (at : ℕ) → isWhole (nothingLeft (payloads k 0 (drop at s))) ≡ true
+    → isWhole (nothingLeft (payloads k 0 (tail s at))) ≡ true
+reads-next k s at e = ap (λ (l : List ℕ). isWhole (nothingLeft (payloads k 0 l))) (to-end s at) ∙ e
 
 step-at : (k : ℕ) (s : List ℕ) (at : ℕ) (r : PayloadParts) → at ≤ length s → PayloadIs k (drop at s) r → Step k s at r
 step-at k s at r h d =
@@ -53,13 +53,13 @@ step-at k s at r h d =
       critical = refl;
       is = subst (λ (l : List ℕ). IsContent k l (d .content)) p (d .is);
       item = d .item ∙ ap (λ (l : List ℕ). record { kind = k; critical = r .critical; content = d .content } ∷ payloadsIn (r .next) l) j;
-      rest = subst (λ (l : List ℕ). isWhole (exactly (payloads (r .next) 0 l)) ≡ true) j (d .rest);
+      rest = subst (λ (l : List ℕ). isWhole (nothingLeft (payloads (r .next) 0 l)) ≡ true) j (d .rest);
     }
 
 pub step : (k : ℕ) (s : List ℕ) (at : ℕ) (r : PayloadParts) → at ≤ length s → PayloadIs k (tail s at) r → Step k s at r
 step k s at r h f = step-at k s at r h (subst (λ (l : List ℕ). PayloadIs k l r) (to-end s at) f)
 
 -- the same, where no loop has read it
-pub a-step : (k : ℕ) (s : List ℕ) (at : ℕ) → at ≤ length s → (k ≡ 0 → ⊥) → isWhole (exactly (payloads k 0 (drop at s))) ≡ true
+pub a-step : (k : ℕ) (s : List ℕ) (at : ℕ) → at ≤ length s → (k ≡ 0 → ⊥) → isWhole (nothingLeft (payloads k 0 (drop at s))) ≡ true
     → (r : PayloadParts) × Step k s at r
 a-step k s at h z e = (_, step-at k s at _ h (payload-is k (drop at s) z e _ _ _ refl refl refl))

@@ -6,7 +6,7 @@ ghost use mathlib.Core.Path.{_≡_};
 ghost use mathlib.Core.Bool.{true};
 ghost use Rattle.wire_frames.specs.Frame.{frame};
 ghost use Rattle.wire_readers.specs.inner.Values.{isWhole};
-ghost use Rattle.check_payloads.specs.inner.Facts.{factsOf, noPayloads, withPayload, Room, Grown};
+ghost use Rattle.check_payloads.specs.inner.Facts.{payloadFactsOf, noPayloads, withPayload, CountsFit, CountsGrown};
 use deletion::Deletes;
 use ikev2_numbers::DELETE;
 use ikev2_numbers::FIRST_PAYLOAD_AT;
@@ -64,8 +64,8 @@ fn with_payload(
     place: Stretch,
     o: &[u8],
 ) -> PayloadFacts
-    requires { ⌜ Room kind (now o) b ⌝ }
-    ensures { λ r. ⌜ (r ≡ withPayload b kind critical place (now (o .entry))) × Grown b r ⌝ }
+    requires { ⌜ CountsFit kind (now o) b ⌝ }
+    ensures { λ r. ⌜ (r ≡ withPayload b kind critical place (now (o .entry))) × CountsGrown b r ⌝ }
 {
     let g = b.gsa;
     let k = b.kd;
@@ -94,7 +94,7 @@ fn with_payload(
 // The facts of the payloads of a frame. Internal.
 pub fn payload_facts(s: &[u8]) -> PayloadFacts
     requires { ⌜ isWhole (frame (now s)) ≡ true ⌝ }
-    ensures { λ r. ⌜ r ≡ factsOf (now (s .entry)) ⌝ }
+    ensures { λ r. ⌜ r ≡ payloadFactsOf (now (s .entry)) ⌝ }
 {
     let mut b = no_payloads();
     let mut kind = octets::wide(s[FIRST_PAYLOAD_AT]);

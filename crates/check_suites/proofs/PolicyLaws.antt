@@ -22,7 +22,7 @@ use Rattle.wire_readers.specs.inner.Policies.{policiesIn, PolicyIs}
 use Rattle.wire_readers.specs.inner.Bodies.{SaPartsAre}
 use Rattle.wire_readers.specs.declared.policy.Parts.{Parts}
 use Rattle.wire_readers.specs.declared.body.SaParts.{SaParts}
-use Rattle.rules_refusals.specs.Contents.{gather, saOf}
+use Rattle.rules_refusals.specs.Contents.{gather, groupSaIn}
 
 -- the transforms of a Group SA policy are the octets from where they start
 module _ (p : Place) (s : List ℕ) (b : SaBody) (r : SaParts) (f : SaPartsAre p s b r) where

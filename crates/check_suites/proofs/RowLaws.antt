@@ -9,22 +9,23 @@ use lib.Dec.{leb, ltb}
 use lib.ListN.{length, drop}
 use Rattle.octets.specs.Walk.{be16, part}
 use Rattle.octets.proofs.Walks.{part-length}
-use Rattle.wire_attributes.specs.Tree.{two}
+use Rattle.wire_attributes.specs.Tree.{number16}
 use Rattle.wire_attributes.specs.declared.tables.Place.{Place}
 use Rattle.wire_attributes.specs.declared.tables.Meaning.the-variants.{KeyLength}
 use Rattle.state_keys.specs.Lists.{all}
-use Rattle.state_keys.specs.Algorithms.{rows, isRowOf, neededIn, neededBy}
-use Rattle.state_keys.specs.declared.algorithms.Row.{Row}
+use Rattle.state_keys.specs.Algorithms.{algorithms, isRowOf, neededIn, neededBy}
+use Rattle.state_keys.specs.declared.algorithms.AlgorithmRow.{AlgorithmRow}
 use Rattle.state_keys.specs.declared.algorithms.Needed.{Needed}
 use Rattle.state_keys.specs.declared.algorithms.Needed.the-variants.{Octets, Nothing}
 use Rattle.state_keys.proofs.Cases.{bool-cases, and-parts}
-use Rattle.wire_readers.specs.inner.Values.{valuesIn, FoundAt}
+use Rattle.wire_readers.specs.inner.Values.{valuesIn, ValueFoundAt}
 use Rattle.rules_refusals.specs.Fitness.{octetsNeeded, isOctets, sum}
 use Rattle.check_suites.specs.inner.Octets.{keyLengthNeeds}
 
 module _ (k i b : ℕ) where
   -- what holds of each row's answer and of none holds of the answer
-  of-rows : (P : Needed → Type 0) (t : Row → Bool) → P Nothing → ((r : Row) → t r ≡ true → P (Octets (r .octets))) → (l : List Row)
+  of-rows : (P : Needed → Type 0) (t : AlgorithmRow → Bool) → P Nothing → ((r : AlgorithmRow) → t r ≡ true → P (Octets (r .octets))) →
+      (l : List AlgorithmRow)
       → all t l ≡ true → P (neededIn k i b l)
   unfolding neededIn all
   of-rows P t none some [] h = none
@@ -36,15 +37,15 @@ module _ (k i b : ℕ) where
   pub at-most : octetsNeeded (neededBy k i b) ≤ 36
   unfolding neededBy all
   at-most =
-      of-rows (λ (x : Needed). octetsNeeded x ≤ 36) (λ (r : Row). leb (r .octets) 36) (omega arith)
-      (λ r e. leb-true (r .octets) 36 e) rows refl
+      of-rows (λ (x : Needed). octetsNeeded x ≤ 36) (λ (r : AlgorithmRow). leb (r .octets) 36) (omega arith)
+      (λ r e. leb-true (r .octets) 36 e) algorithms refl
 
   -- a row needs some octets
   pub some-octets : isOctets (neededBy k i b) ≡ ltb 0 (octetsNeeded (neededBy k i b))
   unfolding neededBy all
   some-octets =
-      of-rows (λ (x : Needed). isOctets x ≡ ltb 0 (octetsNeeded x)) (λ (r : Row). ltb 0 (r .octets)) refl
-      (λ r e. sym e) rows refl
+      of-rows (λ (x : Needed). isOctets x ≡ ltb 0 (octetsNeeded x)) (λ (r : AlgorithmRow). ltb 0 (r .octets)) refl
+      (λ r e. sym e) algorithms refl
 
   pub needs-octets : (x : Needed) (n : ℕ) → x ≡ neededBy k i b → x ≡ Octets n → (n ≡ octetsNeeded (neededBy k i b)) × (n ≤ 36)
   needs-octets x n e f =
@@ -55,7 +56,7 @@ module _ (k i b : ℕ) where
   needs-none x e f = (ap octetsNeeded (sym f ∙ e), omega arith)
 
 -- ONE KEY LENGTH AND THE OTHERS
-module _ (id : ℕ) (p : Place) (s : List ℕ) (from v e : ℕ) (x : FoundAt KeyLength p s from v e) where
+module _ (id : ℕ) (p : Place) (s : List ℕ) (from v e : ℕ) (x : ValueFoundAt KeyLength p s from v e) where
   pub two-octets : 0 + 2 ≤ length (part s v e)
   two-octets = omega (arith, eqb-true (e - v) 2 (x .size), part-length s v e (x .order) (x .inside))
 
@@ -63,9 +64,9 @@ module _ (id : ℕ) (p : Place) (s : List ℕ) (from v e : ℕ) (x : FoundAt Key
       → keyLengthNeeds id p (drop from s) ≡ octetsNeeded (neededBy 1 id b) + keyLengthNeeds id p (drop e s)
   unfolding sum
   one-more b q =
-      ap (λ (l : List (List ℕ)). sum (λ (n : ℕ). octetsNeeded (neededBy 1 id n)) (map two l)) (x .first)
+      ap (λ (l : List (List ℕ)). sum (λ (n : ℕ). octetsNeeded (neededBy 1 id n)) (map number16 l)) (x .first)
       ∙ ap (λ (n : ℕ). octetsNeeded (neededBy 1 id n) + keyLengthNeeds id p (drop e s)) (sym q)
 
 pub no-more : (id : ℕ) (p : Place) (s : List ℕ) → valuesIn KeyLength p s ≡ [] → keyLengthNeeds id p s ≡ 0
 unfolding sum
-no-more id p s e = ap (λ (m : List (List ℕ)). sum (λ (n : ℕ). octetsNeeded (neededBy 1 id n)) (map two m)) e
+no-more id p s e = ap (λ (m : List (List ℕ)). sum (λ (n : ℕ). octetsNeeded (neededBy 1 id n)) (map number16 m)) e

@@ -9,11 +9,12 @@ use lib.ListN.{length}
 use Rattle.state_keys.specs.Lists.{count}
 use Rattle.wire_policies.specs.Transform.{Transform}
 use Rattle.wire_policies.specs.Grammar.{Transforms}
-use Rattle.rules_refusals.specs.Fitness.{encryptionFits, keyWrapFits, sequenceNumbersFit, authenticationFits, sum, encryptionNeeds, keyWrapNeeds}
+use Rattle.rules_refusals.specs.Fitness.{encryptionFits, keyWrapFits, sequenceNumbersFit, authenticationFits}
+use Rattle.rules_refusals.specs.Fitness.{sum, encryptionNeeds, keyWrapNeeds}
 use Rattle.rules_refusals.specs.Number4.{twiceInTransform}
 use Rattle.check_suites.specs.inner.Suites.{suiteOf, needsOf}
-use Rattle.check_suites.specs.inner.Adding.{plus, AtMost}
-use Rattle.check_suites.specs.declared.counts.Suite.{Suite}
+use Rattle.check_suites.specs.inner.Adding.{plus, SuiteAtMost}
+use Rattle.check_suites.specs.declared.counts.SuiteCounts.{SuiteCounts}
 use Rattle.check_suites.specs.declared.counts.Needs.{Needs}
 use Rattle.check_suites.proofs.FoldLaws.{Folded, ended}
 
@@ -55,7 +56,7 @@ suite-first a l =
       doubled = count-first twiceInTransform a l j;
     }
 
-pub plus-assoc : (x y z : Suite) → plus (plus x y) z ≡ plus x (plus y z)
+pub plus-assoc : (x y z : SuiteCounts) → plus (plus x y) z ≡ plus x (plus y z)
 plus-assoc x y z = λ j. record {
   count = add-assoc (x .count) (y .count) (z .count) j;
   encryption = add-assoc (x .encryption) (y .encryption) (z .encryption) j;
@@ -65,7 +66,7 @@ plus-assoc x y z = λ j. record {
   doubled = add-assoc (x .doubled) (y .doubled) (z .doubled) j;
 }
 
-plus-none : (x : Suite) → plus x (suiteOf []) ≡ x
+plus-none : (x : SuiteCounts) → plus x (suiteOf []) ≡ x
 plus-none x = λ j. record {
   count = add-zero (x .count) j;
   encryption = count-none encryptionFits (x .encryption) j;
@@ -87,7 +88,7 @@ none-plus l =
       doubled = none-count twiceInTransform l j;
     }
 
-pub at-most-none : AtMost 0 (suiteOf [])
+pub at-most-none : SuiteAtMost 0 (suiteOf [])
 unfolding count
 at-most-none = record {
   count = omega arith;
@@ -98,7 +99,7 @@ at-most-none = record {
   doubled = omega arith;
 }
 
-pub at-most-one : (a : Transform) → AtMost 1 (suiteOf (a ∷ []))
+pub at-most-one : (a : Transform) → SuiteAtMost 1 (suiteOf (a ∷ []))
 at-most-one a = record {
   count = omega arith;
   encryption = count-one encryptionFits a;
@@ -108,7 +109,7 @@ at-most-one a = record {
   doubled = count-one twiceInTransform a;
 }
 
-pub at-most-plus : (n m k : ℕ) (x y : Suite) → AtMost n x → AtMost m y → n + m ≤ k → AtMost k (plus x y)
+pub at-most-plus : (n m k : ℕ) (x y : SuiteCounts) → SuiteAtMost n x → SuiteAtMost m y → n + m ≤ k → SuiteAtMost k (plus x y)
 at-most-plus n m k x y f g h = record {
   count = omega (arith, f .count, g .count);
   encryption = omega (arith, f .encryption, g .encryption);
@@ -122,7 +123,7 @@ module _ (s : List ℕ) (l : List Transform) (tail : List ℕ) where
   pub suite-starts : Transforms s l tail → Folded suiteOf plus s 0 true (suiteOf []) l tail
   suite-starts x = record { others = l; left = x; total = none-plus l }
 
-  pub suite-ends : (at : ℕ) (go : Bool) (x : Suite) → Folded suiteOf plus s at go x l tail → go ≡ false → x ≡ suiteOf l
+  pub suite-ends : (at : ℕ) (go : Bool) (x : SuiteCounts) → Folded suiteOf plus s at go x l tail → go ≡ false → x ≡ suiteOf l
   suite-ends at go x k h = sym (ended suiteOf plus s at go x l tail k h ∙ plus-none x)
 
 -- THE OCTETS

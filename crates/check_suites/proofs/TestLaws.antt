@@ -8,7 +8,7 @@ use borrow.Author.Tests.{eq-eqb, ne-eqb, eqb-true, lt-ltb, ltb-true, ltb-false}
 use lib.Dec.{ltb, eqb}
 use lib.ListN.{length, length-map}
 use Rattle.wire_attributes.specs.Place.{inTransform}
-use Rattle.wire_attributes.specs.Tree.{two}
+use Rattle.wire_attributes.specs.Tree.{number16}
 use Rattle.wire_attributes.specs.declared.tables.Place.{Place}
 use Rattle.wire_attributes.specs.declared.tables.Meaning.the-variants.{KeyLength}
 use Rattle.state_keys.specs.Lists.{all, any, count}
@@ -17,14 +17,15 @@ use Rattle.state_keys.proofs.Cases.{bool-cases}
 use Rattle.wire_policies.specs.Transform.{Transform}
 use Rattle.wire_policies.specs.Policy.{GroupSaPolicy}
 use Rattle.wire_readers.specs.inner.Values.{valuesIn}
-use Rattle.rules_refusals.specs.Fitness.{octetsNeeded, isOctets, encryptionFits, keyWrapFits, sequenceNumbersFit, authenticationFits, exactly}
+use Rattle.rules_refusals.specs.Fitness.{octetsNeeded, isOctets, encryptionFits, keyWrapFits, sequenceNumbersFit, authenticationFits}
+use Rattle.rules_refusals.specs.Fitness.{exactTransforms}
 use Rattle.rules_refusals.specs.Fitness.{espTransforms, rekeyTransforms, transformsFit, sum, encryptionNeeds, keyWrapNeeds}
 use Rattle.rules_refusals.specs.Number4.{twiceInTransform}
 use Rattle.rules_refusals.proofs.OneOf.{or-false}
 use Rattle.check_suites.specs.inner.Suites.{suiteOf, fitBy}
 use Rattle.check_suites.specs.inner.Octets.{keyLengthNeeds, transformIn}
 use Rattle.wire_readers.specs.inner.Values.{once}
-use Rattle.check_suites.specs.declared.counts.Suite.{Suite}
+use Rattle.check_suites.specs.declared.counts.SuiteCounts.{SuiteCounts}
 use Rattle.check_suites.proofs.RowLaws.{some-octets}
 
 -- a type and one of two IDs
@@ -94,13 +95,13 @@ module _ (k i : ℕ) (s : List ℕ) where
       → (p : Place) → p ≡ inTransform k → m ≡ length (valuesIn KeyLength p s) → (x y : Bool) → x ≡ (eqb k 5 && (eqb i 0 || eqb i 2))
       → y ≡ (eqb k 14 && (eqb i 1 || eqb i 2)) → (a b c d f : ℕ) → a ≡ once (ltb 0 e) → b ≡ once (ltb 0 w) → c ≡ once x → d ≡ once y
       → f ≡ once (ltb 1 m)
-      → _≡_ {A = Suite} (record { count = 1; encryption = a; wrapping = b; sequence = c; authentication = d; doubled = f })
+      → _≡_ {A = SuiteCounts} (record { count = 1; encryption = a; wrapping = b; sequence = c; authentication = d; doubled = f })
       (suiteOf (transformIn k i s ∷ []))
   unfolding sequenceNumbersFit authenticationFits
   one-is e w m eq wq p pq mq x y xq yq a b c d f aq bq cq dq fq =
       let t = transformIn k i s in
       let l : m ≡ length (t .keyLengths) =
-      mq ∙ ap (λ (z : Place). length (valuesIn KeyLength z s)) pq ∙ sym (length-map (valuesIn KeyLength (inTransform k) s) two) in
+      mq ∙ ap (λ (z : Place). length (valuesIn KeyLength z s)) pq ∙ sym (length-map (valuesIn KeyLength (inTransform k) s) number16) in
       λ j. record {
         count = 1;
         encryption = counted encryptionFits t a (ltb 0 e) aq (ap (ltb 0) eq ∙ encryption-fits t) j;
@@ -130,14 +131,14 @@ either-way false true false x s u p q r f = r
 either-way false false a x s u p q r f = refl
 
 module _ (p : GroupSaPolicy) where
-  abbrev u : Suite
+  abbrev u : SuiteCounts
   u = suiteOf (p .transforms)
 
   one-protocol : eqb (p .protocol) 3 ≡ true → eqb (p .protocol) 6 ≡ false
   one-protocol e = ap (λ (n : ℕ). eqb n 6) (eqb-true (p .protocol) 3 e)
 
   pub fits : (authentication : Bool) → fitBy authentication (p .protocol) u ≡ transformsFit authentication p
-  unfolding transformsFit exactly all
+  unfolding transformsFit exactTransforms all
   fits true =
       either-way (eqb (p .protocol) 3) (eqb (p .protocol) 6) true _ _ false
       (ap (λ (b : Bool). eqb (u .count) 2 && (eqb (u .encryption) 1 && b)) (and-true (eqb (u .sequence) 1)))

@@ -10,7 +10,7 @@ ghost use Rattle.wire_attributes.specs.Layout.{attributes};
 ghost use Rattle.wire_readers.specs.inner.Values.{isWhole};
 ghost use Rattle.check_suites.specs.inner.Suites.{suiteOf, fitBy};
 ghost use Rattle.check_suites.specs.inner.Octets.{transformIn};
-ghost use Rattle.check_suites.specs.inner.Adding.{plus, AtMost};
+ghost use Rattle.check_suites.specs.inner.Adding.{plus, SuiteAtMost};
 use ikev2_numbers::DIGITAL_SIGNATURE;
 use ikev2_numbers::ESP;
 use ikev2_numbers::GCAUTH;
@@ -24,7 +24,7 @@ use wire_readers::one_if;
 
 // How many transforms there are; how many are fit for encryption, key wrap, sequence numbers and the controller's authentication; how many
 // have several Key Lengths.
-pub struct Suite {
+pub struct SuiteCounts {
     pub count: usize,
     pub encryption: usize,
     pub wrapping: usize,
@@ -60,7 +60,7 @@ fn is_one_of(kind: usize, id: usize, w: EitherId) -> bool
 }
 
 // What one transform comes to. Internal.
-pub fn one_transform(kind: usize, id: usize, a: &[u8]) -> Suite
+pub fn one_transform(kind: usize, id: usize, a: &[u8]) -> SuiteCounts
     requires { ⌜ (id < 65536) × (isWhole (attributes (inTransform kind) 0 (now a)) ≡ true) × (length (now a) < 4294967296) ⌝ }
     ensures { λ r. ⌜ r ≡ suiteOf (transformIn kind id (now (a .entry)) ∷ []) ⌝ }
 {
@@ -81,7 +81,7 @@ pub fn one_transform(kind: usize, id: usize, a: &[u8]) -> Suite
         one: IMPLICIT,
         other: DIGITAL_SIGNATURE,
     };
-    Suite {
+    SuiteCounts {
         count: 1,
         encryption: one_if(0 < e),
         wrapping: one_if(0 < w),
@@ -91,12 +91,12 @@ pub fn one_transform(kind: usize, id: usize, a: &[u8]) -> Suite
     }
 }
 
-impl Suite {
+impl SuiteCounts {
     // What no transform comes to. Internal.
-    pub fn none() -> Suite
+    pub fn none() -> SuiteCounts
         ensures { λ r. ⌜ r ≡ suiteOf [] ⌝ }
     {
-        Suite {
+        SuiteCounts {
             count: 0,
             encryption: 0,
             wrapping: 0,
@@ -107,11 +107,11 @@ impl Suite {
     }
 
     // Both together, the second that of one transform. Internal.
-    pub fn plus(self, x: Suite) -> Suite
-        requires { ⌜ ((n : ℕ) × (n < 18446744073709551615) × AtMost n self × AtMost 1 x) ⌝ }
+    pub fn plus(self, x: SuiteCounts) -> SuiteCounts
+        requires { ⌜ ((n : ℕ) × (n < 18446744073709551615) × SuiteAtMost n self × SuiteAtMost 1 x) ⌝ }
         ensures { λ r. ⌜ r ≡ plus self x ⌝ }
     {
-        Suite {
+        SuiteCounts {
             count: self.count + x.count,
             encryption: self.encryption + x.encryption,
             wrapping: self.wrapping + x.wrapping,

@@ -12,15 +12,15 @@ ghost use Rattle.wire_policies.specs.Policy.{SaBody};
 ghost use Rattle.wire_policies.specs.Grammar.{Transforms, IsSaBody};
 ghost use Rattle.check_suites.specs.inner.Suites.{suiteOf, needsOf};
 use counts::Needs;
-use counts::Suite;
+use counts::SuiteCounts;
 use ikev2_numbers::TRANSFORM_HEAD;
 
 // What the transforms at the start of the octets come to. Internal.
-pub fn suite(t: &[u8]) -> Suite
+pub fn suite(t: &[u8]) -> SuiteCounts
     requires { ⌜ ((l : List Transform) × (tail : List ℕ) × Transforms (now t) l tail) ⌝ }
     ensures { λ r. ⌜ ((l : List Transform) (tail : List ℕ) → Transforms (now (t .entry)) l tail → r ≡ suiteOf l) ⌝ }
 {
-    let mut s = Suite::none();
+    let mut s = SuiteCounts::none();
     let mut at = 0;
     let mut more = true;
     while more {

@@ -15,7 +15,7 @@ use ikev2_numbers::KWA;
 use state_keys::algorithms::Needed;
 use wire_attributes::tables::Meaning;
 use wire_attributes::tables::Place;
-use wire_readers::values::Found;
+use wire_readers::values::ValueFound;
 
 // The octets that a row of the algorithm table asks for; 0 for no row. Internal.
 fn needed(kind: usize, id: usize, bits: usize) -> usize
@@ -37,12 +37,12 @@ fn key_length_octets(place: Place, id: usize, a: &[u8]) -> usize
     let mut at = 0;
     loop {
         match wire_readers::values::next_attribute(Meaning::KeyLength, place, a, at) {
-            Found::At(start, end) => {
+            ValueFound::At(start, end) => {
                 let v = wire_attributes::attribute_value(a, start);
                 total = total + needed(1, id, octets::numbers::be16_at(v, 0));
                 at = end;
             }
-            Found::Nothing => {
+            ValueFound::Nothing => {
                 return total;
             }
         }

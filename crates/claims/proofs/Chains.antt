@@ -13,8 +13,8 @@ use Rattle.wire_policies.specs.Policy.{GroupSaPolicy, groupSa}
 use Rattle.wire_bags.specs.Bag.{GroupKeyBag, groupKeys}
 use Rattle.wire_frames.specs.Frame.{Frame}
 use Rattle.rules_refusals.specs.Contents.{announced, groupBags, deletedSpis}
-use Rattle.rules_chains.specs.Chain.{In, Root, Reached, Ends, CopyOpens}
-use Rattle.rules_chains.specs.Refusals.{EntriesEight}
+use Rattle.rules_chains.specs.Chain.{In, Root, Reached, ChainEnds, CopyOpens}
+use Rattle.rules_chains.specs.Refusals.{EntriesConflict}
 use Rattle.rules_outcome.specs.Stands.{HasPolicy, HasBag, HasSpi}
 use Rattle.rules_outcome.proofs.Stands as ofStands
 use Rattle.rules_chains.proofs.Closure as ofClosure
@@ -48,19 +48,19 @@ reached-least = ofClosure.reached-least
 
 pub leads-nowhere : (roots : List Root) (size : ℕ) (entries more : List WrapKey) (added : WrapKey)
     (adds : (e : WrapKey) → In e more ↔ ((e ≡ added) ⊎ In e entries))
-    (fails : (v x : List ℕ) → Ends roots entries size (added .kwkId) v → Opens v (added .wrapped) x → ⊥) (k : ℕ) (x : List ℕ) →
+    (fails : (v x : List ℕ) → ChainEnds roots entries size (added .kwkId) v → Opens v (added .wrapped) x → ⊥) (k : ℕ) (x : List ℕ) →
     Reached roots more size k x ↔ Reached roots entries size k x
 leads-nowhere = ofFaults.leads-nowhere
 
 pub entry-no-fault : (roots : List Root) (size : ℕ) (entries more : List WrapKey) (added : WrapKey)
     (adds : (e : WrapKey) → In e more ↔ ((e ≡ added) ⊎ In e entries))
-    (fails : (v x : List ℕ) → Ends roots entries size (added .kwkId) v → Opens v (added .wrapped) x → ⊥) →
-    EntriesEight roots more size ↔ EntriesEight roots entries size
+    (fails : (v x : List ℕ) → ChainEnds roots entries size (added .kwkId) v → Opens v (added .wrapped) x → ⊥) →
+    EntriesConflict roots more size ↔ EntriesConflict roots entries size
 entry-no-fault = ofFaults.entry-no-fault
 
 pub opens-nothing : (roots : List Root) (size : ℕ) (entries : List WrapKey) (copies more : List SaKey) (need : ℕ) (added : SaKey)
     (adds : (c : SaKey) → In c more ↔ ((c ≡ added) ⊎ In c copies))
-    (fails : (v x : List ℕ) → Ends roots entries size (added .kwkId) v → Opens v (added .wrapped) x → ⊥) (x : List ℕ) →
+    (fails : (v x : List ℕ) → ChainEnds roots entries size (added .kwkId) v → Opens v (added .wrapped) x → ⊥) (x : List ℕ) →
     CopyOpens roots entries size more x ↔ CopyOpens roots entries size copies x
 opens-nothing = ofFaults.opens-nothing
 

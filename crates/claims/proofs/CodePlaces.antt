@@ -9,7 +9,7 @@ use Rattle.wire_attributes.specs.Answers.{layoutNumber, layoutOffset}
 use Rattle.wire_policies.specs.Policy.{Policy, policy}
 use Rattle.wire_frames.specs.Frame.{frameLayout, Frame, frame}
 use Rattle.wire_frames.specs.Grammar.{IsFrame}
-use Rattle.wire_view.specs.View.{firstOctet, kindOf}
+use Rattle.wire_view.specs.View.{firstOctet, shownKind}
 use Rattle.wire_frames.proofs.LayoutNumbers as ofLayoutNumbers
 use Rattle.wire_view.proofs.KindLaws as ofKindLaws
 
@@ -19,8 +19,8 @@ number-0 = ofLayoutNumbers.number-0
 pub number-1 : (s : List ℕ) (o : ℕ) → frame s ≡ broken o → (layoutNumber (frameLayout s) ≡ 1) × (layoutOffset (frameLayout s) ≡ o ∷ [])
 number-1 = ofLayoutNumbers.number-1
 
-pub kind-of-policy : (s : List ℕ) (x : Policy) → policy 0 s ≡ whole x [] → firstOctet (kindOf s) ≡ oct s 0 ∷ []
+pub kind-of-policy : (s : List ℕ) (x : Policy) → policy 0 s ≡ whole x [] → firstOctet (shownKind s) ≡ oct s 0 ∷ []
 kind-of-policy = ofKindLaws.kind-of-policy
 
-pub kind-of-none : (s : List ℕ) → ((x : Policy) → policy 0 s ≡ whole x [] → ⊥) → firstOctet (kindOf s) ≡ []
+pub kind-of-none : (s : List ℕ) → ((x : Policy) → policy 0 s ≡ whole x [] → ⊥) → firstOctet (shownKind s) ≡ []
 kind-of-none = ofKindLaws.kind-of-none

@@ -14,7 +14,7 @@ use Rattle.state_keys.specs.Limits.{Limits, limits}
 use Rattle.state_sa.specs.Entry.{liveRekey, due}
 use Rattle.state_sa.specs.declared.entry.Sa.{Sa}
 use Rattle.state_table.specs.Table.{sasOf, none}
-use Rattle.state_table.specs.declared.Found.{Found}
+use Rattle.state_table.specs.declared.SaFound.{SaFound}
 use Rattle.state.specs.State.{stateFormed, newState, sweptState, askedSa}
 use Rattle.state.specs.declared.State.{State}
 use Rattle.rules_refusals.specs.Refusals.{refusal}
@@ -23,8 +23,8 @@ use Rattle.rules_outcome.proofs.Ignored.{NotRead}
 use Rattle.rules_outcome.specs.Meets.{Meets}
 use Rattle.rules_outcome.specs.NamedKey.{CameOver, ZeroOfRekeys}
 use Rattle.rules_outcome.specs.Outcome.{Outcome}
-use Rattle.rules_outcome.specs.Roots.{ownKey, keyZero}
-use Rattle.rules_outcome.specs.Run.{Step, Run, Throughout}
+use Rattle.rules_outcome.specs.Roots.{ownKey, keyZeroValue}
+use Rattle.rules_outcome.specs.Run.{Event, Run, Throughout}
 use Rattle.gikev2.specs.Member.{leftMember, newMember}
 use Rattle.gikev2.specs.declared.Member.{Member}
 use Rattle.rules_outcome.proofs.OwnKey as ofOwnKey
@@ -45,10 +45,10 @@ own-key-of-live = ofOwnKey.own-key-of-live
 
 pub key-zero-of-rekey : (limits : Limits) (s : State) (now : ℕ) (lent octets : List ℕ) (f : Frame) (e : IsFrame octets f)
     (x : f .header .exchange ≡ 41) (no-2 : Meets limits s now lent octets 2 → ⊥)
-    (long : (b : Sa) → In b (sasOf (s .table)) → 68 ≤ length (b .octets)) → CameOver s now f (keyZero limits s now lent f)
+    (long : (b : Sa) → In b (sasOf (s .table)) → 68 ≤ length (b .octets)) → CameOver s now f (keyZeroValue limits s now lent f)
 key-zero-of-rekey = ofKeyZero.key-zero-of-rekey
 
-pub key-zero-in-runs : {e : State} {l : List Step} (r : Run limits (newState limits) l e) → Throughout limits (ZeroOfRekeys limits) r
+pub key-zero-in-runs : {e : State} {l : List Event} (r : Run limits (newState limits) l e) → Throughout limits (ZeroOfRekeys limits) r
 key-zero-in-runs = ofKeyZeroInRuns.key-zero-in-runs
 
 pub left-new : (m : Member) → leftMember m ≡ newMember
@@ -57,7 +57,7 @@ left-new = ofKept.left-new
 pub swept-no : (limits : Limits) (s : State) (now : ℕ) → stateFormed limits s ≡ false → s ≡ sweptState limits now s
 swept-no = ofLaws.swept-no
 
-pub asked-no : (limits : Limits) (s : State) (p : ℕ) (x : List ℕ) (r : Found) → stateFormed limits s ≡ false → r ≡ none →
+pub asked-no : (limits : Limits) (s : State) (p : ℕ) (x : List ℕ) (r : SaFound) → stateFormed limits s ≡ false → r ≡ none →
     r ≡ askedSa limits p x s
 asked-no = ofLaws.asked-no
 

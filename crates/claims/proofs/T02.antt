@@ -20,7 +20,7 @@ use Rattle.rules_outcome.specs.Inband.{Beside, UnderLent}
 use Rattle.rules_outcome.specs.NamedKey.{lentRoot, Registration, Rekey, Inband, OpensUnder}
 use Rattle.rules_outcome.specs.Outcome.{Outcome}
 use Rattle.rules_outcome.specs.Roots.{rootsOf}
-use Rattle.rules_outcome.specs.Run.{Step, Run, Throughout}
+use Rattle.rules_outcome.specs.Run.{Event, Run, Throughout}
 use Rattle.rules_outcome.proofs.Rows as ofRows
 use Rattle.rules_outcome.proofs.Inband as ofInband
 use Rattle.rules_outcome.proofs.Runs as ofRuns
@@ -75,6 +75,6 @@ pub least-stays : (limits : Limits) (s : State) (now : ℕ) (lent octets : List 
     (next : State) (o : Outcome limits s now lent octets n next) → newRekey f ≡ false → next .least ≡ s .least
 least-stays = ofInband.least-stays
 
-pub members-formed : {e : State} {l : List Step} (r : Run limits (newState limits) l e) →
+pub members-formed : {e : State} {l : List Event} (r : Run limits (newState limits) l e) →
     Throughout limits (λ (m : State). stateFormed limits m ≡ true) r
 members-formed = ofRuns.members-formed

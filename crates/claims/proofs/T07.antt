@@ -23,7 +23,7 @@ use Rattle.rules_chains.specs.Chain.{In}
 use Rattle.rules_outcome.specs.LifetimeSays.{LifetimesFit}
 use Rattle.rules_outcome.specs.NamedKey.{Inband}
 use Rattle.rules_outcome.specs.Outcome.{Outcome}
-use Rattle.rules_outcome.specs.Run.{Step, Run, Throughout}
+use Rattle.rules_outcome.specs.Run.{Event, Run, Throughout}
 use Rattle.rules_outcome.proofs.RanOut as ofRanOut
 use Rattle.state.proofs.BrokenValues as ofBrokenValues
 use Rattle.state_sa.proofs.Lifetimes as ofLifetimes
@@ -31,7 +31,7 @@ use Rattle.rules_outcome.proofs.Inband as ofInband
 use Rattle.rules_refusals.proofs.AllSamples as ofAllSamples
 pub use Rattle.wire_frames.proofs.AllBreaks.{samples-break}
 
-pub members-lifetimes : {e : State} {l : List Step} (r : Run limits (newState limits) l e) → Throughout limits LifetimesFit r
+pub members-lifetimes : {e : State} {l : List Event} (r : Run limits (newState limits) l e) → Throughout limits LifetimesFit r
 members-lifetimes = ofRanOut.members-lifetimes
 
 pub broken-kept : BrokenKept brokenValues

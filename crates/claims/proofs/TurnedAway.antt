@@ -14,18 +14,18 @@ use Rattle.rules_refusals.proofs.Halves.{frameHalf, sparesMember}
 use Rattle.rules_refusals.specs.Refusals.{numbers, Number, refusal}
 use Rattle.rules_outcome.specs.After.{newRekey}
 use Rattle.rules_outcome.specs.Answer.{conditions}
-use Rattle.rules_outcome.specs.EightSays.{EightSays}
+use Rattle.rules_outcome.specs.KeyConflictSays.{KeyConflictSays}
 use Rattle.rules_outcome.specs.Judging.{above}
 use Rattle.rules_outcome.specs.Meets.{Meets}
 use Rattle.rules_outcome.specs.Outcome.{Outcome, NoTree, Judged}
-use Rattle.rules_outcome.specs.Run.{Step, Run, AllQuiet, Quiet, answered, swept}
+use Rattle.rules_outcome.specs.Run.{Event, Run, AllQuiet, Quiet, answered, swept}
 use Rattle.rules_refusals.proofs.Halves as ofHalves
 use Rattle.rules_outcome.proofs.Answering as ofAnswering
 use Rattle.rules_outcome.proofs.Demands as ofDemands
 use Rattle.rules_outcome.proofs.Readings as ofReadings
 use Rattle.rules_outcome.proofs.RunsReplay as ofRunsReplay
 use Rattle.rules_outcome.proofs.RunsQuiet as ofRunsQuiet
-use Rattle.rules_outcome.proofs.EightSays as ofEightSays
+use Rattle.rules_outcome.proofs.KeyConflictSays as ofEightSays
 
 pub outside-state : (limits : Limits) (s t : State) (now tick : ℕ) (f : Frame) (lent : List ℕ) →
     map frameHalf (numbers limits s now lent f) ≡ map frameHalf (numbers limits t tick lent f)
@@ -62,14 +62,14 @@ pub outcome-read : (limits : Limits) (s : State) (now : ℕ) (lent octets : List
 outcome-read = ofReadings.outcome-read
 
 pub no-replay : (limits : Limits) (s₀ s₁ : State) (now : ℕ) (lent octets : List ℕ) (f : Frame) (e : IsFrame octets f)
-    (x : f .header .exchange ≡ 41) (none : newRekey f ≡ false) (o : Outcome limits s₀ now lent octets 0 s₁) (s₂ : State) (l : List Step)
+    (x : f .header .exchange ≡ 41) (none : newRekey f ≡ false) (o : Outcome limits s₀ now lent octets 0 s₁) (s₂ : State) (l : List Event)
     (r : Run limits s₁ l s₂) (quiet : AllQuiet limits r) (now′ : ℕ) (lent′ octets′ : List ℕ) (g : Frame) (e′ : IsFrame octets′ g)
     (x′ : g .header .exchange ≡ 41) (s₃ : State) → g .header .messageId ≤ f .header .messageId → Outcome limits s₂ now′ lent′ octets′ 0 s₃ →
     ⊥
 no-replay = ofRunsReplay.no-replay
 
 pub none-any-more : (limits : Limits) (s₀ s₁ : State) (now : ℕ) (lent octets : List ℕ) (f : Frame) (e : IsFrame octets f)
-    (x : f .header .exchange ≡ 41) (none : newRekey f ≡ false) (o : Outcome limits s₀ now lent octets 0 s₁) (s₂ : State) (l : List Step)
+    (x : f .header .exchange ≡ 41) (none : newRekey f ≡ false) (o : Outcome limits s₀ now lent octets 0 s₁) (s₂ : State) (l : List Event)
     (r : Run limits s₁ l s₂) (quiet : AllQuiet limits r) (now′ : ℕ) (lent′ octets′ : List ℕ) (g : Frame) (e′ : IsFrame octets′ g)
     (x′ : g .header .exchange ≡ 41) (s₃ : State) → f .header .messageId ≡ 4294967295 → Outcome limits s₂ now′ lent′ octets′ 0 s₃ → ⊥
 none-any-more = ofRunsReplay.none-any-more
@@ -89,5 +89,5 @@ sweep-quiet = ofRunsQuiet.sweep-quiet
 
 pub eight-exactly : (limits : Limits) (s : State) (now : ℕ) (lent : List ℕ) (f : Frame) (octets : List ℕ) → IsFrame octets f →
     (Meets limits s now lent octets 2 → ⊥) → (Meets limits s now lent octets 4 → ⊥) →
-    Meets limits s now lent octets 8 ↔ EightSays limits s now lent f
+    Meets limits s now lent octets 8 ↔ KeyConflictSays limits s now lent f
 eight-exactly = ofEightSays.eight-exactly

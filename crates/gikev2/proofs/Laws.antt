@@ -10,9 +10,9 @@ use lib.ListN.{length, take, drop, replicate}
 use lib.Seq.{take-all}
 use Rattle.state_keys.specs.Kinds.{padded}
 use Rattle.state_keys.proofs.Parts.{copied}
-use Rattle.state_sa.specs.Entry.{rekey}
+use Rattle.state_sa.specs.Entry.{rekeyProtocol}
 use Rattle.state_sa.specs.declared.entry.Sa.{Sa}
-use Rattle.state_table.specs.declared.Found.{Found}
+use Rattle.state_table.specs.declared.SaFound.{SaFound}
 use Rattle.gikev2.specs.declared.SaAnswer.{SaAnswer}
 use Rattle.gikev2.specs.Member.{answerOf, noAnswer, answered}
 
@@ -50,15 +50,15 @@ module _ (s : Sa) (n : ℕ) (octets : List ℕ) (h : length (s .octets) ≡ 68) 
     lifetime = s .lifetime;
   }
 
-  pub answer-rekey : s .protocol ≡ rekey → With (s .encryption) (s .wrapping) ≡ answerOf s
+  pub answer-rekey : s .protocol ≡ rekeyProtocol → With (s .encryption) (s .wrapping) ≡ answerOf s
   unfolding answerOf
-  answer-rekey p = rw (eq-eqb (s .protocol) rekey p, answer-octets)
+  answer-rekey p = rw (eq-eqb (s .protocol) rekeyProtocol p, answer-octets)
 
-  pub answer-other : (s .protocol ≡ rekey → ⊥) → With 0 0 ≡ answerOf s
+  pub answer-other : (s .protocol ≡ rekeyProtocol → ⊥) → With 0 0 ≡ answerOf s
   unfolding answerOf
-  answer-other p = rw (ne-eqb (s .protocol) rekey p, answer-octets)
+  answer-other p = rw (ne-eqb (s .protocol) rekeyProtocol p, answer-octets)
 
-module _ (f : Found) (r : SaAnswer) where
+module _ (f : SaFound) (r : SaAnswer) where
   pub answered-yes : f .found ≡ true → r ≡ answerOf (f .sa) → r ≡ answered f
   unfolding answered
   answered-yes e g = rw e g

@@ -7,11 +7,11 @@ use lib.ListN.{take}
 use Rattle.state_keys.specs.Rooms.{saRoom}
 use Rattle.state_keys.specs.Limits.{limits}
 use Rattle.state_keys.specs.Kinds.{padded}
-use Rattle.state_sa.specs.Entry.{rekey}
+use Rattle.state_sa.specs.Entry.{rekeyProtocol}
 use Rattle.state_sa.specs.declared.entry.Sa.{Sa}
 use Rattle.state_sa.specs.declared.entry.Condition.the-variants.{Live}
 use Rattle.state_sa.specs.declared.entry.Lifetime.the-variants.{Unlimited}
-use Rattle.state_table.specs.declared.Found.{Found}
+use Rattle.state_table.specs.declared.SaFound.{SaFound}
 use Rattle.state.specs.State.{newState, sweptState, askedSa}
 use Rattle.gikev2.specs.declared.Member.{Member}
 use Rattle.gikev2.specs.declared.SaAnswer.{SaAnswer}
@@ -37,8 +37,8 @@ answerOf s =
       found = true;
       octets = padded saRoom (take (s .count) (s .octets));
       count = s .count;
-      encryption = cond (eqb (s .protocol) rekey) (s .encryption) 0;
-      wrapping = cond (eqb (s .protocol) rekey) (s .wrapping) 0;
+      encryption = cond (eqb (s .protocol) rekeyProtocol) (s .encryption) 0;
+      wrapping = cond (eqb (s .protocol) rekeyProtocol) (s .wrapping) 0;
       condition = s .condition;
       lifetime = s .lifetime;
     }
@@ -54,7 +54,7 @@ noAnswer = record {
   lifetime = Unlimited;
 }
 
-unfoldable pub answered : Found → SaAnswer
+unfoldable pub answered : SaFound → SaAnswer
 answered f = cond (f .found) (answerOf (f .sa)) noAnswer
 
 unfoldable pub saAnswer : ℕ → List ℕ → Member → SaAnswer

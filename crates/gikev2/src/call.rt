@@ -2,7 +2,7 @@
 use crate::Member;
 use check_judging::facts::Facts;
 use check_judging::refusal::Verdict;
-use receive::deciding::decided;
+use receive::deciding::decide;
 use state::State;
 use wire_attributes::Layout;
 ghost use mathlib.Core.Path.{_≡_};
@@ -130,7 +130,7 @@ impl Member {
             Judged limits (self .state) tick (now (lent .entry)) f (numberOf (r .answer)) (r .member .state)) ⌝ }
     {
         let state = self.state;
-        let next = decided(state, s, x, lent, tick);
+        let next = decide(state, s, x, lent, tick);
         answered(next.number, next.state)
     }
 

@@ -71,7 +71,7 @@ impl Member {
         ensures { λ r. ⌜ r ≡ sweptMember tick self ⌝ }
     {
         let s = self.state;
-        let state = s.swept(tick);
+        let state = s.sweep(tick);
         Member { state }
     }
 

@@ -10,7 +10,7 @@ use Rattle.octets.specs.Octets.{Octets}
 use Rattle.octets.proofs.Octets.{join-octets, take-octets, zero-octets}
 use Rattle.octets.proofs.Replicate.{drop-replicate, take-replicate}
 use Rattle.rfc5649.specs.Steps.{register}
-use Rattle.rfc5649.specs.Wrap.{initialValue, blocks, padded, registers, octetsIn, start}
+use Rattle.rfc5649.specs.Wrap.{initialValue, blocks, padToBlocks, registers, registerOctets, startRegisters}
 use Rattle.keywrap.specs.Answers.{written, Wrote}
 use Rattle.keywrap.specs.inner.Blank.{blank}
 use Rattle.rfc5649.specs.inner.Unwrap.{Begins, countIn, zeroFrom}
@@ -40,54 +40,54 @@ module _ (s : List ℕ) (n : ℕ) (is : Registers 33 s) (least : 1 ≤ n) (most 
       small (suc k) (x ∷ l) h (suc i) = small k l (λ j. h (suc j)) i
 
   module _ (x : List ℕ) (b : Begins n (take (suc n) s) x) where
-    same : register s 0 ∷ r ≡ start x
+    same : register s 0 ∷ r ≡ startRegisters x
     same = sym split ∙ b .is
 
     -- A tells the count
     told : countIn (register s 0) n ≡ length x
-    unfolding start
+    unfolding startRegisters
     told = ap (λ (a : ℕ). countIn a n) (ap (λ (l : List ℕ). register l 0) same) ∙ told-count (length x) n (b .size) most
 
-    behind : octetsIn r ≡ padded x
-    unfolding start
+    behind : registerOctets r ≡ padToBlocks x
+    unfolding startRegisters
     behind =
-        ap octetsIn (ap (drop 1) same)
-        ∙ octets-registers (blocks (length x)) (padded x) (padded-octets x (b .octets)) (length-padded x)
+        ap registerOctets (ap (drop 1) same)
+        ∙ octets-registers (blocks (length x)) (padToBlocks x) (padded-octets x (b .octets)) (length-padded x)
 
   pub none-told : countIn (register s 0) n ≡ 0 → (x : List ℕ) → Begins n (take (suc n) s) x → ⊥
   none-told e x b = omega (arith, told x b, b .size)
 
   module _ (m : ℕ) (out : List ℕ) (counted : countIn (register s 0) n ≡ m)
-      (e : out ≡ written (octetsIn (take (n + 1 - 1) (drop 1 s))) blank) where
-    length-r : length (octetsIn r) ≡ 8 * n
+      (e : out ≡ written (registerOctets (take (n + 1 - 1) (drop 1 s))) blank) where
+    length-r : length (registerOctets r) ≡ 8 * n
     length-r = length-octets-in r ∙ ap (λ (k : ℕ). 8 * k) (r-registers .size)
 
-    out-is : out ≡ octetsIn r ++ replicate (256 - 8 * n) 0
+    out-is : out ≡ registerOctets r ++ replicate (256 - 8 * n) 0
     unfolding blank
     out-is =
-        e ∙ ap (λ (k : ℕ). written (octetsIn (take k (drop 1 s))) blank) (let z : n + 1 - 1 ≡ n = omega arith in z)
-        ∙ ap (λ (l : List ℕ). octetsIn r ++ l)
+        e ∙ ap (λ (k : ℕ). written (registerOctets (take k (drop 1 s))) blank) (let z : n + 1 - 1 ≡ n = omega arith in z)
+        ∙ ap (λ (l : List ℕ). registerOctets r ++ l)
         (ap (λ (k : ℕ). drop k (replicate 256 0)) length-r ∙ drop-replicate (8 * n) 256 0 (omega arith))
 
     pub length-out : length out ≡ 256
     length-out =
-        ap length out-is ∙ length-append (octetsIn r) (replicate (256 - 8 * n) 0)
+        ap length out-is ∙ length-append (registerOctets r) (replicate (256 - 8 * n) 0)
         ∙ omega (arith, length-r, length-replicate {A = ℕ} (256 - 8 * n) 0)
 
     out-octets : Octets out
     out-octets =
         subst Octets (sym out-is)
-        (join-octets (octetsIn r) (replicate (256 - 8 * n) 0) (octets-in-octets r) (zero-octets (256 - 8 * n)))
+        (join-octets (registerOctets r) (replicate (256 - 8 * n) 0) (octets-in-octets r) (zero-octets (256 - 8 * n)))
 
     -- the padding is checked to the end of the blocks
     zero-same : zeroFrom m (take (8 * n) out) ≡ zeroFrom m out
     zero-same =
         ap (λ (l : List ℕ). zeroFrom m (take (8 * n) l)) out-is
-        ∙ ap (zeroFrom m) (take-at (octetsIn r) (replicate (256 - 8 * n) 0) (8 * n) length-r)
-        ∙ sym (zero-behind (octetsIn r) m (256 - 8 * n)) ∙ ap (zeroFrom m) (sym out-is)
+        ∙ ap (zeroFrom m) (take-at (registerOctets r) (replicate (256 - 8 * n) 0) (8 * n) length-r)
+        ∙ sym (zero-behind (registerOctets r) m (256 - 8 * n)) ∙ ap (zeroFrom m) (sym out-is)
 
     pub not-zero : zeroFrom m (take (8 * n) out) ≡ false → (x : List ℕ) → Begins n (take (suc n) s) x → ⊥
-    unfolding padded
+    unfolding padToBlocks
     not-zero h x b =
         let f : zeroFrom m out ≡ false = sym zero-same ∙ h in
         let g : zeroFrom m out ≡ true =
@@ -116,18 +116,18 @@ module _ (s : List ℕ) (n : ℕ) (is : Registers 33 s) (least : 1 ≤ n) (most 
           ∙ ap (λ (l : List ℕ). take m out ++ l) (zero-from out m (sym zero-same ∙ zeros) ∙ ap (λ (k : ℕ). replicate (k - m) 0) length-out)
 
       -- the padded octets are the first 8 * n of those written
-      padding : padded (take m out) ≡ octetsIn r
-      unfolding padded
+      padding : padToBlocks (take m out) ≡ registerOctets r
+      unfolding padToBlocks
       padding =
           ap (λ (k : ℕ). take m out ++ replicate (8 * blocks k - k) 0) count
           ∙ ap (λ (k : ℕ). take m out ++ replicate (8 * k - m) 0) m-blocks
           ∙ ap (λ (l : List ℕ). take m out ++ l) (sym (take-replicate (8 * n - m) (256 - m) 0 (omega (arith, m-blocks))))
           ∙ sym (take-append-add (take m out) (replicate (256 - m) 0) (8 * n - m))
           ∙ ap₂ take (let z : length (take m out) + (8 * n - m) ≡ 8 * n = omega (arith, count, m-blocks) in z) (sym whole ∙ out-is)
-          ∙ take-at (octetsIn r) (replicate (256 - 8 * n) 0) (8 * n) length-r
+          ∙ take-at (registerOctets r) (replicate (256 - 8 * n) 0) (8 * n) length-r
 
       pub found : Wrote (Begins n (take (suc n) s)) blank m out
-      unfolding start blank
+      unfolding startRegisters blank
       found =
           record {
             x = take m out;

@@ -12,26 +12,26 @@ use Rattle.octets.proofs.RoundTrip.{length-octets}
 use Rattle.octets.proofs.Parts.{copied-end}
 use Rattle.octets.proofs.Replicate.{take-replicate, drop-replicate}
 use Rattle.rfc5649.specs.Steps.{register}
-use Rattle.rfc5649.specs.Wrap.{initialValue, blocks, padded, registers, octetsIn, start}
+use Rattle.rfc5649.specs.Wrap.{initialValue, blocks, padToBlocks, registers, registerOctets, startRegisters}
 use Rattle.keywrap.specs.Answers.{written}
 use Rattle.rfc5649.proofs.Registers.{length-octets-in, octets-in-append}
 
-module _ (s room₀ room : List ℕ) (i : ℕ) (more : i < length s) (e : room ≡ written (octetsIn (take i s)) room₀) where
+module _ (s room₀ room : List ℕ) (i : ℕ) (more : i < length s) (e : room ≡ written (registerOctets (take i s)) room₀) where
   w : List ℕ
-  w = octetsIn (take i s)
+  w = registerOctets (take i s)
 
   length-w : length w ≡ 8 * i
   unfolding w
   length-w = length-octets-in (take i s) ∙ ap (λ (k : ℕ). 8 * k) (length-take-le i s (omega arith))
 
-  next : octetsIn (take (i + 1) s) ≡ w ++ octetsOf 8 (register s i)
-  unfolding w octetsIn
+  next : registerOctets (take (i + 1) s) ≡ w ++ octetsOf 8 (register s i)
+  unfolding w registerOctets
   next =
-      ap octetsIn (ap (λ (k : ℕ). take k s) (add-one i) ∙ take-suc s i 0 more)
+      ap registerOctets (ap (λ (k : ℕ). take k s) (add-one i) ∙ take-suc s i 0 more)
       ∙ octets-in-append (take i s) (register s i ∷ [])
       ∙ ap (λ (x : List ℕ). w ++ x) (append-nil (octetsOf 8 (register s i)))
 
-  length-next : length (octetsIn (take (i + 1) s)) ≡ 8 * i + 8
+  length-next : length (registerOctets (take (i + 1) s)) ≡ 8 * i + 8
   length-next = ap length next ∙ length-append w (octetsOf 8 (register s i)) ∙ omega (arith, length-w, length-octets 8 (register s i))
 
   behind : drop (8 * i + 8) room ≡ drop (8 * i + 8) room₀
@@ -43,7 +43,7 @@ module _ (s room₀ room : List ℕ) (i : ℕ) (more : i < length s) (e : room �
 
   pub stored-turn : {b y : List ℕ} → b ≡ octetsOf 8 (register s i)
       → y ≡ take (length b) b ++ drop (length b) (midOf (8 * i) (length room - 8 * i) room)
-      → putMid (8 * i) (length room - 8 * i) room y ≡ written (octetsIn (take (i + 1) s)) room₀
+      → putMid (8 * i) (length room - 8 * i) room y ≡ written (registerOctets (take (i + 1) s)) room₀
   unfolding w
   stored-turn {b} eb ey =
       copied-end room b (8 * i) ey
@@ -51,8 +51,8 @@ module _ (s room₀ room : List ℕ) (i : ℕ) (more : i < length s) (e : room �
       (ap₂ (λ (p q : List ℕ). p ++ q) eb
       (ap (λ (k : ℕ). drop (8 * i + k) room) (ap length eb ∙ length-octets 8 (register s i)) ∙ behind
       ∙ ap (λ (k : ℕ). drop k room₀) (sym length-next)))
-      ∙ sym (append-assoc w (octetsOf 8 (register s i)) (drop (length (octetsIn (take (i + 1) s))) room₀))
-      ∙ ap (λ (x : List ℕ). x ++ drop (length (octetsIn (take (i + 1) s))) room₀) (sym next)
+      ∙ sym (append-assoc w (octetsOf 8 (register s i)) (drop (length (registerOctets (take (i + 1) s))) room₀))
+      ∙ ap (λ (x : List ℕ). x ++ drop (length (registerOctets (take (i + 1) s))) room₀) (sym next)
 
 -- ---- the registers before the steps: x is copied to the start of 256 zeros, and its blocks go behind A
 
@@ -68,8 +68,8 @@ module _ (x p : List ℕ) (most : length x ≤ 256) (e : p ≡ take (length x) x
   unfolding m
   length-filled = ap length filled ∙ length-append x (replicate (256 - m) 0) ∙ omega (arith, length-replicate {A = ℕ} (256 - length x) 0)
 
-  front : take (8 * blocks (length x)) p ≡ padded x
-  unfolding padded m
+  front : take (8 * blocks (length x)) p ≡ padToBlocks x
+  unfolding padToBlocks m
   front =
       ap₂ take (let z : 8 * blocks (length x) ≡ length x + (8 * blocks (length x) - length x) = omega arith in z) filled
       ∙ take-append-add x (replicate (256 - m) 0) (8 * blocks (length x) - length x)
@@ -77,8 +77,9 @@ module _ (x p : List ℕ) (most : length x ≤ 256) (e : p ≡ take (length x) x
 
   pub begun-is : {s : List ℕ}
       → s ≡ registers (length {A = ℕ} (take (blocks (length x) + 1 - 1) (replicate 32 0))) (take (8 * blocks (length x)) p)
-      → initialValue (length x) ∷ (s ++ drop (blocks (length x) + 1 - 1) (replicate 32 0)) ≡ start x ++ replicate (32 - blocks (length x)) 0
-  unfolding start
+      → initialValue (length x) ∷ (s ++ drop (blocks (length x) + 1 - 1) (replicate 32 0))
+      ≡ startRegisters x ++ replicate (32 - blocks (length x)) 0
+  unfolding startRegisters
   begun-is es =
       ap₂ (λ (a b : List ℕ). initialValue (length x) ∷ (a ++ b))
       (es ∙ ap₂ registers (length-take-le {A = ℕ} (blocks (length x) + 1 - 1) (replicate 32 0) (omega arith) ∙ less) front)

@@ -11,8 +11,8 @@ use lib.ListN.{length, take, drop, replicate, length-append}
 use lib.Seq.{take-at, length-take-le}
 use Rattle.octets.specs.Octets.{Octets}
 use Rattle.fips197.specs.Key.{Key}
-use Rattle.keywrap.specs.declared.Answer.{Answer}
-use Rattle.keywrap.specs.declared.Answer.the-variants.{No}
+use Rattle.keywrap.specs.declared.WrapAnswer.{WrapAnswer}
+use Rattle.keywrap.specs.declared.WrapAnswer.the-variants.{No}
 use Rattle.rfc5649.specs.Wrap.{blocks, registers}
 use Rattle.keywrap.specs.Answers.{Opening, Answers, OpenAnswers, Wrote}
 use Rattle.keywrap.specs.inner.Blank.{blank}
@@ -97,7 +97,7 @@ module _ (key w s : List ℕ) (n : ℕ) (is : Key key) (o : Octets w) (size : le
       same : blocks (length x) ≡ n
       same = omega (arith, size, length-wrapped key w x is (h .opens))
 
-  pub opened : (a : Answer) (after : List ℕ) → Answers (Begins n (take (suc n) s)) blank a after → OpenAnswers key w blank a after
+  pub opened : (a : WrapAnswer) (after : List ℕ) → Answers (Begins n (take (suc n) s)) blank a after → OpenAnswers key w blank a after
   opened = answers-map (Begins n (take (suc n) s)) (Opening key w blank) blank to from
 
 -- ---- into lent room
@@ -117,11 +117,11 @@ module _ (key w room : List ℕ) (is : Key key) where
     front : take n octets ≡ h .x
     front = ap (take n) (h .room-is) ∙ take-at (h .x) (drop (length (h .x)) blank) n (h .count)
 
-    pub put-some : {a : Answer} {after : List ℕ} → a ≡ putAnswer (take n octets) room → after ≡ putRoom (take n octets) room
+    pub put-some : {a : WrapAnswer} {after : List ℕ} → a ≡ putAnswer (take n octets) room → after ≡ putRoom (take n octets) room
         → OpenAnswers key w room a after
     unfolding putAnswer putRoom
     put-some {a} {after} ea er =
-        subst (λ (b : Answer). OpenAnswers key w room b after) (sym (ea ∙ ap (λ (x : List ℕ). putAnswer x room) front))
+        subst (λ (b : WrapAnswer). OpenAnswers key w room b after) (sym (ea ∙ ap (λ (x : List ℕ). putAnswer x room) front))
         (subst (λ (r : List ℕ). OpenAnswers key w room (putAnswer (h .x) room) r) (sym (er ∙ ap (λ (x : List ℕ). putRoom x room) front))
         (by (leb (length (h .x)) (length room)) refl))
       where

@@ -9,23 +9,25 @@ use borrow.Author.Tests.{eq-eqb, ne-eqb}
 use lib.ListN.{set}
 use lib.Bits.{bitXor, xor-zero-r}
 use Rattle.fips197.specs.Cipher.{cipher, invCipher}
-use Rattle.rfc5649.specs.Steps.{register, joined, msb64, stored, step, row, rows}
+use Rattle.rfc5649.specs.Steps.{register, joinRegisters, msb64, stored, step, row, rows}
 use Rattle.rfc5649.specs.inner.Unwrap.{unstep, unrow, unrows, forward, backward}
 use Rattle.rfc5649.proofs.Blocks.{msb-joined, lsb-joined}
 
 -- ---- a step
 
 module _ (key s : List ℕ) (t i a r : ℕ) (ha : a < 256 ^ 8) (hr : r < 256 ^ 8) where
-  pub stepped : joined a r ≡ cipher key (joined (register s 0) (register s i)) → set (set s 0 (bitXor a t)) i r ≡ step key t i s
+  pub stepped : joinRegisters a r ≡ cipher key (joinRegisters (register s 0) (register s i)) →
+      set (set s 0 (bitXor a t)) i r ≡ step key t i s
   unfolding step stored
   stepped e =
       ap₂ (λ (y z : ℕ). set (set s 0 (bitXor y t)) i z) (sym (msb-joined a r ha)) (sym (lsb-joined a r hr))
       ∙ ap (λ (y : List ℕ). stored t i y s) e
 
-  pub unstepped : joined a r ≡ invCipher key (joined (bitXor (register s 0) t) (register s i)) → set (set s 0 a) i r ≡ unstep key t i s
+  pub unstepped : joinRegisters a r ≡ invCipher key (joinRegisters (bitXor (register s 0) t) (register s i)) →
+      set (set s 0 a) i r ≡ unstep key t i s
   unfolding unstep stored
   unstepped e =
-      ap₂ (λ (y z : ℕ). set (set s 0 y) i z) (sym (xor-zero-r (msb64 (joined a r)) ∙ msb-joined a r ha)) (sym (lsb-joined a r hr))
+      ap₂ (λ (y z : ℕ). set (set s 0 y) i z) (sym (xor-zero-r (msb64 (joinRegisters a r)) ∙ msb-joined a r ha)) (sym (lsb-joined a r hr))
       ∙ ap (λ (y : List ℕ). stored 0 i y s) e
 
 -- ---- a turn of a loop

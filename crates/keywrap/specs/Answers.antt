@@ -7,8 +7,8 @@ use mathlib.Core.List.{List, _++_}
 use lib.Dec.{T}
 use lib.ListN.{length, drop}
 use Rattle.fips197.specs.Key.{isKey}
-use Rattle.keywrap.specs.declared.Answer.{Answer}
-use Rattle.keywrap.specs.declared.Answer.the-variants.{No, Count}
+use Rattle.keywrap.specs.declared.WrapAnswer.{WrapAnswer}
+use Rattle.keywrap.specs.declared.WrapAnswer.the-variants.{No, Count}
 use Rattle.rfc5649.specs.Wrap.{wrapOf}
 use Rattle.rfc5649.specs.Opens.{Opens}
 
@@ -37,18 +37,18 @@ pub record Wrote (Result : List ℕ → Type 0) (room : List ℕ) (n : ℕ) (aft
   pub count : length x ≡ n
   pub room-is : after ≡ written x room
 
-pub record Refused (Result : List ℕ → Type 0) (room after : List ℕ) : Type 0 where
+pub record NoResult (Result : List ℕ → Type 0) (room after : List ℕ) : Type 0 where
   pub none : (x : List ℕ) → Result x → ⊥
   pub room-is : after ≡ room
 
-abbrev pub Answers : (List ℕ → Type 0) → List ℕ → Answer → List ℕ → Type 0
+abbrev pub Answers : (List ℕ → Type 0) → List ℕ → WrapAnswer → List ℕ → Type 0
 Answers Result room (Count n) after = Wrote Result room n after
-Answers Result room No after = Refused Result room after
+Answers Result room No after = NoResult Result room after
 
 -- `wrap`
-abbrev pub WrapAnswers : List ℕ → List ℕ → List ℕ → Answer → List ℕ → Type 0
+abbrev pub WrapAnswers : List ℕ → List ℕ → List ℕ → WrapAnswer → List ℕ → Type 0
 WrapAnswers key octets room = Answers (Wrapping key octets room) room
 
 -- `open`
-abbrev pub OpenAnswers : List ℕ → List ℕ → List ℕ → Answer → List ℕ → Type 0
+abbrev pub OpenAnswers : List ℕ → List ℕ → List ℕ → WrapAnswer → List ℕ → Type 0
 OpenAnswers key wrapped room = Answers (Opening key wrapped room) room

@@ -22,14 +22,14 @@ use aes::INVERSE_TABLE_WORDS;
 use aes::SCHEDULE_WORDS;
 
 // What wrapping and opening answer: document 01's "no", or the count of octets written at the room's start.
-pub enum Answer {
+pub enum WrapAnswer {
     No,
     Count(usize),
 }
 
 // What is opened into blank room of its own.
 pub struct Opened {
-    pub answer: Answer,
+    pub answer: WrapAnswer,
     pub octets: [u8; 256],
 }
 
@@ -52,7 +52,7 @@ fn write_wrapped(key: &[u8], octets: &[u8], room: &mut [u8])
     ensures { λ _. ⌜ now (room .exit) ≡ written (wrapOf (now (key .entry)) (now (octets .entry))) (now (room .entry)) ⌝ }
 {
     let end = (octets.len() + 7) / 8 + 1;
-    let mut s = load::begun(octets);
+    let mut s = load::start_registers(octets);
     let tables = aes::tables();
     let schedule = aes::expand(&tables, key);
     wrap_steps::forward_in(&tables, &schedule.words, &mut s[..end], end - 1);
@@ -60,29 +60,29 @@ fn write_wrapped(key: &[u8], octets: &[u8], room: &mut [u8])
 }
 
 // Wraps 1 to 256 octets under a key of 16, 24 or 32 octets, at the room's start.
-pub fn wrap(key: &[u8], octets: &[u8], room: &mut [u8]) -> Answer
+pub fn wrap(key: &[u8], octets: &[u8], room: &mut [u8]) -> WrapAnswer
     ensures { λ r. ⌜ WrapAnswers (now (key .entry)) (now (octets .entry)) (now (room .entry)) r (now (room .exit)) ⌝ }
 {
     let m = octets.len();
     if m == 0 {
-        return Answer::No;
+        return WrapAnswer::No;
     }
     if 256 < m {
-        return Answer::No;
+        return WrapAnswer::No;
     }
     let n = 8 * ((m + 7) / 8 + 1);
     if room.len() < n {
-        return Answer::No;
+        return WrapAnswer::No;
     }
     if is_key(key.len()) {
         write_wrapped(key, octets, room);
-        return Answer::Count(n);
+        return WrapAnswer::Count(n);
     }
-    Answer::No
+    WrapAnswer::No
 }
 
 // The registers that `wrapped` had before the steps: A, R[1], .., R[n], and zeros behind.
-fn unwrapped(
+fn unwrap_registers(
     tables: &[u32; INVERSE_TABLE_WORDS],
     schedule: &[u32; SCHEDULE_WORDS],
     wrapped: &[u8],
@@ -110,31 +110,31 @@ pub fn open_under(
 {
     let size = wrapped.len();
     if size < 16 {
-        return verify::refused();
+        return verify::refuse();
     }
     if 264 < size {
-        return verify::refused();
+        return verify::refuse();
     }
     if size % 8 == 0 {
         let n = size / 8 - 1;
-        return verify::checked(unwrapped(tables, &schedule.words, wrapped, n), n);
+        return verify::check_registers(unwrap_registers(tables, &schedule.words, wrapped, n), n);
     }
-    verify::refused()
+    verify::refuse()
 }
 
 // Octets at the start of a room that holds them.
-fn put(octets: &[u8], room: &mut [u8]) -> Answer
+fn put(octets: &[u8], room: &mut [u8]) -> WrapAnswer
     ensures { λ r. ⌜ r ≡ putAnswer (now (octets .entry)) (now (room .entry)) ⌝ }
     ensures { λ _. ⌜ now (room .exit) ≡ putRoom (now (octets .entry)) (now (room .entry)) ⌝ }
 {
     if octets.len() <= room.len() {
-        return Answer::Count(bytes::copy(octets, room));
+        return WrapAnswer::Count(bytes::copy(octets, room));
     }
-    Answer::No
+    WrapAnswer::No
 }
 
 // Opens what was wrapped under a key of 16, 24 or 32 octets, at the room's start.
-pub fn open(key: &[u8], wrapped: &[u8], room: &mut [u8]) -> Answer
+pub fn open(key: &[u8], wrapped: &[u8], room: &mut [u8]) -> WrapAnswer
     ensures { λ r. ⌜ OpenAnswers (now (key .entry)) (now (wrapped .entry)) (now (room .entry)) r (now (room .exit)) ⌝ }
 {
     if is_key(key.len()) {
@@ -143,9 +143,9 @@ pub fn open(key: &[u8], wrapped: &[u8], room: &mut [u8]) -> Answer
         let octets = opened.octets;
         let answer = opened.answer;
         match answer {
-            Answer::No => return Answer::No,
-            Answer::Count(n) => return put(&octets[..n], room),
+            WrapAnswer::No => return WrapAnswer::No,
+            WrapAnswer::Count(n) => return put(&octets[..n], room),
         }
     }
-    Answer::No
+    WrapAnswer::No
 }

@@ -5,7 +5,7 @@ ghost use mathlib.Core.Path.{_≡_};
 ghost use mathlib.Core.List.{_++_};
 ghost use Prim.Native.Nat.{_+_, _-_, _*_, _/_, _≤_};
 ghost use lib.ListN.{length, replicate};
-ghost use Rattle.rfc5649.specs.Wrap.{blocks, registers, octetsIn, start};
+ghost use Rattle.rfc5649.specs.Wrap.{blocks, registers, registerOctets, startRegisters};
 ghost use Rattle.keywrap.specs.Answers.{written};
 
 pub(crate) fn load(octets: &[u8], s: &mut [u64])
@@ -22,7 +22,7 @@ pub(crate) fn load(octets: &[u8], s: &mut [u64])
 // The registers' octets at the room's start.
 pub(crate) fn store(s: &[u64], room: &mut [u8])
     requires { ⌜ 8 * length (now s) ≤ length (now room) ⌝ }
-    ensures { λ _. ⌜ now (room .exit) ≡ written (octetsIn (now (s .entry))) (now (room .entry)) ⌝ }
+    ensures { λ _. ⌜ now (room .exit) ≡ written (registerOctets (now (s .entry))) (now (room .entry)) ⌝ }
 {
     let mut i = 0;
     while i < s.len() {
@@ -34,9 +34,9 @@ pub(crate) fn store(s: &[u64], room: &mut [u8])
 }
 
 // The alternative initial value of RFC 5649, section 3, and the padded octets: A, R[1], .., R[n], and zeros behind.
-pub(crate) fn begun(octets: &[u8]) -> [u64; 33]
+pub(crate) fn start_registers(octets: &[u8]) -> [u64; 33]
     requires { ⌜ (1 ≤ length (now octets)) × (length (now octets) ≤ 256) ⌝ }
-    ensures { λ r. ⌜ r ≡ start (now (octets .entry)) ++ replicate (32 - blocks (length (now (octets .entry)))) 0 ⌝ }
+    ensures { λ r. ⌜ r ≡ startRegisters (now (octets .entry)) ++ replicate (32 - blocks (length (now (octets .entry)))) 0 ⌝ }
 {
     let m = octets.len();
     let n = (m + 7) / 8;

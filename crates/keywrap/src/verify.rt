@@ -1,6 +1,6 @@
 // The checks of RFC 5649, section 3, on unwrapped registers.
-use crate::Answer;
 use crate::Opened;
+use crate::WrapAnswer;
 use crate::load::store;
 ghost use mathlib.Core.Path.{_≡_};
 ghost use Prim.Native.Nat.{suc, _≤_};
@@ -10,11 +10,11 @@ ghost use Rattle.keywrap.specs.inner.Blank.{blank};
 ghost use Rattle.rfc5649.specs.inner.Unwrap.{Begins, countIn, zeroFrom};
 
 // "no", and nothing of what did not open.
-pub(crate) fn refused() -> Opened
-    ensures { λ r. ⌜ (r .answer ≡ Answer.No) × (r .octets ≡ blank) ⌝ }
+pub(crate) fn refuse() -> Opened
+    ensures { λ r. ⌜ (r .answer ≡ WrapAnswer.No) × (r .octets ≡ blank) ⌝ }
 {
     Opened {
-        answer: Answer::No,
+        answer: WrapAnswer::No,
         octets: [0u8; 256],
     }
 }
@@ -47,13 +47,13 @@ fn is_zero_from(s: &[u8], at: usize) -> bool
 }
 
 // What the registers s of n blocks were before they were wrapped, if anything.
-pub(crate) fn checked(s: [u64; 33], n: usize) -> Opened
+pub(crate) fn check_registers(s: [u64; 33], n: usize) -> Opened
     requires { ⌜ (1 ≤ n) × (n ≤ 32) ⌝ }
     ensures { λ r. ⌜ Answers (Begins n (take (suc n) s)) blank (r .answer) (r .octets) ⌝ }
 {
     let m = count_in(s[0], n);
     if m == 0 {
-        return refused();
+        return refuse();
     }
     let end = n + 1;
     let mut octets = [0u8; 256];
@@ -61,9 +61,9 @@ pub(crate) fn checked(s: [u64; 33], n: usize) -> Opened
     let full = 8 * n;
     if is_zero_from(&octets[..full], m) {
         return Opened {
-            answer: Answer::Count(m),
+            answer: WrapAnswer::Count(m),
             octets,
         };
     }
-    refused()
+    refuse()
 }

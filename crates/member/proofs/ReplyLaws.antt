@@ -9,7 +9,7 @@ use Rattle.text_rules.specs.Answer.{answerText, badText}
 use Rattle.text_rules.specs.Transcript.{Replies}
 use Rattle.text_lines.specs.inner.Room.{replyRoom, Put}
 use Rattle.text_lines.specs.inner.Calls.{Asks}
-use Rattle.text_lines.specs.declared.Key.{Key}
+use Rattle.text_lines.specs.declared.LineKey.{LineKey}
 use Rattle.text_lines.specs.declared.Request.the-variants as request
 use Rattle.text_lines.proofs.AnswerLaws.{answer-short}
 use Rattle.text_lines.proofs.CallLaws.{reply-bad, reply-frame, key-short, given-length}
@@ -17,8 +17,8 @@ use Rattle.text_lines.proofs.RoomLaws.{length-put, put-as}
 use Rattle.gikev2.specs.Receive.{numberOf, figureOf, Receives}
 use Rattle.gikev2.specs.declared.Member.{Member}
 use Rattle.gikev2.specs.declared.call.Answer.{Answer}
-use Rattle.member.specs.Program.{Answers}
-use Rattle.member.specs.inner.Reply.{keyIn, LaterLine, Answered, Received}
+use Rattle.member.specs.Program.{LineAnswers}
+use Rattle.member.specs.inner.Reply.{keyIn, LaterLine, Answered, LineReceived}
 use Rattle.member.specs.declared.running.Running.{Running}
 
 -- the text of a reply is short, and the number and the figure in it as they were computed
@@ -40,7 +40,7 @@ module _ (r : Running) {out after : List ℕ} where
       → Receives (r .member) tick (keyIn (r .key)) octets a next
       → Put out (r .at) (answerText (numberOf a) (next .state .table .count) (next .state .held .count) (figureOf a)) after at
       → length (answerText (numberOf a) (next .state .table .count) (next .state .held .count) (figureOf a)) ≤ replyRoom
-      → Received r tick octets out after (placed r next at)
+      → LineReceived r tick octets out after (placed r next at)
   received-is tick octets a next p q h =
       record {
         outcome =
@@ -65,7 +65,7 @@ module _ (r : Running) {out after : List ℕ} where
   later-bad line p q =
       record {
         text = badText;
-        replies = reply-bad Answers (keyIn (r .key)) (r .member) line p;
+        replies = reply-bad LineAnswers (keyIn (r .key)) (r .member) line p;
         put = q;
         short = omega arith;
         key = refl;
@@ -74,15 +74,15 @@ module _ (r : Running) {out after : List ℕ} where
       }
 
   pub later-frame : (line : List ℕ) {room room′ : List ℕ} {tick len : ℕ} (e : Running) → Asks line room room′ (request.Frame tick len)
-      → 16384 ≤ length room → Received r tick (take len room′) out after e → LaterLine r line out after e
+      → 16384 ≤ length room → LineReceived r tick (take len room′) out after e → LaterLine r line out after e
   later-frame line e p h q =
       let o = q .outcome in
       let text = answerText (o .number) (o .sas) (o .held) (o .figure) in
       record {
         text = text;
         replies =
-            subst (λ (m : Member). Replies Answers (keyIn (r .key)) (r .member) line (record { next = m; text = text })) (q .next)
-            (reply-frame Answers (keyIn (r .key)) (r .member) line o p h (q .answers));
+            subst (λ (m : Member). Replies LineAnswers (keyIn (r .key)) (r .member) line (record { next = m; text = text })) (q .next)
+            (reply-frame LineAnswers (keyIn (r .key)) (r .member) line o p h (q .answers));
         put = q .put;
         short = q .short;
         key = q .key;
@@ -97,7 +97,7 @@ module _ (r : Running) (line out after : List ℕ) (e : Running) where
 
   pub answered-key : (b : Bool) → Answered b r line out after e → r .key .len ≤ 32 → e .key .len ≤ 32
   answered-key false p h = let l = given-length line (p .key) in let s = key-short line in omega arith
-  answered-key true p h = let l = ap (λ (k : Key). k .len) (p .key) in omega arith
+  answered-key true p h = let l = ap (λ (k : LineKey). k .len) (p .key) in omega arith
 
   pub answered-begun : (b : Bool) → Answered b r line out after e → e .len ≡ 0
   answered-begun false p = p .len

@@ -7,28 +7,29 @@ use native.Mathlib.Omega.{arith}
 use lib.ListN.{length, take}
 use Rattle.octets.specs.Walk.{part}
 use Rattle.text_rules.specs.Transcript.{Reply, Replies}
-use Rattle.text_lines.specs.inner.Calls.{Absorbs, Gives}
-use Rattle.text_lines.specs.inner.Reading.{DefaultKey, awaited, given, Reading, keyed, replied, extend, LineEnds, Finishes, Kept}
+use Rattle.text_lines.specs.inner.Calls.{Absorbs, KeyLineGives}
+use Rattle.text_lines.specs.inner.Reading.{DefaultKey, awaited, given, TextState, keyed, replied, appendText, LineEnds, Finishes, LineKept}
 use Rattle.text_lines.specs.declared.Absorbed.{Absorbed}
-use Rattle.text_lines.specs.declared.Key.{Key}
+use Rattle.text_lines.specs.declared.LineKey.{LineKey}
 use Rattle.text_lines.proofs.CallLaws.{given-key, given-length, key-short}
 use Rattle.text_lines.proofs.RoomLaws.{length-put, put-taken}
-use Rattle.text_lines.proofs.ProgramLaws.{kept-none, absorbed-inside, absorbed-some, absorbed-held, longer, longer-kept, reads-on, reads-end}
+use Rattle.text_lines.proofs.ProgramLaws.{kept-none, absorbed-inside, absorbed-some, absorbed-held}
+use Rattle.text_lines.proofs.ProgramLaws.{longer, longer-kept, reads-on, reads-end}
 use Rattle.text_lines.proofs.ProgramLaws.{finishes-none, finishes-line}
 use Rattle.gikev2.specs.Member.{newMember}
 use Rattle.gikev2.specs.declared.Member.{Member}
-use Rattle.member.specs.Program.{Answers}
+use Rattle.member.specs.Program.{LineAnswers}
 use Rattle.member.specs.inner.Reply.{keyIn, FirstLine, LaterLine, Answered}
-use Rattle.member.specs.inner.Standing.{Ready, Room, KeyStands, Stands, Starts, Goes, Passes}
+use Rattle.member.specs.inner.Standing.{BuffersReady, ReplyFits, KeyStands, Stands, Starts, Goes, Passes}
 use Rattle.member.specs.declared.running.Running.{Running}
 use Rattle.member.proofs.ReplyLaws.{answered-key, answered-begun, answered-place}
 
 -- no character of the next line is held
-kept-anew : (line : List ℕ) {len : ℕ} → len ≡ 0 → Kept line len []
-kept-anew line e = subst (λ (n : ℕ). Kept line n []) (sym e) (kept-none line)
+kept-anew : (line : List ℕ) {len : ℕ} → len ≡ 0 → LineKept line len []
+kept-anew line e = subst (λ (n : ℕ). LineKept line n []) (sym e) (kept-none line)
 
 -- before the first read
-pub starts : (key : Key) (m : Member) → m ≡ newMember → Gives [] key
+pub starts : (key : LineKey) (m : Member) → m ≡ newMember → KeyLineGives [] key
     → Starts (record { member = m; key = key; keyed = false; len = 0; at = 0 })
 starts key m e p =
     let l = given-length [] p in
@@ -40,18 +41,19 @@ starts key m e p =
       stands = λ line out. record { key = refl; member = sym e; kept = kept-none line; output = refl };
     }
 
-pub ready-first : {line room out : List ℕ} {r : Running} → Starts r → 32776 < length line → 16384 ≤ length room → Ready line room out r
+pub ready-first : {line room out : List ℕ} {r : Running} → Starts r → 32776 < length line → 16384 ≤ length room →
+    BuffersReady line room out r
 ready-first p h k =
     record { key = p .key; line-long = h; begun = omega (arith, p .len); room-long = k; place = omega (arith, p .at) }
 
 -- the end of a line, and the program behind it
 record Ended (printed : List ℕ) (k : DefaultKey) (m : Member) (held output line out : List ℕ) (e : Running) : Type 0 where
-  then : Reading Member
-  ends : LineEnds Answers k m held output then
+  then : TextState Member
+  ends : LineEnds LineAnswers k m held output then
   stands : Stands printed then line out e
 
 module _ (printed : List ℕ) (m : Member) (r : Running) (is : m ≡ r .member) (held line out after : List ℕ)
-    (output : List ℕ) (o : output ≡ printed ++ take (r .at) out) (space : Room out r) (place : r .at ≤ length out) (e : Running) where
+    (output : List ℕ) (o : output ≡ printed ++ take (r .at) out) (space : ReplyFits out r) (place : r .at ≤ length out) (e : Running) where
   ended-first : FirstLine r held out after e → Ended printed awaited m held output line after e
   ended-first p =
       record {
@@ -72,10 +74,10 @@ module _ (printed : List ℕ) (m : Member) (r : Running) (is : m ≡ r .member) 
       → Ended printed (given key) m held output line after e
   ended-later key k p =
       let a : Reply Member = record { next = e .member; text = p .text } in
-      let right = subst (λ (x : List ℕ). Replies Answers x (r .member) held a) (k .1) (p .replies) in
+      let right = subst (λ (x : List ℕ). Replies LineAnswers x (r .member) held a) (k .1) (p .replies) in
       record {
         then = replied key output a;
-        ends = (a, subst (λ (x : Member). Replies Answers key x held a) (sym is) right, refl);
+        ends = (a, subst (λ (x : Member). Replies LineAnswers key x held a) (sym is) right, refl);
         stands =
             record {
               key = (p .keyed ∙ k .0, ap keyIn (p .key) ∙ k .1);
@@ -92,12 +94,12 @@ module _ (printed : List ℕ) (m : Member) (r : Running) (is : m ≡ r .member) 
   ended (given key) k p = ended-later key k (subst (λ (b : Bool). Answered b r held out after e) (k .0) p)
 
 -- a line of a block, or its beginning
-module _ {block : List ℕ} {from : ℕ} {line room out : List ℕ} (r : Running) (ready : Ready line room out r) (h : from < length block)
+module _ {block : List ℕ} {from : ℕ} {line room out : List ℕ} (r : Running) (ready : BuffersReady line room out r) (h : from < length block)
     {line′ : List ℕ} {a : Absorbed} (q : Absorbs block from line (r .len) line′ a) where
   -- the line ended and was answered
-  module _ (space : Room out r) (t : a .ended ≡ true) (room′ out′ : List ℕ) (e : Running) (l : length room′ ≡ length room)
+  module _ (space : ReplyFits out r) (t : a .ended ≡ true) (room′ out′ : List ℕ) (e : Running) (l : length room′ ≡ length room)
       (p : Answered (r .keyed) r (take (a .len) line′) out out′ e) where
-    goes-ended : (printed : List ℕ) (x : Reading Member) → Stands printed x line out r
+    goes-ended : (printed : List ℕ) (x : TextState Member) → Stands printed x line out r
         → Goes printed x (part block from (a .next)) line′ out′ e
     goes-ended printed x s =
         let held = take (a .len) line′ in
@@ -105,7 +107,7 @@ module _ {block : List ℕ} {from : ℕ} {line room out : List ℕ} (r : Running
         let d = ended printed (x .member) r (s .member) held line′ out out′ o (s .output) space (ready .place) e (x .key) (s .key) p in
         record {
           then = d .then;
-          reads = reads-end Answers q x (d .then) t (ready .line-long) (s .kept) (d .ends);
+          reads = reads-end LineAnswers q x (d .then) t (ready .line-long) (s .kept) (d .ends);
           stands = d .stands;
         }
 
@@ -135,18 +137,18 @@ module _ {block : List ℕ} {from : ℕ} {line room out : List ℕ} (r : Running
   key-stands awaited p = p
   key-stands (given key) p = p
 
-  goes-on : a .ended ≡ false → (printed : List ℕ) (x : Reading Member) → Stands printed x line out r
+  goes-on : a .ended ≡ false → (printed : List ℕ) (x : TextState Member) → Stands printed x line out r
       → Goes printed x (part block from (a .next)) line′ out begun
-  unfolding extend
+  unfolding appendText
   goes-on t printed x s =
       record {
-        then = longer Answers q x;
-        reads = reads-on Answers q x t;
+        then = longer LineAnswers q x;
+        reads = reads-on LineAnswers q x t;
         stands =
             record {
               key = key-stands (x .key) (s .key);
               member = s .member;
-              kept = longer-kept Answers q x (s .kept);
+              kept = longer-kept LineAnswers q x (s .kept);
               output = s .output;
             };
       }
@@ -170,16 +172,17 @@ module _ {block : List ℕ} {from : ℕ} {line room out : List ℕ} (r : Running
 
 -- the end of the input
 module _ {line out : List ℕ} (r : Running) (long : 32776 < length line) where
-  pub finished-none : r .len ≡ 0 → (printed : List ℕ) (x : Reading Member) → Stands printed x line out r
-      → Finishes Answers x (printed ++ take (r .at) out)
+  pub finished-none : r .len ≡ 0 → (printed : List ℕ) (x : TextState Member) → Stands printed x line out r
+      → Finishes LineAnswers x (printed ++ take (r .at) out)
   finished-none n printed x s =
-      subst (λ (o : List ℕ). Finishes Answers x o) (s .output)
-      (finishes-none Answers x long (subst (λ (l : ℕ). Kept line l (x .line)) n (s .kept)))
+      subst (λ (o : List ℕ). Finishes LineAnswers x o) (s .output)
+      (finishes-none LineAnswers x long (subst (λ (l : ℕ). LineKept line l (x .line)) n (s .kept)))
 
-  pub finished-line : 0 < r .len → Room out r → r .at ≤ length out → (out′ : List ℕ) (e : Running)
+  pub finished-line : 0 < r .len → ReplyFits out r → r .at ≤ length out → (out′ : List ℕ) (e : Running)
       → Answered (r .keyed) r (take (r .len) line) out out′ e
-      → (printed : List ℕ) (x : Reading Member) → Stands printed x line out r → Finishes Answers x (printed ++ take (e .at) out′)
+      → (printed : List ℕ) (x : TextState Member) → Stands printed x line out r → Finishes LineAnswers x (printed ++ take (e .at) out′)
   finished-line n space place out′ e p printed x s =
       let held = take (r .len) line in
       let d = ended printed (x .member) r (s .member) held line out out′ (x .output) (s .output) space place e (x .key) (s .key) p in
-      subst (λ (o : List ℕ). Finishes Answers x o) (d .stands .output) (finishes-line Answers x long (d .then) n (s .kept) (d .ends))
+      subst (λ (o : List ℕ). Finishes LineAnswers x o) (d .stands .output)
+      (finishes-line LineAnswers x long (d .then) n (s .kept) (d .ends))

@@ -8,10 +8,10 @@ use Rattle.member.specs.Program.{Prints}
 use Rattle.member.specs.declared.Ran.{Ran}
 
 -- how a run ends: the last read gave nothing, or 2^64 - 1 octets were read, and nothing of the output is held back; or a write failed
-pub data Ends (r : Ran) (input rest : List ℕ) : Type 0 where
-  input-ended : r .taken .ended ≡ true → rest ≡ [] → Ends r input rest
-  most-read : 2 ^ 64 - 1 ≤ length input → rest ≡ [] → Ends r input rest
-  write-failed : r .handed .failed ≡ true → Ends r input rest
+pub data RunEnds (r : Ran) (input rest : List ℕ) : Type 0 where
+  input-ended : r .taken .ended ≡ true → rest ≡ [] → RunEnds r input rest
+  most-read : 2 ^ 64 - 1 ≤ length input → rest ≡ [] → RunEnds r input rest
+  write-failed : r .handed .failed ≡ true → RunEnds r input rest
 
 -- `input` was read and `output` handed over, as many octets of each as were counted; with the rest behind it, which is held back, the
 -- output is what the program prints for that input
@@ -22,4 +22,4 @@ pub record Runs (r : Ran) : Type 0 where
   pub prints : Prints input (output ++ rest)
   pub taken : r .taken .count % 2 ^ 64 ≡ length input % 2 ^ 64
   pub handed : r .handed .count % 2 ^ 64 ≡ length output % 2 ^ 64
-  pub ends : Ends r input rest
+  pub ends : RunEnds r input rest

@@ -7,22 +7,22 @@ ghost use Rattle.member.specs.inner.Taking.{nothingTaken, TakenIn};
 use libc::STDIN_FILENO;
 
 // The count goes modulo 2^64.
-pub struct Taken {
+pub struct InputTaken {
     count: usize,
     ended: bool,
 }
 
 // How many octets stand at the start of a lent block, and what was taken with them.
-pub struct Block {
+pub struct InputBlock {
     pub n: usize,
-    pub taken: Taken,
+    pub taken: InputTaken,
 }
 
 // Before the first octet.
-pub(crate) fn nothing() -> Taken
+pub(crate) fn nothing() -> InputTaken
     ensures { λ r. ⌜ r ≡ nothingTaken ⌝ }
 {
-    Taken {
+    InputTaken {
         count: 0,
         ended: false,
     }
@@ -30,7 +30,7 @@ pub(crate) fn nothing() -> Taken
 
 // What is there of the input, at the start of a lent block: one read, which waits for an octet and not for a full block. None at the
 // input's end, and none where the read fails. (A block with no room would give none too, and tell nothing of the input.)
-pub(crate) fn next(taken: Taken, block: &mut [u8]) -> Block
+pub(crate) fn next(taken: InputTaken, block: &mut [u8]) -> InputBlock
     requires { ⌜ 0 < length (now block) ⌝ }
     ensures { λ r. ⌜ r .n ≤ length (now (block .exit)) ⌝ }
     ensures { λ r. ⌜ TakenIn taken (take (r .n) (now (block .exit))) (r .taken) ⌝ }
@@ -38,15 +38,15 @@ pub(crate) fn next(taken: Taken, block: &mut [u8]) -> Block
     let got = libc::read(STDIN_FILENO, block);
     let n = io::count(got, block);
     let count = std::num::wrapping_add_usize(taken.count, n);
-    let next = Taken {
+    let next = InputTaken {
         count,
         ended: n == 0,
     };
-    Block { n, taken: next }
+    InputBlock { n, taken: next }
 }
 
 // Whether the last read gave nothing.
-pub(crate) fn ended(taken: Taken) -> bool
+pub(crate) fn ended(taken: InputTaken) -> bool
     ensures { λ r. ⌜ r ≡ taken .ended ⌝ }
 {
     taken.ended

@@ -6,11 +6,11 @@ mod running;
 ghost use Prim.Native.Nat.{_<_, _≤_};
 ghost use lib.ListN.{length};
 ghost use Rattle.text_lines.specs.inner.Room.{replyRoom};
-ghost use Rattle.member.specs.inner.Standing.{Ready, Room};
+ghost use Rattle.member.specs.inner.Standing.{BuffersReady, ReplyFits};
 ghost use Rattle.member.specs.inner.Printed.{Emptied, Flushed, Consumed, Ended};
 ghost use Rattle.member.specs.inner.Turns.{TurnsLeft};
 ghost use Rattle.member.specs.Run.{Runs};
-use input::Taken;
+use input::InputTaken;
 use output::Handed;
 use running::Running;
 use text_lines::REPLY_ROOM;
@@ -23,7 +23,7 @@ pub struct Progress {
 
 // What a run took from its input, and what it handed to its output.
 pub struct Ran {
-    pub taken: Taken,
+    pub taken: InputTaken,
     pub handed: Handed,
 }
 
@@ -50,7 +50,7 @@ fn emptied(r: Running, handed: Handed, out: &[u8]) -> Progress
 }
 
 // Hands the output over where there is little room left in it.
-fn flushed(r: Running, handed: Handed, out: &[u8]) -> Progress
+fn flush(r: Running, handed: Handed, out: &[u8]) -> Progress
     requires { ⌜ r .at ≤ length (now out) ⌝ }
     requires { ⌜ replyRoom ≤ length (now out) ⌝ }
     ensures { λ e. ⌜ Flushed r handed (now (out .entry)) e ⌝ }
@@ -64,11 +64,11 @@ fn flushed(r: Running, handed: Handed, out: &[u8]) -> Progress
 
 // A whole block. The output is handed over on the way where it finds no room, and at the block's end whatever room there is: who sends a
 // line and waits has its answer.
-fn consumed(p: Progress, block: &[u8], line: &mut [u8], room: &mut [u8], out: &mut [u8]) -> Progress
-    requires { ⌜ Ready (now line) (now room) (now out) (p .running) ⌝ }
-    requires { ⌜ Room (now out) (p .running) ⌝ }
-    ensures { λ e. ⌜ Ready (now (line .exit)) (now (room .exit)) (now (out .exit)) (e .running) ⌝ }
-    ensures { λ e. ⌜ Room (now (out .exit)) (e .running) ⌝ }
+fn consume(p: Progress, block: &[u8], line: &mut [u8], room: &mut [u8], out: &mut [u8]) -> Progress
+    requires { ⌜ BuffersReady (now line) (now room) (now out) (p .running) ⌝ }
+    requires { ⌜ ReplyFits (now out) (p .running) ⌝ }
+    ensures { λ e. ⌜ BuffersReady (now (line .exit)) (now (room .exit)) (now (out .exit)) (e .running) ⌝ }
+    ensures { λ e. ⌜ ReplyFits (now (out .exit)) (e .running) ⌝ }
     ensures { λ e. ⌜ Consumed p (now (block .entry)) (now (line .entry)) (now (out .entry)) (now (line .exit)) (now (out .exit)) e ⌝ }
 {
     let mut x = p;
@@ -79,7 +79,7 @@ fn consumed(p: Progress, block: &[u8], line: &mut [u8], room: &mut [u8], out: &m
         let q = running::through(r, block, at, line, room, out);
         at = q.next;
         let y = q.running;
-        x = flushed(y, handed, out);
+        x = flush(y, handed, out);
     }
     let r = x.running;
     let handed = x.handed;
@@ -88,18 +88,18 @@ fn consumed(p: Progress, block: &[u8], line: &mut [u8], room: &mut [u8], out: &m
 
 // The end of the input: a line that has begun is answered, and what the output holds is handed over.
 fn ended(p: Progress, line: &[u8], room: &mut [u8], out: &mut [u8]) -> Handed
-    requires { ⌜ Ready (now line) (now room) (now out) (p .running) ⌝ }
-    requires { ⌜ Room (now out) (p .running) ⌝ }
+    requires { ⌜ BuffersReady (now line) (now room) (now out) (p .running) ⌝ }
+    requires { ⌜ ReplyFits (now out) (p .running) ⌝ }
     ensures { λ e. ⌜ Ended p (now (line .entry)) (now (out .entry)) e ⌝ }
 {
     let r = p.running;
     let handed = p.handed;
-    let e = running::finished(r, line, room, out);
+    let e = running::finish(r, line, room, out);
     output::hand_over(handed, out, e.at)
 }
 
 // The turns that are left after one: none where the input has ended or a write failed.
-fn turns_left(turns: u64, taken: Taken, handed: Handed) -> u64
+fn turns_left(turns: u64, taken: InputTaken, handed: Handed) -> u64
     requires { ⌜ 0 < turns ⌝ }
     ensures { λ r. ⌜ TurnsLeft turns taken handed r ⌝ }
 {
@@ -123,7 +123,7 @@ fn run(line: &mut [u8], room: &mut [u8], out: &mut [u8], block: &mut [u8]) -> Ra
     requires { ⌜ 0 < length (now block) ⌝ }
     ensures { λ r. ⌜ Runs r ⌝ }
 {
-    let running = running::begun();
+    let running = running::begin();
     let none = output::nothing();
     let mut p = Progress {
         running,
@@ -135,7 +135,7 @@ fn run(line: &mut [u8], room: &mut [u8], out: &mut [u8], block: &mut [u8]) -> Ra
         let b = input::next(taken, block);
         let n = b.n;
         let t = b.taken;
-        p = consumed(p, &block[..n], line, room, out);
+        p = consume(p, &block[..n], line, room, out);
         let h = p.handed;
         turns = turns_left(turns, t, h);
         taken = t;

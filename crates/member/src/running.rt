@@ -4,16 +4,16 @@ ghost use mathlib.Core.Path.{_≡_};
 ghost use mathlib.Core.List.{List, _++_};
 ghost use lib.ListN.{length, take};
 ghost use Rattle.text_rules.specs.Answer.{answerText};
-ghost use Rattle.text_lines.specs.inner.Reading.{Reading, Finishes};
+ghost use Rattle.text_lines.specs.inner.Reading.{TextState, Finishes};
 ghost use Rattle.text_lines.specs.inner.Room.{replyRoom, Put};
 ghost use Rattle.gikev2.specs.Receive.{numberOf, figureOf};
 ghost use Rattle.gikev2.specs.declared.Member.{Member};
-ghost use Rattle.member.specs.Program.{Answers};
-ghost use Rattle.member.specs.inner.Reply.{Answered, FirstLine, LaterLine, Received};
-ghost use Rattle.member.specs.inner.Standing.{Ready, Room, Stands, Starts, Passes};
+ghost use Rattle.member.specs.Program.{LineAnswers};
+ghost use Rattle.member.specs.inner.Reply.{Answered, FirstLine, LaterLine, LineReceived};
+ghost use Rattle.member.specs.inner.Standing.{BuffersReady, ReplyFits, Stands, Starts, Passes};
 use gikev2::Member;
 use gikev2::call::Answer;
-use text_lines::Key;
+use text_lines::LineKey;
 use text_lines::REPLY_ROOM;
 use text_lines::Request;
 
@@ -21,14 +21,14 @@ use text_lines::Request;
 // in the output.
 pub struct Running {
     pub member: Member,
-    pub key: Key,
+    pub key: LineKey,
     pub keyed: bool,
     pub len: usize,
     pub at: usize,
 }
 
 // A new member, and no key yet.
-pub(crate) fn begun() -> Running
+pub(crate) fn begin() -> Running
     ensures { λ r. ⌜ Starts r ⌝ }
 {
     let member = Member::new();
@@ -58,7 +58,7 @@ fn first_line(r: Running, line: &[u8]) -> Running
 }
 
 // The reply to a frame, into the output at a place; the place behind it.
-fn told(out: &mut [u8], at: usize, a: Answer, sas: usize, held: usize) -> usize
+fn put_reply(out: &mut [u8], at: usize, a: Answer, sas: usize, held: usize) -> usize
     ensures { λ r. ⌜ Put (now (out .entry)) at (answerText (numberOf a) sas held (figureOf a)) (now (out .exit)) r ⌝ }
     ensures { λ r. ⌜ length (answerText (numberOf a) sas held (figureOf a)) ≤ replyRoom ⌝ }
 {
@@ -68,9 +68,9 @@ fn told(out: &mut [u8], at: usize, a: Answer, sas: usize, held: usize) -> usize
 }
 
 // A frame is received, and the reply to it put into the output.
-fn received(r: Running, frame: &[u8], tick: u32, out: &mut [u8]) -> Running
+fn receive_frame(r: Running, frame: &[u8], tick: u32, out: &mut [u8]) -> Running
     requires { ⌜ r .key .len ≤ 32 ⌝ }
-    ensures { λ e. ⌜ Received r tick (now (frame .entry)) (now (out .entry)) (now (out .exit)) e ⌝ }
+    ensures { λ e. ⌜ LineReceived r tick (now (frame .entry)) (now (out .entry)) (now (out .exit)) e ⌝ }
 {
     let m = r.member;
     let key = r.key;
@@ -80,7 +80,7 @@ fn received(r: Running, frame: &[u8], tick: u32, out: &mut [u8]) -> Running
     let member = x.member;
     let answer = x.answer;
     let state = member.state;
-    let at = told(out, r.at, answer, state.table.count, state.held.count);
+    let at = put_reply(out, r.at, answer, state.table.count, state.held.count);
     Running {
         member,
         key,
@@ -109,12 +109,12 @@ fn later_line(r: Running, line: &[u8], room: &mut [u8], out: &mut [u8]) -> Runni
                 at: next,
             }
         }
-        Request::Frame { tick, len } => received(r, &room[..len], tick, out),
+        Request::Frame { tick, len } => receive_frame(r, &room[..len], tick, out),
     }
 }
 
 // A whole line.
-fn answered(r: Running, line: &[u8], room: &mut [u8], out: &mut [u8]) -> Running
+fn answer_line(r: Running, line: &[u8], room: &mut [u8], out: &mut [u8]) -> Running
     requires { ⌜ r .key .len ≤ 32 ⌝ }
     requires { ⌜ 16384 ≤ length (now room) ⌝ }
     ensures { λ e. ⌜ Answered (r .keyed) r (now (line .entry)) (now (out .entry)) (now (out .exit)) e ⌝ }
@@ -126,22 +126,22 @@ fn answered(r: Running, line: &[u8], room: &mut [u8], out: &mut [u8]) -> Running
 }
 
 // Where a block was left.
-pub struct Passed {
+pub struct LinePassed {
     pub running: Running,
     pub next: usize,
 }
 
 // The first line of a block from a place on, or its beginning where the block ends before it.
-fn advanced(
+fn advance(
     r: Running,
     block: &[u8],
     from: usize,
     line: &mut [u8],
     room: &mut [u8],
     out: &mut [u8],
-) -> Passed
-    requires { ⌜ Ready (now line) (now room) (now out) r ⌝ }
-    requires { ⌜ Room (now out) r ⌝ }
+) -> LinePassed
+    requires { ⌜ BuffersReady (now line) (now room) (now out) r ⌝ }
+    requires { ⌜ ReplyFits (now out) r ⌝ }
     requires { ⌜ from < length (now block) ⌝ }
     ensures { λ e. ⌜ Passes (now (block .entry)) from (now (line .entry)) (now (out .entry)) r (now (line .exit)) (now (room .exit))
         (now (out .exit)) e ⌝ }
@@ -151,8 +151,8 @@ fn advanced(
     let next = a.next;
     let len = a.len;
     if a.ended {
-        let running = answered(r, &line[..len], room, out);
-        return Passed { running, next };
+        let running = answer_line(r, &line[..len], room, out);
+        return LinePassed { running, next };
     }
     let member = r.member;
     let key = r.key;
@@ -163,7 +163,7 @@ fn advanced(
         len,
         at: r.at,
     };
-    Passed { running, next }
+    LinePassed { running, next }
 }
 
 // A block from a place on, as far as there is room for replies.
@@ -174,38 +174,38 @@ pub(crate) fn through(
     line: &mut [u8],
     room: &mut [u8],
     out: &mut [u8],
-) -> Passed
-    requires { ⌜ Ready (now line) (now room) (now out) r ⌝ }
+) -> LinePassed
+    requires { ⌜ BuffersReady (now line) (now room) (now out) r ⌝ }
     requires { ⌜ from ≤ length (now block) ⌝ }
     ensures { λ e. ⌜ Passes (now (block .entry)) from (now (line .entry)) (now (out .entry)) r (now (line .exit)) (now (room .exit))
         (now (out .exit)) e ⌝ }
-    ensures { λ e. ⌜ (from < length (now (block .entry)) → Room (now (out .entry)) r → from < e .next) ⌝ }
+    ensures { λ e. ⌜ (from < length (now (block .entry)) → ReplyFits (now (out .entry)) r → from < e .next) ⌝ }
 {
     let mut x = r;
     let mut at = from;
     while at < block.len() && REPLY_ROOM <= out.len() - x.at {
-        let p = advanced(x, block, at, line, room, out);
+        let p = advance(x, block, at, line, room, out);
         let running = p.running;
         x = running;
         at = p.next;
     }
-    Passed {
+    LinePassed {
         running: x,
         next: at,
     }
 }
 
 // The end of the input: a line that has begun is answered.
-pub(crate) fn finished(r: Running, line: &[u8], room: &mut [u8], out: &mut [u8]) -> Running
-    requires { ⌜ Ready (now line) (now room) (now out) r ⌝ }
-    requires { ⌜ Room (now out) r ⌝ }
+pub(crate) fn finish(r: Running, line: &[u8], room: &mut [u8], out: &mut [u8]) -> Running
+    requires { ⌜ BuffersReady (now line) (now room) (now out) r ⌝ }
+    requires { ⌜ ReplyFits (now out) r ⌝ }
     ensures { λ e. ⌜ e .at ≤ length (now (out .exit)) ⌝ }
-    ensures { λ e. ⌜ ((printed : List ℕ) (x : Reading Member) → Stands printed x (now (line .entry)) (now (out .entry)) r →
-        Finishes Answers x (printed ++ take (e .at) (now (out .exit)))) ⌝ }
+    ensures { λ e. ⌜ ((printed : List ℕ) (x : TextState Member) → Stands printed x (now (line .entry)) (now (out .entry)) r →
+        Finishes LineAnswers x (printed ++ take (e .at) (now (out .exit)))) ⌝ }
 {
     let len = r.len;
     if 0 < len {
-        return answered(r, &line[..len], room, out);
+        return answer_line(r, &line[..len], room, out);
     }
     r
 }

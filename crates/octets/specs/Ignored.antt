@@ -1,5 +1,5 @@
--- WHAT IS READ OF OCTETS. Document 01: "Flags, minor version and RESERVED octets are ignored." A mask says of each octet what is read of it;
--- runs of octets are alike under a mask if they have its length and differ in nothing that is read.
+-- WHAT IS READ OF OCTETS. Document 01: "Flags, minor version and RESERVED octets are ignored." A mask says of each octet what is read of
+-- it; runs of octets are alike under a mask if they have its length and differ in nothing that is read.
 use Prim.Native.Nat.{ℕ, _/_}
 use mathlib.Core.Path.{_≡_}
 use mathlib.Core.Bool.{Bool}

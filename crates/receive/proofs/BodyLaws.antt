@@ -17,7 +17,7 @@ use Rattle.state.specs.declared.State.{State}
 use Rattle.wire_readers.specs.inner.Policies.{policiesIn}
 use Rattle.check_payloads.specs.declared.PayloadFacts.{PayloadFacts}
 use Rattle.check_payloads.proofs.FoundLaws.{OfFrame, HoldsPolicies, HoldsBags, facts-of}
-use Rattle.check_composition.specs.inner.Facts.{factsOf as policyFacts}
+use Rattle.check_composition.specs.inner.Facts.{policyFactsOf as policyFacts}
 use Rattle.check_bagkeys.specs.inner.Places.{memberIn}
 use Rattle.check_judging.specs.declared.facts.Facts.{Facts}
 use Rattle.check_judging.specs.inner.Facts.{at}
@@ -27,20 +27,20 @@ use Rattle.rules_refusals.specs.Number6.{wrapKeyId}
 use Rattle.rules_chains.specs.Chain.{In}
 use Rattle.rules_chains.proofs.Members.{in-member}
 use Rattle.rules_outcome.proofs.RunsLists.{none-passes}
-use Rattle.unwrap_search.specs.inner.Entries.{noKey}
+use Rattle.unwrap_search.specs.inner.Entries.{noWrapKey}
 use Rattle.unwrap_search.specs.inner.Search.{Nonzero}
 use Rattle.unwrap_search.proofs.Statuses.{getD-any}
 use Rattle.unwrap_tree.specs.inner.Reached.{wrapKeysAmong, wrapKeysIn}
 use Rattle.unwrap_tree.specs.inner.Entries.{HoldsEntries}
-use Rattle.unwrap_sas.specs.inner.Keyed.{Ready}
+use Rattle.unwrap_sas.specs.inner.Keyed.{ChecksPassed}
 use Rattle.receive.specs.inner.Passing.{Passed, Bodied, Bagged}
 use Rattle.receive.proofs.ClauseLaws.{one-gsa, one-kd, one-member-bag, lengths-once, lifetimes-once, transforms-fit, all-paired}
 use Rattle.receive.proofs.ClauseLaws.{no-zero, few-entries, few-sas}
 
 nonzero-of : (l : List WrapKey) → any (λ (k : WrapKey). eqb (k .keyId) 0) l ≡ false → Nonzero l
 nonzero-of l e i h z =
-    let k = getD l i noKey in
-    let m : In k l = record { place = i; inside = h; is = getD-any l i k noKey h } in
+    let k = getD l i noWrapKey in
+    let m : In k l = record { place = i; inside = h; is = getD-any l i k noWrapKey h } in
     false≢true (sym (none-passes (λ (x : WrapKey). eqb (x .keyId) 0) l e k (in-member k l m)) ∙ eq-eqb (k .keyId) 0 z)
 
 -- the facts, and where the bodies stand
@@ -79,7 +79,7 @@ module _ (m : State) (now : ℕ) (lent s : List ℕ) (x : Facts) (f : Frame) (p 
 
 module _ {m : State} {now : ℕ} {lent s : List ℕ} {x : Facts} {g k : List ℕ} {f : Frame}
     (b : Bodied m now lent s x g k f) where
-  pub ready : Ready f g k
+  pub ready : ChecksPassed f g k
   ready =
       let q = b .passed .clauses in
       record {

@@ -19,13 +19,13 @@ use Rattle.state.specs.declared.State.{State}
 use Rattle.state.specs.State.{stateFormed}
 use Rattle.rules_refusals.specs.Contents.{rowOf, gather, some, several, hasGsa, hasKd, announced, groupWides, memberBags, wrapKeysOf}
 use Rattle.rules_refusals.specs.Fitness.{isRekey}
-use Rattle.rules_refusals.specs.Number2.{standing, overLiveRekey, otherSpis}
-use Rattle.rules_refusals.specs.Number4.{four-ofFrame, barredMemberBag, twoGsa, twoKd, severalRekeyPolicies, severalGroupWide}
+use Rattle.rules_refusals.specs.Number2.{notDueSas, overLiveRekey, otherSpis}
+use Rattle.rules_refusals.specs.Number4.{number4OfFrame, barredMemberBag, twoGsa, twoKd, severalRekeyPolicies, severalGroupWide}
 use Rattle.rules_refusals.specs.Number4.{severalMemberBags, keyLengthTwice, initialMessageIdTwice, delayTwice, lifetimeTwice}
-use Rattle.rules_refusals.specs.Number5.{five-ofFrame, otherTransforms, lentKeySize}
-use Rattle.rules_refusals.specs.Number6.{six-ofFrame, policyUnpaired, wrapKeyId}
-use Rattle.rules_refusals.specs.Number7.{seven-ofFrame, seven-ofMember, manyWrapKeys, manySas}
-use Rattle.rules_refusals.specs.Refusals.{Number, one, applies, judged, two, three, four, five, six, seven, refusal}
+use Rattle.rules_refusals.specs.Number5.{number5OfFrame, otherTransforms, lentKeySize}
+use Rattle.rules_refusals.specs.Number6.{number6OfFrame, policyUnpaired, wrapKeyId}
+use Rattle.rules_refusals.specs.Number7.{number7OfFrame, number7OfMember, manyWrapKeys, manySas}
+use Rattle.rules_refusals.specs.Refusals.{Number, one, applies, judged, number2, number3, number4, number5, number6, number7, refusal}
 use Rattle.rules_refusals.proofs.Clear.{or-none, no-clause}
 use Rattle.rules_refusals.proofs.ExchangeRows.{by-row}
 use Rattle.rules_outcome.proofs.RunsClear.{None}
@@ -51,26 +51,27 @@ lent-or-own e = false≢true (ap is-own e)
     is-own keyZero.RekeySa = true
 
 module _ (m : State) (now : ℕ) (lent : List ℕ) (f : Frame) (e : refusal limits m now lent f ≡ 0) where
-  from-2 : None (two limits m now (f .header .exchange) (f .header .spi))
-      × (judged (three m (f .header .exchange) (f .header .messageId) ∷ four f ∷ five lent f ∷ six m now f ∷ seven limits m now f ∷ []) ≡ 0)
+  from-2 : None (number2 limits m now (f .header .exchange) (f .header .spi))
+      × (judged (number3 m (f .header .exchange) (f .header .messageId) ∷ number4 f ∷ number5 lent f ∷ number6 m now f ∷ number7 limits m
+      now f ∷ []) ≡ 0)
   unfolding refusal
-  from-2 = none-first (two limits m now (f .header .exchange) (f .header .spi)) _ 1 refl e
+  from-2 = none-first (number2 limits m now (f .header .exchange) (f .header .spi)) _ 1 refl e
 
-  from-3 : None (three m (f .header .exchange) (f .header .messageId))
-      × (judged (four f ∷ five lent f ∷ six m now f ∷ seven limits m now f ∷ []) ≡ 0)
-  from-3 = none-first (three m (f .header .exchange) (f .header .messageId)) _ 2 refl (from-2 .1)
+  from-3 : None (number3 m (f .header .exchange) (f .header .messageId))
+      × (judged (number4 f ∷ number5 lent f ∷ number6 m now f ∷ number7 limits m now f ∷ []) ≡ 0)
+  from-3 = none-first (number3 m (f .header .exchange) (f .header .messageId)) _ 2 refl (from-2 .1)
 
-  from-4 : None (four f) × (judged (five lent f ∷ six m now f ∷ seven limits m now f ∷ []) ≡ 0)
-  from-4 = none-first (four f) _ 3 refl (from-3 .1)
+  from-4 : None (number4 f) × (judged (number5 lent f ∷ number6 m now f ∷ number7 limits m now f ∷ []) ≡ 0)
+  from-4 = none-first (number4 f) _ 3 refl (from-3 .1)
 
-  from-5 : None (five lent f) × (judged (six m now f ∷ seven limits m now f ∷ []) ≡ 0)
-  from-5 = none-first (five lent f) _ 4 refl (from-4 .1)
+  from-5 : None (number5 lent f) × (judged (number6 m now f ∷ number7 limits m now f ∷ []) ≡ 0)
+  from-5 = none-first (number5 lent f) _ 4 refl (from-4 .1)
 
-  from-6 : None (six m now f) × (judged (seven limits m now f ∷ []) ≡ 0)
-  from-6 = none-first (six m now f) _ 5 refl (from-5 .1)
+  from-6 : None (number6 m now f) × (judged (number7 limits m now f ∷ []) ≡ 0)
+  from-6 = none-first (number6 m now f) _ 5 refl (from-5 .1)
 
-  from-7 : None (seven limits m now f)
-  from-7 = none-first (seven limits m now f) [] 6 refl (from-6 .1) .0
+  from-7 : None (number7 limits m now f)
+  from-7 = none-first (number7 limits m now f) [] 6 refl (from-6 .1) .0
 
   -- ---- number 2
   not-not : (b : Bool) → not b ≡ false → b ≡ true
@@ -80,12 +81,12 @@ module _ (m : State) (now : ℕ) (lent : List ℕ) (f : Frame) (e : refusal limi
   pub state-formed : stateFormed limits m ≡ true
   state-formed =
       not-not (stateFormed limits m)
-      (no-clause (two limits m now (f .header .exchange) (f .header .spi) .ofMember) 2 (from-2 .0 .ofMember))
+      (no-clause (number2 limits m now (f .header .exchange) (f .header .spi) .ofMember) 2 (from-2 .0 .ofMember))
 
   pub admitted : rowOf f .admitted ≡ true
   admitted =
       not-not (rowOf f .admitted)
-      (no-clause (two limits m now (f .header .exchange) (f .header .spi) .ofFrame) 0 (from-2 .0 .ofFrame))
+      (no-clause (number2 limits m now (f .header .exchange) (f .header .spi) .ofFrame) 0 (from-2 .0 .ofFrame))
 
   -- an exchange whose key 0 is the Rekey SA's is a rekey over it; one that is taken, keeps the held list and has the lent key as key 0 is
   -- a rekey over the member's own channel
@@ -102,50 +103,50 @@ module _ (m : State) (now : ℕ) (lent : List ℕ) (f : Frame) (e : refusal limi
       by-row (rowOf f ≡ inband) (f .header .exchange) (λ q r. absurd (false≢true (sym (rw r at k))))
       (λ q r. absurd (lent-or-own (sym (rw r at z)))) (λ q r. r) (λ r. absurd (false≢true (rw r at a)))
 
-  pub over-live : rowOf f ≡ rekey → any (overLiveRekey (f .header .spi)) (standing now m) ≡ true
+  pub over-live : rowOf f ≡ rekey → any (overLiveRekey (f .header .spi)) (notDueSas now m) ≡ true
   unfolding otherSpis
   over-live r =
-      let q = no-clause (two limits m now (f .header .exchange) (f .header .spi) .ofMember) 1 (from-2 .0 .ofMember) in
-      not-not (any (overLiveRekey (f .header .spi)) (standing now m)) (rw r at q)
+      let q = no-clause (number2 limits m now (f .header .exchange) (f .header .spi) .ofMember) 1 (from-2 .0 .ofMember) in
+      not-not (any (overLiveRekey (f .header .spi)) (notDueSas now m)) (rw r at q)
 
   -- ---- number 4
-  pub no-4 : (k : ℕ) → getD (four-ofFrame f) k false ≡ false
-  no-4 k = no-clause (four-ofFrame f) k (from-4 .0 .ofFrame)
+  pub no-4 : (k : ℕ) → getD (number4OfFrame f) k false ≡ false
+  no-4 k = no-clause (number4OfFrame f) k (from-4 .0 .ofFrame)
 
   pub one-gsa : count hasGsa (f .payloads) ≤ 1
-  unfolding four-ofFrame twoGsa
+  unfolding number4OfFrame twoGsa
   one-gsa = ltb-false 1 (count hasGsa (f .payloads)) (no-4 3)
 
   pub one-kd : count hasKd (f .payloads) ≤ 1
-  unfolding four-ofFrame twoKd
+  unfolding number4OfFrame twoKd
   one-kd = ltb-false 1 (count hasKd (f .payloads)) (no-4 4)
 
   pub wides-once : several (groupWides f) ≡ false
-  unfolding four-ofFrame severalGroupWide
+  unfolding number4OfFrame severalGroupWide
   wides-once = no-4 9
 
   pub one-member-bag : length (memberBags f) ≤ 1
-  unfolding four-ofFrame severalMemberBags
+  unfolding number4OfFrame severalMemberBags
   one-member-bag = ltb-false 1 (length (memberBags f)) (no-4 10)
 
   pub delays-once : any (λ (w : GroupWidePolicy). several (w .deactivationDelays)) (groupWides f) ≡ false
-  unfolding four-ofFrame delayTwice
+  unfolding number4OfFrame delayTwice
   delays-once = no-4 14
 
   pub rekeys-few : count isRekey (announced f) ≤ 1
-  unfolding four-ofFrame severalRekeyPolicies
+  unfolding number4OfFrame severalRekeyPolicies
   rekeys-few = ltb-false 1 (count isRekey (announced f)) (no-4 8)
 
   pub ids-once : any (λ (a : GroupSaPolicy). several (a .initialMessageIds)) (announced f) ≡ false
-  unfolding four-ofFrame initialMessageIdTwice
+  unfolding number4OfFrame initialMessageIdTwice
   ids-once = no-4 13
 
   pub lengths-once : keyLengthTwice f ≡ false
-  unfolding four-ofFrame
+  unfolding number4OfFrame
   lengths-once = no-4 12
 
   pub lifetimes-once : lifetimeTwice f ≡ false
-  unfolding four-ofFrame
+  unfolding number4OfFrame
   lifetimes-once = no-4 16
 
   none-of : {A : Type 0} (l : List A) → some l ≡ false → l ≡ []
@@ -153,40 +154,40 @@ module _ (m : State) (now : ℕ) (lent : List ℕ) (f : Frame) (e : refusal limi
   none-of (a ∷ l) q = let h = ltb-false 0 (suc (length l)) q in absurd (omega arith)
 
   pub no-entry : rowOf f .«allows_member_bag» ≡ false → wrapKeysOf f ≡ []
-  unfolding four-ofFrame barredMemberBag gather
+  unfolding number4OfFrame barredMemberBag gather
   no-entry r =
       let n = no-4 1 in
       let q : some (memberBags f) ≡ false = rw r at n in
       ap (gather (λ (b : MemberKeyBag). b .keys)) (none-of (memberBags f) q)
 
   -- ---- number 5
-  pub no-5 : (k : ℕ) → getD (five-ofFrame lent f) k false ≡ false
-  no-5 k = no-clause (five-ofFrame lent f) k (from-5 .0 .ofFrame)
+  pub no-5 : (k : ℕ) → getD (number5OfFrame lent f) k false ≡ false
+  no-5 k = no-clause (number5OfFrame lent f) k (from-5 .0 .ofFrame)
 
   pub transforms-fit : otherTransforms f ≡ false
-  unfolding five-ofFrame
+  unfolding number5OfFrame
   transforms-fit = no-5 2
 
   pub lent-fits : rowOf f .«judges_lent_key» ≡ true → sizeOf 13 (length lent) ≡ true
-  unfolding five-ofFrame lentKeySize
+  unfolding number5OfFrame lentKeySize
   lent-fits r = let n = no-5 5 in not-not (sizeOf 13 (length lent)) (rw r at n)
 
   -- ---- number 6
   pub all-paired : policyUnpaired f ≡ false
-  unfolding six-ofFrame
-  all-paired = no-clause (six-ofFrame f) 0 (from-6 .0 .ofFrame)
+  unfolding number6OfFrame
+  all-paired = no-clause (number6OfFrame f) 0 (from-6 .0 .ofFrame)
 
   pub no-zero : wrapKeyId f ≡ false
-  unfolding six-ofFrame
-  no-zero = no-clause (six-ofFrame f) 7 (from-6 .0 .ofFrame)
+  unfolding number6OfFrame
+  no-zero = no-clause (number6OfFrame f) 7 (from-6 .0 .ofFrame)
 
   -- ---- number 7
   pub few-entries : length (wrapKeysOf f) ≤ limits .wrapKeys
-  unfolding seven-ofFrame manyWrapKeys
-  few-entries = ltb-false (limits .wrapKeys) (length (wrapKeysOf f)) (no-clause (seven-ofFrame limits f) 1 (from-7 .ofFrame))
+  unfolding number7OfFrame manyWrapKeys
+  few-entries = ltb-false (limits .wrapKeys) (length (wrapKeysOf f)) (no-clause (number7OfFrame limits f) 1 (from-7 .ofFrame))
 
-  pub few-sas : length (standing now m) + length (announced f) ≤ limits .sas
-  unfolding seven-ofMember manySas
+  pub few-sas : length (notDueSas now m) + length (announced f) ≤ limits .sas
+  unfolding number7OfMember manySas
   few-sas =
-      ltb-false (limits .sas) (length (standing now m) + length (announced f))
-      (no-clause (seven-ofMember limits m now f) 0 (from-7 .ofMember))
+      ltb-false (limits .sas) (length (notDueSas now m) + length (announced f))
+      (no-clause (number7OfMember limits m now f) 0 (from-7 .ofMember))

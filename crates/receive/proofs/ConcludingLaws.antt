@@ -17,16 +17,16 @@ use Rattle.state_table.specs.Table.{tableFormed}
 use Rattle.state_table.proofs.Kept.{formed-count}
 use Rattle.state.specs.State.{stateFormed}
 use Rattle.state.specs.Held.{heldFormed}
-use Rattle.rules_refusals.specs.Number2.{standing}
+use Rattle.rules_refusals.specs.Number2.{notDueSas}
 use Rattle.state_sa.specs.declared.entry.Sa.{Sa}
 use Rattle.state.specs.declared.State.{State}
 use Rattle.state.specs.declared.held.Held.{Held}
 use Rattle.rules_refusals.specs.Contents.{rowOf, announced}
 use Rattle.rules_refusals.specs.Refusals.{refusal}
 use Rattle.rules_chains.specs.Chain.{Root}
-use Rattle.rules_chains.specs.Refusals.{EntriesEight, CopiesEight, of-entries, of-copies}
+use Rattle.rules_chains.specs.Refusals.{EntriesConflict, CopiesConflict, of-entries, of-copies}
 use Rattle.rules_outcome.specs.Roots.{rootsOf, entriesOf, wrappingSize, announcedAs, announcedKeys}
-use Rattle.rules_outcome.specs.Answer.{EightOf, NineOf}
+use Rattle.rules_outcome.specs.Answer.{KeyConflictOf, KeyMissingOf}
 use Rattle.rules_outcome.specs.After.{Enter, HeldAre, HeldBy}
 use Rattle.rules_outcome.specs.Outcome.{Judged, refused, accepted}
 use Rattle.rules_outcome.proofs.Answering.{answers-8, answers-9, answers-0}
@@ -35,11 +35,11 @@ use Rattle.rules_outcome.proofs.Enters.{each-enters}
 use Rattle.rules_outcome.proofs.Members.{in-map, map-in}
 use Rattle.apply.specs.inner.Following.{Follows}
 use Rattle.check_judging.specs.declared.facts.Facts.{Facts}
-use Rattle.unwrap_sas.specs.inner.Keyed.{SomeEight, NoEight, SomeUnopened, KeysOf}
+use Rattle.unwrap_sas.specs.inner.Keyed.{SomeConflict, NoConflict, SomeUnopened, KeysOf}
 use Rattle.unwrap_sas.specs.declared.joining.Keyed.{Keyed}
-use Rattle.unwrap_sas.specs.declared.joining.Found.{Found}
-use Rattle.unwrap_sas.specs.declared.joining.Found.the-variants as found
-use Rattle.receive.specs.inner.Passing.{Opened}
+use Rattle.unwrap_sas.specs.declared.joining.SasFound.{SasFound}
+use Rattle.unwrap_sas.specs.declared.joining.SasFound.the-variants as found
+use Rattle.receive.specs.inner.Passing.{FrameOpened}
 use Rattle.receive.proofs.ClauseLaws.{few-sas}
 
 module _ (m : State) (now : ℕ) (lent : List ℕ) (f : Frame) (e : refusal limits m now lent f ≡ 0) where
@@ -50,27 +50,27 @@ module _ (m : State) (now : ℕ) (lent : List ℕ) (f : Frame) (e : refusal limi
   size = wrappingSize limits m now lent f
 
   -- number 8 of the entries
-  pub entries-eight : EntriesEight (rootsOf limits m now lent f) (entriesOf f) (wrappingSize limits m now lent f) →
+  pub entries-eight : EntriesConflict (rootsOf limits m now lent f) (entriesOf f) (wrappingSize limits m now lent f) →
       Judged limits m now lent f 8 m
   entries-eight x = refused 7 (answers-8 limits m now lent f e (of-entries x))
 
-  pub copies-eight : SomeEight (rootsOf limits m now lent f) (entriesOf f) (wrappingSize limits m now lent f) f (announced f) →
+  pub copies-eight : SomeConflict (rootsOf limits m now lent f) (entriesOf f) (wrappingSize limits m now lent f) f (announced f) →
       Judged limits m now lent f 8 m
   unfolding announcedKeys
   copies-eight x =
       let a = announcedAs f (x .sa) in
       refused 7
       (answers-8 limits m now lent f e
-      (of-copies a (map-in (announcedAs f) a (announced f) (x .sa) (x .stands) refl) (x .eight)))
+      (of-copies a (map-in (announcedAs f) a (announced f) (x .sa) (x .stands) refl) (x .conflict)))
 
-  module _ (none : EntriesEight (rootsOf limits m now lent f) (entriesOf f) (wrappingSize limits m now lent f) → ⊥)
-      (fit : NoEight (rootsOf limits m now lent f) (entriesOf f) (wrappingSize limits m now lent f) f (announced f)) where
-    no-eight : EightOf limits m now lent f → ⊥
+  module _ (none : EntriesConflict (rootsOf limits m now lent f) (entriesOf f) (wrappingSize limits m now lent f) → ⊥)
+      (fit : NoConflict (rootsOf limits m now lent f) (entriesOf f) (wrappingSize limits m now lent f) f (announced f)) where
+    no-eight : KeyConflictOf limits m now lent f → ⊥
     unfolding announcedKeys
     no-eight (of-entries x) = none x
     no-eight (of-copies a i x) =
         let r = in-map (announcedAs f) a (announced f) i in
-        fit (r .item) (r .stands) (subst (CopiesEight roots (entriesOf f) size) (r .is) x)
+        fit (r .item) (r .stands) (subst (CopiesConflict roots (entriesOf f) size) (r .is) x)
 
     pub unopened : SomeUnopened (rootsOf limits m now lent f) (entriesOf f) (wrappingSize limits m now lent f) f (announced f) →
         Judged limits m now lent f 9 m
@@ -84,7 +84,7 @@ module _ (m : State) (now : ℕ) (lent : List ℕ) (f : Frame) (e : refusal limi
         HeldBy (rowOf f .registers) (HeldAre (rootsOf limits m now lent f) (entriesOf f) (wrappingSize limits m now lent f) limits held)
         (held ≡ m .held) → Follows m now f new held next → Judged limits m now lent f 0 next
     opened new held next enter h follows =
-        let all-open : NineOf limits m now lent f → ⊥ = λ n.
+        let all-open : KeyMissingOf limits m now lent f → ⊥ = λ n.
         let p = nine-policy limits m now lent f n in
         let r = each-enters roots (entriesOf f) size now f (announced f) new enter (p .0) (p .1) in
         p .2 (r .octets, r .key .opens) in
@@ -119,23 +119,23 @@ module _ (m : State) (e : stateFormed limits m ≡ true) where
 
 -- ---- by what is known of the keys
 module _ (m : State) (now : ℕ) (lent s : List ℕ) (x : Facts) (keyed : Keyed) (held : Held) (f : Frame)
-    (o : Opened m now lent s x keyed held f) where
-  keys-by : (y : Found) → keyed .found ≡ y →
+    (o : FrameOpened m now lent s x keyed held f) where
+  keys-by : (y : SasFound) → keyed .found ≡ y →
       KeysOf (rootsOf limits m now lent f) (entriesOf f) (wrappingSize limits m now lent f) f (announced f) now y (keyed .sas)
       (keyed .count)
   keys-by y e =
       subst
-      (λ (z : Found).
+      (λ (z : SasFound).
       KeysOf (rootsOf limits m now lent f) (entriesOf f) (wrappingSize limits m now lent f) f (announced f) now z (keyed .sas)
       (keyed .count))
       e (o .keys)
 
-  pub by-eight : keyed .found ≡ found.Eight → Judged limits m now lent f 8 m
-  by-eight e = copies-eight m now lent f (o .passed .clauses) (keys-by found.Eight e)
+  pub by-eight : keyed .found ≡ found.KeyConflict → Judged limits m now lent f 8 m
+  by-eight e = copies-eight m now lent f (o .passed .clauses) (keys-by found.KeyConflict e)
 
-  pub by-nine : keyed .found ≡ found.Nine → Judged limits m now lent f 9 m
+  pub by-nine : keyed .found ≡ found.KeyMissing → Judged limits m now lent f 9 m
   by-nine e =
-      let k = keys-by found.Nine e in
+      let k = keys-by found.KeyMissing e in
       unopened m now lent f (o .passed .clauses) (o .entries) (k .0) (k .1)
 
   module _ (e : keyed .found ≡ found.Keys) where
@@ -145,7 +145,7 @@ module _ (m : State) (now : ℕ) (lent s : List ℕ) (x : Facts) (keyed : Keyed)
         let new = take (keyed .count) (keyed .sas) in
         opened m now lent f (o .passed .clauses) (o .entries) (k .0) new held next (k .1) (o .held-is) follows
 
-    pub room-is : length (standing now m) + keyed .count ≤ limits .sas
+    pub room-is : length (notDueSas now m) + keyed .count ≤ limits .sas
     room-is =
         let k = keys-by found.Keys e in
         let n = few-sas m now lent f (o .passed .clauses) in

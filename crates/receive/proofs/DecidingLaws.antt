@@ -11,8 +11,8 @@ use Rattle.state.specs.declared.State.{State}
 use Rattle.state.specs.declared.held.Held.{Held}
 use Rattle.rules_refusals.specs.Contents.{rowOf}
 use Rattle.rules_chains.specs.Chain.{Root}
-use Rattle.rules_chains.specs.Refusals.{EntriesEight}
-use Rattle.unwrap_conflicts.specs.inner.Values.{Tells}
+use Rattle.rules_chains.specs.Refusals.{EntriesConflict}
+use Rattle.unwrap_conflicts.specs.inner.Values.{Decides}
 use Rattle.unwrap_copies.specs.inner.Known.{Agrees}
 use Rattle.rules_outcome.specs.Roots.{rootsOf, entriesOf, wrappingSize}
 use Rattle.rules_outcome.specs.After.{HeldAre, HeldBy}
@@ -21,7 +21,7 @@ use Rattle.check_judging.specs.declared.facts.Facts.{Facts}
 use Rattle.unwrap_sas.specs.inner.Keyed.{KeyedBy}
 use Rattle.unwrap_sas.specs.declared.joining.Keyed.{Keyed}
 use Rattle.receive.specs.declared.roots.StartingKeys.{StartingKeys}
-use Rattle.receive.specs.inner.Passing.{Passed, Opened}
+use Rattle.receive.specs.inner.Passing.{Passed, FrameOpened}
 use Rattle.receive.specs.inner.Rooted.{Rooted}
 use Rattle.receive.proofs.ConcludingLaws.{entries-eight}
 
@@ -33,16 +33,16 @@ held-by P set before false p = refl
 
 module _ {m : State} {now : ℕ} {lent s : List ℕ} {x : Facts} {f : Frame} (p : Passed m now lent s x f) (r : StartingKeys)
     (d : Rooted m now lent r f) where
-  tells : (y : Bool) → r .eight ≡ y →
-      Tells y (EntriesEight (rootsOf limits m now lent f) (entriesOf f) (wrappingSize limits m now lent f))
+  tells : (y : Bool) → r .conflict ≡ y →
+      Decides y (EntriesConflict (rootsOf limits m now lent f) (entriesOf f) (wrappingSize limits m now lent f))
   tells y e =
-      subst (λ (z : Bool). Tells z (EntriesEight (rootsOf limits m now lent f) (entriesOf f) (wrappingSize limits m now lent f))) e
-      (d .eight)
+      subst (λ (z : Bool). Decides z (EntriesConflict (rootsOf limits m now lent f) (entriesOf f) (wrappingSize limits m now lent f))) e
+      (d .conflict)
 
-  pub rooted-eight : r .eight ≡ true → Judged limits m now lent f 8 m
+  pub rooted-eight : r .conflict ≡ true → Judged limits m now lent f 8 m
   rooted-eight e = entries-eight m now lent f (p .clauses) (tells true e)
 
-  module _ (e : r .eight ≡ false) (keyed : Keyed)
+  module _ (e : r .conflict ≡ false) (keyed : Keyed)
       (by : (roots : List Root) (entries : List WrapKey) (size : ℕ) → Agrees roots entries size (r .zero) (r .opens) →
       KeyedBy roots entries size f now keyed) (row : Exchange) (row-is : rowOf f ≡ row) (held : Held)
       (held-is : held ≡ cond (row .registers) (r .opens) (m .held)) where
@@ -52,7 +52,7 @@ module _ {m : State} {now : ℕ} {lent s : List ℕ} {x : Facts} {f : Frame} (p 
     stands : held ≡ cond (rowOf f .registers) (r .opens) (m .held)
     stands = held-is ∙ ap (λ (y : Exchange). cond (y .registers) (r .opens) (m .held)) (sym row-is)
 
-    pub rooted-opened : Opened m now lent s x keyed held f
+    pub rooted-opened : FrameOpened m now lent s x keyed held f
     rooted-opened =
         record {
           passed = p;

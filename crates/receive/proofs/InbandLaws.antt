@@ -33,5 +33,5 @@ module _ (no-key : Held) (e : no-key ≡ heldOf limits []) where
         ap (λ (l : List HeldKey). record { id = 0; value = valueOf zero } ∷ map heldRoot l) (ap keysOf e ∙ keys-of-held limits [])
         ∙ zero-roots b rekeys-lent zero z
 
-    pub inband-rooted : Rooted m now lent (record { eight = false; zero = zero; opens = no-key }) f
+    pub inband-rooted : Rooted m now lent (record { conflict = false; zero = zero; opens = no-key }) f
     inband-rooted = no-entry-rooted b refl refl zero no-key roots-are (zero-fits b rekeys-lent zero z) no-key-fits

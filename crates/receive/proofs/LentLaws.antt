@@ -15,7 +15,7 @@ use Rattle.wire_frames.specs.Exchange.{registration, inband}
 use Rattle.wire_frames.specs.declared.exchanges.Exchange.{Exchange}
 use Rattle.state.specs.declared.State.{State}
 use Rattle.rules_refusals.specs.Contents.{rowOf}
-use Rattle.unwrap_search.specs.inner.Search.{keyZero}
+use Rattle.unwrap_search.specs.inner.Search.{keyZeroRoots}
 use Rattle.unwrap_search.proofs.Searching.{is-key-size}
 use Rattle.unwrap_tree.proofs.Agreeing.{value-of}
 use Rattle.rules_outcome.specs.Roots.{rootsOf, wrappingSize}
@@ -55,8 +55,8 @@ module _ {y : Exchange} {m : State} {now : ℕ} {lent k : List ℕ} {f : Frame} 
   zero-key o = subst Key (sym value-is) (record { size = is-key-size (length lent) lent-size-fits; small = o })
 
   -- the code's key 0 is the one that chains start with, and has the size that a wrapping key must have
-  pub zero-roots : keyZero (valueOf zero) ≡ rootsOf limits m now lent f
-  zero-roots = ap keyZero value-is ∙ sym (l .roots m now f (b .row) lent)
+  pub zero-roots : keyZeroRoots (valueOf zero) ≡ rootsOf limits m now lent f
+  zero-roots = ap keyZeroRoots value-is ∙ sym (l .roots m now f (b .row) lent)
 
   pub zero-size : zero .count ≡ wrappingSize limits m now lent f
   zero-size = ap (λ (w : WrappingKey). w .count) zero-is ∙ sym (l .size m now f (b .row) lent)

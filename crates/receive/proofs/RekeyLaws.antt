@@ -22,9 +22,9 @@ use Rattle.state_table.proofs.Kept.{sas-of-table, swept-formed}
 use Rattle.state.specs.Held.{heldFormed}
 use Rattle.state.specs.declared.State.{State}
 use Rattle.state.specs.declared.held.Held.{Held}
-use Rattle.rules_refusals.specs.Number2.{standing, overLiveRekey}
+use Rattle.rules_refusals.specs.Number2.{notDueSas, overLiveRekey}
 use Rattle.rules_chains.specs.Chain.{Root, Chain, root, step, Reached}
-use Rattle.rules_chains.specs.Refusals.{EntriesEight, wrong-size, two-values}
+use Rattle.rules_chains.specs.Refusals.{EntriesConflict, wrong-size, two-values}
 use Rattle.unwrap_copies.specs.inner.Known.{Agrees}
 use Rattle.rules_outcome.specs.Roots.{rootsOf, entriesOf, wrappingSize}
 use Rattle.rules_outcome.proofs.Rows.{own-roots}
@@ -46,13 +46,14 @@ none-passed roots size _ _ _ (step e c t l) = absurd (not-in-none e (l .entry))
 none-reached : (roots : List Root) (size k : ℕ) (x : List ℕ) → Reached roots [] size k x → ⊥
 none-reached roots size k x r = let z = none-passed roots size (r .last ∷ r .before) k x (r .chain) in omega arith
 
-none-eight : (roots : List Root) (size : ℕ) → EntriesEight roots [] size → ⊥
+none-eight : (roots : List Root) (size : ℕ) → EntriesConflict roots [] size → ⊥
 none-eight roots size (wrong-size k x r d) = none-reached roots size k x r
 none-eight roots size (two-values k x y r q d) = none-reached roots size k x r
 
 -- a frame of an exchange that has no Member bag and leaves the held list, opened under key 0 and the keys of a list
 module _ {y : Exchange} {m : State} {now : ℕ} {lent k : List ℕ} {f : Frame}
-    (b : Bagged y m now lent k f) (no-bag : y .«allows_member_bag» ≡ false) (leaves : y .registers ≡ false) (zero : WrappingKey) (opens : Held)
+    (b : Bagged y m now lent k f) (no-bag : y .«allows_member_bag» ≡ false) (leaves : y .registers ≡ false) (zero : WrappingKey)
+    (opens : Held)
     (roots-are : heldRoots zero opens ≡ rootsOf limits m now lent f) where
   none : [] ≡ entriesOf f
   none = sym (no-entry m now lent f (b .clauses) (ap (λ (e : Exchange). e .«allows_member_bag») (b .row) ∙ no-bag))
@@ -61,11 +62,11 @@ module _ {y : Exchange} {m : State} {now : ℕ} {lent k : List ℕ} {f : Frame}
   carry P p = subst (P (rootsOf limits m now lent f)) none (subst (λ (l : List Root). P l []) roots-are p)
 
   pub no-entry-rooted : sizeOf 13 (zero .count) ≡ true → heldFormed limits opens ≡ true →
-      Rooted m now lent (record { eight = false; zero = zero; opens = opens }) f
+      Rooted m now lent (record { conflict = false; zero = zero; opens = opens }) f
   no-entry-rooted fits formed =
       let n = wrappingSize limits m now lent f in
       record {
-        eight = carry (λ (r : List Root) (l : List WrapKey). EntriesEight r l n → ⊥) (none-eight (heldRoots zero opens) n);
+        conflict = carry (λ (r : List Root) (l : List WrapKey). EntriesConflict r l n → ⊥) (none-eight (heldRoots zero opens) n);
         fits = fits;
         formed = λ e. formed;
         agrees = λ e. carry (λ (r : List Root) (l : List WrapKey). Agrees r l n zero opens) (rekey-agrees zero opens n);
@@ -79,16 +80,16 @@ module _ {m : State} {now : ℕ} {lent k : List ℕ} {f : Frame} (b : Bagged rek
       ap (tableFormed limits) w
       ∙ swept-formed limits now (m .table) (table-is m (state-formed m now lent f (b .clauses)))
 
-  stands-are : sasOf t ≡ standing now m
+  stands-are : sasOf t ≡ notDueSas now m
   stands-are =
       ap sasOf (w ∙ swept-made now (m .table) (table-fits m (state-formed m now lent f (b .clauses))))
-      ∙ sas-of-table limits (standing now m)
+      ∙ sas-of-table limits (notDueSas now m)
 
   pub stands-live : any liveRekey (sasOf t) ≡ true
   stands-live =
-      let x = some-passes (overLiveRekey (f .header .spi)) (standing now m) (over-live m now lent f (b .clauses) (b .row)) in
-      let l = and-parts (liveRekey (x .one)) (named entry.rekey (f .header .spi) (x .one)) (x .passes) .0 in
-      ap (any liveRekey) stands-are ∙ passes-some liveRekey (standing now m) (x .one) (x .stands) l
+      let x = some-passes (overLiveRekey (f .header .spi)) (notDueSas now m) (over-live m now lent f (b .clauses) (b .row)) in
+      let l = and-parts (liveRekey (x .one)) (named entry.rekeyProtocol (f .header .spi) (x .one)) (x .passes) .0 in
+      ap (any liveRekey) stands-are ∙ passes-some liveRekey (notDueSas now m) (x .one) (x .stands) l
 
   module _ (zero : WrappingKey) (d : IsDefaultKey t zero) where
     roots-are : heldRoots zero (m .held) ≡ rootsOf limits m now lent f
@@ -96,6 +97,6 @@ module _ {m : State} {now : ℕ} {lent k : List ℕ} {f : Frame} (b : Bagged rek
         let own : zero ≡ defaultKey limits (swept limits now (m .table)) .key = d .is ∙ ap (λ (x : Table). defaultKey limits x .key) w in
         ap (λ (x : WrappingKey). heldRoots x (m .held)) own ∙ sym (own-roots limits m now f (b .row) lent)
 
-    pub rekey-rooted : Rooted m now lent (record { eight = false; zero = zero; opens = m .held }) f
+    pub rekey-rooted : Rooted m now lent (record { conflict = false; zero = zero; opens = m .held }) f
     rekey-rooted =
         no-entry-rooted b refl refl zero (m .held) roots-are (d .fits) (held-fits m (state-formed m now lent f (b .clauses)))

@@ -5,7 +5,7 @@ use mathlib.Core.Logic.{⊎-elim}
 use mathlib.Core.List.{List, [], _∷_, map, List·Memᴰ, List·Memᴰ·head, List·Memᴰ·tail, List·Memᴰ·not-nil, List·Memᴰ·cases-cons}
 use mathlib.Core.List.{Memᴰ·map, Memᴰ·of-map}
 use Rattle.wire_attributes.specs.Tree.{WrapKey}
-use Rattle.rules_chains.specs.Chain.{Root, Chain, root, step, Ends}
+use Rattle.rules_chains.specs.Chain.{Root, Chain, root, step, ChainEnds}
 use Rattle.rules_chains.proofs.Members.{in-member, member-in}
 use Rattle.state_keys.specs.declared.kinds.WrappingKey.{WrappingKey}
 use Rattle.state.specs.Held.{keysOf}
@@ -22,10 +22,10 @@ module _ (zero : WrappingKey) (held : Held) (size : ℕ) where
   abbrev roots : List Root
   roots = heldRoots zero held
 
-  starts : (r : Root) → List·Memᴰ r roots → Ends roots [] size (r .id) (r .value)
+  starts : (r : Root) → List·Memᴰ r roots → ChainEnds roots [] size (r .id) (r .value)
   starts r m = record { passed = []; chain = root r (member-in r roots m) }
 
-  ends : (k : ℕ) (v : List ℕ) → Known zero held k v → Ends roots [] size k v
+  ends : (k : ℕ) (v : List ℕ) → Known zero held k v → ChainEnds roots [] size k v
   ends _ _ key-zero = starts (record { id = 0; value = valueOf zero }) (List·Memᴰ·head refl)
   ends _ _ (named k i) = starts (heldRoot k) (List·Memᴰ·tail (Memᴰ·map heldRoot (in-member k (keysOf held) i)))
 

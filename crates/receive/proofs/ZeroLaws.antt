@@ -15,24 +15,25 @@ use Rattle.state_keys.specs.Kinds.{wrappingOf, wrappingKey, rekeySizes, keyWrap
 use Rattle.state_keys.specs.declared.kinds.MadeWrapping.{MadeWrapping}
 use Rattle.state_keys.proofs.Cases.{and-parts}
 use Rattle.state_keys.proofs.Sizes.{rekey-parts, rekey-le}
-use Rattle.state_sa.specs.Entry.{esp, rekey, isLive, sized, fitLifetime, formed, liveRekey}
+use Rattle.state_sa.specs.Entry.{espProtocol, rekeyProtocol, isLive, saSized, fitLifetime, saFormed, liveRekey}
 use Rattle.state_sa.specs.declared.entry.Sa.{Sa}
-use Rattle.state_table.specs.Table.{sasOf, tableFormed, foundRekey, keyOf, defaultKey}
+use Rattle.state_table.specs.Table.{sasOf, tableFormed, foundRekey, keyOfFound, defaultKey}
 use Rattle.state_table.specs.declared.Table.{Table}
-use Rattle.state_table.specs.declared.Found.{Found}
+use Rattle.state_table.specs.declared.SaFound.{SaFound}
 use Rattle.state_table.proofs.Kept.{formed-fit}
 use Rattle.state_table.proofs.Finds.{rekey-found}
 use Rattle.rules_outcome.proofs.RunsLists.{Passes, some-passes, all-pass}
 use Rattle.receive.specs.inner.Passing.{IsDefaultKey}
 
 -- a live Rekey SA that is formed has parts of the algorithm table
-live-sizes : (s : Sa) → formed s ≡ true → liveRekey s ≡ true → rekeySizes (s .encryption) (s .wrapping) ≡ true
-unfolding sized formed liveRekey
+live-sizes : (s : Sa) → saFormed s ≡ true → liveRekey s ≡ true → rekeySizes (s .encryption) (s .wrapping) ≡ true
+unfolding saSized saFormed liveRekey
 live-sizes s e l =
-    let k = and-parts (sized s) (fitLifetime (s .lifetime)) e .0 in
-    let p = eqb-true (s .protocol) rekey (and-parts (eqb (s .protocol) rekey) (isLive (s .condition)) l .0) in
-    let n : eqb (s .protocol) esp ≡ false = ap (λ (k : ℕ). eqb k esp) p in
-    let g = and-parts (eqb (s .protocol) rekey) (rekeySizes (s .encryption) (s .wrapping) && eqb (s .count) (s .encryption + s .wrapping))
+    let k = and-parts (saSized s) (fitLifetime (s .lifetime)) e .0 in
+    let p = eqb-true (s .protocol) rekeyProtocol (and-parts (eqb (s .protocol) rekeyProtocol) (isLive (s .condition)) l .0) in
+    let n : eqb (s .protocol) espProtocol ≡ false = ap (λ (k : ℕ). eqb k espProtocol) p in
+    let g = and-parts (eqb (s .protocol) rekeyProtocol)
+    (rekeySizes (s .encryption) (s .wrapping) && eqb (s .count) (s .encryption + s .wrapping))
     (rw n at k) in
     and-parts (rekeySizes (s .encryption) (s .wrapping)) (eqb (s .count) (s .encryption + s .wrapping)) (g .1) .0
 
@@ -47,12 +48,12 @@ module _ (t : Table) (e : tableFormed limits t ≡ true) (some : any liveRekey (
   found-one : foundRekey limits t ≡ record { found = true; sa = the-one .one }
   found-one = rekey-found limits t e (the-one .one) (the-one .stands) (the-one .passes)
 
-  module _ (f : Found) (g : f ≡ foundRekey limits t) (long : length (f .sa .octets) ≡ 68) where
+  module _ (f : SaFound) (g : f ≡ foundRekey limits t) (long : length (f .sa .octets) ≡ 68) where
     sizes : rekeySizes (f .sa .encryption) (f .sa .wrapping) ≡ true
     sizes =
-        let q : f .sa ≡ the-one .one = ap (λ (x : Found). x .sa) (g ∙ found-one) in
+        let q : f .sa ≡ the-one .one = ap (λ (x : SaFound). x .sa) (g ∙ found-one) in
         subst (λ (s : Sa). rekeySizes (s .encryption) (s .wrapping) ≡ true) (sym q)
-        (live-sizes (the-one .one) (all-pass formed (sasOf t) (formed-fit limits t e .each) (the-one .one) (the-one .stands))
+        (live-sizes (the-one .one) (all-pass saFormed (sasOf t) (formed-fit limits t e .each) (the-one .one) (the-one .stands))
         (the-one .passes))
 
     abbrev wrapping : List ℕ
@@ -67,14 +68,14 @@ module _ (t : Table) (e : tableFormed limits t ≡ true) (some : any liveRekey (
     pub default-is : (r : MadeWrapping) →
         r ≡ keyWrapPart (record { octets = f .sa .octets; encryption = f .sa .encryption; wrapping = f .sa .wrapping }) →
         IsDefaultKey t (r .key)
-    unfolding keyWrapPart wrappingKey defaultKey keyOf
+    unfolding keyWrapPart wrappingKey defaultKey keyOfFound
     default-is r k =
-        let there : f .found ≡ true = ap (λ (x : Found). x .found) (g ∙ found-one) in
+        let there : f .found ≡ true = ap (λ (x : SaFound). x .found) (g ∙ found-one) in
         let size-is = rekey-parts (f .sa .encryption) (f .sa .wrapping) sizes .1 in
         let fit : sizeOf 13 (length wrapping) ≡ true = ap (sizeOf 13) wrapping-length ∙ size-is in
         let made : r .key ≡ wrappingOf wrapping = ap (λ (x : MadeWrapping). x .key) k ∙ rw (sizes, fit) refl in
-        let yes : r ≡ keyOf f = rw there k in
+        let yes : r ≡ keyOfFound f = rw there k in
         record {
-          is = ap (λ (x : MadeWrapping). x .key) (yes ∙ ap keyOf g);
+          is = ap (λ (x : MadeWrapping). x .key) (yes ∙ ap keyOfFound g);
           fits = subst (λ (x : ℕ). sizeOf 13 x ≡ true) (sym (ap (λ x. x .count) made)) fit;
         }

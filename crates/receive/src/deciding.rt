@@ -1,6 +1,6 @@
 // A frame that numbers 2 to 7 let pass, of any exchange: its keys are opened and its outcome found in one place.
 use crate::Next;
-use crate::concluded;
+use crate::conclude;
 use crate::roots::roots;
 use crate::row_of;
 use check_judging::facts::Facts;
@@ -27,27 +27,35 @@ fn held_after(registers: bool, reached: Held, before: Held) -> Held
 }
 
 // The outcome, by the bodies of the frame's GSA and its KD.
-fn by_bodies(state: State, s: &[u8], x: Facts, g: &[u8], k: &[u8], lent: &[u8], tick: u32) -> Next
-    requires { ⌜ (isWhole (policies 0 (now g)) ≡ true) × (isWhole (bags 0 (now k)) ≡ true) ⌝ }
-    requires { ⌜ ((f : Frame) × Bodied state tick (now lent) (now s) x (now g) (now k) f) ⌝ }
+fn by_bodies(
+    state: State,
+    frame: &[u8],
+    x: Facts,
+    gsa: &[u8],
+    kd: &[u8],
+    lent: &[u8],
+    tick: u32,
+) -> Next
+    requires { ⌜ (isWhole (policies 0 (now gsa)) ≡ true) × (isWhole (bags 0 (now kd)) ≡ true) ⌝ }
+    requires { ⌜ ((f : Frame) × Bodied state tick (now lent) (now frame) x (now gsa) (now kd) f) ⌝ }
     ensures { λ r. ⌜ ((f : Frame) →
-        Bodied state tick (now (lent .entry)) (now (s .entry)) x (now (g .entry)) (now (k .entry)) f →
+        Bodied state tick (now (lent .entry)) (now (frame .entry)) x (now (gsa .entry)) (now (kd .entry)) f →
         Judged limits state tick (now (lent .entry)) f (r .number) (r .state)) ⌝ }
 {
-    let row = row_of(s);
-    let r = roots(state, row, k, x.member_bag, lent, tick);
-    if r.eight {
+    let row = row_of(frame);
+    let r = roots(state, row, kd, x.member_bag, lent, tick);
+    if r.conflict {
         return Next { number: 8, state };
     }
-    let keyed = unwrap_sas::keyed(g, k, r.zero, r.opens, tick);
+    let keyed = unwrap_sas::open_sas(gsa, kd, r.zero, r.opens, tick);
     let held = held_after(row.registers, r.opens, state.held);
-    concluded(state, s, x, tick, keyed, held)
+    conclude(state, frame, x, tick, keyed, held)
 }
 
 // The outcome of a frame with these facts and lent octets. Internal.
-pub fn decided(state: State, s: &[u8], x: Facts, lent: &[u8], tick: u32) -> Next
-    requires { ⌜ ((f : Frame) × Passed state tick (now lent) (now s) x f) ⌝ }
-    ensures { λ r. ⌜ ((f : Frame) → Passed state tick (now (lent .entry)) (now (s .entry)) x f →
+pub fn decide(state: State, frame: &[u8], x: Facts, lent: &[u8], tick: u32) -> Next
+    requires { ⌜ ((f : Frame) × Passed state tick (now lent) (now frame) x f) ⌝ }
+    ensures { λ r. ⌜ ((f : Frame) → Passed state tick (now (lent .entry)) (now (frame .entry)) x f →
         Judged limits state tick (now (lent .entry)) f (r .number) (r .state)) ⌝ }
 {
     let b = x.payloads;
@@ -57,5 +65,5 @@ pub fn decided(state: State, s: &[u8], x: Facts, lent: &[u8], tick: u32) -> Next
     let e = gsa.end;
     let i = kd.start;
     let j = kd.end;
-    by_bodies(state, s, x, &s[a..e], &s[i..j], lent, tick)
+    by_bodies(state, frame, x, &frame[a..e], &frame[i..j], lent, tick)
 }

@@ -8,8 +8,8 @@ use apply::next::next;
 use check_judging::facts::Facts;
 use state::State;
 use state::held::Held;
-use unwrap_sas::joining::Found;
 use unwrap_sas::joining::Keyed;
+use unwrap_sas::joining::SasFound;
 use wire_frames::exchanges::Exchange;
 use wire_frames::exchanges::exchange_of;
 ghost use mathlib.Core.Path.{_≡_};
@@ -22,7 +22,7 @@ ghost use Rattle.wire_frames.specs.Frame.{Frame, frame};
 ghost use Rattle.wire_readers.specs.inner.Values.{isWhole};
 ghost use Rattle.rules_refusals.specs.Contents.{rowOf};
 ghost use Rattle.rules_outcome.specs.Outcome.{Judged};
-ghost use Rattle.receive.specs.inner.Passing.{Opened};
+ghost use Rattle.receive.specs.inner.Passing.{FrameOpened};
 use ikev2_numbers::EXCHANGE_AT;
 
 // The answer's number and the next state.
@@ -41,19 +41,19 @@ pub fn row_of(s: &[u8]) -> Exchange
 
 // The outcome of a frame with these facts, once its keys are opened: this is known of its SAs, and this is the held list afterwards.
 // Internal.
-pub fn concluded(state: State, s: &[u8], x: Facts, tick: u32, keyed: Keyed, held: Held) -> Next
-    requires { ⌜ ((f : Frame) × (lent : List ℕ) × Opened state tick lent (now s) x keyed held f) ⌝ }
-    ensures { λ r. ⌜ ((f : Frame) (lent : List ℕ) → Opened state tick lent (now (s .entry)) x keyed held f →
+pub fn conclude(state: State, frame: &[u8], x: Facts, tick: u32, keyed: Keyed, held: Held) -> Next
+    requires { ⌜ ((f : Frame) × (lent : List ℕ) × FrameOpened state tick lent (now frame) x keyed held f) ⌝ }
+    ensures { λ r. ⌜ ((f : Frame) (lent : List ℕ) → FrameOpened state tick lent (now (frame .entry)) x keyed held f →
         Judged limits state tick lent f (r .number) (r .state)) ⌝ }
 {
     let found = keyed.found;
     match found {
-        Found::Eight => Next { number: 8, state },
-        Found::Nine => Next { number: 9, state },
-        Found::Keys => {
-            let said = said::said(row_of(s), s, x);
+        SasFound::KeyConflict => Next { number: 8, state },
+        SasFound::KeyMissing => Next { number: 9, state },
+        SasFound::Keys => {
+            let said = said::said(row_of(frame), frame, x);
             let sas = keyed.sas;
-            let after = next(state, s, tick, said, sas, keyed.count, held);
+            let after = next(state, frame, tick, said, sas, keyed.count, held);
             Next {
                 number: 0,
                 state: after,

@@ -17,24 +17,24 @@ ghost use Rattle.receive.specs.inner.Rooted.{Rooted};
 
 // Whether number 8 holds of the frame's entries; where it does not, key 0 and the other keys that a KWK ID can name.
 pub struct StartingKeys {
-    pub eight: bool,
+    pub conflict: bool,
     pub zero: WrappingKey,
     pub opens: Held,
 }
 
 // Those of a registration: the lent key is key 0, and the others are reached from it.
-fn reached_from(k: &[u8], bag: Stretch, lent: &[u8]) -> StartingKeys
-    requires { ⌜ HoldsEntries (now k) bag ⌝ }
-    requires { ⌜ ((m : State) × (tick : ℕ) × (f : Frame) × Bagged registration m tick (now lent) (now k) f) ⌝ }
-    ensures { λ r. ⌜ ((m : State) (tick : ℕ) (f : Frame) → Bagged registration m tick (now (lent .entry)) (now (k .entry)) f →
+fn reached_from(kd: &[u8], bag: Stretch, lent: &[u8]) -> StartingKeys
+    requires { ⌜ HoldsEntries (now kd) bag ⌝ }
+    requires { ⌜ ((m : State) × (tick : ℕ) × (f : Frame) × Bagged registration m tick (now lent) (now kd) f) ⌝ }
+    ensures { λ r. ⌜ ((m : State) (tick : ℕ) (f : Frame) → Bagged registration m tick (now (lent .entry)) (now (kd .entry)) f →
         Rooted m tick (now (lent .entry)) r f) ⌝ }
 {
     let made = WrappingKey::new(lent);
     let zero = made.key;
-    let found = unwrap_tree::reached(k, bag, zero);
+    let found = unwrap_tree::reach_keys(kd, bag, zero);
     let opens = found.held;
     StartingKeys {
-        eight: found.eight,
+        conflict: found.conflict,
         zero,
         opens,
     }
@@ -50,7 +50,7 @@ fn lent_alone(lent: &[u8]) -> StartingKeys
     let zero = made.key;
     let opens = Held::new();
     StartingKeys {
-        eight: false,
+        conflict: false,
         zero,
         opens,
     }
@@ -62,10 +62,10 @@ fn of_rekey_sa(state: State, tick: u32) -> StartingKeys
     ensures { λ r. ⌜ ((lent k : List ℕ) (f : Frame) → Bagged rekey state tick lent k f → Rooted state tick lent r f) ⌝ }
 {
     let t = state.table;
-    let zero = default_key(t.swept(tick));
+    let zero = default_key(t.sweep(tick));
     let opens = state.held;
     StartingKeys {
-        eight: false,
+        conflict: false,
         zero,
         opens,
     }
@@ -76,18 +76,18 @@ fn of_rekey_sa(state: State, tick: u32) -> StartingKeys
 pub fn roots(
     state: State,
     row: Exchange,
-    k: &[u8],
+    kd: &[u8],
     bag: Stretch,
     lent: &[u8],
     tick: u32,
 ) -> StartingKeys
-    requires { ⌜ HoldsEntries (now k) bag ⌝ }
-    requires { ⌜ ((f : Frame) × Bagged row state tick (now lent) (now k) f) ⌝ }
-    ensures { λ r. ⌜ ((f : Frame) → Bagged row state tick (now (lent .entry)) (now (k .entry)) f →
+    requires { ⌜ HoldsEntries (now kd) bag ⌝ }
+    requires { ⌜ ((f : Frame) × Bagged row state tick (now lent) (now kd) f) ⌝ }
+    ensures { λ r. ⌜ ((f : Frame) → Bagged row state tick (now (lent .entry)) (now (kd .entry)) f →
         Rooted state tick (now (lent .entry)) r f) ⌝ }
 {
     if row.registers {
-        return reached_from(k, bag, lent);
+        return reached_from(kd, bag, lent);
     }
     let zero = row.zero;
     match zero {

@@ -12,7 +12,7 @@ use Rattle.fips197.specs.Sbox.{sbox}
 use Rattle.fips197.specs.Expansion.{keyExpansion, temp}
 use Rattle.fips197.specs.Cipher.{cipher, cipherWith}
 use Rattle.rfc5649.specs.Steps.{stored, step, row, rows}
-use Rattle.rfc5649.specs.Wrap.{padded, registers, octetsIn, start, wrapOf}
+use Rattle.rfc5649.specs.Wrap.{padToBlocks, registers, registerOctets, startRegisters, wrapOf}
 
 -- KEK: 5840df6e29b02af1 ab493b705bf16ea1 ae8338f4dcc176a8
 abbrev kek : List ℕ
@@ -37,18 +37,18 @@ abbrev twentyBegun : List ℕ
 twentyBegun = 0xa65959a600000014 ∷ 0xc37b7e6492584340 ∷ 0xbed1220780894115 ∷ 0x5068f73800000000 ∷ []
 
 -- computed as an order: an equation of lists takes longer where it fails, as it does in most edits
-twenty-wrapped : orderOf (octetsIn (rows kek 3 6 twentyBegun)) twentyWrapped ≡ Equal
-unfolding orderOf octetsIn number octetsOf rows row step stored cipher cipherWith keyExpansion temp power xtimes sbox
+twenty-wrapped : orderOf (registerOctets (rows kek 3 6 twentyBegun)) twentyWrapped ≡ Equal
+unfolding orderOf registerOctets number octetsOf rows row step stored cipher cipherWith keyExpansion temp power xtimes sbox
 twenty-wrapped = refl
 
 pub wraps-twenty-octets : wrapOf kek twenty ≡ twentyWrapped
-unfolding wrapOf start padded registers number
-wraps-twenty-octets = order-equal (octetsIn (rows kek 3 6 twentyBegun)) twentyWrapped twenty-wrapped
+unfolding wrapOf startRegisters padToBlocks registers number
+wraps-twenty-octets = order-equal (registerOctets (rows kek 3 6 twentyBegun)) twentyWrapped twenty-wrapped
 
 -- Key: 466f7250617369
 -- Wrap: afbeb0f07dfbf541 9200f2ccb50bb24f
 pub wraps-seven-octets :
     wrapOf kek (0x46 ∷ 0x6f ∷ 0x72 ∷ 0x50 ∷ 0x61 ∷ 0x73 ∷ 0x69 ∷ []) ≡
     0xaf ∷ 0xbe ∷ 0xb0 ∷ 0xf0 ∷ 0x7d ∷ 0xfb ∷ 0xf5 ∷ 0x41 ∷ 0x92 ∷ 0x00 ∷ 0xf2 ∷ 0xcc ∷ 0xb5 ∷ 0x0b ∷ 0xb2 ∷ 0x4f ∷ []
-unfolding wrapOf padded number octetsOf cipher cipherWith keyExpansion temp power xtimes sbox
+unfolding wrapOf padToBlocks number octetsOf cipher cipherWith keyExpansion temp power xtimes sbox
 wraps-seven-octets = refl

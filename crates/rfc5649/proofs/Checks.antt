@@ -10,7 +10,7 @@ use lib.Dec.{eqb}
 use lib.ListN.{length, getD, drop, replicate, length-drop, drop-of-length-le}
 use lib.Seq.{drop-cons, drop-at}
 use Rattle.rfc5649.specs.Wrap.{initialValue, blocks}
-use Rattle.rfc5649.specs.inner.Unwrap.{within, countBy, countIn, allZero, zeroFrom}
+use Rattle.rfc5649.specs.inner.Unwrap.{fitsBlocks, countBy, countIn, allZero, zeroFrom}
 
 -- ---- octets from an index on
 
@@ -74,9 +74,9 @@ from-zero x n = ap allZero (drop-at x (replicate n 0) (length x) refl) ∙ zeros
 module _ (a n : ℕ) where
   pub count-told : (m : ℕ) → countIn a n ≡ m → (m ≡ 0 → ⊥) → (a ≡ initialValue m) × (blocks m ≡ n)
   unfolding countIn
-  count-told m e nonzero = by (eqb (a / 4294967296) 0xa65959a6) (within n (a % 4294967296)) refl refl e
+  count-told m e nonzero = by (eqb (a / 4294967296) 0xa65959a6) (fitsBlocks n (a % 4294967296)) refl refl e
     where
-      by : (p q : Bool) → eqb (a / 4294967296) 0xa65959a6 ≡ p → within n (a % 4294967296) ≡ q → countBy p q (a % 4294967296) ≡ m
+      by : (p q : Bool) → eqb (a / 4294967296) 0xa65959a6 ≡ p → fitsBlocks n (a % 4294967296) ≡ q → countBy p q (a % 4294967296) ≡ m
           → (a ≡ initialValue m) × (blocks m ≡ n)
       by true true p q f = (
         omega (arith, eqb-true (a / 4294967296) 0xa65959a6 p),

@@ -14,7 +14,7 @@ use Rattle.octets.proofs.Numerals.{number-append}
 use Rattle.octets.proofs.RoundTrip.{length-octets, octets-octets, number-lt, number-octets, octets-number}
 use Rattle.octets.proofs.Octets.{no-octets, join-octets, drop-octets}
 use Rattle.rfc5649.specs.Steps.{register}
-use Rattle.rfc5649.specs.Wrap.{registers, octetsIn}
+use Rattle.rfc5649.specs.Wrap.{registers, registerOctets}
 
 -- k registers
 pub record Registers (k : ℕ) (s : List ℕ) : Type 0 where
@@ -59,27 +59,27 @@ registers-gen (suc n) j s =
 
 -- ---- to octets
 
-pub length-octets-in : (s : List ℕ) → length (octetsIn s) ≡ 8 * length s
-unfolding octetsIn
+pub length-octets-in : (s : List ℕ) → length (registerOctets s) ≡ 8 * length s
+unfolding registerOctets
 length-octets-in [] = refl
 length-octets-in (r ∷ s) =
-    length-append (octetsOf 8 r) (octetsIn s) ∙ ap₂ _+_ (length-octets 8 r) (length-octets-in s) ∙ omega arith
+    length-append (octetsOf 8 r) (registerOctets s) ∙ ap₂ _+_ (length-octets 8 r) (length-octets-in s) ∙ omega arith
 
-pub octets-in-octets : (s : List ℕ) → Octets (octetsIn s)
-unfolding octetsIn
+pub octets-in-octets : (s : List ℕ) → Octets (registerOctets s)
+unfolding registerOctets
 octets-in-octets [] = no-octets
-octets-in-octets (r ∷ s) = join-octets (octetsOf 8 r) (octetsIn s) (octets-octets 8 r) (octets-in-octets s)
+octets-in-octets (r ∷ s) = join-octets (octetsOf 8 r) (registerOctets s) (octets-octets 8 r) (octets-in-octets s)
 
-pub octets-in-append : (s t : List ℕ) → octetsIn (s ++ t) ≡ octetsIn s ++ octetsIn t
-unfolding octetsIn
+pub octets-in-append : (s t : List ℕ) → registerOctets (s ++ t) ≡ registerOctets s ++ registerOctets t
+unfolding registerOctets
 octets-in-append [] t = refl
 octets-in-append (r ∷ s) t =
-    ap (λ (u : List ℕ). octetsOf 8 r ++ u) (octets-in-append s t) ∙ sym (append-assoc (octetsOf 8 r) (octetsIn s) (octetsIn t))
+    ap (λ (u : List ℕ). octetsOf 8 r ++ u) (octets-in-append s t) ∙ sym (append-assoc (octetsOf 8 r) (registerOctets s) (registerOctets t))
 
 -- ---- there and back
 
-pub octets-registers : (n : ℕ) (s : List ℕ) → Octets s → length s ≡ 8 * n → octetsIn (registers n s) ≡ s
-unfolding registers octetsIn
+pub octets-registers : (n : ℕ) (s : List ℕ) → Octets s → length s ≡ 8 * n → registerOctets (registers n s) ≡ s
+unfolding registers registerOctets
 octets-registers zero [] o e = refl
 octets-registers zero (x ∷ s) o e = absurd (suc-ne-zero (length s) e)
 octets-registers (suc n) s o e =
@@ -87,12 +87,12 @@ octets-registers (suc n) s o e =
     (octets-registers n (drop 8 s) (drop-octets 8 s o) (length-drop 8 s ∙ omega arith))
     ∙ take-append-drop 8 s
 
-pub registers-octets : (n : ℕ) (s : List ℕ) → Registers n s → registers n (octetsIn s) ≡ s
-unfolding registers octetsIn
+pub registers-octets : (n : ℕ) (s : List ℕ) → Registers n s → registers n (registerOctets s) ≡ s
+unfolding registers registerOctets
 registers-octets zero [] g = refl
 registers-octets zero (x ∷ s) g = absurd (suc-ne-zero (length s) (g .size))
 registers-octets (suc n) [] g = absurd (suc-ne-zero n (sym (g .size)))
 registers-octets (suc n) (r ∷ s) g =
     ap₂ {C = List ℕ} _∷_
-    (number-append 8 0 (octetsOf 8 r) (octetsIn s) (omega (arith, length-octets 8 r)) ∙ number-octets 8 r (g .small 0))
-    (ap (registers n) (drop-at (octetsOf 8 r) (octetsIn s) 8 (length-octets 8 r)) ∙ registers-octets n s (tail-registers g))
+    (number-append 8 0 (octetsOf 8 r) (registerOctets s) (omega (arith, length-octets 8 r)) ∙ number-octets 8 r (g .small 0))
+    (ap (registers n) (drop-at (octetsOf 8 r) (registerOctets s) 8 (length-octets 8 r)) ∙ registers-octets n s (tail-registers g))

@@ -15,7 +15,7 @@ use Rattle.fips197.specs.Block.{Block}
 use Rattle.fips197.specs.Key.{Key}
 use Rattle.fips197.specs.Cipher.{cipher, invCipher}
 use Rattle.fips197.proofs.Inverse.{cipher-block, inv-cipher-block, inv-cipher-cipher, cipher-inv-cipher}
-use Rattle.rfc5649.specs.Steps.{register, joined, msb64, lsb64, stored, step, row, rows}
+use Rattle.rfc5649.specs.Steps.{register, joinRegisters, msb64, lsb64, stored, step, row, rows}
 use Rattle.rfc5649.specs.inner.Unwrap.{unstep, unrow, unrows, forwardBy, forward, backwardBy, backward}
 use Rattle.rfc5649.proofs.Registers.{Registers, set-registers}
 use Rattle.rfc5649.proofs.Blocks.{joined-block, msb-joined, lsb-joined, msb-lt, lsb-lt, joined-parts}
@@ -54,7 +54,7 @@ module _ (s : List ℕ) (i : ℕ) (first : 0 < i) (within : i < length s) where
 
   -- what stands there already is stored
   pub stored-same : (t a : ℕ) → a < 256 ^ 8 → register s i < 256 ^ 8 → bitXor a t ≡ register s 0
-      → stored t i (joined a (register s i)) s ≡ s
+      → stored t i (joinRegisters a (register s i)) s ≡ s
   unfolding stored
   stored-same t a ha hr e =
       ap₂ (λ (x y : ℕ). set (set s 0 x) i y)
@@ -80,20 +80,20 @@ module _ (key : List ℕ) (is : Key key) (k t i : ℕ) (small : t < 256 ^ 8) (fi
         keeps = λ s g. stored-registers t i (b s) g (cipher-block is (joined-block (register s 0) (register s i))) small;
         undone = λ s g.
             ap (λ (x : List ℕ). stored 0 i x (stored t i (b s) s)) (back s g)
-            ∙ stored-again s i first (inside g) t 0 (b s) (joined (register s 0) (register s i))
+            ∙ stored-again s i first (inside g) t 0 (b s) (joinRegisters (register s 0) (register s i))
             ∙ stored-same s i first (inside g) 0 (register s 0) (g .small 0) (g .small i) (xor-zero-r (register s 0));
       }
     where
       b : List ℕ → List ℕ
-      b s = cipher key (joined (register s 0) (register s i))
+      b s = cipher key (joinRegisters (register s 0) (register s i))
 
       back : (s : List ℕ) → Registers k s
-          → invCipher key (joined (bitXor (register (stored t i (b s) s) 0) t) (register (stored t i (b s) s) i))
-          ≡ joined (register s 0) (register s i)
+          → invCipher key (joinRegisters (bitXor (register (stored t i (b s) s) 0) t) (register (stored t i (b s) s) i))
+          ≡ joinRegisters (register s 0) (register s i)
       back s g =
-          ap₂ (λ (x y : ℕ). invCipher key (joined (bitXor x t) y))
+          ap₂ (λ (x y : ℕ). invCipher key (joinRegisters (bitXor x t) y))
           (stored-a s i first (inside g) t (b s)) (stored-r s i first (inside g) t (b s))
-          ∙ ap (λ (x : ℕ). invCipher key (joined x (lsb64 (b s)))) (xor-twice (msb64 (b s)) t)
+          ∙ ap (λ (x : ℕ). invCipher key (joinRegisters x (lsb64 (b s)))) (xor-twice (msb64 (b s)) t)
           ∙ ap (invCipher key) (joined-parts (b s) (cipher-block is (joined-block (register s 0) (register s i))))
           ∙ inv-cipher-cipher is (joined-block (register s 0) (register s i))
 
@@ -104,7 +104,7 @@ module _ (key : List ℕ) (is : Key key) (k t i : ℕ) (small : t < 256 ^ 8) (fi
         keeps = λ s g. stored-registers 0 i (b s) g (inv-cipher-block is (joined-block (a s) (register s i))) (omega arith);
         undone = λ s g.
             ap (λ (x : List ℕ). stored t i x (stored 0 i (b s) s)) (back s g)
-            ∙ stored-again s i first (inside g) 0 t (b s) (joined (a s) (register s i))
+            ∙ stored-again s i first (inside g) 0 t (b s) (joinRegisters (a s) (register s i))
             ∙ stored-same s i first (inside g) t (a s) (xor-lt 64 (register s 0) t (g .small 0) small) (g .small i)
             (xor-twice (register s 0) t);
       }
@@ -113,12 +113,13 @@ module _ (key : List ℕ) (is : Key key) (k t i : ℕ) (small : t < 256 ^ 8) (fi
       a s = bitXor (register s 0) t
 
       b : List ℕ → List ℕ
-      b s = invCipher key (joined (a s) (register s i))
+      b s = invCipher key (joinRegisters (a s) (register s i))
 
       back : (s : List ℕ) → Registers k s
-          → cipher key (joined (register (stored 0 i (b s) s) 0) (register (stored 0 i (b s) s) i)) ≡ joined (a s) (register s i)
+          → cipher key (joinRegisters (register (stored 0 i (b s) s) 0) (register (stored 0 i (b s) s) i))
+          ≡ joinRegisters (a s) (register s i)
       back s g =
-          ap₂ (λ (x y : ℕ). cipher key (joined x y)) (stored-a s i first (inside g) 0 (b s) ∙ xor-zero-r (msb64 (b s)))
+          ap₂ (λ (x y : ℕ). cipher key (joinRegisters x y)) (stored-a s i first (inside g) 0 (b s) ∙ xor-zero-r (msb64 (b s)))
           (stored-r s i first (inside g) 0 (b s))
           ∙ ap (cipher key) (joined-parts (b s) (inv-cipher-block is (joined-block (a s) (register s i))))
           ∙ cipher-inv-cipher is (joined-block (a s) (register s i))

@@ -17,8 +17,8 @@ use Rattle.octets.proofs.Undo.{Undo}
 use Rattle.fips197.specs.Key.{Key}
 use Rattle.fips197.specs.Cipher.{cipher}
 use Rattle.fips197.proofs.Inverse.{cipher-block}
-use Rattle.rfc5649.specs.Steps.{joined, msb64, lsb64, stored, step}
-use Rattle.rfc5649.specs.Wrap.{initialValue, blocks, padded, registers, octetsIn, wrapBy, wrapOf, start}
+use Rattle.rfc5649.specs.Steps.{joinRegisters, msb64, lsb64, stored, step}
+use Rattle.rfc5649.specs.Wrap.{initialValue, blocks, padToBlocks, registers, registerOctets, wrapBy, wrapOf, startRegisters}
 use Rattle.rfc5649.specs.Opens.{Opens}
 use Rattle.rfc5649.specs.inner.Unwrap.{forwardBy, forward, backward}
 use Rattle.rfc5649.proofs.Registers.{Registers, cons-registers, registers-are, octets-registers, registers-octets, length-octets-in}
@@ -27,48 +27,50 @@ use Rattle.rfc5649.proofs.Steps.{forward-undone, backward-undone}
 
 -- ---- padding
 
-pub length-padded : (x : List ℕ) → length (padded x) ≡ 8 * blocks (length x)
-unfolding padded
+pub length-padded : (x : List ℕ) → length (padToBlocks x) ≡ 8 * blocks (length x)
+unfolding padToBlocks
 length-padded x =
     length-append x (replicate (8 * blocks (length x) - length x) 0)
     ∙ omega (arith, length-replicate {A = ℕ} (8 * blocks (length x) - length x) 0)
 
-pub padded-octets : (x : List ℕ) → Octets x → Octets (padded x)
-unfolding padded
+pub padded-octets : (x : List ℕ) → Octets x → Octets (padToBlocks x)
+unfolding padToBlocks
 padded-octets x o = join-octets x (replicate (8 * blocks (length x) - length x) 0) o (zero-octets (8 * blocks (length x) - length x))
 
-pub start-registers : (x : List ℕ) → Octets x → length x ≤ 256 → Registers (suc (blocks (length x))) (start x)
-unfolding start
-start-registers x o h = cons-registers (omega arith) (registers-are (blocks (length x)) (padded x) (padded-octets x o))
+pub start-registers : (x : List ℕ) → Octets x → length x ≤ 256 → Registers (suc (blocks (length x))) (startRegisters x)
+unfolding startRegisters
+start-registers x o h = cons-registers (omega arith) (registers-are (blocks (length x)) (padToBlocks x) (padded-octets x o))
 
 -- ---- what is wrapped
 
 -- one block: the cipher's block is the octets of what one step with t = 0 stores
 one-block : (key x : List ℕ) → Key key → Octets x → blocks (length x) ≡ 1
-    → cipher key (octetsOf 8 (initialValue (length x)) ++ padded x) ≡ octetsIn (step key 0 1 (start x))
-unfolding step stored start registers octetsIn
+    → cipher key (octetsOf 8 (initialValue (length x)) ++ padToBlocks x) ≡ registerOctets (step key 0 1 (startRegisters x))
+unfolding step stored startRegisters registers registerOctets
 one-block key x is o e =
     ap (λ (p : List ℕ). cipher key (octetsOf 8 a ++ p)) (sym whole)
-    ∙ sym (joined-parts b (cipher-block is (joined-block a (number 8 (padded x)))))
+    ∙ sym (joined-parts b (cipher-block is (joined-block a (number 8 (padToBlocks x)))))
     ∙ ap₂ {C = List ℕ} (λ (h : ℕ) (t : List ℕ). octetsOf 8 h ++ t) (sym (xor-zero-r (msb64 b))) (sym (append-nil (octetsOf 8 (lsb64 b))))
-    ∙ ap (λ (n : ℕ). octetsIn (step key 0 1 (a ∷ registers n (padded x)))) (sym e)
+    ∙ ap (λ (n : ℕ). registerOctets (step key 0 1 (a ∷ registers n (padToBlocks x)))) (sym e)
   where
     a : ℕ
     a = initialValue (length x)
 
     b : List ℕ
-    b = cipher key (joined a (number 8 (padded x)))
+    b = cipher key (joinRegisters a (number 8 (padToBlocks x)))
 
-    whole : octetsOf 8 (number 8 (padded x)) ≡ padded x
+    whole : octetsOf 8 (number 8 (padToBlocks x)) ≡ padToBlocks x
     whole =
-        octets-number 8 (padded x) (padded-octets x o) (omega (arith, length-padded x, e))
-        ∙ take-all 8 (padded x) (omega (arith, length-padded x, e))
+        octets-number 8 (padToBlocks x) (padded-octets x o) (omega (arith, length-padded x, e))
+        ∙ take-all 8 (padToBlocks x) (omega (arith, length-padded x, e))
 
-pub wrap-registers : (key x : List ℕ) → Key key → Octets x → wrapOf key x ≡ octetsIn (forward key (blocks (length x)) (start x))
-unfolding wrapOf forward start
+pub wrap-registers : (key x : List ℕ) → Key key → Octets x →
+    wrapOf key x ≡ registerOctets (forward key (blocks (length x)) (startRegisters x))
+unfolding wrapOf forward startRegisters
 wrap-registers key x is o = by (eqb (blocks (length x)) 1) refl
   where
-    by : (one : Bool) → eqb (blocks (length x)) 1 ≡ one → wrapBy one key x ≡ octetsIn (forwardBy one key (blocks (length x)) (start x))
+    by : (one : Bool) → eqb (blocks (length x)) 1 ≡ one →
+        wrapBy one key x ≡ registerOctets (forwardBy one key (blocks (length x)) (startRegisters x))
     by true e = one-block key x is o (eqb→eq (blocks (length x)) 1 (subst T (sym e) tt))
     by false e = refl
 
@@ -82,25 +84,26 @@ module _ (key wrapped x : List ℕ) (is : Key key) (h : Opens key wrapped x) whe
   undo : Undo (Registers (suc n)) (forward key n) (backward key n)
   undo = forward-undone key is n (omega (arith, h .least)) (omega (arith, h .most))
 
-  begun : Registers (suc n) (start x)
+  begun : Registers (suc n) (startRegisters x)
   begun = start-registers x (h .octets) (h .most)
 
-  whole : wrapped ≡ octetsIn (forward key n (start x))
+  whole : wrapped ≡ registerOctets (forward key n (startRegisters x))
   whole = sym (h .wraps) ∙ wrap-registers key x is (h .octets)
 
   pub length-wrapped : length wrapped ≡ 8 * suc n
   length-wrapped =
-      ap length whole ∙ length-octets-in (forward key n (start x)) ∙ ap (λ (k : ℕ). 8 * k) (undo .keeps (start x) begun .size)
+      ap length whole ∙ length-octets-in (forward key n (startRegisters x))
+      ∙ ap (λ (k : ℕ). 8 * k) (undo .keeps (startRegisters x) begun .size)
 
-  pub unwrapped : backward key n (registers (suc n) wrapped) ≡ start x
+  pub unwrapped : backward key n (registers (suc n) wrapped) ≡ startRegisters x
   unwrapped =
       ap (λ (w : List ℕ). backward key n (registers (suc n) w)) whole
-      ∙ ap (backward key n) (registers-octets (suc n) (forward key n (start x)) (undo .keeps (start x) begun))
-      ∙ undo .undone (start x) begun
+      ∙ ap (backward key n) (registers-octets (suc n) (forward key n (startRegisters x)) (undo .keeps (startRegisters x) begun))
+      ∙ undo .undone (startRegisters x) begun
 
   -- the padded octets stand in the registers behind A
-  pub padded-is : octetsIn (registers n (padded x)) ≡ padded x
-  padded-is = octets-registers n (padded x) (padded-octets x (h .octets)) (length-padded x)
+  pub padded-is : registerOctets (registers n (padToBlocks x)) ≡ padToBlocks x
+  padded-is = octets-registers n (padToBlocks x) (padded-octets x (h .octets)) (length-padded x)
 
 -- what unwrapping finds, with its checks, wraps to these octets
 module _ (key wrapped : List ℕ) (n : ℕ) (is : Key key) (o : Octets wrapped) (size : length wrapped ≡ 8 * suc n) (least : 1 ≤ n)
@@ -114,15 +117,16 @@ module _ (key wrapped : List ℕ) (n : ℕ) (is : Key key) (o : Octets wrapped) 
   pub backward-registers : Registers (suc n) (backward key n (registers (suc n) wrapped))
   backward-registers = undo′ .keeps (registers (suc n) wrapped) found
 
-  pub opens : (x : List ℕ) → Octets x → blocks (length x) ≡ n → backward key n (registers (suc n) wrapped) ≡ start x → Opens key wrapped x
+  pub opens : (x : List ℕ) → Octets x → blocks (length x) ≡ n → backward key n (registers (suc n) wrapped) ≡ startRegisters x →
+      Opens key wrapped x
   opens x p b e =
       record {
         least = omega arith;
         most = omega arith;
         octets = p;
-        wraps = wrap-registers key x is p ∙ ap (λ (k : ℕ). octetsIn (forward key k (start x))) b
-            ∙ ap (λ (s : List ℕ). octetsIn (forward key n s)) (sym e)
-            ∙ ap octetsIn (undo′ .undone (registers (suc n) wrapped) found)
+        wraps = wrap-registers key x is p ∙ ap (λ (k : ℕ). registerOctets (forward key k (startRegisters x))) b
+            ∙ ap (λ (s : List ℕ). registerOctets (forward key n s)) (sym e)
+            ∙ ap registerOctets (undo′ .undone (registers (suc n) wrapped) found)
             ∙ octets-registers (suc n) wrapped o size;
       }
 

@@ -12,8 +12,8 @@ abbrev pub register : List ℕ → ℕ → ℕ
 register s i = getD s i 0
 
 -- a | r: the concatenation of two registers, a block of 16 octets (section 2, "B1 | B2")
-abbrev pub joined : ℕ → ℕ → List ℕ
-joined a r = octetsOf 8 a ++ octetsOf 8 r
+abbrev pub joinRegisters : ℕ → ℕ → List ℕ
+joinRegisters a r = octetsOf 8 a ++ octetsOf 8 r
 
 -- MSB(64, B) and LSB(64, B) of a block
 abbrev pub msb64 : List ℕ → ℕ
@@ -28,7 +28,7 @@ stored t i b s = set (set s 0 (bitXor (msb64 b) t)) i (lsb64 b)
 
 -- "B = AES(K, A | R[i])", and what is stored of it
 unfoldable pub step : List ℕ → ℕ → ℕ → List ℕ → List ℕ
-step key t i s = stored t i (cipher key (joined (register s 0) (register s i))) s
+step key t i s = stored t i (cipher key (joinRegisters (register s 0) (register s i))) s
 
 -- "For i = 1 to n", with t = (n * j) + i; base is n * j
 unfoldable pub row : List ℕ → ℕ → ℕ → List ℕ → List ℕ

@@ -17,8 +17,8 @@ abbrev pub blocks : ℕ → ℕ
 blocks m = (m + 7) / 8
 
 -- section 4.1, step 1: the octets are padded on the right with zeros, up to a multiple of 8
-unfoldable pub padded : List ℕ → List ℕ
-padded x = x ++ replicate (8 * blocks (length x) - length x) 0
+unfoldable pub padToBlocks : List ℕ → List ℕ
+padToBlocks x = x ++ replicate (8 * blocks (length x) - length x) 0
 
 -- n 64-bit blocks of octets as registers
 unfoldable pub registers : ℕ → List ℕ → List ℕ
@@ -26,20 +26,20 @@ registers zero s = []
 registers (suc n) s = number 8 s ∷ registers n (drop 8 s)
 
 -- the octets of registers, one after the other
-unfoldable pub octetsIn : List ℕ → List ℕ
-octetsIn [] = []
-octetsIn (r ∷ s) = octetsOf 8 r ++ octetsIn s
+unfoldable pub registerOctets : List ℕ → List ℕ
+registerOctets [] = []
+registerOctets (r ∷ s) = octetsOf 8 r ++ registerOctets s
 
 -- the initial value and the padded octets as registers, before the steps
-unfoldable pub start : List ℕ → List ℕ
-start x = initialValue (length x) ∷ registers (blocks (length x)) (padded x)
+unfoldable pub startRegisters : List ℕ → List ℕ
+startRegisters x = initialValue (length x) ∷ registers (blocks (length x)) (padToBlocks x)
 
 -- section 4.1, step 2, by whether the padded octets are exactly eight
 abbrev pub wrapBy : Bool → List ℕ → List ℕ → List ℕ
 -- the initial value stands before them, and the one block of 128 bits is enciphered
-wrapBy true key x = cipher key (octetsOf 8 (initialValue (length x)) ++ padded x)
+wrapBy true key x = cipher key (octetsOf 8 (initialValue (length x)) ++ padToBlocks x)
 -- the steps of RFC 3394, section 2.2.1, from this initial value on
-wrapBy false key x = octetsIn (rows key (blocks (length x)) 6 (start x))
+wrapBy false key x = registerOctets (rows key (blocks (length x)) 6 (startRegisters x))
 
 -- the wrapped octets
 unfoldable pub wrapOf : List ℕ → List ℕ → List ℕ

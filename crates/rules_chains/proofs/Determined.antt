@@ -10,7 +10,7 @@ use lib.ListN.{length, getD}
 use borrow.Author.Tests.{eqb-true, eqb-false}
 use Rattle.wire_attributes.specs.Tree.{WrapKey}
 use Rattle.rules_chains.specs.Chain.{In, Root, Chain, root, step, Reached, CopyOpens}
-use Rattle.rules_chains.specs.Refusals.{Announced, EntriesEight, CopiesEight, Value, KeyOf}
+use Rattle.rules_chains.specs.Refusals.{Announced, EntriesConflict, CopiesConflict, Value, KeyOf}
 use Rattle.rules_chains.specs.Refusals as refusals
 
 -- ---- lists of numbers are equal or not
@@ -43,7 +43,7 @@ module _ (roots : List Root) (entries : List WrapKey) (size : ℕ) where
   OneValue = (k : ℕ) (x y : List ℕ) → Reached roots entries size k x → Reached roots entries size k y → x ≡ y
 
   -- where number 8 does not hold of the entries, they do
-  pub one-value : (EntriesEight roots entries size → ⊥) → OneValue
+  pub one-value : (EntriesConflict roots entries size → ⊥) → OneValue
   one-value none k x y p q = ⊎-elim (λ e. e) (λ f. absurd (none (refusals.two-values k x y p q f))) (lists-equal x y)
 
   -- a chain ends on a root, or what it gives is reached
@@ -73,7 +73,7 @@ module _ (roots : List Root) (entries : List WrapKey) (size : ℕ) where
   last-entry k x r = last (r .last ∷ r .before) k x (r .chain)
 
   -- where number 8 does not hold of an SA's copies, each that opens gives the same octets
-  pub copies-one : (a : Announced) → (CopiesEight roots entries size a → ⊥) → (x y : List ℕ) →
+  pub copies-one : (a : Announced) → (CopiesConflict roots entries size a → ⊥) → (x y : List ℕ) →
       CopyOpens roots entries size (a .copies) x → CopyOpens roots entries size (a .copies) y → x ≡ y
   copies-one a none x y p q = ⊎-elim (λ e. e) (λ f. absurd (none (refusals.two-values x y p q f))) (lists-equal x y)
 

@@ -10,7 +10,7 @@ use borrow.Author.Tests.{eqb-true, eqb-false}
 use Rattle.rfc5649.specs.Opens.{Opens}
 use Rattle.wire_attributes.specs.Tree.{WrapKey, SaKey}
 use Rattle.rules_chains.specs.Chain.{In, Root, Chain, step, Reached, CopyOpens}
-use Rattle.rules_chains.specs.Refusals.{Announced, EntriesEight, CopiesEight, Eight, of-entries, of-copies, Nine}
+use Rattle.rules_chains.specs.Refusals.{Announced, EntriesConflict, CopiesConflict, KeyConflict, of-entries, of-copies, KeyMissing}
 use Rattle.rules_chains.specs.Refusals as refusals
 use Rattle.rules_chains.proofs.Determined.{AtRoot, ends-by}
 
@@ -67,25 +67,25 @@ module _ (roots : List Root) (entries : List WrapKey) (size : ℕ) where
       }
 
   -- where number 8 does not hold, what is reached has the size, and what a copy opens to as many octets as its SA needs
-  pub entries-fit : (EntriesEight roots entries size → ⊥) → (k : ℕ) (x : List ℕ) → Reached roots entries size k x → length x ≡ size
+  pub entries-fit : (EntriesConflict roots entries size → ⊥) → (k : ℕ) (x : List ℕ) → Reached roots entries size k x → length x ≡ size
   entries-fit none k x r = not-other (length x) size (λ d. none (refusals.wrong-size k x r d))
 
-  pub copies-fit : (a : Announced) → (CopiesEight roots entries size a → ⊥) → (x : List ℕ) → CopyOpens roots entries size (a .copies) x →
+  pub copies-fit : (a : Announced) → (CopiesConflict roots entries size a → ⊥) → (x : List ℕ) → CopyOpens roots entries size (a .copies) x →
       length x ≡ a .need
   copies-fit a none x o = not-other (length x) (a .need) (λ d. none (refusals.wrong-size x o d))
 
   module _ (announced : List Announced) where
     -- number 8 is of the entries or of the copies of an announced SA
-    pub eight-of : (Eight roots entries size announced → ⊥) →
-        (EntriesEight roots entries size → ⊥) × ((a : Announced) → In a announced → CopiesEight roots entries size a → ⊥)
+    pub eight-of : (KeyConflict roots entries size announced → ⊥) →
+        (EntriesConflict roots entries size → ⊥) × ((a : Announced) → In a announced → CopiesConflict roots entries size a → ⊥)
     eight-of none = (λ h. none (of-entries h), λ a m h. none (of-copies a m h))
 
     -- "some announced SA has no copy that opens": not where each has one
     pub not-nine : ((a : Announced) → In a announced → (x : List ℕ) × CopyOpens roots entries size (a .copies) x) →
-        Nine roots entries size announced → ⊥
+        KeyMissing roots entries size announced → ⊥
     not-nine each n = let c = each (n .sa) (n .stands) in n .none (c .0) (c .1)
 
     -- and where one has none
     pub nine-at : (a : Announced) → In a announced → ((x : List ℕ) → CopyOpens roots entries size (a .copies) x → ⊥) →
-        Nine roots entries size announced
+        KeyMissing roots entries size announced
     nine-at a m none = record { sa = a; stands = m; none = none }

@@ -17,7 +17,7 @@ use Rattle.rfc5649.specs.Opens.{Opens}
 use Rattle.rfc5649.proofs.Determined.{opens-one}
 use Rattle.wire_attributes.specs.Tree.{WrapKey}
 use Rattle.rules_chains.specs.Chain.{In, Root, Chain, root, step, Reached}
-use Rattle.rules_chains.specs.Refusals.{EntriesEight, wrong-size, two-values}
+use Rattle.rules_chains.specs.Refusals.{EntriesConflict, wrong-size, two-values}
 use Rattle.rules_chains.proofs.Determined.{last-entry}
 use Rattle.rules_chains.proofs.Members.{in-member, member-in}
 
@@ -25,7 +25,7 @@ use Rattle.rules_chains.proofs.Members.{in-member, member-in}
 pub record Reaches (roots : List Root) (entries : List WrapKey) (size : ℕ) (keys : List Root) : Type 0 where
   pub each : (r : Root) → In r keys → Reached roots entries size (r .id) (r .value)
   pub only : (k : ℕ) (x : List ℕ) → Reached roots entries size k x → In (record { id = k; value = x }) keys
-  pub fit : EntriesEight roots entries size → ⊥
+  pub fit : EntriesConflict roots entries size → ⊥
 
 abbrev key : ℕ → List ℕ → Root
 key k v = record { id = k; value = v }
@@ -166,7 +166,7 @@ module _ (zero : List ℕ) (is : Key zero) where
         (λ e. valued k x p .at-nine (sym e) ∙ sym (valued k y q .at-nine (sym e)))
         (only-five-nine k x p) refl
 
-    no-eight : EntriesEight lent upward (length zero) → ⊥
+    no-eight : EntriesConflict lent upward (length zero) → ⊥
     no-eight (wrong-size k x r h) = h (sized (key k x) (only-five-nine k x r))
     no-eight (two-values k x y p q h) = h (one-value k x y p q)
 
@@ -197,7 +197,7 @@ module _ (zero : List ℕ) (is : Key zero) where
         by-member (r .last) (record { keyId = 5; kwkId = 9; wrapped = w }) (record { keyId = 9; kwkId = 5; wrapped = y })
         (λ a. a .keyId ≡ k → ⊥) (λ e. omega arith) (λ e. omega arith) (in-member (r .last) circle (l .0)) (l .1)
 
-    no-eight-here : EntriesEight lent circle (length zero) → ⊥
+    no-eight-here : EntriesConflict lent circle (length zero) → ⊥
     no-eight-here (wrong-size k x r h) = never k x r
     no-eight-here (two-values k x v p q h) = never k x p
 
@@ -214,7 +214,7 @@ module _ (zero : List ℕ) (is : Key zero) where
     abbrev branches : List WrapKey
     branches = under 5 0 zero five ∷ under 5 9 nine other ∷ under 9 0 zero nine ∷ []
 
-    pub chain-branches : EntriesEight lent branches (length zero)
+    pub chain-branches : EntriesConflict lent branches (length zero)
     chain-branches =
         two-values 5 five other
         (record { last = under 5 0 zero five; before = []; chain = from-lent branches 5 five f (List·Memᴰ·head refl) })

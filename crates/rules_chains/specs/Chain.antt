@@ -46,7 +46,7 @@ module _ (roots : List Root) (entries : List WrapKey) (size : ℕ) where
     pub chain : Chain (last ∷ before) k x
 
   -- a chain of any number of entries ends on key k with value v: "key 0 or a reached or held one"
-  pub record Ends (k : ℕ) (v : List ℕ) : Type 0 where
+  pub record ChainEnds (k : ℕ) (v : List ℕ) : Type 0 where
     pub passed : List WrapKey
     pub chain : Chain passed k v
 
@@ -55,5 +55,5 @@ module _ (roots : List Root) (entries : List WrapKey) (size : ℕ) where
     pub copy : SaKey
     pub stands : In copy copies
     pub value : List ℕ
-    pub named : Ends (copy .kwkId) value
+    pub named : ChainEnds (copy .kwkId) value
     pub opens : Opens value (copy .wrapped) x

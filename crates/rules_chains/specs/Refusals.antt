@@ -13,23 +13,23 @@ pub record Announced : Type 0 where
 
 module _ (roots : List Root) (entries : List WrapKey) (size : ℕ) where
   -- 8, of entries: "a reached wrapping opens to a wrong size, or two reached ones give one key two values"
-  pub data EntriesEight : Type 0 where
-    wrong-size : (k : ℕ) (x : List ℕ) → Reached roots entries size k x → (length x ≡ size → ⊥) → EntriesEight
-    two-values : (k : ℕ) (x y : List ℕ) → Reached roots entries size k x → Reached roots entries size k y → (x ≡ y → ⊥) → EntriesEight
+  pub data EntriesConflict : Type 0 where
+    wrong-size : (k : ℕ) (x : List ℕ) → Reached roots entries size k x → (length x ≡ size → ⊥) → EntriesConflict
+    two-values : (k : ℕ) (x y : List ℕ) → Reached roots entries size k x → Reached roots entries size k y → (x ≡ y → ⊥) → EntriesConflict
 
   -- 8, of copies: "in number 8 they count as reached wrappings of that SA's key"
-  pub data CopiesEight (a : Announced) : Type 0 where
-    wrong-size : (x : List ℕ) → CopyOpens roots entries size (a .copies) x → (length x ≡ a .need → ⊥) → CopiesEight a
+  pub data CopiesConflict (a : Announced) : Type 0 where
+    wrong-size : (x : List ℕ) → CopyOpens roots entries size (a .copies) x → (length x ≡ a .need → ⊥) → CopiesConflict a
     two-values : (x y : List ℕ) → CopyOpens roots entries size (a .copies) x → CopyOpens roots entries size (a .copies) y → (x ≡ y → ⊥) →
-        CopiesEight a
+        CopiesConflict a
 
   -- number 8
-  pub data Eight (announced : List Announced) : Type 0 where
-    of-entries : EntriesEight → Eight announced
-    of-copies : (a : Announced) → In a announced → CopiesEight a → Eight announced
+  pub data KeyConflict (announced : List Announced) : Type 0 where
+    of-entries : EntriesConflict → KeyConflict announced
+    of-copies : (a : Announced) → In a announced → CopiesConflict a → KeyConflict announced
 
   -- number 9: "some announced SA has no copy that opens"
-  pub record Nine (announced : List Announced) : Type 0 where
+  pub record KeyMissing (announced : List Announced) : Type 0 where
     pub sa : Announced
     pub stands : In sa announced
     pub none : (x : List ℕ) → CopyOpens roots entries size (sa .copies) x → ⊥

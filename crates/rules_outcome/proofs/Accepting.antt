@@ -16,10 +16,10 @@ use Rattle.state_table.proofs.Kept.{sas-of-table}
 use Rattle.state.specs.declared.State.{State}
 use Rattle.rules_refusals.specs.Contents.{announced}
 use Rattle.rules_chains.specs.Chain.{In, Root, CopyOpens}
-use Rattle.rules_chains.specs.Refusals.{Announced, EntriesEight, of-entries, of-copies}
+use Rattle.rules_chains.specs.Refusals.{Announced, EntriesConflict, of-entries, of-copies}
 use Rattle.rules_chains.specs.Refusals as refusals
 use Rattle.rules_outcome.specs.Roots.{rootsOf, entriesOf, wrappingSize, needOf, announcedAs, announcedKeys}
-use Rattle.rules_outcome.specs.Answer.{EightOf, NineOf, Answers}
+use Rattle.rules_outcome.specs.Answer.{KeyConflictOf, KeyMissingOf, FrameAnswers}
 use Rattle.rules_outcome.specs.After.{oldSas, saFrom, insertAll, After}
 use Rattle.rules_outcome.specs.Demand3.{NewBy, EnteredBy}
 use Rattle.rules_outcome.specs.NamedKey.{OpensTo}
@@ -64,21 +64,21 @@ module _ (limits : Limits) (s : State) (now : ℕ) (lent : List ℕ) where
     HasCopy a = (x : List ℕ) × OpensTo limits s now lent f a x
 
     -- number 9 by the policies
-    pub nine-policy : NineOf limits s now lent f → (a : GroupSaPolicy) × In a (announced f) × (HasCopy a → ⊥)
+    pub nine-policy : KeyMissingOf limits s now lent f → (a : GroupSaPolicy) × In a (announced f) × (HasCopy a → ⊥)
     unfolding announcedKeys
     nine-policy n =
         let r = in-map (announcedAs f) (n .sa) (announced f) (n .stands) in
         let e : n .sa ≡ announcedAs f (r .item) = r .is in
         (r .item, r .stands, λ h. n .none (h .0) (subst (λ (b : Announced). Opened (b .copies) (h .0)) (sym e) (h .1)))
 
-    pub policy-nine : (a : GroupSaPolicy) → In a (announced f) → (HasCopy a → ⊥) → NineOf limits s now lent f
+    pub policy-nine : (a : GroupSaPolicy) → In a (announced f) → (HasCopy a → ⊥) → KeyMissingOf limits s now lent f
     unfolding announcedKeys
     policy-nine a m none =
         record { sa = announcedAs f a; stands = map-in (announcedAs f) (announcedAs f a) (announced f) a m refl; none = λ x o. none (x, o) }
 
     -- where 8 does not apply, what a copy opens to has the size that its policy needs
-    module _ (none : EightOf limits s now lent f → ⊥) where
-      pub entries-fit : EntriesEight (rootsOf limits s now lent f) (entriesOf f) (wrappingSize limits s now lent f) → ⊥
+    module _ (none : KeyConflictOf limits s now lent f → ⊥) where
+      pub entries-fit : EntriesConflict (rootsOf limits s now lent f) (entriesOf f) (wrappingSize limits s now lent f) → ⊥
       entries-fit e = none (of-entries e)
 
       pub copy-fits : (a : GroupSaPolicy) → In a (announced f) → (x : List ℕ) → OpensTo limits s now lent f a x → length x ≡ needOf a
@@ -103,7 +103,7 @@ module _ (limits : Limits) (s : State) (now : ℕ) (lent : List ℕ) where
     abbrev pub Entered : Sa → Type 0
     Entered b = EnteredBy now (OpensTo limits s now lent f) f b
 
-    module _ (next : State) (after : After limits s now lent f next) (none : EightOf limits s now lent f → ⊥) where
+    module _ (next : State) (after : After limits s now lent f next) (none : KeyConflictOf limits s now lent f → ⊥) where
       abbrev roots : List Root
       roots = rootsOf limits s now lent f
 
@@ -154,10 +154,10 @@ module _ (limits : Limits) (s : State) (now : ℕ) (lent : List ℕ) where
 
   -- ---- an outcome of 0, by the frame's tree
   module _ (octets : List ℕ) (f : Frame) (e : IsFrame octets f) where
-    by-judged : (next : State) → Judged limits s now lent f 0 next → Answers limits s now lent f 0 × After limits s now lent f next
+    by-judged : (next : State) → Judged limits s now lent f 0 next → FrameAnswers limits s now lent f 0 × After limits s now lent f next
     by-judged _ (accepted next p a) = (p, a)
 
     pub whole-accepted : (next : State) → Outcome limits s now lent octets 0 next →
-        Answers limits s now lent f 0 × After limits s now lent f next
+        FrameAnswers limits s now lent f 0 × After limits s now lent f next
     whole-accepted next (by-tree g d j) =
         by-judged next (subst (λ (x : Frame). Judged limits s now lent x 0 next) (one-tree octets g f d e) j)

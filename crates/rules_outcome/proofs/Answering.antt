@@ -9,7 +9,7 @@ use Rattle.state_keys.specs.Limits.{Limits}
 use Rattle.wire_frames.specs.Frame.{Frame}
 use Rattle.state.specs.declared.State.{State}
 use Rattle.rules_refusals.specs.Refusals.{numbers, refusal}
-use Rattle.rules_outcome.specs.Answer.{Condition, First, byClauses, EightOf, NineOf, conditions, Answers}
+use Rattle.rules_outcome.specs.Answer.{RefusalCase, First, byClauses, KeyConflictOf, KeyMissingOf, conditions, FrameAnswers}
 use Rattle.rules_outcome.specs.Judging.{JudgedFirst, above}
 use Rattle.rules_outcome.proofs.First.{first-at, at-first, by-clauses, past-clauses, clauses-or-rest}
 
@@ -22,32 +22,33 @@ module _ (limits : Limits) (s : State) (now : ℕ) (lent : List ℕ) (f : Frame)
   clauses-rise = refl
 
   -- the conditions behind the clauses
-  abbrev pub lasts : List Condition
-  lasts = record { number = 8; holds = EightOf limits s now lent f } ∷ record { number = 9; holds = NineOf limits s now lent f } ∷ []
+  abbrev pub lasts : List RefusalCase
+  lasts = record { number = 8; holds = KeyConflictOf limits s now lent f } ∷ record { number = 9; holds = KeyMissingOf limits s now lent f }
+      ∷ []
 
-  pub answers-clauses : (n : ℕ) → refusal limits s now lent f ≡ suc n → Answers limits s now lent f (suc n)
+  pub answers-clauses : (n : ℕ) → refusal limits s now lent f ≡ suc n → FrameAnswers limits s now lent f (suc n)
   unfolding refusal
   answers-clauses n e = by-clauses lasts (numbers limits s now lent f) n e
 
   module _ (e : refusal limits s now lent f ≡ 0) where
-    behind : (n : ℕ) → First lasts n → Answers limits s now lent f n
+    behind : (n : ℕ) → First lasts n → FrameAnswers limits s now lent f n
     unfolding refusal
     behind n p = past-clauses lasts 1 (numbers limits s now lent f) clauses-rise e n p
 
-    pub answers-8 : EightOf limits s now lent f → Answers limits s now lent f 8
+    pub answers-8 : KeyConflictOf limits s now lent f → FrameAnswers limits s now lent f 8
     answers-8 p = behind 8 (inl (p, refl))
 
-    pub answers-9 : (EightOf limits s now lent f → ⊥) → NineOf limits s now lent f → Answers limits s now lent f 9
+    pub answers-9 : (KeyConflictOf limits s now lent f → ⊥) → KeyMissingOf limits s now lent f → FrameAnswers limits s now lent f 9
     answers-9 p q = behind 9 (inr (p, inl (q, refl)))
 
-    pub answers-0 : (EightOf limits s now lent f → ⊥) → (NineOf limits s now lent f → ⊥) → Answers limits s now lent f 0
+    pub answers-0 : (KeyConflictOf limits s now lent f → ⊥) → (KeyMissingOf limits s now lent f → ⊥) → FrameAnswers limits s now lent f 0
     answers-0 p q = behind 0 (inr (p, inr (q, refl)))
 
   -- an answer of 0, taken apart
   pub record NoneApplies : Type 0 where
     pub clauses : refusal limits s now lent f ≡ 0
-    pub no-eight : EightOf limits s now lent f → ⊥
-    pub no-nine : NineOf limits s now lent f → ⊥
+    pub no-eight : KeyConflictOf limits s now lent f → ⊥
+    pub no-nine : KeyMissingOf limits s now lent f → ⊥
 
   none-last : refusal limits s now lent f ≡ 0 → First lasts 0 → NoneApplies
   none-last e (inl p) = let z = p .1 in absurd (omega arith)
@@ -55,15 +56,15 @@ module _ (limits : Limits) (s : State) (now : ℕ) (lent : List ℕ) (f : Frame)
   none-last e (inr (p, inr (q, r))) = record { clauses = e; no-eight = p; no-nine = q }
 
   -- an answer is judged by the clauses, or passes them
-  pub judged-or-past : (n : ℕ) → Answers limits s now lent f n →
+  pub judged-or-past : (n : ℕ) → FrameAnswers limits s now lent f n →
       ((1 < n) × (refusal limits s now lent f ≡ n)) ⊎ ((refusal limits s now lent f ≡ 0) × First lasts n)
   unfolding refusal
   judged-or-past n p = clauses-or-rest lasts 1 (numbers limits s now lent f) clauses-rise n p
 
-  pub accepts : Answers limits s now lent f 0 → NoneApplies
+  pub accepts : FrameAnswers limits s now lent f 0 → NoneApplies
   accepts p =
       ⊎-elim (λ q. let z = q .0 in absurd (omega arith)) (λ q. none-last (q .0) (q .1)) (judged-or-past 0 p)
 
   -- "each is judged only when the lower ones don't apply"
-  pub answers-at : (n : ℕ) → Answers limits s now lent f (suc n) ↔ JudgedFirst (conditions limits s now lent f) (suc n)
+  pub answers-at : (n : ℕ) → FrameAnswers limits s now lent f (suc n) ↔ JudgedFirst (conditions limits s now lent f) (suc n)
   answers-at n = (first-at (conditions limits s now lent f) n, at-first (conditions limits s now lent f) (suc n))

@@ -17,7 +17,7 @@ use Rattle.state_keys.proofs.Cases.{and-parts, and-whole}
 use Rattle.wire_policies.specs.Policy.{GroupSaPolicy}
 use Rattle.wire_frames.specs.Frame.{Frame}
 use Rattle.wire_frames.specs.Grammar.{IsFrame}
-use Rattle.state_sa.specs.Entry.{spiOf, named, mostSeconds, espSa, rekeySa}
+use Rattle.state_sa.specs.Entry.{saSpi, named, mostSeconds, espSa, rekeySa}
 use Rattle.state_sa.specs.declared.entry.Condition.the-variants.{Live}
 use Rattle.state_sa.specs.declared.entry.Lifetime.the-variants.{Unlimited, Limited}
 use Rattle.state_sa.specs.declared.entry.Sa.{Sa}
@@ -98,9 +98,9 @@ module _ (now : ℕ) (a : GroupSaPolicy) (x : List ℕ) (n : length x ≡ needOf
   made-name : Kind a → named (a .protocol) (a .spi) (saFrom now a x) ≡ true
   unfolding named
   made-name k =
-      and-whole (eqb (saFrom now a x .protocol) (a .protocol)) (same (spiOf (saFrom now a x)) (a .spi))
+      and-whole (eqb (saFrom now a x .protocol) (a .protocol)) (same (saSpi (saFrom now a x)) (a .spi))
       (eq-eqb (saFrom now a x .protocol) (a .protocol) (made-protocol now a x k))
-      (eq-same (spiOf (saFrom now a x)) (a .spi) (made-spi now a x k))
+      (eq-same (saSpi (saFrom now a x)) (a .spi) (made-spi now a x k))
 
 module _ (limits : Limits) (enough : limits .wrapKeys ≤ limits .heldKeys) (s : State) (now : ℕ) (lent octets : List ℕ) (f : Frame)
     (e : IsFrame octets f) (next : State) (o : Outcome limits s now lent octets 0 next) where

@@ -11,7 +11,7 @@ use Rattle.state_keys.specs.Lists.{all, any, count, keep, heads, rising}
 use Rattle.state_keys.specs.Algorithms.{sizeOf}
 use Rattle.state_keys.specs.Kinds.{rekeySizes, rekeyOf}
 use Rattle.state_sa.specs.Clock.{elapsedAtLeast}
-use Rattle.state_sa.specs.Entry.{named, sized, formed, liveRekey, due, rekeySa, withCondition}
+use Rattle.state_sa.specs.Entry.{named, saSized, saFormed, liveRekey, due, rekeySa, withCondition}
 use Rattle.state_sa.specs.declared.entry.Condition.the-variants.{Retiring}
 use Rattle.state_sa.specs.declared.entry.Lifetime.{Lifetime}
 use Rattle.state_sa.specs.declared.entry.Lifetime.the-variants.{Unlimited, Limited}
@@ -21,7 +21,7 @@ use Rattle.state.specs.declared.State.{State}
 use Rattle.state.specs.declared.least.Least.the-variants.{Id}
 use Rattle.state.specs.Held.{heldOf, heldFormed}
 use Rattle.state.specs.State.{stateFormed}
-use Rattle.rules_refusals.specs.Number2.{standing, overLiveRekey}
+use Rattle.rules_refusals.specs.Number2.{notDueSas, overLiveRekey}
 use Rattle.rules_outcome.specs.Run.{StandsAt}
 
 abbrev pub rekeySpi : List ℕ
@@ -38,7 +38,7 @@ abbrev pub seven : State
 seven = having one
 
 pub seven-formed : stateFormed limits seven ≡ true
-unfolding stateFormed tableFormed heldFormed tableOf heldOf all count heads rising sized formed liveRekey rekeySa rekeySizes sizeOf any
+unfolding stateFormed tableFormed heldFormed tableOf heldOf all count heads rising saSized saFormed liveRekey rekeySa rekeySizes sizeOf any
 seven-formed = refl
 
 pub seven-stands : (now : ℕ) → StandsAt now rekeySpi seven
@@ -69,11 +69,11 @@ pub not-due : (now : ℕ) → due now one ≡ false
 unfolding due rekeySa
 not-due now = refl
 
-standing-one : (now : ℕ) → standing now seven ≡ one ∷ []
+standing-one : (now : ℕ) → notDueSas now seven ≡ one ∷ []
 unfolding tableOf keep due rekeySa
 standing-one now = refl
 
-pub one-in : (now : ℕ) → List·Memᴰ one (standing now seven)
+pub one-in : (now : ℕ) → List·Memᴰ one (notDueSas now seven)
 one-in now = subst (List·Memᴰ one) (sym (standing-one now)) (List·Memᴰ·head refl)
 
 pub over-one : overLiveRekey rekeySpi one ≡ true

@@ -22,13 +22,13 @@ use Rattle.state.specs.declared.held.HeldKey.{HeldKey}
 use Rattle.state.specs.Held.{keysOf}
 use Rattle.rules_refusals.specs.Contents.{rowOf, announced, wrapKeysOf}
 use Rattle.rules_refusals.specs.Fitness.{isEsp, encryptionOctets, keyWrapOctets}
-use Rattle.rules_refusals.specs.Number2.{two-ofFrame}
-use Rattle.rules_refusals.specs.Number4.{four-ofFrame}
-use Rattle.rules_refusals.specs.Refusals.{two, four}
+use Rattle.rules_refusals.specs.Number2.{number2OfFrame}
+use Rattle.rules_refusals.specs.Number4.{number4OfFrame}
+use Rattle.rules_refusals.specs.Refusals.{number2, number4}
 use Rattle.rules_refusals.proofs.Clear.{no-clause}
 use Rattle.rules_chains.specs.Chain.{In, Root}
 use Rattle.rules_outcome.specs.Roots.{rootsOf, entriesOf, wrappingSize}
-use Rattle.rules_outcome.specs.Answer.{NineOf}
+use Rattle.rules_outcome.specs.Answer.{KeyMissingOf}
 use Rattle.rules_outcome.specs.After.{leastAfterwards}
 use Rattle.rules_outcome.specs.Outcome.{NoTree, Outcome, no-layout}
 use Rattle.rules_outcome.specs.Meets.{Meets, Refused, Accepted}
@@ -104,13 +104,13 @@ module _ (limits : Limits) (s : State) (now : ℕ) (lent octets : List ℕ) wher
     -- ---- what opens a copy
     pub passes-2-and-4 : (Meets limits s now lent octets 2 → ⊥) → (Meets limits s now lent octets 4 → ⊥) →
         Registration f ⊎ (Rekey f × (wrapKeysOf f ≡ []))
-    unfolding four-ofFrame
+    unfolding number4OfFrame
     passes-2-and-4 no-2 no-4 =
         let x = f .header .exchange in
-        let n = none-applies (two limits s now x (f .header .spi)) (λ h. no-2 (meets-2 limits s now lent octets f e h)) in
-        let m = none-applies (four f) (λ h. no-4 (meets-4 limits s now lent octets f e h)) in
-        ⊎-elim inl (λ r. inr (r, no-wrap-key f (rekey-bars f r) (no-clause (four-ofFrame f) 1 (m .ofFrame))))
-        (one-of-four f (not-false (rowOf f .admitted) (no-clause (two-ofFrame x) 0 (n .ofFrame))))
+        let n = none-applies (number2 limits s now x (f .header .spi)) (λ h. no-2 (meets-2 limits s now lent octets f e h)) in
+        let m = none-applies (number4 f) (λ h. no-4 (meets-4 limits s now lent octets f e h)) in
+        ⊎-elim inl (λ r. inr (r, no-wrap-key f (rekey-bars f r) (no-clause (number4OfFrame f) 1 (m .ofFrame))))
+        (one-of-four f (not-false (rowOf f .admitted) (no-clause (number2OfFrame x) 0 (n .ofFrame))))
 
     -- NO CONFUSION OF KEYS: "A group's key and a tree key are both attribute 1 with the same layout, and their wrapped forms can be equally
     -- long." What a copy of an announced SA's key opens to comes from an SA_KEY of a Group Key Bag with its own protocol and SPI, opened
@@ -137,7 +137,7 @@ module _ (limits : Limits) (s : State) (now : ℕ) (lent octets : List ℕ) wher
           let h = at-most-9 limits s now lent octets (suc n) m in
           lt-cases (suc n) 9 (λ g. absurd (none (suc n) g m)) (λ g. inr (omega arith))
 
-      met-9 : (n : ℕ) (next : State) → Outcome limits s now lent octets n next → n ≡ 9 → NineOf limits s now lent f
+      met-9 : (n : ℕ) (next : State) → Outcome limits s now lent octets n next → n ≡ 9 → KeyMissingOf limits s now lent f
       met-9 zero next o q = absurd (omega arith)
       met-9 (suc n) next o q =
           let m = refused-is limits s now lent octets n next o .meets in

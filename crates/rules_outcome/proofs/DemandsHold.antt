@@ -8,8 +8,8 @@ use Rattle.fips197.specs.Key.{Key}
 use Rattle.rfc5649.specs.Wrap.{wrapOf}
 use Rattle.rfc5649.specs.Opens.{Opens}
 use Rattle.keywrap.specs.Answers.{written, Wrote, Opening, OpenAnswers}
-use Rattle.keywrap.specs.declared.Answer.{Answer}
-use Rattle.keywrap.specs.declared.Answer.the-variants.{Count}
+use Rattle.keywrap.specs.declared.WrapAnswer.{WrapAnswer}
+use Rattle.keywrap.specs.declared.WrapAnswer.the-variants.{Count}
 use Rattle.keywrap.proofs.Determined.{open-determined}
 use Rattle.state_keys.specs.Limits.{limits}
 use Rattle.wire_frames.proofs.FrameGrammar.{one-tree}
@@ -64,11 +64,11 @@ module _ (key wrapped room : List ℕ) (is : Key key) where
   opened-wraps x n after c e w =
       let q = written-one (w .x) x (w .count ∙ c) (sym (w .room-is) ∙ e) in ap (wrapOf key) (sym q) ∙ w .result .opens .wraps
 
-  module _ (a : Answer) (after : List ℕ) (answers : OpenAnswers key wrapped room a after) (x : List ℕ) (fits : Fits room x) where
+  module _ (a : WrapAnswer) (after : List ℕ) (answers : OpenAnswers key wrapped room a after) (x : List ℕ) (fits : Fits room x) where
     to : OpenedTo room x a after → wrapOf key x ≡ wrapped
     to o =
         opened-wraps x (length x) after refl (o .room-is)
-        (subst (λ (b : Answer). OpenAnswers key wrapped room b after) (o .answer) answers)
+        (subst (λ (b : WrapAnswer). OpenAnswers key wrapped room b after) (o .answer) answers)
 
     from : wrapOf key x ≡ wrapped → OpenedTo room x a after
     from w =

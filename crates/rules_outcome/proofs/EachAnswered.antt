@@ -30,8 +30,8 @@ use Rattle.rules_chains.specs.Refusals.{Value, of-copies}
 use Rattle.rules_chains.proofs.Determined.{copies-one, value-one, last-entry}
 use Rattle.rules_chains.proofs.Members.{in-member, member-in}
 use Rattle.rules_outcome.specs.Roots.{rootsOf, entriesOf, wrappingSize, announcedAs, announcedKeys}
-use Rattle.rules_outcome.specs.Answer.{Condition, First, conditions, Answers}
-use Rattle.rules_outcome.specs.After.{Enter, no-sa, one-more, saFrom, insertAll, oldSas, leastAfterwards, Holds, HeldAre, HeldBy}
+use Rattle.rules_outcome.specs.Answer.{RefusalCase, First, conditions, FrameAnswers}
+use Rattle.rules_outcome.specs.After.{Enter, no-sa, one-more, saFrom, insertAll, oldSas, leastAfterwards, HoldsKey, HeldAre, HeldBy}
 use Rattle.rules_outcome.specs.After.{After}
 use Rattle.rules_outcome.specs.Outcome.{refused, accepted, Outcome, no-layout, by-tree}
 use Rattle.rules_outcome.proofs.Members.{in-head, in-tail, in-cases, not-in-none, map-in}
@@ -41,7 +41,7 @@ use Rattle.rules_outcome.proofs.Answering.{accepts}
 use Rattle.rules_outcome.proofs.Accepting.{HasCopy, policy-nine}
 
 -- a list of conditions has a first that holds, or none holds
-first-some : (l : List Condition) → ((n : ℕ) → First l n → ⊥) → ⊥
+first-some : (l : List RefusalCase) → ((n : ℕ) → First l n → ⊥) → ⊥
 first-some [] none = none 0 refl
 first-some (c ∷ l) none = first-some l (λ n p. none n (inr (λ h. none (c .number) (inl (h, refl)), p)))
 
@@ -51,7 +51,7 @@ module _ (roots : List Root) (entries : List WrapKey) (size : ℕ) where
   record HeldOf (ids : List ℕ) : Type 0 where
     keys : List HeldKey
     rise : rising idBefore keys ≡ true
-    each : (k : HeldKey) → In k keys → Holds roots entries size k
+    each : (k : HeldKey) → In k keys → HoldsKey roots entries size k
     all : (i : ℕ) → In i ids → (x : List ℕ) → Value roots entries size i x → In (record { id = i; key = wrappingOf x }) keys
 
   -- the key with a Key ID, which is reached with the value x
@@ -84,7 +84,7 @@ module _ (roots : List Root) (entries : List WrapKey) (size : ℕ) where
           (in-cases j i ids h)
 
     -- it enters
-    holds-key : Holds roots entries size key
+    holds-key : HoldsKey roots entries size key
     holds-key = record { x = x; key-is = refl; value = v }
 
     abbrev more : List HeldKey
@@ -102,7 +102,7 @@ module _ (roots : List Root) (entries : List WrapKey) (size : ℕ) where
           keys = more;
           rise = rising-insert idBefore id-trans key (g .keys) (apart key (g .keys) e) (g .rise);
           each = λ k m.
-              ⊎-elim (λ q. subst (Holds roots entries size) (sym q) holds-key) (λ n. g .each k (member-in k (g .keys) n))
+              ⊎-elim (λ q. subst (HoldsKey roots entries size) (sym q) holds-key) (λ n. g .each k (member-in k (g .keys) n))
               (inserted-member idBefore key k (g .keys) (in-member k more m));
           all =
               all-with more (member-in key more (member-inserted idBefore key key (g .keys) (inl refl)))
@@ -149,7 +149,7 @@ held-by-some true Set Kept kept k some none = some none
 held-by-some false Set Kept kept k some none = none kept k
 
 -- ---- the member after a frame that no condition refuses
-module _ (limits : Limits) (s : State) (now : ℕ) (lent : List ℕ) (f : Frame) (p : Answers limits s now lent f 0) where
+module _ (limits : Limits) (s : State) (now : ℕ) (lent : List ℕ) (f : Frame) (p : FrameAnswers limits s now lent f 0) where
   abbrev roots : List Root
   roots = rootsOf limits s now lent f
 

@@ -12,12 +12,12 @@ use Rattle.state_keys.proofs.Members.{inserted-member, member-inserted}
 use Rattle.wire_attributes.specs.Tree.{WrapKey}
 use Rattle.wire_policies.specs.Policy.{GroupSaPolicy}
 use Rattle.wire_frames.specs.Frame.{Frame}
-use Rattle.state_sa.specs.Entry.{before, isLive, due, espSa, rekeySa}
+use Rattle.state_sa.specs.Entry.{saBefore, isLive, due, espSa, rekeySa}
 use Rattle.state_sa.specs.declared.entry.Sa.{Sa}
 use Rattle.state_table.specs.Table.{sasOf, stays}
 use Rattle.state.specs.declared.State.{State}
 use Rattle.rules_refusals.specs.Fitness.{isEsp, encryptionOctets, keyWrapOctets}
-use Rattle.rules_refusals.specs.Number2.{standing}
+use Rattle.rules_refusals.specs.Number2.{notDueSas}
 use Rattle.rules_chains.specs.Chain.{In, Root}
 use Rattle.rules_chains.specs.Refusals.{KeyOf}
 use Rattle.rules_outcome.specs.Roots.{announcedAs}
@@ -87,14 +87,14 @@ module _ (b : Sa) where
   in-all (a ∷ m) l i =
       ⊎-elim (λ e. inl (in-head b a m e))
       (λ j. ⊎-elim (λ k. inl (in-tail b a m k)) inr (in-all m l (member-in b (insertAll m l) j)))
-      (inserted-member before a b (insertAll m l) (in-member b (insert before a (insertAll m l)) i))
+      (inserted-member saBefore a b (insertAll m l) (in-member b (insert saBefore a (insertAll m l)) i))
 
   pub all-in : (m l : List Sa) → In b m ⊎ In b l → In b (insertAll m l)
   unfolding insertAll
   all-in [] l i = ⊎-elim (λ k. absurd (not-in-none b k)) (λ k. k) i
   all-in (a ∷ m) l i =
-      member-in b (insert before a (insertAll m l))
-      (member-inserted before a b (insertAll m l)
+      member-in b (insert saBefore a (insertAll m l))
+      (member-inserted saBefore a b (insertAll m l)
       (⊎-elim (λ k. ⊎-elim inl (λ j. inr (in-member b (insertAll m l) (all-in m l (inl j)))) (in-cases b a m k))
       (λ k. inr (in-member b (insertAll m l) (all-in m l (inr k)))) i))
 
@@ -103,12 +103,12 @@ module _ (s : State) (now : ℕ) (f : Frame) where
   pub old-stayed : (b : Sa) → In b (oldSas s now f) → Stayed s now f b
   unfolding oldSas
   old-stayed b i =
-      let r = in-map (oldSa now f) b (standing now s) i in
+      let r = in-map (oldSa now f) b (notDueSas now s) i in
       let k = in-keep (r .item) (stays now) (sasOf (s .table)) (r .stands) in
       record { old = r .item; stood = k .0; not-due = not-true (due now (r .item)) (k .1); is = r .is }
 
   pub stayed-old : (b : Sa) → Stayed s now f b → In b (oldSas s now f)
   unfolding oldSas
   stayed-old b r =
-      map-in (oldSa now f) b (standing now s) (r .old)
+      map-in (oldSa now f) b (notDueSas now s) (r .old)
       (keep-in (r .old) (stays now) (sasOf (s .table)) (r .stood) (ap not (r .not-due))) (r .is)

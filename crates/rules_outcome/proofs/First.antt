@@ -10,15 +10,15 @@ use lib.Dec.{ltb}
 use borrow.Author.Tests.{ltb-true}
 use Rattle.state_keys.proofs.Cases.{bool-cases, and-parts}
 use Rattle.rules_refusals.specs.Refusals.{Number, applies, judged}
-use Rattle.rules_outcome.specs.Answer.{Condition, First, byClauses}
+use Rattle.rules_outcome.specs.Answer.{RefusalCase, First, byClauses}
 use Rattle.rules_outcome.specs.Judging.{SomeHolds, JudgedFirst, above}
 
-next-above : (k : ℕ) (c : Condition) (l : List Condition) → above k (c ∷ l) ≡ true → (k < c .number) × (above (c .number) l ≡ true)
+next-above : (k : ℕ) (c : RefusalCase) (l : List RefusalCase) → above k (c ∷ l) ≡ true → (k < c .number) × (above (c .number) l ≡ true)
 next-above k c l a =
     let p = and-parts (ltb k (c .number)) (above (c .number) l) a in (ltb-true k (c .number) (p .0), p .1)
 
 -- there is one first
-pub first-one : (l : List Condition) (n m : ℕ) → First l n → First l m → n ≡ m
+pub first-one : (l : List RefusalCase) (n m : ℕ) → First l n → First l m → n ≡ m
 first-one [] n m p q = p ∙ sym q
 first-one (c ∷ l) n m (inl p) (inl q) = p .1 ∙ sym (q .1)
 first-one (c ∷ l) n m (inl p) (inr q) = absurd (q .0 (p .0))
@@ -26,37 +26,37 @@ first-one (c ∷ l) n m (inr p) (inl q) = absurd (p .0 (q .0))
 first-one (c ∷ l) n m (inr p) (inr q) = first-one l n m (p .1) (q .1)
 
 -- what holds has a number above
-pub above-holds : (k : ℕ) (l : List Condition) → above k l ≡ true → (n : ℕ) → SomeHolds l n → k < n
+pub above-holds : (k : ℕ) (l : List RefusalCase) → above k l ≡ true → (n : ℕ) → SomeHolds l n → k < n
 above-holds k (c ∷ l) a n (inl h) = let p = next-above k c l a .0 in let e = h .1 in omega arith
 above-holds k (c ∷ l) a n (inr h) =
     let p = next-above k c l a in let g = p .0 in let q = above-holds (c .number) l (p .1) n h in omega arith
 
 -- the numbers of the list are all below k
-abbrev pub below : ℕ → List Condition → Bool
+abbrev pub below : ℕ → List RefusalCase → Bool
 below k [] = true
 below k (c ∷ l) = ltb (c .number) k && below k l
 
 -- what holds has a number below
-pub below-holds : (k : ℕ) (l : List Condition) → below k l ≡ true → (n : ℕ) → SomeHolds l n → n < k
+pub below-holds : (k : ℕ) (l : List RefusalCase) → below k l ≡ true → (n : ℕ) → SomeHolds l n → n < k
 below-holds k (c ∷ l) b n (inl h) =
     let p = ltb-true (c .number) k (and-parts (ltb (c .number) k) (below k l) b .0) in let e = h .1 in omega arith
 below-holds k (c ∷ l) b n (inr h) = below-holds k l (and-parts (ltb (c .number) k) (below k l) b .1) n h
 
 -- what holds and is not below stands behind them
-pub past-holds : (k : ℕ) (l m : List Condition) → below k l ≡ true → (n : ℕ) → k ≤ n → SomeHolds (l ++ m) n → SomeHolds m n
+pub past-holds : (k : ℕ) (l m : List RefusalCase) → below k l ≡ true → (n : ℕ) → k ≤ n → SomeHolds (l ++ m) n → SomeHolds m n
 past-holds k [] m b n g h = h
 past-holds k (c ∷ l) m b n g (inl h) =
     let p = ltb-true (c .number) k (and-parts (ltb (c .number) k) (below k l) b .0) in let e = h .1 in absurd (omega arith)
 past-holds k (c ∷ l) m b n g (inr h) = past-holds k l m (and-parts (ltb (c .number) k) (below k l) b .1) n g h
 
 -- the first holds
-pub first-holds : (l : List Condition) (n : ℕ) → First l (suc n) → SomeHolds l (suc n)
+pub first-holds : (l : List RefusalCase) (n : ℕ) → First l (suc n) → SomeHolds l (suc n)
 first-holds [] n e = absurd (omega arith)
 first-holds (c ∷ l) n (inl p) = inl p
 first-holds (c ∷ l) n (inr p) = inr (first-holds l n (p .1))
 
 -- none with a lower number does
-pub first-lowest : (k : ℕ) (l : List Condition) → above k l ≡ true → (n : ℕ) → First l n → (m : ℕ) → m < n → SomeHolds l m → ⊥
+pub first-lowest : (k : ℕ) (l : List RefusalCase) → above k l ≡ true → (n : ℕ) → First l n → (m : ℕ) → m < n → SomeHolds l m → ⊥
 first-lowest k (c ∷ l) a n (inl p) m g (inl h) = let e = p .1 in let d = h .1 in absurd (omega arith)
 first-lowest k (c ∷ l) a n (inl p) m g (inr h) =
     let e = p .1 in let d = above-holds (c .number) l (next-above k c l a .1) m h in absurd (omega arith)
@@ -64,24 +64,25 @@ first-lowest k (c ∷ l) a n (inr p) m g (inl h) = p .0 (h .0)
 first-lowest k (c ∷ l) a n (inr p) m g (inr h) = first-lowest (c .number) l (next-above k c l a .1) n (p .1) m g h
 
 -- 0 says that none holds
-pub first-none : (k : ℕ) (l : List Condition) → above k l ≡ true → First l 0 → (m : ℕ) → SomeHolds l m → ⊥
+pub first-none : (k : ℕ) (l : List RefusalCase) → above k l ≡ true → First l 0 → (m : ℕ) → SomeHolds l m → ⊥
 first-none k (c ∷ l) a (inl p) m h = let e = p .1 in let g = next-above k c l a .0 in absurd (omega arith)
 first-none k (c ∷ l) a (inr p) m (inl h) = p .0 (h .0)
 first-none k (c ∷ l) a (inr p) m (inr h) = first-none (c .number) l (next-above k c l a .1) (p .1) m h
 
 -- and conversely
-pub first-is : (k : ℕ) (l : List Condition) → above k l ≡ true → (n : ℕ) → SomeHolds l n → ((m : ℕ) → m < n → SomeHolds l m → ⊥) → First l n
+pub first-is : (k : ℕ) (l : List RefusalCase) → above k l ≡ true → (n : ℕ) → SomeHolds l n → ((m : ℕ) → m < n → SomeHolds l m → ⊥) →
+    First l n
 first-is k (c ∷ l) a n (inl h) none = inl h
 first-is k (c ∷ l) a n (inr h) none =
     let g = above-holds (c .number) l (next-above k c l a .1) n h in
     inr (λ x. none (c .number) g (inl (x, refl)), first-is (c .number) l (next-above k c l a .1) n h (λ m e x. none m e (inr x)))
 
-pub none-first : (l : List Condition) → ((m : ℕ) → SomeHolds l m → ⊥) → First l 0
+pub none-first : (l : List RefusalCase) → ((m : ℕ) → SomeHolds l m → ⊥) → First l 0
 none-first [] none = refl
 none-first (c ∷ l) none = inr (λ x. none (c .number) (inl (x, refl)), none-first l (λ m x. none m (inr x)))
 
 -- ---- the same by the order of judging, whatever the numbers: it holds, and none judged earlier does
-pub first-at : (l : List Condition) (n : ℕ) → First l (suc n) → JudgedFirst l (suc n)
+pub first-at : (l : List RefusalCase) (n : ℕ) → First l (suc n) → JudgedFirst l (suc n)
 first-at [] n e = absurd (omega arith)
 first-at (c ∷ l) n (inl p) =
     record { earlier = []; it = c; later = l; all = refl; number = p .1; holds = p .0; none = λ m h. h }
@@ -91,24 +92,24 @@ first-at (c ∷ l) n (inr p) =
       earlier = c ∷ r .earlier;
       it = r .it;
       later = r .later;
-      all = ap (λ (x : List Condition). c ∷ x) (r .all);
+      all = ap (λ (x : List RefusalCase). c ∷ x) (r .all);
       number = r .number;
       holds = r .holds;
       none = λ m h. ⊎-elim (λ q. p .0 (q .0)) (r .none m) h;
     }
 
-after-earlier : (l : List Condition) (c : Condition) (m : List Condition) → c .holds → ((k : ℕ) → SomeHolds l k → ⊥) →
+after-earlier : (l : List RefusalCase) (c : RefusalCase) (m : List RefusalCase) → c .holds → ((k : ℕ) → SomeHolds l k → ⊥) →
     First (l ++ (c ∷ m)) (c .number)
 after-earlier [] c m h none = inl (h, refl)
 after-earlier (d ∷ l) c m h none = inr (λ x. none (d .number) (inl (x, refl)), after-earlier l c m h (λ k x. none k (inr x)))
 
-pub at-first : (l : List Condition) (n : ℕ) → JudgedFirst l n → First l n
+pub at-first : (l : List RefusalCase) (n : ℕ) → JudgedFirst l n → First l n
 at-first l n r =
     let p = after-earlier (r .earlier) (r .it) (r .later) (r .holds) (r .none) in
-    subst (λ (x : List Condition). First x n) (sym (r .all)) (subst (First (r .earlier ++ (r .it ∷ r .later))) (sym (r .number)) p)
+    subst (λ (x : List RefusalCase). First x n) (sym (r .all)) (subst (First (r .earlier ++ (r .it ∷ r .later))) (sym (r .number)) p)
 
 -- ---- numbers by clauses, and conditions behind them
-module _ (rest : List Condition) where
+module _ (rest : List RefusalCase) where
   pub by-clauses : (l : List Number) (n : ℕ) → judged l ≡ suc n → First (map byClauses l ++ rest) (suc n)
   unfolding judged
   by-clauses [] n e = absurd (omega arith)

@@ -4,18 +4,18 @@ use Prim.Native.Nat.{ℕ}
 use mathlib.Core.Path.{_≡_, refl, sym, _∙_, subst}
 use mathlib.Core.Logic.{_⊎_, inl, inr}
 use mathlib.Core.List.{List, [], _∷_}
-use Rattle.rules_outcome.specs.Answer.{Condition, First}
+use Rattle.rules_outcome.specs.Answer.{RefusalCase, First}
 
-pub record Follows (k : ℕ) (c d : Condition) : Type 1 where
+pub record Follows (k : ℕ) (c d : RefusalCase) : Type 1 where
   pub number : c .number ≡ d .number
   pub holds : (c .number ≡ k → ⊥) → c .holds → d .holds
   pub fails : (c .holds → ⊥) → d .holds → ⊥
 
-pub data Follow (k : ℕ) : List Condition → List Condition → Type 1 where
+pub data Follow (k : ℕ) : List RefusalCase → List RefusalCase → Type 1 where
   none : Follow k [] []
-  more : {c d : Condition} {l m : List Condition} → Follows k c d → Follow k l m → Follow k (c ∷ l) (d ∷ m)
+  more : {c d : RefusalCase} {l m : List RefusalCase} → Follows k c d → Follow k l m → Follow k (c ∷ l) (d ∷ m)
 
-pub first-kept : (k : ℕ) {l m : List Condition} → Follow k l m → (n : ℕ) → (n ≡ k → ⊥) → First l n → First m n
+pub first-kept : (k : ℕ) {l m : List RefusalCase} → Follow k l m → (n : ℕ) → (n ≡ k → ⊥) → First l n → First m n
 first-kept k none n q h = h
 first-kept k (more x r) n q (inl h) = inl (x .holds (λ e. q (h .1 ∙ e)) (h .0), h .1 ∙ x .number)
 first-kept k (more x r) n q (inr h) = inr (x .fails (h .0), first-kept k r n q (h .1))

@@ -17,7 +17,7 @@ use Rattle.state.specs.declared.held.Held.{Held}
 use Rattle.state.specs.Held.{keysOf, idBefore}
 use Rattle.state.proofs.Kept.{keys-of-held}
 use Rattle.rules_chains.specs.Chain.{In, Root, Reached}
-use Rattle.rules_chains.specs.Refusals.{EntriesEight, Value}
+use Rattle.rules_chains.specs.Refusals.{EntriesConflict, Value}
 use Rattle.rules_chains.specs.Refusals as refusals
 use Rattle.rules_chains.proofs.Determined.{one-value}
 use Rattle.rules_outcome.specs.After.{HeldAre, HeldBy}
@@ -37,7 +37,7 @@ rekey-leaves true Set Kept e h = absurd (false≢true (sym e))
 rekey-leaves false Set Kept e h = h
 
 module _ (roots : List Root) (entries : List WrapKey) (size : ℕ) where
-  module _ (none : EntriesEight roots entries size → ⊥) where
+  module _ (none : EntriesConflict roots entries size → ⊥) where
     every-value : (i : ℕ) (x : List ℕ) → Reached roots entries size i x → Value roots entries size i x
     every-value i x r = record { reached = r; every = λ y q. one-value roots entries size none i y x q r }
 

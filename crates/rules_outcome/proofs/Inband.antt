@@ -25,9 +25,9 @@ use Rattle.state.specs.declared.held.Held.{Held}
 use Rattle.state.specs.declared.least.Least.{Least}
 use Rattle.state.specs.Held.{heldFormed}
 use Rattle.state.specs.State.{stateFormed}
-use Rattle.rules_refusals.specs.Number2.{breaksWanted, nonEmptyMember, two-ofFrame, two-ofMember}
+use Rattle.rules_refusals.specs.Number2.{breaksWanted, nonEmptyMember, number2OfFrame, number2OfMember}
 use Rattle.rules_refusals.specs.Number3.{notAcceptable}
-use Rattle.rules_refusals.specs.Refusals.{one, applies, two, three, four, five, six, seven}
+use Rattle.rules_refusals.specs.Refusals.{one, applies, number2, number3, number4, number5, number6, number7}
 use Rattle.rules_refusals.proofs.Clear.{or-none, no-clause}
 use Rattle.rules_outcome.specs.Answer.{byClauses, conditions}
 use Rattle.rules_outcome.specs.After.{newRekey}
@@ -57,14 +57,14 @@ met-2 limits s now lent octets f e m (suc n) next o =
 
 -- a member value with every SA due is empty, or breaks its list
 empty-applies : (limits : Limits) (s : State) (now : ℕ) (f : Frame) → Inband f → all (due now) (sasOf (s .table)) ≡ true →
-    applies (two limits s now (f .header .exchange) (f .header .spi)) ≡ true
+    applies (number2 limits s now (f .header .exchange) (f .header .spi)) ≡ true
 unfolding nonEmptyMember emptyAt stateFormed
 empty-applies limits s now f b a =
     let x = f .header .exchange in
-    let clauses = two-ofMember limits s now x (f .header .spi) in
-    bool-cases (applies (two limits s now x (f .header .spi))) (λ h. h)
+    let clauses = number2OfMember limits s now x (f .header .spi) in
+    bool-cases (applies (number2 limits s now x (f .header .spi))) (λ h. h)
     (λ h.
-    let none = or-none (one (two-ofFrame x)) (one clauses) h .1 in
+    let none = or-none (one (number2OfFrame x)) (one clauses) h .1 in
     let formed = not-false (stateFormed limits s) (no-clause clauses 2 none) in
     let table-is = and-parts (tableFormed limits (s .table)) (heldFormed limits (s .held)) formed .0 in
     let few = le-leb (s .table .count) (limits .sas) (formed-count limits (s .table) table-is) in
@@ -74,7 +74,7 @@ empty-applies limits s now f b a =
     absurd (false≢true (sym wanted ∙ empty)))
 
 -- ---- number 3
-no-3 : (s : State) (f : Frame) → Inband f → applies (three s (f .header .exchange) (f .header .messageId)) ≡ false
+no-3 : (s : State) (f : Frame) → Inband f → applies (number3 s (f .header .exchange) (f .header .messageId)) ≡ false
 unfolding notAcceptable one
 no-3 s f b = rw (inband-row f b)
 
@@ -83,7 +83,7 @@ module _ (limits : Limits) (s : State) (now : ℕ) (lent octets : List ℕ) (f :
   holds-3 (inl h) = let y = h .1 in omega arith
   holds-3 (inr (inl h)) = false≢true (sym (no-3 s f b) ∙ h .0)
   holds-3 (inr (inr h)) =
-      let later = map byClauses (four f ∷ five lent f ∷ six s now f ∷ seven limits s now f ∷ []) ++ lasts limits s now lent f in
+      let later = map byClauses (number4 f ∷ number5 lent f ∷ number6 s now f ∷ number7 limits s now f ∷ []) ++ lasts limits s now lent f in
       let y = above-holds 3 later refl 3 h in
       omega arith
 

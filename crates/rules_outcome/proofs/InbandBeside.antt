@@ -16,21 +16,21 @@ use Rattle.state_table.specs.Table.{emptyAt, tableOf}
 use Rattle.state.specs.declared.State.{State}
 use Rattle.state.specs.State.{stateFormed}
 use Rattle.rules_refusals.specs.Contents.{announced, wrapKeysOf}
-use Rattle.rules_refusals.specs.Number2.{nonEmptyMember, otherSpis, two-ofFrame}
+use Rattle.rules_refusals.specs.Number2.{nonEmptyMember, otherSpis, number2OfFrame}
 use Rattle.rules_refusals.specs.Number3.{notAcceptable}
 use Rattle.rules_refusals.specs.Number4.{criticalUnknown, barredMemberBag, barredDelete, twoGsa, twoKd, gsaWithoutKd, kdWithoutGsa, neither}
 use Rattle.rules_refusals.specs.Number4.{severalRekeyPolicies, severalGroupWide, severalMemberBags, gsaWithoutSaPolicy, keyLengthTwice}
-use Rattle.rules_refusals.specs.Number4.{initialMessageIdTwice, delayTwice, otherDestination, lifetimeTwice, four-ofFrame}
-use Rattle.rules_refusals.specs.Number5.{ahPolicy, ahBag, otherTransforms, deleteOfOther, deleteOfNone, lentKeySize, five-ofFrame}
+use Rattle.rules_refusals.specs.Number4.{initialMessageIdTwice, delayTwice, otherDestination, lifetimeTwice, number4OfFrame}
+use Rattle.rules_refusals.specs.Number5.{ahPolicy, ahBag, otherTransforms, deleteOfOther, deleteOfNone, lentKeySize, number5OfFrame}
 use Rattle.rules_refusals.specs.Number6.{policyUnpaired, bagUnpaired, policyTwice, bagTwice, saKeyCount, saKeyId, espKwkId, wrapKeyId}
-use Rattle.rules_refusals.specs.Number6.{wrapsItself, alreadyInTable, six-ofFrame, six-ofMember}
+use Rattle.rules_refusals.specs.Number6.{wrapsItself, alreadyInTable, number6OfFrame, number6OfMember}
 use Rattle.rules_refusals.specs.Number7.{manyEspPolicies, manyWrapKeys, manySaKeys, manyDeletedSpis, longLifetime, manySas}
-use Rattle.rules_refusals.specs.Number7.{seven-ofFrame, seven-ofMember}
-use Rattle.rules_refusals.specs.Refusals.{two, three, four, five}
+use Rattle.rules_refusals.specs.Number7.{number7OfFrame, number7OfMember}
+use Rattle.rules_refusals.specs.Refusals.{number2, number3, number4, number5}
 use Rattle.rules_chains.specs.Chain.{Root}
-use Rattle.rules_chains.specs.Refusals.{Announced, KeyOf, Eight, Nine}
-use Rattle.rules_outcome.specs.Roots.{rootsOf, keyZero, wrappingSize, copiesOf, announcedAs, announcedKeys}
-use Rattle.rules_outcome.specs.Answer.{Condition, First, byClauses, conditions, Answers}
+use Rattle.rules_chains.specs.Refusals.{Announced, KeyOf, KeyConflict, KeyMissing}
+use Rattle.rules_outcome.specs.Roots.{rootsOf, keyZeroValue, wrappingSize, copiesOf, announcedAs, announcedKeys}
+use Rattle.rules_outcome.specs.Answer.{RefusalCase, First, byClauses, conditions, FrameAnswers}
 use Rattle.rules_outcome.specs.After.{delayOf, newRekey, namedInDelete, replaced, oldSas, insertAll, Enter, no-sa, one-more}
 use Rattle.rules_outcome.specs.After.{initialMessageId, leastAfterwards, After}
 use Rattle.rules_outcome.specs.Outcome.{Judged, refused, accepted, Outcome, no-layout, by-tree}
@@ -49,14 +49,14 @@ module _ (limits : Limits) (s t : State) (now : ℕ) (lent : List ℕ) (x y : Li
   abbrev g : Frame
   g = framed y j p
 
-  same-4 : four f ≡ four g
-  unfolding four-ofFrame criticalUnknown barredMemberBag barredDelete twoGsa twoKd gsaWithoutKd kdWithoutGsa neither severalRekeyPolicies
+  same-4 : number4 f ≡ number4 g
+  unfolding number4OfFrame criticalUnknown barredMemberBag barredDelete twoGsa twoKd gsaWithoutKd kdWithoutGsa neither severalRekeyPolicies
       severalGroupWide severalMemberBags gsaWithoutSaPolicy keyLengthTwice initialMessageIdTwice delayTwice otherDestination
       lifetimeTwice
   same-4 = refl
 
-  same-5 : five lent f ≡ five lent g
-  unfolding five-ofFrame ahPolicy ahBag otherTransforms deleteOfOther deleteOfNone lentKeySize
+  same-5 : number5 lent f ≡ number5 lent g
+  unfolding number5OfFrame ahPolicy ahBag otherTransforms deleteOfOther deleteOfNone lentKeySize
   same-5 = refl
 
   same-copies : (a : GroupSaPolicy) → announcedAs f a ≡ announcedAs g a
@@ -68,41 +68,41 @@ module _ (limits : Limits) (s t : State) (now : ℕ) (lent : List ℕ) (x y : Li
   same-announced = refl
 
   lent-root : (u : State) → (rootsOf limits u now lent f ≡ lentRoot lent) × (rootsOf limits u now lent g ≡ lentRoot lent)
-  unfolding rootsOf keyZero
+  unfolding rootsOf keyZeroValue
   lent-root u = (refl, refl)
 
   module _ (same-table : s .table ≡ t .table) (same-formed : stateFormed limits s ≡ stateFormed limits t) where
-    same-2 : two limits s now 42 x ≡ two limits t now 42 y
+    same-2 : number2 limits s now 42 x ≡ number2 limits t now 42 y
     unfolding nonEmptyMember otherSpis
     same-2 = λ k.
-        record { number = 2; ofFrame = two-ofFrame 42; ofMember = emptyAt limits now (same-table k) ∷ false ∷ not (same-formed k) ∷ [] }
+        record { number = 2; ofFrame = number2OfFrame 42; ofMember = emptyAt limits now (same-table k) ∷ false ∷ not (same-formed k) ∷ [] }
 
-    same-3 : three s 42 i ≡ three t 42 j
+    same-3 : number3 s 42 i ≡ number3 t 42 j
     unfolding notAcceptable
     same-3 = refl
 
     -- the number's clauses on the frame, and those on the table
-    same-6-frame : six-ofFrame f ≡ six-ofFrame g
-    unfolding six-ofFrame policyUnpaired bagUnpaired policyTwice bagTwice saKeyCount saKeyId espKwkId wrapKeyId wrapsItself
+    same-6-frame : number6OfFrame f ≡ number6OfFrame g
+    unfolding number6OfFrame policyUnpaired bagUnpaired policyTwice bagTwice saKeyCount saKeyId espKwkId wrapKeyId wrapsItself
     same-6-frame = refl
 
-    same-6-member : six-ofMember s now f ≡ six-ofMember t now g
-    unfolding six-ofMember alreadyInTable
+    same-6-member : number6OfMember s now f ≡ number6OfMember t now g
+    unfolding number6OfMember alreadyInTable
     same-6-member = rw same-table
 
-    same-7-frame : seven-ofFrame limits f ≡ seven-ofFrame limits g
-    unfolding seven-ofFrame manyEspPolicies manyWrapKeys manySaKeys manyDeletedSpis longLifetime
+    same-7-frame : number7OfFrame limits f ≡ number7OfFrame limits g
+    unfolding number7OfFrame manyEspPolicies manyWrapKeys manySaKeys manyDeletedSpis longLifetime
     same-7-frame = refl
 
-    same-7-member : seven-ofMember limits s now f ≡ seven-ofMember limits t now g
-    unfolding seven-ofMember manySas
+    same-7-member : number7OfMember limits s now f ≡ number7OfMember limits t now g
+    unfolding number7OfMember manySas
     same-7-member = rw same-table
 
     same-roots : rootsOf limits s now lent f ≡ rootsOf limits t now lent g
     same-roots = lent-root s .0 ∙ sym (lent-root t .1)
 
     same-size : wrappingSize limits s now lent f ≡ wrappingSize limits t now lent g
-    unfolding wrappingSize keyZero
+    unfolding wrappingSize keyZeroValue
     same-size = refl
 
     same-conditions : conditions limits s now lent f ≡ conditions limits t now lent g
@@ -110,11 +110,11 @@ module _ (limits : Limits) (s t : State) (now : ℕ) (lent : List ℕ) (x y : Li
         map byClauses
         (same-2 k ∷ same-3 k ∷ same-4 k ∷ same-5 k ∷ record { number = 6; ofFrame = same-6-frame k; ofMember = same-6-member k } ∷
         record { number = 7; ofFrame = same-7-frame k; ofMember = same-7-member k } ∷ [])
-        ++ (record { number = 8; holds = Eight (same-roots k) (wrapKeysOf f) (same-size k) (same-announced k) } ∷
-        record { number = 9; holds = Nine (same-roots k) (wrapKeysOf f) (same-size k) (same-announced k) } ∷ [])
+        ++ (record { number = 8; holds = KeyConflict (same-roots k) (wrapKeysOf f) (same-size k) (same-announced k) } ∷
+        record { number = 9; holds = KeyMissing (same-roots k) (wrapKeysOf f) (same-size k) (same-announced k) } ∷ [])
 
-    same-answer : (n : ℕ) → Answers limits s now lent f n → Answers limits t now lent g n
-    same-answer n a = subst (λ (l : List Condition). First l n) same-conditions a
+    same-answer : (n : ℕ) → FrameAnswers limits s now lent f n → FrameAnswers limits t now lent g n
+    same-answer n a = subst (λ (l : List RefusalCase). First l n) same-conditions a
 
     same-old : oldSas s now f ≡ oldSas t now g
     unfolding oldSas delayOf namedInDelete replaced

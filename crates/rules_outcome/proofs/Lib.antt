@@ -12,7 +12,7 @@ pub mod NotRead
 pub mod NamedKey
 pub mod Demands
 pub mod EachAnswered
-pub mod EightSays
+pub mod KeyConflictSays
 pub mod Following
 pub mod Wider
 pub mod Determined

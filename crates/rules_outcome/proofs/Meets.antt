@@ -11,8 +11,8 @@ use Rattle.wire_frames.specs.Frame.{Frame}
 use Rattle.wire_frames.specs.Grammar.{IsFrame}
 use Rattle.wire_frames.proofs.FrameGrammar.{one-tree}
 use Rattle.state.specs.declared.State.{State}
-use Rattle.rules_refusals.specs.Refusals.{applies, two, four, six, numbers}
-use Rattle.rules_outcome.specs.Answer.{Condition, First, byClauses, EightOf, NineOf, conditions}
+use Rattle.rules_refusals.specs.Refusals.{applies, number2, number4, number6, numbers}
+use Rattle.rules_outcome.specs.Answer.{RefusalCase, First, byClauses, KeyConflictOf, KeyMissingOf, conditions}
 use Rattle.rules_outcome.specs.After.{After}
 use Rattle.rules_outcome.specs.Judging.{SomeHolds, JudgedFirst, above}
 use Rattle.rules_outcome.specs.Meets.{RefusalRow, refusalRows, OfTree, ofTree, judgingOrder, Meets, Refused, Accepted}
@@ -23,7 +23,7 @@ use Rattle.rules_outcome.proofs.Readings.{tree-of}
 use Rattle.rules_outcome.proofs.Answering.{numbers-rise, lasts}
 
 -- ---- rows on a tree and on the octets that it is laid out as
-abbrev onFrame : Frame → RefusalRow → Condition
+abbrev onFrame : Frame → RefusalRow → RefusalCase
 onFrame f r = record { number = r .number; holds = r .meets f }
 
 module _ (octets : List ℕ) where
@@ -59,7 +59,7 @@ module _ (limits : Limits) (s : State) (now : ℕ) (lent octets : List ℕ) wher
   abbrev Met : ℕ → Type 0
   Met n = Meets limits s now lent octets n
 
-  abbrev order : List Condition
+  abbrev order : List RefusalCase
   order = judgingOrder limits s now lent octets
 
   abbrev table : List RefusalRow
@@ -85,34 +85,34 @@ module _ (limits : Limits) (s : State) (now : ℕ) (lent octets : List ℕ) wher
     pub meets-holds : (n : ℕ) → Met n → SomeHolds (conditions limits s now lent f) n
     meets-holds n x = by-row n (x .row)
 
-    pub meets-2 : applies (two limits s now (f .header .exchange) (f .header .spi)) ≡ true → Met 2
+    pub meets-2 : applies (number2 limits s now (f .header .exchange) (f .header .spi)) ≡ true → Met 2
     meets-2 h = holds-meets 2 (inl (h, refl))
 
-    pub meets-4 : applies (four f) ≡ true → Met 4
+    pub meets-4 : applies (number4 f) ≡ true → Met 4
     meets-4 h = holds-meets 4 (inr (inr (inl (h, refl))))
 
-    pub meets-6 : applies (six s now f) ≡ true → Met 6
+    pub meets-6 : applies (number6 s now f) ≡ true → Met 6
     meets-6 h = holds-meets 6 (inr (inr (inr (inr (inl (h, refl))))))
 
-    pub meets-8 : EightOf limits s now lent f → Met 8
+    pub meets-8 : KeyConflictOf limits s now lent f → Met 8
     meets-8 h = holds-meets 8 (inr (inr (inr (inr (inr (inr (inl (h, refl))))))))
 
     -- 8 and 9 are met by what stands behind the clauses
     behind : (n : ℕ) → 8 ≤ n → Met n → SomeHolds (lasts limits s now lent f) n
     behind n g x = past-holds 8 (map byClauses (numbers limits s now lent f)) (lasts limits s now lent f) refl n g (meets-holds n x)
 
-    eight-of : SomeHolds (lasts limits s now lent f) 8 → EightOf limits s now lent f
+    eight-of : SomeHolds (lasts limits s now lent f) 8 → KeyConflictOf limits s now lent f
     eight-of (inl h) = h .0
     eight-of (inr (inl h)) = let q = h .1 in absurd (omega arith)
 
-    nine-of : SomeHolds (lasts limits s now lent f) 9 → NineOf limits s now lent f
+    nine-of : SomeHolds (lasts limits s now lent f) 9 → KeyMissingOf limits s now lent f
     nine-of (inl h) = let q = h .1 in absurd (omega arith)
     nine-of (inr (inl h)) = h .0
 
-    pub eight-met : Met 8 → EightOf limits s now lent f
+    pub eight-met : Met 8 → KeyConflictOf limits s now lent f
     eight-met x = eight-of (behind 8 (omega arith) x)
 
-    pub nine-met : Met 9 → NineOf limits s now lent f
+    pub nine-met : Met 9 → KeyMissingOf limits s now lent f
     nine-met x = nine-of (behind 9 (omega arith) x)
 
     -- no number that is met is below 2

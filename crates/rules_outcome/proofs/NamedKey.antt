@@ -13,9 +13,9 @@ use Rattle.state.specs.declared.State.{State}
 use Rattle.state.specs.declared.held.HeldKey.{HeldKey}
 use Rattle.state.specs.Held.{keysOf}
 use Rattle.rules_refusals.specs.Contents.{rowOf, wrapKeysOf}
-use Rattle.rules_chains.specs.Chain.{In, Root, root, Reached, Ends}
+use Rattle.rules_chains.specs.Chain.{In, Root, root, Reached, ChainEnds}
 use Rattle.rules_chains.proofs.Determined.{ends-by, last-entry}
-use Rattle.rules_outcome.specs.Roots.{ownKey, keyZero, heldRoot, rootsOf, entriesOf, wrappingSize}
+use Rattle.rules_outcome.specs.Roots.{ownKey, keyZeroValue, heldRoot, rootsOf, entriesOf, wrappingSize}
 use Rattle.rules_outcome.specs.NamedKey.{Registration, Inband, Rekey, lentRoot, Given, OpensUnder, OpensTo}
 use Rattle.rules_outcome.specs.NamedKey.{Named, lent-key, lent-in-band, own-key, last-of-chain, held-key}
 use Rattle.rules_outcome.proofs.Rows.{names-held, registration-row, rekeys, inband-row, lent-roots, lent-size}
@@ -45,18 +45,18 @@ module _ (limits : Limits) (s : State) (now : ℕ) (lent : List ℕ) (f : Frame)
   held = map heldRoot (keysOf (s .held))
 
   abbrev zero-root : Root
-  zero-root = record { id = 0; value = keyZero limits s now lent f }
+  zero-root = record { id = 0; value = keyZeroValue limits s now lent f }
 
-  zero-lent : Registration f → keyZero limits s now lent f ≡ lent
-  unfolding keyZero
+  zero-lent : Registration f → keyZeroValue limits s now lent f ≡ lent
+  unfolding keyZeroValue
   zero-lent g = rw (registration-row f g)
 
-  zero-in-band : Inband f → keyZero limits s now lent f ≡ lent
-  unfolding keyZero
+  zero-in-band : Inband f → keyZeroValue limits s now lent f ≡ lent
+  unfolding keyZeroValue
   zero-in-band g = rw (inband-row f g)
 
-  pub zero-own : f .header .exchange ≡ 41 → keyZero limits s now lent f ≡ ownKey limits s now
-  unfolding keyZero
+  pub zero-own : f .header .exchange ≡ 41 → keyZeroValue limits s now lent f ≡ ownKey limits s now
+  unfolding keyZeroValue
   zero-own x = rw (rekeys (f .header .exchange) x)
 
   zero-in : In zero-root roots
@@ -69,10 +69,10 @@ module _ (limits : Limits) (s : State) (now : ℕ) (lent : List ℕ) (f : Frame)
       in-tail (heldRoot h) zero-root (cond (rowOf f .«names_held_keys») held [])
       (cond-in (heldRoot h) (rowOf f .«names_held_keys») held e (map-in heldRoot (heldRoot h) (keysOf (s .held)) h m refl))
 
-  at-root : (r : Root) → In r roots → (k : ℕ) (v : List ℕ) → k ≡ r .id → v ≡ r .value → Ends roots (entriesOf f) size k v
+  at-root : (r : Root) → In r roots → (k : ℕ) (v : List ℕ) → k ≡ r .id → v ≡ r .value → ChainEnds roots (entriesOf f) size k v
   at-root r m k v e d =
-      subst (λ (n : ℕ). Ends roots (entriesOf f) size n v) (sym e)
-      (subst (λ (x : List ℕ). Ends roots (entriesOf f) size (r .id) x) (sym d) (record { passed = []; chain = root r m }))
+      subst (λ (n : ℕ). ChainEnds roots (entriesOf f) size n v) (sym e)
+      (subst (λ (x : List ℕ). ChainEnds roots (entriesOf f) size (r .id) x) (sym d) (record { passed = []; chain = root r m }))
 
   -- in a registration chains start with the lent key alone
   pub from-lent : Registration f → (k : ℕ) (v : List ℕ) → Given lent f k v →
@@ -89,7 +89,7 @@ module _ (limits : Limits) (s : State) (now : ℕ) (lent : List ℕ) (f : Frame)
       subst (λ (l : List Root). Reached l (entriesOf f) (length lent) k v) (lent-roots limits s now f row lent)
       (subst (λ (n : ℕ). Reached roots (entriesOf f) n k v) (lent-size limits s now f row lent) r)
 
-  pub named-ends : (k : ℕ) (v : List ℕ) → Names k v → Ends roots (entriesOf f) size k v
+  pub named-ends : (k : ℕ) (v : List ℕ) → Names k v → ChainEnds roots (entriesOf f) size k v
   named-ends k v (lent-key g e d) = at-root zero-root zero-in k v e (d ∙ sym (zero-lent g))
   named-ends k v (lent-in-band x e d) = at-root zero-root zero-in k v e (d ∙ sym (zero-in-band x))
   named-ends k v (own-key x e d) = at-root zero-root zero-in k v e (d ∙ sym (zero-own x))
@@ -110,7 +110,7 @@ module _ (limits : Limits) (s : State) (now : ℕ) (lent : List ℕ) (f : Frame)
   -- numbers 2 and 4 let pass registrations, and rekeys with no WRAP_KEY: of these nothing else opens a copy
   module _ (fit : Registration f ⊎ (Rekey f × (wrapKeysOf f ≡ []))) where
     -- the roots by their meaning
-    zero-named : (k : ℕ) (v : List ℕ) → k ≡ 0 → v ≡ keyZero limits s now lent f → Names k v
+    zero-named : (k : ℕ) (v : List ℕ) → k ≡ 0 → v ≡ keyZeroValue limits s now lent f → Names k v
     zero-named k v e d =
         ⊎-elim (λ g. lent-key g e (d ∙ zero-lent g))
         (λ q. ⊎-elim (λ x. own-key x e (d ∙ zero-own x)) (λ x. lent-in-band x e (d ∙ zero-in-band x)) (q .0)) fit
@@ -132,7 +132,7 @@ module _ (limits : Limits) (s : State) (now : ℕ) (lent : List ℕ) (f : Frame)
         ⊎-elim (λ g. last-of-chain g (to-lent g k v r))
         (λ q. absurd (not-in-none (r .last) (subst (In (r .last)) (q .1) (last-entry roots (entriesOf f) size k v r .0)))) fit
 
-    pub ends-named : (k : ℕ) (v : List ℕ) → Ends roots (entriesOf f) size k v → Names k v
+    pub ends-named : (k : ℕ) (v : List ℕ) → ChainEnds roots (entriesOf f) size k v → Names k v
     ends-named k v n =
         ⊎-elim
         (λ a. subst (λ (i : ℕ). Names i v) (a .id-is) (subst (Names (a .key .id)) (a .value-is) (root-named (a .key) (a .stands))))

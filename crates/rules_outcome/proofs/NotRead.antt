@@ -8,10 +8,10 @@ use Rattle.wire_frames.specs.Grammar.{IsFrame}
 use Rattle.wire_frames.specs.Exchange.{rekey}
 use Rattle.state.specs.declared.State.{State}
 use Rattle.rules_refusals.specs.Contents.{rowOf, announced}
-use Rattle.rules_refusals.specs.Number5.{five-ofFrame}
+use Rattle.rules_refusals.specs.Number5.{number5OfFrame}
 use Rattle.rules_chains.specs.Chain.{Root}
 use Rattle.rules_outcome.specs.Roots.{rootsOf, entriesOf, wrappingSize}
-use Rattle.rules_outcome.specs.Answer.{Condition, First, conditions, Answers}
+use Rattle.rules_outcome.specs.Answer.{RefusalCase, First, conditions, FrameAnswers}
 use Rattle.rules_outcome.specs.After.{Enter, HeldAre, HeldBy, After}
 use Rattle.rules_outcome.specs.Outcome.{Judged, refused, accepted, Outcome, no-layout, by-tree}
 use Rattle.rules_outcome.proofs.Rows.{own-roots, own-size, not-judged}
@@ -24,15 +24,15 @@ module _ (limits : Limits) (s : State) (now : ℕ) (lent other : List ℕ) where
     same-size : wrappingSize limits s now lent f ≡ wrappingSize limits s now other f
     same-size = own-size limits s now f e lent ∙ sym (own-size limits s now f e other)
 
-    same-five : five-ofFrame lent f ≡ five-ofFrame other f
-    unfolding five-ofFrame
+    same-five : number5OfFrame lent f ≡ number5OfFrame other f
+    unfolding number5OfFrame
     same-five = rw (not-judged limits s now f e lent, not-judged limits s now f e other)
 
     same-conditions : conditions limits s now lent f ≡ conditions limits s now other f
     same-conditions = rw (same-five, same-roots, same-size)
 
-    same-answer : (n : ℕ) → Answers limits s now lent f n → Answers limits s now other f n
-    same-answer n p = subst (λ (l : List Condition). First l n) same-conditions p
+    same-answer : (n : ℕ) → FrameAnswers limits s now lent f n → FrameAnswers limits s now other f n
+    same-answer n p = subst (λ (l : List RefusalCase). First l n) same-conditions p
 
     -- what holds of one's roots and size holds of the other's
     carried : (P : List Root → ℕ → Type 0) → P (rootsOf limits s now lent f) (wrappingSize limits s now lent f) →

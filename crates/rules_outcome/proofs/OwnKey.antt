@@ -15,10 +15,10 @@ use Rattle.state_keys.specs.Kinds.{valueOf, wrappingKey, rekeySizes, keyWrapPar
 use Rattle.state_keys.proofs.Cases.{and-parts}
 use Rattle.state_keys.proofs.Members.{member-kept}
 use Rattle.state_keys.proofs.Sizes.{rekey-parts, rekey-le}
-use Rattle.state_sa.specs.Entry.{esp, rekey, isLive, sized, fitLifetime, formed, liveRekey, due}
+use Rattle.state_sa.specs.Entry.{espProtocol, rekeyProtocol, isLive, saSized, fitLifetime, saFormed, liveRekey, due}
 use Rattle.state_sa.specs.declared.entry.Sa.{Sa}
-use Rattle.state_table.specs.declared.Found.{Found}
-use Rattle.state_table.specs.Table.{sasOf, tableFormed, swept, stays, foundRekey, keyOf, defaultKey}
+use Rattle.state_table.specs.declared.SaFound.{SaFound}
+use Rattle.state_table.specs.Table.{sasOf, tableFormed, swept, stays, foundRekey, keyOfFound, defaultKey}
 use Rattle.state_table.proofs.Kept.{formed-fit, swept-formed}
 use Rattle.state_table.proofs.Finds.{rekey-found}
 use Rattle.state.specs.declared.State.{State}
@@ -46,13 +46,14 @@ module _ (limits : Limits) (s : State) (now : ℕ) (is-formed : stateFormed limi
   the-live = rekey-found limits (swept limits now (s .table)) (swept-formed limits now (s .table) table-is) b stands live
 
   sizes : rekeySizes (b .encryption) (b .wrapping) ≡ true
-  unfolding sized formed liveRekey
+  unfolding saSized saFormed liveRekey
   sizes =
-      let e = all-pass formed (sasOf (s .table)) (formed-fit limits (s .table) table-is .each) b (in-member b (sasOf (s .table)) m) in
-      let k = and-parts (sized b) (fitLifetime (b .lifetime)) e .0 in
-      let p = eqb-true (b .protocol) rekey (and-parts (eqb (b .protocol) rekey) (isLive (b .condition)) live .0) in
-      let n : eqb (b .protocol) esp ≡ false = ap (λ (k : ℕ). eqb k esp) p in
-      let g = and-parts (eqb (b .protocol) rekey) (rekeySizes (b .encryption) (b .wrapping) && eqb (b .count) (b .encryption + b .wrapping))
+      let e = all-pass saFormed (sasOf (s .table)) (formed-fit limits (s .table) table-is .each) b (in-member b (sasOf (s .table)) m) in
+      let k = and-parts (saSized b) (fitLifetime (b .lifetime)) e .0 in
+      let p = eqb-true (b .protocol) rekeyProtocol (and-parts (eqb (b .protocol) rekeyProtocol) (isLive (b .condition)) live .0) in
+      let n : eqb (b .protocol) espProtocol ≡ false = ap (λ (k : ℕ). eqb k espProtocol) p in
+      let g = and-parts (eqb (b .protocol) rekeyProtocol)
+      (rekeySizes (b .encryption) (b .wrapping) && eqb (b .count) (b .encryption + b .wrapping))
       (rw n at k) in
       and-parts (rekeySizes (b .encryption) (b .wrapping)) (eqb (b .count) (b .encryption + b .wrapping)) (g .1) .0
 
@@ -68,7 +69,8 @@ module _ (limits : Limits) (s : State) (now : ℕ) (is-formed : stateFormed limi
         length-take-le (b .wrapping) (drop (b .encryption) (b .octets)) (omega (arith, h .0, h .1))
 
     pub own-key-of-live : ownKey limits s now ≡ take (b .wrapping) (drop (b .encryption) (b .octets))
-    unfolding defaultKey keyOf keyWrapPart wrappingKey
+    unfolding defaultKey keyOfFound keyWrapPart wrappingKey
     own-key-of-live =
         let fit : sizeOf 13 (length part) ≡ true = ap (sizeOf 13) part-length ∙ rekey-parts (b .encryption) (b .wrapping) sizes .1 in
-        ap (λ (f : Found). valueOf (keyOf f .key)) the-live ∙ rw (sizes, fit) (take-append-seam part (replicate (32 - length part) 0))
+        ap (λ (f : SaFound). valueOf (keyOfFound f .key)) the-live
+        ∙ rw (sizes, fit) (take-append-seam part (replicate (32 - length part) 0))

@@ -12,10 +12,10 @@ use Rattle.state_keys.proofs.Members.{kept-member}
 use Rattle.wire_frames.specs.Frame.{Frame}
 use Rattle.wire_frames.specs.Grammar.{IsFrame}
 use Rattle.wire_frames.specs.Exchange.{exchangeOf}
-use Rattle.state_sa.specs.Entry.{formed, due}
+use Rattle.state_sa.specs.Entry.{saFormed, due}
 use Rattle.state_sa.proofs.Lifetimes.{formed-lifetime}
 use Rattle.state_sa.specs.declared.entry.Sa.{Sa}
-use Rattle.state_table.specs.declared.Found.{Found}
+use Rattle.state_table.specs.declared.SaFound.{SaFound}
 use Rattle.state_table.specs.Table.{sasOf, tableFormed, swept, stays}
 use Rattle.state_table.proofs.Kept.{formed-fit}
 use Rattle.state_table.proofs.Finds.{rekey-found}
@@ -23,13 +23,13 @@ use Rattle.state.specs.declared.State.{State}
 use Rattle.state.specs.Held.{heldFormed}
 use Rattle.state.specs.State.{stateFormed, newState, sweptState}
 use Rattle.state.proofs.Laws.{swept-yes, swept-no}
-use Rattle.rules_refusals.specs.Number2.{standing, overLiveRekey, nonEmptyMember, otherSpis, brokenMember}
-use Rattle.rules_refusals.specs.Refusals.{one, two}
+use Rattle.rules_refusals.specs.Number2.{notDueSas, overLiveRekey, nonEmptyMember, otherSpis, brokenMember}
+use Rattle.rules_refusals.specs.Refusals.{one, number2}
 use Rattle.rules_chains.specs.Chain.{In}
 use Rattle.rules_chains.proofs.Members.{in-member}
 use Rattle.rules_outcome.specs.Outcome.{Outcome, by-tree, refused}
 use Rattle.rules_outcome.specs.LifetimeSays.{LifetimesFit}
-use Rattle.rules_outcome.specs.Run.{Step, Run, Throughout}
+use Rattle.rules_outcome.specs.Run.{Event, Run, Throughout}
 use Rattle.rules_outcome.proofs.RunsLists.{all-pass, passes-none}
 use Rattle.rules_outcome.proofs.Runs.{each-of, members-formed}
 use Rattle.rules_outcome.proofs.RunsOld.{swept-sas}
@@ -50,7 +50,7 @@ module _ (limits : Limits) (now : ℕ) (lent octets : List ℕ) (f : Frame) (e :
   spi = f .header .spi
 
   -- 2 is given where no live Rekey SA with these SPIs stands at the tick, and for a member value that breaks its list
-  pub none-stands : (s : State) → any (overLiveRekey spi) (standing now s) ≡ false → Outcome limits s now lent octets 2 s
+  pub none-stands : (s : State) → any (overLiveRekey spi) (notDueSas now s) ≡ false → Outcome limits s now lent octets 2 s
   unfolding one otherSpis
   none-stands s n =
       let y = f .header .exchange in
@@ -58,7 +58,7 @@ module _ (limits : Limits) (now : ℕ) (lent octets : List ℕ) (f : Frame) (e :
       by-tree f e
       (refused 1
       (inl (
-        applies-member (two limits s now y spi)
+        applies-member (number2 limits s now y spi)
             (second (nonEmptyMember limits s now y) (otherSpis s now y spi) (brokenMember limits s || false) other),
         refl,
       )))
@@ -70,7 +70,7 @@ module _ (limits : Limits) (now : ℕ) (lent octets : List ℕ) (f : Frame) (e :
       by-tree f e
       (refused 1
       (inl (
-        applies-member (two limits s now y spi)
+        applies-member (number2 limits s now y spi)
             (third (nonEmptyMember limits s now y) (otherSpis s now y spi) (brokenMember limits s) false (ap not n)),
         refl,
       )))
@@ -86,14 +86,14 @@ module _ (limits : Limits) (now : ℕ) (lent octets : List ℕ) (f : Frame) (e :
       the-one c k o =
           let first = rekey-found limits (s .table) table-is b (in-member b (sasOf (s .table)) m) (over-parts spi b over .0) in
           let second = rekey-found limits (s .table) table-is c k (over-parts spi c o .0) in
-          let same : b ≡ c = ap (λ (r : Found). r .sa) (sym first ∙ second) in
+          let same : b ≡ c = ap (λ (r : SaFound). r .sa) (sym first ∙ second) in
           subst (λ (a : Sa). due now a ≡ true) same is-due
 
       -- so none stands, in a table whose SAs are of this one
       none-left : (t : State) → ((c : Sa) → List·Memᴰ c (sasOf (t .table)) → List·Memᴰ c (sasOf (s .table))) →
-          any (overLiveRekey spi) (standing now t) ≡ false
+          any (overLiveRekey spi) (notDueSas now t) ≡ false
       none-left t of =
-          passes-none (overLiveRekey spi) (standing now t)
+          passes-none (overLiveRekey spi) (notDueSas now t)
           (λ c k.
           let p = kept-member (stays now) c (sasOf (t .table)) k in
           bool-cases (overLiveRekey spi c)
@@ -101,7 +101,7 @@ module _ (limits : Limits) (now : ℕ) (lent octets : List ℕ) (f : Frame) (e :
 
       swept-of : (c : Sa) → List·Memᴰ c (sasOf (sweptState limits now s .table)) → List·Memᴰ c (sasOf (s .table))
       swept-of c k =
-          let q : sasOf (sweptState limits now s .table) ≡ standing now s =
+          let q : sasOf (sweptState limits now s .table) ≡ notDueSas now s =
           ap (λ (t : State). sasOf (t .table)) (sym (swept-yes limits s now (swept limits now (s .table)) fit refl))
           ∙ swept-sas limits s now table-is in
           kept-member (stays now) c (sasOf (s .table)) (subst (List·Memᴰ c) q k) .0
@@ -121,8 +121,8 @@ formed-fits : (m : State) → stateFormed limits m ≡ true → LifetimesFit m
 unfolding stateFormed
 formed-fits m e a i start n q =
     let t = and-parts (tableFormed limits (m .table)) (heldFormed limits (m .held)) e .0 in
-    let f = all-pass formed (sasOf (m .table)) (formed-fit limits (m .table) t .each) a (in-member a (sasOf (m .table)) i) in
+    let f = all-pass saFormed (sasOf (m .table)) (formed-fit limits (m .table) t .each) a (in-member a (sasOf (m .table)) i) in
     formed-lifetime a f start n q
 
-pub members-lifetimes : {e : State} {l : List Step} (r : Run limits (newState limits) l e) → Throughout limits LifetimesFit r
+pub members-lifetimes : {e : State} {l : List Event} (r : Run limits (newState limits) l e) → Throughout limits LifetimesFit r
 members-lifetimes r = each-of limits (λ (m : State). stateFormed limits m ≡ true) LifetimesFit formed-fits r (members-formed r)

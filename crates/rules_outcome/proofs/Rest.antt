@@ -19,7 +19,7 @@ use Rattle.wire_frames.specs.Frame.{Frame}
 use Rattle.wire_frames.specs.Grammar.{IsFrame}
 use Rattle.wire_frames.specs.Exchange.{registration, rekey, inband}
 use Rattle.wire_frames.specs.declared.exchanges.Exchange.{Exchange}
-use Rattle.state_sa.specs.Entry.{spiOf, withCondition}
+use Rattle.state_sa.specs.Entry.{saSpi, withCondition}
 use Rattle.state_sa.specs.declared.entry.Condition.the-variants.{Retiring}
 use Rattle.state_sa.specs.declared.entry.Sa.{Sa}
 use Rattle.state_sa.proofs.Laws.{retired-live, retired-kept}
@@ -30,9 +30,9 @@ use Rattle.state.specs.declared.least.Least.the-variants.{Id, NoneAnyMore}
 use Rattle.state.proofs.Laws.{after-more, after-last}
 use Rattle.rules_refusals.specs.Contents.{rowOf, announced, groupWides, deletesOf, deletedSpis, several}
 use Rattle.rules_refusals.specs.Fitness.{isRekey, sum}
-use Rattle.rules_refusals.specs.Number2.{two-ofFrame}
-use Rattle.rules_refusals.specs.Number4.{severalRekeyPolicies, severalGroupWide, initialMessageIdTwice, delayTwice, four-ofFrame}
-use Rattle.rules_refusals.specs.Number5.{deleteOfOther, five-ofFrame}
+use Rattle.rules_refusals.specs.Number2.{number2OfFrame}
+use Rattle.rules_refusals.specs.Number4.{severalRekeyPolicies, severalGroupWide, initialMessageIdTwice, delayTwice, number4OfFrame}
+use Rattle.rules_refusals.specs.Number5.{deleteOfOther, number5OfFrame}
 use Rattle.rules_refusals.proofs.Clear.{no-clause}
 use Rattle.rules_chains.specs.Chain.{In}
 use Rattle.rules_chains.proofs.Members.{in-member, member-in}
@@ -41,7 +41,8 @@ use Rattle.rules_outcome.specs.After.{leastAfterwards}
 use Rattle.rules_outcome.specs.Outcome.{Outcome}
 use Rattle.rules_outcome.proofs.Rows.{registration-row, rekeys, inband-row, one-of-four}
 use Rattle.rules_outcome.specs.RestSays.{NewRekey, NoNewRekey, LeastAs, its-initial-id, else-0, of-registration, own-plus-1}
-use Rattle.rules_outcome.specs.RestSays.{none-any-more, as-before, DelayAs, given, none-in-it, no-group-wide, Ends, by-its-spi, by-spi-0}
+use Rattle.rules_outcome.specs.RestSays.{none-any-more, as-before, DelayAs, given, none-in-it, no-group-wide, EndsSa, by-its-spi}
+use Rattle.rules_outcome.specs.RestSays.{by-spi-0}
 use Rattle.rules_outcome.specs.RestSays.{by-new-rekey, Becomes, kept, turned, OldSa, Stayed}
 use Rattle.rules_outcome.proofs.Members.{in-head, in-cases, not-in-none}
 use Rattle.rules_outcome.specs.Demand3.{Entered}
@@ -56,35 +57,36 @@ module _ (limits : Limits) (s : State) (now : ℕ) (lent octets : List ℕ) (f :
   module _ (c : Clear limits s now lent f) where
     -- number 4 lets pass one Rekey policy, one group-wide policy, one GSA_INITIAL_MESSAGE_ID and one delay in it
     one-rekey : count isRekey (announced f) ≤ 1
-    unfolding four-ofFrame severalRekeyPolicies
-    one-rekey = ltb-false 1 (count isRekey (announced f)) (no-clause (four-ofFrame f) 8 (c .no-4 .ofFrame))
+    unfolding number4OfFrame severalRekeyPolicies
+    one-rekey = ltb-false 1 (count isRekey (announced f)) (no-clause (number4OfFrame f) 8 (c .no-4 .ofFrame))
 
     one-wide : several (groupWides f) ≡ false
-    unfolding four-ofFrame severalGroupWide
-    one-wide = no-clause (four-ofFrame f) 9 (c .no-4 .ofFrame)
+    unfolding number4OfFrame severalGroupWide
+    one-wide = no-clause (number4OfFrame f) 9 (c .no-4 .ofFrame)
 
     one-initial : (p : GroupSaPolicy) → In p (announced f) → several (p .initialMessageIds) ≡ false
-    unfolding four-ofFrame initialMessageIdTwice
+    unfolding number4OfFrame initialMessageIdTwice
     one-initial p m =
         none-passes (λ (q : GroupSaPolicy). several (q .initialMessageIds)) (announced f)
-        (no-clause (four-ofFrame f) 13 (c .no-4 .ofFrame)) p (in-member p (announced f) m)
+        (no-clause (number4OfFrame f) 13 (c .no-4 .ofFrame)) p (in-member p (announced f) m)
 
     one-delay : (w : GroupWidePolicy) → In w (groupWides f) → several (w .deactivationDelays) ≡ false
-    unfolding four-ofFrame delayTwice
+    unfolding number4OfFrame delayTwice
     one-delay w m =
         none-passes (λ (q : GroupWidePolicy). several (q .deactivationDelays)) (groupWides f)
-        (no-clause (four-ofFrame f) 14 (c .no-4 .ofFrame)) w (in-member w (groupWides f) m)
+        (no-clause (number4OfFrame f) 14 (c .no-4 .ofFrame)) w (in-member w (groupWides f) m)
 
     -- number 5 lets pass Deletes of ESP alone
     esp-deletes : (d : Delete) → List·Memᴰ d (deletesOf f) → d .protocol ≡ 3
-    unfolding five-ofFrame deleteOfOther
+    unfolding number5OfFrame deleteOfOther
     esp-deletes d m =
         eqb-true (d .protocol) 3
         (not-false (eqb (d .protocol) 3)
-        (none-passes (λ (x : Delete). not (eqb (x .protocol) 3)) (deletesOf f) (no-clause (five-ofFrame lent f) 3 (c .no-5 .ofFrame)) d m))
+        (none-passes (λ (x : Delete). not (eqb (x .protocol) 3)) (deletesOf f) (no-clause (number5OfFrame lent f) 3 (c .no-5 .ofFrame)) d
+        m))
 
     admitted : rowOf f .admitted ≡ true
-    admitted = not-false (rowOf f .admitted) (no-clause (two-ofFrame (f .header .exchange)) 0 (c .no-2 .ofFrame))
+    admitted = not-false (rowOf f .admitted) (no-clause (number2OfFrame (f .header .exchange)) 0 (c .no-2 .ofFrame))
 
     -- ---- the least Message ID
     new-any : (p : GroupSaPolicy) → NewRekey f p → newRekey f ≡ true
@@ -192,7 +194,7 @@ module _ (limits : Limits) (s : State) (now : ℕ) (lent octets : List ℕ) (f :
 
     -- ---- the old SAs
     abbrev names : Sa → List ℕ → Bool
-    names a x = isZero x || same (spiOf a) x
+    names a x = isZero x || same (saSpi a) x
 
     deletes : (a : Sa) (x : List ℕ) → a .protocol ≡ 3 → In x (deletedSpis f) → names a x ≡ true → retires f a ≡ true
     unfolding namedInDelete
@@ -201,17 +203,17 @@ module _ (limits : Limits) (s : State) (now : ℕ) (lent octets : List ℕ) (f :
         (and-whole (eqb (a .protocol) 3) (any (names a) (deletedSpis f)) (eq-eqb (a .protocol) 3 p)
         (passes-some (names a) (deletedSpis f) x (in-member x (deletedSpis f) m) t))
 
-    ends-retires : (a : Sa) → Ends f a → retires f a ≡ true
+    ends-retires : (a : Sa) → EndsSa f a → retires f a ≡ true
     unfolding replaced
     ends-retires a (by-its-spi p m) =
-        deletes a (spiOf a) p m (or-right (isZero (spiOf a)) (same (spiOf a) (spiOf a)) (eq-same (spiOf a) (spiOf a) refl))
+        deletes a (saSpi a) p m (or-right (isZero (saSpi a)) (same (saSpi a) (saSpi a)) (eq-same (saSpi a) (saSpi a) refl))
     ends-retires a (by-spi-0 p m) =
-        let z : List ℕ = 0 ∷ 0 ∷ 0 ∷ 0 ∷ [] in deletes a z p m (or-left (isZero z) (same (spiOf a) z) (zero-four z refl))
+        let z : List ℕ = 0 ∷ 0 ∷ 0 ∷ 0 ∷ [] in deletes a z p m (or-left (isZero z) (same (saSpi a) z) (zero-four z refl))
     ends-retires a (by-new-rekey p q n) =
         or-right (namedInDelete f a) (replaced f a)
         (and-whole (newRekey f) (eqb (a .protocol) 6) (new-any q n) (eq-eqb (a .protocol) 6 p))
 
-    retires-ends : (a : Sa) → retires f a ≡ true → Ends f a
+    retires-ends : (a : Sa) → retires f a ≡ true → EndsSa f a
     unfolding namedInDelete replaced
     retires-ends a t =
         ⊎-elim
@@ -225,8 +227,8 @@ module _ (limits : Limits) (s : State) (now : ℕ) (lent octets : List ℕ) (f :
         (λ z.
         let q = four-zero x (deleted-size octets f e esp-deletes x (r .stands)) z in
         by-spi-0 esp (subst (λ (y : List ℕ). In y (deletedSpis f)) q m))
-        (λ z. by-its-spi esp (subst (λ (y : List ℕ). In y (deletedSpis f)) (sym (same-eq (spiOf a) x z)) m))
-        (or-cases (isZero x) (same (spiOf a) x) (r .passes)))
+        (λ z. by-its-spi esp (subst (λ (y : List ℕ). In y (deletedSpis f)) (sym (same-eq (saSpi a) x z)) m))
+        (or-cases (isZero x) (same (saSpi a) x) (r .passes)))
         (λ d.
         let p = and-parts (newRekey f) (eqb (a .protocol) 6) d in
         let n = any-new (p .0) in

@@ -8,7 +8,7 @@ use Rattle.octets.specs.Walk as walk
 use Rattle.wire_frames.specs.Delete.{Delete}
 use Rattle.wire_frames.specs.Frame.{Frame, Payload, Content, noneNext}
 use Rattle.wire_frames.specs.Grammar.{Each, none, more, IsDelete, IsContent, is-gsa, is-kd, is-delete, is-unread, IsPayload, IsFrame}
-use Rattle.rules_refusals.specs.Contents.{deletesIn, deletesOf, deletedSpis}
+use Rattle.rules_refusals.specs.Contents.{deletesOfContent, deletesOf, deletedSpis}
 use Rattle.rules_outcome.proofs.RunsSpis.{gathered}
 
 -- the octets of a Delete payload's body
@@ -16,19 +16,19 @@ pub record Body (d : Delete) : Type 0 where
   pub octets : List ℕ
   pub is : IsDelete octets d
 
-in-content : (k : ℕ) (s : List ℕ) (c : Content) → IsContent k s c → (d : Delete) → List·Memᴰ d (deletesIn c) → Body d
+in-content : (k : ℕ) (s : List ℕ) (c : Content) → IsContent k s c → (d : Delete) → List·Memᴰ d (deletesOfContent c) → Body d
 in-content k s _ (is-gsa e r) d m = absurd (List·Memᴰ·not-nil m)
 in-content k s _ (is-kd e r) d m = absurd (List·Memᴰ·not-nil m)
 in-content k s _ (is-delete e r) d m = record { octets = s; is = subst (IsDelete s) (sym (List·Memᴰ·eq-of-singleton m)) r }
 in-content k s _ (is-unread a b c) d m = absurd (List·Memᴰ·not-nil m)
 
 in-spans : {k : ℕ} {s rest : List ℕ} {l : List Payload} → walk.Spans noneNext IsPayload k s l rest → (p : Payload) → List·Memᴰ p l →
-    (d : Delete) → List·Memᴰ d (deletesIn (p .content)) → Body d
+    (d : Delete) → List·Memᴰ d (deletesOfContent (p .content)) → Body d
 in-spans (walk.none e) p m d n = absurd (List·Memᴰ·not-nil m)
 in-spans {k} (walk.more {st′ = j} o s {a = x} e i r) p m d n =
     ⊎-elim
     (λ w.
-    in-content k (drop 4 o) (x .content) (i .content) d (subst (λ (y : Payload). List·Memᴰ d (deletesIn (y .content))) w n))
+    in-content k (drop 4 o) (x .content) (i .content) d (subst (λ (y : Payload). List·Memᴰ d (deletesOfContent (y .content))) w n))
     (λ w. in-spans r p w d n) (List·Memᴰ·cases-cons m)
 
 each-size : {k : ℕ} {l : List (List ℕ)} → Each k l → (x : List ℕ) → List·Memᴰ x l → length x ≡ k
@@ -41,6 +41,6 @@ module _ (octets : List ℕ) (f : Frame) (e : IsFrame octets f) where
       length x ≡ 4
   deleted-size esp x m =
       let q = gathered (λ (d : Delete). d .spis) x (deletesOf f) m in
-      let p = gathered (λ (y : Payload). deletesIn (y .content)) (q .from) (f .payloads) (q .stands) in
+      let p = gathered (λ (y : Payload). deletesOfContent (y .content)) (q .from) (f .payloads) (q .stands) in
       let b = in-spans (e .payloads) (p .from) (p .stands) (q .from) (p .gives) in
       each-size (b .is .each) x (q .gives) ∙ b .is .esp (esp (q .from) (q .stands))

@@ -19,7 +19,7 @@ use Rattle.rules_refusals.specs.Contents.{rowOf, some, gather, memberBags, wrap
 use Rattle.rules_refusals.specs.Number4.{barredMemberBag}
 use Rattle.rules_refusals.specs.Number5.{lentKeySize}
 use Rattle.rules_refusals.proofs.ExchangeRows.{by-row}
-use Rattle.rules_outcome.specs.Roots.{ownKey, keyZero, heldRoot, rootsOf, wrappingSize}
+use Rattle.rules_outcome.specs.Roots.{ownKey, keyZeroValue, heldRoot, rootsOf, wrappingSize}
 use Rattle.rules_outcome.specs.After.{After}
 use Rattle.rules_outcome.specs.NamedKey.{Registration, Inband, Rekey, lentRoot}
 
@@ -72,20 +72,20 @@ no-wrap-key f x e =
 module _ (limits : Limits) (s : State) (now : ℕ) (f : Frame) where
   module _ (e : rowOf f ≡ registration) where
     pub lent-roots : (lent : List ℕ) → rootsOf limits s now lent f ≡ lentRoot lent
-    unfolding rootsOf keyZero
+    unfolding rootsOf keyZeroValue
     lent-roots lent = rw e
 
     pub lent-size : (lent : List ℕ) → wrappingSize limits s now lent f ≡ length lent
-    unfolding wrappingSize keyZero
+    unfolding wrappingSize keyZeroValue
     lent-size lent = rw e
 
   module _ (e : rowOf f ≡ inband) where
     pub inband-roots : (lent : List ℕ) → rootsOf limits s now lent f ≡ lentRoot lent
-    unfolding rootsOf keyZero
+    unfolding rootsOf keyZeroValue
     inband-roots lent = rw e
 
     pub inband-size : (lent : List ℕ) → wrappingSize limits s now lent f ≡ length lent
-    unfolding wrappingSize keyZero
+    unfolding wrappingSize keyZeroValue
     inband-size lent = rw e
 
     -- "The held list stays."
@@ -95,11 +95,11 @@ module _ (limits : Limits) (s : State) (now : ℕ) (f : Frame) where
   module _ (e : rowOf f ≡ rekey) where
     pub own-roots : (lent : List ℕ) →
         rootsOf limits s now lent f ≡ record { id = 0; value = ownKey limits s now } ∷ map heldRoot (keysOf (s .held))
-    unfolding rootsOf keyZero
+    unfolding rootsOf keyZeroValue
     own-roots lent = rw e
 
     pub own-size : (lent : List ℕ) → wrappingSize limits s now lent f ≡ length (ownKey limits s now)
-    unfolding wrappingSize keyZero
+    unfolding wrappingSize keyZeroValue
     own-size lent = rw e
 
     pub not-judged : (lent : List ℕ) → lentKeySize lent f ≡ false

@@ -25,14 +25,14 @@ use Rattle.state.specs.State.{stateFormed, newState}
 use Rattle.state.specs.Blank.{AllKeysBlank, StateBlank}
 use Rattle.state.proofs.Kept.{new-state-formed, new-state-blank, swept-state-formed, swept-state-blank}
 use Rattle.rules_refusals.specs.Contents.{rowOf, wrapKeysOf}
-use Rattle.rules_refusals.specs.Number5.{lentKeySize, five-ofFrame}
-use Rattle.rules_refusals.specs.Number6.{wrapKeyId, six-ofFrame}
-use Rattle.rules_refusals.specs.Number7.{manyWrapKeys, seven-ofFrame}
+use Rattle.rules_refusals.specs.Number5.{lentKeySize, number5OfFrame}
+use Rattle.rules_refusals.specs.Number6.{wrapKeyId, number6OfFrame}
+use Rattle.rules_refusals.specs.Number7.{manyWrapKeys, number7OfFrame}
 use Rattle.rules_chains.specs.Refusals.{of-entries}
-use Rattle.rules_outcome.specs.Roots.{rootsOf, entriesOf, keyZero, keyZeroBy, ownKey, wrappingSize}
+use Rattle.rules_outcome.specs.Roots.{rootsOf, entriesOf, keyZeroValue, keyZeroBy, ownKey, wrappingSize}
 use Rattle.rules_outcome.specs.After.{After, HeldAre, HeldBy, insertAll, oldSas}
 use Rattle.rules_outcome.specs.Outcome.{Judged, refused, accepted, Outcome, no-layout, by-tree}
-use Rattle.rules_outcome.specs.Run.{Step, Takes, answered, swept, left, Run, ends, goes, Throughout}
+use Rattle.rules_outcome.specs.Run.{Event, Takes, answered, swept, left, Run, ends, goes, Throughout}
 use Rattle.rules_refusals.proofs.Clear.{no-clause}
 use Rattle.rules_outcome.proofs.Rows.{registers}
 use Rattle.rules_outcome.proofs.RunsClear.{Clear, clear}
@@ -53,23 +53,23 @@ module _ (limits : Limits) (enough : limits .wrapKeys ≤ limits .heldKeys) wher
   module _ (s : State) (now : ℕ) (lent : List ℕ) (f : Frame) (c : Clear limits s now lent f) where
     -- in a registration a wrapping key needs a size of the algorithm table
     lent-size : rowOf f .registers ≡ true → sizeOf 13 (wrappingSize limits s now lent f) ≡ true
-    unfolding wrappingSize keyZero five-ofFrame lentKeySize
+    unfolding wrappingSize keyZeroValue number5OfFrame lentKeySize
     lent-size e =
         let r = registers (f .header .exchange) e in
-        let k = no-clause (five-ofFrame lent f) 5 (c .no-5 .ofFrame) in
+        let k = no-clause (number5OfFrame lent f) 5 (c .no-5 .ofFrame) in
         let n : not (sizeOf 13 (length lent)) ≡ false =
         sym (ap (λ (x : Exchange). x .«judges_lent_key» && not (sizeOf 13 (length lent))) r) ∙ k in
         ap (λ (x : Exchange). sizeOf 13 (length (keyZeroBy (x .zero) lent (ownKey limits s now)))) r
         ∙ not-false (sizeOf 13 (length lent)) n
 
     no-zero : any (λ (k : WrapKey). eqb (k .keyId) 0) (entriesOf f) ≡ false
-    unfolding six-ofFrame wrapKeyId
-    no-zero = no-clause (six-ofFrame f) 7 (c .no-6 .ofFrame)
+    unfolding number6OfFrame wrapKeyId
+    no-zero = no-clause (number6OfFrame f) 7 (c .no-6 .ofFrame)
 
     few : length (entriesOf f) ≤ limits .heldKeys
-    unfolding seven-ofFrame manyWrapKeys
+    unfolding number7OfFrame manyWrapKeys
     few =
-        let h = ltb-false (limits .wrapKeys) (length (wrapKeysOf f)) (no-clause (seven-ofFrame limits f) 1 (c .no-7 .ofFrame)) in
+        let h = ltb-false (limits .wrapKeys) (length (wrapKeysOf f)) (no-clause (number7OfFrame limits f) 1 (c .no-7 .ofFrame)) in
         omega arith
 
     module _ (next : State) (a : After limits s now lent f next) where
@@ -140,43 +140,43 @@ module _ (limits : Limits) (enough : limits .wrapKeys ≤ limits .heldKeys) wher
   outcome-blank s now lent octets _ _ (no-layout none) w = w
   outcome-blank s now lent octets _ _ (by-tree f {n} {next} e j) w = judged-blank s now lent octets f n next e j w
 
-  takes-formed : (s : State) (x : Step) (e : State) → Takes limits s x e → stateFormed limits s ≡ true → stateFormed limits e ≡ true
+  takes-formed : (s : State) (x : Event) (e : State) → Takes limits s x e → stateFormed limits s ≡ true → stateFormed limits e ≡ true
   takes-formed s _ _ (answered octets lent now n {next} o) w = outcome-formed s now lent octets n next o w
   takes-formed s _ _ (swept now) w = swept-state-formed limits now s w
   takes-formed s _ _ left w = new-state-formed limits
 
-  takes-blank : (s : State) (x : Step) (e : State) → Takes limits s x e → StateBlank limits s → StateBlank limits e
+  takes-blank : (s : State) (x : Event) (e : State) → Takes limits s x e → StateBlank limits s → StateBlank limits e
   takes-blank s _ _ (answered octets lent now n {next} o) w = outcome-blank s now lent octets n next o w
   takes-blank s _ _ (swept now) w = swept-state-blank limits now s w
   takes-blank s _ _ left w = new-state-blank limits
 
   -- ---- any run
-  pub run-formed : {s e : State} {l : List Step} (r : Run limits s l e) → stateFormed limits s ≡ true →
+  pub run-formed : {s e : State} {l : List Event} (r : Run limits s l e) → stateFormed limits s ≡ true →
       Throughout limits (λ (m : State). stateFormed limits m ≡ true) r
   run-formed (ends s) w = w
   run-formed (goes s {m} {e} {x} t r) w = (w, run-formed r (takes-formed s x m t w))
 
-  pub run-blank : {s e : State} {l : List Step} (r : Run limits s l e) → StateBlank limits s → Throughout limits (StateBlank limits) r
+  pub run-blank : {s e : State} {l : List Event} (r : Run limits s l e) → StateBlank limits s → Throughout limits (StateBlank limits) r
   run-blank (ends s) w = w
   run-blank (goes s {m} {e} {x} t r) w = (w, run-blank r (takes-blank s x m t w))
 
-  pub new-run-formed : {e : State} {l : List Step} (r : Run limits (newState limits) l e) →
+  pub new-run-formed : {e : State} {l : List Event} (r : Run limits (newState limits) l e) →
       Throughout limits (λ (m : State). stateFormed limits m ≡ true) r
   new-run-formed r = run-formed r (new-state-formed limits)
 
-  pub new-run-blank : {e : State} {l : List Step} (r : Run limits (newState limits) l e) → Throughout limits (StateBlank limits) r
+  pub new-run-blank : {e : State} {l : List Event} (r : Run limits (newState limits) l e) → Throughout limits (StateBlank limits) r
   new-run-blank r = run-blank r (new-state-blank limits)
 
 -- what follows from P holds in each member of a run in which P does
-pub each-of : (limits : Limits) (P Q : State → Type 0) → ((m : State) → P m → Q m) → {s e : State} {l : List Step} (r : Run limits s l e) →
+pub each-of : (limits : Limits) (P Q : State → Type 0) → ((m : State) → P m → Q m) → {s e : State} {l : List Event} (r : Run limits s l e) →
     Throughout limits P r → Throughout limits Q r
 each-of limits P Q f (ends s) t = f s t
 each-of limits P Q f (goes s t r) u = (f s (u .0), each-of limits P Q f r (u .1))
 
 -- the same with document 01's limits
-pub members-formed : {e : State} {l : List Step} (r : Run limits (newState limits) l e) →
+pub members-formed : {e : State} {l : List Event} (r : Run limits (newState limits) l e) →
     Throughout limits (λ (m : State). stateFormed limits m ≡ true) r
 members-formed r = new-run-formed limits (omega arith) r
 
-pub members-blank : {e : State} {l : List Step} (r : Run limits (newState limits) l e) → Throughout limits (StateBlank limits) r
+pub members-blank : {e : State} {l : List Event} (r : Run limits (newState limits) l e) → Throughout limits (StateBlank limits) r
 members-blank r = new-run-blank limits (omega arith) r

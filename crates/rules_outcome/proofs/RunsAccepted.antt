@@ -23,11 +23,11 @@ use Rattle.state.specs.Held.{heldFormed}
 use Rattle.state.specs.State.{stateFormed}
 use Rattle.rules_refusals.specs.Contents.{rowOf, several, announced}
 use Rattle.rules_refusals.specs.Fitness.{isEsp, isRekey, transformsFit}
-use Rattle.rules_refusals.specs.Number2.{standing, two-ofMember}
-use Rattle.rules_refusals.specs.Number4.{twiceInTransform, severalRekeyPolicies, keyLengthTwice, lifetimeTwice, four-ofFrame}
-use Rattle.rules_refusals.specs.Number5.{otherTransforms, five-ofFrame}
-use Rattle.rules_refusals.specs.Number6.{policyNamed, policyTwice, alreadyInTable, six-ofFrame, six-ofMember}
-use Rattle.rules_refusals.specs.Number7.{longLifetime, manySas, seven-ofFrame, seven-ofMember}
+use Rattle.rules_refusals.specs.Number2.{notDueSas, number2OfMember}
+use Rattle.rules_refusals.specs.Number4.{twiceInTransform, severalRekeyPolicies, keyLengthTwice, lifetimeTwice, number4OfFrame}
+use Rattle.rules_refusals.specs.Number5.{otherTransforms, number5OfFrame}
+use Rattle.rules_refusals.specs.Number6.{policyNamed, policyTwice, alreadyInTable, number6OfFrame, number6OfMember}
+use Rattle.rules_refusals.specs.Number7.{longLifetime, manySas, number7OfFrame, number7OfMember}
 use Rattle.rules_chains.specs.Refusals.{of-copies, wrong-size, KeyOf}
 use Rattle.rules_outcome.specs.Roots.{rootsOf, entriesOf, wrappingSize, needOf, announcedAs, announcedKeys}
 use Rattle.rules_outcome.specs.After.{newRekey, insertAll, oldSas, Enter}
@@ -45,54 +45,55 @@ module _ (limits : Limits) (s : State) (now : ℕ) (lent : List ℕ) (f : Frame)
   -- ---- the clauses that do not apply, by what they say
   pub clear-formed : stateFormed limits s ≡ true
   clear-formed =
-      not-false (stateFormed limits s) (no-clause (two-ofMember limits s now (f .header .exchange) (f .header .spi)) 2 (c .no-2 .ofMember))
+      not-false (stateFormed limits s)
+      (no-clause (number2OfMember limits s now (f .header .exchange) (f .header .spi)) 2 (c .no-2 .ofMember))
 
   one-rekey : count isRekey (announced f) ≤ 1
-  unfolding four-ofFrame severalRekeyPolicies
-  one-rekey = ltb-false 1 (count isRekey (announced f)) (no-clause (four-ofFrame f) 8 (c .no-4 .ofFrame))
+  unfolding number4OfFrame severalRekeyPolicies
+  one-rekey = ltb-false 1 (count isRekey (announced f)) (no-clause (number4OfFrame f) 8 (c .no-4 .ofFrame))
 
   one-length : (a : GroupSaPolicy) → List·Memᴰ a (announced f) → any twiceInTransform (a .transforms) ≡ false
-  unfolding four-ofFrame keyLengthTwice
+  unfolding number4OfFrame keyLengthTwice
   one-length =
       none-passes (λ (p : GroupSaPolicy). any twiceInTransform (p .transforms)) (announced f)
-      (no-clause (four-ofFrame f) 12 (c .no-4 .ofFrame))
+      (no-clause (number4OfFrame f) 12 (c .no-4 .ofFrame))
 
   fits : (a : GroupSaPolicy) → List·Memᴰ a (announced f) → transformsFit (rowOf f .authentication) a ≡ true
-  unfolding five-ofFrame otherTransforms
+  unfolding number5OfFrame otherTransforms
   fits a m =
       not-false (transformsFit (rowOf f .authentication) a)
       (none-passes (λ (p : GroupSaPolicy). not (transformsFit (rowOf f .authentication) p)) (announced f)
-      (no-clause (five-ofFrame lent f) 2 (c .no-5 .ofFrame)) a m)
+      (no-clause (number5OfFrame lent f) 2 (c .no-5 .ofFrame)) a m)
 
   -- an announced SA has one lifetime at most, of no more than 2,000,000 seconds
   pub lasts : (a : GroupSaPolicy) → List·Memᴰ a (announced f) → Lasts a
-  unfolding four-ofFrame lifetimeTwice seven-ofFrame longLifetime
+  unfolding number4OfFrame lifetimeTwice number7OfFrame longLifetime
   lasts a m = (
-    none-passes (λ (p : GroupSaPolicy). several (p .keyLifetimes)) (announced f) (no-clause (four-ofFrame f) 16 (c .no-4 .ofFrame)) a m,
+    none-passes (λ (p : GroupSaPolicy). several (p .keyLifetimes)) (announced f) (no-clause (number4OfFrame f) 16 (c .no-4 .ofFrame)) a m,
     none-passes (λ (p : GroupSaPolicy). any (λ (n : ℕ). ltb mostSeconds n) (p .keyLifetimes)) (announced f)
-        (no-clause (seven-ofFrame limits f) 4 (c .no-7 .ofFrame)) a m,
+        (no-clause (number7OfFrame limits f) 4 (c .no-7 .ofFrame)) a m,
   )
 
   names-apart : Apart (announced f)
-  unfolding six-ofFrame policyTwice
+  unfolding number6OfFrame policyTwice
   names-apart =
       counted-apart (announced f)
       (λ a m.
       ltb-false 1 (count (policyNamed (a .protocol) (a .spi)) (announced f))
       (none-passes (λ (p : GroupSaPolicy). ltb 1 (count (policyNamed (p .protocol) (p .spi)) (announced f))) (announced f)
-      (no-clause (six-ofFrame f) 2 (c .no-6 .ofFrame)) a m))
+      (no-clause (number6OfFrame f) 2 (c .no-6 .ofFrame)) a m))
 
-  pub new-name : (a : GroupSaPolicy) → List·Memᴰ a (announced f) → any (named (a .protocol) (a .spi)) (standing now s) ≡ false
-  unfolding six-ofMember alreadyInTable
+  pub new-name : (a : GroupSaPolicy) → List·Memᴰ a (announced f) → any (named (a .protocol) (a .spi)) (notDueSas now s) ≡ false
+  unfolding number6OfMember alreadyInTable
   new-name =
-      none-passes (λ (p : GroupSaPolicy). any (named (p .protocol) (p .spi)) (standing now s)) (announced f)
-      (no-clause (six-ofMember s now f) 0 (c .no-6 .ofMember))
+      none-passes (λ (p : GroupSaPolicy). any (named (p .protocol) (p .spi)) (notDueSas now s)) (announced f)
+      (no-clause (number6OfMember s now f) 0 (c .no-6 .ofMember))
 
-  room : length (standing now s) + length (announced f) ≤ limits .sas
-  unfolding seven-ofMember manySas
+  room : length (notDueSas now s) + length (announced f) ≤ limits .sas
+  unfolding number7OfMember manySas
   room =
-      ltb-false (limits .sas) (length (standing now s) + length (announced f))
-      (no-clause (seven-ofMember limits s now f) 0 (c .no-7 .ofMember))
+      ltb-false (limits .sas) (length (notDueSas now s) + length (announced f))
+      (no-clause (number7OfMember limits s now f) 0 (c .no-7 .ofMember))
 
   -- ---- an announced SA, and the octets that its copies open to
   pub kinds : (octets : List ℕ) → IsFrame octets f → (a : GroupSaPolicy) → List·Memᴰ a (announced f) → Kind a

@@ -11,25 +11,25 @@ use Rattle.wire_frames.specs.Grammar.{IsFrame}
 use Rattle.wire_frames.proofs.FrameGrammar.{one-tree}
 use Rattle.state.specs.declared.State.{State}
 use Rattle.rules_refusals.proofs.Clear.{or-none}
-use Rattle.rules_refusals.specs.Refusals.{Number, one, applies, two, three, four, five, six, seven}
+use Rattle.rules_refusals.specs.Refusals.{Number, one, applies, number2, number3, number4, number5, number6, number7}
 use Rattle.rules_outcome.specs.After.{After}
 use Rattle.rules_outcome.specs.Outcome.{Judged, refused, accepted, Outcome, no-layout, by-tree}
-use Rattle.rules_outcome.specs.Answer.{Condition, First, conditions, Answers, EightOf, NineOf}
+use Rattle.rules_outcome.specs.Answer.{RefusalCase, First, conditions, FrameAnswers, KeyConflictOf, KeyMissingOf}
 
 -- ---- 0 is given where no condition holds: their numbers are above it
-abbrev Numbered : List Condition → Type 0
+abbrev Numbered : List RefusalCase → Type 0
 Numbered [] = Unit {0}
 Numbered (c ∷ l) = (c .number ≡ 0 → ⊥) × Numbered l
 
-abbrev NoneHolds : List Condition → Type 0
+abbrev NoneHolds : List RefusalCase → Type 0
 NoneHolds [] = Unit {0}
 NoneHolds (c ∷ l) = (c .holds → ⊥) × NoneHolds l
 
-none-of : (c : Condition) (l : List Condition) → (c .number ≡ 0 → ⊥) → First (c ∷ l) 0 → (c .holds → ⊥) × First l 0
+none-of : (c : RefusalCase) (l : List RefusalCase) → (c .number ≡ 0 → ⊥) → First (c ∷ l) 0 → (c .holds → ⊥) × First l 0
 none-of c l n (inl h) = absurd (n (sym (h .1)))
 none-of c l n (inr h) = h
 
-none-holds : (l : List Condition) → Numbered l → First l 0 → NoneHolds l
+none-holds : (l : List RefusalCase) → Numbered l → First l 0 → NoneHolds l
 none-holds [] n h = tt
 none-holds (c ∷ l) n h = let p = none-of c l (n .0) h in (p .0, none-holds l (n .1) (p .1))
 
@@ -47,16 +47,17 @@ none-applies n f =
     let p = or-none (one (n .ofFrame)) (one (n .ofMember)) (not-true (applies n) f) in record { ofFrame = p .0; ofMember = p .1 }
 
 pub record Clear (limits : Limits) (s : State) (now : ℕ) (lent : List ℕ) (f : Frame) : Type 0 where
-  pub no-2 : None (two limits s now (f .header .exchange) (f .header .spi))
-  pub no-3 : None (three s (f .header .exchange) (f .header .messageId))
-  pub no-4 : None (four f)
-  pub no-5 : None (five lent f)
-  pub no-6 : None (six s now f)
-  pub no-7 : None (seven limits s now f)
-  pub no-8 : EightOf limits s now lent f → ⊥
-  pub no-9 : NineOf limits s now lent f → ⊥
+  pub no-2 : None (number2 limits s now (f .header .exchange) (f .header .spi))
+  pub no-3 : None (number3 s (f .header .exchange) (f .header .messageId))
+  pub no-4 : None (number4 f)
+  pub no-5 : None (number5 lent f)
+  pub no-6 : None (number6 s now f)
+  pub no-7 : None (number7 limits s now f)
+  pub no-8 : KeyConflictOf limits s now lent f → ⊥
+  pub no-9 : KeyMissingOf limits s now lent f → ⊥
 
-pub clear : (limits : Limits) (s : State) (now : ℕ) (lent : List ℕ) (f : Frame) → Answers limits s now lent f 0 → Clear limits s now lent f
+pub clear : (limits : Limits) (s : State) (now : ℕ) (lent : List ℕ) (f : Frame) → FrameAnswers limits s now lent f 0 →
+    Clear limits s now lent f
 clear limits s now lent f a =
     let n : Numbered (conditions limits s now lent f) = (
       λ e. omega arith,
@@ -70,12 +71,12 @@ clear limits s now lent f a =
     ) in
     let p = none-holds (conditions limits s now lent f) n a in
     record {
-      no-2 = none-applies (two limits s now (f .header .exchange) (f .header .spi)) (p .0);
-      no-3 = none-applies (three s (f .header .exchange) (f .header .messageId)) (p .1 .0);
-      no-4 = none-applies (four f) (p .1 .1 .0);
-      no-5 = none-applies (five lent f) (p .1 .1 .1 .0);
-      no-6 = none-applies (six s now f) (p .1 .1 .1 .1 .0);
-      no-7 = none-applies (seven limits s now f) (p .1 .1 .1 .1 .1 .0);
+      no-2 = none-applies (number2 limits s now (f .header .exchange) (f .header .spi)) (p .0);
+      no-3 = none-applies (number3 s (f .header .exchange) (f .header .messageId)) (p .1 .0);
+      no-4 = none-applies (number4 f) (p .1 .1 .0);
+      no-5 = none-applies (number5 lent f) (p .1 .1 .1 .0);
+      no-6 = none-applies (number6 s now f) (p .1 .1 .1 .1 .0);
+      no-7 = none-applies (number7 limits s now f) (p .1 .1 .1 .1 .1 .0);
       no-8 = p .1 .1 .1 .1 .1 .1 .0;
       no-9 = p .1 .1 .1 .1 .1 .1 .1 .0;
     }

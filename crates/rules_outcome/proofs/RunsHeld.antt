@@ -23,9 +23,9 @@ use Rattle.state.specs.Held.{keysOf, heldOf, keyFormed, idBefore, heldFormed}
 use Rattle.state.specs.Blank.{AllKeysBlank, no-key, one-more}
 use Rattle.state.proofs.Kept.{keys-of-held, id-trans, id-irrefl, held-formed}
 use Rattle.rules_chains.specs.Chain.{Root}
-use Rattle.rules_chains.specs.Refusals.{EntriesEight, wrong-size, Value}
+use Rattle.rules_chains.specs.Refusals.{EntriesConflict, wrong-size, Value}
 use Rattle.rules_chains.proofs.Determined.{last-entry}
-use Rattle.rules_outcome.specs.After.{Holds, HeldAre}
+use Rattle.rules_outcome.specs.After.{HoldsKey, HeldAre}
 use Rattle.rules_chains.proofs.Members.{in-member, member-in}
 use Rattle.rules_outcome.proofs.RunsLists.{none-passes, some-passes, passes-some}
 
@@ -79,14 +79,14 @@ each-blank (k ∷ l) f = one-more (f k (List·Memᴰ·head refl)) (each-blank l 
 
 -- ---- the list
 module _ (limits : Limits) (roots : List Root) (entries : List WrapKey) (size : ℕ) (h : Held)
-    (are : HeldAre roots entries size limits h) (fits : sizeOf 13 size ≡ true) (none : EntriesEight roots entries size → ⊥)
+    (are : HeldAre roots entries size limits h) (fits : sizeOf 13 size ≡ true) (none : EntriesConflict roots entries size → ⊥)
     (no-zero : any (λ (k : WrapKey). eqb (k .keyId) 0) entries ≡ false) (few : length entries ≤ limits .heldKeys) where
   value-size : (k : ℕ) (x : List ℕ) → Value roots entries size k x → length x ≡ size
   value-size k x v =
       bool-cases (eqb (length x) size) (λ g. eqb-true (length x) size g)
       (λ g. absurd (none (wrong-size k x (v .reached) (eqb-false (length x) size g))))
 
-  one-formed : (k : HeldKey) → Holds roots entries size k → keyFormed k ≡ true
+  one-formed : (k : HeldKey) → HoldsKey roots entries size k → keyFormed k ≡ true
   unfolding keyFormed
   one-formed k g =
       let e = last-entry roots entries size (k .id) (g .x) (g .value .reached) in
@@ -95,13 +95,13 @@ module _ (limits : Limits) (roots : List Root) (entries : List WrapKey) (size : 
       let c : k .key .count ≡ size = ap (λ (w : WrappingKey). w .count) (g .key-is) ∙ value-size (k .id) (g .x) (g .value) in
       rw n (ap (sizeOf 13) c ∙ fits)
 
-  has-entry : (k : HeldKey) → Holds roots entries size k → any (hasId (k .id)) entries ≡ true
+  has-entry : (k : HeldKey) → HoldsKey roots entries size k → any (hasId (k .id)) entries ≡ true
   has-entry k g =
       let e = last-entry roots entries size (k .id) (g .x) (g .value .reached) in
       let w = g .value .reached .last in
       passes-some (hasId (k .id)) entries w (in-member w entries (e .0)) (eq-eqb (w .keyId) (k .id) (e .1))
 
-  each : (k : HeldKey) → List·Memᴰ k (are .keys) → Holds roots entries size k
+  each : (k : HeldKey) → List·Memᴰ k (are .keys) → HoldsKey roots entries size k
   each k m = are .each k (member-in k (are .keys) m)
 
   pub set-formed : heldFormed limits h ≡ true

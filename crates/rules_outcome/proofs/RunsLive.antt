@@ -16,7 +16,7 @@ use Rattle.wire_frames.specs.Frame.{Frame}
 use Rattle.wire_frames.specs.Grammar.{IsFrame}
 use Rattle.wire_frames.specs.Exchange.{registration, rekey}
 use Rattle.wire_frames.specs.declared.exchanges.Exchange.{Exchange}
-use Rattle.state_sa.specs.Entry.{esp, named, isLive, liveRekey, due}
+use Rattle.state_sa.specs.Entry.{espProtocol, named, isLive, liveRekey, due}
 use Rattle.state_sa.specs.Entry as entry
 use Rattle.state_sa.specs.declared.entry.Sa.{Sa}
 use Rattle.state_table.specs.Table.{sasOf, tableFormed, swept, stays, emptyAt, retiredIf}
@@ -27,8 +27,8 @@ use Rattle.state.specs.State.{stateFormed, sweptState}
 use Rattle.state.proofs.Laws.{swept-yes, swept-no}
 use Rattle.rules_refusals.specs.Contents.{rowOf, announced}
 use Rattle.rules_refusals.specs.Fitness.{isRekey}
-use Rattle.rules_refusals.specs.Number2.{standing, overLiveRekey, breaksWanted, nonEmptyMember, otherSpis, two-ofMember}
-use Rattle.rules_refusals.specs.Refusals.{two}
+use Rattle.rules_refusals.specs.Number2.{notDueSas, overLiveRekey, breaksWanted, nonEmptyMember, otherSpis, number2OfMember}
+use Rattle.rules_refusals.specs.Refusals.{number2}
 use Rattle.rules_refusals.proofs.Clear.{no-clause}
 use Rattle.rules_chains.proofs.Members.{in-member, member-in}
 use Rattle.rules_outcome.specs.After.{newRekey, namedInDelete, replaced, retires, oldSa, oldSas, insertAll, After}
@@ -42,25 +42,25 @@ use Rattle.rules_outcome.proofs.RunsTable.{any-all}
 use Rattle.rules_outcome.proofs.RunsOld.{not-revived, swept-sas}
 use Rattle.rules_outcome.proofs.RunsAccepted.{all-made}
 
-pub over-parts : (x : List ℕ) (a : Sa) → overLiveRekey x a ≡ true → (liveRekey a ≡ true) × (named entry.rekey x a ≡ true)
-over-parts x a e = and-parts (liveRekey a) (named entry.rekey x a) e
+pub over-parts : (x : List ℕ) (a : Sa) → overLiveRekey x a ≡ true → (liveRekey a ≡ true) × (named entry.rekeyProtocol x a ≡ true)
+over-parts x a e = and-parts (liveRekey a) (named entry.rekeyProtocol x a) e
 
 -- one that stands at a tick is live
 pub stands-live : (x : List ℕ) (s : State) (now : ℕ) → StandsAt now x s → LiveRekey x s
 stands-live x s now e =
-    let p = some-passes (overLiveRekey x) (standing now s) e in
+    let p = some-passes (overLiveRekey x) (notDueSas now s) e in
     passes-some (overLiveRekey x) (sasOf (s .table)) (p .one) (kept-member (stays now) (p .one) (sasOf (s .table)) (p .stands) .0)
     (p .passes)
 
 -- a rekey that number 2 lets pass came over a Rekey SA that stands at its tick
 pub passes-over : (limits : Limits) (s : State) (now : ℕ) (f : Frame) →
-    None (two limits s now (f .header .exchange) (f .header .spi)) → rowOf f ≡ rekey → StandsAt now (f .header .spi) s
+    None (number2 limits s now (f .header .exchange) (f .header .spi)) → rowOf f ≡ rekey → StandsAt now (f .header .spi) s
 unfolding otherSpis
 passes-over limits s now f n r =
     let x = f .header .spi in
-    not-false (any (overLiveRekey x) (standing now s))
-    (sym (ap (λ (y : Exchange). y .«compares_spis» && not (any (overLiveRekey x) (standing now s))) r)
-    ∙ no-clause (two-ofMember limits s now (f .header .exchange) x) 1 (n .ofMember))
+    not-false (any (overLiveRekey x) (notDueSas now s))
+    (sym (ap (λ (y : Exchange). y .«compares_spis» && not (any (overLiveRekey x) (notDueSas now s))) r)
+    ∙ no-clause (number2OfMember limits s now (f .header .exchange) x) 1 (n .ofMember))
 
 -- ---- no Rekey SA is live
 abbrev pub NoneLive : State → Type 0
@@ -82,7 +82,7 @@ module _ (limits : Limits) where
       (λ e.
       subst NoneLive (swept-yes limits s now (swept limits now (s .table)) e refl)
       (ap (any liveRekey) (swept-sas limits s now (formed-table s e))
-      ∙ passes-none liveRekey (standing now s)
+      ∙ passes-none liveRekey (notDueSas now s)
       (λ b m. none-passes liveRekey (sasOf (s .table)) n b (kept-member (stays now) b (sasOf (s .table)) m .0))))
       (λ e. subst NoneLive (swept-no limits s now e) n)
 
@@ -91,17 +91,17 @@ module _ (limits : Limits) where
 passed-over : (f : Frame) → newRekey f ≡ false → (a : Sa) → liveRekey a ≡ true → retires f a ≡ false
 unfolding namedInDelete replaced liveRekey
 passed-over f n a e =
-    let p = eqb-true (a .protocol) entry.rekey (and-parts (eqb (a .protocol) entry.rekey) (isLive (a .condition)) e .0) in
-    rw (ne-eqb (a .protocol) esp (λ q. omega arith), n)
+    let p = eqb-true (a .protocol) entry.rekeyProtocol (and-parts (eqb (a .protocol) entry.rekeyProtocol) (isLive (a .condition)) e .0) in
+    rw (ne-eqb (a .protocol) espProtocol (λ q. omega arith), n)
 
 stays-over : (x : List ℕ) (f : Frame) → newRekey f ≡ false → (s : State) (now : ℕ) → StandsAt now x s →
     any (overLiveRekey x) (oldSas s now f) ≡ true
 unfolding oldSas retiredIf
 stays-over x f n s now l =
-    let r = some-passes (overLiveRekey x) (standing now s) l in
+    let r = some-passes (overLiveRekey x) (notDueSas now s) l in
     let g = oldSa now f in
     let e : g (r .one) ≡ r .one = rw (passed-over f n (r .one) (over-parts x (r .one) (r .passes) .0)) in
-    passes-some (overLiveRekey x) (oldSas s now f) (g (r .one)) (member-map g (r .one) (standing now s) (r .stands))
+    passes-some (overLiveRekey x) (oldSas s now f) (g (r .one)) (member-map g (r .one) (notDueSas now s) (r .stands))
     (ap (overLiveRekey x) e ∙ r .passes)
 
 or-true : (a : Bool) → (a || true) ≡ true
@@ -122,25 +122,25 @@ module _ (limits : Limits) (s : State) (now : ℕ) (lent : List ℕ) (f : Frame)
     accepted-live x l = next-any (overLiveRekey x) ∙ rw (stays-over x f n s now l) (or-true (any (overLiveRekey x) (a .new)))
 
     -- as it was, so it stands at any tick at which it is not due
-    pub accepted-stands : (tick : ℕ) (x : List ℕ) (b : Sa) → List·Memᴰ b (standing now s) → overLiveRekey x b ≡ true →
+    pub accepted-stands : (tick : ℕ) (x : List ℕ) (b : Sa) → List·Memᴰ b (notDueSas now s) → overLiveRekey x b ≡ true →
         due tick b ≡ false → StandsAt tick x next
     unfolding oldSas retiredIf
     accepted-stands tick x b m o d =
         let g = oldSa now f in
         let e : g b ≡ b = rw (passed-over f n b (over-parts x b o .0)) in
         let old : List·Memᴰ b (oldSas s now f) =
-        subst (λ (y : Sa). List·Memᴰ y (oldSas s now f)) e (member-map g b (standing now s) m) in
+        subst (λ (y : Sa). List·Memᴰ y (oldSas s now f)) e (member-map g b (notDueSas now s) m) in
         let all = all-in b (a .new) (oldSas s now f) (inr (member-in b (oldSas s now f) old)) in
         let there : List·Memᴰ b (sasOf (next .table)) =
         subst (List·Memᴰ b) (sym next-sas) (in-member b (insertAll (a .new) (oldSas s now f)) all) in
-        passes-some (overLiveRekey x) (standing tick next) b (member-kept (stays tick) b (sasOf (next .table)) there (ap not d)) o
+        passes-some (overLiveRekey x) (notDueSas tick next) b (member-kept (stays tick) b (sasOf (next .table)) there (ap not d)) o
 
     -- "registration of a non-empty member": one that is accepted is of a member whose SAs are all due
     all-due : rowOf f ≡ registration → all (due now) (sasOf (s .table)) ≡ true
     unfolding nonEmptyMember emptyAt
     all-due r =
         let y = f .header .exchange in
-        let g = no-clause (two-ofMember limits s now y (f .header .spi)) 0 (c .no-2 .ofMember) in
+        let g = no-clause (number2OfMember limits s now y (f .header .spi)) 0 (c .no-2 .ofMember) in
         let e = not-false (emptyAt limits now (s .table))
         (sym (ap (λ (z : Exchange). breaksWanted (z .wanted) (emptyAt limits now (s .table))) r) ∙ g) in
         and-parts (leb (s .table .count) (limits .sas)) (all (due now) (sasOf (s .table))) e .1

@@ -15,8 +15,8 @@ use Rattle.state_keys.specs.Kinds.{rekeySizes}
 use Rattle.wire_attributes.specs.Tree.{WrapKey}
 use Rattle.wire_policies.specs.Policy.{GroupSaPolicy}
 use Rattle.wire_frames.specs.Frame.{Frame}
-use Rattle.state_sa.specs.Entry.{spiOf, named, mostSeconds, fitLifetime, formed, liveRekey, espSa, rekeySa}
-use Rattle.state_sa.specs.Blank.{Blank}
+use Rattle.state_sa.specs.Entry.{saSpi, named, mostSeconds, fitLifetime, saFormed, liveRekey, espSa, rekeySa}
+use Rattle.state_sa.specs.Blank.{ZeroPadded}
 use Rattle.state_sa.specs.declared.entry.Sa.{Sa}
 use Rattle.state_sa.proofs.Kept.{esp-blank, rekey-blank, esp-formed, rekey-formed}
 use Rattle.rules_refusals.specs.Contents.{several}
@@ -54,7 +54,7 @@ module _ (now : ℕ) (a : GroupSaPolicy) (x : List ℕ) where
   made-protocol (an-esp e l s k) = rw e (sym (eqb-true (a .protocol) 3 e))
   made-protocol (a-rekey e r l s) = rw e (sym (eqb-true (a .protocol) 6 r))
 
-  pub made-spi : Kind a → spiOf (saFrom now a x) ≡ a .spi
+  pub made-spi : Kind a → saSpi (saFrom now a x) ≡ a .spi
   unfolding saFrom espSa rekeySa
   made-spi (an-esp e l s k) = rw e (take-at (a .spi) (replicate (16 - length (a .spi)) 0) 4 l)
   made-spi (a-rekey e r l s) = rw e (take-at (a .spi) (replicate (16 - length (a .spi)) 0) 16 l)
@@ -66,7 +66,7 @@ module _ (now : ℕ) (a : GroupSaPolicy) (x : List ℕ) where
   made-live (a-rekey e r l s) = rw e (sym r)
 
   module _ (n : length x ≡ needOf a) where
-    pub made-formed : Kind a → Lasts a → formed (saFrom now a x) ≡ true
+    pub made-formed : Kind a → Lasts a → saFormed (saFrom now a x) ≡ true
     unfolding needOf saFrom
     made-formed (an-esp e l s k) h =
         let z : length x ≡ encryptionOctets a = omega arith in
@@ -76,7 +76,7 @@ module _ (now : ℕ) (a : GroupSaPolicy) (x : List ℕ) where
         let t = lifetimeFrom now (a .keyLifetimes) in
         rw e (rekey-formed (a .spi) x (encryptionOctets a) (keyWrapOctets a) t s (made-lifetime now (a .keyLifetimes) (h .0) (h .1)))
 
-    pub made-blank : Kind a → Blank (saFrom now a x)
+    pub made-blank : Kind a → ZeroPadded (saFrom now a x)
     unfolding needOf saFrom
     made-blank (an-esp e l s k) = rw e (esp-blank (a .spi) x (lifetimeFrom now (a .keyLifetimes)) l)
     made-blank (a-rekey e r l s) =

@@ -18,7 +18,8 @@ use Rattle.wire_policies.specs.Transform.{Transform}
 use Rattle.wire_policies.specs.Policy.{GroupSaPolicy}
 use Rattle.rules_refusals.specs.Fitness.{isEsp, isRekey, octetsNeeded, isOctets}
 use Rattle.rules_refusals.specs.Fitness.{encryptionFits, keyWrapFits, sequenceNumbersFit, authenticationFits}
-use Rattle.rules_refusals.specs.Fitness.{exactly, rekeyTransforms, transformsFit, sum, encryptionNeeds, keyWrapNeeds, encryptionOctets}
+use Rattle.rules_refusals.specs.Fitness.{exactTransforms, rekeyTransforms, transformsFit, sum, encryptionNeeds, keyWrapNeeds}
+use Rattle.rules_refusals.specs.Fitness.{encryptionOctets}
 use Rattle.rules_refusals.specs.Fitness.{keyWrapOctets}
 use Rattle.rules_refusals.specs.Number4.{twiceInTransform}
 use Rattle.rules_outcome.proofs.RunsLists.{none-passes, count-none, count-full, count-or}
@@ -90,8 +91,8 @@ module _ (l : List Transform) where
     pub second : count q l ≡ 1
     pub each : (t : Transform) → List·Memᴰ t l → (p t || q t) ≡ true
 
-  exactly-two : (p q : Transform → Bool) → ((t : Transform) → p t ≡ true → q t ≡ false) → exactly (p ∷ q ∷ []) l ≡ true → Two p q
-  unfolding exactly all
+  exactly-two : (p q : Transform → Bool) → ((t : Transform) → p t ≡ true → q t ≡ false) → exactTransforms (p ∷ q ∷ []) l ≡ true → Two p q
+  unfolding exactTransforms all
   exactly-two p q d e =
       let x = and-parts (eqb (length l) 2) (eqb (count p l) 1 && (eqb (count q l) 1 && true)) e in
       let y = and-parts (eqb (count p l) 1) (eqb (count q l) 1 && true) (x .1) in
@@ -108,8 +109,8 @@ module _ (l : List Transform) where
     pub each : (t : Transform) → List·Memᴰ t l → (p t || (q t || r t)) ≡ true
 
   exactly-three : (p q r : Transform → Bool) → ((t : Transform) → q t ≡ true → r t ≡ false) →
-      ((t : Transform) → p t ≡ true → (q t || r t) ≡ false) → exactly (p ∷ q ∷ r ∷ []) l ≡ true → Three p q r
-  unfolding exactly all
+      ((t : Transform) → p t ≡ true → (q t || r t) ≡ false) → exactTransforms (p ∷ q ∷ r ∷ []) l ≡ true → Three p q r
+  unfolding exactTransforms all
   exactly-three p q r d d′ e =
       let x = and-parts (eqb (length l) 3) (eqb (count p l) 1 && (eqb (count q l) 1 && (eqb (count r l) 1 && true))) e in
       let y = and-parts (eqb (count p l) 1) (eqb (count q l) 1 && (eqb (count r l) 1 && true)) (x .1) in
@@ -132,7 +133,7 @@ module _ (l : List Transform) where
     pub encryption : OneGives encryptionFits encryptionNeeds l
     pub no-more : sum keyWrapNeeds l ≡ 0
 
-  esp-needs : exactly (encryptionFits ∷ sequenceNumbersFit ∷ []) l ≡ true → NeedsFirst
+  esp-needs : exactTransforms (encryptionFits ∷ sequenceNumbersFit ∷ []) l ≡ true → NeedsFirst
   esp-needs e =
       let two = exactly-two encryptionFits sequenceNumbersFit
       (λ t p. false-of t sequenceNumbersFit 5 1 (sequence-kind t) (encryption-kind t p) (λ x. omega arith)) e in
@@ -148,7 +149,7 @@ module _ (l : List Transform) where
             bool-cases (encryptionFits t) (λ g. let y = encryption-kind t g in omega arith) (λ g. let y = other t m g in omega arith)));
       }
 
-  rekey-needs-two : exactly (encryptionFits ∷ keyWrapFits ∷ []) l ≡ true → Needs
+  rekey-needs-two : exactTransforms (encryptionFits ∷ keyWrapFits ∷ []) l ≡ true → Needs
   rekey-needs-two e =
       let two = exactly-two encryptionFits keyWrapFits
       (λ t p. false-of t keyWrapFits 13 1 (key-wrap-kind t) (encryption-kind t p) (λ x. omega arith)) e in
@@ -166,7 +167,7 @@ module _ (l : List Transform) where
             (two .second);
       }
 
-  rekey-needs-three : exactly (encryptionFits ∷ keyWrapFits ∷ authenticationFits ∷ []) l ≡ true → Needs
+  rekey-needs-three : exactTransforms (encryptionFits ∷ keyWrapFits ∷ authenticationFits ∷ []) l ≡ true → Needs
   rekey-needs-three e =
       let apart : (t : Transform) → encryptionFits t ≡ true → (keyWrapFits t || authenticationFits t) ≡ false =
       λ t p.
@@ -194,7 +195,7 @@ module _ (l : List Transform) where
             (three .second);
       }
 
-  rekey-needs : (authentication : Bool) → exactly (rekeyTransforms authentication) l ≡ true → Needs
+  rekey-needs : (authentication : Bool) → exactTransforms (rekeyTransforms authentication) l ≡ true → Needs
   rekey-needs true e = rekey-needs-three e
   rekey-needs false e = rekey-needs-two e
 
@@ -243,7 +244,7 @@ module _ (authentication : Bool) (a : GroupSaPolicy) (fit : transformsFit authen
   pub rekey-sizes : isEsp a ≡ false → (isRekey a ≡ true) × (rekeySizes (encryptionOctets a) (keyWrapOctets a) ≡ true)
   unfolding transformsFit keyWrapOctets rekeySizes
   rekey-sizes e =
-      let p = and-parts (isRekey a) (exactly (rekeyTransforms authentication) (a .transforms)) (rw e at fit) in
+      let p = and-parts (isRekey a) (exactTransforms (rekeyTransforms authentication) (a .transforms)) (rw e at fit) in
       let n = rekey-needs (a .transforms) authentication (p .1) in
       let k = n .key-wrap in (
         p .0,

@@ -9,7 +9,7 @@ use Rattle.state_keys.specs.Limits.{Limits}
 use Rattle.state_keys.specs.Lists.{any, count}
 use Rattle.state_keys.proofs.Cases.{bool-cases}
 use Rattle.wire_frames.specs.Frame.{Frame}
-use Rattle.state_sa.specs.Entry.{rekey, named, liveRekey, retired}
+use Rattle.state_sa.specs.Entry.{rekeyProtocol, named, liveRekey, retired}
 use Rattle.state_sa.specs.declared.entry.Sa.{Sa}
 use Rattle.state_sa.proofs.Kept.{retired-rekey}
 use Rattle.state_table.specs.Table.{sasOf, tableOf, tableFormed, swept, stays, notDue, changed, retiredIf}
@@ -18,7 +18,7 @@ use Rattle.state_table.proofs.Laws.{changed-in}
 use Rattle.state_table.proofs.Kept.{Fit, fit-keep, fit-retired, formed-fit, formed-count, swept-formed, sas-of-table}
 use Rattle.state_table.proofs.Blanks.{swept-blank, retired-where-blank}
 use Rattle.state.specs.declared.State.{State}
-use Rattle.rules_refusals.specs.Number2.{standing}
+use Rattle.rules_refusals.specs.Number2.{notDueSas}
 use Rattle.rules_outcome.specs.After.{newRekey, namedInDelete, replaced, retires, oldSa, oldSas}
 
 any-map : {A : Type 0} (g : A → A) (q : A → Bool) → ((a : A) → q (g a) ≡ q a) → (l : List A) → any q (map g l) ≡ any q l
@@ -42,7 +42,7 @@ or-right false b e = e
 module _ (now : ℕ) (f : Frame) where
   still : newRekey f ≡ true → (a : Sa) → replaced f a ≡ false → liveRekey a ≡ false
   unfolding replaced liveRekey
-  still n a e = let g : eqb (a .protocol) rekey ≡ false = rw n at e in rw g
+  still n a e = let g : eqb (a .protocol) rekeyProtocol ≡ false = rw n at e in rw g
 
   -- where the frame announces a Rekey SA, none that stood before is live
   pub none-live : newRekey f ≡ true → (a : Sa) → liveRekey (oldSa now f a) ≡ false
@@ -57,24 +57,24 @@ unfolding retiredIf
 not-revived now f a e = bool-cases (retires f a) (λ g. rw g (retired-rekey _ _ a)) (λ g. rw g e)
 
 pub swept-sas : (limits : Limits) (s : State) (now : ℕ) → tableFormed limits (s .table) ≡ true →
-    sasOf (swept limits now (s .table)) ≡ standing now s
+    sasOf (swept limits now (s .table)) ≡ notDueSas now s
 unfolding swept
 swept-sas limits s now e =
-    ap sasOf (changed-in limits (s .table) (notDue now) (formed-count limits (s .table) e)) ∙ sas-of-table limits (standing now s)
+    ap sasOf (changed-in limits (s .table) (notDue now) (formed-count limits (s .table) e)) ∙ sas-of-table limits (notDueSas now s)
 
 module _ (limits : Limits) (s : State) (now : ℕ) (f : Frame) where
-  pub old-length : length (oldSas s now f) ≡ length (standing now s)
+  pub old-length : length (oldSas s now f) ≡ length (notDueSas now s)
   unfolding oldSas
-  old-length = length-map (standing now s) (oldSa now f)
+  old-length = length-map (notDueSas now s) (oldSa now f)
 
-  pub old-names : (p : ℕ) (y : List ℕ) → any (named p y) (oldSas s now f) ≡ any (named p y) (standing now s)
+  pub old-names : (p : ℕ) (y : List ℕ) → any (named p y) (oldSas s now f) ≡ any (named p y) (notDueSas now s)
   unfolding oldSas
   old-names p y =
-      any-map (oldSa now f) (named p y) (retired-name (retires f) _ _ p y) (standing now s)
+      any-map (oldSa now f) (named p y) (retired-name (retires f) _ _ p y) (notDueSas now s)
 
   pub old-live : newRekey f ≡ true → count liveRekey (oldSas s now f) ≡ 0
   unfolding oldSas
-  old-live n = count-never (oldSa now f) liveRekey (none-live now f n) (standing now s)
+  old-live n = count-never (oldSa now f) liveRekey (none-live now f n) (notDueSas now s)
 
   module _ (e : tableFormed limits (s .table) ≡ true) where
     old-table : changed limits (map (oldSa now f)) (swept limits now (s .table)) ≡ tableOf limits (oldSas s now f)
@@ -88,7 +88,7 @@ module _ (limits : Limits) (s : State) (now : ℕ) (f : Frame) where
     pub old-fit : Fit limits (oldSas s now f)
     unfolding oldSas
     old-fit =
-        fit-retired limits (retires f) _ _ (standing now s)
+        fit-retired limits (retires f) _ _ (notDueSas now s)
         (fit-keep limits (stays now) (sasOf (s .table)) (formed-fit limits (s .table) e))
 
     pub old-blank : TableBlank limits (s .table) → TableBlank limits (tableOf limits (oldSas s now f))

@@ -11,7 +11,7 @@ use Rattle.wire_frames.proofs.FrameGrammar.{one-tree}
 use Rattle.state.specs.declared.State.{State}
 use Rattle.rules_outcome.specs.After.{newRekey}
 use Rattle.rules_outcome.specs.Outcome.{Outcome}
-use Rattle.rules_outcome.specs.Run.{Step, Takes, answered, swept, Run, ends, goes, Quiet, AllQuiet}
+use Rattle.rules_outcome.specs.Run.{Event, Takes, answered, swept, Run, ends, goes, Quiet, AllQuiet}
 
 module _ (limits : Limits) (s : State) where
   module _ (octets lent : List ℕ) (now n : ℕ) (next : State) (o : Outcome limits s now lent octets n next) where
@@ -27,6 +27,6 @@ module _ (limits : Limits) (s : State) where
   pub no-step-quiet : AllQuiet limits (ends s)
   no-step-quiet = tt
 
-  pub step-quiet : {m e : State} {x : Step} {l : List Step} (t : Takes limits s x m) (r : Run limits m l e) → Quiet limits t →
+  pub step-quiet : {m e : State} {x : Event} {l : List Event} (t : Takes limits s x m) (r : Run limits m l e) → Quiet limits t →
       AllQuiet limits r → AllQuiet limits (goes s t r)
   step-quiet t r q a = (q, a)

@@ -20,11 +20,12 @@ use Rattle.state.specs.Least.{acceptable, afterId}
 use Rattle.state.specs.State.{stateFormed, sweptState}
 use Rattle.state.proofs.Laws.{after-more, after-last}
 use Rattle.rules_refusals.specs.Contents.{rowOf}
-use Rattle.rules_refusals.specs.Number2.{two-ofFrame}
-use Rattle.rules_refusals.specs.Number3.{notAcceptable, three-ofMember}
+use Rattle.rules_refusals.specs.Number2.{number2OfFrame}
+use Rattle.rules_refusals.specs.Number3.{notAcceptable, number3OfMember}
 use Rattle.rules_outcome.specs.After.{newRekey, leastBy, leastAfterwards, After}
 use Rattle.rules_outcome.specs.Outcome.{Judged, refused, accepted, Outcome, no-layout, by-tree}
-use Rattle.rules_outcome.specs.Run.{Step, Takes, answered, swept, left, Run, ends, goes, Throughout, Quiet, AllQuiet, LiveRekey, StandsAt}
+use Rattle.rules_outcome.specs.Run.{Event, Takes, answered, swept, left, Run, ends, goes, Throughout, Quiet, AllQuiet, LiveRekey}
+use Rattle.rules_outcome.specs.Run.{StandsAt}
 use Rattle.rules_refusals.proofs.Clear.{no-clause}
 use Rattle.rules_refusals.proofs.ExchangeRows.{by-row}
 use Rattle.rules_outcome.proofs.RunsClear.{Clear, clear, Taken, taken}
@@ -60,7 +61,7 @@ module _ (limits : Limits) where
         let i = f .header .messageId in
         not-false (acceptable i (s .least))
         (sym (ap (λ (x : Exchange). x .«compares_message_id» && not (acceptable i (s .least))) r)
-        ∙ no-clause (three-ofMember s (f .header .exchange) i) 0 (c .no-3 .ofMember))
+        ∙ no-clause (number3OfMember s (f .header .exchange) i) 0 (c .no-3 .ofMember))
 
     -- an accepted rekey came over a Rekey SA that stood at its tick
     pub came-over : rowOf f ≡ rekey → StandsAt now (f .header .spi) s
@@ -99,7 +100,7 @@ module _ (limits : Limits) where
         ⊎-elim (λ p. inl (subst (Past i) (sym (kept-least s now lent f c next a k n)) p))
         (λ none. inr (kept-none limits s now lent f c next a n octets e none)) b)
         (λ r.
-        let k = not-false (rowOf f .admitted) (no-clause (two-ofFrame y) 0 (c .no-2 .ofFrame)) in
+        let k = not-false (rowOf f .admitted) (no-clause (number2OfFrame y) 0 (c .no-2 .ofFrame)) in
         absurd (false≢true (rw r at k)))
 
     judged-barred : (now : ℕ) (lent octets : List ℕ) (f : Frame) (n : ℕ) (next : State) → IsFrame octets f →
@@ -113,18 +114,18 @@ module _ (limits : Limits) where
     outcome-barred now lent octets _ _ (no-layout none) q b = b
     outcome-barred now lent octets _ _ (by-tree f {n} {next} e j) q b = judged-barred now lent octets f n next e j (q f e) b
 
-    takes-barred : (y : Step) (e : State) (t : Takes limits s y e) → Quiet limits t → Barred i s → Barred i e
+    takes-barred : (y : Event) (e : State) (t : Takes limits s y e) → Quiet limits t → Barred i s → Barred i e
     takes-barred _ _ (answered octets lent now n {next} o) q b = outcome-barred now lent octets n next o q b
     takes-barred _ _ (swept now) q b =
         ⊎-elim (λ p. inl (subst (Past i) (sym (swept-least now s)) p)) (λ none. inr (swept-none limits now s none)) b
     takes-barred _ _ left q b = absurd q
 
-  run-barred : (i : ℕ) {s e : State} {l : List Step} (r : Run limits s l e) → AllQuiet limits r → Barred i s → Barred i e
+  run-barred : (i : ℕ) {s e : State} {l : List Event} (r : Run limits s l e) → AllQuiet limits r → Barred i s → Barred i e
   run-barred i (ends s) q b = b
   run-barred i (goes s {m} {e} {x = y} t r) q b = run-barred i r (q .1) (takes-barred i s y m t (q .0) b)
 
   -- the last state of a run
-  pub last-of : (P : State → Type 0) {s e : State} {l : List Step} (r : Run limits s l e) → Throughout limits P r → P e
+  pub last-of : (P : State → Type 0) {s e : State} {l : List Event} (r : Run limits s l e) → Throughout limits P r → P e
   last-of P (ends s) t = t
   last-of P (goes s t r) u = last-of P r (u .1)
 
@@ -134,7 +135,7 @@ module _ (limits : Limits) where
 
   module _ (s₀ s₁ : State) (now : ℕ) (lent octets : List ℕ) (f : Frame) (e : IsFrame octets f)
       (x : f .header .exchange ≡ 41) (none : newRekey f ≡ false) (o : Outcome limits s₀ now lent octets 0 s₁) (s₂ : State)
-      (l : List Step) (r : Run limits s₁ l s₂) (quiet : AllQuiet limits r) where
+      (l : List Event) (r : Run limits s₁ l s₂) (quiet : AllQuiet limits r) where
     was : Taken limits s₀ now lent s₁ f
     was = taken limits s₀ now lent octets f s₁ e o
 

@@ -12,7 +12,7 @@ use Rattle.wire_policies.specs.Policy.{spiSize, GroupSaPolicy, Policy}
 use Rattle.wire_policies.specs.Grammar.{IsGroupSa, IsPolicy, is-sa, is-wide}
 use Rattle.wire_frames.specs.Frame.{Frame, Payload, Content, noneNext}
 use Rattle.wire_frames.specs.Grammar.{IsContent, is-gsa, is-kd, is-delete, is-unread, IsPayload, IsFrame}
-use Rattle.rules_refusals.specs.Contents.{gather, saOf, policiesIn, policiesOf, announced}
+use Rattle.rules_refusals.specs.Contents.{gather, groupSaIn, policiesOfContent, policiesOf, announced}
 
 -- ---- what is gathered stands in what one of the list gives
 pub record Gathered {A B : Type 0} (g : A → List B) (l : List A) (b : B) : Type 0 where
@@ -38,22 +38,22 @@ in-row no-more q m = absurd (List·Memᴰ·not-nil m)
 in-row (then o s i r) q m =
     ⊎-elim (λ e. record { octets = o; is = subst (IsPolicy o) (sym e) i }) (λ w. in-row r q w) (List·Memᴰ·cases-cons m)
 
-in-content : (k : ℕ) (s : List ℕ) (c : Content) → IsContent k s c → (q : Policy) → List·Memᴰ q (policiesIn c) → Octets IsPolicy q
+in-content : (k : ℕ) (s : List ℕ) (c : Content) → IsContent k s c → (q : Policy) → List·Memᴰ q (policiesOfContent c) → Octets IsPolicy q
 in-content k s _ (is-gsa e r) q m = in-row r q m
 in-content k s _ (is-kd e r) q m = absurd (List·Memᴰ·not-nil m)
 in-content k s _ (is-delete e r) q m = absurd (List·Memᴰ·not-nil m)
 in-content k s _ (is-unread d e f) q m = absurd (List·Memᴰ·not-nil m)
 
 in-spans : {k : ℕ} {s rest : List ℕ} {l : List Payload} → Spans noneNext IsPayload k s l rest → (p : Payload) → List·Memᴰ p l →
-    (q : Policy) → List·Memᴰ q (policiesIn (p .content)) → Octets IsPolicy q
+    (q : Policy) → List·Memᴰ q (policiesOfContent (p .content)) → Octets IsPolicy q
 in-spans (none e) p m q n = absurd (List·Memᴰ·not-nil m)
 in-spans {k} (more {st′ = j} o s {a = x} e i r) p m q n =
     ⊎-elim
     (λ w.
-    in-content k (drop 4 o) (x .content) (i .content) q (subst (λ (y : Payload). List·Memᴰ q (policiesIn (y .content))) w n))
+    in-content k (drop 4 o) (x .content) (i .content) q (subst (λ (y : Payload). List·Memᴰ q (policiesOfContent (y .content))) w n))
     (λ w. in-spans r p w q n) (List·Memᴰ·cases-cons m)
 
-of-policy : (o : List ℕ) (q : Policy) → IsPolicy o q → (a : GroupSaPolicy) → List·Memᴰ a (saOf q) → IsGroupSa o a
+of-policy : (o : List ℕ) (q : Policy) → IsPolicy o q → (a : GroupSaPolicy) → List·Memᴰ a (groupSaIn q) → IsGroupSa o a
 of-policy o _ (is-sa i) a m = subst (IsGroupSa o) (sym (List·Memᴰ·eq-of-singleton m)) i
 of-policy o _ (is-wide i) a m = absurd (List·Memᴰ·not-nil m)
 
@@ -67,8 +67,8 @@ spi-of o a i =
 module _ (octets : List ℕ) (f : Frame) (e : IsFrame octets f) (a : GroupSaPolicy) (m : List·Memᴰ a (announced f)) where
   pub spi-size : length (a .spi) ≡ spiSize (a .protocol)
   spi-size =
-      let q = gathered saOf a (policiesOf f) m in
-      let p = gathered (λ (x : Payload). policiesIn (x .content)) (q .from) (f .payloads) (q .stands) in
+      let q = gathered groupSaIn a (policiesOf f) m in
+      let p = gathered (λ (x : Payload). policiesOfContent (x .content)) (q .from) (f .payloads) (q .stands) in
       let i = in-spans (e .payloads) (p .from) (p .stands) (q .from) (p .gives) in
       spi-of (i .octets) a (of-policy (i .octets) (q .from) (i .is) a (q .gives))
 

@@ -14,7 +14,7 @@ use Rattle.state_keys.specs.Lists.{any, count, insert}
 use Rattle.state_keys.proofs.Cases.{bool-cases, and-whole}
 use Rattle.state_keys.proofs.Rising.{length-insert, count-insert}
 use Rattle.wire_policies.specs.Policy.{GroupSaPolicy}
-use Rattle.state_sa.specs.Entry.{spiOf, before, named, liveRekey}
+use Rattle.state_sa.specs.Entry.{saSpi, saBefore, named, liveRekey}
 use Rattle.state_sa.specs.declared.entry.Sa.{Sa}
 use Rattle.state_table.specs.Table.{tableOf}
 use Rattle.state_table.specs.inner.Changes.{entered}
@@ -32,7 +32,7 @@ use Rattle.rules_outcome.proofs.RunsMade.{made-length, made-count, made
 pub length-all : (m l : List Sa) → length (insertAll m l) ≡ length m + length l
 unfolding insertAll
 length-all [] l = omega arith
-length-all (a ∷ m) l = let h = length-all m l in let k = length-insert before a (insertAll m l) in omega arith
+length-all (a ∷ m) l = let h = length-all m l in let k = length-insert saBefore a (insertAll m l) in omega arith
 
 or-joined : (a b c : Bool) → (a || (b || c)) ≡ ((a || b) || c)
 or-joined true b c = refl
@@ -42,14 +42,14 @@ pub any-all : (q : Sa → Bool) (m l : List Sa) → any q (insertAll m l) ≡ (a
 unfolding insertAll any
 any-all q [] l = refl
 any-all q (a ∷ m) l =
-    any-insert before q a (insertAll m l) ∙ ap (λ (b : Bool). q a || b) (any-all q m l) ∙ or-joined (q a) (any q m) (any q l)
+    any-insert saBefore q a (insertAll m l) ∙ ap (λ (b : Bool). q a || b) (any-all q m l) ∙ or-joined (q a) (any q m) (any q l)
 
 pub count-all : (q : Sa → Bool) (m l : List Sa) → count q (insertAll m l) ≡ count q m + count q l
 unfolding insertAll count
 count-all q [] l = omega arith
 count-all q (a ∷ m) l =
     let h = count-all q m l in
-    count-insert before q a (insertAll m l)
+    count-insert saBefore q a (insertAll m l)
     ∙ bool-cases (q a) (λ g. rw g (omega arith)) (λ g. rw g h)
 
 count-first : (q : Sa → Bool) (a : Sa) (m l : List Sa) → count q (a ∷ l) + count q m ≡ count q (a ∷ m) + count q l
@@ -102,15 +102,15 @@ module _ (limits : Limits) (old : List Sa) where
       let c3 = made-count (and-made a x y t z e) in
       let c4 = count-all liveRekey m old in
       let c5 = count-first liveRekey s m w in
-      let name : any (named (s .protocol) (spiOf s)) w ≡ false =
+      let name : any (named (s .protocol) (saSpi s)) w ≡ false =
       (λ i. any (named (made-protocol now a x y i) (made-spi now a x y i)) w) ∙ any-all (named (a .protocol) (a .spi)) m old
       ∙ rw (made-any (a .protocol) (a .spi) e, u) (n a (List·Memᴰ·head refl)) in
       fit-entered limits s w h (omega arith) (made-formed now a x z y t) name (omega arith)
 
-  entered-is : (a : Sa) (l : List Sa) → length l < limits .sas → entered limits a (tableOf limits l) ≡ tableOf limits (insert before a l)
+  entered-is : (a : Sa) (l : List Sa) → length l < limits .sas → entered limits a (tableOf limits l) ≡ tableOf limits (insert saBefore a l)
   unfolding entered tableOf
   entered-is a l h =
-      rw (lt-ltb (length l) (limits .sas) h) (ap (λ (x : List Sa). tableOf limits (insert before a x)) (sas-of-table limits l))
+      rw (lt-ltb (length l) (limits .sas) h) (ap (λ (x : List Sa). tableOf limits (insert saBefore a x)) (sas-of-table limits l))
 
   pub new-blank : TableBlank limits (tableOf limits old) → {now : ℕ} {l : List GroupSaPolicy} {m : List Sa} → Made now l m →
       length l + length old ≤ limits .sas → TableBlank limits (tableOf limits (insertAll m old))

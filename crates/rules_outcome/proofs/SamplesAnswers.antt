@@ -8,8 +8,8 @@ use Rattle.state_keys.specs.Limits.{Limits}
 use Rattle.wire_frames.specs.Frame.{Frame}
 use Rattle.wire_frames.specs.Grammar.{IsFrame}
 use Rattle.state.specs.declared.State.{State}
-use Rattle.rules_refusals.specs.Refusals.{Number, one, applies, two, three, four, five, six, seven}
-use Rattle.rules_outcome.specs.Answer.{EightOf}
+use Rattle.rules_refusals.specs.Refusals.{Number, one, applies, number2, number3, number4, number5, number6, number7}
+use Rattle.rules_outcome.specs.Answer.{KeyConflictOf}
 use Rattle.rules_outcome.specs.After.{After}
 use Rattle.rules_outcome.specs.Outcome.{refused, accepted, Outcome, by-tree}
 use Rattle.rules_outcome.proofs.RunsClear.{None, Clear}
@@ -33,17 +33,17 @@ module _ (limits : Limits) (s : State) (now : ℕ) (lent octets : List ℕ) (f :
       by-tree f e
       (accepted next
       (inr (
-        not-applies (two limits s now (f .header .exchange) (f .header .spi)) (c .no-2),
+        not-applies (number2 limits s now (f .header .exchange) (f .header .spi)) (c .no-2),
         inr (
-          not-applies (three s (f .header .exchange) (f .header .messageId)) (c .no-3),
+          not-applies (number3 s (f .header .exchange) (f .header .messageId)) (c .no-3),
           inr (
-            not-applies (four f) (c .no-4),
+            not-applies (number4 f) (c .no-4),
             inr (
-              not-applies (five lent f) (c .no-5),
+              not-applies (number5 lent f) (c .no-5),
               inr (
-                not-applies (six s now f) (c .no-6),
+                not-applies (number6 s now f) (c .no-6),
                 inr (
-                  not-applies (seven limits s now f) (c .no-7),
+                  not-applies (number7 limits s now f) (c .no-7),
                   inr (
                     c .no-8,
                     inr (c .no-9, refl),
@@ -55,39 +55,39 @@ module _ (limits : Limits) (s : State) (now : ℕ) (lent octets : List ℕ) (f :
         ),
       )) a)
 
-  module _ (n2 : None (two limits s now (f .header .exchange) (f .header .spi))) where
-    pub outcome-3 : applies (three s (f .header .exchange) (f .header .messageId)) ≡ true → Outcome limits s now lent octets 3 s
+  module _ (n2 : None (number2 limits s now (f .header .exchange) (f .header .spi))) where
+    pub outcome-3 : applies (number3 s (f .header .exchange) (f .header .messageId)) ≡ true → Outcome limits s now lent octets 3 s
     outcome-3 h =
         by-tree f e
-        (refused 2 (inr (not-applies (two limits s now (f .header .exchange) (f .header .spi)) n2, inl (h, refl))))
+        (refused 2 (inr (not-applies (number2 limits s now (f .header .exchange) (f .header .spi)) n2, inl (h, refl))))
 
-    module _ (n3 : None (three s (f .header .exchange) (f .header .messageId))) (n4 : None (four f)) where
-      pub outcome-5 : applies (five lent f) ≡ true → Outcome limits s now lent octets 5 s
+    module _ (n3 : None (number3 s (f .header .exchange) (f .header .messageId))) (n4 : None (number4 f)) where
+      pub outcome-5 : applies (number5 lent f) ≡ true → Outcome limits s now lent octets 5 s
       outcome-5 h =
           by-tree f e
           (refused 4
           (inr (
-            not-applies (two limits s now (f .header .exchange) (f .header .spi)) n2,
+            not-applies (number2 limits s now (f .header .exchange) (f .header .spi)) n2,
             inr (
-              not-applies (three s (f .header .exchange) (f .header .messageId)) n3,
-              inr (not-applies (four f) n4, inl (h, refl)),
+              not-applies (number3 s (f .header .exchange) (f .header .messageId)) n3,
+              inr (not-applies (number4 f) n4, inl (h, refl)),
             ),
           )))
 
-      module _ (n5 : None (five lent f)) (n6 : None (six s now f)) (n7 : None (seven limits s now f)) where
-        pub outcome-8 : EightOf limits s now lent f → Outcome limits s now lent octets 8 s
+      module _ (n5 : None (number5 lent f)) (n6 : None (number6 s now f)) (n7 : None (number7 limits s now f)) where
+        pub outcome-8 : KeyConflictOf limits s now lent f → Outcome limits s now lent octets 8 s
         outcome-8 h =
             by-tree f e
             (refused 7
             (inr (
-              not-applies (two limits s now (f .header .exchange) (f .header .spi)) n2,
+              not-applies (number2 limits s now (f .header .exchange) (f .header .spi)) n2,
               inr (
-                not-applies (three s (f .header .exchange) (f .header .messageId)) n3,
+                not-applies (number3 s (f .header .exchange) (f .header .messageId)) n3,
                 inr (
-                  not-applies (four f) n4,
+                  not-applies (number4 f) n4,
                   inr (
-                    not-applies (five lent f) n5,
-                    inr (not-applies (six s now f) n6, inr (not-applies (seven limits s now f) n7, inl (h, refl))),
+                    not-applies (number5 lent f) n5,
+                    inr (not-applies (number6 s now f) n6, inr (not-applies (number7 limits s now f) n7, inl (h, refl))),
                   ),
                 ),
               ),

@@ -15,8 +15,9 @@ use Rattle.rfc5649.proofs.Determined.{opens-one}
 use Rattle.state_keys.specs.Algorithms.{sizeOf}
 use Rattle.state_keys.proofs.Sizes.{wrapping-size, among-is}
 use Rattle.wire_attributes.specs.Tree.{WrapKey, SaKey}
-use Rattle.rules_chains.specs.Chain.{In, Root, Chain, root, step, Ends, CopyOpens}
-use Rattle.rules_chains.specs.Refusals.{Announced, EntriesEight, CopiesEight, wrong-size, two-values, Eight, of-entries, of-copies, Nine, KeyOf}
+use Rattle.rules_chains.specs.Chain.{In, Root, Chain, root, step, ChainEnds, CopyOpens}
+use Rattle.rules_chains.specs.Refusals.{Announced, EntriesConflict, CopiesConflict, wrong-size, two-values, KeyConflict, of-entries}
+use Rattle.rules_chains.specs.Refusals.{of-copies, KeyMissing, KeyOf}
 use Rattle.rules_chains.proofs.Members.{in-member}
 
 -- ---- what a property that roots have and steps keep says of every chain
@@ -73,14 +74,14 @@ abbrev pub oneCopy : ℕ → ℕ → List ℕ → Announced
 oneCopy i n w = record { copies = record { keyId = 0; kwkId = i; wrapped = w } ∷ []; need = n }
 
 module _ (R : List Root) (l : List WrapKey) (size i n : ℕ) (v x : List ℕ) (key : Key v) (octets : Octets x) (count : length x ≡ n)
-    (least : 1 ≤ n) (most : n ≤ 256) (ends : Ends R l size i v) (only : (y : List ℕ) → Ends R l size i y → y ≡ v) where
+    (least : 1 ≤ n) (most : n ≤ 256) (ends : ChainEnds R l size i v) (only : (y : List ℕ) → ChainEnds R l size i y → y ≡ v) where
   abbrev copy : SaKey
   copy = record { keyId = 0; kwkId = i; wrapped = wrapOf v x }
 
   opens-to-x : (y : List ℕ) → CopyOpens R l size (copy ∷ []) y → y ≡ x
   opens-to-x y h =
       let c = one-entry (h .copy) copy (h .stands) in
-      let q = only (h .value) (subst (λ (k : SaKey). Ends R l size (k .kwkId) (h .value)) c (h .named)) in
+      let q = only (h .value) (subst (λ (k : SaKey). ChainEnds R l size (k .kwkId) (h .value)) c (h .named)) in
       opens-only v x key octets (omega arith) (omega arith) y
       (subst (λ (k : SaKey). Opens v (k .wrapped) y) c (subst (λ (z : List ℕ). Opens z (h .copy .wrapped) y) q (h .opens)))
 
@@ -97,15 +98,15 @@ module _ (R : List Root) (l : List WrapKey) (size i n : ℕ) (v x : List ℕ) (k
     every = opens-to-x;
   }
 
-  no-copies-eight : CopiesEight R l size (oneCopy i n (wrapOf v x)) → ⊥
+  no-copies-eight : CopiesConflict R l size (oneCopy i n (wrapOf v x)) → ⊥
   no-copies-eight (wrong-size y h d) = d (ap length (opens-to-x y h) ∙ count)
   no-copies-eight (two-values y z h k d) = d (opens-to-x y h ∙ sym (opens-to-x z k))
 
-  pub no-eight : (EntriesEight R l size → ⊥) → Eight R l size (oneCopy i n (wrapOf v x) ∷ []) → ⊥
+  pub no-eight : (EntriesConflict R l size → ⊥) → KeyConflict R l size (oneCopy i n (wrapOf v x) ∷ []) → ⊥
   no-eight f (of-entries h) = f h
-  no-eight f (of-copies a m h) = no-copies-eight (subst (CopiesEight R l size) (one-entry a (oneCopy i n (wrapOf v x)) m) h)
+  no-eight f (of-copies a m h) = no-copies-eight (subst (CopiesConflict R l size) (one-entry a (oneCopy i n (wrapOf v x)) m) h)
 
-  pub no-nine : Nine R l size (oneCopy i n (wrapOf v x) ∷ []) → ⊥
+  pub no-nine : KeyMissing R l size (oneCopy i n (wrapOf v x) ∷ []) → ⊥
   no-nine h =
       let e = one-entry (h .sa) (oneCopy i n (wrapOf v x)) (h .stands) in
       h .none x (subst (λ (a : Announced). CopyOpens R l size (a .copies) x) (sym e) (copy-opens .opens))
@@ -118,11 +119,11 @@ module _ (lent : List ℕ) (l : List WrapKey) (no-zero : (e : WrapKey) → In e 
   abbrev zeroRoots : List Root
   zeroRoots = zeroRoot lent ∷ []
 
-  pub at-zero : (v : List ℕ) → Ends zeroRoots l (length lent) 0 v → v ≡ lent
+  pub at-zero : (v : List ℕ) → ChainEnds zeroRoots l (length lent) 0 v → v ≡ lent
   at-zero v e =
       each-chain zeroRoots l (length lent) (λ (k : ℕ) (y : List ℕ). k ≡ 0 → y ≡ lent)
       (λ r m i. ap (λ (z : Root). z .value) (one-entry r (zeroRoot lent) m)) (λ e m y z g o i. absurd (no-zero e m i)) (e .passed) 0 v
       (e .chain) refl
 
-  pub ends-zero : Ends zeroRoots l (length lent) 0 lent
+  pub ends-zero : ChainEnds zeroRoots l (length lent) 0 lent
   ends-zero = record { passed = []; chain = root (zeroRoot lent) (record { place = 0; inside = omega arith; is = refl }) }

@@ -13,10 +13,10 @@ use Rattle.state_keys.specs.Lists.{any, rising}
 use Rattle.wire_attributes.specs.Tree.{WrapKey}
 use Rattle.state.specs.Held.{heldOf}
 use Rattle.rules_chains.specs.Chain.{In, Root, Chain, root, step, Reached}
-use Rattle.rules_chains.specs.Refusals.{EntriesEight, wrong-size, two-values}
+use Rattle.rules_chains.specs.Refusals.{EntriesConflict, wrong-size, two-values}
 use Rattle.rules_chains.proofs.Determined.{last-entry}
 use Rattle.rules_outcome.specs.After.{HeldAre}
-use Rattle.rules_outcome.specs.Samples.{entry, Wrapping, circle, Says}
+use Rattle.rules_outcome.specs.Samples.{entry, FitKey, circle, Says}
 use Rattle.rules_outcome.specs.Samples as samples
 use Rattle.rules_chains.proofs.Members.{in-member}
 use Rattle.rules_outcome.proofs.SamplesChains.{each-chain, wraps, zeroRoot}
@@ -50,7 +50,7 @@ module _ (lent a b : List ℕ) where
       (λ i. let n : r .last .keyId ≡ 9 = ap (λ (w : WrapKey). w .keyId) i in let q = e .1 in omega arith)
       (one-of-two (r .last) (entry 5 9 a) (entry 9 5 b) (e .0))
 
-  no-fault-around : EntriesEight (zeroRoot lent ∷ []) around (length lent) → ⊥
+  no-fault-around : EntriesConflict (zeroRoot lent ∷ []) around (length lent) → ⊥
   no-fault-around (wrong-size k y r n) = none-reached k y r
   no-fault-around (two-values k y z r q n) = none-reached k y r
 
@@ -71,7 +71,7 @@ circle-holds r now lent x a b octets g =
     (no-fault-around lent a b) [] (held-none lent a b)
 
 -- ---- (5 under 0) and (5 under 9), (9 under 0), two values for 5
-module _ (lent v w v₉ : List ℕ) (key : Key lent) (kv : Wrapping lent v) (kw : Wrapping lent w) (k₉ : Wrapping lent v₉) where
+module _ (lent v w v₉ : List ℕ) (key : Key lent) (kv : FitKey lent v) (kw : FitKey lent w) (k₉ : FitKey lent v₉) where
   abbrev twice : List WrapKey
   twice = entry 5 0 (wrapOf lent v) ∷ entry 5 9 (wrapOf v₉ w) ∷ entry 9 0 (wrapOf lent v₉) ∷ []
 
@@ -102,7 +102,7 @@ module _ (lent v w v₉ : List ℕ) (key : Key lent) (kv : Wrapping lent v) (kw 
         opens = wraps v₉ w (k₉ .key) (kw .key);
       })
 
-  faulty : (v ≡ w → ⊥) → EntriesEight (zeroRoot lent ∷ []) twice (length lent)
+  faulty : (v ≡ w → ⊥) → EntriesConflict (zeroRoot lent ∷ []) twice (length lent)
   faulty d =
       two-values 5 v w (record { last = entry 5 0 (wrapOf lent v); before = []; chain = at-once })
       (record { last = entry 5 9 (wrapOf v₉ w); before = entry 9 0 (wrapOf lent v₉) ∷ []; chain = then-5 }) d

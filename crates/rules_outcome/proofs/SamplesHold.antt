@@ -8,7 +8,8 @@ use Rattle.state_sa.specs.Entry.{dueBy}
 use Rattle.state_sa.proofs.Lifetimes.{due-without}
 use Rattle.state_sa.proofs.Samples.{wrapped-elapsed, wrapped-not-due, wrapped-due}
 use Rattle.state_sa.proofs.Samples as clock
-use Rattle.rules_outcome.specs.Samples.{Sample, clock-wraps, delay-zero, least-seven, last-id, two-steps, circle, two-values, lent-of-28}
+use Rattle.rules_outcome.specs.Samples.{Sample, clock-wraps, delay-zero, least-seven, last-id}
+use Rattle.rules_outcome.specs.Samples.{two-steps, circle, two-values, lent-of-28}
 use Rattle.rules_outcome.specs.Samples.{key-length-128, key-tree, Says}
 use Rattle.rules_outcome.proofs.SamplesRekeys.{least-seven-holds, last-id-holds}
 use Rattle.rules_outcome.proofs.SamplesFrame.{lent-of-28-holds}

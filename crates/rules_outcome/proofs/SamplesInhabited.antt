@@ -23,8 +23,9 @@ use Rattle.state.specs.Least.{acceptable}
 use Rattle.state.specs.State.{stateFormed}
 use Rattle.rules_outcome.specs.Outcome.{Outcome}
 use Rattle.rules_outcome.specs.Run.{StandsAt}
-use Rattle.rules_outcome.specs.Samples.{Around, registering, entry, Keying, Wrapping, Registers, Creates}
-use Rattle.rules_outcome.specs.Samples.{Sample, clock-wraps, delay-zero, least-seven, last-id, two-steps, circle, two-values, lent-of-28}
+use Rattle.rules_outcome.specs.Samples.{Around, registering, entry, Keying, FitKey, Registers, Creates}
+use Rattle.rules_outcome.specs.Samples.{Sample, clock-wraps, delay-zero, least-seven, last-id}
+use Rattle.rules_outcome.specs.Samples.{two-steps, circle, two-values, lent-of-28}
 use Rattle.rules_outcome.specs.Samples.{key-length-128, key-tree}
 use Rattle.rules_outcome.proofs.AtTick.{rekeySpi, one, seven, seven-formed, seven-stands, not-due, one-in, over-one}
 use Rattle.rules_outcome.proofs.SamplesRekeys.{deleted, delete-taken, deleted-stands}
@@ -71,7 +72,7 @@ pub record Values : Type 0 where
   pub v : List ℕ
   pub w : List ℕ
   pub v₉ : List ℕ
-  pub fit : Wrapping lent v × Wrapping lent w × Wrapping lent v₉
+  pub fit : FitKey lent v × FitKey lent w × FitKey lent v₉
   pub differ : v ≡ w → ⊥
   pub octets : List ℕ
   pub small : Octets octets
@@ -108,7 +109,7 @@ Inhabited last-id =
     × Later (m .state) (m .spi) 4294967295 9
 Inhabited two-steps =
     Entries (λ lent v₅ v₉. entry 5 9 (wrapOf v₉ v₅) ∷ entry 9 0 (wrapOf lent v₉) ∷ [])
-    (λ lent v₅ v₉. Wrapping lent v₅ × Wrapping lent v₉)
+    (λ lent v₅ v₉. FitKey lent v₅ × FitKey lent v₉)
 Inhabited circle = Entries (λ lent w₅ w₉. entry 5 9 w₅ ∷ entry 9 5 w₉ ∷ []) (λ lent w₅ w₉. Unit {0})
 Inhabited two-values = Values
 Inhabited lent-of-28 = Lent
@@ -145,7 +146,7 @@ key-16 k h = record { size = tt; small = same-octets 16 k h }
 abbrev lentKey : List ℕ
 lentKey = replicate 16 1
 
-fits : (k : ℕ) → k < 256 → Wrapping lentKey (replicate 16 k)
+fits : (k : ℕ) → k < 256 → FitKey lentKey (replicate 16 k)
 fits k h = record { key = key-16 k h; size = refl }
 
 keying : Keying (replicate 20 7)

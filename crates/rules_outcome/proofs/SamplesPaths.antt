@@ -11,9 +11,9 @@ use Rattle.state_keys.specs.Lists.{any, heads, rising}
 use Rattle.wire_attributes.specs.Tree.{WrapKey}
 use Rattle.state.specs.Held.{heldOf}
 use Rattle.rules_chains.specs.Chain.{In, Reached}
-use Rattle.rules_chains.specs.Refusals.{EntriesEight}
+use Rattle.rules_chains.specs.Refusals.{EntriesConflict}
 use Rattle.rules_outcome.specs.After.{HeldAre}
-use Rattle.rules_outcome.specs.Samples.{entry, heldWith, Wrapping, two-steps, Says}
+use Rattle.rules_outcome.specs.Samples.{entry, heldWith, FitKey, two-steps, Says}
 use Rattle.rules_outcome.proofs.SamplesChains.{zeroRoot}
 use Rattle.rules_outcome.proofs.SamplesTaken.{registers-0}
 use Rattle.rules_outcome.proofs.SamplesValued.{each-in, at, fit-at, no-fault, first, on, held-are}
@@ -22,7 +22,7 @@ pub here : {A : Type 0} (a : A) (l : List A) (i : ℕ) → i < length l → getD
 here a l i h e = record { place = i; inside = h; is = e }
 
 -- ---- (5 under 9), (9 under 0)
-module _ (lent v₅ v₉ : List ℕ) (key : Key lent) (w₅ : Wrapping lent v₅) (w₉ : Wrapping lent v₉) where
+module _ (lent v₅ v₉ : List ℕ) (key : Key lent) (w₅ : FitKey lent v₅) (w₉ : FitKey lent v₉) where
   abbrev five : WrapKey
   five = entry 5 9 (wrapOf v₉ v₅)
 
@@ -35,7 +35,7 @@ module _ (lent v₅ v₉ : List ℕ) (key : Key lent) (w₅ : Wrapping lent v₅
   abbrev value : ℕ → List ℕ
   value = at 5 v₅ (at 9 v₉ (λ (k : ℕ). lent))
 
-  fit : (k : ℕ) → Wrapping lent (value k)
+  fit : (k : ℕ) → FitKey lent (value k)
   fit =
       fit-at lent 5 v₅ (at 9 v₉ (λ (k : ℕ). lent)) w₅
       (fit-at lent 9 v₉ (λ (k : ℕ). lent) w₉ (λ k. record { key = key; size = refl }))
@@ -43,7 +43,7 @@ module _ (lent v₅ v₉ : List ℕ) (key : Key lent) (w₅ : Wrapping lent v₅
   wrapped : (e : WrapKey) → In e two → e .wrapped ≡ wrapOf (value (e .kwkId)) (value (e .keyId))
   wrapped = each-in (λ (e : WrapKey). e .wrapped ≡ wrapOf (value (e .kwkId)) (value (e .keyId))) two (refl, (refl, tt))
 
-  two-fit : EntriesEight (zeroRoot lent ∷ []) two (length lent) → ⊥
+  two-fit : EntriesConflict (zeroRoot lent ∷ []) two (length lent) → ⊥
   two-fit = no-fault value fit two wrapped
 
   to-9 : Reached (zeroRoot lent ∷ []) two (length lent) 9 v₉

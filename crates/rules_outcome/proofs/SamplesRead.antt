@@ -16,7 +16,7 @@ use Rattle.octets.proofs.Octets.{no-octets, one-octet, join-octets}
 use Rattle.state_keys.specs.Lists.{all}
 use Rattle.state_keys.proofs.Cases.{and-parts}
 use Rattle.fips197.specs.Key.{Key}
-use Rattle.rfc5649.specs.Wrap.{wrapOf, blocks, start}
+use Rattle.rfc5649.specs.Wrap.{wrapOf, blocks, startRegisters}
 use Rattle.rfc5649.specs.inner.Unwrap.{forward}
 use Rattle.rfc5649.proofs.Registers.{octets-in-octets}
 use Rattle.rfc5649.proofs.Wrapping.{length-wrap, wrap-registers}
@@ -30,7 +30,7 @@ use Rattle.wire_frames.specs.Frame.{Frame, frame, body, payload}
 use Rattle.wire_frames.specs.Grammar.{IsFrame}
 use Rattle.wire_frames.specs.Delete.{stretches}
 use Rattle.wire_frames.proofs.FrameGrammar.{read-frame}
-use Rattle.rules_outcome.specs.Samples.{deleting, Around, registering, entry, Keying, Wrapping, Rekeys}
+use Rattle.rules_outcome.specs.Samples.{deleting, Around, registering, entry, Keying, FitKey, Rekeys}
 
 -- ---- a registration
 unfoldable pub group : List ℕ
@@ -115,7 +115,8 @@ literal-octets (o ∷ l) e =
     let p = and-parts (ltb o 256) (all (λ (x : ℕ). ltb x 256) l) e in one-octet o l (ltb-true o 256 (p .0)) (literal-octets l (p .1))
 
 pub wrapped-octets : (key x : List ℕ) → Key key → Octets x → Octets (wrapOf key x)
-wrapped-octets key x k o = subst Octets (sym (wrap-registers key x k o)) (octets-in-octets (forward key (blocks (length x)) (start x)))
+wrapped-octets key x k o =
+    subst Octets (sym (wrap-registers key x k o)) (octets-in-octets (forward key (blocks (length x)) (startRegisters x)))
 
 firsts-octets : (n : ℕ) (w : List ℕ) → length w ≡ n → Octets w → Octets (firsts n w)
 firsts-octets n w e o = subst Octets (sym (all-firsts n w e)) o
@@ -151,20 +152,20 @@ pub record Read (f : Frame) : Type 0 where
 pub laid-out : (f : Frame) (r : Read f) → IsFrame (r .octets) f
 laid-out f r = read-frame (r .octets) f [] (r .reads)
 
-module _ (lent x v₉ : List ℕ) (key : Key lent) (size : length lent ≡ 16) (keying : Keying x) (w₉ : Wrapping lent v₉) where
+module _ (lent x v₉ : List ℕ) (key : Key lent) (size : length lent ≡ 16) (keying : Keying x) (w₉ : FitKey lent v₉) where
   x-is : firsts 32 (wrapOf lent x) ≡ wrapOf lent x
   x-is = wrapped-32 lent x key keying
 
-  under : (k v : List ℕ) → Key k → Wrapping lent v → firsts 24 (wrapOf k v) ≡ wrapOf k v
+  under : (k v : List ℕ) → Key k → FitKey lent v → firsts 24 (wrapOf k v) ≡ wrapOf k v
   under k v i h = wrapped-24 k v i (h .key) (h .size ∙ size)
 
   x-octets : Octets (firsts 32 (wrapOf lent x))
   x-octets = subst Octets (sym x-is) (wrapped-octets lent x key (keying .octets))
 
-  under-octets : (k v : List ℕ) → Key k → Wrapping lent v → Octets (firsts 24 (wrapOf k v))
+  under-octets : (k v : List ℕ) → Key k → FitKey lent v → Octets (firsts 24 (wrapOf k v))
   under-octets k v i h = subst Octets (sym (under k v i h)) (wrapped-octets k v i (h .key .small))
 
-  pub two-steps-read : (v₅ : List ℕ) → Wrapping lent v₅ →
+  pub two-steps-read : (v₅ : List ℕ) → FitKey lent v₅ →
       Read (registering around (wrapOf lent x) (entry 5 9 (wrapOf v₉ v₅) ∷ entry 9 0 (wrapOf lent v₉) ∷ []))
   two-steps-read v₅ w₅ = record {
     octets = registrationOctets 0 224 132 76 (wrapOf lent x) (entryOctets 5 9 (wrapOf v₉ v₅) ++ entryOctets 9 0 (wrapOf lent v₉));
@@ -179,7 +180,7 @@ module _ (lent x v₉ : List ℕ) (key : Key lent) (size : length lent ≡ 16) (
         ∙ (λ i. whole (registering around (x-is i) (entry 5 9 (under v₉ v₅ (w₉ .key) w₅ i) ∷ entry 9 0 (under lent v₉ key w₉ i) ∷ [])) []);
   }
 
-  pub two-values-read : (v w : List ℕ) → Wrapping lent v → Wrapping lent w →
+  pub two-values-read : (v w : List ℕ) → FitKey lent v → FitKey lent w →
       Read (registering around (wrapOf lent x)
       (entry 5 0 (wrapOf lent v) ∷ entry 5 9 (wrapOf v₉ w) ∷ entry 9 0 (wrapOf lent v₉) ∷ []))
   two-values-read v w kv kw = record {

@@ -23,7 +23,7 @@ use Rattle.wire_bags.specs.Bag.{bag}
 use Rattle.wire_frames.specs.Frame.{frame, body, payload}
 use Rattle.wire_frames.proofs.FrameGrammar.{read-frame}
 use Rattle.rules_refusals.specs.Fitness.{multicast, oneGroupAddress}
-use Rattle.rules_outcome.specs.Samples.{Around, creating, Creates, entry, Wrapping}
+use Rattle.rules_outcome.specs.Samples.{Around, creating, Creates, entry, FitKey}
 use Rattle.rules_outcome.proofs.SamplesRead.{group, anywhere, selectorOctets, firsts, entryOctets, all-firsts, literal-octets}
 use Rattle.rules_outcome.proofs.SamplesRead.{wrapped-24, wrapped-octets, entry-octets}
 
@@ -61,16 +61,16 @@ unfolding frame payload body policy suite saBody selector transform bag attribut
 tree-reads w a b c = refl
 
 module _ (lent x v₁ v₃ v₇ : List ℕ) (key : Key lent) (size : length lent ≡ 16) (long : length x ≡ 36) (small : Octets x)
-    (w₁ : Wrapping lent v₁) (w₃ : Wrapping lent v₃) (w₇ : Wrapping lent v₇) where
+    (w₁ : FitKey lent v₁) (w₃ : FitKey lent v₃) (w₇ : FitKey lent v₇) where
   x-is : firsts 48 (wrapOf v₁ x) ≡ wrapOf v₁ x
   x-is =
       all-firsts 48 (wrapOf v₁ x)
       (length-wrap v₁ x (w₁ .key) small (omega arith) (omega arith) ∙ ap (λ (m : ℕ). 8 * (blocks m + 1)) long)
 
-  under : (k v : List ℕ) → Key k → Wrapping lent v → firsts 24 (wrapOf k v) ≡ wrapOf k v
+  under : (k v : List ℕ) → Key k → FitKey lent v → firsts 24 (wrapOf k v) ≡ wrapOf k v
   under k v i h = wrapped-24 k v i (h .key) (h .size ∙ size)
 
-  under-octets : (k v : List ℕ) → Key k → Wrapping lent v → Octets (firsts 24 (wrapOf k v))
+  under-octets : (k v : List ℕ) → Key k → FitKey lent v → Octets (firsts 24 (wrapOf k v))
   under-octets k v i h = subst Octets (sym (under k v i h)) (wrapped-octets k v i (h .key .small))
 
   pub treeAt : List ℕ

@@ -20,21 +20,21 @@ use Rattle.state.specs.Held.{heldFormed}
 use Rattle.state.specs.State.{stateFormed}
 use Rattle.state.specs.Least.{acceptable, afterId}
 use Rattle.rules_refusals.specs.Contents.{gather}
-use Rattle.rules_refusals.specs.Number2.{standing, overLiveRekey, nonEmptyMember, otherSpis}
-use Rattle.rules_refusals.specs.Number3.{notAcceptable, three-ofMember}
+use Rattle.rules_refusals.specs.Number2.{notDueSas, overLiveRekey, nonEmptyMember, otherSpis}
+use Rattle.rules_refusals.specs.Number3.{notAcceptable, number3OfMember}
 use Rattle.rules_refusals.specs.Number4.{criticalUnknown, barredMemberBag, barredDelete, twoGsa, twoKd, gsaWithoutKd, kdWithoutGsa, neither}
 use Rattle.rules_refusals.specs.Number4.{severalRekeyPolicies, severalGroupWide, severalMemberBags, gsaWithoutSaPolicy, keyLengthTwice}
-use Rattle.rules_refusals.specs.Number4.{initialMessageIdTwice, delayTwice, otherDestination, lifetimeTwice, four-ofFrame}
-use Rattle.rules_refusals.specs.Number5.{ahPolicy, ahBag, otherTransforms, deleteOfOther, deleteOfNone, lentKeySize, five-ofFrame}
+use Rattle.rules_refusals.specs.Number4.{initialMessageIdTwice, delayTwice, otherDestination, lifetimeTwice, number4OfFrame}
+use Rattle.rules_refusals.specs.Number5.{ahPolicy, ahBag, otherTransforms, deleteOfOther, deleteOfNone, lentKeySize, number5OfFrame}
 use Rattle.rules_refusals.specs.Number6.{policyUnpaired, bagUnpaired, policyTwice, bagTwice, alreadyInTable, saKeyCount, saKeyId, espKwkId}
-use Rattle.rules_refusals.specs.Number6.{wrapKeyId, wrapsItself, six-ofFrame, six-ofMember}
+use Rattle.rules_refusals.specs.Number6.{wrapKeyId, wrapsItself, number6OfFrame, number6OfMember}
 use Rattle.rules_refusals.specs.Number7.{manyEspPolicies, manyWrapKeys, manySaKeys, manyDeletedSpis, longLifetime, manySas}
-use Rattle.rules_refusals.specs.Number7.{seven-ofFrame, seven-ofMember}
-use Rattle.rules_refusals.specs.Refusals.{one, two, three, four, five, six, seven}
+use Rattle.rules_refusals.specs.Number7.{number7OfFrame, number7OfMember}
+use Rattle.rules_refusals.specs.Refusals.{one, number2, number3, number4, number5, number6, number7}
 use Rattle.rules_chains.specs.Chain.{In, Root, Reached}
-use Rattle.rules_chains.specs.Refusals.{EntriesEight, wrong-size, two-values, Eight, of-entries, of-copies, Nine}
+use Rattle.rules_chains.specs.Refusals.{EntriesConflict, wrong-size, two-values, KeyConflict, of-entries, of-copies, KeyMissing}
 use Rattle.rules_chains.proofs.Determined.{last-entry}
-use Rattle.rules_outcome.specs.Answer.{EightOf, NineOf}
+use Rattle.rules_outcome.specs.Answer.{KeyConflictOf, KeyMissingOf}
 use Rattle.rules_outcome.specs.Roots.{announcedKeys, rootsOf, wrappingSize}
 use Rattle.rules_outcome.specs.After.{newRekey, oldSas, insertAll, no-sa, leastAfterwards, After}
 use Rattle.rules_outcome.specs.Run.{StandsAt}
@@ -56,19 +56,19 @@ module _ (roots : List Root) (size : ℕ) where
   none-reached : (k : ℕ) (y : List ℕ) → Reached roots [] size k y → ⊥
   none-reached k y r = none-in (r .last) (last-entry roots [] size k y r .0)
 
-  no-entries : EntriesEight roots [] size → ⊥
+  no-entries : EntriesConflict roots [] size → ⊥
   no-entries (wrong-size k y r n) = none-reached k y r
   no-entries (two-values k y z r q n) = none-reached k y r
 
-  none-eight : Eight roots [] size [] → ⊥
+  none-eight : KeyConflict roots [] size [] → ⊥
   none-eight (of-entries h) = no-entries h
   none-eight (of-copies a m h) = none-in a m
 
-  none-nine : Nine roots [] size [] → ⊥
+  none-nine : KeyMissing roots [] size [] → ⊥
   none-nine h = none-in (h .sa) (h .stands)
 
 -- 2 does not apply to a rekey over a Rekey SA that stands at the tick
-over-live : (s : State) (now : ℕ) (x : List ℕ) → stateFormed limits s ≡ true → StandsAt now x s → None (two limits s now 41 x)
+over-live : (s : State) (now : ℕ) (x : List ℕ) → stateFormed limits s ≡ true → StandsAt now x s → None (number2 limits s now 41 x)
 unfolding one nonEmptyMember otherSpis
 over-live s now x e k = record { ofFrame = refl; ofMember = rw (e, k) }
 
@@ -81,52 +81,52 @@ rekey-refused s now lent octets g r x e k h =
     let y = g .header .exchange in
     let i = g .header .messageId in
     outcome-3 limits s now lent octets g r
-    (subst (λ (z : ℕ). None (two limits s now z (g .header .spi))) (sym x) (over-live s now (g .header .spi) e k))
-    (applies-member (three s y i) (subst (λ (z : ℕ). one (three-ofMember s z i) ≡ true) (sym x) (rw h)))
+    (subst (λ (z : ℕ). None (number2 limits s now z (g .header .spi))) (sym x) (over-live s now (g .header .spi) e k))
+    (applies-member (number3 s y i) (subst (λ (z : ℕ). one (number3OfMember s z i) ≡ true) (sym x) (rw h)))
 
 -- ---- a rekey with D alone
 module _ (s : State) (now : ℕ) (x : List ℕ) (i : ℕ) (l : List (List ℕ)) where
-  no-4 : None (four (deleting x i l))
+  no-4 : None (number4 (deleting x i l))
   unfolding one any count gather criticalUnknown barredMemberBag barredDelete twoGsa twoKd gsaWithoutKd kdWithoutGsa neither
       severalRekeyPolicies severalGroupWide severalMemberBags gsaWithoutSaPolicy keyLengthTwice initialMessageIdTwice delayTwice
-      otherDestination lifetimeTwice four-ofFrame
+      otherDestination lifetimeTwice number4OfFrame
   no-4 = record { ofFrame = refl; ofMember = refl }
 
-  no-5 : (lent : List ℕ) → 1 ≤ length l → None (five lent (deleting x i l))
-  unfolding one any gather ahPolicy ahBag otherTransforms deleteOfOther deleteOfNone lentKeySize five-ofFrame
+  no-5 : (lent : List ℕ) → 1 ≤ length l → None (number5 lent (deleting x i l))
+  unfolding one any gather ahPolicy ahBag otherTransforms deleteOfOther deleteOfNone lentKeySize number5OfFrame
   no-5 lent h = record { ofFrame = rw (ne-eqb (length l) 0 (λ e. omega arith)); ofMember = refl }
 
-  no-6 : None (six s now (deleting x i l))
+  no-6 : None (number6 s now (deleting x i l))
   unfolding one any gather policyUnpaired bagUnpaired policyTwice bagTwice alreadyInTable saKeyCount saKeyId espKwkId wrapKeyId wrapsItself
-      six-ofFrame six-ofMember
+      number6OfFrame number6OfMember
   no-6 = record { ofFrame = refl; ofMember = refl }
 
-  standing-few : stateFormed limits s ≡ true → length (standing now s) ≤ limits .sas
+  standing-few : stateFormed limits s ≡ true → length (notDueSas now s) ≤ limits .sas
   unfolding stateFormed
   standing-few e =
       let t = and-parts (tableFormed limits (s .table)) (heldFormed limits (s .held)) e .0 in
       fit-keep limits (stays now) (sasOf (s .table)) (formed-fit limits (s .table) t) .room
 
-  no-7 : stateFormed limits s ≡ true → length l ≤ limits .deletedSpis → None (seven limits s now (deleting x i l))
-  unfolding one any count gather manyEspPolicies manyWrapKeys manySaKeys manyDeletedSpis longLifetime manySas seven-ofFrame seven-ofMember
+  no-7 : stateFormed limits s ≡ true → length l ≤ limits .deletedSpis → None (number7 limits s now (deleting x i l))
+  unfolding one any count gather manyEspPolicies manyWrapKeys manySaKeys manyDeletedSpis longLifetime manySas number7OfFrame number7OfMember
   no-7 e h =
       let k = standing-few e in
       let n : length (l ++ []) ≤ limits .deletedSpis =
       subst (λ (y : List (List ℕ)). length y ≤ limits .deletedSpis) (sym (append-nil l)) h in
       record {
         ofFrame = rw (le-ltb (limits .deletedSpis) (length (l ++ [])) n);
-        ofMember = rw (le-ltb (limits .sas) (length (standing now s) + 0) (omega arith));
+        ofMember = rw (le-ltb (limits .sas) (length (notDueSas now s) + 0) (omega arith));
       }
 
   module _ (lent : List ℕ) (e : stateFormed limits s ≡ true) (k : StandsAt now x s) where
     abbrev pub f : Frame
     f = deleting x i l
 
-    no-8 : EightOf limits s now lent f → ⊥
+    no-8 : KeyConflictOf limits s now lent f → ⊥
     unfolding gather announcedKeys
     no-8 = none-eight (rootsOf limits s now lent f) (wrappingSize limits s now lent f)
 
-    no-9 : NineOf limits s now lent f → ⊥
+    no-9 : KeyMissingOf limits s now lent f → ⊥
     unfolding gather announcedKeys
     no-9 = none-nine (rootsOf limits s now lent f) (wrappingSize limits s now lent f)
 
@@ -157,7 +157,7 @@ module _ (s : State) (now : ℕ) (x : List ℕ) (i : ℕ) (l : List (List ℕ)) 
       pub delete-taken : Outcome limits s now lent octets 0 deleted
       delete-taken = outcome-0 limits s now lent octets f g (clear-delete a b c) deleted after-delete
 
-      pub deleted-stands : (tick : ℕ) (y : Sa) → List·Memᴰ y (standing now s) → overLiveRekey x y ≡ true → due tick y ≡ false →
+      pub deleted-stands : (tick : ℕ) (y : Sa) → List·Memᴰ y (notDueSas now s) → overLiveRekey x y ≡ true → due tick y ≡ false →
           StandsAt tick x deleted
       unfolding gather any
       deleted-stands tick y = accepted-stands limits s now lent f (clear-delete a b c) deleted after-delete refl tick x y

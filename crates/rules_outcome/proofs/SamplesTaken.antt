@@ -26,10 +26,11 @@ use Rattle.rules_refusals.specs.Contents.{gather}
 use Rattle.rules_refusals.specs.Number6.{underItself}
 use Rattle.rules_refusals.specs.Fitness.{sum, encryptionOctets, keyWrapOctets}
 use Rattle.rules_chains.specs.Chain.{In, Root}
-use Rattle.rules_chains.specs.Refusals.{Announced, EntriesEight, Eight, of-entries, Nine, KeyOf}
-use Rattle.rules_outcome.specs.Answer.{EightOf, NineOf}
-use Rattle.rules_outcome.specs.Roots.{keyZero, rootsOf, entriesOf, wrappingSize, copiesOf, needOf, announcedAs, announcedKeys}
-use Rattle.rules_outcome.specs.After.{lifetimeFrom, saFrom, oldSas, insertAll, one-more, no-sa, HeldAre, HeldBy, leastAfterwards, After}
+use Rattle.rules_chains.specs.Refusals.{Announced, EntriesConflict, KeyConflict, of-entries, KeyMissing, KeyOf}
+use Rattle.rules_outcome.specs.Answer.{KeyConflictOf, KeyMissingOf}
+use Rattle.rules_outcome.specs.Roots.{keyZeroValue, rootsOf, entriesOf, wrappingSize, copiesOf, needOf, announcedAs, announcedKeys}
+use Rattle.rules_outcome.specs.After.{lifetimeFrom, saFrom, oldSas, insertAll, one-more}
+use Rattle.rules_outcome.specs.After.{no-sa, HeldAre, HeldBy, leastAfterwards, After}
 use Rattle.rules_outcome.specs.Outcome.{Outcome}
 use Rattle.rules_outcome.specs.Samples.{Around, espPolicy, registering, registered, Keying}
 use Rattle.rules_chains.proofs.Members.{in-member}
@@ -45,7 +46,7 @@ module _ (r : Around) (now : ℕ) (lent w : List ℕ) (l : List WrapKey) where
   f = registering r w l
 
   roots-are : rootsOf limits (newState limits) now lent f ≡ zeroRoot lent ∷ []
-  unfolding rootsOf keyZero
+  unfolding rootsOf keyZeroValue
   roots-are = rw (row-of (r .auth))
 
   entries-are : entriesOf f ≡ l
@@ -53,7 +54,7 @@ module _ (r : Around) (now : ℕ) (lent w : List ℕ) (l : List WrapKey) where
   entries-are = append-nil l
 
   size-is : wrappingSize limits (newState limits) now lent f ≡ length lent
-  unfolding wrappingSize keyZero
+  unfolding wrappingSize keyZeroValue
   size-is = rw (row-of (r .auth))
 
   sa-is : announcedAs f (espPolicy r) ≡ oneCopy 0 20 w
@@ -82,24 +83,26 @@ module _ (r : Around) (now : ℕ) (lent x octets : List ℕ) (l : List WrapKey) 
       never (eqb (e .keyId) 0) (eq-eqb (e .keyId) 0 i)
       (none-passes (λ (k : WrapKey). eqb (k .keyId) 0) l no-zero e (in-member e l m))
 
-  eight-is : EightOf limits (newState limits) now lent g ≡ Eight R l (length lent) (oneCopy 0 20 w ∷ [])
-  eight-is = λ i. Eight (roots-are r now lent w l i) (entries-are r now lent w l i) (size-is r now lent w l i) (keys-are r now lent w l i)
+  eight-is : KeyConflictOf limits (newState limits) now lent g ≡ KeyConflict R l (length lent) (oneCopy 0 20 w ∷ [])
+  eight-is = λ i. KeyConflict (roots-are r now lent w l i) (entries-are r now lent w l i) (size-is r now lent w l i)
+      (keys-are r now lent w l i)
 
-  nine-is : NineOf limits (newState limits) now lent g ≡ Nine R l (length lent) (oneCopy 0 20 w ∷ [])
-  nine-is = λ i. Nine (roots-are r now lent w l i) (entries-are r now lent w l i) (size-is r now lent w l i) (keys-are r now lent w l i)
+  nine-is : KeyMissingOf limits (newState limits) now lent g ≡ KeyMissing R l (length lent) (oneCopy 0 20 w ∷ [])
+  nine-is = λ i. KeyMissing (roots-are r now lent w l i) (entries-are r now lent w l i) (size-is r now lent w l i)
+      (keys-are r now lent w l i)
 
   key-is : KeyOf R l (length lent) (oneCopy 0 20 w) x ≡ KeyOf (rootsOf limits (newState limits) now lent g) (entriesOf g)
       (wrappingSize limits (newState limits) now lent g) (announcedAs g (espPolicy r)) x
   key-is = sym (λ i.
       KeyOf (roots-are r now lent w l i) (entries-are r now lent w l i) (size-is r now lent w l i) (sa-is r now lent w l i) x)
 
-  pub registers-8 : EntriesEight R l (length lent) → Outcome limits (newState limits) now lent octets 8 (newState limits)
+  pub registers-8 : EntriesConflict R l (length lent) → Outcome limits (newState limits) now lent octets 8 (newState limits)
   registers-8 h =
       outcome-8 limits (newState limits) now lent octets g reads (fresh-2 r now w l) (fresh-3 r now w l) (fresh-4 r now w l)
       (fresh-5 r now w l lent (key-size (length lent) (key .size))) (fresh-6 r now w l no-zero no-self) (fresh-7 r now w l few)
       (subst (λ (A : Type 0). A) (sym eight-is) (of-entries h))
 
-  module _ (none : EntriesEight R l (length lent) → ⊥) (keys : List HeldKey)
+  module _ (none : EntriesConflict R l (length lent) → ⊥) (keys : List HeldKey)
       (are : HeldAre R l (length lent) limits (heldOf limits keys)) where
     clear-registers : Clear limits (newState limits) now lent g
     clear-registers = record {
@@ -138,7 +141,8 @@ module _ (r : Around) (now : ℕ) (lent x octets : List ℕ) (l : List WrapKey) 
           (copy-opens R l (length lent) 0 20 lent x key (keying .octets) (keying .size) (omega arith) (omega arith)
           (ends-zero lent l not-zero) (at-zero lent l not-zero))) no-sa;
       table = refl;
-      held = subst (λ (e : Exchange). HeldBy (e .registers) Set (heldOf limits keys ≡ newState limits .held)) (sym (row-of (r .auth))) held-set;
+      held = subst (λ (e : Exchange). HeldBy (e .registers) Set (heldOf limits keys ≡ newState limits .held))
+          (sym (row-of (r .auth))) held-set;
       least = rw (row-of (r .auth));
     }
 

@@ -19,24 +19,24 @@ use Rattle.state.specs.declared.State.{State}
 use Rattle.state.specs.Held.{heldOf}
 use Rattle.state.specs.State.{newState}
 use Rattle.rules_refusals.specs.Contents.{gather}
-use Rattle.rules_refusals.specs.Fitness.{encryptionFits, keyWrapFits, authenticationFits, oneGroupAddress, exactly, transformsFit}
+use Rattle.rules_refusals.specs.Fitness.{encryptionFits, keyWrapFits, authenticationFits, oneGroupAddress, exactTransforms, transformsFit}
 use Rattle.rules_refusals.specs.Fitness.{sum, encryptionOctets, keyWrapOctets}
 use Rattle.rules_refusals.specs.Number4.{criticalUnknown, barredMemberBag, barredDelete, twoGsa, twoKd, gsaWithoutKd, kdWithoutGsa, neither}
 use Rattle.rules_refusals.specs.Number4.{severalRekeyPolicies, severalGroupWide, severalMemberBags, gsaWithoutSaPolicy, keyLengthTwice}
-use Rattle.rules_refusals.specs.Number4.{initialMessageIdTwice, delayTwice, otherDestination, lifetimeTwice, four-ofFrame}
-use Rattle.rules_refusals.specs.Number5.{ahPolicy, ahBag, otherTransforms, deleteOfOther, deleteOfNone, lentKeySize, five-ofFrame}
+use Rattle.rules_refusals.specs.Number4.{initialMessageIdTwice, delayTwice, otherDestination, lifetimeTwice, number4OfFrame}
+use Rattle.rules_refusals.specs.Number5.{ahPolicy, ahBag, otherTransforms, deleteOfOther, deleteOfNone, lentKeySize, number5OfFrame}
 use Rattle.rules_refusals.specs.Number6.{policyUnpaired, bagUnpaired, policyTwice, bagTwice, alreadyInTable, otherSaKeyCount, saKeyCount}
-use Rattle.rules_refusals.specs.Number6.{saKeyId, espKwkId, wrapKeyId, wrapsItself, six-ofFrame, six-ofMember}
+use Rattle.rules_refusals.specs.Number6.{saKeyId, espKwkId, wrapKeyId, wrapsItself, number6OfFrame, number6OfMember}
 use Rattle.rules_refusals.specs.Number7.{manyEspPolicies, manyWrapKeys, manySaKeys, manyDeletedSpis, longLifetime, manySas}
-use Rattle.rules_refusals.specs.Number7.{seven-ofFrame, seven-ofMember}
-use Rattle.rules_refusals.specs.Refusals.{one, four, five, six, seven}
-use Rattle.rules_chains.specs.Chain.{In, Root, Reached, Ends}
-use Rattle.rules_chains.specs.Refusals.{Announced, EntriesEight, Eight, Nine, KeyOf}
-use Rattle.rules_outcome.specs.Answer.{EightOf, NineOf}
+use Rattle.rules_refusals.specs.Number7.{number7OfFrame, number7OfMember}
+use Rattle.rules_refusals.specs.Refusals.{one, number4, number5, number6, number7}
+use Rattle.rules_chains.specs.Chain.{In, Root, Reached, ChainEnds}
+use Rattle.rules_chains.specs.Refusals.{Announced, EntriesConflict, KeyConflict, KeyMissing, KeyOf}
+use Rattle.rules_outcome.specs.Answer.{KeyConflictOf, KeyMissingOf}
 use Rattle.rules_outcome.specs.Roots.{rootsOf, entriesOf, wrappingSize, copiesOf, needOf, announcedAs, announcedKeys}
 use Rattle.rules_outcome.specs.After.{lifetimeFrom, saFrom, oldSas, insertAll, one-more, no-sa, HeldAre, HeldBy, initialMessageId}
 use Rattle.rules_outcome.specs.After.{leastAfterwards, After}
-use Rattle.rules_outcome.specs.Samples.{Around, rekeyPolicy, creating, created, Creates, entry, heldWith, Wrapping, key-tree, Says}
+use Rattle.rules_outcome.specs.Samples.{Around, rekeyPolicy, creating, created, Creates, entry, heldWith, FitKey, key-tree, Says}
 use Rattle.rules_outcome.proofs.Rows.{lent-roots, lent-size}
 use Rattle.rules_outcome.proofs.RunsClear.{None, Clear}
 use Rattle.rules_outcome.proofs.SamplesAnswers.{outcome-0}
@@ -46,7 +46,7 @@ use Rattle.rules_outcome.proofs.SamplesPaths.{here}
 use Rattle.rules_outcome.proofs.SamplesValued.{each-in, at, fit-at, ended, no-fault, first, on, held-are}
 
 -- ---- (1 under 3), (3 under 7), (7 under 0)
-module _ (lent v₁ v₃ v₇ : List ℕ) (key : Key lent) (w₁ : Wrapping lent v₁) (w₃ : Wrapping lent v₃) (w₇ : Wrapping lent v₇) where
+module _ (lent v₁ v₃ v₇ : List ℕ) (key : Key lent) (w₁ : FitKey lent v₁) (w₃ : FitKey lent v₃) (w₇ : FitKey lent v₇) where
   abbrev e₁ : WrapKey
   e₁ = entry 1 3 (wrapOf v₃ v₁)
 
@@ -62,7 +62,7 @@ module _ (lent v₁ v₃ v₇ : List ℕ) (key : Key lent) (w₁ : Wrapping lent
   abbrev pub values : ℕ → List ℕ
   values = at 1 v₁ (at 3 v₃ (at 7 v₇ (λ (k : ℕ). lent)))
 
-  pub fits : (k : ℕ) → Wrapping lent (values k)
+  pub fits : (k : ℕ) → FitKey lent (values k)
   fits =
       fit-at lent 1 v₁ (at 3 v₃ (at 7 v₇ (λ (k : ℕ). lent))) w₁
       (fit-at lent 3 v₃ (at 7 v₇ (λ (k : ℕ). lent)) w₃
@@ -71,7 +71,7 @@ module _ (lent v₁ v₃ v₇ : List ℕ) (key : Key lent) (w₁ : Wrapping lent
   pub under : (e : WrapKey) → In e tree → e .wrapped ≡ wrapOf (values (e .kwkId)) (values (e .keyId))
   under = each-in (λ (e : WrapKey). e .wrapped ≡ wrapOf (values (e .kwkId)) (values (e .keyId))) tree (refl, (refl, (refl, tt)))
 
-  pub tree-fit : EntriesEight (zeroRoot lent ∷ []) tree (length lent) → ⊥
+  pub tree-fit : EntriesConflict (zeroRoot lent ∷ []) tree (length lent) → ⊥
   tree-fit = no-fault values fits tree under
 
   to-7 : Reached (zeroRoot lent ∷ []) tree (length lent) 7 v₇
@@ -93,39 +93,39 @@ module _ (lent v₁ v₃ v₇ : List ℕ) (key : Key lent) (w₁ : Wrapping lent
       held-are values fits tree under ids refl (to-1, (to-3, (to-7, tt)))
       (here 1 ids 0 (omega arith) refl, (here 3 ids 1 (omega arith) refl, (here 7 ids 2 (omega arith) refl, tt)))
 
-  pub ends-1 : Ends (zeroRoot lent ∷ []) tree (length lent) 1 v₁
+  pub ends-1 : ChainEnds (zeroRoot lent ∷ []) tree (length lent) 1 v₁
   ends-1 = record { passed = to-1 .last ∷ to-1 .before; chain = to-1 .chain }
 
-  pub only-1 : (y : List ℕ) → Ends (zeroRoot lent ∷ []) tree (length lent) 1 y → y ≡ v₁
+  pub only-1 : (y : List ℕ) → ChainEnds (zeroRoot lent ∷ []) tree (length lent) 1 y → y ≡ v₁
   only-1 y n = ended values fits tree under 1 y n
 
 -- ---- numbers 4 to 7
-module _ (r : Around) (now : ℕ) (lent w v₁ v₃ v₇ : List ℕ) (key : Key lent) (w₁ : Wrapping lent v₁) (w₃ : Wrapping lent v₃)
-    (w₇ : Wrapping lent v₇) where
+module _ (r : Around) (now : ℕ) (lent w v₁ v₃ v₇ : List ℕ) (key : Key lent) (w₁ : FitKey lent v₁) (w₃ : FitKey lent v₃)
+    (w₇ : FitKey lent v₇) where
   abbrev f : Frame
   f = creating r w (tree lent v₁ v₃ v₇ key w₁ w₃ w₇)
 
-  tree-4 : oneGroupAddress (r .destination) ≡ true → None (four f)
+  tree-4 : oneGroupAddress (r .destination) ≡ true → None (number4 f)
   unfolding one any count gather criticalUnknown barredMemberBag barredDelete twoGsa twoKd gsaWithoutKd kdWithoutGsa neither
       severalRekeyPolicies severalGroupWide severalMemberBags gsaWithoutSaPolicy keyLengthTwice initialMessageIdTwice delayTwice
-      otherDestination lifetimeTwice four-ofFrame
+      otherDestination lifetimeTwice number4OfFrame
   tree-4 d = record { ofFrame = rw (row-of (r .auth), d); ofMember = refl }
 
   transforms-fit : transformsFit true (rekeyPolicy r) ≡ true
-  unfolding all any count transformsFit exactly encryptionFits keyWrapFits authenticationFits neededBy neededIn isRowOf
+  unfolding all any count transformsFit exactTransforms encryptionFits keyWrapFits authenticationFits neededBy neededIn isRowOf
   transforms-fit = refl
 
-  tree-5 : sizeOf 13 (length lent) ≡ true → None (five lent f)
-  unfolding one any gather ahPolicy ahBag otherTransforms deleteOfOther deleteOfNone lentKeySize five-ofFrame
+  tree-5 : sizeOf 13 (length lent) ≡ true → None (number5 lent f)
+  unfolding one any gather ahPolicy ahBag otherTransforms deleteOfOther deleteOfNone lentKeySize number5OfFrame
   tree-5 e = record { ofFrame = rw (row-of (r .auth), transforms-fit, e); ofMember = refl }
 
-  tree-6 : None (six (newState limits) now f)
+  tree-6 : None (number6 (newState limits) now f)
   unfolding one any count gather policyUnpaired bagUnpaired policyTwice bagTwice alreadyInTable otherSaKeyCount saKeyCount saKeyId espKwkId
-      wrapKeyId wrapsItself six-ofFrame six-ofMember newState tableOf keep
+      wrapKeyId wrapsItself number6OfFrame number6OfMember newState tableOf keep
   tree-6 = record { ofFrame = rw (row-of (r .auth), eq-same (r .spi) (r .spi) refl); ofMember = refl }
 
-  tree-7 : None (seven limits (newState limits) now f)
-  unfolding one any count gather manyEspPolicies manyWrapKeys manySaKeys manyDeletedSpis longLifetime manySas seven-ofFrame seven-ofMember
+  tree-7 : None (number7 limits (newState limits) now f)
+  unfolding one any count gather manyEspPolicies manyWrapKeys manySaKeys manyDeletedSpis longLifetime manySas number7OfFrame number7OfMember
       newState tableOf keep
   tree-7 = record { ofFrame = refl; ofMember = refl }
 
@@ -164,20 +164,20 @@ module _ (r : Around) (now : ℕ) (lent x v₁ v₃ v₇ octets : List ℕ) (c :
   unfolding announcedKeys gather
   keys-are = ap (λ (a : Announced). a ∷ []) sa-is
 
-  eight-is : EightOf limits s now lent g ≡ Eight R l (length lent) (top ∷ [])
-  eight-is = λ i. Eight (roots-are i) (entries-are i) (size-is i) (keys-are i)
+  eight-is : KeyConflictOf limits s now lent g ≡ KeyConflict R l (length lent) (top ∷ [])
+  eight-is = λ i. KeyConflict (roots-are i) (entries-are i) (size-is i) (keys-are i)
 
-  nine-is : NineOf limits s now lent g ≡ Nine R l (length lent) (top ∷ [])
-  nine-is = λ i. Nine (roots-are i) (entries-are i) (size-is i) (keys-are i)
+  nine-is : KeyMissingOf limits s now lent g ≡ KeyMissing R l (length lent) (top ∷ [])
+  nine-is = λ i. KeyMissing (roots-are i) (entries-are i) (size-is i) (keys-are i)
 
   key-is : KeyOf R l (length lent) top x
       ≡ KeyOf (rootsOf limits s now lent g) (entriesOf g) (wrappingSize limits s now lent g) (announcedAs g (rekeyPolicy r)) x
   key-is = sym (λ i. KeyOf (roots-are i) (entries-are i) (size-is i) (sa-is i) x)
 
-  ends : Ends R l (length lent) 1 v₁
+  ends : ChainEnds R l (length lent) 1 v₁
   ends = ends-1 lent v₁ v₃ v₇ (c .key) (c .first) (c .second) (c .third)
 
-  only : (y : List ℕ) → Ends R l (length lent) 1 y → y ≡ v₁
+  only : (y : List ℕ) → ChainEnds R l (length lent) 1 y → y ≡ v₁
   only = only-1 lent v₁ v₃ v₇ (c .key) (c .first) (c .second) (c .third)
 
   clear-tree : Clear limits s now lent g

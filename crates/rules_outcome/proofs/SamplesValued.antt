@@ -13,13 +13,13 @@ use Rattle.state_keys.specs.Lists.{rising}
 use Rattle.wire_attributes.specs.Tree.{WrapKey}
 use Rattle.state.specs.declared.held.HeldKey.{HeldKey}
 use Rattle.state.specs.Held.{heldOf, idBefore}
-use Rattle.rules_chains.specs.Chain.{In, Root, Reached, Ends}
-use Rattle.rules_chains.specs.Refusals.{EntriesEight, wrong-size, two-values}
+use Rattle.rules_chains.specs.Chain.{In, Root, Reached, ChainEnds}
+use Rattle.rules_chains.specs.Refusals.{EntriesConflict, wrong-size, two-values}
 use Rattle.rules_chains.proofs.Closure.{reached-first, reached-on}
 use Rattle.rules_chains.proofs.Determined.{last-entry}
 use Rattle.rules_chains.proofs.Members.{in-member}
-use Rattle.rules_outcome.specs.After.{Holds, HeldAre}
-use Rattle.rules_outcome.specs.Samples.{heldWith, Wrapping}
+use Rattle.rules_outcome.specs.After.{HoldsKey, HeldAre}
+use Rattle.rules_outcome.specs.Samples.{heldWith, FitKey}
 use Rattle.rules_outcome.proofs.Members.{in-head, in-cases, not-in-none, in-map, map-in}
 use Rattle.rules_outcome.proofs.SamplesChains.{each-chain, wraps, wraps-only, zeroRoot}
 
@@ -36,15 +36,15 @@ each-in P (b ∷ l) p a m = ⊎-elim (λ e. subst P (sym e) (p .0)) (λ k. each-
 abbrev pub at : ℕ → List ℕ → (ℕ → List ℕ) → ℕ → List ℕ
 at i v rest k = cond (eqb k i) v (rest k)
 
-pub fit-at : (lent : List ℕ) (i : ℕ) (v : List ℕ) (rest : ℕ → List ℕ) → Wrapping lent v → ((k : ℕ) → Wrapping lent (rest k)) →
-    (k : ℕ) → Wrapping lent (at i v rest k)
+pub fit-at : (lent : List ℕ) (i : ℕ) (v : List ℕ) (rest : ℕ → List ℕ) → FitKey lent v → ((k : ℕ) → FitKey lent (rest k)) →
+    (k : ℕ) → FitKey lent (at i v rest k)
 fit-at lent i v rest w f k = by (eqb k i)
   where
-    by : (b : Bool) → Wrapping lent (cond b v (rest k))
+    by : (b : Bool) → FitKey lent (cond b v (rest k))
     by true = w
     by false = f k
 
-module _ (value : ℕ → List ℕ) (fit : (k : ℕ) → Wrapping (value 0) (value k)) (l : List WrapKey)
+module _ (value : ℕ → List ℕ) (fit : (k : ℕ) → FitKey (value 0) (value k)) (l : List WrapKey)
     (wrapped : (e : WrapKey) → In e l → e .wrapped ≡ wrapOf (value (e .kwkId)) (value (e .keyId))) where
   abbrev size : ℕ
   size = length (value 0)
@@ -58,7 +58,7 @@ module _ (value : ℕ → List ℕ) (fit : (k : ℕ) → Wrapping (value 0) (val
       wraps-only (value (e .kwkId)) (value (e .keyId)) (fit (e .kwkId) .key) (fit (e .keyId) .key) x
       (subst (λ (w : List ℕ). Opens (value (e .kwkId)) w x) (wrapped e m) (subst (λ (z : List ℕ). Opens z (e .wrapped) x) q o))
 
-  pub ended : (k : ℕ) (v : List ℕ) → Ends R l size k v → v ≡ value k
+  pub ended : (k : ℕ) (v : List ℕ) → ChainEnds R l size k v → v ≡ value k
   ended k v n =
       each-chain R l size (λ (i : ℕ) (y : List ℕ). y ≡ value i)
       (λ a m. subst (λ (z : Root). z .value ≡ value (z .id)) (sym (List·Memᴰ·eq-of-singleton (in-member a R m))) refl) gives
@@ -67,7 +67,7 @@ module _ (value : ℕ → List ℕ) (fit : (k : ℕ) → Wrapping (value 0) (val
   valued : (k : ℕ) (y : List ℕ) → Reached R l size k y → y ≡ value k
   valued k y r = ended k y (record { passed = r .last ∷ r .before; chain = r .chain })
 
-  pub no-fault : EntriesEight R l size → ⊥
+  pub no-fault : EntriesConflict R l size → ⊥
   no-fault (wrong-size k y r n) = n (ap length (valued k y r) ∙ fit k .size)
   no-fault (two-values k y z r q n) = n (valued k y r ∙ sym (valued k z q))
 
@@ -91,7 +91,7 @@ module _ (value : ℕ → List ℕ) (fit : (k : ℕ) → Wrapping (value 0) (val
 
   module _ (ids : List ℕ) (rise : rising idBefore (map held ids) ≡ true) (leads : Each (λ (i : ℕ). Reached R l size i (value i)) ids)
       (only : Each (λ (e : WrapKey). In (e .keyId) ids) l) where
-    holds : (i : ℕ) → In i ids → Holds R l size (held i)
+    holds : (i : ℕ) → In i ids → HoldsKey R l size (held i)
     holds i m =
         record {
           x = value i;
@@ -104,7 +104,7 @@ module _ (value : ℕ → List ℕ) (fit : (k : ℕ) → Wrapping (value 0) (val
       keys = map held ids;
       is = refl;
       rise = rise;
-      each = λ k m. let r = in-map held k ids m in subst (Holds R l size) (sym (r .is)) (holds (r .item) (r .stands));
+      each = λ k m. let r = in-map held k ids m in subst (HoldsKey R l size) (sym (r .is)) (holds (r .item) (r .stands));
       all = λ i y v.
           let e = last-entry R l size i y (v .reached) in
           map-in held (heldWith i y) ids i

@@ -1,5 +1,5 @@
--- THE LISTS BY WHICH A FRAME IS JUDGED ARE ALL THAT STANDS IN IT, at whatever place, and no more: "The SAs a frame announces are those of its
--- Group SA policies"; "wherever the entries stand in the frame".
+-- THE LISTS BY WHICH A FRAME IS JUDGED ARE ALL THAT STANDS IN IT, at whatever place, and no more: "The SAs a frame announces are those of
+-- its Group SA policies"; "wherever the entries stand in the frame".
 use Prim.Native.Nat.{ℕ}
 use mathlib.Core.Path.{_≡_, refl, ap, sym, subst}
 use mathlib.Core.Logic.{⊎-elim, _↔_}
@@ -9,8 +9,9 @@ use Rattle.wire_policies.specs.Policy.{Policy, groupSa, groupWide, GroupSaPolic
 use Rattle.wire_bags.specs.Bag.{Bag, groupKeys, memberKeys, GroupKeyBag, MemberKeyBag}
 use Rattle.wire_frames.specs.Delete.{Delete}
 use Rattle.wire_frames.specs.Frame.{Frame, Payload, Content, gsa, kd, delete, unread}
-use Rattle.rules_refusals.specs.Contents.{policiesIn, bagsIn, deletesIn, saOf, wideOf, groupBagOf, memberBagOf}
-use Rattle.rules_refusals.specs.Contents.{policiesOf, bagsOf, deletesOf, announced, groupWides, groupBags, memberBags, wrapKeysOf, deletedSpis}
+use Rattle.rules_refusals.specs.Contents.{policiesOfContent, bagsOfContent, deletesOfContent, groupSaIn, wideOf, groupBagOf, memberBagOf}
+use Rattle.rules_refusals.specs.Contents.{policiesOf, bagsOf, deletesOf, announced, groupWides}
+use Rattle.rules_refusals.specs.Contents.{groupBags, memberBags, wrapKeysOf, deletedSpis}
 use Rattle.rules_chains.specs.Chain.{In}
 use Rattle.rules_outcome.specs.Stands.{HasPolicy, HasBag, HasWrapKey, HasSpi}
 use Rattle.rules_outcome.proofs.Members.{in-head, in-cases, not-in-none, in-gather, gather-in}
@@ -19,26 +20,26 @@ one-of : {A : Type 0} (a b : A) → In a (b ∷ []) → a ≡ b
 one-of a b i = ⊎-elim (λ e. e) (λ n. absurd (not-in-none a n)) (in-cases a b [] i)
 
 -- ---- what is in a payload is of its kind
-in-gsa : (c : Content) (x : Policy) → In x (policiesIn c) → (l : List Policy) × (c ≡ gsa l) × In x l
+in-gsa : (c : Content) (x : Policy) → In x (policiesOfContent c) → (l : List Policy) × (c ≡ gsa l) × In x l
 in-gsa (gsa l) x i = (l, refl, i)
 in-gsa (kd l) x i = absurd (not-in-none x i)
 in-gsa (delete d) x i = absurd (not-in-none x i)
 in-gsa unread x i = absurd (not-in-none x i)
 
-in-kd : (c : Content) (x : Bag) → In x (bagsIn c) → (l : List Bag) × (c ≡ kd l) × In x l
+in-kd : (c : Content) (x : Bag) → In x (bagsOfContent c) → (l : List Bag) × (c ≡ kd l) × In x l
 in-kd (gsa l) x i = absurd (not-in-none x i)
 in-kd (kd l) x i = (l, refl, i)
 in-kd (delete d) x i = absurd (not-in-none x i)
 in-kd unread x i = absurd (not-in-none x i)
 
-in-delete : (c : Content) (x : Delete) → In x (deletesIn c) → c ≡ delete x
+in-delete : (c : Content) (x : Delete) → In x (deletesOfContent c) → c ≡ delete x
 in-delete (gsa l) x i = absurd (not-in-none x i)
 in-delete (kd l) x i = absurd (not-in-none x i)
 in-delete (delete d) x i = ap delete (sym (one-of x d i))
 in-delete unread x i = absurd (not-in-none x i)
 
 -- ---- a policy is of one kind, and so is a bag
-is-sa : (q : Policy) (p : GroupSaPolicy) → In p (saOf q) → q ≡ groupSa p
+is-sa : (q : Policy) (p : GroupSaPolicy) → In p (groupSaIn q) → q ≡ groupSa p
 is-sa (groupSa r) p i = ap groupSa (sym (one-of p r i))
 is-sa (groupWide w) p i = absurd (not-in-none p i)
 
@@ -57,36 +58,38 @@ is-member (memberKeys c) b i = ap memberKeys (sym (one-of b c i))
 module _ (f : Frame) where
   has-policy : (x : Policy) → In x (policiesOf f) → HasPolicy f x
   has-policy x i =
-      let q = in-gather (λ (p : Payload). policiesIn (p .content)) x (f .payloads) i in
+      let q = in-gather (λ (p : Payload). policiesOfContent (p .content)) x (f .payloads) i in
       let r = in-gsa (q .item .content) x (q .is) in
       record { payload = q .item; stands = q .stands; policies = r .0; is-gsa = r .1; policy = r .2 }
 
   policy-has : (x : Policy) → HasPolicy f x → In x (policiesOf f)
   policy-has x h =
-      gather-in (λ (p : Payload). policiesIn (p .content)) x (f .payloads) (h .payload) (h .stands)
-      (subst (λ (c : Content). In x (policiesIn c)) (sym (h .is-gsa)) (h .policy))
+      gather-in (λ (p : Payload). policiesOfContent (p .content)) x (f .payloads) (h .payload) (h .stands)
+      (subst (λ (c : Content). In x (policiesOfContent c)) (sym (h .is-gsa)) (h .policy))
 
   has-bag : (x : Bag) → In x (bagsOf f) → HasBag f x
   has-bag x i =
-      let q = in-gather (λ (p : Payload). bagsIn (p .content)) x (f .payloads) i in
+      let q = in-gather (λ (p : Payload). bagsOfContent (p .content)) x (f .payloads) i in
       let r = in-kd (q .item .content) x (q .is) in
       record { payload = q .item; stands = q .stands; bags = r .0; is-kd = r .1; bag = r .2 }
 
   bag-has : (x : Bag) → HasBag f x → In x (bagsOf f)
   bag-has x h =
-      gather-in (λ (p : Payload). bagsIn (p .content)) x (f .payloads) (h .payload) (h .stands)
-      (subst (λ (c : Content). In x (bagsIn c)) (sym (h .is-kd)) (h .bag))
+      gather-in (λ (p : Payload). bagsOfContent (p .content)) x (f .payloads) (h .payload) (h .stands)
+      (subst (λ (c : Content). In x (bagsOfContent c)) (sym (h .is-kd)) (h .bag))
 
   -- "The SAs a frame announces are those of its Group SA policies."
   pub announced-are : (p : GroupSaPolicy) → In p (announced f) ↔ HasPolicy f (groupSa p)
   announced-are p = (
-    λ i. let q = in-gather saOf p (policiesOf f) i in subst (HasPolicy f) (is-sa (q .item) p (q .is)) (has-policy (q .item) (q .stands)),
-    λ h. gather-in saOf p (policiesOf f) (groupSa p) (policy-has (groupSa p) h) (in-head p p [] refl),
+    λ i. let q = in-gather groupSaIn p (policiesOf f) i in subst (HasPolicy f) (is-sa (q .item) p (q .is))
+        (has-policy (q .item) (q .stands)),
+    λ h. gather-in groupSaIn p (policiesOf f) (groupSa p) (policy-has (groupSa p) h) (in-head p p [] refl),
   )
 
   pub wides-are : (w : GroupWidePolicy) → In w (groupWides f) ↔ HasPolicy f (groupWide w)
   wides-are w = (
-    λ i. let q = in-gather wideOf w (policiesOf f) i in subst (HasPolicy f) (is-wide (q .item) w (q .is)) (has-policy (q .item) (q .stands)),
+    λ i. let q = in-gather wideOf w (policiesOf f) i in subst (HasPolicy f) (is-wide (q .item) w (q .is))
+        (has-policy (q .item) (q .stands)),
     λ h. gather-in wideOf w (policiesOf f) (groupWide w) (policy-has (groupWide w) h) (in-head w w [] refl),
   )
 
@@ -116,7 +119,7 @@ module _ (f : Frame) where
   deleted-are x = (
     λ i.
         let q = in-gather (λ (d : Delete). d .spis) x (deletesOf f) i in
-        let r = in-gather (λ (p : Payload). deletesIn (p .content)) (q .item) (f .payloads) (q .stands) in
+        let r = in-gather (λ (p : Payload). deletesOfContent (p .content)) (q .item) (f .payloads) (q .stands) in
         record {
           payload = r .item;
           stands = r .stands;
@@ -127,7 +130,7 @@ module _ (f : Frame) where
     λ h.
         let d = h .deletes in
         gather-in (λ (y : Delete). y .spis) x (deletesOf f) d
-        (gather-in (λ (p : Payload). deletesIn (p .content)) d (f .payloads) (h .payload) (h .stands)
-        (subst (λ (c : Content). In d (deletesIn c)) (sym (h .is-delete)) (in-head d d [] refl)))
+        (gather-in (λ (p : Payload). deletesOfContent (p .content)) d (f .payloads) (h .payload) (h .stands)
+        (subst (λ (c : Content). In d (deletesOfContent c)) (sym (h .is-delete)) (in-head d d [] refl)))
         (h .spi),
   )

@@ -16,10 +16,10 @@ use Rattle.state_keys.proofs.Cases.{bool-cases, and-parts}
 use Rattle.wire_bags.specs.Bag.{GroupKeyBag}
 use Rattle.wire_frames.specs.Frame.{Frame}
 use Rattle.wire_frames.specs.Grammar.{IsFrame}
-use Rattle.state_sa.specs.Entry.{formed, before, liveRekey, due}
+use Rattle.state_sa.specs.Entry.{saFormed, saBefore, liveRekey, due}
 use Rattle.state_sa.specs.declared.entry.Sa.{Sa}
 use Rattle.state_table.specs.declared.Table.{Table}
-use Rattle.state_table.specs.Table.{sasOf, tableOf, tableFormed, swept, notDue, stays, emptyAt, foundRekey, keyOf, defaultKey, theOne}
+use Rattle.state_table.specs.Table.{sasOf, tableOf, tableFormed, swept, notDue, stays, emptyAt, foundRekey, keyOfFound, defaultKey, theOne}
 use Rattle.state_table.proofs.Kept.{sas-of-table, formed-count}
 use Rattle.state_table.proofs.Laws.{changed-in, found-in}
 use Rattle.state.specs.declared.State.{State}
@@ -32,21 +32,21 @@ use Rattle.state.specs.State.{stateFormed}
 use Rattle.state.proofs.Kept.{keys-of-held}
 use Rattle.rules_refusals.specs.Contents.{rowOf, announced, groupBags, wrapKeysOf, deletedSpis}
 use Rattle.rules_refusals.specs.Fitness.{isEsp}
-use Rattle.rules_refusals.specs.Number2.{standing, nonEmptyMember, otherSpis}
+use Rattle.rules_refusals.specs.Number2.{notDueSas, nonEmptyMember, otherSpis}
 use Rattle.rules_refusals.specs.Number3.{notAcceptable}
-use Rattle.rules_refusals.specs.Number6.{alreadyInTable, six-ofMember}
+use Rattle.rules_refusals.specs.Number6.{alreadyInTable, number6OfMember}
 use Rattle.rules_refusals.specs.Number7.{manyEspPolicies, manyWrapKeys, manySaKeys, manyDeletedSpis, longLifetime, manySas}
-use Rattle.rules_refusals.specs.Number7.{seven-ofFrame, seven-ofMember}
-use Rattle.rules_refusals.specs.Refusals.{one, applies, two, three, six, seven}
+use Rattle.rules_refusals.specs.Number7.{number7OfFrame, number7OfMember}
+use Rattle.rules_refusals.specs.Refusals.{one, applies, number2, number3, number6, number7}
 use Rattle.rules_refusals.proofs.Clear.{or-none}
 use Rattle.rules_chains.specs.Chain.{Root}
-use Rattle.rules_outcome.specs.Roots.{ownKey, keyZeroBy, keyZero, heldRoot, rootsOf, entriesOf, wrappingSize}
-use Rattle.rules_outcome.specs.Answer.{EightOf, NineOf, conditions, Answers}
+use Rattle.rules_outcome.specs.Roots.{ownKey, keyZeroBy, keyZeroValue, heldRoot, rootsOf, entriesOf, wrappingSize}
+use Rattle.rules_outcome.specs.Answer.{KeyConflictOf, KeyMissingOf, conditions, FrameAnswers}
 use Rattle.rules_outcome.specs.After.{newRekey, oldSas, oldSa, insertAll, Enter, HeldAre, HeldBy, initialMessageId, leastBy}
 use Rattle.rules_outcome.specs.After.{leastAfterwards, After}
 use Rattle.rules_outcome.specs.Outcome.{Judged, refused, accepted, Outcome, no-layout, by-tree}
 use Rattle.rules_outcome.proofs.Following.{Follow, none, more, first-kept, alike}
-use Rattle.rules_outcome.specs.Wider.{Wider, Within, SameMember, inPlaces, Kept, AnswersKept}
+use Rattle.rules_outcome.specs.Wider.{Wider, Within, SameMember, inPlaces, AnswerKept, AnswersKept}
 
 -- ---- what is not over a limit is not over a wider one
 not-over : (x y n : ℕ) → x ≤ y → ltb x n ≡ false → ltb y n ≡ false
@@ -71,7 +71,7 @@ module _ (a b : Limits) (w : Wider a b) (s t : State) (i : Within a s) (m : Same
   unfolding tableFormed
   table-formed =
       rw (le-leb (s .table .count) (a .sas) sas-a, le-leb (t .table .count) (b .sas) sas-b)
-      (ap (λ (l : List Sa). all formed l && (rising before l && leb (count liveRekey l) 1)) (m .sas))
+      (ap (λ (l : List Sa). all saFormed l && (rising saBefore l && leb (count liveRekey l) 1)) (m .sas))
 
   held-b : t .held .count ≤ b .heldKeys
   held-b = let h = m .key-count in let g = i .heldKeys in let k = w .heldKeys in omega arith
@@ -92,29 +92,29 @@ module _ (a b : Limits) (w : Wider a b) (s t : State) (i : Within a s) (m : Same
     empty =
         rw (le-leb (s .table .count) (a .sas) sas-a, le-leb (t .table .count) (b .sas) sas-b) (ap (all (due now)) (m .sas))
 
-    stand : standing now s ≡ standing now t
+    stand : notDueSas now s ≡ notDueSas now t
     stand = ap (notDue now) (m .sas)
 
     -- the default key of the table as it stands
     made : (limits : Limits) (u : Table) → u .count ≤ limits .sas →
-        defaultKey limits (swept limits now u) ≡ keyOf (theOne liveRekey (notDue now (sasOf u)))
+        defaultKey limits (swept limits now u) ≡ keyOfFound (theOne liveRekey (notDue now (sasOf u)))
     unfolding defaultKey foundRekey swept tableOf
     made limits u h =
         let l = notDue now (sasOf u) in
         let n = length-keep (stays now) (sasOf u) in
         let k = length-take (u .count) (u .sas) in
-        ap (λ (x : Table). keyOf (foundRekey limits x)) (changed-in limits u (notDue now) h)
-        ∙ ap keyOf (found-in limits liveRekey (tableOf limits l) (omega arith) ∙ ap (theOne liveRekey) (sas-of-table limits l))
+        ap (λ (x : Table). keyOfFound (foundRekey limits x)) (changed-in limits u (notDue now) h)
+        ∙ ap keyOfFound (found-in limits liveRekey (tableOf limits l) (omega arith) ∙ ap (theOne liveRekey) (sas-of-table limits l))
 
     own : ownKey a s now ≡ ownKey b t now
     own =
         ap (λ (k : MadeWrapping). valueOf (k .key))
-        (made a (s .table) sas-a ∙ ap (λ (l : List Sa). keyOf (theOne liveRekey l)) stand ∙ sym (made b (t .table) sas-b))
+        (made a (s .table) sas-a ∙ ap (λ (l : List Sa). keyOfFound (theOne liveRekey l)) stand ∙ sym (made b (t .table) sas-b))
 
     module _ (lent : List ℕ) (f : Frame) where
       -- ---- chains go by the same keys
-      zero-same : keyZero a s now lent f ≡ keyZero b t now lent f
-      unfolding keyZero
+      zero-same : keyZeroValue a s now lent f ≡ keyZeroValue b t now lent f
+      unfolding keyZeroValue
       zero-same = ap (keyZeroBy (rowOf f .zero) lent) own
 
       roots : rootsOf a s now lent f ≡ rootsOf b t now lent f
@@ -126,29 +126,30 @@ module _ (a b : Limits) (w : Wider a b) (s t : State) (i : Within a s) (m : Same
       size = ap length zero-same
 
       -- ---- numbers 2, 3, 6, 8 and 9 say the same; 7 that does not hold does not hold under the wider limits
-      two-same : applies (two a s now (f .header .exchange) (f .header .spi)) ≡ applies (two b t now (f .header .exchange) (f .header .spi))
+      two-same : applies (number2 a s now (f .header .exchange) (f .header .spi))
+          ≡ applies (number2 b t now (f .header .exchange) (f .header .spi))
       unfolding one nonEmptyMember otherSpis
       two-same = rw (empty, stand, state-formed)
 
-      three-same : applies (three s (f .header .exchange) (f .header .messageId))
-          ≡ applies (three t (f .header .exchange) (f .header .messageId))
+      three-same : applies (number3 s (f .header .exchange) (f .header .messageId))
+          ≡ applies (number3 t (f .header .exchange) (f .header .messageId))
       unfolding one notAcceptable
       three-same = rw (m .least)
 
-      six-same : applies (six s now f) ≡ applies (six t now f)
-      unfolding one six-ofMember alreadyInTable
+      six-same : applies (number6 s now f) ≡ applies (number6 t now f)
+      unfolding one number6OfMember alreadyInTable
       six-same = rw stand
 
-      eight-same : EightOf a s now lent f ≡ EightOf b t now lent f
+      eight-same : KeyConflictOf a s now lent f ≡ KeyConflictOf b t now lent f
       eight-same = rw (roots, size)
 
-      nine-same : NineOf a s now lent f ≡ NineOf b t now lent f
+      nine-same : KeyMissingOf a s now lent f ≡ KeyMissingOf b t now lent f
       nine-same = rw (roots, size)
 
-      seven-less : applies (seven a s now f) ≡ false → applies (seven b t now f) ≡ false
-      unfolding one seven-ofFrame seven-ofMember manyEspPolicies manyWrapKeys manySaKeys manyDeletedSpis manySas
+      seven-less : applies (number7 a s now f) ≡ false → applies (number7 b t now f) ≡ false
+      unfolding one number7OfFrame number7OfMember manyEspPolicies manyWrapKeys manySaKeys manyDeletedSpis manySas
       seven-less e =
-          let p = or-none (one (seven-ofFrame a f)) (one (seven-ofMember a s now f)) e in
+          let p = or-none (one (number7OfFrame a f)) (one (number7OfMember a s now f)) e in
           let e1 = or-none (manyEspPolicies a f) _ (p .0) in
           let e2 = or-none (manyWrapKeys a f) _ (e1 .1) in
           let e3 = or-none (manySaKeys a f) _ (e2 .1) in
@@ -161,13 +162,13 @@ module _ (a b : Limits) (w : Wider a b) (s t : State) (i : Within a s) (m : Same
             none-over (a .saKeys) (b .saKeys) (λ (x : GroupKeyBag). length (x .keys)) (groupBags f) (w .saKeys) (e3 .0),
             not-over (a .deletedSpis) (b .deletedSpis) (length (deletedSpis f)) (w .deletedSpis) (e4 .0),
             e6 .0,
-            not-over (a .sas) (b .sas) (length (standing now t) + length (announced f)) (w .sas)
+            not-over (a .sas) (b .sas) (length (notDueSas now t) + length (announced f)) (w .sas)
                 (ap (λ (l : List Sa). ltb (a .sas) (length l + length (announced f))) (sym stand) ∙ e5 .0),
           )
 
-      seven-none : (applies (seven a s now f) ≡ true → ⊥) → applies (seven b t now f) ≡ true → ⊥
+      seven-none : (applies (number7 a s now f) ≡ true → ⊥) → applies (number7 b t now f) ≡ true → ⊥
       seven-none never h =
-          bool-cases (applies (seven a s now f)) (λ g. absurd (never g)) (λ g. absurd (false≢true (sym (seven-less g) ∙ h)))
+          bool-cases (applies (number7 a s now f)) (λ g. absurd (never g)) (λ g. absurd (false≢true (sym (seven-less g) ∙ h)))
 
       conditions-follow : Follow 7 (conditions a s now lent f) (conditions b t now lent f)
       conditions-follow =
@@ -181,7 +182,7 @@ module _ (a b : Limits) (w : Wider a b) (s t : State) (i : Within a s) (m : Same
           (more (alike 7 9 nine-same)
           none)))))))
 
-      answers-same : (n : ℕ) → (n ≡ 7 → ⊥) → Answers a s now lent f n → Answers b t now lent f n
+      answers-same : (n : ℕ) → (n ≡ 7 → ⊥) → FrameAnswers a s now lent f n → FrameAnswers b t now lent f n
       answers-same n q h = first-kept 7 conditions-follow n q h
 
       -- ---- the member after it is the same
@@ -257,7 +258,7 @@ module _ (a b : Limits) (w : Wider a b) (s t : State) (i : Within a s) (m : Same
           }
 
       judged-kept : (octets : List ℕ) (n : ℕ) (next : State) → IsFrame octets f → (n ≡ 7 → ⊥) → Judged a s now lent f n next →
-          Kept b t now lent octets n next
+          AnswerKept b t now lent octets n next
       judged-kept octets _ _ g q (refused n p) =
           record { then = t; outcome = by-tree f g (refused n (answers-same (suc n) q p)); same = m }
       judged-kept octets _ _ g q (accepted next p x) =
@@ -265,7 +266,7 @@ module _ (a b : Limits) (w : Wider a b) (s t : State) (i : Within a s) (m : Same
           record { then = y .then; outcome = by-tree f g (accepted (y .then) (answers-same 0 q p) (y .after)); same = y .same }
 
   outcome-kept : (now : ℕ) (lent octets : List ℕ) (n : ℕ) (next : State) → Outcome a s now lent octets n next → (n ≡ 7 → ⊥) →
-      Kept b t now lent octets n next
+      AnswerKept b t now lent octets n next
   outcome-kept now lent octets _ _ (no-layout o) q = record { then = t; outcome = no-layout o; same = m }
   outcome-kept now lent octets n next (by-tree f g j) q = judged-kept now lent f octets n next g q j
 

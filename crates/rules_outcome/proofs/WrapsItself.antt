@@ -14,7 +14,7 @@ use Rattle.wire_frames.specs.Frame.{Frame}
 use Rattle.wire_frames.specs.Grammar.{IsFrame}
 use Rattle.state.specs.declared.State.{State}
 use Rattle.rules_refusals.specs.Contents.{memberBags, wrapKeysOf}
-use Rattle.rules_refusals.specs.Number6.{underItself, wrapsItself, six-ofFrame, six-ofMember}
+use Rattle.rules_refusals.specs.Number6.{underItself, wrapsItself, number6OfFrame, number6OfMember}
 use Rattle.rules_refusals.specs.Refusals.{one}
 use Rattle.rules_refusals.proofs.OneOf.{one-at}
 use Rattle.rules_chains.specs.Chain.{In}
@@ -62,10 +62,10 @@ module _ (limits : Limits) (s : State) (now : ℕ) (lent octets : List ℕ) (f :
 
   -- "Any such WRAP_KEY, reached or not, now gives number 6": its condition is met, whatever the member, the lent key and the tick are
   pub meets-six : Met 6
-  unfolding six-ofFrame
+  unfolding number6OfFrame
   meets-six =
       meets-6 limits s now lent octets f e
-      (ap (λ (b : Bool). b || one (six-ofMember s now f)) (one-at 8 (six-ofFrame f) (clause f w)))
+      (ap (λ (b : Bool). b || one (number6OfMember s now f)) (one-at 8 (number6OfFrame f) (clause f w)))
 
   -- so it is the answer where none lower is met, and the member stays
   module _ (low : (m : ℕ) → m < 6 → Met m → ⊥) where

@@ -13,7 +13,7 @@ use Rattle.wire_policies.specs.Policy.{GroupSaPolicy, GroupWidePolicy}
 use Rattle.wire_frames.specs.Frame.{Frame}
 use Rattle.wire_frames.specs.declared.exchanges.LeastAfter.{LeastAfter}
 use Rattle.wire_frames.specs.declared.exchanges.LeastAfter.the-variants as leastAfter
-use Rattle.state_sa.specs.Entry.{esp, rekey, spiOf, before, espSa, rekeySa}
+use Rattle.state_sa.specs.Entry.{espProtocol, rekeyProtocol, saSpi, saBefore, espSa, rekeySa}
 use Rattle.state_sa.specs.declared.entry.Lifetime.{Lifetime}
 use Rattle.state_sa.specs.declared.entry.Lifetime.the-variants.{Unlimited, Limited}
 use Rattle.state_sa.specs.declared.entry.Sa.{Sa}
@@ -27,7 +27,7 @@ use Rattle.state.specs.Held.{heldOf, idBefore}
 use Rattle.state.specs.Least.{afterId}
 use Rattle.rules_refusals.specs.Contents.{rowOf, some, announced, groupWides, deletedSpis}
 use Rattle.rules_refusals.specs.Fitness.{isEsp, isRekey, sum, encryptionOctets, keyWrapOctets}
-use Rattle.rules_refusals.specs.Number2.{standing}
+use Rattle.rules_refusals.specs.Number2.{notDueSas}
 use Rattle.rules_chains.specs.Chain.{In, Root}
 use Rattle.rules_chains.specs.Refusals.{Value, KeyOf}
 use Rattle.rules_outcome.specs.Roots.{rootsOf, entriesOf, wrappingSize, announcedAs}
@@ -45,11 +45,11 @@ abbrev pub isZero : List ℕ → Bool
 isZero x = all (λ (o : ℕ). eqb o 0) x
 
 unfoldable pub namedInDelete : Frame → Sa → Bool
-namedInDelete f s = eqb (s .protocol) esp && any (λ (x : List ℕ). isZero x || same (spiOf s) x) (deletedSpis f)
+namedInDelete f s = eqb (s .protocol) espProtocol && any (λ (x : List ℕ). isZero x || same (saSpi s) x) (deletedSpis f)
 
 -- "A new Rekey SA turns the old one to retiring."
 unfoldable pub replaced : Frame → Sa → Bool
-replaced f s = newRekey f && eqb (s .protocol) rekey
+replaced f s = newRekey f && eqb (s .protocol) rekeyProtocol
 
 -- those that retire, where they are live: "retiring ones are passed over" (they keep their start and delay)
 abbrev pub retires : Frame → Sa → Bool
@@ -61,7 +61,7 @@ oldSa now f = retiredIf (retires f) now (delayOf f)
 
 -- "First, SAs due at the tick go"
 unfoldable pub oldSas : State → ℕ → Frame → List Sa
-oldSas s now f = map (oldSa now f) (standing now s)
+oldSas s now f = map (oldSa now f) (notDueSas now s)
 
 -- "its lifetime (GSA_KEY_LIFETIME, ..) and the tick of its start, or "no lifetime" if the attribute is missing" (document 02, T-07): the
 -- tick is that of the frame that brings the SA; number 4 leaves one attribute at most
@@ -76,7 +76,7 @@ saFrom now a x =
 
 unfoldable pub insertAll : List Sa → List Sa → List Sa
 insertAll [] l = l
-insertAll (a ∷ m) l = insert before a (insertAll m l)
+insertAll (a ∷ m) l = insert saBefore a (insertAll m l)
 
 module _ (roots : List Root) (entries : List WrapKey) (size : ℕ) where
   -- "each of those SAs stands in the table .. with the octets that every such copy opens to"
@@ -86,7 +86,7 @@ module _ (roots : List Root) (entries : List WrapKey) (size : ℕ) where
         Enter now f l m → Enter now f (a ∷ l) (saFrom now a x ∷ m)
 
   -- a held key: the value that every chain ending on its Key ID gives, one at least
-  pub record Holds (k : HeldKey) : Type 0 where
+  pub record HoldsKey (k : HeldKey) : Type 0 where
     pub x : List ℕ
     pub key-is : k .key ≡ wrappingOf x
     pub value : Value roots entries size (k .id) x
@@ -97,7 +97,7 @@ module _ (roots : List Root) (entries : List WrapKey) (size : ℕ) where
     pub keys : List HeldKey
     pub is : h ≡ heldOf limits keys
     pub rise : rising idBefore keys ≡ true
-    pub each : (k : HeldKey) → In k keys → Holds k
+    pub each : (k : HeldKey) → In k keys → HoldsKey k
     pub all : (i : ℕ) (x : List ℕ) → Value roots entries size i x → In (record { id = i; key = wrappingOf x }) keys
 
 -- "A registration sets the held list as reached; a rekey leaves it."; in GSA_INBAND_REKEY "the held list stays" (T-02)
@@ -125,6 +125,7 @@ pub record After (limits : Limits) (s : State) (now : ℕ) (lent : List ℕ) (f 
   pub enter : Enter (rootsOf limits s now lent f) (entriesOf f) (wrappingSize limits s now lent f) now f (announced f) new
   pub table : next .table ≡ tableOf limits (insertAll new (oldSas s now f))
   pub held :
-      HeldBy (rowOf f .registers) (HeldAre (rootsOf limits s now lent f) (entriesOf f) (wrappingSize limits s now lent f) limits (next .held))
+      HeldBy (rowOf f .registers) (HeldAre (rootsOf limits s now lent f) (entriesOf f) (wrappingSize limits s now lent f) limits
+      (next .held))
       (next .held ≡ s .held)
   pub least : next .least ≡ leastAfterwards s f

@@ -9,35 +9,37 @@ use Rattle.state_keys.specs.Limits.{Limits}
 use Rattle.wire_frames.specs.Frame.{Frame}
 use Rattle.state.specs.declared.State.{State}
 use Rattle.rules_refusals.specs.Refusals.{Number, applies, numbers}
-use Rattle.rules_chains.specs.Refusals.{Eight, Nine}
+use Rattle.rules_chains.specs.Refusals.{KeyConflict, KeyMissing}
 use Rattle.rules_outcome.specs.Roots.{rootsOf, entriesOf, wrappingSize, announcedKeys}
 
-pub record Condition : Type 1 where
+pub record RefusalCase : Type 1 where
   pub number : ℕ
   pub holds : Type 0
 
 -- n is the number of the first condition that holds; 0 where none does
-abbrev pub First : List Condition → ℕ → Type 0
+abbrev pub First : List RefusalCase → ℕ → Type 0
 First [] n = n ≡ 0
 First (c ∷ l) n = (c .holds × (n ≡ c .number)) ⊎ ((c .holds → ⊥) × First l n)
 
 -- numbers 2 to 7, by their clauses
-abbrev pub byClauses : Number → Condition
+abbrev pub byClauses : Number → RefusalCase
 byClauses n = record { number = n .number; holds = applies n ≡ true }
 
 -- 8: "a reached wrapping opens to a wrong size, or two reached ones give one key two values"; 9: "some announced SA has no copy that opens"
-abbrev pub EightOf : Limits → State → ℕ → List ℕ → Frame → Type 0
-EightOf limits s now lent f =
-    Eight (rootsOf limits s now lent f) (entriesOf f) (wrappingSize limits s now lent f) (announcedKeys f)
+abbrev pub KeyConflictOf : Limits → State → ℕ → List ℕ → Frame → Type 0
+KeyConflictOf limits s now lent f =
+    KeyConflict (rootsOf limits s now lent f) (entriesOf f) (wrappingSize limits s now lent f) (announcedKeys f)
 
-abbrev pub NineOf : Limits → State → ℕ → List ℕ → Frame → Type 0
-NineOf limits s now lent f = Nine (rootsOf limits s now lent f) (entriesOf f) (wrappingSize limits s now lent f) (announcedKeys f)
+abbrev pub KeyMissingOf : Limits → State → ℕ → List ℕ → Frame → Type 0
+KeyMissingOf limits s now lent f =
+    KeyMissing (rootsOf limits s now lent f) (entriesOf f) (wrappingSize limits s now lent f) (announcedKeys f)
 
-abbrev pub conditions : Limits → State → ℕ → List ℕ → Frame → List Condition
+abbrev pub conditions : Limits → State → ℕ → List ℕ → Frame → List RefusalCase
 conditions limits s now lent f =
     map byClauses (numbers limits s now lent f)
-    ++ (record { number = 8; holds = EightOf limits s now lent f } ∷ record { number = 9; holds = NineOf limits s now lent f } ∷ [])
+    ++ (record { number = 8; holds = KeyConflictOf limits s now lent f }
+    ∷ record { number = 9; holds = KeyMissingOf limits s now lent f } ∷ [])
 
 -- THE ANSWER TO A FRAME WHOSE LAYOUT IS WHOLE
-abbrev pub Answers : Limits → State → ℕ → List ℕ → Frame → ℕ → Type 0
-Answers limits s now lent f n = First (conditions limits s now lent f) n
+abbrev pub FrameAnswers : Limits → State → ℕ → List ℕ → Frame → ℕ → Type 0
+FrameAnswers limits s now lent f n = First (conditions limits s now lent f) n

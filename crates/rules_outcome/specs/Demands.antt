@@ -12,8 +12,8 @@ use Rattle.fips197.specs.Key.{Key}
 use Rattle.rfc5649.specs.Wrap.{wrapOf}
 use Rattle.rfc5649.specs.Opens.{Opens}
 use Rattle.keywrap.specs.Answers.{written, OpenAnswers}
-use Rattle.keywrap.specs.declared.Answer.{Answer}
-use Rattle.keywrap.specs.declared.Answer.the-variants.{Count}
+use Rattle.keywrap.specs.declared.WrapAnswer.{WrapAnswer}
+use Rattle.keywrap.specs.declared.WrapAnswer.the-variants.{Count}
 use Rattle.state_keys.specs.Limits.{limits}
 use Rattle.wire_attributes.specs.Tree.{WrapKey}
 use Rattle.wire_frames.specs.Frame.{Frame}
@@ -74,11 +74,11 @@ pub record Fits (room x : List ℕ) : Type 0 where
   pub holds : length x ≤ length room
 
 -- what `open` answers and leaves in the room says that it opened to x
-pub record OpenedTo (room x : List ℕ) (a : Answer) (after : List ℕ) : Type 0 where
+pub record OpenedTo (room x : List ℕ) (a : WrapAnswer) (after : List ℕ) : Type 0 where
   pub answer : a ≡ Count (length x)
   pub room-is : after ≡ written x room
 
-pub record OpensExactly (key wrapped room : List ℕ) (a : Answer) (after : List ℕ) : Type 1 where
+pub record OpensExactly (key wrapped room : List ℕ) (a : WrapAnswer) (after : List ℕ) : Type 1 where
   pub exactly : (x : List ℕ) → Fits room x → OpenedTo room x a after ↔ (wrapOf key x ≡ wrapped)
 
 -- ---- demand 3: what chains lead to, said without chains
@@ -118,7 +118,7 @@ Claims any-input = (s : State) (now : ℕ) (lent octets : List ℕ) → OneAnswe
 Claims refusals = (s : State) (now : ℕ) (lent octets : List ℕ) → OneOfNine s now lent octets
 Claims reading = (s : State) (now : ℕ) (lent octets : List ℕ) (next : State) → Outcome limits s now lent octets 0 next →
     OneReading s now lent octets next
-Claims opening = (key wrapped room : List ℕ) → Key key → (a : Answer) (after : List ℕ) → OpenAnswers key wrapped room a after →
+Claims opening = (key wrapped room : List ℕ) → Key key → (a : WrapAnswer) (after : List ℕ) → OpenAnswers key wrapped room a after →
     OpensExactly key wrapped room a after
 Claims keys = (s : State) (now : ℕ) (lent octets : List ℕ) (f : Frame) → IsFrame octets f → (n : ℕ) (next : State) →
     Outcome limits s now lent octets n next → Demand3 limits s now lent f octets n next

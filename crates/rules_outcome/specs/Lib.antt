@@ -5,7 +5,7 @@ pub mod Outcome
 pub mod Run
 pub mod Samples
 pub mod NamedKey
-pub mod EightSays
+pub mod KeyConflictSays
 pub mod WrapsItself
 pub mod Judging
 pub mod Meets

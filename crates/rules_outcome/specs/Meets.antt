@@ -8,8 +8,8 @@ use Rattle.state_keys.specs.Limits.{Limits}
 use Rattle.wire_frames.specs.Frame.{Frame}
 use Rattle.wire_frames.specs.Grammar.{IsFrame}
 use Rattle.state.specs.declared.State.{State}
-use Rattle.rules_refusals.specs.Refusals.{applies, two, three, four, five, six, seven}
-use Rattle.rules_outcome.specs.Answer.{Condition, EightOf, NineOf}
+use Rattle.rules_refusals.specs.Refusals.{applies, number2, number3, number4, number5, number6, number7}
+use Rattle.rules_outcome.specs.Answer.{RefusalCase, KeyConflictOf, KeyMissingOf}
 use Rattle.rules_outcome.specs.After.{After}
 use Rattle.rules_outcome.specs.Outcome.{NoTree}
 use Rattle.rules_outcome.specs.Judging.{SomeHolds}
@@ -23,13 +23,13 @@ pub record RefusalRow : Type 1 where
 -- wrong size, or two reached ones give one key two values"; 9: "some announced SA has no copy that opens"
 abbrev pub refusalRows : Limits → State → ℕ → List ℕ → List RefusalRow
 refusalRows limits s now lent =
-    record { number = 2; meets = λ (f : Frame). applies (two limits s now (f .header .exchange) (f .header .spi)) ≡ true }
-    ∷ record { number = 3; meets = λ (f : Frame). applies (three s (f .header .exchange) (f .header .messageId)) ≡ true }
-    ∷ record { number = 4; meets = λ (f : Frame). applies (four f) ≡ true }
-    ∷ record { number = 5; meets = λ (f : Frame). applies (five lent f) ≡ true }
-    ∷ record { number = 6; meets = λ (f : Frame). applies (six s now f) ≡ true }
-    ∷ record { number = 7; meets = λ (f : Frame). applies (seven limits s now f) ≡ true }
-    ∷ record { number = 8; meets = EightOf limits s now lent } ∷ record { number = 9; meets = NineOf limits s now lent }
+    record { number = 2; meets = λ (f : Frame). applies (number2 limits s now (f .header .exchange) (f .header .spi)) ≡ true }
+    ∷ record { number = 3; meets = λ (f : Frame). applies (number3 s (f .header .exchange) (f .header .messageId)) ≡ true }
+    ∷ record { number = 4; meets = λ (f : Frame). applies (number4 f) ≡ true }
+    ∷ record { number = 5; meets = λ (f : Frame). applies (number5 lent f) ≡ true }
+    ∷ record { number = 6; meets = λ (f : Frame). applies (number6 s now f) ≡ true }
+    ∷ record { number = 7; meets = λ (f : Frame). applies (number7 limits s now f) ≡ true }
+    ∷ record { number = 8; meets = KeyConflictOf limits s now lent } ∷ record { number = 9; meets = KeyMissingOf limits s now lent }
     ∷ []
 
 -- "The other numbers are judged on a frame whose layout is whole": by the tree that is laid out as the octets
@@ -38,12 +38,12 @@ pub record OfTree (octets : List ℕ) (P : Frame → Type 0) : Type 0 where
   pub layout : IsFrame octets tree
   pub meets : P tree
 
-abbrev pub ofTree : List ℕ → RefusalRow → Condition
+abbrev pub ofTree : List ℕ → RefusalRow → RefusalCase
 ofTree octets r = record { number = r .number; holds = OfTree octets (r .meets) }
 
 module _ (limits : Limits) (s : State) (now : ℕ) (lent octets : List ℕ) where
   -- THE TABLE OF DOCUMENT 01, of octets and in judging order
-  abbrev pub judgingOrder : List Condition
+  abbrev pub judgingOrder : List RefusalCase
   judgingOrder = record { number = 1; holds = NoTree octets } ∷ map (ofTree octets) (refusalRows limits s now lent)
 
   -- the octets meet the condition of a number

@@ -15,7 +15,7 @@ use Rattle.wire_policies.specs.Policy.{GroupSaPolicy}
 use Rattle.wire_bags.specs.Bag.{GroupKeyBag, MemberKeyBag}
 use Rattle.wire_frames.specs.Frame.{Frame}
 use Rattle.wire_frames.specs.Grammar.{IsFrame}
-use Rattle.state_sa.specs.Entry.{spiOf, liveRekey, due}
+use Rattle.state_sa.specs.Entry.{saSpi, liveRekey, due}
 use Rattle.state_sa.specs.declared.entry.Sa.{Sa}
 use Rattle.state_table.specs.Table.{sasOf}
 use Rattle.state.specs.declared.State.{State}
@@ -23,7 +23,7 @@ use Rattle.state.specs.declared.held.HeldKey.{HeldKey}
 use Rattle.state.specs.Held.{keysOf}
 use Rattle.rules_refusals.specs.Contents.{groupBags, memberBags, wrapKeysOf}
 use Rattle.rules_chains.specs.Chain.{In, Root, Chain, Reached, CopyOpens}
-use Rattle.rules_outcome.specs.Roots.{ownKey, keyZero, rootsOf, entriesOf, wrappingSize, copiesOf}
+use Rattle.rules_outcome.specs.Roots.{ownKey, keyZeroValue, rootsOf, entriesOf, wrappingSize, copiesOf}
 use Rattle.rules_outcome.specs.Meets.{Meets}
 
 -- "Registration frames (GSA_AUTH, GSA_REGISTRATION responses)": exchange types 39 and 40
@@ -99,11 +99,12 @@ pub record CameOver (s : State) (now : ℕ) (f : Frame) (zero : List ℕ) : Type
   pub stands : In sa (sasOf (s .table))
   pub live : liveRekey sa ≡ true
   pub not-due : due now sa ≡ false
-  pub spi : spiOf sa ≡ f .header .spi
+  pub spi : saSpi sa ≡ f .header .spi
   pub cut : zero ≡ take (sa .wrapping) (drop (sa .encryption) (sa .octets))
 
 -- so of every rekey that number 2 lets pass, accepted or not
 abbrev pub ZeroOfRekeys : Limits → State → Type 0
 ZeroOfRekeys limits s =
-    (now : ℕ) (lent octets : List ℕ) (f : Frame) → IsFrame octets f → f .header .exchange ≡ gsaRekey → (Meets limits s now lent octets 2 → ⊥) →
-    CameOver s now f (keyZero limits s now lent f)
+    (now : ℕ) (lent octets : List ℕ) (f : Frame) → IsFrame octets f → f .header .exchange ≡ gsaRekey →
+    (Meets limits s now lent octets 2 → ⊥) →
+    CameOver s now f (keyZeroValue limits s now lent f)

@@ -7,7 +7,7 @@ use mathlib.Core.List.{[], _∷_}
 use Rattle.ikev2_numbers.specs.Codes.{gsaRekey, protocolEsp, protocolGikeUpdate}
 use Rattle.wire_policies.specs.Policy.{GroupSaPolicy, GroupWidePolicy}
 use Rattle.wire_frames.specs.Frame.{Frame}
-use Rattle.state_sa.specs.Entry.{spiOf, due, withCondition}
+use Rattle.state_sa.specs.Entry.{saSpi, due, withCondition}
 use Rattle.state_sa.specs.declared.entry.Condition.the-variants.{Live, Retiring}
 use Rattle.state_sa.specs.declared.entry.Sa.{Sa}
 use Rattle.state_table.specs.Table.{sasOf}
@@ -48,16 +48,16 @@ module _ (f : Frame) where
 
   -- "each ESP SPI named in D .., SPI 0 naming every ESP SA in the table (001 section 2.4.3)"; "A new Rekey SA turns the old one to
   -- retiring."
-  pub data Ends (a : Sa) : Type 0 where
-    by-its-spi : a .protocol ≡ protocolEsp → In (spiOf a) (deletedSpis f) → Ends a
-    by-spi-0 : a .protocol ≡ protocolEsp → In (0 ∷ 0 ∷ 0 ∷ 0 ∷ []) (deletedSpis f) → Ends a
-    by-new-rekey : a .protocol ≡ protocolGikeUpdate → (p : GroupSaPolicy) → NewRekey p → Ends a
+  pub data EndsSa (a : Sa) : Type 0 where
+    by-its-spi : a .protocol ≡ protocolEsp → In (saSpi a) (deletedSpis f) → EndsSa a
+    by-spi-0 : a .protocol ≡ protocolEsp → In (0 ∷ 0 ∷ 0 ∷ 0 ∷ []) (deletedSpis f) → EndsSa a
+    by-new-rekey : a .protocol ≡ protocolGikeUpdate → (p : GroupSaPolicy) → NewRekey p → EndsSa a
 
   -- what an SA that stood becomes: it is kept as it was, where the frame does not end it or where it is retiring already ("unknown or
   -- retiring ones are passed over"), or a live one is retired: all of it stays but its condition, which has the frame's tick and delay
   pub data Becomes (now : ℕ) (a : Sa) : Sa → Type 0 where
-    kept : (Ends a → ⊥) ⊎ ((start delay : ℕ) × (a .condition ≡ Retiring start delay)) → Becomes now a a
-    turned : a .condition ≡ Live → Ends a → (d : ℕ) → DelayAs d → Becomes now a (withCondition (Retiring now d) a)
+    kept : (EndsSa a → ⊥) ⊎ ((start delay : ℕ) × (a .condition ≡ Retiring start delay)) → Becomes now a a
+    turned : a .condition ≡ Live → EndsSa a → (d : ℕ) → DelayAs d → Becomes now a (withCondition (Retiring now d) a)
 
   -- "First, SAs due at the tick go."
   pub record OldSa (s : State) (now : ℕ) (b : Sa) : Type 0 where

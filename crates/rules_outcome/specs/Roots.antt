@@ -33,8 +33,8 @@ keyZeroBy zero.Lent lent own = lent
 keyZeroBy zero.RekeySa lent own = own
 
 -- "KWK ID 0 is the default key"
-unfoldable pub keyZero : Limits → State → ℕ → List ℕ → Frame → List ℕ
-keyZero limits s now lent f = keyZeroBy (rowOf f .zero) lent (ownKey limits s now)
+unfoldable pub keyZeroValue : Limits → State → ℕ → List ℕ → Frame → List ℕ
+keyZeroValue limits s now lent f = keyZeroBy (rowOf f .zero) lent (ownKey limits s now)
 
 -- "Held keys take the place of reached ones in a rekey, with the Rekey SA's default key as key 0"; they "are for GSA_REKEY only" (T-02)
 abbrev pub heldRoot : HeldKey → Root
@@ -42,7 +42,7 @@ heldRoot k = record { id = k .id; value = valueOf (k .key) }
 
 unfoldable pub rootsOf : Limits → State → ℕ → List ℕ → Frame → List Root
 rootsOf limits s now lent f =
-    record { id = 0; value = keyZero limits s now lent f } ∷ cond (rowOf f .«names_held_keys») (map heldRoot (keysOf (s .held))) []
+    record { id = 0; value = keyZeroValue limits s now lent f } ∷ cond (rowOf f .«names_held_keys») (map heldRoot (keysOf (s .held))) []
 
 -- "goes on by WRAP_KEY entries"
 abbrev pub entriesOf : Frame → List WrapKey
@@ -50,7 +50,7 @@ entriesOf f = wrapKeysOf f
 
 -- "a wrapping key [needs] the size of the lent default key"
 unfoldable pub wrappingSize : Limits → State → ℕ → List ℕ → Frame → ℕ
-wrappingSize limits s now lent f = length (keyZero limits s now lent f)
+wrappingSize limits s now lent f = length (keyZeroValue limits s now lent f)
 
 -- "The copies of an announced key are its SA_KEY attributes": those of the Group Key Bag with its protocol and SPI
 unfoldable pub copiesOf : Frame → GroupSaPolicy → List SaKey

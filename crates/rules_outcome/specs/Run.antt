@@ -11,41 +11,41 @@ use Rattle.wire_frames.specs.Grammar.{IsFrame}
 use Rattle.state_table.specs.Table.{sasOf}
 use Rattle.state.specs.declared.State.{State}
 use Rattle.state.specs.State.{newState, sweptState}
-use Rattle.rules_refusals.specs.Number2.{standing, overLiveRekey}
+use Rattle.rules_refusals.specs.Number2.{notDueSas, overLiveRekey}
 use Rattle.rules_outcome.specs.After.{newRekey}
 use Rattle.rules_outcome.specs.Outcome.{Outcome}
 
 -- a frame's octets with the lent default key and the tick, a sweep at a tick, leaving
-pub data Step : Type 0 where
-  handed : (octets lent : List ℕ) (now : ℕ) → Step
-  sweep : (now : ℕ) → Step
-  leave : Step
+pub data Event : Type 0 where
+  handed : (octets lent : List ℕ) (now : ℕ) → Event
+  sweep : (now : ℕ) → Event
+  leave : Event
 
 module _ (limits : Limits) where
   -- one step: a frame has its outcome, with the answer's number n; "Leaving gives the new member"
-  pub data Takes (s : State) : Step → State → Type 0 where
+  pub data Takes (s : State) : Event → State → Type 0 where
     answered : (octets lent : List ℕ) (now n : ℕ) {next : State} → Outcome limits s now lent octets n next →
         Takes s (handed octets lent now) next
     swept : (now : ℕ) → Takes s (sweep now) (sweptState limits now s)
     left : Takes s leave (newState limits)
 
-  pub data Run : State → List Step → State → Type 0 where
+  pub data Run : State → List Event → State → Type 0 where
     ends : (s : State) → Run s [] s
-    goes : (s : State) {m e : State} {x : Step} {l : List Step} → Takes s x m → Run m l e → Run s (x ∷ l) e
+    goes : (s : State) {m e : State} {x : Event} {l : List Event} → Takes s x m → Run m l e → Run s (x ∷ l) e
 
   -- each state that a run passes, its first and its last with them, is as P says
-  abbrev pub Throughout : (State → Type 0) → {s e : State} {l : List Step} → Run s l e → Type 0
+  abbrev pub Throughout : (State → Type 0) → {s e : State} {l : List Event} → Run s l e → Type 0
   Throughout P (ends s) = P s
   Throughout P (goes s t r) = P s × Throughout P r
 
   -- a step that neither leaves nor is an accepted frame that announces a Rekey SA
-  abbrev pub Quiet : {s e : State} {x : Step} → Takes s x e → Type 0
+  abbrev pub Quiet : {s e : State} {x : Event} → Takes s x e → Type 0
   Quiet (answered octets lent now n o) = (f : Frame) → IsFrame octets f → n ≡ 0 → newRekey f ≡ false
   Quiet (swept now) = Unit {0}
   Quiet left = ⊥
 
   -- so is each step of a run
-  abbrev pub AllQuiet : {s e : State} {l : List Step} → Run s l e → Type 0
+  abbrev pub AllQuiet : {s e : State} {l : List Event} → Run s l e → Type 0
   AllQuiet (ends s) = Unit {0}
   AllQuiet (goes s t r) = Quiet t × AllQuiet r
 
@@ -56,4 +56,4 @@ LiveRekey spi s = any (overLiveRekey spi) (sasOf (s .table)) ≡ true
 -- the Rekey SA with this SPI stands at the tick: it is live, and not due then. Number 2 asks for it ("rekey whose two SPIs are not the live
 -- Rekey SA's", where SAs that are due count no more)
 abbrev pub StandsAt : ℕ → List ℕ → State → Type 0
-StandsAt now spi s = any (overLiveRekey spi) (standing now s) ≡ true
+StandsAt now spi s = any (overLiveRekey spi) (notDueSas now s) ≡ true

@@ -35,10 +35,10 @@ use Rattle.state.specs.State.{newState, stateFormed}
 use Rattle.rules_refusals.specs.Fitness.{oneGroupAddress}
 use Rattle.rules_outcome.specs.Outcome.{Outcome}
 use Rattle.rules_outcome.specs.After.{newRekey}
-use Rattle.rules_outcome.specs.Run.{Step, Run, AllQuiet, StandsAt}
+use Rattle.rules_outcome.specs.Run.{Event, Run, AllQuiet, StandsAt}
 
-abbrev payload : ℕ → Content → Payload
-payload k c = record { kind = k; critical = false; content = c }
+abbrev samplePayload : ℕ → Content → Payload
+samplePayload k c = record { kind = k; critical = false; content = c }
 
 -- ---- the clock, of an SA without a lifetime: "a retiring SA is due at whichever comes first" (document 02, T-07)
 abbrev ClockWraps : Type 0
@@ -52,7 +52,7 @@ DelayZero = (a : Sa) (start : ℕ) → a .lifetime ≡ Unlimited → a .conditio
 abbrev pub deleting : List ℕ → ℕ → List (List ℕ) → Frame
 deleting x i l = record {
   header = record { spi = x; exchange = 41; messageId = i };
-  payloads = payload 42 (delete (record { protocol = 3; spis = l })) ∷ [];
+  payloads = samplePayload 42 (delete (record { protocol = 3; spis = l })) ∷ [];
 }
 
 pub record Rekeys (x : List ℕ) (i : ℕ) (octets : List ℕ) : Type 0 where
@@ -81,7 +81,7 @@ LeastSeven = (s : State) (x : List ℕ) → stateFormed limits s ≡ true → s 
 
 -- every rekey over that SA that comes after any run in which no step leaves or brings a new Rekey SA, at a tick at which it stands
 abbrev pub LaterRefused : State → List ℕ → Type 0
-LaterRefused s x = (l : List Step) (e : State) (r : Run limits s l e) → AllQuiet limits r → (now : ℕ) (lent octets : List ℕ) →
+LaterRefused s x = (l : List Event) (e : State) (r : Run limits s l e) → AllQuiet limits r → (now : ℕ) (lent octets : List ℕ) →
     StandsAt now x e → (g : Frame) → IsFrame octets g → g .header .exchange ≡ 41 → g .header .spi ≡ x → Outcome limits e now lent octets 3 e
 
 -- any rekey with that Message ID that is taken "with no new Rekey SA", and each with D alone is taken
@@ -117,8 +117,8 @@ abbrev pub registering : Around → List ℕ → List WrapKey → Frame
 registering r wrapped entries = record {
   header = record { spi = r .spis; exchange = cond (r .auth) 39 40; messageId = r .messageId };
   payloads =
-      payload 51 (gsa (groupSa (espPolicy r) ∷ []))
-      ∷ payload 52 (kd (groupKeys (record {
+      samplePayload 51 (gsa (groupSa (espPolicy r) ∷ []))
+      ∷ samplePayload 52 (kd (groupKeys (record {
         protocol = 3;
         spi = r .spi;
         keys = record { keyId = 0; kwkId = 0; wrapped = wrapped } ∷ [];
@@ -142,7 +142,7 @@ pub record Keying (x : List ℕ) : Type 0 where
   pub size : length x ≡ 20
   pub octets : Octets x
 
-pub record Wrapping (lent v : List ℕ) : Type 0 where
+pub record FitKey (lent v : List ℕ) : Type 0 where
   pub key : Key v
   pub size : length v ≡ length lent
 
@@ -153,7 +153,7 @@ pub record Registers (r : Around) (lent x : List ℕ) (entries : List WrapKey) (
   pub reads : IsFrame octets (registering r (wrapOf lent x) entries)
 
 abbrev TwoSteps : Type 0
-TwoSteps = (r : Around) (now : ℕ) (lent x v₅ v₉ octets : List ℕ) → Wrapping lent v₅ → Wrapping lent v₉ →
+TwoSteps = (r : Around) (now : ℕ) (lent x v₅ v₉ octets : List ℕ) → FitKey lent v₅ → FitKey lent v₉ →
     Registers r lent x (entry 5 9 (wrapOf v₉ v₅) ∷ entry 9 0 (wrapOf lent v₉) ∷ []) octets →
     Outcome limits (newState limits) now lent octets 0 (registered r x (heldWith 5 v₅ ∷ heldWith 9 v₉ ∷ []))
 
@@ -163,7 +163,7 @@ Circle = (r : Around) (now : ℕ) (lent x w₅ w₉ octets : List ℕ) → Regis
     Outcome limits (newState limits) now lent octets 0 (registered r x [])
 
 abbrev TwoValues : Type 0
-TwoValues = (r : Around) (now : ℕ) (lent x v w v₉ octets : List ℕ) → Wrapping lent v → Wrapping lent w → Wrapping lent v₉ →
+TwoValues = (r : Around) (now : ℕ) (lent x v w v₉ octets : List ℕ) → FitKey lent v → FitKey lent w → FitKey lent v₉ →
     (v ≡ w → ⊥) →
     Registers r lent x (entry 5 0 (wrapOf lent v) ∷ entry 5 9 (wrapOf v₉ w) ∷ entry 9 0 (wrapOf lent v₉) ∷ []) octets →
     Outcome limits (newState limits) now lent octets 8 (newState limits)
@@ -192,8 +192,8 @@ abbrev pub creating : Around → List ℕ → List WrapKey → Frame
 creating r wrapped entries = record {
   header = record { spi = r .spis; exchange = cond (r .auth) 39 40; messageId = r .messageId };
   payloads =
-      payload 51 (gsa (groupSa (rekeyPolicy r) ∷ []))
-      ∷ payload 52 (kd (groupKeys (record {
+      samplePayload 51 (gsa (groupSa (rekeyPolicy r) ∷ []))
+      ∷ samplePayload 52 (kd (groupKeys (record {
         protocol = 6;
         spi = r .spi;
         keys = record { keyId = 0; kwkId = 1; wrapped = wrapped } ∷ [];
@@ -211,9 +211,9 @@ pub record Creates (r : Around) (lent x v₁ v₃ v₇ octets : List ℕ) : Type
   pub group : oneGroupAddress (r .destination) ≡ true
   pub size : length x ≡ 36
   pub small : Octets x
-  pub first : Wrapping lent v₁
-  pub second : Wrapping lent v₃
-  pub third : Wrapping lent v₇
+  pub first : FitKey lent v₁
+  pub second : FitKey lent v₃
+  pub third : FitKey lent v₇
   pub reads :
       IsFrame octets
       (creating r (wrapOf v₁ x) (entry 1 3 (wrapOf v₃ v₁) ∷ entry 3 7 (wrapOf v₇ v₃) ∷ entry 7 0 (wrapOf lent v₇) ∷ []))

@@ -40,7 +40,7 @@ inPlaces limits s = record {
 }
 
 -- an answer under limits, with the same member afterwards as `next`
-pub record Kept (limits : Limits) (t : State) (now : ℕ) (lent octets : List ℕ) (n : ℕ) (next : State) : Type 0 where
+pub record AnswerKept (limits : Limits) (t : State) (now : ℕ) (lent octets : List ℕ) (n : ℕ) (next : State) : Type 0 where
   pub then : State
   pub outcome : Outcome limits t now lent octets n then
   pub same : SameMember next then
@@ -50,4 +50,4 @@ pub record Kept (limits : Limits) (t : State) (now : ℕ) (lent octets : List �
 abbrev pub AnswersKept : Limits → Limits → Type 0
 AnswersKept a b =
     (s t : State) → Within a s → SameMember s t → (now : ℕ) (lent octets : List ℕ) (n : ℕ) (next : State) →
-    Outcome a s now lent octets n next → (n ≡ 7 → ⊥) → Kept b t now lent octets n next
+    Outcome a s now lent octets n next → (n ≡ 7 → ⊥) → AnswerKept b t now lent octets n next

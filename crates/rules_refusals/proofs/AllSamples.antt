@@ -11,7 +11,7 @@ use Rattle.state_keys.specs.Limits.{Limits, limits, limitsBeforeT01}
 use Rattle.state_keys.specs.Kinds.{rekeySizes}
 use Rattle.state_keys.specs.Algorithms.{isRowOf, neededIn, neededBy, sizeOf}
 use Rattle.state_sa.specs.Clock.{elapsedAtLeast}
-use Rattle.state_sa.specs.Entry.{before, named, sized, formed, liveRekey, due, espSa, rekeySa}
+use Rattle.state_sa.specs.Entry.{saBefore, named, saSized, saFormed, liveRekey, due, espSa, rekeySa}
 use Rattle.state_table.specs.Table.{tableOf, tableFormed, emptyAt}
 use Rattle.state.specs.Held.{heldOf, keyFormed, heldFormed}
 use Rattle.state.specs.declared.State.{State}
@@ -19,19 +19,23 @@ use Rattle.state.specs.State.{newState, stateFormed}
 use Rattle.state.proofs.ApartLimits.{apart}
 use Rattle.wire_frames.specs.Frame.{Payload}
 use Rattle.rules_refusals.specs.Contents.{gather}
-use Rattle.rules_refusals.specs.Fitness.{multicast, oneGroupAddress, encryptionFits, keyWrapFits, sequenceNumbersFit, authenticationFits}
-use Rattle.rules_refusals.specs.Fitness.{exactly, transformsFit, sum, encryptionOctets, keyWrapOctets}
+use Rattle.rules_refusals.specs.Fitness.{multicast, oneGroupAddress, encryptionFits}
+use Rattle.rules_refusals.specs.Fitness.{keyWrapFits, sequenceNumbersFit, authenticationFits}
+use Rattle.rules_refusals.specs.Fitness.{exactTransforms, transformsFit, sum, encryptionOctets, keyWrapOctets}
 use Rattle.rules_refusals.specs.Number2.{nonEmptyMember, otherSpis}
 use Rattle.rules_refusals.specs.Number3.{notAcceptable}
-use Rattle.rules_refusals.specs.Number4.{criticalUnknown, barredMemberBag, barredDelete, twoGsa, twoKd, gsaWithoutKd, kdWithoutGsa, neither}
-use Rattle.rules_refusals.specs.Number4.{severalRekeyPolicies, severalGroupWide, severalMemberBags, gsaWithoutSaPolicy, keyLengthTwice}
-use Rattle.rules_refusals.specs.Number4.{initialMessageIdTwice, delayTwice, otherDestination, lifetimeTwice, four-ofFrame}
-use Rattle.rules_refusals.specs.Number5.{ahPolicy, ahBag, otherTransforms, deleteOfOther, deleteOfNone, lentKeySize, five-ofFrame}
-use Rattle.rules_refusals.specs.Number6.{policyUnpaired, bagUnpaired, policyTwice, bagTwice, alreadyInTable, otherSaKeyCount, saKeyCount}
-use Rattle.rules_refusals.specs.Number6.{saKeyId, espKwkId, wrapKeyId, wrapsItself, six-ofFrame, six-ofMember}
+use Rattle.rules_refusals.specs.Number4.{criticalUnknown, barredMemberBag, barredDelete, twoGsa}
+use Rattle.rules_refusals.specs.Number4.{twoKd, gsaWithoutKd, kdWithoutGsa, neither}
+use Rattle.rules_refusals.specs.Number4.{severalRekeyPolicies, severalGroupWide, severalMemberBags}
+use Rattle.rules_refusals.specs.Number4.{gsaWithoutSaPolicy, keyLengthTwice}
+use Rattle.rules_refusals.specs.Number4.{initialMessageIdTwice, delayTwice, otherDestination, lifetimeTwice, number4OfFrame}
+use Rattle.rules_refusals.specs.Number5.{ahPolicy, ahBag, otherTransforms, deleteOfOther, deleteOfNone, lentKeySize, number5OfFrame}
+use Rattle.rules_refusals.specs.Number6.{policyUnpaired, bagUnpaired, policyTwice, bagTwice}
+use Rattle.rules_refusals.specs.Number6.{alreadyInTable, otherSaKeyCount, saKeyCount}
+use Rattle.rules_refusals.specs.Number6.{saKeyId, espKwkId, wrapKeyId, wrapsItself, number6OfFrame, number6OfMember}
 use Rattle.rules_refusals.specs.Number7.{manyEspPolicies, manyWrapKeys, manySaKeys, manyDeletedSpis, longLifetime, manySas}
-use Rattle.rules_refusals.specs.Number7.{seven-ofFrame, seven-ofMember}
-use Rattle.rules_refusals.specs.Refusals.{Number, one, judged, two, four, five, six, seven, numbers, refusal}
+use Rattle.rules_refusals.specs.Number7.{number7OfFrame, number7OfMember}
+use Rattle.rules_refusals.specs.Refusals.{Number, one, judged, number2, number4, number5, number6, number7, numbers, refusal}
 use Rattle.rules_refusals.proofs.Halves.{frameHalf}
 use Rattle.rules_refusals.proofs.SampleParts.{liveSpi, rekeySuite, group, saPolicy, frameOf, tick, Sample, answerWithin}
 use Rattle.rules_refusals.proofs.SamplesOf2And3.{samplesOf2And3}
@@ -66,19 +70,19 @@ MetAlone number l =
     (map (λ (a : Alone). clausesMet (number (a .of))) l ≡ map (λ (a : Alone). a .clause ∷ []) l)
 
 abbrev twoOf : Sample → Number
-twoOf s = two limits (s .state) tick (s .frame .header .exchange) (s .frame .header .spi)
+twoOf s = number2 limits (s .state) tick (s .frame .header .exchange) (s .frame .header .spi)
 
 abbrev fourOf : Sample → Number
-fourOf s = four (s .frame)
+fourOf s = number4 (s .frame)
 
 abbrev fiveOf : Sample → Number
-fiveOf s = five (replicate (s .lent) 0) (s .frame)
+fiveOf s = number5 (replicate (s .lent) 0) (s .frame)
 
 abbrev sixOf : Sample → Number
-sixOf s = six (s .state) tick (s .frame)
+sixOf s = number6 (s .state) tick (s .frame)
 
 abbrev sevenOf : Sample → Number
-sevenOf s = seven limits (s .state) tick (s .frame)
+sevenOf s = number7 limits (s .state) tick (s .frame)
 
 -- the number that it is given by clauses on the frame and the lent key alone
 abbrev outsideOf : Sample → ℕ
@@ -120,14 +124,16 @@ pub record Samples : Type 0 where
       refusal limits s now lent (frameOf x 42 i l) ≡ refusal limits s now lent (frameOf y 42 j l)
 
 pub samples-answered : Samples
-unfolding refusal judged one any all count keep heads rising newState stateFormed tableFormed heldFormed tableOf heldOf keyFormed formed
-    sized before less same orderOf named liveRekey due espSa rekeySa elapsedAtLeast rekeySizes sizeOf neededBy neededIn isRowOf emptyAt
-    gather sum exactly multicast nonEmptyMember otherSpis notAcceptable oneGroupAddress encryptionFits keyWrapFits sequenceNumbersFit
+unfolding refusal judged one any all count keep heads rising newState stateFormed tableFormed heldFormed tableOf heldOf keyFormed saFormed
+    saSized saBefore less same orderOf named liveRekey due espSa rekeySa elapsedAtLeast rekeySizes sizeOf neededBy neededIn isRowOf emptyAt
+    gather sum exactTransforms multicast nonEmptyMember otherSpis notAcceptable oneGroupAddress encryptionFits keyWrapFits
+    sequenceNumbersFit
     authenticationFits transformsFit criticalUnknown barredMemberBag barredDelete twoGsa twoKd gsaWithoutKd kdWithoutGsa neither
     severalRekeyPolicies severalGroupWide severalMemberBags gsaWithoutSaPolicy keyLengthTwice initialMessageIdTwice delayTwice
-    otherDestination lifetimeTwice four-ofFrame ahPolicy ahBag otherTransforms deleteOfOther deleteOfNone lentKeySize five-ofFrame
+    otherDestination lifetimeTwice number4OfFrame ahPolicy ahBag otherTransforms deleteOfOther deleteOfNone lentKeySize number5OfFrame
     policyUnpaired bagUnpaired policyTwice bagTwice alreadyInTable otherSaKeyCount saKeyCount saKeyId espKwkId wrapKeyId wrapsItself
-    six-ofFrame six-ofMember manyEspPolicies manyWrapKeys manySaKeys manyDeletedSpis longLifetime manySas seven-ofFrame seven-ofMember
+    number6OfFrame number6OfMember manyEspPolicies manyWrapKeys manySaKeys manyDeletedSpis longLifetime manySas number7OfFrame
+    number7OfMember
     placesFrom
 samples-answered =
     record {

@@ -11,16 +11,16 @@ use Rattle.state.specs.State.{stateFormed}
 use Rattle.state.proofs.BrokenValues.{brokenValues, Formed, BrokenKept, broken-kept}
 use Rattle.wire_frames.specs.Header.{Header}
 use Rattle.wire_frames.specs.Frame.{Frame}
-use Rattle.rules_refusals.specs.Number2.{two-ofFrame, two-ofMember}
-use Rattle.rules_refusals.specs.Refusals.{one, judged, two, applies, refusal}
+use Rattle.rules_refusals.specs.Number2.{number2OfFrame, number2OfMember}
+use Rattle.rules_refusals.specs.Refusals.{one, judged, number2, applies, refusal}
 use Rattle.rules_refusals.proofs.OneOf.{or-true, one-at}
 
 -- number 2 applies, whatever the header says
 pub two-applies : (limits : Limits) (s : State) (now : ℕ) (h : Header) → stateFormed limits s ≡ false →
-    applies (two limits s now (h .exchange) (h .spi)) ≡ true
+    applies (number2 limits s now (h .exchange) (h .spi)) ≡ true
 two-applies limits s now h e =
-    let ofFrame = one (two-ofFrame (h .exchange)) in
-    ap (λ (b : Bool). ofFrame || b) (one-at 2 (two-ofMember limits s now (h .exchange) (h .spi)) (ap not e)) ∙ or-true ofFrame
+    let ofFrame = one (number2OfFrame (h .exchange)) in
+    ap (λ (b : Bool). ofFrame || b) (one-at 2 (number2OfMember limits s now (h .exchange) (h .spi)) (ap not e)) ∙ or-true ofFrame
 
 -- so every frame is refused by it
 pub broken-refused : (limits : Limits) (s : State) → stateFormed limits s ≡ false → (now : ℕ) (lent : List ℕ) (f : Frame) →

@@ -4,7 +4,8 @@ use mathlib.Core.List.{List}
 use Rattle.wire_bags.specs.Bag.{Bag, groupKeys, memberKeys, GroupKeyBag, MemberKeyBag}
 use Rattle.wire_frames.specs.Delete.{Delete}
 use Rattle.wire_frames.specs.Frame.{Frame, Payload, Content}
-use Rattle.rules_refusals.specs.Contents.{saOf, wideOf, groupBagOf, memberBagOf, policiesIn, bagsIn, deletesIn, policiesOf, bagsOf}
+use Rattle.rules_refusals.specs.Contents.{groupSaIn, wideOf, groupBagOf, memberBagOf, policiesOfContent, bagsOfContent}
+use Rattle.rules_refusals.specs.Contents.{deletesOfContent, policiesOf, bagsOf}
 use Rattle.rules_refusals.specs.Contents.{deletesOf, announced, groupWides, groupBags, memberBags, wrapKeysOf, deletedSpis}
 use Rattle.rules_refusals.specs.Reordered.{AnyOrder, none, next, GroupBagReordered, MemberBagReordered, BagReordered, group, member}
 use Rattle.rules_refusals.specs.Reordered.{ContentReordered, in-gsa, in-kd, in-delete, not-read, PayloadReordered, Reordered}
@@ -28,19 +29,19 @@ bag-same (groupKeys b) = group (group-same b)
 bag-same (memberKeys b) = member (member-same b)
 
 -- what is in a payload
-pub in-policies : {c d : Content} → ContentReordered c d → AnyOrder _≡_ (policiesIn c) (policiesIn d)
+pub in-policies : {c d : Content} → ContentReordered c d → AnyOrder _≡_ (policiesOfContent c) (policiesOfContent d)
 in-policies (in-gsa r) = r
 in-policies (in-kd r) = none
 in-policies (in-delete e) = none
 in-policies not-read = none
 
-in-bags : {c d : Content} → ContentReordered c d → AnyOrder BagReordered (bagsIn c) (bagsIn d)
+in-bags : {c d : Content} → ContentReordered c d → AnyOrder BagReordered (bagsOfContent c) (bagsOfContent d)
 in-bags (in-gsa r) = none
 in-bags (in-kd r) = r
 in-bags (in-delete e) = none
 in-bags not-read = none
 
-in-deletes : {c d : Content} → ContentReordered c d → AnyOrder _≡_ (deletesIn c) (deletesIn d)
+in-deletes : {c d : Content} → ContentReordered c d → AnyOrder _≡_ (deletesOfContent c) (deletesOfContent d)
 in-deletes (in-gsa r) = none
 in-deletes (in-kd r) = none
 in-deletes (in-delete e) = next e none
@@ -60,16 +61,16 @@ module _ {f g : Frame} (r : Reordered f g) where
   payloads-order = in-order (r .payloads)
 
   pub policies-order : AnyOrder _≡_ (policiesOf f) (policiesOf g)
-  policies-order = gather-order equal (λ (p : Payload). policiesIn (p .content)) (λ a b e. in-policies (e .content)) payloads-order
+  policies-order = gather-order equal (λ (p : Payload). policiesOfContent (p .content)) (λ a b e. in-policies (e .content)) payloads-order
 
   pub bags-order : AnyOrder BagReordered (bagsOf f) (bagsOf g)
-  bags-order = gather-order bag-same (λ (p : Payload). bagsIn (p .content)) (λ a b e. in-bags (e .content)) payloads-order
+  bags-order = gather-order bag-same (λ (p : Payload). bagsOfContent (p .content)) (λ a b e. in-bags (e .content)) payloads-order
 
   pub deletes-order : AnyOrder _≡_ (deletesOf f) (deletesOf g)
-  deletes-order = gather-order equal (λ (p : Payload). deletesIn (p .content)) (λ a b e. in-deletes (e .content)) payloads-order
+  deletes-order = gather-order equal (λ (p : Payload). deletesOfContent (p .content)) (λ a b e. in-deletes (e .content)) payloads-order
 
   pub announced-order : AnyOrder _≡_ (announced f) (announced g)
-  announced-order = gather-order equal saOf (equal-lists saOf) policies-order
+  announced-order = gather-order equal groupSaIn (equal-lists groupSaIn) policies-order
 
   pub wides-order : AnyOrder _≡_ (groupWides f) (groupWides g)
   wides-order = gather-order equal wideOf (equal-lists wideOf) policies-order

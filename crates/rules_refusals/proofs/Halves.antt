@@ -11,7 +11,7 @@ use Rattle.state_keys.specs.Limits.{Limits}
 use Rattle.state_keys.proofs.Cases.{and-parts}
 use Rattle.state.specs.declared.State.{State}
 use Rattle.wire_frames.specs.Frame.{Frame}
-use Rattle.rules_refusals.specs.Refusals.{Number, one, judged, four, five, numbers, refusal}
+use Rattle.rules_refusals.specs.Refusals.{Number, one, judged, number4, number5, numbers, refusal}
 
 -- a number by its clauses on the frame and the lent key alone
 abbrev pub frameHalf : Number → Number
@@ -39,7 +39,7 @@ module _ (limits : Limits) (s t : State) (now tick : ℕ) (f : Frame) where
   own-state lent other = refl
 
   -- "numbers 2, 3, 6 and 7": 4 and 5 have no clause on the member
-  pub never-of-member : (lent : List ℕ) → (four f .ofMember ≡ []) × (five lent f .ofMember ≡ [])
+  pub never-of-member : (lent : List ℕ) → (number4 f .ofMember ≡ []) × (number5 lent f .ofMember ≡ [])
   never-of-member lent = (refl, refl)
 
   -- SO ALL MEMBERS that do not refuse on account of their own state give a frame one number

@@ -8,13 +8,15 @@ use Rattle.wire_policies.specs.Policy.{GroupSaPolicy, GroupWidePolicy}
 use Rattle.wire_frames.specs.Header.{Header}
 use Rattle.wire_frames.specs.Frame.{Frame, Payload, Content}
 use Rattle.wire_frames.specs.Exchange.{exchangeOf}
-use Rattle.rules_refusals.specs.Contents.{rowOf, several, hasGsa, hasKd, isGsa, isKd, saOf}
+use Rattle.rules_refusals.specs.Contents.{rowOf, several, hasGsa, hasKd, isGsa, isKd, groupSaIn}
 use Rattle.rules_refusals.specs.Fitness.{isRekey, oneGroupAddress}
-use Rattle.rules_refusals.specs.Number4.{criticalUnknown, barredMemberBag, barredDelete, twoGsa, twoKd, gsaWithoutKd, kdWithoutGsa, neither}
-use Rattle.rules_refusals.specs.Number4.{severalRekeyPolicies, severalGroupWide, severalMemberBags, gsaWithoutSaPolicy, keyLengthTwice}
+use Rattle.rules_refusals.specs.Number4.{criticalUnknown, barredMemberBag, barredDelete, twoGsa}
+use Rattle.rules_refusals.specs.Number4.{twoKd, gsaWithoutKd, kdWithoutGsa, neither}
+use Rattle.rules_refusals.specs.Number4.{severalRekeyPolicies, severalGroupWide, severalMemberBags}
+use Rattle.rules_refusals.specs.Number4.{gsaWithoutSaPolicy, keyLengthTwice}
 use Rattle.rules_refusals.specs.Number4.{initialMessageIdTwice, delayTwice, otherDestination, lifetimeTwice, unknownCritical}
 use Rattle.rules_refusals.specs.Number4.{withoutSaPolicy}
-use Rattle.rules_refusals.specs.Number4.{twiceInTransform, four-ofFrame}
+use Rattle.rules_refusals.specs.Number4.{twiceInTransform, number4OfFrame}
 use Rattle.rules_refusals.specs.Reordered.{ContentReordered, in-gsa, in-kd, in-delete, not-read, PayloadReordered, Reordered}
 use Rattle.rules_refusals.proofs.AnyOrder.{any-order, any-equal, count-order, count-equal, length-order, gather-order}
 use Rattle.rules_refusals.proofs.Contents.{equal, equal-lists, payloads-order, announced-order, wides-order, member-bags-order}
@@ -89,7 +91,7 @@ module _ {f g : Frame} (r : Reordered f g) where
   without-policy : (a b : Payload) → PayloadReordered a b → withoutSaPolicy a ≡ withoutSaPolicy b
   without-policy a b e =
       λ i. gsa-kept (e .content) i
-      && not (ltb 0 (length-order (gather-order equal saOf (equal-lists saOf) (in-policies (e .content))) i))
+      && not (ltb 0 (length-order (gather-order equal groupSaIn (equal-lists groupSaIn) (in-policies (e .content))) i))
 
   without-policy-kept : gsaWithoutSaPolicy f ≡ gsaWithoutSaPolicy g
   unfolding gsaWithoutSaPolicy
@@ -117,8 +119,8 @@ module _ {f g : Frame} (r : Reordered f g) where
   unfolding lifetimeTwice
   lifetime-kept = any-equal (λ (a : GroupSaPolicy). several (a .keyLifetimes)) (announced-order r)
 
-  pub four-kept : four-ofFrame f ≡ four-ofFrame g
-  unfolding four-ofFrame
+  pub four-kept : number4OfFrame f ≡ number4OfFrame g
+  unfolding number4OfFrame
   four-kept = λ i.
       critical-kept i ∷ member-bag-kept i ∷ delete-kept i ∷ two-gsa-kept i ∷ two-kd-kept i ∷ without-kd-kept i ∷ without-gsa-kept i ∷
       neither-kept i ∷ rekeys-kept i ∷ wides-kept i ∷ member-bags-kept i ∷ without-policy-kept i ∷ key-length-kept i ∷ initial-kept i ∷

@@ -11,9 +11,9 @@ use Rattle.wire_bags.specs.Bag.{GroupKeyBag}
 use Rattle.wire_frames.specs.Delete.{Delete}
 use Rattle.wire_frames.specs.Frame.{Frame}
 use Rattle.rules_refusals.specs.Contents.{rowOf, announced}
-use Rattle.state_sa.specs.Entry.{esp}
+use Rattle.state_sa.specs.Entry.{espProtocol}
 use Rattle.rules_refusals.specs.Fitness.{ah, transformsFit}
-use Rattle.rules_refusals.specs.Number5.{ahPolicy, ahBag, otherTransforms, deleteOfOther, deleteOfNone, lentKeySize, five-ofFrame}
+use Rattle.rules_refusals.specs.Number5.{ahPolicy, ahBag, otherTransforms, deleteOfOther, deleteOfNone, lentKeySize, number5OfFrame}
 use Rattle.rules_refusals.specs.Reordered.{Reordered}
 use Rattle.rules_refusals.proofs.AnyOrder.{any-order, any-equal}
 use Rattle.rules_refusals.proofs.Contents.{announced-order, group-bags-order, deletes-order}
@@ -36,7 +36,7 @@ module _ {f g : Frame} (r : Reordered f g) where
 
   other-kept : deleteOfOther f ≡ deleteOfOther g
   unfolding deleteOfOther
-  other-kept = any-equal (λ (d : Delete). not (eqb (d .protocol) esp)) (deletes-order r)
+  other-kept = any-equal (λ (d : Delete). not (eqb (d .protocol) espProtocol)) (deletes-order r)
 
   none-kept : deleteOfNone f ≡ deleteOfNone g
   unfolding deleteOfNone
@@ -46,6 +46,6 @@ module _ {f g : Frame} (r : Reordered f g) where
   unfolding lentKeySize
   lent-kept lent = rw (r .header)
 
-  pub five-kept : (lent : List ℕ) → five-ofFrame lent f ≡ five-ofFrame lent g
-  unfolding five-ofFrame
+  pub five-kept : (lent : List ℕ) → number5OfFrame lent f ≡ number5OfFrame lent g
+  unfolding number5OfFrame
   five-kept lent = λ i. ah-policy-kept i ∷ ah-bag-kept i ∷ transforms-kept i ∷ other-kept i ∷ none-kept i ∷ lent-kept lent i ∷ []

@@ -6,7 +6,7 @@ use mathlib.Core.Bool.{Bool, not, cond, _&&_}
 use lib.Dec.{ltb, eqb}
 use Rattle.octets.specs.Compare.{same}
 use Rattle.state_keys.specs.Lists.{any}
-use Rattle.state_sa.specs.Entry.{named, esp, rekey}
+use Rattle.state_sa.specs.Entry.{named, espProtocol, rekeyProtocol}
 use Rattle.state.specs.declared.State.{State}
 use Rattle.wire_attributes.specs.Tree.{SaKey, WrapKey}
 use Rattle.wire_policies.specs.Policy.{GroupSaPolicy}
@@ -14,10 +14,12 @@ use Rattle.wire_bags.specs.Bag.{GroupKeyBag}
 use Rattle.wire_frames.specs.Frame.{Frame}
 use Rattle.wire_frames.specs.declared.exchanges.Exchange.{Exchange}
 use Rattle.rules_refusals.specs.Contents.{rowOf, announced, groupBags}
-use Rattle.rules_refusals.specs.Number2.{standing}
-use Rattle.rules_refusals.specs.Number6.{policyNamed, bagNamed, policiesNamed, bagsNamed, policyUnpaired, bagUnpaired, policyTwice, bagTwice}
-use Rattle.rules_refusals.specs.Number6.{alreadyInTable, otherSaKeyCount, saKeyCount, hasKeyId, saKeyId, hasKwkId, espKwkId, wrapKeyId}
-use Rattle.rules_refusals.specs.Number6.{underItself, wrapsItself, six-ofFrame, six-ofMember}
+use Rattle.rules_refusals.specs.Number2.{notDueSas}
+use Rattle.rules_refusals.specs.Number6.{policyNamed, bagNamed, policiesNamed, bagsNamed}
+use Rattle.rules_refusals.specs.Number6.{policyUnpaired, bagUnpaired, policyTwice, bagTwice}
+use Rattle.rules_refusals.specs.Number6.{alreadyInTable, otherSaKeyCount, saKeyCount, hasKeyId}
+use Rattle.rules_refusals.specs.Number6.{saKeyId, hasKwkId, espKwkId, wrapKeyId}
+use Rattle.rules_refusals.specs.Number6.{underItself, wrapsItself, number6OfFrame, number6OfMember}
 use Rattle.rules_refusals.specs.Reordered.{GroupBagReordered, Reordered}
 use Rattle.rules_refusals.proofs.AnyOrder.{any-order, any-equal, count-order, count-equal, length-order}
 use Rattle.rules_refusals.proofs.Contents.{announced-order, group-bags-order, wrap-keys-order}
@@ -33,7 +35,7 @@ key-test p a b e = any-equal p (e .keys)
 count-test : (x : Exchange) (a b : GroupKeyBag) → GroupBagReordered a b → otherSaKeyCount x a ≡ otherSaKeyCount x b
 unfolding otherSaKeyCount
 count-test x a b e = λ i.
-    cond (x .copies && eqb (e .protocol i) rekey) (eqb (length-order (e .keys) i) 0) (not (eqb (length-order (e .keys) i) 1))
+    cond (x .copies && eqb (e .protocol i) rekeyProtocol) (eqb (length-order (e .keys) i) 0) (not (eqb (length-order (e .keys) i) 1))
 
 module _ {f g : Frame} (r : Reordered f g) where
   policies-named : (p : ℕ) (x : List ℕ) → policiesNamed f p x ≡ policiesNamed g p x
@@ -71,7 +73,7 @@ module _ {f g : Frame} (r : Reordered f g) where
   in-table-kept : (s : State) (now : ℕ) → alreadyInTable s now f ≡ alreadyInTable s now g
   unfolding alreadyInTable
   in-table-kept s now =
-      any-equal (λ (a : GroupSaPolicy). any (named (a .protocol) (a .spi)) (standing now s)) (announced-order r)
+      any-equal (λ (a : GroupSaPolicy). any (named (a .protocol) (a .spi)) (notDueSas now s)) (announced-order r)
 
   sa-key-count-kept : saKeyCount f ≡ saKeyCount g
   unfolding saKeyCount
@@ -86,8 +88,8 @@ module _ {f g : Frame} (r : Reordered f g) where
   kwk-id-kept : espKwkId f ≡ espKwkId g
   unfolding espKwkId
   kwk-id-kept =
-      any-order (λ (b : GroupKeyBag). eqb (b .protocol) esp && any hasKwkId (b .keys))
-      (λ a b e. (λ i. eqb (e .protocol i) esp && key-test hasKwkId a b e i)) (group-bags-order r)
+      any-order (λ (b : GroupKeyBag). eqb (b .protocol) espProtocol && any hasKwkId (b .keys))
+      (λ a b e. (λ i. eqb (e .protocol i) espProtocol && key-test hasKwkId a b e i)) (group-bags-order r)
 
   wrap-key-id-kept : wrapKeyId f ≡ wrapKeyId g
   unfolding wrapKeyId
@@ -97,12 +99,12 @@ module _ {f g : Frame} (r : Reordered f g) where
   unfolding wrapsItself
   wraps-itself-kept = any-equal underItself (wrap-keys-order r)
 
-  pub six-kept : six-ofFrame f ≡ six-ofFrame g
-  unfolding six-ofFrame
+  pub six-kept : number6OfFrame f ≡ number6OfFrame g
+  unfolding number6OfFrame
   six-kept = λ i.
       policy-paired-kept i ∷ bag-paired-kept i ∷ policy-twice-kept i ∷ bag-twice-kept i ∷ sa-key-count-kept i ∷ key-id-kept i ∷
       kwk-id-kept i ∷ wrap-key-id-kept i ∷ wraps-itself-kept i ∷ []
 
-  pub six-member-kept : (s : State) (now : ℕ) → six-ofMember s now f ≡ six-ofMember s now g
-  unfolding six-ofMember
+  pub six-member-kept : (s : State) (now : ℕ) → number6OfMember s now f ≡ number6OfMember s now g
+  unfolding number6OfMember
   six-member-kept s now = λ i. in-table-kept s now i ∷ []

@@ -12,9 +12,9 @@ use Rattle.state.specs.declared.State.{State}
 use Rattle.wire_bags.specs.Bag.{GroupKeyBag}
 use Rattle.wire_frames.specs.Frame.{Frame}
 use Rattle.rules_refusals.specs.Fitness.{isEsp}
-use Rattle.rules_refusals.specs.Number2.{standing}
+use Rattle.rules_refusals.specs.Number2.{notDueSas}
 use Rattle.rules_refusals.specs.Number7.{manyEspPolicies, manyWrapKeys, manySaKeys, manyDeletedSpis, longLifetime, manySas}
-use Rattle.rules_refusals.specs.Number7.{seven-ofFrame, seven-ofMember}
+use Rattle.rules_refusals.specs.Number7.{number7OfFrame, number7OfMember}
 use Rattle.rules_refusals.specs.Reordered.{Reordered}
 use Rattle.rules_refusals.proofs.AnyOrder.{any-order, any-equal, count-equal, length-order}
 use Rattle.rules_refusals.proofs.Contents.{announced-order, group-bags-order, wrap-keys-order, deleted-order}
@@ -44,12 +44,12 @@ module _ {f g : Frame} (r : Reordered f g) (limits : Limits) where
 
   sas-kept : (s : State) (now : ℕ) → manySas limits s now f ≡ manySas limits s now g
   unfolding manySas
-  sas-kept s now = λ i. ltb (limits .sas) (length (standing now s) + length-order (announced-order r) i)
+  sas-kept s now = λ i. ltb (limits .sas) (length (notDueSas now s) + length-order (announced-order r) i)
 
-  pub seven-kept : seven-ofFrame limits f ≡ seven-ofFrame limits g
-  unfolding seven-ofFrame
+  pub seven-kept : number7OfFrame limits f ≡ number7OfFrame limits g
+  unfolding number7OfFrame
   seven-kept = λ i. esp-kept i ∷ wrap-keys-kept i ∷ sa-keys-kept i ∷ deleted-kept i ∷ lifetime-kept i ∷ []
 
-  pub seven-member-kept : (s : State) (now : ℕ) → seven-ofMember limits s now f ≡ seven-ofMember limits s now g
-  unfolding seven-ofMember
+  pub seven-member-kept : (s : State) (now : ℕ) → number7OfMember limits s now f ≡ number7OfMember limits s now g
+  unfolding number7OfMember
   seven-member-kept s now = λ i. sas-kept s now i ∷ []

@@ -12,7 +12,8 @@ use Rattle.wire_policies.specs.Selector.{Selector}
 use Rattle.wire_policies.specs.Policy.{groupSa}
 use Rattle.wire_frames.specs.Frame.{Payload, Content, gsa, kd, unread}
 use Rattle.rules_refusals.proofs.SampleParts.{spi, liveSpi, nextSpi, thirdSpi, transform, selector, ip4, group, saPolicy, policy}
-use Rattle.rules_refusals.proofs.SampleParts.{rekeySuite, espPolicy, rekeyPolicy, wide, saKey, wrapKey, bag, espBag, rekeyBag, memberBag}
+use Rattle.rules_refusals.proofs.SampleParts.{rekeySuite, espPolicy, rekeyPolicy, wide, saKey}
+use Rattle.rules_refusals.proofs.SampleParts.{wrapKey, bag, espBag, rekeyBag, memberBag}
 use Rattle.rules_refusals.proofs.SampleParts.{deletes, payload, frameOf, registers, rekeys, inband, another}
 use Rattle.rules_refusals.proofs.SampleParts.{own, fit, deletion, rekeyAt, dueLater, espSas, wrapKeys}
 use Rattle.rules_refusals.proofs.SampleParts.{copies, deleted, having, oneMore, fresh, heldKey, holding, Sample, sample, anew, later}

@@ -9,8 +9,10 @@ use Rattle.state.specs.declared.State.{State}
 use Rattle.state.specs.declared.least.Least.the-variants.{Id, NoneAnyMore}
 use Rattle.state.specs.Held.{heldOf}
 use Rattle.wire_frames.specs.Frame.{Content, gsa, kd, unread}
-use Rattle.rules_refusals.proofs.SampleParts.{spi, liveSpi, nextSpi, transform, policy, espPolicy, rekeyPolicy, saKey, wrapKey, bag, espBag}
-use Rattle.rules_refusals.proofs.SampleParts.{rekeyBag, memberBag, payload, frameOf, inband, deletes, deletion, espAt, rekeyAt, dueNow}
+use Rattle.rules_refusals.proofs.SampleParts.{spi, liveSpi, nextSpi, transform, policy, espPolicy}
+use Rattle.rules_refusals.proofs.SampleParts.{rekeyPolicy, saKey, wrapKey, bag, espBag}
+use Rattle.rules_refusals.proofs.SampleParts.{rekeyBag, memberBag, payload, frameOf, inband}
+use Rattle.rules_refusals.proofs.SampleParts.{deletes, deletion, espAt, rekeyAt, dueNow}
 use Rattle.rules_refusals.proofs.SampleParts.{dueLater, heldKey, memberOf, holding, member, fresh, Sample, sample, own}
 
 -- what announces an ESP SA, and what announces a Rekey SA with n copies of its key

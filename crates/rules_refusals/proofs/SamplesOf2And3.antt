@@ -14,7 +14,8 @@ use Rattle.state.specs.declared.held.HeldKey.{HeldKey}
 use Rattle.state.specs.declared.least.Least.the-variants.{Id, NoneAnyMore}
 use Rattle.state.specs.Held.{heldOf}
 use Rattle.rules_refusals.proofs.SampleParts.{spi, liveSpi, nextSpi, payload, frameOf, registers, fit, deletion, deleting}
-use Rattle.rules_refusals.proofs.SampleParts.{espAt, rekeyAt, dueNow, dueLater, heldKey, memberOf, holding, fresh, member, Sample, sample}
+use Rattle.rules_refusals.proofs.SampleParts.{espAt, rekeyAt, dueNow, dueLater, heldKey, memberOf}
+use Rattle.rules_refusals.proofs.SampleParts.{holding, fresh, member, Sample, sample}
 use Rattle.rules_refusals.proofs.SampleParts.{upTo, having, anew, later}
 
 -- a table of 64 places that says to have 65 SAs

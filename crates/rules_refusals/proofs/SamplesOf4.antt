@@ -7,9 +7,11 @@ use Rattle.wire_policies.specs.Selector.{Selector}
 use Rattle.wire_policies.specs.Transform.{Transform}
 use Rattle.wire_policies.specs.Policy.{groupSa}
 use Rattle.wire_frames.specs.Frame.{Frame, Payload, Content, gsa, kd, unread}
-use Rattle.rules_refusals.proofs.SampleParts.{spi, liveSpi, nextSpi, transform, espSuite, rekeySuite, selector, ip4, ip6, group, alone}
+use Rattle.rules_refusals.proofs.SampleParts.{spi, liveSpi, nextSpi, transform, espSuite, rekeySuite}
+use Rattle.rules_refusals.proofs.SampleParts.{selector, ip4, ip6, group, alone}
 use Rattle.rules_refusals.proofs.SampleParts.{saPolicy, policy, espPolicy, rekeyPolicy, wide, espBag, rekeyBag, memberBag, wrapKey}
-use Rattle.rules_refusals.proofs.SampleParts.{thirdSpi, deletes, kindOf, payload, frameOf, registers, rekeys, fit, deletion, Sample, anew}
+use Rattle.rules_refusals.proofs.SampleParts.{thirdSpi, deletes, kindOf, payload, frameOf, registers}
+use Rattle.rules_refusals.proofs.SampleParts.{rekeys, fit, deletion, Sample, anew}
 use Rattle.rules_refusals.proofs.SampleParts.{later}
 
 -- a payload that is critical; one of another kind

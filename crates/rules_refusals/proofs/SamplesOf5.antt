@@ -4,8 +4,10 @@ use mathlib.Core.List.{List, [], _∷_, map}
 use Rattle.state.specs.declared.least.Least.the-variants.{Id}
 use Rattle.wire_policies.specs.Transform.{Transform}
 use Rattle.wire_frames.specs.Frame.{Frame, gsa, kd}
-use Rattle.rules_refusals.proofs.SampleParts.{spi, liveSpi, nextSpi, transform, espSuite, rekeySuite, policy, espPolicy, saKey, bag, espBag}
-use Rattle.rules_refusals.proofs.SampleParts.{rekeyBag, deletes, payload, frameOf, registers, rekeys, fit, deletion, fresh, member, Sample}
+use Rattle.rules_refusals.proofs.SampleParts.{spi, liveSpi, nextSpi, transform, espSuite, rekeySuite}
+use Rattle.rules_refusals.proofs.SampleParts.{policy, espPolicy, saKey, bag, espBag}
+use Rattle.rules_refusals.proofs.SampleParts.{rekeyBag, deletes, payload, frameOf, registers, rekeys}
+use Rattle.rules_refusals.proofs.SampleParts.{fit, deletion, fresh, member, Sample}
 use Rattle.rules_refusals.proofs.SampleParts.{sample, anew, later}
 
 -- a registration with an ESP policy of these transforms; a registration and a rekey with a Rekey policy of these

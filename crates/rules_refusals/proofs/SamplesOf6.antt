@@ -11,7 +11,8 @@ use Rattle.state.specs.declared.State.{State}
 use Rattle.state.specs.declared.least.Least.the-variants.{Id}
 use Rattle.wire_attributes.specs.Tree.{SaKey, WrapKey}
 use Rattle.wire_frames.specs.Frame.{Frame, gsa, kd}
-use Rattle.rules_refusals.proofs.SampleParts.{spi, liveSpi, nextSpi, espSuite, policy, espPolicy, rekeyPolicy, saKey, wrapKey, bag, espBag}
+use Rattle.rules_refusals.proofs.SampleParts.{spi, liveSpi, nextSpi, espSuite, policy, espPolicy}
+use Rattle.rules_refusals.proofs.SampleParts.{rekeyPolicy, saKey, wrapKey, bag, espBag}
 use Rattle.rules_refusals.proofs.SampleParts.{rekeyBag, memberBag, registers, rekeys, deletion, espAt, rekeyAt, dueNow, dueLater}
 use Rattle.rules_refusals.proofs.SampleParts.{memberOf, fresh, Sample, sample, anew, later}
 

@@ -3,8 +3,10 @@ use mathlib.Core.List.{List, [], _∷_, map}
 use lib.ListN.{replicate}
 use Rattle.state_sa.specs.declared.entry.Condition.the-variants.{Live}
 use Rattle.wire_frames.specs.Frame.{Frame, gsa, kd}
-use Rattle.rules_refusals.proofs.SampleParts.{spi, nextSpi, espPolicy, rekeyPolicy, espBag, rekeyBag, deletes, registers, rekeys, upTo}
-use Rattle.rules_refusals.proofs.SampleParts.{espSas, wrapKeys, copies, deleted, oneMore, dueNow, dueLater, having, Sample, sample, anew}
+use Rattle.rules_refusals.proofs.SampleParts.{spi, nextSpi, espPolicy, rekeyPolicy, espBag}
+use Rattle.rules_refusals.proofs.SampleParts.{rekeyBag, deletes, registers, rekeys, upTo}
+use Rattle.rules_refusals.proofs.SampleParts.{espSas, wrapKeys, copies, deleted, oneMore, dueNow}
+use Rattle.rules_refusals.proofs.SampleParts.{dueLater, having, Sample, sample, anew}
 use Rattle.rules_refusals.proofs.SampleParts.{later}
 
 -- a rekey that announces two ESP SAs more, one that announces a Rekey SA, and one that announces both kinds

@@ -14,9 +14,11 @@ use Rattle.state.proofs.ApartLimits.{apart}
 use Rattle.wire_policies.specs.Policy.{Policy}
 use Rattle.wire_frames.specs.Frame.{Frame, Content, gsa, kd}
 use Rattle.rules_refusals.proofs.SampleParts.{spi, liveSpi, nextSpi, espSuite, rekeySuite, group, saPolicy, lasting, espPolicy}
-use Rattle.rules_refusals.proofs.SampleParts.{rekeyPolicy, espBag, rekeyBag, frameOf, registers, rekeys, inband, fit, deletion, deleting}
+use Rattle.rules_refusals.proofs.SampleParts.{rekeyPolicy, espBag, rekeyBag, frameOf, registers}
+use Rattle.rules_refusals.proofs.SampleParts.{rekeys, inband, fit, deletion, deleting}
 use Rattle.rules_refusals.proofs.SampleParts.{upTo, oneMore, espAt, rekeyAt, espFor, rekeyFor}
-use Rattle.rules_refusals.proofs.SampleParts.{dueNow, dueLater, outNow, outLater, memberOf, memberWithin, Sample, sample, anew, later}
+use Rattle.rules_refusals.proofs.SampleParts.{dueNow, dueLater, outNow, outLater, memberOf}
+use Rattle.rules_refusals.proofs.SampleParts.{memberWithin, Sample, sample, anew, later}
 
 -- ---- policies with these lifetimes; what announces one of them
 abbrev espPolicyFor : List ℕ → Policy

@@ -9,7 +9,8 @@ use Rattle.state.specs.declared.State.{State}
 use Rattle.state.specs.declared.held.HeldKey.{HeldKey}
 use Rattle.state.specs.declared.least.Least.the-variants.{Id}
 use Rattle.state.proofs.ApartLimits.{apart}
-use Rattle.rules_refusals.proofs.SampleParts.{registers, rekeys, fit, deletion, upTo, espSas, wrapKeys, copies, deleted, oneMore, sasWith}
+use Rattle.rules_refusals.proofs.SampleParts.{registers, rekeys, fit, deletion, upTo, espSas}
+use Rattle.rules_refusals.proofs.SampleParts.{wrapKeys, copies, deleted, oneMore, sasWith}
 use Rattle.rules_refusals.proofs.SampleParts.{dueNow, heldKey, memberWithin, Sample, sample}
 
 abbrev with : List Sa → List HeldKey → State

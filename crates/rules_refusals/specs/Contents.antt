@@ -49,28 +49,28 @@ abbrev pub hasKd : Payload → Bool
 hasKd p = isKd (p .content)
 
 -- ---- what is in one
-abbrev pub policiesIn : Content → List Policy
-policiesIn (gsa l) = l
-policiesIn (kd l) = []
-policiesIn (delete d) = []
-policiesIn unread = []
+abbrev pub policiesOfContent : Content → List Policy
+policiesOfContent (gsa l) = l
+policiesOfContent (kd l) = []
+policiesOfContent (delete d) = []
+policiesOfContent unread = []
 
-abbrev pub bagsIn : Content → List Bag
-bagsIn (gsa l) = []
-bagsIn (kd l) = l
-bagsIn (delete d) = []
-bagsIn unread = []
+abbrev pub bagsOfContent : Content → List Bag
+bagsOfContent (gsa l) = []
+bagsOfContent (kd l) = l
+bagsOfContent (delete d) = []
+bagsOfContent unread = []
 
-abbrev pub deletesIn : Content → List Delete
-deletesIn (gsa l) = []
-deletesIn (kd l) = []
-deletesIn (delete d) = d ∷ []
-deletesIn unread = []
+abbrev pub deletesOfContent : Content → List Delete
+deletesOfContent (gsa l) = []
+deletesOfContent (kd l) = []
+deletesOfContent (delete d) = d ∷ []
+deletesOfContent unread = []
 
 -- ---- what is in one of them: a policy is a Group SA policy or a group-wide one, a bag a Group or a Member Key Bag
-abbrev pub saOf : Policy → List GroupSaPolicy
-saOf (groupSa p) = p ∷ []
-saOf (groupWide w) = []
+abbrev pub groupSaIn : Policy → List GroupSaPolicy
+groupSaIn (groupSa p) = p ∷ []
+groupSaIn (groupWide w) = []
 
 abbrev pub wideOf : Policy → List GroupWidePolicy
 wideOf (groupSa p) = []
@@ -86,17 +86,17 @@ memberBagOf (memberKeys b) = b ∷ []
 
 -- ---- what is in the frame
 abbrev pub policiesOf : Frame → List Policy
-policiesOf f = gather (λ (p : Payload). policiesIn (p .content)) (f .payloads)
+policiesOf f = gather (λ (p : Payload). policiesOfContent (p .content)) (f .payloads)
 
 abbrev pub bagsOf : Frame → List Bag
-bagsOf f = gather (λ (p : Payload). bagsIn (p .content)) (f .payloads)
+bagsOf f = gather (λ (p : Payload). bagsOfContent (p .content)) (f .payloads)
 
 abbrev pub deletesOf : Frame → List Delete
-deletesOf f = gather (λ (p : Payload). deletesIn (p .content)) (f .payloads)
+deletesOf f = gather (λ (p : Payload). deletesOfContent (p .content)) (f .payloads)
 
 -- "The SAs a frame announces are those of its Group SA policies."
 abbrev pub announced : Frame → List GroupSaPolicy
-announced f = gather saOf (policiesOf f)
+announced f = gather groupSaIn (policiesOf f)
 
 abbrev pub groupWides : Frame → List GroupWidePolicy
 groupWides f = gather wideOf (policiesOf f)

@@ -12,7 +12,7 @@ use Rattle.state_keys.specs.Lists.{all, any, count}
 use Rattle.state_keys.specs.Algorithms.{neededBy}
 use Rattle.state_keys.specs.declared.algorithms.Needed.{Needed}
 use Rattle.state_keys.specs.declared.algorithms.Needed.the-variants.{Octets, Nothing}
-use Rattle.state_sa.specs.Entry.{esp, rekey}
+use Rattle.state_sa.specs.Entry.{espProtocol, rekeyProtocol}
 use Rattle.wire_policies.specs.Selector.{Selector}
 use Rattle.wire_policies.specs.Transform.{Transform}
 use Rattle.wire_policies.specs.Policy.{GroupSaPolicy}
@@ -22,10 +22,10 @@ abbrev pub ah : ℕ
 ah = protocolAh
 
 abbrev pub isEsp : GroupSaPolicy → Bool
-isEsp p = eqb (p .protocol) esp
+isEsp p = eqb (p .protocol) espProtocol
 
 abbrev pub isRekey : GroupSaPolicy → Bool
-isRekey p = eqb (p .protocol) rekey
+isRekey p = eqb (p .protocol) rekeyProtocol
 
 -- ---- "one address (start equals end) in 224.0.0.0/4 or ff00::/8 and one port": selector type 7 is IPv4, 8 IPv6 (RFC 7296, section
 -- 3.13.1); RFC 9838, section 4.4.2, wants "a single multicast IP address" and "a single port". An IPv4 address in 224.0.0.0/4 has a first
@@ -63,8 +63,8 @@ unfoldable pub authenticationFits : Transform → Bool
 authenticationFits t = eqb (t .kind) transformGcauth && (eqb (t .id) gcauthImplicit || eqb (t .id) gcauthDigitalSignature)
 
 -- exactly one that is fit in each of these ways, and no other
-unfoldable pub exactly : List (Transform → Bool) → List Transform → Bool
-exactly wanted l = eqb (length l) (length wanted) && all (λ (p : Transform → Bool). eqb (count p l) 1) wanted
+unfoldable pub exactTransforms : List (Transform → Bool) → List Transform → Bool
+exactTransforms wanted l = eqb (length l) (length wanted) && all (λ (p : Transform → Bool). eqb (count p l) 1) wanted
 
 abbrev pub espTransforms : List (Transform → Bool)
 espTransforms = encryptionFits ∷ sequenceNumbersFit ∷ []
@@ -76,7 +76,8 @@ rekeyTransforms authentication =
 
 unfoldable pub transformsFit : Bool → GroupSaPolicy → Bool
 transformsFit authentication p =
-    cond (isEsp p) (exactly espTransforms (p .transforms)) (isRekey p && exactly (rekeyTransforms authentication) (p .transforms))
+    cond (isEsp p) (exactTransforms espTransforms (p .transforms))
+    (isRekey p && exactTransforms (rekeyTransforms authentication) (p .transforms))
 
 -- ---- "An ESP SA needs the first number, a Rekey SA the sum of both": the octets that the transforms of a policy need, in which a policy
 -- whose transforms are fit has one of type 1 and, a Rekey policy, one of type 13

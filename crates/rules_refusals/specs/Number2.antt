@@ -6,7 +6,7 @@ use mathlib.Core.List.{List, [], _∷_}
 use mathlib.Core.Bool.{Bool, false, not, _&&_}
 use Rattle.state_keys.specs.Lists.{any}
 use Rattle.state_keys.specs.Limits.{Limits}
-use Rattle.state_sa.specs.Entry.{rekey, named, liveRekey}
+use Rattle.state_sa.specs.Entry.{rekeyProtocol, named, liveRekey}
 use Rattle.state_sa.specs.declared.entry.Sa.{Sa}
 use Rattle.state_table.specs.Table.{sasOf, notDue, emptyAt}
 use Rattle.state.specs.declared.State.{State}
@@ -16,8 +16,8 @@ use Rattle.wire_frames.specs.declared.exchanges.Wanted.{Wanted}
 use Rattle.wire_frames.specs.declared.exchanges.Wanted.the-variants as wanted
 
 -- the table as it stands at the tick: the SAs that are due count no more
-abbrev pub standing : ℕ → State → List Sa
-standing now s = notDue now (sasOf (s .table))
+abbrev pub notDueSas : ℕ → State → List Sa
+notDueSas now s = notDue now (sasOf (s .table))
 
 -- "exchange not one of the three", of the four with T-02's
 abbrev pub otherExchange : ℕ → Bool
@@ -34,17 +34,17 @@ nonEmptyMember limits s now x = breaksWanted ((exchangeOf x) .wanted) (emptyAt l
 
 -- "rekey whose two SPIs are not the live Rekey SA's": there is no live Rekey SA with this SPI
 abbrev pub overLiveRekey : List ℕ → Sa → Bool
-overLiveRekey spi s = liveRekey s && named rekey spi s
+overLiveRekey spi s = liveRekey s && named rekeyProtocol spi s
 
 unfoldable pub otherSpis : State → ℕ → ℕ → List ℕ → Bool
-otherSpis s now x spi = (exchangeOf x) .«compares_spis» && not (any (overLiveRekey spi) (standing now s))
+otherSpis s now x spi = (exchangeOf x) .«compares_spis» && not (any (overLiveRekey spi) (notDueSas now s))
 
 -- "a member value that breaks its list"
 abbrev pub brokenMember : Limits → State → Bool
 brokenMember limits s = not (stateFormed limits s)
 
-abbrev pub two-ofFrame : ℕ → List Bool
-two-ofFrame x = otherExchange x ∷ []
+abbrev pub number2OfFrame : ℕ → List Bool
+number2OfFrame x = otherExchange x ∷ []
 
-abbrev pub two-ofMember : Limits → State → ℕ → ℕ → List ℕ → List Bool
-two-ofMember limits s now x spi = nonEmptyMember limits s now x ∷ otherSpis s now x spi ∷ brokenMember limits s ∷ []
+abbrev pub number2OfMember : Limits → State → ℕ → ℕ → List ℕ → List Bool
+number2OfMember limits s now x spi = nonEmptyMember limits s now x ∷ otherSpis s now x spi ∷ brokenMember limits s ∷ []

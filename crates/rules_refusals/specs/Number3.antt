@@ -11,5 +11,5 @@ use Rattle.wire_frames.specs.Exchange.{exchangeOf}
 unfoldable pub notAcceptable : State → ℕ → ℕ → Bool
 notAcceptable s x id = (exchangeOf x) .«compares_message_id» && not (acceptable id (s .least))
 
-abbrev pub three-ofMember : State → ℕ → ℕ → List Bool
-three-ofMember s x id = notAcceptable s x id ∷ []
+abbrev pub number3OfMember : State → ℕ → ℕ → List Bool
+number3OfMember s x id = notAcceptable s x id ∷ []

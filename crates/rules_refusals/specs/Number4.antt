@@ -10,7 +10,8 @@ use Rattle.state_keys.specs.Lists.{any, count}
 use Rattle.wire_policies.specs.Transform.{Transform}
 use Rattle.wire_policies.specs.Policy.{GroupSaPolicy, GroupWidePolicy}
 use Rattle.wire_frames.specs.Frame.{Frame, Payload, isKnown}
-use Rattle.rules_refusals.specs.Contents.{rowOf, some, several, gather, hasGsa, hasKd, policiesIn, saOf, announced, groupWides}
+use Rattle.rules_refusals.specs.Contents.{rowOf, some, several, gather, hasGsa, hasKd, policiesOfContent, groupSaIn, announced}
+use Rattle.rules_refusals.specs.Contents.{groupWides}
 use Rattle.rules_refusals.specs.Contents.{memberBags, deletesOf}
 use Rattle.rules_refusals.specs.Fitness.{isRekey, oneGroupAddress}
 
@@ -60,7 +61,7 @@ severalMemberBags f = several (memberBags f)
 
 -- "a GSA with no SA policy"
 abbrev pub withoutSaPolicy : Payload → Bool
-withoutSaPolicy p = hasGsa p && not (some (gather saOf (policiesIn (p .content))))
+withoutSaPolicy p = hasGsa p && not (some (gather groupSaIn (policiesOfContent (p .content))))
 
 unfoldable pub gsaWithoutSaPolicy : Frame → Bool
 gsaWithoutSaPolicy f = any withoutSaPolicy (f .payloads)
@@ -86,8 +87,8 @@ otherDestination f = any (λ (p : GroupSaPolicy). isRekey p && not (oneGroupAddr
 unfoldable pub lifetimeTwice : Frame → Bool
 lifetimeTwice f = any (λ (p : GroupSaPolicy). several (p .keyLifetimes)) (announced f)
 
-unfoldable pub four-ofFrame : Frame → List Bool
-four-ofFrame f =
+unfoldable pub number4OfFrame : Frame → List Bool
+number4OfFrame f =
     criticalUnknown f ∷ barredMemberBag f ∷ barredDelete f ∷ twoGsa f ∷ twoKd f ∷ gsaWithoutKd f ∷ kdWithoutGsa f ∷ neither f ∷
     severalRekeyPolicies f ∷ severalGroupWide f ∷ severalMemberBags f ∷ gsaWithoutSaPolicy f ∷
     keyLengthTwice f ∷ initialMessageIdTwice f ∷ delayTwice f ∷ otherDestination f ∷ lifetimeTwice f ∷ []

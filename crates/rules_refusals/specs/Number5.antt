@@ -13,7 +13,7 @@ use Rattle.wire_bags.specs.Bag.{GroupKeyBag}
 use Rattle.wire_frames.specs.Delete.{Delete}
 use Rattle.wire_frames.specs.Frame.{Frame}
 use Rattle.rules_refusals.specs.Contents.{rowOf, announced, groupBags, deletesOf}
-use Rattle.state_sa.specs.Entry.{esp}
+use Rattle.state_sa.specs.Entry.{espProtocol}
 use Rattle.rules_refusals.specs.Fitness.{ah, transformsFit}
 
 -- "an AH policy or bag". An AH policy is also one of other transforms, since no transforms are fit for AH (`transformsFit`)
@@ -29,7 +29,7 @@ otherTransforms f = any (λ (p : GroupSaPolicy). not (transformsFit (rowOf f .au
 
 -- "Delete of another protocol than ESP or with count 0"
 unfoldable pub deleteOfOther : Frame → Bool
-deleteOfOther f = any (λ (d : Delete). not (eqb (d .protocol) esp)) (deletesOf f)
+deleteOfOther f = any (λ (d : Delete). not (eqb (d .protocol) espProtocol)) (deletesOf f)
 
 unfoldable pub deleteOfNone : Frame → Bool
 deleteOfNone f = any (λ (d : Delete). eqb (length (d .spis)) 0) (deletesOf f)
@@ -39,6 +39,6 @@ deleteOfNone f = any (λ (d : Delete). eqb (length (d .spis)) 0) (deletesOf f)
 unfoldable pub lentKeySize : List ℕ → Frame → Bool
 lentKeySize lent f = rowOf f .«judges_lent_key» && not (sizeOf 13 (length lent))
 
-unfoldable pub five-ofFrame : List ℕ → Frame → List Bool
-five-ofFrame lent f =
+unfoldable pub number5OfFrame : List ℕ → Frame → List Bool
+number5OfFrame lent f =
     ahPolicy f ∷ ahBag f ∷ otherTransforms f ∷ deleteOfOther f ∷ deleteOfNone f ∷ lentKeySize lent f ∷ []

@@ -9,7 +9,7 @@ use lib.ListN.{length}
 use lib.Dec.{ltb, eqb}
 use Rattle.octets.specs.Compare.{same}
 use Rattle.state_keys.specs.Lists.{any, count}
-use Rattle.state_sa.specs.Entry.{named, esp, rekey}
+use Rattle.state_sa.specs.Entry.{named, espProtocol, rekeyProtocol}
 use Rattle.state.specs.declared.State.{State}
 use Rattle.wire_attributes.specs.Tree.{SaKey, WrapKey}
 use Rattle.wire_policies.specs.Policy.{GroupSaPolicy}
@@ -17,7 +17,7 @@ use Rattle.wire_bags.specs.Bag.{GroupKeyBag}
 use Rattle.wire_frames.specs.Frame.{Frame}
 use Rattle.wire_frames.specs.declared.exchanges.Exchange.{Exchange}
 use Rattle.rules_refusals.specs.Contents.{rowOf, announced, groupBags, wrapKeysOf}
-use Rattle.rules_refusals.specs.Number2.{standing}
+use Rattle.rules_refusals.specs.Number2.{notDueSas}
 
 -- it has this protocol and SPI
 abbrev pub policyNamed : ℕ → List ℕ → GroupSaPolicy → Bool
@@ -50,12 +50,12 @@ bagTwice f = any (λ (b : GroupKeyBag). ltb 1 (bagsNamed f (b .protocol) (b .spi
 
 -- "or already in the table (SAs due at the tick not counted)"
 unfoldable pub alreadyInTable : State → ℕ → Frame → Bool
-alreadyInTable s now f = any (λ (a : GroupSaPolicy). any (named (a .protocol) (a .spi)) (standing now s)) (announced f)
+alreadyInTable s now f = any (λ (a : GroupSaPolicy). any (named (a .protocol) (a .spi)) (notDueSas now s)) (announced f)
 
 -- "SA_KEY count not 1 (for a Rekey SA in a rekey: 0)", where the rekey is a GSA_REKEY
 unfoldable pub otherSaKeyCount : Exchange → GroupKeyBag → Bool
 otherSaKeyCount x b =
-    cond (x .copies && eqb (b .protocol) rekey) (eqb (length (b .keys)) 0) (not (eqb (length (b .keys)) 1))
+    cond (x .copies && eqb (b .protocol) rekeyProtocol) (eqb (length (b .keys)) 0) (not (eqb (length (b .keys)) 1))
 
 unfoldable pub saKeyCount : Frame → Bool
 saKeyCount f = any (otherSaKeyCount (rowOf f)) (groupBags f)
@@ -72,7 +72,7 @@ abbrev pub hasKwkId : SaKey → Bool
 hasKwkId k = not (eqb (k .kwkId) 0)
 
 unfoldable pub espKwkId : Frame → Bool
-espKwkId f = any (λ (b : GroupKeyBag). eqb (b .protocol) esp && any hasKwkId (b .keys)) (groupBags f)
+espKwkId f = any (λ (b : GroupKeyBag). eqb (b .protocol) espProtocol && any hasKwkId (b .keys)) (groupBags f)
 
 -- "WRAP_KEY with Key ID 0"
 unfoldable pub wrapKeyId : Frame → Bool
@@ -87,10 +87,10 @@ underItself k = eqb (k .keyId) (k .kwkId)
 unfoldable pub wrapsItself : Frame → Bool
 wrapsItself f = any underItself (wrapKeysOf f)
 
-unfoldable pub six-ofFrame : Frame → List Bool
-six-ofFrame f =
+unfoldable pub number6OfFrame : Frame → List Bool
+number6OfFrame f =
     policyUnpaired f ∷ bagUnpaired f ∷ policyTwice f ∷ bagTwice f ∷ saKeyCount f ∷ saKeyId f ∷ espKwkId f ∷ wrapKeyId f ∷
     wrapsItself f ∷ []
 
-unfoldable pub six-ofMember : State → ℕ → Frame → List Bool
-six-ofMember s now f = alreadyInTable s now f ∷ []
+unfoldable pub number6OfMember : State → ℕ → Frame → List Bool
+number6OfMember s now f = alreadyInTable s now f ∷ []

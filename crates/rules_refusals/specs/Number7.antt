@@ -15,7 +15,7 @@ use Rattle.wire_bags.specs.Bag.{GroupKeyBag}
 use Rattle.wire_frames.specs.Frame.{Frame}
 use Rattle.rules_refusals.specs.Contents.{announced, groupBags, wrapKeysOf, deletedSpis}
 use Rattle.rules_refusals.specs.Fitness.{isEsp}
-use Rattle.rules_refusals.specs.Number2.{standing}
+use Rattle.rules_refusals.specs.Number2.{notDueSas}
 
 -- "over 8 ESP policies"; T-01: 24
 unfoldable pub manyEspPolicies : Limits → Frame → Bool
@@ -40,11 +40,11 @@ longLifetime f = any (λ (p : GroupSaPolicy). any (λ (n : ℕ). ltb mostSeconds
 -- "over 16 SAs after the frame, those already due when it arrives not counted"; T-01: 64. They are those that stand at the tick and those
 -- announced
 unfoldable pub manySas : Limits → State → ℕ → Frame → Bool
-manySas limits s now f = ltb (limits .sas) (length (standing now s) + length (announced f))
+manySas limits s now f = ltb (limits .sas) (length (notDueSas now s) + length (announced f))
 
-unfoldable pub seven-ofFrame : Limits → Frame → List Bool
-seven-ofFrame limits f =
+unfoldable pub number7OfFrame : Limits → Frame → List Bool
+number7OfFrame limits f =
     manyEspPolicies limits f ∷ manyWrapKeys limits f ∷ manySaKeys limits f ∷ manyDeletedSpis limits f ∷ longLifetime f ∷ []
 
-unfoldable pub seven-ofMember : Limits → State → ℕ → Frame → List Bool
-seven-ofMember limits s now f = manySas limits s now f ∷ []
+unfoldable pub number7OfMember : Limits → State → ℕ → Frame → List Bool
+number7OfMember limits s now f = manySas limits s now f ∷ []

@@ -7,12 +7,12 @@ use Rattle.state_keys.specs.Limits.{Limits}
 use Rattle.state.specs.declared.State.{State}
 use Rattle.wire_frames.specs.Header.{Header}
 use Rattle.wire_frames.specs.Frame.{Frame}
-use Rattle.rules_refusals.specs.Number2.{two-ofFrame, two-ofMember}
-use Rattle.rules_refusals.specs.Number3.{three-ofMember}
-use Rattle.rules_refusals.specs.Number4.{four-ofFrame}
-use Rattle.rules_refusals.specs.Number5.{five-ofFrame}
-use Rattle.rules_refusals.specs.Number6.{six-ofFrame, six-ofMember}
-use Rattle.rules_refusals.specs.Number7.{seven-ofFrame, seven-ofMember}
+use Rattle.rules_refusals.specs.Number2.{number2OfFrame, number2OfMember}
+use Rattle.rules_refusals.specs.Number3.{number3OfMember}
+use Rattle.rules_refusals.specs.Number4.{number4OfFrame}
+use Rattle.rules_refusals.specs.Number5.{number5OfFrame}
+use Rattle.rules_refusals.specs.Number6.{number6OfFrame, number6OfMember}
+use Rattle.rules_refusals.specs.Number7.{number7OfFrame, number7OfMember}
 
 pub record Number : Type 0 where
   pub number : ℕ
@@ -35,31 +35,31 @@ judged [] = 0
 judged (n ∷ l) = cond (applies n) (n .number) (judged l)
 
 -- numbers 2 and 3, on fields of the header: the exchange type x, the SPIs, the Message ID
-abbrev pub two : Limits → State → ℕ → ℕ → List ℕ → Number
-two limits s now x spi = record { number = 2; ofFrame = two-ofFrame x; ofMember = two-ofMember limits s now x spi }
+abbrev pub number2 : Limits → State → ℕ → ℕ → List ℕ → Number
+number2 limits s now x spi = record { number = 2; ofFrame = number2OfFrame x; ofMember = number2OfMember limits s now x spi }
 
-abbrev pub three : State → ℕ → ℕ → Number
-three s x id = record { number = 3; ofFrame = []; ofMember = three-ofMember s x id }
+abbrev pub number3 : State → ℕ → ℕ → Number
+number3 s x id = record { number = 3; ofFrame = []; ofMember = number3OfMember s x id }
 
 -- numbers 4 to 7, on the frame
-abbrev pub four : Frame → Number
-four f = record { number = 4; ofFrame = four-ofFrame f; ofMember = [] }
+abbrev pub number4 : Frame → Number
+number4 f = record { number = 4; ofFrame = number4OfFrame f; ofMember = [] }
 
-abbrev pub five : List ℕ → Frame → Number
-five lent f = record { number = 5; ofFrame = five-ofFrame lent f; ofMember = [] }
+abbrev pub number5 : List ℕ → Frame → Number
+number5 lent f = record { number = 5; ofFrame = number5OfFrame lent f; ofMember = [] }
 
-abbrev pub six : State → ℕ → Frame → Number
-six s now f = record { number = 6; ofFrame = six-ofFrame f; ofMember = six-ofMember s now f }
+abbrev pub number6 : State → ℕ → Frame → Number
+number6 s now f = record { number = 6; ofFrame = number6OfFrame f; ofMember = number6OfMember s now f }
 
-abbrev pub seven : Limits → State → ℕ → Frame → Number
-seven limits s now f = record { number = 7; ofFrame = seven-ofFrame limits f; ofMember = seven-ofMember limits s now f }
+abbrev pub number7 : Limits → State → ℕ → Frame → Number
+number7 limits s now f = record { number = 7; ofFrame = number7OfFrame limits f; ofMember = number7OfMember limits s now f }
 
 -- in judging order
 abbrev pub onHeader : Limits → State → ℕ → Header → List Number
-onHeader limits s now h = two limits s now (h .exchange) (h .spi) ∷ three s (h .exchange) (h .messageId) ∷ []
+onHeader limits s now h = number2 limits s now (h .exchange) (h .spi) ∷ number3 s (h .exchange) (h .messageId) ∷ []
 
 abbrev pub onFrame : Limits → State → ℕ → List ℕ → Frame → List Number
-onFrame limits s now lent f = four f ∷ five lent f ∷ six s now f ∷ seven limits s now f ∷ []
+onFrame limits s now lent f = number4 f ∷ number5 lent f ∷ number6 s now f ∷ number7 limits s now f ∷ []
 
 abbrev pub numbers : Limits → State → ℕ → List ℕ → Frame → List Number
 numbers limits s now lent f = onHeader limits s now (f .header) ++ onFrame limits s now lent f

@@ -38,7 +38,7 @@ fn attribute_at(out: &mut [u8], n: usize, place: Place, s: &[u8], at: usize, sto
     if at == stop {
         return text_faults::of_attribute(out, n, place, s, stop);
     }
-    match wire_attributes::attribute_read(s) {
+    match wire_attributes::read_attribute(s) {
         Read::Attribute {
             short: _,
             kind,

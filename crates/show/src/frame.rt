@@ -11,7 +11,7 @@ use wire_attributes::Layout;
 use wire_frames::HeaderRead;
 
 pub(crate) fn frame(out: &mut [u8], n: usize, s: &[u8]) -> usize {
-    match wire_frames::header_read(s) {
+    match wire_frames::read_header(s) {
         HeaderRead::Header {
             first,
             exchange: _,

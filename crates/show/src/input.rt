@@ -1,17 +1,17 @@
 // Lines from standard input.
 ghost use mathlib.Core.Path.{_≡_};
 ghost use lib.ListN.{length};
-use crate::reading::Reading;
+use crate::reading::LinesRead;
 use libc::STDIN_FILENO;
 
 // Whether there was a block, and where the program stands after it.
 struct Turn {
     more: bool,
-    reading: Reading,
+    reading: LinesRead,
 }
 
 // One read, which returns what is there, and all of its lines; what they print is handed over.
-fn one_read(r: Reading, line: &mut [u8], room: &mut [u8], out: &mut [u8]) -> Turn {
+fn one_read(r: LinesRead, line: &mut [u8], room: &mut [u8], out: &mut [u8]) -> Turn {
     let mut block = io::large_buffer();
     let got = libc::read(STDIN_FILENO, &mut block);
     let n = io::count(got, &block);

@@ -7,7 +7,7 @@ const MOST: usize = 32776;
 
 // Where the program stands: the place in the output; whether the first line was a key; the number of the line that is read, how many digits
 // of it are held, how many characters it has so far and its last word has, and which of them is the first that is no digit, or 0.
-pub(crate) struct Reading {
+pub(crate) struct LinesRead {
     pub(crate) n: usize,
     pub(crate) keyed: bool,
     pub(crate) number: usize,
@@ -17,8 +17,8 @@ pub(crate) struct Reading {
     pub(crate) wrong: usize,
 }
 
-pub(crate) fn begun() -> Reading {
-    Reading {
+pub(crate) fn begun() -> LinesRead {
+    LinesRead {
         n: 0,
         keyed: false,
         number: 1,
@@ -34,8 +34,8 @@ fn next(x: usize) -> usize {
 }
 
 // The line with one character more.
-fn more(r: Reading, held: usize, word: usize, wrong: usize) -> Reading {
-    Reading {
+fn more(r: LinesRead, held: usize, word: usize, wrong: usize) -> LinesRead {
+    LinesRead {
         n: r.n,
         keyed: r.keyed,
         number: r.number,
@@ -46,16 +46,16 @@ fn more(r: Reading, held: usize, word: usize, wrong: usize) -> Reading {
     }
 }
 
-fn blank(r: Reading) -> Reading {
+fn blank(r: LinesRead) -> LinesRead {
     more(r, r.held, 0, r.wrong)
 }
 
-fn digit(r: Reading, c: u8, line: &mut [u8]) -> Reading {
+fn digit(r: LinesRead, c: u8, line: &mut [u8]) -> LinesRead {
     more(r, text_lines::put(line, r.held, c), next(r.word), r.wrong)
 }
 
 // A character that is no digit; the first one is told.
-fn other(r: Reading) -> Reading {
+fn other(r: LinesRead) -> LinesRead {
     if r.wrong == 0 {
         return more(r, r.held, next(r.word), next(r.seen));
     }
@@ -63,7 +63,7 @@ fn other(r: Reading) -> Reading {
 }
 
 // An x: it and the 0 that a word starts with are passed over.
-fn prefix(r: Reading, line: &[u8]) -> Reading {
+fn prefix(r: LinesRead, line: &[u8]) -> LinesRead {
     let held = r.held;
     if r.word == 1 {
         if 0 < held {
@@ -76,7 +76,7 @@ fn prefix(r: Reading, line: &[u8]) -> Reading {
 }
 
 // A character of a line.
-fn character(r: Reading, c: u8, line: &mut [u8]) -> Reading {
+fn character(r: LinesRead, c: u8, line: &mut [u8]) -> LinesRead {
     match c {
         9 => blank(r),
         13 => blank(r),
@@ -91,10 +91,10 @@ fn character(r: Reading, c: u8, line: &mut [u8]) -> Reading {
 }
 
 // The end of a line: it is shown, and the next one begins.
-fn ended(r: Reading, line: &[u8], room: &mut [u8], out: &mut [u8]) -> Reading {
+fn ended(r: LinesRead, line: &[u8], room: &mut [u8], out: &mut [u8]) -> LinesRead {
     let held = r.held;
     let n = show_line(out, r, part(line, 0, held), room);
-    Reading {
+    LinesRead {
         n,
         keyed: keyed(r, held),
         number: next(r.number),
@@ -106,14 +106,14 @@ fn ended(r: Reading, line: &[u8], room: &mut [u8], out: &mut [u8]) -> Reading {
 }
 
 // Whether the first line, which may be this one, is a key.
-fn keyed(r: Reading, held: usize) -> bool {
+fn keyed(r: LinesRead, held: usize) -> bool {
     if r.keyed {
         return true;
     }
     crate::kinds::is_key(r.number, held)
 }
 
-fn taken(r: Reading, c: u8, line: &mut [u8], room: &mut [u8], out: &mut [u8]) -> Reading {
+fn taken(r: LinesRead, c: u8, line: &mut [u8], room: &mut [u8], out: &mut [u8]) -> LinesRead {
     if c == 10 {
         return ended(r, line, room, out);
     }
@@ -122,12 +122,12 @@ fn taken(r: Reading, c: u8, line: &mut [u8], room: &mut [u8], out: &mut [u8]) ->
 
 // All characters of a block.
 pub(crate) fn block(
-    r: Reading,
+    r: LinesRead,
     block: &[u8],
     line: &mut [u8],
     room: &mut [u8],
     out: &mut [u8],
-) -> Reading {
+) -> LinesRead {
     let mut x = r;
     let mut i = 0;
     while i < block.len() {
@@ -138,7 +138,7 @@ pub(crate) fn block(
 }
 
 // The end of the input: a line that has begun is shown.
-pub(crate) fn finished(r: Reading, line: &[u8], room: &mut [u8], out: &mut [u8]) -> Reading {
+pub(crate) fn finished(r: LinesRead, line: &[u8], room: &mut [u8], out: &mut [u8]) -> LinesRead {
     if r.seen == 0 {
         return r;
     }
@@ -146,8 +146,8 @@ pub(crate) fn finished(r: Reading, line: &[u8], room: &mut [u8], out: &mut [u8])
 }
 
 // What the output holds is handed over.
-pub(crate) fn handed_over(r: Reading, out: &[u8]) -> Reading {
-    Reading {
+pub(crate) fn handed_over(r: LinesRead, out: &[u8]) -> LinesRead {
+    LinesRead {
         n: text_names::handed_over(out, r.n),
         keyed: r.keyed,
         number: r.number,
@@ -159,7 +159,7 @@ pub(crate) fn handed_over(r: Reading, out: &[u8]) -> Reading {
 }
 
 // A line, by its digits.
-fn show_line(out: &mut [u8], r: Reading, digits: &[u8], room: &mut [u8]) -> usize {
+fn show_line(out: &mut [u8], r: LinesRead, digits: &[u8], room: &mut [u8]) -> usize {
     let n = text_names::say(out, r.n, b"line %: ", r.number, 0, 0);
     if r.wrong != 0 {
         return text_names::say(
@@ -177,7 +177,7 @@ fn show_line(out: &mut [u8], r: Reading, digits: &[u8], room: &mut [u8]) -> usiz
     show_digits(out, n, r, digits, room)
 }
 
-fn show_digits(out: &mut [u8], n: usize, r: Reading, digits: &[u8], room: &mut [u8]) -> usize {
+fn show_digits(out: &mut [u8], n: usize, r: LinesRead, digits: &[u8], room: &mut [u8]) -> usize {
     let count = digits.len();
     if count % 2 == 1 {
         return text_names::say(out, n, b"% digits, an odd count\n", count, 0, 0);

@@ -1,7 +1,8 @@
 // `speed wrap|open K`: 10,000 wraps or openings of 36 octets under a key of K octets, which each call expands. `speed frame K`: 100 times
 // 41 openings of 264 octets. That was the most that a frame could ask for under document 01's limits: 32 WRAP_KEYs and 9 SA_KEYs in a
-// registration, 40 SA_KEYs in a rekey. By T-01 its octets allow 58; the count stays, so that times can be compared. Prints a checksum over what was written, so that nothing can be left out, and nothing where the arguments are others.
-use keywrap::Answer;
+// registration, 40 SA_KEYs in a rekey. By T-01 its octets allow 58; the count stays, so that times can be compared. Prints a checksum over
+// what was written, so that nothing can be left out, and nothing where the arguments are others.
+use keywrap::WrapAnswer;
 use libc::STDOUT_FILENO;
 use octets::wide;
 
@@ -27,10 +28,10 @@ fn checksum(start: usize, octets: &[u8]) -> usize {
 }
 
 // The checksum with what a call wrote: the room is exact, so that is all of it or nothing.
-fn written(start: usize, answer: Answer, room: &[u8]) -> usize {
+fn written(start: usize, answer: WrapAnswer, room: &[u8]) -> usize {
     match answer {
-        Answer::No => start,
-        Answer::Count(_) => checksum(start, room),
+        WrapAnswer::No => start,
+        WrapAnswer::Count(_) => checksum(start, room),
     }
 }
 

@@ -10,13 +10,13 @@ use Rattle.state_keys.specs.Lists.{all, any, count, heads, rising}
 use Rattle.state_keys.specs.Limits.{limits}
 use Rattle.state_keys.specs.Algorithms.{sizeOf}
 use Rattle.state_keys.specs.Kinds.{padded, wrappingOf, rekeySizes}
-use Rattle.state_sa.specs.Entry.{esp, rekey, saOf, before, sized, formed, liveRekey}
+use Rattle.state_sa.specs.Entry.{espProtocol, rekeyProtocol, makeSa, saBefore, saSized, saFormed, liveRekey}
 use Rattle.state_sa.specs.declared.entry.Condition.{Condition}
 use Rattle.state_sa.specs.declared.entry.Condition.the-variants.{Live, Retiring}
 use Rattle.state_sa.specs.declared.entry.Lifetime.the-variants.{Unlimited, Limited}
 use Rattle.state_sa.specs.declared.entry.Sa.{Sa}
 use Rattle.state_table.specs.Table.{tableOf, tableFormed, none}
-use Rattle.state_table.specs.declared.Found.{Found}
+use Rattle.state_table.specs.declared.SaFound.{SaFound}
 use Rattle.state_table.specs.declared.Table.{Table}
 use Rattle.state.specs.declared.State.{State}
 use Rattle.state.specs.declared.held.Held.{Held}
@@ -27,25 +27,25 @@ use Rattle.state.specs.State.{stateFormed, sweptState, askedSa}
 
 -- ---- SAs: of a protocol, with an SPI that ends in n, so many keying octets, and parts of e and w octets
 abbrev sa : ℕ → ℕ → ℕ → ℕ → ℕ → Condition → Sa
-sa p n count e w c = saOf p (padded 16 (0 ∷ 0 ∷ 0 ∷ n ∷ [])) (replicate 68 5) count e w c Unlimited
+sa p n count e w c = makeSa p (padded 16 (0 ∷ 0 ∷ 0 ∷ n ∷ [])) (replicate 68 5) count e w c Unlimited
 
 -- an SA that a sweep would take from its table, so that a value is seen to be kept
 abbrev retiring : Condition
 retiring = Retiring 0 1
 
 abbrev espSa : ℕ → Sa
-espSa n = sa esp n 20 0 0 retiring
+espSa n = sa espProtocol n 20 0 0 retiring
 
 abbrev rekeySa : ℕ → Condition → Sa
-rekeySa n c = sa rekey n 36 20 16 c
+rekeySa n c = sa rekeyProtocol n 36 20 16 c
 
 -- an ESP SA with a lifetime of so many seconds
 abbrev lasting : ℕ → Sa
-lasting n = saOf esp (padded 16 (0 ∷ 0 ∷ 0 ∷ 1 ∷ [])) (replicate 68 5) 20 0 0 retiring (Limited 0 n)
+lasting n = makeSa espProtocol (padded 16 (0 ∷ 0 ∷ 0 ∷ 1 ∷ [])) (replicate 68 5) 20 0 0 retiring (Limited 0 n)
 
 -- a Rekey SA of 44 octets in parts of e and w
 abbrev cut : ℕ → ℕ → Sa
-cut e w = sa rekey 1 44 e w retiring
+cut e w = sa rekeyProtocol 1 44 e w retiring
 
 -- ---- held keys: a Key ID and a value of n octets
 abbrev key : ℕ → ℕ → HeldKey
@@ -75,15 +75,15 @@ brokenValues =
     ofSas (espSa 2 ∷ espSa 1 ∷ []) ∷
     ofSas (rekeySa 1 retiring ∷ espSa 1 ∷ []) ∷
     -- "keying octets of a size the table below needs": an ESP SA's of a wrapping key's size, or of a Rekey SA's
-    ofSas (sa esp 1 24 0 0 retiring ∷ []) ∷
-    ofSas (sa esp 1 36 20 16 retiring ∷ sa esp 2 44 28 16 retiring ∷ []) ∷
+    ofSas (sa espProtocol 1 24 0 0 retiring ∷ []) ∷
+    ofSas (sa espProtocol 1 36 20 16 retiring ∷ sa espProtocol 2 44 28 16 retiring ∷ []) ∷
     -- "a Rekey SA also the octet counts of their two parts": parts that do not sum, parts exchanged, one part alone, none
     ofSas (cut 20 16 ∷ []) ∷
     ofSas (cut 28 24 ∷ []) ∷
     ofSas (cut 24 20 ∷ []) ∷
     ofSas (cut 16 28 ∷ []) ∷
-    ofSas (sa rekey 1 36 36 0 retiring ∷ []) ∷
-    ofSas (sa rekey 1 0 0 0 retiring ∷ []) ∷
+    ofSas (sa rekeyProtocol 1 36 36 0 retiring ∷ []) ∷
+    ofSas (sa rekeyProtocol 1 0 0 0 retiring ∷ []) ∷
     -- "at most one Rekey SA is live"
     ofSas (espSa 1 ∷ rekeySa 1 Live ∷ rekeySa 2 Live ∷ []) ∷
     -- a lifetime of "at most 2,000,000 seconds" (document 02, T-07)
@@ -125,11 +125,12 @@ pub record BrokenKept (l : List State) : Type 0 where
   pub asked : (p : ℕ) (x : List ℕ) → map (askedSa limits p x) l ≡ map (λ (s : State). none) l
 
 pub broken-kept : BrokenKept brokenValues
-unfolding stateFormed sweptState askedSa tableOf tableFormed heldOf heldFormed keyFormed formed sized before less orderOf liveRekey
+unfolding stateFormed sweptState askedSa tableOf tableFormed heldOf heldFormed keyFormed saFormed saSized saBefore less orderOf liveRekey
     rekeySizes sizeOf all any count heads rising
 broken-kept = record { broken = refl; swept = λ now. refl; asked = λ p x. refl }
 
 pub fit-formed : Formed true fitValues
-unfolding stateFormed tableOf tableFormed heldOf heldFormed keyFormed formed sized before less orderOf liveRekey rekeySizes sizeOf all any
+unfolding stateFormed tableOf tableFormed heldOf heldFormed keyFormed saFormed saSized saBefore less orderOf liveRekey rekeySizes sizeOf all
+    any
     count heads rising
 fit-formed = refl

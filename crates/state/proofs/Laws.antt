@@ -10,7 +10,7 @@ use Rattle.state_keys.specs.Lists.{all, rising, insert}
 use Rattle.state_keys.specs.Algorithms.{sizeOf}
 use Rattle.state_keys.proofs.Parts.{part-cons, part-end}
 use Rattle.state_table.specs.declared.Table.{Table}
-use Rattle.state_table.specs.declared.Found.{Found}
+use Rattle.state_table.specs.declared.SaFound.{SaFound}
 use Rattle.state_table.specs.Table.{tableFormed, swept, none, foundSa}
 use Rattle.state.specs.declared.least.Least.the-variants.{Id, NoneAnyMore}
 use Rattle.state.specs.declared.held.HeldKey.{HeldKey}
@@ -106,11 +106,11 @@ module _ (limits : Limits) (s : State) where
   unfolding sweptState
   swept-no now e = rw e
 
-  pub asked-yes : (p : ℕ) (x : List ℕ) (r : Found) → stateFormed limits s ≡ true → r ≡ foundSa limits p x
+  pub asked-yes : (p : ℕ) (x : List ℕ) (r : SaFound) → stateFormed limits s ≡ true → r ≡ foundSa limits p x
       (s .table) → r ≡ askedSa limits p x s
   unfolding askedSa
   asked-yes p x r e f = rw e f
 
-  pub asked-no : (p : ℕ) (x : List ℕ) (r : Found) → stateFormed limits s ≡ false → r ≡ none → r ≡ askedSa limits p x s
+  pub asked-no : (p : ℕ) (x : List ℕ) (r : SaFound) → stateFormed limits s ≡ false → r ≡ none → r ≡ askedSa limits p x s
   unfolding askedSa
   asked-no p x r e f = rw e f

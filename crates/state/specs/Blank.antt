@@ -13,7 +13,8 @@ use Rattle.state.specs.Held.{keysOf, heldOf}
 
 pub data AllKeysBlank : List HeldKey → Type 0 where
   no-key : AllKeysBlank []
-  one-more : {k : HeldKey} {l : List HeldKey} → k .key .octets ≡ padded wrappingKeyRoom (take (k .key .count) (k .key .octets)) → AllKeysBlank l →
+  one-more : {k : HeldKey} {l : List HeldKey} → k .key .octets ≡ padded wrappingKeyRoom (take (k .key .count) (k .key .octets))
+      → AllKeysBlank l →
       AllKeysBlank (k ∷ l)
 
 pub record StateBlank (limits : Limits) (s : State) : Type 0 where

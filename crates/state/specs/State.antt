@@ -5,7 +5,7 @@ use mathlib.Core.Bool.{Bool, cond, _&&_}
 use mathlib.Core.List.{List, []}
 use Rattle.state_keys.specs.Limits.{Limits}
 use Rattle.state_table.specs.declared.Table.{Table}
-use Rattle.state_table.specs.declared.Found.{Found}
+use Rattle.state_table.specs.declared.SaFound.{SaFound}
 use Rattle.state_table.specs.Table.{tableOf, tableFormed, swept, none, foundSa}
 use Rattle.state.specs.declared.State.{State}
 use Rattle.state.specs.declared.least.Least.the-variants.{Id}
@@ -27,5 +27,5 @@ unfoldable pub sweptState : Limits → ℕ → State → State
 sweptState limits now s = cond (stateFormed limits s) (withTable (swept limits now (s .table)) s) s
 
 -- "the SA with a given protocol and SPI, or none"; a value that breaks the list "answers none to every question"
-unfoldable pub askedSa : Limits → ℕ → List ℕ → State → Found
+unfoldable pub askedSa : Limits → ℕ → List ℕ → State → SaFound
 askedSa limits p x s = cond (stateFormed limits s) (foundSa limits p x (s .table)) none

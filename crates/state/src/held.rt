@@ -35,7 +35,7 @@ fn blank() -> HeldKey
 
 impl HeldKey {
     // Whether its Key ID is not 0 and its octet count that of a wrapping key. Internal.
-    pub fn formed(self) -> bool
+    pub fn is_formed(self) -> bool
         ensures { λ r. ⌜ r ≡ keyFormed self ⌝ }
     {
         if self.id == 0 {
@@ -77,7 +77,7 @@ impl Held {
         let mut i: usize = 0;
         while i < n {
             let k = self.keys[i];
-            if k.formed() {} else {
+            if k.is_formed() {} else {
                 return false;
             }
             i += 1;
@@ -105,7 +105,7 @@ impl Held {
     }
 
     // Whether the list is as a member's must be. Internal.
-    pub fn formed(self) -> bool
+    pub fn is_formed(self) -> bool
         ensures { λ r. ⌜ r ≡ heldFormed limits self ⌝ }
     {
         if HELD_KEYS < self.count {
@@ -148,7 +148,7 @@ impl Held {
     }
 
     // The list with one key more, at its place; the same list where it is full. Internal.
-    pub fn entered(self, a: HeldKey) -> Held
+    pub fn enter(self, a: HeldKey) -> Held
         ensures { λ r. ⌜ r ≡ enteredKey limits a self ⌝ }
     {
         let n = self.count;

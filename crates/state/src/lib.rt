@@ -7,7 +7,7 @@ ghost use Rattle.state_keys.specs.Limits.{limits};
 ghost use Rattle.state.specs.State.{newState, stateFormed, sweptState, askedSa};
 use held::Held;
 use least::Least;
-use state_table::Found;
+use state_table::SaFound;
 use state_table::Table;
 
 pub struct State {
@@ -31,24 +31,24 @@ impl State {
     }
 
     // Whether the state is as a member's must be. Internal.
-    pub fn formed(self) -> bool
+    pub fn is_formed(self) -> bool
         ensures { λ r. ⌜ r ≡ stateFormed limits self ⌝ }
     {
         let t = self.table;
-        if t.formed() {
+        if t.is_formed() {
             let h = self.held;
-            return h.formed();
+            return h.is_formed();
         }
         false
     }
 
     // The state without the SAs that are due. Internal.
-    pub fn swept(self, tick: u32) -> State
+    pub fn sweep(self, tick: u32) -> State
         ensures { λ r. ⌜ r ≡ sweptState limits tick self ⌝ }
     {
-        if self.formed() {
+        if self.is_formed() {
             let t = self.table;
-            let table = t.swept(tick);
+            let table = t.sweep(tick);
             let held = self.held;
             let least = self.least;
             return State { table, held, least };
@@ -57,10 +57,10 @@ impl State {
     }
 
     // The SA with this protocol and SPI. Internal.
-    pub fn find(self, protocol: u8, spi: &[u8]) -> Found
+    pub fn find(self, protocol: u8, spi: &[u8]) -> SaFound
         ensures { λ r. ⌜ r ≡ askedSa limits protocol (now (spi .entry)) self ⌝ }
     {
-        if self.formed() {
+        if self.is_formed() {
             let t = self.table;
             return t.find(protocol, spi);
         }

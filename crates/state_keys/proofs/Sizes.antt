@@ -10,10 +10,10 @@ use borrow.Author.Tests.{eq-eqb, ne-eqb, eqb-true}
 use lib.Dec.{eqb}
 use lib.ListN.{length, drop, getD, drop-of-length-le}
 use lib.Seq.{drop-cons}
-use Rattle.state_keys.specs.declared.algorithms.Row.{Row}
+use Rattle.state_keys.specs.declared.algorithms.AlgorithmRow.{AlgorithmRow}
 use Rattle.state_keys.specs.declared.algorithms.Needed.the-variants.{Octets, Nothing}
 use Rattle.state_keys.specs.Lists.{any}
-use Rattle.state_keys.specs.Algorithms.{rows, sizeOf, isRowOf, neededIn, neededBy}
+use Rattle.state_keys.specs.Algorithms.{algorithms, sizeOf, isRowOf, neededIn, neededBy}
 use Rattle.state_keys.specs.Kinds.{rekeySizes}
 use Rattle.state_keys.proofs.Cases.{bool-cases, and-parts}
 
@@ -71,14 +71,14 @@ pub rekey-le : (e w : ℕ) → rekeySizes e w ≡ true → (e ≤ 36) × (w ≤ 
 rekey-le e w p = let q = rekey-parts e w p in (encryption-le e (q .0), wrapping-le w (q .1))
 
 -- ---- the tests of a row, and the search of one
-pub row-is : (k i b : ℕ) (r : Row) → r .kind ≡ k → r .id ≡ i → k ≡ 1 → eqb (r .bits) b ≡ isRowOf k i b r
+pub row-is : (k i b : ℕ) (r : AlgorithmRow) → r .kind ≡ k → r .id ≡ i → k ≡ 1 → eqb (r .bits) b ≡ isRowOf k i b r
 unfolding isRowOf
 row-is k i b r p q e = rw (eq-eqb (r .kind) k p, eq-eqb (r .id) i q, eq-eqb k 1 e)
 
-abbrev pub blankRow : Row
+abbrev pub blankRow : AlgorithmRow
 blankRow = record { kind = 0; id = 0; bits = 0; octets = 0 }
 
-module _ (k i b : ℕ) (l : List Row) (j : ℕ) (d : Row) (h : j < length l) where
+module _ (k i b : ℕ) (l : List AlgorithmRow) (j : ℕ) (d : AlgorithmRow) (h : j < length l) where
   pub needed-here : true ≡ isRowOf k i b (getD l j d) → neededIn k i b (drop j l) ≡ Octets (getD l j d .octets)
   unfolding neededIn
   needed-here e = rw (drop-cons l j d, ← e)
@@ -87,12 +87,13 @@ module _ (k i b : ℕ) (l : List Row) (j : ℕ) (d : Row) (h : j < length l) whe
   unfolding neededIn
   needed-next e = rw (drop-cons l j d, ← e, add-one)
 
-pub needed-end : (k i b : ℕ) (l : List Row) (j : ℕ) → length l ≤ j → neededIn k i b (drop j l) ≡ Nothing
+pub needed-end : (k i b : ℕ) (l : List AlgorithmRow) (j : ℕ) → length l ≤ j → neededIn k i b (drop j l) ≡ Nothing
 unfolding neededIn
 needed-end k i b l j h = rw (drop-of-length-le l h)
 
 -- what a row needs is a size of its transform type
-needed-any : (k i b n : ℕ) (l : List Row) → neededIn k i b l ≡ Octets n → any (λ (r : Row). eqb (r .kind) k && eqb n (r .octets)) l ≡ true
+needed-any : (k i b n : ℕ) (l : List AlgorithmRow) → neededIn k i b l ≡ Octets n →
+    any (λ (r : AlgorithmRow). eqb (r .kind) k && eqb n (r .octets)) l ≡ true
 unfolding neededIn any isRowOf
 needed-any k i b n [] e = let z : _≡_ {A = ℕ} 0 1 = cc in absurd (omega arith)
 needed-any k i b n (r ∷ l) e =
@@ -108,4 +109,4 @@ needed-any k i b n (r ∷ l) e =
 
 pub needed-size : (k i b n : ℕ) → neededBy k i b ≡ Octets n → sizeOf k n ≡ true
 unfolding neededBy sizeOf
-needed-size k i b n e = needed-any k i b n rows e
+needed-size k i b n e = needed-any k i b n algorithms e

@@ -5,29 +5,31 @@ use mathlib.Core.Bool.{Bool, cond, not, _&&_, _||_}
 use mathlib.Core.List.{List, [], _∷_}
 use lib.Dec.{eqb}
 use Rattle.state_keys.specs.Lists.{any}
-use Rattle.state_keys.specs.declared.algorithms.Row.{Row}
+use Rattle.state_keys.specs.declared.algorithms.AlgorithmRow.{AlgorithmRow}
 use Rattle.state_keys.specs.declared.algorithms.Needed.{Needed}
 use Rattle.state_keys.specs.declared.algorithms.Needed.the-variants.{Octets, Nothing}
 
 -- transform type, transform ID, key bits, octets needed
-abbrev row : ℕ → ℕ → ℕ → ℕ → Row
-row k i b o = record { kind = k; id = i; bits = b; octets = o }
+abbrev algorithmRow : ℕ → ℕ → ℕ → ℕ → AlgorithmRow
+algorithmRow k i b o = record { kind = k; id = i; bits = b; octets = o }
 
-abbrev pub rows : List Row
-rows = row 1 20 128 20 ∷ row 1 20 192 28 ∷ row 1 20 256 36 ∷ row 13 1 128 16 ∷ row 13 2 192 24 ∷ row 13 3 256 32 ∷ []
+abbrev pub algorithms : List AlgorithmRow
+algorithms =
+    algorithmRow 1 20 128 20 ∷ algorithmRow 1 20 192 28 ∷ algorithmRow 1 20 256 36
+    ∷ algorithmRow 13 1 128 16 ∷ algorithmRow 13 2 192 24 ∷ algorithmRow 13 3 256 32 ∷ []
 
 -- the row is that of a transform of type k and ID i, and in type 1, where the Key Length b is read, of these bits
-unfoldable pub isRowOf : ℕ → ℕ → ℕ → Row → Bool
+unfoldable pub isRowOf : ℕ → ℕ → ℕ → AlgorithmRow → Bool
 isRowOf k i b r = eqb (r .kind) k && (eqb (r .id) i && (not (eqb k 1) || eqb (r .bits) b))
 
-unfoldable pub neededIn : ℕ → ℕ → ℕ → List Row → Needed
+unfoldable pub neededIn : ℕ → ℕ → ℕ → List AlgorithmRow → Needed
 neededIn k i b [] = Nothing
 neededIn k i b (r ∷ l) = cond (isRowOf k i b r) (Octets (r .octets)) (neededIn k i b l)
 
 -- the octets that the transform needs, if the table has it
 unfoldable pub neededBy : ℕ → ℕ → ℕ → Needed
-neededBy k i b = neededIn k i b rows
+neededBy k i b = neededIn k i b algorithms
 
 -- some row of transform type k needs n octets
 unfoldable pub sizeOf : ℕ → ℕ → Bool
-sizeOf k n = any (λ (r : Row). eqb (r .kind) k && eqb n (r .octets)) rows
+sizeOf k n = any (λ (r : AlgorithmRow). eqb (r .kind) k && eqb n (r .octets)) algorithms

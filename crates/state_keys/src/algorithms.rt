@@ -6,7 +6,7 @@ ghost use Rattle.state_keys.specs.Algorithms.{isRowOf, neededBy};
 pub const ENCRYPTION: u8 = 1;
 
 // Transform type, transform ID, key bits, octets needed.
-pub struct Row {
+pub struct AlgorithmRow {
     pub kind: u8,
     pub id: u16,
     pub bits: u16,
@@ -20,38 +20,38 @@ pub enum Needed {
 }
 
 // AES-GCM-16 by its Key Length, with 4 octets of salt; KW_5649_128, _192 and _256.
-const ROWS: [Row; 6] = [
-    Row {
+const ROWS: [AlgorithmRow; 6] = [
+    AlgorithmRow {
         kind: 1,
         id: 20,
         bits: 128,
         octets: 20,
     },
-    Row {
+    AlgorithmRow {
         kind: 1,
         id: 20,
         bits: 192,
         octets: 28,
     },
-    Row {
+    AlgorithmRow {
         kind: 1,
         id: 20,
         bits: 256,
         octets: 36,
     },
-    Row {
+    AlgorithmRow {
         kind: 13,
         id: 1,
         bits: 128,
         octets: 16,
     },
-    Row {
+    AlgorithmRow {
         kind: 13,
         id: 2,
         bits: 192,
         octets: 24,
     },
-    Row {
+    AlgorithmRow {
         kind: 13,
         id: 3,
         bits: 256,
@@ -60,7 +60,7 @@ const ROWS: [Row; 6] = [
 ];
 
 // Whether a row is the transform's: its type and ID, and, as Key Length is read in type 1 alone, its bits there.
-fn is_row(r: Row, kind: u8, id: u16, bits: u16) -> bool
+fn is_row(r: AlgorithmRow, kind: u8, id: u16, bits: u16) -> bool
     ensures { λ t. ⌜ t ≡ isRowOf kind id bits r ⌝ }
 {
     if r.kind != kind {

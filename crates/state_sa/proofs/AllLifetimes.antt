@@ -12,16 +12,16 @@ use Rattle.state_sa.specs.declared.entry.Lifetime.{Lifetime}
 use Rattle.state_sa.specs.declared.entry.Lifetime.the-variants.{Unlimited, Limited}
 use Rattle.state_sa.specs.declared.entry.Sa.{Sa}
 use Rattle.state_sa.specs.Clock.{elapsed, elapsedAtLeast}
-use Rattle.state_sa.specs.Entry.{fitLifetime, sized, formed, ranOut, due, retired, saOf}
+use Rattle.state_sa.specs.Entry.{fitLifetime, saSized, saFormed, ranOut, due, retired, makeSa}
 
 -- "at most 2,000,000 seconds": of a lifetime, and of an SA that is as a table's SAs must be
 pub fit-lifetimes : map fitLifetime (Unlimited ∷ Limited 7 0 ∷ Limited 7 2000000 ∷ Limited 0 2000001 ∷ Limited 0 4294967295 ∷ [])
     ≡ true ∷ true ∷ true ∷ false ∷ false ∷ []
 fit-lifetimes = refl
 
-pub fit-sas : map (λ (t : Lifetime). formed (saOf 3 [] [] 20 0 0 Live t)) (Unlimited ∷ Limited 0 2000000 ∷ Limited 0 2000001 ∷ [])
+pub fit-sas : map (λ (t : Lifetime). saFormed (makeSa 3 [] [] 20 0 0 Live t)) (Unlimited ∷ Limited 0 2000000 ∷ Limited 0 2000001 ∷ [])
     ≡ true ∷ true ∷ false ∷ []
-unfolding formed sized sizeOf any
+unfolding saFormed saSized sizeOf any
 fit-sas = refl
 
 -- of one second from tick 4,294,967,000 on, by the same modulo rule; of 0 seconds due at its own start; the most there is
@@ -40,7 +40,7 @@ longest = refl
 
 -- "A retiring SA is due at whichever comes first": a delay of 5 s from tick 1,000 on, a lifetime of 3 s and of 9 s from tick 0 on
 abbrev dueAt : Condition → Lifetime → ℕ → Bool
-dueAt c t now = due now (saOf 3 [] [] 20 0 0 c t)
+dueAt c t now = due now (makeSa 3 [] [] 20 0 0 c t)
 
 pub whichever-first : map (dueAt (Retiring 1000 5) (Limited 0 3)) (2999 ∷ 3000 ∷ 5999 ∷ 6000 ∷ []) ≡ false ∷ true ∷ true ∷ true ∷ []
 unfolding due elapsedAtLeast
@@ -60,6 +60,6 @@ unfolding due elapsedAtLeast
 live-runs-out = refl
 
 -- it keeps its lifetime and start
-pub lifetime-stays : retired 1000 5 (saOf 3 [] [] 20 0 0 Live (Limited 7 3)) .lifetime ≡ Limited 7 3
+pub lifetime-stays : retired 1000 5 (makeSa 3 [] [] 20 0 0 Live (Limited 7 3)) .lifetime ≡ Limited 7 3
 unfolding retired
 lifetime-stays = refl

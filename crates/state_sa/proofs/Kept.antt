@@ -14,8 +14,9 @@ use Rattle.state_sa.specs.declared.entry.Condition.{Condition}
 use Rattle.state_sa.specs.declared.entry.Condition.the-variants.{Live, Retiring}
 use Rattle.state_sa.specs.declared.entry.Lifetime.{Lifetime}
 use Rattle.state_sa.specs.declared.entry.Sa.{Sa}
-use Rattle.state_sa.specs.Entry.{rekey, before, sized, fitLifetime, formed, isLive, liveRekey, retiredBy, retired, espSa, rekeySa}
-use Rattle.state_sa.specs.Blank.{Blank}
+use Rattle.state_sa.specs.Entry.{rekeyProtocol, saBefore, saSized, fitLifetime, saFormed, isLive, liveRekey, retiredBy, retired}
+use Rattle.state_sa.specs.Entry.{espSa, rekeySa}
+use Rattle.state_sa.specs.Blank.{ZeroPadded}
 
 -- ---- retiring leaves an SA's name and octets
 module _ (now delay : ℕ) where
@@ -23,20 +24,20 @@ module _ (now delay : ℕ) where
   unfolding retired
   retired-protocol s = refl
 
-  pub retired-formed : (s : Sa) → formed (retired now delay s) ≡ formed s
-  unfolding retired sized formed
+  pub retired-formed : (s : Sa) → saFormed (retired now delay s) ≡ saFormed s
+  unfolding retired saSized saFormed
   retired-formed s = refl
 
-  pub retired-before : (a b : Sa) → before (retired now delay a) (retired now delay b) ≡ before a b
-  unfolding retired before
+  pub retired-before : (a b : Sa) → saBefore (retired now delay a) (retired now delay b) ≡ saBefore a b
+  unfolding retired saBefore
   retired-before a b = refl
 
-  pub retired-before-left : (a b : Sa) → before (retired now delay a) b ≡ before a b
-  unfolding retired before
+  pub retired-before-left : (a b : Sa) → saBefore (retired now delay a) b ≡ saBefore a b
+  unfolding retired saBefore
   retired-before-left a b = refl
 
-  pub retired-before-right : (a b : Sa) → before a (retired now delay b) ≡ before a b
-  unfolding retired before
+  pub retired-before-right : (a b : Sa) → saBefore a (retired now delay b) ≡ saBefore a b
+  unfolding retired saBefore
   retired-before-right a b = refl
 
   no-live : (c : Condition) → isLive (retiredBy now delay c) ≡ false
@@ -46,14 +47,14 @@ module _ (now delay : ℕ) where
   -- no SA that was retired is live
   pub retired-rekey : (s : Sa) → liveRekey (retired now delay s) ≡ false
   unfolding retired liveRekey
-  retired-rekey s = rw (no-live (s .condition)) (and-false (eqb (s .protocol) rekey))
+  retired-rekey s = rw (no-live (s .condition)) (and-false (eqb (s .protocol) rekeyProtocol))
 
-  pub retired-blank : (s : Sa) → Blank s → Blank (retired now delay s)
+  pub retired-blank : (s : Sa) → ZeroPadded s → ZeroPadded (retired now delay s)
   unfolding retired
   retired-blank s b = record { spi = b .spi; octets = b .octets; parts = b .parts }
 
 -- ---- what is made is blank in its unused places
-pub esp-blank : (x y : List ℕ) (t : Lifetime) → length x ≡ 4 → Blank (espSa x (espOf y) t)
+pub esp-blank : (x y : List ℕ) (t : Lifetime) → length x ≡ 4 → ZeroPadded (espSa x (espOf y) t)
 unfolding espSa
 esp-blank x y t e =
     let g : take (length y) (padded 36 y) ≡ y = take-append-seam y (replicate (36 - length y) 0) in
@@ -66,7 +67,7 @@ esp-blank x y t e =
       parts = λ p. (refl, refl);
     }
 
-pub rekey-blank : (x o : List ℕ) (e w : ℕ) (t : Lifetime) → length x ≡ 16 → length o ≡ e + w → Blank (rekeySa x (rekeyOf o e w) t)
+pub rekey-blank : (x o : List ℕ) (e w : ℕ) (t : Lifetime) → length x ≡ 16 → length o ≡ e + w → ZeroPadded (rekeySa x (rekeyOf o e w) t)
 unfolding rekeySa
 rekey-blank x o e w t f g =
     record {
@@ -76,11 +77,11 @@ rekey-blank x o e w t f g =
     }
 
 -- ---- what is made of fitting keys is as a table's SAs must be
-pub esp-formed : (x y : List ℕ) (t : Lifetime) → sizeOf 1 (length y) ≡ true → fitLifetime t ≡ true → formed (espSa x (espOf y) t) ≡ true
-unfolding espSa sized formed
+pub esp-formed : (x y : List ℕ) (t : Lifetime) → sizeOf 1 (length y) ≡ true → fitLifetime t ≡ true → saFormed (espSa x (espOf y) t) ≡ true
+unfolding espSa saSized saFormed
 esp-formed x y t e h = rw (e, h)
 
 pub rekey-formed : (x o : List ℕ) (e w : ℕ) (t : Lifetime) → rekeySizes e w ≡ true → fitLifetime t ≡ true →
-    formed (rekeySa x (rekeyOf o e w) t) ≡ true
-unfolding rekeySa sized formed
+    saFormed (rekeySa x (rekeyOf o e w) t) ≡ true
+unfolding rekeySa saSized saFormed
 rekey-formed x o e w t f h = rw (f, eq-eqb (e + w) (e + w) refl, h)

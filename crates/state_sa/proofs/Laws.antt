@@ -18,8 +18,9 @@ use Rattle.state_sa.specs.declared.entry.Lifetime.{Lifetime}
 use Rattle.state_sa.specs.declared.entry.Lifetime.the-variants.{Unlimited, Limited}
 use Rattle.state_sa.specs.declared.entry.Sa.{Sa}
 use Rattle.state_sa.specs.Clock.{elapsedAtLeast}
-use Rattle.state_sa.specs.Entry.{esp, rekey, spiSize, spiOf, before, named, sized, liveRekey, dueBy, ranOut, retiredBy, retired}
-use Rattle.state_sa.specs.Entry.{withCondition, saOf, espSa, rekeySa}
+use Rattle.state_sa.specs.Entry.{espProtocol, rekeyProtocol, saSpiSize, saSpi, saBefore, named, saSized, liveRekey, dueBy, ranOut}
+use Rattle.state_sa.specs.Entry.{retiredBy, retired}
+use Rattle.state_sa.specs.Entry.{withCondition, makeSa, espSa, rekeySa}
 
 -- ---- the clock
 -- the wrapping difference is the one number below 2^32 that makes up the tick
@@ -59,35 +60,36 @@ module _ (s : Sa) where
   retired-kept now delay start wait e =
       ap (λ (c : Condition). withCondition c s) e ∙ sym (ap (λ (c : Condition). withCondition (retiredBy now delay c) s) e)
 
-  pub live-rekey : s .protocol ≡ rekey → s .condition ≡ Live → true ≡ liveRekey s
+  pub live-rekey : s .protocol ≡ rekeyProtocol → s .condition ≡ Live → true ≡ liveRekey s
   unfolding liveRekey
-  live-rekey p e = rw (eq-eqb (s .protocol) rekey p, e)
+  live-rekey p e = rw (eq-eqb (s .protocol) rekeyProtocol p, e)
 
-  pub retiring-rekey : (start wait : ℕ) → s .protocol ≡ rekey → s .condition ≡ Retiring start wait → false ≡ liveRekey s
+  pub retiring-rekey : (start wait : ℕ) → s .protocol ≡ rekeyProtocol → s .condition ≡ Retiring start wait → false ≡ liveRekey s
   unfolding liveRekey
-  retiring-rekey start wait p e = rw (eq-eqb (s .protocol) rekey p, e)
+  retiring-rekey start wait p e = rw (eq-eqb (s .protocol) rekeyProtocol p, e)
 
   -- ---- the tests of its octet counts
-  pub sized-rekey : (r : Bool) → (s .protocol ≡ esp → ⊥) → s .protocol ≡ rekey → rekeySizes (s .encryption) (s .wrapping) ≡ true →
-      r ≡ eqb (s .count) (s .encryption + s .wrapping) → r ≡ sized s
-  unfolding sized
-  sized-rekey r a b e f = rw (ne-eqb (s .protocol) esp a, eq-eqb (s .protocol) rekey b, e) f
+  pub sized-rekey : (r : Bool) → (s .protocol ≡ espProtocol → ⊥) → s .protocol ≡ rekeyProtocol →
+      rekeySizes (s .encryption) (s .wrapping) ≡ true →
+      r ≡ eqb (s .count) (s .encryption + s .wrapping) → r ≡ saSized s
+  unfolding saSized
+  sized-rekey r a b e f = rw (ne-eqb (s .protocol) espProtocol a, eq-eqb (s .protocol) rekeyProtocol b, e) f
 
 -- ---- the order and the name, by the octets in use
-pub before-spi : (a b : Sa) (n m : ℕ) (r : Bool) → b .protocol ≤ a .protocol → a .protocol ≤ b .protocol → n ≡ spiSize (a .protocol) →
-    m ≡ spiSize (b .protocol) → r ≡ less (take (n - 0) (a .spi)) (take (m - 0) (b .spi)) → r ≡ before a b
-unfolding before
+pub before-spi : (a b : Sa) (n m : ℕ) (r : Bool) → b .protocol ≤ a .protocol → a .protocol ≤ b .protocol → n ≡ saSpiSize (a .protocol) →
+    m ≡ saSpiSize (b .protocol) → r ≡ less (take (n - 0) (a .spi)) (take (m - 0) (b .spi)) → r ≡ saBefore a b
+unfolding saBefore
 before-spi a b n m r g h e f p =
-    let x : n - 0 ≡ spiSize (a .protocol) = omega arith in
-    let y : m - 0 ≡ spiSize (b .protocol) = omega arith in
+    let x : n - 0 ≡ saSpiSize (a .protocol) = omega arith in
+    let y : m - 0 ≡ saSpiSize (b .protocol) = omega arith in
     rw (le-ltb (a .protocol) (b .protocol) g, le-ltb (b .protocol) (a .protocol) h)
-    (p ∙ ap (λ (k : ℕ). less (take k (a .spi)) (take (m - 0) (b .spi))) x ∙ ap (λ (k : ℕ). less (spiOf a) (take k (b .spi))) y)
+    (p ∙ ap (λ (k : ℕ). less (take k (a .spi)) (take (m - 0) (b .spi))) x ∙ ap (λ (k : ℕ). less (saSpi a) (take k (b .spi))) y)
 
-pub named-spi : (s : Sa) (p n : ℕ) (x : List ℕ) (r : Bool) → s .protocol ≡ p → n ≡ spiSize (s .protocol) →
+pub named-spi : (s : Sa) (p n : ℕ) (x : List ℕ) (r : Bool) → s .protocol ≡ p → n ≡ saSpiSize (s .protocol) →
     r ≡ same (take (n - 0) (s .spi)) x → r ≡ named p x s
 unfolding named
 named-spi s p n x r e f q =
-    let y : n - 0 ≡ spiSize (s .protocol) = omega arith in
+    let y : n - 0 ≡ saSpiSize (s .protocol) = omega arith in
     rw (eq-eqb (s .protocol) p e) (q ∙ ap (λ (k : ℕ). same (take k (s .spi)) x) y)
 
 -- ---- what is made
@@ -96,18 +98,19 @@ abbrev Copied : ℕ → List ℕ → List ℕ → Type 0
 Copied n x out = out ≡ take (length x) x ++ drop (length x) (replicate n 0)
 
 pub esp-made : (x name octets : List ℕ) (k : EspKey) → Copied 16 x name → Copied 68 (take (k .count - 0) (k .octets)) octets →
-    (t : Lifetime) → saOf esp name octets (k .count) 0 0 Live t ≡ espSa x k t
+    (t : Lifetime) → makeSa espProtocol name octets (k .count) 0 0 Live t ≡ espSa x k t
 unfolding espSa
 esp-made x name octets k f g t =
     let e : k .count - 0 ≡ k .count = omega arith in
     let p : name ≡ padded 16 x = copied 16 x name f in
     let q : octets ≡ padded 68 (take (k .count) (k .octets)) =
     copied 68 (take (k .count - 0) (k .octets)) octets g ∙ ap (λ (m : ℕ). padded 68 (take m (k .octets))) e in
-    λ i. saOf esp (p i) (q i) (k .count) 0 0 Live t
+    λ i. makeSa espProtocol (p i) (q i) (k .count) 0 0 Live t
 
 pub rekey-made : (x name : List ℕ) (k : RekeyKey) → Copied 16 x name →
-    (t : Lifetime) → saOf rekey name (k .octets) (k .encryption + k .wrapping) (k .encryption) (k .wrapping) Live t ≡ rekeySa x k t
+    (t : Lifetime) →
+    makeSa rekeyProtocol name (k .octets) (k .encryption + k .wrapping) (k .encryption) (k .wrapping) Live t ≡ rekeySa x k t
 unfolding rekeySa
 rekey-made x name k f t =
     let p : name ≡ padded 16 x = copied 16 x name f in
-    λ i. saOf rekey (p i) (k .octets) (k .encryption + k .wrapping) (k .encryption) (k .wrapping) Live t
+    λ i. makeSa rekeyProtocol (p i) (k .octets) (k .encryption + k .wrapping) (k .encryption) (k .wrapping) Live t

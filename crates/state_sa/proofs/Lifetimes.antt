@@ -14,7 +14,7 @@ use Rattle.state_sa.specs.declared.entry.Sa.{Sa}
 use Rattle.state_sa.specs.Clock.{elapsed, elapsedAtLeast}
 use Rattle.state_keys.proofs.Cases.{and-parts}
 use Rattle.state_sa.specs.DueSays.{DelayRan, LifetimeRan}
-use Rattle.state_sa.specs.Entry.{mostSeconds, fitLifetime, sized, formed, dueBy, ranOut, due, retired}
+use Rattle.state_sa.specs.Entry.{mostSeconds, fitLifetime, saSized, saFormed, dueBy, ranOut, due, retired}
 
 either-true : (a b : Bool) → a || b ≡ true → (a ≡ true) ⊎ (b ≡ true)
 either-true true b e = inl refl
@@ -102,7 +102,7 @@ unfolding retired
 retired-lifetime now delay s = refl
 
 -- "at most 2,000,000 seconds": of an SA that is as a table's SAs must be
-pub formed-lifetime : (s : Sa) → formed s ≡ true → (start n : ℕ) → s .lifetime ≡ Limited start n → n ≤ mostSeconds
-unfolding formed
+pub formed-lifetime : (s : Sa) → saFormed s ≡ true → (start n : ℕ) → s .lifetime ≡ Limited start n → n ≤ mostSeconds
+unfolding saFormed
 formed-lifetime s e start n q =
-    leb-true n mostSeconds (ap fitLifetime (sym q) ∙ and-parts (sized s) (fitLifetime (s .lifetime)) e .1)
+    leb-true n mostSeconds (ap fitLifetime (sym q) ∙ and-parts (saSized s) (fitLifetime (s .lifetime)) e .1)

@@ -5,9 +5,9 @@ use lib.ListN.{take}
 use Rattle.state_keys.specs.Rooms.{saRoom, spiRoom}
 use Rattle.state_keys.specs.Kinds.{padded}
 use Rattle.state_sa.specs.declared.entry.Sa.{Sa}
-use Rattle.state_sa.specs.Entry.{esp, spiOf}
+use Rattle.state_sa.specs.Entry.{espProtocol, saSpi}
 
-pub record Blank (s : Sa) : Type 0 where
-  pub spi : s .spi ≡ padded spiRoom (spiOf s)
+pub record ZeroPadded (s : Sa) : Type 0 where
+  pub spi : s .spi ≡ padded spiRoom (saSpi s)
   pub octets : s .octets ≡ padded saRoom (take (s .count) (s .octets))
-  pub parts : s .protocol ≡ esp → (s .encryption ≡ 0) × (s .wrapping ≡ 0)
+  pub parts : s .protocol ≡ espProtocol → (s .encryption ≡ 0) × (s .wrapping ≡ 0)

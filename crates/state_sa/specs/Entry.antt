@@ -21,33 +21,33 @@ use Rattle.state_sa.specs.declared.entry.Sa.{Sa}
 use Rattle.state_sa.specs.Clock.{elapsedAtLeast}
 
 -- protocols (RFC 9838, section 4.4.2): ESP and GIKE_UPDATE, the Rekey SA's; and the octets of an SPI of each
-abbrev pub esp : ℕ
-esp = protocolEsp
+abbrev pub espProtocol : ℕ
+espProtocol = protocolEsp
 
-abbrev pub rekey : ℕ
-rekey = protocolGikeUpdate
+abbrev pub rekeyProtocol : ℕ
+rekeyProtocol = protocolGikeUpdate
 
-abbrev pub spiSize : ℕ → ℕ
-spiSize p = cond (eqb p esp) dataSpiOctets (cond (eqb p rekey) rekeySpiOctets 0)
+abbrev pub saSpiSize : ℕ → ℕ
+saSpiSize p = cond (eqb p espProtocol) dataSpiOctets (cond (eqb p rekeyProtocol) rekeySpiOctets 0)
 
 -- the octets of the SPI, those in use
-abbrev pub spiOf : Sa → List ℕ
-spiOf s = take (spiSize (s .protocol)) (s .spi)
+abbrev pub saSpi : Sa → List ℕ
+saSpi s = take (saSpiSize (s .protocol)) (s .spi)
 
 -- "strictly rising by protocol (3 or 6), then SPI octets": a stands before b
-unfoldable pub before : Sa → Sa → Bool
-before a b =
-    cond (ltb (a .protocol) (b .protocol)) true (cond (ltb (b .protocol) (a .protocol)) false (less (spiOf a) (spiOf b)))
+unfoldable pub saBefore : Sa → Sa → Bool
+saBefore a b =
+    cond (ltb (a .protocol) (b .protocol)) true (cond (ltb (b .protocol) (a .protocol)) false (less (saSpi a) (saSpi b)))
 
 -- the SA has protocol p and SPI x
 unfoldable pub named : ℕ → List ℕ → Sa → Bool
-named p x s = eqb (s .protocol) p && same (spiOf s) x
+named p x s = eqb (s .protocol) p && same (saSpi s) x
 
 -- "protocol (3 or 6) ... keying octets of a size the table below needs": an ESP SA "the first number, a Rekey SA the sum of both"
-unfoldable pub sized : Sa → Bool
-sized s =
-    cond (eqb (s .protocol) esp) (sizeOf 1 (s .count))
-    (eqb (s .protocol) rekey && (rekeySizes (s .encryption) (s .wrapping) && eqb (s .count) (s .encryption + s .wrapping)))
+unfoldable pub saSized : Sa → Bool
+saSized s =
+    cond (eqb (s .protocol) espProtocol) (sizeOf 1 (s .count))
+    (eqb (s .protocol) rekeyProtocol && (rekeySizes (s .encryption) (s .wrapping) && eqb (s .count) (s .encryption + s .wrapping)))
 
 -- "at most 2,000,000 seconds"
 abbrev pub mostSeconds : ℕ
@@ -57,8 +57,8 @@ abbrev pub fitLifetime : Lifetime → Bool
 fitLifetime Unlimited = true
 fitLifetime (Limited start seconds) = leb seconds mostSeconds
 
-unfoldable pub formed : Sa → Bool
-formed s = sized s && fitLifetime (s .lifetime)
+unfoldable pub saFormed : Sa → Bool
+saFormed s = saSized s && fitLifetime (s .lifetime)
 
 abbrev pub isLive : Condition → Bool
 isLive Live = true
@@ -66,7 +66,7 @@ isLive (Retiring start delay) = false
 
 -- a live Rekey SA
 unfoldable pub liveRekey : Sa → Bool
-liveRekey s = eqb (s .protocol) rekey && isLive (s .condition)
+liveRekey s = eqb (s .protocol) rekeyProtocol && isLive (s .condition)
 
 -- "A retiring SA is due when (now − start) modulo 2^32 is at least 1,000 × delay"
 abbrev pub dueBy : ℕ → Condition → Bool
@@ -83,8 +83,8 @@ unfoldable pub due : ℕ → Sa → Bool
 due now s = dueBy now (s .condition) || ranOut now (s .lifetime)
 
 -- an SA by its parts: protocol, SPI, keying octets with their count and the counts of their two parts, condition, lifetime
-abbrev pub saOf : ℕ → List ℕ → List ℕ → ℕ → ℕ → ℕ → Condition → Lifetime → Sa
-saOf p x o n e w c t = record {
+abbrev pub makeSa : ℕ → List ℕ → List ℕ → ℕ → ℕ → ℕ → Condition → Lifetime → Sa
+makeSa p x o n e w c t = record {
   protocol = p;
   spi = x;
   octets = o;
@@ -97,7 +97,7 @@ saOf p x o n e w c t = record {
 
 -- the same SA in another condition, with its lifetime
 abbrev pub withCondition : Condition → Sa → Sa
-withCondition c s = saOf (s .protocol) (s .spi) (s .octets) (s .count) (s .encryption) (s .wrapping) c (s .lifetime)
+withCondition c s = makeSa (s .protocol) (s .spi) (s .octets) (s .count) (s .encryption) (s .wrapping) c (s .lifetime)
 
 -- a live SA retires at a tick with a delay; a retiring one keeps its start and delay
 abbrev pub retiredBy : ℕ → ℕ → Condition → Condition
@@ -109,11 +109,11 @@ retired now delay s = withCondition (retiredBy now delay (s .condition)) s
 
 -- "The new SAs enter as live": with SPI x, a key of their kind and a lifetime t. An ESP SA has no part counts
 unfoldable pub espSa : List ℕ → EspKey → Lifetime → Sa
-espSa x k t = saOf esp (padded spiRoom x) (padded saRoom (take (k .count) (k .octets))) (k .count) 0 0 Live t
+espSa x k t = makeSa espProtocol (padded spiRoom x) (padded saRoom (take (k .count) (k .octets))) (k .count) 0 0 Live t
 
 unfoldable pub rekeySa : List ℕ → RekeyKey → Lifetime → Sa
-rekeySa x k t = saOf rekey (padded spiRoom x) (k .octets) (k .encryption + k .wrapping) (k .encryption) (k .wrapping) Live t
+rekeySa x k t = makeSa rekeyProtocol (padded spiRoom x) (k .octets) (k .encryption + k .wrapping) (k .encryption) (k .wrapping) Live t
 
 -- the value of an unused place of the table
 abbrev pub blankSa : Sa
-blankSa = saOf 0 (padded spiRoom []) (padded saRoom []) 0 0 0 Live Unlimited
+blankSa = makeSa 0 (padded spiRoom []) (padded saRoom []) 0 0 0 Live Unlimited

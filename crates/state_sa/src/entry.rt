@@ -5,7 +5,8 @@ ghost use mathlib.Core.Bool.{true};
 ghost use Prim.Native.Nat.{_+_, _≤_};
 ghost use lib.ListN.{length};
 ghost use Rattle.state_keys.specs.Kinds.{rekeySizes};
-ghost use Rattle.state_sa.specs.Entry.{saOf, blankSa, spiSize, before, named, sized, fitLifetime, formed, liveRekey, dueBy, ranOut, due};
+ghost use Rattle.state_sa.specs.Entry.{makeSa, blankSa, saSpiSize, saBefore, named, saSized, fitLifetime, saFormed, liveRekey, dueBy};
+ghost use Rattle.state_sa.specs.Entry.{ranOut, due};
 ghost use Rattle.state_sa.specs.Entry.{retired, espSa, rekeySa};
 use ikev2_numbers::DATA_SPI;
 use ikev2_numbers::REKEY_SPI;
@@ -47,7 +48,7 @@ pub struct Sa {
 
 // The octets of an SPI of a protocol. Internal.
 pub fn spi_size(protocol: u8) -> usize
-    ensures { λ r. ⌜ (r ≡ spiSize protocol) × (r ≤ 16) ⌝ }
+    ensures { λ r. ⌜ (r ≡ saSpiSize protocol) × (r ≤ 16) ⌝ }
 {
     if protocol == ESP {
         return DATA_SPI;
@@ -70,7 +71,7 @@ impl Sa {
         condition: Condition,
         lifetime: Lifetime,
     ) -> Sa
-        ensures { λ r. ⌜ r ≡ saOf protocol spi octets count encryption wrapping condition lifetime ⌝ }
+        ensures { λ r. ⌜ r ≡ makeSa protocol spi octets count encryption wrapping condition lifetime ⌝ }
     {
         Sa {
             protocol,
@@ -134,7 +135,7 @@ impl Sa {
         if self.delay_passed(now) {
             return true;
         }
-        self.ran_out(now)
+        self.has_run_out(now)
     }
 
     // Whether it is retiring and its delay has passed.
@@ -153,7 +154,7 @@ impl Sa {
     }
 
     // Whether it has a lifetime and that has passed.
-    fn ran_out(self, now: u32) -> bool
+    fn has_run_out(self, now: u32) -> bool
         ensures { λ r. ⌜ r ≡ ranOut now (self .lifetime) ⌝ }
     {
         let l = self.lifetime;
@@ -168,7 +169,7 @@ impl Sa {
     }
 
     // It retires at a tick with a delay, and keeps its lifetime. Internal.
-    pub fn retired(self, now: u32, delay: u16) -> Sa
+    pub fn retire(self, now: u32, delay: u16) -> Sa
         ensures { λ r. ⌜ r ≡ retired now delay self ⌝ }
     {
         let c = self.condition;
@@ -195,7 +196,7 @@ impl Sa {
 
     // Whether it stands before another in the table. Internal.
     pub fn before(self, other: Sa) -> bool
-        ensures { λ r. ⌜ r ≡ before self other ⌝ }
+        ensures { λ r. ⌜ r ≡ saBefore self other ⌝ }
     {
         if self.protocol < other.protocol {
             return true;
@@ -211,7 +212,7 @@ impl Sa {
     }
 
     // Whether it has this protocol and SPI. Internal.
-    pub fn named(self, protocol: u8, spi: &[u8]) -> bool
+    pub fn is_named(self, protocol: u8, spi: &[u8]) -> bool
         ensures { λ r. ⌜ r ≡ named protocol (now (spi .entry)) self ⌝ }
     {
         if self.protocol != protocol {
@@ -223,10 +224,10 @@ impl Sa {
     }
 
     // Whether it is as an SA of the table must be. Internal.
-    pub fn formed(self) -> bool
-        ensures { λ r. ⌜ r ≡ formed self ⌝ }
+    pub fn is_formed(self) -> bool
+        ensures { λ r. ⌜ r ≡ saFormed self ⌝ }
     {
-        if self.sized() {
+        if self.is_sized() {
             return self.fit_lifetime();
         }
         false
@@ -244,8 +245,8 @@ impl Sa {
     }
 
     // Whether its protocol is one of the two and its octet counts are those that the protocol needs.
-    fn sized(self) -> bool
-        ensures { λ r. ⌜ r ≡ sized self ⌝ }
+    fn is_sized(self) -> bool
+        ensures { λ r. ⌜ r ≡ saSized self ⌝ }
     {
         if self.protocol == ESP {
             return EspKey::is_size(self.count);

@@ -8,8 +8,8 @@ use lib.ListN.{length, replicate}
 use Rattle.state_keys.specs.Limits.{Limits}
 use Rattle.state_keys.specs.Lists.{keep, insert}
 use Rattle.state_keys.proofs.Cases.{bool-cases, lt-cases}
-use Rattle.state_sa.specs.Entry.{before, due, blankSa}
-use Rattle.state_sa.specs.Blank.{Blank}
+use Rattle.state_sa.specs.Entry.{saBefore, due, blankSa}
+use Rattle.state_sa.specs.Blank.{ZeroPadded}
 use Rattle.state_sa.specs.declared.entry.Sa.{Sa}
 use Rattle.state_sa.proofs.Kept.{retired-blank}
 use Rattle.state_table.specs.declared.Table.{Table}
@@ -19,7 +19,7 @@ use Rattle.state_table.specs.Blank.{AllBlank, no-sa, one-more, TableBlan
 use Rattle.state_table.proofs.Laws.{changed-in, changed-out}
 use Rattle.state_table.proofs.Kept.{sas-of-table, formed-count}
 
-head-blank : {s : Sa} {l : List Sa} → AllBlank (s ∷ l) → Blank s
+head-blank : {s : Sa} {l : List Sa} → AllBlank (s ∷ l) → ZeroPadded s
 head-blank (one-more b r) = b
 
 rest-blank : {s : Sa} {l : List Sa} → AllBlank (s ∷ l) → AllBlank l
@@ -32,13 +32,13 @@ keep-blank p (s ∷ l) b =
     let r = keep-blank p l (rest-blank b) in
     bool-cases (p s) (λ e. rw e (one-more (head-blank b) r)) (λ e. rw e r)
 
-insert-blank : (a : Sa) (l : List Sa) → Blank a → AllBlank l → AllBlank (insert before a l)
+insert-blank : (a : Sa) (l : List Sa) → ZeroPadded a → AllBlank l → AllBlank (insert saBefore a l)
 unfolding insert
 insert-blank a [] x b = one-more x no-sa
 insert-blank a (s ∷ l) x b =
-    bool-cases (before a s) (λ e. rw e (one-more x b)) (λ e. rw e (one-more (head-blank b) (insert-blank a l x (rest-blank b))))
+    bool-cases (saBefore a s) (λ e. rw e (one-more x b)) (λ e. rw e (one-more (head-blank b) (insert-blank a l x (rest-blank b))))
 
-retired-blank-if : (p : Sa → Bool) (now delay : ℕ) (s : Sa) → Blank s → Blank (retiredIf p now delay s)
+retired-blank-if : (p : Sa → Bool) (now delay : ℕ) (s : Sa) → ZeroPadded s → ZeroPadded (retiredIf p now delay s)
 unfolding retiredIf
 retired-blank-if p now delay s b = bool-cases (p s) (λ e. rw e (retired-blank now delay s b)) (λ e. rw e b)
 
@@ -69,11 +69,11 @@ module _ (limits : Limits) where
       TableBlank limits (retiredWhere limits p now delay t)
   retired-where-blank p now delay t b = changed-blank (map (retiredIf p now delay)) (map-blank p now delay) t b
 
-  pub entered-blank : (a : Sa) (t : Table) → Blank a → TableBlank limits t → TableBlank limits (entered limits a t)
+  pub entered-blank : (a : Sa) (t : Table) → ZeroPadded a → TableBlank limits t → TableBlank limits (entered limits a t)
   unfolding entered
   entered-blank a t x b =
       lt-cases (t .count) (limits .sas)
-      (λ h. rw (lt-ltb (t .count) (limits .sas) h) (table-blank (insert before a (sasOf t)) (insert-blank a (sasOf t) x (b .each))))
+      (λ h. rw (lt-ltb (t .count) (limits .sas) h) (table-blank (insert saBefore a (sasOf t)) (insert-blank a (sasOf t) x (b .each))))
       (λ h. rw (le-ltb (t .count) (limits .sas) h) b)
 
   -- every place of a swept table holds an SA that is not due, or is blank: no octet of a removed key remains

@@ -8,7 +8,7 @@ use borrow.Author.Tests.{lt-ltb, not-true}
 use Rattle.state_keys.specs.Limits.{Limits}
 use Rattle.state_keys.specs.Lists.{insert}
 use Rattle.state_keys.proofs.Members.{kept-member, member-kept, inserted-member, member-inserted}
-use Rattle.state_sa.specs.Entry.{before, due}
+use Rattle.state_sa.specs.Entry.{saBefore, due}
 use Rattle.state_sa.specs.declared.entry.Sa.{Sa}
 use Rattle.state_table.specs.declared.Table.{Table}
 use Rattle.state_table.specs.Table.{sasOf, tableOf, tableFormed, swept, notDue}
@@ -33,16 +33,16 @@ module _ (limits : Limits) (t : Table) (f : tableFormed limits t ≡ true) where
   sweep-keeps now s m e = subst (List·Memᴰ s) (sym (swept-sas now)) (member-kept (λ (x : Sa). not (due now x)) s (sasOf t) m (ap not e))
 
 module _ (limits : Limits) (a : Sa) (t : Table) (r : t .count < limits .sas) where
-  entered-sas : sasOf (entered limits a t) ≡ insert before a (sasOf t)
+  entered-sas : sasOf (entered limits a t) ≡ insert saBefore a (sasOf t)
   unfolding entered
-  entered-sas = rw (lt-ltb (t .count) (limits .sas) r) (sas-of-table limits (insert before a (sasOf t)))
+  entered-sas = rw (lt-ltb (t .count) (limits .sas) r) (sas-of-table limits (insert saBefore a (sasOf t)))
 
   -- after one SA entered, the table has it and what it had
   pub enter-leaves : (s : Sa) → List·Memᴰ s (sasOf (entered limits a t)) → (s ≡ a) ⊎ List·Memᴰ s (sasOf t)
-  enter-leaves s m = inserted-member before a s (sasOf t) (subst (List·Memᴰ s) entered-sas m)
+  enter-leaves s m = inserted-member saBefore a s (sasOf t) (subst (List·Memᴰ s) entered-sas m)
 
   pub enter-keeps : (s : Sa) → (s ≡ a) ⊎ List·Memᴰ s (sasOf t) → List·Memᴰ s (sasOf (entered limits a t))
-  enter-keeps s m = subst (List·Memᴰ s) (sym entered-sas) (member-inserted before a s (sasOf t) m)
+  enter-keeps s m = subst (List·Memᴰ s) (sym entered-sas) (member-inserted saBefore a s (sasOf t) m)
 
 -- two tables as they must be, blank in their unused places, with the same SAs are one table
 pub table-same : (limits : Limits) (t u : Table) → tableFormed limits t ≡ true → tableFormed limits u ≡ true → TableBlank limits t →

@@ -9,11 +9,11 @@ use Rattle.state_keys.specs.Limits.{Limits}
 use Rattle.state_keys.specs.Lists.{any, count, rising}
 use Rattle.state_keys.proofs.Cases.{bool-cases}
 use Rattle.state_keys.proofs.Rising.{first-before, rising-rest, rising-unique}
-use Rattle.state_sa.specs.Entry.{spiOf, before, named, liveRekey}
+use Rattle.state_sa.specs.Entry.{saSpi, saBefore, named, liveRekey}
 use Rattle.state_sa.specs.declared.entry.Sa.{Sa}
 use Rattle.state_sa.proofs.Order.{before-trans, before-irrefl, same-not-before, named-is}
 use Rattle.state_table.specs.declared.Table.{Table}
-use Rattle.state_table.specs.declared.Found.{Found}
+use Rattle.state_table.specs.declared.SaFound.{SaFound}
 use Rattle.state_table.specs.Table.{sasOf, tableFormed, none, theOne, foundSa, foundRekey}
 use Rattle.state_table.proofs.Laws.{found-in}
 use Rattle.state_table.proofs.Kept.{formed-count, formed-fit}
@@ -23,7 +23,7 @@ pub table-unique : (limits : Limits) (t u : Table) → tableFormed limits t ≡ 
     ((s : Sa) → List·Memᴰ s (sasOf t) → List·Memᴰ s (sasOf u)) →
     ((s : Sa) → List·Memᴰ s (sasOf u) → List·Memᴰ s (sasOf t)) → sasOf t ≡ sasOf u
 table-unique limits t u e f g h =
-    rising-unique before before-trans before-irrefl (sasOf t) (sasOf u) (formed-fit limits t e .rises) (formed-fit limits u f .rises) g h
+    rising-unique saBefore before-trans before-irrefl (sasOf t) (sasOf u) (formed-fit limits t e .rises) (formed-fit limits u f .rises) g h
 
 module _ (p : Sa → Bool) where
   count-some : (s : Sa) (l : List Sa) → List·Memᴰ s l → p s ≡ true → 1 ≤ count p l
@@ -54,11 +54,11 @@ module _ (p : Sa → Bool) where
   -- what is found is a member that passes
   pub found-passes : (s : Sa) (l : List Sa) → theOne p l ≡ record { found = true; sa = s } → List·Memᴰ s l × (p s ≡ true)
   unfolding theOne
-  found-passes s [] e = absurd (false≢true (ap (λ (f : Found). f .found) e))
+  found-passes s [] e = absurd (false≢true (ap (λ (f : SaFound). f .found) e))
   found-passes s (a ∷ l) e =
       bool-cases (p a)
       (λ g.
-      let q : a ≡ s = ap (λ (f : Found). f .sa) (rw g at e) in
+      let q : a ≡ s = ap (λ (f : SaFound). f .sa) (rw g at e) in
       (List·Memᴰ·head (sym q), ap p (sym q) ∙ g))
       (λ g. let r = found-passes s l (rw g at e) in (List·Memᴰ·tail (r .0), r .1))
 
@@ -74,18 +74,18 @@ module _ (p : Sa → Bool) where
   count-zero (a ∷ l) f = rw (f a (List·Memᴰ·head refl)) (count-zero l (λ b m. f b (List·Memᴰ·tail m)))
 
 -- a table that rises has at most one SA with a protocol and SPI
-pub named-once : (q : ℕ) (x : List ℕ) (l : List Sa) → rising before l ≡ true → count (named q x) l ≤ 1
+pub named-once : (q : ℕ) (x : List ℕ) (l : List Sa) → rising saBefore l ≡ true → count (named q x) l ≤ 1
 unfolding count
 named-once q x [] r = omega arith
 named-once q x (a ∷ l) r =
     bool-cases (named q x a)
     (λ g.
     let n = named-is q x a g in
-    let z = count-zero (named q x) l (λ b m. other a b n (first-before before before-trans before-irrefl a b l r m)) in
+    let z = count-zero (named q x) l (λ b m. other a b n (first-before saBefore before-trans before-irrefl a b l r m)) in
     rw (g, z) (omega arith))
-    (λ g. rw g (named-once q x l (rising-rest before before-trans before-irrefl a l r)))
+    (λ g. rw g (named-once q x l (rising-rest saBefore before-trans before-irrefl a l r)))
   where
-    other : (a b : Sa) → (a .protocol ≡ q) × (spiOf a ≡ x) → before a b ≡ true → named q x b ≡ false
+    other : (a b : Sa) → (a .protocol ≡ q) × (saSpi a ≡ x) → saBefore a b ≡ true → named q x b ≡ false
     other a b n h =
         bool-cases (named q x b)
         (λ g.

@@ -14,7 +14,7 @@ use Rattle.state_keys.specs.Lists.{all, any, count, keep, rising, insert}
 use Rattle.state_keys.proofs.Cases.{bool-cases, and-parts}
 use Rattle.state_keys.proofs.Rising.{all-keep, count-keep, length-keep, length-insert, all-insert, count-insert, rising-keep, rising-insert}
 use Rattle.state_keys.proofs.Rising.{all-map, count-map, rising-map}
-use Rattle.state_sa.specs.Entry.{spiOf, before, named, formed, liveRekey, due, blankSa}
+use Rattle.state_sa.specs.Entry.{saSpi, saBefore, named, saFormed, liveRekey, due, blankSa}
 use Rattle.state_sa.specs.declared.entry.Sa.{Sa}
 use Rattle.state_sa.proofs.Order.{SameName, before-trans, before-total, is-named}
 use Rattle.state_sa.proofs.Kept.{retired-formed, retired-before-left, retired-before-right, retired-rekey}
@@ -35,19 +35,19 @@ take-le (suc n) (a ∷ l) = let h = take-le n l in omega arith
 
 -- ---- retiring leaves the order and the octets, and makes no SA live
 module _ (p : Sa → Bool) (now delay : ℕ) where
-  if-formed : (s : Sa) → formed (retiredIf p now delay s) ≡ formed s
+  if-formed : (s : Sa) → saFormed (retiredIf p now delay s) ≡ saFormed s
   unfolding retiredIf
   if-formed s = bool-cases (p s) (λ e. rw e (retired-formed now delay s)) (λ e. rw e)
 
-  if-before-left : (a b : Sa) → before (retiredIf p now delay a) b ≡ before a b
+  if-before-left : (a b : Sa) → saBefore (retiredIf p now delay a) b ≡ saBefore a b
   unfolding retiredIf
   if-before-left a b = bool-cases (p a) (λ e. rw e (retired-before-left now delay a b)) (λ e. rw e)
 
-  if-before-right : (a b : Sa) → before a (retiredIf p now delay b) ≡ before a b
+  if-before-right : (a b : Sa) → saBefore a (retiredIf p now delay b) ≡ saBefore a b
   unfolding retiredIf
   if-before-right a b = bool-cases (p b) (λ e. rw e (retired-before-right now delay a b)) (λ e. rw e)
 
-  if-before : (a b : Sa) → before (retiredIf p now delay a) (retiredIf p now delay b) ≡ before a b
+  if-before : (a b : Sa) → saBefore (retiredIf p now delay a) (retiredIf p now delay b) ≡ saBefore a b
   if-before a b = if-before-left a (retiredIf p now delay b) ∙ if-before-right a b
 
   if-live : (s : Sa) → liveRekey (retiredIf p now delay s) ≡ true → liveRekey s ≡ true
@@ -60,8 +60,8 @@ module _ (p : Sa → Bool) (now delay : ℕ) where
 module _ (limits : Limits) where
   pub record Fit (l : List Sa) : Type 0 where
     pub room : length l ≤ limits .sas
-    pub each : all formed l ≡ true
-    pub rises : rising before l ≡ true
+    pub each : all saFormed l ≡ true
+    pub rises : rising saBefore l ≡ true
     pub one : count liveRekey l ≤ 1
 
   pub fit-none : Fit []
@@ -76,8 +76,8 @@ module _ (limits : Limits) where
       let o = f .one in
       record {
         room = omega arith;
-        each = all-keep p formed l (f .each);
-        rises = rising-keep before before-trans p l (f .rises);
+        each = all-keep p saFormed l (f .each);
+        rises = rising-keep saBefore before-trans p l (f .rises);
         one = omega arith;
       }
 
@@ -90,35 +90,35 @@ module _ (limits : Limits) where
       let o = f .one in
       record {
         room = omega arith;
-        each = all-map r formed (if-formed p now delay) l ∙ f .each;
-        rises = rising-map r before (if-before p now delay) l ∙ f .rises;
+        each = all-map r saFormed (if-formed p now delay) l ∙ f .each;
+        rises = rising-map r saBefore (if-before p now delay) l ∙ f .rises;
         one = omega arith;
       }
 
   -- an SA whose name is new stands before or after each of the list
-  apart-one : (a b : Sa) → named (a .protocol) (spiOf a) b ≡ false → (before a b ≡ true) ⊎ (SameName a b ⊎ (before b a ≡ true)) →
-      (before a b || before b a) ≡ true
+  apart-one : (a b : Sa) → named (a .protocol) (saSpi a) b ≡ false → (saBefore a b ≡ true) ⊎ (SameName a b ⊎ (saBefore b a ≡ true)) →
+      (saBefore a b || saBefore b a) ≡ true
   apart-one a b e (inl x) = rw x
-  apart-one a b e (inr (inl x)) = absurd (false≢true (sym e ∙ is-named (a .protocol) (spiOf a) b (sym (x .0)) (sym (x .1))))
-  apart-one a b e (inr (inr x)) = bool-cases (before a b) (λ g. rw g) (λ g. rw g x)
+  apart-one a b e (inr (inl x)) = absurd (false≢true (sym e ∙ is-named (a .protocol) (saSpi a) b (sym (x .0)) (sym (x .1))))
+  apart-one a b e (inr (inr x)) = bool-cases (saBefore a b) (λ g. rw g) (λ g. rw g x)
 
-  apart : (a : Sa) (l : List Sa) → any (named (a .protocol) (spiOf a)) l ≡ false → all (λ (b : Sa). before a b || before b a) l ≡ true
+  apart : (a : Sa) (l : List Sa) → any (named (a .protocol) (saSpi a)) l ≡ false → all (λ (b : Sa). saBefore a b || saBefore b a) l ≡ true
   unfolding any all
   apart a [] e = refl
   apart a (b ∷ l) e =
-      bool-cases (named (a .protocol) (spiOf a) b) (λ g. absurd (false≢true (sym e ∙ rw g)))
+      bool-cases (named (a .protocol) (saSpi a) b) (λ g. absurd (false≢true (sym e ∙ rw g)))
       (λ g. rw (apart-one a b g (before-total a b)) (apart a l (sym (rw g) ∙ e)))
 
-  pub fit-entered : (a : Sa) (l : List Sa) → Fit l → length l < limits .sas → formed a ≡ true → any
-      (named (a .protocol) (spiOf a)) l ≡ false →
-      count liveRekey (a ∷ l) ≤ 1 → Fit (insert before a l)
+  pub fit-entered : (a : Sa) (l : List Sa) → Fit l → length l < limits .sas → saFormed a ≡ true → any
+      (named (a .protocol) (saSpi a)) l ≡ false →
+      count liveRekey (a ∷ l) ≤ 1 → Fit (insert saBefore a l)
   fit-entered a l f r e n o =
-      let h = length-insert before a l in
-      let k = count-insert before liveRekey a l in
+      let h = length-insert saBefore a l in
+      let k = count-insert saBefore liveRekey a l in
       record {
         room = omega arith;
-        each = all-insert before formed a l e (f .each);
-        rises = rising-insert before before-trans a l (apart a l n) (f .rises);
+        each = all-insert saBefore saFormed a l e (f .each);
+        rises = rising-insert saBefore before-trans a l (apart a l n) (f .rises);
         one = omega arith;
       }
 
@@ -137,10 +137,10 @@ module _ (limits : Limits) where
   pub formed-fit : (t : Table) → tableFormed limits t ≡ true → Fit (sasOf t)
   unfolding tableFormed
   formed-fit t e =
-      let p = and-parts (leb (t .count) (limits .sas)) (all formed (sasOf t) &&
-      (rising before (sasOf t) && leb (count liveRekey (sasOf t)) 1)) e in
-      let q = and-parts (all formed (sasOf t)) (rising before (sasOf t) && leb (count liveRekey (sasOf t)) 1) (p .1) in
-      let r = and-parts (rising before (sasOf t)) (leb (count liveRekey (sasOf t)) 1) (q .1) in
+      let p = and-parts (leb (t .count) (limits .sas)) (all saFormed (sasOf t) &&
+      (rising saBefore (sasOf t) && leb (count liveRekey (sasOf t)) 1)) e in
+      let q = and-parts (all saFormed (sasOf t)) (rising saBefore (sasOf t) && leb (count liveRekey (sasOf t)) 1) (p .1) in
+      let r = and-parts (rising saBefore (sasOf t)) (leb (count liveRekey (sasOf t)) 1) (q .1) in
       let c = leb-true (t .count) (limits .sas) (p .0) in
       let h = take-le (t .count) (t .sas) in
       record { room = omega arith; each = q .0; rises = r .0; one = leb-true (count liveRekey (sasOf t)) 1 (r .1) }
@@ -161,9 +161,9 @@ module _ (limits : Limits) where
       (table-formed (map (retiredIf p now delay) (sasOf t)) (fit-retired p now delay (sasOf t) (formed-fit t e)))
 
   pub entered-formed : (a : Sa) (t : Table) → tableFormed limits t ≡ true → t .count < limits .sas → length
-      (sasOf t) < limits .sas → formed a ≡ true →
-      any (named (a .protocol) (spiOf a)) (sasOf t) ≡ false → count liveRekey (a ∷ sasOf t) ≤ 1 → tableFormed limits
+      (sasOf t) < limits .sas → saFormed a ≡ true →
+      any (named (a .protocol) (saSpi a)) (sasOf t) ≡ false → count liveRekey (a ∷ sasOf t) ≤ 1 → tableFormed limits
       (entered limits a t) ≡ true
   unfolding entered
   entered-formed a t e c r f n o =
-      rw (lt-ltb (t .count) (limits .sas) c) (table-formed (insert before a (sasOf t)) (fit-entered a (sasOf t) (formed-fit t e) r f n o))
+      rw (lt-ltb (t .count) (limits .sas) c) (table-formed (insert saBefore a (sasOf t)) (fit-entered a (sasOf t) (formed-fit t e) r f n o))

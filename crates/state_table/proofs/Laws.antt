@@ -13,10 +13,10 @@ use Rattle.state_keys.proofs.Cases.{bool-cases, lt-cases}
 use Rattle.state_keys.proofs.Lists.{all-yes, all-no, all-end, count-yes, count-no, count-end, rising-next, rising-end}
 use Rattle.state_keys.proofs.Parts.{part-cons, part-end}
 use Rattle.state_keys.proofs.Fill.{Filled, filled-count, filled-all}
-use Rattle.state_sa.specs.Entry.{before, formed, liveRekey, due, retired, blankSa}
+use Rattle.state_sa.specs.Entry.{saBefore, saFormed, liveRekey, due, retired, blankSa}
 use Rattle.state_sa.specs.declared.entry.Sa.{Sa}
 use Rattle.state_table.specs.declared.Table.{Table}
-use Rattle.state_table.specs.declared.Found.{Found}
+use Rattle.state_table.specs.declared.SaFound.{SaFound}
 use Rattle.state_table.specs.Table.{sasOf, tableOf, tableFormed, changed, swept, stays, notDue, emptyAt, retiredIf, none}
 use Rattle.state_table.specs.inner.Changes.{standingCount}
 use Rattle.state_table.specs.Table.{theOne, foundIn}
@@ -77,15 +77,15 @@ module _ (limits : Limits) (t : Table) where
   formed-over h = rw (lt-leb (t .count) (limits .sas) h)
 
   module _ (h : t .count ≤ limits .sas) where
-    pub formed-each : all formed (sasOf t) ≡ false → false ≡ tableFormed limits t
+    pub formed-each : all saFormed (sasOf t) ≡ false → false ≡ tableFormed limits t
     unfolding tableFormed
     formed-each e = rw (le-leb (t .count) (limits .sas) h, e)
 
-    pub formed-rises : all formed (sasOf t) ≡ true → rising before (sasOf t) ≡ false → false ≡ tableFormed limits t
+    pub formed-rises : all saFormed (sasOf t) ≡ true → rising saBefore (sasOf t) ≡ false → false ≡ tableFormed limits t
     unfolding tableFormed
     formed-rises e f = rw (le-leb (t .count) (limits .sas) h, e, f)
 
-    pub formed-live : (k : ℕ) → all formed (sasOf t) ≡ true → rising before (sasOf t) ≡ true → k ≡ count liveRekey (sasOf t) →
+    pub formed-live : (k : ℕ) → all saFormed (sasOf t) ≡ true → rising saBefore (sasOf t) ≡ true → k ≡ count liveRekey (sasOf t) →
         leb k 1 ≡ tableFormed limits t
     unfolding tableFormed
     formed-live k e f g = rw (le-leb (t .count) (limits .sas) h, e, f, g)
@@ -99,38 +99,38 @@ module _ (limits : Limits) (t : Table) (h : t .count ≤ limits .sas) (long : le
   inside = omega arith
 
   pub record Testing (k i : ℕ) : Type 0 where
-    pub each : all formed (sasOf t) ≡ all formed (from i)
-    pub rises : rising before (sasOf t) ≡ rising before (from i)
+    pub each : all saFormed (sasOf t) ≡ all saFormed (from i)
+    pub rises : rising saBefore (sasOf t) ≡ rising saBefore (from i)
     pub live : count liveRekey (sasOf t) ≡ count liveRekey (from i) + k
     pub few : k ≤ i
 
   pub testing-start : Testing 0 0
   testing-start = record { each = refl; rises = refl; live = omega arith; few = omega arith }
 
-  rises-not : rising before (sasOf t) ≡ false → false ≡ tableFormed limits t
-  rises-not f = bool-cases (all formed (sasOf t)) (λ e. formed-rises limits t h e f) (λ e. formed-each limits t h e)
+  rises-not : rising saBefore (sasOf t) ≡ false → false ≡ tableFormed limits t
+  rises-not f = bool-cases (all saFormed (sasOf t)) (λ e. formed-rises limits t h e f) (λ e. formed-each limits t h e)
 
   module _ (k i : ℕ) (w : Testing k i) (d : Sa) (g : i < t .count) where
     abbrev s : Sa
     s = getD (t .sas) i d
 
-    pub testing-not : false ≡ formed s → false ≡ tableFormed limits t
-    testing-not e = formed-each limits t h (w .each ∙ all-no formed (t .sas) (t .count) inside i d g e)
+    pub testing-not : false ≡ saFormed s → false ≡ tableFormed limits t
+    testing-not e = formed-each limits t h (w .each ∙ all-no saFormed (t .sas) (t .count) inside i d g e)
 
-    pub testing-falls : i + 1 < t .count → false ≡ before s (getD (t .sas) (i + 1) d) → false ≡ tableFormed limits t
-    testing-falls f e = rises-not (w .rises ∙ rising-next before (t .sas) (t .count) inside i d false f e)
+    pub testing-falls : i + 1 < t .count → false ≡ saBefore s (getD (t .sas) (i + 1) d) → false ≡ tableFormed limits t
+    testing-falls f e = rises-not (w .rises ∙ rising-next saBefore (t .sas) (t .count) inside i d false f e)
 
-    module _ (e : true ≡ formed s) where
-      testing-on : (m : ℕ) → rising before (from i) ≡ rising before (from (i + 1)) →
+    module _ (e : true ≡ saFormed s) where
+      testing-on : (m : ℕ) → rising saBefore (from i) ≡ rising saBefore (from (i + 1)) →
           count liveRekey (sasOf t) ≡ count liveRekey (from (i + 1)) + m → m ≤ i + 1 → Testing m (i + 1)
       testing-on m r l f = record {
-        each = w .each ∙ all-yes formed (t .sas) (t .count) inside i d g e;
+        each = w .each ∙ all-yes saFormed (t .sas) (t .count) inside i d g e;
         rises = w .rises ∙ r;
         live = l;
         few = f;
       }
 
-      by-live : (b : Bool) → b ≡ liveRekey s → rising before (from i) ≡ rising before (from (i + 1)) → (m : ℕ) →
+      by-live : (b : Bool) → b ≡ liveRekey s → rising saBefore (from i) ≡ rising saBefore (from (i + 1)) → (m : ℕ) →
           m ≡ cond b (k + 1) k → Testing m (i + 1)
       by-live true l r m q =
           let c = count-yes liveRekey (t .sas) (t .count) inside i d g l in
@@ -144,21 +144,21 @@ module _ (limits : Limits) (t : Table) (h : t .count ≤ limits .sas) (long : le
           testing-on m r (omega arith) (omega arith)
 
       -- the next stands behind it, or there is no next
-      pub testing-next : (b : Bool) → b ≡ liveRekey s → i + 1 < t .count → true ≡ before s (getD (t .sas) (i + 1) d) → (m : ℕ) →
+      pub testing-next : (b : Bool) → b ≡ liveRekey s → i + 1 < t .count → true ≡ saBefore s (getD (t .sas) (i + 1) d) → (m : ℕ) →
           m ≡ cond b (k + 1) k → Testing m (i + 1)
-      testing-next b l f r = by-live b l (rising-next before (t .sas) (t .count) inside i d true f r)
+      testing-next b l f r = by-live b l (rising-next saBefore (t .sas) (t .count) inside i d true f r)
 
       pub testing-last : (b : Bool) → b ≡ liveRekey s → t .count ≤ i + 1 → (m : ℕ) → m ≡ cond b (k + 1) k → Testing m (i + 1)
       testing-last b l f =
-          by-live b l (rising-end before (t .sas) (t .count) inside i d f
-          ∙ sym (rising-end before (t .sas) (t .count) inside (i + 1) d (omega arith)))
+          by-live b l (rising-end saBefore (t .sas) (t .count) inside i d f
+          ∙ sym (rising-end saBefore (t .sas) (t .count) inside (i + 1) d (omega arith)))
 
   pub testing-end : (k i : ℕ) → Testing k i → t .count ≤ i → leb k 1 ≡ tableFormed limits t
   testing-end k i w g =
       let q = count-end liveRekey (t .sas) (t .count) inside i g in
       let o = w .live in
-      formed-live limits t h k (w .each ∙ all-end formed (t .sas) (t .count) inside i g)
-      (w .rises ∙ rising-end before (t .sas) (t .count) inside i blankSa (omega arith)) (omega arith)
+      formed-live limits t h k (w .each ∙ all-end saFormed (t .sas) (t .count) inside i g)
+      (w .rises ∙ rising-end saBefore (t .sas) (t .count) inside i blankSa (omega arith)) (omega arith)
 
 -- ---- what stays
 -- every SA is due exactly when none is kept

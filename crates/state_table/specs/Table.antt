@@ -9,10 +9,10 @@ use Rattle.state_keys.specs.Lists.{all, count, keep, rising}
 use Rattle.state_keys.specs.Limits.{Limits}
 use Rattle.state_keys.specs.Kinds.{wrappingKey, keyWrapPart}
 use Rattle.state_keys.specs.declared.kinds.MadeWrapping.{MadeWrapping}
-use Rattle.state_sa.specs.Entry.{before, named, formed, liveRekey, due, retired, blankSa}
+use Rattle.state_sa.specs.Entry.{saBefore, named, saFormed, liveRekey, due, retired, blankSa}
 use Rattle.state_sa.specs.declared.entry.Sa.{Sa}
 use Rattle.state_table.specs.declared.Table.{Table}
-use Rattle.state_table.specs.declared.Found.{Found}
+use Rattle.state_table.specs.declared.SaFound.{SaFound}
 
 -- the SAs of the table: the first places, as many as its count says
 abbrev pub sasOf : Table → List Sa
@@ -25,7 +25,7 @@ tableOf limits l = record { sas = l ++ replicate (limits .sas - length l) blankS
 -- the table is as a member's must be
 unfoldable pub tableFormed : Limits → Table → Bool
 tableFormed limits t =
-    leb (t .count) (limits .sas) && (all formed (sasOf t) && (rising before (sasOf t) && leb (count liveRekey (sasOf t)) 1))
+    leb (t .count) (limits .sas) && (all saFormed (sasOf t) && (rising saBefore (sasOf t) && leb (count liveRekey (sasOf t)) 1))
 
 -- a change of the SAs of a table, whose count is within the limit; one whose count is not stays as it is
 unfoldable pub changed : Limits → (List Sa → List Sa) → Table → Table
@@ -50,29 +50,29 @@ unfoldable pub retiredIf : (Sa → Bool) → ℕ → ℕ → Sa → Sa
 retiredIf p now delay s = cond (p s) (retired now delay s) s
 
 -- the SA of a list that passes a test, or none
-abbrev pub none : Found
+abbrev pub none : SaFound
 none = record { found = false; sa = blankSa }
 
-unfoldable pub theOne : (Sa → Bool) → List Sa → Found
+unfoldable pub theOne : (Sa → Bool) → List Sa → SaFound
 theOne p [] = none
 theOne p (s ∷ l) = cond (p s) (record { found = true; sa = s }) (theOne p l)
 
 -- the one of a table; a table whose count is not within the limit has none
-unfoldable pub foundIn : Limits → (Sa → Bool) → Table → Found
+unfoldable pub foundIn : Limits → (Sa → Bool) → Table → SaFound
 foundIn limits p t = cond (leb (t .count) (limits .sas)) (theOne p (sasOf t)) none
 
 -- "the SA with a given protocol and SPI, or none"
-unfoldable pub foundSa : Limits → ℕ → List ℕ → Table → Found
+unfoldable pub foundSa : Limits → ℕ → List ℕ → Table → SaFound
 foundSa limits p x t = foundIn limits (named p x) t
 
 -- "the live Rekey SA", and "the default key of the live Rekey SA: the key wrap part of its keying octets"
-unfoldable pub foundRekey : Limits → Table → Found
+unfoldable pub foundRekey : Limits → Table → SaFound
 foundRekey limits t = foundIn limits liveRekey t
 
-unfoldable pub keyOf : Found → MadeWrapping
-keyOf f =
+unfoldable pub keyOfFound : SaFound → MadeWrapping
+keyOfFound f =
     cond (f .found)
     (keyWrapPart (record { octets = f .sa .octets; encryption = f .sa .encryption; wrapping = f .sa .wrapping })) (wrappingKey [])
 
 unfoldable pub defaultKey : Limits → Table → MadeWrapping
-defaultKey limits t = keyOf (foundRekey limits t)
+defaultKey limits t = keyOfFound (foundRekey limits t)

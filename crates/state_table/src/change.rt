@@ -2,7 +2,7 @@
 ghost use mathlib.Core.Path.{_≡_};
 ghost use mathlib.Core.Bool.{_||_};
 ghost use Rattle.state_keys.specs.Limits.{limits};
-ghost use Rattle.state_sa.specs.Entry.{before};
+ghost use Rattle.state_sa.specs.Entry.{saBefore};
 ghost use Rattle.state_table.specs.Table.{swept, emptyAt};
 ghost use Rattle.state_table.specs.inner.Changes.{standingCount};
 use crate::Table;
@@ -11,7 +11,7 @@ use state_sa::entry::Sa;
 
 // Whether s comes after a in the table that a enters: a has its place already, or stands before s. Internal.
 pub fn goes_ahead(placed: bool, a: Sa, s: Sa) -> bool
-    ensures { λ r. ⌜ r ≡ (placed || before a s) ⌝ }
+    ensures { λ r. ⌜ r ≡ (placed || saBefore a s) ⌝ }
 {
     if placed {
         return true;
@@ -21,7 +21,7 @@ pub fn goes_ahead(placed: bool, a: Sa, s: Sa) -> bool
 
 impl Table {
     // The table without the SAs that are due. Internal.
-    pub fn swept(self, tick: u32) -> Table
+    pub fn sweep(self, tick: u32) -> Table
         ensures { λ r. ⌜ r ≡ swept limits tick self ⌝ }
     {
         let n = self.count;

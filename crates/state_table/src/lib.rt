@@ -15,7 +15,7 @@ pub struct Table {
 }
 
 // An SA of the table, or none and a blank one.
-pub struct Found {
+pub struct SaFound {
     pub found: bool,
     pub sa: Sa,
 }

@@ -2,23 +2,23 @@
 ghost use mathlib.Core.Path.{_≡_};
 ghost use Rattle.state_keys.specs.Limits.{limits};
 ghost use Rattle.state_table.specs.Table.{tableFormed, foundSa, foundRekey, none};
-use crate::Found;
+use crate::SaFound;
 use crate::Table;
 use state_keys::limits::SAS;
 use state_sa::entry::Sa;
 
 // No SA. Internal.
-pub fn nothing() -> Found
+pub fn nothing() -> SaFound
     ensures { λ r. ⌜ r ≡ none ⌝ }
 {
     let sa = Sa::blank();
-    Found { found: false, sa }
+    SaFound { found: false, sa }
 }
 
 impl Table {
     // Whether the table is as a member's must be: each SA is of a protocol and of octet counts that a table may hold, each stands before
     // the next, and at most one is a live Rekey SA. Internal.
-    pub fn formed(self) -> bool
+    pub fn is_formed(self) -> bool
         ensures { λ r. ⌜ r ≡ tableFormed limits self ⌝ }
     {
         let n = self.count;
@@ -29,7 +29,7 @@ impl Table {
         let mut i: usize = 0;
         while i < n {
             let s = self.sas[i];
-            if s.formed() {} else {
+            if s.is_formed() {} else {
                 return false;
             }
             let j = i + 1;
@@ -48,7 +48,7 @@ impl Table {
     }
 
     // The SA with this protocol and SPI. Internal.
-    pub fn find(self, protocol: u8, spi: &[u8]) -> Found
+    pub fn find(self, protocol: u8, spi: &[u8]) -> SaFound
         ensures { λ r. ⌜ r ≡ foundSa limits protocol (now (spi .entry)) self ⌝ }
     {
         let n = self.count;
@@ -58,8 +58,8 @@ impl Table {
         let mut i: usize = 0;
         while i < n {
             let s = self.sas[i];
-            if s.named(protocol, spi) {
-                return Found { found: true, sa: s };
+            if s.is_named(protocol, spi) {
+                return SaFound { found: true, sa: s };
             }
             i += 1;
         }
@@ -67,7 +67,7 @@ impl Table {
     }
 
     // The live Rekey SA. Internal.
-    pub fn live_rekey(self) -> Found
+    pub fn live_rekey(self) -> SaFound
         ensures { λ r. ⌜ r ≡ foundRekey limits self ⌝ }
     {
         let n = self.count;
@@ -78,7 +78,7 @@ impl Table {
         while i < n {
             let s = self.sas[i];
             if s.is_live_rekey() {
-                return Found { found: true, sa: s };
+                return SaFound { found: true, sa: s };
             }
             i += 1;
         }

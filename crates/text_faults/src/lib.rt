@@ -211,7 +211,7 @@ pub fn of_transform(out: &mut [u8], n: usize, s: &[u8], offset: usize) -> usize 
 // The faults of an attribute of a place. Internal.
 pub fn of_attribute(out: &mut [u8], n: usize, place: Place, s: &[u8], offset: usize) -> usize {
     let a = breaks(out, n, offset, b"attribute: ");
-    match wire_attributes::attribute_read(s) {
+    match wire_attributes::read_attribute(s) {
         Read::Attribute {
             short,
             kind,

@@ -81,7 +81,7 @@ pub fn attribute_end(s: &[u8], at: usize, to: usize) -> usize
     requires { ⌜ at < to ⌝ }
     ensures { λ r. ⌜ (at < r) × (r ≤ to) ⌝ }
 {
-    match wire_attributes::attribute_read(part(s, at, to)) {
+    match wire_attributes::read_attribute(part(s, at, to)) {
         Read::Attribute {
             short: _,
             kind: _,

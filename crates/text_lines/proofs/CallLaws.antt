@@ -5,11 +5,11 @@ use mathlib.Core.List.{List, [], _∷_}
 use native.Mathlib.Omega.{arith}
 use lib.ListN.{length, take, drop, length-drop}
 use Rattle.text_rules.specs.Hex.{octetsOfHex}
-use Rattle.text_rules.specs.Input.{Asked, isTaken, keyOf, frame, askedBy}
+use Rattle.text_rules.specs.Input.{Asked, isTaken, lineKey, frame, askedBy}
 use Rattle.text_rules.specs.Answer.{badText}
-use Rattle.text_rules.specs.Transcript.{Step, Outcome, told, RepliesTo, Replies}
-use Rattle.text_lines.specs.inner.Calls.{Gives, Asks}
-use Rattle.text_lines.specs.declared.Key.{Key}
+use Rattle.text_rules.specs.Transcript.{CallRelation, LineOutcome, told, RepliesTo, Replies}
+use Rattle.text_lines.specs.inner.Calls.{KeyLineGives, Asks}
+use Rattle.text_lines.specs.declared.LineKey.{LineKey}
 use Rattle.text_lines.specs.declared.Request.the-variants as request
 use Rattle.text_rules.proofs.Cases.{by-test}
 use Rattle.text_rules.proofs.InputLaws.{taken-bounds, key-taken, key-other, asked-other}
@@ -21,7 +21,7 @@ length-octets [] = refl
 length-octets (h ∷ []) = refl
 length-octets (h ∷ l ∷ text) = let r = length-octets text in omega arith
 
-pub key-short : (line : List ℕ) → length (keyOf line) ≤ 32
+pub key-short : (line : List ℕ) → length (lineKey line) ≤ 32
 key-short line =
     by-test (isTaken 0 64 line)
     (λ e.
@@ -31,10 +31,10 @@ key-short line =
     (λ e. let l = ap length (key-other line e) in omega arith)
 
 -- the key of a first line is the first octets of what was given
-pub given-key : (line : List ℕ) {r : Key} → Gives line r → take (r .len) (r .octets) ≡ keyOf line
+pub given-key : (line : List ℕ) {r : LineKey} → KeyLineGives line r → take (r .len) (r .octets) ≡ lineKey line
 given-key line p = let s = key-short line in put-taken p (omega arith)
 
-pub given-length : (line : List ℕ) {r : Key} → Gives line r → r .len ≡ length (keyOf line)
+pub given-length : (line : List ℕ) {r : LineKey} → KeyLineGives line r → r .len ≡ length (lineKey line)
 given-length line p =
     let s = key-short line in
     let e = put-next p (omega arith) in
@@ -60,11 +60,11 @@ module _ (line : List ℕ) {room after : List ℕ} {tick len : ℕ}
   asked-inside = let l = length-put (p .1) in omega (arith, p .1 .place)
 
 -- what the program does with a later line is what the line asks
-module _ {S : Type 0} (step : Step S) (key : List ℕ) (member : S) (line : List ℕ) {room after : List ℕ} where
+module _ {S : Type 0} (step : CallRelation S) (key : List ℕ) (member : S) (line : List ℕ) {room after : List ℕ} where
   pub reply-bad : Asks line room after request.Bad → Replies step key member line (record { next = member; text = badText })
   reply-bad p = subst (λ (x : Asked). RepliesTo step key member x (record { next = member; text = badText })) (sym (p .0)) refl
 
-  pub reply-frame : {tick len : ℕ} (o : Outcome S) → Asks line room after (request.Frame tick len) → 16384 ≤ length room
+  pub reply-frame : {tick len : ℕ} (o : LineOutcome S) → Asks line room after (request.Frame tick len) → 16384 ≤ length room
       → step member key tick (take len after) o → Replies step key member line (told o)
   reply-frame {tick} o p h q =
       subst (λ (x : Asked). RepliesTo step key member x (told o)) (sym (p .0))

@@ -6,8 +6,8 @@ use mathlib.Core.Bool.{true, false}
 use native.Mathlib.Omega.{arith}
 use lib.ListN.{length, drop, getD, drop-of-length-le}
 use borrow.Author.Tests.{eq-eqb, ne-eqb}
-use Rattle.text_rules.specs.Lines.{Line, before, lines}
-use Rattle.text_lines.specs.inner.First.{written, firstOf}
+use Rattle.text_rules.specs.Lines.{Line, prependCharacter, lines}
+use Rattle.text_lines.specs.inner.First.{lineOctets, firstOf}
 use Rattle.text_lines.specs.inner.Room.{Put}
 use Rattle.text_lines.specs.inner.Calls.{Absorbs}
 use Rattle.text_rules.proofs.Cases.{at-place}
@@ -17,7 +17,7 @@ pub lines-newline : (c : ℕ) (s : List ℕ) → c ≡ 10 → lines (c ∷ s) �
 unfolding lines
 lines-newline c s e = rw (eq-eqb c 10 e)
 
-pub lines-other : (c : ℕ) (s : List ℕ) → (c ≡ 10 → ⊥) → lines (c ∷ s) ≡ before c (lines s)
+pub lines-other : (c : ℕ) (s : List ℕ) → (c ≡ 10 → ⊥) → lines (c ∷ s) ≡ prependCharacter c (lines s)
 unfolding lines
 lines-other c s e = rw (ne-eqb c 10 e)
 
@@ -33,23 +33,24 @@ no-newline-snoc (a ∷ s) c p n = (p .0, no-newline-snoc s c (p .1) n)
 
 pub lines-ended : (s rest : List ℕ) → NoNewline s → lines (s ++ (10 ∷ rest)) ≡ record { text = s; ended = true } ∷ lines rest
 lines-ended [] rest p = lines-newline 10 rest refl
-lines-ended (c ∷ s) rest p = lines-other c (s ++ (10 ∷ rest)) (p .0) ∙ ap (before c) (lines-ended s rest (p .1))
+lines-ended (c ∷ s) rest p = lines-other c (s ++ (10 ∷ rest)) (p .0) ∙ ap (prependCharacter c) (lines-ended s rest (p .1))
 
 -- a beginning that is not empty is a line that no newline ended
 abbrev pub begun : List ℕ → List Line
 begun [] = []
 begun (c ∷ s) = record { text = c ∷ s; ended = false } ∷ []
 
-before-begun : (c : ℕ) (s : List ℕ) → before c (begun s) ≡ begun (c ∷ s)
+before-begun : (c : ℕ) (s : List ℕ) → prependCharacter c (begun s) ≡ begun (c ∷ s)
 before-begun c [] = refl
 before-begun c (a ∷ s) = refl
 
 pub lines-begun : (s : List ℕ) → NoNewline s → lines s ≡ begun s
 unfolding lines
 lines-begun [] p = refl
-lines-begun (c ∷ s) p = lines-other c s (p .0) ∙ ap (before c) (lines-begun s (p .1)) ∙ before-begun c s
+lines-begun (c ∷ s) p = lines-other c s (p .0) ∙ ap (prependCharacter c) (lines-begun s (p .1)) ∙ before-begun c s
 
-pub first-before : (c : ℕ) (ls : List Line) → firstOf (before c ls) ≡ record { text = c ∷ firstOf ls .text; ended = firstOf ls .ended }
+pub first-before : (c : ℕ) (ls : List Line) →
+    firstOf (prependCharacter c ls) ≡ record { text = c ∷ firstOf ls .text; ended = firstOf ls .ended }
 first-before c [] = refl
 first-before c (l ∷ ls) = refl
 
@@ -74,15 +75,15 @@ module _ (block : List ℕ) (at : ℕ) where
   unfolding lines
   first-none h = ap (λ (l : List ℕ). firstOf (lines l)) (drop-of-length-le block h)
 
-length-longer : (c : ℕ) (l : Line) → length (written (record { text = c ∷ l .text; ended = l .ended })) ≡ 1 + length (written l)
-unfolding written
+length-longer : (c : ℕ) (l : Line) → length (lineOctets (record { text = c ∷ l .text; ended = l .ended })) ≡ 1 + length (lineOctets l)
+unfolding lineOctets
 length-longer c l = omega arith
 
 -- a loop that takes a line: what stands in the lent line so far, and where the loop stands
 pub record Takes (block : List ℕ) (from : ℕ) (line : List ℕ) (len : ℕ) (now : List ℕ) (at held : ℕ) : Type 0 where
   pub text : Puts line len (first block from .text) now held (first block at .text)
   pub ended : first block at .ended ≡ first block from .ended
-  pub next : at + length (written (first block at)) ≡ from + length (written (first block from))
+  pub next : at + length (lineOctets (first block at)) ≡ from + length (lineOctets (first block from))
 
 pub takes-start : (block : List ℕ) (from : ℕ) (line : List ℕ) (len : ℕ) → Takes block from line len line from len
 takes-start block from line len = record { text = puts-start line len (first block from .text); ended = refl; next = refl }
@@ -93,7 +94,7 @@ module _ {block : List ℕ} {from : ℕ} {line : List ℕ} {len : ℕ} {now : Li
       → Put now held (getD block at 0 ∷ []) now′ held′ → Takes block from line len now′ (at + 1) held′
   takes-more h n q =
       let e = first-other block at h n in
-      let s = ap (λ (l : Line). length (written l)) e ∙ length-longer (getD block at 0) (first block (at + 1)) in
+      let s = ap (λ (l : Line). length (lineOctets l)) e ∙ length-longer (getD block at 0) (first block (at + 1)) in
       record {
         text = puts-more (getD block at 0 ∷ []) (p .text) (ap (λ (l : Line). l .text) e) q;
         ended = sym (ap (λ (l : Line). l .ended) e) ∙ p .ended;
@@ -102,10 +103,10 @@ module _ {block : List ℕ} {from : ℕ} {line : List ℕ} {len : ℕ} {now : Li
 
   pub takes-newline : at < length block → getD block at 0 ≡ 10
       → Absorbs block from line len now (record { next = at + 1; len = held; ended = true })
-  unfolding written
+  unfolding lineOctets
   takes-newline h n =
       let e = first-newline block at h n in
-      let s = ap (λ (l : Line). length (written l)) e in
+      let s = ap (λ (l : Line). length (lineOctets l)) e in
       record {
         ended = sym (ap (λ (l : Line). l .ended) e) ∙ p .ended;
         next = omega (arith, p .next);
@@ -113,10 +114,10 @@ module _ {block : List ℕ} {from : ℕ} {line : List ℕ} {len : ℕ} {now : Li
       }
 
   pub takes-end : length block ≤ at → Absorbs block from line len now (record { next = at; len = held; ended = false })
-  unfolding written
+  unfolding lineOctets
   takes-end h =
       let e = first-none block at h in
-      let s = ap (λ (l : Line). length (written l)) e in
+      let s = ap (λ (l : Line). length (lineOctets l)) e in
       record {
         ended = sym (ap (λ (l : Line). l .ended) e) ∙ p .ended;
         next = omega (arith, p .next);

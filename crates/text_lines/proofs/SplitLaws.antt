@@ -5,14 +5,14 @@ use mathlib.Core.Path.{_≡_, refl, ap, sym, subst, _∙_}
 use mathlib.Core.List.{List, [], _∷_, _++_, append-assoc, append-nil}
 use mathlib.Core.Bool.{Bool, true, false}
 use native.Mathlib.Omega.{arith}
-use Rattle.text_rules.specs.Lines.{Line, before, lines}
-use Rattle.text_lines.specs.inner.First.{written}
+use Rattle.text_rules.specs.Lines.{Line, prependCharacter, lines}
+use Rattle.text_lines.specs.inner.First.{lineOctets}
 use Rattle.text_rules.proofs.Cases.{by-same}
 use Rattle.text_lines.proofs.LineLaws.{NoNewline, lines-newline, lines-other, lines-ended, lines-begun}
 
 unfoldable pub joined : List Line → List ℕ
 joined [] = []
-joined (l ∷ ls) = written l ++ joined ls
+joined (l ∷ ls) = lineOctets l ++ joined ls
 
 -- the lines of an input: no newline stands in a line; a line that none ended is the last, and not empty
 abbrev pub Last : List ℕ → Bool → List Line → Type 0
@@ -23,13 +23,13 @@ abbrev pub Proper : List Line → Type 0
 Proper [] = Unit {0}
 Proper (l ∷ ls) = NoNewline (l .text) × Last (l .text) (l .ended) ls × Proper ls
 
-join-before : (c : ℕ) (ls : List Line) → joined (before c ls) ≡ c ∷ joined ls
-unfolding joined written
+join-before : (c : ℕ) (ls : List Line) → joined (prependCharacter c ls) ≡ c ∷ joined ls
+unfolding joined lineOctets
 join-before c [] = refl
 join-before c (l ∷ ls) = refl
 
 pub joined-lines : (s : List ℕ) → joined (lines s) ≡ s
-unfolding joined written lines
+unfolding joined lineOctets lines
 joined-lines [] = refl
 joined-lines (c ∷ s) =
     let r = joined-lines s in
@@ -44,7 +44,7 @@ last-before : (c : ℕ) (text : List ℕ) (e : Bool) (ls : List Line) → Last t
 last-before c text true ls p = tt
 last-before c text false ls p = (not-empty c text, p .1)
 
-proper-before : (c : ℕ) (ls : List Line) → (c ≡ 10 → ⊥) → Proper ls → Proper (before c ls)
+proper-before : (c : ℕ) (ls : List Line) → (c ≡ 10 → ⊥) → Proper ls → Proper (prependCharacter c ls)
 proper-before c [] n p = ((n, tt), (not-empty c [], refl), tt)
 proper-before c (l ∷ ls) n p = ((n, p .0), last-before c (l .text) (l .ended) ls (p .1), p .2)
 
@@ -62,8 +62,8 @@ last-alone [] p n = absurd (n refl)
 last-alone (c ∷ text) p n = ap lines (append-nil ((c ∷ text) ++ []) ∙ append-nil (c ∷ text)) ∙ lines-begun (c ∷ text) p
 
 first-joined : (text : List ℕ) (e : Bool) (ls : List Line) → NoNewline text → Last text e ls → lines (joined ls) ≡ ls
-    → lines (written (record { text = text; ended = e }) ++ joined ls) ≡ record { text = text; ended = e } ∷ ls
-unfolding written joined
+    → lines (lineOctets (record { text = text; ended = e }) ++ joined ls) ≡ record { text = text; ended = e } ∷ ls
+unfolding lineOctets joined
 first-joined text true ls p l r =
     ap lines (append-assoc text (10 ∷ []) (joined ls)) ∙ lines-ended text (joined ls) p
     ∙ ap (λ (x : List Line). record { text = text; ended = true } ∷ x) r

@@ -3,11 +3,11 @@ ghost use mathlib.Core.Path.{_≡_};
 ghost use mathlib.Core.List.{_∷_, [], _++_};
 ghost use Prim.Native.Nat.{_+_, _*_, _/_, _%_, _<_, _≤_};
 ghost use lib.ListN.{length, take, getD};
-ghost use Rattle.text_rules.specs.Hex.{isDigit, valueOf, digitOf, areDigits, isHex, octetsOfHex, digitsOf, numberFrom};
+ghost use Rattle.text_rules.specs.Hex.{isDigit, digitValue, digitOf, areDigits, isHex, octetsOfHex, digitsOf, numberFrom};
 ghost use Rattle.text_rules.specs.Input.{isTaken};
 ghost use Rattle.text_rules.specs.Answer.{decimal, answerText, badText};
 ghost use Rattle.text_lines.specs.inner.Room.{Put};
-ghost use Rattle.text_lines.specs.inner.Calls.{Absorbs, Gives, Asks};
+ghost use Rattle.text_lines.specs.inner.Calls.{Absorbs, KeyLineGives, Asks};
 
 // One octet at a place of lent room, where the place is within it; the place behind it. Internal.
 pub fn put(room: &mut [u8], at: usize, octet: u8) -> usize
@@ -29,7 +29,7 @@ fn is_digit(c: u8) -> bool
 
 // What a hexadecimal digit counts; 0 for another character. The characters 0 to 9 are 48 to 57, a to f are 97 to 102.
 fn value_of(c: u8) -> u8
-    ensures { λ r. ⌜ (r ≡ valueOf c) × (r < 16) ⌝ }
+    ensures { λ r. ⌜ (r ≡ digitValue c) × (r < 16) ⌝ }
 {
     if is_digit(c) {
         return c % 16 + 9 * (c / 64);
@@ -75,7 +75,7 @@ pub fn is_hex(text: &[u8]) -> bool
 // The octet that two digits write.
 fn octet_at(text: &[u8], i: usize) -> u8
     requires { ⌜ i + 1 < length (now text) ⌝ }
-    ensures { λ r. ⌜ r ≡ 16 * valueOf (getD (now (text .entry)) i 0) + valueOf (getD (now (text .entry)) (i + 1) 0) ⌝ }
+    ensures { λ r. ⌜ r ≡ 16 * digitValue (getD (now (text .entry)) i 0) + digitValue (getD (now (text .entry)) (i + 1) 0) ⌝ }
 {
     16 * value_of(text[i]) + value_of(text[i + 1])
 }
@@ -161,21 +161,21 @@ fn is_taken(text: &[u8], least: usize, most: usize) -> bool
 }
 
 // The default key: `len` octets, and 0 in the places behind.
-pub struct Key {
+pub struct LineKey {
     pub octets: [u8; 32],
     pub len: usize,
 }
 
 // The default key that a first line gives. Internal.
-pub fn key_line(line: &[u8]) -> Key
-    ensures { λ r. ⌜ Gives (now (line .entry)) r ⌝ }
+pub fn key_line(line: &[u8]) -> LineKey
+    ensures { λ r. ⌜ KeyLineGives (now (line .entry)) r ⌝ }
 {
     let mut octets = [0u8; 32];
     if is_taken(line, 0, 64) {
         let len = put_octets(&mut octets, 0, line);
-        return Key { octets, len };
+        return LineKey { octets, len };
     }
-    Key { octets, len: 0 }
+    LineKey { octets, len: 0 }
 }
 
 // The number that the first 8 digits of a text write.

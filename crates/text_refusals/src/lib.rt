@@ -1,5 +1,6 @@
-// Which clauses of document 01's numbers 4 to 7 apply to a frame alone, by name, for the program `show`: from the functions by which a member
-// judges. The member's table and the lent key are not looked at. Of several GSA or KD payloads the first is looked at, as by a member.
+// Which clauses of document 01's numbers 4 to 7 apply to a frame alone, by name, for the program `show`: from the functions by which a
+// member judges. The member's table and the lent key are not looked at. Of several GSA or KD payloads the first is looked at, as by a
+// member.
 use check_judging::facts::Facts;
 use check_judging::facts::facts_of;
 use check_judging::number4::Four;
@@ -33,7 +34,7 @@ const LENT: usize = WrappingKey::KW_128;
 const STANDING: usize = 0;
 
 // The clauses of a frame.
-pub(crate) struct Found {
+pub(crate) struct ClauseFound {
     // the exchange is one of the four that are taken
     admitted: bool,
     // one of the clauses applies
@@ -57,8 +58,8 @@ fn any(row: Exchange, x: Facts, unpaired: bool) -> bool {
 }
 
 // Those of a frame with these facts, where the clauses on the pairing are known.
-fn by_facts(row: Exchange, x: Facts, policies: bool, bags: bool) -> Found {
-    Found {
+fn by_facts(row: Exchange, x: Facts, policies: bool, bags: bool) -> ClauseFound {
+    ClauseFound {
         admitted: row.admitted,
         any: any(row, x, policies | bags),
         four: clauses_4(row, x),
@@ -71,7 +72,7 @@ fn by_facts(row: Exchange, x: Facts, policies: bool, bags: bool) -> Found {
 }
 
 // Those of a frame whose layout is whole.
-fn of_frame(s: &[u8]) -> Found
+fn of_frame(s: &[u8]) -> ClauseFound
     requires { ⌜ isWhole (frame (now s)) ≡ true ⌝ }
 {
     let row = exchange_of(octets::wide(s[18]));

@@ -1,5 +1,5 @@
 // The clauses by name, in the words of document 01 and T-09 and in their order.
-use crate::Found;
+use crate::ClauseFound;
 use check_judging::number4::Four;
 use check_judging::number5::Five;
 use check_judging::number6::Keys;
@@ -172,7 +172,7 @@ fn seven(out: &mut [u8], n: usize, x: Seven) -> usize {
     clause(out, e, x.sas, b"  7: more SAs than an empty table takes\n")
 }
 
-fn each(out: &mut [u8], n: usize, x: Found) -> usize {
+fn each(out: &mut [u8], n: usize, x: ClauseFound) -> usize {
     let a = four(out, n, x.four);
     let b = five(out, a, x.five);
     let c = pairing(out, b, x.policies, x.bags);
@@ -181,7 +181,7 @@ fn each(out: &mut [u8], n: usize, x: Found) -> usize {
 }
 
 // A line for each clause that applies, or one that says that none does. A frame of another exchange is not judged by them.
-pub(crate) fn lines(out: &mut [u8], n: usize, x: Found) -> usize {
+pub(crate) fn lines(out: &mut [u8], n: usize, x: ClauseFound) -> usize {
     if !x.admitted {
         return text_names::text(
             out,

@@ -7,20 +7,20 @@ use native.Mathlib.Omega.{arith}
 use lib.ListN.{length, getD, drop, length-drop, drop-of-length-le}
 use lib.Dec.{leb, eqb}
 use borrow.Author.Tests.{le-leb, lt-leb, lt-ltb, le-ltb, leb-true}
-use Rattle.text_rules.specs.Hex.{within, isDecimal, isLetter, isDigit, valueOf, digitOf, areDigits, isHex, octetsOfHex, digitsOf}
+use Rattle.text_rules.specs.Hex.{inRange, isDecimal, isLetter, isDigit, digitValue, digitOf, areDigits, isHex, octetsOfHex, digitsOf}
 use Rattle.text_rules.proofs.Cases.{at-place, by-less, by-test, true-not-false, and-true}
 
 module _ (low high c : ℕ) where
-  pub inside : low ≤ c → c ≤ high → within low high c ≡ true
+  pub inside : low ≤ c → c ≤ high → inRange low high c ≡ true
   inside l h = rw (le-leb low c l, le-leb c high h)
 
-  pub below : c < low → within low high c ≡ false
+  pub below : c < low → inRange low high c ≡ false
   below l = rw (lt-leb low c l)
 
-  pub above : high < c → within low high c ≡ false
+  pub above : high < c → inRange low high c ≡ false
   above h = by-test (leb low c) (λ e. rw (e, lt-leb c high h)) (λ e. rw e)
 
-  range : within low high c ≡ true → (low ≤ c) × (c ≤ high)
+  range : inRange low high c ≡ true → (low ≤ c) × (c ≤ high)
   range e =
       let p = and-true (leb low c) (leb c high) e in
       (leb-true low c (p .0), leb-true c high (p .1))
@@ -30,14 +30,14 @@ module _ (c : ℕ) {d l : Bool} (p : isDecimal c ≡ d) (q : isLetter c ≡ l) w
   unfolding isDigit
   digit-by = rw (p, q)
 
-  pub value-by : valueOf c ≡ cond d (c - 48) (cond l (c - 87) 0)
-  unfolding valueOf
+  pub value-by : digitValue c ≡ cond d (c - 48) (cond l (c - 87) 0)
+  unfolding digitValue
   value-by = rw (p, q)
 
 -- what is known of a character by its range
 pub record Known (c : ℕ) (is : Bool) (v : ℕ) : Type 0 where
   pub digit : isDigit c ≡ is
-  pub value : valueOf c ≡ v
+  pub value : digitValue c ≡ v
 
 module _ (c : ℕ) where
   pub decimals : 48 ≤ c → c ≤ 57 → Known c true (c - 48)
@@ -55,7 +55,7 @@ module _ (c : ℕ) where
 -- a value and its digit
 pub record Digit (v c : ℕ) : Type 0 where
   pub digit : isDigit c ≡ true
-  pub counts : valueOf c ≡ v
+  pub counts : digitValue c ≡ v
   pub small : v < 16
   pub back : digitOf v ≡ c
 
@@ -79,24 +79,24 @@ digit-of v h =
     (λ l. let g = letter-digit v l h in subst (Digit v) (sym (g .back)) g)
 
 -- every digit is its value's
-pub of-digit : (c : ℕ) → isDigit c ≡ true → Digit (valueOf c) c
+pub of-digit : (c : ℕ) → isDigit c ≡ true → Digit (digitValue c) c
 unfolding isDigit
 of-digit c e = by-test (isDecimal c) decimal (λ d. by-test (isLetter c) letter (λ l. true-not-false (isDigit c) e (rw (d, l))))
   where
-    from : (v : ℕ) (k : ℕ) → k ≡ c → Digit v k → Digit (valueOf c) c
+    from : (v : ℕ) (k : ℕ) → k ≡ c → Digit v k → Digit (digitValue c) c
     from v k q g = subst (λ (x : ℕ). Digit x c) (sym (g′ .counts)) g′
       where
         g′ : Digit v c
         g′ = subst (Digit v) q g
 
-    decimal : isDecimal c ≡ true → Digit (valueOf c) c
+    decimal : isDecimal c ≡ true → Digit (digitValue c) c
     decimal d = let r = range 48 57 c d in from (c - 48) (48 + (c - 48)) (omega arith) (decimal-digit (c - 48) (omega arith))
 
-    letter : isLetter c ≡ true → Digit (valueOf c) c
+    letter : isLetter c ≡ true → Digit (digitValue c) c
     letter l = let r = range 97 102 c l in from (c - 87) (87 + (c - 87)) (omega arith) (letter-digit (c - 87) (omega arith) (omega arith))
 
 -- what a digit counts, with no question which it is; another character counts nothing
-pub digit-value : (c : ℕ) → isDigit c ≡ true → c % 16 + 9 * (c / 64) ≡ valueOf c
+pub digit-value : (c : ℕ) → isDigit c ≡ true → c % 16 + 9 * (c / 64) ≡ digitValue c
 digit-value c e =
     by-test (isDecimal c)
     (λ d.
@@ -109,7 +109,7 @@ digit-value c e =
     let v : c % 16 + 9 * (c / 64) ≡ c - 87 = omega arith in v ∙ sym (letters c (r .0) (r .1) .value))
     (λ l. true-not-false (isDigit c) e (digit-by c d l)))
 
-pub other-value : (c : ℕ) → isDigit c ≡ false → 0 ≡ valueOf c
+pub other-value : (c : ℕ) → isDigit c ≡ false → 0 ≡ digitValue c
 other-value c e =
     by-test (isDecimal c) (λ d. true-not-false (isDigit c) (digit-by c d refl) e)
     (λ d. by-test (isLetter c) (λ l. true-not-false (isDigit c) (digit-by c d l) e) (λ l. sym (value-by c d l)))
@@ -146,12 +146,12 @@ module _ (text : List ℕ) (i : ℕ) where
   written-end h = ap digitsOf (drop-of-length-le text h)
 
 pub read-more : (text : List ℕ) (i : ℕ) → i + 1 < length text
-    → octetsOfHex (drop i text) ≡ (16 * valueOf (getD text i 0) + valueOf (getD text (i + 1) 0)) ∷ octetsOfHex (drop (i + 2) text)
+    → octetsOfHex (drop i text) ≡ (16 * digitValue (getD text i 0) + digitValue (getD text (i + 1) 0)) ∷ octetsOfHex (drop (i + 2) text)
 unfolding octetsOfHex
 read-more text i h =
     let e : i + 1 + 1 ≡ i + 2 = omega arith in
     ap octetsOfHex (at-place text i (omega arith) ∙ ap (λ (l : List ℕ). getD text i 0 ∷ l) (at-place text (i + 1) h))
-    ∙ ap (λ (k : ℕ). (16 * valueOf (getD text i 0) + valueOf (getD text (i + 1) 0)) ∷ octetsOfHex (drop k text)) e
+    ∙ ap (λ (k : ℕ). (16 * digitValue (getD text i 0) + digitValue (getD text (i + 1) 0)) ∷ octetsOfHex (drop k text)) e
 
 short : (l : List ℕ) → length l < 2 → octetsOfHex l ≡ []
 unfolding octetsOfHex

@@ -8,8 +8,8 @@ use lib.ListN.{length, take, drop, getD, length-drop}
 use lib.Seq.{take-all}
 use lib.Dec.{leb}
 use borrow.Author.Tests.{le-leb, lt-leb, leb-true}
-use Rattle.text_rules.specs.Hex.{isHex, valueOf, octetsOfHex, numberFrom}
-use Rattle.text_rules.specs.Input.{isTaken, keyOf, bad, frame, askedBy}
+use Rattle.text_rules.specs.Hex.{isHex, digitValue, octetsOfHex, numberFrom}
+use Rattle.text_rules.specs.Input.{isTaken, lineKey, bad, frame, askedBy}
 use Rattle.text_rules.proofs.Cases.{by-test, and-true}
 
 module _ (least most : ℕ) (text : List ℕ) where
@@ -33,12 +33,12 @@ module _ (least most : ℕ) (text : List ℕ) where
       (leb-true least (length text) (q .0), leb-true (length text) most (q .1))
 
 module _ (line : List ℕ) where
-  pub key-taken : isTaken 0 64 line ≡ true → keyOf line ≡ octetsOfHex line
-  unfolding keyOf
+  pub key-taken : isTaken 0 64 line ≡ true → lineKey line ≡ octetsOfHex line
+  unfolding lineKey
   key-taken e = rw e
 
-  pub key-other : isTaken 0 64 line ≡ false → keyOf line ≡ []
-  unfolding keyOf
+  pub key-other : isTaken 0 64 line ≡ false → lineKey line ≡ []
+  unfolding lineKey
   key-other e = rw e
 
   pub asked-taken : isTaken 8 32776 line ≡ true → askedBy line ≡ frame (numberFrom 0 (take 8 line)) (octetsOfHex (drop 8 line))
@@ -55,7 +55,7 @@ part-rest k l = take-all (length l - k) (drop k l) (rw length-drop (omega arith)
 
 -- the octet that two digits write
 abbrev pub pair : List ℕ → ℕ → ℕ → ℕ
-pair text i j = 16 * valueOf (getD text i 0) + valueOf (getD text j 0)
+pair text i j = 16 * digitValue (getD text i 0) + digitValue (getD text j 0)
 
 pub tick-octets : (text : List ℕ) → 8 ≤ length text
     → numberFrom 0 (take 8 text) ≡ ((pair text 0 1 * 256 + pair text 2 3) * 256 + pair text 4 5) * 256 + pair text 6 7

@@ -3,11 +3,11 @@ use Prim.Native.Nat.{ℕ}
 use mathlib.Core.Path.{_≡_, ap, sym, subst, _∙_}
 use mathlib.Core.List.{List, [], _∷_, _++_}
 use Rattle.text_rules.specs.Lines.{Line, lines}
-use Rattle.text_rules.specs.Input.{Asked, bad, frame, keyOf, askedBy}
-use Rattle.text_rules.specs.Transcript.{Step, Outcome, Reply, told, RepliesTo, Later, OutputOf, Transcript}
+use Rattle.text_rules.specs.Input.{Asked, bad, frame, lineKey, askedBy}
+use Rattle.text_rules.specs.Transcript.{CallRelation, LineOutcome, Reply, told, RepliesTo, Later, OutputOf, Transcript}
 
-module _ {S : Type 0} (step : Step S)
-    (one : (member : S) (key : List ℕ) (tick : ℕ) (octets : List ℕ) (o p : Outcome S) → step member key tick octets o →
+module _ {S : Type 0} (step : CallRelation S)
+    (one : (member : S) (key : List ℕ) (tick : ℕ) (octets : List ℕ) (o p : LineOutcome S) → step member key tick octets o →
     step member key tick octets p → o ≡ p) where
   reply-one : (key : List ℕ) (member : S) (x : Asked) (a b : Reply S) → RepliesTo step key member x a → RepliesTo step key member x b
       → a ≡ b
@@ -26,7 +26,7 @@ module _ {S : Type 0} (step : Step S)
 
   output-one : (member : S) (ls : List Line) (s t : List ℕ) → OutputOf step member ls s → OutputOf step member ls t → s ≡ t
   output-one member [] s t p q = p ∙ sym q
-  output-one member (first ∷ ls) s t p q = later-one (keyOf (first .text)) member ls s t p q
+  output-one member (first ∷ ls) s t p q = later-one (lineKey (first .text)) member ls s t p q
 
   pub transcript-one : (member : S) (input s t : List ℕ) → Transcript step member input s → Transcript step member input t → s ≡ t
   transcript-one member input s t p q = output-one member (lines input) s t p q

@@ -7,11 +7,11 @@ use native.Mathlib.Omega.{arith}
 use lib.ListN.{length, getD}
 use lib.Dec.{eqb}
 use borrow.Author.Tests.{eqb-true, eq-eqb}
-use Rattle.text_rules.specs.Hex.{isDigit, valueOf, digitOf, areDigits, isHex, octetsOfHex, digitsOf}
+use Rattle.text_rules.specs.Hex.{isDigit, digitValue, digitOf, areDigits, isHex, octetsOfHex, digitsOf}
 use Rattle.text_rules.proofs.Cases.{true-not-false, and-true}
 use Rattle.text_rules.proofs.HexLaws.{Digit, digit-of, of-digit}
 
-octet-back : (o : ℕ) → o < 256 → 16 * valueOf (digitOf (o / 16)) + valueOf (digitOf (o % 16)) ≡ o
+octet-back : (o : ℕ) → o < 256 → 16 * digitValue (digitOf (o / 16)) + digitValue (digitOf (o % 16)) ≡ o
 octet-back o h =
     let a = digit-of (o / 16) (omega arith) .counts in
     let b = digit-of (o % 16) (omega arith) .counts in
@@ -43,13 +43,13 @@ written-hex octets h =
     rw (digits-written octets h, eq-eqb (length (digitsOf octets) % 2) 0 e)
 
 -- what two digits write is their octet
-two-digits : (a b : ℕ) → Digit (valueOf a) a → Digit (valueOf b) b
-    → (digitOf ((16 * valueOf a + valueOf b) / 16) ≡ a) × (digitOf ((16 * valueOf a + valueOf b) % 16) ≡ b)
+two-digits : (a b : ℕ) → Digit (digitValue a) a → Digit (digitValue b) b
+    → (digitOf ((16 * digitValue a + digitValue b) / 16) ≡ a) × (digitOf ((16 * digitValue a + digitValue b) % 16) ≡ b)
 two-digits a b p q =
     let l = p .small in
     let k = q .small in
-    let h : (16 * valueOf a + valueOf b) / 16 ≡ valueOf a = omega arith in
-    let m : (16 * valueOf a + valueOf b) % 16 ≡ valueOf b = omega arith in
+    let h : (16 * digitValue a + digitValue b) / 16 ≡ digitValue a = omega arith in
+    let m : (16 * digitValue a + digitValue b) % 16 ≡ digitValue b = omega arith in
     (ap digitOf h ∙ p .back, ap digitOf m ∙ q .back)
 
 -- a text of two digits and more

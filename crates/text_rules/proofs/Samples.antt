@@ -9,19 +9,19 @@ use mathlib.Core.List.{List, [], _∷_, _++_, map}
 use mathlib.Core.Bool.{cond}
 use lib.ListN.{length}
 use lib.Dec.{ltb}
-use Rattle.text_rules.specs.Hex.{isDigit, valueOf, areDigits, isHex, octetsOfHex, numberFrom}
+use Rattle.text_rules.specs.Hex.{isDigit, digitValue, areDigits, isHex, octetsOfHex, numberFrom}
 use Rattle.text_rules.specs.Lines.{Line, lines}
-use Rattle.text_rules.specs.Input.{Asked, bad, frame, isTaken, keyOf, askedBy}
+use Rattle.text_rules.specs.Input.{Asked, bad, frame, isTaken, lineKey, askedBy}
 use Rattle.text_rules.specs.Answer.{decimalUpTo, decimal, printed, answerText, badText}
-use Rattle.text_rules.specs.Transcript.{Step, Outcome, Reply, told, RepliesTo, Later, OutputOf, Transcript}
+use Rattle.text_rules.specs.Transcript.{CallRelation, LineOutcome, Reply, told, RepliesTo, Later, OutputOf, Transcript}
 
 abbrev text : String → List ℕ
 text none = []
 text (c then s) = code c ∷ text s
 
 -- the transcript of a step that is a function, computed
-module _ {S : Type 0} (f : S → List ℕ → ℕ → List ℕ → Outcome S) where
-  abbrev graph : Step S
+module _ {S : Type 0} (f : S → List ℕ → ℕ → List ℕ → LineOutcome S) where
+  abbrev graph : CallRelation S
   graph member key tick octets o = o ≡ f member key tick octets
 
   abbrev replyTo : List ℕ → S → Asked → Reply S
@@ -35,7 +35,7 @@ module _ {S : Type 0} (f : S → List ℕ → ℕ → List ℕ → Outcome S) wh
 
   abbrev outputOf : S → List Line → List ℕ
   outputOf member [] = []
-  outputOf member (first ∷ ls) = later (keyOf (first .text)) member ls
+  outputOf member (first ∷ ls) = later (lineKey (first .text)) member ls
 
   abbrev transcript : S → List ℕ → List ℕ
   transcript member input = outputOf member (lines input)
@@ -53,13 +53,13 @@ module _ {S : Type 0} (f : S → List ℕ → ℕ → List ℕ → Outcome S) wh
 
   outputs : (member : S) (ls : List Line) → OutputOf graph member ls (outputOf member ls)
   outputs member [] = refl
-  outputs member (first ∷ ls) = laters (keyOf (first .text)) member ls
+  outputs member (first ∷ ls) = laters (lineKey (first .text)) member ls
 
   computed : (member : S) (input output : List ℕ) → transcript member input ≡ output → Transcript graph member input output
   computed member input output e = subst (λ (s : List ℕ). Transcript graph member input s) e (outputs member (lines input))
 
 -- a new member's answers to document 01's samples
-abbrev toy : ℕ → List ℕ → ℕ → List ℕ → Outcome ℕ
+abbrev toy : ℕ → List ℕ → ℕ → List ℕ → LineOutcome ℕ
 toy member key tick octets = record { next = member; number = cond (ltb (length octets) 28) 1 2; sas = 0; held = 0; figure = 0 }
 
 -- document 01's input, and its line of a tick and a bare header, with no newline behind it
@@ -71,12 +71,12 @@ input =
     ++ text "ffffffff0000000000000000000000000000000000200000000000000000001c"))
 
 sample : Transcript (graph toy) 0 input (text "1 0 0 0\nbad\nbad\nbad\n2 0 0\n")
-unfolding isDigit valueOf areDigits isHex octetsOfHex numberFrom lines isTaken keyOf askedBy
+unfolding isDigit digitValue areDigits isHex octetsOfHex numberFrom lines isTaken lineKey askedBy
     decimalUpTo decimal printed answerText later
 sample = computed toy 0 input (text "1 0 0 0\nbad\nbad\nbad\n2 0 0\n") refl
 
 -- counts the frames, and tells the tick and the sizes of key and frame; its figure is a number of two digits
-abbrev tell : ℕ → List ℕ → ℕ → List ℕ → Outcome ℕ
+abbrev tell : ℕ → List ℕ → ℕ → List ℕ → LineOutcome ℕ
 tell member key tick octets =
     record { next = member + 1; number = length octets; sas = tick; held = length key + 100 * member; figure = 47 }
 
@@ -116,6 +116,6 @@ hold [] e = tt
 hold (s ∷ l) e = (computed tell 0 (text (s .input)) (text (s .output)) (cc), hold l (cc))
 
 samples : Hold table
-unfolding isDigit valueOf areDigits isHex octetsOfHex numberFrom lines isTaken keyOf askedBy
+unfolding isDigit digitValue areDigits isHex octetsOfHex numberFrom lines isTaken lineKey askedBy
     decimalUpTo decimal printed answerText later
 samples = hold table refl

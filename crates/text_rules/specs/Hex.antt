@@ -5,23 +5,23 @@ use mathlib.Core.Bool.{Bool, true, cond, _&&_, _||_}
 use lib.ListN.{length}
 use lib.Dec.{leb, ltb, eqb}
 
-abbrev pub within : ℕ → ℕ → ℕ → Bool
-within low high c = leb low c && leb c high
+abbrev pub inRange : ℕ → ℕ → ℕ → Bool
+inRange low high c = leb low c && leb c high
 
 -- the characters 0 to 9
 abbrev pub isDecimal : ℕ → Bool
-isDecimal c = within 48 57 c
+isDecimal c = inRange 48 57 c
 
 -- the characters a to f
 abbrev pub isLetter : ℕ → Bool
-isLetter c = within 97 102 c
+isLetter c = inRange 97 102 c
 
 unfoldable pub isDigit : ℕ → Bool
 isDigit c = isDecimal c || isLetter c
 
 -- what a digit counts, 0 to 15; of another character nothing is asked, and it counts 0
-unfoldable pub valueOf : ℕ → ℕ
-valueOf c = cond (isDecimal c) (c - 48) (cond (isLetter c) (c - 87) 0)
+unfoldable pub digitValue : ℕ → ℕ
+digitValue c = cond (isDecimal c) (c - 48) (cond (isLetter c) (c - 87) 0)
 
 -- the digit that counts v, 0 to 15
 unfoldable pub digitOf : ℕ → ℕ
@@ -39,7 +39,7 @@ isHex text = areDigits text && eqb (length text % 2) 0
 unfoldable pub octetsOfHex : List ℕ → List ℕ
 octetsOfHex [] = []
 octetsOfHex (h ∷ []) = []
-octetsOfHex (h ∷ l ∷ text) = (16 * valueOf h + valueOf l) ∷ octetsOfHex text
+octetsOfHex (h ∷ l ∷ text) = (16 * digitValue h + digitValue l) ∷ octetsOfHex text
 
 -- the text of octets
 unfoldable pub digitsOf : List ℕ → List ℕ
@@ -49,4 +49,4 @@ digitsOf (o ∷ octets) = digitOf (o / 16) ∷ digitOf (o % 16) ∷ digitsOf oct
 -- the number that digits write, the highest first, behind what the digits before them wrote
 unfoldable pub numberFrom : ℕ → List ℕ → ℕ
 numberFrom before [] = before
-numberFrom before (c ∷ text) = numberFrom (16 * before + valueOf c) text
+numberFrom before (c ∷ text) = numberFrom (16 * before + digitValue c) text

@@ -11,8 +11,8 @@ unfoldable pub isTaken : ℕ → ℕ → List ℕ → Bool
 isTaken least most text = leb least (length text) && leb (length text) most && isHex text
 
 -- "A first line that is missing, has another character, an odd count or over 64 digits counts as an empty key"
-unfoldable pub keyOf : List ℕ → List ℕ
-keyOf text = cond (isTaken 0 64 text) (octetsOfHex text) []
+unfoldable pub lineKey : List ℕ → List ℕ
+lineKey text = cond (isTaken 0 64 text) (octetsOfHex text) []
 
 -- a later line: a tick and a frame, or "bad"
 pub data Asked : Type 0 where

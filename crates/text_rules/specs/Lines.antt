@@ -11,10 +11,10 @@ pub record Line : Type 0 where
   pub ended : Bool
 
 -- a character before the lines that follow it
-abbrev pub before : ℕ → List Line → List Line
-before c [] = record { text = c ∷ []; ended = false } ∷ []
-before c (l ∷ ls) = record { text = c ∷ l .text; ended = l .ended } ∷ ls
+abbrev pub prependCharacter : ℕ → List Line → List Line
+prependCharacter c [] = record { text = c ∷ []; ended = false } ∷ []
+prependCharacter c (l ∷ ls) = record { text = c ∷ l .text; ended = l .ended } ∷ ls
 
 unfoldable pub lines : List ℕ → List Line
 lines [] = []
-lines (c ∷ s) = cond (eqb c 10) (record { text = []; ended = true } ∷ lines s) (before c (lines s))
+lines (c ∷ s) = cond (eqb c 10) (record { text = []; ended = true } ∷ lines s) (prependCharacter c (lines s))

@@ -3,11 +3,11 @@ use Prim.Native.Nat.{ℕ}
 use mathlib.Core.Path.{_≡_}
 use mathlib.Core.List.{List, [], _∷_, _++_}
 use Rattle.text_rules.specs.Lines.{Line, lines}
-use Rattle.text_rules.specs.Input.{Asked, bad, frame, keyOf, askedBy}
+use Rattle.text_rules.specs.Input.{Asked, bad, frame, lineKey, askedBy}
 use Rattle.text_rules.specs.Answer.{answerText, badText}
 
 -- what a member answers to a frame: the next member, and the numbers that are printed
-pub record Outcome (S : Type 0) : Type 0 where
+pub record LineOutcome (S : Type 0) : Type 0 where
   pub next : S
   pub number : ℕ
   pub sas : ℕ
@@ -20,17 +20,17 @@ pub record Reply (S : Type 0) : Type 0 where
   pub text : List ℕ
 
 -- a step: which outcomes a member, the default key, a tick and a frame have
-abbrev pub Step : Type 0 → Type 1
-Step S = S → List ℕ → ℕ → List ℕ → Outcome S → Type 0
+abbrev pub CallRelation : Type 0 → Type 1
+CallRelation S = S → List ℕ → ℕ → List ℕ → LineOutcome S → Type 0
 
-abbrev pub told : {S : Type 0} → Outcome S → Reply S
+abbrev pub told : {S : Type 0} → LineOutcome S → Reply S
 told o = record { next = o .next; text = answerText (o .number) (o .sas) (o .held) (o .figure) }
 
-module _ {S : Type 0} (step : Step S) where
+module _ {S : Type 0} (step : CallRelation S) where
   -- a bad line leaves the member as it was
   abbrev pub RepliesTo : List ℕ → S → Asked → Reply S → Type 0
   RepliesTo key member bad a = a ≡ record { next = member; text = badText }
-  RepliesTo key member (frame tick octets) a = (o : Outcome S) × step member key tick octets o × (a ≡ told o)
+  RepliesTo key member (frame tick octets) a = (o : LineOutcome S) × step member key tick octets o × (a ≡ told o)
 
   abbrev pub Replies : List ℕ → S → List ℕ → Reply S → Type 0
   Replies key member text a = RepliesTo key member (askedBy text) a
@@ -44,7 +44,7 @@ module _ {S : Type 0} (step : Step S) where
   -- the first line gives the default key "and prints nothing"
   abbrev pub OutputOf : S → List Line → List ℕ → Type 0
   OutputOf member [] output = output ≡ []
-  OutputOf member (first ∷ ls) output = Later (keyOf (first .text)) member ls output
+  OutputOf member (first ∷ ls) output = Later (lineKey (first .text)) member ls output
 
   abbrev pub Transcript : S → List ℕ → List ℕ → Type 0
   Transcript member input output = OutputOf member (lines input) output

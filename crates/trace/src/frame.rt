@@ -1,5 +1,5 @@
 // A line of tick and frame: the frame is received with the lent key, and its answer printed.
-use crate::reply::Reply;
+use crate::reply::TraceReply;
 use crate::reply::bad;
 use crate::text;
 use gikev2::Member;
@@ -18,15 +18,21 @@ fn told(a: Answer, out: &mut [u8]) -> usize {
     text::newline(out, behind)
 }
 
-fn received(m: Member, frame: &[u8], key: &[u8], tick: u32, out: &mut [u8]) -> Reply {
+fn received(m: Member, frame: &[u8], key: &[u8], tick: u32, out: &mut [u8]) -> TraceReply {
     let x = m.receive(frame, key, tick);
     let member = x.member;
     let answer = x.answer;
     let at = told(answer, out);
-    Reply { member, at }
+    TraceReply { member, at }
 }
 
-pub(crate) fn reply(m: Member, line: &[u8], key: &[u8], room: &mut [u8], out: &mut [u8]) -> Reply {
+pub(crate) fn reply(
+    m: Member,
+    line: &[u8],
+    key: &[u8],
+    room: &mut [u8],
+    out: &mut [u8],
+) -> TraceReply {
     match text_lines::later_line(line, room) {
         Request::Bad => bad(m, out),
         Request::Frame { tick, len } => received(m, text::part(room, 0, len), key, tick, out),

@@ -1,5 +1,5 @@
 // A line `q`, protocol and SPI: the question about an SA.
-use crate::reply::Reply;
+use crate::reply::TraceReply;
 use crate::reply::bad;
 use crate::text;
 use crate::whole;
@@ -21,17 +21,17 @@ fn told(a: SaAnswer, out: &mut [u8]) -> usize {
 }
 
 // A question by a protocol and the octets of an SPI behind it.
-fn asked(m: Member, name: &[u8], out: &mut [u8]) -> Reply {
+fn asked(m: Member, name: &[u8], out: &mut [u8]) -> TraceReply {
     if name.len() == 0 {
         return bad(m, out);
     }
     let a = m.sa(name[0], &name[1..]);
     let at = told(a, out);
-    Reply { member: m, at }
+    TraceReply { member: m, at }
 }
 
 // `digits` is the line without its letter.
-pub(crate) fn reply(m: Member, digits: &[u8], room: &mut [u8], out: &mut [u8]) -> Reply {
+pub(crate) fn reply(m: Member, digits: &[u8], room: &mut [u8], out: &mut [u8]) -> TraceReply {
     if text_lines::is_hex(digits) {
         let n = text_lines::put_octets(room, 0, digits);
         return asked(m, text::part(room, 0, n), out);

@@ -17,25 +17,25 @@ pub(crate) const LINE: usize = 1 + 8 + 2 * FRAME;
 pub(crate) const FIRST: usize = 256;
 
 // The member after a call, and the place behind what the call prints first.
-pub struct Reply {
+pub struct TraceReply {
     pub member: Member,
     pub at: usize,
 }
 
 // The reply, and how many octets the lent key has.
 pub struct Called {
-    pub reply: Reply,
+    pub reply: TraceReply,
     pub lent: usize,
 }
 
-pub(crate) fn done(m: Member, out: &mut [u8]) -> Reply {
+pub(crate) fn done(m: Member, out: &mut [u8]) -> TraceReply {
     let at = text::put(out, 0, b"done\n");
-    Reply { member: m, at }
+    TraceReply { member: m, at }
 }
 
-pub(crate) fn bad(m: Member, out: &mut [u8]) -> Reply {
+pub(crate) fn bad(m: Member, out: &mut [u8]) -> TraceReply {
     let at = text_lines::put_bad(out, 0);
-    Reply { member: m, at }
+    TraceReply { member: m, at }
 }
 
 // The first character of a line, or 0.
@@ -47,7 +47,7 @@ fn letter(line: &[u8]) -> u8 {
 }
 
 // A call that leaves the lent key as it is.
-fn with_key(m: Member, line: &[u8], key: &[u8], room: &mut [u8], out: &mut [u8]) -> Reply {
+fn with_key(m: Member, line: &[u8], key: &[u8], room: &mut [u8], out: &mut [u8]) -> TraceReply {
     let rest = text::part(line, 1, line.len());
     match letter(line) {
         b's' => sweep::reply(m, rest, room, out),
@@ -78,7 +78,7 @@ pub(crate) fn call(
 }
 
 // The place behind the reply, and how many characters the member's text has that was printed last.
-pub struct Told {
+pub struct TraceTold {
     pub at: usize,
     pub last: usize,
 }
@@ -90,13 +90,13 @@ pub(crate) fn completed(
     out: &mut [u8],
     last: &mut [u8],
     count: usize,
-) -> Told {
+) -> TraceTold {
     let end = whole::member(out, at, m);
     if octets::compare::same(text::part(out, at, end), text::part(last, 0, count)) {
-        return Told { at, last: count };
+        return TraceTold { at, last: count };
     }
     let kept = text::put(last, 0, text::part(out, at, end));
-    Told {
+    TraceTold {
         at: end,
         last: kept,
     }

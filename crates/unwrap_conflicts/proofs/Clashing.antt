@@ -15,15 +15,15 @@ use Rattle.unwrap_search.specs.declared.open.Cell.{Cell}
 use Rattle.unwrap_search.specs.inner.Entries.{noEntry}
 use Rattle.unwrap_search.specs.inner.Opened.{noCell}
 use Rattle.unwrap_search.specs.inner.Search.{cellAt}
-use Rattle.unwrap_conflicts.specs.inner.Values.{Tells, Some, isDone, isWrong}
+use Rattle.unwrap_conflicts.specs.inner.Values.{Decides, Some, isDone, isWrong}
 use Rattle.unwrap_search.proofs.Statuses.{getD-any}
 
 -- what an answer tells
-pub told-yes : (b : Bool) (P : Type 0) → b ≡ true → Tells b P → P
-told-yes b P e t = subst (λ (a : Bool). Tells a P) e t
+pub told-yes : (b : Bool) (P : Type 0) → b ≡ true → Decides b P → P
+told-yes b P e t = subst (λ (a : Bool). Decides a P) e t
 
-pub told-not : (b : Bool) (P : Type 0) → b ≡ false → Tells b P → P → ⊥
-told-not b P e t = subst (λ (a : Bool). Tells a P) e t
+pub told-not : (b : Bool) (P : Type 0) → b ≡ false → Decides b P → P → ⊥
+told-not b P e t = subst (λ (a : Bool). Decides a P) e t
 
 -- ---- a loop that looks for a place: none below i
 abbrev pub NoneBelow : ℕ → (ℕ → Type 0) → Type 0

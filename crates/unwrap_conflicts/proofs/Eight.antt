@@ -9,14 +9,14 @@ use lib.ListN.{length}
 use Rattle.wire_attributes.specs.Tree.{WrapKey}
 use Rattle.state_keys.specs.Kinds.{wrappingOf, valueOf}
 use Rattle.rules_chains.specs.Chain.{Root, Reached}
-use Rattle.rules_chains.specs.Refusals.{EntriesEight, wrong-size, two-values}
+use Rattle.rules_chains.specs.Refusals.{EntriesConflict, wrong-size, two-values}
 use Rattle.rules_chains.proofs.Determined.{lists-equal}
 use Rattle.unwrap_search.specs.declared.open.Status.the-variants.{Wrong, Done}
 use Rattle.unwrap_search.specs.declared.open.Entry.{Entry}
 use Rattle.unwrap_search.specs.declared.open.Cell.{Cell}
 use Rattle.unwrap_search.specs.inner.Entries.{Lists}
 use Rattle.unwrap_search.specs.inner.Search.{keyAt, cellAt, Searched, Found-in, OneEach, Nonzero}
-use Rattle.unwrap_conflicts.specs.inner.Values.{Tells, AnyClash, AnyWrong}
+use Rattle.unwrap_conflicts.specs.inner.Values.{Decides, AnyClash, AnyWrong}
 
 module _ (frame : List ℕ) (places : List Entry) (n : ℕ) (cells : List Cell) (roots : List Root) (l : List WrapKey) (size : ℕ)
     (lists : Lists frame places n l) (s : Searched roots l size cells) where
@@ -26,7 +26,7 @@ module _ (frame : List ℕ) (places : List Entry) (n : ℕ) (cells : List Cell) 
   in-n : (i : ℕ) → i < length l → i < n
   in-n i h = let z = lists .count in omega arith
 
-  pub eight-wrong : AnyWrong cells n → EntriesEight roots l size
+  pub eight-wrong : AnyWrong cells n → EntriesConflict roots l size
   eight-wrong w =
       let m = s .misfits (w .place) (in-l (w .place) (w .inside)) (w .holds) in
       wrong-size (keyAt l (w .place) .keyId) (m .x) (record { last = keyAt l (w .place); before = m .passed; chain = m .chain }) (m .misfit)
@@ -39,7 +39,7 @@ module _ (frame : List ℕ) (places : List Entry) (n : ℕ) (cells : List Cell) 
       valueOf (cellAt cells i .key) ≡ valueOf (cellAt cells j .key) → cellAt cells i .key ≡ cellAt cells j .key
   same-key i j h g d e q = s .gives i (in-l i h) d .is ∙ ap wrappingOf q ∙ sym (s .gives j (in-l j g) e .is)
 
-  pub eight-clash : AnyClash places cells n → EntriesEight roots l size
+  pub eight-clash : AnyClash places cells n → EntriesConflict roots l size
   eight-clash c =
       let i = c .place in
       let j = c .holds .place in
@@ -79,13 +79,13 @@ module _ (frame : List ℕ) (places : List Entry) (n : ℕ) (cells : List Cell) 
     pub found : Nonzero l → (k : ℕ) (x : List ℕ) → Reached roots l size k x → Found-in roots l size cells k x
     found nonzero k x r = s .complete nonzero fits one-each k x r
 
-    pub eight-none : Nonzero l → EntriesEight roots l size → ⊥
+    pub eight-none : Nonzero l → EntriesConflict roots l size → ⊥
     eight-none nonzero (wrong-size k x r ne) =
         let f = found nonzero k x r in ne (sym (ap length (f .value-is)) ∙ s .gives (f .place) (f .inside) (f .done) .fits)
     eight-none nonzero (two-values k x y p q ne) = ne (one-each k x y (found nonzero k x p) (found nonzero k y q))
 
   -- the two tests together
-  pub eight-tells : (b : Bool) → (AnyWrong cells n → ⊥) → Tells b (AnyClash places cells n) → Nonzero l →
-      Tells b (EntriesEight roots l size)
+  pub eight-tells : (b : Bool) → (AnyWrong cells n → ⊥) → Decides b (AnyClash places cells n) → Nonzero l →
+      Decides b (EntriesConflict roots l size)
   eight-tells true no-wrong t nonzero = eight-clash t
   eight-tells false no-wrong t nonzero = eight-none no-wrong t nonzero

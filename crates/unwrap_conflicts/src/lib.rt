@@ -12,10 +12,10 @@ ghost use Prim.Native.Nat.{ℕ, _≤_};
 ghost use Rattle.state_keys.specs.Limits.{limits};
 ghost use Rattle.wire_attributes.specs.Tree.{WrapKey};
 ghost use Rattle.rules_chains.specs.Chain.{Root};
-ghost use Rattle.rules_chains.specs.Refusals.{EntriesEight};
+ghost use Rattle.rules_chains.specs.Refusals.{EntriesConflict};
 ghost use Rattle.unwrap_search.specs.inner.Entries.{Lists};
 ghost use Rattle.unwrap_search.specs.inner.Search.{Searched, Nonzero};
-ghost use Rattle.unwrap_conflicts.specs.inner.Values.{Tells, Clash, ClashAmong, AnyClash, AnyWrong, isDone, isWrong};
+ghost use Rattle.unwrap_conflicts.specs.inner.Values.{Decides, Clash, ClashAmong, AnyClash, AnyWrong, isDone, isWrong};
 
 // Whether a chain ends with the entry, and its key was tried on the others. Internal.
 pub fn is_done(c: Cell) -> bool
@@ -46,7 +46,7 @@ fn is_wrong(c: Cell) -> bool
 
 // Whether two keys are the same, with the octets past their counts.
 fn same_key(a: WrappingKey, b: WrappingKey) -> bool
-    ensures { λ r. ⌜ Tells r (a ≡ b) ⌝ }
+    ensures { λ r. ⌜ Decides r (a ≡ b) ⌝ }
 {
     if a.count != b.count {
         return false;
@@ -65,7 +65,7 @@ fn same_key(a: WrappingKey, b: WrappingKey) -> bool
 
 // Whether two entries give one key two values.
 fn clash(e: Entry, c: Cell, f: Entry, d: Cell) -> bool
-    ensures { λ r. ⌜ Tells r (Clash e c f d) ⌝ }
+    ensures { λ r. ⌜ Decides r (Clash e c f d) ⌝ }
 {
     if e.id != f.id {
         return false;
@@ -92,7 +92,7 @@ fn clashes(
     n: usize,
 ) -> bool
     requires { ⌜ n ≤ limits .wrapKeys ⌝ }
-    ensures { λ r. ⌜ Tells r (ClashAmong e c entries cells n) ⌝ }
+    ensures { λ r. ⌜ Decides r (ClashAmong e c entries cells n) ⌝ }
 {
     let mut i: usize = 0;
     while i < n {
@@ -109,7 +109,7 @@ fn clashes(
 // Whether any two of the first n entries have the same Key ID and reached values that differ. Internal.
 pub fn any_clash(entries: [Entry; WRAP_KEYS], cells: [Cell; WRAP_KEYS], n: usize) -> bool
     requires { ⌜ n ≤ limits .wrapKeys ⌝ }
-    ensures { λ r. ⌜ Tells r (AnyClash entries cells n) ⌝ }
+    ensures { λ r. ⌜ Decides r (AnyClash entries cells n) ⌝ }
 {
     let mut i: usize = 0;
     while i < n {
@@ -126,7 +126,7 @@ pub fn any_clash(entries: [Entry; WRAP_KEYS], cells: [Cell; WRAP_KEYS], n: usize
 // Whether one of the first n opened to a wrong size. Internal.
 pub fn any_wrong(cells: [Cell; WRAP_KEYS], n: usize) -> bool
     requires { ⌜ n ≤ limits .wrapKeys ⌝ }
-    ensures { λ r. ⌜ Tells r (AnyWrong cells n) ⌝ }
+    ensures { λ r. ⌜ Decides r (AnyWrong cells n) ⌝ }
 {
     let mut i: usize = 0;
     while i < n {
@@ -140,10 +140,10 @@ pub fn any_wrong(cells: [Cell; WRAP_KEYS], n: usize) -> bool
 }
 
 // Whether number 8 holds of the entries that these places and the cells of their search stand for. Internal.
-pub fn entries_eight(entries: [Entry; WRAP_KEYS], cells: [Cell; WRAP_KEYS], n: usize) -> bool
+pub fn entries_conflict(entries: [Entry; WRAP_KEYS], cells: [Cell; WRAP_KEYS], n: usize) -> bool
     requires { ⌜ n ≤ limits .wrapKeys ⌝ }
     ensures { λ r. ⌜ ((frame : List ℕ) (roots : List Root) (l : List WrapKey) (size : ℕ) → Lists frame entries n l →
-        Searched roots l size cells → Nonzero l → Tells r (EntriesEight roots l size)) ⌝ }
+        Searched roots l size cells → Nonzero l → Decides r (EntriesConflict roots l size)) ⌝ }
 {
     if any_wrong(cells, n) {
         return true;

@@ -13,7 +13,7 @@ use Rattle.state_keys.specs.Kinds.{valueOf}
 use Rattle.state_keys.proofs.Cases.{lt-cases}
 use Rattle.state.specs.Held.{blankKey, noKey, keyWith}
 use Rattle.state.specs.declared.held.HeldKey.{HeldKey}
-use Rattle.unwrap_copies.specs.inner.Lending.{placeOctets, placeOf, blockOf, FitsPlace, Lends, FirstAt, valueNamed}
+use Rattle.unwrap_copies.specs.inner.Lending.{placeOctets, lentPlace, lentBlock, FitsPlace, Lends, FirstAt, valueNamed}
 
 -- ---- the block of some keys that fit their places
 abbrev pub AllFit : List HeldKey → Type 0
@@ -22,26 +22,26 @@ AllFit l = (i : ℕ) → i < length l → FitsPlace (getD l i blankKey .key)
 pub rest-fits : (k : HeldKey) (l : List HeldKey) → AllFit (k ∷ l) → AllFit l
 rest-fits k l h i f = h (suc i) (omega arith)
 
-length-block : (l : List HeldKey) → AllFit l → length (blockOf l) ≡ placeOctets * length l
-unfolding blockOf
+length-block : (l : List HeldKey) → AllFit l → length (lentBlock l) ≡ placeOctets * length l
+unfolding lentBlock
 length-block [] h = refl
 length-block (k ∷ l) h =
     let g = h 0 (omega arith) .array in
     let r = length-block l (rest-fits k l h) in
-    let e = length-append (k .key .octets) (blockOf l) in
+    let e = length-append (k .key .octets) (lentBlock l) in
     omega arith
 
-drop-block : (l : List HeldKey) (j : ℕ) → AllFit l → j ≤ length l → drop (placeOctets * j) (blockOf l) ≡ blockOf (drop j l)
-unfolding blockOf
+drop-block : (l : List HeldKey) (j : ℕ) → AllFit l → j ≤ length l → drop (placeOctets * j) (lentBlock l) ≡ lentBlock (drop j l)
+unfolding lentBlock
 drop-block l zero h g = refl
 drop-block [] (suc j) h g = absurd (omega arith)
 drop-block (k ∷ l) (suc j) h g =
-    let p = placeOf (k .key) in
+    let p = lentPlace (k .key) in
     let e : placeOctets * suc j ≡ placeOctets + placeOctets * j = omega arith in
     let n = h 0 (omega arith) .array in
     let m : length p ≡ placeOctets = omega arith in
-    ap (λ (n : ℕ). drop n (p ++ blockOf l)) e ∙ sym (drop-drop (placeOctets * j) placeOctets (p ++ blockOf l))
-    ∙ ap (drop (placeOctets * j)) (drop-at p (blockOf l) placeOctets m) ∙ drop-block l j (rest-fits k l h) (omega arith)
+    ap (λ (n : ℕ). drop n (p ++ lentBlock l)) e ∙ sym (drop-drop (placeOctets * j) placeOctets (p ++ lentBlock l))
+    ∙ ap (drop (placeOctets * j)) (drop-at p (lentBlock l) placeOctets m) ∙ drop-block l j (rest-fits k l h) (omega arith)
 
 -- ---- lent keys
 module _ (keys : List HeldKey) (ids block : List ℕ) (lends : Lends keys ids block) where
@@ -59,11 +59,11 @@ module _ (keys : List HeldKey) (ids block : List ℕ) (lends : Lends keys ids bl
     id-at : getD ids i 0 ≡ k .id
     id-at = ap (λ (l : List ℕ). getD l i 0) (lends .ids-are) ∙ List·getD-map (λ (a : HeldKey). a .id) keys i blankKey
 
-    place-at : drop (placeOctets * i) block ≡ placeOf (k .key) ++ blockOf (drop (suc i) keys)
-    unfolding blockOf
+    place-at : drop (placeOctets * i) block ≡ lentPlace (k .key) ++ lentBlock (drop (suc i) keys)
+    unfolding lentBlock
     place-at =
         ap (drop (placeOctets * i)) (lends .block-is) ∙ drop-block keys i (lends .fit) (omega arith)
-        ∙ ap blockOf (drop-cons keys i blankKey g)
+        ∙ ap lentBlock (drop-cons keys i blankKey g)
 
     count-at : oct block (placeOctets * i) ≡ k .key .count
     count-at =
@@ -78,7 +78,7 @@ module _ (keys : List HeldKey) (ids block : List ℕ) (lends : Lends keys ids bl
         let m = f .most in
         ap (λ (m : ℕ). take m (drop (placeOctets * i + 1) block)) n
         ∙ ap (take (k .key .count)) (sym (drop-drop 1 (placeOctets * i) block) ∙ ap (drop 1) place-at)
-        ∙ take-append-le (k .key .count) (k .key .octets) (blockOf (drop (suc i) keys)) (omega arith)
+        ∙ take-append-le (k .key .count) (k .key .octets) (lentBlock (drop (suc i) keys)) (omega arith)
 
   -- a key that was found stands in the block
   pub inside-here : (r : ℕ) → r < length ids → placeOctets * r + 1 + oct block (placeOctets * r) ≤ length block

@@ -14,7 +14,7 @@ use Rattle.state_keys.proofs.Cases.{lt-cases}
 use Rattle.state.specs.Held.{blankKey, heldFormed}
 use Rattle.state.specs.declared.held.HeldKey.{HeldKey}
 use Rattle.state.specs.declared.held.Held.{Held}
-use Rattle.unwrap_copies.specs.inner.Lending.{keyOctets, placeOctets, placeOf, blockOf, idsOf, FitsPlace, Rooms, LendsFirst, Puts}
+use Rattle.unwrap_copies.specs.inner.Lending.{keyOctets, placeOctets, lentPlace, lentBlock, idsOf, FitsPlace, Rooms, LendsFirst, Puts}
 
 -- ---- a count and the octets of an array put into a place
 pub put-is : (s o : List ℕ) (at c : ℕ) {y : List ℕ} → at < length s → length o ≡ keyOctets →
@@ -48,10 +48,10 @@ pub record Filled (keys : List HeldKey) (ids block : List ℕ) (i : ℕ) : Type 
   pub rooms : Rooms ids block
   pub fit : (j : ℕ) → j < i → FitsPlace (getD keys j blankKey .key)
   pub ids-are : take i ids ≡ idsOf (take i keys)
-  pub block-is : take (placeOctets * i) block ≡ blockOf (take i keys)
+  pub block-is : take (placeOctets * i) block ≡ lentBlock (take i keys)
 
 pub filled-none : (keys : List HeldKey) (ids block : List ℕ) → Rooms ids block → Filled keys ids block 0
-unfolding blockOf
+unfolding lentBlock
 filled-none keys ids block e = record {
   rooms = e;
   fit = λ j h. absurd (omega arith);
@@ -59,11 +59,12 @@ filled-none keys ids block e = record {
   block-is = refl;
 }
 
-block-more : (l : List HeldKey) (k : HeldKey) → blockOf (l ++ (k ∷ [])) ≡ blockOf l ++ placeOf (k .key)
-unfolding blockOf
-block-more [] k = append-nil (placeOf (k .key))
+block-more : (l : List HeldKey) (k : HeldKey) → lentBlock (l ++ (k ∷ [])) ≡ lentBlock l ++ lentPlace (k .key)
+unfolding lentBlock
+block-more [] k = append-nil (lentPlace (k .key))
 block-more (a ∷ l) k =
-    ap (λ (x : List ℕ). placeOf (a .key) ++ x) (block-more l k) ∙ sym (append-assoc (placeOf (a .key)) (blockOf l) (placeOf (k .key)))
+    ap (λ (x : List ℕ). lentPlace (a .key) ++ x) (block-more l k)
+    ∙ sym (append-assoc (lentPlace (a .key)) (lentBlock l) (lentPlace (k .key)))
 
 ids-more : (l : List HeldKey) (k : HeldKey) → idsOf (l ++ (k ∷ [])) ≡ idsOf l ++ (k .id ∷ [])
 ids-more [] k = refl
@@ -80,7 +81,7 @@ module _ (keys : List HeldKey) (ids block : List ℕ) (i : ℕ) (m : Filled keys
       let n = m .rooms .ids-length in
       let b = m .rooms .block-length in
       let size = p .array in
-      let o = placeOf (k .key) in
+      let o = lentPlace (k .key) in
       let q : length o ≡ placeOctets = omega arith in
       let t = take (placeOctets * i) block in
       let u = drop (placeOctets * i + placeOctets) block in
@@ -102,7 +103,7 @@ module _ (keys : List HeldKey) (ids block : List ℕ) (i : ℕ) (m : Filled keys
             ∙ ap (λ (x : List ℕ). x ++ (k .id ∷ [])) (m .ids-are) ∙ sym (ids-more (take i keys) k) ∙ ap idsOf (sym next-keys);
         block-is =
             ap (take (placeOctets * (i + 1))) (p .is ∙ sym (append-assoc t o u)) ∙ take-at (t ++ o) u (placeOctets * (i + 1)) w
-            ∙ ap (λ (x : List ℕ). x ++ o) (m .block-is) ∙ sym (block-more (take i keys) k) ∙ ap blockOf (sym next-keys);
+            ∙ ap (λ (x : List ℕ). x ++ o) (m .block-is) ∙ sym (block-more (take i keys) k) ∙ ap lentBlock (sym next-keys);
       }
 
 module _ (held : Held) (ids block : List ℕ) where

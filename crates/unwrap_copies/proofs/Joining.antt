@@ -9,27 +9,29 @@ use Rattle.octets.specs.Compare.{same}
 use Rattle.octets.proofs.Order.{same-eq, eq-same}
 use Rattle.rules_chains.proofs.Members.{in-member, member-in}
 use Rattle.state_keys.specs.Kinds.{padded}
-use Rattle.unwrap_copies.specs.declared.answer.Found.{Found}
-use Rattle.unwrap_copies.specs.declared.answer.Found.the-variants.{Nothing, Key, Eight}
-use Rattle.unwrap_copies.specs.declared.answer.Opened.{Opened}
-use Rattle.unwrap_copies.specs.inner.Tries.{Try, SomeOpens, TriesEight, wrong-size, two-values, TriesKey, TellsBy, Tells}
+use Rattle.unwrap_copies.specs.declared.answer.CopyFound.{CopyFound}
+use Rattle.unwrap_copies.specs.declared.answer.CopyFound.the-variants.{Nothing, Key, Conflict}
+use Rattle.unwrap_copies.specs.declared.answer.CopyOpened.{CopyOpened}
+use Rattle.unwrap_copies.specs.inner.Tries.{Try, SomeOpens, TriesConflict, wrong-size, two-values, TriesKey, CopyTellsBy, CopyTells}
 
 -- what an answer tells, by what was found
-pub told : (l : List Try) (need : ℕ) (r : Opened) (f : Found) → r .found ≡ f → Tells l need r → TellsBy l need f (r .octets) (r .count)
-told l need r f e t = subst (λ (g : Found). TellsBy l need g (r .octets) (r .count)) e t
+pub told : (l : List Try) (need : ℕ) (r : CopyOpened) (f : CopyFound) → r .found ≡ f → CopyTells l need r →
+    CopyTellsBy l need f (r .octets) (r .count)
+told l need r f e t = subst (λ (g : CopyFound). CopyTellsBy l need g (r .octets) (r .count)) e t
 
-pub tell : (l : List Try) (need : ℕ) (r : Opened) (f : Found) → r .found ≡ f → TellsBy l need f (r .octets) (r .count) → Tells l need r
-tell l need r f e t = subst (λ (g : Found). TellsBy l need g (r .octets) (r .count)) (sym e) t
+pub tell : (l : List Try) (need : ℕ) (r : CopyOpened) (f : CopyFound) → r .found ≡ f → CopyTellsBy l need f (r .octets) (r .count) →
+    CopyTells l need r
+tell l need r f e t = subst (λ (g : CopyFound). CopyTellsBy l need g (r .octets) (r .count)) (sym e) t
 
 -- ---- tries that open to no less, and to no more
 module _ (l m : List Try) (need : ℕ) (to : (x : List ℕ) → SomeOpens l x → SomeOpens m x) where
-  pub eight-wider : TriesEight l need → TriesEight m need
+  pub eight-wider : TriesConflict l need → TriesConflict m need
   eight-wider (wrong-size x s f) = wrong-size x (to x s) f
   eight-wider (two-values x y s t f) = two-values x y (to x s) (to y t) f
 
-  pub tells-map : ((x : List ℕ) → SomeOpens m x → SomeOpens l x) → (f : Found) (octets : List ℕ) (count : ℕ) →
-      TellsBy l need f octets count → TellsBy m need f octets count
-  tells-map from Eight o c t = eight-wider t
+  pub tells-map : ((x : List ℕ) → SomeOpens m x → SomeOpens l x) → (f : CopyFound) (octets : List ℕ) (count : ℕ) →
+      CopyTellsBy l need f octets count → CopyTellsBy m need f octets count
+  tells-map from Conflict o c t = eight-wider t
   tells-map from Nothing o c t = λ x s. t x (from x s)
   tells-map from Key o c t =
       record {
@@ -58,24 +60,24 @@ module _ (l m : List Try) where
       (λ d. inr (record { one = s .one; stands = member-in (s .one) m d; opens = s .opens }))
       (List·Memᴰ·append-cases l (in-member (s .one) (l ++ m) (s .stands)))
 
-  module _ (need : ℕ) (a b : Opened) (p : Tells l need a) (q : Tells m need b) where
-    pub nothing-left : a .found ≡ Nothing → Tells (l ++ m) need b
+  module _ (need : ℕ) (a b : CopyOpened) (p : CopyTells l need a) (q : CopyTells m need b) where
+    pub nothing-left : a .found ≡ Nothing → CopyTells (l ++ m) need b
     nothing-left e =
         let none = told l need a Nothing e p in
         tells-map m (l ++ m) need some-right (λ x s. ⊎-elim (λ t. absurd (none x t)) (λ t. t) (some-cases x s)) (b .found) (b .octets)
         (b .count) q
 
-    pub nothing-right : b .found ≡ Nothing → Tells (l ++ m) need a
+    pub nothing-right : b .found ≡ Nothing → CopyTells (l ++ m) need a
     nothing-right e =
         let none = told m need b Nothing e q in
         tells-map l (l ++ m) need some-left (λ x s. ⊎-elim (λ t. t) (λ t. absurd (none x t)) (some-cases x s)) (a .found) (a .octets)
         (a .count) p
 
-    pub eight-left : a .found ≡ Eight → Tells (l ++ m) need a
-    eight-left e = tell (l ++ m) need a Eight e (eight-wider l (l ++ m) need some-left (told l need a Eight e p))
+    pub eight-left : a .found ≡ Conflict → CopyTells (l ++ m) need a
+    eight-left e = tell (l ++ m) need a Conflict e (eight-wider l (l ++ m) need some-left (told l need a Conflict e p))
 
-    pub eight-right : b .found ≡ Eight → Tells (l ++ m) need b
-    eight-right e = tell (l ++ m) need b Eight e (eight-wider m (l ++ m) need some-right (told m need b Eight e q))
+    pub eight-right : b .found ≡ Conflict → CopyTells (l ++ m) need b
+    eight-right e = tell (l ++ m) need b Conflict e (eight-wider m (l ++ m) need some-right (told m need b Conflict e q))
 
     module _ (e : a .found ≡ Key) (f : b .found ≡ Key) where
       one : TriesKey l need (a .octets) (a .count)
@@ -84,7 +86,7 @@ module _ (l m : List Try) where
       two : TriesKey m need (b .octets) (b .count)
       two = told m need b Key f q
 
-      pub both-agree : same (a .octets) (b .octets) ≡ true → Tells (l ++ m) need a
+      pub both-agree : same (a .octets) (b .octets) ≡ true → CopyTells (l ++ m) need a
       both-agree g =
           let o : b .octets ≡ a .octets = sym (same-eq (a .octets) (b .octets) g) in
           let c : b .count ≡ a .count = two .need-is ∙ sym (one .need-is) in
@@ -98,7 +100,7 @@ module _ (l m : List Try) where
             blanks = one .blanks;
           })
 
-      pub both-differ : same (a .octets) (b .octets) ≡ false → TriesEight (l ++ m) need
+      pub both-differ : same (a .octets) (b .octets) ≡ false → TriesConflict (l ++ m) need
       both-differ g =
           let x = take (a .count) (a .octets) in
           let y = take (b .count) (b .octets) in

@@ -10,7 +10,7 @@ use lib.Seq.{take-at, length-take-le}
 use Rattle.fips197.specs.Key.{Key, isKey}
 use Rattle.rfc5649.specs.Opens.{Opens}
 use Rattle.keywrap.specs.inner.Blank.{blank, OpensBlank}
-use Rattle.keywrap.specs.declared.Answer.the-variants.{No, Count}
+use Rattle.keywrap.specs.declared.WrapAnswer.the-variants.{No, Count}
 use Rattle.rfc5649.proofs.Determined.{opens-one}
 use Rattle.rules_chains.proofs.Members.{in-member}
 use Rattle.state_keys.specs.Algorithms.{sizeOf}
@@ -19,7 +19,7 @@ use Rattle.state_keys.specs.declared.kinds.WrappingKey.{WrappingKey}
 use Rattle.state_keys.proofs.Sizes.{wrapping-le}
 use Rattle.unwrap_search.proofs.Opening.{landed-none}
 use Rattle.unwrap_search.proofs.Searching.{is-key-size}
-use Rattle.unwrap_copies.specs.inner.Tries.{Try, SomeOpens, TriesEight, wrong-size, TriesKey}
+use Rattle.unwrap_copies.specs.inner.Tries.{Try, SomeOpens, TriesConflict, wrong-size, TriesKey}
 
 -- one try, and what it opens to
 pub alone : (t : Try) (x : List ℕ) → Opens (t .key) (t .wrapped) x → SomeOpens (t ∷ []) x
@@ -36,7 +36,7 @@ module _ (v w octets : List ℕ) where
   pub opened-none : Key v → OpensBlank v w No octets → (x : List ℕ) → SomeOpens (t ∷ []) x → ⊥
   opened-none is h x s = landed-none v w octets 0 is h x (only t x s)
 
-  pub opened-wrong : (n need : ℕ) → OpensBlank v w (Count n) octets → (n ≡ need → ⊥) → TriesEight (t ∷ []) need
+  pub opened-wrong : (n need : ℕ) → OpensBlank v w (Count n) octets → (n ≡ need → ⊥) → TriesConflict (t ∷ []) need
   opened-wrong n need h f = wrong-size (h .x) (alone t (h .x) (h .result .opens)) (λ e. f (sym (h .count) ∙ e))
 
   pub opened-right : (n need : ℕ) (out : List ℕ) → Key v → OpensBlank v w (Count n) octets → n ≡ need →

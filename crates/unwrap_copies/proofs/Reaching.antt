@@ -13,7 +13,7 @@ use lib.Seq.{length-take-le, getD-take}
 use Rattle.rfc5649.specs.Opens.{Opens}
 use Rattle.wire_attributes.specs.Tree.{SaKey, WrapKey}
 use Rattle.rules_chains.specs.Chain.{Root, CopyOpens}
-use Rattle.rules_chains.specs.Refusals.{Announced, CopiesEight, wrong-size, two-values}
+use Rattle.rules_chains.specs.Refusals.{Announced, CopiesConflict, wrong-size, two-values}
 use Rattle.rules_chains.proofs.Members.{in-member, member-in}
 use Rattle.state_keys.specs.Limits.{limits}
 use Rattle.state_keys.specs.Lists.{all, rising}
@@ -28,12 +28,12 @@ use Rattle.state.specs.declared.held.HeldKey.{HeldKey}
 use Rattle.state.specs.declared.held.Held.{Held}
 use Rattle.state.proofs.Kept.{id-trans, id-irrefl}
 use Rattle.state.proofs.Laws.{key-in}
-use Rattle.unwrap_copies.specs.declared.answer.Found.{Found}
-use Rattle.unwrap_copies.specs.declared.answer.Found.the-variants.{Nothing, Key, Eight}
-use Rattle.unwrap_copies.specs.declared.answer.Opened.{Opened}
+use Rattle.unwrap_copies.specs.declared.answer.CopyFound.{CopyFound}
+use Rattle.unwrap_copies.specs.declared.answer.CopyFound.the-variants.{Nothing, Key, Conflict}
+use Rattle.unwrap_copies.specs.declared.answer.CopyOpened.{CopyOpened}
 use Rattle.unwrap_copies.specs.inner.Known.{Known, key-zero, named as known-named, Agrees}
-use Rattle.unwrap_copies.specs.inner.Answer.{AnswersBy, Answers}
-use Rattle.unwrap_copies.specs.inner.Tries.{Try, SomeOpens, TriesEight, TellsBy, Tells}
+use Rattle.unwrap_copies.specs.inner.Answer.{CopyAnswersBy, CopyAnswers}
+use Rattle.unwrap_copies.specs.inner.Tries.{Try, SomeOpens, TriesConflict, CopyTellsBy, CopyTells}
 use Rattle.unwrap_copies.specs.inner.Tries as tries
 use Rattle.unwrap_copies.specs.inner.Named.{tryOf, tryFor, triesOf}
 
@@ -206,17 +206,17 @@ module _ (zero : WrappingKey) (held : Held) (e : heldFormed limits held ≡ true
         abbrev a : Announced
         a = record { copies = copies; need = need }
 
-        eight : TriesEight allTries need → CopiesEight roots entries size a
+        eight : TriesConflict allTries need → CopiesConflict roots entries size a
         eight (tries.wrong-size x s f) = wrong-size x (to x s) f
         eight (tries.two-values x y s t f) = two-values x y (to x s) (to y t) f
 
-        fit : (octets : List ℕ) (count : ℕ) → tries.TriesKey allTries need octets count → CopiesEight roots entries size a → ⊥
+        fit : (octets : List ℕ) (count : ℕ) → tries.TriesKey allTries need octets count → CopiesConflict roots entries size a → ⊥
         fit o c t (wrong-size x p f) = f (ap length (t .every x (from x p)) ∙ t .size)
         fit o c t (two-values x y p q f) = f (t .every x (from x p) ∙ sym (t .every y (from y q)))
 
-        by : (f : Found) (octets : List ℕ) (count : ℕ) → TellsBy allTries need f octets count →
-            AnswersBy roots entries size a f octets count
-        by Eight o c t = eight t
+        by : (f : CopyFound) (octets : List ℕ) (count : ℕ) → CopyTellsBy allTries need f octets count →
+            CopyAnswersBy roots entries size a f octets count
+        by Conflict o c t = eight t
         by Nothing o c t = λ x p. t x (from x p)
         by Key o c t =
             record {
@@ -228,5 +228,5 @@ module _ (zero : WrappingKey) (held : Held) (e : heldFormed limits held ≡ true
             }
 
         -- what is told of the tries is the answer
-        pub answers : (r : Opened) → Tells allTries need r → Answers roots entries size a r
+        pub answers : (r : CopyOpened) → CopyTells allTries need r → CopyAnswers roots entries size a r
         answers r t = by (r .found) (r .octets) (r .count) t

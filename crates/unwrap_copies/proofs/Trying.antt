@@ -17,11 +17,11 @@ use Rattle.state_keys.proofs.Cases.{bool-cases, and-parts}
 use Rattle.state.specs.Held.{keysOf, keyFormed, keyWith, heldKey}
 use Rattle.state.specs.declared.held.HeldKey.{HeldKey}
 use Rattle.state.specs.declared.held.Held.{Held}
-use Rattle.unwrap_copies.specs.declared.answer.Found.the-variants.{Nothing}
-use Rattle.unwrap_copies.specs.declared.answer.Opened.{Opened}
+use Rattle.unwrap_copies.specs.declared.answer.CopyFound.the-variants.{Nothing}
+use Rattle.unwrap_copies.specs.declared.answer.CopyOpened.{CopyOpened}
 use Rattle.unwrap_copies.specs.inner.Lending.{LendsHeld, valueNamed}
 use Rattle.unwrap_copies.specs.inner.Named.{tryOf, tryFor}
-use Rattle.unwrap_copies.specs.inner.Tries.{Try, Tells}
+use Rattle.unwrap_copies.specs.inner.Tries.{Try, CopyTells}
 use Rattle.unwrap_copies.proofs.Blocks.{AllFit, rest-fits}
 use Rattle.unwrap_copies.proofs.Progress.{tells-none}
 use Rattle.unwrap_copies.proofs.Reaching.{key-size, held-formed, named-in}
@@ -74,14 +74,14 @@ module _ (held : Held) (ids block : List ℕ) (lends : LendsHeld held ids block)
   value-size z = held-sized (a-key z)
 
   -- ---- a copy that names this key
-  module _ (v : List ℕ) (c : SaKey) (k : c .kwkId ≡ id) (w : List ℕ) (o : c .wrapped ≡ w) (need : ℕ) (r : Opened) where
-    tell-as : (l : List Try) → l ≡ tryFor v held c → Tells l need r → Tells (tryFor v held c) need r
-    tell-as l e t = subst (λ (x : List Try). Tells x need r) e t
+  module _ (v : List ℕ) (c : SaKey) (k : c .kwkId ≡ id) (w : List ℕ) (o : c .wrapped ≡ w) (need : ℕ) (r : CopyOpened) where
+    tell-as : (l : List Try) → l ≡ tryFor v held c → CopyTells l need r → CopyTells (tryFor v held c) need r
+    tell-as l e t = subst (λ (x : List Try). CopyTells x need r) e t
 
     one-as : (x : List ℕ) → (record { key = x; wrapped = w } ∷ []) ≡ (tryOf x c ∷ [])
     one-as x = ap (λ (y : List ℕ). record { key = x; wrapped = y } ∷ []) (sym o)
 
-    pub tried-zero : id ≡ 0 → Tells (record { key = v; wrapped = w } ∷ []) need r → Tells (tryFor v held c) need r
+    pub tried-zero : id ≡ 0 → CopyTells (record { key = v; wrapped = w } ∷ []) need r → CopyTells (tryFor v held c) need r
     tried-zero z t = tell-as (record { key = v; wrapped = w } ∷ []) (one-as v ∙ rw (eq-eqb (c .kwkId) 0 (k ∙ z))) t
 
     module _ (z : id ≡ 0 → ⊥) (key : List ℕ) (names : key ≡ value) where
@@ -91,11 +91,11 @@ module _ (held : Held) (ids block : List ℕ) (lends : LendsHeld held ids block)
       held-is : heldKey limits (c .kwkId) held ≡ heldKey limits id held
       held-is = ap (λ (j : ℕ). heldKey limits j held) k
 
-      pub tried-none : length key ≡ 0 → r .found ≡ Nothing → Tells (tryFor v held c) need r
+      pub tried-none : length key ≡ 0 → r .found ≡ Nothing → CopyTells (tryFor v held c) need r
       tried-none e f =
           tell-as [] (rw (ne-eqb (c .kwkId) 0 not-zero, held-is, no-key (sym (ap length names) ∙ e))) (tells-none need r f)
 
-      pub tried-held : (length key ≡ 0 → ⊥) → Tells (record { key = key; wrapped = w } ∷ []) need r → Tells (tryFor v held c) need r
+      pub tried-held : (length key ≡ 0 → ⊥) → CopyTells (record { key = key; wrapped = w } ∷ []) need r → CopyTells (tryFor v held c) need r
       tried-held e t =
           let f = a-key (λ y. e (ap length names ∙ y)) in
           tell-as (record { key = key; wrapped = w } ∷ [])

@@ -11,12 +11,12 @@ use Rattle.octets.proofs.Walks.{both-true, part-length}
 use Rattle.wire_attributes.specs.Tree.{saKeyOf}
 use Rattle.wire_attributes.specs.declared.tables.Place.{Place}
 use Rattle.wire_attributes.specs.declared.tables.Meaning.the-variants as meaning
-use Rattle.wire_readers.specs.inner.Values.{valuesIn, FoundAt}
+use Rattle.wire_readers.specs.inner.Values.{valuesIn, ValueFoundAt}
 use Rattle.state.specs.declared.held.Held.{Held}
 use Rattle.unwrap_copies.specs.inner.Answer.{copiesIn}
 use Rattle.unwrap_copies.specs.inner.Named.{tryFor, triesOf}
 
-module _ (p : Place) (s : List ℕ) (at a e : ℕ) (f : FoundAt meaning.SaKey p s at a e) (x : List ℕ) (is : x ≡ part s a e) where
+module _ (p : Place) (s : List ℕ) (at a e : ℕ) (f : ValueFoundAt meaning.SaKey p s at a e) (x : List ℕ) (is : x ≡ part s a e) where
   pub ids-inside : 8 ≤ length x
   ids-inside =
       let n = ap length is ∙ part-length s a e (f .order) (f .inside) in

@@ -5,16 +5,16 @@ pub mod lending;
 
 use aes::InverseSchedule;
 use aes::expand_inverse;
-use answer::Opened;
-use answer::joined;
+use answer::CopyOpened;
+use answer::merge;
 use answer::nothing;
-use answer::opened_to;
+use answer::open_copy;
 use lending::key_named;
 use octets::numbers::be32_at;
 use wire_attributes::attribute_value;
 use wire_attributes::tables::Meaning;
 use wire_attributes::tables::Place;
-use wire_readers::values::Found;
+use wire_readers::values::ValueFound;
 use wire_readers::values::next_attribute;
 ghost use mathlib.Core.Path.{_≡_};
 ghost use mathlib.Core.Bool.{true};
@@ -33,37 +33,37 @@ ghost use Rattle.state.specs.declared.held.Held.{Held};
 ghost use Rattle.unwrap_copies.specs.inner.Known.{Agrees};
 ghost use Rattle.unwrap_copies.specs.inner.Lending.{LendsHeld};
 ghost use Rattle.unwrap_copies.specs.inner.Named.{tryFor};
-ghost use Rattle.unwrap_copies.specs.inner.Tries.{Tells};
-ghost use Rattle.unwrap_copies.specs.inner.Answer.{announcedIn, Answers};
+ghost use Rattle.unwrap_copies.specs.inner.Tries.{CopyTells};
+ghost use Rattle.unwrap_copies.specs.inner.Answer.{announcedIn, CopyAnswers};
 use aes::INVERSE_TABLE_WORDS;
 use ikev2_numbers::KWK_ID_AT;
 use ikev2_numbers::WRAPPED_AT;
 
 // What one copy, the value of a SA_KEY, opens to under the key that its KWK ID names: key 0, whose schedule this is, or a lent one.
-fn tried(
+fn try_copy(
     copy: &[u8],
     need: usize,
     tables: &[u32; INVERSE_TABLE_WORDS],
     schedule: InverseSchedule,
     ids: &[u32],
     block: &[u8],
-) -> Opened
+) -> CopyOpened
     requires { ⌜ (8 ≤ length (now copy)) × (need ≤ 68) ⌝ }
     requires { ⌜ (now tables ≡ decipherTables) × ExpandedInverse (schedule .words) ⌝ }
     requires { ⌜ ((held : Held) × LendsHeld held (now ids) (now block)) ⌝ }
     ensures { λ r. ⌜ ((v : List ℕ) (held : Held) → ExpandsInverse v (schedule .words) →
-        LendsHeld held (now (ids .entry)) (now (block .entry)) → Tells (tryFor v held (saKeyOf (now (copy .entry)))) need r) ⌝ }
+        LendsHeld held (now (ids .entry)) (now (block .entry)) → CopyTells (tryFor v held (saKeyOf (now (copy .entry)))) need r) ⌝ }
 {
     let kwk = be32_at(copy, KWK_ID_AT);
     let wrapped = &copy[WRAPPED_AT..];
     if kwk == 0 {
-        return opened_to(tables, schedule, wrapped, need);
+        return open_copy(tables, schedule, wrapped, need);
     }
     let key = key_named(kwk, ids, block);
     if key.len() == 0 {
         return nothing();
     }
-    opened_to(tables, expand_inverse(tables, key), wrapped, need)
+    open_copy(tables, expand_inverse(tables, key), wrapped, need)
 }
 
 // What the copies of one announced SA open to: `a` are the attributes of its Group Key Bag, `need` the octets that its policy needs, the
@@ -76,26 +76,26 @@ pub fn copies(
     schedule: InverseSchedule,
     ids: &[u32],
     block: &[u8],
-) -> Opened
+) -> CopyOpened
     requires { ⌜ isWhole (attributes place 0 (now a)) ≡ true ⌝ }
     requires { ⌜ need ≤ 68 ⌝ }
     requires { ⌜ (now tables ≡ decipherTables) × ExpandedInverse (schedule .words) ⌝ }
     requires { ⌜ ((held : Held) × LendsHeld held (now ids) (now block)) ⌝ }
     ensures { λ r. ⌜ ((roots : List Root) (entries : List WrapKey) (size : ℕ) (zero : WrappingKey) (held : Held) →
         ExpandsInverse (valueOf zero) (schedule .words) → LendsHeld held (now (ids .entry)) (now (block .entry)) →
-        Agrees roots entries size zero held → Answers roots entries size (announcedIn place (now (a .entry)) need) r) ⌝ }
+        Agrees roots entries size zero held → CopyAnswers roots entries size (announcedIn place (now (a .entry)) need) r) ⌝ }
 {
     let mut known = nothing();
     let mut at = 0;
     loop {
         match next_attribute(Meaning::SaKey, place, a, at) {
-            Found::At(start, end) => {
+            ValueFound::At(start, end) => {
                 let copy = attribute_value(a, start);
-                let one = tried(copy, need, tables, schedule, ids, block);
-                known = joined(known, one);
+                let one = try_copy(copy, need, tables, schedule, ids, block);
+                known = merge(known, one);
                 at = end;
             }
-            Found::Nothing => {
+            ValueFound::Nothing => {
                 return known;
             }
         }

@@ -15,7 +15,7 @@ use Rattle.wire_frames.specs.Frame.{Frame}
 use Rattle.wire_readers.specs.inner.Values.{isWhole}
 use Rattle.wire_readers.specs.declared.policy.Parts.{Parts}
 use Rattle.state_sa.specs.declared.entry.Sa.{Sa}
-use Rattle.rules_refusals.specs.Contents.{rowOf, several, gather, saOf, announced}
+use Rattle.rules_refusals.specs.Contents.{rowOf, several, gather, groupSaIn, announced}
 use Rattle.rules_refusals.specs.Fitness.{transformsFit}
 use Rattle.rules_refusals.specs.Number4.{twiceInTransform, keyLengthTwice, lifetimeTwice}
 use Rattle.rules_refusals.specs.Number5.{otherTransforms}
@@ -24,21 +24,23 @@ use Rattle.rules_chains.specs.Chain.{Root}
 use Rattle.rules_outcome.specs.After.{no-sa}
 use Rattle.rules_outcome.proofs.Members.{not-in-none}
 use Rattle.rules_outcome.proofs.RunsLists.{none-passes}
-use Rattle.unwrap_sas.specs.inner.Keyed.{Ready, foundBy, KeysOf, SomeEight}
-use Rattle.unwrap_sas.specs.inner.Policies.{OfOne, IsEight, IsUnopened, IsSa, Opening, spiAt, bodyAt, Announces, IsAnnounced}
-use Rattle.unwrap_sas.specs.declared.joining.Found.{Found}
+use Rattle.unwrap_sas.specs.inner.Keyed.{ChecksPassed, foundBy, KeysOf, SomeConflict}
+use Rattle.unwrap_sas.specs.inner.Policies.{SaPredicate, IsConflict, IsUnopened, IsSa, OpeningKeys, spiAt, bodyAt, Announces}
+use Rattle.unwrap_sas.specs.inner.Policies.{IsAnnounced}
+use Rattle.unwrap_sas.specs.declared.joining.SasFound.{SasFound}
 use Rattle.unwrap_sas.proofs.Further.{eight-wider, eight-more, unopened-more, sa-more}
 use Rattle.unwrap_sas.proofs.PolicyAt.{sasFrom, no-more-sas, SaAt, PolicyAt}
 
 -- ---- a policy of a frame that numbers 4 to 7 let pass
-module _ (f : Frame) (g k : List ℕ) (y : Ready f g k) (before : List GroupSaPolicy) (at : ℕ)
+module _ (f : Frame) (g k : List ℕ) (y : ChecksPassed f g k) (before : List GroupSaPolicy) (at : ℕ)
     (all-are : before ++ sasFrom g at ≡ sasFrom g 0) (r : Parts) (s : SaAt g at r) where
   abbrev a : GroupSaPolicy
   a = s .sa
 
   stands : List·Memᴰ a (announced f)
   stands =
-      subst (List·Memᴰ a) (ap (λ (l : List GroupSaPolicy). before ++ l) (sym (s .first)) ∙ all-are ∙ ap (gather saOf) (sym (y .policies)))
+      subst (List·Memᴰ a)
+      (ap (λ (l : List GroupSaPolicy). before ++ l) (sym (s .first)) ∙ all-are ∙ ap (gather groupSaIn) (sym (y .policies)))
       (Memᴰ·append-right before (List·Memᴰ·head refl))
 
   fits : transformsFit (rowOf f .authentication) a ≡ true
@@ -86,8 +88,8 @@ module _ (g k schedule ids block : List ℕ) (tick : ℕ) where
     pub passed : List GroupSaPolicy
     pub all-are : passed ++ sasFrom g at ≡ sasFrom g 0
     pub few : count ≤ length passed
-    pub known : (roots : List Root) (entries : List WrapKey) (size : ℕ) (f : Frame) → Ready f g k →
-        Opening schedule ids block roots entries size → KeysOf roots entries size f passed tick (foundBy nine) sas count
+    pub known : (roots : List Root) (entries : List WrapKey) (size : ℕ) (f : Frame) → ChecksPassed f g k →
+        OpeningKeys schedule ids block roots entries size → KeysOf roots entries size f passed tick (foundBy nine) sas count
 
   pub along-start : (sas : List Sa) → isWhole (policies 0 g) ≡ true → length sas ≡ limits .sas → Along 0 false sas 0
   along-start sas w n =
@@ -102,14 +104,14 @@ module _ (g k schedule ids block : List ℕ) (tick : ℕ) where
       }
 
   module _ (at : ℕ) (nine : Bool) (sas : List Sa) (count : ℕ) (w : Along at nine sas count) where
-    pub along-end : (found : Found) → found ≡ foundBy nine → length g ≤ at → (roots : List Root) (entries : List WrapKey) (size : ℕ)
-        (f : Frame) → Ready f g k → Opening schedule ids block roots entries size →
+    pub along-end : (found : SasFound) → found ≡ foundBy nine → length g ≤ at → (roots : List Root) (entries : List WrapKey) (size : ℕ)
+        (f : Frame) → ChecksPassed f g k → OpeningKeys schedule ids block roots entries size →
         KeysOf roots entries size f (announced f) tick found sas count
     along-end found e h roots entries size f y o =
         subst (λ (l : List GroupSaPolicy). KeysOf roots entries size f l tick found sas count)
         (sym (append-nil (w .passed)) ∙ ap (λ (l : List GroupSaPolicy). w .passed ++ l) (sym (no-more-sas g at h)) ∙ w .all-are
-        ∙ ap (gather saOf) (sym (y .policies)))
-        (subst (λ (x : Found). KeysOf roots entries size f (w .passed) tick x sas count) (sym e) (w .known roots entries size f y o))
+        ∙ ap (gather groupSaIn) (sym (y .policies)))
+        (subst (λ (x : SasFound). KeysOf roots entries size f (w .passed) tick x sas count) (sym e) (w .known roots entries size f y o))
 
     module _ (r : Parts) (p : PolicyAt g at r) where
       pub along-wide : r .first ≡ 0 → Along (at + r .end) nine sas count
@@ -134,16 +136,16 @@ module _ (g k schedule ids block : List ℕ) (tick : ℕ) where
         abbrev b : List ℕ
         b = bodyAt g at r
 
-        pub along-announces : (f : Frame) → Ready f g k → Announces k (r .first) x b f (s .sa)
+        pub along-announces : (f : Frame) → ChecksPassed f g k → Announces k (r .first) x b f (s .sa)
         along-announces f y = announces f g k y (w .passed) at (w .all-are) r s
 
         -- a place is left for its SA
-        pub along-room : (f : Frame) → Ready f g k → count < limits .sas
+        pub along-room : (f : Frame) → ChecksPassed f g k → count < limits .sas
         along-room f y =
             let n = ap length (w .all-are) in
             let m = length-append (w .passed) (sasFrom g at) in
             let c = ap length (s .first) in
-            let d = ap length (ap (gather saOf) (y .policies)) in
+            let d = ap length (ap (gather groupSaIn) (y .policies)) in
             omega (arith, w .few, y .room)
 
         all-next : (w .passed ++ (s .sa ∷ [])) ++ sasFrom g (at + r .end) ≡ sasFrom g 0
@@ -151,18 +153,18 @@ module _ (g k schedule ids block : List ℕ) (tick : ℕ) where
             append-assoc (w .passed) (s .sa ∷ []) (sasFrom g (at + r .end))
             ∙ ap (λ (l : List GroupSaPolicy). w .passed ++ l) (sym (s .first)) ∙ w .all-are
 
-        abbrev pub Says : OfOne → Type 0
+        abbrev pub Says : SaPredicate → Type 0
         Says Is = (roots : List Root) (entries : List WrapKey) (size : ℕ) (f : Frame) (a : GroupSaPolicy) →
             IsAnnounced k (r .first) x b schedule ids block roots entries size f a → Is roots entries size f a
 
         -- number 8 of one is number 8
-        pub along-eight : Says IsEight → (roots : List Root) (entries : List WrapKey) (size : ℕ) (f : Frame) → Ready f g k →
-            Opening schedule ids block roots entries size → SomeEight roots entries size f (announced f)
+        pub along-eight : Says IsConflict → (roots : List Root) (entries : List WrapKey) (size : ℕ) (f : Frame) → ChecksPassed f g k →
+            OpeningKeys schedule ids block roots entries size → SomeConflict roots entries size f (announced f)
         along-eight more roots entries size f y o =
             let e = more roots entries size f (s .sa) (record { opening = o; stands = along-announces f y }) in
             let u = eight-wider roots entries size f tick (w .passed ++ (s .sa ∷ [])) (sasFrom g (at + r .end))
             (eight-more roots entries size f tick (w .passed) (s .sa) e) in
-            subst (SomeEight roots entries size f) (all-next ∙ ap (gather saOf) (sym (y .policies))) u
+            subst (SomeConflict roots entries size f) (all-next ∙ ap (gather groupSaIn) (sym (y .policies))) u
 
         pub along-none : Says IsUnopened → Along (at + r .end) true sas count
         along-none more =

@@ -13,14 +13,14 @@ use Rattle.wire_policies.specs.Policy.{GroupSaPolicy}
 use Rattle.wire_frames.specs.Frame.{Frame}
 use Rattle.state_sa.specs.declared.entry.Sa.{Sa}
 use Rattle.rules_chains.specs.Chain.{In, Root}
-use Rattle.rules_chains.specs.Refusals.{CopiesEight, wrong-size, two-values, KeyOf}
+use Rattle.rules_chains.specs.Refusals.{CopiesConflict, wrong-size, two-values, KeyOf}
 use Rattle.rules_outcome.specs.Roots.{announcedAs}
 use Rattle.rules_outcome.specs.After.{saFrom, Enter, no-sa, one-more}
 use Rattle.rules_chains.proofs.Members.{in-member, member-in}
 use Rattle.rules_outcome.proofs.Members.{in-head}
-use Rattle.unwrap_sas.specs.inner.Keyed.{foundBy, SomeEight, NoEight, SomeUnopened, KeysOf}
-use Rattle.unwrap_sas.specs.inner.Policies.{IsEight, IsUnopened, IsSa}
-use Rattle.unwrap_sas.specs.declared.joining.Found.the-variants.{Nine}
+use Rattle.unwrap_sas.specs.inner.Keyed.{foundBy, SomeConflict, NoConflict, SomeUnopened, KeysOf}
+use Rattle.unwrap_sas.specs.inner.Policies.{IsConflict, IsUnopened, IsSa}
+use Rattle.unwrap_sas.specs.declared.joining.SasFound.the-variants.{KeyMissing}
 
 module _ (roots : List Root) (entries : List WrapKey) (size : ℕ) (f : Frame) (tick : ℕ) where
   -- ---- policies among more policies
@@ -28,8 +28,8 @@ module _ (roots : List Root) (entries : List WrapKey) (size : ℕ) (f : Frame) (
     in-more : (a : GroupSaPolicy) → In a l → In a (l ++ m)
     in-more a i = member-in a (l ++ m) (Memᴰ·append-left m (in-member a l i))
 
-    pub eight-wider : SomeEight roots entries size f l → SomeEight roots entries size f (l ++ m)
-    eight-wider e = record { sa = e .sa; stands = in-more (e .sa) (e .stands); eight = e .eight }
+    pub eight-wider : SomeConflict roots entries size f l → SomeConflict roots entries size f (l ++ m)
+    eight-wider e = record { sa = e .sa; stands = in-more (e .sa) (e .stands); conflict = e .conflict }
 
     unopened-wider : SomeUnopened roots entries size f l → SomeUnopened roots entries size f (l ++ m)
     unopened-wider e = record { sa = e .sa; stands = in-more (e .sa) (e .stands); none = e .none }
@@ -38,15 +38,15 @@ module _ (roots : List Root) (entries : List WrapKey) (size : ℕ) (f : Frame) (
     last-in : In a (l ++ (a ∷ []))
     last-in = member-in a (l ++ (a ∷ [])) (Memᴰ·append-right l (in-member a (a ∷ []) (in-head a a [] refl)))
 
-    fit-further : NoEight roots entries size f l → (CopiesEight roots entries size (announcedAs f a) → ⊥) →
-        NoEight roots entries size f (l ++ (a ∷ []))
+    fit-further : NoConflict roots entries size f l → (CopiesConflict roots entries size (announcedAs f a) → ⊥) →
+        NoConflict roots entries size f (l ++ (a ∷ []))
     fit-further n h b i c =
         ⊎-elim (λ m. n b (member-in b l m) c)
-        (λ m. h (subst (λ (x : GroupSaPolicy). CopiesEight roots entries size (announcedAs f x)) (List·Memᴰ·eq-of-singleton m) c))
+        (λ m. h (subst (λ (x : GroupSaPolicy). CopiesConflict roots entries size (announcedAs f x)) (List·Memᴰ·eq-of-singleton m) c))
         (List·Memᴰ·append-cases l (in-member b (l ++ (a ∷ [])) i))
 
   -- where no copy opens, none opens to a wrong size or to another value
-  pub unopened-fit : (a : GroupSaPolicy) → IsUnopened roots entries size f a → CopiesEight roots entries size (announcedAs f a) → ⊥
+  pub unopened-fit : (a : GroupSaPolicy) → IsUnopened roots entries size f a → CopiesConflict roots entries size (announcedAs f a) → ⊥
   unopened-fit a n (wrong-size x o h) = n x o
   unopened-fit a n (two-values x y o p h) = n x o
 
@@ -57,16 +57,16 @@ module _ (roots : List Root) (entries : List WrapKey) (size : ℕ) (f : Frame) (
 
   -- ---- by what was found
   module _ (l : List GroupSaPolicy) (a : GroupSaPolicy) where
-    pub eight-more : IsEight roots entries size f a → SomeEight roots entries size f (l ++ (a ∷ []))
-    eight-more e = record { sa = a; stands = last-in l a; eight = e }
+    pub eight-more : IsConflict roots entries size f a → SomeConflict roots entries size f (l ++ (a ∷ []))
+    eight-more e = record { sa = a; stands = last-in l a; conflict = e }
 
     no-eight : (nine : Bool) (sas : List Sa) (n : ℕ) → KeysOf roots entries size f l tick (foundBy nine) sas n →
-        NoEight roots entries size f l
+        NoConflict roots entries size f l
     no-eight true sas n k = k .0
     no-eight false sas n k = k .0
 
     pub unopened-more : (nine : Bool) (sas : List Sa) (n : ℕ) → KeysOf roots entries size f l tick (foundBy nine) sas n →
-        IsUnopened roots entries size f a → KeysOf roots entries size f (l ++ (a ∷ [])) tick Nine sas n
+        IsUnopened roots entries size f a → KeysOf roots entries size f (l ++ (a ∷ [])) tick KeyMissing sas n
     unopened-more nine sas n k u =
         (fit-further l a (no-eight nine sas n k) (unopened-fit a u), record { sa = a; stands = last-in l a; none = u })
 

@@ -22,7 +22,7 @@ use Rattle.state_sa.specs.declared.entry.Lifetime.{Lifetime}
 use Rattle.state_sa.specs.declared.entry.Sa.{Sa}
 use Rattle.rules_refusals.specs.Fitness.{isEsp, encryptionOctets, keyWrapOctets}
 use Rattle.rules_outcome.specs.After.{lifetimeFrom, saFrom}
-use Rattle.unwrap_sas.specs.inner.Policies.{Named}
+use Rattle.unwrap_sas.specs.inner.Policies.{PolicyGives}
 
 module _ (tick : ℕ) (a : GroupSaPolicy) (x : List ℕ) where
   of-esp : isEsp a ≡ true → saFrom tick a x ≡ espSa (a .spi) (espOf x) (lifetimeFrom tick (a .keyLifetimes))
@@ -56,7 +56,7 @@ module _ (octets : List ℕ) (long : length octets ≡ 68) where
           omega arith
 
       pub esp-from : (t : Lifetime) (tick : ℕ) (a : GroupSaPolicy) (p : ℕ) (x : List ℕ) (w : ℕ) (r : Sa) → r ≡ espSa x (k .key) t →
-          p ≡ 3 → w ≡ 0 → Named p x e w t tick a → r ≡ saFrom tick a (take (e + w) octets)
+          p ≡ 3 → w ≡ 0 → PolicyGives p x e w t tick a → r ≡ saFrom tick a (take (e + w) octets)
       esp-from t tick a p x w r made q z h =
           let n : e ≡ e + w = omega arith in
           let o = esp-key ∙ ap (λ (m : ℕ). espOf (take m octets)) n in
@@ -79,7 +79,7 @@ module _ (octets : List ℕ) (long : length octets ≡ 68) where
       rekey-small = ap (λ (m : RekeyKey). rekeySizes (m .encryption) (m .wrapping)) rekey-key ∙ fit
 
       pub rekey-from : (t : Lifetime) (tick : ℕ) (a : GroupSaPolicy) (p : ℕ) (x : List ℕ) (r : Sa) → r ≡ rekeySa x (k .key) t →
-          (p ≡ 3 → ⊥) → Named p x e w t tick a → r ≡ saFrom tick a (take (e + w) octets)
+          (p ≡ 3 → ⊥) → PolicyGives p x e w t tick a → r ≡ saFrom tick a (take (e + w) octets)
       rekey-from t tick a p x r made q h =
           let y : List ℕ = take (e + w) octets in
           let o = rekey-key ∙ (λ i. rekeyOf y (sym (h .encryption-is) i) (sym (h .wrapping-is) i)) in

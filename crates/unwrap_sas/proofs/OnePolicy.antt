@@ -25,7 +25,7 @@ use Rattle.check_suites.specs.declared.counts.Needs.{Needs}
 use Rattle.rules_outcome.specs.Roots.{needOf}
 use Rattle.rules_outcome.specs.After.{lifetimeFrom}
 use Rattle.rules_outcome.proofs.RunsNeeds.{esp-sizes, rekey-sizes}
-use Rattle.unwrap_sas.specs.inner.Policies.{Sized, Named, lifetimesOf, Announces}
+use Rattle.unwrap_sas.specs.inner.Policies.{Sized, PolicyGives, lifetimesOf, Announces}
 
 -- parts of these sizes have 68 octets at most
 pub few-octets : (p : ℕ) (x : List ℕ) (e w : ℕ) → Sized p x e w → e + w ≤ 68
@@ -55,7 +55,8 @@ module _ (k : List ℕ) (p : ℕ) (x y : List ℕ) (f : Frame) (a : GroupSaPolic
     unfolding keyWrapOctets
     wrapping-of = ap (sum keyWrapNeeds) (h .transforms) ∙ ap (λ (m : Needs). m .wrapping) (sym is)
 
-    pub named-with : (t : Lifetime) (tick : ℕ) → lifetimeFrom tick (a .keyLifetimes) ≡ t → Named p x (n .encryption) (n .wrapping) t tick a
+    pub named-with : (t : Lifetime) (tick : ℕ) → lifetimeFrom tick (a .keyLifetimes) ≡ t →
+        PolicyGives p x (n .encryption) (n .wrapping) t tick a
     named-with t tick l = record {
       protocol-is = h .protocol-is;
       spi-is = h .spi-is;

@@ -18,8 +18,8 @@ use Rattle.rules_refusals.specs.Contents.{gather, groupBagOf, bagsOf}
 use Rattle.rules_refusals.specs.Number6.{bagNamed}
 use Rattle.rules_chains.specs.Chain.{Root}
 use Rattle.rules_chains.specs.Refusals.{Announced}
-use Rattle.unwrap_copies.specs.inner.Answer.{copiesIn, announcedIn, Answers}
-use Rattle.unwrap_copies.specs.declared.answer.Opened.{Opened}
+use Rattle.unwrap_copies.specs.inner.Answer.{copiesIn, announcedIn, CopyAnswers}
+use Rattle.unwrap_copies.specs.declared.answer.CopyOpened.{CopyOpened}
 use Rattle.rules_outcome.specs.Roots.{copiesOf, needOf, announcedAs}
 use Rattle.check_pairing.proofs.Seeking.{StretchIs}
 use Rattle.wire_readers.specs.declared.Stretch.{Stretch}
@@ -38,7 +38,7 @@ module _ (k : List ℕ) (p : ℕ) (x : List ℕ) (s : Stretch) (is : StretchIs k
         (λ i. gather (λ (c : GroupKeyBag). c .keys) (keep (bagNamed (q i) (y i)) (gather groupBagOf (b i)))) ∙ is .keys
         ∙ ap (λ (z : Place). copiesIn z own) (sym in-bag)
 
-    pub own-answers : (need : ℕ) → needOf a ≡ need → (roots : List Root) (entries : List WrapKey) (size : ℕ) (r : Opened) →
-        Answers roots entries size (announcedIn place own need) r → Answers roots entries size (announcedAs f a) r
+    pub own-answers : (need : ℕ) → needOf a ≡ need → (roots : List Root) (entries : List WrapKey) (size : ℕ) (r : CopyOpened) →
+        CopyAnswers roots entries size (announcedIn place own need) r → CopyAnswers roots entries size (announcedAs f a) r
     own-answers need n roots entries size r t =
-        subst (λ (c : Announced). Answers roots entries size c r) (λ i. record { copies = sym copies-are i; need = sym n i }) t
+        subst (λ (c : Announced). CopyAnswers roots entries size c r) (λ i. record { copies = sym copies-are i; need = sym n i }) t

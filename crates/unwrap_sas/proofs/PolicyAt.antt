@@ -12,30 +12,30 @@ use Rattle.octets.specs.Walk.{part, Reading}
 use Rattle.wire_attributes.specs.Tree.{initialMessageIds, keyLifetimes}
 use Rattle.octets.proofs.Walks.{tail, to-end, many-none, part-length}
 use Rattle.wire_attributes.specs.Place.{inPolicy}
-use Rattle.wire_policies.specs.Policy.{spiSize, spiOf, GroupSaPolicy, Policy, SaBody, policy, policies}
+use Rattle.wire_policies.specs.Policy.{spiSize, headSpi, GroupSaPolicy, Policy, SaBody, policy, policies}
 use Rattle.wire_policies.specs.Grammar.{IsSaBody}
 use Rattle.wire_policies.proofs.PolicyLaws.{takes}
 use Rattle.wire_readers.specs.inner.Values.{isWhole, itemsOf}
 use Rattle.wire_readers.specs.inner.Policies.{policiesIn, PolicyIs}
 use Rattle.wire_readers.specs.declared.policy.Parts.{Parts}
-use Rattle.rules_refusals.specs.Contents.{gather, saOf}
+use Rattle.rules_refusals.specs.Contents.{gather, groupSaIn}
 use Rattle.check_bagkeys.proofs.BagAt.{part-within}
 use Rattle.check_suites.proofs.PolicyLaws.{ends, rest}
 use Rattle.unwrap_sas.specs.inner.Policies.{lifetimesOf, spiAt, bodyAt}
 
 -- the SAs that the policies from a place on announce
 abbrev pub sasFrom : List ℕ → ℕ → List GroupSaPolicy
-sasFrom g at = gather saOf (policiesIn (drop at g))
+sasFrom g at = gather groupSaIn (policiesIn (drop at g))
 
 pub no-more-sas : (g : List ℕ) (at : ℕ) → length g ≤ at → sasFrom g at ≡ []
 unfolding gather
 no-more-sas g at h =
-    ap (λ (x : Reading (List Policy)). gather saOf (itemsOf x)) (many-none policy takes 0 (drop at g) (rw length-drop (omega arith)))
+    ap (λ (x : Reading (List Policy)). gather groupSaIn (itemsOf x)) (many-none policy takes 0 (drop at g) (rw length-drop (omega arith)))
 
 abbrev policyOf : List ℕ → SaBody → GroupSaPolicy
 policyOf s x = record {
   protocol = oct s 0;
-  spi = spiOf s;
+  spi = headSpi s;
   source = x .source;
   destination = x .destination;
   transforms = x .suite .transforms;
@@ -69,8 +69,8 @@ module _ (g : List ℕ) (at : ℕ) (r : Parts) where
     is : PolicyIs (drop at g) r
     is = subst (λ (y : List ℕ). PolicyIs y r) (to-end g at) k
 
-    after : sasFrom g (at + r .end) ≡ gather saOf (policiesIn (drop (r .end) (drop at g)))
-    after = ap (λ (s : List ℕ). gather saOf (policiesIn s)) (sym (drop-drop (r .end) at g))
+    after : sasFrom g (at + r .end) ≡ gather groupSaIn (policiesIn (drop (r .end) (drop at g)))
+    after = ap (λ (s : List ℕ). gather groupSaIn (policiesIn s)) (sym (drop-drop (r .end) at g))
 
     sa-at : (r .first ≡ 0 → ⊥) → SaAt
     unfolding gather
@@ -90,7 +90,7 @@ module _ (g : List ℕ) (at : ℕ) (r : Parts) where
           is = subst (λ (y : List ℕ). IsSaBody (inPolicy (r .first)) y (w .body)) (part-within g at (r .body) (r .end)) (w .is);
           transforms = refl;
           lifetimes = ap (λ (n : ℕ). lifetimesOf n (w .body)) (sym (h .first));
-          first = ap (gather saOf) (w .item) ∙ ap (λ (m : List GroupSaPolicy). a ∷ m) (sym after);
+          first = ap (gather groupSaIn) (w .item) ∙ ap (λ (m : List GroupSaPolicy). a ∷ m) (sym after);
         }
 
     pub policy-at : PolicyAt
@@ -107,6 +107,6 @@ module _ (g : List ℕ) (at : ℕ) (r : Parts) where
           inside = e .2;
           small = λ o. let t = h .twoOctets (octet o 2) (octet o 3) in omega arith;
           others = rest g at r k;
-          wide = λ z. ap (gather saOf) (is .wide z .item) ∙ sym after;
+          wide = λ z. ap (gather groupSaIn) (is .wide z .item) ∙ sym after;
           sa-at = sa-at;
         }

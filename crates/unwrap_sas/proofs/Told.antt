@@ -10,27 +10,27 @@ use Rattle.state_sa.specs.declared.entry.Lifetime.{Lifetime}
 use Rattle.state_sa.specs.declared.entry.Sa.{Sa}
 use Rattle.rules_chains.specs.Chain.{Root}
 use Rattle.rules_chains.specs.Refusals.{KeyOf}
-use Rattle.unwrap_copies.specs.inner.Answer.{AnswersBy}
-use Rattle.unwrap_copies.specs.declared.answer.Found.{Found}
-use Rattle.unwrap_copies.specs.declared.answer.Found.the-variants.{Eight, Nothing, Key}
-use Rattle.unwrap_copies.specs.declared.answer.Opened.{Opened}
+use Rattle.unwrap_copies.specs.inner.Answer.{CopyAnswersBy}
+use Rattle.unwrap_copies.specs.declared.answer.CopyFound.{CopyFound}
+use Rattle.unwrap_copies.specs.declared.answer.CopyFound.the-variants.{Conflict, Nothing, Key}
+use Rattle.unwrap_copies.specs.declared.answer.CopyOpened.{CopyOpened}
 use Rattle.rules_outcome.specs.Roots.{needOf, announcedAs}
 use Rattle.rules_outcome.specs.After.{saFrom}
-use Rattle.unwrap_sas.specs.inner.Policies.{IsEight, IsUnopened, IsSa, Named, IsOpened}
+use Rattle.unwrap_sas.specs.inner.Policies.{IsConflict, IsUnopened, IsSa, PolicyGives, IsOpened}
 
-module _ (p : ℕ) (x : List ℕ) (e w : ℕ) (t : Lifetime) (tick : ℕ) (one : Opened) (roots : List Root) (entries : List WrapKey) (size : ℕ)
+module _ (p : ℕ) (x : List ℕ) (e w : ℕ) (t : Lifetime) (tick : ℕ) (one : CopyOpened) (roots : List Root) (entries : List WrapKey) (size : ℕ)
     (f : Frame) (a : GroupSaPolicy) (o : IsOpened p x e w t tick one roots entries size f a) where
-  told : (g : Found) → one .found ≡ g → AnswersBy roots entries size (announcedAs f a) g (one .octets) (one .count)
-  told g h = subst (λ (g : Found). AnswersBy roots entries size (announcedAs f a) g (one .octets) (one .count)) h (o .answers)
+  told : (g : CopyFound) → one .found ≡ g → CopyAnswersBy roots entries size (announcedAs f a) g (one .octets) (one .count)
+  told g h = subst (λ (g : CopyFound). CopyAnswersBy roots entries size (announcedAs f a) g (one .octets) (one .count)) h (o .answers)
 
-  pub of-eight : one .found ≡ Eight → IsEight roots entries size f a
-  of-eight h = told Eight h
+  pub of-eight : one .found ≡ Conflict → IsConflict roots entries size f a
+  of-eight h = told Conflict h
 
   pub of-none : one .found ≡ Nothing → IsUnopened roots entries size f a
   of-none h = told Nothing h
 
   pub of-key : one .found ≡ Key → (sa : Sa) →
-      ((n : ℕ) (b : GroupSaPolicy) → Named p x e w t n b → sa ≡ saFrom n b (take (e + w) (one .octets))) →
+      ((n : ℕ) (b : GroupSaPolicy) → PolicyGives p x e w t n b → sa ≡ saFrom n b (take (e + w) (one .octets))) →
       IsSa tick sa roots entries size f a
   unfolding needOf
   of-key h sa made =

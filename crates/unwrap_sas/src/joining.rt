@@ -8,7 +8,7 @@ ghost use Rattle.wire_policies.specs.Policy.{GroupSaPolicy};
 ghost use Rattle.wire_frames.specs.Frame.{Frame};
 ghost use Rattle.rules_chains.specs.Chain.{Root};
 ghost use Rattle.rules_outcome.specs.After.{saFrom};
-ghost use Rattle.unwrap_sas.specs.inner.Policies.{Sized, Named, IsOpened, IsOne};
+ghost use Rattle.unwrap_sas.specs.inner.Policies.{Sized, PolicyGives, IsOpened, IsOne};
 use ikev2_numbers::ESP;
 use state_keys::kinds::EspKey;
 use state_keys::kinds::RekeyKey;
@@ -16,30 +16,30 @@ use state_keys::limits::SAS;
 use state_keys::rooms::SA_OCTETS;
 use state_sa::entry::Lifetime;
 use state_sa::entry::Sa;
-use unwrap_copies::answer::Opened;
+use unwrap_copies::answer::CopyOpened;
 
 // Number 8 holds of the copies of some SA; some SA has no copy that opens; or each has its key.
-pub enum Found {
-    Eight,
-    Nine,
+pub enum SasFound {
+    KeyConflict,
+    KeyMissing,
     Keys,
 }
 
 // What is known of the copies of all SAs, and the new SAs, as many as the count says.
 pub struct Keyed {
-    pub found: Found,
+    pub found: SasFound,
     pub sas: [Sa; SAS],
     pub count: usize,
 }
 
 // What the copies of one SA open to, and the SA where they give its key.
 pub struct One {
-    pub found: unwrap_copies::answer::Found,
+    pub found: unwrap_copies::answer::CopyFound,
     pub sa: Sa,
 }
 
 // An answer with no SA.
-fn one_without(found: unwrap_copies::answer::Found) -> One
+fn one_without(found: unwrap_copies::answer::CopyFound) -> One
     ensures { λ r. ⌜ r .found ≡ found ⌝ }
 {
     let sa = Sa::blank();
@@ -57,7 +57,7 @@ fn sa_from(
     lifetime: Lifetime,
 ) -> Sa
     requires { ⌜ Sized protocol (now spi) encryption wrapping ⌝ }
-    ensures { λ r. ⌜ ((tick : ℕ) (a : GroupSaPolicy) → Named protocol (now (spi .entry)) encryption wrapping lifetime tick a →
+    ensures { λ r. ⌜ ((tick : ℕ) (a : GroupSaPolicy) → PolicyGives protocol (now (spi .entry)) encryption wrapping lifetime tick a →
         r ≡ saFrom tick a (take (encryption + wrapping) octets)) ⌝ }
 {
     if protocol == ESP {
@@ -71,7 +71,7 @@ fn sa_from(
 
 // The SA of a policy with this name, these needs and this lifetime, by what its copies open to. Internal.
 pub fn one_sa(
-    one: Opened,
+    one: CopyOpened,
     protocol: usize,
     spi: &[u8],
     encryption: usize,
@@ -85,13 +85,17 @@ pub fn one_sa(
 {
     let found = one.found;
     match found {
-        unwrap_copies::answer::Found::Eight => one_without(unwrap_copies::answer::Found::Eight),
-        unwrap_copies::answer::Found::Nothing => one_without(unwrap_copies::answer::Found::Nothing),
-        unwrap_copies::answer::Found::Key => {
+        unwrap_copies::answer::CopyFound::Conflict => one_without(
+            unwrap_copies::answer::CopyFound::Conflict,
+        ),
+        unwrap_copies::answer::CopyFound::Nothing => one_without(
+            unwrap_copies::answer::CopyFound::Nothing,
+        ),
+        unwrap_copies::answer::CopyFound::Key => {
             let octets = one.octets;
             let sa = sa_from(protocol, spi, encryption, wrapping, octets, lifetime);
             One {
-                found: unwrap_copies::answer::Found::Key,
+                found: unwrap_copies::answer::CopyFound::Key,
                 sa,
             }
         }

@@ -5,16 +5,16 @@ pub mod lifetime;
 use aes::InverseSchedule;
 use aes::expand_inverse;
 use aes::inverse_tables;
-use joining::Found;
 use joining::Keyed;
 use joining::One;
+use joining::SasFound;
 use joining::one_sa;
 use state::held::Held;
 use state_keys::kinds::WrappingKey;
 use state_keys::limits::HELD_KEYS;
 use state_keys::limits::SAS;
 use state_sa::entry::Sa;
-use unwrap_copies::answer::Opened;
+use unwrap_copies::answer::CopyOpened;
 use unwrap_copies::lending::BLOCK;
 use unwrap_copies::lending::PLACE;
 use unwrap_copies::lending::lend_keys;
@@ -43,39 +43,39 @@ ghost use Rattle.rules_refusals.specs.Number6.{bagNamed};
 ghost use Rattle.rules_chains.specs.Chain.{Root};
 ghost use Rattle.unwrap_copies.specs.inner.Known.{Agrees};
 ghost use Rattle.unwrap_copies.specs.inner.Lending.{LendsHeld};
-ghost use Rattle.unwrap_copies.specs.inner.Answer.{Answers};
+ghost use Rattle.unwrap_copies.specs.inner.Answer.{CopyAnswers};
 ghost use Rattle.rules_outcome.specs.Roots.{needOf, announcedAs};
-ghost use Rattle.unwrap_sas.specs.inner.Keyed.{Ready, foundBy, KeyedBy};
-ghost use Rattle.unwrap_sas.specs.inner.Policies.{Opening, spiAt, bodyAt, StandsAt, Announces, IsAnnounced, IsOne};
+ghost use Rattle.unwrap_sas.specs.inner.Keyed.{ChecksPassed, foundBy, KeyedBy};
+ghost use Rattle.unwrap_sas.specs.inner.Policies.{OpeningKeys, spiAt, bodyAt, PolicyStandsAt, Announces, IsAnnounced, IsOne};
 use aes::INVERSE_TABLE_WORDS;
 use ikev2_numbers::POLICY_HEAD;
 
 // What the copies of the SA with this name open to, those of its bag.
-fn opened(
+fn open_copies(
     protocol: usize,
     spi: &[u8],
     need: usize,
-    k: &[u8],
+    kd: &[u8],
     tables: &[u32; INVERSE_TABLE_WORDS],
     schedule: InverseSchedule,
     ids: &[u32],
     block: &[u8],
-) -> Opened
-    requires { ⌜ isWhole (bags 0 (now k)) ≡ true ⌝ }
-    requires { ⌜ count (bagNamed protocol (now spi)) (gather groupBagOf (bagsIn (now k))) ≡ 1 ⌝ }
+) -> CopyOpened
+    requires { ⌜ isWhole (bags 0 (now kd)) ≡ true ⌝ }
+    requires { ⌜ count (bagNamed protocol (now spi)) (gather groupBagOf (bagsIn (now kd))) ≡ 1 ⌝ }
     requires { ⌜ need ≤ 68 ⌝ }
     requires { ⌜ (now tables ≡ decipherTables) × ExpandedInverse (schedule .words) ⌝ }
     requires { ⌜ ((held : Held) × LendsHeld held (now ids) (now block)) ⌝ }
     ensures { λ r. ⌜ ((roots : List Root) (entries : List WrapKey) (size : ℕ) (f : Frame) (a : GroupSaPolicy) →
-        Opening (schedule .words) (now (ids .entry)) (now (block .entry)) roots entries size → bagsOf f ≡ bagsIn (now (k .entry)) →
-        a .protocol ≡ protocol → a .spi ≡ now (spi .entry) → needOf a ≡ need → Answers roots entries size (announcedAs f a) r) ⌝ }
+        OpeningKeys (schedule .words) (now (ids .entry)) (now (block .entry)) roots entries size → bagsOf f ≡ bagsIn (now (kd .entry)) →
+        a .protocol ≡ protocol → a .spi ≡ now (spi .entry) → needOf a ≡ need → CopyAnswers roots entries size (announcedAs f a) r) ⌝ }
 {
-    let s = check_pairing::stretch::bag_stretch(k, protocol, spi);
+    let s = check_pairing::stretch::bag_stretch(kd, protocol, spi);
     let start = s.start;
     let end = s.end;
     unwrap_copies::copies(
         wire_attributes::tables::in_bag(protocol),
-        &k[start..end],
+        &kd[start..end],
         need,
         tables,
         schedule,
@@ -89,7 +89,7 @@ fn with_policy(
     protocol: usize,
     spi: &[u8],
     x: &[u8],
-    k: &[u8],
+    kd: &[u8],
     tables: &[u32; INVERSE_TABLE_WORDS],
     schedule: InverseSchedule,
     ids: &[u32],
@@ -97,18 +97,18 @@ fn with_policy(
     tick: u32,
 ) -> One
     requires { ⌜ length (now x) < 65536 ⌝ }
-    requires { ⌜ isWhole (bags 0 (now k)) ≡ true ⌝ }
+    requires { ⌜ isWhole (bags 0 (now kd)) ≡ true ⌝ }
     requires { ⌜ (now tables ≡ decipherTables) × ExpandedInverse (schedule .words) ⌝ }
     requires { ⌜ ((held : Held) × LendsHeld held (now ids) (now block)) ⌝ }
-    requires { ⌜ ((f : Frame) × (a : GroupSaPolicy) × Announces (now k) protocol (now spi) (now x) f a) ⌝ }
+    requires { ⌜ ((f : Frame) × (a : GroupSaPolicy) × Announces (now kd) protocol (now spi) (now x) f a) ⌝ }
     ensures { λ r. ⌜ ((roots : List Root) (entries : List WrapKey) (size : ℕ) (f : Frame) (a : GroupSaPolicy) →
-        IsAnnounced (now (k .entry)) protocol (now (spi .entry)) (now (x .entry)) (schedule .words) (now (ids .entry))
+        IsAnnounced (now (kd .entry)) protocol (now (spi .entry)) (now (x .entry)) (schedule .words) (now (ids .entry))
         (now (block .entry)) roots entries size f a → IsOne tick r roots entries size f a) ⌝ }
 {
     let n = check_suites::needs(x);
     let e = n.encryption;
     let w = n.wrapping;
-    let one = opened(protocol, spi, e + w, k, tables, schedule, ids, block);
+    let one = open_copies(protocol, spi, e + w, kd, tables, schedule, ids, block);
     let t = lifetime::of_policy(protocol, x, tick);
     one_sa(one, protocol, spi, e, w, t)
 }
@@ -125,7 +125,7 @@ fn open_policy_at(
     block: &[u8],
     tick: u32,
 ) -> One
-    requires { ⌜ StandsAt (now g) at p ⌝ }
+    requires { ⌜ PolicyStandsAt (now g) at p ⌝ }
     requires { ⌜ isWhole (bags 0 (now k)) ≡ true ⌝ }
     requires { ⌜ (now tables ≡ decipherTables) × ExpandedInverse (schedule .words) ⌝ }
     requires { ⌜ ((held : Held) × LendsHeld held (now ids) (now block)) ⌝ }
@@ -150,53 +150,54 @@ fn open_policy_at(
     )
 }
 
-// The answer where number 8 holds of no SA. With `nine` no copy of some SA opens.
-fn found_by(nine: bool) -> Found
-    ensures { λ r. ⌜ r ≡ foundBy nine ⌝ }
+// The answer where number 8 holds of no SA. With `missing` no copy of some SA opens.
+fn found_by(missing: bool) -> SasFound
+    ensures { λ r. ⌜ r ≡ foundBy missing ⌝ }
 {
-    if nine {
-        return Found::Nine;
+    if missing {
+        return SasFound::KeyMissing;
     }
-    Found::Keys
+    SasFound::Keys
 }
 
-// Opens the keys of all SAs that a frame announces, as `keyed` does, with the schedule of key 0 and the held keys as they are lent.
+// Opens the keys of all SAs that a frame announces, as `open_sas` does, with the schedule of key 0 and the held keys as they are lent.
 fn walk_policies(
-    g: &[u8],
-    k: &[u8],
+    gsa: &[u8],
+    kd: &[u8],
     tables: &[u32; INVERSE_TABLE_WORDS],
     schedule: InverseSchedule,
     ids: &[u32],
     block: &[u8],
     tick: u32,
 ) -> Keyed
-    requires { ⌜ isWhole (policies 0 (now g)) ≡ true ⌝ }
-    requires { ⌜ isWhole (bags 0 (now k)) ≡ true ⌝ }
+    requires { ⌜ isWhole (policies 0 (now gsa)) ≡ true ⌝ }
+    requires { ⌜ isWhole (bags 0 (now kd)) ≡ true ⌝ }
     requires { ⌜ (now tables ≡ decipherTables) × ExpandedInverse (schedule .words) ⌝ }
     requires { ⌜ ((held : Held) × LendsHeld held (now ids) (now block)) ⌝ }
-    requires { ⌜ ((f : Frame) × Ready f (now g) (now k)) ⌝ }
-    ensures { λ r. ⌜ ((roots : List Root) (entries : List WrapKey) (size : ℕ) (f : Frame) → Ready f (now (g .entry)) (now (k .entry)) →
-        Opening (schedule .words) (now (ids .entry)) (now (block .entry)) roots entries size → KeyedBy roots entries size f tick r) ⌝ }
+    requires { ⌜ ((f : Frame) × ChecksPassed f (now gsa) (now kd)) ⌝ }
+    ensures { λ r.
+        ⌜ ((roots : List Root) (entries : List WrapKey) (size : ℕ) (f : Frame) → ChecksPassed f (now (gsa .entry)) (now (kd .entry)) →
+        OpeningKeys (schedule .words) (now (ids .entry)) (now (block .entry)) roots entries size → KeyedBy roots entries size f tick r) ⌝ }
 {
     let mut nine = false;
     let mut sas = [Sa::blank(); SAS];
     let mut count: usize = 0;
     let mut at: usize = 0;
-    while at < g.len() {
-        let p = policy_parts(&g[at..]);
+    while at < gsa.len() {
+        let p = policy_parts(&gsa[at..]);
         let end = at + p.end;
         if p.first != 0 {
-            let one = open_policy_at(g, at, p, k, tables, schedule, ids, block, tick);
+            let one = open_policy_at(gsa, at, p, kd, tables, schedule, ids, block, tick);
             let found = one.found;
             match found {
-                unwrap_copies::answer::Found::Eight => {
-                    let found = Found::Eight;
+                unwrap_copies::answer::CopyFound::Conflict => {
+                    let found = SasFound::KeyConflict;
                     return Keyed { found, sas, count };
                 }
-                unwrap_copies::answer::Found::Nothing => {
+                unwrap_copies::answer::CopyFound::Nothing => {
                     nine = true;
                 }
-                unwrap_copies::answer::Found::Key => {
+                unwrap_copies::answer::CopyFound::Key => {
                     let sa = one.sa;
                     sas[count] = sa;
                     count += 1;
@@ -209,23 +210,30 @@ fn walk_policies(
     Keyed { found, sas, count }
 }
 
-// The same as `keyed`, with the held keys as they are lent.
-fn under_lent(g: &[u8], k: &[u8], zero: WrappingKey, ids: &[u32], block: &[u8], tick: u32) -> Keyed
-    requires { ⌜ isWhole (policies 0 (now g)) ≡ true ⌝ }
-    requires { ⌜ isWhole (bags 0 (now k)) ≡ true ⌝ }
+// The same as `open_sas`, with the held keys as they are lent.
+fn under_lent(
+    gsa: &[u8],
+    kd: &[u8],
+    zero: WrappingKey,
+    ids: &[u32],
+    block: &[u8],
+    tick: u32,
+) -> Keyed
+    requires { ⌜ isWhole (policies 0 (now gsa)) ≡ true ⌝ }
+    requires { ⌜ isWhole (bags 0 (now kd)) ≡ true ⌝ }
     requires { ⌜ sizeOf 13 (zero .count) ≡ true ⌝ }
     requires { ⌜ ((held : Held) × LendsHeld held (now ids) (now block)) ⌝ }
-    requires { ⌜ ((f : Frame) × Ready f (now g) (now k)) ⌝ }
+    requires { ⌜ ((f : Frame) × ChecksPassed f (now gsa) (now kd)) ⌝ }
     ensures { λ r. ⌜ ((roots : List Root) (entries : List WrapKey) (size : ℕ) (f : Frame) (held : Held) →
-        Ready f (now (g .entry)) (now (k .entry)) → LendsHeld held (now (ids .entry)) (now (block .entry)) →
+        ChecksPassed f (now (gsa .entry)) (now (kd .entry)) → LendsHeld held (now (ids .entry)) (now (block .entry)) →
         Agrees roots entries size zero held → KeyedBy roots entries size f tick r) ⌝ }
 {
     let octets = zero.octets;
     let n = zero.count;
     let tables = inverse_tables();
     walk_policies(
-        g,
-        k,
+        gsa,
+        kd,
         &tables,
         expand_inverse(&tables, &octets[..n]),
         ids,
@@ -234,15 +242,17 @@ fn under_lent(g: &[u8], k: &[u8], zero: WrappingKey, ids: &[u32], block: &[u8], 
     )
 }
 
-// What the copies of all SAs that a frame announces open to: `g` is its GSA body, `k` its KD body, `zero` key 0, and the other keys that a
+// What the copies of all SAs that a frame announces open to: `gsa` is its GSA body, `kd` its KD body, `zero` key 0, and the other keys that
+// a
 // KWK ID can name are held; the new SAs start at the tick. Internal.
-pub fn keyed(g: &[u8], k: &[u8], zero: WrappingKey, held: Held, tick: u32) -> Keyed
-    requires { ⌜ isWhole (policies 0 (now g)) ≡ true ⌝ }
-    requires { ⌜ isWhole (bags 0 (now k)) ≡ true ⌝ }
+pub fn open_sas(gsa: &[u8], kd: &[u8], zero: WrappingKey, held: Held, tick: u32) -> Keyed
+    requires { ⌜ isWhole (policies 0 (now gsa)) ≡ true ⌝ }
+    requires { ⌜ isWhole (bags 0 (now kd)) ≡ true ⌝ }
     requires { ⌜ sizeOf 13 (zero .count) ≡ true ⌝ }
     requires { ⌜ heldFormed limits held ≡ true ⌝ }
-    requires { ⌜ ((f : Frame) × Ready f (now g) (now k)) ⌝ }
-    ensures { λ r. ⌜ ((roots : List Root) (entries : List WrapKey) (size : ℕ) (f : Frame) → Ready f (now (g .entry)) (now (k .entry)) →
+    requires { ⌜ ((f : Frame) × ChecksPassed f (now gsa) (now kd)) ⌝ }
+    ensures { λ r.
+        ⌜ ((roots : List Root) (entries : List WrapKey) (size : ℕ) (f : Frame) → ChecksPassed f (now (gsa .entry)) (now (kd .entry)) →
         Agrees roots entries size zero held → KeyedBy roots entries size f tick r) ⌝ }
 {
     let mut ids = [0u32; HELD_KEYS];
@@ -250,5 +260,5 @@ pub fn keyed(g: &[u8], k: &[u8], zero: WrappingKey, held: Held, tick: u32) -> Ke
     lend_keys(held, &mut ids, &mut block);
     let m = held.count;
     let e = PLACE * m;
-    under_lent(g, k, zero, &ids[..m], &block[..e], tick)
+    under_lent(gsa, kd, zero, &ids[..m], &block[..e], tick)
 }

@@ -14,7 +14,7 @@ use Rattle.unwrap_search.specs.declared.open.Entry.{Entry}
 use Rattle.unwrap_search.specs.declared.open.Cell.{Cell}
 use Rattle.unwrap_search.specs.inner.Entries.{noEntry, IsEntry, Lists}
 use Rattle.unwrap_search.specs.inner.Opened.{noCell, pending, naming, Tried, stays}
-use Rattle.unwrap_search.specs.inner.Search.{keyAt, cellAt, AllTried, Unnamed, FoundAt, NonePending}
+use Rattle.unwrap_search.specs.inner.Search.{keyAt, cellAt, AllTried, Unnamed, PendingAt, NonePending}
 use Rattle.unwrap_search.proofs.Statuses.{getD-any}
 use Rattle.unwrap_search.proofs.Opening.{named-not}
 
@@ -32,7 +32,7 @@ module _ (cells : List Cell) (i : ℕ) (d : Cell) (h : i < length cells) where
   at : getD cells i d ≡ cellAt cells i
   at = getD-any cells i d noCell h
 
-  pub pend-here : (n : ℕ) → i < n → true ≡ pending (getD cells i d .status) → FoundAt cells n i
+  pub pend-here : (n : ℕ) → i < n → true ≡ pending (getD cells i d .status) → PendingAt cells n i
   pend-here n g e = record { inside = g; pends = ap (λ (c : Cell). c .status) (sym at) ∙ pends-is (getD cells i d .status) e }
 
   pub pend-next : NonePending cells i → false ≡ pending (getD cells i d .status) → NonePending cells (i + 1)

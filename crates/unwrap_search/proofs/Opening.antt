@@ -12,7 +12,7 @@ use Rattle.octets.specs.Walk.{part, both}
 use Rattle.fips197.specs.Key.{Key}
 use Rattle.rfc5649.specs.Opens.{Opens}
 use Rattle.keywrap.specs.inner.Blank.{blank, OpensBlank}
-use Rattle.keywrap.specs.declared.Answer.the-variants.{No, Count}
+use Rattle.keywrap.specs.declared.WrapAnswer.the-variants.{No, Count}
 use Rattle.wire_attributes.specs.Tree.{WrapKey}
 use Rattle.state_keys.proofs.Cases.{bool-cases}
 use Rattle.state_keys.specs.Algorithms.{sizeOf}
@@ -23,7 +23,7 @@ use Rattle.unwrap_search.specs.declared.open.Status.the-variants.{Waitin
 use Rattle.unwrap_search.specs.declared.open.Entry.{Entry}
 use Rattle.unwrap_search.specs.declared.open.Cell.{Cell}
 use Rattle.unwrap_search.specs.inner.Entries.{IsEntry}
-use Rattle.unwrap_search.specs.inner.Opened.{waiting, naming, Opened, WrongSize, NotOpened, Landed, Tried, opened, stays}
+use Rattle.unwrap_search.specs.inner.Opened.{waiting, naming, EntryOpened, WrongSize, NotOpened, Landed, Tried, opened, stays}
 
 module _ (v w octets : List ℕ) (size : ℕ) where
   pub landed-none : Key v → OpensBlank v w No octets → NotOpened v w
@@ -36,7 +36,7 @@ module _ (v w octets : List ℕ) (size : ℕ) where
   landed-wrong m h ne = record { x = h .x; opens = h .result .opens; misfit = λ e. ne (sym (h .count) ∙ e) }
 
   pub landed-right : (m : ℕ) (made : MadeWrapping) → OpensBlank v w (Count m) octets → m ≡ size → sizeOf 13 size ≡ true →
-      made ≡ wrappingKey (take m octets) → Opened v size w (made .key)
+      made ≡ wrappingKey (take m octets) → EntryOpened v size w (made .key)
   unfolding wrappingKey
   landed-right m made h e fit q =
       let x = h .x in

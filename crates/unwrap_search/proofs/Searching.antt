@@ -20,10 +20,10 @@ use Rattle.unwrap_search.specs.declared.open.Status.{Status}
 use Rattle.unwrap_search.specs.declared.open.Status.the-variants.{Waiting, Failed, Wrong, Pending, Done}
 use Rattle.unwrap_search.specs.declared.open.Entry.{Entry}
 use Rattle.unwrap_search.specs.declared.open.Cell.{Cell}
-use Rattle.unwrap_search.specs.inner.Entries.{noKey, noEntry, Lists}
+use Rattle.unwrap_search.specs.inner.Entries.{noWrapKey, noEntry, Lists}
 use Rattle.state_keys.specs.Kinds.{valueOf}
 use Rattle.unwrap_search.specs.inner.Opened.{noCell, WrongSize}
-use Rattle.unwrap_search.specs.inner.Search.{keyAt, cellAt, AllTried, FoundAt, NonePending, keyZero}
+use Rattle.unwrap_search.specs.inner.Search.{keyAt, cellAt, AllTried, PendingAt, NonePending, keyZeroRoots}
 use Rattle.unwrap_search.specs.inner.Search.{Misfits, Found-in, OneEach, Searched}
 use Rattle.unwrap_search.proofs.Statuses.{Holds, GoodBy, holds-done, holds-good, getD-any, eq-cases, tried-stays}
 use Rattle.unwrap_search.proofs.Theory.{Inv, K, Root-is, Stands, begun, turn, chain-known, known-live, in-at}
@@ -90,7 +90,7 @@ abbrev pub marked : List Cell → ℕ → WrappingKey → List Cell
 marked cells j key = set cells j (record { status = Done; key = key })
 
 pub fell : (l : List WrapKey) (k : ℕ) (v : List ℕ) (size : ℕ) (cells after : List Cell) (j : ℕ) (key : WrappingKey) →
-    FoundAt cells (length l) j → length l ≤ length cells → AllTried k v size l (marked cells j key) after →
+    PendingAt cells (length l) j → length l ≤ length cells → AllTried k v size l (marked cells j key) after →
     undone (length l) (cellAt after) < undone (length l) (cellAt cells)
 fell l k v size cells after j key at h t =
     let d : Cell = record { status = Done; key = key } in
@@ -112,44 +112,45 @@ module _ (v : List ℕ) (is : Key v) (l : List WrapKey) (size : ℕ) (fit : T (i
   abbrev pub zero-root : Root
   zero-root = record { id = 0; value = v }
 
-  only : (r : Root) → In r (keyZero v) → zero-root ≡ r
+  only : (r : Root) → In r (keyZeroRoots v) → zero-root ≡ r
   only r m = one-root r zero-root (m .place) (m .inside) (m .is)
 
-  pub root-keys : (r : Root) → In r (keyZero v) → Key (r .value)
+  pub root-keys : (r : Root) → In r (keyZeroRoots v) → Key (r .value)
   root-keys r m = subst (λ (q : Root). Key (q .value)) (only r m) is
 
   abbrev pub Kept : List Cell → Type 0
-  Kept cells = Inv (keyZero v) l size fit root-keys (cellAt cells)
+  Kept cells = Inv (keyZeroRoots v) l size fit root-keys (cellAt cells)
 
   pub started : (cells : List Cell) → length l ≤ limits .wrapKeys → AllTried 0 v size l (replicate (limits .wrapKeys) noCell) cells →
       Kept cells
   started cells h t =
-      begun (keyZero v) l size fit root-keys (cellAt (replicate (limits .wrapKeys) noCell)) (cellAt cells)
+      begun (keyZeroRoots v) l size fit root-keys (cellAt (replicate (limits .wrapKeys) noCell)) (cellAt cells)
       (λ i g. ap (λ (c : Cell). c .status) (getD-replicate (limits .wrapKeys) i noCell noCell (omega arith))) zero-root
       (record { place = 0; inside = omega arith; is = refl }) (λ s m. ap (λ (r : Root). r .id) (sym (only s m))) t
 
-  pub turned : (cells after : List Cell) (j : ℕ) → Kept cells → FoundAt cells (length l) j → length l ≤ length cells →
+  pub turned : (cells after : List Cell) (j : ℕ) → Kept cells → PendingAt cells (length l) j → length l ≤ length cells →
       AllTried (keyAt l j .keyId) (valueOf (cellAt cells j .key)) size l (marked cells j (cellAt cells j .key)) after → Kept after
   turned cells after j inv at h t =
       let d : Cell = record { status = Done; key = cellAt cells j .key } in
       let g : j < length cells = let z = at .inside in omega arith in
-      turn (keyZero v) l size fit root-keys (cellAt cells) (cellAt (marked cells j (cellAt cells j .key))) inv j (at .inside) (at .pends)
+      turn (keyZeroRoots v) l size fit root-keys (cellAt cells) (cellAt (marked cells j (cellAt cells j .key))) inv j (at .inside)
+      (at .pends)
       (getD-set-same cells j d noCell g) (λ i ne. getD-set-other cells j i d noCell ne) (cellAt after) t
 
   -- the key of a pending cell is of a right size
-  pub pending-count : (cells : List Cell) (j : ℕ) → Kept cells → FoundAt cells (length l) j → cellAt cells j .key .count ≡ size
+  pub pending-count : (cells : List Cell) (j : ℕ) → Kept cells → PendingAt cells (length l) j → cellAt cells j .key .count ≡ size
   pending-count cells j inv at =
       let c = cellAt cells j in
-      let g = holds-good size (K (keyZero v) l size fit root-keys (cellAt cells)) (keyAt l j) (c .status) (c .key)
+      let g = holds-good size (K (keyZeroRoots v) l size fit root-keys (cellAt cells)) (keyAt l j) (c .status) (c .key)
       (subst Holds (sym (at .pends)) tt)
       (inv .good j (at .inside)) in
       ap (λ (k : WrappingKey). k .count) (g .2 .is) ∙ g .2 .fits
 
   -- the same, of what the code reads at j
   module _ (frame : List ℕ) (places : List Entry) (n : ℕ) (cells : List Cell) (j : ℕ) (lists : Lists frame places n l) (inv : Kept cells)
-      (at : FoundAt cells n j) (full : length cells ≡ limits .wrapKeys) where
-    at-j : FoundAt cells (length l) j
-    at-j = subst (λ (m : ℕ). FoundAt cells m j) (sym (lists .count)) at
+      (at : PendingAt cells n j) (full : length cells ≡ limits .wrapKeys) where
+    at-j : PendingAt cells (length l) j
+    at-j = subst (λ (m : ℕ). PendingAt cells m j) (sym (lists .count)) at
 
     in-cells : j < length cells
     in-cells = let z = at .inside in let y = lists .within in omega arith
@@ -175,21 +176,22 @@ module _ (v : List ℕ) (is : Key v) (l : List WrapKey) (size : ℕ) (fit : T (i
   -- ---- the end
   module _ (cells : List Cell) (inv : Kept cells) (last : NonePending cells (length l)) where
     abbrev Known : ℕ → List ℕ → Type 0
-    Known = K (keyZero v) l size fit root-keys (cellAt cells)
+    Known = K (keyZeroRoots v) l size fit root-keys (cellAt cells)
 
     wrong-at : (i : ℕ) → i < length l → (a : List ℕ) × Known (keyAt l i .kwkId) a × WrongSize a size (keyAt l i .wrapped) →
-        Misfits (keyZero v) l size (keyAt l i)
+        Misfits (keyZeroRoots v) l size (keyAt l i)
     wrong-at i h g =
-        let live = known-live (keyZero v) l size fit root-keys (cellAt cells) inv (keyAt l i .kwkId) (g .0) (g .1) in
+        let live = known-live (keyZeroRoots v) l size fit root-keys (cellAt cells) inv (keyAt l i .kwkId) (g .0) (g .1) in
         record {
           x = g .2 .x;
           passed = live .passed;
           chain = step (keyAt l i) (live .chain) (live .goes-on)
-              (record { entry = in-at (keyZero v) l size fit root-keys i h; names = refl; opens = g .2 .opens });
+              (record { entry = in-at (keyZeroRoots v) l size fit root-keys i h; names = refl; opens = g .2 .opens });
           misfit = g .2 .misfit;
         }
 
-    done-at : (k : ℕ) (x : List ℕ) → Stands (keyZero v) l size fit root-keys (cellAt cells) k x → Found-in (keyZero v) l size cells k x
+    done-at : (k : ℕ) (x : List ℕ) → Stands (keyZeroRoots v) l size fit root-keys (cellAt cells) k x →
+        Found-in (keyZeroRoots v) l size cells k x
     done-at k x p =
         record {
           place = p .place;
@@ -199,11 +201,11 @@ module _ (v : List ℕ) (is : Key v) (l : List WrapKey) (size : ℕ) (fit : T (i
           value-is = p .value-is;
         }
 
-    module _ (nonzero : (i : ℕ) → i < length l → keyAt l i .keyId ≡ 0 → ⊥) (one : OneEach (keyZero v) l size cells) where
-      root-id : (k : ℕ) (x : List ℕ) → Root-is (keyZero v) l size fit root-keys k x → k ≡ 0
+    module _ (nonzero : (i : ℕ) → i < length l → keyAt l i .keyId ≡ 0 → ⊥) (one : OneEach (keyZeroRoots v) l size cells) where
+      root-id : (k : ℕ) (x : List ℕ) → Root-is (keyZeroRoots v) l size fit root-keys k x → k ≡ 0
       root-id k x p = sym (ap (λ (r : Root). r .id) (only (p .key) (p .stands)) ∙ p .id-is)
 
-      root-value : (k : ℕ) (x : List ℕ) → Root-is (keyZero v) l size fit root-keys k x → v ≡ x
+      root-value : (k : ℕ) (x : List ℕ) → Root-is (keyZeroRoots v) l size fit root-keys k x → v ≡ x
       root-value k x p = ap (λ (r : Root). r .value) (only (p .key) (p .stands)) ∙ p .value-is
 
       known-one : (k : ℕ) (a b : List ℕ) → Known k a → Known k b → a ≡ b
@@ -212,14 +214,14 @@ module _ (v : List ℕ) (is : Key v) (l : List WrapKey) (size : ℕ) (fit : T (i
       known-one k a b (inr p) (inl q) = absurd (nonzero (p .place) (p .inside) (p .id-is ∙ root-id k b q))
       known-one k a b (inr p) (inr q) = one k a b (done-at k a p) (done-at k b q)
 
-      known-found : (k : ℕ) (x : List ℕ) → Reached (keyZero v) l size k x → Known k x → Found-in (keyZero v) l size cells k x
+      known-found : (k : ℕ) (x : List ℕ) → Reached (keyZeroRoots v) l size k x → Known k x → Found-in (keyZeroRoots v) l size cells k x
       known-found k x r (inr p) = done-at k x p
       known-found k x r (inl p) =
-          let e = last-entry (keyZero v) l size k x r in
-          let q : keyAt l (e .0 .place) ≡ r .last = getD-any l (e .0 .place) noKey (r .last) (e .0 .inside) ∙ e .0 .is in
+          let e = last-entry (keyZeroRoots v) l size k x r in
+          let q : keyAt l (e .0 .place) ≡ r .last = getD-any l (e .0 .place) noWrapKey (r .last) (e .0 .inside) ∙ e .0 .is in
           absurd (nonzero (e .0 .place) (e .0 .inside) (ap (λ (a : WrapKey). a .keyId) q ∙ e .1 ∙ root-id k x p))
 
-    pub ended : Searched (keyZero v) l size cells
+    pub ended : Searched (keyZeroRoots v) l size cells
     ended =
         record {
           gives = λ i h d.
@@ -230,6 +232,7 @@ module _ (v : List ℕ) (is : Key v) (l : List WrapKey) (size : ℕ) (fit : T (i
           misfits = λ i h w. wrong-at i h (subst (λ (s : Status). GoodBy size Known (keyAt l i) s (cellAt cells i .key)) w (inv .good i h));
           complete = λ nonzero fits one k x r.
               known-found nonzero one k x r
-              (chain-known (keyZero v) l size fit root-keys (cellAt cells) inv last fits (known-one nonzero one) (r .last ∷ r .before) k x
+              (chain-known (keyZeroRoots v) l size fit root-keys (cellAt cells) inv last fits (known-one nonzero one) (r .last ∷ r .before)
+              k x
               (r .chain));
         }

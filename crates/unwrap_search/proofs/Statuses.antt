@@ -14,7 +14,7 @@ use Rattle.unwrap_search.specs.declared.open.Status.{Status}
 use Rattle.unwrap_search.specs.declared.open.Status.the-variants.{Waiting, Failed, Wrong, Pending, Done}
 use Rattle.unwrap_search.specs.declared.open.Cell.{Cell}
 use Rattle.state_keys.specs.Kinds.{valueOf}
-use Rattle.unwrap_search.specs.inner.Opened.{Opened, WrongSize, NotOpened, LandedBy, Landed, Tried, opened, stays}
+use Rattle.unwrap_search.specs.inner.Opened.{EntryOpened, WrongSize, NotOpened, LandedBy, Landed, Tried, opened, stays}
 use lib.Dec.{eqb}
 use Rattle.fips197.specs.Key.{Key}
 
@@ -31,8 +31,8 @@ abbrev pub GoodBy : ℕ → (ℕ → List ℕ → Type 0) → WrapKey → Status
 GoodBy size K e Waiting key = Unit {0}
 GoodBy size K e Failed key = (v : List ℕ) × K (e .kwkId) v × NotOpened v (e .wrapped)
 GoodBy size K e Wrong key = (v : List ℕ) × K (e .kwkId) v × WrongSize v size (e .wrapped)
-GoodBy size K e Pending key = (v : List ℕ) × K (e .kwkId) v × Opened v size (e .wrapped) key
-GoodBy size K e Done key = (v : List ℕ) × K (e .kwkId) v × Opened v size (e .wrapped) key
+GoodBy size K e Pending key = (v : List ℕ) × K (e .kwkId) v × EntryOpened v size (e .wrapped) key
+GoodBy size K e Done key = (v : List ℕ) × K (e .kwkId) v × EntryOpened v size (e .wrapped) key
 
 abbrev pub Good : ℕ → (ℕ → List ℕ → Type 0) → WrapKey → Cell → Type 0
 Good size K e c = GoodBy size K e (c .status) (c .key)
@@ -76,7 +76,7 @@ holds-waits Pending h e = let z : _≡_ {A = ℕ} 0 1 = cc in omega arith
 holds-waits Done h e = let z : _≡_ {A = ℕ} 0 1 = cc in omega arith
 
 pub holds-good : (size : ℕ) (K : ℕ → List ℕ → Type 0) (e : WrapKey) (s : Status) (x : WrappingKey) → Holds s → GoodBy size K e s x →
-    (v : List ℕ) × K (e .kwkId) v × Opened v size (e .wrapped) x
+    (v : List ℕ) × K (e .kwkId) v × EntryOpened v size (e .wrapped) x
 holds-good size K e Waiting x h g = absurd h
 holds-good size K e Failed x h g = absurd h
 holds-good size K e Wrong x h g = absurd h

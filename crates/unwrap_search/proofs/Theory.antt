@@ -12,12 +12,13 @@ use Rattle.rules_chains.specs.Chain.{In, Root, Extended, Leads, Chain, root, st
 use Rattle.unwrap_search.specs.declared.open.Status.{Status}
 use Rattle.unwrap_search.specs.declared.open.Status.the-variants.{Waiting, Failed, Wrong, Pending, Done}
 use Rattle.unwrap_search.specs.declared.open.Cell.{Cell}
-use Rattle.unwrap_search.specs.inner.Entries.{noKey}
+use Rattle.unwrap_search.specs.inner.Entries.{noWrapKey}
 use Rattle.state_keys.specs.Kinds.{valueOf}
 use Rattle.unwrap_search.specs.inner.Opened.{LandedBy, Tried}
 use Rattle.unwrap_search.specs.inner.Search.{keyAt}
 use lib.Dec.{T}
-use Rattle.unwrap_search.proofs.Statuses.{Holds, GoodBy, Good, good-mono, good-landed, good-known, holds-waits, holds-good, holds-done}
+use Rattle.unwrap_search.proofs.Statuses.{Holds, GoodBy, Good, good-mono, good-landed}
+use Rattle.unwrap_search.proofs.Statuses.{good-known, holds-waits, holds-good, holds-done}
 use Rattle.unwrap_search.proofs.Statuses.{eq-cases, getD-any, waits-done, tried-stays, tried-waits, tried-done, tried-elim}
 
 module _ (roots : List Root) (entries : List WrapKey) (size : ℕ) (is-size : T (isKey size))
@@ -66,7 +67,7 @@ module _ (roots : List Root) (entries : List WrapKey) (size : ℕ) (is-size : T 
     pub closed : (j : ℕ) → j < n → C j .status ≡ Done → ClosedAt C (E j .keyId)
 
   pub in-at : (i : ℕ) → i < n → In (E i) entries
-  in-at i h = record { place = i; inside = h; is = getD-any entries i (E i) noKey h }
+  in-at i h = record { place = i; inside = h; is = getD-any entries i (E i) noWrapKey h }
 
   -- what is known has a chain that may go on
   pub known-live : (C : ℕ → Cell) → Inv C → (k : ℕ) (v : List ℕ) → K C k v → Live k v
@@ -230,7 +231,7 @@ module _ (roots : List Root) (entries : List WrapKey) (size : ℕ) (is-size : T 
         stepped k v x e kn l =
             let i = l .entry .place in
             let h = l .entry .inside in
-            let q : E i ≡ e = getD-any entries i noKey e h ∙ l .entry .is in
+            let q : E i ≡ e = getD-any entries i noWrapKey e h ∙ l .entry .is in
             let kwk : E i .kwkId ≡ k = ap (λ (a : WrapKey). a .kwkId) q ∙ l .names in
             let kn2 : K C (E i .kwkId) v = subst (λ (a : ℕ). K C a v) (sym kwk) kn in
             let o : Opens v (E i .wrapped) x = subst (λ (a : WrapKey). Opens v (a .wrapped) x) (sym q) (l .opens) in

@@ -1,6 +1,6 @@
 // An entry of the frame, and what opening it under one key makes of it.
 use aes::InverseSchedule;
-use keywrap::Answer;
+use keywrap::WrapAnswer;
 use keywrap::open_under;
 use state_keys::kinds::WrappingKey;
 ghost use mathlib.Core.Path.{_≡_};
@@ -81,7 +81,7 @@ pub(crate) fn blank() -> Cell
 }
 
 // Opens an entry's octets under the key whose schedule this is; a wrapping key must have `size` octets.
-pub(crate) fn landed(
+pub(crate) fn open_entry(
     tables: &[u32; INVERSE_TABLE_WORDS],
     schedule: InverseSchedule,
     size: usize,
@@ -99,11 +99,11 @@ pub(crate) fn landed(
         count: 0,
     };
     match answer {
-        Answer::No => Cell {
+        WrapAnswer::No => Cell {
             status: Status::Failed,
             key: none,
         },
-        Answer::Count(n) => {
+        WrapAnswer::Count(n) => {
             if n == size {
                 let made = WrappingKey::new(&octets[..n]);
                 let key = made.key;
@@ -131,7 +131,7 @@ pub(crate) fn names(id: u32, e: Entry, c: Cell) -> bool
 }
 
 // The entry's cell after the key `id`, whose schedule this is, was tried on it.
-pub(crate) fn tried_on(
+pub(crate) fn try_on_entry(
     frame: &[u8],
     tables: &[u32; INVERSE_TABLE_WORDS],
     schedule: InverseSchedule,
@@ -149,7 +149,7 @@ pub(crate) fn tried_on(
     if names(id, e, c) {
         let a = e.start;
         let b = e.end;
-        return landed(tables, schedule, size, &frame[a..b]);
+        return open_entry(tables, schedule, size, &frame[a..b]);
     }
     c
 }

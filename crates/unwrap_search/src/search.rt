@@ -6,7 +6,7 @@ use crate::open::Status;
 use crate::open::blank;
 use crate::open::names;
 use crate::open::pends;
-use crate::open::tried_on;
+use crate::open::try_on_entry;
 use aes::InverseSchedule;
 use aes::expand_inverse;
 use aes::inverse_tables;
@@ -24,10 +24,10 @@ ghost use Rattle.state_keys.specs.Algorithms.{sizeOf};
 ghost use Rattle.wire_attributes.specs.Tree.{WrapKey};
 ghost use Rattle.unwrap_search.specs.inner.Entries.{Lists};
 ghost use Rattle.state_keys.specs.Kinds.{valueOf};
-ghost use Rattle.unwrap_search.specs.inner.Search.{AllTried, Unnamed, Finds, Searched, keyZero};
+ghost use Rattle.unwrap_search.specs.inner.Search.{AllTried, Unnamed, Finds, Searched, keyZeroRoots};
 use aes::INVERSE_TABLE_WORDS;
 
-pub enum Found {
+pub enum PendingFound {
     At(usize),
     Nothing,
 }
@@ -50,7 +50,7 @@ fn is_named(id: u32, entries: [Entry; WRAP_KEYS], cells: [Cell; WRAP_KEYS], n: u
 }
 
 // The cells after the key whose schedule this is was tried on each.
-fn tried(
+fn try_on_all(
     frame: &[u8],
     tables: &[u32; INVERSE_TABLE_WORDS],
     schedule: InverseSchedule,
@@ -72,14 +72,14 @@ fn tried(
     while i < n {
         let e = entries[i];
         let c = out[i];
-        out[i] = tried_on(frame, tables, schedule, size, id, e, c);
+        out[i] = try_on_entry(frame, tables, schedule, size, id, e, c);
         i += 1;
     }
     out
 }
 
 // The cells after the key `id` was tried on each; its schedule is expanded only if an entry that waits names it.
-fn with_key(
+fn try_key(
     frame: &[u8],
     tables: &[u32; INVERSE_TABLE_WORDS],
     key: WrappingKey,
@@ -99,13 +99,13 @@ fn with_key(
         let octets = key.octets;
         let m = key.count;
         let schedule = expand_inverse(tables, &octets[..m]);
-        return tried(frame, tables, schedule, size, id, entries, cells, n);
+        return try_on_all(frame, tables, schedule, size, id, entries, cells, n);
     }
     cells
 }
 
 // A cell whose key is yet to be tried.
-fn first_pending(cells: [Cell; WRAP_KEYS], n: usize) -> Found
+fn first_pending(cells: [Cell; WRAP_KEYS], n: usize) -> PendingFound
     requires { ⌜ n ≤ limits .wrapKeys ⌝ }
     ensures { λ r. ⌜ Finds cells n r ⌝ }
 {
@@ -113,11 +113,11 @@ fn first_pending(cells: [Cell; WRAP_KEYS], n: usize) -> Found
     while i < n {
         let c = cells[i];
         if pends(c) {
-            return Found::At(i);
+            return PendingFound::At(i);
         }
         i += 1;
     }
-    Found::Nothing
+    PendingFound::Nothing
 }
 
 // What becomes of each entry when the chains start with the lent key as key 0. Internal.
@@ -131,11 +131,12 @@ pub fn search(
     requires { ⌜ sizeOf 13 (lent .count) ≡ true ⌝ }
     requires { ⌜ Key (valueOf lent) ⌝ }
     requires { ⌜ ((l : List WrapKey) × Lists (now frame) entries n l) ⌝ }
-    ensures { λ r. ⌜ ((l : List WrapKey) → Lists (now (frame .entry)) entries n l → Searched (keyZero (valueOf lent)) l (lent .count) r) ⌝ }
+    ensures { λ r.
+        ⌜ ((l : List WrapKey) → Lists (now (frame .entry)) entries n l → Searched (keyZeroRoots (valueOf lent)) l (lent .count) r) ⌝ }
 {
     let size = lent.count;
     let tables = inverse_tables();
-    let mut cells = with_key(
+    let mut cells = try_key(
         frame,
         &tables,
         lent,
@@ -147,7 +148,7 @@ pub fn search(
     );
     loop {
         match first_pending(cells, n) {
-            Found::At(j) => {
+            PendingFound::At(j) => {
                 let e = entries[j];
                 let c = cells[j];
                 let key = c.key;
@@ -155,9 +156,9 @@ pub fn search(
                     status: Status::Done,
                     key,
                 };
-                cells = with_key(frame, &tables, key, size, e.id, entries, cells, n);
+                cells = try_key(frame, &tables, key, size, e.id, entries, cells, n);
             }
-            Found::Nothing => {
+            PendingFound::Nothing => {
                 return cells;
             }
         }

@@ -7,8 +7,8 @@ use mathlib.Core.List.{List, [], _∷_}
 use lib.ListN.{length, getD, replicate}
 use lib.Seq.{take-append-seam}
 use Rattle.wire_attributes.specs.Tree.{WrapKey}
-use Rattle.rules_chains.specs.Chain.{In, Root, Reached, Ends, root}
-use Rattle.rules_chains.specs.Refusals.{EntriesEight, Value}
+use Rattle.rules_chains.specs.Chain.{In, Root, Reached, ChainEnds, root}
+use Rattle.rules_chains.specs.Refusals.{EntriesConflict, Value}
 use Rattle.rules_chains.proofs.Determined.{one-value, AtRoot, ends-by}
 use Rattle.state_keys.specs.Limits.{limits}
 use Rattle.state_keys.specs.Kinds.{wrappingOf, valueOf}
@@ -18,51 +18,52 @@ use Rattle.state.specs.declared.held.HeldKey.{HeldKey}
 use Rattle.state.specs.declared.held.Held.{Held}
 use Rattle.state.proofs.Kept.{keys-of-held}
 use Rattle.unwrap_copies.specs.inner.Known.{Known, key-zero, named, Agrees}
-use Rattle.unwrap_search.specs.inner.Search.{keyZero}
-use Rattle.rules_outcome.specs.After.{Holds, HeldAre}
+use Rattle.unwrap_search.specs.inner.Search.{keyZeroRoots}
+use Rattle.rules_outcome.specs.After.{HoldsKey, HeldAre}
 use Rattle.unwrap_tree.proofs.Membership.{heldKeyOf}
 
 pub value-of : (x : List ℕ) → valueOf (wrappingOf x) ≡ x
 value-of x = take-append-seam x (replicate (32 - length x) 0)
 
 -- the one root
-root-at : (v : List ℕ) (r : Root) (i : ℕ) → i < 1 → getD (keyZero v) i r ≡ r → record { id = 0; value = v } ≡ r
+root-at : (v : List ℕ) (r : Root) (i : ℕ) → i < 1 → getD (keyZeroRoots v) i r ≡ r → record { id = 0; value = v } ≡ r
 root-at v r zero h e = e
 root-at v r (suc i) h e = absurd (omega arith)
 
 module _ (entries : List WrapKey) (size : ℕ) (key : WrappingKey) (held : Held)
-    (none : EntriesEight (keyZero (valueOf key)) entries size → ⊥)
-    (are : HeldAre (keyZero (valueOf key)) entries size limits held) where
+    (none : EntriesConflict (keyZeroRoots (valueOf key)) entries size → ⊥)
+    (are : HeldAre (keyZeroRoots (valueOf key)) entries size limits held) where
   keys-are : keysOf held ≡ are .keys
   keys-are = ap keysOf (are .is) ∙ keys-of-held limits (are .keys)
 
-  ends-on : (k : HeldKey) → Holds (keyZero (valueOf key)) entries size k →
-      Ends (keyZero (valueOf key)) entries size (k .id) (valueOf (k .key))
+  ends-on : (k : HeldKey) → HoldsKey (keyZeroRoots (valueOf key)) entries size k →
+      ChainEnds (keyZeroRoots (valueOf key)) entries size (k .id) (valueOf (k .key))
   ends-on k r =
       let g = r .value .reached in
-      subst (Ends (keyZero (valueOf key)) entries size (k .id)) (sym (ap valueOf (r .key-is) ∙ value-of (r .x)))
+      subst (ChainEnds (keyZeroRoots (valueOf key)) entries size (k .id)) (sym (ap valueOf (r .key-is) ∙ value-of (r .x)))
       (record { passed = g .last ∷ g .before; chain = g .chain })
 
-  known-ends : (k : ℕ) (v : List ℕ) → Known key held k v → Ends (keyZero (valueOf key)) entries size k v
+  known-ends : (k : ℕ) (v : List ℕ) → Known key held k v → ChainEnds (keyZeroRoots (valueOf key)) entries size k v
   known-ends _ _ key-zero = record {
     passed = [];
     chain = root (record { id = 0; value = valueOf key }) (record { place = 0; inside = omega arith; is = refl });
   }
   known-ends _ _ (named k m) = ends-on k (are .each k (subst (In k) keys-are m))
 
-  known-at : (k : ℕ) (v : List ℕ) → AtRoot (keyZero (valueOf key)) entries size k v ⊎ Reached (keyZero (valueOf key)) entries size k v →
+  known-at : (k : ℕ) (v : List ℕ) →
+      AtRoot (keyZeroRoots (valueOf key)) entries size k v ⊎ Reached (keyZeroRoots (valueOf key)) entries size k v →
       Known key held k v
   known-at k v (inl a) =
       let e = root-at (valueOf key) (a .key) (a .stands .place) (a .stands .inside) (a .stands .is) in
       subst (Known key held k) (ap (λ (r : Root). r .value) e ∙ a .value-is)
       (subst (λ (i : ℕ). Known key held i (valueOf key)) (ap (λ (r : Root). r .id) e ∙ a .id-is) key-zero)
   known-at k v (inr r) =
-      let x : Value (keyZero (valueOf key)) entries size k v =
-      record { reached = r; every = λ y q. one-value (keyZero (valueOf key)) entries size none k y v q r } in
+      let x : Value (keyZeroRoots (valueOf key)) entries size k v =
+      record { reached = r; every = λ y q. one-value (keyZeroRoots (valueOf key)) entries size none k y v q r } in
       subst (Known key held k) (value-of v) (named (heldKeyOf k v) (subst (In (heldKeyOf k v)) (sym keys-are) (are .all k v x)))
 
-  pub held-agrees : Agrees (keyZero (valueOf key)) entries size key held
+  pub held-agrees : Agrees (keyZeroRoots (valueOf key)) entries size key held
   held-agrees = record {
     ends = known-ends;
-    known = λ k v e. known-at k v (ends-by (keyZero (valueOf key)) entries size (e .passed) k v (e .chain));
+    known = λ k v e. known-at k v (ends-by (keyZeroRoots (valueOf key)) entries size (e .passed) k v (e .chain));
   }

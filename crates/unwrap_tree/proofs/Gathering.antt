@@ -15,9 +15,9 @@ use Rattle.wire_attributes.specs.Tree.{WrapKey, wrapKeyOf}
 use Rattle.wire_attributes.specs.Layout.{attributes}
 use Rattle.wire_attributes.specs.declared.tables.Place.the-variants.{MemberBag}
 use Rattle.wire_attributes.specs.declared.tables.Meaning.the-variants as meaning
-use Rattle.wire_readers.specs.inner.Values.{isWhole, valuesIn, FoundAt}
+use Rattle.wire_readers.specs.inner.Values.{isWhole, valuesIn, ValueFoundAt}
 use Rattle.unwrap_search.specs.declared.open.Entry.{Entry}
-use Rattle.unwrap_search.specs.inner.Entries.{IsEntry, Lists, noEntry, noKey}
+use Rattle.unwrap_search.specs.inner.Entries.{IsEntry, Lists, noEntry, noWrapKey}
 use Rattle.unwrap_tree.specs.inner.Entries.{bagKeys}
 use Rattle.unwrap_tree.proofs.Sizes.{wrapped-sized, wrapped-least}
 
@@ -64,14 +64,14 @@ module _ (k : List ℕ) where
       record {
         count = omega (arith, lists .count, length-append l (w ∷ []));
         within = omega arith;
-        at = below-more (λ j. IsEntry k (getD (set places n e) j noEntry) (getD (l ++ (w ∷ [])) j noKey)) n
+        at = below-more (λ j. IsEntry k (getD (set places n e) j noEntry) (getD (l ++ (w ∷ [])) j noWrapKey)) n
             (λ j i.
-            subst (λ (x : Entry). IsEntry k x (getD (l ++ (w ∷ [])) j noKey))
+            subst (λ (x : Entry). IsEntry k x (getD (l ++ (w ∷ [])) j noWrapKey))
             (sym (getD-set-other places n j e noEntry (λ q. omega (arith, i, q))))
-            (subst (IsEntry k (getD places j noEntry)) (sym (List·getD-append l (w ∷ []) noKey j (omega (arith, lists .count, i))))
+            (subst (IsEntry k (getD places j noEntry)) (sym (List·getD-append l (w ∷ []) noWrapKey j (omega (arith, lists .count, i))))
             (lists .at j i)))
-            (subst (λ (x : Entry). IsEntry k x (getD (l ++ (w ∷ [])) n noKey)) (sym (getD-set-same places n e noEntry g))
-            (subst (IsEntry k e) (sym (getD-at l w [] noKey n (lists .count))) is));
+            (subst (λ (x : Entry). IsEntry k x (getD (l ++ (w ∷ [])) n noWrapKey)) (sym (getD-set-same places n e noEntry g))
+            (subst (IsEntry k e) (sym (getD-at l w [] noWrapKey n (lists .count))) is));
       }
 
   pub gathered-next : (places : List Entry) (n : ℕ) (rest all : List WrapKey) (e : Entry) (w : WrapKey) →
@@ -92,7 +92,7 @@ module _ (k : List ℕ) where
 -- ---- the WRAP_KEYs of one Member Key Bag, whose attributes stand from a to e: the next one from a place on stands from b to d
 module _ (k : List ℕ) (a e : ℕ) (h : a ≤ e) (g : e ≤ length k) (at b d : ℕ)
     (w : isWhole (attributes MemberBag 0 (drop at (part k a e))) ≡ true)
-    (f : FoundAt meaning.WrapKey MemberBag (part k a e) at b d) where
+    (f : ValueFoundAt meaning.WrapKey MemberBag (part k a e) at b d) where
   inside : d ≤ e - a
   inside = omega (arith, part-length k a e h g, f .inside)
 

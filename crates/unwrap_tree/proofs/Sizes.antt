@@ -10,7 +10,7 @@ use lib.ListN.{length}
 use Rattle.octets.specs.Walk.{no-more, then}
 use Rattle.octets.proofs.Walks.{by-test, both-true}
 use Rattle.wire_attributes.specs.Attribute.{Attribute}
-use Rattle.wire_attributes.specs.Place.{meaningOf, wrappedSize, formed}
+use Rattle.wire_attributes.specs.Place.{meaningOf, wrappedSize, formatFits}
 use Rattle.wire_attributes.specs.Tree.{codeOf, means, valuesOf}
 use Rattle.wire_attributes.specs.Layout.{attributes}
 use Rattle.wire_attributes.specs.Grammar.{Attributes}
@@ -22,7 +22,7 @@ use Rattle.wire_readers.specs.inner.Values.{isWhole, attributesIn, valuesIn}
 use Rattle.wire_readers.proofs.ValuesLaws.{whole-is}
 
 -- SA_KEY and WRAP_KEY are the meanings of a wrapped key
-wrapped-formed : (m : Meaning) (short : Bool) (n : ℕ) → 5 ≤ codeOf m → formed m short n ≡ true → wrappedSize n ≡ true
+wrapped-formed : (m : Meaning) (short : Bool) (n : ℕ) → 5 ≤ codeOf m → formatFits m short n ≡ true → wrappedSize n ≡ true
 wrapped-formed meaning.Skipped short n h e = absurd (omega arith)
 wrapped-formed meaning.KeyLength short n h e = absurd (omega arith)
 wrapped-formed meaning.InitialMessageId short n h e = absurd (omega arith)

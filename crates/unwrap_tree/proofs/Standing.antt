@@ -8,7 +8,7 @@ use borrow.Author.Tests.{ne-eqb}
 use lib.ListN.{length}
 use Rattle.wire_attributes.specs.Tree.{WrapKey}
 use Rattle.rules_chains.specs.Chain.{In, Root, Reached}
-use Rattle.rules_chains.specs.Refusals.{EntriesEight, Value}
+use Rattle.rules_chains.specs.Refusals.{EntriesConflict, Value}
 use Rattle.rules_chains.proofs.Determined.{one-value}
 use Rattle.state_keys.specs.Algorithms.{sizeOf}
 use Rattle.state_keys.specs.declared.kinds.WrappingKey.{WrappingKey}
@@ -21,9 +21,9 @@ use Rattle.unwrap_search.specs.declared.open.Entry.{Entry}
 use Rattle.unwrap_search.specs.declared.open.Cell.{Cell}
 use Rattle.unwrap_search.specs.inner.Entries.{Lists}
 use Rattle.state_keys.specs.Kinds.{wrappingOf, valueOf}
-use Rattle.unwrap_search.specs.inner.Search.{keyAt, Gives, Searched, Found-in, Nonzero}
+use Rattle.unwrap_search.specs.inner.Search.{keyAt, ChainGives, Searched, Found-in, Nonzero}
 use Rattle.unwrap_conflicts.proofs.Eight.{eight-wrong, eight-clash, found}
-use Rattle.rules_outcome.specs.After.{Holds, HeldAre}
+use Rattle.rules_outcome.specs.After.{HoldsKey, HeldAre}
 use Rattle.rules_chains.proofs.Members.{member-in, in-member}
 use Rattle.unwrap_tree.proofs.Membership.{all-members, heldKeyOf}
 use Rattle.unwrap_tree.proofs.Entering.{Done-at, Entered}
@@ -34,12 +34,13 @@ formed-of k n e = rw (ne-eqb (k .id) 0 n) e
 
 module _ (frame : List ℕ) (places : List Entry) (n : ℕ) (cells : List Cell) (roots : List Root) (l : List WrapKey) (size : ℕ)
     (lists : Lists frame places n l) (s : Searched roots l size cells) (nonzero : Nonzero l) (fit : sizeOf 13 size ≡ true)
-    (none : EntriesEight roots l size → ⊥) (held : Held) (x : Entered places cells n held) where
+    (none : EntriesConflict roots l size → ⊥) (held : Held) (x : Entered places cells n held) where
   in-l : (i : ℕ) → i < n → i < length l
   in-l i h = omega (arith, lists .count)
 
-  gives-at : (k : HeldKey) (d : Done-at places cells n k) → Gives roots l size (keyAt l (d .place)) (k .key)
-  gives-at k d = subst (Gives roots l size (keyAt l (d .place))) (d .key-is) (s .gives (d .place) (in-l (d .place) (d .inside)) (d .done))
+  gives-at : (k : HeldKey) (d : Done-at places cells n k) → ChainGives roots l size (keyAt l (d .place)) (k .key)
+  gives-at k d =
+      subst (ChainGives roots l size (keyAt l (d .place))) (d .key-is) (s .gives (d .place) (in-l (d .place) (d .inside)) (d .done))
 
   id-at : (k : HeldKey) (d : Done-at places cells n k) → keyAt l (d .place) .keyId ≡ k .id
   id-at k d = sym (lists .at (d .place) (d .inside) .id) ∙ d .id-is
@@ -50,7 +51,7 @@ module _ (frame : List ℕ) (places : List Entry) (n : ℕ) (cells : List Cell) 
       subst (λ (i : ℕ). Reached roots l size i (valueOf (k .key))) (id-at k d)
       (record { last = keyAt l (d .place); before = g .passed; chain = g .chain })
 
-  is-reached : (k : HeldKey) → Done-at places cells n k → Holds roots l size k
+  is-reached : (k : HeldKey) → Done-at places cells n k → HoldsKey roots l size k
   is-reached k d =
       let r = reached-at k d in
       record {
@@ -66,7 +67,7 @@ module _ (frame : List ℕ) (places : List Entry) (n : ℕ) (cells : List Cell) 
       (ap (λ (m : ℕ). sizeOf 13 m) (ap (λ (a : WrappingKey). a .count) (g .is) ∙ g .fits) ∙ fit)
 
   -- the key that stands there with a Key ID has the value that every chain gives
-  same-key : (i : ℕ) (y : List ℕ) → Value roots l size i y → (k : HeldKey) → k .id ≡ i → Holds roots l size k → k ≡ heldKeyOf i y
+  same-key : (i : ℕ) (y : List ℕ) → Value roots l size i y → (k : HeldKey) → k .id ≡ i → HoldsKey roots l size k → k ≡ heldKeyOf i y
   same-key i y v k e r =
       let w : r .x ≡ y = v .every (r .x) (subst (λ (a : ℕ). Reached roots l size a (r .x)) e (r .value .reached)) in
       let q = r .key-is ∙ ap wrappingOf w in

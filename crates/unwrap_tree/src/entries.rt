@@ -5,7 +5,7 @@ use wire_attributes::attribute_value;
 use wire_attributes::tables::Meaning;
 use wire_attributes::tables::Place;
 use wire_readers::Stretch;
-use wire_readers::values::Found;
+use wire_readers::values::ValueFound;
 use wire_readers::values::next_attribute;
 ghost use mathlib.Core.Path.{_≡_};
 ghost use mathlib.Core.List.{List};
@@ -54,25 +54,25 @@ fn entry(v: &[u8], e: usize) -> Entry
 }
 
 // The WRAP_KEYs of a KD body whose Member Key Bag has its attributes there, in their order. Internal.
-pub fn entries(k: &[u8], bag: Stretch) -> Listing
-    requires { ⌜ HoldsEntries (now k) bag ⌝ }
-    requires { ⌜ length (wrapKeysIn (now k)) ≤ limits .wrapKeys ⌝ }
-    ensures { λ r. ⌜ Lists (now (k .entry)) (r .places) (r .count) (wrapKeysIn (now (k .entry))) ⌝ }
+pub fn entries(kd: &[u8], bag: Stretch) -> Listing
+    requires { ⌜ HoldsEntries (now kd) bag ⌝ }
+    requires { ⌜ length (wrapKeysIn (now kd)) ≤ limits .wrapKeys ⌝ }
+    ensures { λ r. ⌜ Lists (now (kd .entry)) (r .places) (r .count) (wrapKeysIn (now (kd .entry))) ⌝ }
 {
     let a = bag.start;
     let e = bag.end;
-    let s = &k[a..e];
+    let s = &kd[a..e];
     let mut places = [blank(); WRAP_KEYS];
     let mut n: usize = 0;
     let mut at: usize = 0;
     loop {
         match next_attribute(Meaning::WrapKey, Place::MemberBag, s, at) {
-            Found::At(b, d) => {
+            ValueFound::At(b, d) => {
                 places[n] = entry(attribute_value(s, b), a + d);
                 n = n + 1;
                 at = d;
             }
-            Found::Nothing => {
+            ValueFound::Nothing => {
                 return Listing { places, count: n };
             }
         }

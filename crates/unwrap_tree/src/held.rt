@@ -15,14 +15,14 @@ ghost use Rattle.state_keys.specs.Limits.{limits};
 ghost use Rattle.state.specs.Held.{heldFormed};
 ghost use Rattle.rules_outcome.specs.After.{HeldAre};
 ghost use Rattle.rules_chains.specs.Chain.{Root};
-ghost use Rattle.rules_chains.specs.Refusals.{EntriesEight};
+ghost use Rattle.rules_chains.specs.Refusals.{EntriesConflict};
 ghost use Rattle.unwrap_search.specs.inner.Entries.{Lists};
 ghost use Rattle.unwrap_search.specs.inner.Search.{Searched, Nonzero};
 ghost use Rattle.unwrap_tree.specs.inner.Joins.{Joins};
 
 // Whether number 8 holds of the entries; if not, the keys that they reach.
-pub struct Reached {
-    pub eight: bool,
+pub struct ReachedKeys {
+    pub conflict: bool,
     pub held: Held,
 }
 
@@ -37,7 +37,7 @@ fn with_cell(held: Held, e: Entry, c: Cell) -> Held
             return held;
         }
         let key = c.key;
-        return held.entered(HeldKey { id, key });
+        return held.enter(HeldKey { id, key });
     }
     held
 }
@@ -46,7 +46,7 @@ fn with_cell(held: Held, e: Entry, c: Cell) -> Held
 pub fn held_of(entries: [Entry; WRAP_KEYS], cells: [Cell; WRAP_KEYS], n: usize) -> Held
     requires { ⌜ n ≤ limits .wrapKeys ⌝ }
     ensures { λ r. ⌜ ((frame : List ℕ) (roots : List Root) (l : List WrapKey) (size : ℕ) → Lists frame entries n l →
-        Searched roots l size cells → Nonzero l → sizeOf 13 size ≡ true → (EntriesEight roots l size → ⊥) →
+        Searched roots l size cells → Nonzero l → sizeOf 13 size ≡ true → (EntriesConflict roots l size → ⊥) →
         HeldAre roots l size limits r × (heldFormed limits r ≡ true)) ⌝ }
 {
     let mut held = Held::new();

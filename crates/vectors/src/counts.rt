@@ -7,14 +7,14 @@ use crate::inputs::written;
 use crate::text::print;
 use crate::text::print_case;
 use crate::text::print_last;
-use keywrap::Answer;
+use keywrap::WrapAnswer;
 
 const COUNTS: [usize; 14] = [1, 7, 8, 9, 15, 16, 17, 20, 24, 36, 44, 68, 255, 256];
 
-fn print_written(answer: Answer, room: &[u8]) {
+fn print_written(answer: WrapAnswer, room: &[u8]) {
     match answer {
-        Answer::No => print(b"no\n"),
-        Answer::Count(n) => print_last(first(room, n)),
+        WrapAnswer::No => print(b"no\n"),
+        WrapAnswer::Count(n) => print_last(first(room, n)),
     }
 }
 

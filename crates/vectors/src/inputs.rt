@@ -1,7 +1,7 @@
 // Keys and octets by a rule, and parts of them.
 ghost use mathlib.Core.Path.{_≡_};
 ghost use lib.ListN.{length};
-use keywrap::Answer;
+use keywrap::WrapAnswer;
 
 // What a room holds when it is lent.
 pub(crate) const LENT: u8 = 0xee;
@@ -45,10 +45,10 @@ pub(crate) fn first(octets: &[u8], n: usize) -> &[u8] {
 }
 
 // What a call that gave this answer wrote at the room's start.
-pub(crate) fn written(answer: Answer, room: &[u8]) -> &[u8] {
+pub(crate) fn written(answer: WrapAnswer, room: &[u8]) -> &[u8] {
     match answer {
-        Answer::No => first(room, 0),
-        Answer::Count(n) => first(room, n),
+        WrapAnswer::No => first(room, 0),
+        WrapAnswer::Count(n) => first(room, n),
     }
 }
 

@@ -2,10 +2,10 @@
 use crate::inputs::LENT;
 use crate::text::print;
 use crate::text::print_answer;
-use keywrap::Answer;
+use keywrap::WrapAnswer;
 
 // Prints the answer, and beside it "room changed" where the room is not as it was lent.
-fn print_refusal(answer: Answer, room: &[u8]) {
+fn print_refusal(answer: WrapAnswer, room: &[u8]) {
     let lent = [LENT; 272];
     print_answer(answer);
     if check::same(room, &lent) {

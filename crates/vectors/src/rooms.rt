@@ -8,9 +8,9 @@ use crate::text::print;
 use crate::text::print_answer;
 use crate::text::print_case;
 use crate::text::print_last;
-use keywrap::Answer;
+use keywrap::WrapAnswer;
 
-fn print_line(size: usize, kind: &[u8], answer: Answer, room: &[u8]) {
+fn print_line(size: usize, kind: &[u8], answer: WrapAnswer, room: &[u8]) {
     print_case(b"room ", size, kind);
     print_case(b"", room.len(), b" ");
     print_answer(answer);

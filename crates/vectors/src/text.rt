@@ -1,5 +1,5 @@
 // What the lines are made of.
-use keywrap::Answer;
+use keywrap::WrapAnswer;
 use libc::STDOUT_FILENO;
 use octets::wide;
 
@@ -32,9 +32,9 @@ pub(crate) fn print_last(octets: &[u8]) {
     print(b"\n");
 }
 
-pub(crate) fn print_answer(answer: Answer) {
+pub(crate) fn print_answer(answer: WrapAnswer) {
     match answer {
-        Answer::No => print(b"no"),
-        Answer::Count(n) => print_number(n),
+        WrapAnswer::No => print(b"no"),
+        WrapAnswer::Count(n) => print_number(n),
     }
 }

@@ -5,7 +5,7 @@ use mathlib.Core.Path.{_≡_, refl}
 use mathlib.Core.List.{List, [], _∷_, map}
 use mathlib.Core.Bool.{Bool, true, false}
 use Rattle.wire_attributes.specs.Attribute.{attributeOf}
-use Rattle.wire_attributes.specs.Place.{meaningOf, formed, inTransform, inPolicy, inBag}
+use Rattle.wire_attributes.specs.Place.{meaningOf, formatFits, inTransform, inPolicy, inBag}
 use Rattle.wire_attributes.specs.declared.tables.Place.{Place}
 use Rattle.wire_attributes.specs.declared.tables.Place.the-variants as place
 use Rattle.wire_attributes.specs.declared.tables.Meaning.{Meaning}
@@ -134,7 +134,7 @@ forms =
     tlv meaning.Skipped 7 true ∷
     []
 
-pub table-forms : map (λ (f : Form). formed (f .of) (f .short) (f .octets)) forms ≡ map (λ (f : Form). f .taken) forms
+pub table-forms : map (λ (f : Form). formatFits (f .of) (f .short) (f .octets)) forms ≡ map (λ (f : Form). f .taken) forms
 table-forms = refl
 
 -- ---- what octets say: the top bit is the format, the other 15 bits the type; a TLV's length counts its value alone

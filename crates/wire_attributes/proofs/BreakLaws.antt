@@ -12,7 +12,7 @@ use Rattle.octets.specs.Walk.{be16, either, both, Reading, whole, broken}
 use Rattle.octets.specs.Breaks.{own, inside}
 use Rattle.octets.proofs.Walks.{both-never}
 use Rattle.octets.proofs.BreakLaws.{not-broken, structure-to, structure-from, row-to, row-from, Among, among-structure, among-row}
-use Rattle.wire_attributes.specs.Attribute.{Attribute, isShort, sizeOf, attributeOf, fits}
+use Rattle.wire_attributes.specs.Attribute.{Attribute, isShort, attributeSize, attributeOf, fits}
 use Rattle.wire_attributes.specs.Layout.{formedIn, fitsIn, attribute, attributes}
 use Rattle.wire_attributes.specs.Grammar.{IsAttribute}
 use Rattle.wire_attributes.specs.Answers.{spotOf}
@@ -28,10 +28,10 @@ module _ (p : Place) (s : List ℕ) where
 
   -- the own fields
   pub fault-unfit : FaultOfAttribute p s → fitsIn p s ≡ false
-  fault-unfit (cut h) = unfit (lt-leb (sizeOf s) (length s) (omega (arith, size-least s)))
+  fault-unfit (cut h) = unfit (lt-leb (attributeSize s) (length s) (omega (arith, size-least s)))
   fault-unfit (runs-past h k) =
-      let e : sizeOf s ≡ 4 + be16 s 2 = ap (λ (t : Bool). either t 4 (4 + be16 s 2)) (lt-leb 32768 (be16 s 0) h) in
-      unfit (lt-leb (sizeOf s) (length s) (omega arith))
+      let e : attributeSize s ≡ 4 + be16 s 2 = ap (λ (t : Bool). either t 4 (4 + be16 s 2)) (lt-leb 32768 (be16 s 0) h) in
+      unfit (lt-leb (attributeSize s) (length s) (omega arith))
   fault-unfit (unformed o rest {a = a} e f q) =
       let n = format-size p o a f in
       let m = size-least o in
@@ -42,15 +42,15 @@ module _ (p : Place) (s : List ℕ) where
   fault-cut true e h = cut h
   fault-cut false e h = runs-past (leb-false 32768 (be16 s 0) e) h
 
-  fault-formed : sizeOf s ≤ length s → formedIn p (attributeOf s) ≡ false → FaultOfAttribute p s
+  fault-formed : attributeSize s ≤ length s → formedIn p (attributeOf s) ≡ false → FaultOfAttribute p s
   fault-formed h q =
-      let o = take (sizeOf s) s in
-      let rest = drop (sizeOf s) s in
-      let j : s ≡ take (sizeOf s) s ++ drop (sizeOf s) s = sym (take-append-drop (sizeOf s) s) in
-      let m : length (take (sizeOf s) s) ≡ sizeOf s = length-take-le (sizeOf s) s h in
+      let o = take (attributeSize s) s in
+      let rest = drop (attributeSize s) s in
+      let j : s ≡ take (attributeSize s) s ++ drop (attributeSize s) s = sym (take-append-drop (attributeSize s) s) in
+      let m : length (take (attributeSize s) s) ≡ attributeSize s = length-take-le (attributeSize s) s h in
       let l = size-least s in
-      let k : sizeOf s ≡ sizeOf (take (sizeOf s) s) = ap sizeOf j ∙ same-size o rest (omega arith) in
-      let w : attributeOf (take (sizeOf s) s) ≡ attributeOf s =
+      let k : attributeSize s ≡ attributeSize (take (attributeSize s) s) = ap attributeSize j ∙ same-size o rest (omega arith) in
+      let w : attributeOf (take (attributeSize s) s) ≡ attributeOf s =
       sym (ap attributeOf j ∙ same-attribute o rest (omega arith) (omega arith)) in
       unformed o rest j (formats p o (attributeOf s) (isShort o) refl (m ∙ k) w) q
 
@@ -58,20 +58,21 @@ module _ (p : Place) (s : List ℕ) where
   unfit-fault = go (fits s) refl
     where
       go : (t : Bool) → fits s ≡ t → both t (formedIn p (attributeOf s)) ≡ false → FaultOfAttribute p s
-      go true e q = fault-formed (leb-true (sizeOf s) (length s) e) q
-      go false e q = fault-cut (isShort s) refl (leb-false (sizeOf s) (length s) e)
+      go true e q = fault-formed (leb-true (attributeSize s) (length s) e) q
+      go false e q = fault-cut (isShort s) refl (leb-false (attributeSize s) (length s) e)
 
 module _ (p : Place) where
   pub attribute-to : (b : ℕ) (s : List ℕ) (o : ℕ) → attribute p b s ≡ broken o → BreaksAttribute p b s o
   unfolding attribute
   attribute-to b s o q =
-      structure-to (FaultOfAttribute p s) ⊥ b (fitsIn p s) (whole (attributeOf s) (drop (sizeOf s) s)) o (unfit-fault p s) (fault-unfit p s)
+      structure-to (FaultOfAttribute p s) ⊥ b (fitsIn p s) (whole (attributeOf s) (drop (attributeSize s) s)) o (unfit-fault p s)
+      (fault-unfit p s)
       (λ t e. not-broken e) q
 
   pub attribute-from : (b : ℕ) (s : List ℕ) (o : ℕ) → BreaksAttribute p b s o → attribute p b s ≡ broken o
   unfolding attribute
   attribute-from b s o i =
-      structure-from (FaultOfAttribute p s) ⊥ b (fitsIn p s) (whole (attributeOf s) (drop (sizeOf s) s)) o (unfit-fault p s)
+      structure-from (FaultOfAttribute p s) ⊥ b (fitsIn p s) (whole (attributeOf s) (drop (attributeSize s) s)) o (unfit-fault p s)
       (fault-unfit p s) (λ e. absurd e) i
 
   pub attributes-to : (b : ℕ) (s : List ℕ) (o : ℕ) → attributes p b s ≡ broken o → BreaksAttributes p b s o

@@ -12,7 +12,7 @@ use Rattle.octets.specs.Walk.{be16, part, either, both, Reading, whole, opened}
 use Rattle.octets.proofs.Walks.{by-test, both-true}
 use Rattle.octets.proofs.Local.{extended, be16-append, part-append, opened-extend, Local}
 use Rattle.octets.proofs.Grammar.{Cuts, row-read, read-row, sound-of, complete-of}
-use Rattle.wire_attributes.specs.Attribute.{Attribute, isShort, startOf, sizeOf, valueOf, attributeOf, fits}
+use Rattle.wire_attributes.specs.Attribute.{Attribute, isShort, valueOffset, attributeSize, valueOctets, attributeOf, fits}
 use Rattle.wire_attributes.specs.Layout.{formedIn, fitsIn, attribute, attributes}
 use Rattle.wire_attributes.specs.Grammar.{Format, in-short, in-long, IsAttribute, Attributes}
 use Rattle.wire_attributes.specs.declared.tables.Place.{Place}
@@ -27,14 +27,14 @@ module _ (o r : List ℕ) (h : 4 ≤ length o) where
   second : be16 (o ++ r) 2 ≡ be16 o 2
   second = be16-append o r 2 (omega arith)
 
-  pub same-size : sizeOf (o ++ r) ≡ sizeOf o
+  pub same-size : attributeSize (o ++ r) ≡ attributeSize o
   same-size = λ i. either (leb 32768 (first i)) 4 (4 + second i)
 
-  module _ (k : sizeOf o ≤ length o) where
-    same-value : valueOf (o ++ r) ≡ valueOf o
+  module _ (k : attributeSize o ≤ length o) where
+    same-value : valueOctets (o ++ r) ≡ valueOctets o
     same-value =
         (λ i. part (o ++ r) (either (leb 32768 (first i)) 2 4) (same-size i))
-        ∙ part-append o r (startOf o) (sizeOf o) (value-inside o) k
+        ∙ part-append o r (valueOffset o) (attributeSize o) (value-inside o) k
 
     pub same-attribute : attributeOf (o ++ r) ≡ attributeOf o
     same-attribute = λ i. record { short = leb 32768 (first i); kind = first i % 32768; value = same-value i }
@@ -43,35 +43,36 @@ module _ (o r : List ℕ) (h : 4 ≤ length o) where
     same-fits p =
         (λ i. both (leb (same-size i) (length (o ++ r))) (formedIn p (same-attribute i)))
         ∙ ap (λ (t : Bool). both t (formedIn p (attributeOf o)))
-        (le-leb (sizeOf o) (length (o ++ r)) (omega (arith, length-append o r)) ∙ sym (le-leb (sizeOf o) (length o) k))
+        (le-leb (attributeSize o) (length (o ++ r)) (omega (arith, length-append o r)) ∙ sym (le-leb (attributeSize o) (length o) k))
 
 module _ (p : Place) where
   counted : (b : ℕ) (s : List ℕ) (a : Attribute) (rest : List ℕ) → attribute p b s ≡ whole a rest
-      → (4 ≤ sizeOf s) × (sizeOf s ≤ length s) × (rest ≡ drop (sizeOf s) s)
+      → (4 ≤ attributeSize s) × (attributeSize s ≤ length s) × (rest ≡ drop (attributeSize s) s)
   unfolding attribute
   counted b s a rest =
-      by-test (λ (y : Reading Attribute). y ≡ whole a rest → (4 ≤ sizeOf s) × (sizeOf s ≤ length s) × (rest ≡ drop (sizeOf s) s))
+      by-test (λ (y : Reading Attribute). y ≡ whole a rest →
+      (4 ≤ attributeSize s) × (attributeSize s ≤ length s) × (rest ≡ drop (attributeSize s) s))
       (fitsIn p s)
-      (λ t q. (size-least s, leb-true (sizeOf s) (length s) (both-true (fits s) (formedIn p (attributeOf s)) t .0), cc))
+      (λ t q. (size-least s, leb-true (attributeSize s) (length s) (both-true (fits s) (formedIn p (attributeOf s)) t .0), cc))
       (λ t q. let z : _≡_ {A = ℕ} 0 1 = cc in absurd (omega arith))
 
-  extends : (b : ℕ) (o r : List ℕ) → 4 ≤ length o → sizeOf o ≤ length o → attribute p b (o ++ r) ≡ extended r (attribute p b o)
+  extends : (b : ℕ) (o r : List ℕ) → 4 ≤ length o → attributeSize o ≤ length o → attribute p b (o ++ r) ≡ extended r (attribute p b o)
   unfolding attribute
   extends b o r h k =
-      opened-extend o r b (fitsIn p (o ++ r)) (fitsIn p o) (whole (attributeOf (o ++ r)) (drop (sizeOf (o ++ r)) (o ++ r)))
-      (whole (attributeOf o) (drop (sizeOf o) o)) (same-fits o r h k p)
+      opened-extend o r b (fitsIn p (o ++ r)) (fitsIn p o) (whole (attributeOf (o ++ r)) (drop (attributeSize (o ++ r)) (o ++ r)))
+      (whole (attributeOf o) (drop (attributeSize o) o)) (same-fits o r h k p)
       (λ t. (λ i. whole (same-attribute o r h k i) (drop (same-size o r h i) (o ++ r)))
-      ∙ ap (whole (attributeOf o)) (drop-append-le (sizeOf o) o r k))
+      ∙ ap (whole (attributeOf o)) (drop-append-le (attributeSize o) o r k))
 
-  pub local : Local (attribute p) 4 sizeOf
+  pub local : Local (attribute p) 4 attributeSize
   local = record { same = same-size; counts = counted; extend = extends }
 
   -- THE RELATION AND THE READER AGREE on the octets of one attribute
   module _ (o : List ℕ) (a : Attribute) where
-    left-none : drop (sizeOf o) o ≡ [] → sizeOf o ≤ length o → length o ≡ sizeOf o
-    left-none e k = omega (arith, ap length e, length-drop (sizeOf o) o)
+    left-none : drop (attributeSize o) o ≡ [] → attributeSize o ≤ length o → length o ≡ attributeSize o
+    left-none e k = omega (arith, ap length e, length-drop (attributeSize o) o)
 
-    pub formats : (t : Bool) → isShort o ≡ t → length o ≡ sizeOf o → attributeOf o ≡ a → Format o a
+    pub formats : (t : Bool) → isShort o ≡ t → length o ≡ attributeSize o → attributeOf o ≡ a → Format o a
     formats true e l q =
         let m : length o ≡ 4 = l ∙ ap (λ (t : Bool). either t 4 (4 + be16 o 2)) e in
         in-short (record {
@@ -102,27 +103,27 @@ module _ (p : Place) where
         (λ t q.
         let f = both-true (fits o) (formedIn p (attributeOf o)) t in
         let e : attributeOf o ≡ a = cc in
-        let d : drop (sizeOf o) o ≡ [] = cc in
+        let d : drop (attributeSize o) o ≡ [] = cc in
         record {
-          format = formats (isShort o) refl (left-none d (leb-true (sizeOf o) (length o) (f .0))) e;
+          format = formats (isShort o) refl (left-none d (leb-true (attributeSize o) (length o) (f .0))) e;
           formed = ap (formedIn p) (sym e) ∙ f .1;
         })
         (λ t q. let z : _≡_ {A = ℕ} 0 1 = cc in absurd (omega arith))
 
     module _ (t : Bool) (e : isShort o ≡ t) (l : length o ≡ either t 4 (4 + be16 o 2)) where
-      pub made-size : length o ≡ sizeOf o
+      pub made-size : length o ≡ attributeSize o
       made-size = l ∙ ap (λ (t : Bool). either t 4 (4 + be16 o 2)) (sym e)
 
       pub made-attribute : drop (either t 2 4) o ≡ a .value → be16 o 0 % 32768 ≡ a .kind → a .short ≡ t → attributeOf o ≡ a
       made-attribute v k m =
           let n = made-size in
-          let w : valueOf o ≡ a .value =
-          take-all (sizeOf o - startOf o) (drop (startOf o) o) (rw length-drop (omega arith))
+          let w : valueOctets o ≡ a .value =
+          take-all (attributeSize o - valueOffset o) (drop (valueOffset o) o) (rw length-drop (omega arith))
           ∙ ap (λ (t : Bool). drop (either t 2 4) o) e ∙ v in
           λ i. record { short = (e ∙ sym m) i; kind = k i; value = w i }
 
     -- octets in either format are of their size, and say the attribute
-    pub format-size : Format o a → length o ≡ sizeOf o
+    pub format-size : Format o a → length o ≡ attributeSize o
     format-size (in-short x) = made-size true (le-leb 32768 (be16 o 0) (x .top)) (x .size)
     format-size (in-long x) = made-size false (lt-leb 32768 (be16 o 0) (x .top)) (x .size)
 
@@ -137,15 +138,15 @@ module _ (p : Place) where
         let q = format-says (i .format) in
         let g : fitsIn p o ≡ true =
         ap (λ (x : Attribute). both (fits o) (formedIn p x)) q ∙ ap (λ (t : Bool). both (fits o) t) (i .formed)
-        ∙ ap (λ (t : Bool). both t true) (le-leb (sizeOf o) (length o) (omega arith)) in
-        ap (λ (t : Bool). opened b t (whole (attributeOf o) (drop (sizeOf o) o))) g
+        ∙ ap (λ (t : Bool). both t true) (le-leb (attributeSize o) (length o) (omega arith)) in
+        ap (λ (t : Bool). opened b t (whole (attributeOf o) (drop (attributeSize o) o))) g
         ∙ (λ i. whole (q i) (drop (sym n i) o)) ∙ ap (whole a) (drop-length o)
 
   pub sound : (b : ℕ) (s : List ℕ) (a : Attribute) (rest : List ℕ) → attribute p b s ≡ whole a rest → Cuts (IsAttribute p) s a rest
-  sound = sound-of (attribute p) 4 sizeOf local (IsAttribute p) (λ b o a q. to o a b q)
+  sound = sound-of (attribute p) 4 attributeSize local (IsAttribute p) (λ b o a q. to o a b q)
 
   pub complete : (b : ℕ) (o rest : List ℕ) (a : Attribute) → IsAttribute p o a → attribute p b (o ++ rest) ≡ whole a rest
-  complete = complete-of (attribute p) 4 sizeOf local (IsAttribute p) (λ b o a i. from o a i b)
+  complete = complete-of (attribute p) 4 attributeSize local (IsAttribute p) (λ b o a i. from o a i b)
 
   -- octets that are a list's are read to that list, at any offset; what is read to a list are that list's octets
   pub are-read : {s : List ℕ} {l : List Attribute} → Attributes p s l → (b : ℕ) → attributes p b s ≡ whole l []

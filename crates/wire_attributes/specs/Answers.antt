@@ -3,7 +3,7 @@ use Prim.Native.Nat.{ℕ, _+_, _-_}
 use mathlib.Core.List.{List, [], _∷_}
 use lib.ListN.{length, drop}
 use Rattle.octets.specs.Walk.{either, Reading, whole, broken}
-use Rattle.wire_attributes.specs.Attribute.{isShort, kindOf, startOf, sizeOf, fits, valueOf}
+use Rattle.wire_attributes.specs.Attribute.{isShort, kindOf, valueOffset, attributeSize, fits, valueOctets}
 use Rattle.wire_attributes.specs.declared.Read.{Read}
 use Rattle.wire_attributes.specs.declared.Read.the-variants as read
 use Rattle.wire_attributes.specs.declared.Layout.{Layout}
@@ -31,11 +31,11 @@ spotOf s (broken o) = spot.Broken o
 
 -- the octets of an attribute's value; none where the attribute is cut short
 abbrev pub valueAt : List ℕ → List ℕ
-valueAt s = either (fits s) (valueOf s) []
+valueAt s = either (fits s) (valueOctets s) []
 
 -- where in s the value of the attribute at a place starts; 0 where no whole attribute stands there
 abbrev pub valueStart : List ℕ → ℕ → ℕ
-valueStart s at = either (fits (drop at s)) (at + startOf (drop at s)) 0
+valueStart s at = either (fits (drop at s)) (at + valueOffset (drop at s)) 0
 
 abbrev pub readOf : List ℕ → Read
-readOf s = either (fits s) (read.Attribute (isShort s) (kindOf s) (startOf s) (sizeOf s)) read.Cut
+readOf s = either (fits s) (read.Attribute (isShort s) (kindOf s) (valueOffset s) (attributeSize s)) read.Cut

@@ -21,17 +21,17 @@ abbrev pub kindOf : List ℕ → ℕ
 kindOf s = be16 s 0 % formatBit
 
 -- where its value starts, and how many octets it takes
-abbrev pub startOf : List ℕ → ℕ
-startOf s = either (isShort s) shortHeadOctets attributeHeadOctets
+abbrev pub valueOffset : List ℕ → ℕ
+valueOffset s = either (isShort s) shortHeadOctets attributeHeadOctets
 
-abbrev pub sizeOf : List ℕ → ℕ
-sizeOf s = either (isShort s) attributeHeadOctets (attributeHeadOctets + be16 s 2)
+abbrev pub attributeSize : List ℕ → ℕ
+attributeSize s = either (isShort s) attributeHeadOctets (attributeHeadOctets + be16 s 2)
 
-abbrev pub valueOf : List ℕ → List ℕ
-valueOf s = part s (startOf s) (sizeOf s)
+abbrev pub valueOctets : List ℕ → List ℕ
+valueOctets s = part s (valueOffset s) (attributeSize s)
 
 abbrev pub attributeOf : List ℕ → Attribute
-attributeOf s = record { short = isShort s; kind = kindOf s; value = valueOf s }
+attributeOf s = record { short = isShort s; kind = kindOf s; value = valueOctets s }
 
 -- the octets before its value, and all its octets
 abbrev pub leadOf : Attribute → ℕ
@@ -42,4 +42,4 @@ spanOf a = leadOf a + length (a .value)
 
 -- all its octets are there
 abbrev pub fits : List ℕ → Bool
-fits s = leb (sizeOf s) (length s)
+fits s = leb (attributeSize s) (length s)

@@ -5,18 +5,18 @@ use mathlib.Core.List.{List}
 use mathlib.Core.Bool.{Bool}
 use lib.ListN.{length, drop}
 use Rattle.octets.specs.Walk.{both, whole, Reader, opened, many}
-use Rattle.wire_attributes.specs.Attribute.{Attribute, sizeOf, attributeOf, fits}
-use Rattle.wire_attributes.specs.Place.{meaningOf, formed}
+use Rattle.wire_attributes.specs.Attribute.{Attribute, attributeSize, attributeOf, fits}
+use Rattle.wire_attributes.specs.Place.{meaningOf, formatFits}
 use Rattle.wire_attributes.specs.declared.tables.Place.{Place}
 
 abbrev pub formedIn : Place → Attribute → Bool
-formedIn p a = formed (meaningOf p (a .kind)) (a .short) (length (a .value))
+formedIn p a = formatFits (meaningOf p (a .kind)) (a .short) (length (a .value))
 
 abbrev pub fitsIn : Place → List ℕ → Bool
 fitsIn p s = both (fits s) (formedIn p (attributeOf s))
 
 unfoldable pub attribute : Place → Reader Attribute
-attribute p b s = opened b (fitsIn p s) (whole (attributeOf s) (drop (sizeOf s) s))
+attribute p b s = opened b (fitsIn p s) (whole (attributeOf s) (drop (attributeSize s) s))
 
 abbrev pub attributes : Place → Reader (List Attribute)
 attributes p b s = many (attribute p) b s

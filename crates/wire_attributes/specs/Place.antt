@@ -34,14 +34,14 @@ abbrev pub fourOctets : Bool → ℕ → Bool
 fourOctets short n = both (not short) (eqb n 4)
 
 -- the format (short is TV) and the size of the value that each has by those tables; what is skipped may have any
-abbrev pub formed : Meaning → Bool → ℕ → Bool
-formed meaning.Skipped short n = true
-formed meaning.KeyLength short n = short
-formed meaning.InitialMessageId short n = fourOctets short n
-formed meaning.DeactivationDelay short n = short
-formed meaning.KeyLifetime short n = fourOctets short n
-formed meaning.SaKey short n = both (not short) (wrappedSize n)
-formed meaning.WrapKey short n = both (not short) (wrappedSize n)
+abbrev pub formatFits : Meaning → Bool → ℕ → Bool
+formatFits meaning.Skipped short n = true
+formatFits meaning.KeyLength short n = short
+formatFits meaning.InitialMessageId short n = fourOctets short n
+formatFits meaning.DeactivationDelay short n = short
+formatFits meaning.KeyLifetime short n = fourOctets short n
+formatFits meaning.SaKey short n = both (not short) (wrappedSize n)
+formatFits meaning.WrapKey short n = both (not short) (wrappedSize n)
 
 -- a transform of type 1 (Encryption Algorithm), a policy or a Group Key Bag of protocol 6 (GIKE_UPDATE, the Rekey SA)
 abbrev pub inTransform : ℕ → Place

@@ -49,24 +49,24 @@ valuesOf m p [] = []
 valuesOf m p (a ∷ l) = either (means m p a) (a .value ∷ valuesOf m p l) (valuesOf m p l)
 
 -- the number that a value of two octets is, and one of four
-abbrev pub two : List ℕ → ℕ
-two v = be16 v 0
+abbrev pub number16 : List ℕ → ℕ
+number16 v = be16 v 0
 
-abbrev pub four : List ℕ → ℕ
-four v = be32 v 0
+abbrev pub number32 : List ℕ → ℕ
+number32 v = be32 v 0
 
 -- what those attributes say: Key Length in bits, the first Message ID, the delay and the lifetime in seconds, the wrapped keys
 abbrev pub keyLengths : Place → List Attribute → List ℕ
-keyLengths p l = map two (valuesOf meaning.KeyLength p l)
+keyLengths p l = map number16 (valuesOf meaning.KeyLength p l)
 
 abbrev pub initialMessageIds : Place → List Attribute → List ℕ
-initialMessageIds p l = map four (valuesOf meaning.InitialMessageId p l)
+initialMessageIds p l = map number32 (valuesOf meaning.InitialMessageId p l)
 
 abbrev pub deactivationDelays : Place → List Attribute → List ℕ
-deactivationDelays p l = map two (valuesOf meaning.DeactivationDelay p l)
+deactivationDelays p l = map number16 (valuesOf meaning.DeactivationDelay p l)
 
 abbrev pub keyLifetimes : Place → List Attribute → List ℕ
-keyLifetimes p l = map four (valuesOf meaning.KeyLifetime p l)
+keyLifetimes p l = map number32 (valuesOf meaning.KeyLifetime p l)
 
 abbrev pub saKeys : Place → List Attribute → List SaKey
 saKeys p l = map saKeyOf (valuesOf meaning.SaKey p l)

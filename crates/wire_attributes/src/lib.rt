@@ -34,7 +34,7 @@ pub enum Read {
 }
 
 // The attribute that the octets start with. Internal.
-pub fn attribute_read(s: &[u8]) -> Read
+pub fn read_attribute(s: &[u8]) -> Read
     ensures { λ r. ⌜ r ≡ readOf (now (s .entry)) ⌝ }
 {
     if s.len() < ATTRIBUTE_HEAD {
@@ -69,7 +69,7 @@ pub fn attribute_value(s: &[u8], at: usize) -> &[u8]
     if s.len() < at {
         return &s[0..0];
     }
-    match attribute_read(&s[at..]) {
+    match read_attribute(&s[at..]) {
         Read::Attribute {
             short: _,
             kind: _,
@@ -89,7 +89,7 @@ pub fn attribute_value(s: &[u8], at: usize) -> &[u8]
 pub fn attribute_in(place: tables::Place, s: &[u8], base: usize) -> Spot
     ensures { λ r. ⌜ r ≡ spotOf (now (s .entry)) (attribute place base (now (s .entry))) ⌝ }
 {
-    match attribute_read(s) {
+    match read_attribute(s) {
         Read::Attribute {
             short,
             kind,

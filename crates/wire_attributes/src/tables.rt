@@ -1,7 +1,7 @@
 // Which attribute is read where, in which format and size.
 ghost use mathlib.Core.Path.{_≡_};
 ghost use Prim.Native.Nat.{_<_};
-ghost use Rattle.wire_attributes.specs.Place.{meaningOf, wrappedSize, fourOctets, formed, inTransform, inPolicy, inBag};
+ghost use Rattle.wire_attributes.specs.Place.{meaningOf, wrappedSize, fourOctets, formatFits, inTransform, inPolicy, inBag};
 ghost use Rattle.wire_attributes.specs.Tree.{codeOf};
 use ikev2_numbers::ENCR;
 use ikev2_numbers::GIKE_UPDATE;
@@ -117,7 +117,7 @@ fn is_four_octets(short: bool, n: usize) -> bool
 
 // Whether an attribute has the format and the size of value that its meaning asks for. Internal.
 pub fn is_formed(m: Meaning, short: bool, n: usize) -> bool
-    ensures { λ r. ⌜ r ≡ formed m short n ⌝ }
+    ensures { λ r. ⌜ r ≡ formatFits m short n ⌝ }
 {
     match m {
         Meaning::Skipped => true,

@@ -22,7 +22,7 @@ use Rattle.wire_attributes.specs.declared.tables.Place.{Place}
 use Rattle.wire_attributes.specs.declared.tables.Place.the-variants as place
 use Rattle.wire_attributes.proofs.GrammarLaws.{are-read, read-are}
 use Rattle.wire_attributes.proofs.SplitGrammar.{joined, Each, Split, together, splits, one-way}
-use Rattle.wire_policies.specs.Policy.{spiSize, headSize, headFits, spiOf}
+use Rattle.wire_policies.specs.Policy.{spiSize, headSize, headFits, headSpi}
 use Rattle.wire_policies.proofs.HeadLaws.{head-is}
 use Rattle.wire_policies.proofs.PolicyGrammar.{first, same-head, same-spi, exact-size, body-octets, known-spi, made-head}
 use Rattle.wire_bags.specs.Bag.{Bag, groupKeys, memberKeys, placeOf, bagOf, bag, bags}
@@ -98,7 +98,7 @@ module _ (b : ℕ) (o : List ℕ) where
 
   group-to : (l : List Attribute) → headFits o ≡ true → be16 o 2 ≡ length o → (oct o 0 ≡ 0 → ⊥)
       → Attributes (inBag (oct o 0)) (drop (headSize o) o) l
-      → IsBag o (groupKeys (record { protocol = oct o 0; spi = spiOf o; keys = saKeys (inBag (oct o 0)) l }))
+      → IsBag o (groupKeys (record { protocol = oct o 0; spi = headSpi o; keys = saKeys (inBag (oct o 0)) l }))
   group-to l e n z a =
       let g = head-is o e in
       let k = known-spi o e z in
@@ -126,7 +126,7 @@ module _ (b : ℕ) (o : List ℕ) where
       go : (l : List Attribute) → headFits o ≡ true → be16 o 2 ≡ length o → (t : Bool) → eqb (oct o 0) 0 ≡ t
           → Attributes (either t place.MemberBag (inBag (oct o 0))) (drop (headSize o) o) l
           → IsBag o (either t (memberKeys (record { keys = wrapKeys place.MemberBag l }))
-          (groupKeys (record { protocol = oct o 0; spi = spiOf o; keys = saKeys (inBag (oct o 0)) l })))
+          (groupKeys (record { protocol = oct o 0; spi = headSpi o; keys = saKeys (inBag (oct o 0)) l })))
       go l e n true t a = member-to l e n (eqb-true (oct o 0) 0 t) a
       go l e n false t a = group-to l e n (eqb-false (oct o 0) 0 t) a
 
@@ -156,7 +156,7 @@ module _ (b : ℕ) (o : List ℕ) where
       (sym (ap (λ (u : Bool). either u place.MemberBag (inBag (oct o 0))) t))
       (subst (λ (u : ℕ). Attributes place.MemberBag (drop u o) (i .attributes)) (sym h) (i .held)))
       (ap (λ (u : Bool). either u (memberKeys (record { keys = wrapKeys place.MemberBag (i .attributes) }))
-      (groupKeys (record { protocol = oct o 0; spi = spiOf o; keys = saKeys (inBag (oct o 0)) (i .attributes) }))) t
+      (groupKeys (record { protocol = oct o 0; spi = headSpi o; keys = saKeys (inBag (oct o 0)) (i .attributes) }))) t
       ∙ (λ j. memberKeys (record { keys = i .keys j })))
   from (groupKeys x) (is-group i) =
       let p = i .protocol in
@@ -169,14 +169,14 @@ module _ (b : ℕ) (o : List ℕ) where
       made-head o (omega arith) n (ap (λ (u : Bool). either u true (ltb 0 (spiSize (oct o 0)))) t ∙ lt-ltb 0 (spiSize (oct o 0)) k)
       (ap (λ (u : Bool). either u true (eqb (oct o 1) (spiSize (oct o 0)))) t ∙ eq-eqb (oct o 1) (spiSize (oct o 0)) (i .spiOctets
       ∙ ap spiSize (sym p))) in
-      let sp : spiOf o ≡ x .spi = ap (λ (u : ℕ). part o 4 (4 + spiSize u)) p ∙ i .spi in
+      let sp : headSpi o ≡ x .spi = ap (λ (u : ℕ). part o 4 (4 + spiSize u)) p ∙ i .spi in
       let ks : saKeys (inBag (oct o 0)) (i .attributes) ≡ x .keys = ap (λ (u : ℕ). saKeys (inBag u) (i .attributes)) p ∙ i .keys in
       opens (groupKeys x) (i .attributes) e n
       (subst (λ (q : Place). Attributes q (drop (headSize o) o) (i .attributes))
       (sym (ap (λ (u : Bool). either u place.MemberBag (inBag (oct o 0))) t))
       (subst (λ (u : ℕ). Attributes (inBag u) (drop (4 + spiSize u) o) (i .attributes)) (sym p) (i .held)))
       (ap (λ (u : Bool). either u (memberKeys (record { keys = wrapKeys place.MemberBag (i .attributes) }))
-      (groupKeys (record { protocol = oct o 0; spi = spiOf o; keys = saKeys (inBag (oct o 0)) (i .attributes) }))) t
+      (groupKeys (record { protocol = oct o 0; spi = headSpi o; keys = saKeys (inBag (oct o 0)) (i .attributes) }))) t
       ∙ (λ j. groupKeys (record { protocol = p j; spi = sp j; keys = ks j })))
 
 pub sound : (b : ℕ) (s : List ℕ) (x : Bag) (rest : List ℕ) → bag b s ≡ whole x rest → Cuts IsBag s x rest

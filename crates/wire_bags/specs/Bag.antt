@@ -12,7 +12,7 @@ use Rattle.wire_attributes.specs.declared.tables.Place.{Place}
 use Rattle.wire_attributes.specs.declared.tables.Place.the-variants as place
 use Rattle.wire_attributes.specs.Tree.{SaKey, WrapKey, saKeys, wrapKeys}
 use Rattle.wire_attributes.specs.Layout.{attributes}
-use Rattle.wire_policies.specs.Policy.{headSize, headFits, spiOf}
+use Rattle.wire_policies.specs.Policy.{headSize, headFits, headSpi}
 
 pub record GroupKeyBag : Type 0 where
   pub protocol : ℕ
@@ -34,7 +34,7 @@ placeOf p = either (eqb p 0) place.MemberBag (inBag p)
 abbrev pub bagOf : List ℕ → List Attribute → Bag
 bagOf s l =
     either (eqb (oct s 0) 0) (memberKeys (record { keys = wrapKeys place.MemberBag l }))
-    (groupKeys (record { protocol = oct s 0; spi = spiOf s; keys = saKeys (inBag (oct s 0)) l }))
+    (groupKeys (record { protocol = oct s 0; spi = headSpi s; keys = saKeys (inBag (oct s 0)) l }))
 
 unfoldable pub bag : Reader Bag
 bag b s = opened b (headFits s) (mapped (bagOf s) (within (headSize s) (be16 s structureLengthAt) (attributes (placeOf (oct s 0))) b s))

@@ -285,7 +285,8 @@ ofTwo =
 abbrev breaks : List Break
 breaks =
     ofHeader
-    ++ (ofPayload ++ (ofHead gsa ++ (ofHead kd ++ (ofMissing ++ (ofSelector ++ (ofTransform ++ (ofAttribute ++ (ofLifetime ++ (ofBehind ++ ofTwo)))))))))
+    ++ (ofPayload ++ (ofHead gsa ++
+    (ofHead kd ++ (ofMissing ++ (ofSelector ++ (ofTransform ++ (ofAttribute ++ (ofLifetime ++ (ofBehind ++ ofTwo)))))))))
 
 -- "Number 1 carries the offset of the innermost payload, policy, bag, selector, transform or attribute whose layout broke first, or 0 for
 -- the header"

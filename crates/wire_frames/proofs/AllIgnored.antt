@@ -1,4 +1,5 @@
--- What is ignored, computed: a frame with each structure that has such octets. Changing one of them, or what is free of it, changes nothing.
+-- What is ignored, computed: a frame with each structure that has such octets. Changing one of them, or what is free of it, changes
+-- nothing.
 use Prim.Native.Nat.{ℕ}
 use mathlib.Core.Path.{_≡_, refl}
 use mathlib.Core.List.{List, [], _∷_, _++_, map}

@@ -19,7 +19,7 @@ use Rattle.octets.proofs.BreakLaws.{AmongOr, among-chain}
 use Rattle.wire_attributes.specs.Answers.{layoutOf}
 use Rattle.wire_attributes.specs.declared.Layout.the-variants as layout
 use Rattle.wire_frames.specs.Header.{firstPayload, headerFits}
-use Rattle.wire_frames.specs.Frame.{Payload, payload, noneNext, payloads, exactly}
+use Rattle.wire_frames.specs.Frame.{Payload, payload, noneNext, payloads, nothingLeft}
 use Rattle.wire_frames.specs.Frame.{Frame, frameOf, frame, frameLayout, offsetOf, figure}
 use Rattle.wire_frames.specs.Grammar.{IsPayload, IsFrame}
 use Rattle.wire_frames.specs.Breaks.{BreaksPayload}
@@ -71,7 +71,7 @@ module _ (s : List ℕ) where
 
 -- THE FRAME
 module _ (s : List ℕ) (o : ℕ) where
-  exactly-to : (x : Reading (List Payload)) → payloads (oct s 16) 28 (drop 28 s) ≡ x → exactly x ≡ broken o → BreaksPayloads s o
+  exactly-to : (x : Reading (List Payload)) → payloads (oct s 16) 28 (drop 28 s) ≡ x → nothingLeft x ≡ broken o → BreaksPayloads s o
   exactly-to (whole l []) e q = not-broken q
   exactly-to (whole l (y ∷ rest)) e q =
       let h : 0 < length (y ∷ rest) = omega arith in
@@ -80,27 +80,27 @@ module _ (s : List ℕ) (o : ℕ) where
       in-payload (chain-to noneNext payload takes IsPayload sound complete BreaksPayload payload-to payload-from (oct s 16) 28 (drop 28 s) o
       (e ∙ ap broken (broken-at q)))
 
-  over-left : (l : List Payload) (rest : List ℕ) → 0 < length rest → o ≡ 0 → exactly (whole l rest) ≡ broken o
+  over-left : (l : List Payload) (rest : List ℕ) → 0 < length rest → o ≡ 0 → nothingLeft (whole l rest) ≡ broken o
   over-left l [] h e = absurd (omega arith)
   over-left l (y ∷ rest) h e = ap broken (sym e)
 
-  payloads-from : BreaksPayloads s o → exactly (payloads (oct s 16) 28 (drop 28 s)) ≡ broken o
+  payloads-from : BreaksPayloads s o → nothingLeft (payloads (oct s 16) 28 (drop 28 s)) ≡ broken o
   payloads-from (in-payload i) =
-      ap exactly (chain-from noneNext payload takes IsPayload sound complete BreaksPayload payload-to payload-from i)
+      ap nothingLeft (chain-from noneNext payload takes IsPayload sound complete BreaksPayload payload-to payload-from i)
   payloads-from (left-over {l = l} {rest = rest} f h e) =
-      ap exactly (reads noneNext payload takes IsPayload sound complete f 28) ∙ over-left l rest h e
+      ap nothingLeft (reads noneNext payload takes IsPayload sound complete f 28) ∙ over-left l rest h e
 
   pub frame-to : frame s ≡ broken o → BreaksFrame s o
   unfolding frame
   frame-to q =
-      let x = exactly (payloads (firstPayload s) 28 (drop 28 s)) in
+      let x = nothingLeft (payloads (firstPayload s) 28 (drop 28 s)) in
       structure-to (FaultOfHeader s) (BreaksPayloads s o) 0 (headerFits s) (mapped (frameOf s) x) o (header-fault s) (header-unfit s)
       (λ t e. exactly-to (payloads (oct s 16) 28 (drop 28 s)) refl (mapped-broken (frameOf s) x o e)) q
 
   pub frame-from : BreaksFrame s o → frame s ≡ broken o
   unfolding frame
   frame-from i =
-      let x = exactly (payloads (firstPayload s) 28 (drop 28 s)) in
+      let x = nothingLeft (payloads (firstPayload s) 28 (drop 28 s)) in
       structure-from (FaultOfHeader s) (BreaksPayloads s o) 0 (headerFits s) (mapped (frameOf s) x) o (header-fault s) (header-unfit s)
       (λ j. ap (mapped (frameOf s)) (payloads-from j)) i
 

@@ -23,7 +23,8 @@ use Rattle.wire_bags.specs.Bag.{bags}
 use Rattle.wire_bags.proofs.BagGrammar.{bags-read, read-bags}
 use Rattle.wire_frames.specs.Header.{firstPayload, headerFits, payloadFits}
 use Rattle.wire_frames.specs.Delete.{Delete, deleteOf, deleteFits}
-use Rattle.wire_frames.specs.Frame.{Content, gsa, kd, delete, unread, body, Payload, payloadOf, payload, noneNext, payloads, exactly}
+use Rattle.wire_frames.specs.Frame.{Content, gsa, kd, delete, unread, body, Payload, payloadOf, payload, noneNext, payloads}
+use Rattle.wire_frames.specs.Frame.{nothingLeft}
 use Rattle.wire_frames.specs.Frame.{Frame, frameOf, frame}
 use Rattle.wire_frames.specs.Grammar.{IsContent, is-gsa, is-kd, is-delete, is-unread, IsPayload, IsFrame}
 use Rattle.wire_frames.proofs.DeleteGrammar.{delete-to, delete-from}
@@ -173,7 +174,7 @@ pub complete : (k : ℕ) (b : ℕ) (o rest : List ℕ) (x : Linked ℕ Payload) 
 complete k b o rest x e i = exact (payload k) 4 sizeAt (local k) b o rest x (from k b o x i)
 
 -- THE FRAME
-exact-rest : {A : Type 0} (x : Reading A) (a : A) (rest : List ℕ) → exactly x ≡ whole a rest → (x ≡ whole a []) × (rest ≡ [])
+exact-rest : {A : Type 0} (x : Reading A) (a : A) (rest : List ℕ) → nothingLeft x ≡ whole a rest → (x ≡ whole a []) × (rest ≡ [])
 exact-rest (whole c []) a rest q = (let u : c ≡ a = cc in ap (λ y. whole y []) u, cc)
 exact-rest (whole c (y ∷ r)) a rest q = let z : _≡_ {A = ℕ} 0 1 = cc in absurd (omega arith)
 exact-rest (broken o) a rest q = let z : _≡_ {A = ℕ} 0 1 = cc in absurd (omega arith)
@@ -182,8 +183,8 @@ exact-rest (broken o) a rest q = let z : _≡_ {A = ℕ} 0 1 = cc in absurd (ome
 pub read-frame : (s : List ℕ) (x : Frame) (rest : List ℕ) → frame s ≡ whole x rest → IsFrame s x
 unfolding frame
 read-frame s x rest q =
-    let f = inverse-opened 0 (headerFits s) (mapped (frameOf s) (exactly (payloads (firstPayload s) 28 (drop 28 s)))) x rest q in
-    let g = inverse-mapped (frameOf s) (exactly (payloads (firstPayload s) 28 (drop 28 s))) x rest (f .1) in
+    let f = inverse-opened 0 (headerFits s) (mapped (frameOf s) (nothingLeft (payloads (firstPayload s) 28 (drop 28 s)))) x rest q in
+    let g = inverse-mapped (frameOf s) (nothingLeft (payloads (firstPayload s) 28 (drop 28 s))) x rest (f .1) in
     let r = exact-rest (payloads (firstPayload s) 28 (drop 28 s)) (g .item) rest (g .is) in
     let h₃ = both (eqb (be32 s 24) (length s)) (eqb (oct s 17 / 16) 2) in
     let h₁ = both-true (leb 28 (length s)) (both (leb (length s) 16384) h₃) (f .0) in
@@ -212,8 +213,8 @@ frame-read s x i =
     ∙ ap (λ (t : Bool). both t (eqb (oct s 17 / 16) 2)) (eq-eqb (be32 s 24) (length s) (i .size)) ∙ eq-eqb (oct s 17 / 16) 2 (i .major) in
     let p : payloads (firstPayload s) 28 (drop 28 s) ≡ whole (x .payloads) [] = reads noneNext payload takes IsPayload sound complete
     (i .payloads) 28 in
-    opened-is 0 (headerFits s) (mapped (frameOf s) (exactly (payloads (firstPayload s) 28 (drop 28 s)))) fit
-    ∙ ap (λ (y : Reading (List Payload)). mapped (frameOf s) (exactly y)) p
+    opened-is 0 (headerFits s) (mapped (frameOf s) (nothingLeft (payloads (firstPayload s) 28 (drop 28 s)))) fit
+    ∙ ap (λ (y : Reading (List Payload)). mapped (frameOf s) (nothingLeft y)) p
     ∙ (λ j. whole (record {
       header = record { spi = i .spi j; exchange = i .exchange j; messageId = i .messageId j };
       payloads = x .payloads;

@@ -1,4 +1,5 @@
--- The answer `Layout` by document 01's number and offset: 0 where the octets are a frame's, else 1 with the offset at which the reading broke.
+-- The answer `Layout` by document 01's number and offset: 0 where the octets are a frame's, else 1 with the offset at which the reading
+-- broke.
 use mathlib.Core.Path.{_≡_, refl, ap, sym, _∙_}
 use mathlib.Core.Logic.{_↔_}
 use mathlib.Core.List.{List, [], _∷_}

@@ -25,7 +25,7 @@ use Rattle.wire_bags.specs.Bag.{bags}
 use Rattle.wire_frames.specs.Header.{firstPayload, headerFits, payloadFits}
 use Rattle.wire_frames.specs.Delete.{deleteFits}
 use Rattle.wire_frames.specs.Frame.{Content, gsa, kd, body, Payload, payloadOf}
-use Rattle.wire_frames.specs.Frame.{payload, noneNext, payloads, exactly, Frame, frameOf, frame, frameLayout}
+use Rattle.wire_frames.specs.Frame.{payload, noneNext, payloads, nothingLeft, Frame, frameOf, frame, frameLayout}
 
 -- THE BODY of a payload of the kind k
 module _ (k h b : ℕ) (s : List ℕ) where
@@ -115,17 +115,18 @@ next-of k b s x rest =
 pub starts : (k b : ℕ) (s : List ℕ) → outline (payloads k b s) ≡ outline (payloads k (b + 0) (drop 0 s))
 starts k b s = ap (λ (c : ℕ). outline (payloads k c s)) (sym (add-zero b))
 
-exact-whole : {A : Type 0} (x : Reading A) (r : List ℕ) → outline x ≡ stops r → length r ≡ 0 → layout.Whole ≡ layoutOf (exactly x)
+exact-whole : {A : Type 0} (x : Reading A) (r : List ℕ) → outline x ≡ stops r → length r ≡ 0 → layout.Whole ≡ layoutOf (nothingLeft x)
 exact-whole (whole a []) r q e = refl
 exact-whole (whole a (y ∷ rest)) r q e = let u : y ∷ rest ≡ r = cc in absurd (omega (arith, ap length u))
 exact-whole (broken o) r q e = let z : _≡_ {A = ℕ} 0 1 = cc in absurd (omega arith)
 
-exact-left : {A : Type 0} (x : Reading A) (r : List ℕ) → outline x ≡ stops r → (length r ≡ 0 → ⊥) → layout.Broken 0 ≡ layoutOf (exactly x)
+exact-left : {A : Type 0} (x : Reading A) (r : List ℕ) → outline x ≡ stops r → (length r ≡ 0 → ⊥) →
+    layout.Broken 0 ≡ layoutOf (nothingLeft x)
 exact-left (whole a []) r q e = let u : [] ≡ r = cc in absurd (e (ap length (sym u)))
 exact-left (whole a (y ∷ rest)) r q e = refl
 exact-left (broken o) r q e = let z : _≡_ {A = ℕ} 0 1 = cc in absurd (omega arith)
 
-exact-breaks : {A : Type 0} (x : Reading A) (o : ℕ) → outline x ≡ breaks o → layout.Broken o ≡ layoutOf (exactly x)
+exact-breaks : {A : Type 0} (x : Reading A) (o : ℕ) → outline x ≡ breaks o → layout.Broken o ≡ layoutOf (nothingLeft x)
 exact-breaks (whole a []) o q = let z : _≡_ {A = ℕ} 0 1 = cc in absurd (omega arith)
 exact-breaks (whole a (y ∷ rest)) o q = let z : _≡_ {A = ℕ} 0 1 = cc in absurd (omega arith)
 exact-breaks (broken p) o q = cc
@@ -149,7 +150,7 @@ module _ (first b : ℕ) (s : List ℕ) (k at : ℕ) (l : at ≤ length s)
         at-first : (s : List ℕ) (at : ℕ) → oct (drop at s) 0 ≡ oct s at
         at-first s at = simp (getD-drop, add-zero)
 
-    pub tears : (o : ℕ) → spot.Broken o ≡ spotOf (tail s at) (payload k (b + at) (tail s at)) → layout.Broken o ≡ layoutOf (exactly
+    pub tears : (o : ℕ) → spot.Broken o ≡ spotOf (tail s at) (payload k (b + at) (tail s at)) → layout.Broken o ≡ layoutOf (nothingLeft
         (payloads first b s))
     tears o q =
         exact-breaks (payloads first b s) o
@@ -160,26 +161,26 @@ module _ (first b : ℕ) (s : List ℕ) (k at : ℕ) (l : at ≤ length s)
     stopped : outline (payloads first b s) ≡ stops (drop at s)
     stopped = chain-stops noneNext payload takes b s (outline (payloads first b s)) at k old (eq-eqb k 0 z)
 
-    pub ends : at ≡ length s → layout.Whole ≡ layoutOf (exactly (payloads first b s))
+    pub ends : at ≡ length s → layout.Whole ≡ layoutOf (nothingLeft (payloads first b s))
     ends e = exact-whole (payloads first b s) (drop at s) stopped (rw length-drop (omega arith))
 
-    pub left-over : (at ≡ length s → ⊥) → layout.Broken 0 ≡ layoutOf (exactly (payloads first b s))
+    pub left-over : (at ≡ length s → ⊥) → layout.Broken 0 ≡ layoutOf (nothingLeft (payloads first b s))
     left-over e = exact-left (payloads first b s) (drop at s) stopped (rw length-drop (λ u. e (omega arith)))
 
 -- THE FRAME
 module _ (s : List ℕ) where
   read : Reading Frame
-  read = mapped (frameOf s) (exactly (payloads (firstPayload s) 28 (drop 28 s)))
+  read = mapped (frameOf s) (nothingLeft (payloads (firstPayload s) 28 (drop 28 s)))
 
   pub frame-broken : headerFits s ≡ false → layout.Broken 0 ≡ frameLayout s
   unfolding frameLayout frame read
   frame-broken e = sym (ap layoutOf (opened-not 0 (headerFits s) read e))
 
-  pub frame-is : headerFits s ≡ true → (p : ℕ) → p ≡ firstPayload s → (y : Layout) → y ≡ layoutOf (exactly (payloads p 28 (tail s 28)))
+  pub frame-is : headerFits s ≡ true → (p : ℕ) → p ≡ firstPayload s → (y : Layout) → y ≡ layoutOf (nothingLeft (payloads p 28 (tail s 28)))
       → y ≡ frameLayout s
   unfolding frameLayout frame read
   frame-is e p pq y q =
-      q ∙ ap (λ (l : List ℕ). layoutOf (exactly (payloads p 28 l))) (to-end s 28)
-      ∙ ap (λ (u : ℕ). layoutOf (exactly (payloads u 28 (drop 28 s)))) pq
-      ∙ layout-mapped (frameOf s) (exactly (payloads (firstPayload s) 28 (drop 28 s)))
+      q ∙ ap (λ (l : List ℕ). layoutOf (nothingLeft (payloads p 28 l))) (to-end s 28)
+      ∙ ap (λ (u : ℕ). layoutOf (nothingLeft (payloads u 28 (drop 28 s)))) pq
+      ∙ layout-mapped (frameOf s) (nothingLeft (payloads (firstPayload s) 28 (drop 28 s)))
       ∙ sym (ap layoutOf (opened-is 0 (headerFits s) read e))

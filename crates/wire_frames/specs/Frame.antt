@@ -75,16 +75,16 @@ abbrev pub payloads : ℕ → Reader (List Payload)
 payloads k b s = chain noneNext payload k b s
 
 -- "Next payload 0 ends the frame exactly at its length": octets left over count for the header too
-abbrev pub exactly : {A : Type 0} → Reading A → Reading A
-exactly (whole a []) = whole a []
-exactly (whole a (x ∷ rest)) = broken 0
-exactly (broken o) = broken o
+abbrev pub nothingLeft : {A : Type 0} → Reading A → Reading A
+nothingLeft (whole a []) = whole a []
+nothingLeft (whole a (x ∷ rest)) = broken 0
+nothingLeft (broken o) = broken o
 
 abbrev pub frameOf : List ℕ → List Payload → Frame
 frameOf s l = record { header = headerOf s; payloads = l }
 
 unfoldable pub frame : List ℕ → Reading Frame
-frame s = opened 0 (headerFits s) (mapped (frameOf s) (exactly (payloads (firstPayload s) headerOctets (drop headerOctets s))))
+frame s = opened 0 (headerFits s) (mapped (frameOf s) (nothingLeft (payloads (firstPayload s) headerOctets (drop headerOctets s))))
 
 -- THE LAYOUT OF A FRAME: whole, or refusal 1 with the offset that it carries
 unfoldable pub frameLayout : List ℕ → Layout

@@ -4,7 +4,7 @@ ghost use Prim.Native.Nat.{_+_, _<_};
 ghost use lib.ListN.{length};
 ghost use Rattle.wire_attributes.specs.Answers.{layoutOf, spotOf};
 ghost use Rattle.wire_frames.specs.Delete.{deleteFits};
-ghost use Rattle.wire_frames.specs.Frame.{body, payload, payloads, exactly};
+ghost use Rattle.wire_frames.specs.Frame.{body, payload, payloads, nothingLeft};
 ghost use Rattle.wire_frames.specs.Laid.{Laid};
 ghost use Rattle.wire_frames.specs.inner.Answers.{headerRead, payloadRead};
 use ikev2_numbers::CRITICAL;
@@ -43,7 +43,7 @@ pub enum HeaderRead {
 }
 
 // The IKE header that the octets start with, if it is that of a frame of all these octets. Internal.
-pub fn header_read(s: &[u8]) -> HeaderRead
+pub fn read_header(s: &[u8]) -> HeaderRead
     ensures { λ r. ⌜ r ≡ headerRead (now (s .entry)) ⌝ }
 {
     if s.len() < HEADER {
@@ -76,7 +76,7 @@ pub enum PayloadRead {
 }
 
 // The generic payload header that the octets start with. Internal.
-pub fn payload_read(s: &[u8]) -> PayloadRead
+pub fn read_payload(s: &[u8]) -> PayloadRead
     ensures { λ r. ⌜ r ≡ payloadRead (now (s .entry)) ⌝ }
 {
     if octets::numbers::is_sized(s, PAYLOAD_HEADER) {
@@ -134,7 +134,7 @@ pub fn payload_spot(kind: usize, s: &[u8], base: usize) -> Spot
     if s.len() == 0 {
         return Spot::Broken(0);
     }
-    match payload_read(s) {
+    match read_payload(s) {
         PayloadRead::Payload {
             next: _,
             critical: _,
@@ -150,7 +150,7 @@ pub fn payload_spot(kind: usize, s: &[u8], base: usize) -> Spot
 // Whether the octets, which start at the offset base, are payloads to their end, the first of a kind. Internal.
 fn payloads_layout(first: usize, s: &[u8], base: usize) -> Layout
     requires { ⌜ base + length (now s) < 4294967296 ⌝ }
-    ensures { λ r. ⌜ r ≡ layoutOf (exactly (payloads first base (now (s .entry)))) ⌝ }
+    ensures { λ r. ⌜ r ≡ layoutOf (nothingLeft (payloads first base (now (s .entry)))) ⌝ }
 {
     let mut kind = first;
     let mut at = 0;
@@ -175,7 +175,7 @@ fn payloads_layout(first: usize, s: &[u8], base: usize) -> Layout
 pub fn frame_layout(s: &[u8]) -> Layout
     ensures { λ r. ⌜ Laid (now (s .entry)) r ⌝ }
 {
-    match header_read(s) {
+    match read_header(s) {
         HeaderRead::Header {
             first,
             exchange: _,

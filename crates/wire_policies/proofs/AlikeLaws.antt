@@ -96,7 +96,8 @@ module _ (p : Place) (s : List ℕ) (x : SaBody) (i : IsSaBody p s x) where
         from = i .from;
         to = i .to;
         transforms = c .spans;
-        attributes = subst (λ (u : List ℕ). Attributes p u (x .suite .attributes)) (alike-all (i .tail) (c .left) (c .alike)) (i .attributes);
+        attributes = subst (λ (u : List ℕ). Attributes p u (x .suite .attributes)) (alike-all (i .tail) (c .left) (c .alike))
+            (i .attributes);
       }
 
 -- A HEAD whose second octet is reserved: a group-wide policy's, and a Member Key Bag's

@@ -22,7 +22,7 @@ use Rattle.wire_attributes.specs.declared.tables.Place.the-variants as place
 use Rattle.wire_attributes.proofs.GrammarLaws.{are-read, read-are}
 use Rattle.wire_attributes.proofs.SplitGrammar.{joined, Each, Split, together, splits, one-way}
 use Rattle.wire_policies.specs.Transform.{transforms}
-use Rattle.wire_policies.specs.Policy.{spiSize, firstKnown, spiSized, headSize, headFits, spiOf, GroupWidePolicy, Policy}
+use Rattle.wire_policies.specs.Policy.{spiSize, firstKnown, spiSized, headSize, headFits, headSpi, GroupWidePolicy, Policy}
 use Rattle.wire_policies.specs.Policy.{groupSa, groupWide}
 use Rattle.wire_policies.specs.Policy.{suite, SaBody, saBody, groupSaOf, groupWideOf, policyHolds, policy, policies}
 use Rattle.wire_policies.specs.Grammar.{IsSaBody, IsPolicy, is-sa, is-wide, Policies}
@@ -68,7 +68,7 @@ module _ (o r : List ℕ) (l : 4 ≤ length o) (k : be16 o 2 ≤ length o) where
       (both (firstKnown (first i)) (either (eqb (first i) 0) true (eqb (oct-append o r 1 (omega arith) i) (spiSize (first i))))))
       ∙ ap (λ (t : Bool). both t (both (firstKnown (oct o 0)) (spiSized o))) (size-append o r (headSize o) l k)
 
-  pub same-spi : headFits o ≡ true → spiOf (o ++ r) ≡ spiOf o
+  pub same-spi : headFits o ≡ true → headSpi (o ++ r) ≡ headSpi o
   same-spi e =
       let f = head-is o e in
       ap (λ (t : ℕ). part (o ++ r) 4 (4 + spiSize t)) first
@@ -226,7 +226,7 @@ module _ (b : ℕ) (o : List ℕ) where
       ∙ ap spiSize (sym p))) in
       let a : IsSaBody (inPolicy (oct o 0)) (drop (headSize o) o) (i .body) =
       subst (λ (u : ℕ). IsSaBody (inPolicy u) (drop (4 + spiSize u) o) (i .body)) (sym p) (i .holds) in
-      let sp : spiOf o ≡ x .spi = ap (λ (u : ℕ). part o 4 (4 + spiSize u)) p ∙ i .spi in
+      let sp : headSpi o ≡ x .spi = ap (λ (u : ℕ). part o 4 (4 + spiSize u)) p ∙ i .spi in
       let ids : initialMessageIds (inPolicy (oct o 0)) (i .body .suite .attributes) ≡ x .initialMessageIds =
       ap (λ (u : ℕ). initialMessageIds (inPolicy u) (i .body .suite .attributes)) p ∙ i .initialMessageIds in
       let lives : keyLifetimes (inPolicy (oct o 0)) (i .body .suite .attributes) ≡ x .keyLifetimes =

@@ -37,8 +37,8 @@ headSize s = policyHeadOctets + spiSize (oct s 0)
 abbrev pub headFits : List ℕ → Bool
 headFits s = both (sized (headSize s) s) (both (firstKnown (oct s 0)) (spiSized s))
 
-abbrev pub spiOf : List ℕ → List ℕ
-spiOf s = part s policyHeadOctets (headSize s)
+abbrev pub headSpi : List ℕ → List ℕ
+headSpi s = part s policyHeadOctets (headSize s)
 
 -- THE TREE
 pub record GroupSaPolicy : Type 0 where
@@ -79,7 +79,7 @@ saBody h p =
 abbrev pub groupSaOf : List ℕ → SaBody → Policy
 groupSaOf s x = groupSa (record {
   protocol = oct s 0;
-  spi = spiOf s;
+  spi = headSpi s;
   source = x .source;
   destination = x .destination;
   transforms = x .suite .transforms;

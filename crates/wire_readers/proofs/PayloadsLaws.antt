@@ -13,18 +13,18 @@ use Rattle.octets.proofs.Numerals.{sized-is}
 use Rattle.octets.proofs.Grammar.{FirstSpan, first-span}
 use Rattle.wire_readers.specs.inner.Values.{isWhole, itemsOf}
 use Rattle.wire_frames.specs.Header.{payloadFits}
-use Rattle.wire_frames.specs.Frame.{Payload, payloadOf, payload, noneNext, payloads, exactly}
+use Rattle.wire_frames.specs.Frame.{Payload, payloadOf, payload, noneNext, payloads, nothingLeft}
 use Rattle.wire_frames.specs.Grammar.{IsContent, IsPayload}
 use Rattle.wire_readers.specs.inner.Payloads.{payloadsIn, PayloadIs}
 use Rattle.wire_frames.proofs.PayloadLaws.{takes}
 use Rattle.wire_frames.proofs.FrameGrammar.{body-to, Read, inverse, sound, complete}
 
-exact-is : {A : Type 0} (x : Reading (List A)) → isWhole (exactly x) ≡ true → x ≡ whole (itemsOf x) []
+exact-is : {A : Type 0} (x : Reading (List A)) → isWhole (nothingLeft x) ≡ true → x ≡ whole (itemsOf x) []
 exact-is (whole l []) e = refl
 exact-is (whole l (y ∷ r)) e = let z : _≡_ {A = ℕ} 0 1 = cc in absurd (omega arith)
 exact-is (broken o) e = let z : _≡_ {A = ℕ} 0 1 = cc in absurd (omega arith)
 
-module _ (k : ℕ) (s : List ℕ) (z : k ≡ 0 → ⊥) (e : isWhole (exactly (payloads k 0 s)) ≡ true) where
+module _ (k : ℕ) (s : List ℕ) (z : k ≡ 0 → ⊥) (e : isWhole (nothingLeft (payloads k 0 s)) ≡ true) where
   span : FirstSpan noneNext payload takes IsPayload sound complete k s (payloadsIn k s) []
   span = first-span noneNext payload takes IsPayload sound complete 0 k s (payloadsIn k s) [] (ne-eqb k 0 z) (exact-is (payloads k 0 s) e)
 
@@ -57,5 +57,5 @@ module _ (k : ℕ) (s : List ℕ) (z : k ≡ 0 → ⊥) (e : isWhole (exactly (p
             (body-to k 0 (part s 4 (be16 s 2)) (0 + 4) (f .held) (f .left) (f .inner));
         item =
             o ∙ (λ i. record { kind = k; critical = leb 128 (sym cq i); content = f .held } ∷ itemsOf (sym t i));
-        rest = ap (λ (x : Reading (List Payload)). isWhole (exactly x)) t;
+        rest = ap (λ (x : Reading (List Payload)). isWhole (nothingLeft x)) t;
       }

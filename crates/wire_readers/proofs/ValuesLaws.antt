@@ -12,9 +12,9 @@ use Rattle.octets.specs.Walk.{be16, part, either, Reading, whole, broken}
 use Rattle.octets.proofs.Walks.{both-true, part-length, many-none}
 use Rattle.octets.proofs.Inverse.{inverse-opened}
 use Rattle.octets.proofs.Grammar.{first-rest}
-use Rattle.wire_attributes.specs.Attribute.{Attribute, isShort, kindOf, sizeOf, valueOf, attributeOf, leadOf, spanOf, fits}
+use Rattle.wire_attributes.specs.Attribute.{Attribute, isShort, kindOf, attributeSize, valueOctets, attributeOf, leadOf, spanOf, fits}
 use Rattle.wire_attributes.specs.Answers.{valueAt, valueStart}
-use Rattle.wire_attributes.specs.Place.{meaningOf, wrappedSize, formed}
+use Rattle.wire_attributes.specs.Place.{meaningOf, wrappedSize, formatFits}
 use Rattle.wire_attributes.specs.Tree.{codeOf, means, valuesOf}
 use Rattle.wire_attributes.specs.Layout.{formedIn, fitsIn, attribute, attributes}
 use Rattle.wire_attributes.specs.Grammar.{IsAttribute}
@@ -40,10 +40,10 @@ pub is-whole : {A : Type 0} (x : Reading (List A)) (l : List A) (rest : List ℕ
 is-whole x l rest e = (ap isWhole e, ap itemsOf e)
 
 attribute-is : (p : Place) (b : ℕ) (s : List ℕ) (a : Attribute) (rest : List ℕ) → attribute p b s ≡ whole a rest
-    → (fits s ≡ true) × (attributeOf s ≡ a) × (drop (sizeOf s) s ≡ rest) × (formedIn p (attributeOf s) ≡ true)
+    → (fits s ≡ true) × (attributeOf s ≡ a) × (drop (attributeSize s) s ≡ rest) × (formedIn p (attributeOf s) ≡ true)
 unfolding attribute
 attribute-is p b s a rest q =
-    let f = inverse-opened b (fitsIn p s) (whole (attributeOf s) (drop (sizeOf s) s)) a rest q in
+    let f = inverse-opened b (fitsIn p s) (whole (attributeOf s) (drop (attributeSize s) s)) a rest q in
     let g = both-true (fits s) (formedIn p (attributeOf s)) (f .0) in
     let e = f .1 in
     (g .0, cc, cc, g .1)
@@ -68,7 +68,7 @@ same-code : (m k : Meaning) → codeOf m ≡ codeOf k → m ≡ k
 same-code m k e = sym (at-code m) ∙ ap meaningAt e ∙ at-code k
 
 -- what is formed has its size
-sized : (m : Meaning) (short : Bool) (n : ℕ) → formed m short n ≡ true → (short ≡ true → n ≡ 2) → valueSize m n ≡ true
+sized : (m : Meaning) (short : Bool) (n : ℕ) → formatFits m short n ≡ true → (short ≡ true → n ≡ 2) → valueSize m n ≡ true
 sized meaning.Skipped short n f h = refl
 sized meaning.KeyLength short n f h = eq-eqb n 2 (h f)
 sized meaning.InitialMessageId short n f h = both-true (not short) (eqb n 4) f .1
@@ -80,16 +80,16 @@ sized meaning.WrapKey short n f h = both-true (not short) (wrappedSize n) f .1
 record Head (p : Place) (s : List ℕ) : Type 0 where
   fit : fits s ≡ true
   formed : formedIn p (attributeOf s) ≡ true
-  first : attributesIn p s ≡ attributeOf s ∷ attributesIn p (drop (sizeOf s) s)
-  rest : isWhole (attributes p 0 (drop (sizeOf s) s)) ≡ true
+  first : attributesIn p s ≡ attributeOf s ∷ attributesIn p (drop (attributeSize s) s)
+  rest : isWhole (attributes p 0 (drop (attributeSize s) s)) ≡ true
 
 head-of : (p : Place) (s : List ℕ) → isWhole (attributes p 0 s) ≡ true → 0 < length s → Head p s
 head-of p s e h =
     let w = whole-is (attributes p 0 s) e in
     let f = first-rest (attribute p) (takes p) (IsAttribute p) (sound p) (complete p) 0 s (attributesIn p s) (w .0) h (w .1) in
     let g = attribute-is p 0 s (f .item) (drop (f .size) s) (f .is 0) in
-    let k : attributes p 0 (drop (sizeOf s) s) ≡ whole (f .others) [] = ap (attributes p 0) (g .2) ∙ f .rest 0 in
-    let i = is-whole (attributes p 0 (drop (sizeOf s) s)) (f .others) [] k in
+    let k : attributes p 0 (drop (attributeSize s) s) ≡ whole (f .others) [] = ap (attributes p 0) (g .2) ∙ f .rest 0 in
+    let i = is-whole (attributes p 0 (drop (attributeSize s) s)) (f .others) [] k in
     record {
       fit = g .0;
       formed = g .3;
@@ -126,7 +126,7 @@ module _ (m : Meaning) (p : Place) (s : List ℕ) (at : ℕ) (e : isWhole (attri
           let i = read-inside (drop at s) short kind a n f in
           (omega (arith, i .2), omega (arith, i .1, length-drop at s), i .0)
 
-      size-is : drop (sizeOf (drop at s)) (drop at s) ≡ drop (at + n) s
+      size-is : drop (attributeSize (drop at s)) (drop at s) ≡ drop (at + n) s
       size-is = ap (λ (y : ℕ). drop y (drop at s)) (f .size) ∙ drop-drop n at s
 
       pub next-whole : isWhole (attributes p 0 (drop (at + n) s)) ≡ true
@@ -148,7 +148,7 @@ module _ (m : Meaning) (p : Place) (s : List ℕ) (at : ℕ) (e : isWhole (attri
       unfolding valuesOf
       hit c w cq wq eq =
           let d : at + n - (at + a) ≡ n - a = omega arith in
-          let v : valueOf (drop at s) ≡ part s (at + a) (at + n) = rw (f .start, f .size, d, drop-drop a at s) in
+          let v : valueOctets (drop at s) ≡ part s (at + a) (at + n) = rw (f .start, f .size, d, drop-drop a at s) in
           ap (valuesOf m p) listed ∙ rw (meant c w cq wq, eq-eqb c w eq) (ap (λ (y : List ℕ). y ∷ valuesIn m p (drop (at + n) s)) v)
 
       pub starts-after : 0 < a
@@ -159,7 +159,7 @@ module _ (m : Meaning) (p : Place) (s : List ℕ) (at : ℕ) (e : isWhole (attri
           go false q = omega arith
 
       -- a value has the size that its meaning asks for
-      value-length : length (valueOf (drop at s)) ≡ at + n - (at + a)
+      value-length : length (valueOctets (drop at s)) ≡ at + n - (at + a)
       value-length =
           let i = read-inside (drop at s) short kind a n f in
           let d : n - a ≡ at + n - (at + a) = omega arith in
@@ -202,7 +202,7 @@ module _ (m : Meaning) (p : Place) (s : List ℕ) (at : ℕ) (e : isWhole (attri
           let k : m ≡ meaningOf p (kindOf (drop at s)) =
           sym (ap (meaningOf p) (f .type) ∙ same-code (meaningOf p kind) m (sym cq ∙ eq ∙ wq)) in
           sized m (isShort (drop at s)) (at + n - (at + a))
-          ((λ j. formed (k j) (isShort (drop at s)) (sym value-length j)) ∙ head .formed) short-value
+          ((λ j. formatFits (k j) (isShort (drop at s)) (sym value-length j)) ∙ head .formed) short-value
 
 -- what the attribute met says of the value that `attribute_value` hands on
 module _ (m : Meaning) (p : Place) (s : List ℕ) (from b e : ℕ) (f : MetAt m p s from b e) where

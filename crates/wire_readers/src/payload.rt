@@ -2,7 +2,7 @@
 ghost use mathlib.Core.Path.{_≡_};
 ghost use mathlib.Core.Bool.{true};
 ghost use Rattle.wire_readers.specs.inner.Values.{isWhole};
-ghost use Rattle.wire_frames.specs.Frame.{payloads, exactly};
+ghost use Rattle.wire_frames.specs.Frame.{payloads, nothingLeft};
 ghost use Rattle.wire_readers.specs.inner.Payloads.{PayloadIs};
 use ikev2_numbers::CRITICAL;
 use ikev2_numbers::STRUCTURE_LENGTH_AT;
@@ -16,7 +16,7 @@ pub struct PayloadParts {
 
 // The first of the payloads that the octets are, which is of a kind. Internal.
 pub fn payload_parts(kind: usize, s: &[u8]) -> PayloadParts
-    requires { ⌜ (kind ≡ 0 → ⊥) × (isWhole (exactly (payloads kind 0 (now s))) ≡ true) ⌝ }
+    requires { ⌜ (kind ≡ 0 → ⊥) × (isWhole (nothingLeft (payloads kind 0 (now s))) ≡ true) ⌝ }
     ensures { λ r. ⌜ PayloadIs kind (now (s .entry)) r ⌝ }
 {
     PayloadParts {

@@ -4,26 +4,27 @@ ghost use mathlib.Core.Bool.{true};
 ghost use Prim.Native.Nat.{_+_, _≤_, _<_};
 ghost use lib.ListN.{length, drop};
 ghost use Rattle.wire_attributes.specs.Layout.{attributes};
-ghost use Rattle.wire_readers.specs.inner.Values.{isWhole, valuesIn, Meets, firstValue, firstStart, valueSize};
+ghost use Rattle.wire_readers.specs.inner.Values.{isWhole, valuesIn, FindsValue, firstValue, firstStart, valueSize};
 use wire_attributes::Read;
 use wire_attributes::tables::Meaning;
 use wire_attributes::tables::Place;
 
 // Where an attribute stands, from and up to.
-pub enum Found {
+pub enum ValueFound {
     At(usize, usize),
     Nothing,
 }
 
-// The first attribute from a place on that has a meaning: where it stands, for `wire_attributes::attribute_value`, and where it ends. Internal.
-pub fn next_attribute(m: Meaning, place: Place, s: &[u8], from: usize) -> Found
+// The first attribute from a place on that has a meaning: where it stands, for `wire_attributes::attribute_value`, and where it ends.
+// Internal.
+pub fn next_attribute(m: Meaning, place: Place, s: &[u8], from: usize) -> ValueFound
     requires { ⌜ (from ≤ length (now s)) × (isWhole (attributes place 0 (drop from (now s))) ≡ true) ⌝ }
-    ensures { λ r. ⌜ Meets m place (now (s .entry)) from r ⌝ }
+    ensures { λ r. ⌜ FindsValue m place (now (s .entry)) from r ⌝ }
 {
     let wanted = wire_attributes::tables::code(m);
     let mut at = from;
     while at < s.len() {
-        match wire_attributes::attribute_read(&s[at..]) {
+        match wire_attributes::read_attribute(&s[at..]) {
             Read::Attribute {
                 short: _,
                 kind,
@@ -34,16 +35,16 @@ pub fn next_attribute(m: Meaning, place: Place, s: &[u8], from: usize) -> Found
                 if wire_attributes::tables::code(wire_attributes::tables::meaning_in(place, kind))
                     == wanted
                 {
-                    return Found::At(at, next);
+                    return ValueFound::At(at, next);
                 }
                 at = next;
             }
             Read::Cut => {
-                return Found::Nothing;
+                return ValueFound::Nothing;
             }
         }
     }
-    Found::Nothing
+    ValueFound::Nothing
 }
 
 // The value of that attribute, where it stands; none where no attribute from the place on has the meaning. Internal.
@@ -53,8 +54,8 @@ pub fn value_of(m: Meaning, place: Place, s: &[u8], from: usize) -> &[u8]
     ensures { λ r. ⌜ r .ptr ≡ (s .entry .ptr .0, firstStart m place (now (s .entry)) from + s .entry .ptr .1) ⌝ }
 {
     match next_attribute(m, place, s, from) {
-        Found::At(at, _) => wire_attributes::attribute_value(s, at),
-        Found::Nothing => &s[0..0],
+        ValueFound::At(at, _) => wire_attributes::attribute_value(s, at),
+        ValueFound::Nothing => &s[0..0],
     }
 }
 
@@ -67,11 +68,11 @@ pub fn count_of(m: Meaning, place: Place, s: &[u8]) -> usize
     let mut at = 0;
     loop {
         match next_attribute(m, place, s, at) {
-            Found::At(_, e) => {
+            ValueFound::At(_, e) => {
                 n = n + 1;
                 at = e;
             }
-            Found::Nothing => {
+            ValueFound::Nothing => {
                 return n;
             }
         }

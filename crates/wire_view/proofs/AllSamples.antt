@@ -11,8 +11,8 @@ use Rattle.wire_attributes.specs.declared.tables.Meaning.the-variants as meanin
 use Rattle.wire_policies.specs.Selector.{selector}
 use Rattle.wire_policies.specs.Transform.{transform}
 use Rattle.wire_policies.specs.Policy.{suite, saBody, policy}
-use Rattle.wire_view.specs.View.{firstOctet, kindOf, spiOf, spiStart, octetsIn, shownAttributes, itemsOf}
-use Rattle.wire_view.specs.View.{stays, stepAt, itemAt, nextAfter, isAtEnd, shownIn}
+use Rattle.wire_view.specs.View.{firstOctet, shownKind, shownSpi, spiStart, attributesSpan, shownAttributes, shownItems}
+use Rattle.wire_view.specs.View.{stayStep, stepAt, itemAt, nextAfter, isAtEnd, shownIn}
 use Rattle.wire_view.specs.declared.items.Item.{Item}
 use Rattle.wire_view.specs.declared.items.Item.the-variants as item
 use Rattle.wire_view.specs.declared.read.Kind.{Kind}
@@ -27,7 +27,7 @@ pub record Shown : Type 0 where
   pub items : List Item
 
 abbrev shown : List ℕ → Shown
-shown s = record { kind = kindOf s; first = firstOctet (kindOf s); spi = spiOf s; start = spiStart s; items = itemsOf s }
+shown s = record { kind = shownKind s; first = firstOctet (shownKind s); spi = shownSpi s; start = spiStart s; items = shownItems s }
 
 abbrev nothing : Shown
 nothing = record { kind = kind.Nothing; first = []; spi = []; start = 0; items = [] }
@@ -55,16 +55,16 @@ two-key-lengths : shown esp ≡ record {
       item.Selector 7 17 848 848 16 24 ∷ item.Selector 7 17 849 849 32 40 ∷ item.Transform 1 20 2 128
       ∷ item.Attribute meaning.KeyLifetime false 1 60 64 ∷ [];
 }
-unfolding policy suite saBody selector transform attribute many chain chainUpTo number valuesOf octetsIn shownAttributes
+unfolding policy suite saBody selector transform attribute many chain chainUpTo number valuesOf attributesSpan shownAttributes
 two-key-lengths = refl
 
 -- THE STEPS THROUGH IT, from offset to offset: the destination selector stands at 24, the transform at 40, the attribute at 56, and 64 is
 -- the end
-steps : (shownIn 9 esp 0 ≡ itemsOf esp)
+steps : (shownIn 9 esp 0 ≡ shownItems esp)
     × (map (nextAfter esp) (0 ∷ 97 ∷ 162 ∷ 227 ∷ 259 ∷ []) ≡ 97 ∷ 162 ∷ 227 ∷ 259 ∷ 259 ∷ [])
     × (map (isAtEnd esp) (0 ∷ 97 ∷ 162 ∷ 227 ∷ 259 ∷ []) ≡ false ∷ false ∷ false ∷ false ∷ true ∷ [])
     × (itemAt esp 162 ≡ item.Transform 1 20 2 128)
-unfolding policy suite saBody selector transform attribute many chain chainUpTo number valuesOf octetsIn shownAttributes shownIn
+unfolding policy suite saBody selector transform attribute many chain chainUpTo number valuesOf attributesSpan shownAttributes shownIn
 steps = (refl, refl, refl, refl)
 
 -- of two transforms the second comes behind the first
@@ -74,7 +74,7 @@ unfolding transform attribute many chain chainUpTo number valuesOf
 two-transforms = refl
 
 -- cursors that no step answers: inside a selector, at the octets' end, behind it; an attribute is read where a transform stands
-nowhere : map (stepAt esp) (41 ∷ 257 ∷ 258 ∷ 9999 ∷ []) ≡ map stays (41 ∷ 257 ∷ 258 ∷ 9999 ∷ [])
+nowhere : map (stepAt esp) (41 ∷ 257 ∷ 258 ∷ 9999 ∷ []) ≡ map stayStep (41 ∷ 257 ∷ 258 ∷ 9999 ∷ [])
 unfolding selector transform attribute number
 nowhere = refl
 
@@ -84,21 +84,21 @@ elsewhere = refl
 
 -- group-wide policies: an empty one shows nothing and is at its end at once; one with a delay of 5
 wide : (shown (0 ∷ 9 ∷ 0 ∷ 4 ∷ []) ≡ record { kind = kind.GroupWide; first = 0 ∷ []; spi = []; start = 0; items = [] })
-    × (stepAt (0 ∷ 9 ∷ 0 ∷ 4 ∷ []) 0 ≡ stays 0) × (isAtEnd (0 ∷ 9 ∷ 0 ∷ 4 ∷ []) 0 ≡ true)
-    × (itemsOf (0 ∷ 9 ∷ 0 ∷ 8 ∷ 128 ∷ 2 ∷ 0 ∷ 5 ∷ []) ≡ item.Attribute meaning.DeactivationDelay true 2 6 8 ∷ [])
+    × (stepAt (0 ∷ 9 ∷ 0 ∷ 4 ∷ []) 0 ≡ stayStep 0) × (isAtEnd (0 ∷ 9 ∷ 0 ∷ 4 ∷ []) 0 ≡ true)
+    × (shownItems (0 ∷ 9 ∷ 0 ∷ 8 ∷ 128 ∷ 2 ∷ 0 ∷ 5 ∷ []) ≡ item.Attribute meaning.DeactivationDelay true 2 6 8 ∷ [])
     × (map (nextAfter (0 ∷ 9 ∷ 0 ∷ 8 ∷ 128 ∷ 2 ∷ 0 ∷ 5 ∷ [])) (0 ∷ 19 ∷ 35 ∷ []) ≡ 35 ∷ 35 ∷ 35 ∷ [])
-unfolding policy suite saBody selector transform attribute many chain chainUpTo number valuesOf octetsIn shownAttributes
+unfolding policy suite saBody selector transform attribute many chain chainUpTo number valuesOf attributesSpan shownAttributes
 wide = (refl, refl, refl, refl, refl)
 
 -- no policy: no octet, one octet left over, another first octet, a policy cut short
 none : map shown ([] ∷ (0 ∷ 9 ∷ 0 ∷ 4 ∷ 0 ∷ []) ∷ (1 ∷ 4 ∷ 0 ∷ 8 ∷ 9 ∷ 8 ∷ 7 ∷ 6 ∷ []) ∷ (3 ∷ 4 ∷ 0 ∷ 9 ∷ 9 ∷ 8 ∷ 7 ∷ 6 ∷ []) ∷ [])
     ≡ nothing ∷ nothing ∷ nothing ∷ nothing ∷ []
-unfolding policy suite saBody selector transform attribute many chain chainUpTo number valuesOf octetsIn shownAttributes
+unfolding policy suite saBody selector transform attribute many chain chainUpTo number valuesOf attributesSpan shownAttributes
 none = refl
 
 -- a step through no policy shows nothing, from the start and, where the length counts other octets, from anywhere
-none-shown : (map (stepAt (1 ∷ 4 ∷ 0 ∷ 8 ∷ 9 ∷ 8 ∷ 7 ∷ 6 ∷ [])) (0 ∷ 17 ∷ 18 ∷ []) ≡ map stays (0 ∷ 17 ∷ 18 ∷ []))
-    × (map (stepAt (0 ∷ 9 ∷ 0 ∷ 4 ∷ 128 ∷ 2 ∷ 0 ∷ 5 ∷ [])) (0 ∷ 19 ∷ []) ≡ map stays (0 ∷ 19 ∷ []))
-    × (map (stepAt []) (0 ∷ 3 ∷ 19 ∷ []) ≡ map stays (0 ∷ 3 ∷ 19 ∷ []))
+none-shown : (map (stepAt (1 ∷ 4 ∷ 0 ∷ 8 ∷ 9 ∷ 8 ∷ 7 ∷ 6 ∷ [])) (0 ∷ 17 ∷ 18 ∷ []) ≡ map stayStep (0 ∷ 17 ∷ 18 ∷ []))
+    × (map (stepAt (0 ∷ 9 ∷ 0 ∷ 4 ∷ 128 ∷ 2 ∷ 0 ∷ 5 ∷ [])) (0 ∷ 19 ∷ []) ≡ map stayStep (0 ∷ 19 ∷ []))
+    × (map (stepAt []) (0 ∷ 3 ∷ 19 ∷ []) ≡ map stayStep (0 ∷ 3 ∷ 19 ∷ []))
 unfolding policy selector transform attribute number
 none-shown = (refl, refl, refl)

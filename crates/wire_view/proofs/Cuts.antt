@@ -18,7 +18,7 @@ use Rattle.wire_policies.specs.Transform.{Transform, noMore}
 use Rattle.wire_policies.specs.Policy.{spiSize, GroupSaPolicy, GroupWidePolicy, Policy, groupSa, groupWide, SaBody, policy}
 use Rattle.wire_policies.specs.Grammar.{IsSelector, IsTransform, IsSaBody, IsGroupSa, IsGroupWide, IsPolicy, is-sa, is-wide}
 use Rattle.wire_policies.proofs.PolicyGrammar.{complete}
-use Rattle.wire_view.specs.View.{octetsIn, shownSelector, shownTransform, shownAttributes, shownBody, itemsOf}
+use Rattle.wire_view.specs.View.{attributesSpan, shownSelector, shownTransform, shownAttributes, shownBody, shownItems}
 use Rattle.wire_view.specs.declared.items.Item.{Item}
 use Rattle.wire_view.specs.declared.items.Item.the-variants as item
 use Rattle.wire_view.proofs.AttributeLaws.{of-format, row-octets}
@@ -77,9 +77,9 @@ attributes-cut : {p : Place} {s : List ℕ} {l : List Attribute} → Row (IsAttr
 unfolding shownAttributes
 attributes-cut no-more w b e d q = refl
 attributes-cut {p = p} (then o s {a = a} {l = l} i r) w b e d q =
-    let c : e - octetsIn (a ∷ l) ≡ b = omega (arith, row-octets (then o s i r), q) in
+    let c : e - attributesSpan (a ∷ l) ≡ b = omega (arith, row-octets (then o s i r), q) in
     let m : b + length o + length s ≡ e = omega (arith, length-append o s, q) in
-    let x : part w (e - octetsIn (a ∷ l) + leadOf a) (e - octetsIn (a ∷ l) + leadOf a + length (a .value)) ≡ a .value =
+    let x : part w (e - attributesSpan (a ∷ l) + leadOf a) (e - attributesSpan (a ∷ l) + leadOf a + length (a .value)) ≡ a .value =
     (λ j. part w (c j + leadOf a) (c j + leadOf a + length (a .value))) ∙ attribute-cut w b o s d a (i .format) in
     λ j. x j ∷ attributes-cut r w (b + length o) e (after w b o s d) m j
 
@@ -140,7 +140,7 @@ reads : (s : List ℕ) (x : Policy) → IsPolicy s x → policy 0 s ≡ whole x 
 reads s x i = ap (policy 0) (sym (append-nil s)) ∙ complete 0 s [] x i
 
 pub cuts-sa : (s : List ℕ) (x : GroupSaPolicy) (i : IsGroupSa s x)
-    → map (stretch s) (itemsOf s)
+    → map (stretch s) (shownItems s)
     ≡ addresses (x .source) ∷ addresses (x .destination) ∷ (map no-stretch (x .transforms) ++ map value (i .body .suite .attributes))
 cuts-sa s x i =
     let l = i .body .suite .attributes in
@@ -148,7 +148,7 @@ cuts-sa s x i =
     ∙ body-cut (inPolicy (x .protocol)) s (4 + spiSize (x .protocol)) (i .body) (i .holds) (i .least)
     ∙ (λ j. addresses (i .source j) ∷ addresses (i .destination j) ∷ (map no-stretch (i .transforms j) ++ map value l))
 
-pub cuts-wide : (s : List ℕ) (x : GroupWidePolicy) (i : IsGroupWide s x) → map (stretch s) (itemsOf s) ≡ map value (i .attributes)
+pub cuts-wide : (s : List ℕ) (x : GroupWidePolicy) (i : IsGroupWide s x) → map (stretch s) (shownItems s) ≡ map value (i .attributes)
 cuts-wide s x i =
     ap (map (stretch s)) (wide-items s x (reads s (groupWide x) (is-wide i)) i)
     ∙ attributes-cut (i .held) s 4 (length s) refl (omega (arith, i .least, length-drop 4 s))

@@ -28,9 +28,9 @@ use Rattle.wire_policies.proofs.PolicyGrammar.{inverse, sound}
 use Rattle.wire_policies.proofs.BodyGrammar.{body-from}
 use Rattle.wire_readers.specs.inner.Values.{isWhole, attributesIn}
 use Rattle.wire_readers.proofs.ValuesLaws.{is-whole}
-use Rattle.wire_view.specs.View.{onAll, firstOctet, octetOf, kindIn, kindOf, spiIn, spiOf, spiStartIn, spiStart}
-use Rattle.wire_view.specs.View.{shownSelector, shownTransform, shownAttributes, shownBody, itemsIn, itemsOf}
-use Rattle.wire_view.specs.View.{stays, atDestination, selectorStep, placeOf, attributeStep, firstIn, firstStep, counted}
+use Rattle.wire_view.specs.View.{onAll, firstOctet, octetOf, kindIn, shownKind, spiIn, shownSpi, spiStartIn, spiStart}
+use Rattle.wire_view.specs.View.{shownSelector, shownTransform, shownAttributes, shownBody, itemsIn, shownItems}
+use Rattle.wire_view.specs.View.{stayStep, atDestination, selectorStep, policyPlace, attributeStep, firstIn, firstStep, counted}
 use Rattle.wire_view.specs.declared.items.Item.{Item}
 use Rattle.wire_view.specs.declared.read.Kind.{Kind}
 use Rattle.wire_view.specs.declared.read.Kind.the-variants as kind
@@ -47,7 +47,7 @@ one-size s (groupWide x) (is-wide i) = (i .least, i .size)
 
 -- WHICH POLICY
 module _ (s : List ℕ) where
-  none : ((x : Policy) → policy 0 s ≡ whole x [] → ⊥) → kind.Nothing ≡ kindOf s
+  none : ((x : Policy) → policy 0 s ≡ whole x [] → ⊥) → kind.Nothing ≡ shownKind s
   none h = go (policy 0 s) refl
     where
       go : (y : Reading Policy) → policy 0 s ≡ y → kind.Nothing ≡ onAll kind.Nothing kindIn y
@@ -55,13 +55,13 @@ module _ (s : List ℕ) where
       go (whole x (z ∷ r)) e = refl
       go (broken o) e = refl
 
-  pub too-short : length s < 4 → kind.Nothing ≡ kindOf s
+  pub too-short : length s < 4 → kind.Nothing ≡ shownKind s
   too-short h = none (λ x e. omega (arith, one-size s x (one s x e) .0))
 
-  pub other-size : (n : ℕ) → n ≡ be16 s 2 → (n ≡ length s → ⊥) → kind.Nothing ≡ kindOf s
+  pub other-size : (n : ℕ) → n ≡ be16 s 2 → (n ≡ length s → ⊥) → kind.Nothing ≡ shownKind s
   other-size n q h = none (λ x e. h (q ∙ one-size s x (one s x e) .1))
 
-  pub breaks : (o : ℕ) → spot.Broken o ≡ spotOf s (policy 0 s) → kind.Nothing ≡ kindOf s
+  pub breaks : (o : ℕ) → spot.Broken o ≡ spotOf s (policy 0 s) → kind.Nothing ≡ shownKind s
   breaks o q = ap (onAll kind.Nothing kindIn) (sym (spot-broken s (policy 0 s) o q))
 
   module _ (n e : ℕ) (nq : n ≡ be16 s 2) (size : n ≡ length s) (q : spot.Ends e ≡ spotOf s (policy 0 s)) where
@@ -77,14 +77,14 @@ module _ (s : List ℕ) where
         record { item = f .item; reads = f .is ∙ ap (whole (f .item)) r }
 
     module _ (p : ℕ) (pq : p ≡ oct s 0) where
-      pub wide : p ≡ 0 → kind.GroupWide ≡ kindOf s
+      pub wide : p ≡ 0 → kind.GroupWide ≡ shownKind s
       wide z = go (whole-one .item) (one s (whole-one .item) (whole-one .reads)) ∙ ap (onAll kind.Nothing kindIn) (sym (whole-one .reads))
         where
           go : (x : Policy) → IsPolicy s x → kind.GroupWide ≡ kindIn x
           go (groupWide x) (is-wide i) = refl
           go (groupSa x) (is-sa i) = absurd (omega (arith, i .known, ap spiSize (sym (i .protocol) ∙ sym pq ∙ z)))
 
-      pub sa : (p ≡ 0 → ⊥) → kind.GroupSa p ≡ kindOf s
+      pub sa : (p ≡ 0 → ⊥) → kind.GroupSa p ≡ shownKind s
       sa z = go (whole-one .item) (one s (whole-one .item) (whole-one .reads)) ∙ ap (onAll kind.Nothing kindIn) (sym (whole-one .reads))
         where
           go : (x : Policy) → IsPolicy s x → kind.GroupSa p ≡ kindIn x
@@ -96,7 +96,7 @@ pub kind-octet : (s : List ℕ) (x : Policy) → IsPolicy s x → firstOctet (ki
 kind-octet s (groupSa x) (is-sa i) = ap (λ (p : ℕ). p ∷ []) (sym (i .protocol))
 kind-octet s (groupWide x) (is-wide i) = ap (λ (p : ℕ). p ∷ []) (sym (i .first))
 
-octet-is : (s : List ℕ) → firstOctet (kindOf s) ≡ octetOf s
+octet-is : (s : List ℕ) → firstOctet (shownKind s) ≡ octetOf s
 octet-is s = go (policy 0 s) refl
   where
     go : (y : Reading Policy) → policy 0 s ≡ y → firstOctet (onAll kind.Nothing kindIn y) ≡ onAll [] (λ (x : Policy). oct s 0 ∷ []) y
@@ -104,13 +104,13 @@ octet-is s = go (policy 0 s) refl
     go (whole x (n ∷ l)) e = refl
     go (broken o) e = refl
 
-pub told : (s : List ℕ) (r : Kind) → r ≡ kindOf s → (r ≡ kindOf s) × (firstOctet r ≡ octetOf s)
+pub told : (s : List ℕ) (r : Kind) → r ≡ shownKind s → (r ≡ shownKind s) × (firstOctet r ≡ octetOf s)
 told s r e = (e, ap firstOctet e ∙ octet-is s)
 
-pub kind-of-policy : (s : List ℕ) (x : Policy) → policy 0 s ≡ whole x [] → firstOctet (kindOf s) ≡ oct s 0 ∷ []
+pub kind-of-policy : (s : List ℕ) (x : Policy) → policy 0 s ≡ whole x [] → firstOctet (shownKind s) ≡ oct s 0 ∷ []
 kind-of-policy s x e = ap (λ (y : Reading Policy). firstOctet (onAll kind.Nothing kindIn y)) e ∙ kind-octet s x (one s x e)
 
-pub kind-of-none : (s : List ℕ) → ((x : Policy) → policy 0 s ≡ whole x [] → ⊥) → firstOctet (kindOf s) ≡ []
+pub kind-of-none : (s : List ℕ) → ((x : Policy) → policy 0 s ≡ whole x [] → ⊥) → firstOctet (shownKind s) ≡ []
 kind-of-none s h = ap firstOctet (sym (none s h))
 
 -- WHAT IT SHOWS
@@ -119,17 +119,17 @@ counts s h e = ap (λ (t : Bool). both t (eqb (be16 s 2) (length s))) (le-leb 4 
 
 pub record Sa (s : List ℕ) (p : ℕ) : Type 0 where
   pub head : 4 + spiSize p ≤ length s
-  pub spi : part s 4 (4 + spiSize p) ≡ spiOf s
+  pub spi : part s 4 (4 + spiSize p) ≡ shownSpi s
   pub there : 4 ≡ spiStart s
   pub body : SaBody
   pub is : IsSaBody (inPolicy p) (drop (4 + spiSize p) s) body
-  pub items : shownBody (inPolicy p) (4 + spiSize p) (length s) body ≡ itemsOf s
+  pub items : shownBody (inPolicy p) (4 + spiSize p) (length s) body ≡ shownItems s
   pub counts : counted s ≡ true
-  pub place : inPolicy p ≡ placeOf s
+  pub place : inPolicy p ≡ policyPlace s
   pub first : (c : ℕ) → selectorStep s c atDestination (4 + spiSize p) ≡ firstStep s c
 
 pub sa-items : (s : List ℕ) (x : GroupSaPolicy) → policy 0 s ≡ whole (groupSa x) [] → (i : IsGroupSa s x)
-    → shownBody (inPolicy (x .protocol)) (4 + spiSize (x .protocol)) (length s) (i .body) ≡ itemsOf s
+    → shownBody (inPolicy (x .protocol)) (4 + spiSize (x .protocol)) (length s) (i .body) ≡ shownItems s
 sa-items s x e i =
     let p = inPolicy (x .protocol) in
     let h = 4 + spiSize (x .protocol) in
@@ -151,17 +151,17 @@ sa-of s x e (is-sa i) = record {
       let z : eqb (oct s 0) 0 ≡ false = ne-eqb (oct s 0) 0 (λ y. omega (arith, i .known, ap spiSize (sym (i .protocol) ∙ y))) in
       ap inPolicy (sym (i .protocol)) ∙ ap (λ (t : Bool). either t place.GroupWidePolicy (inPolicy (oct s 0))) (sym z);
   first = λ c.
-      ap (λ (n : ℕ). selectorStep s c atDestination (4 + spiSize n)) (sym (i .protocol)) ∙ ap (onAll (stays c) (firstIn s c)) (sym e);
+      ap (λ (n : ℕ). selectorStep s c atDestination (4 + spiSize n)) (sym (i .protocol)) ∙ ap (onAll (stayStep c) (firstIn s c)) (sym e);
 }
 
 pub record Wide (s : List ℕ) : Type 0 where
   pub head : 4 ≤ length s
-  pub spi : [] ≡ spiOf s
+  pub spi : [] ≡ shownSpi s
   pub there : 0 ≡ spiStart s
   pub held : isWhole (attributes place.GroupWidePolicy 0 (drop 4 s)) ≡ true
-  pub items : shownAttributes place.GroupWidePolicy (length s) (attributesIn place.GroupWidePolicy (drop 4 s)) ≡ itemsOf s
+  pub items : shownAttributes place.GroupWidePolicy (length s) (attributesIn place.GroupWidePolicy (drop 4 s)) ≡ shownItems s
   pub counts : counted s ≡ true
-  pub place : place.GroupWidePolicy ≡ placeOf s
+  pub place : place.GroupWidePolicy ≡ policyPlace s
   pub first : (c : ℕ) → attributeStep s c 4 ≡ firstStep s c
 
 wide-of : (s : List ℕ) (x : GroupWidePolicy) → policy 0 s ≡ whole (groupWide x) [] → IsPolicy s (groupWide x) → Wide s
@@ -178,21 +178,21 @@ wide-of s x e (is-wide i) =
           ∙ ap (onAll [] (shownAttributes p (length s))) (sym (are-read p (i .held) 4)) ∙ ap (onAll [] (itemsIn s)) (sym e);
       counts = counts s (i .least) (i .size);
       place = ap (λ (t : Bool). either t p (inPolicy (oct s 0))) (sym (eq-eqb (oct s 0) 0 (i .first)));
-      first = λ c. ap (onAll (stays c) (firstIn s c)) (sym e);
+      first = λ c. ap (onAll (stayStep c) (firstIn s c)) (sym e);
     }
 
 pub record Nowhere (s : List ℕ) : Type 0 where
-  pub spi : [] ≡ spiOf s
+  pub spi : [] ≡ shownSpi s
   pub there : 0 ≡ spiStart s
-  pub items : [] ≡ itemsOf s
-  pub first : (c : ℕ) → stays c ≡ firstStep s c
+  pub items : [] ≡ shownItems s
+  pub first : (c : ℕ) → stayStep c ≡ firstStep s c
 
 module _ (s : List ℕ) where
   -- two answers are not the same
   abbrev Absurd : Type 0
   Absurd = _≡_ {A = ℕ} 0 1
 
-  pub of-sa : (p : ℕ) → kind.GroupSa p ≡ kindOf s → Sa s p
+  pub of-sa : (p : ℕ) → kind.GroupSa p ≡ shownKind s → Sa s p
   of-sa p = go (policy 0 s) refl
     where
       go : (y : Reading Policy) → policy 0 s ≡ y → kind.GroupSa p ≡ onAll kind.Nothing kindIn y → Sa s p
@@ -203,7 +203,7 @@ module _ (s : List ℕ) where
       go (whole x (y ∷ r)) e q = let z : Absurd = cc in absurd (omega arith)
       go (broken o) e q = let z : Absurd = cc in absurd (omega arith)
 
-  pub of-wide : kind.GroupWide ≡ kindOf s → Wide s
+  pub of-wide : kind.GroupWide ≡ shownKind s → Wide s
   of-wide = go (policy 0 s) refl
     where
       go : (y : Reading Policy) → policy 0 s ≡ y → kind.GroupWide ≡ onAll kind.Nothing kindIn y → Wide s
@@ -217,10 +217,10 @@ module _ (s : List ℕ) where
     spi = h (List ℕ) [] spiIn ∙ ap (onAll [] spiIn) (sym e);
     there = h ℕ 0 spiStartIn ∙ ap (onAll 0 spiStartIn) (sym e);
     items = h (List Item) [] (itemsIn s) ∙ ap (onAll [] (itemsIn s)) (sym e);
-    first = λ c. h Step (stays c) (firstIn s c) ∙ ap (onAll (stays c) (firstIn s c)) (sym e);
+    first = λ c. h Step (stayStep c) (firstIn s c) ∙ ap (onAll (stayStep c) (firstIn s c)) (sym e);
   }
 
-  pub of-none : kind.Nothing ≡ kindOf s → Nowhere s
+  pub of-none : kind.Nothing ≡ shownKind s → Nowhere s
   of-none = go (policy 0 s) refl
     where
       go : (y : Reading Policy) → policy 0 s ≡ y → kind.Nothing ≡ onAll kind.Nothing kindIn y → Nowhere s
@@ -234,7 +234,7 @@ pub record ShowsSa (s : List ℕ) (x : GroupSaPolicy) : Type 0 where
   pub attributes : List Attribute
   pub read : initialMessageIds (inPolicy (x .protocol)) attributes ≡ x .initialMessageIds
   pub lifetimes : keyLifetimes (inPolicy (x .protocol)) attributes ≡ x .keyLifetimes
-  pub items : itemsOf s
+  pub items : shownItems s
       ≡ shownSelector (4 + spiSize (x .protocol)) (x .source)
       ∷ shownSelector (4 + spiSize (x .protocol) + selectorSize (x .source .kind)) (x .destination)
       ∷ (map shownTransform (x .transforms) ++ shownAttributes (inPolicy (x .protocol)) (length s) attributes)
@@ -260,10 +260,10 @@ shows-sa s x e = go (one s (groupSa x) e)
 pub record ShowsWide (s : List ℕ) (x : GroupWidePolicy) : Type 0 where
   pub attributes : List Attribute
   pub read : deactivationDelays place.GroupWidePolicy attributes ≡ x .deactivationDelays
-  pub items : itemsOf s ≡ shownAttributes place.GroupWidePolicy (length s) attributes
+  pub items : shownItems s ≡ shownAttributes place.GroupWidePolicy (length s) attributes
 
 pub wide-items : (s : List ℕ) (x : GroupWidePolicy) → policy 0 s ≡ whole (groupWide x) [] → (i : IsGroupWide s x)
-    → itemsOf s ≡ shownAttributes place.GroupWidePolicy (length s) (i .attributes)
+    → shownItems s ≡ shownAttributes place.GroupWidePolicy (length s) (i .attributes)
 wide-items s x e i =
     ap (onAll [] (itemsIn s)) e
     ∙ ap (onAll [] (shownAttributes place.GroupWidePolicy (length s))) (are-read place.GroupWidePolicy (i .held) 4)

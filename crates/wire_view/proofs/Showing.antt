@@ -114,7 +114,8 @@ module _ (F : Lfts 1 → RattleType) (τ : Ty) (key : Name) where
         move ! (1 ∷ []) $ fsplit ! $ move ! (1 ∷ []) $ drop ! $
         use1 W (‵ Own ⊛ ‵ Own) (shr-slice-copy 𝓤 H A W (named 0) κ u8 .twice s (v ∷ [])) $ split ! $
         -- [what the slice owns, twice; the token]
-        nothing ! $ move ! (1 ∷ 0 ∷ []) $ fjoin ! $ move ! (2 ∷ 0 ∷ []) $ use2 W (raw (Maker 𝓤 H A .pre from-slice)) makes $ frame ! $ done !
+        nothing ! $ move ! (1 ∷ 0 ∷ []) $ fjoin ! $ move ! (2 ∷ 0 ∷ []) $ use2 W
+        (raw (Maker 𝓤 H A .pre from-slice)) makes $ frame ! $ done !
 
     -- what both say of their results; neither has a `&mut`, so what is said of last values is dropped
     abbrev Maked : View → SProp 𝓤

@@ -134,7 +134,8 @@ module _ (F : Lfts 1 → RattleType) (τ : Ty) (key : Name) where
           alloc1 ! (λ l₀. alloc1 ! (λ l₁. alloc1 ! (λ l₂. alloc1 ! (λ l₃. alloc0 ! $ params1 ! $
           pass1 ! (init ! 4 refl wt) $ pass1 ! (init ! 2 refl (tt, record { fits = ok })) $ pass0 ! $
           assigns !
-          (agg ! (and-then ! (load ! (from ! (stop !)) (look ! 4 refl)) (and-then ! (load ! (from ! (stop !)) (look ! 2 refl)) (no-more !))))
+          (agg ! (and-then ! (load ! (from ! (stop !)) (look ! 4 refl))
+          (and-then ! (load ! (from ! (stop !)) (look ! 2 refl)) (no-more !))))
           (from ! (stop !)) (init ! 0 refl (tt, (wt .1, (record { fits = ok }, tt)))) $
           move ! (8 ∷ []) $ use1 W (raw (Callee 𝓤 H A P .pre to) ⊛ ‵ Own) goes $ split ! $
           calls-at ! fm (Callee 𝓤 H A P) known to (and-then ! (load ! (from ! (stop !)) (look ! 2 refl)) (no-more !)) (λ u.

@@ -13,7 +13,7 @@ use Rattle.octets.specs.Numbers.{oct}
 use Rattle.octets.specs.Walk.{be16, part, either, both, Reading, whole, broken, Reader, Linked}
 use Rattle.octets.proofs.Walks.{tail, Takes, both-true, to-end}
 use Rattle.octets.proofs.Inverse.{inverse-opened}
-use Rattle.wire_attributes.specs.Attribute.{Attribute, sizeOf, attributeOf, fits}
+use Rattle.wire_attributes.specs.Attribute.{Attribute, attributeSize, attributeOf, fits}
 use Rattle.wire_attributes.specs.Layout.{formedIn, fitsIn, attribute}
 use Rattle.wire_attributes.specs.Answers.{spotOf}
 use Rattle.wire_attributes.specs.Place.{inPolicy}
@@ -31,8 +31,8 @@ use Rattle.wire_policies.proofs.SelectorGrammar.{sound as selector-sound}
 use Rattle.wire_policies.proofs.TransformLaws.{takes as transform-takes, next-of}
 use Rattle.wire_policies.proofs.TransformGrammar.{sound as transform-sound}
 use Rattle.wire_view.specs.View.{shownSelector, shownTransform, shownAttribute}
-use Rattle.wire_view.specs.View.{atDestination, atTransform, atAttribute, cursorAt, stays, stepped, selectorStep}
-use Rattle.wire_view.specs.View.{transformStep, placeOf, attributeStep, firstStep, stepBy, counted, stepAt}
+use Rattle.wire_view.specs.View.{atDestination, atTransform, atAttribute, cursorAt, stayStep, stepped, selectorStep}
+use Rattle.wire_view.specs.View.{transformStep, policyPlace, attributeStep, firstStep, stepBy, counted, stepAt}
 use Rattle.wire_view.specs.declared.items.Item.{Item}
 use Rattle.wire_view.specs.declared.read.Step.{Step}
 use Rattle.wire_view.proofs.KindLaws.{counts}
@@ -48,7 +48,7 @@ module _ {A : Type 0} (s : List ℕ) (c : ℕ) (show : A → Item) (comes : A �
       let d : e ≡ length s - length (drop e s) = omega (arith, length-drop e s, h) in
       (λ j. told (rq j) ((nq ∙ ap (λ (k : ℕ). cursorAt k (comes a)) d) j)) ∙ ap (stepped s c show comes) (sym q)
 
-  off : (o : ℕ) → x ≡ broken o → stays c ≡ stepped s c show comes x
+  off : (o : ℕ) → x ≡ broken o → stayStep c ≡ stepped s c show comes x
   off o q = ap (stepped s c show comes) (sym q)
 
 -- the octets of what was read
@@ -82,21 +82,21 @@ module _ {A : Type 0} (p : Reader A) (takes : (b : ℕ) (s : List ℕ) → Takes
 -- no attribute in no octet
 pub none-there : (p : Place) (b : ℕ) (l : List ℕ) → length l ≡ 0 → attribute p b l ≡ broken b
 none-there p b l z =
-    spot-broken l (attribute p b l) b (cut-in p b l (lt-leb (sizeOf l) (length l) (omega (arith, size-least l, z))))
+    spot-broken l (attribute p b l) b (cut-in p b l (lt-leb (attributeSize l) (length l) (omega (arith, size-least l, z))))
 
 module _ (s : List ℕ) (c at : ℕ) where
   past : length s < at → drop at s ≡ []
   past h = let l : length s ≤ at = omega (arith, h) in drop-of-length-le s l
 
   -- A SELECTOR
-  pub selector-past : (comes : ℕ) → length s < at → stays c ≡ selectorStep s c comes at
+  pub selector-past : (comes : ℕ) → length s < at → stayStep c ≡ selectorStep s c comes at
   unfolding selector
   selector-past comes h =
       ap (λ (l : List ℕ). stepped s c (shownSelector at) (λ (x : Selector). comes) (selector 0 at l))
       (sym (past h))
 
   module _ (h : at ≤ length s) (comes : ℕ) where
-    pub no-selector : (o : ℕ) → spot.Broken o ≡ spotOf (tail s at) (selector 0 at (tail s at)) → stays c ≡ selectorStep s c comes at
+    pub no-selector : (o : ℕ) → spot.Broken o ≡ spotOf (tail s at) (selector 0 at (tail s at)) → stayStep c ≡ selectorStep s c comes at
     no-selector o q =
         off s c (shownSelector at) (λ (x : Selector). comes) (selector 0 at (drop at s)) o
         (not-found (selector 0) (selector-takes 0) s at h o q)
@@ -129,13 +129,13 @@ module _ (s : List ℕ) (c at : ℕ) where
   abbrev comes-next : Linked Bool Transform → ℕ
   comes-next x = either (x .next) atTransform atAttribute
 
-  pub transform-past : length s < at → stays c ≡ transformStep s c at
+  pub transform-past : length s < at → stayStep c ≡ transformStep s c at
   unfolding transform
   transform-past h =
       ap (λ (l : List ℕ). stepped s c shows comes-next (transform 0 true at l)) (sym (past h))
 
   module _ (h : at ≤ length s) where
-    pub no-transform : (o : ℕ) → spot.Broken o ≡ spotOf (tail s at) (transform 0 true at (tail s at)) → stays c ≡ transformStep s c at
+    pub no-transform : (o : ℕ) → spot.Broken o ≡ spotOf (tail s at) (transform 0 true at (tail s at)) → stayStep c ≡ transformStep s c at
     no-transform o q =
         off s c shows comes-next (transform 0 true at (drop at s)) o
         (not-found (transform 0 true) (transform-takes 0 true) s at h o q)
@@ -179,16 +179,16 @@ module _ (s : List ℕ) (c at : ℕ) where
             over n (nq ∙ ap (λ (t : Bool). cursorAt (at + e) (either t atTransform atAttribute)) (sym (mark ∙ ne-eqb m 3 z)))
 
   -- AN ATTRIBUTE
-  pub attribute-past : length s < at → stays c ≡ attributeStep s c at
+  pub attribute-past : length s < at → stayStep c ≡ attributeStep s c at
   attribute-past h =
-      off s c (shownAttribute (placeOf s) at) (λ (a : Attribute). atAttribute) (attribute (placeOf s) at (drop at s)) at
-      (none-there (placeOf s) at (drop at s) (omega (arith, length-drop at s, h)))
+      off s c (shownAttribute (policyPlace s) at) (λ (a : Attribute). atAttribute) (attribute (policyPlace s) at (drop at s)) at
+      (none-there (policyPlace s) at (drop at s) (omega (arith, length-drop at s, h)))
 
-  module _ (h : at ≤ length s) (p : Place) (pq : p ≡ placeOf s) where
+  module _ (h : at ≤ length s) (p : Place) (pq : p ≡ policyPlace s) where
     stepOf : Place → Step
     stepOf y = stepped s c (shownAttribute y at) (λ (a : Attribute). atAttribute) (attribute y at (drop at s))
 
-    pub no-attribute : (o : ℕ) → spot.Broken o ≡ spotOf (tail s at) (attribute p at (tail s at)) → stays c ≡ attributeStep s c at
+    pub no-attribute : (o : ℕ) → spot.Broken o ≡ spotOf (tail s at) (attribute p at (tail s at)) → stayStep c ≡ attributeStep s c at
     unfolding stepOf
     no-attribute o q =
         off s c (shownAttribute p at) (λ (a : Attribute). atAttribute) (attribute p at (drop at s)) o
@@ -207,7 +207,7 @@ module _ (s : List ℕ) (c at : ℕ) where
       whole-one =
           let y = drop at s in
           let n = read-attribute in
-          let g = inverse-opened at (fitsIn p y) (whole (attributeOf y) (drop (sizeOf y) y)) (n .item) (drop (at + e) s) (n .is) in
+          let g = inverse-opened at (fitsIn p y) (whole (attributeOf y) (drop (attributeSize y) y)) (n .item) (drop (at + e) s) (n .is) in
           let k = g .1 in
           let u : attributeOf y ≡ n .item = cc in
           (both-true (fits y) (formedIn p (attributeOf y)) (g .0) .0, u)
@@ -225,26 +225,26 @@ module _ (s : List ℕ) (c at : ℕ) where
 
 -- WHICH OF THEM
 module _ (s : List ℕ) (c : ℕ) where
-  pub too-short : length s < 4 → stays c ≡ stepAt s c
+  pub too-short : length s < 4 → stayStep c ≡ stepAt s c
   too-short h =
-      ap (λ (t : Bool). either (both t (eqb (be16 s 2) (length s))) (stepBy s c (c % 4) (c / 4)) (stays c))
+      ap (λ (t : Bool). either (both t (eqb (be16 s 2) (length s))) (stepBy s c (c % 4) (c / 4)) (stayStep c))
       (sym (lt-leb 4 (length s) h))
 
-  pub other-size : (n : ℕ) → n ≡ be16 s 2 → (n ≡ length s → ⊥) → stays c ≡ stepAt s c
+  pub other-size : (n : ℕ) → n ≡ be16 s 2 → (n ≡ length s → ⊥) → stayStep c ≡ stepAt s c
   other-size n q z = uncounted (leb 4 (length s))
     where
-      uncounted : (t : Bool) → stays c ≡ either (both t (eqb (be16 s 2) (length s))) (stepBy s c (c % 4) (c / 4)) (stays c)
+      uncounted : (t : Bool) → stayStep c ≡ either (both t (eqb (be16 s 2) (length s))) (stepBy s c (c % 4) (c / 4)) (stayStep c)
       uncounted false = refl
       uncounted true =
-          ap (λ (t : Bool). either t (stepBy s c (c % 4) (c / 4)) (stays c))
+          ap (λ (t : Bool). either t (stepBy s c (c % 4) (c / 4)) (stayStep c))
           (sym (ne-eqb (be16 s 2) (length s) (λ y. z (q ∙ y))))
 
   pub whole-size : 4 ≤ length s → (n : ℕ) → n ≡ be16 s 2 → n ≡ length s → stepBy s c (c % 4) (c / 4) ≡ stepAt s c
   whole-size h n q z =
-      ap (λ (t : Bool). either t (stepBy s c (c % 4) (c / 4)) (stays c)) (sym (counts s h (sym q ∙ z)))
+      ap (λ (t : Bool). either t (stepBy s c (c % 4) (c / 4)) (stayStep c)) (sym (counts s h (sym q ∙ z)))
 
   pub goes-by : (k b : ℕ) → counted s ≡ true → c % 4 ≡ k → c / 4 ≡ b → stepAt s c ≡ stepBy s c k b
-  goes-by k b h kq bq = λ j. either (h j) (stepBy s c (kq j) (bq j)) (stays c)
+  goes-by k b h kq bq = λ j. either (h j) (stepBy s c (kq j) (bq j)) (stayStep c)
 
   module _ (comes b : ℕ) where
     pub by-first : comes ≡ 0 → firstStep s c ≡ stepBy s c comes b
@@ -266,11 +266,11 @@ module _ (s : List ℕ) (c : ℕ) where
 
 -- the place of a policy's attributes
 module _ (s : List ℕ) (p : ℕ) (pq : p ≡ oct s 0) where
-  pub place-wide : p ≡ 0 → place.GroupWidePolicy ≡ placeOf s
+  pub place-wide : p ≡ 0 → place.GroupWidePolicy ≡ policyPlace s
   place-wide z =
       ap (λ (t : Bool). either t place.GroupWidePolicy (inPolicy (oct s 0))) (sym (eq-eqb (oct s 0) 0 (sym pq ∙ z)))
 
-  pub place-sa : (p ≡ 0 → ⊥) → inPolicy p ≡ placeOf s
+  pub place-sa : (p ≡ 0 → ⊥) → inPolicy p ≡ policyPlace s
   place-sa z =
       ap inPolicy pq
       ∙ ap (λ (t : Bool). either t place.GroupWidePolicy (inPolicy (oct s 0))) (sym (ne-eqb (oct s 0) 0 (λ y. z (pq ∙ y))))

@@ -26,9 +26,11 @@ use Rattle.wire_policies.proofs.SelectorGrammar.{complete as selector-complete}
 use Rattle.wire_policies.proofs.TransformGrammar.{complete as transform-complete}
 use Rattle.wire_readers.specs.inner.Values.{attributesIn}
 use Rattle.wire_readers.proofs.ValuesLaws.{whole-is}
-use Rattle.wire_view.specs.View.{onAll, kindOf, shownSelector, shownTransform, shownAttribute, octetsIn, shownAttributes, shownSuite}
-use Rattle.wire_view.specs.View.{shownBody, itemsOf, atDestination, atTransform, atAttribute, cursorAt, stays, stepped, selectorStep}
-use Rattle.wire_view.specs.View.{transformStep, placeOf, attributeStep, firstIn, counted, stepAt, nextAfter, isNothing, isAtEnd}
+use Rattle.wire_view.specs.View.{onAll, shownKind, shownSelector, shownTransform, shownAttribute, attributesSpan, shownAttributes}
+use Rattle.wire_view.specs.View.{shownSuite}
+use Rattle.wire_view.specs.View.{shownBody, shownItems, atDestination, atTransform, atAttribute, cursorAt, stayStep, stepped}
+use Rattle.wire_view.specs.View.{selectorStep}
+use Rattle.wire_view.specs.View.{transformStep, policyPlace, attributeStep, firstIn, counted, stepAt, nextAfter, isNothing, isAtEnd}
 use Rattle.wire_view.specs.View.{shownIn}
 use Rattle.wire_view.specs.declared.items.Item.{Item}
 use Rattle.wire_view.specs.declared.read.Kind.{Kind}
@@ -47,7 +49,7 @@ module _ (s : List ℕ) where
       (λ j. either (isNothing (q j .item)) [] (q j .item ∷ shownIn n s (q j .next)))
       ∙ ap (λ (t : Bool). either t [] (x ∷ shownIn n s m)) f
 
-  ends : (n c : ℕ) → stepAt s c ≡ stays c → shownIn (suc n) s c ≡ []
+  ends : (n c : ℕ) → stepAt s c ≡ stayStep c → shownIn (suc n) s c ≡ []
   unfolding shownIn
   ends n c q = λ j. either (isNothing (q j .item)) [] (q j .item ∷ shownIn n s (q j .next))
 
@@ -77,19 +79,19 @@ module _ (s : List ℕ) where
         goes-by s (cursorAt b atAttribute) atAttribute b h (k .0) (k .1)
 
     attributes-walk : (n b c : ℕ) → stepAt s c ≡ attributeStep s c b → {t : List ℕ} {l : List Attribute}
-        → Row (IsAttribute (placeOf s)) t l → drop b s ≡ t → b + length t ≡ length s
-        → shownIn n s c ≡ take n (shownAttributes (placeOf s) (length s) l)
+        → Row (IsAttribute (policyPlace s)) t l → drop b s ≡ t → b + length t ≡ length s
+        → shownIn n s c ≡ take n (shownAttributes (policyPlace s) (length s) l)
     unfolding shownIn shownAttributes
     attributes-walk zero b c q r e a = refl
     attributes-walk (suc n) b c q no-more e a =
-        let p = placeOf s in
+        let p = policyPlace s in
         ends n c (q ∙ ap (λ (y : List ℕ). stepped s c (shownAttribute p b) (λ (z : Attribute). atAttribute) (attribute p b y)) e
         ∙ ap (stepped s c (shownAttribute p b) (λ (z : Attribute). atAttribute)) (none-there p b [] refl))
     attributes-walk (suc n) b c q (then o t {a = x} {l = l} i r) e a =
-        let p = placeOf s in
+        let p = policyPlace s in
         let f : Stands b o t = record { there = e; all = a } in
         let m = length s - length t in
-        let d : b ≡ length s - octetsIn (x ∷ l) = omega (arith, row-octets (then o t {a = x} {l = l} i r), a) in
+        let d : b ≡ length s - attributesSpan (x ∷ l) = omega (arith, row-octets (then o t {a = x} {l = l} i r), a) in
         let w : stepAt s c ≡ record { item = shownAttribute p b x; next = cursorAt m atAttribute } =
         q ∙ ap (λ (y : List ℕ). stepped s c (shownAttribute p b) (λ (z : Attribute). atAttribute) (attribute p b y)) e
         ∙ ap (stepped s c (shownAttribute p b) (λ (z : Attribute). atAttribute)) (attribute-complete p b o t x i) in
@@ -103,8 +105,8 @@ module _ (s : List ℕ) where
     comes go = either go atTransform atAttribute
 
     transforms-walk : (n b : ℕ) (go : Bool) {t : List ℕ} {l : List Transform} {tail : List ℕ} {m : List Attribute}
-        → Spans noMore IsTransform go t l tail → Row (IsAttribute (placeOf s)) tail m → drop b s ≡ t → b + length t ≡ length s
-        → shownIn n s (cursorAt b (comes go)) ≡ take n (map shownTransform l ++ shownAttributes (placeOf s) (length s) m)
+        → Spans noMore IsTransform go t l tail → Row (IsAttribute (policyPlace s)) tail m → drop b s ≡ t → b + length t ≡ length s
+        → shownIn n s (cursorAt b (comes go)) ≡ take n (map shownTransform l ++ shownAttributes (policyPlace s) (length s) m)
     unfolding shownIn
     transforms-walk zero b go f r e a = refl
     transforms-walk (suc n) b true (none z) r e a = let y : _≡_ {A = ℕ} 0 1 = cc in absurd (omega arith)
@@ -125,7 +127,7 @@ module _ (s : List ℕ) where
         ∙ ap (λ (y : List Item). shownTransform x ∷ y) (transforms-walk n d go {m = m} f r (rest b o t u) (count b o t u))
 
     -- THE DESTINATION, THEN TRANSFORMS AND ATTRIBUTES
-    module _ (p : Place) (pq : p ≡ placeOf s) (b : ℕ) (x : SaBody) (i : IsSaBody p (drop b s) x) (l : b ≤ length s) where
+    module _ (p : Place) (pq : p ≡ policyPlace s) (b : ℕ) (x : SaBody) (i : IsSaBody p (drop b s) x) (l : b ≤ length s) where
       first-stands : Stands b (i .source) (i .destination ++ i .after)
       first-stands = record { there = i .joined; all = omega (arith, l, ap length (i .joined), length-drop b s) }
 
@@ -143,11 +145,11 @@ module _ (s : List ℕ) where
         all = count b (i .source) (i .destination ++ i .after) first-stands;
       }
 
-      attributes-are : Row (IsAttribute (placeOf s)) (i .tail) (x .suite .attributes)
+      attributes-are : Row (IsAttribute (policyPlace s)) (i .tail) (x .suite .attributes)
       attributes-are = subst (λ (y : Place). Row (IsAttribute y) (i .tail) (x .suite .attributes)) pq (i .attributes)
 
       destination-walk : (n : ℕ) → shownIn n s (cursorAt d atDestination)
-          ≡ take n (shownSelector d (x .destination) ∷ shownSuite (placeOf s) (length s) (x .suite))
+          ≡ take n (shownSelector d (x .destination) ∷ shownSuite (policyPlace s) (length s) (x .suite))
       unfolding shownIn
       destination-walk zero = refl
       destination-walk (suc n) =
@@ -178,17 +180,17 @@ module _ (s : List ℕ) where
           ∷ take n (shownSelector (d-is j) (x .destination) ∷ shownSuite (sym pq j) (length s) (x .suite)))
 
   -- NOTHING
-  none-walk : Nowhere s → (n : ℕ) → shownIn n s 0 ≡ take n (itemsOf s)
+  none-walk : Nowhere s → (n : ℕ) → shownIn n s 0 ≡ take n (shownItems s)
   unfolding shownIn
   none-walk f zero = refl
   none-walk f (suc n) =
-      ends n 0 (by-test (λ (y : Step). y ≡ stays 0) (counted s) (λ t. sym (f .first 0)) (λ t. refl)) ∙ ap (take (suc n)) (f .items)
+      ends n 0 (by-test (λ (y : Step). y ≡ stayStep 0) (counted s) (λ t. sym (f .first 0)) (λ t. refl)) ∙ ap (take (suc n)) (f .items)
 
   -- THE WHOLE WALK
-  pub walk-shows : (n : ℕ) → shownIn n s 0 ≡ take n (itemsOf s)
-  walk-shows n = go (kindOf s) refl
+  pub walk-shows : (n : ℕ) → shownIn n s 0 ≡ take n (shownItems s)
+  walk-shows n = go (shownKind s) refl
     where
-      go : (k : Kind) → k ≡ kindOf s → shownIn n s 0 ≡ take n (itemsOf s)
+      go : (k : Kind) → k ≡ shownKind s → shownIn n s 0 ≡ take n (shownItems s)
       go (kind.GroupSa p) q =
           let f = of-sa s p q in
           body-walk (f .counts) (inPolicy p) (f .place) (4 + spiSize p) (f .body) (f .is) (f .head) n 0
@@ -199,7 +201,7 @@ module _ (s : List ℕ) where
           let v = place.GroupWidePolicy in
           let y = drop 4 s in
           let w = whole-is (attributes v 0 y) (f .held) in
-          let r : Row (IsAttribute (placeOf s)) y (attributesIn v y) =
+          let r : Row (IsAttribute (policyPlace s)) y (attributesIn v y) =
           subst (λ (z : Place). Row (IsAttribute z) y (attributesIn v y)) (f .place) (read-are v 0 y (attributesIn v y) (w .0) (w .1)) in
           attributes-walk (f .counts) n 4 0 (goes-by s 0 0 0 (f .counts) refl refl ∙ sym (f .first 0)) r refl
           (omega (arith, f .head, length-drop 4 s))
@@ -228,9 +230,9 @@ module _ (s : List ℕ) (c : ℕ) where
 
   attribute-stays : (b : ℕ) → Stays c (attributeStep s c b)
   attribute-stays b =
-      by-reading (shownAttribute (placeOf s) b) (λ (a : Attribute). atAttribute) (λ a. refl) (attribute (placeOf s) b (drop b s))
+      by-reading (shownAttribute (policyPlace s) b) (λ (a : Attribute). atAttribute) (λ a. refl) (attribute (policyPlace s) b (drop b s))
 
-  first-stays : (x : Reading Policy) → Stays c (onAll (stays c) (firstIn s c) x)
+  first-stays : (x : Reading Policy) → Stays c (onAll (stayStep c) (firstIn s c) x)
   first-stays (whole (groupSa x) []) = selector-stays atDestination (headSize s)
   first-stays (whole (groupWide x) []) = attribute-stays 4
   first-stays (whole x (n ∷ l)) = λ e. refl

@@ -38,8 +38,8 @@ abbrev pub kindIn : Policy → Kind
 kindIn (groupSa x) = kind.GroupSa (x .protocol)
 kindIn (groupWide x) = kind.GroupWide
 
-abbrev pub kindOf : List ℕ → Kind
-kindOf s = onAll kind.Nothing kindIn (policy 0 s)
+abbrev pub shownKind : List ℕ → Kind
+shownKind s = onAll kind.Nothing kindIn (policy 0 s)
 
 -- the first octet of the policy that the octets are
 abbrev pub octetOf : List ℕ → List ℕ
@@ -49,8 +49,8 @@ abbrev pub spiIn : Policy → List ℕ
 spiIn (groupSa x) = x .spi
 spiIn (groupWide x) = []
 
-abbrev pub spiOf : List ℕ → List ℕ
-spiOf s = onAll [] spiIn (policy 0 s)
+abbrev pub shownSpi : List ℕ → List ℕ
+shownSpi s = onAll [] spiIn (policy 0 s)
 
 -- where it starts in those octets, behind "protocol, SPI size, length 2"; 0 where there is none
 abbrev pub spiStartIn : Policy → ℕ
@@ -71,13 +71,13 @@ abbrev pub shownAttribute : Place → ℕ → Attribute → Item
 shownAttribute p b a = item.Attribute (meaningOf p (a .kind)) (a .short) (a .kind) (b + leadOf a) (b + leadOf a + length (a .value))
 
 -- ALL OF THEM, one after the other. Attributes fill a policy to its end, at the offset e
-unfoldable pub octetsIn : List Attribute → ℕ
-octetsIn [] = 0
-octetsIn (a ∷ l) = spanOf a + octetsIn l
+unfoldable pub attributesSpan : List Attribute → ℕ
+attributesSpan [] = 0
+attributesSpan (a ∷ l) = spanOf a + attributesSpan l
 
 unfoldable pub shownAttributes : Place → ℕ → List Attribute → List Item
 shownAttributes p e [] = []
-shownAttributes p e (a ∷ l) = shownAttribute p (e - octetsIn (a ∷ l)) a ∷ shownAttributes p e l
+shownAttributes p e (a ∷ l) = shownAttribute p (e - attributesSpan (a ∷ l)) a ∷ shownAttributes p e l
 
 abbrev pub shownSuite : Place → ℕ → Suite → List Item
 shownSuite p e x = map shownTransform (x .transforms) ++ shownAttributes p e (x .attributes)
@@ -96,8 +96,8 @@ itemsIn s (groupSa x) =
     onAll [] (shownBody p h (length s)) (saBody 0 p h (drop h s))
 itemsIn s (groupWide x) = onAll [] (shownAttributes place.GroupWidePolicy (length s)) (attributes place.GroupWidePolicy 4 (drop 4 s))
 
-abbrev pub itemsOf : List ℕ → List Item
-itemsOf s = onAll [] (itemsIn s) (policy 0 s)
+abbrev pub shownItems : List ℕ → List Item
+shownItems s = onAll [] (itemsIn s) (policy 0 s)
 
 -- ONE STEP reads the selector, transform or attribute that stands at the cursor's offset, and no other octet but the policy's head, and
 -- answers it with the cursor behind it; where none is laid out there it shows nothing, and the cursor stays. A cursor is four times the
@@ -117,13 +117,13 @@ parts = 4
 abbrev pub cursorAt : ℕ → ℕ → ℕ
 cursorAt b comes = parts * b + comes
 
-abbrev pub stays : ℕ → Step
-stays c = record { item = item.Nothing; next = c }
+abbrev pub stayStep : ℕ → Step
+stayStep c = record { item = item.Nothing; next = c }
 
 -- by what is read at the cursor c: what it shows, and what comes where the octets that are left start
 abbrev pub stepped : {A : Type 0} → List ℕ → ℕ → (A → Item) → (A → ℕ) → Reading A → Step
 stepped s c show comes (whole a rest) = record { item = show a; next = cursorAt (length s - length rest) (comes a) }
-stepped s c show comes (broken o) = stays c
+stepped s c show comes (broken o) = stayStep c
 
 -- over a selector, behind which comes a part that the caller names; over a transform, behind which comes another one or an attribute; over
 -- an attribute
@@ -136,12 +136,12 @@ transformStep s c b =
     (λ (x : Linked Bool Transform). either (x .next) atTransform atAttribute) (transform 0 true b (drop b s))
 
 -- where the attributes of a policy stand, by its first octet
-abbrev pub placeOf : List ℕ → Place
-placeOf s = either (eqb (oct s 0) 0) place.GroupWidePolicy (inPolicy (oct s 0))
+abbrev pub policyPlace : List ℕ → Place
+policyPlace s = either (eqb (oct s 0) 0) place.GroupWidePolicy (inPolicy (oct s 0))
 
 abbrev pub attributeStep : List ℕ → ℕ → ℕ → Step
 attributeStep s c b =
-    stepped s c (shownAttribute (placeOf s) b) (λ (a : Attribute). atAttribute) (attribute (placeOf s) b (drop b s))
+    stepped s c (shownAttribute (policyPlace s) b) (λ (a : Attribute). atAttribute) (attribute (policyPlace s) b (drop b s))
 
 -- the first step finds out which policy the octets are: it alone reads all of them
 abbrev pub firstIn : List ℕ → ℕ → Policy → Step
@@ -149,7 +149,7 @@ firstIn s c (groupSa x) = selectorStep s c atDestination (headSize s)
 firstIn s c (groupWide x) = attributeStep s c 4
 
 abbrev pub firstStep : List ℕ → ℕ → Step
-firstStep s c = onAll (stays c) (firstIn s c) (policy 0 s)
+firstStep s c = onAll (stayStep c) (firstIn s c) (policy 0 s)
 
 -- from the cursor c, by what comes and at which offset
 abbrev pub stepBy : List ℕ → ℕ → ℕ → ℕ → Step
@@ -163,7 +163,7 @@ abbrev pub counted : List ℕ → Bool
 counted s = both (leb 4 (length s)) (eqb (be16 s 2) (length s))
 
 abbrev pub stepAt : List ℕ → ℕ → Step
-stepAt s c = either (counted s) (stepBy s c (c % parts) (c / parts)) (stays c)
+stepAt s c = either (counted s) (stepBy s c (c % parts) (c / parts)) (stayStep c)
 
 -- its parts: what stands at the cursor, the cursor behind it, and whether nothing stands there
 abbrev pub itemAt : List ℕ → ℕ → Item

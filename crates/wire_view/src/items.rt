@@ -6,7 +6,7 @@ ghost use Prim.Native.Nat.{_+_, _<_, _^_};
 ghost use lib.ListN.{length, getD};
 ghost use Rattle.wire_attributes.specs.Attribute.{attributeOf, fits};
 ghost use Rattle.wire_attributes.specs.Layout.{attributes};
-ghost use Rattle.wire_attributes.specs.Tree.{two};
+ghost use Rattle.wire_attributes.specs.Tree.{number16};
 ghost use Rattle.wire_attributes.specs.declared.tables.Meaning.the-variants.{KeyLength};
 ghost use Rattle.wire_policies.specs.Selector.{Selector};
 ghost use Rattle.wire_policies.specs.Transform.{Transform};
@@ -69,7 +69,7 @@ pub fn selector_item(s: &[u8], base: usize) -> Item
 // The first Key Length of a transform's attributes, in bits, or 0. Internal.
 fn key_length(place: Place, s: &[u8]) -> usize
     requires { ⌜ isWhole (attributes place 0 (now s)) ≡ true ⌝ }
-    ensures { λ r. ⌜ r ≡ getD (map two (valuesIn KeyLength place (now (s .entry)))) 0 0 ⌝ }
+    ensures { λ r. ⌜ r ≡ getD (map number16 (valuesIn KeyLength place (now (s .entry)))) 0 0 ⌝ }
 {
     let v = wire_readers::values::value_of(Meaning::KeyLength, place, s, 0);
     if v.len() == 0 {
@@ -99,7 +99,7 @@ pub fn attribute_item(place: Place, s: &[u8], base: usize) -> Item
     requires { ⌜ base + length (now s) < 2 ^ 64 ⌝ }
     ensures { λ r. ⌜ (fits (now (s .entry)) ≡ true → r ≡ shownAttribute place base (attributeOf (now (s .entry)))) ⌝ }
 {
-    match wire_attributes::attribute_read(s) {
+    match wire_attributes::read_attribute(s) {
         Read::Attribute {
             short,
             kind,

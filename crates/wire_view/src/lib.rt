@@ -3,7 +3,7 @@
 // function here takes the view apart and leaves the work to `read`.
 ghost use mathlib.Core.Path.{_≡_};
 ghost use Prim.Native.Nat.{_+_};
-ghost use Rattle.wire_view.specs.View.{firstOctet, octetOf, kindOf, spiOf, spiStart, isAtEnd, nextAfter, itemAt, stepAt};
+ghost use Rattle.wire_view.specs.View.{firstOctet, octetOf, shownKind, shownSpi, spiStart, isAtEnd, nextAfter, itemAt, stepAt};
 
 pub mod items;
 pub mod read;
@@ -22,14 +22,14 @@ pub fn new<'a>(src: &'a [u8]) -> View<'a>
 
 // Which policy it is: a Group SA policy with its protocol, a group-wide policy, or none.
 pub fn kind<'a>(v: View<'a>) -> read::Kind
-    ensures { λ r. ⌜ (r ≡ kindOf (now (v .entry .src))) × (firstOctet r ≡ octetOf (now (v .entry .src))) ⌝ }
+    ensures { λ r. ⌜ (r ≡ shownKind (now (v .entry .src))) × (firstOctet r ≡ octetOf (now (v .entry .src))) ⌝ }
 {
     read::kind_of(v.src)
 }
 
 // The octets of its SPI, where they stand; none for a group-wide policy and for no policy.
 pub fn spi<'a>(v: View<'a>) -> &'a [u8]
-    ensures { λ r. ⌜ (now r ≡ spiOf (now (v .entry .src)))
+    ensures { λ r. ⌜ (now r ≡ shownSpi (now (v .entry .src)))
         × (r .ptr ≡ (v .entry .src .ptr .0, spiStart (now (v .entry .src)) + v .entry .src .ptr .1)) ⌝ }
 {
     read::spi_of(v.src)
@@ -96,14 +96,14 @@ pub fn shown(s: &[u8], at: usize) -> items::Item
 
 // Which policy a view of the octets shows: for every caller that holds no view.
 pub fn shown_kind(s: &[u8]) -> read::Kind
-    ensures { λ r. ⌜ (r ≡ kindOf (now (s .entry))) × (firstOctet r ≡ octetOf (now (s .entry))) ⌝ }
+    ensures { λ r. ⌜ (r ≡ shownKind (now (s .entry))) × (firstOctet r ≡ octetOf (now (s .entry))) ⌝ }
 {
     kind(new(s))
 }
 
 // The octets of the SPI that a view of the octets shows: for every caller that holds no view.
 pub fn shown_spi(s: &[u8]) -> &[u8]
-    ensures { λ r. ⌜ (now r ≡ spiOf (now (s .entry)))
+    ensures { λ r. ⌜ (now r ≡ shownSpi (now (s .entry)))
         × (r .ptr ≡ (s .entry .ptr .0, spiStart (now (s .entry)) + s .entry .ptr .1)) ⌝ }
 {
     spi(new(s))

@@ -2,8 +2,9 @@
 ghost use mathlib.Core.Path.{_≡_};
 ghost use Prim.Native.Nat.{_+_, _<_};
 ghost use lib.ListN.{length};
-ghost use Rattle.wire_view.specs.View.{firstOctet, octetOf, kindOf, spiOf, spiStart};
-ghost use Rattle.wire_view.specs.View.{cursorAt, stays, selectorStep, transformStep, placeOf, attributeStep, firstStep, stepBy};
+ghost use Rattle.wire_view.specs.View.{firstOctet, octetOf, shownKind, shownSpi, spiStart};
+ghost use Rattle.wire_view.specs.View.{cursorAt, stayStep, selectorStep, transformStep, policyPlace, attributeStep, firstStep};
+ghost use Rattle.wire_view.specs.View.{stepBy};
 ghost use Rattle.wire_view.specs.View.{stepAt, itemAt, nextAfter, isAtEnd};
 use crate::items::Item;
 use ikev2_numbers::MORE_TRANSFORMS;
@@ -21,7 +22,7 @@ pub enum Kind {
 
 // Which policy the octets are, to their end. Internal.
 pub fn kind_of(s: &[u8]) -> Kind
-    ensures { λ r. ⌜ (r ≡ kindOf (now (s .entry))) × (firstOctet r ≡ octetOf (now (s .entry))) ⌝ }
+    ensures { λ r. ⌜ (r ≡ shownKind (now (s .entry))) × (firstOctet r ≡ octetOf (now (s .entry))) ⌝ }
 {
     if s.len() < POLICY_HEAD {
         return Kind::Nothing;
@@ -45,7 +46,7 @@ pub fn kind_of(s: &[u8]) -> Kind
 
 // The SPI of the policy that the octets are, where it stands; none for a group-wide policy and for no policy. Internal.
 pub fn spi_of(s: &[u8]) -> &[u8]
-    ensures { λ r. ⌜ (now r ≡ spiOf (now (s .entry)))
+    ensures { λ r. ⌜ (now r ≡ shownSpi (now (s .entry)))
         × (r .ptr ≡ (s .entry .ptr .0, spiStart (now (s .entry)) + s .entry .ptr .1)) ⌝ }
 {
     match kind_of(s) {
@@ -83,7 +84,7 @@ fn cursor_at(at: usize, comes: usize) -> usize
 
 // The step that shows nothing and stays. Internal.
 fn stay(c: usize) -> Step
-    ensures { λ r. ⌜ r ≡ stays c ⌝ }
+    ensures { λ r. ⌜ r ≡ stayStep c ⌝ }
 {
     Step {
         item: Item::Nothing,
@@ -142,7 +143,7 @@ fn transform_step(s: &[u8], c: usize, at: usize) -> Step
 // The place of a policy's attributes, by its first octet. Internal.
 fn place_of(s: &[u8]) -> Place
     requires { ⌜ 0 < length (now s) ⌝ }
-    ensures { λ r. ⌜ r ≡ placeOf (now (s .entry)) ⌝ }
+    ensures { λ r. ⌜ r ≡ policyPlace (now (s .entry)) ⌝ }
 {
     let p = octets::wide(s[0]);
     if p == 0 {

@@ -7,7 +7,7 @@ use mir.Syntax.{w8}
 use mir.Val.{Fits}
 use Rattle.octets.specs.Numbers.{oct}
 use Rattle.fips197.specs.Cipher.{invCipher}
-use Rattle.aes.specs.inner.Rounds.{blockOf, loadOf, swappedOf, runOf}
+use Rattle.aes.specs.inner.Rounds.{stateOctets, loadOf, swappedOf, runOf}
 use Rattle.aes.proofs.Enciphering.{loaded}
 use Rattle.aes.proofs.Deciphering.{deciphered, its-inverse-rounds}
 use borrow.Author.Needs.{needs}
@@ -17,16 +17,16 @@ use Rattle.aes.proofs.decrypt.Tie as tie
 load-requires : tie.Need-load-requires
 load-requires c κs = search needs
 
-swapped-requires : tie.Need-swapped-requires
-swapped-requires c κs = search needs
+reverse-columns-requires : tie.Need-reverse-columns-requires
+reverse-columns-requires c κs = search needs
 
 run-requires : tie.Need-run-requires
 run-requires c κs =
     let b = its-inverse-rounds (c .before .before .before .pre .1) in
     (search needs, omega (arith, b .0), b .1)
 
-swapped-requires-2 : tie.Need-swapped-requires-2
-swapped-requires-2 c κs = search needs
+reverse-columns-requires-2 : tie.Need-reverse-columns-requires-2
+reverse-columns-requires-2 c κs = search needs
 
 store-requires : tie.Need-store-requires
 store-requires c κs = search needs
@@ -37,12 +37,12 @@ returns c = λ key x.
     let s = a .args .block in
     let l : (i : ℕ) → oct s i < 256 = λ i. let f : Fits w8 (getD s i 0) = search needs in f .fits in
     c .store .ensures
-    ∙ ap blockOf
-    (c .before .swapped2 .ensures
+    ∙ ap stateOctets
+    (c .before .reverse-columns2 .ensures
     ∙ ap swappedOf
     (c .before .before .run .ensures
     ∙ ap (runOf (a .args .tables .now) (a .args .schedule .now))
-    (c .before .before .before .swapped .ensures ∙ ap swappedOf (c .before .before .before .before .load .ensures))))
+    (c .before .before .before .reverse-columns .ensures ∙ ap swappedOf (c .before .before .before .before .load .ensures))))
     ∙ deciphered (a .pre .0) x (loadOf s) ∙ ap (invCipher key) (loaded s (record { size = search needs; small = l }))
 
 pub decrypt-spec : {M : Type 1} → statement M
@@ -50,8 +50,8 @@ decrypt-spec =
     tie.close
     (tie.spec
     load-requires
-    swapped-requires
+    reverse-columns-requires
     run-requires
-    swapped-requires-2
+    reverse-columns-requires-2
     store-requires
     returns)

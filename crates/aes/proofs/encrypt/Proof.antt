@@ -7,7 +7,7 @@ use mir.Syntax.{w8}
 use mir.Val.{Fits}
 use Rattle.octets.specs.Numbers.{oct}
 use Rattle.fips197.specs.Cipher.{cipher}
-use Rattle.aes.specs.inner.Rounds.{blockOf, loadOf, runOf}
+use Rattle.aes.specs.inner.Rounds.{stateOctets, loadOf, runOf}
 use Rattle.aes.proofs.Enciphering.{loaded, enciphered, its-rounds}
 use borrow.Author.Needs.{needs}
 use Rattle.aes.proofs.encrypt.Statement.{statement}
@@ -30,7 +30,7 @@ returns c = λ key x.
     let s = a .args .block in
     let l : (i : ℕ) → oct s i < 256 = λ i. let f : Fits w8 (getD s i 0) = search needs in f .fits in
     c .store .ensures
-    ∙ ap blockOf
+    ∙ ap stateOctets
     (c .before .run .ensures ∙ ap (runOf (a .args .tables .now) (a .args .schedule .now)) (c .before .before .load .ensures))
     ∙ enciphered (a .pre .0) x (loadOf s) ∙ ap (cipher key) (loaded s (record { size = search needs; small = l }))
 

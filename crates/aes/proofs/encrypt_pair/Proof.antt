@@ -2,7 +2,7 @@
 use mathlib.Core.Path.{ap, _∙_}
 use native.Mathlib.Omega.{arith}
 use Rattle.fips197.specs.Cipher.{cipher}
-use Rattle.aes.specs.inner.Rounds.{blockOf, splitOf, runOf}
+use Rattle.aes.specs.inner.Rounds.{stateOctets, splitOf, runOf}
 use Rattle.aes.proofs.Pairs.{halved, united}
 use Rattle.aes.proofs.Enciphering.{enciphered, its-rounds}
 use borrow.Author.Needs.{needs}
@@ -25,7 +25,7 @@ returns c = λ key x.
     let a = c .before .before .before .before in
     let e = a .args in
     united (c .before .run .result) (c .unite .ensures)
-    ∙ ap blockOf (c .before .run .ensures ∙ ap (runOf (e .tables .now) (e .schedule .now)) (c .before .before .split .ensures))
+    ∙ ap stateOctets (c .before .run .ensures ∙ ap (runOf (e .tables .now) (e .schedule .now)) (c .before .before .split .ensures))
     ∙ enciphered (a .pre .0) x (splitOf (e .hi) (e .lo)) ∙ ap (cipher key) (halved (e .hi) (e .lo))
 
 pub encrypt-pair-spec : {M : Type 1} → statement M

@@ -5,17 +5,17 @@ use mathlib.Core.List.{List}
 use lib.ListN.{length, getD}
 use Rattle.fips197.specs.Field.{power}
 use Rattle.fips197.specs.Expansion.{word, keyExpansion}
-use Rattle.aes.specs.declared.expansion.Place.{Place}
-use Rattle.aes.specs.inner.Word.{four}
-use Rattle.aes.specs.inner.Schedule.{Blank}
+use Rattle.aes.specs.declared.expansion.WordPlace.{WordPlace}
+use Rattle.aes.specs.inner.Word.{wordOctets}
+use Rattle.aes.specs.inner.Schedule.{ZeroWords}
 
 -- the first i words of the expanded key stand in w, and zeros behind them
-pub record Grown (key w : List ℕ) (i : ℕ) : Type 0 where
+pub record ExpandedTo (key w : List ℕ) (i : ℕ) : Type 0 where
   pub size : length w ≡ 61
-  pub same : (j : ℕ) → j < i → four (getD w j 0) ≡ word (keyExpansion key) j
-  pub behind : Blank w i 61
+  pub same : (j : ℕ) → j < i → wordOctets (getD w j 0) ≡ word (keyExpansion key) j
+  pub behind : ZeroWords w i 61
 
 -- where word i stands: which word of its Nk words it is, and the first octet of Rcon[i / Nk]
-pub record Placed (nk i : ℕ) (p : Place) : Type 0 where
+pub record Placed (nk i : ℕ) (p : WordPlace) : Type 0 where
   pub among : p .word ≡ i % nk
   pub rcon : p .constant ≡ power (i / nk - 1)

@@ -3,16 +3,16 @@ use Prim.Native.Nat.{ℕ, zero, suc, _+_, _*_, _/_, _%_, _-_}
 use mathlib.Core.List.{List, _++_}
 use lib.ListN.{getD}
 use lib.Bits.{bitXor}
-use Rattle.aes.specs.declared.State.{State}
+use Rattle.aes.specs.declared.AesState.{AesState}
 use Rattle.aes.specs.declared.Pair.{Pair}
-use Rattle.aes.specs.inner.Word.{four, wordOf, columnOf, lastColumnOf}
+use Rattle.aes.specs.inner.Word.{wordOctets, wordOf, columnOf, lastColumnOf}
 
 -- the 16 octets of a state
-abbrev pub blockOf : State → List ℕ
-blockOf s = four (s .a) ++ (four (s .b) ++ (four (s .c) ++ four (s .d)))
+abbrev pub stateOctets : AesState → List ℕ
+stateOctets s = wordOctets (s .a) ++ (wordOctets (s .b) ++ (wordOctets (s .c) ++ wordOctets (s .d)))
 
 -- the state of 16 octets
-unfoldable pub loadOf : List ℕ → State
+unfoldable pub loadOf : List ℕ → AesState
 loadOf s =
     record {
       a = wordOf (getD s 0 0) (getD s 1 0) (getD s 2 0) (getD s 3 0);
@@ -22,12 +22,12 @@ loadOf s =
     }
 
 -- the state of a block that is two numbers of 64 bits
-unfoldable pub splitOf : ℕ → ℕ → State
+unfoldable pub splitOf : ℕ → ℕ → AesState
 splitOf hi lo =
     record { a = hi / 4294967296 % 4294967296; b = hi % 4294967296; c = lo / 4294967296 % 4294967296; d = lo % 4294967296 }
 
 -- a state as two numbers of 64 bits
-unfoldable pub uniteOf : State → Pair
+unfoldable pub uniteOf : AesState → Pair
 uniteOf s =
     record {
       hi = s .a % 4294967296 * 4294967296 + s .b % 4294967296;
@@ -35,16 +35,16 @@ uniteOf s =
     }
 
 -- the columns counted the other way round: 0, 3, 2, 1
-abbrev pub swappedOf : State → State
+abbrev pub swappedOf : AesState → AesState
 swappedOf s = record { a = s .a; b = s .d; c = s .c; d = s .b }
 
 -- round key r of the words k
-abbrev pub keyOf : List ℕ → ℕ → State
-keyOf k r = record { a = getD k (4 * r) 0; b = getD k (4 * r + 1) 0; c = getD k (4 * r + 2) 0; d = getD k (4 * r + 3) 0 }
+abbrev pub roundKeyOf : List ℕ → ℕ → AesState
+roundKeyOf k r = record { a = getD k (4 * r) 0; b = getD k (4 * r + 1) 0; c = getD k (4 * r + 2) 0; d = getD k (4 * r + 3) 0 }
 
 -- round key 0 added
-unfoldable pub startOf : List ℕ → State → State
-startOf k s =
+unfoldable pub addFirstKey : List ℕ → AesState → AesState
+addFirstKey k s =
     record {
       a = bitXor (s .a) (getD k 0 0);
       b = bitXor (s .b) (getD k 1 0);
@@ -53,7 +53,7 @@ startOf k s =
     }
 
 -- round r, with the combined table that t begins with
-unfoldable pub roundOf : List ℕ → List ℕ → ℕ → State → State
+unfoldable pub roundOf : List ℕ → List ℕ → ℕ → AesState → AesState
 roundOf t k r s =
     record {
       a = columnOf t (s .a) (s .b) (s .c) (s .d) (getD k (4 * r) 0);
@@ -63,7 +63,7 @@ roundOf t k r s =
     }
 
 -- the last round, with the substitution box that stands in t from 256 on
-unfoldable pub lastRoundOf : List ℕ → List ℕ → ℕ → State → State
+unfoldable pub lastRoundOf : List ℕ → List ℕ → ℕ → AesState → AesState
 lastRoundOf t k r s =
     record {
       a = lastColumnOf t 256 (s .a) (s .b) (s .c) (s .d) (getD k (4 * r) 0);
@@ -73,12 +73,12 @@ lastRoundOf t k r s =
     }
 
 -- rounds 1 to n
-abbrev pub roundsUpTo : List ℕ → List ℕ → ℕ → State → State
+abbrev pub roundsUpTo : List ℕ → List ℕ → ℕ → AesState → AesState
 roundsUpTo t k zero s = s
 roundsUpTo t k (suc n) s = roundOf t k (suc n) (roundsUpTo t k n s)
 
 -- all rounds, as many as stand behind the words of the schedule
-unfoldable pub runOf : List ℕ → List ℕ → State → State
+unfoldable pub runOf : List ℕ → List ℕ → AesState → AesState
 runOf t k s =
     let n : ℕ = getD k 60 0 in
-    lastRoundOf t k n (roundsUpTo t k (n - 1) (startOf k s))
+    lastRoundOf t k n (roundsUpTo t k (n - 1) (addFirstKey k s))

@@ -17,8 +17,8 @@ b2 x = x / 256 % 256
 abbrev pub b3 : ℕ → ℕ
 b3 x = x % 256
 
-abbrev pub four : ℕ → List ℕ
-four x = b0 x ∷ b1 x ∷ b2 x ∷ b3 x ∷ []
+abbrev pub wordOctets : ℕ → List ℕ
+wordOctets x = b0 x ∷ b1 x ∷ b2 x ∷ b3 x ∷ []
 
 -- the word of four octets
 abbrev pub wordOf : ℕ → ℕ → ℕ → ℕ → ℕ

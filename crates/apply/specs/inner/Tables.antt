@@ -10,7 +10,7 @@ use Rattle.state_keys.specs.Lists.{any}
 use Rattle.state_keys.specs.Limits.{limits}
 use Rattle.wire_frames.specs.Delete.{Delete}
 use Rattle.check_payloads.specs.inner.Deletion.{DeletesFrom}
-use Rattle.state_sa.specs.Entry.{esp, rekey, spiOf}
+use Rattle.state_sa.specs.Entry.{espProtocol, rekeyProtocol, saSpi}
 use Rattle.state_sa.specs.declared.entry.Sa.{Sa}
 use Rattle.state_table.specs.Table.{retiredIf}
 use Rattle.state_table.specs.declared.Table.{Table}
@@ -19,11 +19,11 @@ use Rattle.apply.specs.declared.retiring.DeletesAt.{DeletesAt}
 
 -- what some of these SPIs name
 abbrev pub namedIn : List (List ℕ) → Sa → Bool
-namedIn l s = eqb (s .protocol) esp && any (λ (x : List ℕ). isZero x || same (spiOf s) x) l
+namedIn l s = eqb (s .protocol) espProtocol && any (λ (x : List ℕ). isZero x || same (saSpi s) x) l
 
 -- with a new Rekey SA, the old one
 abbrev pub outdated : Bool → Sa → Bool
-outdated new s = new && eqb (s .protocol) rekey
+outdated new s = new && eqb (s .protocol) rekeyProtocol
 
 -- the SAs of a table that a test picks retire in their places; where its count is not within the limit, none does
 unfoldable pub retiredThere : (Sa → Bool) → ℕ → ℕ → Table → Table

@@ -11,10 +11,10 @@ use Rattle.check_bagkeys.proofs.kd_facts.Statement.{statement}
 use Rattle.check_bagkeys.proofs.kd_facts.Tie as tie
 
 abbrev Inv-loop : tie.InvT-loop
-Inv-loop k f₀ found₀ at₀ f found at = KdWalk k f found at
+Inv-loop kd f₀ found₀ at₀ f found at = KdWalk kd f found at
 
 abbrev μ-loop : tie.MeasureT-loop
-μ-loop k f₀ found₀ at₀ f found at = length k - at
+μ-loop kd f₀ found₀ at₀ f found at = length kd - at
 
 no-bags-requires : tie.Need-no-bags-requires Inv-loop μ-loop
 no-bags-requires c κs = search needs
@@ -35,16 +35,16 @@ part-bag-parts-end c = search needs
 bag-parts-requires : tie.Need-bag-parts-requires Inv-loop μ-loop
 bag-parts-requires c κs =
     let l = c .before .before .loop in
-    bag-there (now (c .before .before .before .before .before .args .k)) (l .at) (c .before .loop-test .taken) (l .inv .bags .rest)
+    bag-there (now (c .before .before .before .before .before .args .kd)) (l .at) (c .before .loop-test .taken) (l .inv .bags .rest)
 
 stands : (c : tie.After-struct-known Inv-loop μ-loop)
-    → BagAt (now (c .before .before .before .before .before .before .before .args .k)) (c .before .before .before .before .loop .at)
+    → BagAt (now (c .before .before .before .before .before .before .before .args .kd)) (c .before .before .before .before .loop .at)
     (c .before .bag-parts .result)
 stands c = bag-at _ _ _ (c .before .before .before .loop-test .taken) (c .before .bag-parts .ensures)
 
 -- the body's length is a number of the code
 short : (c : tie.After-struct-known Inv-loop μ-loop)
-    → length (now (c .before .before .before .before .before .before .before .args .k)) < 18446744073709551616
+    → length (now (c .before .before .before .before .before .before .before .args .kd)) < 18446744073709551616
 short c = omega arith
 
 add-start : tie.Need-add-start Inv-loop μ-loop
@@ -68,8 +68,8 @@ part-of-bag-end c = stands (c .before .before) .inside
 of-bag-requires : tie.Need-of-bag-requires Inv-loop μ-loop
 of-bag-requires c κs = stands (c .before .before .before) .held
 
-together-requires : tie.Need-together-requires Inv-loop μ-loop
-together-requires c κs =
+merge-requires : tie.Need-merge-requires Inv-loop μ-loop
+merge-requires c κs =
     let s = c .before .before .before .before in
     let l = s .before .before .before .before .loop in
     let z = bags-room _ _ (l .f) (l .at) (l .inv .bags) _ (stands s) _ (c .of-bag .ensures) in
@@ -85,7 +85,7 @@ loop-again c =
     let s = m .before .before in
     let l = s .before .before .before .before .loop in
     record {
-      bags = bags-next _ _ (l .f) (l .at) (l .inv .bags) _ (stands s) _ (o .of-bag .ensures) _ (c .together .ensures);
+      bags = bags-next _ _ (l .f) (l .at) (l .inv .bags) _ (stands s) _ (o .of-bag .ensures) _ (c .merge .ensures);
       found = sought-next _ (l .found) (l .at) (l .inv .found) (s .before .before .before .loop-test .taken) _ (stands s) _
           (m .first-member .ensures);
     }
@@ -116,7 +116,7 @@ kd-facts-spec =
     part-of-bag-start
     part-of-bag-end
     of-bag-requires
-    together-requires
+    merge-requires
     loop-less
     loop-again
     returns)

@@ -16,7 +16,7 @@ use Rattle.wire_attributes.specs.declared.tables.Meaning.{Meaning}
 use Rattle.wire_attributes.specs.declared.tables.Meaning.the-variants as meaning
 use Rattle.wire_attributes.specs.declared.tables.Place.the-variants as place
 use Rattle.wire_bags.specs.Bag.{Bag, groupKeys, memberKeys, GroupKeyBag, MemberKeyBag}
-use Rattle.state_sa.specs.Entry.{esp, rekey}
+use Rattle.state_sa.specs.Entry.{espProtocol, rekeyProtocol}
 use Rattle.rules_refusals.specs.Contents.{gather, groupBagOf, memberBagOf}
 use Rattle.rules_refusals.specs.Fitness.{ah}
 use Rattle.rules_refusals.specs.Number6.{hasKeyId, hasKwkId, underItself}
@@ -24,14 +24,14 @@ use Rattle.check_bagkeys.specs.declared.wrapped.KeyFacts.{KeyFacts}
 use Rattle.check_bagkeys.specs.declared.BagFacts.{BagFacts}
 
 -- ---- the wrapped keys of one bag, by the values of their attributes
-abbrev pub isKey : Meaning → Bool
-isKey meaning.Skipped = false
-isKey meaning.KeyLength = false
-isKey meaning.InitialMessageId = false
-isKey meaning.DeactivationDelay = false
-isKey meaning.KeyLifetime = false
-isKey meaning.SaKey = true
-isKey meaning.WrapKey = true
+abbrev pub carriesKey : Meaning → Bool
+carriesKey meaning.Skipped = false
+carriesKey meaning.KeyLength = false
+carriesKey meaning.InitialMessageId = false
+carriesKey meaning.DeactivationDelay = false
+carriesKey meaning.KeyLifetime = false
+carriesKey meaning.SaKey = true
+carriesKey meaning.WrapKey = true
 
 abbrev pub noId : List ℕ → Bool
 noId v = eqb (be32 v 0) 0
@@ -70,11 +70,11 @@ ofGroup limits p k = record {
   itself = false;  -- likewise
   ah = eqb p ah;
   keyless = eqb (k .keys) 0;
-  several = not (eqb p rekey) && ltb 1 (k .keys);
-  «several_of_rekey» = eqb p rekey && ltb 1 (k .keys);
+  several = not (eqb p rekeyProtocol) && ltb 1 (k .keys);
+  «several_of_rekey» = eqb p rekeyProtocol && ltb 1 (k .keys);
   overfull = ltb (limits .saKeys) (k .keys);
   named = k .named;
-  «esp_with_kwk_id» = eqb p esp && k .«with_kwk_id»;
+  «esp_with_kwk_id» = eqb p espProtocol && k .«with_kwk_id»;
 }
 
 abbrev pub ofMember : KeyFacts → BagFacts
@@ -136,8 +136,8 @@ noBags = record {
   «esp_with_kwk_id» = false;
 }
 
-abbrev pub together : BagFacts → BagFacts → BagFacts
-together a b = record {
+abbrev pub mergeBagFacts : BagFacts → BagFacts → BagFacts
+mergeBagFacts a b = record {
   members = a .members + b .members;
   wraps = a .wraps + b .wraps;
   unnamed = a .unnamed || b .unnamed;
@@ -155,17 +155,17 @@ abbrev pub wrapsIn : List Bag → List WrapKey
 wrapsIn l = gather (λ (b : MemberKeyBag). b .keys) (gather memberBagOf l)
 
 -- THE FACTS OF THESE BAGS
-abbrev pub factsOf : Limits → List Bag → BagFacts
-factsOf limits l = record {
+abbrev pub bagFactsOf : Limits → List Bag → BagFacts
+bagFactsOf limits l = record {
   members = length (gather memberBagOf l);
   wraps = length (wrapsIn l);
   unnamed = any (λ (k : WrapKey). eqb (k .keyId) 0) (wrapsIn l);
   itself = any underItself (wrapsIn l);
   ah = any (λ (b : GroupKeyBag). eqb (b .protocol) ah) (gather groupBagOf l);
   keyless = any (λ (b : GroupKeyBag). eqb (length (b .keys)) 0) (gather groupBagOf l);
-  several = any (λ (b : GroupKeyBag). not (eqb (b .protocol) rekey) && ltb 1 (length (b .keys))) (gather groupBagOf l);
-  «several_of_rekey» = any (λ (b : GroupKeyBag). eqb (b .protocol) rekey && ltb 1 (length (b .keys))) (gather groupBagOf l);
+  several = any (λ (b : GroupKeyBag). not (eqb (b .protocol) rekeyProtocol) && ltb 1 (length (b .keys))) (gather groupBagOf l);
+  «several_of_rekey» = any (λ (b : GroupKeyBag). eqb (b .protocol) rekeyProtocol && ltb 1 (length (b .keys))) (gather groupBagOf l);
   overfull = any (λ (b : GroupKeyBag). ltb (limits .saKeys) (length (b .keys))) (gather groupBagOf l);
   named = any (λ (b : GroupKeyBag). any hasKeyId (b .keys)) (gather groupBagOf l);
-  «esp_with_kwk_id» = any (λ (b : GroupKeyBag). eqb (b .protocol) esp && any hasKwkId (b .keys)) (gather groupBagOf l);
+  «esp_with_kwk_id» = any (λ (b : GroupKeyBag). eqb (b .protocol) espProtocol && any hasKwkId (b .keys)) (gather groupBagOf l);
 }

@@ -11,7 +11,7 @@ use Rattle.wire_policies.specs.Policy.{headSize}
 use Rattle.wire_readers.specs.inner.Values.{nowhere}
 use Rattle.wire_readers.specs.inner.Bags.{bagsIn}
 use Rattle.wire_readers.specs.declared.Stretch.{Stretch}
-use Rattle.check_bagkeys.specs.inner.Facts.{factsOf}
+use Rattle.check_bagkeys.specs.inner.Facts.{bagFactsOf}
 use Rattle.check_bagkeys.specs.declared.KdFacts.{KdFacts}
 
 -- the first one among n bags at most that stand from `at` on, up to the end of the body: a Member Key Bag is "0, reserved, length 2,
@@ -34,4 +34,4 @@ firstMember first here known = cond (eqb first 0 && eqb (known .end) 0) here kno
 
 -- THE FACTS OF THIS BODY
 abbrev pub kdFactsOf : Limits → List ℕ → KdFacts
-kdFactsOf limits k = record { bags = factsOf limits (bagsIn k); «member_bag» = memberIn k }
+kdFactsOf limits k = record { bags = bagFactsOf limits (bagsIn k); «member_bag» = memberIn k }

@@ -9,10 +9,10 @@ use Rattle.check_composition.proofs.policy_facts.Statement.{statement}
 use Rattle.check_composition.proofs.policy_facts.Tie as tie
 
 abbrev Inv-loop : tie.InvT-loop
-Inv-loop authentication g f₀ at₀ f at = PolicyWalk authentication g f at
+Inv-loop authentication gsa f₀ at₀ f at = PolicyWalk authentication gsa f at
 
 abbrev μ-loop : tie.MeasureT-loop
-μ-loop authentication g f₀ at₀ f at = length g - at
+μ-loop authentication gsa f₀ at₀ f at = length gsa - at
 
 no-policies-requires : tie.Need-no-policies-requires Inv-loop μ-loop
 no-policies-requires c κs = search needs
@@ -32,10 +32,10 @@ part-policy-parts-end c = search needs
 policy-parts-requires : tie.Need-policy-parts-requires Inv-loop μ-loop
 policy-parts-requires c κs =
     let l = c .before .before .loop in
-    reads-policy (now (c .before .before .before .before .before .args .g)) (l .at) (c .before .loop-test .taken) (l .inv .rest)
+    reads-policy (now (c .before .before .before .before .before .args .gsa)) (l .at) (c .before .loop-test .taken) (l .inv .rest)
 
 stands : (c : tie.After-struct-known Inv-loop μ-loop)
-    → PolicyAt (now (c .before .before .before .before .before .before .before .args .g)) (c .before .before .before .before .loop .at)
+    → PolicyAt (now (c .before .before .before .before .before .before .before .args .gsa)) (c .before .before .before .before .loop .at)
     (c .before .policy-parts .result)
 stands c = policy-at _ _ _ (c .before .before .before .before .loop .inv .inside) (c .before .policy-parts .ensures)
 
@@ -57,8 +57,8 @@ part-of-policy-end c = stands (c .before) .inside
 of-policy-requires : tie.Need-of-policy-requires Inv-loop μ-loop
 of-policy-requires c κs = holds-one _ _ _ (stands (c .before .before))
 
-together-requires : tie.Need-together-requires Inv-loop μ-loop
-together-requires c κs =
+merge-requires : tie.Need-merge-requires Inv-loop μ-loop
+merge-requires c κs =
     let l = c .before .before .before .before .before .before .before .loop in
     let z = policies-room _ _ (l .f) (l .at) (l .inv) _ (stands (c .before .before .before)) _ (c .of-policy .ensures) in
     record {
@@ -75,7 +75,7 @@ loop-again : tie.Need-loop-again Inv-loop μ-loop
 loop-again c =
     let o = c .before in
     let l = o .before .before .before .before .before .before .before .loop in
-    policies-next _ _ (l .f) (l .at) (l .inv) _ (stands (o .before .before .before)) _ (o .of-policy .ensures) _ (c .together .ensures)
+    policies-next _ _ (l .f) (l .at) (l .inv) _ (stands (o .before .before .before)) _ (o .of-policy .ensures) _ (c .merge .ensures)
 
 returns : tie.Need-returns Inv-loop μ-loop
 returns c = policies-end _ _ (c .before .loop .f) (c .before .loop .at) (c .before .loop .inv) (c .loop-test .left)
@@ -98,7 +98,7 @@ policy-facts-spec =
     part-of-policy-start
     part-of-policy-end
     of-policy-requires
-    together-requires
+    merge-requires
     loop-less
     loop-again
     returns)

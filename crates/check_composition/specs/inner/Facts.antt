@@ -16,7 +16,7 @@ use Rattle.wire_policies.specs.Policy.{Policy, groupSa, groupWide, GroupSaPolic
 use Rattle.wire_policies.specs.Grammar.{IsSaBody}
 use Rattle.wire_readers.specs.inner.Values.{isWhole, attributesIn}
 use Rattle.state_sa.specs.Entry.{mostSeconds}
-use Rattle.rules_refusals.specs.Contents.{several, gather, saOf, wideOf}
+use Rattle.rules_refusals.specs.Contents.{several, gather, groupSaIn, wideOf}
 use Rattle.rules_refusals.specs.Fitness.{ah, isEsp, isRekey, oneGroupAddress, transformsFit}
 use Rattle.rules_refusals.specs.Number4.{twiceInTransform}
 use Rattle.check_suites.specs.inner.Adding.{once}
@@ -88,21 +88,21 @@ saWith p spi x = record {
 }
 
 -- how many there can be of each
-pub record AtMost (n : ℕ) (f : PolicyFacts) : Type 0 where
+pub record PolicyFactsAtMost (n : ℕ) (f : PolicyFacts) : Type 0 where
   pub sas : f .sas ≤ n
   pub esps : f .esps ≤ n
   pub rekeys : f .rekeys ≤ n
   pub wides : f .wides ≤ n
 
 -- the octets o after the head of a policy with this first octet, and the facts of that policy
-pub record Holds (first : ℕ) (o : List ℕ) : Type 0 where
+pub record PolicyBodyHolds (first : ℕ) (o : List ℕ) : Type 0 where
   pub wide : first ≡ 0 → isWhole (attributes place.GroupWidePolicy 0 o) ≡ true
   pub sa : (first ≡ 0 → ⊥) → (x : SaBody) × IsSaBody (inPolicy first) o x
 
-pub record OfOne (authentication : Bool) (first : ℕ) (o : List ℕ) (r : PolicyFacts) : Type 0 where
+pub record FactsOfPolicy (authentication : Bool) (first : ℕ) (o : List ℕ) (r : PolicyFacts) : Type 0 where
   pub wide : first ≡ 0 → r ≡ ofPolicy authentication (groupWideOf (attributesIn place.GroupWidePolicy o))
   pub sa : (first ≡ 0 → ⊥) → (x : SaBody) (spi : List ℕ) → IsSaBody (inPolicy first) o x → r ≡ ofSa authentication (saWith first spi x)
-  pub few : AtMost 1 r
+  pub few : PolicyFactsAtMost 1 r
 
 -- ---- all policies
 abbrev pub noPolicies : PolicyFacts
@@ -123,8 +123,8 @@ noPolicies = record {
   initial = 0;
 }
 
-abbrev pub together : PolicyFacts → PolicyFacts → PolicyFacts
-together a b = record {
+abbrev pub mergePolicyFacts : PolicyFacts → PolicyFacts → PolicyFacts
+mergePolicyFacts a b = record {
   sas = a .sas + b .sas;
   esps = a .esps + b .esps;
   rekeys = a .rekeys + b .rekeys;
@@ -149,20 +149,20 @@ pub record Added (a b : PolicyFacts) : Type 0 where
   pub wides : a .wides + b .wides < 18446744073709551616
 
 -- THE FACTS OF THESE POLICIES
-abbrev pub factsOf : Bool → List Policy → PolicyFacts
-factsOf authentication l = record {
-  sas = length (gather saOf l);
-  esps = count isEsp (gather saOf l);
-  rekeys = count isRekey (gather saOf l);
+abbrev pub policyFactsOf : Bool → List Policy → PolicyFacts
+policyFactsOf authentication l = record {
+  sas = length (gather groupSaIn l);
+  esps = count isEsp (gather groupSaIn l);
+  rekeys = count isRekey (gather groupSaIn l);
   wides = length (gather wideOf l);
-  ah = any (λ (p : GroupSaPolicy). eqb (p .protocol) ah) (gather saOf l);
-  «two_lengths» = any (λ (p : GroupSaPolicy). any twiceInTransform (p .transforms)) (gather saOf l);
-  «two_message_ids» = any (λ (p : GroupSaPolicy). several (p .initialMessageIds)) (gather saOf l);
+  ah = any (λ (p : GroupSaPolicy). eqb (p .protocol) ah) (gather groupSaIn l);
+  «two_lengths» = any (λ (p : GroupSaPolicy). any twiceInTransform (p .transforms)) (gather groupSaIn l);
+  «two_message_ids» = any (λ (p : GroupSaPolicy). several (p .initialMessageIds)) (gather groupSaIn l);
   «two_delays» = any (λ (w : GroupWidePolicy). several (w .deactivationDelays)) (gather wideOf l);
-  «two_lifetimes» = any (λ (p : GroupSaPolicy). several (p .keyLifetimes)) (gather saOf l);
-  elsewhere = any (λ (p : GroupSaPolicy). isRekey p && not (oneGroupAddress (p .destination))) (gather saOf l);
-  long = any hasLong (gather saOf l);
-  unfit = any (λ (p : GroupSaPolicy). not (transformsFit authentication p)) (gather saOf l);
+  «two_lifetimes» = any (λ (p : GroupSaPolicy). several (p .keyLifetimes)) (gather groupSaIn l);
+  elsewhere = any (λ (p : GroupSaPolicy). isRekey p && not (oneGroupAddress (p .destination))) (gather groupSaIn l);
+  long = any hasLong (gather groupSaIn l);
+  unfit = any (λ (p : GroupSaPolicy). not (transformsFit authentication p)) (gather groupSaIn l);
   delay = greatest (gather (λ (w : GroupWidePolicy). w .deactivationDelays) (gather wideOf l));
-  initial = greatest (gather givenBy (gather saOf l));
+  initial = greatest (gather givenBy (gather groupSaIn l));
 }

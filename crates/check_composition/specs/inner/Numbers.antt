@@ -5,7 +5,7 @@ use mathlib.Core.List.{List, [], _∷_, map}
 use mathlib.Core.Bool.{Bool, true, false, cond}
 use lib.ListN.{length}
 use lib.Dec.{ltb}
-use Rattle.wire_attributes.specs.Tree.{two, four}
+use Rattle.wire_attributes.specs.Tree.{number16, number32}
 use Rattle.wire_attributes.specs.declared.tables.Meaning.{Meaning}
 use Rattle.wire_attributes.specs.declared.tables.Meaning.the-variants as meaning
 use Rattle.check_composition.specs.declared.numbers.Numbers.{Numbers}
@@ -30,9 +30,9 @@ isNumber meaning.WrapKey = false
 abbrev pub numberBy : Meaning → List ℕ → ℕ
 numberBy meaning.Skipped v = 0
 numberBy meaning.KeyLength v = 0
-numberBy meaning.InitialMessageId v = four v
-numberBy meaning.DeactivationDelay v = two v
-numberBy meaning.KeyLifetime v = four v
+numberBy meaning.InitialMessageId v = number32 v
+numberBy meaning.DeactivationDelay v = number16 v
+numberBy meaning.KeyLifetime v = number32 v
 numberBy meaning.SaKey v = 0
 numberBy meaning.WrapKey v = 0
 

@@ -8,9 +8,9 @@ use Rattle.state_keys.specs.Limits.{limits}
 use Rattle.wire_readers.specs.inner.Policies.{policiesIn}
 use Rattle.wire_readers.specs.inner.Bags.{bagsIn}
 use Rattle.wire_readers.specs.declared.Stretch.{Stretch}
-use Rattle.check_payloads.specs.inner.Facts.{factsOf as payloadFacts}
-use Rattle.check_composition.specs.inner.Facts.{factsOf as policyFacts}
-use Rattle.check_bagkeys.specs.inner.Facts.{factsOf as bagFacts}
+use Rattle.check_payloads.specs.inner.Facts.{payloadFactsOf as payloadFacts}
+use Rattle.check_composition.specs.inner.Facts.{policyFactsOf as policyFacts}
+use Rattle.check_bagkeys.specs.inner.Facts.{bagFactsOf as bagFacts}
 use Rattle.check_bagkeys.specs.inner.Places.{memberIn}
 use Rattle.check_judging.specs.declared.facts.Facts.{Facts}
 
@@ -19,8 +19,8 @@ abbrev pub at : List ℕ → Stretch → List ℕ
 at s x = part s (x .start) (x .end)
 
 -- in an exchange that has the controller's authentication or not
-abbrev pub factsOf : Bool → List ℕ → Facts
-factsOf authentication s = record {
+abbrev pub frameFactsOf : Bool → List ℕ → Facts
+frameFactsOf authentication s = record {
   payloads = payloadFacts s;
   policies = policyFacts authentication (policiesIn (at s (payloadFacts s .gsa)));
   bags = bagFacts limits (bagsIn (at s (payloadFacts s .kd)));

@@ -22,8 +22,8 @@ use Rattle.check_judging.specs.declared.number7.Seven.{Seven}
 -- critical, a barred Member bag, a barred D, two GSA, two KD, one without the other, neither; several Rekey policies, group-wide policies,
 -- Member bags; a GSA with no SA policy; Key Length, GSA_INITIAL_MESSAGE_ID, the delay twice; the Rekey destination;
 -- GSA_KEY_LIFETIME twice
-abbrev pub fourOf : Exchange → PayloadFacts → PolicyFacts → BagFacts → List Bool
-fourOf row b p k =
+abbrev pub number4Of : Exchange → PayloadFacts → PolicyFacts → BagFacts → List Bool
+number4Of row b p k =
     b .critical ∷ (not (row .«allows_member_bag») && ltb 0 (k .members)) ∷ (not (row .deletes) && ltb 0 (b .deletes))
     ∷ ltb 1 (b .gsas) ∷ ltb 1 (b .kds)
     ∷ (ltb 0 (b .gsas) && not (ltb 0 (b .kds))) ∷ (ltb 0 (b .kds) && not (ltb 0 (b .gsas)))
@@ -32,8 +32,8 @@ fourOf row b p k =
     ∷ p .«two_lengths» ∷ p .«two_message_ids» ∷ p .«two_delays» ∷ p .elsewhere ∷ p .«two_lifetimes» ∷ []
 
 -- an AH policy, an AH bag, other transforms, D of another protocol, D with count 0, a lent key of so many octets
-abbrev pub fiveOf : Exchange → ℕ → Deletes → PolicyFacts → BagFacts → List Bool
-fiveOf row lent d p k = p .ah ∷ k .ah ∷ p .unfit ∷ d .other ∷ d .none ∷ (row .«judges_lent_key» && not (sizeOf 13 lent)) ∷ []
+abbrev pub number5Of : Exchange → ℕ → Deletes → PolicyFacts → BagFacts → List Bool
+number5Of row lent d p k = p .ah ∷ k .ah ∷ p .unfit ∷ d .other ∷ d .none ∷ (row .«judges_lent_key» && not (sizeOf 13 lent)) ∷ []
 
 -- the SA_KEY count, an SA_KEY with a Key ID, one of ESP with a KWK ID, a WRAP_KEY without Key ID, one under its own Key ID
 abbrev pub keysBy : Exchange → BagFacts → List Bool
@@ -41,39 +41,40 @@ keysBy row k = ((k .keyless || k .several) || (not (row .copies) && k .«several
     k .itself ∷ []
 
 -- policies of the names l and bags of the names m not paired one to one, in the table already, and the keys
-abbrev pub sixOf : Exchange → BagFacts → List Name → List Name → ℕ → List Sa → List Bool
-sixOf row k l m now sas = any (isUnpaired m) l ∷ any (isUnpaired l) m ∷ any (isAnnounced now l) sas ∷ keysBy row k
+abbrev pub number6Of : Exchange → BagFacts → List Name → List Name → ℕ → List Sa → List Bool
+number6Of row k l m now sas = any (isUnpaired m) l ∷ any (isUnpaired l) m ∷ any (isAnnounced now l) sas ∷ keysBy row k
 
 -- ESP policies, WRAP_KEYs, SA_KEYs in a bag, deleted SPIs, a lifetime, SAs after the frame
-abbrev pub sevenOf : Limits → Deletes → PolicyFacts → BagFacts → ℕ → List Bool
-sevenOf limits d p k standing =
+abbrev pub number7Of : Limits → Deletes → PolicyFacts → BagFacts → ℕ → List Bool
+number7Of limits d p k standing =
     ltb (limits .espPolicies) (p .esps) ∷ ltb (limits .wrapKeys) (k .wraps) ∷ k .overfull ∷ ltb (limits .deletedSpis) (d .spis)
     ∷ p .long ∷ ltb (limits .sas) (standing + p .sas) ∷ []
 
 -- ---- over the facts of a frame
-abbrev pub fourBy : Exchange → Facts → List Bool
-fourBy row x = fourOf row (x .payloads) (x .policies) (x .bags)
+abbrev pub number4By : Exchange → Facts → List Bool
+number4By row x = number4Of row (x .payloads) (x .policies) (x .bags)
 
-abbrev pub fiveBy : Exchange → ℕ → Facts → List Bool
-fiveBy row lent x = fiveOf row lent (x .payloads .deletion) (x .policies) (x .bags)
+abbrev pub number5By : Exchange → ℕ → Facts → List Bool
+number5By row lent x = number5Of row lent (x .payloads .deletion) (x .policies) (x .bags)
 
-abbrev pub sixBy : Exchange → Facts → List Name → List Name → ℕ → List Sa → List Bool
-sixBy row x l m now sas = sixOf row (x .bags) l m now sas
+abbrev pub number6By : Exchange → Facts → List Name → List Name → ℕ → List Sa → List Bool
+number6By row x l m now sas = number6Of row (x .bags) l m now sas
 
-abbrev pub sevenBy : Limits → Facts → ℕ → List Bool
-sevenBy limits x standing = sevenOf limits (x .payloads .deletion) (x .policies) (x .bags) standing
+abbrev pub number7By : Limits → Facts → ℕ → List Bool
+number7By limits x standing = number7Of limits (x .payloads .deletion) (x .policies) (x .bags) standing
 
 -- ---- the clauses that code tells by name, as such lists
-abbrev pub fourIn : Four → List Bool
-fourIn c =
-    c .critical ∷ c .«member_bag» ∷ c .delete ∷ c .«two_gsa» ∷ c .«two_kd» ∷ c .«gsa_alone» ∷ c .«kd_alone» ∷ c .neither ∷ c .rekeys ∷ c .wides
+abbrev pub number4In : Four → List Bool
+number4In c =
+    c .critical ∷ c .«member_bag» ∷ c .delete ∷ c .«two_gsa» ∷ c .«two_kd» ∷ c .«gsa_alone» ∷ c .«kd_alone» ∷ c .neither ∷ c .rekeys
+    ∷ c .wides
     ∷ c .members ∷ c .«no_sa» ∷ c .«two_lengths» ∷ c .«two_message_ids» ∷ c .«two_delays» ∷ c .elsewhere ∷ c .«two_lifetimes» ∷ []
 
-abbrev pub fiveIn : Five → List Bool
-fiveIn c = c .«ah_policy» ∷ c .«ah_bag» ∷ c .unfit ∷ c .other ∷ c .none ∷ c .key ∷ []
+abbrev pub number5In : Five → List Bool
+number5In c = c .«ah_policy» ∷ c .«ah_bag» ∷ c .unfit ∷ c .other ∷ c .none ∷ c .key ∷ []
 
 abbrev pub keysIn : Keys → List Bool
 keysIn c = c .count ∷ c .named ∷ c .«esp_with_kwk_id» ∷ c .unnamed ∷ c .itself ∷ []
 
-abbrev pub sevenIn : Seven → List Bool
-sevenIn c = c .esps ∷ c .wraps ∷ c .overfull ∷ c .spis ∷ c .long ∷ c .sas ∷ []
+abbrev pub number7In : Seven → List Bool
+number7In c = c .esps ∷ c .wraps ∷ c .overfull ∷ c .spis ∷ c .long ∷ c .sas ∷ []

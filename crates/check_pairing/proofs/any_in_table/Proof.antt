@@ -13,12 +13,12 @@ use Rattle.check_pairing.proofs.any_in_table.Statement.{statement}
 use Rattle.check_pairing.proofs.any_in_table.Tie as tie
 
 abbrev Inv-loop : tie.InvT-loop
-Inv-loop g tick t n i₀ i =
+Inv-loop gsa tick t n i₀ i =
     (n ≤ limits .sas) × (length (t .sas) ≡ limits .sas) × (i ≤ n) ×
-    ((l : List Name) → Names g l → any (isAnnounced tick l) (take n (t .sas)) ≡ any (isAnnounced tick l) (drop i (take n (t .sas))))
+    ((l : List Name) → Names gsa l → any (isAnnounced tick l) (take n (t .sas)) ≡ any (isAnnounced tick l) (drop i (take n (t .sas))))
 
 abbrev μ-loop : tie.MeasureT-loop
-μ-loop g tick t n i₀ i = n - i
+μ-loop gsa tick t n i₀ i = n - i
 
 loop-holds : tie.Need-loop-holds Inv-loop μ-loop
 loop-holds c =

@@ -14,7 +14,7 @@ use Rattle.state_keys.specs.Lists.{any, count}
 use Rattle.state_sa.specs.Entry.{named}
 use Rattle.state_sa.specs.declared.entry.Sa.{Sa}
 use Rattle.state_table.specs.Table.{stays}
-use Rattle.wire_policies.specs.Policy.{headFits, spiOf}
+use Rattle.wire_policies.specs.Policy.{headFits, headSpi}
 
 pub record Name : Type 0 where
   pub protocol : ℕ
@@ -25,12 +25,13 @@ abbrev pub nameOf : ℕ → List ℕ → List Name
 nameOf p x = either (eqb p 0) [] (record { protocol = p; spi = x } ∷ [])
 
 abbrev pub nameAt : List ℕ → List Name
-nameAt s = nameOf (oct s 0) (spiOf s)
+nameAt s = nameOf (oct s 0) (headSpi s)
 
 -- THESE OCTETS ARE POLICIES OR KEY BAGS WITH THESE NAMES
 pub data Names : List ℕ → List Name → Type 0 where
   no-more : (s : List ℕ) → length s ≡ 0 → Names s []
-  next : (s : List ℕ) {l : List Name} → 0 < length s → headFits s ≡ true → Names (drop (be16 s structureLengthAt) s) l → Names s (nameAt s ++ l)
+  next : (s : List ℕ) {l : List Name} → 0 < length s → headFits s ≡ true → Names (drop (be16 s structureLengthAt) s) l → Names s
+      (nameAt s ++ l)
 
 -- this protocol and SPI
 abbrev pub isNamed : ℕ → List ℕ → Name → Bool

@@ -21,5 +21,5 @@ bagFrom (suc n) p x at k =
     either (leb (length k) at) nowhere
     (either (any (isNamed p x) (nameAt (drop at k))) (record { start = at + headSize (drop at k); end = end }) later)
 
-abbrev pub bagOf : ℕ → List ℕ → List ℕ → Stretch
-bagOf p x k = bagFrom (length k) p x 0 k
+abbrev pub bagStretch : ℕ → List ℕ → List ℕ → Stretch
+bagStretch p x k = bagFrom (length k) p x 0 k

@@ -9,11 +9,11 @@ use Rattle.ikev2_numbers.specs.Codes.{deleteHeadOctets, payloadDelete}
 use Rattle.octets.specs.Numbers.{oct}
 use Rattle.state_keys.specs.Lists.{any}
 use Rattle.wire_frames.specs.Delete.{Delete, deleteOf}
-use Rattle.wire_frames.specs.Frame.{Payload, payloads, exactly}
+use Rattle.wire_frames.specs.Frame.{Payload, payloads, nothingLeft}
 use Rattle.wire_readers.specs.inner.Values.{isWhole}
 use Rattle.wire_readers.specs.inner.Payloads.{payloadsIn}
-use Rattle.rules_refusals.specs.Contents.{gather, deletesIn}
-use Rattle.state_sa.specs.Entry.{esp}
+use Rattle.rules_refusals.specs.Contents.{gather, deletesOfContent}
+use Rattle.state_sa.specs.Entry.{espProtocol}
 use Rattle.check_payloads.specs.declared.deletion.DeleteParts.{DeleteParts}
 use Rattle.check_payloads.specs.declared.deletion.Deletes.{Deletes}
 
@@ -26,7 +26,7 @@ pub record DeleteIs (o : List ℕ) (r : DeleteParts) : Type 0 where
 
 -- ---- what number 5 and number 7 ask of Delete payloads
 abbrev pub ofOther : Delete → Bool
-ofOther d = not (eqb (d .protocol) esp)
+ofOther d = not (eqb (d .protocol) espProtocol)
 
 abbrev pub ofNone : Delete → Bool
 ofNone d = eqb (length (d .spis)) 0
@@ -35,7 +35,7 @@ abbrev pub spisIn : List Delete → List (List ℕ)
 spisIn l = gather (λ (d : Delete). d .spis) l
 
 abbrev pub deletesAmong : List Payload → List Delete
-deletesAmong l = gather (λ (p : Payload). deletesIn (p .content)) l
+deletesAmong l = gather (λ (p : Payload). deletesOfContent (p .content)) l
 
 abbrev pub deletesBy : List Delete → Deletes
 deletesBy l = record { other = any ofOther l; none = any ofNone l; spis = length (spisIn l) }
@@ -43,13 +43,13 @@ deletesBy l = record { other = any ofOther l; none = any ofNone l; spis = length
 -- the Delete payloads from a place on, where one stands, are these
 pub record DeletesFrom (s : List ℕ) (l : List Delete) (at : ℕ) : Type 0 where
   pub inside : at ≤ length s
-  pub rest : isWhole (exactly (payloads payloadDelete 0 (drop at s))) ≡ true
+  pub rest : isWhole (nothingLeft (payloads payloadDelete 0 (drop at s))) ≡ true
   pub all : deletesAmong (payloadsIn payloadDelete (drop at s)) ≡ l
 
 -- ---- one payload after the other
 abbrev pub withOne : Deletes → Delete → Deletes
 withOne d x = record {
-  other = not (eqb (x .protocol) esp) || d .other;
+  other = not (eqb (x .protocol) espProtocol) || d .other;
   none = eqb (length (x .spis)) 0 || d .none;
   spis = d .spis + length (x .spis);
 }

@@ -27,8 +27,8 @@ abbrev pub ofKind : ℕ → Payload → Bool
 ofKind k p = eqb (p .kind) k
 
 -- THE FACTS OF THE PAYLOADS OF THIS FRAME: of GSA, KD and D how many there are and where the first one's body stands
-abbrev pub factsOf : List ℕ → PayloadFacts
-factsOf s = record {
+abbrev pub payloadFactsOf : List ℕ → PayloadFacts
+payloadFactsOf s = record {
   gsas = count (ofKind payloadGsa) (payloadsOf s);
   kds = count (ofKind payloadKd) (payloadsOf s);
   deletes = count (ofKind payloadDelete) (payloadsOf s);
@@ -70,14 +70,14 @@ withPayload b kind critical place o = record {
 }
 
 -- the counts can grow, and by how much they do
-pub record Room (kind : ℕ) (o : List ℕ) (b : PayloadFacts) : Type 0 where
+pub record CountsFit (kind : ℕ) (o : List ℕ) (b : PayloadFacts) : Type 0 where
   pub gsas : b .gsas < 4294967296
   pub kds : b .kds < 4294967296
   pub deletes : b .deletes < 4294967296
   pub spis : b .deletion .spis < 4294967296
   pub fits : kind ≡ payloadDelete → deleteFits o ≡ true
 
-pub record Grown (b r : PayloadFacts) : Type 0 where
+pub record CountsGrown (b r : PayloadFacts) : Type 0 where
   pub gsas : r .gsas ≤ b .gsas + 1
   pub kds : r .kds ≤ b .kds + 1
   pub deletes : r .deletes ≤ b .deletes + 1

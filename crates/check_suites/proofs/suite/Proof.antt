@@ -9,9 +9,9 @@ use Rattle.wire_policies.specs.Transform.{Transform}
 use Rattle.wire_policies.specs.Grammar.{Transforms}
 use Rattle.octets.proofs.Walks.{part-length}
 use Rattle.wire_readers.proofs.BodiesLaws.{next-are}
-use Rattle.check_suites.specs.declared.counts.Suite.{Suite}
+use Rattle.check_suites.specs.declared.counts.SuiteCounts.{SuiteCounts}
 use Rattle.check_suites.specs.inner.Suites.{suiteOf}
-use Rattle.check_suites.specs.inner.Adding.{plus, AtMost}
+use Rattle.check_suites.specs.inner.Adding.{plus, SuiteAtMost}
 use Rattle.check_suites.proofs.FoldLaws.{Folded, inside, held, bounds, next}
 use Rattle.check_suites.proofs.SumLaws.{suite-first, plus-assoc, at-most-none, at-most-one, at-most-plus, suite-starts, suite-ends}
 use borrow.Author.Needs.{needs}
@@ -20,7 +20,7 @@ use Rattle.check_suites.proofs.suite.Tie as tie
 
 abbrev Inv-loop : tie.InvT-loop
 Inv-loop t s₀ at₀ more₀ s at more =
-    (at ≤ length t) × AtMost at s
+    (at ≤ length t) × SuiteAtMost at s
     × ((l : List Transform) (tail : List ℕ) → Transforms t l tail → Folded suiteOf plus t at more s l tail)
 
 abbrev μ-loop : tie.MeasureT-loop
@@ -32,10 +32,10 @@ none-requires c κs = search needs
 loop-holds : tie.Need-loop-holds Inv-loop μ-loop
 loop-holds c = (
   omega arith,
-  subst (AtMost 0) (sym (c .none .ensures)) at-most-none,
+  subst (SuiteAtMost 0) (sym (c .none .ensures)) at-most-none,
   λ l tail x.
       let s = now (c .before .before .args .t) in
-      subst (λ (y : Suite). Folded suiteOf plus s 0 true y l tail) (sym (c .none .ensures)) (suite-starts s l tail x),
+      subst (λ (y : SuiteCounts). Folded suiteOf plus s 0 true y l tail) (sym (c .none .ensures)) (suite-starts s l tail x),
 )
 
 sub-transform-parts : tie.Need-sub-transform-parts Inv-loop μ-loop
@@ -104,7 +104,7 @@ plus-requires c κs =
       l .at,
       omega (arith, i .0, i .1),
       l .inv .1,
-      subst (AtMost 1) (sym (c .one-transform .ensures)) (at-most-one _),
+      subst (SuiteAtMost 1) (sym (c .one-transform .ensures)) (at-most-one _),
     )
 
 loop-less : tie.Need-loop-less Inv-loop μ-loop
@@ -121,9 +121,11 @@ loop-again c =
     let s = now (b .args .t) in
     let i = room d in (
       i .1,
-      subst (AtMost (l .at + r .result .end)) (sym (c .plus .ensures)) (at-most-plus (l .at) 1 (l .at + r .result .end) (l .s) (o .result)
-          (l .inv .1) (subst (AtMost 1) (sym (o .ensures)) (at-most-one _)) (omega (arith, i .0))),
-      λ m tail x. subst (λ (y : Suite). Folded suiteOf plus s (l .at + r .result .end) (r .result .more) y m tail) (sym (c .plus .ensures))
+      subst (SuiteAtMost (l .at + r .result .end)) (sym (c .plus .ensures))
+          (at-most-plus (l .at) 1 (l .at + r .result .end) (l .s) (o .result)
+          (l .inv .1) (subst (SuiteAtMost 1) (sym (o .ensures)) (at-most-one _)) (omega (arith, i .0))),
+      λ m tail x. subst (λ (y : SuiteCounts). Folded suiteOf plus s (l .at + r .result .end) (r .result .more) y m tail)
+          (sym (c .plus .ensures))
           (next suiteOf plus s (l .at) (l .more) (l .s) m tail (l .inv .2 m tail x) g (r .result) (r .ensures) suite-first plus-assoc
           (o .result) (o .ensures)),
     )

@@ -1,9 +1,9 @@
 -- Counts of transforms added up one transform after the other.
 use Prim.Native.Nat.{ℕ, _+_, _≤_}
-use Rattle.check_suites.specs.declared.counts.Suite.{Suite}
+use Rattle.check_suites.specs.declared.counts.SuiteCounts.{SuiteCounts}
 pub use Rattle.wire_readers.specs.inner.Values.{once}
 
-abbrev pub plus : Suite → Suite → Suite
+abbrev pub plus : SuiteCounts → SuiteCounts → SuiteCounts
 plus x y = record {
   count = x .count + y .count;
   encryption = x .encryption + y .encryption;
@@ -13,7 +13,7 @@ plus x y = record {
   doubled = x .doubled + y .doubled;
 }
 
-pub record AtMost (n : ℕ) (x : Suite) : Type 0 where
+pub record SuiteAtMost (n : ℕ) (x : SuiteCounts) : Type 0 where
   pub count : x .count ≤ n
   pub encryption : x .encryption ≤ n
   pub wrapping : x .wrapping ≤ n

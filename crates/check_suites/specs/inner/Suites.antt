@@ -5,15 +5,16 @@ use mathlib.Core.List.{List}
 use mathlib.Core.Bool.{Bool, not, _&&_, _||_}
 use lib.ListN.{length}
 use lib.Dec.{eqb}
-use Rattle.state_sa.specs.Entry.{esp, rekey}
+use Rattle.state_sa.specs.Entry.{espProtocol, rekeyProtocol}
 use Rattle.state_keys.specs.Lists.{count}
 use Rattle.wire_policies.specs.Transform.{Transform}
-use Rattle.rules_refusals.specs.Fitness.{encryptionFits, keyWrapFits, sequenceNumbersFit, authenticationFits, sum, encryptionNeeds, keyWrapNeeds}
+use Rattle.rules_refusals.specs.Fitness.{encryptionFits, keyWrapFits, sequenceNumbersFit, authenticationFits}
+use Rattle.rules_refusals.specs.Fitness.{sum, encryptionNeeds, keyWrapNeeds}
 use Rattle.rules_refusals.specs.Number4.{twiceInTransform}
-use Rattle.check_suites.specs.declared.counts.Suite.{Suite}
+use Rattle.check_suites.specs.declared.counts.SuiteCounts.{SuiteCounts}
 use Rattle.check_suites.specs.declared.counts.Needs.{Needs}
 
-abbrev pub suiteOf : List Transform → Suite
+abbrev pub suiteOf : List Transform → SuiteCounts
 suiteOf l = record {
   count = length l;
   encryption = count encryptionFits l;
@@ -28,9 +29,9 @@ needsOf l = record { encryption = sum encryptionNeeds l; wrapping = sum keyWrapN
 
 -- a policy of protocol p has the transforms that it must, by what they come to: ESP encryption and sequence numbers; a Rekey policy
 -- encryption, key wrap and, where the exchange asks for it, authentication; each once and no other
-abbrev pub fitBy : Bool → ℕ → Suite → Bool
+abbrev pub fitBy : Bool → ℕ → SuiteCounts → Bool
 fitBy authentication p s =
-    (eqb p esp && (eqb (s .count) 2 && (eqb (s .encryption) 1 && eqb (s .sequence) 1)))
-    || (eqb p rekey
+    (eqb p espProtocol && (eqb (s .count) 2 && (eqb (s .encryption) 1 && eqb (s .sequence) 1)))
+    || (eqb p rekeyProtocol
     && ((authentication && (eqb (s .count) 3 && ((eqb (s .encryption) 1 && eqb (s .wrapping) 1) && eqb (s .authentication) 1)))
     || (not authentication && (eqb (s .count) 2 && (eqb (s .encryption) 1 && eqb (s .wrapping) 1)))))

@@ -5,7 +5,7 @@ use Rattle.keywrap.proofs.Answering.{is-so, is-not-so}
 use Rattle.keywrap.proofs.Opening.{put-none, put-most, put-some}
 use mathlib.Core.Path.{sym}
 use lib.Seq.{length-take-le}
-use Rattle.keywrap.specs.declared.Answer.{Answer}
+use Rattle.keywrap.specs.declared.WrapAnswer.{WrapAnswer}
 use Rattle.keywrap.specs.Answers.{Opening, OpenAnswers, Wrote}
 use Rattle.keywrap.specs.inner.Blank.{blank}
 use Rattle.keywrap.proofs.open.Statement.{statement}
@@ -34,7 +34,8 @@ returns c =
     let a = u .before .before .before .before .before .before .before .before .before .before .args in
     let e = u .before .expand-inverse .ensures in
     put-none (a .key .now) (a .wrapped .now) (a .room .now) (e .key-is)
-    (subst (λ (b : Answer). OpenAnswers (a .key .now) (a .wrapped .now) blank b (u .open-under .result .octets)) (c .enum-told .given .1)
+    (subst (λ (b : WrapAnswer). OpenAnswers (a .key .now) (a .wrapped .now) blank b (u .open-under .result .octets))
+    (c .enum-told .given .1)
     (u .open-under .ensures (a .key .now) e))
 
 enum-known-answer : tie.Need-enum-known-answer
@@ -48,7 +49,7 @@ array-share-prefix-octets c =
     let e = u .before .expand-inverse .ensures in
     let n = k .answer .given .0 .0 in
     let h : Wrote (Opening (a .key .now) (a .wrapped .now) blank) blank n (u .open-under .result .octets) =
-    subst (λ (b : Answer). OpenAnswers (a .key .now) (a .wrapped .now) blank b (u .open-under .result .octets)) (k .answer .given .1)
+    subst (λ (b : WrapAnswer). OpenAnswers (a .key .now) (a .wrapped .now) blank b (u .open-under .result .octets)) (k .answer .given .1)
     (u .open-under .ensures (a .key .now) e) in
     put-most (a .key .now) (a .wrapped .now) (a .room .now) (e .key-is) n (u .open-under .result .octets) h
 
@@ -60,7 +61,7 @@ slice-aggregate-put c =
     let e = u .before .expand-inverse .ensures in
     let n = k .answer .given .0 .0 in
     let h : Wrote (Opening (a .key .now) (a .wrapped .now) blank) blank n (u .open-under .result .octets) =
-    subst (λ (b : Answer). OpenAnswers (a .key .now) (a .wrapped .now) blank b (u .open-under .result .octets)) (k .answer .given .1)
+    subst (λ (b : WrapAnswer). OpenAnswers (a .key .now) (a .wrapped .now) blank b (u .open-under .result .octets)) (k .answer .given .1)
     (u .open-under .ensures (a .key .now) e) in
     sym (length-take-le n (u .open-under .result .octets)
     (put-most (a .key .now) (a .wrapped .now) (a .room .now) (e .key-is) n (u .open-under .result .octets) h))
@@ -79,7 +80,7 @@ returns-2 c =
     let e = u .before .expand-inverse .ensures in
     let n = k .answer .given .0 .0 in
     let h : Wrote (Opening (a .key .now) (a .wrapped .now) blank) blank n (u .open-under .result .octets) =
-    subst (λ (b : Answer). OpenAnswers (a .key .now) (a .wrapped .now) blank b (u .open-under .result .octets)) (k .answer .given .1)
+    subst (λ (b : WrapAnswer). OpenAnswers (a .key .now) (a .wrapped .now) blank b (u .open-under .result .octets)) (k .answer .given .1)
     (u .open-under .ensures (a .key .now) e) in
     put-some (a .key .now) (a .wrapped .now) (a .room .now) (e .key-is) n (u .open-under .result .octets) h
     (c .before .before .put .ensures .0) (c .before .before .put .ensures .1)

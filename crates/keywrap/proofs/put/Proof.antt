@@ -7,7 +7,7 @@ use Prim.Native.Nat.{ℕ}
 use borrow.Author.Tests.{le-leb, lt-leb}
 use lib.ListN.{length, drop}
 use lib.Seq.{take-length}
-use Rattle.keywrap.specs.declared.Answer.the-variants.{Count}
+use Rattle.keywrap.specs.declared.WrapAnswer.the-variants.{Count}
 use Rattle.keywrap.specs.inner.Room.{answerBy, roomBy, putAnswer, putRoom}
 use Rattle.keywrap.proofs.put.Statement.{statement}
 use Rattle.keywrap.proofs.put.Tie as tie

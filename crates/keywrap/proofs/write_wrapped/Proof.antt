@@ -17,8 +17,8 @@ add-end c = search needs
 add-end-2 : tie.Need-add-end-2
 add-end-2 c = search needs
 
-begun-requires : tie.Need-begun-requires
-begun-requires c κs = search needs
+start-registers-requires : tie.Need-start-registers-requires
+start-registers-requires c κs = search needs
 
 tables-requires : tie.Need-tables-requires
 tables-requires c κs = search needs
@@ -34,7 +34,7 @@ slice-aggregate-forward-in c =
     let b = c .before .before .before .before .before .before .before in
     let a = b .before .before .before .before in
     let o : Octets (a .args .octets .now) = λ i. b .before .before .shared-slice-known2 .given i .fits in
-    front-count (a .args .octets .now) (b .begun .result) o (a .pre .1 .0 .0) (a .pre .1 .0 .1) (b .begun .ensures)
+    front-count (a .args .octets .now) (b .start-registers .result) o (a .pre .1 .0 .0) (a .pre .1 .0 .1) (b .start-registers .ensures)
 
 sub-forward-in : tie.Need-sub-forward-in
 sub-forward-in c = search needs
@@ -44,7 +44,8 @@ forward-in-requires c κs =
     let b = c .before .before .before .before .before .before .before in
     let a = b .before .before .before .before in
     let o : Octets (a .args .octets .now) = λ i. b .before .before .shared-slice-known2 .given i .fits in
-    let n = front-count (a .args .octets .now) (b .begun .result) o (a .pre .1 .0 .0) (a .pre .1 .0 .1) (b .begun .ensures) in
+    let n = front-count (a .args .octets .now) (b .start-registers .result) o (a .pre .1 .0 .0) (a .pre .1 .0 .1)
+    (b .start-registers .ensures) in
     let e = c .before .before .before .before in (
       (e .before .before .tables .ensures, record { key = a .args .key .now; expands = e .expand .ensures }),
       (omega arith, omega arith, omega (arith, n)),
@@ -57,7 +58,7 @@ array-share-prefix-s c =
     let a = b .before .before .before .before in
     let o : Octets (a .args .octets .now) = λ i. b .before .before .shared-slice-known2 .given i .fits in
     let e = f .before .before .before .before .before .expand .ensures in
-    front-within (a .args .octets .now) (b .begun .result) o (a .pre .1 .0 .0) (a .pre .1 .0 .1) (b .begun .ensures)
+    front-within (a .args .octets .now) (b .start-registers .result) o (a .pre .1 .0 .0) (a .pre .1 .0 .1) (b .start-registers .ensures)
     (a .args .key .now) (f .forward-in .last .1 .1 .0) (e .key-is) (f .forward-in .ensures (a .args .key .now) e)
 
 slice-aggregate-store : tie.Need-slice-aggregate-store
@@ -67,7 +68,7 @@ slice-aggregate-store c =
     let a = b .before .before .before .before in
     let o : Octets (a .args .octets .now) = λ i. b .before .before .shared-slice-known2 .given i .fits in
     let e = f .before .before .before .before .before .expand .ensures in
-    front-kept (a .args .octets .now) (b .begun .result) o (a .pre .1 .0 .0) (a .pre .1 .0 .1) (b .begun .ensures)
+    front-kept (a .args .octets .now) (b .start-registers .result) o (a .pre .1 .0 .0) (a .pre .1 .0 .1) (b .start-registers .ensures)
     (a .args .key .now) (f .forward-in .last .1 .1 .0) (e .key-is) (f .forward-in .ensures (a .args .key .now) e)
 
 store-requires : tie.Need-store-requires
@@ -77,7 +78,8 @@ store-requires c κs =
     let a = b .before .before .before .before in
     let o : Octets (a .args .octets .now) = λ i. b .before .before .shared-slice-known2 .given i .fits in
     let e = f .before .before .before .before .before .expand .ensures in
-    let n = front-kept (a .args .octets .now) (b .begun .result) o (a .pre .1 .0 .0) (a .pre .1 .0 .1) (b .begun .ensures)
+    let n = front-kept (a .args .octets .now) (b .start-registers .result) o (a .pre .1 .0 .0) (a .pre .1 .0 .1)
+    (b .start-registers .ensures)
     (a .args .key .now) (f .forward-in .last .1 .1 .0) (e .key-is) (f .forward-in .ensures (a .args .key .now) e) in
     omega (arith, n, length-wrap (a .args .key .now) (a .args .octets .now) (e .key-is) o (a .pre .1 .0 .0) (a .pre .1 .0 .1), a .pre .1 .1)
 
@@ -93,7 +95,7 @@ returns c =
     let e = f .before .before .before .before .before .expand .ensures in
     c .before .before .store .ensures
     ∙ ap (λ (w : List ℕ). written w (a .args .room .now))
-    (wrapped-is (a .args .octets .now) (b .begun .result) o (a .pre .1 .0 .0) (a .pre .1 .0 .1) (b .begun .ensures)
+    (wrapped-is (a .args .octets .now) (b .start-registers .result) o (a .pre .1 .0 .0) (a .pre .1 .0 .1) (b .start-registers .ensures)
     (a .args .key .now) (f .forward-in .last .1 .1 .0) (e .key-is) (f .forward-in .ensures (a .args .key .now) e))
 
 pub write-wrapped-spec : {M : Type 1} → statement M
@@ -102,7 +104,7 @@ write-wrapped-spec =
     (tie.spec
     add-end
     add-end-2
-    begun-requires
+    start-registers-requires
     tables-requires
     expand-requires
     array-borrow-prefix-s

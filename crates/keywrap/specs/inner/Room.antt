@@ -4,11 +4,11 @@ use Prim.Native.Nat.{ℕ}
 use mathlib.Core.List.{List}
 use lib.Dec.{leb}
 use lib.ListN.{length}
-use Rattle.keywrap.specs.declared.Answer.{Answer}
-use Rattle.keywrap.specs.declared.Answer.the-variants.{No, Count}
+use Rattle.keywrap.specs.declared.WrapAnswer.{WrapAnswer}
+use Rattle.keywrap.specs.declared.WrapAnswer.the-variants.{No, Count}
 use Rattle.keywrap.specs.Answers.{written}
 
-abbrev pub answerBy : Bool → List ℕ → Answer
+abbrev pub answerBy : Bool → List ℕ → WrapAnswer
 answerBy true x = Count (length x)
 answerBy false x = No
 
@@ -16,7 +16,7 @@ abbrev pub roomBy : Bool → List ℕ → List ℕ → List ℕ
 roomBy true x room = written x room
 roomBy false x room = room
 
-unfoldable pub putAnswer : List ℕ → List ℕ → Answer
+unfoldable pub putAnswer : List ℕ → List ℕ → WrapAnswer
 putAnswer x room = answerBy (leb (length x) (length room)) x
 
 unfoldable pub putRoom : List ℕ → List ℕ → List ℕ

@@ -5,7 +5,7 @@ use mathlib.Core.Path.{_≡_, refl, sym, _∙_}
 use native.Mathlib.Omega.{arith}
 use lib.ListN.{length}
 use lib.Seq.{length-take-le}
-use Rattle.member.specs.inner.Standing.{Ready, Room}
+use Rattle.member.specs.inner.Standing.{BuffersReady, ReplyFits}
 use Rattle.member.proofs.StandingLaws.{ready-first}
 use Rattle.member.proofs.RunLaws.{Far, left-less, far-start, far-more, far-end}
 use Rattle.member.proofs.run.Statement.{statement}
@@ -13,14 +13,14 @@ use Rattle.member.proofs.run.Tie as tie
 
 abbrev Inv-loop : tie.InvT-loop
 Inv-loop line₀ room₀ out₀ block₀ p₀ taken₀ turns₀ line room out block p taken turns =
-    Ready line room out (p .running) × Room out (p .running) × (length line ≡ length line₀) × (length room ≡ length room₀)
+    BuffersReady line room out (p .running) × ReplyFits out (p .running) × (length line ≡ length line₀) × (length room ≡ length room₀)
     × (length out ≡ length out₀) × (length block ≡ length block₀) × Far line out p taken turns
 
 abbrev μ-loop : tie.MeasureT-loop
 μ-loop line₀ room₀ out₀ block₀ p₀ taken₀ turns₀ line room out block p taken turns = turns
 
-begun-requires : tie.Need-begun-requires Inv-loop μ-loop
-begun-requires c κs = tt
+begin-requires : tie.Need-begin-requires Inv-loop μ-loop
+begin-requires c κs = tt
 
 nothing-requires : tie.Need-nothing-requires Inv-loop μ-loop
 nothing-requires c κs = tt
@@ -31,7 +31,7 @@ nothing-requires-2 c κs = tt
 loop-holds : tie.Need-loop-holds Inv-loop μ-loop
 loop-holds c =
     let s = c .before .before .before .before .before .before .before in
-    let b = c .before .before .begun .ensures in (
+    let b = c .before .before .begin .ensures in (
       ready-first b (s .pre .0) (s .pre .1 .0),
       omega (arith, s .pre .1 .1 .0, b .at),
       refl,
@@ -48,16 +48,16 @@ next-requires c κs =
     let h : 0 < length (l .block) = omega (arith, l .inv .5, s .pre .1 .1 .1) in
     h
 
-slice-reshare-prefix-consumed : tie.Need-slice-reshare-prefix-consumed Inv-loop μ-loop
-slice-reshare-prefix-consumed c = c .before .before .before .next .ensures .0
+slice-reshare-prefix-consume : tie.Need-slice-reshare-prefix-consume Inv-loop μ-loop
+slice-reshare-prefix-consume c = c .before .before .before .next .ensures .0
 
-slice-aggregate-consumed : tie.Need-slice-aggregate-consumed Inv-loop μ-loop
-slice-aggregate-consumed c =
+slice-aggregate-consume : tie.Need-slice-aggregate-consume Inv-loop μ-loop
+slice-aggregate-consume c =
     let f = c .before .before .before .before .next in
     sym (length-take-le (f .result .n) (f .last .1 .0) (f .ensures .0))
 
-consumed-requires : tie.Need-consumed-requires Inv-loop μ-loop
-consumed-requires c κs =
+consume-requires : tie.Need-consume-requires Inv-loop μ-loop
+consume-requires c κs =
     let l = c .before .before .before .before .before .before .before .before .before .before .loop .inv in
     (l .0, l .1)
 
@@ -70,7 +70,7 @@ loop-less : tie.Need-loop-less Inv-loop μ-loop
 loop-less c =
     let x = c .before .before .before .before .before .before .before .before in
     let f = x .before .before .before .before .before .before .before .before in
-    left-less (f .next .result .taken) (x .consumed .result .handed) (f .before .before .loop-test .taken) (c .turns-left .ensures)
+    left-less (f .next .result .taken) (x .consume .result .handed) (f .before .before .loop-test .taken) (c .turns-left .ensures)
 
 loop-again : tie.Need-loop-again Inv-loop μ-loop
 loop-again c =
@@ -81,13 +81,13 @@ loop-again c =
     let out = c .before .before .before in
     let room = out .before .before in
     let line = room .before .before in
-    let k : length (x .consumed .last .1 .1 .0) ≡ length (l .line) = omega (arith, line .line .given) in
-    let m : length (x .consumed .last .1 .1 .1 .0) ≡ length (l .room) = omega (arith, room .room .given) in
-    let n : length (x .consumed .last .1 .1 .1 .1 .0) ≡ length (l .out) = omega (arith, out .out .given) in
+    let k : length (x .consume .last .1 .1 .0) ≡ length (l .line) = omega (arith, line .line .given) in
+    let m : length (x .consume .last .1 .1 .1 .0) ≡ length (l .room) = omega (arith, room .room .given) in
+    let n : length (x .consume .last .1 .1 .1 .1 .0) ≡ length (l .out) = omega (arith, out .out .given) in
     let block = x .before .before .before .before .before .before .before in
     let o : length (f .next .last .1 .0) ≡ length (l .block) = omega (arith, block .block .given) in
     let i = l .inv in
-    let e = x .consumed .ensures in (
+    let e = x .consume .ensures in (
       e .0,
       e .1 .0,
       k ∙ i .2,
@@ -125,14 +125,14 @@ run-spec =
     (tie.spec
     Inv-loop
     μ-loop
-    begun-requires
+    begin-requires
     nothing-requires
     nothing-requires-2
     loop-holds
     next-requires
-    slice-reshare-prefix-consumed
-    slice-aggregate-consumed
-    consumed-requires
+    slice-reshare-prefix-consume
+    slice-aggregate-consume
+    consume-requires
     turns-left-requires
     loop-less
     loop-again

@@ -4,11 +4,11 @@ use mathlib.Core.Path.{_≡_}
 use mathlib.Core.Logic.{_⊎_}
 use mathlib.Core.List.{List, [], _++_}
 use lib.ListN.{take}
-use Rattle.text_lines.specs.inner.Reading.{Reading, Finishes}
+use Rattle.text_lines.specs.inner.Reading.{TextState, Finishes}
 use Rattle.gikev2.specs.declared.Member.{Member}
-use Rattle.member.specs.Program.{Answers}
+use Rattle.member.specs.Program.{LineAnswers}
 use Rattle.member.specs.inner.Handing.{HandedOver}
-use Rattle.member.specs.inner.Standing.{Room, Stands, Goes}
+use Rattle.member.specs.inner.Standing.{ReplyFits, Stands, Goes}
 use Rattle.member.specs.declared.running.Running.{Running}
 use Rattle.member.specs.declared.output.Handed.{Handed}
 use Rattle.member.specs.declared.Progress.{Progress}
@@ -30,13 +30,13 @@ pub record Flushed (r : Running) (h : Handed) (out : List ℕ) (e : Progress) : 
   pub len : e .running .len ≡ r .len
   pub over : (HandedOver h [] (e .handed) × (e .running .at ≡ r .at)) ⊎
       (HandedOver h (take (r .at) out) (e .handed) × (e .running .at ≡ 0))
-  pub room : Room out (e .running)
+  pub room : ReplyFits out (e .running)
 
 -- octets were read, and some handed over on the way: they follow what was printed before, and what the output still holds follows them
 pub record Gone (p : Progress) (block line out line′ out′ : List ℕ) (e : Progress) : Type 0 where
   pub octets : List ℕ
   pub over : HandedOver (p .handed) octets (e .handed)
-  pub goes : (printed : List ℕ) (x : Reading Member) → Stands printed x line out (p .running) →
+  pub goes : (printed : List ℕ) (x : TextState Member) → Stands printed x line out (p .running) →
       Goes (printed ++ octets) x block line′ out′ (e .running)
 
 -- a block was read, and the output holds nothing: whatever line has ended is answered before the next read
@@ -48,4 +48,5 @@ pub record Consumed (p : Progress) (block line out line′ out′ : List ℕ) (e
 pub record Ended (p : Progress) (line out : List ℕ) (e : Handed) : Type 0 where
   pub octets : List ℕ
   pub over : HandedOver (p .handed) octets e
-  pub finishes : (printed : List ℕ) (x : Reading Member) → Stands printed x line out (p .running) → Finishes Answers x (printed ++ octets)
+  pub finishes : (printed : List ℕ) (x : TextState Member) → Stands printed x line out (p .running) →
+      Finishes LineAnswers x (printed ++ octets)

@@ -4,22 +4,22 @@ use mathlib.Core.Path.{_≡_}
 use mathlib.Core.Bool.{Bool, true, false}
 use mathlib.Core.List.{List}
 use lib.ListN.{length, take}
-use Rattle.text_rules.specs.Transcript.{Outcome, Replies, told}
+use Rattle.text_rules.specs.Transcript.{LineOutcome, Replies, told}
 use Rattle.text_lines.specs.inner.Room.{replyRoom, Put}
-use Rattle.text_lines.specs.inner.Calls.{Gives}
-use Rattle.text_lines.specs.declared.Key.{Key}
+use Rattle.text_lines.specs.inner.Calls.{KeyLineGives}
+use Rattle.text_lines.specs.declared.LineKey.{LineKey}
 use Rattle.gikev2.specs.declared.Member.{Member}
-use Rattle.member.specs.Program.{Answers}
+use Rattle.member.specs.Program.{LineAnswers}
 use Rattle.member.specs.declared.running.Running.{Running}
 
 -- the default key that the program holds
-abbrev pub keyIn : Key → List ℕ
+abbrev pub keyIn : LineKey → List ℕ
 keyIn k = take (k .len) (k .octets)
 
 -- a frame is received, and the reply put into the output at its place
-pub record Received (r : Running) (tick : ℕ) (octets out after : List ℕ) (e : Running) : Type 0 where
-  pub outcome : Outcome Member
-  pub answers : Answers (r .member) (keyIn (r .key)) tick octets outcome
+pub record LineReceived (r : Running) (tick : ℕ) (octets out after : List ℕ) (e : Running) : Type 0 where
+  pub outcome : LineOutcome Member
+  pub answers : LineAnswers (r .member) (keyIn (r .key)) tick octets outcome
   pub next : outcome .next ≡ e .member
   pub put : Put out (r .at) (told outcome .text) after (e .at)
   pub short : length (told outcome .text) ≤ replyRoom
@@ -29,7 +29,7 @@ pub record Received (r : Running) (tick : ℕ) (octets out after : List ℕ) (e 
 
 -- a first line gives the key "and prints nothing"
 pub record FirstLine (r : Running) (line out after : List ℕ) (e : Running) : Type 0 where
-  pub key : Gives line (e .key)
+  pub key : KeyLineGives line (e .key)
   pub member : e .member ≡ r .member
   pub keyed : e .keyed ≡ true
   pub len : e .len ≡ 0
@@ -39,7 +39,7 @@ pub record FirstLine (r : Running) (line out after : List ℕ) (e : Running) : T
 -- a later line has the reply that its octets ask for, "bad" among them, which is put into the output at its place
 pub record LaterLine (r : Running) (line out after : List ℕ) (e : Running) : Type 0 where
   pub text : List ℕ
-  pub replies : Replies Answers (keyIn (r .key)) (r .member) line (record { next = e .member; text = text })
+  pub replies : Replies LineAnswers (keyIn (r .key)) (r .member) line (record { next = e .member; text = text })
   pub put : Put out (r .at) text after (e .at)
   pub short : length text ≤ replyRoom
   pub key : e .key ≡ r .key

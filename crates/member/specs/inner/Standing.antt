@@ -6,16 +6,16 @@ use mathlib.Core.List.{List, [], _++_}
 use lib.ListN.{length, take}
 use Rattle.octets.specs.Walk.{part}
 use Rattle.text_lines.specs.inner.Room.{replyRoom}
-use Rattle.text_lines.specs.inner.Reading.{DefaultKey, awaited, given, Reading, start, Reads, Kept}
+use Rattle.text_lines.specs.inner.Reading.{DefaultKey, awaited, given, TextState, textStart, Reads, LineKept}
 use Rattle.gikev2.specs.Member.{newMember}
 use Rattle.gikev2.specs.declared.Member.{Member}
-use Rattle.member.specs.Program.{Answers}
+use Rattle.member.specs.Program.{LineAnswers}
 use Rattle.member.specs.inner.Reply.{keyIn}
 use Rattle.member.specs.declared.running.Running.{Running}
-use Rattle.member.specs.declared.running.Passed.{Passed}
+use Rattle.member.specs.declared.running.LinePassed.{LinePassed}
 
 -- what is lent is large enough, and the program's places lie within it
-pub record Ready (line room out : List ℕ) (r : Running) : Type 0 where
+pub record BuffersReady (line room out : List ℕ) (r : Running) : Type 0 where
   pub key : r .key .len ≤ 32
   pub line-long : 32776 < length line
   pub begun : r .len ≤ length line
@@ -23,18 +23,18 @@ pub record Ready (line room out : List ℕ) (r : Running) : Type 0 where
   pub place : r .at ≤ length out
 
 -- there is room for one more reply
-abbrev pub Room : List ℕ → Running → Type 0
-Room out r = replyRoom ≤ length out - r .at
+abbrev pub ReplyFits : List ℕ → Running → Type 0
+ReplyFits out r = replyRoom ≤ length out - r .at
 
 abbrev pub KeyStands : DefaultKey → Running → Type 0
 KeyStands awaited r = r .keyed ≡ false
 KeyStands (given key) r = (r .keyed ≡ true) × (keyIn (r .key) ≡ key)
 
 -- the program holds what was read of the input. `printed` is what it has handed over so far
-pub record Stands (printed : List ℕ) (x : Reading Member) (line out : List ℕ) (r : Running) : Type 0 where
+pub record Stands (printed : List ℕ) (x : TextState Member) (line out : List ℕ) (r : Running) : Type 0 where
   pub key : KeyStands (x .key) r
   pub member : x .member ≡ r .member
-  pub kept : Kept line (r .len) (x .line)
+  pub kept : LineKept line (r .len) (x .line)
   pub output : x .output ≡ printed ++ take (r .at) out
 
 -- the program before its first read: nothing of the input was read, and nothing handed over
@@ -42,18 +42,18 @@ pub record Starts (r : Running) : Type 0 where
   pub key : r .key .len ≤ 32
   pub len : r .len ≡ 0
   pub at : r .at ≡ 0
-  pub stands : (line out : List ℕ) → Stands [] (start newMember) line out r
+  pub stands : (line out : List ℕ) → Stands [] (textStart newMember) line out r
 
 -- some octets more were read
-pub record Goes (printed : List ℕ) (x : Reading Member) (s line out : List ℕ) (r : Running) : Type 0 where
-  pub then : Reading Member
-  pub reads : Reads Answers x s then
+pub record Goes (printed : List ℕ) (x : TextState Member) (s line out : List ℕ) (r : Running) : Type 0 where
+  pub then : TextState Member
+  pub reads : Reads LineAnswers x s then
   pub stands : Stands printed then line out r
 
 -- a block is read from a place up to another
-pub record Passes (block : List ℕ) (from : ℕ) (line out : List ℕ) (r : Running) (line′ room′ out′ : List ℕ) (e : Passed) : Type 0 where
-  pub ready : Ready line′ room′ out′ (e .running)
+pub record Passes (block : List ℕ) (from : ℕ) (line out : List ℕ) (r : Running) (line′ room′ out′ : List ℕ) (e : LinePassed) : Type 0 where
+  pub ready : BuffersReady line′ room′ out′ (e .running)
   pub next : from ≤ e .next
   pub inside : e .next ≤ length block
-  pub goes : (printed : List ℕ) (x : Reading Member) → Stands printed x line out r →
+  pub goes : (printed : List ℕ) (x : TextState Member) → Stands printed x line out r →
       Goes printed x (part block from (e .next)) line′ out′ (e .running)

@@ -6,12 +6,12 @@ use mathlib.Core.Bool.{false}
 use mathlib.Core.List.{List}
 use lib.Dec.{eqb}
 use lib.ListN.{length}
-use Rattle.member.specs.declared.input.Taken.{Taken}
+use Rattle.member.specs.declared.input.InputTaken.{InputTaken}
 
 -- before the first read
-abbrev pub nothingTaken : Taken
+abbrev pub nothingTaken : InputTaken
 nothingTaken = record { count = 0; ended = false }
 
-pub record TakenIn (t : Taken) (octets : List ℕ) (e : Taken) : Type 0 where
+pub record TakenIn (t : InputTaken) (octets : List ℕ) (e : InputTaken) : Type 0 where
   pub count : e .count % 2 ^ 64 ≡ (t .count + length octets) % 2 ^ 64
   pub ended : e .ended ≡ eqb (length octets) 0

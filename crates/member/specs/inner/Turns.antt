@@ -3,13 +3,13 @@ use Prim.Native.Nat.{ℕ, _+_}
 use mathlib.Core.Path.{_≡_}
 use mathlib.Core.Bool.{true, false}
 use mathlib.Core.Logic.{_⊎_}
-use Rattle.member.specs.declared.input.Taken.{Taken}
+use Rattle.member.specs.declared.input.InputTaken.{InputTaken}
 use Rattle.member.specs.declared.output.Handed.{Handed}
 
 -- a run stops where the input has ended or a write failed
-abbrev pub Stops : Taken → Handed → Type 0
+abbrev pub Stops : InputTaken → Handed → Type 0
 Stops t h = (t .ended ≡ true) ⊎ (h .failed ≡ true)
 
 -- no turn is left where it stops; else the last read gave some octets, no write has failed, and one turn less is left
-abbrev pub TurnsLeft : ℕ → Taken → Handed → ℕ → Type 0
+abbrev pub TurnsLeft : ℕ → InputTaken → Handed → ℕ → Type 0
 TurnsLeft turns t h left = (Stops t h × (left ≡ 0)) ⊎ ((t .ended ≡ false) × (h .failed ≡ false) × (left + 1 ≡ turns))

@@ -18,10 +18,10 @@ use Rattle.wire_readers.specs.inner.Policies.{policiesIn}
 use Rattle.wire_readers.specs.inner.Bags.{bagsIn}
 use Rattle.rules_refusals.specs.Contents.{rowOf, policiesOf, bagsOf}
 use Rattle.rules_refusals.specs.Refusals.{refusal}
-use Rattle.rules_chains.specs.Refusals.{EntriesEight}
+use Rattle.rules_chains.specs.Refusals.{EntriesConflict}
 use Rattle.rules_outcome.specs.Roots.{rootsOf, entriesOf, wrappingSize}
 use Rattle.rules_outcome.specs.After.{HeldAre, HeldBy}
-use Rattle.check_judging.specs.inner.Facts.{factsOf}
+use Rattle.check_judging.specs.inner.Facts.{frameFactsOf}
 use Rattle.check_judging.specs.declared.facts.Facts.{Facts}
 use Rattle.unwrap_tree.specs.inner.Entries.{HoldsEntries}
 use Rattle.unwrap_sas.specs.inner.Keyed.{KeyedBy}
@@ -31,7 +31,7 @@ use Rattle.unwrap_sas.specs.declared.joining.Keyed.{Keyed}
 pub record Passed (m : State) (now : ℕ) (lent s : List ℕ) (x : Facts) (f : Frame) : Type 0 where
   pub whole-is : frame s ≡ whole f []
   pub clauses : refusal limits m now lent f ≡ 0
-  pub facts : x ≡ factsOf (rowOf f .authentication) s
+  pub facts : x ≡ frameFactsOf (rowOf f .authentication) s
 
 -- a rekey over the Rekey SA: its exchange has the live Rekey SA's default key as key 0
 abbrev pub RekeysOver : Frame → Type 0
@@ -56,9 +56,9 @@ pub record Bagged (e : Exchange) (m : State) (now : ℕ) (lent k : List ℕ) (f 
   pub bags : bagsOf f ≡ bagsIn k
 
 -- number 8 does not hold of its entries; this is known of the keys of its SAs; this is the held list afterwards
-pub record Opened (m : State) (now : ℕ) (lent s : List ℕ) (x : Facts) (keyed : Keyed) (held : Held) (f : Frame) : Type 0 where
+pub record FrameOpened (m : State) (now : ℕ) (lent s : List ℕ) (x : Facts) (keyed : Keyed) (held : Held) (f : Frame) : Type 0 where
   pub passed : Passed m now lent s x f
-  pub entries : EntriesEight (rootsOf limits m now lent f) (entriesOf f) (wrappingSize limits m now lent f) → ⊥
+  pub entries : EntriesConflict (rootsOf limits m now lent f) (entriesOf f) (wrappingSize limits m now lent f) → ⊥
   pub keys : KeyedBy (rootsOf limits m now lent f) (entriesOf f) (wrappingSize limits m now lent f) f now keyed
   pub held-is :
       HeldBy (rowOf f .registers) (HeldAre (rootsOf limits m now lent f) (entriesOf f) (wrappingSize limits m now lent f) limits held)

@@ -9,8 +9,8 @@ use Rattle.wire_frames.specs.Frame.{Frame}
 use Rattle.state.specs.Held.{heldFormed}
 use Rattle.state.specs.declared.State.{State}
 use Rattle.rules_refusals.specs.Contents.{rowOf}
-use Rattle.rules_chains.specs.Refusals.{EntriesEight}
-use Rattle.unwrap_conflicts.specs.inner.Values.{Tells}
+use Rattle.rules_chains.specs.Refusals.{EntriesConflict}
+use Rattle.unwrap_conflicts.specs.inner.Values.{Decides}
 use Rattle.unwrap_copies.specs.inner.Known.{Agrees}
 use Rattle.rules_outcome.specs.Roots.{rootsOf, entriesOf, wrappingSize}
 use Rattle.rules_outcome.specs.After.{HeldAre}
@@ -19,10 +19,10 @@ use Rattle.receive.specs.declared.roots.StartingKeys.{StartingKeys}
 -- whether number 8 holds of the entries; where it does not, key 0 and a list as a member's must be, whose keys are those on which a chain
 -- ends, and the held list afterwards where the exchange sets it
 pub record Rooted (m : State) (now : ℕ) (lent : List ℕ) (r : StartingKeys) (f : Frame) : Type 0 where
-  pub eight : Tells (r .eight) (EntriesEight (rootsOf limits m now lent f) (entriesOf f) (wrappingSize limits m now lent f))
+  pub conflict : Decides (r .conflict) (EntriesConflict (rootsOf limits m now lent f) (entriesOf f) (wrappingSize limits m now lent f))
   pub fits : sizeOf 13 (r .zero .count) ≡ true
-  pub formed : r .eight ≡ false → heldFormed limits (r .opens) ≡ true
-  pub agrees : r .eight ≡ false →
+  pub formed : r .conflict ≡ false → heldFormed limits (r .opens) ≡ true
+  pub agrees : r .conflict ≡ false →
       Agrees (rootsOf limits m now lent f) (entriesOf f) (wrappingSize limits m now lent f) (r .zero) (r .opens)
-  pub set : r .eight ≡ false → rowOf f .registers ≡ true →
+  pub set : r .conflict ≡ false → rowOf f .registers ≡ true →
       HeldAre (rootsOf limits m now lent f) (entriesOf f) (wrappingSize limits m now lent f) limits (r .opens)

@@ -8,12 +8,12 @@ use lib.ListN.{length, take, drop}
 use lib.Bits.{bitXor}
 use Rattle.octets.specs.Octets.{Octets}
 use Rattle.fips197.specs.Cipher.{invCipher}
-use Rattle.rfc5649.specs.Wrap.{blocks, registers, start}
-use Rattle.rfc5649.specs.Steps.{register, joined, stored, step, rows}
+use Rattle.rfc5649.specs.Wrap.{blocks, registers, startRegisters}
+use Rattle.rfc5649.specs.Steps.{register, joinRegisters, stored, step, rows}
 
 -- "B = AES-1(K, (A ^ t) | R[i])", "A = MSB(64, B)", "R[i] = LSB(64, B)"
 unfoldable pub unstep : List ℕ → ℕ → ℕ → List ℕ → List ℕ
-unstep key t i s = stored 0 i (invCipher key (joined (bitXor (register s 0) t) (register s i))) s
+unstep key t i s = stored 0 i (invCipher key (joinRegisters (bitXor (register s 0) t) (register s i))) s
 
 -- "For i = n to 1"
 unfoldable pub unrow : List ℕ → ℕ → ℕ → List ℕ → List ℕ
@@ -49,11 +49,11 @@ Unwraps key n wrapped s = take (suc n) s ≡ backward key n (registers (suc n) w
 pub record Begins (n : ℕ) (s x : List ℕ) : Type 0 where
   pub octets : Octets x
   pub size : blocks (length x) ≡ n
-  pub is : s ≡ start x
+  pub is : s ≡ startRegisters x
 
 -- m octets take n blocks
-abbrev pub within : ℕ → ℕ → Bool
-within n m = eqb (blocks m) n
+abbrev pub fitsBlocks : ℕ → ℕ → Bool
+fitsBlocks n m = eqb (blocks m) n
 
 -- the count of octets that A tells of n blocks; 0 where it is no alternative initial value of a count that takes n blocks
 abbrev pub countBy : Bool → Bool → ℕ → ℕ
@@ -62,7 +62,7 @@ countBy true false m = 0
 countBy false b m = 0
 
 unfoldable pub countIn : ℕ → ℕ → ℕ
-countIn a n = countBy (eqb (a / 4294967296) 0xa65959a6) (within n (a % 4294967296)) (a % 4294967296)
+countIn a n = countBy (eqb (a / 4294967296) 0xa65959a6) (fitsBlocks n (a % 4294967296)) (a % 4294967296)
 
 -- each octet is 0
 abbrev pub allZero : List ℕ → Bool

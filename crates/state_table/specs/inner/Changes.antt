@@ -5,7 +5,7 @@ use mathlib.Core.List.{List, map}
 use lib.Dec.{ltb}
 use Rattle.state_keys.specs.Lists.{insert}
 use Rattle.state_keys.specs.Limits.{Limits}
-use Rattle.state_sa.specs.Entry.{before}
+use Rattle.state_sa.specs.Entry.{saBefore}
 use Rattle.state_sa.specs.declared.entry.Sa.{Sa}
 use Rattle.state_table.specs.declared.Table.{Table}
 use Rattle.state_table.specs.Table.{sasOf, tableOf, changed, swept, retiredIf}
@@ -19,4 +19,4 @@ retiredWhere limits p now delay t = changed limits (map (retiredIf p now delay))
 
 -- one SA more at its place, if there is room
 unfoldable pub entered : Limits → Sa → Table → Table
-entered limits a t = cond (ltb (t .count) (limits .sas)) (tableOf limits (insert before a (sasOf t))) t
+entered limits a t = cond (ltb (t .count) (limits .sas)) (tableOf limits (insert saBefore a (sasOf t))) t

@@ -5,8 +5,8 @@ use mathlib.Core.Bool.{false, cond}
 use Rattle.text_rules.specs.Lines.{Line}
 
 -- the octets that a line takes in the input
-unfoldable pub written : Line → List ℕ
-written l = l .text ++ cond (l .ended) (10 ∷ []) []
+unfoldable pub lineOctets : Line → List ℕ
+lineOctets l = l .text ++ cond (l .ended) (10 ∷ []) []
 
 -- the first line; where there is none, one with no character that no newline ended
 abbrev pub firstOf : List Line → Line

@@ -5,8 +5,8 @@ use mathlib.Core.List.{List, [], _∷_, _++_}
 use mathlib.Core.Bool.{Bool, true, false}
 use lib.ListN.{length, take}
 use lib.Dec.{eqb}
-use Rattle.text_rules.specs.Input.{keyOf}
-use Rattle.text_rules.specs.Transcript.{Step, Reply, Replies}
+use Rattle.text_rules.specs.Input.{lineKey}
+use Rattle.text_rules.specs.Transcript.{CallRelation, Reply, Replies}
 
 -- the default key, once the first line has ended
 pub data DefaultKey : Type 0 where
@@ -14,55 +14,55 @@ pub data DefaultKey : Type 0 where
   given : List ℕ → DefaultKey
 
 -- the characters of the line that has begun, and the output for the lines before it
-pub record Reading (S : Type 0) : Type 0 where
+pub record TextState (S : Type 0) : Type 0 where
   pub key : DefaultKey
   pub member : S
   pub line : List ℕ
   pub output : List ℕ
 
-abbrev pub start : {S : Type 0} → S → Reading S
-start member = record { key = awaited; member = member; line = []; output = [] }
+abbrev pub textStart : {S : Type 0} → S → TextState S
+textStart member = record { key = awaited; member = member; line = []; output = [] }
 
 -- characters more in the line that has begun
-unfoldable pub extend : {S : Type 0} → List ℕ → Reading S → Reading S
-extend text r = record { key = r .key; member = r .member; line = r .line ++ text; output = r .output }
+unfoldable pub appendText : {S : Type 0} → List ℕ → TextState S → TextState S
+appendText text r = record { key = r .key; member = r .member; line = r .line ++ text; output = r .output }
 
 -- after the first line, and after a later one
-abbrev pub keyed : {S : Type 0} → S → List ℕ → List ℕ → Reading S
-keyed member line output = record { key = given (keyOf line); member = member; line = []; output = output }
+abbrev pub keyed : {S : Type 0} → S → List ℕ → List ℕ → TextState S
+keyed member line output = record { key = given (lineKey line); member = member; line = []; output = output }
 
-abbrev pub replied : {S : Type 0} → List ℕ → List ℕ → Reply S → Reading S
+abbrev pub replied : {S : Type 0} → List ℕ → List ℕ → Reply S → TextState S
 replied key output a = record { key = given key; member = a .next; line = []; output = output ++ a .text }
 
-module _ {S : Type 0} (step : Step S) where
+module _ {S : Type 0} (step : CallRelation S) where
   -- a whole line
-  abbrev pub LineEnds : DefaultKey → S → List ℕ → List ℕ → Reading S → Type 0
+  abbrev pub LineEnds : DefaultKey → S → List ℕ → List ℕ → TextState S → Type 0
   LineEnds awaited member line output e = e ≡ keyed member line output
   LineEnds (given key) member line output e = (a : Reply S) × Replies step key member line a × (e ≡ replied key output a)
 
   -- the line that has begun ends
-  abbrev pub Closes : Reading S → Reading S → Type 0
+  abbrev pub Closes : TextState S → TextState S → Type 0
   Closes r e = LineEnds (r .key) (r .member) (r .line) (r .output) e
 
   -- one octet of input, which is a newline or not
-  abbrev pub FeedsBy : Bool → Reading S → ℕ → Reading S → Type 0
+  abbrev pub FeedsBy : Bool → TextState S → ℕ → TextState S → Type 0
   FeedsBy true r c e = Closes r e
-  FeedsBy false r c e = e ≡ extend (c ∷ []) r
+  FeedsBy false r c e = e ≡ appendText (c ∷ []) r
 
   -- some octets of input
-  abbrev pub Reads : Reading S → List ℕ → Reading S → Type 0
+  abbrev pub Reads : TextState S → List ℕ → TextState S → Type 0
   Reads r [] e = e ≡ r
-  Reads r (c ∷ s) e = (m : Reading S) × FeedsBy (eqb c 10) r c m × Reads m s e
+  Reads r (c ∷ s) e = (m : TextState S) × FeedsBy (eqb c 10) r c m × Reads m s e
 
   -- at the input's end, a line that has begun ends
-  abbrev pub FinishesBy : List ℕ → Reading S → List ℕ → Type 0
+  abbrev pub FinishesBy : List ℕ → TextState S → List ℕ → Type 0
   FinishesBy [] r output = output ≡ r .output
-  FinishesBy (c ∷ line) r output = (e : Reading S) × Closes r e × (output ≡ e .output)
+  FinishesBy (c ∷ line) r output = (e : TextState S) × Closes r e × (output ≡ e .output)
 
-  abbrev pub Finishes : Reading S → List ℕ → Type 0
+  abbrev pub Finishes : TextState S → List ℕ → Type 0
   Finishes r output = FinishesBy (r .line) r output
 
 -- a lent line holds the beginning of a line: all of it, or as much as there is room for
-pub record Kept (room : List ℕ) (len : ℕ) (text : List ℕ) : Type 0 where
+pub record LineKept (room : List ℕ) (len : ℕ) (text : List ℕ) : Type 0 where
   pub inside : len ≤ length room
   pub same : take len room ≡ take (length room) text

@@ -12,9 +12,9 @@ use Rattle.unwrap_search.specs.inner.Entries.{noEntry}
 use Rattle.unwrap_search.specs.inner.Search.{cellAt}
 
 -- the answer says whether P holds
-abbrev pub Tells : Bool → Type 0 → Type 0
-Tells true P = P
-Tells false P = P → ⊥
+abbrev pub Decides : Bool → Type 0 → Type 0
+Decides true P = P
+Decides false P = P → ⊥
 
 -- P holds of a place below n
 pub record Some (n : ℕ) (P : ℕ → Type 0) : Type 0 where

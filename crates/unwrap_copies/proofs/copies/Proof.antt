@@ -11,7 +11,7 @@ use Rattle.wire_attributes.specs.Answers.{valueStart}
 use Rattle.aes.specs.inner.Schedule.{ExpandsInverse}
 use Rattle.wire_attributes.specs.Layout.{attributes}
 use Rattle.wire_attributes.specs.declared.tables.Meaning.the-variants as meaning
-use Rattle.wire_readers.specs.inner.Values.{isWhole, MetAt, Meets}
+use Rattle.wire_readers.specs.inner.Values.{isWhole, MetAt, FindsValue}
 use Rattle.state_keys.specs.Kinds.{valueOf}
 use Rattle.state.specs.declared.held.Held.{Held}
 use Rattle.unwrap_copies.specs.inner.Answer.{copiesIn}
@@ -58,7 +58,7 @@ next : (c : tie.After-known-told Inv-loop μ-loop) →
     MetAt meaning.SaKey (a .place) (now (a .a)) (c .before .before .before .before .loop .at) (p .0) (p .1 .0)
 next c =
     let a = c .before .before .before .before .before .before .before .before .before .args in
-    subst (Meets meaning.SaKey (a .place) (now (a .a)) (c .before .before .before .before .loop .at)) (c .before .start .given .1)
+    subst (FindsValue meaning.SaKey (a .place) (now (a .a)) (c .before .before .before .before .loop .at)) (c .before .start .given .1)
     (c .before .before .before .next-attribute .ensures)
 
 attribute-value-requires : tie.Need-attribute-value-requires Inv-loop μ-loop
@@ -71,15 +71,15 @@ octets-are : (c : tie.After-attribute-value Inv-loop μ-loop) →
     now (c .attribute-value .result) ≡ part (now (a .a)) (valueStart (now (a .a)) (p .0)) (p .1 .0)
 octets-are c = c .attribute-value .ensures .0 ∙ next (c .before) .octets
 
-tried-requires : tie.Need-tried-requires Inv-loop μ-loop
-tried-requires c κs =
+try-copy-requires : tie.Need-try-copy-requires Inv-loop μ-loop
+try-copy-requires c κs =
     let t = c .before in
     let s = t .before .before .before .before .before .before .before .before .before in
     let a = s .args in
     ((ids-inside (a .place) (now (a .a)) _ _ _ (next t .value) _ (octets-are c), s .pre .1 .0), s .pre .1 .1)
 
-joined-requires : tie.Need-joined-requires Inv-loop μ-loop
-joined-requires c κs = search needs
+merge-requires : tie.Need-merge-requires Inv-loop μ-loop
+merge-requires c κs = search needs
 
 loop-less : tie.Need-loop-less Inv-loop μ-loop
 loop-less c = let f = next (c .before .before .before) .value in omega (arith, f .start, f .order, f .inside)
@@ -95,9 +95,9 @@ loop-again c =
       f .inside,
       f .rest,
       λ v held x lends.
-          goes-on (a .need) (triesOf v held (copiesIn (a .place) s)) _ _ _ (l .known) (c .before .tried .result) (c .joined .result)
+          goes-on (a .need) (triesOf v held (copiesIn (a .place) s)) _ _ _ (l .known) (c .before .try-copy .result) (c .merge .result)
           (next-tries (a .place) s (l .at) _ _ f _ (octets-are w) v held) (l .inv .2 v held x lends)
-          (c .before .tried .ensures v held x lends) (c .joined .ensures),
+          (c .before .try-copy .ensures v held x lends) (c .merge .ensures),
     )
 
 enum-told : tie.Need-enum-told Inv-loop μ-loop
@@ -109,7 +109,7 @@ returns c roots entries size zero held x lends agrees =
     let a = c .before .before .before .before .before .before .before .before .args in
     let s = now (a .a) in
     let v = valueOf zero in
-    let f = subst (Meets meaning.SaKey (a .place) s (l .at)) (c .enum-told .given .1) (c .before .before .next-attribute .ensures) in
+    let f = subst (FindsValue meaning.SaKey (a .place) s (l .at)) (c .enum-told .given .1) (c .before .before .next-attribute .ensures) in
     answers zero held (lends .formed) (copiesIn (a .place) s) roots entries size agrees (a .need) (l .known)
     (ends (a .need) (triesOf v held (copiesIn (a .place) s)) _ (l .known) (no-tries (a .place) s (l .at) v held (f .0))
     (l .inv .2 v held x lends))
@@ -125,8 +125,8 @@ copies-spec =
     next-attribute-requires
     enum-known-start
     attribute-value-requires
-    tried-requires
-    joined-requires
+    try-copy-requires
+    merge-requires
     loop-less
     loop-again
     enum-told

@@ -9,11 +9,11 @@ use Rattle.wire_attributes.specs.declared.tables.Place.{Place}
 use Rattle.wire_attributes.specs.declared.tables.Meaning.the-variants as meaning
 use Rattle.wire_readers.specs.inner.Values.{valuesIn}
 use Rattle.rules_chains.specs.Chain.{Root, CopyOpens}
-use Rattle.rules_chains.specs.Refusals.{Announced, CopiesEight, KeyOf}
+use Rattle.rules_chains.specs.Refusals.{Announced, CopiesConflict, KeyOf}
 use Rattle.state_keys.specs.Kinds.{padded}
-use Rattle.unwrap_copies.specs.declared.answer.Found.{Found}
-use Rattle.unwrap_copies.specs.declared.answer.Found.the-variants.{Nothing, Key, Eight}
-use Rattle.unwrap_copies.specs.declared.answer.Opened.{Opened}
+use Rattle.unwrap_copies.specs.declared.answer.CopyFound.{CopyFound}
+use Rattle.unwrap_copies.specs.declared.answer.CopyFound.the-variants.{Nothing, Key, Conflict}
+use Rattle.unwrap_copies.specs.declared.answer.CopyOpened.{CopyOpened}
 
 -- "The copies of an announced key are its SA_KEY attributes": those of its Group Key Bag
 abbrev pub copiesIn : Place → List ℕ → List SaKey
@@ -30,12 +30,12 @@ module _ (roots : List Root) (entries : List WrapKey) (size : ℕ) (a : Announce
     pub need : count ≡ a .need
     pub length-is : length (take count octets) ≡ a .need
     pub blanks : octets ≡ padded saRoom (take count octets)
-    pub fit : CopiesEight roots entries size a → ⊥
+    pub fit : CopiesConflict roots entries size a → ⊥
 
-  abbrev pub AnswersBy : Found → List ℕ → ℕ → Type 0
-  AnswersBy Eight octets count = CopiesEight roots entries size a
-  AnswersBy Nothing octets count = (x : List ℕ) → CopyOpens roots entries size (a .copies) x → ⊥
-  AnswersBy Key octets count = HasKey octets count
+  abbrev pub CopyAnswersBy : CopyFound → List ℕ → ℕ → Type 0
+  CopyAnswersBy Conflict octets count = CopiesConflict roots entries size a
+  CopyAnswersBy Nothing octets count = (x : List ℕ) → CopyOpens roots entries size (a .copies) x → ⊥
+  CopyAnswersBy Key octets count = HasKey octets count
 
-  abbrev pub Answers : Opened → Type 0
-  Answers r = AnswersBy (r .found) (r .octets) (r .count)
+  abbrev pub CopyAnswers : CopyOpened → Type 0
+  CopyAnswers r = CopyAnswersBy (r .found) (r .octets) (r .count)

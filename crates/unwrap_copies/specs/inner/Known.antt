@@ -3,7 +3,7 @@
 use Prim.Native.Nat.{ℕ}
 use mathlib.Core.List.{List}
 use Rattle.wire_attributes.specs.Tree.{WrapKey}
-use Rattle.rules_chains.specs.Chain.{In, Root, Ends}
+use Rattle.rules_chains.specs.Chain.{In, Root, ChainEnds}
 use Rattle.state_keys.specs.Kinds.{valueOf}
 use Rattle.state_keys.specs.declared.kinds.WrappingKey.{WrappingKey}
 use Rattle.state.specs.Held.{keysOf}
@@ -17,5 +17,5 @@ pub data Known (zero : WrappingKey) (held : Held) : ℕ → List ℕ → Type 0 
 
 -- chains over these roots and entries end on exactly these keys
 pub record Agrees (roots : List Root) (entries : List WrapKey) (size : ℕ) (zero : WrappingKey) (held : Held) : Type 0 where
-  pub ends : (k : ℕ) (v : List ℕ) → Known zero held k v → Ends roots entries size k v
-  pub known : (k : ℕ) (v : List ℕ) → Ends roots entries size k v → Known zero held k v
+  pub ends : (k : ℕ) (v : List ℕ) → Known zero held k v → ChainEnds roots entries size k v
+  pub known : (k : ℕ) (v : List ℕ) → ChainEnds roots entries size k v → Known zero held k v

@@ -19,12 +19,12 @@ keyOctets = 32
 abbrev pub placeOctets : ℕ
 placeOctets = 1 + keyOctets
 
-abbrev pub placeOf : WrappingKey → List ℕ
-placeOf k = k .count ∷ k .octets
+abbrev pub lentPlace : WrappingKey → List ℕ
+lentPlace k = k .count ∷ k .octets
 
-unfoldable pub blockOf : List HeldKey → List ℕ
-blockOf [] = []
-blockOf (k ∷ l) = placeOf (k .key) ++ blockOf l
+unfoldable pub lentBlock : List HeldKey → List ℕ
+lentBlock [] = []
+lentBlock (k ∷ l) = lentPlace (k .key) ++ lentBlock l
 
 abbrev pub idsOf : List HeldKey → List ℕ
 idsOf l = map (λ (k : HeldKey). k .id) l
@@ -38,7 +38,7 @@ pub record FitsPlace (k : WrappingKey) : Type 0 where
 pub record Lends (keys : List HeldKey) (ids block : List ℕ) : Type 0 where
   pub fit : (i : ℕ) → i < length keys → FitsPlace (getD keys i blankKey .key)
   pub ids-are : ids ≡ idsOf keys
-  pub block-is : block ≡ blockOf keys
+  pub block-is : block ≡ lentBlock keys
 
 -- they are those of a held list that is as it must be
 pub record LendsHeld (held : Held) (ids block : List ℕ) : Type 0 where
@@ -58,7 +58,7 @@ pub record LendsFirst (held : Held) (ids block : List ℕ) : Type 0 where
 
 -- a key put into its place, which starts at `at`
 pub record Puts (k : WrappingKey) (at : ℕ) (before after : List ℕ) : Type 0 where
-  pub is : after ≡ take at before ++ (placeOf k ++ drop (at + placeOctets) before)
+  pub is : after ≡ take at before ++ (lentPlace k ++ drop (at + placeOctets) before)
   pub array : length (k .octets) ≡ keyOctets
 
 -- the first of these Key IDs that is id, or how many there are

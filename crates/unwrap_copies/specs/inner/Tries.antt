@@ -7,9 +7,9 @@ use Rattle.state_keys.specs.Rooms.{saRoom}
 use Rattle.rfc5649.specs.Opens.{Opens}
 use Rattle.rules_chains.specs.Chain.{In}
 use Rattle.state_keys.specs.Kinds.{padded}
-use Rattle.unwrap_copies.specs.declared.answer.Found.{Found}
-use Rattle.unwrap_copies.specs.declared.answer.Found.the-variants.{Nothing, Key, Eight}
-use Rattle.unwrap_copies.specs.declared.answer.Opened.{Opened}
+use Rattle.unwrap_copies.specs.declared.answer.CopyFound.{CopyFound}
+use Rattle.unwrap_copies.specs.declared.answer.CopyFound.the-variants.{Nothing, Key, Conflict}
+use Rattle.unwrap_copies.specs.declared.answer.CopyOpened.{CopyOpened}
 
 -- the value of a key, and the octets that are opened under it
 pub record Try : Type 0 where
@@ -24,9 +24,9 @@ module _ (tries : List Try) where
     pub opens : Opens (one .key) (one .wrapped) x
 
   -- one opens to a wrong size, or two open to two values
-  pub data TriesEight (need : ℕ) : Type 0 where
-    wrong-size : (x : List ℕ) → SomeOpens x → (length x ≡ need → ⊥) → TriesEight need
-    two-values : (x y : List ℕ) → SomeOpens x → SomeOpens y → (x ≡ y → ⊥) → TriesEight need
+  pub data TriesConflict (need : ℕ) : Type 0 where
+    wrong-size : (x : List ℕ) → SomeOpens x → (length x ≡ need → ⊥) → TriesConflict need
+    two-values : (x y : List ℕ) → SomeOpens x → SomeOpens y → (x ≡ y → ⊥) → TriesConflict need
 
   -- one opens, and each that does opens to the first octets, as many as are needed, with blanks behind them
   pub record TriesKey (need : ℕ) (octets : List ℕ) (count : ℕ) : Type 0 where
@@ -36,10 +36,10 @@ module _ (tries : List Try) where
     pub need-is : count ≡ need
     pub blanks : octets ≡ padded saRoom (take count octets)
 
-  abbrev pub TellsBy : ℕ → Found → List ℕ → ℕ → Type 0
-  TellsBy need Eight octets count = TriesEight need
-  TellsBy need Nothing octets count = (x : List ℕ) → SomeOpens x → ⊥
-  TellsBy need Key octets count = TriesKey need octets count
+  abbrev pub CopyTellsBy : ℕ → CopyFound → List ℕ → ℕ → Type 0
+  CopyTellsBy need Conflict octets count = TriesConflict need
+  CopyTellsBy need Nothing octets count = (x : List ℕ) → SomeOpens x → ⊥
+  CopyTellsBy need Key octets count = TriesKey need octets count
 
-  abbrev pub Tells : ℕ → Opened → Type 0
-  Tells need r = TellsBy need (r .found) (r .octets) (r .count)
+  abbrev pub CopyTells : ℕ → CopyOpened → Type 0
+  CopyTells need r = CopyTellsBy need (r .found) (r .octets) (r .count)

@@ -5,9 +5,9 @@ use mathlib.Core.Path.{_≡_, refl, subst}
 use lib.ListN.{length}
 use Rattle.state_keys.specs.Limits.{limits}
 use Rattle.check_suites.proofs.PolicyLaws.{starts}
-use Rattle.unwrap_copies.specs.declared.answer.Found.{Found}
-use Rattle.unwrap_copies.specs.declared.answer.Found.the-variants.{Eight, Nothing, Key}
-use Rattle.unwrap_sas.specs.inner.Policies.{IsBy, StandsAt}
+use Rattle.unwrap_copies.specs.declared.answer.CopyFound.{CopyFound}
+use Rattle.unwrap_copies.specs.declared.answer.CopyFound.the-variants.{Conflict, Nothing, Key}
+use Rattle.unwrap_sas.specs.inner.Policies.{IsBy, PolicyStandsAt}
 use Rattle.unwrap_sas.proofs.PolicyAt.{PolicyAt, policy-at}
 use Rattle.unwrap_sas.proofs.Along.{Along, along-start, along-end, along-eight, along-wide, along-announces, along-room}
 use Rattle.unwrap_sas.proofs.Along.{along-none, along-sa, Says}
@@ -16,11 +16,11 @@ use Rattle.unwrap_sas.proofs.walk_policies.Statement.{statement}
 use Rattle.unwrap_sas.proofs.walk_policies.Tie as tie
 
 abbrev Inv-loop : tie.InvT-loop
-Inv-loop g k tables schedule ids block tick nine₀ sas₀ count₀ at₀ nine sas count at =
-    Along g k (schedule .words) ids block tick at nine sas count
+Inv-loop gsa kd tables schedule ids block tick nine₀ sas₀ count₀ at₀ nine sas count at =
+    Along gsa kd (schedule .words) ids block tick at nine sas count
 
 abbrev μ-loop : tie.MeasureT-loop
-μ-loop g k tables schedule ids block tick nine₀ sas₀ count₀ at₀ nine sas count at = length g - at
+μ-loop gsa kd tables schedule ids block tick nine₀ sas₀ count₀ at₀ nine sas count at = length gsa - at
 
 blank-requires : tie.Need-blank-requires Inv-loop μ-loop
 blank-requires c κs = search needs
@@ -28,7 +28,7 @@ blank-requires c κs = search needs
 loop-holds : tie.Need-loop-holds Inv-loop μ-loop
 loop-holds c =
     let s = c .before .before .before .before .before in
-    along-start (now (s .args .g)) (now (s .args .k)) (s .args .schedule .words) (now (s .args .ids)) (now (s .args .block))
+    along-start (now (s .args .gsa)) (now (s .args .kd)) (s .args .schedule .words) (now (s .args .ids)) (now (s .args .block))
     (s .args .tick) _ (s .pre .0) refl
 
 sub-policy-parts : tie.Need-sub-policy-parts Inv-loop μ-loop
@@ -43,12 +43,12 @@ part-policy-parts-end c = search needs
 policy-parts-requires : tie.Need-policy-parts-requires Inv-loop μ-loop
 policy-parts-requires c κs =
     let l = c .before .before .loop in
-    starts (now (c .before .before .before .before .before .before .before .before .args .g)) (l .at) (c .before .loop-test .taken)
+    starts (now (c .before .before .before .before .before .before .before .before .args .gsa)) (l .at) (c .before .loop-test .taken)
     (l .inv .rest)
 
 -- the policy is there
 here : (c : tie.After-policy-parts Inv-loop μ-loop) →
-    PolicyAt (now (c .before .before .before .before .before .before .before .before .before .args .g))
+    PolicyAt (now (c .before .before .before .before .before .before .before .before .before .args .gsa))
     (c .before .before .before .loop .at) (c .policy-parts .result)
 here c = policy-at _ _ _ (c .policy-parts .ensures)
 
@@ -65,9 +65,9 @@ open-policy-at-requires c κs =
     let p = here d in
     let z = c .if1 .taken in
     let a = s .args in
-    let n = along-announces (now (a .g)) (now (a .k)) (a .schedule .words) (now (a .ids)) (now (a .block)) (a .tick) (l .at) (l .nine)
+    let n = along-announces (now (a .gsa)) (now (a .kd)) (a .schedule .words) (now (a .ids)) (now (a .block)) (a .tick) (l .at) (l .nine)
     (l .sas) (l .count) (l .inv) _ p z (f .0) (f .1) in
-    let q : StandsAt (now (a .g)) (l .at) (d .policy-parts .result) = record {
+    let q : PolicyStandsAt (now (a .gsa)) (l .at) (d .policy-parts .result) = record {
       head = p .some;
       order = p .order;
       inside = p .inside;
@@ -76,16 +76,17 @@ open-policy-at-requires c κs =
     (q, (s .pre .1 .0, (s .pre .1 .1 .0, (s .pre .1 .1 .1 .0, (f .0, p .sa-at z .sa, n)))))
 
 -- what the copies of this policy's SA open to, by what was found
-says : (c : tie.After-open-policy-at Inv-loop μ-loop) (x : Found) → c .open-policy-at .result .found ≡ x →
+says : (c : tie.After-open-policy-at Inv-loop μ-loop) (x : CopyFound) → c .open-policy-at .result .found ≡ x →
     let d = c .before .before .before .before in
     let l = d .before .before .before .loop in
     let a = d .before .before .before .before .before .before .before .before .before .args in
-    Says (now (a .g)) (now (a .k)) (a .schedule .words) (now (a .ids)) (now (a .block)) (a .tick) (l .at) (l .nine) (l .sas) (l .count)
+    Says (now (a .gsa)) (now (a .kd)) (a .schedule .words) (now (a .ids)) (now (a .block)) (a .tick) (l .at) (l .nine) (l .sas) (l .count)
     (l .inv) _ (here d) (c .before .if1 .taken) (IsBy (a .tick) x (c .open-policy-at .result .sa))
 says c x e roots entries size f b i =
     let d = c .before .before .before .before in
     let a = d .before .before .before .before .before .before .before .before .before .args in
-    subst (λ y. IsBy (a .tick) y (c .open-policy-at .result .sa) roots entries size f b) e (c .open-policy-at .ensures roots entries size f b i)
+    subst (λ y. IsBy (a .tick) y (c .open-policy-at .result .sa) roots entries size f b) e
+    (c .open-policy-at .ensures roots entries size f b i)
 
 enum-told : tie.Need-enum-told Inv-loop μ-loop
 enum-told c = search needs
@@ -97,9 +98,9 @@ returns c =
     let l = d .before .before .before .loop in
     let a = d .before .before .before .before .before .before .before .before .before .args in
     let z = w .before .if1 .taken in
-    along-eight (now (a .g)) (now (a .k)) (a .schedule .words) (now (a .ids)) (now (a .block)) (a .tick) (l .at) (l .nine) (l .sas)
+    along-eight (now (a .gsa)) (now (a .kd)) (a .schedule .words) (now (a .ids)) (now (a .block)) (a .tick) (l .at) (l .nine) (l .sas)
     (l .count) (l .inv) _ (here d) z
-    (says w Eight (c .enum-told .given .1))
+    (says w Conflict (c .enum-told .given .1))
 
 enum-told-2 : tie.Need-enum-told-2 Inv-loop μ-loop
 enum-told-2 c = search needs
@@ -116,7 +117,7 @@ left w =
     let s = d .before .before .before .before .before .before .before .before .before in
     let a = s .args in
     let f = s .pre .1 .1 .1 .1 in
-    along-room (now (a .g)) (now (a .k)) (a .schedule .words) (now (a .ids)) (now (a .block)) (a .tick) (l .at) (l .nine) (l .sas)
+    along-room (now (a .gsa)) (now (a .kd)) (a .schedule .words) (now (a .ids)) (now (a .block)) (a .tick) (l .at) (l .nine) (l .sas)
     (l .count) (l .inv) _ (here d) (w .before .if1 .taken) (f .0) (f .1)
 
 mul-sas : tie.Need-mul-sas Inv-loop μ-loop
@@ -139,7 +140,7 @@ loop-again c =
     let l = d .before .before .before .loop in
     let a = d .before .before .before .before .before .before .before .before .before .args in
     let z = w .before .if1 .taken in
-    along-none (now (a .g)) (now (a .k)) (a .schedule .words) (now (a .ids)) (now (a .block)) (a .tick) (l .at) (l .nine) (l .sas)
+    along-none (now (a .gsa)) (now (a .kd)) (a .schedule .words) (now (a .ids)) (now (a .block)) (a .tick) (l .at) (l .nine) (l .sas)
     (l .count) (l .inv) _ (here d) z
     (says w Nothing (c .enum-told2 .given .1))
 
@@ -154,7 +155,7 @@ loop-again-2 c =
     let l = d .before .before .before .loop in
     let a = d .before .before .before .before .before .before .before .before .before .args in
     let z = w .before .if1 .taken in
-    along-sa (now (a .g)) (now (a .k)) (a .schedule .words) (now (a .ids)) (now (a .block)) (a .tick) (l .at) (l .nine) (l .sas)
+    along-sa (now (a .gsa)) (now (a .kd)) (a .schedule .words) (now (a .ids)) (now (a .block)) (a .tick) (l .at) (l .nine) (l .sas)
     (l .count) (l .inv) _ (here d) z
     (w .open-policy-at .result .sa) (left w) (says w Key (c .before .enum-told3 .given .1))
 
@@ -166,7 +167,7 @@ loop-again-3 c =
     let d = c .before .before .before in
     let l = d .before .before .before .loop in
     let a = d .before .before .before .before .before .before .before .before .before .args in
-    along-wide (now (a .g)) (now (a .k)) (a .schedule .words) (now (a .ids)) (now (a .block)) (a .tick) (l .at) (l .nine) (l .sas)
+    along-wide (now (a .gsa)) (now (a .kd)) (a .schedule .words) (now (a .ids)) (now (a .block)) (a .tick) (l .at) (l .nine) (l .sas)
     (l .count) (l .inv) _ (here d) (c .if1 .left)
 
 found-by-requires : tie.Need-found-by-requires Inv-loop μ-loop
@@ -176,7 +177,7 @@ returns-2 : tie.Need-returns-2 Inv-loop μ-loop
 returns-2 c =
     let l = c .before .before .loop in
     let a = c .before .before .before .before .before .before .before .before .args in
-    along-end (now (a .g)) (now (a .k)) (a .schedule .words) (now (a .ids)) (now (a .block)) (a .tick) (l .at) (l .nine) (l .sas)
+    along-end (now (a .gsa)) (now (a .kd)) (a .schedule .words) (now (a .ids)) (now (a .block)) (a .tick) (l .at) (l .nine) (l .sas)
     (l .count) (l .inv) (c .found-by .result) (c .found-by .ensures) (c .before .loop-test .left)
 
 pub walk-policies-spec : {M : Type 1} → statement M

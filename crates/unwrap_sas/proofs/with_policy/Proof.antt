@@ -21,20 +21,20 @@ sized c =
     let s = c .before .before .before .before .before .before in
     let p = s .pre .1 .1 .1 .1 in
     let h = p .2 in
-    sizes-are (now (s .args .k)) (s .args .protocol) (now (s .args .spi)) (now (s .args .x)) (p .0) (p .1) h (c .needs .result)
+    sizes-are (now (s .args .kd)) (s .args .protocol) (now (s .args .spi)) (now (s .args .x)) (p .0) (p .1) h (c .needs .result)
     (c .needs .ensures (inPolicy (s .args .protocol)) (h .body) (h .is))
 
-add-opened : tie.Need-add-opened
-add-opened c = let h = few-octets _ _ _ _ (sized c) in record { fits = omega arith }
+add-open-copies : tie.Need-add-open-copies
+add-open-copies c = let h = few-octets _ _ _ _ (sized c) in record { fits = omega arith }
 
-opened-requires : tie.Need-opened-requires
-opened-requires c κs =
+open-copies-requires : tie.Need-open-copies-requires
+open-copies-requires c κs =
     let s = c .before .before .before .before .before .before in
     let p = s .pre .1 in
     let q = p .1 .1 .1 in (
       p .0,
       (
-        one-bag (now (s .args .k)) (s .args .protocol) (now (s .args .spi)) (now (s .args .x)) (q .0) (q .1) (q .2),
+        one-bag (now (s .args .kd)) (s .args .protocol) (now (s .args .spi)) (now (s .args .x)) (q .0) (q .1) (q .2),
         (few-octets _ _ _ _ (sized c), (p .1 .0, p .1 .1 .0)),
       ),
     )
@@ -43,7 +43,7 @@ of-policy-requires : tie.Need-of-policy-requires
 of-policy-requires c κs =
     let s = c .before .before .before .before .before .before .before in
     let q = s .pre .1 .1 .1 .1 in
-    lifetime-there (now (s .args .k)) (s .args .protocol) (now (s .args .spi)) (now (s .args .x)) (q .0) (q .1) (q .2)
+    lifetime-there (now (s .args .kd)) (s .args .protocol) (now (s .args .spi)) (now (s .args .x)) (q .0) (q .1) (q .2)
 
 one-sa-requires : tie.Need-one-sa-requires
 one-sa-requires c κs = sized (c .before .before)
@@ -56,15 +56,15 @@ returns c roots entries size f a i =
     let h = i .stands in
     let is = n .ensures (inPolicy (s .protocol)) (h .body) (h .is) in
     let t = d .of-policy in
-    let lasts = lifetime-of (now (s .k)) (s .protocol) (now (s .spi)) (now (s .x)) f a h (t .result) (s .tick) (t .ensures) in
-    let name = named-with (now (s .k)) (s .protocol) (now (s .spi)) (now (s .x)) f a h (n .result) is (t .result) (s .tick) lasts in
-    let need = need-is (now (s .k)) (s .protocol) (now (s .spi)) (now (s .x)) f a h (n .result) is in
+    let lasts = lifetime-of (now (s .kd)) (s .protocol) (now (s .spi)) (now (s .x)) f a h (t .result) (s .tick) (t .ensures) in
+    let name = named-with (now (s .kd)) (s .protocol) (now (s .spi)) (now (s .x)) f a h (n .result) is (t .result) (s .tick) lasts in
+    let need = need-is (now (s .kd)) (s .protocol) (now (s .spi)) (now (s .x)) f a h (n .result) is in
     c .one-sa .ensures (s .tick) roots entries size f a
     (record {
       name = name;
-      answers = d .before .opened .ensures roots entries size f a (i .opening) (h .bags) (h .protocol-is) (h .spi-is) need;
+      answers = d .before .open-copies .ensures roots entries size f a (i .opening) (h .bags) (h .protocol-is) (h .spi-is) need;
     })
 
 pub with-policy-spec : {M : Type 1} → statement M
 with-policy-spec =
-    tie.close (tie.spec needs-requires add-opened opened-requires of-policy-requires one-sa-requires returns)
+    tie.close (tie.spec needs-requires add-open-copies open-copies-requires of-policy-requires one-sa-requires returns)

@@ -22,44 +22,44 @@ use Rattle.state_keys.specs.declared.kinds.WrappingKey.{WrappingKey}
 use Rattle.state.specs.declared.held.Held.{Held}
 use Rattle.unwrap_copies.specs.inner.Known.{Agrees}
 use Rattle.unwrap_copies.specs.inner.Lending.{LendsHeld}
-use Rattle.unwrap_copies.specs.declared.answer.Found.{Found}
-use Rattle.unwrap_copies.specs.declared.answer.Found.the-variants as copied
+use Rattle.unwrap_copies.specs.declared.answer.CopyFound.{CopyFound}
+use Rattle.unwrap_copies.specs.declared.answer.CopyFound.the-variants as copied
 use Rattle.rules_refusals.specs.Contents.{rowOf, several, bagsOf}
 use Rattle.rules_refusals.specs.Number4.{twiceInTransform}
 use Rattle.rules_refusals.specs.Number6.{bagsNamed}
 use Rattle.rules_refusals.specs.Fitness.{encryptionOctets, keyWrapOctets, transformsFit}
 use Rattle.rules_chains.specs.Chain.{Root, CopyOpens}
-use Rattle.rules_chains.specs.Refusals.{CopiesEight, KeyOf}
-use Rattle.unwrap_copies.specs.inner.Answer.{Answers}
-use Rattle.unwrap_copies.specs.declared.answer.Opened.{Opened}
+use Rattle.rules_chains.specs.Refusals.{CopiesConflict, KeyOf}
+use Rattle.unwrap_copies.specs.inner.Answer.{CopyAnswers}
+use Rattle.unwrap_copies.specs.declared.answer.CopyOpened.{CopyOpened}
 use Rattle.rules_outcome.specs.Roots.{copiesOf, announcedAs}
 use Rattle.rules_outcome.specs.After.{lifetimeFrom, saFrom}
 use Rattle.unwrap_sas.specs.declared.joining.One.{One}
 
 -- ---- of one policy, by its copies
-abbrev pub OfOne : Type 1
-OfOne = List Root → List WrapKey → ℕ → Frame → GroupSaPolicy → Type 0
+abbrev pub SaPredicate : Type 1
+SaPredicate = List Root → List WrapKey → ℕ → Frame → GroupSaPolicy → Type 0
 
-abbrev pub IsEight : OfOne
-IsEight roots entries size f a = CopiesEight roots entries size (announcedAs f a)
+abbrev pub IsConflict : SaPredicate
+IsConflict roots entries size f a = CopiesConflict roots entries size (announcedAs f a)
 
-abbrev pub IsUnopened : OfOne
+abbrev pub IsUnopened : SaPredicate
 IsUnopened roots entries size f a = (x : List ℕ) → CopyOpens roots entries size (copiesOf f a) x → ⊥
 
 -- its SA is this one, from a tick on
 pub record IsSa (tick : ℕ) (sa : Sa) (roots : List Root) (entries : List WrapKey) (size : ℕ) (f : Frame) (a : GroupSaPolicy) : Type 0 where
   pub x : List ℕ
   pub key : KeyOf roots entries size (announcedAs f a) x
-  pub fit : CopiesEight roots entries size (announcedAs f a) → ⊥
+  pub fit : CopiesConflict roots entries size (announcedAs f a) → ⊥
   pub is : sa ≡ saFrom tick a x
 
 -- it is number 8 of its copies, none that opens, or this SA
-abbrev pub IsBy : ℕ → Found → Sa → OfOne
-IsBy tick copied.Eight sa roots entries size f a = IsEight roots entries size f a
+abbrev pub IsBy : ℕ → CopyFound → Sa → SaPredicate
+IsBy tick copied.Conflict sa roots entries size f a = IsConflict roots entries size f a
 IsBy tick copied.Nothing sa roots entries size f a = IsUnopened roots entries size f a
 IsBy tick copied.Key sa roots entries size f a = IsSa tick sa roots entries size f a
 
-abbrev pub IsOne : ℕ → One → OfOne
+abbrev pub IsOne : ℕ → One → SaPredicate
 IsOne tick r roots entries size f a = IsBy tick (r .found) (r .sa) roots entries size f a
 
 -- the octets that an SPI of this protocol has, and the two parts of its SA's keying octets
@@ -68,7 +68,8 @@ pub record Sized (protocol : ℕ) (spi : List ℕ) (encryption wrapping : ℕ) :
   pub rekey : (protocol ≡ 3 → ⊥) → (length spi ≡ 16) × (rekeySizes encryption wrapping ≡ true)
 
 -- a policy with this name whose transforms need so many octets, and whose SA has this lifetime from a tick on
-pub record Named (protocol : ℕ) (spi : List ℕ) (encryption wrapping : ℕ) (lifetime : Lifetime) (tick : ℕ) (a : GroupSaPolicy) : Type 0 where
+pub record PolicyGives (protocol : ℕ) (spi : List ℕ) (encryption wrapping : ℕ) (lifetime : Lifetime) (tick : ℕ) (a : GroupSaPolicy) : Type
+    0 where
   pub protocol-is : a .protocol ≡ protocol
   pub spi-is : a .spi ≡ spi
   pub encryption-is : encryptionOctets a ≡ encryption
@@ -76,10 +77,10 @@ pub record Named (protocol : ℕ) (spi : List ℕ) (encryption wrapping : ℕ) (
   pub lifetime-is : lifetimeFrom tick (a .keyLifetimes) ≡ lifetime
 
 -- such a policy, and what its copies open to
-pub record IsOpened (protocol : ℕ) (spi : List ℕ) (encryption wrapping : ℕ) (lifetime : Lifetime) (tick : ℕ) (one : Opened)
+pub record IsOpened (protocol : ℕ) (spi : List ℕ) (encryption wrapping : ℕ) (lifetime : Lifetime) (tick : ℕ) (one : CopyOpened)
     (roots : List Root) (entries : List WrapKey) (size : ℕ) (f : Frame) (a : GroupSaPolicy) : Type 0 where
-  pub name : Named protocol spi encryption wrapping lifetime tick a
-  pub answers : Answers roots entries size (announcedAs f a) one
+  pub name : PolicyGives protocol spi encryption wrapping lifetime tick a
+  pub answers : CopyAnswers roots entries size (announcedAs f a) one
 
 -- ---- where a policy and its bag stand
 -- the SPI of a policy with these parts that starts at a place of a GSA body, and what it holds after its SPI
@@ -90,14 +91,14 @@ abbrev pub bodyAt : List ℕ → ℕ → Parts → List ℕ
 bodyAt g at p = part g (at + p .body) (at + p .end)
 
 -- such a policy stands inside the body
-pub record StandsAt (g : List ℕ) (at : ℕ) (p : Parts) : Type 0 where
+pub record PolicyStandsAt (g : List ℕ) (at : ℕ) (p : Parts) : Type 0 where
   pub head : 4 ≤ p .body
   pub order : p .body ≤ p .end
   pub inside : at + p .end ≤ length g
   pub small : length (bodyAt g at p) < 65536
 
 -- chains end on exactly key 0, of which this is the schedule, and the held keys, which are lent so
-pub record Opening (schedule ids block : List ℕ) (roots : List Root) (entries : List WrapKey) (size : ℕ) : Type 0 where
+pub record OpeningKeys (schedule ids block : List ℕ) (roots : List Root) (entries : List WrapKey) (size : ℕ) : Type 0 where
   pub zero : WrappingKey
   pub held : Held
   pub expands : ExpandsInverse (valueOf zero) schedule
@@ -126,5 +127,5 @@ pub record Announces (k : List ℕ) (protocol : ℕ) (spi x : List ℕ) (f : Fra
 -- the policy a has this name and holds x after its SPI, and its copies open under key 0 and the held keys
 pub record IsAnnounced (k : List ℕ) (protocol : ℕ) (spi x : List ℕ) (schedule ids block : List ℕ) (roots : List Root)
     (entries : List WrapKey) (size : ℕ) (f : Frame) (a : GroupSaPolicy) : Type 0 where
-  pub opening : Opening schedule ids block roots entries size
+  pub opening : OpeningKeys schedule ids block roots entries size
   pub stands : Announces k protocol spi x f a

@@ -11,8 +11,8 @@ use Rattle.unwrap_search.specs.declared.open.Entry.{Entry}
 abbrev pub noEntry : Entry
 noEntry = record { id = 0; kwk = 0; start = 0; end = 0 }
 
-abbrev pub noKey : WrapKey
-noKey = record { keyId = 0; kwkId = 0; wrapped = [] }
+abbrev pub noWrapKey : WrapKey
+noWrapKey = record { keyId = 0; kwkId = 0; wrapped = [] }
 
 -- the entry's numbers are e's, and its wrapped octets stand in the frame from `start` up to `end`
 pub record IsEntry (frame : List ℕ) (c : Entry) (e : WrapKey) : Type 0 where
@@ -26,4 +26,4 @@ pub record IsEntry (frame : List ℕ) (c : Entry) (e : WrapKey) : Type 0 where
 pub record Lists (frame : List ℕ) (cells : List Entry) (n : ℕ) (entries : List WrapKey) : Type 0 where
   pub count : length entries ≡ n
   pub within : n ≤ limits .wrapKeys
-  pub at : (i : ℕ) → i < n → IsEntry frame (getD cells i noEntry) (getD entries i noKey)
+  pub at : (i : ℕ) → i < n → IsEntry frame (getD cells i noEntry) (getD entries i noWrapKey)

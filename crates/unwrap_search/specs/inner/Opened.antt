@@ -37,7 +37,7 @@ abbrev pub naming : ℕ → Entry → Cell → Bool
 naming k e c = both (eqb (e .kwk) k) (waiting (c .status))
 
 -- the key is octets of the right size to which `wrapped` opens under v
-pub record Opened (v : List ℕ) (size : ℕ) (wrapped : List ℕ) (key : WrappingKey) : Type 0 where
+pub record EntryOpened (v : List ℕ) (size : ℕ) (wrapped : List ℕ) (key : WrappingKey) : Type 0 where
   pub opens : Opens v wrapped (valueOf key)
   pub fits : length (valueOf key) ≡ size
   pub is : key ≡ wrappingOf (valueOf key)
@@ -56,7 +56,7 @@ abbrev pub LandedBy : List ℕ → ℕ → List ℕ → Status → WrappingKey �
 LandedBy v size wrapped Waiting key = ⊥
 LandedBy v size wrapped Failed key = NotOpened v wrapped
 LandedBy v size wrapped Wrong key = WrongSize v size wrapped
-LandedBy v size wrapped Pending key = Opened v size wrapped key
+LandedBy v size wrapped Pending key = EntryOpened v size wrapped key
 LandedBy v size wrapped Done key = ⊥
 
 abbrev pub Landed : List ℕ → ℕ → List ℕ → Cell → Type 0

@@ -10,13 +10,13 @@ use Rattle.state_keys.specs.declared.kinds.WrappingKey.{WrappingKey}
 use Rattle.unwrap_search.specs.declared.open.Status.the-variants.{Waiting, Wrong, Pending, Done}
 use Rattle.unwrap_search.specs.declared.open.Cell.{Cell}
 use Rattle.unwrap_search.specs.declared.open.Entry.{Entry}
-use Rattle.unwrap_search.specs.declared.search.Found.{Found}
-use Rattle.unwrap_search.specs.declared.search.Found.the-variants.{At, Nothing}
-use Rattle.unwrap_search.specs.inner.Entries.{noKey, noEntry}
+use Rattle.unwrap_search.specs.declared.search.PendingFound.{PendingFound}
+use Rattle.unwrap_search.specs.declared.search.PendingFound.the-variants.{At, Nothing}
+use Rattle.unwrap_search.specs.inner.Entries.{noWrapKey, noEntry}
 use Rattle.unwrap_search.specs.inner.Opened.{noCell, Tried}
 
 abbrev pub keyAt : List WrapKey → ℕ → WrapKey
-keyAt entries i = getD entries i noKey
+keyAt entries i = getD entries i noWrapKey
 
 abbrev pub cellAt : List Cell → ℕ → Cell
 cellAt cells i = getD cells i noCell
@@ -30,15 +30,15 @@ abbrev pub Unnamed : ℕ → List Entry → List Cell → ℕ → Type 0
 Unnamed k places cells n = (i : ℕ) → i < n → getD places i noEntry .kwk ≡ k → cellAt cells i .status ≡ Waiting → ⊥
 
 -- a cell of the first n that is pending, or none is
-pub record FoundAt (cells : List Cell) (n j : ℕ) : Type 0 where
+pub record PendingAt (cells : List Cell) (n j : ℕ) : Type 0 where
   pub inside : j < n
   pub pends : cellAt cells j .status ≡ Pending
 
 abbrev pub NonePending : List Cell → ℕ → Type 0
 NonePending cells n = (i : ℕ) → i < n → cellAt cells i .status ≡ Pending → ⊥
 
-abbrev pub Finds : List Cell → ℕ → Found → Type 0
-Finds cells n (At j) = FoundAt cells n j
+abbrev pub Finds : List Cell → ℕ → PendingFound → Type 0
+Finds cells n (At j) = PendingAt cells n j
 Finds cells n Nothing = NonePending cells n
 
 -- number 6 refuses a WRAP_KEY with Key ID 0: no entry has it
@@ -46,12 +46,12 @@ abbrev pub Nonzero : List WrapKey → Type 0
 Nonzero entries = (i : ℕ) → i < length entries → keyAt entries i .keyId ≡ 0 → ⊥
 
 -- the one root of a registration
-abbrev pub keyZero : List ℕ → List Root
-keyZero v = record { id = 0; value = v } ∷ []
+abbrev pub keyZeroRoots : List ℕ → List Root
+keyZeroRoots v = record { id = 0; value = v } ∷ []
 
 module _ (roots : List Root) (entries : List WrapKey) (size : ℕ) where
   -- a chain that ends with entry e gives the key
-  pub record Gives (e : WrapKey) (key : WrappingKey) : Type 0 where
+  pub record ChainGives (e : WrapKey) (key : WrappingKey) : Type 0 where
     pub passed : List WrapKey
     pub chain : Chain roots entries size (e ∷ passed) (e .keyId) (valueOf key)
     pub fits : length (valueOf key) ≡ size
@@ -80,7 +80,7 @@ module _ (roots : List Root) (entries : List WrapKey) (size : ℕ) where
   -- what the search says of each entry: `Done`, that a chain ends with it and gives the cell's key; `Wrong`, that one gives a value of a
   -- wrong size. Where none is wrong and the cells give each key one value, whatever is reached stands in the cells.
   pub record Searched (cells : List Cell) : Type 0 where
-    pub gives : (i : ℕ) → i < length entries → cellAt cells i .status ≡ Done → Gives (keyAt entries i) (cellAt cells i .key)
+    pub gives : (i : ℕ) → i < length entries → cellAt cells i .status ≡ Done → ChainGives (keyAt entries i) (cellAt cells i .key)
     pub misfits : (i : ℕ) → i < length entries → cellAt cells i .status ≡ Wrong → Misfits (keyAt entries i)
     pub complete : Nonzero entries →
         ((i : ℕ) → i < length entries → cellAt cells i .status ≡ Wrong → ⊥) → OneEach cells → (k : ℕ) (x : List ℕ) →

@@ -6,14 +6,14 @@ use mathlib.Core.List.{List, []}
 use Rattle.wire_attributes.specs.Tree.{WrapKey}
 use Rattle.wire_bags.specs.Bag.{Bag, MemberKeyBag}
 use Rattle.rules_chains.specs.Chain.{Root}
-use Rattle.rules_chains.specs.Refusals.{EntriesEight}
+use Rattle.rules_chains.specs.Refusals.{EntriesConflict}
 use Rattle.state_keys.specs.Limits.{limits}
 use Rattle.state_keys.specs.declared.kinds.WrappingKey.{WrappingKey}
 use Rattle.state.specs.Held.{heldOf, heldFormed}
 use Rattle.rules_outcome.specs.After.{HeldAre}
-use Rattle.unwrap_conflicts.specs.inner.Values.{Tells}
+use Rattle.unwrap_conflicts.specs.inner.Values.{Decides}
 use Rattle.unwrap_copies.specs.inner.Known.{Agrees}
-use Rattle.unwrap_tree.specs.declared.held.Reached.{Reached}
+use Rattle.unwrap_tree.specs.declared.held.ReachedKeys.{ReachedKeys}
 use Rattle.wire_readers.specs.inner.Bags.{bagsIn}
 use Rattle.rules_refusals.specs.Contents.{gather, memberBagOf}
 
@@ -28,9 +28,9 @@ wrapKeysIn k = wrapKeysAmong (bagsIn k)
 module _ (roots : List Root) (entries : List WrapKey) (size : ℕ) where
   -- the answer: whether number 8 holds of the entries; where it does not, the held list, which is as a member's must be, and with `zero` as
   -- key 0 the keys on which a chain ends; where it does, no list
-  pub record Answers (zero : WrappingKey) (r : Reached) : Type 0 where
-    pub eight : Tells (r .eight) (EntriesEight roots entries size)
-    pub held : r .eight ≡ false → HeldAre roots entries size limits (r .held)
-    pub formed : r .eight ≡ false → heldFormed limits (r .held) ≡ true
-    pub agrees : r .eight ≡ false → Agrees roots entries size zero (r .held)
-    pub none : r .eight ≡ true → r .held ≡ heldOf limits []
+  pub record TreeAnswers (zero : WrappingKey) (r : ReachedKeys) : Type 0 where
+    pub conflict : Decides (r .conflict) (EntriesConflict roots entries size)
+    pub held : r .conflict ≡ false → HeldAre roots entries size limits (r .held)
+    pub formed : r .conflict ≡ false → heldFormed limits (r .held) ≡ true
+    pub agrees : r .conflict ≡ false → Agrees roots entries size zero (r .held)
+    pub none : r .conflict ≡ true → r .held ≡ heldOf limits []

@@ -27,17 +27,17 @@ returns c =
       ap (λ (n : ℕ). (a .s .ptr .0, n + a .s .ptr .1)) (starts-past (now (a .s)) (a .at) (c .before .if1 .taken)),
     )
 
-sub-attribute-read : tie.Need-sub-attribute-read
-sub-attribute-read c = search needs
+sub-read-attribute : tie.Need-sub-read-attribute
+sub-read-attribute c = search needs
 
-part-attribute-read-start : tie.Need-part-attribute-read-start
-part-attribute-read-start c = search needs
+part-read-attribute-start : tie.Need-part-read-attribute-start
+part-read-attribute-start c = search needs
 
-part-attribute-read-end : tie.Need-part-attribute-read-end
-part-attribute-read-end c = search needs
+part-read-attribute-end : tie.Need-part-read-attribute-end
+part-read-attribute-end c = search needs
 
-attribute-read-requires : tie.Need-attribute-read-requires
-attribute-read-requires c κs = search needs
+read-attribute-requires : tie.Need-read-attribute-requires
+read-attribute-requires c κs = search needs
 
 enum-known-start : tie.Need-enum-known-start
 enum-known-start c = search needs
@@ -50,7 +50,7 @@ found c =
     let v = c .before .start .given .0 in
     read-is (drop (c .before .before .before .before .before .before .before .args .at) (now
     (c .before .before .before .before .before .before .before .args .s))) (v .0) (v .1 .0) (v .1 .1 .0) (v .1 .1 .1 .0)
-    (sym (c .before .start .given .1) ∙ c .before .before .before .attribute-read .ensures ∙ ap readOf (to-end (now
+    (sym (c .before .start .given .1) ∙ c .before .before .before .read-attribute .ensures ∙ ap readOf (to-end (now
     (c .before .before .before .before .before .before .before .args .s))
     (c .before .before .before .before .before .before .before .args .at)))
 
@@ -118,7 +118,7 @@ returns-3 : tie.Need-returns-3
 returns-3 c =
     let a = c .before .before .before .before .before .before .before .args in
     let f = cut-is (drop (a .at) (now (a .s))) (sym (c .before .enum-told .given .1)
-    ∙ c .before .before .before .attribute-read .ensures ∙ ap readOf (to-end (now (a .s)) (a .at))) in
+    ∙ c .before .before .before .read-attribute .ensures ∙ ap readOf (to-end (now (a .s)) (a .at))) in
     (value-none (now (a .s)) (a .at) f, ap (λ (n : ℕ). (a .s .ptr .0, n + a .s .ptr .1)) (starts-none (now (a .s)) (a .at) f))
 
 pub attribute-value-spec : {M : Type 1} → statement M
@@ -129,10 +129,10 @@ attribute-value-spec =
     part-result-start
     part-result-end
     returns
-    sub-attribute-read
-    part-attribute-read-start
-    part-attribute-read-end
-    attribute-read-requires
+    sub-read-attribute
+    part-read-attribute-start
+    part-read-attribute-end
+    read-attribute-requires
     enum-known-start
     add-a
     add-e

@@ -10,8 +10,8 @@ use borrow.Author.Needs.{needs}
 use Rattle.wire_frames.proofs.frame_layout.Statement.{statement}
 use Rattle.wire_frames.proofs.frame_layout.Tie as tie
 
-header-read-requires : tie.Need-header-read-requires
-header-read-requires c κs = search needs
+read-header-requires : tie.Need-read-header-requires
+read-header-requires c κs = search needs
 
 enum-known-first : tie.Need-enum-known-first
 enum-known-first c = search needs
@@ -20,7 +20,7 @@ sub-payloads-layout : tie.Need-sub-payloads-layout
 sub-payloads-layout c =
     let v = c .before .first .given .0 in
     let i = header-is (now (c .before .before .before .before .before .args .s)) (v .0) (v .1 .0) (v .1 .1 .0) (sym
-    (c .before .first .given .1) ∙ c .before .before .before .header-read .ensures) in
+    (c .before .first .given .1) ∙ c .before .before .before .read-header .ensures) in
     let l = header-long (now (c .before .before .before .before .before .args .s)) (i .0) in
     omega (arith, l .0)
 
@@ -28,7 +28,7 @@ part-payloads-layout-start : tie.Need-part-payloads-layout-start
 part-payloads-layout-start c =
     let v = c .before .first .given .0 in
     let i = header-is (now (c .before .before .before .before .before .args .s)) (v .0) (v .1 .0) (v .1 .1 .0) (sym
-    (c .before .first .given .1) ∙ c .before .before .before .header-read .ensures) in
+    (c .before .first .given .1) ∙ c .before .before .before .read-header .ensures) in
     let l = header-long (now (c .before .before .before .before .before .args .s)) (i .0) in
     omega (arith, l .0)
 
@@ -39,7 +39,7 @@ payloads-layout-requires : tie.Need-payloads-layout-requires
 payloads-layout-requires c κs =
     let v = c .before .before .first .given .0 in
     let i = header-is (now (c .before .before .before .before .before .before .args .s)) (v .0) (v .1 .0) (v .1 .1 .0) (sym
-    (c .before .before .first .given .1) ∙ c .before .before .before .before .header-read .ensures) in
+    (c .before .before .first .given .1) ∙ c .before .before .before .before .read-header .ensures) in
     let l = header-long (now (c .before .before .before .before .before .before .args .s)) (i .0) in
     omega (
       arith,
@@ -56,20 +56,20 @@ returns : tie.Need-returns
 returns c =
     let v = c .before .before .before .first .given .0 in
     let i = header-is (now (c .before .before .before .before .before .before .before .args .s)) (v .0) (v .1 .0) (v .1 .1 .0) (sym
-    (c .before .before .before .first .given .1) ∙ c .before .before .before .before .before .header-read .ensures) in
+    (c .before .before .before .first .given .1) ∙ c .before .before .before .before .before .read-header .ensures) in
     laid (now (c .before .before .before .before .before .before .before .args .s)) _
     (frame-is (now (c .before .before .before .before .before .before .before .args .s)) (i .0) _ (i .1) _ (c .payloads-layout .ensures))
 
 returns-2 : tie.Need-returns-2
 returns-2 c =
     let s = now (c .before .before .before .before .args .s) in
-    laid s _ (frame-broken s (header-not s (sym (c .enum-told .given .1) ∙ c .before .before .header-read .ensures)))
+    laid s _ (frame-broken s (header-not s (sym (c .enum-told .given .1) ∙ c .before .before .read-header .ensures)))
 
 pub frame-layout-spec : {M : Type 1} → statement M
 frame-layout-spec =
     tie.close
     (tie.spec
-    header-read-requires
+    read-header-requires
     enum-known-first
     sub-payloads-layout
     part-payloads-layout-start

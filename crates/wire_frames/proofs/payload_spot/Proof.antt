@@ -12,8 +12,8 @@ use Rattle.wire_frames.proofs.payload_spot.Tie as tie
 returns : tie.Need-returns
 returns c = missing (c .before .before .args .kind) (c .before .before .args .base) (now (c .before .before .args .s)) (c .if1 .taken)
 
-payload-read-requires : tie.Need-payload-read-requires
-payload-read-requires c κs = search needs
+read-payload-requires : tie.Need-read-payload-requires
+read-payload-requires c κs = search needs
 
 enum-known-end : tie.Need-enum-known-end
 enum-known-end c = search needs
@@ -22,7 +22,7 @@ sub-body-layout : tie.Need-sub-body-layout
 sub-body-layout c =
     let v = c .before .end .given .0 in
     let i = payload-is (now (c .before .before .before .before .before .before .args .s)) (v .0) (v .1 .0) (v .1 .1 .0) (sym
-    (c .before .end .given .1) ∙ c .before .before .before .payload-read .ensures) in
+    (c .before .end .given .1) ∙ c .before .before .before .read-payload .ensures) in
     let f = sized-is (now (c .before .before .before .before .before .before .args .s)) 4 (i .0) in
     omega (arith, f .0, f .1, i .1)
 
@@ -30,7 +30,7 @@ part-body-layout-start : tie.Need-part-body-layout-start
 part-body-layout-start c =
     let v = c .before .end .given .0 in
     let i = payload-is (now (c .before .before .before .before .before .before .args .s)) (v .0) (v .1 .0) (v .1 .1 .0) (sym
-    (c .before .end .given .1) ∙ c .before .before .before .payload-read .ensures) in
+    (c .before .end .given .1) ∙ c .before .before .before .read-payload .ensures) in
     let f = sized-is (now (c .before .before .before .before .before .before .args .s)) 4 (i .0) in
     omega (arith, f .0, f .1, i .1)
 
@@ -38,7 +38,7 @@ part-body-layout-end : tie.Need-part-body-layout-end
 part-body-layout-end c =
     let v = c .before .end .given .0 in
     let i = payload-is (now (c .before .before .before .before .before .before .args .s)) (v .0) (v .1 .0) (v .1 .1 .0) (sym
-    (c .before .end .given .1) ∙ c .before .before .before .payload-read .ensures) in
+    (c .before .end .given .1) ∙ c .before .before .before .read-payload .ensures) in
     let f = sized-is (now (c .before .before .before .before .before .before .args .s)) 4 (i .0) in
     omega (arith, f .0, f .1, i .1)
 
@@ -49,7 +49,7 @@ body-layout-requires : tie.Need-body-layout-requires
 body-layout-requires c κs =
     let v = c .before .before .end .given .0 in
     let i = payload-is (now (c .before .before .before .before .before .before .before .args .s)) (v .0) (v .1 .0) (v .1 .1 .0) (sym
-    (c .before .before .end .given .1) ∙ c .before .before .before .before .payload-read .ensures) in
+    (c .before .before .end .given .1) ∙ c .before .before .before .before .read-payload .ensures) in
     let f = sized-is (now (c .before .before .before .before .before .before .before .args .s)) 4 (i .0) in
     omega (
       arith,
@@ -75,7 +75,7 @@ returns-2 c =
     let v = c .before .before .before .before .before .end .given .0 in
     let i = payload-is (now (c .before .before .before .before .before .before .before .before .before .before .args .s)) (v .0) (v .1 .0)
     (v .1 .1 .0) (sym (c .before .before .before .before .before .end .given .1)
-    ∙ c .before .before .before .before .before .before .before .payload-read .ensures) in
+    ∙ c .before .before .before .before .before .before .before .read-payload .ensures) in
     good (c .before .before .before .before .before .before .before .before .before .before .args .kind)
     (c .before .before .before .before .before .before .before .before .before .before .args .base) (now
     (c .before .before .before .before .before .before .before .before .before .before .args .s))
@@ -87,7 +87,7 @@ returns-3 c =
     let v = c .before .before .before .before .before .before .end .given .0 in
     let i = payload-is (now (c .before .before .before .before .before .before .before .before .before .before .before .args .s)) (v .0)
     (v .1 .0) (v .1 .1 .0) (sym (c .before .before .before .before .before .before .end .given .1)
-    ∙ c .before .before .before .before .before .before .before .before .payload-read .ensures) in
+    ∙ c .before .before .before .before .before .before .before .before .read-payload .ensures) in
     inner-broken (c .before .before .before .before .before .before .before .before .before .before .before .args .kind)
     (c .before .before .before .before .before .before .before .before .before .before .before .args .base) (now
     (c .before .before .before .before .before .before .before .before .before .before .before .args .s))
@@ -97,14 +97,14 @@ returns-3 c =
 returns-4 : tie.Need-returns-4
 returns-4 c = bad (c .before .before .before .before .before .args .kind) (c .before .before .before .before .before .args .base) (now
     (c .before .before .before .before .before .args .s)) (c .before .before .before .if1 .left) (payload-not (now
-    (c .before .before .before .before .before .args .s)) (sym (c .enum-told2 .given .1) ∙ c .before .before .payload-read .ensures))
+    (c .before .before .before .before .before .args .s)) (sym (c .enum-told2 .given .1) ∙ c .before .before .read-payload .ensures))
 
 pub payload-spot-spec : {M : Type 1} → statement M
 payload-spot-spec =
     tie.close
     (tie.spec
     returns
-    payload-read-requires
+    read-payload-requires
     enum-known-end
     sub-body-layout
     part-body-layout-start

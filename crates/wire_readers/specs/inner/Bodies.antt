@@ -8,7 +8,7 @@ use lib.ListN.{length, drop}
 use Rattle.ikev2_numbers.specs.Codes.{transformHeadOctets}
 use Rattle.octets.specs.Walk.{part, Spans}
 use Rattle.wire_attributes.specs.Place.{inTransform}
-use Rattle.wire_attributes.specs.Tree.{two}
+use Rattle.wire_attributes.specs.Tree.{number16}
 use Rattle.wire_attributes.specs.Layout.{attributes}
 use Rattle.wire_attributes.specs.declared.tables.Place.{Place}
 use Rattle.wire_attributes.specs.declared.tables.Meaning.the-variants as meaning
@@ -26,7 +26,8 @@ pub record TransformIs (s : List ℕ) (l : List Transform) (tail : List ℕ) (r 
   pub all : l ≡ head ∷ rest
   pub kind : head .kind ≡ r .kind
   pub id : head .id ≡ r .id
-  pub keyLengths : head .keyLengths ≡ map two (valuesIn meaning.KeyLength (inTransform (r .kind)) (part s transformHeadOctets (r .end)))
+  pub keyLengths : head .keyLengths
+      ≡ map number16 (valuesIn meaning.KeyLength (inTransform (r .kind)) (part s transformHeadOctets (r .end)))
   pub held : isWhole (attributes (inTransform (r .kind)) 0 (part s transformHeadOctets (r .end))) ≡ true
   pub octet : r .kind < 256
   pub twoOctets : r .id < 65536

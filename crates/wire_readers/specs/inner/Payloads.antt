@@ -9,7 +9,7 @@ use Rattle.octets.specs.Numbers.{oct}
 use Rattle.octets.specs.Walk.{be16, part}
 use Rattle.wire_readers.specs.inner.Values.{isWhole, itemsOf}
 use Rattle.wire_frames.specs.Header.{isCritical}
-use Rattle.wire_frames.specs.Frame.{Content, Payload, payloads, exactly}
+use Rattle.wire_frames.specs.Frame.{Content, Payload, payloads, nothingLeft}
 use Rattle.wire_frames.specs.Grammar.{IsContent}
 use Rattle.wire_readers.specs.declared.payload.PayloadParts.{PayloadParts}
 
@@ -25,4 +25,4 @@ pub record PayloadIs (k : ℕ) (s : List ℕ) (r : PayloadParts) : Type 0 where
   pub content : Content
   pub is : IsContent k (part s payloadHeaderOctets (r .end)) content
   pub item : payloadsIn k s ≡ record { kind = k; critical = r .critical; content = content } ∷ payloadsIn (r .next) (drop (r .end) s)
-  pub rest : isWhole (exactly (payloads (r .next) 0 (drop (r .end) s))) ≡ true
+  pub rest : isWhole (nothingLeft (payloads (r .next) 0 (drop (r .end) s))) ≡ true

@@ -15,8 +15,8 @@ use Rattle.wire_attributes.specs.declared.tables.Place.{Place}
 use Rattle.wire_attributes.specs.declared.tables.Meaning.{Meaning}
 use Rattle.wire_attributes.specs.declared.tables.Meaning.the-variants as meaning
 use Rattle.wire_readers.specs.declared.Stretch.{Stretch}
-use Rattle.wire_readers.specs.declared.values.Found.{Found}
-use Rattle.wire_readers.specs.declared.values.Found.the-variants as found
+use Rattle.wire_readers.specs.declared.values.ValueFound.{ValueFound}
+use Rattle.wire_readers.specs.declared.values.ValueFound.the-variants as found
 
 abbrev pub isWhole : {A : Type 0} → Reading A → Bool
 isWhole (whole a rest) = true
@@ -62,7 +62,7 @@ valueSize meaning.SaKey n = wrappedSize n
 valueSize meaning.WrapKey n = wrappedSize n
 
 -- the first of them from a place on stands from a to e and nowhere else, though the same octets stood there; the others come after it
-pub record FoundAt (m : Meaning) (p : Place) (s : List ℕ) (from a e : ℕ) : Type 0 where
+pub record ValueFoundAt (m : Meaning) (p : Place) (s : List ℕ) (from a e : ℕ) : Type 0 where
   pub first : valuesIn m p (drop from s) ≡ part s a e ∷ valuesIn m p (drop e s)
   pub place : placesIn m p s from ≡ record { start = a; end = e } ∷ placesIn m p s e
   pub start : from < a
@@ -73,12 +73,12 @@ pub record FoundAt (m : Meaning) (p : Place) (s : List ℕ) (from a e : ℕ) : T
 
 -- the attribute that stands at b and ends at e holds that first value
 pub record MetAt (m : Meaning) (p : Place) (s : List ℕ) (from b e : ℕ) : Type 0 where
-  pub value : FoundAt m p s from (valueStart s b) e
+  pub value : ValueFoundAt m p s from (valueStart s b) e
   pub octets : valueAt (drop b s) ≡ part s (valueStart s b) e
 
-abbrev pub Meets : Meaning → Place → List ℕ → ℕ → Found → Type 0
-Meets m p s from (found.At b e) = MetAt m p s from b e
-Meets m p s from found.Nothing = (valuesIn m p (drop from s) ≡ []) × (placesIn m p s from ≡ [])
+abbrev pub FindsValue : Meaning → Place → List ℕ → ℕ → ValueFound → Type 0
+FindsValue m p s from (found.At b e) = MetAt m p s from b e
+FindsValue m p s from found.Nothing = (valuesIn m p (drop from s) ≡ []) × (placesIn m p s from ≡ [])
 
 -- the first value from a place on, and where it starts; no octet at 0 where there is none
 abbrev pub firstValue : Meaning → Place → List ℕ → ℕ → List ℕ

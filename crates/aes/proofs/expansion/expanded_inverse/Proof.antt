@@ -5,7 +5,7 @@ use native.Mathlib.Omega.{arith}
 use lib.ListN.{length}
 use Rattle.octets.proofs.Fill.{Filled, none, more}
 use Rattle.fips197.proofs.Expansion.{sizes}
-use Rattle.aes.specs.inner.Schedule.{Blank}
+use Rattle.aes.specs.inner.Schedule.{ZeroWords}
 use Rattle.aes.specs.inner.Inverse.{inverseWordOf}
 use Rattle.aes.proofs.Growing.{blank-none, blank-more}
 use Rattle.aes.proofs.Held.{decipher-length, decipher-sbox}
@@ -14,13 +14,13 @@ use Rattle.aes.proofs.expansion.expanded_inverse.Statement.{statement}
 use Rattle.aes.proofs.expansion.expanded_inverse.Tie as tie
 
 abbrev Inv-loop : tie.InvT-loop
-Inv-loop t key w n k₀ j₀ k j = (10 ≤ n) × (n < 15) × (j ≤ 4 * (n + 1)) × Filled 61 (inverseWordOf t w n) k j × Blank k j 61
+Inv-loop t key w n k₀ j₀ k j = (10 ≤ n) × (n < 15) × (j ≤ 4 * (n + 1)) × Filled 61 (inverseWordOf t w n) k j × ZeroWords k j 61
 
 abbrev μ-loop : tie.MeasureT-loop
 μ-loop t key w n k₀ j₀ k j = 4 * (n + 1) - j
 
-expanded-requires : tie.Need-expanded-requires Inv-loop μ-loop
-expanded-requires c κs =
+expand-words-requires : tie.Need-expand-words-requires Inv-loop μ-loop
+expand-words-requires c κs =
     let s = c .before .before in
     ((omega (arith, decipher-length (s .pre .0)), decipher-sbox (s .pre .0)), s .pre .1)
 
@@ -76,7 +76,7 @@ returns : tie.Need-returns Inv-loop μ-loop
 returns c =
     let l = c .before in
     let s = l .before .before .before .before in
-    inverted (s .pre .0) (l .before .expanded .ensures) _ (l .loop .j) refl (c .loop-test .left) (l .loop .inv .2) (l .loop .inv .3)
+    inverted (s .pre .0) (l .before .expand-words .ensures) _ (l .loop .j) refl (c .loop-test .left) (l .loop .inv .2) (l .loop .inv .3)
     (l .loop .inv .4)
 
 pub expanded-inverse-spec : {M : Type 1} → statement M
@@ -85,7 +85,7 @@ expanded-inverse-spec =
     (tie.spec
     Inv-loop
     μ-loop
-    expanded-requires
+    expand-words-requires
     add-n
     loop-holds
     add-loop

@@ -31,13 +31,13 @@ returns c =
 mul-if2 : tie.Need-mul-if2
 mul-if2 c = search needs
 
-unmixed-requires : tie.Need-unmixed-requires
-unmixed-requires c κs = search needs
+unmix-requires : tie.Need-unmix-requires
+unmix-requires c κs = search needs
 
 returns-2 : tie.Need-returns-2
 returns-2 c =
     let a = c .before .before .before .before .before .args in
-    c .unmixed .ensures ∙ middle (a .t .now) (a .w .now) (a .n) (a .j) (c .before .before .if1 .left) (c .before .if2 .taken)
+    c .unmix .ensures ∙ middle (a .t .now) (a .w .now) (a .n) (a .j) (c .before .before .if1 .left) (c .before .if2 .taken)
 
 returns-3 : tie.Need-returns-3
 returns-3 c =
@@ -56,6 +56,6 @@ inverse-word-spec =
     element-copy-out-x
     returns
     mul-if2
-    unmixed-requires
+    unmix-requires
     returns-2
     returns-3)

@@ -4,13 +4,13 @@ use Prim.Native.Nat.{_/_, _-_, _≤_}
 use lib.ListN.{length}
 use native.Mathlib.Omega.{arith}
 use Rattle.fips197.proofs.Expansion.{sizes}
-use Rattle.aes.specs.inner.Expanding.{Grown}
+use Rattle.aes.specs.inner.Expanding.{ExpandedTo}
 use Rattle.aes.proofs.Growing.{grown-none, grown-more, from-key}
 use Rattle.aes.proofs.expansion.key_words.Statement.{statement}
 use Rattle.aes.proofs.expansion.key_words.Tie as tie
 
 abbrev Inv-loop : tie.InvT-loop
-Inv-loop key nk w₀ j₀ w j = (4 ≤ nk) × (nk ≤ 8) × (j ≤ nk) × Grown key w j
+Inv-loop key nk w₀ j₀ w j = (4 ≤ nk) × (nk ≤ 8) × (j ≤ nk) × ExpandedTo key w j
 
 abbrev μ-loop : tie.MeasureT-loop
 μ-loop key nk w₀ j₀ w j = nk - j
@@ -87,7 +87,7 @@ returns c =
     let l = c .before in
     let k = l .before .before .args .key .now in
     let e : l .loop .j ≡ length k / 4 = omega arith in
-    subst (Grown k (l .loop .w)) e (l .loop .inv .3)
+    subst (ExpandedTo k (l .loop .w)) e (l .loop .inv .3)
 
 pub key-words-spec : {M : Type 1} → statement M
 key-words-spec =

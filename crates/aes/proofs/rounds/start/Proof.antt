@@ -1,6 +1,6 @@
 -- `aes::rounds::start` meets its contract.
 use mathlib.Core.Path.{refl}
-use Rattle.aes.specs.inner.Rounds.{startOf}
+use Rattle.aes.specs.inner.Rounds.{addFirstKey}
 use borrow.Author.Needs.{needs}
 use Rattle.aes.proofs.rounds.start.Statement.{statement}
 use Rattle.aes.proofs.rounds.start.Tie as tie
@@ -18,7 +18,7 @@ element-copy-out-t17 : tie.Need-element-copy-out-t17
 element-copy-out-t17 c = search needs
 
 returns : tie.Need-returns
-unfolding startOf
+unfolding addFirstKey
 returns c = refl
 
 pub start-spec : {M : Type 1} → statement M

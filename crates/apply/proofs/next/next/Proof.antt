@@ -19,8 +19,8 @@ old-is : (c : tie.After-old-sas) (f : Frame) →
     Told (now (a .s)) (a .x) f → c .old-sas .result ≡ tableOf limits (oldSas (a .state) (a .tick) f)
 old-is c f t = c .old-sas .ensures f (c .before .before .before .args .state) t refl
 
-entered-all-requires : tie.Need-entered-all-requires
-entered-all-requires c κs =
+enter-all-requires : tie.Need-enter-all-requires
+enter-all-requires c κs =
     let b = c .before .before .before in
     let a = b .args in
     let f = b .pre .0 in
@@ -37,10 +37,10 @@ returns c =
     let o = c .before .before in
     let a = o .before .before .before .args in
     λ f t. record {
-      table = entered-old (a .state) (a .tick) f _ _ _ (old-is o f t) (c .before .entered-all .ensures);
+      table = entered-old (a .state) (a .tick) f _ _ _ (old-is o f t) (c .before .enter-all .ensures);
       held-is = refl;
       least = least-told (a .x) (a .state) (now (a .s)) f t _ (c .least-by .ensures);
     }
 
 pub next-spec : {M : Type 1} → statement M
-next-spec = tie.close (tie.spec old-sas-requires entered-all-requires least-by-requires returns)
+next-spec = tie.close (tie.spec old-sas-requires enter-all-requires least-by-requires returns)

@@ -4,7 +4,7 @@ use Prim.Native.Nat.{_-_, _≤_}
 use mathlib.Core.Path.{_≡_, refl, sym, _∙_}
 use mathlib.Core.Bool.{true}
 use lib.ListN.{length}
-use Rattle.state_sa.specs.Entry.{esp}
+use Rattle.state_sa.specs.Entry.{espProtocol}
 use Rattle.wire_frames.specs.Delete.{deleteOf, deleteFits}
 use Rattle.apply.proofs.RetiringLaws.{other-named, NonePassed, zero-named, spi-named, spi-passed, none-named}
 use borrow.Author.Needs.{needs}
@@ -13,7 +13,8 @@ use Rattle.apply.proofs.retiring.is_named.Tie as tie
 
 abbrev Inv-loop : tie.InvT-loop
 Inv-loop a o n i₀ i =
-    (i ≤ n) × (n ≡ length (deleteOf o .spis)) × (deleteFits o ≡ true) × (e : a .protocol ≡ esp) × NonePassed a (deleteOf o .spis) e i
+    (i ≤ n) × (n ≡ length (deleteOf o .spis)) × (deleteFits o ≡ true) × (e : a .protocol ≡ espProtocol)
+    × NonePassed a (deleteOf o .spis) e i
 
 abbrev μ-loop : tie.MeasureT-loop
 μ-loop a o n i₀ i = n - i
@@ -40,8 +41,8 @@ returns c =
     zero-named (a .a) (deleteOf (now (a .o)) .spis) (v .3) (l .i) (now (x .result)) (x .ensures) (omega (arith, v .1, t)) (v .4)
     (sym (c .before .is-zero .ensures) ∙ c .if2 .taken)
 
-named-requires : tie.Need-named-requires Inv-loop μ-loop
-named-requires c κs = search needs
+is-named-requires : tie.Need-is-named-requires Inv-loop μ-loop
+is-named-requires c κs = search needs
 
 returns-2 : tie.Need-returns-2 Inv-loop μ-loop
 returns-2 c =
@@ -51,7 +52,7 @@ returns-2 c =
     let t = c .before .before .before .before .before .loop-test .taken in
     let x = c .before .before .before .before .spi-at in
     spi-named (a .a) (deleteOf (now (a .o)) .spis) (v .3) (l .i) (now (x .result)) (x .ensures) (omega (arith, v .1, t)) (v .4)
-    (sym (c .before .before .before .is-zero .ensures) ∙ c .before .before .if2 .left) (sym (c .if3 .taken) ∙ c .before .named .ensures)
+    (sym (c .before .before .before .is-zero .ensures) ∙ c .before .before .if2 .left) (sym (c .if3 .taken) ∙ c .before .is-named .ensures)
 
 add-i : tie.Need-add-i Inv-loop μ-loop
 add-i c = search needs
@@ -72,7 +73,7 @@ loop-again c =
       v .3,
       spi-passed (a .a) (deleteOf (now (a .o)) .spis) (v .3) (l .i) (now (x .result)) (x .ensures) (omega (arith, v .1, t)) (v .4)
           (sym (c .before .before .before .is-zero .ensures) ∙ c .before .before .if2 .left) (sym (c .if3 .left)
-          ∙ c .before .named .ensures),
+          ∙ c .before .is-named .ensures),
     )
 
 returns-3 : tie.Need-returns-3 Inv-loop μ-loop
@@ -96,7 +97,7 @@ is-named-spec =
     spi-at-requires
     is-zero-requires
     returns
-    named-requires
+    is-named-requires
     returns-2
     add-i
     loop-less

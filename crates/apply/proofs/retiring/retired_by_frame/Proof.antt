@@ -58,20 +58,20 @@ one c =
 add-e : tie.Need-add-e Inv-loop μ-loop
 add-e c = let g = one (c .before) in record { fits = omega (arith, g .inside) }
 
-add-retired-spis : tie.Need-add-retired-spis Inv-loop μ-loop
-add-retired-spis c = let g = one (c .before .before) in record { fits = omega (arith, g .some, g .inside) }
+add-retire-spis : tie.Need-add-retire-spis Inv-loop μ-loop
+add-retire-spis c = let g = one (c .before .before) in record { fits = omega (arith, g .some, g .inside) }
 
-sub-retired-spis : tie.Need-sub-retired-spis Inv-loop μ-loop
-sub-retired-spis c = let g = one (c .before .before) in omega (arith, g .some)
+sub-retire-spis : tie.Need-sub-retire-spis Inv-loop μ-loop
+sub-retire-spis c = let g = one (c .before .before) in omega (arith, g .some)
 
-part-retired-spis-start : tie.Need-part-retired-spis-start Inv-loop μ-loop
-part-retired-spis-start c = let g = one (c .before .before) in omega (arith, g .some)
+part-retire-spis-start : tie.Need-part-retire-spis-start Inv-loop μ-loop
+part-retire-spis-start c = let g = one (c .before .before) in omega (arith, g .some)
 
-part-retired-spis-end : tie.Need-part-retired-spis-end Inv-loop μ-loop
-part-retired-spis-end c = let g = one (c .before .before) in omega (arith, g .inside)
+part-retire-spis-end : tie.Need-part-retire-spis-end Inv-loop μ-loop
+part-retire-spis-end c = let g = one (c .before .before) in omega (arith, g .inside)
 
-retired-spis-requires : tie.Need-retired-spis-requires Inv-loop μ-loop
-retired-spis-requires c κs =
+retire-spis-requires : tie.Need-retire-spis-requires Inv-loop μ-loop
+retire-spis-requires c κs =
     let p = c .before .before .before in
     let l = p .before .before .before .loop in
     fits-here (l .kind) (now (p .before .before .before .before .before .args .s)) (l .at) (p .payload-parts .result)
@@ -90,7 +90,7 @@ loop-again c =
       l .inv .0,
       l .inv .1,
       going-here _ _ _ _ _ _ (l .left) (l .kind) (l .at) (l .inv .2) (some (p .before .before)) _ (one p) (c .before .before .if1 .taken) _
-          (c .retired-spis .ensures),
+          (c .retire-spis .ensures),
     )
 
 loop-less-2 : tie.Need-loop-less-2 Inv-loop μ-loop
@@ -127,11 +127,11 @@ retired-by-frame-spec =
     part-payload-parts-end
     payload-parts-requires
     add-e
-    add-retired-spis
-    sub-retired-spis
-    part-retired-spis-start
-    part-retired-spis-end
-    retired-spis-requires
+    add-retire-spis
+    sub-retire-spis
+    part-retire-spis-start
+    part-retire-spis-end
+    retire-spis-requires
     sub-left
     loop-less
     loop-again

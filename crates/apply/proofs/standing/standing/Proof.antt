@@ -46,8 +46,8 @@ element-copy-out-a c = search needs
 due-requires : tie.Need-due-requires Inv-loop μ-loop
 due-requires c κs = search needs
 
-left-requires : tie.Need-left-requires Inv-loop μ-loop
-left-requires c κs = search needs
+retire-old-requires : tie.Need-retire-old-requires Inv-loop μ-loop
+retire-old-requires c κs = search needs
 
 mul-out : tie.Need-mul-out Inv-loop μ-loop
 mul-out c = let f = c .before .before .before .before .before .loop .inv .3 .few in search needs
@@ -113,7 +113,7 @@ standing-spec =
     mul-a
     element-copy-out-a
     due-requires
-    left-requires
+    retire-old-requires
     mul-out
     array-set-from-out
     add-k

@@ -13,13 +13,13 @@ returns c = over-due _ _ _ (sym (c .before .due .ensures) ∙ c .if1 .taken)
 is-live-rekey-requires : tie.Need-is-live-rekey-requires
 is-live-rekey-requires c κs = search needs
 
-named-requires : tie.Need-named-requires
-named-requires c κs = search needs
+is-named-requires : tie.Need-is-named-requires
+is-named-requires c κs = search needs
 
 returns-2 : tie.Need-returns-2
 returns-2 c =
     over-named _ _ _ _ (sym (c .before .before .before .before .due .ensures) ∙ c .before .before .before .if1 .left)
-    (sym (c .before .before .is-live-rekey .ensures) ∙ c .before .if2 .taken) (c .named .ensures)
+    (sym (c .before .before .is-live-rekey .ensures) ∙ c .before .if2 .taken) (c .is-named .ensures)
 
 returns-3 : tie.Need-returns-3
 returns-3 c =
@@ -29,4 +29,4 @@ returns-3 c =
 pub is-over-spec : {M : Type 1} → statement M
 is-over-spec =
     tie.close
-    (tie.spec due-requires returns is-live-rekey-requires named-requires returns-2 returns-3)
+    (tie.spec due-requires returns is-live-rekey-requires is-named-requires returns-2 returns-3)

@@ -7,15 +7,15 @@ use Prim.Native.Nat.{ℕ, _-_, _≤_}
 use lib.ListN.{length}
 use Rattle.octets.specs.Walk.{part}
 use Rattle.wire_attributes.specs.Answers.{valueStart}
-use Rattle.wire_readers.specs.inner.Values.{MetAt, Meets}
-use Rattle.check_bagkeys.specs.inner.Facts.{isKey, withKey}
+use Rattle.wire_readers.specs.inner.Values.{MetAt, FindsValue}
+use Rattle.check_bagkeys.specs.inner.Facts.{carriesKey, withKey}
 use Rattle.check_bagkeys.proofs.KeyLaws.{KeyWalk, keys-start, keys-end, key-sized, keys-less, keys-room, keys-next}
 use borrow.Author.Needs.{needs}
 use Rattle.check_bagkeys.proofs.wrapped.keys_of.Statement.{statement}
 use Rattle.check_bagkeys.proofs.wrapped.keys_of.Tie as tie
 
 abbrev Inv-loop : tie.InvT-loop
-Inv-loop m place a f₀ at₀ f at = (isKey m ≡ true) × KeyWalk m place a f at
+Inv-loop m place a f₀ at₀ f at = (carriesKey m ≡ true) × KeyWalk m place a f at
 
 abbrev μ-loop : tie.MeasureT-loop
 μ-loop m place a f₀ at₀ f at = length a - at
@@ -35,7 +35,7 @@ met : (c : tie.After-known-told Inv-loop μ-loop)
     MetAt (a .m) (a .place) (now (a .a)) (c .before .before .before .before .loop .at) (v .0) (v .1 .0)
 met c =
     let a = c .before .before .before .before .before .before .args in
-    subst (Meets (a .m) (a .place) (now (a .a)) (c .before .before .before .before .loop .at)) (c .before .start .given .1)
+    subst (FindsValue (a .m) (a .place) (now (a .a)) (c .before .before .before .before .loop .at)) (c .before .start .given .1)
     (c .before .before .before .next-attribute .ensures)
 
 attribute-value-requires : tie.Need-attribute-value-requires Inv-loop μ-loop
@@ -75,7 +75,8 @@ returns : tie.Need-returns Inv-loop μ-loop
 returns c =
     let a = c .before .before .before .before .before .args in
     let l = c .before .before .before .loop in
-    let f = subst (Meets (a .m) (a .place) (now (a .a)) (l .at)) (c .enum-told .given .1) (c .before .before .next-attribute .ensures) in
+    let f = subst (FindsValue (a .m) (a .place) (now (a .a)) (l .at)) (c .enum-told .given .1)
+    (c .before .before .next-attribute .ensures) in
     keys-end _ _ _ (l .f) (l .at) (l .inv .1) (f .0)
 
 pub keys-of-spec : {M : Type 1} → statement M

@@ -7,7 +7,7 @@ use Prim.Native.Nat.{ℕ, _-_}
 use lib.ListN.{length}
 use Rattle.octets.specs.Walk.{part}
 use Rattle.wire_attributes.specs.Answers.{valueStart}
-use Rattle.wire_readers.specs.inner.Values.{valueSize, MetAt, Meets}
+use Rattle.wire_readers.specs.inner.Values.{valueSize, MetAt, FindsValue}
 use Rattle.check_composition.specs.inner.Numbers.{isNumber, withNumber}
 use Rattle.check_composition.proofs.NumberLaws.{NumberWalk, numbers-start, numbers-end}
 use Rattle.check_composition.proofs.NumberLaws.{number-sized, numbers-less, numbers-room, numbers-next}
@@ -36,7 +36,7 @@ met : (c : tie.After-known-told Inv-loop μ-loop)
     MetAt (a .m) (a .place) (now (a .a)) (c .before .before .before .before .loop .at) (v .0) (v .1 .0)
 met c =
     let a = c .before .before .before .before .before .before .args in
-    subst (Meets (a .m) (a .place) (now (a .a)) (c .before .before .before .before .loop .at)) (c .before .start .given .1)
+    subst (FindsValue (a .m) (a .place) (now (a .a)) (c .before .before .before .before .loop .at)) (c .before .start .given .1)
     (c .before .before .before .next-attribute .ensures)
 
 attribute-value-requires : tie.Need-attribute-value-requires Inv-loop μ-loop
@@ -84,7 +84,8 @@ returns : tie.Need-returns Inv-loop μ-loop
 returns c =
     let a = c .before .before .before .before .before .args in
     let l = c .before .before .before .loop in
-    let f = subst (Meets (a .m) (a .place) (now (a .a)) (l .at)) (c .enum-told .given .1) (c .before .before .next-attribute .ensures) in
+    let f = subst (FindsValue (a .m) (a .place) (now (a .a)) (l .at)) (c .enum-told .given .1)
+    (c .before .before .next-attribute .ensures) in
     numbers-end _ _ _ (l .n) (l .at) (l .inv .1) (f .0)
 
 pub numbers-of-spec : {M : Type 1} → statement M

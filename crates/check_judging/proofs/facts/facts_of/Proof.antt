@@ -7,8 +7,8 @@ use Rattle.wire_readers.specs.inner.Bags.{bagsIn}
 use Rattle.check_payloads.specs.declared.PayloadFacts.{PayloadFacts}
 use Rattle.check_payloads.proofs.FrameLaws.{reads-to}
 use Rattle.check_payloads.proofs.FoundLaws.{OfFrame, facts-of}
-use Rattle.check_composition.specs.inner.Facts.{factsOf as policyFacts}
-use Rattle.check_bagkeys.specs.inner.Facts.{factsOf as bagFacts}
+use Rattle.check_composition.specs.inner.Facts.{policyFactsOf as policyFacts}
+use Rattle.check_bagkeys.specs.inner.Facts.{bagFactsOf as bagFacts}
 use Rattle.check_bagkeys.specs.inner.Places.{memberIn}
 use Rattle.check_bagkeys.specs.declared.KdFacts.{KdFacts}
 use Rattle.check_judging.specs.inner.Facts.{at}

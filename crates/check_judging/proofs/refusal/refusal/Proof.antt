@@ -4,7 +4,7 @@ use mathlib.Core.Path.{refl, sym, _∙_}
 use lib.ListN.{take}
 use Rattle.state_keys.specs.Limits.{limits}
 use Rattle.check_payloads.proofs.FrameLaws.{long}
-use Rattle.check_judging.specs.inner.Facts.{factsOf}
+use Rattle.check_judging.specs.inner.Facts.{frameFactsOf}
 use Rattle.check_judging.specs.inner.Verdicts.{verdictBy}
 use Rattle.check_judging.proofs.VerdictLaws.{as-refused}
 use Rattle.check_judging.proofs.HeadLaws.{row-is, at-2, at-3, further, few-sas, no-header}
@@ -12,8 +12,8 @@ use borrow.Author.Needs.{needs}
 use Rattle.check_judging.proofs.refusal.refusal.Statement.{statement}
 use Rattle.check_judging.proofs.refusal.refusal.Tie as tie
 
-header-read-requires : tie.Need-header-read-requires
-header-read-requires c κs = search needs
+read-header-requires : tie.Need-read-header-requires
+read-header-requires c κs = search needs
 
 enum-known-exchange : tie.Need-enum-known-exchange
 enum-known-exchange c = search needs
@@ -40,7 +40,7 @@ returns c =
     let s = now (a .s) in
     let m = c .before .before .before .before .exchange .given in
     let v = m .0 in
-    let e = sym (m .1) ∙ c .before .before .before .before .before .before .header-read .ensures in
+    let e = sym (m .1) ∙ c .before .before .before .before .before .before .read-header .ensures in
     λ f q.
     let n = at-2 limits (a .state) (a .tick) (now (a .lent)) s f q (v .0) (v .1 .0) (v .1 .1 .0) e
     (sym (c .if1 .taken) ∙ c .before .number-2 .ensures) in
@@ -56,7 +56,7 @@ returns-2 c =
     let s = now (a .s) in
     let m = c .before .before .before .before .before .before .exchange .given in
     let v = m .0 in
-    let e = sym (m .1) ∙ c .before .before .before .before .before .before .before .before .header-read .ensures in
+    let e = sym (m .1) ∙ c .before .before .before .before .before .before .before .before .read-header .ensures in
     let n2 = sym (c .before .before .if1 .left) ∙ c .before .before .before .number-2 .ensures in
     λ f q.
     let n = at-3 limits (a .state) (a .tick) (now (a .lent)) s f q (v .0) (v .1 .0) (v .1 .1 .0) e n2
@@ -73,7 +73,7 @@ on-frame-requires c κs =
     let s = now (a .s) in
     let m = c .before .before .before .before .before .before .before .exchange .given in
     let v = m .0 in
-    let e = sym (m .1) ∙ c .before .before .before .before .before .before .before .before .before .header-read .ensures in
+    let e = sym (m .1) ∙ c .before .before .before .before .before .before .before .before .before .read-header .ensures in
     let n2 = sym (c .before .before .before .if1 .left) ∙ c .before .before .before .before .number-2 .ensures in (
       few-sas limits (a .state) (a .tick) (v .1 .0) (take 16 s) n2,
       (
@@ -94,7 +94,7 @@ returns-3 c =
     let s = now (a .s) in
     let m = c .before .before .before .before .before .before .before .before .exchange .given in
     let v = m .0 in
-    let e = sym (m .1) ∙ c .before .before .before .before .before .before .before .before .before .before .header-read .ensures in
+    let e = sym (m .1) ∙ c .before .before .before .before .before .before .before .before .before .before .read-header .ensures in
     let n2 = sym (c .before .before .before .before .if1 .left) ∙ c .before .before .before .before .before .number-2 .ensures in
     let n3 = sym (c .before .before .if2 .left) ∙ c .before .before .before .number-3 .ensures in
     λ f q.
@@ -102,20 +102,20 @@ returns-3 c =
     row-is limits (a .state) (a .tick) (now (a .lent)) s f q (v .0) (v .1 .0) (v .1 .1 .0) e (c .before .exchange-of .result)
     (c .before .exchange-of .ensures) in
     let n = further limits (a .state) (a .tick) (now (a .lent)) s f q (v .0) (v .1 .0) (v .1 .1 .0) e _ n2 n3 refl in
-    c .on-frame .ensures f q ∙ (λ i. verdictBy (n i) (factsOf (sym r i .authentication) s))
+    c .on-frame .ensures f q ∙ (λ i. verdictBy (n i) (frameFactsOf (sym r i .authentication) s))
 
 returns-4 : tie.Need-returns-4
 returns-4 c =
     let b = c .before .before .before .before .before in
     let s = now (b .args .s) in
-    let e = sym (c .enum-told .given .1) ∙ c .before .before .header-read .ensures in
+    let e = sym (c .enum-told .given .1) ∙ c .before .before .read-header .ensures in
     λ f q. absurd (no-header s f q e)
 
 pub refusal-spec : {M : Type 1} → statement M
 refusal-spec =
     tie.close
     (tie.spec
-    header-read-requires
+    read-header-requires
     enum-known-exchange
     sub-number-2
     part-number-2-start

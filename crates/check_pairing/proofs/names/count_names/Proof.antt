@@ -4,7 +4,8 @@ use Prim.Native.Nat.{_-_}
 use lib.ListN.{length}
 use Rattle.check_pairing.specs.inner.Names.{isNamed}
 use Rattle.check_pairing.proofs.Walking.{HeadAt, head-at, along-fits}
-use Rattle.check_pairing.proofs.Counts.{Counting, counting-start, counting-end, counting-room, counting-less, counting-yes, counting-no}
+use Rattle.check_pairing.proofs.Counts.{Counting, counting-start, counting-end, counting-room}
+use Rattle.check_pairing.proofs.Counts.{counting-less, counting-yes, counting-no}
 use borrow.Author.Needs.{needs}
 use Rattle.check_pairing.proofs.names.count_names.Statement.{statement}
 use Rattle.check_pairing.proofs.names.count_names.Tie as tie

@@ -9,10 +9,10 @@ use Rattle.check_pairing.proofs.stretch.bag_stretch.Statement.{statemen
 use Rattle.check_pairing.proofs.stretch.bag_stretch.Tie as tie
 
 abbrev Inv-loop : tie.InvT-loop
-Inv-loop k protocol spi at₀ at = Going protocol spi k at
+Inv-loop kd protocol spi at₀ at = Going protocol spi kd at
 
 abbrev μ-loop : tie.MeasureT-loop
-μ-loop k protocol spi at₀ at = length k - at
+μ-loop kd protocol spi at₀ at = length kd - at
 
 loop-holds : tie.Need-loop-holds Inv-loop μ-loop
 loop-holds c = going-start _ _ _ (c .before .before .pre)
@@ -29,10 +29,10 @@ part-bag-parts-end c = search needs
 bag-parts-requires : tie.Need-bag-parts-requires Inv-loop μ-loop
 bag-parts-requires c κs =
     let l = c .before .before .loop in
-    bag-there (now (c .before .before .before .before .before .args .k)) (l .at) (c .before .loop-test .taken) (l .inv .rest)
+    bag-there (now (c .before .before .before .before .before .args .kd)) (l .at) (c .before .loop-test .taken) (l .inv .rest)
 
 stands : (c : tie.After-bag-parts Inv-loop μ-loop)
-    → BagAt (now (c .before .before .before .before .before .before .args .k)) (c .before .before .before .loop .at) (c .bag-parts .result)
+    → BagAt (now (c .before .before .before .before .before .before .args .kd)) (c .before .before .before .loop .at) (c .bag-parts .result)
 stands c = bag-at _ _ _ (c .before .before .loop-test .taken) (c .bag-parts .ensures)
 
 add-name : tie.Need-add-name Inv-loop μ-loop

@@ -9,7 +9,7 @@ use Rattle.octets.specs.Walk.{be16, part}
 use Rattle.wire_attributes.specs.Answers.{valueStart}
 use Rattle.wire_attributes.specs.Layout.{attributes}
 use Rattle.wire_attributes.specs.declared.tables.Meaning.the-variants.{KeyLength}
-use Rattle.wire_readers.specs.inner.Values.{isWhole, valuesIn, MetAt, Meets}
+use Rattle.wire_readers.specs.inner.Values.{isWhole, valuesIn, MetAt, FindsValue}
 use Rattle.check_suites.specs.inner.Octets.{keyLengthNeeds}
 use Rattle.check_suites.proofs.RowLaws.{two-octets, one-more, no-more}
 use borrow.Author.Needs.{needs}
@@ -39,7 +39,7 @@ met : (c : tie.After-known-told Inv-loop μ-loop)
     MetAt KeyLength (a .place) (now (a .a)) (c .before .before .before .before .loop .at) (v .0) (v .1 .0)
 met c =
     let a = c .before .before .before .before .before .before .args in
-    subst (Meets KeyLength (a .place) (now (a .a)) (c .before .before .before .before .loop .at)) (c .before .start .given .1)
+    subst (FindsValue KeyLength (a .place) (now (a .a)) (c .before .before .before .before .loop .at)) (c .before .start .given .1)
     (c .before .before .before .next-attribute .ensures)
 
 attribute-value-requires : tie.Need-attribute-value-requires Inv-loop μ-loop
@@ -90,7 +90,8 @@ returns c =
     let a = c .before .before .before .before .before .args in
     let l = c .before .before .before .loop in
     let f : valuesIn KeyLength (a .place) (drop (l .at) (now (a .a))) ≡ [] =
-    (subst (Meets KeyLength (a .place) (now (a .a)) (l .at)) (c .enum-told .given .1) (c .before .before .next-attribute .ensures)) .0 in
+    (subst (FindsValue KeyLength (a .place) (now (a .a)) (l .at)) (c .enum-told .given .1) (c .before .before .next-attribute .ensures))
+    .0 in
     (omega (arith, l .inv .3, no-more (a .id) (a .place) (drop (l .at) (now (a .a))) f), omega (arith, l .inv .0, l .inv .2))
 
 pub key-length-octets-spec : {M : Type 1} → statement M

@@ -4,8 +4,8 @@ use borrow.Author.Needs.{needs}
 use Rattle.gikev2.proofs.Member.passed.Statement.{statement}
 use Rattle.gikev2.proofs.Member.passed.Tie as tie
 
-decided-requires : tie.Need-decided-requires
-decided-requires c κs = search needs
+decide-requires : tie.Need-decide-requires
+decide-requires c κs = search needs
 
 answered-requires : tie.Need-answered-requires
 answered-requires c κs =
@@ -13,13 +13,13 @@ answered-requires c κs =
     let a = b .args in
     let p = b .pre in
     judged-numbered (a .self .state) (a .tick) (now (a .lent)) (p .0) (now (a .s)) (p .1 .whole-is) _ _
-    (c .decided .ensures (p .0) (p .1))
+    (c .decide .ensures (p .0) (p .1))
 
 returns : tie.Need-returns
 returns c =
     let a = c .before .before .before .before .before .args in
     let e = c .answered .ensures in
-    λ f p. judged-as (a .self .state) (a .tick) (now (a .lent)) f _ _ _ _ (e .0) (e .1) (c .before .decided .ensures f p)
+    λ f p. judged-as (a .self .state) (a .tick) (now (a .lent)) f _ _ _ _ (e .0) (e .1) (c .before .decide .ensures f p)
 
 pub passed-spec : {M : Type 1} → statement M
-passed-spec = tie.close (tie.spec decided-requires answered-requires returns)
+passed-spec = tie.close (tie.spec decide-requires answered-requires returns)

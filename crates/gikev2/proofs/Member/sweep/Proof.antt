@@ -5,12 +5,12 @@ use borrow.Author.Needs.{needs}
 use Rattle.gikev2.proofs.Member.sweep.Statement.{statement}
 use Rattle.gikev2.proofs.Member.sweep.Tie as tie
 
-swept-requires : tie.Need-swept-requires
-swept-requires c κs = search needs
+sweep-requires : tie.Need-sweep-requires
+sweep-requires c κs = search needs
 
 returns : tie.Need-returns
 unfolding sweptMember
-returns c = ap (λ (s : State). record { state = s }) (c .swept .ensures)
+returns c = ap (λ (s : State). record { state = s }) (c .sweep .ensures)
 
 pub sweep-spec : {M : Type 1} → statement M
-sweep-spec = tie.close (tie.spec swept-requires returns)
+sweep-spec = tie.close (tie.spec sweep-requires returns)

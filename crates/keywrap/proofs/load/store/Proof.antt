@@ -4,7 +4,7 @@ use mathlib.Core.Path.{_≡_, refl, ap, _∙_}
 use Prim.Native.Nat.{ℕ, _-_, _≤_}
 use native.Mathlib.Omega.{arith}
 use lib.ListN.{length, take}
-use Rattle.rfc5649.specs.Wrap.{octetsIn}
+use Rattle.rfc5649.specs.Wrap.{registerOctets}
 use Rattle.keywrap.specs.Answers.{written}
 use mathlib.Core.List.{List}
 use lib.Seq.{take-all}
@@ -14,13 +14,13 @@ use Rattle.keywrap.proofs.load.store.Tie as tie
 
 abbrev Inv-loop : tie.InvT-loop
 Inv-loop s room₀ i₀ room i =
-    (i ≤ length s) × (length room ≡ length room₀) × (room ≡ written (octetsIn (take i s)) room₀)
+    (i ≤ length s) × (length room ≡ length room₀) × (room ≡ written (registerOctets (take i s)) room₀)
 
 abbrev μ-loop : tie.MeasureT-loop
 μ-loop s room₀ i₀ room i = length s - i
 
 loop-holds : tie.Need-loop-holds Inv-loop μ-loop
-unfolding octetsIn
+unfolding registerOctets
 loop-holds c = (omega arith, refl, refl)
 
 mul-octets-of : tie.Need-mul-octets-of Inv-loop μ-loop
@@ -72,7 +72,7 @@ returns : tie.Need-returns Inv-loop μ-loop
 returns c =
     let l = c .before in
     let a = l .before .before .before .args in
-    l .loop .inv .2 ∙ ap (λ (x : List ℕ). written (octetsIn x) (a .room .now)) (take-all (l .loop .i) (a .s .now) (omega arith))
+    l .loop .inv .2 ∙ ap (λ (x : List ℕ). written (registerOctets x) (a .room .now)) (take-all (l .loop .i) (a .s .now) (omega arith))
 
 pub store-spec : {M : Type 1} → statement M
 store-spec =

@@ -21,8 +21,8 @@ put-bad-requires c κs = search needs
 enum-known-tick : tie.Need-enum-known-tick
 enum-known-tick c = search needs
 
-slice-reshare-prefix-received : tie.Need-slice-reshare-prefix-received
-slice-reshare-prefix-received c =
+slice-reshare-prefix-receive-frame : tie.Need-slice-reshare-prefix-receive-frame
+slice-reshare-prefix-receive-frame c =
     let k = c .before .tick .given in
     let l = c .before .before .before .before .before in
     let s = l .before .before .before .before .before in
@@ -30,8 +30,8 @@ slice-reshare-prefix-received c =
     let asks = subst (λ (x : Request). Asks line (s .args .room .now) (l .later-line .last .1 .0) x) (k .1) (l .later-line .ensures) in
     asked-inside line asks (s .pre .1)
 
-slice-aggregate-received : tie.Need-slice-aggregate-received
-slice-aggregate-received c =
+slice-aggregate-receive-frame : tie.Need-slice-aggregate-receive-frame
+slice-aggregate-receive-frame c =
     let k = c .before .before .tick .given in
     let l = c .before .before .before .before .before .before in
     let s = l .before .before .before .before .before in
@@ -40,8 +40,8 @@ slice-aggregate-received c =
     let asks = subst (λ (x : Request). Asks line (s .args .room .now) room x) (k .1) (l .later-line .ensures) in
     sym (length-take-le (k .0 .1 .0) room (asked-inside line asks (s .pre .1)))
 
-received-requires : tie.Need-received-requires
-received-requires c κs = search needs
+receive-frame-requires : tie.Need-receive-frame-requires
+receive-frame-requires c κs = search needs
 
 same-length : tie.Need-same-length
 same-length c = search needs
@@ -71,7 +71,7 @@ returns-2 c =
     let s = l .before .before .before .before .before in
     let line = s .args .line .now in
     let asks = subst (λ (x : Request). Asks line (s .args .room .now) (l .later-line .last .1 .0) x) (k .1) (l .later-line .ensures) in
-    let x = c .before .before .received in
+    let x = c .before .before .receive-frame in
     later-frame (s .args .r) line (x .result) asks (s .pre .1) (x .ensures)
 
 pub later-line-spec : {M : Type 1} → statement M
@@ -82,9 +82,9 @@ later-line-spec =
     enum-told
     put-bad-requires
     enum-known-tick
-    slice-reshare-prefix-received
-    slice-aggregate-received
-    received-requires
+    slice-reshare-prefix-receive-frame
+    slice-aggregate-receive-frame
+    receive-frame-requires
     same-length
     same-length-2
     returns

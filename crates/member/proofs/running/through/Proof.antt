@@ -25,23 +25,23 @@ loop-holds c =
 sub-if1 : tie.Need-sub-if1 Inv-loop μ-loop
 sub-if1 c = c .before .before .loop .inv .passes .ready .place
 
-advanced-requires : tie.Need-advanced-requires Inv-loop μ-loop
-advanced-requires c κs =
+advance-requires : tie.Need-advance-requires Inv-loop μ-loop
+advance-requires c κs =
     let i = c .before .before .before in
     let l = i .before .before in
     (l .before .loop .inv .passes .ready, (leb-true replyRoom _ (i .if1 .taken), l .loop-test .taken))
 
 loop-less : tie.Need-loop-less Inv-loop μ-loop
-loop-less c = omega (arith, c .before .before .before .before .before .before .before .advanced .ensures .1)
+loop-less c = omega (arith, c .before .before .before .before .before .before .before .advance .ensures .1)
 
 loop-again : tie.Need-loop-again Inv-loop μ-loop
 loop-again c =
     let x = c .before .before .before .before .before .before .before in
     let l = x .before .before .before .before .before .before .before .loop in
-    let k : length (x .advanced .last .1 .1 .1 .0) ≡ length (l .line) = search needs in
-    let m : length (x .advanced .last .1 .1 .1 .1 .0) ≡ length (l .room) = search needs in
-    let n : length (x .advanced .last .1 .1 .1 .1 .1 .0) ≡ length (l .out) = search needs in
-    passing-more (l .inv) (x .advanced .ensures .0) (x .advanced .ensures .1) k m n
+    let k : length (x .advance .last .1 .1 .1 .0) ≡ length (l .line) = search needs in
+    let m : length (x .advance .last .1 .1 .1 .1 .0) ≡ length (l .room) = search needs in
+    let n : length (x .advance .last .1 .1 .1 .1 .1 .0) ≡ length (l .out) = search needs in
+    passing-more (l .inv) (x .advance .ensures .0) (x .advance .ensures .1) k m n
 
 same-length : tie.Need-same-length Inv-loop μ-loop
 same-length c = c .before .before .before .loop .inv .line-same
@@ -79,7 +79,7 @@ through-spec =
     μ-loop
     loop-holds
     sub-if1
-    advanced-requires
+    advance-requires
     loop-less
     loop-again
     same-length

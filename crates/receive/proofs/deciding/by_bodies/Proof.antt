@@ -2,7 +2,7 @@ use denote.Ref.{now}
 use mathlib.Core.Path.{ap}
 use Rattle.wire_frames.specs.Frame.{Frame}
 use Rattle.wire_readers.specs.inner.Values.{isWhole}
-use Rattle.receive.specs.inner.Passing.{Bodied, Opened}
+use Rattle.receive.specs.inner.Passing.{Bodied, FrameOpened}
 use Rattle.receive.specs.inner.Rooted.{Rooted}
 use Rattle.receive.proofs.BodyLaws.{ready, bagged}
 use Rattle.receive.proofs.DecidingLaws.{rooted-eight, rooted-opened}
@@ -23,7 +23,7 @@ roots-requires c κs =
 -- the keys that a KWK ID can name, for every frame that the octets are
 rooted : (c : tie.After-roots) (f : Frame) →
     let a = c .before .before .before .before .before .before .args in
-    Bodied (a .state) (a .tick) (now (a .lent)) (now (a .s)) (a .x) (now (a .g)) (now (a .k)) f →
+    Bodied (a .state) (a .tick) (now (a .lent)) (now (a .frame)) (a .x) (now (a .gsa)) (now (a .kd)) f →
     Rooted (a .state) (a .tick) (now (a .lent)) (c .roots .result) f
 rooted c f b =
     let row = c .before .row-of in
@@ -32,8 +32,8 @@ rooted c f b =
 returns : tie.Need-returns
 returns c = λ f b. rooted-eight (b .passed) (c .before .roots .result) (rooted (c .before) f b) (c .if1 .taken)
 
-keyed-requires : tie.Need-keyed-requires
-keyed-requires c κs =
+open-sas-requires : tie.Need-open-sas-requires
+open-sas-requires c κs =
     let p = c .before .before .before .before .before .before .before .pre in
     let b = p .1 .1 in
     let d = rooted (c .before) (p .1 .0) b in
@@ -44,18 +44,18 @@ held-after-requires c κs = search needs
 
 opened-by : (c : tie.After-held-after) (f : Frame) →
     let a = c .before .before .before .before .before .before .before .before .before .args in
-    Bodied (a .state) (a .tick) (now (a .lent)) (now (a .s)) (a .x) (now (a .g)) (now (a .k)) f →
-    Opened (a .state) (a .tick) (now (a .lent)) (now (a .s)) (a .x) (c .before .keyed .result) (c .held-after .result) f
+    Bodied (a .state) (a .tick) (now (a .lent)) (now (a .frame)) (a .x) (now (a .gsa)) (now (a .kd)) f →
+    FrameOpened (a .state) (a .tick) (now (a .lent)) (now (a .frame)) (a .x) (c .before .open-sas .result) (c .held-after .result) f
 opened-by c f b =
-    let k = c .before .keyed in
+    let k = c .before .open-sas in
     let e = c .before .before in
     let row = e .before .before .row-of in
     rooted-opened (b .passed) (e .before .roots .result) (rooted (e .before) f b) (e .if1 .left) (k .result)
     (λ x y n g. k .ensures x y n f (ready b) g) (row .result) (row .ensures f (b .passed .whole-is)) (c .held-after .result)
     (c .held-after .ensures)
 
-concluded-requires : tie.Need-concluded-requires
-concluded-requires c κs =
+conclude-requires : tie.Need-conclude-requires
+conclude-requires c κs =
     let b = c .before .before .before .before .before .before .before .before .before in
     let f = b .pre .1 .0 in
     (f, now (b .args .lent), opened-by c f (b .pre .1 .1))
@@ -63,9 +63,9 @@ concluded-requires c κs =
 returns-2 : tie.Need-returns-2
 returns-2 c =
     let a = c .before .before .before .before .before .before .before .before .before .before .args in
-    λ f b. c .concluded .ensures f (now (a .lent)) (opened-by (c .before) f b)
+    λ f b. c .conclude .ensures f (now (a .lent)) (opened-by (c .before) f b)
 
 pub by-bodies-spec : {M : Type 1} → statement M
 by-bodies-spec =
     tie.close
-    (tie.spec row-of-requires roots-requires returns keyed-requires held-after-requires concluded-requires returns-2)
+    (tie.spec row-of-requires roots-requires returns open-sas-requires held-after-requires conclude-requires returns-2)

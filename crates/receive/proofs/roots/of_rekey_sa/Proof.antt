@@ -3,20 +3,20 @@ use borrow.Author.Needs.{needs}
 use Rattle.receive.proofs.roots.of_rekey_sa.Statement.{statement}
 use Rattle.receive.proofs.roots.of_rekey_sa.Tie as tie
 
-swept-requires : tie.Need-swept-requires
-swept-requires c κs = search needs
+sweep-requires : tie.Need-sweep-requires
+sweep-requires c κs = search needs
 
 default-key-requires : tie.Need-default-key-requires
 default-key-requires c κs =
     let b = c .before .before .pre .3 in
-    let w = c .swept in
+    let w = c .sweep in
     (stands-formed b (w .result) (w .ensures), stands-live b (w .result) (w .ensures))
 
 returns : tie.Need-returns
 returns c =
-    let w = c .before .before .swept in
+    let w = c .before .before .sweep in
     let z = c .before .default-key in
     λ lent k f b. rekey-rooted b (w .result) (w .ensures) (z .result) (z .ensures)
 
 pub of-rekey-sa-spec : {M : Type 1} → statement M
-of-rekey-sa-spec = tie.close (tie.spec swept-requires default-key-requires returns)
+of-rekey-sa-spec = tie.close (tie.spec sweep-requires default-key-requires returns)

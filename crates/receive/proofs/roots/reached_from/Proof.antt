@@ -18,8 +18,8 @@ zero-is : (c : tie.After-zero) →
     c .before .new .result .key ≡ wrappingKey (now (c .before .before .before .before .args .lent)) .key
 zero-is c = ap (λ (x : MadeWrapping). x .key) (c .before .new .ensures)
 
-reached-requires : tie.Need-reached-requires
-reached-requires c κs =
+reach-keys-requires : tie.Need-reach-keys-requires
+reach-keys-requires c κs =
     let p = c .before .before .before .before .pre in
     let b = p .1 .3 in
     let zero = c .before .new .result .key in
@@ -31,8 +31,8 @@ reached-requires c κs =
 returns : tie.Need-returns
 returns c =
     let z = c .before .before in
-    let r = c .before .reached in
+    let r = c .before .reach-keys in
     λ m tick f b. registration-rooted b (z .before .new .result .key) (zero-is z) (r .result) (r .ensures)
 
 pub reached-from-spec : {M : Type 1} → statement M
-reached-from-spec = tie.close (tie.spec new-requires reached-requires returns)
+reached-from-spec = tie.close (tie.spec new-requires reach-keys-requires returns)

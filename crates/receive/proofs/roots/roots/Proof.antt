@@ -23,7 +23,7 @@ lent-alone-requires c κs =
     let b = c .before .before .before .before .before in
     let p = b .pre in
     let a = b .args in
-    (a .state, a .tick, now (a .k), p .1 .0, as-inband (p .1 .1) (c .before .before .if1 .left) (c .enum-told .given .1))
+    (a .state, a .tick, now (a .kd), p .1 .0, as-inband (p .1 .1) (c .before .before .if1 .left) (c .enum-told .given .1))
 
 enum-told-2 : tie.Need-enum-told-2
 enum-told-2 c = search needs
@@ -32,20 +32,20 @@ of-rekey-sa-requires : tie.Need-of-rekey-sa-requires
 of-rekey-sa-requires c κs =
     let b = c .before .before .before .before .before in
     let p = b .pre in
-    (now (b .args .lent), now (b .args .k), p .1 .0, as-rekey (p .1 .1) (c .enum-told2 .given .1))
+    (now (b .args .lent), now (b .args .kd), p .1 .0, as-rekey (p .1 .1) (c .enum-told2 .given .1))
 
 returns-2 : tie.Need-returns-2
 returns-2 c =
     let e = c .before in
     let a = e .before .before .before .before .before .args in
     λ f b.
-    c .lent-alone .ensures (a .state) (a .tick) (now (a .k)) f (as-inband b (e .before .before .if1 .left) (e .enum-told .given .1))
+    c .lent-alone .ensures (a .state) (a .tick) (now (a .kd)) f (as-inband b (e .before .before .if1 .left) (e .enum-told .given .1))
 
 returns-3 : tie.Need-returns-3
 returns-3 c =
     let e = c .before in
     let a = e .before .before .before .before .before .args in
-    λ f b. c .of-rekey-sa .ensures (now (a .lent)) (now (a .k)) f (as-rekey b (e .enum-told2 .given .1))
+    λ f b. c .of-rekey-sa .ensures (now (a .lent)) (now (a .kd)) f (as-rekey b (e .enum-told2 .given .1))
 
 pub roots-spec : {M : Type 1} → statement M
 roots-spec =

@@ -2,7 +2,7 @@ use native.Mathlib.Omega.{arith}
 use Prim.Native.Nat.{_≤_, _-_}
 use mathlib.Core.Path.{_≡_, sym, refl, _∙_}
 use lib.ListN.{drop}
-use Rattle.state_keys.specs.Algorithms.{rows as algorithms, neededIn, neededBy}
+use Rattle.state_keys.specs.Algorithms.{algorithms, neededIn, neededBy}
 use Rattle.state_keys.proofs.Sizes.{needed-here, needed-next, needed-end, blankRow}
 use borrow.Author.Needs.{needs}
 use Rattle.state_keys.proofs.algorithms.octets_needed.Statement.{statement}

@@ -39,8 +39,8 @@ mul-s c = search needs
 element-copy-out-s : tie.Need-element-copy-out-s Inv-loop μ-loop
 element-copy-out-s c = search needs
 
-named-requires : tie.Need-named-requires Inv-loop μ-loop
-named-requires c κs = search needs
+is-named-requires : tie.Need-is-named-requires Inv-loop μ-loop
+is-named-requires c κs = search needs
 
 returns-2 : tie.Need-returns-2 Inv-loop μ-loop
 unfolding foundSa
@@ -51,7 +51,7 @@ returns-2 c =
     (c .before .before .before .before .before .before .before .args .spi .now)) m (l .inv .0) ∙ l .inv .3 ∙ one-here (named
     (c .before .before .before .before .before .before .before .args .protocol)
     (c .before .before .before .before .before .before .before .args .spi .now)) (m .sas) (m .count) (omega arith) (l .i) _
-    (omega arith) (sym (c .if2 .taken) ∙ c .before .named .ensures))
+    (omega arith) (sym (c .if2 .taken) ∙ c .before .is-named .ensures))
 
 add-i : tie.Need-add-i Inv-loop μ-loop
 add-i c = search needs
@@ -69,7 +69,7 @@ loop-again c =
       l .inv .3 ∙ one-next
           (named (c .before .before .before .before .before .before .before .args .protocol)
           (c .before .before .before .before .before .before .before .args .spi .now)) (m .sas) (m .count) (omega arith) (l .i) _
-          (omega arith) (sym (c .if2 .left) ∙ c .before .named .ensures),
+          (omega arith) (sym (c .if2 .left) ∙ c .before .is-named .ensures),
     )
 
 nothing-requires-2 : tie.Need-nothing-requires-2 Inv-loop μ-loop
@@ -96,7 +96,7 @@ find-spec =
     loop-holds
     mul-s
     element-copy-out-s
-    named-requires
+    is-named-requires
     returns-2
     add-i
     loop-less

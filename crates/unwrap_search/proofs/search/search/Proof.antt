@@ -1,5 +1,5 @@
--- `unwrap_search::search::search` meets its contract. The invariant speaks of any key 0 from which the cells at the loop's start follow, since the
--- lent key is handed on before the loop. The measure is the count of cells that are not done.
+-- `unwrap_search::search::search` meets its contract. The invariant speaks of any key 0 from which the cells at the loop's start follow,
+-- since the lent key is handed on before the loop. The measure is the count of cells that are not done.
 use native.Mathlib.Omega.{arith}
 use Prim.Native.Nat.{ℕ, _≤_, _<_}
 use mathlib.Core.Path.{_≡_, sym, subst}
@@ -13,7 +13,7 @@ use Rattle.unwrap_search.specs.inner.Entries.{Lists}
 use Rattle.state_keys.specs.Limits.{limits}
 use Rattle.state_keys.specs.Kinds.{valueOf}
 use Rattle.unwrap_search.specs.inner.Opened.{noCell}
-use Rattle.unwrap_search.specs.inner.Search.{cellAt, AllTried, FoundAt, NonePending, Finds}
+use Rattle.unwrap_search.specs.inner.Search.{cellAt, AllTried, PendingAt, NonePending, Finds}
 use Rattle.unwrap_search.proofs.Searching.{Kept, undone, is-key-size, started, fell, count-at, turned-at, ended}
 use borrow.Author.Needs.{needs}
 use Rattle.unwrap_search.proofs.search.search.Statement.{statement}
@@ -34,8 +34,8 @@ inverse-tables-requires c κs = search needs
 blank-requires : tie.Need-blank-requires Inv-loop μ-loop
 blank-requires c κs = search needs
 
-with-key-requires : tie.Need-with-key-requires Inv-loop μ-loop
-with-key-requires c κs =
+try-key-requires : tie.Need-try-key-requires Inv-loop μ-loop
+try-key-requires c κs =
     let p = c .before .before .before .before .pre in
     (p .0, ((c .before .before .inverse-tables .ensures, p .1 .0), (p .1 .0, p .1 .1 .1)))
 
@@ -43,11 +43,11 @@ loop-holds : tie.Need-loop-holds Inv-loop μ-loop
 loop-holds c =
     let s = c .before .before .before .before .before in
     let e : length (s .args .t3) ≡ limits .wrapKeys = search needs in
-    let r : length (c .with-key .result) ≡ limits .wrapKeys = search needs in (
+    let r : length (c .try-key .result) ≡ limits .wrapKeys = search needs in (
       s .pre .0,
       e,
       r,
-      λ v is l fit h t. started v is l (s .args .lent .count) fit (c .with-key .result)
+      λ v is l fit h t. started v is l (s .args .lent .count) fit (c .try-key .result)
           (omega (arith, h .count, s .pre .0)) t,
     )
 
@@ -63,7 +63,7 @@ mul-e c =
     let s = u .before .before .before .before .before .before in
     let a = s .args in
     let j = c .before .j .given .0 .0 in
-    let p : FoundAt (u .loop .cells) (a .n) j =
+    let p : PendingAt (u .loop .cells) (a .n) j =
     subst (Finds (u .loop .cells) (a .n)) (c .before .j .given .1) (c .before .before .before .first-pending .ensures) in
     omega (arith, p .inside)
 
@@ -73,7 +73,7 @@ array-copy-out-e c =
     let s = u .before .before .before .before .before .before in
     let a = s .args in
     let j = c .before .j .given .0 .0 in
-    let p : FoundAt (u .loop .cells) (a .n) j =
+    let p : PendingAt (u .loop .cells) (a .n) j =
     subst (Finds (u .loop .cells) (a .n)) (c .before .j .given .1) (c .before .before .before .first-pending .ensures) in
     omega (arith, p .inside)
 
@@ -83,7 +83,7 @@ mul-c c =
     let s = u .before .before .before .before .before .before in
     let a = s .args in
     let j = c .before .before .j .given .0 .0 in
-    let p : FoundAt (u .loop .cells) (a .n) j =
+    let p : PendingAt (u .loop .cells) (a .n) j =
     subst (Finds (u .loop .cells) (a .n)) (c .before .before .j .given .1) (c .before .before .before .before .first-pending .ensures) in
     omega (arith, p .inside)
 
@@ -93,7 +93,7 @@ array-copy-out-c c =
     let s = u .before .before .before .before .before .before in
     let a = s .args in
     let j = c .before .before .j .given .0 .0 in
-    let p : FoundAt (u .loop .cells) (a .n) j =
+    let p : PendingAt (u .loop .cells) (a .n) j =
     subst (Finds (u .loop .cells) (a .n)) (c .before .before .j .given .1) (c .before .before .before .before .first-pending .ensures) in
     omega (arith, p .inside)
 
@@ -103,7 +103,7 @@ mul-cells c =
     let s = u .before .before .before .before .before .before in
     let a = s .args in
     let j = c .before .before .before .before .j .given .0 .0 in
-    let p : FoundAt (u .loop .cells) (a .n) j =
+    let p : PendingAt (u .loop .cells) (a .n) j =
     subst (Finds (u .loop .cells) (a .n)) (c .before .before .before .before .j .given .1)
     (c .before .before .before .before .before .before .first-pending .ensures) in
     omega (arith, p .inside)
@@ -114,25 +114,25 @@ array-set-from-cells c =
     let s = u .before .before .before .before .before .before in
     let a = s .args in
     let j = c .before .before .before .before .j .given .0 .0 in
-    let p : FoundAt (u .loop .cells) (a .n) j =
+    let p : PendingAt (u .loop .cells) (a .n) j =
     subst (Finds (u .loop .cells) (a .n)) (c .before .before .before .before .j .given .1)
     (c .before .before .before .before .before .before .first-pending .ensures) in
     omega (arith, p .inside)
 
-with-key-requires-2 : tie.Need-with-key-requires-2 Inv-loop μ-loop
-with-key-requires-2 c κs =
+try-key-requires-2 : tie.Need-try-key-requires-2 Inv-loop μ-loop
+try-key-requires-2 c κs =
     let u = c .before .before .before .before .before .before .before .before in
     let s = u .before .before .before .before .before .before in
     let a = s .args in
     let j = c .before .before .before .before .before .j .given .0 .0 in
-    let p : FoundAt (u .loop .cells) (a .n) j =
+    let p : PendingAt (u .loop .cells) (a .n) j =
     subst (Finds (u .loop .cells) (a .n)) (c .before .before .before .before .before .j .given .1)
     (c .before .before .before .before .before .before .before .first-pending .ensures) in
     let l = s .pre .1 .1 .1 in
     let t =
     subst
-    (λ (b : Cell). AllTried 0 (valueOf (a .lent)) (a .lent .count) (l .0) (replicate (limits .wrapKeys) b) (u .before .with-key .result))
-    (u .before .before .blank .ensures) (u .before .with-key .ensures (l .0) (l .1)) in
+    (λ (b : Cell). AllTried 0 (valueOf (a .lent)) (a .lent .count) (l .0) (replicate (limits .wrapKeys) b) (u .before .try-key .result))
+    (u .before .before .blank .ensures) (u .before .try-key .ensures (l .0) (l .1)) in
     let fit = is-key-size (a .lent .count) (s .pre .1 .0) in
     let kept = u .loop .inv .3 (valueOf (a .lent)) (s .pre .1 .1 .0) (l .0) fit (l .1) t in (
       omega (arith, s .pre .0, p .inside),
@@ -153,14 +153,14 @@ loop-less c =
     let s = u .before .before .before .before .before .before in
     let a = s .args in
     let j = c .before .before .before .before .before .before .j .given .0 .0 in
-    let p : FoundAt (u .loop .cells) (a .n) j =
+    let p : PendingAt (u .loop .cells) (a .n) j =
     subst (Finds (u .loop .cells) (a .n)) (c .before .before .before .before .before .before .j .given .1)
     (c .before .before .before .before .before .before .before .before .first-pending .ensures) in
     let l = s .pre .1 .1 .1 in
-    subst (λ (m : ℕ). undone m (cellAt (c .with-key2 .result)) < undone m (cellAt (u .loop .cells))) (l .1 .count)
-    (fell (l .0) _ _ (a .lent .count) (u .loop .cells) (c .with-key2 .result) j _
-    (subst (λ (m : ℕ). FoundAt (u .loop .cells) m j) (sym (l .1 .count)) p) (omega (arith, l .1 .count, s .pre .0, u .loop .inv .2))
-    (c .with-key2 .ensures (l .0) (l .1)))
+    subst (λ (m : ℕ). undone m (cellAt (c .try-key2 .result)) < undone m (cellAt (u .loop .cells))) (l .1 .count)
+    (fell (l .0) _ _ (a .lent .count) (u .loop .cells) (c .try-key2 .result) j _
+    (subst (λ (m : ℕ). PendingAt (u .loop .cells) m j) (sym (l .1 .count)) p) (omega (arith, l .1 .count, s .pre .0, u .loop .inv .2))
+    (c .try-key2 .ensures (l .0) (l .1)))
 
 loop-again : tie.Need-loop-again Inv-loop μ-loop
 loop-again c =
@@ -168,16 +168,16 @@ loop-again c =
     let s = u .before .before .before .before .before .before in
     let a = s .args in
     let j = c .before .before .before .before .before .before .j .given .0 .0 in
-    let p : FoundAt (u .loop .cells) (a .n) j =
+    let p : PendingAt (u .loop .cells) (a .n) j =
     subst (Finds (u .loop .cells) (a .n)) (c .before .before .before .before .before .before .j .given .1)
     (c .before .before .before .before .before .before .before .before .first-pending .ensures) in
-    let r : length (c .with-key2 .result) ≡ limits .wrapKeys = search needs in (
+    let r : length (c .try-key2 .result) ≡ limits .wrapKeys = search needs in (
       u .loop .inv .0,
       u .loop .inv .1,
       r,
       λ v is l fit h t.
           turned-at v is l (a .lent .count) fit (a .frame .now) (a .t3) (a .n) (u .loop .cells) j h (u .loop .inv .3 v is l fit h t) p
-          (u .loop .inv .2) (c .with-key2 .result) _ _ (u .loop .inv .1) (c .with-key2 .ensures l h),
+          (u .loop .inv .2) (c .try-key2 .result) _ _ (u .loop .inv .1) (c .try-key2 .ensures l h),
     )
 
 enum-told : tie.Need-enum-told Inv-loop μ-loop
@@ -189,8 +189,8 @@ returns c l h =
     let s = u .before .before .before .before .before .before in
     let a = s .args in
     let t =
-    subst (λ (b : Cell). AllTried 0 (valueOf (a .lent)) (a .lent .count) l (replicate (limits .wrapKeys) b) (u .before .with-key .result))
-    (u .before .before .blank .ensures) (u .before .with-key .ensures l h) in
+    subst (λ (b : Cell). AllTried 0 (valueOf (a .lent)) (a .lent .count) l (replicate (limits .wrapKeys) b) (u .before .try-key .result))
+    (u .before .before .blank .ensures) (u .before .try-key .ensures l h) in
     let fit = is-key-size (a .lent .count) (s .pre .1 .0) in
     let kept = u .loop .inv .3 (valueOf (a .lent)) (s .pre .1 .1 .0) l fit h t in
     let none : NonePending (u .loop .cells) (a .n) =
@@ -206,7 +206,7 @@ search-spec =
     μ-loop
     inverse-tables-requires
     blank-requires
-    with-key-requires
+    try-key-requires
     loop-holds
     first-pending-requires
     enum-known-j
@@ -216,7 +216,7 @@ search-spec =
     array-copy-out-c
     mul-cells
     array-set-from-cells
-    with-key-requires-2
+    try-key-requires-2
     loop-less
     loop-again
     enum-told

@@ -12,7 +12,7 @@ use Rattle.wire_attributes.specs.Answers.{valueStart}
 use Rattle.wire_attributes.specs.Layout.{attributes}
 use Rattle.wire_attributes.specs.declared.tables.Place.the-variants.{MemberBag}
 use Rattle.wire_attributes.specs.declared.tables.Meaning.the-variants as meaning
-use Rattle.wire_readers.specs.inner.Values.{isWhole, MetAt, Meets}
+use Rattle.wire_readers.specs.inner.Values.{isWhole, MetAt, FindsValue}
 use Rattle.wire_readers.specs.declared.Stretch.{Stretch}
 use Rattle.unwrap_search.specs.inner.Entries.{IsEntry, Lists}
 use Rattle.unwrap_tree.specs.inner.Entries.{bagKeys}
@@ -24,12 +24,12 @@ use Rattle.unwrap_tree.proofs.entries.entries.Statement.{statement}
 use Rattle.unwrap_tree.proofs.entries.entries.Tie as tie
 
 abbrev Inv-loop : tie.InvT-loop
-Inv-loop k a e s places₀ n₀ at₀ places n at =
+Inv-loop kd a e s places₀ n₀ at₀ places n at =
     (length places ≡ limits .wrapKeys) × (at ≤ length s) × (isWhole (attributes MemberBag 0 (drop at s)) ≡ true) ×
-    (n + length (bagKeys (drop at s)) ≤ limits .wrapKeys) × Gathered k places n (bagKeys (drop at s)) (bagKeys s)
+    (n + length (bagKeys (drop at s)) ≤ limits .wrapKeys) × Gathered kd places n (bagKeys (drop at s)) (bagKeys s)
 
 abbrev μ-loop : tie.MeasureT-loop
-μ-loop k a e s places₀ n₀ at₀ places n at = length s - at
+μ-loop kd a e s places₀ n₀ at₀ places n at = length s - at
 
 sub-s : tie.Need-sub-s Inv-loop μ-loop
 sub-s c = c .before .pre .0 .order
@@ -47,7 +47,7 @@ loop-holds : tie.Need-loop-holds Inv-loop μ-loop
 loop-holds c =
     let st = c .before .before .before in
     let h = st .pre .0 in
-    (omega arith, omega arith, h .held, omega (arith, st .pre .1, ap length (h .keys)), gathered-none (now (st .args .k)) _ _)
+    (omega arith, omega arith, h .held, omega (arith, st .pre .1, ap length (h .keys)), gathered-none (now (st .args .kd)) _ _)
 
 next-attribute-requires : tie.Need-next-attribute-requires Inv-loop μ-loop
 next-attribute-requires c κs = (c .loop .inv .1, c .loop .inv .2)
@@ -60,12 +60,12 @@ met : (c : tie.After-known-told Inv-loop μ-loop) →
     let st = w .before .before .before .before in
     let v = c .before .b .given .0 in
     let x = st .args .bag in
-    MetAt meaning.WrapKey MemberBag (part (now (st .args .k)) (x .start) (x .end)) (w .loop .at) (v .0) (v .1 .0)
+    MetAt meaning.WrapKey MemberBag (part (now (st .args .kd)) (x .start) (x .end)) (w .loop .at) (v .0) (v .1 .0)
 met c =
     let w = c .before .before .before .before in
     let st = w .before .before .before .before in
     let x = st .args .bag in
-    subst (Meets meaning.WrapKey MemberBag (part (now (st .args .k)) (x .start) (x .end)) (w .loop .at))
+    subst (FindsValue meaning.WrapKey MemberBag (part (now (st .args .kd)) (x .start) (x .end)) (w .loop .at))
     (c .before .b .given .1) (c .before .before .before .next-attribute .ensures)
 
 attribute-value-requires : tie.Need-attribute-value-requires Inv-loop μ-loop
@@ -75,7 +75,7 @@ attribute-value-requires c κs = search needs
 value : (c : tie.After-attribute-value Inv-loop μ-loop) →
     let st = c .before .before .before .before .before .before .before .before .before in
     let v = c .before .before .b .given .0 in
-    let s = part (now (st .args .k)) (st .args .bag .start) (st .args .bag .end) in
+    let s = part (now (st .args .kd)) (st .args .bag .start) (st .args .bag .end) in
     now (c .attribute-value .result) ≡ part s (valueStart s (v .0)) (v .1 .0)
 value c = c .attribute-value .ensures .0 ∙ met (c .before) .octets
 
@@ -84,7 +84,7 @@ add-entry c =
     let w = c .before .before .before .before .before in
     let st = w .before .before .before .before in
     let h = st .pre .0 in
-    let i = taken-inside (now (st .args .k)) _ _ (h .order) (h .inside) (w .loop .at) _ _ (w .loop .inv .2) (met (c .before) .value) in
+    let i = taken-inside (now (st .args .kd)) _ _ (h .order) (h .inside) (w .loop .at) _ _ (w .loop .inv .2) (met (c .before) .value) in
     record { fits = omega (arith, i .1) }
 
 entry-requires : tie.Need-entry-requires Inv-loop μ-loop
@@ -92,28 +92,28 @@ entry-requires c κs =
     let w = c .before .before .before .before .before in
     let st = w .before .before .before .before in
     let h = st .pre .0 in
-    taken-sized (now (st .args .k)) _ _ (h .order) (h .inside) (w .loop .at) _ _ (w .loop .inv .2) (met (c .before) .value) _ (value c)
+    taken-sized (now (st .args .kd)) _ _ (h .order) (h .inside) (w .loop .at) _ _ (w .loop .inv .2) (met (c .before) .value) _ (value c)
 
 first : (c : tie.After-attribute-value Inv-loop μ-loop) →
     let w = c .before .before .before .before .before in
     let st = w .before .before .before .before in
     let v = c .before .before .b .given .0 in
-    let s = part (now (st .args .k)) (st .args .bag .start) (st .args .bag .end) in
+    let s = part (now (st .args .kd)) (st .args .bag .start) (st .args .bag .end) in
     bagKeys (drop (w .loop .at) s) ≡ wrapKeyOf (now (c .attribute-value .result)) ∷ bagKeys (drop (v .1 .0) s)
 first c =
     let w = c .before .before .before .before .before in
     let st = w .before .before .before .before in
     let h = st .pre .0 in
-    taken-first (now (st .args .k)) _ _ (h .order) (h .inside) (w .loop .at) _ _ (w .loop .inv .2) (met (c .before) .value) _ (value c)
+    taken-first (now (st .args .kd)) _ _ (h .order) (h .inside) (w .loop .at) _ _ (w .loop .inv .2) (met (c .before) .value) _ (value c)
 
 is : (c : tie.After-entry Inv-loop μ-loop) →
     let st = c .before .before .before .before .before .before .before .before .before .before in
-    IsEntry (now (st .args .k)) (c .entry .result) (wrapKeyOf (now (c .before .attribute-value .result)))
+    IsEntry (now (st .args .kd)) (c .entry .result) (wrapKeyOf (now (c .before .attribute-value .result)))
 is c =
     let w = c .before .before .before .before .before .before in
     let st = w .before .before .before .before in
     let h = st .pre .0 in
-    let k = now (st .args .k) in
+    let k = now (st .args .kd) in
     let f = met (c .before .before) .value in
     c .entry .ensures k
     (taken-inside k _ _ (h .order) (h .inside) (w .loop .at) _ _ (w .loop .inv .2) f .1)
@@ -142,16 +142,16 @@ loop-again c =
     let v = c .before .before .before .b .given .0 in
     let f = met (c .before .before) .value in
     let e = first (c .before) in
-    let s = part (now (a .k)) (a .bag .start) (a .bag .end) in
+    let s = part (now (a .kd)) (a .bag .start) (a .bag .end) in
     let n : length (set (l .places) (l .n) (c .entry .result)) ≡ limits .wrapKeys =
     length-set (l .places) (l .n) (c .entry .result) ∙ l .inv .0 in (
       n,
       f .inside,
       f .rest,
       omega (arith, l .inv .3, ap length e),
-      gathered-next (now (a .k)) (l .places) (l .n) (bagKeys (drop (v .1 .0) s)) (bagKeys s) (c .entry .result)
+      gathered-next (now (a .kd)) (l .places) (l .n) (bagKeys (drop (v .1 .0) s)) (bagKeys s) (c .entry .result)
           (wrapKeyOf (now (c .before .attribute-value .result)))
-          (subst (λ (x : List WrapKey). Gathered (now (a .k)) (l .places) (l .n) x (bagKeys s)) e (l .inv .4))
+          (subst (λ (x : List WrapKey). Gathered (now (a .kd)) (l .places) (l .n) x (bagKeys s)) e (l .inv .4))
           (room c) (omega (arith, l .inv .0, room c)) (is c),
     )
 
@@ -162,10 +162,10 @@ returns : tie.Need-returns Inv-loop μ-loop
 returns c =
     let w = c .before .before .before in
     let st = w .before .before .before .before in
-    let k = now (st .args .k) in
+    let k = now (st .args .kd) in
     let u = w .loop in
     let s = part k (st .args .bag .start) (st .args .bag .end) in
-    let f = subst (Meets meaning.WrapKey MemberBag s (u .at)) (c .enum-told .given .1) (c .before .before .next-attribute .ensures) in
+    let f = subst (FindsValue meaning.WrapKey MemberBag s (u .at)) (c .enum-told .given .1) (c .before .before .next-attribute .ensures) in
     subst (Lists k (u .places) (u .n)) (sym (st .pre .0 .keys))
     (gathered-all k (u .places) (u .n) (bagKeys (drop (u .at) s)) (bagKeys s) (u .inv .4) (ap (map wrapKeyOf) (f .0)))
 

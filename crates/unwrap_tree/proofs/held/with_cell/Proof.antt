@@ -16,14 +16,14 @@ find-requires c κs = search needs
 returns : tie.Need-returns
 returns c = stands (ap (λ (m : MadeWrapping). m .fits) (sym (c .before .find .ensures)) ∙ c .if2 .taken) refl
 
-entered-requires : tie.Need-entered-requires
-entered-requires c κs = search needs
+enter-requires : tie.Need-enter-requires
+enter-requires c κs = search needs
 
 returns-2 : tie.Need-returns-2
 returns-2 c =
     let u = c .before .before .before in
     enters (done-is _ (sym (u .before .before .is-done .ensures) ∙ u .before .if1 .taken))
-    (ap (λ (m : MadeWrapping). m .fits) (sym (u .find .ensures)) ∙ c .before .before .if2 .left) (c .entered .ensures)
+    (ap (λ (m : MadeWrapping). m .fits) (sym (u .find .ensures)) ∙ c .before .before .if2 .left) (c .enter .ensures)
 
 returns-3 : tie.Need-returns-3
 returns-3 c = not-reached (done-not _ (sym (c .before .is-done .ensures) ∙ c .if1 .left)) refl
@@ -31,4 +31,4 @@ returns-3 c = not-reached (done-not _ (sym (c .before .is-done .ensures) ∙ c .
 pub with-cell-spec : {M : Type 1} → statement M
 with-cell-spec =
     tie.close
-    (tie.spec is-done-requires find-requires returns entered-requires returns-2 returns-3)
+    (tie.spec is-done-requires find-requires returns enter-requires returns-2 returns-3)

@@ -7,7 +7,7 @@ use mathlib.Core.List.{[]}
 use lib.ListN.{length, drop}
 use Rattle.wire_attributes.specs.Answers.{valueStart}
 use Rattle.wire_attributes.specs.Layout.{attributes}
-use Rattle.wire_readers.specs.inner.Values.{isWhole, valuesIn, FoundAt, Meets}
+use Rattle.wire_readers.specs.inner.Values.{isWhole, valuesIn, ValueFoundAt, FindsValue}
 use borrow.Author.Needs.{needs}
 use Rattle.wire_readers.proofs.values.count_of.Statement.{statement}
 use Rattle.wire_readers.proofs.values.count_of.Tie as tie
@@ -32,10 +32,10 @@ enum-known-e c = search needs
 next : (c : tie.After-known-told Inv-loop μ-loop)
     → let a = c .before .before .before .before .before .before .args in
     let v = c .before .e .given .0 in
-    FoundAt (a .m) (a .place) (now (a .s)) (c .before .before .before .before .loop .at) (valueStart (now (a .s)) (v .0)) (v .1 .0)
+    ValueFoundAt (a .m) (a .place) (now (a .s)) (c .before .before .before .before .loop .at) (valueStart (now (a .s)) (v .0)) (v .1 .0)
 next c =
     let a = c .before .before .before .before .before .before .args in
-    (subst (Meets (a .m) (a .place) (now (a .s)) (c .before .before .before .before .loop .at)) (c .before .e .given .1)
+    (subst (FindsValue (a .m) (a .place) (now (a .s)) (c .before .before .before .before .loop .at)) (c .before .e .given .1)
     (c .before .before .before .next-attribute .ensures)) .value
 
 add-n : tie.Need-add-n Inv-loop μ-loop
@@ -61,7 +61,7 @@ returns : tie.Need-returns Inv-loop μ-loop
 returns c =
     let a = c .before .before .before .before .before .args in
     let f : valuesIn (a .m) (a .place) (drop (c .before .before .before .loop .at) (now (a .s))) ≡ [] =
-    (subst (Meets (a .m) (a .place) (now (a .s)) (c .before .before .before .loop .at)) (c .enum-told .given .1)
+    (subst (FindsValue (a .m) (a .place) (now (a .s)) (c .before .before .before .loop .at)) (c .enum-told .given .1)
     (c .before .before .next-attribute .ensures)) .0 in
     omega (arith, c .before .before .before .loop .inv .3, ap length f)
 

@@ -10,7 +10,7 @@ use Rattle.octets.proofs.Walks.{to-end}
 use Rattle.wire_attributes.specs.Tree.{codeOf}
 use Rattle.wire_attributes.specs.Layout.{attributes}
 use Rattle.wire_attributes.specs.Answers.{readOf}
-use Rattle.wire_readers.specs.inner.Values.{isWhole, valuesIn, placesIn, FoundAt}
+use Rattle.wire_readers.specs.inner.Values.{isWhole, valuesIn, placesIn, ValueFoundAt}
 use Rattle.wire_attributes.specs.declared.tables.Meaning.{Meaning}
 use Rattle.wire_attributes.proofs.AttributeLaws.{IsRead, read-is, cut-is}
 use Rattle.wire_readers.proofs.ValuesLaws.{none-left, never-cut, next-inside, next-whole, miss, hit, size, starts-after}
@@ -34,17 +34,17 @@ code-requires c κs = search needs
 loop-holds : tie.Need-loop-holds Inv-loop μ-loop
 loop-holds c = (omega arith, c .before .before .pre .0, c .before .before .pre .1, λ m e. refl, λ m e. refl)
 
-sub-attribute-read : tie.Need-sub-attribute-read Inv-loop μ-loop
-sub-attribute-read c = search needs
+sub-read-attribute : tie.Need-sub-read-attribute Inv-loop μ-loop
+sub-read-attribute c = search needs
 
-part-attribute-read-start : tie.Need-part-attribute-read-start Inv-loop μ-loop
-part-attribute-read-start c = search needs
+part-read-attribute-start : tie.Need-part-read-attribute-start Inv-loop μ-loop
+part-read-attribute-start c = search needs
 
-part-attribute-read-end : tie.Need-part-attribute-read-end Inv-loop μ-loop
-part-attribute-read-end c = search needs
+part-read-attribute-end : tie.Need-part-read-attribute-end Inv-loop μ-loop
+part-read-attribute-end c = search needs
 
-attribute-read-requires : tie.Need-attribute-read-requires Inv-loop μ-loop
-attribute-read-requires c κs = search needs
+read-attribute-requires : tie.Need-read-attribute-requires Inv-loop μ-loop
+read-attribute-requires c κs = search needs
 
 enum-known-kind : tie.Need-enum-known-kind Inv-loop μ-loop
 enum-known-kind c = search needs
@@ -58,7 +58,7 @@ read c =
     let s = now (c .before .before .before .before .before .before .before .before .before .args .s) in
     let at = c .before .before .before .before .before .before .loop .at in
     read-is (drop at s) (v .0) (v .1 .0) (v .1 .1 .0) (v .1 .1 .1 .0)
-    (sym (c .before .kind .given .1) ∙ c .before .before .before .attribute-read .ensures ∙ ap readOf (to-end s at))
+    (sym (c .before .kind .given .1) ∙ c .before .before .before .read-attribute .ensures ∙ ap readOf (to-end s at))
 
 inside : (c : tie.After-known-told Inv-loop μ-loop)
     → let v = c .before .kind .given .0 in
@@ -96,7 +96,7 @@ returns c =
     let q = value-start (a .m) (a .place) s (l .at) (l .inv .2) h (v .0) (v .1 .0) (v .1 .1 .0) (v .1 .1 .1 .0) (read b) in
     record {
       value =
-          subst (λ (x : ℕ). FoundAt (a .m) (a .place) s (a .from) x e) q
+          subst (λ (x : ℕ). ValueFoundAt (a .m) (a .place) s (a .from) x e) q
           (record {
             first =
                 l .inv .3 (a .m) w
@@ -113,7 +113,8 @@ returns c =
             );
             order = omega (arith, i .2);
             inside = i .1;
-            size = size (a .m) (a .place) s (l .at) (l .inv .2) h (v .0) (v .1 .0) (v .1 .1 .0) (v .1 .1 .1 .0) (read b) _ _ k w (c .if1 .taken);
+            size = size (a .m) (a .place) s (l .at) (l .inv .2) h (v .0) (v .1 .0) (v .1 .1 .0) (v .1 .1 .1 .0) (read b) _ _ k w
+                (c .if1 .taken);
             rest = next-whole (a .m) (a .place) s (l .at) (l .inv .2) h (v .0) (v .1 .0) (v .1 .1 .0) (v .1 .1 .1 .0) (read b);
           });
       octets =
@@ -153,7 +154,7 @@ returns-2 c =
     let s = now (a .s) in
     absurd
     (never-cut (a .m) (a .place) s (l .at) (l .inv .2) (c .before .before .before .before .loop-test .taken)
-    (cut-is (drop (l .at) s) (sym (c .enum-told .given .1) ∙ c .before .before .attribute-read .ensures ∙ ap readOf (to-end s (l .at)))))
+    (cut-is (drop (l .at) s) (sym (c .enum-told .given .1) ∙ c .before .before .read-attribute .ensures ∙ ap readOf (to-end s (l .at)))))
 
 returns-3 : tie.Need-returns-3 Inv-loop μ-loop
 returns-3 c =
@@ -172,10 +173,10 @@ next-attribute-spec =
     μ-loop
     code-requires
     loop-holds
-    sub-attribute-read
-    part-attribute-read-start
-    part-attribute-read-end
-    attribute-read-requires
+    sub-read-attribute
+    part-read-attribute-start
+    part-read-attribute-end
+    read-attribute-requires
     enum-known-kind
     add-next
     meaning-in-requires

@@ -4,7 +4,7 @@ use mathlib.Core.Path.{_≡_, ap, _∙_, subst}
 use mathlib.Core.List.{List}
 use lib.ListN.{length}
 use Prim.Native.Nat.{ℕ, _+_}
-use Rattle.wire_readers.specs.inner.Values.{MetAt, Meets, valueSize}
+use Rattle.wire_readers.specs.inner.Values.{MetAt, FindsValue, valueSize}
 use Rattle.wire_readers.proofs.ValuesLaws.{met-first, met-place, met-size, none-first, none-start}
 use borrow.Author.Needs.{needs}
 use Rattle.wire_readers.proofs.values.value_of.Statement.{statement}
@@ -36,7 +36,7 @@ returns c =
     let a = c .before .before .before .before .before .before .args in
     let s = now (a .s) in
     let v = c .before .before .at .given in
-    let f = subst (Meets (a .m) (a .place) s (a .from)) (v .1) (c .before .before .before .before .next-attribute .ensures) in (
+    let f = subst (FindsValue (a .m) (a .place) s (a .from)) (v .1) (c .before .before .before .before .next-attribute .ensures) in (
       (
         c .attribute-value .ensures .0 ∙ met-first (a .m) (a .place) s (a .from) (v .0 .0) (v .0 .1 .0) f,
         λ h. ap (λ (l : List ℕ). valueSize (a .m) (length l)) (c .attribute-value .ensures .0)
@@ -50,7 +50,8 @@ returns-2 : tie.Need-returns-2
 returns-2 c =
     let a = c .before .before .before .before .before .args in
     let s = now (a .s) in
-    let f = subst (Meets (a .m) (a .place) s (a .from)) (c .before .enum-told .given .1) (c .before .before .before .next-attribute .ensures) in (
+    let f = subst (FindsValue (a .m) (a .place) s (a .from)) (c .before .enum-told .given .1)
+    (c .before .before .before .next-attribute .ensures) in (
       (none-first (a .m) (a .place) s (a .from) (f .0), λ h. absurd (omega (arith, h))),
       ap (λ (n : ℕ). (a .s .ptr .0, n + a .s .ptr .1)) (none-start (a .m) (a .place) s (a .from) (f .1)),
     )

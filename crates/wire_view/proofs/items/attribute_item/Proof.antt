@@ -9,8 +9,8 @@ use borrow.Author.Needs.{needs}
 use Rattle.wire_view.proofs.items.attribute_item.Statement.{statement}
 use Rattle.wire_view.proofs.items.attribute_item.Tie as tie
 
-attribute-read-requires : tie.Need-attribute-read-requires
-attribute-read-requires c κs = search needs
+read-attribute-requires : tie.Need-read-attribute-requires
+read-attribute-requires c κs = search needs
 
 enum-known-short : tie.Need-enum-known-short
 enum-known-short c = search needs
@@ -22,7 +22,7 @@ read : (c : tie.After-known-told)
 read c =
     let v = c .before .short .given .0 in
     read-is (now (c .before .before .before .before .before .args .s)) (v .0) (v .1 .0) (v .1 .1 .0) (v .1 .1 .1 .0)
-    (sym (c .before .short .given .1) ∙ c .before .before .before .attribute-read .ensures)
+    (sym (c .before .short .given .1) ∙ c .before .before .before .read-attribute .ensures)
 
 meaning-in-requires : tie.Need-meaning-in-requires
 meaning-in-requires c κs = search needs
@@ -50,7 +50,7 @@ returns c =
 returns-2 : tie.Need-returns-2
 returns-2 c =
     let s = now (c .before .before .before .before .args .s) in
-    let q = cut-is s (sym (c .enum-told .given .1) ∙ c .before .before .attribute-read .ensures) in
+    let q = cut-is s (sym (c .enum-told .given .1) ∙ c .before .before .read-attribute .ensures) in
     λ f.
     let y : _≡_ {A = Bool} false true = sym q ∙ f in
     let z : _≡_ {A = ℕ} 0 1 = cc in absurd (omega arith)
@@ -59,7 +59,7 @@ pub attribute-item-spec : {M : Type 1} → statement M
 attribute-item-spec =
     tie.close
     (tie.spec
-    attribute-read-requires
+    read-attribute-requires
     enum-known-short
     meaning-in-requires
     add-t11

@@ -27,15 +27,15 @@ mul-k c = search needs
 element-copy-out-k : tie.Need-element-copy-out-k Inv-loop μ-loop
 element-copy-out-k c = search needs
 
-formed-requires : tie.Need-formed-requires Inv-loop μ-loop
-formed-requires c κs = search needs
+is-formed-requires : tie.Need-is-formed-requires Inv-loop μ-loop
+is-formed-requires c κs = search needs
 
 returns : tie.Need-returns Inv-loop μ-loop
 returns c =
     let l = c .before .before .before .before .loop in
     let h = c .before .before .before .before .before .args .t1 in
     sym (l .inv .3 ∙ all-no keyFormed (h .keys) (h .count) (omega arith) (l .i) _ (omega arith)
-    (sym (c .if1 .left) ∙ c .before .formed .ensures))
+    (sym (c .if1 .left) ∙ c .before .is-formed .ensures))
 
 add-i : tie.Need-add-i Inv-loop μ-loop
 add-i c = search needs
@@ -51,7 +51,7 @@ loop-again c =
       l .inv .1,
       omega arith,
       l .inv .3 ∙ all-yes keyFormed (h .keys) (h .count) (omega arith) (l .i) _ (omega arith)
-          (sym (c .if1 .taken) ∙ c .before .formed .ensures),
+          (sym (c .if1 .taken) ∙ c .before .is-formed .ensures),
     )
 
 returns-2 : tie.Need-returns-2 Inv-loop μ-loop
@@ -69,7 +69,7 @@ each-formed-spec =
     loop-holds
     mul-k
     element-copy-out-k
-    formed-requires
+    is-formed-requires
     returns
     add-i
     loop-less

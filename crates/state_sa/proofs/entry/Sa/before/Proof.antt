@@ -2,18 +2,18 @@ use native.Mathlib.Omega.{arith}
 use mathlib.Core.Path.{_≡_}
 use borrow.Author.Tests.{lt-ltb, le-ltb}
 use lib.ListN.{length}
-use Rattle.state_sa.specs.Entry.{before}
+use Rattle.state_sa.specs.Entry.{saBefore}
 use Rattle.state_sa.proofs.Laws.{before-spi}
 use borrow.Author.Needs.{needs}
 use Rattle.state_sa.proofs.entry.Sa.before.Statement.{statement}
 use Rattle.state_sa.proofs.entry.Sa.before.Tie as tie
 
 returns : tie.Need-returns
-unfolding before
+unfolding saBefore
 returns c = rw (lt-ltb _ _ (c .if1 .taken))
 
 returns-2 : tie.Need-returns-2
-unfolding before
+unfolding saBefore
 returns-2 c = simp (le-ltb _ _ (c .before .before .before .if1 .left), lt-ltb _ _ (c .if2 .taken))
 
 spi-size-requires : tie.Need-spi-size-requires

@@ -11,12 +11,12 @@ returns : tie.Need-returns
 unfolding due
 returns c = rw (sym (c .before .delay-passed .ensures) ∙ c .if1 .taken)
 
-ran-out-requires : tie.Need-ran-out-requires
-ran-out-requires c κs = search needs
+has-run-out-requires : tie.Need-has-run-out-requires
+has-run-out-requires c κs = search needs
 
 returns-2 : tie.Need-returns-2
 unfolding due
-returns-2 c = rw (sym (c .before .before .delay-passed .ensures) ∙ c .before .if1 .left) (c .ran-out .ensures)
+returns-2 c = rw (sym (c .before .before .delay-passed .ensures) ∙ c .before .if1 .left) (c .has-run-out .ensures)
 
 pub due-spec : {M : Type 1} → statement M
-due-spec = tie.close (tie.spec delay-passed-requires returns ran-out-requires returns-2)
+due-spec = tie.close (tie.spec delay-passed-requires returns has-run-out-requires returns-2)
