@@ -1,5 +1,5 @@
 // KEYEXPANSION(): FIPS 197, section 5.2, word by word, and for the equivalent inverse cipher, section 5.3.5. The S-box stands in the lent
-// tables from `at` on. Internal, all of it.
+// tables from `at` on.
 use crate::words::column;
 use crate::words::join;
 use crate::words::last_column;

@@ -1,5 +1,6 @@
 // AES (FIPS 197): tables are made once and lent, a key is expanded once, and its schedule is lent to each block. Callers treat tables and
 // schedules as opaque: nobody outside this crate looks into their arrays. All functions are internal.
+// Internal: crates of this repository alone call it.
 ghost use mathlib.Core.Path.{_≡_};
 ghost use Prim.Native.Nat.{ℕ, _<_, _+_, _*_};
 ghost use mathlib.Core.List.{List, _++_};
@@ -62,21 +63,21 @@ pub struct InverseSchedule {
     pub words: [u32; SCHEDULE_WORDS],
 }
 
-// What is lent to `expand`, `encrypt` and `encrypt_pair`: made once, since the language has no static data. Internal.
+// What is lent to `expand`, `encrypt` and `encrypt_pair`: made once, since the language has no static data.
 pub fn tables() -> [u32; TABLE_WORDS]
     ensures { λ r. ⌜ r ≡ encipherTables ⌝ }
 {
     encipher_tables()
 }
 
-// What is lent to `expand_inverse`, `decrypt` and `decrypt_pair`. Internal.
+// What is lent to `expand_inverse`, `decrypt` and `decrypt_pair`.
 pub fn inverse_tables() -> [u32; INVERSE_TABLE_WORDS]
     ensures { λ r. ⌜ r ≡ decipherTables ⌝ }
 {
     decipher_tables()
 }
 
-// KEYEXPANSION(key). Internal.
+// KEYEXPANSION(key).
 pub fn expand(tables: &[u32; TABLE_WORDS], key: &[u8]) -> Schedule
     requires { ⌜ now tables ≡ encipherTables ⌝ }
     requires { ⌜ T (isKey (length (now key))) ⌝ }
@@ -86,7 +87,7 @@ pub fn expand(tables: &[u32; TABLE_WORDS], key: &[u8]) -> Schedule
     Schedule { words }
 }
 
-// KEYEXPANSION(key) for the equivalent inverse cipher. Internal.
+// KEYEXPANSION(key) for the equivalent inverse cipher.
 pub fn expand_inverse(tables: &[u32; INVERSE_TABLE_WORDS], key: &[u8]) -> InverseSchedule
     requires { ⌜ now tables ≡ decipherTables ⌝ }
     requires { ⌜ T (isKey (length (now key))) ⌝ }
@@ -96,7 +97,7 @@ pub fn expand_inverse(tables: &[u32; INVERSE_TABLE_WORDS], key: &[u8]) -> Invers
     InverseSchedule { words }
 }
 
-// CIPHER(). Internal.
+// CIPHER().
 pub fn encrypt(
     tables: &[u32; TABLE_WORDS],
     schedule: &[u32; SCHEDULE_WORDS],
@@ -109,7 +110,7 @@ pub fn encrypt(
     store(run(tables, schedule, load(block)))
 }
 
-// CIPHER() of the block of two numbers. Internal.
+// CIPHER() of the block of two numbers.
 pub fn encrypt_pair(
     tables: &[u32; TABLE_WORDS],
     schedule: &[u32; SCHEDULE_WORDS],
@@ -124,7 +125,7 @@ pub fn encrypt_pair(
     unite(run(tables, schedule, split(hi, lo)))
 }
 
-// INVCIPHER(). Internal.
+// INVCIPHER().
 pub fn decrypt(
     tables: &[u32; INVERSE_TABLE_WORDS],
     schedule: &[u32; SCHEDULE_WORDS],
@@ -137,7 +138,7 @@ pub fn decrypt(
     store(reverse_columns(run(tables, schedule, reverse_columns(load(block)))))
 }
 
-// INVCIPHER() of the block of two numbers. Internal.
+// INVCIPHER() of the block of two numbers.
 pub fn decrypt_pair(
     tables: &[u32; INVERSE_TABLE_WORDS],
     schedule: &[u32; SCHEDULE_WORDS],
@@ -152,7 +153,7 @@ pub fn decrypt_pair(
     unite(reverse_columns(run(tables, schedule, reverse_columns(split(hi, lo)))))
 }
 
-// The last word of the expanded key. Internal.
+// The last word of the expanded key.
 pub fn last_word(schedule: Schedule) -> [u8; 4]
     requires { ⌜ Expanded (schedule .words) ⌝ }
     ensures { λ r. ⌜ ((key : List ℕ) → Expands key (schedule .words) → r ≡ word (keyExpansion key) (4 * roundsOf key + 3)) ⌝ }
@@ -163,7 +164,7 @@ pub fn last_word(schedule: Schedule) -> [u8; 4]
     apart(w[at])
 }
 
-// Round key r of the equivalent inverse cipher, its columns in the block's order. Internal.
+// Round key r of the equivalent inverse cipher, its columns in the block's order.
 pub fn inverse_round_key(schedule: &[u32; SCHEDULE_WORDS], r: usize) -> [u8; 16]
     requires { ⌜ r < 15 ⌝ }
     ensures { λ x. ⌜ x ≡ stateOctets (swappedOf (roundKeyOf (now (schedule .entry)) r)) ⌝ }

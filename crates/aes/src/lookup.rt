@@ -1,5 +1,4 @@
-// The tables that are lent: the combined ones of words, and the substitution boxes behind them (FIPS 197, tables 4 and 6). Internal, all
-// of it.
+// The tables that are lent: the combined ones of words, and the substitution boxes behind them (FIPS 197, tables 4 and 6).
 ghost use mathlib.Core.Path.{_≡_};
 ghost use Rattle.aes.specs.inner.Tables.{encipherTables, decipherTables};
 use crate::INVERSE_TABLE_WORDS;

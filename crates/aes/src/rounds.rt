@@ -1,4 +1,4 @@
-// The rounds, on a state of four words. Internal, all of it.
+// The rounds, on a state of four words.
 use crate::AesState;
 use crate::Pair;
 use crate::words::apart;

@@ -1,4 +1,4 @@
-// Words of four octets, the first octet highest. Internal, all of it.
+// Words of four octets, the first octet highest.
 ghost use mathlib.Core.Path.{_≡_};
 ghost use Prim.Native.Nat.{_+_, _≤_};
 ghost use lib.ListN.{length};

@@ -1,4 +1,5 @@
 // The state of a member that has accepted a frame.
+// Internal: crates of this repository alone call it.
 pub mod entering;
 pub mod next;
 pub mod retiring;

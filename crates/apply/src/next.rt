@@ -62,7 +62,7 @@ fn least_by(x: Said, before: Least) -> Least
     }
 }
 
-// The state after an accepted frame s that says this, and which brings the first n of these new SAs and this held list. Internal.
+// The state after an accepted frame s that says this, and which brings the first n of these new SAs and this held list.
 pub fn next(
     state: State,
     s: &[u8],

@@ -81,7 +81,7 @@ pub struct DeletesAt {
     pub start: usize,
 }
 
-// The ESP SAs that the Delete payloads of a frame name retire: from the first of these payloads to the last. Internal.
+// The ESP SAs that the Delete payloads of a frame name retire: from the first of these payloads to the last.
 pub fn retired_by_frame(t: Table, s: &[u8], d: DeletesAt, tick: u32, delay: u16) -> Table
     requires { ⌜ ((l : List Delete) × AreDeletes (now s) d l) ⌝ }
     ensures { λ r. ⌜ ((l : List Delete) → AreDeletes (now (s .entry)) d l → r ≡ retiredThere (namedIn (spisIn l)) tick delay t) ⌝ }

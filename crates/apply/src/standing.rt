@@ -22,7 +22,7 @@ fn retire_old(a: Sa, new: bool, tick: u32, delay: u16) -> Sa
     a
 }
 
-// The table without the SAs that are due; with a new Rekey SA the old one retires. Internal.
+// The table without the SAs that are due; with a new Rekey SA the old one retires.
 pub fn standing(t: Table, new: bool, tick: u32, delay: u16) -> Table
     requires { ⌜ t .count ≤ limits .sas ⌝ }
     ensures { λ r. ⌜ r ≡ tableOf limits (map (retiredIf (outdated new) tick delay) (notDue tick (sasOf t))) ⌝ }

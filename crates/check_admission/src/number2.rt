@@ -81,7 +81,7 @@ fn is_barred(t: Table, x: Exchange, spi: &[u8], tick: u32) -> bool
     false
 }
 
-// Whether number 2 applies to a frame of this exchange type and these two SPIs. Internal.
+// Whether number 2 applies to a frame of this exchange type and these two SPIs.
 pub fn number_2(state: State, exchange: usize, spi: &[u8], tick: u32) -> bool
     ensures { λ r. ⌜ r ≡ applies (number2 limits state tick exchange (now (spi .entry))) ⌝ }
 {

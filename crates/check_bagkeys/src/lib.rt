@@ -1,4 +1,5 @@
 // The facts of a KD payload, in one walk: what numbers 4 to 7 of document 01 ask of its key bags, and where the Member Key Bag stands.
+// Internal: crates of this repository alone call it.
 pub mod wrapped;
 
 ghost use mathlib.Core.Path.{_≡_};
@@ -153,7 +154,7 @@ fn first_member(first: usize, here: Stretch, known: Stretch) -> Stretch
     known
 }
 
-// The facts of a KD body. Internal.
+// The facts of a KD body.
 pub fn kd_facts(kd: &[u8]) -> KdFacts
     requires { ⌜ isWhole (bags 0 (now kd)) ≡ true ⌝ }
     ensures { λ r. ⌜ r ≡ kdFactsOf limits (now (kd .entry)) ⌝ }

@@ -38,7 +38,7 @@ fn with_key(f: KeyFacts, v: &[u8]) -> KeyFacts
     }
 }
 
-// The facts of the keys of a bag's attributes. Internal.
+// The facts of the keys of a bag's attributes.
 pub fn keys_of(m: Meaning, place: Place, a: &[u8]) -> KeyFacts
     requires { ⌜ (carriesKey m ≡ true) × (isWhole (attributes place 0 (now a)) ≡ true) ⌝ }
     ensures { λ r. ⌜ (r ≡ keyFactsOf (valuesIn m place (now (a .entry)))) × (r .keys ≤ length (now (a .entry))) ⌝ }

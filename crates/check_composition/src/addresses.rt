@@ -42,7 +42,7 @@ fn is_multicast(kind: usize, first: usize) -> bool
     first == IPV6_GROUP
 }
 
-// Whether a selector is one group address and one port. Internal.
+// Whether a selector is one group address and one port.
 pub fn is_group_address(o: &[u8]) -> bool
     requires { ⌜ ((x : Selector) × IsSelector (now o) x) ⌝ }
     ensures { λ r. ⌜ ((x : Selector) → IsSelector (now (o .entry)) x → r ≡ oneGroupAddress x) ⌝ }

@@ -1,4 +1,5 @@
 // The facts of the policies of a GSA payload that numbers 4 to 7 of document 01 and the member afterwards go by, in one walk.
+// Internal: crates of this repository alone call it.
 pub mod addresses;
 pub mod numbers;
 
@@ -174,7 +175,7 @@ fn merge(a: PolicyFacts, b: PolicyFacts) -> PolicyFacts
     }
 }
 
-// The facts of the policies of a GSA body, where the exchange has the controller's authentication or not. Internal.
+// The facts of the policies of a GSA body, where the exchange has the controller's authentication or not.
 pub fn policy_facts(authentication: bool, gsa: &[u8]) -> PolicyFacts
     requires { ⌜ isWhole (policies 0 (now gsa)) ≡ true ⌝ }
     ensures { λ r. ⌜ r ≡ policyFactsOf authentication (policiesIn (now (gsa .entry))) ⌝ }

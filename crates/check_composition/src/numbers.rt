@@ -20,7 +20,7 @@ pub struct Numbers {
     pub greatest: u32,
 }
 
-// The greater of two. Internal.
+// The greater of two.
 pub fn greater_u16(a: u16, b: u16) -> u16
     ensures { λ r. ⌜ r ≡ greater a b ⌝ }
 {
@@ -39,7 +39,7 @@ pub fn greater_u32(a: u32, b: u32) -> u32
     a
 }
 
-// The number where it is so, else 0. Internal.
+// The number where it is so, else 0.
 pub fn if_so(b: bool, n: u32) -> u32
     ensures { λ r. ⌜ r ≡ cond b n 0 ⌝ }
 {
@@ -76,7 +76,7 @@ fn with_number(m: Meaning, n: Numbers, v: &[u8]) -> Numbers
     Numbers { count, greatest }
 }
 
-// The numbers that the attributes with a meaning give. Internal.
+// The numbers that the attributes with a meaning give.
 pub fn numbers_of(m: Meaning, place: Place, a: &[u8]) -> Numbers
     requires { ⌜ (isNumber m ≡ true) × (isWhole (attributes place 0 (now a)) ≡ true) ⌝ }
     ensures { λ r. ⌜ (r ≡ numbersBy m (valuesIn m place (now (a .entry)))) × (r .greatest ≤ most m) ⌝ }

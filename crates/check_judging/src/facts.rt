@@ -20,7 +20,7 @@ pub struct Facts {
     pub member_bag: Stretch,
 }
 
-// The facts of a frame of an exchange that has the controller's authentication or not. Internal.
+// The facts of a frame of an exchange that has the controller's authentication or not.
 pub fn facts_of(authentication: bool, s: &[u8]) -> Facts
     requires { ⌜ isWhole (frame (now s)) ≡ true ⌝ }
     ensures { λ r. ⌜ r ≡ frameFactsOf authentication (now (s .entry)) ⌝ }

@@ -26,7 +26,7 @@ pub struct Four {
     pub two_lifetimes: bool,
 }
 
-// Which clauses apply, in an exchange with this row, to a frame with these facts. Internal.
+// Which clauses apply, in an exchange with this row, to a frame with these facts.
 pub fn clauses_4(row: Exchange, x: Facts) -> Four
     ensures { λ r. ⌜ number4In r ≡ number4By row x ⌝ }
 {
@@ -68,7 +68,7 @@ pub fn clauses_4(row: Exchange, x: Facts) -> Four
     }
 }
 
-// Whether number 4 applies, in an exchange with this row, to a frame with these facts. Internal.
+// Whether number 4 applies, in an exchange with this row, to a frame with these facts.
 pub fn number_4(row: Exchange, x: Facts) -> bool
     ensures { λ r. ⌜ r ≡ one (number4By row x) ⌝ }
 {

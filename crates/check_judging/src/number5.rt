@@ -16,7 +16,7 @@ pub struct Five {
     pub key: bool,
 }
 
-// Which clauses apply, in an exchange with this row and with a lent key of so many octets, to a frame with these facts. Internal.
+// Which clauses apply, in an exchange with this row and with a lent key of so many octets, to a frame with these facts.
 pub fn clauses_5(row: Exchange, lent: usize, x: Facts) -> Five
     ensures { λ r. ⌜ number5In r ≡ number5By row lent x ⌝ }
 {
@@ -44,7 +44,7 @@ pub fn clauses_5(row: Exchange, lent: usize, x: Facts) -> Five
     }
 }
 
-// Whether number 5 applies, in an exchange with this row and with a lent key of so many octets, to a frame with these facts. Internal.
+// Whether number 5 applies, in an exchange with this row and with a lent key of so many octets, to a frame with these facts.
 pub fn number_5(row: Exchange, lent: usize, x: Facts) -> bool
     ensures { λ r. ⌜ r ≡ one (number5By row lent x) ⌝ }
 {

@@ -22,7 +22,7 @@ pub struct Keys {
     pub itself: bool,
 }
 
-// Which clauses on the keys apply, in an exchange with this row, to bags with these facts. Internal.
+// Which clauses on the keys apply, in an exchange with this row, to bags with these facts.
 pub fn clauses_6(row: Exchange, k: BagFacts) -> Keys
     ensures { λ r. ⌜ keysIn r ≡ keysBy row k ⌝ }
 {
@@ -45,7 +45,7 @@ pub fn clauses_6(row: Exchange, k: BagFacts) -> Keys
     }
 }
 
-// Whether one of number 6's clauses on the keys of the bags applies, in an exchange with this row. Internal.
+// Whether one of number 6's clauses on the keys of the bags applies, in an exchange with this row.
 pub fn any_unfit_key(row: Exchange, k: BagFacts) -> bool
     ensures { λ r. ⌜ r ≡ one (keysBy row k) ⌝ }
 {
@@ -54,7 +54,7 @@ pub fn any_unfit_key(row: Exchange, k: BagFacts) -> bool
 }
 
 // Whether number 6 applies, in an exchange with this row and over this table, to a frame with these facts and these bodies of GSA and KD.
-// The names, which take a walk for each, are compared where no fact decides. Internal.
+// The names, which take a walk for each, are compared where no fact decides.
 pub fn number_6(row: Exchange, x: Facts, gsa: &[u8], kd: &[u8], t: Table, tick: u32) -> bool
     requires { ⌜ ((l : List Name) × Names (now gsa) l) × ((m : List Name) × Names (now kd) m) × (t .count ≤ limits .sas) ⌝ }
     ensures { λ r. ⌜ ((l m : List Name) → Names (now (gsa .entry)) l → Names (now (kd .entry)) m →

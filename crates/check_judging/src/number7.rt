@@ -31,7 +31,7 @@ pub struct Seven {
     pub sas: bool,
 }
 
-// Which clauses apply to a frame with these facts, where so many SAs stand. Internal.
+// Which clauses apply to a frame with these facts, where so many SAs stand.
 pub fn clauses_7(x: Facts, standing: usize) -> Seven
     ensures { λ r. ⌜ number7In r ≡ number7By limits x standing ⌝ }
 {
@@ -61,7 +61,7 @@ pub fn clauses_7(x: Facts, standing: usize) -> Seven
     }
 }
 
-// Whether number 7 applies to a frame with these facts, where so many SAs stand. Internal.
+// Whether number 7 applies to a frame with these facts, where so many SAs stand.
 pub fn number_7(x: Facts, standing: usize) -> bool
     ensures { λ r. ⌜ r ≡ one (number7By limits x standing) ⌝ }
 {

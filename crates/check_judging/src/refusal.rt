@@ -78,7 +78,7 @@ fn on_frame(state: State, row: Exchange, s: &[u8], lent: &[u8], tick: u32) -> Ve
     Verdict::Refused(n)
 }
 
-// What numbers 2 to 7 make of a frame. Internal.
+// What numbers 2 to 7 make of a frame.
 pub fn refusal(state: State, s: &[u8], lent: &[u8], tick: u32) -> Verdict
     requires { ⌜ isWhole (frame (now s)) ≡ true ⌝ }
     ensures { λ r. ⌜ ((f : Frame) → frame (now (s .entry)) ≡ whole f [] →

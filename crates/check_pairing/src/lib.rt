@@ -1,4 +1,5 @@
 // Which policies, key bags and SAs of the table have one protocol and SPI, over the two bodies of a frame.
+// Internal: crates of this repository alone call it.
 pub mod names;
 pub mod stretch;
 
@@ -26,7 +27,7 @@ fn is_announced(s: Sa, gsa: &[u8], tick: u32) -> bool
     0 < names::count_names(octets::wide(p), &x[0..n], gsa)
 }
 
-// Whether some SA of the table is not due and has the name of a policy of the GSA body. Internal.
+// Whether some SA of the table is not due and has the name of a policy of the GSA body.
 pub fn any_in_table(gsa: &[u8], t: Table, tick: u32) -> bool
     requires { ⌜ ((l : List Name) × Names (now gsa) l) × (t .count ≤ limits .sas) ⌝ }
     ensures { λ r. ⌜ ((l : List Name) → Names (now (gsa .entry)) l → r ≡ any (isAnnounced tick l) (sasOf t)) ⌝ }

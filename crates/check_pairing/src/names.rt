@@ -6,7 +6,7 @@ ghost use Rattle.state_keys.specs.Lists.{any, count};
 ghost use Rattle.check_pairing.specs.inner.Names.{Name, Names, nameOf, isNamed, isUnpaired};
 use ikev2_numbers::POLICY_HEAD;
 
-// Whether a policy or key bag with this first octet and SPI x has a name, and it is this protocol and SPI. Internal.
+// Whether a policy or key bag with this first octet and SPI x has a name, and it is this protocol and SPI.
 pub fn is_named(protocol: usize, spi: &[u8], first: usize, x: &[u8]) -> bool
     ensures { λ r. ⌜ r ≡ any (isNamed protocol (now (spi .entry))) (nameOf first (now (x .entry))) ⌝ }
 {
@@ -19,7 +19,7 @@ pub fn is_named(protocol: usize, spi: &[u8], first: usize, x: &[u8]) -> bool
     false
 }
 
-// How many of the names are this protocol and SPI. Internal.
+// How many of the names are this protocol and SPI.
 pub fn count_names(protocol: usize, spi: &[u8], s: &[u8]) -> usize
     requires { ⌜ ((l : List Name) × Names (now s) l) ⌝ }
     ensures { λ r. ⌜ ((l : List Name) → Names (now (s .entry)) l → r ≡ count (isNamed protocol (now (spi .entry))) l) ⌝ }
@@ -50,7 +50,7 @@ fn is_unpaired(first: usize, x: &[u8], t: &[u8]) -> bool
     count_names(first, x, t) != 1
 }
 
-// Whether some name of the first body stands in the second never or more than once. Internal.
+// Whether some name of the first body stands in the second never or more than once.
 pub fn any_unpaired(s: &[u8], t: &[u8]) -> bool
     requires { ⌜ ((l : List Name) × Names (now s) l) × ((m : List Name) × Names (now t) m) ⌝ }
     ensures { λ r. ⌜

@@ -8,7 +8,7 @@ use crate::names::is_named;
 use ikev2_numbers::POLICY_HEAD;
 use wire_readers::Stretch;
 
-// Where the attributes of the first Group Key Bag of a KD body with this protocol and SPI stand in the body. Internal.
+// Where the attributes of the first Group Key Bag of a KD body with this protocol and SPI stand in the body.
 pub fn bag_stretch(kd: &[u8], protocol: usize, spi: &[u8]) -> Stretch
     requires { ⌜ isWhole (bags 0 (now kd)) ≡ true ⌝ }
     ensures { λ r. ⌜ r ≡ bagStretch protocol (now (spi .entry)) (now (kd .entry)) ⌝ }

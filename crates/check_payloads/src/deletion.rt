@@ -18,7 +18,7 @@ pub struct DeleteParts {
     pub count: usize,
 }
 
-// The body of a Delete payload. Internal.
+// The body of a Delete payload.
 pub fn delete_parts(o: &[u8]) -> DeleteParts
     requires { ⌜ deleteFits (now o) ≡ true ⌝ }
     ensures { λ r. ⌜ DeleteIs (now (o .entry)) r ⌝ }
@@ -30,7 +30,7 @@ pub fn delete_parts(o: &[u8]) -> DeleteParts
     }
 }
 
-// An SPI of a Delete payload's body, where it stands. Internal.
+// An SPI of a Delete payload's body, where it stands.
 pub fn spi_at(o: &[u8], i: usize) -> &[u8]
     requires { ⌜ (deleteFits (now o) ≡ true) × (i < length (deleteOf (now o) .spis)) ⌝ }
     ensures { λ r. ⌜ now r ≡ getD (deleteOf (now (o .entry)) .spis) i [] ⌝ }
@@ -69,7 +69,7 @@ fn with_one(d: Deletes, o: &[u8]) -> Deletes
     }
 }
 
-// The same, with this payload more where it is a Delete payload. Internal.
+// The same, with this payload more where it is a Delete payload.
 pub fn with_payload(d: Deletes, kind: usize, o: &[u8]) -> Deletes
     requires { ⌜ (kind ≡ 42 → deleteFits (now o) ≡ true) × (d .spis < 4294967296) ⌝ }
     ensures { λ r. ⌜ (r ≡ deletesWith d kind (now (o .entry))) × (r .spis < d .spis + 65536) ⌝ }

@@ -11,7 +11,7 @@ use ikev2_numbers::KD;
 use ikev2_numbers::NOTIFY;
 use wire_readers::Stretch;
 
-// Whether payloads of a type are known: IDr, CERT, AUTH, N, D, GSA, KD. Internal.
+// Whether payloads of a type are known: IDr, CERT, AUTH, N, D, GSA, KD.
 pub fn is_known(kind: usize) -> bool
     ensures { λ r. ⌜ r ≡ isKnown kind ⌝ }
 {
@@ -27,7 +27,7 @@ pub fn is_known(kind: usize) -> bool
     }
 }
 
-// Where the first payload of a type stands: at this place, where it is one and there was none before it. Internal.
+// Where the first payload of a type stands: at this place, where it is one and there was none before it.
 pub fn first(hit: bool, before: usize, this: Stretch, known: Stretch) -> Stretch
     ensures { λ r. ⌜ r ≡ firstWith hit before this known ⌝ }
 {

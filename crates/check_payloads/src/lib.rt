@@ -1,4 +1,5 @@
 // The facts of the payloads of a frame whose layout is whole, in one walk.
+// Internal: crates of this repository alone call it.
 pub mod deletion;
 pub mod kinds;
 
@@ -91,7 +92,7 @@ fn with_payload(
     }
 }
 
-// The facts of the payloads of a frame. Internal.
+// The facts of the payloads of a frame.
 pub fn payload_facts(s: &[u8]) -> PayloadFacts
     requires { ⌜ isWhole (frame (now s)) ≡ true ⌝ }
     ensures { λ r. ⌜ r ≡ payloadFactsOf (now (s .entry)) ⌝ }

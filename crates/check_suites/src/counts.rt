@@ -59,7 +59,7 @@ fn is_one_of(kind: usize, id: usize, w: EitherId) -> bool
     false
 }
 
-// What one transform comes to. Internal.
+// What one transform comes to.
 pub fn one_transform(kind: usize, id: usize, a: &[u8]) -> SuiteCounts
     requires { ⌜ (id < 65536) × (isWhole (attributes (inTransform kind) 0 (now a)) ≡ true) × (length (now a) < 4294967296) ⌝ }
     ensures { λ r. ⌜ r ≡ suiteOf (transformIn kind id (now (a .entry)) ∷ []) ⌝ }
@@ -92,7 +92,7 @@ pub fn one_transform(kind: usize, id: usize, a: &[u8]) -> SuiteCounts
 }
 
 impl SuiteCounts {
-    // What no transform comes to. Internal.
+    // What no transform comes to.
     pub fn none() -> SuiteCounts
         ensures { λ r. ⌜ r ≡ suiteOf [] ⌝ }
     {
@@ -106,7 +106,7 @@ impl SuiteCounts {
         }
     }
 
-    // Both together, the second that of one transform. Internal.
+    // Both together, the second that of one transform.
     pub fn plus(self, x: SuiteCounts) -> SuiteCounts
         requires { ⌜ ((n : ℕ) × (n < 18446744073709551615) × SuiteAtMost n self × SuiteAtMost 1 x) ⌝ }
         ensures { λ r. ⌜ r ≡ plus self x ⌝ }
@@ -122,7 +122,7 @@ impl SuiteCounts {
     }
 
     // Whether a policy of a protocol has these transforms: ESP encryption and sequence numbers, a Rekey policy encryption, key wrap and, if
-    // the exchange asks for it, authentication; each once and no other. Internal.
+    // the exchange asks for it, authentication; each once and no other.
     pub fn is_fit(self, authentication: bool, protocol: usize) -> bool
         ensures { λ r. ⌜ r ≡ fitBy authentication protocol self ⌝ }
     {

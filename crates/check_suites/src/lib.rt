@@ -1,4 +1,5 @@
 // The transforms of the Group SA policies: whether they are those that document 01 asks for, and the keying octets that they need.
+// Internal: crates of this repository alone call it.
 pub mod counts;
 pub mod rows;
 
@@ -15,7 +16,7 @@ use counts::Needs;
 use counts::SuiteCounts;
 use ikev2_numbers::TRANSFORM_HEAD;
 
-// What the transforms at the start of the octets come to. Internal.
+// What the transforms at the start of the octets come to.
 pub fn suite(t: &[u8]) -> SuiteCounts
     requires { ⌜ ((l : List Transform) × (tail : List ℕ) × Transforms (now t) l tail) ⌝ }
     ensures { λ r. ⌜ ((l : List Transform) (tail : List ℕ) → Transforms (now (t .entry)) l tail → r ≡ suiteOf l) ⌝ }
@@ -34,7 +35,7 @@ pub fn suite(t: &[u8]) -> SuiteCounts
     s
 }
 
-// The keying octets needed by the transforms at the start of the octets. Internal.
+// The keying octets needed by the transforms at the start of the octets.
 fn transforms_need(t: &[u8]) -> Needs
     requires { ⌜ (length (now t) < 4294967296) × ((l : List Transform) × (tail : List ℕ) × Transforms (now t) l tail) ⌝ }
     ensures { λ r. ⌜ ((l : List Transform) (tail : List ℕ) → Transforms (now (t .entry)) l tail → r ≡ needsOf l) ⌝ }
@@ -58,7 +59,7 @@ fn transforms_need(t: &[u8]) -> Needs
     }
 }
 
-// The keying octets needed by an SA whose policy has these octets after its SPI. Internal.
+// The keying octets needed by an SA whose policy has these octets after its SPI.
 pub fn needs(x: &[u8]) -> Needs
     requires { ⌜ (length (now x) < 4294967296) × ((p : Place) × (b : SaBody) × IsSaBody p (now x) b) ⌝ }
     ensures { λ r. ⌜ ((p : Place) (b : SaBody) → IsSaBody p (now (x .entry)) b → r ≡ needsOf (b .suite .transforms)) ⌝ }

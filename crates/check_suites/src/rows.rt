@@ -17,7 +17,7 @@ use wire_attributes::tables::Meaning;
 use wire_attributes::tables::Place;
 use wire_readers::values::ValueFound;
 
-// The octets that a row of the algorithm table asks for; 0 for no row. Internal.
+// The octets that a row of the algorithm table asks for; 0 for no row.
 fn needed(kind: usize, id: usize, bits: usize) -> usize
     requires { ⌜ (kind < 256) × (id < 65536) × (bits < 65536) ⌝ }
     ensures { λ r. ⌜ (r ≡ octetsNeeded (neededBy kind id bits)) × (r ≤ 36) ⌝ }
@@ -28,7 +28,7 @@ fn needed(kind: usize, id: usize, bits: usize) -> usize
     }
 }
 
-// The octets that the Key Lengths among some attributes ask for, all together. Internal.
+// The octets that the Key Lengths among some attributes ask for, all together.
 fn key_length_octets(place: Place, id: usize, a: &[u8]) -> usize
     requires { ⌜ (id < 65536) × (isWhole (attributes place 0 (now a)) ≡ true) × (length (now a) < 4294967296) ⌝ }
     ensures { λ r. ⌜ (r ≡ keyLengthNeeds id place (now (a .entry))) × (r ≤ 36 * length (now (a .entry))) ⌝ }
@@ -49,7 +49,7 @@ fn key_length_octets(place: Place, id: usize, a: &[u8]) -> usize
     }
 }
 
-// The octets that a transform needs for encryption: of type 1, by its Key Lengths. Internal.
+// The octets that a transform needs for encryption: of type 1, by its Key Lengths.
 pub fn encryption_octets(kind: usize, id: usize, a: &[u8]) -> usize
     requires { ⌜ (id < 65536) × (isWhole (attributes (inTransform kind) 0 (now a)) ≡ true) × (length (now a) < 4294967296) ⌝ }
     ensures { λ r. ⌜ (r ≡ encryptionNeeds (transformIn kind id (now (a .entry)))) × (r ≤ 36 * length (now (a .entry))) ⌝ }
@@ -60,7 +60,7 @@ pub fn encryption_octets(kind: usize, id: usize, a: &[u8]) -> usize
     0
 }
 
-// The octets that a transform needs for key wrap: of type 13. Internal.
+// The octets that a transform needs for key wrap: of type 13.
 pub fn wrapping_octets(kind: usize, id: usize) -> usize
     requires { ⌜ id < 65536 ⌝ }
     ensures { λ r. ⌜ ((a : List ℕ) → r ≡ keyWrapNeeds (transformIn kind id a)) × (r ≤ 36) ⌝ }

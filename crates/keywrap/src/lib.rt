@@ -1,4 +1,5 @@
 // RFC 5649: wrapping and opening of one key into lent room, and opening over a schedule that was expanded once.
+// For customers: `wrap` and `open`. All else is internal.
 mod load;
 mod unwrap_steps;
 mod verify;
@@ -99,7 +100,7 @@ fn unwrap_registers(
     s
 }
 
-// Opens over a schedule that was expanded once, into blank room. Internal.
+// Opens over a schedule that was expanded once, into blank room.
 pub fn open_under(
     tables: &[u32; INVERSE_TABLE_WORDS],
     schedule: InverseSchedule,

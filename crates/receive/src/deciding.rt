@@ -52,7 +52,7 @@ fn by_bodies(
     conclude(state, frame, x, tick, keyed, held)
 }
 
-// The outcome of a frame with these facts and lent octets. Internal.
+// The outcome of a frame with these facts and lent octets.
 pub fn decide(state: State, frame: &[u8], x: Facts, lent: &[u8], tick: u32) -> Next
     requires { ⌜ ((f : Frame) × Passed state tick (now lent) (now frame) x f) ⌝ }
     ensures { λ r. ⌜ ((f : Frame) → Passed state tick (now (lent .entry)) (now (frame .entry)) x f →

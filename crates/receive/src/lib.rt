@@ -1,4 +1,5 @@
 // A frame that numbers 2 to 7 let pass: number 8, number 9, or the state after acceptance.
+// Internal: crates of this repository alone call it.
 pub mod deciding;
 pub mod roots;
 pub mod said;
@@ -31,7 +32,7 @@ pub struct Next {
     pub state: State,
 }
 
-// What the exchange of a frame makes different. Internal.
+// What the exchange of a frame makes different.
 pub fn row_of(s: &[u8]) -> Exchange
     requires { ⌜ isWhole (frame (now s)) ≡ true ⌝ }
     ensures { λ r. ⌜ ((f : Frame) → frame (now (s .entry)) ≡ whole f [] → rowOf f ≡ r) ⌝ }
@@ -40,7 +41,6 @@ pub fn row_of(s: &[u8]) -> Exchange
 }
 
 // The outcome of a frame with these facts, once its keys are opened: this is known of its SAs, and this is the held list afterwards.
-// Internal.
 pub fn conclude(state: State, frame: &[u8], x: Facts, tick: u32, keyed: Keyed, held: Held) -> Next
     requires { ⌜ ((f : Frame) × (lent : List ℕ) × FrameOpened state tick lent (now frame) x keyed held f) ⌝ }
     ensures { λ r. ⌜ ((f : Frame) (lent : List ℕ) → FrameOpened state tick lent (now (frame .entry)) x keyed held f →

@@ -72,7 +72,7 @@ fn of_rekey_sa(state: State, tick: u32) -> StartingKeys
 }
 
 // Those of a frame whose exchange has this row and whose KD has this body, in which the WRAP_KEYs stand there. It goes by whether the
-// exchange sets the held list, then by whose key KWK ID 0 names. Internal.
+// exchange sets the held list, then by whose key KWK ID 0 names.
 pub fn roots(
     state: State,
     row: Exchange,

@@ -21,7 +21,7 @@ fn four_less(n: usize) -> usize
     n - PAYLOAD_HEADER
 }
 
-// What a frame with this row of its exchange and these facts says. Its Message ID stands in the header, at 20. Internal.
+// What a frame with this row of its exchange and these facts says. Its Message ID stands in the header, at 20.
 pub fn said(row: Exchange, s: &[u8], x: Facts) -> Said
     requires { ⌜ 28 ≤ length (now s) ⌝ }
     ensures { λ r. ⌜ r ≡ saidBy row (be32 (now (s .entry)) 20) x ⌝ }

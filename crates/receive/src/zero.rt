@@ -10,7 +10,7 @@ ghost use Rattle.state_sa.specs.Entry.{liveRekey};
 ghost use Rattle.state_table.specs.Table.{sasOf, tableFormed};
 ghost use Rattle.receive.specs.inner.Passing.{IsDefaultKey};
 
-// The default key of the live Rekey SA of a table that has one. Internal.
+// The default key of the live Rekey SA of a table that has one.
 pub fn default_key(t: Table) -> WrappingKey
     requires { ⌜ (tableFormed limits t ≡ true) × (any liveRekey (sasOf t) ≡ true) ⌝ }
     ensures { λ r. ⌜ IsDefaultKey t r ⌝ }

@@ -34,7 +34,7 @@ fn blank() -> HeldKey
 }
 
 impl HeldKey {
-    // Whether its Key ID is not 0 and its octet count that of a wrapping key. Internal.
+    // Whether its Key ID is not 0 and its octet count that of a wrapping key.
     pub fn is_formed(self) -> bool
         ensures { λ r. ⌜ r ≡ keyFormed self ⌝ }
     {
@@ -57,7 +57,7 @@ fn goes_ahead(placed: bool, a: HeldKey, k: HeldKey) -> bool
 }
 
 impl Held {
-    // A list with no key. Internal.
+    // A list with no key.
     pub fn new() -> Held
         ensures { λ r. ⌜ r ≡ heldOf limits [] ⌝ }
     {
@@ -104,7 +104,7 @@ impl Held {
         true
     }
 
-    // Whether the list is as a member's must be. Internal.
+    // Whether the list is as a member's must be.
     pub fn is_formed(self) -> bool
         ensures { λ r. ⌜ r ≡ heldFormed limits self ⌝ }
     {
@@ -117,7 +117,7 @@ impl Held {
         false
     }
 
-    // The key with this Key ID. Internal.
+    // The key with this Key ID.
     pub fn find(self, id: u32) -> MadeWrapping
         ensures { λ r. ⌜ r ≡ heldKey limits id self ⌝ }
     {
@@ -147,7 +147,7 @@ impl Held {
         }
     }
 
-    // The list with one key more, at its place; the same list where it is full. Internal.
+    // The list with one key more, at its place; the same list where it is full.
     pub fn enter(self, a: HeldKey) -> Held
         ensures { λ r. ⌜ r ≡ enteredKey limits a self ⌝ }
     {

@@ -1,4 +1,5 @@
 // The state of a member: its table, its held list and the least Message ID that it takes.
+// Internal: crates of this repository alone call it.
 pub mod held;
 pub mod least;
 
@@ -17,7 +18,7 @@ pub struct State {
 }
 
 impl State {
-    // The state of a new member. Internal.
+    // The state of a new member.
     pub fn new() -> State
         ensures { λ r. ⌜ r ≡ newState limits ⌝ }
     {
@@ -30,7 +31,7 @@ impl State {
         }
     }
 
-    // Whether the state is as a member's must be. Internal.
+    // Whether the state is as a member's must be.
     pub fn is_formed(self) -> bool
         ensures { λ r. ⌜ r ≡ stateFormed limits self ⌝ }
     {
@@ -42,7 +43,7 @@ impl State {
         false
     }
 
-    // The state without the SAs that are due. Internal.
+    // The state without the SAs that are due.
     pub fn sweep(self, tick: u32) -> State
         ensures { λ r. ⌜ r ≡ sweptState limits tick self ⌝ }
     {
@@ -56,7 +57,7 @@ impl State {
         self
     }
 
-    // The SA with this protocol and SPI. Internal.
+    // The SA with this protocol and SPI.
     pub fn find(self, protocol: u8, spi: &[u8]) -> SaFound
         ensures { λ r. ⌜ r ≡ askedSa limits protocol (now (spi .entry)) self ⌝ }
     {

@@ -75,7 +75,7 @@ fn is_row(r: AlgorithmRow, kind: u8, id: u16, bits: u16) -> bool
     r.bits == bits
 }
 
-// The octets that a transform of this type, ID and Key Length needs. The Key Length counts in type 1 alone. Internal.
+// The octets that a transform of this type, ID and Key Length needs. The Key Length counts in type 1 alone.
 pub fn octets_needed(kind: u8, id: u16, bits: u16) -> Needed
     ensures { λ r. ⌜ r ≡ neededBy kind id bits ⌝ }
 {

@@ -61,7 +61,7 @@ impl WrappingKey {
 
     pub const KW_256: usize = 32;
 
-    // Whether a wrapping key can have n octets. Internal.
+    // Whether a wrapping key can have n octets.
     pub fn is_size(n: usize) -> bool
         ensures { λ r. ⌜ r ≡ sizeOf 13 n ⌝ }
     {
@@ -104,7 +104,7 @@ impl EncryptionKey {
 
     pub const GCM_256: usize = 36;
 
-    // Whether AES-GCM-16 can need n octets. Internal.
+    // Whether AES-GCM-16 can need n octets.
     pub fn is_size(n: usize) -> bool
         ensures { λ r. ⌜ r ≡ sizeOf 1 n ⌝ }
     {
@@ -147,7 +147,7 @@ impl EspKey {
 
     pub const GCM_256: usize = 36;
 
-    // Whether an ESP SA can have n keying octets. Internal.
+    // Whether an ESP SA can have n keying octets.
     pub fn is_size(n: usize) -> bool
         ensures { λ r. ⌜ r ≡ sizeOf 1 n ⌝ }
     {
@@ -186,7 +186,7 @@ impl RekeyKey {
     // The most octets that a Rekey SA's two parts have together.
     pub const MOST: usize = EncryptionKey::GCM_256 + WrappingKey::KW_256;
 
-    // Whether a Rekey SA's parts can have these octet counts. Internal.
+    // Whether a Rekey SA's parts can have these octet counts.
     pub fn are_sizes(encryption: usize, wrapping: usize) -> bool
         ensures { λ r. ⌜ r ≡ rekeySizes encryption wrapping ⌝ }
     {

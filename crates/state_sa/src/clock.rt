@@ -2,7 +2,7 @@
 ghost use mathlib.Core.Path.{_≡_};
 ghost use Rattle.state_sa.specs.Clock.{elapsedAtLeast};
 
-// Whether this many seconds have passed from one tick to another. Internal.
+// Whether this many seconds have passed from one tick to another.
 pub fn elapsed_at_least(now: u32, start: u32, seconds: u32) -> bool
     ensures { λ r. ⌜ r ≡ elapsedAtLeast now start seconds ⌝ }
 {

@@ -46,7 +46,7 @@ pub struct Sa {
     pub lifetime: Lifetime,
 }
 
-// The octets of an SPI of a protocol. Internal.
+// The octets of an SPI of a protocol.
 pub fn spi_size(protocol: u8) -> usize
     ensures { λ r. ⌜ (r ≡ saSpiSize protocol) × (r ≤ 16) ⌝ }
 {
@@ -85,7 +85,7 @@ impl Sa {
         }
     }
 
-    // An unused place of the table. Internal.
+    // An unused place of the table.
     pub fn blank() -> Sa
         ensures { λ r. ⌜ r ≡ blankSa ⌝ }
     {
@@ -101,7 +101,7 @@ impl Sa {
         )
     }
 
-    // A live ESP SA. Internal.
+    // A live ESP SA.
     pub fn esp(spi: &[u8], key: EspKey, lifetime: Lifetime) -> Sa
         requires { ⌜ (length (now spi) ≡ 4) × (key .count ≤ 36) ⌝ }
         ensures { λ r. ⌜ r ≡ espSa (now (spi .entry)) key lifetime ⌝ }
@@ -115,7 +115,7 @@ impl Sa {
         Sa::built(ESP, name, octets, n, 0, 0, Condition::Live, lifetime)
     }
 
-    // A live Rekey SA. Internal.
+    // A live Rekey SA.
     pub fn rekey(spi: &[u8], key: RekeyKey, lifetime: Lifetime) -> Sa
         requires { ⌜ (length (now spi) ≡ 16) × (rekeySizes (key .encryption) (key .wrapping) ≡ true) ⌝ }
         ensures { λ r. ⌜ r ≡ rekeySa (now (spi .entry)) key lifetime ⌝ }
@@ -128,7 +128,7 @@ impl Sa {
         Sa::built(REKEY, name, o, e + w, e, w, Condition::Live, lifetime)
     }
 
-    // Whether it is due at a tick. Internal.
+    // Whether it is due at a tick.
     pub fn due(self, now: u32) -> bool
         ensures { λ r. ⌜ r ≡ due now self ⌝ }
     {
@@ -168,7 +168,7 @@ impl Sa {
         }
     }
 
-    // It retires at a tick with a delay, and keeps its lifetime. Internal.
+    // It retires at a tick with a delay, and keeps its lifetime.
     pub fn retire(self, now: u32, delay: u16) -> Sa
         ensures { λ r. ⌜ r ≡ retired now delay self ⌝ }
     {
@@ -194,7 +194,7 @@ impl Sa {
         }
     }
 
-    // Whether it stands before another in the table. Internal.
+    // Whether it stands before another in the table.
     pub fn before(self, other: Sa) -> bool
         ensures { λ r. ⌜ r ≡ saBefore self other ⌝ }
     {
@@ -211,7 +211,7 @@ impl Sa {
         octets::compare::less(&x[0..n], &y[0..m])
     }
 
-    // Whether it has this protocol and SPI. Internal.
+    // Whether it has this protocol and SPI.
     pub fn is_named(self, protocol: u8, spi: &[u8]) -> bool
         ensures { λ r. ⌜ r ≡ named protocol (now (spi .entry)) self ⌝ }
     {
@@ -223,7 +223,7 @@ impl Sa {
         octets::compare::same(&x[0..n], spi)
     }
 
-    // Whether it is as an SA of the table must be. Internal.
+    // Whether it is as an SA of the table must be.
     pub fn is_formed(self) -> bool
         ensures { λ r. ⌜ r ≡ saFormed self ⌝ }
     {
@@ -262,7 +262,7 @@ impl Sa {
         false
     }
 
-    // Whether it is a live Rekey SA. Internal.
+    // Whether it is a live Rekey SA.
     pub fn is_live_rekey(self) -> bool
         ensures { λ r. ⌜ r ≡ liveRekey self ⌝ }
     {

@@ -9,7 +9,7 @@ use crate::Table;
 use state_keys::limits::SAS;
 use state_sa::entry::Sa;
 
-// Whether s comes after a in the table that a enters: a has its place already, or stands before s. Internal.
+// Whether s comes after a in the table that a enters: a has its place already, or stands before s.
 pub fn goes_ahead(placed: bool, a: Sa, s: Sa) -> bool
     ensures { λ r. ⌜ r ≡ (placed || saBefore a s) ⌝ }
 {
@@ -20,7 +20,7 @@ pub fn goes_ahead(placed: bool, a: Sa, s: Sa) -> bool
 }
 
 impl Table {
-    // The table without the SAs that are due. Internal.
+    // The table without the SAs that are due.
     pub fn sweep(self, tick: u32) -> Table
         ensures { λ r. ⌜ r ≡ swept limits tick self ⌝ }
     {
@@ -42,7 +42,7 @@ impl Table {
         Table { sas: out, count: k }
     }
 
-    // How many SAs are not due. Internal.
+    // How many SAs are not due.
     pub fn standing(self, tick: u32) -> usize
         ensures { λ r. ⌜ r ≡ standingCount limits tick self ⌝ }
     {
@@ -62,7 +62,7 @@ impl Table {
         k
     }
 
-    // Whether every SA, if any, is due. Internal.
+    // Whether every SA, if any, is due.
     pub fn is_empty(self, tick: u32) -> bool
         ensures { λ r. ⌜ r ≡ emptyAt limits tick self ⌝ }
     {

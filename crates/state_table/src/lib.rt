@@ -1,4 +1,5 @@
 // The table of SAs. What a function here makes has blank places past the count; what comes in may hold anything there.
+// Internal: crates of this repository alone call it.
 pub mod change;
 pub mod test;
 
@@ -21,7 +22,7 @@ pub struct SaFound {
 }
 
 impl Table {
-    // A table with no SA. Internal.
+    // A table with no SA.
     pub fn new() -> Table
         ensures { λ r. ⌜ r ≡ tableOf limits [] ⌝ }
     {

@@ -7,7 +7,7 @@ use crate::Table;
 use state_keys::limits::SAS;
 use state_sa::entry::Sa;
 
-// No SA. Internal.
+// No SA.
 pub fn nothing() -> SaFound
     ensures { λ r. ⌜ r ≡ none ⌝ }
 {
@@ -17,7 +17,7 @@ pub fn nothing() -> SaFound
 
 impl Table {
     // Whether the table is as a member's must be: each SA is of a protocol and of octet counts that a table may hold, each stands before
-    // the next, and at most one is a live Rekey SA. Internal.
+    // the next, and at most one is a live Rekey SA.
     pub fn is_formed(self) -> bool
         ensures { λ r. ⌜ r ≡ tableFormed limits self ⌝ }
     {
@@ -47,7 +47,7 @@ impl Table {
         k <= 1
     }
 
-    // The SA with this protocol and SPI. Internal.
+    // The SA with this protocol and SPI.
     pub fn find(self, protocol: u8, spi: &[u8]) -> SaFound
         ensures { λ r. ⌜ r ≡ foundSa limits protocol (now (spi .entry)) self ⌝ }
     {
@@ -66,7 +66,7 @@ impl Table {
         nothing()
     }
 
-    // The live Rekey SA. Internal.
+    // The live Rekey SA.
     pub fn live_rekey(self) -> SaFound
         ensures { λ r. ⌜ r ≡ foundRekey limits self ⌝ }
     {

@@ -1,5 +1,6 @@
 // Why a layout breaks, for the program `show`: the structure at its offset, and a phrase. Each function puts its text into lent room, as
 // those of `names` do.
+// Internal: crates of this repository alone call it.
 use crate::places::four;
 use crate::places::octet;
 use crate::places::part;
@@ -44,7 +45,7 @@ fn of_size(out: &mut [u8], n: usize, s: &[u8], least: usize) -> usize {
     short(out, n, span(s.len(), length))
 }
 
-// The faults of a header's own fields. Internal.
+// The faults of a header's own fields.
 pub fn of_header(out: &mut [u8], n: usize, s: &[u8]) -> usize {
     let a = breaks(out, n, 0, b"header: ");
     let size = s.len();
@@ -91,7 +92,7 @@ fn chain_end(s: &[u8]) -> End {
     End { at, kind }
 }
 
-// Payloads that do not end with the frame. Internal.
+// Payloads that do not end with the frame.
 pub fn of_chain(out: &mut [u8], n: usize, s: &[u8]) -> usize {
     let a = breaks(out, n, 0, b"header: ");
     let e = chain_end(s);
@@ -108,7 +109,7 @@ pub fn of_chain(out: &mut [u8], n: usize, s: &[u8]) -> usize {
     text_names::say(out, a, b"next payload %, no octet left\n", e.kind, 0, 0)
 }
 
-// The faults of a payload's own fields, and of the body of D, for which the payload counts. Internal.
+// The faults of a payload's own fields, and of the body of D, for which the payload counts.
 pub fn of_payload(out: &mut [u8], n: usize, kind: usize, s: &[u8], offset: usize) -> usize {
     let a = breaks(out, n, offset, b"");
     let b = text_names::titled(out, a, b"payload ", text_names::tables::payload(kind), kind);
@@ -141,7 +142,7 @@ fn of_spi_size(out: &mut [u8], n: usize, protocol: usize, size: usize) -> usize 
     text_names::say(out, b, b" has %\n", wire_policies::spi_size(protocol), 0, 0)
 }
 
-// The faults of a policy's or key bag's own fields. Internal.
+// The faults of a policy's or key bag's own fields.
 pub fn of_head(out: &mut [u8], n: usize, what: &[u8], s: &[u8], offset: usize) -> usize {
     let a = breaks(out, n, offset, what);
     let first = octet(s, 0);
@@ -172,13 +173,13 @@ fn of_protocol(out: &mut [u8], n: usize, first: usize, s: &[u8]) -> usize {
     of_spi_size(out, n, first, octet(s, 1))
 }
 
-// What is missing at a policy's end counts for the policy. Internal.
+// What is missing at a policy's end counts for the policy.
 pub fn of_missing(out: &mut [u8], n: usize, what: &[u8], offset: usize) -> usize {
     let a = breaks(out, n, offset, b"policy: ");
     text_names::text(out, a, what)
 }
 
-// The faults of a selector. Internal.
+// The faults of a selector.
 pub fn of_selector(out: &mut [u8], n: usize, s: &[u8], offset: usize) -> usize {
     let a = breaks(out, n, offset, b"selector: ");
     let kind = octet(s, 0);
@@ -192,7 +193,7 @@ pub fn of_selector(out: &mut [u8], n: usize, s: &[u8], offset: usize) -> usize {
     text_names::say(out, a, b"length %, type % has %\n", two(s, 2), kind, size)
 }
 
-// The faults of a transform's own fields. Internal.
+// The faults of a transform's own fields.
 pub fn of_transform(out: &mut [u8], n: usize, s: &[u8], offset: usize) -> usize {
     let a = breaks(out, n, offset, b"transform: ");
     if octets::numbers::is_sized(s, TRANSFORM) {
@@ -208,7 +209,7 @@ pub fn of_transform(out: &mut [u8], n: usize, s: &[u8], offset: usize) -> usize 
     of_size(out, a, s, TRANSFORM)
 }
 
-// The faults of an attribute of a place. Internal.
+// The faults of an attribute of a place.
 pub fn of_attribute(out: &mut [u8], n: usize, place: Place, s: &[u8], offset: usize) -> usize {
     let a = breaks(out, n, offset, b"attribute: ");
     match wire_attributes::read_attribute(s) {

@@ -2,7 +2,7 @@
 ghost use Prim.Native.Nat.{_<_, _≤_};
 use wire_attributes::Read;
 
-// The octets from a place up to another, or none. Internal.
+// The octets from a place up to another, or none.
 pub fn part(s: &[u8], from: usize, to: usize) -> &[u8] {
     if to <= s.len() {
         if from <= to {
@@ -12,7 +12,7 @@ pub fn part(s: &[u8], from: usize, to: usize) -> &[u8] {
     &s[0..0]
 }
 
-// How many octets stand between two places. Internal.
+// How many octets stand between two places.
 pub fn span(from: usize, to: usize) -> usize {
     if from <= to {
         return to - from;
@@ -20,7 +20,7 @@ pub fn span(from: usize, to: usize) -> usize {
     0
 }
 
-// The place so many octets behind another, or the last place there is. Internal.
+// The place so many octets behind another, or the last place there is.
 pub fn behind(at: usize, count: usize) -> usize {
     if usize::MAX - at < count {
         return usize::MAX;
@@ -28,7 +28,7 @@ pub fn behind(at: usize, count: usize) -> usize {
     at + count
 }
 
-// The octet at a place, or 0. Internal.
+// The octet at a place, or 0.
 pub fn octet(s: &[u8], at: usize) -> usize
     ensures { λ r. ⌜ r < 256 ⌝ }
 {
@@ -38,7 +38,7 @@ pub fn octet(s: &[u8], at: usize) -> usize
     0
 }
 
-// The number of the first two octets from a place on, or 0. Internal.
+// The number of the first two octets from a place on, or 0.
 pub fn two(s: &[u8], at: usize) -> usize
     ensures { λ r. ⌜ r < 65536 ⌝ }
 {
@@ -50,7 +50,7 @@ pub fn two(s: &[u8], at: usize) -> usize
     0
 }
 
-// The number of the first four octets from a place on, or 0. Internal.
+// The number of the first four octets from a place on, or 0.
 pub fn four(s: &[u8], at: usize) -> usize {
     if at < s.len() {
         if 4 <= s.len() - at {
@@ -61,7 +61,6 @@ pub fn four(s: &[u8], at: usize) -> usize {
 }
 
 // Where the structure at a place ends, by the number in its octets 2 and 3; or `to`, if that is under the least or leads behind `to`.
-// Internal.
 pub fn end_at(s: &[u8], at: usize, to: usize, least: usize) -> usize
     requires { ⌜ (at < to) × (0 < least) ⌝ }
     ensures { λ r. ⌜ (at < r) × (r ≤ to) ⌝ }
@@ -76,7 +75,7 @@ pub fn end_at(s: &[u8], at: usize, to: usize, least: usize) -> usize
     at + n
 }
 
-// Where the attribute at a place ends, or `to`. Internal.
+// Where the attribute at a place ends, or `to`.
 pub fn attribute_end(s: &[u8], at: usize, to: usize) -> usize
     requires { ⌜ at < to ⌝ }
     ensures { λ r. ⌜ (at < r) × (r ≤ to) ⌝ }
@@ -100,7 +99,7 @@ pub fn attribute_end(s: &[u8], at: usize, to: usize) -> usize
     }
 }
 
-// Whether the offset at which a layout breaks is that of a structure or lies within it. Internal.
+// Whether the offset at which a layout breaks is that of a structure or lies within it.
 pub fn holds(at: usize, stop: usize, end: usize) -> bool {
     if at <= stop {
         return stop < end;

@@ -1,4 +1,5 @@
 // The text of the member program, on slices: hexadecimal, lines, what a line asks, what is printed. Nothing here knows the member.
+// Internal: crates of this repository alone call it.
 ghost use mathlib.Core.Path.{_≡_};
 ghost use mathlib.Core.List.{_∷_, [], _++_};
 ghost use Prim.Native.Nat.{_+_, _*_, _/_, _%_, _<_, _≤_};
@@ -9,7 +10,7 @@ ghost use Rattle.text_rules.specs.Answer.{decimal, answerText, badText};
 ghost use Rattle.text_lines.specs.inner.Room.{Put};
 ghost use Rattle.text_lines.specs.inner.Calls.{Absorbs, KeyLineGives, Asks};
 
-// One octet at a place of lent room, where the place is within it; the place behind it. Internal.
+// One octet at a place of lent room, where the place is within it; the place behind it.
 pub fn put(room: &mut [u8], at: usize, octet: u8) -> usize
     ensures { λ r. ⌜ Put (now (room .entry)) at (octet ∷ []) (now (room .exit)) r ⌝ }
 {
@@ -62,7 +63,7 @@ fn are_digits(text: &[u8]) -> bool
     so_far
 }
 
-// Whether a text is hexadecimal: digits alone, and an even count of them. Internal.
+// Whether a text is hexadecimal: digits alone, and an even count of them.
 pub fn is_hex(text: &[u8]) -> bool
     ensures { λ r. ⌜ r ≡ isHex (now (text .entry)) ⌝ }
 {
@@ -80,7 +81,7 @@ fn octet_at(text: &[u8], i: usize) -> u8
     16 * value_of(text[i]) + value_of(text[i + 1])
 }
 
-// Hexadecimal text to octets, into lent room from a place on; the place behind them. Internal.
+// Hexadecimal text to octets, into lent room from a place on; the place behind them.
 pub fn put_octets(room: &mut [u8], at: usize, text: &[u8]) -> usize
     ensures { λ r. ⌜ Put (now (room .entry)) at (octetsOfHex (now (text .entry))) (now (room .exit)) r ⌝ }
 {
@@ -101,7 +102,7 @@ fn put_octet(room: &mut [u8], at: usize, octet: u8) -> usize
     put(room, half, digit_of(octet % 16))
 }
 
-// Octets to hexadecimal text, into lent room from a place on; the place behind it. Internal.
+// Octets to hexadecimal text, into lent room from a place on; the place behind it.
 pub fn put_digits(room: &mut [u8], at: usize, octets: &[u8]) -> usize
     ensures { λ r. ⌜ Put (now (room .entry)) at (digitsOf (now (octets .entry))) (now (room .exit)) r ⌝ }
 {
@@ -122,7 +123,7 @@ pub struct Absorbed {
 }
 
 // Takes a block from a place on, up to the first newline or to the block's end, into a lent line that holds `len` characters of a line that
-// has begun. Of a line that is longer than the lent one the characters behind are passed over. Internal.
+// has begun. Of a line that is longer than the lent one the characters behind are passed over.
 pub fn absorb(block: &[u8], from: usize, line: &mut [u8], len: usize) -> Absorbed
     ensures { λ r. ⌜ Absorbs (now (block .entry)) from (now (line .entry)) len (now (line .exit)) r ⌝ }
 {
@@ -166,7 +167,7 @@ pub struct LineKey {
     pub len: usize,
 }
 
-// The default key that a first line gives. Internal.
+// The default key that a first line gives.
 pub fn key_line(line: &[u8]) -> LineKey
     ensures { λ r. ⌜ KeyLineGives (now (line .entry)) r ⌝ }
 {
@@ -196,7 +197,7 @@ pub enum Request {
     Frame { tick: u32, len: usize },
 }
 
-// What a later line asks. The frame goes to the room's start; a room of 16,384 octets holds every frame. Internal.
+// What a later line asks. The frame goes to the room's start; a room of 16,384 octets holds every frame.
 pub fn later_line(line: &[u8], room: &mut [u8]) -> Request
     ensures { λ r. ⌜ Asks (now (line .entry)) (now (room .entry)) (now (room .exit)) r ⌝ }
 {
@@ -211,7 +212,7 @@ pub fn later_line(line: &[u8], room: &mut [u8]) -> Request
 // Octets enough for the text of any answer: four numbers of at most 20 digits, with a mark behind each.
 pub const REPLY_ROOM: usize = 84;
 
-// A number in decimal, into lent room from a place on; the place behind it. Internal.
+// A number in decimal, into lent room from a place on; the place behind it.
 pub fn put_number(room: &mut [u8], at: usize, n: usize) -> usize
     ensures { λ r. ⌜ Put (now (room .entry)) at (decimal n) (now (room .exit)) r ⌝ }
 {
@@ -230,7 +231,7 @@ fn put_field(room: &mut [u8], at: usize, n: usize, mark: u8) -> usize
     put(room, last, mark)
 }
 
-// The text of an answer, into lent room from a place on; the place behind it. On number 1 the figure is its fourth number. Internal.
+// The text of an answer, into lent room from a place on; the place behind it. On number 1 the figure is its fourth number.
 pub fn put_answer(
     room: &mut [u8],
     at: usize,
@@ -250,7 +251,7 @@ pub fn put_answer(
     put_field(room, third, held, 10)
 }
 
-// The text for a bad line, into lent room from a place on; the place behind it. Internal.
+// The text for a bad line, into lent room from a place on; the place behind it.
 pub fn put_bad(room: &mut [u8], at: usize) -> usize
     ensures { λ r. ⌜ Put (now (room .entry)) at badText (now (room .exit)) r ⌝ }
 {

@@ -1,6 +1,7 @@
 // Text in lent room, which is handed to standard output whenever it is full, and names of code numbers. A function that puts text takes the
 // room and the place where the text goes, and answers the place behind it. A place behind the room's end says that a write has failed:
 // nothing is put or written from then on.
+// Internal: crates of this repository alone call it.
 use libc::STDOUT_FILENO;
 
 pub mod tables;
@@ -8,7 +9,7 @@ pub mod tables;
 // The character % marks the place of a number in a text.
 const MARK: u8 = 37;
 
-// Hands the octets in front of a place over; the place where the room is to be filled from now on. Internal.
+// Hands the octets in front of a place over; the place where the room is to be filled from now on.
 pub fn handed_over(out: &[u8], at: usize) -> usize {
     if at <= out.len() {
         if io::write_all(STDOUT_FILENO, &out[0..at]) {
@@ -26,7 +27,7 @@ fn free(out: &[u8], at: usize) -> usize {
     at
 }
 
-// One octet. Internal.
+// One octet.
 pub fn put(out: &mut [u8], at: usize, octet: u8) -> usize {
     let n = free(out, at);
     if n < out.len() {
@@ -36,7 +37,7 @@ pub fn put(out: &mut [u8], at: usize, octet: u8) -> usize {
     n
 }
 
-// Octets as they stand. Internal.
+// Octets as they stand.
 pub fn text(out: &mut [u8], at: usize, octets: &[u8]) -> usize {
     let mut n = at;
     let mut i = 0;
@@ -47,7 +48,7 @@ pub fn text(out: &mut [u8], at: usize, octets: &[u8]) -> usize {
     n
 }
 
-// A number in decimal. Internal.
+// A number in decimal.
 pub fn number(out: &mut [u8], at: usize, x: usize) -> usize {
     let mut digits = [0u8; 20];
     let k = io::decimal(x as u64, &mut digits);
@@ -62,7 +63,7 @@ fn character(out: &mut [u8], at: usize, c: u8, x: usize) -> usize {
     put(out, at, c)
 }
 
-// A text in which marks stand for up to three numbers, in their order. Internal.
+// A text in which marks stand for up to three numbers, in their order.
 pub fn say(out: &mut [u8], at: usize, text: &[u8], x: usize, y: usize, z: usize) -> usize {
     let mut n = at;
     let mut now = x;
@@ -80,7 +81,7 @@ pub fn say(out: &mut [u8], at: usize, text: &[u8], x: usize, y: usize, z: usize)
     n
 }
 
-// Blanks. Internal.
+// Blanks.
 pub fn blanks(out: &mut [u8], at: usize, count: usize) -> usize {
     let mut n = at;
     let mut i = 0;
@@ -99,7 +100,7 @@ fn lacks(x: usize, of: usize) -> usize {
     0
 }
 
-// A number in decimal, at the right end of 6 columns. Internal.
+// A number in decimal, at the right end of 6 columns.
 pub fn column(out: &mut [u8], at: usize, x: usize) -> usize {
     let mut digits = [0u8; 20];
     let k = io::decimal(x as u64, &mut digits);
@@ -111,14 +112,14 @@ fn wide(x: u8) -> u64 {
     x as u64
 }
 
-// A number in hexadecimal, with at least so many digits. Internal.
+// A number in hexadecimal, with at least so many digits.
 pub fn hexadecimal(out: &mut [u8], at: usize, x: u64, digits: usize) -> usize {
     let mut room = [0u8; 16];
     let k = io::hex(x, digits, &mut room);
     text(out, at, &room[..k])
 }
 
-// Octets in hexadecimal. Internal.
+// Octets in hexadecimal.
 pub fn octets(out: &mut [u8], at: usize, octets: &[u8]) -> usize {
     let mut n = at;
     let mut i = 0;
@@ -141,7 +142,7 @@ fn size(name: [u8; 48]) -> usize {
     k
 }
 
-// A padded name, without the padding. Internal.
+// A padded name, without the padding.
 pub fn name(out: &mut [u8], at: usize, name: [u8; 48]) -> usize {
     let end = size(name);
     let mut n = at;
@@ -156,7 +157,7 @@ pub fn name(out: &mut [u8], at: usize, name: [u8; 48]) -> usize {
     n
 }
 
-// A text, a padded name, and its number behind it. Internal.
+// A text, a padded name, and its number behind it.
 pub fn titled(out: &mut [u8], at: usize, before: &[u8], padded: [u8; 48], x: usize) -> usize {
     let a = text(out, at, before);
     let b = name(out, a, padded);

@@ -6,7 +6,7 @@ fn unknown() -> [u8; 48] {
     *b"unknown                                         "
 }
 
-// An exchange type (RFC 7296, section 3.1; RFC 9838, section 9.2). Internal.
+// An exchange type (RFC 7296, section 3.1; RFC 9838, section 9.2).
 pub fn exchange(kind: usize) -> [u8; 48] {
     match kind {
         34 => *b"IKE_SA_INIT                                     ",
@@ -21,7 +21,7 @@ pub fn exchange(kind: usize) -> [u8; 48] {
     }
 }
 
-// A payload type, by its notation (RFC 7296, section 3.2; RFC 9838, section 9.2). Internal.
+// A payload type, by its notation (RFC 7296, section 3.2; RFC 9838, section 9.2).
 pub fn payload(kind: usize) -> [u8; 48] {
     match kind {
         33 => *b"SA                                              ",
@@ -48,7 +48,7 @@ pub fn payload(kind: usize) -> [u8; 48] {
     }
 }
 
-// A security protocol; 6 is GIKE_UPDATE (RFC 9838, section 9.2), the protocol of Rekey SAs. Internal.
+// A security protocol; 6 is GIKE_UPDATE (RFC 9838, section 9.2), the protocol of Rekey SAs.
 pub fn protocol(number: usize) -> [u8; 48] {
     match number {
         1 => *b"IKE                                             ",
@@ -59,7 +59,7 @@ pub fn protocol(number: usize) -> [u8; 48] {
     }
 }
 
-// A transform type (RFC 7296, section 3.3.2; RFC 9838, section 9.2). Internal.
+// A transform type (RFC 7296, section 3.3.2; RFC 9838, section 9.2).
 pub fn transform_type(kind: usize) -> [u8; 48] {
     match kind {
         1 => *b"Encryption Algorithm                            ",
@@ -136,7 +136,7 @@ fn authentication(id: usize) -> [u8; 48] {
     }
 }
 
-// The ID of a transform of a type. Internal.
+// The ID of a transform of a type.
 pub fn transform_id(kind: usize, id: usize) -> [u8; 48] {
     match kind {
         1 => encryption(id),
@@ -195,7 +195,7 @@ fn member_bag_attribute(kind: usize) -> [u8; 48] {
     }
 }
 
-// An attribute by its place. Internal.
+// An attribute by its place.
 pub fn attribute(place: Place, kind: usize) -> [u8; 48] {
     match place {
         Place::EncryptionTransform => transform_attribute(kind),

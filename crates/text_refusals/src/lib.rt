@@ -1,6 +1,7 @@
 // Which clauses of document 01's numbers 4 to 7 apply to a frame alone, by name, for the program `show`: from the functions by which a
 // member judges. The member's table and the lent key are not looked at. Of several GSA or KD payloads the first is looked at, as by a
 // member.
+// Internal: crates of this repository alone call it.
 use check_judging::facts::Facts;
 use check_judging::facts::facts_of;
 use check_judging::number4::Four;
@@ -90,7 +91,6 @@ fn of_frame(s: &[u8]) -> ClauseFound
 }
 
 // Puts a line for each clause that applies to a frame whose layout is whole, or one that says that none does; nothing where it is broken.
-// Internal.
 pub fn applying(out: &mut [u8], n: usize, s: &[u8]) -> usize {
     match wire_frames::frame_layout(s) {
         Layout::Whole => text::lines(out, n, of_frame(s)),

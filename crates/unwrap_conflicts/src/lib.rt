@@ -1,5 +1,6 @@
 // Number 8 of document 01 for the entries of a registration: whether the cells of a search show an entry that opened to a wrong size, or
 // two that give one key two values.
+// Internal: crates of this repository alone call it.
 use state_keys::kinds::WrappingKey;
 use state_keys::limits::WRAP_KEYS;
 use unwrap_search::open::Cell;
@@ -17,7 +18,7 @@ ghost use Rattle.unwrap_search.specs.inner.Entries.{Lists};
 ghost use Rattle.unwrap_search.specs.inner.Search.{Searched, Nonzero};
 ghost use Rattle.unwrap_conflicts.specs.inner.Values.{Decides, Clash, ClashAmong, AnyClash, AnyWrong, isDone, isWrong};
 
-// Whether a chain ends with the entry, and its key was tried on the others. Internal.
+// Whether a chain ends with the entry, and its key was tried on the others.
 pub fn is_done(c: Cell) -> bool
     ensures { λ r. ⌜ r ≡ isDone (c .status) ⌝ }
 {
@@ -106,7 +107,7 @@ fn clashes(
     false
 }
 
-// Whether any two of the first n entries have the same Key ID and reached values that differ. Internal.
+// Whether any two of the first n entries have the same Key ID and reached values that differ.
 pub fn any_clash(entries: [Entry; WRAP_KEYS], cells: [Cell; WRAP_KEYS], n: usize) -> bool
     requires { ⌜ n ≤ limits .wrapKeys ⌝ }
     ensures { λ r. ⌜ Decides r (AnyClash entries cells n) ⌝ }
@@ -123,7 +124,7 @@ pub fn any_clash(entries: [Entry; WRAP_KEYS], cells: [Cell; WRAP_KEYS], n: usize
     false
 }
 
-// Whether one of the first n opened to a wrong size. Internal.
+// Whether one of the first n opened to a wrong size.
 pub fn any_wrong(cells: [Cell; WRAP_KEYS], n: usize) -> bool
     requires { ⌜ n ≤ limits .wrapKeys ⌝ }
     ensures { λ r. ⌜ Decides r (AnyWrong cells n) ⌝ }
@@ -139,7 +140,7 @@ pub fn any_wrong(cells: [Cell; WRAP_KEYS], n: usize) -> bool
     false
 }
 
-// Whether number 8 holds of the entries that these places and the cells of their search stand for. Internal.
+// Whether number 8 holds of the entries that these places and the cells of their search stand for.
 pub fn entries_conflict(entries: [Entry; WRAP_KEYS], cells: [Cell; WRAP_KEYS], n: usize) -> bool
     requires { ⌜ n ≤ limits .wrapKeys ⌝ }
     ensures { λ r. ⌜ ((frame : List ℕ) (roots : List Root) (l : List WrapKey) (size : ℕ) → Lists frame entries n l →

@@ -30,7 +30,7 @@ fn put(key: WrappingKey, at: usize, block: &mut [u8])
     bytes::copy(&octets, &mut block[start..]);
 }
 
-// The keys of a held list, to be lent: each Key ID and each key put into its place. Internal.
+// The keys of a held list, to be lent: each Key ID and each key put into its place.
 pub fn lend_keys(held: Held, ids: &mut [u32], block: &mut [u8])
     requires { ⌜ heldFormed limits held ≡ true ⌝ }
     requires { ⌜ Rooms (now ids) (now block) ⌝ }

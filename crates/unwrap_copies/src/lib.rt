@@ -1,5 +1,6 @@
 // The copies of an announced SA, its SA_KEY attributes, opened under the keys that their KWK IDs name. They are gone through once, and
 // each copy is opened at most once. A key that two copies name is expanded twice.
+// Internal: crates of this repository alone call it.
 pub mod answer;
 pub mod lending;
 
@@ -67,7 +68,7 @@ fn try_copy(
 }
 
 // What the copies of one announced SA open to: `a` are the attributes of its Group Key Bag, `need` the octets that its policy needs, the
-// schedule is key 0's, and the other keys that a KWK ID can name are lent. Internal.
+// schedule is key 0's, and the other keys that a KWK ID can name are lent.
 pub fn copies(
     place: Place,
     a: &[u8],

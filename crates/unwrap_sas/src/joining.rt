@@ -69,7 +69,7 @@ fn sa_from(
     Sa::rekey(spi, k.key, lifetime)
 }
 
-// The SA of a policy with this name, these needs and this lifetime, by what its copies open to. Internal.
+// The SA of a policy with this name, these needs and this lifetime, by what its copies open to.
 pub fn one_sa(
     one: CopyOpened,
     protocol: usize,

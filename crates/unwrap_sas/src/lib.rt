@@ -1,4 +1,5 @@
 // The keys of the SAs that a frame announces: number 8 of their copies, number 9, or the new SAs. Numbers 2 to 7 have been judged before.
+// Internal: crates of this repository alone call it.
 pub mod joining;
 pub mod lifetime;
 
@@ -244,7 +245,7 @@ fn under_lent(
 
 // What the copies of all SAs that a frame announces open to: `gsa` is its GSA body, `kd` its KD body, `zero` key 0, and the other keys that
 // a
-// KWK ID can name are held; the new SAs start at the tick. Internal.
+// KWK ID can name are held; the new SAs start at the tick.
 pub fn open_sas(gsa: &[u8], kd: &[u8], zero: WrappingKey, held: Held, tick: u32) -> Keyed
     requires { ⌜ isWhole (policies 0 (now gsa)) ≡ true ⌝ }
     requires { ⌜ isWhole (bags 0 (now kd)) ≡ true ⌝ }

@@ -11,7 +11,7 @@ use check_composition::numbers::numbers_of;
 use state_sa::entry::Lifetime;
 use wire_attributes::tables::Meaning;
 
-// From a tick on, by a Group SA policy of a protocol that holds this after its SPI. Internal.
+// From a tick on, by a Group SA policy of a protocol that holds this after its SPI.
 pub fn of_policy(protocol: usize, x: &[u8], tick: u32) -> Lifetime
     requires { ⌜ ((b : SaBody) × IsSaBody (inPolicy protocol) (now x) b × (several (lifetimesOf protocol b) ≡ false)) ⌝ }
     ensures { λ r. ⌜

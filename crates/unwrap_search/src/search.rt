@@ -120,7 +120,7 @@ fn first_pending(cells: [Cell; WRAP_KEYS], n: usize) -> PendingFound
     PendingFound::Nothing
 }
 
-// What becomes of each entry when the chains start with the lent key as key 0. Internal.
+// What becomes of each entry when the chains start with the lent key as key 0.
 pub fn search(
     frame: &[u8],
     lent: WrappingKey,

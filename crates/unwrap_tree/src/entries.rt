@@ -53,7 +53,7 @@ fn entry(v: &[u8], e: usize) -> Entry
     }
 }
 
-// The WRAP_KEYs of a KD body whose Member Key Bag has its attributes there, in their order. Internal.
+// The WRAP_KEYs of a KD body whose Member Key Bag has its attributes there, in their order.
 pub fn entries(kd: &[u8], bag: Stretch) -> Listing
     requires { ⌜ HoldsEntries (now kd) bag ⌝ }
     requires { ⌜ length (wrapKeysIn (now kd)) ≤ limits .wrapKeys ⌝ }

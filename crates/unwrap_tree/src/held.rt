@@ -42,7 +42,7 @@ fn with_cell(held: Held, e: Entry, c: Cell) -> Held
     held
 }
 
-// The keys that the entries of these places reach, by the cells of their search. Internal.
+// The keys that the entries of these places reach, by the cells of their search.
 pub fn held_of(entries: [Entry; WRAP_KEYS], cells: [Cell; WRAP_KEYS], n: usize) -> Held
     requires { ⌜ n ≤ limits .wrapKeys ⌝ }
     ensures { λ r. ⌜ ((frame : List ℕ) (roots : List Root) (l : List WrapKey) (size : ℕ) → Lists frame entries n l →

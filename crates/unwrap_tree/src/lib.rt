@@ -1,4 +1,5 @@
 // The keys that a registration's WRAP_KEYs reach: from a KD body to number 8 of the entries, or to the held list.
+// Internal: crates of this repository alone call it.
 pub mod entries;
 pub mod held;
 
@@ -19,7 +20,7 @@ ghost use Rattle.unwrap_tree.specs.inner.Reached.{wrapKeysIn, TreeAnswer
 ghost use Rattle.unwrap_tree.specs.inner.Entries.{HoldsEntries};
 
 // What the WRAP_KEYs of a KD body reach with the lent key as key 0; they stand in the stretch. Numbers 4 to 7 come before: there is one
-// Member Key Bag at most, the lent key has a wrapping key's size, no WRAP_KEY has Key ID 0, and there are no more than the limit. Internal.
+// Member Key Bag at most, the lent key has a wrapping key's size, no WRAP_KEY has Key ID 0, and there are no more than the limit.
 pub fn reach_keys(kd: &[u8], bag: Stretch, lent: WrappingKey) -> ReachedKeys
     requires { ⌜ HoldsEntries (now kd) bag ⌝ }
     requires { ⌜ length (wrapKeysIn (now kd)) ≤ limits .wrapKeys ⌝ }

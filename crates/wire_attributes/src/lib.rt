@@ -1,4 +1,5 @@
 // Attributes (RFC 7296, section 3.3.5), and which of them are read where.
+// For customers: `attribute_value` and `attribute_in`. All else is internal.
 ghost use mathlib.Core.Path.{_≡_};
 ghost use Prim.Native.Nat.{_+_, _<_};
 ghost use lib.ListN.{length, drop};
@@ -33,7 +34,7 @@ pub enum Read {
     Cut,
 }
 
-// The attribute that the octets start with. Internal.
+// The attribute that the octets start with.
 pub fn read_attribute(s: &[u8]) -> Read
     ensures { λ r. ⌜ r ≡ readOf (now (s .entry)) ⌝ }
 {
@@ -105,7 +106,7 @@ pub fn attribute_in(place: tables::Place, s: &[u8], base: usize) -> Spot
     }
 }
 
-// Whether the octets, which start at the offset base, are attributes of a place to their end. Internal.
+// Whether the octets, which start at the offset base, are attributes of a place to their end.
 pub fn are_attributes(place: tables::Place, s: &[u8], base: usize) -> Layout
     requires { ⌜ base + length (now s) < 4294967296 ⌝ }
     ensures { λ r. ⌜ r ≡ layoutOf (attributes place base (now (s .entry))) ⌝ }

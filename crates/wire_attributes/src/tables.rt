@@ -38,7 +38,7 @@ pub enum Meaning {
     WrapKey,
 }
 
-// The table of attributes by place. Internal.
+// The table of attributes by place.
 pub fn meaning_in(place: Place, kind: usize) -> Meaning
     ensures { λ r. ⌜ r ≡ meaningOf place kind ⌝ }
 {
@@ -92,7 +92,7 @@ pub fn meaning_in(place: Place, kind: usize) -> Meaning
     }
 }
 
-// The size of a wrapped key's value: two IDs and 16 to 264 octets, a multiple of 8. Internal.
+// The size of a wrapped key's value: two IDs and 16 to 264 octets, a multiple of 8.
 fn is_wrapped_size(n: usize) -> bool
     ensures { λ r. ⌜ r ≡ wrappedSize n ⌝ }
 {
@@ -115,7 +115,7 @@ fn is_four_octets(short: bool, n: usize) -> bool
     n == 4
 }
 
-// Whether an attribute has the format and the size of value that its meaning asks for. Internal.
+// Whether an attribute has the format and the size of value that its meaning asks for.
 pub fn is_formed(m: Meaning, short: bool, n: usize) -> bool
     ensures { λ r. ⌜ r ≡ formatFits m short n ⌝ }
 {
@@ -140,7 +140,7 @@ pub fn is_formed(m: Meaning, short: bool, n: usize) -> bool
     }
 }
 
-// The place of a transform's attributes. Internal.
+// The place of a transform's attributes.
 pub fn in_transform(kind: usize) -> Place
     ensures { λ r. ⌜ r ≡ inTransform kind ⌝ }
 {
@@ -150,7 +150,7 @@ pub fn in_transform(kind: usize) -> Place
     Place::OtherTransform
 }
 
-// The place of a Group SA policy's attributes. Internal.
+// The place of a Group SA policy's attributes.
 pub fn in_policy(protocol: usize) -> Place
     ensures { λ r. ⌜ r ≡ inPolicy protocol ⌝ }
 {
@@ -160,7 +160,7 @@ pub fn in_policy(protocol: usize) -> Place
     Place::DataPolicy
 }
 
-// The place of a Group Key Bag's attributes. Internal.
+// The place of a Group Key Bag's attributes.
 pub fn in_bag(protocol: usize) -> Place
     ensures { λ r. ⌜ r ≡ inBag protocol ⌝ }
 {
@@ -170,7 +170,7 @@ pub fn in_bag(protocol: usize) -> Place
     Place::DataBag
 }
 
-// A number for each meaning. Internal.
+// A number for each meaning.
 pub fn code(m: Meaning) -> usize
     ensures { λ r. ⌜ r ≡ codeOf m ⌝ }
 {

@@ -1,4 +1,5 @@
 // Key bags of a KD payload (RFC 9838, section 4.5).
+// Internal: crates of this repository alone call it.
 ghost use mathlib.Core.Path.{_≡_};
 ghost use Prim.Native.Nat.{_+_, _<_};
 ghost use lib.ListN.{length};
@@ -11,7 +12,7 @@ use wire_attributes::Layout;
 use wire_attributes::Spot;
 use wire_attributes::tables::Place;
 
-// The place of a bag's attributes, by the bag's first octet. Internal.
+// The place of a bag's attributes, by the bag's first octet.
 pub fn place_of(first: usize) -> Place
     ensures { λ r. ⌜ r ≡ placeOf first ⌝ }
 {
@@ -21,7 +22,7 @@ pub fn place_of(first: usize) -> Place
     wire_attributes::tables::in_bag(first)
 }
 
-// The key bag that the octets, which start at the offset base, start with: where it ends. Internal.
+// The key bag that the octets, which start at the offset base, start with: where it ends.
 pub fn bag_spot(s: &[u8], base: usize) -> Spot
     requires { ⌜ base + length (now s) < 4294967296 ⌝ }
     ensures { λ r. ⌜ r ≡ spotOf (now (s .entry)) (bag base (now (s .entry))) ⌝ }
@@ -39,7 +40,7 @@ pub fn bag_spot(s: &[u8], base: usize) -> Spot
     }
 }
 
-// Whether the octets, which start at the offset base, are key bags to their end. Internal.
+// Whether the octets, which start at the offset base, are key bags to their end.
 pub fn are_bags(s: &[u8], base: usize) -> Layout
     requires { ⌜ base + length (now s) < 4294967296 ⌝ }
     ensures { λ r. ⌜ r ≡ layoutOf (bags base (now (s .entry))) ⌝ }

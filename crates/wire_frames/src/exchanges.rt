@@ -53,7 +53,7 @@ pub struct Exchange {
     pub least: LeastAfter,
 }
 
-// The row of an exchange type. Internal.
+// The row of an exchange type.
 pub fn exchange_of(kind: usize) -> Exchange
     ensures { λ r. ⌜ r ≡ exchangeOf kind ⌝ }
 {

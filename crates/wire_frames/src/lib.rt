@@ -1,4 +1,5 @@
 // Opened frames: the IKE header, the chain of payloads and the Delete payload (RFC 7296, sections 3.1, 3.2 and 3.11).
+// For customers: `frame_layout`. All else is internal.
 ghost use mathlib.Core.Path.{_≡_};
 ghost use Prim.Native.Nat.{_+_, _<_};
 ghost use lib.ListN.{length};
@@ -42,7 +43,7 @@ pub enum HeaderRead {
     Broken,
 }
 
-// The IKE header that the octets start with, if it is that of a frame of all these octets. Internal.
+// The IKE header that the octets start with, if it is that of a frame of all these octets.
 pub fn read_header(s: &[u8]) -> HeaderRead
     ensures { λ r. ⌜ r ≡ headerRead (now (s .entry)) ⌝ }
 {
@@ -75,7 +76,7 @@ pub enum PayloadRead {
     Broken,
 }
 
-// The generic payload header that the octets start with. Internal.
+// The generic payload header that the octets start with.
 pub fn read_payload(s: &[u8]) -> PayloadRead
     ensures { λ r. ⌜ r ≡ payloadRead (now (s .entry)) ⌝ }
 {
@@ -89,7 +90,7 @@ pub fn read_payload(s: &[u8]) -> PayloadRead
     PayloadRead::Broken
 }
 
-// Whether a Delete payload's body is laid out as it should be. Internal.
+// Whether a Delete payload's body is laid out as it should be.
 fn delete_fits(s: &[u8]) -> bool
     ensures { λ r. ⌜ r ≡ deleteFits (now (s .entry)) ⌝ }
 {
@@ -106,7 +107,7 @@ fn delete_fits(s: &[u8]) -> bool
     true
 }
 
-// What the body of a payload of a kind holds; the payload's offset is holder, the body's base. Internal.
+// What the body of a payload of a kind holds; the payload's offset is holder, the body's base.
 fn body_layout(kind: usize, s: &[u8], base: usize, holder: usize) -> Layout
     requires { ⌜ base + length (now s) < 4294967296 ⌝ }
     ensures { λ r. ⌜ r ≡ layoutOf (body kind holder base (now (s .entry))) ⌝ }
@@ -126,7 +127,7 @@ fn body_layout(kind: usize, s: &[u8], base: usize, holder: usize) -> Layout
     Layout::Whole
 }
 
-// The payload of a kind that the octets, which start at the offset base, start with: where it ends. Internal.
+// The payload of a kind that the octets, which start at the offset base, start with: where it ends.
 pub fn payload_spot(kind: usize, s: &[u8], base: usize) -> Spot
     requires { ⌜ base + length (now s) < 4294967296 ⌝ }
     ensures { λ r. ⌜ r ≡ spotOf (now (s .entry)) (payload kind base (now (s .entry))) ⌝ }
@@ -147,7 +148,7 @@ pub fn payload_spot(kind: usize, s: &[u8], base: usize) -> Spot
     }
 }
 
-// Whether the octets, which start at the offset base, are payloads to their end, the first of a kind. Internal.
+// Whether the octets, which start at the offset base, are payloads to their end, the first of a kind.
 fn payloads_layout(first: usize, s: &[u8], base: usize) -> Layout
     requires { ⌜ base + length (now s) < 4294967296 ⌝ }
     ensures { λ r. ⌜ r ≡ layoutOf (nothingLeft (payloads first base (now (s .entry)))) ⌝ }

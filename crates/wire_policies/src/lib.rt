@@ -1,4 +1,5 @@
 // Policies of a GSA payload (RFC 9838, section 4.4): selectors, transforms, Group SA policies and group-wide policies.
+// Internal: crates of this repository alone call it.
 ghost use mathlib.Core.Path.{_≡_};
 ghost use mathlib.Core.Bool.{true};
 ghost use Prim.Native.Nat.{_+_, _<_};
@@ -21,7 +22,7 @@ use wire_attributes::tables::Place;
 pub mod selectors;
 pub mod transforms;
 
-// Transforms, then attributes to the end; holder is the offset of the policy. Internal.
+// Transforms, then attributes to the end; holder is the offset of the policy.
 fn suite_layout(place: Place, s: &[u8], base: usize, holder: usize) -> Layout
     requires { ⌜ base + length (now s) < 4294967296 ⌝ }
     ensures { λ r. ⌜ r ≡ layoutOf (suite holder place base (now (s .entry))) ⌝ }
@@ -32,7 +33,7 @@ fn suite_layout(place: Place, s: &[u8], base: usize, holder: usize) -> Layout
     }
 }
 
-// What a Group SA policy holds after its SPI. Internal.
+// What a Group SA policy holds after its SPI.
 fn body_layout(place: Place, s: &[u8], base: usize, holder: usize) -> Layout
     requires { ⌜ base + length (now s) < 4294967296 ⌝ }
     ensures { λ r. ⌜ r ≡ layoutOf (saBody holder place base (now (s .entry))) ⌝ }
@@ -49,7 +50,7 @@ fn body_layout(place: Place, s: &[u8], base: usize, holder: usize) -> Layout
     }
 }
 
-// The size of a protocol's SPI; 0 for no protocol. Internal.
+// The size of a protocol's SPI; 0 for no protocol.
 pub fn spi_size(protocol: usize) -> usize
     ensures { λ r. ⌜ (r ≡ spiSize protocol) × (r < 17) ⌝ }
 {
@@ -65,7 +66,7 @@ pub fn spi_size(protocol: usize) -> usize
     0
 }
 
-// Whether the octets start with the head of a policy or of a key bag, as long as it says. Internal.
+// Whether the octets start with the head of a policy or of a key bag, as long as it says.
 pub fn head_fits(s: &[u8]) -> bool
     ensures { λ r. ⌜ r ≡ headFits (now (s .entry)) ⌝ }
 {
@@ -86,7 +87,7 @@ pub fn head_fits(s: &[u8]) -> bool
     false
 }
 
-// What a policy whose head fits holds after its head. Internal.
+// What a policy whose head fits holds after its head.
 fn policy_layout(s: &[u8], base: usize) -> Layout
     requires { ⌜ (headFits (now s) ≡ true) × (base + length (now s) < 4294967296) ⌝ }
     ensures { λ r. ⌜ r ≡ layoutOf (policyHolds base (now (s .entry)) (base + headSize (now (s .entry)))
@@ -106,7 +107,7 @@ fn policy_layout(s: &[u8], base: usize) -> Layout
     )
 }
 
-// The policy that the octets, which start at the offset base, start with: where it ends. Internal.
+// The policy that the octets, which start at the offset base, start with: where it ends.
 pub fn policy_spot(s: &[u8], base: usize) -> Spot
     requires { ⌜ base + length (now s) < 4294967296 ⌝ }
     ensures { λ r. ⌜ r ≡ spotOf (now (s .entry)) (policy base (now (s .entry))) ⌝ }
@@ -122,7 +123,7 @@ pub fn policy_spot(s: &[u8], base: usize) -> Spot
     }
 }
 
-// Whether the octets, which start at the offset base, are policies to their end. Internal.
+// Whether the octets, which start at the offset base, are policies to their end.
 pub fn are_policies(s: &[u8], base: usize) -> Layout
     requires { ⌜ base + length (now s) < 4294967296 ⌝ }
     ensures { λ r. ⌜ r ≡ layoutOf (policies base (now (s .entry))) ⌝ }

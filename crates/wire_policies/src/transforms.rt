@@ -13,7 +13,7 @@ use ikev2_numbers::TRANSFORM_TYPE_AT;
 use wire_attributes::Layout;
 use wire_attributes::Spot;
 
-// Whether the octets start with a transform's own fields, as long as they say. Internal.
+// Whether the octets start with a transform's own fields, as long as they say.
 fn transform_fits(s: &[u8]) -> bool
     ensures { λ r. ⌜ r ≡ transformFits (now (s .entry)) ⌝ }
 {
@@ -27,7 +27,7 @@ fn transform_fits(s: &[u8]) -> bool
     false
 }
 
-// The transform that the octets, which start at the offset base, start with: where it ends; holder is the offset of its policy. Internal.
+// The transform that the octets, which start at the offset base, start with: where it ends; holder is the offset of its policy.
 pub fn transform_spot(s: &[u8], base: usize, holder: usize) -> Spot
     requires { ⌜ base + length (now s) < 4294967296 ⌝ }
     ensures { λ r. ⌜ r ≡ spotOf (now (s .entry)) (transform holder true base (now (s .entry))) ⌝ }
@@ -47,7 +47,7 @@ pub fn transform_spot(s: &[u8], base: usize, holder: usize) -> Spot
     }
 }
 
-// The transforms that the octets, which start at the offset base, start with: where the last one ends. Internal.
+// The transforms that the octets, which start at the offset base, start with: where the last one ends.
 pub fn transforms_spot(s: &[u8], base: usize, holder: usize) -> Spot
     requires { ⌜ base + length (now s) < 4294967296 ⌝ }
     ensures { λ r. ⌜ r ≡ spotOf (now (s .entry)) (transforms holder base (now (s .entry))) ⌝ }

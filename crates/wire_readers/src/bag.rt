@@ -8,7 +8,7 @@ ghost use Rattle.wire_bags.specs.Bag.{bags};
 ghost use Rattle.wire_readers.specs.inner.Bags.{BagIs};
 use crate::policy::Parts;
 
-// The first of the key bags that the octets are. Internal.
+// The first of the key bags that the octets are.
 pub fn bag_parts(s: &[u8]) -> Parts
     requires { ⌜ (0 < length (now s)) × (isWhole (bags 0 (now s)) ≡ true) ⌝ }
     ensures { λ r. ⌜ BagIs (now (s .entry)) r ⌝ }

@@ -28,7 +28,7 @@ pub struct SaParts {
     pub attributes: usize,
 }
 
-// The first of the transforms that the octets start with. Internal.
+// The first of the transforms that the octets start with.
 pub fn transform_parts(s: &[u8]) -> TransformParts
     requires { ⌜ ((l : List Transform) × (tail : List ℕ) × Transforms (now s) l tail) ⌝ }
     ensures { λ r. ⌜ ((l : List Transform) (tail : List ℕ) → Transforms (now (s .entry)) l tail → TransformIs (now (s .entry)) l tail r) ⌝ }
@@ -41,7 +41,7 @@ pub fn transform_parts(s: &[u8]) -> TransformParts
     }
 }
 
-// Where the last of the transforms that the octets start with ends. Internal.
+// Where the last of the transforms that the octets start with ends.
 fn transforms_end(s: &[u8]) -> usize
     requires { ⌜ ((l : List Transform) × (tail : List ℕ) × Transforms (now s) l tail) ⌝ }
     ensures { λ r. ⌜ (r ≤ length (now (s .entry)))
@@ -57,7 +57,7 @@ fn transforms_end(s: &[u8]) -> usize
     at
 }
 
-// The parts of what a Group SA policy holds after its SPI; the source selector comes first. Internal.
+// The parts of what a Group SA policy holds after its SPI; the source selector comes first.
 pub fn sa_parts(s: &[u8]) -> SaParts
     requires { ⌜ ((p : Place) × (x : SaBody) × IsSaBody p (now s) x) ⌝ }
     ensures { λ r. ⌜ ((p : Place) (x : SaBody) → IsSaBody p (now (s .entry)) x → SaPartsAre p (now (s .entry)) x r) ⌝ }

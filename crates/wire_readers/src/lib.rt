@@ -1,4 +1,5 @@
 // What a frame whose layout is whole holds, gone through again by the judging that follows.
+// Internal: crates of this repository alone call it.
 ghost use mathlib.Core.Path.{_≡_};
 ghost use Rattle.wire_readers.specs.inner.Values.{once};
 
@@ -14,7 +15,7 @@ pub struct Stretch {
     pub end: usize,
 }
 
-// 1 where it is so. Internal.
+// 1 where it is so.
 pub fn one_if(b: bool) -> usize
     ensures { λ r. ⌜ r ≡ once b ⌝ }
 {

@@ -14,7 +14,7 @@ pub struct PayloadParts {
     pub end: usize,
 }
 
-// The first of the payloads that the octets are, which is of a kind. Internal.
+// The first of the payloads that the octets are, which is of a kind.
 pub fn payload_parts(kind: usize, s: &[u8]) -> PayloadParts
     requires { ⌜ (kind ≡ 0 → ⊥) × (isWhole (nothingLeft (payloads kind 0 (now s))) ≡ true) ⌝ }
     ensures { λ r. ⌜ PayloadIs kind (now (s .entry)) r ⌝ }

@@ -16,7 +16,7 @@ pub struct Parts {
     pub end: usize,
 }
 
-// The parts of a policy or key bag whose head fits. Internal.
+// The parts of a policy or key bag whose head fits.
 pub fn head_parts(s: &[u8]) -> Parts
     requires { ⌜ headFits (now s) ≡ true ⌝ }
     ensures { λ r. ⌜ Heads (now (s .entry)) r ⌝ }
@@ -31,7 +31,7 @@ pub fn head_parts(s: &[u8]) -> Parts
     }
 }
 
-// The first of the policies that the octets are. Internal.
+// The first of the policies that the octets are.
 pub fn policy_parts(s: &[u8]) -> Parts
     requires { ⌜ (0 < length (now s)) × (isWhole (policies 0 (now s)) ≡ true) ⌝ }
     ensures { λ r. ⌜ PolicyIs (now (s .entry)) r ⌝ }

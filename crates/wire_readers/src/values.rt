@@ -16,7 +16,6 @@ pub enum ValueFound {
 }
 
 // The first attribute from a place on that has a meaning: where it stands, for `wire_attributes::attribute_value`, and where it ends.
-// Internal.
 pub fn next_attribute(m: Meaning, place: Place, s: &[u8], from: usize) -> ValueFound
     requires { ⌜ (from ≤ length (now s)) × (isWhole (attributes place 0 (drop from (now s))) ≡ true) ⌝ }
     ensures { λ r. ⌜ FindsValue m place (now (s .entry)) from r ⌝ }
@@ -47,7 +46,7 @@ pub fn next_attribute(m: Meaning, place: Place, s: &[u8], from: usize) -> ValueF
     ValueFound::Nothing
 }
 
-// The value of that attribute, where it stands; none where no attribute from the place on has the meaning. Internal.
+// The value of that attribute, where it stands; none where no attribute from the place on has the meaning.
 pub fn value_of(m: Meaning, place: Place, s: &[u8], from: usize) -> &[u8]
     requires { ⌜ (from ≤ length (now s)) × (isWhole (attributes place 0 (drop from (now s))) ≡ true) ⌝ }
     ensures { λ r. ⌜ (now r ≡ firstValue m place (now (s .entry)) from) × (0 < length (now r) → valueSize m (length (now r)) ≡ true) ⌝ }
@@ -59,7 +58,7 @@ pub fn value_of(m: Meaning, place: Place, s: &[u8], from: usize) -> &[u8]
     }
 }
 
-// How many attributes have a meaning. Internal.
+// How many attributes have a meaning.
 pub fn count_of(m: Meaning, place: Place, s: &[u8]) -> usize
     requires { ⌜ isWhole (attributes place 0 (now s)) ≡ true ⌝ }
     ensures { λ r. ⌜ r ≡ length (valuesIn m place (now (s .entry))) ⌝ }

@@ -51,7 +51,7 @@ pub enum Item {
     Nothing,
 }
 
-// The selector that the octets are, at an offset of the policy. Internal.
+// The selector that the octets are, at an offset of the policy.
 pub fn selector_item(s: &[u8], base: usize) -> Item
     requires { ⌜ (base + length (now s) < 2 ^ 64) × ((x : Selector) × IsSelector (now s) x) ⌝ }
     ensures { λ r. ⌜ ((x : Selector) → IsSelector (now (s .entry)) x → r ≡ shownSelector base x) ⌝ }
@@ -66,7 +66,7 @@ pub fn selector_item(s: &[u8], base: usize) -> Item
     }
 }
 
-// The first Key Length of a transform's attributes, in bits, or 0. Internal.
+// The first Key Length of a transform's attributes, in bits, or 0.
 fn key_length(place: Place, s: &[u8]) -> usize
     requires { ⌜ isWhole (attributes place 0 (now s)) ≡ true ⌝ }
     ensures { λ r. ⌜ r ≡ getD (map number16 (valuesIn KeyLength place (now (s .entry)))) 0 0 ⌝ }
@@ -78,7 +78,7 @@ fn key_length(place: Place, s: &[u8]) -> usize
     octets::numbers::be16_at(v, 0)
 }
 
-// The transform that the octets are. Internal.
+// The transform that the octets are.
 pub fn transform_item(s: &[u8]) -> Item
     requires { ⌜ ((t : Transform) × (more : Bool) × IsTransform true (now s) t more) ⌝ }
     ensures { λ r. ⌜ ((t : Transform) (more : Bool) → IsTransform true (now (s .entry)) t more → r ≡ shownTransform t) ⌝ }
@@ -94,7 +94,7 @@ pub fn transform_item(s: &[u8]) -> Item
     }
 }
 
-// The attribute that the octets start with, in a place and at an offset of the policy. Internal.
+// The attribute that the octets start with, in a place and at an offset of the policy.
 pub fn attribute_item(place: Place, s: &[u8], base: usize) -> Item
     requires { ⌜ base + length (now s) < 2 ^ 64 ⌝ }
     ensures { λ r. ⌜ (fits (now (s .entry)) ≡ true → r ≡ shownAttribute place base (attributeOf (now (s .entry)))) ⌝ }

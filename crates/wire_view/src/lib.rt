@@ -1,6 +1,7 @@
 // A policy of a GSA payload, shown where it stands in the frame: a view holds the policy's octets and a cursor, which says what comes next
 // and at which offset, so that a step reads that alone. The borrow checker covers no function over a struct that holds a reference, so each
 // function here takes the view apart and leaves the work to `read`.
+// For customers: the calls of this file. All else is internal.
 ghost use mathlib.Core.Path.{_≡_};
 ghost use Prim.Native.Nat.{_+_};
 ghost use Rattle.wire_view.specs.View.{firstOctet, octetOf, shownKind, shownSpi, spiStart, isAtEnd, nextAfter, itemAt, stepAt};

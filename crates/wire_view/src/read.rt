@@ -20,7 +20,7 @@ pub enum Kind {
     Nothing,
 }
 
-// Which policy the octets are, to their end. Internal.
+// Which policy the octets are, to their end.
 pub fn kind_of(s: &[u8]) -> Kind
     ensures { λ r. ⌜ (r ≡ shownKind (now (s .entry))) × (firstOctet r ≡ octetOf (now (s .entry))) ⌝ }
 {
@@ -44,7 +44,7 @@ pub fn kind_of(s: &[u8]) -> Kind
     Kind::Nothing
 }
 
-// The SPI of the policy that the octets are, where it stands; none for a group-wide policy and for no policy. Internal.
+// The SPI of the policy that the octets are, where it stands; none for a group-wide policy and for no policy.
 pub fn spi_of(s: &[u8]) -> &[u8]
     ensures { λ r. ⌜ (now r ≡ shownSpi (now (s .entry)))
         × (r .ptr ≡ (s .entry .ptr .0, spiStart (now (s .entry)) + s .entry .ptr .1)) ⌝ }
@@ -74,7 +74,7 @@ const ATTRIBUTE: usize = 3;
 
 const PARTS: usize = 4;
 
-// The cursor at an offset for what comes there. Internal.
+// The cursor at an offset for what comes there.
 fn cursor_at(at: usize, comes: usize) -> usize
     requires { ⌜ (at < 65536) × (comes < 4) ⌝ }
     ensures { λ r. ⌜ r ≡ cursorAt at comes ⌝ }
@@ -82,7 +82,7 @@ fn cursor_at(at: usize, comes: usize) -> usize
     PARTS * at + comes
 }
 
-// The step that shows nothing and stays. Internal.
+// The step that shows nothing and stays.
 fn stay(c: usize) -> Step
     ensures { λ r. ⌜ r ≡ stayStep c ⌝ }
 {
@@ -92,7 +92,7 @@ fn stay(c: usize) -> Step
     }
 }
 
-// The step over the selector at an offset, behind which comes another part of the policy. Internal.
+// The step over the selector at an offset, behind which comes another part of the policy.
 fn selector_step(s: &[u8], c: usize, comes: usize, at: usize) -> Step
     requires { ⌜ (length (now s) < 65536) × (comes < 4) ⌝ }
     ensures { λ r. ⌜ r ≡ selectorStep (now (s .entry)) c comes at ⌝ }
@@ -113,7 +113,7 @@ fn selector_step(s: &[u8], c: usize, comes: usize, at: usize) -> Step
     }
 }
 
-// The step over the transform at an offset. Internal.
+// The step over the transform at an offset.
 fn transform_step(s: &[u8], c: usize, at: usize) -> Step
     requires { ⌜ length (now s) < 65536 ⌝ }
     ensures { λ r. ⌜ r ≡ transformStep (now (s .entry)) c at ⌝ }
@@ -140,7 +140,7 @@ fn transform_step(s: &[u8], c: usize, at: usize) -> Step
     }
 }
 
-// The place of a policy's attributes, by its first octet. Internal.
+// The place of a policy's attributes, by its first octet.
 fn place_of(s: &[u8]) -> Place
     requires { ⌜ 0 < length (now s) ⌝ }
     ensures { λ r. ⌜ r ≡ policyPlace (now (s .entry)) ⌝ }
@@ -152,7 +152,7 @@ fn place_of(s: &[u8]) -> Place
     wire_attributes::tables::in_policy(p)
 }
 
-// The step over the attribute at an offset. Internal.
+// The step over the attribute at an offset.
 fn attribute_step(s: &[u8], c: usize, at: usize) -> Step
     requires { ⌜ (0 < length (now s)) × (length (now s) < 65536) ⌝ }
     ensures { λ r. ⌜ r ≡ attributeStep (now (s .entry)) c at ⌝ }
@@ -174,7 +174,7 @@ fn attribute_step(s: &[u8], c: usize, at: usize) -> Step
     }
 }
 
-// The step over the first of all that the policy holds. Internal.
+// The step over the first of all that the policy holds.
 fn first_step(s: &[u8], c: usize) -> Step
     requires { ⌜ (0 < length (now s)) × (length (now s) < 65536) ⌝ }
     ensures { λ r. ⌜ r ≡ firstStep (now (s .entry)) c ⌝ }
@@ -191,7 +191,7 @@ fn first_step(s: &[u8], c: usize) -> Step
     }
 }
 
-// The step from a cursor, by what comes there and at which offset. Internal.
+// The step from a cursor, by what comes there and at which offset.
 fn step_by(s: &[u8], c: usize, comes: usize, at: usize) -> Step
     requires { ⌜ (0 < length (now s)) × (length (now s) < 65536) ⌝ }
     ensures { λ r. ⌜ r ≡ stepBy (now (s .entry)) c comes at ⌝ }
@@ -208,7 +208,7 @@ fn step_by(s: &[u8], c: usize, comes: usize, at: usize) -> Step
     attribute_step(s, c, at)
 }
 
-// What stands at a cursor of the policy that the octets are, and the cursor behind it, which stays at the end. Internal.
+// What stands at a cursor of the policy that the octets are, and the cursor behind it, which stays at the end.
 pub fn step_at(s: &[u8], c: usize) -> Step
     ensures { λ r. ⌜ r ≡ stepAt (now (s .entry)) c ⌝ }
 {
@@ -222,7 +222,7 @@ pub fn step_at(s: &[u8], c: usize) -> Step
     stay(c)
 }
 
-// What stands at a cursor. Internal.
+// What stands at a cursor.
 pub fn item_at(s: &[u8], c: usize) -> Item
     ensures { λ r. ⌜ r ≡ itemAt (now (s .entry)) c ⌝ }
 {
@@ -230,7 +230,7 @@ pub fn item_at(s: &[u8], c: usize) -> Item
     step.item
 }
 
-// The cursor behind it, which stays at the end. Internal.
+// The cursor behind it, which stays at the end.
 pub fn next_after(s: &[u8], c: usize) -> usize
     ensures { λ r. ⌜ r ≡ nextAfter (now (s .entry)) c ⌝ }
 {
@@ -238,7 +238,7 @@ pub fn next_after(s: &[u8], c: usize) -> usize
     step.next
 }
 
-// Whether nothing stands at a cursor. Internal.
+// Whether nothing stands at a cursor.
 pub fn is_at_end(s: &[u8], c: usize) -> bool
     ensures { λ r. ⌜ r ≡ isAtEnd (now (s .entry)) c ⌝ }
 {
