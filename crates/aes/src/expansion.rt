@@ -1,5 +1,5 @@
-// KEYEXPANSION(): FIPS 197, section 5.2, word by word, and for the equivalent inverse cipher, section 5.3.5. The S-box stands in the lent
-// tables from `at` on.
+// KEYEXPANSION() word by word (FIPS 197, section 5.2), and its form for the equivalent inverse cipher (section 5.3.5). `t` holds the lent
+// tables; the S-box stands in them from index `at` on.
 use crate::words::column;
 use crate::words::join;
 use crate::words::last_column;
@@ -20,20 +20,20 @@ ghost use Rattle.aes.specs.inner.Expanding.{ExpandedTo, Placed};
 ghost use Rattle.aes.specs.inner.Inverse.{unmixedOf, inverseWordOf};
 use crate::SCHEDULE_WORDS;
 
-// XTIMES(x).
+// Computes XTIMES(`x`).
 fn times2(x: u8) -> u8
     ensures { λ r. ⌜ r ≡ xtimes x ⌝ }
 {
     (x << 1) ^ (27 * (x >> 7))
 }
 
-// Where the word that comes next stands: which word of its Nk words it is, and the first octet of its Rcon.
+// The place of word i in the expansion: `word` is i mod Nk, and `constant` is the first octet of Rcon[i / Nk].
 pub(crate) struct WordPlace {
     pub word: usize,
     pub constant: u8,
 }
 
-// The place of the word behind.
+// Answers the place of the next word after `p`, for a key of `nk` words.
 fn next_place(p: WordPlace, nk: usize) -> WordPlace
     requires { ⌜ p .word < nk ⌝ }
     ensures { λ r. ⌜ ((i : ℕ) → nk ≤ i → Placed nk i p → Placed nk (i + 1) r) ⌝ }
@@ -51,7 +51,7 @@ fn next_place(p: WordPlace, nk: usize) -> WordPlace
     }
 }
 
-// temp, from the word before.
+// Computes temp for the word at place `p` from the word `x` before it, for a key of `nk` words.
 fn temp_at(t: &[u32], at: usize, nk: usize, p: WordPlace, x: u32) -> u32
     requires { ⌜ (at + 256 ≤ length (now t)) × Boxed sbox (now t) at ⌝ }
     ensures { λ r. ⌜ ((w : List ℕ) (i : ℕ) → Placed nk i p → wordOctets x ≡ word w (i - 1) → wordOctets r ≡ temp nk w i) ⌝ }
@@ -69,7 +69,7 @@ fn temp_at(t: &[u32], at: usize, nk: usize, p: WordPlace, x: u32) -> u32
     x
 }
 
-// The words of the key, and zeros behind them.
+// Loads the words of `key`, with zeros behind them.
 fn key_words(key: &[u8]) -> [u32; SCHEDULE_WORDS]
     requires { ⌜ T (isKey (length (now key))) ⌝ }
     ensures { λ r. ⌜ ExpandedTo (now (key .entry)) r (length (now (key .entry)) / 4) ⌝ }
@@ -84,7 +84,7 @@ fn key_words(key: &[u8]) -> [u32; SCHEDULE_WORDS]
     w
 }
 
-// The round keys' words, and the number of rounds behind them.
+// Expands `key` to the words of its round keys, with the number of rounds at index 60.
 pub fn expand_words(t: &[u32], at: usize, key: &[u8]) -> [u32; SCHEDULE_WORDS]
     requires { ⌜ (at + 256 ≤ length (now t)) × Boxed sbox (now t) at ⌝ }
     requires { ⌜ T (isKey (length (now key))) ⌝ }
@@ -106,7 +106,7 @@ pub fn expand_words(t: &[u32], at: usize, key: &[u8]) -> [u32; SCHEDULE_WORDS]
     w
 }
 
-// INVMIXCOLUMNS() of a word: the combined table has it of INVSBOX(), so SBOX() comes first.
+// Applies INVMIXCOLUMNS() to the word `x`. The combined table gives INVMIXCOLUMNS() of INVSBOX(), so SBOX() is applied first.
 fn unmix(t: &[u32], x: u32) -> u32
     requires { ⌜ 768 ≤ length (now t) ⌝ }
     ensures { λ r. ⌜ r ≡ unmixedOf (now (t .entry)) x ⌝ }
@@ -115,7 +115,7 @@ fn unmix(t: &[u32], x: u32) -> u32
     column(t, y, y, y, y, 0)
 }
 
-// Word j of the inverse schedule of n rounds, from the words w of the expanded key.
+// Computes word `j` of the inverse schedule of `n` rounds from the words `w` of the expanded key.
 fn inverse_word(t: &[u32], w: &[u32; SCHEDULE_WORDS], n: usize, j: usize) -> u32
     requires { ⌜ (768 ≤ length (now t)) × (n < 15) × (j < 4 * (n + 1)) ⌝ }
     ensures { λ r. ⌜ r ≡ inverseWordOf (now (t .entry)) (now (w .entry)) n j ⌝ }
@@ -130,7 +130,7 @@ fn inverse_word(t: &[u32], w: &[u32; SCHEDULE_WORDS], n: usize, j: usize) -> u32
     x
 }
 
-// The round keys' words for the equivalent inverse cipher, and the number of rounds behind them.
+// Expands `key` to the words of the round keys of the equivalent inverse cipher, with the number of rounds at index 60.
 pub fn expanded_inverse(t: &[u32], key: &[u8]) -> [u32; SCHEDULE_WORDS]
     requires { ⌜ now t ≡ decipherTables ⌝ }
     requires { ⌜ T (isKey (length (now key))) ⌝ }

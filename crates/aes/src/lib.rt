@@ -1,5 +1,5 @@
-// AES (FIPS 197): tables are made once and lent, a key is expanded once, and its schedule is lent to each block. Callers treat tables and
-// schedules as opaque: nobody outside this crate looks into their arrays. All functions are internal.
+// AES (FIPS 197). A caller makes the tables once and lends them, expands a key once, and lends its schedule for each block. Callers treat
+// tables and schedules as opaque: no code outside this crate looks into their arrays.
 // Internal: crates of this repository alone call it.
 ghost use mathlib.Core.Path.{_≡_};
 ghost use Prim.Native.Nat.{ℕ, _<_, _+_, _*_};
@@ -31,12 +31,14 @@ use rounds::store;
 use rounds::unite;
 use words::apart;
 
-// The words of the tables that are lent: a combined table and the substitution box; for deciphering the inverse ones, and the substitution
-// box for the key expansion. The words of a schedule: those of the expanded key, and the count of rounds.
+// The words of the tables for enciphering: a combined table and the substitution box.
 pub const TABLE_WORDS: usize = 512;
 
+// The words of the tables for deciphering: the inverse combined table, the inverse substitution box, and the substitution box for the key
+// expansion.
 pub const INVERSE_TABLE_WORDS: usize = 768;
 
+// The words of a schedule: those of the expanded key, at most 60, and the number of rounds.
 pub const SCHEDULE_WORDS: usize = 61;
 
 // The state: a word for each column, the first octet highest.
@@ -53,31 +55,32 @@ pub struct Pair {
     pub lo: u64,
 }
 
-// For `encrypt`: the words of the round keys, zeros behind them, and the number of rounds at 60.
+// The schedule for `encrypt`: the words of the round keys, zeros behind them, and the number of rounds at index 60.
 pub struct Schedule {
     pub words: [u32; SCHEDULE_WORDS],
 }
 
-// For `decrypt`: the same with the round keys of the equivalent inverse cipher.
+// The schedule for `decrypt`: the same with the round keys of the equivalent inverse cipher.
 pub struct InverseSchedule {
     pub words: [u32; SCHEDULE_WORDS],
 }
 
-// What is lent to `expand`, `encrypt` and `encrypt_pair`: made once, since the language has no static data.
+// Makes the tables for `expand`, `encrypt` and `encrypt_pair`. A caller makes them once and lends them, since the language has no static
+// data.
 pub fn tables() -> [u32; TABLE_WORDS]
     ensures { λ r. ⌜ r ≡ encipherTables ⌝ }
 {
     encipher_tables()
 }
 
-// What is lent to `expand_inverse`, `decrypt` and `decrypt_pair`.
+// Makes the tables for `expand_inverse`, `decrypt` and `decrypt_pair`.
 pub fn inverse_tables() -> [u32; INVERSE_TABLE_WORDS]
     ensures { λ r. ⌜ r ≡ decipherTables ⌝ }
 {
     decipher_tables()
 }
 
-// KEYEXPANSION(key).
+// Expands `key` by KEYEXPANSION().
 pub fn expand(tables: &[u32; TABLE_WORDS], key: &[u8]) -> Schedule
     requires { ⌜ now tables ≡ encipherTables ⌝ }
     requires { ⌜ T (isKey (length (now key))) ⌝ }
@@ -87,7 +90,7 @@ pub fn expand(tables: &[u32; TABLE_WORDS], key: &[u8]) -> Schedule
     Schedule { words }
 }
 
-// KEYEXPANSION(key) for the equivalent inverse cipher.
+// Expands `key` for the equivalent inverse cipher.
 pub fn expand_inverse(tables: &[u32; INVERSE_TABLE_WORDS], key: &[u8]) -> InverseSchedule
     requires { ⌜ now tables ≡ decipherTables ⌝ }
     requires { ⌜ T (isKey (length (now key))) ⌝ }
@@ -97,7 +100,7 @@ pub fn expand_inverse(tables: &[u32; INVERSE_TABLE_WORDS], key: &[u8]) -> Invers
     InverseSchedule { words }
 }
 
-// CIPHER().
+// Enciphers `block` by CIPHER() under the key of `schedule`.
 pub fn encrypt(
     tables: &[u32; TABLE_WORDS],
     schedule: &[u32; SCHEDULE_WORDS],
@@ -110,7 +113,7 @@ pub fn encrypt(
     store(run(tables, schedule, load(block)))
 }
 
-// CIPHER() of the block of two numbers.
+// Enciphers the block with the halves `hi` and `lo` by CIPHER() under the key of `schedule`.
 pub fn encrypt_pair(
     tables: &[u32; TABLE_WORDS],
     schedule: &[u32; SCHEDULE_WORDS],
@@ -125,7 +128,7 @@ pub fn encrypt_pair(
     unite(run(tables, schedule, split(hi, lo)))
 }
 
-// INVCIPHER().
+// Deciphers `block` by INVCIPHER() under the key of `schedule`.
 pub fn decrypt(
     tables: &[u32; INVERSE_TABLE_WORDS],
     schedule: &[u32; SCHEDULE_WORDS],
@@ -138,7 +141,7 @@ pub fn decrypt(
     store(reverse_columns(run(tables, schedule, reverse_columns(load(block)))))
 }
 
-// INVCIPHER() of the block of two numbers.
+// Deciphers the block with the halves `hi` and `lo` by INVCIPHER() under the key of `schedule`.
 pub fn decrypt_pair(
     tables: &[u32; INVERSE_TABLE_WORDS],
     schedule: &[u32; SCHEDULE_WORDS],
@@ -153,7 +156,7 @@ pub fn decrypt_pair(
     unite(reverse_columns(run(tables, schedule, reverse_columns(split(hi, lo)))))
 }
 
-// The last word of the expanded key.
+// Reads the last word of the expanded key from `schedule`.
 pub fn last_word(schedule: Schedule) -> [u8; 4]
     requires { ⌜ Expanded (schedule .words) ⌝ }
     ensures { λ r. ⌜ ((key : List ℕ) → Expands key (schedule .words) → r ≡ word (keyExpansion key) (4 * roundsOf key + 3)) ⌝ }
@@ -164,7 +167,7 @@ pub fn last_word(schedule: Schedule) -> [u8; 4]
     apart(w[at])
 }
 
-// Round key r of the equivalent inverse cipher, its columns in the block's order.
+// Reads round key `r` of the equivalent inverse cipher from `schedule`. Its columns are put back in the order of a block.
 pub fn inverse_round_key(schedule: &[u32; SCHEDULE_WORDS], r: usize) -> [u8; 16]
     requires { ⌜ r < 15 ⌝ }
     ensures { λ x. ⌜ x ≡ stateOctets (swappedOf (roundKeyOf (now (schedule .entry)) r)) ⌝ }

@@ -1,4 +1,4 @@
-// The tables that are lent: the combined ones of words, and the substitution boxes behind them (FIPS 197, tables 4 and 6).
+// The lent tables as constants: combined tables of words, and behind them the substitution boxes (FIPS 197, tables 4 and 6).
 ghost use mathlib.Core.Path.{_≡_};
 ghost use Rattle.aes.specs.inner.Tables.{encipherTables, decipherTables};
 use crate::INVERSE_TABLE_WORDS;
@@ -1290,12 +1290,14 @@ const DECIPHER: [u32; INVERSE_TABLE_WORDS] = [
     0x16,
 ];
 
+// Answers the tables for enciphering.
 pub fn encipher_tables() -> [u32; TABLE_WORDS]
     ensures { λ r. ⌜ r ≡ encipherTables ⌝ }
 {
     ENCIPHER
 }
 
+// Answers the tables for deciphering.
 pub fn decipher_tables() -> [u32; INVERSE_TABLE_WORDS]
     ensures { λ r. ⌜ r ≡ decipherTables ⌝ }
 {

@@ -1,4 +1,4 @@
-// The rounds, on a state of four words.
+// The rounds of the cipher on a state of four words. `t` holds the lent tables, `k` the words of a schedule.
 use crate::AesState;
 use crate::Pair;
 use crate::words::apart;
@@ -11,6 +11,7 @@ ghost use lib.ListN.{length, getD};
 ghost use Rattle.aes.specs.inner.Rounds.{stateOctets, loadOf, splitOf, uniteOf, swappedOf, addFirstKey, roundOf, lastRoundOf, runOf};
 use crate::SCHEDULE_WORDS;
 
+// Loads the block `s` into a state.
 pub(crate) fn load(s: [u8; 16]) -> AesState
     ensures { λ x. ⌜ x ≡ loadOf s ⌝ }
 {
@@ -22,6 +23,7 @@ pub(crate) fn load(s: [u8; 16]) -> AesState
     }
 }
 
+// Writes the state `s` as a block.
 pub(crate) fn store(s: AesState) -> [u8; 16]
     ensures { λ r. ⌜ r ≡ stateOctets s ⌝ }
 {
@@ -49,7 +51,7 @@ pub(crate) fn store(s: AesState) -> [u8; 16]
     ]
 }
 
-// The state of the block whose halves are two numbers.
+// Loads the block with the halves `hi` and `lo` into a state.
 pub(crate) fn split(hi: u64, lo: u64) -> AesState
     ensures { λ x. ⌜ x ≡ splitOf hi lo ⌝ }
 {
@@ -61,6 +63,7 @@ pub(crate) fn split(hi: u64, lo: u64) -> AesState
     }
 }
 
+// Writes the state `s` as the two halves of a block.
 pub(crate) fn unite(s: AesState) -> Pair
     ensures { λ x. ⌜ x ≡ uniteOf s ⌝ }
 {
@@ -70,7 +73,7 @@ pub(crate) fn unite(s: AesState) -> Pair
     }
 }
 
-// The columns counted the other way round.
+// Puts the columns in the order 0, 3, 2, 1. In this order the rounds of the cipher serve the inverse cipher.
 pub(crate) fn reverse_columns(s: AesState) -> AesState
     ensures { λ x. ⌜ x ≡ swappedOf s ⌝ }
 {
@@ -82,6 +85,7 @@ pub(crate) fn reverse_columns(s: AesState) -> AesState
     }
 }
 
+// Adds round key 0 to the state `s`.
 fn start(k: &[u32; SCHEDULE_WORDS], s: AesState) -> AesState
     ensures { λ x. ⌜ x ≡ addFirstKey (now (k .entry)) s ⌝ }
 {
@@ -93,6 +97,7 @@ fn start(k: &[u32; SCHEDULE_WORDS], s: AesState) -> AesState
     }
 }
 
+// Does round `r` on the state `s`, with the combined table at the start of `t`.
 fn round(t: &[u32], k: &[u32; SCHEDULE_WORDS], r: usize, s: AesState) -> AesState
     requires { ⌜ (512 ≤ length (now t)) × (r < 15) ⌝ }
     ensures { λ x. ⌜ x ≡ roundOf (now (t .entry)) (now (k .entry)) r s ⌝ }
@@ -106,6 +111,7 @@ fn round(t: &[u32], k: &[u32; SCHEDULE_WORDS], r: usize, s: AesState) -> AesStat
     }
 }
 
+// Does the last round, `r`, on the state `s`, with the substitution box in `t` from index 256 on.
 fn last(t: &[u32], k: &[u32; SCHEDULE_WORDS], r: usize, s: AesState) -> AesState
     requires { ⌜ (512 ≤ length (now t)) × (r < 15) ⌝ }
     ensures { λ x. ⌜ x ≡ lastRoundOf (now (t .entry)) (now (k .entry)) r s ⌝ }
@@ -119,7 +125,7 @@ fn last(t: &[u32], k: &[u32; SCHEDULE_WORDS], r: usize, s: AesState) -> AesState
     }
 }
 
-// All rounds over the schedule k.
+// Does all rounds on the state `s`, as many as word 60 of `k` says.
 pub(crate) fn run(t: &[u32], k: &[u32; SCHEDULE_WORDS], s: AesState) -> AesState
     requires { ⌜ (512 ≤ length (now t)) × (1 ≤ getD (now k) 60 0) × (getD (now k) 60 0 < 15) ⌝ }
     ensures { λ x. ⌜ x ≡ runOf (now (t .entry)) (now (k .entry)) s ⌝ }

@@ -1,4 +1,4 @@
-// New SAs enter the table.
+// Enters new SAs into the table.
 ghost use mathlib.Core.Path.{_≡_};
 ghost use Prim.Native.Nat.{_+_, _≤_};
 ghost use lib.ListN.{take};
@@ -10,7 +10,7 @@ use state_sa::entry::Sa;
 use state_table::Table;
 use state_table::change::goes_ahead;
 
-// The first n of these SAs enter a table that has room for them.
+// Enters the first `n` of `new` into the table `t`, each at its place in the table's order. The table has room for them.
 pub fn enter_all(t: Table, new: [Sa; SAS], n: usize) -> Table
     requires { ⌜ (t .count + n ≤ limits .sas) × (t ≡ tableOf limits (sasOf t)) ⌝ }
     ensures { λ r. ⌜ r ≡ tableOf limits (insertAll (take n new) (sasOf t)) ⌝ }

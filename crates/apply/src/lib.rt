@@ -1,4 +1,4 @@
-// The state of a member that has accepted a frame.
+// Makes the state of a member after it accepted a frame.
 // Internal: crates of this repository alone call it.
 pub mod entering;
 pub mod next;

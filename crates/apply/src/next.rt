@@ -1,4 +1,4 @@
-// The state of a member after an accepted frame: its old SAs, the new ones, the held list and the least Message ID.
+// Makes the state of a member after an accepted frame: its old SAs, the new ones, the held list and the least Message ID.
 ghost use mathlib.Core.Path.{_≡_};
 ghost use mathlib.Core.Bool.{cond};
 ghost use Prim.Native.Nat.{_+_, _≤_};
@@ -36,7 +36,8 @@ pub struct Said {
     pub deletes: DeletesAt,
 }
 
-// The SAs of before: those that are due go; with a new Rekey SA the old one retires, and those that the frame's Delete payloads name.
+// Makes the table of the old SAs, those of before the frame `s`. Those that are due go; the old Rekey SA retires if the frame announces a
+// new one; those that its Delete payloads name retire.
 fn old_sas(t: Table, s: &[u8], tick: u32, x: Said) -> Table
     requires { ⌜ ((f : Frame) × Told (now s) x f) ⌝ }
     requires { ⌜ t .count ≤ limits .sas ⌝ }
@@ -47,7 +48,7 @@ fn old_sas(t: Table, s: &[u8], tick: u32, x: Said) -> Table
     retired_by_frame(stand, s, d, tick, x.delay)
 }
 
-// The least acceptable Message ID: the new Rekey SA's first one, or what the exchange makes of the one before.
+// Answers the least acceptable Message ID after the frame: the first one of a new Rekey SA, or what the exchange makes of `before`.
 fn least_by(x: Said, before: Least) -> Least
     ensures { λ r. ⌜ r ≡ cond (x .rekey) (Id (x .initial)) (leastBy (x .least) (x .id) before) ⌝ }
 {
@@ -62,7 +63,8 @@ fn least_by(x: Said, before: Least) -> Least
     }
 }
 
-// The state after an accepted frame s that says this, and which brings the first n of these new SAs and this held list.
+// Makes the state after the accepted frame `s`. `x` is what the frame says of the member, the first `n` of `new` are the new SAs, and
+// `held` is the held list afterwards.
 pub fn next(
     state: State,
     s: &[u8],

@@ -1,4 +1,4 @@
-// SAs that a Delete payload names retire.
+// Retires the SAs that Delete payloads name.
 ghost use mathlib.Core.Path.{_≡_};
 ghost use Rattle.rules_outcome.specs.After.{isZero};
 ghost use mathlib.Core.Bool.{true};
@@ -16,7 +16,7 @@ use state_sa::entry::Sa;
 use state_table::Table;
 use wire_readers::payload::payload_parts;
 
-// Whether all octets are 0.
+// Whether all octets of `x` are 0.
 fn is_zero(x: &[u8]) -> bool
     ensures { λ r. ⌜ r ≡ isZero (now (x .entry)) ⌝ }
 {
@@ -30,7 +30,7 @@ fn is_zero(x: &[u8]) -> bool
     true
 }
 
-// Whether an SPI of a Delete payload's body names this SA.
+// Whether the Delete payload with the body `o` names the SA `a`. It can name ESP SAs only, and an SPI of zeros names all of them.
 fn is_named(a: Sa, o: &[u8]) -> bool
     requires { ⌜ deleteFits (now o) ≡ true ⌝ }
     ensures { λ r. ⌜ r ≡ namedIn (deleteOf (now (o .entry)) .spis) a ⌝ }
@@ -53,7 +53,8 @@ fn is_named(a: Sa, o: &[u8]) -> bool
     false
 }
 
-// The ESP SAs that the SPIs of a Delete payload's body name retire, in one pass over the table.
+// Retires the ESP SAs that the Delete payload with the body `o` names, in one pass over the table `t`. A table with a count over the limit
+// stays as it is.
 fn retire_spis(t: Table, o: &[u8], tick: u32, delay: u16) -> Table
     requires { ⌜ deleteFits (now o) ≡ true ⌝ }
     ensures { λ r. ⌜ r ≡ retiredThere (namedIn (deleteOf (now (o .entry)) .spis)) tick delay t ⌝ }
@@ -81,7 +82,7 @@ pub struct DeletesAt {
     pub start: usize,
 }
 
-// The ESP SAs that the Delete payloads of a frame name retire: from the first of these payloads to the last.
+// Retires the ESP SAs that the Delete payloads of the frame `s` name. Reads from the first of these (`d.start`) to the last.
 pub fn retired_by_frame(t: Table, s: &[u8], d: DeletesAt, tick: u32, delay: u16) -> Table
     requires { ⌜ ((l : List Delete) × AreDeletes (now s) d l) ⌝ }
     ensures { λ r. ⌜ ((l : List Delete) → AreDeletes (now (s .entry)) d l → r ≡ retiredThere (namedIn (spisIn l)) tick delay t) ⌝ }

@@ -1,4 +1,4 @@
-// The SAs that stand when a frame is accepted.
+// Drops the SAs that are due when a frame is accepted, and retires the old Rekey SA if there is a new one.
 ghost use mathlib.Core.Path.{_≡_};
 ghost use mathlib.Core.List.{map};
 ghost use Prim.Native.Nat.{_≤_};
@@ -10,7 +10,7 @@ use state_sa::entry::REKEY;
 use state_sa::entry::Sa;
 use state_table::Table;
 
-// The SA as a new Rekey SA leaves it, if there is one.
+// Retires the SA `a` if it is a Rekey SA and `new` says that there is a new one.
 fn retire_old(a: Sa, new: bool, tick: u32, delay: u16) -> Sa
     ensures { λ r. ⌜ r ≡ retiredIf (outdated new) tick delay a ⌝ }
 {
@@ -22,7 +22,7 @@ fn retire_old(a: Sa, new: bool, tick: u32, delay: u16) -> Sa
     a
 }
 
-// The table without the SAs that are due; with a new Rekey SA the old one retires.
+// Drops the SAs of `t` that are due at `tick`. Retires the old Rekey SA if `new` says that there is a new one.
 pub fn standing(t: Table, new: bool, tick: u32, delay: u16) -> Table
     requires { ⌜ t .count ≤ limits .sas ⌝ }
     ensures { λ r. ⌜ r ≡ tableOf limits (map (retiredIf (outdated new) tick delay) (notDue tick (sasOf t))) ⌝ }

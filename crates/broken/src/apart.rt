@@ -1,4 +1,4 @@
-// That the comparison looks at every field: a member beside others that differ from it in one place.
+// Shows that the comparison looks at every field: compares a member with others that differ from it in one place.
 use crate::values::changed_key;
 use crate::values::changed_octet;
 use crate::values::changed_place;
@@ -21,6 +21,7 @@ use state::held::HeldKey;
 use state_sa::entry::ESP;
 use state_sa::entry::Sa;
 
+// Compares the member with `other`, and prints the result behind `name`.
 fn beside(name: &[u8], other: Member) {
     let m = member_of(sas(3), held_keys(2));
     crate::print(name);
@@ -29,13 +30,13 @@ fn beside(name: &[u8], other: Member) {
     crate::print(b"\n");
 }
 
-// The member with another first SA.
+// Answers the member with `s` as its first SA.
 fn first(s: Sa) -> Member {
     let t = table_of(s, retiring(esp(2, 28)), rekey(160, 36, 20, 16), 3);
     member_of(t, held_keys(2))
 }
 
-// The member with another first held key.
+// Answers the member with `k` as its first held key.
 fn first_key(k: HeldKey) -> Member {
     member_of(sas(3), held_of(k, key(2, 32), 2))
 }
@@ -76,6 +77,7 @@ fn other_fields() {
     );
 }
 
+// Compares the member with itself and with each of the others.
 pub(crate) fn each() {
     sa_fields();
     other_fields();

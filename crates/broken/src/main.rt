@@ -1,6 +1,6 @@
-// For tests: member values that break the list of what a member is. No line of input and no call of the library makes one. On each of them
-// `receive`, `sweep`, `leave` and `sa` are called, and what they give is printed, after a value that keeps the list. Before that stands
-// what the program's own comparison of members tells apart; last come frames over the member's own channel.
+// For tests: calls `receive`, `sweep`, `leave` and `sa` on member values that break the list of what a member is, and prints what they
+// give. No line of input and no call of the library makes such a value. The first value keeps the list. Before these values the program
+// prints what its own comparison of members tells apart; after them it tries frames over the member's own channel.
 mod apart;
 mod same;
 mod values;
@@ -26,11 +26,12 @@ use values::table_of;
 // A tick at which the retiring SA of the values is due.
 const TICK: u32 = 1000;
 
+// Prints `text` as it stands.
 pub(crate) fn print(text: &[u8]) {
     io::write_all(STDOUT_FILENO, text);
 }
 
-// A rekey over the Rekey SA a0: it deletes ESP SA 01010101.
+// Answers a rekey over the Rekey SA a0, which deletes ESP SA 01010101.
 fn frame() -> [u8; 40] {
     [
         160,
@@ -76,7 +77,7 @@ fn frame() -> [u8; 40] {
     ]
 }
 
-// Whether the first of two values came out unchanged.
+// Prints whether `m` and `next` are the same value.
 pub(crate) fn compared(m: Member, next: Member) {
     if same::same_members(m, next) {
         print(b"same");
@@ -85,6 +86,7 @@ pub(crate) fn compared(m: Member, next: Member) {
     }
 }
 
+// Prints the answer to the frame `f`, and whether the member stays the same.
 fn received(m: Member, f: &[u8]) {
     let lent = [0u8; 16];
     let r = m.receive(f, &lent, TICK);
@@ -95,6 +97,7 @@ fn received(m: Member, f: &[u8]) {
     compared(m, next);
 }
 
+// Prints whether leaving gives a new member.
 fn left(m: Member) {
     let new = Member::new();
     let next = m.leave();
@@ -105,7 +108,7 @@ fn left(m: Member) {
     }
 }
 
-// The answers to the questions about an ESP SA and the Rekey SA.
+// Prints whether `sa` finds ESP SA 01010101 or the Rekey SA a0.
 fn asked(m: Member) {
     let one = [1u8; 4];
     let a0 = [160u8; 16];
@@ -118,6 +121,7 @@ fn asked(m: Member) {
     }
 }
 
+// Makes all four calls on `m`, and prints a line with what they give.
 fn tried(name: &[u8], m: Member) {
     print(name);
     print(b": receive ");
@@ -133,7 +137,7 @@ fn tried(name: &[u8], m: Member) {
     print(b"\n");
 }
 
-// Tables that are as a member's must be but for their count.
+// Tries a value that keeps the list, and values that break it by a count alone.
 fn counts() {
     tried(b"as it must be", member_of(sas(3), held_keys(2)));
     tried(
@@ -158,7 +162,7 @@ fn counts() {
     );
 }
 
-// Tables whose SAs do not rise, or are not of the protocols or sizes that they may have.
+// Tries tables whose SAs do not rise, one with an SA of another protocol, and one with two live Rekey SAs.
 fn orders() {
     tried(
         b"a name twice",
@@ -202,6 +206,7 @@ fn orders() {
     );
 }
 
+// Tries SAs of sizes that they may not have.
 fn sizes() {
     let r = rekey(160, 36, 20, 16);
     tried(
@@ -234,6 +239,7 @@ fn sizes() {
     );
 }
 
+// Tries SAs with lifetimes over the limit.
 fn lifetimes() {
     let r = rekey(160, 36, 20, 16);
     tried(
@@ -252,6 +258,7 @@ fn lifetimes() {
     );
 }
 
+// Tries held lists with Key IDs or sizes that they may not have.
 fn held_lists() {
     tried(
         b"Key ID 0",
@@ -271,7 +278,7 @@ fn held_lists() {
     );
 }
 
-// The frame as a GSA_INBAND_REKEY (exchange type 42).
+// Tries the frame as a GSA_INBAND_REKEY (exchange type 42).
 fn tried_in_band(name: &[u8], m: Member) {
     print(name);
     print(b": receive ");
@@ -281,7 +288,8 @@ fn tried_in_band(name: &[u8], m: Member) {
     print(b"\n");
 }
 
-// D is 4 there; a member whose SAs are all due is empty, so 2.
+// Tries frames over the member's own channel. D is refused there by number 4. A member whose SAs are all due is empty, and refuses by
+// number 2.
 fn in_band() {
     let r = rekey(160, 36, 20, 16);
     tried_in_band(b"in-band, as it must be", member_of(sas(3), held_keys(2)));

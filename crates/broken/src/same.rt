@@ -1,4 +1,4 @@
-// Whether two members are the same value, in unused places too.
+// Compares members: whether two are the same value, in unused places too.
 use gikev2::Member;
 use gikev2::SaAnswer;
 use state::held::Held;
@@ -11,7 +11,7 @@ use state_sa::entry::Lifetime;
 use state_sa::entry::Sa;
 use state_table::Table;
 
-// A number for each condition.
+// Answers a number that tells the condition `c` from every other.
 fn of_condition(c: Condition) -> u64 {
     match c {
         Condition::Live => 0,
@@ -19,7 +19,7 @@ fn of_condition(c: Condition) -> u64 {
     }
 }
 
-// Numbers that tell each lifetime from every other: of its start, of its seconds.
+// Answers a number for the start of `l`. Together with `of_seconds` it tells each lifetime from every other.
 fn of_start(l: Lifetime) -> u64 {
     match l {
         Lifetime::Unlimited => 0,
@@ -27,6 +27,7 @@ fn of_start(l: Lifetime) -> u64 {
     }
 }
 
+// Answers a number for the seconds of `l`.
 fn of_seconds(l: Lifetime) -> u64 {
     match l {
         Lifetime::Unlimited => 0,
@@ -34,7 +35,7 @@ fn of_seconds(l: Lifetime) -> u64 {
     }
 }
 
-// A number for each least Message ID.
+// Answers a number that tells the least Message ID `l` from every other.
 fn of_least(l: Least) -> u64 {
     match l {
         Least::Id(n) => n as u64,
@@ -112,6 +113,7 @@ fn same_lists(a: Held, b: Held) -> bool {
     a.count == b.count
 }
 
+// Whether `a` and `b` are the same value.
 pub(crate) fn same_members(a: Member, b: Member) -> bool {
     let s = a.state;
     let t = b.state;
@@ -127,7 +129,7 @@ pub(crate) fn same_members(a: Member, b: Member) -> bool {
     same_tables(x, y) && same_lists(h, k)
 }
 
-// Whether an answer is "none": found is false, and all else blank.
+// Whether the answer `a` is "none": found is false, and all else blank.
 pub(crate) fn is_none(a: SaAnswer) -> bool {
     let c = a.condition;
     if a.found || a.count != 0 || of_condition(c) != 0 {

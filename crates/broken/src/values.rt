@@ -1,4 +1,4 @@
-// Members by their parts. Unused places hold octets too: a call that leaves a value as it is leaves these.
+// Makes members from parts. Unused places hold octets too: a call that leaves a value as it is leaves these.
 use gikev2::Member;
 use state::State;
 use state::held::Held;
@@ -14,7 +14,7 @@ use state_sa::entry::REKEY;
 use state_sa::entry::Sa;
 use state_table::Table;
 
-// A live SA whose SPI and keying octets are one octet, over and over.
+// Answers a live SA whose SPI and keying octets are `octet`, over and over.
 pub(crate) fn sa_of(
     protocol: u8,
     octet: u8,
@@ -34,15 +34,17 @@ pub(crate) fn sa_of(
     }
 }
 
+// Answers a live ESP SA with `count` keying octets.
 pub(crate) fn esp(octet: u8, count: usize) -> Sa {
     sa_of(ESP, octet, count, 0, 0)
 }
 
+// Answers a live Rekey SA with `count` keying octets, in parts of `encryption` and `wrapping` octets.
 pub(crate) fn rekey(octet: u8, count: usize, encryption: usize, wrapping: usize) -> Sa {
     sa_of(REKEY, octet, count, encryption, wrapping)
 }
 
-// It retires at tick 0 without delay: it is due at every tick.
+// Answers `s`, retiring from tick 0 on without delay: it is due at every tick.
 pub(crate) fn retiring(s: Sa) -> Sa {
     let spi = s.spi;
     let octets = s.octets;
@@ -60,7 +62,7 @@ pub(crate) fn retiring(s: Sa) -> Sa {
     }
 }
 
-// It has a lifetime of so many seconds from tick 0 on.
+// Answers `s` with a lifetime of `seconds` from tick 0 on.
 pub(crate) fn lasting(s: Sa, seconds: u32) -> Sa {
     let spi = s.spi;
     let octets = s.octets;
@@ -78,20 +80,21 @@ pub(crate) fn lasting(s: Sa, seconds: u32) -> Sa {
     }
 }
 
-// Another last octet of the place for SPIs, which an ESP SPI does not use.
+// Answers `s` with another last octet in the place for SPIs, which an ESP SPI does not use.
 pub(crate) fn changed_spi(s: Sa) -> Sa {
     let mut t = s;
     t.spi[15] = 0;
     t
 }
 
-// Another last octet of the place for keying octets.
+// Answers `s` with another last octet in the place for keying octets.
 pub(crate) fn changed_octet(s: Sa) -> Sa {
     let mut t = s;
     t.octets[67] = 0;
     t
 }
 
+// Answers a table that starts with three SAs and has the count `count`.
 pub(crate) fn table_of(first: Sa, second: Sa, third: Sa, count: usize) -> Table {
     let unused = sa_of(0, 255, 0, 0, 0);
     let mut sas = [unused; SAS];
@@ -101,7 +104,7 @@ pub(crate) fn table_of(first: Sa, second: Sa, third: Sa, count: usize) -> Table 
     Table { sas, count }
 }
 
-// Three SAs that a table may hold, one of them due, and a count of them.
+// Answers a table of three SAs that it may hold, one of them due, with the count `count`.
 pub(crate) fn sas(count: usize) -> Table {
     table_of(
         esp(1, 20),
@@ -111,7 +114,7 @@ pub(crate) fn sas(count: usize) -> Table {
     )
 }
 
-// Another SA in the last place.
+// Answers `t` with another SA in the last place.
 pub(crate) fn changed_place(t: Table) -> Table {
     let s = esp(1, 20);
     let mut u = t;
@@ -119,6 +122,7 @@ pub(crate) fn changed_place(t: Table) -> Table {
     u
 }
 
+// Answers a held key with `count` octets.
 pub(crate) fn key(id: u32, count: usize) -> HeldKey {
     let key = WrappingKey {
         octets: [7; 32],
@@ -127,13 +131,14 @@ pub(crate) fn key(id: u32, count: usize) -> HeldKey {
     HeldKey { id, key }
 }
 
-// Another last octet of the place for a key.
+// Answers `k` with another last octet in the place for a key.
 pub(crate) fn changed_key(k: HeldKey) -> HeldKey {
     let mut key = k.key;
     key.octets[31] = 0;
     HeldKey { id: k.id, key }
 }
 
+// Answers a held list that starts with two keys and has the count `count`.
 pub(crate) fn held_of(first: HeldKey, second: HeldKey, count: usize) -> Held {
     let unused = key(0, 0);
     let mut keys = [unused; HELD_KEYS];
@@ -142,12 +147,12 @@ pub(crate) fn held_of(first: HeldKey, second: HeldKey, count: usize) -> Held {
     Held { keys, count }
 }
 
-// Two keys that the held list may hold, and a count of them.
+// Answers a held list of two keys that it may hold, with the count `count`.
 pub(crate) fn held_keys(count: usize) -> Held {
     held_of(key(1, 16), key(2, 32), count)
 }
 
-// Another key in the last place.
+// Answers `h` with another key in the last place.
 pub(crate) fn key_at_the_end(h: Held) -> Held {
     let k = key(9, 16);
     let mut g = h;
@@ -155,6 +160,7 @@ pub(crate) fn key_at_the_end(h: Held) -> Held {
     g
 }
 
+// Answers a member of `table` and `held`, with the least Message ID 5.
 pub(crate) fn member_of(table: Table, held: Held) -> Member {
     let state = State {
         table,
@@ -164,7 +170,7 @@ pub(crate) fn member_of(table: Table, held: Held) -> Member {
     Member { state }
 }
 
-// No Message ID is acceptable any more.
+// Answers `m`, for which no Message ID is acceptable any more.
 pub(crate) fn without_id(m: Member) -> Member {
     let s = m.state;
     let table = s.table;

@@ -14,7 +14,7 @@ use state_table::Table;
 use wire_frames::exchanges::Exchange;
 use wire_frames::exchanges::Wanted;
 
-// Whether an SA is a live Rekey SA with this SPI that is not due.
+// Whether `s` is a live Rekey SA with SPI `spi` and not due at `tick`.
 fn is_over(s: Sa, spi: &[u8], tick: u32) -> bool
     ensures { λ r. ⌜ r ≡ isOver tick (now (spi .entry)) s ⌝ }
 {
@@ -27,7 +27,7 @@ fn is_over(s: Sa, spi: &[u8], tick: u32) -> bool
     false
 }
 
-// Whether the table has a live Rekey SA with this SPI that is not due.
+// Whether table `t` has a live Rekey SA with SPI `spi` that is not due at `tick`.
 fn has_live_rekey(t: Table, spi: &[u8], tick: u32) -> bool
     requires { ⌜ t .count ≤ limits .sas ⌝ }
     ensures { λ r. ⌜ r ≡ any (overLiveRekey (now (spi .entry))) (notDue tick (sasOf t)) ⌝ }
@@ -44,7 +44,7 @@ fn has_live_rekey(t: Table, spi: &[u8], tick: u32) -> bool
     false
 }
 
-// Whether the table is not what the exchange wants of the member.
+// Whether table `t` breaks `wanted` at `tick`: the exchange wants it empty, not empty, or takes either.
 fn breaks_wanted(wanted: Wanted, t: Table, tick: u32) -> bool
     ensures { λ r. ⌜ r ≡ breaksWanted wanted (emptyAt limits tick t) ⌝ }
 {
@@ -60,7 +60,8 @@ fn breaks_wanted(wanted: Wanted, t: Table, tick: u32) -> bool
     }
 }
 
-// Number 2 for a table as a member's must be.
+// Whether number 2 applies where the member value keeps its list. `t` is its table, `x` the row of the frame's exchange, `spi` the header's
+// two SPIs.
 fn is_barred(t: Table, x: Exchange, spi: &[u8], tick: u32) -> bool
     requires { ⌜ t .count ≤ limits .sas ⌝ }
     ensures { λ r. ⌜ r ≡ barred limits t x (now (spi .entry)) tick ⌝ }
@@ -81,7 +82,8 @@ fn is_barred(t: Table, x: Exchange, spi: &[u8], tick: u32) -> bool
     false
 }
 
-// Whether number 2 applies to a frame of this exchange type and these two SPIs.
+// Whether number 2 applies, for `state` at `tick`, to a frame with exchange type `exchange` and the header's two SPIs `spi`. It always does
+// if `state` breaks its list.
 pub fn number_2(state: State, exchange: usize, spi: &[u8], tick: u32) -> bool
     ensures { λ r. ⌜ r ≡ applies (number2 limits state tick exchange (now (spi .entry))) ⌝ }
 {

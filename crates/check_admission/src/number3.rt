@@ -3,7 +3,7 @@ ghost use mathlib.Core.Path.{_≡_};
 ghost use Rattle.rules_refusals.specs.Refusals.{number3, applies};
 use state::State;
 
-// Whether number 3 applies to a frame of this exchange type and Message ID.
+// Whether number 3 applies, for `state`, to a frame with exchange type `exchange` and Message ID `id`.
 pub fn number_3(state: State, exchange: usize, id: u32) -> bool
     ensures { λ r. ⌜ r ≡ applies (number3 state exchange id) ⌝ }
 {

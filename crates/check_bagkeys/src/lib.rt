@@ -22,35 +22,35 @@ use wire_attributes::tables::Place;
 use wire_readers::Stretch;
 use wrapped::KeyFacts;
 
-// What the key bags of a KD payload have.
+// The facts of the key bags of a KD payload.
 pub struct BagFacts {
-    // how many Member Key Bags, and how many WRAP_KEYs
+    // the numbers of Member Key Bags and of WRAP_KEYs
     pub members: usize,
     pub wraps: usize,
-    // a WRAP_KEY has Key ID 0; one has a Key ID that equals its KWK ID
+    // some WRAP_KEY has Key ID 0; some WRAP_KEY has a Key ID that equals its KWK ID
     pub unnamed: bool,
     pub itself: bool,
-    // a Group Key Bag is of AH
+    // some Group Key Bag is of AH
     pub ah: bool,
-    // one has no SA_KEY; one of ESP or AH has several; one of a Rekey SA has several
+    // some Group Key Bag has no SA_KEY; some of ESP or AH has several; some of a Rekey SA has several
     pub keyless: bool,
     pub several: bool,
     pub several_of_rekey: bool,
-    // one has more SA_KEYs than the limit
+    // some Group Key Bag has more SA_KEYs than the limit
     pub overfull: bool,
-    // an SA_KEY has a Key ID; one of ESP has a KWK ID
+    // some SA_KEY has a Key ID other than 0; some SA_KEY of ESP has a KWK ID other than 0
     pub named: bool,
     pub esp_with_kwk_id: bool,
 }
 
-// What a KD body has: the facts of its bags, and where the attributes of the first Member Key Bag stand in it. The stretch is empty where
-// there is no such bag. Where there are several, number 4 applies.
+// The facts of a KD body: those of its bags, and where the attributes of the first Member Key Bag stand in it. The stretch is empty if
+// there is no such bag. If there are several, number 4 applies.
 pub struct KdFacts {
     pub bags: BagFacts,
     pub member_bag: Stretch,
 }
 
-// Those of no bag.
+// Answers the facts of no bag, with which the walk starts.
 fn no_bags() -> BagFacts
     ensures { λ r. ⌜ r ≡ noBags ⌝ }
 {
@@ -69,7 +69,7 @@ fn no_bags() -> BagFacts
     }
 }
 
-// Those of a Group Key Bag of a protocol with such SA_KEYs.
+// Answers the facts of a Group Key Bag of protocol `protocol`. `k` are the facts of its SA_KEYs.
 fn of_group(protocol: usize, k: KeyFacts) -> BagFacts
     ensures { λ r. ⌜ r ≡ ofGroup limits protocol k ⌝ }
 {
@@ -88,7 +88,7 @@ fn of_group(protocol: usize, k: KeyFacts) -> BagFacts
     }
 }
 
-// Those of a Member Key Bag with such WRAP_KEYs.
+// Answers the facts of a Member Key Bag. `k` are the facts of its WRAP_KEYs.
 fn of_member(k: KeyFacts) -> BagFacts
     ensures { λ r. ⌜ r ≡ ofMember k ⌝ }
 {
@@ -107,7 +107,7 @@ fn of_member(k: KeyFacts) -> BagFacts
     }
 }
 
-// Those of the bags of both.
+// Merges the facts of two groups of bags: adds the counts and keeps a fault of either.
 fn merge(a: BagFacts, b: BagFacts) -> BagFacts
     requires { ⌜ (a .members + b .members < 18446744073709551616) × (a .wraps + b .wraps < 18446744073709551616) ⌝ }
     ensures { λ r. ⌜ r ≡ mergeBagFacts a b ⌝ }
@@ -127,7 +127,8 @@ fn merge(a: BagFacts, b: BagFacts) -> BagFacts
     }
 }
 
-// Those of the bag with this first octet and these attributes.
+// Collects the facts of one bag with the attributes `a`: a Member Key Bag if its first octet `first` is 0, else a Group Key Bag of that
+// protocol.
 fn of_bag(first: usize, a: &[u8]) -> BagFacts
     requires { ⌜ isWhole (attributes (placeOf first) 0 (now a)) ≡ true ⌝ }
     ensures { λ r. ⌜
@@ -144,7 +145,8 @@ fn of_bag(first: usize, a: &[u8]) -> BagFacts
     )
 }
 
-// Where the first Member Key Bag has its attributes: here, where this bag begins as one and none is known. No bag ends at octet 0.
+// Answers where the attributes of the first Member Key Bag stand, once the bag with first octet `first` is read: `here` if it is a Member
+// Key Bag and none is known, else `known`. No bag ends at octet 0, so an end of 0 means that none is known.
 fn first_member(first: usize, here: Stretch, known: Stretch) -> Stretch
     ensures { λ r. ⌜ r ≡ firstMember first here known ⌝ }
 {
@@ -154,7 +156,7 @@ fn first_member(first: usize, here: Stretch, known: Stretch) -> Stretch
     known
 }
 
-// The facts of a KD body.
+// Collects the facts of KD body `kd`.
 pub fn kd_facts(kd: &[u8]) -> KdFacts
     requires { ⌜ isWhole (bags 0 (now kd)) ≡ true ⌝ }
     ensures { λ r. ⌜ r ≡ kdFactsOf limits (now (kd .entry)) ⌝ }

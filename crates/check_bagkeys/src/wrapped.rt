@@ -13,7 +13,8 @@ use wire_attributes::tables::Place;
 use wire_readers::values::ValueFound;
 use wire_readers::values::next_attribute;
 
-// How many keys; whether one has a Key ID, one has none, one has a KWK ID, where an ID of 0 is none; whether the IDs of one are equal.
+// The facts of the wrapped keys of one bag: how many there are; some key has a Key ID (`named`), has none (`unnamed`), has a KWK ID, where
+// an ID of 0 counts as none; the two IDs of some key are equal, be they 0 or not (`itself`).
 pub struct KeyFacts {
     pub keys: usize,
     pub named: bool,
@@ -22,7 +23,7 @@ pub struct KeyFacts {
     pub itself: bool,
 }
 
-// The same with one key more, the value of an attribute.
+// Adds to `f` the key in `v`, the value of an attribute.
 fn with_key(f: KeyFacts, v: &[u8]) -> KeyFacts
     requires { ⌜ (8 ≤ length (now v)) × (f .keys < 18446744073709551615) ⌝ }
     ensures { λ r. ⌜ r ≡ withKey f (now (v .entry)) ⌝ }
@@ -38,7 +39,7 @@ fn with_key(f: KeyFacts, v: &[u8]) -> KeyFacts
     }
 }
 
-// The facts of the keys of a bag's attributes.
+// Collects the facts of the keys with meaning `m` (SA_KEY or WRAP_KEY) among the attributes `a` of a bag in `place`.
 pub fn keys_of(m: Meaning, place: Place, a: &[u8]) -> KeyFacts
     requires { ⌜ (carriesKey m ≡ true) × (isWhole (attributes place 0 (now a)) ≡ true) ⌝ }
     ensures { λ r. ⌜ (r ≡ keyFactsOf (valuesIn m place (now (a .entry)))) × (r .keys ≤ length (now (a .entry))) ⌝ }

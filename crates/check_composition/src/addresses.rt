@@ -16,7 +16,7 @@ use ikev2_numbers::START_PORT_AT;
 use ikev2_numbers::TS_IPV4_ADDR_RANGE;
 use ikev2_numbers::TS_IPV6_ADDR_RANGE;
 
-// The octets of an address in a selector of a type; 0 for no type.
+// Answers how many octets an address has in a traffic selector of type `kind`; 0 for a type other than the two.
 fn address_size(kind: usize) -> usize
     ensures { λ r. ⌜ (r ≡ addressSize kind) × (r < 17) ⌝ }
 {
@@ -29,7 +29,7 @@ fn address_size(kind: usize) -> usize
     0
 }
 
-// Whether an address of a selector's type that begins with this octet is a group's.
+// Whether an address with first octet `first` is a multicast address: of IPv4 or IPv6, by the selector's type `kind`.
 fn is_multicast(kind: usize, first: usize) -> bool
     ensures { λ r. ⌜ r ≡ multicast kind (first ∷ []) ⌝ }
 {
@@ -42,7 +42,7 @@ fn is_multicast(kind: usize, first: usize) -> bool
     first == IPV6_GROUP
 }
 
-// Whether a selector is one group address and one port.
+// Whether selector `o` is one multicast address and one port: its starts equal its ends.
 pub fn is_group_address(o: &[u8]) -> bool
     requires { ⌜ ((x : Selector) × IsSelector (now o) x) ⌝ }
     ensures { λ r. ⌜ ((x : Selector) → IsSelector (now (o .entry)) x → r ≡ oneGroupAddress x) ⌝ }

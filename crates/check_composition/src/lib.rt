@@ -1,4 +1,5 @@
-// The facts of the policies of a GSA payload that numbers 4 to 7 of document 01 and the member afterwards go by, in one walk.
+// The facts of the policies of a GSA payload, in one walk: what numbers 4 to 7 of document 01 ask for, and what the next member state
+// needs.
 // Internal: crates of this repository alone call it.
 pub mod addresses;
 pub mod numbers;
@@ -29,14 +30,14 @@ use wire_attributes::tables::Meaning;
 use wire_attributes::tables::Place;
 use wire_readers::one_if;
 
-// What the policies of a GSA payload have.
+// The facts of the policies of a GSA payload.
 pub struct PolicyFacts {
-    // how many Group SA policies, how many of them of ESP, of a Rekey SA; how many group-wide policies
+    // the numbers of Group SA policies, of those of ESP, of those of a Rekey SA, and of group-wide policies
     pub sas: usize,
     pub esps: usize,
     pub rekeys: usize,
     pub wides: usize,
-    // a policy is of AH
+    // some policy is of AH
     pub ah: bool,
     // Key Length stands twice in a transform, GSA_INITIAL_MESSAGE_ID twice in a policy, the deactivation delay twice in a group-wide
     // policy, GSA_KEY_LIFETIME twice in a policy
@@ -44,19 +45,19 @@ pub struct PolicyFacts {
     pub two_message_ids: bool,
     pub two_delays: bool,
     pub two_lifetimes: bool,
-    // the destination of a Rekey policy is not one group address and port
+    // some Rekey policy has a destination that is not one multicast address and one port
     pub elsewhere: bool,
-    // a lifetime has more seconds than it may have
+    // some lifetime has more seconds than allowed
     pub long: bool,
-    // the transforms of a Group SA policy are not those that it must have
+    // some Group SA policy has other transforms than it must have
     pub unfit: bool,
-    // the deactivation delay of the group-wide policies and the first Message ID of the Rekey policies, 0 where they give none, the
-    // greatest where they give several
+    // the deactivation delay of the group-wide policies, and the first Message ID of the Rekey policies; of each the greatest, or 0 if
+    // there is none
     pub delay: u16,
     pub initial: u32,
 }
 
-// Those of no policy.
+// Answers the facts of no policy, with which the walk starts.
 fn no_policies() -> PolicyFacts
     ensures { λ r. ⌜ r ≡ noPolicies ⌝ }
 {
@@ -78,7 +79,7 @@ fn no_policies() -> PolicyFacts
     }
 }
 
-// Those of a group-wide policy with these deactivation delays.
+// Answers the facts of a group-wide policy with the deactivation delays `n`.
 fn of_wide(n: Numbers) -> PolicyFacts
     requires { ⌜ n .greatest < 65536 ⌝ }
     ensures { λ r. ⌜ r ≡ wideBy n ⌝ }
@@ -101,7 +102,8 @@ fn of_wide(n: Numbers) -> PolicyFacts
     }
 }
 
-// Those of a Group SA policy of a protocol with these octets after its SPI, where the exchange has the controller's authentication or not.
+// Collects the facts of a Group SA policy of protocol `protocol`. `o` are its octets after the SPI. `authentication` says whether the
+// exchange asks for the controller's authentication.
 fn of_sa(authentication: bool, protocol: usize, o: &[u8]) -> PolicyFacts
     requires { ⌜ ((x : SaBody) × IsSaBody (inPolicy protocol) (now o) x) ⌝ }
     ensures { λ r. ⌜ ((x : SaBody) (spi : List ℕ) → IsSaBody (inPolicy protocol) (now (o .entry)) x
@@ -135,7 +137,8 @@ fn of_sa(authentication: bool, protocol: usize, o: &[u8]) -> PolicyFacts
     }
 }
 
-// Those of the policy with this first octet and these octets after its head.
+// Collects the facts of one policy: a group-wide policy if its first octet `first` is 0, else a Group SA policy of that protocol. `o` are
+// its octets after the head.
 fn of_policy(authentication: bool, first: usize, o: &[u8]) -> PolicyFacts
     requires { ⌜ PolicyBodyHolds first (now o) ⌝ }
     ensures { λ r. ⌜ FactsOfPolicy authentication first (now (o .entry)) r ⌝ }
@@ -146,7 +149,7 @@ fn of_policy(authentication: bool, first: usize, o: &[u8]) -> PolicyFacts
     of_sa(authentication, first, o)
 }
 
-// Those of the policies of both.
+// Merges the facts of two groups of policies: adds the counts, keeps a fault of either, and takes the greater delay and first Message ID.
 fn merge(a: PolicyFacts, b: PolicyFacts) -> PolicyFacts
     requires { ⌜ Added a b ⌝ }
     ensures { λ r. ⌜ r ≡ mergePolicyFacts a b ⌝ }
@@ -175,7 +178,8 @@ fn merge(a: PolicyFacts, b: PolicyFacts) -> PolicyFacts
     }
 }
 
-// The facts of the policies of a GSA body, where the exchange has the controller's authentication or not.
+// Collects the facts of the policies of GSA body `gsa`. `authentication` says whether the exchange asks for the controller's
+// authentication.
 pub fn policy_facts(authentication: bool, gsa: &[u8]) -> PolicyFacts
     requires { ⌜ isWhole (policies 0 (now gsa)) ≡ true ⌝ }
     ensures { λ r. ⌜ r ≡ policyFactsOf authentication (policiesIn (now (gsa .entry))) ⌝ }

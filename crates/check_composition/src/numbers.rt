@@ -1,4 +1,4 @@
-// The numbers that attributes of a policy give, GSA_INITIAL_MESSAGE_ID, GSA_KEY_LIFETIME or the deactivation delay, in one walk.
+// The numbers in the attributes of a policy (GSA_INITIAL_MESSAGE_ID, GSA_KEY_LIFETIME or the deactivation delay), in one walk.
 ghost use mathlib.Core.Path.{_≡_};
 ghost use mathlib.Core.Bool.{true, cond};
 ghost use Prim.Native.Nat.{_<_, _≤_};
@@ -14,13 +14,13 @@ use wire_attributes::tables::Place;
 use wire_readers::values::ValueFound;
 use wire_readers::values::next_attribute;
 
-// How many numbers, and the greatest; 0 where there is none.
+// How many numbers the attributes of one meaning give, and the greatest of them, or 0 if there is none.
 pub struct Numbers {
     pub count: usize,
     pub greatest: u32,
 }
 
-// The greater of two.
+// Answers the greater of `a` and `b`.
 pub fn greater_u16(a: u16, b: u16) -> u16
     ensures { λ r. ⌜ r ≡ greater a b ⌝ }
 {
@@ -30,6 +30,7 @@ pub fn greater_u16(a: u16, b: u16) -> u16
     a
 }
 
+// Answers the greater of `a` and `b`.
 pub fn greater_u32(a: u32, b: u32) -> u32
     ensures { λ r. ⌜ r ≡ greater a b ⌝ }
 {
@@ -39,7 +40,7 @@ pub fn greater_u32(a: u32, b: u32) -> u32
     a
 }
 
-// The number where it is so, else 0.
+// Answers `n` if `b` is true, else 0.
 pub fn if_so(b: bool, n: u32) -> u32
     ensures { λ r. ⌜ r ≡ cond b n 0 ⌝ }
 {
@@ -49,7 +50,7 @@ pub fn if_so(b: bool, n: u32) -> u32
     0
 }
 
-// The number that a value of an attribute with this meaning is.
+// Reads the number in `v`, the value of an attribute with meaning `m`.
 fn number_of(m: Meaning, v: &[u8]) -> u32
     requires { ⌜ (isNumber m ≡ true) × (valueSize m (length (now v)) ≡ true) ⌝ }
     ensures { λ r. ⌜ (r ≡ numberBy m (now (v .entry))) × (r ≤ most m) ⌝ }
@@ -65,7 +66,7 @@ fn number_of(m: Meaning, v: &[u8]) -> u32
     }
 }
 
-// The same with one number more, the value of an attribute.
+// Adds to `n` the number in `v`, the value of an attribute with meaning `m`.
 fn with_number(m: Meaning, n: Numbers, v: &[u8]) -> Numbers
     requires { ⌜ (isNumber m ≡ true) × (valueSize m (length (now v)) ≡ true) × (n .count < 18446744073709551615) × (n .greatest ≤ most m) ⌝ }
     ensures { λ r. ⌜ (r ≡ withNumber m n (now (v .entry))) × (r .greatest ≤ most m) ⌝ }
@@ -76,7 +77,7 @@ fn with_number(m: Meaning, n: Numbers, v: &[u8]) -> Numbers
     Numbers { count, greatest }
 }
 
-// The numbers that the attributes with a meaning give.
+// Collects the numbers of all attributes with meaning `m` among the attributes `a` in `place`.
 pub fn numbers_of(m: Meaning, place: Place, a: &[u8]) -> Numbers
     requires { ⌜ (isNumber m ≡ true) × (isWhole (attributes place 0 (now a)) ≡ true) ⌝ }
     ensures { λ r. ⌜ (r ≡ numbersBy m (valuesIn m place (now (a .entry)))) × (r .greatest ≤ most m) ⌝ }

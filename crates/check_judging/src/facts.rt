@@ -12,15 +12,16 @@ ghost use Rattle.wire_frames.specs.Frame.{frame};
 ghost use Rattle.wire_readers.specs.inner.Values.{isWhole};
 ghost use Rattle.check_judging.specs.inner.Facts.{frameFactsOf};
 
+// The facts of one frame.
 pub struct Facts {
     pub payloads: PayloadFacts,
     pub policies: PolicyFacts,
     pub bags: BagFacts,
-    // where the attributes of the Member Key Bag stand in the body of the KD; where there is none, the stretch is empty
+    // where the attributes of the first Member Key Bag stand in the body of the KD; an empty stretch if there is none
     pub member_bag: Stretch,
 }
 
-// The facts of a frame of an exchange that has the controller's authentication or not.
+// Collects the facts of frame `s`. `authentication` says whether its exchange asks for the controller's authentication.
 pub fn facts_of(authentication: bool, s: &[u8]) -> Facts
     requires { ⌜ isWhole (frame (now s)) ≡ true ⌝ }
     ensures { λ r. ⌜ r ≡ frameFactsOf authentication (now (s .entry)) ⌝ }

@@ -5,7 +5,7 @@ ghost use mathlib.Core.Path.{_≡_};
 ghost use Rattle.rules_refusals.specs.Refusals.{one};
 ghost use Rattle.check_judging.specs.inner.Tests.{number4By, number4In};
 
-// The clauses of number 4, in the order in which documents 01 and 02 name them: whether each applies.
+// Whether each clause of number 4 applies, in the order of documents 01 and 02.
 pub struct Four {
     pub critical: bool,
     pub member_bag: bool,
@@ -26,7 +26,7 @@ pub struct Four {
     pub two_lifetimes: bool,
 }
 
-// Which clauses apply, in an exchange with this row, to a frame with these facts.
+// Judges each clause of number 4 for a frame with the facts `x`. `row` is the row of its exchange.
 pub fn clauses_4(row: Exchange, x: Facts) -> Four
     ensures { λ r. ⌜ number4In r ≡ number4By row x ⌝ }
 {
@@ -68,7 +68,7 @@ pub fn clauses_4(row: Exchange, x: Facts) -> Four
     }
 }
 
-// Whether number 4 applies, in an exchange with this row, to a frame with these facts.
+// Whether number 4 applies to a frame with the facts `x`. `row` is the row of its exchange.
 pub fn number_4(row: Exchange, x: Facts) -> bool
     ensures { λ r. ⌜ r ≡ one (number4By row x) ⌝ }
 {

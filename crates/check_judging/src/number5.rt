@@ -6,7 +6,7 @@ ghost use mathlib.Core.Path.{_≡_};
 ghost use Rattle.rules_refusals.specs.Refusals.{one};
 ghost use Rattle.check_judging.specs.inner.Tests.{number5By, number5In};
 
-// The clauses of number 5, in the order in which document 01 names them: whether each applies.
+// Whether each clause of number 5 applies, in the order of document 01.
 pub struct Five {
     pub ah_policy: bool,
     pub ah_bag: bool,
@@ -16,7 +16,8 @@ pub struct Five {
     pub key: bool,
 }
 
-// Which clauses apply, in an exchange with this row and with a lent key of so many octets, to a frame with these facts.
+// Judges each clause of number 5 for a frame with the facts `x`. `row` is the row of its exchange, `lent` the size of the lent key in
+// octets.
 pub fn clauses_5(row: Exchange, lent: usize, x: Facts) -> Five
     ensures { λ r. ⌜ number5In r ≡ number5By row lent x ⌝ }
 {
@@ -44,7 +45,7 @@ pub fn clauses_5(row: Exchange, lent: usize, x: Facts) -> Five
     }
 }
 
-// Whether number 5 applies, in an exchange with this row and with a lent key of so many octets, to a frame with these facts.
+// Whether number 5 applies to a frame with the facts `x`. `row` is the row of its exchange, `lent` the size of the lent key in octets.
 pub fn number_5(row: Exchange, lent: usize, x: Facts) -> bool
     ensures { λ r. ⌜ r ≡ one (number5By row lent x) ⌝ }
 {

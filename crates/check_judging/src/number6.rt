@@ -13,7 +13,7 @@ ghost use Rattle.check_pairing.specs.inner.Names.{Name, Names};
 ghost use Rattle.rules_refusals.specs.Refusals.{one};
 ghost use Rattle.check_judging.specs.inner.Tests.{keysBy, keysIn, number6By};
 
-// The clauses of number 6 on the keys of the bags, in the order in which document 01 and T-09 name them: whether each applies.
+// Whether each clause of number 6 on the keys of the bags applies, in the order of document 01 and T-09.
 pub struct Keys {
     pub count: bool,
     pub named: bool,
@@ -22,7 +22,7 @@ pub struct Keys {
     pub itself: bool,
 }
 
-// Which clauses on the keys apply, in an exchange with this row, to bags with these facts.
+// Judges each clause of number 6 on the keys for bags with the facts `k`. `row` is the row of the frame's exchange.
 pub fn clauses_6(row: Exchange, k: BagFacts) -> Keys
     ensures { λ r. ⌜ keysIn r ≡ keysBy row k ⌝ }
 {
@@ -45,7 +45,7 @@ pub fn clauses_6(row: Exchange, k: BagFacts) -> Keys
     }
 }
 
-// Whether one of number 6's clauses on the keys of the bags applies, in an exchange with this row.
+// Whether some clause of number 6 on the keys applies to bags with the facts `k`. `row` is the row of the frame's exchange.
 pub fn any_unfit_key(row: Exchange, k: BagFacts) -> bool
     ensures { λ r. ⌜ r ≡ one (keysBy row k) ⌝ }
 {
@@ -53,8 +53,8 @@ pub fn any_unfit_key(row: Exchange, k: BagFacts) -> bool
     c.count | c.named | c.esp_with_kwk_id | c.unnamed | c.itself
 }
 
-// Whether number 6 applies, in an exchange with this row and over this table, to a frame with these facts and these bodies of GSA and KD.
-// The names, which take a walk for each, are compared where no fact decides.
+// Whether number 6 applies, over table `t` at `tick`, to a frame with the facts `x` and the bodies `gsa` and `kd`. `row` is the row of its
+// exchange. The names are compared only if no fact decides, because each name takes a walk of its own.
 pub fn number_6(row: Exchange, x: Facts, gsa: &[u8], kd: &[u8], t: Table, tick: u32) -> bool
     requires { ⌜ ((l : List Name) × Names (now gsa) l) × ((m : List Name) × Names (now kd) m) × (t .count ≤ limits .sas) ⌝ }
     ensures { λ r. ⌜ ((l m : List Name) → Names (now (gsa .entry)) l → Names (now (kd .entry)) m →

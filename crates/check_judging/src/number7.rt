@@ -11,7 +11,7 @@ ghost use Rattle.state_keys.specs.Limits.{limits};
 ghost use Rattle.rules_refusals.specs.Refusals.{one};
 ghost use Rattle.check_judging.specs.inner.Tests.{number7By, number7In};
 
-// Whether so many SAs that stand and so many more are too many for the table.
+// Whether `standing` SAs of the table and `more` new ones are over the limit. The sum is never formed, so it cannot overflow.
 fn is_over(standing: usize, more: usize) -> bool
     ensures { λ r. ⌜ r ≡ ltb (limits .sas) (standing + more) ⌝ }
 {
@@ -21,7 +21,7 @@ fn is_over(standing: usize, more: usize) -> bool
     SAS - standing < more
 }
 
-// The clauses of number 7, those on the frame before that on the table: whether each applies.
+// Whether each clause of number 7 applies: those on the frame, then the one on the table.
 pub struct Seven {
     pub esps: bool,
     pub wraps: bool,
@@ -31,7 +31,7 @@ pub struct Seven {
     pub sas: bool,
 }
 
-// Which clauses apply to a frame with these facts, where so many SAs stand.
+// Judges each clause of number 7 for a frame with the facts `x`. `standing` is the number of SAs in the table that are not due.
 pub fn clauses_7(x: Facts, standing: usize) -> Seven
     ensures { λ r. ⌜ number7In r ≡ number7By limits x standing ⌝ }
 {
@@ -61,7 +61,7 @@ pub fn clauses_7(x: Facts, standing: usize) -> Seven
     }
 }
 
-// Whether number 7 applies to a frame with these facts, where so many SAs stand.
+// Whether number 7 applies to a frame with the facts `x`. `standing` is the number of SAs in the table that are not due.
 pub fn number_7(x: Facts, standing: usize) -> bool
     ensures { λ r. ⌜ r ≡ one (number7By limits x standing) ⌝ }
 {

@@ -24,13 +24,14 @@ ghost use Rattle.rules_refusals.specs.Refusals.{judged, onFrame, refusal as ref
 ghost use Rattle.check_judging.specs.inner.Facts.{frameFactsOf};
 ghost use Rattle.check_judging.specs.inner.Verdicts.{verdictBy};
 
-// The number that applies first, or, where none does, the facts of the frame for what follows.
+// The first number that applies or, if none does, the facts of the frame for the steps that follow.
 pub enum Verdict {
     Refused(usize),
     Passed(Facts),
 }
 
-// The first of numbers 4 to 7 that applies to a frame with these facts, whose exchange has this row; 0 where none does.
+// Answers the first of numbers 4 to 7 that applies to frame `s` with the facts `x`, or 0 if none does. `row` is the row of its exchange,
+// `lent` the lent key.
 fn on_facts(state: State, row: Exchange, s: &[u8], x: Facts, lent: &[u8], tick: u32) -> usize
     requires { ⌜ state .table .count ≤ limits .sas ⌝ }
     requires { ⌜ isWhole (frame (now s)) ≡ true ⌝ }
@@ -62,7 +63,7 @@ fn on_facts(state: State, row: Exchange, s: &[u8], x: Facts, lent: &[u8], tick: 
     0
 }
 
-// What numbers 4 to 7 make of a frame whose exchange has this row.
+// Collects the facts of frame `s` and judges numbers 4 to 7. `row` is the row of its exchange, `lent` the lent key.
 fn on_frame(state: State, row: Exchange, s: &[u8], lent: &[u8], tick: u32) -> Verdict
     requires { ⌜ state .table .count ≤ limits .sas ⌝ }
     requires { ⌜ isWhole (frame (now s)) ≡ true ⌝ }
@@ -78,7 +79,7 @@ fn on_frame(state: State, row: Exchange, s: &[u8], lent: &[u8], tick: u32) -> Ve
     Verdict::Refused(n)
 }
 
-// What numbers 2 to 7 make of a frame.
+// Judges numbers 2 to 7 for frame `s`, handed to `state` at `tick` with the lent key `lent`.
 pub fn refusal(state: State, s: &[u8], lent: &[u8], tick: u32) -> Verdict
     requires { ⌜ isWhole (frame (now s)) ≡ true ⌝ }
     ensures { λ r. ⌜ ((f : Frame) → frame (now (s .entry)) ≡ whole f [] →

@@ -1,4 +1,4 @@
-// Which policies, key bags and SAs of the table have one protocol and SPI, over the two bodies of a frame.
+// Compares policies, key bags and SAs of the table by protocol and SPI. The policies and bags are read from a frame's GSA and KD bodies.
 // Internal: crates of this repository alone call it.
 pub mod names;
 pub mod stretch;
@@ -13,7 +13,7 @@ ghost use Rattle.check_pairing.specs.inner.Names.{Name, Names, isAnnounc
 use state_sa::entry::Sa;
 use state_table::Table;
 
-// Whether this SA of the table is not due and has the name of a policy of the GSA body.
+// Whether SA `s` is not due at `tick` and has the protocol and SPI of a policy of GSA body `gsa`.
 fn is_announced(s: Sa, gsa: &[u8], tick: u32) -> bool
     requires { ⌜ ((l : List Name) × Names (now gsa) l) ⌝ }
     ensures { λ r. ⌜ ((l : List Name) → Names (now (gsa .entry)) l → r ≡ isAnnounced tick l s) ⌝ }
@@ -27,7 +27,7 @@ fn is_announced(s: Sa, gsa: &[u8], tick: u32) -> bool
     0 < names::count_names(octets::wide(p), &x[0..n], gsa)
 }
 
-// Whether some SA of the table is not due and has the name of a policy of the GSA body.
+// Whether some SA of table `t` is not due at `tick` and has the protocol and SPI of a policy of GSA body `gsa`.
 pub fn any_in_table(gsa: &[u8], t: Table, tick: u32) -> bool
     requires { ⌜ ((l : List Name) × Names (now gsa) l) × (t .count ≤ limits .sas) ⌝ }
     ensures { λ r. ⌜ ((l : List Name) → Names (now (gsa .entry)) l → r ≡ any (isAnnounced tick l) (sasOf t)) ⌝ }

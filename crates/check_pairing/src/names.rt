@@ -1,4 +1,4 @@
-// The names, protocol and SPI, of the policies of a GSA body or of the key bags of a KD body, by their heads alone.
+// The names (protocol and SPI) of the policies of a GSA body or of the key bags of a KD body, read from their heads alone.
 ghost use mathlib.Core.Path.{_≡_};
 ghost use mathlib.Core.List.{List};
 ghost use lib.ListN.{length};
@@ -6,7 +6,8 @@ ghost use Rattle.state_keys.specs.Lists.{any, count};
 ghost use Rattle.check_pairing.specs.inner.Names.{Name, Names, nameOf, isNamed, isUnpaired};
 use ikev2_numbers::POLICY_HEAD;
 
-// Whether a policy or key bag with this first octet and SPI x has a name, and it is this protocol and SPI.
+// Whether a policy or key bag with first octet `first` and SPI `x` has the name `protocol` and `spi`. A group-wide policy or a Member Key
+// Bag (`first` is 0) has no name.
 pub fn is_named(protocol: usize, spi: &[u8], first: usize, x: &[u8]) -> bool
     ensures { λ r. ⌜ r ≡ any (isNamed protocol (now (spi .entry))) (nameOf first (now (x .entry))) ⌝ }
 {
@@ -19,7 +20,7 @@ pub fn is_named(protocol: usize, spi: &[u8], first: usize, x: &[u8]) -> bool
     false
 }
 
-// How many of the names are this protocol and SPI.
+// Counts the policies or key bags of body `s` with the name `protocol` and `spi`.
 pub fn count_names(protocol: usize, spi: &[u8], s: &[u8]) -> usize
     requires { ⌜ ((l : List Name) × Names (now s) l) ⌝ }
     ensures { λ r. ⌜ ((l : List Name) → Names (now (s .entry)) l → r ≡ count (isNamed protocol (now (spi .entry))) l) ⌝ }
@@ -39,7 +40,8 @@ pub fn count_names(protocol: usize, spi: &[u8], s: &[u8]) -> usize
     n
 }
 
-// Whether the name of a policy or key bag, by this first octet and SPI, stands in the other body never or more than once.
+// Whether the name of a policy or key bag, first octet `first` and SPI `x`, stands in the other body `t` never or more than once. A policy
+// or bag without a name is not unpaired.
 fn is_unpaired(first: usize, x: &[u8], t: &[u8]) -> bool
     requires { ⌜ ((m : List Name) × Names (now t) m) ⌝ }
     ensures { λ r. ⌜ ((m : List Name) → Names (now (t .entry)) m → r ≡ any (isUnpaired m) (nameOf first (now (x .entry)))) ⌝ }
@@ -50,7 +52,7 @@ fn is_unpaired(first: usize, x: &[u8], t: &[u8]) -> bool
     count_names(first, x, t) != 1
 }
 
-// Whether some name of the first body stands in the second never or more than once.
+// Whether some name of body `s` stands in body `t` never or more than once.
 pub fn any_unpaired(s: &[u8], t: &[u8]) -> bool
     requires { ⌜ ((l : List Name) × Names (now s) l) × ((m : List Name) × Names (now t) m) ⌝ }
     ensures { λ r. ⌜

@@ -8,7 +8,8 @@ use crate::names::is_named;
 use ikev2_numbers::POLICY_HEAD;
 use wire_readers::Stretch;
 
-// Where the attributes of the first Group Key Bag of a KD body with this protocol and SPI stand in the body.
+// Finds the first Group Key Bag with `protocol` and `spi` in KD body `kd` and answers where its attributes stand. The stretch is empty if
+// there is no such bag.
 pub fn bag_stretch(kd: &[u8], protocol: usize, spi: &[u8]) -> Stretch
     requires { ⌜ isWhole (bags 0 (now kd)) ≡ true ⌝ }
     ensures { λ r. ⌜ r ≡ bagStretch protocol (now (spi .entry)) (now (kd .entry)) ⌝ }

@@ -11,14 +11,14 @@ use ikev2_numbers::DELETE_COUNT_AT;
 use ikev2_numbers::DELETE_HEAD;
 use ikev2_numbers::ESP;
 
-// The body of a Delete payload: its protocol, the octets of each SPI, how many SPIs.
+// The fields of a Delete payload's body: its protocol, the size of each SPI in octets, the number of SPIs.
 pub struct DeleteParts {
     pub protocol: usize,
     pub size: usize,
     pub count: usize,
 }
 
-// The body of a Delete payload.
+// Reads the fields of a Delete payload's body `o`.
 pub fn delete_parts(o: &[u8]) -> DeleteParts
     requires { ⌜ deleteFits (now o) ≡ true ⌝ }
     ensures { λ r. ⌜ DeleteIs (now (o .entry)) r ⌝ }
@@ -30,7 +30,7 @@ pub fn delete_parts(o: &[u8]) -> DeleteParts
     }
 }
 
-// An SPI of a Delete payload's body, where it stands.
+// Answers the octets of the SPI at place `i`, counted from 0, in a Delete payload's body `o`.
 pub fn spi_at(o: &[u8], i: usize) -> &[u8]
     requires { ⌜ (deleteFits (now o) ≡ true) × (i < length (deleteOf (now o) .spis)) ⌝ }
     ensures { λ r. ⌜ now r ≡ getD (deleteOf (now (o .entry)) .spis) i [] ⌝ }
@@ -41,14 +41,15 @@ pub fn spi_at(o: &[u8], i: usize) -> &[u8]
     &o[a..e]
 }
 
-// Whether a Delete payload is of another protocol than ESP, whether one has no SPI, how many SPIs there are.
+// The facts of a frame's Delete payloads: one is of another protocol than ESP (`other`), one has no SPI (`none`), and how many SPIs they
+// have together (`spis`).
 pub struct Deletes {
     pub other: bool,
     pub none: bool,
     pub spis: usize,
 }
 
-// The same, with one Delete payload more.
+// Adds a Delete payload with body `o` to the facts `d`.
 fn with_one(d: Deletes, o: &[u8]) -> Deletes
     requires { ⌜ (deleteFits (now o) ≡ true) × (d .spis < 4294967296) ⌝ }
     ensures { λ r. ⌜ (r ≡ withOne d (deleteOf (now (o .entry)))) × (r .spis < d .spis + 65536) ⌝ }
@@ -69,7 +70,7 @@ fn with_one(d: Deletes, o: &[u8]) -> Deletes
     }
 }
 
-// The same, with this payload more where it is a Delete payload.
+// Adds a payload of type `kind` with body `o` to the facts `d`. Only a Delete payload changes them.
 pub fn with_payload(d: Deletes, kind: usize, o: &[u8]) -> Deletes
     requires { ⌜ (kind ≡ 42 → deleteFits (now o) ≡ true) × (d .spis < 4294967296) ⌝ }
     ensures { λ r. ⌜ (r ≡ deletesWith d kind (now (o .entry))) × (r .spis < d .spis + 65536) ⌝ }

@@ -1,4 +1,4 @@
-// Payloads by their type, which the payload before them names, or the header.
+// Payloads by their type. The header names the type of the first payload, each payload that of the next.
 ghost use mathlib.Core.Path.{_≡_};
 ghost use Rattle.wire_frames.specs.Frame.{isKnown};
 ghost use Rattle.check_payloads.specs.inner.Facts.{firstWith};
@@ -11,7 +11,7 @@ use ikev2_numbers::KD;
 use ikev2_numbers::NOTIFY;
 use wire_readers::Stretch;
 
-// Whether payloads of a type are known: IDr, CERT, AUTH, N, D, GSA, KD.
+// Whether payload type `kind` is known: IDr, CERT, AUTH, N, D, GSA or KD.
 pub fn is_known(kind: usize) -> bool
     ensures { λ r. ⌜ r ≡ isKnown kind ⌝ }
 {
@@ -27,7 +27,8 @@ pub fn is_known(kind: usize) -> bool
     }
 }
 
-// Where the first payload of a type stands: at this place, where it is one and there was none before it.
+// Answers where the first payload of a type stands, once the payload at `this` is read: at `this` if it has the type (`hit`) and none
+// `before` it had, else at `known`.
 pub fn first(hit: bool, before: usize, this: Stretch, known: Stretch) -> Stretch
     ensures { λ r. ⌜ r ≡ firstWith hit before this known ⌝ }
 {

@@ -21,23 +21,23 @@ use wire_readers::Stretch;
 use wire_readers::one_if;
 use wire_readers::payload::payload_parts;
 
-// What the payloads of a frame are.
+// The facts of a frame's payloads.
 pub struct PayloadFacts {
-    // how many GSA, KD and D
+    // the numbers of GSA, KD and D payloads
     pub gsas: usize,
     pub kds: usize,
     pub deletes: usize,
-    // where the body of the first of each stands; where there is none, the stretch is empty
+    // where the body of the first of each stands in the frame; an empty stretch if there is none
     pub gsa: Stretch,
     pub kd: Stretch,
     pub delete: Stretch,
-    // a payload of an unknown type is critical
+    // some payload of an unknown type is critical
     pub critical: bool,
-    // what the D payloads say
+    // the facts of the D payloads
     pub deletion: Deletes,
 }
 
-// Those of no payload.
+// Answers the facts of no payload, with which the walk starts.
 fn no_payloads() -> PayloadFacts
     ensures { λ r. ⌜ r ≡ noPayloads ⌝ }
 {
@@ -57,7 +57,7 @@ fn no_payloads() -> PayloadFacts
     }
 }
 
-// The same with one payload more: its type, whether it is critical, where its body stands, and the body o.
+// Adds a payload to the facts `b`: its type `kind`, its flag `critical`, the `place` of its body in the frame, and the body `o`.
 fn with_payload(
     b: PayloadFacts,
     kind: usize,
@@ -92,7 +92,7 @@ fn with_payload(
     }
 }
 
-// The facts of the payloads of a frame.
+// Collects the facts of the payloads of frame `s`. Type 0 ends them.
 pub fn payload_facts(s: &[u8]) -> PayloadFacts
     requires { ⌜ isWhole (frame (now s)) ≡ true ⌝ }
     ensures { λ r. ⌜ r ≡ payloadFactsOf (now (s .entry)) ⌝ }

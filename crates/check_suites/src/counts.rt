@@ -1,4 +1,4 @@
-// What transforms come to, one transform and several.
+// Counts of transforms: of one transform, of several, and whether they fit a policy.
 ghost use mathlib.Core.Path.{_≡_};
 ghost use mathlib.Core.Bool.{true, _&&_, _||_};
 ghost use mathlib.Core.List.{[], _∷_};
@@ -22,8 +22,8 @@ use ikev2_numbers::UNSPECIFIED;
 use wire_attributes::tables::Meaning;
 use wire_readers::one_if;
 
-// How many transforms there are; how many are fit for encryption, key wrap, sequence numbers and the controller's authentication; how many
-// have several Key Lengths.
+// Counts of transforms: all (`count`), those fit for encryption, key wrap, sequence numbers and the controller's authentication, and those
+// with several Key Lengths (`doubled`).
 pub struct SuiteCounts {
     pub count: usize,
     pub encryption: usize,
@@ -39,14 +39,14 @@ pub struct Needs {
     pub wrapping: usize,
 }
 
-// A type of transforms, and two of its IDs.
+// A transform type and two IDs in it, either of which is fit.
 pub struct EitherId {
     pub kind: usize,
     pub one: usize,
     pub other: usize,
 }
 
-// Whether a transform has the type and one of the two IDs.
+// Whether a transform of type `kind` with ID `id` has the type and one of the two IDs of `w`.
 fn is_one_of(kind: usize, id: usize, w: EitherId) -> bool
     ensures { λ r. ⌜ r ≡ (eqb kind (w .kind) && (eqb id (w .one) || eqb id (w .other))) ⌝ }
 {
@@ -59,7 +59,7 @@ fn is_one_of(kind: usize, id: usize, w: EitherId) -> bool
     false
 }
 
-// What one transform comes to.
+// Counts one transform, of type `kind` with ID `id` and attributes `a`.
 pub fn one_transform(kind: usize, id: usize, a: &[u8]) -> SuiteCounts
     requires { ⌜ (id < 65536) × (isWhole (attributes (inTransform kind) 0 (now a)) ≡ true) × (length (now a) < 4294967296) ⌝ }
     ensures { λ r. ⌜ r ≡ suiteOf (transformIn kind id (now (a .entry)) ∷ []) ⌝ }
@@ -92,7 +92,7 @@ pub fn one_transform(kind: usize, id: usize, a: &[u8]) -> SuiteCounts
 }
 
 impl SuiteCounts {
-    // What no transform comes to.
+    // Answers the counts of no transform, with which a walk starts.
     pub fn none() -> SuiteCounts
         ensures { λ r. ⌜ r ≡ suiteOf [] ⌝ }
     {
@@ -106,7 +106,7 @@ impl SuiteCounts {
         }
     }
 
-    // Both together, the second that of one transform.
+    // Adds the counts `x` of one transform.
     pub fn plus(self, x: SuiteCounts) -> SuiteCounts
         requires { ⌜ ((n : ℕ) × (n < 18446744073709551615) × SuiteAtMost n self × SuiteAtMost 1 x) ⌝ }
         ensures { λ r. ⌜ r ≡ plus self x ⌝ }
@@ -121,8 +121,8 @@ impl SuiteCounts {
         }
     }
 
-    // Whether a policy of a protocol has these transforms: ESP encryption and sequence numbers, a Rekey policy encryption, key wrap and, if
-    // the exchange asks for it, authentication; each once and no other.
+    // Whether a policy of protocol `protocol` has the transforms that it must have, each once and no other. ESP: encryption and sequence
+    // numbers. Rekey: encryption, key wrap and, if the exchange asks for it (`authentication`), the controller's authentication.
     pub fn is_fit(self, authentication: bool, protocol: usize) -> bool
         ensures { λ r. ⌜ r ≡ fitBy authentication protocol self ⌝ }
     {

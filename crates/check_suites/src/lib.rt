@@ -16,7 +16,7 @@ use counts::Needs;
 use counts::SuiteCounts;
 use ikev2_numbers::TRANSFORM_HEAD;
 
-// What the transforms at the start of the octets come to.
+// Counts the transforms at the start of `t`.
 pub fn suite(t: &[u8]) -> SuiteCounts
     requires { ⌜ ((l : List Transform) × (tail : List ℕ) × Transforms (now t) l tail) ⌝ }
     ensures { λ r. ⌜ ((l : List Transform) (tail : List ℕ) → Transforms (now (t .entry)) l tail → r ≡ suiteOf l) ⌝ }
@@ -35,7 +35,7 @@ pub fn suite(t: &[u8]) -> SuiteCounts
     s
 }
 
-// The keying octets needed by the transforms at the start of the octets.
+// Sums the keying octets that the transforms at the start of `t` need.
 fn transforms_need(t: &[u8]) -> Needs
     requires { ⌜ (length (now t) < 4294967296) × ((l : List Transform) × (tail : List ℕ) × Transforms (now t) l tail) ⌝ }
     ensures { λ r. ⌜ ((l : List Transform) (tail : List ℕ) → Transforms (now (t .entry)) l tail → r ≡ needsOf l) ⌝ }
@@ -59,7 +59,7 @@ fn transforms_need(t: &[u8]) -> Needs
     }
 }
 
-// The keying octets needed by an SA whose policy has these octets after its SPI.
+// Sums the keying octets that an SA needs. `x` are the octets after the SPI in its policy.
 pub fn needs(x: &[u8]) -> Needs
     requires { ⌜ (length (now x) < 4294967296) × ((p : Place) × (b : SaBody) × IsSaBody p (now x) b) ⌝ }
     ensures { λ r. ⌜ ((p : Place) (b : SaBody) → IsSaBody p (now (x .entry)) b → r ≡ needsOf (b .suite .transforms)) ⌝ }

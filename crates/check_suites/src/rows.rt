@@ -17,7 +17,8 @@ use wire_attributes::tables::Meaning;
 use wire_attributes::tables::Place;
 use wire_readers::values::ValueFound;
 
-// The octets that a row of the algorithm table asks for; 0 for no row.
+// Looks up the octets of keying material in the algorithm table, by transform type `kind`, ID `id` and Key Length `bits`. Answers 0 if
+// there is no such row.
 fn needed(kind: usize, id: usize, bits: usize) -> usize
     requires { ⌜ (kind < 256) × (id < 65536) × (bits < 65536) ⌝ }
     ensures { λ r. ⌜ (r ≡ octetsNeeded (neededBy kind id bits)) × (r ≤ 36) ⌝ }
@@ -28,7 +29,7 @@ fn needed(kind: usize, id: usize, bits: usize) -> usize
     }
 }
 
-// The octets that the Key Lengths among some attributes ask for, all together.
+// Sums the octets that encryption with ID `id` needs, over all Key Lengths among the attributes `a` in `place`.
 fn key_length_octets(place: Place, id: usize, a: &[u8]) -> usize
     requires { ⌜ (id < 65536) × (isWhole (attributes place 0 (now a)) ≡ true) × (length (now a) < 4294967296) ⌝ }
     ensures { λ r. ⌜ (r ≡ keyLengthNeeds id place (now (a .entry))) × (r ≤ 36 * length (now (a .entry))) ⌝ }
@@ -49,7 +50,8 @@ fn key_length_octets(place: Place, id: usize, a: &[u8]) -> usize
     }
 }
 
-// The octets that a transform needs for encryption: of type 1, by its Key Lengths.
+// Answers the octets that a transform needs for encryption. Type 1 needs those of its Key Lengths in the attributes `a`, another `kind`
+// none.
 pub fn encryption_octets(kind: usize, id: usize, a: &[u8]) -> usize
     requires { ⌜ (id < 65536) × (isWhole (attributes (inTransform kind) 0 (now a)) ≡ true) × (length (now a) < 4294967296) ⌝ }
     ensures { λ r. ⌜ (r ≡ encryptionNeeds (transformIn kind id (now (a .entry)))) × (r ≤ 36 * length (now (a .entry))) ⌝ }
@@ -60,7 +62,7 @@ pub fn encryption_octets(kind: usize, id: usize, a: &[u8]) -> usize
     0
 }
 
-// The octets that a transform needs for key wrap: of type 13.
+// Answers the octets that a transform needs for key wrap. Type 13 needs those of its `id`, another `kind` none.
 pub fn wrapping_octets(kind: usize, id: usize) -> usize
     requires { ⌜ id < 65536 ⌝ }
     ensures { λ r. ⌜ ((a : List ℕ) → r ≡ keyWrapNeeds (transformIn kind id a)) × (r ≤ 36) ⌝ }

@@ -43,6 +43,7 @@ answerOf s =
       lifetime = s .lifetime;
     }
 
+-- the answer if the member has no such SA
 abbrev pub noAnswer : SaAnswer
 noAnswer = record {
   found = false;
@@ -54,8 +55,10 @@ noAnswer = record {
   lifetime = Unlimited;
 }
 
+-- the answer by what was found
 unfoldable pub answered : SaFound → SaAnswer
 answered f = cond (f .found) (answerOf (f .sa)) noAnswer
 
+-- the answer to the question about the SA with the protocol p and the SPI x
 unfoldable pub saAnswer : ℕ → List ℕ → Member → SaAnswer
 saAnswer p x m = answered (askedSa limits p x (m .state))

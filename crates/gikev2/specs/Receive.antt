@@ -37,7 +37,7 @@ figureOf answer.OverLimit = 0
 figureOf answer.KeyConflict = 0
 figureOf answer.NoKey = 0
 
--- a member that is handed these octets at a tick, with a lent default key, gives this answer and the next member
+-- the member m receives `octets` at the tick `now` with the lent default key `lent`: a is the answer, and `next` the next member
 pub record Receives (m : Member) (now : ℕ) (lent octets : List ℕ) (a : Answer) (next : Member) : Type 0 where
   pub outcome : Outcome limits (m .state) now lent octets (numberOf a) (next .state)
   pub offset : figureOf a ≡ figure octets

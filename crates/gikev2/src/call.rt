@@ -1,4 +1,4 @@
-// The call on an opened frame.
+// Receives an opened frame.
 use crate::Member;
 use check_judging::facts::Facts;
 use check_judging::refusal::Verdict;
@@ -41,7 +41,7 @@ pub enum Answer {
 }
 
 impl Answer {
-    // Document 01's number of the answer.
+    // Answers document 01's number of the answer, 0 for acceptance.
     pub fn number(self) -> usize
         ensures { λ r. ⌜ r ≡ numberOf self ⌝ }
     {
@@ -59,7 +59,7 @@ impl Answer {
         }
     }
 
-    // The figure that the answer carries (document 02, T-06): on number 1 the offset, else 0.
+    // Answers the figure that the answer carries (document 02, T-06): on number 1 the offset, else 0.
     pub fn figure(self) -> usize
         ensures { λ r. ⌜ r ≡ figureOf self ⌝ }
     {
@@ -78,13 +78,13 @@ impl Answer {
     }
 }
 
-// The answer and the next member, on a refusal the member as it was.
+// The answer and the next member. On a refusal that is the member as it was.
 pub struct Received {
     pub answer: Answer,
     pub member: Member,
 }
 
-// The answer with this number, to a frame whose layout is whole.
+// Makes the answer with this `number`. It is not 1: the layout of the frame is whole.
 fn answer_of(number: usize) -> Answer
     requires { ⌜ (number ≤ 9) × (number ≡ 1 → ⊥) ⌝ }
     ensures { λ r. ⌜ numberOf r ≡ number ⌝ }
@@ -102,7 +102,7 @@ fn answer_of(number: usize) -> Answer
     }
 }
 
-// The answer with this number and the member of this state.
+// Makes the answer with this `number`, and the member with this `state`.
 fn answered(number: usize, state: State) -> Received
     requires { ⌜ (number ≤ 9) × (number ≡ 1 → ⊥) ⌝ }
     ensures { λ r. ⌜ (numberOf (r .answer) ≡ number) × (r .member .state ≡ state) ⌝ }
@@ -113,7 +113,7 @@ fn answered(number: usize, state: State) -> Received
 }
 
 impl Member {
-    // A refusal: its answer and the member as it was.
+    // Refuses a frame with this `answer`. The member stays as it was.
     fn refused(self, answer: Answer) -> Received
         ensures { λ r. ⌜ (r .answer ≡ answer) × (r .member ≡ self) ⌝ }
     {
@@ -123,7 +123,7 @@ impl Member {
         }
     }
 
-    // A frame that numbers 2 to 7 let pass, with its facts.
+    // Decides the frame `s` that refusals 2 to 7 let pass. `x` are its facts.
     fn passed(self, s: &[u8], x: Facts, lent: &[u8], tick: u32) -> Received
         requires { ⌜ ((f : Frame) × Passed (self .state) tick (now lent) (now s) x f) ⌝ }
         ensures { λ r. ⌜ ((f : Frame) → Passed (self .state) tick (now (lent .entry)) (now (s .entry)) x f →
@@ -134,7 +134,7 @@ impl Member {
         answered(next.number, next.state)
     }
 
-    // A frame whose layout is whole.
+    // Judges the frame `s`, whose layout is whole: refusals 2 to 7 first, then 8 and 9.
     fn judged(self, s: &[u8], lent: &[u8], tick: u32) -> Received
         requires { ⌜ ((f : Frame) × (frame (now s) ≡ whole f [])) ⌝ }
         ensures { λ r. ⌜ ((f : Frame) → frame (now (s .entry)) ≡ whole f [] →
@@ -150,9 +150,9 @@ impl Member {
         }
     }
 
-    // A frame's octets, opened: the IKE header and the payloads. A registration (GSA_AUTH, GSA_REGISTRATION) comes with a lent default
-    // key, and so does a rekey over the member's own channel (GSA_INBAND_REKEY); for a rekey over the Rekey SA (GSA_REKEY) the lent octets
-    // are not read.
+    // Receives the octets of an opened `frame`: the IKE header and the payloads. A registration (GSA_AUTH, GSA_REGISTRATION) comes with a
+    // default key in `lent`, and so does a rekey over the member's own channel (GSA_INBAND_REKEY). For a rekey over the Rekey SA
+    // (GSA_REKEY) `lent` is not read.
     pub fn receive(self, frame: &[u8], lent: &[u8], tick: u32) -> Received
         ensures { λ r. ⌜ Receives self tick (now (lent .entry)) (now (frame .entry)) (r .answer) (r .member) ⌝ }
     {

@@ -10,12 +10,13 @@ use state_sa::entry::Lifetime;
 use state_sa::entry::REKEY;
 use state_sa::entry::Sa;
 
+// A group member. It is a value: a call that changes the member takes it and gives back the next one.
 pub struct Member {
     pub state: State,
 }
 
-// The answer to the question about an SA: whether the member has it and, if so, its keying octets, the octet counts of their two parts
-// (of a Rekey SA), its condition and its lifetime. All else is blank.
+// The answer of `Member::sa`: whether the member has the SA and, if so, its keying octets, the octet counts of their two parts (of a Rekey
+// SA), its condition and its lifetime. All else is blank.
 pub struct SaAnswer {
     pub found: bool,
     pub octets: [u8; SA_OCTETS],
@@ -26,7 +27,7 @@ pub struct SaAnswer {
     pub lifetime: Lifetime,
 }
 
-// The answer where the member has the SA.
+// Makes the answer for the SA `s` of a member. Octets past the count are blank, and only a Rekey SA has counts of two parts.
 fn answer(s: Sa) -> SaAnswer
     ensures { λ r. ⌜ r ≡ answerOf s ⌝ }
 {
@@ -58,7 +59,7 @@ fn answer(s: Sa) -> SaAnswer
 }
 
 impl Member {
-    // A new member: no SA, no held key, least Message ID 0.
+    // Makes a new member: no SA, no held key, least Message ID 0.
     pub fn new() -> Member
         ensures { λ r. ⌜ r ≡ newMember ⌝ }
     {
@@ -66,7 +67,7 @@ impl Member {
         Member { state }
     }
 
-    // The member without the SAs that are due at the tick. One that breaks its list stays as it is.
+    // Removes the SAs that are due at `tick`. A member value that breaks its list (document 01) stays as it is.
     pub fn sweep(self, tick: u32) -> Member
         ensures { λ r. ⌜ r ≡ sweptMember tick self ⌝ }
     {
@@ -75,14 +76,14 @@ impl Member {
         Member { state }
     }
 
-    // Leaving gives the new member, whatever the member was.
+    // Leaves the group. Answers the new member, whatever the member was.
     pub fn leave(self) -> Member
         ensures { λ r. ⌜ r ≡ leftMember self ⌝ }
     {
         Member::new()
     }
 
-    // The keying octets, condition and lifetime of the SA with this protocol and SPI, or none.
+    // Answers the keying octets, condition and lifetime of the SA with this `protocol` and `spi`, or that the member has none.
     pub fn sa(self, protocol: u8, spi: &[u8]) -> SaAnswer
         ensures { λ r. ⌜ r ≡ saAnswer protocol (now (spi .entry)) self ⌝ }
     {

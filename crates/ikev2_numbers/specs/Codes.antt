@@ -81,7 +81,7 @@ gcauthImplicit = 1
 abbrev pub gcauthDigitalSignature : ℕ
 gcauthDigitalSignature = 2
 
--- the first octet of a transform (RFC 7296, section 3.3.2)
+-- the first octet of a transform says whether it is the last (RFC 7296, section 3.3.2)
 abbrev pub lastTransform : ℕ
 lastTransform = 0
 
@@ -147,8 +147,8 @@ ipv4GroupLast = 239
 abbrev pub ipv6Group : ℕ
 ipv6Group = 255
 
--- the IKE header (RFC 7296, section 3.1): its octets, where its fields stand, the major version in the high four bits of its octet.
--- Document 01: a frame has at most 16,384 octets
+-- the IKE header (RFC 7296, section 3.1): its octets, and where its fields stand. The version octet divided by the number of minor versions
+-- is the major version. Document 01: a frame has at most 16,384 octets
 abbrev pub headerOctets : ℕ
 headerOctets = 28
 
@@ -225,7 +225,8 @@ attributeHeadOctets = 4
 abbrev pub shortHeadOctets : ℕ
 shortHeadOctets = 2
 
--- the value of SA_KEY and WRAP_KEY: Key ID and KWK ID of four octets each, then 16 to 264 wrapped octets in blocks of 8 (document 01)
+-- the value of SA_KEY and WRAP_KEY: Key ID and KWK ID of four octets each, then 16 to 264 wrapped octets in blocks of 8 (document 01). The
+-- least and the most octets are those of the whole value
 abbrev pub kwkIdAt : ℕ
 kwkIdAt = 4
 

@@ -56,7 +56,7 @@ pub const IMPLICIT: usize = 1;
 
 pub const DIGITAL_SIGNATURE: usize = 2;
 
-// The first octet of a transform (RFC 7296, section 3.3.2).
+// The first octet of a transform says whether it is the last (RFC 7296, section 3.3.2).
 pub const LAST_TRANSFORM: usize = 0;
 
 pub const MORE_TRANSFORMS: usize = 3;
@@ -102,8 +102,8 @@ pub const IPV4_GROUP_LAST: usize = 239;
 
 pub const IPV6_GROUP: usize = 255;
 
-// The IKE header (RFC 7296, section 3.1): its octets, where its fields stand, the major version in the high four bits of its octet.
-// Document 01: a frame has at most 16,384 octets.
+// The IKE header (RFC 7296, section 3.1): its octets, and where its fields stand. The version octet divided by the number of minor versions
+// is the major version. Document 01: a frame has at most 16,384 octets.
 pub const HEADER: usize = 28;
 
 pub const MOST_OCTETS: usize = 16384;
@@ -157,7 +157,8 @@ pub const ATTRIBUTE_HEAD: usize = 4;
 
 pub const SHORT_HEAD: usize = 2;
 
-// The value of SA_KEY and WRAP_KEY: Key ID and KWK ID of four octets each, then 16 to 264 wrapped octets in blocks of 8 (document 01).
+// The value of SA_KEY and WRAP_KEY: Key ID and KWK ID of four octets each, then 16 to 264 wrapped octets in blocks of 8 (document 01). The
+// least and the most octets are those of the whole value.
 pub const KWK_ID_AT: usize = 4;
 
 pub const WRAPPED_AT: usize = 8;

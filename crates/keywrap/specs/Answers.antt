@@ -1,4 +1,4 @@
--- What wrapping and opening of one key into lent room answer. Document 01, "What a member is": "These write the result at the room's start
+-- The answers of wrapping and opening one key into lent room. Document 01, "What a member is": "These write the result at the room's start
 -- and leave the rest; on a wrong key size, a wrong octet count, a failed check or too little room they answer "no" and the room stays as
 -- lent."
 use mathlib.Core.Path.{_≡_}
@@ -16,7 +16,7 @@ use Rattle.rfc5649.specs.Opens.{Opens}
 abbrev pub written : List ℕ → List ℕ → List ℕ
 written x room = x ++ drop (length x) room
 
--- x is the result, and it is to be written: the key has 16, 24 or 32 octets, and the room holds x
+-- x is the result of wrapping and is to be written: the key has 16, 24 or 32 octets, 1 to 256 octets are wrapped, and the room holds x
 pub record Wrapping (key octets room x : List ℕ) : Type 0 where
   pub key-size : T (isKey (length key))
   pub least : 1 ≤ length octets
@@ -24,23 +24,25 @@ pub record Wrapping (key octets room x : List ℕ) : Type 0 where
   pub is : wrapOf key octets ≡ x
   pub holds : length x ≤ length room
 
+-- x is the result of opening and is to be written: the key has 16, 24 or 32 octets, and the room holds x
 pub record Opening (key wrapped room x : List ℕ) : Type 0 where
   pub key-size : T (isKey (length key))
   pub opens : Opens key wrapped x
   pub holds : length x ≤ length room
 
--- what an answer says, given which results are to be written: a count, that one of so many octets is and was written; "no", that none is
--- and the room is as lent
+-- a result of n octets stands at the room's start, and the rest of the room is as lent
 pub record Wrote (Result : List ℕ → Type 0) (room : List ℕ) (n : ℕ) (after : List ℕ) : Type 0 where
   pub x : List ℕ
   pub result : Result x
   pub count : length x ≡ n
   pub room-is : after ≡ written x room
 
+-- there is no result, and the room is as lent
 pub record NoResult (Result : List ℕ → Type 0) (room after : List ℕ) : Type 0 where
   pub none : (x : List ℕ) → Result x → ⊥
   pub room-is : after ≡ room
 
+-- what an answer says, where `Result` tells the results to be written: a count says that one was written, "no" that there is none
 abbrev pub Answers : (List ℕ → Type 0) → List ℕ → WrapAnswer → List ℕ → Type 0
 Answers Result room (Count n) after = Wrote Result room n after
 Answers Result room No after = NoResult Result room after

@@ -1,4 +1,4 @@
-// RFC 5649: wrapping and opening of one key into lent room, and opening over a schedule that was expanded once.
+// RFC 5649: one key is wrapped or opened into lent room, or opened over a schedule that was expanded once.
 // For customers: `wrap` and `open`. All else is internal.
 mod load;
 mod unwrap_steps;
@@ -22,18 +22,19 @@ ghost use Rattle.keywrap.specs.inner.Room.{putAnswer, putRoom};
 use aes::INVERSE_TABLE_WORDS;
 use aes::SCHEDULE_WORDS;
 
-// What wrapping and opening answer: document 01's "no", or the count of octets written at the room's start.
+// The answer of `wrap` and `open`: document 01's "no", or the count of octets written at the room's start.
 pub enum WrapAnswer {
     No,
     Count(usize),
 }
 
-// What is opened into blank room of its own.
+// The answer of `open_under`: `answer` as `open` gives it, and in `octets` the opened octets with zeros behind them (zeros alone for `No`).
 pub struct Opened {
     pub answer: WrapAnswer,
     pub octets: [u8; 256],
 }
 
+// Whether a key can have `count` octets.
 fn is_key(count: usize) -> bool
     ensures { λ r. ⌜ r ≡ isKey count ⌝ }
 {
@@ -46,6 +47,7 @@ fn is_key(count: usize) -> bool
     count == 32
 }
 
+// Wraps `octets` under `key` and writes the result at the start of `room`.
 fn write_wrapped(key: &[u8], octets: &[u8], room: &mut [u8])
     requires { ⌜ T (isKey (length (now key))) ⌝ }
     requires { ⌜ (1 ≤ length (now octets)) × (length (now octets) ≤ 256) ⌝ }
@@ -60,7 +62,8 @@ fn write_wrapped(key: &[u8], octets: &[u8], room: &mut [u8])
     load::store(&s[..end], room);
 }
 
-// Wraps 1 to 256 octets under a key of 16, 24 or 32 octets, at the room's start.
+// Wraps `octets` (1 to 256) under `key` (16, 24 or 32 octets) and writes the result at the start of `room`. On other sizes, or too little
+// room, it answers `No` and leaves `room` as lent.
 pub fn wrap(key: &[u8], octets: &[u8], room: &mut [u8]) -> WrapAnswer
     ensures { λ r. ⌜ WrapAnswers (now (key .entry)) (now (octets .entry)) (now (room .entry)) r (now (room .exit)) ⌝ }
 {
@@ -82,7 +85,7 @@ pub fn wrap(key: &[u8], octets: &[u8], room: &mut [u8]) -> WrapAnswer
     WrapAnswer::No
 }
 
-// The registers that `wrapped` had before the steps: A, R[1], .., R[n], and zeros behind.
+// Undoes the steps of wrapping on the registers of `wrapped`, which has `n` blocks behind A. Answers A, R[1], .., R[n], and zeros behind.
 fn unwrap_registers(
     tables: &[u32; INVERSE_TABLE_WORDS],
     schedule: &[u32; SCHEDULE_WORDS],
@@ -100,7 +103,7 @@ fn unwrap_registers(
     s
 }
 
-// Opens over a schedule that was expanded once, into blank room.
+// Opens `wrapped` under the key of `schedule`, which was expanded once, into blank room.
 pub fn open_under(
     tables: &[u32; INVERSE_TABLE_WORDS],
     schedule: InverseSchedule,
@@ -123,7 +126,7 @@ pub fn open_under(
     verify::refuse()
 }
 
-// Octets at the start of a room that holds them.
+// Writes `octets` at the start of `room`. Where they do not fit, it answers `No` and leaves `room` as lent.
 fn put(octets: &[u8], room: &mut [u8]) -> WrapAnswer
     ensures { λ r. ⌜ r ≡ putAnswer (now (octets .entry)) (now (room .entry)) ⌝ }
     ensures { λ _. ⌜ now (room .exit) ≡ putRoom (now (octets .entry)) (now (room .entry)) ⌝ }
@@ -134,7 +137,8 @@ fn put(octets: &[u8], room: &mut [u8]) -> WrapAnswer
     WrapAnswer::No
 }
 
-// Opens what was wrapped under a key of 16, 24 or 32 octets, at the room's start.
+// Opens `wrapped` under `key` (16, 24 or 32 octets) and writes the result at the start of `room`. On other sizes, a failed check or too
+// little room, it answers `No` and leaves `room` as lent.
 pub fn open(key: &[u8], wrapped: &[u8], room: &mut [u8]) -> WrapAnswer
     ensures { λ r. ⌜ OpenAnswers (now (key .entry)) (now (wrapped .entry)) (now (room .entry)) r (now (room .exit)) ⌝ }
 {

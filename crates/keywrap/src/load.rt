@@ -8,6 +8,7 @@ ghost use lib.ListN.{length, replicate};
 ghost use Rattle.rfc5649.specs.Wrap.{blocks, registers, registerOctets, startRegisters};
 ghost use Rattle.keywrap.specs.Answers.{written};
 
+// Reads `octets` into the registers `s`, eight for each.
 pub(crate) fn load(octets: &[u8], s: &mut [u64])
     requires { ⌜ length (now octets) ≡ 8 * length (now s) ⌝ }
     ensures { λ _. ⌜ now (s .exit) ≡ registers (length (now (s .entry))) (now (octets .entry)) ⌝ }
@@ -19,7 +20,7 @@ pub(crate) fn load(octets: &[u8], s: &mut [u64])
     }
 }
 
-// The registers' octets at the room's start.
+// Writes the octets of the registers `s` at the start of `room`.
 pub(crate) fn store(s: &[u64], room: &mut [u8])
     requires { ⌜ 8 * length (now s) ≤ length (now room) ⌝ }
     ensures { λ _. ⌜ now (room .exit) ≡ written (registerOctets (now (s .entry))) (now (room .entry)) ⌝ }
@@ -33,7 +34,8 @@ pub(crate) fn store(s: &[u64], room: &mut [u8])
     }
 }
 
-// The alternative initial value of RFC 5649, section 3, and the padded octets: A, R[1], .., R[n], and zeros behind.
+// Sets up the registers A, R[1], .., R[n] for wrapping `octets`, with zeros behind: A is the alternative initial value of RFC 5649, section
+// 3, the others are the padded octets.
 pub(crate) fn start_registers(octets: &[u8]) -> [u64; 33]
     requires { ⌜ (1 ≤ length (now octets)) × (length (now octets) ≤ 256) ⌝ }
     ensures { λ r. ⌜ r ≡ startRegisters (now (octets .entry)) ++ replicate (32 - blocks (length (now (octets .entry)))) 0 ⌝ }

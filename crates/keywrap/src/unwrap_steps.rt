@@ -9,6 +9,7 @@ ghost use Rattle.rfc5649.specs.inner.Unwrap.{unstep, unrow, unrows, backward};
 use aes::INVERSE_TABLE_WORDS;
 use aes::SCHEDULE_WORDS;
 
+// Undoes step `t`, on A and R[`i`].
 fn unstep_in(
     tables: &[u32; INVERSE_TABLE_WORDS],
     schedule: &[u32; SCHEDULE_WORDS],
@@ -25,6 +26,7 @@ fn unstep_in(
     s[i] = b.lo;
 }
 
+// Undoes the `n` steps of round j, from R[n] to R[1]; `base` is n * j.
 fn unrow_in(
     tables: &[u32; INVERSE_TABLE_WORDS],
     schedule: &[u32; SCHEDULE_WORDS],
@@ -43,6 +45,7 @@ fn unrow_in(
     }
 }
 
+// Undoes the six rounds of `n` steps each, the last first.
 fn unrows_in(
     tables: &[u32; INVERSE_TABLE_WORDS],
     schedule: &[u32; SCHEDULE_WORDS],
@@ -60,7 +63,7 @@ fn unrows_in(
     }
 }
 
-// RFC 5649, section 4.2, step 1, on the registers of n blocks.
+// Unwraps the registers `s` of `n` blocks (RFC 5649, section 4.2, step 1).
 pub(crate) fn backward_in(
     tables: &[u32; INVERSE_TABLE_WORDS],
     schedule: &[u32; SCHEDULE_WORDS],

@@ -9,7 +9,7 @@ ghost use Rattle.keywrap.specs.Answers.{Answers};
 ghost use Rattle.keywrap.specs.inner.Blank.{blank};
 ghost use Rattle.rfc5649.specs.inner.Unwrap.{Begins, countIn, zeroFrom};
 
-// "no", and nothing of what did not open.
+// Answers "no", with nothing of what did not open.
 pub(crate) fn refuse() -> Opened
     ensures { λ r. ⌜ (r .answer ≡ WrapAnswer.No) × (r .octets ≡ blank) ⌝ }
 {
@@ -19,7 +19,7 @@ pub(crate) fn refuse() -> Opened
     }
 }
 
-// The count that A tells, or 0.
+// Reads the octet count from `a`. Answers 0 where `a` is not the alternative initial value of a count that takes `n` blocks.
 fn count_in(a: u64, n: usize) -> usize
     ensures { λ r. ⌜ r ≡ countIn a n ⌝ }
 {
@@ -33,6 +33,7 @@ fn count_in(a: u64, n: usize) -> usize
     0
 }
 
+// Whether every octet of `s` from `at` on is 0.
 fn is_zero_from(s: &[u8], at: usize) -> bool
     ensures { λ r. ⌜ r ≡ zeroFrom at (now (s .entry)) ⌝ }
 {
@@ -46,7 +47,7 @@ fn is_zero_from(s: &[u8], at: usize) -> bool
     true
 }
 
-// What the registers s of n blocks were before they were wrapped, if anything.
+// Checks the unwrapped registers `s` of `n` blocks. Answers the octets that were wrapped, or `No` where a check fails.
 pub(crate) fn check_registers(s: [u64; 33], n: usize) -> Opened
     requires { ⌜ (1 ≤ n) × (n ≤ 32) ⌝ }
     ensures { λ r. ⌜ Answers (Begins n (take (suc n) s)) blank (r .answer) (r .octets) ⌝ }

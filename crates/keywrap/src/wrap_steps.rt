@@ -10,6 +10,7 @@ ghost use Rattle.rfc5649.specs.inner.Unwrap.{forward};
 use aes::SCHEDULE_WORDS;
 use aes::TABLE_WORDS;
 
+// Does step `t`, on A and R[`i`].
 fn step_in(
     tables: &[u32; TABLE_WORDS],
     schedule: &[u32; SCHEDULE_WORDS],
@@ -26,6 +27,7 @@ fn step_in(
     s[i] = b.lo;
 }
 
+// Does the `n` steps of round j, from R[1] to R[n]; `base` is n * j.
 fn row_in(
     tables: &[u32; TABLE_WORDS],
     schedule: &[u32; SCHEDULE_WORDS],
@@ -44,6 +46,7 @@ fn row_in(
     }
 }
 
+// Does the six rounds of `n` steps each.
 fn rows_in(tables: &[u32; TABLE_WORDS], schedule: &[u32; SCHEDULE_WORDS], s: &mut [u64], n: usize)
     requires { ⌜ (now tables ≡ encipherTables) × Expanded (now schedule) ⌝ }
     requires { ⌜ (n ≤ 32) × (n < length (now s)) ⌝ }
@@ -56,7 +59,7 @@ fn rows_in(tables: &[u32; TABLE_WORDS], schedule: &[u32; SCHEDULE_WORDS], s: &mu
     }
 }
 
-// RFC 5649, section 4.1, step 2, on the registers of n blocks.
+// Wraps the registers `s` of `n` blocks (RFC 5649, section 4.1, step 2).
 pub(crate) fn forward_in(
     tables: &[u32; TABLE_WORDS],
     schedule: &[u32; SCHEDULE_WORDS],

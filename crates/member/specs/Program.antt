@@ -19,6 +19,6 @@ pub record LineAnswers (m : Member) (key : List ℕ) (tick : ℕ) (octets : List
   pub held : o .held ≡ o .next .state .held .count
   pub figure : o .figure ≡ figureOf answer
 
--- what the program prints for its whole input, from a new member on
+-- `output` is what the program prints for its whole `input`, from a new member on
 abbrev pub Prints : List ℕ → List ℕ → Type 0
 Prints input output = Transcript LineAnswers newMember input output

@@ -13,8 +13,8 @@ pub data RunEnds (r : Ran) (input rest : List ℕ) : Type 0 where
   most-read : 2 ^ 64 - 1 ≤ length input → rest ≡ [] → RunEnds r input rest
   write-failed : r .handed .failed ≡ true → RunEnds r input rest
 
--- `input` was read and `output` handed over, as many octets of each as were counted; with the rest behind it, which is held back, the
--- output is what the program prints for that input
+-- `input` was read and `output` handed over, as many octets of each as were counted. `rest` was held back: `output` and `rest` together are
+-- what the program prints for `input`
 pub record Runs (r : Ran) : Type 0 where
   pub input : List ℕ
   pub output : List ℕ

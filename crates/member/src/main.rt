@@ -1,4 +1,4 @@
-// The member program: a default key, then ticks and frames in hexadecimal; a line of answer for each.
+// The member program: reads a default key, then lines of tick and frame in hexadecimal, and prints a line of answer for each of these.
 mod input;
 mod output;
 mod running;
@@ -27,7 +27,7 @@ pub struct Ran {
     pub handed: Handed,
 }
 
-// Hands the output over.
+// Hands over all that `out` holds, and frees it for more.
 fn emptied(r: Running, handed: Handed, out: &[u8]) -> Progress
     requires { ⌜ r .at ≤ length (now out) ⌝ }
     ensures { λ e. ⌜ Emptied r handed (now (out .entry)) e ⌝ }
@@ -49,7 +49,7 @@ fn emptied(r: Running, handed: Handed, out: &[u8]) -> Progress
     }
 }
 
-// Hands the output over where there is little room left in it.
+// Hands `out` over if it has no room for one more reply.
 fn flush(r: Running, handed: Handed, out: &[u8]) -> Progress
     requires { ⌜ r .at ≤ length (now out) ⌝ }
     requires { ⌜ replyRoom ≤ length (now out) ⌝ }
@@ -62,8 +62,8 @@ fn flush(r: Running, handed: Handed, out: &[u8]) -> Progress
     emptied(r, handed, out)
 }
 
-// A whole block. The output is handed over on the way where it finds no room, and at the block's end whatever room there is: who sends a
-// line and waits has its answer.
+// Reads the whole `block` and answers its lines. Hands `out` over on the way where a reply finds no room, and at the block's end whatever
+// room there is: whoever sends a line and waits gets its answer.
 fn consume(p: Progress, block: &[u8], line: &mut [u8], room: &mut [u8], out: &mut [u8]) -> Progress
     requires { ⌜ BuffersReady (now line) (now room) (now out) (p .running) ⌝ }
     requires { ⌜ ReplyFits (now out) (p .running) ⌝ }
@@ -86,7 +86,7 @@ fn consume(p: Progress, block: &[u8], line: &mut [u8], room: &mut [u8], out: &mu
     emptied(r, handed, out)
 }
 
-// The end of the input: a line that has begun is answered, and what the output holds is handed over.
+// Ends the input: answers a line that has begun, and hands over what `out` holds.
 fn ended(p: Progress, line: &[u8], room: &mut [u8], out: &mut [u8]) -> Handed
     requires { ⌜ BuffersReady (now line) (now room) (now out) (p .running) ⌝ }
     requires { ⌜ ReplyFits (now out) (p .running) ⌝ }
@@ -98,7 +98,7 @@ fn ended(p: Progress, line: &[u8], room: &mut [u8], out: &mut [u8]) -> Handed
     output::hand_over(handed, out, e.at)
 }
 
-// The turns that are left after one: none where the input has ended or a write failed.
+// Answers how many of `turns` are left after one: none if the input has ended or a write failed.
 fn turns_left(turns: u64, taken: InputTaken, handed: Handed) -> u64
     requires { ⌜ 0 < turns ⌝ }
     ensures { λ r. ⌜ TurnsLeft turns taken handed r ⌝ }
@@ -114,8 +114,8 @@ fn turns_left(turns: u64, taken: InputTaken, handed: Handed) -> u64
     turns - 1
 }
 
-// The whole input, up to a write that fails. A proved loop has to end, and nothing says that an input does: so it counts its turns down
-// from a number that no input uses up.
+// Answers the whole input, up to a write that fails. A proved loop has to end, and nothing says that an input does: so it counts its turns
+// down from a number that no input uses up.
 fn run(line: &mut [u8], room: &mut [u8], out: &mut [u8], block: &mut [u8]) -> Ran
     requires { ⌜ 32776 < length (now line) ⌝ }
     requires { ⌜ 16384 ≤ length (now room) ⌝ }

@@ -1,18 +1,18 @@
-// Standard output, how many octets it was handed so far, and whether a write of them failed. Both are private to this file, and `hand_over`
-// alone changes them: a promise that asks for a higher count asks for that call.
+// Writes standard output, and keeps how many octets it was handed so far and whether a write failed. Both are private to this file, and
+// `hand_over` alone changes them: a promise that asks for a higher count asks for that call.
 ghost use Prim.Native.Nat.{_≤_};
 ghost use mathlib.Core.Path.{_≡_};
 ghost use lib.ListN.{length, take};
 ghost use Rattle.member.specs.inner.Handing.{nothingHanded, HandedOver};
 use libc::STDOUT_FILENO;
 
-// The count goes modulo 2^64.
+// How many octets were handed to the output, modulo 2^64, and whether a write of them failed.
 pub struct Handed {
     count: usize,
     failed: bool,
 }
 
-// Before the first octet.
+// Answers the count before the first write.
 pub(crate) fn nothing() -> Handed
     ensures { λ r. ⌜ r ≡ nothingHanded ⌝ }
 {
@@ -22,8 +22,8 @@ pub(crate) fn nothing() -> Handed
     }
 }
 
-// Hands the first `at` octets of the output to the write, and counts them. After a write that failed nothing is handed to it any more:
-// later answers would stand in the place of those that were lost.
+// Hands the first `at` octets of `out` to the write, and counts them. Hands nothing over after a write that failed: later answers would
+// stand in the place of the lost ones.
 pub(crate) fn hand_over(handed: Handed, out: &[u8], at: usize) -> Handed
     requires { ⌜ at ≤ length (now out) ⌝ }
     ensures { λ e. ⌜ HandedOver handed (take at (now (out .entry))) e ⌝ }

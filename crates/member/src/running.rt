@@ -17,8 +17,8 @@ use text_lines::LineKey;
 use text_lines::REPLY_ROOM;
 use text_lines::Request;
 
-// The member; the default key, and whether the first line gave it yet; how many characters of the line that has begun are held; the place
-// in the output.
+// Where the program stands: the member; the default key, and whether the first line has given it yet (`keyed`); how many characters of the
+// line that has begun are held (`len`); the place in the output (`at`).
 pub struct Running {
     pub member: Member,
     pub key: LineKey,
@@ -27,7 +27,7 @@ pub struct Running {
     pub at: usize,
 }
 
-// A new member, and no key yet.
+// Answers where the program starts: a new member, and no key yet.
 pub(crate) fn begin() -> Running
     ensures { λ r. ⌜ Starts r ⌝ }
 {
@@ -42,7 +42,7 @@ pub(crate) fn begin() -> Running
     }
 }
 
-// A whole first line.
+// Takes the default key from the first line.
 fn first_line(r: Running, line: &[u8]) -> Running
     ensures { λ e. ⌜ ((out : List ℕ) → FirstLine r (now (line .entry)) out out e) ⌝ }
 {
@@ -57,7 +57,7 @@ fn first_line(r: Running, line: &[u8]) -> Running
     }
 }
 
-// The reply to a frame, into the output at a place; the place behind it.
+// Writes the reply to a frame into `out` from `at` on: the answer `a`, and the counts `sas` and `held`. Answers the place behind it.
 fn put_reply(out: &mut [u8], at: usize, a: Answer, sas: usize, held: usize) -> usize
     ensures { λ r. ⌜ Put (now (out .entry)) at (answerText (numberOf a) sas held (figureOf a)) (now (out .exit)) r ⌝ }
     ensures { λ r. ⌜ length (answerText (numberOf a) sas held (figureOf a)) ≤ replyRoom ⌝ }
@@ -67,7 +67,7 @@ fn put_reply(out: &mut [u8], at: usize, a: Answer, sas: usize, held: usize) -> u
     text_lines::put_answer(out, at, number, sas, held, figure)
 }
 
-// A frame is received, and the reply to it put into the output.
+// Lets the member receive `frame` at `tick`, and puts the reply into `out`.
 fn receive_frame(r: Running, frame: &[u8], tick: u32, out: &mut [u8]) -> Running
     requires { ⌜ r .key .len ≤ 32 ⌝ }
     ensures { λ e. ⌜ LineReceived r tick (now (frame .entry)) (now (out .entry)) (now (out .exit)) e ⌝ }
@@ -90,7 +90,7 @@ fn receive_frame(r: Running, frame: &[u8], tick: u32, out: &mut [u8]) -> Running
     }
 }
 
-// A whole later line.
+// Receives the frame of a later line and puts the reply into `out`, or the reply to a bad line. The frame goes to the start of `room`.
 fn later_line(r: Running, line: &[u8], room: &mut [u8], out: &mut [u8]) -> Running
     requires { ⌜ r .key .len ≤ 32 ⌝ }
     requires { ⌜ 16384 ≤ length (now room) ⌝ }
@@ -113,7 +113,7 @@ fn later_line(r: Running, line: &[u8], room: &mut [u8], out: &mut [u8]) -> Runni
     }
 }
 
-// A whole line.
+// Answers a whole line: the first one gives the key, each later one gets a reply.
 fn answer_line(r: Running, line: &[u8], room: &mut [u8], out: &mut [u8]) -> Running
     requires { ⌜ r .key .len ≤ 32 ⌝ }
     requires { ⌜ 16384 ≤ length (now room) ⌝ }
@@ -125,13 +125,13 @@ fn answer_line(r: Running, line: &[u8], room: &mut [u8], out: &mut [u8]) -> Runn
     first_line(r, line)
 }
 
-// Where a block was left.
+// Where the program stands after some octets of a block, and the place behind these (`next`).
 pub struct LinePassed {
     pub running: Running,
     pub next: usize,
 }
 
-// The first line of a block from a place on, or its beginning where the block ends before it.
+// Reads `block` from `from` on up to the end of a line, and answers that line. If the block ends before it, keeps its beginning in `line`.
 fn advance(
     r: Running,
     block: &[u8],
@@ -166,7 +166,7 @@ fn advance(
     LinePassed { running, next }
 }
 
-// A block from a place on, as far as there is room for replies.
+// Reads `block` from `from` on, line by line, as far as there is room in `out` for replies.
 pub(crate) fn through(
     r: Running,
     block: &[u8],
@@ -195,7 +195,7 @@ pub(crate) fn through(
     }
 }
 
-// The end of the input: a line that has begun is answered.
+// Ends the input: answers a line that has begun.
 pub(crate) fn finish(r: Running, line: &[u8], room: &mut [u8], out: &mut [u8]) -> Running
     requires { ⌜ BuffersReady (now line) (now room) (now out) r ⌝ }
     requires { ⌜ ReplyFits (now out) r ⌝ }

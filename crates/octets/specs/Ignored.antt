@@ -1,5 +1,5 @@
--- WHAT IS READ OF OCTETS. Document 01: "Flags, minor version and RESERVED octets are ignored." A mask says of each octet what is read of
--- it; runs of octets are alike under a mask if they have its length and differ in nothing that is read.
+-- WHAT IS READ OF OCTETS. Document 01: "Flags, minor version and RESERVED octets are ignored." A mask says for each octet which of its bits
+-- are read.
 use Prim.Native.Nat.{ℕ, _/_}
 use mathlib.Core.Path.{_≡_}
 use mathlib.Core.Bool.{Bool}
@@ -8,25 +8,28 @@ use lib.ListN.{length, getD}
 use Rattle.octets.specs.Numbers.{oct}
 use Rattle.octets.specs.Walk.{Spans, none, more, Row, no-more, then}
 
--- all eight bits, the high four (the major version, before the minor one), the top one (the critical bit, before seven reserved ones), none
+-- the bits of an octet that are read: all eight; the high four (the major version, without the minor one); the top one (the critical bit,
+-- without the seven reserved ones); none
 pub data Mask : Type 0 where
   all : Mask
   high : Mask
   top : Mask
   ignored : Mask
 
+-- the value of the bits of an octet that are read
 abbrev pub seen : Mask → ℕ → ℕ
 seen all x = x
 seen high x = x / 16
 seen top x = x / 128
 seen ignored x = 0
 
+-- s and t are alike under the mask m: both have its length, and they differ in nothing that is read
 pub record Alike (m : List Mask) (s t : List ℕ) : Type 0 where
   pub size : length s ≡ length m
   pub same : length t ≡ length m
   pub each : (i : ℕ) → seen (getD m i ignored) (oct s i) ≡ seen (getD m i ignored) (oct t i)
 
--- octets of which all is read, and octets of which nothing is
+-- a mask of the length of s that reads all of each octet, and one that reads nothing
 abbrev pub allOf : List ℕ → List Mask
 allOf [] = []
 allOf (x ∷ s) = all ∷ allOf s
@@ -35,7 +38,7 @@ abbrev pub noneOf : List ℕ → List Mask
 noneOf [] = []
 noneOf (x ∷ s) = ignored ∷ noneOf s
 
--- the masks of items, one behind the other; for a chain the mask of the octets after it comes last
+-- the mask of a row: the masks of its items one after the other. The mask of a chain ends with `tail`, the mask of the octets behind it
 unfoldable pub rowMask : {A : Type 0} {Is : List ℕ → A → Type 0} → ((o : List ℕ) (a : A) → Is o a → List Mask)
     → {s : List ℕ} {l : List A} → Row Is s l → List Mask
 rowMask mask no-more = []

@@ -1,4 +1,4 @@
-// A frame that numbers 2 to 7 let pass, of any exchange: its keys are opened and its outcome found in one place.
+// Decides a frame that refusals 2 to 7 let pass, of any exchange: opens its keys and finds its outcome.
 use crate::Next;
 use crate::conclude;
 use crate::roots::roots;
@@ -16,7 +16,7 @@ ghost use Rattle.wire_readers.specs.inner.Values.{isWhole};
 ghost use Rattle.rules_outcome.specs.Outcome.{Judged};
 ghost use Rattle.receive.specs.inner.Passing.{Passed, Bodied};
 
-// The held list afterwards: the keys that a registration reached, else the list of before.
+// Answers the held list afterwards: the keys that a registration reached, else the list `before`.
 fn held_after(registers: bool, reached: Held, before: Held) -> Held
     ensures { λ r. ⌜ r ≡ cond registers reached before ⌝ }
 {
@@ -26,7 +26,7 @@ fn held_after(registers: bool, reached: Held, before: Held) -> Held
     before
 }
 
-// The outcome, by the bodies of the frame's GSA and its KD.
+// Decides the frame with the facts `x`, whose GSA has the body `gsa` and whose KD has the body `kd`.
 fn by_bodies(
     state: State,
     frame: &[u8],
@@ -52,7 +52,7 @@ fn by_bodies(
     conclude(state, frame, x, tick, keyed, held)
 }
 
-// The outcome of a frame with these facts and lent octets.
+// Decides the frame with the facts `x`. `lent` is the lent key. Answers acceptance, refusal 8 or refusal 9, and the next state.
 pub fn decide(state: State, frame: &[u8], x: Facts, lent: &[u8], tick: u32) -> Next
     requires { ⌜ ((f : Frame) × Passed state tick (now lent) (now frame) x f) ⌝ }
     ensures { λ r. ⌜ ((f : Frame) → Passed state tick (now (lent .entry)) (now (frame .entry)) x f →

@@ -1,4 +1,4 @@
-// A frame that numbers 2 to 7 let pass: number 8, number 9, or the state after acceptance.
+// Finds the outcome of a frame that refusals 2 to 7 let pass: refusal 8, refusal 9, or the state after acceptance.
 // Internal: crates of this repository alone call it.
 pub mod deciding;
 pub mod roots;
@@ -26,13 +26,13 @@ ghost use Rattle.rules_outcome.specs.Outcome.{Judged};
 ghost use Rattle.receive.specs.inner.Passing.{FrameOpened};
 use ikev2_numbers::EXCHANGE_AT;
 
-// The answer's number and the next state.
+// The number of the answer (0 for acceptance) and the next state. On a refusal that is the state as it was.
 pub struct Next {
     pub number: usize,
     pub state: State,
 }
 
-// What the exchange of a frame makes different.
+// Reads the exchange of the frame `s`. Answers its row: what the exchange makes different.
 pub fn row_of(s: &[u8]) -> Exchange
     requires { ⌜ isWhole (frame (now s)) ≡ true ⌝ }
     ensures { λ r. ⌜ ((f : Frame) → frame (now (s .entry)) ≡ whole f [] → rowOf f ≡ r) ⌝ }
@@ -40,7 +40,8 @@ pub fn row_of(s: &[u8]) -> Exchange
     exchange_of(octets::wide(s[EXCHANGE_AT]))
 }
 
-// The outcome of a frame with these facts, once its keys are opened: this is known of its SAs, and this is the held list afterwards.
+// Answers the outcome of a frame once its keys are opened. `x` are its facts, `keyed` is the result for its SAs, and `held` is the held
+// list after acceptance.
 pub fn conclude(state: State, frame: &[u8], x: Facts, tick: u32, keyed: Keyed, held: Held) -> Next
     requires { ⌜ ((f : Frame) × (lent : List ℕ) × FrameOpened state tick lent (now frame) x keyed held f) ⌝ }
     ensures { λ r. ⌜ ((f : Frame) (lent : List ℕ) → FrameOpened state tick lent (now (frame .entry)) x keyed held f →

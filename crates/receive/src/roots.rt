@@ -1,4 +1,4 @@
-// The keys that a KWK ID of a frame can name, by the frame's exchange.
+// Finds the keys that a KWK ID of a frame can name, by the frame's exchange.
 use crate::zero::default_key;
 use state::State;
 use state::held::Held;
@@ -15,14 +15,15 @@ ghost use Rattle.unwrap_tree.specs.inner.Entries.{HoldsEntries};
 ghost use Rattle.receive.specs.inner.Passing.{Bagged};
 ghost use Rattle.receive.specs.inner.Rooted.{Rooted};
 
-// Whether number 8 holds of the frame's entries; where it does not, key 0 and the other keys that a KWK ID can name.
+// Whether refusal 8 holds of the frame's entries. If it does not: key 0 (`zero`), and the other keys that a KWK ID can name (`opens`).
 pub struct StartingKeys {
     pub conflict: bool,
     pub zero: WrappingKey,
     pub opens: Held,
 }
 
-// Those of a registration: the lent key is key 0, and the others are reached from it.
+// Finds the keys of a registration: `lent` is key 0, and the other keys are reached from it. The WRAP_KEYs stand in the stretch `bag` of
+// the KD body `kd`.
 fn reached_from(kd: &[u8], bag: Stretch, lent: &[u8]) -> StartingKeys
     requires { ⌜ HoldsEntries (now kd) bag ⌝ }
     requires { ⌜ ((m : State) × (tick : ℕ) × (f : Frame) × Bagged registration m tick (now lent) (now kd) f) ⌝ }
@@ -40,7 +41,7 @@ fn reached_from(kd: &[u8], bag: Stretch, lent: &[u8]) -> StartingKeys
     }
 }
 
-// Those of a rekey over the member's own channel (document 02, T-02): the lent key is key 0, and there is no other.
+// Answers the keys of a rekey over the member's own channel (document 02, T-02): `lent` is key 0, and there is no other.
 fn lent_alone(lent: &[u8]) -> StartingKeys
     requires { ⌜ ((m : State) × (tick : ℕ) × (k : List ℕ) × (f : Frame) × Bagged inband m tick (now lent) k f) ⌝ }
     ensures { λ r. ⌜ ((m : State) (tick : ℕ) (k : List ℕ) (f : Frame) → Bagged inband m tick (now (lent .entry)) k f →
@@ -56,7 +57,7 @@ fn lent_alone(lent: &[u8]) -> StartingKeys
     }
 }
 
-// Those of a rekey over the live Rekey SA: its default key is key 0, and the others are held. No lent key is read.
+// Answers the keys of a rekey over the live Rekey SA: its default key is key 0, and the other keys are held. No lent key is read.
 fn of_rekey_sa(state: State, tick: u32) -> StartingKeys
     requires { ⌜ ((lent : List ℕ) × (k : List ℕ) × (f : Frame) × Bagged rekey state tick lent k f) ⌝ }
     ensures { λ r. ⌜ ((lent k : List ℕ) (f : Frame) → Bagged rekey state tick lent k f → Rooted state tick lent r f) ⌝ }
@@ -71,8 +72,8 @@ fn of_rekey_sa(state: State, tick: u32) -> StartingKeys
     }
 }
 
-// Those of a frame whose exchange has this row and whose KD has this body, in which the WRAP_KEYs stand there. It goes by whether the
-// exchange sets the held list, then by whose key KWK ID 0 names.
+// Finds the keys that a KWK ID of a frame can name. `row` is the row of its exchange, and its WRAP_KEYs stand in the stretch `bag` of its
+// KD body `kd`. The choice goes by whether the exchange sets the held list, then by whose key KWK ID 0 names.
 pub fn roots(
     state: State,
     row: Exchange,

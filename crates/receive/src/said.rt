@@ -1,4 +1,4 @@
-// What a frame says of the member afterwards, out of its facts.
+// Collects what a frame says of the member afterwards, out of its facts.
 use apply::next::Said;
 use apply::retiring::DeletesAt;
 use check_judging::facts::Facts;
@@ -7,13 +7,14 @@ ghost use mathlib.Core.Path.{_≡_};
 ghost use Prim.Native.Nat.{_-_, _≤_};
 ghost use lib.ListN.{length};
 ghost use Rattle.octets.specs.Walk.{be32};
+ghost use Rattle.ikev2_numbers.specs.Codes.{headerOctets, messageIdAt, payloadHeaderOctets};
 ghost use Rattle.receive.specs.inner.Saying.{saidBy};
 use ikev2_numbers::MESSAGE_ID_AT;
 use ikev2_numbers::PAYLOAD_HEADER;
 
-// Four less, 0 at least.
+// Subtracts the octets of a payload header from `n`. Answers 0 if `n` is smaller.
 fn four_less(n: usize) -> usize
-    ensures { λ r. ⌜ r ≡ n - PAYLOAD_HEADER ⌝ }
+    ensures { λ r. ⌜ r ≡ n - payloadHeaderOctets ⌝ }
 {
     if n < PAYLOAD_HEADER {
         return 0;
@@ -21,10 +22,11 @@ fn four_less(n: usize) -> usize
     n - PAYLOAD_HEADER
 }
 
-// What a frame with this row of its exchange and these facts says. Its Message ID stands in the header, at 20.
+// Collects what the frame `s` says of the member afterwards. `row` is the row of its exchange, and `x` are its facts. Its Message ID stands
+// in the header, at 20.
 pub fn said(row: Exchange, s: &[u8], x: Facts) -> Said
-    requires { ⌜ 28 ≤ length (now s) ⌝ }
-    ensures { λ r. ⌜ r ≡ saidBy row (be32 (now (s .entry)) 20) x ⌝ }
+    requires { ⌜ headerOctets ≤ length (now s) ⌝ }
+    ensures { λ r. ⌜ r ≡ saidBy row (be32 (now (s .entry)) messageIdAt) x ⌝ }
 {
     let b = x.payloads;
     let p = x.policies;

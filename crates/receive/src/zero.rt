@@ -1,4 +1,4 @@
-// Key 0 of a rekey.
+// Finds key 0 of a rekey over the Rekey SA.
 use state_keys::kinds::RekeyKey;
 use state_keys::kinds::WrappingKey;
 use state_table::Table;
@@ -10,7 +10,7 @@ ghost use Rattle.state_sa.specs.Entry.{liveRekey};
 ghost use Rattle.state_table.specs.Table.{sasOf, tableFormed};
 ghost use Rattle.receive.specs.inner.Passing.{IsDefaultKey};
 
-// The default key of the live Rekey SA of a table that has one.
+// Answers the default key of the live Rekey SA of the table `t`: the second part of its keying octets. The table must have such an SA.
 pub fn default_key(t: Table) -> WrappingKey
     requires { ⌜ (tableFormed limits t ≡ true) × (any liveRekey (sasOf t) ≡ true) ⌝ }
     ensures { λ r. ⌜ IsDefaultKey t r ⌝ }

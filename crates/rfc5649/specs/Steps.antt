@@ -11,7 +11,7 @@ use Rattle.fips197.specs.Cipher.{cipher}
 abbrev pub register : List ℕ → ℕ → ℕ
 register s i = getD s i 0
 
--- a | r: the concatenation of two registers, a block of 16 octets (section 2, "B1 | B2")
+-- a | r: the concatenation of two registers, a block of 16 octets (section 2.1, "B1 | B2")
 abbrev pub joinRegisters : ℕ → ℕ → List ℕ
 joinRegisters a r = octetsOf 8 a ++ octetsOf 8 r
 
@@ -26,7 +26,7 @@ lsb64 b = number 8 (drop 8 b)
 unfoldable pub stored : ℕ → ℕ → List ℕ → List ℕ → List ℕ
 stored t i b s = set (set s 0 (bitXor (msb64 b) t)) i (lsb64 b)
 
--- "B = AES(K, A | R[i])", and what is stored of it
+-- "B = AES(K, A | R[i])", then A and R[i] are stored from B
 unfoldable pub step : List ℕ → ℕ → ℕ → List ℕ → List ℕ
 step key t i s = stored t i (cipher key (joinRegisters (register s 0) (register s i))) s
 

@@ -20,7 +20,7 @@ blocks m = (m + 7) / 8
 unfoldable pub padToBlocks : List ℕ → List ℕ
 padToBlocks x = x ++ replicate (8 * blocks (length x) - length x) 0
 
--- n 64-bit blocks of octets as registers
+-- the first n 64-bit blocks of s as registers
 unfoldable pub registers : ℕ → List ℕ → List ℕ
 registers zero s = []
 registers (suc n) s = number 8 s ∷ registers n (drop 8 s)

@@ -9,7 +9,7 @@ use lib.ListN.{length, getD}
 use Rattle.rfc5649.specs.Opens.{Opens}
 use Rattle.wire_attributes.specs.Tree.{WrapKey, SaKey}
 
--- a stands in the list, at some place
+-- `a` stands in `l`, at some place
 pub record In {A : Type 0} (a : A) (l : List A) : Type 0 where
   pub place : ℕ
   pub inside : place < length l
@@ -21,12 +21,14 @@ pub record Root : Type 0 where
   pub value : List ℕ
 
 module _ (roots : List Root) (entries : List WrapKey) (size : ℕ) where
-  -- "A value of the wrong size is not extended": the last value of a chain that passed these entries may be; a root's has any size
+  -- "A value of the wrong size is not extended": value `v`, at the end of a chain over the entries passed, may be extended; a root's value
+  -- may have any size
   abbrev pub Extended : List WrapKey → List ℕ → Type 0
   Extended [] v = Unit {0}
   Extended (e ∷ passed) v = length v ≡ size
 
-  -- "entries whose KWK ID names the key before and whose octets open under that key's value": entry e leads from key k, of value v, to x
+  -- "entries whose KWK ID names the key before and whose octets open under that key's value": entry `e` leads from key `k` with value `v`
+  -- to value `x`
   pub record Leads (k : ℕ) (v : List ℕ) (e : WrapKey) (x : List ℕ) : Type 0 where
     pub entry : In e entries
     pub names : e .kwkId ≡ k
@@ -39,18 +41,18 @@ module _ (roots : List Root) (entries : List WrapKey) (size : ℕ) where
     step : {passed : List WrapKey} {k : ℕ} {v x : List ℕ} (e : WrapKey) → Chain passed k v → Extended passed v → Leads k v e x →
         Chain (e ∷ passed) (e .keyId) x
 
-  -- "Whatever a chain gives is reached", a chain of one or more entries: key k, with value x
+  -- "Whatever a chain gives is reached", a chain of one or more entries: key `k`, with value `x`
   pub record Reached (k : ℕ) (x : List ℕ) : Type 0 where
     pub last : WrapKey
     pub before : List WrapKey
     pub chain : Chain (last ∷ before) k x
 
-  -- a chain of any number of entries ends on key k with value v: "key 0 or a reached or held one"
+  -- a chain of any number of entries ends on key `k` with value `v`: "key 0 or a reached or held one"
   pub record ChainEnds (k : ℕ) (v : List ℕ) : Type 0 where
     pub passed : List WrapKey
     pub chain : Chain passed k v
 
-  -- "The copies of an announced key are its SA_KEY attributes, opened under the key their KWK ID names": one of these copies opens to x
+  -- "The copies of an announced key are its SA_KEY attributes, opened under the key their KWK ID names": one of `copies` opens to `x`
   pub record CopyOpens (copies : List SaKey) (x : List ℕ) : Type 0 where
     pub copy : SaKey
     pub stands : In copy copies

@@ -1,4 +1,4 @@
--- Document 01's refusals 8 and 9, and what is known of a frame that meets neither.
+-- Document 01's refusals 8 and 9, and the values of the keys in a frame that meets neither.
 use Prim.Native.Nat.{ℕ}
 use mathlib.Core.Path.{_≡_}
 use mathlib.Core.List.{List}
@@ -34,12 +34,12 @@ module _ (roots : List Root) (entries : List WrapKey) (size : ℕ) where
     pub stands : In sa announced
     pub none : (x : List ℕ) → CopyOpens roots entries size (sa .copies) x → ⊥
 
-  -- "with the value that every chain ending on it gives": key k is reached, and each chain that ends on it gives x
+  -- "with the value that every chain ending on it gives": key `k` is reached, and each chain that ends on it gives `x`
   pub record Value (k : ℕ) (x : List ℕ) : Type 0 where
     pub reached : Reached roots entries size k x
     pub every : (y : List ℕ) → Reached roots entries size k y → y ≡ x
 
-  -- "with the octets that every such copy opens to": one opens, and each that does opens to x
+  -- "with the octets that every such copy opens to": one copy opens, and each copy that opens gives `x`
   pub record KeyOf (a : Announced) (x : List ℕ) : Type 0 where
     pub opens : CopyOpens roots entries size (a .copies) x
     pub every : (y : List ℕ) → CopyOpens roots entries size (a .copies) y → y ≡ x

@@ -1,1 +1,1 @@
-// Chains of wrapped keys, as definitions (specs/) and laws (proofs/). The code is in the crate `reach`.
+// Chains of wrapped keys, as definitions (specs/) and laws (proofs/). The code is in the crate `unwrap_search`.

@@ -51,11 +51,11 @@ namedInDelete f s = eqb (s .protocol) espProtocol && any (λ (x : List ℕ). isZ
 unfoldable pub replaced : Frame → Sa → Bool
 replaced f s = newRekey f && eqb (s .protocol) rekeyProtocol
 
--- those that retire, where they are live: "retiring ones are passed over" (they keep their start and delay)
+-- frame `f` retires SA `s`, provided that `s` is live: "retiring ones are passed over" (they keep their start and delay)
 abbrev pub retires : Frame → Sa → Bool
 retires f s = namedInDelete f s || replaced f s
 
--- what becomes of an SA that is not due
+-- what an SA that is not due becomes with the frame
 abbrev pub oldSa : ℕ → Frame → Sa → Sa
 oldSa now f = retiredIf (retires f) now (delayOf f)
 
@@ -68,7 +68,7 @@ oldSas s now f = map (oldSa now f) (notDueSas now s)
 unfoldable pub lifetimeFrom : ℕ → List ℕ → Lifetime
 lifetimeFrom now l = cond (some l) (Limited now (sum (λ (n : ℕ). n) l)) Unlimited
 
--- "The new SAs enter as live": an announced SA with its keying octets x, which a Rekey SA's policy cuts in two, and its lifetime
+-- "The new SAs enter as live": the SA of policy `a` with its lifetime and its keying octets `x`, which the policy of a Rekey SA cuts in two
 unfoldable pub saFrom : ℕ → GroupSaPolicy → List ℕ → Sa
 saFrom now a x =
     cond (isEsp a) (espSa (a .spi) (espOf x) (lifetimeFrom now (a .keyLifetimes)))
@@ -85,7 +85,7 @@ module _ (roots : List Root) (entries : List WrapKey) (size : ℕ) where
     one-more : {a : GroupSaPolicy} {l : List GroupSaPolicy} {m : List Sa} (x : List ℕ) → KeyOf roots entries size (announcedAs f a) x →
         Enter now f l m → Enter now f (a ∷ l) (saFrom now a x ∷ m)
 
-  -- a held key: the value that every chain ending on its Key ID gives, one at least
+  -- held key `k` has the value that every chain ending on its Key ID gives, and there is at least one such chain
   pub record HoldsKey (k : HeldKey) : Type 0 where
     pub x : List ℕ
     pub key-is : k .key ≡ wrappingOf x
@@ -110,7 +110,7 @@ HeldBy false Set Kept = Kept
 unfoldable pub initialMessageId : Frame → ℕ
 initialMessageId f = sum (λ (a : GroupSaPolicy). cond (isRekey a) (sum (λ (i : ℕ). i) (a .initialMessageIds)) 0) (announced f)
 
--- what an exchange with no new Rekey SA makes of the frame's Message ID and the least one of before
+-- the least Message ID after a frame without a new Rekey SA, by its exchange: `id` is the frame's Message ID, `before` the least one so far
 abbrev pub leastBy : LeastAfter → ℕ → Least → Least
 leastBy leastAfter.Zero id before = Id 0
 leastBy leastAfter.OwnPlusOne id before = afterId id

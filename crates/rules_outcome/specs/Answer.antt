@@ -12,11 +12,12 @@ use Rattle.rules_refusals.specs.Refusals.{Number, applies, numbers}
 use Rattle.rules_chains.specs.Refusals.{KeyConflict, KeyMissing}
 use Rattle.rules_outcome.specs.Roots.{rootsOf, entriesOf, wrappingSize, announcedKeys}
 
+-- a refusal number with its condition
 pub record RefusalCase : Type 1 where
   pub number : ℕ
   pub holds : Type 0
 
--- n is the number of the first condition that holds; 0 where none does
+-- `n` is the number of the first condition that holds, or 0 if none does
 abbrev pub First : List RefusalCase → ℕ → Type 0
 First [] n = n ≡ 0
 First (c ∷ l) n = (c .holds × (n ≡ c .number)) ⊎ ((c .holds → ⊥) × First l n)

@@ -17,8 +17,9 @@ use Rattle.rules_outcome.specs.NamedKey.{OpensUnder}
 use Rattle.rules_outcome.specs.LifetimeSays.{LifetimeAs}
 
 module _ (limits : Limits) (s : State) (now : ℕ) (lent : List ℕ) (f : Frame) (next : State) where
-  -- the question about an announced SA's protocol and SPI finds an SA with the octets that every copy of its key opens to, as many as its
-  -- policy needs, live, with its policy's lifetime from the frame's tick on, and a Rekey SA with the octet counts of its policy's two parts
+  -- asked for the protocol and SPI of policy `p`, the next member finds a live SA. Every copy of its key that opens gives its octets, as
+  -- many as the policy needs. Its lifetime is the policy's, from the frame's tick on. A Rekey SA has the octet counts of its policy's two
+  -- parts
   pub record AskedSays (p : GroupSaPolicy) : Type 0 where
     pub keying : List ℕ
     pub opens : OpensUnder limits s now lent f p keying

@@ -27,7 +27,7 @@ use Rattle.rules_outcome.specs.NamedKey.{Registration, Rekey, lentRoot, 
 use Rattle.rules_outcome.specs.Meets.{Meets}
 use Rattle.rules_outcome.specs.RestSays.{LeastAs, OldSa}
 
--- the held list that chains lead to
+-- held list `h` has exactly the keys to which chains lead
 module _ (roots : List Root) (entries : List WrapKey) (size : ℕ) where
   pub record HeldExactly (h : Held) : Type 0 where
     -- "each once, rising"
@@ -40,9 +40,9 @@ module _ (roots : List Root) (entries : List WrapKey) (size : ℕ) where
     pub octets : (k : HeldKey) → In k (keysOf h) → (x : List ℕ) → Reached roots entries size (k .id) x → valueOf (k .key) ≡ x
     pub fits : (i : ℕ) (x : List ℕ) → Reached roots entries size i x → length x ≡ size
 
--- what is known of an announced SA by the octets to which copies of its key open, in a frame of the tick
+-- announced SAs in a frame handed in at tick `now`: `Opens` says to which octets a copy of an SA's key opens
 module _ (now : ℕ) (Opens : GroupSaPolicy → List ℕ → Type 0) where
-  -- it stands in a list with the octets that every copy that opens gives, of the size that its policy needs
+  -- the SA of policy `a` stands in `l`. Every copy of its key that opens gives its octets, as many as the policy needs
   pub record NewBy (l : List Sa) (a : GroupSaPolicy) : Type 0 where
     pub octets : List ℕ
     pub opens : Opens a octets
@@ -50,7 +50,7 @@ module _ (now : ℕ) (Opens : GroupSaPolicy → List ℕ → Type 0) where
     pub fits : length octets ≡ needOf a
     pub stands : In (saFrom now a octets) l
 
-  -- the SA of a policy that the frame announces
+  -- `b` is the SA of a policy of frame `f`. Every copy of its key that opens gives its octets, as many as the policy needs
   pub record EnteredBy (f : Frame) (b : Sa) : Type 0 where
     pub policy : GroupSaPolicy
     pub stands : In policy (announced f)
@@ -66,11 +66,11 @@ module _ (limits : Limits) (s : State) (now : ℕ) (lent : List ℕ) (f : Frame)
   abbrev pub Copy : GroupSaPolicy → Type 0
   Copy a = (x : List ℕ) × OpensUnder limits s now lent f a x
 
-  -- an announced SA that stands in the table with the octets that every copy that opens gives, of the size that its policy needs
+  -- the SA of policy `p` stands in the table of `next`. Every copy of its key that opens gives its octets, as many as the policy needs
   abbrev pub Standing : State → GroupSaPolicy → Type 0
   Standing next p = NewBy now (OpensUnder limits s now lent f) (sasOf (next .table)) p
 
-  -- an SA of the table that a policy of the frame announces, with these octets
+  -- `b` is the SA of a policy of the frame, with such octets
   abbrev pub Entered : Sa → Type 0
   Entered b = EnteredBy now (OpensUnder limits s now lent f) f b
 

@@ -1,6 +1,6 @@
--- THE CUSTOMER'S DEMANDS, a row for each sentence, with what it says of the definitions: what the theorem `demands-hold` proves
--- (proofs/DemandsHold.antt). Demand 3 is one row: its sentences stand over the fields of its record. `Outcome` is what `Member::receive`
--- promises and `OpenAnswers` what `open` promises, for all inputs, without `requires`. So each row speaks of the code.
+-- THE CUSTOMER'S DEMANDS, a row for each sentence, with what it says of the definitions. The theorem `demands-hold`
+-- (proofs/DemandsHold.antt) proves them all. Demand 3 is one row: its sentences stand over the fields of its record. `Outcome` is what
+-- `Member::receive` promises and `OpenAnswers` what `open` promises, for all inputs, without `requires`. So each row speaks of the code.
 use Prim.Native.Nat.{ℕ, suc, _≤_, _<_}
 use mathlib.Core.Path.{_≡_}
 use mathlib.Core.Bool.{true}
@@ -29,8 +29,8 @@ use Rattle.rules_outcome.specs.Demand3.{Demand3}
 
 -- ---- demand 1
 module _ (s : State) (now : ℕ) (lent octets : List ℕ) where
-  -- No input is without an outcome, and none has two. The code finds the outcome; the definitions, which run no search, bar that there is
-  -- none.
+  -- No input is without an outcome, and none has two. The definitions run no search: they only rule out that there is no outcome. The code
+  -- finds it.
   pub record OneAnswer : Type 1 where
     pub some : ((n : ℕ) (next : State) → Outcome limits s now lent octets n next → ⊥) → ⊥
     pub one : (n m : ℕ) (next after : State) → Outcome limits s now lent octets n next → Outcome limits s now lent octets m after →
@@ -73,7 +73,7 @@ pub record Fits (room x : List ℕ) : Type 0 where
   pub octets : Octets x
   pub holds : length x ≤ length room
 
--- what `open` answers and leaves in the room says that it opened to x
+-- the answer `a` of `open` and the room `after` it say that it opened to `x`
 pub record OpenedTo (room x : List ℕ) (a : WrapAnswer) (after : List ℕ) : Type 0 where
   pub answer : a ≡ Count (length x)
   pub room-is : after ≡ written x room
@@ -83,14 +83,14 @@ pub record OpensExactly (key wrapped room : List ℕ) (a : WrapAnswer) (after : 
 
 -- ---- demand 3: what chains lead to, said without chains
 module _ (roots : List Root) (entries : List WrapKey) (size : ℕ) where
-  -- keys with their values to which an entry leads from a root, and from which an entry leads on where the value has the size
+  -- `P` holds of a key and its value if an entry leads there from a root, or from a key of `P` whose value has the size `size`
   pub record Closed (P : ℕ → List ℕ → Type 0) : Type 0 where
     pub first : (r : Root) → In r roots → (e : WrapKey) → In e entries → e .kwkId ≡ r .id → (x : List ℕ) →
         Opens (r .value) (e .wrapped) x → P (e .keyId) x
     pub on : (k : ℕ) (v : List ℕ) → P k v → length v ≡ size → (e : WrapKey) → In e entries → e .kwkId ≡ k → (x : List ℕ) →
         Opens v (e .wrapped) x → P (e .keyId) x
 
-  -- what chains reach is the least of these
+  -- what chains reach is closed in this way, and is the least that is
   pub record LeastClosed : Type 1 where
     pub closed : Closed (Reached roots entries size)
     pub least : (P : ℕ → List ℕ → Type 0) → Closed P → (k : ℕ) (x : List ℕ) → Reached roots entries size k x → P k x

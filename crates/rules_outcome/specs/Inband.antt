@@ -21,9 +21,9 @@ pub record UnderLent (lent : List ℕ) (f : Frame) (a : GroupSaPolicy) (x : List
   pub names-zero : copy .kwkId ≡ 0
   pub opens : Opens lent (copy .wrapped) x
 
--- What another member t makes of a frame of this exchange, beside a member s that gave the answer n and became next: the same answer, and
--- the same table. "The held list stays. The least Message ID changes only if a new Rekey SA comes.": each has its own, or both the new
--- one's.
+-- Member `s` answered a frame of this exchange with `n` and became `next`. Another member `t` gives the same answer to it and has the same
+-- table afterwards. "The held list stays. The least Message ID changes only if a new Rekey SA comes.": each member keeps its own least
+-- Message ID, or both have the new Rekey SA's.
 pub record Beside (limits : Limits) (s t : State) (now : ℕ) (lent octets : List ℕ) (n : ℕ) (next : State) : Type 0 where
   pub after : State
   pub outcome : Outcome limits t now lent octets n after

@@ -8,7 +8,7 @@ use mathlib.Core.List.{List, [], _∷_, _++_}
 use lib.Dec.{ltb}
 use Rattle.rules_outcome.specs.Answer.{RefusalCase}
 
--- a condition of the list with this number holds
+-- some condition of the list has number `n` and holds
 abbrev pub SomeHolds : List RefusalCase → ℕ → Type 0
 SomeHolds [] n = ⊥
 SomeHolds (c ∷ l) n = (c .holds × (n ≡ c .number)) ⊎ SomeHolds l n
@@ -24,7 +24,7 @@ pub record JudgedFirst (l : List RefusalCase) (n : ℕ) : Type 1 where
   pub holds : it .holds
   pub none : (m : ℕ) → SomeHolds earlier m → ⊥
 
--- the numbers of the list rise, each above k
+-- the numbers of the list rise, each above `k`
 abbrev pub above : ℕ → List RefusalCase → Bool
 above k [] = true
 above k (c ∷ l) = ltb k (c .number) && above (c .number) l

@@ -11,8 +11,8 @@ use Rattle.state_table.specs.Table.{sasOf}
 use Rattle.state.specs.declared.State.{State}
 use Rattle.rules_chains.specs.Chain.{In}
 
--- "its lifetime (GSA_KEY_LIFETIME, ..) and the tick of its start, or "no lifetime" if the attribute is missing": the start is the tick of
--- the frame that brings the SA of the policy p
+-- "its lifetime (GSA_KEY_LIFETIME, ..) and the tick of its start, or "no lifetime" if the attribute is missing": the start is `now`, the
+-- tick of the frame with policy `p`
 pub data LifetimeAs (now : ℕ) (p : GroupSaPolicy) : Lifetime → Type 0 where
   its-seconds : (n : ℕ) → p .keyLifetimes ≡ n ∷ [] → n ≤ mostSeconds → LifetimeAs now p (Limited now n)
   no-lifetime : p .keyLifetimes ≡ [] → LifetimeAs now p Unlimited

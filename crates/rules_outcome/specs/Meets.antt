@@ -46,16 +46,17 @@ module _ (limits : Limits) (s : State) (now : ℕ) (lent octets : List ℕ) wher
   abbrev pub judgingOrder : List RefusalCase
   judgingOrder = record { number = 1; holds = NoTree octets } ∷ map (ofTree octets) (refusalRows limits s now lent)
 
-  -- the octets meet the condition of a number
+  -- the octets meet the condition of number `n`
   pub record Meets (n : ℕ) : Type 0 where
     pub row : SomeHolds judgingOrder n
 
-  -- the number of an outcome is met, none lower is, and the member stays; where it is 0 none is met
+  -- number `n` is met, no lower one is, and the member stays as it was
   pub record Refused (n : ℕ) (next : State) : Type 0 where
     pub meets : Meets n
     pub lowest : (m : ℕ) → m < n → Meets m → ⊥
     pub stays : next ≡ s
 
+  -- no number is met, and the member becomes `next`
   pub record Accepted (next : State) : Type 0 where
     pub none : (m : ℕ) → Meets m → ⊥
     pub tree : Frame

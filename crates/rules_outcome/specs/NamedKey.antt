@@ -42,11 +42,11 @@ Rekey f = (f .header .exchange ≡ gsaRekey) ⊎ Inband f
 abbrev pub lentRoot : List ℕ → List Root
 lentRoot lent = record { id = 0; value = lent } ∷ []
 
--- a chain of one or more entries leads from the lent default key to key k and gives it the value x
+-- a chain of one or more entries leads from the lent default key to key `k` and gives it the value `x`
 abbrev pub Given : List ℕ → Frame → ℕ → List ℕ → Type 0
 Given lent f k x = Reached (lentRoot lent) (wrapKeysOf f) (length lent) k x
 
--- a Group Key Bag of the frame with the policy's protocol and SPI has this SA_KEY
+-- SA_KEY `c` stands in a Group Key Bag of the frame with the protocol and SPI of policy `a`
 pub record InOwnBag (f : Frame) (a : GroupSaPolicy) (c : SaKey) : Type 0 where
   pub bag : GroupKeyBag
   pub stands : In bag (groupBags f)
@@ -54,13 +54,13 @@ pub record InOwnBag (f : Frame) (a : GroupSaPolicy) (c : SaKey) : Type 0 where
   pub spi : bag .spi ≡ a .spi
   pub copy : In c (bag .keys)
 
--- a Member Key Bag of the frame has this WRAP_KEY
+-- WRAP_KEY `e` stands in a Member Key Bag of the frame
 pub record InMemberBag (f : Frame) (e : WrapKey) : Type 0 where
   pub bag : MemberKeyBag
   pub stands : In bag (memberBags f)
   pub entry : In e (bag .keys)
 
--- a held key has the value of a chain that starts with the lent default key and passes WRAP_KEYs of Member Key Bags alone
+-- held key `k` has the value of a chain from the lent default key over WRAP_KEYs of Member Key Bags alone
 pub record OfMemberBags (lent : List ℕ) (f : Frame) (k : HeldKey) : Type 0 where
   pub value : List ℕ
   pub key-is : k .key ≡ wrappingOf value
@@ -87,7 +87,7 @@ module _ (limits : Limits) (s : State) (now : ℕ) (lent : List ℕ) (f : Frame)
     pub named : Named (copy .kwkId) value
     pub opens : Opens value (copy .wrapped) x
 
-  -- the same in the words of the outcome: a copy of the announced SA's key opens to x (`copies-of-own-bag`, proofs/Demands.antt)
+  -- the same in the words of the outcome: a copy of the announced SA's key opens to `x` (`copies-of-own-bag`, proofs/Demands.antt)
   abbrev pub OpensTo : GroupSaPolicy → List ℕ → Type 0
   OpensTo a x = CopyOpens (rootsOf limits s now lent f) (entriesOf f) (wrappingSize limits s now lent f) (copiesOf f a) x
 
@@ -102,7 +102,7 @@ pub record CameOver (s : State) (now : ℕ) (f : Frame) (zero : List ℕ) : Type
   pub spi : saSpi sa ≡ f .header .spi
   pub cut : zero ≡ take (sa .wrapping) (drop (sa .encryption) (sa .octets))
 
--- so of every rekey that number 2 lets pass, accepted or not
+-- every GSA_REKEY frame that number 2 lets pass came over such an SA, whether or not it is accepted
 abbrev pub ZeroOfRekeys : Limits → State → Type 0
 ZeroOfRekeys limits s =
     (now : ℕ) (lent octets : List ℕ) (f : Frame) → IsFrame octets f → f .header .exchange ≡ gsaRekey →

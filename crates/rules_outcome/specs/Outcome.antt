@@ -19,7 +19,7 @@ pub data Judged (limits : Limits) (s : State) (now : ℕ) (lent : List ℕ) (f :
 abbrev pub NoTree : List ℕ → Type 0
 NoTree octets = (f : Frame) → IsFrame octets f → ⊥
 
--- "the other numbers are judged on a frame whose layout is whole": by its tree, which is one (`one-tree`,
+-- "the other numbers are judged on a frame whose layout is whole": by its tree, of which there is only one (`one-tree`,
 -- wire_frames/proofs/FrameGrammar.antt)
 pub data Outcome (limits : Limits) (s : State) (now : ℕ) (lent octets : List ℕ) : ℕ → State → Type 0 where
   no-layout : NoTree octets → Outcome limits s now lent octets 1 s

@@ -20,7 +20,7 @@ use Rattle.rules_outcome.specs.After.{oldSa}
 use Rattle.rules_outcome.specs.NamedKey.{Registration, Inband}
 
 module _ (f : Frame) where
-  -- "a new Rekey SA": a policy of the frame announces it
+  -- "a new Rekey SA": policy `p` of the frame announces it
   pub record NewRekey (p : GroupSaPolicy) : Type 0 where
     pub stands : In p (announced f)
     pub is-rekey : p .protocol ≡ protocolGikeUpdate
@@ -30,7 +30,7 @@ module _ (f : Frame) where
 
   -- "With a new Rekey SA the least Message ID is its GSA_INITIAL_MESSAGE_ID, else 0; without one, a registration sets 0 and a rekey sets it
   -- to its own plus 1, or "none any more" after 4,294,967,295." In GSA_INBAND_REKEY "the least Message ID changes only if a new Rekey SA
-  -- comes" (T-02): it is the one of before
+  -- comes" (T-02): it stays `before`
   pub data LeastAs (before : Least) : Least → Type 0 where
     its-initial-id : (p : GroupSaPolicy) → NewRekey p → (i : ℕ) → p .initialMessageIds ≡ i ∷ [] → LeastAs before (Id i)
     else-0 : (p : GroupSaPolicy) → NewRekey p → p .initialMessageIds ≡ [] → LeastAs before (Id 0)
@@ -53,8 +53,8 @@ module _ (f : Frame) where
     by-spi-0 : a .protocol ≡ protocolEsp → In (0 ∷ 0 ∷ 0 ∷ 0 ∷ []) (deletedSpis f) → EndsSa a
     by-new-rekey : a .protocol ≡ protocolGikeUpdate → (p : GroupSaPolicy) → NewRekey p → EndsSa a
 
-  -- what an SA that stood becomes: it is kept as it was, where the frame does not end it or where it is retiring already ("unknown or
-  -- retiring ones are passed over"), or a live one is retired: all of it stays but its condition, which has the frame's tick and delay
+  -- what SA `a` of the table becomes. It is kept as it was if the frame does not end it or if it is retiring already ("unknown or retiring
+  -- ones are passed over"). A live SA that the frame ends is retired: only its condition changes, to the frame's tick and delay
   pub data Becomes (now : ℕ) (a : Sa) : Sa → Type 0 where
     kept : (EndsSa a → ⊥) ⊎ ((start delay : ℕ) × (a .condition ≡ Retiring start delay)) → Becomes now a a
     turned : a .condition ≡ Live → EndsSa a → (d : ℕ) → DelayAs d → Becomes now a (withCondition (Retiring now d) a)
@@ -66,7 +66,7 @@ module _ (f : Frame) where
     pub not-due : due now was ≡ false
     pub becomes : Becomes now was b
 
--- the same in the words of the outcome
+-- `b` is an old SA after the frame, in the words of the outcome
 pub record Stayed (s : State) (now : ℕ) (f : Frame) (b : Sa) : Type 0 where
   pub old : Sa
   pub stood : In old (sasOf (s .table))

@@ -1,5 +1,5 @@
--- What chains go by in a frame: the keys that they may start with, the entries, the size that a wrapping key must have, and the SAs that
--- the frame announces with the copies of their keys.
+-- What a frame gives to chains: the keys to start with, the entries, the size of a wrapping key, and the announced SAs with the copies of
+-- their keys.
 use Prim.Native.Nat.{ℕ, _+_}
 use mathlib.Core.Bool.{cond}
 use mathlib.Core.List.{List, [], _∷_, map}

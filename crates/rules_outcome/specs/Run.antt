@@ -22,7 +22,7 @@ pub data Event : Type 0 where
   leave : Event
 
 module _ (limits : Limits) where
-  -- one step: a frame has its outcome, with the answer's number n; "Leaving gives the new member"
+  -- one step: a frame has its outcome, with the answer's number `n`; "Leaving gives the new member"
   pub data Takes (s : State) : Event → State → Type 0 where
     answered : (octets lent : List ℕ) (now n : ℕ) {next : State} → Outcome limits s now lent octets n next →
         Takes s (handed octets lent now) next
@@ -33,18 +33,18 @@ module _ (limits : Limits) where
     ends : (s : State) → Run s [] s
     goes : (s : State) {m e : State} {x : Event} {l : List Event} → Takes s x m → Run m l e → Run s (x ∷ l) e
 
-  -- each state that a run passes, its first and its last with them, is as P says
+  -- `P` holds of each state of the run, the first and the last included
   abbrev pub Throughout : (State → Type 0) → {s e : State} {l : List Event} → Run s l e → Type 0
   Throughout P (ends s) = P s
   Throughout P (goes s t r) = P s × Throughout P r
 
-  -- a step that neither leaves nor is an accepted frame that announces a Rekey SA
+  -- the step is not leaving, and not an accepted frame with a new Rekey SA
   abbrev pub Quiet : {s e : State} {x : Event} → Takes s x e → Type 0
   Quiet (answered octets lent now n o) = (f : Frame) → IsFrame octets f → n ≡ 0 → newRekey f ≡ false
   Quiet (swept now) = Unit {0}
   Quiet left = ⊥
 
-  -- so is each step of a run
+  -- each step of the run is quiet
   abbrev pub AllQuiet : {s e : State} {l : List Event} → Run s l e → Type 0
   AllQuiet (ends s) = Unit {0}
   AllQuiet (goes s t r) = Quiet t × AllQuiet r

@@ -1,6 +1,6 @@
 -- DOCUMENT 01'S SAMPLES MARKED P, one row each, with what it says of the definitions, and one row of ours. "What a sample does not mention
--- is fit; entries stand in a registration." No row assumes that something opens: what opens is the wrapping of any octets under any key,
--- and octets are any that are laid out as the row's frame.
+-- is fit; entries stand in a registration." No row assumes that something opens: what opens is the wrapping of any octets under any key. A
+-- row speaks of any octets that are laid out as its frame.
 use Prim.Native.Nat.{ℕ, _≤_}
 use mathlib.Core.Path.{_≡_}
 use mathlib.Core.Bool.{Bool, true, false, cond}
@@ -48,7 +48,7 @@ ClockWraps = (a : Sa) → a .lifetime ≡ Unlimited → a .condition ≡ Retirin
 abbrev DelayZero : Type 0
 DelayZero = (a : Sa) (start : ℕ) → a .lifetime ≡ Unlimited → a .condition ≡ Retiring start 0 → due start a ≡ true
 
--- ---- Message IDs: rekeys over the Rekey SA with the SPI x, with a Message ID and D alone, which names from 1 to 32 ESP SPIs
+-- ---- Message IDs: rekeys over the Rekey SA with SPI `x`, with Message ID `i` and D alone, which names from 1 to 32 ESP SPIs
 abbrev pub deleting : List ℕ → ℕ → List (List ℕ) → Frame
 deleting x i l = record {
   header = record { spi = x; exchange = 41; messageId = i };
@@ -61,17 +61,18 @@ pub record Rekeys (x : List ℕ) (i : ℕ) (octets : List ℕ) : Type 0 where
   pub few : length spis ≤ limits .deletedSpis
   pub reads : IsFrame octets (deleting x i spis)
 
--- at any tick at which that SA stands: any rekey over it with this Message ID, whatever it holds, is refused as number 3; each of those
--- with D alone is taken, with what holds of the state after it
+-- at any tick at which the Rekey SA with SPI `x` stands, any rekey over it with Message ID `i` is refused as number 3, whatever it holds
 abbrev pub Refuses : State → List ℕ → ℕ → Type 0
 Refuses s x i = (now : ℕ) (lent octets : List ℕ) → StandsAt now x s → (g : Frame) → IsFrame octets g → g .header .exchange ≡ 41 →
     g .header .spi ≡ x → g .header .messageId ≡ i → Outcome limits s now lent octets 3 s
 
+-- the frame is taken, and `Then` holds of the state after it
 pub record Taken (s : State) (now : ℕ) (lent octets : List ℕ) (Then : State → Type 0) : Type 0 where
   pub next : State
   pub outcome : Outcome limits s now lent octets 0 next
   pub after : Then next
 
+-- at any tick at which that SA stands, each rekey over it with Message ID `i` and D alone is taken, and `Then` holds of the state after it
 abbrev pub TakenThen : State → List ℕ → ℕ → (State → Type 0) → Type 0
 TakenThen s x i Then = (now : ℕ) (lent octets : List ℕ) → StandsAt now x s → Rekeys x i octets → Taken s now lent octets Then
 
@@ -79,12 +80,14 @@ abbrev LeastSeven : Type 0
 LeastSeven = (s : State) (x : List ℕ) → stateFormed limits s ≡ true → s .least ≡ Id 7 →
     Refuses s x 6 × TakenThen s x 7 (λ (next : State). Unit {0}) × TakenThen s x 9 (λ (next : State). Refuses next x 9)
 
--- every rekey over that SA that comes after any run in which no step leaves or brings a new Rekey SA, at a tick at which it stands
+-- after any run in which no step leaves or brings a new Rekey SA, every rekey over the SA with SPI `x` is refused as number 3 at any tick
+-- at which that SA stands
 abbrev pub LaterRefused : State → List ℕ → Type 0
 LaterRefused s x = (l : List Event) (e : State) (r : Run limits s l e) → AllQuiet limits r → (now : ℕ) (lent octets : List ℕ) →
     StandsAt now x e → (g : Frame) → IsFrame octets g → g .header .exchange ≡ 41 → g .header .spi ≡ x → Outcome limits e now lent octets 3 e
 
--- any rekey with that Message ID that is taken "with no new Rekey SA", and each with D alone is taken
+-- once any rekey with that Message ID is taken "with no new Rekey SA", every later one is refused; each with D alone is taken where the ID
+-- is acceptable
 pub record LastId : Type 0 where
   pub any-frame : (s next : State) (now : ℕ) (lent octets : List ℕ) (f : Frame) → IsFrame octets f → f .header .exchange ≡ 41 →
       f .header .messageId ≡ 4294967295 → newRekey f ≡ false → Outcome limits s now lent octets 0 next → LaterRefused next (f .header .spi)
@@ -92,7 +95,7 @@ pub record LastId : Type 0 where
       TakenThen s x 4294967295 (λ (next : State). LaterRefused next x)
 
 -- ---- entries in a registration: GSA_AUTH (39) or GSA_REGISTRATION (40), which announces one ESP SA with AES-GCM-16 of 128 bits and
--- Sequence Numbers 0, without a lifetime; what no sample mentions is any
+-- Sequence Numbers 0, without a lifetime; what no sample mentions may be anything
 pub record Around : Type 0 where
   pub auth : Bool
   pub spis : List ℕ
@@ -112,7 +115,7 @@ espPolicy r = record {
   keyLifetimes = [];
 }
 
--- its SA_KEY under KWK ID 0, and a Member bag with the entries
+-- the registration: the SA's SA_KEY under KWK ID 0, and a Member bag with the entries
 abbrev pub registering : Around → List ℕ → List WrapKey → Frame
 registering r wrapped entries = record {
   header = record { spi = r .spis; exchange = cond (r .auth) 39 40; messageId = r .messageId };
@@ -126,14 +129,14 @@ registering r wrapped entries = record {
       ∷ [];
 }
 
--- Key ID i under KWK ID k
+-- an entry with Key ID `i` under KWK ID `k`
 abbrev pub entry : ℕ → ℕ → List ℕ → WrapKey
 entry i k w = record { keyId = i; kwkId = k; wrapped = w }
 
 abbrev pub heldWith : ℕ → List ℕ → HeldKey
 heldWith i v = record { id = i; key = wrappingOf v }
 
--- the member after it: the ESP SA with its keying octets x, the held keys
+-- the member after it: the ESP SA with its keying octets `x`, and the held keys `l`
 abbrev pub registered : Around → List ℕ → List HeldKey → State
 registered r x l = record { table = tableOf limits (espSa (r .spi) (espOf x) Unlimited ∷ []); held = heldOf limits l; least = Id 0 }
 
@@ -157,7 +160,7 @@ TwoSteps = (r : Around) (now : ℕ) (lent x v₅ v₉ octets : List ℕ) → Fit
     Registers r lent x (entry 5 9 (wrapOf v₉ v₅) ∷ entry 9 0 (wrapOf lent v₉) ∷ []) octets →
     Outcome limits (newState limits) now lent octets 0 (registered r x (heldWith 5 v₅ ∷ heldWith 9 v₉ ∷ []))
 
--- whatever is wrapped
+-- for any wrapped octets
 abbrev Circle : Type 0
 Circle = (r : Around) (now : ℕ) (lent x w₅ w₉ octets : List ℕ) → Registers r lent x (entry 5 9 w₅ ∷ entry 9 5 w₉ ∷ []) octets →
     Outcome limits (newState limits) now lent octets 0 (registered r x [])
@@ -168,7 +171,7 @@ TwoValues = (r : Around) (now : ℕ) (lent x v w v₉ octets : List ℕ) → Fit
     Registers r lent x (entry 5 0 (wrapOf lent v) ∷ entry 5 9 (wrapOf v₉ w) ∷ entry 9 0 (wrapOf lent v₉) ∷ []) octets →
     Outcome limits (newState limits) now lent octets 8 (newState limits)
 
--- whatever entries there are
+-- for any entries
 abbrev LentOf28 : Type 0
 LentOf28 = (r : Around) (now : ℕ) (lent wrapped octets : List ℕ) (entries : List WrapKey) → length lent ≡ 28 →
     IsFrame octets (registering r wrapped entries) →
@@ -201,7 +204,7 @@ creating r wrapped entries = record {
       ∷ [];
 }
 
--- the member after it: the Rekey SA with its keying octets x, 20 to encrypt and 16 to wrap, the held keys
+-- the member after it: the Rekey SA with its keying octets `x`, 20 to encrypt and 16 to wrap, and the held keys `l`
 abbrev pub created : Around → List ℕ → List HeldKey → State
 created r x l = record { table = tableOf limits (rekeySa (r .spi) (rekeyOf x 20 16) Unlimited ∷ []); held = heldOf limits l; least = Id 0 }
 

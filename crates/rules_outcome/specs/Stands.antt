@@ -1,5 +1,5 @@
--- WHERE POLICIES, BAGS, KEYS AND SPIS STAND IN A FRAME: the vocabulary of the theorems that the lists by which a frame is judged leave none
--- out and add none, "wherever the entries stand in the frame" (proofs/Stands.antt). No contract cites this file.
+-- WHERE POLICIES, BAGS, KEYS AND SPIS STAND IN A FRAME: the vocabulary of the theorems in proofs/Stands.antt. They say that the lists used
+-- to judge a frame leave none out and add none, "wherever the entries stand in the frame". No contract cites this file.
 use Prim.Native.Nat.{ℕ}
 use mathlib.Core.Path.{_≡_}
 use mathlib.Core.List.{List}
@@ -11,7 +11,7 @@ use Rattle.wire_frames.specs.Frame.{Frame, Payload, gsa, kd, delete}
 use Rattle.rules_chains.specs.Chain.{In}
 
 module _ (f : Frame) where
-  -- a GSA of the frame has this policy
+  -- policy `x` stands in a GSA of the frame
   pub record HasPolicy (x : Policy) : Type 0 where
     pub payload : Payload
     pub stands : In payload (f .payloads)
@@ -19,7 +19,7 @@ module _ (f : Frame) where
     pub is-gsa : payload .content ≡ gsa policies
     pub policy : In x policies
 
-  -- a KD of the frame has this bag
+  -- bag `x` stands in a KD of the frame
   pub record HasBag (x : Bag) : Type 0 where
     pub payload : Payload
     pub stands : In payload (f .payloads)
@@ -27,13 +27,13 @@ module _ (f : Frame) where
     pub is-kd : payload .content ≡ kd bags
     pub bag : In x bags
 
-  -- a Member Key Bag of a KD of the frame has this WRAP_KEY
+  -- WRAP_KEY `e` stands in a Member Key Bag of the frame
   pub record HasWrapKey (e : WrapKey) : Type 0 where
     pub bag : MemberKeyBag
     pub stands : HasBag (memberKeys bag)
     pub entry : In e (bag .keys)
 
-  -- a D of the frame names this SPI
+  -- a D of the frame names SPI `x`
   pub record HasSpi (x : List ℕ) : Type 0 where
     pub payload : Payload
     pub stands : In payload (f .payloads)

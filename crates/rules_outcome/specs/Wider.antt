@@ -9,7 +9,7 @@ use Rattle.state.specs.declared.State.{State}
 use Rattle.state.specs.Held.{keysOf, heldOf}
 use Rattle.rules_outcome.specs.Outcome.{Outcome}
 
--- the second record allows at least what the first does
+-- limits `b` allow at least what limits `a` allow
 pub record Wider (a b : Limits) : Type 0 where
   pub sas : a .sas ≤ b .sas
   pub heldKeys : a .heldKeys ≤ b .heldKeys
@@ -18,12 +18,12 @@ pub record Wider (a b : Limits) : Type 0 where
   pub saKeys : a .saKeys ≤ b .saKeys
   pub deletedSpis : a .deletedSpis ≤ b .deletedSpis
 
--- "any member within the old limits": its two counts are. It need not keep its list otherwise
+-- "any member within the old limits": its two counts are within `limits`. It need not keep its list otherwise
 pub record Within (limits : Limits) (s : State) : Type 0 where
   pub sas : s .table .count ≤ limits .sas
   pub heldKeys : s .held .count ≤ limits .heldKeys
 
--- the same member: the same SAs, held keys and least Message ID, whatever unused places stand behind them, and however many
+-- `s` and `t` are the same member: the same SAs, held keys and least Message ID. Their unused places may differ, in content and in number
 pub record SameMember (s t : State) : Type 0 where
   pub sas : sasOf (s .table) ≡ sasOf (t .table)
   pub sa-count : s .table .count ≡ t .table .count
@@ -31,7 +31,7 @@ pub record SameMember (s t : State) : Type 0 where
   pub key-count : s .held .count ≡ t .held .count
   pub least : s .least ≡ t .least
 
--- a member with the places that limits give it
+-- member `s` with as many places as `limits` give it
 abbrev pub inPlaces : Limits → State → State
 inPlaces limits s = record {
   table = tableOf limits (sasOf (s .table));
@@ -39,7 +39,7 @@ inPlaces limits s = record {
   least = s .least;
 }
 
--- an answer under limits, with the same member afterwards as `next`
+-- under `limits`, member `t` gives the answer `n` and is afterwards the same member as `next`
 pub record AnswerKept (limits : Limits) (t : State) (now : ℕ) (lent octets : List ℕ) (n : ℕ) (next : State) : Type 0 where
   pub then : State
   pub outcome : Outcome limits t now lent octets n then

@@ -1,2 +1,2 @@
-// What becomes of a member that a frame is handed to, as definitions (specs/) and laws (proofs/). The code is in the crates judging,
-// reached, keying, acceptance, receiving and group.
+// What becomes of a member when it is handed a frame, as definitions (specs/) and laws (proofs/). The code is in the crates check_judging,
+// unwrap_tree, unwrap_sas, apply, receive and gikev2.

@@ -1,5 +1,5 @@
--- What a frame holds, wherever it stands in it: its payloads of a kind, policies, bags, keys and deleted SPIs. The clauses of document 01
--- go by "is there one", "each" and "how many" of these, so that their order cannot matter.
+-- What a frame holds, at whatever place: its payloads of a kind, policies, bags, keys and deleted SPIs. The clauses of document 01 ask "is
+-- there one", "each" and "how many" of these, so their order cannot matter.
 use Prim.Native.Nat.{ℕ}
 use mathlib.Core.List.{List, [], _∷_, _++_}
 use mathlib.Core.Bool.{Bool, true, false}
@@ -13,18 +13,18 @@ use Rattle.wire_frames.specs.Frame.{Frame, Payload, Content, gsa, kd, delete, u
 use Rattle.wire_frames.specs.Exchange.{exchangeOf}
 use Rattle.wire_frames.specs.declared.exchanges.Exchange.{Exchange}
 
--- what differs between exchanges, for this frame's
+-- the row of the frame's exchange: what differs between exchanges
 abbrev pub rowOf : Frame → Exchange
 rowOf f = exchangeOf (f .header .exchange)
 
--- there is one at least, and more than one
+-- `l` has at least one element; below, more than one
 abbrev pub some : {A : Type 0} → List A → Bool
 some l = ltb 0 (length l)
 
 abbrev pub several : {A : Type 0} → List A → Bool
 several l = ltb 1 (length l)
 
--- what each of a list gives, together
+-- the lists that `f` gives for the elements of a list, joined in order
 unfoldable pub gather : {A B : Type 0} → (A → List B) → List A → List B
 gather f [] = []
 gather f (a ∷ l) = f a ++ gather f l
@@ -48,7 +48,7 @@ hasGsa p = isGsa (p .content)
 abbrev pub hasKd : Payload → Bool
 hasKd p = isKd (p .content)
 
--- ---- what is in one
+-- ---- what one payload holds
 abbrev pub policiesOfContent : Content → List Policy
 policiesOfContent (gsa l) = l
 policiesOfContent (kd l) = []
@@ -67,7 +67,7 @@ deletesOfContent (kd l) = []
 deletesOfContent (delete d) = d ∷ []
 deletesOfContent unread = []
 
--- ---- what is in one of them: a policy is a Group SA policy or a group-wide one, a bag a Group or a Member Key Bag
+-- ---- what one policy or bag is: a policy is a Group SA policy or a group-wide one, a bag a Group or a Member Key Bag
 abbrev pub groupSaIn : Policy → List GroupSaPolicy
 groupSaIn (groupSa p) = p ∷ []
 groupSaIn (groupWide w) = []
@@ -84,7 +84,7 @@ abbrev pub memberBagOf : Bag → List MemberKeyBag
 memberBagOf (groupKeys b) = []
 memberBagOf (memberKeys b) = b ∷ []
 
--- ---- what is in the frame
+-- ---- what the frame holds
 abbrev pub policiesOf : Frame → List Policy
 policiesOf f = gather (λ (p : Payload). policiesOfContent (p .content)) (f .payloads)
 

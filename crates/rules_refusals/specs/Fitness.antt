@@ -1,4 +1,4 @@
--- What single structures of a frame must be.
+-- What the destination of a Rekey policy and the transforms of a policy must be, and the keying octets that transforms need.
 use Prim.Native.Nat.{ℕ, _+_}
 use mathlib.Core.List.{List, [], _∷_}
 use mathlib.Core.Bool.{Bool, true, false, cond, _&&_, _||_}
@@ -49,7 +49,7 @@ abbrev pub isOctets : Needed → Bool
 isOctets (Octets n) = true
 isOctets Nothing = false
 
--- a row of the table by one of its Key Lengths
+-- with one of its Key Lengths it is a row of the algorithm table
 unfoldable pub encryptionFits : Transform → Bool
 encryptionFits t = eqb (t .kind) transformEncr && any (λ (b : ℕ). isOctets (neededBy transformEncr (t .id) b)) (t .keyLengths)
 
@@ -62,14 +62,14 @@ sequenceNumbersFit t = eqb (t .kind) transformSn && (eqb (t .id) snSequential ||
 unfoldable pub authenticationFits : Transform → Bool
 authenticationFits t = eqb (t .kind) transformGcauth && (eqb (t .id) gcauthImplicit || eqb (t .id) gcauthDigitalSignature)
 
--- exactly one that is fit in each of these ways, and no other
+-- for each test of `wanted` exactly one transform of `l` passes it, and `l` has as many transforms as there are tests
 unfoldable pub exactTransforms : List (Transform → Bool) → List Transform → Bool
 exactTransforms wanted l = eqb (length l) (length wanted) && all (λ (p : Transform → Bool). eqb (count p l) 1) wanted
 
 abbrev pub espTransforms : List (Transform → Bool)
 espTransforms = encryptionFits ∷ sequenceNumbersFit ∷ []
 
--- whether a Rekey policy has the controller authentication type is the exchange's
+-- the exchange decides whether a Rekey policy has the controller authentication type
 abbrev pub rekeyTransforms : Bool → List (Transform → Bool)
 rekeyTransforms authentication =
     cond authentication (encryptionFits ∷ keyWrapFits ∷ authenticationFits ∷ []) (encryptionFits ∷ keyWrapFits ∷ [])
@@ -79,8 +79,8 @@ transformsFit authentication p =
     cond (isEsp p) (exactTransforms espTransforms (p .transforms))
     (isRekey p && exactTransforms (rekeyTransforms authentication) (p .transforms))
 
--- ---- "An ESP SA needs the first number, a Rekey SA the sum of both": the octets that the transforms of a policy need, in which a policy
--- whose transforms are fit has one of type 1 and, a Rekey policy, one of type 13
+-- ---- "An ESP SA needs the first number, a Rekey SA the sum of both": the octets that the transforms of a policy need. If they are fit,
+-- one of them is of type 1 and, in a Rekey policy, one is of type 13
 unfoldable pub sum : {A : Type 0} → (A → ℕ) → List A → ℕ
 sum f [] = 0
 sum f (a ∷ l) = f a + sum f l

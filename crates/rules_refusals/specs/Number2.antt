@@ -15,7 +15,7 @@ use Rattle.wire_frames.specs.Exchange.{exchangeOf}
 use Rattle.wire_frames.specs.declared.exchanges.Wanted.{Wanted}
 use Rattle.wire_frames.specs.declared.exchanges.Wanted.the-variants as wanted
 
--- the table as it stands at the tick: the SAs that are due count no more
+-- the SAs of the table that are not due at tick `now`: due ones count no more
 abbrev pub notDueSas : ℕ → State → List Sa
 notDueSas now s = notDue now (sasOf (s .table))
 

@@ -19,21 +19,22 @@ use Rattle.wire_frames.specs.declared.exchanges.Exchange.{Exchange}
 use Rattle.rules_refusals.specs.Contents.{rowOf, announced, groupBags, wrapKeysOf}
 use Rattle.rules_refusals.specs.Number2.{notDueSas}
 
--- it has this protocol and SPI
+-- the policy, or the Group Key Bag, has protocol `p` and SPI `x`
 abbrev pub policyNamed : ℕ → List ℕ → GroupSaPolicy → Bool
 policyNamed p x a = eqb (a .protocol) p && same (a .spi) x
 
 abbrev pub bagNamed : ℕ → List ℕ → GroupKeyBag → Bool
 bagNamed p x b = eqb (b .protocol) p && same (b .spi) x
 
--- how many policies, and how many Group Key Bags, have it
+-- how many policies, and how many Group Key Bags, have protocol `p` and SPI `x`
 abbrev pub policiesNamed : Frame → ℕ → List ℕ → ℕ
 policiesNamed f p x = count (policyNamed p x) (announced f)
 
 abbrev pub bagsNamed : Frame → ℕ → List ℕ → ℕ
 bagsNamed f p x = count (bagNamed p x) (groupBags f)
 
--- "policies and Group Key Bags not paired one to one by protocol and SPI": a policy that has not one bag, or a bag that has not one policy
+-- "policies and Group Key Bags not paired one to one by protocol and SPI": a policy without exactly one bag, or a bag without exactly one
+-- policy
 unfoldable pub policyUnpaired : Frame → Bool
 policyUnpaired f = any (λ (a : GroupSaPolicy). not (eqb (bagsNamed f (a .protocol) (a .spi)) 1)) (announced f)
 
@@ -79,8 +80,8 @@ unfoldable pub wrapKeyId : Frame → Bool
 wrapKeyId f = any (λ (k : WrapKey). eqb (k .keyId) 0) (wrapKeysOf f)
 
 -- document 02, T-09: "an entry whose Key ID equals its KWK ID. Any such WRAP_KEY, reached or not, now gives number 6 in a registration." It
--- counts as it stands, whether or not it opens. The exchange is not asked for, as it is not for Key ID 0: in any other exchange a Member
--- Key Bag is number 4
+-- counts as it stands, whether or not it opens. As for Key ID 0, the exchange is not tested: in any other exchange a Member Key Bag is
+-- number 4
 abbrev pub underItself : WrapKey → Bool
 underItself k = eqb (k .keyId) (k .kwkId)
 

@@ -1,5 +1,5 @@
--- "The lowest number that applies is given; each is judged only when the lower ones don't apply": the numbers with their clauses, in the
--- order in which they are judged, each with its two halves of clauses.
+-- "The lowest number that applies is given; each is judged only when the lower ones don't apply": the numbers in judging order, each with
+-- its clauses in two halves.
 use Prim.Native.Nat.{ℕ}
 use mathlib.Core.List.{List, [], _∷_, _++_}
 use mathlib.Core.Bool.{Bool, false, cond, _||_}
@@ -14,11 +14,12 @@ use Rattle.rules_refusals.specs.Number5.{number5OfFrame}
 use Rattle.rules_refusals.specs.Number6.{number6OfFrame, number6OfMember}
 use Rattle.rules_refusals.specs.Number7.{number7OfFrame, number7OfMember}
 
+-- a refusal number with its clauses
 pub record Number : Type 0 where
   pub number : ℕ
-  -- its clauses on the frame and the lent key alone: no member and no tick is among the arguments of a list `N-ofFrame`
+  -- its clauses on the frame and the lent key alone: a list such as `number4OfFrame` has no member and no tick among its arguments
   pub ofFrame : List Bool
-  -- those that look at the member or the tick
+  -- its clauses that look at the member or the tick
   pub ofMember : List Bool
 
 -- one of the clauses applies
@@ -29,7 +30,7 @@ one (b ∷ l) = b || one l
 abbrev pub applies : Number → Bool
 applies n = one (n .ofFrame) || one (n .ofMember)
 
--- the number judged first of those that apply; 0 where none does
+-- the first number of the list that applies; 0 if none does
 unfoldable pub judged : List Number → ℕ
 judged [] = 0
 judged (n ∷ l) = cond (applies n) (n .number) (judged l)

@@ -7,14 +7,14 @@ use Rattle.wire_bags.specs.Bag.{Bag, groupKeys, memberKeys, GroupKeyBag, Member
 use Rattle.wire_frames.specs.Delete.{Delete}
 use Rattle.wire_frames.specs.Frame.{Frame, Payload, Content, gsa, kd, delete, unread}
 
--- the same list in any order, each element as R has it
+-- the second list is the first one reordered: neighbours changed places, and elements were replaced by ones that `R` relates to them
 pub data AnyOrder {A : Type 0} (R : A → A → Type 0) : List A → List A → Type 0 where
   none : AnyOrder R [] []
   next : {a b : A} {l m : List A} → R a b → AnyOrder R l m → AnyOrder R (a ∷ l) (b ∷ m)
   swapped : {a b : A} {l : List A} → AnyOrder R (a ∷ b ∷ l) (b ∷ a ∷ l)
   then : {l m n : List A} → AnyOrder R l m → AnyOrder R m n → AnyOrder R l n
 
--- the same list in the same order, each element as R has it
+-- the second list is the first one in the same order, each element replaced by one that `R` relates to it
 pub data SameOrder {A : Type 0} (R : A → A → Type 0) : List A → List A → Type 0 where
   no-item : SameOrder R [] []
   item : {a b : A} {l m : List A} → R a b → SameOrder R l m → SameOrder R (a ∷ l) (b ∷ m)

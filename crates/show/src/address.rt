@@ -1,8 +1,8 @@
-// IP addresses.
+// Puts IP addresses.
 use text_faults::places::octet;
 use text_faults::places::two;
 
-// An address of 4 octets, or of 16.
+// Puts an address: 4 octets in decimal with dots, others as the groups of an IPv6 address.
 pub(crate) fn address(out: &mut [u8], n: usize, octets: &[u8]) -> usize {
     if octets.len() == 4 {
         let a = text_names::say(out, n, b"%.%.", octet(octets, 0), octet(octets, 1), 0);
@@ -24,7 +24,7 @@ fn groups(out: &mut [u8], n: usize, octets: &[u8]) -> usize {
     m
 }
 
-// The number of two octets at a place of an IPv6 address.
+// Puts the two octets at `at` of an IPv6 address as one number, behind a colon if it is not the first.
 fn group(out: &mut [u8], n: usize, octets: &[u8], at: usize) -> usize {
     let x = two(octets, at) as u64;
     if at == 0 {

@@ -1,4 +1,4 @@
-// Attributes, by their place.
+// Shows attributes, by the place where they stand.
 use crate::line::INMOST;
 use crate::line::INNER;
 use text_faults::places::attribute_end;
@@ -10,7 +10,7 @@ use text_faults::places::two;
 use wire_attributes::Read;
 use wire_attributes::tables::Place;
 
-// Attributes of a place, up to the offset at which the layout breaks, and why it does, if that is among them.
+// Puts the attributes from `from` to `to`, up to `stop`, and why the layout breaks if it does so among them.
 pub(crate) fn attributes(
     out: &mut [u8],
     n: usize,
@@ -33,7 +33,7 @@ pub(crate) fn attributes(
     m
 }
 
-// The attribute that the octets start with, at an offset.
+// Puts the attribute that `s` starts with, or why it breaks. Its offset in the frame is `at`.
 fn attribute_at(out: &mut [u8], n: usize, place: Place, s: &[u8], at: usize, stop: usize) -> usize {
     if at == stop {
         return text_faults::of_attribute(out, n, place, s, stop);
@@ -57,7 +57,7 @@ fn attribute_at(out: &mut [u8], n: usize, place: Place, s: &[u8], at: usize, sto
     }
 }
 
-// How far an attribute of a place is set in.
+// Answers how far an attribute in `place` is set in.
 fn indent(place: Place) -> usize {
     match place {
         Place::EncryptionTransform => INMOST,
@@ -71,7 +71,7 @@ fn indent(place: Place) -> usize {
     }
 }
 
-// An attribute: its name, what is shown of its value, and whether a member passes over it.
+// Puts an attribute: its name, what is shown of its value, and whether a member passes over it.
 pub(crate) fn attribute(
     out: &mut [u8],
     n: usize,
@@ -100,8 +100,8 @@ fn skipped(out: &mut [u8], n: usize, place: Place, kind: usize) -> usize {
     crate::line::ended(out, n)
 }
 
-// What is shown of a value: a number of 2 or 4 octets, an SPI, the IDs of a wrapped key, or how many octets it has. Octets that no paper
-// names, and those of keys, are counted.
+// What is shown of a value: a number of 2 or 4 octets, an SPI, the IDs of a wrapped key, or how many octets it has. Octets of keys, and
+// octets without a name in the papers, are only counted.
 enum Shape {
     Number,
     Spi,
@@ -109,6 +109,7 @@ enum Shape {
     Count,
 }
 
+// Answers what is shown of the attribute `kind` in `place`.
 fn shape_of(place: Place, kind: usize) -> Shape {
     match place {
         Place::EncryptionTransform => in_transform(kind),
@@ -122,7 +123,7 @@ fn shape_of(place: Place, kind: usize) -> Shape {
     }
 }
 
-// Key Length.
+// Answers the shape in a transform: Key Length (14) is a number.
 fn in_transform(kind: usize) -> Shape {
     match kind {
         14 => Shape::Number,
@@ -130,7 +131,7 @@ fn in_transform(kind: usize) -> Shape {
     }
 }
 
-// GSA_KEY_LIFETIME, GSA_INITIAL_MESSAGE_ID and GSA_NEXT_SPI.
+// Answers the shape in a policy: GSA_KEY_LIFETIME (1) and GSA_INITIAL_MESSAGE_ID (2) are numbers, GSA_NEXT_SPI (3) is an SPI.
 fn in_policy(kind: usize) -> Shape {
     match kind {
         1 => Shape::Number,
@@ -140,7 +141,7 @@ fn in_policy(kind: usize) -> Shape {
     }
 }
 
-// GWP_ATD, GWP_DTD and GWP_SENDER_ID_BITS.
+// Answers the shape in a group-wide policy: GWP_ATD (1), GWP_DTD (2) and GWP_SENDER_ID_BITS (3) are numbers.
 fn in_wide_policy(kind: usize) -> Shape {
     match kind {
         1 => Shape::Number,
@@ -150,7 +151,7 @@ fn in_wide_policy(kind: usize) -> Shape {
     }
 }
 
-// SA_KEY and WRAP_KEY.
+// Answers the shape in a key bag: SA_KEY and WRAP_KEY (1 in their bags) are wrapped keys.
 fn in_bag(kind: usize) -> Shape {
     match kind {
         1 => Shape::Wrapped,
@@ -180,7 +181,7 @@ fn number(out: &mut [u8], n: usize, value: &[u8]) -> usize {
     }
 }
 
-// An SPI of AH or ESP, or of a Rekey SA.
+// Puts an SPI of AH or ESP (4 octets) or of a Rekey SA (16 octets). A value of another size is counted.
 fn spi(out: &mut [u8], n: usize, value: &[u8]) -> usize {
     let count = value.len();
     match count {

@@ -1,4 +1,4 @@
-// Key bags: of a wrapped key its Key ID, its KWK ID and how many octets are wrapped, and no octet of it.
+// Shows key bags: of a wrapped key its Key ID, its KWK ID and how many octets are wrapped, and no octet of it.
 use crate::line::MIDDLE;
 use text_faults::places::behind;
 use text_faults::places::end_at;
@@ -7,7 +7,7 @@ use text_faults::places::octet;
 use text_faults::places::part;
 use text_faults::places::span;
 
-// The key bags of a KD payload's body, up to the offset at which the layout breaks.
+// Puts the key bags of a KD payload's body from `from` to `to`, up to `stop`.
 pub(crate) fn bags(
     out: &mut [u8],
     n: usize,
@@ -29,6 +29,7 @@ pub(crate) fn bags(
     m
 }
 
+// Puts the key bag from `at` to `end`, or why it breaks.
 fn bag(out: &mut [u8], n: usize, s: &[u8], at: usize, end: usize, stop: usize) -> usize {
     if at == stop {
         return text_faults::of_head(out, n, b"key bag: ", part(s, at, end), stop);

@@ -1,10 +1,11 @@
-// A Delete payload's body.
+// Shows the body of a Delete payload.
 use crate::line::MIDDLE;
 use text_faults::places::behind;
 use text_faults::places::octet;
 use text_faults::places::part;
 use text_faults::places::two;
 
+// Puts the fields of the body from `from` to `to`, and its SPIs if the protocol is one with SPIs.
 pub(crate) fn delete(out: &mut [u8], n: usize, s: &[u8], from: usize, to: usize) -> usize {
     let protocol = octet(s, from);
     let size = octet(s, behind(from, 1));
@@ -27,7 +28,7 @@ fn delete_head(out: &mut [u8], n: usize, protocol: usize, size: usize, count: us
     text_names::say(out, a, b", SPI size %, count %\n", size, count, 0)
 }
 
-// SPIs of a size, from a place to the end of the octets.
+// Puts the SPIs of `size` octets each, from `from` to the end of `s`.
 fn spis(out: &mut [u8], n: usize, size: usize, s: &[u8], from: usize) -> usize {
     let mut m = n;
     let mut at = from;

@@ -1,4 +1,4 @@
-// A frame: its header and its payloads, up to where its layout breaks.
+// Shows a frame: its header and its payloads, up to where its layout breaks.
 use crate::header::SIZE;
 use crate::line::OUTER;
 use text_faults::places::behind;
@@ -10,6 +10,7 @@ use text_faults::places::span;
 use wire_attributes::Layout;
 use wire_frames::HeaderRead;
 
+// Puts the frame `s`, or why its header breaks.
 pub(crate) fn frame(out: &mut [u8], n: usize, s: &[u8]) -> usize {
     match wire_frames::read_header(s) {
         HeaderRead::Header {
@@ -24,7 +25,7 @@ pub(crate) fn frame(out: &mut [u8], n: usize, s: &[u8]) -> usize {
     }
 }
 
-// A frame with a header of its own.
+// Puts what stands behind the header of `s`. An encrypted first payload is named and not opened.
 fn opened(out: &mut [u8], n: usize, s: &[u8], first: usize) -> usize {
     if is_encrypted(first) {
         if SIZE < s.len() {
@@ -37,7 +38,7 @@ fn opened(out: &mut [u8], n: usize, s: &[u8], first: usize) -> usize {
     }
 }
 
-// The Encrypted and Authenticated payload (RFC 7296) and the Encrypted and Authenticated Fragment payload (RFC 7383).
+// Whether `kind` is the Encrypted and Authenticated payload (RFC 7296) or the Encrypted and Authenticated Fragment payload (RFC 7383).
 fn is_encrypted(kind: usize) -> bool {
     match kind {
         46 => true,
@@ -52,13 +53,13 @@ fn encrypted(out: &mut [u8], n: usize, kind: usize, len: usize) -> usize {
     text_names::text(out, b, b", encrypted: not opened\n")
 }
 
-// What is shown of a frame whose layout is whole, below its header: its payloads, and which clauses apply.
+// Puts the payloads of a frame whose layout is whole, and which clauses apply to it.
 fn whole(out: &mut [u8], n: usize, s: &[u8]) -> usize {
     let a = payloads(out, n, s, 0);
     text_refusals::applying(out, a, s)
 }
 
-// The payloads up to the offset at which the layout breaks. Payloads that do not end with the frame count for the header, at 0.
+// Puts the payloads up to `stop`, and why the layout breaks. Payloads that do not end with the frame count for the header, at 0.
 fn broken(out: &mut [u8], n: usize, s: &[u8], stop: usize) -> usize {
     let a = payloads(out, n, s, stop);
     if stop == 0 {
@@ -67,6 +68,7 @@ fn broken(out: &mut [u8], n: usize, s: &[u8], stop: usize) -> usize {
     a
 }
 
+// Puts the payloads of the frame `s`, up to `stop`.
 fn payloads(out: &mut [u8], n: usize, s: &[u8], stop: usize) -> usize {
     let mut m = n;
     let mut kind = octet(s, 16);
@@ -86,6 +88,7 @@ fn payloads(out: &mut [u8], n: usize, s: &[u8], stop: usize) -> usize {
     m
 }
 
+// Puts the payload from `at` to `end`, or why it breaks.
 fn payload(
     out: &mut [u8],
     n: usize,
@@ -111,7 +114,7 @@ fn payload_head(out: &mut [u8], n: usize, kind: usize, critical: bool) -> usize 
     crate::line::ended(out, a)
 }
 
-// What the body of a payload holds.
+// Puts what the body of a payload of type `kind` holds: of D (42), GSA (51) and KD (52), and nothing of others.
 fn body(
     out: &mut [u8],
     n: usize,

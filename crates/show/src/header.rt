@@ -1,12 +1,13 @@
-// The IKE header of a frame.
+// Shows the IKE header of a frame.
 use crate::line::OUTER;
 use text_faults::places::four;
 use text_faults::places::octet;
 use text_faults::places::part;
 
-// The octets of a header.
+// The size of a header in octets.
 pub(crate) const SIZE: usize = 28;
 
+// Puts the line of the header of `s`.
 pub(crate) fn header(out: &mut [u8], n: usize, s: &[u8]) -> usize {
     let kind = octet(s, 18);
     let a = crate::line::head(out, n, OUTER, 0, SIZE);
@@ -24,7 +25,7 @@ pub(crate) fn header(out: &mut [u8], n: usize, s: &[u8]) -> usize {
     identity(out, d, s)
 }
 
-// RFC 7296, section 3.1: bits 3, 4 and 5 are named.
+// Puts the flags `x`, and the names of those that are set. RFC 7296, section 3.1: bits 3, 4 and 5 are named.
 fn flags(out: &mut [u8], n: usize, x: usize) -> usize {
     let a = text_names::hexadecimal(out, n, x as u64, 2);
     let b = flag(out, a, x / 8, b" Initiator");
@@ -32,7 +33,7 @@ fn flags(out: &mut [u8], n: usize, x: usize) -> usize {
     flag(out, c, x / 32, b" Response")
 }
 
-// The name of a flag that is the lowest bit.
+// Puts `name` if the lowest bit of `x` is set.
 fn flag(out: &mut [u8], n: usize, x: usize, name: &[u8]) -> usize {
     if x % 2 == 1 {
         return text_names::text(out, n, name);

@@ -1,16 +1,16 @@
-// Lines from standard input.
+// Reads standard input and shows its lines.
 ghost use mathlib.Core.Path.{_≡_};
 ghost use lib.ListN.{length};
 use crate::reading::LinesRead;
 use libc::STDIN_FILENO;
 
-// Whether there was a block, and where the program stands after it.
+// Whether to go on, and where the program stands after a read.
 struct Turn {
     more: bool,
     reading: LinesRead,
 }
 
-// One read, which returns what is there, and all of its lines; what they print is handed over.
+// Reads once what is there, shows the lines that end in it, and hands their text over.
 fn one_read(r: LinesRead, line: &mut [u8], room: &mut [u8], out: &mut [u8]) -> Turn {
     let mut block = io::large_buffer();
     let got = libc::read(STDIN_FILENO, &mut block);
@@ -29,7 +29,8 @@ fn one_read(r: LinesRead, line: &mut [u8], room: &mut [u8], out: &mut [u8]) -> T
     }
 }
 
-// A proved loop has to end, and nothing says that the input does: it counts its turns down from a number that no run uses up.
+// Shows all lines of the input. A proved loop has to end, and nothing says that the input does: it counts its turns down from a number that
+// no run uses up.
 fn show_lines(line: &mut [u8], room: &mut [u8], out: &mut [u8]) {
     let mut r = crate::reading::begun();
     let mut turns = u64::MAX;
@@ -47,20 +48,21 @@ fn show_lines(line: &mut [u8], room: &mut [u8], out: &mut [u8]) {
     crate::reading::handed_over(last, out);
 }
 
-// Room for the digits of a line, and for one more, which tells that a line is too long.
+// Answers room for the digits of a line, and for one more, which tells that a line is too long.
 fn digits() -> [u8; 32777]
     ensures { λ r. ⌜ 32777 ≡ length r ⌝ }
 {
     [0; 32777]
 }
 
-// Room for a tick and a frame.
+// Answers room for a tick and a frame.
 fn octets() -> [u8; 16388]
     ensures { λ r. ⌜ 16388 ≡ length r ⌝ }
 {
     [0; 16388]
 }
 
+// Shows the whole input.
 pub(crate) fn show_all() {
     let mut line = digits();
     let mut room = octets();

@@ -1,16 +1,17 @@
-// What a line holds: a default key, a bare frame, or a tick and a frame.
+// Tells what a line holds: a default key, a bare frame, or a tick and a frame.
 use crate::header::SIZE;
 use text_faults::places::four;
 use text_faults::places::part;
 use wire_attributes::Layout;
 
-// The octets of a tick.
+// The size of a tick in octets.
 pub(crate) const TICK: usize = 4;
 
 // The most digits of a default key.
 const KEY: usize = 64;
 
-// Whether a line of so many digits is a default key: no other than the first is, and a short one there is never taken for a frame.
+// Whether line `number` with this count of `digits` is a default key. Only the first line can be one, and a short first line is never taken
+// for a frame.
 pub(crate) fn is_key(number: usize, digits: usize) -> bool {
     if number == 1 {
         return digits <= KEY;
@@ -25,7 +26,7 @@ fn is_whole(s: &[u8]) -> bool {
     }
 }
 
-// Whether a header's length counts the octets.
+// Whether the length field of the header of `s` is `s.len()`.
 fn is_counted(s: &[u8]) -> bool {
     if s.len() < SIZE {
         return false;
@@ -33,8 +34,8 @@ fn is_counted(s: &[u8]) -> bool {
     four(s, 24) == s.len()
 }
 
-// Whether a line's octets are a tick and a frame, and no bare frame: the one of the two that is whole; if none is, the one whose length
-// counts its octets; if both or none does, as the first line says, which is a key in front of ticks and frames.
+// Whether `s` is a tick and a frame, and no bare frame. Decides for the frame that is whole; if neither is, for the one whose length field
+// counts its octets; if both or neither do, by the first line: behind a key (`keyed`) come ticks and frames.
 pub(crate) fn has_tick(s: &[u8], keyed: bool) -> bool {
     if s.len() < TICK {
         return false;
@@ -49,6 +50,8 @@ pub(crate) fn has_tick(s: &[u8], keyed: bool) -> bool {
     by_length(is_counted(s), is_counted(rest), keyed)
 }
 
+// Decides by the length fields: `bare` and `ticked` say whether that of the bare frame and that of the frame behind a tick count the
+// octets.
 fn by_length(bare: bool, ticked: bool, keyed: bool) -> bool {
     if bare {
         if ticked {
@@ -62,7 +65,7 @@ fn by_length(bare: bool, ticked: bool, keyed: bool) -> bool {
     keyed
 }
 
-// The octets of a line that is no key.
+// Puts the octets `s` of a line that is no key: its tick, if it has one, and its frame.
 pub(crate) fn show_octets(out: &mut [u8], n: usize, s: &[u8], keyed: bool) -> usize {
     if has_tick(s, keyed) {
         let a = text_names::say(out, n, b"tick %, ", four(s, 0), 0, 0);

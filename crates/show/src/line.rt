@@ -1,6 +1,7 @@
-// Lines of the tree.
+// Puts what the lines of the tree have in common.
 
-// How far lines are set in: the header and payloads; policies, key bags and the fields of D; what these hold; what a transform holds.
+// How far lines are set in: the header and payloads (OUTER); policies, key bags and the fields of D (MIDDLE); what policies and key bags
+// hold (INNER); what a transform holds (INMOST).
 pub(crate) const OUTER: usize = 2;
 
 pub(crate) const MIDDLE: usize = 4;
@@ -9,18 +10,19 @@ pub(crate) const INNER: usize = 6;
 
 pub(crate) const INMOST: usize = 8;
 
-// The start of a line: a structure's offset and length.
+// Puts the start of a line: the offset `at` and the length `len` of a structure, and the indent.
 pub(crate) fn head(out: &mut [u8], n: usize, indent: usize, at: usize, len: usize) -> usize {
     let a = text_names::column(out, n, at);
     let b = text_names::column(out, a, len);
     text_names::blanks(out, b, indent)
 }
 
+// Puts the end of a line.
 pub(crate) fn ended(out: &mut [u8], n: usize) -> usize {
     text_names::put(out, n, 10)
 }
 
-// The rest of a line that names a structure by its protocol and SPI.
+// Puts the rest of a line that names the structure `what` by its protocol and SPI.
 pub(crate) fn protocol_and_spi(
     out: &mut [u8],
     n: usize,

@@ -1,4 +1,4 @@
-// A policy in which the layout breaks: what stands in it up to there. The view shows no such policy.
+// Shows a policy in which the layout breaks, up to there. The view shows no such policy.
 use crate::line::MIDDLE;
 use text_faults::places::behind;
 use text_faults::places::end_at;
@@ -9,7 +9,7 @@ use text_faults::places::span;
 use text_faults::places::two;
 use wire_attributes::tables::Place;
 
-// The policy at an offset, up to the one at which the layout breaks.
+// Puts the policy from `at` to `end`, up to `stop`.
 pub(crate) fn policy(
     out: &mut [u8],
     n: usize,
@@ -26,7 +26,7 @@ pub(crate) fn policy(
     text_faults::of_head(out, n, b"policy: ", p, stop)
 }
 
-// What a policy holds, by its first octet.
+// Puts what the policy holds, by its `first` octet: 0 for a group-wide policy, else its protocol.
 fn held(
     out: &mut [u8],
     n: usize,
@@ -47,7 +47,7 @@ fn held(
     source(out, b, place, s, body, end, stop)
 }
 
-// From the source selector on.
+// Puts the policy from its source selector on, which is due at `at`.
 fn source(
     out: &mut [u8],
     n: usize,
@@ -68,7 +68,7 @@ fn source(
     destination(out, a, place, s, end, to, stop)
 }
 
-// From the destination selector on.
+// Puts the policy from its destination selector on, which is due at `at`.
 fn destination(
     out: &mut [u8],
     n: usize,
@@ -96,7 +96,7 @@ fn selector(out: &mut [u8], n: usize, first: bool, s: &[u8], at: usize, end: usi
     crate::policy::ports(out, b, octet(p, 1), two(p, 4), two(p, 6))
 }
 
-// Transforms up to the last, then attributes.
+// Puts the transforms up to the last one, then the attributes.
 fn suite(
     out: &mut [u8],
     n: usize,

@@ -1,4 +1,4 @@
-// Policies. A whole one is shown by the view.
+// Shows policies. A whole one is read by the view (`wire_view`), one in which the layout breaks by `partial`.
 use crate::line::INNER;
 use crate::line::MIDDLE;
 use text_faults::places::behind;
@@ -11,7 +11,7 @@ use wire_attributes::tables::Place;
 use wire_view::items::Item;
 use wire_view::read::Kind;
 
-// The policies of a GSA payload's body, up to the offset at which the layout breaks.
+// Puts the policies of a GSA payload's body from `from` to `to`, up to `stop`.
 pub(crate) fn policies(
     out: &mut [u8],
     n: usize,
@@ -33,6 +33,7 @@ pub(crate) fn policies(
     m
 }
 
+// Puts the policy from `at` to `end`.
 fn policy(out: &mut [u8], n: usize, s: &[u8], at: usize, end: usize, stop: usize) -> usize {
     if holds(at, stop, end) {
         return crate::partial::policy(out, n, s, at, end, stop);
@@ -41,7 +42,7 @@ fn policy(out: &mut [u8], n: usize, s: &[u8], at: usize, end: usize, stop: usize
     whole(out, a, s, at, end)
 }
 
-// The policy between two offsets.
+// Puts the whole policy from `from` to `to`.
 fn whole(out: &mut [u8], n: usize, s: &[u8], from: usize, to: usize) -> usize {
     let p = part(s, from, to);
     match wire_view::shown_kind(p) {
@@ -66,11 +67,13 @@ fn whole(out: &mut [u8], n: usize, s: &[u8], from: usize, to: usize) -> usize {
     }
 }
 
+// Puts the protocol and the SPI of a policy.
 pub(crate) fn policy_head(out: &mut [u8], n: usize, protocol: usize, spi: &[u8]) -> usize {
     crate::line::protocol_and_spi(out, n, b"policy ", protocol, spi)
 }
 
-// Where the text goes on, where the next item of the policy stands, and the view's cursor there.
+// Where the text goes on (`n`), where the next item of the policy stands (`next`), the view's cursor there, and whether there was an item
+// (`more`).
 struct Step {
     n: usize,
     next: usize,
@@ -78,7 +81,7 @@ struct Step {
     more: bool,
 }
 
-// What the view shows after the head, one after the other.
+// Puts what the view shows behind the `head` octets of a policy, one item after the other.
 fn items(
     out: &mut [u8],
     n: usize,
@@ -106,7 +109,7 @@ fn items(
     m
 }
 
-// What stands at a cursor of the policy between two offsets, and at an offset.
+// Puts what stands at `cursor` of the policy from `from` to `to`. Its offset in the frame is `at`.
 fn item(
     out: &mut [u8],
     n: usize,
@@ -177,7 +180,7 @@ fn stepped(n: usize, next: usize, cursor: usize) -> Step {
     }
 }
 
-// The first selector is the source.
+// Puts the start of a selector's line. The first selector is the source.
 pub(crate) fn selector_head(out: &mut [u8], n: usize, first: bool, at: usize, len: usize) -> usize {
     let a = crate::line::head(out, n, INNER, at, len);
     if first {
@@ -186,6 +189,7 @@ pub(crate) fn selector_head(out: &mut [u8], n: usize, first: bool, at: usize, le
     text_names::text(out, a, b"destination ")
 }
 
+// Puts the IP protocol and the ports of a selector.
 pub(crate) fn ports(out: &mut [u8], n: usize, protocol: usize, start: usize, end: usize) -> usize {
     text_names::say(
         out,
@@ -197,7 +201,7 @@ pub(crate) fn ports(out: &mut [u8], n: usize, protocol: usize, start: usize, end
     )
 }
 
-// Two addresses, one behind the other.
+// Puts the two addresses of a selector, which are the two halves of `octets`.
 pub(crate) fn addresses(out: &mut [u8], n: usize, octets: &[u8]) -> usize {
     let half = octets.len() / 2;
     let a = crate::address::address(out, n, part(octets, 0, half));
@@ -205,7 +209,7 @@ pub(crate) fn addresses(out: &mut [u8], n: usize, octets: &[u8]) -> usize {
     crate::address::address(out, b, part(octets, half, octets.len()))
 }
 
-// A transform between two offsets, and its attributes up to the offset at which the layout breaks.
+// Puts the transform from `at` to `end`, and its attributes up to `stop`.
 pub(crate) fn transform(
     out: &mut [u8],
     n: usize,

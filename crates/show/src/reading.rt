@@ -1,12 +1,13 @@
-// From characters to lines. Blanks, tabs and CR are passed over, capitals are digits, and so is 0x in front of a word no part of it.
+// Reads characters to lines of digits. Passes over blanks, tabs, CR and a 0x in front of a word; capitals are digits.
 use text_faults::places::octet;
 use text_faults::places::part;
 
 // The most digits of a line that is shown: a tick and a frame.
 const MOST: usize = 32776;
 
-// Where the program stands: the place in the output; whether the first line was a key; the number of the line that is read, how many digits
-// of it are held, how many characters it has so far and its last word has, and which of them is the first that is no digit, or 0.
+// Where the program stands: the place in the output (`n`); whether the first line was a key (`keyed`); the number of the line that is read
+// (`number`), how many digits of it are held (`held`), how many characters it has so far (`seen`), how many its last word has (`word`), and
+// the place of its first character that is no digit, or 0 (`wrong`).
 pub(crate) struct LinesRead {
     pub(crate) n: usize,
     pub(crate) keyed: bool,
@@ -17,6 +18,7 @@ pub(crate) struct LinesRead {
     pub(crate) wrong: usize,
 }
 
+// Answers where the program starts: before the first character of line 1.
 pub(crate) fn begun() -> LinesRead {
     LinesRead {
         n: 0,
@@ -33,7 +35,7 @@ fn next(x: usize) -> usize {
     std::num::wrapping_add_usize(x, 1)
 }
 
-// The line with one character more.
+// Counts one character more of the line. `held`, `word` and `wrong` are those after it.
 fn more(r: LinesRead, held: usize, word: usize, wrong: usize) -> LinesRead {
     LinesRead {
         n: r.n,
@@ -54,7 +56,7 @@ fn digit(r: LinesRead, c: u8, line: &mut [u8]) -> LinesRead {
     more(r, text_lines::put(line, r.held, c), next(r.word), r.wrong)
 }
 
-// A character that is no digit; the first one is told.
+// Takes a character that is no digit, and keeps the place of the first one.
 fn other(r: LinesRead) -> LinesRead {
     if r.wrong == 0 {
         return more(r, r.held, next(r.word), next(r.seen));
@@ -62,7 +64,7 @@ fn other(r: LinesRead) -> LinesRead {
     more(r, r.held, next(r.word), r.wrong)
 }
 
-// An x: it and the 0 that a word starts with are passed over.
+// Takes an x, and drops the 0 before it if the word is that 0 alone. Any other x is no digit.
 fn prefix(r: LinesRead, line: &[u8]) -> LinesRead {
     let held = r.held;
     if r.word == 1 {
@@ -75,7 +77,7 @@ fn prefix(r: LinesRead, line: &[u8]) -> LinesRead {
     other(r)
 }
 
-// A character of a line.
+// Takes the character `c` of a line.
 fn character(r: LinesRead, c: u8, line: &mut [u8]) -> LinesRead {
     match c {
         9 => blank(r),
@@ -90,7 +92,7 @@ fn character(r: LinesRead, c: u8, line: &mut [u8]) -> LinesRead {
     }
 }
 
-// The end of a line: it is shown, and the next one begins.
+// Ends a line: shows it, and begins the next one.
 fn ended(r: LinesRead, line: &[u8], room: &mut [u8], out: &mut [u8]) -> LinesRead {
     let held = r.held;
     let n = show_line(out, r, part(line, 0, held), room);
@@ -105,7 +107,7 @@ fn ended(r: LinesRead, line: &[u8], room: &mut [u8], out: &mut [u8]) -> LinesRea
     }
 }
 
-// Whether the first line, which may be this one, is a key.
+// Whether the first line is a key. The line that ends, with `held` digits, may be that one.
 fn keyed(r: LinesRead, held: usize) -> bool {
     if r.keyed {
         return true;
@@ -113,6 +115,7 @@ fn keyed(r: LinesRead, held: usize) -> bool {
     crate::kinds::is_key(r.number, held)
 }
 
+// Takes the character `c`, a newline or one of a line.
 fn taken(r: LinesRead, c: u8, line: &mut [u8], room: &mut [u8], out: &mut [u8]) -> LinesRead {
     if c == 10 {
         return ended(r, line, room, out);
@@ -120,7 +123,7 @@ fn taken(r: LinesRead, c: u8, line: &mut [u8], room: &mut [u8], out: &mut [u8]) 
     character(r, c, line)
 }
 
-// All characters of a block.
+// Takes all characters of `block`.
 pub(crate) fn block(
     r: LinesRead,
     block: &[u8],
@@ -137,7 +140,7 @@ pub(crate) fn block(
     x
 }
 
-// The end of the input: a line that has begun is shown.
+// Ends the input: shows a line that has begun.
 pub(crate) fn finished(r: LinesRead, line: &[u8], room: &mut [u8], out: &mut [u8]) -> LinesRead {
     if r.seen == 0 {
         return r;
@@ -145,7 +148,7 @@ pub(crate) fn finished(r: LinesRead, line: &[u8], room: &mut [u8], out: &mut [u8
     ended(r, line, room, out)
 }
 
-// What the output holds is handed over.
+// Hands over what `out` holds.
 pub(crate) fn handed_over(r: LinesRead, out: &[u8]) -> LinesRead {
     LinesRead {
         n: text_names::handed_over(out, r.n),
@@ -158,7 +161,7 @@ pub(crate) fn handed_over(r: LinesRead, out: &[u8]) -> LinesRead {
     }
 }
 
-// A line, by its digits.
+// Puts the number of a line and what its `digits` hold, or why they cannot be shown.
 fn show_line(out: &mut [u8], r: LinesRead, digits: &[u8], room: &mut [u8]) -> usize {
     let n = text_names::say(out, r.n, b"line %: ", r.number, 0, 0);
     if r.wrong != 0 {

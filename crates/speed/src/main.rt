@@ -1,22 +1,22 @@
 // `speed wrap|open K`: 10,000 wraps or openings of 36 octets under a key of K octets, which each call expands. `speed frame K`: 100 times
 // 41 openings of 264 octets. That was the most that a frame could ask for under document 01's limits: 32 WRAP_KEYs and 9 SA_KEYs in a
 // registration, 40 SA_KEYs in a rekey. By T-01 its octets allow 58; the count stays, so that times can be compared. Prints a checksum over
-// what was written, so that nothing can be left out, and nothing where the arguments are others.
+// what was written, so that no call can be left out. Prints nothing for other arguments.
 use keywrap::WrapAnswer;
 use libc::STDOUT_FILENO;
 use octets::wide;
 
 const TURNS: usize = 10000;
 
-// A hundred frames.
+// The openings of a hundred frames.
 const FRAMES: usize = 4100;
 
-// The checksum, modulo 2^32, with one octet more.
+// Adds one octet to the checksum `sum`, modulo 2^32.
 fn added(sum: usize, octet: u8) -> usize {
     (sum % 4294967296 * 31 + wide(octet)) % 4294967296
 }
 
-// The checksum with these octets.
+// Adds `octets` to the checksum `start`.
 fn checksum(start: usize, octets: &[u8]) -> usize {
     let mut sum = start;
     let mut i = 0;
@@ -27,7 +27,7 @@ fn checksum(start: usize, octets: &[u8]) -> usize {
     sum
 }
 
-// The checksum with what a call wrote: the room is exact, so that is all of it or nothing.
+// Adds what a call wrote to the checksum `start`: the room is exact, so that is all of it or nothing.
 fn written(start: usize, answer: WrapAnswer, room: &[u8]) -> usize {
     match answer {
         WrapAnswer::No => start,
@@ -35,7 +35,7 @@ fn written(start: usize, answer: WrapAnswer, room: &[u8]) -> usize {
     }
 }
 
-// The octets of a turn: its number in the first four, then 13 i + 36 at place i.
+// Answers the octets of a turn: its number in the first four, then 13 i + 36 at place i.
 fn plain(turn: usize) -> [u8; 36] {
     let mut octets = [0u8; 36];
     octets[2] = (turn / 256 % 256) as u8;
@@ -47,6 +47,7 @@ fn plain(turn: usize) -> [u8; 36] {
     octets
 }
 
+// Wraps in each turn other octets. Answers the checksum.
 fn wraps(key: &[u8]) -> usize {
     let mut room = [0u8; 48];
     let mut sum = 0;
@@ -59,6 +60,7 @@ fn wraps(key: &[u8]) -> usize {
     sum
 }
 
+// Opens in each turn the same wrapping. Answers the checksum.
 fn openings(key: &[u8]) -> usize {
     let mut wrapped = [0u8; 48];
     keywrap::wrap(key, &plain(0), &mut wrapped);
@@ -73,6 +75,7 @@ fn openings(key: &[u8]) -> usize {
     sum
 }
 
+// Opens as often as a hundred frames can ask for. Answers the checksum.
 fn frames(key: &[u8]) -> usize {
     let mut wrapped = [0u8; 264];
     let mut room = [7u8; 256];
@@ -110,7 +113,7 @@ fn run_if(asked: &[u8], size: &[u8], mode: &[u8], key: &[u8]) {
     }
 }
 
-// The octets of a key of K octets are 7 i + K.
+// Runs `mode` under a key of K octets, where `asked` is K in decimal. The octets of the key are 7 i + K.
 fn run_under(asked: &[u8], mode: &[u8]) {
     run_if(
         asked,

@@ -1,5 +1,5 @@
--- The unused places of a state, which are blank in every state that is made: those of the table, the places past the held list's count,
--- and the octets behind each held value.
+-- The unused places of a state: those of the table, the places past the held list's count, and the octets behind each held value. They are
+-- blank in every state that is made.
 use mathlib.Core.Path.{_≡_}
 use mathlib.Core.List.{List, [], _∷_}
 use lib.ListN.{take}

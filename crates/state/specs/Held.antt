@@ -37,17 +37,19 @@ idBefore a b = ltb (a .id) (b .id)
 unfoldable pub heldFormed : Limits → Held → Bool
 heldFormed limits h = leb (h .count) (limits .heldKeys) && (all keyFormed (keysOf h) && rising idBefore (keysOf h))
 
--- the key with a Key ID, or none
+-- the answer where no key is found
 abbrev pub noKey : MadeWrapping
 noKey = record { fits = false; key = wrappingOf [] }
 
+-- the first key of a list with the Key ID id, or none
 unfoldable pub keyWith : ℕ → List HeldKey → MadeWrapping
 keyWith id [] = noKey
 keyWith id (k ∷ l) = cond (eqb (k .id) id) (record { fits = true; key = k .key }) (keyWith id l)
 
+-- the same in the held list; one whose count is over the limit has none
 unfoldable pub heldKey : Limits → ℕ → Held → MadeWrapping
 heldKey limits id h = cond (leb (h .count) (limits .heldKeys)) (keyWith id (keysOf h)) noKey
 
--- one key more at its place, if there is room
+-- the list with the key a in its place, if there is room
 unfoldable pub enteredKey : Limits → HeldKey → Held → Held
 enteredKey limits a h = cond (ltb (h .count) (limits .heldKeys)) (heldOf limits (insert idBefore a (keysOf h))) h

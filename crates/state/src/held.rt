@@ -17,12 +17,13 @@ pub struct HeldKey {
     pub key: WrappingKey,
 }
 
+// The held list: its keys are the first `count` of `keys`.
 pub struct Held {
     pub keys: [HeldKey; HELD_KEYS],
     pub count: usize,
 }
 
-// An unused place of the list.
+// Makes the value of an unused place of the list.
 fn blank() -> HeldKey
     ensures { λ r. ⌜ r ≡ blankKey ⌝ }
 {
@@ -34,7 +35,7 @@ fn blank() -> HeldKey
 }
 
 impl HeldKey {
-    // Whether its Key ID is not 0 and its octet count that of a wrapping key.
+    // Whether the Key ID is not 0 and the octet count is that of a wrapping key.
     pub fn is_formed(self) -> bool
         ensures { λ r. ⌜ r ≡ keyFormed self ⌝ }
     {
@@ -46,7 +47,8 @@ impl HeldKey {
     }
 }
 
-// Whether k comes after a in the list that a enters: a has its place already, or its Key ID is lower.
+// Whether `a` goes ahead of `k` while a key is inserted. `placed` says that the inserted key has its place already: from there on all keys
+// move back by one, and `a` is the one that has to move. Before that, `a` is the inserted key, and the Key IDs decide.
 fn goes_ahead(placed: bool, a: HeldKey, k: HeldKey) -> bool
     ensures { λ r. ⌜ r ≡ (placed || idBefore a k) ⌝ }
 {
@@ -57,7 +59,7 @@ fn goes_ahead(placed: bool, a: HeldKey, k: HeldKey) -> bool
 }
 
 impl Held {
-    // A list with no key.
+    // Makes a list with no key.
     pub fn new() -> Held
         ensures { λ r. ⌜ r ≡ heldOf limits [] ⌝ }
     {
@@ -68,7 +70,7 @@ impl Held {
         }
     }
 
-    // Whether each key is as it must be.
+    // Whether every key of the list is formed.
     fn each_formed(self) -> bool
         requires { ⌜ self .count ≤ limits .heldKeys ⌝ }
         ensures { λ r. ⌜ r ≡ all keyFormed (keysOf self) ⌝ }
@@ -104,7 +106,7 @@ impl Held {
         true
     }
 
-    // Whether the list is as a member's must be.
+    // Whether the list is as a member's must be: it has at most `HELD_KEYS` keys, each is formed, and their Key IDs rise.
     pub fn is_formed(self) -> bool
         ensures { λ r. ⌜ r ≡ heldFormed limits self ⌝ }
     {
@@ -117,7 +119,7 @@ impl Held {
         false
     }
 
-    // The key with this Key ID.
+    // Finds the key with the Key ID `id`. In a list whose count is over the limit it finds none.
     pub fn find(self, id: u32) -> MadeWrapping
         ensures { λ r. ⌜ r ≡ heldKey limits id self ⌝ }
     {
@@ -147,7 +149,7 @@ impl Held {
         }
     }
 
-    // The list with one key more, at its place; the same list where it is full.
+    // Inserts the key `a` in its place. A full list stays as it is.
     pub fn enter(self, a: HeldKey) -> Held
         ensures { λ r. ⌜ r ≡ enteredKey limits a self ⌝ }
     {

@@ -9,7 +9,7 @@ pub enum Least {
 }
 
 impl Least {
-    // Whether a Message ID is acceptable.
+    // Whether the Message ID `id` is acceptable.
     pub fn accepts(self, id: u32) -> bool
         ensures { λ r. ⌜ r ≡ acceptable id self ⌝ }
     {
@@ -19,7 +19,7 @@ impl Least {
         }
     }
 
-    // What is acceptable after a rekey with this Message ID.
+    // Answers what is acceptable after a rekey with the Message ID `id`.
     pub fn after(id: u32) -> Least
         ensures { λ r. ⌜ r ≡ afterId id ⌝ }
     {

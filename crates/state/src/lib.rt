@@ -18,7 +18,7 @@ pub struct State {
 }
 
 impl State {
-    // The state of a new member.
+    // Makes the state of a new member.
     pub fn new() -> State
         ensures { λ r. ⌜ r ≡ newState limits ⌝ }
     {
@@ -31,7 +31,7 @@ impl State {
         }
     }
 
-    // Whether the state is as a member's must be.
+    // Whether the table and the held list are as a member's must be.
     pub fn is_formed(self) -> bool
         ensures { λ r. ⌜ r ≡ stateFormed limits self ⌝ }
     {
@@ -43,7 +43,7 @@ impl State {
         false
     }
 
-    // The state without the SAs that are due.
+    // Removes the SAs that are due at `tick`. A state that is not formed stays as it is.
     pub fn sweep(self, tick: u32) -> State
         ensures { λ r. ⌜ r ≡ sweptState limits tick self ⌝ }
     {
@@ -57,7 +57,7 @@ impl State {
         self
     }
 
-    // The SA with this protocol and SPI.
+    // Finds the SA with this `protocol` and `spi`. In a state that is not formed it finds none.
     pub fn find(self, protocol: u8, spi: &[u8]) -> SaFound
         ensures { λ r. ⌜ r ≡ askedSa limits protocol (now (spi .entry)) self ⌝ }
     {

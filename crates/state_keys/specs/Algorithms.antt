@@ -18,7 +18,7 @@ algorithms =
     algorithmRow 1 20 128 20 ∷ algorithmRow 1 20 192 28 ∷ algorithmRow 1 20 256 36
     ∷ algorithmRow 13 1 128 16 ∷ algorithmRow 13 2 192 24 ∷ algorithmRow 13 3 256 32 ∷ []
 
--- the row is that of a transform of type k and ID i, and in type 1, where the Key Length b is read, of these bits
+-- r is the row of the transform with type k, ID i and Key Length b. The Key Length is read in type 1 alone
 unfoldable pub isRowOf : ℕ → ℕ → ℕ → AlgorithmRow → Bool
 isRowOf k i b r = eqb (r .kind) k && (eqb (r .id) i && (not (eqb k 1) || eqb (r .bits) b))
 

@@ -17,7 +17,7 @@ use Rattle.state_keys.specs.declared.kinds.MadeEsp.{MadeEsp}
 use Rattle.state_keys.specs.declared.kinds.MadeEncryption.{MadeEncryption}
 use Rattle.state_keys.specs.declared.kinds.MadeRekey.{MadeRekey}
 
--- octets, and blanks behind them up to n
+-- x with blanks behind it, up to n octets
 abbrev pub padded : ℕ → List ℕ → List ℕ
 padded n x = x ++ replicate (n - length x) 0
 
@@ -25,7 +25,7 @@ padded n x = x ++ replicate (n - length x) 0
 abbrev pub wrappingOf : List ℕ → WrappingKey
 wrappingOf x = record { octets = padded wrappingKeyRoom x; count = length x }
 
--- its octets
+-- the octets of a wrapping key
 abbrev pub valueOf : WrappingKey → List ℕ
 valueOf k = take (k .count) (k .octets)
 
@@ -55,7 +55,7 @@ rekeySizes e w = sizeOf 1 e && sizeOf 13 w
 abbrev pub rekeyOf : List ℕ → ℕ → ℕ → RekeyKey
 rekeyOf x e w = record { octets = padded saRoom x; encryption = e; wrapping = w }
 
--- octets are those of parts of e and w octets where these are such numbers, and sum to them
+-- the octets x fit parts of e and w octets if e and w are such numbers and x has e + w octets
 unfoldable pub rekeyKey : List ℕ → ℕ → ℕ → MadeRekey
 rekeyKey x e w =
     cond (rekeySizes e w && eqb (length x) (e + w)) (record { fits = true; key = rekeyOf x e w })

@@ -1,5 +1,6 @@
 -- The limits: document 01's, four of which document 02, T-01, raises: "Raise the table to 64 SAs, ESP policies in a frame to 24, WRAP_KEY
--- entries and the held list to 128." Definitions that speak of a limit take the record as a parameter; the code's are `limits`.
+-- entries and the held list to 128." Definitions that speak of a limit take the record as a parameter; the code has the figures of
+-- `limits`.
 use Prim.Native.Nat.{ℕ}
 
 pub record Limits : Type 0 where

@@ -5,7 +5,7 @@ ghost use Rattle.state_keys.specs.Algorithms.{isRowOf, neededBy};
 // Transform type 1, Encryption Algorithm.
 pub const ENCRYPTION: u8 = 1;
 
-// Transform type, transform ID, key bits, octets needed.
+// A row of the table: transform type, transform ID, key bits, octets needed.
 pub struct AlgorithmRow {
     pub kind: u8,
     pub id: u16,
@@ -13,13 +13,13 @@ pub struct AlgorithmRow {
     pub octets: usize,
 }
 
-// The octets that a transform needs, or that it is no row of the table.
+// The octets that a transform needs, or `Nothing` for a transform that is not in the table.
 pub enum Needed {
     Octets(usize),
     Nothing,
 }
 
-// AES-GCM-16 by its Key Length, with 4 octets of salt; KW_5649_128, _192 and _256.
+// The table: AES-GCM-16 by its Key Length, with 4 octets of salt; KW_5649_128, _192 and _256.
 const ROWS: [AlgorithmRow; 6] = [
     AlgorithmRow {
         kind: 1,
@@ -59,7 +59,7 @@ const ROWS: [AlgorithmRow; 6] = [
     },
 ];
 
-// Whether a row is the transform's: its type and ID, and, as Key Length is read in type 1 alone, its bits there.
+// Whether `r` is the row of the transform with type `kind`, ID `id` and Key Length `bits`. The Key Length is read in type 1 alone.
 fn is_row(r: AlgorithmRow, kind: u8, id: u16, bits: u16) -> bool
     ensures { λ t. ⌜ t ≡ isRowOf kind id bits r ⌝ }
 {
@@ -75,7 +75,7 @@ fn is_row(r: AlgorithmRow, kind: u8, id: u16, bits: u16) -> bool
     r.bits == bits
 }
 
-// The octets that a transform of this type, ID and Key Length needs. The Key Length counts in type 1 alone.
+// Looks up the octets that the transform with type `kind`, ID `id` and Key Length `bits` needs. The Key Length is read in type 1 alone.
 pub fn octets_needed(kind: u8, id: u16, bits: u16) -> Needed
     ensures { λ r. ⌜ r ≡ neededBy kind id bits ⌝ }
 {

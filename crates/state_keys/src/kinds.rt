@@ -32,36 +32,39 @@ pub struct RekeyKey {
     pub wrapping: usize,
 }
 
-// A constructor's answer: whether the octets are of its kind, and the key, blank where they are not.
+// The answer of `WrappingKey::new`: whether the octets fit this kind, and the key, blank where they do not.
 pub struct MadeWrapping {
     pub fits: bool,
     pub key: WrappingKey,
 }
 
+// The answer of `EspKey::new`, likewise.
 pub struct MadeEsp {
     pub fits: bool,
     pub key: EspKey,
 }
 
+// The answer of `EncryptionKey::new`, likewise.
 pub struct MadeEncryption {
     pub fits: bool,
     pub key: EncryptionKey,
 }
 
+// The answer of `RekeyKey::new`, likewise.
 pub struct MadeRekey {
     pub fits: bool,
     pub key: RekeyKey,
 }
 
 impl WrappingKey {
-    // KW_5649_128, KW_5649_192, KW_5649_256.
+    // The octets of a key for KW_5649_128, KW_5649_192 and KW_5649_256.
     pub const KW_128: usize = 16;
 
     pub const KW_192: usize = 24;
 
     pub const KW_256: usize = 32;
 
-    // Whether a wrapping key can have n octets.
+    // Whether a wrapping key can have `n` octets.
     pub fn is_size(n: usize) -> bool
         ensures { λ r. ⌜ r ≡ sizeOf 13 n ⌝ }
     {
@@ -74,7 +77,7 @@ impl WrappingKey {
         n == WrappingKey::KW_256
     }
 
-    // The key of these octets.
+    // Makes a wrapping key from `octets`.
     pub fn new(octets: &[u8]) -> MadeWrapping
         ensures { λ r. ⌜ r ≡ wrappingKey (now (octets .entry)) ⌝ }
     {
@@ -97,14 +100,14 @@ impl WrappingKey {
 }
 
 impl EncryptionKey {
-    // AES-GCM-16 with keys of 128, 192 and 256 bits: the key and 4 octets of salt.
+    // The octets that AES-GCM-16 needs with keys of 128, 192 and 256 bits: the key and 4 octets of salt.
     pub const GCM_128: usize = 20;
 
     pub const GCM_192: usize = 28;
 
     pub const GCM_256: usize = 36;
 
-    // Whether AES-GCM-16 can need n octets.
+    // Whether an encryption part can have `n` octets.
     pub fn is_size(n: usize) -> bool
         ensures { λ r. ⌜ r ≡ sizeOf 1 n ⌝ }
     {
@@ -117,7 +120,7 @@ impl EncryptionKey {
         n == EncryptionKey::GCM_256
     }
 
-    // The encryption part of these octets.
+    // Makes an encryption part from `octets`.
     pub fn new(octets: &[u8]) -> MadeEncryption
         ensures { λ r. ⌜ r ≡ encryptionKey (now (octets .entry)) ⌝ }
     {
@@ -140,14 +143,14 @@ impl EncryptionKey {
 }
 
 impl EspKey {
-    // What AES-GCM-16 needs, with keys of 128, 192 and 256 bits.
+    // The octets that AES-GCM-16 needs with keys of 128, 192 and 256 bits: the key and 4 octets of salt.
     pub const GCM_128: usize = 20;
 
     pub const GCM_192: usize = 28;
 
     pub const GCM_256: usize = 36;
 
-    // Whether an ESP SA can have n keying octets.
+    // Whether an ESP SA can have `n` keying octets.
     pub fn is_size(n: usize) -> bool
         ensures { λ r. ⌜ r ≡ sizeOf 1 n ⌝ }
     {
@@ -160,7 +163,7 @@ impl EspKey {
         n == EspKey::GCM_256
     }
 
-    // The ESP keying octets of these octets.
+    // Makes the keying octets of an ESP SA from `octets`.
     pub fn new(octets: &[u8]) -> MadeEsp
         ensures { λ r. ⌜ r ≡ espKey (now (octets .entry)) ⌝ }
     {
@@ -186,7 +189,7 @@ impl RekeyKey {
     // The most octets that a Rekey SA's two parts have together.
     pub const MOST: usize = EncryptionKey::GCM_256 + WrappingKey::KW_256;
 
-    // Whether a Rekey SA's parts can have these octet counts.
+    // Whether the two parts of a Rekey SA's keying octets can have `encryption` and `wrapping` octets.
     pub fn are_sizes(encryption: usize, wrapping: usize) -> bool
         ensures { λ r. ⌜ r ≡ rekeySizes encryption wrapping ⌝ }
     {
@@ -196,7 +199,7 @@ impl RekeyKey {
         false
     }
 
-    // The Rekey keying octets of these octets, of which the first part is GSK_e and the last GSK_w.
+    // Makes the keying octets of a Rekey SA from `octets`: GSK_e of `encryption` octets, then GSK_w of `wrapping` octets.
     pub fn new(octets: &[u8], encryption: usize, wrapping: usize) -> MadeRekey
         ensures { λ r. ⌜ r ≡ rekeyKey (now (octets .entry)) encryption wrapping ⌝ }
     {
@@ -220,7 +223,7 @@ impl RekeyKey {
         MadeRekey { fits: false, key }
     }
 
-    // GSK_e, by the cut of RFC 9838, section 3.4: the first octets, the key and salt under which the Rekey SA's messages are encrypted.
+    // Cuts out GSK_e (RFC 9838, section 3.4), the first octets: the key and salt under which the Rekey SA's messages are encrypted.
     pub fn encryption_part(self) -> MadeEncryption
         ensures { λ r. ⌜ r ≡ encryptionPart self ⌝ }
     {
@@ -232,7 +235,7 @@ impl RekeyKey {
         EncryptionKey::new(&o[0..0])
     }
 
-    // GSK_w, by the cut of RFC 9838, section 3.4: the last octets, the default key of the Rekey SA, under which keys are wrapped.
+    // Cuts out GSK_w (RFC 9838, section 3.4), the last octets: the default key of the Rekey SA, under which keys are wrapped.
     pub fn key_wrap_part(self) -> MadeWrapping
         ensures { λ r. ⌜ r ≡ keyWrapPart self ⌝ }
     {

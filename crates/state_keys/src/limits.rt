@@ -22,7 +22,7 @@ pub const SA_KEYS: usize = 32;
 // Deleted SPIs in a frame.
 pub const DELETED_SPIS: usize = 32;
 
-// The six figures. Internal: no code calls it. Its promise holds those of this file against those of the definitions.
+// Answers the six limits. Internal: no code calls it. Its promise compares the figures of this file with those of the definitions.
 pub fn figures() -> [usize; 6]
     ensures { λ r. ⌜ r ≡
         limits .sas ∷ limits .heldKeys ∷ limits .espPolicies ∷ limits .wrapKeys ∷ limits .saKeys ∷ limits .deletedSpis ∷ [] ⌝ }

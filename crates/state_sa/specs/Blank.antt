@@ -1,5 +1,5 @@
--- The unused places of an SA, which are 0 in every SA that is made of a key that its constructor made: the 12 octets behind an ESP SPI,
--- octets behind the keying octets, an ESP SA's part counts.
+-- The unused places of an SA: the 12 octets behind an ESP SPI, the octets behind the keying octets, an ESP SA's part counts. They are 0 in
+-- every SA made from a key as its constructor made it.
 use mathlib.Core.Path.{_≡_}
 use lib.ListN.{take}
 use Rattle.state_keys.specs.Rooms.{saRoom, spiRoom}

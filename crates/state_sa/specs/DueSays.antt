@@ -6,13 +6,14 @@ use Rattle.state_sa.specs.declared.entry.Lifetime.the-variants.{Limited}
 use Rattle.state_sa.specs.declared.entry.Sa.{Sa}
 use Rattle.state_sa.specs.Clock.{elapsed}
 
--- the delay of a retiring SA has run, its lifetime has run
+-- s is retiring, and its delay has run at the tick now
 pub record DelayRan (now : ℕ) (s : Sa) : Type 0 where
   pub start : ℕ
   pub delay : ℕ
   pub retires : s .condition ≡ Retiring start delay
   pub passed : 1000 * delay ≤ elapsed now start
 
+-- s has a lifetime, and it has run at the tick now
 pub record LifetimeRan (now : ℕ) (s : Sa) : Type 0 where
   pub start : ℕ
   pub seconds : ℕ

@@ -20,7 +20,7 @@ use Rattle.state_sa.specs.declared.entry.Lifetime.the-variants.{Unlimite
 use Rattle.state_sa.specs.declared.entry.Sa.{Sa}
 use Rattle.state_sa.specs.Clock.{elapsedAtLeast}
 
--- protocols (RFC 9838, section 4.4.2): ESP and GIKE_UPDATE, the Rekey SA's; and the octets of an SPI of each
+-- protocols (RFC 9838, section 4.4.2): ESP, and GIKE_UPDATE for a Rekey SA; then the count of octets in an SPI of each
 abbrev pub espProtocol : ℕ
 espProtocol = protocolEsp
 
@@ -30,7 +30,7 @@ rekeyProtocol = protocolGikeUpdate
 abbrev pub saSpiSize : ℕ → ℕ
 saSpiSize p = cond (eqb p espProtocol) dataSpiOctets (cond (eqb p rekeyProtocol) rekeySpiOctets 0)
 
--- the octets of the SPI, those in use
+-- the octets of the SPI that are in use
 abbrev pub saSpi : Sa → List ℕ
 saSpi s = take (saSpiSize (s .protocol)) (s .spi)
 
@@ -57,6 +57,7 @@ abbrev pub fitLifetime : Lifetime → Bool
 fitLifetime Unlimited = true
 fitLifetime (Limited start seconds) = leb seconds mostSeconds
 
+-- the SA can stand in the table
 unfoldable pub saFormed : Sa → Bool
 saFormed s = saSized s && fitLifetime (s .lifetime)
 

@@ -2,7 +2,7 @@
 ghost use mathlib.Core.Path.{_≡_};
 ghost use Rattle.state_sa.specs.Clock.{elapsedAtLeast};
 
-// Whether this many seconds have passed from one tick to another.
+// Whether `seconds` have passed from the tick `start` to the tick `now`, by their difference modulo 2^32.
 pub fn elapsed_at_least(now: u32, start: u32, seconds: u32) -> bool
     ensures { λ r. ⌜ r ≡ elapsedAtLeast now start seconds ⌝ }
 {

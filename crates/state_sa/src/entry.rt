@@ -1,5 +1,6 @@
-// An SA of the table. An unused place (octets behind an ESP SPI, octets behind the keying octets, an ESP SA's part counts) is 0 in every SA
-// that is made here of a key that its constructor made, may hold anything in an SA that comes in, and is looked at by no test.
+// An SA of the table. Its unused places are the octets behind an ESP SPI, the octets behind the keying octets, and an ESP SA's part counts.
+// They are 0 in every SA made here from a key as its constructor made it. In an SA that comes in they may hold anything; no test looks at
+// them.
 ghost use mathlib.Core.Path.{_≡_};
 ghost use mathlib.Core.Bool.{true};
 ghost use Prim.Native.Nat.{_+_, _≤_};
@@ -15,26 +16,27 @@ use state_keys::kinds::RekeyKey;
 use state_keys::rooms::SA_OCTETS;
 use state_keys::rooms::SA_SPI;
 
-// The protocols of the table.
+// The protocols of the SAs in the table: ESP, and GIKE_UPDATE for a Rekey SA.
 pub const ESP: u8 = ikev2_numbers::ESP as u8;
 
 pub const REKEY: u8 = ikev2_numbers::GIKE_UPDATE as u8;
 
-// Live, or retiring from a tick on with a delay in seconds.
+// The condition of an SA: live, or retiring from the tick `start` on with a delay in seconds.
 pub enum Condition {
     Live,
     Retiring { start: u32, delay: u16 },
 }
 
-// No lifetime, or one of so many seconds from a tick on.
+// The lifetime of an SA: none, or `seconds` from the tick `start` on.
 pub enum Lifetime {
     Unlimited,
     Limited { start: u32, seconds: u32 },
 }
 
-// The most seconds of a lifetime.
+// The most seconds that a lifetime may have.
 pub const MOST_SECONDS: u32 = 2000000;
 
+// An SA. Of `octets` the first `count` are its keying octets; in a Rekey SA these are a part of `encryption` octets and one of `wrapping`.
 pub struct Sa {
     pub protocol: u8,
     pub spi: [u8; SA_SPI],
@@ -46,7 +48,7 @@ pub struct Sa {
     pub lifetime: Lifetime,
 }
 
-// The octets of an SPI of a protocol.
+// Answers the count of octets in an SPI of `protocol`; 0 for a protocol that no SA of the table has.
 pub fn spi_size(protocol: u8) -> usize
     ensures { λ r. ⌜ (r ≡ saSpiSize protocol) × (r ≤ 16) ⌝ }
 {
@@ -60,7 +62,7 @@ pub fn spi_size(protocol: u8) -> usize
 }
 
 impl Sa {
-    // The one place where an SA is written out.
+    // Builds an SA from its parts: the one place where an SA is written out.
     fn built(
         protocol: u8,
         spi: [u8; SA_SPI],
@@ -85,7 +87,7 @@ impl Sa {
         }
     }
 
-    // An unused place of the table.
+    // Makes the value of an unused place of the table.
     pub fn blank() -> Sa
         ensures { λ r. ⌜ r ≡ blankSa ⌝ }
     {
@@ -101,7 +103,7 @@ impl Sa {
         )
     }
 
-    // A live ESP SA.
+    // Makes a live ESP SA with the SPI `spi`, the keying octets of `key` and `lifetime`.
     pub fn esp(spi: &[u8], key: EspKey, lifetime: Lifetime) -> Sa
         requires { ⌜ (length (now spi) ≡ 4) × (key .count ≤ 36) ⌝ }
         ensures { λ r. ⌜ r ≡ espSa (now (spi .entry)) key lifetime ⌝ }
@@ -115,7 +117,7 @@ impl Sa {
         Sa::built(ESP, name, octets, n, 0, 0, Condition::Live, lifetime)
     }
 
-    // A live Rekey SA.
+    // Makes a live Rekey SA with the SPI `spi`, the keying octets of `key` and `lifetime`.
     pub fn rekey(spi: &[u8], key: RekeyKey, lifetime: Lifetime) -> Sa
         requires { ⌜ (length (now spi) ≡ 16) × (rekeySizes (key .encryption) (key .wrapping) ≡ true) ⌝ }
         ensures { λ r. ⌜ r ≡ rekeySa (now (spi .entry)) key lifetime ⌝ }
@@ -128,7 +130,7 @@ impl Sa {
         Sa::built(REKEY, name, o, e + w, e, w, Condition::Live, lifetime)
     }
 
-    // Whether it is due at a tick.
+    // Whether the SA is due at the tick `now`: its delay or its lifetime has passed.
     pub fn due(self, now: u32) -> bool
         ensures { λ r. ⌜ r ≡ due now self ⌝ }
     {
@@ -138,7 +140,7 @@ impl Sa {
         self.has_run_out(now)
     }
 
-    // Whether it is retiring and its delay has passed.
+    // Whether the SA is retiring and its delay has passed at the tick `now`.
     fn delay_passed(self, now: u32) -> bool
         ensures { λ r. ⌜ r ≡ dueBy now (self .condition) ⌝ }
     {
@@ -153,7 +155,7 @@ impl Sa {
         }
     }
 
-    // Whether it has a lifetime and that has passed.
+    // Whether the SA has a lifetime that has passed at the tick `now`.
     fn has_run_out(self, now: u32) -> bool
         ensures { λ r. ⌜ r ≡ ranOut now (self .lifetime) ⌝ }
     {
@@ -168,7 +170,7 @@ impl Sa {
         }
     }
 
-    // It retires at a tick with a delay, and keeps its lifetime.
+    // Retires a live SA at the tick `now` with `delay` seconds; it keeps its lifetime. A retiring SA stays as it is.
     pub fn retire(self, now: u32, delay: u16) -> Sa
         ensures { λ r. ⌜ r ≡ retired now delay self ⌝ }
     {
@@ -194,7 +196,7 @@ impl Sa {
         }
     }
 
-    // Whether it stands before another in the table.
+    // Whether the SA stands before `other` in the table: by protocol, then by SPI.
     pub fn before(self, other: Sa) -> bool
         ensures { λ r. ⌜ r ≡ saBefore self other ⌝ }
     {
@@ -211,7 +213,7 @@ impl Sa {
         octets::compare::less(&x[0..n], &y[0..m])
     }
 
-    // Whether it has this protocol and SPI.
+    // Whether the SA has this `protocol` and `spi`.
     pub fn is_named(self, protocol: u8, spi: &[u8]) -> bool
         ensures { λ r. ⌜ r ≡ named protocol (now (spi .entry)) self ⌝ }
     {
@@ -223,7 +225,7 @@ impl Sa {
         octets::compare::same(&x[0..n], spi)
     }
 
-    // Whether it is as an SA of the table must be.
+    // Whether the SA can stand in the table: its protocol, octet counts and lifetime are allowed.
     pub fn is_formed(self) -> bool
         ensures { λ r. ⌜ r ≡ saFormed self ⌝ }
     {
@@ -233,7 +235,7 @@ impl Sa {
         false
     }
 
-    // Whether its lifetime has no more seconds than it may have.
+    // Whether the lifetime, if any, has at most `MOST_SECONDS`.
     fn fit_lifetime(self) -> bool
         ensures { λ r. ⌜ r ≡ fitLifetime (self .lifetime) ⌝ }
     {
@@ -244,7 +246,7 @@ impl Sa {
         }
     }
 
-    // Whether its protocol is one of the two and its octet counts are those that the protocol needs.
+    // Whether the protocol is one of the two and the octet counts are those that the protocol needs.
     fn is_sized(self) -> bool
         ensures { λ r. ⌜ r ≡ saSized self ⌝ }
     {
@@ -262,7 +264,7 @@ impl Sa {
         false
     }
 
-    // Whether it is a live Rekey SA.
+    // Whether the SA is a live Rekey SA.
     pub fn is_live_rekey(self) -> bool
         ensures { λ r. ⌜ r ≡ liveRekey self ⌝ }
     {

@@ -1,4 +1,4 @@
--- The unused places of a table, which are blank in every table that is made: the places past its count, and those of each SA.
+-- The unused places of a table: the places past its count, and those of each SA. They are blank in every table that is made.
 use mathlib.Core.Path.{_≡_}
 use mathlib.Core.List.{List, [], _∷_}
 use Rattle.state_keys.specs.Limits.{Limits}

@@ -27,7 +27,7 @@ unfoldable pub tableFormed : Limits → Table → Bool
 tableFormed limits t =
     leb (t .count) (limits .sas) && (all saFormed (sasOf t) && (rising saBefore (sasOf t) && leb (count liveRekey (sasOf t)) 1))
 
--- a change of the SAs of a table, whose count is within the limit; one whose count is not stays as it is
+-- the table with f applied to its SAs; a table whose count is over the limit stays as it is
 unfoldable pub changed : Limits → (List Sa → List Sa) → Table → Table
 changed limits f t = cond (leb (t .count) (limits .sas)) (tableOf limits (f (sasOf t))) t
 
@@ -45,19 +45,20 @@ swept limits now t = changed limits (notDue now) t
 unfoldable pub emptyAt : Limits → ℕ → Table → Bool
 emptyAt limits now t = leb (t .count) (limits .sas) && all (due now) (sasOf t)
 
--- the SAs that pass a test retire at a tick with a delay, the others stay
+-- an SA that passes the test p retires at the tick now with a delay; another stays as it is
 unfoldable pub retiredIf : (Sa → Bool) → ℕ → ℕ → Sa → Sa
 retiredIf p now delay s = cond (p s) (retired now delay s) s
 
--- the SA of a list that passes a test, or none
+-- the answer where no SA is found
 abbrev pub none : SaFound
 none = record { found = false; sa = blankSa }
 
+-- the first SA of a list that passes the test p, or none
 unfoldable pub theOne : (Sa → Bool) → List Sa → SaFound
 theOne p [] = none
 theOne p (s ∷ l) = cond (p s) (record { found = true; sa = s }) (theOne p l)
 
--- the one of a table; a table whose count is not within the limit has none
+-- the same in a table; one whose count is over the limit has none
 unfoldable pub foundIn : Limits → (Sa → Bool) → Table → SaFound
 foundIn limits p t = cond (leb (t .count) (limits .sas)) (theOne p (sasOf t)) none
 

@@ -1,4 +1,4 @@
-// Changes of a table.
+// Changes of a table, and the count of its SAs that are not due.
 ghost use mathlib.Core.Path.{_≡_};
 ghost use mathlib.Core.Bool.{_||_};
 ghost use Rattle.state_keys.specs.Limits.{limits};
@@ -9,7 +9,8 @@ use crate::Table;
 use state_keys::limits::SAS;
 use state_sa::entry::Sa;
 
-// Whether s comes after a in the table that a enters: a has its place already, or stands before s.
+// Whether `a` goes ahead of `s` while an SA is inserted. `placed` says that the inserted SA has its place already: from there on all SAs
+// move back by one, and `a` is the one that has to move. Before that, `a` is the inserted SA, and the order of the table decides.
 pub fn goes_ahead(placed: bool, a: Sa, s: Sa) -> bool
     ensures { λ r. ⌜ r ≡ (placed || saBefore a s) ⌝ }
 {
@@ -20,7 +21,7 @@ pub fn goes_ahead(placed: bool, a: Sa, s: Sa) -> bool
 }
 
 impl Table {
-    // The table without the SAs that are due.
+    // Removes the SAs that are due at `tick`. A table whose count is over the limit stays as it is.
     pub fn sweep(self, tick: u32) -> Table
         ensures { λ r. ⌜ r ≡ swept limits tick self ⌝ }
     {
@@ -42,7 +43,7 @@ impl Table {
         Table { sas: out, count: k }
     }
 
-    // How many SAs are not due.
+    // Counts the SAs that are not due at `tick`. A count over the limit is answered as it is.
     pub fn standing(self, tick: u32) -> usize
         ensures { λ r. ⌜ r ≡ standingCount limits tick self ⌝ }
     {
@@ -62,7 +63,7 @@ impl Table {
         k
     }
 
-    // Whether every SA, if any, is due.
+    // Whether every SA, if any, is due at `tick`.
     pub fn is_empty(self, tick: u32) -> bool
         ensures { λ r. ⌜ r ≡ emptyAt limits tick self ⌝ }
     {

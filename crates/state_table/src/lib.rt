@@ -1,4 +1,4 @@
-// The table of SAs. What a function here makes has blank places past the count; what comes in may hold anything there.
+// The table of SAs. A table made here has blank places past its count; a table that comes in may hold anything there.
 // Internal: crates of this repository alone call it.
 pub mod change;
 pub mod test;
@@ -10,19 +10,20 @@ ghost use Rattle.state_table.specs.Table.{tableOf};
 use state_keys::limits::SAS;
 use state_sa::entry::Sa;
 
+// A table: its SAs are the first `count` of `sas`.
 pub struct Table {
     pub sas: [Sa; SAS],
     pub count: usize,
 }
 
-// An SA of the table, or none and a blank one.
+// The answer to a search: the SA, or `found` false and a blank SA.
 pub struct SaFound {
     pub found: bool,
     pub sa: Sa,
 }
 
 impl Table {
-    // A table with no SA.
+    // Makes a table with no SA.
     pub fn new() -> Table
         ensures { λ r. ⌜ r ≡ tableOf limits [] ⌝ }
     {

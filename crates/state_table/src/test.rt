@@ -1,4 +1,4 @@
-// Questions to a table.
+// Questions about a table. A table whose count is over the limit is not formed, and no SA is found in it.
 ghost use mathlib.Core.Path.{_≡_};
 ghost use Rattle.state_keys.specs.Limits.{limits};
 ghost use Rattle.state_table.specs.Table.{tableFormed, foundSa, foundRekey, none};
@@ -7,7 +7,7 @@ use crate::Table;
 use state_keys::limits::SAS;
 use state_sa::entry::Sa;
 
-// No SA.
+// Answers that no SA was found.
 pub fn nothing() -> SaFound
     ensures { λ r. ⌜ r ≡ none ⌝ }
 {
@@ -16,8 +16,8 @@ pub fn nothing() -> SaFound
 }
 
 impl Table {
-    // Whether the table is as a member's must be: each SA is of a protocol and of octet counts that a table may hold, each stands before
-    // the next, and at most one is a live Rekey SA.
+    // Whether the table is as a member's must be: it has at most `SAS` SAs, each is formed, each stands before the next, and at most one is
+    // a live Rekey SA.
     pub fn is_formed(self) -> bool
         ensures { λ r. ⌜ r ≡ tableFormed limits self ⌝ }
     {
@@ -47,7 +47,7 @@ impl Table {
         k <= 1
     }
 
-    // The SA with this protocol and SPI.
+    // Finds the SA with this `protocol` and `spi`.
     pub fn find(self, protocol: u8, spi: &[u8]) -> SaFound
         ensures { λ r. ⌜ r ≡ foundSa limits protocol (now (spi .entry)) self ⌝ }
     {
@@ -66,7 +66,7 @@ impl Table {
         nothing()
     }
 
-    // The live Rekey SA.
+    // Finds the live Rekey SA.
     pub fn live_rekey(self) -> SaFound
         ensures { λ r. ⌜ r ≡ foundRekey limits self ⌝ }
     {

@@ -1,5 +1,5 @@
-// Why a layout breaks, for the program `show`: the structure at its offset, and a phrase. Each function puts its text into lent room, as
-// those of `names` do.
+// Says why a layout breaks, for the program `show`: the structure at the offset of the break, and a phrase. Each function puts its text
+// into the lent room `out` at the place `n`, and answers the place behind it, as the functions of `text_names` do.
 // Internal: crates of this repository alone call it.
 use crate::places::four;
 use crate::places::octet;
@@ -12,7 +12,7 @@ use wire_attributes::tables::Place;
 
 pub mod places;
 
-// The least sizes of structures, by their own fields, and the greatest of a frame.
+// The least sizes of structures in octets, by their own fields, and the greatest size of a frame.
 const HEADER: usize = 28;
 
 const FRAME: usize = 16384;
@@ -23,17 +23,18 @@ const TRANSFORM: usize = 8;
 
 const ATTRIBUTE: usize = 4;
 
-// Which structure breaks, and where.
+// Puts the start of the line: the `offset` of the break, and the structure `what`.
 fn breaks(out: &mut [u8], n: usize, offset: usize, what: &[u8]) -> usize {
     let a = text_names::say(out, n, b"  1: breaks at offset %, ", offset, 0, 0);
     text_names::text(out, a, what)
 }
 
+// Says that `count` octets are missing.
 fn short(out: &mut [u8], n: usize, count: usize) -> usize {
     text_names::say(out, n, b"ends % octets short\n", count, 0, 0)
 }
 
-// Octets that are too few for a structure of a least size, or for the one whose length stands in octets 2 and 3.
+// Says what is wrong with the length field (octets 2 and 3) of `s`: it is missing, under `least` or over `s.len()`.
 fn of_size(out: &mut [u8], n: usize, s: &[u8], least: usize) -> usize {
     if s.len() < 4 {
         return short(out, n, span(s.len(), least));
@@ -45,7 +46,7 @@ fn of_size(out: &mut [u8], n: usize, s: &[u8], least: usize) -> usize {
     short(out, n, span(s.len(), length))
 }
 
-// The faults of a header's own fields.
+// Says why the header of the frame `s` breaks: by the size of the frame, the length field or the major version.
 pub fn of_header(out: &mut [u8], n: usize, s: &[u8]) -> usize {
     let a = breaks(out, n, 0, b"header: ");
     let size = s.len();
@@ -73,12 +74,13 @@ fn of_length(out: &mut [u8], n: usize, s: &[u8]) -> usize {
     text_names::say(out, n, b"length %, octets %\n", length, s.len(), 0)
 }
 
-// Where a chain of payloads ends: an offset, and the type of the payload that is due there.
+// Where the chain of payloads ends: the offset `at`, and the type `kind` of the payload that is due there.
 struct End {
     at: usize,
     kind: usize,
 }
 
+// Follows the payloads of the frame `s` to the end of their chain.
 fn chain_end(s: &[u8]) -> End {
     let mut kind = octet(s, 16);
     let mut at = HEADER;
@@ -92,7 +94,7 @@ fn chain_end(s: &[u8]) -> End {
     End { at, kind }
 }
 
-// Payloads that do not end with the frame.
+// Says why the payloads do not end with the frame `s`: octets are left behind the last one, or none is left for the next.
 pub fn of_chain(out: &mut [u8], n: usize, s: &[u8]) -> usize {
     let a = breaks(out, n, 0, b"header: ");
     let e = chain_end(s);
@@ -109,7 +111,8 @@ pub fn of_chain(out: &mut [u8], n: usize, s: &[u8]) -> usize {
     text_names::say(out, a, b"next payload %, no octet left\n", e.kind, 0, 0)
 }
 
-// The faults of a payload's own fields, and of the body of D, for which the payload counts.
+// Says why the payload `s` of type `kind` breaks at `offset`: by its length field or, for D, by its body. A fault in the body of D counts
+// for the payload.
 pub fn of_payload(out: &mut [u8], n: usize, kind: usize, s: &[u8], offset: usize) -> usize {
     let a = breaks(out, n, offset, b"");
     let b = text_names::titled(out, a, b"payload ", text_names::tables::payload(kind), kind);
@@ -120,6 +123,7 @@ pub fn of_payload(out: &mut [u8], n: usize, kind: usize, s: &[u8], offset: usize
     of_size(out, c, s, PAYLOAD)
 }
 
+// Says what is wrong with `s`, the body of D.
 fn of_delete(out: &mut [u8], n: usize, s: &[u8]) -> usize {
     if s.len() < 4 {
         return text_names::say(out, n, b"body of % octets, at least 4\n", s.len(), 0, 0);
@@ -135,14 +139,14 @@ fn of_delete(out: &mut [u8], n: usize, s: &[u8]) -> usize {
     text_names::say(out, n, text, size, two(s, 2), s.len() - 4)
 }
 
-// An SPI size that is not the protocol's.
+// Says that `size` is not the SPI size of `protocol`.
 fn of_spi_size(out: &mut [u8], n: usize, protocol: usize, size: usize) -> usize {
     let a = text_names::say(out, n, b"SPI size %, ", size, 0, 0);
     let b = text_names::name(out, a, text_names::tables::protocol(protocol));
     text_names::say(out, b, b" has %\n", wire_policies::spi_size(protocol), 0, 0)
 }
 
-// The faults of a policy's or key bag's own fields.
+// Says why the policy or key bag `s` breaks at `offset`: by its first octet, its SPI size or its length field. `what` names the structure.
 pub fn of_head(out: &mut [u8], n: usize, what: &[u8], s: &[u8], offset: usize) -> usize {
     let a = breaks(out, n, offset, what);
     let first = octet(s, 0);
@@ -173,13 +177,13 @@ fn of_protocol(out: &mut [u8], n: usize, first: usize, s: &[u8]) -> usize {
     of_spi_size(out, n, first, octet(s, 1))
 }
 
-// What is missing at a policy's end counts for the policy.
+// Says what is missing at a policy's end, by the phrase `what`. It counts for the policy, which starts at `offset`.
 pub fn of_missing(out: &mut [u8], n: usize, what: &[u8], offset: usize) -> usize {
     let a = breaks(out, n, offset, b"policy: ");
     text_names::text(out, a, what)
 }
 
-// The faults of a selector.
+// Says why the selector `s` breaks at `offset`.
 pub fn of_selector(out: &mut [u8], n: usize, s: &[u8], offset: usize) -> usize {
     let a = breaks(out, n, offset, b"selector: ");
     let kind = octet(s, 0);
@@ -193,7 +197,7 @@ pub fn of_selector(out: &mut [u8], n: usize, s: &[u8], offset: usize) -> usize {
     text_names::say(out, a, b"length %, type % has %\n", two(s, 2), kind, size)
 }
 
-// The faults of a transform's own fields.
+// Says why the transform `s` breaks at `offset`: by its length field or its first octet.
 pub fn of_transform(out: &mut [u8], n: usize, s: &[u8], offset: usize) -> usize {
     let a = breaks(out, n, offset, b"transform: ");
     if octets::numbers::is_sized(s, TRANSFORM) {
@@ -209,7 +213,7 @@ pub fn of_transform(out: &mut [u8], n: usize, s: &[u8], offset: usize) -> usize 
     of_size(out, a, s, TRANSFORM)
 }
 
-// The faults of an attribute of a place.
+// Says why the attribute at the start of `s` breaks at `offset`, by the `place` where it stands.
 pub fn of_attribute(out: &mut [u8], n: usize, place: Place, s: &[u8], offset: usize) -> usize {
     let a = breaks(out, n, offset, b"attribute: ");
     match wire_attributes::read_attribute(s) {
@@ -227,7 +231,7 @@ pub fn of_attribute(out: &mut [u8], n: usize, place: Place, s: &[u8], offset: us
     }
 }
 
-// An attribute that its octets are too few for: the long form may itself be the fault.
+// Says why an attribute is cut off at the end of `s`: octets are missing, or it is in long form where it must be in short form.
 fn of_cut(out: &mut [u8], n: usize, place: Place, s: &[u8]) -> usize {
     if s.len() < ATTRIBUTE {
         return short(out, n, span(s.len(), ATTRIBUTE));
@@ -240,7 +244,7 @@ fn of_cut(out: &mut [u8], n: usize, place: Place, s: &[u8]) -> usize {
     short(out, n, span(s.len(), ATTRIBUTE + two(s, 2)))
 }
 
-// Whether an attribute is read in the short form.
+// Whether an attribute with this `meaning` is read in the short form.
 fn is_short_form(meaning: Meaning) -> bool {
     match meaning {
         Meaning::KeyLength => true,
@@ -253,7 +257,7 @@ fn is_short_form(meaning: Meaning) -> bool {
     }
 }
 
-// A read attribute in the other format, or of a wrong size.
+// Says why a whole attribute breaks: it is in the other form, or its value has a wrong `size`.
 fn of_format(out: &mut [u8], n: usize, meaning: Meaning, short: bool, size: usize) -> usize {
     if short {
         return text_names::text(out, n, b" in short form\n");
@@ -269,7 +273,7 @@ fn of_format(out: &mut [u8], n: usize, meaning: Meaning, short: bool, size: usiz
     }
 }
 
-// A number of 4 octets.
+// Says that a value of `size` octets must have 4.
 fn of_four(out: &mut [u8], n: usize, size: usize) -> usize {
     text_names::say(out, n, b" of % octets, must be 4\n", size, 0, 0)
 }
@@ -278,7 +282,7 @@ fn in_long_form(out: &mut [u8], n: usize) -> usize {
     text_names::text(out, n, b" in long form\n")
 }
 
-// Two IDs of 4 octets, and 16 to 264 wrapped octets.
+// Says why a value of `size` octets is no wrapped key: two IDs of 4 octets, and 16 to 264 wrapped octets.
 fn of_wrapped(out: &mut [u8], n: usize, size: usize) -> usize {
     if size < 24 {
         return text_names::say(out, n, b" of % octets, at least 24\n", size, 0, 0);

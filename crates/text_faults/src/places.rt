@@ -1,8 +1,8 @@
-// Octets of a slice by places that may lie outside of it.
+// Reads a slice at places that may lie outside of it.
 ghost use Prim.Native.Nat.{_<_, _≤_};
 use wire_attributes::Read;
 
-// The octets from a place up to another, or none.
+// Answers the octets of `s` from `from` up to `to`, or none if these are not all within `s`.
 pub fn part(s: &[u8], from: usize, to: usize) -> &[u8] {
     if to <= s.len() {
         if from <= to {
@@ -12,7 +12,7 @@ pub fn part(s: &[u8], from: usize, to: usize) -> &[u8] {
     &s[0..0]
 }
 
-// How many octets stand between two places.
+// Answers how many octets stand between `from` and `to`, or 0 if `to` comes first.
 pub fn span(from: usize, to: usize) -> usize {
     if from <= to {
         return to - from;
@@ -20,7 +20,7 @@ pub fn span(from: usize, to: usize) -> usize {
     0
 }
 
-// The place so many octets behind another, or the last place there is.
+// Answers the place `count` octets behind `at`, or usize::MAX if there is no such place.
 pub fn behind(at: usize, count: usize) -> usize {
     if usize::MAX - at < count {
         return usize::MAX;
@@ -28,7 +28,7 @@ pub fn behind(at: usize, count: usize) -> usize {
     at + count
 }
 
-// The octet at a place, or 0.
+// Answers the octet of `s` at `at`, or 0 outside of `s`.
 pub fn octet(s: &[u8], at: usize) -> usize
     ensures { λ r. ⌜ r < 256 ⌝ }
 {
@@ -38,7 +38,7 @@ pub fn octet(s: &[u8], at: usize) -> usize
     0
 }
 
-// The number of the first two octets from a place on, or 0.
+// Reads the two octets of `s` from `at` on as a number, or answers 0 if they are not there.
 pub fn two(s: &[u8], at: usize) -> usize
     ensures { λ r. ⌜ r < 65536 ⌝ }
 {
@@ -50,7 +50,7 @@ pub fn two(s: &[u8], at: usize) -> usize
     0
 }
 
-// The number of the first four octets from a place on, or 0.
+// Reads the four octets of `s` from `at` on as a number, or answers 0 if they are not there.
 pub fn four(s: &[u8], at: usize) -> usize {
     if at < s.len() {
         if 4 <= s.len() - at {
@@ -60,7 +60,8 @@ pub fn four(s: &[u8], at: usize) -> usize {
     0
 }
 
-// Where the structure at a place ends, by the number in its octets 2 and 3; or `to`, if that is under the least or leads behind `to`.
+// Answers where the structure at `at` ends, by its length field (octets 2 and 3). Answers `to` if that length is under `least` or leads
+// behind `to`.
 pub fn end_at(s: &[u8], at: usize, to: usize, least: usize) -> usize
     requires { ⌜ (at < to) × (0 < least) ⌝ }
     ensures { λ r. ⌜ (at < r) × (r ≤ to) ⌝ }
@@ -75,7 +76,7 @@ pub fn end_at(s: &[u8], at: usize, to: usize, least: usize) -> usize
     at + n
 }
 
-// Where the attribute at a place ends, or `to`.
+// Answers where the attribute at `at` ends, or `to` if no whole attribute stands there.
 pub fn attribute_end(s: &[u8], at: usize, to: usize) -> usize
     requires { ⌜ at < to ⌝ }
     ensures { λ r. ⌜ (at < r) × (r ≤ to) ⌝ }
@@ -99,7 +100,7 @@ pub fn attribute_end(s: &[u8], at: usize, to: usize) -> usize
     }
 }
 
-// Whether the offset at which a layout breaks is that of a structure or lies within it.
+// Whether the structure from `at` to `end` holds `stop`, the offset at which a layout breaks.
 pub fn holds(at: usize, stop: usize, end: usize) -> bool {
     if at <= stop {
         return stop < end;

@@ -10,7 +10,7 @@ ghost use Rattle.text_rules.specs.Answer.{decimal, answerText, badText};
 ghost use Rattle.text_lines.specs.inner.Room.{Put};
 ghost use Rattle.text_lines.specs.inner.Calls.{Absorbs, KeyLineGives, Asks};
 
-// One octet at a place of lent room, where the place is within it; the place behind it.
+// Writes `octet` to `room[at]`, if `at` lies within `room`. Answers the place behind it, or `at` if nothing was written.
 pub fn put(room: &mut [u8], at: usize, octet: u8) -> usize
     ensures { λ r. ⌜ Put (now (room .entry)) at (octet ∷ []) (now (room .exit)) r ⌝ }
 {
@@ -21,14 +21,14 @@ pub fn put(room: &mut [u8], at: usize, octet: u8) -> usize
     at
 }
 
-// Whether a character is a hexadecimal digit. No branch hangs on it: the digits of a frame come in no order that a processor foresees.
+// Whether `c` is a hexadecimal digit (0-9 or a-f). Has no branch, because a processor cannot foresee the digits of a frame.
 fn is_digit(c: u8) -> bool
     ensures { λ r. ⌜ r ≡ isDigit c ⌝ }
 {
     ((48 <= c) & (c <= 57)) | ((97 <= c) & (c <= 102))
 }
 
-// What a hexadecimal digit counts; 0 for another character. The characters 0 to 9 are 48 to 57, a to f are 97 to 102.
+// Answers the value of the hexadecimal digit `c`, or 0 for another character. The characters 0 to 9 are 48 to 57, a to f are 97 to 102.
 fn value_of(c: u8) -> u8
     ensures { λ r. ⌜ (r ≡ digitValue c) × (r < 16) ⌝ }
 {
@@ -38,7 +38,7 @@ fn value_of(c: u8) -> u8
     0
 }
 
-// The digit that counts v.
+// Answers the hexadecimal digit of value `v`.
 fn digit_of(v: u8) -> u8
     requires { ⌜ v < 16 ⌝ }
     ensures { λ r. ⌜ r ≡ digitOf v ⌝ }
@@ -49,7 +49,8 @@ fn digit_of(v: u8) -> u8
     87 + v
 }
 
-// Whether every character is a digit. It goes to the end in any case: a test of each character costs more than the rest of a bad line.
+// Whether every character of `text` is a hexadecimal digit. Reads `text` to its end in any case: a test of each character would cost more
+// than the rest of a bad line.
 fn are_digits(text: &[u8]) -> bool
     ensures { λ r. ⌜ r ≡ areDigits (now (text .entry)) ⌝ }
 {
@@ -63,7 +64,7 @@ fn are_digits(text: &[u8]) -> bool
     so_far
 }
 
-// Whether a text is hexadecimal: digits alone, and an even count of them.
+// Whether `text` is hexadecimal: digits alone, and an even count of them.
 pub fn is_hex(text: &[u8]) -> bool
     ensures { λ r. ⌜ r ≡ isHex (now (text .entry)) ⌝ }
 {
@@ -73,7 +74,7 @@ pub fn is_hex(text: &[u8]) -> bool
     false
 }
 
-// The octet that two digits write.
+// Reads the digits `text[i]` and `text[i + 1]` as an octet, the higher digit first.
 fn octet_at(text: &[u8], i: usize) -> u8
     requires { ⌜ i + 1 < length (now text) ⌝ }
     ensures { λ r. ⌜ r ≡ 16 * digitValue (getD (now (text .entry)) i 0) + digitValue (getD (now (text .entry)) (i + 1) 0) ⌝ }
@@ -81,7 +82,7 @@ fn octet_at(text: &[u8], i: usize) -> u8
     16 * value_of(text[i]) + value_of(text[i + 1])
 }
 
-// Hexadecimal text to octets, into lent room from a place on; the place behind them.
+// Writes the octets of the hexadecimal `text` into `room` from `at` on, as many as find room. Answers the place behind them.
 pub fn put_octets(room: &mut [u8], at: usize, text: &[u8]) -> usize
     ensures { λ r. ⌜ Put (now (room .entry)) at (octetsOfHex (now (text .entry))) (now (room .exit)) r ⌝ }
 {
@@ -94,7 +95,7 @@ pub fn put_octets(room: &mut [u8], at: usize, text: &[u8]) -> usize
     place
 }
 
-// The two digits of an octet, the higher first.
+// Writes the two digits of `octet` into `room` from `at` on, the higher first. Answers the place behind them.
 fn put_octet(room: &mut [u8], at: usize, octet: u8) -> usize
     ensures { λ r. ⌜ Put (now (room .entry)) at (digitOf (octet / 16) ∷ digitOf (octet % 16) ∷ []) (now (room .exit)) r ⌝ }
 {
@@ -102,7 +103,7 @@ fn put_octet(room: &mut [u8], at: usize, octet: u8) -> usize
     put(room, half, digit_of(octet % 16))
 }
 
-// Octets to hexadecimal text, into lent room from a place on; the place behind it.
+// Writes `octets` as hexadecimal text into `room` from `at` on, as much as finds room. Answers the place behind it.
 pub fn put_digits(room: &mut [u8], at: usize, octets: &[u8]) -> usize
     ensures { λ r. ⌜ Put (now (room .entry)) at (digitsOf (now (octets .entry))) (now (room .exit)) r ⌝ }
 {
@@ -115,15 +116,16 @@ pub fn put_digits(room: &mut [u8], at: usize, octets: &[u8]) -> usize
     place
 }
 
-// What was taken from a block: the place behind it, how many characters the lent line holds now, and whether a newline ended the line.
+// What `absorb` took from a block: the place behind it (`next`), how many characters the lent line holds now (`len`), and whether a newline
+// ended the line (`ended`).
 pub struct Absorbed {
     pub next: usize,
     pub len: usize,
     pub ended: bool,
 }
 
-// Takes a block from a place on, up to the first newline or to the block's end, into a lent line that holds `len` characters of a line that
-// has begun. Of a line that is longer than the lent one the characters behind are passed over.
+// Takes `block` from `from` on, up to the first newline or to its end, and writes it into `line` behind the `len` characters held there.
+// Passes over the characters that find no room in `line`.
 pub fn absorb(block: &[u8], from: usize, line: &mut [u8], len: usize) -> Absorbed
     ensures { λ r. ⌜ Absorbs (now (block .entry)) from (now (line .entry)) len (now (line .exit)) r ⌝ }
 {
@@ -148,7 +150,7 @@ pub fn absorb(block: &[u8], from: usize, line: &mut [u8], len: usize) -> Absorbe
     }
 }
 
-// Whether a line is hexadecimal with a count of digits within two bounds.
+// Whether `text` is hexadecimal and has at least `least` and at most `most` digits.
 fn is_taken(text: &[u8], least: usize, most: usize) -> bool
     ensures { λ r. ⌜ r ≡ isTaken least most (now (text .entry)) ⌝ }
 {
@@ -161,13 +163,13 @@ fn is_taken(text: &[u8], least: usize, most: usize) -> bool
     is_hex(text)
 }
 
-// The default key: `len` octets, and 0 in the places behind.
+// The default key: the first `len` octets. The places behind them are 0.
 pub struct LineKey {
     pub octets: [u8; 32],
     pub len: usize,
 }
 
-// The default key that a first line gives.
+// Reads the default key from the first line. A line that is not hexadecimal or has over 64 digits gives an empty key.
 pub fn key_line(line: &[u8]) -> LineKey
     ensures { λ r. ⌜ KeyLineGives (now (line .entry)) r ⌝ }
 {
@@ -179,7 +181,7 @@ pub fn key_line(line: &[u8]) -> LineKey
     LineKey { octets, len: 0 }
 }
 
-// The number that the first 8 digits of a text write.
+// Reads the first 8 digits of `text` as a number.
 fn tick_of(text: &[u8]) -> u32
     requires { ⌜ 8 ≤ length (now text) ⌝ }
     ensures { λ r. ⌜ r ≡ numberFrom 0 (take 8 (now (text .entry))) ⌝ }
@@ -191,13 +193,14 @@ fn tick_of(text: &[u8]) -> u32
     ((a * 256 + b) * 256 + c) * 256 + d
 }
 
-// What a later line asks: nothing that can be answered, or an answer to a frame, which is `len` octets of a lent room, at a tick.
+// What a later line asks: nothing that can be answered (`Bad`), or the answer to a frame at a tick. The frame is the first `len` octets of
+// a lent room.
 pub enum Request {
     Bad,
     Frame { tick: u32, len: usize },
 }
 
-// What a later line asks. The frame goes to the room's start; a room of 16,384 octets holds every frame.
+// Reads a later line: a tick of 8 digits, and a frame. Writes the frame to the start of `room`; a room of 16,384 octets holds every frame.
 pub fn later_line(line: &[u8], room: &mut [u8]) -> Request
     ensures { λ r. ⌜ Asks (now (line .entry)) (now (room .entry)) (now (room .exit)) r ⌝ }
 {
@@ -212,7 +215,7 @@ pub fn later_line(line: &[u8], room: &mut [u8]) -> Request
 // Octets enough for the text of any answer: four numbers of at most 20 digits, with a mark behind each.
 pub const REPLY_ROOM: usize = 84;
 
-// A number in decimal, into lent room from a place on; the place behind it.
+// Writes `n` in decimal into `room` from `at` on, as much as finds room. Answers the place behind it.
 pub fn put_number(room: &mut [u8], at: usize, n: usize) -> usize
     ensures { λ r. ⌜ Put (now (room .entry)) at (decimal n) (now (room .exit)) r ⌝ }
 {
@@ -223,7 +226,7 @@ pub fn put_number(room: &mut [u8], at: usize, n: usize) -> usize
     put(room, last, (48 + n % 10) as u8)
 }
 
-// A number and the character behind it.
+// Writes `n` in decimal and the character `mark` into `room` from `at` on. Answers the place behind them.
 fn put_field(room: &mut [u8], at: usize, n: usize, mark: u8) -> usize
     ensures { λ r. ⌜ Put (now (room .entry)) at (decimal n ++ (mark ∷ [])) (now (room .exit)) r ⌝ }
 {
@@ -231,7 +234,8 @@ fn put_field(room: &mut [u8], at: usize, n: usize, mark: u8) -> usize
     put(room, last, mark)
 }
 
-// The text of an answer, into lent room from a place on; the place behind it. On number 1 the figure is its fourth number.
+// Writes the text of an answer into `room` from `at` on: `number`, `sas`, `held`, and on number 1 also `figure`. Answers the place behind
+// it.
 pub fn put_answer(
     room: &mut [u8],
     at: usize,
@@ -251,7 +255,7 @@ pub fn put_answer(
     put_field(room, third, held, 10)
 }
 
-// The text for a bad line, into lent room from a place on; the place behind it.
+// Writes the text for a bad line into `room` from `at` on. Answers the place behind it.
 pub fn put_bad(room: &mut [u8], at: usize) -> usize
     ensures { λ r. ⌜ Put (now (room .entry)) at badText (now (room .exit)) r ⌝ }
 {

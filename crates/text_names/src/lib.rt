@@ -1,15 +1,16 @@
-// Text in lent room, which is handed to standard output whenever it is full, and names of code numbers. A function that puts text takes the
-// room and the place where the text goes, and answers the place behind it. A place behind the room's end says that a write has failed:
-// nothing is put or written from then on.
+// Puts text into lent room and hands the room to standard output whenever it is full; names code numbers (`tables`). A function that puts
+// text takes the room `out` and the place `at` for the text, and answers the place behind it. A place behind the end of `out` says that a
+// write has failed: nothing is put or written from then on.
 // Internal: crates of this repository alone call it.
 use libc::STDOUT_FILENO;
 
 pub mod tables;
 
-// The character % marks the place of a number in a text.
+// The character %. It marks the place of a number in a text.
 const MARK: u8 = 37;
 
-// Hands the octets in front of a place over; the place where the room is to be filled from now on.
+// Writes the first `at` octets of `out` to standard output. Answers 0, where `out` is to be filled from now on, or usize::MAX if a write
+// failed now or before.
 pub fn handed_over(out: &[u8], at: usize) -> usize {
     if at <= out.len() {
         if io::write_all(STDOUT_FILENO, &out[0..at]) {
@@ -19,7 +20,7 @@ pub fn handed_over(out: &[u8], at: usize) -> usize {
     usize::MAX
 }
 
-// The place, or the start of a full room that was handed over.
+// Hands `out` over if it is full. Answers the place for the next octet.
 fn free(out: &[u8], at: usize) -> usize {
     if at == out.len() {
         return handed_over(out, at);
@@ -27,7 +28,7 @@ fn free(out: &[u8], at: usize) -> usize {
     at
 }
 
-// One octet.
+// Puts one octet.
 pub fn put(out: &mut [u8], at: usize, octet: u8) -> usize {
     let n = free(out, at);
     if n < out.len() {
@@ -37,7 +38,7 @@ pub fn put(out: &mut [u8], at: usize, octet: u8) -> usize {
     n
 }
 
-// Octets as they stand.
+// Puts `octets` as they stand.
 pub fn text(out: &mut [u8], at: usize, octets: &[u8]) -> usize {
     let mut n = at;
     let mut i = 0;
@@ -48,14 +49,14 @@ pub fn text(out: &mut [u8], at: usize, octets: &[u8]) -> usize {
     n
 }
 
-// A number in decimal.
+// Puts `x` in decimal.
 pub fn number(out: &mut [u8], at: usize, x: usize) -> usize {
     let mut digits = [0u8; 20];
     let k = io::decimal(x as u64, &mut digits);
     text(out, at, &digits[..k])
 }
 
-// A character of a text, or the number that a mark stands for.
+// Puts the character `c`, or the number `x` if `c` is the mark.
 fn character(out: &mut [u8], at: usize, c: u8, x: usize) -> usize {
     if c == MARK {
         return number(out, at, x);
@@ -63,7 +64,7 @@ fn character(out: &mut [u8], at: usize, c: u8, x: usize) -> usize {
     put(out, at, c)
 }
 
-// A text in which marks stand for up to three numbers, in their order.
+// Puts `text`, with the numbers `x`, `y` and `z` in place of its marks, in this order.
 pub fn say(out: &mut [u8], at: usize, text: &[u8], x: usize, y: usize, z: usize) -> usize {
     let mut n = at;
     let mut now = x;
@@ -81,7 +82,7 @@ pub fn say(out: &mut [u8], at: usize, text: &[u8], x: usize, y: usize, z: usize)
     n
 }
 
-// Blanks.
+// Puts `count` blanks.
 pub fn blanks(out: &mut [u8], at: usize, count: usize) -> usize {
     let mut n = at;
     let mut i = 0;
@@ -92,7 +93,7 @@ pub fn blanks(out: &mut [u8], at: usize, count: usize) -> usize {
     n
 }
 
-// How much a number lacks of another.
+// Answers how much `x` lacks of `of`, or 0 if it lacks nothing.
 fn lacks(x: usize, of: usize) -> usize {
     if x < of {
         return of - x;
@@ -100,7 +101,7 @@ fn lacks(x: usize, of: usize) -> usize {
     0
 }
 
-// A number in decimal, at the right end of 6 columns.
+// Puts `x` in decimal, at the right end of 6 columns.
 pub fn column(out: &mut [u8], at: usize, x: usize) -> usize {
     let mut digits = [0u8; 20];
     let k = io::decimal(x as u64, &mut digits);
@@ -112,14 +113,14 @@ fn wide(x: u8) -> u64 {
     x as u64
 }
 
-// A number in hexadecimal, with at least so many digits.
+// Puts `x` in hexadecimal, with at least `digits` digits.
 pub fn hexadecimal(out: &mut [u8], at: usize, x: u64, digits: usize) -> usize {
     let mut room = [0u8; 16];
     let k = io::hex(x, digits, &mut room);
     text(out, at, &room[..k])
 }
 
-// Octets in hexadecimal.
+// Puts `octets` in hexadecimal, two digits each.
 pub fn octets(out: &mut [u8], at: usize, octets: &[u8]) -> usize {
     let mut n = at;
     let mut i = 0;
@@ -130,7 +131,7 @@ pub fn octets(out: &mut [u8], at: usize, octets: &[u8]) -> usize {
     n
 }
 
-// How many octets of a padded name stand in front of the padding.
+// Answers the size of `name` without its padding.
 fn size(name: [u8; 48]) -> usize {
     let mut k = 48;
     while k > 0 {
@@ -142,7 +143,7 @@ fn size(name: [u8; 48]) -> usize {
     k
 }
 
-// A padded name, without the padding.
+// Puts `name` without its padding.
 pub fn name(out: &mut [u8], at: usize, name: [u8; 48]) -> usize {
     let end = size(name);
     let mut n = at;
@@ -157,7 +158,7 @@ pub fn name(out: &mut [u8], at: usize, name: [u8; 48]) -> usize {
     n
 }
 
-// A text, a padded name, and its number behind it.
+// Puts the text `before`, the name `padded` without its padding, and the number `x` in parentheses.
 pub fn titled(out: &mut [u8], at: usize, before: &[u8], padded: [u8; 48], x: usize) -> usize {
     let a = text(out, at, before);
     let b = name(out, a, padded);

@@ -1,12 +1,12 @@
 // Names of code numbers (RFC 7296; RFC 7383 for payload 53; RFC 9838, sections 4 and 9), padded with blanks to one size.
 use wire_attributes::tables::Place;
 
-// The name of a number that these papers give none.
+// Answers the name for every number without one in these papers.
 fn unknown() -> [u8; 48] {
     *b"unknown                                         "
 }
 
-// An exchange type (RFC 7296, section 3.1; RFC 9838, section 9.2).
+// Names the exchange type `kind` (RFC 7296, section 3.1; RFC 9838, section 9.2).
 pub fn exchange(kind: usize) -> [u8; 48] {
     match kind {
         34 => *b"IKE_SA_INIT                                     ",
@@ -21,7 +21,7 @@ pub fn exchange(kind: usize) -> [u8; 48] {
     }
 }
 
-// A payload type, by its notation (RFC 7296, section 3.2; RFC 9838, section 9.2).
+// Names the payload type `kind` by its notation (RFC 7296, section 3.2; RFC 9838, section 9.2).
 pub fn payload(kind: usize) -> [u8; 48] {
     match kind {
         33 => *b"SA                                              ",
@@ -48,7 +48,7 @@ pub fn payload(kind: usize) -> [u8; 48] {
     }
 }
 
-// A security protocol; 6 is GIKE_UPDATE (RFC 9838, section 9.2), the protocol of Rekey SAs.
+// Names the security protocol `number`; 6 is GIKE_UPDATE (RFC 9838, section 9.2), the protocol of Rekey SAs.
 pub fn protocol(number: usize) -> [u8; 48] {
     match number {
         1 => *b"IKE                                             ",
@@ -59,7 +59,7 @@ pub fn protocol(number: usize) -> [u8; 48] {
     }
 }
 
-// A transform type (RFC 7296, section 3.3.2; RFC 9838, section 9.2).
+// Names the transform type `kind` (RFC 7296, section 3.3.2; RFC 9838, section 9.2).
 pub fn transform_type(kind: usize) -> [u8; 48] {
     match kind {
         1 => *b"Encryption Algorithm                            ",
@@ -73,7 +73,7 @@ pub fn transform_type(kind: usize) -> [u8; 48] {
     }
 }
 
-// An encryption algorithm (RFC 7296, section 3.3.2; RFC 5282 for 20).
+// Names the encryption algorithm `id` (RFC 7296, section 3.3.2; RFC 5282 for 20).
 fn encryption(id: usize) -> [u8; 48] {
     match id {
         1 => *b"DES_IV64                                        ",
@@ -93,7 +93,7 @@ fn encryption(id: usize) -> [u8; 48] {
     }
 }
 
-// An integrity algorithm (RFC 7296, section 3.3.2).
+// Names the integrity algorithm `id` (RFC 7296, section 3.3.2).
 fn integrity(id: usize) -> [u8; 48] {
     match id {
         0 => *b"NONE                                            ",
@@ -106,7 +106,7 @@ fn integrity(id: usize) -> [u8; 48] {
     }
 }
 
-// Sequence numbers (RFC 9838, section 4.4.2.1.3).
+// Names the kind `id` of sequence numbers (RFC 9838, section 4.4.2.1.3).
 fn sequence_numbers(id: usize) -> [u8; 48] {
     match id {
         0 => *b"32-bit Sequential Numbers                       ",
@@ -116,7 +116,7 @@ fn sequence_numbers(id: usize) -> [u8; 48] {
     }
 }
 
-// A key wrap algorithm (RFC 9838, section 9.1).
+// Names the key wrap algorithm `id` (RFC 9838, section 9.1).
 fn key_wrap(id: usize) -> [u8; 48] {
     match id {
         1 => *b"KW_5649_128                                     ",
@@ -127,7 +127,7 @@ fn key_wrap(id: usize) -> [u8; 48] {
     }
 }
 
-// A controller authentication method (RFC 9838, section 9.1).
+// Names the controller authentication method `id` (RFC 9838, section 9.1).
 fn authentication(id: usize) -> [u8; 48] {
     match id {
         1 => *b"Implicit                                        ",
@@ -136,7 +136,7 @@ fn authentication(id: usize) -> [u8; 48] {
     }
 }
 
-// The ID of a transform of a type.
+// Names the ID `id` of a transform of type `kind`.
 pub fn transform_id(kind: usize, id: usize) -> [u8; 48] {
     match kind {
         1 => encryption(id),
@@ -148,7 +148,7 @@ pub fn transform_id(kind: usize, id: usize) -> [u8; 48] {
     }
 }
 
-// An attribute of a transform (RFC 7296, section 3.3.5; RFC 9838, section 9.2).
+// Names the attribute `kind` of a transform (RFC 7296, section 3.3.5; RFC 9838, section 9.2).
 fn transform_attribute(kind: usize) -> [u8; 48] {
     match kind {
         14 => *b"Key Length                                      ",
@@ -157,7 +157,7 @@ fn transform_attribute(kind: usize) -> [u8; 48] {
     }
 }
 
-// An attribute of a Group SA policy (RFC 9838, section 9.1).
+// Names the attribute `kind` of a Group SA policy (RFC 9838, section 9.1).
 fn policy_attribute(kind: usize) -> [u8; 48] {
     match kind {
         1 => *b"GSA_KEY_LIFETIME                                ",
@@ -167,7 +167,7 @@ fn policy_attribute(kind: usize) -> [u8; 48] {
     }
 }
 
-// An attribute of a group-wide policy (RFC 9838, section 9.1).
+// Names the attribute `kind` of a group-wide policy (RFC 9838, section 9.1).
 fn wide_attribute(kind: usize) -> [u8; 48] {
     match kind {
         1 => *b"GWP_ATD                                         ",
@@ -177,7 +177,7 @@ fn wide_attribute(kind: usize) -> [u8; 48] {
     }
 }
 
-// An attribute of a Group Key Bag (RFC 9838, section 9.1).
+// Names the attribute `kind` of a Group Key Bag (RFC 9838, section 9.1).
 fn group_bag_attribute(kind: usize) -> [u8; 48] {
     match kind {
         1 => *b"SA_KEY                                          ",
@@ -185,7 +185,7 @@ fn group_bag_attribute(kind: usize) -> [u8; 48] {
     }
 }
 
-// An attribute of a Member Key Bag (RFC 9838, section 9.1).
+// Names the attribute `kind` of a Member Key Bag (RFC 9838, section 9.1).
 fn member_bag_attribute(kind: usize) -> [u8; 48] {
     match kind {
         1 => *b"WRAP_KEY                                        ",
@@ -195,7 +195,7 @@ fn member_bag_attribute(kind: usize) -> [u8; 48] {
     }
 }
 
-// An attribute by its place.
+// Names the attribute `kind` by the `place` where it stands.
 pub fn attribute(place: Place, kind: usize) -> [u8; 48] {
     match place {
         Place::EncryptionTransform => transform_attribute(kind),

@@ -1,6 +1,5 @@
-// Which clauses of document 01's numbers 4 to 7 apply to a frame alone, by name, for the program `show`: from the functions by which a
-// member judges. The member's table and the lent key are not looked at. Of several GSA or KD payloads the first is looked at, as by a
-// member.
+// Names the clauses of document 01's numbers 4 to 7 that apply to a frame alone, for the program `show`. Asks the functions by which a
+// member judges, without the member's table and the lent key. Of several GSA or KD payloads it looks at the first, as a member does.
 // Internal: crates of this repository alone call it.
 use check_judging::facts::Facts;
 use check_judging::facts::facts_of;
@@ -28,13 +27,13 @@ ghost use Rattle.wire_readers.specs.inner.Values.{isWhole};
 
 mod text;
 
-// A lent key that fits, so that none of the clauses is about it.
+// The size of a lent key that fits: no clause applies because of the lent key.
 const LENT: usize = WrappingKey::KW_128;
 
-// No SA stands, so that none of the clauses is about the table.
+// The count of standing SAs. There is none: no clause applies because of the table.
 const STANDING: usize = 0;
 
-// The clauses of a frame.
+// Which clauses apply to a frame.
 pub(crate) struct ClauseFound {
     // the exchange is one of the four that are taken
     admitted: bool,
@@ -42,14 +41,14 @@ pub(crate) struct ClauseFound {
     any: bool,
     four: Four,
     five: Five,
-    // a policy whose protocol and SPI not exactly one Group Key Bag has, and the other way round
+    // number 6: the protocol and SPI of a policy are not those of exactly one Group Key Bag (`policies`), and the other way round (`bags`)
     policies: bool,
     bags: bool,
     keys: Keys,
     seven: Seven,
 }
 
-// Whether one of the clauses applies, where one on the pairing does or not.
+// Whether one of the clauses applies. `unpaired` says whether one on the pairing of policies and bags does.
 fn any(row: Exchange, x: Facts, unpaired: bool) -> bool {
     let four = number_4(row, x);
     let five = number_5(row, LENT, x);
@@ -58,7 +57,7 @@ fn any(row: Exchange, x: Facts, unpaired: bool) -> bool {
     four | five | unpaired | keys | seven
 }
 
-// Those of a frame with these facts, where the clauses on the pairing are known.
+// Collects the clauses that apply to a frame with the facts `x`. `policies` and `bags` say whether those on the pairing do.
 fn by_facts(row: Exchange, x: Facts, policies: bool, bags: bool) -> ClauseFound {
     ClauseFound {
         admitted: row.admitted,
@@ -72,7 +71,7 @@ fn by_facts(row: Exchange, x: Facts, policies: bool, bags: bool) -> ClauseFound 
     }
 }
 
-// Those of a frame whose layout is whole.
+// Collects the clauses that apply to the frame `s`, whose layout is whole.
 fn of_frame(s: &[u8]) -> ClauseFound
     requires { ⌜ isWhole (frame (now s)) ≡ true ⌝ }
 {
@@ -90,7 +89,8 @@ fn of_frame(s: &[u8]) -> ClauseFound
     by_facts(row, x, policies, bags)
 }
 
-// Puts a line for each clause that applies to a frame whose layout is whole, or one that says that none does; nothing where it is broken.
+// Puts a line into `out` for each clause that applies to the frame `s`, or a line saying that none does. Puts nothing if the layout of `s`
+// is broken. Answers the place behind the lines, which start at `n`.
 pub fn applying(out: &mut [u8], n: usize, s: &[u8]) -> usize {
     match wire_frames::frame_layout(s) {
         Layout::Whole => text::lines(out, n, of_frame(s)),

@@ -1,11 +1,12 @@
-// The clauses by name, in the words of document 01 and T-09 and in their order.
+// Puts the clauses by name, in the words of document 01 and T-09 and in their order. Each function puts its lines into `out` at the place
+// `n` and answers the place behind them.
 use crate::ClauseFound;
 use check_judging::number4::Four;
 use check_judging::number5::Five;
 use check_judging::number6::Keys;
 use check_judging::number7::Seven;
 
-// A line, where a clause applies.
+// Puts `line` if its clause applies.
 fn clause(out: &mut [u8], n: usize, applies: bool, line: &[u8]) -> usize {
     if applies {
         return text_names::text(out, n, line);
@@ -13,7 +14,7 @@ fn clause(out: &mut [u8], n: usize, applies: bool, line: &[u8]) -> usize {
     n
 }
 
-// Number 4 on the payloads.
+// Puts the clauses of number 4 on the payloads.
 fn payloads(out: &mut [u8], n: usize, x: Four) -> usize {
     let a = clause(out, n, x.critical, b"  4: critical unknown payload\n");
     let b = clause(out, a, x.member_bag, b"  4: Member Key Bag in a rekey\n");
@@ -26,7 +27,7 @@ fn payloads(out: &mut [u8], n: usize, x: Four) -> usize {
     clause(out, c, x.two_gsa, b"  4: two GSA\n")
 }
 
-// Number 4 on GSA and KD together.
+// Puts the clauses of number 4 on GSA and KD together.
 fn both(out: &mut [u8], n: usize, x: Four) -> usize {
     let a = clause(out, n, x.two_kd, b"  4: two KD\n");
     let b = clause(out, a, x.gsa_alone, b"  4: GSA without KD\n");
@@ -39,7 +40,7 @@ fn both(out: &mut [u8], n: usize, x: Four) -> usize {
     )
 }
 
-// Number 4 on the counts of policies and bags.
+// Puts the clauses of number 4 on the counts of policies and bags.
 fn counts(out: &mut [u8], n: usize, x: Four) -> usize {
     let a = clause(out, n, x.rekeys, b"  4: more than one Rekey policy\n");
     let b = clause(out, a, x.wides, b"  4: more than one group-wide policy\n");
@@ -47,7 +48,7 @@ fn counts(out: &mut [u8], n: usize, x: Four) -> usize {
     clause(out, c, x.no_sa, b"  4: GSA with no SA policy\n")
 }
 
-// Number 4 on what policies hold.
+// Puts the clauses of number 4 on what policies hold.
 fn policies(out: &mut [u8], n: usize, x: Four) -> usize {
     let a = clause(
         out,
@@ -81,6 +82,7 @@ fn policies(out: &mut [u8], n: usize, x: Four) -> usize {
     )
 }
 
+// Puts the clauses of number 4.
 fn four(out: &mut [u8], n: usize, x: Four) -> usize {
     let a = payloads(out, n, x);
     let b = both(out, a, x);
@@ -88,7 +90,7 @@ fn four(out: &mut [u8], n: usize, x: Four) -> usize {
     policies(out, c, x)
 }
 
-// Number 5.
+// Puts the clauses of number 5.
 fn five(out: &mut [u8], n: usize, x: Five) -> usize {
     let a = clause(out, n, x.ah_policy, b"  5: AH policy\n");
     let b = clause(out, a, x.ah_bag, b"  5: AH bag\n");
@@ -102,7 +104,7 @@ fn five(out: &mut [u8], n: usize, x: Five) -> usize {
     clause(out, d, x.none, b"  5: D with count 0\n")
 }
 
-// Number 6 on the pairing of policies and bags.
+// Puts the clauses of number 6 on the pairing of policies and bags.
 fn pairing(out: &mut [u8], n: usize, policies: bool, bags: bool) -> usize {
     let a = clause(
         out,
@@ -118,7 +120,7 @@ fn pairing(out: &mut [u8], n: usize, policies: bool, bags: bool) -> usize {
     )
 }
 
-// Number 6 on the keys of the bags.
+// Puts the clauses of number 6 on the keys of the bags.
 fn keys(out: &mut [u8], n: usize, x: Keys) -> usize {
     let a = clause(
         out,
@@ -142,7 +144,7 @@ fn keys(out: &mut [u8], n: usize, x: Keys) -> usize {
     )
 }
 
-// Number 7.
+// Puts the clauses of number 7.
 fn seven(out: &mut [u8], n: usize, x: Seven) -> usize {
     let a = clause(
         out,
@@ -172,6 +174,7 @@ fn seven(out: &mut [u8], n: usize, x: Seven) -> usize {
     clause(out, e, x.sas, b"  7: more SAs than an empty table takes\n")
 }
 
+// Puts all clauses that apply, by rising numbers.
 fn each(out: &mut [u8], n: usize, x: ClauseFound) -> usize {
     let a = four(out, n, x.four);
     let b = five(out, a, x.five);
@@ -180,7 +183,8 @@ fn each(out: &mut [u8], n: usize, x: ClauseFound) -> usize {
     seven(out, d, x.seven)
 }
 
-// A line for each clause that applies, or one that says that none does. A frame of another exchange is not judged by them.
+// Puts a line for each clause that applies, or a line saying that none does. A frame of another exchange is not judged by them: its line is
+// that of number 2.
 pub(crate) fn lines(out: &mut [u8], n: usize, x: ClauseFound) -> usize {
     if !x.admitted {
         return text_names::text(

@@ -6,13 +6,14 @@ use mathlib.Core.List.{List, [], _∷_, _++_}
 use mathlib.Core.Bool.{cond}
 use lib.Dec.{ltb, eqb}
 
--- the decimal digits of n, the highest first, no 0 before them; n has at most n + 1 digits
+-- the decimal digits of n, the highest first, no 0 before them; the first argument must be at least their count
 unfoldable pub decimalUpTo : ℕ → ℕ → List ℕ
 decimalUpTo zero n = []
 decimalUpTo (suc most) n =
     let more : List ℕ = decimalUpTo most (n / 10) ++ ((48 + n % 10) ∷ []) in
     cond (ltb n 10) ((48 + n) ∷ []) more
 
+-- the decimal digits of n; there are at most n + 1
 unfoldable pub decimal : ℕ → List ℕ
 decimal n = decimalUpTo (suc n) n
 
@@ -22,6 +23,7 @@ printed [] = 10 ∷ []
 printed (n ∷ []) = decimal n ++ (10 ∷ [])
 printed (n ∷ m ∷ ns) = decimal n ++ (32 ∷ printed (m ∷ ns))
 
+-- the text of an answer: on number 1 the figure is its fourth number
 unfoldable pub answerText : ℕ → ℕ → ℕ → ℕ → List ℕ
 answerText number sas held figure = printed (number ∷ sas ∷ held ∷ cond (eqb number 1) (figure ∷ []) [])
 

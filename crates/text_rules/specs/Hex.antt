@@ -5,6 +5,7 @@ use mathlib.Core.Bool.{Bool, true, cond, _&&_, _||_}
 use lib.ListN.{length}
 use lib.Dec.{leb, ltb, eqb}
 
+-- c is at least `low` and at most `high`
 abbrev pub inRange : ℕ → ℕ → ℕ → Bool
 inRange low high c = leb low c && leb c high
 
@@ -16,17 +17,19 @@ isDecimal c = inRange 48 57 c
 abbrev pub isLetter : ℕ → Bool
 isLetter c = inRange 97 102 c
 
+-- a hexadecimal digit
 unfoldable pub isDigit : ℕ → Bool
 isDigit c = isDecimal c || isLetter c
 
--- what a digit counts, 0 to 15; of another character nothing is asked, and it counts 0
+-- the value of a digit, 0 to 15; the value of another character, of which nothing is asked, is 0
 unfoldable pub digitValue : ℕ → ℕ
 digitValue c = cond (isDecimal c) (c - 48) (cond (isLetter c) (c - 87) 0)
 
--- the digit that counts v, 0 to 15
+-- the digit of value v, 0 to 15
 unfoldable pub digitOf : ℕ → ℕ
 digitOf v = cond (ltb v 10) (48 + v) (87 + v)
 
+-- every character is a digit
 unfoldable pub areDigits : List ℕ → Bool
 areDigits [] = true
 areDigits (c ∷ text) = isDigit c && areDigits text
@@ -35,18 +38,18 @@ areDigits (c ∷ text) = isDigit c && areDigits text
 unfoldable pub isHex : List ℕ → Bool
 isHex text = areDigits text && eqb (length text % 2) 0
 
--- the octets of a text: two digits each, the higher first; a last digit alone, which `isHex` bars, counts nothing
+-- the octets of a text: two digits each, the higher first; a last digit alone, which `isHex` bars, gives no octet
 unfoldable pub octetsOfHex : List ℕ → List ℕ
 octetsOfHex [] = []
 octetsOfHex (h ∷ []) = []
 octetsOfHex (h ∷ l ∷ text) = (16 * digitValue h + digitValue l) ∷ octetsOfHex text
 
--- the text of octets
+-- the hexadecimal text of octets
 unfoldable pub digitsOf : List ℕ → List ℕ
 digitsOf [] = []
 digitsOf (o ∷ octets) = digitOf (o / 16) ∷ digitOf (o % 16) ∷ digitsOf octets
 
--- the number that digits write, the highest first, behind what the digits before them wrote
+-- the number that digits write, the highest first; `before` is the number that the digits in front of them write
 unfoldable pub numberFrom : ℕ → List ℕ → ℕ
 numberFrom before [] = before
 numberFrom before (c ∷ text) = numberFrom (16 * before + digitValue c) text

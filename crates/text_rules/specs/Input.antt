@@ -6,7 +6,7 @@ use lib.ListN.{length, take, drop}
 use lib.Dec.{leb}
 use Rattle.text_rules.specs.Hex.{isHex, octetsOfHex, numberFrom}
 
--- neither another character, nor an odd count, nor fewer digits than `least` or more than `most`
+-- hexadecimal text of at least `least` and at most `most` digits
 unfoldable pub isTaken : ℕ → ℕ → List ℕ → Bool
 isTaken least most text = leb least (length text) && leb (length text) most && isHex text
 
@@ -14,7 +14,7 @@ isTaken least most text = leb least (length text) && leb (length text) most && i
 unfoldable pub lineKey : List ℕ → List ℕ
 lineKey text = cond (isTaken 0 64 text) (octetsOfHex text) []
 
--- a later line: a tick and a frame, or "bad"
+-- what a later line asks: a tick and a frame, or "bad"
 pub data Asked : Type 0 where
   bad : Asked
   frame : (tick : ℕ) → (octets : List ℕ) → Asked

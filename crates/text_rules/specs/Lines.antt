@@ -10,11 +10,12 @@ pub record Line : Type 0 where
   pub text : List ℕ
   pub ended : Bool
 
--- a character before the lines that follow it
+-- puts a character in front of the first line; where there is no line, it is a line that no newline ended
 abbrev pub prependCharacter : ℕ → List Line → List Line
 prependCharacter c [] = record { text = c ∷ []; ended = false } ∷ []
 prependCharacter c (l ∷ ls) = record { text = c ∷ l .text; ended = l .ended } ∷ ls
 
+-- the lines of an input
 unfoldable pub lines : List ℕ → List Line
 lines [] = []
 lines (c ∷ s) = cond (eqb c 10) (record { text = []; ended = true } ∷ lines s) (prependCharacter c (lines s))

@@ -19,19 +19,21 @@ pub record Reply (S : Type 0) : Type 0 where
   pub next : S
   pub text : List ℕ
 
--- a step: which outcomes a member, the default key, a tick and a frame have
+-- a step: which outcomes a call with a member, the default key, a tick and a frame can have
 abbrev pub CallRelation : Type 0 → Type 1
 CallRelation S = S → List ℕ → ℕ → List ℕ → LineOutcome S → Type 0
 
+-- the reply to a frame with the outcome `o`
 abbrev pub told : {S : Type 0} → LineOutcome S → Reply S
 told o = record { next = o .next; text = answerText (o .number) (o .sas) (o .held) (o .figure) }
 
 module _ {S : Type 0} (step : CallRelation S) where
-  -- a bad line leaves the member as it was
+  -- the reply to what a later line asks; a bad line leaves the member as it was
   abbrev pub RepliesTo : List ℕ → S → Asked → Reply S → Type 0
   RepliesTo key member bad a = a ≡ record { next = member; text = badText }
   RepliesTo key member (frame tick octets) a = (o : LineOutcome S) × step member key tick octets o × (a ≡ told o)
 
+  -- the reply to the text of a later line
   abbrev pub Replies : List ℕ → S → List ℕ → Reply S → Type 0
   Replies key member text a = RepliesTo key member (askedBy text) a
 
@@ -46,5 +48,6 @@ module _ {S : Type 0} (step : CallRelation S) where
   OutputOf member [] output = output ≡ []
   OutputOf member (first ∷ ls) output = Later (lineKey (first .text)) member ls output
 
+  -- `output` is what the program prints for `input`, where `member` is the first member
   abbrev pub Transcript : S → List ℕ → List ℕ → Type 0
   Transcript member input output = OutputOf member (lines input) output

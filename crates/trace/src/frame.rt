@@ -1,4 +1,4 @@
-// A line of tick and frame: the frame is received with the lent key, and its answer printed.
+// A line of tick and frame: receives the frame with the lent key, and prints the answer.
 use crate::reply::TraceReply;
 use crate::reply::bad;
 use crate::text;
@@ -6,7 +6,7 @@ use gikev2::Member;
 use gikev2::call::Answer;
 use text_lines::Request;
 
-// The line of an answer: its number, and on number 1 its figure.
+// Puts the line of the answer `a`: its number, and on number 1 its figure.
 fn told(a: Answer, out: &mut [u8]) -> usize {
     let word = text::put(out, 0, b"answer");
     let number = a.number();
@@ -18,6 +18,7 @@ fn told(a: Answer, out: &mut [u8]) -> usize {
     text::newline(out, behind)
 }
 
+// Lets the member receive `frame`, and puts its answer.
 fn received(m: Member, frame: &[u8], key: &[u8], tick: u32, out: &mut [u8]) -> TraceReply {
     let x = m.receive(frame, key, tick);
     let member = x.member;
@@ -26,6 +27,7 @@ fn received(m: Member, frame: &[u8], key: &[u8], tick: u32, out: &mut [u8]) -> T
     TraceReply { member, at }
 }
 
+// Replies to `line`. Its frame goes to the start of `room`.
 pub(crate) fn reply(
     m: Member,
     line: &[u8],

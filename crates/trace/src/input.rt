@@ -1,4 +1,4 @@
-// Lines from standard input, each answered as soon as it was read.
+// Reads lines from standard input, and answers each as soon as it was read.
 use crate::reply;
 use crate::text;
 use crate::whole;
@@ -6,8 +6,9 @@ use gikev2::Member;
 use libc::STDIN_FILENO;
 use libc::STDOUT_FILENO;
 
-// The member; whether the first line gave the lent key yet, and how many octets it has; how many characters of the line that has begun are
-// held; how many the member's text has that was printed last; whether the input goes on and the output takes what is written.
+// Where the program stands: the member; whether the first line has given the lent key yet (`keyed`), and how many octets that key has
+// (`lent`); how many characters of the line that has begun are held (`len`); how many characters the member's text had when printed last
+// (`last`); whether the input goes on and the output takes what is written (`open`).
 pub struct Running {
     pub member: Member,
     pub keyed: bool,
@@ -17,7 +18,7 @@ pub struct Running {
     pub open: bool,
 }
 
-// A whole first line: the lent key, which goes to the start of its room.
+// Takes the lent key from the first line, and puts it to the start of `key`.
 fn first_line(r: Running, line: &[u8], key: &mut [u8]) -> Running {
     let k = text_lines::key_line(line);
     let octets = k.octets;
@@ -29,7 +30,7 @@ fn first_line(r: Running, line: &[u8], key: &mut [u8]) -> Running {
     x
 }
 
-// A whole later line.
+// Makes the call of a later line, and writes the reply to standard output.
 fn later_line(
     r: Running,
     line: &[u8],
@@ -54,7 +55,7 @@ fn later_line(
     }
 }
 
-// A whole line. After a write that failed nothing more is answered.
+// Answers a whole line. Answers nothing more after a write that failed.
 fn answered(
     r: Running,
     line: &[u8],
@@ -72,7 +73,7 @@ fn answered(
     first_line(r, line, key)
 }
 
-// What was absorbed of a block: a whole line, or `len` characters of one that has begun.
+// Takes what was absorbed of a block: answers a whole line, or keeps `len` characters of one that has begun.
 fn absorbed(
     r: Running,
     ended: bool,
@@ -91,6 +92,7 @@ fn absorbed(
     x
 }
 
+// Takes all lines of `block`.
 fn through(
     r: Running,
     block: &[u8],
@@ -110,7 +112,7 @@ fn through(
     x
 }
 
-// The end of the input: a line that has begun is answered.
+// Ends the input: answers a line that has begun.
 fn ended(
     r: Running,
     line: &[u8],
@@ -125,7 +127,7 @@ fn ended(
     x
 }
 
-// One read, and the lines that it ends.
+// Reads once, and answers the lines that end in what was read.
 fn advanced(
     r: Running,
     line: &mut [u8],
@@ -143,7 +145,8 @@ fn advanced(
     through(r, text::part(&block, 0, n), line, key, room, out, last)
 }
 
-// A proved loop has to end, and nothing says that the input does: it counts its turns down from a number that no run uses up.
+// Answers all lines of the input. A proved loop has to end, and nothing says that the input does: it counts its turns down from a number
+// that no run uses up.
 fn run(line: &mut [u8], key: &mut [u8], room: &mut [u8], out: &mut [u8], last: &mut [u8]) {
     let member = Member::new();
     let new = whole::member(last, 0, member);
@@ -166,7 +169,8 @@ fn run(line: &mut [u8], key: &mut [u8], room: &mut [u8], out: &mut [u8], last: &
     }
 }
 
-// Room for a line, and for one character more, which tells that a line is too long; for the octets that a line has at most; for a reply.
+// Runs the program with room for a line, and for one character more, which tells that a line is too long; for the octets that a line has at
+// most; for a reply; for the member's text that was printed last.
 pub(crate) fn trace() {
     let mut line = [0u8; reply::LINE + 1];
     let mut key = [0u8; reply::LINE / 2];

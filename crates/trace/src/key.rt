@@ -4,7 +4,7 @@ use crate::reply::bad;
 use crate::reply::done;
 use gikev2::Member;
 
-// `digits` is the line without its letter. The lent key goes to the start of its room; `count` octets of it are lent so far.
+// Puts the lent key to the start of `key`. `digits` is the line without its letter; if it is bad, the `count` octets lent so far stay lent.
 pub(crate) fn reply(
     m: Member,
     digits: &[u8],

@@ -1,5 +1,5 @@
-// For tests alone, since it prints keys: the calls of the library by lines of text, and after each the answer and, where the member
-// changed, all of it. tests/README.md has its text.
+// Calls the library by lines of text. Prints after each call the answer and, where the member changed, all of it. For tests alone, since it
+// prints keys. tests/README.md has its text.
 mod frame;
 mod input;
 mod key;

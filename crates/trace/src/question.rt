@@ -1,4 +1,4 @@
-// A line `q`, protocol and SPI: the question about an SA.
+// A line `q`, protocol and SPI: asks the member for an SA.
 use crate::reply::TraceReply;
 use crate::reply::bad;
 use crate::text;
@@ -6,6 +6,7 @@ use crate::whole;
 use gikev2::Member;
 use gikev2::SaAnswer;
 
+// Puts the line of the answer `a`.
 fn told(a: SaAnswer, out: &mut [u8]) -> usize {
     if a.found {
         let octets = a.octets;
@@ -20,7 +21,7 @@ fn told(a: SaAnswer, out: &mut [u8]) -> usize {
     text::put(out, 0, b"none\n")
 }
 
-// A question by a protocol and the octets of an SPI behind it.
+// Asks for an SA. The first octet of `name` is the protocol, the others are the SPI.
 fn asked(m: Member, name: &[u8], out: &mut [u8]) -> TraceReply {
     if name.len() == 0 {
         return bad(m, out);
@@ -30,7 +31,7 @@ fn asked(m: Member, name: &[u8], out: &mut [u8]) -> TraceReply {
     TraceReply { member: m, at }
 }
 
-// `digits` is the line without its letter.
+// Replies to a question. `digits` is the line without its letter.
 pub(crate) fn reply(m: Member, digits: &[u8], room: &mut [u8], out: &mut [u8]) -> TraceReply {
     if text_lines::is_hex(digits) {
         let n = text_lines::put_octets(room, 0, digits);

@@ -1,4 +1,4 @@
-// The reply to a whole line: what its call prints first, and then the member, if its text differs from the one printed last.
+// Replies to a whole line: puts what its call prints first, and then the member, if its text differs from the one printed last.
 use crate::frame;
 use crate::key;
 use crate::leave;
@@ -8,9 +8,10 @@ use crate::text;
 use crate::whole;
 use gikev2::Member;
 
-// The most octets of a frame, and the most characters of a line that is taken: a letter, a tick, a frame.
+// The most octets of a frame.
 pub(crate) const FRAME: usize = 16384;
 
+// The most characters of a line that is taken: a letter, a tick, a frame.
 pub(crate) const LINE: usize = 1 + 8 + 2 * FRAME;
 
 // The most characters that a call prints first.
@@ -22,23 +23,25 @@ pub struct TraceReply {
     pub at: usize,
 }
 
-// The reply, and how many octets the lent key has.
+// The reply to a call, and how many octets the lent key has after it.
 pub struct Called {
     pub reply: TraceReply,
     pub lent: usize,
 }
 
+// Replies that a line which has no answer was carried out.
 pub(crate) fn done(m: Member, out: &mut [u8]) -> TraceReply {
     let at = text::put(out, 0, b"done\n");
     TraceReply { member: m, at }
 }
 
+// Replies that a line is bad.
 pub(crate) fn bad(m: Member, out: &mut [u8]) -> TraceReply {
     let at = text_lines::put_bad(out, 0);
     TraceReply { member: m, at }
 }
 
-// The first character of a line, or 0.
+// Answers the first character of `line`, or 0 if there is none.
 fn letter(line: &[u8]) -> u8 {
     if line.len() == 0 {
         return 0;
@@ -46,7 +49,7 @@ fn letter(line: &[u8]) -> u8 {
     line[0]
 }
 
-// A call that leaves the lent key as it is.
+// Makes a call that leaves the lent key as it is.
 fn with_key(m: Member, line: &[u8], key: &[u8], room: &mut [u8], out: &mut [u8]) -> TraceReply {
     let rest = text::part(line, 1, line.len());
     match letter(line) {
@@ -57,7 +60,7 @@ fn with_key(m: Member, line: &[u8], key: &[u8], room: &mut [u8], out: &mut [u8])
     }
 }
 
-// The call that a line asks for. The lent key is `count` octets of its room.
+// Makes the call that `line` asks for. The lent key is the first `count` octets of `key`.
 pub(crate) fn call(
     m: Member,
     line: &[u8],
@@ -77,13 +80,14 @@ pub(crate) fn call(
     Called { reply, lent: count }
 }
 
-// The place behind the reply, and how many characters the member's text has that was printed last.
+// The place behind the reply, and how many characters the member's text had when printed last (`last`).
 pub struct TraceTold {
     pub at: usize,
     pub last: usize,
 }
 
-// Puts the member behind what its call prints first, if its text differs from the first `count` characters of `last`, and keeps it there.
+// Puts the member behind what its call printed first, if its text differs from the first `count` characters of `last`, and keeps the text
+// in `last`.
 pub(crate) fn completed(
     m: Member,
     at: usize,

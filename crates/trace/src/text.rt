@@ -1,7 +1,7 @@
-// What the lines are made of. Each function puts text into lent room from a place on and answers the place behind it; what finds no room is
-// left away.
+// Puts what the lines are made of. Each function writes text into `out` from `at` on and answers the place behind it. Text that finds no
+// room is left out.
 
-// The octets from a place up to another, or none.
+// Answers the octets of `s` from `from` up to `to`, or none if these are not all within `s`.
 pub(crate) fn part(s: &[u8], from: usize, to: usize) -> &[u8] {
     if to <= s.len() {
         if from <= to {
@@ -11,6 +11,7 @@ pub(crate) fn part(s: &[u8], from: usize, to: usize) -> &[u8] {
     &s[0..0]
 }
 
+// Puts `text` as it stands.
 pub(crate) fn put(out: &mut [u8], at: usize, text: &[u8]) -> usize {
     let mut place = at;
     let mut i = 0;
@@ -21,18 +22,19 @@ pub(crate) fn put(out: &mut [u8], at: usize, text: &[u8]) -> usize {
     place
 }
 
-// A blank and a number.
+// Puts a blank and `n` in decimal.
 pub(crate) fn number(out: &mut [u8], at: usize, n: usize) -> usize {
     let behind = text_lines::put(out, at, b' ');
     text_lines::put_number(out, behind, n)
 }
 
-// A blank and octets.
+// Puts a blank and `octets` in hexadecimal.
 pub(crate) fn octets(out: &mut [u8], at: usize, octets: &[u8]) -> usize {
     let behind = text_lines::put(out, at, b' ');
     text_lines::put_digits(out, behind, octets)
 }
 
+// Puts a newline.
 pub(crate) fn newline(out: &mut [u8], at: usize) -> usize {
     text_lines::put(out, at, b'\n')
 }

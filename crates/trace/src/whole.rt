@@ -1,4 +1,4 @@
-// The text of the whole member: its SAs and held keys, each on a line, and the least Message ID.
+// Puts the text of the whole member: its SAs and held keys, each on a line, and the least Message ID.
 ghost use Prim.Native.Nat.{_≤_};
 use crate::text;
 use gikev2::Member;
@@ -15,24 +15,28 @@ use state_sa::entry::Lifetime;
 use state_sa::entry::Sa;
 use state_table::Table;
 
-// The most characters of a number, and of the words and blanks of a line with its newline.
+// The most characters of a number.
 const NUMBER: usize = 20;
 
+// The most characters of the words and blanks of a line, with its newline.
 const WORDS: usize = 32;
 
+// The most octets of an SPI.
 const SPI: usize = 16;
 
-// The most characters of a line: an SA's has seven numbers at most, a held key's one.
+// The most characters of an SA's line, which has seven numbers at most.
 const SA_LINE: usize = WORDS + 2 * SPI + 2 * RekeyKey::MOST + 7 * NUMBER;
 
+// The most characters of a held key's line.
 const HELD_LINE: usize = WORDS + 2 * WrappingKey::KW_256 + NUMBER;
 
+// The most characters of the line with the least Message ID.
 const LEAST_LINE: usize = WORDS + NUMBER;
 
 // The most characters of a whole member.
 pub(crate) const MOST: usize = SAS * SA_LINE + HELD_KEYS * HELD_LINE + LEAST_LINE;
 
-// A blank and an SA's condition.
+// Puts a blank and the condition of an SA.
 pub(crate) fn condition(out: &mut [u8], at: usize, c: Condition) -> usize {
     match c {
         Condition::Live => text::put(out, at, b" live"),
@@ -44,7 +48,7 @@ pub(crate) fn condition(out: &mut [u8], at: usize, c: Condition) -> usize {
     }
 }
 
-// A blank and an SA's lifetime.
+// Puts a blank and the lifetime of an SA.
 pub(crate) fn lifetime(out: &mut [u8], at: usize, l: Lifetime) -> usize {
     match l {
         Lifetime::Unlimited => text::put(out, at, b" life none"),
@@ -63,7 +67,7 @@ fn spi_size(protocol: u8) -> usize {
     SPI
 }
 
-// The word, the protocol and the SPI.
+// Puts the name of an SA: the word, the protocol and the SPI.
 fn name(out: &mut [u8], at: usize, s: Sa) -> usize {
     let protocol = s.protocol;
     let spi = s.spi;
@@ -72,7 +76,7 @@ fn name(out: &mut [u8], at: usize, s: Sa) -> usize {
     text::octets(out, b, text::part(&spi, 0, spi_size(protocol)))
 }
 
-// The keying octets and the counts of their two parts.
+// Puts the keying octets of an SA, and the counts of their two parts.
 fn keying(out: &mut [u8], at: usize, s: Sa) -> usize {
     let octets = s.octets;
     let a = text::octets(out, at, text::part(&octets, 0, s.count));
@@ -90,7 +94,7 @@ fn sa(out: &mut [u8], at: usize, s: Sa) -> usize {
     text::newline(out, e)
 }
 
-// A count of a list that may be broken, or the most that the list holds.
+// Answers `count`, or `most` if it is more: the count of a broken list may be more than the list holds.
 fn within(count: usize, most: usize) -> usize
     ensures { λ r. ⌜ r ≤ most ⌝ }
 {
@@ -144,6 +148,7 @@ fn least(out: &mut [u8], at: usize, l: Least) -> usize {
     }
 }
 
+// Puts the whole member `m`.
 pub(crate) fn member(out: &mut [u8], at: usize, m: Member) -> usize {
     let state = m.state;
     let t = state.table;

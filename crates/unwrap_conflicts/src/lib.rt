@@ -1,5 +1,5 @@
-// Number 8 of document 01 for the entries of a registration: whether the cells of a search show an entry that opened to a wrong size, or
-// two that give one key two values.
+// Judges refusal 8 of document 01 for the entries of a registration, by the cells of their search: an entry opened to a wrong size, or two
+// entries give one key two values.
 // Internal: crates of this repository alone call it.
 use state_keys::kinds::WrappingKey;
 use state_keys::limits::WRAP_KEYS;
@@ -18,7 +18,7 @@ ghost use Rattle.unwrap_search.specs.inner.Entries.{Lists};
 ghost use Rattle.unwrap_search.specs.inner.Search.{Searched, Nonzero};
 ghost use Rattle.unwrap_conflicts.specs.inner.Values.{Decides, Clash, ClashAmong, AnyClash, AnyWrong, isDone, isWrong};
 
-// Whether a chain ends with the entry, and its key was tried on the others.
+// Whether the entry of `c` was reached, and its key was tried on the other entries.
 pub fn is_done(c: Cell) -> bool
     ensures { λ r. ⌜ r ≡ isDone (c .status) ⌝ }
 {
@@ -32,6 +32,7 @@ pub fn is_done(c: Cell) -> bool
     }
 }
 
+// Whether the entry of `c` opened to a wrong size.
 fn is_wrong(c: Cell) -> bool
     ensures { λ r. ⌜ r ≡ isWrong (c .status) ⌝ }
 {
@@ -45,7 +46,7 @@ fn is_wrong(c: Cell) -> bool
     }
 }
 
-// Whether two keys are the same, with the octets past their counts.
+// Whether `a` and `b` are equal: their counts and all octets of their arrays, those past the count too.
 fn same_key(a: WrappingKey, b: WrappingKey) -> bool
     ensures { λ r. ⌜ Decides r (a ≡ b) ⌝ }
 {
@@ -64,7 +65,7 @@ fn same_key(a: WrappingKey, b: WrappingKey) -> bool
     true
 }
 
-// Whether two entries give one key two values.
+// Whether the entries `e` and `f`, whose cells are `c` and `d`, give one key two values.
 fn clash(e: Entry, c: Cell, f: Entry, d: Cell) -> bool
     ensures { λ r. ⌜ Decides r (Clash e c f d) ⌝ }
 {
@@ -84,7 +85,7 @@ fn clash(e: Entry, c: Cell, f: Entry, d: Cell) -> bool
     false
 }
 
-// Whether an entry and one of the first n have the same Key ID and reached values that differ.
+// Whether the entry `e`, whose cell is `c`, and one of the first `n` entries give one key two values.
 fn clashes(
     e: Entry,
     c: Cell,
@@ -107,7 +108,7 @@ fn clashes(
     false
 }
 
-// Whether any two of the first n entries have the same Key ID and reached values that differ.
+// Whether any two of the first `n` entries give one key two values.
 pub fn any_clash(entries: [Entry; WRAP_KEYS], cells: [Cell; WRAP_KEYS], n: usize) -> bool
     requires { ⌜ n ≤ limits .wrapKeys ⌝ }
     ensures { λ r. ⌜ Decides r (AnyClash entries cells n) ⌝ }
@@ -124,7 +125,7 @@ pub fn any_clash(entries: [Entry; WRAP_KEYS], cells: [Cell; WRAP_KEYS], n: usize
     false
 }
 
-// Whether one of the first n opened to a wrong size.
+// Whether one of the first `n` entries opened to a wrong size.
 pub fn any_wrong(cells: [Cell; WRAP_KEYS], n: usize) -> bool
     requires { ⌜ n ≤ limits .wrapKeys ⌝ }
     ensures { λ r. ⌜ Decides r (AnyWrong cells n) ⌝ }
@@ -140,7 +141,7 @@ pub fn any_wrong(cells: [Cell; WRAP_KEYS], n: usize) -> bool
     false
 }
 
-// Whether number 8 holds of the entries that these places and the cells of their search stand for.
+// Whether refusal 8 holds of the first `n` entries. `cells` are the cells of their search.
 pub fn entries_conflict(entries: [Entry; WRAP_KEYS], cells: [Cell; WRAP_KEYS], n: usize) -> bool
     requires { ⌜ n ≤ limits .wrapKeys ⌝ }
     ensures { λ r. ⌜ ((frame : List ℕ) (roots : List Root) (l : List WrapKey) (size : ℕ) → Lists frame entries n l →

@@ -1,4 +1,4 @@
-// What the copies of one SA open to, and how what is known of some is joined with what is known of others.
+// Opens one copy of an SA's key, and merges the results of several copies.
 use aes::InverseSchedule;
 use keywrap::WrapAnswer;
 use keywrap::open_under;
@@ -13,21 +13,21 @@ ghost use Rattle.unwrap_copies.specs.declared.answer.CopyFound.the-varia
 use aes::INVERSE_TABLE_WORDS;
 use state_keys::rooms::SA_OCTETS;
 
-// None opens; those that open open to one value of the right size; or number 8 holds.
+// `Nothing`: no copy opens. `Key`: some open, all of these to one value of the right size. `Conflict`: refusal 8 holds of the copies.
 pub enum CopyFound {
     Nothing,
     Key,
     Conflict,
 }
 
-// The value, with blanks behind its octets.
+// The result of opening copies. With `Key`, the value is the first `count` of `octets`, with blanks behind it.
 pub struct CopyOpened {
     pub found: CopyFound,
     pub octets: [u8; SA_OCTETS],
     pub count: usize,
 }
 
-// Nothing opened, or nothing was tried.
+// Answers that no copy opened, or that none was tried.
 pub(crate) fn nothing() -> CopyOpened
     ensures { λ r. ⌜ r .found ≡ found.Nothing ⌝ }
 {
@@ -38,6 +38,7 @@ pub(crate) fn nothing() -> CopyOpened
     }
 }
 
+// Answers that refusal 8 holds of the copies.
 fn conflict() -> CopyOpened
     ensures { λ r. ⌜ r .found ≡ found.Conflict ⌝ }
 {
@@ -48,7 +49,7 @@ fn conflict() -> CopyOpened
     }
 }
 
-// Two values, compared.
+// Merges two results with a value each. Two different values are a conflict.
 fn merge_values(a: CopyOpened, b: CopyOpened) -> CopyOpened
     requires { ⌜ (a .found ≡ found.Key) × (b .found ≡ found.Key) ⌝ }
     ensures { λ r. ⌜ ((need : ℕ) (l m : List Try) → CopyTells l need a → CopyTells m need b → CopyTells (l ++ m) need r) ⌝ }
@@ -61,7 +62,7 @@ fn merge_values(a: CopyOpened, b: CopyOpened) -> CopyOpened
     conflict()
 }
 
-// What is known of some and of others is what is known of them all.
+// Merges the results of two groups of copies. A conflict in either, or two different values, is a conflict.
 pub(crate) fn merge(a: CopyOpened, b: CopyOpened) -> CopyOpened
     ensures { λ r. ⌜ ((need : ℕ) (l m : List Try) → CopyTells l need a → CopyTells m need b → CopyTells (l ++ m) need r) ⌝ }
 {
@@ -78,7 +79,8 @@ pub(crate) fn merge(a: CopyOpened, b: CopyOpened) -> CopyOpened
     }
 }
 
-// Opens one copy's octets under the key whose schedule this is. Its size is that of what it opens to.
+// Opens the octets `wrapped` of one copy under the key of `schedule`. The size of a copy is that of the value it opens to: if this is not
+// `need`, the copy is a conflict.
 pub(crate) fn open_copy(
     tables: &[u32; INVERSE_TABLE_WORDS],
     schedule: InverseSchedule,

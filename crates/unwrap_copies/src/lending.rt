@@ -1,4 +1,5 @@
-// Keys, lent to every search for one of them: a list of Key IDs beside one block of octets, in places of one size.
+// Keys as they are lent to each search by Key ID: a list of Key IDs beside one block of octets. Each key has a place in the block, all of
+// one size.
 use state::held::Held;
 use state_keys::kinds::WrappingKey;
 use state_keys::limits::HELD_KEYS;
@@ -12,13 +13,13 @@ ghost use Rattle.state.specs.Held.{heldFormed};
 ghost use Rattle.state.specs.declared.held.HeldKey.{HeldKey};
 ghost use Rattle.unwrap_copies.specs.inner.Lending.{keyOctets, placeOctets, Lends, Rooms, LendsFirst, Puts, FirstAt, valueNamed};
 
-// A key's place in the block: its octet count, then the octets of its array.
+// The size of a key's place in the block: its octet count (one octet), then the octets of its array.
 pub const PLACE: usize = 1 + WrappingKey::KW_256;
 
-// The places of all held keys.
+// The size of a block with places for all held keys.
 pub const BLOCK: usize = PLACE * HELD_KEYS;
 
-// A key put into its place.
+// Puts `key` into its place in `block`, which starts at `at`.
 fn put(key: WrappingKey, at: usize, block: &mut [u8])
     requires { ⌜ at + placeOctets ≤ length (now block) ⌝ }
     requires { ⌜ key .count ≤ keyOctets ⌝ }
@@ -30,7 +31,7 @@ fn put(key: WrappingKey, at: usize, block: &mut [u8])
     bytes::copy(&octets, &mut block[start..]);
 }
 
-// The keys of a held list, to be lent: each Key ID and each key put into its place.
+// Writes the Key IDs of `held` to the start of `ids`, and its keys to the first places of `block`.
 pub fn lend_keys(held: Held, ids: &mut [u32], block: &mut [u8])
     requires { ⌜ heldFormed limits held ≡ true ⌝ }
     requires { ⌜ Rooms (now ids) (now block) ⌝ }
@@ -47,7 +48,7 @@ pub fn lend_keys(held: Held, ids: &mut [u32], block: &mut [u8])
     }
 }
 
-// The place of the first of these Key IDs that is `id`, or how many there are.
+// Finds the first of `ids` that equals `id`. Answers `ids.len()` if there is none.
 fn place_of(id: u32, ids: &[u32]) -> usize
     ensures { λ r. ⌜ FirstAt id (now (ids .entry)) r ⌝ }
 {
@@ -62,7 +63,7 @@ fn place_of(id: u32, ids: &[u32]) -> usize
     n
 }
 
-// The value of the lent key with this Key ID, a part of the block; no octets where none has it.
+// Finds the value of the lent key with the Key ID `id`, a part of `block`. Answers no octets if there is none.
 pub(crate) fn key_named<'a>(id: u32, ids: &[u32], block: &'a [u8]) -> &'a [u8]
     requires { ⌜ ((keys : List HeldKey) × Lends keys (now ids) (now block)) ⌝ }
     ensures { λ r. ⌜ ((keys : List HeldKey) → Lends keys (now (ids .entry)) (now (block .entry)) → now r ≡ valueNamed id keys) ⌝ }

@@ -1,5 +1,5 @@
-// The copies of an announced SA, its SA_KEY attributes, opened under the keys that their KWK IDs name. They are gone through once, and
-// each copy is opened at most once. A key that two copies name is expanded twice.
+// Opens the copies of an announced SA (its SA_KEY attributes) under the keys that their KWK IDs name, in one pass. Each copy is opened at
+// most once. The schedule of key 0 is given; the schedule of another key is expanded once for each copy that names it.
 // Internal: crates of this repository alone call it.
 pub mod answer;
 pub mod lending;
@@ -40,7 +40,8 @@ use aes::INVERSE_TABLE_WORDS;
 use ikev2_numbers::KWK_ID_AT;
 use ikev2_numbers::WRAPPED_AT;
 
-// What one copy, the value of a SA_KEY, opens to under the key that its KWK ID names: key 0, whose schedule this is, or a lent one.
+// Opens one copy, the value of an SA_KEY, under the key that its KWK ID names: key 0, whose schedule is `schedule`, or a key that `ids`
+// and `block` lend. A copy that names no such key is not tried.
 fn try_copy(
     copy: &[u8],
     need: usize,
@@ -67,8 +68,8 @@ fn try_copy(
     open_copy(tables, expand_inverse(tables, key), wrapped, need)
 }
 
-// What the copies of one announced SA open to: `a` are the attributes of its Group Key Bag, `need` the octets that its policy needs, the
-// schedule is key 0's, and the other keys that a KWK ID can name are lent.
+// Opens the copies of one announced SA. `a` are the attributes of its Group Key Bag, `place` is the sort of that bag, and `need` is the
+// octet count that its policy needs. `schedule` is that of key 0; `ids` and `block` lend the other keys that a KWK ID can name.
 pub fn copies(
     place: Place,
     a: &[u8],

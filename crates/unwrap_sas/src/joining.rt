@@ -1,4 +1,4 @@
-// What is known of the keys of all SAs, and of one.
+// Makes the SA of one policy. The results: for one SA, and for all SAs of a frame.
 ghost use mathlib.Core.Path.{_≡_};
 ghost use mathlib.Core.List.{List};
 ghost use Prim.Native.Nat.{ℕ, _+_};
@@ -18,27 +18,28 @@ use state_sa::entry::Lifetime;
 use state_sa::entry::Sa;
 use unwrap_copies::answer::CopyOpened;
 
-// Number 8 holds of the copies of some SA; some SA has no copy that opens; or each has its key.
+// `KeyConflict`: refusal 8 holds of the copies of some SA. `KeyMissing`: it holds of none, but some SA has no copy that opens (refusal 9).
+// `Keys`: each SA has its key.
 pub enum SasFound {
     KeyConflict,
     KeyMissing,
     Keys,
 }
 
-// What is known of the copies of all SAs, and the new SAs, as many as the count says.
+// The result for all SAs that a frame announces. With `Keys`, the new SAs are the first `count` of `sas`.
 pub struct Keyed {
     pub found: SasFound,
     pub sas: [Sa; SAS],
     pub count: usize,
 }
 
-// What the copies of one SA open to, and the SA where they give its key.
+// The result for one SA. With `Key`, `sa` is the SA; else it is blank.
 pub struct One {
     pub found: unwrap_copies::answer::CopyFound,
     pub sa: Sa,
 }
 
-// An answer with no SA.
+// Makes a result with a blank SA.
 fn one_without(found: unwrap_copies::answer::CopyFound) -> One
     ensures { λ r. ⌜ r .found ≡ found ⌝ }
 {
@@ -46,8 +47,8 @@ fn one_without(found: unwrap_copies::answer::CopyFound) -> One
     One { found, sa }
 }
 
-// The SA of a policy with this protocol, SPI and lifetime. Its keying octets are the first of these, as many as its transforms need. Those
-// of a Rekey SA are cut in two behind the encryption key.
+// Makes the SA of a policy with this `protocol`, `spi` and `lifetime`. Its keying octets are the first `encryption + wrapping` of `octets`,
+// as many as its transforms need. Those of a Rekey SA are cut in two behind the encryption key.
 fn sa_from(
     protocol: usize,
     spi: &[u8],
@@ -69,7 +70,8 @@ fn sa_from(
     Sa::rekey(spi, k.key, lifetime)
 }
 
-// The SA of a policy with this name, these needs and this lifetime, by what its copies open to.
+// Makes the result for one SA, out of the result `one` of its copies. Its policy has this `protocol`, `spi` and `lifetime`, and its
+// transforms need `encryption` and `wrapping` octets.
 pub fn one_sa(
     one: CopyOpened,
     protocol: usize,

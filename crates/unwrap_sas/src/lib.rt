@@ -1,4 +1,5 @@
-// The keys of the SAs that a frame announces: number 8 of their copies, number 9, or the new SAs. Numbers 2 to 7 have been judged before.
+// Opens the keys of the SAs that a frame announces: the result is refusal 8 (of their copies), refusal 9, or the new SAs. Refusals 2 to 7
+// were judged before.
 // Internal: crates of this repository alone call it.
 pub mod joining;
 pub mod lifetime;
@@ -51,7 +52,7 @@ ghost use Rattle.unwrap_sas.specs.inner.Policies.{OpeningKeys, spiAt, bo
 use aes::INVERSE_TABLE_WORDS;
 use ikev2_numbers::POLICY_HEAD;
 
-// What the copies of the SA with this name open to, those of its bag.
+// Opens the copies of the SA that `protocol` and `spi` name. They stand in its bag of the KD body `kd`, and must open to `need` octets.
 fn open_copies(
     protocol: usize,
     spi: &[u8],
@@ -85,7 +86,8 @@ fn open_copies(
     )
 }
 
-// The SA whose policy has this name and holds x after its SPI, in a frame of the tick.
+// Makes the SA that `protocol` and `spi` name, out of its policy and its copies. `x` is what the policy holds after its SPI, `kd` is the KD
+// body, and the lifetime starts at `tick`.
 fn with_policy(
     protocol: usize,
     spi: &[u8],
@@ -114,7 +116,8 @@ fn with_policy(
     one_sa(one, protocol, spi, e, w, t)
 }
 
-// Opens the keys of the SA whose policy starts at `at` of the GSA body `g` and has the parts `p`, in a frame of the tick.
+// Makes the SA of the policy that starts at `at` of the GSA body `g` and has the parts `p`. Its copies stand in the KD body `k`, and its
+// lifetime starts at `tick`.
 fn open_policy_at(
     g: &[u8],
     at: usize,
@@ -151,7 +154,7 @@ fn open_policy_at(
     )
 }
 
-// The answer where number 8 holds of no SA. With `missing` no copy of some SA opens.
+// Answers what was found if refusal 8 holds of no SA. `missing`: no copy of some SA opens (refusal 9).
 fn found_by(missing: bool) -> SasFound
     ensures { λ r. ⌜ r ≡ foundBy missing ⌝ }
 {
@@ -161,7 +164,8 @@ fn found_by(missing: bool) -> SasFound
     SasFound::Keys
 }
 
-// Opens the keys of all SAs that a frame announces, as `open_sas` does, with the schedule of key 0 and the held keys as they are lent.
+// Opens the keys of all SAs that a frame announces, as `open_sas` does. `schedule` is that of key 0; `ids` and `block` lend the held keys.
+// A conflict ends the walk. A missing key does not, because a later SA may conflict and refusal 8 comes before 9.
 fn walk_policies(
     gsa: &[u8],
     kd: &[u8],
@@ -211,7 +215,7 @@ fn walk_policies(
     Keyed { found, sas, count }
 }
 
-// The same as `open_sas`, with the held keys as they are lent.
+// Opens the keys of all SAs that a frame announces, as `open_sas` does. `zero` is key 0; `ids` and `block` lend the held keys.
 fn under_lent(
     gsa: &[u8],
     kd: &[u8],
@@ -243,9 +247,8 @@ fn under_lent(
     )
 }
 
-// What the copies of all SAs that a frame announces open to: `gsa` is its GSA body, `kd` its KD body, `zero` key 0, and the other keys that
-// a
-// KWK ID can name are held; the new SAs start at the tick.
+// Opens the keys of all SAs that a frame announces. `gsa` is its GSA body, `kd` its KD body, `zero` is key 0, and `held` has the other keys
+// that a KWK ID can name. The lifetimes of the new SAs start at `tick`.
 pub fn open_sas(gsa: &[u8], kd: &[u8], zero: WrappingKey, held: Held, tick: u32) -> Keyed
     requires { ⌜ isWhole (policies 0 (now gsa)) ≡ true ⌝ }
     requires { ⌜ isWhole (bags 0 (now kd)) ≡ true ⌝ }

@@ -1,4 +1,4 @@
-// The lifetime of an SA that a policy announces.
+// Reads the lifetime of an SA from its policy.
 ghost use mathlib.Core.Path.{_≡_};
 ghost use mathlib.Core.Bool.{false};
 ghost use Rattle.wire_attributes.specs.Place.{inPolicy};
@@ -11,7 +11,8 @@ use check_composition::numbers::numbers_of;
 use state_sa::entry::Lifetime;
 use wire_attributes::tables::Meaning;
 
-// From a tick on, by a Group SA policy of a protocol that holds this after its SPI.
+// Reads the lifetime, from `tick` on, of the SA of a Group SA policy of `protocol`. `x` is what the policy holds after its SPI. Without a
+// GSA_KEY_LIFETIME the lifetime is unlimited.
 pub fn of_policy(protocol: usize, x: &[u8], tick: u32) -> Lifetime
     requires { ⌜ ((b : SaBody) × IsSaBody (inPolicy protocol) (now x) b × (several (lifetimesOf protocol b) ≡ false)) ⌝ }
     ensures { λ r. ⌜

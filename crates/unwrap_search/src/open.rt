@@ -1,4 +1,4 @@
-// An entry of the frame, and what opening it under one key makes of it.
+// Entries (WRAP_KEYs of a frame), and the opening of one entry under one key.
 use aes::InverseSchedule;
 use keywrap::WrapAnswer;
 use keywrap::open_under;
@@ -17,7 +17,7 @@ ghost use Rattle.unwrap_search.specs.inner.Opened.{Landed, Tried, noCell
 use aes::INVERSE_TABLE_WORDS;
 use state_keys::rooms::WRAPPING_KEY;
 
-// A wrapped key of the frame: its Key ID, its KWK ID, and where its wrapped octets stand.
+// A wrapped key: its Key ID, its KWK ID, and where its wrapped octets stand, from `start` up to `end`.
 pub struct Entry {
     pub id: u32,
     pub kwk: u32,
@@ -25,8 +25,8 @@ pub struct Entry {
     pub end: usize,
 }
 
-// What became of an entry: no key that it names is known; it did not open; it opened to a wrong size; it opened, and its own key is yet to
-// be tried on the others, or was.
+// What became of an entry. `Waiting`: its wrapping key is not known. `Failed`: it did not open. `Wrong`: it opened to a wrong size.
+// `Pending`: it opened, and its own key is yet to be tried on the other entries. `Done`: it opened, and its own key was tried.
 pub enum Status {
     Waiting,
     Failed,
@@ -35,11 +35,13 @@ pub enum Status {
     Done,
 }
 
+// What the search knows of an entry: its status and, if that is `Pending` or `Done`, the key that it opened to; else a blank key.
 pub struct Cell {
     pub status: Status,
     pub key: WrappingKey,
 }
 
+// Whether the entry of `c` was not opened yet.
 pub(crate) fn waits(c: Cell) -> bool
     ensures { λ r. ⌜ r ≡ waiting (c .status) ⌝ }
 {
@@ -53,6 +55,7 @@ pub(crate) fn waits(c: Cell) -> bool
     }
 }
 
+// Whether the key of `c` is yet to be tried on the entries.
 pub(crate) fn pends(c: Cell) -> bool
     ensures { λ r. ⌜ r ≡ pending (c .status) ⌝ }
 {
@@ -66,7 +69,7 @@ pub(crate) fn pends(c: Cell) -> bool
     }
 }
 
-// The cell of an entry of which nothing is known yet.
+// Answers the cell of an entry that was not opened yet.
 pub(crate) fn blank() -> Cell
     ensures { λ r. ⌜ r ≡ noCell ⌝ }
 {
@@ -80,7 +83,7 @@ pub(crate) fn blank() -> Cell
     }
 }
 
-// Opens an entry's octets under the key whose schedule this is; a wrapping key must have `size` octets.
+// Opens the octets `wrapped` of an entry under the key of `schedule`. If they open to other than `size` octets, the cell is `Wrong`.
 pub(crate) fn open_entry(
     tables: &[u32; INVERSE_TABLE_WORDS],
     schedule: InverseSchedule,
@@ -120,7 +123,7 @@ pub(crate) fn open_entry(
     }
 }
 
-// Whether the entry waits for the key `id`.
+// Whether the entry `e`, whose cell is `c`, waits for the key `id`.
 pub(crate) fn names(id: u32, e: Entry, c: Cell) -> bool
     ensures { λ r. ⌜ r ≡ naming id e c ⌝ }
 {
@@ -130,7 +133,7 @@ pub(crate) fn names(id: u32, e: Entry, c: Cell) -> bool
     false
 }
 
-// The entry's cell after the key `id`, whose schedule this is, was tried on it.
+// Opens the entry `e` under the key `id`, whose schedule is `schedule`, if it waits for that key. Answers its cell afterwards.
 pub(crate) fn try_on_entry(
     frame: &[u8],
     tables: &[u32; INVERSE_TABLE_WORDS],

@@ -1,5 +1,5 @@
-// The search: which entries a chain from key 0 leads to. Each entry is opened at most once, wherever it stands, and each key's schedule is
-// expanded once, and only if an entry that waits names it.
+// Searches for the entries that chains from key 0 lead to. Each entry is opened at most once, in whatever order the entries stand. The
+// schedule of a key is expanded at most once, and only if a waiting entry names the key.
 use crate::open::Cell;
 use crate::open::Entry;
 use crate::open::Status;
@@ -27,12 +27,13 @@ ghost use Rattle.state_keys.specs.Kinds.{valueOf};
 ghost use Rattle.unwrap_search.specs.inner.Search.{AllTried, Unnamed, Finds, Searched, keyZeroRoots};
 use aes::INVERSE_TABLE_WORDS;
 
+// The place of a pending cell, or `Nothing` if no cell is pending.
 pub enum PendingFound {
     At(usize),
     Nothing,
 }
 
-// Whether an entry that waits names the key.
+// Whether one of the first `n` entries waits for the key `id`.
 fn is_named(id: u32, entries: [Entry; WRAP_KEYS], cells: [Cell; WRAP_KEYS], n: usize) -> bool
     requires { ⌜ n ≤ limits .wrapKeys ⌝ }
     ensures { λ r. ⌜ (r ≡ false → Unnamed id entries cells n) ⌝ }
@@ -49,7 +50,8 @@ fn is_named(id: u32, entries: [Entry; WRAP_KEYS], cells: [Cell; WRAP_KEYS], n: u
     false
 }
 
-// The cells after the key whose schedule this is was tried on each.
+// Tries the key `id`, whose schedule is `schedule`, on the first `n` entries. Answers the cells afterwards. `size` is the octet count that
+// a wrapping key must have.
 fn try_on_all(
     frame: &[u8],
     tables: &[u32; INVERSE_TABLE_WORDS],
@@ -78,7 +80,8 @@ fn try_on_all(
     out
 }
 
-// The cells after the key `id` was tried on each; its schedule is expanded only if an entry that waits names it.
+// Tries `key`, of Key ID `id`, on the first `n` entries. Answers the cells afterwards. The schedule is expanded only if a waiting entry
+// names the key.
 fn try_key(
     frame: &[u8],
     tables: &[u32; INVERSE_TABLE_WORDS],
@@ -104,7 +107,7 @@ fn try_key(
     cells
 }
 
-// A cell whose key is yet to be tried.
+// Finds the first of the `n` cells whose key is yet to be tried on the entries.
 fn first_pending(cells: [Cell; WRAP_KEYS], n: usize) -> PendingFound
     requires { ⌜ n ≤ limits .wrapKeys ⌝ }
     ensures { λ r. ⌜ Finds cells n r ⌝ }
@@ -120,7 +123,7 @@ fn first_pending(cells: [Cell; WRAP_KEYS], n: usize) -> PendingFound
     PendingFound::Nothing
 }
 
-// What becomes of each entry when the chains start with the lent key as key 0.
+// Opens the first `n` entries along the chains that start with `lent` as key 0. Answers the cell of each entry.
 pub fn search(
     frame: &[u8],
     lent: WrappingKey,

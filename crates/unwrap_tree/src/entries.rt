@@ -1,4 +1,4 @@
-// The WRAP_KEYs of a KD body. They stand in its Member Key Bag alone, whose place is among the facts of the frame.
+// Reads the WRAP_KEYs of a KD body. They stand in its Member Key Bag alone; the facts of the frame say where that bag is.
 use state_keys::limits::WRAP_KEYS;
 use unwrap_search::open::Entry;
 use wire_attributes::attribute_value;
@@ -20,12 +20,13 @@ ghost use Rattle.unwrap_tree.specs.inner.Entries.{HoldsEntries};
 use ikev2_numbers::KWK_ID_AT;
 use ikev2_numbers::WRAPPED_AT;
 
-// Where WRAP_KEYs stand: the first `count` places.
+// A list of WRAP_KEYs: the first `count` of `places`.
 pub struct Listing {
     pub places: [Entry; WRAP_KEYS],
     pub count: usize,
 }
 
+// Answers the entry that fills the array behind the last WRAP_KEY.
 fn blank() -> Entry
     ensures { λ r. ⌜ r ≡ noEntry ⌝ }
 {
@@ -37,7 +38,7 @@ fn blank() -> Entry
     }
 }
 
-// The entry whose attribute has this value, which ends at e.
+// Reads the entry of a WRAP_KEY attribute. `v` is the value of the attribute, and it ends at the offset `e` of the KD body.
 fn entry(v: &[u8], e: usize) -> Entry
     requires { ⌜ (8 ≤ length (now v)) × (length (now v) ≤ e) ⌝ }
     ensures { λ r. ⌜ ((k : List ℕ) → e ≤ length k → now (v .entry) ≡ part k (e - length (now (v .entry))) e
@@ -53,7 +54,7 @@ fn entry(v: &[u8], e: usize) -> Entry
     }
 }
 
-// The WRAP_KEYs of a KD body whose Member Key Bag has its attributes there, in their order.
+// Reads the WRAP_KEYs of the KD body `kd` in their order. The attributes of its Member Key Bag stand in the stretch `bag`.
 pub fn entries(kd: &[u8], bag: Stretch) -> Listing
     requires { ⌜ HoldsEntries (now kd) bag ⌝ }
     requires { ⌜ length (wrapKeysIn (now kd)) ≤ limits .wrapKeys ⌝ }

@@ -1,4 +1,4 @@
-// The keys that a search reached, as a held list.
+// Makes a held list of the keys that a search reached.
 use state::held::Held;
 use state::held::HeldKey;
 use state_keys::limits::WRAP_KEYS;
@@ -20,13 +20,14 @@ ghost use Rattle.unwrap_search.specs.inner.Entries.{Lists};
 ghost use Rattle.unwrap_search.specs.inner.Search.{Searched, Nonzero};
 ghost use Rattle.unwrap_tree.specs.inner.Joins.{Joins};
 
-// Whether number 8 holds of the entries; if not, the keys that they reach.
+// Whether refusal 8 holds of the entries, and the keys that they reach. With a conflict the list is empty.
 pub struct ReachedKeys {
     pub conflict: bool,
     pub held: Held,
 }
 
-// The list with the key of an entry that was reached. Two entries may give one key; they give it one value where number 8 does not hold.
+// Adds the key of the entry `e`, whose cell is `c`, to `held`, if the entry was reached and its Key ID is not in the list. Two entries may
+// give one key; where refusal 8 does not hold, they give it one value.
 fn with_cell(held: Held, e: Entry, c: Cell) -> Held
     ensures { λ r. ⌜ Joins e c held r ⌝ }
 {
@@ -42,7 +43,7 @@ fn with_cell(held: Held, e: Entry, c: Cell) -> Held
     held
 }
 
-// The keys that the entries of these places reach, by the cells of their search.
+// Makes the held list of the keys that the first `n` entries reach. `cells` are the cells of their search.
 pub fn held_of(entries: [Entry; WRAP_KEYS], cells: [Cell; WRAP_KEYS], n: usize) -> Held
     requires { ⌜ n ≤ limits .wrapKeys ⌝ }
     ensures { λ r. ⌜ ((frame : List ℕ) (roots : List Root) (l : List WrapKey) (size : ℕ) → Lists frame entries n l →

@@ -1,4 +1,4 @@
-// The keys that a registration's WRAP_KEYs reach: from a KD body to number 8 of the entries, or to the held list.
+// Finds the keys that the WRAP_KEYs of a registration's KD body reach: the held list, or refusal 8 of these entries.
 // Internal: crates of this repository alone call it.
 pub mod entries;
 pub mod held;
@@ -19,8 +19,9 @@ ghost use Rattle.unwrap_search.specs.inner.Search.{Nonzero, keyZeroRoots};
 ghost use Rattle.unwrap_tree.specs.inner.Reached.{wrapKeysIn, TreeAnswers};
 ghost use Rattle.unwrap_tree.specs.inner.Entries.{HoldsEntries};
 
-// What the WRAP_KEYs of a KD body reach with the lent key as key 0; they stand in the stretch. Numbers 4 to 7 come before: there is one
-// Member Key Bag at most, the lent key has a wrapping key's size, no WRAP_KEY has Key ID 0, and there are no more than the limit.
+// Finds the keys that the WRAP_KEYs of the KD body `kd` reach with `lent` as key 0. The WRAP_KEYs stand in the stretch `bag` of `kd`.
+// Refusals 4 to 7 were judged before: there is at most one Member Key Bag, `lent` has the size of a wrapping key, no WRAP_KEY has Key ID 0,
+// and the WRAP_KEYs are within their limit.
 pub fn reach_keys(kd: &[u8], bag: Stretch, lent: WrappingKey) -> ReachedKeys
     requires { ⌜ HoldsEntries (now kd) bag ⌝ }
     requires { ⌜ length (wrapKeysIn (now kd)) ≤ limits .wrapKeys ⌝ }

@@ -1,4 +1,4 @@
-// FIPS 197: appendices A, B and C.
+// Prints the vectors of FIPS 197: appendices A, B and C.
 ghost use Prim.Native.Nat.{_<_};
 ghost use lib.Dec.{T};
 ghost use lib.ListN.{length};
@@ -15,7 +15,7 @@ fn print_line(kind: &[u8], name: &[u8], octets: &[u8]) {
     print_last(octets);
 }
 
-// A round key of the equivalent inverse cipher.
+// Prints round key `r` of the equivalent inverse cipher.
 fn print_inverse_key(name: &[u8], schedule: &[u32; 61], r: usize)
     requires { ⌜ r < 15 ⌝ }
 {
@@ -25,7 +25,7 @@ fn print_inverse_key(name: &[u8], schedule: &[u32; 61], r: usize)
     print_last(&aes::inverse_round_key(schedule, r));
 }
 
-// Nr.
+// Answers Nr, the number of rounds for `key`.
 fn rounds_of(key: &[u8]) -> usize
     requires { ⌜ T (isKey (length (now key))) ⌝ }
     ensures { λ r. ⌜ r < 15 ⌝ }
@@ -33,8 +33,8 @@ fn rounds_of(key: &[u8]) -> usize
     key.len() / 4 + 6
 }
 
-// The cipher of a block, the inverse cipher of what it gave, and the round keys of the equivalent inverse cipher before its rounds, of the
-// first round and of the last.
+// Prints the cipher of `block`, the inverse cipher of what it gave, and three round keys of the equivalent inverse cipher: the one before
+// its rounds, that of the first round and that of the last.
 fn both_ways(name: &[u8], key: &[u8], block: [u8; 16])
     requires { ⌜ T (isKey (length (now key))) ⌝ }
 {
@@ -51,7 +51,7 @@ fn both_ways(name: &[u8], key: &[u8], block: [u8; 16])
     print_inverse_key(name, &inverse.words, rounds_of(key));
 }
 
-// The last word of a key's expansion.
+// Prints the last word of the expansion of `key`.
 fn expansion(name: &[u8], key: &[u8])
     requires { ⌜ T (isKey (length (now key))) ⌝ }
 {
@@ -60,7 +60,7 @@ fn expansion(name: &[u8], key: &[u8])
     print_line(b"expansion ", name, &word);
 }
 
-// Appendices B and C.1 to C.3.
+// Prints appendices B and C.1 to C.3.
 pub(crate) fn ciphers() {
     both_ways(
         b"B",
@@ -84,7 +84,7 @@ pub(crate) fn ciphers() {
     );
 }
 
-// Appendices A.1 to A.3.
+// Prints appendices A.1 to A.3.
 pub(crate) fn expansions() {
     expansion(
         b"A.1",

@@ -1,4 +1,4 @@
-// Wrapping and opening by RFC 5649: its own examples, and every kind of octet count.
+// Wraps and opens by RFC 5649: its own examples, and every kind of octet count.
 use crate::inputs::LENT;
 use crate::inputs::first;
 use crate::inputs::key;
@@ -18,13 +18,14 @@ fn print_written(answer: WrapAnswer, room: &[u8]) {
     }
 }
 
+// Prints what `octets` wrap to.
 fn print_wrapped(key: &[u8], octets: &[u8]) {
     let mut room = [LENT; 264];
     let answer = keywrap::wrap(key, octets, &mut room);
     print_written(answer, &room);
 }
 
-// What the wrapping of these octets opens to.
+// Prints what the wrapping of `octets` opens to.
 fn print_opened(key: &[u8], octets: &[u8]) {
     let mut wrapped = [LENT; 264];
     let wrapping = keywrap::wrap(key, octets, &mut wrapped);
@@ -42,7 +43,7 @@ fn example(octets: &[u8]) {
     print_opened(key, octets);
 }
 
-// RFC 5649, section 6.
+// Prints the examples of RFC 5649, section 6.
 pub(crate) fn published() {
     example(b"\xc3\x7b\x7e\x64\x92\x58\x43\x40\xbe\xd1\x22\x07\x80\x89\x41\x15\x50\x68\xf7\x38");
     example(b"ForPasi");
@@ -67,6 +68,7 @@ fn both_ways_each(size: usize, counts: &[usize]) {
     }
 }
 
+// Wraps and opens each of the counts under a key of `size` octets.
 pub(crate) fn counts(size: usize) {
     both_ways_each(size, &COUNTS);
 }

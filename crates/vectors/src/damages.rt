@@ -1,4 +1,4 @@
-// Wrappings of 20 octets, damaged, which must not open.
+// Opens wrappings of 20 octets, damaged, which must not open.
 use crate::inputs::first;
 use crate::inputs::key;
 use crate::inputs::wrapped_20;
@@ -14,7 +14,7 @@ fn damage(size: usize, kind: &[u8], key: &[u8], wrapped: &[u8]) {
     refused_open(key, wrapped);
 }
 
-// Damages that are done to a wrapping or its key.
+// Opens a wrapping that was damaged afterwards: a bit of it or of its key flipped, or its end cut off.
 fn altered(size: usize) {
     let key_octets = key(size);
     let wrapped = wrapped_20(size);
@@ -32,8 +32,9 @@ fn altered(size: usize) {
     );
 }
 
-// Damages that are done before the wrapping. These octets were made by wrapping the 20 octets after another initial value or before
-// another padding: a constant that ends in a7, the count 16, the count 25, a padding that ends in 1.
+// Opens what was damaged before the wrapping. These octets were made by wrapping the 20 octets after another initial value or before
+// another padding: a constant that ends in a7 (`constant`), the count 16 (`small`), the count 25 (`large`), a padding that ends in 1
+// (`padding`).
 fn initial(size: usize, constant: &[u8], small: &[u8], large: &[u8], padding: &[u8]) {
     let key_octets = key(size);
     damage(size, b" constant ", first(&key_octets, size), constant);
@@ -42,6 +43,7 @@ fn initial(size: usize, constant: &[u8], small: &[u8], large: &[u8], padding: &[
     damage(size, b" padding ", first(&key_octets, size), padding);
 }
 
+// Opens all damaged wrappings, under keys of 16, 24 and 32 octets.
 pub(crate) fn damages() {
     initial(
         16,

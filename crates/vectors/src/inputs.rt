@@ -1,12 +1,12 @@
-// Keys and octets by a rule, and parts of them.
+// Makes keys and octets by a rule, and takes parts of them.
 ghost use mathlib.Core.Path.{_≡_};
 ghost use lib.ListN.{length};
 use keywrap::WrapAnswer;
 
-// What a room holds when it is lent.
+// The octet that a room is full of when it is lent.
 pub(crate) const LENT: u8 = 0xee;
 
-// start + step i modulo 256, for i from 0 on.
+// Answers the octets start + step i modulo 256, for i from 0 on.
 pub(crate) fn sequence(start: usize, step: u8) -> [u8; 272]
     ensures { λ r. ⌜ 272 ≡ length r ⌝ }
 {
@@ -21,21 +21,21 @@ pub(crate) fn sequence(start: usize, step: u8) -> [u8; 272]
     octets
 }
 
-// A key of `size` octets is the start of this.
+// Answers octets that start with the key of `size` octets.
 pub(crate) fn key(size: usize) -> [u8; 272]
     ensures { λ r. ⌜ 272 ≡ length r ⌝ }
 {
     sequence(size, 7)
 }
 
-// The `count` octets to wrap are the start of this.
+// Answers octets that start with the `count` octets to wrap.
 pub(crate) fn plain(count: usize) -> [u8; 272]
     ensures { λ r. ⌜ 272 ≡ length r ⌝ }
 {
     sequence(count, 13)
 }
 
-// The first n, or all where there are fewer.
+// Answers the first `n` octets, or all where there are fewer.
 pub(crate) fn first(octets: &[u8], n: usize) -> &[u8] {
     if n <= octets.len() {
         &octets[0..n]
@@ -44,7 +44,7 @@ pub(crate) fn first(octets: &[u8], n: usize) -> &[u8] {
     }
 }
 
-// What a call that gave this answer wrote at the room's start.
+// Answers what a call with this `answer` wrote to the start of `room`.
 pub(crate) fn written(answer: WrapAnswer, room: &[u8]) -> &[u8] {
     match answer {
         WrapAnswer::No => first(room, 0),
@@ -52,7 +52,7 @@ pub(crate) fn written(answer: WrapAnswer, room: &[u8]) -> &[u8] {
     }
 }
 
-// What the first 20 octets of `plain(20)` wrap to under a key of `size` octets.
+// Wraps the first 20 octets of `plain(20)` under a key of `size` octets.
 pub(crate) fn wrapped_20(size: usize) -> [u8; 32] {
     let octets = plain(20);
     let key_octets = key(size);

@@ -1,4 +1,4 @@
-// Prints the published vectors of FIPS 197 and RFC 5649 and further cases of wrapping and opening, one line a case. `vectors random`:
+// Prints the published vectors of FIPS 197 and RFC 5649 and further cases of wrapping and opening, one line a case. `vectors random` prints
 // 10,000 keys and blocks by a rule, enciphered and deciphered.
 mod blocks;
 mod counts;

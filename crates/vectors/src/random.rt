@@ -1,4 +1,4 @@
-// Keys of all sizes and blocks from a generator, enciphered and deciphered, for a comparison with other programs.
+// Enciphers and deciphers blocks from a generator under keys of all sizes, for a comparison with other programs.
 ghost use lib.Dec.{T};
 ghost use lib.ListN.{length};
 ghost use Rattle.fips197.specs.Key.{isKey};
@@ -12,20 +12,20 @@ const COUNT: usize = 10000;
 
 const SEED: u64 = 0x9e3779b97f4a7c15;
 
-// The number after x: xorshift with the shifts 13, 7 and 17.
+// Answers the number after `x`: xorshift with the shifts 13, 7 and 17.
 fn next(x: u64) -> u64 {
     let a = x ^ (x << 13);
     let b = a ^ (a >> 7);
     b ^ (b << 17)
 }
 
-// Octets of a key and of a block, and the generator's number behind them.
+// Octets for a key and a block, and the generator's number behind them.
 struct Drawn {
     octets: [u8; 48],
     state: u64,
 }
 
-// The lowest octets of the numbers after x.
+// Draws 48 octets: the lowest octet of each number after `x`.
 fn draw(x: u64) -> Drawn {
     let mut octets = [0u8; 48];
     let mut state = x;
@@ -38,7 +38,7 @@ fn draw(x: u64) -> Drawn {
     Drawn { octets, state }
 }
 
-// A key and a block, the block's cipher and its inverse cipher.
+// Prints a key and a block, the block's cipher and its inverse cipher.
 fn print_blocks(key: &[u8], block: [u8; 16])
     requires { ⌜ T (isKey (length (now key))) ⌝ }
 {
@@ -56,7 +56,7 @@ fn print_blocks(key: &[u8], block: [u8; 16])
     print_last(&aes::decrypt(&inverse_tables, &inverse.words, block));
 }
 
-// The key is the first 16, 24 or 32 octets, the block the last 16.
+// Prints the blocks of one turn. The key is the first 16, 24 or 32 octets by `turn`, the block the last 16.
 fn print_sized(turn: usize, octets: [u8; 48]) {
     let kind = turn % 3;
     let block = block_of(be64_at(&octets, 32), be64_at(&octets, 40));
@@ -71,6 +71,7 @@ fn print_sized(turn: usize, octets: [u8; 48]) {
     print_blocks(&octets[0..32], block);
 }
 
+// Prints the blocks of all turns.
 pub(crate) fn random() {
     let mut x = SEED;
     let mut turn = 0;

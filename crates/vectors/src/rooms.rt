@@ -1,4 +1,4 @@
-// Rooms that are too small by one, exact, and larger than needed, for 20 octets. What the room holds after the call is printed whole.
+// Wraps and opens 20 octets into rooms that are too small by one, exact, and larger than needed. Prints the whole room after each call.
 use crate::inputs::LENT;
 use crate::inputs::first;
 use crate::inputs::key;
@@ -32,6 +32,7 @@ fn open_into(size: usize, room: &mut [u8]) {
     print_line(size, b" open ", answer, room);
 }
 
+// Tries all rooms under a key of `size` octets.
 pub(crate) fn rooms(size: usize) {
     wrap_into(size, &mut [LENT; 31]);
     wrap_into(size, &mut [LENT; 32]);

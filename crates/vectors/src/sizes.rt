@@ -1,4 +1,4 @@
-// Keys, octets and wrappings of a size that is answered with "no".
+// Tries keys, octets and wrappings of sizes that are answered with "no".
 use crate::inputs::first;
 use crate::inputs::key;
 use crate::inputs::plain;
@@ -8,6 +8,7 @@ use crate::refusals::refused_open;
 use crate::refusals::refused_wrap;
 use crate::text::print_case;
 
+// Wraps and opens under a key of `size` octets.
 fn key_size(size: usize) {
     let key_octets = key(size);
     let octets = plain(20);
@@ -18,6 +19,7 @@ fn key_size(size: usize) {
     refused_open(first(&key_octets, size), &wrapped);
 }
 
+// Wraps `count` octets.
 fn octet_count(count: usize) {
     let key_octets = key(16);
     let octets = plain(count);
@@ -25,6 +27,7 @@ fn octet_count(count: usize) {
     refused_wrap(first(&key_octets, 16), first(&octets, count));
 }
 
+// Opens a wrapping of `count` octets.
 fn wrapped_count(count: usize) {
     let key_octets = key(16);
     let octets = sequence(0, 1);
@@ -52,6 +55,7 @@ fn wrapped_counts() {
     wrapped_count(272);
 }
 
+// Tries all these sizes.
 pub(crate) fn sizes() {
     key_sizes();
     octet_count(0);

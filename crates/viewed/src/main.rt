@@ -1,5 +1,5 @@
-// Walks through views of policies by the calls of `wire_view`: twice through each, by steps and by the calls that a step puts into one.
-// Prints for each walk a word for each selector, transform and attribute, and how many it came by.
+// Walks through views of policies by the calls of `wire_view`: twice through each, by `shown_step` and by the calls that a step puts into
+// one. Prints for each walk a word for each selector, transform and attribute, and how many it came by.
 use libc::STDOUT_FILENO;
 use wire_view::items::Item;
 
@@ -7,7 +7,7 @@ fn print(text: &[u8]) {
     io::write_all(STDOUT_FILENO, text);
 }
 
-// Prints a word for what stands at a cursor. Answers whether anything does.
+// Prints a word for `item`. Answers whether there is one.
 fn named(item: Item) -> bool {
     match item {
         Item::Selector { .. } => print(b"selector "),
@@ -20,6 +20,7 @@ fn named(item: Item) -> bool {
     true
 }
 
+// Walks through the policy `s` by `shown_step`. Answers how many items it came by.
 fn by_steps(s: &[u8]) -> usize {
     let mut n = 0;
     let mut at = 0;
@@ -35,6 +36,7 @@ fn by_steps(s: &[u8]) -> usize {
     n
 }
 
+// Walks through the policy `s` by `shown_end`, `shown` and `shown_next`. Answers how many items it came by.
 fn by_moves(s: &[u8]) -> usize {
     let mut n = 0;
     let mut at = 0;
@@ -54,6 +56,7 @@ fn counted(n: usize) {
     print(b" shown\n");
 }
 
+// Walks through the policy `s` in both ways.
 fn walked(s: &[u8]) {
     counted(by_steps(s));
     counted(by_moves(s));

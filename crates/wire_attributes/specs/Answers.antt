@@ -15,7 +15,7 @@ abbrev pub layoutOf : {A : Type 0} → Reading A → Layout
 layoutOf (whole a rest) = layout.Whole
 layoutOf (broken o) = layout.Broken o
 
--- document 01's number of each case, and the offset that number 1 carries (document 02, T-06)
+-- document 01's number of a layout, 0 where it is whole, and the offset that number 1 carries (document 02, T-06)
 abbrev pub layoutNumber : Layout → ℕ
 layoutNumber layout.Whole = 0
 layoutNumber (layout.Broken o) = 1
@@ -24,16 +24,16 @@ abbrev pub layoutOffset : Layout → List ℕ
 layoutOffset layout.Whole = []
 layoutOffset (layout.Broken o) = o ∷ []
 
--- the end, counted from the first octet of s
+-- where the structure read at the start of `s` ends, counted from the first octet of `s`
 abbrev pub spotOf : {A : Type 0} → List ℕ → Reading A → Spot
 spotOf s (whole a rest) = spot.Ends (length s - length rest)
 spotOf s (broken o) = spot.Broken o
 
--- the octets of an attribute's value; none where the attribute is cut short
+-- the value of the attribute at the start of `s`; empty where the attribute is cut short
 abbrev pub valueAt : List ℕ → List ℕ
 valueAt s = either (fits s) (valueOctets s) []
 
--- where in s the value of the attribute at a place starts; 0 where no whole attribute stands there
+-- where in `s` the value of the attribute at the index `at` starts; 0 where no whole attribute stands there
 abbrev pub valueStart : List ℕ → ℕ → ℕ
 valueStart s at = either (fits (drop at s)) (at + valueOffset (drop at s)) 0
 

@@ -13,14 +13,14 @@ pub record Attribute : Type 0 where
   pub kind : ℕ
   pub value : List ℕ
 
--- the format TV (top bit 1)
+-- whether the format is TV (top bit 1)
 abbrev pub isShort : List ℕ → Bool
 isShort s = leb formatBit (be16 s 0)
 
 abbrev pub kindOf : List ℕ → ℕ
 kindOf s = be16 s 0 % formatBit
 
--- where its value starts, and how many octets it takes
+-- where the value starts, and how many octets the attribute takes in all
 abbrev pub valueOffset : List ℕ → ℕ
 valueOffset s = either (isShort s) shortHeadOctets attributeHeadOctets
 
@@ -33,13 +33,13 @@ valueOctets s = part s (valueOffset s) (attributeSize s)
 abbrev pub attributeOf : List ℕ → Attribute
 attributeOf s = record { short = isShort s; kind = kindOf s; value = valueOctets s }
 
--- the octets before its value, and all its octets
+-- how many octets the attribute `a` has before its value, and in all
 abbrev pub leadOf : Attribute → ℕ
 leadOf a = either (a .short) shortHeadOctets attributeHeadOctets
 
 abbrev pub spanOf : Attribute → ℕ
 spanOf a = leadOf a + length (a .value)
 
--- all its octets are there
+-- whether all octets of the attribute at the start of `s` are there
 abbrev pub fits : List ℕ → Bool
 fits s = leb (attributeSize s) (length s)

@@ -1,5 +1,5 @@
--- WHERE ATTRIBUTES BREAK, defined without the readers (document 02, T-06). Here s is the octets from the attribute's first on, to the end
--- of what holds it, and b the offset of that first octet.
+-- WHERE ATTRIBUTES BREAK, defined without the readers (document 02, T-06). Here `s` is the octets from the attribute's first on, to the end
+-- of what holds it, and `b` the offset of that first octet; `o` of a break is the offset that number 1 carries.
 use Prim.Native.Nat.{ℕ, _+_, _<_}
 use mathlib.Core.Path.{_≡_}
 use mathlib.Core.List.{List, _++_}
@@ -25,6 +25,6 @@ pub data FaultOfAttribute (p : Place) (s : List ℕ) : Type 0 where
 abbrev pub BreaksAttribute : Place → ℕ → List ℕ → ℕ → Type 0
 BreaksAttribute p b s o = BreaksStructure (FaultOfAttribute p s) ⊥ b o
 
--- attributes to the end
+-- attributes one after the other, to the end of `s`
 abbrev pub BreaksAttributes : Place → ℕ → List ℕ → ℕ → Type 0
 BreaksAttributes p b s o = BreaksInRow (IsAttribute p) (BreaksAttribute p) b s o

@@ -30,7 +30,7 @@ pub data Format (o : List ℕ) (a : Attribute) : Type 0 where
   in-short : IsShort o a → Format o a
   in-long : IsLong o a → Format o a
 
--- in a place: one that is read there has the format and size of the tables
+-- the octets `o` are the attribute `a` in the place `p`: if it is read there, it has the format and size of the tables
 pub record IsAttribute (p : Place) (o : List ℕ) (a : Attribute) : Type 0 where
   pub format : Format o a
   pub formed : formedIn p a ≡ true

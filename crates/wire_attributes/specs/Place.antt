@@ -25,15 +25,16 @@ meaningOf place.RekeyBag k = either (eqb k attributeSaKey) meaning.SaKey meaning
 meaningOf place.DataBag k = either (eqb k attributeSaKey) meaning.SaKey meaning.Skipped
 meaningOf place.MemberBag k = either (eqb k attributeWrapKey) meaning.WrapKey meaning.Skipped
 
--- a wrapped key's value: Key ID 4, KWK ID 4, then 16 to 264 octets, a multiple of 8 (document 01)
+-- whether `n` is a size of a wrapped key's value: Key ID 4, KWK ID 4, then 16 to 264 octets, a multiple of 8 (document 01)
 abbrev pub wrappedSize : ℕ → Bool
 wrappedSize n = both (leb leastWrapped n) (both (leb n mostWrapped) (eqb (n % wrappedBlock) 0))
 
--- a number of 4 octets, TLV: GSA_INITIAL_MESSAGE_ID, and GSA_KEY_LIFETIME, "a 4-octet unsigned integer" (RFC 9838, section 4.4.2.2.1)
+-- whether a value is a number of 4 octets, TLV: GSA_INITIAL_MESSAGE_ID, and GSA_KEY_LIFETIME, "a 4-octet unsigned integer" (RFC 9838,
+-- section 4.4.2.2.1)
 abbrev pub fourOctets : Bool → ℕ → Bool
 fourOctets short n = both (not short) (eqb n 4)
 
--- the format (short is TV) and the size of the value that each has by those tables; what is skipped may have any
+-- whether the format (`short` is TV) and the size `n` of a value are those of the tables for a meaning; what is skipped may have any
 abbrev pub formatFits : Meaning → Bool → ℕ → Bool
 formatFits meaning.Skipped short n = true
 formatFits meaning.KeyLength short n = short
@@ -43,7 +44,8 @@ formatFits meaning.KeyLifetime short n = fourOctets short n
 formatFits meaning.SaKey short n = both (not short) (wrappedSize n)
 formatFits meaning.WrapKey short n = both (not short) (wrappedSize n)
 
--- a transform of type 1 (Encryption Algorithm), a policy or a Group Key Bag of protocol 6 (GIKE_UPDATE, the Rekey SA)
+-- the place of the attributes of a transform, by its type: 1 is Encryption Algorithm; of a Group SA policy and of a Group Key Bag, by
+-- protocol: 6 is GIKE_UPDATE, the Rekey SA
 abbrev pub inTransform : ℕ → Place
 inTransform t = either (eqb t transformEncr) place.EncryptionTransform place.OtherTransform
 

@@ -1,5 +1,5 @@
--- What the attributes that are read say. SA_KEY and WRAP_KEY have the same number and layout and are two types here: only the place, the
--- bag in which it stands, makes an attribute one of them.
+-- What the attributes that are read say. SA_KEY and WRAP_KEY have the same number and layout, yet they are two types here: only the bag
+-- that holds an attribute makes it one of them.
 use Prim.Native.Nat.{ℕ}
 use mathlib.Core.List.{List, [], _∷_, map}
 use mathlib.Core.Bool.{Bool}
@@ -43,12 +43,12 @@ codeOf meaning.WrapKey = 6
 abbrev pub means : Meaning → Place → Attribute → Bool
 means m p a = eqb (codeOf (meaningOf p (a .kind))) (codeOf m)
 
--- the values of the attributes that have a meaning in a place, in their order
+-- the values of those attributes of a list that mean `m` in the place `p`, in their order
 unfoldable pub valuesOf : Meaning → Place → List Attribute → List (List ℕ)
 valuesOf m p [] = []
 valuesOf m p (a ∷ l) = either (means m p a) (a .value ∷ valuesOf m p l) (valuesOf m p l)
 
--- the number that a value of two octets is, and one of four
+-- the number in a value of two octets, and in one of four
 abbrev pub number16 : List ℕ → ℕ
 number16 v = be16 v 0
 

@@ -11,19 +11,20 @@ use ikev2_numbers::SHORT_HEAD;
 
 pub mod tables;
 
-// Whether a stretch of the frame is laid out as it should be, or the offset of the structure that broke first.
+// The result of checking a stretch of octets: its layout is whole, or broken, with the offset of the structure that broke first.
 pub enum Layout {
     Whole,
     Broken(usize),
 }
 
-// Where a structure ends, or the offset of the structure that broke first.
+// The result of reading what some octets start with: where it ends, counted from the first of them, or the offset of the structure that
+// broke first.
 pub enum Spot {
     Ends(usize),
     Broken(usize),
 }
 
-// An attribute: whether it is in the short format (TV), its type, where its value starts and ends; or cut short.
+// An attribute: whether it has the short format (TV), its type, where its value starts and where it ends; or one cut short.
 pub enum Read {
     Attribute {
         short: bool,
@@ -34,7 +35,7 @@ pub enum Read {
     Cut,
 }
 
-// The attribute that the octets start with.
+// Reads the attribute at the start of `s`. It is cut short if `s` has not all its octets.
 pub fn read_attribute(s: &[u8]) -> Read
     ensures { λ r. ⌜ r ≡ readOf (now (s .entry)) ⌝ }
 {
@@ -62,7 +63,7 @@ pub fn read_attribute(s: &[u8]) -> Read
     }
 }
 
-// The octets of the value of the attribute at a place, where they stand; none if no whole attribute stands there.
+// Answers the value of the attribute at index `at` of `s`, as a slice of `s`; empty if no whole attribute stands there.
 pub fn attribute_value(s: &[u8], at: usize) -> &[u8]
     ensures { λ r. ⌜ now r ≡ valueAt (drop at (now (s .entry))) ⌝ }
     ensures { λ r. ⌜ r .ptr ≡ (s .entry .ptr .0, valueStart (now (s .entry)) at + s .entry .ptr .1) ⌝ }
@@ -85,8 +86,8 @@ pub fn attribute_value(s: &[u8], at: usize) -> &[u8]
     }
 }
 
-// THE READER OF ONE ATTRIBUTE: where the attribute that the octets start with ends, if it is laid out as its place asks; else that it is
-// broken at the offset base, where the octets start in the frame.
+// Reads the attribute at the start of `s` and answers where it ends. An attribute that is cut short, or has not the format and size that
+// `place` asks for, is broken at `base`, the offset of `s` in the frame.
 pub fn attribute_in(place: tables::Place, s: &[u8], base: usize) -> Spot
     ensures { λ r. ⌜ r ≡ spotOf (now (s .entry)) (attribute place base (now (s .entry))) ⌝ }
 {
@@ -106,7 +107,7 @@ pub fn attribute_in(place: tables::Place, s: &[u8], base: usize) -> Spot
     }
 }
 
-// Whether the octets, which start at the offset base, are attributes of a place to their end.
+// Checks that `s` is attributes of `place`, one after the other to its end; `base` is the offset of `s` in the frame.
 pub fn are_attributes(place: tables::Place, s: &[u8], base: usize) -> Layout
     requires { ⌜ base + length (now s) < 4294967296 ⌝ }
     ensures { λ r. ⌜ r ≡ layoutOf (attributes place base (now (s .entry))) ⌝ }

@@ -15,7 +15,7 @@ use ikev2_numbers::SA_KEY;
 use ikev2_numbers::WRAP_KEY;
 use ikev2_numbers::WRAPPED_BLOCK;
 
-// Where an attribute stands.
+// Where an attribute stands: in which sort of transform, policy or key bag.
 pub enum Place {
     EncryptionTransform,
     OtherTransform,
@@ -27,7 +27,7 @@ pub enum Place {
     MemberBag,
 }
 
-// What an attribute is in its place.
+// What an attribute is in its place. `Skipped` is one that is not read there.
 pub enum Meaning {
     Skipped,
     KeyLength,
@@ -38,7 +38,7 @@ pub enum Meaning {
     WrapKey,
 }
 
-// The table of attributes by place.
+// Looks up what an attribute of the type `kind` is in `place`.
 pub fn meaning_in(place: Place, kind: usize) -> Meaning
     ensures { λ r. ⌜ r ≡ meaningOf place kind ⌝ }
 {
@@ -92,7 +92,7 @@ pub fn meaning_in(place: Place, kind: usize) -> Meaning
     }
 }
 
-// The size of a wrapped key's value: two IDs and 16 to 264 octets, a multiple of 8.
+// Whether `n` is a size of a wrapped key's value: two IDs of 4 octets each, then 16 to 264 octets, a multiple of 8.
 fn is_wrapped_size(n: usize) -> bool
     ensures { λ r. ⌜ r ≡ wrappedSize n ⌝ }
 {
@@ -105,7 +105,7 @@ fn is_wrapped_size(n: usize) -> bool
     n % WRAPPED_BLOCK == 0
 }
 
-// Whether a value stands as TLV and has four octets.
+// Whether a value of `n` octets has the format TLV (`short` is false) and four octets.
 fn is_four_octets(short: bool, n: usize) -> bool
     ensures { λ r. ⌜ r ≡ fourOctets short n ⌝ }
 {
@@ -115,7 +115,7 @@ fn is_four_octets(short: bool, n: usize) -> bool
     n == 4
 }
 
-// Whether an attribute has the format and the size of value that its meaning asks for.
+// Whether the meaning `m` allows the format (`short` is TV) and a value of `n` octets.
 pub fn is_formed(m: Meaning, short: bool, n: usize) -> bool
     ensures { λ r. ⌜ r ≡ formatFits m short n ⌝ }
 {
@@ -140,7 +140,7 @@ pub fn is_formed(m: Meaning, short: bool, n: usize) -> bool
     }
 }
 
-// The place of a transform's attributes.
+// Answers the place of the attributes of a transform of the type `kind`.
 pub fn in_transform(kind: usize) -> Place
     ensures { λ r. ⌜ r ≡ inTransform kind ⌝ }
 {
@@ -150,7 +150,7 @@ pub fn in_transform(kind: usize) -> Place
     Place::OtherTransform
 }
 
-// The place of a Group SA policy's attributes.
+// Answers the place of the attributes of a Group SA policy of `protocol`.
 pub fn in_policy(protocol: usize) -> Place
     ensures { λ r. ⌜ r ≡ inPolicy protocol ⌝ }
 {
@@ -160,7 +160,7 @@ pub fn in_policy(protocol: usize) -> Place
     Place::DataPolicy
 }
 
-// The place of a Group Key Bag's attributes.
+// Answers the place of the attributes of a Group Key Bag of `protocol`.
 pub fn in_bag(protocol: usize) -> Place
     ensures { λ r. ⌜ r ≡ inBag protocol ⌝ }
 {
@@ -170,7 +170,7 @@ pub fn in_bag(protocol: usize) -> Place
     Place::DataBag
 }
 
-// A number for each meaning.
+// Answers the number of the meaning `m`, to compare meanings by.
 pub fn code(m: Meaning) -> usize
     ensures { λ r. ⌜ r ≡ codeOf m ⌝ }
 {

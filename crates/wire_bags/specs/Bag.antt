@@ -26,11 +26,11 @@ pub data Bag : Type 0 where
   groupKeys : GroupKeyBag → Bag
   memberKeys : MemberKeyBag → Bag
 
--- by the first octet
+-- the place of a key bag's attributes, by the bag's first octet
 abbrev pub placeOf : ℕ → Place
 placeOf p = either (eqb p 0) place.MemberBag (inBag p)
 
--- the bag s whose attributes are l
+-- the key bag at the start of `s`, with the attributes `l`
 abbrev pub bagOf : List ℕ → List Attribute → Bag
 bagOf s l =
     either (eqb (oct s 0) 0) (memberKeys (record { keys = wrapKeys place.MemberBag l }))
@@ -39,6 +39,6 @@ bagOf s l =
 unfoldable pub bag : Reader Bag
 bag b s = opened b (headFits s) (mapped (bagOf s) (within (headSize s) (be16 s structureLengthAt) (attributes (placeOf (oct s 0))) b s))
 
--- the bags that a KD payload's body is, to its end
+-- the key bags of a KD payload's body, to its end
 abbrev pub bags : Reader (List Bag)
 bags b s = many bag b s

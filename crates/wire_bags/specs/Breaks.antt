@@ -1,5 +1,5 @@
--- WHERE KEY BAGS BREAK, defined without the readers (document 02, T-06): s is the octets from the bag's first on, to the end of its
--- payload, and b the offset of that first octet.
+-- WHERE KEY BAGS BREAK, defined without the readers (document 02, T-06): `s` is the octets from the bag's first on, to the end of its
+-- payload, `b` the offset of that first octet, and `o` the offset that number 1 carries.
 use Prim.Native.Nat.{ℕ, _+_}
 use mathlib.Core.List.{List}
 use Rattle.ikev2_numbers.specs.Codes.{policyHeadOctets, structureLengthAt}
@@ -12,13 +12,13 @@ use Rattle.wire_policies.specs.Breaks.{FaultOfHead}
 use Rattle.wire_bags.specs.Bag.{placeOf}
 use Rattle.wire_bags.specs.Grammar.{IsBag}
 
--- what it holds after its head, an SPI or none: attributes
+-- a key bag, which holds attributes after its head and its SPI, if it has one
 abbrev pub BreaksBag : ℕ → List ℕ → ℕ → Type 0
 BreaksBag b s o =
     BreaksStructure (FaultOfHead s)
     (BreaksAttributes (placeOf (oct s 0)) (b + (policyHeadOctets + spiSize (oct s 0)))
     (part s (policyHeadOctets + spiSize (oct s 0)) (be16 s structureLengthAt)) o) b o
 
--- bags to the end
+-- key bags one after the other, to the end of `s`
 abbrev pub BreaksBags : ℕ → List ℕ → ℕ → Type 0
 BreaksBags b s o = BreaksInRow IsBag BreaksBag b s o

@@ -12,7 +12,7 @@ use wire_attributes::Layout;
 use wire_attributes::Spot;
 use wire_attributes::tables::Place;
 
-// The place of a bag's attributes, by the bag's first octet.
+// Answers the place of the attributes of a key bag with the first octet `first`.
 pub fn place_of(first: usize) -> Place
     ensures { λ r. ⌜ r ≡ placeOf first ⌝ }
 {
@@ -22,7 +22,7 @@ pub fn place_of(first: usize) -> Place
     wire_attributes::tables::in_bag(first)
 }
 
-// The key bag that the octets, which start at the offset base, start with: where it ends.
+// Reads the key bag at the start of `s` and answers where it ends. `base` is the offset of `s`.
 pub fn bag_spot(s: &[u8], base: usize) -> Spot
     requires { ⌜ base + length (now s) < 4294967296 ⌝ }
     ensures { λ r. ⌜ r ≡ spotOf (now (s .entry)) (bag base (now (s .entry))) ⌝ }
@@ -40,7 +40,7 @@ pub fn bag_spot(s: &[u8], base: usize) -> Spot
     }
 }
 
-// Whether the octets, which start at the offset base, are key bags to their end.
+// Checks that `s` is key bags, one after the other to its end. `base` is the offset of `s`.
 pub fn are_bags(s: &[u8], base: usize) -> Layout
     requires { ⌜ base + length (now s) < 4294967296 ⌝ }
     ensures { λ r. ⌜ r ≡ layoutOf (bags base (now (s .entry))) ⌝ }

@@ -1,6 +1,6 @@
 -- WHERE A FRAME BREAKS, defined without the readers. Document 02, T-06: "Number 1 carries the offset of the innermost payload, policy, bag,
 -- selector, transform or attribute whose layout broke first, or 0 for the header .. what is missing or left over counts for its holder, for
--- payloads the header." The levels below are in `octets`, `attributes`, `policies` and `bags`, specs/Breaks each.
+-- payloads the header." The levels below: specs/Breaks of `octets`, `wire_attributes`, `wire_policies`, `wire_bags`.
 use Prim.Native.Nat.{ℕ, _+_, _*_, _/_, _<_}
 use mathlib.Core.Path.{_≡_}
 use mathlib.Core.List.{List}
@@ -22,18 +22,18 @@ pub data FaultOfDelete (s : List ℕ) : Type 0 where
   unfilled : (deleteHeadOctets + oct s 1 * be16 s deleteCountAt ≡ length s → ⊥) → FaultOfDelete s
   other-size : oct s 0 ≡ protocolEsp → (oct s 1 ≡ dataSpiOctets → ⊥) → FaultOfDelete s
 
--- A PAYLOAD of the kind k, and s the octets from its first on, to the end of the frame: "next payload, critical bit and reserved, length 2
--- (header included)". D's body holds none of the six structures: it is the payload's own
+-- A PAYLOAD of the kind `k`, and `s` the octets from its first on, to the end of the frame: "next payload, critical bit and reserved,
+-- length 2 (header included)". D's body holds none of the six structures, so its faults are the payload's own
 pub data FaultOfPayload (k : ℕ) (s : List ℕ) : Type 0 where
   by-length : FaultOfLength payloadHeaderOctets s → FaultOfPayload k s
   in-delete : k ≡ payloadDelete → FaultOfDelete (part s payloadHeaderOctets (be16 s structureLengthAt)) → FaultOfPayload k s
 
--- what it holds: GSA policies, KD key bags, the others nothing that is read
+-- what a payload of the kind `k` holds: policies in GSA, key bags in KD, nothing that is read in any other
 pub data BreaksContent (k b : ℕ) (s : List ℕ) (o : ℕ) : Type 0 where
   in-gsa : k ≡ payloadGsa → BreaksPolicies b s o → BreaksContent k b s o
   in-kd : k ≡ payloadKd → BreaksBags b s o → BreaksContent k b s o
 
--- one that "next payload" names and of which not one octet is there counts for the header, at 0
+-- a payload that "next payload" names is missing if it has not a single octet; it counts for the header, at 0
 abbrev pub BreaksPayload : ℕ → ℕ → List ℕ → ℕ → Type 0
 BreaksPayload k b s o =
     BreaksDue 0 s
@@ -47,7 +47,7 @@ pub data FaultOfHeader (s : List ℕ) : Type 0 where
   other-length : (be32 s lengthAt ≡ length s → ⊥) → FaultOfHeader s
   other-version : (oct s versionAt / minorVersions ≡ majorVersion → ⊥) → FaultOfHeader s
 
--- what the header of the frame s holds: payloads up to the one with next payload 0, which "ends the frame exactly at its length"
+-- what the header of the frame `s` holds: payloads up to the one with next payload 0, which "ends the frame exactly at its length"
 pub data BreaksPayloads (s : List ℕ) (o : ℕ) : Type 0 where
   in-payload : BreaksInChain noneNext IsPayload BreaksPayload (oct s firstPayloadAt) headerOctets (drop headerOctets s) o
       → BreaksPayloads s o

@@ -13,7 +13,7 @@ pub record Delete : Type 0 where
   pub protocol : ℕ
   pub spis : List (List ℕ)
 
--- n stretches of k octets
+-- the first `n` stretches of `k` octets each, one after the other
 unfoldable pub stretches : ℕ → ℕ → List ℕ → List (List ℕ)
 stretches zero k s = []
 stretches (suc n) k s = take k s ∷ stretches n k (drop k s)

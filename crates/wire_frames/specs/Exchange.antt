@@ -10,7 +10,7 @@ use Rattle.wire_frames.specs.declared.exchanges.Wanted.the-variants as w
 use Rattle.wire_frames.specs.declared.exchanges.KeyZero.the-variants as keyZero
 use Rattle.wire_frames.specs.declared.exchanges.LeastAfter.the-variants as least
 
--- beside each field the words of document 01 that it stands for
+-- GSA_AUTH and GSA_REGISTRATION, above each field the words of document 01 that it stands for
 abbrev pub registration : Exchange
 registration = record {
   -- not true: "exchange not one of the three" (2), of the four with T-02's
@@ -41,6 +41,7 @@ registration = record {
   least = least.Zero;
 }
 
+-- GSA_REKEY, by the same words
 abbrev pub rekey : Exchange
 rekey = record {
   admitted = true;
@@ -58,7 +59,7 @@ rekey = record {
   least = least.OwnPlusOne;
 }
 
--- GSA_INBAND_REKEY, beside each field the words of document 02's T-02 that it stands for
+-- GSA_INBAND_REKEY, above each field the words of document 02's T-02 that it stands for
 abbrev pub inband : Exchange
 inband = record {
   -- "Number 2 now admits a fourth exchange"
@@ -88,7 +89,7 @@ inband = record {
   least = least.Kept;
 }
 
--- no exchange that is taken: number 2
+-- every other exchange type: it is not taken (number 2)
 abbrev pub other : Exchange
 other = record {
   admitted = false;

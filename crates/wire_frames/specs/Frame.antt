@@ -38,7 +38,7 @@ pub record Frame : Type 0 where
   pub header : Header
   pub payloads : List Payload
 
--- the bodies that are read: GSA holds policies, KD key bags; a broken Delete counts for its payload, whose offset is h
+-- the bodies that are read: GSA holds policies, KD key bags; a broken Delete counts for its payload, at the offset `h`
 abbrev pub gsaBody : Reader Content
 gsaBody b s = mapped gsa (policies b s)
 
@@ -52,17 +52,17 @@ deleteBody h b s = opened h (deleteFits s) (whole (delete (deleteOf s)) [])
 abbrev pub unreadBody : Reader Content
 unreadBody b s = whole unread []
 
--- the body of a payload of the kind k whose offset is h
+-- the body of a payload of the kind `k` at the offset `h`
 unfoldable pub body : ℕ → ℕ → Reader Content
 body k h b s =
     either (eqb k payloadGsa) (gsaBody b s)
     (either (eqb k payloadKd) (kdBody b s) (either (eqb k payloadDelete) (deleteBody h b s) (unreadBody b s)))
 
--- the payload s of the kind k, and the kind of the next
+-- the payload of the kind `k` at the start of `s`, with the content `c`, and the kind of the next
 abbrev pub payloadOf : ℕ → List ℕ → Content → Linked ℕ Payload
 payloadOf k s c = record { item = record { kind = k; critical = isCritical s; content = c }; next = oct s 0 }
 
--- a payload that "next payload" names and of which not one octet is there counts for the header, at 0
+-- a payload that "next payload" names is missing if it has not a single octet; it counts for the header, at 0
 unfoldable pub payload : ℕ → Reader (Linked ℕ Payload)
 payload k b s =
     begun 0 s (opened b (payloadFits s) (mapped (payloadOf k s) (within payloadHeaderOctets (be16 s structureLengthAt) (body k b) b s)))

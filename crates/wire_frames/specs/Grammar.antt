@@ -6,7 +6,7 @@ use lib.ListN.{length, take, drop}
 use lib.Dec.{leb}
 use Rattle.ikev2_numbers.specs.Codes.{criticalBit, dataSpiOctets, deleteCountAt, deleteHeadOctets, exchangeAt, firstPayloadAt}
 use Rattle.ikev2_numbers.specs.Codes.{headerOctets, lengthAt, majorVersion, messageIdAt, minorVersions, mostOctets, payloadDelete}
-use Rattle.ikev2_numbers.specs.Codes.{payloadGsa, payloadHeaderOctets, payloadKd, protocolEsp, structureLengthAt, versionAt}
+use Rattle.ikev2_numbers.specs.Codes.{payloadGsa, payloadHeaderOctets, payloadKd, protocolEsp, rekeySpiOctets, structureLengthAt, versionAt}
 use Rattle.octets.specs.Numbers.{oct}
 use Rattle.octets.specs.Walk.{be16, be32, Spans}
 use Rattle.wire_policies.specs.Policy.{Policy}
@@ -16,7 +16,7 @@ use Rattle.wire_bags.specs.Grammar.{Bags}
 use Rattle.wire_frames.specs.Delete.{Delete}
 use Rattle.wire_frames.specs.Frame.{Content, gsa, kd, delete, unread, Payload, noneNext, Frame}
 
--- SPIs of k octets
+-- SPIs of `k` octets each
 pub data Each (k : ℕ) : List (List ℕ) → Type 0 where
   none : Each k []
   more : {o : List ℕ} {l : List (List ℕ)} → length o ≡ k → Each k l → Each k (o ∷ l)
@@ -34,7 +34,7 @@ pub record IsDelete (s : List ℕ) (d : Delete) : Type 0 where
   pub spis : drop deleteHeadOctets s ≡ joined (d .spis)
   pub esp : d .protocol ≡ protocolEsp → oct s 1 ≡ dataSpiOctets
 
--- the body of a payload of the kind k
+-- the octets `s` are the body of a payload of the kind `k`
 pub data IsContent (k : ℕ) (s : List ℕ) : Content → Type 0 where
   is-gsa : {l : List Policy} → k ≡ payloadGsa → Policies s l → IsContent k s (gsa l)
   is-kd : {l : List Bag} → k ≡ payloadKd → Bags s l → IsContent k s (kd l)
@@ -57,7 +57,7 @@ pub record IsFrame (s : List ℕ) (x : Frame) : Type 0 where
   pub most : length s ≤ mostOctets
   pub size : be32 s lengthAt ≡ length s
   pub major : oct s versionAt / minorVersions ≡ majorVersion
-  pub spi : take firstPayloadAt s ≡ x .header .spi
+  pub spi : take rekeySpiOctets s ≡ x .header .spi
   pub exchange : oct s exchangeAt ≡ x .header .exchange
   pub messageId : be32 s messageIdAt ≡ x .header .messageId
   pub payloads : Spans noneNext IsPayload (oct s firstPayloadAt) (drop headerOctets s) (x .payloads) []

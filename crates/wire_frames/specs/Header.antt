@@ -6,18 +6,18 @@ use mathlib.Core.Bool.{Bool}
 use lib.ListN.{length, take}
 use lib.Dec.{leb, eqb}
 use Rattle.ikev2_numbers.specs.Codes.{criticalBit, exchangeAt, firstPayloadAt, headerOctets, lengthAt, majorVersion, messageIdAt}
-use Rattle.ikev2_numbers.specs.Codes.{minorVersions, mostOctets, payloadHeaderOctets, versionAt}
+use Rattle.ikev2_numbers.specs.Codes.{minorVersions, mostOctets, payloadHeaderOctets, rekeySpiOctets, versionAt}
 use Rattle.octets.specs.Numbers.{oct}
 use Rattle.octets.specs.Walk.{be32, both, sized}
 
--- a Rekey SA's SPI is both SPI fields (RFC 9838, section 2.4.1)
+-- what is read of an IKE header; a Rekey SA's SPI is both SPI fields (RFC 9838, section 2.4.1)
 pub record Header : Type 0 where
   pub spi : List ℕ
   pub exchange : ℕ
   pub messageId : ℕ
 
 abbrev pub headerOf : List ℕ → Header
-headerOf s = record { spi = take firstPayloadAt s; exchange = oct s exchangeAt; messageId = be32 s messageIdAt }
+headerOf s = record { spi = take rekeySpiOctets s; exchange = oct s exchangeAt; messageId = be32 s messageIdAt }
 
 abbrev pub firstPayload : List ℕ → ℕ
 firstPayload s = oct s firstPayloadAt
@@ -28,7 +28,8 @@ headerFits s =
     both (leb headerOctets (length s)) (both (leb (length s) mostOctets)
     (both (eqb (be32 s lengthAt) (length s)) (eqb (oct s versionAt / minorVersions) majorVersion)))
 
--- a payload: next payload 1, critical bit and reserved 1, length 2 (this header included)
+-- whether a payload has its header and all the octets that it counts: next payload 1, critical bit and reserved 1, length 2 (this header
+-- included)
 abbrev pub payloadFits : List ℕ → Bool
 payloadFits s = sized payloadHeaderOctets s
 

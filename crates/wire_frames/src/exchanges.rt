@@ -1,34 +1,35 @@
 // What differs between exchanges (RFC 9838, section 9): one row for each.
 ghost use mathlib.Core.Path.{_≡_};
+ghost use Rattle.ikev2_numbers.specs.Codes.{gsaAuth, gsaInbandRekey, gsaRekey};
 ghost use Rattle.wire_frames.specs.Exchange.{exchangeOf};
 use ikev2_numbers::GSA_AUTH;
 use ikev2_numbers::GSA_INBAND_REKEY;
 use ikev2_numbers::GSA_REGISTRATION;
 use ikev2_numbers::GSA_REKEY;
 
-// What number 2 asks of the member before the frame, at its tick.
+// What refusal 2 asks the member to be at the frame's tick, before the frame is applied.
 pub enum Wanted {
     Empty,
     NotEmpty,
     Any,
 }
 
-// The key that KWK ID 0 names.
+// The key that KWK ID 0 names: the lent default key, or the Rekey SA's default key.
 pub enum KeyZero {
     Lent,
     RekeySa,
 }
 
-// The least acceptable Message ID afterwards, where the frame brings no new Rekey SA: 0, the frame's own plus 1, or as it was.
+// The least acceptable Message ID after a frame that brings no new Rekey SA: 0, the frame's own plus 1, or as it was.
 pub enum LeastAfter {
     Zero,
     OwnPlusOne,
     Kept,
 }
 
-// What differs between exchanges.
+// The row of one exchange: what it asks and allows where exchanges differ.
 pub struct Exchange {
-    // one of the exchanges that are taken (number 2)
+    // the exchange is one of those that are taken (refusal 2)
     pub admitted: bool,
     pub wanted: Wanted,
     // its two SPIs are compared with the live Rekey SA's
@@ -53,7 +54,7 @@ pub struct Exchange {
     pub least: LeastAfter,
 }
 
-// The row of an exchange type.
+// Answers the row of the exchange type `kind`.
 pub fn exchange_of(kind: usize) -> Exchange
     ensures { λ r. ⌜ r ≡ exchangeOf kind ⌝ }
 {
@@ -72,8 +73,9 @@ pub fn exchange_of(kind: usize) -> Exchange
     other()
 }
 
+// Answers the row of GSA_AUTH and GSA_REGISTRATION.
 fn registration() -> Exchange
-    ensures { λ r. ⌜ r ≡ exchangeOf 39 ⌝ }
+    ensures { λ r. ⌜ r ≡ exchangeOf gsaAuth ⌝ }
 {
     Exchange {
         admitted: true,
@@ -92,8 +94,9 @@ fn registration() -> Exchange
     }
 }
 
+// Answers the row of GSA_REKEY.
 fn rekey() -> Exchange
-    ensures { λ r. ⌜ r ≡ exchangeOf 41 ⌝ }
+    ensures { λ r. ⌜ r ≡ exchangeOf gsaRekey ⌝ }
 {
     Exchange {
         admitted: true,
@@ -112,8 +115,9 @@ fn rekey() -> Exchange
     }
 }
 
+// Answers the row of GSA_INBAND_REKEY.
 fn inband() -> Exchange
-    ensures { λ r. ⌜ r ≡ exchangeOf 42 ⌝ }
+    ensures { λ r. ⌜ r ≡ exchangeOf gsaInbandRekey ⌝ }
 {
     Exchange {
         admitted: true,
@@ -132,6 +136,7 @@ fn inband() -> Exchange
     }
 }
 
+// Answers the row of every other exchange type: it is not taken (refusal 2).
 fn other() -> Exchange
     ensures { λ r. ⌜ r ≡ exchangeOf 0 ⌝ }
 {

@@ -43,7 +43,8 @@ pub enum HeaderRead {
     Broken,
 }
 
-// The IKE header that the octets start with, if it is that of a frame of all these octets.
+// Reads the IKE header of the frame `s`. It is broken if `s` is shorter than a header or longer than a frame may be, if its length field is
+// not `s.len()`, or if its major version is not 2.
 pub fn read_header(s: &[u8]) -> HeaderRead
     ensures { λ r. ⌜ r ≡ headerRead (now (s .entry)) ⌝ }
 {
@@ -76,7 +77,8 @@ pub enum PayloadRead {
     Broken,
 }
 
-// The generic payload header that the octets start with.
+// Reads the generic payload header at the start of `s`. It is broken if `s` is shorter than this header, or if the length field is less
+// than the header's size or more than `s.len()`.
 pub fn read_payload(s: &[u8]) -> PayloadRead
     ensures { λ r. ⌜ r ≡ payloadRead (now (s .entry)) ⌝ }
 {
@@ -90,7 +92,7 @@ pub fn read_payload(s: &[u8]) -> PayloadRead
     PayloadRead::Broken
 }
 
-// Whether a Delete payload's body is laid out as it should be.
+// Whether `s` is laid out as the body of a Delete payload: its SPIs, size times count, fill it behind its head, and the size is 4 for ESP.
 fn delete_fits(s: &[u8]) -> bool
     ensures { λ r. ⌜ r ≡ deleteFits (now (s .entry)) ⌝ }
 {
@@ -107,7 +109,8 @@ fn delete_fits(s: &[u8]) -> bool
     true
 }
 
-// What the body of a payload of a kind holds; the payload's offset is holder, the body's base.
+// Checks the body `s` of a payload of the type `kind`. `base` is the offset of the body, `holder` that of the payload: a broken Delete body
+// counts for the payload. A body that is not read is whole.
 fn body_layout(kind: usize, s: &[u8], base: usize, holder: usize) -> Layout
     requires { ⌜ base + length (now s) < 4294967296 ⌝ }
     ensures { λ r. ⌜ r ≡ layoutOf (body kind holder base (now (s .entry))) ⌝ }
@@ -127,7 +130,8 @@ fn body_layout(kind: usize, s: &[u8], base: usize, holder: usize) -> Layout
     Layout::Whole
 }
 
-// The payload of a kind that the octets, which start at the offset base, start with: where it ends.
+// Reads the payload of the type `kind` at the start of `s` and answers where it ends. `base` is the offset of `s`. A payload that is
+// missing, where `s` is empty, counts for the header, at 0.
 pub fn payload_spot(kind: usize, s: &[u8], base: usize) -> Spot
     requires { ⌜ base + length (now s) < 4294967296 ⌝ }
     ensures { λ r. ⌜ r ≡ spotOf (now (s .entry)) (payload kind base (now (s .entry))) ⌝ }
@@ -148,7 +152,8 @@ pub fn payload_spot(kind: usize, s: &[u8], base: usize) -> Spot
     }
 }
 
-// Whether the octets, which start at the offset base, are payloads to their end, the first of a kind.
+// Checks that `s` is payloads to its end, the first of the type `first`. `base` is the offset of `s`. Octets left over count for the
+// header, at 0.
 fn payloads_layout(first: usize, s: &[u8], base: usize) -> Layout
     requires { ⌜ base + length (now s) < 4294967296 ⌝ }
     ensures { λ r. ⌜ r ≡ layoutOf (nothingLeft (payloads first base (now (s .entry)))) ⌝ }
@@ -172,7 +177,8 @@ fn payloads_layout(first: usize, s: &[u8], base: usize) -> Layout
     Layout::Broken(0)
 }
 
-// The layout of a frame, for all octets: whole, or broken (number 1) with the offset of the structure that broke first.
+// Checks the layout of the frame `s`, whatever its octets are: whole, or broken (refusal 1) with the offset of the structure that broke
+// first.
 pub fn frame_layout(s: &[u8]) -> Layout
     ensures { λ r. ⌜ Laid (now (s .entry)) r ⌝ }
 {

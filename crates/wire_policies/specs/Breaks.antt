@@ -1,5 +1,6 @@
--- WHERE SELECTORS, TRANSFORMS AND POLICIES BREAK, defined without the readers (document 02, T-06). In each s is the octets from the
--- structure's first on, to the end of what holds it, b the offset of that first octet, and h the offset of the policy that holds it.
+-- WHERE SELECTORS, TRANSFORMS AND POLICIES BREAK, defined without the readers (document 02, T-06). In each `s` is the octets from the
+-- structure's first on, to the end of what holds it, `b` the offset of that first octet, `h` the offset of the policy that holds the
+-- structure, and `o` the offset that number 1 carries.
 use Prim.Native.Nat.{ℕ, _+_, _-_, _<_}
 use mathlib.Core.Path.{_≡_}
 use mathlib.Core.List.{List, _++_}
@@ -25,7 +26,7 @@ pub data FaultOfSelector (s : List ℕ) : Type 0 where
   cut : length s < selectorSize (oct s 0) → FaultOfSelector s
   other-length : (be16 s structureLengthAt ≡ selectorSize (oct s 0) → ⊥) → FaultOfSelector s
 
--- one of which not one octet is there is missing in its policy; a selector holds nothing
+-- a selector without a single octet is missing in its policy, at `h`; a selector holds nothing
 abbrev pub BreaksSelector : ℕ → ℕ → List ℕ → ℕ → Type 0
 BreaksSelector h b s o = BreaksDue h s (BreaksStructure (FaultOfSelector s) ⊥ b o) o
 
@@ -64,7 +65,7 @@ pub data FaultOfHead (s : List ℕ) : Type 0 where
       → (oct s 0 ≡ protocolEsp → ⊥) → (oct s 0 ≡ protocolAh → ⊥) → FaultOfHead s
   other-size : (oct s 0 ≡ noProtocol → ⊥) → (oct s 1 ≡ spiSize (oct s 0) → ⊥) → FaultOfHead s
 
--- A POLICY at the offset b, and what it holds
+-- A POLICY at the offset `b`, and what it holds: attributes in a group-wide policy, in any other what follows its SPI
 pub data BreaksHeld (b : ℕ) (s : List ℕ) (o : ℕ) : Type 0 where
   in-wide : oct s 0 ≡ noProtocol
       → BreaksAttributes place.GroupWidePolicy (b + policyHeadOctets) (part s policyHeadOctets (be16 s structureLengthAt)) o
@@ -77,6 +78,6 @@ pub data BreaksHeld (b : ℕ) (s : List ℕ) (o : ℕ) : Type 0 where
 abbrev pub BreaksPolicy : ℕ → List ℕ → ℕ → Type 0
 BreaksPolicy b s o = BreaksStructure (FaultOfHead s) (BreaksHeld b s o) b o
 
--- policies to the end
+-- policies one after the other, to the end of `s`
 abbrev pub BreaksPolicies : ℕ → List ℕ → ℕ → Type 0
 BreaksPolicies b s o = BreaksInRow IsPolicy BreaksPolicy b s o

@@ -18,13 +18,14 @@ use Rattle.wire_attributes.specs.Layout.{attributes}
 use Rattle.wire_policies.specs.Selector.{Selector, selector}
 use Rattle.wire_policies.specs.Transform.{Transform, transforms}
 
--- THE HEAD that policies and key bags share: protocol or 0, SPI size or reserved, length, SPI
+-- THE HEAD that policies and key bags share: protocol or 0, SPI size or reserved, length, SPI. First how many octets an SPI of a protocol
+-- has, 0 where there is none
 abbrev pub spiSize : ℕ → ℕ
 spiSize p =
     either (eqb p protocolGikeUpdate) rekeySpiOctets
     (either (eqb p protocolEsp) dataSpiOctets (either (eqb p protocolAh) dataSpiOctets 0))
 
--- 0 stands for the group-wide policy and the Member Key Bag, which have no SPI
+-- whether a first octet is known; 0 stands for the group-wide policy and the Member Key Bag, which have no SPI
 abbrev pub firstKnown : ℕ → Bool
 firstKnown p = either (eqb p noProtocol) true (ltb 0 (spiSize p))
 
@@ -57,7 +58,7 @@ pub data Policy : Type 0 where
   groupSa : GroupSaPolicy → Policy
   groupWide : GroupWidePolicy → Policy
 
--- the transforms of a Group SA policy, whose offset is h, and the attributes after them
+-- the transforms of a Group SA policy at the offset `h`, and the attributes after them
 pub record Suite : Type 0 where
   pub transforms : List Transform
   pub attributes : List Attribute
@@ -65,7 +66,7 @@ pub record Suite : Type 0 where
 unfoldable pub suite : ℕ → Place → Reader Suite
 suite h p = andThen (transforms h) (λ ts b r. mapped (λ l. record { transforms = ts; attributes = l }) (attributes p b r))
 
--- what a Group SA policy, whose offset is h, holds after its SPI: two selectors, one or more transforms, attributes
+-- what a Group SA policy at the offset `h` holds after its SPI: two selectors, one or more transforms, attributes
 pub record SaBody : Type 0 where
   pub source : Selector
   pub destination : Selector
@@ -90,7 +91,7 @@ groupSaOf s x = groupSa (record {
 abbrev pub groupWideOf : List Attribute → Policy
 groupWideOf l = groupWide (record { deactivationDelays = deactivationDelays place.GroupWidePolicy l })
 
--- what the policy s, whose offset is h, holds after its head
+-- what the policy `s` at the offset `h` holds after its head
 abbrev pub policyHolds : ℕ → List ℕ → Reader Policy
 policyHolds h s b r =
     either (eqb (oct s 0) noProtocol) (mapped groupWideOf (attributes place.GroupWidePolicy b r))
@@ -99,6 +100,6 @@ policyHolds h s b r =
 unfoldable pub policy : Reader Policy
 policy b s = opened b (headFits s) (within (headSize s) (be16 s structureLengthAt) (policyHolds b s) b s)
 
--- the policies that a GSA payload's body is, to its end
+-- the policies of a GSA payload's body, to its end
 abbrev pub policies : Reader (List Policy)
 policies b s = many policy b s

@@ -18,7 +18,7 @@ pub record Selector : Type 0 where
   pub startAddress : List ℕ
   pub endAddress : List ℕ
 
--- octets of an address and of a whole selector, by type; 0 for no type
+-- how many octets an address and a whole selector have, by the selector's type; 0 for an unknown type
 abbrev pub addressSize : ℕ → ℕ
 addressSize t = either (eqb t ipv4Range) ipv4AddressOctets (either (eqb t ipv6Range) ipv6AddressOctets 0)
 
@@ -35,12 +35,12 @@ selectorOf s = record {
   endAddress = part s (addressesAt + addressSize (oct s 0)) (selectorSize (oct s 0));
 }
 
--- its type is known, its length is the type's, and its octets are there
+-- whether the type of the selector at the start of `s` is known, its length is the type's, and its octets are there
 abbrev pub selectorFits : List ℕ → Bool
 selectorFits s =
     let n = selectorSize (oct s 0) in
     both (ltb 0 n) (both (leb n (length s)) (eqb (be16 s structureLengthAt) n))
 
--- h is the offset of the policy that holds it
+-- the selector at the start of `s`, or broken; a missing one counts for its policy, at the offset `h`
 unfoldable pub selector : ℕ → Reader Selector
 selector h b s = begun h s (opened b (selectorFits s) (whole (selectorOf s) (drop (selectorSize (oct s 0)) s)))

@@ -23,7 +23,7 @@ isMark m = either (eqb m moreTransforms) true (eqb m lastTransform)
 abbrev pub transformFits : List ℕ → Bool
 transformFits s = both (sized transformHeadOctets s) (isMark (oct s 0))
 
--- the transform whose attributes are l, and whether another follows
+-- the transform at the start of `s` with the attributes `l`, and whether another follows
 abbrev pub transformOf : List ℕ → List Attribute → Linked Bool Transform
 transformOf s l = record {
   item = record {
@@ -34,7 +34,7 @@ transformOf s l = record {
   next = eqb (oct s 0) moreTransforms;
 }
 
--- h is the offset of the policy that holds it
+-- the transform at the start of `s`, or broken; a missing one counts for its policy, at the offset `h`
 unfoldable pub transform : ℕ → Bool → Reader (Linked Bool Transform)
 transform h more b s =
     begun h s

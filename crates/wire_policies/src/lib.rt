@@ -22,7 +22,8 @@ use wire_attributes::tables::Place;
 pub mod selectors;
 pub mod transforms;
 
-// Transforms, then attributes to the end; holder is the offset of the policy.
+// Checks that `s` is one or more transforms, then attributes of `place` to its end. `base` is the offset of `s`, `holder` that of the
+// policy.
 fn suite_layout(place: Place, s: &[u8], base: usize, holder: usize) -> Layout
     requires { ⌜ base + length (now s) < 4294967296 ⌝ }
     ensures { λ r. ⌜ r ≡ layoutOf (suite holder place base (now (s .entry))) ⌝ }
@@ -33,7 +34,8 @@ fn suite_layout(place: Place, s: &[u8], base: usize, holder: usize) -> Layout
     }
 }
 
-// What a Group SA policy holds after its SPI.
+// Checks what a Group SA policy holds after its SPI: two selectors, one or more transforms, attributes of `place`. `base` is the offset of
+// `s`, `holder` that of the policy.
 fn body_layout(place: Place, s: &[u8], base: usize, holder: usize) -> Layout
     requires { ⌜ base + length (now s) < 4294967296 ⌝ }
     ensures { λ r. ⌜ r ≡ layoutOf (saBody holder place base (now (s .entry))) ⌝ }
@@ -50,7 +52,7 @@ fn body_layout(place: Place, s: &[u8], base: usize, holder: usize) -> Layout
     }
 }
 
-// The size of a protocol's SPI; 0 for no protocol.
+// Answers how many octets an SPI of `protocol` has; 0 where `protocol` is not Rekey, ESP or AH.
 pub fn spi_size(protocol: usize) -> usize
     ensures { λ r. ⌜ (r ≡ spiSize protocol) × (r < 17) ⌝ }
 {
@@ -66,7 +68,8 @@ pub fn spi_size(protocol: usize) -> usize
     0
 }
 
-// Whether the octets start with the head of a policy or of a key bag, as long as it says.
+// Whether the head of a policy or key bag at the start of `s` fits. Its first octet must be known and, unless it is 0, have its protocol's
+// SPI size behind it; the length field must be at least the head's size with the SPI and at most `s.len()`.
 pub fn head_fits(s: &[u8]) -> bool
     ensures { λ r. ⌜ r ≡ headFits (now (s .entry)) ⌝ }
 {
@@ -87,7 +90,7 @@ pub fn head_fits(s: &[u8]) -> bool
     false
 }
 
-// What a policy whose head fits holds after its head.
+// Checks what the policy at the start of `s` holds after its head, which must fit. `base` is the offset of `s`.
 fn policy_layout(s: &[u8], base: usize) -> Layout
     requires { ⌜ (headFits (now s) ≡ true) × (base + length (now s) < 4294967296) ⌝ }
     ensures { λ r. ⌜ r ≡ layoutOf (policyHolds base (now (s .entry)) (base + headSize (now (s .entry)))
@@ -107,7 +110,7 @@ fn policy_layout(s: &[u8], base: usize) -> Layout
     )
 }
 
-// The policy that the octets, which start at the offset base, start with: where it ends.
+// Reads the policy at the start of `s` and answers where it ends. `base` is the offset of `s`.
 pub fn policy_spot(s: &[u8], base: usize) -> Spot
     requires { ⌜ base + length (now s) < 4294967296 ⌝ }
     ensures { λ r. ⌜ r ≡ spotOf (now (s .entry)) (policy base (now (s .entry))) ⌝ }
@@ -123,7 +126,7 @@ pub fn policy_spot(s: &[u8], base: usize) -> Spot
     }
 }
 
-// Whether the octets, which start at the offset base, are policies to their end.
+// Checks that `s` is policies, one after the other to its end. `base` is the offset of `s`.
 pub fn are_policies(s: &[u8], base: usize) -> Layout
     requires { ⌜ base + length (now s) < 4294967296 ⌝ }
     ensures { λ r. ⌜ r ≡ layoutOf (policies base (now (s .entry))) ⌝ }

@@ -10,7 +10,7 @@ use ikev2_numbers::TS_IPV4_ADDR_RANGE;
 use ikev2_numbers::TS_IPV6_ADDR_RANGE;
 use wire_attributes::Spot;
 
-// The size of a selector by its type; 0 for no type.
+// Answers how many octets a selector of the type `kind` has; 0 for an unknown type.
 pub fn selector_size(kind: usize) -> usize
     ensures { λ r. ⌜ (r ≡ selectorSize kind) × (r < 41) ⌝ }
 {
@@ -23,7 +23,8 @@ pub fn selector_size(kind: usize) -> usize
     0
 }
 
-// The selector that the octets, which start at the offset base, start with: where it ends; holder is the offset of its policy.
+// Reads the selector at the start of `s` and answers where it ends. `base` is the offset of `s`, `holder` that of the policy. Where `s` is
+// empty the selector is missing and counts for the policy.
 pub fn selector_spot(s: &[u8], base: usize, holder: usize) -> Spot
     ensures { λ r. ⌜ r ≡ spotOf (now (s .entry)) (selector holder base (now (s .entry))) ⌝ }
 {

@@ -13,7 +13,8 @@ use ikev2_numbers::TRANSFORM_TYPE_AT;
 use wire_attributes::Layout;
 use wire_attributes::Spot;
 
-// Whether the octets start with a transform's own fields, as long as they say.
+// Whether `s` starts with a transform's own fields: its length field is at least their size and at most `s.len()`, its first octet is 3
+// (more) or 0 (last).
 fn transform_fits(s: &[u8]) -> bool
     ensures { λ r. ⌜ r ≡ transformFits (now (s .entry)) ⌝ }
 {
@@ -27,7 +28,8 @@ fn transform_fits(s: &[u8]) -> bool
     false
 }
 
-// The transform that the octets, which start at the offset base, start with: where it ends; holder is the offset of its policy.
+// Reads the transform at the start of `s` and answers where it ends. `base` is the offset of `s`, `holder` that of the policy. Where `s` is
+// empty the transform is missing and counts for the policy.
 pub fn transform_spot(s: &[u8], base: usize, holder: usize) -> Spot
     requires { ⌜ base + length (now s) < 4294967296 ⌝ }
     ensures { λ r. ⌜ r ≡ spotOf (now (s .entry)) (transform holder true base (now (s .entry))) ⌝ }
@@ -47,7 +49,8 @@ pub fn transform_spot(s: &[u8], base: usize, holder: usize) -> Spot
     }
 }
 
-// The transforms that the octets, which start at the offset base, start with: where the last one ends.
+// Reads one or more transforms at the start of `s` and answers where the last one ends. `base` is the offset of `s`, `holder` that of the
+// policy.
 pub fn transforms_spot(s: &[u8], base: usize, holder: usize) -> Spot
     requires { ⌜ base + length (now s) < 4294967296 ⌝ }
     ensures { λ r. ⌜ r ≡ spotOf (now (s .entry)) (transforms holder base (now (s .entry))) ⌝ }

@@ -1,4 +1,4 @@
-// Key bags of a body whose layout is whole, gone through again.
+// Reads the key bags of a KD body whose layout is whole.
 ghost use mathlib.Core.Path.{_≡_};
 ghost use mathlib.Core.Bool.{true};
 ghost use Prim.Native.Nat.{_<_};
@@ -8,7 +8,7 @@ ghost use Rattle.wire_bags.specs.Bag.{bags};
 ghost use Rattle.wire_readers.specs.inner.Bags.{BagIs};
 use crate::policy::Parts;
 
-// The first of the key bags that the octets are.
+// Reads the first key bag of `s`, a KD body or the rest of one.
 pub fn bag_parts(s: &[u8]) -> Parts
     requires { ⌜ (0 < length (now s)) × (isWhole (bags 0 (now s)) ≡ true) ⌝ }
     ensures { λ r. ⌜ BagIs (now (s .entry)) r ⌝ }

@@ -1,4 +1,4 @@
-// What a Group SA policy whose layout is whole holds after its SPI, gone through again.
+// Reads what a Group SA policy holds after its SPI, where its layout is whole.
 ghost use mathlib.Core.Path.{_≡_};
 ghost use mathlib.Core.List.{List};
 ghost use Prim.Native.Nat.{ℕ, _≤_};
@@ -13,7 +13,7 @@ use ikev2_numbers::STRUCTURE_LENGTH_AT;
 use ikev2_numbers::TRANSFORM_ID_AT;
 use ikev2_numbers::TRANSFORM_TYPE_AT;
 
-// A transform: its type, its ID, whether another follows, where it ends. Its attributes start at 8.
+// A transform: its type, its ID, whether another follows, where it ends. Its attributes start at its octet 8.
 pub struct TransformParts {
     pub kind: usize,
     pub id: usize,
@@ -21,14 +21,14 @@ pub struct TransformParts {
     pub end: usize,
 }
 
-// Where the destination selector, the transforms and the attributes start.
+// Where the destination selector, the transforms and the attributes start, counted from the source selector.
 pub struct SaParts {
     pub destination: usize,
     pub transforms: usize,
     pub attributes: usize,
 }
 
-// The first of the transforms that the octets start with.
+// Reads the first of the transforms at the start of `s`.
 pub fn transform_parts(s: &[u8]) -> TransformParts
     requires { ⌜ ((l : List Transform) × (tail : List ℕ) × Transforms (now s) l tail) ⌝ }
     ensures { λ r. ⌜ ((l : List Transform) (tail : List ℕ) → Transforms (now (s .entry)) l tail → TransformIs (now (s .entry)) l tail r) ⌝ }
@@ -41,7 +41,7 @@ pub fn transform_parts(s: &[u8]) -> TransformParts
     }
 }
 
-// Where the last of the transforms that the octets start with ends.
+// Answers where the last of the transforms at the start of `s` ends.
 fn transforms_end(s: &[u8]) -> usize
     requires { ⌜ ((l : List Transform) × (tail : List ℕ) × Transforms (now s) l tail) ⌝ }
     ensures { λ r. ⌜ (r ≤ length (now (s .entry)))
@@ -57,7 +57,7 @@ fn transforms_end(s: &[u8]) -> usize
     at
 }
 
-// The parts of what a Group SA policy holds after its SPI; the source selector comes first.
+// Finds the parts of `s`, all that a Group SA policy holds after its SPI. The source selector comes first.
 pub fn sa_parts(s: &[u8]) -> SaParts
     requires { ⌜ ((p : Place) × (x : SaBody) × IsSaBody p (now s) x) ⌝ }
     ensures { λ r. ⌜ ((p : Place) (x : SaBody) → IsSaBody p (now (s .entry)) x → SaPartsAre p (now (s .entry)) x r) ⌝ }

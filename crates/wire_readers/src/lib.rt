@@ -1,4 +1,4 @@
-// What a frame whose layout is whole holds, gone through again by the judging that follows.
+// Readers for the checks that follow refusal 1: they go again through a frame whose layout is whole.
 // Internal: crates of this repository alone call it.
 ghost use mathlib.Core.Path.{_≡_};
 ghost use Rattle.wire_readers.specs.inner.Values.{once};
@@ -9,13 +9,13 @@ pub mod payload;
 pub mod policy;
 pub mod values;
 
-// A stretch of octets: from the octet start up to the octet end, which is not in it.
+// A stretch of octets: from index `start` up to index `end`, which is not in it.
 pub struct Stretch {
     pub start: usize,
     pub end: usize,
 }
 
-// 1 where it is so.
+// Turns `b` into a count: 1 if it is true, else 0.
 pub fn one_if(b: bool) -> usize
     ensures { λ r. ⌜ r ≡ once b ⌝ }
 {

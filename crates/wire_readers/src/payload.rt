@@ -1,4 +1,4 @@
-// Payloads of a frame whose layout is whole, gone through again.
+// Reads the payloads of a frame whose layout is whole.
 ghost use mathlib.Core.Path.{_≡_};
 ghost use mathlib.Core.Bool.{true};
 ghost use Rattle.wire_readers.specs.inner.Values.{isWhole};
@@ -14,7 +14,7 @@ pub struct PayloadParts {
     pub end: usize,
 }
 
-// The first of the payloads that the octets are, which is of a kind.
+// Reads the first of the payloads `s`; its type is `kind`.
 pub fn payload_parts(kind: usize, s: &[u8]) -> PayloadParts
     requires { ⌜ (kind ≡ 0 → ⊥) × (isWhole (nothingLeft (payloads kind 0 (now s))) ≡ true) ⌝ }
     ensures { λ r. ⌜ PayloadIs kind (now (s .entry)) r ⌝ }

@@ -1,4 +1,4 @@
-// Policies of a body whose layout is whole, gone through again.
+// Reads the policies of a GSA body whose layout is whole.
 ghost use mathlib.Core.Path.{_≡_};
 ghost use mathlib.Core.Bool.{true};
 ghost use Prim.Native.Nat.{_<_};
@@ -9,14 +9,14 @@ ghost use Rattle.wire_readers.specs.inner.Policies.{Heads, PolicyIs};
 use ikev2_numbers::POLICY_HEAD;
 use ikev2_numbers::STRUCTURE_LENGTH_AT;
 
-// A policy or a key bag: its first octet, where its head and where it ends.
+// A policy or a key bag: its first octet, where its body starts (behind head and SPI), where it ends.
 pub struct Parts {
     pub first: usize,
     pub body: usize,
     pub end: usize,
 }
 
-// The parts of a policy or key bag whose head fits.
+// Reads the head of the policy or key bag at the start of `s`. The head must fit (`wire_policies::head_fits`).
 pub fn head_parts(s: &[u8]) -> Parts
     requires { ⌜ headFits (now s) ≡ true ⌝ }
     ensures { λ r. ⌜ Heads (now (s .entry)) r ⌝ }
@@ -31,7 +31,7 @@ pub fn head_parts(s: &[u8]) -> Parts
     }
 }
 
-// The first of the policies that the octets are.
+// Reads the first policy of `s`, a GSA body or the rest of one.
 pub fn policy_parts(s: &[u8]) -> Parts
     requires { ⌜ (0 < length (now s)) × (isWhole (policies 0 (now s)) ≡ true) ⌝ }
     ensures { λ r. ⌜ PolicyIs (now (s .entry)) r ⌝ }

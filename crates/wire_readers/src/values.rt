@@ -1,4 +1,4 @@
-// Attributes of a stretch whose layout is whole, gone through again.
+// Reads the attributes of a stretch whose layout is whole.
 ghost use mathlib.Core.Path.{_≡_};
 ghost use mathlib.Core.Bool.{true};
 ghost use Prim.Native.Nat.{_+_, _≤_, _<_};
@@ -9,13 +9,13 @@ use wire_attributes::Read;
 use wire_attributes::tables::Meaning;
 use wire_attributes::tables::Place;
 
-// Where an attribute stands, from and up to.
+// Where an attribute starts and where it ends; or that there is none.
 pub enum ValueFound {
     At(usize, usize),
     Nothing,
 }
 
-// The first attribute from a place on that has a meaning: where it stands, for `wire_attributes::attribute_value`, and where it ends.
+// Finds the first attribute of `s` from index `from` on that means `m` in `place`. `wire_attributes::attribute_value` takes its start.
 pub fn next_attribute(m: Meaning, place: Place, s: &[u8], from: usize) -> ValueFound
     requires { ⌜ (from ≤ length (now s)) × (isWhole (attributes place 0 (drop from (now s))) ≡ true) ⌝ }
     ensures { λ r. ⌜ FindsValue m place (now (s .entry)) from r ⌝ }
@@ -46,7 +46,8 @@ pub fn next_attribute(m: Meaning, place: Place, s: &[u8], from: usize) -> ValueF
     ValueFound::Nothing
 }
 
-// The value of that attribute, where it stands; none where no attribute from the place on has the meaning.
+// Answers the value of the first attribute of `s` from index `from` on that means `m` in `place`, as a slice of `s`; empty if there is
+// none.
 pub fn value_of(m: Meaning, place: Place, s: &[u8], from: usize) -> &[u8]
     requires { ⌜ (from ≤ length (now s)) × (isWhole (attributes place 0 (drop from (now s))) ≡ true) ⌝ }
     ensures { λ r. ⌜ (now r ≡ firstValue m place (now (s .entry)) from) × (0 < length (now r) → valueSize m (length (now r)) ≡ true) ⌝ }
@@ -58,7 +59,7 @@ pub fn value_of(m: Meaning, place: Place, s: &[u8], from: usize) -> &[u8]
     }
 }
 
-// How many attributes have a meaning.
+// Counts the attributes of `s` that mean `m` in `place`.
 pub fn count_of(m: Meaning, place: Place, s: &[u8]) -> usize
     requires { ⌜ isWhole (attributes place 0 (now s)) ≡ true ⌝ }
     ensures { λ r. ⌜ r ≡ length (valuesIn m place (now (s .entry))) ⌝ }

@@ -5,6 +5,7 @@ use mathlib.Core.List.{List, [], _∷_, _++_, map}
 use mathlib.Core.Bool.{Bool, true, false}
 use lib.Dec.{leb, eqb}
 use lib.ListN.{length, drop, getD}
+use Rattle.ikev2_numbers.specs.Codes.{addressesAt, policyHeadOctets, structureLengthAt}
 use Rattle.octets.specs.Numbers.{oct}
 use Rattle.octets.specs.Walk.{be16, either, both, Reading, whole, broken, Linked}
 use Rattle.wire_attributes.specs.Attribute.{Attribute, leadOf, spanOf}
@@ -21,7 +22,7 @@ use Rattle.wire_view.specs.declared.read.Kind.{Kind}
 use Rattle.wire_view.specs.declared.read.Kind.the-variants as kind
 use Rattle.wire_view.specs.declared.read.Step.{Step}
 
--- what a reading that leaves no octet holds, by f; of any other there is nothing
+-- `f` of what was read, if no octet is left; `nothing` for every other reading
 abbrev pub onAll : {A B : Type 0} → B → (A → B) → Reading A → B
 onAll nothing f (whole a []) = f a
 onAll nothing f (whole a (x ∷ rest)) = nothing
@@ -41,7 +42,7 @@ kindIn (groupWide x) = kind.GroupWide
 abbrev pub shownKind : List ℕ → Kind
 shownKind s = onAll kind.Nothing kindIn (policy 0 s)
 
--- the first octet of the policy that the octets are
+-- the first octet of the policy `s`; none if `s` is no policy
 abbrev pub octetOf : List ℕ → List ℕ
 octetOf s = onAll [] (λ (x : Policy). oct s 0 ∷ []) (policy 0 s)
 
@@ -52,17 +53,17 @@ spiIn (groupWide x) = []
 abbrev pub shownSpi : List ℕ → List ℕ
 shownSpi s = onAll [] spiIn (policy 0 s)
 
--- where it starts in those octets, behind "protocol, SPI size, length 2"; 0 where there is none
+-- where the SPI starts in the policy, behind "protocol, SPI size, length 2"; 0 where there is none
 abbrev pub spiStartIn : Policy → ℕ
-spiStartIn (groupSa x) = 4
+spiStartIn (groupSa x) = policyHeadOctets
 spiStartIn (groupWide x) = 0
 
 abbrev pub spiStart : List ℕ → ℕ
 spiStart s = onAll 0 spiStartIn (policy 0 s)
 
--- ONE SELECTOR, TRANSFORM OR ATTRIBUTE; a selector and an attribute stand at an offset b of the policy
+-- ONE SELECTOR, TRANSFORM OR ATTRIBUTE; a selector and an attribute stand at an offset `b` of the policy
 abbrev pub shownSelector : ℕ → Selector → Item
-shownSelector b x = item.Selector (x .kind) (x .protocol) (x .startPort) (x .endPort) (b + 8) (b + selectorSize (x .kind))
+shownSelector b x = item.Selector (x .kind) (x .protocol) (x .startPort) (x .endPort) (b + addressesAt) (b + selectorSize (x .kind))
 
 abbrev pub shownTransform : Transform → Item
 shownTransform t = item.Transform (t .kind) (t .id) (length (t .keyLengths)) (getD (t .keyLengths) 0 0)
@@ -70,7 +71,7 @@ shownTransform t = item.Transform (t .kind) (t .id) (length (t .keyLengths)) (ge
 abbrev pub shownAttribute : Place → ℕ → Attribute → Item
 shownAttribute p b a = item.Attribute (meaningOf p (a .kind)) (a .short) (a .kind) (b + leadOf a) (b + leadOf a + length (a .value))
 
--- ALL OF THEM, one after the other. Attributes fill a policy to its end, at the offset e
+-- ALL OF THEM, one after the other. Attributes fill a policy to its end, at the offset `e`
 unfoldable pub attributesSpan : List Attribute → ℕ
 attributesSpan [] = 0
 attributesSpan (a ∷ l) = spanOf a + attributesSpan l
@@ -82,7 +83,7 @@ shownAttributes p e (a ∷ l) = shownAttribute p (e - attributesSpan (a ∷ l)) 
 abbrev pub shownSuite : Place → ℕ → Suite → List Item
 shownSuite p e x = map shownTransform (x .transforms) ++ shownAttributes p e (x .attributes)
 
--- what a Group SA policy holds from the offset b on
+-- what a Group SA policy holds from the offset `b` on
 abbrev pub shownBody : Place → ℕ → ℕ → SaBody → List Item
 shownBody p b e x =
     shownSelector b (x .source)
@@ -94,7 +95,8 @@ itemsIn s (groupSa x) =
     let p = inPolicy (x .protocol) in
     let h = headSize s in
     onAll [] (shownBody p h (length s)) (saBody 0 p h (drop h s))
-itemsIn s (groupWide x) = onAll [] (shownAttributes place.GroupWidePolicy (length s)) (attributes place.GroupWidePolicy 4 (drop 4 s))
+itemsIn s (groupWide x) = onAll [] (shownAttributes place.GroupWidePolicy (length s))
+    (attributes place.GroupWidePolicy policyHeadOctets (drop policyHeadOctets s))
 
 abbrev pub shownItems : List ℕ → List Item
 shownItems s = onAll [] (itemsIn s) (policy 0 s)
@@ -120,13 +122,13 @@ cursorAt b comes = parts * b + comes
 abbrev pub stayStep : ℕ → Step
 stayStep c = record { item = item.Nothing; next = c }
 
--- by what is read at the cursor c: what it shows, and what comes where the octets that are left start
+-- the step over what is read at the cursor `c`: `show` says how it is shown, `comes` what comes behind it, where the octets left start
 abbrev pub stepped : {A : Type 0} → List ℕ → ℕ → (A → Item) → (A → ℕ) → Reading A → Step
 stepped s c show comes (whole a rest) = record { item = show a; next = cursorAt (length s - length rest) (comes a) }
 stepped s c show comes (broken o) = stayStep c
 
--- over a selector, behind which comes a part that the caller names; over a transform, behind which comes another one or an attribute; over
--- an attribute
+-- the steps over a selector, a transform and an attribute at the offset `b`. Behind a selector comes what `comes` says, behind a transform
+-- another one or an attribute, behind an attribute another one
 abbrev pub selectorStep : List ℕ → ℕ → ℕ → ℕ → Step
 selectorStep s c comes b = stepped s c (shownSelector b) (λ (x : Selector). comes) (selector 0 b (drop b s))
 
@@ -135,7 +137,7 @@ transformStep s c b =
     stepped s c (λ (x : Linked Bool Transform). shownTransform (x .item))
     (λ (x : Linked Bool Transform). either (x .next) atTransform atAttribute) (transform 0 true b (drop b s))
 
--- where the attributes of a policy stand, by its first octet
+-- the place of the attributes of the policy `s`, by its first octet
 abbrev pub policyPlace : List ℕ → Place
 policyPlace s = either (eqb (oct s 0) 0) place.GroupWidePolicy (inPolicy (oct s 0))
 
@@ -146,26 +148,26 @@ attributeStep s c b =
 -- the first step finds out which policy the octets are: it alone reads all of them
 abbrev pub firstIn : List ℕ → ℕ → Policy → Step
 firstIn s c (groupSa x) = selectorStep s c atDestination (headSize s)
-firstIn s c (groupWide x) = attributeStep s c 4
+firstIn s c (groupWide x) = attributeStep s c policyHeadOctets
 
 abbrev pub firstStep : List ℕ → ℕ → Step
 firstStep s c = onAll (stayStep c) (firstIn s c) (policy 0 s)
 
--- from the cursor c, by what comes and at which offset
+-- the step from the cursor `c`, by what `comes` there and at which offset `b`
 abbrev pub stepBy : List ℕ → ℕ → ℕ → ℕ → Step
 stepBy s c comes b =
     either (eqb comes 0) (firstStep s c)
     (either (eqb comes atDestination) (selectorStep s c atTransform b)
     (either (eqb comes atTransform) (transformStep s c b) (attributeStep s c b)))
 
--- octets that are not as many as their "length 2" says show nothing
+-- whether the octets are as many as their "length 2" says; others show nothing
 abbrev pub counted : List ℕ → Bool
-counted s = both (leb 4 (length s)) (eqb (be16 s 2) (length s))
+counted s = both (leb policyHeadOctets (length s)) (eqb (be16 s structureLengthAt) (length s))
 
 abbrev pub stepAt : List ℕ → ℕ → Step
 stepAt s c = either (counted s) (stepBy s c (c % parts) (c / parts)) (stayStep c)
 
--- its parts: what stands at the cursor, the cursor behind it, and whether nothing stands there
+-- the parts of a step: what stands at the cursor, the cursor behind it, and whether nothing stands there
 abbrev pub itemAt : List ℕ → ℕ → Item
 itemAt s c = stepAt s c .item
 
@@ -181,7 +183,7 @@ isNothing item.Nothing = true
 abbrev pub isAtEnd : List ℕ → ℕ → Bool
 isAtEnd s c = isNothing (itemAt s c)
 
--- A WALK: what n steps show from a cursor on, up to the end
+-- A WALK: what `n` steps show from the cursor `c` on, up to the end
 unfoldable pub shownIn : ℕ → List ℕ → ℕ → List Item
 shownIn zero s c = []
 shownIn (suc n) s c =

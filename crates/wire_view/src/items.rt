@@ -17,6 +17,7 @@ use ikev2_numbers::ADDRESSES_AT;
 use ikev2_numbers::END_PORT_AT;
 use ikev2_numbers::START_PORT_AT;
 use ikev2_numbers::TRANSFORM_HEAD;
+use ikev2_numbers::TRANSFORM_ID_AT;
 use ikev2_numbers::TRANSFORM_TYPE_AT;
 use wire_attributes::Read;
 use wire_attributes::tables::Meaning;
@@ -51,7 +52,7 @@ pub enum Item {
     Nothing,
 }
 
-// The selector that the octets are, at an offset of the policy.
+// Shows the selector `s`, which starts at the offset `base` of the policy.
 pub fn selector_item(s: &[u8], base: usize) -> Item
     requires { ⌜ (base + length (now s) < 2 ^ 64) × ((x : Selector) × IsSelector (now s) x) ⌝ }
     ensures { λ r. ⌜ ((x : Selector) → IsSelector (now (s .entry)) x → r ≡ shownSelector base x) ⌝ }
@@ -66,7 +67,7 @@ pub fn selector_item(s: &[u8], base: usize) -> Item
     }
 }
 
-// The first Key Length of a transform's attributes, in bits, or 0.
+// Answers the first Key Length, in bits, of a transform's attributes `s`, which stand in `place`; 0 if there is none.
 fn key_length(place: Place, s: &[u8]) -> usize
     requires { ⌜ isWhole (attributes place 0 (now s)) ≡ true ⌝ }
     ensures { λ r. ⌜ r ≡ getD (map number16 (valuesIn KeyLength place (now (s .entry)))) 0 0 ⌝ }
@@ -78,7 +79,7 @@ fn key_length(place: Place, s: &[u8]) -> usize
     octets::numbers::be16_at(v, 0)
 }
 
-// The transform that the octets are.
+// Shows the transform `s`.
 pub fn transform_item(s: &[u8]) -> Item
     requires { ⌜ ((t : Transform) × (more : Bool) × IsTransform true (now s) t more) ⌝ }
     ensures { λ r. ⌜ ((t : Transform) (more : Bool) → IsTransform true (now (s .entry)) t more → r ≡ shownTransform t) ⌝ }
@@ -88,13 +89,13 @@ pub fn transform_item(s: &[u8]) -> Item
     let held = &s[TRANSFORM_HEAD..];
     Item::Transform {
         kind,
-        id: octets::numbers::be16_at(s, END_PORT_AT),
+        id: octets::numbers::be16_at(s, TRANSFORM_ID_AT),
         key_lengths: wire_readers::values::count_of(Meaning::KeyLength, place, held),
         key_length: key_length(place, held),
     }
 }
 
-// The attribute that the octets start with, in a place and at an offset of the policy.
+// Shows the attribute at the start of `s`, which stands in `place` and at the offset `base` of the policy; nothing if it is cut short.
 pub fn attribute_item(place: Place, s: &[u8], base: usize) -> Item
     requires { ⌜ base + length (now s) < 2 ^ 64 ⌝ }
     ensures { λ r. ⌜ (fits (now (s .entry)) ≡ true → r ≡ shownAttribute place base (attributeOf (now (s .entry)))) ⌝ }

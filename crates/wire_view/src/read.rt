@@ -1,4 +1,4 @@
-// What octets show as a policy, for plain slices and numbers.
+// Reads what a view shows, from a plain slice and a cursor.
 ghost use mathlib.Core.Path.{_≡_};
 ghost use Prim.Native.Nat.{_+_, _<_};
 ghost use lib.ListN.{length};
@@ -20,7 +20,7 @@ pub enum Kind {
     Nothing,
 }
 
-// Which policy the octets are, to their end.
+// Answers which policy `s` is, from its first octet to its end.
 pub fn kind_of(s: &[u8]) -> Kind
     ensures { λ r. ⌜ (r ≡ shownKind (now (s .entry))) × (firstOctet r ≡ octetOf (now (s .entry))) ⌝ }
 {
@@ -44,7 +44,7 @@ pub fn kind_of(s: &[u8]) -> Kind
     Kind::Nothing
 }
 
-// The SPI of the policy that the octets are, where it stands; none for a group-wide policy and for no policy.
+// Answers the SPI of the policy `s`, as a slice of `s`; empty for a group-wide policy and for no policy.
 pub fn spi_of(s: &[u8]) -> &[u8]
     ensures { λ r. ⌜ (now r ≡ shownSpi (now (s .entry)))
         × (r .ptr ≡ (s .entry .ptr .0, spiStart (now (s .entry)) + s .entry .ptr .1)) ⌝ }
@@ -65,7 +65,7 @@ pub struct Step {
     pub next: usize,
 }
 
-// What comes at a cursor's offset; 0 is before the first. A cursor is the offset times their number, plus one of them.
+// What comes at a cursor's offset. A cursor is `PARTS` times the offset, plus one of the three; plus 0 is before the first part.
 const DESTINATION: usize = 1;
 
 const TRANSFORM: usize = 2;
@@ -74,7 +74,7 @@ const ATTRIBUTE: usize = 3;
 
 const PARTS: usize = 4;
 
-// The cursor at an offset for what comes there.
+// Makes the cursor at the offset `at` for what `comes` there.
 fn cursor_at(at: usize, comes: usize) -> usize
     requires { ⌜ (at < 65536) × (comes < 4) ⌝ }
     ensures { λ r. ⌜ r ≡ cursorAt at comes ⌝ }
@@ -82,7 +82,7 @@ fn cursor_at(at: usize, comes: usize) -> usize
     PARTS * at + comes
 }
 
-// The step that shows nothing and stays.
+// Answers the step that shows nothing and stays at the cursor `c`.
 fn stay(c: usize) -> Step
     ensures { λ r. ⌜ r ≡ stayStep c ⌝ }
 {
@@ -92,7 +92,8 @@ fn stay(c: usize) -> Step
     }
 }
 
-// The step over the selector at an offset, behind which comes another part of the policy.
+// Steps over the selector at the offset `at` of the policy `s`; `comes` says what follows it. Stays at the cursor `c` if no selector is
+// laid out there.
 fn selector_step(s: &[u8], c: usize, comes: usize, at: usize) -> Step
     requires { ⌜ (length (now s) < 65536) × (comes < 4) ⌝ }
     ensures { λ r. ⌜ r ≡ selectorStep (now (s .entry)) c comes at ⌝ }
@@ -113,7 +114,7 @@ fn selector_step(s: &[u8], c: usize, comes: usize, at: usize) -> Step
     }
 }
 
-// The step over the transform at an offset.
+// Steps over the transform at the offset `at` of the policy `s`. Stays at the cursor `c` if no transform is laid out there.
 fn transform_step(s: &[u8], c: usize, at: usize) -> Step
     requires { ⌜ length (now s) < 65536 ⌝ }
     ensures { λ r. ⌜ r ≡ transformStep (now (s .entry)) c at ⌝ }
@@ -140,7 +141,7 @@ fn transform_step(s: &[u8], c: usize, at: usize) -> Step
     }
 }
 
-// The place of a policy's attributes, by its first octet.
+// Answers the place of the attributes of the policy `s`, by its first octet.
 fn place_of(s: &[u8]) -> Place
     requires { ⌜ 0 < length (now s) ⌝ }
     ensures { λ r. ⌜ r ≡ policyPlace (now (s .entry)) ⌝ }
@@ -152,7 +153,7 @@ fn place_of(s: &[u8]) -> Place
     wire_attributes::tables::in_policy(p)
 }
 
-// The step over the attribute at an offset.
+// Steps over the attribute at the offset `at` of the policy `s`. Stays at the cursor `c` if no attribute is laid out there.
 fn attribute_step(s: &[u8], c: usize, at: usize) -> Step
     requires { ⌜ (0 < length (now s)) × (length (now s) < 65536) ⌝ }
     ensures { λ r. ⌜ r ≡ attributeStep (now (s .entry)) c at ⌝ }
@@ -174,7 +175,8 @@ fn attribute_step(s: &[u8], c: usize, at: usize) -> Step
     }
 }
 
-// The step over the first of all that the policy holds.
+// Steps over the source selector or, in a group-wide policy, over the first attribute of `s`. Stays at the cursor `c` if `s` is no policy
+// or holds nothing.
 fn first_step(s: &[u8], c: usize) -> Step
     requires { ⌜ (0 < length (now s)) × (length (now s) < 65536) ⌝ }
     ensures { λ r. ⌜ r ≡ firstStep (now (s .entry)) c ⌝ }
@@ -191,7 +193,7 @@ fn first_step(s: &[u8], c: usize) -> Step
     }
 }
 
-// The step from a cursor, by what comes there and at which offset.
+// Steps from the cursor `c`: `comes` says what comes there, `at` at which offset.
 fn step_by(s: &[u8], c: usize, comes: usize, at: usize) -> Step
     requires { ⌜ (0 < length (now s)) × (length (now s) < 65536) ⌝ }
     ensures { λ r. ⌜ r ≡ stepBy (now (s .entry)) c comes at ⌝ }
@@ -208,7 +210,8 @@ fn step_by(s: &[u8], c: usize, comes: usize, at: usize) -> Step
     attribute_step(s, c, at)
 }
 
-// What stands at a cursor of the policy that the octets are, and the cursor behind it, which stays at the end.
+// Answers what stands at the cursor `c` of the policy `s`, and the cursor moved on; at the end the cursor stays. Shows nothing where the
+// length field of `s` is not `s.len()`.
 pub fn step_at(s: &[u8], c: usize) -> Step
     ensures { λ r. ⌜ r ≡ stepAt (now (s .entry)) c ⌝ }
 {
@@ -222,7 +225,7 @@ pub fn step_at(s: &[u8], c: usize) -> Step
     stay(c)
 }
 
-// What stands at a cursor.
+// Answers what stands at the cursor `c` of the policy `s`.
 pub fn item_at(s: &[u8], c: usize) -> Item
     ensures { λ r. ⌜ r ≡ itemAt (now (s .entry)) c ⌝ }
 {
@@ -230,7 +233,7 @@ pub fn item_at(s: &[u8], c: usize) -> Item
     step.item
 }
 
-// The cursor behind it, which stays at the end.
+// Answers the cursor `c` of the policy `s` moved on; at the end it stays.
 pub fn next_after(s: &[u8], c: usize) -> usize
     ensures { λ r. ⌜ r ≡ nextAfter (now (s .entry)) c ⌝ }
 {
@@ -238,7 +241,7 @@ pub fn next_after(s: &[u8], c: usize) -> usize
     step.next
 }
 
-// Whether nothing stands at a cursor.
+// Whether nothing stands at the cursor `c` of the policy `s`.
 pub fn is_at_end(s: &[u8], c: usize) -> bool
     ensures { λ r. ⌜ r ≡ isAtEnd (now (s .entry)) c ⌝ }
 {

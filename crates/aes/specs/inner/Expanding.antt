@@ -1,4 +1,4 @@
--- The key expansion on its way, word by word.
+-- The key expansion in progress, word by word.
 use Prim.Native.Nat.{ℕ, _/_, _%_, _-_, _<_}
 use mathlib.Core.Path.{_≡_}
 use mathlib.Core.List.{List}
@@ -15,7 +15,7 @@ pub record ExpandedTo (key w : List ℕ) (i : ℕ) : Type 0 where
   pub same : (j : ℕ) → j < i → wordOctets (getD w j 0) ≡ word (keyExpansion key) j
   pub behind : ZeroWords w i 61
 
--- where word i stands: which word of its Nk words it is, and the first octet of Rcon[i / Nk]
+-- p is the place of word i: i mod Nk, and the first octet of Rcon[i / Nk]
 pub record Placed (nk i : ℕ) (p : WordPlace) : Type 0 where
   pub among : p .word ≡ i % nk
   pub rcon : p .constant ≡ power (i / nk - 1)

@@ -6,13 +6,14 @@ use lib.Dec.{ltb}
 use lib.ListN.{getD}
 use Rattle.aes.specs.inner.Word.{columnOf, lastColumnOf}
 
--- INVMIXCOLUMNS() of a word, by the tables for deciphering: the combined one has it of INVSBOX(), so SBOX() comes first
+-- INVMIXCOLUMNS() of the word x, by the tables t for deciphering. The combined table gives INVMIXCOLUMNS() of INVSBOX(), so SBOX() is
+-- applied first
 unfoldable pub unmixedOf : List ℕ → ℕ → ℕ
 unmixedOf t x =
     let y : ℕ = lastColumnOf t 512 x x x x 0 in
     columnOf t y y y y 0
 
--- the word of the expanded key for place j: rounds are counted from the last of n, columns the other way round
+-- the word of the expanded key for place j of the inverse schedule: rounds are counted down from n, columns in the order 0, 3, 2, 1
 abbrev pub sourceOf : List ℕ → ℕ → ℕ → ℕ
 sourceOf w n j = getD w (4 * (n - j / 4) + (4 - j % 4) % 4) 0
 

@@ -21,7 +21,7 @@ loadOf s =
       d = wordOf (getD s 12 0) (getD s 13 0) (getD s 14 0) (getD s 15 0);
     }
 
--- the state of a block that is two numbers of 64 bits
+-- the state of a block given as two numbers of 64 bits
 unfoldable pub splitOf : ℕ → ℕ → AesState
 splitOf hi lo =
     record { a = hi / 4294967296 % 4294967296; b = hi % 4294967296; c = lo / 4294967296 % 4294967296; d = lo % 4294967296 }
@@ -42,7 +42,7 @@ swappedOf s = record { a = s .a; b = s .d; c = s .c; d = s .b }
 abbrev pub roundKeyOf : List ℕ → ℕ → AesState
 roundKeyOf k r = record { a = getD k (4 * r) 0; b = getD k (4 * r + 1) 0; c = getD k (4 * r + 2) 0; d = getD k (4 * r + 3) 0 }
 
--- round key 0 added
+-- the state with round key 0 added
 unfoldable pub addFirstKey : List ℕ → AesState → AesState
 addFirstKey k s =
     record {
@@ -52,7 +52,7 @@ addFirstKey k s =
       d = bitXor (s .d) (getD k 3 0);
     }
 
--- round r, with the combined table that t begins with
+-- round r, with the combined table at the start of t
 unfoldable pub roundOf : List ℕ → List ℕ → ℕ → AesState → AesState
 roundOf t k r s =
     record {
@@ -62,7 +62,7 @@ roundOf t k r s =
       d = columnOf t (s .d) (s .a) (s .b) (s .c) (getD k (4 * r + 3) 0);
     }
 
--- the last round, with the substitution box that stands in t from 256 on
+-- the last round, r, with the substitution box in t from index 256 on
 unfoldable pub lastRoundOf : List ℕ → List ℕ → ℕ → AesState → AesState
 lastRoundOf t k r s =
     record {
@@ -77,7 +77,7 @@ abbrev pub roundsUpTo : List ℕ → List ℕ → ℕ → AesState → AesState
 roundsUpTo t k zero s = s
 roundsUpTo t k (suc n) s = roundOf t k (suc n) (roundsUpTo t k n s)
 
--- all rounds, as many as stand behind the words of the schedule
+-- all rounds of the schedule k, as many as its word 60 says
 unfoldable pub runOf : List ℕ → List ℕ → AesState → AesState
 runOf t k s =
     let n : ℕ = getD k 60 0 in

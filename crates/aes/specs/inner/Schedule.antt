@@ -1,4 +1,4 @@
--- What stands in a schedule: the words of the round keys, zeros up to 60, and there the number of rounds.
+-- The contents of a schedule: the words of the round keys, zeros up to index 60, and there the number of rounds.
 use mathlib.Core.Path.{_≡_}
 use mathlib.Core.List.{List}
 use Prim.Native.Nat.{ℕ, _+_, _*_, _-_, _<_, _≤_}

@@ -1,4 +1,4 @@
--- The tables that are lent to the cipher and to the inverse cipher, by their rules.
+-- The tables lent to the cipher and to the inverse cipher, by their rules.
 use Prim.Native.Nat.{ℕ, _+_, _<_}
 use mathlib.Core.Path.{_≡_}
 use mathlib.Core.List.{List, [], _∷_, _++_}

@@ -1,4 +1,4 @@
--- Words of four octets, the first octet highest, and the columns that inner functions make of them.
+-- Words of four octets, the first octet highest, and the columns that the rounds make of them.
 use Prim.Native.Nat.{ℕ, _+_, _*_, _/_, _%_}
 use mathlib.Core.List.{List, [], _∷_}
 use lib.ListN.{getD}
@@ -39,7 +39,7 @@ abbrev pub columnOf : List ℕ → ℕ → ℕ → ℕ → ℕ → ℕ → ℕ
 columnOf t a b c d k =
     bitXor (bitXor (bitXor (getD t (b0 a) 0) (ror8 (getD t (b1 b) 0))) (bitXor (ror16 (getD t (b2 c) 0)) (ror24 (getD t (b3 d) 0)))) k
 
--- a column of the last round: the entries of the substitution box that stands from `at` on, each in its row, and a word of the round key
+-- a column of the last round: the entries of the substitution box in t from `at` on, each in its row, and a word of the round key
 abbrev pub lastColumnOf : List ℕ → ℕ → ℕ → ℕ → ℕ → ℕ → ℕ → ℕ
 lastColumnOf t at a b c d k =
     bitXor (bitXor

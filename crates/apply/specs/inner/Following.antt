@@ -13,7 +13,7 @@ use Rattle.rules_outcome.specs.After.{delayOf, newRekey, initialMessageId, inse
 use Rattle.apply.specs.declared.next.Said.{Said}
 use Rattle.apply.specs.inner.Tables.{AreDeletes}
 
--- the frame of octets s says this
+-- x is what the frame f, of octets s, says of the member afterwards
 pub record Told (s : List ℕ) (x : Said) (f : Frame) : Type 0 where
   pub delay : delayOf f ≡ x .delay
   pub rekey : newRekey f ≡ x .rekey
@@ -22,6 +22,7 @@ pub record Told (s : List ℕ) (x : Said) (f : Frame) : Type 0 where
   pub id : f .header .messageId ≡ x .id
   pub deletes : AreDeletes s (x .deletes) (deletesOf f)
 
+-- r is the state that follows m after the frame f, with these new SAs and this held list
 pub record Follows (m : State) (now : ℕ) (f : Frame) (new : List Sa) (held : Held) (r : State) : Type 0 where
   pub table : r .table ≡ tableOf limits (insertAll new (oldSas m now f))
   pub held-is : r .held ≡ held

@@ -17,15 +17,15 @@ use Rattle.state_table.specs.declared.Table.{Table}
 use Rattle.rules_outcome.specs.After.{isZero}
 use Rattle.apply.specs.declared.retiring.DeletesAt.{DeletesAt}
 
--- what some of these SPIs name
+-- one of the SPIs l names the SA s: it is an ESP SA, and the SPI is its own or all zeros
 abbrev pub namedIn : List (List ℕ) → Sa → Bool
 namedIn l s = eqb (s .protocol) espProtocol && any (λ (x : List ℕ). isZero x || same (saSpi s) x) l
 
--- with a new Rekey SA, the old one
+-- the SA s is a Rekey SA, and there is a new one
 abbrev pub outdated : Bool → Sa → Bool
 outdated new s = new && eqb (s .protocol) rekeyProtocol
 
--- the SAs of a table that a test picks retire in their places; where its count is not within the limit, none does
+-- the table t, of which the SAs that p picks retire in their places; if its count is over the limit, none retires
 unfoldable pub retiredThere : (Sa → Bool) → ℕ → ℕ → Table → Table
 retiredThere p now delay t =
     cond (leb (t .count) (limits .sas)) (record {
@@ -33,7 +33,7 @@ retiredThere p now delay t =
       count = t .count;
     }) t
 
--- a frame of octets s has these Delete payloads, so many, and the first starts there
+-- l are the Delete payloads of the frame of octets s; d has their number and the start of the first one
 pub record AreDeletes (s : List ℕ) (d : DeletesAt) (l : List Delete) : Type 0 where
   pub count : length l ≡ d .count
   pub from : (d .count ≡ 0 → ⊥) → DeletesFrom s l (d .start)

@@ -1,4 +1,4 @@
--- What the steps of number 2 go by.
+-- The tests by which the code decides number 2.
 use Prim.Native.Nat.{ℕ}
 use mathlib.Core.List.{List}
 use mathlib.Core.Bool.{Bool, not, _&&_, _||_}
@@ -11,11 +11,12 @@ use Rattle.state_table.specs.Table.{sasOf, notDue, emptyAt}
 use Rattle.wire_frames.specs.declared.exchanges.Exchange.{Exchange}
 use Rattle.rules_refusals.specs.Number2.{breaksWanted, overLiveRekey}
 
--- an SA that stands at the tick and is the live Rekey SA with the SPI
+-- SA `s` is a live Rekey SA with SPI `spi` and is not due at `now`
 unfoldable pub isOver : ℕ → List ℕ → Sa → Bool
 isOver now spi s = not (due now s) && overLiveRekey spi s
 
--- number 2 of a table that is as a member's must be
+-- number 2 applies where the member value keeps its list: `t` is its table, `x` the row of the frame's exchange, `spi` the header's two
+-- SPIs
 unfoldable pub barred : Limits → Table → Exchange → List ℕ → ℕ → Bool
 barred limits t x spi now =
     not (x .admitted) || (breaksWanted (x .wanted) (emptyAt limits now t) ||

@@ -61,7 +61,7 @@ withKey f v = record {
 }
 
 -- ---- one bag
--- a Group Key Bag of protocol p with such keys, a Member Key Bag with such keys
+-- the facts of a Group Key Bag of protocol `p`, and of a Member Key Bag; `k` are the facts of its keys
 abbrev pub ofGroup : Limits → ℕ → KeyFacts → BagFacts
 ofGroup limits p k = record {
   members = 0;
@@ -114,7 +114,7 @@ abbrev pub ofBag : Limits → Bag → BagFacts
 ofBag limits (groupKeys b) = ofGroup limits (b .protocol) (ofSaKeys (b .keys))
 ofBag limits (memberKeys b) = ofMember (ofWrapKeys (b .keys))
 
--- the bag with this first octet, SPI and attributes
+-- the bag with first octet `p`, SPI `x` and attributes `l`
 abbrev pub bagWith : ℕ → List ℕ → List Attribute → Bag
 bagWith p x l =
     either (eqb p 0) (memberKeys (record { keys = wrapKeys place.MemberBag l }))
@@ -154,7 +154,7 @@ mergeBagFacts a b = record {
 abbrev pub wrapsIn : List Bag → List WrapKey
 wrapsIn l = gather (λ (b : MemberKeyBag). b .keys) (gather memberBagOf l)
 
--- THE FACTS OF THESE BAGS
+-- THE FACTS OF THE BAGS `l`
 abbrev pub bagFactsOf : Limits → List Bag → BagFacts
 bagFactsOf limits l = record {
   members = length (gather memberBagOf l);

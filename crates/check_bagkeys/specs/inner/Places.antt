@@ -14,8 +14,8 @@ use Rattle.wire_readers.specs.declared.Stretch.{Stretch}
 use Rattle.check_bagkeys.specs.inner.Facts.{bagFactsOf}
 use Rattle.check_bagkeys.specs.declared.KdFacts.{KdFacts}
 
--- the first one among n bags at most that stand from `at` on, up to the end of the body: a Member Key Bag is "0, reserved, length 2,
--- attributes" (document 01), and the length of a bag counts all its octets
+-- where the attributes of the first Member Key Bag stand among at most `n` bags, from octet `at` to the end of body `k`. A Member Key Bag
+-- is "0, reserved, length 2, attributes" (document 01), and the length of a bag counts all its octets
 unfoldable pub memberFrom : ℕ → ℕ → List ℕ → Stretch
 memberFrom zero at k = nowhere
 memberFrom (suc n) at k =
@@ -24,14 +24,15 @@ memberFrom (suc n) at k =
     either (leb (length k) at) nowhere
     (either (eqb (oct (drop at k) 0) 0) (record { start = at + headSize (drop at k); end = end }) later)
 
--- in the body; no octets where it has no such bag
+-- the same in the whole body `k`; an empty stretch if it has no such bag
 abbrev pub memberIn : List ℕ → Stretch
 memberIn k = memberFrom (length k) 0 k
 
--- of a bag that begins with this octet and has its attributes here: here, where it is a Member Key Bag and none is known
+-- where the attributes of the first Member Key Bag stand, once the bag with first octet `first` is read: `here` if it is a Member Key Bag
+-- and none is known, else `known`
 abbrev pub firstMember : ℕ → Stretch → Stretch → Stretch
 firstMember first here known = cond (eqb first 0 && eqb (known .end) 0) here known
 
--- THE FACTS OF THIS BODY
+-- THE FACTS OF KD BODY `k`
 abbrev pub kdFactsOf : Limits → List ℕ → KdFacts
 kdFactsOf limits k = record { bags = bagFactsOf limits (bagsIn k); «member_bag» = memberIn k }

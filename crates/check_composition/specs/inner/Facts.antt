@@ -1,6 +1,6 @@
 -- The facts of the policies of a GSA payload: of one policy, of all policies. Each is what a clause of numbers 4 to 7 asks of the frame's
--- policies, in the clause's own words, or what the member afterwards goes by. Whether transforms are fit goes by the exchange, which has
--- the controller's authentication or not.
+-- policies, in the clause's own words, or what the next member state needs. Which transforms are fit depends on whether the exchange asks
+-- for the controller's authentication.
 use Prim.Native.Nat.{ℕ, _+_, _<_, _≤_}
 use mathlib.Core.Path.{_≡_}
 use mathlib.Core.List.{List, []}
@@ -25,7 +25,7 @@ use Rattle.check_composition.specs.declared.numbers.Numbers.{Numbers}
 use Rattle.check_composition.specs.declared.PolicyFacts.{PolicyFacts}
 
 -- ---- one policy
--- a lifetime of more seconds than it may have
+-- the policy has a lifetime of more seconds than allowed
 abbrev pub hasLong : GroupSaPolicy → Bool
 hasLong p = any (λ (n : ℕ). ltb mostSeconds n) (p .keyLifetimes)
 
@@ -51,7 +51,7 @@ ofSa authentication p = record {
   initial = greatest (givenBy p);
 }
 
--- a group-wide policy with these deactivation delays
+-- the facts of a group-wide policy with the deactivation delays `n`
 abbrev pub wideBy : Numbers → PolicyFacts
 wideBy n = record {
   sas = 0;
@@ -75,7 +75,7 @@ ofPolicy authentication (groupSa p) = ofSa authentication p
 ofPolicy authentication (groupWide w) =
     wideBy (record { count = length (w .deactivationDelays); greatest = greatest (w .deactivationDelays) })
 
--- the Group SA policy of a protocol with this SPI that holds x after it
+-- the Group SA policy of protocol `p` with SPI `spi` and body `x` after it
 abbrev pub saWith : ℕ → List ℕ → SaBody → GroupSaPolicy
 saWith p spi x = record {
   protocol = p;
@@ -87,18 +87,20 @@ saWith p spi x = record {
   keyLifetimes = keyLifetimes (inPolicy p) (x .suite .attributes);
 }
 
--- how many there can be of each
+-- each count of `f` is at most `n`
 pub record PolicyFactsAtMost (n : ℕ) (f : PolicyFacts) : Type 0 where
   pub sas : f .sas ≤ n
   pub esps : f .esps ≤ n
   pub rekeys : f .rekeys ≤ n
   pub wides : f .wides ≤ n
 
--- the octets o after the head of a policy with this first octet, and the facts of that policy
+-- `o` are the octets after the head of a policy with first octet `first`: the attributes of a group-wide policy, or the body of a Group SA
+-- policy
 pub record PolicyBodyHolds (first : ℕ) (o : List ℕ) : Type 0 where
   pub wide : first ≡ 0 → isWhole (attributes place.GroupWidePolicy 0 o) ≡ true
   pub sa : (first ≡ 0 → ⊥) → (x : SaBody) × IsSaBody (inPolicy first) o x
 
+-- `r` are the facts of that policy, and each count is at most 1
 pub record FactsOfPolicy (authentication : Bool) (first : ℕ) (o : List ℕ) (r : PolicyFacts) : Type 0 where
   pub wide : first ≡ 0 → r ≡ ofPolicy authentication (groupWideOf (attributesIn place.GroupWidePolicy o))
   pub sa : (first ≡ 0 → ⊥) → (x : SaBody) (spi : List ℕ) → IsSaBody (inPolicy first) o x → r ≡ ofSa authentication (saWith first spi x)
@@ -141,14 +143,14 @@ mergePolicyFacts a b = record {
   initial = greater (a .initial) (b .initial);
 }
 
--- the sums can be had
+-- the counts of `a` and `b` can be added in 64 bits
 pub record Added (a b : PolicyFacts) : Type 0 where
   pub sas : a .sas + b .sas < 18446744073709551616
   pub esps : a .esps + b .esps < 18446744073709551616
   pub rekeys : a .rekeys + b .rekeys < 18446744073709551616
   pub wides : a .wides + b .wides < 18446744073709551616
 
--- THE FACTS OF THESE POLICIES
+-- THE FACTS OF THE POLICIES `l`
 abbrev pub policyFactsOf : Bool → List Policy → PolicyFacts
 policyFactsOf authentication l = record {
   sas = length (gather groupSaIn l);

@@ -1,5 +1,5 @@
--- The numbers that attributes of a policy give, GSA_INITIAL_MESSAGE_ID, GSA_KEY_LIFETIME or the deactivation delay: how many
--- there are, and the greatest.
+-- The numbers in the attributes of a policy (GSA_INITIAL_MESSAGE_ID, GSA_KEY_LIFETIME or the deactivation delay): how many there are, and
+-- the greatest.
 use Prim.Native.Nat.{ℕ, _+_}
 use mathlib.Core.List.{List, [], _∷_, map}
 use mathlib.Core.Bool.{Bool, true, false, cond}
@@ -17,7 +17,7 @@ unfoldable pub greatest : List ℕ → ℕ
 greatest [] = 0
 greatest (n ∷ l) = greater n (greatest l)
 
--- a number of two octets, one of four
+-- an attribute with this meaning gives a number, which `numberBy` reads from its value; `most` is the greatest it can be
 abbrev pub isNumber : Meaning → Bool
 isNumber meaning.Skipped = false
 isNumber meaning.KeyLength = false
@@ -45,7 +45,7 @@ most meaning.KeyLifetime = 4294967295
 most meaning.SaKey = 0
 most meaning.WrapKey = 0
 
--- those of these values
+-- the numbers of the values `l`
 abbrev pub numbersBy : Meaning → List (List ℕ) → Numbers
 numbersBy m l = record { count = length l; greatest = greatest (map (numberBy m) l) }
 

@@ -14,11 +14,11 @@ use Rattle.check_bagkeys.specs.inner.Facts.{bagFactsOf as bagFacts}
 use Rattle.check_bagkeys.specs.inner.Places.{memberIn}
 use Rattle.check_judging.specs.declared.facts.Facts.{Facts}
 
--- the octets of a stretch
+-- the octets of `s` in stretch `x`
 abbrev pub at : List ℕ → Stretch → List ℕ
 at s x = part s (x .start) (x .end)
 
--- in an exchange that has the controller's authentication or not
+-- the facts of frame `s`; `authentication` says whether its exchange asks for the controller's authentication
 abbrev pub frameFactsOf : Bool → List ℕ → Facts
 frameFactsOf authentication s = record {
   payloads = payloadFacts s;

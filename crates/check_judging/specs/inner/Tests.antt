@@ -19,8 +19,8 @@ use Rattle.check_judging.specs.declared.number5.Five.{Five}
 use Rattle.check_judging.specs.declared.number6.Keys.{Keys}
 use Rattle.check_judging.specs.declared.number7.Seven.{Seven}
 
--- critical, a barred Member bag, a barred D, two GSA, two KD, one without the other, neither; several Rekey policies, group-wide policies,
--- Member bags; a GSA with no SA policy; Key Length, GSA_INITIAL_MESSAGE_ID, the delay twice; the Rekey destination;
+-- an unknown critical payload, a barred Member bag, a barred D, two GSA, two KD, one without the other, neither; several Rekey policies,
+-- group-wide policies, Member bags; a GSA with no SA policy; Key Length, GSA_INITIAL_MESSAGE_ID, the delay twice; the Rekey destination;
 -- GSA_KEY_LIFETIME twice
 abbrev pub number4Of : Exchange → PayloadFacts → PolicyFacts → BagFacts → List Bool
 number4Of row b p k =
@@ -31,7 +31,7 @@ number4Of row b p k =
     ∷ ltb 1 (p .rekeys) ∷ ltb 1 (p .wides) ∷ ltb 1 (k .members) ∷ (ltb 0 (b .gsas) && not (ltb 0 (p .sas)))
     ∷ p .«two_lengths» ∷ p .«two_message_ids» ∷ p .«two_delays» ∷ p .elsewhere ∷ p .«two_lifetimes» ∷ []
 
--- an AH policy, an AH bag, other transforms, D of another protocol, D with count 0, a lent key of so many octets
+-- an AH policy, an AH bag, other transforms, D of another protocol, D with count 0, a lent key of the wrong size (`lent` octets)
 abbrev pub number5Of : Exchange → ℕ → Deletes → PolicyFacts → BagFacts → List Bool
 number5Of row lent d p k = p .ah ∷ k .ah ∷ p .unfit ∷ d .other ∷ d .none ∷ (row .«judges_lent_key» && not (sizeOf 13 lent)) ∷ []
 
@@ -40,11 +40,11 @@ abbrev pub keysBy : Exchange → BagFacts → List Bool
 keysBy row k = ((k .keyless || k .several) || (not (row .copies) && k .«several_of_rekey»)) ∷ k .named ∷ k .«esp_with_kwk_id» ∷ k .unnamed ∷
     k .itself ∷ []
 
--- policies of the names l and bags of the names m not paired one to one, in the table already, and the keys
+-- policies with the names `l` and bags with the names `m` not paired one to one, a policy's name already in the table, and the keys
 abbrev pub number6Of : Exchange → BagFacts → List Name → List Name → ℕ → List Sa → List Bool
 number6Of row k l m now sas = any (isUnpaired m) l ∷ any (isUnpaired l) m ∷ any (isAnnounced now l) sas ∷ keysBy row k
 
--- ESP policies, WRAP_KEYs, SA_KEYs in a bag, deleted SPIs, a lifetime, SAs after the frame
+-- too many ESP policies, WRAP_KEYs, SA_KEYs in a bag or deleted SPIs, too long a lifetime, too many SAs after the frame
 abbrev pub number7Of : Limits → Deletes → PolicyFacts → BagFacts → ℕ → List Bool
 number7Of limits d p k standing =
     ltb (limits .espPolicies) (p .esps) ∷ ltb (limits .wrapKeys) (k .wraps) ∷ k .overfull ∷ ltb (limits .deletedSpis) (d .spis)
@@ -63,7 +63,7 @@ number6By row x l m now sas = number6Of row (x .bags) l m now sas
 abbrev pub number7By : Limits → Facts → ℕ → List Bool
 number7By limits x standing = number7Of limits (x .payloads .deletion) (x .policies) (x .bags) standing
 
--- ---- the clauses that code tells by name, as such lists
+-- ---- the clauses that the code names one by one, as such lists
 abbrev pub number4In : Four → List Bool
 number4In c =
     c .critical ∷ c .«member_bag» ∷ c .delete ∷ c .«two_gsa» ∷ c .«two_kd» ∷ c .«gsa_alone» ∷ c .«kd_alone» ∷ c .neither ∷ c .rekeys

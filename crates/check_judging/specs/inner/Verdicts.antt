@@ -1,4 +1,4 @@
--- What numbers 2 to 7 make of a frame: the number judged first of those that apply, or, where none does, the facts of the frame.
+-- The verdict of numbers 2 to 7 on a frame: the first number that applies or, if none does, the facts of the frame.
 use Prim.Native.Nat.{ℕ}
 use lib.Dec.{eqb}
 use Rattle.octets.specs.Walk.{either}

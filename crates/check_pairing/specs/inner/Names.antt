@@ -20,7 +20,7 @@ pub record Name : Type 0 where
   pub protocol : ℕ
   pub spi : List ℕ
 
--- the name of a policy or key bag with this first octet and SPI: a group-wide policy and a Member Key Bag have none
+-- the name of a policy or key bag with first octet `p` and SPI `x`: a group-wide policy and a Member Key Bag have none
 abbrev pub nameOf : ℕ → List ℕ → List Name
 nameOf p x = either (eqb p 0) [] (record { protocol = p; spi = x } ∷ [])
 
@@ -33,14 +33,14 @@ pub data Names : List ℕ → List Name → Type 0 where
   next : (s : List ℕ) {l : List Name} → 0 < length s → headFits s ≡ true → Names (drop (be16 s structureLengthAt) s) l → Names s
       (nameAt s ++ l)
 
--- this protocol and SPI
+-- name `n` is protocol `p` and SPI `x`
 abbrev pub isNamed : ℕ → List ℕ → Name → Bool
 isNamed p x n = eqb (n .protocol) p && same (n .spi) x
 
--- not exactly one of the list has this name
+-- name `n` does not stand exactly once in `l`
 abbrev pub isUnpaired : List Name → Name → Bool
 isUnpaired l n = not (eqb (count (isNamed (n .protocol) (n .spi)) l) 1)
 
--- an SA of the table that is not due and has a name of the list
+-- SA `s` of the table is not due at `now` and has a name of `l`
 abbrev pub isAnnounced : ℕ → List Name → Sa → Bool
 isAnnounced now l s = stays now s && any (λ (n : Name). named (n .protocol) (n .spi) s) l

@@ -11,8 +11,8 @@ use Rattle.wire_readers.specs.declared.Stretch.{Stretch}
 use Rattle.wire_readers.specs.inner.Values.{nowhere}
 use Rattle.check_pairing.specs.inner.Names.{nameAt, isNamed}
 
--- the first one among n bags at most that stand from `at` on, up to the end of the body: octets 2 and 3 of a bag count all its octets, its
--- head's before the attributes
+-- the first bag with protocol `p` and SPI `x` among at most `n` bags, from octet `at` to the end of body `k`. Octets 2 and 3 of a bag count
+-- all its octets, and its attributes begin after its head
 unfoldable pub bagFrom : ℕ → ℕ → List ℕ → ℕ → List ℕ → Stretch
 bagFrom zero p x at k = nowhere
 bagFrom (suc n) p x at k =

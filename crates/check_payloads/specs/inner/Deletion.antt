@@ -1,4 +1,4 @@
--- Delete payloads of a frame whose layout is whole, for the readers that go through them again.
+-- The facts of the Delete payloads of a frame whose layout is whole.
 use Prim.Native.Nat.{ℕ, _+_, _*_, _<_, _≤_}
 use mathlib.Core.Path.{_≡_}
 use mathlib.Core.List.{List}
@@ -17,6 +17,7 @@ use Rattle.state_sa.specs.Entry.{espProtocol}
 use Rattle.check_payloads.specs.declared.deletion.DeleteParts.{DeleteParts}
 use Rattle.check_payloads.specs.declared.deletion.Deletes.{Deletes}
 
+-- `r` are the fields of a Delete payload's body `o`, and the SPIs fill the body
 pub record DeleteIs (o : List ℕ) (r : DeleteParts) : Type 0 where
   pub protocol : r .protocol ≡ deleteOf o .protocol
   pub size : r .size ≡ oct o 1
@@ -40,7 +41,7 @@ deletesAmong l = gather (λ (p : Payload). deletesOfContent (p .content)) l
 abbrev pub deletesBy : List Delete → Deletes
 deletesBy l = record { other = any ofOther l; none = any ofNone l; spis = length (spisIn l) }
 
--- the Delete payloads from a place on, where one stands, are these
+-- a Delete payload begins at octet `at` of `s`, and `l` are the Delete payloads from there on
 pub record DeletesFrom (s : List ℕ) (l : List Delete) (at : ℕ) : Type 0 where
   pub inside : at ≤ length s
   pub rest : isWhole (nothingLeft (payloads payloadDelete 0 (drop at s))) ≡ true
@@ -54,6 +55,6 @@ withOne d x = record {
   spis = d .spis + length (x .spis);
 }
 
--- with a payload more of a type and with this body
+-- the facts `d` with one payload more, of type `kind` and with body `o`: only a Delete payload changes them
 abbrev pub deletesWith : Deletes → ℕ → List ℕ → Deletes
 deletesWith d kind o = cond (eqb kind payloadDelete) (withOne d (deleteOf o)) d

@@ -19,14 +19,14 @@ use Rattle.check_payloads.specs.inner.Places.{bodyOf}
 use Rattle.wire_readers.specs.inner.Values.{nowhere, once}
 use Rattle.check_payloads.specs.inner.Deletion.{deletesAmong, deletesBy, deletesWith}
 
--- the payloads that the octets of a frame are
+-- the payloads of the frame with octets `s`
 abbrev pub payloadsOf : List ℕ → List Payload
 payloadsOf s = payloadsIn (firstPayload s) (drop headerOctets s)
 
 abbrev pub ofKind : ℕ → Payload → Bool
 ofKind k p = eqb (p .kind) k
 
--- THE FACTS OF THE PAYLOADS OF THIS FRAME: of GSA, KD and D how many there are and where the first one's body stands
+-- THE FACTS OF THE PAYLOADS OF FRAME `s`. Of GSA, KD and D: how many there are, and where the first one's body stands
 abbrev pub payloadFactsOf : List ℕ → PayloadFacts
 payloadFactsOf s = record {
   gsas = count (ofKind payloadGsa) (payloadsOf s);
@@ -52,11 +52,12 @@ noPayloads = record {
   deletion = record { other = false; none = false; spis = 0 };
 }
 
--- the first place: this one, where it is one and there was none before it
+-- where the first payload of a type stands, once the payload at `this` is read: at `this` if it has the type (`hit`) and none `before` it
+-- had, else at `known`
 abbrev pub firstWith : Bool → ℕ → Stretch → Stretch → Stretch
 firstWith hit before this known = cond (hit && eqb before 0) this known
 
--- with one payload more: its type, whether it is critical, where its body stands, and the body o
+-- the facts `b` with one payload more: its type, whether it is critical, the `place` of its body, and the body `o`
 abbrev pub withPayload : PayloadFacts → ℕ → Bool → Stretch → List ℕ → PayloadFacts
 withPayload b kind critical place o = record {
   gsas = b .gsas + once (eqb kind payloadGsa);
@@ -69,7 +70,7 @@ withPayload b kind critical place o = record {
   deletion = deletesWith (b .deletion) kind o;
 }
 
--- the counts can grow, and by how much they do
+-- the counts of `b` leave room for one payload more, of type `kind`; where it is a Delete payload, its body `o` fits
 pub record CountsFit (kind : ℕ) (o : List ℕ) (b : PayloadFacts) : Type 0 where
   pub gsas : b .gsas < 4294967296
   pub kds : b .kds < 4294967296
@@ -77,6 +78,7 @@ pub record CountsFit (kind : ℕ) (o : List ℕ) (b : PayloadFacts) : Type 0 whe
   pub spis : b .deletion .spis < 4294967296
   pub fits : kind ≡ payloadDelete → deleteFits o ≡ true
 
+-- how much one payload adds at most: `b` are the facts before it, `r` those with it
 pub record CountsGrown (b r : PayloadFacts) : Type 0 where
   pub gsas : r .gsas ≤ b .gsas + 1
   pub kds : r .kds ≤ b .kds + 1

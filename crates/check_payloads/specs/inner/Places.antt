@@ -10,8 +10,9 @@ use Rattle.wire_frames.specs.Header.{firstPayload}
 use Rattle.wire_readers.specs.declared.Stretch.{Stretch}
 use Rattle.wire_readers.specs.inner.Values.{nowhere}
 
--- among n payloads at most, which stand from `at` on and of which the first is of type k: "Next Payload" names the type of the next one,
--- "Payload Length" counts all octets of this one, 4 of them before its body (RFC 7296, section 3.2); the type 0 ends them
+-- the body of the first payload of type `w` among at most `n` payloads. They begin at octet `at` of `s`, and the first has type `k`. "Next
+-- Payload" names the type of the next one, "Payload Length" counts all octets of this one, 4 of them before its body (RFC 7296, section
+-- 3.2); the type 0 ends them
 unfoldable pub bodyFrom : ℕ → ℕ → ℕ → ℕ → List ℕ → Stretch
 bodyFrom zero w k at s = nowhere
 bodyFrom (suc n) w k at s =
@@ -19,6 +20,6 @@ bodyFrom (suc n) w k at s =
     let later = bodyFrom n w (oct (drop at s) 0) end s in
     either (eqb k 0) nowhere (either (eqb k w) (record { start = at + payloadHeaderOctets; end = end }) later)
 
--- in the frame, whose payloads stand after the 28 octets of its header
+-- the same in frame `s`: its payloads begin after the 28 octets of its header
 abbrev pub bodyOf : ℕ → List ℕ → Stretch
 bodyOf w s = bodyFrom (length s) w (firstPayload s) headerOctets s

@@ -13,6 +13,7 @@ plus x y = record {
   doubled = x .doubled + y .doubled;
 }
 
+-- each count of `x` is at most `n`
 pub record SuiteAtMost (n : ℕ) (x : SuiteCounts) : Type 0 where
   pub count : x .count ≤ n
   pub encryption : x .encryption ≤ n

@@ -1,5 +1,5 @@
--- What the transforms of a Group SA policy come to: how many there are and how many are fit in each way, by which "exactly one each" is
--- judged (number 5); how many have several Key Lengths (number 4); the keying octets that an SA of the policy needs.
+-- Counts of the transforms of a Group SA policy: all of them and those fit in each way, to judge "exactly one each" (number 5); those with
+-- several Key Lengths (number 4). Beside them, the keying octets that an SA of the policy needs.
 use Prim.Native.Nat.{ℕ}
 use mathlib.Core.List.{List}
 use mathlib.Core.Bool.{Bool, not, _&&_, _||_}
@@ -27,8 +27,8 @@ suiteOf l = record {
 abbrev pub needsOf : List Transform → Needs
 needsOf l = record { encryption = sum encryptionNeeds l; wrapping = sum keyWrapNeeds l }
 
--- a policy of protocol p has the transforms that it must, by what they come to: ESP encryption and sequence numbers; a Rekey policy
--- encryption, key wrap and, where the exchange asks for it, authentication; each once and no other
+-- by the counts `s`, a policy of protocol `p` has the transforms that it must have, each once and no other. ESP: encryption and sequence
+-- numbers. Rekey: encryption, key wrap and, if the exchange asks for it, the controller's authentication
 abbrev pub fitBy : Bool → ℕ → SuiteCounts → Bool
 fitBy authentication p s =
     (eqb p espProtocol && (eqb (s .count) 2 && (eqb (s .encryption) 1 && eqb (s .sequence) 1)))

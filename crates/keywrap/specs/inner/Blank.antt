@@ -9,6 +9,6 @@ use Rattle.keywrap.specs.Answers.{OpenAnswers}
 unfoldable pub blank : List ℕ
 blank = replicate 256 0
 
--- `open_under`: as `open`, into a blank room of 256 octets, which every result fits
+-- `open_under`: as `open`, into a blank room of 256 octets, in which every result has room
 abbrev pub OpensBlank : List ℕ → List ℕ → WrapAnswer → List ℕ → Type 0
 OpensBlank key wrapped = OpenAnswers key wrapped blank

@@ -11,8 +11,8 @@ use Rattle.member.specs.declared.output.Handed.{Handed}
 abbrev pub nothingHanded : Handed
 nothingHanded = record { count = 0; failed = false }
 
--- octets are due: they are handed over up to a write that fails, that one's too, and what comes behind is held back. Where a write has
--- failed before, none is handed over
+-- `octets` are due. Those up to and with a write that fails are handed over (`over`), those behind are held back (`rest`). Where a write
+-- has failed before, none is handed over
 pub record HandedOver (h : Handed) (octets : List ℕ) (e : Handed) : Type 0 where
   pub over : List ℕ
   pub rest : List ℕ

@@ -32,7 +32,8 @@ pub record Flushed (r : Running) (h : Handed) (out : List ℕ) (e : Progress) : 
       (HandedOver h (take (r .at) out) (e .handed) × (e .running .at ≡ 0))
   pub room : ReplyFits out (e .running)
 
--- octets were read, and some handed over on the way: they follow what was printed before, and what the output still holds follows them
+-- `block` was read, and `octets` were handed over on the way: they follow what was printed before, and what the output still holds follows
+-- them
 pub record Gone (p : Progress) (block line out line′ out′ : List ℕ) (e : Progress) : Type 0 where
   pub octets : List ℕ
   pub over : HandedOver (p .handed) octets (e .handed)

@@ -36,7 +36,7 @@ pub record FirstLine (r : Running) (line out after : List ℕ) (e : Running) : T
   pub at : e .at ≡ r .at
   pub nothing : after ≡ out
 
--- a later line has the reply that its octets ask for, "bad" among them, which is put into the output at its place
+-- a later line has the reply that its text asks for, "bad" among them. The reply is put into the output at its place
 pub record LaterLine (r : Running) (line out after : List ℕ) (e : Running) : Type 0 where
   pub text : List ℕ
   pub replies : Replies LineAnswers (keyIn (r .key)) (r .member) line (record { next = e .member; text = text })
@@ -46,7 +46,7 @@ pub record LaterLine (r : Running) (line out after : List ℕ) (e : Running) : T
   pub keyed : e .keyed ≡ r .keyed
   pub len : e .len ≡ 0
 
--- a whole line, by whether the key was read
+-- what becomes of a whole line, by whether the first line has given the key
 abbrev pub Answered : Bool → Running → List ℕ → List ℕ → List ℕ → Running → Type 0
 Answered false r line out after e = FirstLine r line out after e
 Answered true r line out after e = LaterLine r line out after e

@@ -14,7 +14,7 @@ use Rattle.member.specs.inner.Reply.{keyIn}
 use Rattle.member.specs.declared.running.Running.{Running}
 use Rattle.member.specs.declared.running.LinePassed.{LinePassed}
 
--- what is lent is large enough, and the program's places lie within it
+-- the lent buffers are large enough, and the program's places lie within them
 pub record BuffersReady (line room out : List ℕ) (r : Running) : Type 0 where
   pub key : r .key .len ≤ 32
   pub line-long : 32776 < length line
@@ -26,11 +26,12 @@ pub record BuffersReady (line room out : List ℕ) (r : Running) : Type 0 where
 abbrev pub ReplyFits : List ℕ → Running → Type 0
 ReplyFits out r = replyRoom ≤ length out - r .at
 
+-- the program holds the default key, if the first line has given it
 abbrev pub KeyStands : DefaultKey → Running → Type 0
 KeyStands awaited r = r .keyed ≡ false
 KeyStands (given key) r = (r .keyed ≡ true) × (keyIn (r .key) ≡ key)
 
--- the program holds what was read of the input. `printed` is what it has handed over so far
+-- the program holds the state `x` of the input read so far. `printed` is what it has handed over so far
 pub record Stands (printed : List ℕ) (x : TextState Member) (line out : List ℕ) (r : Running) : Type 0 where
   pub key : KeyStands (x .key) r
   pub member : x .member ≡ r .member
@@ -44,13 +45,13 @@ pub record Starts (r : Running) : Type 0 where
   pub at : r .at ≡ 0
   pub stands : (line out : List ℕ) → Stands [] (textStart newMember) line out r
 
--- some octets more were read
+-- the octets `s` were read after the state `x`
 pub record Goes (printed : List ℕ) (x : TextState Member) (s line out : List ℕ) (r : Running) : Type 0 where
   pub then : TextState Member
   pub reads : Reads LineAnswers x s then
   pub stands : Stands printed then line out r
 
--- a block is read from a place up to another
+-- `block` is read from `from` up to `e .next`
 pub record Passes (block : List ℕ) (from : ℕ) (line out : List ℕ) (r : Running) (line′ room′ out′ : List ℕ) (e : LinePassed) : Type 0 where
   pub ready : BuffersReady line′ room′ out′ (e .running)
   pub next : from ≤ e .next

@@ -12,6 +12,7 @@ use Rattle.member.specs.declared.input.InputTaken.{InputTaken}
 abbrev pub nothingTaken : InputTaken
 nothingTaken = record { count = 0; ended = false }
 
+-- a read gave `octets`: they are counted, and `ended` says whether there are none
 pub record TakenIn (t : InputTaken) (octets : List ℕ) (e : InputTaken) : Type 0 where
   pub count : e .count % 2 ^ 64 ≡ (t .count + length octets) % 2 ^ 64
   pub ended : e .ended ≡ eqb (length octets) 0

@@ -10,6 +10,6 @@ use Rattle.member.specs.declared.output.Handed.{Handed}
 abbrev pub Stops : InputTaken → Handed → Type 0
 Stops t h = (t .ended ≡ true) ⊎ (h .failed ≡ true)
 
--- no turn is left where it stops; else the last read gave some octets, no write has failed, and one turn less is left
+-- no turn is left where the run stops; else the last read gave some octets, no write has failed, and one turn less is left
 abbrev pub TurnsLeft : ℕ → InputTaken → Handed → ℕ → Type 0
 TurnsLeft turns t h left = (Stops t h × (left ≡ 0)) ⊎ ((t .ended ≡ false) × (h .failed ≡ false) × (left + 1 ≡ turns))

@@ -27,7 +27,7 @@ use Rattle.unwrap_tree.specs.inner.Entries.{HoldsEntries}
 use Rattle.unwrap_sas.specs.inner.Keyed.{KeyedBy}
 use Rattle.unwrap_sas.specs.declared.joining.Keyed.{Keyed}
 
--- s is the frame f, none of numbers 2 to 7 applies to it, and these are its facts
+-- s are the octets of the frame f, none of numbers 2 to 7 applies to it, and x are its facts
 pub record Passed (m : State) (now : ℕ) (lent s : List ℕ) (x : Facts) (f : Frame) : Type 0 where
   pub whole-is : frame s ≡ whole f []
   pub clauses : refusal limits m now lent f ≡ 0
@@ -42,20 +42,21 @@ pub record RekeysInband (f : Frame) : Type 0 where
   pub keeps : rowOf f .registers ≡ false
   pub zero : rowOf f .zero ≡ keyZero.Lent
 
--- its policies and its bags are those of these bodies, and the facts say where the WRAP_KEYs stand
+-- such a frame: its policies are those of the GSA body g, its bags are those of the KD body k, and x says where the WRAP_KEYs stand
 pub record Bodied (m : State) (now : ℕ) (lent s : List ℕ) (x : Facts) (g k : List ℕ) (f : Frame) : Type 0 where
   pub passed : Passed m now lent s x f
   pub policies : policiesOf f ≡ policiesIn g
   pub bags : bagsOf f ≡ bagsIn k
   pub entries : HoldsEntries k (x .«member_bag»)
 
--- none of numbers 2 to 7 applies to the frame, its exchange has this row, and its bags are those of this body
+-- none of numbers 2 to 7 applies to the frame f, its exchange has the row e, and its bags are those of the KD body k
 pub record Bagged (e : Exchange) (m : State) (now : ℕ) (lent k : List ℕ) (f : Frame) : Type 0 where
   pub clauses : refusal limits m now lent f ≡ 0
   pub row : rowOf f ≡ e
   pub bags : bagsOf f ≡ bagsIn k
 
--- number 8 does not hold of its entries; this is known of the keys of its SAs; this is the held list afterwards
+-- a frame whose keys are opened: number 8 does not hold of its entries, `keyed` is the result for its SAs, and `held` is the held list
+-- after acceptance
 pub record FrameOpened (m : State) (now : ℕ) (lent s : List ℕ) (x : Facts) (keyed : Keyed) (held : Held) (f : Frame) : Type 0 where
   pub passed : Passed m now lent s x f
   pub entries : EntriesConflict (rootsOf limits m now lent f) (entriesOf f) (wrappingSize limits m now lent f) → ⊥
@@ -64,7 +65,7 @@ pub record FrameOpened (m : State) (now : ℕ) (lent s : List ℕ) (x : Facts) (
       HeldBy (rowOf f .registers) (HeldAre (rootsOf limits m now lent f) (entriesOf f) (wrappingSize limits m now lent f) limits held)
       (held ≡ m .held)
 
--- the default key of the table's live Rekey SA, of a size that a wrapping key has
+-- r is the default key of the live Rekey SA of the table t, and has a size that a wrapping key can have
 pub record IsDefaultKey (t : Table) (r : WrappingKey) : Type 0 where
   pub is : r ≡ defaultKey limits t .key
   pub fits : sizeOf 13 (r .count) ≡ true

@@ -16,8 +16,8 @@ use Rattle.rules_outcome.specs.Roots.{rootsOf, entriesOf, wrappingSize}
 use Rattle.rules_outcome.specs.After.{HeldAre}
 use Rattle.receive.specs.declared.roots.StartingKeys.{StartingKeys}
 
--- whether number 8 holds of the entries; where it does not, key 0 and a list as a member's must be, whose keys are those on which a chain
--- ends, and the held list afterwards where the exchange sets it
+-- r says whether number 8 holds of the entries of the frame f. If it does not hold: the list of r is as a member's must be, chains end on
+-- exactly its keys and key 0 of r, and it is the held list afterwards if the exchange sets that list
 pub record Rooted (m : State) (now : ℕ) (lent : List ℕ) (r : StartingKeys) (f : Frame) : Type 0 where
   pub conflict : Decides (r .conflict) (EntriesConflict (rootsOf limits m now lent f) (entriesOf f) (wrappingSize limits m now lent f))
   pub fits : sizeOf 13 (r .zero .count) ≡ true

@@ -6,7 +6,7 @@ use Rattle.wire_frames.specs.declared.exchanges.Exchange.{Exchange}
 use Rattle.check_judging.specs.declared.facts.Facts.{Facts}
 use Rattle.apply.specs.declared.next.Said.{Said}
 
--- a Delete payload starts 4 octets before its body
+-- what a frame says, by the row of its exchange, its Message ID and its facts; a Delete payload starts 4 octets before its body
 abbrev pub saidBy : Exchange → ℕ → Facts → Said
 saidBy row id x = record {
   delay = x .policies .delay;

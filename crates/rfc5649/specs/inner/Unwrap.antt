@@ -1,4 +1,5 @@
--- Unwrapping: RFC 3394, section 2.2.2, in its index form, and the checks of RFC 5649, section 3. Inner: what a reader believes is `Opens`.
+-- Unwrapping: RFC 3394, section 2.2.2, in its index form, and the checks of RFC 5649, section 3. Inner: what a reader has to believe is
+-- `Opens`.
 use mathlib.Core.Bool.{Bool, true, false, _&&_}
 use mathlib.Core.Path.{_≡_}
 use Prim.Native.Nat.{ℕ, zero, suc, _+_, _*_, _/_, _%_}
@@ -41,11 +42,11 @@ backwardBy false key n s = unrows key n 6 s
 unfoldable pub backward : List ℕ → ℕ → List ℕ → List ℕ
 backward key n s = backwardBy (eqb n 1) key n s
 
--- the first n + 1 of the registers s are those of the wrapped octets before the steps
+-- the first n + 1 registers of s are what unwrapping makes of the wrapped octets
 abbrev pub Unwraps : List ℕ → ℕ → List ℕ → List ℕ → Type 0
 Unwraps key n wrapped s = take (suc n) s ≡ backward key n (registers (suc n) wrapped)
 
--- RFC 5649, section 3, the checks: the registers s of n blocks are those that the octets x have before the steps
+-- RFC 5649, section 3, the checks: the registers s of n blocks are those from which the wrapping of the octets x starts
 pub record Begins (n : ℕ) (s x : List ℕ) : Type 0 where
   pub octets : Octets x
   pub size : blocks (length x) ≡ n
@@ -55,7 +56,7 @@ pub record Begins (n : ℕ) (s x : List ℕ) : Type 0 where
 abbrev pub fitsBlocks : ℕ → ℕ → Bool
 fitsBlocks n m = eqb (blocks m) n
 
--- the count of octets that A tells of n blocks; 0 where it is no alternative initial value of a count that takes n blocks
+-- the octet count in A; 0 where A is not the alternative initial value of a count that takes n blocks
 abbrev pub countBy : Bool → Bool → ℕ → ℕ
 countBy true true m = m
 countBy true false m = 0

@@ -13,7 +13,7 @@ use Rattle.text_lines.specs.declared.LineKey.{LineKey}
 use Rattle.text_lines.specs.declared.Request.{Request}
 use Rattle.text_lines.specs.declared.Request.the-variants as request
 
--- the first line of what is left of a block is put into a lent line, behind the characters that it has
+-- the first line of `block` from `from` on is put into the lent `line`, behind its first `len` characters
 pub record Absorbs (block : List ℕ) (from : ℕ) (line : List ℕ) (len : ℕ) (after : List ℕ) (r : Absorbed) : Type 0 where
   pub ended : r .ended ≡ firstOf (lines (drop from block)) .ended
   pub next : r .next ≡ from + length (lineOctets (firstOf (lines (drop from block))))

@@ -9,8 +9,8 @@ use lib.Seq.{sets}
 abbrev pub replyRoom : ℕ
 replyRoom = 84
 
--- text is put into the room from a place on, as much of it as there is room for; what stands before and behind it stays.
--- `next` is the place behind it
+-- `text` is put into `room` from `at` on, as much of it as there is room for; what stands before and behind it stays. `next` is the place
+-- behind it
 pub record Put (room : List ℕ) (at : ℕ) (text after : List ℕ) (next : ℕ) : Type 0 where
   pub octets : after ≡ sets room at text
   pub place : next ≡ at + min (length text) (length room - at)

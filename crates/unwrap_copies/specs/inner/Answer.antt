@@ -19,12 +19,12 @@ use Rattle.unwrap_copies.specs.declared.answer.CopyOpened.{CopyOpened}
 abbrev pub copiesIn : Place → List ℕ → List SaKey
 copiesIn p s = map saKeyOf (valuesIn meaning.SaKey p s)
 
--- the SA whose bag has these attributes and whose policy needs so many octets
+-- the announced SA: its bag has the attributes s, and its policy needs `need` octets
 abbrev pub announcedIn : Place → List ℕ → ℕ → Announced
 announcedIn p s need = record { copies = copiesIn p s; need = need }
 
 module _ (roots : List Root) (entries : List WrapKey) (size : ℕ) (a : Announced) where
-  -- neither 8 nor 9 holds of the SA: its key is the first octets, with blanks behind them
+  -- neither 8 nor 9 holds of the SA: its key is the first `count` of `octets`, with blanks behind them
   pub record HasKey (octets : List ℕ) (count : ℕ) : Type 0 where
     pub key : KeyOf roots entries size a (take count octets)
     pub need : count ≡ a .need
@@ -32,6 +32,7 @@ module _ (roots : List Root) (entries : List WrapKey) (size : ℕ) (a : Announce
     pub blanks : octets ≡ padded saRoom (take count octets)
     pub fit : CopiesConflict roots entries size a → ⊥
 
+  -- what each answer says of the SA: 8 holds of its copies, none of them opens (9), or they give its key
   abbrev pub CopyAnswersBy : CopyFound → List ℕ → ℕ → Type 0
   CopyAnswersBy Conflict octets count = CopiesConflict roots entries size a
   CopyAnswersBy Nothing octets count = (x : List ℕ) → CopyOpens roots entries size (a .copies) x → ⊥

@@ -15,7 +15,7 @@ pub data Known (zero : WrappingKey) (held : Held) : ℕ → List ℕ → Type 0 
   key-zero : Known zero held 0 (valueOf zero)
   named : (k : HeldKey) → In k (keysOf held) → Known zero held (k .id) (valueOf (k .key))
 
--- chains over these roots and entries end on exactly these keys
+-- chains over these roots and entries end on exactly key 0 (`zero`) and the keys of `held`
 pub record Agrees (roots : List Root) (entries : List WrapKey) (size : ℕ) (zero : WrappingKey) (held : Held) : Type 0 where
   pub ends : (k : ℕ) (v : List ℕ) → Known zero held k v → ChainEnds roots entries size k v
   pub known : (k : ℕ) (v : List ℕ) → ChainEnds roots entries size k v → Known zero held k v

@@ -1,4 +1,4 @@
--- Keys as they are lent to every search for one of them: a list of Key IDs beside one block of octets. Inner.
+-- Keys as they are lent to each search by Key ID: a list of Key IDs beside one block of octets. Inner.
 use Prim.Native.Nat.{ℕ, _+_, _*_, _≤_, _<_}
 use mathlib.Core.Path.{_≡_}
 use mathlib.Core.Bool.{true}
@@ -11,17 +11,19 @@ use Rattle.state.specs.Held.{blankKey, keysOf, heldFormed, keyWith}
 use Rattle.state.specs.declared.held.HeldKey.{HeldKey}
 use Rattle.state.specs.declared.held.Held.{Held}
 
--- the octets of a wrapping key's array
+-- the size of a wrapping key's array
 abbrev pub keyOctets : ℕ
 keyOctets = 32
 
--- a key's place in the block: its octet count, then the octets of its array
+-- the size of a key's place in the block: its octet count (one octet), then the octets of its array
 abbrev pub placeOctets : ℕ
 placeOctets = 1 + keyOctets
 
+-- what stands in the place of key k
 abbrev pub lentPlace : WrappingKey → List ℕ
 lentPlace k = k .count ∷ k .octets
 
+-- the places of these keys, one after the other
 unfoldable pub lentBlock : List HeldKey → List ℕ
 lentBlock [] = []
 lentBlock (k ∷ l) = lentPlace (k .key) ++ lentBlock l
@@ -34,39 +36,39 @@ pub record FitsPlace (k : WrappingKey) : Type 0 where
   pub array : length (k .octets) ≡ keyOctets
   pub most : k .count ≤ keyOctets
 
--- the Key IDs and the block are those of these keys
+-- `ids` and `block` lend these keys: they are the Key IDs and the places of them all
 pub record Lends (keys : List HeldKey) (ids block : List ℕ) : Type 0 where
   pub fit : (i : ℕ) → i < length keys → FitsPlace (getD keys i blankKey .key)
   pub ids-are : ids ≡ idsOf keys
   pub block-is : block ≡ lentBlock keys
 
--- they are those of a held list that is as it must be
+-- `ids` and `block` lend the keys of `held`, which is as a member's must be
 pub record LendsHeld (held : Held) (ids block : List ℕ) : Type 0 where
   pub formed : heldFormed limits held ≡ true
   pub lends : Lends (keysOf held) ids block
 
--- room for the Key IDs and the places of all held keys
+-- `ids` and `block` have room for as many keys as a held list may have
 pub record Rooms (ids block : List ℕ) : Type 0 where
   pub ids-length : length ids ≡ limits .heldKeys
   pub block-length : length block ≡ placeOctets * limits .heldKeys
 
--- the Key IDs and the places at the start of such room are
+-- the Key IDs and the places at the start of such room lend the keys of `held`
 pub record LendsFirst (held : Held) (ids block : List ℕ) : Type 0 where
   pub lends : LendsHeld held (take (held .count) ids) (take (placeOctets * held .count) block)
   pub rooms : Rooms ids block
   pub most : held .count ≤ limits .heldKeys
 
--- a key put into its place, which starts at `at`
+-- `after` is the block `before` with key k put into its place, which starts at `at`
 pub record Puts (k : WrappingKey) (at : ℕ) (before after : List ℕ) : Type 0 where
   pub is : after ≡ take at before ++ (lentPlace k ++ drop (at + placeOctets) before)
   pub array : length (k .octets) ≡ keyOctets
 
--- the first of these Key IDs that is id, or how many there are
+-- r is the place of the first of `ids` that equals `id`, or their number if there is none
 pub record FirstAt (id : ℕ) (ids : List ℕ) (r : ℕ) : Type 0 where
   pub most : r ≤ length ids
   pub passed : (j : ℕ) → j < r → getD ids j 0 ≡ id → ⊥
   pub here : r < length ids → getD ids r 0 ≡ id
 
--- the value of the key with this Key ID, no octets where none has it
+-- the value of the key with this Key ID; no octets if there is none
 abbrev pub valueNamed : ℕ → List HeldKey → List ℕ
 valueNamed id l = valueOf (keyWith id l .key)

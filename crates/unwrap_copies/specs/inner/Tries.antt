@@ -1,4 +1,4 @@
--- Wrapped octets that are opened, each under one key, and what is told of them all. Inner.
+-- Tries (wrapped octets, each opened under one key), and what a result says of a list of tries. Inner.
 use Prim.Native.Nat.{ℕ}
 use mathlib.Core.Path.{_≡_}
 use mathlib.Core.List.{List}
@@ -17,18 +17,18 @@ pub record Try : Type 0 where
   pub wrapped : List ℕ
 
 module _ (tries : List Try) where
-  -- one of them opens to x
+  -- one of the tries opens to x
   pub record SomeOpens (x : List ℕ) : Type 0 where
     pub one : Try
     pub stands : In one tries
     pub opens : Opens (one .key) (one .wrapped) x
 
-  -- one opens to a wrong size, or two open to two values
+  -- one of the tries opens to a wrong size, or two of them open to two values
   pub data TriesConflict (need : ℕ) : Type 0 where
     wrong-size : (x : List ℕ) → SomeOpens x → (length x ≡ need → ⊥) → TriesConflict need
     two-values : (x y : List ℕ) → SomeOpens x → SomeOpens y → (x ≡ y → ⊥) → TriesConflict need
 
-  -- one opens, and each that does opens to the first octets, as many as are needed, with blanks behind them
+  -- some try opens, and all that open give the first `count` of `octets`: `need` octets, with blanks behind them
   pub record TriesKey (need : ℕ) (octets : List ℕ) (count : ℕ) : Type 0 where
     pub opens : SomeOpens (take count octets)
     pub every : (x : List ℕ) → SomeOpens x → x ≡ take count octets
@@ -36,6 +36,7 @@ module _ (tries : List Try) where
     pub need-is : count ≡ need
     pub blanks : octets ≡ padded saRoom (take count octets)
 
+  -- what each result says of the tries: they conflict, none of them opens, or they give one value
   abbrev pub CopyTellsBy : ℕ → CopyFound → List ℕ → ℕ → Type 0
   CopyTellsBy need Conflict octets count = TriesConflict need
   CopyTellsBy need Nothing octets count = (x : List ℕ) → SomeOpens x → ⊥

@@ -23,9 +23,9 @@ use Rattle.unwrap_sas.specs.declared.joining.SasFound.{SasFound}
 use Rattle.unwrap_sas.specs.declared.joining.SasFound.the-variants as found
 use Rattle.unwrap_sas.specs.declared.joining.Keyed.{Keyed}
 
--- A frame with this GSA body and this KD body, and what is known of it after numbers 4 to 7: no Key Length and no
--- GSA_KEY_LIFETIME twice in one place; transforms that are exactly those of document 01, so no AH policy; one bag for each policy; no
--- more SAs than a table holds
+-- the frame f has the GSA body g and the KD body k, and numbers 4 to 7 do not apply: no Key Length and no GSA_KEY_LIFETIME stands twice in
+-- one place; the transforms are exactly those of document 01, so there is no AH policy; each policy has one bag; there are no more SAs than
+-- a table holds
 pub record ChecksPassed (f : Frame) (g k : List ℕ) : Type 0 where
   pub policies : policiesOf f ≡ policiesIn g
   pub bags : bagsOf f ≡ bagsIn k
@@ -35,12 +35,12 @@ pub record ChecksPassed (f : Frame) (g k : List ℕ) : Type 0 where
   pub paired : policyUnpaired f ≡ false
   pub room : length (announced f) ≤ limits .sas
 
--- of SAs none of which is number 8: some SA has no copy that opens, or each has its key
+-- the answer if number 8 holds of no SA: with `true` some SA has no copy that opens, with `false` each SA has its key
 abbrev pub foundBy : Bool → SasFound
 foundBy true = found.KeyMissing
 foundBy false = found.Keys
 
--- ---- of these policies of a frame
+-- ---- of the policies l of the frame f
 module _ (roots : List Root) (entries : List WrapKey) (size : ℕ) (f : Frame) (l : List GroupSaPolicy) where
   -- 8, of copies: "in number 8 they count as reached wrappings of that SA's key"
   pub record SomeConflict : Type 0 where
@@ -48,6 +48,7 @@ module _ (roots : List Root) (entries : List WrapKey) (size : ℕ) (f : Frame) (
     pub stands : In sa l
     pub conflict : CopiesConflict roots entries size (announcedAs f sa)
 
+  -- 8 holds of the copies of none of them
   abbrev pub NoConflict : Type 0
   NoConflict = (a : GroupSaPolicy) → In a l → CopiesConflict roots entries size (announcedAs f a) → ⊥
 
@@ -57,7 +58,7 @@ module _ (roots : List Root) (entries : List WrapKey) (size : ℕ) (f : Frame) (
     pub stands : In sa l
     pub none : (x : List ℕ) → CopyOpens roots entries size (copiesOf f sa) x → ⊥
 
-  -- "each is judged only when the lower ones don't apply"; the SAs start at a tick
+  -- "each is judged only when the lower ones don't apply"; the lifetimes of the SAs start at `tick`
   abbrev pub KeysOf : ℕ → SasFound → List Sa → ℕ → Type 0
   KeysOf tick found.KeyConflict sas count = SomeConflict
   KeysOf tick found.KeyMissing sas count = NoConflict × SomeUnopened
@@ -66,6 +67,6 @@ module _ (roots : List Root) (entries : List WrapKey) (size : ℕ) (f : Frame) (
   abbrev pub KeysIn : ℕ → Keyed → Type 0
   KeysIn tick r = KeysOf tick (r .found) (r .sas) (r .count)
 
--- ---- of all that it announces: the first SAs of the answer are the new ones, one for each, in the frame's order
+-- ---- of all policies that the frame announces: the first SAs of the answer are the new ones, one for each policy, in the frame's order
 abbrev pub KeyedBy : List Root → List WrapKey → ℕ → Frame → ℕ → Keyed → Type 0
 KeyedBy roots entries size f tick r = KeysIn roots entries size f (announced f) tick r

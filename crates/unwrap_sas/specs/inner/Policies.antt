@@ -40,20 +40,22 @@ use Rattle.unwrap_sas.specs.declared.joining.One.{One}
 abbrev pub SaPredicate : Type 1
 SaPredicate = List Root → List WrapKey → ℕ → Frame → GroupSaPolicy → Type 0
 
+-- number 8 holds of the copies of policy a
 abbrev pub IsConflict : SaPredicate
 IsConflict roots entries size f a = CopiesConflict roots entries size (announcedAs f a)
 
+-- no copy of policy a opens
 abbrev pub IsUnopened : SaPredicate
 IsUnopened roots entries size f a = (x : List ℕ) → CopyOpens roots entries size (copiesOf f a) x → ⊥
 
--- its SA is this one, from a tick on
+-- the copies of policy a give its key, without a conflict, and `sa` is its SA from `tick` on
 pub record IsSa (tick : ℕ) (sa : Sa) (roots : List Root) (entries : List WrapKey) (size : ℕ) (f : Frame) (a : GroupSaPolicy) : Type 0 where
   pub x : List ℕ
   pub key : KeyOf roots entries size (announcedAs f a) x
   pub fit : CopiesConflict roots entries size (announcedAs f a) → ⊥
   pub is : sa ≡ saFrom tick a x
 
--- it is number 8 of its copies, none that opens, or this SA
+-- what each result says of policy a: number 8 holds of its copies, none of them opens, or `sa` is its SA
 abbrev pub IsBy : ℕ → CopyFound → Sa → SaPredicate
 IsBy tick copied.Conflict sa roots entries size f a = IsConflict roots entries size f a
 IsBy tick copied.Nothing sa roots entries size f a = IsUnopened roots entries size f a
@@ -62,12 +64,13 @@ IsBy tick copied.Key sa roots entries size f a = IsSa tick sa roots entries size
 abbrev pub IsOne : ℕ → One → SaPredicate
 IsOne tick r roots entries size f a = IsBy tick (r .found) (r .sa) roots entries size f a
 
--- the octets that an SPI of this protocol has, and the two parts of its SA's keying octets
+-- the SPI has the size of its protocol; `encryption` and `wrapping` are sizes that the two parts of its SA's keying octets can have
 pub record Sized (protocol : ℕ) (spi : List ℕ) (encryption wrapping : ℕ) : Type 0 where
   pub esp : protocol ≡ 3 → (length spi ≡ 4) × (sizeOf 1 encryption ≡ true) × (wrapping ≡ 0)
   pub rekey : (protocol ≡ 3 → ⊥) → (length spi ≡ 16) × (rekeySizes encryption wrapping ≡ true)
 
--- a policy with this name whose transforms need so many octets, and whose SA has this lifetime from a tick on
+-- policy a has this protocol and SPI, its transforms need `encryption` and `wrapping` octets, and its SA has this lifetime from `tick`
+-- on
 pub record PolicyGives (protocol : ℕ) (spi : List ℕ) (encryption wrapping : ℕ) (lifetime : Lifetime) (tick : ℕ) (a : GroupSaPolicy) : Type
     0 where
   pub protocol-is : a .protocol ≡ protocol
@@ -76,28 +79,29 @@ pub record PolicyGives (protocol : ℕ) (spi : List ℕ) (encryption wrapping : 
   pub wrapping-is : keyWrapOctets a ≡ wrapping
   pub lifetime-is : lifetimeFrom tick (a .keyLifetimes) ≡ lifetime
 
--- such a policy, and what its copies open to
+-- such a policy, whose copies open to `one`
 pub record IsOpened (protocol : ℕ) (spi : List ℕ) (encryption wrapping : ℕ) (lifetime : Lifetime) (tick : ℕ) (one : CopyOpened)
     (roots : List Root) (entries : List WrapKey) (size : ℕ) (f : Frame) (a : GroupSaPolicy) : Type 0 where
   pub name : PolicyGives protocol spi encryption wrapping lifetime tick a
   pub answers : CopyAnswers roots entries size (announcedAs f a) one
 
 -- ---- where a policy and its bag stand
--- the SPI of a policy with these parts that starts at a place of a GSA body, and what it holds after its SPI
+-- the SPI of the policy that starts at `at` of the GSA body g and has the parts p
 abbrev pub spiAt : List ℕ → ℕ → Parts → List ℕ
 spiAt g at p = part g (at + 4) (at + p .body)
 
+-- what such a policy holds after its SPI
 abbrev pub bodyAt : List ℕ → ℕ → Parts → List ℕ
 bodyAt g at p = part g (at + p .body) (at + p .end)
 
--- such a policy stands inside the body
+-- such a policy stands inside the GSA body
 pub record PolicyStandsAt (g : List ℕ) (at : ℕ) (p : Parts) : Type 0 where
   pub head : 4 ≤ p .body
   pub order : p .body ≤ p .end
   pub inside : at + p .end ≤ length g
   pub small : length (bodyAt g at p) < 65536
 
--- chains end on exactly key 0, of which this is the schedule, and the held keys, which are lent so
+-- chains end on exactly key 0 and the held keys: `schedule` is that of key 0, and `ids` and `block` lend the held keys
 pub record OpeningKeys (schedule ids block : List ℕ) (roots : List Root) (entries : List WrapKey) (size : ℕ) : Type 0 where
   pub zero : WrappingKey
   pub held : Held
@@ -105,11 +109,12 @@ pub record OpeningKeys (schedule ids block : List ℕ) (roots : List Root) (entr
   pub lends : LendsHeld held ids block
   pub agrees : Agrees roots entries size zero held
 
--- the lifetimes of a Group SA policy of a protocol that holds this after its SPI
+-- the lifetimes of a Group SA policy of this protocol; x is what the policy holds after its SPI
 abbrev pub lifetimesOf : ℕ → SaBody → List ℕ
 lifetimesOf protocol x = keyLifetimes (inPolicy protocol) (x .suite .attributes)
 
--- the policy a has this name and holds x after its SPI; it is as it must be after numbers 4 to 6, and its bag is one of those that k is
+-- policy a has this protocol and SPI and holds x after its SPI; numbers 4 to 6 do not apply to it, and its one bag stands in the KD
+-- body k
 pub record Announces (k : List ℕ) (protocol : ℕ) (spi x : List ℕ) (f : Frame) (a : GroupSaPolicy) : Type 0 where
   pub protocol-is : a .protocol ≡ protocol
   pub spi-is : a .spi ≡ spi
@@ -124,7 +129,7 @@ pub record Announces (k : List ℕ) (protocol : ℕ) (spi x : List ℕ) (f : Fra
   pub bags : bagsOf f ≡ bagsIn k
   pub paired : bagsNamed f (a .protocol) (a .spi) ≡ 1
 
--- the policy a has this name and holds x after its SPI, and its copies open under key 0 and the held keys
+-- such a policy, and the keys under which its copies are opened: key 0 and the held keys
 pub record IsAnnounced (k : List ℕ) (protocol : ℕ) (spi x : List ℕ) (schedule ids block : List ℕ) (roots : List Root)
     (entries : List WrapKey) (size : ℕ) (f : Frame) (a : GroupSaPolicy) : Type 0 where
   pub opening : OpeningKeys schedule ids block roots entries size

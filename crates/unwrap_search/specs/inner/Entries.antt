@@ -14,7 +14,7 @@ noEntry = record { id = 0; kwk = 0; start = 0; end = 0 }
 abbrev pub noWrapKey : WrapKey
 noWrapKey = record { keyId = 0; kwkId = 0; wrapped = [] }
 
--- the entry's numbers are e's, and its wrapped octets stand in the frame from `start` up to `end`
+-- c has the Key ID and the KWK ID of e, and the wrapped octets of e stand in the frame from `start` up to `end`
 pub record IsEntry (frame : List ℕ) (c : Entry) (e : WrapKey) : Type 0 where
   pub id : c .id ≡ e .keyId
   pub kwk : c .kwk ≡ e .kwkId
@@ -22,7 +22,7 @@ pub record IsEntry (frame : List ℕ) (c : Entry) (e : WrapKey) : Type 0 where
   pub ends : c .end ≤ length frame
   pub octets : part frame (c .start) (c .end) ≡ e .wrapped
 
--- the first n of the array are the entries
+-- the first n of the array `cells` stand for `entries`, in their order
 pub record Lists (frame : List ℕ) (cells : List Entry) (n : ℕ) (entries : List WrapKey) : Type 0 where
   pub count : length entries ≡ n
   pub within : n ≤ limits .wrapKeys

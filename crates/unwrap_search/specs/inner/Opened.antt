@@ -15,6 +15,7 @@ use Rattle.unwrap_search.specs.declared.open.Status.the-variants.{Waitin
 use Rattle.unwrap_search.specs.declared.open.Entry.{Entry}
 use Rattle.unwrap_search.specs.declared.open.Cell.{Cell}
 
+-- the cell of an entry that was not opened yet
 abbrev pub noCell : Cell
 noCell = record { status = Waiting; key = wrappingOf [] }
 
@@ -36,7 +37,7 @@ pending Done = false
 abbrev pub naming : ℕ → Entry → Cell → Bool
 naming k e c = both (eqb (e .kwk) k) (waiting (c .status))
 
--- the key is octets of the right size to which `wrapped` opens under v
+-- `wrapped` opens under v to `key`, which has `size` octets
 pub record EntryOpened (v : List ℕ) (size : ℕ) (wrapped : List ℕ) (key : WrappingKey) : Type 0 where
   pub opens : Opens v wrapped (valueOf key)
   pub fits : length (valueOf key) ≡ size
@@ -48,10 +49,11 @@ pub record WrongSize (v : List ℕ) (size : ℕ) (wrapped : List ℕ) : Type 0 w
   pub opens : Opens v wrapped x
   pub misfit : length x ≡ size → ⊥
 
+-- `wrapped` does not open under v
 abbrev pub NotOpened : List ℕ → List ℕ → Type 0
 NotOpened v wrapped = (x : List ℕ) → Opens v wrapped x → ⊥
 
--- what became of `wrapped` when it was opened under v
+-- what the status and the key of a cell say after `wrapped` was opened under v
 abbrev pub LandedBy : List ℕ → ℕ → List ℕ → Status → WrappingKey → Type 0
 LandedBy v size wrapped Waiting key = ⊥
 LandedBy v size wrapped Failed key = NotOpened v wrapped
@@ -62,7 +64,7 @@ LandedBy v size wrapped Done key = ⊥
 abbrev pub Landed : List ℕ → ℕ → List ℕ → Cell → Type 0
 Landed v size wrapped c = LandedBy v size wrapped (c .status) (c .key)
 
--- cell c of entry e after key k, of value v, was tried on it
+-- the cell of entry e was c, and is r after key k (of value v) was tried on it
 pub data Tried (k : ℕ) (v : List ℕ) (size : ℕ) (e : WrapKey) (c r : Cell) : Type 0 where
   opened : c .status ≡ Waiting → e .kwkId ≡ k → Landed v size (e .wrapped) r → Tried k v size e c r
   stays : (c .status ≡ Waiting → e .kwkId ≡ k → ⊥) → r ≡ c → Tried k v size e c r

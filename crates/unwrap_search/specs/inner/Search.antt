@@ -21,22 +21,24 @@ keyAt entries i = getD entries i noWrapKey
 abbrev pub cellAt : List Cell → ℕ → Cell
 cellAt cells i = getD cells i noCell
 
--- every cell after key k, of value v, was tried on it
+-- the cells were c, and are r after key k (of value v) was tried on every entry
 abbrev pub AllTried : ℕ → List ℕ → ℕ → List WrapKey → List Cell → List Cell → Type 0
 AllTried k v size entries c r = (i : ℕ) → i < length entries → Tried k v size (keyAt entries i) (cellAt c i) (cellAt r i)
 
--- no entry that waits names key k
+-- none of the first n entries waits for key k
 abbrev pub Unnamed : ℕ → List Entry → List Cell → ℕ → Type 0
 Unnamed k places cells n = (i : ℕ) → i < n → getD places i noEntry .kwk ≡ k → cellAt cells i .status ≡ Waiting → ⊥
 
--- a cell of the first n that is pending, or none is
+-- cell j is one of the first n, and is pending
 pub record PendingAt (cells : List Cell) (n j : ℕ) : Type 0 where
   pub inside : j < n
   pub pends : cellAt cells j .status ≡ Pending
 
+-- none of the first n cells is pending
 abbrev pub NonePending : List Cell → ℕ → Type 0
 NonePending cells n = (i : ℕ) → i < n → cellAt cells i .status ≡ Pending → ⊥
 
+-- the answer is the place of a pending cell, or `Nothing` and no cell is pending
 abbrev pub Finds : List Cell → ℕ → PendingFound → Type 0
 Finds cells n (At j) = PendingAt cells n j
 Finds cells n Nothing = NonePending cells n
@@ -45,12 +47,12 @@ Finds cells n Nothing = NonePending cells n
 abbrev pub Nonzero : List WrapKey → Type 0
 Nonzero entries = (i : ℕ) → i < length entries → keyAt entries i .keyId ≡ 0 → ⊥
 
--- the one root of a registration
+-- the one root of a registration: key 0 with the value v
 abbrev pub keyZeroRoots : List ℕ → List Root
 keyZeroRoots v = record { id = 0; value = v } ∷ []
 
 module _ (roots : List Root) (entries : List WrapKey) (size : ℕ) where
-  -- a chain that ends with entry e gives the key
+  -- a chain that ends with entry e gives `key`, which has `size` octets
   pub record ChainGives (e : WrapKey) (key : WrappingKey) : Type 0 where
     pub passed : List WrapKey
     pub chain : Chain roots entries size (e ∷ passed) (e .keyId) (valueOf key)
@@ -64,7 +66,7 @@ module _ (roots : List Root) (entries : List WrapKey) (size : ℕ) where
     pub chain : Chain roots entries size (e ∷ passed) (e .keyId) x
     pub misfit : length x ≡ size → ⊥
 
-  -- key k stands with value x in the cells
+  -- a `Done` cell gives key k the value x
   pub record Found-in (cells : List Cell) (k : ℕ) (x : List ℕ) : Type 0 where
     pub place : ℕ
     pub inside : place < length entries
@@ -77,8 +79,9 @@ module _ (roots : List Root) (entries : List WrapKey) (size : ℕ) where
   OneEach cells =
       (k : ℕ) (x y : List ℕ) → Found-in cells k x → Found-in cells k y → x ≡ y
 
-  -- what the search says of each entry: `Done`, that a chain ends with it and gives the cell's key; `Wrong`, that one gives a value of a
-  -- wrong size. Where none is wrong and the cells give each key one value, whatever is reached stands in the cells.
+  -- the cells after a search. The entry of a `Done` cell ends a chain that gives the cell's key. The entry of a `Wrong` cell ends a chain
+  -- that gives a value of a wrong size. If no Key ID is 0, no cell is `Wrong` and the cells give each key one value, then the cells have
+  -- every key that is reached.
   pub record Searched (cells : List Cell) : Type 0 where
     pub gives : (i : ℕ) → i < length entries → cellAt cells i .status ≡ Done → ChainGives (keyAt entries i) (cellAt cells i .key)
     pub misfits : (i : ℕ) → i < length entries → cellAt cells i .status ≡ Wrong → Misfits (keyAt entries i)

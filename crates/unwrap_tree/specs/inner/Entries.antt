@@ -13,11 +13,11 @@ use Rattle.wire_readers.specs.inner.Values.{isWhole, valuesIn}
 use Rattle.wire_readers.specs.declared.Stretch.{Stretch}
 use Rattle.unwrap_tree.specs.inner.Reached.{wrapKeysIn}
 
--- the keys of a Member Key Bag whose attributes are these octets
+-- the WRAP_KEYs of a Member Key Bag with the attributes s
 abbrev pub bagKeys : List ℕ → List WrapKey
 bagKeys s = map wrapKeyOf (valuesIn meaning.WrapKey MemberBag s)
 
--- the octets of the stretch are attributes of a Member Key Bag, or none, and the body has no other WRAP_KEYs than theirs
+-- the stretch x of the KD body k is empty or has the attributes of a Member Key Bag, and all WRAP_KEYs of the body stand in it
 pub record HoldsEntries (k : List ℕ) (x : Stretch) : Type 0 where
   pub order : x .start ≤ x .end
   pub inside : x .end ≤ length k

@@ -1,4 +1,4 @@
--- What an entry's cell adds to the keys that are reached. Inner.
+-- What the cell of an entry adds to the held list. Inner.
 use mathlib.Core.Path.{_≡_}
 use mathlib.Core.Bool.{true, false}
 use Rattle.state_keys.specs.Limits.{limits}
@@ -8,7 +8,7 @@ use Rattle.unwrap_search.specs.declared.open.Status.the-variants.{Done}
 use Rattle.unwrap_search.specs.declared.open.Entry.{Entry}
 use Rattle.unwrap_search.specs.declared.open.Cell.{Cell}
 
--- the held list r is `held` with the key of entry e, unless the entry is not reached or its Key ID stands there
+-- the list r is `held` with the key of entry e, whose cell is c; it is `held` itself if e was not reached or its Key ID is there already
 pub data Joins (e : Entry) (c : Cell) (held r : Held) : Type 0 where
   not-reached : (c .status ≡ Done → ⊥) → r ≡ held → Joins e c held r
   stands : heldKey limits (e .id) held .fits ≡ true → r ≡ held → Joins e c held r

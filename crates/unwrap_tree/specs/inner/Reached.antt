@@ -1,4 +1,4 @@
--- What a registration's KD body says of chains: its entries, number 8 of them, and the held list.
+-- The entries of a registration's KD body, number 8 of them, and the held list that they give.
 use Prim.Native.Nat.{ℕ}
 use mathlib.Core.Path.{_≡_}
 use mathlib.Core.Bool.{true, false}
@@ -21,13 +21,13 @@ use Rattle.rules_refusals.specs.Contents.{gather, memberBagOf}
 abbrev pub wrapKeysAmong : List Bag → List WrapKey
 wrapKeysAmong l = gather (λ (b : MemberKeyBag). b .keys) (gather memberBagOf l)
 
--- those of a KD body
+-- the WRAP_KEYs of the KD body k
 abbrev pub wrapKeysIn : List ℕ → List WrapKey
 wrapKeysIn k = wrapKeysAmong (bagsIn k)
 
 module _ (roots : List Root) (entries : List WrapKey) (size : ℕ) where
-  -- the answer: whether number 8 holds of the entries; where it does not, the held list, which is as a member's must be, and with `zero` as
-  -- key 0 the keys on which a chain ends; where it does, no list
+  -- the answer r says whether number 8 holds of the entries. If it does not hold, r has the held list: it is as a member's must be, and
+  -- chains end on exactly its keys and key 0 (`zero`). If it holds, the list of r is empty.
   pub record TreeAnswers (zero : WrappingKey) (r : ReachedKeys) : Type 0 where
     pub conflict : Decides (r .conflict) (EntriesConflict roots entries size)
     pub held : r .conflict ≡ false → HeldAre roots entries size limits (r .held)

@@ -1,4 +1,4 @@
--- Key bags whose layout is whole, for the readers that go through them again: the first one, and the others.
+-- What `bag_parts` answers on key bags whose layout is whole: the first one; the others follow at its end, and are whole too.
 use Prim.Native.Nat.{ℕ}
 use mathlib.Core.Path.{_≡_}
 use mathlib.Core.List.{List, _∷_}

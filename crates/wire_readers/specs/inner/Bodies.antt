@@ -1,5 +1,5 @@
--- What a Group SA policy holds after its SPI, for the readers that go through it again: where its parts start; the first transform, and the
--- others.
+-- What `transform_parts` and `sa_parts` answer on what a Group SA policy holds after its SPI: the first transform, with the others at its
+-- end; where the parts start.
 use Prim.Native.Nat.{ℕ, _<_, _≤_}
 use mathlib.Core.Path.{_≡_}
 use mathlib.Core.List.{List, _∷_, map}
@@ -19,7 +19,7 @@ use Rattle.wire_readers.specs.inner.Values.{isWhole, attributesIn, value
 use Rattle.wire_readers.specs.declared.body.TransformParts.{TransformParts}
 use Rattle.wire_readers.specs.declared.body.SaParts.{SaParts}
 
--- transforms that start with this one, and the octets after the last
+-- `r` is the first of the transforms `l` at the start of `s`, and `tail` the octets after the last
 pub record TransformIs (s : List ℕ) (l : List Transform) (tail : List ℕ) (r : TransformParts) : Type 0 where
   pub head : Transform
   pub rest : List Transform

@@ -1,4 +1,4 @@
--- Policies whose layout is whole, for the readers that go through them again: the first one, and the others.
+-- What `policy_parts` answers on policies whose layout is whole: the first one; the others follow at its end, and are whole too.
 use Prim.Native.Nat.{ℕ, _<_, _≤_}
 use mathlib.Core.Path.{_≡_}
 use mathlib.Core.List.{List, _∷_}
@@ -15,7 +15,7 @@ use Rattle.wire_policies.specs.Policy.{headSize, Policy, SaBody, groupSaOf, gro
 use Rattle.wire_policies.specs.Grammar.{IsSaBody}
 use Rattle.wire_readers.specs.declared.policy.Parts.{Parts}
 
--- the parts of a head
+-- `r` is the parts of the head at the start of `s`
 pub record Heads (s : List ℕ) (r : Parts) : Type 0 where
   pub first : r .first ≡ oct s 0
   pub body : r .body ≡ headSize s
@@ -28,12 +28,12 @@ pub record Heads (s : List ℕ) (r : Parts) : Type 0 where
 abbrev pub policiesIn : List ℕ → List Policy
 policiesIn s = itemsOf (policies 0 s)
 
--- a group-wide policy and the policies after it
+-- the first policy of `s` is group-wide, and the others follow at its end
 pub record WideFirst (s : List ℕ) (r : Parts) : Type 0 where
   pub item : policiesIn s ≡ groupWideOf (attributesIn place.GroupWidePolicy (part s (r .body) (r .end))) ∷ policiesIn (drop (r .end) s)
   pub held : isWhole (attributes place.GroupWidePolicy 0 (part s (r .body) (r .end))) ≡ true
 
--- a Group SA policy and the policies after it
+-- the first policy of `s` is a Group SA policy, and the others follow at its end
 pub record SaFirst (s : List ℕ) (r : Parts) : Type 0 where
   pub body : SaBody
   pub item : policiesIn s ≡ groupSaOf s body ∷ policiesIn (drop (r .end) s)

@@ -1,4 +1,4 @@
--- Octets whose layout is whole, for the readers that go through them again: their items, and what finding one says.
+-- What the readers answer on attributes whose layout is whole: their values, and where a value stands.
 use Prim.Native.Nat.{ℕ, _+_, _-_, _<_, _≤_}
 use mathlib.Core.Path.{_≡_}
 use mathlib.Core.List.{List, [], _∷_}
@@ -22,11 +22,11 @@ abbrev pub isWhole : {A : Type 0} → Reading A → Bool
 isWhole (whole a rest) = true
 isWhole (broken o) = false
 
--- 1 where it is so
+-- 1 if `b` is true, else 0
 abbrev pub once : Bool → ℕ
 once b = cond b 1 0
 
--- the stretch of what does not stand in some octets
+-- the stretch of a value that is not there
 abbrev pub nowhere : Stretch
 nowhere = record { start = 0; end = 0 }
 
@@ -37,11 +37,11 @@ itemsOf (broken o) = []
 abbrev pub attributesIn : Place → List ℕ → List Attribute
 attributesIn p s = itemsOf (attributes p 0 s)
 
--- the values of the attributes that have a meaning in a place
+-- the values of those attributes of `s` that mean `m` in the place `p`
 abbrev pub valuesIn : Meaning → Place → List ℕ → List (List ℕ)
 valuesIn m p s = valuesOf m p (attributesIn p s)
 
--- where they stand: attributes one after the other from the place b on, each with its value behind its lead
+-- where those values stand: the attributes come one after the other from the index `b` on, each with its value behind its lead (`leadOf`)
 unfoldable pub placesOf : Meaning → Place → ℕ → List Attribute → List Stretch
 placesOf m p b [] = []
 placesOf m p b (a ∷ l) =
@@ -51,7 +51,7 @@ placesOf m p b (a ∷ l) =
 abbrev pub placesIn : Meaning → Place → List ℕ → ℕ → List Stretch
 placesIn m p s from = placesOf m p from (attributesIn p (drop from s))
 
--- the octets that such a value has, where the layout is whole
+-- whether a value of a meaning may have `n` octets, where the layout is whole
 abbrev pub valueSize : Meaning → ℕ → Bool
 valueSize meaning.Skipped n = true
 valueSize meaning.KeyLength n = eqb n 2
@@ -61,7 +61,8 @@ valueSize meaning.KeyLifetime n = eqb n 4
 valueSize meaning.SaKey n = wrappedSize n
 valueSize meaning.WrapKey n = wrappedSize n
 
--- the first of them from a place on stands from a to e and nowhere else, though the same octets stood there; the others come after it
+-- the first such value from the index `from` on stands from `a` to `e`, and nowhere else, even where equal octets stand; the others come
+-- after it
 pub record ValueFoundAt (m : Meaning) (p : Place) (s : List ℕ) (from a e : ℕ) : Type 0 where
   pub first : valuesIn m p (drop from s) ≡ part s a e ∷ valuesIn m p (drop e s)
   pub place : placesIn m p s from ≡ record { start = a; end = e } ∷ placesIn m p s e
@@ -71,7 +72,7 @@ pub record ValueFoundAt (m : Meaning) (p : Place) (s : List ℕ) (from a e : ℕ
   pub size : valueSize m (e - a) ≡ true
   pub rest : isWhole (attributes p 0 (drop e s)) ≡ true
 
--- the attribute that stands at b and ends at e holds that first value
+-- the attribute from `b` to `e` holds that first value
 pub record MetAt (m : Meaning) (p : Place) (s : List ℕ) (from b e : ℕ) : Type 0 where
   pub value : ValueFoundAt m p s from (valueStart s b) e
   pub octets : valueAt (drop b s) ≡ part s (valueStart s b) e
@@ -80,7 +81,7 @@ abbrev pub FindsValue : Meaning → Place → List ℕ → ℕ → ValueFound �
 FindsValue m p s from (found.At b e) = MetAt m p s from b e
 FindsValue m p s from found.Nothing = (valuesIn m p (drop from s) ≡ []) × (placesIn m p s from ≡ [])
 
--- the first value from a place on, and where it starts; no octet at 0 where there is none
+-- the first such value from the index `from` on, and where it starts; empty, and 0, where there is none
 abbrev pub firstValue : Meaning → Place → List ℕ → ℕ → List ℕ
 firstValue m p s from = getD (valuesIn m p (drop from s)) 0 []
 
