@@ -113,9 +113,9 @@ module _ (s : List ℕ) (f : Frame) (b : PayloadFacts) (is : OfFrame s f b) (row
       severalMemberBags keyLengthTwice initialMessageIdTwice delayTwice otherDestination lifetimeTwice
   as-clauses g h = λ i.
       is .critical i ∷ (not (sym e i .«allows_member_bag») && ltb 0 (bags-are h i .members))
-      ∷ (not (sym e i .deletes) && ltb 0 (is .deletes i))
+      ∷ (not (sym e i .«allows_deletes») && ltb 0 (is .deletes i))
       ∷ ltb 1 (is .gsas i) ∷ ltb 1 (is .kds i) ∷ (gsa-there i && not (kd-there i)) ∷ (kd-there i && not (gsa-there i))
-      ∷ (not (gsa-there i) && (not (kd-there i) && not (sym e i .deletes && ltb 0 (is .deletes i))))
+      ∷ (not (gsa-there i) && (not (kd-there i) && not (sym e i .«allows_deletes» && ltb 0 (is .deletes i))))
       ∷ ltb 1 (policies-are g i .rekeys) ∷ ltb 1 (policies-are g i .wides) ∷ ltb 1 (bags-are h i .members) ∷ without-sa g i
       ∷ policies-are g i .«two_lengths» ∷ policies-are g i .«two_message_ids» ∷ policies-are g i .«two_delays» ∷ policies-are g i .elsewhere
       ∷ policies-are g i .«two_lifetimes» ∷ []

@@ -87,10 +87,10 @@ module _ (f : Frame) where
   abbrev facts : BagFacts
   facts = bagFacts limits (bagsOf f)
 
-  key-counts : ((facts .keyless || facts .several) || (not (rowOf f .copies) && facts .«several_of_rekey»)) ≡ saKeyCount f
+  key-counts : ((facts .keyless || facts .several) || (not (rowOf f .«allows_copies») && facts .«several_of_rekey»)) ≡ saKeyCount f
   unfolding saKeyCount otherSaKeyCount
   key-counts =
-      let c = rowOf f .copies in
+      let c = rowOf f .«allows_copies» in
       let none : GroupKeyBag → Bool = λ b. eqb (length (b .keys)) 0 in
       let several : GroupKeyBag → Bool = λ b. not (eqb (b .protocol) rekeyProtocol) && ltb 1 (length (b .keys)) in
       let copied : GroupKeyBag → Bool = λ b. eqb (b .protocol) rekeyProtocol && ltb 1 (length (b .keys)) in
@@ -158,7 +158,7 @@ module _ (row : Exchange) (f : Frame) (e : rowOf f ≡ row) (k : BagFacts) (kq :
   unfolding one saKeyId espKwkId wrapKeyId wrapsItself number6OfFrame number6OfMember
   six-is =
       (λ i. one (sym (policy-unpaired f) i ∷ sym (bag-unpaired f) i ∷ sym (already f s now) i
-      ∷ ((kq i .keyless || kq i .several) || (not (sym e i .copies) && kq i .«several_of_rekey»))
+      ∷ ((kq i .keyless || kq i .several) || (not (sym e i .«allows_copies») && kq i .«several_of_rekey»))
       ∷ kq i .named ∷ kq i .«esp_with_kwk_id» ∷ kq i .unnamed
       ∷ kq i .itself ∷ []))
       ∙ (λ i. one (policyUnpaired f ∷ bagUnpaired f ∷ alreadyInTable s now f ∷ key-counts f i ∷ saKeyId f ∷ espKwkId f ∷ wrapKeyId f

@@ -42,7 +42,7 @@ pub fn clauses_4(row: Exchange, x: Facts) -> Four
         // "Member bag in a rekey", of either kind
         member_bag: !row.allows_member_bag & (0 < k.members),
         // "D in a registration", by T-02 in GSA_INBAND_REKEY too
-        delete: !row.deletes & deletes,
+        delete: !row.allows_deletes & deletes,
         // "two GSA or two KD"
         two_gsa: 1 < b.gsas,
         two_kd: 1 < b.kds,
@@ -50,7 +50,7 @@ pub fn clauses_4(row: Exchange, x: Facts) -> Four
         gsa_alone: gsa & !kd,
         kd_alone: kd & !gsa,
         // "neither (unless a rekey has D)"
-        neither: !gsa & (!kd & !(row.deletes & deletes)),
+        neither: !gsa & (!kd & !(row.allows_deletes & deletes)),
         // "more than one Rekey policy, group-wide policy or Member bag"
         rekeys: 1 < p.rekeys,
         wides: 1 < p.wides,

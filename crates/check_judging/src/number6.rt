@@ -27,7 +27,7 @@ pub fn clauses_6(row: Exchange, k: BagFacts) -> Keys
     ensures { λ r. ⌜ keysIn r ≡ keysBy row k ⌝ }
 {
     // "SA_KEY count not 1 (for a Rekey SA in a rekey: 0)", where the rekey is a GSA_REKEY
-    let count = k.keyless | k.several | (!row.copies & k.several_of_rekey);
+    let count = k.keyless | k.several | (!row.allows_copies & k.several_of_rekey);
     // "SA_KEY with Key ID not 0"
     let named = k.named;
     // "ESP SA_KEY with KWK ID not 0"

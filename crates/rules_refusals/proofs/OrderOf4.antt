@@ -48,7 +48,7 @@ module _ {f g : Frame} (r : Reordered f g) where
 
   delete-kept : barredDelete f ≡ barredDelete g
   unfolding barredDelete
-  delete-kept = λ i. not (row-kept i .deletes) && ltb 0 (length-order (deletes-order r) i)
+  delete-kept = λ i. not (row-kept i .«allows_deletes») && ltb 0 (length-order (deletes-order r) i)
 
   two-gsa-kept : twoGsa f ≡ twoGsa g
   unfolding twoGsa
@@ -74,7 +74,7 @@ module _ {f g : Frame} (r : Reordered f g) where
 
   neither-kept : neither f ≡ neither g
   unfolding neither
-  neither-kept = λ i. not (any-gsa i) && (not (any-kd i) && not (row-kept i .deletes && ltb 0 (length-order (deletes-order r) i)))
+  neither-kept = λ i. not (any-gsa i) && (not (any-kd i) && not (row-kept i .«allows_deletes» && ltb 0 (length-order (deletes-order r) i)))
 
   rekeys-kept : severalRekeyPolicies f ≡ severalRekeyPolicies g
   unfolding severalRekeyPolicies

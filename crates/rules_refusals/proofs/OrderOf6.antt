@@ -35,7 +35,8 @@ key-test p a b e = any-equal p (e .keys)
 count-test : (x : Exchange) (a b : GroupKeyBag) → GroupBagReordered a b → otherSaKeyCount x a ≡ otherSaKeyCount x b
 unfolding otherSaKeyCount
 count-test x a b e = λ i.
-    cond (x .copies && eqb (e .protocol i) rekeyProtocol) (eqb (length-order (e .keys) i) 0) (not (eqb (length-order (e .keys) i) 1))
+    cond (x .«allows_copies» && eqb (e .protocol i) rekeyProtocol) (eqb (length-order (e .keys) i) 0)
+    (not (eqb (length-order (e .keys) i) 1))
 
 module _ {f g : Frame} (r : Reordered f g) where
   policies-named : (p : ℕ) (x : List ℕ) → policiesNamed f p x ≡ policiesNamed g p x

@@ -28,7 +28,7 @@ barredMemberBag f = not (rowOf f .«allows_member_bag») && some (memberBags f)
 
 -- "D in a registration"; in GSA_INBAND_REKEY too (T-02)
 unfoldable pub barredDelete : Frame → Bool
-barredDelete f = not (rowOf f .deletes) && some (deletesOf f)
+barredDelete f = not (rowOf f .«allows_deletes») && some (deletesOf f)
 
 -- "two GSA or two KD"
 unfoldable pub twoGsa : Frame → Bool
@@ -47,7 +47,7 @@ kdWithoutGsa f = any hasKd (f .payloads) && not (any hasGsa (f .payloads))
 -- "neither (unless a rekey has D)": GSA_REKEY alone may have D
 unfoldable pub neither : Frame → Bool
 neither f =
-    not (any hasGsa (f .payloads)) && (not (any hasKd (f .payloads)) && not (rowOf f .deletes && some (deletesOf f)))
+    not (any hasGsa (f .payloads)) && (not (any hasKd (f .payloads)) && not (rowOf f .«allows_deletes» && some (deletesOf f)))
 
 -- "more than one Rekey policy, group-wide policy or Member bag"
 unfoldable pub severalRekeyPolicies : Frame → Bool

@@ -56,7 +56,7 @@ alreadyInTable s now f = any (λ (a : GroupSaPolicy). any (named (a .protocol) (
 -- "SA_KEY count not 1 (for a Rekey SA in a rekey: 0)", where the rekey is a GSA_REKEY
 unfoldable pub otherSaKeyCount : Exchange → GroupKeyBag → Bool
 otherSaKeyCount x b =
-    cond (x .copies && eqb (b .protocol) rekeyProtocol) (eqb (length (b .keys)) 0) (not (eqb (length (b .keys)) 1))
+    cond (x .«allows_copies» && eqb (b .protocol) rekeyProtocol) (eqb (length (b .keys)) 0) (not (eqb (length (b .keys)) 1))
 
 unfoldable pub saKeyCount : Frame → Bool
 saKeyCount f = any (otherSaKeyCount (rowOf f)) (groupBags f)

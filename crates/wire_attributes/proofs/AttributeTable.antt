@@ -4,8 +4,10 @@ use Prim.Native.Nat.{ℕ}
 use mathlib.Core.Path.{_≡_, refl}
 use mathlib.Core.List.{List, [], _∷_, map}
 use mathlib.Core.Bool.{Bool, true, false}
+use Rattle.wire_attributes.specs.Answers.{layoutNumber, layoutOffset}
 use Rattle.wire_attributes.specs.Attribute.{attributeOf}
 use Rattle.wire_attributes.specs.Place.{meaningOf, formatFits, inTransform, inPolicy, inBag}
+use Rattle.wire_attributes.specs.declared.Layout.the-variants as layout
 use Rattle.wire_attributes.specs.declared.tables.Place.{Place}
 use Rattle.wire_attributes.specs.declared.tables.Place.the-variants as place
 use Rattle.wire_attributes.specs.declared.tables.Meaning.{Meaning}
@@ -145,3 +147,8 @@ short-octets = refl
 pub long-octets : attributeOf (1 ∷ 2 ∷ 0 ∷ 3 ∷ 7 ∷ 8 ∷ 9 ∷ 10 ∷ []) ≡ record { short = false; kind = 258; value = 7 ∷ 8 ∷ 9 ∷ [] }
 unfolding number
 long-octets = refl
+
+-- ---- what a layout is called: document 01's numbers, and the offset that number 1 alone carries
+pub layout-named : (map layoutNumber (layout.Whole ∷ layout.Broken 0 ∷ layout.Broken 9 ∷ []) ≡ 0 ∷ 1 ∷ 1 ∷ [])
+    × (map layoutOffset (layout.Whole ∷ layout.Broken 0 ∷ layout.Broken 9 ∷ []) ≡ [] ∷ (0 ∷ []) ∷ (9 ∷ []) ∷ [])
+layout-named = (refl, refl)

@@ -30,9 +30,9 @@ registration = record {
   -- not true: "Member bag in a rekey" (4)
   «allows_member_bag» = true;
   -- not true: "D in a registration"; true: "neither (unless a rekey has D)" (4)
-  deletes = false;
+  «allows_deletes» = false;
   -- "SA_KEY count not 1 (for a Rekey SA in a rekey: 0)" (6): a Rekey SA may have several copies
-  copies = false;
+  «allows_copies» = false;
   -- "Rekey has exactly one each of type 1, type 13 (one of the three) and the controller authentication type" (5), in every exchange
   authentication = true;
   -- "a registration sets the held list as reached; a rekey leaves it"
@@ -52,8 +52,8 @@ rekey = record {
   zero = keyZero.RekeySa;
   «names_held_keys» = true;
   «allows_member_bag» = false;
-  deletes = true;
-  copies = true;
+  «allows_deletes» = true;
+  «allows_copies» = true;
   authentication = true;
   registers = false;
   least = least.OwnPlusOne;
@@ -78,9 +78,9 @@ inband = record {
   «names_held_keys» = false;
   -- "A Member bag or D in it is number 4"
   «allows_member_bag» = false;
-  deletes = false;
+  «allows_deletes» = false;
   -- "a Rekey SA has exactly one SA_KEY, in number 6"
-  copies = false;
+  «allows_copies» = false;
   -- in every exchange, as document 01 says
   authentication = true;
   -- "The held list stays."
@@ -100,8 +100,8 @@ other = record {
   zero = keyZero.Lent;
   «names_held_keys» = false;
   «allows_member_bag» = true;
-  deletes = true;
-  copies = true;
+  «allows_deletes» = true;
+  «allows_copies» = true;
   authentication = false;
   registers = false;
   least = least.Zero;

@@ -36,9 +36,9 @@ nothing = record { kind = kind.Nothing; first = []; spi = []; start = 0; items =
 abbrev ip4 : List ℕ
 ip4 = 7 ∷ 17 ∷ 0 ∷ 16 ∷ 3 ∷ 80 ∷ 3 ∷ 80 ∷ 239 ∷ 1 ∷ 2 ∷ 3 ∷ 239 ∷ 1 ∷ 2 ∷ 3 ∷ []
 
--- and that of 224.0.0.9, UDP, port 849
+-- and that of 224.0.0.9, UDP, ports 849 to 850
 abbrev other : List ℕ
-other = 7 ∷ 17 ∷ 0 ∷ 16 ∷ 3 ∷ 81 ∷ 3 ∷ 81 ∷ 224 ∷ 0 ∷ 0 ∷ 9 ∷ 224 ∷ 0 ∷ 0 ∷ 9 ∷ []
+other = 7 ∷ 17 ∷ 0 ∷ 16 ∷ 3 ∷ 81 ∷ 3 ∷ 82 ∷ 224 ∷ 0 ∷ 0 ∷ 9 ∷ 224 ∷ 0 ∷ 0 ∷ 9 ∷ []
 
 -- an ESP policy whose one transform has the Key Lengths 128 and 256, and GSA_KEY_LIFETIME
 abbrev esp : List ℕ
@@ -52,7 +52,7 @@ two-key-lengths : shown esp ≡ record {
   spi = 9 ∷ 8 ∷ 7 ∷ 6 ∷ [];
   start = 4;
   items =
-      item.Selector 7 17 848 848 16 24 ∷ item.Selector 7 17 849 849 32 40 ∷ item.Transform 1 20 2 128
+      item.Selector 7 17 848 848 16 24 ∷ item.Selector 7 17 849 850 32 40 ∷ item.Transform 1 20 2 128
       ∷ item.Attribute meaning.KeyLifetime false 1 60 64 ∷ [];
 }
 unfolding policy suite saBody selector transform attribute many chain chainUpTo number valuesOf attributesSpan shownAttributes
@@ -67,11 +67,15 @@ steps : (shownIn 9 esp 0 ≡ shownItems esp)
 unfolding policy suite saBody selector transform attribute many chain chainUpTo number valuesOf attributesSpan shownAttributes shownIn
 steps = (refl, refl, refl, refl)
 
--- of two transforms the second comes behind the first
-two-transforms : map (nextAfter ((3 ∷ 4 ∷ 0 ∷ 56 ∷ 9 ∷ 8 ∷ 7 ∷ 6 ∷ []) ++ (ip4 ++ (ip4 ++
-    (3 ∷ 0 ∷ 0 ∷ 8 ∷ 1 ∷ 0 ∷ 0 ∷ 20 ∷ 0 ∷ 0 ∷ 0 ∷ 8 ∷ 5 ∷ 0 ∷ 0 ∷ 0 ∷ []))))) (162 ∷ 194 ∷ []) ≡ 194 ∷ 227 ∷ []
+-- of two transforms the second comes behind the first, and one without Key Length is shown so
+abbrev twoTransforms : List ℕ
+twoTransforms =
+    (3 ∷ 4 ∷ 0 ∷ 56 ∷ 9 ∷ 8 ∷ 7 ∷ 6 ∷ []) ++ (ip4 ++ (ip4 ++
+    (3 ∷ 0 ∷ 0 ∷ 8 ∷ 1 ∷ 0 ∷ 0 ∷ 20 ∷ 0 ∷ 0 ∷ 0 ∷ 8 ∷ 5 ∷ 0 ∷ 0 ∷ 2 ∷ [])))
+
+two-transforms : (map (nextAfter twoTransforms) (162 ∷ 194 ∷ []) ≡ 194 ∷ 227 ∷ []) × (itemAt twoTransforms 194 ≡ item.Transform 5 2 0 0)
 unfolding transform attribute many chain chainUpTo number valuesOf
-two-transforms = refl
+two-transforms = (refl, refl)
 
 -- cursors that no step answers: inside a selector, at the octets' end, behind it; an attribute is read where a transform stands
 nowhere : map (stepAt esp) (41 ∷ 257 ∷ 258 ∷ 9999 ∷ []) ≡ map stayStep (41 ∷ 257 ∷ 258 ∷ 9999 ∷ [])

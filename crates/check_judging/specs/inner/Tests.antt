@@ -24,10 +24,10 @@ use Rattle.check_judging.specs.declared.number7.Seven.{Seven}
 -- GSA_KEY_LIFETIME twice
 abbrev pub number4Of : Exchange → PayloadFacts → PolicyFacts → BagFacts → List Bool
 number4Of row b p k =
-    b .critical ∷ (not (row .«allows_member_bag») && ltb 0 (k .members)) ∷ (not (row .deletes) && ltb 0 (b .deletes))
+    b .critical ∷ (not (row .«allows_member_bag») && ltb 0 (k .members)) ∷ (not (row .«allows_deletes») && ltb 0 (b .deletes))
     ∷ ltb 1 (b .gsas) ∷ ltb 1 (b .kds)
     ∷ (ltb 0 (b .gsas) && not (ltb 0 (b .kds))) ∷ (ltb 0 (b .kds) && not (ltb 0 (b .gsas)))
-    ∷ (not (ltb 0 (b .gsas)) && (not (ltb 0 (b .kds)) && not (row .deletes && ltb 0 (b .deletes))))
+    ∷ (not (ltb 0 (b .gsas)) && (not (ltb 0 (b .kds)) && not (row .«allows_deletes» && ltb 0 (b .deletes))))
     ∷ ltb 1 (p .rekeys) ∷ ltb 1 (p .wides) ∷ ltb 1 (k .members) ∷ (ltb 0 (b .gsas) && not (ltb 0 (p .sas)))
     ∷ p .«two_lengths» ∷ p .«two_message_ids» ∷ p .«two_delays» ∷ p .elsewhere ∷ p .«two_lifetimes» ∷ []
 
@@ -37,7 +37,8 @@ number5Of row lent d p k = p .ah ∷ k .ah ∷ p .unfit ∷ d .other ∷ d .none
 
 -- the SA_KEY count, an SA_KEY with a Key ID, one of ESP with a KWK ID, a WRAP_KEY without Key ID, one under its own Key ID
 abbrev pub keysBy : Exchange → BagFacts → List Bool
-keysBy row k = ((k .keyless || k .several) || (not (row .copies) && k .«several_of_rekey»)) ∷ k .named ∷ k .«esp_with_kwk_id» ∷ k .unnamed ∷
+keysBy row k = ((k .keyless || k .several) || (not (row .«allows_copies») && k .«several_of_rekey»)) ∷ k .named ∷ k .«esp_with_kwk_id»
+    ∷ k .unnamed ∷
     k .itself ∷ []
 
 -- policies with the names `l` and bags with the names `m` not paired one to one, a policy's name already in the table, and the keys
