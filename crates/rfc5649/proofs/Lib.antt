@@ -5,3 +5,4 @@ pub mod Steps
 pub mod Wrapping
 pub mod Determined
 pub mod Checks
+pub mod Decided

@@ -4,3 +4,8 @@ pub mod Faults
 pub mod Laws
 pub mod Members
 pub mod Samples
+pub mod OnePath
+pub mod PathSamples
+pub mod Smallest
+pub mod SomePath
+pub mod WorkingPath

@@ -60,7 +60,7 @@ module _ (zero : List ℕ) (is : Key zero) where
   fit-key : (x : List ℕ) → Fit x → Key x
   fit-key x f = record { size = subst (λ (n : ℕ). T (isKey n)) (sym (f .size)) (is .size); small = f .octets }
 
-  opens : (v x : List ℕ) → Fit x → Opens v (wrapOf v x) x
+  pub opens : (v x : List ℕ) → Fit x → Opens v (wrapOf v x) x
   opens v x f =
       let s = sizes (length zero) (is .size) in
       record {

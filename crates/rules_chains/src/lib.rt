@@ -1,1 +1,1 @@
-// Chains of wrapped keys, as definitions (specs/) and laws (proofs/). The code is in the crate `unwrap_search`.
+// Chains of wrapped keys, as definitions (specs/) and laws (proofs/). The code is in the crates `unwrap_search` and `unwrap_paths`.

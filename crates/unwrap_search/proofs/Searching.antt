@@ -26,7 +26,7 @@ use Rattle.unwrap_search.specs.inner.Opened.{noCell, WrongSize}
 use Rattle.unwrap_search.specs.inner.Search.{keyAt, cellAt, AllTried, PendingAt, NonePending, keyZeroRoots}
 use Rattle.unwrap_search.specs.inner.Search.{Misfits, Found-in, OneEach, Searched}
 use Rattle.unwrap_search.proofs.Statuses.{Holds, GoodBy, holds-done, holds-good, getD-any, eq-cases, tried-stays}
-use Rattle.unwrap_search.proofs.Theory.{Inv, K, Root-is, Stands, begun, turn, chain-known, known-live, in-at}
+use Rattle.unwrap_search.proofs.Theory.{Inv, K, Root-is, Stands, begun, turn, known-opens, chain-known, known-live, in-at}
 
 -- a size of the algorithm table is one of a key
 pub is-key-size : (n : ℕ) → sizeOf 13 n ≡ true → T (isKey n)
@@ -235,4 +235,10 @@ module _ (v : List ℕ) (is : Key v) (l : List WrapKey) (size : ℕ) (fit : T (i
               (chain-known (keyZeroRoots v) l size fit root-keys (cellAt cells) inv last fits (known-one nonzero one) (r .last ∷ r .before)
               k x
               (r .chain));
+          opened = λ nonzero fits one i h a x e o.
+              let u = known-one nonzero one in
+              let kn = chain-known (keyZeroRoots v) l size fit root-keys (cellAt cells) inv last fits u (e .passed) (keyAt l i .kwkId) a
+              (e .chain) in
+              let g = known-opens (keyZeroRoots v) l size fit root-keys (cellAt cells) inv last fits u i h a x kn o in
+              holds-done (cellAt cells i .status) (g .0) (last i h);
         }

@@ -17,8 +17,8 @@ use Rattle.state_keys.specs.Kinds.{valueOf}
 use Rattle.unwrap_search.specs.inner.Opened.{LandedBy, Tried}
 use Rattle.unwrap_search.specs.inner.Search.{keyAt}
 use lib.Dec.{T}
-use Rattle.unwrap_search.proofs.Statuses.{Holds, GoodBy, Good, good-mono, good-landed}
-use Rattle.unwrap_search.proofs.Statuses.{good-known, holds-waits, holds-good, holds-done}
+use Rattle.unwrap_search.proofs.Statuses.{Holds, GoodBy, Good, good-mono, good-landed, good-known}
+use Rattle.unwrap_search.proofs.Statuses.{holds-waits, holds-good, holds-done}
 use Rattle.unwrap_search.proofs.Statuses.{eq-cases, getD-any, waits-done, tried-stays, tried-waits, tried-done, tried-elim}
 
 module _ (roots : List Root) (entries : List WrapKey) (size : ℕ) (is-size : T (isKey size))
@@ -223,6 +223,13 @@ module _ (roots : List Root) (entries : List WrapKey) (size : ℕ) (is-size : T 
         let at = p .place in
         inv .closed at (p .inside) (holds-done (C at .status) (p .holds) (last at (p .inside))) i h q (e ∙ sym (p .id-is))
 
+    -- an entry that opens under a known key opened, and to that
+    pub known-opens : (i : ℕ) → i < n → (v x : List ℕ) → K C (E i .kwkId) v → Opens v (E i .wrapped) x →
+        Holds (C i .status) × (valueOf (C i .key) ≡ x)
+    known-opens i h v x kn o =
+        good-known size (K C) (E i) v x (C i .status) (C i .key) (one (E i .kwkId)) kn (known-key C inv (E i .kwkId) v kn) o
+        (λ s. known-closed (E i .kwkId) v kn i h s refl) (fit i h) (inv .good i h)
+
     pub chain-known : (p : List WrapKey) (k : ℕ) (v : List ℕ) → Chain roots entries size p k v → K C k v
     chain-known _ _ _ (root r m) = inl (record { key = r; stands = m; id-is = refl; value-is = refl })
     chain-known _ _ x (step {passed = p} {k = k} {v = v} e c t l) = stepped k v x e (chain-known p k v c) l
@@ -235,6 +242,5 @@ module _ (roots : List Root) (entries : List WrapKey) (size : ℕ) (is-size : T 
             let kwk : E i .kwkId ≡ k = ap (λ (a : WrapKey). a .kwkId) q ∙ l .names in
             let kn2 : K C (E i .kwkId) v = subst (λ (a : ℕ). K C a v) (sym kwk) kn in
             let o : Opens v (E i .wrapped) x = subst (λ (a : WrapKey). Opens v (a .wrapped) x) (sym q) (l .opens) in
-            let g = good-known size (K C) (E i) v x (C i .status) (C i .key) (one (E i .kwkId)) kn2 (known-key C inv k v kn) o
-            (λ s. known-closed (E i .kwkId) v kn2 i h s refl) (fit i h) (inv .good i h) in
+            let g = known-opens i h v x kn2 o in
             inr (record { place = i; inside = h; holds = g .0; id-is = ap (λ (a : WrapKey). a .keyId) q; value-is = g .1 })

@@ -3,8 +3,9 @@ use Prim.Native.Nat.{ℕ, _<_}
 use mathlib.Core.Path.{_≡_}
 use mathlib.Core.List.{List, [], _∷_}
 use lib.ListN.{length, getD}
+use Rattle.rfc5649.specs.Opens.{Opens}
 use Rattle.wire_attributes.specs.Tree.{WrapKey}
-use Rattle.rules_chains.specs.Chain.{Root, Chain, Reached}
+use Rattle.rules_chains.specs.Chain.{Root, Chain, Reached, ChainEnds}
 use Rattle.state_keys.specs.Kinds.{wrappingOf, valueOf}
 use Rattle.state_keys.specs.declared.kinds.WrappingKey.{WrappingKey}
 use Rattle.unwrap_search.specs.declared.open.Status.the-variants.{Waiting, Wrong, Pending, Done}
@@ -81,10 +82,14 @@ module _ (roots : List Root) (entries : List WrapKey) (size : ℕ) where
 
   -- the cells after a search. The entry of a `Done` cell ends a chain that gives the cell's key. The entry of a `Wrong` cell ends a chain
   -- that gives a value of a wrong size. If no Key ID is 0, no cell is `Wrong` and the cells give each key one value, then the cells have
-  -- every key that is reached.
+  -- every key that is reached, and each entry whose octets open under a key on which a chain ends is `Done`.
   pub record Searched (cells : List Cell) : Type 0 where
     pub gives : (i : ℕ) → i < length entries → cellAt cells i .status ≡ Done → ChainGives (keyAt entries i) (cellAt cells i .key)
     pub misfits : (i : ℕ) → i < length entries → cellAt cells i .status ≡ Wrong → Misfits (keyAt entries i)
     pub complete : Nonzero entries →
         ((i : ℕ) → i < length entries → cellAt cells i .status ≡ Wrong → ⊥) → OneEach cells → (k : ℕ) (x : List ℕ) →
         Reached roots entries size k x → Found-in cells k x
+    pub opened : Nonzero entries →
+        ((i : ℕ) → i < length entries → cellAt cells i .status ≡ Wrong → ⊥) → OneEach cells → (i : ℕ) → i < length entries →
+        (v x : List ℕ) → ChainEnds roots entries size (keyAt entries i .kwkId) v → Opens v (keyAt entries i .wrapped) x →
+        cellAt cells i .status ≡ Done

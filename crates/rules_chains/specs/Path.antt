@@ -1,0 +1,51 @@
+-- THE WORKING KEY PATH. RFC 9838, section 3.3: "We will use the term "Key Path" to describe an ordered sequence of keys where each
+-- subsequent key was used to encrypt the previous one. The GM keeps its own Key Path (called Working Key Path) in the memory associated
+-- with each group it is registered to and updates it when needed." "If the new Key Path is non-empty and it ends with the default KWK
+-- (GSK_w), then the whole new Key Path is stored by the GM as the GM's Working Key Path." Document 02, T-04: "After a registration the held
+-- list is now the chain that opens the Rekey SA's SA_KEY". A path is such a chain that no other one comes before, with no search in sight.
+use Prim.Native.Nat.{ℕ, _≤_, _<_}
+use mathlib.Core.Path.{_≡_}
+use mathlib.Core.Logic.{_⊎_}
+use mathlib.Core.List.{List, [], _∷_, map}
+use lib.ListN.{length}
+use Rattle.rfc5649.specs.Opens.{Opens}
+use Rattle.wire_attributes.specs.Tree.{WrapKey, SaKey}
+use Rattle.rules_chains.specs.Chain.{In, Root, Chain}
+use Rattle.rules_chains.specs.Refusals.{Value}
+
+-- "written from the key that opens it back towards the default key, which is not listed": the Key IDs of a chain that passed these
+-- entries, the last one first. A chain starts with a key that no entry gives
+abbrev pub keyIds : List WrapKey → List ℕ
+keyIds passed = map (λ (e : WrapKey). e .keyId) passed
+
+-- "compared number by number": the first list is the smaller one, or both are the same
+abbrev pub NotAfter : List ℕ → List ℕ → Type 0
+NotAfter [] m = Unit {0}
+NotAfter (a ∷ l) [] = ⊥
+NotAfter (a ∷ l) (b ∷ m) = (a < b) ⊎ ((a ≡ b) × NotAfter l m)
+
+module _ (roots : List Root) (entries : List WrapKey) (size : ℕ) where
+  -- "the chain that opens the Rekey SA's SA_KEY": it passed these entries, ends on the key that one of the copies names, and opens the copy
+  pub record Opener (copies : List SaKey) (passed : List WrapKey) : Type 0 where
+    pub copy : SaKey
+    pub stands : In copy copies
+    pub value : List ℕ
+    pub chain : Chain roots entries size passed (copy .kwkId) value
+    pub octets : List ℕ
+    pub opens : Opens value (copy .wrapped) octets
+
+  -- the path has these Key IDs
+  pub record KeyPath (copies : List SaKey) (ids : List ℕ) : Type 0 where
+    pub passed : List WrapKey
+    pub opener : Opener copies passed
+    pub written : keyIds passed ≡ ids
+    -- "If several chains do, take the one with fewest keys"
+    pub fewest : (other : List WrapKey) → Opener copies other → length passed ≤ length other
+    -- "among these, the smallest when their Key ID lists are compared number by number"
+    pub smallest : (other : List WrapKey) → Opener copies other → length other ≡ length passed → NotAfter ids (keyIds other)
+
+  -- the keys with these Key IDs, in their order, each "with the value that every chain ending on it gives"
+  pub data Keys : List ℕ → List Root → Type 0 where
+    no-key : Keys [] []
+    one-more : {i : ℕ} {l : List ℕ} {x : List ℕ} {m : List Root} → Value roots entries size i x → Keys l m →
+        Keys (i ∷ l) (record { id = i; value = x } ∷ m)

@@ -1,0 +1,127 @@
+-- The held list of a path: the loop that fills it, and that its keys are those of the path.
+use native.Mathlib.Omega.{arith}
+use Prim.Native.Nat.{ℕ, suc, _+_, _-_, _≤_, _<_}
+use mathlib.Core.Path.{_≡_, refl, ap, ap₂, sym, _∙_, subst}
+use mathlib.Core.List.{List, [], _∷_, _++_, map, List·Memᴰ, List·Memᴰ·head, List·Memᴰ·tail}
+use lib.ListN.{length, take, drop, set, getD, drop-of-length-le}
+use lib.Seq.{drop-cons, length-take-le, getD-take}
+use Rattle.octets.specs.Numbers.{oct}
+use Rattle.wire_attributes.specs.Tree.{WrapKey, SaKey}
+use Rattle.rules_chains.specs.Chain.{Root, Reached}
+use Rattle.rules_chains.specs.Refusals.{EntriesConflict}
+use Rattle.rules_chains.specs.Path.{keyIds, Keys, no-key, one-more}
+use Rattle.rules_chains.proofs.Determined.{one-value}
+use Rattle.state_keys.specs.Limits.{limits}
+use Rattle.state_keys.specs.Kinds.{valueOf}
+use Rattle.state_keys.proofs.Fill.{Filled, filled-none, filled-more, written-more, filled-all, filled-count}
+use Rattle.state.specs.Held.{heldOf, blankKey}
+use Rattle.state.specs.declared.held.HeldKey.{HeldKey}
+use Rattle.state.specs.declared.held.Held.{Held}
+use Rattle.unwrap_search.specs.declared.open.Entry.{Entry}
+use Rattle.unwrap_search.specs.declared.open.Cell.{Cell}
+use Rattle.unwrap_search.specs.declared.open.Status.the-variants.{Done}
+use Rattle.unwrap_search.specs.inner.Entries.{noEntry, Lists}
+use Rattle.unwrap_search.specs.inner.Search.{keyAt, cellAt, Searched}
+use Rattle.unwrap_paths.specs.inner.Links.{entriesAt, LeadsTo}
+use Rattle.unwrap_paths.specs.inner.Holding.{heldAt, heldFrom, HoldsPath}
+
+-- ---- the loop: the first i places of the list hold the keys at the first i places of the path
+module _ (entries : List Entry) (cells : List Cell) (places : List ℕ) (count : ℕ) where
+  abbrev K : ℕ → HeldKey
+  K i = heldAt entries cells i
+
+  pub record Held-so-far (keys : List HeldKey) (i : ℕ) : Type 0 where
+    pub filled : Filled (limits .heldKeys) blankKey keys i
+    pub are : take i keys ++ map K (drop i (take count places)) ≡ map K (take count places)
+
+  pub keep-none : (h : Held) → h ≡ heldOf limits [] → Held-so-far (h .keys) 0
+  unfolding heldOf
+  keep-none h e =
+      record {
+        filled = subst (λ (x : Held). Filled (limits .heldKeys) blankKey (x .keys) 0) (sym e)
+            (filled-none (limits .heldKeys) blankKey blankKey refl);
+        are = refl;
+      }
+
+  pub key-at : (i : ℕ) (e : Entry) (c : Cell) → e ≡ getD entries i noEntry → c ≡ cellAt cells i →
+      record { id = e .id; key = c .key } ≡ K i
+  key-at i e c p q = λ t. record { id = p t .id; key = q t .key }
+
+  pub keep-next : (keys : List HeldKey) (i : ℕ) (k : HeldKey) → i < count → count ≤ length places → count ≤ limits .heldKeys →
+      k ≡ K (oct places i) → Held-so-far keys i → Held-so-far (set keys i k) (i + 1)
+  keep-next keys i k h p q e b =
+      let g : i < length (take count places) = let z = length-take-le count places p in omega arith in
+      let r : i < limits .heldKeys = omega arith in
+      let d : drop i (take count places) ≡ oct places i ∷ drop (i + 1) (take count places) =
+      drop-cons (take count places) i 0 g
+      ∙ ap₂ (λ (a : ℕ) (m : ℕ). a ∷ drop m (take count places)) (getD-take count places i 0 h) (let z : suc i ≡ i + 1 = omega arith in z) in
+      record {
+        filled = filled-more (limits .heldKeys) blankKey keys i (b .filled) r k;
+        are = written-more (limits .heldKeys) blankKey keys i (b .filled) r k (map K (drop (i + 1) (take count places)))
+            ∙ ap (λ (a : HeldKey). take i keys ++ (a ∷ map K (drop (i + 1) (take count places)))) e
+            ∙ ap (λ (m : List ℕ). take i keys ++ map K m) (sym d) ∙ b .are;
+      }
+
+  pub keep-end : (keys : List HeldKey) (i : ℕ) → i ≡ count → count ≤ length places → count ≤ limits .heldKeys → Held-so-far keys i →
+      record { keys = keys; count = count } ≡ heldOf limits (map K (take count places))
+  unfolding heldOf
+  keep-end keys i e p q b =
+      let z = length-take-le count places p in
+      let y : length (take count places) ≤ i = omega arith in
+      let none : drop i (take count places) ≡ [] = drop-of-length-le (take count places) y in
+      let all : take i keys ++ [] ≡ map K (take count places) = ap (λ (m : List ℕ). take i keys ++ map K m) (sym none) ∙ b .are in
+      let w : i ≤ limits .heldKeys = omega arith in
+      let a = filled-all (limits .heldKeys) blankKey keys (map K (take count places)) i (b .filled) w all in
+      let c = filled-count (limits .heldKeys) blankKey keys (map K (take count places)) i (b .filled) w all in
+      λ t. record { keys = a t; count = (sym e ∙ c) t }
+
+-- ---- its keys
+module _ (frame : List ℕ) (entries : List Entry) (n : ℕ) (cells : List Cell) (roots : List Root) (l : List WrapKey) (size : ℕ)
+    (lists : Lists frame entries n l) (s : Searched roots l size cells) (none : EntriesConflict roots l size → ⊥) where
+  abbrev rootAt : ℕ → Root
+  rootAt i = record { id = keyAt l i .keyId; value = valueOf (cellAt cells i .key) }
+
+  -- what holds of the entry at a place of the path
+  record At (i : ℕ) : Type 0 where
+    inside : i < length l
+    done : cellAt cells i .status ≡ Done
+
+  reached-at : (i : ℕ) → At i → Reached roots l size (keyAt l i .keyId) (valueOf (cellAt cells i .key))
+  reached-at i a =
+      let g = s .gives i (a .inside) (a .done) in record { last = keyAt l i; before = g .passed; chain = g .chain }
+
+  keys-at : (p : List ℕ) → ((i : ℕ) → List·Memᴰ i p → At i) → Keys roots l size (keyIds (entriesAt l p)) (map rootAt p)
+  keys-at [] f = no-key
+  keys-at (i ∷ p) f =
+      let r = reached-at i (f i (List·Memᴰ·head refl)) in
+      one-more
+      (record {
+        reached = r;
+        every = λ y q. one-value roots l size none (keyAt l i .keyId) y (valueOf (cellAt cells i .key)) q r;
+      })
+      (keys-at p (λ j m. f j (List·Memᴰ·tail m)))
+
+  held-at : (i : ℕ) → At i → heldAt entries cells i ≡ heldFrom (rootAt i)
+  held-at i a =
+      let h : i < n = omega (arith, lists .count, a .inside) in
+      let e = lists .at i h .id in
+      let k = s .gives i (a .inside) (a .done) .is in
+      λ t. record { id = e t; key = k t }
+
+  all-held : (p : List ℕ) → ((i : ℕ) → List·Memᴰ i p → At i) → map (heldAt entries cells) p ≡ map heldFrom (map rootAt p)
+  all-held [] f = refl
+  all-held (i ∷ p) f =
+      ap₂ (λ (a : HeldKey) (m : List HeldKey). a ∷ m) (held-at i (f i (List·Memᴰ·head refl)))
+      (all-held p (λ j m. f j (List·Memᴰ·tail m)))
+
+  pub holds-path : (copies : List SaKey) (p : List ℕ) (h : Held) → h ≡ heldOf limits (map (heldAt entries cells) p) →
+      LeadsTo roots l size cells copies p → HoldsPath roots l size copies h
+  holds-path copies p h e t =
+      let f : (i : ℕ) → List·Memᴰ i p → At i = λ i m. record { inside = t .inside i m; done = t .done i m } in
+      record {
+        ids = keyIds (entriesAt l p);
+        path = t .path;
+        keys = map rootAt p;
+        are = keys-at p f;
+        is = e ∙ ap (heldOf limits) (all-held p f);
+      }

@@ -1,0 +1,11 @@
+pub mod Levelling
+pub mod Best
+pub mod Steps
+pub mod Turns
+pub mod Lowering
+pub mod Picking
+pub mod WayBack
+pub mod Chained
+pub mod Linking
+pub mod Tied
+pub mod Keeping

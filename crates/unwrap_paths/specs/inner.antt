@@ -1,0 +1,4 @@
+pub mod Levels
+pub mod Code
+pub mod Links
+pub mod Holding
