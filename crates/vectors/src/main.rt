@@ -1,5 +1,5 @@
-// Prints the published vectors of FIPS 197 and RFC 5649 and further cases of wrapping and opening, one line a case. `vectors random` prints
-// 10,000 keys and blocks by a rule, enciphered and deciphered.
+// Prints the published vectors of FIPS 197 and RFC 5649 and further cases of wrapping and opening, one line a case, and a line for each
+// case of AES-GCM that fails. `vectors random` prints 10,000 keys and blocks by a rule, enciphered and deciphered.
 mod blocks;
 mod counts;
 mod damages;
@@ -7,6 +7,7 @@ mod inputs;
 mod random;
 mod refusals;
 mod rooms;
+mod sealed;
 mod sizes;
 mod text;
 
@@ -22,6 +23,7 @@ fn published() {
     rooms::rooms(32);
     damages::damages();
     sizes::sizes();
+    sealed::sealed();
 }
 
 fn main() {

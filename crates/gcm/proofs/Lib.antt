@@ -1,0 +1,9 @@
+pub mod HalfLaws
+pub mod NibbleLaws
+pub mod DigitLaws
+pub mod MultipleLaws
+pub mod HashLaws
+pub mod JoinLaws
+pub mod StreamLaws
+pub mod TagLaws
+pub mod OpenLaws

@@ -1,0 +1,4 @@
+pub mod Halves
+pub mod Multiples
+pub mod Puts
+pub mod Judged

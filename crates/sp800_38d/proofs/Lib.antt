@@ -1,0 +1,4 @@
+pub mod AllSamples
+pub mod GctrLaws
+pub mod SealLaws
+pub mod DecryptionLaws
