@@ -22,8 +22,7 @@ fn four_less(n: usize) -> usize
     n - PAYLOAD_HEADER
 }
 
-// Collects what the frame `s` says of the member afterwards. `row` is the row of its exchange, and `x` are its facts. Its Message ID stands
-// in the header, at 20.
+// Collects what the frame `s` says of the member afterwards. `row` is the row of its exchange, and `x` are its facts.
 pub fn said(row: Exchange, s: &[u8], x: Facts) -> Said
     requires { ⌜ headerOctets ≤ length (now s) ⌝ }
     ensures { λ r. ⌜ r ≡ saidBy row (be32 (now (s .entry)) messageIdAt) x ⌝ }

@@ -16,6 +16,7 @@ use check_judging::number7::Seven;
 use check_judging::number7::clauses_7;
 use check_judging::number7::number_7;
 use check_pairing::names::any_unpaired;
+use ikev2_numbers::EXCHANGE_AT;
 use state_keys::kinds::WrappingKey;
 use wire_attributes::Layout;
 use wire_frames::exchanges::Exchange;
@@ -75,7 +76,7 @@ fn by_facts(row: Exchange, x: Facts, policies: bool, bags: bool) -> ClauseFound 
 fn of_frame(s: &[u8]) -> ClauseFound
     requires { ⌜ isWhole (frame (now s)) ≡ true ⌝ }
 {
-    let row = exchange_of(octets::wide(s[18]));
+    let row = exchange_of(octets::wide(s[EXCHANGE_AT]));
     let x = facts_of(row.authentication, s);
     let b = x.payloads;
     let g = b.gsa;
