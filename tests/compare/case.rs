@@ -17,6 +17,10 @@ pub struct Case {
     pub keys: Vec<(u32, Vec<u8>)>,
     /// The announced SAs' keys, by protocol and SPI.
     pub sa_keys: Vec<(u8, Vec<u8>, Vec<u8>)>,
+    /// The Key IDs that are held after a registration, in their order, where its maker knows them.
+    pub path: Option<Vec<u32>>,
+    /// The keys that came with the member's registration and are not held.
+    pub off_path: Vec<(u32, Vec<u8>)>,
     pub member: Member,
     pub tick: u32,
 }
@@ -222,6 +226,13 @@ impl Case {
     pub fn sa_bag(&mut self, protocol: u8) -> Option<&mut Part> {
         let spi = self.sa_keys.iter().find(|sa| sa.0 == protocol)?.1.clone();
         self.bags()?.iter_mut().find(|bag| bag.protocol == protocol && bag.spi == spi)
+    }
+
+    /// Leaves the announced Rekey SA one copy of its key, under this key.
+    pub fn only_copy(&mut self, kwk_id: u32, kwk: &[u8]) -> Option<()> {
+        let key = self.sa_key(REKEY)?;
+        self.sa_bag(REKEY)?.attributes = vec![Attribute::key(0, kwk_id, &wrap(kwk, &key))];
+        Some(())
     }
 
     /// The policy of that SA.

@@ -114,7 +114,7 @@ impl Writer<'_> {
             }
             (None, None) if self.tracing => {
                 self.leave();
-                self.taken(Exchange::Registration, shape);
+                self.registers(shape);
             }
             (None, None) => return false,
         }
@@ -143,6 +143,9 @@ impl Writer<'_> {
         own.frame.exchange = GSA_INBAND_REKEY;
         self.claim(&own, 2, MET[1]);
         self.tally.life(MET[1]);
-        self.taken(Exchange::Registration, shape);
+        if self.scene.rng.chance(30) {
+            self.ends_held_list(shape);
+        }
+        self.registers(shape);
     }
 }

@@ -12,6 +12,7 @@ mod damage;
 mod inband;
 mod limits;
 mod lives;
+mod paths;
 mod programs;
 mod runs;
 mod scene;
@@ -175,6 +176,7 @@ fn print_counts(tally: &Tally) {
         ("calls", &tally.calls),
         ("accepted frames that leave or use", &tally.limits),
         ("lifetimes:", &tally.lives),
+        ("paths:", &tally.paths),
     ];
     for (what, counts) in counted {
         if !counts.is_empty() {
@@ -199,7 +201,8 @@ fn verdict(tally: &Tally, kind: Kind, count: u64) -> Result<(), String> {
     let limits = limits::MET.into_iter().filter(|limit| !tally.limits.contains_key(limit));
     let breaks = damage::KINDS.iter().map(|(name, _)| *name).filter(|name| !tally.breaks.contains_key(name));
     let lives = lives::MET.into_iter().filter(|name| !tally.lives.contains_key(name));
-    match (missing.next(), limits.chain(breaks).chain(lives).next()) {
+    let paths = paths::MET.into_iter().filter(|name| !tally.paths.contains_key(name));
+    match (missing.next(), limits.chain(breaks).chain(lives).chain(paths).next()) {
         (Some(name), _) if count >= ENOUGH => Err(format!("never occurred alone: {name}")),
         (_, Some(name)) if count >= ENOUGH => Err(format!("never occurred: {name}")),
         _ => Ok(()),

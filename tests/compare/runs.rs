@@ -24,16 +24,23 @@ impl Writer<'_> {
     pub fn without_rekey_sa(&mut self) {
         self.violations(Exchange::Registration);
         let shape = Shape { rekey: false, esp: 2, ..self.scene.any_shape() };
-        self.taken(Exchange::Registration, shape);
+        let registration = self.taken(Exchange::Registration, shape);
         for exchange in [39, 40, 41] {
             self.scene.move_clock();
             let shape = self.scene.full_shape();
             let mut case = self.scene.registration(shape);
             case.frame.exchange = exchange;
+            // A member that ran out and registered anew may have a Rekey SA of these SPIs.
+            if self.scene.member.live_rekey().is_some_and(|sa| sa.spi == case.frame.spis) {
+                case.frame.spis[0] ^= 1;
+            }
             let ran_out = exchange != 41 && self.scene.member.is_empty(self.scene.tick);
             self.claim(&case, if ran_out { 0 } else { 2 }, "a frame to a member without a Rekey SA");
         }
         self.inband_to_the_first_rekey_sa();
+        if let Some(case) = registration {
+            self.try_keys(&case);
+        }
         self.disturbances(Exchange::Rekey);
     }
 

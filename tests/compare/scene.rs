@@ -16,6 +16,8 @@ pub struct Scene {
     pub member: Member,
     pub tick: u32,
     pub sizes: Sizes,
+    /// The keys that came with the last registration, held or not.
+    pub tree: Vec<(u32, Vec<u8>)>,
     /// How many of 100 policies have a lifetime.
     pub lives: usize,
 }
@@ -41,7 +43,7 @@ impl Scene {
 
     pub fn any_shape(&mut self) -> Shape {
         let keys = self.rng.pick(self.sizes.keys);
-        let further = self.rng.below(self.sizes.entries + 1 - keys);
+        let further = if self.rng.chance(50) { 0 } else { self.rng.below(self.sizes.entries + 1 - keys) };
         let esp = self.rng.pick(self.sizes.esp);
         Shape {
             rekey: self.rng.chance(40) || esp == 0,
@@ -63,6 +65,11 @@ impl Scene {
             case.bags().expect("KD").push(Part::unnamed(entries));
         }
         self.announce(&mut case, shape);
+        if !shape.rekey {
+            case.path = Some(Vec::new());
+        } else if let Some((id, value)) = case.keys.last().cloned().filter(|_| self.rng.chance(50)) {
+            case.only_copy(id, &value).expect("a Rekey SA");
+        }
         case
     }
 
@@ -109,7 +116,8 @@ impl Scene {
         let rng = Rng::new(self.rng.number());
         let frame = frame(exchange, spis, message_id, vec![gsa(vec![]), kd(vec![])]);
         let (member, tick) = (self.member.clone(), self.tick);
-        Case { rng, frame, key0, keys, sa_keys: Vec::new(), member, tick }
+        let off_path = self.tree.iter().filter(|key| !member.held.contains(key)).cloned().collect();
+        Case { rng, frame, key0, keys, sa_keys: Vec::new(), path: None, off_path, member, tick }
     }
 
     fn announce(&mut self, case: &mut Case, shape: Shape) {
@@ -163,16 +171,18 @@ impl Scene {
     }
 }
 
-/// WRAP_KEYs in any order: each key under the default key or one before it, and further entries that change nothing.
+/// WRAP_KEYs in any order: each key under the default key or one before it, and further entries that give no key another value. Some trees
+/// are one chain.
 fn tree(case: &mut Case, shape: Shape) -> Vec<Attribute> {
     let mut entries = Vec::new();
     let size = case.key0.len();
+    let deep = case.rng.pick(&[50, 100]);
     for _ in 0..shape.keys {
         let mut id = case.rng.pick(&[1, 2, 3, 5, 9, 255, 256, u32::MAX, 0x0100_0000]);
         while case.keys.iter().any(|key| key.0 == id) || id == 0 {
             id = case.rng.number() as u32 >> case.rng.below(32);
         }
-        let deepest = case.keys.last().cloned().filter(|_| case.rng.chance(50));
+        let deepest = case.keys.last().cloned().filter(|_| case.rng.chance(deep));
         let (kwk_id, kwk) = deepest.unwrap_or_else(|| case.some_key());
         let value = case.rng.octets(size);
         entries.push(Attribute::key(id, kwk_id, &wrap(&kwk, &value)));

@@ -8,10 +8,11 @@ use crate::lives::share;
 use crate::programs::Kind;
 use crate::scene::{Scene, Shape};
 use crate::tally::Tally;
-use crate::violations::{allowed, of_exchange, Exchange, Violation};
+use crate::violations::{allowed, of_exchange, one_chain, Exchange, Violation};
 use crate::{limits, lives};
 use builder::line::{hex, line};
 use builder::rng::Rng;
+use builder::typical::{GSA_AUTH, GSA_REGISTRATION};
 use reference::layout::MOST_FRAME;
 use reference::member::Member;
 use reference::{layout, text};
@@ -29,6 +30,9 @@ const PAIRS: usize = 24;
 const LAYOUT_PAIRS: usize = 12;
 const REKEYS: usize = 14;
 const INBAND_PERCENT: usize = 30;
+
+/// The keys that the member of a typical run holds.
+const TYPICAL_KEYS: u32 = 12;
 
 pub struct Writer<'t> {
     pub scene: Scene,
@@ -55,8 +59,9 @@ pub fn script(seed: u64, kind: Kind, tally: &mut Tally) -> Script {
 /// A registration and so many rekeys of all shapes, none refused.
 pub fn typical_run(seed: u64, rekeys: usize, tally: &mut Tally) -> Script {
     let mut writer = Writer::new(seed, Kind::Member, tally);
-    let first = Shape { rekey: true, keys: 12, further: 4, ..writer.scene.any_shape() };
-    let registration = writer.scene.registration(first);
+    let first = Shape { rekey: true, keys: 1, further: 0, ..writer.scene.any_shape() };
+    let mut registration = writer.scene.registration(first);
+    one_chain(&mut registration, TYPICAL_KEYS).expect("a Member bag");
     writer.claim(&registration, 0, "plain registration");
     for _ in 0..rekeys {
         writer.scene.move_clock();
@@ -74,7 +79,7 @@ impl<'t> Writer<'t> {
         let lent = rng.octets(size);
         let tick = rng.pick(&[0, 1000, 0x7fff_ff00, u32::MAX - 500]);
         let lines = vec![hex(&lent)];
-        let scene = Scene { rng, lent, member: Member::new(), tick, sizes: Sizes::SMALL, lives: 0 };
+        let scene = Scene { rng, lent, member: Member::new(), tick, sizes: Sizes::SMALL, tree: Vec::new(), lives: 0 };
         Writer { scene, tracing: kind == Kind::Trace, lines, labels: Vec::new(), tally, seed }
     }
 
@@ -83,7 +88,7 @@ impl<'t> Writer<'t> {
         self.scene.sizes = sizes;
         self.violations(Exchange::Registration);
         let shape = Shape { rekey: true, ..self.scene.any_shape() };
-        self.taken(Exchange::Registration, shape);
+        self.registers(shape);
         let mut singles = [Exchange::Rekey, Exchange::Inband].map(|exchange| (exchange, self.walk(exchange)));
         singles[0].1.extend(sizes.refused_for_room());
         let leaves_at = self.tracing.then(|| self.scene.rng.below(2 * REKEYS));
@@ -91,7 +96,7 @@ impl<'t> Writer<'t> {
             self.scene.move_clock();
             if leaves_at == Some(turn) {
                 self.leave();
-                self.taken(Exchange::Registration, shape);
+                self.registers(shape);
             }
             if !self.go_on(shape) {
                 return;
@@ -187,9 +192,9 @@ impl<'t> Writer<'t> {
         }
     }
 
-    /// A frame that must be accepted, with up to three oddities.
-    pub fn taken(&mut self, exchange: Exchange, shape: Shape) {
-        let Some(mut case) = self.fit_frame(exchange, shape) else { return };
+    /// A frame that must be accepted, with up to three oddities; None if the member accepts none any more.
+    pub fn taken(&mut self, exchange: Exchange, shape: Shape) -> Option<Case> {
+        let mut case = self.fit_frame(exchange, shape)?;
         let table = allowed::of_exchange(exchange);
         let mut chosen: Vec<usize> = (0..self.scene.rng.below(4)).map(|_| self.scene.rng.below(table.len())).collect();
         chosen.sort();
@@ -204,6 +209,7 @@ impl<'t> Writer<'t> {
             }
         }
         self.claim(&case, 0, &label);
+        Some(case)
     }
 
     /// Damaged frames, frames that came before, hostile lines.
@@ -241,6 +247,10 @@ impl<'t> Writer<'t> {
         if answer == 0 {
             limits::met(case, &self.scene.member).for_each(|limit| self.tally.limit(limit));
             lives::met(case, &self.scene.member).for_each(|name| self.tally.life(name));
+            if matches!(case.frame.exchange, GSA_AUTH | GSA_REGISTRATION) {
+                self.holds_path(case);
+                self.scene.tree = case.keys.clone();
+            }
         }
         if answer != 0 && before != self.scene.member {
             self.tally.complain(format!("seed {}, line {}: a refusal changed the member", self.seed, self.lines.len()));

@@ -17,6 +17,8 @@ pub struct Tally {
     pub limits: BTreeMap<&'static str, usize>,
     /// How often lifetimes mattered (`lives::MET`).
     pub lives: BTreeMap<&'static str, usize>,
+    /// How often the path mattered (`paths::MET`).
+    pub paths: BTreeMap<&'static str, usize>,
     pub alone: BTreeMap<&'static str, usize>,
     pub paired: BTreeMap<&'static str, usize>,
     pub pairs: BTreeSet<(&'static str, &'static str)>,
@@ -47,6 +49,10 @@ impl Tally {
 
     pub fn life(&mut self, name: &'static str) {
         *self.lives.entry(name).or_default() += 1;
+    }
+
+    pub fn path(&mut self, name: &'static str) {
+        *self.paths.entry(name).or_default() += 1;
     }
 
     pub fn alone(&mut self, name: &'static str) {

@@ -12,7 +12,7 @@ pub const MOST_HELD: usize = 128;
 pub struct Member {
     /// Rising by protocol, then SPI.
     pub table: Vec<Sa>,
-    /// Wrapping keys by rising Key ID.
+    /// Wrapping keys, each Key ID once (document 02, T-04).
     pub held: Vec<(u32, Vec<u8>)>,
     /// The least acceptable Message ID, or none any more.
     pub least_id: Option<u32>,
@@ -118,7 +118,7 @@ impl Member {
             && self.table.iter().filter(|sa| sa.protocol == REKEY && sa.is_live()).count() <= 1
             && self.held.len() <= MOST_HELD
             && self.held.iter().all(|(id, value)| *id != 0 && is_wrap_key_size(value.len()))
-            && self.held.windows(2).all(|two| two[0].0 < two[1].0)
+            && self.held.iter().enumerate().all(|(i, (id, _))| self.held[..i].iter().all(|(other, _)| other != id))
     }
 
     pub fn is_empty(&self, tick: u32) -> bool {
@@ -148,7 +148,8 @@ impl Member {
         let sa_keys = keys.sa_keys(&request.announced)?;
         self.enter(&request, tick, sa_keys);
         if request.exchange == Exchange::Registration {
-            self.held = keys.held();
+            let copy = request.announced.iter().find(|sa| sa.protocol == REKEY).and_then(|sa| sa.copies.first());
+            self.held = copy.map_or(Vec::new(), |copy| keys.path(copy.kwk_id));
         }
         Ok(())
     }

@@ -26,9 +26,13 @@ fn output(input: &[u8]) -> String {
 
 /// A registration of one Rekey SA (AES-GCM-16 with 128 bits, KW_5649_128) whose key is wrapped under the lent one.
 fn registration(entries: Vec<Attribute>, policy_attributes: Vec<Attribute>) -> Frame {
-    let keying = keying(36);
+    registration_under(0, &LENT, entries, policy_attributes)
+}
+
+/// The same, with the Rekey SA's key under another key.
+fn registration_under(kwk_id: u32, kwk: &[u8], entries: Vec<Attribute>, policy_attributes: Vec<Attribute>) -> Frame {
     let policy = Part { attributes: policy_attributes, ..rekey_policy(&REKEY_SPI, 128, 1) };
-    let copy = Attribute::key(0, 0, &wrap(&LENT, &keying));
+    let copy = Attribute::key(0, kwk_id, &wrap(kwk, &keying(36)));
     let bags = vec![bag(REKEY, &REKEY_SPI, vec![copy]), Part::unnamed(entries)];
     frame(GSA_AUTH, &[0; 16], 0, vec![gsa(vec![policy]), kd(bags)])
 }
@@ -103,18 +107,18 @@ fn sample_last_id() {
     }
 }
 
-/// P: (5 under 9), (9 under 0): held 5, 9. (5 under 9), (9 under 5): held list empty. Two values for 5: 8.
+/// P, with the Rekey SA's key under 5 (T-04): (5 under 9), (9 under 0): held 5, 9. (5 under 9), (9 under 5): 9. Two values for 5: 8.
 #[test]
 fn sample_chains() {
     let (five, nine, other) = ([5; 16], [9; 16], [6; 16]);
     let cases = [
         (vec![entry(5, &five, 9, &nine), entry(9, &nine, 0, &LENT)], 0, vec![5, 9]),
-        (vec![entry(5, &five, 9, &nine), entry(9, &nine, 5, &five)], 0, vec![]),
+        (vec![entry(5, &five, 9, &nine), entry(9, &nine, 5, &five)], 9, vec![]),
         (vec![entry(5, &five, 0, &LENT), entry(5, &other, 9, &nine), entry(9, &nine, 0, &LENT)], 8, vec![]),
     ];
     for (entries, answer, held) in cases {
         let mut member = Member::new();
-        assert_eq!(take(&mut member, &LENT, 0, &registration(entries, vec![]).octets()), answer);
+        assert_eq!(take(&mut member, &LENT, 0, &registration_under(5, &five, entries, vec![]).octets()), answer);
         assert_eq!(held_ids(&member), held);
     }
 }
@@ -139,14 +143,15 @@ fn sample_key_length() {
     assert_eq!(judging::encryption_octets(&policy.transforms[0]), Some(20));
 }
 
-/// 128 WRAP_KEY taken, 129 gives 7 (T-01).
+/// 128 WRAP_KEY taken, 129 gives 7 (T-01). All are held where they are one chain (T-04).
 #[test]
 fn sample_wrap_keys() {
+    let key = |id: u32| if id == 0 { LENT } else { [id as u8; 16] };
     for (count, answer, held) in [(32, 0, 32), (33, 0, 33), (128, 0, 128), (129, 7, 0)] {
-        let entries = (1..=count).map(|id| entry(id, &[id as u8; 16], 0, &LENT)).collect();
+        let entries = (1..=count).map(|id| entry(id, &key(id), id - 1, &key(id - 1))).collect();
         let mut member = Member::new();
-        assert_eq!(take(&mut member, &LENT, 0, &registration(entries, vec![]).octets()), answer);
-        assert_eq!(member.held.len(), held);
+        assert_eq!(take(&mut member, &LENT, 0, &registration_under(count, &key(count), entries, vec![]).octets()), answer);
+        assert_eq!(held_ids(&member), (1..=held).rev().collect::<Vec<u32>>());
     }
 }
 
@@ -233,7 +238,10 @@ fn values_that_are_no_members() {
         assert!(!Member { table, ..Member::new() }.is_whole(), "table {i}");
     }
     let value = vec![0; 16];
-    let lists = [vec![(0, value.clone())], vec![(2, value.clone()), (1, value.clone())], vec![(1, vec![0; 20])], keys(129)];
+    let falling = vec![(2, value.clone()), (1, value.clone())];
+    assert!(Member { held: falling.clone(), ..Member::new() }.is_whole());
+    let twice = [falling, vec![(2, value.clone())]].concat();
+    let lists = [vec![(0, value.clone())], twice, vec![(1, vec![0; 20])], keys(129)];
     for (i, held) in lists.into_iter().enumerate() {
         assert!(!Member { held, ..Member::new() }.is_whole(), "held list {i}");
     }

@@ -29,15 +29,17 @@ fn large() -> Vec<u8> {
     rekey_keying(0xa0, 68)
 }
 
-fn large_sa(key0: &[u8]) -> Sa {
-    let copy = Attribute::key(0, 0, &wrap(key0, &large()));
+/// The same, its key under key 9.
+fn large_sa(nine: &[u8]) -> Sa {
+    let copy = Attribute::key(0, 9, &wrap(nine, &large()));
     Sa { policy: rekey_policy(&rekey_spi(0xa0), 256, 3), bag: bag(REKEY, &rekey_spi(0xa0), vec![copy]) }
 }
 
-/// Rekey SA a0, ESP SAs 1 to 3, held key 9, under a default key.
+/// Rekey SA a0 under key 9, which is then held, ESP SAs 1 to 3 and key 9 under a default key.
 fn full_registration(key0: &[u8]) -> Frame {
-    let sas = [large_sa(key0), esp_sa(3, key0), esp_sa(1, key0), esp_sa(2, key0)];
-    registration(&sas, &[Attribute::key(9, 0, &wrap(key0, &vec![9; key0.len()]))])
+    let nine = vec![9; key0.len()];
+    let sas = [large_sa(&nine), esp_sa(3, key0), esp_sa(1, key0), esp_sa(2, key0)];
+    registration(&sas, &[Attribute::key(9, 0, &wrap(key0, &nine))])
 }
 
 /// The member with these lines for its ESP SAs, Rekey SA a0 live, and a held key of so many octets.
@@ -56,7 +58,7 @@ fn sweep(t: &mut Transcript, about: &str, tick: u32) {
 fn sweeps() -> Transcript {
     let mut t = Transcript::of_calls("sweeps", LENT);
     sweep(&mut t, "a new member", 5);
-    t.frame("Rekey SA a0, ESP SAs 1 to 3, key 9", 0, &full_registration(&lent()), "answer 0");
+    t.frame("Rekey SA a0 under key 9, ESP SAs 1 to 3", 0, &full_registration(&lent()), "answer 0");
     t.then(&member(&live(), 16, 0));
     sweep(&mut t, "no SA retires", u32::MAX);
     let a0 = large()[36..].to_vec();
@@ -87,7 +89,7 @@ fn leaving() -> Transcript {
     let mut t = Transcript::of_calls("leaving", LENT);
     t.line("a new member stays one", b"l", "done");
     let first = full_registration(&lent());
-    t.frame("Rekey SA a0, ESP SAs 1 to 3, key 9", 0, &first, "answer 0");
+    t.frame("Rekey SA a0 under key 9, ESP SAs 1 to 3", 0, &first, "answer 0");
     t.then(&member(&live(), 16, 0));
     t.line("nothing is left", b"l", "done");
     t.then(&[least(0)]);
@@ -112,7 +114,7 @@ fn questions() -> Transcript {
         t.line(about, format!("q{protocol:02x}{}", text(spi)).as_bytes(), answer);
     };
     ask(&mut t, "a new member", ESP, &spi(1), "none");
-    t.frame("Rekey SA a0, ESP SAs 1 to 3, key 9", 0, &full_registration(&lent()), "answer 0");
+    t.frame("Rekey SA a0 under key 9, ESP SAs 1 to 3", 0, &full_registration(&lent()), "answer 0");
     t.then(&member(&live(), 16, 0));
     let found = |octets: &[u8], condition: &str| format!("found {} {condition} life none", text(octets));
     for number in 1..=3 {

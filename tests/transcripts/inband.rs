@@ -14,9 +14,9 @@ pub fn inband(payloads: Vec<Payload>) -> Frame {
     frame(GSA_INBAND_REKEY, &[0; 16], 0, payloads)
 }
 
-/// Rekey SA a0 under the lent key, and key 9.
+/// Rekey SA a0 under key 9, which is then held.
 fn first() -> Frame {
-    registration(&[rekey_sa(0xa0, &[(0, lent())])], &[entry(9, 9, 0, &lent())])
+    registration(&[rekey_sa(0xa0, &[(9, key(9))])], &[entry(9, 9, 0, &lent())])
 }
 
 /// The member with ESP SAs 1 to `esps`, these lines for its Rekey SAs, key 9, and that least Message ID.
@@ -34,7 +34,7 @@ fn accepted() -> Transcript {
     let mut t = Transcript::new("inband", LENT);
     let esp = |number| announce(&[esp(number, &lent())]);
     let live = |fill| rekey_text(fill, "live");
-    t.frame("Rekey SA a0, key 9", 0, &first(), "0 1 1");
+    t.frame("Rekey SA a0 under key 9", 0, &first(), "0 1 1");
     t.then(&member(0, &[live(0xa0)], "0"));
     t.frame("an ESP SA under the lent key", 0, &inband(esp(1)), "0 2 1");
     t.then(&member(1, &[live(0xa0)], "0"));
@@ -82,7 +82,7 @@ fn refused() -> Transcript {
     };
     t.frame("of a new member", 0, &inband(fit()), "2 0 0");
     t.frame("of a new member, with nothing in it", 0, &inband(vec![]), "2 0 0");
-    t.frame("Rekey SA a0, key 9", 0, &first(), "0 1 1");
+    t.frame("Rekey SA a0 under key 9", 0, &first(), "0 1 1");
     t.then(&member(0, &[rekey_text(0xa0, "live")], "0"));
     t.frame("a Member bag", 0, &with_bag(vec![entry(5, 5, 0, &lent())]), "4 1 1");
     t.frame("an empty Member bag", 0, &with_bag(vec![]), "4 1 1");
@@ -126,7 +126,7 @@ fn lent_keys() -> Transcript {
     let mut t = Transcript::of_calls("inband-lent-keys", LENT);
     let lend = |t: &mut Transcript, about: &str, octets: &[u8]| t.line(about, format!("k{}", text(octets)).as_bytes(), "done");
     let under = |number: u32, key0: &[u8]| inband(announce(&[esp(number, key0)]));
-    t.frame("Rekey SA a0, key 9", 0, &first(), "answer 0");
+    t.frame("Rekey SA a0 under key 9", 0, &first(), "answer 0");
     t.then(&member(0, &[rekey_text(0xa0, "live")], "0"));
     for (number, size) in [(1, 24), (2, 32), (3, 16)] {
         let other = vec![0x50 + size as u8; size];

@@ -11,13 +11,13 @@ pub fn all() -> Vec<Transcript> {
 }
 
 /// The SA with a lifetime of so many seconds.
-fn for_seconds(mut sa: Sa, seconds: u32) -> Sa {
+pub fn for_seconds(mut sa: Sa, seconds: u32) -> Sa {
     sa.policy.attributes.push(lifetime(seconds));
     sa
 }
 
 /// The line of `trace` for an SA with a lifetime.
-fn lived(text: String, start: u32, seconds: u32) -> String {
+pub fn lived(text: String, start: u32, seconds: u32) -> String {
     text.replace("life none", &format!("life {start} {seconds}"))
 }
 

@@ -8,6 +8,7 @@ mod inband;
 mod lifetimes;
 mod meanings;
 mod parts;
+mod paths;
 mod places;
 mod refusals;
 mod runs;
@@ -99,6 +100,7 @@ fn main() -> ExitCode {
         inband::all(),
         lifetimes::all(),
         meanings::all(),
+        paths::all(),
         refusals::all(),
         places::all(),
         calls::all(),

@@ -17,7 +17,7 @@ fn attribute_1() -> Transcript {
     let (esp_key, tree_key) = (wrap(&lent, &esp_keying()), wrap(&lent, &[5; 24]));
     let with = |sa_keys: &[(u32, &[u8])], wrap_keys: &[(u32, &[u8])]| {
         let keys = |keys: &[(u32, &[u8])]| keys.iter().map(|(id, wrapped)| Attribute::key(*id, 0, wrapped)).collect();
-        let mut sas = [rekey_sa(0xa0, &[(0, lent.clone())]), esp(1, &lent)];
+        let mut sas = [rekey_sa(0xa0, &[(5, vec![5; 24])]), esp(1, &lent)];
         sas[1].bag.attributes = keys(sa_keys);
         registration(&sas, &keys(wrap_keys))
     };
@@ -27,7 +27,7 @@ fn attribute_1() -> Transcript {
     t.frame("a WRAP_KEY in the ESP bag alone", 0, &with(&[(5, &tree_key)], &[]), "6 0 0");
     t.frame("the ESP key as WRAP_KEY", 0, &with(&[(0, &esp_key)], &[(5, &esp_key)]), "8 0 0");
     t.frame("the tree key as SA_KEY", 0, &with(&[(0, &tree_key)], &[(5, &tree_key)]), "8 0 0");
-    t.frame("each in its bag", 0, &with(&[(0, &esp_key)], &[(5, &tree_key)]), "0 2 1");
+    t.frame("each in its bag; Rekey SA a0 under the tree key", 0, &with(&[(0, &esp_key)], &[(5, &tree_key)]), "0 2 1");
     t.then(&[esp_text(1, "live"), rekey_text(0xa0, "live"), held_text(5, &[5; 24]), least(0)]);
     t
 }
@@ -42,7 +42,7 @@ fn chain_128() -> Transcript {
     let sas = [rekey_sa(0xa0, &[(128, key(128))])];
     t.frame("129 keys", 0, &registration(&sas, &chain(1..=129)), "7 0 0");
     t.frame("the chain does not start at the default key", 0, &registration(&sas, &chain(2..=128)), "9 0 0");
-    t.frame("128 keys, the Rekey SA's key under the last", 0, &registration(&sas, &chain(1..=128)), "0 1 128");
+    t.frame("128 keys, the Rekey SA's key under the last: all are held", 0, &registration(&sas, &chain(1..=128)), "0 1 128");
     let under = |ids: std::ops::RangeInclusive<u32>| -> Vec<(u32, Vec<u8>)> { ids.map(|id| (id, key(id as u8))).collect() };
     let mut next = |about: &str, over: u8, fill: u8, ids: std::ops::RangeInclusive<u32>, answer: &str| {
         t.frame(about, 0, &rekey(over, 0, announce(&[rekey_sa(fill, &under(ids))])), answer);
@@ -59,9 +59,9 @@ fn chain_128() -> Transcript {
 /// One rekey with a fault for every number; they are mended one after the other, the lowest first.
 fn lowest_number() -> Transcript {
     let mut t = Transcript::new("lowest-number", LENT);
-    let mut first = rekey_sa(0xa0, &[(0, lent())]);
+    let mut first = rekey_sa(0xa0, &[(5, key(5))]);
     first.policy.attributes = vec![initial_message_id(7)];
-    t.frame("Rekey SA a0, initial Message ID 7, key 5", 0, &registration(&[first], &[entry(5, 5, 0, &lent())]), "0 1 1");
+    t.frame("Rekey SA a0 under key 5, initial Message ID 7", 0, &registration(&[first], &[entry(5, 5, 0, &lent())]), "0 1 1");
     let (fit, mut frame) = (fit_rekey(), faulty_rekey());
     let mut mended = |about: &str, mend: &dyn Fn(&mut Frame), answer: &str| {
         mend(&mut frame);

@@ -10,9 +10,9 @@ pub fn all() -> Vec<Transcript> {
     vec![one(), two(), three(), four(), five(), six(), seven(), eight(), nine()]
 }
 
-/// Rekey SA a0 and ESP SA 1 under the default key, and key 5.
+/// Rekey SA a0 under key 5, which is then held; ESP SA 1 and key 5 under the default key.
 fn whole() -> Frame {
-    registration(&[rekey_sa(0xa0, &[(0, lent())]), esp(1, &lent())], &[entry(5, 5, 0, &lent())])
+    registration(&[rekey_sa(0xa0, &[(5, key(5))]), esp(1, &lent())], &[entry(5, 5, 0, &lent())])
 }
 
 /// A rekey over a0 with the new Rekey SA b0 and ESP SA 2.
@@ -243,14 +243,14 @@ fn six() -> Transcript {
 
 fn seven() -> Transcript {
     let mut t = Transcript::new("refusal-7", LENT);
-    let rekey_policy = rekey_sa(0xa0, &[(0, lent())]);
+    let rekey_policy = rekey_sa(0xa0, &[(5, key(5))]);
     let all: Vec<Sa> = [rekey_policy.clone()].into_iter().chain((1..=25).map(|number| esp(number, &lent()))).collect();
     let same = |count: usize| vec![entry(5, 5, 0, &lent()); count];
     t.frame("25 ESP policies", 0, &registration(&all, &[]), "7 0 0");
     t.frame("129 WRAP_KEY, all the same", 0, &registration(&[rekey_policy.clone()], &same(129)), "7 0 0");
     let with_itself = [same(128), vec![itself()]].concat();
     t.frame("129 WRAP_KEY, the last under itself: the lower number", 0, &registration(&[rekey_policy], &with_itself), "6 0 0");
-    t.frame("24 ESP policies, 128 WRAP_KEY, all the same", 0, &registration(&all[..25], &same(128)), "0 25 1");
+    t.frame("24 ESP policies, 128 WRAP_KEY, all the same: one key is held", 0, &registration(&all[..25], &same(128)), "0 25 1");
     let a0 = default_key(0xa0);
     let more = |numbers: std::ops::Range<u32>| announce(&numbers.map(|number| esp(number, &a0)).collect::<Vec<_>>());
     t.frame("49 SAs", 0, &rekey(0xa0, 0, more(31..55)), "0 49 1");

@@ -69,9 +69,9 @@ fn header() -> Transcript {
 
 fn registration_run() -> Transcript {
     let mut t = Transcript::new("registration", LENT);
-    let sas = [rekey_sa(0xa0, &[(0, lent())]), esp(1, &lent()), esp(2, &lent())];
+    let sas = [rekey_sa(0xa0, &[(5, key(5))]), esp(1, &lent()), esp(2, &lent())];
     let frame = registration(&sas, &[entry(9, 9, 0, &lent()), entry(5, 5, 9, &key(9))]);
-    t.frame("Rekey SA, two ESP SAs, keys 9 and 5", 0, &frame, "0 3 2");
+    t.frame("Rekey SA under key 5, two ESP SAs, keys 9 and 5: the path is 5, 9", 0, &frame, "0 3 2");
     let (one, two, a0) = (esp_text(1, "live"), esp_text(2, "live"), rekey_text(0xa0, "live"));
     let held = [held_text(5, &key(5)), held_text(9, &key(9))];
     t.then(&[[one.clone(), two.clone(), a0.clone()].as_slice(), &held, &[least(0)]].concat());
@@ -86,10 +86,11 @@ fn without_rekey_sa() -> Transcript {
     let mut t = Transcript::new("registration-without-rekey-sa", LENT);
     let mut frame = registration(&[esp(1, &lent())], &[entry(9, 9, 0, &lent())]);
     frame.exchange = GSA_REGISTRATION;
-    t.frame("one ESP SA, one key, no Rekey SA", 0, &frame, "0 1 1");
-    t.frame("a rekey, over no Rekey SA", 0, &rekey(0xa0, 0, announce(&[esp(2, &lent())])), "2 1 1");
-    t.frame("a rekey over SPIs of zero", 0, &rekey(0, 0, announce(&[esp(2, &lent())])), "2 1 1");
-    t.frame("a second registration", 0, &frame, "2 1 1");
+    t.frame("one ESP SA, one key, no Rekey SA: the key is reached and not held", 0, &frame, "0 1 0");
+    t.then(&[esp_text(1, "live"), least(0)]);
+    t.frame("a rekey, over no Rekey SA", 0, &rekey(0xa0, 0, announce(&[esp(2, &lent())])), "2 1 0");
+    t.frame("a rekey over SPIs of zero", 0, &rekey(0, 0, announce(&[esp(2, &lent())])), "2 1 0");
+    t.frame("a second registration", 0, &frame, "2 1 0");
     t
 }
 
@@ -99,9 +100,9 @@ fn chains_in_any_order() -> Transcript {
     let two_values = [entry(5, 5, 0, &lent()), entry(5, 6, 9, &key(9)), entry(9, 9, 0, &lent())];
     t.frame("two values for 5 from two chains", 0, &registration(&sas, &two_values), "8 0 0");
     let cycle = [entry(5, 5, 9, &key(9)), entry(9, 9, 5, &key(5))];
-    t.frame("the Rekey SA's key under a key of a cycle", 0, &registration(&sas, &cycle), "9 0 0");
+    t.frame("5 under 9, 9 under 5, the Rekey SA's key under 5: document 02's sample", 0, &registration(&sas, &cycle), "9 0 0");
     let backwards = [entry(5, 5, 9, &key(9)), entry(9, 9, 0, &lent())];
-    t.frame("5 under 9, then 9 under the default key", 0, &registration(&sas, &backwards), "0 1 2");
+    t.frame("5 under 9, 9 under the default key: document 02's sample, held 5, 9", 0, &registration(&sas, &backwards), "0 1 2");
     t.then(&[rekey_text(0xa0, "live"), held_text(5, &key(5)), held_text(9, &key(9)), least(0)]);
     t
 }
@@ -194,7 +195,8 @@ fn clock() -> Transcript {
 fn held_keys() -> Transcript {
     let mut t = Transcript::new("held-keys", LENT);
     let entries = [entry(7, 7, 5, &key(5)), entry(5, 5, 9, &key(9)), entry(9, 9, 0, &lent())];
-    t.frame("keys 9, 5 and 7 in a chain", 0, &registration(&[rekey_sa(0xa0, &[(0, lent())])], &entries), "0 1 3");
+    let first = registration(&[rekey_sa(0xa0, &[(7, key(7))])], &entries);
+    t.frame("keys 9, 5 and 7 in a chain, Rekey SA a0 under the last: all are held", 0, &first, "0 1 3");
     let new = |fill: u8, under: &[(u32, u8)]| {
         let under: Vec<_> = under.iter().map(|(id, fill)| (*id, key(*fill))).collect();
         announce(&[rekey_sa(fill, &under)])
@@ -235,10 +237,11 @@ fn cut(name: &'static str, bits: u16, wrap_id: u16, first: usize) -> Transcript 
 /// Number 7 from both sides: document 02's figures (T-01), and document 01's for deleted SPIs and SA_KEY.
 fn limits() -> Transcript {
     let mut t = Transcript::new("limits", LENT);
-    let sas = [rekey_sa(0xa0, &[(0, lent())])];
-    let entries: Vec<Attribute> = (1..=129).map(|id| entry(id, id as u8, 0, &lent())).collect();
+    let sas = [rekey_sa(0xa0, &[(128, key(128))])];
+    let kwk = |id: u32| if id == 0 { lent() } else { key(id as u8) };
+    let entries: Vec<Attribute> = (1..=129).map(|id| entry(id, id as u8, id - 1, &kwk(id - 1))).collect();
     t.frame("129 WRAP_KEY", 0, &registration(&sas, &entries), "7 0 0");
-    t.frame("128 WRAP_KEY", 0, &registration(&sas, &entries[..128]), "0 1 128");
+    t.frame("128 WRAP_KEY, each under the one before: all are held", 0, &registration(&sas, &entries[..128]), "0 1 128");
     let a0 = default_key(0xa0);
     let esps = |numbers: std::ops::Range<u32>| announce(&numbers.map(|number| esp(number, &a0)).collect::<Vec<_>>());
     t.frame("25 ESP policies", 0, &rekey(0xa0, 0, esps(1..26)), "7 1 128");

@@ -4,7 +4,6 @@ use mathlib.Core.Bool.{true, false}
 use mathlib.Core.List.{List}
 use mathlib.Core.Logic.{_↔_, _⊎_}
 use mathlib.Core.Path.{_≡_}
-use lib.ListN.{length}
 use Rattle.wire_attributes.specs.Tree.{WrapKey}
 use Rattle.wire_policies.specs.Policy.{GroupSaPolicy}
 use Rattle.wire_frames.specs.Frame.{Frame}
@@ -21,9 +20,9 @@ use Rattle.rules_refusals.specs.Fitness.{isEsp, encryptionOctets, keyWrapOctets
 use Rattle.rules_chains.specs.Chain.{In}
 use Rattle.rules_outcome.specs.After.{leastAfterwards, delayOf}
 use Rattle.rules_outcome.specs.AskedSays.{AskedSays}
-use Rattle.rules_outcome.specs.Demand3.{Demand3, HeldExactly, Copy, Standing, Entered}
+use Rattle.rules_outcome.specs.Demand3.{Demand3, HeldAfter, Copy, Standing, Entered}
 use Rattle.rules_outcome.specs.Meets.{Meets}
-use Rattle.rules_outcome.specs.NamedKey.{Registration, lentRoot, OpensTo, OpensUnder, Rekey}
+use Rattle.rules_outcome.specs.NamedKey.{Registration, OpensTo, OpensUnder, Rekey}
 use Rattle.rules_outcome.specs.Outcome.{Outcome}
 use Rattle.rules_outcome.specs.RestSays.{Stayed, LeastAs, DelayAs, OldSa}
 use Rattle.rules_outcome.specs.Stands.{HasWrapKey}
@@ -50,7 +49,7 @@ demand-3 = ofDemand3.demand-3
 
 pub held-after-registration :
     (limits : Limits) (s : State) (now : ℕ) (lent octets : List ℕ) (f : Frame) (e : IsFrame octets f) (next : State) →
-    Outcome limits s now lent octets 0 next → Registration f → HeldExactly (lentRoot lent) (wrapKeysOf f) (length lent) (next .held)
+    Outcome limits s now lent octets 0 next → Registration f → HeldAfter lent f (next .held)
 held-after-registration = ofDemands.held-after-registration
 
 pub entries-are : (f : Frame) (e : WrapKey) → In e (wrapKeysOf f) ↔ HasWrapKey f e

@@ -13,6 +13,7 @@ pub mod NothingLeft
 pub mod T03
 pub mod T07
 pub mod T09
+pub mod T04
 pub mod T01
 pub mod T02
 pub mod T06

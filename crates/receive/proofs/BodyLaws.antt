@@ -1,7 +1,7 @@
 -- The bodies of the GSA and the KD of a frame that numbers 2 to 7 let pass: what the readers of them ask for.
 use native.Mathlib.Omega.{arith}
 use Prim.Native.Nat.{ℕ, _≤_}
-use mathlib.Core.Path.{_≡_, ap, sym, subst, _∙_}
+use mathlib.Core.Path.{_≡_, refl, ap, sym, subst, _∙_}
 use mathlib.Core.Bool.{false, false≢true}
 use mathlib.Core.List.{List}
 use borrow.Author.Tests.{eq-eqb}
@@ -77,11 +77,10 @@ module _ (m : State) (now : ℕ) (lent s : List ℕ) (x : Facts) (f : Frame) (p 
   pub bodied : Bodied m now lent s x (at s (x .payloads .gsa)) (at s (x .payloads .kd)) f
   bodied = record { passed = p; policies = sym (holds-policies .all); bags = sym (holds-bags .all); entries = holds-entries }
 
-module _ {m : State} {now : ℕ} {lent s : List ℕ} {x : Facts} {g k : List ℕ} {f : Frame}
-    (b : Bodied m now lent s x g k f) where
-  pub ready : ChecksPassed f g k
-  ready =
-      let q = b .passed .clauses in
+module _ {e : Exchange} {m : State} {now : ℕ} {lent g k : List ℕ} {f : Frame} (b : Bagged e m now lent g k f) where
+  pub checked : ChecksPassed f g k
+  checked =
+      let q = b .clauses in
       record {
         policies = b .policies;
         bags = b .bags;
@@ -92,10 +91,6 @@ module _ {m : State} {now : ℕ} {lent s : List ℕ} {x : Facts} {g k : List ℕ
         room = omega (arith, few-sas m now lent f q);
       }
 
-  pub bagged : (e : Exchange) → rowOf f ≡ e → Bagged e m now lent k f
-  bagged e r = record { clauses = b .passed .clauses; row = r; bags = b .bags }
-
-module _ {e : Exchange} {m : State} {now : ℕ} {lent k : List ℕ} {f : Frame} (b : Bagged e m now lent k f) where
   pub entries-are : wrapKeysIn k ≡ wrapKeysOf f
   entries-are = ap wrapKeysAmong (sym (b .bags))
 
@@ -108,3 +103,11 @@ module _ {e : Exchange} {m : State} {now : ℕ} {lent k : List ℕ} {f : Frame} 
       nonzero-of (wrapKeysIn k)
       (subst (λ (l : List WrapKey). any (λ (x : WrapKey). eqb (x .keyId) 0) l ≡ false) (sym entries-are)
       (no-zero m now lent f (b .clauses)))
+
+module _ {m : State} {now : ℕ} {lent s : List ℕ} {x : Facts} {g k : List ℕ} {f : Frame}
+    (b : Bodied m now lent s x g k f) where
+  pub bagged : (e : Exchange) → rowOf f ≡ e → Bagged e m now lent g k f
+  bagged e r = record { clauses = b .passed .clauses; row = r; policies = b .policies; bags = b .bags }
+
+  pub ready : ChecksPassed f g k
+  ready = checked (bagged (rowOf f) refl)

@@ -3,32 +3,35 @@ use native.Mathlib.Omega.{arith}
 use Prim.Native.Nat.{ℕ, suc, _+_, _≤_}
 use mathlib.Core.Path.{_≡_, refl, ap, sym}
 use mathlib.Core.Bool.{Bool, true, false, not, cond, _&&_, false≢true}
-use mathlib.Core.List.{List, [], _∷_}
-use borrow.Author.Tests.{ltb-false}
+use mathlib.Core.List.{List, [], _∷_, List·Memᴰ}
+use borrow.Author.Tests.{ltb-false, eqb-true}
+use lib.Dec.{eqb}
 use lib.ListN.{length, getD}
 use Rattle.state_keys.specs.Limits.{limits}
 use Rattle.state_keys.specs.Lists.{any, count}
 use Rattle.state_keys.specs.Algorithms.{sizeOf}
 use Rattle.wire_policies.specs.Policy.{GroupSaPolicy, GroupWidePolicy}
-use Rattle.wire_bags.specs.Bag.{MemberKeyBag}
+use Rattle.wire_bags.specs.Bag.{GroupKeyBag, MemberKeyBag}
 use Rattle.wire_frames.specs.Frame.{Frame}
-use Rattle.wire_frames.specs.Exchange.{rekey, inband}
+use Rattle.wire_frames.specs.Exchange.{registration, rekey, inband}
 use Rattle.wire_frames.specs.declared.exchanges.KeyZero.{KeyZero}
 use Rattle.wire_frames.specs.declared.exchanges.KeyZero.the-variants as keyZero
 use Rattle.state.specs.declared.State.{State}
 use Rattle.state.specs.State.{stateFormed}
-use Rattle.rules_refusals.specs.Contents.{rowOf, gather, some, several, hasGsa, hasKd, announced, groupWides, memberBags, wrapKeysOf}
+use Rattle.rules_refusals.specs.Contents.{rowOf, gather, some, several, hasGsa, hasKd, announced, groupWides, groupBags}
+use Rattle.rules_refusals.specs.Contents.{memberBags, wrapKeysOf}
 use Rattle.rules_refusals.specs.Fitness.{isRekey}
 use Rattle.rules_refusals.specs.Number2.{notDueSas, overLiveRekey, otherSpis}
 use Rattle.rules_refusals.specs.Number4.{number4OfFrame, barredMemberBag, twoGsa, twoKd, severalRekeyPolicies, severalGroupWide}
 use Rattle.rules_refusals.specs.Number4.{severalMemberBags, keyLengthTwice, initialMessageIdTwice, delayTwice, lifetimeTwice}
 use Rattle.rules_refusals.specs.Number5.{number5OfFrame, otherTransforms, lentKeySize}
-use Rattle.rules_refusals.specs.Number6.{number6OfFrame, policyUnpaired, wrapKeyId}
+use Rattle.rules_refusals.specs.Number6.{number6OfFrame, policyUnpaired, otherSaKeyCount, saKeyCount, wrapKeyId}
 use Rattle.rules_refusals.specs.Number7.{number7OfFrame, number7OfMember, manyWrapKeys, manySas}
 use Rattle.rules_refusals.specs.Refusals.{Number, one, applies, judged, number2, number3, number4, number5, number6, number7, refusal}
 use Rattle.rules_refusals.proofs.Clear.{or-none, no-clause}
 use Rattle.rules_refusals.proofs.ExchangeRows.{by-row}
 use Rattle.rules_outcome.proofs.RunsClear.{None}
+use Rattle.rules_outcome.proofs.RunsLists.{none-passes}
 use Rattle.receive.specs.inner.Passing.{RekeysOver, RekeysInband}
 
 -- ---- the numbers, one after the other
@@ -176,6 +179,17 @@ module _ (m : State) (now : ℕ) (lent : List ℕ) (f : Frame) (e : refusal limi
   pub all-paired : policyUnpaired f ≡ false
   unfolding number6OfFrame
   all-paired = no-clause (number6OfFrame f) 0 (from-6 .0 .ofFrame)
+
+  one-key-bags : saKeyCount f ≡ false
+  unfolding number6OfFrame
+  one-key-bags = no-clause (number6OfFrame f) 4 (from-6 .0 .ofFrame)
+
+  -- in a registration each bag has one SA_KEY
+  pub one-key : rowOf f ≡ registration → (b : GroupKeyBag) → List·Memᴰ b (groupBags f) → length (b .keys) ≡ 1
+  unfolding saKeyCount otherSaKeyCount
+  one-key r b i =
+      let q = none-passes (otherSaKeyCount (rowOf f)) (groupBags f) one-key-bags b i in
+      eqb-true (length (b .keys)) 1 (not-not (eqb (length (b .keys)) 1) (rw r at q))
 
   pub no-zero : wrapKeyId f ≡ false
   unfolding number6OfFrame

@@ -2,7 +2,7 @@
 use native.Mathlib.Omega.{arith}
 use Prim.Native.Nat.{ℕ, _+_, _≤_}
 use mathlib.Core.Path.{_≡_, refl, ap, sym, subst, _∙_}
-use mathlib.Core.Bool.{true}
+use mathlib.Core.Bool.{Bool, true, false}
 use mathlib.Core.List.{List, []}
 use lib.ListN.{length, take}
 use Rattle.octets.specs.Numbers.{oct}
@@ -27,7 +27,7 @@ use Rattle.rules_chains.specs.Chain.{Root}
 use Rattle.rules_chains.specs.Refusals.{EntriesConflict, CopiesConflict, of-entries, of-copies}
 use Rattle.rules_outcome.specs.Roots.{rootsOf, entriesOf, wrappingSize, announcedAs, announcedKeys}
 use Rattle.rules_outcome.specs.Answer.{KeyConflictOf, KeyMissingOf}
-use Rattle.rules_outcome.specs.After.{Enter, HeldAre, HeldBy}
+use Rattle.rules_outcome.specs.After.{Enter, newRekey, rekeyCopies, HeldSet, HeldBy}
 use Rattle.rules_outcome.specs.Outcome.{Judged, refused, accepted}
 use Rattle.rules_outcome.proofs.Answering.{answers-8, answers-9, answers-0}
 use Rattle.rules_outcome.proofs.Accepting.{nine-policy, policy-nine}
@@ -39,8 +39,13 @@ use Rattle.unwrap_sas.specs.inner.Keyed.{SomeConflict, NoConflict, SomeUnopened
 use Rattle.unwrap_sas.specs.declared.joining.Keyed.{Keyed}
 use Rattle.unwrap_sas.specs.declared.joining.SasFound.{SasFound}
 use Rattle.unwrap_sas.specs.declared.joining.SasFound.the-variants as found
-use Rattle.receive.specs.inner.Passing.{FrameOpened}
+use Rattle.receive.specs.inner.Passing.{EachOpens, KeepsOrSets, FrameOpened}
 use Rattle.receive.proofs.ClauseLaws.{few-sas}
+
+-- what is set once each SA opens, where each does
+once-open : (b : Bool) (Each Set Kept : Type 0) → HeldBy b (Each → Set) Kept → Each → HeldBy b Set Kept
+once-open true Each Set Kept h e = h e
+once-open false Each Set Kept h e = h
 
 module _ (m : State) (now : ℕ) (lent : List ℕ) (f : Frame) (e : refusal limits m now lent f ≡ 0) where
   abbrev roots : List Root
@@ -81,20 +86,22 @@ module _ (m : State) (now : ℕ) (lent : List ℕ) (f : Frame) (e : refusal limi
 
     pub opened : (new : List Sa) (held : Held) (next : State) →
         Enter (rootsOf limits m now lent f) (entriesOf f) (wrappingSize limits m now lent f) now f (announced f) new →
-        HeldBy (rowOf f .registers) (HeldAre (rootsOf limits m now lent f) (entriesOf f) (wrappingSize limits m now lent f) limits held)
-        (held ≡ m .held) → Follows m now f new held next → Judged limits m now lent f 0 next
+        KeepsOrSets m now lent f held → Follows m now f new held next → Judged limits m now lent f 0 next
     opened new held next enter h follows =
-        let all-open : KeyMissingOf limits m now lent f → ⊥ = λ n.
-        let p = nine-policy limits m now lent f n in
-        let r = each-enters roots (entriesOf f) size now f (announced f) new enter (p .0) (p .1) in
-        p .2 (r .octets, r .key .opens) in
+        let each : EachOpens roots (entriesOf f) size f =
+        λ a i. let r = each-enters roots (entriesOf f) size now f (announced f) new enter a i in (r .octets, r .key .opens) in
+        let all-open : KeyMissingOf limits m now lent f → ⊥ =
+        λ n. let p = nine-policy limits m now lent f n in p .2 (each (p .0) (p .1)) in
         accepted next (answers-0 limits m now lent f e no-eight all-open)
         (record {
           new = new;
           enter = enter;
           table = follows .table;
           held = subst (λ (x : Held).
-              HeldBy (rowOf f .registers) (HeldAre roots (entriesOf f) size limits x) (x ≡ m .held)) (sym (follows .held-is)) h;
+              HeldBy (rowOf f .registers) (HeldSet roots (entriesOf f) size (newRekey f) limits (rekeyCopies f) x) (x ≡ m .held))
+              (sym (follows .held-is))
+              (once-open (rowOf f .registers) (EachOpens roots (entriesOf f) size f)
+              (HeldSet roots (entriesOf f) size (newRekey f) limits (rekeyCopies f) held) (held ≡ m .held) h each);
           least = follows .least;
         })
 

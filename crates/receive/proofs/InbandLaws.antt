@@ -26,12 +26,13 @@ module _ (no-key : Held) (e : no-key ≡ heldOf limits []) where
   no-key-fits : heldFormed limits no-key ≡ true
   no-key-fits = ap (heldFormed limits) e ∙ no-key-formed limits
 
-  module _ {m : State} {now : ℕ} {lent k : List ℕ} {f : Frame} (b : Bagged inband m now lent k f)
+  module _ {m : State} {now : ℕ} {lent g k : List ℕ} {f : Frame} (b : Bagged inband m now lent g k f)
       (zero : WrappingKey) (z : zero ≡ wrappingKey lent .key) where
     roots-are : heldRoots zero no-key ≡ rootsOf limits m now lent f
     roots-are =
         ap (λ (l : List HeldKey). record { id = 0; value = valueOf zero } ∷ map heldRoot l) (ap keysOf e ∙ keys-of-held limits [])
         ∙ zero-roots b rekeys-lent zero z
 
-    pub inband-rooted : Rooted m now lent (record { conflict = false; zero = zero; opens = no-key }) f
+    pub inband-rooted : (after : Held) → after ≡ m .held →
+        Rooted m now lent (record { conflict = false; zero = zero; opens = no-key; after = after }) f
     inband-rooted = no-entry-rooted b refl refl zero no-key roots-are (zero-fits b rekeys-lent zero z) no-key-fits

@@ -37,7 +37,7 @@ registers-lent = record { judged = refl; roots = lent-roots limits; size = lent-
 pub rekeys-lent : LentRow inband
 rekeys-lent = record { judged = refl; roots = inband-roots limits; size = inband-size limits }
 
-module _ {y : Exchange} {m : State} {now : ℕ} {lent k : List ℕ} {f : Frame} (b : Bagged y m now lent k f)
+module _ {y : Exchange} {m : State} {now : ℕ} {lent g k : List ℕ} {f : Frame} (b : Bagged y m now lent g k f)
     (l : LentRow y) (zero : WrappingKey) (z : zero ≡ wrappingKey lent .key) where
   lent-size-fits : sizeOf 13 (length lent) ≡ true
   lent-size-fits = lent-fits m now lent f (b .clauses) (ap (λ (e : Exchange). e .«judges_lent_key») (b .row) ∙ l .judged)

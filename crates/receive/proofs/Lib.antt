@@ -3,6 +3,8 @@ pub mod ConcludingLaws
 pub mod ZeroLaws
 pub mod BodyLaws
 pub mod LentLaws
+pub mod CopyLaws
+pub mod PathLaws
 pub mod RegistrationLaws
 pub mod Rekeying
 pub mod RekeyLaws

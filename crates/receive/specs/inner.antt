@@ -1,3 +1,4 @@
+pub mod Copies
 pub mod Passing
 pub mod Rooted
 pub mod Saying

@@ -5,9 +5,8 @@ use crate::roots::roots;
 use crate::row_of;
 use check_judging::facts::Facts;
 use state::State;
-use state::held::Held;
 ghost use mathlib.Core.Path.{_≡_};
-ghost use mathlib.Core.Bool.{true, cond};
+ghost use mathlib.Core.Bool.{true};
 ghost use Rattle.state_keys.specs.Limits.{limits};
 ghost use Rattle.wire_policies.specs.Policy.{policies};
 ghost use Rattle.wire_bags.specs.Bag.{bags};
@@ -15,16 +14,6 @@ ghost use Rattle.wire_frames.specs.Frame.{Frame};
 ghost use Rattle.wire_readers.specs.inner.Values.{isWhole};
 ghost use Rattle.rules_outcome.specs.Outcome.{Judged};
 ghost use Rattle.receive.specs.inner.Passing.{Passed, Bodied};
-
-// Answers the held list afterwards: the keys that a registration reached, else the list `before`.
-fn held_after(registers: bool, reached: Held, before: Held) -> Held
-    ensures { λ r. ⌜ r ≡ cond registers reached before ⌝ }
-{
-    if registers {
-        return reached;
-    }
-    before
-}
 
 // Decides the frame with the facts `x`, whose GSA has the body `gsa` and whose KD has the body `kd`.
 fn by_bodies(
@@ -43,13 +32,12 @@ fn by_bodies(
         Judged limits state tick (now (lent .entry)) f (r .number) (r .state)) ⌝ }
 {
     let row = row_of(frame);
-    let r = roots(state, row, kd, x.member_bag, lent, tick);
+    let r = roots(state, row, gsa, kd, x.member_bag, lent, tick);
     if r.conflict {
         return Next { number: 8, state };
     }
     let keyed = unwrap_sas::open_sas(gsa, kd, r.zero, r.opens, tick);
-    let held = held_after(row.registers, r.opens, state.held);
-    conclude(state, frame, x, tick, keyed, held)
+    conclude(state, frame, x, tick, keyed, r.after)
 }
 
 // Decides the frame with the facts `x`. `lent` is the lent key. Answers acceptance, refusal 8 or refusal 9, and the next state.

@@ -19,7 +19,7 @@ use Rattle.state_sa.specs.declared.entry.Sa.{Sa}
 use Rattle.state_table.specs.Table.{tableOf, tableFormed}
 use Rattle.state.specs.declared.State.{State}
 use Rattle.state.specs.declared.least.Least.the-variants.{Id}
-use Rattle.state.specs.Held.{heldOf, heldFormed}
+use Rattle.state.specs.Held.{heldOf, distinct, heldFormed}
 use Rattle.state.specs.State.{stateFormed}
 use Rattle.rules_refusals.specs.Number2.{notDueSas, overLiveRekey}
 use Rattle.rules_outcome.specs.Run.{StandsAt}
@@ -38,7 +38,8 @@ abbrev pub seven : State
 seven = having one
 
 pub seven-formed : stateFormed limits seven ≡ true
-unfolding stateFormed tableFormed heldFormed tableOf heldOf all count heads rising saSized saFormed liveRekey rekeySa rekeySizes sizeOf any
+unfolding stateFormed tableFormed heldFormed distinct tableOf heldOf all count heads rising saSized saFormed liveRekey rekeySa rekeySizes
+    sizeOf any
 seven-formed = refl
 
 pub seven-stands : (now : ℕ) → StandsAt now rekeySpi seven

@@ -1,10 +1,10 @@
--- DEMAND 3 AS ONE CLAIM: "Whatever frame, lent default key, tick and member are handed in, the following holds. After an accepted
--- registration the held list has exactly the Key IDs to which a chain of one or more entries leads from the lent default key, wherever the
--- entries stand in the frame: each once, rising, with the value that every chain ending on it gives. A frame that meets none of refusals 1
--- to 8 is accepted exactly when each SA it announces has a copy of its key that opens under the key its KWK ID names, be it key 0, the last
--- key of such a chain or, in a rekey, a key the member held; otherwise it is refused as number 9. On acceptance each of those SAs stands in
--- the table as document 01 enters it, with the octets that every such copy opens to, and the rest of the member is as that document leaves
--- it. A chain is defined without running any search."
+-- DEMAND 3 AS ONE CLAIM: "Whatever frame, lent default key, tick and member are handed in, the following holds." Of the held list document
+-- 02, T-04, says: "After a registration the held list is now the chain that opens the Rekey SA's SA_KEY", and "Demand 3 then says that the
+-- list is this path, and exists when a chain does." It goes on: "A frame that meets none of refusals 1 to 8 is accepted exactly when each SA
+-- it announces has a copy of its key that opens under the key its KWK ID names, be it key 0, the last key of such a chain or, in a rekey, a
+-- key the member held; otherwise it is refused as number 9. On acceptance each of those SAs stands in the table as document 01 enters it,
+-- with the octets that every such copy opens to, and the rest of the member is as that document leaves it. A chain is defined without
+-- running any search."
 use native.Mathlib.Omega.{arith}
 use Prim.Native.Nat.{ℕ, _≤_}
 use mathlib.Core.Path.{subst}
@@ -22,7 +22,7 @@ use Rattle.rules_outcome.proofs.Rest.{least-after, old-after}
 use Rattle.rules_outcome.proofs.RunsClear.{taken}
 use Rattle.rules_outcome.proofs.Runs.{accepted-formed}
 
--- within limits by which what a registration reaches can be held
+-- within limits by which each path of a registration can be held
 module _ (limits : Limits) (enough : limits .wrapKeys ≤ limits .heldKeys) (s : State) (now : ℕ) (lent octets : List ℕ) (f : Frame)
     (e : IsFrame octets f) where
   on-acceptance : (next : State) → Outcome limits s now lent octets 0 next → OnAcceptance limits s now lent f next

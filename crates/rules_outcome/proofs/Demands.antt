@@ -26,8 +26,8 @@ use Rattle.rules_refusals.specs.Number2.{number2OfFrame}
 use Rattle.rules_refusals.specs.Number4.{number4OfFrame}
 use Rattle.rules_refusals.specs.Refusals.{number2, number4}
 use Rattle.rules_refusals.proofs.Clear.{no-clause}
-use Rattle.rules_chains.specs.Chain.{In, Root}
-use Rattle.rules_outcome.specs.Roots.{rootsOf, entriesOf, wrappingSize}
+use Rattle.rules_chains.specs.Chain.{In}
+use Rattle.rules_outcome.specs.Roots.{rootsOf, wrappingSize}
 use Rattle.rules_outcome.specs.Answer.{KeyMissingOf}
 use Rattle.rules_outcome.specs.After.{leastAfterwards}
 use Rattle.rules_outcome.specs.Outcome.{NoTree, Outcome, no-layout}
@@ -47,8 +47,8 @@ use Rattle.rules_outcome.specs.NamedKey.{OpensUnder, OpensTo}
 use Rattle.rules_outcome.proofs.NamedKey.{to-under, under-to}
 use Rattle.rules_outcome.specs.NamedKey.{OfMemberBags}
 use Rattle.rules_outcome.proofs.Bags.{entry-own, passed-stand}
-use Rattle.rules_outcome.specs.Demand3.{HeldExactly}
-use Rattle.rules_outcome.proofs.HeldList.{registration-sets, rekey-leaves, held-exactly}
+use Rattle.rules_outcome.specs.Demand3.{HeldAfter}
+use Rattle.rules_outcome.proofs.HeldList.{registration-sets, rekey-leaves, held-after}
 use Rattle.rules_outcome.proofs.Accepting.{HasCopy, nine-policy, entries-fit, after-opens, whole-accepted}
 use Rattle.rules_outcome.proofs.Accepting.{new-by, entered-by, new-stands, stands-as, as-stands}
 
@@ -88,18 +88,18 @@ module _ (limits : Limits) (s : State) (now : ℕ) (lent octets : List ℕ) wher
 
   -- ---- DEMAND 3, of a frame whose layout is whole
   module _ (f : Frame) (e : IsFrame octets f) where
-    -- "After an accepted registration the held list has exactly the Key IDs to which a chain of one or more entries leads from the lent
-    -- default key, wherever the entries stand in the frame: each once, rising, with the value that every chain ending on it gives."
-    pub held-after-registration : (next : State) → Outcome limits s now lent octets 0 next → Registration f →
-        HeldExactly (lentRoot lent) (wrapKeysOf f) (length lent) (next .held)
+    -- "After a registration the held list is now the chain that opens the Rekey SA's SA_KEY, written from the key that opens it back towards
+    -- the default key, which is not listed. If several chains do, take the one with fewest keys; among these, the smallest when their Key
+    -- ID lists are compared number by number. No Rekey SA, or one opened by the default key: empty." (document 02, T-04)
+    pub held-after-registration : (next : State) → Outcome limits s now lent octets 0 next → Registration f → HeldAfter lent f (next .held)
     held-after-registration next o registration =
         let a = whole-accepted limits s now lent octets f e next o in
         let r = registration-row f registration in
         let h = registration-sets (rowOf f .registers) _ _ (ap (λ (x : Exchange). x .registers) r) (a .1 .held) in
         let none = entries-fit limits s now lent f (accepts limits s now lent f (a .0) .no-eight) in
-        subst (λ (l : List Root). HeldExactly l (wrapKeysOf f) (length lent) (next .held)) (lent-roots limits s now f r lent)
-        (subst (λ (n : ℕ). HeldExactly (rootsOf limits s now lent f) (wrapKeysOf f) n (next .held)) (lent-size limits s now f r lent)
-        (held-exactly (rootsOf limits s now lent f) (entriesOf f) (wrappingSize limits s now lent f) none limits (next .held) h))
+        held-after lent f (rootsOf limits s now lent f) (wrappingSize limits s now lent f) (lent-roots limits s now f r lent)
+        (lent-size limits s now f r lent) limits (next .held) none
+        (λ p n. after-opens limits s now lent f next (a .1) p (n .stands)) h
 
     -- ---- what opens a copy
     pub passes-2-and-4 : (Meets limits s now lent octets 2 → ⊥) → (Meets limits s now lent octets 4 → ⊥) →

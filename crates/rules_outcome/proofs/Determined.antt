@@ -3,28 +3,27 @@ use native.Mathlib.Omega.{arith}
 use Prim.Native.Nat.{ℕ, suc}
 use mathlib.Core.Path.{_≡_, refl, ap, ap₂, sym, _∙_, subst}
 use mathlib.Core.Bool.{Bool, true, false}
-use mathlib.Core.List.{List, [], _∷_}
+use mathlib.Core.List.{List, [], _∷_, map}
 use Rattle.state_keys.specs.Limits.{Limits}
-use Rattle.state_keys.specs.Kinds.{wrappingOf}
-use Rattle.wire_attributes.specs.Tree.{WrapKey}
+use Rattle.wire_attributes.specs.Tree.{SaKey, WrapKey}
 use Rattle.wire_policies.specs.Policy.{GroupSaPolicy}
 use Rattle.wire_frames.specs.Frame.{Frame}
 use Rattle.wire_frames.proofs.FrameGrammar.{one-tree}
 use Rattle.state_sa.specs.declared.entry.Sa.{Sa}
 use Rattle.state.specs.declared.State.{State}
-use Rattle.state.specs.declared.held.HeldKey.{HeldKey}
 use Rattle.state.specs.declared.held.Held.{Held}
-use Rattle.state.specs.Held.{heldOf, idBefore}
-use Rattle.state.proofs.Kept.{id-trans, id-irrefl}
+use Rattle.state.specs.Held.{heldOf}
 use Rattle.rules_refusals.specs.Contents.{rowOf, announced}
-use Rattle.rules_chains.specs.Chain.{In, Root}
+use Rattle.rules_chains.specs.Chain.{Root}
+use Rattle.rules_chains.specs.Path.{Keys}
 use Rattle.rules_chains.proofs.Determined.{key-one}
+use Rattle.rules_chains.proofs.OnePath.{path-one, keys-one}
 use Rattle.rules_outcome.specs.Roots.{rootsOf, entriesOf, wrappingSize, announcedAs}
 use Rattle.rules_outcome.specs.Answer.{conditions}
-use Rattle.rules_outcome.specs.After.{Enter, no-sa, one-more, saFrom, HeldAre, HeldBy, After}
+use Rattle.rules_outcome.specs.After.{newRekey, rekeyCopies, heldFrom, Enter, no-sa, one-more, saFrom, HoldsPath, HeldSet, HeldBy}
+use Rattle.rules_outcome.specs.After.{After}
 use Rattle.rules_outcome.specs.Outcome.{Judged, refused, accepted, Outcome, no-layout, by-tree}
 use Rattle.rules_outcome.proofs.First.{first-one}
-use Rattle.rules_outcome.proofs.Members.{rising-one}
 
 -- ---- the member after acceptance
 module _ (roots : List Root) (entries : List WrapKey) (size : ℕ) where
@@ -36,21 +35,19 @@ module _ (roots : List Root) (entries : List WrapKey) (size : ℕ) where
       ap₂ (λ (z : List ℕ) (q : List Sa). saFrom now a z ∷ q) (key-one roots entries size (announcedAs f a) x y k j)
       (enter-one now f l m n e d)
 
-  -- a key of one list stands in any other that has every value
-  module _ (limits : Limits) (h k : Held) (p : HeldAre roots entries size limits h) (q : HeldAre roots entries size limits k) where
-    stands-too : (a : HeldKey) → In a (p .keys) → In a (q .keys)
-    stands-too a m =
-        let v = p .each a m in
-        let e : record { id = a .id; key = wrappingOf (v .x) } ≡ a = λ i. record { id = a .id; key = sym (v .key-is) i } in
-        subst (λ (b : HeldKey). In b (q .keys)) e (q .all (a .id) (v .x) (v .value))
+  -- the path is one, and so are its keys
+  path-held-one : (limits : Limits) (copies : List SaKey) (h k : Held) → HoldsPath roots entries size limits copies h →
+      HoldsPath roots entries size limits copies k → h ≡ k
+  path-held-one limits copies h k p q =
+      let e = path-one roots entries size copies (p .ids) (q .ids) (p .path) (q .path) in
+      let d = keys-one roots entries size (q .ids) (p .keys) (q .keys)
+      (subst (λ (i : List ℕ). Keys roots entries size i (p .keys)) e (p .are)) (q .are) in
+      p .is ∙ ap (λ (l : List Root). heldOf limits (map heldFrom l)) d ∙ sym (q .is)
 
-  pub held-one : (limits : Limits) (h k : Held) → HeldAre roots entries size limits h → HeldAre roots entries size limits k → h ≡ k
-  held-one limits h k p q =
-      p .is ∙
-      ap (heldOf limits)
-      (rising-one idBefore id-trans id-irrefl (p .keys) (q .keys) (p .rise) (q .rise) (stands-too limits h k p q)
-      (stands-too limits k h q p))
-      ∙ sym (q .is)
+  pub held-one : (b : Bool) (limits : Limits) (copies : List SaKey) (h k : Held) → HeldSet roots entries size b limits copies h →
+      HeldSet roots entries size b limits copies k → h ≡ k
+  held-one true limits copies h k p q = path-held-one limits copies h k p q
+  held-one false limits copies h k p q = p ∙ sym q
 
 held-by-one : (b : Bool) {Set Kept Set′ Kept′ : Type 0} {h k : Held} → (Set → Set′ → h ≡ k) → (Kept → Kept′ → h ≡ k) →
     HeldBy b Set Kept → HeldBy b Set′ Kept′ → h ≡ k
@@ -72,7 +69,8 @@ module _ (limits : Limits) (s : State) (now : ℕ) (lent : List ℕ) where
         let b = q .table in
         let t : next .table ≡ after .table = cc in
         let h : next .held ≡ after .held =
-        held-by-one (rowOf f .registers) (held-one roots (entriesOf f) size limits (next .held) (after .held)) (λ x y. x ∙ sym y) (p .held)
+        held-by-one (rowOf f .registers)
+        (held-one roots (entriesOf f) size (newRekey f) limits (rekeyCopies f) (next .held) (after .held)) (λ x y. x ∙ sym y) (p .held)
         (q .held) in
         let l : next .least ≡ after .least = p .least ∙ sym (q .least) in
         λ i. record { table = t i; held = h i; least = l i }

@@ -1,41 +1,34 @@
 -- NO INPUT IS WITHOUT AN OUTCOME. Which one it is takes the search of the code; here it is shown that there cannot be none: the conditions
 -- have a first that holds or none holds, and in the second case there is a member afterwards.
 use Prim.Native.Nat.{ℕ, zero, suc}
-use mathlib.Core.Path.{_≡_, refl, sym, subst, _∙_}
+use mathlib.Core.Path.{_≡_, refl}
 use mathlib.Core.Bool.{Bool, true, false}
-use mathlib.Core.Logic.{inl, inr, ⊎-elim}
+use mathlib.Core.Logic.{inl, inr}
 use mathlib.Core.List.{List, [], _∷_, map}
-use borrow.Author.Tests.{eqb-true}
-use lib.Dec.{eqb}
-use Rattle.state_keys.specs.Lists.{any, rising, insert}
 use Rattle.state_keys.specs.Limits.{Limits}
-use Rattle.state_keys.specs.Kinds.{wrappingOf}
-use Rattle.state_keys.proofs.Cases.{bool-cases}
-use Rattle.state_keys.proofs.Members.{inserted-member, member-inserted}
-use Rattle.state_keys.proofs.Rising.{rising-insert}
-use Rattle.wire_attributes.specs.Tree.{WrapKey}
+use Rattle.wire_attributes.specs.Tree.{SaKey, WrapKey}
 use Rattle.wire_policies.specs.Policy.{GroupSaPolicy}
 use Rattle.wire_frames.specs.Frame.{Frame}
 use Rattle.wire_frames.specs.Grammar.{IsFrame}
 use Rattle.state_sa.specs.declared.entry.Sa.{Sa}
 use Rattle.state_table.specs.Table.{tableOf}
 use Rattle.state.specs.declared.State.{State}
-use Rattle.state.specs.declared.held.HeldKey.{HeldKey}
 use Rattle.state.specs.declared.held.Held.{Held}
-use Rattle.state.specs.Held.{heldOf, idBefore}
-use Rattle.state.proofs.Kept.{id-trans, apart}
+use Rattle.state.specs.Held.{heldOf}
 use Rattle.rules_refusals.specs.Contents.{rowOf, announced}
 use Rattle.rules_chains.specs.Chain.{In, Root}
-use Rattle.rules_chains.specs.Refusals.{Value, of-copies}
-use Rattle.rules_chains.proofs.Determined.{copies-one, value-one, last-entry}
-use Rattle.rules_chains.proofs.Members.{in-member, member-in}
+use Rattle.rules_chains.specs.Refusals.{EntriesConflict, of-entries, of-copies}
+use Rattle.rules_chains.specs.Path.{Opener}
+use Rattle.rules_chains.proofs.Determined.{copies-one}
+use Rattle.rules_chains.proofs.WorkingPath.{keys-exist}
 use Rattle.rules_outcome.specs.Roots.{rootsOf, entriesOf, wrappingSize, announcedAs, announcedKeys}
 use Rattle.rules_outcome.specs.Answer.{RefusalCase, First, conditions, FrameAnswers}
-use Rattle.rules_outcome.specs.After.{Enter, no-sa, one-more, saFrom, insertAll, oldSas, leastAfterwards, HoldsKey, HeldAre, HeldBy}
-use Rattle.rules_outcome.specs.After.{After}
+use Rattle.rules_outcome.specs.After.{newRekey, rekeyCopies, heldFrom, Enter, no-sa, one-more, saFrom, insertAll, oldSas}
+use Rattle.rules_outcome.specs.After.{HoldsPath, HeldSet, HeldBy, leastAfterwards, After}
 use Rattle.rules_outcome.specs.Outcome.{refused, accepted, Outcome, no-layout, by-tree}
-use Rattle.rules_outcome.proofs.Members.{in-head, in-tail, in-cases, not-in-none, map-in}
-use Rattle.rules_outcome.proofs.RunsLists.{some-passes}
+use Rattle.rules_outcome.proofs.Members.{in-head, in-tail, map-in}
+use Rattle.rules_outcome.proofs.HeldList.{rekey-opener}
+use Rattle.rules_outcome.proofs.PathSome.{path-some}
 use Rattle.rules_outcome.proofs.Readings.{tree-of}
 use Rattle.rules_outcome.proofs.Answering.{accepts}
 use Rattle.rules_outcome.proofs.Accepting.{HasCopy, policy-nine}
@@ -46,102 +39,13 @@ first-some [] none = none 0 refl
 first-some (c ∷ l) none = first-some l (λ n p. none n (inr (λ h. none (c .number) (inl (h, refl)), p)))
 
 -- ---- the held list of a registration
-module _ (roots : List Root) (entries : List WrapKey) (size : ℕ) where
-  -- a list of the keys with these Key IDs that chains reach
-  record HeldOf (ids : List ℕ) : Type 0 where
-    keys : List HeldKey
-    rise : rising idBefore keys ≡ true
-    each : (k : HeldKey) → In k keys → HoldsKey roots entries size k
-    all : (i : ℕ) → In i ids → (x : List ℕ) → Value roots entries size i x → In (record { id = i; key = wrappingOf x }) keys
-
-  -- the key with a Key ID, which is reached with the value x
-  module _ (i : ℕ) (ids : List ℕ) (x : List ℕ) (v : Value roots entries size i x) (g : HeldOf ids) where
-    abbrev key : HeldKey
-    key = record { id = i; key = wrappingOf x }
-
-    same-key : (y : List ℕ) → Value roots entries size i y → record { id = i; key = wrappingOf y } ≡ key
-    same-key y w = λ j. record { id = i; key = wrappingOf (value-one roots entries size i y x w v j) }
-
-    -- it stands in the list already
-    has : (k : HeldKey) → In k (g .keys) → k .id ≡ i → In key (g .keys)
-    has k m e =
-        let h = g .each k m in
-        let w : Value roots entries size i (h .x) = subst (λ (j : ℕ). Value roots entries size j (h .x)) e (h .value) in
-        let q : k ≡ record { id = i; key = wrappingOf (h .x) } = λ j. record { id = e j; key = h .key-is j } in
-        subst (λ (a : HeldKey). In a (g .keys)) (q ∙ same-key (h .x) w) m
-
-    -- for a list with it, and those of the other Key IDs
-    module _ (l : List HeldKey) (m : In key l) (into : (k : HeldKey) → In k (g .keys) → In k l) where
-      all-with : (j : ℕ) → In j (i ∷ ids) → (y : List ℕ) → Value roots entries size j y → In (record { id = j; key = wrappingOf y }) l
-      all-with j h y w =
-          ⊎-elim
-          (λ e.
-          let u : Value roots entries size i y = subst (λ (n : ℕ). Value roots entries size n y) e w in
-          let q : record { id = j; key = wrappingOf y } ≡ record { id = i; key = wrappingOf y } =
-          λ n. record { id = e n; key = wrappingOf y } in
-          subst (λ (a : HeldKey). In a l) (sym (q ∙ same-key y u)) m)
-          (λ h. into (record { id = j; key = wrappingOf y }) (g .all j h y w))
-          (in-cases j i ids h)
-
-    -- it enters
-    holds-key : HoldsKey roots entries size key
-    holds-key = record { x = x; key-is = refl; value = v }
-
-    abbrev more : List HeldKey
-    more = insert idBefore key (g .keys)
-
-    with-key : HeldOf (i ∷ ids)
-    with-key =
-        bool-cases (any (λ (k : HeldKey). eqb (k .id) i) (g .keys))
-        (λ e.
-        let p = some-passes (λ (k : HeldKey). eqb (k .id) i) (g .keys) e in
-        let m = has (p .one) (member-in (p .one) (g .keys) (p .stands)) (eqb-true (p .one .id) i (p .passes)) in
-        record { keys = g .keys; rise = g .rise; each = g .each; all = all-with (g .keys) m (λ k n. n) })
-        (λ e.
-        record {
-          keys = more;
-          rise = rising-insert idBefore id-trans key (g .keys) (apart key (g .keys) e) (g .rise);
-          each = λ k m.
-              ⊎-elim (λ q. subst (HoldsKey roots entries size) (sym q) holds-key) (λ n. g .each k (member-in k (g .keys) n))
-              (inserted-member idBefore key k (g .keys) (in-member k more m));
-          all =
-              all-with more (member-in key more (member-inserted idBefore key key (g .keys) (inl refl)))
-              (λ k n. member-in k more (member-inserted idBefore key k (g .keys) (inr (in-member k (g .keys) n))));
-        })
-
-  held-of : (ids : List ℕ) → (HeldOf ids → ⊥) → ⊥
-  unfolding rising
-  held-of [] none =
-      none (record { keys = []; rise = refl; each = λ k m. absurd (not-in-none k m); all = λ i m. absurd (not-in-none i m) })
-  held-of (i ∷ ids) none =
-      held-of ids (λ g.
-      let other : ((x : List ℕ) → Value roots entries size i x → ⊥) → ⊥ =
-      λ no.
-      none
-      (record {
-        keys = g .keys;
-        rise = g .rise;
-        each = g .each;
-        all = λ j m x v.
-            ⊎-elim (λ e. absurd (no x (subst (λ (n : ℕ). Value roots entries size n x) e v))) (λ h. g .all j h x v) (in-cases j i ids m);
-      }) in
-      other (λ x v. none (with-key i ids x v g)))
-
-  held-some : (limits : Limits) → ((h : Held) → HeldAre roots entries size limits h → ⊥) → ⊥
-  held-some limits none =
-      let ids = map (λ (e : WrapKey). e .keyId) entries in
-      held-of ids (λ g.
-      none (heldOf limits (g .keys))
-      (record {
-        keys = g .keys;
-        is = refl;
-        rise = g .rise;
-        each = g .each;
-        all = λ i x v.
-            let r = v .reached in
-            let l = last-entry roots entries size i x r in
-            g .all i (map-in (λ (e : WrapKey). e .keyId) i entries (r .last) (l .0) (sym (l .1))) x v;
-      }))
+path-held : (limits : Limits) (roots : List Root) (entries : List WrapKey) (size : ℕ) (copies : List SaKey) →
+    (EntriesConflict roots entries size → ⊥) → (q : List WrapKey) → Opener roots entries size copies q →
+    ((h : Held) → HoldsPath roots entries size limits copies h → ⊥) → ⊥
+path-held limits roots entries size copies none q o without =
+    path-some roots entries size copies q o (λ ids p.
+    let k = keys-exist roots entries size none copies ids p in
+    without (heldOf limits (map heldFrom (k .keys))) (record { ids = ids; path = p; keys = k .keys; are = k .are; is = refl }))
 
 held-by-some : (b : Bool) (Set Kept : Held → Type 0) (kept : Held) → Kept kept → (((h : Held) → Set h → ⊥) → ⊥) →
     ((h : Held) → HeldBy b (Set h) (Kept h) → ⊥) → ⊥
@@ -172,11 +76,19 @@ module _ (limits : Limits) (s : State) (now : ℕ) (lent : List ℕ) (f : Frame)
       accepts limits s now lent f p .no-eight (of-copies b (map-in (announcedAs f) b (announced f) a i refl) c)) in
       none (saFrom now a (h .0) ∷ m) (one-more (h .0) (record { opens = h .1; every = λ y o. one y (h .0) o (h .1) }) e)))
 
+  set-some : (new : List Sa) → Enter roots (entriesOf f) size now f (announced f) new → (b : Bool) → newRekey f ≡ b →
+      ((h : Held) → HeldSet roots (entriesOf f) size b limits (rekeyCopies f) h → ⊥) → ⊥
+  set-some new e true g without =
+      let o = rekey-opener f roots (entriesOf f) size now new e g in
+      path-held limits roots (entriesOf f) size (rekeyCopies f) (λ c. accepts limits s now lent f p .no-eight (of-entries c)) (o .0) (o .1)
+      without
+  set-some new e false g without = without (heldOf limits []) refl
+
   after-some : ((next : State) → After limits s now lent f next → ⊥) → ⊥
   after-some none =
       enter-some (announced f) (λ a m. m) (λ new e.
-      held-by-some (rowOf f .registers) (HeldAre roots (entriesOf f) size limits) (λ (h : Held). h ≡ s .held) (s .held) refl
-      (held-some roots (entriesOf f) size limits) (λ h k.
+      held-by-some (rowOf f .registers) (HeldSet roots (entriesOf f) size (newRekey f) limits (rekeyCopies f))
+      (λ (h : Held). h ≡ s .held) (s .held) refl (set-some new e (newRekey f) refl) (λ h k.
       none (record { table = tableOf limits (insertAll new (oldSas s now f)); held = h; least = leastAfterwards s f })
       (record { new = new; enter = e; table = refl; held = k; least = refl })))
 

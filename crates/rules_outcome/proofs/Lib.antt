@@ -6,14 +6,17 @@ pub mod Meets
 pub mod Rows
 pub mod Enters
 pub mod Bags
+pub mod PathKeys
 pub mod HeldList
 pub mod Accepting
 pub mod NotRead
 pub mod NamedKey
 pub mod Demands
+pub mod PathSome
 pub mod EachAnswered
 pub mod KeyConflictSays
 pub mod Following
+pub mod WiderHeld
 pub mod Wider
 pub mod Determined
 pub mod RunsLists
@@ -50,7 +53,9 @@ pub mod SamplesAnswers
 pub mod SamplesRekeys
 pub mod SamplesFrame
 pub mod SamplesChains
+pub mod OneChain
 pub mod SamplesTaken
+pub mod SamplesCreated
 pub mod SamplesValued
 pub mod SamplesPaths
 pub mod SamplesTree

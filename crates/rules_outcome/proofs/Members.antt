@@ -6,9 +6,8 @@ use mathlib.Core.Bool.{Bool, true, false}
 use mathlib.Core.Logic.{_⊎_, inl, inr, ⊎-elim}
 use mathlib.Core.List.{List, [], _∷_, _++_, map, List·Memᴰ·not-nil, List·Memᴰ·cases-cons}
 use mathlib.Core.List.{Memᴰ·append-left, Memᴰ·append-right, List·Memᴰ·append-cases}
-use Rattle.state_keys.specs.Lists.{keep, rising}
+use Rattle.state_keys.specs.Lists.{keep}
 use Rattle.state_keys.proofs.Members.{kept-member, member-kept}
-use Rattle.state_keys.proofs.Rising.{rising-unique}
 use Rattle.rules_refusals.specs.Contents.{gather}
 use Rattle.rules_chains.specs.Chain.{In}
 use Rattle.rules_chains.proofs.Members.{in-member, member-in}
@@ -71,10 +70,3 @@ module _ {A B : Type 0} (f : A → List B) (b : B) where
       member-in b (f c ++ gather f l)
       (⊎-elim (λ e. Memᴰ·append-left (gather f l) (in-member b (f c) (subst (λ (x : A). In b (f x)) e k)))
       (λ j. Memᴰ·append-right (f c) (in-member b (gather f l) (gather-in l a j k))) (in-cases a c l m))
-
--- two lists that rise by a strict order and have the same members are one
-pub rising-one : {A : Type 0} (before : A → A → Bool) →
-    ((a b c : A) → before a b ≡ true → before b c ≡ true → before a c ≡ true) → ((a : A) → before a a ≡ false) → (l m : List A) →
-    rising before l ≡ true → rising before m ≡ true → ((a : A) → In a l → In a m) → ((a : A) → In a m → In a l) → l ≡ m
-rising-one before trans irrefl l m r q f g =
-    rising-unique before trans irrefl l m r q (λ a x. in-member a m (f a (member-in a l x))) (λ a x. in-member a l (g a (member-in a m x)))

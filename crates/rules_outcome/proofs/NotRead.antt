@@ -12,7 +12,7 @@ use Rattle.rules_refusals.specs.Number5.{number5OfFrame}
 use Rattle.rules_chains.specs.Chain.{Root}
 use Rattle.rules_outcome.specs.Roots.{rootsOf, entriesOf, wrappingSize}
 use Rattle.rules_outcome.specs.Answer.{RefusalCase, First, conditions, FrameAnswers}
-use Rattle.rules_outcome.specs.After.{Enter, HeldAre, HeldBy, After}
+use Rattle.rules_outcome.specs.After.{newRekey, rekeyCopies, Enter, HeldSet, HeldBy, After}
 use Rattle.rules_outcome.specs.Outcome.{Judged, refused, accepted, Outcome, no-layout, by-tree}
 use Rattle.rules_outcome.proofs.Rows.{own-roots, own-size, not-judged}
 
@@ -46,7 +46,11 @@ module _ (limits : Limits) (s : State) (now : ℕ) (lent other : List ℕ) where
           enter = carried (λ r n. Enter r (entriesOf f) n now f (announced f) (a .new)) (a .enter);
           table = a .table;
           held =
-              carried (λ r n. HeldBy (rowOf f .registers) (HeldAre r (entriesOf f) n limits (next .held)) (next .held ≡ s .held)) (a .held);
+              carried
+              (λ r n.
+              HeldBy (rowOf f .registers) (HeldSet r (entriesOf f) n (newRekey f) limits (rekeyCopies f) (next .held))
+              (next .held ≡ s .held))
+              (a .held);
           least = a .least;
         }
 

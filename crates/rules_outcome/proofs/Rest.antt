@@ -39,6 +39,7 @@ use Rattle.rules_chains.proofs.Members.{in-member, member-in}
 use Rattle.rules_outcome.specs.After.{delayOf, newRekey, isZero, namedInDelete, replaced, retires, oldSa, initialMessageId, leastBy}
 use Rattle.rules_outcome.specs.After.{leastAfterwards}
 use Rattle.rules_outcome.specs.Outcome.{Outcome}
+use Rattle.rules_outcome.proofs.HeldList.{new-any, any-new}
 use Rattle.rules_outcome.proofs.Rows.{registration-row, rekeys, inband-row, one-of-four}
 use Rattle.rules_outcome.specs.RestSays.{NewRekey, NoNewRekey, LeastAs, its-initial-id, else-0, of-registration, own-plus-1}
 use Rattle.rules_outcome.specs.RestSays.{none-any-more, as-before, DelayAs, given, none-in-it, no-group-wide, EndsSa, by-its-spi}
@@ -89,19 +90,11 @@ module _ (limits : Limits) (s : State) (now : ℕ) (lent octets : List ℕ) (f :
     admitted = not-false (rowOf f .admitted) (no-clause (number2OfFrame (f .header .exchange)) 0 (c .no-2 .ofFrame))
 
     -- ---- the least Message ID
-    new-any : (p : GroupSaPolicy) → NewRekey f p → newRekey f ≡ true
-    new-any p n = passes-some isRekey (announced f) p (in-member p (announced f) (n .stands)) (eq-eqb (p .protocol) 6 (n .is-rekey))
-
-    any-new : newRekey f ≡ true → (p : GroupSaPolicy) × NewRekey f p
-    any-new g =
-        let r = some-passes isRekey (announced f) g in
-        (r .one, record { stands = member-in (r .one) (announced f) (r .stands); is-rekey = eqb-true (r .one .protocol) 6 (r .passes) })
-
     no-new : NoNewRekey f → newRekey f ≡ false
-    no-new n = bool-cases (newRekey f) (λ g. let r = any-new g in absurd (n (r .0) (r .1))) (λ g. g)
+    no-new n = bool-cases (newRekey f) (λ g. let r = any-new f g in absurd (n (r .0) (r .1))) (λ g. g)
 
     not-new : newRekey f ≡ false → NoNewRekey f
-    not-new g p n = false≢true (sym g ∙ new-any p n)
+    not-new g p n = false≢true (sym g ∙ new-any f p n)
 
     initial-of : (p : GroupSaPolicy) → NewRekey f p → initialMessageId f ≡ sum (λ (i : ℕ). i) (p .initialMessageIds)
     unfolding initialMessageId
@@ -117,8 +110,8 @@ module _ (limits : Limits) (s : State) (now : ℕ) (lent octets : List ℕ) (f :
 
     as-least : (l : Least) → LeastAs f (s .least) l → leastAfterwards s f ≡ l
     unfolding leastAfterwards
-    as-least _ (its-initial-id p n i q) = rw (new-any p n) (ap Id (initial-of p n ∙ of-one (p .initialMessageIds) i q))
-    as-least _ (else-0 p n q) = rw (new-any p n) (ap Id (initial-of p n ∙ of-none (p .initialMessageIds) q))
+    as-least _ (its-initial-id p n i q) = rw (new-any f p n) (ap Id (initial-of p n ∙ of-one (p .initialMessageIds) i q))
+    as-least _ (else-0 p n q) = rw (new-any f p n) (ap Id (initial-of p n ∙ of-none (p .initialMessageIds) q))
     as-least _ (of-registration n r) = rw (no-new n) (least-row registration (registration-row f r))
     as-least _ (own-plus-1 n x h) =
         rw (no-new n) (least-row rekey (rekeys (f .header .exchange) x) ∙ sym (after-more (f .header .messageId) h))
@@ -134,8 +127,8 @@ module _ (limits : Limits) (s : State) (now : ℕ) (lent octets : List ℕ) (f :
         let i = f .header .messageId in
         bool-cases (newRekey f)
         (λ g.
-        let p = any-new g .0 in
-        let n = any-new g .1 in
+        let p = any-new f g .0 in
+        let n = any-new f g .1 in
         ⊎-elim (λ q. settled (Id 0) (else-0 p n q)) (λ q. settled (Id (q .0)) (its-initial-id p n (q .0) (q .1)))
         (at-most-one (p .initialMessageIds) (one-initial p (n .stands))))
         (λ g.
@@ -211,7 +204,7 @@ module _ (limits : Limits) (s : State) (now : ℕ) (lent octets : List ℕ) (f :
         let z : List ℕ = 0 ∷ 0 ∷ 0 ∷ 0 ∷ [] in deletes a z p m (or-left (isZero z) (same (saSpi a) z) (zero-four z refl))
     ends-retires a (by-new-rekey p q n) =
         or-right (namedInDelete f a) (replaced f a)
-        (and-whole (newRekey f) (eqb (a .protocol) 6) (new-any q n) (eq-eqb (a .protocol) 6 p))
+        (and-whole (newRekey f) (eqb (a .protocol) 6) (new-any f q n) (eq-eqb (a .protocol) 6 p))
 
     retires-ends : (a : Sa) → retires f a ≡ true → EndsSa f a
     unfolding namedInDelete replaced
@@ -231,7 +224,7 @@ module _ (limits : Limits) (s : State) (now : ℕ) (lent octets : List ℕ) (f :
         (or-cases (isZero x) (same (saSpi a) x) (r .passes)))
         (λ d.
         let p = and-parts (newRekey f) (eqb (a .protocol) 6) d in
-        let n = any-new (p .0) in
+        let n = any-new f (p .0) in
         by-new-rekey (eqb-true (a .protocol) 6 (p .1)) (n .0) (n .1))
         (or-cases (namedInDelete f a) (replaced f a) t)
 

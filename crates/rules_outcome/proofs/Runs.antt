@@ -30,7 +30,7 @@ use Rattle.rules_refusals.specs.Number6.{wrapKeyId, number6OfFrame}
 use Rattle.rules_refusals.specs.Number7.{manyWrapKeys, number7OfFrame}
 use Rattle.rules_chains.specs.Refusals.{of-entries}
 use Rattle.rules_outcome.specs.Roots.{rootsOf, entriesOf, keyZeroValue, keyZeroBy, ownKey, wrappingSize}
-use Rattle.rules_outcome.specs.After.{After, HeldAre, HeldBy, insertAll, oldSas}
+use Rattle.rules_outcome.specs.After.{newRekey, rekeyCopies, After, HeldSet, HeldBy, insertAll, oldSas}
 use Rattle.rules_outcome.specs.Outcome.{Judged, refused, accepted, Outcome, no-layout, by-tree}
 use Rattle.rules_outcome.specs.Run.{Event, Takes, answered, swept, left, Run, ends, goes, Throughout}
 use Rattle.rules_refusals.proofs.Clear.{no-clause}
@@ -74,7 +74,9 @@ module _ (limits : Limits) (enough : limits .wrapKeys ≤ limits .heldKeys) wher
 
     module _ (next : State) (a : After limits s now lent f next) where
       Set : Type 0
-      Set = HeldAre (rootsOf limits s now lent f) (entriesOf f) (wrappingSize limits s now lent f) limits (next .held)
+      Set =
+          HeldSet (rootsOf limits s now lent f) (entriesOf f) (wrappingSize limits s now lent f) (newRekey f) limits (rekeyCopies f)
+          (next .held)
 
       next-held : heldFormed limits (next .held) ≡ true
       unfolding stateFormed Set
@@ -83,8 +85,9 @@ module _ (limits : Limits) (enough : limits .wrapKeys ≤ limits .heldKeys) wher
           let size = wrappingSize limits s now lent f in
           let g = and-parts (tableFormed limits (s .table)) (heldFormed limits (s .held)) (clear-formed limits s now lent f c) in
           held-by (rowOf f .registers) (λ (h : Held). heldFormed limits h ≡ true) Set (next .held) (s .held) (a .held) (g .1)
-          (λ e are.
-          set-formed limits roots (entriesOf f) size (next .held) are (lent-size e) (λ x. c .no-8 (of-entries x)) no-zero few)
+          (λ e set.
+          set-formed limits roots (entriesOf f) size (rekeyCopies f) (next .held) (lent-size e) (λ x. c .no-8 (of-entries x)) no-zero few
+          (newRekey f) set)
 
       held-blank : HeldBlank limits (s .held) → HeldBlank limits (next .held)
       unfolding Set
@@ -92,10 +95,10 @@ module _ (limits : Limits) (enough : limits .wrapKeys ≤ limits .heldKeys) wher
           let roots = rootsOf limits s now lent f in
           let size = wrappingSize limits s now lent f in
           held-by (rowOf f .registers) (HeldBlank limits) Set (next .held) (s .held) (a .held) b
-          (λ e are.
+          (λ e set.
           record {
-            places = set-places limits roots (entriesOf f) size (next .held) are;
-            values = set-values limits roots (entriesOf f) size (next .held) are;
+            places = set-places limits roots (entriesOf f) size (rekeyCopies f) (next .held) (newRekey f) set;
+            values = set-values limits roots (entriesOf f) size (rekeyCopies f) (next .held) (newRekey f) set;
           })
 
       module _ (octets : List ℕ) (e : IsFrame octets f) where

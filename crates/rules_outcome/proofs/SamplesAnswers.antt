@@ -9,7 +9,7 @@ use Rattle.wire_frames.specs.Frame.{Frame}
 use Rattle.wire_frames.specs.Grammar.{IsFrame}
 use Rattle.state.specs.declared.State.{State}
 use Rattle.rules_refusals.specs.Refusals.{Number, one, applies, number2, number3, number4, number5, number6, number7}
-use Rattle.rules_outcome.specs.Answer.{KeyConflictOf}
+use Rattle.rules_outcome.specs.Answer.{KeyConflictOf, KeyMissingOf}
 use Rattle.rules_outcome.specs.After.{After}
 use Rattle.rules_outcome.specs.Outcome.{refused, accepted, Outcome, by-tree}
 use Rattle.rules_outcome.proofs.RunsClear.{None, Clear}
@@ -88,6 +88,27 @@ module _ (limits : Limits) (s : State) (now : ℕ) (lent octets : List ℕ) (f :
                   inr (
                     not-applies (number5 lent f) n5,
                     inr (not-applies (number6 s now f) n6, inr (not-applies (number7 limits s now f) n7, inl (h, refl))),
+                  ),
+                ),
+              ),
+            )))
+
+        pub outcome-9 : (KeyConflictOf limits s now lent f → ⊥) → KeyMissingOf limits s now lent f → Outcome limits s now lent octets 9 s
+        outcome-9 n8 h =
+            by-tree f e
+            (refused 8
+            (inr (
+              not-applies (number2 limits s now (f .header .exchange) (f .header .spi)) n2,
+              inr (
+                not-applies (number3 s (f .header .exchange) (f .header .messageId)) n3,
+                inr (
+                  not-applies (number4 f) n4,
+                  inr (
+                    not-applies (number5 lent f) n5,
+                    inr (
+                      not-applies (number6 s now f) n6,
+                      inr (not-applies (number7 limits s now f) n7, inr (n8, inl (h, refl))),
+                    ),
                   ),
                 ),
               ),

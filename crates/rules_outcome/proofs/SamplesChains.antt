@@ -29,8 +29,8 @@ module _ (roots : List Root) (entries : List WrapKey) (size : ℕ) (Good : ℕ �
   each-chain _ _ _ (step {passed} {k} {v} {x} e c t l) =
       at-step e (l .entry) v x (subst (λ (i : ℕ). Good i v) (sym (l .names)) (each-chain passed k v c)) (l .opens)
 
--- ---- an entry of one, two or three, by its place
-one-entry : {A : Type 0} (a b : A) → In a (b ∷ []) → a ≡ b
+-- ---- what stands in a list of one
+pub one-entry : {A : Type 0} (a b : A) → In a (b ∷ []) → a ≡ b
 one-entry a b m = List·Memᴰ·eq-of-singleton (in-member a (b ∷ []) m)
 
 -- octets wrapped under a key open under it, and to nothing else

@@ -3,24 +3,22 @@ use native.Mathlib.Omega.{arith}
 use Prim.Native.Nat.{ℕ}
 use mathlib.Core.Path.{_≡_, refl, ap, sym, subst}
 use mathlib.Core.Logic.{_⊎_, inl, inr, ⊎-elim}
-use mathlib.Core.List.{List, [], _∷_, List·Memᴰ·eq-of-singleton, List·Memᴰ·not-nil, List·Memᴰ·cases-cons}
+use mathlib.Core.List.{List, [], _∷_, List·Memᴰ·eq-of-singleton, List·Memᴰ·cases-cons}
 use lib.ListN.{length}
 use Rattle.fips197.specs.Key.{Key}
 use Rattle.rfc5649.specs.Wrap.{wrapOf}
 use Rattle.rfc5649.specs.Opens.{Opens}
-use Rattle.state_keys.specs.Limits.{limits}
-use Rattle.state_keys.specs.Lists.{any, rising}
+use Rattle.state_keys.specs.Lists.{any}
 use Rattle.wire_attributes.specs.Tree.{WrapKey}
-use Rattle.state.specs.Held.{heldOf}
-use Rattle.rules_chains.specs.Chain.{In, Root, Chain, root, step, Reached}
+use Rattle.rules_chains.specs.Chain.{In, Root, Chain, root, step, Reached, ChainEnds}
 use Rattle.rules_chains.specs.Refusals.{EntriesConflict, wrong-size, two-values}
 use Rattle.rules_chains.proofs.Determined.{last-entry}
-use Rattle.rules_outcome.specs.After.{HeldAre}
 use Rattle.rules_outcome.specs.Samples.{entry, FitKey, circle, Says}
 use Rattle.rules_outcome.specs.Samples as samples
 use Rattle.rules_chains.proofs.Members.{in-member}
 use Rattle.rules_outcome.proofs.SamplesChains.{each-chain, wraps, zeroRoot}
-use Rattle.rules_outcome.proofs.SamplesTaken.{registers-0, registers-8}
+use Rattle.rules_outcome.proofs.SamplesTaken.{registers-8}
+use Rattle.rules_outcome.proofs.SamplesCreated.{created-9}
 
 one-of-two : {A : Type 0} (a b c : A) → In a (b ∷ c ∷ []) → (a ≡ b) ⊎ (a ≡ c)
 one-of-two a b c m =
@@ -39,12 +37,17 @@ module _ (lent a b : List ℕ) where
       ⊎-elim (λ i. subst Stays (sym i) (λ v y g o. absurd (omega arith))) (λ i. subst Stays (sym i) (λ v y g o. absurd (omega arith)))
       (one-of-two e (entry 5 9 a) (entry 9 5 b) m)
 
+  -- so that each chain ends on key 0
+  ends-0 : (k : ℕ) (y : List ℕ) → ChainEnds (zeroRoot lent ∷ []) around (length lent) k y → k ≡ 0
+  ends-0 k y n =
+      let R = zeroRoot lent ∷ [] in
+      each-chain R around (length lent) (λ (i : ℕ) (v : List ℕ). i ≡ 0)
+      (λ q m. ap (λ (w : Root). w .id) (List·Memᴰ·eq-of-singleton (in-member q R m))) none-goes (n .passed) k y (n .chain)
+
   none-reached : (k : ℕ) (y : List ℕ) → Reached (zeroRoot lent ∷ []) around (length lent) k y → ⊥
   none-reached k y r =
       let R = zeroRoot lent ∷ [] in
-      let z : k ≡ 0 =
-      each-chain R around (length lent) (λ (i : ℕ) (v : List ℕ). i ≡ 0)
-      (λ q m. ap (λ (w : Root). w .id) (List·Memᴰ·eq-of-singleton (in-member q R m))) none-goes (r .last ∷ r .before) k y (r .chain) in
+      let z = ends-0 k y (record { passed = r .last ∷ r .before; chain = r .chain }) in
       let e = last-entry R around (length lent) k y r in
       ⊎-elim (λ i. let n : r .last .keyId ≡ 5 = ap (λ (w : WrapKey). w .keyId) i in let q = e .1 in omega arith)
       (λ i. let n : r .last .keyId ≡ 9 = ap (λ (w : WrapKey). w .keyId) i in let q = e .1 in omega arith)
@@ -54,21 +57,14 @@ module _ (lent a b : List ℕ) where
   no-fault-around (wrong-size k y r n) = none-reached k y r
   no-fault-around (two-values k y z r q n) = none-reached k y r
 
-  held-none : HeldAre (zeroRoot lent ∷ []) around (length lent) limits (heldOf limits [])
-  unfolding rising
-  held-none = record {
-    keys = [];
-    is = refl;
-    rise = refl;
-    each = λ k m. absurd (List·Memᴰ·not-nil (in-member k [] m));
-    all = λ i y v. absurd (none-reached i y (v .reached));
-  }
+  unnamed : (y : List ℕ) → ChainEnds (zeroRoot lent ∷ []) around (length lent) 5 y → ⊥
+  unnamed y n = let z = ends-0 5 y n in omega arith
 
 pub circle-holds : Says circle
 unfolding any
-circle-holds r now lent x a b octets g =
-    registers-0 r now lent x octets (entry 5 9 a ∷ entry 9 5 b ∷ []) (g .key) (g .keying) (g .reads) refl refl (omega arith)
-    (no-fault-around lent a b) [] (held-none lent a b)
+circle-holds r now lent x v₅ a b octets g =
+    created-9 r now lent x 5 v₅ (entry 5 9 a ∷ entry 9 5 b ∷ []) octets g refl refl (omega arith) (unnamed lent a b)
+    (no-fault-around lent a b)
 
 -- ---- (5 under 0) and (5 under 9), (9 under 0), two values for 5
 module _ (lent v w v₉ : List ℕ) (key : Key lent) (kv : FitKey lent v) (kw : FitKey lent w) (k₉ : FitKey lent v₉) where

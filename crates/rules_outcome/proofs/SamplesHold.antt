@@ -1,4 +1,4 @@
--- EACH OF DOCUMENT 01'S SAMPLES MARKED P HOLDS, and the row of ours.
+-- EACH OF DOCUMENT 01'S SAMPLES MARKED P HOLDS, and the rows of ours.
 use mathlib.Core.Path.{refl, ap, _∙_}
 use Rattle.octets.specs.Numbers.{number}
 use Rattle.octets.specs.Walk.{chain, chainUpTo, many}
@@ -10,10 +10,10 @@ use Rattle.state_sa.proofs.Samples.{wrapped-elapsed, wrapped-not-due, wrapped-d
 use Rattle.state_sa.proofs.Samples as clock
 use Rattle.rules_outcome.specs.Samples.{Sample, clock-wraps, delay-zero, least-seven, last-id}
 use Rattle.rules_outcome.specs.Samples.{two-steps, circle, two-values, lent-of-28}
-use Rattle.rules_outcome.specs.Samples.{key-length-128, key-tree, Says}
+use Rattle.rules_outcome.specs.Samples.{key-length-128, key-tree, no-rekey-sa, Says}
 use Rattle.rules_outcome.proofs.SamplesRekeys.{least-seven-holds, last-id-holds}
 use Rattle.rules_outcome.proofs.SamplesFrame.{lent-of-28-holds}
-use Rattle.rules_outcome.proofs.SamplesPaths.{two-steps-holds}
+use Rattle.rules_outcome.proofs.SamplesPaths.{two-steps-holds, no-rekey-sa-holds}
 use Rattle.rules_outcome.proofs.SamplesTree.{key-tree-holds}
 use Rattle.rules_outcome.proofs.SamplesEntries.{circle-holds, two-values-holds}
 
@@ -43,3 +43,4 @@ samples-hold two-values = two-values-holds
 samples-hold lent-of-28 = lent-of-28-holds
 samples-hold key-length-128 = key-length-holds
 samples-hold key-tree = key-tree-holds
+samples-hold no-rekey-sa = no-rekey-sa-holds

@@ -26,12 +26,12 @@ use Rattle.rules_outcome.specs.Run.{StandsAt}
 use Rattle.rules_outcome.specs.Samples.{Around, registering, entry, Keying, FitKey, Registers, Creates}
 use Rattle.rules_outcome.specs.Samples.{Sample, clock-wraps, delay-zero, least-seven, last-id}
 use Rattle.rules_outcome.specs.Samples.{two-steps, circle, two-values, lent-of-28}
-use Rattle.rules_outcome.specs.Samples.{key-length-128, key-tree}
+use Rattle.rules_outcome.specs.Samples.{key-length-128, key-tree, no-rekey-sa}
 use Rattle.rules_outcome.proofs.AtTick.{rekeySpi, one, seven, seven-formed, seven-stands, not-due, one-in, over-one}
 use Rattle.rules_outcome.proofs.SamplesRekeys.{deleted, delete-taken, deleted-stands}
-use Rattle.rules_outcome.proofs.SamplesRead.{around, Rekeyed, two-steps-read, two-values-read, circle-read, plain-read}
+use Rattle.rules_outcome.proofs.SamplesRead.{around, Rekeyed, no-rekey-read, two-values-read, plain-read}
 use Rattle.rules_outcome.proofs.SamplesRead.{laid-out, rekeys-read}
-use Rattle.rules_outcome.proofs.SamplesReadTree.{treeAround, treeAt, tree-octets, tree-creates}
+use Rattle.rules_outcome.proofs.SamplesReadTree.{treeAround, tree-read, two-steps-read, circle-read, creates-by}
 
 -- ---- what a row asks for, as in specs/Samples.antt; the octets of its frame are below 256
 pub record Messages (l : Least → Type 0) (ids : List ℕ → Type 0) : Type 0 where
@@ -78,16 +78,19 @@ pub record Values : Type 0 where
   pub small : Octets octets
   pub registers : Registers r lent x (entry 5 0 (wrapOf lent v) ∷ entry 5 9 (wrapOf v₉ w) ∷ entry 9 0 (wrapOf lent v₉) ∷ []) octets
 
-pub record Tree : Type 0 where
+-- the SA_KEY under the value v of key k
+pub record Created (k : ℕ) (made : List ℕ → List ℕ → List ℕ → List ℕ → List WrapKey) (Asked : List ℕ → List ℕ → List ℕ → Type 0) :
+    Type 0 where
   pub r : Around
   pub lent : List ℕ
   pub x : List ℕ
-  pub v₁ : List ℕ
-  pub v₃ : List ℕ
-  pub v₇ : List ℕ
+  pub v : List ℕ
+  pub first : List ℕ
+  pub second : List ℕ
+  pub asked : Asked lent first second
   pub octets : List ℕ
   pub small : Octets octets
-  pub creates : Creates r lent x v₁ v₃ v₇ octets
+  pub creates : Creates r lent x k v (made lent v first second) octets
 
 pub record Lent : Type 0 where
   pub r : Around
@@ -108,13 +111,17 @@ Inhabited last-id =
     (m : Messages (λ (l : Least). acceptable 4294967295 l ≡ true) (λ (x : List ℕ). Rekeyed x 4294967295))
     × Later (m .state) (m .spi) 4294967295 9
 Inhabited two-steps =
-    Entries (λ lent v₅ v₉. entry 5 9 (wrapOf v₉ v₅) ∷ entry 9 0 (wrapOf lent v₉) ∷ [])
-    (λ lent v₅ v₉. FitKey lent v₅ × FitKey lent v₉)
-Inhabited circle = Entries (λ lent w₅ w₉. entry 5 9 w₅ ∷ entry 9 5 w₉ ∷ []) (λ lent w₅ w₉. Unit {0})
+    Created 5 (λ lent v₅ v₉ rest. entry 5 9 (wrapOf v₉ v₅) ∷ entry 9 0 (wrapOf lent v₉) ∷ []) (λ lent v₉ rest. FitKey lent v₉)
+Inhabited circle = Created 5 (λ lent v₅ w₅ w₉. entry 5 9 w₅ ∷ entry 9 5 w₉ ∷ []) (λ lent w₅ w₉. Unit {0})
 Inhabited two-values = Values
 Inhabited lent-of-28 = Lent
 Inhabited key-length-128 = Unit {0}
-Inhabited key-tree = Tree
+Inhabited key-tree =
+    Created 1 (λ lent v₁ v₃ v₇. entry 1 3 (wrapOf v₃ v₁) ∷ entry 3 7 (wrapOf v₇ v₃) ∷ entry 7 0 (wrapOf lent v₇) ∷ [])
+    (λ lent v₃ v₇. FitKey lent v₃ × FitKey lent v₇)
+Inhabited no-rekey-sa =
+    Entries (λ lent v₅ v₉. entry 5 9 (wrapOf v₉ v₅) ∷ entry 9 0 (wrapOf lent v₉) ∷ [])
+    (λ lent v₅ v₉. FitKey lent v₅ × FitKey lent v₉)
 
 same-octets : (n k : ℕ) → k < 256 → Octets (replicate n k)
 same-octets zero k h = no-octets
@@ -187,32 +194,39 @@ samples-inhabited last-id =
       taken-once 4294967295 9 refl (r .3) (r .2),
     )
 samples-inhabited two-steps =
-    let read = two-steps-read lentKey (replicate 20 7) (replicate 16 9) (key-16 1 (omega arith)) refl keying (fits 9 (omega arith))
-    (replicate 16 5) (fits 5 (omega arith)) in
+    let key = key-16 1 (omega arith) in
+    let small = same-octets 36 7 (omega arith) in
+    let read = two-steps-read lentKey (replicate 36 7) (replicate 16 5) key refl refl small (fits 5 (omega arith)) (replicate 16 9)
+    (fits 9 (omega arith)) in
     record {
-      r = around;
+      r = treeAround;
       lent = lentKey;
-      x = replicate 20 7;
-      first = replicate 16 5;
-      second = replicate 16 9;
-      asked = (fits 5 (omega arith), fits 9 (omega arith));
+      x = replicate 36 7;
+      v = replicate 16 5;
+      first = replicate 16 9;
+      second = [];
+      asked = fits 9 (omega arith);
       octets = read .octets;
       small = read .small;
-      registers = record { key = key-16 1 (omega arith); keying = keying; reads = laid-out _ read };
+      creates = creates-by lentKey (replicate 36 7) (replicate 16 5) key refl refl small (fits 5 (omega arith)) 5 _ read;
     }
 samples-inhabited circle =
-    let read = circle-read lentKey (replicate 20 7) (replicate 24 0) (replicate 24 0) (key-16 1 (omega arith)) keying refl
-    (same-octets 24 0 (omega arith)) refl (same-octets 24 0 (omega arith)) in
+    let key = key-16 1 (omega arith) in
+    let small = same-octets 36 7 (omega arith) in
+    let wrapped = same-octets 24 0 (omega arith) in
+    let read = circle-read lentKey (replicate 36 7) (replicate 16 5) key refl refl small (fits 5 (omega arith)) (replicate 24 0)
+    (replicate 24 0) refl wrapped refl wrapped in
     record {
-      r = around;
+      r = treeAround;
       lent = lentKey;
-      x = replicate 20 7;
+      x = replicate 36 7;
+      v = replicate 16 5;
       first = replicate 24 0;
       second = replicate 24 0;
       asked = tt;
       octets = read .octets;
       small = read .small;
-      registers = record { key = key-16 1 (omega arith); keying = keying; reads = laid-out _ read };
+      creates = creates-by lentKey (replicate 36 7) (replicate 16 5) key refl refl small (fits 5 (omega arith)) 5 _ read;
     }
 samples-inhabited two-values =
     let read = two-values-read lentKey (replicate 20 7) (replicate 16 9) (key-16 1 (omega arith)) refl keying (fits 9 (omega arith))
@@ -244,18 +258,34 @@ samples-inhabited lent-of-28 =
 samples-inhabited key-length-128 = tt
 samples-inhabited key-tree =
     let key = key-16 1 (omega arith) in
-    let w₁ = fits 5 (omega arith) in
+    let small = same-octets 36 7 (omega arith) in
     let w₃ = fits 6 (omega arith) in
     let w₇ = fits 9 (omega arith) in
-    let small = same-octets 36 7 (omega arith) in
+    let read = tree-read lentKey (replicate 36 7) (replicate 16 5) key refl refl small (fits 5 (omega arith)) (replicate 16 6)
+    (replicate 16 9) w₃ w₇ in
     record {
       r = treeAround;
       lent = lentKey;
       x = replicate 36 7;
-      v₁ = replicate 16 5;
-      v₃ = replicate 16 6;
-      v₇ = replicate 16 9;
-      octets = treeAt lentKey (replicate 36 7) (replicate 16 5) (replicate 16 6) (replicate 16 9) key refl refl small w₁ w₃ w₇;
-      small = tree-octets lentKey (replicate 36 7) (replicate 16 5) (replicate 16 6) (replicate 16 9) key refl refl small w₁ w₃ w₇;
-      creates = tree-creates lentKey (replicate 36 7) (replicate 16 5) (replicate 16 6) (replicate 16 9) key refl refl small w₁ w₃ w₇;
+      v = replicate 16 5;
+      first = replicate 16 6;
+      second = replicate 16 9;
+      asked = (w₃, w₇);
+      octets = read .octets;
+      small = read .small;
+      creates = creates-by lentKey (replicate 36 7) (replicate 16 5) key refl refl small (fits 5 (omega arith)) 1 _ read;
+    }
+samples-inhabited no-rekey-sa =
+    let read = no-rekey-read lentKey (replicate 20 7) (replicate 16 9) (key-16 1 (omega arith)) refl keying (fits 9 (omega arith))
+    (replicate 16 5) (fits 5 (omega arith)) in
+    record {
+      r = around;
+      lent = lentKey;
+      x = replicate 20 7;
+      first = replicate 16 5;
+      second = replicate 16 9;
+      asked = (fits 5 (omega arith), fits 9 (omega arith));
+      octets = read .octets;
+      small = read .small;
+      registers = record { key = key-16 1 (omega arith); keying = keying; reads = laid-out _ read };
     }

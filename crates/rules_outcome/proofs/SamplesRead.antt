@@ -79,12 +79,6 @@ unfolding frame payload body policy suite saBody selector transform bag attribut
     selectorOctets gsaOctets firsts entryOctets registrationOctets
 two-read w a b = refl
 
-around-read : (w a b : List ℕ) → frame (registrationOctets 0 224 132 76 w (entryOctets 5 9 a ++ entryOctets 9 5 b))
-    ≡ whole (registering around (firsts 32 w) (entry 5 9 (firsts 24 a) ∷ entry 9 5 (firsts 24 b) ∷ [])) []
-unfolding frame payload body policy suite saBody selector transform bag attribute many chain chainUpTo number valuesOf group anywhere around
-    selectorOctets gsaOctets firsts entryOctets registrationOctets
-around-read w a b = refl
-
 three-read : (w a b c : List ℕ) →
     frame (registrationOctets 1 4 168 112 w (entryOctets 5 0 a ++ (entryOctets 5 9 b ++ entryOctets 9 0 c)))
     ≡ whole (registering around (firsts 32 w) (entry 5 0 (firsts 24 a) ∷ entry 5 9 (firsts 24 b) ∷ entry 9 0 (firsts 24 c) ∷ [])) []
@@ -118,7 +112,7 @@ pub wrapped-octets : (key x : List ℕ) → Key key → Octets x → Octets (wra
 wrapped-octets key x k o =
     subst Octets (sym (wrap-registers key x k o)) (octets-in-octets (forward key (blocks (length x)) (startRegisters x)))
 
-firsts-octets : (n : ℕ) (w : List ℕ) → length w ≡ n → Octets w → Octets (firsts n w)
+pub firsts-octets : (n : ℕ) (w : List ℕ) → length w ≡ n → Octets w → Octets (firsts n w)
 firsts-octets n w e o = subst Octets (sym (all-firsts n w e)) o
 
 pub entry-octets : (i k : ℕ) (w : List ℕ) → i < 256 → k < 256 → Octets (firsts 24 w) → Octets (entryOctets i k w)
@@ -165,9 +159,9 @@ module _ (lent x v₉ : List ℕ) (key : Key lent) (size : length lent ≡ 16) (
   under-octets : (k v : List ℕ) → Key k → FitKey lent v → Octets (firsts 24 (wrapOf k v))
   under-octets k v i h = subst Octets (sym (under k v i h)) (wrapped-octets k v i (h .key .small))
 
-  pub two-steps-read : (v₅ : List ℕ) → FitKey lent v₅ →
+  pub no-rekey-read : (v₅ : List ℕ) → FitKey lent v₅ →
       Read (registering around (wrapOf lent x) (entry 5 9 (wrapOf v₉ v₅) ∷ entry 9 0 (wrapOf lent v₉) ∷ []))
-  two-steps-read v₅ w₅ = record {
+  no-rekey-read v₅ w₅ = record {
     octets = registrationOctets 0 224 132 76 (wrapOf lent x) (entryOctets 5 9 (wrapOf v₉ v₅) ++ entryOctets 9 0 (wrapOf lent v₉));
     small =
         registration-octets 0 224 132 76 (wrapOf lent x) (entryOctets 5 9 (wrapOf v₉ v₅) ++ entryOctets 9 0 (wrapOf lent v₉))
@@ -200,23 +194,6 @@ module _ (lent x v₉ : List ℕ) (key : Key lent) (size : length lent ≡ 16) (
         whole (registering around (x-is i)
         (entry 5 0 (under lent v key kv i) ∷ entry 5 9 (under v₉ w (w₉ .key) kw i) ∷ entry 9 0 (under lent v₉ key w₉ i) ∷ [])) []);
   }
-
-pub circle-read : (lent x a b : List ℕ) → Key lent → Keying x → length a ≡ 24 → Octets a → length b ≡ 24 → Octets b →
-    Read (registering around (wrapOf lent x) (entry 5 9 a ∷ entry 9 5 b ∷ []))
-circle-read lent x a b key keying na oa nb ob = record {
-  octets = registrationOctets 0 224 132 76 (wrapOf lent x) (entryOctets 5 9 a ++ entryOctets 9 5 b);
-  small =
-      registration-octets 0 224 132 76 (wrapOf lent x) (entryOctets 5 9 a ++ entryOctets 9 5 b) (omega arith) (omega arith) (omega arith)
-      (omega arith) (subst Octets (sym (wrapped-32 lent x key keying)) (wrapped-octets lent x key (keying .octets)))
-      (join-octets (entryOctets 5 9 a) (entryOctets 9 5 b)
-      (entry-octets 5 9 a (omega arith) (omega arith) (firsts-octets 24 a na oa))
-      (entry-octets 9 5 b (omega arith) (omega arith) (firsts-octets 24 b nb ob)));
-  reads =
-      around-read (wrapOf lent x) a b
-      ∙ (λ i.
-      whole (registering around (wrapped-32 lent x key keying i)
-      (entry 5 9 (all-firsts 24 a na i) ∷ entry 9 5 (all-firsts 24 b nb i) ∷ [])) []);
-}
 
 -- a registration with a Member bag that has no entry
 pub plain-read : Read (registering around (replicate 32 0) [])

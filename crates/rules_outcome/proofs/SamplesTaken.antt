@@ -1,4 +1,4 @@
--- The registration in which the samples' entries stand is taken, with the held list that its entries lead to; or it is 8.
+-- The registration without a Rekey SA in which samples' entries stand is taken, with an empty held list; or it is 8.
 use native.Mathlib.Omega.{arith}
 use Prim.Native.Nat.{ℕ, _≤_}
 use mathlib.Core.Path.{_≡_, refl, ap, sym, subst}
@@ -19,7 +19,6 @@ use Rattle.wire_frames.specs.Frame.{Frame}
 use Rattle.wire_frames.specs.Grammar.{IsFrame}
 use Rattle.wire_frames.specs.declared.exchanges.Exchange.{Exchange}
 use Rattle.state_table.specs.Table.{tableOf}
-use Rattle.state.specs.declared.held.HeldKey.{HeldKey}
 use Rattle.state.specs.Held.{heldOf}
 use Rattle.state.specs.State.{newState}
 use Rattle.rules_refusals.specs.Contents.{gather}
@@ -30,7 +29,7 @@ use Rattle.rules_chains.specs.Refusals.{Announced, EntriesConflict, KeyConflict
 use Rattle.rules_outcome.specs.Answer.{KeyConflictOf, KeyMissingOf}
 use Rattle.rules_outcome.specs.Roots.{keyZeroValue, rootsOf, entriesOf, wrappingSize, copiesOf, needOf, announcedAs, announcedKeys}
 use Rattle.rules_outcome.specs.After.{lifetimeFrom, saFrom, oldSas, insertAll, one-more}
-use Rattle.rules_outcome.specs.After.{no-sa, HeldAre, HeldBy, leastAfterwards, After}
+use Rattle.rules_outcome.specs.After.{no-sa, newRekey, rekeyCopies, HeldSet, HeldBy, leastAfterwards, After}
 use Rattle.rules_outcome.specs.Outcome.{Outcome}
 use Rattle.rules_outcome.specs.Samples.{Around, espPolicy, registering, registered, Keying}
 use Rattle.rules_chains.proofs.Members.{in-member}
@@ -102,8 +101,7 @@ module _ (r : Around) (now : ℕ) (lent x octets : List ℕ) (l : List WrapKey) 
       (fresh-5 r now w l lent (key-size (length lent) (key .size))) (fresh-6 r now w l no-zero no-self) (fresh-7 r now w l few)
       (subst (λ (A : Type 0). A) (sym eight-is) (of-entries h))
 
-  module _ (none : EntriesConflict R l (length lent) → ⊥) (keys : List HeldKey)
-      (are : HeldAre R l (length lent) limits (heldOf limits keys)) where
+  module _ (none : EntriesConflict R l (length lent) → ⊥) where
     clear-registers : Clear limits (newState limits) now lent g
     clear-registers = record {
       no-2 = fresh-2 r now w l;
@@ -120,19 +118,17 @@ module _ (r : Around) (now : ℕ) (lent x octets : List ℕ) (l : List WrapKey) 
           (at-zero lent l not-zero) (subst (λ (A : Type 0). A) nine-is h);
     }
 
-    Set : Type 0
-    Set = HeldAre (rootsOf limits (newState limits) now lent g) (entriesOf g) (wrappingSize limits (newState limits) now lent g) limits
-        (heldOf limits keys)
+    abbrev Set : Type 0
+    Set =
+        HeldSet (rootsOf limits (newState limits) now lent g) (entriesOf g) (wrappingSize limits (newState limits) now lent g) (newRekey g)
+        limits (rekeyCopies g) (heldOf limits [])
 
     held-set : Set
-    unfolding Set
-    held-set =
-        subst (λ (A : Type 0). A)
-        (sym (λ i.
-        HeldAre (roots-are r now lent w l i) (entries-are r now lent w l i) (size-is r now lent w l i) limits (heldOf limits keys))) are
+    unfolding any gather
+    held-set = refl
 
-    after-registers : After limits (newState limits) now lent g (registered r x keys)
-    unfolding Set gather newState tableOf keep oldSas insertAll insert saFrom lifetimeFrom leastAfterwards any
+    after-registers : After limits (newState limits) now lent g (registered r x)
+    unfolding gather newState tableOf keep oldSas insertAll insert saFrom lifetimeFrom leastAfterwards any
     after-registers = record {
       new = saFrom now (espPolicy r) x ∷ [];
       enter =
@@ -141,10 +137,9 @@ module _ (r : Around) (now : ℕ) (lent x octets : List ℕ) (l : List WrapKey) 
           (copy-opens R l (length lent) 0 20 lent x key (keying .octets) (keying .size) (omega arith) (omega arith)
           (ends-zero lent l not-zero) (at-zero lent l not-zero))) no-sa;
       table = refl;
-      held = subst (λ (e : Exchange). HeldBy (e .registers) Set (heldOf limits keys ≡ newState limits .held))
-          (sym (row-of (r .auth))) held-set;
+      held = subst (λ (e : Exchange). HeldBy (e .registers) Set (heldOf limits [] ≡ newState limits .held)) (sym (row-of (r .auth))) held-set;
       least = rw (row-of (r .auth));
     }
 
-    pub registers-0 : Outcome limits (newState limits) now lent octets 0 (registered r x keys)
-    registers-0 = outcome-0 limits (newState limits) now lent octets g reads clear-registers (registered r x keys) after-registers
+    pub registers-0 : Outcome limits (newState limits) now lent octets 0 (registered r x)
+    registers-0 = outcome-0 limits (newState limits) now lent octets g reads clear-registers (registered r x) after-registers

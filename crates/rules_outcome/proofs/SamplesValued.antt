@@ -1,26 +1,19 @@
--- Entries in which each Key ID has one value, whatever chain leads to it: what they reach, and the held list.
+-- Entries in which each Key ID has one value, whatever chain leads to it: what they reach, and the chains.
 use Prim.Native.Nat.{ℕ}
 use mathlib.Core.Path.{_≡_, refl, ap, sym, _∙_, subst}
 use mathlib.Core.Bool.{Bool, true, false, cond}
 use mathlib.Core.Logic.{⊎-elim}
-use mathlib.Core.List.{List, [], _∷_, map, List·Memᴰ·eq-of-singleton}
+use mathlib.Core.List.{List, [], _∷_, List·Memᴰ·eq-of-singleton}
 use lib.Dec.{eqb}
 use lib.ListN.{length}
 use Rattle.rfc5649.specs.Wrap.{wrapOf}
 use Rattle.rfc5649.specs.Opens.{Opens}
-use Rattle.state_keys.specs.Limits.{limits}
-use Rattle.state_keys.specs.Lists.{rising}
 use Rattle.wire_attributes.specs.Tree.{WrapKey}
-use Rattle.state.specs.declared.held.HeldKey.{HeldKey}
-use Rattle.state.specs.Held.{heldOf, idBefore}
-use Rattle.rules_chains.specs.Chain.{In, Root, Reached, ChainEnds}
-use Rattle.rules_chains.specs.Refusals.{EntriesConflict, wrong-size, two-values}
-use Rattle.rules_chains.proofs.Closure.{reached-first, reached-on}
-use Rattle.rules_chains.proofs.Determined.{last-entry}
+use Rattle.rules_chains.specs.Chain.{In, Root, Chain, root, step, Reached, ChainEnds}
+use Rattle.rules_chains.specs.Refusals.{EntriesConflict, wrong-size, two-values, Value}
 use Rattle.rules_chains.proofs.Members.{in-member}
-use Rattle.rules_outcome.specs.After.{HoldsKey, HeldAre}
-use Rattle.rules_outcome.specs.Samples.{heldWith, FitKey}
-use Rattle.rules_outcome.proofs.Members.{in-head, in-cases, not-in-none, in-map, map-in}
+use Rattle.rules_outcome.specs.Samples.{FitKey}
+use Rattle.rules_outcome.proofs.Members.{in-head, in-cases, not-in-none}
 use Rattle.rules_outcome.proofs.SamplesChains.{each-chain, wraps, wraps-only, zeroRoot}
 
 -- each of a list, one by one
@@ -77,37 +70,15 @@ module _ (value : ℕ → List ℕ) (fit : (k : ℕ) → FitKey (value 0) (value
       subst (λ (w : List ℕ). Opens (value (e .kwkId)) w (value (e .keyId))) (sym (wrapped e m))
       (wraps (value (e .kwkId)) (value (e .keyId)) (fit (e .kwkId) .key) (fit (e .keyId) .key))
 
-  pub first : (e : WrapKey) → In e l → e .kwkId ≡ 0 → Reached R l size (e .keyId) (value (e .keyId))
+  pub first : (e : WrapKey) → In e l → e .kwkId ≡ 0 → Chain R l size (e ∷ []) (e .keyId) (value (e .keyId))
   first e m n =
-      reached-first R l size (zeroRoot (value 0)) (in-head (zeroRoot (value 0)) (zeroRoot (value 0)) [] refl) e m n (value (e .keyId))
-      (subst (λ (k : ℕ). Opens (value k) (e .wrapped) (value (e .keyId))) n (opens e m))
+      step e (root (zeroRoot (value 0)) (in-head (zeroRoot (value 0)) (zeroRoot (value 0)) [] refl)) tt
+      (record { entry = m; names = n; opens = subst (λ (k : ℕ). Opens (value k) (e .wrapped) (value (e .keyId))) n (opens e m) })
 
-  pub on : (e : WrapKey) → In e l → Reached R l size (e .kwkId) (value (e .kwkId)) → Reached R l size (e .keyId) (value (e .keyId))
-  on e m r = reached-on R l size (e .kwkId) (value (e .kwkId)) r (fit (e .kwkId) .size) e m refl (value (e .keyId)) (opens e m)
+  pub on : (d : WrapKey) (p : List WrapKey) (e : WrapKey) → In e l → Chain R l size (d ∷ p) (e .kwkId) (value (e .kwkId)) →
+      Chain R l size (e ∷ d ∷ p) (e .keyId) (value (e .keyId))
+  on d p e m c = step e c (fit (e .kwkId) .size) (record { entry = m; names = refl; opens = opens e m })
 
-  -- ---- the held list, by the Key IDs of the entries
-  abbrev held : ℕ → HeldKey
-  held i = heldWith i (value i)
-
-  module _ (ids : List ℕ) (rise : rising idBefore (map held ids) ≡ true) (leads : Each (λ (i : ℕ). Reached R l size i (value i)) ids)
-      (only : Each (λ (e : WrapKey). In (e .keyId) ids) l) where
-    holds : (i : ℕ) → In i ids → HoldsKey R l size (held i)
-    holds i m =
-        record {
-          x = value i;
-          key-is = refl;
-          value = record { reached = each-in (λ (j : ℕ). Reached R l size j (value j)) ids leads i m; every = valued i };
-        }
-
-    pub held-are : HeldAre R l size limits (heldOf limits (map held ids))
-    held-are = record {
-      keys = map held ids;
-      is = refl;
-      rise = rise;
-      each = λ k m. let r = in-map held k ids m in subst (HoldsKey R l size) (sym (r .is)) (holds (r .item) (r .stands));
-      all = λ i y v.
-          let e = last-entry R l size i y (v .reached) in
-          map-in held (heldWith i y) ids i
-          (subst (λ (j : ℕ). In j ids) (e .1) (each-in (λ (w : WrapKey). In (w .keyId) ids) l only (v .reached .last) (e .0)))
-          (ap (heldWith i) (valued i y (v .reached)));
-    }
+  -- the key on which a chain ends has this value
+  pub has-value : (d : WrapKey) (p : List WrapKey) (k : ℕ) → Chain R l size (d ∷ p) k (value k) → Value R l size k (value k)
+  has-value d p k c = record { reached = record { last = d; before = p; chain = c }; every = valued k }

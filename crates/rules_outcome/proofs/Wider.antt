@@ -27,7 +27,7 @@ use Rattle.state.specs.declared.least.Least.{Least}
 use Rattle.state.specs.declared.least.Least.the-variants.{Id}
 use Rattle.state.specs.declared.held.HeldKey.{HeldKey}
 use Rattle.state.specs.declared.held.Held.{Held}
-use Rattle.state.specs.Held.{keysOf, heldOf, heldFormed, keyFormed, idBefore}
+use Rattle.state.specs.Held.{keysOf, heldOf, heldFormed, keyFormed, idsOf, distinct}
 use Rattle.state.specs.State.{stateFormed}
 use Rattle.state.proofs.Kept.{keys-of-held}
 use Rattle.rules_refusals.specs.Contents.{rowOf, announced, groupBags, wrapKeysOf, deletedSpis}
@@ -42,10 +42,11 @@ use Rattle.rules_refusals.proofs.Clear.{or-none}
 use Rattle.rules_chains.specs.Chain.{Root}
 use Rattle.rules_outcome.specs.Roots.{ownKey, keyZeroBy, keyZeroValue, heldRoot, rootsOf, entriesOf, wrappingSize}
 use Rattle.rules_outcome.specs.Answer.{KeyConflictOf, KeyMissingOf, conditions, FrameAnswers}
-use Rattle.rules_outcome.specs.After.{newRekey, oldSas, oldSa, insertAll, Enter, HeldAre, HeldBy, initialMessageId, leastBy}
+use Rattle.rules_outcome.specs.After.{newRekey, oldSas, oldSa, insertAll, Enter, rekeyCopies, HeldSet, HeldBy, initialMessageId, leastBy}
 use Rattle.rules_outcome.specs.After.{leastAfterwards, After}
 use Rattle.rules_outcome.specs.Outcome.{Judged, refused, accepted, Outcome, no-layout, by-tree}
 use Rattle.rules_outcome.proofs.Following.{Follow, none, more, first-kept, alike}
+use Rattle.rules_outcome.proofs.WiderHeld.{set-then}
 use Rattle.rules_outcome.specs.Wider.{Wider, Within, SameMember, inPlaces, AnswerKept, AnswersKept}
 
 -- ---- what is not over a limit is not over a wider one
@@ -80,7 +81,7 @@ module _ (a b : Limits) (w : Wider a b) (s t : State) (i : Within a s) (m : Same
   unfolding heldFormed
   held-formed =
       rw (le-leb (s .held .count) (a .heldKeys) (i .heldKeys), le-leb (t .held .count) (b .heldKeys) held-b)
-      (ap (λ (l : List HeldKey). all keyFormed l && rising idBefore l) (m .keys))
+      (ap (λ (l : List HeldKey). all keyFormed l && distinct (idsOf l)) (m .keys))
 
   state-formed : stateFormed a s ≡ stateFormed b t
   unfolding stateFormed
@@ -195,8 +196,11 @@ module _ (a b : Limits) (w : Wider a b) (s t : State) (i : Within a s) (m : Same
       least-same =
           ap (λ (x : Least). cond (newRekey f) (Id (initialMessageId f)) (leastBy (rowOf f .least) (f .header .messageId) x)) (m .least)
 
+      abbrev SetUnder : List Root → ℕ → Held → Type 0
+      SetUnder r n h = HeldSet r (entriesOf f) n (newRekey f) b (rekeyCopies f) h
+
       abbrev HeldUnder : Bool → Held → Type 0
-      HeldUnder r h = HeldBy r (HeldAre (rootsOf b t now lent f) (entriesOf f) (wrappingSize b t now lent f) b h) (h ≡ t .held)
+      HeldUnder r h = HeldBy r (SetUnder (rootsOf b t now lent f) (wrappingSize b t now lent f) h) (h ≡ t .held)
 
       record HeldThen (old : Held) : Type 0 where
         then : Held
@@ -205,18 +209,20 @@ module _ (a b : Limits) (w : Wider a b) (s t : State) (i : Within a s) (m : Same
         by : HeldUnder (rowOf f .registers) then
 
       held-then : (old : Held) (r : Bool) → rowOf f .registers ≡ r →
-          HeldBy r (HeldAre (rootsOf a s now lent f) (entriesOf f) (wrappingSize a s now lent f) a old) (old ≡ s .held) → HeldThen old
-      unfolding heldOf
+          HeldBy r
+          (HeldSet (rootsOf a s now lent f) (entriesOf f) (wrappingSize a s now lent f) (newRekey f) a (rekeyCopies f) old)
+          (old ≡ s .held) →
+          HeldThen old
       held-then old true e x =
+          let y = set-then a b (rootsOf a s now lent f) (entriesOf f) (wrappingSize a s now lent f) (rekeyCopies f) old (newRekey f) x in
           record {
-            then = heldOf b (x .keys);
-            keys = ap keysOf (x .is) ∙ keys-of-held a (x .keys) ∙ sym (keys-of-held b (x .keys));
-            count = ap (λ (g : Held). g .count) (x .is);
+            then = y .then;
+            keys = y .keys;
+            count = y .count;
             by =
-                subst (λ (r : Bool). HeldUnder r (heldOf b (x .keys))) (sym e)
-                (subst (λ (r : List Root). HeldAre r (entriesOf f) (wrappingSize b t now lent f) b (heldOf b (x .keys))) roots
-                (subst (λ (n : ℕ). HeldAre (rootsOf a s now lent f) (entriesOf f) n b (heldOf b (x .keys))) size
-                (record { keys = x .keys; is = refl; rise = x .rise; each = x .each; all = x .all })));
+                subst (λ (r : Bool). HeldUnder r (y .then)) (sym e)
+                (subst (λ (r : List Root). SetUnder r (wrappingSize b t now lent f) (y .then)) roots
+                (subst (λ (n : ℕ). SetUnder (rootsOf a s now lent f) n (y .then)) size (y .set)));
           }
       held-then old false e x =
           record {

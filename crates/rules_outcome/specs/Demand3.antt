@@ -1,11 +1,11 @@
 -- DEMAND 3 OF A FRAME: the vocabulary of the theorem `demand-3` (proofs/Demand3.antt). No contract cites this file.
-use Prim.Native.Nat.{ℕ, _<_}
+use Prim.Native.Nat.{ℕ, _≤_, _<_}
 use mathlib.Core.Path.{_≡_}
 use mathlib.Core.Bool.{true}
 use mathlib.Core.Logic.{_⊎_, _↔_}
-use mathlib.Core.List.{List}
+use mathlib.Core.List.{List, []}
 use lib.ListN.{length}
-use Rattle.state_keys.specs.Lists.{rising}
+use Rattle.rfc5649.specs.Opens as rfc5649
 use Rattle.state_keys.specs.Limits.{Limits}
 use Rattle.state_keys.specs.Kinds.{valueOf, wrappingOf}
 use Rattle.wire_policies.specs.Policy.{GroupSaPolicy}
@@ -16,29 +16,57 @@ use Rattle.state.specs.declared.State.{State}
 use Rattle.state.specs.declared.held.HeldKey.{HeldKey}
 use Rattle.state.specs.declared.held.Held.{Held}
 use Rattle.state.specs.declared.least.Least.{Least}
-use Rattle.state.specs.Held.{keysOf, idBefore}
+use Rattle.state.specs.Held.{keysOf, idsOf, distinct}
 use Rattle.state.specs.State.{stateFormed}
-use Rattle.wire_attributes.specs.Tree.{WrapKey}
+use Rattle.wire_attributes.specs.Tree.{SaKey, WrapKey}
 use Rattle.rules_refusals.specs.Contents.{announced, wrapKeysOf}
-use Rattle.rules_chains.specs.Chain.{In, Root, Reached}
+use Rattle.rules_chains.specs.Chain.{In, Chain}
+use Rattle.rules_chains.specs.Path.{keyIds, NotAfter}
 use Rattle.rules_outcome.specs.Roots.{needOf}
 use Rattle.rules_outcome.specs.After.{saFrom}
-use Rattle.rules_outcome.specs.NamedKey.{Registration, Rekey, lentRoot, OpensUnder}
+use Rattle.rules_outcome.specs.NamedKey.{Registration, Rekey, lentRoot, Given, InOwnBag, OpensUnder}
 use Rattle.rules_outcome.specs.Meets.{Meets}
-use Rattle.rules_outcome.specs.RestSays.{LeastAs, OldSa}
+use Rattle.rules_outcome.specs.RestSays.{NewRekey, NoNewRekey, LeastAs, OldSa}
 
--- held list `h` has exactly the keys to which chains lead
-module _ (roots : List Root) (entries : List WrapKey) (size : ℕ) where
-  pub record HeldExactly (h : Held) : Type 0 where
-    -- "each once, rising"
-    pub rise : rising idBefore (keysOf h) ≡ true
-    -- "exactly the Key IDs to which a chain of one or more entries leads"
-    pub only : (k : HeldKey) → In k (keysOf h) → (x : List ℕ) × Reached roots entries size (k .id) x
-    pub each : (i : ℕ) (x : List ℕ) → Reached roots entries size i x → (k : HeldKey) × In k (keysOf h) × (k .id ≡ i)
-    -- "with the value that every chain ending on it gives", of the size that a wrapping key needs
-    pub value : (k : HeldKey) → In k (keysOf h) → (x : List ℕ) → Reached roots entries size (k .id) x → k .key ≡ wrappingOf x
-    pub octets : (k : HeldKey) → In k (keysOf h) → (x : List ℕ) → Reached roots entries size (k .id) x → valueOf (k .key) ≡ x
-    pub fits : (i : ℕ) (x : List ℕ) → Reached roots entries size i x → length x ≡ size
+-- ---- the held list after an accepted registration: document 02, T-04
+module _ (lent : List ℕ) (f : Frame) where
+  -- "the chain that opens the Rekey SA's SA_KEY": it starts with the lent default key, passed these entries, the last one first, and ends
+  -- on the key that the SA_KEY names
+  pub record OpensRekeyKey (passed : List WrapKey) : Type 0 where
+    pub policy : GroupSaPolicy
+    pub new : NewRekey f policy
+    pub copy : SaKey
+    pub own : InOwnBag f policy copy
+    pub value : List ℕ
+    pub chain : Chain (lentRoot lent) (wrapKeysOf f) (length lent) passed (copy .kwkId) value
+    pub octets : List ℕ
+    pub opens : rfc5649.Opens value (copy .wrapped) octets
+
+  -- list `h` is such a chain
+  pub record HeldPath (h : Held) : Type 0 where
+    pub passed : List WrapKey
+    pub opens : OpensRekeyKey passed
+    -- "written from the key that opens it back towards the default key, which is not listed"
+    pub written : idsOf (keysOf h) ≡ keyIds passed
+    -- "If several chains do, take the one with fewest keys"
+    pub fewest : (other : List WrapKey) → OpensRekeyKey other → length passed ≤ length other
+    -- "among these, the smallest when their Key ID lists are compared number by number"
+    pub smallest : (other : List WrapKey) → OpensRekeyKey other → length other ≡ length passed → NotAfter (keyIds passed) (keyIds other)
+
+  pub record HeldAfter (h : Held) : Type 0 where
+    -- "Demand 3 then says that the list is this path, and exists when a chain does"
+    pub path : (passed : List WrapKey) → OpensRekeyKey passed → HeldPath h
+    -- "No Rekey SA, or one opened by the default key: empty". With a Rekey SA there is a chain that opens its key
+    pub no-rekey-sa : NoNewRekey f → keysOf h ≡ []
+    pub by-default-key : OpensRekeyKey [] → keysOf h ≡ []
+    pub opened : (p : GroupSaPolicy) → NewRekey f p → (passed : List WrapKey) × OpensRekeyKey passed
+    -- "A member's Key IDs are then distinct"
+    pub once : distinct (idsOf (keysOf h)) ≡ true
+    -- each "with the value that every chain ending on it gives", of the size that a wrapping key needs
+    pub only : (k : HeldKey) → In k (keysOf h) → (x : List ℕ) × Given lent f (k .id) x
+    pub value : (k : HeldKey) → In k (keysOf h) → (x : List ℕ) → Given lent f (k .id) x → k .key ≡ wrappingOf x
+    pub octets : (k : HeldKey) → In k (keysOf h) → (x : List ℕ) → Given lent f (k .id) x → valueOf (k .key) ≡ x
+    pub fits : (i : ℕ) (x : List ℕ) → Given lent f i x → length x ≡ length lent
 
 -- announced SAs in a frame handed in at tick `now`: `Opens` says to which octets a copy of an SA's key opens
 module _ (now : ℕ) (Opens : GroupSaPolicy → List ℕ → Type 0) where
@@ -83,9 +111,9 @@ module _ (limits : Limits) (s : State) (now : ℕ) (lent : List ℕ) (f : Frame)
 
   -- "On acceptance"
   pub record OnAcceptance (next : State) : Type 0 where
-    -- "After an accepted registration the held list has exactly the Key IDs to which a chain of one or more entries leads from the lent
-    -- default key, wherever the entries stand in the frame: each once, rising, with the value that every chain ending on it gives."
-    pub held : Registration f → HeldExactly (lentRoot lent) (wrapKeysOf f) (length lent) (next .held)
+    -- "After a registration the held list is now the chain that opens the Rekey SA's SA_KEY" (document 02, T-04), "wherever the entries
+    -- stand in the frame"
+    pub held : Registration f → HeldAfter lent f (next .held)
     -- "each of those SAs stands in the table as document 01 enters it, with the octets that every such copy opens to"
     pub stands : (p : GroupSaPolicy) → In p (announced f) → Standing next p
     -- "and the rest of the member is as that document leaves it": the table has these SAs and the old ones that are not due, a rekey leaves

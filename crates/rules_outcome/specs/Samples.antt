@@ -1,5 +1,5 @@
--- DOCUMENT 01'S SAMPLES MARKED P, one row each, with what it says of the definitions, and one row of ours. "What a sample does not mention
--- is fit; entries stand in a registration." No row assumes that something opens: what opens is the wrapping of any octets under any key. A
+-- DOCUMENT 01'S SAMPLES MARKED P, one row each, with what it says of the definitions, and two rows of ours. "What a sample does not mention
+-- is fit; entries stand in a registration." Document 02, T-04: "In both samples with a held list a Rekey SA_KEY comes under 5". No row assumes that something opens: what opens is the wrapping of any octets under any key. A
 -- row speaks of any octets that are laid out as its frame.
 use Prim.Native.Nat.{ℕ, _≤_}
 use mathlib.Core.Path.{_≡_}
@@ -94,7 +94,7 @@ pub record LastId : Type 0 where
   pub taken : (s : State) (x : List ℕ) → stateFormed limits s ≡ true → acceptable 4294967295 (s .least) ≡ true →
       TakenThen s x 4294967295 (λ (next : State). LaterRefused next x)
 
--- ---- entries in a registration: GSA_AUTH (39) or GSA_REGISTRATION (40), which announces one ESP SA with AES-GCM-16 of 128 bits and
+-- ---- entries in a registration, GSA_AUTH (39) or GSA_REGISTRATION (40), that announces one ESP SA with AES-GCM-16 of 128 bits and
 -- Sequence Numbers 0, without a lifetime; what no sample mentions may be anything
 pub record Around : Type 0 where
   pub auth : Bool
@@ -136,9 +136,9 @@ entry i k w = record { keyId = i; kwkId = k; wrapped = w }
 abbrev pub heldWith : ℕ → List ℕ → HeldKey
 heldWith i v = record { id = i; key = wrappingOf v }
 
--- the member after it: the ESP SA with its keying octets `x`, and the held keys `l`
-abbrev pub registered : Around → List ℕ → List HeldKey → State
-registered r x l = record { table = tableOf limits (espSa (r .spi) (espOf x) Unlimited ∷ []); held = heldOf limits l; least = Id 0 }
+-- the member after it: the ESP SA with its keying octets `x`, and no held key
+abbrev pub registered : Around → List ℕ → State
+registered r x = record { table = tableOf limits (espSa (r .spi) (espOf x) Unlimited ∷ []); held = heldOf limits []; least = Id 0 }
 
 -- keying octets that the SA needs, and a wrapping key of the lent key's size
 pub record Keying (x : List ℕ) : Type 0 where
@@ -155,16 +155,6 @@ pub record Registers (r : Around) (lent x : List ℕ) (entries : List WrapKey) (
   pub keying : Keying x
   pub reads : IsFrame octets (registering r (wrapOf lent x) entries)
 
-abbrev TwoSteps : Type 0
-TwoSteps = (r : Around) (now : ℕ) (lent x v₅ v₉ octets : List ℕ) → FitKey lent v₅ → FitKey lent v₉ →
-    Registers r lent x (entry 5 9 (wrapOf v₉ v₅) ∷ entry 9 0 (wrapOf lent v₉) ∷ []) octets →
-    Outcome limits (newState limits) now lent octets 0 (registered r x (heldWith 5 v₅ ∷ heldWith 9 v₉ ∷ []))
-
--- for any wrapped octets
-abbrev Circle : Type 0
-Circle = (r : Around) (now : ℕ) (lent x w₅ w₉ octets : List ℕ) → Registers r lent x (entry 5 9 w₅ ∷ entry 9 5 w₉ ∷ []) octets →
-    Outcome limits (newState limits) now lent octets 0 (registered r x [])
-
 abbrev TwoValues : Type 0
 TwoValues = (r : Around) (now : ℕ) (lent x v w v₉ octets : List ℕ) → FitKey lent v → FitKey lent w → FitKey lent v₉ →
     (v ≡ w → ⊥) →
@@ -177,8 +167,14 @@ LentOf28 = (r : Around) (now : ℕ) (lent wrapped octets : List ℕ) (entries : 
     IsFrame octets (registering r wrapped entries) →
     Outcome limits (newState limits) now lent octets 5 (newState limits)
 
--- ---- RFC 9838, Appendix A.2: a registration that announces one Rekey SA with AES-GCM-16 of 128 bits, KW_5649_128 and implicit
--- authentication, its SA_KEY under KWK ID 1
+-- "No Rekey SA ..: empty" (document 02, T-04): both keys are reached
+abbrev NoRekeySa : Type 0
+NoRekeySa = (r : Around) (now : ℕ) (lent x v₅ v₉ octets : List ℕ) → FitKey lent v₅ → FitKey lent v₉ →
+    Registers r lent x (entry 5 9 (wrapOf v₉ v₅) ∷ entry 9 0 (wrapOf lent v₉) ∷ []) octets →
+    Outcome limits (newState limits) now lent octets 0 (registered r x)
+
+-- ---- entries in a registration that announces one Rekey SA with AES-GCM-16 of 128 bits, KW_5649_128 and implicit authentication, its
+-- SA_KEY under KWK ID `k`
 abbrev pub rekeyPolicy : Around → GroupSaPolicy
 rekeyPolicy r = record {
   protocol = 6;
@@ -191,15 +187,15 @@ rekeyPolicy r = record {
   keyLifetimes = [];
 }
 
-abbrev pub creating : Around → List ℕ → List WrapKey → Frame
-creating r wrapped entries = record {
+abbrev pub creating : Around → ℕ → List ℕ → List WrapKey → Frame
+creating r k wrapped entries = record {
   header = record { spi = r .spis; exchange = cond (r .auth) 39 40; messageId = r .messageId };
   payloads =
       samplePayload 51 (gsa (groupSa (rekeyPolicy r) ∷ []))
       ∷ samplePayload 52 (kd (groupKeys (record {
         protocol = 6;
         spi = r .spi;
-        keys = record { keyId = 0; kwkId = 1; wrapped = wrapped } ∷ [];
+        keys = record { keyId = 0; kwkId = k; wrapped = wrapped } ∷ [];
       }) ∷ memberKeys (record { keys = entries }) ∷ []))
       ∷ [];
 }
@@ -208,21 +204,29 @@ creating r wrapped entries = record {
 abbrev pub created : Around → List ℕ → List HeldKey → State
 created r x l = record { table = tableOf limits (rekeySa (r .spi) (rekeyOf x 20 16) Unlimited ∷ []); held = heldOf limits l; least = Id 0 }
 
--- the member A: "KD(GP(SA1)(1{K_sa1}),MP(3{1},7{3},GSK_w{7})", "the Key Path K_sa1->1->3->7->GSK_w"
-pub record Creates (r : Around) (lent x v₁ v₃ v₇ octets : List ℕ) : Type 0 where
+-- such a registration of a new member with these entries, its SA_KEY wrapped under the value `v` of key `k`
+pub record Creates (r : Around) (lent x : List ℕ) (k : ℕ) (v : List ℕ) (entries : List WrapKey) (octets : List ℕ) : Type 0 where
   pub key : Key lent
   pub group : oneGroupAddress (r .destination) ≡ true
   pub size : length x ≡ 36
   pub small : Octets x
-  pub first : FitKey lent v₁
-  pub second : FitKey lent v₃
-  pub third : FitKey lent v₇
-  pub reads :
-      IsFrame octets
-      (creating r (wrapOf v₁ x) (entry 1 3 (wrapOf v₃ v₁) ∷ entry 3 7 (wrapOf v₇ v₃) ∷ entry 7 0 (wrapOf lent v₇) ∷ []))
+  pub fit : FitKey lent v
+  pub reads : IsFrame octets (creating r k (wrapOf v x) entries)
 
+abbrev TwoSteps : Type 0
+TwoSteps = (r : Around) (now : ℕ) (lent x v₅ v₉ octets : List ℕ) → FitKey lent v₉ →
+    Creates r lent x 5 v₅ (entry 5 9 (wrapOf v₉ v₅) ∷ entry 9 0 (wrapOf lent v₉) ∷ []) octets →
+    Outcome limits (newState limits) now lent octets 0 (created r x (heldWith 5 v₅ ∷ heldWith 9 v₉ ∷ []))
+
+-- for any wrapped octets, and whatever 5 the SA_KEY is wrapped under
+abbrev Circle : Type 0
+Circle = (r : Around) (now : ℕ) (lent x v₅ w₅ w₉ octets : List ℕ) → Creates r lent x 5 v₅ (entry 5 9 w₅ ∷ entry 9 5 w₉ ∷ []) octets →
+    Outcome limits (newState limits) now lent octets 9 (newState limits)
+
+-- RFC 9838, Appendix A.2, the member A: "KD(GP(SA1)(1{K_sa1}),MP(3{1},7{3},GSK_w{7})", "the Key Path K_sa1->1->3->7->GSK_w"
 abbrev KeyTree : Type 0
-KeyTree = (r : Around) (now : ℕ) (lent x v₁ v₃ v₇ octets : List ℕ) → Creates r lent x v₁ v₃ v₇ octets →
+KeyTree = (r : Around) (now : ℕ) (lent x v₁ v₃ v₇ octets : List ℕ) → FitKey lent v₃ → FitKey lent v₇ →
+    Creates r lent x 1 v₁ (entry 1 3 (wrapOf v₃ v₁) ∷ entry 3 7 (wrapOf v₇ v₃) ∷ entry 7 0 (wrapOf lent v₇) ∷ []) octets →
     Outcome limits (newState limits) now lent octets 0 (created r x (heldWith 1 v₁ ∷ heldWith 3 v₃ ∷ heldWith 7 v₇ ∷ []))
 
 -- ---- the attribute, in a type 1 transform at any offset
@@ -240,9 +244,9 @@ pub data Sample : Type 0 where
   least-seven : Sample
   -- "ID 4,294,967,295 taken with no new Rekey SA: every later rekey over that SA is 3"
   last-id : Sample
-  -- "entries (5 under 9), (9 under 0), both opening: held 5, 9"
+  -- "entries (5 under 9), (9 under 0), both opening: held 5, 9"; "a Rekey SA_KEY comes under 5: held 5, 9" (document 02, T-04)
   two-steps : Sample
-  -- "(5 under 9), (9 under 5): held list empty"
+  -- "(5 under 9), (9 under 5): held list empty"; "a Rekey SA_KEY comes under 5: .. refusal 9" (document 02, T-04)
   circle : Sample
   -- "(5 under 0) and (5 under 9), (9 under 0), two values for 5: 8"
   two-values : Sample
@@ -253,6 +257,8 @@ pub data Sample : Type 0 where
   -- NOT OF DOCUMENT 01, ours beside its nine: a Rekey SA's key under 1, entries (1 under 3), (3 under 7), (7 under 0), all opening: taken,
   -- held 1, 3, 7
   key-tree : Sample
+  -- entries (5 under 9), (9 under 0), both opening, and no Rekey SA: taken, held list empty
+  no-rekey-sa : Sample
 
 abbrev pub Says : Sample → Type 0
 Says clock-wraps = ClockWraps
@@ -265,3 +271,4 @@ Says two-values = TwoValues
 Says lent-of-28 = LentOf28
 Says key-length-128 = KeyLength128
 Says key-tree = KeyTree
+Says no-rekey-sa = NoRekeySa

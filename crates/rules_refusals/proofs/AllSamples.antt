@@ -13,7 +13,7 @@ use Rattle.state_keys.specs.Algorithms.{isRowOf, neededIn, neededBy, sizeOf}
 use Rattle.state_sa.specs.Clock.{elapsedAtLeast}
 use Rattle.state_sa.specs.Entry.{saBefore, named, saSized, saFormed, liveRekey, due, espSa, rekeySa}
 use Rattle.state_table.specs.Table.{tableOf, tableFormed, emptyAt}
-use Rattle.state.specs.Held.{heldOf, keyFormed, heldFormed}
+use Rattle.state.specs.Held.{heldOf, keyFormed, distinct, heldFormed}
 use Rattle.state.specs.declared.State.{State}
 use Rattle.state.specs.State.{newState, stateFormed}
 use Rattle.state.proofs.ApartLimits.{apart}
@@ -124,8 +124,8 @@ pub record Samples : Type 0 where
       refusal limits s now lent (frameOf x 42 i l) ≡ refusal limits s now lent (frameOf y 42 j l)
 
 pub samples-answered : Samples
-unfolding refusal judged one any all count keep heads rising newState stateFormed tableFormed heldFormed tableOf heldOf keyFormed saFormed
-    saSized saBefore less same orderOf named liveRekey due espSa rekeySa elapsedAtLeast rekeySizes sizeOf neededBy neededIn isRowOf emptyAt
+unfolding refusal judged one any all count keep heads rising newState stateFormed tableFormed heldFormed tableOf heldOf keyFormed distinct
+    saFormed saSized saBefore less same orderOf named liveRekey due espSa rekeySa elapsedAtLeast rekeySizes sizeOf neededBy neededIn isRowOf emptyAt
     gather sum exactTransforms multicast nonEmptyMember otherSpis notAcceptable oneGroupAddress encryptionFits keyWrapFits
     sequenceNumbersFit
     authenticationFits transformsFit criticalUnknown barredMemberBag barredDelete twoGsa twoKd gsaWithoutKd kdWithoutGsa neither

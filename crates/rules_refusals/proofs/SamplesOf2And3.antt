@@ -91,14 +91,16 @@ samplesOf2And3 =
     sample (withEsp 24) 0 (deleting liveSpi 9) 2 ∷
     sample (withRekey Live) 0 (deleting nextSpi 9) 2 ∷
     sample (withRekey dueLater) 0 (deleting nextSpi 9) 0 ∷
-    -- the same: 129 held keys, Key ID 0, a value of 20 octets, Key IDs that do not rise
+    -- the same: 129 held keys, Key ID 0, a value of 20 octets, a Key ID twice; Key IDs need not rise (document 02, T-04)
     sample (holding [] (keysTo 128)) 16 (registers fit) 0 ∷
     sample (holding [] (keysTo 129)) 16 (registers fit) 2 ∷
     sample (holding [] (heldKey 0 16 ∷ [])) 16 (registers fit) 2 ∷
     sample (holding [] (heldKey 5 20 ∷ [])) 16 (registers fit) 2 ∷
     sample (holding [] (heldKey 5 24 ∷ [])) 16 (registers fit) 0 ∷
     sample (holding [] (heldKey 5 16 ∷ heldKey 5 16 ∷ [])) 16 (registers fit) 2 ∷
+    sample (holding [] (heldKey 5 16 ∷ heldKey 9 32 ∷ heldKey 5 16 ∷ [])) 16 (registers fit) 2 ∷
     sample (holding [] (heldKey 5 16 ∷ heldKey 9 32 ∷ [])) 16 (registers fit) 0 ∷
+    sample (holding [] (heldKey 9 16 ∷ heldKey 5 32 ∷ [])) 16 (registers fit) 0 ∷
     -- in a rekey too, and where another number would be given
     sample (holding (rekeyAt Live ∷ []) (heldKey 5 24 ∷ [])) 0 (deleting liveSpi 9) 0 ∷
     sample (holding (rekeyAt Live ∷ []) (heldKey 5 20 ∷ [])) 0 (deleting liveSpi 9) 2 ∷

@@ -5,13 +5,13 @@ use mathlib.Core.Path.{_≡_, refl}
 use mathlib.Core.Bool.{true, false, not}
 use mathlib.Core.List.{List, [], _∷_}
 use lib.ListN.{replicate}
-use Rattle.state_keys.specs.Lists.{all, any, heads, rising, insert}
+use Rattle.state_keys.specs.Lists.{all, any, insert}
 use Rattle.state_keys.specs.Limits.{Limits}
 use Rattle.state_keys.specs.Algorithms.{sizeOf}
 use Rattle.state_keys.specs.Kinds.{wrappingOf}
 use Rattle.state.specs.declared.held.Held.{Held}
 use Rattle.state.specs.declared.held.HeldKey.{HeldKey}
-use Rattle.state.specs.Held.{blankKey, heldOf, keyFormed, heldFormed, noKey, keyWith, heldKey, enteredKey}
+use Rattle.state.specs.Held.{blankKey, heldOf, keyFormed, distinct, heldFormed, noKey, keyWith, heldKey, enteredKey}
 
 abbrev pub apart : Limits
 apart = record { heldKeys = 2; espPolicies = 3; wrapKeys = 4; saKeys = 5; deletedSpis = 6; sas = 7 }
@@ -41,5 +41,5 @@ pub record HeldWithin : Type 0 where
   pub full : enteredKey apart (key 3) two ≡ two
 
 pub held-within : HeldWithin
-unfolding heldOf heldFormed keyFormed keyWith heldKey enteredKey sizeOf all any heads rising insert
+unfolding heldOf heldFormed keyFormed distinct keyWith heldKey enteredKey sizeOf all any insert
 held-within = record { places = refl; taken = refl; over = refl; found = refl; not-found = refl; enters = refl; full = refl }

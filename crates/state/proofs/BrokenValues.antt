@@ -22,7 +22,7 @@ use Rattle.state.specs.declared.State.{State}
 use Rattle.state.specs.declared.held.Held.{Held}
 use Rattle.state.specs.declared.held.HeldKey.{HeldKey}
 use Rattle.state.specs.declared.least.Least.the-variants.{Id}
-use Rattle.state.specs.Held.{heldOf, keyFormed, heldFormed}
+use Rattle.state.specs.Held.{heldOf, keyFormed, distinct, heldFormed}
 use Rattle.state.specs.State.{stateFormed, sweptState, askedSa}
 
 -- ---- SAs: of a protocol, with an SPI that ends in n, so many keying octets, and parts of e and w octets
@@ -91,17 +91,17 @@ brokenValues =
     ofSas (lasting 4294967295 ∷ rekeySa 1 Live ∷ []) ∷
     -- "a held list of at most 32 wrapping keys" (T-01: 128): a count above the places
     value (tableOf limits (espSa 1 ∷ [])) (record { keys = (heldOf limits []) .keys; count = limits .heldKeys + 1 }) ∷
-    -- "Key IDs rising, none 0": equal, falling, 0
+    -- Key IDs "distinct" (document 02, T-04), "none 0": one twice, side by side and apart, with one value and with two; 0
     ofKeys (key 5 16 ∷ key 5 16 ∷ []) ∷
-    ofKeys (key 9 16 ∷ key 5 16 ∷ []) ∷
-    ofKeys (key 0 16 ∷ key 5 16 ∷ []) ∷
+    ofKeys (key 9 16 ∷ key 5 16 ∷ key 9 24 ∷ []) ∷
+    ofKeys (key 5 16 ∷ key 0 16 ∷ []) ∷
     -- "values of 16, 24 or 32 octets"
     ofKeys (key 5 20 ∷ []) ∷
     ofKeys (key 5 16 ∷ key 9 0 ∷ []) ∷
     []
 
--- 44 octets are 20 + 24 and 28 + 16; a Rekey SA that retires beside one that is live; the longest lifetime; values of different sizes; what
--- stands past a count is not looked at
+-- 44 octets are 20 + 24 and 28 + 16; a Rekey SA that retires beside one that is live; the longest lifetime; values of different sizes; Key
+-- IDs "no longer rising" (T-04); what stands past a count is not looked at
 abbrev pub fitValues : List State
 fitValues =
     ofSas (cut 20 24 ∷ []) ∷
@@ -109,8 +109,9 @@ fitValues =
     ofSas (espSa 1 ∷ rekeySa 1 retiring ∷ rekeySa 2 Live ∷ []) ∷
     ofSas (lasting 2000000 ∷ []) ∷
     ofKeys (key 5 16 ∷ key 9 24 ∷ key 10 32 ∷ []) ∷
+    ofKeys (key 9 16 ∷ key 5 16 ∷ key 7 16 ∷ []) ∷
     value (record { sas = (tableOf limits (espSa 2 ∷ espSa 1 ∷ sa 4 1 1 1 1 Live ∷ [])) .sas; count = 1 })
-    (record { keys = (heldOf limits (key 5 16 ∷ key 0 20 ∷ [])) .keys; count = 1 }) ∷
+    (record { keys = (heldOf limits (key 5 16 ∷ key 5 16 ∷ key 0 20 ∷ [])) .keys; count = 1 }) ∷
     []
 
 -- ---- the claims
@@ -125,12 +126,11 @@ pub record BrokenKept (l : List State) : Type 0 where
   pub asked : (p : ℕ) (x : List ℕ) → map (askedSa limits p x) l ≡ map (λ (s : State). none) l
 
 pub broken-kept : BrokenKept brokenValues
-unfolding stateFormed sweptState askedSa tableOf tableFormed heldOf heldFormed keyFormed saFormed saSized saBefore less orderOf liveRekey
-    rekeySizes sizeOf all any count heads rising
+unfolding stateFormed sweptState askedSa tableOf tableFormed heldOf heldFormed keyFormed distinct saFormed saSized saBefore less orderOf
+    liveRekey rekeySizes sizeOf all any count heads rising
 broken-kept = record { broken = refl; swept = λ now. refl; asked = λ p x. refl }
 
 pub fit-formed : Formed true fitValues
-unfolding stateFormed tableOf tableFormed heldOf heldFormed keyFormed saFormed saSized saBefore less orderOf liveRekey rekeySizes sizeOf all
-    any
-    count heads rising
+unfolding stateFormed tableOf tableFormed heldOf heldFormed keyFormed distinct saFormed saSized saBefore less orderOf liveRekey rekeySizes
+    sizeOf all any count heads rising
 fit-formed = refl

@@ -2,24 +2,25 @@
 use native.Mathlib.Omega.{arith}
 use Prim.Native.Nat.{ℕ, _+_, _-_, _≤_, _<_}
 use mathlib.Core.Path.{_≡_, refl, ap, sym, _∙_, subst}
-use mathlib.Core.Bool.{true, false, _||_, false≢true}
+use mathlib.Core.Bool.{true, false, not, _||_, false≢true}
 use mathlib.Core.Logic.{⊎-elim}
-use mathlib.Core.List.{List, [], _∷_, List·Memᴰ, List·Memᴰ·not-nil, List·Memᴰ·cases-cons}
-use borrow.Author.Tests.{le-leb, lt-ltb, le-ltb, ltb-true, eqb-false}
+use mathlib.Core.List.{List, [], _∷_, List·Memᴰ, List·Memᴰ·head, List·Memᴰ·tail, List·Memᴰ·not-nil, List·Memᴰ·cases-cons}
+use borrow.Author.Tests.{le-leb, lt-ltb, le-ltb, ltb-true, eq-eqb, ne-eqb, eqb-false, not-true}
 use lib.Dec.{eqb}
 use lib.ListN.{length, replicate}
 use lib.Seq.{take-append-seam}
 use Rattle.state_keys.specs.Limits.{Limits}
-use Rattle.state_keys.specs.Lists.{all, any, count, rising, insert}
+use Rattle.state_keys.specs.Lists.{all, any, rising, insert}
 use Rattle.state_keys.proofs.Cases.{bool-cases, lt-cases, and-parts, and-whole}
-use Rattle.state_keys.proofs.Rising.{length-insert, all-insert, rising-insert}
+use Rattle.state_keys.proofs.Rising.{length-insert, all-insert, rising-insert, first-before, rising-rest}
 use Rattle.state_table.specs.Table.{tableFormed, swept}
 use Rattle.state_table.proofs.Kept.{new-formed, swept-formed}
 use Rattle.state_table.proofs.Blanks.{new-blank, swept-blank}
 use Rattle.state.specs.declared.held.HeldKey.{HeldKey}
 use Rattle.state.specs.declared.held.Held.{Held}
 use Rattle.state.specs.declared.State.{State}
-use Rattle.state.specs.Held.{blankKey, keysOf, heldOf, keyFormed, idBefore, heldFormed, noKey, keyWith, enteredKey}
+use Rattle.state.specs.Held.{blankKey, keysOf, heldOf, keyFormed, idsOf, has, distinct, heldFormed, noKey, keyWith}
+use Rattle.state.specs.Held.{idBefore, enteredKey}
 use Rattle.state.specs.State.{newState, stateFormed, withTable, sweptState}
 use Rattle.state.specs.Blank.{AllKeysBlank, no-key, StateBlank}
 use Rattle.state.proofs.Laws.{swept-yes, swept-no}
@@ -51,15 +52,58 @@ apart a (k ∷ l) e =
     lt-cases (k .id) (a .id) (λ i. rw (le-ltb (a .id) (k .id) h, lt-ltb (k .id) (a .id) i) r)
     (λ i. absurd (eqb-false (k .id) (a .id) g (omega arith)))))
 
+-- ---- distinct Key IDs
+pub distinct-parts : (a : ℕ) (l : List ℕ) → distinct (a ∷ l) ≡ true → (has a l ≡ false) × (distinct l ≡ true)
+unfolding distinct
+distinct-parts a l e = let p = and-parts (not (has a l)) (distinct l) e in (not-true (has a l) (p .0), p .1)
+
+-- a Key ID that no key of a list has, and one that none of its Key IDs is
+none-has : (i : ℕ) (l : List HeldKey) → ((k : HeldKey) → List·Memᴰ k l → k .id ≡ i → ⊥) → has i (idsOf l) ≡ false
+unfolding any
+none-has i [] f = refl
+none-has i (k ∷ l) f = rw (ne-eqb (k .id) i (f k (List·Memᴰ·head refl))) (none-has i l (λ a m. f a (List·Memᴰ·tail m)))
+
+pub not-among : (i : ℕ) (k : HeldKey) (l : List HeldKey) → has i (idsOf l) ≡ false → List·Memᴰ k l → k .id ≡ i → ⊥
+unfolding any
+not-among i k [] e m q = List·Memᴰ·not-nil m
+not-among i k (a ∷ l) e m q =
+    bool-cases (eqb (a .id) i) (λ g. absurd (false≢true (sym e ∙ rw g)))
+    (λ g.
+    ⊎-elim (λ z. eqb-false (a .id) i g (ap (λ (x : HeldKey). x .id) (sym z) ∙ q)) (λ z. not-among i k l (rw g at e) z q)
+    (List·Memᴰ·cases-cons m))
+
+-- Key IDs that rise are distinct
+pub rising-distinct : (l : List HeldKey) → rising idBefore l ≡ true → distinct (idsOf l) ≡ true
+unfolding distinct
+rising-distinct [] r = refl
+rising-distinct (k ∷ l) r =
+    let later : (a : HeldKey) → List·Memᴰ a l → a .id ≡ k .id → ⊥ =
+    λ a m e. let h = ltb-true (k .id) (a .id) (first-before idBefore id-trans id-irrefl k a l r m) in omega arith in
+    rw (none-has (k .id) l later) (rising-distinct l (rising-rest idBefore id-trans id-irrefl k l r))
+
+-- the lookup asks for no more than distinct Key IDs: a key of the list is the one that is found
+pub distinct-found : (k : HeldKey) (l : List HeldKey) → distinct (idsOf l) ≡ true → List·Memᴰ k l →
+    keyWith (k .id) l ≡ record { fits = true; key = k .key }
+unfolding keyWith
+distinct-found k [] d m = absurd (List·Memᴰ·not-nil m)
+distinct-found k (a ∷ l) d m =
+    let p = distinct-parts (a .id) (idsOf l) d in
+    ⊎-elim
+    (λ e.
+    let q : a .id ≡ k .id = ap (λ (x : HeldKey). x .id) (sym e) in
+    rw (eq-eqb (a .id) (k .id) q) (ap (λ (x : HeldKey). record { fits = true; key = x .key }) (sym e)))
+    (λ z. rw (ne-eqb (a .id) (k .id) (λ e. not-among (a .id) k l (p .0) z (sym e))) (distinct-found k l (p .1) z))
+    (List·Memᴰ·cases-cons m)
+
 module _ (limits : Limits) where
-  pub held-formed : (l : List HeldKey) → length l ≤ limits .heldKeys → all keyFormed l ≡ true → rising idBefore l ≡ true →
+  pub held-formed : (l : List HeldKey) → length l ≤ limits .heldKeys → all keyFormed l ≡ true → distinct (idsOf l) ≡ true →
       heldFormed limits (heldOf limits l) ≡ true
   unfolding heldFormed heldOf
   held-formed l h e f =
       rw (take-append-seam l (replicate (limits .heldKeys - length l) blankKey), le-leb (length l) (limits .heldKeys) h, e) f
 
   pub no-key-formed : heldFormed limits (heldOf limits []) ≡ true
-  unfolding all rising
+  unfolding all distinct
   no-key-formed = held-formed [] (omega arith) refl refl
 
   pub entered-key-formed : (a : HeldKey) (h : Held) → h .count < limits .heldKeys → length (keysOf h) < limits .heldKeys →
@@ -70,35 +114,7 @@ module _ (limits : Limits) where
       let m = length-insert idBefore a (keysOf h) in
       rw (lt-ltb (h .count) (limits .heldKeys) c)
       (held-formed (insert idBefore a (keysOf h)) (omega arith) (all-insert idBefore keyFormed a (keysOf h) k e)
-      (rising-insert idBefore id-trans a (keysOf h) (apart a (keysOf h) d) r))
-
--- the lookup asks for distinct Key IDs alone: where at most one key has an ID, a member with it is the one found
-count-some : (id : ℕ) (k : HeldKey) (l : List HeldKey) → List·Memᴰ k l → k .id ≡ id → 1 ≤ count (λ (j : HeldKey). eqb (j .id) id) l
-unfolding count
-count-some id k [] m e = absurd (List·Memᴰ·not-nil m)
-count-some id k (a ∷ l) m e =
-    bool-cases (eqb (a .id) id) (λ g. rw g (omega arith))
-    (λ g.
-    rw g
-    (⊎-elim (λ q. absurd (eqb-false (a .id) id g (ap (λ (x : HeldKey). x .id) (sym q) ∙ e))) (λ q. count-some id k l q e)
-    (List·Memᴰ·cases-cons m)))
-
-pub key-found : (id : ℕ) (k : HeldKey) (l : List HeldKey) → count (λ (j : HeldKey). eqb (j .id) id) l ≤ 1 → List·Memᴰ k l → k .id ≡ id →
-    keyWith id l ≡ record { fits = true; key = k .key }
-unfolding count keyWith
-key-found id k [] c m e = absurd (List·Memᴰ·not-nil m)
-key-found id k (a ∷ l) c m e =
-    bool-cases (eqb (a .id) id)
-    (λ g.
-    let n : count (λ (j : HeldKey). eqb (j .id) id) l + 1 ≤ 1 = rw g at c in
-    rw g
-    (⊎-elim (λ q. ap (λ (x : HeldKey). record { fits = true; key = x .key }) (sym q))
-    (λ q. let h = count-some id k l q e in absurd (omega arith)) (List·Memᴰ·cases-cons m)))
-    (λ g.
-    let n : count (λ (j : HeldKey). eqb (j .id) id) l ≤ 1 = rw g at c in
-    rw g
-    (⊎-elim (λ q. absurd (eqb-false (a .id) id g (ap (λ (x : HeldKey). x .id) (sym q) ∙ e))) (λ q. key-found id k l n q e)
-    (List·Memᴰ·cases-cons m)))
+      (rising-distinct (insert idBefore a (keysOf h)) (rising-insert idBefore id-trans a (keysOf h) (apart a (keysOf h) d) r)))
 
 pub no-key-found : (id : ℕ) (l : List HeldKey) → any (λ (j : HeldKey). eqb (j .id) id) l ≡ false → keyWith id l ≡ noKey
 unfolding any keyWith

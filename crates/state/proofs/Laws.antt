@@ -1,12 +1,14 @@
 -- What the code of a state finds is what the definitions say.
+use native.Mathlib.Numerals.{add-one}
 use Prim.Native.Nat.{ℕ, _+_, _-_, _≤_, _<_, _^_}
-use mathlib.Core.Path.{_≡_, ap}
-use mathlib.Core.Bool.{Bool, true, false}
-use mathlib.Core.List.{List, _++_}
+use mathlib.Core.Path.{_≡_, refl, ap, sym, _∙_}
+use mathlib.Core.Bool.{Bool, true, false, not}
+use mathlib.Core.List.{List, [], _∷_, _++_}
 use borrow.Author.Tests.{le-leb, lt-leb, lt-ltb, le-ltb, eq-eqb, ne-eqb}
-use lib.ListN.{length, take, drop, getD, replicate}
+use lib.ListN.{length, take, drop, getD, set, replicate}
+use lib.Seq.{take-suc, take-suc-set}
 use Rattle.state_keys.specs.Limits.{Limits}
-use Rattle.state_keys.specs.Lists.{all, rising, insert}
+use Rattle.state_keys.specs.Lists.{all, any, insert}
 use Rattle.state_keys.specs.Algorithms.{sizeOf}
 use Rattle.state_keys.proofs.Parts.{part-cons, part-end}
 use Rattle.state_table.specs.declared.Table.{Table}
@@ -17,7 +19,8 @@ use Rattle.state.specs.declared.held.HeldKey.{HeldKey}
 use Rattle.state.specs.declared.held.Held.{Held}
 use Rattle.state.specs.declared.State.{State}
 use Rattle.state.specs.Least.{afterId}
-use Rattle.state.specs.Held.{blankKey, keysOf, heldOf, keyFormed, idBefore, heldFormed, noKey, keyWith, heldKey, enteredKey}
+use Rattle.state.specs.Held.{blankKey, keysOf, heldOf, keyFormed, idsOf, has, distinct, heldFormed, noKey, keyWith, heldKey}
+use Rattle.state.specs.Held.{idBefore, enteredKey}
 use Rattle.state.specs.State.{stateFormed, withTable, sweptState, askedSa}
 
 -- ---- the least Message ID
@@ -44,6 +47,46 @@ module _ (id : ℕ) (l : List HeldKey) (n : ℕ) (h : n ≤ length l) (j : ℕ) 
   unfolding keyWith
   key-end g = rw (part-end l n h j g)
 
+-- ---- Key IDs: one among the first n from place j on, and whether these are distinct
+module _ (s : List ℕ) (n : ℕ) (h : n ≤ length s) (j : ℕ) where
+  module _ (id : ℕ) where
+    pub has-here : j < n → getD s j 0 ≡ id → has id (drop j (take n s)) ≡ true
+    unfolding any
+    has-here g e = rw (part-cons s n h j 0 g, eq-eqb (getD s j 0) id e)
+
+    pub has-next : j < n → (getD s j 0 ≡ id → ⊥) → has id (drop j (take n s)) ≡ has id (drop (j + 1) (take n s))
+    unfolding any
+    has-next g e = rw (part-cons s n h j 0 g, ne-eqb (getD s j 0) id e)
+
+    pub has-end : n ≤ j → has id (drop j (take n s)) ≡ false
+    unfolding any
+    has-end g = rw (part-end s n h j g)
+
+  pub distinct-yes : j < n → true ≡ not (has (getD s j 0) (drop (j + 1) (take n s))) →
+      distinct (drop j (take n s)) ≡ distinct (drop (j + 1) (take n s))
+  unfolding distinct
+  distinct-yes g e = rw (part-cons s n h j 0 g, ← e)
+
+  pub distinct-no : j < n → false ≡ not (has (getD s j 0) (drop (j + 1) (take n s))) → distinct (drop j (take n s)) ≡ false
+  unfolding distinct
+  distinct-no g e = rw (part-cons s n h j 0 g, ← e)
+
+  pub distinct-end : n ≤ j → distinct (drop j (take n s)) ≡ true
+  unfolding distinct
+  distinct-end g = rw (part-end s n h j g)
+
+-- the Key IDs of one key more are copied
+ids-end : (l : List HeldKey) (k : HeldKey) → idsOf (l ++ (k ∷ [])) ≡ idsOf l ++ (k .id ∷ [])
+ids-end [] k = refl
+ids-end (a ∷ l) k = ap (λ (m : List ℕ). a .id ∷ m) (ids-end l k)
+
+pub ids-more : (l : List HeldKey) (ids : List ℕ) (i : ℕ) (d : HeldKey) → i < length l → i < length ids → take i ids ≡ idsOf (take i l) →
+    take (i + 1) (set ids i (getD l i d .id)) ≡ idsOf (take (i + 1) l)
+ids-more l ids i d h g e =
+    let k = getD l i d in
+    ap (λ (n : ℕ). take n (set ids i (k .id))) (add-one i) ∙ take-suc-set ids i (k .id) g ∙ ap (λ (m : List ℕ). m ++ (k .id ∷ [])) e
+    ∙ sym (ids-end (take i l) k) ∙ ap idsOf (sym (take-suc l i d h)) ∙ ap (λ (n : ℕ). idsOf (take n l)) (sym (add-one i))
+
 module _ (limits : Limits) (h : Held) where
   pub key-in : (id : ℕ) → h .count ≤ limits .heldKeys → heldKey limits id h ≡ keyWith id (keysOf h)
   unfolding heldKey
@@ -62,10 +105,10 @@ module _ (limits : Limits) (h : Held) where
   unfolding heldFormed
   held-each g e = rw (le-leb (h .count) (limits .heldKeys) g, e)
 
-  pub held-rises : (r : Bool) → h .count ≤ limits .heldKeys → all keyFormed (keysOf h) ≡ true → r ≡ rising idBefore (keysOf h) →
-      r ≡ heldFormed limits h
+  pub held-distinct : (r : Bool) (ids : List ℕ) → h .count ≤ limits .heldKeys → all keyFormed (keysOf h) ≡ true →
+      take (h .count) ids ≡ idsOf (keysOf h) → r ≡ distinct (take (h .count) ids) → r ≡ heldFormed limits h
   unfolding heldFormed
-  held-rises r g e f = rw (le-leb (h .count) (limits .heldKeys) g, e) f
+  held-distinct r ids g e m f = rw (le-leb (h .count) (limits .heldKeys) g, e) (f ∙ ap distinct m)
 
 pub key-is : (k : HeldKey) (r : Bool) → (k .id ≡ 0 → ⊥) → r ≡ sizeOf 13 (k .key .count) → r ≡ keyFormed k
 unfolding keyFormed

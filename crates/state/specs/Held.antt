@@ -1,11 +1,11 @@
--- "A held list of at most 32 wrapping keys (Key ID, value), Key IDs rising, none 0, values of 16, 24 or 32 octets." By document 02, T-01,
--- at most 128.
+-- "A held list of at most 32 wrapping keys (Key ID, value), Key IDs rising, none 0, values of 16, 24 or 32 octets." By document 02 at most
+-- 128 (T-01), and "A member's Key IDs are then distinct, no longer rising" (T-04).
 use Prim.Native.Nat.{ℕ, _-_}
 use mathlib.Core.Bool.{Bool, true, false, cond, not, _&&_}
-use mathlib.Core.List.{List, [], _∷_, _++_}
+use mathlib.Core.List.{List, [], _∷_, _++_, map}
 use lib.Dec.{leb, ltb, eqb}
 use lib.ListN.{length, take, replicate}
-use Rattle.state_keys.specs.Lists.{all, rising, insert}
+use Rattle.state_keys.specs.Lists.{all, any, insert}
 use Rattle.state_keys.specs.Limits.{Limits}
 use Rattle.state_keys.specs.Algorithms.{sizeOf}
 use Rattle.state_keys.specs.Kinds.{wrappingOf}
@@ -29,13 +29,22 @@ heldOf limits l = record { keys = l ++ replicate (limits .heldKeys - length l) b
 unfoldable pub keyFormed : HeldKey → Bool
 keyFormed k = not (eqb (k .id) 0) && sizeOf 13 (k .key .count)
 
--- "Key IDs rising": a stands before b
-abbrev pub idBefore : HeldKey → HeldKey → Bool
-idBefore a b = ltb (a .id) (b .id)
+-- the Key IDs of some keys, in their order
+abbrev pub idsOf : List HeldKey → List ℕ
+idsOf l = map (λ (k : HeldKey). k .id) l
+
+-- Key ID a is one of these
+abbrev pub has : ℕ → List ℕ → Bool
+has a l = any (λ (b : ℕ). eqb b a) l
+
+-- "A member's Key IDs are then distinct": none of these stands twice
+unfoldable pub distinct : List ℕ → Bool
+distinct [] = true
+distinct (a ∷ l) = not (has a l) && distinct l
 
 -- the held list is as a member's must be
 unfoldable pub heldFormed : Limits → Held → Bool
-heldFormed limits h = leb (h .count) (limits .heldKeys) && (all keyFormed (keysOf h) && rising idBefore (keysOf h))
+heldFormed limits h = leb (h .count) (limits .heldKeys) && (all keyFormed (keysOf h) && distinct (idsOf (keysOf h)))
 
 -- the answer where no key is found
 abbrev pub noKey : MadeWrapping
@@ -49,6 +58,10 @@ keyWith id (k ∷ l) = cond (eqb (k .id) id) (record { fits = true; key = k .key
 -- the same in the held list; one whose count is over the limit has none
 unfoldable pub heldKey : Limits → ℕ → Held → MadeWrapping
 heldKey limits id h = cond (leb (h .count) (limits .heldKeys)) (keyWith id (keysOf h)) noKey
+
+-- a stands before b in a list that is kept by Key IDs
+abbrev pub idBefore : HeldKey → HeldKey → Bool
+idBefore a b = ltb (a .id) (b .id)
 
 -- the list with the key a in its place, if there is room
 unfoldable pub enteredKey : Limits → HeldKey → Held → Held

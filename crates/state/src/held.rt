@@ -1,11 +1,13 @@
 // The held list: the wrapping keys that a member keeps from its registration.
 ghost use mathlib.Core.Path.{_≡_};
-ghost use mathlib.Core.Bool.{_||_};
+ghost use mathlib.Core.Bool.{not, _||_};
 ghost use mathlib.Core.List.{[]};
 ghost use Prim.Native.Nat.{_≤_};
+ghost use lib.ListN.{length, take, drop};
 ghost use Rattle.state_keys.specs.Limits.{limits};
-ghost use Rattle.state_keys.specs.Lists.{all, rising};
-ghost use Rattle.state.specs.Held.{blankKey, keysOf, heldOf, keyFormed, idBefore, heldFormed, heldKey, enteredKey};
+ghost use Rattle.state_keys.specs.Lists.{all};
+ghost use Rattle.state.specs.Held.{blankKey, keysOf, heldOf, keyFormed, idsOf, has, distinct, heldFormed, heldKey};
+ghost use Rattle.state.specs.Held.{idBefore, enteredKey};
 use state_keys::kinds::MadeWrapping;
 use state_keys::kinds::WrappingKey;
 use state_keys::limits::HELD_KEYS;
@@ -58,6 +60,39 @@ fn goes_ahead(placed: bool, a: HeldKey, k: HeldKey) -> bool
     a.id < k.id
 }
 
+// Whether the Key ID `id` is none of the first `n` of `ids` from place `first` on.
+fn is_absent(ids: &[u32], n: usize, first: usize, id: u32) -> bool
+    requires { ⌜ n ≤ length (now ids) ⌝ }
+    ensures { λ r. ⌜ r ≡ not (has id (drop first (take n (now (ids .entry))))) ⌝ }
+{
+    let mut i = first;
+    while i < n {
+        let other = ids[i];
+        if other == id {
+            return false;
+        }
+        i += 1;
+    }
+    true
+}
+
+// Whether none of the first `n` Key IDs stands twice.
+fn are_distinct(ids: &[u32], n: usize) -> bool
+    requires { ⌜ n ≤ length (now ids) ⌝ }
+    ensures { λ r. ⌜ r ≡ distinct (take n (now (ids .entry))) ⌝ }
+{
+    let mut i: usize = 0;
+    while i < n {
+        let id = ids[i];
+        let next = i + 1;
+        if is_absent(ids, n, next, id) {} else {
+            return false;
+        }
+        i = next;
+    }
+    true
+}
+
 impl Held {
     // Makes a list with no key.
     pub fn new() -> Held
@@ -87,26 +122,24 @@ impl Held {
         true
     }
 
-    // Whether the Key IDs rise.
-    fn rises(self) -> bool
+    // Copies the Key IDs to an array, because comparing each with all others must not move whole keys.
+    fn ids(self) -> [u32; HELD_KEYS]
         requires { ⌜ self .count ≤ limits .heldKeys ⌝ }
-        ensures { λ r. ⌜ r ≡ rising idBefore (keysOf self) ⌝ }
+        ensures { λ r. ⌜ take (self .count) r ≡ idsOf (keysOf self) ⌝ }
     {
         let n = self.count;
-        let mut j: usize = 0;
-        while j + 1 < n {
-            let i = j + 1;
-            let a = self.keys[j];
-            let b = self.keys[i];
-            if a.id < b.id {} else {
-                return false;
-            }
-            j = i;
+        let mut ids = [0u32; HELD_KEYS];
+        let mut i: usize = 0;
+        while i < n {
+            let k = self.keys[i];
+            ids[i] = k.id;
+            i += 1;
         }
-        true
+        ids
     }
 
-    // Whether the list is as a member's must be: it has at most `HELD_KEYS` keys, each is formed, and their Key IDs rise.
+    // Whether the list is as a member's must be: it has at most `HELD_KEYS` keys, each is formed, and their Key IDs are
+    // distinct.
     pub fn is_formed(self) -> bool
         ensures { λ r. ⌜ r ≡ heldFormed limits self ⌝ }
     {
@@ -114,7 +147,9 @@ impl Held {
             return false;
         }
         if self.each_formed() {
-            return self.rises();
+            let n = self.count;
+            let ids = self.ids();
+            return are_distinct(&ids, n);
         }
         false
     }

@@ -11,10 +11,10 @@ use borrow.Rule.Slice.PartMut.{midOf, putMid}
 use Rattle.octets.proofs.Parts.{copied-end}
 use Rattle.state_keys.specs.Limits.{limits}
 use Rattle.state_keys.proofs.Cases.{lt-cases}
-use Rattle.state.specs.Held.{blankKey, heldFormed}
+use Rattle.state.specs.Held.{blankKey, idsOf, heldFormed}
 use Rattle.state.specs.declared.held.HeldKey.{HeldKey}
 use Rattle.state.specs.declared.held.Held.{Held}
-use Rattle.unwrap_copies.specs.inner.Lending.{keyOctets, placeOctets, lentPlace, lentBlock, idsOf, FitsPlace, Rooms, LendsFirst, Puts}
+use Rattle.unwrap_copies.specs.inner.Lending.{keyOctets, placeOctets, lentPlace, lentBlock, FitsPlace, Rooms, LendsFirst, Puts}
 
 -- ---- a count and the octets of an array put into a place
 pub put-is : (s o : List ℕ) (at c : ℕ) {y : List ℕ} → at < length s → length o ≡ keyOctets →

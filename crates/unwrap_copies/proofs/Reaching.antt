@@ -6,7 +6,7 @@ use mathlib.Core.Bool.{Bool, true, not, _&&_, false≢true}
 use mathlib.Core.Logic.{⊎-elim}
 use mathlib.Core.List.{List, [], _∷_, List·Memᴰ, List·Memᴰ·head, List·Memᴰ·tail, List·Memᴰ·not-nil, List·Memᴰ·cases-cons}
 use mathlib.Core.List.{Memᴰ·append-left, Memᴰ·append-right, List·Memᴰ·append-cases, List·Memᴰ·eq-of-singleton}
-use borrow.Author.Tests.{eq-eqb, ne-eqb, eqb-true, leb-true, ltb-true}
+use borrow.Author.Tests.{eq-eqb, ne-eqb, eqb-true, leb-true}
 use lib.Dec.{leb, eqb}
 use lib.ListN.{length, take, getD}
 use lib.Seq.{length-take-le, getD-take}
@@ -16,17 +16,16 @@ use Rattle.rules_chains.specs.Chain.{Root, CopyOpens}
 use Rattle.rules_chains.specs.Refusals.{Announced, CopiesConflict, wrong-size, two-values}
 use Rattle.rules_chains.proofs.Members.{in-member, member-in}
 use Rattle.state_keys.specs.Limits.{limits}
-use Rattle.state_keys.specs.Lists.{all, rising}
+use Rattle.state_keys.specs.Lists.{all}
 use Rattle.state_keys.specs.Algorithms.{sizeOf}
 use Rattle.state_keys.specs.Kinds.{valueOf}
 use Rattle.state_keys.specs.declared.kinds.WrappingKey.{WrappingKey}
 use Rattle.state_keys.specs.declared.kinds.MadeWrapping.{MadeWrapping}
 use Rattle.state_keys.proofs.Cases.{bool-cases, and-parts}
-use Rattle.state_keys.proofs.Rising.{first-before, rising-rest}
-use Rattle.state.specs.Held.{keysOf, keyFormed, idBefore, heldFormed, keyWith, heldKey}
+use Rattle.state.specs.Held.{keysOf, keyFormed, idsOf, distinct, heldFormed, keyWith, heldKey}
 use Rattle.state.specs.declared.held.HeldKey.{HeldKey}
 use Rattle.state.specs.declared.held.Held.{Held}
-use Rattle.state.proofs.Kept.{id-trans, id-irrefl}
+use Rattle.state.proofs.Kept.{distinct-found}
 use Rattle.state.proofs.Laws.{key-in}
 use Rattle.unwrap_copies.specs.declared.answer.CopyFound.{CopyFound}
 use Rattle.unwrap_copies.specs.declared.answer.CopyFound.the-variants.{Nothing, Key, Conflict}
@@ -57,7 +56,7 @@ all-at p (a ∷ l) (suc i) d e h = all-at p l i d (and-parts (p a) (all p l) e .
 
 module _ (h : Held) (e : heldFormed limits h ≡ true) where
   abbrev keys-are : Bool
-  keys-are = all keyFormed (keysOf h) && rising idBefore (keysOf h)
+  keys-are = all keyFormed (keysOf h) && distinct (idsOf (keysOf h))
 
   parts : (leb (h .count) (limits .heldKeys) ≡ true) × (keys-are ≡ true)
   unfolding heldFormed
@@ -67,10 +66,10 @@ module _ (h : Held) (e : heldFormed limits h ≡ true) where
   held-within = leb-true (h .count) (limits .heldKeys) (parts .0)
 
   pub held-formed : all keyFormed (keysOf h) ≡ true
-  held-formed = and-parts (all keyFormed (keysOf h)) (rising idBefore (keysOf h)) (parts .1) .0
+  held-formed = and-parts (all keyFormed (keysOf h)) (distinct (idsOf (keysOf h))) (parts .1) .0
 
-  pub held-rises : rising idBefore (keysOf h) ≡ true
-  held-rises = and-parts (all keyFormed (keysOf h)) (rising idBefore (keysOf h)) (parts .1) .1
+  pub held-distinct : distinct (idsOf (keysOf h)) ≡ true
+  held-distinct = and-parts (all keyFormed (keysOf h)) (distinct (idsOf (keysOf h))) (parts .1) .1
 
   pub held-size : length (h .keys) ≡ limits .heldKeys → (i : ℕ) (d : HeldKey) → i < h .count →
       sizeOf 13 (getD (h .keys) i d .key .count) ≡ true
@@ -108,23 +107,6 @@ found-among id (k ∷ l) e =
     let r = found-among id l (rw g at e) in
     record { one = r .one; member = List·Memᴰ·tail (r .member); id-is = r .id-is; is = rw g (r .is) })
 
--- each of them
-each-found : (k : HeldKey) (l : List HeldKey) → rising idBefore l ≡ true → List·Memᴰ k l → keyWith (k .id) l ≡ record {
-  fits = true;
-  key = k .key;
-}
-unfolding keyWith
-each-found k [] r m = absurd (List·Memᴰ·not-nil m)
-each-found k (a ∷ l) r m =
-    ⊎-elim
-    (λ e.
-    let q : a .id ≡ k .id = ap (λ (x : HeldKey). x .id) (sym e) in
-    rw (eq-eqb (a .id) (k .id) q) (ap (λ (x : HeldKey). record { fits = true; key = x .key }) (sym e)))
-    (λ d.
-    let h = ltb-true (a .id) (k .id) (first-before idBefore id-trans id-irrefl a k l r d) in
-    rw (ne-eqb (a .id) (k .id) (λ e. omega arith)) (each-found k l (rising-rest idBefore id-trans id-irrefl a l r) d))
-    (List·Memᴰ·cases-cons m)
-
 -- ---- the tries of some copies are those of each
 module _ (v : List ℕ) (held : Held) where
   pub tries-of : (copies : List SaKey) (t : Try) → List·Memᴰ t (triesOf v held copies) →
@@ -152,7 +134,7 @@ module _ (zero : WrappingKey) (held : Held) (e : heldFormed limits held ≡ true
   known-try _ _ c (known-named k i) q =
       let m = in-member k (keysOf held) i in
       let f : heldKey limits (c .kwkId) held ≡ record { fits = true; key = k .key } =
-      ap (λ (j : ℕ). heldKey limits j held) q ∙ named-in held e (k .id) ∙ each-found k (keysOf held) (held-rises held e) m in
+      ap (λ (j : ℕ). heldKey limits j held) q ∙ named-in held e (k .id) ∙ distinct-found k (keysOf held) (held-distinct held e) m in
       rw (ne-eqb (c .kwkId) 0 (λ z. not-zero held e k m (sym q ∙ z)), f) (List·Memᴰ·head refl)
 
   try-known : (c : SaKey) (t : Try) → List·Memᴰ t (tryFor v held c) → (w : List ℕ) × Known zero held (c .kwkId) w × (tryOf w c ≡ t)

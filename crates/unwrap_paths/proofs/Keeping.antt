@@ -23,7 +23,8 @@ use Rattle.unwrap_search.specs.declared.open.Status.the-variants.{Done}
 use Rattle.unwrap_search.specs.inner.Entries.{noEntry, Lists}
 use Rattle.unwrap_search.specs.inner.Search.{keyAt, cellAt, Searched}
 use Rattle.unwrap_paths.specs.inner.Links.{entriesAt, LeadsTo}
-use Rattle.unwrap_paths.specs.inner.Holding.{heldAt, heldFrom, HoldsPath}
+use Rattle.rules_outcome.specs.After.{heldFrom, HoldsPath}
+use Rattle.unwrap_paths.specs.inner.Holding.{heldAt}
 
 -- ---- the loop: the first i places of the list hold the keys at the first i places of the path
 module _ (entries : List Entry) (cells : List Cell) (places : List ℕ) (count : ℕ) where
@@ -115,7 +116,7 @@ module _ (frame : List ℕ) (entries : List Entry) (n : ℕ) (cells : List Cell)
       (all-held p (λ j m. f j (List·Memᴰ·tail m)))
 
   pub holds-path : (copies : List SaKey) (p : List ℕ) (h : Held) → h ≡ heldOf limits (map (heldAt entries cells) p) →
-      LeadsTo roots l size cells copies p → HoldsPath roots l size copies h
+      LeadsTo roots l size cells copies p → HoldsPath roots l size limits copies h
   holds-path copies p h e t =
       let f : (i : ℕ) → List·Memᴰ i p → At i = λ i m. record { inside = t .inside i m; done = t .done i m } in
       record {

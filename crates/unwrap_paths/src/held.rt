@@ -7,13 +7,13 @@ use unwrap_search::open::Cell;
 use unwrap_search::open::Entry;
 ghost use Prim.Native.Nat.{_≤_};
 ghost use Rattle.state_keys.specs.Limits.{limits};
+ghost use Rattle.rules_outcome.specs.After.{HoldsPath};
 ghost use Rattle.unwrap_paths.specs.inner.Links.{OfCopy};
-ghost use Rattle.unwrap_paths.specs.inner.Holding.{HoldsPath};
 
 // The keys of the path to the key with this Key ID, from that one on. Internal.
 pub fn held_path(entries: [Entry; WRAP_KEYS], cells: [Cell; WRAP_KEYS], n: usize, id: u32) -> Held
     requires { ⌜ n ≤ limits .wrapKeys ⌝ }
-    ensures { λ r. ⌜ OfCopy n entries cells id (λ roots l size copies. HoldsPath roots l size copies r) ⌝ }
+    ensures { λ r. ⌜ OfCopy n entries cells id (λ roots l size copies. HoldsPath roots l size limits copies r) ⌝ }
 {
     let trail = path(entries, cells, n, id);
     let places = trail.places;

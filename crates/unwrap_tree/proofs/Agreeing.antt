@@ -19,7 +19,7 @@ use Rattle.state.specs.declared.held.Held.{Held}
 use Rattle.state.proofs.Kept.{keys-of-held}
 use Rattle.unwrap_copies.specs.inner.Known.{Known, key-zero, named, Agrees}
 use Rattle.unwrap_search.specs.inner.Search.{keyZeroRoots}
-use Rattle.rules_outcome.specs.After.{HoldsKey, HeldAre}
+use Rattle.unwrap_tree.specs.inner.AllReached.{HoldsKey, HeldAre}
 use Rattle.unwrap_tree.proofs.Membership.{heldKeyOf}
 
 pub value-of : (x : List ℕ) → valueOf (wrappingOf x) ≡ x

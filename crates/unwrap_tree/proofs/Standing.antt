@@ -14,7 +14,7 @@ use Rattle.state_keys.specs.Algorithms.{sizeOf}
 use Rattle.state_keys.specs.declared.kinds.WrappingKey.{WrappingKey}
 use Rattle.state_keys.specs.Limits.{limits}
 use Rattle.state.specs.Held.{keyFormed, heldFormed}
-use Rattle.state.proofs.Kept.{held-formed}
+use Rattle.state.proofs.Kept.{held-formed, rising-distinct}
 use Rattle.state.specs.declared.held.HeldKey.{HeldKey}
 use Rattle.state.specs.declared.held.Held.{Held}
 use Rattle.unwrap_search.specs.declared.open.Entry.{Entry}
@@ -23,7 +23,7 @@ use Rattle.unwrap_search.specs.inner.Entries.{Lists}
 use Rattle.state_keys.specs.Kinds.{wrappingOf, valueOf}
 use Rattle.unwrap_search.specs.inner.Search.{keyAt, ChainGives, Searched, Found-in, Nonzero}
 use Rattle.unwrap_conflicts.proofs.Eight.{eight-wrong, eight-clash, found}
-use Rattle.rules_outcome.specs.After.{HoldsKey, HeldAre}
+use Rattle.unwrap_tree.specs.inner.AllReached.{HoldsKey, HeldAre}
 use Rattle.rules_chains.proofs.Members.{member-in, in-member}
 use Rattle.unwrap_tree.proofs.Membership.{all-members, heldKeyOf}
 use Rattle.unwrap_tree.proofs.Entering.{Done-at, Entered}
@@ -100,4 +100,4 @@ module _ (frame : List ℕ) (places : List Entry) (n : ℕ) (cells : List Cell) 
   are-formed =
       ap (heldFormed limits) (x .is)
       ∙ held-formed limits (x .keys) (omega (arith, x .few, lists .within))
-      (all-members keyFormed (x .keys) (λ k m. key-formed k (x .from k m))) (x .rises)
+      (all-members keyFormed (x .keys) (λ k m. key-formed k (x .from k m))) (rising-distinct (x .keys) (x .rises))

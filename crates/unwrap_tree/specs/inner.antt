@@ -1,3 +1,5 @@
+pub mod AllReached
+pub mod Working
 pub mod Joins
 pub mod Reached
 pub mod Entries

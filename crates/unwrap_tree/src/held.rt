@@ -1,8 +1,9 @@
-// Makes a held list of the keys that a search reached.
+// Makes the held lists that a search gives: of all keys that it reached, and of the path to one of them.
 use state::held::Held;
 use state::held::HeldKey;
 use state_keys::limits::WRAP_KEYS;
 use unwrap_conflicts::is_done;
+use unwrap_paths::held::held_path;
 use unwrap_search::open::Cell;
 use unwrap_search::open::Entry;
 ghost use mathlib.Core.Path.{_≡_};
@@ -13,17 +14,26 @@ ghost use Rattle.wire_attributes.specs.Tree.{WrapKey};
 ghost use Rattle.state_keys.specs.Algorithms.{sizeOf};
 ghost use Rattle.state_keys.specs.Limits.{limits};
 ghost use Rattle.state.specs.Held.{heldFormed};
-ghost use Rattle.rules_outcome.specs.After.{HeldAre};
 ghost use Rattle.rules_chains.specs.Chain.{Root};
 ghost use Rattle.rules_chains.specs.Refusals.{EntriesConflict};
 ghost use Rattle.unwrap_search.specs.inner.Entries.{Lists};
 ghost use Rattle.unwrap_search.specs.inner.Search.{Searched, Nonzero};
 ghost use Rattle.unwrap_tree.specs.inner.Joins.{Joins};
+ghost use Rattle.unwrap_tree.specs.inner.AllReached.{HeldAre};
+ghost use Rattle.unwrap_tree.specs.inner.Working.{HoldsPathTo};
 
-// Whether refusal 8 holds of the entries, and the keys that they reach. With a conflict the list is empty.
+// Whether refusal 8 holds of the entries. If it does not: the keys that they reach, and the working key path. With a conflict both lists are
+// empty.
 pub struct ReachedKeys {
     pub conflict: bool,
     pub held: Held,
+    pub path: Held,
+}
+
+// Whether a frame announces a Rekey SA (`some`), and the KWK ID of the SA_KEY in its bag.
+pub struct RekeyCopy {
+    pub some: bool,
+    pub kwk: u32,
 }
 
 // Adds the key of the entry `e`, whose cell is `c`, to `held`, if the entry was reached and its Key ID is not in the list. Two entries may
@@ -59,4 +69,21 @@ pub fn held_of(entries: [Entry; WRAP_KEYS], cells: [Cell; WRAP_KEYS], n: usize) 
         i += 1;
     }
     held
+}
+
+// Makes the held list of the working key path: the path to the key that the copy `copy` of the Rekey SA's key names. `cells` are the cells
+// of the search over the first `n` entries. Without a Rekey SA the list is empty.
+pub fn path_of(
+    entries: [Entry; WRAP_KEYS],
+    cells: [Cell; WRAP_KEYS],
+    n: usize,
+    copy: RekeyCopy,
+) -> Held
+    requires { ⌜ n ≤ limits .wrapKeys ⌝ }
+    ensures { λ r. ⌜ HoldsPathTo n entries cells copy r ⌝ }
+{
+    if copy.some {
+        return held_path(entries, cells, n, copy.kwk);
+    }
+    Held::new()
 }

@@ -35,7 +35,7 @@ registration = record {
   «allows_copies» = false;
   -- "Rekey has exactly one each of type 1, type 13 (one of the three) and the controller authentication type" (5), in every exchange
   authentication = true;
-  -- "a registration sets the held list as reached; a rekey leaves it"
+  -- "After a registration the held list is now the chain that opens the Rekey SA's SA_KEY" (document 02, T-04); "a rekey leaves it"
   registers = true;
   -- with no new Rekey SA "a registration sets 0 and a rekey sets it to its own plus 1"
   least = least.Zero;

@@ -49,7 +49,7 @@ pub struct Exchange {
     pub allows_copies: bool,
     // a Rekey policy has the controller authentication transform
     pub authentication: bool,
-    // the held list is set to the reached keys, and not kept
+    // the held list is set to the working key path, and not kept
     pub registers: bool,
     pub least: LeastAfter,
 }

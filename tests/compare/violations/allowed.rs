@@ -2,7 +2,7 @@
 
 use super::copies::{far_apart, under_none, under_one};
 use super::pairing::{esp_policies, fill, one_chain, sas_after};
-use super::{any, either_rekey, inband, registration, rekey, Exchange, Violation};
+use super::{any, either_rekey, inband, registration, rekey, trees, Exchange, Violation};
 use crate::case::Case;
 use crate::limits::*;
 use crate::lives::without_lifetime;
@@ -128,6 +128,12 @@ pub const TABLE: &[Violation] = &[
         c.bags()?.retain(|bag| bag.protocol != 0);
         Some(())
     }),
+    registration(0, "a tree with chains as long as the path", trees::ties),
+    registration(0, "a tree with a longer chain of smaller Key IDs", trees::smaller),
+    registration(0, "a tree with entries twice", trees::twice),
+    registration(0, "a tree with a cycle", trees::cycles),
+    registration(0, "a tree with entries that fail or lead nowhere", trees::closed),
+    registration(0, "a tree, and the Rekey SA's key under the default key", trees::under_default),
     registration(0, "two keys that wrap each other", |c| {
         let (first, second, value) = (c.unknown_id(), c.unknown_id(), c.rng.octets(c.key0.len()));
         (first != second).then_some(())?;
@@ -289,8 +295,7 @@ fn entry(c: &mut Case, id: u32, kwk_id: u32, wrapped: &[u8]) -> Option<()> {
 
 /// The Rekey SA's key, if one is announced, under the default key.
 fn default_copy(c: &mut Case) -> Option<()> {
-    let key = c.sa_key(REKEY)?;
-    let copy = Attribute::key(0, 0, &wrap(&c.key0, &key));
-    c.sa_bag(REKEY)?.attributes = vec![copy];
-    Some(())
+    c.path = Some(Vec::new());
+    let key0 = c.key0.clone();
+    c.only_copy(0, &key0)
 }

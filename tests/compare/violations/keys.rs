@@ -120,11 +120,11 @@ pub const TABLE: &[Violation] = &[
     any(9, "ESP key of no octets", |c| set_esp_copy(c, |key0| wrap_as(key0, CONSTANT, 0, &[0; 8]))),
     any(9, "Rekey key under an unknown key", |c| {
         let (id, kwk) = (c.unknown_id(), c.key0.clone());
-        only_copy(c, id, &kwk)
+        c.only_copy(id, &kwk)
     }),
     any(9, "Rekey key under another key than its KWK ID names", |c| {
         let ((id, _), other) = (c.some_key(), c.rng.octets(16));
-        only_copy(c, id, &other)
+        c.only_copy(id, &other)
     }),
     registration(9, "Rekey key under a key of a cycle", |c| {
         let (a, b) = (c.unknown_id(), c.unknown_id());
@@ -132,32 +132,36 @@ pub const TABLE: &[Violation] = &[
         let (value_a, value_b) = (c.rng.octets(c.key0.len()), c.rng.octets(c.key0.len()));
         entry(c, a, &value_a, b, &value_b)?;
         entry(c, b, &value_b, a, &value_a)?;
-        only_copy(c, a, &value_a)
+        c.only_copy(a, &value_a)
     }),
     registration(9, "Rekey key under a key whose entry does not open", |c| {
         let (id, value, other) = (c.unknown_id(), c.rng.octets(c.key0.len()), c.rng.octets(16));
         entry(c, id, &value, 0, &other)?;
-        only_copy(c, id, &value)
+        c.only_copy(id, &value)
     }),
     either_rekey(9, "Rekey key under the announced SA's own default key", |c| {
         let key = c.sa_key(REKEY)?;
-        only_copy(c, 0, &key[key.len() - 16..])
+        c.only_copy(0, &key[key.len() - 16..])
     }),
     inband(9, "Rekey key under a held key, over the own channel", |c| {
         let (id, key) = c.member.held.first()?.clone();
-        only_copy(c, id, &key)
+        c.only_copy(id, &key)
     }),
     inband(9, "Rekey key under the live Rekey SA's default key, over the own channel", |c| {
         let key = c.member.live_rekey()?.default_key().to_vec();
-        only_copy(c, 0, &key)
+        c.only_copy(0, &key)
     }),
     inband(9, "Rekey key under the lent key by a held key's ID, over the own channel", |c| {
         let (id, key) = (c.member.held.first()?.0, c.key0.clone());
-        only_copy(c, id, &key)
+        c.only_copy(id, &key)
     }),
     inband(9, "ESP key under the live Rekey SA's default key, over the own channel", |c| {
         let (kwk, key) = (c.member.live_rekey()?.default_key().to_vec(), c.sa_key(ESP)?);
         set_esp_copy(c, |_| wrap(&kwk, &key))
+    }),
+    rekey(9, "Rekey key under a key of the member's tree that is not held", |c| {
+        let (id, key) = c.off_path.get(c.rng.below(c.off_path.len()))?.clone();
+        c.only_copy(id, &key)
     }),
     rekey(9, "Rekey key with no copy that opens", |c| {
         let (unknown, (id, _)) = (c.unknown_id(), c.some_key());
@@ -206,12 +210,5 @@ fn padded(c: &mut Case) -> Option<Vec<u8>> {
 fn copy(c: &mut Case, key: &[u8]) -> Option<()> {
     let (kwk_id, kwk) = c.some_key();
     c.sa_bag(REKEY)?.attributes.push(Attribute::key(0, kwk_id, &wrap(&kwk, key)));
-    Some(())
-}
-
-/// Leaves the Rekey SA one copy of its key.
-fn only_copy(c: &mut Case, kwk_id: u32, kwk: &[u8]) -> Option<()> {
-    let key = c.sa_key(REKEY)?;
-    c.sa_bag(REKEY)?.attributes = vec![Attribute::key(0, kwk_id, &wrap(kwk, &key))];
     Some(())
 }

@@ -8,8 +8,10 @@ mod keys;
 mod layout;
 mod order;
 mod pairing;
+mod trees;
 
 use crate::case::Case;
+pub use pairing::one_chain;
 
 /// Does it to the case; None, and the case in any state, if the frame has not what it takes.
 pub type Make = fn(&mut Case) -> Option<()>;

@@ -262,8 +262,8 @@ pub fn one_chain(c: &mut Case, count: u32) -> Option<()> {
         (kwk_id, kwk) = (id, value);
     }
     c.bag(0)?.attributes = entries;
-    if let Some(key) = c.sa_key(REKEY) {
-        c.sa_bag(REKEY)?.attributes = vec![Attribute::key(0, kwk_id, &wrap(&kwk, &key))];
+    if c.only_copy(kwk_id, &kwk).is_some() {
+        c.path = Some(c.keys.iter().rev().map(|key| key.0).collect());
     }
     Some(())
 }

@@ -33,10 +33,8 @@ fn rekeys_over_the_own_channel() {
     let five = [5; 16];
     let mut member = Member::new();
     assert_eq!(take(&mut member, &LENT, 0, &inband(esp(1, &LENT))), 2);
-    assert_eq!(
-        take(&mut member, &LENT, 0, &registration(vec![entry(5, &five, 0, &LENT)], vec![initial_message_id(9)]).octets()),
-        0
-    );
+    let under_five = registration_under(5, &five, vec![entry(5, &five, 0, &LENT)], vec![initial_message_id(9)]);
+    assert_eq!(take(&mut member, &LENT, 0, &under_five.octets()), 0);
     let before = member.clone();
     let refused = [
         (4, [esp(1, &LENT), vec![delete(&[vec![0, 0, 0, 1]])]].concat()),
@@ -133,4 +131,48 @@ fn rekey_sa_that_ran_out() {
     assert_eq!(take(&mut too_long, &LENT, 0, &registration(vec![], vec![lifetime(1), lifetime(1)]).octets()), 4);
     assert_eq!(take(&mut too_long, &LENT, 0, &registration(vec![], vec![Attribute::Short(1, 1)]).octets()), 1);
     assert_eq!(take(&mut too_long, &LENT, 0, &registration(vec![], vec![lifetime(2_000_000)]).octets()), 0);
+}
+
+/// T-04: of the chains that open the Rekey SA's key the shortest one, of these the smallest, from the key that opens it on.
+#[test]
+fn working_key_paths() {
+    let key = |id: u32| if id == 0 { LENT } else { [id as u8; 16] };
+    let held = |links: &[(u32, u32)], under: u32| {
+        let entries = links.iter().map(|(id, kwk_id)| entry(*id, &key(*id), *kwk_id, &key(*kwk_id))).collect();
+        let mut member = Member::new();
+        assert_eq!(take(&mut member, &LENT, 0, &registration_under(under, &key(under), entries, vec![]).octets()), 0);
+        assert!(member.held.iter().all(|(id, value)| *value == key(*id)));
+        held_ids(&member)
+    };
+    let tree = [(1, 3), (3, 0), (1, 7), (7, 0), (1, 2)];
+    assert_eq!(held(&tree, 1), [1, 3]);
+    assert_eq!(held(&[&tree[..], &[(1, 0)]].concat(), 1), [1]);
+    assert_eq!(held(&tree, 0), []);
+    assert_eq!(held(&tree, 7), [7]);
+    assert_eq!(held(&[(5, 0), (9, 5)], 9), [9, 5]);
+    // a longer chain of smaller Key IDs, entries twice, a circle beside the path
+    assert_eq!(held(&[(9, 1), (1, 2), (2, 0), (9, 8), (8, 0)], 9), [9, 8]);
+    assert_eq!(held(&[(9, 8), (8, 0), (9, 8), (8, 0), (8, 9)], 9), [9, 8]);
+    // the first key in which they differ decides, not the last
+    assert_eq!(held(&[(9, 3), (3, 8), (8, 0), (9, 4), (4, 1), (1, 0)], 9), [9, 3, 8]);
+    // RFC 9838, Appendix A.2: members A and E
+    assert_eq!(held(&[(1, 3), (3, 7), (7, 0)], 1), [1, 3, 7]);
+    assert_eq!(held(&[(2, 5), (5, 11), (11, 0)], 2), [2, 5, 11]);
+}
+
+/// T-04: without a Rekey SA the list is empty though keys are reached, and an entry that fails makes no chain.
+#[test]
+fn lists_without_a_path() {
+    let (five, nine) = ([5; 16], [9; 16]);
+    let mut member = Member { held: vec![(7, vec![0; 16])], ..Member::new() };
+    let copy = Attribute::key(0, 0, &wrap(&LENT, &keying(20)));
+    let bags = vec![bag(ESP, &[0, 0, 0, 1], vec![copy]), Part::unnamed(vec![entry(5, &five, 0, &LENT)])];
+    let payloads = vec![gsa(vec![esp_policy(&[0, 0, 0, 1], 128)]), kd(bags)];
+    assert_eq!(take(&mut member, &LENT, 0, &frame(GSA_REGISTRATION, &[0; 16], 0, payloads).octets()), 0);
+    assert_eq!((member.table.len(), held_ids(&member)), (1, vec![]));
+
+    let mut member = Member::new();
+    let entries = vec![entry(5, &five, 0, &nine), entry(5, &five, 9, &nine), entry(9, &nine, 0, &LENT)];
+    assert_eq!(take(&mut member, &LENT, 0, &registration_under(5, &five, entries, vec![]).octets()), 0);
+    assert_eq!(held_ids(&member), [5, 9]);
 }

@@ -16,7 +16,7 @@ pub struct Group {
     /// The octets of every wrapping key, and of the AES keys in the SAs.
     size: usize,
     pub lent: Vec<u8>,
-    /// The keys of the tree, which a registered member holds.
+    /// The keys that a registered member holds: one chain, from the default key on (document 02, T-04).
     pub held: Vec<Key>,
     /// SPI and default key of the live Rekey SA.
     rekey_spi: Vec<u8>,
@@ -25,7 +25,7 @@ pub struct Group {
 }
 
 impl Group {
-    /// With so many keys in its tree, all of so many octets.
+    /// With so many keys in its chain, all of so many octets.
     pub fn new(size: usize, keys: u32) -> Group {
         let mut rng = Rng::new(size as u64);
         let lent = rng.octets(size);
@@ -42,27 +42,25 @@ impl Group {
         2 * self.size + 4
     }
 
-    /// A registration with a Rekey SA and the whole tree, the entries backwards.
+    /// A registration with a Rekey SA, its key under the last key of the chain, and the whole chain.
     pub fn registration(&mut self) -> Frame {
-        let (sa, spi, keying) = self.rekey_sa(&[(0, self.lent.clone())]);
-        let mut tree = self.tree();
-        tree.reverse();
-        let frame = frame(GSA_AUTH, &[0; 16], 1, vec![gsa(vec![sa.0]), kd(vec![sa.1, Part::unnamed(tree)])]);
+        let last = self.held.last().expect("keys").clone();
+        let (sa, spi, keying) = self.rekey_sa(&[last]);
+        let chain = Part::unnamed(self.chain(self.held.len() as u32));
+        let frame = frame(GSA_AUTH, &[0; 16], 1, vec![gsa(vec![sa.0]), kd(vec![sa.1, chain])]);
         self.enter(spi, &keying);
         frame
     }
 
-    /// Eight keys under the default key, eight under those, and from the last of these a chain of the others.
-    fn tree(&self) -> Vec<Attribute> {
-        let entry = |at: usize| {
-            let (kwk_id, kwk) = match at {
-                0..8 => (0, &self.lent),
-                8..16 => (self.held[at - 8].0, &self.held[at - 8].1),
-                _ => (self.held[at - 1].0, &self.held[at - 1].1),
-            };
-            Attribute::key(self.held[at].0, kwk_id, &wrap(kwk, &self.held[at].1))
-        };
-        (0..self.held.len()).map(entry).collect()
+    /// The first keys, each under the one before, the first under the default key; the last one stands first.
+    pub fn chain(&self, count: u32) -> Vec<Attribute> {
+        let keys = &self.held[..count as usize];
+        let default = (0, self.lent.clone());
+        let befores = [&default].into_iter().chain(keys);
+        let mut entries: Vec<Attribute> =
+            befores.zip(keys).map(|(kwk, key)| Attribute::key(key.0, kwk.0, &wrap(&kwk.1, &key.1))).collect();
+        entries.reverse();
+        entries
     }
 
     /// A new Rekey SA with copies of its key under the given keys, its SPI and its keying octets.

@@ -49,6 +49,8 @@ enum Situation {
     RoomForMany,
     /// With so many of them that the table is full.
     Full,
+    /// New, or with an SA that is due: every frame registers anew, with a Rekey SA that is due at once and as many held keys as may be.
+    RunOut,
 }
 
 enum Lines {
@@ -130,7 +132,7 @@ impl Situation {
     /// How many ESP SAs the member has before the frames.
     fn esp_sas(&self) -> u32 {
         match self {
-            Situation::New | Situation::Registered => 0,
+            Situation::New | Situation::Registered | Situation::RunOut => 0,
             Situation::OneEsp => 1,
             Situation::ManyEsps => MOST_ESP_POLICIES,
             Situation::Full => MOST_SAS - 1,
@@ -140,7 +142,7 @@ impl Situation {
 
     /// The lines that bring a new member there.
     fn arise(&self, group: &mut Group, input: &mut Input) {
-        if matches!(self, Situation::New) {
+        if matches!(self, Situation::New | Situation::RunOut) {
             return;
         }
         input.frame(0, &group.registration(), &format!("0 1 {MOST_HELD}"));

@@ -2,12 +2,12 @@
 use Prim.Native.Nat.{ℕ, _+_, _*_, _≤_, _<_}
 use mathlib.Core.Path.{_≡_}
 use mathlib.Core.Bool.{true}
-use mathlib.Core.List.{List, [], _∷_, _++_, map}
+use mathlib.Core.List.{List, [], _∷_, _++_}
 use lib.ListN.{length, take, drop, getD}
 use Rattle.state_keys.specs.Kinds.{valueOf}
 use Rattle.state_keys.specs.Limits.{limits}
 use Rattle.state_keys.specs.declared.kinds.WrappingKey.{WrappingKey}
-use Rattle.state.specs.Held.{blankKey, keysOf, heldFormed, keyWith}
+use Rattle.state.specs.Held.{blankKey, keysOf, idsOf, heldFormed, keyWith}
 use Rattle.state.specs.declared.held.HeldKey.{HeldKey}
 use Rattle.state.specs.declared.held.Held.{Held}
 
@@ -27,9 +27,6 @@ lentPlace k = k .count ∷ k .octets
 unfoldable pub lentBlock : List HeldKey → List ℕ
 lentBlock [] = []
 lentBlock (k ∷ l) = lentPlace (k .key) ++ lentBlock l
-
-abbrev pub idsOf : List HeldKey → List ℕ
-idsOf l = map (λ (k : HeldKey). k .id) l
 
 -- a key fits its place
 pub record FitsPlace (k : WrappingKey) : Type 0 where

@@ -1,7 +1,7 @@
 //! Frames that are accepted: each brings ESP SAs and deletes those before, behind thousands of the smallest structures. To a full table
-//! none come, and what is deleted is not there.
+//! none come, and what is deleted is not there. Of a registration the longest path is found and held.
 
-use super::Situation::{Full, ManyEsps, OneEsp};
+use super::Situation::{Full, ManyEsps, OneEsp, RunOut};
 use super::{accepted, fill_front, fill_part, Hostile, GSA_AT, KD_AT, MOST_ESP_POLICIES};
 use crate::group::{announce, Group};
 use builder::typical::*;
@@ -30,6 +30,11 @@ pub const TABLE: &[Hostile] = &[
     }),
     accepted("accepted-32-deletes-full-table", Full, |group, _| {
         fill_front(group.rekey((0x7700_0000..0x7700_0020).map(deleted).collect()))
+    }),
+    accepted("accepted-path-of-128", RunOut, |group, _| {
+        let mut frame = group.registration();
+        frame.payloads[GSA_AT].parts()[0].attributes.push(lifetime(0));
+        fill_front(frame)
     }),
 ];
 

@@ -10,30 +10,30 @@ use builder::{Attribute, Frame, Part, ESP};
 
 pub const TABLE: &[Hostile] = &[
     new(9, "entries-closed", |_| with_longest_entries(|id, _| closed(id, 0))),
-    new(9, "entries-in-a-chain", |group| with_closed_copies(chain(group, MOST_HELD))),
+    new(9, "entries-in-a-chain", |group| with_closed_copies(group.chain(MOST_HELD))),
     new(9, "entries-in-a-chain-alone", |group| {
         let sas = vec![rekey_sa(vec![Attribute::key(0, 0, &super::closed())])];
-        with_entries(sas, chain(group, MOST_HELD))
+        with_entries(sas, group.chain(MOST_HELD))
     }),
     new(9, "entries-half-in-a-chain", |group| {
         let closed = (1..=16).map(|id| closed(id, 0)).collect();
-        let entries = [closed, chain(group, MOST_HELD - 16)].concat();
+        let entries = [closed, group.chain(MOST_HELD - 16)].concat();
         with_closed_copies(entries)
     }),
     new(9, "entries-closed-after-a-chain", |group| {
         let last = group.held[MOST_HELD as usize - 17].0;
         let closed = (1..=16).map(|id| closed(id, last)).collect();
-        let entries = [closed, chain(group, MOST_HELD - 16)].concat();
+        let entries = [closed, group.chain(MOST_HELD - 16)].concat();
         with_closed_copies(entries)
     }),
     new(9, "entries-all-the-same", |group| {
-        let entries = chain(group, 1);
+        let entries = group.chain(1);
         with_closed_copies(vec![entries[0].clone(); MOST_HELD as usize])
     }),
     new(9, "entries-one-key-by-many", |group| with_closed_copies(one_key_by_many(group))),
     new(9, "entries-in-a-cycle", |group| {
         let (first, last) = (&group.held[0], group.held.last().expect("keys"));
-        let mut entries = chain(group, MOST_HELD);
+        let mut entries = group.chain(MOST_HELD);
         *entries.last_mut().expect("entries") = Attribute::key(first.0, last.0, &wrap(&last.1, &first.1));
         with_closed_copies(entries)
     }),
@@ -44,11 +44,11 @@ pub const TABLE: &[Hostile] = &[
     new(8, "entries-two-values", |group| {
         let (first, last) = (group.held[0].0, group.held[MOST_HELD as usize - 2].clone());
         let other = Attribute::key(first, last.0, &wrap(&last.1, &[7; KEY_SIZE]));
-        let entries = [vec![other], chain(group, MOST_HELD - 1)].concat();
+        let entries = [vec![other], group.chain(MOST_HELD - 1)].concat();
         with_closed_copies(entries)
     }),
     new(8, "entries-and-copies-open", |group| {
-        let entries = chain(group, MOST_HELD);
+        let entries = group.chain(MOST_HELD);
         let (last_id, last) = group.held.last().cloned().expect("keys");
         let too_short = vec![7; group.rekey_octets() - 1];
         let mut sas: Vec<Sa> = (1..=MOST_ESP_POLICIES).map(|spi| group.esp_sa(spi)).collect();
@@ -90,17 +90,6 @@ fn closed(id: u32, kwk_id: u32) -> Attribute {
 
 fn copy(key: &Key, octets: &[u8]) -> Attribute {
     Attribute::key(0, key.0, &wrap(&key.1, octets))
-}
-
-/// The first keys of the tree, each under the one before, the first under the default key; the last one stands first.
-fn chain(group: &Group, count: u32) -> Vec<Attribute> {
-    let keys = &group.held[..count as usize];
-    let default = (0, group.lent.clone());
-    let befores = [&default].into_iter().chain(keys);
-    let mut entries: Vec<Attribute> =
-        befores.zip(keys).map(|(kwk, key)| Attribute::key(key.0, kwk.0, &wrap(&kwk.1, &key.1))).collect();
-    entries.reverse();
-    entries
 }
 
 /// An entry that opens under the default key, to more octets than any key has.

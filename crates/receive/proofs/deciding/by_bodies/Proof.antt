@@ -6,7 +6,6 @@ use Rattle.receive.specs.inner.Passing.{Bodied, FrameOpened}
 use Rattle.receive.specs.inner.Rooted.{Rooted}
 use Rattle.receive.proofs.BodyLaws.{ready, bagged}
 use Rattle.receive.proofs.DecidingLaws.{rooted-eight, rooted-opened}
-use borrow.Author.Needs.{needs}
 use Rattle.receive.proofs.deciding.by_bodies.Statement.{statement}
 use Rattle.receive.proofs.deciding.by_bodies.Tie as tie
 
@@ -18,9 +17,9 @@ roots-requires c κs =
     let p = c .before .before .before .before .before .pre in
     let b = p .1 .1 in
     let row = c .row-of in
-    (b .entries, (p .1 .0, bagged b (row .result) (row .ensures (p .1 .0) (b .passed .whole-is))))
+    (p .0, (b .entries, (p .1 .0, bagged b (row .result) (row .ensures (p .1 .0) (b .passed .whole-is)))))
 
--- the keys that a KWK ID can name, for every frame that the octets are
+-- the keys that a KWK ID can name and the held list afterwards, for every frame that the octets are
 rooted : (c : tie.After-roots) (f : Frame) →
     let a = c .before .before .before .before .before .before .args in
     Bodied (a .state) (a .tick) (now (a .lent)) (now (a .frame)) (a .x) (now (a .gsa)) (now (a .kd)) f →
@@ -39,33 +38,28 @@ open-sas-requires c κs =
     let d = rooted (c .before) (p .1 .0) b in
     (p .0 .0, (p .0 .1, (d .fits, (d .formed (c .if1 .left), (p .1 .0, ready b)))))
 
-held-after-requires : tie.Need-held-after-requires
-held-after-requires c κs = search needs
-
-opened-by : (c : tie.After-held-after) (f : Frame) →
-    let a = c .before .before .before .before .before .before .before .before .before .args in
+opened-by : (c : tie.After-open-sas) (f : Frame) →
+    let a = c .before .before .before .before .before .before .before .before .args in
     Bodied (a .state) (a .tick) (now (a .lent)) (now (a .frame)) (a .x) (now (a .gsa)) (now (a .kd)) f →
-    FrameOpened (a .state) (a .tick) (now (a .lent)) (now (a .frame)) (a .x) (c .before .open-sas .result) (c .held-after .result) f
+    FrameOpened (a .state) (a .tick) (now (a .lent)) (now (a .frame)) (a .x) (c .open-sas .result) (c .before .before .roots .result .after) f
 opened-by c f b =
-    let k = c .before .open-sas in
-    let e = c .before .before in
-    let row = e .before .before .row-of in
+    let k = c .open-sas in
+    let e = c .before in
     rooted-opened (b .passed) (e .before .roots .result) (rooted (e .before) f b) (e .if1 .left) (k .result)
-    (λ x y n g. k .ensures x y n f (ready b) g) (row .result) (row .ensures f (b .passed .whole-is)) (c .held-after .result)
-    (c .held-after .ensures)
+    (λ x y n g. k .ensures x y n f (ready b) g)
 
 conclude-requires : tie.Need-conclude-requires
 conclude-requires c κs =
-    let b = c .before .before .before .before .before .before .before .before .before in
+    let b = c .before .before .before .before .before .before .before .before in
     let f = b .pre .1 .0 in
     (f, now (b .args .lent), opened-by c f (b .pre .1 .1))
 
 returns-2 : tie.Need-returns-2
 returns-2 c =
-    let a = c .before .before .before .before .before .before .before .before .before .before .args in
+    let a = c .before .before .before .before .before .before .before .before .before .args in
     λ f b. c .conclude .ensures f (now (a .lent)) (opened-by (c .before) f b)
 
 pub by-bodies-spec : {M : Type 1} → statement M
 by-bodies-spec =
     tie.close
-    (tie.spec row-of-requires roots-requires returns open-sas-requires held-after-requires conclude-requires returns-2)
+    (tie.spec row-of-requires roots-requires returns open-sas-requires conclude-requires returns-2)

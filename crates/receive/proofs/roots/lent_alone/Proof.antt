@@ -1,5 +1,5 @@
 use denote.Ref.{now}
-use mathlib.Core.Path.{_≡_, ap}
+use mathlib.Core.Path.{_≡_, ap, sym}
 use Rattle.state_keys.specs.Kinds.{wrappingKey}
 use Rattle.state_keys.specs.declared.kinds.MadeWrapping.{MadeWrapping}
 use Rattle.receive.proofs.InbandLaws.{inband-rooted}
@@ -20,7 +20,9 @@ zero-is c = ap (λ (x : MadeWrapping). x .key) (c .before .new .ensures)
 returns : tie.Need-returns
 returns c =
     let z = c .before in
-    λ m tick k f b. inband-rooted (c .new2 .result) (c .new2 .ensures) b (z .before .new .result .key) (zero-is z)
+    λ m tick g k f b h.
+    inband-rooted (c .new2 .result) (c .new2 .ensures) b (z .before .new .result .key) (zero-is z) (z .before .before .before .args .held)
+    (sym h)
 
 pub lent-alone-spec : {M : Type 1} → statement M
 lent-alone-spec = tie.close (tie.spec new-requires new-requires-2 returns)

@@ -8,7 +8,7 @@ sweep-requires c κs = search needs
 
 default-key-requires : tie.Need-default-key-requires
 default-key-requires c κs =
-    let b = c .before .before .pre .3 in
+    let b = c .before .before .pre .4 in
     let w = c .sweep in
     (stands-formed b (w .result) (w .ensures), stands-live b (w .result) (w .ensures))
 
@@ -16,7 +16,7 @@ returns : tie.Need-returns
 returns c =
     let w = c .before .before .sweep in
     let z = c .before .default-key in
-    λ lent k f b. rekey-rooted b (w .result) (w .ensures) (z .result) (z .ensures)
+    λ lent g k f b. rekey-rooted b (w .result) (w .ensures) (z .result) (z .ensures)
 
 pub of-rekey-sa-spec : {M : Type 1} → statement M
 of-rekey-sa-spec = tie.close (tie.spec sweep-requires default-key-requires returns)
