@@ -3,7 +3,6 @@ use check_pairing::stretch::bag_stretch;
 use ikev2_numbers::GIKE_UPDATE;
 use ikev2_numbers::KWK_ID_AT;
 use ikev2_numbers::POLICY_HEAD;
-use unwrap_tree::held::RekeyCopy;
 use wire_attributes::tables::Meaning;
 use wire_attributes::tables::Place;
 use wire_readers::Stretch;
@@ -25,6 +24,12 @@ ghost use Rattle.rules_refusals.specs.Number6.{bagNamed};
 ghost use Rattle.unwrap_copies.specs.inner.Answer.{copiesIn};
 ghost use Rattle.unwrap_sas.specs.inner.Keyed.{ChecksPassed};
 ghost use Rattle.receive.specs.inner.Copies.{firstKwk, copiesNamed, FindsRekey, rekeyCopyOf};
+
+// Whether a frame announces a Rekey SA (`some`), and the KWK ID of the SA_KEY in its bag.
+pub struct RekeyCopy {
+    pub some: bool,
+    pub kwk: u32,
+}
 
 // Finds the first Rekey policy of the GSA body `gsa`. Answers where its SPI stands; the stretch ends at 0 if there is no such policy.
 fn rekey_spi(gsa: &[u8]) -> Stretch

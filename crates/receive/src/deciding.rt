@@ -1,7 +1,7 @@
 // Decides a frame that refusals 2 to 7 let pass, of any exchange: opens its keys and finds its outcome.
 use crate::Next;
 use crate::conclude;
-use crate::roots::roots;
+use crate::opening::open_keys;
 use crate::row_of;
 use check_judging::facts::Facts;
 use state::State;
@@ -32,12 +32,12 @@ fn by_bodies(
         Judged limits state tick (now (lent .entry)) f (r .number) (r .state)) ⌝ }
 {
     let row = row_of(frame);
-    let r = roots(state, row, gsa, kd, x.member_bag, lent, tick);
-    if r.conflict {
+    let o = open_keys(state, row, gsa, kd, x.member_bag, lent, tick);
+    if o.conflict {
         return Next { number: 8, state };
     }
-    let keyed = unwrap_sas::open_sas(gsa, kd, r.zero, r.opens, tick);
-    conclude(state, frame, x, tick, keyed, r.after)
+    let keyed = o.keyed;
+    conclude(state, frame, x, tick, keyed, o.held)
 }
 
 // Decides the frame with the facts `x`. `lent` is the lent key. Answers acceptance, refusal 8 or refusal 9, and the next state.

@@ -2,6 +2,7 @@
 // Internal: crates of this repository alone call it.
 pub mod copy;
 pub mod deciding;
+pub mod opening;
 pub mod roots;
 pub mod said;
 pub mod zero;

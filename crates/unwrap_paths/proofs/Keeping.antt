@@ -3,34 +3,32 @@ use native.Mathlib.Omega.{arith}
 use Prim.Native.Nat.{ℕ, suc, _+_, _-_, _≤_, _<_}
 use mathlib.Core.Path.{_≡_, refl, ap, ap₂, sym, _∙_, subst}
 use mathlib.Core.List.{List, [], _∷_, _++_, map, List·Memᴰ, List·Memᴰ·head, List·Memᴰ·tail}
-use lib.ListN.{length, take, drop, set, getD, drop-of-length-le}
+use lib.ListN.{length, take, drop, set, drop-of-length-le}
 use lib.Seq.{drop-cons, length-take-le, getD-take}
 use Rattle.octets.specs.Numbers.{oct}
 use Rattle.wire_attributes.specs.Tree.{WrapKey, SaKey}
-use Rattle.rules_chains.specs.Chain.{Root, Reached}
-use Rattle.rules_chains.specs.Refusals.{EntriesConflict}
+use Rattle.rules_chains.specs.Chain.{Root, Reached, CopyOpens}
+use Rattle.rules_chains.specs.Refusals.{Value}
 use Rattle.rules_chains.specs.Path.{keyIds, Keys, no-key, one-more}
 use Rattle.rules_chains.proofs.Determined.{one-value}
 use Rattle.state_keys.specs.Limits.{limits}
 use Rattle.state_keys.specs.Kinds.{valueOf}
+use Rattle.state_keys.specs.declared.kinds.MadeWrapping.{MadeWrapping}
 use Rattle.state_keys.proofs.Fill.{Filled, filled-none, filled-more, written-more, filled-all, filled-count}
-use Rattle.state.specs.Held.{heldOf, blankKey}
+use Rattle.state.specs.Held.{heldOf, heldKey, blankKey}
 use Rattle.state.specs.declared.held.HeldKey.{HeldKey}
 use Rattle.state.specs.declared.held.Held.{Held}
-use Rattle.unwrap_search.specs.declared.open.Entry.{Entry}
 use Rattle.unwrap_search.specs.declared.open.Cell.{Cell}
 use Rattle.unwrap_search.specs.declared.open.Status.the-variants.{Done}
-use Rattle.unwrap_search.specs.inner.Entries.{noEntry, Lists}
-use Rattle.unwrap_search.specs.inner.Search.{keyAt, cellAt, Searched}
+use Rattle.unwrap_search.specs.inner.Search.{keyAt, cellAt, keyZeroRoots}
+use Rattle.unwrap_paths.specs.declared.links.Links.{Links}
 use Rattle.unwrap_paths.specs.inner.Links.{entriesAt, LeadsTo}
+use Rattle.unwrap_paths.specs.inner.Kept.{PathLeads, SearchKept, PathKept}
 use Rattle.rules_outcome.specs.After.{heldFrom, HoldsPath}
 use Rattle.unwrap_paths.specs.inner.Holding.{heldAt}
 
 -- ---- the loop: the first i places of the list hold the keys at the first i places of the path
-module _ (entries : List Entry) (cells : List Cell) (places : List ℕ) (count : ℕ) where
-  abbrev K : ℕ → HeldKey
-  K i = heldAt entries cells i
-
+module _ (K : ℕ → HeldKey) (places : List ℕ) (count : ℕ) where
   pub record Held-so-far (keys : List HeldKey) (i : ℕ) : Type 0 where
     pub filled : Filled (limits .heldKeys) blankKey keys i
     pub are : take i keys ++ map K (drop i (take count places)) ≡ map K (take count places)
@@ -43,10 +41,6 @@ module _ (entries : List Entry) (cells : List Cell) (places : List ℕ) (count :
             (filled-none (limits .heldKeys) blankKey blankKey refl);
         are = refl;
       }
-
-  pub key-at : (i : ℕ) (e : Entry) (c : Cell) → e ≡ getD entries i noEntry → c ≡ cellAt cells i →
-      record { id = e .id; key = c .key } ≡ K i
-  key-at i e c p q = λ t. record { id = p t .id; key = q t .key }
 
   pub keep-next : (keys : List HeldKey) (i : ℕ) (k : HeldKey) → i < count → count ≤ length places → count ≤ limits .heldKeys →
       k ≡ K (oct places i) → Held-so-far keys i → Held-so-far (set keys i k) (i + 1)
@@ -77,8 +71,13 @@ module _ (entries : List Entry) (cells : List Cell) (places : List ℕ) (count :
       λ t. record { keys = a t; count = (sym e ∙ c) t }
 
 -- ---- its keys
-module _ (frame : List ℕ) (entries : List Entry) (n : ℕ) (cells : List Cell) (roots : List Root) (l : List WrapKey) (size : ℕ)
-    (lists : Lists frame entries n l) (s : Searched roots l size cells) (none : EntriesConflict roots l size → ⊥) where
+module _ (key : List ℕ) (l : List WrapKey) (size : ℕ) (links : Links) (reached : Held) (kept : SearchKept key l size links reached) where
+  abbrev roots : List Root
+  roots = keyZeroRoots key
+
+  abbrev cells : List Cell
+  cells = kept .cells
+
   abbrev rootAt : ℕ → Root
   rootAt i = record { id = keyAt l i .keyId; value = valueOf (cellAt cells i .key) }
 
@@ -87,37 +86,37 @@ module _ (frame : List ℕ) (entries : List Entry) (n : ℕ) (cells : List Cell)
     inside : i < length l
     done : cellAt cells i .status ≡ Done
 
-  reached-at : (i : ℕ) → At i → Reached roots l size (keyAt l i .keyId) (valueOf (cellAt cells i .key))
-  reached-at i a =
-      let g = s .gives i (a .inside) (a .done) in record { last = keyAt l i; before = g .passed; chain = g .chain }
+  value-at : (i : ℕ) → At i → Value roots l size (keyAt l i .keyId) (valueOf (cellAt cells i .key))
+  value-at i a =
+      let g = kept .searched .gives i (a .inside) (a .done) in
+      let r : Reached roots l size (keyAt l i .keyId) (valueOf (cellAt cells i .key)) =
+      record { last = keyAt l i; before = g .passed; chain = g .chain } in
+      record {
+        reached = r;
+        every = λ y q. one-value roots l size (kept .agree) (keyAt l i .keyId) y (valueOf (cellAt cells i .key)) q r;
+      }
 
   keys-at : (p : List ℕ) → ((i : ℕ) → List·Memᴰ i p → At i) → Keys roots l size (keyIds (entriesAt l p)) (map rootAt p)
   keys-at [] f = no-key
-  keys-at (i ∷ p) f =
-      let r = reached-at i (f i (List·Memᴰ·head refl)) in
-      one-more
-      (record {
-        reached = r;
-        every = λ y q. one-value roots l size none (keyAt l i .keyId) y (valueOf (cellAt cells i .key)) q r;
-      })
-      (keys-at p (λ j m. f j (List·Memᴰ·tail m)))
+  keys-at (i ∷ p) f = one-more (value-at i (f i (List·Memᴰ·head refl))) (keys-at p (λ j m. f j (List·Memᴰ·tail m)))
 
-  held-at : (i : ℕ) → At i → heldAt entries cells i ≡ heldFrom (rootAt i)
+  held-at : (i : ℕ) → At i → heldAt (links .ids) reached i ≡ heldFrom (rootAt i)
   held-at i a =
-      let h : i < n = omega (arith, lists .count, a .inside) in
-      let e = lists .at i h .id in
-      let k = s .gives i (a .inside) (a .done) .is in
+      let h : i < links .count = omega (arith, kept .lists .count, a .inside) in
+      let e = kept .linked .linked .id-is i h ∙ kept .lists .at i h .id in
+      let k = ap (λ (j : ℕ). heldKey limits j reached .key) e
+      ∙ ap (λ (m : MadeWrapping). m .key) (kept .gives (keyAt l i .keyId) (valueOf (cellAt cells i .key)) (value-at i a)) in
       λ t. record { id = e t; key = k t }
 
-  all-held : (p : List ℕ) → ((i : ℕ) → List·Memᴰ i p → At i) → map (heldAt entries cells) p ≡ map heldFrom (map rootAt p)
+  all-held : (p : List ℕ) → ((i : ℕ) → List·Memᴰ i p → At i) → map (heldAt (links .ids) reached) p ≡ map heldFrom (map rootAt p)
   all-held [] f = refl
   all-held (i ∷ p) f =
       ap₂ (λ (a : HeldKey) (m : List HeldKey). a ∷ m) (held-at i (f i (List·Memᴰ·head refl)))
       (all-held p (λ j m. f j (List·Memᴰ·tail m)))
 
-  pub holds-path : (copies : List SaKey) (p : List ℕ) (h : Held) → h ≡ heldOf limits (map (heldAt entries cells) p) →
+  holds-by : (copies : List SaKey) (p : List ℕ) (h : Held) → h ≡ heldOf limits (map (heldAt (links .ids) reached) p) →
       LeadsTo roots l size cells copies p → HoldsPath roots l size limits copies h
-  holds-path copies p h e t =
+  holds-by copies p h e t =
       let f : (i : ℕ) → List·Memᴰ i p → At i = λ i m. record { inside = t .inside i m; done = t .done i m } in
       record {
         ids = keyIds (entriesAt l p);
@@ -126,3 +125,15 @@ module _ (frame : List ℕ) (entries : List Entry) (n : ℕ) (cells : List Cell)
         are = keys-at p f;
         is = e ∙ ap (heldOf limits) (all-held p f);
       }
+
+-- the list of a path's places is the path
+pub holds-path : (roots : List Root) (l : List WrapKey) (size : ℕ) (links : Links) (reached : Held) → PathKept roots l size links reached →
+    (id : ℕ) (places : List ℕ) (count : ℕ) → PathLeads links id places count →
+    (h : Held) → h ≡ heldOf limits (map (heldAt (links .ids) reached) (take count places)) →
+    (copy : SaKey) → copy .kwkId ≡ id → (x : List ℕ) → CopyOpens roots l size (copy ∷ []) x → HoldsPath roots l size limits (copy ∷ []) h
+holds-path roots l size links reached path id places count leads h is copy e x =
+    let k = path .kept in
+    subst (λ (r : List Root). CopyOpens r l size (copy ∷ []) x → HoldsPath r l size limits (copy ∷ []) h) (path .roots-are)
+    (λ o. holds-by (path .zero) l size links reached k (copy ∷ []) (take count places) h is
+    (leads .path (k .entries) (k .cells) (k .linked) (k .frame) (path .zero) l size (k .lists) (k .searched) (k .nonzero) (k .agree)
+    copy e x o))

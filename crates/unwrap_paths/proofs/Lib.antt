@@ -9,3 +9,4 @@ pub mod Chained
 pub mod Linking
 pub mod Tied
 pub mod Keeping
+pub mod KeptLaws

@@ -73,8 +73,8 @@ module _ (ids lv : List ℕ) (id : ℕ) where
       above : (f : ℕ) → (f ≡ 0 → ⊥) → 0 < f
       above f z = omega arith
 
--- it is at most n, as each level is
-pub level-within : (n : ℕ) (ids kwks marks levels : List ℕ) (id level : ℕ) → HasLevels n ids kwks marks levels →
-    HasLevel n ids levels id level → level ≤ n
-level-within n ids kwks marks levels id level has is =
-    lt-cases 0 level (λ g. let j = is .some g in let b = has .within (j .0) (j .1) in let e = j .3 in omega arith) (λ g. omega arith)
+-- it is at most what each level is
+pub level-within : (n most : ℕ) (ids levels : List ℕ) (id level : ℕ) → ((i : ℕ) → i < n → oct levels i ≤ most) →
+    HasLevel n ids levels id level → level ≤ most
+level-within n most ids levels id level within is =
+    lt-cases 0 level (λ g. let j = is .some g in let b = within (j .0) (j .1) in let e = j .3 in omega arith) (λ g. omega arith)

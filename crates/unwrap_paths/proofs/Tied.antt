@@ -29,7 +29,9 @@ use Rattle.unwrap_conflicts.proofs.Eight.{eight-wrong}
 use Rattle.unwrap_conflicts.proofs.Clashing.{done-is}
 use Rattle.unwrap_paths.specs.inner.Levels.{Walk, starts, goes, Levelled, Distance, ReadOff}
 use Rattle.unwrap_paths.specs.inner.Code.{markOpenedFirst, isOpened, Roots, HasLevels, HasLevel, GoesBack}
-use Rattle.unwrap_paths.specs.inner.Links.{markOf, LinksAre, LeadsTo, PathLeads}
+use Rattle.unwrap_paths.specs.declared.links.Links.{Links}
+use Rattle.unwrap_paths.specs.inner.Links.{markOf, LinksAre, LeadsTo}
+use Rattle.unwrap_paths.specs.inner.Kept.{PathLeads}
 use Rattle.unwrap_paths.proofs.Best.{best-walk}
 use Rattle.unwrap_paths.proofs.Chained.{Known, Leading, chain-walk, path-is}
 
@@ -206,15 +208,16 @@ module _ (n : ℕ) (entries : List Entry) (cells : List Cell) (ids kwks marks : 
                 done-is (cellAt cells i .status) (sym (opened-is i (o .0)) ∙ o .1);
           }
 
-pub leads : (n : ℕ) (entries : List Entry) (cells : List Cell) (ids kwks marks : List ℕ) → LinksAre n entries cells ids kwks marks →
-    (levels : List ℕ) → HasLevels n ids kwks marks levels → (id d : ℕ) → HasLevel n ids levels id d → (places : List ℕ) (count : ℕ) →
-    GoesBack n ids kwks levels id d places count → PathLeads n entries cells id places count
-leads n entries cells ids kwks marks linked levels has id d level places count way =
+pub leads : (links : Links) (id d : ℕ) → HasLevel (links .count) (links .ids) (links .levels) id d → (places : List ℕ) (count : ℕ) →
+    GoesBack (links .count) (links .ids) (links .kwks) (links .levels) id d places count → PathLeads links id places count
+leads links id d level places count way =
+    let n = links .count in
     record {
       few = way .few;
       inside = way .inside;
-      path = λ frame key l size lists s nonzero none copy e x c.
-          leads-to n entries cells ids kwks marks linked frame key l size lists s nonzero none levels has copy d
-          (subst (λ (k : ℕ). HasLevel n ids levels k d) (sym e) level) places count
-          (subst (λ (k : ℕ). GoesBack n ids kwks levels k d places count) (sym e) way) x c;
+      path = λ entries cells kept frame key l size lists s nonzero none copy e x c.
+          leads-to n entries cells (links .ids) (links .kwks) (kept .marks) (kept .linked) frame key l size lists s nonzero none
+          (links .levels) (kept .levels) copy d
+          (subst (λ (k : ℕ). HasLevel n (links .ids) (links .levels) k d) (sym e) level) places count
+          (subst (λ (k : ℕ). GoesBack n (links .ids) (links .kwks) (links .levels) k d places count) (sym e) way) x c;
     }

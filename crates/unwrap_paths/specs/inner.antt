@@ -1,4 +1,5 @@
 pub mod Levels
 pub mod Code
 pub mod Links
+pub mod Kept
 pub mod Holding

@@ -1,32 +1,37 @@
 // The held list of a path.
+use crate::links::Links;
 use crate::path;
 use state::held::Held;
 use state::held::HeldKey;
-use state_keys::limits::WRAP_KEYS;
-use unwrap_search::open::Cell;
-use unwrap_search::open::Entry;
-ghost use Prim.Native.Nat.{_≤_};
+ghost use mathlib.Core.Path.{_≡_};
+ghost use mathlib.Core.List.{List, [], _∷_};
+ghost use Prim.Native.Nat.{ℕ};
 ghost use Rattle.state_keys.specs.Limits.{limits};
+ghost use Rattle.wire_attributes.specs.Tree.{WrapKey, SaKey};
+ghost use Rattle.rules_chains.specs.Chain.{Root, CopyOpens};
 ghost use Rattle.rules_outcome.specs.After.{HoldsPath};
-ghost use Rattle.unwrap_paths.specs.inner.Links.{OfCopy};
+ghost use Rattle.unwrap_paths.specs.inner.Kept.{LinksFit, PathKept};
 
-// The keys of the path to the key with this Key ID, from that one on. Internal.
-pub fn held_path(entries: [Entry; WRAP_KEYS], cells: [Cell; WRAP_KEYS], n: usize, id: u32) -> Held
-    requires { ⌜ n ≤ limits .wrapKeys ⌝ }
-    ensures { λ r. ⌜ OfCopy n entries cells id (λ roots l size copies. HoldsPath roots l size limits copies r) ⌝ }
+// The keys of the path to the key with the Key ID `id`, from that one on. `links` are what was kept of the search, and `reached` are the
+// keys that it reached. Internal.
+pub fn held_path(links: Links, reached: Held, id: u32) -> Held
+    requires { ⌜ LinksFit links ⌝ }
+    ensures { λ r. ⌜ ((roots : List Root) (l : List WrapKey) (size : ℕ) → PathKept roots l size links reached →
+        (copy : SaKey) → copy .kwkId ≡ id → (x : List ℕ) → CopyOpens roots l size (copy ∷ []) x →
+        HoldsPath roots l size limits (copy ∷ []) r) ⌝ }
 {
-    let trail = path(entries, cells, n, id);
+    let trail = path(links, id);
     let places = trail.places;
     let count = trail.count;
+    let ids = links.ids;
     let none = Held::new();
     let mut keys = none.keys;
     let mut i: usize = 0;
     while i < count {
         let at = places[i];
-        let e = entries[at];
-        let c = cells[at];
-        let id = e.id;
-        let key = c.key;
+        let id = ids[at];
+        let found = reached.find(id);
+        let key = found.key;
         keys[i] = HeldKey { id, key };
         i += 1;
     }

@@ -1,7 +1,8 @@
-// The numbers of the entries of a search, array by array, as the search for levels reads them.
+// What is kept of a search once its cells are gone: the numbers of the entries, array by array, and their levels.
 use crate::levels::NOT_OPENED;
 use crate::levels::OPENED;
 use crate::levels::OPENED_FIRST;
+use crate::levels::levels;
 use state_keys::limits::WRAP_KEYS;
 use unwrap_conflicts::is_done;
 use unwrap_search::open::Cell;
@@ -10,6 +11,29 @@ ghost use mathlib.Core.Path.{_≡_};
 ghost use Prim.Native.Nat.{_≤_};
 ghost use Rattle.state_keys.specs.Limits.{limits};
 ghost use Rattle.unwrap_paths.specs.inner.Links.{markOf, Numbered};
+ghost use Rattle.unwrap_paths.specs.inner.Kept.{LinksKept, LinksFit};
+
+// Key IDs, KWK IDs and levels of the entries, by their places. The entries are the first `count`.
+pub struct Links {
+    pub ids: [u32; WRAP_KEYS],
+    pub kwks: [u32; WRAP_KEYS],
+    pub levels: [usize; WRAP_KEYS],
+    pub count: usize,
+}
+
+impl Links {
+    // Makes the links of no entry.
+    pub fn none() -> Links
+        ensures { λ r. ⌜ LinksFit r ⌝ }
+    {
+        Links {
+            ids: [0u32; WRAP_KEYS],
+            kwks: [0u32; WRAP_KEYS],
+            levels: [0usize; WRAP_KEYS],
+            count: 0,
+        }
+    }
+}
 
 // Key IDs, KWK IDs and marks of the entries, by their places.
 pub struct LinkNumbers {
@@ -31,8 +55,8 @@ fn mark(e: Entry, c: Cell) -> u8
     NOT_OPENED
 }
 
-// The numbers of the first n entries. Internal.
-pub fn numbers_of(entries: [Entry; WRAP_KEYS], cells: [Cell; WRAP_KEYS], n: usize) -> LinkNumbers
+// Reads the numbers and the marks of the first `n` entries off the cells.
+fn numbers_of(entries: [Entry; WRAP_KEYS], cells: [Cell; WRAP_KEYS], n: usize) -> LinkNumbers
     requires { ⌜ n ≤ limits .wrapKeys ⌝ }
     ensures { λ r. ⌜ Numbered n entries cells (r .ids) (r .kwks) (r .marks) ⌝ }
 {
@@ -49,4 +73,22 @@ pub fn numbers_of(entries: [Entry; WRAP_KEYS], cells: [Cell; WRAP_KEYS], n: usiz
         i += 1;
     }
     LinkNumbers { ids, kwks, marks }
+}
+
+// Keeps of a search over the first `n` entries what the way back reads: their numbers and their levels. Internal.
+pub fn links_of(entries: [Entry; WRAP_KEYS], cells: [Cell; WRAP_KEYS], n: usize) -> Links
+    requires { ⌜ n ≤ limits .wrapKeys ⌝ }
+    ensures { λ r. ⌜ LinksKept n entries cells r ⌝ }
+{
+    let numbers = numbers_of(entries, cells, n);
+    let ids = numbers.ids;
+    let kwks = numbers.kwks;
+    let marks = numbers.marks;
+    let levels = levels(&ids, &kwks, &marks, n);
+    Links {
+        ids,
+        kwks,
+        levels,
+        count: n,
+    }
 }

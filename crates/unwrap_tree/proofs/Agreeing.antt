@@ -1,7 +1,8 @@
 -- Chains from key 0 end exactly on key 0 and on the keys of the held list.
 use native.Mathlib.Omega.{arith}
-use Prim.Native.Nat.{ℕ, zero, suc, _-_, _<_}
+use Prim.Native.Nat.{ℕ, zero, suc, _-_, _≤_, _<_}
 use mathlib.Core.Path.{_≡_, refl, ap, sym, _∙_, subst}
+use mathlib.Core.Bool.{true}
 use mathlib.Core.Logic.{_⊎_, inl, inr}
 use mathlib.Core.List.{List, [], _∷_}
 use lib.ListN.{length, getD, replicate}
@@ -10,14 +11,18 @@ use Rattle.wire_attributes.specs.Tree.{WrapKey}
 use Rattle.rules_chains.specs.Chain.{In, Root, Reached, ChainEnds, root}
 use Rattle.rules_chains.specs.Refusals.{EntriesConflict, Value}
 use Rattle.rules_chains.proofs.Determined.{one-value, AtRoot, ends-by}
+use Rattle.rules_chains.proofs.Members.{in-member}
 use Rattle.state_keys.specs.Limits.{limits}
 use Rattle.state_keys.specs.Kinds.{wrappingOf, valueOf}
 use Rattle.state_keys.specs.declared.kinds.WrappingKey.{WrappingKey}
-use Rattle.state.specs.Held.{keysOf}
+use Rattle.state.specs.Held.{keysOf, keyWith, heldFormed}
 use Rattle.state.specs.declared.held.HeldKey.{HeldKey}
 use Rattle.state.specs.declared.held.Held.{Held}
-use Rattle.state.proofs.Kept.{keys-of-held}
+use Rattle.state.proofs.Kept.{keys-of-held, rising-distinct, distinct-found}
+use Rattle.state.proofs.Laws.{key-in}
 use Rattle.unwrap_copies.specs.inner.Known.{Known, key-zero, named, Agrees}
+use Rattle.unwrap_copies.proofs.Reaching.{held-within}
+use Rattle.unwrap_paths.specs.inner.Kept.{GivesReached}
 use Rattle.unwrap_search.specs.inner.Search.{keyZeroRoots}
 use Rattle.unwrap_tree.specs.inner.AllReached.{HoldsKey, HeldAre}
 use Rattle.unwrap_tree.proofs.Membership.{heldKeyOf}
@@ -67,3 +72,11 @@ module _ (entries : List WrapKey) (size : ℕ) (key : WrappingKey) (held : Held)
     ends = known-ends;
     known = λ k v e. known-at k v (ends-by (keyZeroRoots (valueOf key)) entries size (e .passed) k v (e .chain));
   }
+
+  -- the list gives each key that is reached
+  pub held-gives : heldFormed limits held ≡ true → GivesReached (keyZeroRoots (valueOf key)) entries size held
+  held-gives formed i x v =
+      let few : held .count ≤ limits .heldKeys = held-within held formed in
+      let k = heldKeyOf i x in
+      key-in limits held i few ∙ ap (keyWith i) keys-are
+      ∙ distinct-found k (are .keys) (rising-distinct (are .keys) (are .rise)) (in-member k (are .keys) (are .all i x v))

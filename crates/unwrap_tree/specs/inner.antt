@@ -1,5 +1,4 @@
 pub mod AllReached
-pub mod Working
 pub mod Joins
 pub mod Reached
 pub mod Entries

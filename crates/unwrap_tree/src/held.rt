@@ -1,9 +1,9 @@
-// Makes the held lists that a search gives: of all keys that it reached, and of the path to one of them.
+// Makes the list of all keys that a search reached.
 use state::held::Held;
 use state::held::HeldKey;
 use state_keys::limits::WRAP_KEYS;
 use unwrap_conflicts::is_done;
-use unwrap_paths::held::held_path;
+use unwrap_paths::links::Links;
 use unwrap_search::open::Cell;
 use unwrap_search::open::Entry;
 ghost use mathlib.Core.Path.{_≡_};
@@ -20,20 +20,13 @@ ghost use Rattle.unwrap_search.specs.inner.Entries.{Lists};
 ghost use Rattle.unwrap_search.specs.inner.Search.{Searched, Nonzero};
 ghost use Rattle.unwrap_tree.specs.inner.Joins.{Joins};
 ghost use Rattle.unwrap_tree.specs.inner.AllReached.{HeldAre};
-ghost use Rattle.unwrap_tree.specs.inner.Working.{HoldsPathTo};
 
-// Whether refusal 8 holds of the entries. If it does not: the keys that they reach, and the working key path. With a conflict both lists are
-// empty.
+// Whether refusal 8 holds of the entries. If it does not: the keys that they reach, and the links of the entries, which the working key path
+// is read off. With a conflict the list is empty.
 pub struct ReachedKeys {
     pub conflict: bool,
     pub held: Held,
-    pub path: Held,
-}
-
-// Whether a frame announces a Rekey SA (`some`), and the KWK ID of the SA_KEY in its bag.
-pub struct RekeyCopy {
-    pub some: bool,
-    pub kwk: u32,
+    pub links: Links,
 }
 
 // Adds the key of the entry `e`, whose cell is `c`, to `held`, if the entry was reached and its Key ID is not in the list. Two entries may
@@ -53,7 +46,7 @@ fn with_cell(held: Held, e: Entry, c: Cell) -> Held
     held
 }
 
-// Makes the held list of the keys that the first `n` entries reach. `cells` are the cells of their search.
+// Makes the list of the keys that the first `n` entries reach. `cells` are the cells of their search.
 pub fn held_of(entries: [Entry; WRAP_KEYS], cells: [Cell; WRAP_KEYS], n: usize) -> Held
     requires { ⌜ n ≤ limits .wrapKeys ⌝ }
     ensures { λ r. ⌜ ((frame : List ℕ) (roots : List Root) (l : List WrapKey) (size : ℕ) → Lists frame entries n l →
@@ -69,21 +62,4 @@ pub fn held_of(entries: [Entry; WRAP_KEYS], cells: [Cell; WRAP_KEYS], n: usize) 
         i += 1;
     }
     held
-}
-
-// Makes the held list of the working key path: the path to the key that the copy `copy` of the Rekey SA's key names. `cells` are the cells
-// of the search over the first `n` entries. Without a Rekey SA the list is empty.
-pub fn path_of(
-    entries: [Entry; WRAP_KEYS],
-    cells: [Cell; WRAP_KEYS],
-    n: usize,
-    copy: RekeyCopy,
-) -> Held
-    requires { ⌜ n ≤ limits .wrapKeys ⌝ }
-    ensures { λ r. ⌜ HoldsPathTo n entries cells copy r ⌝ }
-{
-    if copy.some {
-        return held_path(entries, cells, n, copy.kwk);
-    }
-    Held::new()
 }

@@ -18,7 +18,7 @@ use Rattle.rules_refusals.specs.Fitness.{isRekey}
 use Rattle.rules_refusals.specs.Number6.{bagNamed}
 use Rattle.rules_outcome.specs.Roots.{copiesOf}
 use Rattle.rules_outcome.specs.After.{newRekey}
-use Rattle.unwrap_tree.specs.declared.held.RekeyCopy.{RekeyCopy}
+use Rattle.receive.specs.declared.copy.RekeyCopy.{RekeyCopy}
 
 -- the KWK ID of the first copy, 0 if there is none
 abbrev pub firstKwk : List SaKey → ℕ

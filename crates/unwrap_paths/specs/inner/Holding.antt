@@ -1,13 +1,12 @@
--- The key of an entry, as a held list has it. Inner.
+-- The key at a place of the path, as a held list has it. Inner.
 use Prim.Native.Nat.{ℕ}
 use mathlib.Core.List.{List}
-use lib.ListN.{getD}
+use Rattle.octets.specs.Numbers.{oct}
+use Rattle.state_keys.specs.Limits.{limits}
+use Rattle.state.specs.Held.{heldKey}
 use Rattle.state.specs.declared.held.HeldKey.{HeldKey}
-use Rattle.unwrap_search.specs.declared.open.Entry.{Entry}
-use Rattle.unwrap_search.specs.declared.open.Cell.{Cell}
-use Rattle.unwrap_search.specs.inner.Entries.{noEntry}
-use Rattle.unwrap_search.specs.inner.Search.{cellAt}
+use Rattle.state.specs.declared.held.Held.{Held}
 
--- the key of the entry at place i
-abbrev pub heldAt : List Entry → List Cell → ℕ → HeldKey
-heldAt entries cells i = record { id = getD entries i noEntry .id; key = cellAt cells i .key }
+-- the key of the entry at place i: its Key ID is among `ids`, and its value is that of the reached key
+abbrev pub heldAt : List ℕ → Held → ℕ → HeldKey
+heldAt ids reached i = record { id = oct ids i; key = heldKey limits (oct ids i) reached .key }

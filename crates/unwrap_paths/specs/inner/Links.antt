@@ -53,9 +53,3 @@ OfCopy n entries cells id P =
     (frame zero : List ℕ) (l : List WrapKey) (size : ℕ) → Lists frame entries n l → Searched (keyZeroRoots zero) l size cells → Nonzero l →
     (EntriesConflict (keyZeroRoots zero) l size → ⊥) → (copy : SaKey) → copy .kwkId ≡ id → (x : List ℕ) →
     CopyOpens (keyZeroRoots zero) l size (copy ∷ []) x → P (keyZeroRoots zero) l size (copy ∷ [])
-
--- the first `count` places are inside, and they are those of the path
-pub record PathLeads (n : ℕ) (entries : List Entry) (cells : List Cell) (id : ℕ) (places : List ℕ) (count : ℕ) : Type 0 where
-  pub few : count ≤ limits .wrapKeys
-  pub inside : (i : ℕ) → i < count → oct places i < n
-  pub path : OfCopy n entries cells id (λ roots l size copies. LeadsTo roots l size cells copies (take count places))
