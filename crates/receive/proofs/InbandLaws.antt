@@ -15,6 +15,8 @@ use Rattle.state.specs.Held.{keysOf, heldOf, heldFormed}
 use Rattle.state.proofs.Kept.{keys-of-held, no-key-formed}
 use Rattle.rules_chains.specs.Chain.{Root}
 use Rattle.rules_outcome.specs.Roots.{heldRoot, rootsOf}
+use Rattle.unwrap_paths.specs.declared.links.Links.{Links}
+use Rattle.unwrap_paths.specs.inner.Kept.{LinksFit}
 use Rattle.receive.specs.inner.Passing.{Bagged}
 use Rattle.receive.specs.inner.Rooted.{Rooted}
 use Rattle.receive.proofs.LentLaws.{rekeys-lent, zero-fits, zero-roots}
@@ -33,6 +35,6 @@ module _ (no-key : Held) (e : no-key ≡ heldOf limits []) where
         ap (λ (l : List HeldKey). record { id = 0; value = valueOf zero } ∷ map heldRoot l) (ap keysOf e ∙ keys-of-held limits [])
         ∙ zero-roots b rekeys-lent zero z
 
-    pub inband-rooted : (after : Held) → after ≡ m .held →
-        Rooted m now lent (record { conflict = false; zero = zero; opens = no-key; after = after }) f
+    pub inband-rooted : (links : Links) → LinksFit links →
+        Rooted m now lent (record { conflict = false; zero = zero; opens = no-key; links = links }) f
     inband-rooted = no-entry-rooted b refl refl zero no-key roots-are (zero-fits b rekeys-lent zero z) no-key-fits

@@ -29,7 +29,7 @@ use Rattle.rules_chains.proofs.Members.{member-in}
 use Rattle.rules_outcome.specs.Roots.{copiesOf}
 use Rattle.rules_outcome.specs.After.{newRekey, rekeyCopies, HoldsPath, HeldSet}
 use Rattle.rules_outcome.proofs.RunsLists.{none-passes}
-use Rattle.unwrap_tree.specs.declared.held.RekeyCopy.{RekeyCopy}
+use Rattle.receive.specs.declared.copy.RekeyCopy.{RekeyCopy}
 use Rattle.receive.specs.inner.Copies.{firstKwk, kwkAmong, rekeyCopyOf}
 use Rattle.receive.specs.inner.Passing.{EachOpens}
 use Rattle.receive.proofs.ClauseLaws.{rekeys-few, all-paired, one-key}

@@ -2,7 +2,7 @@
 use native.Mathlib.Omega.{arith}
 use Prim.Native.Nat.{ℕ}
 use mathlib.Core.Path.{_≡_, refl, ap, sym, subst, _∙_}
-use mathlib.Core.Bool.{Bool, true, false, false≢true}
+use mathlib.Core.Bool.{true, false, false≢true}
 use mathlib.Core.List.{List, [], _∷_}
 use lib.ListN.{length}
 use Rattle.state_keys.specs.Limits.{limits}
@@ -22,18 +22,18 @@ use Rattle.state_table.proofs.Kept.{sas-of-table, swept-formed}
 use Rattle.state.specs.Held.{heldFormed}
 use Rattle.state.specs.declared.State.{State}
 use Rattle.state.specs.declared.held.Held.{Held}
-use Rattle.rules_refusals.specs.Contents.{rowOf}
 use Rattle.rules_refusals.specs.Number2.{notDueSas, overLiveRekey}
 use Rattle.rules_chains.specs.Chain.{Root, Chain, root, step, Reached}
 use Rattle.rules_chains.specs.Refusals.{EntriesConflict, wrong-size, two-values}
 use Rattle.unwrap_copies.specs.inner.Known.{Agrees}
 use Rattle.rules_outcome.specs.Roots.{rootsOf, entriesOf, wrappingSize}
-use Rattle.rules_outcome.specs.After.{HeldBy}
 use Rattle.rules_outcome.proofs.Rows.{own-roots}
 use Rattle.rules_outcome.proofs.Members.{not-in-none}
 use Rattle.rules_outcome.proofs.RunsLists.{some-passes, passes-some}
 use Rattle.apply.proofs.NextLaws.{swept-made}
-use Rattle.receive.specs.inner.Passing.{Bagged, SetOnceOpen, IsDefaultKey}
+use Rattle.unwrap_paths.specs.declared.links.Links.{Links}
+use Rattle.unwrap_paths.specs.inner.Kept.{LinksFit}
+use Rattle.receive.specs.inner.Passing.{Bagged, IsDefaultKey}
 use Rattle.receive.specs.inner.Rooted.{Rooted}
 use Rattle.receive.proofs.ClauseLaws.{state-formed, over-live, no-entry}
 use Rattle.receive.proofs.ConcludingLaws.{table-fits, table-is, held-fits}
@@ -52,11 +52,6 @@ none-eight : (roots : List Root) (size : ℕ) → EntriesConflict roots [] size 
 none-eight roots size (wrong-size k x r d) = none-reached roots size k x r
 none-eight roots size (two-values k x y r q d) = none-reached roots size k x r
 
--- a list that stays, in an exchange that sets none
-kept-by : (b : Bool) (Set Kept : Type 0) → b ≡ false → Kept → HeldBy b Set Kept
-kept-by true Set Kept e k = absurd (false≢true (sym e))
-kept-by false Set Kept e k = k
-
 -- a frame of an exchange that has no Member bag and leaves the held list, opened under key 0 and the keys of a list
 module _ {y : Exchange} {m : State} {now : ℕ} {lent g k : List ℕ} {f : Frame}
     (b : Bagged y m now lent g k f) (no-bag : y .«allows_member_bag» ≡ false) (leaves : y .registers ≡ false) (zero : WrappingKey)
@@ -68,18 +63,17 @@ module _ {y : Exchange} {m : State} {now : ℕ} {lent g k : List ℕ} {f : Frame
   carry : (P : List Root → List WrapKey → Type 0) → P (heldRoots zero opens) [] → P (rootsOf limits m now lent f) (entriesOf f)
   carry P p = subst (P (rootsOf limits m now lent f)) none (subst (λ (l : List Root). P l []) roots-are p)
 
-  pub no-entry-rooted : sizeOf 13 (zero .count) ≡ true → heldFormed limits opens ≡ true →
-      (after : Held) → after ≡ m .held → Rooted m now lent (record { conflict = false; zero = zero; opens = opens; after = after }) f
-  no-entry-rooted fits formed after stays =
+  pub no-entry-rooted : sizeOf 13 (zero .count) ≡ true → heldFormed limits opens ≡ true → (links : Links) → LinksFit links →
+      Rooted m now lent (record { conflict = false; zero = zero; opens = opens; links = links }) f
+  no-entry-rooted fits formed links fit =
       let n = wrappingSize limits m now lent f in
       record {
         conflict = carry (λ (r : List Root) (l : List WrapKey). EntriesConflict r l n → ⊥) (none-eight (heldRoots zero opens) n);
         fits = fits;
-        formed = λ e. formed;
+        formed = formed;
+        links-fit = fit;
         agrees = λ e. carry (λ (r : List Root) (l : List WrapKey). Agrees r l n zero opens) (rekey-agrees zero opens n);
-        set = λ e.
-            kept-by (rowOf f .registers) (SetOnceOpen m now lent f after) (after ≡ m .held)
-            (ap (λ (e : Exchange). e .registers) (b .row) ∙ leaves) stays;
+        kept = λ e h. absurd (false≢true (sym (ap (λ (e : Exchange). e .registers) (b .row) ∙ leaves) ∙ h));
       }
 
 module _ {m : State} {now : ℕ} {lent g k : List ℕ} {f : Frame} (b : Bagged rekey m now lent g k f) (t : Table)
@@ -106,7 +100,7 @@ module _ {m : State} {now : ℕ} {lent g k : List ℕ} {f : Frame} (b : Bagged r
         let own : zero ≡ defaultKey limits (swept limits now (m .table)) .key = d .is ∙ ap (λ (x : Table). defaultKey limits x .key) w in
         ap (λ (x : WrappingKey). heldRoots x (m .held)) own ∙ sym (own-roots limits m now f (b .row) lent)
 
-    pub rekey-rooted : Rooted m now lent (record { conflict = false; zero = zero; opens = m .held; after = m .held }) f
+    pub rekey-rooted : (links : Links) → LinksFit links →
+        Rooted m now lent (record { conflict = false; zero = zero; opens = m .held; links = links }) f
     rekey-rooted =
         no-entry-rooted b refl refl zero (m .held) roots-are (d .fits) (held-fits m (state-formed m now lent f (b .clauses)))
-        (m .held) refl

@@ -1,4 +1,5 @@
 pub mod Copies
 pub mod Passing
 pub mod Rooted
+pub mod Opening
 pub mod Saying

@@ -3,15 +3,27 @@ use crate::copy::rekey_copy;
 use crate::roots::roots;
 use state::State;
 use state::held::Held;
-use state_keys::limits::SAS;
-use state_sa::entry::Sa;
 use unwrap_paths::held::held_path;
 use unwrap_paths::links::Links;
 use unwrap_sas::joining::Keyed;
-use unwrap_sas::joining::SasFound;
 use unwrap_sas::open_sas;
 use wire_frames::exchanges::Exchange;
 use wire_readers::Stretch;
+ghost use mathlib.Core.Path.{_≡_};
+ghost use mathlib.Core.Bool.{true};
+ghost use mathlib.Core.List.{List};
+ghost use Prim.Native.Nat.{ℕ};
+ghost use Rattle.state_keys.specs.Limits.{limits};
+ghost use Rattle.wire_policies.specs.Policy.{policies};
+ghost use Rattle.wire_bags.specs.Bag.{bags};
+ghost use Rattle.wire_frames.specs.Frame.{Frame};
+ghost use Rattle.state.specs.declared.State.{State};
+ghost use Rattle.wire_readers.specs.inner.Values.{isWhole};
+ghost use Rattle.rules_outcome.specs.Roots.{rootsOf, entriesOf, wrappingSize};
+ghost use Rattle.unwrap_paths.specs.inner.Kept.{LinksFit, PathKept};
+ghost use Rattle.unwrap_tree.specs.inner.Entries.{HoldsEntries};
+ghost use Rattle.receive.specs.inner.Passing.{Bagged, KeepsOrSets};
+ghost use Rattle.receive.specs.inner.Opening.{KeysOpened};
 
 // Whether refusal 8 holds of the frame's entries. If it does not: the result for its SAs, and the held list after acceptance.
 pub struct Opened {
@@ -20,19 +32,32 @@ pub struct Opened {
     pub held: Held,
 }
 
-// Makes the held list after a registration is accepted: the working key path (document 02, T-04), read back from the key that the copy of
-// the Rekey SA's key names, or the empty list without a Rekey SA.
-fn path_held(gsa: &[u8], kd: &[u8], links: Links, reached: Held) -> Held
+// Answers the held list after acceptance. A registration sets it: to the working key path (document 02, T-04), which is read back from the
+// key that the copy of the Rekey SA's key names, or to the empty list if there is no Rekey SA. In the other exchanges `held` stays. `row` is
+// the row of the exchange, `gsa` and `kd` are the bodies of the frame, `links` and `reached` are what its search found.
+fn held_after(held: Held, row: Exchange, gsa: &[u8], kd: &[u8], links: Links, reached: Held) -> Held
+    requires { ⌜ (isWhole (policies 0 (now gsa)) ≡ true) × (isWhole (bags 0 (now kd)) ≡ true) ⌝ }
+    requires { ⌜ LinksFit links ⌝ }
+    requires { ⌜ ((m : State) × (tick : ℕ) × (lent : List ℕ) × (f : Frame) × Bagged row m tick lent (now gsa) (now kd) f) ⌝ }
+    ensures { λ r. ⌜ ((m : State) (tick : ℕ) (lent : List ℕ) (f : Frame) →
+        Bagged row m tick lent (now (gsa .entry)) (now (kd .entry)) f → m .held ≡ held →
+        (row .registers ≡ true →
+        PathKept (rootsOf limits m tick lent f) (entriesOf f) (wrappingSize limits m tick lent f) links reached) →
+        KeepsOrSets m tick lent f r) ⌝ }
 {
-    let copy = rekey_copy(gsa, kd);
-    if copy.some {
-        return held_path(links, reached, copy.kwk);
+    if row.registers {
+        let copy = rekey_copy(gsa, kd);
+        if copy.some {
+            return held_path(links, reached, copy.kwk);
+        }
+        return Held::new();
     }
-    Held::new()
+    held
 }
 
 // Opens the keys of the frame with the GSA body `gsa` and the KD body `kd`. `row` is the row of its exchange, and its WRAP_KEYs stand in the
-// stretch `bag` of `kd`. What is read for the opening goes when this returns, so that the next state has its room.
+// stretch `bag` of `kd`. All that is read for it is gone when this returns, so that the next state is made in the same room. The SAs are
+// opened even if refusal 8 holds of the entries: a second return would take 30 kB of stack (docs/landings/T-04.md).
 pub fn open_keys(
     state: State,
     row: Exchange,
@@ -42,17 +67,18 @@ pub fn open_keys(
     lent: &[u8],
     tick: u32,
 ) -> Opened
+    requires { ⌜ (isWhole (policies 0 (now gsa)) ≡ true) × (isWhole (bags 0 (now kd)) ≡ true) ⌝ }
+    requires { ⌜ HoldsEntries (now kd) bag ⌝ }
+    requires { ⌜ ((f : Frame) × Bagged row state tick (now lent) (now gsa) (now kd) f) ⌝ }
+    ensures { λ r. ⌜ ((f : Frame) → Bagged row state tick (now (lent .entry)) (now (gsa .entry)) (now (kd .entry)) f →
+        KeysOpened state tick (now (lent .entry)) r f) ⌝ }
 {
-    let held = state.held;
     let r = roots(state, row, kd, bag, lent, tick);
-    if r.conflict {
-        let keyed = Keyed { found: SasFound::KeyConflict, sas: [Sa::blank(); SAS], count: 0 };
-        return Opened { conflict: true, keyed, held };
-    }
     let keyed = open_sas(gsa, kd, r.zero, r.opens, tick);
-    if row.registers {
-        let held = path_held(gsa, kd, r.links, r.opens);
-        return Opened { conflict: false, keyed, held };
+    let held = held_after(state.held, row, gsa, kd, r.links, r.opens);
+    Opened {
+        conflict: r.conflict,
+        keyed,
+        held,
     }
-    Opened { conflict: false, keyed, held }
 }

@@ -12,11 +12,14 @@ default-key-requires c κs =
     let w = c .sweep in
     (stands-formed b (w .result) (w .ensures), stands-live b (w .result) (w .ensures))
 
+none-requires : tie.Need-none-requires
+none-requires c κs = search needs
+
 returns : tie.Need-returns
 returns c =
-    let w = c .before .before .sweep in
-    let z = c .before .default-key in
-    λ lent g k f b. rekey-rooted b (w .result) (w .ensures) (z .result) (z .ensures)
+    let w = c .before .before .before .sweep in
+    let z = c .before .before .default-key in
+    λ lent g k f b. rekey-rooted b (w .result) (w .ensures) (z .result) (z .ensures) (c .none .result) (c .none .ensures)
 
 pub of-rekey-sa-spec : {M : Type 1} → statement M
-of-rekey-sa-spec = tie.close (tie.spec sweep-requires default-key-requires returns)
+of-rekey-sa-spec = tie.close (tie.spec sweep-requires default-key-requires none-requires returns)
