@@ -78,9 +78,10 @@ module _ {m : State} {now : ℕ} {lent g k : List ℕ} {f : Frame} (b : Bagged r
       (copy .some ≡ true → (c : SaKey) → c .kwkId ≡ copy .kwk → (x : List ℕ) →
       CopyOpens (rootsOf limits m now lent f) (entriesOf f) (wrappingSize limits m now lent f) (c ∷ []) x →
       HoldsPath (rootsOf limits m now lent f) (entriesOf f) (wrappingSize limits m now lent f) limits (c ∷ []) h) →
-      (copy .some ≡ false → h ≡ heldOf limits []) → KeepsOrSets m now lent f h
+      (copy .some ≡ false → h ≡ heldOf limits []) → SetOnceOpen m now lent f h
   registration-sets copy is h path no-path =
-      set-by (rowOf f .registers) (SetOnceOpen m now lent f h) (h ≡ m .held)
-      (ap (λ (y : Exchange). y .registers) (b .row))
-      (held-set f (rootsOf limits m now lent f) (entriesOf f) (wrappingSize limits m now lent f) copy is h path no-path
-      (one-copy m now lent f (b .clauses) (b .row)))
+      held-set f (rootsOf limits m now lent f) (entriesOf f) (wrappingSize limits m now lent f) copy is h path no-path
+      (one-copy m now lent f (b .clauses) (b .row))
+
+  pub sets : (h : Held) → SetOnceOpen m now lent f h → KeepsOrSets m now lent f h
+  sets h s = set-by (rowOf f .registers) (SetOnceOpen m now lent f h) (h ≡ m .held) (ap (λ (y : Exchange). y .registers) (b .row)) s

@@ -17,12 +17,13 @@ ghost use Rattle.state_keys.specs.Limits.{limits};
 ghost use Rattle.wire_policies.specs.Policy.{policies};
 ghost use Rattle.wire_bags.specs.Bag.{bags};
 ghost use Rattle.wire_frames.specs.Frame.{Frame};
+ghost use Rattle.wire_frames.specs.Exchange.{registration};
 ghost use Rattle.state.specs.declared.State.{State};
 ghost use Rattle.wire_readers.specs.inner.Values.{isWhole};
 ghost use Rattle.rules_outcome.specs.Roots.{rootsOf, entriesOf, wrappingSize};
 ghost use Rattle.unwrap_paths.specs.inner.Kept.{LinksFit, PathKept};
 ghost use Rattle.unwrap_tree.specs.inner.Entries.{HoldsEntries};
-ghost use Rattle.receive.specs.inner.Passing.{Bagged, KeepsOrSets};
+ghost use Rattle.receive.specs.inner.Passing.{Bagged, SetOnceOpen, KeepsOrSets};
 ghost use Rattle.receive.specs.inner.Opening.{KeysOpened};
 
 // Whether refusal 8 holds of the frame's entries. If it does not: the result for its SAs, and the held list after acceptance.
@@ -32,9 +33,26 @@ pub struct Opened {
     pub held: Held,
 }
 
-// Answers the held list after acceptance. A registration sets it: to the working key path (document 02, T-04), which is read back from the
-// key that the copy of the Rekey SA's key names, or to the empty list if there is no Rekey SA. In the other exchanges `held` stays. `row` is
-// the row of the exchange, `gsa` and `kd` are the bodies of the frame, `links` and `reached` are what its search found.
+// Answers the list that a registration sets: the working key path (document 02, T-04), read back from the key that the copy of the Rekey SA's
+// key names, or the empty list if there is no Rekey SA. `gsa` and `kd` are the bodies of the frame, `links` and `reached` are what its search
+// found.
+fn path_held(gsa: &[u8], kd: &[u8], links: Links, reached: Held) -> Held
+    requires { ⌜ (isWhole (policies 0 (now gsa)) ≡ true) × (isWhole (bags 0 (now kd)) ≡ true) ⌝ }
+    requires { ⌜ LinksFit links ⌝ }
+    requires { ⌜ ((m : State) × (tick : ℕ) × (lent : List ℕ) × (f : Frame) × Bagged registration m tick lent (now gsa) (now kd) f) ⌝ }
+    ensures { λ r. ⌜ ((m : State) (tick : ℕ) (lent : List ℕ) (f : Frame) →
+        Bagged registration m tick lent (now (gsa .entry)) (now (kd .entry)) f →
+        PathKept (rootsOf limits m tick lent f) (entriesOf f) (wrappingSize limits m tick lent f) links reached →
+        SetOnceOpen m tick lent f r) ⌝ }
+{
+    let copy = rekey_copy(gsa, kd);
+    if copy.some {
+        return held_path(links, reached, copy.kwk);
+    }
+    Held::new()
+}
+
+// Answers the held list after acceptance. A registration sets it, in the other exchanges `held` stays. `row` is the row of the exchange.
 fn held_after(held: Held, row: Exchange, gsa: &[u8], kd: &[u8], links: Links, reached: Held) -> Held
     requires { ⌜ (isWhole (policies 0 (now gsa)) ≡ true) × (isWhole (bags 0 (now kd)) ≡ true) ⌝ }
     requires { ⌜ LinksFit links ⌝ }
@@ -46,11 +64,7 @@ fn held_after(held: Held, row: Exchange, gsa: &[u8], kd: &[u8], links: Links, re
         KeepsOrSets m tick lent f r) ⌝ }
 {
     if row.registers {
-        let copy = rekey_copy(gsa, kd);
-        if copy.some {
-            return held_path(links, reached, copy.kwk);
-        }
-        return Held::new();
+        return path_held(gsa, kd, links, reached);
     }
     held
 }
