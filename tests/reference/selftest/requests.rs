@@ -133,17 +133,21 @@ fn rekey_sa_that_ran_out() {
     assert_eq!(take(&mut too_long, &LENT, 0, &registration(vec![], vec![lifetime(2_000_000)]).octets()), 0);
 }
 
+/// The Key IDs that a new member holds after a registration with these entries (Key ID, KWK ID) and the Rekey SA's key under key `under`.
+/// Each is held with its value.
+fn held_after(links: &[(u32, u32)], under: u32) -> Vec<u32> {
+    let key = |id: u32| if id == 0 { LENT } else { [id as u8; 16] };
+    let entries = links.iter().map(|(id, kwk_id)| entry(*id, &key(*id), *kwk_id, &key(*kwk_id))).collect();
+    let mut member = Member::new();
+    assert_eq!(take(&mut member, &LENT, 0, &registration_under(under, &key(under), entries, vec![]).octets()), 0);
+    assert!(member.held.iter().all(|(id, value)| *value == key(*id)));
+    held_ids(&member)
+}
+
 /// T-04: of the chains that open the Rekey SA's key the shortest one, of these the smallest, from the key that opens it on.
 #[test]
 fn working_key_paths() {
-    let key = |id: u32| if id == 0 { LENT } else { [id as u8; 16] };
-    let held = |links: &[(u32, u32)], under: u32| {
-        let entries = links.iter().map(|(id, kwk_id)| entry(*id, &key(*id), *kwk_id, &key(*kwk_id))).collect();
-        let mut member = Member::new();
-        assert_eq!(take(&mut member, &LENT, 0, &registration_under(under, &key(under), entries, vec![]).octets()), 0);
-        assert!(member.held.iter().all(|(id, value)| *value == key(*id)));
-        held_ids(&member)
-    };
+    let held = held_after;
     let tree = [(1, 3), (3, 0), (1, 7), (7, 0), (1, 2)];
     assert_eq!(held(&tree, 1), [1, 3]);
     assert_eq!(held(&[&tree[..], &[(1, 0)]].concat(), 1), [1]);
@@ -158,6 +162,42 @@ fn working_key_paths() {
     // RFC 9838, Appendix A.2: members A and E
     assert_eq!(held(&[(1, 3), (3, 7), (7, 0)], 1), [1, 3, 7]);
     assert_eq!(held(&[(2, 5), (5, 11), (11, 0)], 2), [2, 5, 11]);
+}
+
+/// T-04, word for word: all chains with no key twice are written down, and of those that end on the key the least is taken, by length and
+/// then by list. The entries are made by chance: ties, circles, entries twice and entries that nothing reaches are among them.
+#[test]
+fn paths_among_all_chains() {
+    let mut state = 4_u32;
+    let mut below = |n: u32| {
+        state = state.wrapping_mul(1_664_525).wrapping_add(1_013_904_223);
+        (state >> 16) % n
+    };
+    let mut ties = 0;
+    for _ in 0..1_000 {
+        let made: Vec<(u32, u32)> = (0..3 + below(9)).map(|_| (1 + below(5), below(6))).collect();
+        let links: Vec<(u32, u32)> = made.into_iter().filter(|(id, kwk_id)| id != kwk_id).collect();
+        let mut chains: Vec<Vec<u32>> = vec![vec![]];
+        let mut at = 0;
+        while at < chains.len() {
+            let chain = chains[at].clone();
+            let end = chain.first().copied().unwrap_or(0);
+            let next = links.iter().filter(|(id, kwk_id)| *kwk_id == end && !chain.contains(id));
+            chains.extend(next.map(|(id, _)| [&[*id], &chain[..]].concat()));
+            at += 1;
+        }
+        for under in 1..6 {
+            let mut to: Vec<(usize, &Vec<u32>)> =
+                chains.iter().filter(|c| c.first() == Some(&under)).map(|c| (c.len(), c)).collect();
+            to.sort();
+            to.dedup();
+            if let Some((keys, least)) = to.first() {
+                assert_eq!(held_after(&links, under), **least, "{links:?} to {under}");
+                ties += usize::from(to.get(1).is_some_and(|(others, _)| others == keys));
+            }
+        }
+    }
+    assert!(ties > 20, "{ties} ties");
 }
 
 /// T-04: without a Rekey SA the list is empty though keys are reached, and an entry that fails makes no chain.
