@@ -1,8 +1,9 @@
 //! Inputs to time a member with, each as NAME.in and what a member must print as NAME.out.
 //!
 //! `inputs rekeys SIZE COUNT NAME`: so many rekeys, all keys of so many octets, a delete after each. `inputs runs SIZE COUNT NAME`: the
-//! same with as few deletes as the table allows. `inputs hostile`: the names of the hostile frames and their answers. `inputs hostile
-//! FRAME COUNT NAME`: one of them so many times, and as NAME-bad the lines of the same digits that are "bad" by the last one.
+//! same with as few deletes as the table allows. `inputs full SIZE COUNT NAME`: as `rekeys`, over 128 held keys. `inputs hostile`: the
+//! names of the hostile frames and their answers. `inputs hostile FRAME COUNT NAME`: one of them so many times, and as NAME-bad the lines
+//! of the same digits that are "bad" by the last one.
 
 mod group;
 mod hostile;
@@ -52,7 +53,10 @@ fn run(arguments: &[&str]) -> Result<()> {
     let number = |text: &str| text.parse::<u32>().map_err(|_| Error::other(format!("{text} is no number")));
     match arguments {
         ["rekeys", size @ ("16" | "24" | "32"), count, name] => {
-            rekeys::rekeys(number(size)? as usize, number(count)?).write(name)
+            rekeys::rekeys(number(size)? as usize, rekeys::COPIES, number(count)?).write(name)
+        }
+        ["full", size @ ("16" | "24" | "32"), count, name] => {
+            rekeys::rekeys(number(size)? as usize, rekeys::MOST_HELD, number(count)?).write(name)
         }
         ["runs", size @ ("16" | "24" | "32"), count, name] => rekeys::runs(number(size)? as usize, number(count)?).write(name),
         ["hostile"] => {
@@ -66,7 +70,7 @@ fn run(arguments: &[&str]) -> Result<()> {
             frames.write(name)?;
             bad_lines.write(&format!("{name}-bad"))
         }
-        _ => Err(Error::other("inputs rekeys|runs 16|24|32 COUNT NAME, or inputs hostile [FRAME COUNT NAME]")),
+        _ => Err(Error::other("inputs rekeys|runs|full 16|24|32 COUNT NAME, or inputs hostile [FRAME COUNT NAME]")),
     }
 }
 

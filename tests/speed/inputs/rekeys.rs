@@ -3,14 +3,15 @@
 //! Document 01's table had room for 16 SAs, and SAs that a frame retires count until the next one. So no two such rekeys could follow
 //! each other: between them comes one that deletes the 8 ESP SAs, and without a delay these are due when the next rekey arrives. The run
 //! stays as it was, so that times can be held against those before document 02's 64 SAs. A second run has as few deletes as the table
-//! allows.
+//! allows, a third has a full held list.
 
 use crate::group::{announce, Group};
 use crate::Input;
 use builder::typical::delete;
 
 const ESP_SAS: u32 = 8;
-const COPIES: u32 = 32;
+pub const COPIES: u32 = 32;
+pub const MOST_HELD: u32 = 128;
 const MOST_SAS: u32 = 64;
 
 /// How many rekeys can follow each other: what they leave is their ESP SAs, and beside the last one's stand the new Rekey SA and the old.
@@ -19,17 +20,18 @@ const RUN: u32 = (MOST_SAS - 2) / ESP_SAS;
 /// The counter wraps within the run.
 const FIRST_TICK: u32 = 0xffff_0000;
 
-pub fn rekeys(size: usize, count: u32) -> Input {
-    let mut group = Group::new(size, COPIES);
+/// Each rekey with its delete, over so many held keys.
+pub fn rekeys(size: usize, keys: u32, count: u32) -> Input {
+    let mut group = Group::new(size, keys);
     let mut input = Input::new(&group.lent);
     let mut tick = FIRST_TICK;
-    input.frame(tick, &group.registration(), "0 1 32");
+    input.frame(tick, &group.registration(), &format!("0 1 {keys}"));
     for turn in 0..count {
         tick = tick.wrapping_add(100);
         let spis = spis(turn);
-        input.frame(tick, &rekey(&mut group, &spis), "0 10 32");
+        input.frame(tick, &rekey(&mut group, &spis), &format!("0 10 {keys}"));
         let spis: Vec<Vec<u8>> = spis.iter().map(|spi| spi.to_be_bytes().to_vec()).collect();
-        input.frame(tick, &group.rekey(vec![delete(&spis)]), "0 9 32");
+        input.frame(tick, &group.rekey(vec![delete(&spis)]), &format!("0 9 {keys}"));
     }
     input
 }
@@ -59,6 +61,7 @@ fn spis(turn: u32) -> Vec<u32> {
 fn rekey(group: &mut Group, spis: &[u32]) -> builder::Frame {
     let mut under = group.held.clone();
     group.rng.shuffle(&mut under);
+    under.truncate(COPIES as usize);
     let (rekey_sa, spi, keying) = group.rekey_sa(&under);
     let mut sas = vec![rekey_sa];
     sas.extend(spis.iter().map(|spi| group.esp_sa(*spi)));
