@@ -11,12 +11,12 @@ use Rattle.unwrap_conflicts.specs.inner.Values.{Decides}
 use Rattle.rules_outcome.specs.Roots.{rootsOf, entriesOf, wrappingSize}
 use Rattle.rules_outcome.specs.Outcome.{Judged}
 use Rattle.check_judging.specs.declared.facts.Facts.{Facts}
-use Rattle.receive.specs.declared.opening.Opened.{Opened}
+use Rattle.receive.specs.declared.opening.KeysFound.{KeysFound}
 use Rattle.receive.specs.inner.Passing.{Passed, FrameOpened}
 use Rattle.receive.specs.inner.Opening.{KeysOpened}
 use Rattle.receive.proofs.ConcludingLaws.{entries-eight}
 
-module _ {m : State} {now : ℕ} {lent s : List ℕ} {x : Facts} {f : Frame} (p : Passed m now lent s x f) (r : Opened)
+module _ {m : State} {now : ℕ} {lent s : List ℕ} {x : Facts} {f : Frame} (p : Passed m now lent s x f) (r : KeysFound)
     (d : KeysOpened m now lent r f) where
   tells : (y : Bool) → r .conflict ≡ y →
       Decides y (EntriesConflict (rootsOf limits m now lent f) (entriesOf f) (wrappingSize limits m now lent f))

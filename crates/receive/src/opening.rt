@@ -27,7 +27,7 @@ ghost use Rattle.receive.specs.inner.Passing.{Bagged, SetOnceOpen, Keeps
 ghost use Rattle.receive.specs.inner.Opening.{KeysOpened};
 
 // Whether refusal 8 holds of the frame's entries. If it does not: the result for its SAs, and the held list after acceptance.
-pub struct Opened {
+pub struct KeysFound {
     pub conflict: bool,
     pub keyed: Keyed,
     pub held: Held,
@@ -80,7 +80,7 @@ pub fn open_keys(
     bag: Stretch,
     lent: &[u8],
     tick: u32,
-) -> Opened
+) -> KeysFound
     requires { ⌜ (isWhole (policies 0 (now gsa)) ≡ true) × (isWhole (bags 0 (now kd)) ≡ true) ⌝ }
     requires { ⌜ HoldsEntries (now kd) bag ⌝ }
     requires { ⌜ ((f : Frame) × Bagged row state tick (now lent) (now gsa) (now kd) f) ⌝ }
@@ -90,7 +90,7 @@ pub fn open_keys(
     let r = roots(state, row, kd, bag, lent, tick);
     let keyed = open_sas(gsa, kd, r.zero, r.opens, tick);
     let held = held_after(state.held, row, gsa, kd, r.links, r.opens);
-    Opened {
+    KeysFound {
         conflict: r.conflict,
         keyed,
         held,
