@@ -47,8 +47,8 @@ impl Writer<'_> {
         }
     }
 
-    /// A registration with a tree and an ESP SA alone, of a member that has run out: no key is held after it. The SA is due at once, so that
-    /// the member may register again.
+    /// A registration with a tree and an ESP SA alone, of a member that has run out: no key is held after it. The SA is due at once, so
+    /// that the member may register again.
     pub fn ends_held_list(&mut self, shape: Shape) {
         let held = !self.scene.member.held.is_empty();
         let mut case = self.scene.registration(Shape { rekey: false, esp: 1, ..shape });

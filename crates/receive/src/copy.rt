@@ -73,8 +73,8 @@ fn kwk_of(kd: &[u8], spi: &[u8]) -> u32
     first_kwk(&kd[start..end])
 }
 
-// Answers whether a frame announces a Rekey SA, and the KWK ID of the SA_KEY in its bag: 0 without a Rekey SA. `gsa` is the frame's GSA body
-// and `kd` its KD body. A registration has one SA_KEY in a bag (refusal 6).
+// Answers whether a frame announces a Rekey SA, and the KWK ID of the SA_KEY in its bag: 0 without a Rekey SA. `gsa` is the frame's GSA
+// body and `kd` its KD body. A registration has one SA_KEY in a bag (refusal 6).
 pub fn rekey_copy(gsa: &[u8], kd: &[u8]) -> RekeyCopy
     requires { ⌜ (isWhole (policies 0 (now gsa)) ≡ true) × (isWhole (bags 0 (now kd)) ≡ true) ⌝ }
     requires { ⌜ ((f : Frame) × ChecksPassed f (now gsa) (now kd)) ⌝ }

@@ -33,9 +33,9 @@ pub struct KeysFound {
     pub held: Held,
 }
 
-// Answers the list that a registration sets: the working key path (document 02, T-04), read back from the key that the copy of the Rekey SA's
-// key names, or the empty list if there is no Rekey SA. `gsa` and `kd` are the bodies of the frame, `links` and `reached` are what its search
-// found.
+// Answers the list that a registration sets: the working key path (document 02, T-04), read back from the key that the copy of the Rekey
+// SA's key names, or the empty list if there is no Rekey SA. `gsa` and `kd` are the bodies of the frame, `links` and `reached` are what its
+// search found.
 fn path_held(gsa: &[u8], kd: &[u8], links: Links, reached: Held) -> Held
     requires { ⌜ (isWhole (policies 0 (now gsa)) ≡ true) × (isWhole (bags 0 (now kd)) ≡ true) ⌝ }
     requires { ⌜ LinksFit links ⌝ }
@@ -69,9 +69,9 @@ fn held_after(held: Held, row: Exchange, gsa: &[u8], kd: &[u8], links: Links, re
     held
 }
 
-// Opens the keys of the frame with the GSA body `gsa` and the KD body `kd`. `row` is the row of its exchange, and its WRAP_KEYs stand in the
-// stretch `bag` of `kd`. All that is read for it is gone when this returns, so that the next state is made in the same room. The SAs are
-// opened even if refusal 8 holds of the entries: a second return would take 30 kB of stack (docs/landings/T-04.md).
+// Opens the keys of the frame with the GSA body `gsa` and the KD body `kd`. `row` is the row of its exchange, and its WRAP_KEYs stand in
+// the stretch `bag` of `kd`. All that is read for it is gone when this returns, so that the next state is made in the same room. The SAs
+// are opened even if refusal 8 holds of the entries, because a second return would take 30 kB of stack (docs/landings/T-04.md).
 pub fn open_keys(
     state: State,
     row: Exchange,

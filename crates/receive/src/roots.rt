@@ -30,8 +30,8 @@ pub struct StartingKeys {
     pub links: Links,
 }
 
-// Finds the keys of a registration: `lent` is key 0, and the other keys are reached from it. The WRAP_KEYs stand in the stretch `bag` of the
-// KD body `kd`.
+// Finds the keys of a registration: `lent` is key 0, and the other keys are reached from it. The WRAP_KEYs stand in the stretch `bag` of
+// the KD body `kd`.
 fn reached_from(kd: &[u8], bag: Stretch, lent: &[u8]) -> StartingKeys
     requires { ⌜ HoldsEntries (now kd) bag ⌝ }
     requires { ⌜ ((m : State) × (tick : ℕ) × (g : List ℕ) × (f : Frame) × Bagged registration m tick (now lent) g (now kd) f) ⌝ }
@@ -86,8 +86,8 @@ fn of_rekey_sa(state: State, tick: u32) -> StartingKeys
     }
 }
 
-// Finds the keys that a KWK ID of a frame can name. `row` is the row of its exchange, and its WRAP_KEYs stand in the stretch `bag` of its KD
-// body `kd`. The choice goes by whether the exchange sets the held list, then by whose key KWK ID 0 names.
+// Finds the keys that a KWK ID of a frame can name. `row` is the row of its exchange, and its WRAP_KEYs stand in the stretch `bag` of its
+// KD body `kd`. The choice goes by whether the exchange sets the held list, then by whose key KWK ID 0 names.
 pub fn roots(
     state: State,
     row: Exchange,

@@ -21,8 +21,8 @@ ghost use Rattle.unwrap_search.specs.inner.Search.{Searched, Nonzero};
 ghost use Rattle.unwrap_tree.specs.inner.Joins.{Joins};
 ghost use Rattle.unwrap_tree.specs.inner.AllReached.{HeldAre};
 
-// Whether refusal 8 holds of the entries. If it does not: the keys that they reach, and the links of the entries, which the working key path
-// is read off. With a conflict the list is empty.
+// Whether refusal 8 holds of the entries. If it does not: the keys that they reach, and the links of the entries, which the working key
+// path is read off. With a conflict the list is empty.
 pub struct ReachedKeys {
     pub conflict: bool,
     pub held: Held,

@@ -20,8 +20,8 @@ ghost use Rattle.unwrap_search.specs.inner.Search.{Nonzero, keyZeroRoots};
 ghost use Rattle.unwrap_tree.specs.inner.Reached.{wrapKeysIn, TreeAnswers};
 ghost use Rattle.unwrap_tree.specs.inner.Entries.{HoldsEntries};
 
-// Finds the keys that the WRAP_KEYs of the KD body `kd` reach with `lent` as key 0, and keeps the links of the WRAP_KEYs. These stand in the
-// stretch `bag` of `kd`.
+// Finds the keys that the WRAP_KEYs of the KD body `kd` reach with `lent` as key 0, and keeps the links of the WRAP_KEYs. These stand in
+// the stretch `bag` of `kd`.
 // Refusals 4 to 7 were judged before: there is at most one Member Key Bag, `lent` has the size of a wrapping key, no WRAP_KEY has Key ID 0,
 // and the WRAP_KEYs are within their limit.
 pub fn reach_keys(kd: &[u8], bag: Stretch, lent: WrappingKey) -> ReachedKeys

@@ -26,9 +26,8 @@ abbrev pub wrapKeysIn : List ℕ → List WrapKey
 wrapKeysIn k = wrapKeysAmong (bagsIn k)
 
 module _ (roots : List Root) (entries : List WrapKey) (size : ℕ) where
-  -- the answer r says whether number 8 holds of the entries. If it does not hold, r has the keys that are reached: the list is as a member's
-  -- must be, and chains end on exactly its keys and key 0 (`zero`). Then the path is read off the links of r. If number 8 holds, the list
-  -- of r is empty.
+  -- the answer r says whether number 8 holds of the entries. Its list is as a member's must be, and its links fit. If number 8 does not
+  -- hold, the list has the keys that are reached: chains end on exactly these and key 0 (`zero`), and the path is read off the links
   pub record TreeAnswers (zero : WrappingKey) (r : ReachedKeys) : Type 0 where
     pub conflict : Decides (r .conflict) (EntriesConflict roots entries size)
     pub formed : heldFormed limits (r .held) ≡ true

@@ -24,7 +24,8 @@ returns : tie.Need-returns
 returns c =
     let n = c .before .new2 in
     let z = c .before .before in
-    λ m tick g k f b. inband-rooted (n .result) (n .ensures) b (z .before .new .result .key) (zero-is z) (c .none .result) (c .none .ensures)
+    λ m tick g k f b.
+    inband-rooted (n .result) (n .ensures) b (z .before .new .result .key) (zero-is z) (c .none .result) (c .none .ensures)
 
 pub lent-alone-spec : {M : Type 1} → statement M
 lent-alone-spec = tie.close (tie.spec new-requires new-requires-2 none-requires returns)
