@@ -17,6 +17,7 @@ use Rattle.state_sa.specs.Entry.{espProtocol, saSpi, named, retired}
 use Rattle.state_sa.specs.declared.entry.Sa.{Sa}
 use Rattle.state_table.specs.Table.{tableOf, retiredIf}
 use Rattle.state_table.specs.declared.Table.{Table}
+use Rattle.wire_frames.specs.Delete.{deleteOf, deleteFits}
 use Rattle.rules_outcome.specs.After.{isZero}
 use Rattle.apply.specs.inner.Tables.{namedIn, retiredThere}
 use Rattle.apply.proofs.TableLaws.{picked-once, named-kept, turned-table, within-table}
@@ -32,7 +33,7 @@ module _ (s : Sa) (l : List (List ℕ)) where
 
   module _ (e : s .protocol ≡ espProtocol) (i : ℕ) where
     -- none of the first i does
-    abbrev pub NonePassed : Type 0
+    abbrev NonePassed : Type 0
     NonePassed = any names l ≡ any names (drop i l)
 
     all-named : namedIn l s ≡ any names l
@@ -51,20 +52,55 @@ module _ (s : Sa) (l : List (List ℕ)) where
     found : i < length l → NonePassed → true ≡ names (getD l i []) → true ≡ namedIn l s
     found g w n = sym (all-named ∙ w ∙ here g ∙ ap (λ (b : Bool). b || any names (drop (i + 1) l)) (sym n))
 
-    pub zero-named : (x : List ℕ) → x ≡ getD l i [] → i < length l → NonePassed → isZero x ≡ true → true ≡ namedIn l s
+    zero-named : (x : List ℕ) → x ≡ getD l i [] → i < length l → NonePassed → isZero x ≡ true → true ≡ namedIn l s
     zero-named x q g w z = found g w (ap (λ (c : Bool). c || same (saSpi s) x) (sym z) ∙ ap names q)
 
-    pub spi-named : (x : List ℕ) → x ≡ getD l i [] → i < length l → NonePassed → isZero x ≡ false → true ≡ named espProtocol x s →
+    spi-named : (x : List ℕ) → x ≡ getD l i [] → i < length l → NonePassed → isZero x ≡ false → true ≡ named espProtocol x s →
         true ≡ namedIn l s
     spi-named x q g w z n = found g w (by-spi x q true z n)
 
-    pub spi-passed : (x : List ℕ) → x ≡ getD l i [] → i < length l → NonePassed → isZero x ≡ false → false ≡ named espProtocol x s →
+    spi-passed : (x : List ℕ) → x ≡ getD l i [] → i < length l → NonePassed → isZero x ≡ false → false ≡ named espProtocol x s →
         any names l ≡ any names (drop (i + 1) l)
     spi-passed x q g w z n = w ∙ here g ∙ ap (λ (b : Bool). b || any names (drop (i + 1) l)) (sym (by-spi x q false z n))
 
-    pub none-named : length l ≤ i → NonePassed → false ≡ namedIn l s
+    none-named : length l ≤ i → NonePassed → false ≡ namedIn l s
     unfolding any
     none-named g w = sym (all-named ∙ w ∙ ap (any names) (drop-of-length-le l {i = i} g))
+
+-- where the search stands: `s` is an ESP SA, and none of the first `i` of the `n` SPIs in the body `o` of a Delete payload names it
+pub record Unnamed (s : Sa) (o : List ℕ) (n i : ℕ) : Type 0 where
+  pub fits : deleteFits o ≡ true
+  pub counted : n ≡ length (deleteOf o .spis)
+  pub esp : s .protocol ≡ espProtocol
+  pub passed : any (names s (deleteOf o .spis)) (deleteOf o .spis) ≡ any (names s (deleteOf o .spis)) (drop i (deleteOf o .spis))
+
+pub unnamed-start : (s : Sa) (o : List ℕ) (n : ℕ) → s .protocol ≡ espProtocol → deleteFits o ≡ true → n ≡ length (deleteOf o .spis)
+    → Unnamed s o n 0
+unnamed-start s o n e f c = record { fits = f; counted = c; esp = e; passed = refl }
+
+module _ (s : Sa) (o : List ℕ) (n i : ℕ) (w : Unnamed s o n i) where
+  pub unnamed-inside : i < n → i < length (deleteOf o .spis)
+  unnamed-inside h = omega (arith, w .counted)
+
+  pub unnamed-end : n ≤ i → false ≡ namedIn (deleteOf o .spis) s
+  unnamed-end h = none-named s (deleteOf o .spis) (w .esp) i (omega (arith, w .counted)) (w .passed)
+
+  -- the SPI at i is x
+  module _ (h : i < n) (x : List ℕ) (q : x ≡ getD (deleteOf o .spis) i []) where
+    pub unnamed-zero : isZero x ≡ true → true ≡ namedIn (deleteOf o .spis) s
+    unnamed-zero z = zero-named s (deleteOf o .spis) (w .esp) i x q (unnamed-inside h) (w .passed) z
+
+    pub unnamed-spi : isZero x ≡ false → true ≡ named espProtocol x s → true ≡ namedIn (deleteOf o .spis) s
+    unnamed-spi z t = spi-named s (deleteOf o .spis) (w .esp) i x q (unnamed-inside h) (w .passed) z t
+
+    pub unnamed-next : isZero x ≡ false → false ≡ named espProtocol x s → Unnamed s o n (i + 1)
+    unnamed-next z t =
+        record {
+          fits = w .fits;
+          counted = w .counted;
+          esp = w .esp;
+          passed = spi-passed s (deleteOf o .spis) (w .esp) i x q (unnamed-inside h) (w .passed) z t;
+        }
 
 -- ---- SAs of a table that retire in their places
 module _ (now delay : ℕ) where

@@ -1,6 +1,7 @@
 // RFC 5649: one key is wrapped or opened into lent room, or opened over a schedule that was expanded once.
 // For customers: `wrap` and `open`. All else is internal.
 mod load;
+mod sizes;
 mod unwrap_steps;
 mod verify;
 mod wrap_steps;
@@ -21,6 +22,13 @@ ghost use Rattle.rfc5649.specs.inner.Unwrap.{Unwraps};
 ghost use Rattle.keywrap.specs.inner.Room.{putAnswer, putRoom};
 use aes::INVERSE_TABLE_WORDS;
 use aes::SCHEDULE_WORDS;
+use sizes::KEY_128;
+use sizes::KEY_192;
+use sizes::KEY_256;
+use sizes::LEAST_WRAPPED;
+use sizes::MOST_OCTETS;
+use sizes::MOST_WRAPPED;
+use sizes::REGISTERS;
 
 // The answer of `wrap` and `open`: document 01's "no", or the count of octets written at the room's start.
 pub enum WrapAnswer {
@@ -31,20 +39,20 @@ pub enum WrapAnswer {
 // The answer of `open_under`: `answer` as `open` gives it, and in `octets` the opened octets with zeros behind them (zeros alone for `No`).
 pub struct Opened {
     pub answer: WrapAnswer,
-    pub octets: [u8; 256],
+    pub octets: [u8; MOST_OCTETS],
 }
 
 // Whether a key can have `count` octets.
 fn is_key(count: usize) -> bool
     ensures { λ r. ⌜ r ≡ isKey count ⌝ }
 {
-    if count == 16 {
+    if count == KEY_128 {
         return true;
     }
-    if count == 24 {
+    if count == KEY_192 {
         return true;
     }
-    count == 32
+    count == KEY_256
 }
 
 // Wraps `octets` under `key` and writes the result at the start of `room`.
@@ -71,7 +79,7 @@ pub fn wrap(key: &[u8], octets: &[u8], room: &mut [u8]) -> WrapAnswer
     if m == 0 {
         return WrapAnswer::No;
     }
-    if 256 < m {
+    if MOST_OCTETS < m {
         return WrapAnswer::No;
     }
     let n = 8 * ((m + 7) / 8 + 1);
@@ -91,13 +99,13 @@ fn unwrap_registers(
     schedule: &[u32; SCHEDULE_WORDS],
     wrapped: &[u8],
     n: usize,
-) -> [u64; 33]
+) -> [u64; REGISTERS]
     requires { ⌜ (now tables ≡ decipherTables) × ExpandedInverse (now schedule) ⌝ }
     requires { ⌜ (1 ≤ n) × (n ≤ 32) × (length (now wrapped) ≡ 8 * suc n) ⌝ }
     ensures { λ r. ⌜ ((key : List ℕ) → ExpandsInverse key (now (schedule .entry)) → Unwraps key n (now (wrapped .entry)) r) ⌝ }
 {
     let end = n + 1;
-    let mut s = [0u64; 33];
+    let mut s = [0u64; REGISTERS];
     load::load(wrapped, &mut s[..end]);
     unwrap_steps::backward_in(tables, schedule, &mut s[..end], n);
     s
@@ -113,10 +121,10 @@ pub fn open_under(
     ensures { λ r. ⌜ ((k : List ℕ) → ExpandsInverse k (schedule .words) → OpensBlank k (now (wrapped .entry)) (r .answer) (r .octets)) ⌝ }
 {
     let size = wrapped.len();
-    if size < 16 {
+    if size < LEAST_WRAPPED {
         return verify::refuse();
     }
-    if 264 < size {
+    if MOST_WRAPPED < size {
         return verify::refuse();
     }
     if size % 8 == 0 {

@@ -1,4 +1,6 @@
 // Registers from octets, and octets from registers.
+use crate::sizes::MOST_OCTETS;
+use crate::sizes::REGISTERS;
 use octets::registers::be64_at;
 use octets::registers::octets_of;
 ghost use mathlib.Core.Path.{_≡_};
@@ -36,15 +38,15 @@ pub(crate) fn store(s: &[u64], room: &mut [u8])
 
 // Sets up the registers A, R[1], .., R[n] for wrapping `octets`, with zeros behind: A is the alternative initial value of RFC 5649, section
 // 3, the others are the padded octets.
-pub(crate) fn start_registers(octets: &[u8]) -> [u64; 33]
+pub(crate) fn start_registers(octets: &[u8]) -> [u64; REGISTERS]
     requires { ⌜ (1 ≤ length (now octets)) × (length (now octets) ≤ 256) ⌝ }
     ensures { λ r. ⌜ r ≡ startRegisters (now (octets .entry)) ++ replicate (32 - blocks (length (now (octets .entry)))) 0 ⌝ }
 {
     let m = octets.len();
     let n = (m + 7) / 8;
-    let mut padded = [0u8; 256];
+    let mut padded = [0u8; MOST_OCTETS];
     bytes::copy(octets, &mut padded);
-    let mut s = [0u64; 33];
+    let mut s = [0u64; REGISTERS];
     s[0] = 0xa65959a600000000 + m as u64;
     let e = 8 * n;
     load(&padded[..e], &mut s[1..n + 1]);

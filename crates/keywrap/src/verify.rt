@@ -2,6 +2,8 @@
 use crate::Opened;
 use crate::WrapAnswer;
 use crate::load::store;
+use crate::sizes::MOST_OCTETS;
+use crate::sizes::REGISTERS;
 ghost use mathlib.Core.Path.{_≡_};
 ghost use Prim.Native.Nat.{suc, _≤_};
 ghost use lib.ListN.{take};
@@ -15,7 +17,7 @@ pub(crate) fn refuse() -> Opened
 {
     Opened {
         answer: WrapAnswer::No,
-        octets: [0u8; 256],
+        octets: [0u8; MOST_OCTETS],
     }
 }
 
@@ -48,7 +50,7 @@ fn is_zero_from(s: &[u8], at: usize) -> bool
 }
 
 // Checks the unwrapped registers `s` of `n` blocks. Answers the octets that were wrapped, or `No` where a check fails.
-pub(crate) fn check_registers(s: [u64; 33], n: usize) -> Opened
+pub(crate) fn check_registers(s: [u64; REGISTERS], n: usize) -> Opened
     requires { ⌜ (1 ≤ n) × (n ≤ 32) ⌝ }
     ensures { λ r. ⌜ Answers (Begins n (take (suc n) s)) blank (r .answer) (r .octets) ⌝ }
 {
@@ -57,7 +59,7 @@ pub(crate) fn check_registers(s: [u64; 33], n: usize) -> Opened
         return refuse();
     }
     let end = n + 1;
-    let mut octets = [0u8; 256];
+    let mut octets = [0u8; MOST_OCTETS];
     store(&s[1..end], &mut octets);
     let full = 8 * n;
     if is_zero_from(&octets[..full], m) {

@@ -5,7 +5,9 @@ mod running;
 
 ghost use Prim.Native.Nat.{_<_, _≤_};
 ghost use lib.ListN.{length};
+ghost use Rattle.text_rules.specs.Input.{mostDigits};
 ghost use Rattle.text_lines.specs.inner.Room.{replyRoom};
+ghost use Rattle.ikev2_numbers.specs.Codes.{mostOctets};
 ghost use Rattle.member.specs.inner.Standing.{BuffersReady, ReplyFits};
 ghost use Rattle.member.specs.inner.Printed.{Emptied, Flushed, Consumed, Ended};
 ghost use Rattle.member.specs.inner.Turns.{TurnsLeft};
@@ -117,8 +119,8 @@ fn turns_left(turns: u64, taken: InputTaken, handed: Handed) -> u64
 // Answers the whole input, up to a write that fails. A proved loop has to end, and nothing says that an input does: so it counts its turns
 // down from a number that no input uses up.
 fn run(line: &mut [u8], room: &mut [u8], out: &mut [u8], block: &mut [u8]) -> Ran
-    requires { ⌜ 32776 < length (now line) ⌝ }
-    requires { ⌜ 16384 ≤ length (now room) ⌝ }
+    requires { ⌜ mostDigits < length (now line) ⌝ }
+    requires { ⌜ mostOctets ≤ length (now room) ⌝ }
     requires { ⌜ replyRoom ≤ length (now out) ⌝ }
     requires { ⌜ 0 < length (now block) ⌝ }
     ensures { λ r. ⌜ Runs r ⌝ }
@@ -144,9 +146,14 @@ fn run(line: &mut [u8], room: &mut [u8], out: &mut [u8], block: &mut [u8]) -> Ra
     Ran { taken, handed }
 }
 
+// Room for a line of the most digits that are taken and one character more, by which a longer line is told; and for its frame.
+const LINE_ROOM: usize = text_lines::MOST_DIGITS + 1;
+
+const FRAME_ROOM: usize = (text_lines::MOST_DIGITS - text_lines::TICK_DIGITS) / 2;
+
 fn main() {
-    let mut line = [0u8; 32777];
-    let mut room = [0u8; 16384];
+    let mut line = [0u8; LINE_ROOM];
+    let mut room = [0u8; FRAME_ROOM];
     let mut out = io::large_buffer();
     let mut block = io::large_buffer();
     run(&mut line, &mut room, &mut out, &mut block);

@@ -3,6 +3,7 @@ ghost use Prim.Native.Nat.{ℕ, _-_, _<_, _≤_};
 ghost use mathlib.Core.Path.{_≡_};
 ghost use mathlib.Core.List.{List, _++_};
 ghost use lib.ListN.{length, take};
+ghost use Rattle.ikev2_numbers.specs.Codes.{mostOctets};
 ghost use Rattle.text_rules.specs.Answer.{answerText};
 ghost use Rattle.text_lines.specs.inner.Reading.{TextState, Finishes};
 ghost use Rattle.text_lines.specs.inner.Room.{replyRoom, Put};
@@ -93,7 +94,7 @@ fn receive_frame(r: Running, frame: &[u8], tick: u32, out: &mut [u8]) -> Running
 // Receives the frame of a later line and puts the reply into `out`, or the reply to a bad line. The frame goes to the start of `room`.
 fn later_line(r: Running, line: &[u8], room: &mut [u8], out: &mut [u8]) -> Running
     requires { ⌜ r .key .len ≤ 32 ⌝ }
-    requires { ⌜ 16384 ≤ length (now room) ⌝ }
+    requires { ⌜ mostOctets ≤ length (now room) ⌝ }
     ensures { λ e. ⌜ LaterLine r (now (line .entry)) (now (out .entry)) (now (out .exit)) e ⌝ }
 {
     match text_lines::later_line(line, room) {
@@ -116,7 +117,7 @@ fn later_line(r: Running, line: &[u8], room: &mut [u8], out: &mut [u8]) -> Runni
 // Answers a whole line: the first one gives the key, each later one gets a reply.
 fn answer_line(r: Running, line: &[u8], room: &mut [u8], out: &mut [u8]) -> Running
     requires { ⌜ r .key .len ≤ 32 ⌝ }
-    requires { ⌜ 16384 ≤ length (now room) ⌝ }
+    requires { ⌜ mostOctets ≤ length (now room) ⌝ }
     ensures { λ e. ⌜ Answered (r .keyed) r (now (line .entry)) (now (out .entry)) (now (out .exit)) e ⌝ }
 {
     if r.keyed {

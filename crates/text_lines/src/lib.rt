@@ -25,10 +25,10 @@ pub fn put(room: &mut [u8], at: usize, octet: u8) -> usize
 fn is_digit(c: u8) -> bool
     ensures { λ r. ⌜ r ≡ isDigit c ⌝ }
 {
-    ((48 <= c) & (c <= 57)) | ((97 <= c) & (c <= 102))
+    ((b'0' <= c) & (c <= b'9')) | ((b'a' <= c) & (c <= b'f'))
 }
 
-// Answers the value of the hexadecimal digit `c`, or 0 for another character. The characters 0 to 9 are 48 to 57, a to f are 97 to 102.
+// Answers the value of the hexadecimal digit `c`, or 0 for another character. In ASCII 0 to 9 are 0x30 to 0x39, a to f are 0x61 to 0x66.
 fn value_of(c: u8) -> u8
     ensures { λ r. ⌜ (r ≡ digitValue c) × (r < 16) ⌝ }
 {
@@ -38,15 +38,18 @@ fn value_of(c: u8) -> u8
     0
 }
 
+// What is added to the value of a digit from 10 on, so that 10 is written a.
+const BEFORE_LETTERS: u8 = b'a' - 10;
+
 // Answers the hexadecimal digit of value `v`.
 fn digit_of(v: u8) -> u8
     requires { ⌜ v < 16 ⌝ }
     ensures { λ r. ⌜ r ≡ digitOf v ⌝ }
 {
     if v < 10 {
-        return 48 + v;
+        return b'0' + v;
     }
-    87 + v
+    BEFORE_LETTERS + v
 }
 
 // Whether every character of `text` is a hexadecimal digit. Reads `text` to its end in any case: a test of each character would cost more
@@ -133,7 +136,7 @@ pub fn absorb(block: &[u8], from: usize, line: &mut [u8], len: usize) -> Absorbe
     let mut held = len;
     while at < block.len() {
         let c = block[at];
-        if c == 10 {
+        if c == b'\n' {
             return Absorbed {
                 next: at + 1,
                 len: held,
@@ -163,9 +166,18 @@ fn is_taken(text: &[u8], least: usize, most: usize) -> bool
     is_hex(text)
 }
 
+// A tick has 8 digits, 32 bits; a line at most these and two for each octet of the largest frame. A key has at most 32 octets.
+pub const TICK_DIGITS: usize = 8;
+
+pub const MOST_DIGITS: usize = 32776;
+
+pub const MOST_KEY_DIGITS: usize = 64;
+
+pub const MOST_KEY_OCTETS: usize = 32;
+
 // The default key: the first `len` octets. The places behind them are 0.
 pub struct LineKey {
-    pub octets: [u8; 32],
+    pub octets: [u8; MOST_KEY_OCTETS],
     pub len: usize,
 }
 
@@ -173,8 +185,8 @@ pub struct LineKey {
 pub fn key_line(line: &[u8]) -> LineKey
     ensures { λ r. ⌜ KeyLineGives (now (line .entry)) r ⌝ }
 {
-    let mut octets = [0u8; 32];
-    if is_taken(line, 0, 64) {
+    let mut octets = [0u8; MOST_KEY_OCTETS];
+    if is_taken(line, 0, MOST_KEY_DIGITS) {
         let len = put_octets(&mut octets, 0, line);
         return LineKey { octets, len };
     }
@@ -204,9 +216,9 @@ pub enum Request {
 pub fn later_line(line: &[u8], room: &mut [u8]) -> Request
     ensures { λ r. ⌜ Asks (now (line .entry)) (now (room .entry)) (now (room .exit)) r ⌝ }
 {
-    if is_taken(line, 8, 32776) {
+    if is_taken(line, TICK_DIGITS, MOST_DIGITS) {
         let tick = tick_of(line);
-        let len = put_octets(room, 0, &line[8..]);
+        let len = put_octets(room, 0, &line[TICK_DIGITS..]);
         return Request::Frame { tick, len };
     }
     Request::Bad
@@ -215,15 +227,17 @@ pub fn later_line(line: &[u8], room: &mut [u8]) -> Request
 // Octets enough for the text of any answer: four numbers of at most 20 digits, with a mark behind each.
 pub const REPLY_ROOM: usize = 84;
 
+const DIGIT_0: usize = b'0' as usize;
+
 // Writes `n` in decimal into `room` from `at` on, as much as finds room. Answers the place behind it.
 pub fn put_number(room: &mut [u8], at: usize, n: usize) -> usize
     ensures { λ r. ⌜ Put (now (room .entry)) at (decimal n) (now (room .exit)) r ⌝ }
 {
     if n < 10 {
-        return put(room, at, (48 + n) as u8);
+        return put(room, at, (DIGIT_0 + n) as u8);
     }
     let last = put_number(room, at, n / 10);
-    put(room, last, (48 + n % 10) as u8)
+    put(room, last, (DIGIT_0 + n % 10) as u8)
 }
 
 // Writes `n` in decimal and the character `mark` into `room` from `at` on. Answers the place behind them.
@@ -246,21 +260,21 @@ pub fn put_answer(
 ) -> usize
     ensures { λ r. ⌜ Put (now (room .entry)) at (answerText number sas held figure) (now (room .exit)) r ⌝ }
 {
-    let second = put_field(room, at, number, 32);
-    let third = put_field(room, second, sas, 32);
+    let second = put_field(room, at, number, b' ');
+    let third = put_field(room, second, sas, b' ');
     if number == 1 {
-        let fourth = put_field(room, third, held, 32);
-        return put_field(room, fourth, figure, 10);
+        let fourth = put_field(room, third, held, b' ');
+        return put_field(room, fourth, figure, b'\n');
     }
-    put_field(room, third, held, 10)
+    put_field(room, third, held, b'\n')
 }
 
 // Writes the text for a bad line into `room` from `at` on. Answers the place behind it.
 pub fn put_bad(room: &mut [u8], at: usize) -> usize
     ensures { λ r. ⌜ Put (now (room .entry)) at badText (now (room .exit)) r ⌝ }
 {
-    let a = put(room, at, 98);
-    let b = put(room, a, 97);
-    let c = put(room, b, 100);
-    put(room, c, 10)
+    let a = put(room, at, b'b');
+    let b = put(room, a, b'a');
+    let c = put(room, b, b'd');
+    put(room, c, b'\n')
 }

@@ -4,6 +4,7 @@ use mathlib.Core.List.{List, [], _∷_}
 use mathlib.Core.Bool.{Bool, true, cond, _&&_, _||_}
 use lib.ListN.{length}
 use lib.Dec.{leb, ltb, eqb}
+use Rattle.text_rules.specs.Characters.{digit0, digit9, letterA, letterF, beforeLetters}
 
 -- c is at least `low` and at most `high`
 abbrev pub inRange : ℕ → ℕ → ℕ → Bool
@@ -11,11 +12,11 @@ inRange low high c = leb low c && leb c high
 
 -- the characters 0 to 9
 abbrev pub isDecimal : ℕ → Bool
-isDecimal c = inRange 48 57 c
+isDecimal c = inRange digit0 digit9 c
 
 -- the characters a to f
 abbrev pub isLetter : ℕ → Bool
-isLetter c = inRange 97 102 c
+isLetter c = inRange letterA letterF c
 
 -- a hexadecimal digit
 unfoldable pub isDigit : ℕ → Bool
@@ -23,11 +24,11 @@ isDigit c = isDecimal c || isLetter c
 
 -- the value of a digit, 0 to 15; the value of another character, of which nothing is asked, is 0
 unfoldable pub digitValue : ℕ → ℕ
-digitValue c = cond (isDecimal c) (c - 48) (cond (isLetter c) (c - 87) 0)
+digitValue c = cond (isDecimal c) (c - digit0) (cond (isLetter c) (c - beforeLetters) 0)
 
 -- the digit of value v, 0 to 15
 unfoldable pub digitOf : ℕ → ℕ
-digitOf v = cond (ltb v 10) (48 + v) (87 + v)
+digitOf v = cond (ltb v 10) (digit0 + v) (beforeLetters + v)
 
 -- every character is a digit
 unfoldable pub areDigits : List ℕ → Bool

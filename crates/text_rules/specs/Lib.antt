@@ -1,3 +1,4 @@
+pub mod Characters
 pub mod Hex
 pub mod Lines
 pub mod Input

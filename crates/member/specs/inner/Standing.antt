@@ -7,6 +7,8 @@ use lib.ListN.{length, take}
 use Rattle.octets.specs.Walk.{part}
 use Rattle.text_lines.specs.inner.Room.{replyRoom}
 use Rattle.text_lines.specs.inner.Reading.{DefaultKey, awaited, given, TextState, textStart, Reads, LineKept}
+use Rattle.ikev2_numbers.specs.Codes.{mostOctets}
+use Rattle.text_rules.specs.Input.{mostDigits}
 use Rattle.gikev2.specs.Member.{newMember}
 use Rattle.gikev2.specs.declared.Member.{Member}
 use Rattle.member.specs.Program.{LineAnswers}
@@ -17,9 +19,9 @@ use Rattle.member.specs.declared.running.LinePassed.{LinePassed}
 -- the lent buffers are large enough, and the program's places lie within them
 pub record BuffersReady (line room out : List ℕ) (r : Running) : Type 0 where
   pub key : r .key .len ≤ 32
-  pub line-long : 32776 < length line
+  pub line-long : mostDigits < length line
   pub begun : r .len ≤ length line
-  pub room-long : 16384 ≤ length room
+  pub room-long : mostOctets ≤ length room
   pub place : r .at ≤ length out
 
 -- there is room for one more reply

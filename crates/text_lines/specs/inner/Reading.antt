@@ -5,6 +5,7 @@ use mathlib.Core.List.{List, [], _∷_, _++_}
 use mathlib.Core.Bool.{Bool, true, false}
 use lib.ListN.{length, take}
 use lib.Dec.{eqb}
+use Rattle.text_rules.specs.Characters.{newline}
 use Rattle.text_rules.specs.Input.{lineKey}
 use Rattle.text_rules.specs.Transcript.{CallRelation, Reply, Replies}
 
@@ -54,7 +55,7 @@ module _ {S : Type 0} (step : CallRelation S) where
   -- some octets of input are read
   abbrev pub Reads : TextState S → List ℕ → TextState S → Type 0
   Reads r [] e = e ≡ r
-  Reads r (c ∷ s) e = (m : TextState S) × FeedsBy (eqb c 10) r c m × Reads m s e
+  Reads r (c ∷ s) e = (m : TextState S) × FeedsBy (eqb c newline) r c m × Reads m s e
 
   -- the output at the input's end, where a line that has begun ends
   abbrev pub FinishesBy : List ℕ → TextState S → List ℕ → Type 0

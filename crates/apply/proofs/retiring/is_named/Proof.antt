@@ -1,20 +1,15 @@
 use denote.Ref.{now}
-use native.Mathlib.Omega.{arith}
-use Prim.Native.Nat.{_-_, _≤_}
-use mathlib.Core.Path.{_≡_, refl, sym, _∙_}
-use mathlib.Core.Bool.{true}
-use lib.ListN.{length}
-use Rattle.state_sa.specs.Entry.{espProtocol}
-use Rattle.wire_frames.specs.Delete.{deleteOf, deleteFits}
-use Rattle.apply.proofs.RetiringLaws.{other-named, NonePassed, zero-named, spi-named, spi-passed, none-named}
+use Prim.Native.Nat.{_-_}
+use mathlib.Core.Path.{sym, _∙_}
+use Rattle.wire_frames.specs.Delete.{deleteOf}
+use Rattle.apply.proofs.RetiringLaws.{other-named, Unnamed, unnamed-start, unnamed-inside, unnamed-end}
+use Rattle.apply.proofs.RetiringLaws.{unnamed-zero, unnamed-spi, unnamed-next}
 use borrow.Author.Needs.{needs}
 use Rattle.apply.proofs.retiring.is_named.Statement.{statement}
 use Rattle.apply.proofs.retiring.is_named.Tie as tie
 
 abbrev Inv-loop : tie.InvT-loop
-Inv-loop a o n i₀ i =
-    (i ≤ n) × (n ≡ length (deleteOf o .spis)) × (deleteFits o ≡ true) × (e : a .protocol ≡ espProtocol)
-    × NonePassed a (deleteOf o .spis) e i
+Inv-loop a o n i₀ i = Unnamed a o n i
 
 abbrev μ-loop : tie.MeasureT-loop
 μ-loop a o n i₀ i = n - i
@@ -23,22 +18,19 @@ delete-parts-requires : tie.Need-delete-parts-requires Inv-loop μ-loop
 delete-parts-requires c κs = search needs
 
 loop-holds : tie.Need-loop-holds Inv-loop μ-loop
-loop-holds c = (omega arith, c .delete-parts .ensures .count, c .before .before .before .before .pre, c .before .if1 .taken, refl)
+loop-holds c = unnamed-start _ _ _ (c .before .if1 .taken) (c .before .before .before .before .pre) (c .delete-parts .ensures .count)
 
 spi-at-requires : tie.Need-spi-at-requires Inv-loop μ-loop
-spi-at-requires c κs = let l = c .before .loop in (l .inv .2, omega (arith, l .inv .1, c .loop-test .taken))
+spi-at-requires c κs = let w = c .before .loop .inv in (w .fits, unnamed-inside _ _ _ _ w (c .loop-test .taken))
 
 is-zero-requires : tie.Need-is-zero-requires Inv-loop μ-loop
 is-zero-requires c κs = search needs
 
 returns : tie.Need-returns Inv-loop μ-loop
 returns c =
-    let a = c .before .before .before .before .before .before .before .before .before .args in
-    let l = c .before .before .before .before .loop in
-    let v = l .inv in
-    let t = c .before .before .before .loop-test .taken in
-    let x = c .before .before .spi-at in
-    zero-named (a .a) (deleteOf (now (a .o)) .spis) (v .3) (l .i) (now (x .result)) (x .ensures) (omega (arith, v .1, t)) (v .4)
+    let x = c .before .before in
+    let t = x .before in
+    unnamed-zero _ _ _ _ (t .before .loop .inv) (t .loop-test .taken) _ (x .spi-at .ensures)
     (sym (c .before .is-zero .ensures) ∙ c .if2 .taken)
 
 is-named-requires : tie.Need-is-named-requires Inv-loop μ-loop
@@ -46,13 +38,11 @@ is-named-requires c κs = search needs
 
 returns-2 : tie.Need-returns-2 Inv-loop μ-loop
 returns-2 c =
-    let a = c .before .before .before .before .before .before .before .before .before .before .before .args in
-    let l = c .before .before .before .before .before .before .loop in
-    let v = l .inv in
-    let t = c .before .before .before .before .before .loop-test .taken in
-    let x = c .before .before .before .before .spi-at in
-    spi-named (a .a) (deleteOf (now (a .o)) .spis) (v .3) (l .i) (now (x .result)) (x .ensures) (omega (arith, v .1, t)) (v .4)
-    (sym (c .before .before .before .is-zero .ensures) ∙ c .before .before .if2 .left) (sym (c .if3 .taken) ∙ c .before .is-named .ensures)
+    let z = c .before .before .before in
+    let x = z .before in
+    let t = x .before in
+    unnamed-spi _ _ _ _ (t .before .loop .inv) (t .loop-test .taken) _ (x .spi-at .ensures)
+    (sym (z .is-zero .ensures) ∙ c .before .before .if2 .left) (sym (c .if3 .taken) ∙ c .before .is-named .ensures)
 
 add-i : tie.Need-add-i Inv-loop μ-loop
 add-i c = search needs
@@ -62,26 +52,14 @@ loop-less c = search needs
 
 loop-again : tie.Need-loop-again Inv-loop μ-loop
 loop-again c =
-    let a = c .before .before .before .before .before .before .before .before .before .before .before .args in
-    let l = c .before .before .before .before .before .before .loop in
-    let v = l .inv in
-    let t = c .before .before .before .before .before .loop-test .taken in
-    let x = c .before .before .before .before .spi-at in (
-      omega arith,
-      v .1,
-      v .2,
-      v .3,
-      spi-passed (a .a) (deleteOf (now (a .o)) .spis) (v .3) (l .i) (now (x .result)) (x .ensures) (omega (arith, v .1, t)) (v .4)
-          (sym (c .before .before .before .is-zero .ensures) ∙ c .before .before .if2 .left) (sym (c .if3 .left)
-          ∙ c .before .is-named .ensures),
-    )
+    let z = c .before .before .before in
+    let x = z .before in
+    let t = x .before in
+    unnamed-next _ _ _ _ (t .before .loop .inv) (t .loop-test .taken) _ (x .spi-at .ensures)
+    (sym (z .is-zero .ensures) ∙ c .before .before .if2 .left) (sym (c .if3 .left) ∙ c .before .is-named .ensures)
 
 returns-3 : tie.Need-returns-3 Inv-loop μ-loop
-returns-3 c =
-    let a = c .before .before .before .before .before .before .args in
-    let l = c .before .loop in
-    let v = l .inv in
-    none-named (a .a) (deleteOf (now (a .o)) .spis) (v .3) (l .i) (omega (arith, v .1, c .loop-test .left)) (v .4)
+returns-3 c = unnamed-end _ _ _ _ (c .before .loop .inv) (c .loop-test .left)
 
 returns-4 : tie.Need-returns-4 Inv-loop μ-loop
 returns-4 c = let a = c .before .before .before .args in other-named (a .a) (deleteOf (now (a .o)) .spis) (c .if1 .left)

@@ -1,20 +1,18 @@
 use native.Mathlib.Omega.{arith}
-use Prim.Native.Nat.{_-_, _≤_}
-use mathlib.Core.Path.{_≡_, sym, refl, _∙_}
-use lib.ListN.{length, take, drop}
+use Prim.Native.Nat.{_-_}
+use mathlib.Core.Path.{_≡_, sym, _∙_}
+use lib.ListN.{length}
 use Rattle.state_keys.specs.Limits.{limits}
 use Rattle.state_keys.proofs.Lists.{length-of-map}
 use Rattle.state_sa.specs.Entry.{liveRekey}
-use Rattle.state_table.specs.Table.{theOne, foundRekey}
-use Rattle.state_table.proofs.Laws.{one-here, one-next, one-end, found-in, found-out}
+use Rattle.state_table.specs.Table.{foundRekey}
+use Rattle.state_table.proofs.Seeking.{Sought, sought-none, sought-first, sought-inside, sought-here, sought-next, sought-all}
 use borrow.Author.Needs.{needs}
 use Rattle.state_table.proofs.Table.live_rekey.Statement.{statement}
 use Rattle.state_table.proofs.Table.live_rekey.Tie as tie
 
 abbrev Inv-loop : tie.InvT-loop
-Inv-loop self n i₀ i =
-    (n ≤ limits .sas) × (length (self .sas) ≡ limits .sas) × (i ≤ n) ×
-    (theOne liveRekey (take n (self .sas)) ≡ theOne liveRekey (drop i (take n (self .sas))))
+Inv-loop self n i₀ i = Sought liveRekey self i
 
 abbrev μ-loop : tie.MeasureT-loop
 μ-loop self n i₀ i = n - i
@@ -24,29 +22,28 @@ nothing-requires c κs = search needs
 
 returns : tie.Need-returns Inv-loop μ-loop
 unfolding foundRekey
-returns c = c .nothing .ensures ∙ sym (found-out limits liveRekey (c .before .before .args .t1) (c .before .if1 .taken))
+returns c = c .nothing .ensures ∙ sought-none _ _ (c .before .if1 .taken)
 
 loop-holds : tie.Need-loop-holds Inv-loop μ-loop
 loop-holds c =
     let e : length (c .before .args .t1 .sas) ≡ limits .sas = search (needs, length-of-map) in
-    (c .if1 .left, e, search needs, refl)
+    sought-first _ _ (c .if1 .left) e
 
 mul-s : tie.Need-mul-s Inv-loop μ-loop
 mul-s c = search needs
 
 element-copy-out-s : tie.Need-element-copy-out-s Inv-loop μ-loop
-element-copy-out-s c = search needs
+element-copy-out-s c = sought-inside _ _ (c .before .loop .inv) (c .loop-test .taken)
 
 is-live-rekey-requires : tie.Need-is-live-rekey-requires Inv-loop μ-loop
 is-live-rekey-requires c κs = search needs
 
+-- the turn of the loop behind the test of the SA
 returns-2 : tie.Need-returns-2 Inv-loop μ-loop
 unfolding foundRekey
 returns-2 c =
-    let l = c .before .before .before .before .loop in
-    let m = c .before .before .before .before .before .before .args .t1 in
-    sym (found-in limits liveRekey m (l .inv .0) ∙ l .inv .3 ∙ one-here liveRekey (m .sas) (m .count) (omega arith) (l .i) _
-    (omega arith) (sym (c .if2 .taken) ∙ c .before .is-live-rekey .ensures))
+    let t = c .before .before .before in
+    sought-here _ _ (t .before .loop .inv) _ (t .loop-test .taken) (sym (c .if2 .taken) ∙ c .before .is-live-rekey .ensures)
 
 add-i : tie.Need-add-i Inv-loop μ-loop
 add-i c = search needs
@@ -56,25 +53,15 @@ loop-less c = search needs
 
 loop-again : tie.Need-loop-again Inv-loop μ-loop
 loop-again c =
-    let l = c .before .before .before .before .loop in
-    let m = c .before .before .before .before .before .before .args .t1 in (
-      l .inv .0,
-      l .inv .1,
-      omega arith,
-      l .inv .3 ∙ one-next liveRekey (m .sas) (m .count) (omega arith) (l .i) _ (omega arith)
-          (sym (c .if2 .left) ∙ c .before .is-live-rekey .ensures),
-    )
+    let t = c .before .before .before in
+    sought-next _ _ (t .before .loop .inv) _ (t .loop-test .taken) (sym (c .if2 .left) ∙ c .before .is-live-rekey .ensures)
 
 nothing-requires-2 : tie.Need-nothing-requires-2 Inv-loop μ-loop
 nothing-requires-2 c κs = search needs
 
 returns-3 : tie.Need-returns-3 Inv-loop μ-loop
 unfolding foundRekey
-returns-3 c =
-    let l = c .before .before .loop in
-    let m = c .before .before .before .before .args .t1 in
-    c .nothing2 .ensures ∙ sym (found-in limits liveRekey m (l .inv .0) ∙ l .inv .3 ∙ one-end liveRekey (m .sas) (m .count) (omega arith)
-    (l .i) (omega arith))
+returns-3 c = c .nothing2 .ensures ∙ sought-all _ _ (c .before .before .loop .inv) (c .before .loop-test .left)
 
 pub live-rekey-spec : {M : Type 1} → statement M
 live-rekey-spec =
