@@ -1,6 +1,6 @@
 -- The calls on a member. "Registering, rekeying, sweeping and leaving each take the member as it was and give back the next."
 use Prim.Native.Nat.{ℕ}
-use mathlib.Core.Bool.{true, false, cond}
+use mathlib.Core.Bool.{Bool, true, false, cond}
 use mathlib.Core.List.{List, []}
 use lib.Dec.{eqb}
 use lib.ListN.{take}
@@ -12,21 +12,25 @@ use Rattle.state_sa.specs.declared.entry.Sa.{Sa}
 use Rattle.state_sa.specs.declared.entry.Condition.the-variants.{Live}
 use Rattle.state_sa.specs.declared.entry.Lifetime.the-variants.{Unlimited}
 use Rattle.state_table.specs.declared.SaFound.{SaFound}
-use Rattle.state.specs.State.{newState, sweptState, askedSa}
+use Rattle.state.specs.State.{newState, leftState, sweptState, askedSa}
 use Rattle.gikev2.specs.declared.Member.{Member}
 use Rattle.gikev2.specs.declared.SaAnswer.{SaAnswer}
 
--- "A new member has no SA, no held key and least Message ID 0."
-unfoldable pub newMember : Member
-newMember = record { state = newState limits }
+-- "A new member has no SA, no held key and least Message ID 0."; "their profile is switched on for a member at creation" (document 02, T-11)
+unfoldable pub memberWith : Bool → Member
+memberWith profile = record { state = newState limits profile }
+
+-- a new member without the profile: "the program's member has it off"
+abbrev pub newMember : Member
+newMember = memberWith false
 
 -- "Sweeping removes exactly those due."
 unfoldable pub sweptMember : ℕ → Member → Member
 sweptMember now m = record { state = sweptState limits now (m .state) }
 
--- "Leaving gives the new member."
+-- "Leaving gives the new member."; "Leaving keeps the profile" (document 02, T-11)
 unfoldable pub leftMember : Member → Member
-leftMember m = newMember
+leftMember m = record { state = leftState limits (m .state) }
 
 -- "the keying octets and condition of the SA with a given protocol and SPI, or none": the SA's own octets, with blanks behind them, and the
 -- octet counts of the two parts of a Rekey SA; its lifetime and the tick of its start: "the question about an SA gives them too" (document

@@ -11,7 +11,7 @@ use Rattle.gikev2.specs.declared.Member.{Member}
 use Rattle.gikev2.specs.declared.call.Answer.{Answer}
 use Rattle.gikev2.specs.declared.call.Answer.the-variants as answer
 
--- document 01's number of an answer
+-- the number of an answer: document 01's, and document 02's 10 of a sealed frame
 abbrev pub numberOf : Answer → ℕ
 numberOf answer.Accepted = 0
 numberOf (answer.BrokenLayout o) = 1
@@ -23,6 +23,7 @@ numberOf answer.Unpaired = 6
 numberOf answer.OverLimit = 7
 numberOf answer.KeyConflict = 8
 numberOf answer.NoKey = 9
+numberOf answer.Unopened = 10
 
 -- the figure that an answer carries: the offset on number 1, and "all other numbers carry 0"
 abbrev pub figureOf : Answer → ℕ
@@ -36,8 +37,9 @@ figureOf answer.Unpaired = 0
 figureOf answer.OverLimit = 0
 figureOf answer.KeyConflict = 0
 figureOf answer.NoKey = 0
+figureOf answer.Unopened = 0
 
 -- the member m receives `octets` at the tick `now` with the lent default key `lent`: a is the answer, and `next` the next member
 pub record Receives (m : Member) (now : ℕ) (lent octets : List ℕ) (a : Answer) (next : Member) : Type 0 where
   pub outcome : Outcome limits (m .state) now lent octets (numberOf a) (next .state)
-  pub offset : figureOf a ≡ figure octets
+  pub offset : figureOf a ≡ figure (m .state .profile) octets

@@ -108,6 +108,10 @@ attributeSaKey = 1
 abbrev pub attributeWrapKey : ℕ
 attributeWrapKey = 1
 
+-- "private attribute 16385 in the Rekey SA's Group Key Bag, with WRAP_KEY's layout" (document 02, T-11)
+abbrev pub attributeFreshKey : ℕ
+attributeFreshKey = 16385
+
 -- traffic selector types (RFC 7296, section 3.13.1), the octets of a selector and of its addresses
 abbrev pub ipv4Range : ℕ
 ipv4Range = 7

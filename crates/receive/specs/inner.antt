@@ -1,5 +1,3 @@
-pub mod Copies
 pub mod Passing
-pub mod Rooted
 pub mod Opening
 pub mod Saying

@@ -1,14 +1,14 @@
--- Document 01, "After acceptance", with document 02's held list (T-04).
+-- Document 01, "After acceptance"; the held list, by document 02, stands in Holding.
 use Prim.Native.Nat.{ℕ}
 use mathlib.Core.Path.{_≡_}
-use mathlib.Core.Bool.{Bool, true, false, cond, _&&_, _||_}
+use mathlib.Core.Bool.{Bool, cond, _&&_, _||_}
 use mathlib.Core.List.{List, [], _∷_, map}
 use lib.Dec.{eqb}
 use Rattle.octets.specs.Compare.{same}
-use Rattle.state_keys.specs.Lists.{all, any, keep, insert}
+use Rattle.state_keys.specs.Lists.{all, any, insert}
 use Rattle.state_keys.specs.Limits.{Limits}
-use Rattle.state_keys.specs.Kinds.{wrappingOf, espOf, rekeyOf}
-use Rattle.wire_attributes.specs.Tree.{SaKey, WrapKey}
+use Rattle.state_keys.specs.Kinds.{espOf, rekeyOf}
+use Rattle.wire_attributes.specs.Tree.{WrapKey}
 use Rattle.wire_policies.specs.Policy.{GroupSaPolicy, GroupWidePolicy}
 use Rattle.wire_frames.specs.Frame.{Frame}
 use Rattle.wire_frames.specs.declared.exchanges.LeastAfter.{LeastAfter}
@@ -19,27 +19,20 @@ use Rattle.state_sa.specs.declared.entry.Lifetime.the-variants.{Unlimited, Limi
 use Rattle.state_sa.specs.declared.entry.Sa.{Sa}
 use Rattle.state_table.specs.Table.{tableOf, retiredIf}
 use Rattle.state.specs.declared.State.{State}
-use Rattle.state.specs.declared.held.HeldKey.{HeldKey}
-use Rattle.state.specs.declared.held.Held.{Held}
 use Rattle.state.specs.declared.least.Least.{Least}
 use Rattle.state.specs.declared.least.Least.the-variants.{Id}
-use Rattle.state.specs.Held.{heldOf}
 use Rattle.state.specs.Least.{afterId}
-use Rattle.rules_refusals.specs.Contents.{rowOf, some, gather, announced, groupWides, deletedSpis}
+use Rattle.rules_refusals.specs.Contents.{rowOf, some, announced, groupWides, deletedSpis}
 use Rattle.rules_refusals.specs.Fitness.{isEsp, isRekey, sum, encryptionOctets, keyWrapOctets}
 use Rattle.rules_refusals.specs.Number2.{notDueSas}
 use Rattle.rules_chains.specs.Chain.{Root}
 use Rattle.rules_chains.specs.Refusals.{KeyOf}
-use Rattle.rules_chains.specs.Path.{KeyPath, Keys}
-use Rattle.rules_outcome.specs.Roots.{rootsOf, entriesOf, wrappingSize, copiesOf, announcedAs}
+use Rattle.rules_outcome.specs.Roots.{rootsOf, entriesOf, wrappingSize, announcedAs}
+use Rattle.rules_outcome.specs.Holding.{newRekey, HeldAfterwards}
 
 -- "The delay is the frame's deactivation delay, 0 if it has none (house)": number 4 leaves one at most
 unfoldable pub delayOf : Frame → ℕ
 delayOf f = sum (λ (w : GroupWidePolicy). sum (λ (d : ℕ). d) (w .deactivationDelays)) (groupWides f)
-
--- the frame announces a Rekey SA
-abbrev pub newRekey : Frame → Bool
-newRekey f = any isRekey (announced f)
 
 -- "each ESP SPI named in D that was live retires, SPI 0 naming every ESP SA in the table (001 section 2.4.3)"
 abbrev pub isZero : List ℕ → Bool
@@ -79,41 +72,12 @@ unfoldable pub insertAll : List Sa → List Sa → List Sa
 insertAll [] l = l
 insertAll (a ∷ m) l = insert saBefore a (insertAll m l)
 
--- "the Rekey SA's SA_KEY" (document 02, T-04): the copies of the key of a Rekey SA that the frame announces. Numbers 4 and 6 leave a
--- registration one at most
-unfoldable pub rekeyCopies : Frame → List SaKey
-rekeyCopies f = gather (copiesOf f) (keep isRekey (announced f))
-
--- a key with its Key ID and value, as the list holds it
-abbrev pub heldFrom : Root → HeldKey
-heldFrom r = record { id = r .id; key = wrappingOf (r .value) }
-
 module _ (roots : List Root) (entries : List WrapKey) (size : ℕ) where
   -- "each of those SAs stands in the table .. with the octets that every such copy opens to"
   pub data Enter (now : ℕ) (f : Frame) : List GroupSaPolicy → List Sa → Type 0 where
     no-sa : Enter now f [] []
     one-more : {a : GroupSaPolicy} {l : List GroupSaPolicy} {m : List Sa} (x : List ℕ) → KeyOf roots entries size (announcedAs f a) x →
         Enter now f l m → Enter now f (a ∷ l) (saFrom now a x ∷ m)
-
-  -- "the chain that opens the Rekey SA's SA_KEY, written from the key that opens it back towards the default key": list `h` is the path of
-  -- these copies, its keys in their order, each with the value that every chain ending on it gives
-  pub record HoldsPath (limits : Limits) (copies : List SaKey) (h : Held) : Type 0 where
-    pub ids : List ℕ
-    pub path : KeyPath roots entries size copies ids
-    pub keys : List Root
-    pub are : Keys roots entries size ids keys
-    pub is : h ≡ heldOf limits (map heldFrom keys)
-
-  -- "After a registration the held list is now the chain ..": by whether the frame announces a Rekey SA, `copies` being those of its key.
-  -- "No Rekey SA, or one opened by the default key: empty": key 0 is on no path
-  abbrev pub HeldSet : Bool → Limits → List SaKey → Held → Type 0
-  HeldSet true limits copies h = HoldsPath limits copies h
-  HeldSet false limits copies h = h ≡ heldOf limits []
-
--- a registration sets the held list, "a rekey leaves it"; in GSA_INBAND_REKEY "the held list stays" (T-02)
-abbrev pub HeldBy : Bool → Type 0 → Type 0 → Type 0
-HeldBy true Set Kept = Set
-HeldBy false Set Kept = Kept
 
 -- "With a new Rekey SA the least Message ID is its GSA_INITIAL_MESSAGE_ID, else 0; without one, a registration sets 0 and a rekey sets it
 -- to its own plus 1, or none any more after 4,294,967,295." In GSA_INBAND_REKEY it "changes only if a new Rekey SA comes" (T-02).
@@ -134,9 +98,7 @@ pub record After (limits : Limits) (s : State) (now : ℕ) (lent : List ℕ) (f 
   pub new : List Sa
   pub enter : Enter (rootsOf limits s now lent f) (entriesOf f) (wrappingSize limits s now lent f) now f (announced f) new
   pub table : next .table ≡ tableOf limits (insertAll new (oldSas s now f))
-  pub held :
-      HeldBy (rowOf f .registers)
-      (HeldSet (rootsOf limits s now lent f) (entriesOf f) (wrappingSize limits s now lent f) (newRekey f) limits (rekeyCopies f)
-      (next .held))
-      (next .held ≡ s .held)
+  pub held : HeldAfterwards limits s now lent f (next .held)
   pub least : next .least ≡ leastAfterwards s f
+  -- the profile is "switched on for a member at creation" (document 02, T-11)
+  pub profile : next .profile ≡ s .profile

@@ -1,5 +1,6 @@
 -- "The lowest number that applies is given; each is judged only when the lower ones don't apply": conditions with their numbers, in the
--- order in which they are judged.
+-- order in which they are judged. "Where a request judges numbers out of rising order, "lower" in demand 1 and document 01 means judged
+-- earlier" (document 02, T-05).
 use Prim.Native.Nat.{ℕ}
 use mathlib.Core.Path.{_≡_}
 use mathlib.Core.Bool.{true}
@@ -11,6 +12,7 @@ use Rattle.state.specs.declared.State.{State}
 use Rattle.rules_refusals.specs.Refusals.{Number, applies, numbers}
 use Rattle.rules_chains.specs.Refusals.{KeyConflict, KeyMissing}
 use Rattle.rules_outcome.specs.Roots.{rootsOf, entriesOf, wrappingSize, announcedKeys}
+use Rattle.rules_outcome.specs.Holding.{OverHeldOf}
 
 -- a refusal number with its condition
 pub record RefusalCase : Type 1 where
@@ -35,11 +37,12 @@ abbrev pub KeyMissingOf : Limits → State → ℕ → List ℕ → Frame → Ty
 KeyMissingOf limits s now lent f =
     KeyMissing (rootsOf limits s now lent f) (entriesOf f) (wrappingSize limits s now lent f) (announcedKeys f)
 
+-- behind these document 02's "Over 128 then is 7, judged after 9" (T-11)
 abbrev pub conditions : Limits → State → ℕ → List ℕ → Frame → List RefusalCase
 conditions limits s now lent f =
     map byClauses (numbers limits s now lent f)
     ++ (record { number = 8; holds = KeyConflictOf limits s now lent f }
-    ∷ record { number = 9; holds = KeyMissingOf limits s now lent f } ∷ [])
+    ∷ record { number = 9; holds = KeyMissingOf limits s now lent f } ∷ record { number = 7; holds = OverHeldOf limits s now lent f } ∷ [])
 
 -- THE ANSWER TO A FRAME WHOSE LAYOUT IS WHOLE
 abbrev pub FrameAnswers : Limits → State → ℕ → List ℕ → Frame → ℕ → Type 0

@@ -13,7 +13,7 @@ use Rattle.rfc5649.specs.Wrap.{wrapOf}
 use Rattle.rfc5649.specs.Opens.{Opens}
 use Rattle.keywrap.specs.Answers.{written, OpenAnswers}
 use Rattle.keywrap.specs.declared.WrapAnswer.{WrapAnswer}
-use Rattle.keywrap.specs.declared.WrapAnswer.the-variants.{Count}
+use Rattle.keywrap.specs.declared.WrapAnswer.the-variants.{No, Count}
 use Rattle.state_keys.specs.Limits.{limits}
 use Rattle.wire_attributes.specs.Tree.{WrapKey}
 use Rattle.wire_frames.specs.Frame.{Frame}
@@ -23,8 +23,8 @@ use Rattle.state.specs.State.{stateFormed}
 use Rattle.rules_chains.specs.Chain.{In, Root, Reached}
 use Rattle.rules_outcome.specs.After.{After}
 use Rattle.rules_outcome.specs.Outcome.{Outcome}
-use Rattle.rules_outcome.specs.Judging.{JudgedFirst, above}
-use Rattle.rules_outcome.specs.Meets.{judgingOrder, Meets, Accepted}
+use Rattle.rules_outcome.specs.Judging.{SomeHolds, JudgedFirst}
+use Rattle.rules_outcome.specs.Meets.{judgingOrder, Accepted}
 use Rattle.rules_outcome.specs.Demand3.{Demand3}
 
 -- ---- demand 1
@@ -45,22 +45,17 @@ module _ (s : State) (now : ℕ) (lent octets : List ℕ) where
         Outcome limits s now lent octets (suc n) next ↔ (JudgedFirst (judgingOrder limits s now lent octets) (suc n) × (next ≡ s))
     -- "Bad input": 0 is given exactly when no condition holds
     pub accepted : (next : State) → Outcome limits s now lent octets 0 next ↔ Accepted limits s now lent octets next
-    pub zero-due : (n : ℕ) (next : State) → Outcome limits s now lent octets n next → ((m : ℕ) → Meets limits s now lent octets m → ⊥) →
-        n ≡ 0
-    -- today's numbers rise in judging order, so what is judged earlier has a lower number
-    pub rise : above 0 (judgingOrder limits s now lent octets) ≡ true
-    pub lower : (n : ℕ) →
-        JudgedFirst (judgingOrder limits s now lent octets) (suc n)
-        ↔ (Meets limits s now lent octets (suc n) × ((m : ℕ) → m < suc n → Meets limits s now lent octets m → ⊥))
+    pub zero-due : (n : ℕ) (next : State) → Outcome limits s now lent octets n next →
+        ((m : ℕ) → SomeHolds (judgingOrder limits s now lent octets) m → ⊥) → n ≡ 0
 
   -- ---- demand 2
   pub record OneReading (next : State) : Type 1 where
     -- "the one reading that RFC 9838 and RFC 7296 give it"
     pub tree : Frame
-    pub layout : IsFrame octets tree
-    pub one : (other : Frame) → IsFrame octets other → other ≡ tree
+    pub layout : IsFrame (s .profile) octets tree
+    pub one : (other : Frame) → IsFrame (s .profile) octets other → other ≡ tree
     -- "within our limits": of number 7, and those of a table and a held list
-    pub within : Meets limits s now lent octets 7 → ⊥
+    pub within : SomeHolds (judgingOrder limits s now lent octets) 7 → ⊥
     pub is-formed : stateFormed limits next ≡ true
     -- "and the member afterwards is the one document 01 describes"
     pub after : After limits s now lent tree next
@@ -80,6 +75,8 @@ pub record OpenedTo (room x : List ℕ) (a : WrapAnswer) (after : List ℕ) : Ty
 
 pub record OpensExactly (key wrapped room : List ℕ) (a : WrapAnswer) (after : List ℕ) : Type 1 where
   pub exactly : (x : List ℕ) → Fits room x → OpenedTo room x a after ↔ (wrapOf key x ≡ wrapped)
+  -- and where it answers no, nothing that fits opens, and the room is as lent
+  pub answers-no : a ≡ No → ((x : List ℕ) → Fits room x → wrapOf key x ≡ wrapped → ⊥) × (after ≡ room)
 
 -- ---- demand 3: what chains lead to, said without chains
 module _ (roots : List Root) (entries : List WrapKey) (size : ℕ) where
@@ -120,6 +117,6 @@ Claims reading = (s : State) (now : ℕ) (lent octets : List ℕ) (next : State)
     OneReading s now lent octets next
 Claims opening = (key wrapped room : List ℕ) → Key key → (a : WrapAnswer) (after : List ℕ) → OpenAnswers key wrapped room a after →
     OpensExactly key wrapped room a after
-Claims keys = (s : State) (now : ℕ) (lent octets : List ℕ) (f : Frame) → IsFrame octets f → (n : ℕ) (next : State) →
+Claims keys = (s : State) (now : ℕ) (lent octets : List ℕ) (f : Frame) → IsFrame (s .profile) octets f → (n : ℕ) (next : State) →
     Outcome limits s now lent octets n next → Demand3 limits s now lent f octets n next
 Claims chains = (roots : List Root) (entries : List WrapKey) (size : ℕ) → LeastClosed roots entries size

@@ -1,4 +1,5 @@
 pub mod Roots
+pub mod Holding
 pub mod Answer
 pub mod After
 pub mod Outcome
@@ -17,3 +18,4 @@ pub mod Demands
 pub mod Stands
 pub mod Wider
 pub mod Inband
+pub mod BeforeT11

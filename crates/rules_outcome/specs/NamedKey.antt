@@ -4,7 +4,7 @@ use Prim.Native.Nat.{ℕ}
 use mathlib.Core.Path.{_≡_}
 use mathlib.Core.Bool.{true, false}
 use mathlib.Core.Logic.{_⊎_}
-use mathlib.Core.List.{List, [], _∷_}
+use mathlib.Core.List.{List, [], _∷_, map}
 use lib.ListN.{length, take, drop}
 use Rattle.ikev2_numbers.specs.Codes.{gsaAuth, gsaInbandRekey, gsaRegistration, gsaRekey}
 use Rattle.rfc5649.specs.Opens.{Opens}
@@ -21,9 +21,10 @@ use Rattle.state_table.specs.Table.{sasOf}
 use Rattle.state.specs.declared.State.{State}
 use Rattle.state.specs.declared.held.HeldKey.{HeldKey}
 use Rattle.state.specs.Held.{keysOf}
-use Rattle.rules_refusals.specs.Contents.{groupBags, memberBags, wrapKeysOf}
+use Rattle.rules_refusals.specs.Contents.{groupBags, memberBags, wrapKeysOf, freshKeysOf}
 use Rattle.rules_chains.specs.Chain.{In, Root, Chain, Reached, CopyOpens}
-use Rattle.rules_outcome.specs.Roots.{ownKey, keyZeroValue, rootsOf, entriesOf, wrappingSize, copiesOf}
+use Rattle.rules_outcome.specs.Roots.{ownKey, keyZeroValue, heldRoot, notCarried, rootsOf, entriesOf, wrappingSize}
+use Rattle.rules_outcome.specs.Roots.{copiesOf}
 use Rattle.rules_outcome.specs.Meets.{Meets}
 
 -- "Registration frames (GSA_AUTH, GSA_REGISTRATION responses)": exchange types 39 and 40
@@ -45,6 +46,12 @@ lentRoot lent = record { id = 0; value = lent } ∷ []
 -- a chain of one or more entries leads from the lent default key to key `k` and gives it the value `x`
 abbrev pub Given : List ℕ → Frame → ℕ → List ℕ → Type 0
 Given lent f k x = Reached (lentRoot lent) (wrapKeysOf f) (length lent) k x
+
+-- document 02, T-11: "if the frame carries any entry for that ID": a fresh tree key of the frame has Key ID `i`, whether or not it opens
+pub record Carries (f : Frame) (i : ℕ) : Type 0 where
+  pub entry : WrapKey
+  pub stands : In entry (freshKeysOf f)
+  pub is : entry .keyId ≡ i
 
 -- SA_KEY `c` stands in a Group Key Bag of the frame with the protocol and SPI of policy `a`
 pub record InOwnBag (f : Frame) (a : GroupSaPolicy) (c : SaKey) : Type 0 where
@@ -69,15 +76,26 @@ pub record OfMemberBags (lent : List ℕ) (f : Frame) (k : HeldKey) : Type 0 whe
   pub own : (w : WrapKey) → In w passed → InMemberBag f w
 
 module _ (limits : Limits) (s : State) (now : ℕ) (lent : List ℕ) (f : Frame) where
+  -- in a rekey over the Rekey SA "chains now start from the default key or a held key not carried anew" (T-11)
+  abbrev pub freshRoots : List Root
+  freshRoots = record { id = 0; value = ownKey limits s now } ∷ map heldRoot (notCarried (freshKeysOf f) (keysOf (s .held)))
+
+  -- and a chain of one or more fresh tree keys leads from one of these to key `k` and gives it the value `x`. "A fresh key has the size of
+  -- the live Rekey SA's default key."
+  abbrev pub FreshGiven : ℕ → List ℕ → Type 0
+  FreshGiven k x = Reached freshRoots (freshKeysOf f) (length (ownKey limits s now)) k x
+
   -- "be it key 0, the last key of such a chain or, in a rekey, a key the member held". Key 0 is the lent default key in a registration and
   -- "the live Rekey SA's own" in a rekey. In GSA_INBAND_REKEY "its key 0 is the lent key; held keys, in demand 3 too, are for GSA_REKEY
-  -- only" (T-02)
+  -- only" (T-02). "A KWK ID names the fresh key if the frame carries any entry for that ID, otherwise the held key" (T-11)
   pub data Named (k : ℕ) (v : List ℕ) : Type 0 where
     lent-key : Registration f → k ≡ 0 → v ≡ lent → Named k v
     lent-in-band : Inband f → k ≡ 0 → v ≡ lent → Named k v
     own-key : f .header .exchange ≡ gsaRekey → k ≡ 0 → v ≡ ownKey limits s now → Named k v
     last-of-chain : Registration f → Given lent f k v → Named k v
-    held-key : f .header .exchange ≡ gsaRekey → (h : HeldKey) → In h (keysOf (s .held)) → h .id ≡ k → valueOf (h .key) ≡ v → Named k v
+    held-key : f .header .exchange ≡ gsaRekey → (h : HeldKey) → In h (keysOf (s .held)) → (Carries f (h .id) → ⊥) → h .id ≡ k →
+        valueOf (h .key) ≡ v → Named k v
+    fresh-key : f .header .exchange ≡ gsaRekey → FreshGiven k v → Named k v
 
   -- "its SA_KEY attributes, opened under the key their KWK ID names"
   pub record OpensUnder (a : GroupSaPolicy) (x : List ℕ) : Type 0 where
@@ -105,6 +123,6 @@ pub record CameOver (s : State) (now : ℕ) (f : Frame) (zero : List ℕ) : Type
 -- every GSA_REKEY frame that number 2 lets pass came over such an SA, whether or not it is accepted
 abbrev pub ZeroOfRekeys : Limits → State → Type 0
 ZeroOfRekeys limits s =
-    (now : ℕ) (lent octets : List ℕ) (f : Frame) → IsFrame octets f → f .header .exchange ≡ gsaRekey →
+    (now : ℕ) (lent octets : List ℕ) (f : Frame) → IsFrame (s .profile) octets f → f .header .exchange ≡ gsaRekey →
     (Meets limits s now lent octets 2 → ⊥) →
     CameOver s now f (keyZeroValue limits s now lent f)

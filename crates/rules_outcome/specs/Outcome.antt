@@ -1,6 +1,7 @@
 -- THE OUTCOME: for every state, frame, lent key and tick the answer's number and the next state. "A refusal returns its number and the
 -- member as it was."
 use Prim.Native.Nat.{ℕ, suc}
+use mathlib.Core.Bool.{Bool}
 use mathlib.Core.List.{List}
 use Rattle.state_keys.specs.Limits.{Limits}
 use Rattle.wire_frames.specs.Frame.{Frame}
@@ -15,13 +16,13 @@ pub data Judged (limits : Limits) (s : State) (now : ℕ) (lent : List ℕ) (f :
   accepted : (next : State) → FrameAnswers limits s now lent f 0 → After limits s now lent f next → Judged limits s now lent f 0 next
 
 -- 1: "under 28 or over 16,384 octets, header length .., major version not 2, or any first octet, length, .. or end that breaks the
--- layouts": no tree is laid out as these octets
-abbrev pub NoTree : List ℕ → Type 0
-NoTree octets = (f : Frame) → IsFrame octets f → ⊥
+-- layouts": no tree is laid out as these octets, for a member of this profile
+abbrev pub NoTree : Bool → List ℕ → Type 0
+NoTree profile octets = (f : Frame) → IsFrame profile octets f → ⊥
 
 -- "the other numbers are judged on a frame whose layout is whole": by its tree, of which there is only one (`one-tree`,
 -- wire_frames/proofs/FrameGrammar.antt)
 pub data Outcome (limits : Limits) (s : State) (now : ℕ) (lent octets : List ℕ) : ℕ → State → Type 0 where
-  no-layout : NoTree octets → Outcome limits s now lent octets 1 s
-  by-tree : (f : Frame) {n : ℕ} {next : State} → IsFrame octets f → Judged limits s now lent f n next →
+  no-layout : NoTree (s .profile) octets → Outcome limits s now lent octets 1 s
+  by-tree : (f : Frame) {n : ℕ} {next : State} → IsFrame (s .profile) octets f → Judged limits s now lent f n next →
       Outcome limits s now lent octets n next

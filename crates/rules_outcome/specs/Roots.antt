@@ -1,8 +1,9 @@
 -- What a frame gives to chains: the keys to start with, the entries, the size of a wrapping key, and the announced SAs with the copies of
 -- their keys.
 use Prim.Native.Nat.{ℕ, _+_}
-use mathlib.Core.Bool.{cond}
-use mathlib.Core.List.{List, [], _∷_, map}
+use mathlib.Core.Bool.{Bool, cond, not}
+use mathlib.Core.List.{List, [], _∷_, _++_, map}
+use lib.Dec.{eqb}
 use lib.ListN.{length}
 use Rattle.wire_attributes.specs.Tree.{SaKey, WrapKey}
 use Rattle.wire_policies.specs.Policy.{GroupSaPolicy}
@@ -10,14 +11,14 @@ use Rattle.wire_bags.specs.Bag.{GroupKeyBag}
 use Rattle.wire_frames.specs.Frame.{Frame}
 use Rattle.wire_frames.specs.declared.exchanges.KeyZero.{KeyZero}
 use Rattle.wire_frames.specs.declared.exchanges.KeyZero.the-variants as zero
-use Rattle.state_keys.specs.Lists.{keep}
+use Rattle.state_keys.specs.Lists.{any, keep}
 use Rattle.state_keys.specs.Limits.{Limits}
 use Rattle.state_keys.specs.Kinds.{valueOf}
 use Rattle.state_table.specs.Table.{swept, defaultKey}
 use Rattle.state.specs.declared.State.{State}
 use Rattle.state.specs.declared.held.HeldKey.{HeldKey}
 use Rattle.state.specs.Held.{keysOf}
-use Rattle.rules_refusals.specs.Contents.{rowOf, gather, announced, groupBags, wrapKeysOf}
+use Rattle.rules_refusals.specs.Contents.{rowOf, gather, announced, groupBags, wrapKeysOf, freshKeysOf}
 use Rattle.rules_refusals.specs.Fitness.{encryptionOctets, keyWrapOctets}
 use Rattle.rules_refusals.specs.Number6.{bagNamed}
 use Rattle.rules_chains.specs.Chain.{Root}
@@ -40,15 +41,27 @@ keyZeroValue limits s now lent f = keyZeroBy (rowOf f .zero) lent (ownKey limits
 abbrev pub heldRoot : HeldKey → Root
 heldRoot k = record { id = k .id; value = valueOf (k .key) }
 
+-- document 02, T-11: "A KWK ID names the fresh key if the frame carries any entry for that ID, otherwise the held key": these entries carry
+-- the Key ID of held key `k`, whether or not they open
+abbrev pub carried : List WrapKey → HeldKey → Bool
+carried l k = any (λ (e : WrapKey). eqb (e .keyId) (k .id)) l
+
+-- the held keys that these entries do not carry
+abbrev pub notCarried : List WrapKey → List HeldKey → List HeldKey
+notCarried l h = keep (λ (k : HeldKey). not (carried l k)) h
+
+-- "Chains now start from the default key or a held key not carried anew" (T-11)
 unfoldable pub rootsOf : Limits → State → ℕ → List ℕ → Frame → List Root
 rootsOf limits s now lent f =
-    record { id = 0; value = keyZeroValue limits s now lent f } ∷ cond (rowOf f .«names_held_keys») (map heldRoot (keysOf (s .held))) []
+    record { id = 0; value = keyZeroValue limits s now lent f }
+    ∷ cond (rowOf f .«names_held_keys») (map heldRoot (notCarried (freshKeysOf f) (keysOf (s .held)))) []
 
--- "goes on by WRAP_KEY entries"
+-- "goes on by WRAP_KEY entries", or by the fresh tree keys of a rekey (T-11). Where the layout reads fresh keys, number 4 leaves no
+-- WRAP_KEY
 abbrev pub entriesOf : Frame → List WrapKey
-entriesOf f = wrapKeysOf f
+entriesOf f = wrapKeysOf f ++ freshKeysOf f
 
--- "a wrapping key [needs] the size of the lent default key"
+-- "a wrapping key [needs] the size of the lent default key"; "A fresh key has the size of the live Rekey SA's default key" (T-11)
 unfoldable pub wrappingSize : Limits → State → ℕ → List ℕ → Frame → ℕ
 wrappingSize limits s now lent f = length (keyZeroValue limits s now lent f)
 

@@ -10,9 +10,9 @@ use Rattle.wire_frames.specs.Frame.{Frame}
 use Rattle.wire_frames.specs.Grammar.{IsFrame}
 use Rattle.state_table.specs.Table.{sasOf}
 use Rattle.state.specs.declared.State.{State}
-use Rattle.state.specs.State.{newState, sweptState}
+use Rattle.state.specs.State.{leftState, sweptState}
 use Rattle.rules_refusals.specs.Number2.{notDueSas, overLiveRekey}
-use Rattle.rules_outcome.specs.After.{newRekey}
+use Rattle.rules_outcome.specs.Holding.{newRekey}
 use Rattle.rules_outcome.specs.Outcome.{Outcome}
 
 -- a frame's octets with the lent default key and the tick, a sweep at a tick, leaving
@@ -22,12 +22,12 @@ pub data Event : Type 0 where
   leave : Event
 
 module _ (limits : Limits) where
-  -- one step: a frame has its outcome, with the answer's number `n`; "Leaving gives the new member"
+  -- one step: a frame has its outcome, with the answer's number `n`; "Leaving gives the new member", and "keeps the profile" (T-11)
   pub data Takes (s : State) : Event → State → Type 0 where
     answered : (octets lent : List ℕ) (now n : ℕ) {next : State} → Outcome limits s now lent octets n next →
         Takes s (handed octets lent now) next
     swept : (now : ℕ) → Takes s (sweep now) (sweptState limits now s)
-    left : Takes s leave (newState limits)
+    left : Takes s leave (leftState limits s)
 
   pub data Run : State → List Event → State → Type 0 where
     ends : (s : State) → Run s [] s
@@ -40,9 +40,9 @@ module _ (limits : Limits) where
 
   -- the step is not leaving, and not an accepted frame with a new Rekey SA
   abbrev pub Quiet : {s e : State} {x : Event} → Takes s x e → Type 0
-  Quiet (answered octets lent now n o) = (f : Frame) → IsFrame octets f → n ≡ 0 → newRekey f ≡ false
-  Quiet (swept now) = Unit {0}
-  Quiet left = ⊥
+  Quiet {s} (answered octets lent now n o) = (f : Frame) → IsFrame (s .profile) octets f → n ≡ 0 → newRekey f ≡ false
+  Quiet {s} (swept now) = Unit {0}
+  Quiet {s} left = ⊥
 
   -- each step of the run is quiet
   abbrev pub AllQuiet : {s e : State} {l : List Event} → Run s l e → Type 0

@@ -1,6 +1,7 @@
 -- DOCUMENT 01'S SAMPLES MARKED P, one row each, with what it says of the definitions, and two rows of ours. "What a sample does not mention
--- is fit; entries stand in a registration." Document 02, T-04: "In both samples with a held list a Rekey SA_KEY comes under 5". No row assumes that something opens: what opens is the wrapping of any octets under any key. A
--- row speaks of any octets that are laid out as its frame.
+-- is fit; entries stand in a registration." Document 02, T-04: "In both samples with a held list a Rekey SA_KEY comes under 5". No row
+-- assumes that something opens: what opens is the wrapping of any octets under any key. A row speaks of any octets that are laid out as
+-- its frame.
 use Prim.Native.Nat.{ℕ, _≤_}
 use mathlib.Core.Path.{_≡_}
 use mathlib.Core.Bool.{Bool, true, false, cond}
@@ -34,7 +35,7 @@ use Rattle.state.specs.Least.{acceptable}
 use Rattle.state.specs.State.{newState, stateFormed}
 use Rattle.rules_refusals.specs.Fitness.{oneGroupAddress}
 use Rattle.rules_outcome.specs.Outcome.{Outcome}
-use Rattle.rules_outcome.specs.After.{newRekey}
+use Rattle.rules_outcome.specs.Holding.{newRekey}
 use Rattle.rules_outcome.specs.Run.{Event, Run, AllQuiet, StandsAt}
 
 abbrev samplePayload : ℕ → Content → Payload
@@ -55,15 +56,16 @@ deleting x i l = record {
   payloads = samplePayload 42 (delete (record { protocol = 3; spis = l })) ∷ [];
 }
 
-pub record Rekeys (x : List ℕ) (i : ℕ) (octets : List ℕ) : Type 0 where
+pub record Rekeys (profile : Bool) (x : List ℕ) (i : ℕ) (octets : List ℕ) : Type 0 where
   pub spis : List (List ℕ)
   pub some : 1 ≤ length spis
   pub few : length spis ≤ limits .deletedSpis
-  pub reads : IsFrame octets (deleting x i spis)
+  pub reads : IsFrame profile octets (deleting x i spis)
 
 -- at any tick at which the Rekey SA with SPI `x` stands, any rekey over it with Message ID `i` is refused as number 3, whatever it holds
 abbrev pub Refuses : State → List ℕ → ℕ → Type 0
-Refuses s x i = (now : ℕ) (lent octets : List ℕ) → StandsAt now x s → (g : Frame) → IsFrame octets g → g .header .exchange ≡ 41 →
+Refuses s x i = (now : ℕ) (lent octets : List ℕ) → StandsAt now x s → (g : Frame) → IsFrame (s .profile) octets g →
+    g .header .exchange ≡ 41 →
     g .header .spi ≡ x → g .header .messageId ≡ i → Outcome limits s now lent octets 3 s
 
 -- the frame is taken, and `Then` holds of the state after it
@@ -74,7 +76,7 @@ pub record Taken (s : State) (now : ℕ) (lent octets : List ℕ) (Then : State 
 
 -- at any tick at which that SA stands, each rekey over it with Message ID `i` and D alone is taken, and `Then` holds of the state after it
 abbrev pub TakenThen : State → List ℕ → ℕ → (State → Type 0) → Type 0
-TakenThen s x i Then = (now : ℕ) (lent octets : List ℕ) → StandsAt now x s → Rekeys x i octets → Taken s now lent octets Then
+TakenThen s x i Then = (now : ℕ) (lent octets : List ℕ) → StandsAt now x s → Rekeys (s .profile) x i octets → Taken s now lent octets Then
 
 abbrev LeastSeven : Type 0
 LeastSeven = (s : State) (x : List ℕ) → stateFormed limits s ≡ true → s .least ≡ Id 7 →
@@ -84,12 +86,13 @@ LeastSeven = (s : State) (x : List ℕ) → stateFormed limits s ≡ true → s 
 -- at which that SA stands
 abbrev pub LaterRefused : State → List ℕ → Type 0
 LaterRefused s x = (l : List Event) (e : State) (r : Run limits s l e) → AllQuiet limits r → (now : ℕ) (lent octets : List ℕ) →
-    StandsAt now x e → (g : Frame) → IsFrame octets g → g .header .exchange ≡ 41 → g .header .spi ≡ x → Outcome limits e now lent octets 3 e
+    StandsAt now x e → (g : Frame) → IsFrame (e .profile) octets g → g .header .exchange ≡ 41 → g .header .spi ≡ x →
+    Outcome limits e now lent octets 3 e
 
 -- once any rekey with that Message ID is taken "with no new Rekey SA", every later one is refused; each with D alone is taken where the ID
 -- is acceptable
 pub record LastId : Type 0 where
-  pub any-frame : (s next : State) (now : ℕ) (lent octets : List ℕ) (f : Frame) → IsFrame octets f → f .header .exchange ≡ 41 →
+  pub any-frame : (s next : State) (now : ℕ) (lent octets : List ℕ) (f : Frame) → IsFrame (s .profile) octets f → f .header .exchange ≡ 41 →
       f .header .messageId ≡ 4294967295 → newRekey f ≡ false → Outcome limits s now lent octets 0 next → LaterRefused next (f .header .spi)
   pub taken : (s : State) (x : List ℕ) → stateFormed limits s ≡ true → acceptable 4294967295 (s .least) ≡ true →
       TakenThen s x 4294967295 (λ (next : State). LaterRefused next x)
@@ -103,6 +106,8 @@ pub record Around : Type 0 where
   pub spi : List ℕ
   pub source : Selector
   pub destination : Selector
+  -- the member's profile (document 02, T-11)
+  pub profile : Bool
 
 abbrev pub espPolicy : Around → GroupSaPolicy
 espPolicy r = record {
@@ -125,6 +130,7 @@ registering r wrapped entries = record {
         protocol = 3;
         spi = r .spi;
         keys = record { keyId = 0; kwkId = 0; wrapped = wrapped } ∷ [];
+        fresh = [];
       }) ∷ memberKeys (record { keys = entries }) ∷ []))
       ∷ [];
 }
@@ -138,7 +144,12 @@ heldWith i v = record { id = i; key = wrappingOf v }
 
 -- the member after it: the ESP SA with its keying octets `x`, and no held key
 abbrev pub registered : Around → List ℕ → State
-registered r x = record { table = tableOf limits (espSa (r .spi) (espOf x) Unlimited ∷ []); held = heldOf limits []; least = Id 0 }
+registered r x = record {
+  table = tableOf limits (espSa (r .spi) (espOf x) Unlimited ∷ []);
+  held = heldOf limits [];
+  least = Id 0;
+  profile = r .profile;
+}
 
 -- keying octets that the SA needs, and a wrapping key of the lent key's size
 pub record Keying (x : List ℕ) : Type 0 where
@@ -153,25 +164,25 @@ pub record FitKey (lent v : List ℕ) : Type 0 where
 pub record Registers (r : Around) (lent x : List ℕ) (entries : List WrapKey) (octets : List ℕ) : Type 0 where
   pub key : Key lent
   pub keying : Keying x
-  pub reads : IsFrame octets (registering r (wrapOf lent x) entries)
+  pub reads : IsFrame (r .profile) octets (registering r (wrapOf lent x) entries)
 
 abbrev TwoValues : Type 0
 TwoValues = (r : Around) (now : ℕ) (lent x v w v₉ octets : List ℕ) → FitKey lent v → FitKey lent w → FitKey lent v₉ →
     (v ≡ w → ⊥) →
     Registers r lent x (entry 5 0 (wrapOf lent v) ∷ entry 5 9 (wrapOf v₉ w) ∷ entry 9 0 (wrapOf lent v₉) ∷ []) octets →
-    Outcome limits (newState limits) now lent octets 8 (newState limits)
+    Outcome limits (newState limits (r .profile)) now lent octets 8 (newState limits (r .profile))
 
 -- for any entries
 abbrev LentOf28 : Type 0
 LentOf28 = (r : Around) (now : ℕ) (lent wrapped octets : List ℕ) (entries : List WrapKey) → length lent ≡ 28 →
-    IsFrame octets (registering r wrapped entries) →
-    Outcome limits (newState limits) now lent octets 5 (newState limits)
+    IsFrame (r .profile) octets (registering r wrapped entries) →
+    Outcome limits (newState limits (r .profile)) now lent octets 5 (newState limits (r .profile))
 
 -- "No Rekey SA ..: empty" (document 02, T-04): both keys are reached
 abbrev NoRekeySa : Type 0
 NoRekeySa = (r : Around) (now : ℕ) (lent x v₅ v₉ octets : List ℕ) → FitKey lent v₅ → FitKey lent v₉ →
     Registers r lent x (entry 5 9 (wrapOf v₉ v₅) ∷ entry 9 0 (wrapOf lent v₉) ∷ []) octets →
-    Outcome limits (newState limits) now lent octets 0 (registered r x)
+    Outcome limits (newState limits (r .profile)) now lent octets 0 (registered r x)
 
 -- ---- entries in a registration that announces one Rekey SA with AES-GCM-16 of 128 bits, KW_5649_128 and implicit authentication, its
 -- SA_KEY under KWK ID `k`
@@ -196,13 +207,19 @@ creating r k wrapped entries = record {
         protocol = 6;
         spi = r .spi;
         keys = record { keyId = 0; kwkId = k; wrapped = wrapped } ∷ [];
+        fresh = [];
       }) ∷ memberKeys (record { keys = entries }) ∷ []))
       ∷ [];
 }
 
 -- the member after it: the Rekey SA with its keying octets `x`, 20 to encrypt and 16 to wrap, and the held keys `l`
 abbrev pub created : Around → List ℕ → List HeldKey → State
-created r x l = record { table = tableOf limits (rekeySa (r .spi) (rekeyOf x 20 16) Unlimited ∷ []); held = heldOf limits l; least = Id 0 }
+created r x l = record {
+  table = tableOf limits (rekeySa (r .spi) (rekeyOf x 20 16) Unlimited ∷ []);
+  held = heldOf limits l;
+  least = Id 0;
+  profile = r .profile;
+}
 
 -- such a registration of a new member with these entries, its SA_KEY wrapped under the value `v` of key `k`
 pub record Creates (r : Around) (lent x : List ℕ) (k : ℕ) (v : List ℕ) (entries : List WrapKey) (octets : List ℕ) : Type 0 where
@@ -211,23 +228,23 @@ pub record Creates (r : Around) (lent x : List ℕ) (k : ℕ) (v : List ℕ) (en
   pub size : length x ≡ 36
   pub small : Octets x
   pub fit : FitKey lent v
-  pub reads : IsFrame octets (creating r k (wrapOf v x) entries)
+  pub reads : IsFrame (r .profile) octets (creating r k (wrapOf v x) entries)
 
 abbrev TwoSteps : Type 0
 TwoSteps = (r : Around) (now : ℕ) (lent x v₅ v₉ octets : List ℕ) → FitKey lent v₉ →
     Creates r lent x 5 v₅ (entry 5 9 (wrapOf v₉ v₅) ∷ entry 9 0 (wrapOf lent v₉) ∷ []) octets →
-    Outcome limits (newState limits) now lent octets 0 (created r x (heldWith 5 v₅ ∷ heldWith 9 v₉ ∷ []))
+    Outcome limits (newState limits (r .profile)) now lent octets 0 (created r x (heldWith 5 v₅ ∷ heldWith 9 v₉ ∷ []))
 
 -- for any wrapped octets, and whatever 5 the SA_KEY is wrapped under
 abbrev Circle : Type 0
 Circle = (r : Around) (now : ℕ) (lent x v₅ w₅ w₉ octets : List ℕ) → Creates r lent x 5 v₅ (entry 5 9 w₅ ∷ entry 9 5 w₉ ∷ []) octets →
-    Outcome limits (newState limits) now lent octets 9 (newState limits)
+    Outcome limits (newState limits (r .profile)) now lent octets 9 (newState limits (r .profile))
 
 -- RFC 9838, Appendix A.2, the member A: "KD(GP(SA1)(1{K_sa1}),MP(3{1},7{3},GSK_w{7})", "the Key Path K_sa1->1->3->7->GSK_w"
 abbrev KeyTree : Type 0
 KeyTree = (r : Around) (now : ℕ) (lent x v₁ v₃ v₇ octets : List ℕ) → FitKey lent v₃ → FitKey lent v₇ →
     Creates r lent x 1 v₁ (entry 1 3 (wrapOf v₃ v₁) ∷ entry 3 7 (wrapOf v₇ v₃) ∷ entry 7 0 (wrapOf lent v₇) ∷ []) octets →
-    Outcome limits (newState limits) now lent octets 0 (created r x (heldWith 1 v₁ ∷ heldWith 3 v₃ ∷ heldWith 7 v₇ ∷ []))
+    Outcome limits (newState limits (r .profile)) now lent octets 0 (created r x (heldWith 1 v₁ ∷ heldWith 3 v₃ ∷ heldWith 7 v₇ ∷ []))
 
 -- ---- the attribute, in a type 1 transform at any offset
 abbrev KeyLength128 : Type 0

@@ -5,7 +5,7 @@ use mathlib.Core.Path.{_≡_}
 use mathlib.Core.List.{List}
 use Rattle.wire_attributes.specs.Tree.{WrapKey}
 use Rattle.wire_policies.specs.Policy.{Policy}
-use Rattle.wire_bags.specs.Bag.{Bag, memberKeys, MemberKeyBag}
+use Rattle.wire_bags.specs.Bag.{Bag, groupKeys, memberKeys, GroupKeyBag, MemberKeyBag}
 use Rattle.wire_frames.specs.Delete.{Delete}
 use Rattle.wire_frames.specs.Frame.{Frame, Payload, gsa, kd, delete}
 use Rattle.rules_chains.specs.Chain.{In}
@@ -32,6 +32,12 @@ module _ (f : Frame) where
     pub bag : MemberKeyBag
     pub stands : HasBag (memberKeys bag)
     pub entry : In e (bag .keys)
+
+  -- fresh tree key `e` stands in a Group Key Bag of the frame (document 02, T-11)
+  pub record HasFreshKey (e : WrapKey) : Type 0 where
+    pub bag : GroupKeyBag
+    pub stands : HasBag (groupKeys bag)
+    pub entry : In e (bag .fresh)
 
   -- a D of the frame names SPI `x`
   pub record HasSpi (x : List ℕ) : Type 0 where

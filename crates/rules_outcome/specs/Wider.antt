@@ -17,19 +17,22 @@ pub record Wider (a b : Limits) : Type 0 where
   pub wrapKeys : a .wrapKeys ≤ b .wrapKeys
   pub saKeys : a .saKeys ≤ b .saKeys
   pub deletedSpis : a .deletedSpis ≤ b .deletedSpis
+  pub freshKeys : a .freshKeys ≤ b .freshKeys
 
 -- "any member within the old limits": its two counts are within `limits`. It need not keep its list otherwise
 pub record Within (limits : Limits) (s : State) : Type 0 where
   pub sas : s .table .count ≤ limits .sas
   pub heldKeys : s .held .count ≤ limits .heldKeys
 
--- `s` and `t` are the same member: the same SAs, held keys and least Message ID. Their unused places may differ, in content and in number
+-- `s` and `t` are the same member: the same SAs, held keys, least Message ID and profile. Their unused places may differ, in content and
+-- in number
 pub record SameMember (s t : State) : Type 0 where
   pub sas : sasOf (s .table) ≡ sasOf (t .table)
   pub sa-count : s .table .count ≡ t .table .count
   pub keys : keysOf (s .held) ≡ keysOf (t .held)
   pub key-count : s .held .count ≡ t .held .count
   pub least : s .least ≡ t .least
+  pub profile : s .profile ≡ t .profile
 
 -- member `s` with as many places as `limits` give it
 abbrev pub inPlaces : Limits → State → State
@@ -37,6 +40,7 @@ inPlaces limits s = record {
   table = tableOf limits (sasOf (s .table));
   held = heldOf limits (keysOf (s .held));
   least = s .least;
+  profile = s .profile;
 }
 
 -- under `limits`, member `t` gives the answer `n` and is afterwards the same member as `next`

@@ -110,5 +110,9 @@ memberBags f = gather memberBagOf (bagsOf f)
 abbrev pub wrapKeysOf : Frame → List WrapKey
 wrapKeysOf f = gather (λ (b : MemberKeyBag). b .keys) (memberBags f)
 
+-- the fresh tree keys of its Group Key Bags: private attribute 16385 (document 02, T-11)
+abbrev pub freshKeysOf : Frame → List WrapKey
+freshKeysOf f = gather (λ (b : GroupKeyBag). b .fresh) (groupBags f)
+
 abbrev pub deletedSpis : Frame → List (List ℕ)
 deletedSpis f = gather (λ (d : Delete). d .spis) (deletesOf f)

@@ -16,7 +16,7 @@ use Rattle.wire_policies.specs.Policy.{GroupSaPolicy}
 use Rattle.wire_bags.specs.Bag.{GroupKeyBag}
 use Rattle.wire_frames.specs.Frame.{Frame}
 use Rattle.wire_frames.specs.declared.exchanges.Exchange.{Exchange}
-use Rattle.rules_refusals.specs.Contents.{rowOf, announced, groupBags, wrapKeysOf}
+use Rattle.rules_refusals.specs.Contents.{rowOf, announced, groupBags, wrapKeysOf, freshKeysOf}
 use Rattle.rules_refusals.specs.Number2.{notDueSas}
 
 -- the policy, or the Group Key Bag, has protocol `p` and SPI `x`
@@ -88,10 +88,17 @@ underItself k = eqb (k .keyId) (k .kwkId)
 unfoldable pub wrapsItself : Frame → Bool
 wrapsItself f = any underItself (wrapKeysOf f)
 
+-- document 02, T-11, of fresh tree keys: "Key ID 0 and a self-wrapping give 6". They count as they stand, whether or not they open
+unfoldable pub freshKeyId : Frame → Bool
+freshKeyId f = any (λ (k : WrapKey). eqb (k .keyId) 0) (freshKeysOf f)
+
+unfoldable pub freshWrapsItself : Frame → Bool
+freshWrapsItself f = any underItself (freshKeysOf f)
+
 unfoldable pub number6OfFrame : Frame → List Bool
 number6OfFrame f =
     policyUnpaired f ∷ bagUnpaired f ∷ policyTwice f ∷ bagTwice f ∷ saKeyCount f ∷ saKeyId f ∷ espKwkId f ∷ wrapKeyId f ∷
-    wrapsItself f ∷ []
+    wrapsItself f ∷ freshKeyId f ∷ freshWrapsItself f ∷ []
 
 unfoldable pub number6OfMember : State → ℕ → Frame → List Bool
 number6OfMember s now f = alreadyInTable s now f ∷ []

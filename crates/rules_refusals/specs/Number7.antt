@@ -13,7 +13,7 @@ use Rattle.state.specs.declared.State.{State}
 use Rattle.wire_policies.specs.Policy.{GroupSaPolicy}
 use Rattle.wire_bags.specs.Bag.{GroupKeyBag}
 use Rattle.wire_frames.specs.Frame.{Frame}
-use Rattle.rules_refusals.specs.Contents.{announced, groupBags, wrapKeysOf, deletedSpis}
+use Rattle.rules_refusals.specs.Contents.{announced, groupBags, wrapKeysOf, freshKeysOf, deletedSpis}
 use Rattle.rules_refusals.specs.Fitness.{isEsp}
 use Rattle.rules_refusals.specs.Number2.{notDueSas}
 
@@ -37,6 +37,10 @@ manyDeletedSpis limits f = ltb (limits .deletedSpis) (length (deletedSpis f))
 unfoldable pub longLifetime : Frame → Bool
 longLifetime f = any (λ (p : GroupSaPolicy). any (λ (n : ℕ). ltb mostSeconds n) (p .keyLifetimes)) (announced f)
 
+-- "over 128 gives 7" (document 02, T-11): fresh tree keys, counted as they stand
+unfoldable pub manyFreshKeys : Limits → Frame → Bool
+manyFreshKeys limits f = ltb (limits .freshKeys) (length (freshKeysOf f))
+
 -- "over 16 SAs after the frame, those already due when it arrives not counted"; T-01: 64. They are those that stand at the tick and those
 -- announced
 unfoldable pub manySas : Limits → State → ℕ → Frame → Bool
@@ -44,7 +48,8 @@ manySas limits s now f = ltb (limits .sas) (length (notDueSas now s) + length (a
 
 unfoldable pub number7OfFrame : Limits → Frame → List Bool
 number7OfFrame limits f =
-    manyEspPolicies limits f ∷ manyWrapKeys limits f ∷ manySaKeys limits f ∷ manyDeletedSpis limits f ∷ longLifetime f ∷ []
+    manyEspPolicies limits f ∷ manyWrapKeys limits f ∷ manySaKeys limits f ∷ manyDeletedSpis limits f ∷ longLifetime f ∷
+    manyFreshKeys limits f ∷ []
 
 unfoldable pub number7OfMember : Limits → State → ℕ → Frame → List Bool
 number7OfMember limits s now f = manySas limits s now f ∷ []

@@ -19,14 +19,15 @@ pub data SameOrder {A : Type 0} (R : A → A → Type 0) : List A → List A →
   no-item : SameOrder R [] []
   item : {a b : A} {l m : List A} → R a b → SameOrder R l m → SameOrder R (a ∷ l) (b ∷ m)
 
--- SA_KEY copies and WRAP_KEY entries within their bag
+-- SA_KEY copies, fresh keys and WRAP_KEY entries within their bag
 pub record GroupBagReordered (a b : GroupKeyBag) : Type 0 where
   pub protocol : a .protocol ≡ b .protocol
   pub spi : a .spi ≡ b .spi
   pub keys : AnyOrder _≡_ (a .keys) (b .keys)
+  pub fresh : AnyOrder _≡_ (a .fresh) (b .fresh)
 
-pub record MemberBagReordered (a b : MemberKeyBag) : Type 0 where
-  pub keys : AnyOrder _≡_ (a .keys) (b .keys)
+pub record MemberBagReordered (x y : MemberKeyBag) : Type 0 where
+  pub keys : AnyOrder _≡_ (x .keys) (y .keys)
 
 pub data BagReordered : Bag → Bag → Type 0 where
   group : {a b : GroupKeyBag} → GroupBagReordered a b → BagReordered (groupKeys a) (groupKeys b)

@@ -1,5 +1,5 @@
--- "What a member is": its table, its held list and the least acceptable Message ID.
--- "A new member has no SA, no held key and least Message ID 0."
+-- "What a member is": its table, its held list and the least acceptable Message ID; and whether "their profile is switched on for a member
+-- at creation" (document 02, T-11).
 use Prim.Native.Nat.{ℕ}
 use mathlib.Core.Bool.{Bool, cond, _&&_}
 use mathlib.Core.List.{List, []}
@@ -11,16 +11,21 @@ use Rattle.state.specs.declared.State.{State}
 use Rattle.state.specs.declared.least.Least.the-variants.{Id}
 use Rattle.state.specs.Held.{heldOf, heldFormed}
 
-unfoldable pub newState : Limits → State
-newState limits = record { table = tableOf limits []; held = heldOf limits []; least = Id 0 }
+-- "A new member has no SA, no held key and least Message ID 0."
+unfoldable pub newState : Limits → Bool → State
+newState limits profile = record { table = tableOf limits []; held = heldOf limits []; least = Id 0; profile = profile }
 
--- the value keeps "this list" of what a member is
+-- "Leaving gives the new member"; "Leaving keeps the profile" (document 02, T-11)
+abbrev pub leftState : Limits → State → State
+leftState limits s = newState limits (s .profile)
+
+-- the value keeps "this list" of what a member is; the profile is no part of that list
 unfoldable pub stateFormed : Limits → State → Bool
 stateFormed limits s = tableFormed limits (s .table) && heldFormed limits (s .held)
 
 -- the same state with another table
 abbrev pub withTable : Table → State → State
-withTable t s = record { table = t; held = s .held; least = s .least }
+withTable t s = record { table = t; held = s .held; least = s .least; profile = s .profile }
 
 -- "Sweeping removes exactly those due"; "a member value that breaks this list is swept to itself"
 unfoldable pub sweptState : Limits → ℕ → State → State

@@ -1,5 +1,5 @@
 pub mod Tries
-pub mod Lending
 pub mod Named
 pub mod Known
 pub mod Answer
+pub mod Openers

@@ -2,3 +2,4 @@ pub mod AllReached
 pub mod Joins
 pub mod Reached
 pub mod Entries
+pub mod Source

@@ -1,11 +1,13 @@
 -- Which attribute is read where, in which format and size. Document 01: "Read, in the format and size of 001's tables, are Key Length in a
 -- type 1 transform, GSA_INITIAL_MESSAGE_ID in a Rekey policy, the deactivation delay in a group-wide policy, SA_KEY and WRAP_KEY; any other
--- is skipped (house)." Document 02, T-07: "GSA_KEY_LIFETIME, read in every policy": in every Group SA policy.
+-- is skipped (house)." Document 02, T-07: "GSA_KEY_LIFETIME, read in every policy": in every Group SA policy. Document 02, T-11: "private
+-- attribute 16385 in the Rekey SA's Group Key Bag, with WRAP_KEY's layout, when their profile is switched on".
 use Prim.Native.Nat.{ℕ, _%_}
 use mathlib.Core.Bool.{Bool, true, not}
 use lib.Dec.{leb, eqb}
-use Rattle.ikev2_numbers.specs.Codes.{attributeDtd, attributeInitialMessageId, attributeKeyLength, attributeKeyLifetime, attributeSaKey}
-use Rattle.ikev2_numbers.specs.Codes.{attributeWrapKey, leastWrapped, mostWrapped, protocolGikeUpdate, transformEncr, wrappedBlock}
+use Rattle.ikev2_numbers.specs.Codes.{attributeDtd, attributeFreshKey, attributeInitialMessageId, attributeKeyLength}
+use Rattle.ikev2_numbers.specs.Codes.{attributeKeyLifetime, attributeSaKey, attributeWrapKey, leastWrapped, mostWrapped}
+use Rattle.ikev2_numbers.specs.Codes.{protocolGikeUpdate, transformEncr, wrappedBlock}
 use Rattle.octets.specs.Walk.{either, both}
 use Rattle.wire_attributes.specs.declared.tables.Place.{Place}
 use Rattle.wire_attributes.specs.declared.tables.Place.the-variants as place
@@ -22,6 +24,8 @@ meaningOf place.RekeyPolicy k =
 meaningOf place.DataPolicy k = either (eqb k attributeKeyLifetime) meaning.KeyLifetime meaning.Skipped
 meaningOf place.GroupWidePolicy k = either (eqb k attributeDtd) meaning.DeactivationDelay meaning.Skipped
 meaningOf place.RekeyBag k = either (eqb k attributeSaKey) meaning.SaKey meaning.Skipped
+meaningOf place.FreshRekeyBag k =
+    either (eqb k attributeSaKey) meaning.SaKey (either (eqb k attributeFreshKey) meaning.FreshKey meaning.Skipped)
 meaningOf place.DataBag k = either (eqb k attributeSaKey) meaning.SaKey meaning.Skipped
 meaningOf place.MemberBag k = either (eqb k attributeWrapKey) meaning.WrapKey meaning.Skipped
 
@@ -43,14 +47,15 @@ formatFits meaning.DeactivationDelay short n = short
 formatFits meaning.KeyLifetime short n = fourOctets short n
 formatFits meaning.SaKey short n = both (not short) (wrappedSize n)
 formatFits meaning.WrapKey short n = both (not short) (wrappedSize n)
+formatFits meaning.FreshKey short n = both (not short) (wrappedSize n)
 
 -- the place of the attributes of a transform, by its type: 1 is Encryption Algorithm; of a Group SA policy and of a Group Key Bag, by
--- protocol: 6 is GIKE_UPDATE, the Rekey SA
+-- protocol: 6 is GIKE_UPDATE, the Rekey SA. `fresh` says whether fresh keys are read in a Rekey SA's Group Key Bag
 abbrev pub inTransform : ℕ → Place
 inTransform t = either (eqb t transformEncr) place.EncryptionTransform place.OtherTransform
 
 abbrev pub inPolicy : ℕ → Place
 inPolicy p = either (eqb p protocolGikeUpdate) place.RekeyPolicy place.DataPolicy
 
-abbrev pub inBag : ℕ → Place
-inBag p = either (eqb p protocolGikeUpdate) place.RekeyBag place.DataBag
+abbrev pub inBag : Bool → ℕ → Place
+inBag fresh p = either (eqb p protocolGikeUpdate) (either fresh place.FreshRekeyBag place.RekeyBag) place.DataBag

@@ -39,6 +39,7 @@ codeOf meaning.DeactivationDelay = 3
 codeOf meaning.KeyLifetime = 4
 codeOf meaning.SaKey = 5
 codeOf meaning.WrapKey = 6
+codeOf meaning.FreshKey = 7
 
 abbrev pub means : Meaning → Place → Attribute → Bool
 means m p a = eqb (codeOf (meaningOf p (a .kind))) (codeOf m)
@@ -73,3 +74,7 @@ saKeys p l = map saKeyOf (valuesOf meaning.SaKey p l)
 
 abbrev pub wrapKeys : Place → List Attribute → List WrapKey
 wrapKeys p l = map wrapKeyOf (valuesOf meaning.WrapKey p l)
+
+-- fresh tree keys, "with WRAP_KEY's layout" (document 02, T-11): entries of a key tree as WRAP_KEYs are
+abbrev pub freshKeys : Place → List Attribute → List WrapKey
+freshKeys p l = map wrapKeyOf (valuesOf meaning.FreshKey p l)

@@ -2,3 +2,4 @@ pub mod Bag
 pub mod Grammar
 pub mod Ignored
 pub mod Breaks
+pub mod Plain

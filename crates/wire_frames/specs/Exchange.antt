@@ -1,7 +1,8 @@
 -- What differs between exchanges (RFC 9838, section 9.2: GSA_AUTH 39, GSA_REGISTRATION 40, GSA_REKEY 41, GSA_INBAND_REKEY 42), one row
 -- each; document 01 says "in a registration" and "in a rekey" where a rule depends on it, document 02's T-02 what holds of the fourth.
+-- Whether fresh keys are read depends on the exchange and on the member's profile (document 02, T-11).
 use Prim.Native.Nat.{ℕ}
-use mathlib.Core.Bool.{true, false}
+use mathlib.Core.Bool.{Bool, true, false, _&&_}
 use lib.Dec.{eqb}
 use Rattle.ikev2_numbers.specs.Codes.{gsaAuth, gsaInbandRekey, gsaRegistration, gsaRekey}
 use Rattle.octets.specs.Walk.{either}
@@ -39,6 +40,8 @@ registration = record {
   registers = true;
   -- with no new Rekey SA "a registration sets 0 and a rekey sets it to its own plus 1"
   least = least.Zero;
+  -- "new tree keys in the multicast rekey"; "Elsewhere .. the attribute is skipped." (document 02, T-11)
+  «reads_fresh_keys» = false;
 }
 
 -- GSA_REKEY, by the same words
@@ -57,6 +60,7 @@ rekey = record {
   authentication = true;
   registers = false;
   least = least.OwnPlusOne;
+  «reads_fresh_keys» = true;
 }
 
 -- GSA_INBAND_REKEY, above each field the words of document 02's T-02 that it stands for
@@ -87,6 +91,8 @@ inband = record {
   registers = false;
   -- "The least Message ID changes only if a new Rekey SA comes."
   least = least.Kept;
+  -- "Elsewhere .. the attribute is skipped." (T-11)
+  «reads_fresh_keys» = false;
 }
 
 -- every other exchange type: it is not taken (number 2)
@@ -105,9 +111,15 @@ other = record {
   authentication = false;
   registers = false;
   least = least.Zero;
+  «reads_fresh_keys» = false;
 }
 
 abbrev pub exchangeOf : ℕ → Exchange
 exchangeOf x =
     either (eqb x gsaAuth) registration (either (eqb x gsaRegistration) registration
     (either (eqb x gsaRekey) rekey (either (eqb x gsaInbandRekey) inband other)))
+
+-- WHETHER FRESH KEYS ARE READ in a frame with the exchange type `x` that a member with this `profile` gets (document 02, T-11): "Elsewhere,
+-- and with the profile off, the attribute is skipped."
+abbrev pub readsFresh : Bool → ℕ → Bool
+readsFresh profile x = profile && exchangeOf x .«reads_fresh_keys»

@@ -1,5 +1,6 @@
 -- A frame (document 01): "a plain 28-octet IKE header (RFC 7296 section 3.1), then the opened payloads", as a tree, or the offset of the
--- structure whose layout broke first.
+-- structure whose layout broke first. `fresh` says whether fresh keys are read in the frame, `profile` whether the member that gets it has
+-- the profile for them (document 02, T-11).
 use Prim.Native.Nat.{ℕ}
 use mathlib.Core.List.{List, [], _∷_}
 use mathlib.Core.Bool.{Bool, true}
@@ -16,6 +17,7 @@ use Rattle.wire_policies.specs.Policy.{Policy, policies}
 use Rattle.wire_bags.specs.Bag.{Bag, bags}
 use Rattle.wire_frames.specs.Header.{Header, headerOf, firstPayload, headerFits, payloadFits, isCritical}
 use Rattle.wire_frames.specs.Delete.{Delete, deleteOf, deleteFits}
+use Rattle.wire_frames.specs.Exchange.{readsFresh}
 
 -- "Known: IDr 36, CERT 37, AUTH 39, N 41, D 42, GSA 51, KD 52. The bodies of 36, 37, 39 and 41 are not read. Others are skipped"
 abbrev pub isKnown : ℕ → Bool
@@ -42,8 +44,8 @@ pub record Frame : Type 0 where
 abbrev pub gsaBody : Reader Content
 gsaBody b s = mapped gsa (policies b s)
 
-abbrev pub kdBody : Reader Content
-kdBody b s = mapped kd (bags b s)
+abbrev pub kdBody : Bool → Reader Content
+kdBody fresh b s = mapped kd (bags fresh b s)
 
 abbrev pub deleteBody : ℕ → Reader Content
 deleteBody h b s = opened h (deleteFits s) (whole (delete (deleteOf s)) [])
@@ -53,26 +55,27 @@ abbrev pub unreadBody : Reader Content
 unreadBody b s = whole unread []
 
 -- the body of a payload of the kind `k` at the offset `h`
-unfoldable pub body : ℕ → ℕ → Reader Content
-body k h b s =
+unfoldable pub body : Bool → ℕ → ℕ → Reader Content
+body fresh k h b s =
     either (eqb k payloadGsa) (gsaBody b s)
-    (either (eqb k payloadKd) (kdBody b s) (either (eqb k payloadDelete) (deleteBody h b s) (unreadBody b s)))
+    (either (eqb k payloadKd) (kdBody fresh b s) (either (eqb k payloadDelete) (deleteBody h b s) (unreadBody b s)))
 
 -- the payload of the kind `k` at the start of `s`, with the content `c`, and the kind of the next
 abbrev pub payloadOf : ℕ → List ℕ → Content → Linked ℕ Payload
 payloadOf k s c = record { item = record { kind = k; critical = isCritical s; content = c }; next = oct s 0 }
 
 -- a payload that "next payload" names is missing if it has not a single octet; it counts for the header, at 0
-unfoldable pub payload : ℕ → Reader (Linked ℕ Payload)
-payload k b s =
-    begun 0 s (opened b (payloadFits s) (mapped (payloadOf k s) (within payloadHeaderOctets (be16 s structureLengthAt) (body k b) b s)))
+unfoldable pub payload : Bool → ℕ → Reader (Linked ℕ Payload)
+payload fresh k b s =
+    begun 0 s
+    (opened b (payloadFits s) (mapped (payloadOf k s) (within payloadHeaderOctets (be16 s structureLengthAt) (body fresh k b) b s)))
 
 -- payloads one after the other, up to the one with next payload 0
 abbrev pub noneNext : ℕ → List ℕ → Bool
 noneNext k s = eqb k noPayload
 
-abbrev pub payloads : ℕ → Reader (List Payload)
-payloads k b s = chain noneNext payload k b s
+abbrev pub payloads : Bool → ℕ → Reader (List Payload)
+payloads fresh k b s = chain noneNext (payload fresh) k b s
 
 -- "Next payload 0 ends the frame exactly at its length": octets left over count for the header too
 abbrev pub nothingLeft : {A : Type 0} → Reading A → Reading A
@@ -83,17 +86,22 @@ nothingLeft (broken o) = broken o
 abbrev pub frameOf : List ℕ → List Payload → Frame
 frameOf s l = record { header = headerOf s; payloads = l }
 
-unfoldable pub frame : List ℕ → Reading Frame
-frame s = opened 0 (headerFits s) (mapped (frameOf s) (nothingLeft (payloads (firstPayload s) headerOctets (drop headerOctets s))))
+-- the payloads behind the header of `s`, in which fresh keys are read by the header's exchange type
+abbrev pub framePayloads : Bool → List ℕ → Reading (List Payload)
+framePayloads profile s =
+    nothingLeft (payloads (readsFresh profile (headerOf s .exchange)) (firstPayload s) headerOctets (drop headerOctets s))
+
+unfoldable pub frame : Bool → List ℕ → Reading Frame
+frame profile s = opened 0 (headerFits s) (mapped (frameOf s) (framePayloads profile s))
 
 -- THE LAYOUT OF A FRAME: whole, or refusal 1 with the offset that it carries
-unfoldable pub frameLayout : List ℕ → Layout
-frameLayout s = layoutOf (frame s)
+unfoldable pub frameLayout : Bool → List ℕ → Layout
+frameLayout profile s = layoutOf (frame profile s)
 
 -- THE FIGURE (document 02, T-06): the offset at which the octets are broken, 0 where they are whole
 abbrev pub offsetOf : Layout → ℕ
 offsetOf layout.Whole = 0
 offsetOf (layout.Broken o) = o
 
-unfoldable pub figure : List ℕ → ℕ
-figure s = offsetOf (frameLayout s)
+unfoldable pub figure : Bool → List ℕ → ℕ
+figure profile s = offsetOf (frameLayout profile s)

@@ -6,4 +6,5 @@ pub mod Grammar
 pub mod Ignored
 pub mod Breaks
 pub mod Laid
+pub mod Plain
 pub mod inner

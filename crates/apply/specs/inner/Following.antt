@@ -9,7 +9,8 @@ use Rattle.state_table.specs.Table.{tableOf}
 use Rattle.state.specs.declared.State.{State}
 use Rattle.state.specs.declared.held.Held.{Held}
 use Rattle.rules_refusals.specs.Contents.{rowOf, deletesOf}
-use Rattle.rules_outcome.specs.After.{delayOf, newRekey, initialMessageId, insertAll, oldSas, leastAfterwards}
+use Rattle.rules_outcome.specs.Holding.{newRekey}
+use Rattle.rules_outcome.specs.After.{delayOf, initialMessageId, insertAll, oldSas, leastAfterwards}
 use Rattle.apply.specs.declared.next.Said.{Said}
 use Rattle.apply.specs.inner.Tables.{AreDeletes}
 
@@ -27,3 +28,4 @@ pub record Follows (m : State) (now : ℕ) (f : Frame) (new : List Sa) (held : H
   pub table : r .table ≡ tableOf limits (insertAll new (oldSas m now f))
   pub held-is : r .held ≡ held
   pub least : r .least ≡ leastAfterwards m f
+  pub profile : r .profile ≡ m .profile

@@ -1,6 +1,7 @@
 -- The facts of the key bags of a KD payload: of the wrapped keys of one bag, of one bag, of all bags. Each is what a clause of numbers 4 to
 -- 7 asks of the frame's bags, in the clause's own words.
-use Prim.Native.Nat.{ℕ, _+_}
+use Prim.Native.Nat.{ℕ, _+_, _≤_}
+use mathlib.Core.Path.{_≡_}
 use mathlib.Core.List.{List}
 use mathlib.Core.Bool.{Bool, true, false, not, _&&_, _||_}
 use lib.ListN.{length}
@@ -10,12 +11,12 @@ use Rattle.octets.specs.Walk.{be32, either}
 use Rattle.state_keys.specs.Lists.{any}
 use Rattle.state_keys.specs.Limits.{Limits}
 use Rattle.wire_attributes.specs.Attribute.{Attribute}
-use Rattle.wire_attributes.specs.Place.{inBag}
-use Rattle.wire_attributes.specs.Tree.{SaKey, WrapKey, saKeys, wrapKeys}
+use Rattle.wire_attributes.specs.Tree.{SaKey, WrapKey, wrapKeys}
 use Rattle.wire_attributes.specs.declared.tables.Meaning.{Meaning}
 use Rattle.wire_attributes.specs.declared.tables.Meaning.the-variants as meaning
 use Rattle.wire_attributes.specs.declared.tables.Place.the-variants as place
-use Rattle.wire_bags.specs.Bag.{Bag, groupKeys, memberKeys, GroupKeyBag, MemberKeyBag}
+use Rattle.wire_bags.specs.Bag.{Bag, groupKeys, memberKeys, GroupKeyBag, MemberKeyBag, placeOf, groupKeyBagOf}
+use Rattle.wire_readers.specs.inner.Values.{attributesIn}
 use Rattle.state_sa.specs.Entry.{espProtocol, rekeyProtocol}
 use Rattle.rules_refusals.specs.Contents.{gather, groupBagOf, memberBagOf}
 use Rattle.rules_refusals.specs.Fitness.{ah}
@@ -32,6 +33,7 @@ carriesKey meaning.DeactivationDelay = false
 carriesKey meaning.KeyLifetime = false
 carriesKey meaning.SaKey = true
 carriesKey meaning.WrapKey = true
+carriesKey meaning.FreshKey = true
 
 abbrev pub noId : List ℕ → Bool
 noId v = eqb (be32 v 0) 0
@@ -61,9 +63,9 @@ withKey f v = record {
 }
 
 -- ---- one bag
--- the facts of a Group Key Bag of protocol `p`, and of a Member Key Bag; `k` are the facts of its keys
-abbrev pub ofGroup : Limits → ℕ → KeyFacts → BagFacts
-ofGroup limits p k = record {
+-- the facts of a Group Key Bag of protocol `p`, and of a Member Key Bag; `k` are the facts of its keys, `e` those of its fresh keys
+abbrev pub ofGroup : Limits → ℕ → KeyFacts → KeyFacts → BagFacts
+ofGroup limits p k e = record {
   members = 0;
   wraps = 0;
   unnamed = false;  -- asked of a WRAP_KEY alone
@@ -75,6 +77,9 @@ ofGroup limits p k = record {
   overfull = ltb (limits .saKeys) (k .keys);
   named = k .named;
   «esp_with_kwk_id» = eqb p espProtocol && k .«with_kwk_id»;
+  fresh = e .keys;
+  «fresh_unnamed» = e .unnamed;
+  «fresh_itself» = e .itself;
 }
 
 abbrev pub ofMember : KeyFacts → BagFacts
@@ -90,6 +95,9 @@ ofMember k = record {
   overfull = false;
   named = false;
   «esp_with_kwk_id» = false;
+  fresh = 0;
+  «fresh_unnamed» = false;
+  «fresh_itself» = false;
 }
 
 abbrev pub ofSaKeys : List SaKey → KeyFacts
@@ -111,14 +119,19 @@ ofWrapKeys l = record {
 }
 
 abbrev pub ofBag : Limits → Bag → BagFacts
-ofBag limits (groupKeys b) = ofGroup limits (b .protocol) (ofSaKeys (b .keys))
+ofBag limits (groupKeys b) = ofGroup limits (b .protocol) (ofSaKeys (b .keys)) (ofWrapKeys (b .fresh))
 ofBag limits (memberKeys b) = ofMember (ofWrapKeys (b .keys))
 
--- the bag with first octet `p`, SPI `x` and attributes `l`
-abbrev pub bagWith : ℕ → List ℕ → List Attribute → Bag
-bagWith p x l =
-    either (eqb p 0) (memberKeys (record { keys = wrapKeys place.MemberBag l }))
-    (groupKeys (record { protocol = p; spi = x; keys = saKeys (inBag p) l }))
+-- the bag with first octet `p`, SPI `x` and attributes `l`; `fresh` says whether fresh keys are read in the Rekey SA's bag
+abbrev pub bagWith : Bool → ℕ → List ℕ → List Attribute → Bag
+bagWith fresh p x l = either (eqb p 0) (memberKeys (record { keys = wrapKeys place.MemberBag l })) (groupKeys (groupKeyBagOf fresh p x l))
+
+-- `r` are the facts of the bag with first octet `p` and the attributes `a`, whatever its SPI; its counts are small
+pub record IsOfBag (limits : Limits) (fresh : Bool) (p : ℕ) (a : List ℕ) (r : BagFacts) : Type 0 where
+  pub is : (x : List ℕ) → r ≡ ofBag limits (bagWith fresh p x (attributesIn (placeOf fresh p) a))
+  pub members : r .members ≤ 1
+  pub wraps : r .wraps ≤ length a
+  pub fresh-few : r .fresh ≤ length a
 
 -- ---- all bags
 abbrev pub noBags : BagFacts
@@ -134,6 +147,9 @@ noBags = record {
   overfull = false;
   named = false;
   «esp_with_kwk_id» = false;
+  fresh = 0;
+  «fresh_unnamed» = false;
+  «fresh_itself» = false;
 }
 
 abbrev pub mergeBagFacts : BagFacts → BagFacts → BagFacts
@@ -149,10 +165,16 @@ mergeBagFacts a b = record {
   overfull = a .overfull || b .overfull;
   named = a .named || b .named;
   «esp_with_kwk_id» = a .«esp_with_kwk_id» || b .«esp_with_kwk_id»;
+  fresh = a .fresh + b .fresh;
+  «fresh_unnamed» = a .«fresh_unnamed» || b .«fresh_unnamed»;
+  «fresh_itself» = a .«fresh_itself» || b .«fresh_itself»;
 }
 
 abbrev pub wrapsIn : List Bag → List WrapKey
 wrapsIn l = gather (λ (b : MemberKeyBag). b .keys) (gather memberBagOf l)
+
+abbrev pub freshIn : List Bag → List WrapKey
+freshIn l = gather (λ (b : GroupKeyBag). b .fresh) (gather groupBagOf l)
 
 -- THE FACTS OF THE BAGS `l`
 abbrev pub bagFactsOf : Limits → List Bag → BagFacts
@@ -168,4 +190,7 @@ bagFactsOf limits l = record {
   overfull = any (λ (b : GroupKeyBag). ltb (limits .saKeys) (length (b .keys))) (gather groupBagOf l);
   named = any (λ (b : GroupKeyBag). any hasKeyId (b .keys)) (gather groupBagOf l);
   «esp_with_kwk_id» = any (λ (b : GroupKeyBag). eqb (b .protocol) espProtocol && any hasKwkId (b .keys)) (gather groupBagOf l);
+  fresh = length (freshIn l);
+  «fresh_unnamed» = any (λ (k : WrapKey). eqb (k .keyId) 0) (freshIn l);
+  «fresh_itself» = any underItself (freshIn l);
 }

@@ -1,7 +1,7 @@
 -- Where the attributes of the first Member Key Bag stand in a KD body whose layout is whole, and all facts of the body.
 use Prim.Native.Nat.{ℕ, zero, suc, _+_}
 use mathlib.Core.List.{List}
-use mathlib.Core.Bool.{cond, _&&_}
+use mathlib.Core.Bool.{Bool, cond, _&&_}
 use lib.ListN.{length, drop}
 use lib.Dec.{leb, eqb}
 use Rattle.octets.specs.Numbers.{oct}
@@ -33,6 +33,6 @@ memberIn k = memberFrom (length k) 0 k
 abbrev pub firstMember : ℕ → Stretch → Stretch → Stretch
 firstMember first here known = cond (eqb first 0 && eqb (known .end) 0) here known
 
--- THE FACTS OF KD BODY `k`
-abbrev pub kdFactsOf : Limits → List ℕ → KdFacts
-kdFactsOf limits k = record { bags = bagFactsOf limits (bagsIn k); «member_bag» = memberIn k }
+-- THE FACTS OF KD BODY `k`; `fresh` says whether fresh keys are read in the Rekey SA's bag
+abbrev pub kdFactsOf : Limits → Bool → List ℕ → KdFacts
+kdFactsOf limits fresh k = record { bags = bagFactsOf limits (bagsIn fresh k); «member_bag» = memberIn k }

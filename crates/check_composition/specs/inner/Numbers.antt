@@ -26,6 +26,7 @@ isNumber meaning.DeactivationDelay = true
 isNumber meaning.KeyLifetime = true
 isNumber meaning.SaKey = false
 isNumber meaning.WrapKey = false
+isNumber meaning.FreshKey = false
 
 abbrev pub numberBy : Meaning → List ℕ → ℕ
 numberBy meaning.Skipped v = 0
@@ -35,6 +36,7 @@ numberBy meaning.DeactivationDelay v = number16 v
 numberBy meaning.KeyLifetime v = number32 v
 numberBy meaning.SaKey v = 0
 numberBy meaning.WrapKey v = 0
+numberBy meaning.FreshKey v = 0
 
 abbrev pub most : Meaning → ℕ
 most meaning.Skipped = 0
@@ -44,6 +46,7 @@ most meaning.DeactivationDelay = 65535
 most meaning.KeyLifetime = 4294967295
 most meaning.SaKey = 0
 most meaning.WrapKey = 0
+most meaning.FreshKey = 0
 
 -- the numbers of the values `l`
 abbrev pub numbersBy : Meaning → List (List ℕ) → Numbers

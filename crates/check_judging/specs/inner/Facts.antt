@@ -2,9 +2,10 @@
 -- Key Bag stands.
 use Prim.Native.Nat.{ℕ}
 use mathlib.Core.List.{List}
-use mathlib.Core.Bool.{Bool}
+use mathlib.Core.Bool.{Bool, _&&_}
 use Rattle.octets.specs.Walk.{part}
 use Rattle.state_keys.specs.Limits.{limits}
+use Rattle.wire_frames.specs.declared.exchanges.Exchange.{Exchange}
 use Rattle.wire_readers.specs.inner.Policies.{policiesIn}
 use Rattle.wire_readers.specs.inner.Bags.{bagsIn}
 use Rattle.wire_readers.specs.declared.Stretch.{Stretch}
@@ -18,11 +19,11 @@ use Rattle.check_judging.specs.declared.facts.Facts.{Facts}
 abbrev pub at : List ℕ → Stretch → List ℕ
 at s x = part s (x .start) (x .end)
 
--- the facts of frame `s`; `authentication` says whether its exchange asks for the controller's authentication
-abbrev pub frameFactsOf : Bool → List ℕ → Facts
-frameFactsOf authentication s = record {
+-- the facts of frame `s` for a member with this `profile`; `row` is the row of the frame's exchange
+abbrev pub frameFactsOf : Bool → Exchange → List ℕ → Facts
+frameFactsOf profile row s = record {
   payloads = payloadFacts s;
-  policies = policyFacts authentication (policiesIn (at s (payloadFacts s .gsa)));
-  bags = bagFacts limits (bagsIn (at s (payloadFacts s .kd)));
+  policies = policyFacts (row .authentication) (policiesIn (at s (payloadFacts s .gsa)));
+  bags = bagFacts limits (bagsIn (profile && row .«reads_fresh_keys») (at s (payloadFacts s .kd)));
   «member_bag» = memberIn (at s (payloadFacts s .kd));
 }

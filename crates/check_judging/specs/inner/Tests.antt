@@ -35,21 +35,23 @@ number4Of row b p k =
 abbrev pub number5Of : Exchange → ℕ → Deletes → PolicyFacts → BagFacts → List Bool
 number5Of row lent d p k = p .ah ∷ k .ah ∷ p .unfit ∷ d .other ∷ d .none ∷ (row .«judges_lent_key» && not (sizeOf 13 lent)) ∷ []
 
--- the SA_KEY count, an SA_KEY with a Key ID, one of ESP with a KWK ID, a WRAP_KEY without Key ID, one under its own Key ID
+-- the SA_KEY count, an SA_KEY with a Key ID, one of ESP with a KWK ID, a WRAP_KEY without Key ID, one under its own Key ID; a fresh key
+-- without Key ID, one under its own Key ID
 abbrev pub keysBy : Exchange → BagFacts → List Bool
 keysBy row k = ((k .keyless || k .several) || (not (row .«allows_copies») && k .«several_of_rekey»)) ∷ k .named ∷ k .«esp_with_kwk_id»
     ∷ k .unnamed ∷
-    k .itself ∷ []
+    k .itself ∷ k .«fresh_unnamed» ∷ k .«fresh_itself» ∷ []
 
 -- policies with the names `l` and bags with the names `m` not paired one to one, a policy's name already in the table, and the keys
 abbrev pub number6Of : Exchange → BagFacts → List Name → List Name → ℕ → List Sa → List Bool
 number6Of row k l m now sas = any (isUnpaired m) l ∷ any (isUnpaired l) m ∷ any (isAnnounced now l) sas ∷ keysBy row k
 
--- too many ESP policies, WRAP_KEYs, SA_KEYs in a bag or deleted SPIs, too long a lifetime, too many SAs after the frame
+-- too many ESP policies, WRAP_KEYs, SA_KEYs in a bag or deleted SPIs, too long a lifetime, too many fresh keys, too many SAs after the
+-- frame
 abbrev pub number7Of : Limits → Deletes → PolicyFacts → BagFacts → ℕ → List Bool
 number7Of limits d p k standing =
     ltb (limits .espPolicies) (p .esps) ∷ ltb (limits .wrapKeys) (k .wraps) ∷ k .overfull ∷ ltb (limits .deletedSpis) (d .spis)
-    ∷ p .long ∷ ltb (limits .sas) (standing + p .sas) ∷ []
+    ∷ p .long ∷ ltb (limits .freshKeys) (k .fresh) ∷ ltb (limits .sas) (standing + p .sas) ∷ []
 
 -- ---- over the facts of a frame
 abbrev pub number4By : Exchange → Facts → List Bool
@@ -75,7 +77,7 @@ abbrev pub number5In : Five → List Bool
 number5In c = c .«ah_policy» ∷ c .«ah_bag» ∷ c .unfit ∷ c .other ∷ c .none ∷ c .key ∷ []
 
 abbrev pub keysIn : Keys → List Bool
-keysIn c = c .count ∷ c .named ∷ c .«esp_with_kwk_id» ∷ c .unnamed ∷ c .itself ∷ []
+keysIn c = c .count ∷ c .named ∷ c .«esp_with_kwk_id» ∷ c .unnamed ∷ c .itself ∷ c .«fresh_unnamed» ∷ c .«fresh_itself» ∷ []
 
 abbrev pub number7In : Seven → List Bool
-number7In c = c .esps ∷ c .wraps ∷ c .overfull ∷ c .spis ∷ c .long ∷ c .sas ∷ []
+number7In c = c .esps ∷ c .wraps ∷ c .overfull ∷ c .spis ∷ c .long ∷ c .fresh ∷ c .sas ∷ []

@@ -1,8 +1,9 @@
--- The facts of the Delete payloads of a frame whose layout is whole.
+-- The facts of the Delete payloads of a frame whose layout is whole. Fresh keys (document 02, T-11) make no difference to them: the payloads
+-- are those that are read where fresh keys are not.
 use Prim.Native.Nat.{ℕ, _+_, _*_, _<_, _≤_}
 use mathlib.Core.Path.{_≡_}
 use mathlib.Core.List.{List}
-use mathlib.Core.Bool.{Bool, true, not, cond, _||_}
+use mathlib.Core.Bool.{Bool, true, false, not, cond, _||_}
 use lib.ListN.{length, drop}
 use lib.Dec.{eqb}
 use Rattle.ikev2_numbers.specs.Codes.{deleteHeadOctets, payloadDelete}
@@ -44,8 +45,8 @@ deletesBy l = record { other = any ofOther l; none = any ofNone l; spis = length
 -- a Delete payload begins at octet `at` of `s`, and `l` are the Delete payloads from there on
 pub record DeletesFrom (s : List ℕ) (l : List Delete) (at : ℕ) : Type 0 where
   pub inside : at ≤ length s
-  pub rest : isWhole (nothingLeft (payloads payloadDelete 0 (drop at s))) ≡ true
-  pub all : deletesAmong (payloadsIn payloadDelete (drop at s)) ≡ l
+  pub rest : isWhole (nothingLeft (payloads false payloadDelete 0 (drop at s))) ≡ true
+  pub all : deletesAmong (payloadsIn false payloadDelete (drop at s)) ≡ l
 
 -- ---- one payload after the other
 abbrev pub withOne : Deletes → Delete → Deletes

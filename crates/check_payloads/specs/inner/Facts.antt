@@ -1,5 +1,6 @@
 -- The facts of the payloads of a frame whose layout is whole. Each is what a clause of numbers 4, 5 and 7 asks of them, or where the
--- first payload of a type stands.
+-- first payload of a type stands. Fresh keys (document 02, T-11) make no difference to them: the payloads are those that are read where
+-- fresh keys are not.
 use Prim.Native.Nat.{ℕ, _+_, _<_, _≤_}
 use mathlib.Core.Path.{_≡_}
 use mathlib.Core.List.{List}
@@ -21,7 +22,7 @@ use Rattle.check_payloads.specs.inner.Deletion.{deletesAmong, deletesBy,
 
 -- the payloads of the frame with octets `s`
 abbrev pub payloadsOf : List ℕ → List Payload
-payloadsOf s = payloadsIn (firstPayload s) (drop headerOctets s)
+payloadsOf s = payloadsIn false (firstPayload s) (drop headerOctets s)
 
 abbrev pub ofKind : ℕ → Payload → Bool
 ofKind k p = eqb (p .kind) k

@@ -1,22 +1,51 @@
--- The keys of a frame that numbers 2 to 7 let pass, opened. Inner.
-use Prim.Native.Nat.{ℕ}
+-- The keys of a frame that numbers 2 to 7 let pass: key 0, what is opened, and the held list after acceptance. Inner.
+use Prim.Native.Nat.{ℕ, _≤_}
 use mathlib.Core.Path.{_≡_}
-use mathlib.Core.Bool.{false}
+use mathlib.Core.Bool.{Bool, true, false}
 use mathlib.Core.List.{List}
+use Rattle.fips197.specs.Key.{Key}
+use Rattle.wire_attributes.specs.Tree.{SaKey, WrapKey}
 use Rattle.state_keys.specs.Limits.{limits}
+use Rattle.state_keys.specs.Algorithms.{sizeOf}
+use Rattle.state_keys.specs.Kinds.{valueOf}
+use Rattle.state_keys.specs.declared.kinds.WrappingKey.{WrappingKey}
 use Rattle.wire_frames.specs.Frame.{Frame}
 use Rattle.state.specs.declared.State.{State}
+use Rattle.state.specs.declared.held.Held.{Held}
+use Rattle.rules_chains.specs.Chain.{In, Root}
 use Rattle.rules_chains.specs.Refusals.{EntriesConflict}
-use Rattle.rules_outcome.specs.Roots.{rootsOf, entriesOf, wrappingSize}
+use Rattle.rules_outcome.specs.Roots.{keyZeroValue, rootsOf, entriesOf, wrappingSize}
+use Rattle.rules_outcome.specs.Holding.{newRekey, rekeyCopies, HeldNext, OverHeld}
 use Rattle.unwrap_conflicts.specs.inner.Values.{Decides}
+use Rattle.unwrap_copies.specs.inner.Openers.{OneOpens}
+use Rattle.unwrap_paths.specs.declared.held.PathHeld.{PathHeld}
 use Rattle.unwrap_sas.specs.inner.Keyed.{KeyedBy}
+use Rattle.unwrap_sas.specs.declared.joining.SasFound.the-variants as found
 use Rattle.receive.specs.declared.opening.KeysFound.{KeysFound}
-use Rattle.receive.specs.inner.Passing.{KeepsOrSets}
+use Rattle.receive.specs.inner.Passing.{HeldTold}
 
--- r says whether number 8 holds of the entries of the frame f. If it does not hold, r has the result for its SAs, and the held list after
--- acceptance
+-- r is key 0 of the frame f, and has a size that a wrapping key can have
+pub record IsKeyZero (m : State) (now : ℕ) (lent : List ℕ) (f : Frame) (r : WrappingKey) : Type 0 where
+  pub value : valueOf r ≡ keyZeroValue limits m now lent f
+  pub size : r .count ≡ wrappingSize limits m now lent f
+  pub fits : sizeOf 13 (r .count) ≡ true
+  pub key : Key (valueOf r)
+
+module _ (roots : List Root) (entries : List WrapKey) (size : ℕ) where
+  -- if the frame announces a Rekey SA, one of the copies of its key opens
+  abbrev pub SomeOpener : Frame → Type 0
+  SomeOpener f = newRekey f ≡ true → (c : SaKey) × In c (rekeyCopies f) × OneOpens roots entries size c
+
+  -- what the answer says of the list that follows `old`
+  pub record NextTold (b : Bool) (copies : List SaKey) (old : Held) (r : PathHeld) : Type 0 where
+    pub kept : r .over ≡ false → HeldNext roots entries size limits b copies old (r .held)
+    pub few : r .over ≡ false → r .held .count ≤ limits .heldKeys
+    pub beyond : r .over ≡ true → OverHeld roots entries size limits b copies old
+
+-- r says whether number 8 holds of the entries of the frame f. If it does not hold, r has the result for its SAs, and if each has its key,
+-- what is to be said of the held list after acceptance
 pub record KeysOpened (m : State) (now : ℕ) (lent : List ℕ) (r : KeysFound) (f : Frame) : Type 0 where
   pub conflict : Decides (r .conflict) (EntriesConflict (rootsOf limits m now lent f) (entriesOf f) (wrappingSize limits m now lent f))
   pub keys : r .conflict ≡ false →
       KeyedBy (rootsOf limits m now lent f) (entriesOf f) (wrappingSize limits m now lent f) f now (r .keyed)
-  pub set : r .conflict ≡ false → KeepsOrSets m now lent f (r .held)
+  pub held : r .conflict ≡ false → r .keyed .found ≡ found.Keys → HeldTold m now lent f (r .over) (r .held)

@@ -1,12 +1,17 @@
 -- What a search over the entries ends with. Inner.
-use Prim.Native.Nat.{ℕ, _<_}
+use Prim.Native.Nat.{ℕ, _≤_, _<_}
 use mathlib.Core.Path.{_≡_}
-use mathlib.Core.List.{List, [], _∷_}
+use mathlib.Core.Bool.{Bool, true, false, not}
+use mathlib.Core.List.{List, [], _∷_, map}
+use lib.Dec.{eqb}
 use lib.ListN.{length, getD}
 use Rattle.rfc5649.specs.Opens.{Opens}
 use Rattle.wire_attributes.specs.Tree.{WrapKey}
-use Rattle.rules_chains.specs.Chain.{Root, Chain, Reached, ChainEnds}
+use Rattle.rules_chains.specs.Chain.{In, Root, Chain, Reached, ChainEnds}
+use Rattle.state_keys.specs.Lists.{any, keep}
+use Rattle.state_keys.specs.Algorithms.{sizeOf}
 use Rattle.state_keys.specs.Kinds.{wrappingOf, valueOf}
+use Rattle.state.specs.declared.held.HeldKey.{HeldKey}
 use Rattle.state_keys.specs.declared.kinds.WrappingKey.{WrappingKey}
 use Rattle.unwrap_search.specs.declared.open.Status.the-variants.{Waiting, Wrong, Pending, Done}
 use Rattle.unwrap_search.specs.declared.open.Cell.{Cell}
@@ -51,6 +56,39 @@ Nonzero entries = (i : ℕ) → i < length entries → keyAt entries i .keyId �
 -- the one root of a registration: key 0 with the value v
 abbrev pub keyZeroRoots : List ℕ → List Root
 keyZeroRoots v = record { id = 0; value = v } ∷ []
+
+-- one of the entries has this Key ID
+abbrev pub carriedBy : List WrapKey → ℕ → Bool
+carriedBy entries id = any (λ (e : WrapKey). eqb (e .keyId) id) entries
+
+-- a held key as a root
+abbrev pub rootOf : HeldKey → Root
+rootOf k = record { id = k .id; value = valueOf (k .key) }
+
+-- "Chains now start from the default key or a held key not carried anew" (document 02, T-11): the roots that these held keys are
+unfoldable pub heldRoots : List WrapKey → List HeldKey → List Root
+heldRoots entries keys = map rootOf (keep (λ (k : HeldKey). not (carriedBy entries (k .id))) keys)
+
+-- all roots: key 0 with the value v, and the held keys that no entry carries anew
+abbrev pub rootsWith : List ℕ → List WrapKey → List HeldKey → List Root
+rootsWith v entries keys = record { id = 0; value = v } ∷ heldRoots entries keys
+
+-- each root has one value, and no entry carries its Key ID
+pub record RootsFit (roots : List Root) (entries : List WrapKey) : Type 0 where
+  pub alike : (r s : Root) → In r roots → In s roots → r .id ≡ s .id → r .value ≡ s .value
+  pub apart : (r : Root) → In r roots → (i : ℕ) → i < length entries → keyAt entries i .keyId ≡ r .id → ⊥
+
+-- `made` has the value of key k, and a size that a schedule can be expanded for
+pub record KeyFrom (k made : WrappingKey) : Type 0 where
+  pub value : valueOf made ≡ valueOf k
+  pub size : sizeOf 13 (made .count) ≡ true
+
+-- r is the place of the first of these Key IDs, from `from` on, that no entry carries; or their number if there is none
+pub record NextRoot (entries : List WrapKey) (ids : List ℕ) (from r : ℕ) : Type 0 where
+  pub behind : from ≤ r
+  pub most : r ≤ length ids
+  pub passed : (j : ℕ) → from ≤ j → j < r → carriedBy entries (getD ids j 0) ≡ true
+  pub here : r < length ids → carriedBy entries (getD ids r 0) ≡ false
 
 module _ (roots : List Root) (entries : List WrapKey) (size : ℕ) where
   -- a chain that ends with entry e gives `key`, which has `size` octets

@@ -60,6 +60,7 @@ valueSize meaning.DeactivationDelay n = eqb n 2
 valueSize meaning.KeyLifetime n = eqb n 4
 valueSize meaning.SaKey n = wrappedSize n
 valueSize meaning.WrapKey n = wrappedSize n
+valueSize meaning.FreshKey n = wrappedSize n
 
 -- the first such value from the index `from` on stands from `a` to `e`, and nowhere else, even where equal octets stand; the others come
 -- after it

@@ -2,12 +2,13 @@
 use Prim.Native.Nat.{ℕ, _+_, _*_, _≤_, _<_}
 use mathlib.Core.Path.{_≡_}
 use mathlib.Core.Bool.{true}
-use mathlib.Core.List.{List, [], _∷_, _++_}
+use mathlib.Core.Logic.{_⊎_}
+use mathlib.Core.List.{List, [], _∷_, _++_, map}
 use lib.ListN.{length, take, drop, getD}
-use Rattle.state_keys.specs.Kinds.{valueOf}
+use Rattle.state_keys.specs.Algorithms.{sizeOf}
 use Rattle.state_keys.specs.Limits.{limits}
 use Rattle.state_keys.specs.declared.kinds.WrappingKey.{WrappingKey}
-use Rattle.state.specs.Held.{blankKey, keysOf, idsOf, heldFormed, keyWith}
+use Rattle.state.specs.Held.{blankKey, keysOf, idsOf, heldFormed, heldKey}
 use Rattle.state.specs.declared.held.HeldKey.{HeldKey}
 use Rattle.state.specs.declared.held.Held.{Held}
 
@@ -28,10 +29,10 @@ unfoldable pub lentBlock : List HeldKey → List ℕ
 lentBlock [] = []
 lentBlock (k ∷ l) = lentPlace (k .key) ++ lentBlock l
 
--- a key fits its place
+-- a key fits its place: it has no octets, or as many as a wrapping key
 pub record FitsPlace (k : WrappingKey) : Type 0 where
   pub array : length (k .octets) ≡ keyOctets
-  pub most : k .count ≤ keyOctets
+  pub size : (k .count ≡ 0) ⊎ (sizeOf 13 (k .count) ≡ true)
 
 -- `ids` and `block` lend these keys: they are the Key IDs and the places of them all
 pub record Lends (keys : List HeldKey) (ids block : List ℕ) : Type 0 where
@@ -55,17 +56,21 @@ pub record LendsFirst (held : Held) (ids block : List ℕ) : Type 0 where
   pub rooms : Rooms ids block
   pub most : held .count ≤ limits .heldKeys
 
+-- the keys of `reached` with these Key IDs, in their order; one of no octets where the list has none
+abbrev pub namedKeys : Held → List ℕ → List HeldKey
+namedKeys reached ids = map (λ (i : ℕ). record { id = i; key = heldKey limits i reached .key }) ids
+
+-- `ids` and the places at the start of `block` lend these keys
+pub record LendsNamed (reached : Held) (ids block : List ℕ) : Type 0 where
+  pub lends : Lends (namedKeys reached ids) ids (take (placeOctets * length ids) block)
+  pub block-length : length block ≡ placeOctets * limits .heldKeys
+
 -- `after` is the block `before` with key k put into its place, which starts at `at`
 pub record Puts (k : WrappingKey) (at : ℕ) (before after : List ℕ) : Type 0 where
   pub is : after ≡ take at before ++ (lentPlace k ++ drop (at + placeOctets) before)
   pub array : length (k .octets) ≡ keyOctets
 
--- r is the place of the first of `ids` that equals `id`, or their number if there is none
-pub record FirstAt (id : ℕ) (ids : List ℕ) (r : ℕ) : Type 0 where
-  pub most : r ≤ length ids
-  pub passed : (j : ℕ) → j < r → getD ids j 0 ≡ id → ⊥
-  pub here : r < length ids → getD ids r 0 ≡ id
-
--- the value of the key with this Key ID; no octets if there is none
-abbrev pub valueNamed : ℕ → List HeldKey → List ℕ
-valueNamed id l = valueOf (keyWith id l .key)
+-- a frame's own keys and the held ones are lent, in two blocks: `carried` and `fresh`, `ids` and `block`
+pub record LendsTwo (new old : List HeldKey) (carried fresh ids block : List ℕ) : Type 0 where
+  pub own : Lends new carried fresh
+  pub held : Lends old ids block
