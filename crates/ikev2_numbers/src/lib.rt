@@ -75,6 +75,9 @@ pub const SA_KEY: usize = 1;
 
 pub const WRAP_KEY: usize = 1;
 
+// "private attribute 16385 in the Rekey SA's Group Key Bag, with WRAP_KEY's layout" (document 02, T-11).
+pub const FRESH_KEY: usize = 16385;
+
 // Traffic selector types (RFC 7296, section 3.13.1), the octets of a selector and of its addresses.
 pub const TS_IPV4_ADDR_RANGE: usize = 7;
 

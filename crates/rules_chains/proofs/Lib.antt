@@ -1,6 +1,8 @@
+pub mod AnyOrder
 pub mod Closure
 pub mod Determined
 pub mod Faults
+pub mod KeyIdLists
 pub mod Laws
 pub mod Members
 pub mod Samples
@@ -9,3 +11,4 @@ pub mod PathSamples
 pub mod Smallest
 pub mod SomePath
 pub mod WorkingPath
+pub mod Ways

@@ -2,7 +2,7 @@
 -- here.
 use native.Mathlib.Omega.{arith}
 use Prim.Native.Nat.{ℕ}
-use mathlib.Core.Path.{_≡_, refl, ap₂, subst}
+use mathlib.Core.Path.{_≡_, refl, ap₂, sym, _∙_, subst}
 use mathlib.Core.Logic.{inl, inr}
 use mathlib.Core.List.{List, [], _∷_}
 use Rattle.wire_attributes.specs.Tree.{WrapKey, SaKey}
@@ -21,14 +21,18 @@ both-ways (a ∷ l) (b ∷ m) (inr f) (inl g) = let e = f .0 in absurd (omega ar
 both-ways (a ∷ l) (b ∷ m) (inr f) (inr g) = ap₂ (λ (x : ℕ) (y : List ℕ). x ∷ y) (f .0) (both-ways l m (f .1) (g .1))
 
 module _ (roots : List Root) (entries : List WrapKey) (size : ℕ) where
-  pub path-one : (copies : List SaKey) (ids other : List ℕ) → KeyPath roots entries size copies ids →
-      KeyPath roots entries size copies other → ids ≡ other
-  path-one copies ids other p q =
+  pub path-one : (copies : List SaKey) (ids other : List ℕ) (end last : ℕ) → KeyPath roots entries size copies ids end →
+      KeyPath roots entries size copies other last → (ids ≡ other) × (end ≡ last)
+  path-one copies ids other end last p q =
       let a = p .fewest (q .passed) (q .opener) in
       let b = q .fewest (p .passed) (p .opener) in
       let f = p .smallest (q .passed) (q .opener) (omega (arith, a, b)) in
       let g = q .smallest (p .passed) (p .opener) (omega (arith, a, b)) in
-      both-ways ids other (subst (NotAfter ids) (q .written) f) (subst (NotAfter other) (p .written) g)
+      let e = both-ways ids other (subst (NotAfter ids) (q .written) f) (subst (NotAfter other) (p .written) g) in
+      let c = p .lowest (q .passed) (q .opener) (q .written ∙ sym e) in
+      let d = q .lowest (p .passed) (p .opener) (p .written ∙ e) in
+      let h = q .ends in
+      let k = p .ends in (e, omega (arith, c, d, h, k))
 
   pub keys-one : (ids : List ℕ) (l m : List Root) → Keys roots entries size ids l → Keys roots entries size ids m → l ≡ m
   keys-one [] _ _ no-key no-key = refl

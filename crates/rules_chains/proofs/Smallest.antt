@@ -1,10 +1,11 @@
 -- "Compared number by number", of finitely many lists one comes first.
 use native.Mathlib.Omega.{arith}
 use native.Mathlib.Decide.{ℕ-discrete, decLt}
-use Prim.Native.Nat.{ℕ, _<_}
+use Prim.Native.Nat.{ℕ, _≤_, _<_}
 use mathlib.Core.Path.{_≡_, refl, sym, _∙_, subst}
 use mathlib.Core.Logic.{_⊎_, inl, inr, ⊎-elim, by-cases}
-use mathlib.Core.List.{List, [], _∷_, List·Memᴰ, List·Memᴰ·head, List·Memᴰ·tail, List·Memᴰ·not-nil, List·Memᴰ·cases-cons}
+use mathlib.Core.List.{List, [], _∷_, _++_, List·Memᴰ, List·Memᴰ·head, List·Memᴰ·tail, List·Memᴰ·not-nil, List·Memᴰ·cases-cons}
+use lib.ListN.{length}
 use Rattle.rules_chains.specs.Path.{NotAfter}
 
 either-way : (l m : List ℕ) → NotAfter l m ⊎ NotAfter m l
@@ -31,6 +32,19 @@ chained (a ∷ l) (b ∷ m) (c ∷ n) (inr p) (inr q) = inr (p .0 ∙ q .0, chai
 self : (l : List ℕ) → NotAfter l l
 self [] = tt
 self (x ∷ l) = inr (refl, self l)
+
+-- lists of one length with a number more: the lists come first, and among equal ones the number decides
+pub front-first : (l m : List ℕ) (a b : ℕ) → length l ≡ length m → NotAfter (l ++ (a ∷ [])) (m ++ (b ∷ [])) → NotAfter l m
+front-first [] m a b e h = tt
+front-first (x ∷ l) [] a b e h = absurd (omega arith)
+front-first (x ∷ l) (y ∷ m) a b e (inl h) = inl h
+front-first (x ∷ l) (y ∷ m) a b e (inr h) = inr (h .0, front-first l m a b (omega arith) (h .1))
+
+pub last-least : (l : List ℕ) (a b : ℕ) → NotAfter (l ++ (a ∷ [])) (l ++ (b ∷ [])) → a ≤ b
+last-least [] a b (inl h) = omega arith
+last-least [] a b (inr h) = let e = h .0 in omega arith
+last-least (x ∷ l) a b (inl h) = absurd (omega arith)
+last-least (x ∷ l) a b (inr h) = last-least l a b (h .1)
 
 module _ {A : Type 0} (key : A → List ℕ) where
   -- one of the list whose numbers come after those of no other

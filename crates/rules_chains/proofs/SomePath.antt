@@ -9,7 +9,7 @@ use mathlib.Core.Logic.{inl, inr, ⊎-elim, by-cases}
 use mathlib.Core.List.{List, [], _∷_, _++_, List·Memᴰ, List·Memᴰ·head, List·Memᴰ·tail, List·Memᴰ·not-nil, List·Memᴰ·cases-cons}
 use mathlib.Core.List.{Memᴰ·append-left, Memᴰ·append-right}
 use lib.Dec.{T}
-use lib.ListN.{length}
+use lib.ListN.{length, length-map}
 use Rattle.octets.proofs.Order.{lt-cases}
 use Rattle.fips197.specs.Key.{Key, isKey}
 use Rattle.rfc5649.specs.Opens.{Opens}
@@ -18,10 +18,10 @@ use Rattle.rfc5649.proofs.Decided.{Decided, opens-decided}
 use Rattle.wire_attributes.specs.Tree.{WrapKey, SaKey}
 use Rattle.rules_chains.specs.Chain.{In, Root, Extended, Leads, Chain, root, step, CopyOpens}
 use Rattle.rules_chains.specs.Refusals.{EntriesConflict}
-use Rattle.rules_chains.specs.Path.{NotAfter, keyIds, Opener, KeyPath}
+use Rattle.rules_chains.specs.Path.{NotAfter, keyIds, startId, Opener, KeyPath}
 use Rattle.rules_chains.proofs.Laws.{entries-fit}
 use Rattle.rules_chains.proofs.Members.{in-member, member-in}
-use Rattle.rules_chains.proofs.Smallest.{First, first-with}
+use Rattle.rules_chains.proofs.Smallest.{front-first, last-least, First, first-with}
 
 -- what each of a list gives, where it is known to stand in it
 over : {A B : Type 0} (l : List A) → ((a : A) → List·Memᴰ a l → List B) → List B
@@ -159,9 +159,12 @@ module _ (roots : List Root) (entries : List WrapKey) (size : ℕ) (copies : Lis
     passed : List WrapKey
     opener : Opener roots entries size copies passed
 
-  -- the numbers by which they are compared: how many entries, then the Key IDs
-  abbrev numbers : List WrapKey → List ℕ
-  numbers p = length p ∷ keyIds p
+  -- the numbers by which they are compared: how many entries, then the Key IDs, then that of the key they started with
+  abbrev numbers : List WrapKey → ℕ → List ℕ
+  numbers p k = length p ∷ (keyIds p ++ (startId k p ∷ []))
+
+  abbrev compared : Candidate → List ℕ
+  compared d = numbers (d .passed) (d .opener .copy .kwkId)
 
   made : (c : Node) (a : SaKey) → In a copies → a .kwkId ≡ c .k → (x : List ℕ) → Opens (c .v) (a .wrapped) x → Candidate
   made c a m q x o =
@@ -188,18 +191,24 @@ module _ (roots : List Root) (entries : List WrapKey) (size : ℕ) (copies : Lis
   opening : (c : Node) (a : SaKey) → List·Memᴰ a copies → List Candidate
   opening c a m = made-named c a (member-in a copies m) (ℕ-discrete (a .kwkId) (c .k))
 
-  -- one of the candidates passed these entries
-  Offers : List Candidate → List WrapKey → Type 0
-  Offers l q = (d : Candidate) × List·Memᴰ d l × (d .passed ≡ q)
+  -- a candidate passed these entries and opens a copy under key `k`
+  record Alike (q : List WrapKey) (k : ℕ) (d : Candidate) : Type 0 where
+    passed-is : d .passed ≡ q
+    under-is : d .opener .copy .kwkId ≡ k
+
+  -- one of the candidates did
+  Offers : List Candidate → List WrapKey → ℕ → Type 0
+  Offers l q k = (d : Candidate) × List·Memᴰ d l × Alike q k d
 
   by-offers : (c : Node) (a : SaKey) (m : In a copies) (q : a .kwkId ≡ c .k) (x : List ℕ) → Opens (c .v) (a .wrapped) x →
-      (d : Decided (c .v) (a .wrapped)) → Offers (made-by c a m q d) (c .passed)
+      (d : Decided (c .v) (a .wrapped)) → Offers (made-by c a m q d) (c .passed) (a .kwkId)
   unfolding made-by Offers made
-  by-offers c a m q x o (inl d) = (made c a m q (d .0) (d .1), List·Memᴰ·head refl, refl)
+  by-offers c a m q x o (inl d) =
+      (made c a m q (d .0) (d .1), List·Memᴰ·head refl, record { passed-is = refl; under-is = refl })
   by-offers c a m q x o (inr d) = absurd (d x o)
 
   named-offers : (c : Node) (a : SaKey) (m : In a copies) → a .kwkId ≡ c .k → (x : List ℕ) → Opens (c .v) (a .wrapped) x →
-      (s : Dec (a .kwkId ≡ c .k)) → Offers (made-named c a m s) (c .passed)
+      (s : Dec (a .kwkId ≡ c .k)) → Offers (made-named c a m s) (c .passed) (a .kwkId)
   unfolding made-named Offers
   named-offers c a m q x o (yes r) = by-offers c a m r x o (opens-decided (c .v) (a .wrapped) (c .key))
   named-offers c a m q x o (no f) = absurd (f q)
@@ -207,7 +216,7 @@ module _ (roots : List Root) (entries : List WrapKey) (size : ℕ) (copies : Lis
   ofLength : ℕ → List Candidate
   ofLength n = over (nodes n) (λ c m. over copies (opening c))
 
-  all-openers : (q : List WrapKey) → Opener roots entries size copies q → Offers (ofLength (length q)) q
+  all-openers : (q : List WrapKey) (o : Opener roots entries size copies q) → Offers (ofLength (length q)) q (o .copy .kwkId)
   unfolding ofLength opening Offers Has
   all-openers q o =
       let a = o .copy in
@@ -216,12 +225,12 @@ module _ (roots : List Root) (entries : List WrapKey) (size : ℕ) (copies : Lis
       let y = b .2 in
       let w : Opens (c .v) (a .wrapped) (o .octets) =
       subst (λ (v : List ℕ). Opens v (a .wrapped) (o .octets)) (sym (y .v-is)) (o .opens) in
-      in-over (λ (d : Candidate). d .passed ≡ q) c (nodes (length q)) (λ d m. over copies (opening d)) (b .1)
+      in-over (Alike q (a .kwkId)) c (nodes (length q)) (λ d m. over copies (opening d)) (b .1)
       (λ m.
-      in-over (λ (d : Candidate). d .passed ≡ q) a copies (opening c) (in-member a copies (o .stands))
+      in-over (Alike q (a .kwkId)) a copies (opening c) (in-member a copies (o .stands))
       (λ n.
       let h = named-offers c a (member-in a copies n) (sym (y .k-is)) (o .octets) w (ℕ-discrete (a .kwkId) (c .k)) in
-      (h .0, h .1, h .2 ∙ y .passed-is)))
+      (h .0, h .1, record { passed-is = h .2 .passed-is ∙ y .passed-is; under-is = h .2 .under-is })))
 
   upTo : ℕ → List Candidate
   upTo zero = ofLength 0
@@ -240,27 +249,34 @@ module _ (roots : List Root) (entries : List WrapKey) (size : ℕ) (copies : Lis
   -- ---- the first of them
   pub record Exists : Type 0 where
     pub ids : List ℕ
-    pub path : KeyPath roots entries size copies ids
+    pub end : ℕ
+    pub path : KeyPath roots entries size copies ids end
 
   module _ (q : List WrapKey) (o : Opener roots entries size copies q) where
-    best : First (λ (d : Candidate). numbers (d .passed)) (upTo (length q))
+    best : First compared (upTo (length q))
     unfolding Offers
     best =
         let a = all-openers q o in
-        first-with (λ (d : Candidate). numbers (d .passed)) (a .0) (upTo (length q))
-        (within (length q) (length q) (a .0) (omega arith) (a .1))
+        first-with compared (a .0) (upTo (length q)) (within (length q) (length q) (a .0) (omega arith) (a .1))
 
     abbrev B : Candidate
     B = best .it
 
+    abbrev ids : List ℕ
+    ids = keyIds (B .passed)
+
+    abbrev end : ℕ
+    end = startId (B .opener .copy .kwkId) (B .passed)
+
     -- against any other that is not longer than the given one
-    against : (other : List WrapKey) → Opener roots entries size copies other → length other ≤ length q →
-        NotAfter (numbers (B .passed)) (numbers other)
+    against : (other : List WrapKey) (x : Opener roots entries size copies other) → length other ≤ length q →
+        NotAfter (compared B) (numbers other (x .copy .kwkId))
     unfolding Offers
     against other x h =
         let a = all-openers other x in
-        subst (λ (l : List WrapKey). NotAfter (numbers (B .passed)) (numbers l)) (a .2)
-        (best .least (a .0) (within (length other) (length q) (a .0) h (a .1)))
+        subst (λ (l : List WrapKey). NotAfter (compared B) (numbers l (x .copy .kwkId))) (a .2 .passed-is)
+        (subst (λ (k : ℕ). NotAfter (compared B) (numbers (a .0 .passed) k)) (a .2 .under-is)
+        (best .least (a .0) (within (length other) (length q) (a .0) h (a .1))))
 
     head-least : (a b : ℕ) (l m : List ℕ) → NotAfter (a ∷ l) (b ∷ m) → a ≤ b
     head-least a b l m (inl h) = omega arith
@@ -271,23 +287,50 @@ module _ (roots : List Root) (entries : List WrapKey) (size : ℕ) (copies : Lis
     tail-least a b l m e (inr h) = h .1
 
     shorter : (other : List WrapKey) → Opener roots entries size copies other → length other ≤ length q → length (B .passed) ≤ length other
-    shorter other x h = head-least (length (B .passed)) (length other) (keyIds (B .passed)) (keyIds other) (against other x h)
+    shorter other x h =
+        head-least (length (B .passed)) (length other) (ids ++ (end ∷ [])) (keyIds other ++ (startId (x .copy .kwkId) other ∷ []))
+        (against other x h)
 
-    first-path : KeyPath roots entries size copies (keyIds (B .passed))
+    -- against any other of its length
+    beside : (other : List WrapKey) (x : Opener roots entries size copies other) → length other ≡ length (B .passed) →
+        NotAfter (ids ++ (end ∷ [])) (keyIds other ++ (startId (x .copy .kwkId) other ∷ []))
+    beside other x e =
+        let n = shorter q o (omega arith) in
+        tail-least (length (B .passed)) (length other) (ids ++ (end ∷ [])) (keyIds other ++ (startId (x .copy .kwkId) other ∷ [])) (sym e)
+        (against other x (omega (arith, n, e)))
+
+    ids-long : (p : List WrapKey) → length (keyIds p) ≡ length p
+    ids-long p = length-map p (λ (e : WrapKey). e .keyId)
+
+    end-least : (other : List WrapKey) (x : Opener roots entries size copies other) → keyIds other ≡ ids →
+        end ≤ startId (x .copy .kwkId) other
+    end-least other x e =
+        let a = ids-long other in
+        let b = ids-long (B .passed) in
+        let c : length (keyIds other) ≡ length ids = ap length e in
+        last-least ids end (startId (x .copy .kwkId) other)
+        (subst (λ (l : List ℕ). NotAfter (ids ++ (end ∷ [])) (l ++ (startId (x .copy .kwkId) other ∷ []))) e
+        (beside other x (omega (arith, a, b, c))))
+
+    first-path : KeyPath roots entries size copies ids end
     first-path =
         record {
           passed = B .passed;
           opener = B .opener;
           written = refl;
+          ends = refl;
           fewest = λ other x.
               lt-cases (length q) (length other) (λ h. let n = shorter q o (omega arith) in omega arith) (λ h. shorter other x h);
           smallest = λ other x e.
-              let n = shorter q o (omega arith) in
-              tail-least (length (B .passed)) (length other) (keyIds (B .passed)) (keyIds other) (sym e) (against other x (omega arith));
+              let a = ids-long other in
+              let b = ids-long (B .passed) in
+              front-first ids (keyIds other) end (startId (x .copy .kwkId) other) (omega (arith, a, b, e)) (beside other x e);
+          lowest = end-least;
         }
 
   pub path-exists : (x : List ℕ) → CopyOpens roots entries size copies x → Exists
   path-exists x c =
-      let o : Opener roots entries size copies (c .named .passed) =
+      let q = c .named .passed in
+      let o : Opener roots entries size copies q =
       record { copy = c .copy; stands = c .stands; value = c .value; chain = c .named .chain; octets = x; opens = c .opens } in
-      record { ids = keyIds (best (c .named .passed) o .it .passed); path = first-path (c .named .passed) o }
+      record { ids = ids q o; end = end q o; path = first-path q o }

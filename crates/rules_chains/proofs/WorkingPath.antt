@@ -1,5 +1,6 @@
 -- THE KEYS OF THE PATH, where number 8 does not hold of the entries: each has one value, none has Key ID 0, "Key IDs are then distinct",
--- and there are at most as many as entries, so that the held list has room for all of them.
+-- and there are at most as many as entries, so that the held list of a registration has room for all of them. It ends on a key that chains
+-- start with, in a registration on key 0.
 use native.Mathlib.Omega.{arith}
 use native.Mathlib.Decide.{ℕ-discrete}
 use Prim.Native.Nat.{ℕ, suc, _≤_, _<_}
@@ -11,7 +12,7 @@ use lib.ListN.{length, length-map}
 use Rattle.wire_attributes.specs.Tree.{WrapKey, SaKey}
 use Rattle.rules_chains.specs.Chain.{In, Root, Extended, Chain, root, step, Reached}
 use Rattle.rules_chains.specs.Refusals.{EntriesConflict}
-use Rattle.rules_chains.specs.Path.{keyIds, KeyPath, Keys, no-key, one-more}
+use Rattle.rules_chains.specs.Path.{keyIds, startId, KeyPath, Keys, no-key, one-more}
 use Rattle.rules_chains.proofs.Determined.{one-value}
 use Rattle.rules_chains.proofs.Laws.{entries-fit}
 use Rattle.rules_chains.proofs.Members.{in-member}
@@ -76,12 +77,36 @@ module _ (roots : List Root) (entries : List WrapKey) (size : ℕ) where
       ⊎-elim (λ q. record { entry = e; stands = l .entry; is = sym q }) (λ n. given p k v c i n) (List·Memᴰ·cases-cons m)
 
   -- "none 0", since number 6 leaves no entry with Key ID 0
-  pub path-nonzero : (copies : List SaKey) (ids : List ℕ) → KeyPath roots entries size copies ids →
+  pub path-nonzero : (copies : List SaKey) (ids : List ℕ) (end : ℕ) → KeyPath roots entries size copies ids end →
       ((e : WrapKey) → In e entries → e .keyId ≡ 0 → ⊥) → List·Memᴰ 0 ids → ⊥
-  path-nonzero copies ids p nonzero m =
+  path-nonzero copies ids end p nonzero m =
       let o = p .opener in
       let g = given (p .passed) (o .copy .kwkId) (o .value) (o .chain) 0 (subst (List·Memᴰ 0) (sym (p .written)) m) in
       nonzero (g .entry) (g .stands) (g .is)
+
+  -- ---- what it ends on is a key that chains start with
+  pub record Ends (i : ℕ) : Type 0 where
+    pub key : Root
+    pub stands : In key roots
+    pub is : key .id ≡ i
+
+  chain-starts : (p : List WrapKey) (k : ℕ) (v : List ℕ) → Chain roots entries size p k v → Ends (startId k p)
+  chain-starts _ _ _ (root r i) = record { key = r; stands = i; is = refl }
+  chain-starts _ _ _ (step {passed = p} {k = k} {v = v} e c t l) =
+      subst (λ (j : ℕ). Ends (startId j p)) (sym (l .names)) (chain-starts p k v c)
+
+  pub path-ends : (copies : List SaKey) (ids : List ℕ) (end : ℕ) → KeyPath roots entries size copies ids end → Ends end
+  path-ends copies ids end p =
+      let o = p .opener in subst Ends (p .ends) (chain-starts (p .passed) (o .copy .kwkId) (o .value) (o .chain))
+
+  -- where there is no entry the path is empty
+  none-passed : (p : List WrapKey) (k : ℕ) (v : List ℕ) → Chain roots entries size p k v → entries ≡ [] → keyIds p ≡ []
+  none-passed _ _ _ (root r i) e = refl
+  none-passed _ _ _ (step d c t l) e = absurd (List·Memᴰ·not-nil (subst (List·Memᴰ d) e (in-member d entries (l .entry))))
+
+  pub path-of-none : (copies : List SaKey) (ids : List ℕ) (end : ℕ) → KeyPath roots entries size copies ids end → entries ≡ [] → ids ≡ []
+  path-of-none copies ids end p e =
+      let o = p .opener in sym (p .written) ∙ none-passed (p .passed) (o .copy .kwkId) (o .value) (o .chain) e
 
   module _ (none : EntriesConflict roots entries size → ⊥) where
     -- ---- each key has one value
@@ -99,8 +124,8 @@ module _ (roots : List Root) (entries : List WrapKey) (size : ℕ) where
           are = one-more (record { reached = r; every = λ y s. one-value roots entries size none (e .keyId) y x s r }) (m .are);
         }
 
-    pub keys-exist : (copies : List SaKey) (ids : List ℕ) → KeyPath roots entries size copies ids → Valued ids
-    keys-exist copies ids p =
+    pub keys-exist : (copies : List SaKey) (ids : List ℕ) (end : ℕ) → KeyPath roots entries size copies ids end → Valued ids
+    keys-exist copies ids end p =
         let o = p .opener in subst Valued (p .written) (chain-keys (p .passed) (o .copy .kwkId) (o .value) (o .chain))
 
     -- ---- a chain that comes back to a key can be cut short
@@ -149,8 +174,8 @@ module _ (roots : List Root) (entries : List WrapKey) (size : ℕ) where
         (cut p k v c)
 
     -- "A member's Key IDs are then distinct"
-    pub path-distinct : (copies : List SaKey) (ids : List ℕ) → KeyPath roots entries size copies ids → Distinct ids
-    path-distinct copies ids p =
+    pub path-distinct : (copies : List SaKey) (ids : List ℕ) (end : ℕ) → KeyPath roots entries size copies ids end → Distinct ids
+    path-distinct copies ids end p =
         let o = p .opener in
         ⊎-elim (λ d. subst Distinct (p .written) d)
         (λ s.
@@ -167,10 +192,10 @@ module _ (roots : List Root) (entries : List WrapKey) (size : ℕ) where
         (cut (p .passed) (o .copy .kwkId) (o .value) (o .chain))
 
     -- the path has at most as many keys as there are entries
-    pub path-fits : (copies : List SaKey) (ids : List ℕ) → KeyPath roots entries size copies ids → length ids ≤ length entries
-    path-fits copies ids p =
+    pub path-fits : (copies : List SaKey) (ids : List ℕ) (end : ℕ) → KeyPath roots entries size copies ids end → length ids ≤ length entries
+    path-fits copies ids end p =
         let o = p .opener in
-        let h = fewer ids (keyIds entries) (path-distinct copies ids p)
+        let h = fewer ids (keyIds entries) (path-distinct copies ids end p)
         (λ i m.
         let g = given (p .passed) (o .copy .kwkId) (o .value) (o .chain) i (subst (List·Memᴰ i) (sym (p .written)) m) in
         Memᴰ·cast (sym (g .is)) (Memᴰ·map (λ (e : WrapKey). e .keyId) (in-member (g .entry) entries (g .stands)))) in

@@ -153,11 +153,11 @@ module _ (limits : Limits) (s : State) (now : ℕ) (lent : List ℕ) where
           subst (In b) (sym sas-are) (all-in b (after .new) (oldSas s now f) (inr (stayed-old s now f b r)))
 
   -- ---- an outcome of 0, by the frame's tree
-  module _ (octets : List ℕ) (f : Frame) (e : IsFrame octets f) where
+  module _ (octets : List ℕ) (f : Frame) (e : IsFrame (s .profile) octets f) where
     by-judged : (next : State) → Judged limits s now lent f 0 next → FrameAnswers limits s now lent f 0 × After limits s now lent f next
     by-judged _ (accepted next p a) = (p, a)
 
     pub whole-accepted : (next : State) → Outcome limits s now lent octets 0 next →
         FrameAnswers limits s now lent f 0 × After limits s now lent f next
     whole-accepted next (by-tree g d j) =
-        by-judged next (subst (λ (x : Frame). Judged limits s now lent x 0 next) (one-tree octets g f d e) j)
+        by-judged next (subst (λ (x : Frame). Judged limits s now lent x 0 next) (one-tree (s .profile) octets g f d e) j)

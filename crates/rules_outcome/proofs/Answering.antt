@@ -1,4 +1,5 @@
--- The answer to a frame whose layout is whole, from what judging finds: the first of numbers 2 to 7 that applies, then whether 8 and 9 do.
+-- The answer to a frame whose layout is whole, from what judging finds: the first of numbers 2 to 7 that applies, then whether 8 and 9 do,
+-- then whether the held list would be over its limit.
 use native.Mathlib.Omega.{arith}
 use Prim.Native.Nat.{ℕ, suc, _<_}
 use mathlib.Core.Path.{_≡_, refl}
@@ -9,22 +10,20 @@ use Rattle.state_keys.specs.Limits.{Limits}
 use Rattle.wire_frames.specs.Frame.{Frame}
 use Rattle.state.specs.declared.State.{State}
 use Rattle.rules_refusals.specs.Refusals.{numbers, refusal}
+use Rattle.rules_outcome.specs.Holding.{OverHeldOf}
 use Rattle.rules_outcome.specs.Answer.{RefusalCase, First, byClauses, KeyConflictOf, KeyMissingOf, conditions, FrameAnswers}
 use Rattle.rules_outcome.specs.Judging.{JudgedFirst, above}
 use Rattle.rules_outcome.proofs.First.{first-at, at-first, by-clauses, past-clauses, clauses-or-rest}
 
 module _ (limits : Limits) (s : State) (now : ℕ) (lent : List ℕ) (f : Frame) where
-  -- the numbers rise in judging order, from 2 on
-  pub numbers-rise : above 1 (conditions limits s now lent f) ≡ true
-  numbers-rise = refl
-
+  -- the numbers of the clauses rise, from 2 on
   clauses-rise : above 1 (map byClauses (numbers limits s now lent f)) ≡ true
   clauses-rise = refl
 
   -- the conditions behind the clauses
   abbrev pub lasts : List RefusalCase
   lasts = record { number = 8; holds = KeyConflictOf limits s now lent f } ∷ record { number = 9; holds = KeyMissingOf limits s now lent f }
-      ∷ []
+      ∷ record { number = 7; holds = OverHeldOf limits s now lent f } ∷ []
 
   pub answers-clauses : (n : ℕ) → refusal limits s now lent f ≡ suc n → FrameAnswers limits s now lent f (suc n)
   unfolding refusal
@@ -41,19 +40,28 @@ module _ (limits : Limits) (s : State) (now : ℕ) (lent : List ℕ) (f : Frame)
     pub answers-9 : (KeyConflictOf limits s now lent f → ⊥) → KeyMissingOf limits s now lent f → FrameAnswers limits s now lent f 9
     answers-9 p q = behind 9 (inr (p, inl (q, refl)))
 
-    pub answers-0 : (KeyConflictOf limits s now lent f → ⊥) → (KeyMissingOf limits s now lent f → ⊥) → FrameAnswers limits s now lent f 0
-    answers-0 p q = behind 0 (inr (p, inr (q, refl)))
+    -- "Over 128 then is 7, judged after 9."
+    pub answers-over : (KeyConflictOf limits s now lent f → ⊥) → (KeyMissingOf limits s now lent f → ⊥) → OverHeldOf limits s now lent f →
+        FrameAnswers limits s now lent f 7
+    answers-over p q r = behind 7 (inr (p, inr (q, inl (r, refl))))
+
+    pub answers-0 : (KeyConflictOf limits s now lent f → ⊥) → (KeyMissingOf limits s now lent f → ⊥) →
+        (OverHeldOf limits s now lent f → ⊥) →
+        FrameAnswers limits s now lent f 0
+    answers-0 p q r = behind 0 (inr (p, inr (q, inr (r, refl))))
 
   -- an answer of 0, taken apart
   pub record NoneApplies : Type 0 where
     pub clauses : refusal limits s now lent f ≡ 0
     pub no-eight : KeyConflictOf limits s now lent f → ⊥
     pub no-nine : KeyMissingOf limits s now lent f → ⊥
+    pub no-over : OverHeldOf limits s now lent f → ⊥
 
   none-last : refusal limits s now lent f ≡ 0 → First lasts 0 → NoneApplies
   none-last e (inl p) = let z = p .1 in absurd (omega arith)
   none-last e (inr (p, inl q)) = let z = q .1 in absurd (omega arith)
-  none-last e (inr (p, inr (q, r))) = record { clauses = e; no-eight = p; no-nine = q }
+  none-last e (inr (p, inr (q, inl r))) = let z = r .1 in absurd (omega arith)
+  none-last e (inr (p, inr (q, inr (r, z)))) = record { clauses = e; no-eight = p; no-nine = q; no-over = r }
 
   -- an answer is judged by the clauses, or passes them
   pub judged-or-past : (n : ℕ) → FrameAnswers limits s now lent f n →

@@ -102,12 +102,12 @@ module _ (now : ℕ) (a : GroupSaPolicy) (x : List ℕ) (n : length x ≡ needOf
       (eq-eqb (saFrom now a x .protocol) (a .protocol) (made-protocol now a x k))
       (eq-same (saSpi (saFrom now a x)) (a .spi) (made-spi now a x k))
 
-module _ (limits : Limits) (enough : limits .wrapKeys ≤ limits .heldKeys) (s : State) (now : ℕ) (lent octets : List ℕ) (f : Frame)
-    (e : IsFrame octets f) (next : State) (o : Outcome limits s now lent octets 0 next) where
+module _ (limits : Limits) (s : State) (now : ℕ) (lent octets : List ℕ) (f : Frame)
+    (e : IsFrame (s .profile) octets f) (next : State) (o : Outcome limits s now lent octets 0 next) where
   next-formed : stateFormed limits next ≡ true
   next-formed =
       let t = taken limits s now lent octets f next e o in
-      accepted-formed limits enough s now lent f (t .is-clear) next (t .after) octets e
+      accepted-formed limits s now lent f (t .is-clear) next (t .after) octets e
 
   asked-found : (p : ℕ) (x : List ℕ) (b : Sa) → In b (sasOf (next .table)) → named p x b ≡ true →
       askedSa limits p x next ≡ record { found = true; sa = b }

@@ -32,7 +32,7 @@ one = rekeySa rekeySpi (rekeyOf (replicate 36 2) 20 16) Unlimited
 
 -- with least Message ID 7
 abbrev pub having : Sa → State
-having a = record { table = tableOf limits (a ∷ []); held = heldOf limits []; least = Id 7 }
+having a = record { table = tableOf limits (a ∷ []); held = heldOf limits []; least = Id 7; profile = false }
 
 abbrev pub seven : State
 seven = having one

@@ -16,7 +16,7 @@ use Rattle.wire_frames.proofs.FrameGrammar.{one-tree}
 use Rattle.rules_chains.proofs.Closure.{reached-first, reached-on, reached-least}
 use Rattle.rules_outcome.specs.Demands.{Fits, OpenedTo, Demand, any-input, refusals, reading, opening, keys, chains}
 use Rattle.rules_outcome.specs.Demands.{Claims}
-use Rattle.rules_outcome.proofs.Meets.{order-rises, earlier-is-lower, refused-first, accepted-is}
+use Rattle.rules_outcome.proofs.Meets.{refused-first, accepted-is, accepted-none}
 use Rattle.rules_outcome.proofs.Demands.{accepted-exactly, zero-due, one-of-nine}
 use Rattle.rules_outcome.proofs.Determined.{outcome-one, after-one}
 use Rattle.rules_outcome.proofs.EachAnswered.{each-answered}
@@ -33,8 +33,6 @@ refusals-hold s now lent octets =
       exactly = refused-first limits s now lent octets;
       accepted = accepted-exactly limits s now lent octets;
       zero-due = zero-due limits s now lent octets;
-      rise = order-rises limits s now lent octets;
-      lower = earlier-is-lower limits s now lent octets;
     }
 
 reading-holds : Claims reading
@@ -44,8 +42,8 @@ reading-holds s now lent octets next o =
     record {
       tree = f;
       layout = a .layout;
-      one = λ g e. one-tree octets g f e (a .layout);
-      within = a .none 7;
+      one = λ g e. one-tree (s .profile) octets g f e (a .layout);
+      within = accepted-none limits s now lent octets next a 7;
       is-formed = demand-3-within s now lent octets f (a .layout) 0 next o .after refl .is-formed;
       after = a .after;
       only = λ other b. after-one limits s now lent f other next b (a .after);
@@ -81,7 +79,20 @@ module _ (key wrapped room : List ℕ) (is : Key key) where
 
 opening-holds : Claims opening
 opening-holds key wrapped room is a after answers =
-    record { exactly = λ x fits. (to key wrapped room is a after answers x fits, from key wrapped room is a after answers x fits) }
+    record {
+      exactly = λ x fits. (to key wrapped room is a after answers x fits, from key wrapped room is a after answers x fits);
+      answers-no = λ q.
+          let none = subst (λ (b : WrapAnswer). OpenAnswers key wrapped room b after) q answers in (
+            λ x fits w.
+                none .none x
+                (record {
+                  key-size = is .size;
+                  opens = record { least = fits .least; most = fits .most; octets = fits .octets; wraps = w };
+                  holds = fits .holds;
+                }),
+            none .room-is,
+          );
+    }
 
 chains-hold : Claims chains
 chains-hold roots entries size =

@@ -12,7 +12,6 @@ use Rattle.wire_frames.proofs.FrameGrammar.{one-tree}
 use Rattle.state_sa.specs.declared.entry.Sa.{Sa}
 use Rattle.state.specs.declared.State.{State}
 use Rattle.state.specs.declared.held.Held.{Held}
-use Rattle.state.specs.Held.{heldOf}
 use Rattle.rules_refusals.specs.Contents.{rowOf, announced}
 use Rattle.rules_chains.specs.Chain.{Root}
 use Rattle.rules_chains.specs.Path.{Keys}
@@ -20,7 +19,8 @@ use Rattle.rules_chains.proofs.Determined.{key-one}
 use Rattle.rules_chains.proofs.OnePath.{path-one, keys-one}
 use Rattle.rules_outcome.specs.Roots.{rootsOf, entriesOf, wrappingSize, announcedAs}
 use Rattle.rules_outcome.specs.Answer.{conditions}
-use Rattle.rules_outcome.specs.After.{newRekey, rekeyCopies, heldFrom, Enter, no-sa, one-more, saFrom, HoldsPath, HeldSet, HeldBy}
+use Rattle.rules_outcome.specs.Holding.{newRekey, rekeyCopies, heldFrom, heldByPath, heldBefore, HoldsPath, HeldNext}
+use Rattle.rules_outcome.specs.After.{Enter, no-sa, one-more, saFrom}
 use Rattle.rules_outcome.specs.After.{After}
 use Rattle.rules_outcome.specs.Outcome.{Judged, refused, accepted, Outcome, no-layout, by-tree}
 use Rattle.rules_outcome.proofs.First.{first-one}
@@ -35,24 +35,19 @@ module _ (roots : List Root) (entries : List WrapKey) (size : ℕ) where
       ap₂ (λ (z : List ℕ) (q : List Sa). saFrom now a z ∷ q) (key-one roots entries size (announcedAs f a) x y k j)
       (enter-one now f l m n e d)
 
-  -- the path is one, and so are its keys
-  path-held-one : (limits : Limits) (copies : List SaKey) (h k : Held) → HoldsPath roots entries size limits copies h →
-      HoldsPath roots entries size limits copies k → h ≡ k
-  path-held-one limits copies h k p q =
-      let e = path-one roots entries size copies (p .ids) (q .ids) (p .path) (q .path) in
+  -- the path is one, and so are its keys and the key it ends on
+  path-held-one : (limits : Limits) (copies : List SaKey) (old h k : Held) → HoldsPath roots entries size limits copies old h →
+      HoldsPath roots entries size limits copies old k → h ≡ k
+  path-held-one limits copies old h k p q =
+      let e = path-one roots entries size copies (p .ids) (q .ids) (p .end) (q .end) (p .path) (q .path) in
       let d = keys-one roots entries size (q .ids) (p .keys) (q .keys)
-      (subst (λ (i : List ℕ). Keys roots entries size i (p .keys)) e (p .are)) (q .are) in
-      p .is ∙ ap (λ (l : List Root). heldOf limits (map heldFrom l)) d ∙ sym (q .is)
+      (subst (λ (i : List ℕ). Keys roots entries size i (p .keys)) (e .0) (p .are)) (q .are) in
+      p .is ∙ ap₂ (λ (l : List Root) (i : ℕ). heldByPath limits (map heldFrom l) i old) d (e .1) ∙ sym (q .is)
 
-  pub held-one : (b : Bool) (limits : Limits) (copies : List SaKey) (h k : Held) → HeldSet roots entries size b limits copies h →
-      HeldSet roots entries size b limits copies k → h ≡ k
-  held-one true limits copies h k p q = path-held-one limits copies h k p q
-  held-one false limits copies h k p q = p ∙ sym q
-
-held-by-one : (b : Bool) {Set Kept Set′ Kept′ : Type 0} {h k : Held} → (Set → Set′ → h ≡ k) → (Kept → Kept′ → h ≡ k) →
-    HeldBy b Set Kept → HeldBy b Set′ Kept′ → h ≡ k
-held-by-one true set kept p q = set p q
-held-by-one false set kept p q = kept p q
+  pub held-one : (limits : Limits) (b : Bool) (copies : List SaKey) (old h k : Held) → HeldNext roots entries size limits b copies old h →
+      HeldNext roots entries size limits b copies old k → h ≡ k
+  held-one limits true copies old h k p q = path-held-one limits copies old h k p q
+  held-one limits false copies old h k p q = p ∙ sym q
 
 module _ (limits : Limits) (s : State) (now : ℕ) (lent : List ℕ) where
   module _ (f : Frame) where
@@ -69,11 +64,11 @@ module _ (limits : Limits) (s : State) (now : ℕ) (lent : List ℕ) where
         let b = q .table in
         let t : next .table ≡ after .table = cc in
         let h : next .held ≡ after .held =
-        held-by-one (rowOf f .registers)
-        (held-one roots (entriesOf f) size (newRekey f) limits (rekeyCopies f) (next .held) (after .held)) (λ x y. x ∙ sym y) (p .held)
-        (q .held) in
+        held-one roots (entriesOf f) size limits (newRekey f) (rekeyCopies f) (heldBefore limits (rowOf f .registers) (s .held))
+        (next .held) (after .held) (p .held) (q .held) in
         let l : next .least ≡ after .least = p .least ∙ sym (q .least) in
-        λ i. record { table = t i; held = h i; least = l i }
+        let o : next .profile ≡ after .profile = p .profile ∙ sym (q .profile) in
+        λ i. record { table = t i; held = h i; least = l i; profile = o i }
 
     pub judged-one : (n m : ℕ) (next after : State) → Judged limits s now lent f n next → Judged limits s now lent f m after →
         (n ≡ m) × (next ≡ after)
@@ -92,5 +87,5 @@ module _ (limits : Limits) (s : State) (now : ℕ) (lent : List ℕ) where
   outcome-one octets _ m _ after (no-layout none) (by-tree f d j) = absurd (none f d)
   outcome-one octets n _ next _ (by-tree f d j) (no-layout none) = absurd (none f d)
   outcome-one octets n m next after (by-tree f e j) (by-tree g d k) =
-      let t = one-tree octets f g e d in
+      let t = one-tree (s .profile) octets f g e d in
       judged-one g n m next after (subst (λ (x : Frame). Judged limits s now lent x n next) t j) k

@@ -1,5 +1,5 @@
--- The first condition that holds, in judging order: it is one, and it is given exactly when a condition of its number holds and none with a
--- lower number does; 0 exactly when none holds. Lists whose numbers rise, from 1 on, are meant.
+-- The first condition that holds, in judging order: it is one, and it is given exactly when a condition holds and none at an earlier place
+-- does; 0 exactly when none holds. In a list whose numbers rise, earlier is lower.
 use native.Mathlib.Omega.{arith}
 use Prim.Native.Nat.{ℕ, suc, _≤_, _<_}
 use mathlib.Core.Path.{_≡_, refl, ap, sym, _∙_, subst}
@@ -63,11 +63,23 @@ first-lowest k (c ∷ l) a n (inl p) m g (inr h) =
 first-lowest k (c ∷ l) a n (inr p) m g (inl h) = p .0 (h .0)
 first-lowest k (c ∷ l) a n (inr p) m g (inr h) = first-lowest (c .number) l (next-above k c l a .1) n (p .1) m g h
 
+-- the numbers of the list are all above k
+abbrev pub exceed : ℕ → List RefusalCase → Bool
+exceed k [] = true
+exceed k (c ∷ l) = ltb k (c .number) && exceed k l
+
+-- what holds has a number above
+pub exceed-holds : (k : ℕ) (l : List RefusalCase) → exceed k l ≡ true → (n : ℕ) → SomeHolds l n → k < n
+exceed-holds k (c ∷ l) a n (inl h) =
+    let p = ltb-true k (c .number) (and-parts (ltb k (c .number)) (exceed k l) a .0) in let e = h .1 in omega arith
+exceed-holds k (c ∷ l) a n (inr h) = exceed-holds k l (and-parts (ltb k (c .number)) (exceed k l) a .1) n h
+
 -- 0 says that none holds
-pub first-none : (k : ℕ) (l : List RefusalCase) → above k l ≡ true → First l 0 → (m : ℕ) → SomeHolds l m → ⊥
-first-none k (c ∷ l) a (inl p) m h = let e = p .1 in let g = next-above k c l a .0 in absurd (omega arith)
-first-none k (c ∷ l) a (inr p) m (inl h) = p .0 (h .0)
-first-none k (c ∷ l) a (inr p) m (inr h) = first-none (c .number) l (next-above k c l a .1) (p .1) m h
+pub first-none : (l : List RefusalCase) → exceed 0 l ≡ true → First l 0 → (m : ℕ) → SomeHolds l m → ⊥
+first-none (c ∷ l) a (inl p) m h =
+    let e = p .1 in let g = ltb-true 0 (c .number) (and-parts (ltb 0 (c .number)) (exceed 0 l) a .0) in absurd (omega arith)
+first-none (c ∷ l) a (inr p) m (inl h) = p .0 (h .0)
+first-none (c ∷ l) a (inr p) m (inr h) = first-none l (and-parts (ltb 0 (c .number)) (exceed 0 l) a .1) (p .1) m h
 
 -- and conversely
 pub first-is : (k : ℕ) (l : List RefusalCase) → above k l ≡ true → (n : ℕ) → SomeHolds l n → ((m : ℕ) → m < n → SomeHolds l m → ⊥) →
@@ -80,6 +92,37 @@ first-is k (c ∷ l) a n (inr h) none =
 pub none-first : (l : List RefusalCase) → ((m : ℕ) → SomeHolds l m → ⊥) → First l 0
 none-first [] none = refl
 none-first (c ∷ l) none = inr (λ x. none (c .number) (inl (x, refl)), none-first l (λ m x. none m (inr x)))
+
+-- ---- of two lists in a row: the first of the first, or none of it holds and it is the first of the second
+pub first-split : (l m : List RefusalCase) (n : ℕ) → First (l ++ m) (suc n) →
+    First l (suc n) ⊎ (((k : ℕ) → SomeHolds l k → ⊥) × First m (suc n))
+first-split [] m n p = inr (λ k h. h, p)
+first-split (c ∷ l) m n (inl p) = inl (inl p)
+first-split (c ∷ l) m n (inr p) =
+    ⊎-elim (λ q. inl (inr (p .0, q))) (λ q. inr (λ k. ⊎-elim (λ h. p .0 (h .0)) (q .0 k), q .1)) (first-split l m n (p .1))
+
+pub first-left : (l m : List RefusalCase) (n : ℕ) → First l (suc n) → First (l ++ m) (suc n)
+first-left [] m n e = absurd (omega arith)
+first-left (c ∷ l) m n (inl p) = inl p
+first-left (c ∷ l) m n (inr p) = inr (p .0, first-left l m n (p .1))
+
+pub first-right : (l m : List RefusalCase) (n : ℕ) → ((k : ℕ) → SomeHolds l k → ⊥) → First m n → First (l ++ m) n
+first-right [] m n none p = p
+first-right (c ∷ l) m n none p = inr (λ x. none (c .number) (inl (x, refl)), first-right l m n (λ k x. none k (inr x)) p)
+
+-- what holds in one of them holds in both in a row, and the other way round
+pub some-left : (l m : List RefusalCase) (n : ℕ) → SomeHolds l n → SomeHolds (l ++ m) n
+some-left (c ∷ l) m n (inl h) = inl h
+some-left (c ∷ l) m n (inr h) = inr (some-left l m n h)
+
+pub some-right : (l m : List RefusalCase) (n : ℕ) → SomeHolds m n → SomeHolds (l ++ m) n
+some-right [] m n h = h
+some-right (c ∷ l) m n h = inr (some-right l m n h)
+
+pub some-split : (l m : List RefusalCase) (n : ℕ) → SomeHolds (l ++ m) n → SomeHolds l n ⊎ SomeHolds m n
+some-split [] m n h = inr h
+some-split (c ∷ l) m n (inl h) = inl (inl h)
+some-split (c ∷ l) m n (inr h) = ⊎-elim (λ q. inl (inr q)) inr (some-split l m n h)
 
 -- ---- the same by the order of judging, whatever the numbers: it holds, and none judged earlier does
 pub first-at : (l : List RefusalCase) (n : ℕ) → First l (suc n) → JudgedFirst l (suc n)

@@ -1,10 +1,10 @@
--- The held list that a registration sets, by chains alone: the copies of the Rekey SA's key, the chains that open one of them, and the list
--- in the customer's words.
+-- The held list by chains alone: the copies of the Rekey SA's key, the chains that open one of them, and the list after a registration in
+-- the customer's words.
 use native.Mathlib.Omega.{arith}
 use Prim.Native.Nat.{ℕ, _-_, _≤_}
 use mathlib.Core.Path.{_≡_, refl, ap, sym, _∙_, subst}
 use mathlib.Core.Bool.{Bool, true, false, false≢true}
-use mathlib.Core.List.{List, [], _∷_, map}
+use mathlib.Core.List.{List, [], _∷_, map, List·Memᴰ·eq-of-singleton}
 use lib.Dec.{eqb}
 use lib.ListN.{length, replicate, length-map}
 use lib.Seq.{take-append-seam}
@@ -26,31 +26,24 @@ use Rattle.rules_refusals.specs.Fitness.{isRekey}
 use Rattle.rules_chains.specs.Chain.{In, Root, CopyOpens}
 use Rattle.rules_chains.specs.Refusals.{EntriesConflict}
 use Rattle.rules_chains.specs.Refusals as refusals
-use Rattle.rules_chains.specs.Path.{keyIds, NotAfter, Opener}
+use Rattle.rules_chains.specs.Path.{keyIds, NotAfter, Opener, KeyPath, Keys, no-key, one-more}
+use Rattle.rules_chains.proofs.WorkingPath.{path-ends, path-of-none}
 use Rattle.rules_chains.proofs.Members.{in-member, member-in}
 use Rattle.rules_outcome.specs.Roots.{copiesOf}
-use Rattle.rules_outcome.specs.After.{newRekey, rekeyCopies, heldFrom, Enter, HoldsPath, HeldSet, HeldBy}
+use Rattle.rules_outcome.specs.Holding.{newRekey, rekeyCopies, heldFrom, heldByPath, HoldsPath, HeldNext}
+use Rattle.rules_outcome.specs.After.{Enter}
 use Rattle.rules_outcome.specs.NamedKey.{lentRoot, Given, InOwnBag}
 use Rattle.rules_outcome.specs.RestSays.{NewRekey}
-use Rattle.rules_outcome.specs.Demand3.{OpensRekeyKey, HeldPath, HeldAfter}
+use Rattle.rules_outcome.specs.Demand3.{OpensRekeyKey, PathOf, OpensByWrapKeys, HeldPath, HeldAfter}
 use Rattle.rules_outcome.proofs.Members.{not-in-none, in-keep, keep-in, in-gather, gather-in}
 use Rattle.rules_outcome.proofs.RunsLists.{some-passes, passes-some}
 use Rattle.rules_outcome.proofs.Bags.{copy-own, own-copy}
 use Rattle.rules_outcome.proofs.Enters.{each-enters}
-use Rattle.rules_outcome.proofs.PathKeys.{HoldsKey, held-keys, held-ids, holds-key, path-once}
+use Rattle.rules_outcome.proofs.PathKeys.{HoldsKey, held-keys, held-ids, path-ids, holds-key, path-once}
 
 -- equal counts, where they cannot differ
 pub not-other : (m n : ℕ) → ((m ≡ n → ⊥) → ⊥) → m ≡ n
 not-other m n f = bool-cases (eqb m n) (eqb-true m n) (λ e. absurd (f (eqb-false m n e)))
-
--- a registration sets the held list, "a rekey leaves it"
-pub registration-sets : (b : Bool) (Set Kept : Type 0) → b ≡ true → HeldBy b Set Kept → Set
-registration-sets true Set Kept e h = h
-registration-sets false Set Kept e h = absurd (false≢true e)
-
-pub rekey-leaves : (b : Bool) (Set Kept : Type 0) → b ≡ false → HeldBy b Set Kept → Kept
-rekey-leaves true Set Kept e h = absurd (false≢true (sym e))
-rekey-leaves false Set Kept e h = h
 
 -- ---- the copies of the key of a Rekey SA that the frame announces
 module _ (f : Frame) where
@@ -108,18 +101,12 @@ none-long : {A : Type 0} (l : List A) → length l ≤ 0 → l ≡ []
 none-long [] h = refl
 none-long (a ∷ l) h = absurd (omega arith)
 
--- ---- in a registration chains start with the lent key alone
-module _ (lent : List ℕ) (f : Frame) where
-  abbrev R : List Root
-  R = lentRoot lent
+-- ---- chains that open the key of a Rekey SA, in the customer's words and by the copies
+module _ (roots : List Root) (entries : List WrapKey) (size : ℕ) (f : Frame) where
+  abbrev Opens : List WrapKey → Type 0
+  Opens = OpensRekeyKey roots entries size f
 
-  abbrev l : List WrapKey
-  l = wrapKeysOf f
-
-  abbrev size : ℕ
-  size = length lent
-
-  to-opener : (q : List WrapKey) → OpensRekeyKey lent f q → Opener R l size (rekeyCopies f) q
+  pub to-opener : (q : List WrapKey) → OpensRekeyKey roots entries size f q → Opener roots entries size (rekeyCopies f) q
   to-opener q o =
       record {
         copy = o .copy;
@@ -130,7 +117,7 @@ module _ (lent : List ℕ) (f : Frame) where
         opens = o .opens;
       }
 
-  from-opener : (q : List WrapKey) → Opener R l size (rekeyCopies f) q → OpensRekeyKey lent f q
+  from-opener : (q : List WrapKey) → Opener roots entries size (rekeyCopies f) q → Opens q
   from-opener q o =
       let r = of-rekey f (o .copy) (o .stands) in
       record {
@@ -144,8 +131,9 @@ module _ (lent : List ℕ) (f : Frame) where
         opens = o .opens;
       }
 
-  opened-by : ((p : GroupSaPolicy) → NewRekey f p → (x : List ℕ) × CopyOpens R l size (copiesOf f p) x) → (p : GroupSaPolicy) →
-      NewRekey f p → (passed : List WrapKey) × OpensRekeyKey lent f passed
+  pub opened-by : ((p : GroupSaPolicy) → NewRekey f p → (x : List ℕ) × CopyOpens roots entries size (copiesOf f p) x) →
+      (p : GroupSaPolicy) →
+      NewRekey f p → (passed : List WrapKey) × OpensRekeyKey roots entries size f passed
   opened-by opens p n =
       let o = opens p n .1 in (
         o .named .passed,
@@ -161,39 +149,113 @@ module _ (lent : List ℕ) (f : Frame) where
         },
       )
 
+  -- the path of the copies is the path
+  pub path-of : (ids : List ℕ) (end : ℕ) (p : KeyPath roots entries size (rekeyCopies f) ids end) →
+      PathOf roots entries size f (p .passed) end
+  unfolding to-opener from-opener
+  path-of ids end p =
+      record {
+        opens = from-opener (p .passed) (p .opener);
+        ends = p .ends;
+        fewest = λ other o. p .fewest other (to-opener other o);
+        smallest = λ other o e.
+            subst (λ (m : List ℕ). NotAfter m (keyIds other)) (sym (p .written)) (p .smallest other (to-opener other o) e);
+        lowest = λ other o e. p .lowest other (to-opener other o) (e ∙ p .written);
+      }
+
+  module _ (limits : Limits) (old h : Held) (p : HoldsPath roots entries size limits (rekeyCopies f) old h) where
+    -- as many keys as entries
+    keys-long : length (map heldFrom (p .keys)) ≡ length (p .path .passed)
+    keys-long =
+        let a : length (idsOf (map heldFrom (p .keys))) ≡ length (map heldFrom (p .keys)) =
+        length-map (map heldFrom (p .keys)) (λ (k : HeldKey). k .id) in
+        let b : length (keyIds (p .path .passed)) ≡ length (p .path .passed) = length-map (p .path .passed) (λ (e : WrapKey). e .keyId) in
+        let c : length (idsOf (map heldFrom (p .keys))) ≡ length (keyIds (p .path .passed)) =
+        ap length (path-ids roots entries size limits (rekeyCopies f) old h p ∙ sym (p .path .written)) in
+        omega (arith, a, b, c)
+
+    -- a copy under a key that chains start with: none is passed
+    pub none-passed : OpensRekeyKey roots entries size f [] → map heldFrom (p .keys) ≡ []
+    none-passed o =
+        let few = p .path .fewest [] (to-opener [] o) in
+        let n = keys-long in
+        none-long (map heldFrom (p .keys)) (omega (arith, few, n))
+
+-- ---- where there is no entry nothing changes
+no-ids : (roots : List Root) (entries : List WrapKey) (size : ℕ) (ids : List ℕ) (keys : List Root) → Keys roots entries size ids keys →
+    ids ≡ [] → keys ≡ []
+no-ids roots entries size _ _ no-key e = refl
+no-ids roots entries size _ _ (one-more {i = i} {l = l} v k) e =
+    let z : _≡_ {A = ℕ} (length (i ∷ l)) 0 = ap length e in absurd (omega arith)
+
+pub no-entry-stays : (roots : List Root) (entries : List WrapKey) (size : ℕ) (limits : Limits) (b : Bool) (copies : List SaKey)
+    (old h : Held) → entries ≡ [] → HeldNext roots entries size limits b copies old h → h ≡ old
+no-entry-stays roots entries size limits true copies old h none p =
+    let e = path-of-none roots entries size copies (p .ids) (p .end) (p .path) none in
+    p .is ∙ ap (λ (l : List Root). heldByPath limits (map heldFrom l) (p .end) old)
+    (no-ids roots entries size (p .ids) (p .keys) (p .are) e)
+no-entry-stays roots entries size limits false copies old h none p = p
+
+-- and so it is with any other list
+pub no-entry-next : (roots : List Root) (entries : List WrapKey) (size : ℕ) (limits : Limits) (b : Bool) (copies : List SaKey)
+    (old h other : Held) → entries ≡ [] → HeldNext roots entries size limits b copies old h →
+    HeldNext roots entries size limits b copies other other
+no-entry-next roots entries size limits true copies old h other none p =
+    let e = path-of-none roots entries size copies (p .ids) (p .end) (p .path) none in
+    record {
+      ids = p .ids;
+      end = p .end;
+      path = p .path;
+      keys = p .keys;
+      are = p .are;
+      is = sym (ap (λ (l : List Root). heldByPath limits (map heldFrom l) (p .end) other)
+          (no-ids roots entries size (p .ids) (p .keys) (p .are) e));
+    }
+no-entry-next roots entries size limits false copies old h other none p = refl
+
+-- ---- in a registration chains start with the lent key alone
+module _ (lent : List ℕ) (f : Frame) where
+  abbrev R : List Root
+  R = lentRoot lent
+
+  abbrev l : List WrapKey
+  l = wrapKeysOf f
+
+  abbrev size : ℕ
+  size = length lent
+
+  -- so that every path ends on key 0
+  ends-on-zero : (ids : List ℕ) (end : ℕ) → KeyPath R l size (rekeyCopies f) ids end → end ≡ 0
+  ends-on-zero ids end p =
+      let e = path-ends R l size (rekeyCopies f) ids end p in
+      sym (e .is) ∙ ap (λ (r : Root). r .id) (List·Memᴰ·eq-of-singleton (in-member (e .key) R (e .stands)))
+
   module _ (limits : Limits) (h : Held) (none : EntriesConflict R l size → ⊥)
       (opens : (p : GroupSaPolicy) → NewRekey f p → (x : List ℕ) × CopyOpens R l size (copiesOf f p) x) where
+    abbrev old : Held
+    old = heldOf limits []
+
     all-fit : (i : ℕ) (x : List ℕ) → Given lent f i x → length x ≡ size
     all-fit i x r = not-other (length x) size (λ q. none (refusals.wrong-size i x r q))
 
-    module _ (p : HoldsPath R l size limits (rekeyCopies f) h) where
+    module _ (p : HoldsPath R l size limits (rekeyCopies f) old h) where
       is-path : HeldPath lent f h
       is-path =
-          let k = p .path in
           record {
-            passed = k .passed;
-            opens = from-opener (k .passed) (k .opener);
-            written = held-ids R l size limits (rekeyCopies f) h p ∙ sym (k .written);
-            fewest = λ other o. k .fewest other (to-opener other o);
-            smallest = λ other o e.
-                subst (λ (m : List ℕ). NotAfter m (keyIds other)) (sym (k .written)) (k .smallest other (to-opener other o) e);
+            passed = p .path .passed;
+            path = subst (PathOf R l size f (p .path .passed)) (ends-on-zero (p .ids) (p .end) (p .path))
+                (path-of R l size f (p .ids) (p .end) (p .path));
+            written = held-ids R l size limits (rekeyCopies f) old h p refl ∙ sym (p .path .written);
           }
 
       -- "or one opened by the default key: empty"
-      none-passed : OpensRekeyKey lent f [] → keysOf h ≡ []
-      none-passed o =
-          let few = p .path .fewest [] (to-opener [] o) in
-          let a : length (idsOf (keysOf h)) ≡ length (keysOf h) = length-map (keysOf h) (λ (k : HeldKey). k .id) in
-          let b : length (keyIds (p .path .passed)) ≡ length (p .path .passed) =
-          length-map (p .path .passed) (λ (e : WrapKey). e .keyId) in
-          let c : length (idsOf (keysOf h)) ≡ length (keyIds (p .path .passed)) =
-          ap length (held-ids R l size limits (rekeyCopies f) h p ∙ sym (p .path .written)) in
-          none-long (keysOf h) (omega (arith, few, a, b, c))
+      by-default : OpensByWrapKeys lent f [] → keysOf h ≡ []
+      by-default o = held-keys R l size limits (rekeyCopies f) old h p refl ∙ none-passed R l size f limits old h p o
 
       key-of : (k : HeldKey) → In k (keysOf h) → HoldsKey R l size k
       key-of k m =
-          let e = held-keys R l size limits (rekeyCopies f) h p in
-          holds-key R l size limits (rekeyCopies f) h p k (in-member k (map heldFrom (p .keys)) (subst (In k) e m))
+          let e = held-keys R l size limits (rekeyCopies f) old h p refl in
+          holds-key R l size limits (rekeyCopies f) old h p k (in-member k (map heldFrom (p .keys)) (subst (In k) e m))
 
       value-of : (k : HeldKey) → In k (keysOf h) → (x : List ℕ) → Given lent f (k .id) x → k .key ≡ wrappingOf x
       value-of k m x r = let g = key-of k m in g .key-is ∙ ap wrappingOf (sym (g .value .every x r))
@@ -203,11 +265,11 @@ module _ (lent : List ℕ) (f : Frame) where
           record {
             path = λ q o. is-path;
             no-rekey-sa = λ without. let n = any-new f g in absurd (without (n .0) (n .1));
-            by-default-key = none-passed;
-            opened = opened-by opens;
+            by-default-key = by-default;
+            opened = opened-by R l size f opens;
             once =
-                ap (λ (m : List HeldKey). distinct (idsOf m)) (held-keys R l size limits (rekeyCopies f) h p)
-                ∙ path-once R l size limits (rekeyCopies f) h p none;
+                ap (λ (m : List HeldKey). distinct (idsOf m)) (held-keys R l size limits (rekeyCopies f) old h p refl)
+                ∙ path-once R l size limits (rekeyCopies f) old h p none;
             only = λ k m. let v = key-of k m in (v .x, v .value .reached);
             value = value-of;
             octets = λ k m x r. ap valueOf (value-of k m x r) ∙ take-append-seam x (replicate (32 - length x) 0);
@@ -224,7 +286,7 @@ module _ (lent : List ℕ) (f : Frame) where
           path = λ passed o. absurd (false≢true (sym g ∙ new-any f (o .policy) (o .new)));
           no-rekey-sa = λ n. e;
           by-default-key = λ o. e;
-          opened = opened-by opens;
+          opened = opened-by R l size f opens;
           once = ap (λ (m : List HeldKey). distinct (idsOf m)) e;
           only = λ k m. absurd (empty k m);
           value = λ k m x r. absurd (empty k m);
@@ -232,19 +294,20 @@ module _ (lent : List ℕ) (f : Frame) where
           fits = all-fit;
         }
 
-    by-set : (b : Bool) → newRekey f ≡ b → HeldSet R l size b limits (rekeyCopies f) h → HeldAfter lent f h
+    by-set : (b : Bool) → newRekey f ≡ b → HeldNext R l size limits b (rekeyCopies f) old h → HeldAfter lent f h
     by-set true g p = by-path p g
     by-set false g q = by-none g q
 
-  -- by whatever roots and size are these
-  module _ (roots : List Root) (n : ℕ) (of-lent : roots ≡ R) (so-long : n ≡ size) where
-    carry : (P : List Root → ℕ → Type 0) → P roots n → P R size
-    carry P x = subst (P R) so-long (subst (λ (r : List Root). P r n) of-lent x)
+  -- by whatever roots, entries and size are these
+  module _ (roots : List Root) (entries : List WrapKey) (n : ℕ) (of-lent : roots ≡ R) (of-frame : entries ≡ l) (so-long : n ≡ size) where
+    carry : (P : List Root → List WrapKey → ℕ → Type 0) → P roots entries n → P R l size
+    carry P x =
+        subst (P R l) so-long (subst (λ (m : List WrapKey). P R m n) of-frame (subst (λ (r : List Root). P r entries n) of-lent x))
 
-    pub held-after : (limits : Limits) (h : Held) → (EntriesConflict roots l n → ⊥) →
-        ((p : GroupSaPolicy) → NewRekey f p → (x : List ℕ) × CopyOpens roots l n (copiesOf f p) x) →
-        HeldSet roots l n (newRekey f) limits (rekeyCopies f) h → HeldAfter lent f h
+    pub held-after : (limits : Limits) (h : Held) → (EntriesConflict roots entries n → ⊥) →
+        ((p : GroupSaPolicy) → NewRekey f p → (x : List ℕ) × CopyOpens roots entries n (copiesOf f p) x) →
+        HeldNext roots entries n limits (newRekey f) (rekeyCopies f) (heldOf limits []) h → HeldAfter lent f h
     held-after limits h none opens set =
-        by-set limits h (carry (λ r m. (EntriesConflict r l m → ⊥)) none)
-        (carry (λ r m. ((p : GroupSaPolicy) → NewRekey f p → (x : List ℕ) × CopyOpens r l m (copiesOf f p) x)) opens) (newRekey f) refl
-        (carry (λ r m. HeldSet r l m (newRekey f) limits (rekeyCopies f) h) set)
+        by-set limits h (carry (λ r e m. (EntriesConflict r e m → ⊥)) none)
+        (carry (λ r e m. ((p : GroupSaPolicy) → NewRekey f p → (x : List ℕ) × CopyOpens r e m (copiesOf f p) x)) opens) (newRekey f) refl
+        (carry (λ r e m. HeldNext r e m limits (newRekey f) (rekeyCopies f) (heldOf limits []) h) set)

@@ -29,16 +29,17 @@ use Rattle.rules_refusals.specs.Number2.{breaksWanted, nonEmptyMember, number2O
 use Rattle.rules_refusals.specs.Number3.{notAcceptable}
 use Rattle.rules_refusals.specs.Refusals.{one, applies, number2, number3, number4, number5, number6, number7}
 use Rattle.rules_refusals.proofs.Clear.{or-none, no-clause}
-use Rattle.rules_outcome.specs.Answer.{byClauses, conditions}
-use Rattle.rules_outcome.specs.After.{newRekey}
+use Rattle.rules_outcome.specs.Answer.{byClauses, KeyConflictOf, KeyMissingOf}
+use Rattle.rules_outcome.specs.Holding.{newRekey}
 use Rattle.rules_outcome.specs.Outcome.{Judged, refused, accepted, Outcome, no-layout, by-tree}
-use Rattle.rules_outcome.specs.NamedKey.{Inband, Named, lent-key, lent-in-band, own-key, last-of-chain, held-key, OpensUnder}
-use Rattle.rules_outcome.specs.Meets.{Meets}
+use Rattle.rules_outcome.specs.NamedKey.{Inband, Named, lent-key, lent-in-band, own-key, last-of-chain, held-key, fresh-key}
+use Rattle.rules_outcome.specs.NamedKey.{OpensUnder}
+use Rattle.rules_outcome.specs.Meets.{refusalRows, Meets, Refused, lowest, over-then}
 use Rattle.rules_outcome.specs.Judging.{SomeHolds}
 use Rattle.rules_outcome.specs.Inband.{Beside, UnderLent}
-use Rattle.rules_outcome.proofs.First.{above-holds}
-use Rattle.rules_outcome.proofs.Answering.{numbers-rise, lasts}
-use Rattle.rules_outcome.proofs.Meets.{meets-2, meets-holds, refused-is, accepted-is}
+use Rattle.rules_outcome.proofs.First.{exceed-holds}
+use Rattle.rules_outcome.proofs.Meets.{onFrame, meets-2, meets-rows, not-low, met-or-over, refused-is, accepted-is}
+use Rattle.rules_outcome.proofs.Runs.{outcome-profile}
 use Rattle.rules_outcome.proofs.Rows.{inband-row}
 use Rattle.rules_outcome.proofs.RunsClear.{clear}
 use Rattle.rules_outcome.proofs.RunsReplay.{kept-least}
@@ -46,14 +47,16 @@ use Rattle.rules_outcome.proofs.InbandBeside.{beside}
 
 -- ---- number 2, for an empty member
 -- where 2 is met, and the layout is whole, 2 is given
-met-2 : (limits : Limits) (s : State) (now : ℕ) (lent octets : List ℕ) (f : Frame) → IsFrame octets f →
+met-2 : (limits : Limits) (s : State) (now : ℕ) (lent octets : List ℕ) (f : Frame) → IsFrame (s .profile) octets f →
     Meets limits s now lent octets 2 → (n : ℕ) (next : State) → Outcome limits s now lent octets n next → (n ≡ 2) × (next ≡ s)
 met-2 limits s now lent octets f e m zero next o = absurd (accepted-is limits s now lent octets next o .none 2 m)
-met-2 limits s now lent octets f e m (suc n) next o =
-    let r = refused-is limits s now lent octets n next o in
-    let low : 1 < suc n = above-holds 1 (conditions limits s now lent f) (numbers-rise limits s now lent f) (suc n)
-    (meets-holds limits s now lent octets f e (suc n) (r .meets)) in
-    (lt-cases 2 (suc n) (λ h. absurd (r .lowest 2 h m)) (λ h. omega arith), r .stays)
+met-2 limits s now lent octets f e m (suc n) next o = by (refused-is limits s now lent octets n next o)
+  where
+    by : Refused limits s now lent octets (suc n) next → (suc n ≡ 2) × (next ≡ s)
+    by (lowest x none q) =
+        let low = not-low limits s now lent octets f e (suc n) x in
+        (lt-cases 2 (suc n) (λ h. absurd (none 2 h m)) (λ h. omega arith), q)
+    by (over-then q x none z) = absurd (none 2 m)
 
 -- a member value with every SA due is empty, or breaks its list
 empty-applies : (limits : Limits) (s : State) (now : ℕ) (f : Frame) → Inband f → all (due now) (sasOf (s .table)) ≡ true →
@@ -78,42 +81,48 @@ no-3 : (s : State) (f : Frame) → Inband f → applies (number3 s (f .header .e
 unfolding notAcceptable one
 no-3 s f b = rw (inband-row f b)
 
-module _ (limits : Limits) (s : State) (now : ℕ) (lent octets : List ℕ) (f : Frame) (e : IsFrame octets f) (b : Inband f) where
-  holds-3 : SomeHolds (conditions limits s now lent f) 3 → ⊥
+module _ (limits : Limits) (s : State) (now : ℕ) (lent octets : List ℕ) (f : Frame) (e : IsFrame (s .profile) octets f) (b : Inband f) where
+  -- no row of the table has number 3 and holds
+  holds-3 : SomeHolds (map (onFrame f) (refusalRows limits s now lent)) 3 → ⊥
   holds-3 (inl h) = let y = h .1 in omega arith
   holds-3 (inr (inl h)) = false≢true (sym (no-3 s f b) ∙ h .0)
   holds-3 (inr (inr h)) =
-      let later = map byClauses (number4 f ∷ number5 lent f ∷ number6 s now f ∷ number7 limits s now f ∷ []) ++ lasts limits s now lent f in
-      let y = above-holds 3 later refl 3 h in
+      let later = map byClauses (number4 f ∷ number5 lent f ∷ number6 s now f ∷ number7 limits s now f ∷ [])
+      ++ (record { number = 8; holds = KeyConflictOf limits s now lent f }
+      ∷ record { number = 9; holds = KeyMissingOf limits s now lent f } ∷ []) in
+      let y = exceed-holds 3 later refl 3 h in
       omega arith
 
   not-3 : (n : ℕ) (next : State) → Outcome limits s now lent octets n next → n ≡ 3 → ⊥
   not-3 zero next o z = omega arith
   not-3 (suc n) next o z =
-      holds-3
-      (subst (SomeHolds (conditions limits s now lent f)) z
-      (meets-holds limits s now lent octets f e (suc n) (refused-is limits s now lent octets n next o .meets)))
+      ⊎-elim (λ x. holds-3 (meets-rows limits s now lent octets f e 3 (subst (Meets limits s now lent octets) z x)))
+      (λ p. let q = p .0 in omega arith) (met-or-over limits s now lent octets n next o)
 
 -- ---- THE THEOREMS
-module _ (limits : Limits) (s : State) (now : ℕ) (lent octets : List ℕ) (f : Frame) (e : IsFrame octets f) (b : Inband f)
+module _ (limits : Limits) (s : State) (now : ℕ) (lent octets : List ℕ) (f : Frame) (e : IsFrame (s .profile) octets f) (b : Inband f)
     (n : ℕ) (next : State) (o : Outcome limits s now lent octets n next) where
   -- "does not compare its SPIs; number 3 is not judged, because IKEv2 guards its order": with any other SPIs and Message ID, and the same
   -- payloads, the answer and the next member are the same. So neither of them leaves a trace
-  pub header-not-read : (others : List ℕ) (g : Frame) → IsFrame others g → Inband g → f .payloads ≡ g .payloads →
+  pub header-not-read : (others : List ℕ) (g : Frame) → IsFrame (s .profile) others g → Inband g → f .payloads ≡ g .payloads →
       Outcome limits s now lent others n next
   header-not-read others g d c p =
-      let r = beside limits now lent octets others f g e d b c p s s refl refl n next o in
+      let r = beside limits now lent octets others f g b c p s s e d refl refl n next o in
       let l : r .after .least ≡ next .least = ⊎-elim (λ q. q .1 ∙ sym (q .0)) (λ q. q) (r .least) in
-      let w : r .after ≡ next = λ k. record { table = r .table k; held = (r .held .1 ∙ sym (r .held .0)) k; least = l k } in
+      let o′ : r .after .profile ≡ next .profile =
+      outcome-profile limits s now lent others n (r .after) (r .outcome) ∙ sym (outcome-profile limits s now lent octets n next o) in
+      let w : r .after ≡ next =
+      λ k. record { table = r .table k; held = (r .held .1 ∙ sym (r .held .0)) k; least = l k; profile = o′ k } in
       subst (Outcome limits s now lent others n) w (r .outcome)
 
   -- number 3 is not judged: with any other least Message ID, "none any more" too, the answer is the same, and so are the next table and the
   -- held list
   pub least-not-judged : (l : Least) →
-      Beside limits s (record { table = s .table; held = s .held; least = l }) now lent octets n next
+      Beside limits s (record { table = s .table; held = s .held; least = l; profile = s .profile }) now lent octets n next
   unfolding stateFormed
   least-not-judged l =
-      beside limits now lent octets octets f f e e b b refl s (record { table = s .table; held = s .held; least = l }) refl refl n next o
+      beside limits now lent octets octets f f b b refl s (record { table = s .table; held = s .held; least = l; profile = s .profile }) e e
+      refl refl n next o
 
   -- and it is never the answer
   pub never-3 : n ≡ 3 → ⊥
@@ -122,11 +131,12 @@ module _ (limits : Limits) (s : State) (now : ℕ) (lent octets : List ℕ) (f :
   -- "held keys, in demand 3 too, are for GSA_REKEY only": of a member that is as it must be, with any other held list that is so the answer
   -- is the same, and so is the next table
   pub held-not-read : (h : Held) → stateFormed limits s ≡ true →
-      stateFormed limits (record { table = s .table; held = h; least = s .least }) ≡ true →
-      Beside limits s (record { table = s .table; held = h; least = s .least }) now lent octets n next
+      stateFormed limits (record { table = s .table; held = h; least = s .least; profile = s .profile }) ≡ true →
+      Beside limits s (record { table = s .table; held = h; least = s .least; profile = s .profile }) now lent octets n next
   held-not-read h w v =
-      beside limits now lent octets octets f f e e b b refl s (record { table = s .table; held = h; least = s .least }) refl (w ∙ sym v) n
-      next o
+      beside limits now lent octets octets f f b b refl s
+      (record { table = s .table; held = h; least = s .least; profile = s .profile }) e e
+      refl (w ∙ sym v) n next o
 
   -- "refuses it for an empty member": at a tick at which every SA is due, or with none, it is number 2, whatever the frame holds and
   -- whatever the member is otherwise
@@ -135,7 +145,7 @@ module _ (limits : Limits) (s : State) (now : ℕ) (lent octets : List ℕ) (f :
 
   -- "The held list stays."
   pub held-stays : next .held ≡ s .held
-  held-stays = beside limits now lent octets octets f f e e b b refl s s refl refl n next o .held .0
+  held-stays = beside limits now lent octets octets f f b b refl s s e e refl refl n next o .held .0
 
   -- "The least Message ID changes only if a new Rekey SA comes."
   pub least-stays : newRekey f ≡ false → next .least ≡ s .least
@@ -148,7 +158,7 @@ module _ (limits : Limits) (s : State) (now : ℕ) (lent octets : List ℕ) (f :
       kept-by : (m : ℕ) (after : State) → Outcome limits s now lent octets m after → after .least ≡ s .least
       kept-by _ _ (no-layout none) = refl
       kept-by m after (by-tree h z j) =
-          kept-judged m after (subst (λ (k : Frame). Judged limits s now lent k m after) (one-tree octets h f z e) j)
+          kept-judged m after (subst (λ (k : Frame). Judged limits s now lent k m after) (one-tree (s .profile) octets h f z e) j)
 
 -- "Its key 0 is the lent key; held keys, in demand 3 too, are for GSA_REKEY only": a copy of an announced SA's key opens under the lent
 -- key, named by KWK ID 0, and under nothing else
@@ -158,7 +168,8 @@ module _ (limits : Limits) (s : State) (now : ℕ) (lent : List ℕ) (f : Frame)
   named-lent k v (lent-in-band g z d) = (z, d)
   named-lent k v (own-key x z d) = absurd (omega arith)
   named-lent k v (last-of-chain g c) = absurd (⊎-elim (λ x. omega arith) (λ x. omega arith) g)
-  named-lent k v (held-key x h m z d) = absurd (omega arith)
+  named-lent k v (held-key x h m c z d) = absurd (omega arith)
+  named-lent k v (fresh-key x c) = absurd (omega arith)
 
   pub opens-under-lent : (a : GroupSaPolicy) (x : List ℕ) → OpensUnder limits s now lent f a x ↔ UnderLent lent f a x
   opens-under-lent a x = (

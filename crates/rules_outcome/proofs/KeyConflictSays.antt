@@ -2,31 +2,33 @@
 -- fails the
 -- check, or whose KWK ID names no key, "leads nowhere and is no fault".
 use Prim.Native.Nat.{ℕ}
-use mathlib.Core.Path.{_≡_, refl, sym, subst, _∙_}
-use mathlib.Core.Logic.{_⊎_, ⊎-elim, _↔_}
-use mathlib.Core.List.{List, []}
+use mathlib.Core.Path.{_≡_, refl, ap, sym, subst, _∙_}
+use mathlib.Core.Logic.{_↔_}
+use mathlib.Core.List.{List, [], _++_}
 use lib.ListN.{length}
 use Rattle.state_keys.specs.Limits.{Limits}
+use Rattle.wire_attributes.specs.Tree.{WrapKey}
 use Rattle.wire_policies.specs.Policy.{GroupSaPolicy}
 use Rattle.wire_frames.specs.Frame.{Frame}
 use Rattle.wire_frames.specs.Grammar.{IsFrame}
 use Rattle.state.specs.declared.State.{State}
-use Rattle.rules_refusals.specs.Contents.{announced, wrapKeysOf}
+use Rattle.rules_refusals.specs.Contents.{announced, wrapKeysOf, freshKeysOf}
 use Rattle.rules_chains.specs.Chain.{In, Root, Reached, CopyOpens}
 use Rattle.rules_chains.specs.Refusals.{EntriesConflict, CopiesConflict, of-entries, of-copies}
 use Rattle.rules_chains.specs.Refusals as refusals
 use Rattle.rules_chains.proofs.Determined.{last-entry}
-use Rattle.rules_outcome.specs.Roots.{rootsOf, entriesOf, wrappingSize, announcedAs, announcedKeys}
+use Rattle.rules_outcome.specs.Roots.{ownKey, rootsOf, entriesOf, wrappingSize, announcedAs, announcedKeys}
 use Rattle.rules_outcome.specs.Answer.{KeyConflictOf}
-use Rattle.rules_outcome.specs.NamedKey.{Registration, Rekey, Given, OpensUnder}
-use Rattle.rules_outcome.specs.KeyConflictSays.{KeyConflictSays, key-of-wrong-size, key-of-two-values, sa-of-wrong-size}
-use Rattle.rules_outcome.specs.KeyConflictSays.{sa-of-two-values}
+use Rattle.rules_outcome.specs.NamedKey.{Registration, OpensUnder}
+use Rattle.rules_outcome.specs.KeyConflictSays.{KeyConflictSays, key-of-wrong-size, key-of-two-values, fresh-of-wrong-size}
+use Rattle.rules_outcome.specs.KeyConflictSays.{fresh-of-two-values, sa-of-wrong-size, sa-of-two-values}
 use Rattle.rules_outcome.specs.Meets.{Meets}
-use Rattle.rules_outcome.proofs.Rows.{registration-row, lent-size}
+use Rattle.rules_outcome.proofs.Rows.{registration-row, lent-size, rekeys, own-size}
 use Rattle.rules_outcome.proofs.Meets.{meets-8, eight-met}
 use Rattle.rules_outcome.proofs.Demands.{passes-2-and-4}
 use Rattle.rules_outcome.proofs.Members.{not-in-none, in-map, map-in}
-use Rattle.rules_outcome.proofs.NamedKey.{to-under, under-to, to-lent, from-lent}
+use Rattle.rules_outcome.proofs.NamedKey.{Passes, registers, in-band, over-sa, to-under, under-to, to-lent, to-fresh}
+use Rattle.rules_outcome.proofs.NamedKey.{given-reached, fresh-reached}
 
 module _ (limits : Limits) (s : State) (now : ℕ) (lent : List ℕ) (f : Frame) where
   abbrev Says : Type 0
@@ -38,25 +40,38 @@ module _ (limits : Limits) (s : State) (now : ℕ) (lent : List ℕ) (f : Frame)
   abbrev size : ℕ
   size = wrappingSize limits s now lent f
 
-  -- what numbers 2 and 4 let pass: registrations, and rekeys with no WRAP_KEY
-  module _ (fit : Registration f ⊎ (Rekey f × (wrapKeysOf f ≡ []))) where
-    -- a rekey reaches nothing
-    reached-registers : (k : ℕ) (x : List ℕ) → Reached roots (entriesOf f) size k x → Registration f
-    reached-registers k x r =
-        ⊎-elim (λ g. g)
-        (λ q. absurd (not-in-none (r .last) (subst (In (r .last)) (q .1) (last-entry roots (entriesOf f) size k x r .0)))) fit
+  -- of what the layout and numbers 2 and 4 let pass
+  size-lent : Registration f → size ≡ length lent
+  size-lent g = lent-size limits s now f (registration-row f g) lent
 
-    gives : (k : ℕ) (x : List ℕ) → Reached roots (entriesOf f) size k x → Given lent f k x
-    gives k x r = to-lent limits s now lent f (reached-registers k x r) k x r
+  size-own : f .header .exchange ≡ 41 → size ≡ length (ownKey limits s now)
+  size-own x = own-size limits s now f (rekeys (f .header .exchange) x) lent
 
-    size-is : Registration f → size ≡ length lent
-    size-is g = lent-size limits s now f (registration-row f g) lent
+  -- an in-band rekey reaches nothing
+  none-in-band : wrapKeysOf f ≡ [] → freshKeysOf f ≡ [] → (k : ℕ) (x : List ℕ) → Reached roots (entriesOf f) size k x → ⊥
+  none-in-band none bare k x r =
+      not-in-none (r .last)
+      (subst (In (r .last)) (ap (λ (l : List WrapKey). l ++ freshKeysOf f) none ∙ bare) (last-entry roots (entriesOf f) size k x r .0))
 
+  of-wrong-size : Passes limits s now lent f → (k : ℕ) (x : List ℕ) → Reached roots (entriesOf f) size k x → (length x ≡ size → ⊥) → Says
+  of-wrong-size (registers g none) k x r d =
+      key-of-wrong-size g k x (to-lent limits s now lent f g none k x r) (λ e. d (e ∙ sym (size-lent g)))
+  of-wrong-size (in-band y none bare) k x r d = absurd (none-in-band none bare k x r)
+  of-wrong-size (over-sa y none) k x r d =
+      fresh-of-wrong-size y k x (to-fresh limits s now lent f y none k x r) (λ e. d (e ∙ sym (size-own y)))
+
+  of-two-values : Passes limits s now lent f → (k : ℕ) (x y : List ℕ) → Reached roots (entriesOf f) size k x →
+      Reached roots (entriesOf f) size k y → (x ≡ y → ⊥) → Says
+  of-two-values (registers g none) k x y r q d =
+      key-of-two-values g k x y (to-lent limits s now lent f g none k x r) (to-lent limits s now lent f g none k y q) d
+  of-two-values (in-band z none bare) k x y r q d = absurd (none-in-band none bare k x r)
+  of-two-values (over-sa z none) k x y r q d =
+      fresh-of-two-values z k x y (to-fresh limits s now lent f z none k x r) (to-fresh limits s now lent f z none k y q) d
+
+  module _ (fit : Passes limits s now lent f) where
     of-entries-says : EntriesConflict roots (entriesOf f) size → Says
-    of-entries-says (refusals.wrong-size k x r d) =
-        let g = reached-registers k x r in key-of-wrong-size g k x (gives k x r) (λ e. d (e ∙ sym (size-is g)))
-    of-entries-says (refusals.two-values k x y r q d) =
-        key-of-two-values (reached-registers k x r) k x y (gives k x r) (gives k y q) d
+    of-entries-says (refusals.wrong-size k x r d) = of-wrong-size fit k x r d
+    of-entries-says (refusals.two-values k x y r q d) = of-two-values fit k x y r q d
 
     opens : (a : GroupSaPolicy) (x : List ℕ) → CopyOpens roots (entriesOf f) size (announcedAs f a .copies) x →
         OpensUnder limits s now lent f a x
@@ -80,18 +95,26 @@ module _ (limits : Limits) (s : State) (now : ℕ) (lent : List ℕ) (f : Frame)
 
     under : (a : GroupSaPolicy) (x : List ℕ) → OpensUnder limits s now lent f a x →
         CopyOpens roots (entriesOf f) size (announcedAs f a .copies) x
-    under a x o = under-to limits s now lent f a x o
+    under a x o = under-to limits s now lent f fit a x o
 
     says-eight : Says → KeyConflictOf limits s now lent f
     says-eight (key-of-wrong-size g k x r d) =
-        of-entries (refusals.wrong-size k x (from-lent limits s now lent f g k x r) (λ e. d (e ∙ size-is g)))
+        of-entries (refusals.wrong-size k x (given-reached limits s now lent f fit fit g k x r) (λ e. d (e ∙ size-lent g)))
     says-eight (key-of-two-values g k x y r q d) =
-        of-entries (refusals.two-values k x y (from-lent limits s now lent f g k x r) (from-lent limits s now lent f g k y q) d)
+        of-entries
+        (refusals.two-values k x y (given-reached limits s now lent f fit fit g k x r)
+        (given-reached limits s now lent f fit fit g k y q) d)
+    says-eight (fresh-of-wrong-size g k x r d) =
+        of-entries (refusals.wrong-size k x (fresh-reached limits s now lent f fit fit g k x r) (λ e. d (e ∙ size-own g)))
+    says-eight (fresh-of-two-values g k x y r q d) =
+        of-entries
+        (refusals.two-values k x y (fresh-reached limits s now lent f fit fit g k x r)
+        (fresh-reached limits s now lent f fit fit g k y q) d)
     says-eight (sa-of-wrong-size a m x o d) = copies-eight a m (refusals.wrong-size x (under a x o) d)
     says-eight (sa-of-two-values a m x y o p d) = copies-eight a m (refusals.two-values x y (under a x o) (under a y p) d)
 
   -- THE CLAIM, of a frame that numbers 2 and 4 let pass ("each is judged only when the lower ones don't apply")
-  pub eight-exactly : (octets : List ℕ) → IsFrame octets f → (Meets limits s now lent octets 2 → ⊥) →
+  pub eight-exactly : (octets : List ℕ) → IsFrame (s .profile) octets f → (Meets limits s now lent octets 2 → ⊥) →
       (Meets limits s now lent octets 4 → ⊥) → Meets limits s now lent octets 8 ↔ KeyConflictSays limits s now lent f
   eight-exactly octets e no-2 no-4 =
       let fit = passes-2-and-4 limits s now lent octets f e no-2 no-4 in (

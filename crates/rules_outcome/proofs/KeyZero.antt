@@ -34,7 +34,7 @@ use Rattle.rules_outcome.proofs.RunsClear.{None, none-applies}
 use Rattle.rules_outcome.proofs.RunsLists.{some-passes}
 use Rattle.rules_outcome.proofs.RunsLive.{passes-over}
 
-module _ (limits : Limits) (s : State) (now : ℕ) (lent octets : List ℕ) (f : Frame) (e : IsFrame octets f)
+module _ (limits : Limits) (s : State) (now : ℕ) (lent octets : List ℕ) (f : Frame) (e : IsFrame (s .profile) octets f)
     (x : f .header .exchange ≡ 41) (no-2 : Meets limits s now lent octets 2 → ⊥)
     -- the octets of an SA are an array of 68; `KeyZeroInRuns` has the claim without this premise
     (long : (b : Sa) → In b (sasOf (s .table)) → 68 ≤ length (b .octets)) where

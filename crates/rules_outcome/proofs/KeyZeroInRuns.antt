@@ -3,6 +3,7 @@
 use native.Mathlib.Omega.{arith}
 use Prim.Native.Nat.{ℕ, _-_, _≤_}
 use mathlib.Core.Path.{_≡_, ap, sym, subst}
+use mathlib.Core.Bool.{Bool}
 use mathlib.Core.Logic.{⊎-elim}
 use mathlib.Core.List.{List, [], _∷_, List·Memᴰ, List·Memᴰ·not-nil, List·Memᴰ·cases-cons}
 use lib.ListN.{length, take, replicate, length-append, length-replicate}
@@ -45,5 +46,6 @@ blank-zero s k now lent octets f e x no-2 =
     (λ b m. blank-long b (each-blank (sasOf (s .table)) (k .table .each) b (in-member b (sasOf (s .table)) m)))
 
 -- THE CLAIM
-pub key-zero-in-runs : {e : State} {l : List Event} (r : Run limits (newState limits) l e) → Throughout limits (ZeroOfRekeys limits) r
-key-zero-in-runs r = each-of limits (StateBlank limits) (ZeroOfRekeys limits) blank-zero r (members-blank r)
+pub key-zero-in-runs : (profile : Bool) {e : State} {l : List Event} (r : Run limits (newState limits profile) l e) →
+    Throughout limits (ZeroOfRekeys limits) r
+key-zero-in-runs profile r = each-of limits (StateBlank limits) (ZeroOfRekeys limits) blank-zero r (members-blank profile r)

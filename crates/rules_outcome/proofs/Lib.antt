@@ -1,3 +1,6 @@
+pub mod AnyOrder
+pub mod AnyOrderOfFrame
+pub mod AboutHeld
 pub mod First
 pub mod Members
 pub mod Readings
@@ -6,6 +9,7 @@ pub mod Meets
 pub mod Rows
 pub mod Enters
 pub mod Bags
+pub mod PathBefore
 pub mod PathKeys
 pub mod HeldList
 pub mod Accepting
@@ -24,10 +28,12 @@ pub mod WrapsItself
 pub mod RunsClear
 pub mod RunsNeeds
 pub mod RunsSpis
+pub mod FreshRead
 pub mod RunsMade
 pub mod RunsTable
 pub mod RunsOld
 pub mod RunsAccepted
+pub mod KeySizes
 pub mod RunsHeld
 pub mod Runs
 pub mod RestSpis
@@ -44,6 +50,11 @@ pub mod InbandBeside
 pub mod Inband
 pub mod KeyZero
 pub mod KeyZeroInRuns
+pub mod Room
+pub mod HeldRekey
+pub mod AsBefore
+pub mod BeforeOne
+pub mod Judged9
 pub mod Demand3
 pub mod DemandsHold
 pub mod Stands

@@ -12,7 +12,8 @@ use Rattle.rules_refusals.specs.Number5.{number5OfFrame}
 use Rattle.rules_chains.specs.Chain.{Root}
 use Rattle.rules_outcome.specs.Roots.{rootsOf, entriesOf, wrappingSize}
 use Rattle.rules_outcome.specs.Answer.{RefusalCase, First, conditions, FrameAnswers}
-use Rattle.rules_outcome.specs.After.{newRekey, rekeyCopies, Enter, HeldSet, HeldBy, After}
+use Rattle.rules_outcome.specs.Holding.{newRekey, rekeyCopies, heldBefore, HeldNext}
+use Rattle.rules_outcome.specs.After.{Enter, After}
 use Rattle.rules_outcome.specs.Outcome.{Judged, refused, accepted, Outcome, no-layout, by-tree}
 use Rattle.rules_outcome.proofs.Rows.{own-roots, own-size, not-judged}
 
@@ -46,19 +47,18 @@ module _ (limits : Limits) (s : State) (now : ℕ) (lent other : List ℕ) where
           enter = carried (λ r n. Enter r (entriesOf f) n now f (announced f) (a .new)) (a .enter);
           table = a .table;
           held =
-              carried
-              (λ r n.
-              HeldBy (rowOf f .registers) (HeldSet r (entriesOf f) n (newRekey f) limits (rekeyCopies f) (next .held))
-              (next .held ≡ s .held))
+              carried (λ r n. HeldNext r (entriesOf f) n limits (newRekey f) (rekeyCopies f)
+              (heldBefore limits (rowOf f .registers) (s .held)) (next .held))
               (a .held);
           least = a .least;
+          profile = a .profile;
         }
 
     same-judged : (n : ℕ) (next : State) → Judged limits s now lent f n next → Judged limits s now other f n next
     same-judged _ _ (refused n p) = refused n (same-answer _ p)
     same-judged _ _ (accepted next p a) = accepted next (same-answer 0 p) (same-after next a)
 
-  pub same-outcome : (octets : List ℕ) → ((f : Frame) → IsFrame octets f → rowOf f ≡ rekey) → (n : ℕ) (next : State) →
+  pub same-outcome : (octets : List ℕ) → ((f : Frame) → IsFrame (s .profile) octets f → rowOf f ≡ rekey) → (n : ℕ) (next : State) →
       Outcome limits s now lent octets n next → Outcome limits s now other octets n next
   same-outcome octets e _ _ (no-layout none) = no-layout none
   same-outcome octets e n next (by-tree f d j) = by-tree f d (same-judged f (e f d) n next j)

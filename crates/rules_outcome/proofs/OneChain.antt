@@ -15,7 +15,7 @@ use Rattle.wire_attributes.specs.Tree.{WrapKey, SaKey}
 use Rattle.state.specs.Held.{has, distinct}
 use Rattle.state.proofs.Kept.{distinct-parts}
 use Rattle.rules_chains.specs.Chain.{In, Root, Chain, root, step}
-use Rattle.rules_chains.specs.Path.{keyIds, NotAfter, Opener, KeyPath}
+use Rattle.rules_chains.specs.Path.{keyIds, startId, NotAfter, Opener, KeyPath}
 use Rattle.rules_chains.proofs.Members.{in-member}
 use Rattle.rules_outcome.proofs.Members.{in-head}
 use Rattle.rules_outcome.proofs.RunsLists.{none-passes}
@@ -72,11 +72,18 @@ module _ (lent : List ℕ) (l : List WrapKey) (once : distinct (keyIds l) ≡ tr
         one-chain p (a .kwkId) v c q (y .copy .kwkId) (y .value) (y .chain)
         (ap (λ (b : SaKey). b .kwkId) (sym (one-entry (y .copy) a (y .stands))))
 
-    pub only-path : KeyPath R l size (a ∷ []) (keyIds p)
+    same-start : (q : List WrapKey) (y : Opener R l size (a ∷ []) q) → startId (a .kwkId) p ≡ startId (y .copy .kwkId) q
+    same-start q y =
+        ap (startId (a .kwkId)) (same-entries q y)
+        ∙ ap (λ (b : SaKey). startId (b .kwkId) q) (sym (one-entry (y .copy) a (y .stands)))
+
+    pub only-path : KeyPath R l size (a ∷ []) (keyIds p) (startId (a .kwkId) p)
     only-path = record {
       passed = p;
       opener = record { copy = a; stands = in-head a a [] refl; value = v; chain = c; octets = x; opens = o };
       written = refl;
+      ends = refl;
       fewest = λ q y. let e : length p ≡ length q = ap length (same-entries q y) in omega (arith, e);
       smallest = λ q y e. subst (λ (z : List WrapKey). NotAfter (keyIds p) (keyIds z)) (same-entries q y) (itself (keyIds p));
+      lowest = λ q y e. let z = same-start q y in omega (arith, z);
     }

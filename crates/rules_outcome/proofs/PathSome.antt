@@ -9,7 +9,7 @@ use lib.ListN.{length, length-map}
 use Rattle.state_keys.proofs.Cases.{lt-cases}
 use Rattle.wire_attributes.specs.Tree.{WrapKey, SaKey}
 use Rattle.rules_chains.specs.Chain.{Root}
-use Rattle.rules_chains.specs.Path.{keyIds, NotAfter, Opener, KeyPath}
+use Rattle.rules_chains.specs.Path.{keyIds, startId, NotAfter, Opener, KeyPath}
 
 -- one of P has the least measure
 least-some : {A : Type 0} (P : A → Type 0) (m : A → ℕ) (n : ℕ) (a : A) → P a → m a ≤ n →
@@ -59,17 +59,28 @@ module _ (roots : List Root) (entries : List WrapKey) (size : ℕ) (copies : Lis
   as-long : (n : ℕ) (ids : List ℕ) → Written n ids → length ids ≡ n
   as-long n ids w = ap length (sym (w .written)) ∙ length-map (w .passed) (λ (e : WrapKey). e .keyId) ∙ w .count
 
+  -- the key that such an opener started with
+  abbrev endOf : (n : ℕ) (ids : List ℕ) → Written n ids → ℕ
+  endOf n ids w = startId (w .opener .copy .kwkId) (w .passed)
+
   pub path-some : (q : List WrapKey) → Opener roots entries size copies q →
-      ((ids : List ℕ) → KeyPath roots entries size copies ids → ⊥) → ⊥
+      ((ids : List ℕ) (end : ℕ) → KeyPath roots entries size copies ids end → ⊥) → ⊥
   path-some q o none =
       least-some (Opener roots entries size copies) (λ (l : List WrapKey). length l) (length q) q o (omega arith) (λ p r few.
       least-list (length p) (Written (length p)) (as-long (length p)) (keyIds p)
-      (record { passed = p; opener = r; written = refl; count = refl }) (λ ids w small.
-      none ids
+      (record { passed = p; opener = r; written = refl; count = refl }) (λ ids v small.
+      least-some (λ (w : Written (length p) ids). Unit {0}) (endOf (length p) ids) (endOf (length p) ids v) v tt (omega arith) (λ w u low.
+      none ids (endOf (length p) ids w)
       (record {
         passed = w .passed;
         opener = w .opener;
         written = w .written;
+        ends = refl;
         fewest = λ other x. let c = w .count in let f = few other x in omega (arith, c, f);
         smallest = λ other x e. small (keyIds other) (record { passed = other; opener = x; written = refl; count = e ∙ w .count });
-      })))
+        lowest = λ other x e.
+            let n = length-map other (λ (d : WrapKey). d .keyId) in
+            let m = as-long (length p) ids w in
+            let k : length (keyIds other) ≡ length ids = ap length e in
+            low (record { passed = other; opener = x; written = e; count = omega (arith, n, m, k) }) tt;
+      }))))

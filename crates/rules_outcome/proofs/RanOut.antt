@@ -45,14 +45,15 @@ third true b c d e = refl
 third false true c d e = refl
 third false false c d e = rw e
 
-module _ (limits : Limits) (now : ℕ) (lent octets : List ℕ) (f : Frame) (e : IsFrame octets f) (x : f .header .exchange ≡ 41) where
+module _ (limits : Limits) (now : ℕ) (lent octets : List ℕ) (f : Frame) (x : f .header .exchange ≡ 41) where
   abbrev spi : List ℕ
   spi = f .header .spi
 
   -- 2 is given where no live Rekey SA with these SPIs stands at the tick, and for a member value that breaks its list
-  pub none-stands : (s : State) → any (overLiveRekey spi) (notDueSas now s) ≡ false → Outcome limits s now lent octets 2 s
+  pub none-stands : (s : State) → IsFrame (s .profile) octets f → any (overLiveRekey spi) (notDueSas now s) ≡ false →
+      Outcome limits s now lent octets 2 s
   unfolding one otherSpis
-  none-stands s n =
+  none-stands s e n =
       let y = f .header .exchange in
       let other : otherSpis s now y spi ≡ true = rw (ap exchangeOf x, n) in
       by-tree f e
@@ -63,9 +64,9 @@ module _ (limits : Limits) (now : ℕ) (lent octets : List ℕ) (f : Frame) (e :
         refl,
       )))
 
-  broken : (s : State) → stateFormed limits s ≡ false → Outcome limits s now lent octets 2 s
+  broken : (s : State) → IsFrame (s .profile) octets f → stateFormed limits s ≡ false → Outcome limits s now lent octets 2 s
   unfolding one
-  broken s n =
+  broken s e n =
       let y = f .header .exchange in
       by-tree f e
       (refused 1
@@ -75,7 +76,13 @@ module _ (limits : Limits) (now : ℕ) (lent octets : List ℕ) (f : Frame) (e :
         refl,
       )))
 
-  module _ (s : State) (b : Sa) (m : In b (sasOf (s .table))) (over : overLiveRekey spi b ≡ true) (is-due : due now b ≡ true) where
+  -- sweeping keeps the profile
+  swept-reads : (s : State) → IsFrame (s .profile) octets f → IsFrame (sweptState limits now s .profile) octets f
+  unfolding sweptState
+  swept-reads s e = bool-cases (stateFormed limits s) (λ g. rw g e) (λ g. rw g e)
+
+  module _ (s : State) (e : IsFrame (s .profile) octets f) (b : Sa) (m : In b (sasOf (s .table))) (over : overLiveRekey spi b ≡ true)
+      (is-due : due now b ≡ true) where
     -- no other live Rekey SA is in the table of a member that is as it must be
     module _ (fit : stateFormed limits s ≡ true) where
       table-is : tableFormed limits (s .table) ≡ true
@@ -109,12 +116,13 @@ module _ (limits : Limits) (now : ℕ) (lent octets : List ℕ) (f : Frame) (e :
     -- THE LAW: a live Rekey SA of the member has the SPIs of a GSA_REKEY and is due at its tick. Whatever else the frame holds, the answer
     -- is 2 and the member stays; and so it is where the member was swept at that tick
     pub over-ran-out : Outcome limits s now lent octets 2 s
-    over-ran-out = bool-cases (stateFormed limits s) (λ g. none-stands s (none-left g s (λ c k. k))) (broken s)
+    over-ran-out = bool-cases (stateFormed limits s) (λ g. none-stands s e (none-left g s (λ c k. k))) (broken s e)
 
     pub over-swept : Outcome limits (sweptState limits now s) now lent octets 2 (sweptState limits now s)
     over-swept =
-        bool-cases (stateFormed limits s) (λ g. none-stands (sweptState limits now s) (none-left g (sweptState limits now s) (swept-of g)))
-        (λ g. subst (λ (t : State). Outcome limits t now lent octets 2 t) (swept-no limits s now g) (broken s g))
+        bool-cases (stateFormed limits s)
+        (λ g. none-stands (sweptState limits now s) (swept-reads s e) (none-left g (sweptState limits now s) (swept-of g)))
+        (λ g. subst (λ (t : State). Outcome limits t now lent octets 2 t) (swept-no limits s now g) (broken s e g))
 
 -- ---- in every member of a run from the new one lifetimes are of "at most 2,000,000 seconds"
 formed-fits : (m : State) → stateFormed limits m ≡ true → LifetimesFit m
@@ -124,5 +132,7 @@ formed-fits m e a i start n q =
     let f = all-pass saFormed (sasOf (m .table)) (formed-fit limits (m .table) t .each) a (in-member a (sasOf (m .table)) i) in
     formed-lifetime a f start n q
 
-pub members-lifetimes : {e : State} {l : List Event} (r : Run limits (newState limits) l e) → Throughout limits LifetimesFit r
-members-lifetimes r = each-of limits (λ (m : State). stateFormed limits m ≡ true) LifetimesFit formed-fits r (members-formed r)
+pub members-lifetimes : (profile : Bool) {e : State} {l : List Event} (r : Run limits (newState limits profile) l e) →
+    Throughout limits LifetimesFit r
+members-lifetimes profile r = each-of limits (λ (m : State). stateFormed limits m ≡ true) LifetimesFit formed-fits r
+    (members-formed profile r)

@@ -2,6 +2,7 @@
 use native.Mathlib.Omega.{arith}
 use Prim.Native.Nat.{ℕ}
 use mathlib.Core.Path.{_≡_, refl, ap, sym, _∙_}
+use mathlib.Core.Bool.{Bool}
 use mathlib.Core.List.{List, []}
 use Rattle.octets.specs.Walk.{Reading, whole, broken}
 use Rattle.state_keys.specs.Limits.{Limits}
@@ -19,28 +20,28 @@ not-both : {A : Type 0} (x : Reading A) (a : A) (rest : List ℕ) (o : ℕ) → 
 not-both x a rest o e d = let z : _≡_ {A = ℕ} 0 1 = ap isBroken (sym e ∙ d) in absurd (omega arith)
 
 -- a reading breaks exactly where no tree is laid out as the octets
-pub broken-none : (octets : List ℕ) (o : ℕ) → frame octets ≡ broken o → NoTree octets
-broken-none octets o e f i = not-both (frame octets) f [] o (frame-read octets f i) e
+pub broken-none : (profile : Bool) (octets : List ℕ) (o : ℕ) → frame profile octets ≡ broken o → NoTree profile octets
+broken-none profile octets o e f i = not-both (frame profile octets) f [] o (frame-read profile octets f i) e
 
-pub none-broken : (octets : List ℕ) → NoTree octets → (o : ℕ) × (frame octets ≡ broken o)
-none-broken octets none = go (frame octets) refl
+pub none-broken : (profile : Bool) (octets : List ℕ) → NoTree profile octets → (o : ℕ) × (frame profile octets ≡ broken o)
+none-broken profile octets none = go (frame profile octets) refl
   where
-    go : (r : Reading Frame) → frame octets ≡ r → (o : ℕ) × (frame octets ≡ broken o)
-    go (whole f rest) e = absurd (none f (read-frame octets f rest e))
+    go : (r : Reading Frame) → frame profile octets ≡ r → (o : ℕ) × (frame profile octets ≡ broken o)
+    go (whole f rest) e = absurd (none f (read-frame profile octets f rest e))
     go (broken o) e = (o, e)
 
 -- where not every tree is ruled out, one is laid out as the octets
-pub tree-of : (octets : List ℕ) → (NoTree octets → ⊥) → (f : Frame) × IsFrame octets f
-tree-of octets some = go (frame octets) refl
+pub tree-of : (profile : Bool) (octets : List ℕ) → (NoTree profile octets → ⊥) → (f : Frame) × IsFrame profile octets f
+tree-of profile octets some = go (frame profile octets) refl
   where
-    go : (r : Reading Frame) → frame octets ≡ r → (f : Frame) × IsFrame octets f
-    go (whole f rest) e = (f, read-frame octets f rest e)
-    go (broken o) e = absurd (some (broken-none octets o e))
+    go : (r : Reading Frame) → frame profile octets ≡ r → (f : Frame) × IsFrame profile octets f
+    go (whole f rest) e = (f, read-frame profile octets f rest e)
+    go (broken o) e = absurd (some (broken-none profile octets o e))
 
 module _ (limits : Limits) (s : State) (now : ℕ) (lent octets : List ℕ) where
-  pub outcome-broken : (o : ℕ) → frame octets ≡ broken o → Outcome limits s now lent octets 1 s
-  outcome-broken o e = no-layout (broken-none octets o e)
+  pub outcome-broken : (o : ℕ) → frame (s .profile) octets ≡ broken o → Outcome limits s now lent octets 1 s
+  outcome-broken o e = no-layout (broken-none (s .profile) octets o e)
 
-  pub outcome-read : (f : Frame) → frame octets ≡ whole f [] → (n : ℕ) (next : State) → Judged limits s now lent f n next →
+  pub outcome-read : (f : Frame) → frame (s .profile) octets ≡ whole f [] → (n : ℕ) (next : State) → Judged limits s now lent f n next →
       Outcome limits s now lent octets n next
-  outcome-read f e n next j = by-tree f (read-frame octets f [] e) j
+  outcome-read f e n next j = by-tree f (read-frame (s .profile) octets f [] e) j

@@ -36,7 +36,8 @@ use Rattle.rules_refusals.specs.Number5.{deleteOfOther, number5OfFrame}
 use Rattle.rules_refusals.proofs.Clear.{no-clause}
 use Rattle.rules_chains.specs.Chain.{In}
 use Rattle.rules_chains.proofs.Members.{in-member, member-in}
-use Rattle.rules_outcome.specs.After.{delayOf, newRekey, isZero, namedInDelete, replaced, retires, oldSa, initialMessageId, leastBy}
+use Rattle.rules_outcome.specs.Holding.{newRekey}
+use Rattle.rules_outcome.specs.After.{delayOf, isZero, namedInDelete, replaced, retires, oldSa, initialMessageId, leastBy}
 use Rattle.rules_outcome.specs.After.{leastAfterwards}
 use Rattle.rules_outcome.specs.Outcome.{Outcome}
 use Rattle.rules_outcome.proofs.HeldList.{new-any, any-new}
@@ -54,7 +55,7 @@ use Rattle.rules_outcome.proofs.RestSpis.{deleted-size}
 use Rattle.rules_outcome.proofs.RestLaws.{sum-at, at-most-one, of-none, of-one, four-zero, zero-four}
 use Rattle.rules_outcome.proofs.RestLaws.{or-left, or-right, or-cases, live-or-retiring}
 
-module _ (limits : Limits) (s : State) (now : ℕ) (lent octets : List ℕ) (f : Frame) (e : IsFrame octets f) where
+module _ (limits : Limits) (s : State) (now : ℕ) (lent octets : List ℕ) (f : Frame) (e : IsFrame (s .profile) octets f) where
   module _ (c : Clear limits s now lent f) where
     -- number 4 lets pass one Rekey policy, one group-wide policy, one GSA_INITIAL_MESSAGE_ID and one delay in it
     one-rekey : count isRekey (announced f) ≤ 1
@@ -218,7 +219,7 @@ module _ (limits : Limits) (s : State) (now : ℕ) (lent octets : List ℕ) (f :
         let esp = eqb-true (a .protocol) 3 (p .0) in
         ⊎-elim
         (λ z.
-        let q = four-zero x (deleted-size octets f e esp-deletes x (r .stands)) z in
+        let q = four-zero x (deleted-size (s .profile) octets f e esp-deletes x (r .stands)) z in
         by-spi-0 esp (subst (λ (y : List ℕ). In y (deletedSpis f)) q m))
         (λ z. by-its-spi esp (subst (λ (y : List ℕ). In y (deletedSpis f)) (sym (same-eq (saSpi a) x z)) m))
         (or-cases (isZero x) (same (saSpi a) x) (r .passes)))

@@ -15,12 +15,11 @@ use Rattle.wire_frames.specs.declared.exchanges.Exchange.{Exchange}
 use Rattle.state.specs.declared.State.{State}
 use Rattle.state.specs.Held.{keysOf}
 use Rattle.wire_bags.specs.Bag.{MemberKeyBag}
-use Rattle.rules_refusals.specs.Contents.{rowOf, some, gather, memberBags, wrapKeysOf}
+use Rattle.rules_refusals.specs.Contents.{rowOf, some, gather, memberBags, wrapKeysOf, freshKeysOf}
 use Rattle.rules_refusals.specs.Number4.{barredMemberBag}
 use Rattle.rules_refusals.specs.Number5.{lentKeySize}
 use Rattle.rules_refusals.proofs.ExchangeRows.{by-row}
-use Rattle.rules_outcome.specs.Roots.{ownKey, keyZeroValue, heldRoot, rootsOf, wrappingSize}
-use Rattle.rules_outcome.specs.After.{After}
+use Rattle.rules_outcome.specs.Roots.{ownKey, keyZeroValue, heldRoot, notCarried, rootsOf, wrappingSize}
 use Rattle.rules_outcome.specs.NamedKey.{Registration, Inband, Rekey, lentRoot}
 
 -- an exchange that sets the held list is a registration
@@ -88,13 +87,10 @@ module _ (limits : Limits) (s : State) (now : ℕ) (f : Frame) where
     unfolding wrappingSize keyZeroValue
     inband-size lent = rw e
 
-    -- "The held list stays."
-    pub inband-held : (lent : List ℕ) (next : State) → After limits s now lent f next → next .held ≡ s .held
-    inband-held lent next a = let h = a .held in rw e at h
-
   module _ (e : rowOf f ≡ rekey) where
     pub own-roots : (lent : List ℕ) →
-        rootsOf limits s now lent f ≡ record { id = 0; value = ownKey limits s now } ∷ map heldRoot (keysOf (s .held))
+        rootsOf limits s now lent f
+        ≡ record { id = 0; value = ownKey limits s now } ∷ map heldRoot (notCarried (freshKeysOf f) (keysOf (s .held)))
     unfolding rootsOf keyZeroValue
     own-roots lent = rw e
 

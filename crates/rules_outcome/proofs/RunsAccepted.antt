@@ -30,7 +30,8 @@ use Rattle.rules_refusals.specs.Number6.{policyNamed, policyTwice, alreadyInTab
 use Rattle.rules_refusals.specs.Number7.{longLifetime, manySas, number7OfFrame, number7OfMember}
 use Rattle.rules_chains.specs.Refusals.{of-copies, wrong-size, KeyOf}
 use Rattle.rules_outcome.specs.Roots.{rootsOf, entriesOf, wrappingSize, needOf, announcedAs, announcedKeys}
-use Rattle.rules_outcome.specs.After.{newRekey, insertAll, oldSas, Enter}
+use Rattle.rules_outcome.specs.Holding.{newRekey}
+use Rattle.rules_outcome.specs.After.{insertAll, oldSas, Enter}
 use Rattle.rules_chains.proofs.Members.{member-in}
 use Rattle.rules_outcome.proofs.RunsLists.{member-map, none-passes, none-count}
 use Rattle.rules_refusals.proofs.Clear.{no-clause}
@@ -96,16 +97,16 @@ module _ (limits : Limits) (s : State) (now : ℕ) (lent : List ℕ) (f : Frame)
       (no-clause (number7OfMember limits s now f) 0 (c .no-7 .ofMember))
 
   -- ---- an announced SA, and the octets that its copies open to
-  pub kinds : (octets : List ℕ) → IsFrame octets f → (a : GroupSaPolicy) → List·Memᴰ a (announced f) → Kind a
+  pub kinds : (octets : List ℕ) → IsFrame (s .profile) octets f → (a : GroupSaPolicy) → List·Memᴰ a (announced f) → Kind a
   kinds octets e a m =
       let auth = rowOf f .authentication in
       bool-cases (isEsp a)
       (λ g.
       let z = esp-sizes auth a (fits a m) (one-length a m) g in
-      an-esp g (esp-spi octets f e a m (eqb-true (a .protocol) 3 g)) (z .0) (z .1))
+      an-esp g (esp-spi (s .profile) octets f e a m (eqb-true (a .protocol) 3 g)) (z .0) (z .1))
       (λ g.
       let z = rekey-sizes auth a (fits a m) (one-length a m) g in
-      a-rekey g (z .0) (rekey-spi octets f e a m (eqb-true (a .protocol) 6 (z .0))) (z .1))
+      a-rekey g (z .0) (rekey-spi (s .profile) octets f e a m (eqb-true (a .protocol) 6 (z .0))) (z .1))
 
   pub opened-size : (a : GroupSaPolicy) → List·Memᴰ a (announced f) → (x : List ℕ) →
       KeyOf (rootsOf limits s now lent f) (entriesOf f) (wrappingSize limits s now lent f) (announcedAs f a) x → length x ≡ needOf a
@@ -132,7 +133,7 @@ module _ (limits : Limits) (s : State) (now : ℕ) (lent : List ℕ) (f : Frame)
       omega arith)
 
   -- ---- the table
-  module _ (octets : List ℕ) (e : IsFrame octets f) (new : List Sa)
+  module _ (octets : List ℕ) (e : IsFrame (s .profile) octets f) (new : List Sa)
       (n : Enter (rootsOf limits s now lent f) (entriesOf f) (wrappingSize limits s now lent f) now f (announced f) new) where
     pub all-made : Made now (announced f) new
     all-made = enter-made n (kinds octets e) lasts opened-size

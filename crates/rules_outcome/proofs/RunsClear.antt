@@ -14,6 +14,7 @@ use Rattle.rules_refusals.proofs.Clear.{or-none}
 use Rattle.rules_refusals.specs.Refusals.{Number, one, applies, number2, number3, number4, number5, number6, number7}
 use Rattle.rules_outcome.specs.After.{After}
 use Rattle.rules_outcome.specs.Outcome.{Judged, refused, accepted, Outcome, no-layout, by-tree}
+use Rattle.rules_outcome.specs.Holding.{OverHeldOf}
 use Rattle.rules_outcome.specs.Answer.{RefusalCase, First, conditions, FrameAnswers, KeyConflictOf, KeyMissingOf}
 
 -- ---- 0 is given where no condition holds: their numbers are above it
@@ -55,6 +56,7 @@ pub record Clear (limits : Limits) (s : State) (now : ℕ) (lent : List ℕ) (f 
   pub no-7 : None (number7 limits s now f)
   pub no-8 : KeyConflictOf limits s now lent f → ⊥
   pub no-9 : KeyMissingOf limits s now lent f → ⊥
+  pub no-over : OverHeldOf limits s now lent f → ⊥
 
 pub clear : (limits : Limits) (s : State) (now : ℕ) (lent : List ℕ) (f : Frame) → FrameAnswers limits s now lent f 0 →
     Clear limits s now lent f
@@ -65,7 +67,7 @@ clear limits s now lent f a =
         λ e. omega arith,
         (
           λ e. omega arith,
-          (λ e. omega arith, (λ e. omega arith, (λ e. omega arith, (λ e. omega arith, (λ e. omega arith, tt))))),
+          (λ e. omega arith, (λ e. omega arith, (λ e. omega arith, (λ e. omega arith, (λ e. omega arith, (λ e. omega arith, tt)))))),
         ),
       ),
     ) in
@@ -79,6 +81,7 @@ clear limits s now lent f a =
       no-7 = none-applies (number7 limits s now f) (p .1 .1 .1 .1 .1 .0);
       no-8 = p .1 .1 .1 .1 .1 .1 .0;
       no-9 = p .1 .1 .1 .1 .1 .1 .1 .0;
+      no-over = p .1 .1 .1 .1 .1 .1 .1 .1 .0;
     }
 
 -- ---- an accepted frame, by its octets
@@ -91,12 +94,12 @@ module _ (limits : Limits) (s : State) (now : ℕ) (lent : List ℕ) where
   judged-taken f _ _ (refused n a) e = absurd (omega arith)
   judged-taken f _ _ (accepted next a r) e = record { is-clear = clear limits s now lent f a; after = r }
 
-  outcome-taken : (octets : List ℕ) (f : Frame) (n : ℕ) (next : State) → IsFrame octets f →
+  outcome-taken : (octets : List ℕ) (f : Frame) (n : ℕ) (next : State) → IsFrame (s .profile) octets f →
       Outcome limits s now lent octets n next → n ≡ 0 → Taken limits s now lent next f
   outcome-taken octets f _ _ e (no-layout none) z = absurd (omega arith)
   outcome-taken octets f _ _ e (by-tree h {n} {next} g j) z =
-      subst (Taken limits s now lent next) (one-tree octets h f g e) (judged-taken h n next j z)
+      subst (Taken limits s now lent next) (one-tree (s .profile) octets h f g e) (judged-taken h n next j z)
 
-  pub taken : (octets : List ℕ) (f : Frame) (next : State) → IsFrame octets f → Outcome limits s now lent octets 0 next →
+  pub taken : (octets : List ℕ) (f : Frame) (next : State) → IsFrame (s .profile) octets f → Outcome limits s now lent octets 0 next →
       Taken limits s now lent next f
   taken octets f next e o = outcome-taken octets f 0 next e o refl

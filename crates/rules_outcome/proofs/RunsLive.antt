@@ -31,7 +31,8 @@ use Rattle.rules_refusals.specs.Number2.{notDueSas, overLiveRekey, breaksWanted
 use Rattle.rules_refusals.specs.Refusals.{number2}
 use Rattle.rules_refusals.proofs.Clear.{no-clause}
 use Rattle.rules_chains.proofs.Members.{in-member, member-in}
-use Rattle.rules_outcome.specs.After.{newRekey, namedInDelete, replaced, retires, oldSa, oldSas, insertAll, After}
+use Rattle.rules_outcome.specs.Holding.{newRekey}
+use Rattle.rules_outcome.specs.After.{namedInDelete, replaced, retires, oldSa, oldSas, insertAll, After}
 use Rattle.rules_outcome.specs.Run.{LiveRekey, StandsAt}
 use Rattle.rules_outcome.proofs.Enters.{all-in, old-stayed}
 use Rattle.rules_outcome.proofs.RunsLists.{member-map, all-pass, count-none, none-count, none-passes, passes-none}
@@ -161,7 +162,7 @@ module _ (limits : Limits) (s : State) (now : ℕ) (lent : List ℕ) (f : Frame)
         let stood = in-member (o .old) (sasOf (s .table)) (o .stood) in
         ap liveRekey (o .is) ∙ not-revived now f (o .old) (none-passes liveRekey (sasOf (s .table)) none (o .old) stood))
 
-    module _ (octets : List ℕ) (e : IsFrame octets f) where
+    module _ (octets : List ℕ) (e : IsFrame (s .profile) octets f) where
       none-next : any liveRekey (oldSas s now f) ≡ false → NoneLive next
       none-next old =
           let made = all-made limits s now lent f c octets e (a .new) (a .enter) in

@@ -19,7 +19,8 @@ use Rattle.state_table.proofs.Kept.{Fit, fit-keep, fit-retired, formed-fit, for
 use Rattle.state_table.proofs.Blanks.{swept-blank, retired-where-blank}
 use Rattle.state.specs.declared.State.{State}
 use Rattle.rules_refusals.specs.Number2.{notDueSas}
-use Rattle.rules_outcome.specs.After.{newRekey, namedInDelete, replaced, retires, oldSa, oldSas}
+use Rattle.rules_outcome.specs.Holding.{newRekey}
+use Rattle.rules_outcome.specs.After.{namedInDelete, replaced, retires, oldSa, oldSas}
 
 any-map : {A : Type 0} (g : A → A) (q : A → Bool) → ((a : A) → q (g a) ≡ q a) → (l : List A) → any q (map g l) ≡ any q l
 unfolding any

@@ -9,7 +9,7 @@ use Rattle.wire_frames.specs.Frame.{Frame}
 use Rattle.wire_frames.specs.Grammar.{IsFrame}
 use Rattle.wire_frames.proofs.FrameGrammar.{one-tree}
 use Rattle.state.specs.declared.State.{State}
-use Rattle.rules_outcome.specs.After.{newRekey}
+use Rattle.rules_outcome.specs.Holding.{newRekey}
 use Rattle.rules_outcome.specs.Outcome.{Outcome}
 use Rattle.rules_outcome.specs.Run.{Event, Takes, answered, swept, Run, ends, goes, Quiet, AllQuiet}
 
@@ -18,8 +18,8 @@ module _ (limits : Limits) (s : State) where
     pub refused-quiet : (n ≡ 0 → ⊥) → Quiet limits (answered octets lent now n o)
     refused-quiet h f e z = absurd (h z)
 
-    pub without-rekey-quiet : (f : Frame) → IsFrame octets f → newRekey f ≡ false → Quiet limits (answered octets lent now n o)
-    without-rekey-quiet f e none g e′ z = ap newRekey (one-tree octets g f e′ e) ∙ none
+    pub without-rekey-quiet : (f : Frame) → IsFrame (s .profile) octets f → newRekey f ≡ false → Quiet limits (answered octets lent now n o)
+    without-rekey-quiet f e none g e′ z = ap newRekey (one-tree (s .profile) octets g f e′ e) ∙ none
 
   pub sweep-quiet : (now : ℕ) → Quiet limits {s = s} (swept now)
   sweep-quiet now = tt

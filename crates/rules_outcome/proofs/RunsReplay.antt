@@ -22,7 +22,8 @@ use Rattle.state.proofs.Laws.{after-more, after-last}
 use Rattle.rules_refusals.specs.Contents.{rowOf}
 use Rattle.rules_refusals.specs.Number2.{number2OfFrame}
 use Rattle.rules_refusals.specs.Number3.{notAcceptable, number3OfMember}
-use Rattle.rules_outcome.specs.After.{newRekey, leastBy, leastAfterwards, After}
+use Rattle.rules_outcome.specs.Holding.{newRekey}
+use Rattle.rules_outcome.specs.After.{leastBy, leastAfterwards, After}
 use Rattle.rules_outcome.specs.Outcome.{Judged, refused, accepted, Outcome, no-layout, by-tree}
 use Rattle.rules_outcome.specs.Run.{Event, Takes, answered, swept, left, Run, ends, goes, Throughout, Quiet, AllQuiet, LiveRekey}
 use Rattle.rules_outcome.specs.Run.{StandsAt}
@@ -85,7 +86,8 @@ module _ (limits : Limits) where
 
   -- a step that does not leave and brings no new Rekey SA keeps it
   module _ (i : ℕ) (s : State) where
-    accepted-barred : (now : ℕ) (lent octets : List ℕ) (f : Frame) (next : State) → IsFrame octets f → Clear limits s now lent f →
+    accepted-barred : (now : ℕ) (lent octets : List ℕ) (f : Frame) (next : State) → IsFrame (s .profile) octets f →
+        Clear limits s now lent f →
         After limits s now lent f next → newRekey f ≡ false → Barred i s → Barred i next
     accepted-barred now lent octets f next e c a n b =
         let y = f .header .exchange in
@@ -103,14 +105,14 @@ module _ (limits : Limits) where
         let k = not-false (rowOf f .admitted) (no-clause (number2OfFrame y) 0 (c .no-2 .ofFrame)) in
         absurd (false≢true (rw r at k)))
 
-    judged-barred : (now : ℕ) (lent octets : List ℕ) (f : Frame) (n : ℕ) (next : State) → IsFrame octets f →
+    judged-barred : (now : ℕ) (lent octets : List ℕ) (f : Frame) (n : ℕ) (next : State) → IsFrame (s .profile) octets f →
         Judged limits s now lent f n next → (n ≡ 0 → newRekey f ≡ false) → Barred i s → Barred i next
     judged-barred now lent octets f _ _ e (refused n a) q b = b
     judged-barred now lent octets f _ _ e (accepted next a r) q b =
         accepted-barred now lent octets f next e (clear limits s now lent f a) r (q refl) b
 
     outcome-barred : (now : ℕ) (lent octets : List ℕ) (n : ℕ) (next : State) → Outcome limits s now lent octets n next →
-        ((f : Frame) → IsFrame octets f → n ≡ 0 → newRekey f ≡ false) → Barred i s → Barred i next
+        ((f : Frame) → IsFrame (s .profile) octets f → n ≡ 0 → newRekey f ≡ false) → Barred i s → Barred i next
     outcome-barred now lent octets _ _ (no-layout none) q b = b
     outcome-barred now lent octets _ _ (by-tree f {n} {next} e j) q b = judged-barred now lent octets f n next e j (q f e) b
 
@@ -133,7 +135,7 @@ module _ (limits : Limits) where
   pub is-rekey : (f : Frame) → f .header .exchange ≡ 41 → rowOf f ≡ rekey
   is-rekey f e = ap exchangeOf e
 
-  module _ (s₀ s₁ : State) (now : ℕ) (lent octets : List ℕ) (f : Frame) (e : IsFrame octets f)
+  module _ (s₀ s₁ : State) (now : ℕ) (lent octets : List ℕ) (f : Frame) (e : IsFrame (s₀ .profile) octets f)
       (x : f .header .exchange ≡ 41) (none : newRekey f ≡ false) (o : Outcome limits s₀ now lent octets 0 s₁) (s₂ : State)
       (l : List Event) (r : Run limits s₁ l s₂) (quiet : AllQuiet limits r) where
     was : Taken limits s₀ now lent s₁ f
@@ -160,7 +162,7 @@ module _ (limits : Limits) where
     pub all-past-then : (y : List ℕ) → LiveRekey y s₂ → f .header .messageId ≡ 4294967295 → (i : ℕ) → Past i (s₂ .least)
     all-past-then y k h i = past-of i y k (all-barred-then h i)
 
-    module _ (now′ : ℕ) (lent′ octets′ : List ℕ) (g : Frame) (e′ : IsFrame octets′ g) (x′ : g .header .exchange ≡ 41)
+    module _ (now′ : ℕ) (lent′ octets′ : List ℕ) (g : Frame) (e′ : IsFrame (s₂ .profile) octets′ g) (x′ : g .header .exchange ≡ 41)
         (s₃ : State) where
       refused-then : ((y : List ℕ) → LiveRekey y s₂ → acceptable (g .header .messageId) (s₂ .least) ≡ false) →
           Outcome limits s₂ now′ lent′ octets′ 0 s₃ → ⊥

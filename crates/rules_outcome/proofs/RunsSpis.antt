@@ -2,6 +2,7 @@
 use native.Mathlib.Omega.{arith}
 use Prim.Native.Nat.{ℕ, _+_, _-_}
 use mathlib.Core.Path.{_≡_, refl, ap, sym, _∙_, subst}
+use mathlib.Core.Bool.{Bool}
 use mathlib.Core.Logic.{⊎-elim}
 use mathlib.Core.List.{List, [], _∷_, List·Memᴰ, List·Memᴰ·head, List·Memᴰ·tail, List·Memᴰ·not-nil, List·Memᴰ·cases-cons}
 use mathlib.Core.List.{List·Memᴰ·append-cases, List·Memᴰ·eq-of-singleton}
@@ -11,6 +12,7 @@ use Rattle.octets.specs.Walk.{Spans, none, more, Row, no-more, then}
 use Rattle.wire_policies.specs.Policy.{spiSize, GroupSaPolicy, Policy}
 use Rattle.wire_policies.specs.Grammar.{IsGroupSa, IsPolicy, is-sa, is-wide}
 use Rattle.wire_frames.specs.Frame.{Frame, Payload, Content, noneNext}
+use Rattle.wire_frames.specs.Exchange.{readsFresh}
 use Rattle.wire_frames.specs.Grammar.{IsContent, is-gsa, is-kd, is-delete, is-unread, IsPayload, IsFrame}
 use Rattle.rules_refusals.specs.Contents.{gather, groupSaIn, policiesOfContent, policiesOf, announced}
 
@@ -38,20 +40,22 @@ in-row no-more q m = absurd (List·Memᴰ·not-nil m)
 in-row (then o s i r) q m =
     ⊎-elim (λ e. record { octets = o; is = subst (IsPolicy o) (sym e) i }) (λ w. in-row r q w) (List·Memᴰ·cases-cons m)
 
-in-content : (k : ℕ) (s : List ℕ) (c : Content) → IsContent k s c → (q : Policy) → List·Memᴰ q (policiesOfContent c) → Octets IsPolicy q
-in-content k s _ (is-gsa e r) q m = in-row r q m
-in-content k s _ (is-kd e r) q m = absurd (List·Memᴰ·not-nil m)
-in-content k s _ (is-delete e r) q m = absurd (List·Memᴰ·not-nil m)
-in-content k s _ (is-unread d e f) q m = absurd (List·Memᴰ·not-nil m)
+in-content : (fresh : Bool) (k : ℕ) (s : List ℕ) (c : Content) → IsContent fresh k s c → (q : Policy) → List·Memᴰ q (policiesOfContent c) →
+    Octets IsPolicy q
+in-content fresh k s _ (is-gsa e r) q m = in-row r q m
+in-content fresh k s _ (is-kd e r) q m = absurd (List·Memᴰ·not-nil m)
+in-content fresh k s _ (is-delete e r) q m = absurd (List·Memᴰ·not-nil m)
+in-content fresh k s _ (is-unread d e f) q m = absurd (List·Memᴰ·not-nil m)
 
-in-spans : {k : ℕ} {s rest : List ℕ} {l : List Payload} → Spans noneNext IsPayload k s l rest → (p : Payload) → List·Memᴰ p l →
+in-spans : (fresh : Bool) {k : ℕ} {s rest : List ℕ} {l : List Payload} → Spans noneNext (IsPayload fresh) k s l rest → (p : Payload) →
+    List·Memᴰ p l →
     (q : Policy) → List·Memᴰ q (policiesOfContent (p .content)) → Octets IsPolicy q
-in-spans (none e) p m q n = absurd (List·Memᴰ·not-nil m)
-in-spans {k} (more {st′ = j} o s {a = x} e i r) p m q n =
+in-spans fresh (none e) p m q n = absurd (List·Memᴰ·not-nil m)
+in-spans fresh {k} (more {st′ = j} o s {a = x} e i r) p m q n =
     ⊎-elim
     (λ w.
-    in-content k (drop 4 o) (x .content) (i .content) q (subst (λ (y : Payload). List·Memᴰ q (policiesOfContent (y .content))) w n))
-    (λ w. in-spans r p w q n) (List·Memᴰ·cases-cons m)
+    in-content fresh k (drop 4 o) (x .content) (i .content) q (subst (λ (y : Payload). List·Memᴰ q (policiesOfContent (y .content))) w n))
+    (λ w. in-spans fresh r p w q n) (List·Memᴰ·cases-cons m)
 
 of-policy : (o : List ℕ) (q : Policy) → IsPolicy o q → (a : GroupSaPolicy) → List·Memᴰ a (groupSaIn q) → IsGroupSa o a
 of-policy o _ (is-sa i) a m = subst (IsGroupSa o) (sym (List·Memᴰ·eq-of-singleton m)) i
@@ -64,12 +68,13 @@ spi-of o a i =
     let d = length-drop 4 o in
     ap length (sym (i .spi)) ∙ length-take-le ((4 + n) - 4) (drop 4 o) (omega arith) ∙ omega arith
 
-module _ (octets : List ℕ) (f : Frame) (e : IsFrame octets f) (a : GroupSaPolicy) (m : List·Memᴰ a (announced f)) where
+module _ (profile : Bool) (octets : List ℕ) (f : Frame) (e : IsFrame profile octets f) (a : GroupSaPolicy)
+    (m : List·Memᴰ a (announced f)) where
   pub spi-size : length (a .spi) ≡ spiSize (a .protocol)
   spi-size =
       let q = gathered groupSaIn a (policiesOf f) m in
       let p = gathered (λ (x : Payload). policiesOfContent (x .content)) (q .from) (f .payloads) (q .stands) in
-      let i = in-spans (e .payloads) (p .from) (p .stands) (q .from) (p .gives) in
+      let i = in-spans (readsFresh profile (f .header .exchange)) (e .payloads) (p .from) (p .stands) (q .from) (p .gives) in
       spi-of (i .octets) a (of-policy (i .octets) (q .from) (i .is) a (q .gives))
 
   pub esp-spi : a .protocol ≡ 3 → length (a .spi) ≡ 4

@@ -27,7 +27,7 @@ applies-member n e = rw e (or-true (one (n .ofFrame)))
     or-true true = refl
     or-true false = refl
 
-module _ (limits : Limits) (s : State) (now : ℕ) (lent octets : List ℕ) (f : Frame) (e : IsFrame octets f) where
+module _ (limits : Limits) (s : State) (now : ℕ) (lent octets : List ℕ) (f : Frame) (e : IsFrame (s .profile) octets f) where
   pub outcome-0 : Clear limits s now lent f → (next : State) → After limits s now lent f next → Outcome limits s now lent octets 0 next
   outcome-0 c next a =
       by-tree f e
@@ -46,7 +46,7 @@ module _ (limits : Limits) (s : State) (now : ℕ) (lent octets : List ℕ) (f :
                   not-applies (number7 limits s now f) (c .no-7),
                   inr (
                     c .no-8,
-                    inr (c .no-9, refl),
+                    inr (c .no-9, inr (c .no-over, refl)),
                   ),
                 ),
               ),

@@ -2,9 +2,9 @@
 -- SA_KEY names, or that it is 9.
 use native.Mathlib.Omega.{arith}
 use Prim.Native.Nat.{ℕ, _≤_}
-use mathlib.Core.Path.{_≡_, refl, ap, sym, subst}
+use mathlib.Core.Path.{_≡_, refl, ap, sym, subst, _∙_}
 use mathlib.Core.Bool.{true, false}
-use mathlib.Core.List.{List, [], _∷_, append-nil}
+use mathlib.Core.List.{List, [], _∷_, _++_, append-nil}
 use borrow.Author.Tests.{le-ltb}
 use lib.Dec.{eqb}
 use lib.ListN.{length}
@@ -29,17 +29,20 @@ use Rattle.rules_refusals.specs.Number4.{severalRekeyPolicies, severalGroupWide
 use Rattle.rules_refusals.specs.Number4.{initialMessageIdTwice, delayTwice, otherDestination, lifetimeTwice, number4OfFrame}
 use Rattle.rules_refusals.specs.Number5.{ahPolicy, ahBag, otherTransforms, deleteOfOther, deleteOfNone, lentKeySize, number5OfFrame}
 use Rattle.rules_refusals.specs.Number6.{policyUnpaired, bagUnpaired, policyTwice, bagTwice, alreadyInTable, otherSaKeyCount, saKeyCount}
-use Rattle.rules_refusals.specs.Number6.{saKeyId, espKwkId, wrapKeyId, underItself, wrapsItself, number6OfFrame, number6OfMember}
+use Rattle.rules_refusals.specs.Number6.{saKeyId, espKwkId, wrapKeyId, underItself, wrapsItself, freshKeyId, freshWrapsItself}
+use Rattle.rules_refusals.specs.Number6.{number6OfFrame, number6OfMember}
 use Rattle.rules_refusals.specs.Number7.{manyEspPolicies, manyWrapKeys, manySaKeys, manyDeletedSpis, longLifetime, manySas}
-use Rattle.rules_refusals.specs.Number7.{number7OfFrame, number7OfMember}
+use Rattle.rules_refusals.specs.Number7.{manyFreshKeys, number7OfFrame, number7OfMember}
 use Rattle.rules_refusals.specs.Refusals.{one, number4, number5, number6, number7}
 use Rattle.rules_chains.specs.Chain.{In, Root, ChainEnds, CopyOpens}
 use Rattle.rules_chains.specs.Refusals.{Announced, EntriesConflict, CopiesConflict, wrong-size, two-values}
 use Rattle.rules_chains.specs.Refusals.{KeyConflict, of-entries, of-copies, KeyMissing, KeyOf}
 use Rattle.rules_outcome.specs.Answer.{KeyConflictOf, KeyMissingOf}
 use Rattle.rules_outcome.specs.Roots.{rootsOf, entriesOf, wrappingSize, copiesOf, needOf, announcedAs, announcedKeys}
-use Rattle.rules_outcome.specs.After.{lifetimeFrom, saFrom, oldSas, insertAll, one-more, no-sa, newRekey, rekeyCopies, HoldsPath}
-use Rattle.rules_outcome.specs.After.{HeldBy, initialMessageId, leastAfterwards, After}
+use Rattle.rules_outcome.specs.Holding.{newRekey, rekeyCopies, heldBefore, HoldsPath, HeldAfterwards, OverHeld}
+use Rattle.rules_outcome.proofs.Room.{room-in-registration}
+use Rattle.rules_outcome.specs.After.{lifetimeFrom, saFrom, oldSas, insertAll, one-more, no-sa}
+use Rattle.rules_outcome.specs.After.{initialMessageId, leastAfterwards, After}
 use Rattle.rules_outcome.specs.Outcome.{Outcome}
 use Rattle.rules_outcome.specs.Samples.{Around, rekeyPolicy, creating, created, Creates}
 use Rattle.rules_outcome.proofs.Members.{in-head}
@@ -68,13 +71,15 @@ module _ (r : Around) (now k : ℕ) (w : List ℕ) (l : List WrapKey) where
   unfolding one any gather ahPolicy ahBag otherTransforms deleteOfOther deleteOfNone lentKeySize number5OfFrame
   created-5 lent e = record { ofFrame = rw (row-of (r .auth), transforms-fit, e); ofMember = refl }
 
-  created-6 : any (λ (e : WrapKey). eqb (e .keyId) 0) l ≡ false → any underItself l ≡ false → None (number6 (newState limits) now f)
+  created-6 : any (λ (e : WrapKey). eqb (e .keyId) 0) l ≡ false → any underItself l ≡ false →
+      None (number6 (newState limits (r .profile)) now f)
   unfolding one any count gather policyUnpaired bagUnpaired policyTwice bagTwice alreadyInTable otherSaKeyCount saKeyCount saKeyId espKwkId
-      wrapKeyId wrapsItself number6OfFrame number6OfMember newState tableOf keep
+      wrapKeyId wrapsItself freshKeyId freshWrapsItself number6OfFrame number6OfMember newState tableOf keep
   created-6 e d = record { ofFrame = rw (row-of (r .auth), eq-same (r .spi) (r .spi) refl, append-nil l, e, d); ofMember = refl }
 
-  created-7 : length l ≤ limits .wrapKeys → None (number7 limits (newState limits) now f)
-  unfolding one any count gather manyEspPolicies manyWrapKeys manySaKeys manyDeletedSpis longLifetime manySas number7OfFrame number7OfMember
+  created-7 : length l ≤ limits .wrapKeys → None (number7 limits (newState limits (r .profile)) now f)
+  unfolding one any count gather manyEspPolicies manyWrapKeys manySaKeys manyDeletedSpis longLifetime manyFreshKeys manySas number7OfFrame
+      number7OfMember
       newState tableOf keep
   created-7 h = record { ofFrame = rw (append-nil l, le-ltb (limits .wrapKeys) (length l) h); ofMember = refl }
 
@@ -83,7 +88,7 @@ module _ (r : Around) (now : ℕ) (lent x : List ℕ) (k : ℕ) (v : List ℕ) (
     (c : Creates r lent x k v l octets) (no-zero : any (λ (e : WrapKey). eqb (e .keyId) 0) l ≡ false)
     (no-self : any underItself l ≡ false) (few : length l ≤ limits .wrapKeys) where
   abbrev s : State
-  s = newState limits
+  s = newState limits (r .profile)
 
   abbrev w : List ℕ
   w = wrapOf v x
@@ -108,7 +113,7 @@ module _ (r : Around) (now : ℕ) (lent x : List ℕ) (k : ℕ) (v : List ℕ) (
 
   entries-are : entriesOf g ≡ l
   unfolding gather
-  entries-are = append-nil l
+  entries-are = append-nil (l ++ []) ∙ append-nil l
 
   sa-is : announcedAs g (rekeyPolicy r) ≡ top
   unfolding gather copiesOf keep needOf encryptionOctets keyWrapOctets sum neededBy neededIn isRowOf
@@ -151,6 +156,7 @@ module _ (r : Around) (now : ℕ) (lent x : List ℕ) (k : ℕ) (v : List ℕ) (
     missing = record { sa = top; stands = in-head top top [] refl; none = unopened }
 
     pub created-9 : Outcome limits s now lent octets 9 s
+    unfolding newState
     created-9 =
         outcome-9 limits s now lent octets g (c .reads) (fresh-2 r now w l) (fresh-3 r now w l) (created-4 r now k w l (c .group))
         (created-5 r now k w l lent (key-size (length lent) (c .key .size))) (created-6 r now k w l no-zero no-self)
@@ -159,7 +165,7 @@ module _ (r : Around) (now : ℕ) (lent x : List ℕ) (k : ℕ) (v : List ℕ) (
   -- ---- each chain that ends on it gives one value, and the list is the path
   module _ (none : EntriesConflict R l (length lent) → ⊥) (ends : ChainEnds R l (length lent) k v)
       (only : (y : List ℕ) → ChainEnds R l (length lent) k y → y ≡ v) (keys : List HeldKey)
-      (path : HoldsPath R l (length lent) limits (copy ∷ []) (heldOf limits keys)) where
+      (path : HoldsPath R l (length lent) limits (copy ∷ []) (heldOf limits []) (heldOf limits keys)) where
     clear-created : Clear limits s now lent g
     clear-created = record {
       no-2 = fresh-2 r now w l;
@@ -174,22 +180,29 @@ module _ (r : Around) (now : ℕ) (lent x : List ℕ) (k : ℕ) (v : List ℕ) (
       no-9 = λ h.
           no-nine R l (length lent) k 36 v x (c .fit .key) (c .small) (c .size) (omega arith) (omega arith) ends only
           (subst (λ (A : Type 0). A) nine-is h);
+      no-over = λ o.
+          room-in-registration R l (length lent) limits (copy ∷ []) (newRekey g) none few
+          (subst (λ (A : Type 0). A)
+          (λ i.
+          OverHeld (roots-are i) (entries-are i) (size-is i) limits (newRekey g) (copies-are i)
+          (heldBefore limits (row-of (r .auth) i .registers) (s .held)))
+          o);
     }
 
     abbrev next : State
     next = created r x keys
 
-    Set : Type 0
-    Set = HoldsPath (rootsOf limits s now lent g) (entriesOf g) (wrappingSize limits s now lent g) limits (rekeyCopies g) (next .held)
-
-    held-set : Set
-    unfolding Set
+    held-set : HeldAfterwards limits s now lent g (next .held)
+    unfolding any gather
     held-set =
         subst (λ (A : Type 0). A)
-        (sym (λ i. HoldsPath (roots-are i) (entries-are i) (size-is i) limits (copies-are i) (next .held))) path
+        (sym (λ i.
+        HoldsPath (roots-are i) (entries-are i) (size-is i) limits (copies-are i)
+        (heldBefore limits (row-of (r .auth) i .registers) (s .held)) (next .held)))
+        path
 
     after-created : After limits s now lent g next
-    unfolding Set gather newState tableOf keep oldSas insertAll insert saFrom lifetimeFrom leastAfterwards initialMessageId any
+    unfolding gather newState tableOf keep oldSas insertAll insert saFrom lifetimeFrom leastAfterwards initialMessageId any
         encryptionOctets keyWrapOctets sum neededBy neededIn isRowOf
     after-created = record {
       new = saFrom now (rekeyPolicy r) x ∷ [];
@@ -198,9 +211,11 @@ module _ (r : Around) (now : ℕ) (lent x : List ℕ) (k : ℕ) (v : List ℕ) (
           (subst (λ (A : Type 0). A) key-is
           (copy-opens R l (length lent) k 36 v x (c .fit .key) (c .small) (c .size) (omega arith) (omega arith) ends only)) no-sa;
       table = refl;
-      held = subst (λ (e : Exchange). HeldBy (e .registers) Set (next .held ≡ s .held)) (sym (row-of (r .auth))) held-set;
+      held = held-set;
       least = refl;
+      profile = refl;
     }
 
     pub created-0 : Outcome limits s now lent octets 0 next
+    unfolding newState
     created-0 = outcome-0 limits s now lent octets g (c .reads) clear-created next after-created

@@ -25,16 +25,18 @@ use Rattle.rules_refusals.specs.Number4.{severalRekeyPolicies, severalGroupWide
 use Rattle.rules_refusals.specs.Number4.{initialMessageIdTwice, delayTwice, otherDestination, lifetimeTwice, number4OfFrame}
 use Rattle.rules_refusals.specs.Number5.{ahPolicy, ahBag, otherTransforms, deleteOfOther, deleteOfNone, lentKeySize, number5OfFrame}
 use Rattle.rules_refusals.specs.Number6.{policyUnpaired, bagUnpaired, policyTwice, bagTwice, alreadyInTable, otherSaKeyCount, saKeyCount}
-use Rattle.rules_refusals.specs.Number6.{saKeyId, espKwkId, wrapKeyId, underItself, wrapsItself, number6OfFrame, number6OfMember}
+use Rattle.rules_refusals.specs.Number6.{saKeyId, espKwkId, wrapKeyId, underItself, wrapsItself, freshKeyId, freshWrapsItself}
+use Rattle.rules_refusals.specs.Number6.{number6OfFrame}
+use Rattle.rules_refusals.specs.Number6.{number6OfMember}
 use Rattle.rules_refusals.specs.Number7.{manyEspPolicies, manyWrapKeys, manySaKeys, manyDeletedSpis, longLifetime, manySas}
-use Rattle.rules_refusals.specs.Number7.{number7OfFrame, number7OfMember}
+use Rattle.rules_refusals.specs.Number7.{manyFreshKeys, number7OfFrame, number7OfMember}
 use Rattle.rules_refusals.specs.Refusals.{one, number2, number3, number4, number5, number6, number7}
 use Rattle.rules_outcome.specs.Samples.{Around, espPolicy, registering, lent-of-28, Says}
 use Rattle.rules_outcome.proofs.RunsClear.{None}
 use Rattle.rules_outcome.proofs.SamplesAnswers.{applies-frame, outcome-5}
 
-abbrev fresh : State
-fresh = newState limits
+abbrev fresh : Around → State
+fresh r = newState limits (r .profile)
 
 -- both exchanges of a registration have one row
 pub row-of : (b : Bool) → exchangeOf (cond b 39 40) ≡ registration
@@ -42,11 +44,11 @@ row-of true = refl
 row-of false = refl
 
 module _ (r : Around) (now : ℕ) (w : List ℕ) (l : List WrapKey) where
-  pub fresh-2 : None (number2 limits fresh now (cond (r .auth) 39 40) (r .spis))
+  pub fresh-2 : None (number2 limits (fresh r) now (cond (r .auth) 39 40) (r .spis))
   unfolding one nonEmptyMember otherSpis emptyAt newState tableOf all
-  fresh-2 = record { ofFrame = rw (row-of (r .auth)); ofMember = rw (row-of (r .auth), new-state-formed limits) }
+  fresh-2 = record { ofFrame = rw (row-of (r .auth)); ofMember = rw (row-of (r .auth), new-state-formed limits (r .profile)) }
 
-  pub fresh-3 : None (number3 fresh (cond (r .auth) 39 40) (r .messageId))
+  pub fresh-3 : None (number3 (fresh r) (cond (r .auth) 39 40) (r .messageId))
   unfolding one notAcceptable
   fresh-3 = record { ofFrame = refl; ofMember = rw (row-of (r .auth)) }
 
@@ -66,13 +68,14 @@ module _ (r : Around) (now : ℕ) (w : List ℕ) (l : List WrapKey) where
   fresh-5 lent e = record { ofFrame = rw (row-of (r .auth), fits, e); ofMember = refl }
 
   pub fresh-6 : any (λ (k : WrapKey). eqb (k .keyId) 0) l ≡ false → any underItself l ≡ false →
-      None (number6 fresh now (registering r w l))
+      None (number6 (fresh r) now (registering r w l))
   unfolding one any count gather policyUnpaired bagUnpaired policyTwice bagTwice alreadyInTable otherSaKeyCount saKeyCount saKeyId espKwkId
-      wrapKeyId wrapsItself number6OfFrame number6OfMember newState tableOf keep
+      wrapKeyId wrapsItself freshKeyId freshWrapsItself number6OfFrame number6OfMember newState tableOf keep
   fresh-6 e d = record { ofFrame = rw (row-of (r .auth), eq-same (r .spi) (r .spi) refl, append-nil l, e, d); ofMember = refl }
 
-  pub fresh-7 : length l ≤ limits .wrapKeys → None (number7 limits fresh now (registering r w l))
-  unfolding one any count gather manyEspPolicies manyWrapKeys manySaKeys manyDeletedSpis longLifetime manySas number7OfFrame number7OfMember
+  pub fresh-7 : length l ≤ limits .wrapKeys → None (number7 limits (fresh r) now (registering r w l))
+  unfolding one any count gather manyEspPolicies manyWrapKeys manySaKeys manyDeletedSpis longLifetime manyFreshKeys manySas number7OfFrame
+      number7OfMember
       newState tableOf keep
   fresh-7 h = record { ofFrame = rw (append-nil l, le-ltb (limits .wrapKeys) (length l) h); ofMember = refl }
 
@@ -82,7 +85,8 @@ unfolding one any gather ahPolicy ahBag otherTransforms deleteOfOther deleteOfNo
 lent-28 r lent w l e = rw (row-of (r .auth), fits r 0 w l, e)
 
 pub lent-of-28-holds : Says lent-of-28
+unfolding newState
 lent-of-28-holds r now lent w octets l e g =
     let f = registering r w l in
-    outcome-5 limits fresh now lent octets f g (fresh-2 r now w l) (fresh-3 r now w l) (fresh-4 r now w l)
+    outcome-5 limits (fresh r) now lent octets f g (fresh-2 r now w l) (fresh-3 r now w l) (fresh-4 r now w l)
     (applies-frame (number5 lent f) (lent-28 r lent w l e))

@@ -30,7 +30,7 @@ use Rattle.rules_outcome.specs.Samples.{key-length-128, key-tree, no-rek
 use Rattle.rules_outcome.proofs.AtTick.{rekeySpi, one, seven, seven-formed, seven-stands, not-due, one-in, over-one}
 use Rattle.rules_outcome.proofs.SamplesRekeys.{deleted, delete-taken, deleted-stands}
 use Rattle.rules_outcome.proofs.SamplesRead.{around, Rekeyed, no-rekey-read, two-values-read, plain-read}
-use Rattle.rules_outcome.proofs.SamplesRead.{laid-out, rekeys-read}
+use Rattle.rules_outcome.proofs.SamplesRead.{laid-around, rekeys-read}
 use Rattle.rules_outcome.proofs.SamplesReadTree.{treeAround, tree-read, two-steps-read, circle-read, creates-by}
 
 -- ---- what a row asks for, as in specs/Samples.antt; the octets of its frame are below 256
@@ -100,7 +100,7 @@ pub record Lent : Type 0 where
   pub size : length lent ≡ 28
   pub octets : List ℕ
   pub small : Octets octets
-  pub reads : IsFrame octets (registering r wrapped entries)
+  pub reads : IsFrame (r .profile) octets (registering r wrapped entries)
 
 abbrev pub Inhabited : Sample → Type 0
 Inhabited clock-wraps = (a : Sa) × (a .lifetime ≡ Unlimited) × (a .condition ≡ Retiring 4294967000 1)
@@ -242,7 +242,7 @@ samples-inhabited two-values =
       differ = λ e. let z : _≡_ {A = ℕ} 5 6 = ap (λ (l : List ℕ). getD l 0 0) e in omega arith;
       octets = read .octets;
       small = read .small;
-      registers = record { key = key-16 1 (omega arith); keying = keying; reads = laid-out _ read };
+      registers = record { key = key-16 1 (omega arith); keying = keying; reads = laid-around _ read };
     }
 samples-inhabited lent-of-28 =
     record {
@@ -253,7 +253,7 @@ samples-inhabited lent-of-28 =
       size = refl;
       octets = plain-read .octets;
       small = plain-read .small;
-      reads = laid-out (registering around (replicate 32 0) []) plain-read;
+      reads = laid-around (registering around (replicate 32 0) []) plain-read;
     }
 samples-inhabited key-length-128 = tt
 samples-inhabited key-tree =
@@ -287,5 +287,5 @@ samples-inhabited no-rekey-sa =
       asked = (fits 5 (omega arith), fits 9 (omega arith));
       octets = read .octets;
       small = read .small;
-      registers = record { key = key-16 1 (omega arith); keying = keying; reads = laid-out _ read };
+      registers = record { key = key-16 1 (omega arith); keying = keying; reads = laid-around _ read };
     }

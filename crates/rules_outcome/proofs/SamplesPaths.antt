@@ -2,7 +2,7 @@
 -- empty.
 use native.Mathlib.Omega.{arith}
 use Prim.Native.Nat.{ℕ, _<_}
-use mathlib.Core.Path.{_≡_, refl}
+use mathlib.Core.Path.{_≡_, refl, sym}
 use mathlib.Core.List.{List, [], _∷_}
 use lib.ListN.{length, getD}
 use Rattle.octets.specs.Octets.{Octets}
@@ -15,8 +15,9 @@ use Rattle.state.specs.Held.{heldOf, distinct}
 use Rattle.rules_chains.specs.Chain.{In, Chain, ChainEnds}
 use Rattle.rules_chains.specs.Refusals.{EntriesConflict}
 use Rattle.rules_chains.specs.Path.{no-key, one-more}
-use Rattle.rules_outcome.specs.After.{HoldsPath}
+use Rattle.rules_outcome.specs.Holding.{HoldsPath}
 use Rattle.rules_outcome.specs.Samples.{entry, heldWith, FitKey, two-steps, no-rekey-sa, Says}
+use Rattle.rules_outcome.proofs.PathKeys.{from-none}
 use Rattle.rules_outcome.proofs.OneChain.{only-path}
 use Rattle.rules_outcome.proofs.SamplesChains.{opens-own, zeroRoot}
 use Rattle.rules_outcome.proofs.SamplesTaken.{registers-0}
@@ -67,17 +68,19 @@ module _ (lent v₅ v₉ : List ℕ) (key : Key lent) (w₅ : FitKey lent v₅) 
   copy x = record { keyId = 0; kwkId = 5; wrapped = wrapOf v₅ x }
 
   held-two : (x : List ℕ) → Octets x → length x ≡ 36 →
-      HoldsPath (zeroRoot lent ∷ []) two (length lent) limits (copy x ∷ []) (heldOf limits (heldWith 5 v₅ ∷ heldWith 9 v₉ ∷ []))
+      HoldsPath (zeroRoot lent ∷ []) two (length lent) limits (copy x ∷ []) (heldOf limits [])
+      (heldOf limits (heldWith 5 v₅ ∷ heldWith 9 v₉ ∷ []))
   unfolding any distinct
   held-two x o n = record {
     ids = 5 ∷ 9 ∷ [];
+    end = 0;
     path =
         only-path lent two refl refl (copy x) (five ∷ nine ∷ []) v₅ x to-5 (opens-own v₅ x (w₅ .key) o (omega arith) (omega arith));
     keys = record { id = 5; value = v₅ } ∷ record { id = 9; value = v₉ } ∷ [];
     are =
         one-more (has-value value fit two wrapped five (nine ∷ []) 5 to-5)
         (one-more (has-value value fit two wrapped nine [] 9 to-9) no-key);
-    is = refl;
+    is = sym (from-none limits (heldWith 5 v₅ ∷ heldWith 9 v₉ ∷ []) 0);
   }
 
 pub two-steps-holds : Says two-steps

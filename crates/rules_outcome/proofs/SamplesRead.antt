@@ -2,7 +2,7 @@
 use native.Mathlib.Omega.{arith}
 use Prim.Native.Nat.{ℕ, _+_, _*_, _<_}
 use mathlib.Core.Path.{_≡_, refl, ap, sym, _∙_, subst}
-use mathlib.Core.Bool.{true}
+use mathlib.Core.Bool.{true, false}
 use mathlib.Core.List.{List, [], _∷_, _++_}
 use borrow.Author.Tests.{lt-ltb, ltb-true}
 use lib.Dec.{ltb}
@@ -47,6 +47,7 @@ around = record {
   spi = 1 ∷ 2 ∷ 3 ∷ 4 ∷ [];
   source = anywhere;
   destination = anywhere;
+  profile = false;
 }
 
 unfoldable pub selectorOctets : List ℕ
@@ -73,14 +74,14 @@ registrationOctets h n d m w entries =
     ((0 ∷ 0 ∷ 0 ∷ d ∷ 3 ∷ 4 ∷ 0 ∷ 52 ∷ 1 ∷ 2 ∷ 3 ∷ 4 ∷ 0 ∷ 1 ∷ 0 ∷ 40 ∷ 0 ∷ 0 ∷ 0 ∷ 0 ∷ 0 ∷ 0 ∷ 0 ∷ 0 ∷ []) ++
     (firsts 32 w ++ ((0 ∷ 0 ∷ 0 ∷ m ∷ []) ++ entries)))))
 
-two-read : (w a b : List ℕ) → frame (registrationOctets 0 224 132 76 w (entryOctets 5 9 a ++ entryOctets 9 0 b))
+two-read : (w a b : List ℕ) → frame false (registrationOctets 0 224 132 76 w (entryOctets 5 9 a ++ entryOctets 9 0 b))
     ≡ whole (registering around (firsts 32 w) (entry 5 9 (firsts 24 a) ∷ entry 9 0 (firsts 24 b) ∷ [])) []
 unfolding frame payload body policy suite saBody selector transform bag attribute many chain chainUpTo number valuesOf group anywhere around
     selectorOctets gsaOctets firsts entryOctets registrationOctets
 two-read w a b = refl
 
 three-read : (w a b c : List ℕ) →
-    frame (registrationOctets 1 4 168 112 w (entryOctets 5 0 a ++ (entryOctets 5 9 b ++ entryOctets 9 0 c)))
+    frame false (registrationOctets 1 4 168 112 w (entryOctets 5 0 a ++ (entryOctets 5 9 b ++ entryOctets 9 0 c)))
     ≡ whole (registering around (firsts 32 w) (entry 5 0 (firsts 24 a) ∷ entry 5 9 (firsts 24 b) ∷ entry 9 0 (firsts 24 c) ∷ [])) []
 unfolding frame payload body policy suite saBody selector transform bag attribute many chain chainUpTo number valuesOf group anywhere around
     selectorOctets gsaOctets firsts entryOctets registrationOctets
@@ -141,10 +142,14 @@ registration-octets h n d m w entries hh hn hd hm o q =
 pub record Read (f : Frame) : Type 0 where
   pub octets : List ℕ
   pub small : Octets octets
-  pub reads : frame octets ≡ whole f []
+  pub reads : frame false octets ≡ whole f []
 
-pub laid-out : (f : Frame) (r : Read f) → IsFrame (r .octets) f
-laid-out f r = read-frame (r .octets) f [] (r .reads)
+pub laid-out : (f : Frame) (r : Read f) → IsFrame false (r .octets) f
+laid-out f r = read-frame false (r .octets) f [] (r .reads)
+
+pub laid-around : (f : Frame) (r : Read f) → IsFrame (around .profile) (r .octets) f
+unfolding around
+laid-around f r = laid-out f r
 
 module _ (lent x v₉ : List ℕ) (key : Key lent) (size : length lent ≡ 16) (keying : Keying x) (w₉ : FitKey lent v₉) where
   x-is : firsts 32 (wrapOf lent x) ≡ wrapOf lent x
@@ -213,7 +218,7 @@ deleteOctets x id =
 pub record Rekeyed (x : List ℕ) (i : ℕ) : Type 0 where
   pub octets : List ℕ
   pub small : Octets octets
-  pub is : Rekeys x i octets
+  pub is : Rekeys false x i octets
 
 delete-read : (x : List ℕ) (i a b c d : ℕ) → length x ≡ 16 → Octets x → Octets (a ∷ b ∷ c ∷ d ∷ []) →
     number 4 (a ∷ b ∷ c ∷ d ∷ []) ≡ i → Rekeyed x i
@@ -233,7 +238,7 @@ delete-read x i a b c d n o q e =
         some = omega arith;
         few = omega arith;
         reads =
-            read-frame (deleteOctets x id) (deleting x i ((1 ∷ 2 ∷ 3 ∷ 4 ∷ []) ∷ [])) []
+            read-frame false (deleteOctets x id) (deleting x i ((1 ∷ 2 ∷ 3 ∷ 4 ∷ []) ∷ [])) []
             (λ j. whole (deleting (p j) (e j) ((1 ∷ 2 ∷ 3 ∷ 4 ∷ []) ∷ [])) []);
       };
     }

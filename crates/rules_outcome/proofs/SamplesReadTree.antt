@@ -2,7 +2,7 @@
 use native.Mathlib.Omega.{arith}
 use Prim.Native.Nat.{ℕ, _+_, _*_}
 use mathlib.Core.Path.{_≡_, refl, ap, sym, _∙_, subst}
-use mathlib.Core.Bool.{true}
+use mathlib.Core.Bool.{true, false}
 use mathlib.Core.List.{List, [], _∷_, _++_}
 use lib.ListN.{length, replicate}
 use Rattle.octets.specs.Numbers.{number}
@@ -34,6 +34,7 @@ treeAround = record {
   spi = replicate 16 2;
   source = anywhere;
   destination = anywhere;
+  profile = false;
 }
 
 one-group : oneGroupAddress (treeAround .destination) ≡ true
@@ -54,19 +55,19 @@ createdOctets : ℕ → ℕ → ℕ → ℕ → List ℕ → List ℕ → List �
 createdOctets n d k m w entries = headOctets n d k ++ (firsts 48 w ++ ((0 ∷ 0 ∷ 0 ∷ m ∷ []) ++ entries))
 
 tree-reads : (w a b c : List ℕ) →
-    frame (createdOctets 52 196 1 112 w (entryOctets 1 3 a ++ (entryOctets 3 7 b ++ entryOctets 7 0 c)))
+    frame false (createdOctets 52 196 1 112 w (entryOctets 1 3 a ++ (entryOctets 3 7 b ++ entryOctets 7 0 c)))
     ≡ whole (creating treeAround 1 (firsts 48 w) (entry 1 3 (firsts 24 a) ∷ entry 3 7 (firsts 24 b) ∷ entry 7 0 (firsts 24 c) ∷ [])) []
 unfolding frame payload body policy suite saBody selector transform bag attribute many chain chainUpTo number valuesOf group anywhere
     treeAround selectorOctets firsts entryOctets headOctets createdOctets
 tree-reads w a b c = refl
 
-two-reads : (w a b : List ℕ) → frame (createdOctets 16 160 5 76 w (entryOctets 5 9 a ++ entryOctets 9 0 b))
+two-reads : (w a b : List ℕ) → frame false (createdOctets 16 160 5 76 w (entryOctets 5 9 a ++ entryOctets 9 0 b))
     ≡ whole (creating treeAround 5 (firsts 48 w) (entry 5 9 (firsts 24 a) ∷ entry 9 0 (firsts 24 b) ∷ [])) []
 unfolding frame payload body policy suite saBody selector transform bag attribute many chain chainUpTo number valuesOf group anywhere
     treeAround selectorOctets firsts entryOctets headOctets createdOctets
 two-reads w a b = refl
 
-around-reads : (w a b : List ℕ) → frame (createdOctets 16 160 5 76 w (entryOctets 5 9 a ++ entryOctets 9 5 b))
+around-reads : (w a b : List ℕ) → frame false (createdOctets 16 160 5 76 w (entryOctets 5 9 a ++ entryOctets 9 5 b))
     ≡ whole (creating treeAround 5 (firsts 48 w) (entry 5 9 (firsts 24 a) ∷ entry 9 5 (firsts 24 b) ∷ [])) []
 unfolding frame payload body policy suite saBody selector transform bag attribute many chain chainUpTo number valuesOf group anywhere
     treeAround selectorOctets firsts entryOctets headOctets createdOctets
@@ -88,7 +89,8 @@ head-of-three : Octets (headOctets 52 196 1) × Octets (0 ∷ 0 ∷ 0 ∷ 112 �
 unfolding headOctets selectorOctets all
 head-of-three = (literal-octets (headOctets 52 196 1) refl, literal-octets (0 ∷ 0 ∷ 0 ∷ 112 ∷ []) refl)
 
-module _ (lent x v : List ℕ) (key : Key lent) (size : length lent ≡ 16) (long : length x ≡ 36) (small : Octets x) (fit : FitKey lent v) where
+module _ (lent x v : List ℕ) (key : Key lent) (size : length lent ≡ 16) (long : length x ≡ 36) (small : Octets x)
+    (fit : FitKey lent v) where
   x-is : firsts 48 (wrapOf v x) ≡ wrapOf v x
   x-is =
       all-firsts 48 (wrapOf v x)
@@ -120,7 +122,8 @@ module _ (lent x v : List ℕ) (key : Key lent) (size : length lent ≡ 16) (lon
             tree-reads (wrapOf v x) (wrapOf v₃ v) (wrapOf v₇ v₃) (wrapOf lent v₇)
             ∙ (λ i.
             whole (creating treeAround 1 (x-is i)
-            (entry 1 3 (under v₃ v (w₃ .key) fit i) ∷ entry 3 7 (under v₇ v₃ (w₇ .key) w₃ i) ∷ entry 7 0 (under lent v₇ key w₇ i) ∷ [])) []);
+            (entry 1 3 (under v₃ v (w₃ .key) fit i) ∷ entry 3 7 (under v₇ v₃ (w₇ .key) w₃ i) ∷ entry 7 0 (under lent v₇ key w₇ i) ∷ []))
+            []);
       }
 
   pub two-steps-read : (v₉ : List ℕ) → FitKey lent v₉ →
@@ -156,7 +159,9 @@ module _ (lent x v : List ℕ) (key : Key lent) (size : length lent ≡ 16) (lon
   }
 
   -- what is read is such a registration
-  pub creates-by : (k : ℕ) (l : List WrapKey) (r : Read (creating treeAround k (wrapOf v x) l)) → Creates treeAround lent x k v l (r .octets)
+  pub creates-by : (k : ℕ) (l : List WrapKey) (r : Read (creating treeAround k (wrapOf v x) l)) → Creates treeAround lent x k v l
+      (r .octets)
+  unfolding treeAround
   creates-by k l r = record {
     key = key;
     group = one-group;

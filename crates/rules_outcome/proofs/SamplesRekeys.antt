@@ -1,13 +1,15 @@
 -- The samples on Message IDs: rekeys with D alone over a Rekey SA that stands at the tick.
+use Rattle.rules_outcome.proofs.Room.{room-without-entries}
+use lib.Dec.{leb}
 use native.Mathlib.Omega.{arith}
 use Prim.Native.Nat.{ℕ, _+_, _≤_}
 use mathlib.Core.Path.{_≡_, refl, ap, sym, _∙_, subst}
-use mathlib.Core.Bool.{true, false}
+use mathlib.Core.Bool.{true, false, _&&_}
 use mathlib.Core.List.{List, [], _++_, append-nil, List·Memᴰ, List·Memᴰ·not-nil}
-use borrow.Author.Tests.{le-ltb, ne-eqb}
+use borrow.Author.Tests.{le-ltb, ne-eqb, leb-true}
 use lib.ListN.{length}
 use Rattle.state_keys.specs.Limits.{limits}
-use Rattle.state_keys.specs.Lists.{any, count}
+use Rattle.state_keys.specs.Lists.{any, count, all}
 use Rattle.state_keys.proofs.Cases.{and-parts}
 use Rattle.wire_frames.specs.Frame.{Frame}
 use Rattle.wire_frames.specs.Grammar.{IsFrame}
@@ -16,7 +18,7 @@ use Rattle.state_sa.specs.declared.entry.Sa.{Sa}
 use Rattle.state_table.specs.Table.{sasOf, tableOf, tableFormed, stays}
 use Rattle.state_table.proofs.Kept.{fit-keep, formed-fit}
 use Rattle.state.specs.declared.State.{State}
-use Rattle.state.specs.Held.{heldFormed}
+use Rattle.state.specs.Held.{heldFormed, keyFormed, keysOf, distinct, idsOf}
 use Rattle.state.specs.State.{stateFormed}
 use Rattle.state.specs.Least.{acceptable, afterId}
 use Rattle.rules_refusals.specs.Contents.{gather}
@@ -27,16 +29,17 @@ use Rattle.rules_refusals.specs.Number4.{severalRekeyPolicies, severalGroupWide
 use Rattle.rules_refusals.specs.Number4.{initialMessageIdTwice, delayTwice, otherDestination, lifetimeTwice, number4OfFrame}
 use Rattle.rules_refusals.specs.Number5.{ahPolicy, ahBag, otherTransforms, deleteOfOther, deleteOfNone, lentKeySize, number5OfFrame}
 use Rattle.rules_refusals.specs.Number6.{policyUnpaired, bagUnpaired, policyTwice, bagTwice, alreadyInTable, saKeyCount, saKeyId, espKwkId}
-use Rattle.rules_refusals.specs.Number6.{wrapKeyId, wrapsItself, number6OfFrame, number6OfMember}
+use Rattle.rules_refusals.specs.Number6.{wrapKeyId, wrapsItself, freshKeyId, freshWrapsItself, number6OfFrame, number6OfMember}
 use Rattle.rules_refusals.specs.Number7.{manyEspPolicies, manyWrapKeys, manySaKeys, manyDeletedSpis, longLifetime, manySas}
-use Rattle.rules_refusals.specs.Number7.{number7OfFrame, number7OfMember}
+use Rattle.rules_refusals.specs.Number7.{manyFreshKeys, number7OfFrame, number7OfMember}
 use Rattle.rules_refusals.specs.Refusals.{one, number2, number3, number4, number5, number6, number7}
 use Rattle.rules_chains.specs.Chain.{In, Root, Reached}
 use Rattle.rules_chains.specs.Refusals.{EntriesConflict, wrong-size, two-values, KeyConflict, of-entries, of-copies, KeyMissing}
 use Rattle.rules_chains.proofs.Determined.{last-entry}
 use Rattle.rules_outcome.specs.Answer.{KeyConflictOf, KeyMissingOf}
 use Rattle.rules_outcome.specs.Roots.{announcedKeys, rootsOf, wrappingSize}
-use Rattle.rules_outcome.specs.After.{newRekey, oldSas, insertAll, no-sa, leastAfterwards, After}
+use Rattle.rules_outcome.specs.Holding.{newRekey, OverHeldOf, rekeyCopies}
+use Rattle.rules_outcome.specs.After.{oldSas, insertAll, no-sa, leastAfterwards, After}
 use Rattle.rules_outcome.specs.Run.{StandsAt}
 use Rattle.rules_outcome.specs.Outcome.{Outcome}
 use Rattle.rules_outcome.specs.Samples.{deleting, LaterRefused, least-seven, last-id, Says}
@@ -73,7 +76,7 @@ unfolding one nonEmptyMember otherSpis
 over-live s now x e k = record { ofFrame = refl; ofMember = rw (e, k) }
 
 -- a rekey whose Message ID is not acceptable
-pub rekey-refused : (s : State) (now : ℕ) (lent octets : List ℕ) (g : Frame) → IsFrame octets g → g .header .exchange ≡ 41 →
+pub rekey-refused : (s : State) (now : ℕ) (lent octets : List ℕ) (g : Frame) → IsFrame (s .profile) octets g → g .header .exchange ≡ 41 →
     stateFormed limits s ≡ true → StandsAt now (g .header .spi) s → acceptable (g .header .messageId) (s .least) ≡ false →
     Outcome limits s now lent octets 3 s
 unfolding one notAcceptable
@@ -98,7 +101,7 @@ module _ (s : State) (now : ℕ) (x : List ℕ) (i : ℕ) (l : List (List ℕ)) 
 
   no-6 : None (number6 s now (deleting x i l))
   unfolding one any gather policyUnpaired bagUnpaired policyTwice bagTwice alreadyInTable saKeyCount saKeyId espKwkId wrapKeyId wrapsItself
-      number6OfFrame number6OfMember
+      freshKeyId freshWrapsItself number6OfFrame number6OfMember
   no-6 = record { ofFrame = refl; ofMember = refl }
 
   standing-few : stateFormed limits s ≡ true → length (notDueSas now s) ≤ limits .sas
@@ -108,7 +111,8 @@ module _ (s : State) (now : ℕ) (x : List ℕ) (i : ℕ) (l : List (List ℕ)) 
       fit-keep limits (stays now) (sasOf (s .table)) (formed-fit limits (s .table) t) .room
 
   no-7 : stateFormed limits s ≡ true → length l ≤ limits .deletedSpis → None (number7 limits s now (deleting x i l))
-  unfolding one any count gather manyEspPolicies manyWrapKeys manySaKeys manyDeletedSpis longLifetime manySas number7OfFrame number7OfMember
+  unfolding one any count gather manyEspPolicies manyWrapKeys manySaKeys manyDeletedSpis longLifetime manyFreshKeys manySas number7OfFrame
+      number7OfMember
   no-7 e h =
       let k = standing-few e in
       let n : length (l ++ []) ≤ limits .deletedSpis =
@@ -130,6 +134,15 @@ module _ (s : State) (now : ℕ) (x : List ℕ) (i : ℕ) (l : List (List ℕ)) 
     unfolding gather announcedKeys
     no-9 = none-nine (rootsOf limits s now lent f) (wrappingSize limits s now lent f)
 
+    no-over : OverHeldOf limits s now lent f → ⊥
+    unfolding gather any stateFormed heldFormed
+    no-over =
+        let h = and-parts (tableFormed limits (s .table)) (heldFormed limits (s .held)) e .1 in
+        room-without-entries (rootsOf limits s now lent f) [] (wrappingSize limits s now lent f) limits (rekeyCopies f) false (s .held) refl
+        (leb-true (s .held .count) (limits .heldKeys)
+        (and-parts (leb (s .held .count) (limits .heldKeys))
+        (all keyFormed (keysOf (s .held)) && distinct (idsOf (keysOf (s .held)))) h .0))
+
     clear-delete : 1 ≤ length l → length l ≤ limits .deletedSpis → acceptable i (s .least) ≡ true → Clear limits s now lent f
     unfolding one notAcceptable
     clear-delete a b c = record {
@@ -141,18 +154,19 @@ module _ (s : State) (now : ℕ) (x : List ℕ) (i : ℕ) (l : List (List ℕ)) 
       no-7 = no-7 e b;
       no-8 = no-8;
       no-9 = no-9;
+      no-over = no-over;
     }
 
     -- the member after it
     abbrev pub deleted : State
-    deleted = record { table = tableOf limits (oldSas s now f); held = s .held; least = afterId i }
+    deleted = record { table = tableOf limits (oldSas s now f); held = s .held; least = afterId i; profile = s .profile }
 
     after-delete : After limits s now lent f deleted
     unfolding gather insertAll leastAfterwards any
-    after-delete = record { new = []; enter = no-sa; table = refl; held = refl; least = refl }
+    after-delete = record { new = []; enter = no-sa; table = refl; held = refl; least = refl; profile = refl }
 
     -- taken; then the Rekey SA stands at every tick at which it is not due
-    module _ (octets : List ℕ) (g : IsFrame octets f) (a : 1 ≤ length l) (b : length l ≤ limits .deletedSpis)
+    module _ (octets : List ℕ) (g : IsFrame (s .profile) octets f) (a : 1 ≤ length l) (b : length l ≤ limits .deletedSpis)
         (c : acceptable i (s .least) ≡ true) where
       pub delete-taken : Outcome limits s now lent octets 0 deleted
       delete-taken = outcome-0 limits s now lent octets f g (clear-delete a b c) deleted after-delete
@@ -163,7 +177,7 @@ module _ (s : State) (now : ℕ) (x : List ℕ) (i : ℕ) (l : List (List ℕ)) 
       deleted-stands tick y = accepted-stands limits s now lent f (clear-delete a b c) deleted after-delete refl tick x y
 
       pub deleted-formed : stateFormed limits deleted ≡ true
-      deleted-formed = outcome-formed limits (omega arith) s now lent octets 0 deleted delete-taken e
+      deleted-formed = outcome-formed limits s now lent octets 0 deleted delete-taken e
 
 -- ---- the rows
 pub least-seven-holds : Says least-seven
@@ -192,14 +206,15 @@ least-seven-holds s x e n = (
       },
 )
 
-pub later-refused : (s next : State) (now : ℕ) (lent octets : List ℕ) (f : Frame) → IsFrame octets f → f .header .exchange ≡ 41 →
+pub later-refused : (s next : State) (now : ℕ) (lent octets : List ℕ) (f : Frame) → IsFrame (s .profile) octets f →
+    f .header .exchange ≡ 41 →
     f .header .messageId ≡ 4294967295 → newRekey f ≡ false → Outcome limits s now lent octets 0 next → LaterRefused next (f .header .spi)
 later-refused s next now lent octets f e x i n o l z r quiet now′ lent′ octets′ k g e′ x′ q =
     let y = f .header .spi in
     let j = g .header .messageId in
     let was = clear-formed limits s now lent f (taken limits s now lent octets f next e o .is-clear) in
-    let start = outcome-formed limits (omega arith) s now lent octets 0 next o was in
-    let formed = last-of limits (λ (m : State). stateFormed limits m ≡ true) r (run-formed limits (omega arith) r start) in
+    let start = outcome-formed limits s now lent octets 0 next o was in
+    let formed = last-of limits (λ (m : State). stateFormed limits m ≡ true) r (run-formed limits r start) in
     let over = subst (λ (w : List ℕ). StandsAt now′ w z) (sym q) k in
     rekey-refused z now′ lent′ octets′ g e′ x′ formed over
     (all-past-then limits s next now lent octets f e x n o z l r quiet y (stands-live y z now′ k) i j j (omega arith))

@@ -1,7 +1,7 @@
 -- RFC 9838, Appendix A.2: the registration in which member A gets its path of keys and, under the first of them, the key of a Rekey SA.
 use native.Mathlib.Omega.{arith}
 use Prim.Native.Nat.{ℕ}
-use mathlib.Core.Path.{_≡_, refl}
+use mathlib.Core.Path.{_≡_, refl, sym}
 use mathlib.Core.List.{List, [], _∷_}
 use lib.ListN.{length}
 use Rattle.octets.specs.Octets.{Octets}
@@ -14,8 +14,9 @@ use Rattle.state.specs.Held.{heldOf, distinct}
 use Rattle.rules_chains.specs.Chain.{In, Chain, ChainEnds}
 use Rattle.rules_chains.specs.Refusals.{EntriesConflict}
 use Rattle.rules_chains.specs.Path.{no-key, one-more}
-use Rattle.rules_outcome.specs.After.{HoldsPath}
+use Rattle.rules_outcome.specs.Holding.{HoldsPath}
 use Rattle.rules_outcome.specs.Samples.{entry, heldWith, FitKey, key-tree, Says}
+use Rattle.rules_outcome.proofs.PathKeys.{from-none}
 use Rattle.rules_outcome.proofs.OneChain.{only-path}
 use Rattle.rules_outcome.proofs.SamplesChains.{opens-own, zeroRoot}
 use Rattle.rules_outcome.proofs.SamplesCreated.{created-0}
@@ -70,11 +71,12 @@ module _ (lent v₁ v₃ v₇ : List ℕ) (key : Key lent) (w₁ : FitKey lent v
   copy x = record { keyId = 0; kwkId = 1; wrapped = wrapOf v₁ x }
 
   held-tree : (x : List ℕ) → Octets x → length x ≡ 36 →
-      HoldsPath (zeroRoot lent ∷ []) tree (length lent) limits (copy x ∷ [])
+      HoldsPath (zeroRoot lent ∷ []) tree (length lent) limits (copy x ∷ []) (heldOf limits [])
       (heldOf limits (heldWith 1 v₁ ∷ heldWith 3 v₃ ∷ heldWith 7 v₇ ∷ []))
   unfolding any distinct
   held-tree x o n = record {
     ids = 1 ∷ 3 ∷ 7 ∷ [];
+    end = 0;
     path =
         only-path lent tree refl refl (copy x) (e₁ ∷ e₃ ∷ e₇ ∷ []) v₁ x to-1 (opens-own v₁ x (w₁ .key) o (omega arith) (omega arith));
     keys = record { id = 1; value = v₁ } ∷ record { id = 3; value = v₃ } ∷ record { id = 7; value = v₇ } ∷ [];
@@ -82,7 +84,7 @@ module _ (lent v₁ v₃ v₇ : List ℕ) (key : Key lent) (w₁ : FitKey lent v
         one-more (has-value values fits tree under e₁ (e₃ ∷ e₇ ∷ []) 1 to-1)
         (one-more (has-value values fits tree under e₃ (e₇ ∷ []) 3 to-3)
         (one-more (has-value values fits tree under e₇ [] 7 to-7) no-key));
-    is = refl;
+    is = sym (from-none limits (heldWith 1 v₁ ∷ heldWith 3 v₃ ∷ heldWith 7 v₇ ∷ []) 0);
   }
 
 pub key-tree-holds : Says key-tree

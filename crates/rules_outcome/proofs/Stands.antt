@@ -11,9 +11,9 @@ use Rattle.wire_frames.specs.Delete.{Delete}
 use Rattle.wire_frames.specs.Frame.{Frame, Payload, Content, gsa, kd, delete, unread}
 use Rattle.rules_refusals.specs.Contents.{policiesOfContent, bagsOfContent, deletesOfContent, groupSaIn, wideOf, groupBagOf, memberBagOf}
 use Rattle.rules_refusals.specs.Contents.{policiesOf, bagsOf, deletesOf, announced, groupWides}
-use Rattle.rules_refusals.specs.Contents.{groupBags, memberBags, wrapKeysOf, deletedSpis}
+use Rattle.rules_refusals.specs.Contents.{groupBags, memberBags, wrapKeysOf, freshKeysOf, deletedSpis}
 use Rattle.rules_chains.specs.Chain.{In}
-use Rattle.rules_outcome.specs.Stands.{HasPolicy, HasBag, HasWrapKey, HasSpi}
+use Rattle.rules_outcome.specs.Stands.{HasPolicy, HasBag, HasWrapKey, HasFreshKey, HasSpi}
 use Rattle.rules_outcome.proofs.Members.{in-head, in-cases, not-in-none, in-gather, gather-in}
 
 one-of : {A : Type 0} (a b : A) → In a (b ∷ []) → a ≡ b
@@ -115,6 +115,14 @@ module _ (f : Frame) where
   )
 
   -- "each ESP SPI named in D"
+  pub fresh-are : (e : WrapKey) → In e (freshKeysOf f) ↔ HasFreshKey f e
+  fresh-are e = (
+    λ i.
+        let q = in-gather (λ (b : GroupKeyBag). b .fresh) e (groupBags f) i in
+        record { bag = q .item; stands = group-bags-are (q .item) .0 (q .stands); entry = q .is },
+    λ h. gather-in (λ (b : GroupKeyBag). b .fresh) e (groupBags f) (h .bag) (group-bags-are (h .bag) .1 (h .stands)) (h .entry),
+  )
+
   pub deleted-are : (x : List ℕ) → In x (deletedSpis f) ↔ HasSpi f x
   deleted-are x = (
     λ i.

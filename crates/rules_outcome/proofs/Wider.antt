@@ -30,23 +30,24 @@ use Rattle.state.specs.declared.held.Held.{Held}
 use Rattle.state.specs.Held.{keysOf, heldOf, heldFormed, keyFormed, idsOf, distinct}
 use Rattle.state.specs.State.{stateFormed}
 use Rattle.state.proofs.Kept.{keys-of-held}
-use Rattle.rules_refusals.specs.Contents.{rowOf, announced, groupBags, wrapKeysOf, deletedSpis}
+use Rattle.rules_refusals.specs.Contents.{rowOf, announced, groupBags, wrapKeysOf, freshKeysOf, deletedSpis}
 use Rattle.rules_refusals.specs.Fitness.{isEsp}
 use Rattle.rules_refusals.specs.Number2.{notDueSas, nonEmptyMember, otherSpis}
 use Rattle.rules_refusals.specs.Number3.{notAcceptable}
 use Rattle.rules_refusals.specs.Number6.{alreadyInTable, number6OfMember}
 use Rattle.rules_refusals.specs.Number7.{manyEspPolicies, manyWrapKeys, manySaKeys, manyDeletedSpis, longLifetime, manySas}
-use Rattle.rules_refusals.specs.Number7.{number7OfFrame, number7OfMember}
+use Rattle.rules_refusals.specs.Number7.{manyFreshKeys, number7OfFrame, number7OfMember}
 use Rattle.rules_refusals.specs.Refusals.{one, applies, number2, number3, number6, number7}
 use Rattle.rules_refusals.proofs.Clear.{or-none}
 use Rattle.rules_chains.specs.Chain.{Root}
-use Rattle.rules_outcome.specs.Roots.{ownKey, keyZeroBy, keyZeroValue, heldRoot, rootsOf, entriesOf, wrappingSize}
+use Rattle.rules_outcome.specs.Roots.{ownKey, keyZeroBy, keyZeroValue, heldRoot, notCarried, rootsOf, entriesOf, wrappingSize}
 use Rattle.rules_outcome.specs.Answer.{KeyConflictOf, KeyMissingOf, conditions, FrameAnswers}
-use Rattle.rules_outcome.specs.After.{newRekey, oldSas, oldSa, insertAll, Enter, rekeyCopies, HeldSet, HeldBy, initialMessageId, leastBy}
+use Rattle.rules_outcome.specs.Holding.{newRekey, rekeyCopies, heldBefore, HeldNext, HeldAfterwards, OverHeld, OverHeldOf}
+use Rattle.rules_outcome.specs.After.{oldSas, oldSa, insertAll, Enter, initialMessageId, leastBy}
 use Rattle.rules_outcome.specs.After.{leastAfterwards, After}
-use Rattle.rules_outcome.specs.Outcome.{Judged, refused, accepted, Outcome, no-layout, by-tree}
+use Rattle.rules_outcome.specs.Outcome.{Judged, refused, accepted, NoTree, Outcome, no-layout, by-tree}
 use Rattle.rules_outcome.proofs.Following.{Follow, none, more, first-kept, alike}
-use Rattle.rules_outcome.proofs.WiderHeld.{set-then}
+use Rattle.rules_outcome.proofs.WiderHeld.{SameKeys, found, next-then}
 use Rattle.rules_outcome.specs.Wider.{Wider, Within, SameMember, inPlaces, AnswerKept, AnswersKept}
 
 -- ---- what is not over a limit is not over a wider one
@@ -120,7 +121,9 @@ module _ (a b : Limits) (w : Wider a b) (s t : State) (i : Within a s) (m : Same
 
       roots : rootsOf a s now lent f ≡ rootsOf b t now lent f
       unfolding rootsOf
-      roots = λ j. record { id = 0; value = zero-same j } ∷ cond (rowOf f .«names_held_keys») (map heldRoot (m .keys j)) []
+      roots = λ j.
+          record { id = 0; value = zero-same j }
+          ∷ cond (rowOf f .«names_held_keys») (map heldRoot (notCarried (freshKeysOf f) (m .keys j))) []
 
       size : wrappingSize a s now lent f ≡ wrappingSize b t now lent f
       unfolding wrappingSize
@@ -148,14 +151,15 @@ module _ (a b : Limits) (w : Wider a b) (s t : State) (i : Within a s) (m : Same
       nine-same = rw (roots, size)
 
       seven-less : applies (number7 a s now f) ≡ false → applies (number7 b t now f) ≡ false
-      unfolding one number7OfFrame number7OfMember manyEspPolicies manyWrapKeys manySaKeys manyDeletedSpis manySas
+      unfolding one number7OfFrame number7OfMember manyEspPolicies manyWrapKeys manySaKeys manyDeletedSpis manyFreshKeys manySas
       seven-less e =
           let p = or-none (one (number7OfFrame a f)) (one (number7OfMember a s now f)) e in
           let e1 = or-none (manyEspPolicies a f) _ (p .0) in
           let e2 = or-none (manyWrapKeys a f) _ (e1 .1) in
           let e3 = or-none (manySaKeys a f) _ (e2 .1) in
           let e4 = or-none (manyDeletedSpis a f) _ (e3 .1) in
-          let e6 = or-none (longLifetime f) false (e4 .1) in
+          let e6 = or-none (longLifetime f) _ (e4 .1) in
+          let e7 = or-none (manyFreshKeys a f) false (e6 .1) in
           let e5 = or-none (manySas a s now f) false (p .1) in
           rw (
             not-over (a .espPolicies) (b .espPolicies) (count isEsp (announced f)) (w .espPolicies) (e1 .0),
@@ -163,6 +167,7 @@ module _ (a b : Limits) (w : Wider a b) (s t : State) (i : Within a s) (m : Same
             none-over (a .saKeys) (b .saKeys) (λ (x : GroupKeyBag). length (x .keys)) (groupBags f) (w .saKeys) (e3 .0),
             not-over (a .deletedSpis) (b .deletedSpis) (length (deletedSpis f)) (w .deletedSpis) (e4 .0),
             e6 .0,
+            not-over (a .freshKeys) (b .freshKeys) (length (freshKeysOf f)) (w .freshKeys) (e7 .0),
             not-over (a .sas) (b .sas) (length (notDueSas now t) + length (announced f)) (w .sas)
                 (ap (λ (l : List Sa). ltb (a .sas) (length l + length (announced f))) (sym stand) ∙ e5 .0),
           )
@@ -170,6 +175,35 @@ module _ (a b : Limits) (w : Wider a b) (s t : State) (i : Within a s) (m : Same
       seven-none : (applies (number7 a s now f) ≡ true → ⊥) → applies (number7 b t now f) ≡ true → ⊥
       seven-none never h =
           bool-cases (applies (number7 a s now f)) (λ g. absurd (never g)) (λ g. absurd (false≢true (sym (seven-less g) ∙ h)))
+
+      -- the list that the frame would leave has the same keys
+      same-found : SameKeys a b (rootsOf a s now lent f) (entriesOf f) (wrappingSize a s now lent f) (rekeyCopies f)
+          (heldBefore a (rowOf f .registers) (s .held)) (heldBefore b (rowOf f .registers) (t .held))
+      same-found =
+          found a b (rootsOf a s now lent f) (entriesOf f) (wrappingSize a s now lent f) (rekeyCopies f) (rowOf f .registers) (s .held)
+          (t .held) (record { keys = m .keys; count = m .key-count })
+
+      over-none : (OverHeldOf a s now lent f → ⊥) → OverHeldOf b t now lent f → ⊥
+      over-none never o =
+          let r = rootsOf b t now lent f in
+          let n = wrappingSize b t now lent f in
+          let back = found b a r (entriesOf f) n (rekeyCopies f) (rowOf f .registers) (t .held) (s .held)
+          (record { keys = sym (m .keys); count = sym (m .key-count) }) in
+          let y = next-then b a r (entriesOf f) n (rekeyCopies f) (heldBefore b (rowOf f .registers) (t .held))
+          (heldBefore a (rowOf f .registers) (s .held)) (o .list) back (newRekey f) (o .leaves) in
+          let g = o .over in
+          let c = y .same .count in
+          let h = w .heldKeys in
+          never
+          (subst
+          (λ (l : List Root).
+          OverHeld l (entriesOf f) (wrappingSize a s now lent f) a (newRekey f) (rekeyCopies f)
+          (heldBefore a (rowOf f .registers) (s .held)))
+          (sym roots)
+          (subst
+          (λ (k : ℕ).
+          OverHeld r (entriesOf f) k a (newRekey f) (rekeyCopies f) (heldBefore a (rowOf f .registers) (s .held)))
+          (sym size) (record { list = y .then; leaves = y .next-is; over = omega (arith, g, c, h) })))
 
       conditions-follow : Follow 7 (conditions a s now lent f) (conditions b t now lent f)
       conditions-follow =
@@ -181,7 +215,8 @@ module _ (a b : Limits) (w : Wider a b) (s t : State) (i : Within a s) (m : Same
           (more (record { number = refl; holds = λ q h. absurd (q refl); fails = seven-none })
           (more (alike 7 8 eight-same)
           (more (alike 7 9 nine-same)
-          none)))))))
+          (more (record { number = refl; holds = λ q h. absurd (q refl); fails = over-none })
+          none))))))))
 
       answers-same : (n : ℕ) → (n ≡ 7 → ⊥) → FrameAnswers a s now lent f n → FrameAnswers b t now lent f n
       answers-same n q h = first-kept 7 conditions-follow n q h
@@ -196,40 +231,26 @@ module _ (a b : Limits) (w : Wider a b) (s t : State) (i : Within a s) (m : Same
       least-same =
           ap (λ (x : Least). cond (newRekey f) (Id (initialMessageId f)) (leastBy (rowOf f .least) (f .header .messageId) x)) (m .least)
 
-      abbrev SetUnder : List Root → ℕ → Held → Type 0
-      SetUnder r n h = HeldSet r (entriesOf f) n (newRekey f) b (rekeyCopies f) h
-
-      abbrev HeldUnder : Bool → Held → Type 0
-      HeldUnder r h = HeldBy r (SetUnder (rootsOf b t now lent f) (wrappingSize b t now lent f) h) (h ≡ t .held)
+      abbrev HeldUnder : List Root → ℕ → Held → Type 0
+      HeldUnder r n h = HeldNext r (entriesOf f) n b (newRekey f) (rekeyCopies f) (heldBefore b (rowOf f .registers) (t .held)) h
 
       record HeldThen (old : Held) : Type 0 where
         then : Held
         keys : keysOf old ≡ keysOf then
         count : old .count ≡ then .count
-        by : HeldUnder (rowOf f .registers) then
+        by : HeldAfterwards b t now lent f then
 
-      held-then : (old : Held) (r : Bool) → rowOf f .registers ≡ r →
-          HeldBy r
-          (HeldSet (rootsOf a s now lent f) (entriesOf f) (wrappingSize a s now lent f) (newRekey f) a (rekeyCopies f) old)
-          (old ≡ s .held) →
-          HeldThen old
-      held-then old true e x =
-          let y = set-then a b (rootsOf a s now lent f) (entriesOf f) (wrappingSize a s now lent f) (rekeyCopies f) old (newRekey f) x in
+      held-then : (old : Held) → HeldAfterwards a s now lent f old → HeldThen old
+      held-then old x =
+          let y = next-then a b (rootsOf a s now lent f) (entriesOf f) (wrappingSize a s now lent f) (rekeyCopies f)
+          (heldBefore a (rowOf f .registers) (s .held)) (heldBefore b (rowOf f .registers) (t .held)) old same-found (newRekey f) x in
           record {
             then = y .then;
-            keys = y .keys;
-            count = y .count;
+            keys = y .same .keys;
+            count = y .same .count;
             by =
-                subst (λ (r : Bool). HeldUnder r (y .then)) (sym e)
-                (subst (λ (r : List Root). SetUnder r (wrappingSize b t now lent f) (y .then)) roots
-                (subst (λ (n : ℕ). SetUnder (rootsOf a s now lent f) n (y .then)) size (y .set)));
-          }
-      held-then old false e x =
-          record {
-            then = t .held;
-            keys = ap keysOf x ∙ m .keys;
-            count = ap (λ (g : Held). g .count) x ∙ m .key-count;
-            by = subst (λ (r : Bool). HeldUnder r (t .held)) (sym e) refl;
+                subst (λ (r : List Root). HeldUnder r (wrappingSize b t now lent f) (y .then)) roots
+                (subst (λ (n : ℕ). HeldUnder (rootsOf a s now lent f) n (y .then)) size (y .next-is));
           }
 
       record Next (next : State) : Type 0 where
@@ -241,10 +262,10 @@ module _ (a b : Limits) (w : Wider a b) (s t : State) (i : Within a s) (m : Same
       unfolding tableOf
       after-same next x =
           let l = insertAll (x .new) (oldSas t now f) in
-          let h = held-then (next .held) (rowOf f .registers) refl (x .held) in
+          let h = held-then (next .held) (x .held) in
           let e : next .table ≡ tableOf a l = x .table ∙ ap (λ (o : List Sa). tableOf a (insertAll (x .new) o)) old-same in
           record {
-            then = record { table = tableOf b l; held = h .then; least = leastAfterwards t f };
+            then = record { table = tableOf b l; held = h .then; least = leastAfterwards t f; profile = t .profile };
             after = record {
               new = x .new;
               enter =
@@ -253,6 +274,7 @@ module _ (a b : Limits) (w : Wider a b) (s t : State) (i : Within a s) (m : Same
               table = refl;
               held = h .by;
               least = refl;
+              profile = refl;
             };
             same = record {
               sas = ap sasOf e ∙ sas-of-table a l ∙ sym (sas-of-table b l);
@@ -260,20 +282,30 @@ module _ (a b : Limits) (w : Wider a b) (s t : State) (i : Within a s) (m : Same
               keys = h .keys;
               key-count = h .count;
               least = x .least ∙ least-same;
+              profile = x .profile ∙ m .profile;
             };
           }
 
-      judged-kept : (octets : List ℕ) (n : ℕ) (next : State) → IsFrame octets f → (n ≡ 7 → ⊥) → Judged a s now lent f n next →
+      reads : (octets : List ℕ) → IsFrame (s .profile) octets f → IsFrame (t .profile) octets f
+      reads octets g = subst (λ (p : Bool). IsFrame p octets f) (m .profile) g
+
+      judged-kept : (octets : List ℕ) (n : ℕ) (next : State) → IsFrame (s .profile) octets f → (n ≡ 7 → ⊥) → Judged a s now lent f n next →
           AnswerKept b t now lent octets n next
       judged-kept octets _ _ g q (refused n p) =
-          record { then = t; outcome = by-tree f g (refused n (answers-same (suc n) q p)); same = m }
+          record { then = t; outcome = by-tree f (reads octets g) (refused n (answers-same (suc n) q p)); same = m }
       judged-kept octets _ _ g q (accepted next p x) =
           let y = after-same next x in
-          record { then = y .then; outcome = by-tree f g (accepted (y .then) (answers-same 0 q p) (y .after)); same = y .same }
+          record {
+            then = y .then;
+            outcome = by-tree f (reads octets g)
+                (accepted (y .then) (answers-same 0 q p) (y .after));
+            same = y .same;
+          }
 
   outcome-kept : (now : ℕ) (lent octets : List ℕ) (n : ℕ) (next : State) → Outcome a s now lent octets n next → (n ≡ 7 → ⊥) →
       AnswerKept b t now lent octets n next
-  outcome-kept now lent octets _ _ (no-layout o) q = record { then = t; outcome = no-layout o; same = m }
+  outcome-kept now lent octets _ _ (no-layout o) q =
+      record { then = t; outcome = no-layout (subst (λ (p : Bool). NoTree p octets) (m .profile) o); same = m }
   outcome-kept now lent octets n next (by-tree f g j) q = judged-kept now lent f octets n next g q j
 
 -- the same member stands in the places of any limits, where it has as many places as it says
@@ -289,6 +321,7 @@ same-in-places limits s g h =
       keys = sym (keys-of-held limits (keysOf (s .held)));
       key-count = omega arith;
       least = refl;
+      profile = refl;
     }
 
 -- a member that keeps its list under limits is within them
@@ -315,6 +348,7 @@ wider = record {
   wrapKeys = omega arith;
   saKeys = omega arith;
   deletedSpis = omega arith;
+  freshKeys = omega arith;
 }
 
 pub answers-kept-by-t01 : AnswersKept limitsBeforeT01 limits

@@ -3,8 +3,8 @@
 use Prim.Native.Nat.{ℕ, _<_}
 use mathlib.Core.Path.{_≡_, refl, ap, subst}
 use mathlib.Core.Bool.{Bool, true, _||_}
-use mathlib.Core.Logic.{⊎-elim, _↔_}
-use mathlib.Core.List.{List}
+use mathlib.Core.Logic.{_↔_}
+use mathlib.Core.List.{List, []}
 use native.Mathlib.Omega.{arith}
 use borrow.Author.Tests.{eq-eqb, eqb-true}
 use Rattle.state_keys.specs.Limits.{Limits}
@@ -21,13 +21,14 @@ use Rattle.rules_chains.specs.Chain.{In}
 use Rattle.rules_chains.proofs.Members.{in-member, member-in}
 use Rattle.rules_outcome.specs.NamedKey.{Registration}
 use Rattle.rules_outcome.specs.Outcome.{Outcome}
-use Rattle.rules_outcome.specs.Meets.{Meets}
+use Rattle.rules_outcome.specs.Meets.{Meets, lowest}
 use Rattle.rules_outcome.specs.WrapsItself.{WrapsItself}
 use Rattle.rules_outcome.proofs.Members.{gather-in, not-in-none}
 use Rattle.rules_outcome.proofs.Bags.{entry-own}
 use Rattle.rules_outcome.proofs.Meets.{meets-6, is-refused, accepted-is}
 use Rattle.rules_outcome.proofs.Determined.{outcome-one}
 use Rattle.rules_outcome.proofs.RunsLists.{passes-some, some-passes}
+use Rattle.rules_outcome.proofs.NamedKey.{Passes, registers, in-band, over-sa}
 use Rattle.rules_outcome.proofs.Demands.{passes-2-and-4}
 
 module _ (f : Frame) where
@@ -56,7 +57,8 @@ module _ (f : Frame) where
   pub clause-exactly : (wrapsItself f ≡ true) ↔ WrapsItself f
   clause-exactly = (found, clause)
 
-module _ (limits : Limits) (s : State) (now : ℕ) (lent octets : List ℕ) (f : Frame) (e : IsFrame octets f) (w : WrapsItself f) where
+module _ (limits : Limits) (s : State) (now : ℕ) (lent octets : List ℕ) (f : Frame) (e : IsFrame (s .profile) octets f)
+    (w : WrapsItself f) where
   abbrev Met : ℕ → Type 0
   Met n = Meets limits s now lent octets n
 
@@ -72,13 +74,19 @@ module _ (limits : Limits) (s : State) (now : ℕ) (lent octets : List ℕ) (f :
     pub answered-six : (n : ℕ) (next : State) → Outcome limits s now lent octets n next → (n ≡ 6) × (next ≡ s)
     answered-six n next o =
         outcome-one limits s now lent octets n 6 next s o
-        (is-refused limits s now lent octets 5 s (record { meets = meets-six; lowest = low; stays = refl }))
+        (is-refused limits s now lent octets 5 s (lowest meets-six low refl))
 
     -- "in a registration": in any other exchange a lower one is
     pub in-a-registration : Registration f
-    in-a-registration =
-        ⊎-elim (λ r. r) (λ q. absurd (not-in-none (w .entry) (subst (In (w .entry)) (q .1) (stands f w))))
-        (passes-2-and-4 limits s now lent octets f e (low 2 (omega arith)) (low 4 (omega arith)))
+    in-a-registration = by (passes-2-and-4 limits s now lent octets f e (low 2 (omega arith)) (low 4 (omega arith)))
+      where
+        has-none : wrapKeysOf f ≡ [] → Registration f
+        has-none q = absurd (not-in-none (w .entry) (subst (In (w .entry)) q (stands f w)))
+
+        by : Passes limits s now lent f → Registration f
+        by (registers g bare) = g
+        by (in-band y q bare) = has-none q
+        by (over-sa y q) = has-none q
 
   -- a frame that has one is never accepted
   pub never-accepted : (next : State) → Outcome limits s now lent octets 0 next → ⊥

@@ -32,9 +32,10 @@ use Rattle.rules_refusals.specs.Number4.{initialMessageIdTwice, delayTwi
 use Rattle.rules_refusals.specs.Number5.{ahPolicy, ahBag, otherTransforms, deleteOfOther, deleteOfNone, lentKeySize, number5OfFrame}
 use Rattle.rules_refusals.specs.Number6.{policyUnpaired, bagUnpaired, policyTwice, bagTwice}
 use Rattle.rules_refusals.specs.Number6.{alreadyInTable, otherSaKeyCount, saKeyCount}
-use Rattle.rules_refusals.specs.Number6.{saKeyId, espKwkId, wrapKeyId, wrapsItself, number6OfFrame, number6OfMember}
+use Rattle.rules_refusals.specs.Number6.{saKeyId, espKwkId, wrapKeyId, wrapsItself, freshKeyId, freshWrapsItself, number6OfFrame}
+use Rattle.rules_refusals.specs.Number6.{number6OfMember}
 use Rattle.rules_refusals.specs.Number7.{manyEspPolicies, manyWrapKeys, manySaKeys, manyDeletedSpis, longLifetime, manySas}
-use Rattle.rules_refusals.specs.Number7.{number7OfFrame, number7OfMember}
+use Rattle.rules_refusals.specs.Number7.{manyFreshKeys, number7OfFrame, number7OfMember}
 use Rattle.rules_refusals.specs.Refusals.{Number, one, judged, number2, number4, number5, number6, number7, numbers, refusal}
 use Rattle.rules_refusals.proofs.Halves.{frameHalf}
 use Rattle.rules_refusals.proofs.SampleParts.{liveSpi, rekeySuite, group, saPolicy, frameOf, tick, Sample, answerWithin}
@@ -43,6 +44,7 @@ use Rattle.rules_refusals.proofs.SamplesOf4.{samplesOf4}
 use Rattle.rules_refusals.proofs.SamplesOf5.{samplesOf5}
 use Rattle.rules_refusals.proofs.SamplesOf6.{samplesOf6}
 use Rattle.rules_refusals.proofs.SamplesOf7.{samplesOf7}
+use Rattle.rules_refusals.proofs.SamplesOfFresh.{samplesOfFresh}
 use Rattle.rules_refusals.proofs.SamplesOfLimits.{samplesOfLimits, samplesBeforeT01}
 use Rattle.rules_refusals.proofs.SamplesOfLifetimes.{samplesOfLifetimes, samplesOfRoom}
 use Rattle.rules_refusals.proofs.SamplesInband.{samplesInband}
@@ -101,6 +103,8 @@ pub record Samples : Type 0 where
   pub of-7 : Answered samplesOf7
   -- document 02, T-07
   pub of-lifetimes : Answered samplesOfLifetimes
+  -- document 02, T-11
+  pub of-fresh : Answered samplesOfFresh
   pub of-room : AnsweredWithin apart samplesOfRoom
   pub of-inband : Answered samplesInband
   -- each clause that can be met alone, in each exchange that can meet it
@@ -111,8 +115,8 @@ pub record Samples : Type 0 where
   pub alone-7 : MetAlone sevenOf alone7
   -- of the member are "registration of a non-empty member", GSA_INBAND_REKEY of an empty one, "rekey whose two SPIs are not ..; a member
   -- value that breaks its list" (2), "already in the table" (6) and "over 16 SAs after the frame" (7; T-01: 64)
-  pub halves : ByFrame 1 alone2 × ByFrame 17 alone4 × ByFrame 6 alone5 × ByFrame 9 alone6 × ByFrame 5 alone7
-  -- under six figures that differ
+  pub halves : ByFrame 1 alone2 × ByFrame 17 alone4 × ByFrame 6 alone5 × ByFrame 11 alone6 × ByFrame 6 alone7
+  -- under seven figures that differ
   pub of-limits : AnsweredWithin apart samplesOfLimits
   -- under document 01's own figures, T-01's "old limits"
   pub before-t01 : AnsweredWithin limitsBeforeT01 samplesBeforeT01
@@ -132,8 +136,8 @@ unfolding refusal judged one any all count keep heads rising newState stateForme
     severalRekeyPolicies severalGroupWide severalMemberBags gsaWithoutSaPolicy keyLengthTwice initialMessageIdTwice delayTwice
     otherDestination lifetimeTwice number4OfFrame ahPolicy ahBag otherTransforms deleteOfOther deleteOfNone lentKeySize number5OfFrame
     policyUnpaired bagUnpaired policyTwice bagTwice alreadyInTable otherSaKeyCount saKeyCount saKeyId espKwkId wrapKeyId wrapsItself
-    number6OfFrame number6OfMember manyEspPolicies manyWrapKeys manySaKeys manyDeletedSpis longLifetime manySas number7OfFrame
-    number7OfMember
+    freshKeyId freshWrapsItself number6OfFrame number6OfMember manyEspPolicies manyWrapKeys manySaKeys manyDeletedSpis longLifetime
+    manyFreshKeys manySas number7OfFrame number7OfMember
     placesFrom
 samples-answered =
     record {
@@ -143,6 +147,7 @@ samples-answered =
       of-6 = refl;
       of-7 = refl;
       of-lifetimes = refl;
+      of-fresh = refl;
       of-room = refl;
       of-inband = refl;
       alone-2 = (refl, refl);

@@ -6,7 +6,8 @@ use Rattle.wire_frames.specs.Delete.{Delete}
 use Rattle.wire_frames.specs.Frame.{Frame, Payload, Content}
 use Rattle.rules_refusals.specs.Contents.{groupSaIn, wideOf, groupBagOf, memberBagOf, policiesOfContent, bagsOfContent}
 use Rattle.rules_refusals.specs.Contents.{deletesOfContent, policiesOf, bagsOf}
-use Rattle.rules_refusals.specs.Contents.{deletesOf, announced, groupWides, groupBags, memberBags, wrapKeysOf, deletedSpis}
+use Rattle.rules_refusals.specs.Contents.{deletesOf, announced, groupWides, groupBags, memberBags, wrapKeysOf, freshKeysOf}
+use Rattle.rules_refusals.specs.Contents.{deletedSpis}
 use Rattle.rules_refusals.specs.Reordered.{AnyOrder, none, next, GroupBagReordered, MemberBagReordered, BagReordered, group, member}
 use Rattle.rules_refusals.specs.Reordered.{ContentReordered, in-gsa, in-kd, in-delete, not-read, PayloadReordered, Reordered}
 use Rattle.rules_refusals.proofs.AnyOrder.{in-order, as-is, gather-order}
@@ -19,7 +20,7 @@ pub equal-lists : {A B : Type 0} (f : A → List B) (a b : A) → a ≡ b → An
 equal-lists f a b e = subst (λ x. AnyOrder _≡_ (f a) (f x)) e (as-is equal (f a))
 
 pub group-same : (b : GroupKeyBag) → GroupBagReordered b b
-group-same b = record { protocol = refl; spi = refl; keys = as-is equal (b .keys) }
+group-same b = record { protocol = refl; spi = refl; keys = as-is equal (b .keys); fresh = as-is equal (b .fresh) }
 
 pub member-same : (b : MemberKeyBag) → MemberBagReordered b b
 member-same b = record { keys = as-is equal (b .keys) }
@@ -83,6 +84,9 @@ module _ {f g : Frame} (r : Reordered f g) where
 
   pub wrap-keys-order : AnyOrder _≡_ (wrapKeysOf f) (wrapKeysOf g)
   wrap-keys-order = gather-order equal (λ (b : MemberKeyBag). b .keys) (λ a b e. e .keys) member-bags-order
+
+  pub fresh-keys-order : AnyOrder _≡_ (freshKeysOf f) (freshKeysOf g)
+  fresh-keys-order = gather-order equal (λ (b : GroupKeyBag). b .fresh) (λ a b e. e .fresh) group-bags-order
 
   pub deleted-order : AnyOrder _≡_ (deletedSpis f) (deletedSpis g)
   deleted-order = gather-order equal (λ (d : Delete). d .spis) (equal-lists (λ (d : Delete). d .spis)) deletes-order

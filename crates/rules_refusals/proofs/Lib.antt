@@ -1,3 +1,4 @@
+pub mod AnyExchange
 pub mod AnyOrder
 pub mod Contents
 pub mod ExchangeRows
@@ -18,6 +19,7 @@ pub mod SamplesOf5
 pub mod SamplesOf6
 pub mod SamplesOf7
 pub mod SamplesOfLimits
+pub mod SamplesOfFresh
 pub mod SamplesOfLifetimes
 pub mod SamplesInband
 pub mod SamplesAlone

@@ -19,10 +19,10 @@ use Rattle.rules_refusals.specs.Number6.{policyNamed, bagNamed, policies
 use Rattle.rules_refusals.specs.Number6.{policyUnpaired, bagUnpaired, policyTwice, bagTwice}
 use Rattle.rules_refusals.specs.Number6.{alreadyInTable, otherSaKeyCount, saKeyCount, hasKeyId}
 use Rattle.rules_refusals.specs.Number6.{saKeyId, hasKwkId, espKwkId, wrapKeyId}
-use Rattle.rules_refusals.specs.Number6.{underItself, wrapsItself, number6OfFrame, number6OfMember}
+use Rattle.rules_refusals.specs.Number6.{underItself, wrapsItself, freshKeyId, freshWrapsItself, number6OfFrame, number6OfMember}
 use Rattle.rules_refusals.specs.Reordered.{GroupBagReordered, Reordered}
 use Rattle.rules_refusals.proofs.AnyOrder.{any-order, any-equal, count-order, count-equal, length-order}
-use Rattle.rules_refusals.proofs.Contents.{announced-order, group-bags-order, wrap-keys-order}
+use Rattle.rules_refusals.proofs.Contents.{announced-order, group-bags-order, wrap-keys-order, fresh-keys-order}
 use Rattle.rules_refusals.proofs.OrderOf4.{row-kept}
 
 -- a test of a bag's name, of its keys
@@ -100,11 +100,19 @@ module _ {f g : Frame} (r : Reordered f g) where
   unfolding wrapsItself
   wraps-itself-kept = any-equal underItself (wrap-keys-order r)
 
+  fresh-key-id-kept : freshKeyId f ≡ freshKeyId g
+  unfolding freshKeyId
+  fresh-key-id-kept = any-equal (λ (k : WrapKey). eqb (k .keyId) 0) (fresh-keys-order r)
+
+  fresh-wraps-itself-kept : freshWrapsItself f ≡ freshWrapsItself g
+  unfolding freshWrapsItself
+  fresh-wraps-itself-kept = any-equal underItself (fresh-keys-order r)
+
   pub six-kept : number6OfFrame f ≡ number6OfFrame g
   unfolding number6OfFrame
   six-kept = λ i.
       policy-paired-kept i ∷ bag-paired-kept i ∷ policy-twice-kept i ∷ bag-twice-kept i ∷ sa-key-count-kept i ∷ key-id-kept i ∷
-      kwk-id-kept i ∷ wrap-key-id-kept i ∷ wraps-itself-kept i ∷ []
+      kwk-id-kept i ∷ wrap-key-id-kept i ∷ wraps-itself-kept i ∷ fresh-key-id-kept i ∷ fresh-wraps-itself-kept i ∷ []
 
   pub six-member-kept : (s : State) (now : ℕ) → number6OfMember s now f ≡ number6OfMember s now g
   unfolding number6OfMember

@@ -14,10 +14,10 @@ use Rattle.wire_frames.specs.Frame.{Frame}
 use Rattle.rules_refusals.specs.Fitness.{isEsp}
 use Rattle.rules_refusals.specs.Number2.{notDueSas}
 use Rattle.rules_refusals.specs.Number7.{manyEspPolicies, manyWrapKeys, manySaKeys, manyDeletedSpis, longLifetime, manySas}
-use Rattle.rules_refusals.specs.Number7.{number7OfFrame, number7OfMember}
+use Rattle.rules_refusals.specs.Number7.{manyFreshKeys, number7OfFrame, number7OfMember}
 use Rattle.rules_refusals.specs.Reordered.{Reordered}
 use Rattle.rules_refusals.proofs.AnyOrder.{any-order, any-equal, count-equal, length-order}
-use Rattle.rules_refusals.proofs.Contents.{announced-order, group-bags-order, wrap-keys-order, deleted-order}
+use Rattle.rules_refusals.proofs.Contents.{announced-order, group-bags-order, wrap-keys-order, fresh-keys-order, deleted-order}
 
 module _ {f g : Frame} (r : Reordered f g) (limits : Limits) where
   esp-kept : manyEspPolicies limits f ≡ manyEspPolicies limits g
@@ -42,13 +42,17 @@ module _ {f g : Frame} (r : Reordered f g) (limits : Limits) where
   unfolding longLifetime
   lifetime-kept = any-equal (λ (p : GroupSaPolicy). any (λ (n : ℕ). ltb mostSeconds n) (p .keyLifetimes)) (announced-order r)
 
+  fresh-keys-kept : manyFreshKeys limits f ≡ manyFreshKeys limits g
+  unfolding manyFreshKeys
+  fresh-keys-kept = ap (ltb (limits .freshKeys)) (length-order (fresh-keys-order r))
+
   sas-kept : (s : State) (now : ℕ) → manySas limits s now f ≡ manySas limits s now g
   unfolding manySas
   sas-kept s now = λ i. ltb (limits .sas) (length (notDueSas now s) + length-order (announced-order r) i)
 
   pub seven-kept : number7OfFrame limits f ≡ number7OfFrame limits g
   unfolding number7OfFrame
-  seven-kept = λ i. esp-kept i ∷ wrap-keys-kept i ∷ sa-keys-kept i ∷ deleted-kept i ∷ lifetime-kept i ∷ []
+  seven-kept = λ i. esp-kept i ∷ wrap-keys-kept i ∷ sa-keys-kept i ∷ deleted-kept i ∷ lifetime-kept i ∷ fresh-keys-kept i ∷ []
 
   pub seven-member-kept : (s : State) (now : ℕ) → number7OfMember limits s now f ≡ number7OfMember limits s now g
   unfolding number7OfMember

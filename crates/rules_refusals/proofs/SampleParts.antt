@@ -109,10 +109,14 @@ abbrev pub wrapKey : ℕ → ℕ → WrapKey
 wrapKey i k = record { keyId = i; kwkId = k; wrapped = [] }
 
 abbrev pub bag : ℕ → List ℕ → List SaKey → Bag
-bag p x l = groupKeys (record { protocol = p; spi = x; keys = l })
+bag p x l = groupKeys (record { protocol = p; spi = x; keys = l; fresh = [] })
 
 abbrev pub espBag : ℕ → Bag
 espBag n = bag 3 (spi n) (saKey 0 0 ∷ [])
+
+-- with a copy under key 0 and these fresh tree keys
+abbrev pub freshBag : List ℕ → List WrapKey → Bag
+freshBag x l = groupKeys (record { protocol = 6; spi = x; keys = saKey 0 0 ∷ []; fresh = l })
 
 -- with n copies, under a KWK ID that is not 0
 abbrev pub rekeyBag : List ℕ → ℕ → Bag
@@ -161,7 +165,8 @@ deleting x m = frameOf x 41 m (payload deletion ∷ [])
 abbrev pub upTo : ℕ → List ℕ
 upTo n = gen (λ (i : ℕ). i) 1 n
 
--- what announces n ESP SAs; what registers with n WRAP_KEY; rekeys with n copies of a new Rekey SA's key, and with n deleted SPIs
+-- what announces n ESP SAs; what registers with n WRAP_KEY; rekeys with n copies of a new Rekey SA's key, with n fresh tree keys, and with
+-- n deleted SPIs
 abbrev pub espSas : ℕ → List Content
 espSas n = gsa (map espPolicy (upTo n)) ∷ kd (map espBag (upTo n)) ∷ []
 
@@ -170,6 +175,9 @@ wrapKeys n = registers (gsa (espPolicy 1 ∷ []) ∷ kd (memberBag (replicate n 
 
 abbrev pub copies : ℕ → Frame
 copies n = rekeys (gsa (rekeyPolicy nextSpi ∷ []) ∷ kd (rekeyBag nextSpi n ∷ []) ∷ [])
+
+abbrev pub freshKeys : ℕ → Frame
+freshKeys n = rekeys (gsa (rekeyPolicy nextSpi ∷ []) ∷ kd (freshBag nextSpi (replicate n (wrapKey 5 0)) ∷ []) ∷ [])
 
 abbrev pub deleted : ℕ → Frame
 deleted n = rekeys (deletes 3 (replicate n (spi 4)) ∷ [])
@@ -222,7 +230,7 @@ heldKey i n = record { id = i; key = wrappingOf (replicate n 1) }
 
 -- under these limits a member with these SAs and held keys
 abbrev pub memberWithin : Limits → List Sa → List HeldKey → Least → State
-memberWithin limits l h m = record { table = tableOf limits l; held = heldOf limits h; least = m }
+memberWithin limits l h m = record { table = tableOf limits l; held = heldOf limits h; least = m; profile = false }
 
 abbrev pub memberOf : List Sa → Least → State
 memberOf l m = memberWithin limits l [] m
@@ -234,7 +242,7 @@ abbrev pub having : ℕ → Condition → State
 having n c = memberOf (sasWith n c) (Id 0)
 
 abbrev pub fresh : State
-fresh = newState limits
+fresh = newState limits false
 
 -- a member whose table has the live Rekey SA alone
 abbrev pub member : Least → State

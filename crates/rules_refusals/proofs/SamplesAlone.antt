@@ -13,7 +13,7 @@ use Rattle.wire_policies.specs.Policy.{groupSa}
 use Rattle.wire_frames.specs.Frame.{Payload, Content, gsa, kd, unread}
 use Rattle.rules_refusals.proofs.SampleParts.{spi, liveSpi, nextSpi, thirdSpi, transform, selector, ip4, group, saPolicy, policy}
 use Rattle.rules_refusals.proofs.SampleParts.{rekeySuite, espPolicy, rekeyPolicy, wide, saKey}
-use Rattle.rules_refusals.proofs.SampleParts.{wrapKey, bag, espBag, rekeyBag, memberBag}
+use Rattle.rules_refusals.proofs.SampleParts.{wrapKey, bag, espBag, rekeyBag, freshBag, memberBag, freshKeys}
 use Rattle.rules_refusals.proofs.SampleParts.{deletes, payload, frameOf, registers, rekeys, inband, another}
 use Rattle.rules_refusals.proofs.SampleParts.{own, fit, deletion, rekeyAt, dueLater, espSas, wrapKeys}
 use Rattle.rules_refusals.proofs.SampleParts.{copies, deleted, having, oneMore, fresh, heldKey, holding, Sample, sample, anew, later}
@@ -139,11 +139,13 @@ alone6 = inEach 6 (
     [])
     -- two copies of a Rekey SA's key in an in-band rekey
     ++ alone 4 (own (inband (gsa (rekeyPolicy nextSpi ∷ []) ∷ kd (rekeyBag nextSpi 2 ∷ []) ∷ [])) 6) ∷
-    -- WRAP_KEY with Key ID 0, WRAP_KEY whose Key ID equals its KWK ID; a name that is already in the table
+    -- WRAP_KEY with Key ID 0, WRAP_KEY whose Key ID equals its KWK ID; the same of fresh tree keys; a name that is already in the table
     alone 7 (anew (registers (gsa (espPolicy 1 ∷ []) ∷ kd (memberBag (wrapKey 0 5 ∷ []) ∷ espBag 1 ∷ []) ∷ [])) 6) ∷
     alone 8 (anew (registers (gsa (espPolicy 1 ∷ []) ∷ kd (memberBag (wrapKey 5 5 ∷ []) ∷ espBag 1 ∷ []) ∷ [])) 6) ∷
-    alone 9 (sample (having 1 dueLater) 0 (rekeys (gsa (espPolicy 1 ∷ []) ∷ kd (espBag 1 ∷ []) ∷ [])) 6) ∷
-    alone 9 (sample (having 1 dueLater) 16 (inband (gsa (espPolicy 1 ∷ []) ∷ kd (espBag 1 ∷ []) ∷ [])) 6) ∷
+    alone 9 (later (rekeys (gsa (rekeyPolicy nextSpi ∷ []) ∷ kd (freshBag nextSpi (wrapKey 0 5 ∷ []) ∷ []) ∷ [])) 6) ∷
+    alone 10 (later (rekeys (gsa (rekeyPolicy nextSpi ∷ []) ∷ kd (freshBag nextSpi (wrapKey 5 5 ∷ []) ∷ []) ∷ [])) 6) ∷
+    alone 11 (sample (having 1 dueLater) 0 (rekeys (gsa (espPolicy 1 ∷ []) ∷ kd (espBag 1 ∷ []) ∷ [])) 6) ∷
+    alone 11 (sample (having 1 dueLater) 16 (inband (gsa (espPolicy 1 ∷ []) ∷ kd (espBag 1 ∷ []) ∷ [])) 6) ∷
     []
 
 -- ---- number 7. A registration announces at most 24 ESP SAs and a Rekey SA, so 64 SAs are passed in rekeys alone
@@ -155,10 +157,11 @@ alone7 = inEach 7 (
     case 4 (espLasting (2000001 ∷ [])) ∷
     case 4 (rekeyLasting (2000001 ∷ [])) ∷
     [])
-    -- WRAP_KEY, SA_KEY in a bag, deleted SPIs, SAs
+    -- WRAP_KEY, SA_KEY in a bag, deleted SPIs, fresh tree keys, SAs
     ++ alone 1 (anew (wrapKeys 129) 7) ∷
     alone 2 (later (copies 33) 7) ∷
     alone 3 (later (deleted 33) 7) ∷
-    alone 5 (sample (having 62 Live) 0 oneMore 7) ∷
-    alone 5 (sample (having (limits .sas - 2) Live) 16 (inband another) 7) ∷
+    alone 5 (later (freshKeys 129) 7) ∷
+    alone 6 (sample (having 62 Live) 0 oneMore 7) ∷
+    alone 6 (sample (having (limits .sas - 2) Live) 16 (inband another) 7) ∷
     []

@@ -1,5 +1,6 @@
 -- Samples of GSA_INBAND_REKEY (document 02, T-02): each clause of numbers 2 to 7 that its row moves, met and just not met.
 use Prim.Native.Nat.{ℕ, _+_, _-_}
+use mathlib.Core.Bool.{false}
 use mathlib.Core.List.{List, [], _∷_, map}
 use lib.ListN.{replicate}
 use Rattle.state_keys.specs.Limits.{limits}
@@ -28,6 +29,7 @@ overfull = record {
   table = record { sas = rekeyAt Live ∷ replicate (limits .sas - 1) blankSa; count = limits .sas + 1 };
   held = heldOf limits [];
   least = Id 0;
+  profile = false;
 }
 
 abbrev pub samplesInband : List Sample

@@ -1,5 +1,6 @@
 -- Samples of numbers 2 and 3.
 use Prim.Native.Nat.{ℕ}
+use mathlib.Core.Bool.{false}
 use mathlib.Core.List.{List, [], _∷_, _++_, map}
 use lib.ListN.{replicate}
 use Rattle.state_keys.specs.Limits.{limits}
@@ -24,6 +25,7 @@ overfull = record {
   table = record { sas = (tableOf limits (rekeyAt Live ∷ [])) .sas; count = 65 };
   held = heldOf limits [];
   least = Id 0;
+  profile = false;
 }
 
 -- Key IDs 1 to n

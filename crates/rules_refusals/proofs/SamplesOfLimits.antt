@@ -1,5 +1,5 @@
--- Samples under a record of six figures that differ. Two of the limits are 128 and two are 32, so samples under the code's figures cannot
--- tell these apart. The words are document 01's. Then samples under document 01's own figures, which T-01 calls the old limits.
+-- Samples under a record of seven figures that differ. Three of the limits are 128 and two are 32, so samples under the code's figures
+-- cannot tell these apart. The words are document 01's. Then samples under document 01's own figures, which T-01 calls the old limits.
 use Prim.Native.Nat.{ℕ}
 use mathlib.Core.List.{List, [], _∷_, map}
 use Rattle.state_keys.specs.Limits.{limitsBeforeT01}
@@ -10,7 +10,7 @@ use Rattle.state.specs.declared.held.HeldKey.{HeldKey}
 use Rattle.state.specs.declared.least.Least.the-variants.{Id}
 use Rattle.state.proofs.ApartLimits.{apart}
 use Rattle.rules_refusals.proofs.SampleParts.{registers, rekeys, fit, deletion, upTo, espSas}
-use Rattle.rules_refusals.proofs.SampleParts.{wrapKeys, copies, deleted, oneMore, sasWith}
+use Rattle.rules_refusals.proofs.SampleParts.{wrapKeys, copies, freshKeys, deleted, oneMore, sasWith}
 use Rattle.rules_refusals.proofs.SampleParts.{dueNow, heldKey, memberWithin, Sample, sample}
 
 abbrev with : List Sa → List HeldKey → State
@@ -33,6 +33,9 @@ samplesOfLimits =
     -- "32 deleted SPIs in the frame": 6
     sample (with (sasWith 1 Live) []) 0 (deleted 6) 0 ∷
     sample (with (sasWith 1 Live) []) 0 (deleted 7) 7 ∷
+    -- "over 128 gives 7": 8
+    sample (with (sasWith 1 Live) []) 0 (freshKeys 8) 0 ∷
+    sample (with (sasWith 1 Live) []) 0 (freshKeys 9) 7 ∷
     -- "over 16 SAs after the frame": 7
     sample (with (sasWith 4 Live) []) 0 oneMore 0 ∷
     sample (with (sasWith 5 Live) []) 0 oneMore 7 ∷

@@ -1,4 +1,4 @@
--- The held list under a record of six figures that differ. The held list and a frame's WRAP_KEYs have limits of one figure, 128, so these
+-- The held list under a record of seven figures that differ. The held list and a frame's WRAP_KEYs have limits of one figure, 128, so these
 -- figures cannot tell the two limits apart.
 use Prim.Native.Nat.{ℕ}
 use mathlib.Core.Path.{_≡_, refl}
@@ -14,7 +14,7 @@ use Rattle.state.specs.declared.held.HeldKey.{HeldKey}
 use Rattle.state.specs.Held.{blankKey, heldOf, keyFormed, distinct, heldFormed, noKey, keyWith, heldKey, enteredKey}
 
 abbrev pub apart : Limits
-apart = record { heldKeys = 2; espPolicies = 3; wrapKeys = 4; saKeys = 5; deletedSpis = 6; sas = 7 }
+apart = record { heldKeys = 2; espPolicies = 3; wrapKeys = 4; saKeys = 5; deletedSpis = 6; sas = 7; freshKeys = 8 }
 
 abbrev key : ℕ → HeldKey
 key i = record { id = i; key = wrappingOf (replicate 16 1) }

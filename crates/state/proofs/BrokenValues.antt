@@ -53,7 +53,7 @@ key i n = record { id = i; key = wrappingOf (replicate n 1) }
 
 -- ---- values
 abbrev value : Table → Held → State
-value t h = record { table = t; held = h; least = Id 0 }
+value t h = record { table = t; held = h; least = Id 0; profile = true }
 
 abbrev ofSas : List Sa → State
 ofSas l = value (tableOf limits l) (heldOf limits [])

@@ -2,7 +2,7 @@
 use native.Mathlib.Omega.{arith}
 use Prim.Native.Nat.{ℕ, _+_, _-_, _≤_, _<_}
 use mathlib.Core.Path.{_≡_, refl, ap, sym, _∙_, subst}
-use mathlib.Core.Bool.{true, false, not, _||_, false≢true}
+use mathlib.Core.Bool.{Bool, true, false, not, _||_, false≢true}
 use mathlib.Core.Logic.{⊎-elim}
 use mathlib.Core.List.{List, [], _∷_, List·Memᴰ, List·Memᴰ·head, List·Memᴰ·tail, List·Memᴰ·not-nil, List·Memᴰ·cases-cons}
 use borrow.Author.Tests.{le-leb, lt-ltb, le-ltb, ltb-true, eq-eqb, ne-eqb, eqb-false, not-true}
@@ -21,7 +21,7 @@ use Rattle.state.specs.declared.held.Held.{Held}
 use Rattle.state.specs.declared.State.{State}
 use Rattle.state.specs.Held.{blankKey, keysOf, heldOf, keyFormed, idsOf, has, distinct, heldFormed, noKey, keyWith}
 use Rattle.state.specs.Held.{idBefore, enteredKey}
-use Rattle.state.specs.State.{newState, stateFormed, withTable, sweptState}
+use Rattle.state.specs.State.{newState, leftState, stateFormed, withTable, sweptState}
 use Rattle.state.specs.Blank.{AllKeysBlank, no-key, StateBlank}
 use Rattle.state.proofs.Laws.{swept-yes, swept-no}
 
@@ -124,9 +124,9 @@ no-key-found id (a ∷ l) e =
 
 -- ---- the state
 module _ (limits : Limits) where
-  pub new-state-formed : stateFormed limits (newState limits) ≡ true
+  pub new-state-formed : (profile : Bool) → stateFormed limits (newState limits profile) ≡ true
   unfolding stateFormed newState
-  new-state-formed = rw (new-formed limits) (no-key-formed limits)
+  new-state-formed profile = rw (new-formed limits) (no-key-formed limits)
 
   kept : (now : ℕ) (s : State) → stateFormed limits s ≡ true → stateFormed limits (withTable (swept limits now (s .table)) s) ≡ true
   unfolding stateFormed
@@ -139,9 +139,18 @@ module _ (limits : Limits) where
   swept-state-formed now s e =
       subst (λ (x : State). stateFormed limits x ≡ true) (swept-yes limits s now (swept limits now (s .table)) e refl) (kept now s e)
 
-  pub new-state-blank : StateBlank limits (newState limits)
+  -- "Leaving keeps the profile" (document 02, T-11)
+  pub left-profile-kept : (s : State) → leftState limits s .profile ≡ s .profile
   unfolding newState
-  new-state-blank =
+  left-profile-kept s = refl
+
+  pub swept-profile-kept : (now : ℕ) (s : State) → sweptState limits now s .profile ≡ s .profile
+  unfolding sweptState
+  swept-profile-kept now s = bool-cases (stateFormed limits s) (λ e. rw e refl) (λ e. rw e refl)
+
+  pub new-state-blank : (profile : Bool) → StateBlank limits (newState limits profile)
+  unfolding newState
+  new-state-blank profile =
       record {
         table = new-blank limits;
         held = ap (heldOf limits) (sym (keys-of-held limits []));

@@ -4,6 +4,7 @@ pub mod held;
 pub mod least;
 
 ghost use mathlib.Core.Path.{_≡_};
+ghost use mathlib.Core.Bool.{false};
 ghost use Rattle.state_keys.specs.Limits.{limits};
 ghost use Rattle.state.specs.State.{newState, stateFormed, sweptState, askedSa};
 use held::Held;
@@ -15,12 +16,21 @@ pub struct State {
     pub table: Table,
     pub held: Held,
     pub least: Least,
+    // the member has the profile: it reads fresh keys (document 02, T-11)
+    pub profile: bool,
 }
 
 impl State {
-    // Makes the state of a new member.
+    // Makes the state of a new member without the profile.
     pub fn new() -> State
-        ensures { λ r. ⌜ r ≡ newState limits ⌝ }
+        ensures { λ r. ⌜ r ≡ newState limits false ⌝ }
+    {
+        State::with_profile(false)
+    }
+
+    // Makes the state of a new member, with or without the profile.
+    pub fn with_profile(profile: bool) -> State
+        ensures { λ r. ⌜ r ≡ newState limits profile ⌝ }
     {
         let table = Table::new();
         let held = Held::new();
@@ -28,6 +38,7 @@ impl State {
             table,
             held,
             least: Least::Id(0),
+            profile,
         }
     }
 
@@ -52,7 +63,12 @@ impl State {
             let table = t.sweep(tick);
             let held = self.held;
             let least = self.least;
-            return State { table, held, least };
+            return State {
+                table,
+                held,
+                least,
+                profile: self.profile,
+            };
         }
         self
     }

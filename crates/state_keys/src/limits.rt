@@ -1,4 +1,4 @@
-// The limits of document 01, four of them raised by document 02, T-01. Each is named once; the record of specs/Limits.antt has the same
+// The limits of document 01, four of them raised by document 02, T-01, and one that T-11 adds. Each is named once; the record of specs/Limits.antt has the same
 // figures.
 ghost use mathlib.Core.Path.{_≡_};
 ghost use mathlib.Core.List.{[], _∷_};
@@ -22,10 +22,14 @@ pub const SA_KEYS: usize = 32;
 // Deleted SPIs in a frame.
 pub const DELETED_SPIS: usize = 32;
 
-// Answers the six limits. Internal: no code calls it. Its promise compares the figures of this file with those of the definitions.
-pub fn figures() -> [usize; 6]
+// Fresh tree keys in a rekey.
+pub const FRESH_KEYS: usize = 128;
+
+// Answers the seven limits. Internal: no code calls it. Its promise compares the figures of this file with those of the definitions.
+pub fn figures() -> [usize; 7]
     ensures { λ r. ⌜ r ≡
-        limits .sas ∷ limits .heldKeys ∷ limits .espPolicies ∷ limits .wrapKeys ∷ limits .saKeys ∷ limits .deletedSpis ∷ [] ⌝ }
+        limits .sas ∷ limits .heldKeys ∷ limits .espPolicies ∷ limits .wrapKeys ∷ limits .saKeys ∷ limits .deletedSpis ∷ limits .freshKeys ∷
+        [] ⌝ }
 {
     [
         SAS,
@@ -34,5 +38,6 @@ pub fn figures() -> [usize; 6]
         WRAP_KEYS,
         SA_KEYS,
         DELETED_SPIS,
+        FRESH_KEYS,
     ]
 }

@@ -55,6 +55,16 @@ lines =
     line place.DataBag 0 meaning.Skipped ∷
     line place.DataBag 1 meaning.SaKey ∷
     line place.DataBag 2 meaning.Skipped ∷
+    -- document 02, T-11: "private attribute 16385 in the Rekey SA's Group Key Bag"; elsewhere "the attribute is skipped"
+    line place.FreshRekeyBag 0 meaning.Skipped ∷
+    line place.FreshRekeyBag 1 meaning.SaKey ∷
+    line place.FreshRekeyBag 2 meaning.Skipped ∷
+    line place.FreshRekeyBag 16384 meaning.Skipped ∷
+    line place.FreshRekeyBag 16385 meaning.FreshKey ∷
+    line place.FreshRekeyBag 16386 meaning.Skipped ∷
+    line place.RekeyBag 16385 meaning.Skipped ∷
+    line place.DataBag 16385 meaning.Skipped ∷
+    line place.MemberBag 16385 meaning.Skipped ∷
     -- section 4.5.3: WRAP_KEY 1, AUTH_KEY 2, GM_SENDER_ID 3
     line place.MemberBag 0 meaning.Skipped ∷
     line place.MemberBag 1 meaning.WrapKey ∷
@@ -71,8 +81,9 @@ pub table-places :
     place.EncryptionTransform ∷ place.OtherTransform ∷ place.OtherTransform ∷ place.OtherTransform ∷ place.OtherTransform ∷
     place.OtherTransform ∷ [])
     × (map inPolicy (6 ∷ 3 ∷ 2 ∷ []) ≡ place.RekeyPolicy ∷ place.DataPolicy ∷ place.DataPolicy ∷ [])
-    × (map inBag (6 ∷ 3 ∷ 2 ∷ []) ≡ place.RekeyBag ∷ place.DataBag ∷ place.DataBag ∷ [])
-table-places = (refl, refl, refl)
+    × (map (inBag false) (6 ∷ 3 ∷ 2 ∷ []) ≡ place.RekeyBag ∷ place.DataBag ∷ place.DataBag ∷ [])
+    × (map (inBag true) (6 ∷ 3 ∷ 2 ∷ []) ≡ place.FreshRekeyBag ∷ place.DataBag ∷ place.DataBag ∷ [])
+table-places = (refl, refl, refl, refl)
 
 -- ---- format (TV or TLV) and octets of the value: taken or not
 pub record Form : Type 0 where
@@ -130,6 +141,15 @@ forms =
     tlv meaning.WrapKey 32 true ∷
     tlv meaning.WrapKey 272 true ∷
     tlv meaning.WrapKey 280 false ∷
+    -- a fresh key has "WRAP_KEY's layout" (document 02, T-11)
+    tv meaning.FreshKey false ∷
+    tlv meaning.FreshKey 0 false ∷
+    tlv meaning.FreshKey 16 false ∷
+    tlv meaning.FreshKey 24 true ∷
+    tlv meaning.FreshKey 28 false ∷
+    tlv meaning.FreshKey 32 true ∷
+    tlv meaning.FreshKey 272 true ∷
+    tlv meaning.FreshKey 280 false ∷
     -- what is skipped may have any
     tv meaning.Skipped true ∷
     tlv meaning.Skipped 0 true ∷

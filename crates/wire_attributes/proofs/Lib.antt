@@ -4,3 +4,4 @@ pub mod SplitGrammar
 pub mod GrammarLaws
 pub mod BreakLaws
 pub mod AttributeTable
+pub mod PlainLaws

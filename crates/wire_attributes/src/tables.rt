@@ -4,6 +4,7 @@ ghost use Prim.Native.Nat.{_<_};
 ghost use Rattle.wire_attributes.specs.Place.{meaningOf, wrappedSize, fourOctets, formatFits, inTransform, inPolicy, inBag};
 ghost use Rattle.wire_attributes.specs.Tree.{codeOf};
 use ikev2_numbers::ENCR;
+use ikev2_numbers::FRESH_KEY;
 use ikev2_numbers::GIKE_UPDATE;
 use ikev2_numbers::GSA_INITIAL_MESSAGE_ID;
 use ikev2_numbers::GSA_KEY_LIFETIME;
@@ -15,7 +16,8 @@ use ikev2_numbers::SA_KEY;
 use ikev2_numbers::WRAP_KEY;
 use ikev2_numbers::WRAPPED_BLOCK;
 
-// Where an attribute stands: in which sort of transform, policy or key bag.
+// Where an attribute stands: in which sort of transform, policy or key bag. `FreshRekeyBag` is a Rekey SA's Group Key Bag in which fresh
+// keys are read, `RekeyBag` one in which they are not.
 pub enum Place {
     EncryptionTransform,
     OtherTransform,
@@ -23,6 +25,7 @@ pub enum Place {
     DataPolicy,
     GroupWidePolicy,
     RekeyBag,
+    FreshRekeyBag,
     DataBag,
     MemberBag,
 }
@@ -36,6 +39,7 @@ pub enum Meaning {
     KeyLifetime,
     SaKey,
     WrapKey,
+    FreshKey,
 }
 
 // Looks up what an attribute of the type `kind` is in `place`.
@@ -88,6 +92,15 @@ pub fn meaning_in(place: Place, kind: usize) -> Meaning
             }
             Meaning::Skipped
         }
+        Place::FreshRekeyBag => {
+            if kind == SA_KEY {
+                return Meaning::SaKey;
+            }
+            if kind == FRESH_KEY {
+                return Meaning::FreshKey;
+            }
+            Meaning::Skipped
+        }
         Place::OtherTransform => Meaning::Skipped,
     }
 }
@@ -137,6 +150,12 @@ pub fn is_formed(m: Meaning, short: bool, n: usize) -> bool
             }
             is_wrapped_size(n)
         }
+        Meaning::FreshKey => {
+            if short {
+                return false;
+            }
+            is_wrapped_size(n)
+        }
     }
 }
 
@@ -160,11 +179,14 @@ pub fn in_policy(protocol: usize) -> Place
     Place::DataPolicy
 }
 
-// Answers the place of the attributes of a Group Key Bag of `protocol`.
-pub fn in_bag(protocol: usize) -> Place
-    ensures { λ r. ⌜ r ≡ inBag protocol ⌝ }
+// Answers the place of the attributes of a Group Key Bag of `protocol`. `fresh` says whether fresh keys are read in a Rekey SA's bag.
+pub fn in_bag(fresh: bool, protocol: usize) -> Place
+    ensures { λ r. ⌜ r ≡ inBag fresh protocol ⌝ }
 {
     if protocol == GIKE_UPDATE {
+        if fresh {
+            return Place::FreshRekeyBag;
+        }
         return Place::RekeyBag;
     }
     Place::DataBag
@@ -182,5 +204,6 @@ pub fn code(m: Meaning) -> usize
         Meaning::KeyLifetime => 4,
         Meaning::SaKey => 5,
         Meaning::WrapKey => 6,
+        Meaning::FreshKey => 7,
     }
 }

@@ -2,6 +2,7 @@
 use Prim.Native.Nat.{ℕ}
 use mathlib.Core.Path.{_≡_, sym, _∙_, subst}
 use mathlib.Core.List.{List}
+use mathlib.Core.Bool.{Bool}
 use native.Mathlib.Omega.{arith}
 use lib.ListN.{length}
 use Rattle.octets.specs.Ignored.{Alike}
@@ -26,16 +27,17 @@ member-alike o x i t h =
       keys = i .keys;
     }
 
-bag-sized : (o : List ℕ) (x : Bag) (i : IsBag o x) → length (bagMask o x i) ≡ length o
-bag-sized o (groupKeys x) (is-group i) = length-all o
-bag-sized o (memberKeys x) (is-member i) = reserved-sized o (i .least)
+module _ (fresh : Bool) where
+  bag-sized : (o : List ℕ) (x : Bag) (i : IsBag fresh o x) → length (bagMask fresh o x i) ≡ length o
+  bag-sized o (groupKeys x) (is-group i) = length-all o
+  bag-sized o (memberKeys x) (is-member i) = reserved-sized o (i .least)
 
-pub bag-alike : (o : List ℕ) (x : Bag) (i : IsBag o x) (t : List ℕ) → Alike (bagMask o x i) o t → IsBag t x
-bag-alike o (groupKeys x) (is-group i) t h = subst (λ (u : List ℕ). IsBag u (groupKeys x)) (alike-all o t h) (is-group i)
-bag-alike o (memberKeys x) (is-member i) t h = is-member (member-alike o x i t h)
+  pub bag-alike : (o : List ℕ) (x : Bag) (i : IsBag fresh o x) (t : List ℕ) → Alike (bagMask fresh o x i) o t → IsBag fresh t x
+  bag-alike o (groupKeys x) (is-group i) t h = subst (λ (u : List ℕ). IsBag fresh u (groupKeys x)) (alike-all o t h) (is-group i)
+  bag-alike o (memberKeys x) (is-member i) t h = is-member (member-alike o x i t h)
 
-pub bags-sized : {s : List ℕ} {l : List Bag} (r : Bags s l) → length (bagsMask r) ≡ length s
-bags-sized r = row-sized bagMask bag-sized bag-alike r
+  pub bags-sized : {s : List ℕ} {l : List Bag} (r : Bags fresh s l) → length (bagsMask fresh r) ≡ length s
+  bags-sized r = row-sized (bagMask fresh) bag-sized bag-alike r
 
-pub bags-alike : {s : List ℕ} {l : List Bag} (r : Bags s l) (t : List ℕ) → Alike (bagsMask r) s t → Bags t l
-bags-alike r t h = row-alike bagMask bag-sized bag-alike r t h
+  pub bags-alike : {s : List ℕ} {l : List Bag} (r : Bags fresh s l) (t : List ℕ) → Alike (bagsMask fresh r) s t → Bags fresh t l
+  bags-alike r t h = row-alike (bagMask fresh) bag-sized bag-alike r t h

@@ -2,7 +2,7 @@
 use Prim.Native.Nat.{ℕ, _+_, _-_}
 use mathlib.Core.Path.{_≡_, ap, sym, _∙_}
 use mathlib.Core.List.{List}
-use mathlib.Core.Bool.{true, false}
+use mathlib.Core.Bool.{Bool, true, false}
 use native.Mathlib.Omega.{arith}
 use lib.ListN.{drop}
 use Rattle.octets.specs.Numbers.{oct}
@@ -20,44 +20,45 @@ use Rattle.wire_policies.specs.Policy.{headSize, headFits}
 use Rattle.wire_policies.proofs.HeadLaws.{head-is}
 use Rattle.wire_bags.specs.Bag.{placeOf, bagOf, bag}
 
-module _ (b : ℕ) (s : List ℕ) where
-  holds : Reading (List Attribute)
-  holds = within (headSize s) (be16 s 2) (attributes (placeOf (oct s 0))) b s
+module _ (fresh : Bool) where
+  module _ (b : ℕ) (s : List ℕ) where
+    holds : Reading (List Attribute)
+    holds = within (headSize s) (be16 s 2) (attributes (placeOf fresh (oct s 0))) b s
 
-  pub bad : headFits s ≡ false → spot.Broken b ≡ spotOf s (bag b s)
-  unfolding bag holds
-  bad e = sym (ap (spotOf s) (opened-not b (headFits s) (mapped (bagOf s) holds) e))
-
-  module _ (fit : headFits s ≡ true) (z n : ℕ) (p : Place) (zq : z ≡ headSize s) (nq : n ≡ be16 s 2) (pq : p ≡ placeOf (oct s 0)) where
-    inner : (y : Layout) → y ≡ layoutOf (attributes p (b + z) (part s z n))
-        → y ≡ layoutOf (attributes (placeOf (oct s 0)) (b + headSize s) (part s (headSize s) (be16 s 2)))
-    inner y q =
-        q ∙ ap (λ (u : ℕ). layoutOf (attributes p (b + u) (part s u n))) zq
-        ∙ ap (λ (u : ℕ). layoutOf (attributes p (b + headSize s) (part s (headSize s) u))) nq
-        ∙ ap (λ (u : Place). layoutOf (attributes u (b + headSize s) (part s (headSize s) (be16 s 2)))) pq
-
-    out : spotOf s holds ≡ spotOf s (bag b s)
+    pub bad : headFits s ≡ false → spot.Broken b ≡ spotOf s (bag fresh b s)
     unfolding bag holds
-    out = spot-mapped (bagOf s) s holds ∙ sym (ap (spotOf s) (opened-is b (headFits s) (mapped (bagOf s) holds) fit))
+    bad e = sym (ap (spotOf s) (opened-not b (headFits s) (mapped (bagOf fresh s) holds) e))
 
-    pub good : layout.Whole ≡ layoutOf (attributes p (b + z) (part s z n)) → spot.Ends n ≡ spotOf s (bag b s)
-    unfolding holds
-    good q =
-        ap spot.Ends nq
-        ∙ held-whole (attributes (placeOf (oct s 0))) b s (headSize s) (be16 s 2) (head-is s fit .1) (inner layout.Whole q) ∙ out
+    module _ (fit : headFits s ≡ true) (z n : ℕ) (p : Place) (zq : z ≡ headSize s) (nq : n ≡ be16 s 2) (pq : p ≡ placeOf fresh (oct s 0)) where
+      inner : (y : Layout) → y ≡ layoutOf (attributes p (b + z) (part s z n))
+          → y ≡ layoutOf (attributes (placeOf fresh (oct s 0)) (b + headSize s) (part s (headSize s) (be16 s 2)))
+      inner y q =
+          q ∙ ap (λ (u : ℕ). layoutOf (attributes p (b + u) (part s u n))) zq
+          ∙ ap (λ (u : ℕ). layoutOf (attributes p (b + headSize s) (part s (headSize s) u))) nq
+          ∙ ap (λ (u : Place). layoutOf (attributes u (b + headSize s) (part s (headSize s) (be16 s 2)))) pq
 
-    pub inner-broken : (o : ℕ) → layout.Broken o ≡ layoutOf (attributes p (b + z) (part s z n)) → spot.Broken o ≡ spotOf s (bag b s)
-    unfolding holds
-    inner-broken o q =
-        held-broken (attributes (placeOf (oct s 0))) b s (headSize s) (be16 s 2) o (inner (layout.Broken o) q) ∙ out
+      out : spotOf s holds ≡ spotOf s (bag fresh b s)
+      unfolding bag holds
+      out = spot-mapped (bagOf fresh s) s holds ∙ sym (ap (spotOf s) (opened-is b (headFits s) (mapped (bagOf fresh s) holds) fit))
 
-pub takes : (b : ℕ) (s : List ℕ) → Takes s (bag b s)
-unfolding bag
-takes b s =
-    let x = within (headSize s) (be16 s 2) (attributes (placeOf (oct s 0))) b s in
-    takes-opened s b (headFits s) (mapped (bagOf s) x)
-    (λ e.
-    let f = head-is s e in
-    takes-mapped (bagOf s) s x
-    (takes-closed s (drop (be16 s 2) s) (attributes (placeOf (oct s 0)) (b + headSize s) (part s (headSize s) (be16 s 2)))
-    (took s (be16 s 2) (omega (arith, f .0)) (f .1))))
+      pub good : layout.Whole ≡ layoutOf (attributes p (b + z) (part s z n)) → spot.Ends n ≡ spotOf s (bag fresh b s)
+      unfolding holds
+      good q =
+          ap spot.Ends nq
+          ∙ held-whole (attributes (placeOf fresh (oct s 0))) b s (headSize s) (be16 s 2) (head-is s fit .1) (inner layout.Whole q) ∙ out
+
+      pub inner-broken : (o : ℕ) → layout.Broken o ≡ layoutOf (attributes p (b + z) (part s z n)) → spot.Broken o ≡ spotOf s (bag fresh b s)
+      unfolding holds
+      inner-broken o q =
+          held-broken (attributes (placeOf fresh (oct s 0))) b s (headSize s) (be16 s 2) o (inner (layout.Broken o) q) ∙ out
+
+  pub takes : (b : ℕ) (s : List ℕ) → Takes s (bag fresh b s)
+  unfolding bag
+  takes b s =
+      let x = within (headSize s) (be16 s 2) (attributes (placeOf fresh (oct s 0))) b s in
+      takes-opened s b (headFits s) (mapped (bagOf fresh s) x)
+      (λ e.
+      let f = head-is s e in
+      takes-mapped (bagOf fresh s) s x
+      (takes-closed s (drop (be16 s 2) s) (attributes (placeOf fresh (oct s 0)) (b + headSize s) (part s (headSize s) (be16 s 2)))
+      (took s (be16 s 2) (omega (arith, f .0)) (f .1))))

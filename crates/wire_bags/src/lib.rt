@@ -12,26 +12,28 @@ use wire_attributes::Layout;
 use wire_attributes::Spot;
 use wire_attributes::tables::Place;
 
-// Answers the place of the attributes of a key bag with the first octet `first`.
-pub fn place_of(first: usize) -> Place
-    ensures { λ r. ⌜ r ≡ placeOf first ⌝ }
+// Answers the place of the attributes of a key bag with the first octet `first`. `fresh` says whether fresh keys are read in the Rekey
+// SA's bag.
+pub fn place_of(fresh: bool, first: usize) -> Place
+    ensures { λ r. ⌜ r ≡ placeOf fresh first ⌝ }
 {
     if first == NO_PROTOCOL {
         return Place::MemberBag;
     }
-    wire_attributes::tables::in_bag(first)
+    wire_attributes::tables::in_bag(fresh, first)
 }
 
-// Reads the key bag at the start of `s` and answers where it ends. `base` is the offset of `s`.
-pub fn bag_spot(s: &[u8], base: usize) -> Spot
+// Reads the key bag at the start of `s` and answers where it ends. `fresh` says whether fresh keys are read in the Rekey SA's bag, `base`
+// is the offset of `s`.
+pub fn bag_spot(fresh: bool, s: &[u8], base: usize) -> Spot
     requires { ⌜ base + length (now s) < 4294967296 ⌝ }
-    ensures { λ r. ⌜ r ≡ spotOf (now (s .entry)) (bag base (now (s .entry))) ⌝ }
+    ensures { λ r. ⌜ r ≡ spotOf (now (s .entry)) (bag fresh base (now (s .entry))) ⌝ }
 {
     if wire_policies::head_fits(s) {
         let p = octets::wide(s[0]);
         let n = octets::numbers::be16_at(s, STRUCTURE_LENGTH_AT);
         let z = POLICY_HEAD + wire_policies::spi_size(p);
-        match wire_attributes::are_attributes(place_of(p), &s[z..n], base + z) {
+        match wire_attributes::are_attributes(place_of(fresh, p), &s[z..n], base + z) {
             Layout::Whole => Spot::Ends(n),
             Layout::Broken(o) => Spot::Broken(o),
         }
@@ -40,14 +42,15 @@ pub fn bag_spot(s: &[u8], base: usize) -> Spot
     }
 }
 
-// Checks that `s` is key bags, one after the other to its end. `base` is the offset of `s`.
-pub fn are_bags(s: &[u8], base: usize) -> Layout
+// Checks that `s` is key bags, one after the other to its end. `fresh` says whether fresh keys are read in the Rekey SA's bag, `base` is
+// the offset of `s`.
+pub fn are_bags(fresh: bool, s: &[u8], base: usize) -> Layout
     requires { ⌜ base + length (now s) < 4294967296 ⌝ }
-    ensures { λ r. ⌜ r ≡ layoutOf (bags base (now (s .entry))) ⌝ }
+    ensures { λ r. ⌜ r ≡ layoutOf (bags fresh base (now (s .entry))) ⌝ }
 {
     let mut at = 0;
     while at < s.len() {
-        match bag_spot(&s[at..], base + at) {
+        match bag_spot(fresh, &s[at..], base + at) {
             Spot::Ends(e) => {
                 at = at + e;
             }

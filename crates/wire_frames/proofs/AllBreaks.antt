@@ -3,6 +3,7 @@
 use Prim.Native.Nat.{ℕ, _+_}
 use mathlib.Core.Path.{_≡_, refl}
 use mathlib.Core.List.{List, [], _∷_, _++_, map}
+use mathlib.Core.Bool.{Bool, true, false}
 use lib.ListN.{length, take, replicate}
 use Rattle.octets.specs.Numbers.{number}
 use Rattle.octets.specs.Walk.{chain, chainUpTo, many}
@@ -25,7 +26,7 @@ abbrev at : ℕ → List ℕ → Break
 at o s = record { octets = s; offset = o }
 
 abbrev AllAt : List Break → Type 0
-AllAt l = map (λ (x : Break). frameLayout (x .octets)) l ≡ map (λ (x : Break). layout.Broken (x .offset)) l
+AllAt l = map (λ (x : Break). frameLayout false (x .octets)) l ≡ map (λ (x : Break). layout.Broken (x .offset)) l
 
 -- ---- octets with right lengths. The header: the kind of the first payload, the version, the length
 abbrev header : ℕ → ℕ → ℕ → List ℕ
@@ -35,7 +36,7 @@ abbrev framed : ℕ → List ℕ → List ℕ
 framed k l = header k 32 (28 + length l) ++ l
 
 -- a payload with the kind of the next; a frame of one GSA, and of one KD: what they hold starts at 32
-abbrev held : ℕ → List ℕ → List ℕ
+abbrev pub held : ℕ → List ℕ → List ℕ
 held n l = n ∷ 0 ∷ 0 ∷ (4 + length l) ∷ l
 
 abbrev gsa : List ℕ → List ℕ
@@ -45,19 +46,19 @@ abbrev kd : List ℕ → List ℕ
 kd l = framed 52 (held 0 l)
 
 -- a group-wide policy or Member Key Bag; a policy or bag of ESP, of the Rekey SA, and of AH
-abbrev wide : List ℕ → List ℕ
+abbrev pub wide : List ℕ → List ℕ
 wide l = 0 ∷ 0 ∷ 0 ∷ (4 + length l) ∷ l
 
-abbrev esp : List ℕ → List ℕ
+abbrev pub esp : List ℕ → List ℕ
 esp l = 3 ∷ 4 ∷ 0 ∷ (8 + length l) ∷ 9 ∷ 8 ∷ 7 ∷ 6 ∷ l
 
-abbrev sixteen : List ℕ
+abbrev pub sixteen : List ℕ
 sixteen = 1 ∷ 2 ∷ 3 ∷ 4 ∷ 5 ∷ 6 ∷ 7 ∷ 8 ∷ 9 ∷ 10 ∷ 11 ∷ 12 ∷ 13 ∷ 14 ∷ 15 ∷ 16 ∷ []
 
-abbrev rekey : List ℕ → List ℕ
+abbrev pub rekey : List ℕ → List ℕ
 rekey l = 6 ∷ 16 ∷ 0 ∷ (20 + length l) ∷ (sixteen ++ l)
 
-abbrev ah : List ℕ → List ℕ
+abbrev pub ah : List ℕ → List ℕ
 ah l = 2 ∷ 4 ∷ 0 ∷ (8 + length l) ∷ 9 ∷ 8 ∷ 7 ∷ 6 ∷ l
 
 -- a selector of 16 octets: type and length
@@ -295,7 +296,7 @@ unfolding frameLayout frame payload body policy suite saBody selector transform 
 samples-break = refl
 
 -- over 16,384 octets, and right but for that: one payload in a frame of 16,385
-pub too-long : frameLayout (take 24 (header 41 32 0) ++ (0 ∷ 0 ∷ 64 ∷ 1 ∷ 0 ∷ 0 ∷ 63 ∷ 229 ∷ replicate 16353 0)) ≡ layout.Broken 0
+pub too-long : frameLayout false (take 24 (header 41 32 0) ++ (0 ∷ 0 ∷ 64 ∷ 1 ∷ 0 ∷ 0 ∷ 63 ∷ 229 ∷ replicate 16353 0)) ≡ layout.Broken 0
 unfolding frameLayout frame number
 too-long = refl
 
@@ -305,13 +306,13 @@ longKey n =
     take 24 (header 52 32 0)
     ++ (0 ∷ 0 ∷ 1 ∷ (44 + n) ∷ 0 ∷ 0 ∷ 1 ∷ (16 + n) ∷ 3 ∷ 4 ∷ 1 ∷ (12 + n) ∷ 9 ∷ 8 ∷ 7 ∷ 6 ∷ 0 ∷ 1 ∷ 1 ∷ n ∷ replicate (256 + n) 0)
 
-pub key-too-long : map frameLayout (longKey 16 ∷ longKey 24 ∷ []) ≡ layout.Whole ∷ layout.Broken 40 ∷ []
+pub key-too-long : map (frameLayout false) (longKey 16 ∷ longKey 24 ∷ []) ≡ layout.Whole ∷ layout.Broken 40 ∷ []
 unfolding frameLayout frame payload body bag attribute many chain chainUpTo number valuesOf
 key-too-long = refl
 
 -- without its fault each of these would be whole: what the rows are made of
 pub wholes-whole :
-    map frameLayout
+    map (frameLayout false)
     (header 0 32 28 ∷ framed 41 (held 42 [] ++ held 0 (3 ∷ 4 ∷ 0 ∷ 1 ∷ 1 ∷ 2 ∷ 3 ∷ 4 ∷ [])) ∷ gsa (wide (128 ∷ 2 ∷ 0 ∷ 5 ∷ [])) ∷
     gsa (wide [] ++ esp (ip4 ++ (ip4 ++ (tf 3 5 [] ++ tf 0 1 (128 ∷ 14 ∷ 0 ∷ 128 ∷ []))))) ∷
     gsa (rekey (ip4 ++ (ip4 ++ (tf 0 5 [] ++ (0 ∷ 2 ∷ 0 ∷ 4 ∷ 0 ∷ 0 ∷ 0 ∷ 7 ∷ []))))) ∷

@@ -69,13 +69,13 @@ read (whole x rest) = map (λ (p : Payload). p .critical) (x .payloads)
 read (broken o) = []
 
 -- the tree stays the same
-ignored-in-sample : map (λ (c : Change). frame (set sample (c .at) (c .octet))) changes ≡ map (λ (c : Change). frame sample) changes
+ignored-in-sample : map (λ (c : Change). frame false (set sample (c .at) (c .octet))) changes ≡ map (λ (c : Change). frame false sample) changes
 unfolding frame payload body policy suite saBody selector transform bag attribute many chain chainUpTo number valuesOf stretches
 ignored-in-sample = refl
 
 -- the critical bit is the top one: it stands at the payload at 178 alone, and is gone with that bit alone; the major version is read
-critical-in-sample : (read (frame sample) ≡ false ∷ false ∷ false ∷ true ∷ false ∷ [])
-    × (read (frame (set sample 179 127)) ≡ false ∷ false ∷ false ∷ false ∷ false ∷ [])
-    × (read (frame (set sample 29 128)) ≡ true ∷ false ∷ false ∷ true ∷ false ∷ []) × (frame (set sample 17 64) ≡ broken 0)
+critical-in-sample : (read (frame false sample) ≡ false ∷ false ∷ false ∷ true ∷ false ∷ [])
+    × (read (frame false (set sample 179 127)) ≡ false ∷ false ∷ false ∷ false ∷ false ∷ [])
+    × (read (frame false (set sample 29 128)) ≡ true ∷ false ∷ false ∷ true ∷ false ∷ []) × (frame false (set sample 17 64) ≡ broken 0)
 unfolding read frame payload body policy suite saBody selector transform bag attribute many chain chainUpTo number valuesOf stretches
 critical-in-sample = (refl, refl, refl, refl)

@@ -46,13 +46,14 @@ module _ (s : List ℕ) where
             (λ j. header.Header (pq j) (xq j) (iq j))
             ∙ all-but true (eq-eqb (oct s 17 / 16) 2 (ap (λ (x : ℕ). x / 16) (sym f) ∙ m))
 
-pub header-is : (s : List ℕ) (p x i : ℕ) → header.Header p x i ≡ headerRead s → (headerFits s ≡ true) × (p ≡ firstPayload s)
+pub header-is : (s : List ℕ) (p x i : ℕ) → header.Header p x i ≡ headerRead s
+    → (headerFits s ≡ true) × (p ≡ firstPayload s) × (x ≡ oct s 18)
 header-is s p x i = go (headerFits s) refl
   where
     go : (t : Bool) → headerFits s ≡ t → header.Header p x i ≡ either t (header.Header (firstPayload s) (oct s 18)
         (be32 s 20)) header.Broken
-        → (headerFits s ≡ true) × (p ≡ firstPayload s)
-    go true e q = (e, cc)
+        → (headerFits s ≡ true) × (p ≡ firstPayload s) × (x ≡ oct s 18)
+    go true e q = (e, cc, cc)
     go false e q = let z : _≡_ {A = ℕ} 0 1 = cc in absurd (omega arith)
 
 pub header-not : (s : List ℕ) → header.Broken ≡ headerRead s → headerFits s ≡ false

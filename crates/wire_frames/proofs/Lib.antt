@@ -1,4 +1,5 @@
 pub mod AllBreaks
+pub mod AllFresh
 pub mod AllIgnored
 pub mod HeaderLaws
 pub mod PayloadLaws
@@ -11,3 +12,4 @@ pub mod FrameBreaks
 pub mod SamplesOfPolicies
 pub mod SamplesOfBags
 pub mod SamplesOfFrames
+pub mod PlainLaws

@@ -90,90 +90,91 @@ module _ (k : ℕ) (s : List ℕ) where
       go (inl e) = by-length (unsized-fault 4 s e)
       go (inr e) = let f = deletes-not e in in-delete (f .0) (delete-fault (part s 4 (be16 s 2)) (f .1))
 
--- the body of a payload whose offset is h
-module _ (k h b : ℕ) (s : List ℕ) where
-  -- a broken D counts for its payload
-  body-delete : k ≡ 42 → deleteFits s ≡ false → body k h b s ≡ broken h
-  unfolding body
-  body-delete e f =
-      let kinds : (m : ℕ) (t : Bool) → eqb 42 m ≡ t → eqb k m ≡ t = λ m t q. ap (λ (y : ℕ). eqb y m) e ∙ q in
-      rw (kinds 51 false refl, kinds 52 false refl, kinds 42 true refl, f)
-
-  module _ (o : ℕ) where
-    body-to : either (eqb k 42) (deleteFits s) true ≡ true → body k h b s ≡ broken o → BreaksContent k b s o
+module _ (fresh : Bool) where
+  -- the body of a payload whose offset is h
+  module _ (k h b : ℕ) (s : List ℕ) where
+    -- a broken D counts for its payload
+    body-delete : k ≡ 42 → deleteFits s ≡ false → body fresh k h b s ≡ broken h
     unfolding body
-    body-to = go (eqb k 51) (eqb k 52) (eqb k 42) refl refl refl
-      where
-        go : (x y z : Bool) → eqb k 51 ≡ x → eqb k 52 ≡ y → eqb k 42 ≡ z → either z (deleteFits s) true ≡ true
-            → either x (mapped gsa (policies b s)) (either y (mapped kd (bags b s)) (either z (opened h (deleteFits s)
-            (whole (delete (deleteOf s)) [])) (whole unread []))) ≡ broken o → BreaksContent k b s o
-        go true y z ex ey ez d q = in-gsa (eqb-true k 51 ex) (policies-to b s o (mapped-broken gsa (policies b s) o q))
-        go false true z ex ey ez d q = in-kd (eqb-true k 52 ey) (bags-to b s o (mapped-broken kd (bags b s) o q))
-        go false false true ex ey ez d q =
-            not-broken (sym (ap (λ (t : Bool). opened h t (whole (delete (deleteOf s)) [])) d) ∙ q)
-        go false false false ex ey ez d q = not-broken q
+    body-delete e f =
+        let kinds : (m : ℕ) (t : Bool) → eqb 42 m ≡ t → eqb k m ≡ t = λ m t q. ap (λ (y : ℕ). eqb y m) e ∙ q in
+        rw (kinds 51 false refl, kinds 52 false refl, kinds 42 true refl, f)
 
-    body-from : BreaksContent k b s o → body k h b s ≡ broken o
-    unfolding body
-    body-from (in-gsa e i) = rw (ap (λ (y : ℕ). eqb y 51) e) (ap (mapped gsa) (policies-from b s o i))
-    body-from (in-kd e i) =
-        let f : eqb k 51 ≡ false = ap (λ (y : ℕ). eqb y 51) e in
-        let g : eqb k 52 ≡ true = ap (λ (y : ℕ). eqb y 52) e in
-        rw (f, g) (ap (mapped kd) (bags-from b s o i))
+    module _ (o : ℕ) where
+      body-to : either (eqb k 42) (deleteFits s) true ≡ true → body fresh k h b s ≡ broken o → BreaksContent fresh k b s o
+      unfolding body
+      body-to = go (eqb k 51) (eqb k 52) (eqb k 42) refl refl refl
+        where
+          go : (x y z : Bool) → eqb k 51 ≡ x → eqb k 52 ≡ y → eqb k 42 ≡ z → either z (deleteFits s) true ≡ true
+              → either x (mapped gsa (policies b s)) (either y (mapped kd (bags fresh b s)) (either z (opened h (deleteFits s)
+              (whole (delete (deleteOf s)) [])) (whole unread []))) ≡ broken o → BreaksContent fresh k b s o
+          go true y z ex ey ez d q = in-gsa (eqb-true k 51 ex) (policies-to b s o (mapped-broken gsa (policies b s) o q))
+          go false true z ex ey ez d q = in-kd (eqb-true k 52 ey) (bags-to fresh b s o (mapped-broken kd (bags fresh b s) o q))
+          go false false true ex ey ez d q =
+              not-broken (sym (ap (λ (t : Bool). opened h t (whole (delete (deleteOf s)) [])) d) ∙ q)
+          go false false false ex ey ez d q = not-broken q
 
-    among-content : BreaksContent k b s o → Among b s o
-    among-content (in-gsa e i) = among-policies b s o i
-    among-content (in-kd e i) = among-bags b s o i
+      body-from : BreaksContent fresh k b s o → body fresh k h b s ≡ broken o
+      unfolding body
+      body-from (in-gsa e i) = rw (ap (λ (y : ℕ). eqb y 51) e) (ap (mapped gsa) (policies-from b s o i))
+      body-from (in-kd e i) =
+          let f : eqb k 51 ≡ false = ap (λ (y : ℕ). eqb y 51) e in
+          let g : eqb k 52 ≡ true = ap (λ (y : ℕ). eqb y 52) e in
+          rw (f, g) (ap (mapped kd) (bags-from fresh b s o i))
 
--- what the payload at b is read to, with D's body among its own fields
-module _ (k b : ℕ) (s : List ℕ) where
-  inner : Reading (Linked ℕ Payload)
-  inner = mapped (payloadOf k s) (within 4 (be16 s 2) (body k b) b s)
+      among-content : BreaksContent fresh k b s o → Among b s o
+      among-content (in-gsa e i) = among-policies b s o i
+      among-content (in-kd e i) = among-bags fresh b s o i
 
-  own-fields : payload k b s ≡ begun 0 s (opened b (both (payloadFits s) (deletes k s)) inner)
-  unfolding payload inner deletes
-  own-fields =
-      ap (begun 0 s)
-      (opened-both b (payloadFits s) (deletes k s) inner
-      (λ e. let f = deletes-not k s e in
-      ap (λ (x : Reading Content). mapped (payloadOf k s) (closed (drop (be16 s 2) s) x))
-      (body-delete k b (b + 4) (part s 4 (be16 s 2)) (f .0) (f .1))))
+  -- what the payload at b is read to, with D's body among its own fields
+  module _ (k b : ℕ) (s : List ℕ) where
+    inner : Reading (Linked ℕ Payload)
+    inner = mapped (payloadOf k s) (within 4 (be16 s 2) (body fresh k b) b s)
 
-  module _ (o : ℕ) where
-    inner-to : both (payloadFits s) (deletes k s) ≡ true → inner ≡ broken o → BreaksContent k (b + 4) (part s 4 (be16 s 2)) o
-    unfolding inner deletes
-    inner-to t q =
-        body-to k b (b + 4) (part s 4 (be16 s 2)) o (both-true (payloadFits s) (deletes k s) t .1)
-        (closed-broken (drop (be16 s 2) s) (body k b (b + 4) (part s 4 (be16 s 2))) o
-        (mapped-broken (payloadOf k s) (within 4 (be16 s 2) (body k b) b s) o q))
-
-    inner-from : BreaksContent k (b + 4) (part s 4 (be16 s 2)) o → inner ≡ broken o
-    unfolding inner
-    inner-from i =
+    own-fields : payload fresh k b s ≡ begun 0 s (opened b (both (payloadFits s) (deletes k s)) inner)
+    unfolding payload inner deletes
+    own-fields =
+        ap (begun 0 s)
+        (opened-both b (payloadFits s) (deletes k s) inner
+        (λ e. let f = deletes-not k s e in
         ap (λ (x : Reading Content). mapped (payloadOf k s) (closed (drop (be16 s 2) s) x))
-        (body-from k b (b + 4) (part s 4 (be16 s 2)) o i)
+        (body-delete k b (b + 4) (part s 4 (be16 s 2)) (f .0) (f .1))))
 
-abbrev Inside : ℕ → ℕ → List ℕ → ℕ → Type 0
-Inside k b s o = BreaksContent k (b + 4) (part s 4 (be16 s 2)) o
+    module _ (o : ℕ) where
+      inner-to : both (payloadFits s) (deletes k s) ≡ true → inner ≡ broken o → BreaksContent fresh k (b + 4) (part s 4 (be16 s 2)) o
+      unfolding inner deletes
+      inner-to t q =
+          body-to k b (b + 4) (part s 4 (be16 s 2)) o (both-true (payloadFits s) (deletes k s) t .1)
+          (closed-broken (drop (be16 s 2) s) (body fresh k b (b + 4) (part s 4 (be16 s 2))) o
+          (mapped-broken (payloadOf k s) (within 4 (be16 s 2) (body fresh k b) b s) o q))
 
-pub payload-to : (k b : ℕ) (s : List ℕ) (o : ℕ) → noneNext k s ≡ false → payload k b s ≡ broken o → BreaksPayload k b s o
-payload-to k b s o n q =
-    let t = both (payloadFits s) (deletes k s) in
-    due-to 0 s (opened b t (inner k b s)) (BreaksStructure (FaultOfPayload k s) (Inside k b s o) b o) o
-    (λ h e. structure-to (FaultOfPayload k s) (Inside k b s o) b t (inner k b s) o (payload-fault k s) (payload-unfit k s)
-    (inner-to k b s o) e)
-    (sym (own-fields k b s) ∙ q)
+      inner-from : BreaksContent fresh k (b + 4) (part s 4 (be16 s 2)) o → inner ≡ broken o
+      unfolding inner
+      inner-from i =
+          ap (λ (x : Reading Content). mapped (payloadOf k s) (closed (drop (be16 s 2) s) x))
+          (body-from k b (b + 4) (part s 4 (be16 s 2)) o i)
 
-pub payload-from : (k b : ℕ) (s : List ℕ) (o : ℕ) → noneNext k s ≡ false → BreaksPayload k b s o → payload k b s ≡ broken o
-payload-from k b s o n i =
-    let t = both (payloadFits s) (deletes k s) in
-    own-fields k b s
-    ∙ due-from 0 s (opened b t (inner k b s)) (BreaksStructure (FaultOfPayload k s) (Inside k b s o) b o) o
-    (structure-from (FaultOfPayload k s) (Inside k b s o) b t (inner k b s) o (payload-fault k s) (payload-unfit k s)
-    (inner-from k b s o)) i
+  abbrev Inside : ℕ → ℕ → List ℕ → ℕ → Type 0
+  Inside k b s o = BreaksContent fresh k (b + 4) (part s 4 (be16 s 2)) o
 
-pub among-payload : (k b : ℕ) (s : List ℕ) (o : ℕ) → BreaksPayload k b s o → AmongOr 0 b s o
-among-payload k b s o i =
-    among-due 0 b s (BreaksStructure (FaultOfPayload k s) (Inside k b s o) b o) o
-    (λ h j. among-structure (FaultOfPayload k s) (Inside k b s o) b s o h
-    (λ n c. among-part b 4 (be16 s 2) s o (among-content k b (b + 4) (part s 4 (be16 s 2)) o c)) j) i
+  pub payload-to : (k b : ℕ) (s : List ℕ) (o : ℕ) → noneNext k s ≡ false → payload fresh k b s ≡ broken o → BreaksPayload fresh k b s o
+  payload-to k b s o n q =
+      let t = both (payloadFits s) (deletes k s) in
+      due-to 0 s (opened b t (inner k b s)) (BreaksStructure (FaultOfPayload k s) (Inside k b s o) b o) o
+      (λ h e. structure-to (FaultOfPayload k s) (Inside k b s o) b t (inner k b s) o (payload-fault k s) (payload-unfit k s)
+      (inner-to k b s o) e)
+      (sym (own-fields k b s) ∙ q)
+
+  pub payload-from : (k b : ℕ) (s : List ℕ) (o : ℕ) → noneNext k s ≡ false → BreaksPayload fresh k b s o → payload fresh k b s ≡ broken o
+  payload-from k b s o n i =
+      let t = both (payloadFits s) (deletes k s) in
+      own-fields k b s
+      ∙ due-from 0 s (opened b t (inner k b s)) (BreaksStructure (FaultOfPayload k s) (Inside k b s o) b o) o
+      (structure-from (FaultOfPayload k s) (Inside k b s o) b t (inner k b s) o (payload-fault k s) (payload-unfit k s)
+      (inner-from k b s o)) i
+
+  pub among-payload : (k b : ℕ) (s : List ℕ) (o : ℕ) → BreaksPayload fresh k b s o → AmongOr 0 b s o
+  among-payload k b s o i =
+      among-due 0 b s (BreaksStructure (FaultOfPayload k s) (Inside k b s o) b o) o
+      (λ h j. among-structure (FaultOfPayload k s) (Inside k b s o) b s o h
+      (λ n c. among-part b 4 (be16 s 2) s o (among-content k b (b + 4) (part s 4 (be16 s 2)) o c)) j) i

@@ -2,6 +2,7 @@
 use Prim.Native.Nat.{ℕ}
 use mathlib.Core.Path.{refl}
 use mathlib.Core.List.{List, [], _∷_, _++_}
+use mathlib.Core.Bool.{true, false}
 use Rattle.octets.specs.Numbers.{number}
 use Rattle.octets.specs.Walk.{whole, broken, chain, chainUpTo, many}
 use Rattle.wire_attributes.specs.Tree.{SaKey, WrapKey, valuesOf}
@@ -20,7 +21,7 @@ abbrev attribute1 : List ℕ
 attribute1 = (0 ∷ 1 ∷ 0 ∷ 24 ∷ []) ++ wrapped
 
 abbrev isGroup : ℕ → List ℕ → List SaKey → Bag
-isGroup p x l = groupKeys (record { protocol = p; spi = x; keys = l })
+isGroup p x l = groupKeys (record { protocol = p; spi = x; keys = l; fresh = [] })
 
 abbrev isMember : List WrapKey → Bag
 isMember l = memberKeys (record { keys = l })
@@ -60,6 +61,6 @@ bagSamples =
     sample (3 ∷ 4 ∷ 0 ∷ 7 ∷ 1 ∷ 2 ∷ 3 ∷ 4 ∷ []) (broken 100) ∷
     []
 
-bags-read : Read bags bagSamples
+bags-read : Read (bags false) bagSamples
 unfolding bag attribute many chain chainUpTo number valuesOf
 bags-read = refl

@@ -86,13 +86,13 @@ samples =
     is (header 52 16 36 ++ (41 ∷ 0 ∷ 0 ∷ 8 ∷ 1 ∷ 0 ∷ 0 ∷ 4 ∷ [])) (layout.Broken 0) ∷
     []
 
-samples-laid : map (λ (s : Sample). frameLayout (s .octets)) samples ≡ map (λ (s : Sample). s .layout) samples
+samples-laid : map (λ (s : Sample). frameLayout false (s .octets)) samples ≡ map (λ (s : Sample). s .layout) samples
 unfolding frameLayout frame payload body policy suite saBody selector transform bag attribute many chain chainUpTo number valuesOf stretches
 samples-laid = refl
 
 -- a whole frame as a tree: the header's fields; payloads of a kind that is not known, the critical bit set and not set; D; an empty GSA;
 -- KD with a Member bag
-whole-frame : frame
+whole-frame : frame false
     (framed 99 70
     ((53 ∷ 128 ∷ 0 ∷ 6 ∷ 1 ∷ 2 ∷ []) ++ ((42 ∷ 127 ∷ 0 ∷ 4 ∷ []) ++ ((42 ∷ 255 ∷ 0 ∷ 12 ∷ 2 ∷ 2 ∷ 0 ∷ 2 ∷ 1 ∷ 2 ∷ 3 ∷ 4 ∷ []) ++
     ((51 ∷ 0 ∷ 0 ∷ 8 ∷ 1 ∷ 0 ∷ 0 ∷ 1 ∷ []) ++ (52 ∷ 0 ∷ 0 ∷ 4 ∷ 0 ∷ 0 ∷ 0 ∷ 8 ∷ 0 ∷ 0 ∷ 0 ∷ 4 ∷ []))))))

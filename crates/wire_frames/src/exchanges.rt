@@ -1,7 +1,7 @@
 // What differs between exchanges (RFC 9838, section 9): one row for each.
 ghost use mathlib.Core.Path.{_≡_};
 ghost use Rattle.ikev2_numbers.specs.Codes.{gsaAuth, gsaInbandRekey, gsaRekey};
-ghost use Rattle.wire_frames.specs.Exchange.{exchangeOf};
+ghost use Rattle.wire_frames.specs.Exchange.{exchangeOf, readsFresh};
 use ikev2_numbers::GSA_AUTH;
 use ikev2_numbers::GSA_INBAND_REKEY;
 use ikev2_numbers::GSA_REGISTRATION;
@@ -52,6 +52,8 @@ pub struct Exchange {
     // the held list is set to the working key path, and not kept
     pub registers: bool,
     pub least: LeastAfter,
+    // fresh keys are read, by a member with the profile
+    pub reads_fresh_keys: bool,
 }
 
 // Answers the row of the exchange type `kind`.
@@ -73,6 +75,14 @@ pub fn exchange_of(kind: usize) -> Exchange
     other()
 }
 
+// Whether fresh keys are read in a frame of the exchange type `kind` that a member with this `profile` gets.
+pub fn reads_fresh(profile: bool, kind: usize) -> bool
+    ensures { λ r. ⌜ r ≡ readsFresh profile kind ⌝ }
+{
+    let row = exchange_of(kind);
+    profile & row.reads_fresh_keys
+}
+
 // Answers the row of GSA_AUTH and GSA_REGISTRATION.
 fn registration() -> Exchange
     ensures { λ r. ⌜ r ≡ exchangeOf gsaAuth ⌝ }
@@ -91,6 +101,7 @@ fn registration() -> Exchange
         authentication: true,
         registers: true,
         least: LeastAfter::Zero,
+        reads_fresh_keys: false,
     }
 }
 
@@ -112,6 +123,7 @@ fn rekey() -> Exchange
         authentication: true,
         registers: false,
         least: LeastAfter::OwnPlusOne,
+        reads_fresh_keys: true,
     }
 }
 
@@ -133,6 +145,7 @@ fn inband() -> Exchange
         authentication: true,
         registers: false,
         least: LeastAfter::Kept,
+        reads_fresh_keys: false,
     }
 }
 
@@ -154,5 +167,6 @@ fn other() -> Exchange
         authentication: false,
         registers: false,
         least: LeastAfter::Zero,
+        reads_fresh_keys: false,
     }
 }

@@ -1,6 +1,7 @@
 // Opened frames: the IKE header, the chain of payloads and the Delete payload (RFC 7296, sections 3.1, 3.2 and 3.11).
-// For customers: `frame_layout`. All else is internal.
+// For customers: `frame_layout` and `layout_with_profile`. All else is internal.
 ghost use mathlib.Core.Path.{_≡_};
+ghost use mathlib.Core.Bool.{false};
 ghost use Prim.Native.Nat.{_+_, _<_};
 ghost use lib.ListN.{length};
 ghost use Rattle.wire_attributes.specs.Answers.{layoutOf, spotOf};
@@ -8,6 +9,7 @@ ghost use Rattle.wire_frames.specs.Delete.{deleteFits};
 ghost use Rattle.wire_frames.specs.Frame.{body, payload, payloads, nothingLeft};
 ghost use Rattle.wire_frames.specs.Laid.{Laid};
 ghost use Rattle.wire_frames.specs.inner.Answers.{headerRead, payloadRead};
+use exchanges::reads_fresh;
 use ikev2_numbers::CRITICAL;
 use ikev2_numbers::DATA_SPI;
 use ikev2_numbers::DELETE;
@@ -109,17 +111,17 @@ fn delete_fits(s: &[u8]) -> bool
     true
 }
 
-// Checks the body `s` of a payload of the type `kind`. `base` is the offset of the body, `holder` that of the payload: a broken Delete body
-// counts for the payload. A body that is not read is whole.
-fn body_layout(kind: usize, s: &[u8], base: usize, holder: usize) -> Layout
+// Checks the body `s` of a payload of the type `kind`. `fresh` says whether fresh keys are read, `base` is the offset of the body, `holder`
+// that of the payload: a broken Delete body counts for the payload. A body that is not read is whole.
+fn body_layout(fresh: bool, kind: usize, s: &[u8], base: usize, holder: usize) -> Layout
     requires { ⌜ base + length (now s) < 4294967296 ⌝ }
-    ensures { λ r. ⌜ r ≡ layoutOf (body kind holder base (now (s .entry))) ⌝ }
+    ensures { λ r. ⌜ r ≡ layoutOf (body fresh kind holder base (now (s .entry))) ⌝ }
 {
     if kind == GSA {
         return wire_policies::are_policies(s, base);
     }
     if kind == KD {
-        return wire_bags::are_bags(s, base);
+        return wire_bags::are_bags(fresh, s, base);
     }
     if kind == DELETE {
         if delete_fits(s) {
@@ -130,11 +132,11 @@ fn body_layout(kind: usize, s: &[u8], base: usize, holder: usize) -> Layout
     Layout::Whole
 }
 
-// Reads the payload of the type `kind` at the start of `s` and answers where it ends. `base` is the offset of `s`. A payload that is
-// missing, where `s` is empty, counts for the header, at 0.
-pub fn payload_spot(kind: usize, s: &[u8], base: usize) -> Spot
+// Reads the payload of the type `kind` at the start of `s` and answers where it ends. `fresh` says whether fresh keys are read, `base` is
+// the offset of `s`. A payload that is missing, where `s` is empty, counts for the header, at 0.
+pub fn payload_spot(fresh: bool, kind: usize, s: &[u8], base: usize) -> Spot
     requires { ⌜ base + length (now s) < 4294967296 ⌝ }
-    ensures { λ r. ⌜ r ≡ spotOf (now (s .entry)) (payload kind base (now (s .entry))) ⌝ }
+    ensures { λ r. ⌜ r ≡ spotOf (now (s .entry)) (payload fresh kind base (now (s .entry))) ⌝ }
 {
     if s.len() == 0 {
         return Spot::Broken(0);
@@ -144,7 +146,13 @@ pub fn payload_spot(kind: usize, s: &[u8], base: usize) -> Spot
             next: _,
             critical: _,
             end,
-        } => match body_layout(kind, &s[PAYLOAD_HEADER..end], base + PAYLOAD_HEADER, base) {
+        } => match body_layout(
+            fresh,
+            kind,
+            &s[PAYLOAD_HEADER..end],
+            base + PAYLOAD_HEADER,
+            base,
+        ) {
             Layout::Whole => Spot::Ends(end),
             Layout::Broken(o) => Spot::Broken(o),
         },
@@ -152,16 +160,16 @@ pub fn payload_spot(kind: usize, s: &[u8], base: usize) -> Spot
     }
 }
 
-// Checks that `s` is payloads to its end, the first of the type `first`. `base` is the offset of `s`. Octets left over count for the
-// header, at 0.
-fn payloads_layout(first: usize, s: &[u8], base: usize) -> Layout
+// Checks that `s` is payloads to its end, the first of the type `first`. `fresh` says whether fresh keys are read, `base` is the offset of
+// `s`. Octets left over count for the header, at 0.
+fn payloads_layout(fresh: bool, first: usize, s: &[u8], base: usize) -> Layout
     requires { ⌜ base + length (now s) < 4294967296 ⌝ }
-    ensures { λ r. ⌜ r ≡ layoutOf (nothingLeft (payloads first base (now (s .entry)))) ⌝ }
+    ensures { λ r. ⌜ r ≡ layoutOf (nothingLeft (payloads fresh first base (now (s .entry)))) ⌝ }
 {
     let mut kind = first;
     let mut at = 0;
     while kind != NO_PAYLOAD {
-        match payload_spot(kind, &s[at..], base + at) {
+        match payload_spot(fresh, kind, &s[at..], base + at) {
             Spot::Ends(e) => {
                 kind = octets::wide(s[at]);
                 at = at + e;
@@ -178,16 +186,26 @@ fn payloads_layout(first: usize, s: &[u8], base: usize) -> Layout
 }
 
 // Checks the layout of the frame `s`, whatever its octets are: whole, or broken (refusal 1) with the offset of the structure that broke
-// first.
-pub fn frame_layout(s: &[u8]) -> Layout
-    ensures { λ r. ⌜ Laid (now (s .entry)) r ⌝ }
+// first. It reads the frame for a member with this `profile` (document 02, T-11): with it fresh keys are read in a GSA_REKEY.
+pub fn layout_with_profile(profile: bool, s: &[u8]) -> Layout
+    ensures { λ r. ⌜ Laid profile (now (s .entry)) r ⌝ }
 {
     match read_header(s) {
         HeaderRead::Header {
             first,
-            exchange: _,
+            exchange,
             message_id: _,
-        } => payloads_layout(first, &s[HEADER..], HEADER),
+        } => {
+            let fresh = reads_fresh(profile, exchange);
+            payloads_layout(fresh, first, &s[HEADER..], HEADER)
+        }
         HeaderRead::Broken => Layout::Broken(0),
     }
+}
+
+// Checks the layout of the frame `s`, whatever its octets are, for a member without the profile: no fresh keys are read.
+pub fn frame_layout(s: &[u8]) -> Layout
+    ensures { λ r. ⌜ Laid false (now (s .entry)) r ⌝ }
+{
+    layout_with_profile(false, s)
 }

@@ -52,7 +52,8 @@ attribute-is p b s a rest q =
 meaningAt : ℕ → Meaning
 meaningAt n =
     either (eqb n 1) meaning.KeyLength (either (eqb n 2) meaning.InitialMessageId (either (eqb n 3) meaning.DeactivationDelay
-    (either (eqb n 4) meaning.KeyLifetime (either (eqb n 5) meaning.SaKey (either (eqb n 6) meaning.WrapKey meaning.Skipped)))))
+    (either (eqb n 4) meaning.KeyLifetime (either (eqb n 5) meaning.SaKey (either (eqb n 6) meaning.WrapKey
+    (either (eqb n 7) meaning.FreshKey meaning.Skipped))))))
 
 at-code : (m : Meaning) → meaningAt (codeOf m) ≡ m
 unfolding meaningAt
@@ -63,6 +64,7 @@ at-code meaning.DeactivationDelay = refl
 at-code meaning.KeyLifetime = refl
 at-code meaning.SaKey = refl
 at-code meaning.WrapKey = refl
+at-code meaning.FreshKey = refl
 
 same-code : (m k : Meaning) → codeOf m ≡ codeOf k → m ≡ k
 same-code m k e = sym (at-code m) ∙ ap meaningAt e ∙ at-code k
@@ -76,6 +78,7 @@ sized meaning.DeactivationDelay short n f h = eq-eqb n 2 (h f)
 sized meaning.KeyLifetime short n f h = both-true (not short) (eqb n 4) f .1
 sized meaning.SaKey short n f h = both-true (not short) (wrappedSize n) f .1
 sized meaning.WrapKey short n f h = both-true (not short) (wrappedSize n) f .1
+sized meaning.FreshKey short n f h = both-true (not short) (wrappedSize n) f .1
 
 record Head (p : Place) (s : List ℕ) : Type 0 where
   fit : fits s ≡ true

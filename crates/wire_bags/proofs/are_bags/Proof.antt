@@ -13,13 +13,13 @@ use Rattle.wire_bags.proofs.are_bags.Statement.{statement}
 use Rattle.wire_bags.proofs.are_bags.Tie as tie
 
 abbrev Inv-loop : tie.InvT-loop
-Inv-loop s base at₀ at = (at ≤ length s) × (layoutOf (bags base s) ≡ layoutOf (bags (base + at) (drop at s)))
+Inv-loop fresh s base at₀ at = (at ≤ length s) × (layoutOf (bags fresh base s) ≡ layoutOf (bags fresh (base + at) (drop at s)))
 
 abbrev μ-loop : tie.MeasureT-loop
-μ-loop s base at₀ at = length s - at
+μ-loop fresh s base at₀ at = length s - at
 
 loop-holds : tie.Need-loop-holds Inv-loop μ-loop
-loop-holds c = let a = c .before .args in (omega arith, loop-starts bag takes (a .base) (now (a .s)))
+loop-holds c = let a = c .before .args in (omega arith, loop-starts (bag (a .fresh)) (takes (a .fresh)) (a .base) (now (a .s)))
 
 sub-bag-spot : tie.Need-sub-bag-spot Inv-loop μ-loop
 sub-bag-spot c = search needs
@@ -52,11 +52,11 @@ next : (c : tie.After-known-told Inv-loop μ-loop)
     let at = c .before .before .before .before .before .before .loop .at in
     let e = c .before .e .given .0 .0 in
     (0 < e) × (at + e ≤ length (now (a .s)))
-    × (layoutOf (bags (a .base) (now (a .s))) ≡ layoutOf (bags (a .base + (at + e)) (drop (at + e) (now (a .s)))))
+    × (layoutOf (bags (a .fresh) (a .base) (now (a .s))) ≡ layoutOf (bags (a .fresh) (a .base + (at + e)) (drop (at + e) (now (a .s)))))
 next c =
     let a = c .before .before .before .before .before .before .before .before .args in
     let l = c .before .before .before .before .before .before .loop in
-    loop-goes bag takes (a .base) (now (a .s)) (l .at) (l .inv .1) (c .before .before .before .before .before .loop-test .taken)
+    loop-goes (bag (a .fresh)) (takes (a .fresh)) (a .base) (now (a .s)) (l .at) (l .inv .1) (c .before .before .before .before .before .loop-test .taken)
     (c .before .e .given .0 .0)
     (sym (c .before .e .given .1) ∙ c .before .before .before .bag-spot .ensures)
 
@@ -76,14 +76,14 @@ returns : tie.Need-returns Inv-loop μ-loop
 returns c =
     let a = c .before .before .before .before .before .before .before .before .args in
     let l = c .before .before .before .before .before .before .loop in
-    loop-breaks bag takes (a .base) (now (a .s)) (l .at) (l .inv .1) (c .before .before .before .before .before .loop-test .taken) _
+    loop-breaks (bag (a .fresh)) (takes (a .fresh)) (a .base) (now (a .s)) (l .at) (l .inv .1) (c .before .before .before .before .before .loop-test .taken) _
     (sym (c .before .o .given .1) ∙ c .before .before .before .bag-spot .ensures)
 
 returns-2 : tie.Need-returns-2 Inv-loop μ-loop
 returns-2 c =
     let a = c .before .before .before .args in
     let l = c .before .loop in
-    loop-ends bag takes (a .base) (now (a .s)) (l .at) (l .inv .1) (c .loop-test .left)
+    loop-ends (bag (a .fresh)) (takes (a .fresh)) (a .base) (now (a .s)) (l .at) (l .inv .1) (c .loop-test .left)
 
 pub are-bags-spec : {M : Type 1} → statement M
 are-bags-spec =

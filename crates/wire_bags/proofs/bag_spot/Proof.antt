@@ -103,11 +103,11 @@ returns c =
     let z : c .before .before .before .before .before .spi-size .result ≡ spiSize (oct (now
     (a .s)) 0) = c .before .before .before .before .before .spi-size .ensures .0 ∙ ap spiSize
     (c .before .before .before .before .before .before .before .wide .ensures .0) in
-    good (a .base) (now (a .s)) (sym
+    good (a .fresh) (a .base) (now (a .s)) (sym
     (c .before .before .before .before .before .before .before .before .before .before .head-fits .ensures)
     ∙ c .before .before .before .before .before .before .before .before .before .if1 .taken) _ _ _ (ap (λ (u : ℕ). 4 + u) z)
     (c .before .before .before .before .before .before .be16-at .ensures .0)
-    (c .before .before .before .before .place-of .ensures ∙ ap placeOf
+    (c .before .before .before .before .place-of .ensures ∙ ap (placeOf (a .fresh))
     (c .before .before .before .before .before .before .before .wide .ensures .0)) (sym (c .enum-told .given .1)
     ∙ c .before .before .are-attributes .ensures)
 
@@ -117,16 +117,16 @@ returns-2 c =
     let z : c .before .before .before .before .before .before .spi-size .result ≡ spiSize (oct (now
     (a .s)) 0) = c .before .before .before .before .before .before .spi-size .ensures .0 ∙ ap spiSize
     (c .before .before .before .before .before .before .before .before .wide .ensures .0) in
-    inner-broken (a .base) (now (a .s)) (sym
+    inner-broken (a .fresh) (a .base) (now (a .s)) (sym
     (c .before .before .before .before .before .before .before .before .before .before .before .head-fits .ensures)
     ∙ c .before .before .before .before .before .before .before .before .before .before .if1 .taken) _ _ _ (ap (λ (u : ℕ). 4 + u) z)
     (c .before .before .before .before .before .before .before .be16-at .ensures .0)
-    (c .before .before .before .before .before .place-of .ensures ∙ ap placeOf
+    (c .before .before .before .before .before .place-of .ensures ∙ ap (placeOf (a .fresh))
     (c .before .before .before .before .before .before .before .before .wide .ensures .0)) _
     (sym (c .before .o .given .1) ∙ c .before .before .before .are-attributes .ensures)
 
 returns-3 : tie.Need-returns-3
-returns-3 c = bad (c .before .before .before .args .base) (now (c .before .before .before .args .s)) (sym (c .before .head-fits .ensures)
+returns-3 c = bad (c .before .before .before .args .fresh) (c .before .before .before .args .base) (now (c .before .before .before .args .s)) (sym (c .before .head-fits .ensures)
     ∙ c .if1 .left)
 
 pub bag-spot-spec : {M : Type 1} → statement M

@@ -11,14 +11,14 @@ use Rattle.wire_frames.proofs.payloads_layout.Statement.{statement}
 use Rattle.wire_frames.proofs.payloads_layout.Tie as tie
 
 abbrev Inv-loop : tie.InvT-loop
-Inv-loop first s base kind₀ at₀ kind at = (at ≤ length s) × (outline (payloads first base s) ≡ outline (payloads kind (base + at)
-    (drop at s)))
+Inv-loop fresh first s base kind₀ at₀ kind at = (at ≤ length s)
+    × (outline (payloads fresh first base s) ≡ outline (payloads fresh kind (base + at) (drop at s)))
 
 abbrev μ-loop : tie.MeasureT-loop
-μ-loop first s base kind₀ at₀ kind at = length s - at
+μ-loop fresh first s base kind₀ at₀ kind at = length s - at
 
 loop-holds : tie.Need-loop-holds Inv-loop μ-loop
-loop-holds c = (omega arith, starts (c .before .args .first) (c .before .args .base) (now (c .before .args .s)))
+loop-holds c = (omega arith, starts (c .before .args .fresh) (c .before .args .first) (c .before .args .base) (now (c .before .args .s)))
 
 sub-payload-spot : tie.Need-sub-payload-spot Inv-loop μ-loop
 sub-payload-spot c = search needs
@@ -49,7 +49,7 @@ within : (c : tie.After-known-told Inv-loop μ-loop)
     (0 < e) × (c .before .before .before .before .before .before .loop .at + e ≤ length (now
     (c .before .before .before .before .before .before .before .before .args .s)))
 within c =
-    inside (c .before .before .before .before .before .before .before .before .args .first)
+    inside (c .before .before .before .before .before .before .before .before .args .fresh) (c .before .before .before .before .before .before .before .before .args .first)
     (c .before .before .before .before .before .before .before .before .args .base) (now
     (c .before .before .before .before .before .before .before .before .args .s))
     (c .before .before .before .before .before .before .loop .kind) (c .before .before .before .before .before .before .loop .at)
@@ -71,7 +71,7 @@ loop-less c = let f = within (c .before .before) in omega (arith, f .0, f .1)
 loop-again : tie.Need-loop-again Inv-loop μ-loop
 loop-again c = (
   within (c .before .before) .1,
-  goes (c .before .before .before .before .before .before .before .before .before .before .args .first)
+  goes (c .before .before .before .before .before .before .before .before .before .before .args .fresh) (c .before .before .before .before .before .before .before .before .before .before .args .first)
       (c .before .before .before .before .before .before .before .before .before .before .args .base) (now
       (c .before .before .before .before .before .before .before .before .before .before .args .s))
       (c .before .before .before .before .before .before .before .before .loop .kind)
@@ -87,7 +87,7 @@ enum-known-o : tie.Need-enum-known-o Inv-loop μ-loop
 enum-known-o c = search needs
 
 returns : tie.Need-returns Inv-loop μ-loop
-returns c = tears (c .before .before .before .before .before .before .before .before .args .first)
+returns c = tears (c .before .before .before .before .before .before .before .before .args .fresh) (c .before .before .before .before .before .before .before .before .args .first)
     (c .before .before .before .before .before .before .before .before .args .base) (now
     (c .before .before .before .before .before .before .before .before .args .s))
     (c .before .before .before .before .before .before .loop .kind) (c .before .before .before .before .before .before .loop .at)
@@ -96,12 +96,12 @@ returns c = tears (c .before .before .before .before .before .before .before .be
     ∙ c .before .before .before .payload-spot .ensures)
 
 returns-2 : tie.Need-returns-2 Inv-loop μ-loop
-returns-2 c = ends (c .before .before .before .before .args .first) (c .before .before .before .before .args .base) (now
+returns-2 c = ends (c .before .before .before .before .args .fresh) (c .before .before .before .before .args .first) (c .before .before .before .before .args .base) (now
     (c .before .before .before .before .args .s)) (c .before .before .loop .kind) (c .before .before .loop .at)
     (c .before .before .loop .inv .0) (c .before .before .loop .inv .1) (c .before .loop-test .left) (c .if1 .taken)
 
 returns-3 : tie.Need-returns-3 Inv-loop μ-loop
-returns-3 c = left-over (c .before .before .before .before .args .first) (c .before .before .before .before .args .base) (now
+returns-3 c = left-over (c .before .before .before .before .args .fresh) (c .before .before .before .before .args .first) (c .before .before .before .before .args .base) (now
     (c .before .before .before .before .args .s)) (c .before .before .loop .kind) (c .before .before .loop .at)
     (c .before .before .loop .inv .0) (c .before .before .loop .inv .1) (c .before .loop-test .left) (c .if1 .left)
 

@@ -52,28 +52,40 @@ enum-told-8 : tie.Need-enum-told-8
 enum-told-8 c = search needs
 
 returns-9 : tie.Need-returns-9
-returns-9 c = simp (c .before .enum-told .given .1, ne-eqb _ _ (c .if1 .left))
+returns-9 c = simp (c .before .enum-told8 .given .1, eq-eqb _ _ (c .if9 .taken))
 
 returns-10 : tie.Need-returns-10
-returns-10 c = simp (c .before .before .enum-told2 .given .1, ne-eqb _ _ (c .before .if2 .left), ne-eqb _ _ (c .if3 .left))
+returns-10 c = simp (c .before .before .enum-told8 .given .1, ne-eqb _ _ (c .before .if9 .left), eq-eqb _ _ (c .if10 .taken))
+
+enum-told-9 : tie.Need-enum-told-9
+enum-told-9 c = search needs
 
 returns-11 : tie.Need-returns-11
-returns-11 c = simp (c .before .enum-told3 .given .1, ne-eqb _ _ (c .if4 .left))
+returns-11 c = simp (c .before .enum-told .given .1, ne-eqb _ _ (c .if1 .left))
 
 returns-12 : tie.Need-returns-12
-returns-12 c = simp (c .before .enum-told4 .given .1, ne-eqb _ _ (c .if5 .left))
+returns-12 c = simp (c .before .before .enum-told2 .given .1, ne-eqb _ _ (c .before .if2 .left), ne-eqb _ _ (c .if3 .left))
 
 returns-13 : tie.Need-returns-13
-returns-13 c = simp (c .before .enum-told5 .given .1, ne-eqb _ _ (c .if6 .left))
+returns-13 c = simp (c .before .enum-told3 .given .1, ne-eqb _ _ (c .if4 .left))
 
 returns-14 : tie.Need-returns-14
-returns-14 c = simp (c .before .enum-told6 .given .1, ne-eqb _ _ (c .if7 .left))
+returns-14 c = simp (c .before .enum-told4 .given .1, ne-eqb _ _ (c .if5 .left))
 
 returns-15 : tie.Need-returns-15
-returns-15 c = simp (c .before .enum-told7 .given .1, ne-eqb _ _ (c .if8 .left))
+returns-15 c = simp (c .before .enum-told5 .given .1, ne-eqb _ _ (c .if6 .left))
 
 returns-16 : tie.Need-returns-16
-returns-16 c = search needs
+returns-16 c = simp (c .before .enum-told6 .given .1, ne-eqb _ _ (c .if7 .left))
+
+returns-17 : tie.Need-returns-17
+returns-17 c = simp (c .before .enum-told7 .given .1, ne-eqb _ _ (c .if8 .left))
+
+returns-18 : tie.Need-returns-18
+returns-18 c = simp (c .before .before .enum-told8 .given .1, ne-eqb _ _ (c .before .if9 .left), ne-eqb _ _ (c .if10 .left))
+
+returns-19 : tie.Need-returns-19
+returns-19 c = search needs
 
 pub meaning-in-spec : {M : Type 1} → statement M
 meaning-in-spec =
@@ -97,9 +109,13 @@ meaning-in-spec =
     enum-told-8
     returns-9
     returns-10
+    enum-told-9
     returns-11
     returns-12
     returns-13
     returns-14
     returns-15
-    returns-16)
+    returns-16
+    returns-17
+    returns-18
+    returns-19)
