@@ -103,8 +103,8 @@ module _ (s : List ℕ) (now delay : ℕ) (before : Table) where
     pub others : List Delete
     pub many : length others ≡ left
     pub inside : (left ≡ 0 → ⊥) → at ≤ length s
-    pub rest : (left ≡ 0 → ⊥) → isWhole (nothingLeft (payloads kind 0 (drop at s))) ≡ true
-    pub here : (left ≡ 0 → ⊥) → deletesAmong (payloadsIn kind (drop at s)) ≡ others
+    pub rest : (left ≡ 0 → ⊥) → isWhole (nothingLeft (payloads false kind 0 (drop at s))) ≡ true
+    pub here : (left ≡ 0 → ⊥) → deletesAmong (payloadsIn false kind (drop at s)) ≡ others
     pub so-far : Retires now delay before after others all
 
   pub going-start : (d : DeletesAt) (l : List Delete) → AreDeletes s d l → Going l before (d .count) 42 (d .start)
@@ -127,9 +127,9 @@ module _ (s : List ℕ) (now delay : ℕ) (before : Table) where
       unfolding gather
       going-kind z = some (sym (w .many) ∙ ap length (sym (w .here some) ∙ delete-none (drop at s) kind z))
 
-      module _ (r : PayloadParts) (g : Step kind s at r) where
+      module _ (r : PayloadParts) (g : Step false kind s at r) where
         abbrev Later : List Delete
-        Later = deletesAmong (payloadsIn (r .next) (drop (at + r .end) s))
+        Later = deletesAmong (payloadsIn false (r .next) (drop (at + r .end) s))
 
         pub going-here : kind ≡ 42 → (after : Table) →
             after ≡ retiredThere (namedIn (deleteOf (part s (at + 4) (at + r .end)) .spis)) now delay t →

@@ -22,7 +22,8 @@ use Rattle.state.specs.declared.least.Least.the-variants.{Id}
 use Rattle.check_payloads.specs.inner.Deletion.{spisIn}
 use Rattle.rules_refusals.specs.Contents.{deletesOf}
 use Rattle.rules_refusals.specs.Number2.{notDueSas}
-use Rattle.rules_outcome.specs.After.{delayOf, newRekey, namedInDelete, replaced, oldSas, insertAll, leastBy, leastAfterwards}
+use Rattle.rules_outcome.specs.Holding.{newRekey}
+use Rattle.rules_outcome.specs.After.{delayOf, namedInDelete, replaced, oldSas, insertAll, leastBy, leastAfterwards}
 use Rattle.apply.specs.declared.next.Said.{Said}
 use Rattle.apply.specs.inner.Tables.{namedIn, outdated, retiredThere, AreDeletes}
 use Rattle.apply.specs.inner.Following.{Told}

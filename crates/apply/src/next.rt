@@ -83,5 +83,11 @@ pub fn next(
     let table = enter_all(old, new, n);
     let before = state.least;
     let least = least_by(x, before);
-    State { table, held, least }
+    let profile = state.profile;
+    State {
+        table,
+        held,
+        least,
+        profile,
+    }
 }

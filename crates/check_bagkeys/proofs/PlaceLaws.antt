@@ -18,14 +18,14 @@ use Rattle.check_bagkeys.specs.declared.BagFacts.{BagFacts}
 use Rattle.check_bagkeys.proofs.BagAt.{BagAt}
 use Rattle.check_bagkeys.proofs.BagLaws.{BagWalk}
 
-module _ (k : List ℕ) where
+module _ (fresh : Bool) (k : List ℕ) where
   -- ---- the place, one bag after the other
   pub nothing-from : (n at : ℕ) → length k ≤ at → memberFrom n at k ≡ nowhere
   unfolding memberFrom
   nothing-from zero at h = refl
   nothing-from (suc n) at h = rw (le-leb (length k) at h) refl
 
-  module _ (n at : ℕ) (h : at < length k) (r : Parts) (b : BagAt k at r) where
+  module _ (n at : ℕ) (h : at < length k) (r : Parts) (b : BagAt fresh k at r) where
     member-next : memberFrom (suc n) at k
         ≡ either (eqb (r .first) 0) (record { start = at + r .body; end = at + r .end }) (memberFrom n (at + r .end) k)
     unfolding memberFrom
@@ -59,7 +59,7 @@ module _ (k : List ℕ) where
         (λ t. let p = w .none (eqb-true (x .end) 0 t) in p .0 ∙ sym (nothing-from (w .fuel) at h) ∙ p .1)
         (λ t. w .some (eqb-false (x .end) 0 t))
 
-    module _ (h : at < length k) (r : Parts) (b : BagAt k at r) where
+    module _ (h : at < length k) (r : Parts) (b : BagAt fresh k at r) where
       one-less : x .end ≡ 0 → memberFrom (suc (w .fuel - 1)) at k ≡ memberIn k
       one-less z =
           let u : suc (w .fuel - 1) ≡ w .fuel = omega (arith, w .enough) in
@@ -101,6 +101,6 @@ module _ (k : List ℕ) where
           (λ t. stays y (q ∙ (λ i. cond (t i && eqb (x .end) 0) here x)) (λ e. t))
 
 -- ---- the walk over a KD body: the facts of the bags passed, and the first Member Key Bag
-pub record KdWalk (k : List ℕ) (f : BagFacts) (x : Stretch) (at : ℕ) : Type 0 where
-  pub bags : BagWalk limits k f at
-  pub found : Sought k x at
+pub record KdWalk (fresh : Bool) (k : List ℕ) (f : BagFacts) (x : Stretch) (at : ℕ) : Type 0 where
+  pub bags : BagWalk limits fresh k f at
+  pub found : Sought fresh k x at

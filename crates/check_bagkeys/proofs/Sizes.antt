@@ -31,6 +31,7 @@ by-code meaning.DeactivationDelay = refl
 by-code meaning.KeyLifetime = refl
 by-code meaning.SaKey = refl
 by-code meaning.WrapKey = refl
+by-code meaning.FreshKey = refl
 
 wrapped-sized : (short : Bool) (n : ℕ) → both (not short) (wrappedSize n) ≡ true → 24 ≤ n
 wrapped-sized short n e = leb-true 24 n (both-true _ _ (both-true (not short) (wrappedSize n) e .1) .0)
@@ -43,6 +44,7 @@ key-sized meaning.DeactivationDelay short n k e = absurd (false≢true k)
 key-sized meaning.KeyLifetime short n k e = absurd (false≢true k)
 key-sized meaning.SaKey short n k e = wrapped-sized short n e
 key-sized meaning.WrapKey short n k e = wrapped-sized short n e
+key-sized meaning.FreshKey short n k e = wrapped-sized short n e
 
 module _ (m : Meaning) (k : carriesKey m ≡ true) (p : Place) where
   is-key : (x : Meaning) → eqb (codeOf x) (codeOf m) ≡ true → carriesKey x ≡ true

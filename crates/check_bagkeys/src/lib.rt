@@ -1,17 +1,16 @@
 // The facts of a KD payload, in one walk: what numbers 4 to 7 of document 01 ask of its key bags, and where the Member Key Bag stands.
+// `fresh` says whether fresh keys are read in the Rekey SA's bag (document 02, T-11).
 // Internal: crates of this repository alone call it.
 pub mod wrapped;
 
 ghost use mathlib.Core.Path.{_≡_};
 ghost use mathlib.Core.Bool.{true};
-ghost use mathlib.Core.List.{List};
-ghost use Prim.Native.Nat.{ℕ, _+_, _<_, _≤_};
-ghost use lib.ListN.{length};
+ghost use Prim.Native.Nat.{_+_, _<_};
 ghost use Rattle.state_keys.specs.Limits.{limits};
 ghost use Rattle.wire_attributes.specs.Layout.{attributes};
 ghost use Rattle.wire_bags.specs.Bag.{placeOf, bags};
-ghost use Rattle.wire_readers.specs.inner.Values.{isWhole, attributesIn};
-ghost use Rattle.check_bagkeys.specs.inner.Facts.{noBags, ofGroup, ofMember, bagWith, ofBag, mergeBagFacts};
+ghost use Rattle.wire_readers.specs.inner.Values.{isWhole};
+ghost use Rattle.check_bagkeys.specs.inner.Facts.{noBags, ofGroup, ofMember, IsOfBag, mergeBagFacts};
 ghost use Rattle.check_bagkeys.specs.inner.Places.{firstMember, kdFactsOf};
 use ikev2_numbers::AH;
 use ikev2_numbers::ESP;
@@ -41,6 +40,10 @@ pub struct BagFacts {
     // some SA_KEY has a Key ID other than 0; some SA_KEY of ESP has a KWK ID other than 0
     pub named: bool,
     pub esp_with_kwk_id: bool,
+    // the number of fresh keys; some fresh key has Key ID 0; some fresh key has a Key ID that equals its KWK ID
+    pub fresh: usize,
+    pub fresh_unnamed: bool,
+    pub fresh_itself: bool,
 }
 
 // The facts of a KD body: those of its bags, and where the attributes of the first Member Key Bag stand in it. The stretch is empty if
@@ -66,12 +69,15 @@ fn no_bags() -> BagFacts
         overfull: false,
         named: false,
         esp_with_kwk_id: false,
+        fresh: 0,
+        fresh_unnamed: false,
+        fresh_itself: false,
     }
 }
 
-// Answers the facts of a Group Key Bag of protocol `protocol`. `k` are the facts of its SA_KEYs.
-fn of_group(protocol: usize, k: KeyFacts) -> BagFacts
-    ensures { λ r. ⌜ r ≡ ofGroup limits protocol k ⌝ }
+// Answers the facts of a Group Key Bag of protocol `protocol`. `k` are the facts of its SA_KEYs, `e` those of its fresh keys.
+fn of_group(protocol: usize, k: KeyFacts, e: KeyFacts) -> BagFacts
+    ensures { λ r. ⌜ r ≡ ofGroup limits protocol k e ⌝ }
 {
     BagFacts {
         members: 0,
@@ -85,6 +91,9 @@ fn of_group(protocol: usize, k: KeyFacts) -> BagFacts
         overfull: SA_KEYS < k.keys,
         named: k.named,
         esp_with_kwk_id: (protocol == ESP) & k.with_kwk_id,
+        fresh: e.keys,
+        fresh_unnamed: e.unnamed,
+        fresh_itself: e.itself,
     }
 }
 
@@ -104,17 +113,24 @@ fn of_member(k: KeyFacts) -> BagFacts
         overfull: false,
         named: false,
         esp_with_kwk_id: false,
+        fresh: 0,
+        fresh_unnamed: false,
+        fresh_itself: false,
     }
 }
 
 // Merges the facts of two groups of bags: adds the counts and keeps a fault of either.
 fn merge(a: BagFacts, b: BagFacts) -> BagFacts
-    requires { ⌜ (a .members + b .members < 18446744073709551616) × (a .wraps + b .wraps < 18446744073709551616) ⌝ }
+    requires { ⌜ (a .members + b .members < 18446744073709551616) × (a .wraps + b .wraps < 18446744073709551616)
+        × (a .fresh + b .fresh < 18446744073709551616) ⌝ }
     ensures { λ r. ⌜ r ≡ mergeBagFacts a b ⌝ }
 {
+    let members = a.members + b.members;
+    let wraps = a.wraps + b.wraps;
+    let fresh = a.fresh + b.fresh;
     BagFacts {
-        members: a.members + b.members,
-        wraps: a.wraps + b.wraps,
+        members,
+        wraps,
         unnamed: a.unnamed | b.unnamed,
         itself: a.itself | b.itself,
         ah: a.ah | b.ah,
@@ -124,25 +140,25 @@ fn merge(a: BagFacts, b: BagFacts) -> BagFacts
         overfull: a.overfull | b.overfull,
         named: a.named | b.named,
         esp_with_kwk_id: a.esp_with_kwk_id | b.esp_with_kwk_id,
+        fresh,
+        fresh_unnamed: a.fresh_unnamed | b.fresh_unnamed,
+        fresh_itself: a.fresh_itself | b.fresh_itself,
     }
 }
 
 // Collects the facts of one bag with the attributes `a`: a Member Key Bag if its first octet `first` is 0, else a Group Key Bag of that
 // protocol.
-fn of_bag(first: usize, a: &[u8]) -> BagFacts
-    requires { ⌜ isWhole (attributes (placeOf first) 0 (now a)) ≡ true ⌝ }
-    ensures { λ r. ⌜
-        ((x : List ℕ) → r ≡ ofBag limits (bagWith first x (attributesIn (placeOf first) (now (a .entry)))))
-        × (r .members ≤ 1) × (r .wraps ≤ length (now (a .entry)))
-        ⌝ }
+fn of_bag(fresh: bool, first: usize, a: &[u8]) -> BagFacts
+    requires { ⌜ isWhole (attributes (placeOf fresh first) 0 (now a)) ≡ true ⌝ }
+    ensures { λ r. ⌜ IsOfBag limits fresh first (now (a .entry)) r ⌝ }
 {
     if first == 0 {
         return of_member(wrapped::keys_of(Meaning::WrapKey, Place::MemberBag, a));
     }
-    of_group(
-        first,
-        wrapped::keys_of(Meaning::SaKey, wire_attributes::tables::in_bag(first), a),
-    )
+    let place = wire_attributes::tables::in_bag(fresh, first);
+    let k = wrapped::keys_of(Meaning::SaKey, place, a);
+    let e = wrapped::keys_of(Meaning::FreshKey, place, a);
+    of_group(first, k, e)
 }
 
 // Answers where the attributes of the first Member Key Bag stand, once the bag with first octet `first` is read: `here` if it is a Member
@@ -157,9 +173,9 @@ fn first_member(first: usize, here: Stretch, known: Stretch) -> Stretch
 }
 
 // Collects the facts of KD body `kd`.
-pub fn kd_facts(kd: &[u8]) -> KdFacts
-    requires { ⌜ isWhole (bags 0 (now kd)) ≡ true ⌝ }
-    ensures { λ r. ⌜ r ≡ kdFactsOf limits (now (kd .entry)) ⌝ }
+pub fn kd_facts(fresh: bool, kd: &[u8]) -> KdFacts
+    requires { ⌜ isWhole (bags fresh 0 (now kd)) ≡ true ⌝ }
+    ensures { λ r. ⌜ r ≡ kdFactsOf limits fresh (now (kd .entry)) ⌝ }
 {
     let mut f = no_bags();
     let mut found = Stretch { start: 0, end: 0 };
@@ -169,7 +185,7 @@ pub fn kd_facts(kd: &[u8]) -> KdFacts
         let start = at + p.body;
         let end = at + p.end;
         found = first_member(p.first, Stretch { start, end }, found);
-        f = merge(f, of_bag(p.first, &kd[start..end]));
+        f = merge(f, of_bag(fresh, p.first, &kd[start..end]));
         at = end;
     }
     KdFacts {

@@ -63,6 +63,7 @@ fn number_of(m: Meaning, v: &[u8]) -> u32
         Meaning::KeyLength => 0,
         Meaning::SaKey => 0,
         Meaning::WrapKey => 0,
+        Meaning::FreshKey => 0,
     }
 }
 

@@ -2,7 +2,7 @@
 use native.Mathlib.Omega.{arith}
 use Prim.Native.Nat.{ℕ, _≤_}
 use mathlib.Core.Path.{_≡_, sym}
-use mathlib.Core.Bool.{false}
+use mathlib.Core.Bool.{Bool, false}
 use mathlib.Core.List.{List}
 use borrow.Author.Tests.{ltb-false}
 use Rattle.state_keys.specs.Lists.{count}
@@ -14,7 +14,7 @@ use Rattle.rules_refusals.specs.Number4.{twoGsa, twoKd, number4OfFrame}
 use Rattle.rules_refusals.specs.Refusals.{number4, applies}
 use Rattle.rules_refusals.proofs.Clear.{clause-of-frame}
 
-module _ (s : List ℕ) (f : Frame) (b : PayloadFacts) (is : OfFrame s f b) (none : false ≡ applies (number4 f)) where
+module _ (fresh : Bool) (s : List ℕ) (f : Frame) (b : PayloadFacts) (is : OfFrame fresh s f b) (none : false ≡ applies (number4 f)) where
   pub one-gsa-at-most : b .gsas ≤ 1
   unfolding twoGsa number4OfFrame
   one-gsa-at-most =

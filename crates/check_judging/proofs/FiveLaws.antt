@@ -16,7 +16,7 @@ use Rattle.wire_frames.specs.declared.exchanges.Exchange.{Exchange}
 use Rattle.rules_refusals.specs.Contents.{rowOf, policiesOf, bagsOf}
 use Rattle.rules_refusals.specs.Number2.{notDueSas}
 use Rattle.rules_refusals.specs.Number5.{ahPolicy, ahBag, otherTransforms, lentKeySize, number5OfFrame}
-use Rattle.rules_refusals.specs.Number7.{manyEspPolicies, manyWrapKeys, manySaKeys, manyDeletedSpis, longLifetime, manySas}
+use Rattle.rules_refusals.specs.Number7.{manyEspPolicies, manyWrapKeys, manySaKeys, manyDeletedSpis, longLifetime, manyFreshKeys, manySas}
 use Rattle.rules_refusals.specs.Number7.{number7OfFrame, number7OfMember}
 use Rattle.rules_refusals.specs.Refusals.{one, number5, number7, applies}
 use Rattle.rules_refusals.proofs.OneOf.{or-false, one-append}
@@ -48,8 +48,8 @@ module _ (f : Frame) (row : Exchange) (e : rowOf f ≡ row) (d : Deletes) (is : 
 
   pub seven-is : (state : State) (now n : ℕ) → n ≡ length (notDueSas now state)
       → one (number7Of limits d p k n) ≡ applies (number7 limits state now f)
-  unfolding manyEspPolicies manyWrapKeys manySaKeys manyDeletedSpis longLifetime manySas number7OfFrame number7OfMember
+  unfolding manyEspPolicies manyWrapKeys manySaKeys manyDeletedSpis longLifetime manyFreshKeys manySas number7OfFrame number7OfMember
   seven-is state now n nq =
       (λ i. one (ltb (limits .espPolicies) (pq i .esps) ∷ ltb (limits .wrapKeys) (kq i .wraps) ∷ kq i .overfull
-      ∷ ltb (limits .deletedSpis) (is .spis i) ∷ pq i .long ∷ ltb (limits .sas) (nq i + pq i .sas) ∷ []))
+      ∷ ltb (limits .deletedSpis) (is .spis i) ∷ pq i .long ∷ ltb (limits .freshKeys) (kq i .fresh) ∷ ltb (limits .sas) (nq i + pq i .sas) ∷ []))
       ∙ one-append (number7OfFrame limits f) (number7OfMember limits state now f)

@@ -86,10 +86,10 @@ one-gsa (p ∷ l) h =
     later-without p l e ∙ one-gsa l (omega arith) ∙ (λ i. ltb 0 (sym c i) && not (withSa (sym q i))))
 
 -- THE TESTS
-module _ (s : List ℕ) (f : Frame) (b : PayloadFacts) (is : OfFrame s f b) (row : Exchange) (e : rowOf f ≡ row) (p : PolicyFacts)
+module _ (fresh : Bool) (s : List ℕ) (f : Frame) (b : PayloadFacts) (is : OfFrame fresh s f b) (row : Exchange) (e : rowOf f ≡ row) (p : PolicyFacts)
     (k : BagFacts)
     (pq : p ≡ policyFacts (row .authentication) (policiesIn (part s (b .gsa .start) (b .gsa .end))))
-    (kq : k ≡ bagFacts limits (bagsIn (part s (b .kd .start) (b .kd .end)))) where
+    (kq : k ≡ bagFacts limits (bagsIn fresh (part s (b .kd .start) (b .kd .end)))) where
   -- with one GSA and one KD at most, the facts of their bodies are the frame's
   pub policies-are : b .gsas ≤ 1 → p ≡ policyFacts (rowOf f .authentication) (policiesOf f)
   policies-are h = pq ∙ (λ i. policyFacts (sym e i .authentication) (is .policies h .all i))

@@ -1,8 +1,8 @@
 -- The facts of a frame, and the number that the tests over them give.
 use Prim.Native.Nat.{ℕ, _≤_}
-use mathlib.Core.Path.{_≡_, ap, sym, _∙_}
+use mathlib.Core.Path.{_≡_, ap, sym, _∙_, subst}
 use mathlib.Core.List.{List, [], _∷_}
-use mathlib.Core.Bool.{Bool, true, false}
+use mathlib.Core.Bool.{Bool, true, false, _&&_}
 use lib.ListN.{length}
 use Rattle.octets.specs.Walk.{whole}
 use Rattle.state_keys.specs.Limits.{limits}
@@ -35,7 +35,11 @@ use Rattle.check_judging.proofs.FiveLaws.{five-is, seven-is}
 use Rattle.check_judging.proofs.SixLaws.{six-is}
 
 module _ (state : State) (tick : ℕ) (lent s : List ℕ) (few : state .table .count ≤ limits .sas) (row : Exchange) (x : Facts)
-    (w : x ≡ frameFactsOf (row .authentication) s) where
+    (w : x ≡ frameFactsOf (state .profile) row s) where
+  -- whether fresh keys are read in the frame
+  abbrev fresh : Bool
+  fresh = state .profile && row .«reads_fresh_keys»
+
   abbrev b : PayloadFacts
   b = x .payloads
 
@@ -63,41 +67,43 @@ module _ (state : State) (tick : ℕ) (lent s : List ℕ) (few : state .table .c
       ap (λ (y : Facts). y .policies) w
       ∙ ap (λ (y : PayloadFacts). policyFacts (row .authentication) (policiesIn (at s (y .gsa)))) (sym bodies-are)
 
-  bags-in : k ≡ bagFacts limits (bagsIn kdIn)
+  bags-in : k ≡ bagFacts limits (bagsIn fresh kdIn)
   bags-in =
-      ap (λ (y : Facts). y .bags) w ∙ ap (λ (y : PayloadFacts). bagFacts limits (bagsIn (at s (y .kd)))) (sym bodies-are)
+      ap (λ (y : Facts). y .bags) w ∙ ap (λ (y : PayloadFacts). bagFacts limits (bagsIn fresh (at s (y .kd)))) (sym bodies-are)
 
-  pub its-payloads : (f : Frame) → frame s ≡ whole f [] → OfFrame s f (x .payloads)
-  its-payloads f q = facts-of s b bodies-are f q
+  pub its-payloads : (f : Frame) → frame (state .profile) s ≡ whole f [] → rowOf f ≡ row
+      → OfFrame (state .profile && row .«reads_fresh_keys») s f (x .payloads)
+  its-payloads f q e =
+      subst (λ (r : Exchange). OfFrame (state .profile && r .«reads_fresh_keys») s f b) e (facts-of (state .profile) s b bodies-are f q)
 
   -- ---- each number of a frame that reads so
-  module _ (f : Frame) (q : frame s ≡ whole f []) (e : rowOf f ≡ row) where
+  module _ (f : Frame) (q : frame (state .profile) s ≡ whole f []) (e : rowOf f ≡ row) where
     four-at : (y : Bool) → y ≡ one (number4By row x) → y ≡ applies (number4 f)
-    four-at y h = h ∙ four-is s f b (its-payloads f q) row e p k policies-in bags-in
+    four-at y h = h ∙ four-is fresh s f b (its-payloads f q e) row e p k policies-in bags-in
 
     module _ (none : false ≡ applies (number4 f)) where
       gsas : b .gsas ≤ 1
-      gsas = one-gsa-at-most s f b (its-payloads f q) none
+      gsas = one-gsa-at-most fresh s f b (its-payloads f q e) none
 
       kds : b .kds ≤ 1
-      kds = one-kd-at-most s f b (its-payloads f q) none
+      kds = one-kd-at-most fresh s f b (its-payloads f q e) none
 
       its-policies : p ≡ policyFacts (rowOf f .authentication) (policiesOf f)
-      its-policies = policies-are s f b (its-payloads f q) row e p k policies-in bags-in gsas
+      its-policies = policies-are fresh s f b (its-payloads f q e) row e p k policies-in bags-in gsas
 
       its-bags : k ≡ bagFacts limits (bagsOf f)
-      its-bags = bags-are s f b (its-payloads f q) row e p k policies-in bags-in kds
+      its-bags = bags-are fresh s f b (its-payloads f q e) row e p k policies-in bags-in kds
 
       five-at : (y : Bool) → y ≡ one (number5By row (length lent) x) → y ≡ applies (number5 lent f)
-      five-at y h = h ∙ five-is f row e d (its-payloads f q .deletion) p k its-policies its-bags lent
+      five-at y h = h ∙ five-is f row e d (its-payloads f q e .deletion) p k its-policies its-bags lent
 
       six-at : (y : Bool)
           → ((l m : List Name) → Names gsaIn l → Names kdIn m → y ≡ one (number6By row x l m tick (sasOf (state .table))))
           → y ≡ applies (number6 state tick f)
       six-at y h =
-          let is = its-payloads f q in
-          h (policyNames (policiesIn gsaIn)) (bagNames (bagsIn kdIn)) (policy-names gsaIn (is .gsaWhole))
-          (bag-names kdIn (is .kdWhole))
+          let is = its-payloads f q e in
+          h (policyNames (policiesIn gsaIn)) (bagNames (bagsIn fresh kdIn)) (policy-names gsaIn (is .gsaWhole))
+          (bag-names fresh kdIn (is .kdWhole))
           ∙ (λ i. one (number6By row x (policyNames (is .policies gsas .all i)) (bagNames (is .bags kds .all i)) tick
           (sasOf (state .table))))
           ∙ six-is row f e k its-bags state tick
@@ -105,19 +111,19 @@ module _ (state : State) (tick : ℕ) (lent s : List ℕ) (few : state .table .c
       seven-at : (y : Bool) (n : ℕ) → n ≡ standingCount limits tick (state .table) → y ≡ one (number7By limits x n)
           → y ≡ applies (number7 limits state tick f)
       seven-at y n u h =
-          h ∙ seven-is f row e d (its-payloads f q .deletion) p k its-policies its-bags state tick n
+          h ∙ seven-is f row e d (its-payloads f q e .deletion) p k its-policies its-bags state tick n
           (u ∙ stand limits tick (state .table) few)
 
   -- ---- the first that applies
   abbrev Judged : ℕ → Type 0
-  Judged n = (f : Frame) → frame s ≡ whole f [] → rowOf f ≡ row → n ≡ judged (onFrame limits state tick lent f)
+  Judged n = (f : Frame) → frame (state .profile) s ≡ whole f [] → rowOf f ≡ row → n ≡ judged (onFrame limits state tick lent f)
 
   module _ (x4 : Bool) (h4 : x4 ≡ one (number4By row x)) where
     pub at-4 : x4 ≡ true → Judged 4
     at-4 t = λ f q e. applying (number4 f) _ (sym t ∙ four-at f q e x4 h4)
 
     module _ (n4 : x4 ≡ false) (x5 : Bool) (h5 : x5 ≡ one (number5By row (length lent) x)) where
-      none-4 : (f : Frame) → frame s ≡ whole f [] → rowOf f ≡ row → false ≡ applies (number4 f)
+      none-4 : (f : Frame) → frame (state .profile) s ≡ whole f [] → rowOf f ≡ row → false ≡ applies (number4 f)
       none-4 f q e = sym n4 ∙ four-at f q e x4 h4
 
       pub at-5 : x5 ≡ true → Judged 5

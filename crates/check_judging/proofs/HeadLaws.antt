@@ -4,7 +4,7 @@ use Prim.Native.Nat.{ℕ, _≤_}
 use mathlib.Core.Path.{_≡_, refl, ap, sym, _∙_}
 use mathlib.Core.Bool.{Bool, true, false, not}
 use mathlib.Core.List.{List, []}
-use lib.ListN.{take, drop}
+use lib.ListN.{take}
 use Rattle.octets.specs.Numbers.{oct}
 use Rattle.octets.specs.Walk.{be32, either, whole, mapped}
 use Rattle.octets.proofs.Inverse.{inverse-opened}
@@ -12,7 +12,7 @@ use Rattle.state_keys.specs.Limits.{Limits}
 use Rattle.state_keys.proofs.Cases.{never, and-parts}
 use Rattle.wire_frames.specs.Header.{firstPayload, headerFits}
 use Rattle.wire_frames.specs.inner.Answers.{headerRead}
-use Rattle.wire_frames.specs.Frame.{Frame, frame, frameOf, nothingLeft, payloads}
+use Rattle.wire_frames.specs.Frame.{Frame, frame, frameOf, framePayloads}
 use Rattle.wire_frames.proofs.HeaderLaws.{header-not}
 use Rattle.wire_frames.specs.Exchange.{exchangeOf}
 use Rattle.wire_frames.specs.declared.exchanges.Exchange.{Exchange}
@@ -36,16 +36,16 @@ header-fields s p x i e = by (headerFits s) e
     by true g = (cc, cc)
     by false g = let z : _≡_ {A = ℕ} 0 1 = cc in absurd (omega arith)
 
-module _ (limits : Limits) (state : State) (tick : ℕ) (lent s : List ℕ) (f : Frame) (q : frame s ≡ whole f []) (p x i : ℕ)
+module _ (limits : Limits) (state : State) (tick : ℕ) (lent s : List ℕ) (f : Frame) (q : frame (state .profile) s ≡ whole f []) (p x i : ℕ)
     (e : header.Header p x i ≡ headerRead s) where
   exchange-is : x ≡ f .header .exchange
-  exchange-is = header-fields s p x i e .0 ∙ read-frame s f [] q .exchange
+  exchange-is = header-fields s p x i e .0 ∙ read-frame (state .profile) s f [] q .exchange
 
   id-is : i ≡ f .header .messageId
-  id-is = header-fields s p x i e .1 ∙ read-frame s f [] q .messageId
+  id-is = header-fields s p x i e .1 ∙ read-frame (state .profile) s f [] q .messageId
 
   two-is : applies (number2 limits state tick x (take 16 s)) ≡ applies (number2 limits state tick (f .header .exchange) (f .header .spi))
-  two-is = λ j. applies (number2 limits state tick (exchange-is j) (read-frame s f [] q .spi j))
+  two-is = λ j. applies (number2 limits state tick (exchange-is j) (read-frame (state .profile) s f [] q .spi j))
 
   three-is : applies (number3 state x i) ≡ applies (number3 state (f .header .exchange) (f .header .messageId))
   three-is = λ j. applies (number3 state (exchange-is j) (id-is j))
@@ -86,8 +86,8 @@ few-sas limits state tick x spi e =
     is-true false h = sym h
 
 -- a frame that is whole has a header
-pub no-header : (s : List ℕ) (f : Frame) → frame s ≡ whole f [] → header.Broken ≡ headerRead s → ⊥
+pub no-header : (profile : Bool) (s : List ℕ) (f : Frame) → frame profile s ≡ whole f [] → header.Broken ≡ headerRead s → ⊥
 unfolding frame
-no-header s f q e =
-    let r = inverse-opened 0 (headerFits s) (mapped (frameOf s) (nothingLeft (payloads (firstPayload s) 28 (drop 28 s)))) f [] q in
+no-header profile s f q e =
+    let r = inverse-opened 0 (headerFits s) (mapped (frameOf s) (framePayloads profile s)) f [] q in
     never (headerFits s) (r .0) (header-not s e)

@@ -57,7 +57,7 @@ unfolding gather
 only-one m [] h = append-nil (m .keys)
 only-one m (a ∷ l) h = absurd (omega arith)
 
-module _ (k : List ℕ) where
+module _ (fresh : Bool) (k : List ℕ) where
   none : (l : List Bag) → l ≡ [] → MemberIs k l nowhere
   unfolding gather valuesOf
   none l e =
@@ -69,12 +69,12 @@ module _ (k : List ℕ) where
         inside = omega arith;
       }
 
-  module _ (at : ℕ) (r : Parts) (b : BagAt k at r) where
-    here : eqb (r .first) 0 ≡ true → length (gather memberBagOf (bagsIn (drop at k))) ≤ 1 →
-        MemberIs k (bagsIn (drop at k)) (record { start = at + r .body; end = at + r .end })
+  module _ (at : ℕ) (r : Parts) (b : BagAt fresh k at r) where
+    here : eqb (r .first) 0 ≡ true → length (gather memberBagOf (bagsIn fresh (drop at k))) ≤ 1 →
+        MemberIs k (bagsIn fresh (drop at k)) (record { start = at + r .body; end = at + r .end })
     here t few =
         let s = part k (at + r .body) (at + r .end) in
-        let p : placeOf (r .first) ≡ MemberBag = ap placeOf (eqb-true (r .first) 0 t) in
+        let p : placeOf fresh (r .first) ≡ MemberBag = ap (placeOf fresh) (eqb-true (r .first) 0 t) in
         let g = ap (gather memberBagOf) (b .item) ∙ taken (eqb (r .first) 0) _ _ _ t in
         record {
           keys = ap keysIn g ∙ only-one _ _ (subst (λ (l : List MemberKeyBag). length l ≤ 1) g few)
@@ -84,37 +84,37 @@ module _ (k : List ℕ) where
           inside = b .inside;
         }
 
-    later : eqb (r .first) 0 ≡ false → gather memberBagOf (bagsIn (drop at k)) ≡ gather memberBagOf (bagsIn (drop (at + r .end) k))
+    later : eqb (r .first) 0 ≡ false → gather memberBagOf (bagsIn fresh (drop at k)) ≡ gather memberBagOf (bagsIn fresh (drop (at + r .end) k))
     later t = ap (gather memberBagOf) (b .item) ∙ passed (eqb (r .first) 0) _ _ _ t
 
-  a-bag : (at : ℕ) → at < length k → isWhole (bags 0 (drop at k)) ≡ true → (r : Parts) × BagAt k at r
+  a-bag : (at : ℕ) → at < length k → isWhole (bags fresh 0 (drop at k)) ≡ true → (r : Parts) × BagAt fresh k at r
   a-bag at h e =
-      let t = bag-there k at h e in (
+      let t = bag-there fresh k at h e in (
         parts (tail k at),
-        bag-at k at (parts (tail k at)) h (bag-is (tail k at) (t .1) (t .0) (parts (tail k at))
-            (heads (tail k at) (fits-first (tail k at) (t .1) (t .0)))),
+        bag-at fresh k at (parts (tail k at)) h (bag-is fresh (tail k at) (t .1) (t .0) (parts (tail k at))
+            (heads (tail k at) (fits-first fresh (tail k at) (t .1) (t .0)))),
       )
 
-  from : (n at : ℕ) → length k ≤ at + n → isWhole (bags 0 (drop at k)) ≡ true → length (gather memberBagOf (bagsIn (drop at k))) ≤ 1
-      → MemberIs k (bagsIn (drop at k)) (memberFrom n at k)
+  from : (n at : ℕ) → length k ≤ at + n → isWhole (bags fresh 0 (drop at k)) ≡ true → length (gather memberBagOf (bagsIn fresh (drop at k))) ≤ 1
+      → MemberIs k (bagsIn fresh (drop at k)) (memberFrom n at k)
   from zero at m e few =
       let h : length k ≤ at = omega (arith, m) in
-      subst (MemberIs k (bagsIn (drop at k))) (sym (nothing-from k 0 at h)) (none (bagsIn (drop at k)) (no-bags k at h))
+      subst (MemberIs k (bagsIn fresh (drop at k))) (sym (nothing-from fresh k 0 at h)) (none (bagsIn fresh (drop at k)) (no-bags fresh k at h))
   from (suc n) at m e few =
       lt-cases at (length k)
       (λ h.
       let a = a-bag at h e in
       let r = a .0 in
       bool-cases (eqb (r .first) 0)
-      (λ t. subst (MemberIs k (bagsIn (drop at k))) (sym (member-here k n at h r (a .1) t)) (here at r (a .1) t few))
+      (λ t. subst (MemberIs k (bagsIn fresh (drop at k))) (sym (member-here fresh k n at h r (a .1) t)) (here at r (a .1) t few))
       (λ t.
       let g = later at r (a .1) t in
       let i = from n (at + r .end) (omega (arith, m, a .1 .some, a .1 .order)) (a .1 .rest)
       (subst (λ (l : List MemberKeyBag). length l ≤ 1) g few) in
-      subst (MemberIs k (bagsIn (drop at k))) (sym (member-later k n at h r (a .1) t))
+      subst (MemberIs k (bagsIn fresh (drop at k))) (sym (member-later fresh k n at h r (a .1) t))
       (record { keys = ap keysIn g ∙ i .keys; held = i .held; order = i .order; inside = i .inside })))
-      (λ h. subst (MemberIs k (bagsIn (drop at k))) (sym (nothing-from k (suc n) at h)) (none (bagsIn (drop at k)) (no-bags k at h)))
+      (λ h. subst (MemberIs k (bagsIn fresh (drop at k))) (sym (nothing-from fresh k (suc n) at h)) (none (bagsIn fresh (drop at k)) (no-bags fresh k at h)))
 
-  pub member-is : (x : Stretch) → x ≡ memberIn k → isWhole (bags 0 k) ≡ true → length (gather memberBagOf (bagsIn k)) ≤ 1
-      → MemberIs k (bagsIn k) x
-  member-is x e w few = subst (MemberIs k (bagsIn k)) (sym e) (from (length k) 0 (omega arith) w few)
+  pub member-is : (x : Stretch) → x ≡ memberIn k → isWhole (bags fresh 0 k) ≡ true → length (gather memberBagOf (bagsIn fresh k)) ≤ 1
+      → MemberIs k (bagsIn fresh k) x
+  member-is x e w few = subst (MemberIs k (bagsIn fresh k)) (sym e) (from (length k) 0 (omega arith) w few)

@@ -20,8 +20,8 @@ use Rattle.wire_frames.specs.declared.exchanges.Exchange.{Exchange}
 use Rattle.rules_refusals.specs.Contents.{rowOf, policiesOf, bagsOf, announced, groupBags}
 use Rattle.rules_refusals.specs.Number2.{notDueSas}
 use Rattle.rules_refusals.specs.Number6.{policiesNamed, bagsNamed, policyUnpaired, bagUnpaired, policyTwice, bagTwice, alreadyInTable}
-use Rattle.rules_refusals.specs.Number6.{otherSaKeyCount, saKeyCount, saKeyId, espKwkId, wrapKeyId, wrapsItself, number6OfFrame}
-use Rattle.rules_refusals.specs.Number6.{number6OfMember}
+use Rattle.rules_refusals.specs.Number6.{otherSaKeyCount, saKeyCount, saKeyId, espKwkId, wrapKeyId, wrapsItself}
+use Rattle.rules_refusals.specs.Number6.{freshKeyId, freshWrapsItself, number6OfFrame, number6OfMember}
 use Rattle.rules_refusals.specs.Refusals.{one, number6, applies}
 use Rattle.rules_refusals.proofs.AnyOrder.{or-swap}
 use Rattle.rules_refusals.proofs.Gather.{any-either}
@@ -155,15 +155,15 @@ tried k false false false false false f g = sym (or-false k)
 
 module _ (row : Exchange) (f : Frame) (e : rowOf f ≡ row) (k : BagFacts) (kq : k ≡ bagFacts limits (bagsOf f)) (s : State) (now : ℕ) where
   pub six-is : one (number6Of row k (ofPolicies f) (ofBags f) now (sasOf (s .table))) ≡ applies (number6 s now f)
-  unfolding one saKeyId espKwkId wrapKeyId wrapsItself number6OfFrame number6OfMember
+  unfolding one saKeyId espKwkId wrapKeyId wrapsItself freshKeyId freshWrapsItself number6OfFrame number6OfMember
   six-is =
       (λ i. one (sym (policy-unpaired f) i ∷ sym (bag-unpaired f) i ∷ sym (already f s now) i
       ∷ ((kq i .keyless || kq i .several) || (not (sym e i .«allows_copies») && kq i .«several_of_rekey»))
       ∷ kq i .named ∷ kq i .«esp_with_kwk_id» ∷ kq i .unnamed
-      ∷ kq i .itself ∷ []))
+      ∷ kq i .itself ∷ kq i .«fresh_unnamed» ∷ kq i .«fresh_itself» ∷ []))
       ∙ (λ i. one (policyUnpaired f ∷ bagUnpaired f ∷ alreadyInTable s now f ∷ key-counts f i ∷ saKeyId f ∷ espKwkId f ∷ wrapKeyId f
-      ∷ wrapsItself f ∷ []))
-      ∙ tried (one (saKeyCount f ∷ saKeyId f ∷ espKwkId f ∷ wrapKeyId f ∷ wrapsItself f ∷ [])) (alreadyInTable s now f) (policyUnpaired f)
-      (bagUnpaired f) (policyTwice f) (bagTwice f)
+      ∷ wrapsItself f ∷ freshKeyId f ∷ freshWrapsItself f ∷ []))
+      ∙ tried (one (saKeyCount f ∷ saKeyId f ∷ espKwkId f ∷ wrapKeyId f ∷ wrapsItself f ∷ freshKeyId f ∷ freshWrapsItself f ∷ []))
+      (alreadyInTable s now f) (policyUnpaired f) (bagUnpaired f) (policyTwice f) (bagTwice f)
       (λ e g. bag-unpaired f ∙ twice-unpaired (ofPolicies f) (ofBags f) (sym (policy-twice f) ∙ e) (sym (policy-unpaired f) ∙ g))
       (λ e g. policy-unpaired f ∙ twice-unpaired (ofBags f) (ofPolicies f) (sym (bag-twice f) ∙ e) (sym (bag-unpaired f) ∙ g))

@@ -13,13 +13,15 @@ ghost use Rattle.check_pairing.specs.inner.Names.{Name, Names};
 ghost use Rattle.rules_refusals.specs.Refusals.{one};
 ghost use Rattle.check_judging.specs.inner.Tests.{keysBy, keysIn, number6By};
 
-// Whether each clause of number 6 on the keys of the bags applies, in the order of document 01 and T-09.
+// Whether each clause of number 6 on the keys of the bags applies, in the order of document 01, T-09 and T-11.
 pub struct Keys {
     pub count: bool,
     pub named: bool,
     pub esp_with_kwk_id: bool,
     pub unnamed: bool,
     pub itself: bool,
+    pub fresh_unnamed: bool,
+    pub fresh_itself: bool,
 }
 
 // Judges each clause of number 6 on the keys for bags with the facts `k`. `row` is the row of the frame's exchange.
@@ -36,12 +38,17 @@ pub fn clauses_6(row: Exchange, k: BagFacts) -> Keys
     let unnamed = k.unnamed;
     // document 02, T-09: "an entry whose Key ID equals its KWK ID. Any such WRAP_KEY, reached or not"
     let itself = k.itself;
+    // document 02, T-11, of fresh keys: "Key ID 0 and a self-wrapping give 6"
+    let fresh_unnamed = k.fresh_unnamed;
+    let fresh_itself = k.fresh_itself;
     Keys {
         count,
         named,
         esp_with_kwk_id,
         unnamed,
         itself,
+        fresh_unnamed,
+        fresh_itself,
     }
 }
 
@@ -50,7 +57,7 @@ pub fn any_unfit_key(row: Exchange, k: BagFacts) -> bool
     ensures { λ r. ⌜ r ≡ one (keysBy row k) ⌝ }
 {
     let c = clauses_6(row, k);
-    c.count | c.named | c.esp_with_kwk_id | c.unnamed | c.itself
+    c.count | c.named | c.esp_with_kwk_id | c.unnamed | c.itself | c.fresh_unnamed | c.fresh_itself
 }
 
 // Whether number 6 applies, over table `t` at `tick`, to a frame with the facts `x` and the bodies `gsa` and `kd`. `row` is the row of its

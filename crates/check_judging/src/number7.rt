@@ -2,6 +2,7 @@
 use crate::facts::Facts;
 use state_keys::limits::DELETED_SPIS;
 use state_keys::limits::ESP_POLICIES;
+use state_keys::limits::FRESH_KEYS;
 use state_keys::limits::SAS;
 use state_keys::limits::WRAP_KEYS;
 ghost use mathlib.Core.Path.{_≡_};
@@ -28,6 +29,7 @@ pub struct Seven {
     pub overfull: bool,
     pub spis: bool,
     pub long: bool,
+    pub fresh: bool,
     pub sas: bool,
 }
 
@@ -49,6 +51,8 @@ pub fn clauses_7(x: Facts, standing: usize) -> Seven
     let spis = DELETED_SPIS < d.spis;
     // "More seconds are number 7" (document 02, T-07)
     let long = p.long;
+    // fresh keys: "over 128 gives 7" (document 02, T-11)
+    let fresh = FRESH_KEYS < k.fresh;
     // "or over 16 SAs after the frame, those already due when it arrives not counted", by T-01 64
     let sas = is_over(standing, p.sas);
     Seven {
@@ -57,6 +61,7 @@ pub fn clauses_7(x: Facts, standing: usize) -> Seven
         overfull,
         spis,
         long,
+        fresh,
         sas,
     }
 }
@@ -66,5 +71,5 @@ pub fn number_7(x: Facts, standing: usize) -> bool
     ensures { λ r. ⌜ r ≡ one (number7By limits x standing) ⌝ }
 {
     let c = clauses_7(x, standing);
-    c.esps | c.wraps | c.overfull | c.spis | c.long | c.sas
+    c.esps | c.wraps | c.overfull | c.spis | c.long | c.fresh | c.sas
 }

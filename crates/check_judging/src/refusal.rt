@@ -34,10 +34,10 @@ pub enum Verdict {
 // `lent` the lent key.
 fn on_facts(state: State, row: Exchange, s: &[u8], x: Facts, lent: &[u8], tick: u32) -> usize
     requires { ⌜ state .table .count ≤ limits .sas ⌝ }
-    requires { ⌜ isWhole (frame (now s)) ≡ true ⌝ }
-    requires { ⌜ x ≡ frameFactsOf (row .authentication) (now s) ⌝ }
-    requires { ⌜ ((f : Frame) → frame (now s) ≡ whole f [] → rowOf f ≡ row) ⌝ }
-    ensures { λ r. ⌜ ((f : Frame) → frame (now (s .entry)) ≡ whole f [] →
+    requires { ⌜ isWhole (frame (state .profile) (now s)) ≡ true ⌝ }
+    requires { ⌜ x ≡ frameFactsOf (state .profile) row (now s) ⌝ }
+    requires { ⌜ ((f : Frame) → frame (state .profile) (now s) ≡ whole f [] → rowOf f ≡ row) ⌝ }
+    ensures { λ r. ⌜ ((f : Frame) → frame (state .profile) (now (s .entry)) ≡ whole f [] →
         r ≡ judged (onFrame limits state tick (now (lent .entry)) f)) ⌝ }
 {
     if number_4(row, x) {
@@ -66,12 +66,12 @@ fn on_facts(state: State, row: Exchange, s: &[u8], x: Facts, lent: &[u8], tick: 
 // Collects the facts of frame `s` and judges numbers 4 to 7. `row` is the row of its exchange, `lent` the lent key.
 fn on_frame(state: State, row: Exchange, s: &[u8], lent: &[u8], tick: u32) -> Verdict
     requires { ⌜ state .table .count ≤ limits .sas ⌝ }
-    requires { ⌜ isWhole (frame (now s)) ≡ true ⌝ }
-    requires { ⌜ ((f : Frame) → frame (now s) ≡ whole f [] → rowOf f ≡ row) ⌝ }
-    ensures { λ r. ⌜ ((f : Frame) → frame (now (s .entry)) ≡ whole f [] →
-        r ≡ verdictBy (judged (onFrame limits state tick (now (lent .entry)) f)) (frameFactsOf (row .authentication) (now (s .entry)))) ⌝ }
+    requires { ⌜ isWhole (frame (state .profile) (now s)) ≡ true ⌝ }
+    requires { ⌜ ((f : Frame) → frame (state .profile) (now s) ≡ whole f [] → rowOf f ≡ row) ⌝ }
+    ensures { λ r. ⌜ ((f : Frame) → frame (state .profile) (now (s .entry)) ≡ whole f [] →
+        r ≡ verdictBy (judged (onFrame limits state tick (now (lent .entry)) f)) (frameFactsOf (state .profile) row (now (s .entry)))) ⌝ }
 {
-    let x = facts_of(row.authentication, s);
+    let x = facts_of(state.profile, row, s);
     let n = on_facts(state, row, s, x, lent, tick);
     if n == 0 {
         return Verdict::Passed(x);
@@ -81,9 +81,9 @@ fn on_frame(state: State, row: Exchange, s: &[u8], lent: &[u8], tick: u32) -> Ve
 
 // Judges numbers 2 to 7 for frame `s`, handed to `state` at `tick` with the lent key `lent`.
 pub fn refusal(state: State, s: &[u8], lent: &[u8], tick: u32) -> Verdict
-    requires { ⌜ isWhole (frame (now s)) ≡ true ⌝ }
-    ensures { λ r. ⌜ ((f : Frame) → frame (now (s .entry)) ≡ whole f [] →
-        r ≡ verdictBy (refusalOf limits state tick (now (lent .entry)) f) (frameFactsOf (rowOf f .authentication) (now (s .entry)))) ⌝ }
+    requires { ⌜ isWhole (frame (state .profile) (now s)) ≡ true ⌝ }
+    ensures { λ r. ⌜ ((f : Frame) → frame (state .profile) (now (s .entry)) ≡ whole f [] →
+        r ≡ verdictBy (refusalOf limits state tick (now (lent .entry)) f) (frameFactsOf (state .profile) (rowOf f) (now (s .entry)))) ⌝ }
 {
     match wire_frames::read_header(s) {
         HeaderRead::Header {

@@ -104,9 +104,9 @@ policy-names g e =
 abbrev pub bagNames : List Bag → List Name
 bagNames l = map bagName (gather groupBagOf l)
 
-bags-done : (s : List ℕ) → length s ≡ 0 → bagNames (bagsIn s) ≡ []
+bags-done : (fresh : Bool) (s : List ℕ) → length s ≡ 0 → bagNames (bagsIn fresh s) ≡ []
 unfolding gather
-bags-done s e = ap bagNames (no-bags s 0 (omega arith))
+bags-done fresh s e = ap bagNames (no-bags fresh s 0 (omega arith))
 
 named-bag : (t : Bool) (m : MemberKeyBag) (b : GroupKeyBag) (l : List Bag) →
     bagNames (either t (memberKeys m) (groupKeys b) ∷ l) ≡ either t [] (bagName b ∷ []) ++ bagNames l
@@ -114,13 +114,13 @@ unfolding gather
 named-bag true m b l = refl
 named-bag false m b l = refl
 
-bag-step : (s : List ℕ) → isWhole (bags 0 s) ≡ true → 0 < length s →
-    Steps (λ (x : List ℕ). isWhole (bags 0 x)) (λ (x : List ℕ). bagNames (bagsIn x)) s
+bag-step : (fresh : Bool) (s : List ℕ) → isWhole (bags fresh 0 s) ≡ true → 0 < length s →
+    Steps (λ (x : List ℕ). isWhole (bags fresh 0 x)) (λ (x : List ℕ). bagNames (bagsIn fresh x)) s
 unfolding parts
-bag-step s e h =
-    let q = bag-fits s e h in
-    let p = bag-is s e h (parts s) (heads s q) in
+bag-step fresh s e h =
+    let q = bag-fits fresh s e h in
+    let p = bag-is fresh s e h (parts s) (heads s q) in
     record { fits = q; all = ap bagNames (p .item) ∙ named-bag (eqb (oct s 0) 0) _ _ _; rest = p .rest }
 
-pub bag-names : (k : List ℕ) → isWhole (bags 0 k) ≡ true → Names k (bagNames (bagsIn k))
-bag-names k e = read-names (λ (x : List ℕ). isWhole (bags 0 x)) (λ (x : List ℕ). bagNames (bagsIn x)) bags-done bag-step k e
+pub bag-names : (fresh : Bool) (k : List ℕ) → isWhole (bags fresh 0 k) ≡ true → Names k (bagNames (bagsIn fresh k))
+bag-names fresh k e = read-names (λ (x : List ℕ). isWhole (bags fresh 0 x)) (λ (x : List ℕ). bagNames (bagsIn fresh x)) (bags-done fresh) (bag-step fresh) k e

@@ -14,9 +14,9 @@ use Rattle.state_keys.proofs.Cases.{bool-cases, never, and-parts}
 use Rattle.wire_attributes.specs.Place.{inBag}
 use Rattle.wire_attributes.specs.Layout.{attributes}
 use Rattle.wire_attributes.specs.declared.tables.Place.the-variants as place
-use Rattle.wire_attributes.specs.Tree.{saKeys, wrapKeys}
+use Rattle.wire_attributes.specs.Tree.{saKeys, wrapKeys, freshKeys}
 use Rattle.wire_policies.specs.Policy.{headSpi}
-use Rattle.wire_bags.specs.Bag.{Bag, groupKeys, memberKeys, GroupKeyBag, MemberKeyBag, placeOf, bags}
+use Rattle.wire_bags.specs.Bag.{Bag, groupKeys, memberKeys, GroupKeyBag, MemberKeyBag, placeOf, groupKeyBagOf, bags}
 use Rattle.wire_readers.specs.inner.Values.{isWhole, attributesIn}
 use Rattle.wire_readers.specs.inner.Bags.{bagsIn}
 use Rattle.wire_readers.specs.declared.policy.Parts.{Parts}
@@ -27,10 +27,12 @@ use Rattle.check_pairing.specs.inner.Names.{nameOf, isNamed}
 use Rattle.wire_readers.specs.declared.Stretch.{Stretch}
 
 -- the attributes of the one Group Key Bag with a protocol and SPI stand there
-pub record StretchIs (k : List ℕ) (p : ℕ) (x : List ℕ) (r : Stretch) : Type 0 where
-  pub keys : gather (λ (b : GroupKeyBag). b .keys) (keep (bagNamed p x) (gather groupBagOf (bagsIn k)))
-      ≡ saKeys (inBag p) (attributesIn (inBag p) (part k (r .start) (r .end)))
-  pub held : isWhole (attributes (inBag p) 0 (part k (r .start) (r .end))) ≡ true
+pub record StretchIs (fresh : Bool) (k : List ℕ) (p : ℕ) (x : List ℕ) (r : Stretch) : Type 0 where
+  pub keys : gather (λ (b : GroupKeyBag). b .keys) (keep (bagNamed p x) (gather groupBagOf (bagsIn fresh k)))
+      ≡ saKeys (inBag fresh p) (attributesIn (inBag fresh p) (part k (r .start) (r .end)))
+  pub entries : gather (λ (b : GroupKeyBag). b .fresh) (keep (bagNamed p x) (gather groupBagOf (bagsIn fresh k)))
+      ≡ freshKeys (inBag fresh p) (attributesIn (inBag fresh p) (part k (r .start) (r .end)))
+  pub held : isWhole (attributes (inBag fresh p) 0 (part k (r .start) (r .end))) ≡ true
   pub order : r .start ≤ r .end
   pub inside : r .end ≤ length k
 
@@ -63,25 +65,25 @@ module _ (p : ℕ) (x : List ℕ) where
   taken true m b l e = never true refl (sym e)
   taken false m b l e = let f : bagNamed p x b ≡ true = sym (or-false (bagNamed p x b)) ∙ e in (refl, f, rw f)
 
-  module _ (k : List ℕ) where
+  module _ (fresh : Bool) (k : List ℕ) where
     -- it was not there so far
     pub record Seeking (at : ℕ) : Type 0 where
       pub inside : at ≤ length k
-      pub rest : isWhole (bags 0 (drop at k)) ≡ true
-      pub left : named (bagsIn k) ≡ named (bagsIn (drop at k))
+      pub rest : isWhole (bags fresh 0 (drop at k)) ≡ true
+      pub left : named (bagsIn fresh k) ≡ named (bagsIn fresh (drop at k))
 
-    pub seeking-start : isWhole (bags 0 k) ≡ true → Seeking 0
+    pub seeking-start : isWhole (bags fresh 0 k) ≡ true → Seeking 0
     seeking-start e = record { inside = omega arith; rest = e; left = refl }
 
     module _ (at : ℕ) (c : Seeking at) where
-      pub seeking-end : length k ≤ at → count (bagNamed p x) (gather groupBagOf (bagsIn k)) ≡ 1 → ⊥
+      pub seeking-end : length k ≤ at → count (bagNamed p x) (gather groupBagOf (bagsIn fresh k)) ≡ 1 → ⊥
       unfolding gather keep
       seeking-end h e =
-          let f : named (bagsIn k) ≡ [] = c .left ∙ ap named (no-bags k at h) in
-          let z : _≡_ {A = ℕ} 1 0 = sym e ∙ count-kept (bagNamed p x) (gather groupBagOf (bagsIn k)) ∙ ap length f in
+          let f : named (bagsIn fresh k) ≡ [] = c .left ∙ ap named (no-bags fresh k at h) in
+          let z : _≡_ {A = ℕ} 1 0 = sym e ∙ count-kept (bagNamed p x) (gather groupBagOf (bagsIn fresh k)) ∙ ap length f in
           omega arith
 
-      module _ (r : Parts) (a : BagAt k at r) where
+      module _ (r : Parts) (a : BagAt fresh k at r) where
         pub seeking-less : length k - (at + r .end) < length k - at
         seeking-less = omega (arith, a .some, a .order, a .inside)
 
@@ -89,17 +91,13 @@ module _ (p : ℕ) (x : List ℕ) where
         octets = part k (at + r .body) (at + r .end)
 
         abbrev asMember : MemberKeyBag
-        asMember = record { keys = wrapKeys place.MemberBag (attributesIn (placeOf (r .first)) octets) }
+        asMember = record { keys = wrapKeys place.MemberBag (attributesIn (placeOf fresh (r .first)) octets) }
 
         abbrev asGroup : GroupKeyBag
-        asGroup = record {
-          protocol = r .first;
-          spi = headSpi (drop at k);
-          keys = saKeys (inBag (r .first)) (attributesIn (placeOf (r .first)) octets);
-        }
+        asGroup = groupKeyBagOf fresh (r .first) (headSpi (drop at k)) (attributesIn (placeOf fresh (r .first)) octets)
 
         abbrev others : List Bag
-        others = bagsIn (drop (at + r .end) k)
+        others = bagsIn fresh (drop (at + r .end) k)
 
         module _ (b : Bool) (f : b ≡ any (isNamed p x) (nameOf (r .first) (part k (at + 4) (at + r .body)))) where
           its-name : any (isNamed p x) (nameOf (r .first) (headSpi (drop at k))) ≡ b
@@ -112,28 +110,30 @@ module _ (p : ℕ) (x : List ℕ) where
             left = c .left ∙ ap named (a .item) ∙ skipped (eqb (r .first) 0) asMember asGroup others (its-name ∙ e);
           }
 
-          module _ (e : b ≡ true) (o : count (bagNamed p x) (gather groupBagOf (bagsIn k)) ≡ 1) where
+          module _ (e : b ≡ true) (o : count (bagNamed p x) (gather groupBagOf (bagsIn fresh k)) ≡ 1) where
             found : (eqb (r .first) 0 ≡ false) × (bagNamed p x asGroup ≡ true)
                 × (named (either (eqb (r .first) 0) (memberKeys asMember) (groupKeys asGroup) ∷ others) ≡ asGroup ∷ named others)
             found = taken (eqb (r .first) 0) asMember asGroup others (its-name ∙ e)
 
-            alone : named (bagsIn k) ≡ asGroup ∷ []
+            alone : named (bagsIn fresh k) ≡ asGroup ∷ []
             alone =
-                let g : named (bagsIn k) ≡ asGroup ∷ named others = c .left ∙ ap named (a .item) ∙ found .2 in
-                let n = sym (ap length g) ∙ sym (count-kept (bagNamed p x) (gather groupBagOf (bagsIn k))) ∙ o in
+                let g : named (bagsIn fresh k) ≡ asGroup ∷ named others = c .left ∙ ap named (a .item) ∙ found .2 in
+                let n = sym (ap length g) ∙ sym (count-kept (bagNamed p x) (gather groupBagOf (bagsIn fresh k))) ∙ o in
                 g ∙ ap (λ (l : List GroupKeyBag). asGroup ∷ l) (only-one asGroup (named others) n)
 
             protocol-is : r .first ≡ p
             protocol-is = eqb-true (r .first) p (and-parts (eqb (r .first) p) (same (headSpi (drop at k)) x) (found .1) .0)
 
-            place-is : placeOf (r .first) ≡ inBag p
-            place-is = ap (λ (t : Bool). either t place.MemberBag (inBag (r .first))) (found .0) ∙ ap inBag protocol-is
+            place-is : placeOf fresh (r .first) ≡ inBag fresh p
+            place-is = ap (λ (t : Bool). either t place.MemberBag (inBag fresh (r .first))) (found .0) ∙ ap (inBag fresh) protocol-is
 
-            pub seeking-yes : StretchIs k p x (record { start = at + r .body; end = at + r .end })
+            pub seeking-yes : StretchIs fresh k p x (record { start = at + r .body; end = at + r .end })
             unfolding gather
             seeking-yes = record {
               keys = ap (gather (λ (y : GroupKeyBag). y .keys)) alone ∙ append-nil (asGroup .keys)
-                  ∙ (λ i. saKeys (inBag (protocol-is i)) (attributesIn (place-is i) octets));
+                  ∙ (λ i. saKeys (inBag fresh (protocol-is i)) (attributesIn (place-is i) octets));
+              entries = ap (gather (λ (y : GroupKeyBag). y .fresh)) alone ∙ append-nil (asGroup .fresh)
+                  ∙ (λ i. freshKeys (inBag fresh (protocol-is i)) (attributesIn (place-is i) octets));
               held = (λ i. isWhole (attributes (sym place-is i) 0 octets)) ∙ a .held;
               order = omega (arith, a .order);
               inside = a .inside;

@@ -19,9 +19,9 @@ use Rattle.check_payloads.specs.inner.Facts.{ofKind}
 use Rattle.check_payloads.proofs.StepLaws.{Step}
 
 -- o is the body of the first of some payloads, which are of the kind k; where there is none, it is empty
-pub data FirstBody (k : ℕ) (o : List ℕ) : List Payload → Type 0 where
-  no-body : o ≡ [] → FirstBody k o []
-  a-body : {p : Payload} {l : List Payload} → IsContent k o (p .content) → FirstBody k o (p ∷ l)
+pub data FirstBody (fresh : Bool) (k : ℕ) (o : List ℕ) : List Payload → Type 0 where
+  no-body : o ≡ [] → FirstBody fresh k o []
+  a-body : {p : Payload} {l : List Payload} → IsContent fresh k o (p .content) → FirstBody fresh k o (p ∷ l)
 
 -- a count after a test: one more, or the same
 abbrev pub Counted : Type 0 → ℕ → ℕ → Type 0
@@ -32,9 +32,9 @@ pub not-known : (k : ℕ) → (k ≡ 36 → ⊥) → (k ≡ 37 → ⊥) → (k �
 not-known k a b c d e f g =
     rw (ne-eqb k 36 a, ne-eqb k 37 b, ne-eqb k 39 c, ne-eqb k 41 d, ne-eqb k 42 e, ne-eqb k 51 f, ne-eqb k 52 g)
 
-module _ (w k : ℕ) (s : List ℕ) (at : ℕ) (r : PayloadParts) (g : Step k s at r) where
+module _ (fresh : Bool) (w k : ℕ) (s : List ℕ) (at : ℕ) (r : PayloadParts) (g : Step fresh k s at r) where
   others : List Payload
-  others = payloadsIn (r .next) (drop (at + r .end) s)
+  others = payloadsIn fresh (r .next) (drop (at + r .end) s)
 
   of-kind : k ≡ w → ofKind w (g .one) ≡ true
   of-kind e = eq-eqb (g .one .kind) w (g .kind ∙ e)
@@ -42,30 +42,30 @@ module _ (w k : ℕ) (s : List ℕ) (at : ℕ) (r : PayloadParts) (g : Step k s 
   of-other : (k ≡ w → ⊥) → ofKind w (g .one) ≡ false
   of-other e = ne-eqb (g .one .kind) w (λ u. e (sym (g .kind) ∙ u))
 
-  pub count-next : (n m all : ℕ) → Counted (k ≡ w) n m → n + count (ofKind w) (payloadsIn k (drop at s)) ≡ all
-      → (m ≤ n + 1) × (m + count (ofKind w) (payloadsIn (r .next) (drop (at + r .end) s)) ≡ all)
+  pub count-next : (n m all : ℕ) → Counted (k ≡ w) n m → n + count (ofKind w) (payloadsIn fresh k (drop at s)) ≡ all
+      → (m ≤ n + 1) × (m + count (ofKind w) (payloadsIn fresh (r .next) (drop (at + r .end) s)) ≡ all)
   unfolding others
   count-next n m all (inl (e, f)) q =
-      let c = count-yes (ofKind w) (g .one) others (payloadsIn k (drop at s)) (g .item) (of-kind e) in
+      let c = count-yes (ofKind w) (g .one) others (payloadsIn fresh k (drop at s)) (g .item) (of-kind e) in
       (omega arith, omega arith)
   count-next n m all (inr (e, f)) q =
-      let c = count-no (ofKind w) (g .one) others (payloadsIn k (drop at s)) (g .item) (of-other e) in
+      let c = count-no (ofKind w) (g .one) others (payloadsIn fresh k (drop at s)) (g .item) (of-other e) in
       (omega arith, omega arith)
 
-  pub keep-next : (k ≡ w → ⊥) → keep (ofKind w) (payloadsIn k (drop at s)) ≡ keep (ofKind w) (payloadsIn (r .next) (drop (at + r .end) s))
+  pub keep-next : (k ≡ w → ⊥) → keep (ofKind w) (payloadsIn fresh k (drop at s)) ≡ keep (ofKind w) (payloadsIn fresh (r .next) (drop (at + r .end) s))
   unfolding others
-  keep-next e = keep-no (ofKind w) (g .one) others (payloadsIn k (drop at s)) (g .item) (of-other e)
+  keep-next e = keep-no (ofKind w) (g .one) others (payloadsIn fresh k (drop at s)) (g .item) (of-other e)
 
-  pub first-body : k ≡ w → (l : List Payload) → l ≡ keep (ofKind w) (payloadsIn k (drop at s))
-      → FirstBody w (part s (at + 4) (at + r .end)) l
+  pub first-body : k ≡ w → (l : List Payload) → l ≡ keep (ofKind w) (payloadsIn fresh k (drop at s))
+      → FirstBody fresh w (part s (at + 4) (at + r .end)) l
   unfolding others
   first-body e l q =
-      let i : IsContent w (part s (at + 4) (at + r .end)) (g .one .content) =
-      subst (λ (n : ℕ). IsContent n (part s (at + 4) (at + r .end)) (g .one .content)) e (g .is) in
-      subst (FirstBody w (part s (at + 4) (at + r .end)))
-      (sym (q ∙ keep-yes (ofKind w) (g .one) others (payloadsIn k (drop at s)) (g .item) (of-kind e))) (a-body i)
+      let i : IsContent fresh w (part s (at + 4) (at + r .end)) (g .one .content) =
+      subst (λ (n : ℕ). IsContent fresh n (part s (at + 4) (at + r .end)) (g .one .content)) e (g .is) in
+      subst (FirstBody fresh w (part s (at + 4) (at + r .end)))
+      (sym (q ∙ keep-yes (ofKind w) (g .one) others (payloadsIn fresh k (drop at s)) (g .item) (of-kind e))) (a-body i)
 
 -- an unknown critical one, by its type and its bit
-module _ (k : ℕ) (s : List ℕ) (at : ℕ) (r : PayloadParts) (g : Step k s at r) where
+module _ (fresh : Bool) (k : ℕ) (s : List ℕ) (at : ℕ) (r : PayloadParts) (g : Step fresh k s at r) where
   pub bit : unknownCritical (g .one) ≡ (r .critical && not (isKnown k))
   bit = λ i. g .critical i && not (isKnown (g .kind i))

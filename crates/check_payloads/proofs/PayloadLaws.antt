@@ -39,20 +39,20 @@ pub record FirstSo (w : ℕ) (s : List ℕ) (n : ℕ) (x : Stretch) (fuel kind a
   pub some : (n ≡ 0 → ⊥) → x ≡ bodyOf w s
 
 abbrev leftAt : List ℕ → ℕ → ℕ → List Payload
-leftAt s kind at = payloadsIn kind (drop at s)
+leftAt s kind at = payloadsIn false kind (drop at s)
 
 -- ---- one payload of the kind k, for the kind w
-module _ (w k : ℕ) (s : List ℕ) (at : ℕ) (r : PayloadParts) (g : Step k s at r) where
+module _ (w k : ℕ) (s : List ℕ) (at : ℕ) (r : PayloadParts) (g : Step false k s at r) where
   abbrev after : List Payload
   after = leftAt s (r .next) (at + r .end)
 
   count-step : (n m all : ℕ) → m ≡ n + once (eqb k w) → n + count (ofKind w) (leftAt s k at) ≡ all → m + count (ofKind w) after ≡ all
   count-step n m all e h =
       bool-cases (eqb k w)
-      (λ t. count-next w k s at r g n m all (inl (eqb-true k w t, e ∙ ap (λ (b : Bool). n + once b) t)) h .1)
+      (λ t. count-next false w k s at r g n m all (inl (eqb-true k w t, e ∙ ap (λ (b : Bool). n + once b) t)) h .1)
       (λ t.
       let z : m ≡ n = e ∙ ap (λ (b : Bool). n + once b) t ∙ (let y : n + 0 ≡ n = omega arith in y) in
-      count-next w k s at r g n m all (inr (eqb-false k w t, z)) h .1)
+      count-next false w k s at r g n m all (inr (eqb-false k w t, z)) h .1)
 
   abbrev place : Stretch
   place = record { start = at + 4; end = at + r .end }
@@ -68,7 +68,7 @@ module _ (w k : ℕ) (s : List ℕ) (at : ℕ) (r : PayloadParts) (g : Step k s 
             none = λ v. absurd (omega arith);
             some = λ v. bool-cases (eqb n 0)
                 (λ u.
-                q ∙ (λ i. cond (t i && u i) place x) ∙ sym (body-here fuel w k s at r g z t)
+                q ∙ (λ i. cond (t i && u i) place x) ∙ sym (body-here false fuel w k s at r g z t)
                 ∙ f .none (eqb-true n 0 u) .1)
                 (λ u. q ∙ (λ i. cond (t i && u i) place x) ∙ f .some (eqb-false n 0 u));
           }
@@ -80,19 +80,19 @@ module _ (w k : ℕ) (s : List ℕ) (at : ℕ) (r : PayloadParts) (g : Step k s 
           record {
             none = λ v.
                 let p = f .none (sym same ∙ v) in
-                (kept ∙ p .0, sym (body-later fuel w k s at r g z t) ∙ p .1);
+                (kept ∙ p .0, sym (body-later false fuel w k s at r g z t) ∙ p .1);
             some = λ v. kept ∙ f .some (λ u. v (same ∙ u));
           }
 
 -- ---- the rest of what it says
-module _ (k : ℕ) (s : List ℕ) (at : ℕ) (r : PayloadParts) (g : Step k s at r) where
+module _ (k : ℕ) (s : List ℕ) (at : ℕ) (r : PayloadParts) (g : Step false k s at r) where
   critical-step : (b c all : Bool) → c ≡ (b || (r .critical && not (isKnown k))) → (b || any unknownCritical (leftAt s k at)) ≡ all
       → (c || any unknownCritical (leftAt s (r .next) (at + r .end))) ≡ all
   unfolding any
   critical-step b c all e h =
       let rest = any unknownCritical (leftAt s (r .next) (at + r .end)) in
       ap (λ (x : Bool). x || rest) e ∙ sym (or-joined b (r .critical && not (isKnown k)) rest)
-      ∙ ap (λ (x : Bool). b || (x || rest)) (sym (bit k s at r g))
+      ∙ ap (λ (x : Bool). b || (x || rest)) (sym (bit false k s at r g))
       ∙ ap (λ (l : List Payload). b || any unknownCritical l) (sym (g .item)) ∙ h
 
   deletes-step : (d e : Deletes) (all : List Delete) → e ≡ deletesWith d k (part s (at + 4) (at + r .end))
@@ -109,7 +109,7 @@ module _ (k : ℕ) (s : List ℕ) (at : ℕ) (r : PayloadParts) (g : Step k s at
 module _ (s : List ℕ) where
   pub record PayloadWalk (b : PayloadFacts) (kind at : ℕ) : Type 0 where
     pub inside : at ≤ length s
-    pub rest : isWhole (nothingLeft (payloads kind 0 (drop at s))) ≡ true
+    pub rest : isWhole (nothingLeft (payloads false kind 0 (drop at s))) ≡ true
     pub few : (b .gsas ≤ at) × (b .kds ≤ at) × (b .deletes ≤ at) × (b .deletion .spis ≤ 65536 * at)
     pub gsas : b .gsas + count (ofKind 51) (leftAt s kind at) ≡ count (ofKind 51) (payloadsOf s)
     pub kds : b .kds + count (ofKind 52) (leftAt s kind at) ≡ count (ofKind 52) (payloadsOf s)
@@ -125,7 +125,7 @@ module _ (s : List ℕ) where
   first-none : (w : ℕ) → FirstSo w s 0 nowhere (length s) (firstPayload s) 28
   first-none w = record { none = λ z. (refl, refl); some = λ z. absurd (z refl) }
 
-  none-passed : isWhole (nothingLeft (payloads (oct s 16) 0 (drop 28 s))) ≡ true → 28 ≤ length s → PayloadWalk noPayloads (oct s 16) 28
+  none-passed : isWhole (nothingLeft (payloads false (oct s 16) 0 (drop 28 s))) ≡ true → 28 ≤ length s → PayloadWalk noPayloads (oct s 16) 28
   none-passed e h = record {
     inside = h;
     rest = e;
@@ -142,14 +142,14 @@ module _ (s : List ℕ) where
     delete = first-none 42;
   }
 
-  pub payloads-start : isWhole (nothingLeft (payloads (oct s 16) 0 (drop 28 s))) ≡ true → 28 ≤ length s → (b : PayloadFacts) →
+  pub payloads-start : isWhole (nothingLeft (payloads false (oct s 16) 0 (drop 28 s))) ≡ true → 28 ≤ length s → (b : PayloadFacts) →
       b ≡ noPayloads
       → (k : ℕ) → k ≡ oct s 16 → PayloadWalk b k 28
   payloads-start e h b q k kq =
       subst (λ (x : PayloadFacts). PayloadWalk x k 28) (sym q) (subst (λ (n : ℕ). PayloadWalk noPayloads n 28) (sym kq) (none-passed e h))
 
   module _ (b : PayloadFacts) (kind at : ℕ) (w : PayloadWalk b kind at) where
-    module _ (r : PayloadParts) (g : Step kind s at r) where
+    module _ (r : PayloadParts) (g : Step false kind s at r) where
       pub payload-room : length s ≤ 16384 → CountsFit kind (part s (at + 4) (at + r .end)) b
       payload-room h = record {
         gsas = omega (arith, w .few .0, w .inside);
@@ -197,7 +197,7 @@ module _ (s : List ℕ) where
 
     module _ (z : kind ≡ 0) where
       none : leftAt s kind at ≡ []
-      none = none-left (drop at s) kind z
+      none = none-left false (drop at s) kind z
 
       all-counted : (n v : ℕ) → n + count (ofKind v) (leftAt s kind at) ≡ count (ofKind v) (payloadsOf s)
           → n ≡ count (ofKind v) (payloadsOf s)

@@ -4,7 +4,7 @@ pub mod deletion;
 pub mod kinds;
 
 ghost use mathlib.Core.Path.{_≡_};
-ghost use mathlib.Core.Bool.{true};
+ghost use mathlib.Core.Bool.{Bool, true};
 ghost use Rattle.wire_frames.specs.Frame.{frame};
 ghost use Rattle.wire_readers.specs.inner.Values.{isWhole};
 ghost use Rattle.check_payloads.specs.inner.Facts.{payloadFactsOf, noPayloads, withPayload, CountsFit, CountsGrown};
@@ -94,7 +94,7 @@ fn with_payload(
 
 // Collects the facts of the payloads of frame `s`. Type 0 ends them.
 pub fn payload_facts(s: &[u8]) -> PayloadFacts
-    requires { ⌜ isWhole (frame (now s)) ≡ true ⌝ }
+    requires { ⌜ ((profile : Bool) × (isWhole (frame profile (now s)) ≡ true)) ⌝ }
     ensures { λ r. ⌜ r ≡ payloadFactsOf (now (s .entry)) ⌝ }
 {
     let mut b = no_payloads();

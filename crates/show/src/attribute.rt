@@ -66,6 +66,7 @@ fn indent(place: Place) -> usize {
         Place::DataPolicy => INNER,
         Place::GroupWidePolicy => INNER,
         Place::RekeyBag => INNER,
+        Place::FreshRekeyBag => INNER,
         Place::DataBag => INNER,
         Place::MemberBag => INNER,
     }
@@ -118,6 +119,7 @@ fn shape_of(place: Place, kind: usize) -> Shape {
         Place::DataPolicy => in_policy(kind),
         Place::GroupWidePolicy => in_wide_policy(kind),
         Place::RekeyBag => in_bag(kind),
+        Place::FreshRekeyBag => in_bag(kind),
         Place::DataBag => in_bag(kind),
         Place::MemberBag => in_bag(kind),
     }

@@ -38,7 +38,15 @@ fn bag(out: &mut [u8], n: usize, s: &[u8], at: usize, end: usize, stop: usize) -
     let body = behind(at, 4 + wire_policies::spi_size(first));
     let a = crate::line::head(out, n, MIDDLE, at, span(at, end));
     let b = bag_head(out, a, first, part(s, behind(at, 4), body));
-    crate::attribute::attributes(out, b, wire_bags::place_of(first), s, body, end, stop)
+    crate::attribute::attributes(
+        out,
+        b,
+        wire_bags::place_of(false, first),
+        s,
+        body,
+        end,
+        stop,
+    )
 }
 
 fn bag_head(out: &mut [u8], n: usize, first: usize, spi: &[u8]) -> usize {

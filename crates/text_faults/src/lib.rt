@@ -253,6 +253,7 @@ fn is_short_form(meaning: Meaning) -> bool {
         Meaning::KeyLifetime => false,
         Meaning::SaKey => false,
         Meaning::WrapKey => false,
+        Meaning::FreshKey => false,
         Meaning::Skipped => false,
     }
 }
@@ -267,6 +268,7 @@ fn of_format(out: &mut [u8], n: usize, meaning: Meaning, short: bool, size: usiz
         Meaning::KeyLifetime => of_four(out, n, size),
         Meaning::SaKey => of_wrapped(out, n, size),
         Meaning::WrapKey => of_wrapped(out, n, size),
+        Meaning::FreshKey => of_wrapped(out, n, size),
         Meaning::KeyLength => in_long_form(out, n),
         Meaning::DeactivationDelay => in_long_form(out, n),
         Meaning::Skipped => text_names::put(out, n, 10),

@@ -204,6 +204,7 @@ pub fn attribute(place: Place, kind: usize) -> [u8; 48] {
         Place::DataPolicy => policy_attribute(kind),
         Place::GroupWidePolicy => wide_attribute(kind),
         Place::RekeyBag => group_bag_attribute(kind),
+        Place::FreshRekeyBag => group_bag_attribute(kind),
         Place::DataBag => group_bag_attribute(kind),
         Place::MemberBag => member_bag_attribute(kind),
     }

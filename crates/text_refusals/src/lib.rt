@@ -1,5 +1,6 @@
 // Names the clauses of document 01's numbers 4 to 7 that apply to a frame alone, for the program `show`. Asks the functions by which a
-// member judges, without the member's table and the lent key. Of several GSA or KD payloads it looks at the first, as a member does.
+// member judges, without the member's table and the lent key. Of several GSA or KD payloads it looks at the first, as a member does. It
+// reads a frame as a member without the profile does: fresh keys are skipped (document 02, T-11).
 // Internal: crates of this repository alone call it.
 use check_judging::facts::Facts;
 use check_judging::facts::facts_of;
@@ -22,7 +23,7 @@ use wire_attributes::Layout;
 use wire_frames::exchanges::Exchange;
 use wire_frames::exchanges::exchange_of;
 ghost use mathlib.Core.Path.{_≡_};
-ghost use mathlib.Core.Bool.{true};
+ghost use mathlib.Core.Bool.{true, false};
 ghost use Rattle.wire_frames.specs.Frame.{frame};
 ghost use Rattle.wire_readers.specs.inner.Values.{isWhole};
 
@@ -74,10 +75,10 @@ fn by_facts(row: Exchange, x: Facts, policies: bool, bags: bool) -> ClauseFound 
 
 // Collects the clauses that apply to the frame `s`, whose layout is whole.
 fn of_frame(s: &[u8]) -> ClauseFound
-    requires { ⌜ isWhole (frame (now s)) ≡ true ⌝ }
+    requires { ⌜ isWhole (frame false (now s)) ≡ true ⌝ }
 {
     let row = exchange_of(octets::wide(s[EXCHANGE_AT]));
-    let x = facts_of(row.authentication, s);
+    let x = facts_of(false, row, s);
     let b = x.payloads;
     let g = b.gsa;
     let k = b.kd;

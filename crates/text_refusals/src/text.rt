@@ -1,4 +1,4 @@
-// Puts the clauses by name, in the words of document 01 and T-09 and in their order. Each function puts its lines into `out` at the place
+// Puts the clauses by name, in the words of document 01, T-09 and T-11 and in their order. Each function puts its lines into `out` at the place
 // `n` and answers the place behind them.
 use crate::ClauseFound;
 use check_judging::number4::Four;
@@ -144,8 +144,19 @@ fn keys(out: &mut [u8], n: usize, x: Keys) -> usize {
     )
 }
 
-// Puts the clauses of number 7.
-fn seven(out: &mut [u8], n: usize, x: Seven) -> usize {
+// Puts the clauses of number 6 on fresh keys.
+fn fresh_keys(out: &mut [u8], n: usize, x: Keys) -> usize {
+    let a = clause(out, n, x.fresh_unnamed, b"  6: fresh key with Key ID 0\n");
+    clause(
+        out,
+        a,
+        x.fresh_itself,
+        b"  6: fresh key whose Key ID is its KWK ID\n",
+    )
+}
+
+// Puts the clauses of number 7 on counts that document 01 limits.
+fn over(out: &mut [u8], n: usize, x: Seven) -> usize {
     let a = clause(
         out,
         n,
@@ -159,19 +170,30 @@ fn seven(out: &mut [u8], n: usize, x: Seven) -> usize {
         x.overfull,
         b"  7: more SA_KEY in a bag than a member takes\n",
     );
-    let d = clause(
+    clause(
         out,
         c,
         x.spis,
         b"  7: more deleted SPIs than a member takes\n",
-    );
-    let e = clause(
+    )
+}
+
+// Puts the clauses of number 7.
+fn seven(out: &mut [u8], n: usize, x: Seven) -> usize {
+    let a = over(out, n, x);
+    let b = clause(
         out,
-        d,
+        a,
         x.long,
         b"  7: lifetime of more than 2000000 seconds\n",
     );
-    clause(out, e, x.sas, b"  7: more SAs than an empty table takes\n")
+    let c = clause(
+        out,
+        b,
+        x.fresh,
+        b"  7: more fresh keys than a member takes\n",
+    );
+    clause(out, c, x.sas, b"  7: more SAs than an empty table takes\n")
 }
 
 // Puts all clauses that apply, by rising numbers.
@@ -180,7 +202,8 @@ fn each(out: &mut [u8], n: usize, x: ClauseFound) -> usize {
     let b = five(out, a, x.five);
     let c = pairing(out, b, x.policies, x.bags);
     let d = keys(out, c, x.keys);
-    seven(out, d, x.seven)
+    let e = fresh_keys(out, d, x.keys);
+    seven(out, e, x.seven)
 }
 
 // Puts a line for each clause that applies, or a line saying that none does. A frame of another exchange is not judged by them: its line is

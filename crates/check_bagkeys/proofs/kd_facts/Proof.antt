@@ -11,17 +11,17 @@ use Rattle.check_bagkeys.proofs.kd_facts.Statement.{statement}
 use Rattle.check_bagkeys.proofs.kd_facts.Tie as tie
 
 abbrev Inv-loop : tie.InvT-loop
-Inv-loop kd f₀ found₀ at₀ f found at = KdWalk kd f found at
+Inv-loop fresh kd f₀ found₀ at₀ f found at = KdWalk fresh kd f found at
 
 abbrev μ-loop : tie.MeasureT-loop
-μ-loop kd f₀ found₀ at₀ f found at = length kd - at
+μ-loop fresh kd f₀ found₀ at₀ f found at = length kd - at
 
 no-bags-requires : tie.Need-no-bags-requires Inv-loop μ-loop
 no-bags-requires c κs = search needs
 
 loop-holds : tie.Need-loop-holds Inv-loop μ-loop
 loop-holds c =
-    record { bags = bags-start _ _ (c .before .before .pre) _ (c .no-bags .ensures); found = sought-start _ }
+    record { bags = bags-start _ _ _ (c .before .before .pre) _ (c .no-bags .ensures); found = sought-start _ _ }
 
 sub-bag-parts : tie.Need-sub-bag-parts Inv-loop μ-loop
 sub-bag-parts c = search needs
@@ -35,12 +35,18 @@ part-bag-parts-end c = search needs
 bag-parts-requires : tie.Need-bag-parts-requires Inv-loop μ-loop
 bag-parts-requires c κs =
     let l = c .before .before .loop in
-    bag-there (now (c .before .before .before .before .before .args .kd)) (l .at) (c .before .loop-test .taken) (l .inv .bags .rest)
+    let a = c .before .before .before .before .before .args in
+    let t = bag-there (a .fresh) (now (a .kd)) (l .at) (c .before .loop-test .taken) (l .inv .bags .rest) in
+    (t .0, (a .fresh, t .1))
 
 stands : (c : tie.After-struct-known Inv-loop μ-loop)
-    → BagAt (now (c .before .before .before .before .before .before .before .args .kd)) (c .before .before .before .before .loop .at)
-    (c .before .bag-parts .result)
-stands c = bag-at _ _ _ (c .before .before .before .loop-test .taken) (c .before .bag-parts .ensures)
+    → let a = c .before .before .before .before .before .before .before .args in
+    BagAt (a .fresh) (now (a .kd)) (c .before .before .before .before .loop .at) (c .before .bag-parts .result)
+stands c =
+    let a = c .before .before .before .before .before .before .before .args in
+    let l = c .before .before .before .before .loop in
+    let t = bag-there (a .fresh) (now (a .kd)) (l .at) (c .before .before .before .loop-test .taken) (l .inv .bags .rest) in
+    bag-at _ _ _ _ (c .before .before .before .loop-test .taken) (c .before .bag-parts .ensures (a .fresh) (t .1))
 
 -- the body's length is a number of the code
 short : (c : tie.After-struct-known Inv-loop μ-loop)
@@ -72,8 +78,8 @@ merge-requires : tie.Need-merge-requires Inv-loop μ-loop
 merge-requires c κs =
     let s = c .before .before .before .before in
     let l = s .before .before .before .before .loop in
-    let z = bags-room _ _ (l .f) (l .at) (l .inv .bags) _ (stands s) _ (c .of-bag .ensures) in
-    (omega (arith, z .0, short s), omega (arith, z .1, short s))
+    let z = bags-room _ _ _ (l .f) (l .at) (l .inv .bags) _ (stands s) _ (c .of-bag .ensures) in
+    (omega (arith, z .0, short s), omega (arith, z .1, short s), omega (arith, z .2, short s))
 
 loop-less : tie.Need-loop-less Inv-loop μ-loop
 loop-less c = let b = stands (c .before .before .before .before .before) in omega (arith, b .some, b .order, b .inside)
@@ -85,16 +91,16 @@ loop-again c =
     let s = m .before .before in
     let l = s .before .before .before .before .loop in
     record {
-      bags = bags-next _ _ (l .f) (l .at) (l .inv .bags) _ (stands s) _ (o .of-bag .ensures) _ (c .merge .ensures);
-      found = sought-next _ (l .found) (l .at) (l .inv .found) (s .before .before .before .loop-test .taken) _ (stands s) _
+      bags = bags-next _ _ _ (l .f) (l .at) (l .inv .bags) _ (stands s) _ (o .of-bag .ensures) _ (c .merge .ensures);
+      found = sought-next _ _ (l .found) (l .at) (l .inv .found) (s .before .before .before .loop-test .taken) _ (stands s) _
           (m .first-member .ensures);
     }
 
 returns : tie.Need-returns Inv-loop μ-loop
 returns c =
     let l = c .before .loop in
-    let e = bags-end _ _ (l .f) (l .at) (l .inv .bags) (c .loop-test .left) in
-    let m = sought-end _ (l .found) (l .at) (l .inv .found) (c .loop-test .left) in
+    let e = bags-end _ _ _ (l .f) (l .at) (l .inv .bags) (c .loop-test .left) in
+    let m = sought-end _ _ (l .found) (l .at) (l .inv .found) (c .loop-test .left) in
     λ i. record { bags = e i; «member_bag» = m i }
 
 pub kd-facts-spec : {M : Type 1} → statement M

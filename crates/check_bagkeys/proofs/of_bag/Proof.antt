@@ -7,7 +7,7 @@ use Rattle.check_bagkeys.proofs.of_bag.Statement.{statement}
 use Rattle.check_bagkeys.proofs.of_bag.Tie as tie
 
 keys-of-requires : tie.Need-keys-of-requires
-keys-of-requires c κs = (refl, member-held limits _ _ (c .if1 .taken) (c .before .before .pre))
+keys-of-requires c κs = (refl, member-held limits (c .before .before .args .fresh) _ _ (c .if1 .taken) (c .before .before .pre))
 
 of-member-requires : tie.Need-of-member-requires
 of-member-requires c κs = search needs
@@ -15,7 +15,7 @@ of-member-requires c κs = search needs
 returns : tie.Need-returns
 returns c =
     let k = c .before in
-    of-member-is limits _ (now (k .before .before .before .args .a)) _ _ (k .before .if1 .taken) (k .keys-of .ensures)
+    of-member-is limits _ _ (now (k .before .before .before .args .a)) _ _ (k .before .if1 .taken) (k .keys-of .ensures)
     (c .of-member .ensures)
 
 in-bag-requires : tie.Need-in-bag-requires
@@ -23,16 +23,21 @@ in-bag-requires c κs = search needs
 
 keys-of-requires-2 : tie.Need-keys-of-requires-2
 keys-of-requires-2 c κs =
-    (refl, group-held limits _ _ (c .before .if1 .left) (c .before .before .before .pre) _ (c .in-bag .ensures))
+    (refl, group-held limits (c .before .before .before .args .fresh) _ _ (c .before .if1 .left) (c .before .before .before .pre) _ (c .in-bag .ensures))
+
+keys-of-requires-3 : tie.Need-keys-of-requires-3
+keys-of-requires-3 c κs =
+    (refl, group-held limits (c .before .before .before .before .args .fresh) _ _ (c .before .before .if1 .left) (c .before .before .before .before .pre) _ (c .before .in-bag .ensures))
 
 of-group-requires : tie.Need-of-group-requires
 of-group-requires c κs = search needs
 
 returns-2 : tie.Need-returns-2
 returns-2 c =
-    let k = c .before in
-    of-group-is limits _ (now (k .before .before .before .before .args .a)) _ _ (k .before .before .if1 .left) _
-    (k .before .in-bag .ensures) (k .keys-of2 .ensures) (c .of-group .ensures)
+    let e = c .before in
+    let k = e .before in
+    of-group-is limits _ _ (now (k .before .before .before .before .args .a)) _ _ _ (k .before .before .if1 .left) _
+    (k .before .in-bag .ensures) (k .keys-of2 .ensures) (e .keys-of3 .ensures) (c .of-group .ensures)
 
 pub of-bag-spec : {M : Type 1} → statement M
 of-bag-spec =
@@ -43,5 +48,6 @@ of-bag-spec =
     returns
     in-bag-requires
     keys-of-requires-2
+    keys-of-requires-3
     of-group-requires
     returns-2)

@@ -1,5 +1,6 @@
 use denote.Ref.{now}
 use native.Mathlib.Omega.{arith}
+use mathlib.Core.Bool.{false}
 use Prim.Native.Nat.{_-_}
 use lib.ListN.{length}
 use Rattle.check_payloads.proofs.FrameLaws.{long, short, starts-whole}
@@ -19,7 +20,7 @@ no-payloads-requires : tie.Need-no-payloads-requires Inv-loop μ-loop
 no-payloads-requires c κs = search needs
 
 shared-slice-read-wide : tie.Need-shared-slice-read-wide Inv-loop μ-loop
-shared-slice-read-wide c = let d = c .before .before .before in omega (arith, long (now (d .args .s)) (d .pre))
+shared-slice-read-wide c = let d = c .before .before .before in omega (arith, long (d .pre .0) (now (d .args .s)) (d .pre .1))
 
 wide-requires : tie.Need-wide-requires Inv-loop μ-loop
 wide-requires c κs = search needs
@@ -28,7 +29,7 @@ loop-holds : tie.Need-loop-holds Inv-loop μ-loop
 loop-holds c =
     let d = c .before .before .before .before in
     let s = now (d .args .s) in
-    payloads-start s (starts-whole s (d .pre)) (long s (d .pre)) _ (c .before .before .no-payloads .ensures) _ (c .wide .ensures .0)
+    payloads-start s (starts-whole (d .pre .0) s (d .pre .1)) (long (d .pre .0) s (d .pre .1)) _ (c .before .before .no-payloads .ensures) _ (c .wide .ensures .0)
 
 sub-payload-parts : tie.Need-sub-payload-parts Inv-loop μ-loop
 sub-payload-parts c = search needs
@@ -43,15 +44,16 @@ payload-parts-requires : tie.Need-payload-parts-requires Inv-loop μ-loop
 payload-parts-requires c κs =
     let l = c .before .before .loop in
     let s = now (c .before .before .before .before .before .before .before .args .s) in
-    (c .before .loop-test .taken, reads-next (l .kind) s (l .at) (l .inv .rest))
+    (c .before .loop-test .taken, (false, reads-next false (l .kind) s (l .at) (l .inv .rest)))
 
 one : (c : tie.After-payload-parts Inv-loop μ-loop)
     → let l = c .before .before .before .loop in
-    Step (l .kind) (now (c .before .before .before .before .before .before .before .before .args .s)) (l .at) (c .payload-parts .result)
+    Step false (l .kind) (now (c .before .before .before .before .before .before .before .before .args .s)) (l .at) (c .payload-parts .result)
 one c =
     let l = c .before .before .before .loop in
-    step (l .kind) (now (c .before .before .before .before .before .before .before .before .args .s)) (l .at) (c .payload-parts .result)
-    (l .inv .inside) (c .payload-parts .ensures)
+    let s = now (c .before .before .before .before .before .before .before .before .args .s) in
+    step false (l .kind) s (l .at) (c .payload-parts .result) (l .inv .inside)
+    (c .payload-parts .ensures false (reads-next false (l .kind) s (l .at) (l .inv .rest)))
 
 add-start : tie.Need-add-start Inv-loop μ-loop
 add-start c = let g = one c in record { fits = omega (arith, g .some, g .inside) }
@@ -73,7 +75,7 @@ with-payload-requires c κs =
     let p = c .before .before in
     let l = p .before .before .before .loop in
     let st = p .before .before .before .before .before .before .before .before in
-    payload-room (now (st .args .s)) (l .b) (l .kind) (l .at) (l .inv) _ (one p) (short (now (st .args .s)) (st .pre))
+    payload-room (now (st .args .s)) (l .b) (l .kind) (l .at) (l .inv) _ (one p) (short (st .pre .0) (now (st .args .s)) (st .pre .1))
 
 loop-less : tie.Need-loop-less Inv-loop μ-loop
 loop-less c = let g = one (c .before .before .before) in omega (arith, g .some, g .inside)

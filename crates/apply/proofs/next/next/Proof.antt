@@ -40,6 +40,7 @@ returns c =
       table = entered-old (a .state) (a .tick) f _ _ _ (old-is o f t) (c .before .enter-all .ensures);
       held-is = refl;
       least = least-told (a .x) (a .state) (now (a .s)) f t _ (c .least-by .ensures);
+      profile = refl;
     }
 
 pub next-spec : {M : Type 1} → statement M

@@ -3,6 +3,7 @@ use native.Mathlib.Omega.{arith}
 use Prim.Native.Nat.{_-_}
 use mathlib.Core.Path.{_≡_, ap, _∙_}
 use mathlib.Core.List.{List}
+use mathlib.Core.Bool.{false}
 use lib.ListN.{length}
 use Rattle.wire_frames.specs.Delete.{Delete}
 use Rattle.check_payloads.proofs.StepLaws.{Step, reads-next, step}
@@ -44,16 +45,19 @@ payload-parts-requires c κs =
     let s = now (c .before .before .before .before .args .s) in
     let w = l .inv .2 in (
       going-kind _ _ _ _ _ _ (l .left) (l .kind) (l .at) w (some (c .before)),
-      reads-next (l .kind) s (l .at) (w .rest (some (c .before))),
+      (false, reads-next false (l .kind) s (l .at) (w .rest (some (c .before)))),
     )
 
 one : (c : tie.After-payload-parts Inv-loop μ-loop)
     → let l = c .before .before .before .loop in
-    Step (l .kind) (now (c .before .before .before .before .before .args .s)) (l .at) (c .payload-parts .result)
+    Step false (l .kind) (now (c .before .before .before .before .before .args .s)) (l .at) (c .payload-parts .result)
 one c =
     let l = c .before .before .before .loop in
-    step (l .kind) (now (c .before .before .before .before .before .args .s)) (l .at) (c .payload-parts .result)
-    (l .inv .2 .inside (some (c .before .before))) (c .payload-parts .ensures)
+    let s = now (c .before .before .before .before .before .args .s) in
+    let w = l .inv .2 in
+    let z = some (c .before .before) in
+    step false (l .kind) s (l .at) (c .payload-parts .result) (w .inside z)
+    (c .payload-parts .ensures false (reads-next false (l .kind) s (l .at) (w .rest z)))
 
 add-e : tie.Need-add-e Inv-loop μ-loop
 add-e c = let g = one (c .before) in record { fits = omega (arith, g .inside) }

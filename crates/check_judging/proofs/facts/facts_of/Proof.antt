@@ -1,6 +1,8 @@
 use denote.Ref.{now}
-use mathlib.Core.Path.{_≡_, ap, sym, _∙_}
+use mathlib.Core.Path.{_≡_, ap, sym, _∙_, subst}
+use mathlib.Core.Bool.{_&&_}
 use Rattle.state_keys.specs.Limits.{limits}
+use Rattle.wire_frames.specs.declared.exchanges.Exchange.{Exchange}
 use Rattle.wire_readers.specs.inner.Values.{isWhole}
 use Rattle.wire_readers.specs.inner.Policies.{policiesIn}
 use Rattle.wire_readers.specs.inner.Bags.{bagsIn}
@@ -17,15 +19,20 @@ use Rattle.check_judging.proofs.facts.facts_of.Statement.{statement}
 use Rattle.check_judging.proofs.facts.facts_of.Tie as tie
 
 payload-facts-requires : tie.Need-payload-facts-requires
-payload-facts-requires c κs = search needs
+payload-facts-requires c κs = (c .before .args .profile, c .before .pre .0)
 
 -- the payloads of the frame that the octets are
 own : (c : tie.After-payload-facts)
-    → let b = c .before .before in OfFrame (now (b .args .s)) (reads-to (now (b .args .s)) (b .pre) .0) (c .payload-facts .result)
+    → let b = c .before .before in
+    OfFrame (b .args .profile && b .args .row .«reads_fresh_keys») (now (b .args .s))
+    (reads-to (b .args .profile) (now (b .args .s)) (b .pre .0) .0) (c .payload-facts .result)
 own c =
     let b = c .before .before in
-    let f = reads-to (now (b .args .s)) (b .pre) in
-    facts-of (now (b .args .s)) (c .payload-facts .result) (c .payload-facts .ensures) (f .0) (f .1)
+    let a = b .args in
+    let f = reads-to (a .profile) (now (a .s)) (b .pre .0) in
+    subst (λ (r : Exchange). OfFrame (a .profile && r .«reads_fresh_keys») (now (a .s)) (f .0) (c .payload-facts .result))
+    (b .pre .1 (f .0) (f .1))
+    (facts-of (a .profile) (now (a .s)) (c .payload-facts .result) (c .payload-facts .ensures) (f .0) (f .1))
 
 sub-policy-facts : tie.Need-sub-policy-facts
 sub-policy-facts c = own (c .before) .gsaOrder
@@ -40,21 +47,21 @@ policy-facts-requires : tie.Need-policy-facts-requires
 policy-facts-requires c κs = own (c .before .before) .gsaWhole
 
 sub-kd-facts : tie.Need-sub-kd-facts
-sub-kd-facts c = own (c .before .before .before .before) .kdOrder
+sub-kd-facts c = own (c .before .before .before .before .before) .kdOrder
 
 part-kd-facts-start : tie.Need-part-kd-facts-start
-part-kd-facts-start c = own (c .before .before .before .before) .kdOrder
+part-kd-facts-start c = own (c .before .before .before .before .before) .kdOrder
 
 part-kd-facts-end : tie.Need-part-kd-facts-end
-part-kd-facts-end c = own (c .before .before .before .before) .kdInside
+part-kd-facts-end c = own (c .before .before .before .before .before) .kdInside
 
 kd-facts-requires : tie.Need-kd-facts-requires
-kd-facts-requires c κs = own (c .before .before .before .before .before) .kdWhole
+kd-facts-requires c κs = own (c .before .before .before .before .before .before) .kdWhole
 
 returns : tie.Need-returns
 returns c =
     let d = c .before .before in
-    let p = d .before .before .before in
+    let p = d .before .before .before .before in
     let b = p .before .before .before in
     let a = b .before .before .args in
     let s = now (a .s) in
@@ -62,8 +69,9 @@ returns c =
     let k = d .kd-facts .ensures in
     λ i. record {
       payloads = e i;
-      policies = (p .policy-facts .ensures ∙ ap (λ (y : PayloadFacts). policyFacts (a .authentication) (policiesIn (at s (y .gsa)))) e) i;
-      bags = (ap (λ (y : KdFacts). y .bags) k ∙ ap (λ (y : PayloadFacts). bagFacts limits (bagsIn (at s (y .kd)))) e) i;
+      policies = (p .policy-facts .ensures ∙ ap (λ (y : PayloadFacts). policyFacts (a .row .authentication) (policiesIn (at s (y .gsa)))) e) i;
+      bags = (ap (λ (y : KdFacts). y .bags) k ∙ ap (λ (y : PayloadFacts). bagFacts limits
+          (bagsIn (a .profile && a .row .«reads_fresh_keys») (at s (y .kd)))) e) i;
       «member_bag» = (ap (λ (y : KdFacts). y .«member_bag») k ∙ ap (λ (y : PayloadFacts). memberIn (at s (y .kd))) e) i;
     }
 

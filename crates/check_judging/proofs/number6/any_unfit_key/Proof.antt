@@ -11,7 +11,7 @@ clauses-6-requires c κs = search needs
 
 returns : tie.Need-returns
 unfolding joined joinedTo
-returns c = let r = c .before .before .before .before .clauses-6 in joined-is (keysIn (r .result)) ∙ ap one (r .ensures)
+returns c = let r = c .before .before .before .before .before .before .clauses-6 in joined-is (keysIn (r .result)) ∙ ap one (r .ensures)
 
 pub any-unfit-key-spec : {M : Type 1} → statement M
 any-unfit-key-spec = tie.close (tie.spec clauses-6-requires returns)

@@ -11,7 +11,7 @@ clauses-7-requires c κs = search needs
 
 returns : tie.Need-returns
 unfolding joined joinedTo
-returns c = let r = c .before .before .before .before .before .clauses-7 in joined-is (number7In (r .result)) ∙ ap one (r .ensures)
+returns c = let r = c .before .before .before .before .before .before .clauses-7 in joined-is (number7In (r .result)) ∙ ap one (r .ensures)
 
 pub number-7-spec : {M : Type 1} → statement M
 number-7-spec = tie.close (tie.spec clauses-7-requires returns)

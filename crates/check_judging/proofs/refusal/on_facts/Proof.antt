@@ -1,5 +1,6 @@
 use denote.Ref.{now}
 use mathlib.Core.Path.{_≡_, ap}
+use mathlib.Core.Bool.{_&&_}
 use Rattle.check_payloads.proofs.FrameLaws.{reads-to}
 use Rattle.check_payloads.proofs.FoundLaws.{OfFrame}
 use Rattle.check_pairing.proofs.NamesOf.{policy-names, bag-names}
@@ -37,12 +38,15 @@ returns-2 c =
 -- the bodies, where number 6 is asked
 own : (c : tie.After-k)
     → let st = c .before .before .before .before .before .before .before .before .before .before in
-    OfFrame (now (st .args .s)) (reads-to (now (st .args .s)) (st .pre .1 .0) .0) (st .args .x .payloads)
+    let a = st .args in
+    OfFrame (a .state .profile && a .row .«reads_fresh_keys») (now (a .s)) (reads-to (a .state .profile) (now (a .s)) (st .pre .1 .0) .0)
+    (a .x .payloads)
 own c =
     let st = c .before .before .before .before .before .before .before .before .before .before in
     let a = st .args in
-    let f = reads-to (now (a .s)) (st .pre .1 .0) in
+    let f = reads-to (a .state .profile) (now (a .s)) (st .pre .1 .0) in
     its-payloads (a .state) (a .tick) (now (a .lent)) (now (a .s)) (st .pre .0) (a .row) (a .x) (st .pre .1 .1 .0) (f .0) (f .1)
+    (st .pre .1 .1 .1 (f .0) (f .1))
 
 sub-number-6 : tie.Need-sub-number-6
 sub-number-6 c = own c .gsaOrder
@@ -67,7 +71,7 @@ number-6-requires c κs =
     let d = c .before .before in
     let i = own d in
     let st = d .before .before .before .before .before .before .before .before .before .before in
-    ((_, policy-names _ (i .gsaWhole)), (_, bag-names _ (i .kdWhole)), st .pre .0)
+    ((_, policy-names _ (i .gsaWhole)), (_, bag-names _ _ (i .kdWhole)), st .pre .0)
 
 returns-3 : tie.Need-returns-3
 returns-3 c =

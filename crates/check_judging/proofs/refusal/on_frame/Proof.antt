@@ -5,7 +5,7 @@ use Rattle.check_judging.proofs.refusal.on_frame.Statement.{statement}
 use Rattle.check_judging.proofs.refusal.on_frame.Tie as tie
 
 facts-of-requires : tie.Need-facts-of-requires
-facts-of-requires c κs = c .before .before .pre .1 .0
+facts-of-requires c κs = let p = c .before .before .pre in (p .1 .0, p .1 .1)
 
 on-facts-requires : tie.Need-on-facts-requires
 on-facts-requires c κs = let p = c .before .before .before .pre in (p .0, (p .1 .0, (c .facts-of .ensures, p .1 .1)))

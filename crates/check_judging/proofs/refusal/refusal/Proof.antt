@@ -27,7 +27,7 @@ part-number-2-start c = search needs
 part-number-2-end : tie.Need-part-number-2-end
 part-number-2-end c =
     let b = c .before .before .before .before .before .before in
-    let l = long (now (b .args .s)) (b .pre) in
+    let l = long (b .args .state .profile) (now (b .args .s)) (b .pre) in
     omega (arith, l)
 
 number-2-requires : tie.Need-number-2-requires
@@ -102,14 +102,14 @@ returns-3 c =
     row-is limits (a .state) (a .tick) (now (a .lent)) s f q (v .0) (v .1 .0) (v .1 .1 .0) e (c .before .exchange-of .result)
     (c .before .exchange-of .ensures) in
     let n = further limits (a .state) (a .tick) (now (a .lent)) s f q (v .0) (v .1 .0) (v .1 .1 .0) e _ n2 n3 refl in
-    c .on-frame .ensures f q ∙ (λ i. verdictBy (n i) (frameFactsOf (sym r i .authentication) s))
+    c .on-frame .ensures f q ∙ (λ i. verdictBy (n i) (frameFactsOf (a .state .profile) (sym r i) s))
 
 returns-4 : tie.Need-returns-4
 returns-4 c =
     let b = c .before .before .before .before .before in
     let s = now (b .args .s) in
     let e = sym (c .enum-told .given .1) ∙ c .before .before .read-header .ensures in
-    λ f q. absurd (no-header s f q e)
+    λ f q. absurd (no-header (b .args .state .profile) s f q e)
 
 pub refusal-spec : {M : Type 1} → statement M
 refusal-spec =

@@ -15,7 +15,7 @@ abbrev μ-loop : tie.MeasureT-loop
 μ-loop kd protocol spi at₀ at = length kd - at
 
 loop-holds : tie.Need-loop-holds Inv-loop μ-loop
-loop-holds c = going-start _ _ _ (c .before .before .pre)
+loop-holds c = going-start _ _ _ (c .before .before .pre .0) (c .before .before .pre .1)
 
 sub-bag-parts : tie.Need-sub-bag-parts Inv-loop μ-loop
 sub-bag-parts c = search needs
@@ -29,11 +29,18 @@ part-bag-parts-end c = search needs
 bag-parts-requires : tie.Need-bag-parts-requires Inv-loop μ-loop
 bag-parts-requires c κs =
     let l = c .before .before .loop in
-    bag-there (now (c .before .before .before .before .before .args .kd)) (l .at) (c .before .loop-test .taken) (l .inv .rest)
+    let t = bag-there (l .inv .fresh) (now (c .before .before .before .before .before .args .kd)) (l .at) (c .before .loop-test .taken)
+    (l .inv .rest) in
+    (t .0, (l .inv .fresh, t .1))
 
 stands : (c : tie.After-bag-parts Inv-loop μ-loop)
-    → BagAt (now (c .before .before .before .before .before .before .args .kd)) (c .before .before .before .loop .at) (c .bag-parts .result)
-stands c = bag-at _ _ _ (c .before .before .loop-test .taken) (c .bag-parts .ensures)
+    → let l = c .before .before .before .loop in
+    BagAt (l .inv .fresh) (now (c .before .before .before .before .before .before .args .kd)) (l .at) (c .bag-parts .result)
+stands c =
+    let l = c .before .before .before .loop in
+    let h = c .before .before .loop-test .taken in
+    let t = bag-there (l .inv .fresh) (now (c .before .before .before .before .before .before .args .kd)) (l .at) h (l .inv .rest) in
+    bag-at _ _ _ _ h (c .bag-parts .ensures (l .inv .fresh) (t .1))
 
 add-name : tie.Need-add-name Inv-loop μ-loop
 add-name c = let b = stands c in record { fits = omega (arith, b .some, b .order, b .inside) }
