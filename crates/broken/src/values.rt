@@ -166,6 +166,7 @@ pub(crate) fn member_of(table: Table, held: Held) -> Member {
         table,
         held,
         least: Least::Id(5),
+        profile: false,
     };
     Member { state }
 }
@@ -179,6 +180,7 @@ pub(crate) fn without_id(m: Member) -> Member {
         table,
         held,
         least: Least::NoneAnyMore,
+        profile: s.profile,
     };
     Member { state }
 }

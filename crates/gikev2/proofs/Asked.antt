@@ -27,7 +27,7 @@ use Rattle.gikev2.specs.declared.call.Answer.the-variants as answer
 use Rattle.gikev2.specs.Member.{answerOf, answered, saAnswer}
 use Rattle.gikev2.specs.Receive.{Receives}
 
-module _ (m : Member) (now : ℕ) (lent s : List ℕ) (f : Frame) (e : IsFrame s f) (next : Member)
+module _ (m : Member) (now : ℕ) (lent s : List ℕ) (f : Frame) (e : IsFrame (m .state .profile) s f) (next : Member)
     (r : Receives m now lent s answer.Accepted next) where
   -- the answer has the octets that every copy of the SA's key opens to, as many as its policy needs, live; of a Rekey SA the octet counts
   -- of its policy's two parts; its lifetime as its policy and the frame's tick give it
@@ -47,7 +47,7 @@ module _ (m : Member) (now : ℕ) (lent s : List ℕ) (f : Frame) (e : IsFrame s
   pub answered-after : (p : GroupSaPolicy) → In p (announced f) → Answered p (saAnswer (p .protocol) (p .spi) next)
   unfolding answerOf answered saAnswer
   answered-after p i =
-      let w = asked-after limits (omega arith) (m .state) now lent s f e (next .state) (r .outcome) p i in
+      let w = asked-after limits (m .state) now lent s f e (next .state) (r .outcome) p i in
       let a = w .sa in
       let is : saAnswer (p .protocol) (p .spi) next ≡ answerOf a = ap answered (w .found) in
       let rekey : p .protocol ≡ 6 → eqb (a .protocol) 6 ≡ true = λ q. eq-eqb (a .protocol) 6 (w .protocol ∙ q) in

@@ -3,6 +3,7 @@ use native.Mathlib.Omega.{arith}
 use Prim.Native.Nat.{ℕ, zero, suc, _≤_}
 use mathlib.Core.Path.{_≡_, refl, ap, sym, subst, _∙_}
 use mathlib.Core.List.{List, [], _∷_}
+use mathlib.Core.Bool.{Bool}
 use lib.ListN.{getD}
 use Rattle.octets.specs.Walk.{Reading, whole, broken}
 use borrow.Author.Tests.{ltb-true, ltb-false}
@@ -28,14 +29,14 @@ use Rattle.gikev2.specs.Receive.{numberOf, figureOf, Receives}
 
 module _ (m : State) (now : ℕ) (lent : List ℕ) (f : Frame) where
   -- the numbers of a frame whose layout is whole are 0 and 2 to 9
-  pub judged-numbered : (octets : List ℕ) → frame octets ≡ whole f [] → (n : ℕ) (next : State) → Judged limits m now lent f n next →
+  pub judged-numbered : (octets : List ℕ) → frame (m .profile) octets ≡ whole f [] → (n : ℕ) (next : State) → Judged limits m now lent f n next →
       (n ≤ 9) × (n ≡ 1 → ⊥)
   judged-numbered octets e n next j =
       let o = outcome-read limits m now lent octets f e n next j in
       let one : n ≡ 1 → Outcome limits m now lent octets 1 next =
       λ q. subst (λ (k : ℕ). Outcome limits m now lent octets k next) q o in (
         one-of-nine limits m now lent octets n next o,
-        λ q. one-exactly limits m now lent octets next .0 (one q) .0 f (read-frame octets f [] e),
+        λ q. one-exactly limits m now lent octets next .0 (one q) .0 f (read-frame (m .profile) octets f [] e),
       )
 
   -- one of numbers 2 to 7 applies
@@ -66,22 +67,23 @@ abbrev codeOf : Layout → ℕ
 codeOf layout.Whole = 0
 codeOf (layout.Broken o) = suc o
 
-whole-by : (s : List ℕ) (x : Reading Frame) → frame s ≡ x → layoutOf x ≡ layout.Whole → (f : Frame) × (frame s ≡ whole f [])
-whole-by s (whole f rest) e l = (f, frame-read s f (read-frame s f rest e))
-whole-by s (broken o) e l = let z : suc o ≡ 0 = ap codeOf l in absurd (omega arith)
+module _ (profile : Bool) (s : List ℕ) where
+  whole-by : (x : Reading Frame) → frame profile s ≡ x → layoutOf x ≡ layout.Whole → (f : Frame) × (frame profile s ≡ whole f [])
+  whole-by (whole f rest) e l = (f, frame-read profile s f (read-frame profile s f rest e))
+  whole-by (broken o) e l = let z : suc o ≡ 0 = ap codeOf l in absurd (omega arith)
 
-broken-by : (s : List ℕ) (x : Reading Frame) (o : ℕ) → frame s ≡ x → layoutOf x ≡ layout.Broken o → frame s ≡ broken o
-broken-by s (whole f rest) o e l = let z : 0 ≡ suc o = ap codeOf l in absurd (omega arith)
-broken-by s (broken p) o e l = let z : suc p ≡ suc o = ap codeOf l in let q : p ≡ o = omega arith in e ∙ ap broken q
+  broken-by : (x : Reading Frame) (o : ℕ) → frame profile s ≡ x → layoutOf x ≡ layout.Broken o → frame profile s ≡ broken o
+  broken-by (whole f rest) o e l = let z : 0 ≡ suc o = ap codeOf l in absurd (omega arith)
+  broken-by (broken p) o e l = let z : suc p ≡ suc o = ap codeOf l in let q : p ≡ o = omega arith in e ∙ ap broken q
 
-module _ (s : List ℕ) (r : Layout) (e : r ≡ frameLayout s) where
-  pub whole-tree : r ≡ layout.Whole → (f : Frame) × (frame s ≡ whole f [])
-  unfolding frameLayout
-  whole-tree l = whole-by s (frame s) refl (sym e ∙ l)
+  module _ (r : Layout) (e : r ≡ frameLayout profile s) where
+    pub whole-tree : r ≡ layout.Whole → (f : Frame) × (frame profile s ≡ whole f [])
+    unfolding frameLayout
+    whole-tree l = whole-by (frame profile s) refl (sym e ∙ l)
 
-  pub no-tree : (o : ℕ) → r ≡ layout.Broken o → frame s ≡ broken o
-  unfolding frameLayout
-  no-tree o l = broken-by s (frame s) o refl (sym e ∙ l)
+    pub no-tree : (o : ℕ) → r ≡ layout.Broken o → frame profile s ≡ broken o
+    unfolding frameLayout
+    no-tree o l = broken-by (frame profile s) o refl (sym e ∙ l)
 
 -- ---- the figure: "All other numbers carry 0"
 pub other-figure : (a : Answer) → (numberOf a ≡ 1 → ⊥) → figureOf a ≡ 0
@@ -95,54 +97,56 @@ other-figure answer.Unpaired n = refl
 other-figure answer.OverLimit n = refl
 other-figure answer.KeyConflict n = refl
 other-figure answer.NoKey n = refl
+other-figure answer.Unopened n = refl
 
-figure-is : (s : List ℕ) (x : Reading Frame) → frame s ≡ x → figure s ≡ offsetOf (layoutOf x)
+figure-is : (profile : Bool) (s : List ℕ) (x : Reading Frame) → frame profile s ≡ x → figure profile s ≡ offsetOf (layoutOf x)
 unfolding figure frameLayout
-figure-is s x e = ap (λ (y : Reading Frame). offsetOf (layoutOf y)) e
+figure-is profile s x e = ap (λ (y : Reading Frame). offsetOf (layoutOf y)) e
+
+-- ---- number and figure are one answer's
+abbrev numbered : ℕ → ℕ → Answer
+numbered n o =
+    getD
+    (answer.Accepted ∷ answer.BrokenLayout o ∷ answer.NotForMember ∷ answer.Replayed ∷ answer.BadComposition ∷ answer.Unsupported ∷
+    answer.Unpaired ∷ answer.OverLimit ∷ answer.KeyConflict ∷ answer.NoKey ∷ [])
+    n answer.Unopened
+
+numbered-of : (a : Answer) → numbered (numberOf a) (figureOf a) ≡ a
+numbered-of answer.Accepted = refl
+numbered-of (answer.BrokenLayout o) = refl
+numbered-of answer.NotForMember = refl
+numbered-of answer.Replayed = refl
+numbered-of answer.BadComposition = refl
+numbered-of answer.Unsupported = refl
+numbered-of answer.Unpaired = refl
+numbered-of answer.OverLimit = refl
+numbered-of answer.KeyConflict = refl
+numbered-of answer.NoKey = refl
+numbered-of answer.Unopened = refl
+
+pub answer-one : (a b : Answer) → numberOf a ≡ numberOf b → figureOf a ≡ figureOf b → a ≡ b
+answer-one a b n o = sym (numbered-of a) ∙ (λ i. numbered (n i) (o i)) ∙ numbered-of b
 
 -- ---- the call's promise
 module _ (m : Member) (now : ℕ) (lent octets : List ℕ) where
-  pub receives-broken : (o : ℕ) → frame octets ≡ broken o → (a : Answer) (next : Member) → a ≡ answer.BrokenLayout o → next ≡ m →
+  pub receives-broken : (o : ℕ) → frame (m .state .profile) octets ≡ broken o → (a : Answer) (next : Member) → a ≡ answer.BrokenLayout o → next ≡ m →
       Receives m now lent octets a next
   receives-broken o e a next p g =
       let r : Receives m now lent octets (answer.BrokenLayout o) m =
-      record { outcome = outcome-broken limits (m .state) now lent octets o e; offset = sym (figure-is octets (broken o) e) } in
+      record { outcome = outcome-broken limits (m .state) now lent octets o e; offset = sym (figure-is (m .state .profile) octets (broken o) e) } in
       subst (λ (x : Member). Receives m now lent octets a x) (sym g) (subst (λ (x : Answer). Receives m now lent octets x m) (sym p) r)
 
-  pub receives-tree : (f : Frame) → frame octets ≡ whole f [] → (a : Answer) (next : Member) →
+  pub receives-tree : (f : Frame) → frame (m .state .profile) octets ≡ whole f [] → (a : Answer) (next : Member) →
       Judged limits (m .state) now lent f (numberOf a) (next .state) → Receives m now lent octets a next
   receives-tree f e a next j =
       record {
         outcome = outcome-read limits (m .state) now lent octets f e (numberOf a) (next .state) j;
         offset =
             other-figure a (judged-numbered (m .state) now lent f octets e (numberOf a) (next .state) j .1)
-            ∙ sym (figure-is octets (whole f []) e);
+            ∙ sym (figure-is (m .state .profile) octets (whole f []) e);
       }
 
-  -- "Every public call's promise determines its answer and the member .. after it, also on refusal, for all inputs": number and figure are
-  -- one answer's
-  abbrev numbered : ℕ → ℕ → Answer
-  numbered n o =
-      getD
-      (answer.Accepted ∷ answer.BrokenLayout o ∷ answer.NotForMember ∷ answer.Replayed ∷ answer.BadComposition ∷ answer.Unsupported ∷
-      answer.Unpaired ∷ answer.OverLimit ∷ answer.KeyConflict ∷ [])
-      n answer.NoKey
-
-  numbered-of : (a : Answer) → numbered (numberOf a) (figureOf a) ≡ a
-  numbered-of answer.Accepted = refl
-  numbered-of (answer.BrokenLayout o) = refl
-  numbered-of answer.NotForMember = refl
-  numbered-of answer.Replayed = refl
-  numbered-of answer.BadComposition = refl
-  numbered-of answer.Unsupported = refl
-  numbered-of answer.Unpaired = refl
-  numbered-of answer.OverLimit = refl
-  numbered-of answer.KeyConflict = refl
-  numbered-of answer.NoKey = refl
-
-  answer-one : (a b : Answer) → numberOf a ≡ numberOf b → figureOf a ≡ figureOf b → a ≡ b
-  answer-one a b n o = sym (numbered-of a) ∙ (λ i. numbered (n i) (o i)) ∙ numbered-of b
-
+  -- "Every public call's promise determines its answer and the member .. after it, also on refusal, for all inputs"
   pub receives-one : (a b : Answer) (next after : Member) → Receives m now lent octets a next → Receives m now lent octets b after →
       (a ≡ b) × (next ≡ after)
   receives-one a b next after p q =

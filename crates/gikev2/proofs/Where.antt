@@ -21,20 +21,20 @@ use Rattle.gikev2.proofs.ReceiveLaws.{other-figure, receives-broken, re
 
 module _ (m : Member) (now : ℕ) (lent octets : List ℕ) (a : Answer) (next : Member) (r : Receives m now lent octets a next) where
   -- "Number 1 carries the offset of the innermost .. whose layout broke first": on number 1 the octets break at the figure
-  pub where-1 : numberOf a ≡ 1 → BreaksFrame octets (figureOf a)
-  where-1 n = go (whole-or-broken octets)
+  pub where-1 : numberOf a ≡ 1 → BreaksFrame (m .state .profile) octets (figureOf a)
+  where-1 n = go (whole-or-broken (m .state .profile) octets)
     where
-      go : ((f : Frame) × IsFrame octets f) ⊎ ((o : ℕ) × BreaksFrame octets o) → BreaksFrame octets (figureOf a)
+      go : ((f : Frame) × IsFrame (m .state .profile) octets f) ⊎ ((o : ℕ) × BreaksFrame (m .state .profile) octets o) → BreaksFrame (m .state .profile) octets (figureOf a)
       go (inl x) =
           let o = subst (λ (k : ℕ). Outcome limits (m .state) now lent octets k (next .state)) n (r .outcome) in
           absurd (one-exactly limits (m .state) now lent octets (next .state) .0 o .0 (x .0) (x .1))
-      go (inr b) = subst (BreaksFrame octets) (sym (r .offset ∙ figure-broken octets (b .0) (b .1))) (b .1)
+      go (inr b) = subst (BreaksFrame (m .state .profile) octets) (sym (r .offset ∙ figure-broken (m .state .profile) octets (b .0) (b .1))) (b .1)
 
   -- octets that break at an offset give number 1 with that offset, and the member as it was
-  pub breaks-1 : (o : ℕ) → BreaksFrame octets o → (a ≡ answer.BrokenLayout o) × (next ≡ m)
+  pub breaks-1 : (o : ℕ) → BreaksFrame (m .state .profile) octets o → (a ≡ answer.BrokenLayout o) × (next ≡ m)
   breaks-1 o i =
       receives-one m now lent octets a (answer.BrokenLayout o) next m r
-      (receives-broken m now lent octets o (frame-from octets o i) (answer.BrokenLayout o) m refl refl)
+      (receives-broken m now lent octets o (frame-from (m .state .profile) octets o i) (answer.BrokenLayout o) m refl refl)
 
   -- "All other numbers carry 0"
   pub others-0 : (numberOf a ≡ 1 → ⊥) → figureOf a ≡ 0
@@ -42,4 +42,4 @@ module _ (m : Member) (now : ℕ) (lent octets : List ℕ) (a : Answer) (next : 
 
   -- the figure is 0, or at least 28 and below the frame's length
   pub figure-within : (figureOf a ≡ 0) ⊎ ((28 ≤ figureOf a) × (figureOf a < length octets))
-  figure-within = subst (λ (o : ℕ). (o ≡ 0) ⊎ ((28 ≤ o) × (o < length octets))) (sym (r .offset)) (figure-lies octets)
+  figure-within = subst (λ (o : ℕ). (o ≡ 0) ⊎ ((28 ≤ o) × (o < length octets))) (sym (r .offset)) (figure-lies (m .state .profile) octets)

@@ -38,6 +38,8 @@ pub enum Answer {
     KeyConflict,
     // an SA no copy of whose key opens
     NoKey,
+    // a sealed frame that does not open, or a room under 16,384 octets (document 02, T-05); `receive` never answers it
+    Unopened,
 }
 
 impl Answer {
@@ -56,6 +58,7 @@ impl Answer {
             Answer::OverLimit => 7,
             Answer::KeyConflict => 8,
             Answer::NoKey => 9,
+            Answer::Unopened => 10,
         }
     }
 
@@ -74,6 +77,7 @@ impl Answer {
             Answer::OverLimit => 0,
             Answer::KeyConflict => 0,
             Answer::NoKey => 0,
+            Answer::Unopened => 0,
         }
     }
 }
@@ -114,7 +118,7 @@ fn answered(number: usize, state: State) -> Received
 
 impl Member {
     // Refuses a frame with this `answer`. The member stays as it was.
-    fn refused(self, answer: Answer) -> Received
+    pub(crate) fn refused(self, answer: Answer) -> Received
         ensures { λ r. ⌜ (r .answer ≡ answer) × (r .member ≡ self) ⌝ }
     {
         Received {
@@ -136,8 +140,8 @@ impl Member {
 
     // Judges the frame `s`, whose layout is whole: refusals 2 to 7 first, then 8 and 9.
     fn judged(self, s: &[u8], lent: &[u8], tick: u32) -> Received
-        requires { ⌜ ((f : Frame) × (frame (now s) ≡ whole f [])) ⌝ }
-        ensures { λ r. ⌜ ((f : Frame) → frame (now (s .entry)) ≡ whole f [] →
+        requires { ⌜ ((f : Frame) × (frame (self .state .profile) (now s) ≡ whole f [])) ⌝ }
+        ensures { λ r. ⌜ ((f : Frame) → frame (self .state .profile) (now (s .entry)) ≡ whole f [] →
             Judged limits (self .state) tick (now (lent .entry)) f (numberOf (r .answer)) (r .member .state)) ⌝ }
     {
         let state = self.state;
@@ -156,7 +160,8 @@ impl Member {
     pub fn receive(self, frame: &[u8], lent: &[u8], tick: u32) -> Received
         ensures { λ r. ⌜ Receives self tick (now (lent .entry)) (now (frame .entry)) (r .answer) (r .member) ⌝ }
     {
-        match wire_frames::frame_layout(frame) {
+        let state = self.state;
+        match wire_frames::layout_with_profile(state.profile, frame) {
             Layout::Whole => self.judged(frame, lent, tick),
             Layout::Broken(at) => self.refused(Answer::BrokenLayout(at)),
         }

@@ -1,8 +1,9 @@
 // A group member: what a customer of the library holds.
 pub mod call;
+pub mod sealed;
 
 ghost use mathlib.Core.Path.{_≡_};
-ghost use Rattle.gikev2.specs.Member.{newMember, sweptMember, leftMember, answerOf, saAnswer};
+ghost use Rattle.gikev2.specs.Member.{newMember, memberWith, sweptMember, leftMember, answerOf, saAnswer};
 use state::State;
 use state_keys::rooms::SA_OCTETS;
 use state_sa::entry::Condition;
@@ -59,11 +60,18 @@ fn answer(s: Sa) -> SaAnswer
 }
 
 impl Member {
-    // Makes a new member: no SA, no held key, least Message ID 0.
+    // Makes a new member without the profile: no SA, no held key, least Message ID 0.
     pub fn new() -> Member
         ensures { λ r. ⌜ r ≡ newMember ⌝ }
     {
-        let state = State::new();
+        Member::with_profile(false)
+    }
+
+    // Makes a new member with or without the profile (document 02, T-11). With it the member reads fresh tree keys in a GSA_REKEY.
+    pub fn with_profile(profile: bool) -> Member
+        ensures { λ r. ⌜ r ≡ memberWith profile ⌝ }
+    {
+        let state = State::with_profile(profile);
         Member { state }
     }
 
@@ -76,11 +84,12 @@ impl Member {
         Member { state }
     }
 
-    // Leaves the group. Answers the new member, whatever the member was.
+    // Leaves the group. Answers the new member with the profile that the member had, whatever else it was.
     pub fn leave(self) -> Member
         ensures { λ r. ⌜ r ≡ leftMember self ⌝ }
     {
-        Member::new()
+        let s = self.state;
+        Member::with_profile(s.profile)
     }
 
     // Answers the keying octets, condition and lifetime of the SA with this `protocol` and `spi`, or that the member has none.

@@ -2,17 +2,16 @@
 use native.Mathlib.Omega.{arith}
 use Prim.Native.Nat.{ℕ, _≤_}
 use mathlib.Core.Path.{_≡_, refl, ap, sym, subst, _∙_}
-use mathlib.Core.Bool.{false, false≢true}
+use mathlib.Core.Bool.{Bool}
 use mathlib.Core.List.{List}
-use borrow.Author.Tests.{eq-eqb}
-use lib.Dec.{eqb}
-use lib.ListN.{length, getD}
-use Rattle.state_keys.specs.Limits.{limits}
-use Rattle.state_keys.specs.Lists.{any}
-use Rattle.wire_attributes.specs.Tree.{WrapKey}
+use lib.ListN.{length}
+use Rattle.wire_attributes.specs.declared.tables.Place.the-variants.{MemberBag}
+use Rattle.wire_attributes.specs.declared.tables.Meaning.the-variants as meaning
 use Rattle.wire_bags.specs.Bag.{Bag}
 use Rattle.wire_frames.specs.Frame.{Frame}
+use Rattle.wire_frames.specs.Exchange.{readsFresh}
 use Rattle.wire_frames.specs.declared.exchanges.Exchange.{Exchange}
+use Rattle.wire_frames.proofs.FrameGrammar.{read-frame}
 use Rattle.state.specs.declared.State.{State}
 use Rattle.wire_readers.specs.inner.Policies.{policiesIn}
 use Rattle.check_payloads.specs.declared.PayloadFacts.{PayloadFacts}
@@ -23,35 +22,24 @@ use Rattle.check_judging.specs.declared.facts.Facts.{Facts}
 use Rattle.check_judging.specs.inner.Facts.{at}
 use Rattle.check_judging.proofs.MemberLaws.{member-is}
 use Rattle.rules_refusals.specs.Contents.{rowOf, gather, memberBagOf, policiesOf, wrapKeysOf}
-use Rattle.rules_refusals.specs.Number6.{wrapKeyId}
-use Rattle.rules_chains.specs.Chain.{In}
-use Rattle.rules_chains.proofs.Members.{in-member}
-use Rattle.rules_outcome.proofs.RunsLists.{none-passes}
-use Rattle.unwrap_search.specs.inner.Entries.{noWrapKey}
-use Rattle.unwrap_search.specs.inner.Search.{Nonzero}
-use Rattle.unwrap_search.proofs.Statuses.{getD-any}
-use Rattle.unwrap_tree.specs.inner.Reached.{wrapKeysAmong, wrapKeysIn}
+use Rattle.rules_outcome.proofs.FreshRead.{no-fresh, fresh-in-rekey-bags}
+use Rattle.unwrap_tree.specs.inner.Reached.{wrapKeysAmong}
 use Rattle.unwrap_tree.specs.inner.Entries.{HoldsEntries}
-use Rattle.unwrap_sas.specs.inner.Keyed.{ChecksPassed}
 use Rattle.receive.specs.inner.Passing.{Passed, Bodied, Bagged}
-use Rattle.receive.proofs.ClauseLaws.{one-gsa, one-kd, one-member-bag, lengths-once, lifetimes-once, transforms-fit, all-paired}
-use Rattle.receive.proofs.ClauseLaws.{no-zero, few-entries, few-sas}
-
-nonzero-of : (l : List WrapKey) → any (λ (k : WrapKey). eqb (k .keyId) 0) l ≡ false → Nonzero l
-nonzero-of l e i h z =
-    let k = getD l i noWrapKey in
-    let m : In k l = record { place = i; inside = h; is = getD-any l i k noWrapKey h } in
-    false≢true (sym (none-passes (λ (x : WrapKey). eqb (x .keyId) 0) l e k (in-member k l m)) ∙ eq-eqb (k .keyId) 0 z)
+use Rattle.receive.proofs.ClauseLaws.{one-gsa, one-kd, one-member-bag}
 
 -- the facts, and where the bodies stand
 module _ (m : State) (now : ℕ) (lent s : List ℕ) (x : Facts) (f : Frame) (p : Passed m now lent s x f) where
-  pub of-frame : OfFrame s f (x .payloads)
-  of-frame = facts-of s (x .payloads) (ap (λ (y : Facts). y .payloads) (p .facts)) f (p .whole-is)
+  abbrev reads : Bool
+  reads = readsFresh (m .profile) (f .header .exchange)
+
+  pub of-frame : OfFrame reads s f (x .payloads)
+  of-frame = facts-of (m .profile) s (x .payloads) (ap (λ (y : Facts). y .payloads) (p .facts)) f (p .whole-is)
 
   pub holds-policies : HoldsPolicies (at s (x .payloads .gsa)) f
   holds-policies = of-frame .policies (omega (arith, of-frame .gsas, one-gsa m now lent f (p .clauses)))
 
-  pub holds-bags : HoldsBags (at s (x .payloads .kd)) f
+  pub holds-bags : HoldsBags reads (at s (x .payloads .kd)) f
   holds-bags = of-frame .bags (omega (arith, of-frame .kds, one-kd m now lent f (p .clauses)))
 
   pub policies-are : x .policies ≡ policyFacts (rowOf f .authentication) (policiesOf f)
@@ -67,47 +55,37 @@ module _ (m : State) (now : ℕ) (lent s : List ℕ) (x : Facts) (f : Frame) (p 
       let e = ap (λ (y : Facts). y .payloads) (p .facts) in
       ap (λ (y : Facts). y .«member_bag») (p .facts) ∙ ap (λ (y : PayloadFacts). memberIn (at s (y .kd))) (sym e)
 
-  holds-entries : HoldsEntries (at s (x .payloads .kd)) (x .«member_bag»)
+  holds-entries : HoldsEntries meaning.WrapKey MemberBag (at s (x .payloads .kd)) (x .«member_bag») (wrapKeysOf f)
   holds-entries =
       let one = one-member-bag m now lent f (p .clauses) in
       let few = subst (λ (l : List Bag). length (gather memberBagOf l) ≤ 1) (sym (holds-bags .all)) one in
-      let i = member-is (at s (x .payloads .kd)) (x .«member_bag») bag-stands (holds-bags .held) few in
-      record { order = i .order; inside = i .inside; held = i .held; keys = i .keys }
-
-  pub bodied : Bodied m now lent s x (at s (x .payloads .gsa)) (at s (x .payloads .kd)) f
-  bodied = record { passed = p; policies = sym (holds-policies .all); bags = sym (holds-bags .all); entries = holds-entries }
-
-module _ {e : Exchange} {m : State} {now : ℕ} {lent g k : List ℕ} {f : Frame} (b : Bagged e m now lent g k f) where
-  pub checked : ChecksPassed f g k
-  checked =
-      let q = b .clauses in
+      let i = member-is reads (at s (x .payloads .kd)) (x .«member_bag») bag-stands (holds-bags .held) few in
       record {
-        policies = b .policies;
-        bags = b .bags;
-        lengths = lengths-once m now lent f q;
-        lifetimes = lifetimes-once m now lent f q;
-        transforms = transforms-fit m now lent f q;
-        paired = all-paired m now lent f q;
-        room = omega (arith, few-sas m now lent f q);
+        order = i .order;
+        inside = i .inside;
+        held = i .held;
+        keys = ap wrapKeysAmong (sym (holds-bags .all)) ∙ i .keys;
+        wrapped = λ n. refl;
       }
 
-  pub entries-are : wrapKeysIn k ≡ wrapKeysOf f
-  entries-are = ap wrapKeysAmong (sym (b .bags))
-
-  pub entries-few : length (wrapKeysIn k) ≤ limits .wrapKeys
-  entries-few = subst (λ (l : List WrapKey). length l ≤ limits .wrapKeys) (sym entries-are) (few-entries m now lent f (b .clauses))
-
-  pub entries-nonzero : Nonzero (wrapKeysIn k)
-  unfolding wrapKeyId
-  entries-nonzero =
-      nonzero-of (wrapKeysIn k)
-      (subst (λ (l : List WrapKey). any (λ (x : WrapKey). eqb (x .keyId) 0) l ≡ false) (sym entries-are)
-      (no-zero m now lent f (b .clauses)))
+  pub bodied : Bodied m now lent s x (at s (x .payloads .gsa)) (at s (x .payloads .kd)) f
+  bodied =
+      record {
+        passed = p;
+        bagged = record {
+          clauses = p .clauses;
+          row = refl;
+          policies = sym (holds-policies .all);
+          bags = sym (holds-bags .all);
+          laid = holds-bags .held;
+          unread = no-fresh (m .profile) s f (read-frame (m .profile) s f _ (p .whole-is));
+          placed = fresh-in-rekey-bags (m .profile) s f (read-frame (m .profile) s f _ (p .whole-is));
+          entries = holds-entries;
+        };
+      }
 
 module _ {m : State} {now : ℕ} {lent s : List ℕ} {x : Facts} {g k : List ℕ} {f : Frame}
     (b : Bodied m now lent s x g k f) where
-  pub bagged : (e : Exchange) → rowOf f ≡ e → Bagged e m now lent g k f
-  bagged e r = record { clauses = b .passed .clauses; row = r; policies = b .policies; bags = b .bags }
-
-  pub ready : ChecksPassed f g k
-  ready = checked (bagged (rowOf f) refl)
+  -- the same by the row that was read
+  pub bagged-by : (e : Exchange) → rowOf f ≡ e → Bagged e m now lent g k (x .«member_bag») f
+  bagged-by e r = subst (λ (y : Exchange). Bagged y m now lent g k (x .«member_bag») f) r (b .bagged)

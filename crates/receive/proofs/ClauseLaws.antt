@@ -3,36 +3,34 @@ use native.Mathlib.Omega.{arith}
 use Prim.Native.Nat.{ℕ, suc, _+_, _≤_}
 use mathlib.Core.Path.{_≡_, refl, ap, sym}
 use mathlib.Core.Bool.{Bool, true, false, not, cond, _&&_, false≢true}
-use mathlib.Core.List.{List, [], _∷_, List·Memᴰ}
-use borrow.Author.Tests.{ltb-false, eqb-true}
-use lib.Dec.{eqb}
+use mathlib.Core.List.{List, [], _∷_}
+use borrow.Author.Tests.{ltb-false}
 use lib.ListN.{length, getD}
 use Rattle.state_keys.specs.Limits.{limits}
 use Rattle.state_keys.specs.Lists.{any, count}
 use Rattle.state_keys.specs.Algorithms.{sizeOf}
 use Rattle.wire_policies.specs.Policy.{GroupSaPolicy, GroupWidePolicy}
-use Rattle.wire_bags.specs.Bag.{GroupKeyBag, MemberKeyBag}
+use Rattle.wire_bags.specs.Bag.{MemberKeyBag}
 use Rattle.wire_frames.specs.Frame.{Frame}
 use Rattle.wire_frames.specs.Exchange.{registration, rekey, inband}
 use Rattle.wire_frames.specs.declared.exchanges.KeyZero.{KeyZero}
 use Rattle.wire_frames.specs.declared.exchanges.KeyZero.the-variants as keyZero
 use Rattle.state.specs.declared.State.{State}
 use Rattle.state.specs.State.{stateFormed}
-use Rattle.rules_refusals.specs.Contents.{rowOf, gather, some, several, hasGsa, hasKd, announced, groupWides, groupBags}
-use Rattle.rules_refusals.specs.Contents.{memberBags, wrapKeysOf}
+use Rattle.rules_refusals.specs.Contents.{rowOf, gather, some, several, hasGsa, hasKd, announced, groupWides}
+use Rattle.rules_refusals.specs.Contents.{memberBags, wrapKeysOf, freshKeysOf}
 use Rattle.rules_refusals.specs.Fitness.{isRekey}
 use Rattle.rules_refusals.specs.Number2.{notDueSas, overLiveRekey, otherSpis}
 use Rattle.rules_refusals.specs.Number4.{number4OfFrame, barredMemberBag, twoGsa, twoKd, severalRekeyPolicies, severalGroupWide}
 use Rattle.rules_refusals.specs.Number4.{severalMemberBags, keyLengthTwice, initialMessageIdTwice, delayTwice, lifetimeTwice}
 use Rattle.rules_refusals.specs.Number5.{number5OfFrame, otherTransforms, lentKeySize}
-use Rattle.rules_refusals.specs.Number6.{number6OfFrame, policyUnpaired, otherSaKeyCount, saKeyCount, wrapKeyId}
-use Rattle.rules_refusals.specs.Number7.{number7OfFrame, number7OfMember, manyWrapKeys, manySas}
+use Rattle.rules_refusals.specs.Number6.{number6OfFrame, policyUnpaired, bagUnpaired, wrapKeyId, freshKeyId}
+use Rattle.rules_refusals.specs.Number7.{number7OfFrame, number7OfMember, manyWrapKeys, manySaKeys, manyFreshKeys, manySas}
 use Rattle.rules_refusals.specs.Refusals.{Number, one, applies, judged, number2, number3, number4, number5, number6, number7, refusal}
 use Rattle.rules_refusals.proofs.Clear.{or-none, no-clause}
 use Rattle.rules_refusals.proofs.ExchangeRows.{by-row}
 use Rattle.rules_outcome.proofs.RunsClear.{None}
-use Rattle.rules_outcome.proofs.RunsLists.{none-passes}
-use Rattle.receive.specs.inner.Passing.{RekeysOver, RekeysInband}
+use Rattle.receive.specs.inner.Passing.{RekeysOver}
 
 -- ---- the numbers, one after the other
 none-by : (n : Number) (l : List Number) (k : ℕ) → n .number ≡ suc k → (b : Bool) → applies n ≡ b →
@@ -91,20 +89,35 @@ module _ (m : State) (now : ℕ) (lent : List ℕ) (f : Frame) (e : refusal limi
       not-not (rowOf f .admitted)
       (no-clause (number2 limits m now (f .header .exchange) (f .header .spi) .ofFrame) 0 (from-2 .0 .ofFrame))
 
-  -- an exchange whose key 0 is the Rekey SA's is a rekey over it; one that is taken, keeps the held list and has the lent key as key 0 is
-  -- a rekey over the member's own channel
+  -- an exchange whose key 0 is the Rekey SA's is a rekey over it
   pub is-rekey : RekeysOver f → rowOf f ≡ rekey
   is-rekey z =
       by-row (rowOf f ≡ rekey) (f .header .exchange) (λ q r. absurd (lent-or-own (rw r at z))) (λ q r. r)
       (λ q r. absurd (lent-or-own (rw r at z))) (λ r. absurd (lent-or-own (rw r at z)))
 
-  pub is-inband : RekeysInband f → rowOf f ≡ inband
-  is-inband w =
+  -- an exchange that is taken and has the lent key as key 0 judges its size
+  pub judges-lent : rowOf f .zero ≡ keyZero.Lent → rowOf f .«judges_lent_key» ≡ true
+  judges-lent z =
       let a = admitted in
-      let k = w .keeps in
-      let z = w .zero in
-      by-row (rowOf f ≡ inband) (f .header .exchange) (λ q r. absurd (false≢true (sym (rw r at k))))
-      (λ q r. absurd (lent-or-own (sym (rw r at z)))) (λ q r. r) (λ r. absurd (false≢true (rw r at a)))
+      by-row (rowOf f .«judges_lent_key» ≡ true) (f .header .exchange) (λ q r. rw r refl) (λ q r. absurd (lent-or-own (sym (rw r at z))))
+      (λ q r. rw r refl) (λ r. absurd (false≢true (rw r at a)))
+
+  -- an exchange that names held keys, or reads fresh tree keys, is a rekey over the Rekey SA; one that sets the held list is a registration
+  pub names-rekey : rowOf f .«names_held_keys» ≡ true → rowOf f ≡ rekey
+  names-rekey z =
+      by-row (rowOf f ≡ rekey) (f .header .exchange) (λ q r. absurd (false≢true (rw r at z))) (λ q r. r)
+      (λ q r. absurd (false≢true (rw r at z))) (λ r. absurd (false≢true (rw r at z)))
+
+  pub sets-held : rowOf f .registers ≡ true → rowOf f ≡ registration
+  sets-held z =
+      by-row (rowOf f ≡ registration) (f .header .exchange) (λ q r. r) (λ q r. absurd (false≢true (rw r at z)))
+      (λ q r. absurd (false≢true (rw r at z))) (λ r. absurd (false≢true (rw r at z)))
+
+  pub keeps-bars : rowOf f .registers ≡ false → rowOf f .«allows_member_bag» ≡ false
+  keeps-bars z =
+      let a = admitted in
+      by-row (rowOf f .«allows_member_bag» ≡ false) (f .header .exchange) (λ q r. absurd (false≢true (sym (rw r at z)))) (λ q r. rw r refl)
+      (λ q r. rw r refl) (λ r. absurd (false≢true (rw r at a)))
 
   pub over-live : rowOf f ≡ rekey → any (overLiveRekey (f .header .spi)) (notDueSas now m) ≡ true
   unfolding otherSpis
@@ -135,6 +148,10 @@ module _ (m : State) (now : ℕ) (lent : List ℕ) (f : Frame) (e : refusal limi
   pub delays-once : any (λ (w : GroupWidePolicy). several (w .deactivationDelays)) (groupWides f) ≡ false
   unfolding number4OfFrame delayTwice
   delays-once = no-4 14
+
+  pub one-rekey : severalRekeyPolicies f ≡ false
+  unfolding number4OfFrame
+  one-rekey = no-4 8
 
   pub rekeys-few : count isRekey (announced f) ≤ 1
   unfolding number4OfFrame severalRekeyPolicies
@@ -180,22 +197,27 @@ module _ (m : State) (now : ℕ) (lent : List ℕ) (f : Frame) (e : refusal limi
   unfolding number6OfFrame
   all-paired = no-clause (number6OfFrame f) 0 (from-6 .0 .ofFrame)
 
-  one-key-bags : saKeyCount f ≡ false
+  pub bags-paired : bagUnpaired f ≡ false
   unfolding number6OfFrame
-  one-key-bags = no-clause (number6OfFrame f) 4 (from-6 .0 .ofFrame)
-
-  -- in a registration each bag has one SA_KEY
-  pub one-key : rowOf f ≡ registration → (b : GroupKeyBag) → List·Memᴰ b (groupBags f) → length (b .keys) ≡ 1
-  unfolding saKeyCount otherSaKeyCount
-  one-key r b i =
-      let q = none-passes (otherSaKeyCount (rowOf f)) (groupBags f) one-key-bags b i in
-      eqb-true (length (b .keys)) 1 (not-not (eqb (length (b .keys)) 1) (rw r at q))
+  bags-paired = no-clause (number6OfFrame f) 1 (from-6 .0 .ofFrame)
 
   pub no-zero : wrapKeyId f ≡ false
   unfolding number6OfFrame
   no-zero = no-clause (number6OfFrame f) 7 (from-6 .0 .ofFrame)
 
+  pub no-fresh-zero : freshKeyId f ≡ false
+  unfolding number6OfFrame
+  no-fresh-zero = no-clause (number6OfFrame f) 9 (from-6 .0 .ofFrame)
+
   -- ---- number 7
+  pub few-fresh : length (freshKeysOf f) ≤ limits .freshKeys
+  unfolding number7OfFrame manyFreshKeys
+  few-fresh = ltb-false (limits .freshKeys) (length (freshKeysOf f)) (no-clause (number7OfFrame limits f) 5 (from-7 .ofFrame))
+
+  pub few-sa-keys : manySaKeys limits f ≡ false
+  unfolding number7OfFrame
+  few-sa-keys = no-clause (number7OfFrame limits f) 2 (from-7 .ofFrame)
+
   pub few-entries : length (wrapKeysOf f) ≤ limits .wrapKeys
   unfolding number7OfFrame manyWrapKeys
   few-entries = ltb-false (limits .wrapKeys) (length (wrapKeysOf f)) (no-clause (number7OfFrame limits f) 1 (from-7 .ofFrame))

@@ -27,9 +27,11 @@ use Rattle.rules_chains.specs.Chain.{Root}
 use Rattle.rules_chains.specs.Refusals.{EntriesConflict, CopiesConflict, of-entries, of-copies}
 use Rattle.rules_outcome.specs.Roots.{rootsOf, entriesOf, wrappingSize, announcedAs, announcedKeys}
 use Rattle.rules_outcome.specs.Answer.{KeyConflictOf, KeyMissingOf}
-use Rattle.rules_outcome.specs.After.{Enter, newRekey, rekeyCopies, HeldSet, HeldBy}
+use Rattle.rules_outcome.specs.Holding.{newRekey, rekeyCopies, heldBefore, HeldAfterwards, OverHeldOf}
+use Rattle.rules_outcome.specs.After.{Enter}
 use Rattle.rules_outcome.specs.Outcome.{Judged, refused, accepted}
-use Rattle.rules_outcome.proofs.Answering.{answers-8, answers-9, answers-0}
+use Rattle.rules_outcome.proofs.Answering.{answers-8, answers-9, answers-over, answers-0}
+use Rattle.rules_outcome.proofs.Determined.{held-one}
 use Rattle.rules_outcome.proofs.Accepting.{nine-policy, policy-nine}
 use Rattle.rules_outcome.proofs.Enters.{each-enters}
 use Rattle.rules_outcome.proofs.Members.{in-map, map-in}
@@ -39,13 +41,8 @@ use Rattle.unwrap_sas.specs.inner.Keyed.{SomeConflict, NoConflict, SomeUnopened
 use Rattle.unwrap_sas.specs.declared.joining.Keyed.{Keyed}
 use Rattle.unwrap_sas.specs.declared.joining.SasFound.{SasFound}
 use Rattle.unwrap_sas.specs.declared.joining.SasFound.the-variants as found
-use Rattle.receive.specs.inner.Passing.{EachOpens, KeepsOrSets, FrameOpened}
+use Rattle.receive.specs.inner.Passing.{EachOpens, HeldTold, FrameOpened}
 use Rattle.receive.proofs.ClauseLaws.{few-sas}
-
--- what is set once each SA opens, where each does
-once-open : (b : Bool) (Each Set Kept : Type 0) → HeldBy b (Each → Set) Kept → Each → HeldBy b Set Kept
-once-open true Each Set Kept h e = h e
-once-open false Each Set Kept h e = h
 
 module _ (m : State) (now : ℕ) (lent : List ℕ) (f : Frame) (e : refusal limits m now lent f ≡ 0) where
   abbrev roots : List Root
@@ -84,30 +81,44 @@ module _ (m : State) (now : ℕ) (lent : List ℕ) (f : Frame) (e : refusal limi
         (answers-9 limits m now lent f e no-eight
         (policy-nine limits m now lent f (x .sa) (x .stands) (λ o. x .none (o .0) (o .1))))
 
-    pub opened : (new : List Sa) (held : Held) (next : State) →
-        Enter (rootsOf limits m now lent f) (entriesOf f) (wrappingSize limits m now lent f) now f (announced f) new →
-        KeepsOrSets m now lent f held → Follows m now f new held next → Judged limits m now lent f 0 next
-    opened new held next enter h follows =
-        let each : EachOpens roots (entriesOf f) size f =
-        λ a i. let r = each-enters roots (entriesOf f) size now f (announced f) new enter a i in (r .octets, r .key .opens) in
-        let all-open : KeyMissingOf limits m now lent f → ⊥ =
-        λ n. let p = nine-policy limits m now lent f n in p .2 (each (p .0) (p .1)) in
-        accepted next (answers-0 limits m now lent f e no-eight all-open)
-        (record {
-          new = new;
-          enter = enter;
-          table = follows .table;
-          held = subst (λ (x : Held).
-              HeldBy (rowOf f .registers) (HeldSet roots (entriesOf f) size (newRekey f) limits (rekeyCopies f) x) (x ≡ m .held))
-              (sym (follows .held-is))
-              (once-open (rowOf f .registers) (EachOpens roots (entriesOf f) size f)
-              (HeldSet roots (entriesOf f) size (newRekey f) limits (rekeyCopies f) held) (held ≡ m .held) h each);
-          least = follows .least;
-        })
+    -- each SA has its key
+    module _ (new : List Sa)
+        (enter : Enter (rootsOf limits m now lent f) (entriesOf f) (wrappingSize limits m now lent f) now f (announced f) new) where
+      each : EachOpens roots (entriesOf f) size f
+      each a i = let r = each-enters roots (entriesOf f) size now f (announced f) new enter a i in (r .octets, r .key .opens)
+
+      all-open : KeyMissingOf limits m now lent f → ⊥
+      all-open n = let p = nine-policy limits m now lent f n in p .2 (each (p .0) (p .1))
+
+      pub over-seven : OverHeldOf limits m now lent f → Judged limits m now lent f 7 m
+      over-seven o = refused 6 (answers-over limits m now lent f e no-eight all-open o)
+
+      pub opened : (held : Held) (next : State) → HeldTold m now lent f false held → Follows m now f new held next →
+          Judged limits m now lent f 0 next
+      opened held next h follows =
+          let kept = h .kept refl in
+          let not-over : OverHeldOf limits m now lent f → ⊥ =
+          λ o.
+          let q : o .list ≡ held =
+          held-one roots (entriesOf f) size limits (newRekey f) (rekeyCopies f) (heldBefore limits (rowOf f .registers) (m .held)) (o .list)
+          held (o .leaves) kept in
+          let n : o .list .count ≡ held .count = ap (λ (x : Held). x .count) q in
+          let g = o .over in
+          let few = h .few refl in omega (arith, n, g, few) in
+          accepted next (answers-0 limits m now lent f e no-eight all-open not-over)
+          (record {
+            new = new;
+            enter = enter;
+            table = follows .table;
+            held = subst (HeldAfterwards limits m now lent f) (sym (follows .held-is)) kept;
+            least = follows .least;
+            profile = follows .profile;
+          })
 
 -- ---- the header's fields that acceptance reads
-pub row-is : (s : List ℕ) (f : Frame) (x : ℕ) (r : Exchange) → frame s ≡ whole f [] → x ≡ oct s 18 → r ≡ exchangeOf x → rowOf f ≡ r
-row-is s f x r w e g = ap exchangeOf (sym (read-frame s f [] w .exchange) ∙ sym e) ∙ sym g
+pub row-is : (profile : Bool) (s : List ℕ) (f : Frame) (x : ℕ) (r : Exchange) → frame profile s ≡ whole f [] → x ≡ oct s 18 →
+    r ≡ exchangeOf x → rowOf f ≡ r
+row-is profile s f x r w e g = ap exchangeOf (sym (read-frame profile s f [] w .exchange) ∙ sym e) ∙ sym g
 
 -- ---- a state that is formed
 module _ (m : State) (e : stateFormed limits m ≡ true) where
@@ -125,8 +136,8 @@ module _ (m : State) (e : stateFormed limits m ≡ true) where
   held-fits = parts .1
 
 -- ---- by what is known of the keys
-module _ (m : State) (now : ℕ) (lent s : List ℕ) (x : Facts) (keyed : Keyed) (held : Held) (f : Frame)
-    (o : FrameOpened m now lent s x keyed held f) where
+module _ (m : State) (now : ℕ) (lent s : List ℕ) (x : Facts) (keyed : Keyed) (over : Bool) (held : Held) (f : Frame)
+    (o : FrameOpened m now lent s x keyed over held f) where
   keys-by : (y : SasFound) → keyed .found ≡ y →
       KeysOf (rootsOf limits m now lent f) (entriesOf f) (wrappingSize limits m now lent f) f (announced f) now y (keyed .sas)
       (keyed .count)
@@ -135,7 +146,7 @@ module _ (m : State) (now : ℕ) (lent s : List ℕ) (x : Facts) (keyed : Keyed)
       (λ (z : SasFound).
       KeysOf (rootsOf limits m now lent f) (entriesOf f) (wrappingSize limits m now lent f) f (announced f) now z (keyed .sas)
       (keyed .count))
-      e (o .keys)
+      e (o .keys .keys)
 
   pub by-eight : keyed .found ≡ found.KeyConflict → Judged limits m now lent f 8 m
   by-eight e = copies-eight m now lent f (o .passed .clauses) (keys-by found.KeyConflict e)
@@ -146,11 +157,18 @@ module _ (m : State) (now : ℕ) (lent s : List ℕ) (x : Facts) (keyed : Keyed)
       unopened m now lent f (o .passed .clauses) (o .entries) (k .0) (k .1)
 
   module _ (e : keyed .found ≡ found.Keys) where
-    pub by-keys : (next : State) → Follows m now f (take (keyed .count) (keyed .sas)) held next → Judged limits m now lent f 0 next
-    by-keys next follows =
+    pub by-over : over ≡ true → Judged limits m now lent f 7 m
+    by-over w =
+        let k = keys-by found.Keys e in
+        over-seven m now lent f (o .passed .clauses) (o .entries) (k .0) (take (keyed .count) (keyed .sas)) (k .1) (o .held-is e .beyond w)
+
+    pub by-keys : over ≡ false → (next : State) → Follows m now f (take (keyed .count) (keyed .sas)) held next →
+        Judged limits m now lent f 0 next
+    by-keys w next follows =
         let k = keys-by found.Keys e in
         let new = take (keyed .count) (keyed .sas) in
-        opened m now lent f (o .passed .clauses) (o .entries) (k .0) new held next (k .1) (o .held-is) follows
+        opened m now lent f (o .passed .clauses) (o .entries) (k .0) new (k .1) held next
+        (subst (λ (x : Bool). HeldTold m now lent f x held) w (o .held-is e)) follows
 
     pub room-is : length (notDueSas now m) + keyed .count ≤ limits .sas
     room-is =

@@ -27,5 +27,5 @@ module _ {m : State} {now : ℕ} {lent s : List ℕ} {x : Facts} {f : Frame} (p 
   pub opened-eight : r .conflict ≡ true → Judged limits m now lent f 8 m
   opened-eight e = entries-eight m now lent f (p .clauses) (tells true e)
 
-  pub frame-opened : r .conflict ≡ false → FrameOpened m now lent s x (r .keyed) (r .held) f
-  frame-opened e = record { passed = p; entries = tells false e; keys = d .keys e; held-is = d .set e }
+  pub frame-opened : r .conflict ≡ false → FrameOpened m now lent s x (r .keyed) (r .over) (r .held) f
+  frame-opened e = record { passed = p; entries = tells false e; keys = d .keys e; held-is = d .held e }

@@ -2,13 +2,8 @@ pub mod ClauseLaws
 pub mod ConcludingLaws
 pub mod ZeroLaws
 pub mod BodyLaws
-pub mod LentLaws
-pub mod CopyLaws
-pub mod PathLaws
-pub mod RegistrationLaws
-pub mod Rekeying
-pub mod RekeyLaws
-pub mod InbandLaws
-pub mod RowLaws
+pub mod EntryLaws
+pub mod ZeroKeyLaws
+pub mod AfterLaws
 pub mod DecidingLaws
 pub mod SaidLaws

@@ -46,6 +46,6 @@ module _ (m : State) (now : ℕ) (lent s : List ℕ) (x : Facts) (f : Frame) (p 
             ∙ ap (ltb 0) (sym (ap (λ (y : PolicyFacts). y .rekeys) (policies-are m now lent s x f p)));
         initial = initial-is;
         least = ap (λ (y : Exchange). y .least) e;
-        id = sym (read-frame s f [] (p .whole-is) .messageId);
+        id = sym (read-frame (m .profile) s f [] (p .whole-is) .messageId);
         deletes = record { count = sym (o .deletes); from = λ z. o .delete (λ y. z (o .deletes ∙ y)) .1 };
       })

@@ -9,7 +9,6 @@ ghost use mathlib.Core.Path.{_≡_};
 ghost use mathlib.Core.Bool.{true};
 ghost use Rattle.state_keys.specs.Limits.{limits};
 ghost use Rattle.wire_policies.specs.Policy.{policies};
-ghost use Rattle.wire_bags.specs.Bag.{bags};
 ghost use Rattle.wire_frames.specs.Frame.{Frame};
 ghost use Rattle.wire_readers.specs.inner.Values.{isWhole};
 ghost use Rattle.rules_outcome.specs.Outcome.{Judged};
@@ -25,7 +24,7 @@ fn by_bodies(
     lent: &[u8],
     tick: u32,
 ) -> Next
-    requires { ⌜ (isWhole (policies 0 (now gsa)) ≡ true) × (isWhole (bags 0 (now kd)) ≡ true) ⌝ }
+    requires { ⌜ isWhole (policies 0 (now gsa)) ≡ true ⌝ }
     requires { ⌜ ((f : Frame) × Bodied state tick (now lent) (now frame) x (now gsa) (now kd) f) ⌝ }
     ensures { λ r. ⌜ ((f : Frame) →
         Bodied state tick (now (lent .entry)) (now (frame .entry)) x (now (gsa .entry)) (now (kd .entry)) f →
@@ -37,7 +36,8 @@ fn by_bodies(
         return Next { number: 8, state };
     }
     let keyed = o.keyed;
-    conclude(state, frame, x, tick, keyed, o.held)
+    let held = o.held;
+    conclude(state, frame, x, tick, keyed, o.over, held)
 }
 
 // Decides the frame with the facts `x`. `lent` is the lent key. Answers acceptance, refusal 8 or refusal 9, and the next state.

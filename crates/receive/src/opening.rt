@@ -1,77 +1,100 @@
 // Opens the keys of a frame that refusals 2 to 7 let pass, and makes the held list after acceptance.
-use crate::copy::rekey_copy;
-use crate::roots::roots;
+use crate::zero::key_zero;
 use state::State;
 use state::held::Held;
-use unwrap_paths::held::held_path;
+use state_keys::limits::HELD_KEYS;
+use unwrap_copies::answer::Openers;
+use unwrap_copies::answer::openers_listed;
+use unwrap_lending::BLOCK;
+use unwrap_lending::PLACE;
+use unwrap_lending::lend_keys;
+use unwrap_lending::lend_named;
+use unwrap_paths::held::PathHeld;
+use unwrap_paths::held::held_by_path;
 use unwrap_paths::links::Links;
 use unwrap_sas::joining::Keyed;
 use unwrap_sas::open_sas;
+use unwrap_tree::reach_any;
+use unwrap_tree::source::entries_at;
 use wire_frames::exchanges::Exchange;
 use wire_readers::Stretch;
 ghost use mathlib.Core.Path.{_≡_};
-ghost use mathlib.Core.Bool.{true};
-ghost use mathlib.Core.List.{List};
+ghost use mathlib.Core.Bool.{true, cond};
+ghost use mathlib.Core.List.{List, []};
 ghost use Prim.Native.Nat.{ℕ};
 ghost use Rattle.state_keys.specs.Limits.{limits};
+ghost use Rattle.wire_attributes.specs.Tree.{WrapKey};
 ghost use Rattle.wire_policies.specs.Policy.{policies};
-ghost use Rattle.wire_bags.specs.Bag.{bags};
 ghost use Rattle.wire_frames.specs.Frame.{Frame};
-ghost use Rattle.wire_frames.specs.Exchange.{registration};
-ghost use Rattle.state.specs.declared.State.{State};
 ghost use Rattle.wire_readers.specs.inner.Values.{isWhole};
-ghost use Rattle.rules_outcome.specs.Roots.{rootsOf, entriesOf, wrappingSize};
-ghost use Rattle.unwrap_paths.specs.inner.Kept.{LinksFit, PathKept};
-ghost use Rattle.unwrap_tree.specs.inner.Entries.{HoldsEntries};
-ghost use Rattle.receive.specs.inner.Passing.{Bagged, SetOnceOpen, KeepsOrSets};
-ghost use Rattle.receive.specs.inner.Opening.{KeysOpened};
+ghost use Rattle.state.specs.Held.{heldOf, heldFormed};
+ghost use Rattle.rules_chains.specs.Chain.{Root};
+ghost use Rattle.rules_outcome.specs.Holding.{newRekey, rekeyCopies, heldBefore};
+ghost use Rattle.unwrap_copies.specs.inner.Openers.{openersOf, OpenersAre};
+ghost use Rattle.unwrap_paths.specs.inner.Kept.{LinksFit, SearchKept};
+ghost use Rattle.receive.specs.inner.Passing.{Bagged};
+ghost use Rattle.receive.specs.inner.Opening.{SomeOpener, NextTold, KeysOpened};
 
-// Whether refusal 8 holds of the frame's entries. If it does not: the result for its SAs, and the held list after acceptance.
+// Whether refusal 8 holds of the frame's entries. If it does not: the result for its SAs. If each SA has its key: whether the held list
+// after acceptance would be over its limit (refusal 7), and if not, that list.
 pub struct KeysFound {
     pub conflict: bool,
     pub keyed: Keyed,
+    pub over: bool,
     pub held: Held,
 }
 
-// Answers the list that a registration sets: the working key path (document 02, T-04), read back from the key that the copy of the Rekey
-// SA's key names, or the empty list if there is no Rekey SA. `gsa` and `kd` are the bodies of the frame, `links` and `reached` are what its
-// search found.
-fn path_held(gsa: &[u8], kd: &[u8], links: Links, reached: Held) -> Held
-    requires { ⌜ (isWhole (policies 0 (now gsa)) ≡ true) × (isWhole (bags 0 (now kd)) ≡ true) ⌝ }
-    requires { ⌜ LinksFit links ⌝ }
-    requires { ⌜ ((m : State) × (tick : ℕ) × (lent : List ℕ) × (f : Frame) × Bagged registration m tick lent (now gsa) (now kd) f) ⌝ }
-    ensures { λ r. ⌜ ((m : State) (tick : ℕ) (lent : List ℕ) (f : Frame) →
-        Bagged registration m tick lent (now (gsa .entry)) (now (kd .entry)) f →
-        PathKept (rootsOf limits m tick lent f) (entriesOf f) (wrappingSize limits m tick lent f) links reached →
-        SetOnceOpen m tick lent f r) ⌝ }
+// Answers the held keys that a KWK ID can name: those of `held` if the exchange names held keys (`named`), else none.
+fn held_named(named: bool, held: Held) -> Held
+    ensures { λ r. ⌜ r ≡ cond named held (heldOf limits []) ⌝ }
 {
-    let copy = rekey_copy(gsa, kd);
-    if copy.some {
-        return held_path(links, reached, copy.kwk);
+    if named {
+        return held;
     }
     Held::new()
 }
 
-// Answers the held list after acceptance. A registration sets it, in the other exchanges `held` stays. `row` is the row of the exchange.
-fn held_after(held: Held, row: Exchange, gsa: &[u8], kd: &[u8], links: Links, reached: Held) -> Held
-    requires { ⌜ (isWhole (policies 0 (now gsa)) ≡ true) × (isWhole (bags 0 (now kd)) ≡ true) ⌝ }
-    requires { ⌜ LinksFit links ⌝ }
-    requires { ⌜ ((m : State) × (tick : ℕ) × (lent : List ℕ) × (f : Frame) × Bagged row m tick lent (now gsa) (now kd) f) ⌝ }
-    ensures { λ r. ⌜ ((m : State) (tick : ℕ) (lent : List ℕ) (f : Frame) →
-        Bagged row m tick lent (now (gsa .entry)) (now (kd .entry)) f → m .held ≡ held →
-        (row .registers ≡ true →
-        PathKept (rootsOf limits m tick lent f) (entriesOf f) (wrappingSize limits m tick lent f) links reached) →
-        KeepsOrSets m tick lent f r) ⌝ }
+// Answers the list that a frame finds: `held`, but an exchange that sets the list (`registers`) takes none over.
+fn held_before(registers: bool, held: Held) -> Held
+    ensures { λ r. ⌜ r ≡ heldBefore limits registers held ⌝ }
 {
-    if row.registers {
-        return path_held(gsa, kd, links, reached);
+    if registers {
+        return Held::new();
     }
     held
 }
 
-// Opens the keys of the frame with the GSA body `gsa` and the KD body `kd`. `row` is the row of its exchange, and its WRAP_KEYs stand in
-// the stretch `bag` of `kd`. All that is read for it is gone when this returns, so that the next state is made in the same room. The SAs
-// are opened even if refusal 8 holds of the entries, because a second return would take 30 kB of stack (docs/landings/T-04.md).
+// Answers the held list after acceptance, or that it would be over its limit. `openers` are the KWK IDs of the copies of the Rekey SA's key
+// that open, none without a Rekey SA. `links` and `reached` are what the search over the frame's entries kept and found.
+fn held_after(
+    registers: bool,
+    held: Held,
+    openers: Openers,
+    links: Links,
+    reached: Held,
+) -> PathHeld
+    requires { ⌜ LinksFit links ⌝ }
+    requires { ⌜ heldFormed limits held ≡ true ⌝ }
+    ensures { λ r. ⌜ ((roots : List Root) (l : List WrapKey) (size : ℕ) (f : Frame) → SearchKept roots l size links reached →
+        OpenersAre roots l size (rekeyCopies f) (openersOf openers) → SomeOpener roots l size f →
+        NextTold roots l size (newRekey f) (rekeyCopies f) (heldBefore limits registers held) r) ⌝ }
+{
+    let old = held_before(registers, held);
+    let n = openers_listed(openers);
+    if n == 0 {
+        return PathHeld {
+            over: false,
+            held: old,
+        };
+    }
+    let kwks = openers.ids;
+    held_by_path(links, reached, old, &kwks[..n])
+}
+
+// Opens the keys of the frame with the GSA body `gsa` and the KD body `kd`. `row` is the row of its exchange, and the attributes of its
+// Member Key Bag stand in the stretch `bag` of `kd`. All that is read for it is gone when this returns, so that the next state is made in the
+// same room. The SAs are opened even if refusal 8 holds of the entries, because a second return would take 30 kB of stack
+// (docs/landings/T-04.md).
 pub fn open_keys(
     state: State,
     row: Exchange,
@@ -81,18 +104,61 @@ pub fn open_keys(
     lent: &[u8],
     tick: u32,
 ) -> KeysFound
-    requires { ⌜ (isWhole (policies 0 (now gsa)) ≡ true) × (isWhole (bags 0 (now kd)) ≡ true) ⌝ }
-    requires { ⌜ HoldsEntries (now kd) bag ⌝ }
-    requires { ⌜ ((f : Frame) × Bagged row state tick (now lent) (now gsa) (now kd) f) ⌝ }
-    ensures { λ r. ⌜ ((f : Frame) → Bagged row state tick (now (lent .entry)) (now (gsa .entry)) (now (kd .entry)) f →
+    requires { ⌜ isWhole (policies 0 (now gsa)) ≡ true ⌝ }
+    requires { ⌜ ((f : Frame) × Bagged row state tick (now lent) (now gsa) (now kd) bag f) ⌝ }
+    ensures { λ r. ⌜ ((f : Frame) → Bagged row state tick (now (lent .entry)) (now (gsa .entry)) (now (kd .entry)) bag f →
         KeysOpened state tick (now (lent .entry)) r f) ⌝ }
 {
-    let r = roots(state, row, kd, bag, lent, tick);
-    let keyed = open_sas(gsa, kd, r.zero, r.opens, tick);
-    let held = held_after(state.held, row, gsa, kd, r.links, r.opens);
+    let reads = state.profile & row.reads_fresh_keys;
+    let table = state.table;
+    let of = row.zero;
+    let zero = key_zero(table, of, lent, tick);
+    let held = state.held;
+    let named = held_named(row.names_held_keys, held);
+    let at = entries_at(row.registers, reads, gsa, kd, bag);
+    let stretch = at.bag;
+    let meaning = at.meaning;
+    let place = at.place;
+    let mut ids = [0u32; HELD_KEYS];
+    let mut block = [0u8; BLOCK];
+    lend_keys(named, &mut ids, &mut block);
+    let m = named.count;
+    let e = PLACE * m;
+    let found = reach_any(
+        kd,
+        at.some,
+        stretch,
+        meaning,
+        place,
+        zero,
+        &ids[..m],
+        &block[..e],
+    );
+    let links = found.links;
+    let reached = found.held;
+    let carried = links.ids;
+    let n = links.count;
+    let mut fresh = [0u8; BLOCK];
+    lend_named(&carried[..n], reached, &mut fresh);
+    let end = PLACE * n;
+    let keyed = open_sas(
+        reads,
+        gsa,
+        kd,
+        zero,
+        &carried[..n],
+        &fresh[..end],
+        &ids[..m],
+        &block[..e],
+        tick,
+    );
+    let openers = keyed.openers;
+    let after = held_after(row.registers, held, openers, links, reached);
+    let list = after.held;
     KeysFound {
-        conflict: r.conflict,
+        conflict: found.conflict,
         keyed,
-        held,
+        over: after.over,
+        held: list,
     }
 }

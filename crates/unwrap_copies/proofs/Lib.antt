@@ -3,6 +3,5 @@ pub mod Opening
 pub mod Walking
 pub mod Progress
 pub mod Reaching
-pub mod Blocks
-pub mod Filling
 pub mod Trying
+pub mod OpenersLaws

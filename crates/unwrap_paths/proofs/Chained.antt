@@ -1,22 +1,22 @@
 -- FROM LEVELS TO THE PATH. Where number 8 does not hold of the entries, chains and walks over the entries that opened are the same, and
--- what is read off the levels back from the key that a copy names is the path of document 02, T-04.
+-- what is read off the levels back from the key that a copy names is the path of document 02, T-04 and T-11.
 use native.Mathlib.Omega.{arith}
-use Prim.Native.Nat.{ℕ, _≤_, _<_}
-use mathlib.Core.Path.{_≡_, refl, ap, sym, _∙_, subst}
+use Prim.Native.Nat.{ℕ, zero, suc, _≤_, _<_}
+use mathlib.Core.Path.{_≡_, refl, ap, ap₂, sym, _∙_, subst}
 use mathlib.Core.Bool.{Bool, true}
 use mathlib.Core.Logic.{inl, inr}
-use mathlib.Core.List.{List, [], _∷_, map, List·Memᴰ·eq-of-singleton}
-use lib.ListN.{length, length-map}
+use mathlib.Core.List.{List, [], _∷_, _++_, map}
+use lib.ListN.{length, getD, length-map}
 use Rattle.rfc5649.specs.Opens.{Opens}
 use Rattle.wire_attributes.specs.Tree.{WrapKey, SaKey}
 use Rattle.rules_chains.specs.Chain.{In, Root, Extended, Chain, root, step}
-use Rattle.rules_chains.specs.Path.{NotAfter, keyIds, Opener, KeyPath}
-use Rattle.rules_chains.proofs.Members.{in-member}
+use Rattle.rules_chains.specs.Path.{NotAfter, keyIds, startId, Opener, KeyPath}
 use Rattle.unwrap_search.specs.inner.Entries.{noWrapKey}
 use Rattle.unwrap_search.specs.inner.Search.{keyAt}
-use Rattle.unwrap_search.proofs.Statuses.{getD-any}
+use Rattle.unwrap_search.proofs.Statuses.{getD-any, eq-cases}
 use Rattle.unwrap_paths.specs.inner.Levels.{Walk, starts, goes, Levelled, Best}
-use Rattle.unwrap_paths.proofs.Best.{best-walk, best-length, best-trail, best-fewest, best-smallest}
+use Rattle.unwrap_paths.proofs.Best.{best-walk, best-length, best-trail, best-smallest}
+use Rattle.unwrap_paths.proofs.Trails.{front-order, last-order}
 
 module _ (roots : List Root) (entries : List WrapKey) (size n : ℕ) (id kwk : ℕ → ℕ) (done isRoot : ℕ → Bool) where
   abbrev pub E : ℕ → WrapKey
@@ -94,87 +94,106 @@ module _ (roots : List Root) (entries : List WrapKey) (size n : ℕ) (id kwk : �
         subst (Chained (i ∷ p)) (sym (known .id-is i h) ∙ e)
         (record { value = l .opened; chain = x; goes-on = known .fits (E i) (map E p) (E i .keyId) (l .opened) x })
 
-    -- ---- trails and Key IDs
-    heads : (p q : List ℕ) (a b : ℕ) → W p a → W q b → length p ≡ length q → a < b → NotAfter (keyIds (map E p)) (keyIds (map E q))
-    heads [] q a b w v e h = tt
-    heads (i ∷ p) [] a b w v e h = absurd (omega arith)
-    heads (i ∷ p) (j ∷ q) a b (goes _ hi _ f _) (goes _ hj _ g _) e h =
-        let x = known .id-is i hi in let y = known .id-is j hj in inl (omega arith)
+    -- ---- trails: key k and the KWK IDs that a walk to it goes by are its Key IDs and the key that it starts with
+    trail-is : (p : List ℕ) (k : ℕ) → W p k → k ∷ map kwk p ≡ keyIds (map E p) ++ (startId k (map E p) ∷ [])
+    trail-is _ k (starts _ r) = refl
+    trail-is _ k (goes {p = p} i h o e w) =
+        ap₂ (λ (a : ℕ) (m : List ℕ). a ∷ m) (sym e ∙ known .id-is i h)
+        (trail-is p (kwk i) w ∙ ap (λ (a : ℕ). keyIds (map E p) ++ (startId a (map E p) ∷ [])) (known .kwk-is i h))
 
-    ids-order : (p q : List ℕ) (k : ℕ) → W p k → W q k → length p ≡ length q → NotAfter (map kwk p) (map kwk q) →
-        NotAfter (keyIds (map E p)) (keyIds (map E q))
-    ids-order [] q k w v e m = tt
-    ids-order (i ∷ p) [] k w v e m = absurd (omega arith)
-    ids-order (i ∷ p) (j ∷ q) k (goes _ hi _ f w) (goes _ hj _ g v) e (inl m) =
-        inr (sym (known .id-is i hi) ∙ f ∙ sym g ∙ known .id-is j hj, heads p q (kwk i) (kwk j) w v (omega arith) m)
-    ids-order (i ∷ p) (j ∷ q) k (goes _ hi _ f w) (goes _ hj _ g v) e (inr m) =
-        inr (
-          sym (known .id-is i hi) ∙ f ∙ sym g ∙ known .id-is j hj,
-          ids-order p q (kwk i) w (subst (W q) (sym (m .0)) v) (omega arith) (m .1),
-        )
+    -- the key that it starts with is the one that its last entry names
+    pub start-last : (p : List ℕ) (k m : ℕ) → W p k → length p ≡ suc m → startId k (map E p) ≡ kwk (getD p m 0)
+    start-last [] k m w e = absurd (omega arith)
+    start-last (i ∷ []) k zero (goes _ h o f w) e = sym (known .kwk-is i h)
+    start-last (i ∷ []) k (suc m) w e = absurd (omega arith)
+    start-last (i ∷ j ∷ p) k zero w e = absurd (omega arith)
+    start-last (i ∷ j ∷ p) k (suc m) (goes _ h o f w) e =
+        ap (λ (a : ℕ). startId a (map E (j ∷ p))) (sym (known .kwk-is i h)) ∙ start-last (j ∷ p) (kwk i) m w (omega arith)
 
-    -- ---- THE PATH: of one copy that opens under the key that it names, as a registration has it
-    module _ (L : ℕ → ℕ) (is : Levelled n id kwk done isRoot L) (copy : SaKey) (d : ℕ) (p t : List ℕ)
-        (best : Best n id kwk done isRoot L (copy .kwkId) d p t) (x : List ℕ)
-        (opens : (v : List ℕ) → C (map E p) (copy .kwkId) v → Opens v (copy .wrapped) x) where
+    -- ---- THE PATH: of a copy that opens under the key that it names, where the walks to the keys that other copies name are no shorter,
+    -- and those of its length are to a key with no lower Key ID
+    module _ (L : ℕ → ℕ) (is : Levelled n id kwk done isRoot L) (copies : List SaKey) (copy : SaKey) (stands : In copy copies) (d : ℕ)
+        (p t : List ℕ) (best : Best n id kwk done isRoot L (copy .kwkId) d p t) (x : List ℕ)
+        (opens : (v : List ℕ) → C (map E p) (copy .kwkId) v → Opens v (copy .wrapped) x)
+        (first : (q : List WrapKey) (o : Opener roots entries size copies q) (r : List ℕ) → W r (o .copy .kwkId) →
+        (d ≤ length r) × (length r ≡ d → copy .kwkId ≤ o .copy .kwkId)) where
       abbrev k : ℕ
       k = copy .kwkId
 
       abbrev O : List WrapKey → Type 0
-      O = Opener roots entries size (copy ∷ [])
+      O = Opener roots entries size copies
 
       my-walk : W p k
       my-walk = best-walk n id kwk done isRoot L is k d p t best
 
-      -- what opens the one copy is a walk to the key that it names
-      record Other (q : List WrapKey) : Type 0 where
-        places : List ℕ
-        walk : W places k
-        are : map E places ≡ q
-
-      other : (q : List WrapKey) → O q → Other q
-      other q o =
-          let c = List·Memᴰ·eq-of-singleton (in-member (o .copy) (copy ∷ []) (o .stands)) in
-          let w = chain-walk q (o .copy .kwkId) (o .value) (o .chain) in
-          record { places = w .places; walk = subst (λ (a : SaKey). W (w .places) (a .kwkId)) c (w .walk); are = w .is }
-
-      my-opener : O (map E p)
+      abbrev my-opener : O (map E p)
       my-opener =
           let c = walk-chain p k my-walk in
-          record {
-            copy = copy;
-            stands = record { place = 0; inside = omega arith; is = refl };
-            value = c .value;
-            chain = c .chain;
-            octets = x;
-            opens = opens (c .value) (c .chain);
-          }
+          record { copy = copy; stands = stands; value = c .value; chain = c .chain; octets = x; opens = opens (c .value) (c .chain) }
+
+      my-length : length (map E p) ≡ d
+      my-length = length-map p E ∙ best-length n id kwk done isRoot L is k d p t best
 
       module _ (q : List WrapKey) (o : O q) where
-        r : Other q
-        r = other q o
+        r : Walked q (o .copy .kwkId)
+        r = chain-walk q (o .copy .kwkId) (o .value) (o .chain)
 
         as-long : length q ≡ length (r .places)
-        as-long = ap length (sym (r .are)) ∙ length-map (r .places) E
+        as-long = ap length (sym (r .is)) ∙ length-map (r .places) E
 
         shorter : length (map E p) ≤ length q
-        shorter =
-            let a = best-fewest n id kwk done isRoot L is k d p t best (r .places) (r .walk) in
-            let b : length (map E p) ≡ length p = length-map p E in
-            let c = best-length n id kwk done isRoot L is k d p t best in
-            let e = as-long in omega arith
+        shorter = let a = first q o (r .places) (r .walk) .0 in omega (arith, a, my-length, as-long)
+
+        trails : length q ≡ length (map E p) → NotAfter (k ∷ map kwk p) (o .copy .kwkId ∷ map kwk (r .places))
+        trails s =
+            let u : length (r .places) ≡ d = omega (arith, s, my-length, as-long) in
+            let f = first q o (r .places) (r .walk) .1 u in
+            let v = best-trail n id kwk done isRoot L is k d p t best in
+            eq-cases k (o .copy .kwkId)
+            (λ e.
+            inr (
+              e,
+              subst (λ (l : List ℕ). NotAfter l (map kwk (r .places))) (sym v)
+                  (best-smallest n id kwk done isRoot L is k d p t best (r .places) (subst (W (r .places)) (sym e) (r .walk)) u),
+            ))
+            (λ e. inl (lower k (o .copy .kwkId) f e))
+          where
+            lower : (a b : ℕ) → a ≤ b → (a ≡ b → ⊥) → a < b
+            lower a b u f = omega arith
+
+        in-order : length q ≡ length (map E p) →
+            NotAfter (keyIds (map E p) ++ (startId k (map E p) ∷ [])) (keyIds q ++ (startId (o .copy .kwkId) q ∷ []))
+        in-order s =
+            let j = o .copy .kwkId in
+            let e = trail-is (r .places) j (r .walk) ∙ ap (λ (m : List WrapKey). keyIds m ++ (startId j m ∷ [])) (r .is) in
+            subst (λ (m : List ℕ). NotAfter (keyIds (map E p) ++ (startId k (map E p) ∷ [])) m) e
+            (subst (λ (m : List ℕ). NotAfter m (j ∷ map kwk (r .places))) (trail-is p k my-walk) (trails s))
+
+        ids-long : (m : List WrapKey) → length (keyIds m) ≡ length m
+        ids-long m = length-map m (λ (e : WrapKey). e .keyId)
 
         smaller : length q ≡ length (map E p) → NotAfter (keyIds (map E p)) (keyIds q)
         smaller s =
-            let b : length (map E p) ≡ length p = length-map p E in
-            let c = best-length n id kwk done isRoot L is k d p t best in
-            let e = as-long in
-            let u : length (r .places) ≡ d = omega arith in
-            let m = best-smallest n id kwk done isRoot L is k d p t best (r .places) (r .walk) u in
-            let v = best-trail n id kwk done isRoot L is k d p t best in
-            let w : length p ≡ length (r .places) = omega arith in
-            subst (λ (l : List WrapKey). NotAfter (keyIds (map E p)) (keyIds l)) (r .are)
-            (ids-order p (r .places) k my-walk (r .walk) w (subst (λ (l : List ℕ). NotAfter l (map kwk (r .places))) (sym v) m))
+            let a = ids-long (map E p) in
+            let b = ids-long q in
+            let e : length (keyIds (map E p)) ≡ length (keyIds q) = omega (arith, a, b, s) in
+            front-order (keyIds (map E p)) (keyIds q) (startId k (map E p)) (startId (o .copy .kwkId) q) e (in-order s)
 
-      pub path-is : KeyPath roots entries size (copy ∷ []) (keyIds (map E p))
-      path-is = record { passed = map E p; opener = my-opener; written = refl; fewest = shorter; smallest = smaller }
+        lower-end : keyIds q ≡ keyIds (map E p) → startId k (map E p) ≤ startId (o .copy .kwkId) q
+        lower-end e =
+            let s : length q ≡ length (map E p) = sym (ids-long q) ∙ ap length e ∙ ids-long (map E p) in
+            last-order (keyIds (map E p)) (startId k (map E p)) (startId (o .copy .kwkId) q)
+            (subst (λ (m : List ℕ).
+            NotAfter (keyIds (map E p) ++ (startId k (map E p) ∷ [])) (m ++ (startId (o .copy .kwkId) q ∷ []))) e (in-order s))
+
+      pub path-is : KeyPath roots entries size copies (keyIds (map E p)) (startId k (map E p))
+      path-is =
+          record {
+            passed = map E p;
+            opener = my-opener;
+            written = refl;
+            ends = refl;
+            fewest = shorter;
+            smallest = smaller;
+            lowest = lower-end;
+          }

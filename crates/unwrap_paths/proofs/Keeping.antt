@@ -2,12 +2,13 @@
 use native.Mathlib.Omega.{arith}
 use Prim.Native.Nat.{ℕ, suc, _+_, _-_, _≤_, _<_}
 use mathlib.Core.Path.{_≡_, refl, ap, ap₂, sym, _∙_, subst}
+use mathlib.Core.Bool.{false, false≢true}
 use mathlib.Core.List.{List, [], _∷_, _++_, map, List·Memᴰ, List·Memᴰ·head, List·Memᴰ·tail}
 use lib.ListN.{length, take, drop, set, drop-of-length-le}
 use lib.Seq.{drop-cons, length-take-le, getD-take}
 use Rattle.octets.specs.Numbers.{oct}
 use Rattle.wire_attributes.specs.Tree.{WrapKey, SaKey}
-use Rattle.rules_chains.specs.Chain.{Root, Reached, CopyOpens}
+use Rattle.rules_chains.specs.Chain.{Root, Reached}
 use Rattle.rules_chains.specs.Refusals.{Value}
 use Rattle.rules_chains.specs.Path.{keyIds, Keys, no-key, one-more}
 use Rattle.rules_chains.proofs.Determined.{one-value}
@@ -15,17 +16,18 @@ use Rattle.state_keys.specs.Limits.{limits}
 use Rattle.state_keys.specs.Kinds.{valueOf}
 use Rattle.state_keys.specs.declared.kinds.MadeWrapping.{MadeWrapping}
 use Rattle.state_keys.proofs.Fill.{Filled, filled-none, filled-more, written-more, filled-all, filled-count}
-use Rattle.state.specs.Held.{heldOf, heldKey, blankKey}
+use Rattle.state.specs.Held.{keysOf, heldOf, heldKey, blankKey}
 use Rattle.state.specs.declared.held.HeldKey.{HeldKey}
 use Rattle.state.specs.declared.held.Held.{Held}
 use Rattle.unwrap_search.specs.declared.open.Cell.{Cell}
 use Rattle.unwrap_search.specs.declared.open.Status.the-variants.{Done}
-use Rattle.unwrap_search.specs.inner.Search.{keyAt, cellAt, keyZeroRoots}
+use Rattle.unwrap_search.specs.inner.Search.{keyAt, cellAt}
 use Rattle.unwrap_paths.specs.declared.links.Links.{Links}
 use Rattle.unwrap_paths.specs.inner.Links.{entriesAt, LeadsTo}
-use Rattle.unwrap_paths.specs.inner.Kept.{PathLeads, SearchKept, PathKept}
-use Rattle.rules_outcome.specs.After.{heldFrom, HoldsPath}
-use Rattle.unwrap_paths.specs.inner.Holding.{heldAt}
+use Rattle.unwrap_paths.specs.inner.Kept.{SearchKept}
+use Rattle.rules_outcome.specs.Holding.{heldFrom, pathBefore, heldByPath, HoldsPath}
+use Rattle.unwrap_paths.specs.declared.held.PathHeld.{PathHeld}
+use Rattle.unwrap_paths.specs.inner.Holding.{heldAt, GoesBefore, PathTells}
 
 -- ---- the loop: the first i places of the list hold the keys at the first i places of the path
 module _ (K : ℕ → HeldKey) (places : List ℕ) (count : ℕ) where
@@ -71,10 +73,8 @@ module _ (K : ℕ → HeldKey) (places : List ℕ) (count : ℕ) where
       λ t. record { keys = a t; count = (sym e ∙ c) t }
 
 -- ---- its keys
-module _ (key : List ℕ) (l : List WrapKey) (size : ℕ) (links : Links) (reached : Held) (kept : SearchKept key l size links reached) where
-  abbrev roots : List Root
-  roots = keyZeroRoots key
-
+module _ (roots : List Root) (l : List WrapKey) (size : ℕ) (links : Links) (reached : Held)
+    (kept : SearchKept roots l size links reached) where
   abbrev cells : List Cell
   cells = kept .cells
 
@@ -114,26 +114,48 @@ module _ (key : List ℕ) (l : List WrapKey) (size : ℕ) (links : Links) (reach
       ap₂ (λ (a : HeldKey) (m : List HeldKey). a ∷ m) (held-at i (f i (List·Memᴰ·head refl)))
       (all-held p (λ j m. f j (List·Memᴰ·tail m)))
 
-  holds-by : (copies : List SaKey) (p : List ℕ) (h : Held) → h ≡ heldOf limits (map (heldAt (links .ids) reached) p) →
-      LeadsTo roots l size cells copies p → HoldsPath roots l size limits copies h
-  holds-by copies p h e t =
-      let f : (i : ℕ) → List·Memᴰ i p → At i = λ i m. record { inside = t .inside i m; done = t .done i m } in
-      record {
-        ids = keyIds (entriesAt l p);
-        path = t .path;
-        keys = map rootAt p;
-        are = keys-at p f;
-        is = e ∙ ap (heldOf limits) (all-held p f);
-      }
+  module _ (copies : List SaKey) (p : List ℕ) (end : ℕ) (leads : LeadsTo roots l size cells copies p end) where
+    each : (i : ℕ) → List·Memᴰ i p → At i
+    each i m = record { inside = leads .inside i m; done = leads .done i m }
 
--- the list of a path's places is the path
-pub holds-path : (roots : List Root) (l : List WrapKey) (size : ℕ) (links : Links) (reached : Held) → PathKept roots l size links reached →
-    (id : ℕ) (places : List ℕ) (count : ℕ) → PathLeads links id places count →
-    (h : Held) → h ≡ heldOf limits (map (heldAt (links .ids) reached) (take count places)) →
-    (copy : SaKey) → copy .kwkId ≡ id → (x : List ℕ) → CopyOpens roots l size (copy ∷ []) x → HoldsPath roots l size limits (copy ∷ []) h
-holds-path roots l size links reached path id places count leads h is copy e x =
-    let k = path .kept in
-    subst (λ (r : List Root). CopyOpens r l size (copy ∷ []) x → HoldsPath r l size limits (copy ∷ []) h) (path .roots-are)
-    (λ o. holds-by (path .zero) l size links reached k (copy ∷ []) (take count places) h is
-    (leads .path (k .entries) (k .cells) (k .linked) (k .frame) (path .zero) l size (k .lists) (k .searched) (k .nonzero) (k .agree)
-    copy e x o))
+    holds : (old h : Held) → h ≡ heldByPath limits (map heldFrom (map rootAt p)) end old → HoldsPath roots l size limits copies old h
+    holds old h e =
+        record {
+          ids = keyIds (entriesAt l p);
+          end = end;
+          path = leads .path;
+          keys = map rootAt p;
+          are = keys-at p each;
+          is = e;
+        }
+
+    -- a path with no key leaves the list as it was
+    pub tells-none : (old : Held) → old .count ≤ limits .heldKeys → p ≡ [] →
+        PathTells roots l size copies old (record { over = false; held = old })
+    tells-none old few e =
+        record {
+          kept = λ z. holds old old (ap (λ (q : List ℕ). heldByPath limits (map heldFrom (map rootAt q)) end old) (sym e));
+          few = λ z. few;
+          beyond = λ z. absurd (false≢true z);
+        }
+
+    by-path : (q : List ℕ) (old : Held) → 0 < length q →
+        heldByPath limits (map heldFrom (map rootAt q)) end old ≡ heldOf limits (pathBefore (map heldFrom (map rootAt q)) end (keysOf old))
+    by-path [] old h = absurd (omega arith)
+    by-path (i ∷ q) old h = refl
+
+    -- a path with keys goes before those that stay
+    pub tells-some : (old : Held) (r : PathHeld) → 0 < length p →
+        GoesBefore (map (heldAt (links .ids) reached) p) end (keysOf old) r → PathTells roots l size copies old r
+    unfolding heldOf
+    tells-some old r some b =
+        let e = all-held p each in
+        let made = heldOf limits (pathBefore (map heldFrom (map rootAt p)) end (keysOf old)) in
+        let same = ap (λ (m : List HeldKey). pathBefore m end (keysOf old)) e in
+        record {
+          kept = λ z. holds old (r .held) (b .kept z ∙ ap (heldOf limits) same ∙ sym (by-path p old some));
+          few = b .few;
+          beyond = λ z.
+              let f : limits .heldKeys < made .count = subst (λ (m : List HeldKey). limits .heldKeys < length m) same (b .beyond z) in
+              record { list = made; leaves = holds old made (sym (by-path p old some)); over = f };
+        }

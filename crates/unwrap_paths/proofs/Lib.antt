@@ -5,8 +5,12 @@ pub mod Turns
 pub mod Lowering
 pub mod Picking
 pub mod WayBack
+pub mod Nearing
+pub mod Putting
+pub mod Trails
 pub mod Chained
 pub mod Linking
 pub mod Tied
 pub mod Keeping
 pub mod KeptLaws
+pub mod Telling

@@ -1,24 +1,29 @@
-// The path that a member holds after a registration: from the cells of a search to the places of its entries.
+// The path by which a member's held list goes on: from the cells of a search to the places of its entries.
 pub mod back;
 pub mod held;
 pub mod levels;
 pub mod links;
+pub mod nearest;
 
 use back::Trail;
-use back::level_of;
 use back::way_back;
 use links::Links;
-ghost use Rattle.unwrap_paths.specs.inner.Kept.{LinksFit, PathLeads};
+use nearest::Nearest;
+ghost use Prim.Native.Nat.{_≤_};
+ghost use Rattle.state_keys.specs.Limits.{limits};
+ghost use Rattle.unwrap_paths.specs.inner.Code.{GoesBack};
+ghost use Rattle.unwrap_paths.specs.inner.Kept.{LinksFit};
 
-// The path to the key with this Key ID, by what was kept of a search. Internal.
-pub fn path(links: Links, id: u32) -> Trail
+// The path to the key `start`, by what was kept of a search. Internal.
+pub fn path(links: Links, start: Nearest) -> Trail
     requires { ⌜ LinksFit links ⌝ }
-    ensures { λ r. ⌜ PathLeads links id (r .places) (r .count) ⌝ }
+    requires { ⌜ start .level ≤ limits .wrapKeys ⌝ }
+    ensures { λ r. ⌜ GoesBack (links .count) (links .ids) (links .kwks) (links .levels) (start .kwk) (start .level) (r .places)
+        (r .count) ⌝ }
 {
     let ids = links.ids;
     let kwks = links.kwks;
     let levels = links.levels;
     let n = links.count;
-    let level = level_of(&ids, levels, n, id);
-    way_back(&ids, &kwks, levels, n, id, level)
+    way_back(&ids, &kwks, levels, n, start.kwk, start.level)
 }

@@ -7,6 +7,7 @@ use state_keys::limits::WRAP_KEYS;
 use unwrap_conflicts::is_done;
 use unwrap_search::open::Cell;
 use unwrap_search::open::Entry;
+use unwrap_search::search::is_carried;
 ghost use mathlib.Core.Path.{_≡_};
 ghost use Prim.Native.Nat.{_≤_};
 ghost use Rattle.state_keys.specs.Limits.{limits};
@@ -42,15 +43,15 @@ pub struct LinkNumbers {
     pub marks: [u8; WRAP_KEYS],
 }
 
-// The mark of an entry: chains of a registration start with key 0 alone.
-fn mark(e: Entry, c: Cell) -> u8
-    ensures { λ r. ⌜ r ≡ markOf e c ⌝ }
+// The mark of an entry with the cell `c`. It opened under a key that chains start with if no entry carries the key that it names (`carried`).
+fn mark(c: Cell, carried: bool) -> u8
+    ensures { λ r. ⌜ r ≡ markOf c carried ⌝ }
 {
     if is_done(c) {
-        if e.kwk == 0 {
-            return OPENED_FIRST;
+        if carried {
+            return OPENED;
         }
-        return OPENED;
+        return OPENED_FIRST;
     }
     NOT_OPENED
 }
@@ -69,7 +70,7 @@ fn numbers_of(entries: [Entry; WRAP_KEYS], cells: [Cell; WRAP_KEYS], n: usize) -
         let c = cells[i];
         ids[i] = e.id;
         kwks[i] = e.kwk;
-        marks[i] = mark(e, c);
+        marks[i] = mark(c, is_carried(e.kwk, entries, n));
         i += 1;
     }
     LinkNumbers { ids, kwks, marks }

@@ -12,6 +12,7 @@ use Rattle.wire_attributes.specs.Tree.{WrapKey}
 use Rattle.wire_policies.specs.Policy.{GroupSaPolicy}
 use Rattle.wire_frames.specs.Frame.{Frame}
 use Rattle.state_sa.specs.declared.entry.Sa.{Sa}
+use Rattle.unwrap_copies.specs.declared.answer.Openers.{Openers}
 use Rattle.rules_chains.specs.Chain.{In, Root}
 use Rattle.rules_chains.specs.Refusals.{CopiesConflict, wrong-size, two-values, KeyOf}
 use Rattle.rules_outcome.specs.Roots.{announcedAs}
@@ -70,11 +71,11 @@ module _ (roots : List Root) (entries : List WrapKey) (size : ℕ) (f : Frame) (
     unopened-more nine sas n k u =
         (fit-further l a (no-eight nine sas n k) (unopened-fit a u), record { sa = a; stands = last-in l a; none = u })
 
-    pub sa-more : (nine : Bool) (sas : List Sa) (n : ℕ) → KeysOf roots entries size f l tick (foundBy nine) sas n → (sa : Sa) →
-        n < length sas → IsSa tick sa roots entries size f a →
+    pub sa-more : (nine : Bool) (sas : List Sa) (n : ℕ) → KeysOf roots entries size f l tick (foundBy nine) sas n → (sa : Sa)
+        (openers : Openers) → n < length sas → IsSa tick sa openers roots entries size f a →
         KeysOf roots entries size f (l ++ (a ∷ [])) tick (foundBy nine) (set sas n sa) (n + 1)
-    sa-more true sas n k sa h u = (fit-further l a (k .0) (u .fit), unopened-wider l (a ∷ []) (k .1))
-    sa-more false sas n k sa h u =
+    sa-more true sas n k sa o h u = (fit-further l a (k .0) (u .fit), unopened-wider l (a ∷ []) (k .1))
+    sa-more false sas n k sa o h u =
         let s = set sas n sa in
         let t : take (n + 1) s ≡ take n sas ++ (saFrom tick a (u .x) ∷ []) =
         ap (λ (i : ℕ). take i s) (add-one n) ∙ take-suc-set sas n sa h

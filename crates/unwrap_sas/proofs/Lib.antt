@@ -4,5 +4,6 @@ pub mod Told
 pub mod OwnBag
 pub mod OnePolicy
 pub mod PolicyAt
+pub mod RekeyCopies
 pub mod Along
 pub mod LifetimeLaws

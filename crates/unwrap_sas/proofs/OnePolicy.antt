@@ -2,7 +2,7 @@
 use native.Mathlib.Omega.{arith}
 use Prim.Native.Nat.{ℕ, _+_, _≤_}
 use mathlib.Core.Path.{_≡_, ap, sym, _∙_}
-use mathlib.Core.Bool.{false}
+use mathlib.Core.Bool.{Bool, false}
 use mathlib.Core.List.{List}
 use borrow.Author.Tests.{eq-eqb, ne-eqb, eqb-true, eqb-false}
 use lib.Dec.{eqb}
@@ -34,8 +34,8 @@ few-octets p x e w s =
     (λ g. let z = s .esp (eqb-true p 3 g) in let h = encryption-le e (z .1) in let o = z .2 in omega arith)
     (λ g. let z = s .rekey (eqb-false p 3 g) in let h = rekey-le e w (z .1) in omega arith)
 
-module _ (k : List ℕ) (p : ℕ) (x y : List ℕ) (f : Frame) (a : GroupSaPolicy) (h : Announces k p x y f a) where
-  pub one-bag : count (bagNamed p x) (gather groupBagOf (bagsIn k)) ≡ 1
+module _ (reads : Bool) (k : List ℕ) (p : ℕ) (x y : List ℕ) (f : Frame) (a : GroupSaPolicy) (h : Announces reads k p x y f a) where
+  pub one-bag : count (bagNamed p x) (gather groupBagOf (bagsIn reads k)) ≡ 1
   one-bag = (λ i. count (bagNamed (sym (h .protocol-is) i) (sym (h .spi-is) i)) (gather groupBagOf (sym (h .bags) i))) ∙ h .paired
 
   -- its lifetime is read from what it holds after its SPI

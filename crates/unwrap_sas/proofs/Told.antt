@@ -13,32 +13,36 @@ use Rattle.rules_chains.specs.Refusals.{KeyOf}
 use Rattle.unwrap_copies.specs.inner.Answer.{CopyAnswersBy}
 use Rattle.unwrap_copies.specs.declared.answer.CopyFound.{CopyFound}
 use Rattle.unwrap_copies.specs.declared.answer.CopyFound.the-variants.{Conflict, Nothing, Key}
-use Rattle.unwrap_copies.specs.declared.answer.CopyOpened.{CopyOpened}
+use Rattle.unwrap_copies.specs.declared.answer.Copied.{Copied}
 use Rattle.rules_outcome.specs.Roots.{needOf, announcedAs}
 use Rattle.rules_outcome.specs.After.{saFrom}
 use Rattle.unwrap_sas.specs.inner.Policies.{IsConflict, IsUnopened, IsSa, PolicyGives, IsOpened}
 
-module _ (p : ℕ) (x : List ℕ) (e w : ℕ) (t : Lifetime) (tick : ℕ) (one : CopyOpened) (roots : List Root) (entries : List WrapKey) (size : ℕ)
+module _ (p : ℕ) (x : List ℕ) (e w : ℕ) (t : Lifetime) (tick : ℕ) (one : Copied) (roots : List Root) (entries : List WrapKey) (size : ℕ)
     (f : Frame) (a : GroupSaPolicy) (o : IsOpened p x e w t tick one roots entries size f a) where
-  told : (g : CopyFound) → one .found ≡ g → CopyAnswersBy roots entries size (announcedAs f a) g (one .octets) (one .count)
-  told g h = subst (λ (g : CopyFound). CopyAnswersBy roots entries size (announcedAs f a) g (one .octets) (one .count)) h (o .answers)
+  told : (g : CopyFound) → one .opened .found ≡ g →
+      CopyAnswersBy roots entries size (announcedAs f a) g (one .opened .octets) (one .opened .count)
+  told g h =
+      subst (λ (g : CopyFound). CopyAnswersBy roots entries size (announcedAs f a) g (one .opened .octets) (one .opened .count)) h
+      (o .answers .answers)
 
-  pub of-eight : one .found ≡ Conflict → IsConflict roots entries size f a
+  pub of-eight : one .opened .found ≡ Conflict → IsConflict roots entries size f a
   of-eight h = told Conflict h
 
-  pub of-none : one .found ≡ Nothing → IsUnopened roots entries size f a
+  pub of-none : one .opened .found ≡ Nothing → IsUnopened roots entries size f a
   of-none h = told Nothing h
 
-  pub of-key : one .found ≡ Key → (sa : Sa) →
-      ((n : ℕ) (b : GroupSaPolicy) → PolicyGives p x e w t n b → sa ≡ saFrom n b (take (e + w) (one .octets))) →
-      IsSa tick sa roots entries size f a
+  pub of-key : one .opened .found ≡ Key → (sa : Sa) →
+      ((n : ℕ) (b : GroupSaPolicy) → PolicyGives p x e w t n b → sa ≡ saFrom n b (take (e + w) (one .opened .octets))) →
+      IsSa tick sa (one .openers) roots entries size f a
   unfolding needOf
   of-key h sa made =
       let k = told Key h in
-      let n : one .count ≡ e + w = k .need ∙ (λ i. o .name .encryption-is i + o .name .wrapping-is i) in
+      let n : one .opened .count ≡ e + w = k .need ∙ (λ i. o .name .encryption-is i + o .name .wrapping-is i) in
       record {
-        x = take (e + w) (one .octets);
-        key = subst (λ (m : ℕ). KeyOf roots entries size (announcedAs f a) (take m (one .octets))) n (k .key);
+        x = take (e + w) (one .opened .octets);
+        key = subst (λ (m : ℕ). KeyOf roots entries size (announcedAs f a) (take m (one .opened .octets))) n (k .key);
         fit = k .fit;
         is = made tick a (o .name);
+        opened = o .answers .openers h;
       }

@@ -10,13 +10,16 @@ ghost use Rattle.rules_chains.specs.Chain.{Root};
 ghost use Rattle.rules_outcome.specs.After.{saFrom};
 ghost use Rattle.unwrap_sas.specs.inner.Policies.{Sized, PolicyGives, IsOpened, IsOne};
 use ikev2_numbers::ESP;
+use ikev2_numbers::GIKE_UPDATE;
 use state_keys::kinds::EspKey;
 use state_keys::kinds::RekeyKey;
 use state_keys::limits::SAS;
 use state_keys::rooms::SA_OCTETS;
 use state_sa::entry::Lifetime;
 use state_sa::entry::Sa;
-use unwrap_copies::answer::CopyOpened;
+use unwrap_copies::answer::Copied;
+use unwrap_copies::answer::Openers;
+use unwrap_copies::answer::no_openers;
 
 // `KeyConflict`: refusal 8 holds of the copies of some SA. `KeyMissing`: it holds of none, but some SA has no copy that opens (refusal 9).
 // `Keys`: each SA has its key.
@@ -26,17 +29,20 @@ pub enum SasFound {
     Keys,
 }
 
-// The result for all SAs that a frame announces. With `Keys`, the new SAs are the first `count` of `sas`.
+// The result for all SAs that a frame announces. With `Keys`, the new SAs are the first `count` of `sas`, and `openers` are the KWK IDs of the
+// copies of the Rekey SA's key that open.
 pub struct Keyed {
     pub found: SasFound,
     pub sas: [Sa; SAS],
     pub count: usize,
+    pub openers: Openers,
 }
 
-// The result for one SA. With `Key`, `sa` is the SA; else it is blank.
+// The result for one SA. With `Key`, `sa` is the SA and `openers` are the KWK IDs of its copies that open; else `sa` is blank.
 pub struct One {
     pub found: unwrap_copies::answer::CopyFound,
     pub sa: Sa,
+    pub openers: Openers,
 }
 
 // Makes a result with a blank SA.
@@ -44,7 +50,8 @@ fn one_without(found: unwrap_copies::answer::CopyFound) -> One
     ensures { λ r. ⌜ r .found ≡ found ⌝ }
 {
     let sa = Sa::blank();
-    One { found, sa }
+    let openers = no_openers();
+    One { found, sa, openers }
 }
 
 // Makes the SA of a policy with this `protocol`, `spi` and `lifetime`. Its keying octets are the first `encryption + wrapping` of `octets`,
@@ -73,7 +80,7 @@ fn sa_from(
 // Makes the result for one SA, out of the result `one` of its copies. Its policy has this `protocol`, `spi` and `lifetime`, and its
 // transforms need `encryption` and `wrapping` octets.
 pub fn one_sa(
-    one: CopyOpened,
+    one: Copied,
     protocol: usize,
     spi: &[u8],
     encryption: usize,
@@ -85,7 +92,8 @@ pub fn one_sa(
         IsOpened protocol (now (spi .entry)) encryption wrapping lifetime tick one roots entries size f a →
         IsOne tick r roots entries size f a) ⌝ }
 {
-    let found = one.found;
+    let opened = one.opened;
+    let found = opened.found;
     match found {
         unwrap_copies::answer::CopyFound::Conflict => one_without(
             unwrap_copies::answer::CopyFound::Conflict,
@@ -94,12 +102,24 @@ pub fn one_sa(
             unwrap_copies::answer::CopyFound::Nothing,
         ),
         unwrap_copies::answer::CopyFound::Key => {
-            let octets = one.octets;
+            let octets = opened.octets;
+            let openers = one.openers;
             let sa = sa_from(protocol, spi, encryption, wrapping, octets, lifetime);
             One {
                 found: unwrap_copies::answer::CopyFound::Key,
                 sa,
+                openers,
             }
         }
     }
+}
+
+// Answers the openers after one more SA: those of a Rekey SA, or else the earlier ones.
+pub fn rekey_openers(earlier: Openers, protocol: usize, own: Openers) -> Openers
+    ensures { λ r. ⌜ (protocol ≡ 6 → r ≡ own) × ((protocol ≡ 6 → ⊥) → r ≡ earlier) ⌝ }
+{
+    if protocol == GIKE_UPDATE {
+        return own;
+    }
+    earlier
 }

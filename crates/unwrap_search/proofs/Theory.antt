@@ -2,13 +2,14 @@
 use Prim.Native.Nat.{ℕ, _<_}
 use mathlib.Core.Path.{_≡_, refl, ap, sym, _∙_, subst}
 use mathlib.Core.Logic.{_⊎_, inl, inr, ⊎-elim}
-use mathlib.Core.List.{List, [], _∷_}
+use mathlib.Core.List.{List, [], _∷_, List·Memᴰ·not-nil, List·Memᴰ·cases-cons}
 use lib.ListN.{length}
 use Rattle.fips197.specs.Key.{Key, isKey}
 use Rattle.rfc5649.specs.Opens.{Opens}
 use Rattle.wire_attributes.specs.Tree.{WrapKey}
 use Rattle.state_keys.specs.declared.kinds.WrappingKey.{WrappingKey}
 use Rattle.rules_chains.specs.Chain.{In, Root, Extended, Leads, Chain, root, step}
+use Rattle.rules_chains.proofs.Members.{in-member, member-in}
 use Rattle.unwrap_search.specs.declared.open.Status.{Status}
 use Rattle.unwrap_search.specs.declared.open.Status.the-variants.{Waiting, Failed, Wrong, Pending, Done}
 use Rattle.unwrap_search.specs.declared.open.Cell.{Cell}
@@ -60,17 +61,30 @@ module _ (roots : List Root) (entries : List WrapKey) (size : ℕ) (is-size : T 
   abbrev pub ReachedAt : ℕ → List ℕ → Type 0
   ReachedAt i x = (p : List WrapKey) × Chain roots entries size (E i ∷ p) (E i .keyId) x
 
-  pub record Inv (C : ℕ → Cell) : Type 0 where
+  -- what the cells hold is right
+  pub record Right (C : ℕ → Cell) : Type 0 where
     pub sound : (i : ℕ) → i < n → Holds (C i .status) → ReachedAt i (valueOf (C i .key))
     pub good : (i : ℕ) → i < n → Good size (K C) (E i) (C i)
-    pub closed-roots : (r : Root) → In r roots → ClosedAt C (r .id)
+
+  -- all roots but those of `rest` were tried, and the key of each cell that is done
+  pub record Inv (rest : List Root) (C : ℕ → Cell) : Type 0 where
+    pub right : Right C
+    pub closed-roots : (r : Root) → In r roots → (In r rest → ⊥) → ClosedAt C (r .id)
     pub closed : (j : ℕ) → j < n → C j .status ≡ Done → ClosedAt C (E j .keyId)
+
+  -- the same but for key k, of value v, which is the next to be tried
+  pub record Ahead (rest : List Root) (C : ℕ → Cell) (k : ℕ) (v : List ℕ) : Type 0 where
+    pub right : Right C
+    pub closed-roots : (r : Root) → In r roots → (In r rest → ⊥) → (r .id ≡ k → ⊥) → ClosedAt C (r .id)
+    pub closed : (j : ℕ) → j < n → C j .status ≡ Done → (E j .keyId ≡ k → ⊥) → ClosedAt C (E j .keyId)
+    pub known : K C k v
+    pub live : Live k v
 
   pub in-at : (i : ℕ) → i < n → In (E i) entries
   in-at i h = record { place = i; inside = h; is = getD-any entries i (E i) noWrapKey h }
 
   -- what is known has a chain that may go on
-  pub known-live : (C : ℕ → Cell) → Inv C → (k : ℕ) (v : List ℕ) → K C k v → Live k v
+  pub known-live : (C : ℕ → Cell) → Right C → (k : ℕ) (v : List ℕ) → K C k v → Live k v
   known-live C inv k v (inl p) =
       subst (λ (a : ℕ). Live a v) (p .id-is)
       (subst (λ (b : List ℕ). Live (p .key .id) b) (p .value-is)
@@ -83,7 +97,7 @@ module _ (roots : List Root) (entries : List WrapKey) (size : ℕ) (is-size : T 
       (subst (λ (b : List ℕ). Live (E (p .place) .keyId) b) (p .value-is)
       (record { passed = E (p .place) ∷ s .0; chain = s .1; goes-on = g .2 .fits }))
 
-  known-key : (C : ℕ → Cell) → Inv C → (k : ℕ) (v : List ℕ) → K C k v → Key v
+  known-key : (C : ℕ → Cell) → Right C → (k : ℕ) (v : List ℕ) → K C k v → Key v
   known-key C inv k v (inl p) = subst Key (p .value-is) (root-keys (p .key) (p .stands))
   known-key C inv k v (inr p) =
       let i = p .place in
@@ -138,22 +152,63 @@ module _ (roots : List Root) (entries : List WrapKey) (size : ℕ) (is-size : T 
     after-done : (i : ℕ) → i < n → D i .status ≡ Done → C i .status ≡ Done
     after-done i h = tried-done k v size (E i) (C i) (D i) (tried i h)
 
-  -- ---- the start: every entry waits, and the one root is tried
-  pub begun : (C D : ℕ → Cell) → ((i : ℕ) → i < n → C i .status ≡ Waiting) → (r : Root) → In r roots →
-      ((s : Root) → In s roots → s .id ≡ r .id) → ((i : ℕ) → i < n → Tried (r .id) (r .value) size (E i) (C i) (D i)) → Inv D
-  begun C D w r m only tried =
-      let kn : K C (r .id) (r .value) = inl (record { key = r; stands = m; id-is = refl; value-is = refl }) in
-      let live : Live (r .id) (r .value) = record { passed = []; chain = root r m; goes-on = tt } in
+  -- ---- the key that was ahead is tried
+  pub tried-all : (rest : List Root) (C D : ℕ → Cell) (k : ℕ) (v : List ℕ) → Ahead rest C k v →
+      ((i : ℕ) → i < n → Tried k v size (E i) (C i) (D i)) → Inv rest D
+  tried-all rest C D k v a tried =
+      let kn = a .known in
+      let live = a .live in
       record {
-        sound = try-sound C D (r .id) (r .value) kn live tried (λ i h t. absurd (holds-waits (C i .status) t (w i h)));
-        good = try-good C D (r .id) (r .value) kn live tried
-            (λ i h. subst (λ (s : Status). GoodBy size (K C) (E i) s (C i .key)) (sym (w i h)) tt);
-        closed-roots = λ s t i h q e. after-waits C D (r .id) (r .value) kn live tried i h q .1 (e ∙ only s t);
-        closed = λ j h d. absurd (waits-done (C j .status) (w j h) (after-done C D (r .id) (r .value) kn live tried j h d));
+        right = record {
+          sound = try-sound C D k v kn live tried (a .right .sound);
+          good = try-good C D k v kn live tried (a .right .good);
+        };
+        closed-roots = λ r m f i h q e.
+            let w = after-waits C D k v kn live tried i h q in
+            a .closed-roots r m f (λ z. w .1 (e ∙ z)) i h (w .0) e;
+        closed = λ j g d i h q e.
+            let w = after-waits C D k v kn live tried i h q in
+            a .closed j g (after-done C D k v kn live tried j g d) (λ z. w .1 (e ∙ z)) i h (w .0) e;
       }
 
-  -- ---- a turn: cell j, pending, is marked done, and its key is tried
-  module _ (C M : ℕ → Cell) (inv : Inv C) (j : ℕ) (hj : j < n) (pend : C j .status ≡ Pending)
+  -- ---- a root is the next key
+  root-known : (C : ℕ → Cell) (r : Root) → In r roots → K C (r .id) (r .value)
+  root-known C r m = inl (record { key = r; stands = m; id-is = refl; value-is = refl })
+
+  root-live : (r : Root) → In r roots → Live (r .id) (r .value)
+  root-live r m = record { passed = []; chain = root r m; goes-on = tt }
+
+  -- the start: every entry waits
+  pub begun : (C : ℕ → Cell) → ((i : ℕ) → i < n → C i .status ≡ Waiting) → (r : Root) → In r roots → (rest : List Root) →
+      ((s : Root) → In s roots → (In s rest → ⊥) → s .id ≡ r .id) → Ahead rest C (r .id) (r .value)
+  begun C w r m rest only =
+      record {
+        right = record {
+          sound = λ i h t. absurd (holds-waits (C i .status) t (w i h));
+          good = λ i h. subst (λ (s : Status). GoodBy size (K C) (E i) s (C i .key)) (sym (w i h)) tt;
+        };
+        closed-roots = λ s t f ne. absurd (ne (only s t f));
+        closed = λ j h d. absurd (waits-done (C j .status) (w j h) d);
+        known = root-known C r m;
+        live = root-live r m;
+      }
+
+  pub next-root : (C : ℕ → Cell) (r : Root) (rest : List Root) → In r roots → Inv (r ∷ rest) C → Ahead rest C (r .id) (r .value)
+  next-root C r rest m inv =
+      record {
+        right = inv .right;
+        closed-roots = λ s t f ne.
+            inv .closed-roots s t
+            (λ g.
+            ⊎-elim (λ e. ne (ap (λ (x : Root). x .id) e)) (λ d. f (member-in s rest d))
+            (List·Memᴰ·cases-cons (in-member s (r ∷ rest) g)));
+        closed = λ j h d ne. inv .closed j h d;
+        known = root-known C r m;
+        live = root-live r m;
+      }
+
+  -- ---- cell j, pending, is marked done, and its key is the next
+  module _ (rest : List Root) (C M : ℕ → Cell) (inv : Inv rest C) (j : ℕ) (hj : j < n) (pend : C j .status ≡ Pending)
       (here : M j ≡ record { status = Done; key = C j .key }) (other : (i : ℕ) → (i ≡ j → ⊥) → M i ≡ C i) where
     set-elim : (P : ℕ → Cell → Type 0) → P j (record { status = Done; key = C j .key }) → ((i : ℕ) → i < n → P i (C i)) →
         (i : ℕ) → i < n → P i (M i)
@@ -175,14 +230,14 @@ module _ (roots : List Root) (entries : List WrapKey) (size : ℕ) (is-size : T 
         inr (record { place = p .place; inside = p .inside; holds = m .0; id-is = p .id-is; value-is = m .1 ∙ p .value-is })
 
     mark-sound : (i : ℕ) → i < n → Holds (M i .status) → ReachedAt i (valueOf (M i .key))
-    mark-sound = set-elim (λ i c. Holds (c .status) → ReachedAt i (valueOf (c .key))) (λ r. inv .sound j hj held-j) (inv .sound)
+    mark-sound = set-elim (λ i c. Holds (c .status) → ReachedAt i (valueOf (c .key))) (λ r. inv .right .sound j hj held-j) (inv .right .sound)
 
     mark-good : (i : ℕ) → i < n → Good size (K M) (E i) (M i)
     mark-good =
         set-elim (λ i c. Good size (K M) (E i) c)
         (good-mono size (K C) (K M) mark-mono (E j) Done (C j .key)
-        (subst (λ (s : Status). GoodBy size (K C) (E j) s (C j .key)) pend (inv .good j hj)))
-        (λ i h. good-mono size (K C) (K M) mark-mono (E i) (C i .status) (C i .key) (inv .good i h))
+        (subst (λ (s : Status). GoodBy size (K C) (E j) s (C j .key)) pend (inv .right .good j hj)))
+        (λ i h. good-mono size (K C) (K M) mark-mono (E i) (C i .status) (C i .key) (inv .right .good i h))
 
     mark-waits : (i : ℕ) → i < n → M i .status ≡ Waiting → C i .status ≡ Waiting
     mark-waits =
@@ -197,28 +252,23 @@ module _ (roots : List Root) (entries : List WrapKey) (size : ℕ) (is-size : T 
     known-j : K C (E j .keyId) (valueOf (C j .key))
     known-j = inr (record { place = j; inside = hj; holds = held-j; id-is = refl; value-is = refl })
 
-    -- a turn keeps the invariant
-    pub turn : (D : ℕ → Cell) → ((i : ℕ) → i < n → Tried (E j .keyId) (valueOf (C j .key)) size (E i) (M i) (D i)) → Inv D
-    turn D tried =
-        let k = E j .keyId in
-        let v = valueOf (C j .key) in
-        let live = known-live C inv k v known-j in
+    pub next-cell : Ahead rest M (E j .keyId) (valueOf (C j .key))
+    next-cell =
         record {
-          sound = try-sound M D k v mark-known live tried mark-sound;
-          good = try-good M D k v mark-known live tried mark-good;
-          closed-roots = λ r m i h q. inv .closed-roots r m i h (mark-waits i h (after-waits M D k v mark-known live tried i h q .0));
-          closed = λ i h d.
-              ⊎-elim
-              (λ e x y q p. after-waits M D k v mark-known live tried x y q .1 (p ∙ ap (λ (t : ℕ). E t .keyId) e))
-              (λ b x y q. inv .closed i h b x y (mark-waits x y (after-waits M D k v mark-known live tried x y q .0)))
-              (mark-done i h (after-done M D k v mark-known live tried i h d));
+          right = record { sound = mark-sound; good = mark-good };
+          closed-roots = λ r m f ne i h q. inv .closed-roots r m f i h (mark-waits i h q);
+          closed = λ i h d ne.
+              ⊎-elim (λ e. absurd (ne (ap (λ (t : ℕ). E t .keyId) e))) (λ b x y q. inv .closed i h b x y (mark-waits x y q))
+              (mark-done i h d);
+          known = mark-known;
+          live = known-live C (inv .right) (E j .keyId) (valueOf (C j .key)) known-j;
         }
 
-  -- ---- the end: no cell is pending
-  module _ (C : ℕ → Cell) (inv : Inv C) (last : (i : ℕ) → i < n → C i .status ≡ Pending → ⊥)
+  -- ---- the end: no root is left, and no cell is pending
+  module _ (C : ℕ → Cell) (inv : Inv [] C) (last : (i : ℕ) → i < n → C i .status ≡ Pending → ⊥)
       (fit : (i : ℕ) → i < n → C i .status ≡ Wrong → ⊥) (one : (k : ℕ) (v w : List ℕ) → K C k v → K C k w → v ≡ w) where
     known-closed : (k : ℕ) (v : List ℕ) → K C k v → ClosedAt C k
-    known-closed k v (inl p) i h q e = inv .closed-roots (p .key) (p .stands) i h q (e ∙ sym (p .id-is))
+    known-closed k v (inl p) i h q e = inv .closed-roots (p .key) (p .stands) (λ m. List·Memᴰ·not-nil (in-member (p .key) [] m)) i h q (e ∙ sym (p .id-is))
     known-closed k v (inr p) i h q e =
         let at = p .place in
         inv .closed at (p .inside) (holds-done (C at .status) (p .holds) (last at (p .inside))) i h q (e ∙ sym (p .id-is))
@@ -227,8 +277,8 @@ module _ (roots : List Root) (entries : List WrapKey) (size : ℕ) (is-size : T 
     pub known-opens : (i : ℕ) → i < n → (v x : List ℕ) → K C (E i .kwkId) v → Opens v (E i .wrapped) x →
         Holds (C i .status) × (valueOf (C i .key) ≡ x)
     known-opens i h v x kn o =
-        good-known size (K C) (E i) v x (C i .status) (C i .key) (one (E i .kwkId)) kn (known-key C inv (E i .kwkId) v kn) o
-        (λ s. known-closed (E i .kwkId) v kn i h s refl) (fit i h) (inv .good i h)
+        good-known size (K C) (E i) v x (C i .status) (C i .key) (one (E i .kwkId)) kn (known-key C (inv .right) (E i .kwkId) v kn) o
+        (λ s. known-closed (E i .kwkId) v kn i h s refl) (fit i h) (inv .right .good i h)
 
     pub chain-known : (p : List WrapKey) (k : ℕ) (v : List ℕ) → Chain roots entries size p k v → K C k v
     chain-known _ _ _ (root r m) = inl (record { key = r; stands = m; id-is = refl; value-is = refl })

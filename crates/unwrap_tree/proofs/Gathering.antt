@@ -1,8 +1,7 @@
--- The WRAP_KEYs of a Member Key Bag, gathered one after the other.
+-- The entries of a bag, gathered one after the other.
 use native.Mathlib.Omega.{arith}
 use Prim.Native.Nat.{ℕ, _+_, _-_, _≤_, _<_}
 use mathlib.Core.Path.{_≡_, refl, ap, sym, _∙_, subst}
-use mathlib.Core.Bool.{true}
 use mathlib.Core.List.{List, [], _∷_, _++_, map, append-nil}
 use borrow.Author.Count.{below-more}
 use lib.ListN.{length, take, drop, getD, set, length-append, List·getD-append}
@@ -12,14 +11,14 @@ use Rattle.octets.proofs.Numerals.{drop-take}
 use Rattle.octets.proofs.Walks.{part-length}
 use Rattle.state_keys.specs.Limits.{limits}
 use Rattle.wire_attributes.specs.Tree.{WrapKey, wrapKeyOf}
-use Rattle.wire_attributes.specs.Layout.{attributes}
-use Rattle.wire_attributes.specs.declared.tables.Place.the-variants.{MemberBag}
-use Rattle.wire_attributes.specs.declared.tables.Meaning.the-variants as meaning
-use Rattle.wire_readers.specs.inner.Values.{isWhole, valuesIn, ValueFoundAt}
+use Rattle.wire_attributes.specs.Place.{wrappedSize}
+use Rattle.wire_attributes.specs.declared.tables.Place.{Place}
+use Rattle.wire_attributes.specs.declared.tables.Meaning.{Meaning}
+use Rattle.wire_readers.specs.inner.Values.{valueSize, ValueFoundAt}
 use Rattle.unwrap_search.specs.declared.open.Entry.{Entry}
 use Rattle.unwrap_search.specs.inner.Entries.{IsEntry, Lists, noEntry, noWrapKey}
 use Rattle.unwrap_tree.specs.inner.Entries.{bagKeys}
-use Rattle.unwrap_tree.proofs.Sizes.{wrapped-sized, wrapped-least}
+use Rattle.unwrap_tree.proofs.Sizes.{wrapped-least}
 
 -- ---- parts of parts
 pub part-in-part : (k : List ℕ) (a e b d : ℕ) → b ≤ d → d ≤ e - a → part (part k a e) b d ≡ part k (a + b) (a + d)
@@ -89,18 +88,16 @@ module _ (k : List ℕ) where
   gathered-all places n rest all x e =
       subst (Lists k places n) (sym (append-nil (x .done)) ∙ ap (λ (r : List WrapKey). x .done ++ r) (sym e) ∙ x .joined) (x .lists)
 
--- ---- the WRAP_KEYs of one Member Key Bag, whose attributes stand from a to e: the next one from a place on stands from b to d
-module _ (k : List ℕ) (a e : ℕ) (h : a ≤ e) (g : e ≤ length k) (at b d : ℕ)
-    (w : isWhole (attributes MemberBag 0 (drop at (part k a e))) ≡ true)
-    (f : ValueFoundAt meaning.WrapKey MemberBag (part k a e) at b d) where
+-- ---- the entries of one bag, whose attributes stand from a to e: the next one from a place on stands from b to d
+module _ (m : Meaning) (p : Place) (wrapped : (n : ℕ) → valueSize m n ≡ wrappedSize n) (k : List ℕ) (a e : ℕ) (h : a ≤ e)
+    (g : e ≤ length k) (at b d : ℕ) (f : ValueFoundAt m p (part k a e) at b d) where
   inside : d ≤ e - a
   inside = omega (arith, part-length k a e h g, f .inside)
 
   pub taken-inside : (8 ≤ d - b) × (a + d ≤ length k)
   taken-inside =
-      let n = wrapped-least (length (part (part k a e) b d)) (wrapped-sized meaning.WrapKey MemberBag (omega arith) (drop at (part k a e))
-      (part (part k a e) b d) (valuesIn meaning.WrapKey MemberBag (drop d (part k a e))) w (f .first)) in
-      (omega (arith, n, part-length (part k a e) b d (f .order) (f .inside), f .order), omega (arith, inside, h, g))
+      let n = wrapped-least (d - b) (sym (wrapped (d - b)) ∙ f .size) in
+      (omega (arith, n), omega (arith, inside, h, g))
 
   module _ (v : List ℕ) (q : v ≡ part (part k a e) b d) where
     taken-length : length v ≡ d - b
@@ -114,5 +111,5 @@ module _ (k : List ℕ) (a e : ℕ) (h : a ≤ e) (g : e ≤ length k) (at b d :
         let n : a + b ≡ a + d - length v = omega (arith, taken-length, f .order) in
         q ∙ part-in-part k a e b d (f .order) inside ∙ ap (λ (i : ℕ). part k i (a + d)) n
 
-    pub taken-first : bagKeys (drop at (part k a e)) ≡ wrapKeyOf v ∷ bagKeys (drop d (part k a e))
-    taken-first = ap (map wrapKeyOf) (f .first) ∙ ap (λ (x : List ℕ). wrapKeyOf x ∷ bagKeys (drop d (part k a e))) (sym q)
+    pub taken-first : bagKeys m p (drop at (part k a e)) ≡ wrapKeyOf v ∷ bagKeys m p (drop d (part k a e))
+    taken-first = ap (map wrapKeyOf) (f .first) ∙ ap (λ (x : List ℕ). wrapKeyOf x ∷ bagKeys m p (drop d (part k a e))) (sym q)

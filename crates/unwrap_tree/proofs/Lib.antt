@@ -4,3 +4,5 @@ pub mod Membership
 pub mod Entering
 pub mod Standing
 pub mod Agreeing
+pub mod NoEntries
+pub mod SourceLaws

@@ -7,7 +7,7 @@ use Rattle.receive.proofs.row_of.Statement.{statement}
 use Rattle.receive.proofs.row_of.Tie as tie
 
 shared-slice-read-wide : tie.Need-shared-slice-read-wide
-shared-slice-read-wide c = omega (arith, long (now (c .before .before .args .s)) (c .before .before .pre))
+shared-slice-read-wide c = omega (arith, long (c .before .before .pre .0) (now (c .before .before .args .s)) (c .before .before .pre .1))
 
 wide-requires : tie.Need-wide-requires
 wide-requires c κs = search needs
@@ -17,8 +17,8 @@ exchange-of-requires c κs = search needs
 
 returns : tie.Need-returns
 returns c =
-    λ f w.
-    row-is (now (c .before .before .before .before .args .s)) f (c .before .wide .result) (c .exchange-of .result) w
+    λ profile f w.
+    row-is profile (now (c .before .before .before .before .args .s)) f (c .before .wide .result) (c .exchange-of .result) w
     (c .before .wide .ensures .0) (c .exchange-of .ensures)
 
 pub row-of-spec : {M : Type 1} → statement M

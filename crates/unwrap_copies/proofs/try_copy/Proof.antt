@@ -4,9 +4,9 @@ use lib.ListN.{length}
 use Rattle.octets.proofs.Walks.{to-end}
 use Rattle.wire_attributes.specs.Tree.{saKeyOf}
 use Rattle.state_keys.specs.Algorithms.{sizeOf}
-use Rattle.state.specs.Held.{keysOf}
 use Rattle.unwrap_search.proofs.Searching.{is-key-size}
-use Rattle.unwrap_copies.proofs.Trying.{value-size, tried-zero, tried-none, tried-held}
+use Rattle.unwrap_lending.proofs.Naming.{named-size}
+use Rattle.unwrap_copies.proofs.Trying.{tried-zero, tried-none, tried-named}
 use borrow.Author.Needs.{needs}
 use Rattle.unwrap_copies.proofs.try_copy.Statement.{statement}
 use Rattle.unwrap_copies.proofs.try_copy.Tie as tie
@@ -27,51 +27,55 @@ open-copy-requires : tie.Need-open-copy-requires
 open-copy-requires c κs = search needs
 
 returns : tie.Need-returns
-returns c v held x lends =
+returns c v new old x lends =
     let n = c .before .before .before .be32-at in
-    let a = c .before .before .before .before .before .before .before .args in
+    let a = c .before .before .before .before .before .before .before .before .before .args in
     let s = now (a .copy) in
-    tried-zero held (now (a .ids)) (now (a .block)) lends (n .result) v (saKeyOf s) (sym (n .ensures)) _ (sym (to-end s 8)) (a .need)
+    tried-zero new old (n .result) v (saKeyOf s) (sym (n .ensures)) _ (sym (to-end s 8)) (a .need)
     (c .open-copy .result) (c .before .if1 .taken) (c .open-copy .ensures v x)
 
-key-named-requires : tie.Need-key-named-requires
-key-named-requires c κs = let h = c .before .before .before .before .before .before .pre .1 .1 in (keysOf (h .0), h .1 .lends)
+octets-named-requires : tie.Need-octets-named-requires
+octets-named-requires c κs =
+    let h = c .before .before .before .before .before .before .before .before .pre .1 .1 in
+    ((h .0, h .2 .own), (h .1, h .2 .held))
 
 nothing-requires : tie.Need-nothing-requires
 nothing-requires c κs = search needs
 
 returns-2 : tie.Need-returns-2
-returns-2 c v held x lends =
-    let k = c .before .before .key-named in
+returns-2 c v new old x lends =
+    let k = c .before .before .octets-named in
     let n = c .before .before .before .before .before .be32-at in
-    let a = c .before .before .before .before .before .before .before .before .before .args in
+    let a = c .before .before .before .before .before .before .before .before .before .before .before .args in
     let s = now (a .copy) in
-    tried-none held (now (a .ids)) (now (a .block)) lends (n .result) v (saKeyOf s) (sym (n .ensures)) _ (sym (to-end s 8)) (a .need)
-    (c .nothing .result) (c .before .before .before .if1 .left) (now (k .result)) (k .ensures (keysOf held) (lends .lends))
+    tried-none new old (n .result) v (saKeyOf s) (sym (n .ensures)) _ (sym (to-end s 8)) (a .need)
+    (c .nothing .result) (c .before .before .before .if1 .left) (now (k .result)) (k .ensures .0 new old (lends .own) (lends .held))
     (c .before .if2 .taken) (c .nothing .ensures)
 
 expand-inverse-requires : tie.Need-expand-inverse-requires
 expand-inverse-requires c κs =
-    let k = c .before .key-named in
+    let k = c .before .octets-named in
     let n = c .before .before .before .before .be32-at in
-    let s = c .before .before .before .before .before .before .before .before in
+    let s = c .before .before .before .before .before .before .before .before .before .before in
     let h = s .pre .1 .1 in
-    let e = k .ensures (keysOf (h .0)) (h .1 .lends) in
+    let a = s .args in
+    let e = k .ensures .0 (h .0) (h .1) (h .2 .own) (h .2 .held) in
     let size =
-    value-size (h .0) (now (s .args .ids)) (now (s .args .block)) (h .1) (n .result) (λ z. c .if2 .left (ap length e ∙ z)) in
+    named-size (n .result) (h .0) (h .1) (now (a .carried)) (now (a .fresh)) (now (a .ids)) (now (a .block)) (h .2)
+    (λ z. c .if2 .left (ap length e ∙ z)) in
     (s .pre .1 .0 .0, is-key-size (length (now (k .result))) (ap (λ m. sizeOf 13 (length m)) e ∙ size))
 
 open-copy-requires-2 : tie.Need-open-copy-requires-2
 open-copy-requires-2 c κs = search needs
 
 returns-3 : tie.Need-returns-3
-returns-3 c v held x lends =
-    let k = c .before .before .before .key-named in
+returns-3 c v new old x lends =
+    let k = c .before .before .before .octets-named in
     let n = c .before .before .before .before .before .before .be32-at in
-    let a = c .before .before .before .before .before .before .before .before .before .before .args in
+    let a = c .before .before .before .before .before .before .before .before .before .before .before .before .args in
     let s = now (a .copy) in
-    tried-held held (now (a .ids)) (now (a .block)) lends (n .result) v (saKeyOf s) (sym (n .ensures)) _ (sym (to-end s 8)) (a .need)
-    (c .open-copy2 .result) (c .before .before .before .before .if1 .left) (now (k .result)) (k .ensures (keysOf held) (lends .lends))
+    tried-named new old (n .result) v (saKeyOf s) (sym (n .ensures)) _ (sym (to-end s 8)) (a .need)
+    (c .open-copy2 .result) (c .before .before .before .before .if1 .left) (now (k .result)) (k .ensures .0 new old (lends .own) (lends .held))
     (c .before .before .if2 .left) (c .open-copy2 .ensures (now (k .result)) (c .before .expand-inverse .ensures))
 
 pub try-copy-spec : {M : Type 1} → statement M
@@ -84,7 +88,7 @@ try-copy-spec =
     part-wrapped-end
     open-copy-requires
     returns
-    key-named-requires
+    octets-named-requires
     nothing-requires
     returns-2
     expand-inverse-requires

@@ -8,15 +8,15 @@ use Rattle.unwrap_sas.proofs.open_copies.Statement.{statement}
 use Rattle.unwrap_sas.proofs.open_copies.Tie as tie
 
 bag-stretch-requires : tie.Need-bag-stretch-requires
-bag-stretch-requires c κs = c .before .before .before .before .pre .0
+bag-stretch-requires c κs = let s = c .before .before .before .before .before .before in (s .args .reads, s .pre .0)
 
 -- where its bag stands
 own : (c : tie.After-bag-stretch)
-    → let a = c .before .before .before .before .before .args in
-    StretchIs (now (a .kd)) (a .protocol) (now (a .spi)) (c .bag-stretch .result)
+    → let a = c .before .before .before .before .before .before .before .args in
+    StretchIs (a .reads) (now (a .kd)) (a .protocol) (now (a .spi)) (c .bag-stretch .result)
 own c =
-    let s = c .before .before .before .before .before in
-    stretch-is (s .args .protocol) (now (s .args .spi)) (now (s .args .kd)) (c .bag-stretch .result) (c .bag-stretch .ensures) (s .pre .0)
+    let s = c .before .before .before .before .before .before .before in
+    stretch-is (s .args .protocol) (now (s .args .spi)) (now (s .args .kd)) (s .args .reads) (c .bag-stretch .result) (c .bag-stretch .ensures) (s .pre .0)
     (s .pre .1 .0)
 
 in-bag-requires : tie.Need-in-bag-requires
@@ -33,20 +33,20 @@ part-copies-end c = own (c .before) .inside
 
 copies-requires : tie.Need-copies-requires
 copies-requires c κs =
-    let s = c .before .before .before .before .before .before .before in
+    let s = c .before .before .before .before .before .before .before .before .before in
     let b = c .before .before in (
-      own-whole (now (s .args .kd)) (s .args .protocol) (now (s .args .spi)) (b .bag-stretch .result) (own b) (c .before .in-bag .result)
+      own-whole (s .args .reads) (now (s .args .kd)) (s .args .protocol) (now (s .args .spi)) (b .bag-stretch .result) (own b) (c .before .in-bag .result)
           (c .before .in-bag .ensures),
       (s .pre .1 .1 .0, (s .pre .1 .1 .1 .0, s .pre .1 .1 .1 .1)),
     )
 
 returns : tie.Need-returns
 returns c roots entries size f a o bags protocol spi need =
-    let s = c .before .before .before .before .before .before .before .before in
+    let s = c .before .before .before .before .before .before .before .before .before .before in
     let b = c .before .before .before in
-    own-answers (now (s .args .kd)) (s .args .protocol) (now (s .args .spi)) (b .bag-stretch .result) (own b)
+    own-answers (s .args .reads) (now (s .args .kd)) (s .args .protocol) (now (s .args .spi)) (b .bag-stretch .result) (own b)
     (c .before .before .in-bag .result) (c .before .before .in-bag .ensures) f a bags protocol spi (s .args .need) need roots entries size
-    (c .copies .result) (c .copies .ensures roots entries size (o .zero) (o .held) (o .expands) (o .lends) (o .agrees))
+    (c .copies .result) (c .copies .ensures roots entries size (o .zero) (o .new) (o .old) (o .expands) (o .lends) (o .agrees))
 
 pub open-copies-spec : {M : Type 1} → statement M
 open-copies-spec =

@@ -1,55 +1,54 @@
-use Prim.Native.Nat.{ℕ}
 use native.Mathlib.Omega.{arith}
-use lib.ListN.{length-replicate}
-use Rattle.unwrap_copies.proofs.Filling.{ids-there, ids-count, block-there, block-count}
+use mathlib.Core.Path.{_≡_}
+use lib.ListN.{length}
+use Rattle.state_keys.specs.Kinds.{valueOf}
+use Rattle.unwrap_lending.specs.inner.Lending.{keyOctets}
+use Rattle.unwrap_copies.proofs.Opening.{key-inside, key-count, key-fits}
 use borrow.Author.Needs.{needs}
 use Rattle.unwrap_sas.proofs.open_sas.Statement.{statement}
 use Rattle.unwrap_sas.proofs.open_sas.Tie as tie
 
-slice-aggregate-lend-keys : tie.Need-slice-aggregate-lend-keys
-slice-aggregate-lend-keys c = search needs
+inverse-tables-requires : tie.Need-inverse-tables-requires
+inverse-tables-requires c κs = search needs
 
-slice-aggregate-lend-keys-2 : tie.Need-slice-aggregate-lend-keys-2
-slice-aggregate-lend-keys-2 c = search needs
+array-share-prefix-octets : tie.Need-array-share-prefix-octets
+array-share-prefix-octets c =
+    let s = c .before .before .before .before .before .before .before .before .before .before in
+    let e : length (s .args .zero .octets) ≡ keyOctets = search needs in
+    key-inside (s .args .zero) e (s .pre .1 .1 .0)
 
-lend-keys-requires : tie.Need-lend-keys-requires
-lend-keys-requires c κs =
-    (search needs, record { ids-length = length-replicate {A = ℕ} _ 0; block-length = length-replicate {A = ℕ} _ 0 })
+slice-aggregate-expand-inverse : tie.Need-slice-aggregate-expand-inverse
+slice-aggregate-expand-inverse c =
+    let s = c .before .before .before .before .before .before .before .before .before .before .before in
+    let e : length (s .args .zero .octets) ≡ keyOctets = search needs in
+    key-count (s .args .zero) e (s .pre .1 .1 .0)
 
-mul-e : tie.Need-mul-e
-mul-e c = let h = c .before .before .lend-keys .ensures .most in record { fits = omega arith }
+expand-inverse-requires : tie.Need-expand-inverse-requires
+expand-inverse-requires c κs =
+    let s = c .before .before .before .before .before .before .before .before .before .before .before in
+    let e : length (s .args .zero .octets) ≡ keyOctets = search needs in
+    (c .before .before .before .inverse-tables .ensures, key-fits (s .args .zero) e (s .pre .1 .1 .0))
 
-array-share-prefix-ids : tie.Need-array-share-prefix-ids
-array-share-prefix-ids c = ids-there _ _ _ (c .before .before .lend-keys .ensures)
-
-slice-aggregate-under-lent : tie.Need-slice-aggregate-under-lent
-slice-aggregate-under-lent c = ids-count _ _ _ (c .before .before .before .lend-keys .ensures)
-
-array-share-prefix-block : tie.Need-array-share-prefix-block
-array-share-prefix-block c = block-there _ _ _ (c .before .before .before .lend-keys .ensures)
-
-slice-aggregate-under-lent-2 : tie.Need-slice-aggregate-under-lent-2
-slice-aggregate-under-lent-2 c = block-count _ _ _ (c .before .before .before .before .lend-keys .ensures)
-
-under-lent-requires : tie.Need-under-lent-requires
-under-lent-requires c κs =
-    (search needs, (search needs, (search needs, ((_, c .before .before .before .before .lend-keys .ensures .lends), search needs))))
+walk-policies-requires : tie.Need-walk-policies-requires
+walk-policies-requires c κs =
+    let s = c .before .before .before .before .before .before .before .before .before .before .before .before in
+    let p = s .pre in
+    let t = c .before .before .before .before .inverse-tables .ensures in
+    (p .0, (p .1 .0, ((t, record { key = valueOf (s .args .zero); expands = c .expand-inverse .ensures }), p .1 .1 .1)))
 
 returns : tie.Need-returns
-returns c roots entries size f y agrees =
-    c .under-lent .ensures roots entries size f _ y (c .before .before .before .before .before .lend-keys .ensures .lends) agrees
+returns c roots entries size f new old y lends agrees =
+    let a = c .before .before .before .before .before .before .before .before .before .before .before .before .before .args in
+    c .walk-policies .ensures roots entries size f y
+    (record { zero = a .zero; new = new; old = old; expands = c .before .expand-inverse .ensures; lends = lends; agrees = agrees })
 
 pub open-sas-spec : {M : Type 1} → statement M
 open-sas-spec =
     tie.close
     (tie.spec
-    slice-aggregate-lend-keys
-    slice-aggregate-lend-keys-2
-    lend-keys-requires
-    mul-e
-    array-share-prefix-ids
-    slice-aggregate-under-lent
-    array-share-prefix-block
-    slice-aggregate-under-lent-2
-    under-lent-requires
+    inverse-tables-requires
+    array-share-prefix-octets
+    slice-aggregate-expand-inverse
+    expand-inverse-requires
+    walk-policies-requires
     returns)

@@ -39,7 +39,7 @@ enum-known-x c = search needs
 -- numbers 2 to 7 let the frame pass
 passes : (c : tie.After-known-told2) (f : Frame) →
     let a = c .before .before .before .before .before .before .before .args in
-    frame (now (a .s)) ≡ whole f [] → Passed (a .self .state) (a .tick) (now (a .lent)) (now (a .s)) (c .before .x .given .0 .0) f
+    frame (a .self .state .profile) (now (a .s)) ≡ whole f [] → Passed (a .self .state) (a .tick) (now (a .lent)) (now (a .s)) (c .before .x .given .0 .0) f
 passes c f q =
     let m = c .before .x .given in
     let n = passed-so _ _ (m .0 .0) (sym (m .1) ∙ c .before .before .before .refusal .ensures f q) in

@@ -1,12 +1,14 @@
 use denote.Ref.{now}
+use Rattle.wire_frames.specs.Exchange.{readsFresh}
 use Rattle.check_payloads.proofs.FoundLaws.{OfFrame}
-use Rattle.receive.proofs.BodyLaws.{of-frame, holds-policies, holds-bags, bodied}
+use Rattle.receive.proofs.BodyLaws.{of-frame, holds-policies, bodied}
 use Rattle.receive.proofs.deciding.decide.Statement.{statement}
 use Rattle.receive.proofs.deciding.decide.Tie as tie
 
 -- the payloads of the frame that is known to be there
 own : (c : tie.After-kd) → let b =
-    c .before .before .before .before .before in OfFrame (now (b .args .frame)) (b .pre .0) (b .args .x .payloads)
+    c .before .before .before .before .before in
+    OfFrame (readsFresh (b .args .state .profile) (b .pre .0 .header .exchange)) (now (b .args .frame)) (b .pre .0) (b .args .x .payloads)
 own c =
     let b = c .before .before .before .before .before in
     let a = b .args in
@@ -36,10 +38,7 @@ by-bodies-requires c κs =
     let b = c .before .before .before .before .before .before .before in
     let a = b .args in
     let p = b .pre in (
-      (
-        holds-policies (a .state) (a .tick) (now (a .lent)) (now (a .frame)) (a .x) (p .0) (p .1) .held,
-        holds-bags (a .state) (a .tick) (now (a .lent)) (now (a .frame)) (a .x) (p .0) (p .1) .held,
-      ),
+      holds-policies (a .state) (a .tick) (now (a .lent)) (now (a .frame)) (a .x) (p .0) (p .1) .held,
       (p .0, bodied (a .state) (a .tick) (now (a .lent)) (now (a .frame)) (a .x) (p .0) (p .1)),
     )
 

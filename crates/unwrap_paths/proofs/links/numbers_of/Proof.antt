@@ -17,7 +17,7 @@ abbrev Inv-loop : tie.InvT-loop
 Inv-loop n entries cells ids₀ kwks₀ marks₀ i₀ ids kwks marks i =
     (n ≤ limits .wrapKeys) × (length entries ≡ limits .wrapKeys) × (length cells ≡ limits .wrapKeys) ×
     (length ids ≡ limits .wrapKeys) × (length kwks ≡ limits .wrapKeys) × (length marks ≡ limits .wrapKeys) × (i ≤ n) ×
-    LinksAre i entries cells ids kwks marks
+    LinksAre i n entries cells ids kwks marks
 
 abbrev μ-loop : tie.MeasureT-loop
 μ-loop n entries cells ids₀ kwks₀ marks₀ i₀ ids kwks marks i = n - i
@@ -26,7 +26,7 @@ loop-holds : tie.Need-loop-holds Inv-loop μ-loop
 loop-holds c =
     let e : length (c .args .t1) ≡ limits .wrapKeys = search needs in
     let f : length (c .args .t2) ≡ limits .wrapKeys = search needs in
-    (c .pre, e, f, refl, refl, refl, omega arith, linked-none (c .args .t1) (c .args .t2) _ _ _)
+    (c .pre, e, f, refl, refl, refl, omega arith, linked-none (c .args .n) (c .args .t1) (c .args .t2) _ _ _)
 
 mul-e : tie.Need-mul-e Inv-loop μ-loop
 mul-e c = search needs
@@ -52,6 +52,9 @@ mul-kwks c = search needs
 array-write-kwks : tie.Need-array-write-kwks Inv-loop μ-loop
 array-write-kwks c = search needs
 
+is-carried-requires : tie.Need-is-carried-requires Inv-loop μ-loop
+is-carried-requires c κs = search needs
+
 mark-requires : tie.Need-mark-requires Inv-loop μ-loop
 mark-requires c κs = search needs
 
@@ -66,8 +69,8 @@ loop-less c = search needs
 
 loop-again : tie.Need-loop-again Inv-loop μ-loop
 loop-again c =
-    let l = c .before .before .before .before .loop in
-    let a = c .before .before .before .before .before .args in (
+    let l = c .before .before .before .before .before .loop in
+    let a = c .before .before .before .before .before .before .args in (
       l .inv .0,
       l .inv .1,
       l .inv .2,
@@ -75,8 +78,9 @@ loop-again c =
       simp length-set (l .inv .4),
       simp length-set (l .inv .5),
       omega arith,
-      linked-next (a .t1) (a .t2) (l .ids) (l .kwks) (l .marks) (l .i) (omega arith) (omega arith) (omega arith) _ _ (c .mark .result)
-          (getD-any (a .t1) (l .i) _ noEntry (omega arith)) (getD-any (a .t2) (l .i) _ noCell (omega arith)) (c .mark .ensures) (l .inv .7),
+      linked-next (a .n) (a .t1) (a .t2) (l .ids) (l .kwks) (l .marks) (l .i) (omega arith) (omega arith) (omega arith) _ _ (c .mark .result)
+          (c .before .is-carried .result) (getD-any (a .t1) (l .i) _ noEntry (omega arith))
+          (getD-any (a .t2) (l .i) _ noCell (omega arith)) (c .before .is-carried .ensures) (c .mark .ensures) (l .inv .7),
     )
 
 returns : tie.Need-returns Inv-loop μ-loop
@@ -88,7 +92,7 @@ returns c =
     let g : a .n ≤ length (l .kwks) = omega (arith, l .inv .0, l .inv .4) in
     let h : a .n ≤ length (l .marks) = omega (arith, l .inv .0, l .inv .5) in
     record {
-      linked = subst (λ (m : ℕ). LinksAre m (a .t1) (a .t2) (l .ids) (l .kwks) (l .marks)) e (l .inv .7);
+      linked = subst (λ (m : ℕ). LinksAre m (a .n) (a .t1) (a .t2) (l .ids) (l .kwks) (l .marks)) e (l .inv .7);
       ids-long = f;
       kwks-long = g;
       marks-long = h;
@@ -109,6 +113,7 @@ numbers-of-spec =
     array-write-ids
     mul-kwks
     array-write-kwks
+    is-carried-requires
     mark-requires
     array-write-marks
     add-i

@@ -26,25 +26,25 @@ sa-from-requires c κs = search needs
 
 returns : tie.Need-returns
 returns c tick roots entries size f a o =
-    let s = c .before .before .before .before .args in
+    let s = c .before .before .before .before .before .args in
     let r = c .one-without in
-    subst (λ g. IsBy tick g (r .result .sa) roots entries size f a) (sym (r .ensures))
+    subst (λ g. IsBy tick g (r .result .sa) (r .result .openers) roots entries size f a) (sym (r .ensures))
     (of-eight (s .protocol) (now (s .spi)) (s .encryption) (s .wrapping) (s .lifetime) tick (s .one) roots entries size f a o
     (c .before .enum-told .given .1))
 
 returns-2 : tie.Need-returns-2
 returns-2 c tick roots entries size f a o =
-    let s = c .before .before .before .before .args in
+    let s = c .before .before .before .before .before .args in
     let r = c .one-without2 in
-    subst (λ g. IsBy tick g (r .result .sa) roots entries size f a) (sym (r .ensures))
+    subst (λ g. IsBy tick g (r .result .sa) (r .result .openers) roots entries size f a) (sym (r .ensures))
     (of-none (s .protocol) (now (s .spi)) (s .encryption) (s .wrapping) (s .lifetime) tick (s .one) roots entries size f a o
     (c .before .enum-told2 .given .1))
 
 returns-3 : tie.Need-returns-3
 returns-3 c tick roots entries size f a o =
-    let s = c .before .before .before .before .before .args in
+    let s = c .before .before .before .before .before .before .before .args in
     of-key (s .protocol) (now (s .spi)) (s .encryption) (s .wrapping) (s .lifetime) tick (s .one) roots entries size f a o
-    (c .before .before .enum-told3 .given .1) (c .sa-from .result) (c .sa-from .ensures)
+    (c .before .before .before .enum-told3 .given .1) (c .sa-from .result) (c .sa-from .ensures)
 
 pub one-sa-spec : {M : Type 1} → statement M
 one-sa-spec =

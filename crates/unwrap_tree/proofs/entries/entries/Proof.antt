@@ -10,8 +10,6 @@ use Rattle.octets.specs.Walk.{part}
 use Rattle.wire_attributes.specs.Tree.{WrapKey, wrapKeyOf}
 use Rattle.wire_attributes.specs.Answers.{valueStart}
 use Rattle.wire_attributes.specs.Layout.{attributes}
-use Rattle.wire_attributes.specs.declared.tables.Place.the-variants.{MemberBag}
-use Rattle.wire_attributes.specs.declared.tables.Meaning.the-variants as meaning
 use Rattle.wire_readers.specs.inner.Values.{isWhole, MetAt, FindsValue}
 use Rattle.wire_readers.specs.declared.Stretch.{Stretch}
 use Rattle.unwrap_search.specs.inner.Entries.{IsEntry, Lists}
@@ -24,21 +22,22 @@ use Rattle.unwrap_tree.proofs.entries.entries.Statement.{statement}
 use Rattle.unwrap_tree.proofs.entries.entries.Tie as tie
 
 abbrev Inv-loop : tie.InvT-loop
-Inv-loop kd a e s places₀ n₀ at₀ places n at =
-    (length places ≡ limits .wrapKeys) × (at ≤ length s) × (isWhole (attributes MemberBag 0 (drop at s)) ≡ true) ×
-    (n + length (bagKeys (drop at s)) ≤ limits .wrapKeys) × Gathered kd places n (bagKeys (drop at s)) (bagKeys s)
+Inv-loop kd meaning place a e s places₀ n₀ at₀ places n at =
+    (length places ≡ limits .wrapKeys) × (at ≤ length s) × (isWhole (attributes place 0 (drop at s)) ≡ true) ×
+    (n + length (bagKeys meaning place (drop at s)) ≤ limits .wrapKeys) ×
+    Gathered kd places n (bagKeys meaning place (drop at s)) (bagKeys meaning place s)
 
 abbrev μ-loop : tie.MeasureT-loop
-μ-loop kd a e s places₀ n₀ at₀ places n at = length s - at
+μ-loop kd meaning place a e s places₀ n₀ at₀ places n at = length s - at
 
 sub-s : tie.Need-sub-s Inv-loop μ-loop
-sub-s c = c .before .pre .0 .order
+sub-s c = c .before .pre .1 .order
 
 part-s-start : tie.Need-part-s-start Inv-loop μ-loop
-part-s-start c = c .before .pre .0 .order
+part-s-start c = c .before .pre .1 .order
 
 part-s-end : tie.Need-part-s-end Inv-loop μ-loop
-part-s-end c = c .before .pre .0 .inside
+part-s-end c = c .before .pre .1 .inside
 
 blank-requires : tie.Need-blank-requires Inv-loop μ-loop
 blank-requires c κs = search needs
@@ -46,8 +45,8 @@ blank-requires c κs = search needs
 loop-holds : tie.Need-loop-holds Inv-loop μ-loop
 loop-holds c =
     let st = c .before .before .before in
-    let h = st .pre .0 in
-    (omega arith, omega arith, h .held, omega (arith, st .pre .1, ap length (h .keys)), gathered-none (now (st .args .kd)) _ _)
+    let h = st .pre .1 in
+    (omega arith, omega arith, h .held, omega (arith, st .pre .2, ap length (h .keys)), gathered-none (now (st .args .kd)) _ _)
 
 next-attribute-requires : tie.Need-next-attribute-requires Inv-loop μ-loop
 next-attribute-requires c κs = (c .loop .inv .1, c .loop .inv .2)
@@ -60,12 +59,12 @@ met : (c : tie.After-known-told Inv-loop μ-loop) →
     let st = w .before .before .before .before in
     let v = c .before .b .given .0 in
     let x = st .args .bag in
-    MetAt meaning.WrapKey MemberBag (part (now (st .args .kd)) (x .start) (x .end)) (w .loop .at) (v .0) (v .1 .0)
+    MetAt (st .args .meaning) (st .args .place) (part (now (st .args .kd)) (x .start) (x .end)) (w .loop .at) (v .0) (v .1 .0)
 met c =
     let w = c .before .before .before .before in
     let st = w .before .before .before .before in
     let x = st .args .bag in
-    subst (FindsValue meaning.WrapKey MemberBag (part (now (st .args .kd)) (x .start) (x .end)) (w .loop .at))
+    subst (FindsValue (st .args .meaning) (st .args .place) (part (now (st .args .kd)) (x .start) (x .end)) (w .loop .at))
     (c .before .b .given .1) (c .before .before .before .next-attribute .ensures)
 
 attribute-value-requires : tie.Need-attribute-value-requires Inv-loop μ-loop
@@ -83,28 +82,28 @@ add-entry : tie.Need-add-entry Inv-loop μ-loop
 add-entry c =
     let w = c .before .before .before .before .before in
     let st = w .before .before .before .before in
-    let h = st .pre .0 in
-    let i = taken-inside (now (st .args .kd)) _ _ (h .order) (h .inside) (w .loop .at) _ _ (w .loop .inv .2) (met (c .before) .value) in
+    let h = st .pre .1 in
+    let i = taken-inside _ _ (h .wrapped) (now (st .args .kd)) _ _ (h .order) (h .inside) (w .loop .at) _ _ (met (c .before) .value) in
     record { fits = omega (arith, i .1) }
 
 entry-requires : tie.Need-entry-requires Inv-loop μ-loop
 entry-requires c κs =
     let w = c .before .before .before .before .before in
     let st = w .before .before .before .before in
-    let h = st .pre .0 in
-    taken-sized (now (st .args .kd)) _ _ (h .order) (h .inside) (w .loop .at) _ _ (w .loop .inv .2) (met (c .before) .value) _ (value c)
+    let h = st .pre .1 in
+    taken-sized _ _ (h .wrapped) (now (st .args .kd)) _ _ (h .order) (h .inside) (w .loop .at) _ _ (met (c .before) .value) _ (value c)
 
 first : (c : tie.After-attribute-value Inv-loop μ-loop) →
     let w = c .before .before .before .before .before in
     let st = w .before .before .before .before in
     let v = c .before .before .b .given .0 in
     let s = part (now (st .args .kd)) (st .args .bag .start) (st .args .bag .end) in
-    bagKeys (drop (w .loop .at) s) ≡ wrapKeyOf (now (c .attribute-value .result)) ∷ bagKeys (drop (v .1 .0) s)
+    bagKeys (st .args .meaning) (st .args .place) (drop (w .loop .at) s) ≡ wrapKeyOf (now (c .attribute-value .result)) ∷ bagKeys (st .args .meaning) (st .args .place) (drop (v .1 .0) s)
 first c =
     let w = c .before .before .before .before .before in
     let st = w .before .before .before .before in
-    let h = st .pre .0 in
-    taken-first (now (st .args .kd)) _ _ (h .order) (h .inside) (w .loop .at) _ _ (w .loop .inv .2) (met (c .before) .value) _ (value c)
+    let h = st .pre .1 in
+    taken-first _ _ (h .wrapped) (now (st .args .kd)) _ _ (h .order) (h .inside) (w .loop .at) _ _ (met (c .before) .value) _ (value c)
 
 is : (c : tie.After-entry Inv-loop μ-loop) →
     let st = c .before .before .before .before .before .before .before .before .before .before in
@@ -112,12 +111,12 @@ is : (c : tie.After-entry Inv-loop μ-loop) →
 is c =
     let w = c .before .before .before .before .before .before in
     let st = w .before .before .before .before in
-    let h = st .pre .0 in
+    let h = st .pre .1 in
     let k = now (st .args .kd) in
     let f = met (c .before .before) .value in
     c .entry .ensures k
-    (taken-inside k _ _ (h .order) (h .inside) (w .loop .at) _ _ (w .loop .inv .2) f .1)
-    (taken-part k _ _ (h .order) (h .inside) (w .loop .at) _ _ (w .loop .inv .2) f _ (value (c .before)))
+    (taken-inside _ _ (h .wrapped) k _ _ (h .order) (h .inside) (w .loop .at) _ _ f .1)
+    (taken-part _ _ (h .wrapped) k _ _ (h .order) (h .inside) (w .loop .at) _ _ f _ (value (c .before)))
 
 room : (c : tie.After-entry Inv-loop μ-loop) → c .before .before .before .before .before .before .loop .n < limits .wrapKeys
 room c = omega (arith, c .before .before .before .before .before .before .loop .inv .3, ap length (first (c .before)))
@@ -149,9 +148,9 @@ loop-again c =
       f .inside,
       f .rest,
       omega (arith, l .inv .3, ap length e),
-      gathered-next (now (a .kd)) (l .places) (l .n) (bagKeys (drop (v .1 .0) s)) (bagKeys s) (c .entry .result)
+      gathered-next (now (a .kd)) (l .places) (l .n) (bagKeys (a .meaning) (a .place) (drop (v .1 .0) s)) (bagKeys (a .meaning) (a .place) s) (c .entry .result)
           (wrapKeyOf (now (c .before .attribute-value .result)))
-          (subst (λ (x : List WrapKey). Gathered (now (a .kd)) (l .places) (l .n) x (bagKeys s)) e (l .inv .4))
+          (subst (λ (x : List WrapKey). Gathered (now (a .kd)) (l .places) (l .n) x (bagKeys (a .meaning) (a .place) s)) e (l .inv .4))
           (room c) (omega (arith, l .inv .0, room c)) (is c),
     )
 
@@ -159,15 +158,15 @@ enum-told : tie.Need-enum-told Inv-loop μ-loop
 enum-told c = search needs
 
 returns : tie.Need-returns Inv-loop μ-loop
-returns c =
+returns c l h =
     let w = c .before .before .before in
     let st = w .before .before .before .before in
     let k = now (st .args .kd) in
     let u = w .loop in
     let s = part k (st .args .bag .start) (st .args .bag .end) in
-    let f = subst (FindsValue meaning.WrapKey MemberBag s (u .at)) (c .enum-told .given .1) (c .before .before .next-attribute .ensures) in
-    subst (Lists k (u .places) (u .n)) (sym (st .pre .0 .keys))
-    (gathered-all k (u .places) (u .n) (bagKeys (drop (u .at) s)) (bagKeys s) (u .inv .4) (ap (map wrapKeyOf) (f .0)))
+    let f = subst (FindsValue (st .args .meaning) (st .args .place) s (u .at)) (c .enum-told .given .1) (c .before .before .next-attribute .ensures) in
+    subst (Lists k (u .places) (u .n)) (sym (h .keys))
+    (gathered-all k (u .places) (u .n) (bagKeys (st .args .meaning) (st .args .place) (drop (u .at) s)) (bagKeys (st .args .meaning) (st .args .place) s) (u .inv .4) (ap (map wrapKeyOf) (f .0)))
 
 pub entries-spec : {M : Type 1} → statement M
 entries-spec =

@@ -1,0 +1,4 @@
+pub mod HeldLaws
+pub mod Blocks
+pub mod Filling
+pub mod Naming
