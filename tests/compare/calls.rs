@@ -9,7 +9,7 @@ use reference::member::is_wrap_key_size;
 use reference::trace;
 
 /// What must occur.
-pub const ALL: [&str; 8] = [
+pub const ALL: [&str; 11] = [
     "sweep that removes",
     "sweep that removes nothing",
     "leaving",
@@ -18,6 +18,9 @@ pub const ALL: [&str; 8] = [
     "question: an SA that is due",
     "question: a live SA",
     "question: a retiring SA",
+    "a member with the profile",
+    "a line of a sealed frame",
+    "journal",
 ];
 
 const PERCENT: usize = 25;
@@ -37,6 +40,11 @@ impl Writer<'_> {
                 _ => self.question(),
             }
         }
+    }
+
+    /// A member with the profile in the place of the new one.
+    pub fn profile(&mut self) {
+        self.line(b"p01".to_vec(), "a member with the profile".to_string());
     }
 
     /// Leaves, and takes a lent key that fits.
@@ -112,7 +120,8 @@ impl Writer<'_> {
             line[at] = self.scene.rng.pick(b"AFgx \r\0\xff");
         }
         // The run goes on with the member and the lent key that it has.
-        if line == b"l" || trace::call(&mut self.scene.member.clone(), &mut Vec::new(), &line).is_some() && letter == b'k' {
+        let is_call = trace::call(&mut self.scene.member.clone(), &mut Vec::new(), &line).is_some();
+        if is_call && matches!(letter, b'k' | b'l' | b'p') {
             return;
         }
         self.line(line, "nearly a call".to_string());
@@ -129,6 +138,9 @@ impl Writer<'_> {
             (b's', _) => ALL[1],
             (b'l', _) => ALL[2],
             (b'k', _) => ALL[3],
+            (b'p', _) => ALL[8],
+            (b'x', _) => ALL[9],
+            (b'j', _) => ALL[10],
             (_, "none") => ALL[4],
             _ if asked() => ALL[5],
             (_, found) if found.contains(" live ") => ALL[6],

@@ -11,6 +11,8 @@ pub const MOST_WRAP_KEYS: usize = 128;
 pub const MOST_HELD: usize = 128;
 pub const MOST_SA_KEYS: usize = 32;
 pub const MOST_DELETED: usize = 32;
+/// Of a frame (T-11).
+pub const MOST_FRESH_KEYS: usize = 128;
 /// Of a lifetime (T-07).
 pub const MOST_SECONDS: u32 = 2_000_000;
 

@@ -9,14 +9,18 @@
 mod calls;
 mod case;
 mod damage;
+mod fresh;
 mod inband;
 mod limits;
 mod lives;
+mod orders;
 mod paths;
 mod programs;
+mod rearrange;
 mod runs;
 mod scene;
 mod script;
+mod sealed;
 mod tally;
 mod violations;
 
@@ -78,7 +82,7 @@ fn compare(arguments: &Arguments) -> Result<(), String> {
     for program in &arguments.programs {
         for case in cases.iter().filter(|case| Kind::of(case) == program.kind) {
             let input = std::fs::read(case).map_err(|error| format!("{}: {error}", case.display()))?;
-            program.agrees(&input)?.map_or(Ok(()), |at| Err(format!("{} differs: {}", case.display(), at.text)))?;
+            program.compared(&input)?.difference.map_or(Ok(()), |at| Err(format!("{} differs: {}", case.display(), at.text)))?;
         }
         compare_scripts(program, arguments)?;
     }
@@ -88,17 +92,21 @@ fn compare(arguments: &Arguments) -> Result<(), String> {
 fn compare_scripts(program: &Program, arguments: &Arguments) -> Result<(), String> {
     let start = Instant::now();
     let mut tally = Tally::default();
-    let mut in_program = Duration::ZERO;
+    let (mut in_program, mut in_orders) = (Duration::ZERO, Duration::ZERO);
     for seed in arguments.first_seed..arguments.first_seed + arguments.count {
         let script = script(seed, program.kind, &mut tally);
         let before = Instant::now();
-        let difference = program.agrees(&script.input)?;
+        let compared = program.compared(&script.input)?;
         in_program += before.elapsed();
-        if let Some(at) = difference {
+        if let Some(at) = compared.difference {
             return Err(programs::keep(seed, program.kind, &script, at)?);
         }
+        let before = Instant::now();
+        orders::all(program, seed, &script, &compared.printed, &mut tally)?;
+        in_orders += before.elapsed();
     }
     print(program, &tally, arguments, start.elapsed(), in_program);
+    orders::print(&tally, in_orders);
     verdict(&tally, program.kind, arguments.count)
 }
 
@@ -177,6 +185,8 @@ fn print_counts(tally: &Tally) {
         ("accepted frames that leave or use", &tally.limits),
         ("lifetimes:", &tally.lives),
         ("paths:", &tally.paths),
+        ("fresh keys:", &tally.fresh),
+        ("frames that came", &tally.sealed),
     ];
     for (what, counts) in counted {
         if !counts.is_empty() {
@@ -202,7 +212,15 @@ fn verdict(tally: &Tally, kind: Kind, count: u64) -> Result<(), String> {
     let breaks = damage::KINDS.iter().map(|(name, _)| *name).filter(|name| !tally.breaks.contains_key(name));
     let lives = lives::MET.into_iter().filter(|name| !tally.lives.contains_key(name));
     let paths = paths::MET.into_iter().filter(|name| !tally.paths.contains_key(name));
-    match (missing.next(), limits.chain(breaks).chain(lives).chain(paths).next()) {
+    let mut still = rearrange::numbers().filter(|number| !tally.orders.contains_key(number));
+    let moves = rearrange::MOVED.into_iter().filter(|what| !tally.moves.contains_key(what));
+    if let Some((exchange, number)) = still.next().filter(|_| count >= ENOUGH) {
+        return Err(format!("no {exchange} in another order was given {number}"));
+    }
+    let fresh = fresh::MET.into_iter().filter(|name| kind == Kind::Trace && !tally.fresh.contains_key(name));
+    let sealed = sealed::MET.into_iter().chain(sealed::BREAKS.iter().map(|one| one.name));
+    let sealed = sealed.filter(|name| kind == Kind::Trace && !tally.sealed.contains_key(name));
+    match (missing.next(), limits.chain(breaks).chain(lives).chain(paths).chain(moves).chain(fresh).chain(sealed).next()) {
         (Some(name), _) if count >= ENOUGH => Err(format!("never occurred alone: {name}")),
         (_, Some(name)) if count >= ENOUGH => Err(format!("never occurred: {name}")),
         _ => Ok(()),

@@ -22,6 +22,8 @@ pub struct Script {
     pub input: Vec<u8>,
     /// For each line after the first how it was made.
     pub labels: Vec<String>,
+    /// For each line after the first the number that the second member gives it, if it has a frame.
+    pub answers: Vec<Option<u8>>,
 }
 
 /// How much of each a script has; the walks over the violations and their pairs go on from seed to seed.
@@ -40,6 +42,7 @@ pub struct Writer<'t> {
     pub tracing: bool,
     pub lines: Vec<Vec<u8>>,
     labels: Vec<String>,
+    answers: Vec<Option<u8>>,
     pub tally: &'t mut Tally,
     pub seed: u64,
 }
@@ -47,6 +50,9 @@ pub struct Writer<'t> {
 pub fn script(seed: u64, kind: Kind, tally: &mut Tally) -> Script {
     let mut writer = Writer::new(seed, kind, tally);
     writer.scene.lives = share(seed);
+    if kind == Kind::Trace && seed % 2 == 1 {
+        writer.profile();
+    }
     match seed % 16 {
         7 => writer.hostile_first_line(),
         11 => writer.without_rekey_sa(),
@@ -80,12 +86,15 @@ impl<'t> Writer<'t> {
         let tick = rng.pick(&[0, 1000, 0x7fff_ff00, u32::MAX - 500]);
         let lines = vec![hex(&lent)];
         let scene = Scene { rng, lent, member: Member::new(), tick, sizes: Sizes::SMALL, tree: Vec::new(), lives: 0 };
-        Writer { scene, tracing: kind == Kind::Trace, lines, labels: Vec::new(), tally, seed }
+        Writer { scene, tracing: kind == Kind::Trace, lines, labels: Vec::new(), answers: Vec::new(), tally, seed }
     }
 
-    /// Refused registrations, one that is taken, then rekeys of all kinds.
+    /// Refused registrations, one that is taken, then rekeys of all kinds; every second run of `trace` is journaled.
     fn member_run(&mut self, sizes: Sizes) {
         self.scene.sizes = sizes;
+        if self.tracing && self.seed % 4 >= 2 {
+            self.line(b"j".to_vec(), "journal".to_string());
+        }
         self.violations(Exchange::Registration);
         let shape = Shape { rekey: true, ..self.scene.any_shape() };
         self.registers(shape);
@@ -105,6 +114,10 @@ impl<'t> Writer<'t> {
                 waiting.retain(|violation| !self.single(violation, *exchange));
                 self.pairs(*exchange, turn, REKEYS);
                 self.disturbances(*exchange);
+            }
+            if self.tracing {
+                self.fresh_keys();
+                self.sealed_breaks();
             }
             let exchange = if self.scene.rng.chance(INBAND_PERCENT) { Exchange::Inband } else { Exchange::Rekey };
             let shape = self.scene.any_shape();
@@ -227,7 +240,7 @@ impl<'t> Writer<'t> {
         if self.lines.len() > 1 && self.scene.rng.chance(15) {
             let line = self.scene.rng.pick(&self.lines[1..]);
             // The run goes on with the member and the lent key that it has.
-            if !line.starts_with(b"l") && !line.starts_with(b"k") {
+            if !matches!(line.first(), Some(b'l' | b'k' | b'p')) {
                 self.line(line, "once more".to_string());
             }
         }
@@ -259,21 +272,30 @@ impl<'t> Writer<'t> {
 
     /// A frame of any octets, as many as a good line holds.
     fn frame(&mut self, octets: &[u8], label: String) -> u8 {
+        if let Some(sealed) = self.sealed_form(octets) {
+            return self.sealed_line(&sealed, MOST_FRAME, format!("{label}, sealed"));
+        }
         self.line(line(self.scene.tick, octets), label).expect("a good line")
     }
 
     /// Adds the line, and takes the member through it; None for a bad one.
     pub fn line(&mut self, line: Vec<u8>, label: String) -> Option<u8> {
         let frame = text::tick_and_frame(&line);
-        let broken = frame.as_ref().and_then(|(_, frame)| layout::frame(frame).err());
+        let broken = frame.as_ref().and_then(|(_, frame)| layout::frame(frame, self.scene.member.profile).err());
         broken.into_iter().for_each(|broken| self.tally.broken(broken));
         let answer = frame.map(|(tick, frame)| self.scene.member.take(&self.scene.lent, tick, &frame).number);
         if answer.is_some() || !self.tracing || !self.other_call(&line) {
             self.tally.answer(answer);
         }
+        self.push(line, label, answer);
+        answer
+    }
+
+    /// Adds the line with the number of its opened frame, if it has one.
+    pub fn push(&mut self, line: Vec<u8>, label: String, answer: Option<u8>) {
         self.lines.push(line);
         self.labels.push(label);
-        answer
+        self.answers.push(answer);
     }
 
     fn finish(mut self) -> Script {
@@ -282,7 +304,7 @@ impl<'t> Writer<'t> {
         if self.lines.last().is_some_and(Vec::is_empty) || self.scene.rng.chance(70) {
             input.push(b'\n');
         }
-        Script { input, labels: self.labels }
+        Script { input, labels: self.labels, answers: self.answers }
     }
 }
 

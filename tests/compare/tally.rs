@@ -1,6 +1,7 @@
 //! What was generated: answers, violations alone and in pairs, and what turned out other than claimed.
 
 use crate::damage::KINDS;
+use crate::rearrange::{exchange, Rearranged};
 use crate::violations::Violation;
 use reference::layout::Broken;
 use std::collections::{BTreeMap, BTreeSet};
@@ -19,12 +20,23 @@ pub struct Tally {
     pub lives: BTreeMap<&'static str, usize>,
     /// How often the path mattered (`paths::MET`).
     pub paths: BTreeMap<&'static str, usize>,
+    /// How often fresh tree keys mattered (`fresh::MET`).
+    pub fresh: BTreeMap<&'static str, usize>,
+    /// How often sealed frames came to what they must (`sealed::MET`, `sealed::BREAKS`).
+    pub sealed: BTreeMap<&'static str, usize>,
     pub alone: BTreeMap<&'static str, usize>,
     pub paired: BTreeMap<&'static str, usize>,
     pub pairs: BTreeSet<(&'static str, &'static str)>,
     /// Pairs that gave the lower number of the two.
     pub pairs_as_lower: usize,
     pub pairs_done: usize,
+    /// How often a frame of an exchange and number was handed in in another order that really moved something.
+    pub orders: BTreeMap<(&'static str, u8), usize>,
+    /// How often each of `rearrange::MOVED` was moved.
+    pub moves: BTreeMap<&'static str, usize>,
+    /// How many frames were handed in in another order, those among them that stayed as they were.
+    pub rearranged: usize,
+    pub unmoved: usize,
     pub complaints: Vec<String>,
 }
 
@@ -55,6 +67,14 @@ impl Tally {
         *self.paths.entry(name).or_default() += 1;
     }
 
+    pub fn fresh(&mut self, name: &'static str) {
+        *self.fresh.entry(name).or_default() += 1;
+    }
+
+    pub fn sealed(&mut self, name: &'static str) {
+        *self.sealed.entry(name).or_default() += 1;
+    }
+
     pub fn alone(&mut self, name: &'static str) {
         *self.alone.entry(name).or_default() += 1;
     }
@@ -65,6 +85,15 @@ impl Tally {
         self.pairs.insert((a.name, b.name));
         self.pairs_done += 1;
         self.pairs_as_lower += (answer == a.number.min(b.number)) as usize;
+    }
+
+    pub fn rearranged(&mut self, frame: &[u8], number: u8, other: &Rearranged) {
+        self.rearranged += 1;
+        self.unmoved += (frame == other.octets) as usize;
+        other.moved.iter().for_each(|what| *self.moves.entry(what).or_default() += 1);
+        if let Some(exchange) = exchange(frame).filter(|_| frame != other.octets) {
+            *self.orders.entry((exchange, number)).or_default() += 1;
+        }
     }
 
     pub fn complain(&mut self, complaint: String) {

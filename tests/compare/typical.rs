@@ -62,6 +62,13 @@ pub fn lifetime(seconds: u32) -> Attribute {
     Attribute::long(1, &seconds.to_be_bytes())
 }
 
+/// Document 02's private attribute for a fresh tree key (T-11).
+pub const FRESH_KEY: u16 = 16_385;
+
+pub fn fresh_key(key_id: u32, kwk_id: u32, wrapped: &[u8]) -> Attribute {
+    Attribute::long(FRESH_KEY, &[&key_id.to_be_bytes(), &kwk_id.to_be_bytes(), wrapped].concat())
+}
+
 pub fn bag(protocol: u8, spi: &[u8], keys: Vec<Attribute>) -> Part {
     Part { attributes: keys, ..Part::named(protocol, spi) }
 }

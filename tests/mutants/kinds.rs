@@ -68,7 +68,7 @@ const BY_HAND: [(&str, &str, &str, &str); 35] = [
     ("left out", "member", "Some(request.initial_id.unwrap_or(0))", "Some(0)"),
     ("left out", "judging", "message_id: frame.message_id,", "message_id: 0,"),
     ("left out", "judging", "deleted: self.deletes.iter().flat_map(|delete| delete.spis.chunks_exact(4)).collect(),", "deleted: vec![],"),
-    ("left out", "judging", "wrap_keys: self.wrap_keys().copied().collect(),", "wrap_keys: vec![],"),
+    ("left out", "judging", "entries: self.wrap_keys().chain(self.fresh_keys()).copied().collect(),", "entries: vec![],"),
     ("left out", "judging", "map(|policy| (policy.protocol, policy.spi))", "map(|policy| (0, policy.spi))"),
     ("left out", "judging", "map(|bag| (bag.protocol, bag.spi))", "map(|bag| (0, bag.spi))"),
     ("left out", "judging", "policy.protocol == sa.protocol && policy.spi == sa.spi", "policy.spi == sa.spi"),

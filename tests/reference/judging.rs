@@ -1,13 +1,12 @@
 //! Refusals 2 to 7, on a frame whose layout is whole. Each is judged only when the lower ones do not apply.
 
 use crate::layout::{Bag, Delete, Frame, GroupBag, Payload, Policy, SaPolicy, Selector, Transform, WrappedKey};
-use crate::layout::{AH, ENCRYPTION, ESP, REKEY};
+use crate::layout::{AH, ENCRYPTION, ESP, GSA_REKEY, REKEY};
 use crate::member::{is_wrap_key_size, Member, MOST_HELD, MOST_SAS};
 
 /// Exchange types (001, section 9).
 const GSA_AUTH: u8 = 39;
 const GSA_REGISTRATION: u8 = 40;
-const GSA_REKEY: u8 = 41;
 const GSA_INBAND_REKEY: u8 = 42;
 
 /// Further transform types; 13 and 14 are 001's, section 4.4.2.1.
@@ -23,13 +22,16 @@ pub const MOST_SECONDS: u32 = 2_000_000;
 /// Document 01; T-01 does not name them.
 const MOST_SA_KEYS: usize = 32;
 const MOST_DELETED: usize = 32;
+/// Document 02, T-11.
+const MOST_FRESH_KEYS: usize = 128;
 
 /// What a frame that numbers 1 to 7 do not refuse asks for.
 pub struct Request<'f> {
     pub exchange: Exchange,
     pub message_id: u32,
     pub announced: Vec<Announced<'f>>,
-    pub wrap_keys: Vec<WrappedKey<'f>>,
+    /// Of a registration WRAP_KEYs, of a rekey fresh tree keys (document 02, T-11).
+    pub entries: Vec<WrappedKey<'f>>,
     pub deleted: Vec<&'f [u8]>,
     pub delay: u16,
     /// GSA_INITIAL_MESSAGE_ID of the Rekey policy.
@@ -170,6 +172,10 @@ impl<'a, 'f> Parts<'a, 'f> {
         self.member_bags.iter().copied().flatten()
     }
 
+    fn fresh_keys(&self) -> impl Iterator<Item = &'a WrappedKey<'f>> + '_ {
+        self.bags.iter().copied().flat_map(|bag| &bag.fresh_keys)
+    }
+
     /// Number 4.
     fn break_rules(&self, exchange: Exchange) -> bool {
         let only_delete = exchange == Exchange::Rekey && !self.deletes.is_empty();
@@ -211,14 +217,15 @@ impl<'a, 'f> Parts<'a, 'f> {
         known.any(|sa| self.policies.iter().any(|policy| policy.protocol == sa.protocol && policy.spi == sa.spi))
     }
 
-    /// Number 6: counts, Key IDs and KWK IDs. A WRAP_KEY whose Key ID equals its KWK ID is document 02's, T-09.
+    /// Number 6: counts, Key IDs and KWK IDs. A WRAP_KEY whose Key ID equals its KWK ID is document 02's, T-09; fresh tree keys are T-11's.
     fn keys_are_named_well(&self, exchange: Exchange) -> bool {
         let bag_fits = |bag: &GroupBag| {
             let count = bag.sa_keys.len();
             let count_fits = if bag.protocol == REKEY && exchange == Exchange::Rekey { count > 0 } else { count == 1 };
             count_fits && bag.sa_keys.iter().all(|key| key.key_id == 0 && (bag.protocol == REKEY || key.kwk_id == 0))
         };
-        self.bags.iter().all(|bag| bag_fits(bag)) && self.wrap_keys().all(|key| key.key_id != 0 && key.key_id != key.kwk_id)
+        let mut entries = self.wrap_keys().chain(self.fresh_keys());
+        self.bags.iter().all(|bag| bag_fits(bag)) && entries.all(|key| key.key_id != 0 && key.key_id != key.kwk_id)
     }
 
     /// Number 7.
@@ -228,6 +235,7 @@ impl<'a, 'f> Parts<'a, 'f> {
         let staying = member.table.iter().filter(|sa| !sa.is_due(tick)).count();
         esp_policies > MOST_ESP_POLICIES
             || self.wrap_keys().count() > MOST_WRAP_KEYS
+            || self.fresh_keys().count() > MOST_FRESH_KEYS
             || self.bags.iter().any(|bag| bag.sa_keys.len() > MOST_SA_KEYS)
             || deleted > MOST_DELETED
             || staying + self.policies.len() > MOST_SAS
@@ -252,7 +260,7 @@ impl<'a, 'f> Parts<'a, 'f> {
                     copies: copies(policy),
                 })
                 .collect(),
-            wrap_keys: self.wrap_keys().copied().collect(),
+            entries: self.wrap_keys().chain(self.fresh_keys()).copied().collect(),
             deleted: self.deletes.iter().flat_map(|delete| delete.spis.chunks_exact(4)).collect(),
             delay: self.group_wide.iter().copied().flatten().copied().next().unwrap_or(0),
             initial_id: self.rekey_policies().flat_map(|policy| &policy.initial_ids).copied().next(),

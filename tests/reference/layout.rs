@@ -20,6 +20,9 @@ const KEY_LIFETIME: u16 = 1; // GSA_KEY_LIFETIME, in every Group SA policy
 const INITIAL_MESSAGE_ID: u16 = 2; // GSA_INITIAL_MESSAGE_ID, in a Rekey policy
 const DEACTIVATION_DELAY: u16 = 2; // GWP_DTD, in a group-wide policy
 const WRAPPED_KEY: u16 = 1; // SA_KEY in a Group Key Bag, WRAP_KEY in a Member Key Bag
+const FRESH_KEY: u16 = 16_385; // document 02's private attribute (T-11), in a Rekey SA's Group Key Bag
+
+pub const GSA_REKEY: u8 = 41; // an exchange type (001, section 9)
 
 pub struct Frame<'f> {
     /// Initiator's and responder's SPI, 16 octets: the SPI of a Rekey SA in a GSA_REKEY.
@@ -77,6 +80,8 @@ pub struct GroupBag<'f> {
     pub protocol: u8,
     pub spi: &'f [u8],
     pub sa_keys: Vec<WrappedKey<'f>>,
+    /// Fresh tree keys (document 02, T-11).
+    pub fresh_keys: Vec<WrappedKey<'f>>,
 }
 
 #[derive(Clone, Copy)]
@@ -92,10 +97,12 @@ pub struct Delete<'f> {
     pub spis: &'f [u8],
 }
 
-pub fn frame(octets: &[u8]) -> Read<Frame<'_>> {
+/// With the profile (document 02, T-11) fresh tree keys are read in a GSA_REKEY.
+pub fn frame(octets: &[u8], profile: bool) -> Read<Frame<'_>> {
     let mut rest = Octets { octets, at: 0 };
     let (mut frame, first_payload) = header(&mut rest).ok_or(IN_HEADER)?;
-    frame.payloads = payloads(first_payload, rest)?;
+    let fresh = profile && frame.exchange == GSA_REKEY;
+    frame.payloads = payloads(first_payload, rest, fresh)?;
     Ok(frame)
 }
 
@@ -114,12 +121,12 @@ fn header<'f>(rest: &mut Octets<'f>) -> Option<(Frame<'f>, u8)> {
 }
 
 /// A payload that is named and of which no octet is there, and octets behind the last one, count for the header.
-fn payloads(first: u8, mut rest: Octets) -> Read<Vec<Payload>> {
+fn payloads(first: u8, mut rest: Octets, fresh: bool) -> Read<Vec<Payload>> {
     let mut all = Vec::new();
     let mut kind = first;
     while kind != 0 {
         rest.must_begin(IN_HEADER)?;
-        let (next, payload) = payload(kind, &mut rest)?;
+        let (next, payload) = payload(kind, &mut rest, fresh)?;
         all.push(payload);
         kind = next;
     }
@@ -130,7 +137,7 @@ fn payloads(first: u8, mut rest: Octets) -> Read<Vec<Payload>> {
 }
 
 /// The type of the next payload, and this one. The body of a Delete payload is the payload's own.
-fn payload<'f>(kind: u8, rest: &mut Octets<'f>) -> Read<(u8, Payload<'f>)> {
+fn payload<'f>(kind: u8, rest: &mut Octets<'f>, fresh: bool) -> Read<(u8, Payload<'f>)> {
     let broken = rest.broken(Kind::Payload);
     let mut own = || {
         let next = rest.number1()?;
@@ -144,7 +151,7 @@ fn payload<'f>(kind: u8, rest: &mut Octets<'f>) -> Read<(u8, Payload<'f>)> {
         (_, Some(delete)) => Payload::Delete(delete),
         (36 | 37 | 39 | 41, _) => Payload::Unread,
         (51, _) => Payload::Gsa(body.each(policy)?),
-        (52, _) => Payload::Kd(body.each(bag)?),
+        (52, _) => Payload::Kd(body.each(if fresh { bag_with_fresh_keys } else { bag })?),
         _ => Payload::Unknown { critical },
     };
     Ok((next, payload))
@@ -233,12 +240,29 @@ fn transform_fields<'f>(rest: &mut Octets<'f>) -> Option<(bool, u8, u16, Octets<
 }
 
 fn bag<'f>(rest: &mut Octets<'f>) -> Read<Bag<'f>> {
+    bag_of(rest, |_| false)
+}
+
+/// Document 02, T-11: "private attribute 16385 in the Rekey SA's Group Key Bag, with WRAP_KEY's layout".
+fn bag_with_fresh_keys<'f>(rest: &mut Octets<'f>) -> Read<Bag<'f>> {
+    bag_of(rest, |protocol| protocol == REKEY)
+}
+
+fn bag_of<'f>(rest: &mut Octets<'f>, has_fresh_keys: fn(u8) -> bool) -> Read<Bag<'f>> {
     let broken = rest.broken(Kind::Bag);
     let (protocol, spi, mut rest) = part(rest).ok_or(broken)?;
-    let keys = rest.attributes_of(Some(WRAPPED_KEY), wrapped_key)?;
+    let (mut keys, mut fresh_keys) = (Vec::new(), Vec::new());
+    rest.attributes(|kind, value| {
+        match kind {
+            WRAPPED_KEY => keys.push(wrapped_key(value)?),
+            FRESH_KEY if has_fresh_keys(protocol) => fresh_keys.push(wrapped_key(value)?),
+            _ => {}
+        }
+        Some(())
+    })?;
     Ok(match protocol {
         0 => Bag::Member { wrap_keys: keys },
-        _ => Bag::Group(GroupBag { protocol, spi, sa_keys: keys }),
+        _ => Bag::Group(GroupBag { protocol, spi, sa_keys: keys, fresh_keys }),
     })
 }
 

@@ -1,12 +1,16 @@
 //! What a member is, and what it is after an accepted frame, a sweep and leaving.
 
 use crate::judging::{judge, Exchange, Need, Request, MOST_SECONDS};
-use crate::layout::{frame, Frame, ESP, REKEY};
+use crate::layout::{frame, Frame, ESP, MOST_FRAME, REKEY};
 use crate::reach::Keys;
+use crate::sealing::{is_outer, open_frame};
 
 /// Document 02's figures, T-01.
 pub const MOST_SAS: usize = 64;
 pub const MOST_HELD: usize = 128;
+
+/// An exchange type (001, section 9).
+const GSA_REKEY: u8 = 41;
 
 #[derive(Clone, Debug, PartialEq)]
 pub struct Member {
@@ -16,6 +20,8 @@ pub struct Member {
     pub held: Vec<(u32, Vec<u8>)>,
     /// The least acceptable Message ID, or none any more.
     pub least_id: Option<u32>,
+    /// Fresh tree keys of a rekey are read (document 02, T-11).
+    pub profile: bool,
 }
 
 #[derive(Clone, Debug, PartialEq)]
@@ -83,6 +89,11 @@ impl Sa {
         self.condition == Condition::Live
     }
 
+    /// GSK_e of a Rekey SA (001, section 3.4).
+    pub fn encryption_key(&self) -> &[u8] {
+        self.keying.get(..self.encryption).unwrap_or(&[])
+    }
+
     /// GSK_w of a Rekey SA: what follows GSK_e (001, section 3.4; with AES-GCM-16 there is no GSK_a).
     pub fn default_key(&self) -> &[u8] {
         self.keying.get(self.encryption..).unwrap_or(&[])
@@ -107,7 +118,11 @@ impl Default for Member {
 
 impl Member {
     pub fn new() -> Member {
-        Member { table: Vec::new(), held: Vec::new(), least_id: Some(0) }
+        Member::with_profile(false)
+    }
+
+    pub fn with_profile(profile: bool) -> Member {
+        Member { table: Vec::new(), held: Vec::new(), least_id: Some(0), profile }
     }
 
     /// Whether the value keeps document 01's list of what a member is.
@@ -136,9 +151,25 @@ impl Member {
 
     /// Registers or rekeys by an opened frame. The number is 0, or that of the refusal, which changes nothing.
     pub fn take(&mut self, lent: &[u8], tick: u32, octets: &[u8]) -> Answer {
-        match frame(octets) {
+        match frame(octets, self.profile) {
             Err(broken) => Answer { number: 1, offset: broken.at },
             Ok(frame) => Answer { number: self.try_take(lent, tick, &frame).err().unwrap_or(0), offset: 0 },
+        }
+    }
+
+    /// Receives a sealed frame (document 02, T-05): outer 1, 2 and 10, then what was opened, which the room then starts with.
+    pub fn take_sealed(&mut self, room: &mut [u8], tick: u32, octets: &[u8]) -> Answer {
+        if !is_outer(octets) {
+            return Answer { number: 1, offset: 0 };
+        }
+        let over = |sa: &&Sa| self.is_whole() && octets[18] == GSA_REKEY && sa.spi == octets[..16] && !sa.is_due(tick);
+        let Some(sa) = self.live_rekey().filter(over) else { return Answer { number: 2, offset: 0 } };
+        match open_frame(sa.encryption_key(), octets).filter(|_| room.len() >= MOST_FRAME) {
+            None => Answer { number: 10, offset: 0 },
+            Some(opened) => {
+                room[..opened.len()].copy_from_slice(&opened);
+                self.take(&[], tick, &opened)
+            }
         }
     }
 
@@ -146,24 +177,42 @@ impl Member {
         let request = judge(frame, self, tick, lent)?;
         let mut keys = self.keys(lent, &request)?;
         let sa_keys = keys.sa_keys(&request.announced)?;
+        let held = self.held_after(&request, &mut keys)?;
         self.enter(&request, tick, sa_keys);
-        if request.exchange == Exchange::Registration {
-            let copy = request.announced.iter().find(|sa| sa.protocol == REKEY).and_then(|sa| sa.copies.first());
-            self.held = copy.map_or(Vec::new(), |copy| keys.path(copy.kwk_id));
-        }
+        self.held = held;
         Ok(())
+    }
+
+    /// The held list after acceptance (document 02, T-04 and T-11). A new path goes before the held key it ends on; the keys ahead of that
+    /// one go, and so do those that the path has. One over the limit is 7.
+    fn held_after(&self, request: &Request, keys: &mut Keys) -> Result<Vec<(u32, Vec<u8>)>, u8> {
+        let before: &[(u32, Vec<u8>)] = if request.exchange == Exchange::Registration { &[] } else { &self.held };
+        let rekey = request.announced.iter().find(|sa| sa.protocol == REKEY);
+        let Some(path) = rekey.and_then(|sa| keys.path(&sa.copies)).filter(|path| !path.keys.is_empty()) else {
+            return Ok(before.to_vec());
+        };
+        let is_on_path = |id: u32| path.keys.iter().any(|(other, _)| *other == id);
+        let behind = before.iter().skip_while(|(id, _)| *id != path.end);
+        let stays: Vec<_> = behind.filter(|(id, _)| !is_on_path(*id)).cloned().collect();
+        let held = [path.keys, stays].concat();
+        if held.len() > MOST_HELD {
+            return Err(7);
+        }
+        Ok(held)
     }
 
     /// The keys under which copies may open.
     fn keys(&self, lent: &[u8], request: &Request) -> Result<Keys, u8> {
-        if request.exchange == Exchange::Rekey {
-            let mut keys = Keys::default_key(self.live_rekey().map_or(&[], Sa::default_key));
-            self.held.iter().for_each(|(id, value)| keys.add(*id, value));
-            return Ok(keys);
-        }
-        // Over the member's own channel there is no WRAP_KEY, so key 0 is the only one.
-        let mut keys = Keys::default_key(lent);
-        keys.follow(&request.wrap_keys)?;
+        let is_carried = |id: u32| request.entries.iter().any(|entry| entry.key_id == id);
+        let mut keys = match request.exchange {
+            Exchange::Rekey => {
+                let default_key = self.live_rekey().map_or(&[][..], Sa::default_key);
+                Keys::starting(default_key, self.held.iter().filter(|(id, _)| !is_carried(*id)))
+            }
+            // Over the member's own channel there is no entry, so key 0 is the only one.
+            Exchange::Registration | Exchange::Inband => Keys::starting(lent, [].iter()),
+        };
+        keys.follow(&request.entries)?;
         Ok(keys)
     }
 
@@ -208,6 +257,6 @@ impl Member {
     }
 
     pub fn leave(&mut self) {
-        *self = Member::new();
+        *self = Member::with_profile(self.profile);
     }
 }

@@ -7,11 +7,28 @@ use crate::judging::Announced;
 use crate::keywrap;
 use crate::layout::WrappedKey;
 
-/// Keys that open: key 0 and the reached or held ones, each with one value.
+/// Keys that open: key 0, held ones and reached ones, each with one value.
 pub struct Keys {
     keys: Vec<Key>,
+    /// How many of them a chain starts with: the first ones.
+    starts: usize,
     /// Key ID and KWK ID of each entry that opened.
     opened: Vec<(u32, u32)>,
+}
+
+/// The Key IDs of a chain, from the last back to the first, and that of the key it starts with, which is not counted. Of several the one
+/// with fewest keys is least, then the one whose Key IDs are smallest, compared number by number, then the one with the smaller end.
+#[derive(PartialEq, Eq, PartialOrd, Ord)]
+struct Chain {
+    count: usize,
+    ids: Vec<u32>,
+    end: u32,
+}
+
+/// The keys of a chain, from the one that opens a copy on, and the Key ID of the default key (0) or held key behind them.
+pub struct Path {
+    pub keys: Vec<(u32, Vec<u8>)>,
+    pub end: u32,
 }
 
 struct Key {
@@ -22,19 +39,21 @@ struct Key {
 }
 
 impl Keys {
-    /// Key 0 alone: the default key.
-    pub fn default_key(value: &[u8]) -> Keys {
-        let mut keys = Keys { keys: Vec::new(), opened: Vec::new() };
-        keys.add(0, value);
+    /// The keys that a chain starts with: the default key as key 0, and held keys.
+    pub fn starting<'h>(default_key: &[u8], held: impl Iterator<Item = &'h (u32, Vec<u8>)>) -> Keys {
+        let mut keys = Keys { keys: Vec::new(), starts: 0, opened: Vec::new() };
+        keys.add(0, default_key);
+        held.for_each(|(id, value)| keys.add(*id, value));
+        keys.starts = keys.keys.len();
         keys
     }
 
-    pub fn add(&mut self, id: u32, value: &[u8]) {
+    fn add(&mut self, id: u32, value: &[u8]) {
         self.keys.push(Key { id, value: value.to_vec(), schedule: None });
     }
 
-    /// Follows the entries from key 0. Each reached key opens the entries that name it, so their order does not matter;
-    /// refused as 8 when a value has not the size of key 0, or a key has two values.
+    /// Follows the entries from the keys so far. Each reached key opens the entries that name it, so their order does not matter;
+    /// refused as 8 when a value has not the size of key 0, or a reached key has two values.
     pub fn follow(&mut self, entries: &[WrappedKey]) -> Result<(), u8> {
         let mut next = 0;
         while next < self.keys.len() {
@@ -56,24 +75,33 @@ impl Keys {
         Ok(())
     }
 
-    /// The chain that opens a copy under this key, from that key back towards key 0, which is not listed (document 02, T-04): of
-    /// several the one with fewest keys, and of these the one whose Key IDs are smallest, compared number by number.
-    pub fn path(&self, kwk_id: u32) -> Vec<(u32, Vec<u8>)> {
+    /// The least chain that opens one of these copies (document 02, T-04 and T-11); None where no copy opens.
+    pub fn path(&mut self, copies: &[WrappedKey]) -> Option<Path> {
+        let opens = |copy: &&WrappedKey| self.key(copy.kwk_id).is_some_and(|key| key.open(copy.wrapped).is_some());
+        let named: Vec<u32> = copies.iter().filter(opens).map(|copy| copy.kwk_id).collect();
+        let chains = self.least_chains();
+        let least = named.iter().filter_map(|id| chains.get(id)).min()?;
         let value = |id: &u32| self.keys.iter().find(|key| key.id == *id).map(|key| (*id, key.value.clone()));
-        self.least_chains().get(&kwk_id).into_iter().flatten().filter_map(value).collect()
+        Some(Path { keys: least.ids.iter().filter_map(value).collect(), end: least.end })
     }
 
-    /// The least chain to each key, as its Key IDs. A chain is made by one entry more at a time, and kept where it is shorter than the one
-    /// kept before, or as long and smaller, until no entry makes such a one.
-    fn least_chains(&self) -> BTreeMap<u32, Vec<u32>> {
-        let mut chains = BTreeMap::from([(0, Vec::new())]);
+    fn key(&mut self, id: u32) -> Option<&mut Key> {
+        self.keys.iter_mut().find(|key| key.id == id)
+    }
+
+    /// The least chain to each key. A chain is made by one entry more at a time, and kept where it is less than the one kept before, until
+    /// no entry makes such a one.
+    fn least_chains(&self) -> BTreeMap<u32, Chain> {
+        let start = |key: &Key| (key.id, Chain { count: 0, ids: Vec::new(), end: key.id });
+        let mut chains: BTreeMap<u32, Chain> = self.keys[..self.starts].iter().map(start).collect();
         let mut settled = false;
         while !settled {
             settled = true;
             for (id, kwk_id) in &self.opened {
                 let Some(before) = chains.get(kwk_id) else { continue };
-                let longer: Vec<u32> = std::iter::once(*id).chain(before.iter().copied()).collect();
-                if chains.get(id).is_none_or(|kept| (longer.len(), &longer) < (kept.len(), kept)) {
+                let ids = std::iter::once(*id).chain(before.ids.iter().copied()).collect();
+                let longer = Chain { count: before.count + 1, ids, end: before.end };
+                if chains.get(id).is_none_or(|kept| longer < *kept) {
                     chains.insert(*id, longer);
                     settled = false;
                 }
@@ -92,7 +120,7 @@ impl Keys {
     fn sa_key(&mut self, announced: &Announced) -> Result<Option<Vec<u8>>, u8> {
         let mut found = None;
         for copy in &announced.copies {
-            let Some(key) = self.keys.iter_mut().find(|key| key.id == copy.kwk_id) else { continue };
+            let Some(key) = self.key(copy.kwk_id) else { continue };
             let Some(octets) = key.open(copy.wrapped) else { continue };
             if octets.len() != announced.need.octets() || found.as_ref().is_some_and(|before| *before != octets) {
                 return Err(8);

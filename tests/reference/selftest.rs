@@ -4,6 +4,8 @@
 mod cipher;
 #[path = "selftest/requests.rs"]
 mod requests;
+#[path = "selftest/sealing.rs"]
+mod sealing;
 
 use builder::typical::*;
 use builder::wrapping::wrap;
@@ -136,7 +138,7 @@ fn sample_default_key() {
 fn sample_key_length() {
     let octets = registration(vec![], vec![]).octets();
     assert!(octets.windows(4).any(|four| four == [0x80, 0x0e, 0x00, 0x80]));
-    let frame = layout::frame(&octets).unwrap();
+    let frame = layout::frame(&octets, false).unwrap();
     let layout::Payload::Gsa(policies) = &frame.payloads[0] else { panic!("no GSA") };
     let layout::Policy::Sa(policy) = &policies[0] else { panic!("no SA policy") };
     assert_eq!(policy.transforms[0].key_lengths, [128]);
@@ -217,11 +219,12 @@ fn values_that_are_no_members() {
     let esp = retiring_sa(0, 0);
     let rekey = Sa { protocol: REKEY, spi: vec![1; 16], keying: keying(36), condition: Condition::Live, ..esp.clone() };
     let other = Sa { spi: vec![2; 16], ..rekey.clone() };
-    assert!(Member { table: vec![esp.clone(), rekey.clone()], held: vec![(1, vec![0; 32])], least_id: None }.is_whole());
+    let two = vec![esp.clone(), rekey.clone()];
+    assert!(Member { table: two, held: vec![(1, vec![0; 32])], least_id: None, profile: true }.is_whole());
     let sas = |count: u8| -> Vec<Sa> { (0..count).map(|i| Sa { spi: vec![0, 0, 0, i], ..esp.clone() }).collect() };
     let keys = |count: u32| -> Vec<(u32, Vec<u8>)> { (1..=count).map(|id| (id, vec![0; 16])).collect() };
     for (count, held) in [(16, 32), (17, 33), (64, 128)] {
-        assert!(Member { table: sas(count), held: keys(held), least_id: None }.is_whole(), "{count} SAs, {held} keys");
+        assert!(Member { table: sas(count), held: keys(held), least_id: None, ..Member::new() }.is_whole(), "{count} SAs, {held} keys");
     }
     let tables = [
         vec![rekey.clone(), esp.clone()],

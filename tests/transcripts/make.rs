@@ -1,17 +1,21 @@
 //! `transcripts DIRECTORY` writes the transcripts: NAME.in (what the program member reads), NAME.out (what it must print) and NAME.about
 //! (a word on each answer). NAME.trace is what the program trace must print for the same input, or for NAME.trace.in, where that has
-//! lines that are no frames. Answers, SAs and keys are written down here by hand, from document 01 and the keys that were wrapped; no
+//! lines that are no frames. NAME.journal is a journal, and NAME.counts what the program journal must print for it. Answers, SAs and keys are written down here by hand, from document 01 and the keys that were wrapped; no
 //! member is asked.
 
 mod calls;
+mod fresh;
 mod inband;
+mod journals;
 mod lifetimes;
 mod meanings;
+mod orders;
 mod parts;
 mod paths;
 mod places;
 mod refusals;
 mod runs;
+mod sealed;
 mod times;
 
 use builder::line::line;
@@ -28,12 +32,14 @@ pub struct Transcript {
     /// What the program trace prints; it is written if the member was put down somewhere.
     trace: String,
     traced: bool,
+    /// What the program journal prints for the input, where that is a journal.
+    counts: Option<String>,
 }
 
 impl Transcript {
     pub fn new(name: &'static str, first_line: &str) -> Transcript {
         let (input, output) = (format!("{first_line}\n").into_bytes(), Some(String::new()));
-        Transcript { name, input, output, about: String::new(), trace: String::new(), traced: false }
+        Transcript { name, input, output, about: String::new(), trace: String::new(), traced: false, counts: None }
     }
 
     /// Lines of `trace`, for which the program member has no answers.
@@ -45,6 +51,12 @@ impl Transcript {
     pub fn of(name: &'static str, input: &[u8], output: &str, about: &str) -> Transcript {
         let (input, output) = (input.to_vec(), Some(output.to_string()));
         Transcript { input, output, about: format!("{about}\n"), ..Transcript::new(name, "") }
+    }
+
+    /// A journal, and what the program journal prints for it.
+    pub fn of_journal(name: &'static str, journal: &str, counts: &str, about: &str) -> Transcript {
+        let (input, about) = (journal.as_bytes().to_vec(), format!("{about}\n"));
+        Transcript { input, output: None, about, counts: Some(counts.to_string()), ..Transcript::new(name, "") }
     }
 
     pub fn frame(&mut self, about: &str, tick: u32, frame: &Frame, answer: &str) {
@@ -78,6 +90,11 @@ impl Transcript {
 
     fn write(&self, directory: &Path) -> std::io::Result<()> {
         let write = |ending: &str, text: &[u8]| std::fs::write(directory.join(format!("{}.{ending}", self.name)), text);
+        if let Some(counts) = &self.counts {
+            write("counts", counts.as_bytes())?;
+            write("about", self.about.as_bytes())?;
+            return write("journal", &self.input);
+        }
         write(if self.output.is_some() { "in" } else { "trace.in" }, &self.input)?;
         if let Some(output) = &self.output {
             write("out", output.as_bytes())?;
@@ -101,9 +118,13 @@ fn main() -> ExitCode {
         lifetimes::all(),
         meanings::all(),
         paths::all(),
+        orders::all(),
+        fresh::all(),
+        sealed::all(),
         refusals::all(),
         places::all(),
         calls::all(),
+        journals::all(),
     ];
     for transcript in all.iter().flatten() {
         if let Err(error) = transcript.write(Path::new(&directory)) {

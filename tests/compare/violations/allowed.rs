@@ -52,8 +52,17 @@ pub const TABLE: &[Violation] = &[
         Some(())
     }),
     any(0, "skipped attributes in bags", |c| {
-        let attributes: Vec<Attribute> = (0..8).map(|_| skipped(c, &[0, 2, 3, 4, 14, 0x4001, 0x7fff])).collect();
+        let attributes: Vec<Attribute> = (0..8).map(|_| skipped(c, &[0, 2, 3, 4, 14, 0x4002, 0x7fff])).collect();
         for (i, bag) in c.bags()?.iter_mut().enumerate() {
+            bag.attributes.insert(0, attributes[i % 8].clone());
+            bag.attributes.push(attributes[(i + 1) % 8].clone());
+        }
+        Some(())
+    }),
+    any(0, "private attributes in any form where they are not read", |c| {
+        let attributes: Vec<Attribute> = (0..8).map(|_| skipped(c, &[FRESH_KEY])).collect();
+        let read = c.frame.exchange == GSA_REKEY && c.member.profile;
+        for (i, bag) in c.bags()?.iter_mut().enumerate().filter(|(_, bag)| !read || bag.protocol != REKEY) {
             bag.attributes.insert(0, attributes[i % 8].clone());
             bag.attributes.push(attributes[(i + 1) % 8].clone());
         }

@@ -2,6 +2,7 @@
 
 use crate::*;
 use reference::member::{Answer, Lifetime};
+use reference::sealing::{seal_frame, Choice};
 
 /// T-09: an entry whose Key ID equals its KWK ID gives 6, reached or not.
 #[test]
@@ -215,4 +216,52 @@ fn lists_without_a_path() {
     let entries = vec![entry(5, &five, 0, &nine), entry(5, &five, 9, &nine), entry(9, &nine, 0, &LENT)];
     assert_eq!(take(&mut member, &LENT, 0, &registration_under(5, &five, entries, vec![]).octets()), 0);
     assert_eq!(held_ids(&member), [5, 9]);
+}
+
+/// T-11: the path goes before the held key it ends on; with the profile off the same frame changes no list.
+#[test]
+fn fresh_tree_keys() {
+    let (five, six, seven, new) = ([5; 16], [6; 16], [7; 16], [8; 16]);
+    let tree = || vec![entry(5, &five, 6, &six), entry(6, &six, 7, &seven), entry(7, &seven, 0, &LENT)];
+    let next = |entries: Vec<Attribute>, kwk_id: u32, kwk: &[u8]| {
+        let copy = Attribute::key(0, kwk_id, &wrap(kwk, &keying(36)));
+        let bag = bag(REKEY, &[7; 16], [entries, vec![copy]].concat());
+        rekey(0, vec![gsa(vec![rekey_policy(&[7; 16], 128, 1)]), kd(vec![bag])]).octets()
+    };
+    let fresh = |id: u32, kwk_id: u32, kwk: &[u8]| fresh_key(id, kwk_id, &wrap(kwk, &new));
+    let registered = |profile: bool| {
+        let mut member = Member::with_profile(profile);
+        assert_eq!(take(&mut member, &LENT, 0, &registration_under(5, &five, tree(), vec![]).octets()), 0);
+        member
+    };
+    let mut member = registered(true);
+    assert_eq!(take(&mut member, &[], 0, &next(vec![fresh(8, 6, &six)], 8, &new)), 0);
+    assert_eq!((held_ids(&member), member.profile), (vec![8, 6, 7], true));
+    let mut member = registered(true);
+    assert_eq!(take(&mut member, &[], 0, &next(vec![fresh(6, 7, &seven)], 6, &six)), 9, "the held 6 is hidden");
+    assert_eq!(take(&mut member, &[], 0, &next(vec![fresh(0, 7, &seven)], 5, &five)), 6);
+    assert_eq!(take(&mut member, &[], 0, &next(vec![fresh(6, 6, &six)], 5, &five)), 6);
+    member.leave();
+    assert_eq!(member, Member::with_profile(true));
+    let mut member = registered(false);
+    assert_eq!(take(&mut member, &[], 0, &next(vec![fresh(6, 7, &seven), fresh(0, 0, &five)], 6, &six)), 0);
+    assert_eq!(held_ids(&member), [5, 6, 7]);
+}
+
+/// T-05: a frame sealed for this member opens to itself; the room is written from 3 on.
+#[test]
+fn sealed_frames() {
+    let mut member = registered(vec![initial_message_id(7)]);
+    let opened = rekey(7, vec![delete(&[vec![0; 4]])]).octets();
+    let choice = Choice { reserved: 0x80, iv: [1; 8], padding: vec![9; 3] };
+    let sealed = seal_frame(&keying(20), &opened, &choice);
+    let mut room = vec![0xa5; 16_384];
+    assert_eq!(member.clone().take_sealed(&mut room[1..], 0, &sealed).number, 10);
+    assert_eq!(member.clone().take_sealed(&mut room, 0, &opened).number, 1);
+    assert_eq!(Member::new().take_sealed(&mut room, 0, &sealed).number, 2);
+    assert!(room.iter().all(|octet| *octet == 0xa5));
+    assert_eq!(member.take_sealed(&mut room, 0, &sealed).number, 0);
+    assert_eq!(room[..opened.len()], opened);
+    assert!(room[opened.len()..].iter().all(|octet| *octet == 0xa5));
+    assert_eq!((member.take_sealed(&mut room, 0, &sealed).number, member.least_id), (3, Some(8)));
 }
