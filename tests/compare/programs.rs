@@ -17,6 +17,12 @@ pub struct Program {
     pub kind: Kind,
 }
 
+/// What the second member prints for an input, and where a program printed something else.
+pub struct Compared {
+    pub printed: Vec<u8>,
+    pub difference: Option<Difference>,
+}
+
 /// Where two outputs differ.
 pub struct Difference {
     /// The number of the line, from 0.
@@ -61,8 +67,8 @@ impl Kind {
 }
 
 impl Program {
-    /// Where the program's output is not the second member's; it must end well too.
-    pub fn agrees(&self, input: &[u8]) -> Result<Option<Difference>, String> {
+    /// Holds the program's output against the second member's; it must end well too.
+    pub fn compared(&self, input: &[u8]) -> Result<Compared, String> {
         let fault = |error: std::io::Error| format!("{}: {error}", self.path.display());
         let mut child = Command::new(&self.path).stdin(Stdio::piped()).stdout(Stdio::piped()).spawn().map_err(fault)?;
         let (mut stdin, mut stdout) = (child.stdin.take().expect("piped"), child.stdout.take().expect("piped"));
@@ -75,14 +81,14 @@ impl Program {
         })
         .map_err(fault)?;
         let status = child.wait().map_err(fault)?;
-        match difference(&ours, &theirs) {
+        match difference("second member", &ours, "program", &theirs) {
             None if !status.success() => Err(format!("{} printed what it must, but ended with {status}", self.path.display())),
-            difference => Ok(difference),
+            difference => Ok(Compared { printed: ours, difference }),
         }
     }
 }
 
-fn difference(ours: &[u8], theirs: &[u8]) -> Option<Difference> {
+pub fn difference(first: &str, ours: &[u8], second: &str, theirs: &[u8]) -> Option<Difference> {
     if ours == theirs {
         return None;
     }
@@ -91,7 +97,7 @@ fn difference(ours: &[u8], theirs: &[u8]) -> Option<Difference> {
     let line = (0..).find(|&line| ours.get(line) != theirs.get(line))?;
     let shown =
         |lines: &[&[u8]]| lines.get(line).map_or("nothing".to_string(), |text| format!("\"{}\"", String::from_utf8_lossy(text)));
-    Some(Difference { line, text: format!("line {}: second member {}, program {}", line + 1, shown(&ours), shown(&theirs)) })
+    Some(Difference { line, text: format!("line {}: {first} {}, {second} {}", line + 1, shown(&ours), shown(&theirs)) })
 }
 
 /// What the second member prints for each line of the input but the first.

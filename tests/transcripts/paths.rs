@@ -12,13 +12,13 @@ pub fn all() -> Vec<Transcript> {
 }
 
 /// Every SA is for so many seconds. The next registration comes when they have run out.
-const LIFE: u32 = 1;
+pub const LIFE: u32 = 1;
 
 /// A WRAP_KEY by its Key ID and its KWK ID.
-type Link = (u32, u32);
+pub type Link = (u32, u32);
 
 /// The value of a key; key 0 is the lent one.
-fn value(id: u32) -> Vec<u8> {
+pub fn value(id: u32) -> Vec<u8> {
     if id == 0 {
         lent()
     } else {
@@ -26,12 +26,12 @@ fn value(id: u32) -> Vec<u8> {
     }
 }
 
-fn tree(links: &[Link]) -> Vec<Attribute> {
+pub fn tree(links: &[Link]) -> Vec<Attribute> {
     links.iter().map(|(id, kwk_id)| entry(*id, value(*id)[0], *kwk_id, &value(*kwk_id))).collect()
 }
 
 /// A Rekey SA with copies of its key under these keys.
-fn sa_under(fill: u8, ids: &[u32]) -> Sa {
+pub fn sa_under(fill: u8, ids: &[u32]) -> Sa {
     let under: Vec<_> = ids.iter().map(|id| (*id, value(*id))).collect();
     for_seconds(rekey_sa(fill, &under), LIFE)
 }

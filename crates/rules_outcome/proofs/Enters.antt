@@ -87,14 +87,14 @@ module _ (b : Sa) where
   in-all (a ∷ m) l i =
       ⊎-elim (λ e. inl (in-head b a m e))
       (λ j. ⊎-elim (λ k. inl (in-tail b a m k)) inr (in-all m l (member-in b (insertAll m l) j)))
-      (inserted-member saBefore a b (insertAll m l) (in-member b (insert saBefore a (insertAll m l)) i))
+      (inserted-member _ a b (insertAll m l) (in-member b _ i))
 
   pub all-in : (m l : List Sa) → In b m ⊎ In b l → In b (insertAll m l)
   unfolding insertAll
   all-in [] l i = ⊎-elim (λ k. absurd (not-in-none b k)) (λ k. k) i
   all-in (a ∷ m) l i =
-      member-in b (insert saBefore a (insertAll m l))
-      (member-inserted saBefore a b (insertAll m l)
+      member-in b _
+      (member-inserted _ a b (insertAll m l)
       (⊎-elim (λ k. ⊎-elim inl (λ j. inr (in-member b (insertAll m l) (all-in m l (inl j)))) (in-cases b a m k))
       (λ k. inr (in-member b (insertAll m l) (all-in m l (inr k)))) i))
 

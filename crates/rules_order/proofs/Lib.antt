@@ -1,0 +1,13 @@
+pub mod AnyExchange
+pub mod AnyExchangeOfBags
+pub mod Stretches
+pub mod Cutting
+pub mod SameBags
+pub mod Permuted
+pub mod Bags
+pub mod Payloads
+pub mod Holding
+pub mod Judging
+pub mod Accepted
+pub mod Order
+pub mod RearrangedKept
