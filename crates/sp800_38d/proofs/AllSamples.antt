@@ -1,25 +1,22 @@
 -- The definitions at known values: inc_32, products, and test case 4 of McGrew and Viega, "The Galois/Counter Mode of Operation (GCM)",
 -- appendix B: additional data, a text whose last block is partial, and a key of 128 bits.
-use mathlib.Core.Path.{_≡_, refl, sym, ap, _∙_}
+use mathlib.Core.Path.{_≡_, refl, ap, _∙_}
 use mathlib.Core.List.{List, [], _∷_, _++_}
-use Prim.Native.Nat.{ℕ, zero, suc, _+_, _*_, _/_, _%_, _^_, _<_, _≤_}
-use native.Mathlib.Nat.{add-zero, add-suc, suc-add}
+use Prim.Native.Nat.{ℕ, zero, suc, _+_, _/_, _^_, _<_}
 use native.Mathlib.Omega.{arith}
 use lib.Dec.{lit≤}
 use lib.ListN.{length, getD, replicate}
-use lib.Bits.{bitXor}
-use Rattle.octets.specs.Numbers.{oct, number, octetsOf}
-use Rattle.octets.specs.Generate.{gen}
-use Rattle.octets.proofs.Generate.{gen-same}
-use Rattle.fips197.specs.Field.{maskBy, xtimes, power}
+use Rattle.octets.specs.Numbers.{number, octetsOf}
+use Rattle.fips197.specs.Field.{xtimes, power}
 use Rattle.fips197.specs.Sbox.{sbox}
 use Rattle.fips197.specs.Expansion.{keyExpansion, temp}
 use Rattle.fips197.specs.Cipher.{cipher, cipherWith}
 use Rattle.sp800_38d.specs.Increment.{inc32}
-use Rattle.sp800_38d.specs.Product.{reduction, bit, shifted, vAt, zAt, product}
-use Rattle.sp800_38d.specs.Ghash.{blockNumbers, ghashFrom, ghash}
-use Rattle.sp800_38d.specs.Gctr.{counterBlock, keyStream, gctr}
+use Rattle.sp800_38d.specs.Product.{reduction, bit, shifted, product}
+use Rattle.sp800_38d.specs.Ghash.{blockNumbers, ghash}
+use Rattle.sp800_38d.specs.Gctr.{counterBlock, gctr}
 use Rattle.sp800_38d.specs.Encryption.{hashSubkey, preCounterBlock, ciphertext, paddedToBlocks, hashInput, tag, sealed}
+use Rattle.sp800_38d.proofs.Computing.{turns, by-turns, hashBy, hash-by, by-blocks}
 
 -- ---- inc_32 counts in the last four octets alone
 
@@ -42,20 +39,6 @@ zeros-behind = (refl, refl, refl)
 
 abbrev h : ℕ
 h = 0xb83b533708bf535d0aa6e52980d53b78
-
--- n turns of algorithm 1 from the i-th on, with Z_i and V_i at hand: 128 steps to compute where `product` takes some thousand
-turns : ℕ → ℕ → ℕ → ℕ → ℕ → ℕ
-turns x zero i z v = z
-turns x (suc n) i z v = turns x n (suc i) (bitXor z (maskBy (bit x i) v)) (shifted v)
-
-turns-are : (x y n i : ℕ) → zAt x y (i + n) ≡ turns x n i (zAt x y i) (vAt y i)
-unfolding zAt vAt turns
-turns-are x y zero i = ap (zAt x y) (add-zero i)
-turns-are x y (suc n) i = ap (zAt x y) (add-suc i n ∙ sym (suc-add i n)) ∙ turns-are x y n (suc i)
-
-by-turns : (x y : ℕ) → product x y ≡ turns x 128 0 0 y
-unfolding product zAt vAt
-by-turns x y = turns-are x y 128 0
 
 -- 1 is neutral, on both sides
 one-left : product (2 ^ 127) h ≡ h
@@ -161,32 +144,13 @@ known (suc (suc zero)) l = block-4
 known (suc (suc (suc zero))) l = block-5
 known (suc (suc (suc (suc j)))) l = absurd (omega (arith, l))
 
--- GCTR where the enciphered counter blocks are known
-by-blocks : (k b x : List ℕ) (m : List (List ℕ)) → ((j : ℕ) → j < length m → cipher k (counterBlock b j) ≡ getD m j [])
-    → length x ≤ 16 * length m → gctr k b x ≡ gen (λ i. bitXor (oct x i) (oct (getD m (i / 16) []) (i % 16))) 0 (length x)
-unfolding gctr keyStream
-by-blocks k b x m is l =
-    gen-same (λ i. bitXor (oct x i) (oct (cipher k (counterBlock b (i / 16))) (i % 16)))
-    (λ i. bitXor (oct x i) (oct (getD m (i / 16) []) (i % 16))) (length x) 0
-    (λ i n. ap (λ (s : List ℕ). bitXor (oct x (0 + i)) (oct s ((0 + i) % 16))) (is ((0 + i) / 16) (omega (arith, n, l))))
-
 text-is : ciphertext key nonce p ≡ c
 unfolding ciphertext
 text-is = by-blocks key icb p stream known (lit≤ tt)
 
--- GHASH with each product by its turns
-hashBy : ℕ → List ℕ → ℕ
-hashBy y [] = y
-hashBy y (x ∷ s) = hashBy (turns (bitXor y x) 128 0 0 h) s
-
-hash-by : (y : ℕ) (s : List ℕ) → ghashFrom h y s ≡ hashBy y s
-unfolding ghashFrom hashBy
-hash-by y [] = refl
-hash-by y (x ∷ s) = ap (λ (z : ℕ). ghashFrom h z s) (by-turns (bitXor y x) h) ∙ hash-by (turns (bitXor y x) 128 0 0 h) s
-
 hash-is : ghash h (hashInput a c) ≡ 0x698e57f70e6ecc7fd9463b7260a9ae5f
 unfolding ghash hashBy blockNumbers hashInput paddedToBlocks turns shifted bit reduction number octetsOf
-hash-is = hash-by 0 (blockNumbers (length (hashInput a c) / 16) (hashInput a c))
+hash-is = hash-by h 0 (blockNumbers (length (hashInput a c) / 16) (hashInput a c))
 
 known-first : (j : ℕ) → j < 1 → cipher key (counterBlock (preCounterBlock nonce) j) ≡ getD (tagStream ∷ []) j []
 unfolding counterBlock

@@ -1,4 +1,6 @@
+pub mod Computing
 pub mod AllSamples
 pub mod GctrLaws
 pub mod SealLaws
 pub mod DecryptionLaws
+pub mod UnsealLaws

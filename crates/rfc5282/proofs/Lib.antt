@@ -1,0 +1,9 @@
+pub mod AllSamples
+pub mod CellLaws
+pub mod OuterLaws
+pub mod OpenLaws
+pub mod OneLaws
+pub mod LayoutLaws
+pub mod FoundLaws
+pub mod PartLaws
+pub mod Number10Laws

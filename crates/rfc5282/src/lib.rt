@@ -1,0 +1,17 @@
+// The sealed frame, as definitions: RFC 5282 and RFC 7296, section 3.14. The code has the numbers alone; `specs/Sizes` has the same.
+
+// The Encrypted payload (RFC 7296, section 3.14).
+pub const ENCRYPTED: usize = 46;
+
+// Octets of the salt, which ends the keying octets of AES-GCM (RFC 5282, section 7.1), and of the IV (section 3.1).
+pub const SALT: usize = 4;
+
+pub const IV: usize = 8;
+
+// Where the body of the Encrypted payload stands in a frame that has no other, and its ciphertext, behind the IV.
+pub const ENCRYPTED_BODY_AT: usize = 32;
+
+pub const CIPHERTEXT_AT: usize = ENCRYPTED_BODY_AT + IV;
+
+// Octets of the tag (SP 800-38D).
+pub const TAG: usize = 16;
