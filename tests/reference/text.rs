@@ -7,8 +7,8 @@ use std::io::{BufRead, Result, Write};
 const MOST_KEY_DIGITS: usize = 64;
 const TICK_DIGITS: usize = 8;
 pub const MOST_DIGITS: usize = TICK_DIGITS + 2 * MOST_FRAME;
-/// As much of a line as is kept, enough to see that it is too long, also behind the letter of a line of `trace`.
-const KEPT: usize = MOST_DIGITS + 2;
+/// As much of a line as is kept, enough to see that it is too long, also behind the letter and the room's length of a line of `trace`.
+const KEPT: usize = MOST_DIGITS + 10;
 
 /// The first line is the default key, each later one a tick and a frame.
 pub fn run(mut input: impl BufRead, mut output: impl Write) -> Result<()> {

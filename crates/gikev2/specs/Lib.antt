@@ -1,2 +1,4 @@
 pub mod Member
 pub mod Receive
+pub mod ReceiveSealed
+pub mod inner

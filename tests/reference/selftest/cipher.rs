@@ -1,9 +1,9 @@
-//! The published vectors of FIPS 197 and RFC 5649, and the sizes that wrap and open.
+//! The published vectors of FIPS 197, RFC 5649 and AES-GCM, and the sizes that wrap and open.
 
 use crate::{hex, keying};
 use builder::wrapping::wrap;
 use reference::aes::{Schedule, SBOX};
-use reference::keywrap;
+use reference::{gcm, keywrap};
 
 #[test]
 fn sbox_is_inverse_and_affine_map() {
@@ -93,4 +93,62 @@ fn sizes_that_neither_wrap_nor_open() {
         assert_eq!(keywrap::open(&key, &vec![1; count], &mut room), None);
     }
     assert_eq!(room, [0; 300]);
+}
+
+/// AES-GCM: cases 1 to 4, 7 to 10 and 13 to 16 of McGrew and Viega, whose nonce has 96 bits; the tag is the last of the sealed octets.
+#[test]
+fn gcm_vectors() {
+    let feff = "feffe9928665731c6d6a8f9467308308feffe9928665731c6d6a8f9467308308";
+    let plain = hex(concat!(
+        "d9313225f88406e5a55909c5aff5269a86a7a9531534f7da2e4c303d8a318a72",
+        "1c3c0c95956809532fcf0e2449a6b525b16aedf5aa0de657ba637b391aafd255"
+    ));
+    let additional = hex("feedfacedeadbeeffeedfacedeadbeefabaddad2");
+    let nonce: [u8; 12] = hex("cafebabefacedbaddecaf888").try_into().unwrap();
+    let zeros = [
+        (16, "58e2fccefa7e3061367f1d57a4e7455a", "0388dace60b6a392f328c2b971b2fe78ab6e47d42cec13bdf53a67b21257bddf"),
+        (24, "cd33b28ac773f74ba00ed1f312572435", "98e7247c07f0fe411c267e4384b0f6002ff58d80033927ab8ef4d4587514f0fb"),
+        (32, "530f8afbc74536b9a963b4f1c4cb738b", "cea7403d4d606b6e074ec5d3baf39d18d0d1c8a799996bf0265b98b5d48ab919"),
+    ];
+    for (size, first, second) in zeros {
+        let key = Schedule::expand(&vec![0; size]).unwrap();
+        assert_eq!(gcm::seal(&key, [0; 12], &[], &[]), hex(first));
+        assert_eq!(gcm::seal(&key, [0; 12], &[], &[0; 16]), hex(second));
+    }
+    let texts = [
+        (
+            16,
+            "42831ec2217774244b7221b784d0d49ce3aa212f2c02a4e035c17e2329aca12e\
+             21d514b25466931c7d8f6a5aac84aa051ba30b396a0aac973d58e091473f5985",
+            "4d5c2af327cd64a62cf35abd2ba6fab4",
+            "5bc94fbc3221a5db94fae95ae7121a47",
+        ),
+        (
+            24,
+            "3980ca0b3c00e841eb06fac4872a2757859e1ceaa6efd984628593b40ca1e19c\
+             7d773d00c144c525ac619d18c84a3f4718e2448b2fe324d9ccda2710acade256",
+            "9924a7c8587336bfb118024db8674a14",
+            "2519498e80f1478f37ba55bd6d27618c",
+        ),
+        (
+            32,
+            "522dc1f099567d07f47f37a32a84427d643a8cdcbfe5c0c97598a2bd2555d1aa\
+             8cb08e48590dbb3da7b08b1056828838c5f61e6393ba7a0abcc9f662898015ad",
+            "b094dac5d93471bdec1a502270e3cc6c",
+            "76fc6ece0f4e1768cddf8853bb2d551b",
+        ),
+    ];
+    for (size, ciphertext, third, fourth) in texts {
+        let (key, ciphertext) = (Schedule::expand(&hex(&feff[..2 * size])).unwrap(), hex(ciphertext));
+        assert_eq!(gcm::seal(&key, nonce, &[], &plain), [&ciphertext[..], &hex(third)].concat());
+        let sealed = [&ciphertext[..60], &hex(fourth)].concat();
+        assert_eq!(gcm::seal(&key, nonce, &additional, &plain[..60]), sealed);
+        assert_eq!(gcm::open(&key, nonce, &additional, &sealed), Some(plain[..60].to_vec()));
+        for at in 0..sealed.len() {
+            let mut damaged = sealed.clone();
+            damaged[at] ^= 1 << (at % 8);
+            assert_eq!(gcm::open(&key, nonce, &additional, &damaged), None);
+        }
+    }
+    assert_eq!(gcm::open(&Schedule::expand(&[0; 16]).unwrap(), [0; 12], &[], &[0; 15]), None);
 }

@@ -1,0 +1,3 @@
+pub mod CopyLaws
+pub mod UnderLaws
+pub mod Determined
