@@ -1,0 +1,10 @@
+pub mod AllSamples
+pub mod Accepting
+pub mod LineBack
+pub mod LineExactly
+pub mod LongLines
+pub mod Newlines
+pub mod ReadsBack
+pub mod Determined
+pub mod JournalRun
+pub mod SameCall
