@@ -1,0 +1,4 @@
+pub mod PutLaws
+pub mod TakeLaws
+pub mod BlockLaws
+pub mod Blocks

@@ -1,0 +1,3 @@
+pub mod LineTaking
+pub mod LinePutting
+pub mod Advancing
