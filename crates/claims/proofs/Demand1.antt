@@ -2,13 +2,14 @@
 use Prim.Native.Nat.{ℕ, _≤_, suc, _<_}
 use mathlib.Core.Bool.{true}
 use mathlib.Core.List.{List}
-use mathlib.Core.Logic.{_↔_}
+use mathlib.Core.Logic.{_↔_, _⊎_}
 use mathlib.Core.Path.{_≡_}
 use Rattle.state_keys.specs.Limits.{Limits}
 use Rattle.state.specs.declared.State.{State}
 use Rattle.rules_outcome.specs.Demands.{Demand, Claims}
-use Rattle.rules_outcome.specs.Judging.{JudgedFirst, above}
-use Rattle.rules_outcome.specs.Meets.{judgingOrder, Meets, Refused, Accepted}
+use Rattle.rules_outcome.specs.Judging.{SomeHolds, JudgedFirst, above}
+use Rattle.rules_outcome.specs.Meets.{OfTree, tableRows, judgingOrder, Meets, Refused, Accepted}
+use Rattle.rules_outcome.specs.Holding.{OverHeldOf}
 use Rattle.rules_outcome.specs.Outcome.{Outcome}
 use Rattle.rules_outcome.proofs.DemandsHold as ofDemandsHold
 use Rattle.rules_outcome.proofs.EachAnswered as ofEachAnswered
@@ -30,13 +31,14 @@ pub refused-first : (limits : Limits) (s : State) (now : ℕ) (lent octets : Lis
     Outcome limits s now lent octets (suc n) next ↔ (JudgedFirst (judgingOrder limits s now lent octets) (suc n) × (next ≡ s))
 refused-first = ofMeets.refused-first
 
-pub order-rises : (limits : Limits) (s : State) (now : ℕ) (lent octets : List ℕ) → above 0 (judgingOrder limits s now lent octets) ≡ true
-order-rises = ofMeets.order-rises
+pub rows-rise : (limits : Limits) (s : State) (now : ℕ) (lent octets : List ℕ) → above 0 (tableRows limits s now lent octets) ≡ true
+rows-rise = ofMeets.rows-rise
 
-pub earlier-is-lower : (limits : Limits) (s : State) (now : ℕ) (lent octets : List ℕ) (n : ℕ) → JudgedFirst
-    (judgingOrder limits s now lent octets) (suc n) ↔
-    (Meets limits s now lent octets (suc n) × ((m : ℕ) → m < suc n → Meets limits s now lent octets m → ⊥))
-earlier-is-lower = ofMeets.earlier-is-lower
+pub seven-exactly : (limits : Limits) (s : State) (now : ℕ) (lent octets : List ℕ) (next : State) →
+    Outcome limits s now lent octets 7 next
+    ↔ (((Meets limits s now lent octets 7 × ((m : ℕ) → m < 7 → Meets limits s now lent octets m → ⊥))
+    ⊎ (OfTree (s .profile) octets (OverHeldOf limits s now lent) × ((m : ℕ) → Meets limits s now lent octets m → ⊥))) × (next ≡ s))
+seven-exactly = ofDemands.seven-exactly
 
 pub refused-exactly : (limits : Limits) (s : State) (now : ℕ) (lent octets : List ℕ) (n : ℕ) (next : State) →
     Outcome limits s now lent octets (suc n) next ↔ Refused limits s now lent octets (suc n) next
@@ -47,7 +49,7 @@ pub accepted-exactly : (limits : Limits) (s : State) (now : ℕ) (lent octets : 
 accepted-exactly = ofDemands.accepted-exactly
 
 pub zero-due : (limits : Limits) (s : State) (now : ℕ) (lent octets : List ℕ) (n : ℕ) (next : State) →
-    Outcome limits s now lent octets n next → ((m : ℕ) → Meets limits s now lent octets m → ⊥) → n ≡ 0
+    Outcome limits s now lent octets n next → ((m : ℕ) → SomeHolds (judgingOrder limits s now lent octets) m → ⊥) → n ≡ 0
 zero-due = ofDemands.zero-due
 
 pub refusal-keeps : (limits : Limits) (s : State) (now : ℕ) (lent octets : List ℕ) (n : ℕ) (next : State) →

@@ -1,4 +1,5 @@
 -- The theorems that docs/CLAIMS.md cites under "Demand 2".
+use mathlib.Core.Bool.{Bool}
 use Prim.Native.Nat.{ℕ}
 use mathlib.Core.List.{List, []}
 use mathlib.Core.Path.{_≡_}
@@ -18,13 +19,13 @@ use Rattle.rules_outcome.proofs.Determined as ofDetermined
 use Rattle.rfc5649.proofs.Determined as ofRfc5649Determined
 use Rattle.keywrap.proofs.Determined as ofKeywrapDetermined
 
-pub read-frame : (s : List ℕ) (x : Frame) (rest : List ℕ) → frame s ≡ whole x rest → IsFrame s x
+pub read-frame : (profile : Bool) (s : List ℕ) (x : Frame) (rest : List ℕ) → frame profile s ≡ whole x rest → IsFrame profile s x
 read-frame = ofFrameGrammar.read-frame
 
-pub frame-read : (s : List ℕ) (x : Frame) → IsFrame s x → frame s ≡ whole x []
+pub frame-read : (profile : Bool) (s : List ℕ) (x : Frame) → IsFrame profile s x → frame profile s ≡ whole x []
 frame-read = ofFrameGrammar.frame-read
 
-pub one-tree : (s : List ℕ) (x y : Frame) → IsFrame s x → IsFrame s y → x ≡ y
+pub one-tree : (profile : Bool) (s : List ℕ) (x y : Frame) → IsFrame profile s x → IsFrame profile s y → x ≡ y
 one-tree = ofFrameGrammar.one-tree
 
 pub outcome-one : (limits : Limits) (s : State) (now : ℕ) (lent : List ℕ) (octets : List ℕ) (n m : ℕ) (next after : State) →

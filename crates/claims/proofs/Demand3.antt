@@ -20,9 +20,10 @@ use Rattle.rules_refusals.specs.Fitness.{isEsp, encryptionOctets, keyWrapOctets
 use Rattle.rules_chains.specs.Chain.{In}
 use Rattle.rules_outcome.specs.After.{leastAfterwards, delayOf}
 use Rattle.rules_outcome.specs.AskedSays.{AskedSays}
-use Rattle.rules_outcome.specs.Demand3.{Demand3, HeldAfter, Copy, Standing, Entered}
+use Rattle.rules_outcome.specs.Demand3.{Demand3, HeldAfter, EachSaOpens, OneMissing, Standing, Entered}
+use Rattle.rules_outcome.specs.Holding.{OverHeldOf}
 use Rattle.rules_outcome.specs.Meets.{Meets}
-use Rattle.rules_outcome.specs.NamedKey.{Registration, OpensTo, OpensUnder, Rekey}
+use Rattle.rules_outcome.specs.NamedKey.{Registration, Inband, OpensTo, OpensUnder}
 use Rattle.rules_outcome.specs.Outcome.{Outcome}
 use Rattle.rules_outcome.specs.RestSays.{Stayed, LeastAs, DelayAs, OldSa}
 use Rattle.rules_outcome.specs.Stands.{HasWrapKey}
@@ -34,86 +35,92 @@ use Rattle.state_keys.specs.Limits as figures
 use Rattle.gikev2.specs.declared.call.Answer.the-variants as answer
 use Rattle.rules_outcome.proofs.Demand3 as ofDemand3
 use Rattle.rules_outcome.proofs.Demands as ofDemands
+use Rattle.rules_outcome.proofs.Judged9 as ofJudged9
 use Rattle.rules_outcome.proofs.Stands as ofStands
 use Rattle.rules_outcome.proofs.Rest as ofRest
 use Rattle.rules_outcome.proofs.Asked as ofAsked
 use Rattle.gikev2.proofs.Asked as ofGikev2Asked
 
-pub demand-3-within : (s : State) (now : ℕ) (lent octets : List ℕ) (f : Frame) → IsFrame octets f → (n : ℕ) (next : State) →
+pub demand-3-within : (s : State) (now : ℕ) (lent octets : List ℕ) (f : Frame) → IsFrame (s .profile) octets f → (n : ℕ) (next : State) →
     Outcome figures.limits s now lent octets n next → Demand3 figures.limits s now lent f octets n next
 demand-3-within = ofDemand3.demand-3-within
 
-pub demand-3 : (limits : Limits) (enough : limits .wrapKeys ≤ limits .heldKeys) (s : State) (now : ℕ) (lent octets : List ℕ) (f : Frame)
-    (e : IsFrame octets f) (n : ℕ) (next : State) → Outcome limits s now lent octets n next → Demand3 limits s now lent f octets n next
+pub demand-3 : (limits : Limits) (s : State) (now : ℕ) (lent octets : List ℕ) (f : Frame)
+    (e : IsFrame (s .profile) octets f) (n : ℕ) (next : State) → Outcome limits s now lent octets n next → Demand3 limits s now lent f octets n next
 demand-3 = ofDemand3.demand-3
 
 pub held-after-registration :
-    (limits : Limits) (s : State) (now : ℕ) (lent octets : List ℕ) (f : Frame) (e : IsFrame octets f) (next : State) →
+    (limits : Limits) (s : State) (now : ℕ) (lent octets : List ℕ) (f : Frame) (e : IsFrame (s .profile) octets f) (next : State) →
     Outcome limits s now lent octets 0 next → Registration f → HeldAfter lent f (next .held)
 held-after-registration = ofDemands.held-after-registration
 
 pub entries-are : (f : Frame) (e : WrapKey) → In e (wrapKeysOf f) ↔ HasWrapKey f e
 entries-are = ofStands.entries-are
 
-pub accepted-when-each-opens : (limits : Limits) (s : State) (now : ℕ) (lent octets : List ℕ) (f : Frame) (e : IsFrame octets f)
+pub accepted-when-each-opens : (limits : Limits) (s : State) (now : ℕ) (lent octets : List ℕ) (f : Frame) (e : IsFrame (s .profile) octets f)
     (none : (m : ℕ) → m < 9 → Meets limits s now lent octets m → ⊥) (n : ℕ) (next : State) → Outcome limits s now lent octets n next →
-    (n ≡ 0) ↔ ((a : GroupSaPolicy) → In a (announced f) → Copy limits s now lent f a)
-accepted-when-each-opens = ofDemands.accepted-when-each-opens
+    (n ≡ 0) ↔ (EachSaOpens limits s now lent f × (OverHeldOf limits s now lent f → ⊥))
+accepted-when-each-opens = ofJudged9.accepted-when-each-opens
 
-pub copies-of-own-bag : (limits : Limits) (s : State) (now : ℕ) (lent octets : List ℕ) (f : Frame) (e : IsFrame octets f)
+pub copies-of-own-bag : (limits : Limits) (s : State) (now : ℕ) (lent octets : List ℕ) (f : Frame) (e : IsFrame (s .profile) octets f)
     (no-2 : Meets limits s now lent octets 2 → ⊥) (no-4 : Meets limits s now lent octets 4 → ⊥) (a : GroupSaPolicy) (x : List ℕ) →
     OpensTo limits s now lent f a x ↔ OpensUnder limits s now lent f a x
 copies-of-own-bag = ofDemands.copies-of-own-bag
 
-pub refused-when-one-does-not : (limits : Limits) (s : State) (now : ℕ) (lent octets : List ℕ) (f : Frame) (e : IsFrame octets f)
+pub refused-when-one-does-not : (limits : Limits) (s : State) (now : ℕ) (lent octets : List ℕ) (f : Frame) (e : IsFrame (s .profile) octets f)
     (none : (m : ℕ) → m < 9 → Meets limits s now lent octets m → ⊥) (n : ℕ) (next : State) → Outcome limits s now lent octets n next →
-    (n ≡ 9) ↔ ((a : GroupSaPolicy) × In a (announced f) × (Copy limits s now lent f a → ⊥))
-refused-when-one-does-not = ofDemands.refused-when-one-does-not
+    (n ≡ 9) ↔ OneMissing limits s now lent f
+refused-when-one-does-not = ofJudged9.refused-when-one-does-not
 
-pub accepted-or-9 : (limits : Limits) (s : State) (now : ℕ) (lent octets : List ℕ) (f : Frame) (e : IsFrame octets f)
+pub accepted-9-or-over : (limits : Limits) (s : State) (now : ℕ) (lent octets : List ℕ) (f : Frame) (e : IsFrame (s .profile) octets f)
     (none : (m : ℕ) → m < 9 → Meets limits s now lent octets m → ⊥) (n : ℕ) (next : State) → Outcome limits s now lent octets n next →
-    (n ≡ 0) ⊎ (n ≡ 9)
-accepted-or-9 = ofDemands.accepted-or-9
+    (n ≡ 0) ⊎ (n ≡ 9) ⊎ (n ≡ 7)
+accepted-9-or-over = ofJudged9.accepted-9-or-over
 
-pub each-stands : (limits : Limits) (s : State) (now : ℕ) (lent octets : List ℕ) (f : Frame) (e : IsFrame octets f) (next : State)
+pub refused-when-over : (limits : Limits) (s : State) (now : ℕ) (lent octets : List ℕ) (f : Frame) (e : IsFrame (s .profile) octets f)
+    (none : (m : ℕ) → m < 9 → Meets limits s now lent octets m → ⊥) (n : ℕ) (next : State) → Outcome limits s now lent octets n next →
+    (n ≡ 7) ↔ ((OneMissing limits s now lent f → ⊥) × OverHeldOf limits s now lent f)
+refused-when-over = ofJudged9.refused-when-over
+
+pub each-stands : (limits : Limits) (s : State) (now : ℕ) (lent octets : List ℕ) (f : Frame) (e : IsFrame (s .profile) octets f) (next : State)
     (o : Outcome limits s now lent octets 0 next) (p : GroupSaPolicy) → In p (announced f) → Standing limits s now lent f next p
 each-stands = ofDemands.each-stands
 
-pub entered-live : (limits : Limits) (s : State) (now : ℕ) (lent octets : List ℕ) (f : Frame) (e : IsFrame octets f) (b : Sa) →
+pub entered-live : (limits : Limits) (s : State) (now : ℕ) (lent octets : List ℕ) (f : Frame) (e : IsFrame (s .profile) octets f) (b : Sa) →
     Entered limits s now lent f b → isLive (b .condition) ≡ true
 entered-live = ofDemands.entered-live
 
-pub entered-parts : (limits : Limits) (s : State) (now : ℕ) (lent octets : List ℕ) (f : Frame) (e : IsFrame octets f) (b : Sa)
+pub entered-parts : (limits : Limits) (s : State) (now : ℕ) (lent octets : List ℕ) (f : Frame) (e : IsFrame (s .profile) octets f) (b : Sa)
     (n : Entered limits s now lent f b) → isEsp (n .policy) ≡ false →
     (b .encryption ≡ encryptionOctets (n .policy)) × (b .wrapping ≡ keyWrapOctets (n .policy)) × (b .octets ≡ padded 68 (n .octets))
 entered-parts = ofDemands.entered-parts
 
-pub table-after : (limits : Limits) (s : State) (now : ℕ) (lent octets : List ℕ) (f : Frame) (e : IsFrame octets f) (next : State)
+pub table-after : (limits : Limits) (s : State) (now : ℕ) (lent octets : List ℕ) (f : Frame) (e : IsFrame (s .profile) octets f) (next : State)
     (o : Outcome limits s now lent octets 0 next) (b : Sa) → In b (sasOf (next .table)) ↔ (Entered limits s now lent f b ⊎ Stayed s now f b)
 table-after = ofDemands.table-after
 
-pub rest-after : (limits : Limits) (s : State) (now : ℕ) (lent octets : List ℕ) (f : Frame) (e : IsFrame octets f) (next : State)
-    (o : Outcome limits s now lent octets 0 next) → (Rekey f → next .held ≡ s .held) × (next .least ≡ leastAfterwards s f)
+pub rest-after : (limits : Limits) (s : State) (now : ℕ) (lent octets : List ℕ) (f : Frame) (e : IsFrame (s .profile) octets f) (next : State)
+    (o : Outcome limits s now lent octets 0 next) → (Inband f → next .held ≡ s .held) × (next .least ≡ leastAfterwards s f)
 rest-after = ofDemands.rest-after
 
-pub least-after : (limits : Limits) (s : State) (now : ℕ) (lent octets : List ℕ) (f : Frame) (e : IsFrame octets f) (next : State)
+pub least-after : (limits : Limits) (s : State) (now : ℕ) (lent octets : List ℕ) (f : Frame) (e : IsFrame (s .profile) octets f) (next : State)
     (o : Outcome limits s now lent octets 0 next) (l : Least) → (next .least ≡ l) ↔ LeastAs f (s .least) l
 least-after = ofRest.least-after
 
-pub delay-after : (limits : Limits) (s : State) (now : ℕ) (lent octets : List ℕ) (f : Frame) (e : IsFrame octets f) (next : State)
+pub delay-after : (limits : Limits) (s : State) (now : ℕ) (lent octets : List ℕ) (f : Frame) (e : IsFrame (s .profile) octets f) (next : State)
     (o : Outcome limits s now lent octets 0 next) (d : ℕ) → (delayOf f ≡ d) ↔ DelayAs f d
 delay-after = ofRest.delay-after
 
-pub old-after : (limits : Limits) (s : State) (now : ℕ) (lent octets : List ℕ) (f : Frame) (e : IsFrame octets f) (next : State)
+pub old-after : (limits : Limits) (s : State) (now : ℕ) (lent octets : List ℕ) (f : Frame) (e : IsFrame (s .profile) octets f) (next : State)
     (o : Outcome limits s now lent octets 0 next) (b : Sa) → In b (sasOf (next .table)) ↔ (Entered limits s now lent f b ⊎ OldSa f s now b)
 old-after = ofRest.old-after
 
-pub asked-after : (limits : Limits) (enough : limits .wrapKeys ≤ limits .heldKeys) (s : State) (now : ℕ) (lent octets : List ℕ) (f : Frame)
-    (e : IsFrame octets f) (next : State) (o : Outcome limits s now lent octets 0 next) (p : GroupSaPolicy) → In p (announced f) →
+pub asked-after : (limits : Limits) (s : State) (now : ℕ) (lent octets : List ℕ) (f : Frame)
+    (e : IsFrame (s .profile) octets f) (next : State) (o : Outcome limits s now lent octets 0 next) (p : GroupSaPolicy) → In p (announced f) →
     AskedSays limits s now lent f next p
 asked-after = ofAsked.asked-after
 
-pub answered-after : (m : Member) (now : ℕ) (lent s : List ℕ) (f : Frame) (e : IsFrame s f) (next : Member)
+pub answered-after : (m : Member) (now : ℕ) (lent s : List ℕ) (f : Frame) (e : IsFrame (m .state .profile) s f) (next : Member)
     (r : Receives m now lent s answer.Accepted next) (p : GroupSaPolicy) → In p (announced f) →
     Answered m now lent s f e next r p (saAnswer (p .protocol) (p .spi) next)
 answered-after = ofGikev2Asked.answered-after

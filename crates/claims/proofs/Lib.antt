@@ -13,8 +13,12 @@ pub mod NothingLeft
 pub mod T03
 pub mod T07
 pub mod T09
+pub mod T14
 pub mod T04
 pub mod T01
 pub mod T02
 pub mod T06
+pub mod T11
+pub mod T05
+pub mod T13
 pub mod Computed

@@ -1,6 +1,6 @@
 -- The theorems that docs/CLAIMS.md cites under "Document 01: what a member is".
 use Prim.Native.Nat.{ℕ, _≤_}
-use mathlib.Core.Bool.{true, false}
+use mathlib.Core.Bool.{Bool, true, false}
 use mathlib.Core.List.{List, []}
 use mathlib.Core.Path.{_≡_}
 use lib.ListN.{length, take, drop}
@@ -25,7 +25,7 @@ use Rattle.rules_outcome.specs.NamedKey.{CameOver, ZeroOfRekeys}
 use Rattle.rules_outcome.specs.Outcome.{Outcome}
 use Rattle.rules_outcome.specs.Roots.{ownKey, keyZeroValue}
 use Rattle.rules_outcome.specs.Run.{Event, Run, Throughout}
-use Rattle.gikev2.specs.Member.{leftMember, newMember}
+use Rattle.gikev2.specs.Member.{leftMember, memberWith}
 use Rattle.gikev2.specs.declared.Member.{Member}
 use Rattle.rules_outcome.proofs.OwnKey as ofOwnKey
 use Rattle.rules_outcome.proofs.KeyZero as ofKeyZero
@@ -43,15 +43,16 @@ pub own-key-of-live : (limits : Limits) (s : State) (now : ℕ) (is-formed : sta
     ownKey limits s now ≡ take (b .wrapping) (drop (b .encryption) (b .octets))
 own-key-of-live = ofOwnKey.own-key-of-live
 
-pub key-zero-of-rekey : (limits : Limits) (s : State) (now : ℕ) (lent octets : List ℕ) (f : Frame) (e : IsFrame octets f)
+pub key-zero-of-rekey : (limits : Limits) (s : State) (now : ℕ) (lent octets : List ℕ) (f : Frame) (e : IsFrame (s .profile) octets f)
     (x : f .header .exchange ≡ 41) (no-2 : Meets limits s now lent octets 2 → ⊥)
     (long : (b : Sa) → In b (sasOf (s .table)) → 68 ≤ length (b .octets)) → CameOver s now f (keyZeroValue limits s now lent f)
 key-zero-of-rekey = ofKeyZero.key-zero-of-rekey
 
-pub key-zero-in-runs : {e : State} {l : List Event} (r : Run limits (newState limits) l e) → Throughout limits (ZeroOfRekeys limits) r
+pub key-zero-in-runs : (profile : Bool) {e : State} {l : List Event} (r : Run limits (newState limits profile) l e) →
+    Throughout limits (ZeroOfRekeys limits) r
 key-zero-in-runs = ofKeyZeroInRuns.key-zero-in-runs
 
-pub left-new : (m : Member) → leftMember m ≡ newMember
+pub left-new : (m : Member) → leftMember m ≡ memberWith (m .state .profile)
 left-new = ofKept.left-new
 
 pub swept-no : (limits : Limits) (s : State) (now : ℕ) → stateFormed limits s ≡ false → s ≡ sweptState limits now s
@@ -66,21 +67,22 @@ pub broken-refused : (limits : Limits) (s : State) → stateFormed limits s ≡ 
 broken-refused = ofBrokenMembers.broken-refused
 
 pub lent-not-read : (limits : Limits) (s : State) (now : ℕ) (lent octets : List ℕ) →
-    ((f : Frame) → IsFrame octets f → f .header .exchange ≡ 41) → (other : List ℕ) (n : ℕ) (next : State) →
+    ((f : Frame) → IsFrame (s .profile) octets f → f .header .exchange ≡ 41) → (other : List ℕ) (n : ℕ) (next : State) →
     Outcome limits s now lent octets n next → Outcome limits s now other octets n next
 lent-not-read = ofDemands.lent-not-read
 
-pub ignored-octets : (s t : List ℕ) (x : Frame) (i : IsFrame s x) → Alike (frameMask s x i) s t → IsFrame t x
+pub ignored-octets : (profile : Bool) (s t : List ℕ) (x : Frame) (i : IsFrame profile s x) → Alike (frameMask profile s x i) s t →
+    IsFrame profile t x
 ignored-octets = ofIgnored.ignored-octets
 
-pub ignored-outcome : (limits : Limits) (s : State) (now : ℕ) (lent octets other : List ℕ) (f : Frame) (i : IsFrame octets f)
-    (a : Alike (frameMask octets f i) octets other) (n : ℕ) (next : State) → Outcome limits s now lent octets n next →
+pub ignored-outcome : (limits : Limits) (s : State) (now : ℕ) (lent octets other : List ℕ) (f : Frame) (i : IsFrame (s .profile) octets f)
+    (a : Alike (frameMask (s .profile) octets f i) octets other) (n : ℕ) (next : State) → Outcome limits s now lent octets n next →
     Outcome limits s now lent other n next
 ignored-outcome = ofRulesoutcomeIgnored.ignored-outcome
 
 pub not-read : NotRead
 not-read = ofRulesoutcomeIgnored.not-read
 
-pub ignored-read : (s t : List ℕ) (x : Frame) (rest : List ℕ) (q : frame s ≡ whole x rest) →
-    Alike (frameMask s x (read-frame s x rest q)) s t → frame t ≡ whole x []
+pub ignored-read : (profile : Bool) (s t : List ℕ) (x : Frame) (rest : List ℕ) (q : frame profile s ≡ whole x rest) →
+    Alike (frameMask profile s x (read-frame profile s x rest q)) s t → frame profile t ≡ whole x []
 ignored-read = ofFrameGrammar.ignored-read

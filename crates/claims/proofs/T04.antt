@@ -2,6 +2,7 @@
 use Prim.Native.Nat.{ℕ, _≤_}
 use mathlib.Core.Bool.{Bool, true, false}
 use mathlib.Core.List.{List, List·Memᴰ}
+use mathlib.Core.Logic.{_⊎_}
 use mathlib.Core.Path.{_≡_}
 use lib.Dec.{T, eqb}
 use lib.ListN.{length}
@@ -17,7 +18,7 @@ use Rattle.rules_chains.specs.Path.{Opener, KeyPath, Keys}
 use Rattle.rules_chains.specs.Refusals.{EntriesConflict}
 use Rattle.rules_chains.proofs.SomePath.{Exists}
 use Rattle.rules_chains.proofs.WorkingPath.{Distinct, Valued}
-use Rattle.rules_outcome.specs.After.{HoldsPath, HeldSet}
+use Rattle.rules_outcome.specs.Holding.{HeldNext}
 use Rattle.rules_chains.proofs.OnePath as ofOnePath
 use Rattle.rules_chains.proofs.SomePath as ofSomePath
 use Rattle.rules_chains.proofs.WorkingPath as ofWorkingPath
@@ -27,32 +28,32 @@ use Rattle.rules_outcome.proofs.RunsHeld as ofRunsHeld
 pub use Rattle.rules_chains.proofs.PathSamples.{written-back, smaller, path-smallest, smallest-alone, path-fewest, path-falling}
 pub use Rattle.rules_chains.proofs.PathSamples.{path-empty, path-of-any}
 
-pub path-one : (roots : List Root) (entries : List WrapKey) (size : ℕ) (copies : List SaKey) (ids other : List ℕ) →
-    KeyPath roots entries size copies ids → KeyPath roots entries size copies other → ids ≡ other
+pub path-one : (roots : List Root) (entries : List WrapKey) (size : ℕ) (copies : List SaKey) (ids other : List ℕ)
+    (end last : ℕ) → KeyPath roots entries size copies ids end → KeyPath roots entries size copies other last → (ids ≡ other) × (end ≡ last)
 path-one = ofOnePath.path-one
 
 pub keys-one : (roots : List Root) (entries : List WrapKey) (size : ℕ) (ids : List ℕ) (l m : List Root) →
     Keys roots entries size ids l → Keys roots entries size ids m → l ≡ m
 keys-one = ofOnePath.keys-one
 
-pub held-one : (roots : List Root) (entries : List WrapKey) (size : ℕ) (b : Bool) (limits : Limits) (copies : List SaKey) (h k : Held) →
-    HeldSet roots entries size b limits copies h → HeldSet roots entries size b limits copies k → h ≡ k
+pub held-one : (roots : List Root) (entries : List WrapKey) (size : ℕ) (limits : Limits) (b : Bool) (copies : List SaKey)
+    (old h k : Held) → HeldNext roots entries size limits b copies old h → HeldNext roots entries size limits b copies old k → h ≡ k
 held-one = ofDetermined.held-one
 
 pub path-distinct : (roots : List Root) (entries : List WrapKey) (size : ℕ) (none : EntriesConflict roots entries size → ⊥)
-    (copies : List SaKey) (ids : List ℕ) → KeyPath roots entries size copies ids → Distinct ids
+    (copies : List SaKey) (ids : List ℕ) (end : ℕ) → KeyPath roots entries size copies ids end → Distinct ids
 path-distinct = ofWorkingPath.path-distinct
 
-pub path-nonzero : (roots : List Root) (entries : List WrapKey) (size : ℕ) (copies : List SaKey) (ids : List ℕ) →
-    KeyPath roots entries size copies ids → ((e : WrapKey) → In e entries → e .keyId ≡ 0 → ⊥) → List·Memᴰ 0 ids → ⊥
+pub path-nonzero : (roots : List Root) (entries : List WrapKey) (size : ℕ) (copies : List SaKey) (ids : List ℕ)
+    (end : ℕ) → KeyPath roots entries size copies ids end → ((e : WrapKey) → In e entries → e .keyId ≡ 0 → ⊥) → List·Memᴰ 0 ids → ⊥
 path-nonzero = ofWorkingPath.path-nonzero
 
 pub path-fits : (roots : List Root) (entries : List WrapKey) (size : ℕ) (none : EntriesConflict roots entries size → ⊥)
-    (copies : List SaKey) (ids : List ℕ) → KeyPath roots entries size copies ids → length ids ≤ length entries
+    (copies : List SaKey) (ids : List ℕ) (end : ℕ) → KeyPath roots entries size copies ids end → length ids ≤ length entries
 path-fits = ofWorkingPath.path-fits
 
 pub keys-exist : (roots : List Root) (entries : List WrapKey) (size : ℕ) (none : EntriesConflict roots entries size → ⊥)
-    (copies : List SaKey) (ids : List ℕ) → KeyPath roots entries size copies ids → Valued roots entries size none ids
+    (copies : List SaKey) (ids : List ℕ) (end : ℕ) → KeyPath roots entries size copies ids end → Valued roots entries size none ids
 keys-exist = ofWorkingPath.keys-exist
 
 pub path-exists : (roots : List Root) (entries : List WrapKey) (size : ℕ) (copies : List SaKey) (is-size : T (isKey size))
@@ -61,11 +62,11 @@ pub path-exists : (roots : List Root) (entries : List WrapKey) (size : ℕ) (cop
 path-exists = ofSomePath.path-exists
 
 pub path-some : (roots : List Root) (entries : List WrapKey) (size : ℕ) (copies : List SaKey) (q : List WrapKey) →
-    Opener roots entries size copies q → ((ids : List ℕ) → KeyPath roots entries size copies ids → ⊥) → ⊥
+    Opener roots entries size copies q → ((ids : List ℕ) (end : ℕ) → KeyPath roots entries size copies ids end → ⊥) → ⊥
 path-some = ofPathSome.path-some
 
-pub path-formed : (limits : Limits) (roots : List Root) (entries : List WrapKey) (size : ℕ) (copies : List SaKey) (h : Held)
-    (fits : sizeOf 13 size ≡ true) (none : EntriesConflict roots entries size → ⊥)
-    (no-zero : any (λ (k : WrapKey). eqb (k .keyId) 0) entries ≡ false) (few : length entries ≤ limits .heldKeys) →
-    HoldsPath roots entries size limits copies h → heldFormed limits h ≡ true
-path-formed = ofRunsHeld.path-formed
+pub next-formed : (limits : Limits) (roots : List Root) (entries : List WrapKey) (size : ℕ) (copies : List SaKey) (old h : Held)
+    (fits : (size ≡ 0) ⊎ (sizeOf 13 size ≡ true)) (none : EntriesConflict roots entries size → ⊥)
+    (no-zero : any (λ (k : WrapKey). eqb (k .keyId) 0) entries ≡ false) (was : heldFormed limits old ≡ true) (b : Bool) →
+    HeldNext roots entries size limits b copies old h → h .count ≤ limits .heldKeys → heldFormed limits h ≡ true
+next-formed = ofRunsHeld.next-formed

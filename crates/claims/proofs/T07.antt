@@ -1,6 +1,6 @@
 -- The theorems that docs/CLAIMS.md cites under "Document 02: T-07, keys that run out".
 use Prim.Native.Nat.{ℕ, _<_, _^_, _≤_, _+_, _*_, _%_}
-use mathlib.Core.Bool.{true, false}
+use mathlib.Core.Bool.{Bool, true, false}
 use mathlib.Core.List.{List}
 use mathlib.Core.Logic.{_⊎_}
 use mathlib.Core.Path.{_≡_}
@@ -31,7 +31,8 @@ use Rattle.rules_outcome.proofs.Inband as ofInband
 use Rattle.rules_refusals.proofs.AllSamples as ofAllSamples
 pub use Rattle.wire_frames.proofs.AllBreaks.{samples-break}
 
-pub members-lifetimes : {e : State} {l : List Event} (r : Run limits (newState limits) l e) → Throughout limits LifetimesFit r
+pub members-lifetimes : (profile : Bool) {e : State} {l : List Event} (r : Run limits (newState limits profile) l e) →
+    Throughout limits LifetimesFit r
 members-lifetimes = ofRanOut.members-lifetimes
 
 pub broken-kept : BrokenKept brokenValues
@@ -59,17 +60,17 @@ pub not-before : (start n : ℕ) (inside : start < 2 ^ 32) (k : ℕ) → k < 100
     ranOut ((start + k) % 2 ^ 32) (Limited start n) ≡ false
 not-before = ofLifetimes.not-before
 
-pub over-ran-out : (limits : Limits) (now : ℕ) (lent octets : List ℕ) (f : Frame) (e : IsFrame octets f) (x : f .header .exchange ≡ 41)
-    (s : State) (b : Sa) (m : In b (sasOf (s .table))) (over : overLiveRekey (f .header .spi) b ≡ true) (is-due : due now b ≡ true) →
+pub over-ran-out : (limits : Limits) (now : ℕ) (lent octets : List ℕ) (f : Frame) (x : f .header .exchange ≡ 41) (s : State)
+    (e : IsFrame (s .profile) octets f) (b : Sa) (m : In b (sasOf (s .table))) (over : overLiveRekey (f .header .spi) b ≡ true) (is-due : due now b ≡ true) →
     Outcome limits s now lent octets 2 s
 over-ran-out = ofRanOut.over-ran-out
 
-pub over-swept : (limits : Limits) (now : ℕ) (lent octets : List ℕ) (f : Frame) (e : IsFrame octets f) (x : f .header .exchange ≡ 41)
-    (s : State) (b : Sa) (m : In b (sasOf (s .table))) (over : overLiveRekey (f .header .spi) b ≡ true) (is-due : due now b ≡ true) →
+pub over-swept : (limits : Limits) (now : ℕ) (lent octets : List ℕ) (f : Frame) (x : f .header .exchange ≡ 41) (s : State)
+    (e : IsFrame (s .profile) octets f) (b : Sa) (m : In b (sasOf (s .table))) (over : overLiveRekey (f .header .spi) b ≡ true) (is-due : due now b ≡ true) →
     Outcome limits (sweptState limits now s) now lent octets 2 (sweptState limits now s)
 over-swept = ofRanOut.over-swept
 
-pub empty-is-2 : (limits : Limits) (s : State) (now : ℕ) (lent octets : List ℕ) (f : Frame) (e : IsFrame octets f) (b : Inband f) (n : ℕ)
+pub empty-is-2 : (limits : Limits) (s : State) (now : ℕ) (lent octets : List ℕ) (f : Frame) (e : IsFrame (s .profile) octets f) (b : Inband f) (n : ℕ)
     (next : State) (o : Outcome limits s now lent octets n next) → all (due now) (sasOf (s .table)) ≡ true → (n ≡ 2) × (next ≡ s)
 empty-is-2 = ofInband.empty-is-2
 

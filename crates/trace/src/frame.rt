@@ -1,4 +1,5 @@
 // A line of tick and frame: receives the frame with the lent key, and prints the answer.
+use crate::journal;
 use crate::reply::TraceReply;
 use crate::reply::bad;
 use crate::text;
@@ -7,7 +8,7 @@ use gikev2::call::Answer;
 use text_lines::Request;
 
 // Puts the line of the answer `a`: its number, and on number 1 its figure.
-fn told(a: Answer, out: &mut [u8]) -> usize {
+pub(crate) fn told(a: Answer, out: &mut [u8]) -> usize {
     let word = text::put(out, 0, b"answer");
     let number = a.number();
     let behind = text::number(out, word, number);
@@ -18,8 +19,18 @@ fn told(a: Answer, out: &mut [u8]) -> usize {
     text::newline(out, behind)
 }
 
-// Lets the member receive `frame`, and puts its answer.
-fn received(m: Member, frame: &[u8], key: &[u8], tick: u32, out: &mut [u8]) -> TraceReply {
+// Lets the member receive `frame`, and puts its answer. Journals it, if steps are `journaled`.
+fn received(
+    m: Member,
+    frame: &[u8],
+    key: &[u8],
+    tick: u32,
+    journaled: bool,
+    out: &mut [u8],
+) -> TraceReply {
+    if journaled {
+        return journal::received(m, frame, key, tick, out);
+    }
     let x = m.receive(frame, key, tick);
     let member = x.member;
     let answer = x.answer;
@@ -32,11 +43,14 @@ pub(crate) fn reply(
     m: Member,
     line: &[u8],
     key: &[u8],
+    journaled: bool,
     room: &mut [u8],
     out: &mut [u8],
 ) -> TraceReply {
     match text_lines::later_line(line, room) {
         Request::Bad => bad(m, out),
-        Request::Frame { tick, len } => received(m, text::part(room, 0, len), key, tick, out),
+        Request::Frame { tick, len } => {
+            received(m, text::part(room, 0, len), key, tick, journaled, out)
+        }
     }
 }

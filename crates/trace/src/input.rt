@@ -8,13 +8,14 @@ use libc::STDOUT_FILENO;
 
 // Where the program stands: the member; whether the first line has given the lent key yet (`keyed`), and how many octets that key has
 // (`lent`); how many characters of the line that has begun are held (`len`); how many characters the member's text had when printed last
-// (`last`); whether the input goes on and the output takes what is written (`open`).
+// (`last`); whether steps are journaled (`journaled`); whether the input goes on and the output takes what is written (`open`).
 pub struct Running {
     pub member: Member,
     pub keyed: bool,
     pub lent: usize,
     pub len: usize,
     pub last: usize,
+    pub journaled: bool,
     pub open: bool,
 }
 
@@ -40,7 +41,7 @@ fn later_line(
     last: &mut [u8],
 ) -> Running {
     let m = r.member;
-    let c = reply::call(m, line, key, r.lent, room, out);
+    let c = reply::call(m, line, key, r.lent, r.journaled, room, out);
     let y = c.reply;
     let member = y.member;
     let t = reply::completed(member, y.at, out, last, r.last);
@@ -51,6 +52,7 @@ fn later_line(
         lent: c.lent,
         len: 0,
         last: t.last,
+        journaled: c.journaled,
         open,
     }
 }
@@ -156,6 +158,7 @@ fn run(line: &mut [u8], key: &mut [u8], room: &mut [u8], out: &mut [u8], last: &
         lent: 0,
         len: 0,
         last: new,
+        journaled: false,
         open: true,
     };
     let mut turns = u64::MAX;
@@ -172,9 +175,9 @@ fn run(line: &mut [u8], key: &mut [u8], room: &mut [u8], out: &mut [u8], last: &
 // Runs the program with room for a line, and for one character more, which tells that a line is too long; for the octets that a line has at
 // most; for a reply; for the member's text that was printed last.
 pub(crate) fn trace() {
-    let mut line = [0u8; reply::LINE + 1];
-    let mut key = [0u8; reply::LINE / 2];
-    let mut room = [0u8; reply::LINE / 2];
+    let mut line = [0u8; reply::SEALED_LINE + 1];
+    let mut key = [0u8; reply::SEALED_LINE / 2];
+    let mut room = [0u8; reply::SEALED_LINE / 2];
     let mut out = [0u8; reply::FIRST + whole::MOST];
     let mut last = [0u8; whole::MOST];
     run(&mut line, &mut key, &mut room, &mut out, &mut last);

@@ -10,13 +10,22 @@ pub(crate) fn reply(
     digits: &[u8],
     key: &mut [u8],
     count: usize,
+    journaled: bool,
     out: &mut [u8],
 ) -> Called {
     if text_lines::is_hex(digits) {
         let lent = text_lines::put_octets(key, 0, digits);
         let reply = done(m, out);
-        return Called { reply, lent };
+        return Called {
+            reply,
+            lent,
+            journaled,
+        };
     }
     let reply = bad(m, out);
-    Called { reply, lent: count }
+    Called {
+        reply,
+        lent: count,
+        journaled,
+    }
 }

@@ -2,10 +2,13 @@
 // prints keys. tests/README.md has its text.
 mod frame;
 mod input;
+mod journal;
 mod key;
 mod leave;
+mod profile;
 mod question;
 mod reply;
+mod sealed;
 mod sweep;
 mod text;
 mod whole;
