@@ -1,7 +1,8 @@
 /* openssl wrap|open K: the 10,000 wraps or openings of 36 octets of `speed`. openssl rekey K COUNT: the openings of so many rekeys with 8 ESP
    SAs and 32 copies of a Rekey SA's key, keys of K octets: 8 keys of K + 4 octets under one key, and 32 of 2K + 4 octets each under another.
    By OpenSSL 3's AES-WRAP-PAD; the cipher is fetched and the context made once, and each key that wraps is set where it is first used.
-   Prints the checksum, and the processor time of the loop in microseconds. */
+   openssl gcm K OCTETS COUNT: so many openings of a sealed text of OCTETS octets by AES-GCM, with 32 octets of additional data; key and
+   nonce are set for each. Prints the checksum, and the processor time of the loop in microseconds. */
 #include <openssl/evp.h>
 #include <stdio.h>
 #include <stdlib.h>
@@ -40,16 +41,45 @@ static void rekeys(int size, int count) {
   printf("%u %ld\n", sum, (long)((clock() - start) * 1000000.0 / CLOCKS_PER_SEC));
 }
 
+/* The openings of `count` sealed texts, whose tag is judged. */
+static void texts(int size, int octets, int count) {
+  static unsigned char key[32], nonce[12], head[32], plain[16384], sealed[16384], room[16384], tag[16];
+  int n = 0;
+  char name[32];
+  if (octets > 16384) exit(2);
+  for (int i = 0; i < 32; i++) key[i] = 7 * i + size;
+  for (int i = 0; i < octets; i++) plain[i] = 13 * i + 36;
+  snprintf(name, sizeof name, "AES-%d-GCM", 8 * size);
+  cipher = EVP_CIPHER_fetch(NULL, name, NULL);
+  if (!cipher || !EVP_CipherInit_ex2(context, cipher, key, nonce, 1, NULL)) exit(2);
+  if (!EVP_CipherUpdate(context, NULL, &n, head, sizeof head) || !EVP_CipherUpdate(context, sealed, &n, plain, octets)) exit(2);
+  if (!EVP_CipherFinal_ex(context, room, &n) || !EVP_CIPHER_CTX_ctrl(context, EVP_CTRL_AEAD_GET_TAG, 16, tag)) exit(2);
+  clock_t start = clock();
+  for (int i = 0; i < count; i++) {
+    if (!EVP_CipherInit_ex2(context, cipher, key, nonce, 0, NULL)) exit(2);
+    if (!EVP_CIPHER_CTX_ctrl(context, EVP_CTRL_AEAD_SET_TAG, 16, tag)) exit(2);
+    if (!EVP_CipherUpdate(context, NULL, &n, head, sizeof head) || !EVP_CipherUpdate(context, room, &n, sealed, octets)) exit(2);
+    if (EVP_CipherFinal_ex(context, room + octets, &n) <= 0) exit(2);
+    add(room, 16);
+  }
+  printf("%u %ld\n", sum, (long)((clock() - start) * 1000000.0 / CLOCKS_PER_SEC));
+}
+
 int main(int argc, char **argv) {
   int size = argc >= 3 ? atoi(argv[2]) : 0, opens = argc == 3 && strcmp(argv[1], "open") == 0, end;
   unsigned char key[32], plain[36], wrapped[64], room[64];
   char name[32];
   for (int i = 0; i < 32; i++) key[i] = 7 * i + size;
   for (int i = 0; i < 36; i++) plain[i] = i < 4 ? 0 : 13 * i + 36;
+  context = EVP_CIPHER_CTX_new();
+  if (!context) return 2;
+  if (argc == 5) {
+    texts(size, atoi(argv[3]), atoi(argv[4]));
+    return 0;
+  }
   snprintf(name, sizeof name, "AES-%d-WRAP-PAD", 8 * size);
   cipher = EVP_CIPHER_fetch(NULL, name, NULL);
-  context = EVP_CIPHER_CTX_new();
-  if (!cipher || !context) return 2;
+  if (!cipher) return 2;
   if (argc == 4) {
     rekeys(size, atoi(argv[3]));
     return 0;
