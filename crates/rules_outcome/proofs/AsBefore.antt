@@ -7,21 +7,22 @@ use mathlib.Core.Path.{_≡_, refl, ap, sym, _∙_, subst}
 use mathlib.Core.Bool.{Bool, true, false, cond, not, _&&_}
 use mathlib.Core.Logic.{_⊎_, inl, inr, ⊎-elim}
 use mathlib.Core.List.{List, [], _∷_, _++_, map, append-nil, List·Memᴰ, List·Memᴰ·eq-of-singleton}
-use borrow.Author.Tests.{eqb-true, leb-true, le-ltb, ltb-false, not-false}
+use borrow.Author.Tests.{leb-true, le-ltb, ltb-false, not-false}
 use lib.Dec.{eqb, leb, ltb}
 use lib.ListN.{length, drop}
 use Rattle.octets.specs.Numbers.{oct}
 use Rattle.octets.specs.Walk.{Spans}
-use Rattle.ikev2_numbers.specs.Codes.{exchangeAt, firstPayloadAt, gsaAuth, gsaInbandRekey, gsaRegistration, gsaRekey, headerOctets}
+use Rattle.ikev2_numbers.specs.Codes.{exchangeAt, firstPayloadAt, gsaRekey, headerOctets}
 use Rattle.state_keys.specs.Lists.{all, any, keep}
 use Rattle.state_keys.specs.Limits.{Limits}
 use Rattle.state_keys.specs.Limits as figures
-use Rattle.state_keys.proofs.Cases.{and-parts, bool-cases}
+use Rattle.state_keys.proofs.Cases.{and-parts}
 use Rattle.wire_attributes.specs.Tree.{WrapKey}
-use Rattle.wire_frames.specs.Exchange.{exchangeOf, readsFresh}
+use Rattle.wire_frames.specs.Exchange.{readsFresh}
 use Rattle.wire_frames.specs.declared.exchanges.Exchange.{Exchange}
 use Rattle.wire_frames.specs.Frame.{Frame, noneNext}
 use Rattle.wire_frames.specs.Grammar.{IsPayload, IsFrame}
+use Rattle.wire_frames.proofs.PlainLaws.{in-rekeys-alone}
 use Rattle.state_table.specs.Table.{tableFormed}
 use Rattle.state.specs.declared.State.{State}
 use Rattle.state.specs.declared.held.HeldKey.{HeldKey}
@@ -317,16 +318,6 @@ pub profile-off : (s : State) → s .profile ≡ false → (now : ℕ) (lent oct
 profile-off s off now lent octets =
     as-before figures.limits (omega arith) s now lent octets
     (ap (λ (p : Bool). readsFresh p (oct octets exchangeAt)) off)
-
--- the table of exchanges says so of GSA_REKEY alone
-in-rekeys-alone : (x : ℕ) → (x ≡ gsaRekey → ⊥) → exchangeOf x .«reads_fresh_keys» ≡ false
-in-rekeys-alone x other =
-    bool-cases (eqb x gsaAuth) (λ a. rw a refl)
-    (λ a.
-    bool-cases (eqb x gsaRegistration) (λ b. rw (a, b) refl)
-    (λ b.
-    bool-cases (eqb x gsaRekey) (λ c. absurd (other (eqb-true x gsaRekey c)))
-    (λ c. bool-cases (eqb x gsaInbandRekey) (λ d. rw (a, b, c, d) refl) (λ d. rw (a, b, c, d) refl))))
 
 -- "Elsewhere": in every exchange but GSA_REKEY, also with the profile on
 pub elsewhere : (s : State) (now : ℕ) (lent octets : List ℕ) → (oct octets exchangeAt ≡ gsaRekey → ⊥) → (n : ℕ) (next : State) →

@@ -4,8 +4,12 @@ use mathlib.Core.Path.{_≡_, refl, ap, sym, _∙_}
 use mathlib.Core.List.{List, [], _∷_, map}
 use mathlib.Core.Bool.{Bool, true, false}
 use lib.ListN.{drop}
+use borrow.Author.Tests.{eqb-true}
+use lib.Dec.{eqb}
+use Rattle.ikev2_numbers.specs.Codes.{exchangeAt, gsaAuth, gsaInbandRekey, gsaRegistration, gsaRekey, headerOctets}
 use Rattle.octets.specs.Numbers.{oct}
 use Rattle.octets.specs.Walk.{Reading, whole, broken, mapped, opened, Spans, none, more}
+use Rattle.octets.proofs.Order.{bool-cases}
 use Rattle.wire_bags.proofs.PlainLaws.{bags-plain, none-in-bags}
 use Rattle.wire_frames.specs.Header.{headerFits, firstPayload}
 use Rattle.wire_frames.specs.Exchange.{exchangeOf, readsFresh}
@@ -59,16 +63,27 @@ none-in-payloads (more {st = k} o s {a = a} e i r) =
 pub off-reads-none : (s : List ℕ) (f : Frame) → IsFrame false s f → plainFrame f ≡ f
 off-reads-none s f i = λ j. record { header = f .header; payloads = none-in-payloads (i .payloads) j }
 
--- in an exchange other than GSA_REKEY the profile changes nothing: not the tree, not the offset of a break
-pub same-elsewhere : (profile : Bool) (s : List ℕ) → exchangeOf (oct s 18) .«reads_fresh_keys» ≡ false → frame profile s ≡ frame false s
-unfolding frame
-same-elsewhere true s e = ap
-    (λ (t : Bool). opened 0 (headerFits s) (mapped (frameOf s) (nothingLeft (payloads t (firstPayload s) 28 (drop 28 s))))) e
-same-elsewhere false s e = refl
+-- the table of exchanges says of GSA_REKEY alone that fresh keys are read
+pub in-rekeys-alone : (x : ℕ) → (x ≡ gsaRekey → ⊥) → exchangeOf x .«reads_fresh_keys» ≡ false
+in-rekeys-alone x other =
+    bool-cases (eqb x gsaAuth) (λ a. rw a refl)
+    (λ a.
+    bool-cases (eqb x gsaRegistration) (λ b. rw (a, b) refl)
+    (λ b.
+    bool-cases (eqb x gsaRekey) (λ c. absurd (other (eqb-true x gsaRekey c)))
+    (λ c. bool-cases (eqb x gsaInbandRekey) (λ d. rw (a, b, c, d) refl) (λ d. rw (a, b, c, d) refl))))
 
-pub breaks-elsewhere : (profile : Bool) (s : List ℕ) (o : ℕ) → exchangeOf (oct s 18) .«reads_fresh_keys» ≡ false
-    → BreaksFrame profile s o → BreaksFrame false s o
-breaks-elsewhere profile s o e i = frame-to false s o (sym (same-elsewhere profile s e) ∙ frame-from profile s o i)
+-- "Elsewhere": in an exchange other than GSA_REKEY the profile changes nothing, not the tree and not the offset of a break
+pub same-elsewhere : (profile : Bool) (s : List ℕ) → (oct s exchangeAt ≡ gsaRekey → ⊥) → frame profile s ≡ frame false s
+unfolding frame
+same-elsewhere true s other = ap
+    (λ (t : Bool). opened 0 (headerFits s) (mapped (frameOf s) (nothingLeft (payloads t (firstPayload s) headerOctets
+    (drop headerOctets s))))) (in-rekeys-alone (oct s exchangeAt) other)
+same-elsewhere false s other = refl
+
+pub breaks-elsewhere : (profile : Bool) (s : List ℕ) (o : ℕ) → (oct s exchangeAt ≡ gsaRekey → ⊥) → BreaksFrame profile s o →
+    BreaksFrame false s o
+breaks-elsewhere profile s o other i = frame-to false s o (sym (same-elsewhere profile s other) ∙ frame-from profile s o i)
 
 -- a frame that is whole for a member with the profile is whole without it: its tree is the same less the fresh keys
 pub on-to-off : (profile : Bool) (s : List ℕ) (f : Frame) → IsFrame profile s f → IsFrame false s (plainFrame f)
