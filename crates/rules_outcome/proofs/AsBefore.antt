@@ -200,7 +200,7 @@ module _ (limits : Limits) (s : State) (now : ℕ) (lent : List ℕ) (f : Frame)
         ⊎-elim (λ x. ap (λ (y : Exchange). y .registers) (rekeys (f .header .exchange) x))
         (λ x. ap (λ (y : Exchange). y .registers) (inband-row f x)) r
 
-    never-over : OverHeldOf limits s now lent f → ⊥
+    pub never-over : OverHeldOf limits s now lent f → ⊥
     never-over o =
         ⊎-elim
         (λ g.

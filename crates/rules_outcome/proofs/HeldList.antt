@@ -163,6 +163,21 @@ module _ (roots : List Root) (entries : List WrapKey) (size : ℕ) (f : Frame) w
         lowest = λ other o e. p .lowest other (to-opener other o) (e ∙ p .written);
       }
 
+  -- and the path is the path of the copies
+  pub of-path : (passed : List WrapKey) (end : ℕ) → PathOf roots entries size f passed end →
+      KeyPath roots entries size (rekeyCopies f) (keyIds passed) end
+  unfolding to-opener from-opener
+  of-path passed end p =
+      record {
+        passed = passed;
+        opener = to-opener passed (p .opens);
+        written = refl;
+        ends = p .ends;
+        fewest = λ other o. p .fewest other (from-opener other o);
+        smallest = λ other o e. p .smallest other (from-opener other o) e;
+        lowest = λ other o e. p .lowest other (from-opener other o) e;
+      }
+
   module _ (limits : Limits) (old h : Held) (p : HoldsPath roots entries size limits (rekeyCopies f) old h) where
     -- as many keys as entries
     keys-long : length (map heldFrom (p .keys)) ≡ length (p .path .passed)

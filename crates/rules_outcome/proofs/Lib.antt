@@ -55,6 +55,7 @@ pub mod HeldRekey
 pub mod AsBefore
 pub mod BeforeOne
 pub mod Judged9
+pub mod OverSays
 pub mod Demand3
 pub mod DemandsHold
 pub mod Stands

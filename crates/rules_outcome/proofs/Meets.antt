@@ -11,7 +11,7 @@ use Rattle.wire_frames.specs.Frame.{Frame}
 use Rattle.wire_frames.specs.Grammar.{IsFrame}
 use Rattle.wire_frames.proofs.FrameGrammar.{one-tree}
 use Rattle.state.specs.declared.State.{State}
-use Rattle.rules_refusals.specs.Refusals.{applies, number2, number4, number6, numbers}
+use Rattle.rules_refusals.specs.Refusals.{applies, number2, number4, number6, number7, numbers}
 use Rattle.rules_outcome.specs.Answer.{RefusalCase, First, byClauses, KeyConflictOf, KeyMissingOf, conditions}
 use Rattle.rules_outcome.specs.After.{After}
 use Rattle.rules_outcome.specs.Holding.{OverHeldOf}
@@ -93,7 +93,7 @@ module _ (limits : Limits) (s : State) (now : ℕ) (lent octets : List ℕ) wher
 
   module _ (f : Frame) (e : IsFrame (s .profile) octets f) where
     -- what the tree meets is met
-    rows-meets : (n : ℕ) → SomeHolds (map (onFrame f) table) n → Met n
+    pub rows-meets : (n : ℕ) → SomeHolds (map (onFrame f) (refusalRows limits s now lent)) n → Met n
     rows-meets n h = record { row = inr (some-to (s .profile) octets f e table n h) }
 
     -- and nothing else is
@@ -112,6 +112,9 @@ module _ (limits : Limits) (s : State) (now : ℕ) (lent octets : List ℕ) wher
 
     pub meets-6 : applies (number6 s now f) ≡ true → Met 6
     meets-6 h = rows-meets 6 (inr (inr (inr (inr (inl (h, refl))))))
+
+    pub meets-7 : applies (number7 limits s now f) ≡ true → Met 7
+    meets-7 h = rows-meets 7 (inr (inr (inr (inr (inr (inl (h, refl)))))))
 
     pub meets-8 : KeyConflictOf limits s now lent f → Met 8
     meets-8 h = rows-meets 8 (inr (inr (inr (inr (inr (inr (inl (h, refl))))))))

@@ -6,7 +6,7 @@ use mathlib.Core.Path.{_≡_, refl, ap, sym, _∙_, subst}
 use mathlib.Core.Bool.{Bool, true, false, false≢true, cond, not}
 use mathlib.Core.Logic.{_⊎_, inl, inr, ⊎-elim}
 use mathlib.Core.List.{List, [], _∷_, _++_, append-nil, List·Memᴰ, List·Memᴰ·head, List·Memᴰ·tail, List·Memᴰ·not-nil}
-use mathlib.Core.List.{List·Memᴰ·cases-cons}
+use mathlib.Core.List.{List·Memᴰ·cases-cons, Memᴰ·append-right}
 use borrow.Author.Tests.{eq-eqb, eqb-true, eqb-false, ne-eqb}
 use lib.Dec.{eqb}
 use lib.ListN.{length, length-append}
@@ -142,6 +142,19 @@ cut-at i (a ∷ l) k m e =
       left = rw g (r .left);
     })
     (List·Memᴰ·cases-cons m))
+
+-- and where the Key IDs are distinct, wherever the list is cut before that key
+pub left-of : (i : ℕ) (ahead : List HeldKey) (k : HeldKey) (behind : List HeldKey) → Distinct (idsOf (ahead ++ (k ∷ behind))) →
+    k .id ≡ i → fromKey i (ahead ++ (k ∷ behind)) ≡ k ∷ behind
+unfolding fromKey
+left-of i [] k behind d e = rw (eq-eqb (k .id) i e) refl
+left-of i (a ∷ l) k behind d e =
+    let other : a .id ≡ i → ⊥ =
+    λ q.
+    d .0
+    (of-id (a .id) (l ++ (k ∷ behind))
+    (record { key = k; stands = Memᴰ·append-right l (List·Memᴰ·head refl); is = e ∙ sym q })) in
+    rw (ne-eqb (a .id) i other) (left-of i l k behind (d .1) e)
 
 module _ (path : List HeldKey) (end : ℕ) (old : List HeldKey) where
   abbrev off : HeldKey → Bool

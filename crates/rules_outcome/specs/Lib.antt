@@ -14,6 +14,7 @@ pub mod RestSays
 pub mod LifetimeSays
 pub mod AskedSays
 pub mod Demand3
+pub mod OverSays
 pub mod Demands
 pub mod Stands
 pub mod Wider
