@@ -72,7 +72,10 @@ pub mod SamplesValued
 pub mod SamplesPaths
 pub mod SamplesTree
 pub mod SamplesEntries
+pub mod SamplesAnew
+pub mod SamplesRenewed
 pub mod SamplesHold
 pub mod SamplesRead
 pub mod SamplesReadTree
+pub mod SamplesReadAnew
 pub mod SamplesInhabited

@@ -38,7 +38,7 @@ by-id (a ∷ l) h e d m n q =
     ⊎-elim (λ y. absurd (other e x (q ∙ ap (λ (w : WrapKey). w .keyId) y))) (λ y. by-id l (p .1) e d x y q) (List·Memᴰ·cases-cons n))
     (List·Memᴰ·cases-cons m)
 
-itself : (l : List ℕ) → NotAfter l l
+pub itself : (l : List ℕ) → NotAfter l l
 itself [] = tt
 itself (a ∷ l) = inr (refl, itself l)
 

@@ -1,18 +1,20 @@
 -- WHERE THE HELD LIST CANNOT BE OVER ITS LIMIT, so that the 7 that is judged after 9 is never given (document 02, T-11): in a registration
--- that number 7 lets pass, and where there is no entry.
+-- that number 7 lets pass, where there is no entry, and where the entries and the keys held are together within it.
 use native.Mathlib.Omega.{arith}
-use Prim.Native.Nat.{ℕ, _≤_}
-use mathlib.Core.Path.{_≡_, refl, ap, sym, _∙_}
+use Prim.Native.Nat.{ℕ, _+_, _≤_}
+use mathlib.Core.Path.{_≡_, ap, _∙_}
 use mathlib.Core.Bool.{Bool, true, false}
-use mathlib.Core.List.{List, [], map}
-use lib.ListN.{length}
+use mathlib.Core.List.{List, [], _∷_, map}
+use lib.ListN.{length, length-take}
 use Rattle.state_keys.specs.Limits.{Limits}
 use Rattle.wire_attributes.specs.Tree.{SaKey, WrapKey}
+use Rattle.state.specs.declared.held.HeldKey.{HeldKey}
 use Rattle.state.specs.declared.held.Held.{Held}
-use Rattle.state.specs.Held.{heldOf}
+use Rattle.state.specs.Held.{keysOf, heldOf}
 use Rattle.rules_chains.specs.Chain.{Root}
 use Rattle.rules_chains.specs.Refusals.{EntriesConflict}
 use Rattle.rules_outcome.specs.Holding.{heldFrom, heldByPath, HeldNext, OverHeld}
+use Rattle.rules_outcome.proofs.PathBefore.{before-shorter}
 use Rattle.rules_outcome.proofs.PathKeys.{from-none, path-few}
 use Rattle.rules_outcome.proofs.HeldList.{no-entry-stays}
 
@@ -39,3 +41,22 @@ module _ (roots : List Root) (entries : List WrapKey) (size : ℕ) (limits : Lim
       let e = no-entry-stays roots entries size limits b copies old (o .list) none (o .leaves) in
       let n : o .list .count ≡ old .count = ap (λ (x : Held). x .count) e in
       let g = o .over in omega (arith, n, g, few)
+
+  grown : (path : List HeldKey) (end : ℕ) (old : Held) → heldByPath limits path end old .count ≤ length path + old .count
+  unfolding heldOf
+  grown [] end old = omega arith
+  grown (a ∷ path) end old =
+      let n = before-shorter (a ∷ path) end (keysOf old) in
+      let m = length-take (old .count) (old .keys) in omega (arith, n, m)
+
+  pub room-for-both : (b : Bool) (old : Held) → (EntriesConflict roots entries size → ⊥) → length entries + old .count ≤ limits .heldKeys →
+      OverHeld roots entries size limits b copies old → ⊥
+  room-for-both true old none few o =
+      let p = o .leaves in
+      let f = path-few roots entries size limits copies old (o .list) p none in
+      let n = grown (map heldFrom (p .keys)) (p .end) old in
+      let e : o .list .count ≡ heldByPath limits (map heldFrom (p .keys)) (p .end) old .count = ap (λ (x : Held). x .count) (p .is) in
+      let g = o .over in omega (arith, f, n, e, g, few)
+  room-for-both false old none few o =
+      let e : o .list .count ≡ old .count = ap (λ (x : Held). x .count) (o .leaves) in
+      let g = o .over in omega (arith, e, g, few)

@@ -44,7 +44,7 @@ use Rattle.rules_outcome.proofs.Room.{room-in-registration}
 use Rattle.rules_outcome.specs.After.{lifetimeFrom, saFrom, oldSas, insertAll, one-more, no-sa}
 use Rattle.rules_outcome.specs.After.{initialMessageId, leastAfterwards, After}
 use Rattle.rules_outcome.specs.Outcome.{Outcome}
-use Rattle.rules_outcome.specs.Samples.{Around, rekeyPolicy, creating, created, Creates}
+use Rattle.rules_outcome.specs.SampleFrames.{Around, rekeyPolicy, creating, created, Creates}
 use Rattle.rules_outcome.proofs.Members.{in-head}
 use Rattle.rules_outcome.proofs.Rows.{lent-roots, lent-size}
 use Rattle.rules_outcome.proofs.RunsClear.{None, Clear}
@@ -63,7 +63,7 @@ module _ (r : Around) (now k : ℕ) (w : List ℕ) (l : List WrapKey) where
       otherDestination lifetimeTwice number4OfFrame
   created-4 d = record { ofFrame = rw (row-of (r .auth), d); ofMember = refl }
 
-  transforms-fit : transformsFit true (rekeyPolicy r) ≡ true
+  pub transforms-fit : transformsFit true (rekeyPolicy r) ≡ true
   unfolding all any count transformsFit exactTransforms encryptionFits keyWrapFits authenticationFits neededBy neededIn isRowOf
   transforms-fit = refl
 

@@ -13,7 +13,8 @@ use Rattle.wire_attributes.specs.Tree.{WrapKey}
 use Rattle.rules_chains.specs.Chain.{In, Root, Chain, root, step, Reached, ChainEnds}
 use Rattle.rules_chains.specs.Refusals.{EntriesConflict, wrong-size, two-values}
 use Rattle.rules_chains.proofs.Determined.{last-entry}
-use Rattle.rules_outcome.specs.Samples.{entry, FitKey, circle, Says}
+use Rattle.rules_outcome.specs.SampleFrames.{entry, FitKey}
+use Rattle.rules_outcome.specs.Samples.{circle, Says}
 use Rattle.rules_outcome.specs.Samples as samples
 use Rattle.rules_chains.proofs.Members.{in-member}
 use Rattle.rules_outcome.proofs.SamplesChains.{each-chain, wraps, zeroRoot}

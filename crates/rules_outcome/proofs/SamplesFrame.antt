@@ -31,7 +31,8 @@ use Rattle.rules_refusals.specs.Number6.{number6OfMember}
 use Rattle.rules_refusals.specs.Number7.{manyEspPolicies, manyWrapKeys, manySaKeys, manyDeletedSpis, longLifetime, manySas}
 use Rattle.rules_refusals.specs.Number7.{manyFreshKeys, number7OfFrame, number7OfMember}
 use Rattle.rules_refusals.specs.Refusals.{one, number2, number3, number4, number5, number6, number7}
-use Rattle.rules_outcome.specs.Samples.{Around, espPolicy, registering, lent-of-28, Says}
+use Rattle.rules_outcome.specs.SampleFrames.{Around, espPolicy, registering}
+use Rattle.rules_outcome.specs.Samples.{lent-of-28, Says}
 use Rattle.rules_outcome.proofs.RunsClear.{None}
 use Rattle.rules_outcome.proofs.SamplesAnswers.{applies-frame, outcome-5}
 

@@ -10,11 +10,12 @@ use Rattle.state_sa.proofs.Samples.{wrapped-elapsed, wrapped-not-due, wrapped-d
 use Rattle.state_sa.proofs.Samples as clock
 use Rattle.rules_outcome.specs.Samples.{Sample, clock-wraps, delay-zero, least-seven, last-id}
 use Rattle.rules_outcome.specs.Samples.{two-steps, circle, two-values, lent-of-28}
-use Rattle.rules_outcome.specs.Samples.{key-length-128, key-tree, no-rekey-sa, Says}
+use Rattle.rules_outcome.specs.Samples.{key-length-128, key-tree, no-rekey-sa, key-tree-anew, Says}
 use Rattle.rules_outcome.proofs.SamplesRekeys.{least-seven-holds, last-id-holds}
 use Rattle.rules_outcome.proofs.SamplesFrame.{lent-of-28-holds}
 use Rattle.rules_outcome.proofs.SamplesPaths.{two-steps-holds, no-rekey-sa-holds}
 use Rattle.rules_outcome.proofs.SamplesTree.{key-tree-holds}
+use Rattle.rules_outcome.proofs.SamplesRenewed.{key-tree-anew-holds}
 use Rattle.rules_outcome.proofs.SamplesEntries.{circle-holds, two-values-holds}
 
 clock-wraps-holds : Says clock-wraps
@@ -44,3 +45,4 @@ samples-hold lent-of-28 = lent-of-28-holds
 samples-hold key-length-128 = key-length-holds
 samples-hold key-tree = key-tree-holds
 samples-hold no-rekey-sa = no-rekey-sa-holds
+samples-hold key-tree-anew = key-tree-anew-holds

@@ -4,7 +4,7 @@ use Prim.Native.Nat.{ℕ, zero, suc, _<_}
 use mathlib.Core.Path.{_≡_, refl, ap}
 use mathlib.Core.Bool.{true}
 use mathlib.Core.List.{List, [], _∷_}
-use lib.ListN.{length, getD, replicate}
+use lib.ListN.{length, drop, getD, replicate}
 use Rattle.octets.specs.Octets.{Octets}
 use Rattle.octets.proofs.Octets.{no-octets, one-octet}
 use Rattle.fips197.specs.Key.{Key, isKey}
@@ -23,14 +23,15 @@ use Rattle.state.specs.Least.{acceptable}
 use Rattle.state.specs.State.{stateFormed}
 use Rattle.rules_outcome.specs.Outcome.{Outcome}
 use Rattle.rules_outcome.specs.Run.{StandsAt}
-use Rattle.rules_outcome.specs.Samples.{Around, registering, entry, Keying, FitKey, Registers, Creates}
+use Rattle.rules_outcome.specs.SampleFrames.{Around, registering, entry, Keying, FitKey, Registers, Creates}
 use Rattle.rules_outcome.specs.Samples.{Sample, clock-wraps, delay-zero, least-seven, last-id}
 use Rattle.rules_outcome.specs.Samples.{two-steps, circle, two-values, lent-of-28}
-use Rattle.rules_outcome.specs.Samples.{key-length-128, key-tree, no-rekey-sa}
+use Rattle.rules_outcome.specs.Samples.{key-length-128, key-tree, no-rekey-sa, key-tree-anew}
 use Rattle.rules_outcome.proofs.AtTick.{rekeySpi, one, seven, seven-formed, seven-stands, not-due, one-in, over-one}
 use Rattle.rules_outcome.proofs.SamplesRekeys.{deleted, delete-taken, deleted-stands}
 use Rattle.rules_outcome.proofs.SamplesRead.{around, Rekeyed, no-rekey-read, two-values-read, plain-read}
 use Rattle.rules_outcome.proofs.SamplesRead.{laid-around, rekeys-read}
+use Rattle.rules_outcome.proofs.SamplesReadAnew.{Renewal, renewal}
 use Rattle.rules_outcome.proofs.SamplesReadTree.{treeAround, tree-read, two-steps-read, circle-read, creates-by}
 
 -- ---- what a row asks for, as in specs/Samples.antt; the octets of its frame are below 256
@@ -122,6 +123,7 @@ Inhabited key-tree =
 Inhabited no-rekey-sa =
     Entries (λ lent v₅ v₉. entry 5 9 (wrapOf v₉ v₅) ∷ entry 9 0 (wrapOf lent v₉) ∷ [])
     (λ lent v₅ v₉. FitKey lent v₅ × FitKey lent v₉)
+Inhabited key-tree-anew = Renewal
 
 same-octets : (n k : ℕ) → k < 256 → Octets (replicate n k)
 same-octets zero k h = no-octets
@@ -289,3 +291,8 @@ samples-inhabited no-rekey-sa =
       small = read .small;
       registers = record { key = key-16 1 (omega arith); keying = keying; reads = laid-around _ read };
     }
+samples-inhabited key-tree-anew =
+    let fit : (k : ℕ) → k < 256 → FitKey (drop 20 (replicate 36 3)) (replicate 16 k) = λ k h. record { key = key-16 k h; size = refl } in
+    renewal (replicate 36 3) (replicate 36 7) (replicate 16 2) (replicate 16 5) (replicate 16 11) (replicate 16 15) (replicate 16 16) refl
+    refl (same-octets 36 7 (omega arith)) (key-16 2 (omega arith)) (key-16 5 (omega arith)) (key-16 11 (omega arith))
+    (fit 15 (omega arith)) (fit 16 (omega arith))

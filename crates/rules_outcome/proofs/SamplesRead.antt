@@ -30,7 +30,7 @@ use Rattle.wire_frames.specs.Frame.{Frame, frame, body, payload}
 use Rattle.wire_frames.specs.Grammar.{IsFrame}
 use Rattle.wire_frames.specs.Delete.{stretches}
 use Rattle.wire_frames.proofs.FrameGrammar.{read-frame}
-use Rattle.rules_outcome.specs.Samples.{deleting, Around, registering, entry, Keying, FitKey, Rekeys}
+use Rattle.rules_outcome.specs.SampleFrames.{deleting, Around, registering, entry, Keying, FitKey, Rekeys}
 
 -- ---- a registration
 unfoldable pub group : List ℕ

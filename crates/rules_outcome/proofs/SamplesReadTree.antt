@@ -22,11 +22,11 @@ use Rattle.wire_policies.specs.Policy.{suite, saBody, policy}
 use Rattle.wire_bags.specs.Bag.{bag}
 use Rattle.wire_frames.specs.Frame.{frame, body, payload}
 use Rattle.rules_refusals.specs.Fitness.{multicast, oneGroupAddress}
-use Rattle.rules_outcome.specs.Samples.{Around, creating, Creates, entry, FitKey}
+use Rattle.rules_outcome.specs.SampleFrames.{Around, creating, Creates, entry, FitKey}
 use Rattle.rules_outcome.proofs.SamplesRead.{group, anywhere, selectorOctets, firsts, entryOctets, all-firsts, literal-octets}
 use Rattle.rules_outcome.proofs.SamplesRead.{wrapped-24, wrapped-octets, firsts-octets, entry-octets, Read, laid-out}
 
-pub treeAround : Around
+unfoldable pub treeAround : Around
 treeAround = record {
   auth = true;
   spis = replicate 16 1;
@@ -37,7 +37,7 @@ treeAround = record {
   profile = false;
 }
 
-one-group : oneGroupAddress (treeAround .destination) ≡ true
+pub one-group : oneGroupAddress (treeAround .destination) ≡ true
 unfolding treeAround anywhere group oneGroupAddress multicast same orderOf
 one-group = refl
 

@@ -42,7 +42,8 @@ use Rattle.rules_outcome.specs.Holding.{newRekey, OverHeldOf, rekeyCopie
 use Rattle.rules_outcome.specs.After.{oldSas, insertAll, no-sa, leastAfterwards, After}
 use Rattle.rules_outcome.specs.Run.{StandsAt}
 use Rattle.rules_outcome.specs.Outcome.{Outcome}
-use Rattle.rules_outcome.specs.Samples.{deleting, LaterRefused, least-seven, last-id, Says}
+use Rattle.rules_outcome.specs.SampleFrames.{deleting}
+use Rattle.rules_outcome.specs.Samples.{LaterRefused, least-seven, last-id, Says}
 use Rattle.rules_chains.proofs.Members.{in-member}
 use Rattle.rules_outcome.proofs.RunsClear.{None, Clear, taken}
 use Rattle.rules_outcome.proofs.RunsAccepted.{clear-formed}

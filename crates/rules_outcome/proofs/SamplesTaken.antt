@@ -32,7 +32,7 @@ use Rattle.rules_outcome.specs.After.{lifetimeFrom, saFrom, oldSas, inse
 use Rattle.rules_outcome.specs.Holding.{newRekey, rekeyCopies, heldBefore, HeldAfterwards, OverHeld, OverHeldOf}
 use Rattle.rules_outcome.specs.After.{no-sa, leastAfterwards, After}
 use Rattle.rules_outcome.specs.Outcome.{Outcome}
-use Rattle.rules_outcome.specs.Samples.{Around, espPolicy, registering, registered, Keying}
+use Rattle.rules_outcome.specs.SampleFrames.{Around, espPolicy, registering, registered, Keying}
 use Rattle.rules_chains.proofs.Members.{in-member}
 use Rattle.rules_outcome.proofs.RunsLists.{none-passes}
 use Rattle.rules_outcome.proofs.RunsClear.{Clear}

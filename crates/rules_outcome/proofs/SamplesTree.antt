@@ -15,7 +15,8 @@ use Rattle.rules_chains.specs.Chain.{In, Chain, ChainEnds}
 use Rattle.rules_chains.specs.Refusals.{EntriesConflict}
 use Rattle.rules_chains.specs.Path.{no-key, one-more}
 use Rattle.rules_outcome.specs.Holding.{HoldsPath}
-use Rattle.rules_outcome.specs.Samples.{entry, heldWith, FitKey, key-tree, Says}
+use Rattle.rules_outcome.specs.SampleFrames.{entry, heldWith, FitKey}
+use Rattle.rules_outcome.specs.Samples.{key-tree, Says}
 use Rattle.rules_outcome.proofs.PathKeys.{from-none}
 use Rattle.rules_outcome.proofs.OneChain.{only-path}
 use Rattle.rules_outcome.proofs.SamplesChains.{opens-own, zeroRoot}

@@ -12,7 +12,7 @@ use Rattle.wire_attributes.specs.Tree.{WrapKey}
 use Rattle.rules_chains.specs.Chain.{In, Root, Chain, root, step, Reached, ChainEnds}
 use Rattle.rules_chains.specs.Refusals.{EntriesConflict, wrong-size, two-values, Value}
 use Rattle.rules_chains.proofs.Members.{in-member}
-use Rattle.rules_outcome.specs.Samples.{FitKey}
+use Rattle.rules_outcome.specs.SampleFrames.{FitKey}
 use Rattle.rules_outcome.proofs.Members.{in-head, in-cases, not-in-none}
 use Rattle.rules_outcome.proofs.SamplesChains.{each-chain, wraps, wraps-only, zeroRoot}
 

@@ -4,6 +4,7 @@ pub mod Answer
 pub mod After
 pub mod Outcome
 pub mod Run
+pub mod SampleFrames
 pub mod Samples
 pub mod NamedKey
 pub mod KeyConflictSays

@@ -1,45 +1,33 @@
--- DOCUMENT 01'S SAMPLES MARKED P, one row each, with what it says of the definitions, and two rows of ours. "What a sample does not mention
--- is fit; entries stand in a registration." Document 02, T-04: "In both samples with a held list a Rekey SA_KEY comes under 5". No row
--- assumes that something opens: what opens is the wrapping of any octets under any key. A row speaks of any octets that are laid out as
--- its frame.
-use Prim.Native.Nat.{ℕ, _≤_}
+-- DOCUMENT 01'S SAMPLES MARKED P, one row each, with what it says of the definitions, and three rows of ours. The frames stand in
+-- specs/SampleFrames.antt. Document 02, T-04: "In both samples with a held list a Rekey SA_KEY comes under 5".
+use Prim.Native.Nat.{ℕ}
 use mathlib.Core.Path.{_≡_}
-use mathlib.Core.Bool.{Bool, true, false, cond}
+use mathlib.Core.Bool.{true, false}
 use mathlib.Core.List.{List, [], _∷_}
-use lib.ListN.{length}
-use Rattle.octets.specs.Octets.{Octets}
+use lib.ListN.{length, drop}
 use Rattle.octets.specs.Walk.{whole, mapped}
 use Rattle.fips197.specs.Key.{Key}
 use Rattle.rfc5649.specs.Wrap.{wrapOf}
 use Rattle.state_keys.specs.Limits.{limits}
-use Rattle.state_keys.specs.Kinds.{wrappingOf, espOf, rekeyOf}
 use Rattle.wire_attributes.specs.Place.{inTransform}
 use Rattle.wire_attributes.specs.Tree.{WrapKey, keyLengths}
 use Rattle.wire_attributes.specs.Layout.{attributes}
-use Rattle.wire_policies.specs.Selector.{Selector}
-use Rattle.wire_policies.specs.Policy.{GroupSaPolicy, groupSa}
-use Rattle.wire_bags.specs.Bag.{groupKeys, memberKeys}
-use Rattle.wire_frames.specs.Frame.{Frame, Payload, Content, gsa, kd, delete}
+use Rattle.wire_frames.specs.Frame.{Frame}
 use Rattle.wire_frames.specs.Grammar.{IsFrame}
 use Rattle.state_sa.specs.Clock.{elapsed}
-use Rattle.state_sa.specs.Entry.{due, espSa, rekeySa}
+use Rattle.state_sa.specs.Entry.{due}
 use Rattle.state_sa.specs.declared.entry.Condition.the-variants.{Retiring}
 use Rattle.state_sa.specs.declared.entry.Lifetime.the-variants.{Unlimited}
 use Rattle.state_sa.specs.declared.entry.Sa.{Sa}
-use Rattle.state_table.specs.Table.{tableOf}
 use Rattle.state.specs.declared.State.{State}
 use Rattle.state.specs.declared.least.Least.the-variants.{Id}
-use Rattle.state.specs.declared.held.HeldKey.{HeldKey}
-use Rattle.state.specs.Held.{heldOf}
 use Rattle.state.specs.Least.{acceptable}
 use Rattle.state.specs.State.{newState, stateFormed}
-use Rattle.rules_refusals.specs.Fitness.{oneGroupAddress}
 use Rattle.rules_outcome.specs.Outcome.{Outcome}
 use Rattle.rules_outcome.specs.Holding.{newRekey}
 use Rattle.rules_outcome.specs.Run.{Event, Run, AllQuiet, StandsAt}
-
-abbrev samplePayload : ℕ → Content → Payload
-samplePayload k c = record { kind = k; critical = false; content = c }
+use Rattle.rules_outcome.specs.SampleFrames.{Rekeys, Around, registering, entry, heldWith, registered, FitKey, Registers}
+use Rattle.rules_outcome.specs.SampleFrames.{created, Creates, copyUnder, holding, renewed, Renews}
 
 -- ---- the clock, of an SA without a lifetime: "a retiring SA is due at whichever comes first" (document 02, T-07)
 abbrev ClockWraps : Type 0
@@ -49,19 +37,7 @@ ClockWraps = (a : Sa) → a .lifetime ≡ Unlimited → a .condition ≡ Retirin
 abbrev DelayZero : Type 0
 DelayZero = (a : Sa) (start : ℕ) → a .lifetime ≡ Unlimited → a .condition ≡ Retiring start 0 → due start a ≡ true
 
--- ---- Message IDs: rekeys over the Rekey SA with SPI `x`, with Message ID `i` and D alone, which names from 1 to 32 ESP SPIs
-abbrev pub deleting : List ℕ → ℕ → List (List ℕ) → Frame
-deleting x i l = record {
-  header = record { spi = x; exchange = 41; messageId = i };
-  payloads = samplePayload 42 (delete (record { protocol = 3; spis = l })) ∷ [];
-}
-
-pub record Rekeys (profile : Bool) (x : List ℕ) (i : ℕ) (octets : List ℕ) : Type 0 where
-  pub spis : List (List ℕ)
-  pub some : 1 ≤ length spis
-  pub few : length spis ≤ limits .deletedSpis
-  pub reads : IsFrame profile octets (deleting x i spis)
-
+-- ---- Message IDs
 -- at any tick at which the Rekey SA with SPI `x` stands, any rekey over it with Message ID `i` is refused as number 3, whatever it holds
 abbrev pub Refuses : State → List ℕ → ℕ → Type 0
 Refuses s x i = (now : ℕ) (lent octets : List ℕ) → StandsAt now x s → (g : Frame) → IsFrame (s .profile) octets g →
@@ -97,75 +73,7 @@ pub record LastId : Type 0 where
   pub taken : (s : State) (x : List ℕ) → stateFormed limits s ≡ true → acceptable 4294967295 (s .least) ≡ true →
       TakenThen s x 4294967295 (λ (next : State). LaterRefused next x)
 
--- ---- entries in a registration, GSA_AUTH (39) or GSA_REGISTRATION (40), that announces one ESP SA with AES-GCM-16 of 128 bits and
--- Sequence Numbers 0, without a lifetime; what no sample mentions may be anything
-pub record Around : Type 0 where
-  pub auth : Bool
-  pub spis : List ℕ
-  pub messageId : ℕ
-  pub spi : List ℕ
-  pub source : Selector
-  pub destination : Selector
-  -- the member's profile (document 02, T-11)
-  pub profile : Bool
-
-abbrev pub espPolicy : Around → GroupSaPolicy
-espPolicy r = record {
-  protocol = 3;
-  spi = r .spi;
-  source = r .source;
-  destination = r .destination;
-  transforms = record { kind = 1; id = 20; keyLengths = 128 ∷ [] } ∷ record { kind = 5; id = 0; keyLengths = [] } ∷ [];
-  initialMessageIds = [];
-  keyLifetimes = [];
-}
-
--- the registration: the SA's SA_KEY under KWK ID 0, and a Member bag with the entries
-abbrev pub registering : Around → List ℕ → List WrapKey → Frame
-registering r wrapped entries = record {
-  header = record { spi = r .spis; exchange = cond (r .auth) 39 40; messageId = r .messageId };
-  payloads =
-      samplePayload 51 (gsa (groupSa (espPolicy r) ∷ []))
-      ∷ samplePayload 52 (kd (groupKeys (record {
-        protocol = 3;
-        spi = r .spi;
-        keys = record { keyId = 0; kwkId = 0; wrapped = wrapped } ∷ [];
-        fresh = [];
-      }) ∷ memberKeys (record { keys = entries }) ∷ []))
-      ∷ [];
-}
-
--- an entry with Key ID `i` under KWK ID `k`
-abbrev pub entry : ℕ → ℕ → List ℕ → WrapKey
-entry i k w = record { keyId = i; kwkId = k; wrapped = w }
-
-abbrev pub heldWith : ℕ → List ℕ → HeldKey
-heldWith i v = record { id = i; key = wrappingOf v }
-
--- the member after it: the ESP SA with its keying octets `x`, and no held key
-abbrev pub registered : Around → List ℕ → State
-registered r x = record {
-  table = tableOf limits (espSa (r .spi) (espOf x) Unlimited ∷ []);
-  held = heldOf limits [];
-  least = Id 0;
-  profile = r .profile;
-}
-
--- keying octets that the SA needs, and a wrapping key of the lent key's size
-pub record Keying (x : List ℕ) : Type 0 where
-  pub size : length x ≡ 20
-  pub octets : Octets x
-
-pub record FitKey (lent v : List ℕ) : Type 0 where
-  pub key : Key v
-  pub size : length v ≡ length lent
-
--- a registration of a new member with these entries, its SA_KEY wrapped under the lent key
-pub record Registers (r : Around) (lent x : List ℕ) (entries : List WrapKey) (octets : List ℕ) : Type 0 where
-  pub key : Key lent
-  pub keying : Keying x
-  pub reads : IsFrame (r .profile) octets (registering r (wrapOf lent x) entries)
-
+-- ---- entries in a registration
 abbrev TwoValues : Type 0
 TwoValues = (r : Around) (now : ℕ) (lent x v w v₉ octets : List ℕ) → FitKey lent v → FitKey lent w → FitKey lent v₉ →
     (v ≡ w → ⊥) →
@@ -184,52 +92,7 @@ NoRekeySa = (r : Around) (now : ℕ) (lent x v₅ v₉ octets : List ℕ) → Fi
     Registers r lent x (entry 5 9 (wrapOf v₉ v₅) ∷ entry 9 0 (wrapOf lent v₉) ∷ []) octets →
     Outcome limits (newState limits (r .profile)) now lent octets 0 (registered r x)
 
--- ---- entries in a registration that announces one Rekey SA with AES-GCM-16 of 128 bits, KW_5649_128 and implicit authentication, its
--- SA_KEY under KWK ID `k`
-abbrev pub rekeyPolicy : Around → GroupSaPolicy
-rekeyPolicy r = record {
-  protocol = 6;
-  spi = r .spi;
-  source = r .source;
-  destination = r .destination;
-  transforms = record { kind = 1; id = 20; keyLengths = 128 ∷ [] } ∷ record { kind = 13; id = 1; keyLengths = [] }
-      ∷ record { kind = 14; id = 1; keyLengths = [] } ∷ [];
-  initialMessageIds = [];
-  keyLifetimes = [];
-}
-
-abbrev pub creating : Around → ℕ → List ℕ → List WrapKey → Frame
-creating r k wrapped entries = record {
-  header = record { spi = r .spis; exchange = cond (r .auth) 39 40; messageId = r .messageId };
-  payloads =
-      samplePayload 51 (gsa (groupSa (rekeyPolicy r) ∷ []))
-      ∷ samplePayload 52 (kd (groupKeys (record {
-        protocol = 6;
-        spi = r .spi;
-        keys = record { keyId = 0; kwkId = k; wrapped = wrapped } ∷ [];
-        fresh = [];
-      }) ∷ memberKeys (record { keys = entries }) ∷ []))
-      ∷ [];
-}
-
--- the member after it: the Rekey SA with its keying octets `x`, 20 to encrypt and 16 to wrap, and the held keys `l`
-abbrev pub created : Around → List ℕ → List HeldKey → State
-created r x l = record {
-  table = tableOf limits (rekeySa (r .spi) (rekeyOf x 20 16) Unlimited ∷ []);
-  held = heldOf limits l;
-  least = Id 0;
-  profile = r .profile;
-}
-
--- such a registration of a new member with these entries, its SA_KEY wrapped under the value `v` of key `k`
-pub record Creates (r : Around) (lent x : List ℕ) (k : ℕ) (v : List ℕ) (entries : List WrapKey) (octets : List ℕ) : Type 0 where
-  pub key : Key lent
-  pub group : oneGroupAddress (r .destination) ≡ true
-  pub size : length x ≡ 36
-  pub small : Octets x
-  pub fit : FitKey lent v
-  pub reads : IsFrame (r .profile) octets (creating r k (wrapOf v x) entries)
-
+-- ---- entries in a registration that announces one Rekey SA
 abbrev TwoSteps : Type 0
 TwoSteps = (r : Around) (now : ℕ) (lent x v₅ v₉ octets : List ℕ) → FitKey lent v₉ →
     Creates r lent x 5 v₅ (entry 5 9 (wrapOf v₉ v₅) ∷ entry 9 0 (wrapOf lent v₉) ∷ []) octets →
@@ -245,6 +108,18 @@ abbrev KeyTree : Type 0
 KeyTree = (r : Around) (now : ℕ) (lent x v₁ v₃ v₇ octets : List ℕ) → FitKey lent v₃ → FitKey lent v₇ →
     Creates r lent x 1 v₁ (entry 1 3 (wrapOf v₃ v₁) ∷ entry 3 7 (wrapOf v₇ v₃) ∷ entry 7 0 (wrapOf lent v₇) ∷ []) octets →
     Outcome limits (newState limits (r .profile)) now lent octets 0 (created r x (heldWith 1 v₁ ∷ heldWith 3 v₃ ∷ heldWith 7 v₇ ∷ []))
+
+-- ---- fresh tree keys in a rekey
+-- RFC 9838, Appendix A.4, the member E, whose keys are 2->5->11: "KD(GP(SA3)(1{K_sa3},15{K_sa3}),MP(6{15},16{15},11{16})", with document
+-- 02's private entries in the place of the Member bag (T-11). The old Rekey SA's default key are the last 16 of its keying octets. Neither
+-- the copy under 1 nor the entry under 6 opens for E, whatever they are
+abbrev KeyTreeAnew : Type 0
+KeyTreeAnew = (r : Around) (now : ℕ) (lent z x v₂ v₅ v₁₁ v₁₅ v₁₆ w₁ w₆ octets : List ℕ) → Key v₂ → Key v₅ → Key v₁₁ →
+    FitKey (drop 20 z) v₁₅ → FitKey (drop 20 z) v₁₆ →
+    Renews r z x (copyUnder 1 w₁ ∷ copyUnder 15 (wrapOf v₁₅ x) ∷ [])
+    (entry 15 6 w₆ ∷ entry 15 16 (wrapOf v₁₆ v₁₅) ∷ entry 16 11 (wrapOf v₁₁ v₁₆) ∷ []) octets →
+    Outcome limits (holding r z (heldWith 2 v₂ ∷ heldWith 5 v₅ ∷ heldWith 11 v₁₁ ∷ [])) now lent octets 0
+    (renewed r now z x (heldWith 15 v₁₅ ∷ heldWith 16 v₁₆ ∷ heldWith 11 v₁₁ ∷ []))
 
 -- ---- the attribute, in a type 1 transform at any offset
 abbrev KeyLength128 : Type 0
@@ -276,6 +151,8 @@ pub data Sample : Type 0 where
   key-tree : Sample
   -- entries (5 under 9), (9 under 0), both opening, and no Rekey SA: taken, held list empty
   no-rekey-sa : Sample
+  -- RFC 9838's tree from which F is expelled, by fresh keys in a rekey: member E holds 2, 5, 11, and then "15->16->11"
+  key-tree-anew : Sample
 
 abbrev pub Says : Sample → Type 0
 Says clock-wraps = ClockWraps
@@ -289,3 +166,4 @@ Says lent-of-28 = LentOf28
 Says key-length-128 = KeyLength128
 Says key-tree = KeyTree
 Says no-rekey-sa = NoRekeySa
+Says key-tree-anew = KeyTreeAnew
