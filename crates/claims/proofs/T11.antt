@@ -1,5 +1,5 @@
 -- The theorems that docs/CLAIMS.md cites under "Document 02: T-11, fresh tree keys in a rekey".
-use Prim.Native.Nat.{ℕ, _≤_}
+use Prim.Native.Nat.{ℕ, _+_, _≤_}
 use mathlib.Core.Path.{_≡_}
 use mathlib.Core.Bool.{Bool, true, false}
 use mathlib.Core.Logic.{_↔_}
@@ -12,8 +12,11 @@ use Rattle.state_keys.specs.Limits as figures
 use Rattle.wire_attributes.specs.Tree.{SaKey, WrapKey}
 use Rattle.wire_bags.specs.Bag.{GroupKeyBag}
 use Rattle.wire_frames.specs.Exchange.{readsFresh}
-use Rattle.wire_frames.specs.Frame.{Frame}
+use Rattle.wire_frames.specs.Frame.{Frame, frame}
 use Rattle.wire_frames.specs.Grammar.{IsFrame}
+use Rattle.wire_frames.specs.Breaks.{BreaksFrame}
+use Rattle.wire_frames.specs.Plain.{plainFrame}
+use Rattle.wire_frames.proofs.PlainLaws as ofPlainLaws
 use Rattle.state.specs.declared.State.{State}
 use Rattle.state.specs.declared.held.HeldKey.{HeldKey}
 use Rattle.state.specs.declared.held.Held.{Held}
@@ -27,7 +30,9 @@ use Rattle.rules_chains.specs.Refusals.{EntriesConflict}
 use Rattle.rules_chains.specs.Path.{KeyPath}
 use Rattle.rules_chains.proofs.WorkingPath.{Ends}
 use Rattle.rules_outcome.specs.Holding.{pathBefore, OverHeld}
+use Rattle.rules_outcome.specs.Meets.{Meets}
 use Rattle.rules_outcome.specs.Outcome.{Outcome}
+use Rattle.rules_outcome.specs.OverSays.{OverSays}
 use Rattle.rules_outcome.specs.BeforeT11.{OutcomeBefore}
 use Rattle.rules_outcome.specs.Run.{Event, Run, Throughout}
 use Rattle.rules_outcome.specs.Stands.{HasFreshKey}
@@ -37,6 +42,7 @@ use Rattle.rules_outcome.proofs.AboutHeld as ofAboutHeld
 use Rattle.rules_outcome.proofs.AsBefore as ofAsBefore
 use Rattle.rules_outcome.proofs.BeforeOne as ofBeforeOne
 use Rattle.rules_outcome.proofs.FreshRead as ofFreshRead
+use Rattle.rules_outcome.proofs.OverSays as ofOverSays
 use Rattle.rules_outcome.proofs.PathBefore as ofPathBefore
 use Rattle.rules_outcome.proofs.Room as ofRoom
 use Rattle.rules_outcome.proofs.Runs as ofRuns
@@ -53,6 +59,17 @@ fresh-in-rekey-bags = ofFreshRead.fresh-in-rekey-bags
 pub no-fresh : (profile : Bool) (octets : List ℕ) (f : Frame) (e : IsFrame profile octets f) →
     readsFresh profile (f .header .exchange) ≡ false → freshKeysOf f ≡ []
 no-fresh = ofFreshRead.no-fresh
+
+-- the layout: with the profile off no fresh key is read; in an exchange other than GSA_REKEY the profile changes nothing
+pub off-reads-none : (s : List ℕ) (f : Frame) → IsFrame false s f → plainFrame f ≡ f
+off-reads-none = ofPlainLaws.off-reads-none
+
+pub same-elsewhere : (profile : Bool) (s : List ℕ) → (oct s exchangeAt ≡ gsaRekey → ⊥) → frame profile s ≡ frame false s
+same-elsewhere = ofPlainLaws.same-elsewhere
+
+pub breaks-elsewhere : (profile : Bool) (s : List ℕ) (o : ℕ) → (oct s exchangeAt ≡ gsaRekey → ⊥) → BreaksFrame profile s o →
+    BreaksFrame false s o
+breaks-elsewhere = ofPlainLaws.breaks-elsewhere
 
 pub fresh-are : (f : Frame) (e : WrapKey) → In e (freshKeysOf f) ↔ HasFreshKey f e
 fresh-are = ofStands.fresh-are
@@ -90,6 +107,17 @@ room-in-registration = ofRoom.room-in-registration
 pub room-without-entries : (roots : List Root) (entries : List WrapKey) (size : ℕ) (limits : Limits) (copies : List SaKey) (b : Bool)
     (old : Held) → entries ≡ [] → old .count ≤ limits .heldKeys → OverHeld roots entries size limits b copies old → ⊥
 room-without-entries = ofRoom.room-without-entries
+
+pub room-for-both : (roots : List Root) (entries : List WrapKey) (size : ℕ) (limits : Limits) (copies : List SaKey) (b : Bool)
+    (old : Held) → (EntriesConflict roots entries size → ⊥) → length entries + old .count ≤ limits .heldKeys →
+    OverHeld roots entries size limits b copies old → ⊥
+room-for-both = ofRoom.room-for-both
+
+-- "Over 128 then is 7, judged after 9"
+pub over-then-exactly : (s : State) (now : ℕ) (lent octets : List ℕ) (f : Frame) → IsFrame (s .profile) octets f →
+    ((m : ℕ) → Meets figures.limits s now lent octets m → ⊥) → (n : ℕ) (next : State) → Outcome figures.limits s now lent octets n next →
+    (n ≡ 7) ↔ OverSays figures.limits s now lent f
+over-then-exactly = ofOverSays.over-then-exactly
 
 -- "Leaving keeps the profile"
 pub members-profile : (profile : Bool) {e : State} {l : List Event} (r : Run figures.limits (newState figures.limits profile) l e) →
