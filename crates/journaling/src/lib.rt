@@ -7,9 +7,11 @@ ghost use Prim.Native.Nat.{ℕ, _≤_};
 ghost use mathlib.Core.Path.{_≡_};
 ghost use mathlib.Core.List.{List};
 ghost use lib.ListN.{length};
+ghost use Rattle.ikev2_numbers.specs.Codes.{mostOctets};
 ghost use Rattle.octets.specs.Numbers.{octetsOf};
+ghost use Rattle.state_keys.specs.Rooms.{wrappingKeyRoom};
 ghost use Rattle.rules_outcome.specs.Run.{Event, handed, sweep as swept, leave as left};
-ghost use Rattle.journal_rules.specs.Line.{entryOctets, lineOf};
+ghost use Rattle.journal_rules.specs.Line.{tickOctets, entryOctets, lineOf};
 ghost use Rattle.journaling.specs.Calls.{figureIn, JournalsStep, JournalsFrame};
 ghost use Rattle.journaling.specs.Reader.{GivesBack};
 ghost use Rattle.journaling.specs.inner.LinePutting.{textOf, PutsLine, Writable, StepTaken};
@@ -39,7 +41,7 @@ pub struct Journaled {
 
 // Writes `tick` as four octets.
 fn tick_octets(tick: u32) -> [u8; 4]
-    ensures { λ r. ⌜ r ≡ octetsOf 4 tick ⌝ }
+    ensures { λ r. ⌜ r ≡ octetsOf tickOctets tick ⌝ }
 {
     let t1 = tick / 256;
     let t2 = t1 / 256;
@@ -54,8 +56,8 @@ fn tick_octets(tick: u32) -> [u8; 4]
 
 // Writes the line of `key`, `tick` and `frame` to the start of `room`, if it finds room there. Answers its length, or 0.
 fn put_entry(room: &mut [u8], key: &[u8], tick: u32, frame: &[u8]) -> usize
-    requires { ⌜ length (now key) ≤ 32 ⌝ }
-    requires { ⌜ length (now frame) ≤ 16384 ⌝ }
+    requires { ⌜ length (now key) ≤ wrappingKeyRoom ⌝ }
+    requires { ⌜ length (now frame) ≤ mostOctets ⌝ }
     ensures { λ r. ⌜ PutsLine (textOf (entryOctets (now (key .entry)) tick (now (frame .entry)))) (now (room .entry)) (now
         (room .exit)) r ⌝ }
 {

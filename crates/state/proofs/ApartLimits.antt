@@ -11,7 +11,8 @@ use Rattle.state_keys.specs.Algorithms.{sizeOf}
 use Rattle.state_keys.specs.Kinds.{wrappingOf}
 use Rattle.state.specs.declared.held.Held.{Held}
 use Rattle.state.specs.declared.held.HeldKey.{HeldKey}
-use Rattle.state.specs.Held.{blankKey, heldOf, keyFormed, distinct, heldFormed, noKey, keyWith, heldKey, enteredKey}
+use Rattle.state.specs.Held.{blankKey, heldOf, keyFormed, distinct, heldFormed, noKey, keyWith, heldKey}
+use Rattle.state.specs.inner.Entering.{enteredKey}
 
 abbrev pub apart : Limits
 apart = record { heldKeys = 2; espPolicies = 3; wrapKeys = 4; saKeys = 5; deletedSpis = 6; sas = 7; freshKeys = 8 }

@@ -20,7 +20,7 @@ use Rattle.state.specs.declared.held.HeldKey.{HeldKey}
 use Rattle.state.specs.declared.held.Held.{Held}
 use Rattle.state.specs.declared.State.{State}
 use Rattle.state.specs.Held.{blankKey, keysOf, heldOf, keyFormed, idsOf, has, distinct, heldFormed, noKey, keyWith}
-use Rattle.state.specs.Held.{idBefore, enteredKey}
+use Rattle.state.specs.inner.Entering.{idBefore, enteredKey}
 use Rattle.state.specs.State.{newState, leftState, stateFormed, withTable, sweptState}
 use Rattle.state.specs.Blank.{AllKeysBlank, no-key, StateBlank}
 use Rattle.state.proofs.Laws.{swept-yes, swept-no}

@@ -20,7 +20,7 @@ use Rattle.state.specs.declared.held.Held.{Held}
 use Rattle.state.specs.declared.State.{State}
 use Rattle.state.specs.Least.{afterId}
 use Rattle.state.specs.Held.{blankKey, keysOf, heldOf, keyFormed, idsOf, has, distinct, heldFormed, noKey, keyWith, heldKey}
-use Rattle.state.specs.Held.{idBefore, enteredKey}
+use Rattle.state.specs.inner.Entering.{idBefore, enteredKey}
 use Rattle.state.specs.State.{stateFormed, withTable, sweptState, askedSa}
 
 -- ---- the least Message ID

@@ -3,9 +3,9 @@
 use Prim.Native.Nat.{ℕ, _-_}
 use mathlib.Core.Bool.{Bool, true, false, cond, not, _&&_}
 use mathlib.Core.List.{List, [], _∷_, _++_, map}
-use lib.Dec.{leb, ltb, eqb}
+use lib.Dec.{leb, eqb}
 use lib.ListN.{length, take, replicate}
-use Rattle.state_keys.specs.Lists.{all, any, insert}
+use Rattle.state_keys.specs.Lists.{all, any}
 use Rattle.state_keys.specs.Limits.{Limits}
 use Rattle.state_keys.specs.Algorithms.{sizeOf}
 use Rattle.state_keys.specs.Kinds.{wrappingOf}
@@ -58,11 +58,3 @@ keyWith id (k ∷ l) = cond (eqb (k .id) id) (record { fits = true; key = k .key
 -- the same in the held list; one whose count is over the limit has none
 unfoldable pub heldKey : Limits → ℕ → Held → MadeWrapping
 heldKey limits id h = cond (leb (h .count) (limits .heldKeys)) (keyWith id (keysOf h)) noKey
-
--- a stands before b in a list that is kept by Key IDs
-abbrev pub idBefore : HeldKey → HeldKey → Bool
-idBefore a b = ltb (a .id) (b .id)
-
--- the list with the key a in its place, if there is room
-unfoldable pub enteredKey : Limits → HeldKey → Held → Held
-enteredKey limits a h = cond (ltb (h .count) (limits .heldKeys)) (heldOf limits (insert idBefore a (keysOf h))) h

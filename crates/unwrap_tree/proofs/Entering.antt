@@ -12,7 +12,8 @@ use Rattle.state_keys.specs.Limits.{limits}
 use Rattle.state_keys.specs.Lists.{rising, insert}
 use Rattle.state_keys.proofs.Rising.{length-insert, rising-insert}
 use Rattle.state_keys.proofs.Members.{inserted-member, member-inserted}
-use Rattle.state.specs.Held.{keysOf, heldOf, idBefore, keyWith, heldKey, enteredKey}
+use Rattle.state.specs.Held.{keysOf, heldOf, keyWith, heldKey}
+use Rattle.state.specs.inner.Entering.{idBefore, enteredKey}
 use Rattle.state.specs.declared.held.HeldKey.{HeldKey}
 use Rattle.state.specs.declared.held.Held.{Held}
 use Rattle.state.proofs.Laws.{key-in}

@@ -4,9 +4,11 @@ use mathlib.Core.Path.{_≡_}
 use mathlib.Core.Bool.{false}
 use mathlib.Core.List.{List, [], _∷_, _++_}
 use lib.ListN.{length}
+use Rattle.ikev2_numbers.specs.Codes.{headerOctets, mostOctets}
 use Rattle.keywrap.specs.Answers.{written}
 use Rattle.text_rules.specs.Hex.{digitsOf}
 use Rattle.state_keys.specs.Limits.{limits}
+use Rattle.state_keys.specs.Rooms.{wrappingKeyRoom}
 use Rattle.rules_outcome.specs.Run.{Event}
 use Rattle.gikev2.specs.declared.Member.{Member}
 use Rattle.text_rules.specs.Characters.{newline}
@@ -23,11 +25,12 @@ pub data PutsLine (line room after : List ℕ) (n : ℕ) : Type 0 where
   left-out : n ≡ 0 → length room < length line → after ≡ room → PutsLine line room after n
   put-there : n ≡ length line → length line ≤ length room → after ≡ written line room → PutsLine line room after n
 
--- a frame that can be written: it has a header and at most 16,384 octets, and where its lent key is read, the key has at most 32
+-- a frame that can be written: it has a header and at most as many octets as a frame may have, and where its lent key is read, the key has
+-- at most as many as a wrapping key
 pub record Writable (frame lent : List ℕ) : Type 0 where
-  pub least : 28 ≤ length frame
-  pub most : length frame ≤ 16384
-  pub key : isGsaRekey frame ≡ false → length lent ≤ 32
+  pub least : headerOctets ≤ length frame
+  pub most : length frame ≤ mostOctets
+  pub key : isGsaRekey frame ≡ false → length lent ≤ wrappingKeyRoom
 
 -- the step takes the member to the next one
 abbrev pub StepTaken : Member → Event → Member → Type 0

@@ -9,7 +9,8 @@ use Rattle.state_keys.specs.Kinds.{wrappingOf}
 use Rattle.wire_attributes.specs.Tree.{WrapKey}
 use Rattle.state.specs.declared.held.HeldKey.{HeldKey}
 use Rattle.state.specs.declared.held.Held.{Held}
-use Rattle.state.specs.Held.{heldOf, idBefore}
+use Rattle.state.specs.Held.{heldOf}
+use Rattle.state.specs.inner.Entering.{idBefore}
 use Rattle.rules_chains.specs.Chain.{In, Root}
 use Rattle.rules_chains.specs.Refusals.{Value}
 

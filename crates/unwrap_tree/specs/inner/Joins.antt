@@ -2,7 +2,8 @@
 use mathlib.Core.Path.{_≡_}
 use mathlib.Core.Bool.{true, false}
 use Rattle.state_keys.specs.Limits.{limits}
-use Rattle.state.specs.Held.{heldKey, enteredKey}
+use Rattle.state.specs.Held.{heldKey}
+use Rattle.state.specs.inner.Entering.{enteredKey}
 use Rattle.state.specs.declared.held.Held.{Held}
 use Rattle.unwrap_search.specs.declared.open.Status.the-variants.{Done}
 use Rattle.unwrap_search.specs.declared.open.Entry.{Entry}

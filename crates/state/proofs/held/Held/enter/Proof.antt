@@ -6,7 +6,8 @@ use lib.ListN.{length}
 use Rattle.state_keys.specs.Limits.{limits}
 use Rattle.state_keys.proofs.Lists.{length-of-map}
 use Rattle.state_keys.proofs.Place.{Placing, placing-start, placing-ahead, placing-behind, placing-count, placing-all}
-use Rattle.state.specs.Held.{idBefore, blankKey}
+use Rattle.state.specs.Held.{blankKey}
+use Rattle.state.specs.inner.Entering.{idBefore}
 use Rattle.state.proofs.Laws.{entered-in, entered-out}
 use borrow.Author.Needs.{needs}
 use Rattle.state.proofs.held.Held.enter.Statement.{statement}
