@@ -28,7 +28,7 @@ use Rattle.journaling.specs.Reader.{Gives, FedWith, ReadInBlocks}
 use Rattle.journaling.specs.declared.Replayed.{Replayed}
 use Rattle.journaling.specs.declared.reading.JournalReader.{JournalReader}
 use Rattle.journaling.proofs.Blocks as ofBlocks
-pub use Rattle.journal_rules.proofs.AllSamples.{lines-written, lines-said}
+pub use Rattle.journal_rules.proofs.AllSamples.{lines-written, lines-said, reads-onto-profile, stops-onto-profile}
 
 pub line-back : (x : Event) → HoldableEvent x → readLine (digitsOf (eventOctets x)) ≡ says (asWritten x)
 line-back = ofLineBack.line-back

@@ -1,14 +1,19 @@
--- Lines computed: what is written for each kind of step, and what texts say.
+-- Lines computed: what is written for each kind of step, what texts say, and what journals give.
 use Prim.Native.Nat.{ℕ}
 use Prim.Native.Char.{code}
 use Prim.Native.String.{String, [] as none, _∷_ as _then_}
 use mathlib.Core.Path.{_≡_, refl}
+use mathlib.Core.Bool.{Bool}
 use mathlib.Core.List.{List, [], _∷_, _++_, map}
 use lib.ListN.{replicate}
 use Rattle.octets.specs.Numbers.{number, octetsOf}
 use Rattle.text_rules.specs.Hex.{isDigit, digitValue, digitOf, areDigits, isHex, octetsOfHex, digitsOf}
+use Rattle.text_rules.specs.Lines.{lines}
+use Rattle.state_keys.specs.Limits.{Limits}
+use Rattle.state.specs.State.{newState}
 use Rattle.rules_outcome.specs.Run.{Event, handed, sweep, leave}
 use Rattle.journal_rules.specs.Line.{eventOctets, lineOf, Said, says, otherKind, saidOf, readLine}
+use Rattle.journal_rules.specs.Replay.{goes-on, cut-short, stops, ReadBack}
 
 abbrev text : String → List ℕ
 text none = []
@@ -88,3 +93,15 @@ saidTable =
 pub lines-said : map (λ (r : SaidSample). readLine (r .text)) saidTable ≡ map (λ (r : SaidSample). r .said) saidTable
 unfolding readLine saidOf isHex areDigits isDigit octetsOfHex digitValue number
 lines-said = refl
+
+-- "onto a new member of the same profile": two lines that are taken and one that is cut; a line of no kind behind one that is taken
+pub reads-onto-profile : (limits : Limits) (profile : Bool) → ReadBack limits profile (text "ff\nff\n0") (newState limits profile) 0
+unfolding lines readLine saidOf isHex areDigits isDigit octetsOfHex digitValue number newState
+reads-onto-profile limits profile =
+    let s = newState limits profile in
+    goes-on s 1 _ _ leave s s 0 refl refl refl (goes-on s 2 _ _ leave s s 0 refl refl refl (cut-short s 3 _ _ refl))
+
+pub stops-onto-profile : (limits : Limits) (profile : Bool) → ReadBack limits profile (text "ff\nFF\nff\n") (newState limits profile) 2
+unfolding lines readLine saidOf isHex areDigits isDigit octetsOfHex digitValue number newState
+stops-onto-profile limits profile =
+    let s = newState limits profile in goes-on s 1 _ _ leave s s 2 refl refl refl (stops s 2 _ _ refl tt)
