@@ -45,8 +45,8 @@ pub demand-3-within : (s : State) (now : ℕ) (lent octets : List ℕ) (f : Fram
     Outcome figures.limits s now lent octets n next → Demand3 figures.limits s now lent f octets n next
 demand-3-within = ofDemand3.demand-3-within
 
-pub demand-3 : (limits : Limits) (s : State) (now : ℕ) (lent octets : List ℕ) (f : Frame)
-    (e : IsFrame (s .profile) octets f) (n : ℕ) (next : State) → Outcome limits s now lent octets n next → Demand3 limits s now lent f octets n next
+pub demand-3 : (limits : Limits) (s : State) (now : ℕ) (lent octets : List ℕ) (f : Frame) (e : IsFrame (s .profile) octets f) (n : ℕ)
+    (next : State) → Outcome limits s now lent octets n next → Demand3 limits s now lent f octets n next
 demand-3 = ofDemand3.demand-3
 
 pub held-after-registration :
@@ -57,9 +57,9 @@ held-after-registration = ofDemands.held-after-registration
 pub entries-are : (f : Frame) (e : WrapKey) → In e (wrapKeysOf f) ↔ HasWrapKey f e
 entries-are = ofStands.entries-are
 
-pub accepted-when-each-opens : (limits : Limits) (s : State) (now : ℕ) (lent octets : List ℕ) (f : Frame) (e : IsFrame (s .profile) octets f)
-    (none : (m : ℕ) → m < 9 → Meets limits s now lent octets m → ⊥) (n : ℕ) (next : State) → Outcome limits s now lent octets n next →
-    (n ≡ 0) ↔ (EachSaOpens limits s now lent f × (OverHeldOf limits s now lent f → ⊥))
+pub accepted-when-each-opens : (limits : Limits) (s : State) (now : ℕ) (lent octets : List ℕ) (f : Frame)
+    (e : IsFrame (s .profile) octets f) (none : (m : ℕ) → m < 9 → Meets limits s now lent octets m → ⊥) (n : ℕ) (next : State) →
+    Outcome limits s now lent octets n next → (n ≡ 0) ↔ (EachSaOpens limits s now lent f × (OverHeldOf limits s now lent f → ⊥))
 accepted-when-each-opens = ofJudged9.accepted-when-each-opens
 
 pub copies-of-own-bag : (limits : Limits) (s : State) (now : ℕ) (lent octets : List ℕ) (f : Frame) (e : IsFrame (s .profile) octets f)
@@ -67,9 +67,9 @@ pub copies-of-own-bag : (limits : Limits) (s : State) (now : ℕ) (lent octets :
     OpensTo limits s now lent f a x ↔ OpensUnder limits s now lent f a x
 copies-of-own-bag = ofDemands.copies-of-own-bag
 
-pub refused-when-one-does-not : (limits : Limits) (s : State) (now : ℕ) (lent octets : List ℕ) (f : Frame) (e : IsFrame (s .profile) octets f)
-    (none : (m : ℕ) → m < 9 → Meets limits s now lent octets m → ⊥) (n : ℕ) (next : State) → Outcome limits s now lent octets n next →
-    (n ≡ 9) ↔ OneMissing limits s now lent f
+pub refused-when-one-does-not : (limits : Limits) (s : State) (now : ℕ) (lent octets : List ℕ) (f : Frame)
+    (e : IsFrame (s .profile) octets f) (none : (m : ℕ) → m < 9 → Meets limits s now lent octets m → ⊥) (n : ℕ) (next : State) →
+    Outcome limits s now lent octets n next → (n ≡ 9) ↔ OneMissing limits s now lent f
 refused-when-one-does-not = ofJudged9.refused-when-one-does-not
 
 pub accepted-9-or-over : (limits : Limits) (s : State) (now : ℕ) (lent octets : List ℕ) (f : Frame) (e : IsFrame (s .profile) octets f)
@@ -82,8 +82,9 @@ pub refused-when-over : (limits : Limits) (s : State) (now : ℕ) (lent octets :
     (n ≡ 7) ↔ ((OneMissing limits s now lent f → ⊥) × OverHeldOf limits s now lent f)
 refused-when-over = ofJudged9.refused-when-over
 
-pub each-stands : (limits : Limits) (s : State) (now : ℕ) (lent octets : List ℕ) (f : Frame) (e : IsFrame (s .profile) octets f) (next : State)
-    (o : Outcome limits s now lent octets 0 next) (p : GroupSaPolicy) → In p (announced f) → Standing limits s now lent f next p
+pub each-stands : (limits : Limits) (s : State) (now : ℕ) (lent octets : List ℕ) (f : Frame) (e : IsFrame (s .profile) octets f)
+    (next : State) (o : Outcome limits s now lent octets 0 next) (p : GroupSaPolicy) → In p (announced f) →
+    Standing limits s now lent f next p
 each-stands = ofDemands.each-stands
 
 pub entered-live : (limits : Limits) (s : State) (now : ℕ) (lent octets : List ℕ) (f : Frame) (e : IsFrame (s .profile) octets f) (b : Sa) →
@@ -95,28 +96,30 @@ pub entered-parts : (limits : Limits) (s : State) (now : ℕ) (lent octets : Lis
     (b .encryption ≡ encryptionOctets (n .policy)) × (b .wrapping ≡ keyWrapOctets (n .policy)) × (b .octets ≡ padded 68 (n .octets))
 entered-parts = ofDemands.entered-parts
 
-pub table-after : (limits : Limits) (s : State) (now : ℕ) (lent octets : List ℕ) (f : Frame) (e : IsFrame (s .profile) octets f) (next : State)
-    (o : Outcome limits s now lent octets 0 next) (b : Sa) → In b (sasOf (next .table)) ↔ (Entered limits s now lent f b ⊎ Stayed s now f b)
+pub table-after : (limits : Limits) (s : State) (now : ℕ) (lent octets : List ℕ) (f : Frame) (e : IsFrame (s .profile) octets f)
+    (next : State) (o : Outcome limits s now lent octets 0 next) (b : Sa) →
+    In b (sasOf (next .table)) ↔ (Entered limits s now lent f b ⊎ Stayed s now f b)
 table-after = ofDemands.table-after
 
-pub rest-after : (limits : Limits) (s : State) (now : ℕ) (lent octets : List ℕ) (f : Frame) (e : IsFrame (s .profile) octets f) (next : State)
-    (o : Outcome limits s now lent octets 0 next) → (Inband f → next .held ≡ s .held) × (next .least ≡ leastAfterwards s f)
+pub rest-after : (limits : Limits) (s : State) (now : ℕ) (lent octets : List ℕ) (f : Frame) (e : IsFrame (s .profile) octets f)
+    (next : State) (o : Outcome limits s now lent octets 0 next) → (Inband f → next .held ≡ s .held) × (next .least ≡ leastAfterwards s f)
 rest-after = ofDemands.rest-after
 
-pub least-after : (limits : Limits) (s : State) (now : ℕ) (lent octets : List ℕ) (f : Frame) (e : IsFrame (s .profile) octets f) (next : State)
-    (o : Outcome limits s now lent octets 0 next) (l : Least) → (next .least ≡ l) ↔ LeastAs f (s .least) l
+pub least-after : (limits : Limits) (s : State) (now : ℕ) (lent octets : List ℕ) (f : Frame) (e : IsFrame (s .profile) octets f)
+    (next : State) (o : Outcome limits s now lent octets 0 next) (l : Least) → (next .least ≡ l) ↔ LeastAs f (s .least) l
 least-after = ofRest.least-after
 
-pub delay-after : (limits : Limits) (s : State) (now : ℕ) (lent octets : List ℕ) (f : Frame) (e : IsFrame (s .profile) octets f) (next : State)
-    (o : Outcome limits s now lent octets 0 next) (d : ℕ) → (delayOf f ≡ d) ↔ DelayAs f d
+pub delay-after : (limits : Limits) (s : State) (now : ℕ) (lent octets : List ℕ) (f : Frame) (e : IsFrame (s .profile) octets f)
+    (next : State) (o : Outcome limits s now lent octets 0 next) (d : ℕ) → (delayOf f ≡ d) ↔ DelayAs f d
 delay-after = ofRest.delay-after
 
-pub old-after : (limits : Limits) (s : State) (now : ℕ) (lent octets : List ℕ) (f : Frame) (e : IsFrame (s .profile) octets f) (next : State)
-    (o : Outcome limits s now lent octets 0 next) (b : Sa) → In b (sasOf (next .table)) ↔ (Entered limits s now lent f b ⊎ OldSa f s now b)
+pub old-after : (limits : Limits) (s : State) (now : ℕ) (lent octets : List ℕ) (f : Frame) (e : IsFrame (s .profile) octets f)
+    (next : State) (o : Outcome limits s now lent octets 0 next) (b : Sa) →
+    In b (sasOf (next .table)) ↔ (Entered limits s now lent f b ⊎ OldSa f s now b)
 old-after = ofRest.old-after
 
-pub asked-after : (limits : Limits) (s : State) (now : ℕ) (lent octets : List ℕ) (f : Frame)
-    (e : IsFrame (s .profile) octets f) (next : State) (o : Outcome limits s now lent octets 0 next) (p : GroupSaPolicy) → In p (announced f) →
+pub asked-after : (limits : Limits) (s : State) (now : ℕ) (lent octets : List ℕ) (f : Frame) (e : IsFrame (s .profile) octets f)
+    (next : State) (o : Outcome limits s now lent octets 0 next) (p : GroupSaPolicy) → In p (announced f) →
     AskedSays limits s now lent f next p
 asked-after = ofAsked.asked-after
 

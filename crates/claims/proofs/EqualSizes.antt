@@ -15,8 +15,9 @@ use Rattle.rules_outcome.specs.Outcome.{Outcome}
 use Rattle.rules_outcome.proofs.Demands as ofDemands
 use Rattle.state_keys.proofs.Made as ofMade
 
-pub held-of-member-bags : (limits : Limits) (s : State) (now : ℕ) (lent octets : List ℕ) (f : Frame) (e : IsFrame (s .profile) octets f) (next : State) →
-    Outcome limits s now lent octets 0 next → Registration f → (k : HeldKey) → In k (keysOf (next .held)) → OfMemberBags lent f k
+pub held-of-member-bags : (limits : Limits) (s : State) (now : ℕ) (lent octets : List ℕ) (f : Frame) (e : IsFrame (s .profile) octets f)
+    (next : State) → Outcome limits s now lent octets 0 next → Registration f → (k : HeldKey) → In k (keysOf (next .held)) →
+    OfMemberBags lent f k
 held-of-member-bags = ofDemands.held-of-member-bags
 
 pub two-cuts : (x : List ℕ) → rekeyOf x 20 24 ≡ rekeyOf x 28 16 → ⊥

@@ -34,18 +34,18 @@ inband-roots = ofRows.inband-roots
 pub one-of-four : (f : Frame) → rowOf f .admitted ≡ true → Registration f ⊎ Rekey f
 one-of-four = ofRows.one-of-four
 
-pub header-not-read : (limits : Limits) (s : State) (now : ℕ) (lent octets : List ℕ) (f : Frame) (e : IsFrame (s .profile) octets f) (b : Inband f)
-    (n : ℕ) (next : State) (o : Outcome limits s now lent octets n next) (others : List ℕ) (g : Frame) → IsFrame (s .profile) others g → Inband g →
-    f .payloads ≡ g .payloads → Outcome limits s now lent others n next
+pub header-not-read : (limits : Limits) (s : State) (now : ℕ) (lent octets : List ℕ) (f : Frame) (e : IsFrame (s .profile) octets f)
+    (b : Inband f) (n : ℕ) (next : State) (o : Outcome limits s now lent octets n next) (others : List ℕ) (g : Frame) →
+    IsFrame (s .profile) others g → Inband g → f .payloads ≡ g .payloads → Outcome limits s now lent others n next
 header-not-read = ofInband.header-not-read
 
-pub least-not-judged : (limits : Limits) (s : State) (now : ℕ) (lent octets : List ℕ) (f : Frame) (e : IsFrame (s .profile) octets f) (b : Inband f)
-    (n : ℕ) (next : State) (o : Outcome limits s now lent octets n next) (l : Least) →
+pub least-not-judged : (limits : Limits) (s : State) (now : ℕ) (lent octets : List ℕ) (f : Frame) (e : IsFrame (s .profile) octets f)
+    (b : Inband f) (n : ℕ) (next : State) (o : Outcome limits s now lent octets n next) (l : Least) →
     Beside limits s (record { table = s .table; held = s .held; least = l; profile = s .profile }) now lent octets n next
 least-not-judged = ofInband.least-not-judged
 
-pub never-3 : (limits : Limits) (s : State) (now : ℕ) (lent octets : List ℕ) (f : Frame) (e : IsFrame (s .profile) octets f) (b : Inband f) (n : ℕ)
-    (next : State) (o : Outcome limits s now lent octets n next) → n ≡ 3 → ⊥
+pub never-3 : (limits : Limits) (s : State) (now : ℕ) (lent octets : List ℕ) (f : Frame) (e : IsFrame (s .profile) octets f) (b : Inband f)
+    (n : ℕ) (next : State) (o : Outcome limits s now lent octets n next) → n ≡ 3 → ⊥
 never-3 = ofInband.never-3
 
 pub no-wrap-key : (f : Frame) → rowOf f .«allows_member_bag» ≡ false → barredMemberBag f ≡ false → wrapKeysOf f ≡ []
@@ -61,18 +61,18 @@ opens-under-lent = ofInband.opens-under-lent
 pub names-held : (x : ℕ) → exchangeOf x .«names_held_keys» ≡ true → x ≡ 41
 names-held = ofRows.names-held
 
-pub held-not-read : (limits : Limits) (s : State) (now : ℕ) (lent octets : List ℕ) (f : Frame) (e : IsFrame (s .profile) octets f) (b : Inband f) (n : ℕ)
-    (next : State) (o : Outcome limits s now lent octets n next) (h : Held) → stateFormed limits s ≡ true →
+pub held-not-read : (limits : Limits) (s : State) (now : ℕ) (lent octets : List ℕ) (f : Frame) (e : IsFrame (s .profile) octets f)
+    (b : Inband f) (n : ℕ) (next : State) (o : Outcome limits s now lent octets n next) (h : Held) → stateFormed limits s ≡ true →
     stateFormed limits (record { table = s .table; held = h; least = s .least; profile = s .profile }) ≡ true →
     Beside limits s (record { table = s .table; held = h; least = s .least; profile = s .profile }) now lent octets n next
 held-not-read = ofInband.held-not-read
 
-pub held-stays : (limits : Limits) (s : State) (now : ℕ) (lent octets : List ℕ) (f : Frame) (e : IsFrame (s .profile) octets f) (b : Inband f) (n : ℕ)
-    (next : State) (o : Outcome limits s now lent octets n next) → next .held ≡ s .held
+pub held-stays : (limits : Limits) (s : State) (now : ℕ) (lent octets : List ℕ) (f : Frame) (e : IsFrame (s .profile) octets f)
+    (b : Inband f) (n : ℕ) (next : State) (o : Outcome limits s now lent octets n next) → next .held ≡ s .held
 held-stays = ofInband.held-stays
 
-pub least-stays : (limits : Limits) (s : State) (now : ℕ) (lent octets : List ℕ) (f : Frame) (e : IsFrame (s .profile) octets f) (b : Inband f) (n : ℕ)
-    (next : State) (o : Outcome limits s now lent octets n next) → newRekey f ≡ false → next .least ≡ s .least
+pub least-stays : (limits : Limits) (s : State) (now : ℕ) (lent octets : List ℕ) (f : Frame) (e : IsFrame (s .profile) octets f)
+    (b : Inband f) (n : ℕ) (next : State) (o : Outcome limits s now lent octets n next) → newRekey f ≡ false → next .least ≡ s .least
 least-stays = ofInband.least-stays
 
 pub members-formed : (profile : Bool) {e : State} {l : List Event} (r : Run limits (newState limits profile) l e) →

@@ -98,7 +98,8 @@ one-of-ten = ofOrder.one-of-ten
 pub sealed-never-10 : (limits : Limits) (s : State) (now : ℕ) (o room : List ℕ) (c : Choice) → FitChoice c → OpenedFrame o →
     length (sealedFrame (aesKeyOf (sealingPart limits s)) (saltOf (sealingPart limits s)) o c) ≤ 16384 → 16384 ≤ length room →
     (n offset : ℕ) (next : State) (after : List ℕ) →
-    SealedOutcome limits s now (sealedFrame (aesKeyOf (sealingPart limits s)) (saltOf (sealingPart limits s)) o c) room n offset next after →
+    SealedOutcome limits s now (sealedFrame (aesKeyOf (sealingPart limits s)) (saltOf (sealingPart limits s)) o c) room n offset next
+    after →
     n ≡ 10 → ⊥
 sealed-never-10 = ofDetermined.sealed-never-10
 

@@ -61,17 +61,18 @@ pub not-before : (start n : ℕ) (inside : start < 2 ^ 32) (k : ℕ) → k < 100
 not-before = ofLifetimes.not-before
 
 pub over-ran-out : (limits : Limits) (now : ℕ) (lent octets : List ℕ) (f : Frame) (x : f .header .exchange ≡ 41) (s : State)
-    (e : IsFrame (s .profile) octets f) (b : Sa) (m : In b (sasOf (s .table))) (over : overLiveRekey (f .header .spi) b ≡ true) (is-due : due now b ≡ true) →
-    Outcome limits s now lent octets 2 s
+    (e : IsFrame (s .profile) octets f) (b : Sa) (m : In b (sasOf (s .table))) (over : overLiveRekey (f .header .spi) b ≡ true)
+    (is-due : due now b ≡ true) → Outcome limits s now lent octets 2 s
 over-ran-out = ofRanOut.over-ran-out
 
 pub over-swept : (limits : Limits) (now : ℕ) (lent octets : List ℕ) (f : Frame) (x : f .header .exchange ≡ 41) (s : State)
-    (e : IsFrame (s .profile) octets f) (b : Sa) (m : In b (sasOf (s .table))) (over : overLiveRekey (f .header .spi) b ≡ true) (is-due : due now b ≡ true) →
-    Outcome limits (sweptState limits now s) now lent octets 2 (sweptState limits now s)
+    (e : IsFrame (s .profile) octets f) (b : Sa) (m : In b (sasOf (s .table))) (over : overLiveRekey (f .header .spi) b ≡ true)
+    (is-due : due now b ≡ true) → Outcome limits (sweptState limits now s) now lent octets 2 (sweptState limits now s)
 over-swept = ofRanOut.over-swept
 
-pub empty-is-2 : (limits : Limits) (s : State) (now : ℕ) (lent octets : List ℕ) (f : Frame) (e : IsFrame (s .profile) octets f) (b : Inband f) (n : ℕ)
-    (next : State) (o : Outcome limits s now lent octets n next) → all (due now) (sasOf (s .table)) ≡ true → (n ≡ 2) × (next ≡ s)
+pub empty-is-2 : (limits : Limits) (s : State) (now : ℕ) (lent octets : List ℕ) (f : Frame) (e : IsFrame (s .profile) octets f)
+    (b : Inband f) (n : ℕ) (next : State) (o : Outcome limits s now lent octets n next) → all (due now) (sasOf (s .table)) ≡ true →
+    (n ≡ 2) × (next ≡ s)
 empty-is-2 = ofInband.empty-is-2
 
 pub samples-answered : Samples

@@ -53,6 +53,6 @@ pub any-order-exactly : (l m : List (List ℕ)) → ((o : List ℕ) → count (s
 any-order-exactly = ofPermuted.any-order-exactly
 
 pub received-rearranged : (m : Member) (now : ℕ) (lent octets others : List ℕ) (f : Frame) → IsFrame (m .state .profile) octets f →
-    Rearranged octets others → (a b : Answer) (next after : Member) → Receives m now lent octets a next → Receives m now lent others b after →
-    (a ≡ b) × (next ≡ after)
+    Rearranged octets others → (a b : Answer) (next after : Member) → Receives m now lent octets a next →
+    Receives m now lent others b after → (a ≡ b) × (next ≡ after)
 received-rearranged = ofReceived.received-rearranged

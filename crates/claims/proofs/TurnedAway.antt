@@ -57,15 +57,16 @@ outcome-read = ofReadings.outcome-read
 
 pub no-replay : (limits : Limits) (s₀ s₁ : State) (now : ℕ) (lent octets : List ℕ) (f : Frame) (e : IsFrame (s₀ .profile) octets f)
     (x : f .header .exchange ≡ 41) (none : newRekey f ≡ false) (o : Outcome limits s₀ now lent octets 0 s₁) (s₂ : State) (l : List Event)
-    (r : Run limits s₁ l s₂) (quiet : AllQuiet limits r) (now′ : ℕ) (lent′ octets′ : List ℕ) (g : Frame) (e′ : IsFrame (s₂ .profile) octets′ g)
-    (x′ : g .header .exchange ≡ 41) (s₃ : State) → g .header .messageId ≤ f .header .messageId → Outcome limits s₂ now′ lent′ octets′ 0 s₃ →
-    ⊥
+    (r : Run limits s₁ l s₂) (quiet : AllQuiet limits r) (now′ : ℕ) (lent′ octets′ : List ℕ) (g : Frame)
+    (e′ : IsFrame (s₂ .profile) octets′ g) (x′ : g .header .exchange ≡ 41) (s₃ : State) → g .header .messageId ≤ f .header .messageId →
+    Outcome limits s₂ now′ lent′ octets′ 0 s₃ → ⊥
 no-replay = ofRunsReplay.no-replay
 
 pub none-any-more : (limits : Limits) (s₀ s₁ : State) (now : ℕ) (lent octets : List ℕ) (f : Frame) (e : IsFrame (s₀ .profile) octets f)
     (x : f .header .exchange ≡ 41) (none : newRekey f ≡ false) (o : Outcome limits s₀ now lent octets 0 s₁) (s₂ : State) (l : List Event)
-    (r : Run limits s₁ l s₂) (quiet : AllQuiet limits r) (now′ : ℕ) (lent′ octets′ : List ℕ) (g : Frame) (e′ : IsFrame (s₂ .profile) octets′ g)
-    (x′ : g .header .exchange ≡ 41) (s₃ : State) → f .header .messageId ≡ 4294967295 → Outcome limits s₂ now′ lent′ octets′ 0 s₃ → ⊥
+    (r : Run limits s₁ l s₂) (quiet : AllQuiet limits r) (now′ : ℕ) (lent′ octets′ : List ℕ) (g : Frame)
+    (e′ : IsFrame (s₂ .profile) octets′ g) (x′ : g .header .exchange ≡ 41) (s₃ : State) → f .header .messageId ≡ 4294967295 →
+    Outcome limits s₂ now′ lent′ octets′ 0 s₃ → ⊥
 none-any-more = ofRunsReplay.none-any-more
 
 pub refused-quiet :
