@@ -1,6 +1,6 @@
--- "OVER 128 THEN IS 7, JUDGED AFTER 9" (document 02, T-11): where none of 1 to 9 applies, 7 is given exactly when a GSA_REKEY of a member
--- with the profile announces a Rekey SA, its fresh path is not empty and ends on a held key, and the path, that key and the held keys
--- behind it whose IDs the path has not are over the limit.
+-- WHEN THE LAST 7 IS GIVEN: "Over 128 then is 7, judged after 9" (document 02, T-11). Where none of 1 to 9 applies, it is given exactly when
+-- a GSA_REKEY of a member with the profile announces a Rekey SA, its fresh path is not empty and ends on a held key, and the path, that key
+-- and the held keys behind it whose IDs the path has not are over the limit.
 use native.Mathlib.Omega.{arith}
 use Prim.Native.Nat.{ℕ, _≤_, _<_}
 use mathlib.Core.Path.{_≡_, refl, ap, sym, _∙_, subst}

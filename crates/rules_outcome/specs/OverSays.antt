@@ -1,5 +1,5 @@
--- "OVER 128 THEN IS 7, JUDGED AFTER 9" (document 02, T-11) in the customer's words: the vocabulary of the theorem `over-then-exactly`
--- (proofs/OverSays.antt). No contract cites this file.
+-- WHEN THE LAST 7 IS GIVEN, in the customer's words: "Over 128 then is 7, judged after 9" (document 02, T-11). The vocabulary of the theorem
+-- `over-then-exactly` (proofs/OverSays.antt). No contract cites this file.
 use Prim.Native.Nat.{ℕ, _≤_, _<_}
 use mathlib.Core.Path.{_≡_}
 use mathlib.Core.Bool.{true, not}
