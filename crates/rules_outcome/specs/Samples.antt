@@ -111,7 +111,7 @@ KeyTree = (r : Around) (now : ℕ) (lent x v₁ v₃ v₇ octets : List ℕ) →
 
 -- ---- fresh tree keys in a rekey
 -- RFC 9838, Appendix A.4, the member E, whose keys are 2->5->11: "KD(GP(SA3)(1{K_sa3},15{K_sa3}),MP(6{15},16{15},11{16})", with document
--- 02's private entries in the place of the Member bag (T-11). The old Rekey SA's default key are the last 16 of its keying octets. Neither
+-- 02's private entries in the place of the Member bag (T-11). The old Rekey SA's default key is the last 16 of its keying octets. Neither
 -- the copy under 1 nor the entry under 6 opens for E, whatever they are
 abbrev KeyTreeAnew : Type 0
 KeyTreeAnew = (r : Around) (now : ℕ) (lent z x v₂ v₅ v₁₁ v₁₅ v₁₆ w₁ w₆ octets : List ℕ) → Key v₂ → Key v₅ → Key v₁₁ →
