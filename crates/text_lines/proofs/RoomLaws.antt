@@ -1,5 +1,5 @@
 -- Laws of text put into lent room.
-use Prim.Native.Nat.{ℕ, suc, _+_, _-_, _≤_, min}
+use Prim.Native.Nat.{ℕ, suc, _+_, _-_, _<_, _≤_, min}
 use mathlib.Core.Path.{_≡_, refl, ap, sym, subst, _∙_}
 use mathlib.Core.List.{List, [], _∷_, _++_, append-assoc, append-nil}
 use native.Mathlib.Omega.{arith}
@@ -106,3 +106,15 @@ pub puts-done : {room : List ℕ} {at : ℕ} {text now : List ℕ} {place : ℕ}
 puts-done {room} {at} {text} {now} {place} p e =
     subst (λ (l : List ℕ). Put room at l now place)
     (sym (append-nil (p .done)) ∙ ap (λ (l : List ℕ). p .done ++ l) (sym e) ∙ p .all) (p .put)
+
+-- a room that is full takes no more
+pub puts-full : {room : List ℕ} {at : ℕ} {text now : List ℕ} {place : ℕ} {rest : List ℕ}
+    → Puts room at text now place rest → length room ≤ place → Put room at text now place
+puts-full {room} {at} {text} {now} {place} {rest} p h =
+    let e = length-puts p in
+    put-as (p .all)
+    (put-append (p .put) (record { octets = sym (sets-out rest now place (omega arith)); place = omega arith }))
+
+-- one octet stored where there is room
+pub put-stored : (room : List ℕ) (at c : ℕ) → at < length room → Put room at (c ∷ []) (set room at c) (at + 1)
+put-stored room at c h = record { octets = refl; place = omega arith }

@@ -2,7 +2,7 @@
 // Internal: crates of this repository alone call it.
 ghost use mathlib.Core.Path.{_≡_};
 ghost use mathlib.Core.List.{_∷_, [], _++_};
-ghost use Prim.Native.Nat.{_+_, _*_, _/_, _%_, _<_, _≤_};
+ghost use Prim.Native.Nat.{_+_, _-_, _*_, _/_, _%_, _<_, _≤_, min};
 ghost use lib.ListN.{length, take, getD};
 ghost use Rattle.text_rules.specs.Hex.{isDigit, digitValue, digitOf, areDigits, isHex, octetsOfHex, digitsOf, numberFrom};
 ghost use Rattle.text_rules.specs.Input.{isTaken};
@@ -85,17 +85,32 @@ fn octet_at(text: &[u8], i: usize) -> u8
     16 * value_of(text[i]) + value_of(text[i + 1])
 }
 
-// Writes the octets of the hexadecimal `text` into `room` from `at` on, as many as find room. Answers the place behind them.
+// Answers how many of `n` octets find room from `at` on in a room of `size` octets.
+fn fitting(n: usize, at: usize, size: usize) -> usize
+    ensures { λ r. ⌜ r ≡ min n (size - at) ⌝ }
+{
+    if at < size {
+        let left = size - at;
+        if left < n {
+            return left;
+        }
+        return n;
+    }
+    0
+}
+
+// Writes the octets of the hexadecimal `text` into `room` from `at` on, as many as find room. Answers the place behind them. Their number is
+// known before the loop, because the compiler then reads many digits at a time.
 pub fn put_octets(room: &mut [u8], at: usize, text: &[u8]) -> usize
     ensures { λ r. ⌜ Put (now (room .entry)) at (octetsOfHex (now (text .entry))) (now (room .exit)) r ⌝ }
 {
-    let mut place = at;
-    let mut i = 0;
-    while 2 <= text.len() - i {
-        place = put(room, place, octet_at(text, i));
-        i += 2;
+    let n = fitting(text.len() / 2, at, room.len());
+    let mut k: usize = 0;
+    while k < n {
+        room[at + k] = octet_at(text, 2 * k);
+        k += 1;
     }
-    place
+    at + n
 }
 
 // Writes the two digits of `octet` into `room` from `at` on, the higher first. Answers the place behind them.
