@@ -5,14 +5,15 @@ ghost use lib.ListN.{take};
 ghost use Rattle.state_keys.specs.Limits.{limits};
 ghost use Rattle.state_table.specs.Table.{sasOf, tableOf};
 ghost use Rattle.rules_outcome.specs.After.{insertAll};
-use state_keys::limits::SAS;
+ghost use Rattle.unwrap_sas.specs.inner.Keyed.{newSas};
 use state_sa::entry::Sa;
 use state_table::Table;
 use state_table::change::goes_ahead;
+use unwrap_sas::joining::NEW_SAS;
 
 // Enters the first `n` of `new` into the table `t`, each at its place in the table's order. The table has room for them.
-pub fn enter_all(t: Table, new: [Sa; SAS], n: usize) -> Table
-    requires { ⌜ (t .count + n ≤ limits .sas) × (t ≡ tableOf limits (sasOf t)) ⌝ }
+pub fn enter_all(t: Table, new: [Sa; NEW_SAS], n: usize) -> Table
+    requires { ⌜ (t .count + n ≤ limits .sas) × (t ≡ tableOf limits (sasOf t)) × (n ≤ newSas) ⌝ }
     ensures { λ r. ⌜ r ≡ tableOf limits (insertAll (take n new) (sasOf t)) ⌝ }
 {
     let mut sas = t.sas;

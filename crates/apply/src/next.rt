@@ -10,6 +10,7 @@ ghost use Rattle.state.specs.declared.State.{State};
 ghost use Rattle.state.specs.declared.least.Least.the-variants.{Id};
 ghost use Rattle.rules_refusals.specs.Number2.{notDueSas};
 ghost use Rattle.rules_outcome.specs.After.{oldSas, leastBy};
+ghost use Rattle.unwrap_sas.specs.inner.Keyed.{newSas};
 ghost use Rattle.apply.specs.inner.Following.{Told, Follows};
 use crate::entering::enter_all;
 use crate::retiring::DeletesAt;
@@ -18,9 +19,9 @@ use crate::standing::standing;
 use state::State;
 use state::held::Held;
 use state::least::Least;
-use state_keys::limits::SAS;
 use state_sa::entry::Sa;
 use state_table::Table;
+use unwrap_sas::joining::NEW_SAS;
 use wire_frames::exchanges::LeastAfter;
 
 // What an accepted frame says of the member afterwards.
@@ -70,12 +71,12 @@ pub fn next(
     s: &[u8],
     tick: u32,
     x: Said,
-    new: [Sa; SAS],
+    new: [Sa; NEW_SAS],
     n: usize,
     held: Held,
 ) -> State
     requires { ⌜ ((f : Frame) × Told (now s) x f) ⌝ }
-    requires { ⌜ (state .table .count ≤ limits .sas) × (length (notDueSas tick state) + n ≤ limits .sas) ⌝ }
+    requires { ⌜ (state .table .count ≤ limits .sas) × (length (notDueSas tick state) + n ≤ limits .sas) × (n ≤ newSas) ⌝ }
     ensures { λ r. ⌜ ((f : Frame) → Told (now (s .entry)) x f → Follows state tick f (take n new) held r) ⌝ }
 {
     let t = state.table;

@@ -1,6 +1,8 @@
 // Retires the SAs that Delete payloads name.
 ghost use mathlib.Core.Path.{_≡_};
 ghost use Rattle.rules_outcome.specs.After.{isZero};
+ghost use Rattle.state_keys.specs.Limits.{limits};
+ghost use Prim.Native.Nat.{_≤_, _<_};
 ghost use mathlib.Core.Bool.{true};
 ghost use mathlib.Core.List.{List};
 ghost use Rattle.wire_frames.specs.Delete.{Delete, deleteOf, deleteFits};
@@ -53,16 +55,24 @@ fn is_named(a: Sa, o: &[u8]) -> bool
     false
 }
 
+// Answers how many places of a table with this `count` hold SAs: none if the count is over the limit.
+fn places(count: usize) -> usize
+    ensures { λ r. ⌜ (r ≤ limits .sas) × (limits .sas < count → r ≡ 0) × (count ≤ limits .sas → r ≡ count) ⌝ }
+{
+    if SAS < count {
+        return 0;
+    }
+    count
+}
+
 // Retires the ESP SAs that the Delete payload with the body `o` names, in one pass over the table `t`. A table with a count over the limit
-// stays as it is.
+// stays as it is. There is one return, because a second one takes stack for a table more.
 fn retire_spis(t: Table, o: &[u8], tick: u32, delay: u16) -> Table
     requires { ⌜ deleteFits (now o) ≡ true ⌝ }
     ensures { λ r. ⌜ r ≡ retiredThere (namedIn (deleteOf (now (o .entry)) .spis)) tick delay t ⌝ }
 {
-    let n = t.count;
-    if SAS < n {
-        return t;
-    }
+    let count = t.count;
+    let n = places(count);
     let mut sas = t.sas;
     let mut i: usize = 0;
     while i < n {
@@ -73,7 +83,7 @@ fn retire_spis(t: Table, o: &[u8], tick: u32, delay: u16) -> Table
         }
         i += 1;
     }
-    Table { sas, count: n }
+    Table { sas, count }
 }
 
 // How many Delete payloads a frame has, and where the first one starts.

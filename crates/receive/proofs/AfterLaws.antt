@@ -33,7 +33,7 @@ use Rattle.unwrap_lending.proofs.HeldLaws.{getD-any, held-within}
 use Rattle.unwrap_copies.specs.inner.Openers.{OneOpens, OpenersAre}
 use Rattle.unwrap_paths.specs.declared.held.PathHeld.{PathHeld}
 use Rattle.unwrap_paths.specs.inner.Holding.{PathTells}
-use Rattle.receive.specs.inner.Passing.{EachOpens, HeldTold}
+use Rattle.receive.specs.inner.Passing.{EachHasCopy, HeldTold}
 use Rattle.receive.specs.inner.Opening.{SomeOpener, NextTold}
 
 -- ---- the frame's own keys and the held ones are lent
@@ -53,7 +53,7 @@ gathered-in g _ a b (List·Memᴰ·head {x} {xs} e) n = Memᴰ·append-left (gat
 gathered-in g _ a b (List·Memᴰ·tail {x} {xs} m) n = Memᴰ·append-right (g x) (gathered-in g xs a b m n)
 
 module _ (roots : List Root) (entries : List WrapKey) (size : ℕ) (f : Frame) where
-  pub some-opener : EachOpens roots entries size f → SomeOpener roots entries size f
+  pub some-opener : EachHasCopy roots entries size f → SomeOpener roots entries size f
   unfolding rekeyCopies
   some-opener each n =
       let p = some-passes isRekey (announced f) n in
@@ -68,7 +68,7 @@ module _ (roots : List Root) (entries : List WrapKey) (size : ℕ) (f : Frame) w
       )
 
   -- where each SA has its key, each has a copy that opens
-  pub each-opens : (now : ℕ) (r : Keyed) → KeyedBy roots entries size f now r → r .found ≡ found.Keys → EachOpens roots entries size f
+  pub each-opens : (now : ℕ) (r : Keyed) → KeyedBy roots entries size f now r → r .found ≡ found.Keys → EachHasCopy roots entries size f
   each-opens now r k e a i =
       let q = subst (λ (x : SasFound). KeysOf roots entries size f (announced f) now x (r .sas) (r .count)) e (k .keys) in
       let o = each-enters roots entries size now f (announced f) (take (r .count) (r .sas)) (q .1) a i in

@@ -19,15 +19,17 @@ use Rattle.state.specs.declared.State.{State}
 use Rattle.state.specs.State.{stateFormed}
 use Rattle.rules_refusals.specs.Contents.{rowOf, gather, some, several, hasGsa, hasKd, announced, groupWides}
 use Rattle.rules_refusals.specs.Contents.{memberBags, wrapKeysOf, freshKeysOf}
-use Rattle.rules_refusals.specs.Fitness.{isRekey}
+use Rattle.rules_refusals.specs.Fitness.{isEsp, isRekey, transformsFit}
 use Rattle.rules_refusals.specs.Number2.{notDueSas, overLiveRekey, otherSpis}
 use Rattle.rules_refusals.specs.Number4.{number4OfFrame, barredMemberBag, twoGsa, twoKd, severalRekeyPolicies, severalGroupWide}
 use Rattle.rules_refusals.specs.Number4.{severalMemberBags, keyLengthTwice, initialMessageIdTwice, delayTwice, lifetimeTwice}
 use Rattle.rules_refusals.specs.Number5.{number5OfFrame, otherTransforms, lentKeySize}
 use Rattle.rules_refusals.specs.Number6.{number6OfFrame, policyUnpaired, bagUnpaired, wrapKeyId, freshKeyId}
-use Rattle.rules_refusals.specs.Number7.{number7OfFrame, number7OfMember, manyWrapKeys, manySaKeys, manyFreshKeys, manySas}
+use Rattle.rules_refusals.specs.Number7.{number7OfFrame, number7OfMember, manyEspPolicies, manyWrapKeys, manySaKeys, manyFreshKeys, manySas}
 use Rattle.rules_refusals.specs.Refusals.{Number, one, applies, judged, number2, number3, number4, number5, number6, number7, refusal}
 use Rattle.rules_refusals.proofs.Clear.{or-none, no-clause}
+use Rattle.state_keys.proofs.Cases.{bool-cases}
+use Rattle.unwrap_sas.specs.inner.Keyed.{newSas}
 use Rattle.rules_refusals.proofs.ExchangeRows.{by-row}
 use Rattle.rules_outcome.proofs.RunsClear.{None}
 use Rattle.receive.specs.inner.Passing.{RekeysOver}
@@ -50,6 +52,32 @@ lent-or-own e = false≢true (ap is-own e)
     is-own : KeyZero → Bool
     is-own keyZero.Lent = false
     is-own keyZero.RekeySa = true
+
+-- policies whose transforms are fit are of ESP or of the Rekey SA
+count-yes : {A : Type 0} (p : A → Bool) (a : A) (l : List A) → p a ≡ true → count p (a ∷ l) ≡ count p l + 1
+unfolding count
+count-yes p a l h = rw h refl
+
+count-least : {A : Type 0} (p : A → Bool) (a : A) (l : List A) → count p l ≤ count p (a ∷ l)
+unfolding count
+count-least p a l = bool-cases (p a) (λ h. rw h (omega arith)) (λ h. rw h (omega arith))
+
+is-of-two : (a : Bool) (p : GroupSaPolicy) → not (transformsFit a p) ≡ false → isEsp p ≡ false → isRekey p ≡ true
+unfolding transformsFit
+is-of-two a p e h =
+    bool-cases (isRekey p) (λ g. g) (λ g. absurd (false≢true (sym (rw (h, g) at e))))
+
+of-two : (a : Bool) (l : List GroupSaPolicy) → any (λ (p : GroupSaPolicy). not (transformsFit a p)) l ≡ false →
+    length l ≤ count isEsp l + count isRekey l
+unfolding any
+of-two a [] e = omega arith
+of-two a (p ∷ l) e =
+    let q = or-none (not (transformsFit a p)) (any (λ (x : GroupSaPolicy). not (transformsFit a x)) l) e in
+    let r = of-two a l (q .1) in
+    let esps = count-least isEsp p l in
+    let rekeys = count-least isRekey p l in
+    bool-cases (isEsp p) (λ h. let n = count-yes isEsp p l h in omega (arith, r, rekeys, n))
+    (λ h. let n = count-yes isRekey p l (is-of-two a p (q .0) h) in omega (arith, r, esps, n))
 
 module _ (m : State) (now : ℕ) (lent : List ℕ) (f : Frame) (e : refusal limits m now lent f ≡ 0) where
   from-2 : None (number2 limits m now (f .header .exchange) (f .header .spi))
@@ -227,3 +255,12 @@ module _ (m : State) (now : ℕ) (lent : List ℕ) (f : Frame) (e : refusal limi
   few-sas =
       ltb-false (limits .sas) (length (notDueSas now m) + length (announced f))
       (no-clause (number7OfMember limits m now f) 0 (from-7 .ofMember))
+
+  few-esps : count isEsp (announced f) ≤ limits .espPolicies
+  unfolding number7OfFrame manyEspPolicies
+  few-esps = ltb-false (limits .espPolicies) (count isEsp (announced f)) (no-clause (number7OfFrame limits f) 0 (from-7 .ofFrame))
+
+  -- the SAs of a frame: its ESP SAs and a Rekey SA
+  pub few-announced : length (announced f) ≤ newSas
+  unfolding otherTransforms
+  few-announced = omega (arith, of-two (rowOf f .authentication) (announced f) transforms-fit, few-esps, rekeys-few)

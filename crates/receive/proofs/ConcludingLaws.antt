@@ -37,12 +37,12 @@ use Rattle.rules_outcome.proofs.Enters.{each-enters}
 use Rattle.rules_outcome.proofs.Members.{in-map, map-in}
 use Rattle.apply.specs.inner.Following.{Follows}
 use Rattle.check_judging.specs.declared.facts.Facts.{Facts}
-use Rattle.unwrap_sas.specs.inner.Keyed.{SomeConflict, NoConflict, SomeUnopened, KeysOf}
+use Rattle.unwrap_sas.specs.inner.Keyed.{newSas, SomeConflict, NoConflict, SomeUnopened, KeysOf, KeyedBy}
 use Rattle.unwrap_sas.specs.declared.joining.Keyed.{Keyed}
 use Rattle.unwrap_sas.specs.declared.joining.SasFound.{SasFound}
 use Rattle.unwrap_sas.specs.declared.joining.SasFound.the-variants as found
-use Rattle.receive.specs.inner.Passing.{EachOpens, HeldTold, FrameOpened}
-use Rattle.receive.proofs.ClauseLaws.{few-sas}
+use Rattle.receive.specs.inner.Passing.{Passed, EachHasCopy, HeldTold}
+use Rattle.receive.proofs.ClauseLaws.{few-sas, few-announced}
 
 module _ (m : State) (now : ℕ) (lent : List ℕ) (f : Frame) (e : refusal limits m now lent f ≡ 0) where
   abbrev roots : List Root
@@ -84,7 +84,7 @@ module _ (m : State) (now : ℕ) (lent : List ℕ) (f : Frame) (e : refusal limi
     -- each SA has its key
     module _ (new : List Sa)
         (enter : Enter (rootsOf limits m now lent f) (entriesOf f) (wrappingSize limits m now lent f) now f (announced f) new) where
-      each : EachOpens roots (entriesOf f) size f
+      each : EachHasCopy roots (entriesOf f) size f
       each a i = let r = each-enters roots (entriesOf f) size now f (announced f) new enter a i in (r .octets, r .key .opens)
 
       all-open : KeyMissingOf limits m now lent f → ⊥
@@ -136,8 +136,17 @@ module _ (m : State) (e : stateFormed limits m ≡ true) where
   held-fits = parts .1
 
 -- ---- by what is known of the keys
+-- what is known of a frame's keys where number 8 does not hold of its entries: `keyed` is the result for its SAs. If each has its key, `over`
+-- says whether the held list after acceptance would be over its limit, and if not, `held` is that list
+pub record KeysKnown (m : State) (now : ℕ) (lent s : List ℕ) (x : Facts) (keyed : Keyed) (over : Bool) (held : Held) (f : Frame) : Type
+    0 where
+  pub passed : Passed m now lent s x f
+  pub entries : EntriesConflict (rootsOf limits m now lent f) (entriesOf f) (wrappingSize limits m now lent f) → ⊥
+  pub keys : KeyedBy (rootsOf limits m now lent f) (entriesOf f) (wrappingSize limits m now lent f) f now keyed
+  pub held-is : keyed .found ≡ found.Keys → HeldTold m now lent f over held
+
 module _ (m : State) (now : ℕ) (lent s : List ℕ) (x : Facts) (keyed : Keyed) (over : Bool) (held : Held) (f : Frame)
-    (o : FrameOpened m now lent s x keyed over held f) where
+    (o : KeysKnown m now lent s x keyed over held f) where
   keys-by : (y : SasFound) → keyed .found ≡ y →
       KeysOf (rootsOf limits m now lent f) (entriesOf f) (wrappingSize limits m now lent f) f (announced f) now y (keyed .sas)
       (keyed .count)
@@ -174,4 +183,10 @@ module _ (m : State) (now : ℕ) (lent s : List ℕ) (x : Facts) (keyed : Keyed)
     room-is =
         let k = keys-by found.Keys e in
         let n = few-sas m now lent f (o .passed .clauses) in
+        omega (arith, k .2)
+
+    pub new-few : keyed .count ≤ newSas
+    new-few =
+        let k = keys-by found.Keys e in
+        let n = few-announced m now lent f (o .passed .clauses) in
         omega (arith, k .2)

@@ -35,7 +35,7 @@ use Rattle.unwrap_tree.specs.inner.Source.{Sourced}
 use Rattle.unwrap_sas.specs.inner.Keyed.{ChecksPassed}
 use Rattle.receive.specs.inner.Passing.{Bagged, readsBy}
 use Rattle.receive.specs.inner.Opening.{IsKeyZero}
-use Rattle.receive.proofs.ClauseLaws.{no-entry, no-zero, no-fresh-zero, few-entries, few-fresh, few-sas, few-sa-keys}
+use Rattle.receive.proofs.ClauseLaws.{no-entry, no-zero, no-fresh-zero, few-entries, few-fresh, few-announced, few-sa-keys}
 use Rattle.receive.proofs.ClauseLaws.{names-rekey, sets-held, keeps-bars, state-formed, lengths-once, lifetimes-once, transforms-fit}
 use Rattle.receive.proofs.ClauseLaws.{all-paired, bags-paired, one-rekey}
 use Rattle.receive.proofs.ConcludingLaws.{held-fits}
@@ -119,7 +119,7 @@ module _ {e : Exchange} {m : State} {now : ℕ} {lent g k : List ℕ} {bag : Str
         lifetimes = lifetimes-once m now lent f q;
         transforms = transforms-fit m now lent f q;
         paired = all-paired m now lent f q;
-        room = omega (arith, few-sas m now lent f q);
+        room = few-announced m now lent f q;
         rekeys = one-rekey m now lent f q;
         few-copies = few-sa-keys m now lent f q;
       }

@@ -5,5 +5,6 @@ pub mod BodyLaws
 pub mod EntryLaws
 pub mod ZeroKeyLaws
 pub mod AfterLaws
+pub mod OpeningLaws
 pub mod DecidingLaws
 pub mod SaidLaws

@@ -3,6 +3,7 @@ use crate::Next;
 use crate::conclude;
 use crate::opening::open_keys;
 use crate::row_of;
+use crate::zero::key_zero;
 use check_judging::facts::Facts;
 use state::State;
 ghost use mathlib.Core.Path.{_≡_};
@@ -31,13 +32,13 @@ fn by_bodies(
         Judged limits state tick (now (lent .entry)) f (r .number) (r .state)) ⌝ }
 {
     let row = row_of(frame);
-    let o = open_keys(state, row, gsa, kd, x.member_bag, lent, tick);
-    if o.conflict {
-        return Next { number: 8, state };
-    }
-    let keyed = o.keyed;
-    let held = o.held;
-    conclude(state, frame, x, tick, keyed, o.over, held)
+    let table = state.table;
+    let of = row.zero;
+    let zero = key_zero(table, of, lent, tick);
+    let held = state.held;
+    let reads = state.profile & row.reads_fresh_keys;
+    let opened = open_keys(held, row, zero, reads, gsa, kd, x.member_bag, tick);
+    conclude(state, frame, x, tick, opened)
 }
 
 // Decides the frame with the facts `x`. `lent` is the lent key. Answers acceptance, refusal 8 or refusal 9, and the next state.

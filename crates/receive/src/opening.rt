@@ -1,7 +1,6 @@
 // Opens the keys of a frame that refusals 2 to 7 let pass, and makes the held list after acceptance.
-use crate::zero::key_zero;
-use state::State;
 use state::held::Held;
+use state_keys::kinds::WrappingKey;
 use state_keys::limits::HELD_KEYS;
 use unwrap_copies::answer::Openers;
 use unwrap_copies::answer::openers_listed;
@@ -20,20 +19,20 @@ use wire_frames::exchanges::Exchange;
 use wire_readers::Stretch;
 ghost use mathlib.Core.Path.{_≡_};
 ghost use mathlib.Core.Bool.{true, cond};
-ghost use mathlib.Core.List.{List, []};
+ghost use mathlib.Core.List.{List};
 ghost use Prim.Native.Nat.{ℕ};
 ghost use Rattle.state_keys.specs.Limits.{limits};
 ghost use Rattle.wire_attributes.specs.Tree.{WrapKey};
 ghost use Rattle.wire_policies.specs.Policy.{policies};
 ghost use Rattle.wire_frames.specs.Frame.{Frame};
 ghost use Rattle.wire_readers.specs.inner.Values.{isWhole};
-ghost use Rattle.state.specs.Held.{heldOf, heldFormed};
+ghost use Rattle.state.specs.Held.{heldFormed};
+ghost use Rattle.state.specs.declared.State.{State};
 ghost use Rattle.rules_chains.specs.Chain.{Root};
 ghost use Rattle.rules_outcome.specs.Holding.{newRekey, rekeyCopies, heldBefore};
 ghost use Rattle.unwrap_copies.specs.inner.Openers.{openersOf, OpenersAre};
 ghost use Rattle.unwrap_paths.specs.inner.Kept.{LinksFit, SearchKept};
-ghost use Rattle.receive.specs.inner.Passing.{Bagged};
-ghost use Rattle.receive.specs.inner.Opening.{SomeOpener, NextTold, KeysOpened};
+ghost use Rattle.receive.specs.inner.Opening.{SomeOpener, NextTold, Opening, KeysOpened};
 
 // Whether refusal 8 holds of the frame's entries. If it does not: the result for its SAs. If each SA has its key: whether the held list
 // after acceptance would be over its limit (refusal 7), and if not, that list.
@@ -44,14 +43,14 @@ pub struct KeysFound {
     pub held: Held,
 }
 
-// Answers the held keys that a KWK ID can name: those of `held` if the exchange names held keys (`named`), else none.
-fn held_named(named: bool, held: Held) -> Held
-    ensures { λ r. ⌜ r ≡ cond named held (heldOf limits []) ⌝ }
+// Answers how many of `count` held keys a KWK ID can name: all if the exchange names held keys (`named`), else none.
+fn named_count(named: bool, count: usize) -> usize
+    ensures { λ r. ⌜ r ≡ cond named count 0 ⌝ }
 {
     if named {
-        return held;
+        return count;
     }
-    Held::new()
+    0
 }
 
 // Answers the list that a frame finds: `held`, but an exchange that sets the list (`registers`) takes none over.
@@ -91,38 +90,33 @@ fn held_after(
     held_by_path(links, reached, old, &kwks[..n])
 }
 
-// Opens the keys of the frame with the GSA body `gsa` and the KD body `kd`. `row` is the row of its exchange, and the attributes of its
-// Member Key Bag stand in the stretch `bag` of `kd`. All that is read for it is gone when this returns, so that the next state is made in the
-// same room. The SAs are opened even if refusal 8 holds of the entries, because a second return would take 30 kB of stack
+// Opens the keys of the frame with the GSA body `gsa` and the KD body `kd`, for a member with the held list `held`. `row` is the row of its
+// exchange, `zero` is key 0, `reads` says that fresh tree keys are read, and the attributes of the Member Key Bag stand in the stretch `bag`
+// of `kd`. The SAs are opened even if refusal 8 holds of the entries, because a second return would take 30 kB of stack
 // (docs/landings/T-04.md).
 pub fn open_keys(
-    state: State,
+    held: Held,
     row: Exchange,
+    zero: WrappingKey,
+    reads: bool,
     gsa: &[u8],
     kd: &[u8],
     bag: Stretch,
-    lent: &[u8],
     tick: u32,
 ) -> KeysFound
     requires { ⌜ isWhole (policies 0 (now gsa)) ≡ true ⌝ }
-    requires { ⌜ ((f : Frame) × Bagged row state tick (now lent) (now gsa) (now kd) bag f) ⌝ }
-    ensures { λ r. ⌜ ((f : Frame) → Bagged row state tick (now (lent .entry)) (now (gsa .entry)) (now (kd .entry)) bag f →
-        KeysOpened state tick (now (lent .entry)) r f) ⌝ }
+    requires { ⌜ ((m : State) × (lent : List ℕ) × (f : Frame) × Opening row m tick lent (now gsa) (now kd) bag held zero reads f) ⌝ }
+    ensures { λ r. ⌜ ((m : State) (lent : List ℕ) (f : Frame) →
+        Opening row m tick lent (now (gsa .entry)) (now (kd .entry)) bag held zero reads f → KeysOpened m tick lent r f) ⌝ }
 {
-    let reads = state.profile & row.reads_fresh_keys;
-    let table = state.table;
-    let of = row.zero;
-    let zero = key_zero(table, of, lent, tick);
-    let held = state.held;
-    let named = held_named(row.names_held_keys, held);
     let at = entries_at(row.registers, reads, gsa, kd, bag);
     let stretch = at.bag;
     let meaning = at.meaning;
     let place = at.place;
     let mut ids = [0u32; HELD_KEYS];
     let mut block = [0u8; BLOCK];
-    lend_keys(named, &mut ids, &mut block);
-    let m = named.count;
+    lend_keys(held, &mut ids, &mut block);
+    let m = named_count(row.names_held_keys, held.count);
     let e = PLACE * m;
     let found = reach_any(
         kd,

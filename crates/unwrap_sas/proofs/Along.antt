@@ -26,7 +26,7 @@ use Rattle.rules_outcome.specs.Holding.{rekeyCopies}
 use Rattle.rules_outcome.specs.After.{no-sa}
 use Rattle.rules_outcome.proofs.Members.{not-in-none}
 use Rattle.rules_outcome.proofs.RunsLists.{none-passes}
-use Rattle.unwrap_sas.specs.inner.Keyed.{ChecksPassed, foundBy, KeysOf, SomeConflict, KeyedBy}
+use Rattle.unwrap_sas.specs.inner.Keyed.{newSas, ChecksPassed, foundBy, KeysOf, SomeConflict, KeyedBy}
 use Rattle.unwrap_sas.specs.inner.Policies.{SaPredicate, IsConflict, IsUnopened, IsSa, OpeningKeys, spiAt, bodyAt, Announces}
 use Rattle.unwrap_sas.specs.inner.Policies.{IsAnnounced}
 use Rattle.unwrap_sas.specs.declared.joining.SasFound.{SasFound}
@@ -106,7 +106,7 @@ module _ (reads : Bool) (g k schedule carried fresh ids block : List ℕ) (tick 
   pub record Along (at : ℕ) (nine : Bool) (sas : List Sa) (count : ℕ) (openers : Openers) : Type 0 where
     pub inside : at ≤ length g
     pub rest : isWhole (policies 0 (drop at g)) ≡ true
-    pub places : length sas ≡ limits .sas
+    pub places : length sas ≡ newSas
     pub passed : List GroupSaPolicy
     pub all-are : passed ++ sasFrom g at ≡ sasFrom g 0
     pub few : count ≤ length passed
@@ -116,7 +116,7 @@ module _ (reads : Bool) (g k schedule carried fresh ids block : List ℕ) (tick 
         OpeningKeys schedule carried fresh ids block roots entries size → nine ≡ false →
         OpenersAre roots entries size (copiesAmong f passed) (openersOf openers)
 
-  pub along-start : (sas : List Sa) (openers : Openers) → isWhole (policies 0 g) ≡ true → length sas ≡ limits .sas → openers .count ≡ 0 →
+  pub along-start : (sas : List Sa) (openers : Openers) → isWhole (policies 0 g) ≡ true → length sas ≡ newSas → openers .count ≡ 0 →
       Along 0 false sas 0 openers
   along-start sas openers w n z =
       record {
@@ -179,7 +179,7 @@ module _ (reads : Bool) (g k schedule carried fresh ids block : List ℕ) (tick 
         along-announces f y = announces reads f g k y (w .passed) at (w .all-are) r s
 
         -- a place is left for its SA
-        pub along-room : (f : Frame) → ChecksPassed reads f g k → count < limits .sas
+        pub along-room : (f : Frame) → ChecksPassed reads f g k → count < newSas
         along-room f y =
             let n = ap length (w .all-are) in
             let m = length-append (w .passed) (sasFrom g at) in
@@ -249,7 +249,7 @@ module _ (reads : Bool) (g k schedule carried fresh ids block : List ℕ) (tick 
             (w .listed roots entries size f y o e)))
 
         pub along-sa : (sa : Sa) (own next : Openers) → (r .first ≡ 6 → next ≡ own) → ((r .first ≡ 6 → ⊥) → next ≡ openers) →
-            count < limits .sas → Says (IsSa tick sa own) → Along (at + r .end) nine (set sas count sa) (count + 1) next
+            count < newSas → Says (IsSa tick sa own) → Along (at + r .end) nine (set sas count sa) (count + 1) next
         along-sa sa own next is kept h more =
             let n = length-append (w .passed) (s .sa ∷ []) in
             let e = w .places in

@@ -13,13 +13,16 @@ use ikev2_numbers::ESP;
 use ikev2_numbers::GIKE_UPDATE;
 use state_keys::kinds::EspKey;
 use state_keys::kinds::RekeyKey;
-use state_keys::limits::SAS;
+use state_keys::limits::ESP_POLICIES;
 use state_keys::rooms::SA_OCTETS;
 use state_sa::entry::Lifetime;
 use state_sa::entry::Sa;
 use unwrap_copies::answer::Copied;
 use unwrap_copies::answer::Openers;
 use unwrap_copies::answer::no_openers;
+
+// Room for the SAs that a frame announces: as many ESP SAs as it may have, and a Rekey SA.
+pub const NEW_SAS: usize = ESP_POLICIES + 1;
 
 // `KeyConflict`: refusal 8 holds of the copies of some SA. `KeyMissing`: it holds of none, but some SA has no copy that opens (refusal 9).
 // `Keys`: each SA has its key.
@@ -33,7 +36,7 @@ pub enum SasFound {
 // copies of the Rekey SA's key that open.
 pub struct Keyed {
     pub found: SasFound,
-    pub sas: [Sa; SAS],
+    pub sas: [Sa; NEW_SAS],
     pub count: usize,
     pub openers: Openers,
 }

@@ -8,12 +8,12 @@ use aes::InverseSchedule;
 use aes::expand_inverse;
 use aes::inverse_tables;
 use joining::Keyed;
+use joining::NEW_SAS;
 use joining::One;
 use joining::SasFound;
 use joining::one_sa;
 use joining::rekey_openers;
 use state_keys::kinds::WrappingKey;
-use state_keys::limits::SAS;
 use state_sa::entry::Sa;
 use unwrap_copies::answer::Copied;
 use unwrap_copies::answer::no_openers;
@@ -213,7 +213,7 @@ fn walk_policies<'a>(
         size → KeyedBy roots entries size f tick r) ⌝ }
 {
     let mut nine = false;
-    let mut sas = [Sa::blank(); SAS];
+    let mut sas = [Sa::blank(); NEW_SAS];
     let mut count: usize = 0;
     let mut openers = no_openers();
     let mut at: usize = 0;

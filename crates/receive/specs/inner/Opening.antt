@@ -10,19 +10,23 @@ use Rattle.state_keys.specs.Algorithms.{sizeOf}
 use Rattle.state_keys.specs.Kinds.{valueOf}
 use Rattle.state_keys.specs.declared.kinds.WrappingKey.{WrappingKey}
 use Rattle.wire_frames.specs.Frame.{Frame}
+use Rattle.wire_frames.specs.declared.exchanges.Exchange.{Exchange}
+use Rattle.wire_readers.specs.declared.Stretch.{Stretch}
 use Rattle.state.specs.declared.State.{State}
 use Rattle.state.specs.declared.held.Held.{Held}
 use Rattle.rules_chains.specs.Chain.{In, Root}
 use Rattle.rules_chains.specs.Refusals.{EntriesConflict}
 use Rattle.rules_outcome.specs.Roots.{keyZeroValue, rootsOf, entriesOf, wrappingSize}
+use Rattle.check_judging.specs.declared.facts.Facts.{Facts}
 use Rattle.rules_outcome.specs.Holding.{newRekey, rekeyCopies, HeldNext, OverHeld}
 use Rattle.unwrap_conflicts.specs.inner.Values.{Decides}
 use Rattle.unwrap_copies.specs.inner.Openers.{OneOpens}
 use Rattle.unwrap_paths.specs.declared.held.PathHeld.{PathHeld}
 use Rattle.unwrap_sas.specs.inner.Keyed.{KeyedBy}
+use Rattle.unwrap_sas.specs.declared.joining.SasFound.{SasFound}
 use Rattle.unwrap_sas.specs.declared.joining.SasFound.the-variants as found
 use Rattle.receive.specs.declared.opening.KeysFound.{KeysFound}
-use Rattle.receive.specs.inner.Passing.{HeldTold}
+use Rattle.receive.specs.inner.Passing.{Passed, Bagged, readsBy, HeldTold}
 
 -- r is key 0 of the frame f, and has a size that a wrapping key can have
 pub record IsKeyZero (m : State) (now : ℕ) (lent : List ℕ) (f : Frame) (r : WrappingKey) : Type 0 where
@@ -42,6 +46,15 @@ module _ (roots : List Root) (entries : List WrapKey) (size : ℕ) where
     pub few : r .over ≡ false → r .held .count ≤ limits .heldKeys
     pub beyond : r .over ≡ true → OverHeld roots entries size limits b copies old
 
+-- a frame f of the exchange with the row e, as `Bagged` says, for the member m: `held` is its list, `zero` is key 0 of the frame, and `reads`
+-- says whether fresh tree keys are read from it
+pub record Opening (e : Exchange) (m : State) (now : ℕ) (lent g k : List ℕ) (bag : Stretch) (held : Held) (zero : WrappingKey) (reads : Bool)
+    (f : Frame) : Type 0 where
+  pub bagged : Bagged e m now lent g k bag f
+  pub list : m .held ≡ held
+  pub key : IsKeyZero m now lent f zero
+  pub fresh : readsBy m e ≡ reads
+
 -- r says whether number 8 holds of the entries of the frame f. If it does not hold, r has the result for its SAs, and if each has its key,
 -- what is to be said of the held list after acceptance
 pub record KeysOpened (m : State) (now : ℕ) (lent : List ℕ) (r : KeysFound) (f : Frame) : Type 0 where
@@ -49,3 +62,17 @@ pub record KeysOpened (m : State) (now : ℕ) (lent : List ℕ) (r : KeysFound) 
   pub keys : r .conflict ≡ false →
       KeyedBy (rootsOf limits m now lent f) (entriesOf f) (wrappingSize limits m now lent f) f now (r .keyed)
   pub held : r .conflict ≡ false → r .keyed .found ≡ found.Keys → HeldTold m now lent f (r .over) (r .held)
+
+-- a frame that numbers 2 to 7 let pass, whose keys are opened
+pub record FrameOpened (m : State) (now : ℕ) (lent s : List ℕ) (x : Facts) (r : KeysFound) (f : Frame) : Type 0 where
+  pub passed : Passed m now lent s x f
+  pub opened : KeysOpened m now lent r f
+
+-- the number by which the keys of a frame refuse it, 0 if they do not: whether 8 holds of its entries, the result for its SAs, and whether
+-- the held list after acceptance would be over its limit
+abbrev pub numberBy : Bool → SasFound → Bool → ℕ
+numberBy true y over = 8
+numberBy false found.KeyConflict over = 8
+numberBy false found.KeyMissing over = 9
+numberBy false found.Keys true = 7
+numberBy false found.Keys false = 0

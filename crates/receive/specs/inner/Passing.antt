@@ -32,9 +32,6 @@ use Rattle.rules_outcome.specs.Holding.{HeldAfterwards, OverHeldOf}
 use Rattle.check_judging.specs.inner.Facts.{frameFactsOf}
 use Rattle.check_judging.specs.declared.facts.Facts.{Facts}
 use Rattle.unwrap_tree.specs.inner.Entries.{HoldsEntries}
-use Rattle.unwrap_sas.specs.inner.Keyed.{KeyedBy}
-use Rattle.unwrap_sas.specs.declared.joining.Keyed.{Keyed}
-use Rattle.unwrap_sas.specs.declared.joining.SasFound.the-variants as found
 
 -- s are the octets of the frame f, none of numbers 2 to 7 applies to it, and x are its facts
 pub record Passed (m : State) (now : ℕ) (lent s : List ℕ) (x : Facts) (f : Frame) : Type 0 where
@@ -75,17 +72,8 @@ pub record HeldTold (m : State) (now : ℕ) (lent : List ℕ) (f : Frame) (over 
   pub beyond : over ≡ true → OverHeldOf limits m now lent f
 
 -- each SA that the frame f announces has a copy that opens
-abbrev pub EachOpens : List Root → List WrapKey → ℕ → Frame → Type 0
-EachOpens roots entries size f = (a : GroupSaPolicy) → In a (announced f) → (x : List ℕ) × CopyOpens roots entries size (copiesOf f a) x
-
--- a frame whose keys are opened: number 8 does not hold of its entries, and `keyed` is the result for its SAs. If each has its key, `over`
--- says whether the held list after acceptance would be over its limit, and if not, `held` is that list
-pub record FrameOpened (m : State) (now : ℕ) (lent s : List ℕ) (x : Facts) (keyed : Keyed) (over : Bool) (held : Held) (f : Frame) : Type
-    0 where
-  pub passed : Passed m now lent s x f
-  pub entries : EntriesConflict (rootsOf limits m now lent f) (entriesOf f) (wrappingSize limits m now lent f) → ⊥
-  pub keys : KeyedBy (rootsOf limits m now lent f) (entriesOf f) (wrappingSize limits m now lent f) f now keyed
-  pub held-is : keyed .found ≡ found.Keys → HeldTold m now lent f over held
+abbrev pub EachHasCopy : List Root → List WrapKey → ℕ → Frame → Type 0
+EachHasCopy roots entries size f = (a : GroupSaPolicy) → In a (announced f) → (x : List ℕ) × CopyOpens roots entries size (copiesOf f a) x
 
 -- r is the default key of the live Rekey SA of the table t, and has a size that a wrapping key can have
 pub record IsDefaultKey (t : Table) (r : WrappingKey) : Type 0 where

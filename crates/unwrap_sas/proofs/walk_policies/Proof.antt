@@ -3,7 +3,7 @@ use native.Mathlib.Omega.{arith}
 use Prim.Native.Nat.{_-_, _<_}
 use mathlib.Core.Path.{_≡_, refl, subst}
 use lib.ListN.{length}
-use Rattle.state_keys.specs.Limits.{limits}
+use Rattle.unwrap_sas.specs.inner.Keyed.{newSas}
 use Rattle.check_suites.proofs.PolicyLaws.{starts}
 use Rattle.unwrap_copies.specs.declared.answer.CopyFound.{CopyFound}
 use Rattle.unwrap_copies.specs.declared.answer.CopyFound.the-variants.{Conflict, Nothing, Key}
@@ -113,7 +113,7 @@ enum-told-3 c = search needs
 
 -- a place is left
 left : (w : tie.After-open-policy-at Inv-loop μ-loop) →
-    w .before .before .before .before .before .before .before .loop .count < limits .sas
+    w .before .before .before .before .before .before .before .loop .count < newSas
 left w =
     let d = w .before .before .before .before in
     let l = d .before .before .before .loop in

@@ -1,5 +1,5 @@
 -- The keys of all SAs that a frame announces: number 8 of their copies, number 9, or the SAs that enter.
-use Prim.Native.Nat.{ℕ, _≤_}
+use Prim.Native.Nat.{ℕ, _+_, _≤_}
 use mathlib.Core.Path.{_≡_}
 use mathlib.Core.Bool.{Bool, true, false}
 use mathlib.Core.List.{List}
@@ -26,9 +26,13 @@ use Rattle.unwrap_sas.specs.declared.joining.SasFound.{SasFound}
 use Rattle.unwrap_sas.specs.declared.joining.SasFound.the-variants as found
 use Rattle.unwrap_sas.specs.declared.joining.Keyed.{Keyed}
 
+-- as many SAs as a frame may announce: its ESP SAs and a Rekey SA
+abbrev pub newSas : ℕ
+newSas = limits .espPolicies + 1
+
 -- the frame f has the GSA body g and the KD body k, and numbers 4 to 7 do not apply: no Key Length and no GSA_KEY_LIFETIME stands twice in
 -- one place; the transforms are exactly those of document 01, so there is no AH policy; each policy has one bag; there are no more SAs than
--- a table holds, one Rekey policy at most, and no more copies in a bag than the limit. `reads`: fresh tree keys are read from the KD body
+-- a frame may announce, one Rekey policy at most, and no more copies in a bag than the limit. `reads`: fresh tree keys are read from the KD body
 pub record ChecksPassed (reads : Bool) (f : Frame) (g k : List ℕ) : Type 0 where
   pub policies : policiesOf f ≡ policiesIn g
   pub bags : bagsOf f ≡ bagsIn reads k
@@ -36,7 +40,7 @@ pub record ChecksPassed (reads : Bool) (f : Frame) (g k : List ℕ) : Type 0 whe
   pub lifetimes : lifetimeTwice f ≡ false
   pub transforms : otherTransforms f ≡ false
   pub paired : policyUnpaired f ≡ false
-  pub room : length (announced f) ≤ limits .sas
+  pub room : length (announced f) ≤ newSas
   pub rekeys : severalRekeyPolicies f ≡ false
   pub few-copies : manySaKeys limits f ≡ false
 

@@ -9,6 +9,7 @@ use Rattle.state_sa.specs.Entry.{saBefore}
 use Rattle.state_table.specs.Table.{sasOf, tableOf}
 use Rattle.state_table.specs.declared.Table.{Table}
 use Rattle.rules_outcome.specs.After.{insertAll}
+use Rattle.unwrap_sas.specs.inner.Keyed.{newSas}
 use Rattle.apply.proofs.TableLaws.{none-entered, some-entered, one-entered, enter-made}
 use Rattle.apply.proofs.Turns.{Moving, moving-start, moving-ahead, moving-aside, moving-end}
 use borrow.Author.Needs.{needs}
@@ -33,11 +34,11 @@ abbrev μ-loop : tie.MeasureT-loop
 loop-holds : tie.Need-loop-holds Inv-loop2 μ-loop2 Inv-loop μ-loop
 loop-holds c =
     let a = c .before .args in
-    let long : length (a .t2) ≡ limits .sas = search (needs, length-of-map) in
+    let long : length (a .t2) ≡ newSas = search (needs, length-of-map) in
     let own : length (a .t .sas) ≡ limits .sas = search (needs, length-of-map) in
     let some = length-take (a .t .count) (a .t .sas) in
     let room : a .t .count + a .n ≤ limits .sas = c .before .pre .0 in
-    let h : a .n ≤ length (a .t2) = omega arith in
+    let h : a .n ≤ length (a .t2) = omega (arith, long, c .before .pre .2) in
     let g : length (sasOf (a .t)) + a .n ≤ limits .sas = omega arith in
     (omega arith, h, g, own, room, c .before .pre .1 ∙ sym (none-entered limits (a .t2) (a .n) h (sasOf (a .t)) g))
 

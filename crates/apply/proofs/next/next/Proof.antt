@@ -27,6 +27,7 @@ enter-all-requires c κs =
     let e = old-is c (f .0) (f .1) in (
       old-room (a .state) (a .tick) (f .0) (c .old-sas .result) (a .n) e (b .pre .1 .1),
       old-made (a .state) (a .tick) (f .0) (c .old-sas .result) e,
+      b .pre .1 .2,
     )
 
 least-by-requires : tie.Need-least-by-requires

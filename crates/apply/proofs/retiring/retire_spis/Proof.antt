@@ -1,13 +1,16 @@
 use denote.Ref.{now}
 use native.Mathlib.Omega.{arith}
 use Prim.Native.Nat.{_-_, _≤_}
-use mathlib.Core.Path.{_≡_, refl, sym, subst, _∙_}
+use mathlib.Core.Path.{_≡_, refl, ap, sym, subst, _∙_}
+use mathlib.Core.List.{List}
 use mathlib.Core.Bool.{true}
 use mathlib.Core.Logic.{⊎-elim}
 use lib.ListN.{length, length-set}
 use Rattle.state_keys.specs.Limits.{limits}
+use Rattle.state_keys.proofs.Cases.{lt-cases}
 use Rattle.state_keys.proofs.Lists.{length-of-map}
 use Rattle.state_sa.specs.Entry.{blankSa}
+use Rattle.state_sa.specs.declared.entry.Sa.{Sa}
 use Rattle.state_table.specs.Table.{retiredIf}
 use Rattle.state_table.proofs.Laws.{retired-yes, retired-no}
 use Rattle.wire_frames.specs.Delete.{deleteOf, deleteFits}
@@ -19,23 +22,21 @@ use Rattle.apply.proofs.retiring.retire_spis.Statement.{statement}
 use Rattle.apply.proofs.retiring.retire_spis.Tie as tie
 
 abbrev Inv-loop : tie.InvT-loop
-Inv-loop o tick delay n sas₀ i₀ sas i =
+Inv-loop o tick delay count n sas₀ i₀ sas i =
     (n ≤ limits .sas) × (length sas₀ ≡ limits .sas) × (length sas ≡ limits .sas) × (i ≤ n)
     × Turned (retiredIf (namedIn (deleteOf o .spis)) tick delay) sas₀ sas i
 
 abbrev μ-loop : tie.MeasureT-loop
-μ-loop o tick delay n sas₀ i₀ sas i = n - i
+μ-loop o tick delay count n sas₀ i₀ sas i = n - i
 
-returns : tie.Need-returns Inv-loop μ-loop
-returns c =
-    let a = c .before .before .args in
-    there-out (a .tick) (a .delay) (namedIn (deleteOf (now (a .o)) .spis)) (a .t) (c .if1 .taken)
+places-requires : tie.Need-places-requires Inv-loop μ-loop
+places-requires c κs = search needs
 
 loop-holds : tie.Need-loop-holds Inv-loop μ-loop
 loop-holds c =
     let a = c .before .before .before .args in
     let e : length (a .t .sas) ≡ limits .sas = search (needs, length-of-map) in
-    (c .before .if1 .left, e, e, omega arith, refl)
+    (c .before .places .ensures .0, e, e, omega arith, refl)
 
 mul-a : tie.Need-mul-a Inv-loop μ-loop
 mul-a c = search needs
@@ -88,17 +89,23 @@ loop-again c =
       turned-same f (a .t .sas) (l .sas) (l .i) _ (omega (arith, v .0, v .1)) (v .4)
           (retired-no q (a .tick) (a .delay) _ blankSa (sym (w .0 .left) ∙ n)),
     ))
-    (c .if2 .came)
+    (c .if1 .came)
 
-returns-2 : tie.Need-returns-2 Inv-loop μ-loop
-returns-2 c =
+returns : tie.Need-returns Inv-loop μ-loop
+returns c =
     let k = c .before .loop in
+    let p = c .before .before .before .places in
     let a = c .before .before .before .before .before .args in
     let v = k .inv in
     let t = a .t in
     let q = namedIn (deleteOf (now (a .o)) .spis) in
-    let e : k .i ≡ t .count = omega (arith, v .3) in
-    there-made (a .tick) (a .delay) q t (k .sas) (v .0) (subst (Turned (retiredIf q (a .tick) (a .delay)) (t .sas) (k .sas)) e (v .4))
+    let f = retiredIf q (a .tick) (a .delay) in
+    let e : k .i ≡ p .result = omega (arith, v .3) in
+    lt-cases (limits .sas) (t .count)
+    (λ g.
+    let z = subst (Turned f (t .sas) (k .sas)) (e ∙ p .ensures .1 g) (v .4) in
+    ap (λ (x : List Sa). record { sas = x; count = t .count }) z ∙ there-out (a .tick) (a .delay) q t g)
+    (λ g. there-made (a .tick) (a .delay) q t (k .sas) g (subst (Turned f (t .sas) (k .sas)) (e ∙ p .ensures .2 g) (v .4)))
 
 pub retire-spis-spec : {M : Type 1} → statement M
 retire-spis-spec =
@@ -106,7 +113,7 @@ retire-spis-spec =
     (tie.spec
     Inv-loop
     μ-loop
-    returns
+    places-requires
     loop-holds
     mul-a
     array-copy-out-a
@@ -117,4 +124,4 @@ retire-spis-spec =
     add-i
     loop-less
     loop-again
-    returns-2)
+    returns)

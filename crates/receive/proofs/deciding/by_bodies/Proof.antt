@@ -1,57 +1,62 @@
+-- `receive::deciding::by_bodies` meets its contract.
 use denote.Ref.{now}
-use mathlib.Core.Path.{ap}
+use mathlib.Core.Path.{refl, ap}
 use Rattle.wire_frames.specs.Frame.{Frame}
 use Rattle.wire_readers.specs.inner.Values.{isWhole}
-use Rattle.receive.specs.inner.Passing.{Bodied, FrameOpened}
-use Rattle.receive.specs.inner.Opening.{KeysOpened}
+use Rattle.receive.specs.inner.Passing.{Bagged, Bodied, readsBy}
+use Rattle.receive.specs.inner.Opening.{Opening, FrameOpened}
 use Rattle.receive.proofs.BodyLaws.{bagged-by}
-use Rattle.receive.proofs.DecidingLaws.{opened-eight, frame-opened}
 use Rattle.receive.proofs.deciding.by_bodies.Statement.{statement}
 use Rattle.receive.proofs.deciding.by_bodies.Tie as tie
 
 row-of-requires : tie.Need-row-of-requires
-row-of-requires c κs =
-    let s = c .before .before .before .before in
-    (s .args .state .profile, ap isWhole (s .pre .1 .1 .passed .whole-is))
+row-of-requires c κs = (c .before .before .before .before .args .state .profile, ap isWhole (c .before .before .before .before .pre .1 .1 .passed .whole-is))
+
+-- the frame's bodies, by the row that was read
+bodies : (c : tie.After-row-of) (f : Frame) →
+    let a = c .before .before .before .before .before .args in
+    Bodied (a .state) (a .tick) (now (a .lent)) (now (a .frame)) (a .x) (now (a .gsa)) (now (a .kd)) f →
+    Bagged (c .row-of .result) (a .state) (a .tick) (now (a .lent)) (now (a .gsa)) (now (a .kd)) (a .x .«member_bag») f
+bodies c f b = bagged-by b (c .row-of .result) (c .row-of .ensures _ f (b .passed .whole-is))
+
+key-zero-requires : tie.Need-key-zero-requires
+key-zero-requires c κs =
+    let a = c .before .before .before .before .before .before .args in
+    let p = c .before .before .before .before .before .before .pre .1 in
+    (c .before .row-of .result, a .state, now (a .gsa), now (a .kd), a .x .«member_bag», p .0, refl, refl, bodies (c .before) (p .0) (p .1))
+
+-- what its keys are opened with, for every frame that the octets are
+opening : (c : tie.After-key-zero) (f : Frame) →
+    let a = c .before .before .before .before .before .before .before .args in
+    let row = c .before .before .row-of .result in
+    Bodied (a .state) (a .tick) (now (a .lent)) (now (a .frame)) (a .x) (now (a .gsa)) (now (a .kd)) f →
+    Opening row (a .state) (a .tick) (now (a .lent)) (now (a .gsa)) (now (a .kd)) (a .x .«member_bag») (a .state .held)
+    (c .key-zero .result) (readsBy (a .state) row) f
+opening c f b =
+    let w = bodies (c .before .before) f b in
+    record { bagged = w; list = refl; key = c .key-zero .ensures _ _ _ _ _ f refl refl w; fresh = refl }
 
 open-keys-requires : tie.Need-open-keys-requires
 open-keys-requires c κs =
-    let p = c .before .before .before .before .before .pre in
-    let b = p .1 .1 in
-    let row = c .row-of in
-    (p .0, (p .1 .0, bagged-by b (row .result) (row .ensures _ (p .1 .0) (b .passed .whole-is))))
+    let p = c .before .before .before .before .before .before .before .before .before .before .pre in
+    (p .0, (c .before .before .before .before .before .before .before .before .before .before .args .state, now (c .before .before .before .before .before .before .before .before .before .before .args .lent), p .1 .0, opening (c .before .before .before) (p .1 .0) (p .1 .1)))
 
--- the keys of the frame, for every frame that the octets are
+-- its keys opened
 opened : (c : tie.After-open-keys) (f : Frame) →
-    let a = c .before .before .before .before .before .before .args in
+    let a = c .before .before .before .before .before .before .before .before .before .before .before .args in
     Bodied (a .state) (a .tick) (now (a .lent)) (now (a .frame)) (a .x) (now (a .gsa)) (now (a .kd)) f →
-    KeysOpened (a .state) (a .tick) (now (a .lent)) (c .open-keys .result) f
+    FrameOpened (a .state) (a .tick) (now (a .lent)) (now (a .frame)) (a .x) (c .open-keys .result) f
 opened c f b =
-    let row = c .before .row-of in
-    c .open-keys .ensures f (bagged-by b (row .result) (row .ensures _ f (b .passed .whole-is)))
-
-returns : tie.Need-returns
-returns c = λ f b. opened-eight (b .passed) (c .before .open-keys .result) (opened (c .before) f b) (c .if1 .taken)
-
-opened-by : (c : tie.After-held) (f : Frame) →
-    let a = c .before .before .before .before .before .before .before .before .before .args in
-    let o = c .before .before .before .open-keys .result in
-    Bodied (a .state) (a .tick) (now (a .lent)) (now (a .frame)) (a .x) (now (a .gsa)) (now (a .kd)) f →
-    FrameOpened (a .state) (a .tick) (now (a .lent)) (now (a .frame)) (a .x) (o .keyed) (o .over) (o .held) f
-opened-by c f b =
-    let e = c .before .before in
-    frame-opened (b .passed) (e .before .open-keys .result) (opened (e .before) f b) (e .if1 .left)
+    record { passed = b .passed; opened = c .open-keys .ensures _ _ f (opening (c .before .before .before .before) f b) }
 
 conclude-requires : tie.Need-conclude-requires
 conclude-requires c κs =
-    let b = c .before .before .before .before .before .before .before .before .before in
-    let f = b .pre .1 .0 in
-    (f, now (b .args .lent), opened-by c f (b .pre .1 .1))
+    let p = c .before .before .before .before .before .before .before .before .before .before .before .pre .1 in
+    (p .0, now (c .before .before .before .before .before .before .before .before .before .before .before .args .lent), opened c (p .0) (p .1))
 
-returns-2 : tie.Need-returns-2
-returns-2 c =
-    let a = c .before .before .before .before .before .before .before .before .before .before .args in
-    λ f b. c .conclude .ensures f (now (a .lent)) (opened-by (c .before) f b)
+returns : tie.Need-returns
+returns c = λ f b. c .conclude .ensures f (now (c .before .before .before .before .before .before .before .before .before .before .before .before .args .lent)) (opened (c .before) f b)
 
 pub by-bodies-spec : {M : Type 1} → statement M
-by-bodies-spec = tie.close (tie.spec row-of-requires open-keys-requires returns conclude-requires returns-2)
+by-bodies-spec =
+    tie.close (tie.spec row-of-requires key-zero-requires open-keys-requires conclude-requires returns)
