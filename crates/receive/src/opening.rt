@@ -35,12 +35,13 @@ ghost use Rattle.unwrap_paths.specs.inner.Kept.{LinksFit, SearchKept};
 ghost use Rattle.receive.specs.inner.Opening.{SomeOpener, NextTold, Opening, KeysOpened};
 
 // Whether refusal 8 holds of the frame's entries. If it does not: the result for its SAs. If each SA has its key: whether the held list
-// after acceptance would be over its limit (refusal 7), and if not, that list.
+// after acceptance would be over its limit (refusal 7), and if not, that list. Here and in what it holds arrays stand before flags: behind
+// a flag the compiler gives an array that is handed on more room.
 pub struct KeysFound {
-    pub conflict: bool,
     pub keyed: Keyed,
-    pub over: bool,
     pub held: Held,
+    pub conflict: bool,
+    pub over: bool,
 }
 
 // Answers how many of `count` held keys a KWK ID can name: all if the exchange names held keys (`named`), else none.
@@ -91,8 +92,8 @@ fn held_after(
 }
 
 // Opens the keys of the frame with the GSA body `gsa` and the KD body `kd`, for a member with the held list `held`. `row` is the row of its
-// exchange, `zero` is key 0, `reads` says that fresh tree keys are read, and the attributes of the Member Key Bag stand in the stretch `bag`
-// of `kd`. The SAs are opened even if refusal 8 holds of the entries, because a second return would take 30 kB of stack
+// exchange, `zero` is key 0, `reads` says that fresh tree keys are read, and the attributes of the Member Key Bag stand in the stretch
+// `bag` of `kd`. The SAs are opened even if refusal 8 holds of the entries, because a second return would take 30 kB of stack
 // (docs/landings/T-04.md).
 pub fn open_keys(
     held: Held,

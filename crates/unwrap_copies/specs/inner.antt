@@ -3,3 +3,4 @@ pub mod Named
 pub mod Known
 pub mod Answer
 pub mod Openers
+pub mod Ready

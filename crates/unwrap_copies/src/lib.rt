@@ -1,10 +1,10 @@
 // Opens the copies of an announced SA (its SA_KEY attributes) under the keys that their KWK IDs name, in one pass. Each copy is opened at
-// most once. The schedule of key 0 is given; the schedule of another key is expanded once for each copy that names it.
+// most once. The schedule of key 0 is given; another key is expanded once for copies that name it one after the other.
 // Internal: crates of this repository alone call it.
 pub mod answer;
+pub mod ready;
 
 use aes::InverseSchedule;
-use aes::expand_inverse;
 use answer::Copied;
 use answer::CopyOpened;
 use answer::merge;
@@ -13,7 +13,9 @@ use answer::note;
 use answer::nothing;
 use answer::open_copy;
 use octets::numbers::be32_at;
-use unwrap_lending::octets_named;
+use ready::ReadyKey;
+use ready::key_zero;
+use ready::ready_for;
 use wire_attributes::attribute_value;
 use wire_attributes::tables::Meaning;
 use wire_attributes::tables::Place;
@@ -36,6 +38,7 @@ ghost use Rattle.state.specs.declared.held.HeldKey.{HeldKey};
 ghost use Rattle.unwrap_lending.specs.inner.Lending.{LendsTwo};
 ghost use Rattle.unwrap_copies.specs.inner.Known.{Agrees};
 ghost use Rattle.unwrap_copies.specs.inner.Named.{tryFor};
+ghost use Rattle.unwrap_copies.specs.inner.Ready.{IsReady};
 ghost use Rattle.unwrap_copies.specs.inner.Tries.{CopyTells};
 ghost use Rattle.unwrap_copies.specs.inner.Answer.{announcedIn};
 ghost use Rattle.unwrap_copies.specs.inner.Openers.{CopiesAnswer};
@@ -43,35 +46,23 @@ use aes::INVERSE_TABLE_WORDS;
 use ikev2_numbers::KWK_ID_AT;
 use ikev2_numbers::WRAPPED_AT;
 
-// Opens one copy, the value of an SA_KEY, under the key that its KWK ID names: key 0, whose schedule is `schedule`, or a key that is lent:
-// the frame's own by `carried` and `fresh`, the held ones by `ids` and `block`. A copy that names no such key is not tried.
-fn try_copy<'a>(
+// Opens one copy, the value of an SA_KEY, under the key that its KWK ID names. If there is no such key, it is not tried.
+fn try_copy(
     copy: &[u8],
     need: usize,
     tables: &[u32; INVERSE_TABLE_WORDS],
-    schedule: InverseSchedule,
-    carried: &[u32],
-    fresh: &'a [u8],
-    ids: &[u32],
-    block: &'a [u8],
+    key: ReadyKey,
 ) -> CopyOpened
     requires { ⌜ (8 ≤ length (now copy)) × (need ≤ 68) ⌝ }
-    requires { ⌜ (now tables ≡ decipherTables) × ExpandedInverse (schedule .words) ⌝ }
-    requires { ⌜ ((new : List HeldKey) × (old : List HeldKey) × LendsTwo new old (now carried) (now fresh) (now ids) (now block)) ⌝ }
-    ensures { λ r. ⌜ ((v : List ℕ) (new old : List HeldKey) → ExpandsInverse v (schedule .words) →
-        LendsTwo new old (now (carried .entry)) (now (fresh .entry)) (now (ids .entry)) (now (block .entry)) →
+    requires { ⌜ (now tables ≡ decipherTables) × ExpandedInverse (key .schedule .words) ⌝ }
+    ensures { λ r. ⌜ ((v : List ℕ) (new old : List HeldKey) → IsReady v new old key → saKeyOf (now (copy .entry)) .kwkId ≡ key .id →
         CopyTells (tryFor v new old (saKeyOf (now (copy .entry)))) need r) ⌝ }
 {
-    let kwk = be32_at(copy, KWK_ID_AT);
-    let wrapped = &copy[WRAPPED_AT..];
-    if kwk == 0 {
-        return open_copy(tables, schedule, wrapped, need);
+    if key.known {
+        let schedule = key.schedule;
+        return open_copy(tables, schedule, &copy[WRAPPED_AT..], need);
     }
-    let key = octets_named(kwk, fresh, carried, block, ids);
-    if key.len() == 0 {
-        return nothing();
-    }
-    open_copy(tables, expand_inverse(tables, key), wrapped, need)
+    nothing()
 }
 
 // Opens the copies of one announced SA. `a` are the attributes of its Group Key Bag, `place` is the sort of that bag, and `need` is the
@@ -99,14 +90,18 @@ pub fn copies<'a>(
 {
     let mut known = nothing();
     let mut openers = no_openers();
+    let mut last = key_zero(schedule);
     let mut at = 0;
     loop {
         match next_attribute(Meaning::SaKey, place, a, at) {
             ValueFound::At(start, end) => {
                 let copy = attribute_value(a, start);
-                let one = try_copy(copy, need, tables, schedule, carried, fresh, ids, block);
+                let kwk = be32_at(copy, KWK_ID_AT);
+                let key = ready_for(kwk, last, tables, schedule, carried, fresh, ids, block);
+                last = key;
+                let one = try_copy(copy, need, tables, key);
                 let found = one.found;
-                openers = note(openers, found, be32_at(copy, KWK_ID_AT));
+                openers = note(openers, found, kwk);
                 known = merge(known, one);
                 at = end;
             }

@@ -24,8 +24,8 @@ ghost use Rattle.unwrap_paths.specs.inner.Holding.{heldAt, TrailFits, Go
 
 // The list that a path leaves. `over` says that it has more keys than a held list may have; `held` is then the old list.
 pub struct PathHeld {
-    pub over: bool,
     pub held: Held,
+    pub over: bool,
 }
 
 // The keys at the places of a trail, in its order: their Key IDs are those of the links, their values those of the reached keys.

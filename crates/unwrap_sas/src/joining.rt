@@ -35,10 +35,10 @@ pub enum SasFound {
 // The result for all SAs that a frame announces. With `Keys`, the new SAs are the first `count` of `sas`, and `openers` are the KWK IDs of the
 // copies of the Rekey SA's key that open.
 pub struct Keyed {
-    pub found: SasFound,
     pub sas: [Sa; NEW_SAS],
     pub count: usize,
     pub openers: Openers,
+    pub found: SasFound,
 }
 
 // The result for one SA. With `Key`, `sa` is the SA and `openers` are the KWK IDs of its copies that open; else `sa` is blank.

@@ -24,9 +24,9 @@ ghost use Rattle.unwrap_tree.specs.inner.AllReached.{HeldAre};
 // Whether refusal 8 holds of the entries. If it does not: the keys that they reach, and the links of the entries, which the working key
 // path is read off. With a conflict the list is empty.
 pub struct ReachedKeys {
-    pub conflict: bool,
     pub held: Held,
     pub links: Links,
+    pub conflict: bool,
 }
 
 // Adds the key of the entry `e`, whose cell is `c`, to `held`, if the entry was reached and its Key ID is not in the list. Two entries may
