@@ -13,13 +13,17 @@ use Rattle.ikev2_numbers.specs.Codes.{payloadHeaderOctets, structureLengthAt, v
 use Rattle.wire_frames.specs.Header.{firstPayload, headerFits}
 use Rattle.rfc5282.specs.Sizes.{payloadEncrypted, encryptedBodyAt}
 
-unfoldable pub outer : List ℕ → Bool
-outer s =
-    both (headerFits s) (both (eqb (firstPayload s) payloadEncrypted)
+-- one payload of this type, alone in the frame
+unfoldable pub alone : ℕ → List ℕ → Bool
+alone type s =
+    both (headerFits s) (both (eqb (firstPayload s) type)
     (both (leb encryptedBodyAt (length s)) (eqb (headerOctets + be16 s (headerOctets + structureLengthAt)) (length s))))
 
+unfoldable pub outer : List ℕ → Bool
+outer s = alone payloadEncrypted s
+
 -- the same without a test: a header, the payload's header, its body, and nothing else
-pub record IsOuter (s : List ℕ) : Type 0 where
+pub record IsAlone (type : ℕ) (s : List ℕ) : Type 0 where
   pub header : List ℕ
   pub next : ℕ
   pub reserved : ℕ
@@ -29,4 +33,7 @@ pub record IsOuter (s : List ℕ) : Type 0 where
   pub most : length s ≤ mostOctets
   pub counts : number 4 (drop lengthAt header) ≡ length s
   pub version : oct header versionAt / minorVersions ≡ majorVersion
-  pub first : oct header firstPayloadAt ≡ payloadEncrypted
+  pub first : oct header firstPayloadAt ≡ type
+
+abbrev pub IsOuter : List ℕ → Type 0
+IsOuter s = IsAlone payloadEncrypted s

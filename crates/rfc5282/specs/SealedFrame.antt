@@ -7,7 +7,7 @@ use Rattle.octets.specs.Numbers.{oct, number, octetsOf}
 use Rattle.octets.specs.Octets.{Octets}
 use Rattle.ikev2_numbers.specs.Codes.{firstPayloadAt, headerOctets, lengthAt, mostOctets, payloadHeaderOctets, versionAt}
 use Rattle.sp800_38d.specs.Encryption.{tagOctets, sealed}
-use Rattle.rfc5282.specs.Sizes.{payloadEncrypted, ivOctets, mostPadding}
+use Rattle.rfc5282.specs.Sizes.{payloadEncrypted, ivOctets, mostPadding, encryptedBodyAt}
 
 -- what a sender chooses: the octet with the critical bit, the IV, the padding
 pub record Choice : Type 0 where
@@ -27,23 +27,27 @@ unfoldable pub headerWith : ℕ → ℕ → List ℕ → List ℕ
 headerWith next size h = take firstPayloadAt h ++ ((next ∷ take 7 (drop versionAt h)) ++ octetsOf 4 size)
 
 -- RFC 7296, section 3.14: the payloads, the padding, the pad length
-unfoldable pub plainOf : List ℕ → Choice → List ℕ
-plainOf opened c = drop headerOctets opened ++ (c .padding ++ (length (c .padding) ∷ []))
+unfoldable pub padded : List ℕ → Choice → List ℕ
+padded payloads c = payloads ++ (c .padding ++ (length (c .padding) ∷ []))
 
 -- octets of the payload's body: IV, ciphertext, tag
 unfoldable pub bodySize : List ℕ → Choice → ℕ
-bodySize opened c = ivOctets + length (plainOf opened c) + tagOctets
+bodySize payloads c = ivOctets + length (padded payloads c) + tagOctets
+
+-- the body behind the additional data: the IV, then the payloads sealed under an AES key and its salt
+unfoldable pub sealedBehind : List ℕ → List ℕ → List ℕ → List ℕ → Choice → List ℕ
+sealedBehind key salt additional payloads c =
+    additional ++ (c .iv ++ sealed key (salt ++ c .iv) additional (padded payloads c))
 
 -- the two headers: the frame's next payload is the Encrypted payload, and that one's next payload is the first of those within
 unfoldable pub additionalOf : List ℕ → Choice → List ℕ
 additionalOf opened c =
-    headerWith payloadEncrypted (headerOctets + payloadHeaderOctets + bodySize opened c) opened
-    ++ (oct opened firstPayloadAt ∷ c .reserved ∷ octetsOf 2 (payloadHeaderOctets + bodySize opened c))
+    headerWith payloadEncrypted (encryptedBodyAt + bodySize (drop headerOctets opened) c) opened
+    ++ (oct opened firstPayloadAt ∷ c .reserved ∷ octetsOf 2 (payloadHeaderOctets + bodySize (drop headerOctets opened) c))
 
 -- THE OPENED FRAME, SEALED under an AES key and its salt
 unfoldable pub sealedFrame : List ℕ → List ℕ → List ℕ → Choice → List ℕ
-sealedFrame key salt opened c =
-    additionalOf opened c ++ (c .iv ++ sealed key (salt ++ c .iv) (additionalOf opened c) (plainOf opened c))
+sealedFrame key salt opened c = sealedBehind key salt (additionalOf opened c) (drop headerOctets opened) c
 
 -- an opened frame: octets, a header that counts them
 pub record OpenedFrame (o : List ℕ) : Type 0 where

@@ -1,7 +1,10 @@
-// The sealed frame, as definitions: RFC 5282 and RFC 7296, section 3.14. The code has the numbers alone; `specs/Sizes` has the same.
+// The sealed frame, as definitions: RFC 5282, RFC 7296, section 3.14, and RFC 7383. The code has the numbers alone; `specs/Sizes` has the
+// same.
 
-// The Encrypted payload (RFC 7296, section 3.14).
+// The Encrypted payload (RFC 7296, section 3.14) and the Encrypted Fragment payload (RFC 7383, section 2.5).
 pub const ENCRYPTED: usize = 46;
+
+pub const FRAGMENT: usize = 53;
 
 // Octets of the salt, which ends the keying octets of AES-GCM (RFC 5282, section 7.1), and of the IV (section 3.1).
 pub const SALT: usize = 4;
@@ -12,6 +15,13 @@ pub const IV: usize = 8;
 pub const ENCRYPTED_BODY_AT: usize = 32;
 
 pub const CIPHERTEXT_AT: usize = ENCRYPTED_BODY_AT + IV;
+
+// Where Fragment Number and Total Fragments stand in a frame that has no other payload than the Encrypted Fragment, and the body behind them.
+pub const FRAGMENT_NUMBER_AT: usize = ENCRYPTED_BODY_AT;
+
+pub const TOTAL_FRAGMENTS_AT: usize = FRAGMENT_NUMBER_AT + 2;
+
+pub const FRAGMENT_BODY_AT: usize = TOTAL_FRAGMENTS_AT + 2;
 
 // Octets of the tag (SP 800-38D).
 pub const TAG: usize = 16;

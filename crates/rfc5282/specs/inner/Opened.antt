@@ -1,17 +1,18 @@
--- The opened frame by its steps. Inner: what a reader believes is `OpensFrame`.
+-- What is opened by its steps. Inner: what a reader believes is `OpensFrame` and `OpensFragment`.
 use Prim.Native.Nat.{ℕ, _+_}
 use mathlib.Core.List.{List, _++_}
 use lib.ListN.{take}
 use Rattle.octets.specs.Numbers.{oct}
 use Rattle.ikev2_numbers.specs.Codes.{headerOctets}
 use Rattle.sp800_38d.specs.Decryption.{plaintext}
+use Rattle.rfc5282.specs.Sizes.{encryptedBodyAt}
 use Rattle.rfc5282.specs.Keys.{aesKeyOf, sealedIn, nonceFor}
 use Rattle.rfc5282.specs.SealedFrame.{headerWith}
 
 -- the first `p` of the sealed octets, deciphered
-abbrev pub openedPayloads : List ℕ → List ℕ → ℕ → List ℕ
-openedPayloads part s p = plaintext (aesKeyOf part) (nonceFor part s) (take p (sealedIn s))
+abbrev pub openedPayloads : ℕ → List ℕ → List ℕ → ℕ → List ℕ
+openedPayloads at part s p = plaintext (aesKeyOf part) (nonceFor at part s) (take p (sealedIn at s))
 
 -- the header with next payload and length set anew, and `p` octets of payloads
 unfoldable pub openedOf : List ℕ → List ℕ → ℕ → List ℕ
-openedOf part s p = headerWith (oct s headerOctets) (headerOctets + p) s ++ openedPayloads part s p
+openedOf part s p = headerWith (oct s headerOctets) (headerOctets + p) s ++ openedPayloads encryptedBodyAt part s p
