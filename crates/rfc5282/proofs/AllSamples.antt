@@ -6,7 +6,7 @@ use mathlib.Core.List.{List, [], _∷_, _++_}
 use Prim.Native.Nat.{ℕ, zero, suc, _/_, _<_}
 use native.Mathlib.Omega.{arith}
 use lib.Dec.{lit≤}
-use lib.ListN.{length, getD, set, take, replicate}
+use lib.ListN.{length, getD, set, take, drop, replicate}
 use Rattle.octets.specs.Numbers.{number, octetsOf}
 use Rattle.fips197.specs.Field.{xtimes, power}
 use Rattle.fips197.specs.Sbox.{sbox}
@@ -18,9 +18,10 @@ use Rattle.sp800_38d.specs.Ghash.{blockNumbers, ghash}
 use Rattle.sp800_38d.specs.Gctr.{counterBlock, gctr}
 use Rattle.sp800_38d.specs.Encryption.{hashSubkey, preCounterBlock, ciphertext, paddedToBlocks, hashInput, tag, sealed}
 use Rattle.sp800_38d.proofs.Computing.{turns, hashBy, hash-by, by-blocks}
+use Rattle.rfc5282.specs.Sizes.{encryptedBodyAt}
 use Rattle.rfc5282.specs.Keys.{aesKeyOf, saltOf, ivIn, sealedIn, nonceFor, additionalIn}
-use Rattle.rfc5282.specs.SealedFrame.{Choice, headerWith, plainOf, bodySize, additionalOf, sealedFrame}
-use Rattle.rfc5282.specs.Outer.{outer}
+use Rattle.rfc5282.specs.SealedFrame.{Choice, headerWith, padded, bodySize, sealedBehind, additionalOf, sealedFrame}
+use Rattle.rfc5282.specs.Outer.{alone, outer}
 
 abbrev part : List ℕ
 part =
@@ -55,7 +56,7 @@ frame = headers ++ (choice .iv ++ (text ++ mark))
 
 -- ---- where its parts stand
 
-parts-are : (additionalIn frame ≡ headers) × (ivIn frame ≡ choice .iv) × (sealedIn frame ≡ text ++ mark)
+parts-are : (additionalIn encryptedBodyAt frame ≡ headers) × (ivIn encryptedBodyAt frame ≡ choice .iv) × (sealedIn encryptedBodyAt frame ≡ text ++ mark)
 parts-are = (refl, refl, refl)
 
 key-is : (aesKeyOf part ≡ 0 ∷ 1 ∷ 2 ∷ 3 ∷ 4 ∷ 5 ∷ 6 ∷ 7 ∷ 8 ∷ 9 ∷ 10 ∷ 11 ∷ 12 ∷ 13 ∷ 14 ∷ 15 ∷ [])
@@ -64,17 +65,20 @@ key-is = (refl, refl)
 
 -- ---- sealing
 
+abbrev plain : List ℕ
+plain = padded (drop 28 opened) choice
+
 abbrev key : List ℕ
 key = aesKeyOf part
 
 abbrev nonce : List ℕ
 nonce = saltOf part ++ choice .iv
 
-nonce-is : nonceFor part frame ≡ 16 ∷ 17 ∷ 18 ∷ 19 ∷ 1 ∷ 2 ∷ 3 ∷ 4 ∷ 5 ∷ 6 ∷ 7 ∷ 8 ∷ []
+nonce-is : nonceFor encryptedBodyAt part frame ≡ 16 ∷ 17 ∷ 18 ∷ 19 ∷ 1 ∷ 2 ∷ 3 ∷ 4 ∷ 5 ∷ 6 ∷ 7 ∷ 8 ∷ []
 nonce-is = refl
 
 headers-are : additionalOf opened choice ≡ headers
-unfolding additionalOf headerWith bodySize plainOf octetsOf
+unfolding additionalOf headerWith bodySize padded octetsOf
 headers-are = refl
 
 abbrev subkey : ℕ
@@ -106,10 +110,10 @@ unfolding counterBlock
 one-block icb b e zero l = e
 one-block icb b e (suc j) l = absurd (omega (arith, l))
 
-text-is : ciphertext key nonce (plainOf opened choice) ≡ text
-unfolding ciphertext plainOf
+text-is : ciphertext key nonce (plain) ≡ text
+unfolding ciphertext padded
 text-is =
-    by-blocks key (inc32 (preCounterBlock nonce)) (plainOf opened choice) (textStream ∷ [])
+    by-blocks key (inc32 (preCounterBlock nonce)) (plain) (textStream ∷ [])
     (one-block (inc32 (preCounterBlock nonce)) textStream text-stream-is) (lit≤ tt)
 
 abbrev hash : ℕ
@@ -127,21 +131,21 @@ tag-is =
     ∙ by-blocks key (preCounterBlock nonce) (octetsOf 16 hash) (tagStream ∷ [])
     (one-block (preCounterBlock nonce) tagStream tag-stream-is) (lit≤ tt)
 
-sealed-is : sealed key nonce headers (plainOf opened choice) ≡ text ++ mark
+sealed-is : sealed key nonce headers (plain) ≡ text ++ mark
 unfolding sealed
 sealed-is = ap (λ (x : List ℕ). x ++ tag key nonce headers x) text-is ∙ ap (λ (x : List ℕ). text ++ x) tag-is
 
 -- THE SAMPLE
 pub sample-sealed : sealedFrame (aesKeyOf part) (saltOf part) opened choice ≡ frame
-unfolding sealedFrame
+unfolding sealedFrame sealedBehind
 sample-sealed =
-    ap (λ (a : List ℕ). a ++ (choice .iv ++ sealed key nonce a (plainOf opened choice))) headers-are
+    ap (λ (a : List ℕ). a ++ (choice .iv ++ sealed key nonce a (plain))) headers-are
     ∙ ap (λ (x : List ℕ). headers ++ (choice .iv ++ x)) sealed-is
 
 -- ---- number 1 on the outer layout: the frame passes, and each of these does not
 
 passes : outer frame ≡ true
-unfolding outer number
+unfolding outer alone number
 passes = refl
 
 -- another length in the header, major version 1, an Encrypted Fragment, a length of 3 or one over the end, an octet behind it, the header
@@ -149,11 +153,11 @@ passes = refl
 breaks : (outer (set frame 27 0x46) ≡ false) × (outer (set frame 17 0x1f) ≡ false) × (outer (set frame 16 0x35) ≡ false)
     × (outer (set frame 31 0x03) ≡ false) × (outer (set frame 31 0x2a) ≡ false) × (outer (set (frame ++ (0 ∷ [])) 27 0x46) ≡ false)
     × (outer (set (take 28 frame) 27 0x1c) ≡ false)
-unfolding outer number
+unfolding outer alone number
 breaks = (refl, refl, refl, refl, refl, refl, refl)
 
 -- minor version, flags, critical bit and RESERVED are free; so is an empty body, which number 10 refuses
 free : (outer (set frame 17 0x2f) ≡ true) × (outer (set frame 19 0xff) ≡ true) × (outer (set frame 29 0xff) ≡ true)
     × (outer (set (set (take 32 frame) 27 0x20) 31 0x04) ≡ true)
-unfolding outer number
+unfolding outer alone number
 free = (refl, refl, refl, refl)

@@ -1,9 +1,11 @@
 pub mod AllSamples
 pub mod CellLaws
 pub mod OuterLaws
+pub mod BodyLaws
 pub mod OpenLaws
 pub mod OneLaws
 pub mod LayoutLaws
-pub mod FoundLaws
+pub mod FragmentLaws
+pub mod PieceLaws
 pub mod PartLaws
 pub mod Number10Laws

@@ -1,37 +1,40 @@
 -- A frame opens to one opened frame at most, which has the header of the sealed one but for next payload and length.
-use mathlib.Core.Path.{_≡_, refl, sym, ap, ap₂, _∙_}
-use mathlib.Core.List.{List, [], _∷_, _++_}
-use Prim.Native.Nat.{ℕ, _+_, _*_, _-_}
+use mathlib.Core.Path.{_≡_, sym, ap, ap₂, _∙_}
+use mathlib.Core.List.{List, _∷_, _++_}
+use Prim.Native.Nat.{ℕ, _+_, _*_, _≤_}
 use native.Mathlib.Omega.{arith}
 use lib.ListN.{length, take, drop, length-drop, take-append-drop}
-use lib.Seq.{take-at}
 use Rattle.octets.specs.Numbers.{oct, octetsOf}
 use Rattle.octets.specs.Walk.{be32}
 use Rattle.octets.specs.Generate.{gen}
 use Rattle.octets.proofs.Numerals.{be32-is}
 use Rattle.octets.proofs.Octets.{drop-octets}
 use Rattle.octets.proofs.RoundTrip.{octets-number}
-use Rattle.sp800_38d.proofs.SealLaws.{unseals-one}
-use Rattle.rfc5282.specs.Keys.{aesKeyOf, saltOf, nonceFor}
-use Rattle.rfc5282.specs.SealedFrame.{Choice, plainOf, bodySize, additionalOf, OpensFrame}
+use Rattle.rfc5282.specs.Keys.{aesKeyOf, saltOf}
+use Rattle.rfc5282.specs.SealedFrame.{Choice, bodySize, additionalOf, OpensFrame}
 use Rattle.rfc5282.proofs.CellLaws.{cells, headCells, header-cells}
-use Rattle.rfc5282.proofs.OpenLaws.{add-is, plain-found, length-plain, last-found, least-found}
+use Rattle.rfc5282.proofs.BodyLaws.{add-is, holds-long, behind-holds, behind-one}
+use Rattle.rfc5282.proofs.OpenLaws.{frame-behind}
 
 module _ (part s o : List ℕ) (h : OpensFrame (aesKeyOf part) (saltOf part) s o) where
   abbrev ch : Choice
   ch = h .choice
 
+  least : 57 ≤ length s
+  least =
+      omega (arith, holds-long 32 part s (length (drop 28 o)) (behind-holds 32 part s (additionalOf o ch) (drop 28 o) ch (frame-behind part s o h)))
+
   -- the additional data, octet by octet
   abbrev received : List ℕ
-  received = headCells o 46 (32 + bodySize o ch) ++ (oct o 16 ∷ ch .reserved ∷ octetsOf 2 (4 + bodySize o ch))
+  received = headCells o 46 (32 + bodySize (drop 28 o) ch) ++ (oct o 16 ∷ ch .reserved ∷ octetsOf 2 (4 + bodySize (drop 28 o) ch))
 
   as-received : received ≡ gen (oct s) 0 32
   unfolding additionalOf
   as-received =
-      ap (λ (w : List ℕ). w ++ (oct o 16 ∷ ch .reserved ∷ octetsOf 2 (4 + bodySize o ch)))
-      (sym (header-cells o (h .is-frame .header) 46 (32 + bodySize o ch)))
-      ∙ add-is part s o h
-      ∙ cells s 0 32 (omega (arith, least-found part s o h))
+      ap (λ (w : List ℕ). w ++ (oct o 16 ∷ ch .reserved ∷ octetsOf 2 (4 + bodySize (drop 28 o) ch)))
+      (sym (header-cells o (h .is-frame .header) 46 (32 + bodySize (drop 28 o) ch)))
+      ∙ add-is 32 part s (additionalOf o ch) (drop 28 o) ch (frame-behind part s o h)
+      ∙ cells s 0 32 (omega (arith, least))
 
   spis : gen (oct o) 0 16 ≡ gen (oct s) 0 16
   unfolding octetsOf
@@ -60,7 +63,7 @@ module _ (part s o : List ℕ) (h : OpensFrame (aesKeyOf part) (saltOf part) s o
 
   -- the two SPIs, the exchange and the Message ID are the sealed frame's
   pub same-spis : take 16 o ≡ take 16 s
-  same-spis = cells o 0 16 (omega (arith, h .is-frame .header)) ∙ spis ∙ sym (cells s 0 16 (omega (arith, least-found part s o h)))
+  same-spis = cells o 0 16 (omega (arith, h .is-frame .header)) ∙ spis ∙ sym (cells s 0 16 (omega (arith, least)))
 
   pub same-exchange : oct o 18 ≡ oct s 18
   same-exchange = ap (λ (w : List ℕ). oct w 1) middle
@@ -70,28 +73,14 @@ module _ (part s o : List ℕ) (h : OpensFrame (aesKeyOf part) (saltOf part) s o
       be32-is o 20 ∙ ap (λ (w : List ℕ). ((oct w 3 * 256 + oct w 4) * 256 + oct w 5) * 256 + oct w 6) middle ∙ sym (be32-is s 20)
 
 module _ (part s o p : List ℕ) (h : OpensFrame (aesKeyOf part) (saltOf part) s o) (k : OpensFrame (aesKeyOf part) (saltOf part) s p) where
-  same-plain : plainOf o (h .choice) ≡ plainOf p (k .choice)
-  same-plain =
-      unseals-one (aesKeyOf part) (nonceFor part s) (take 32 s) (drop 40 s) (plainOf o (h .choice)) (plainOf p (k .choice))
-      (plain-found part s o h) (plain-found part s p k)
-
-  same-padding : length (h .choice .padding) ≡ length (k .choice .padding)
-  same-padding =
-      sym (last-found part s o h) ∙ ap (λ (x : List ℕ). oct x (length x - 1)) same-plain ∙ last-found part s p k
-
-  same-count : length (drop 28 o) ≡ length (drop 28 p)
-  same-count =
-      omega (arith, length-plain part s o h, length-plain part s p k, ap length same-plain, same-padding)
-
   same-payloads : drop 28 o ≡ drop 28 p
-  unfolding plainOf
   same-payloads =
-      sym (take-at (drop 28 o) (h .choice .padding ++ (length (h .choice .padding) ∷ [])) (length (drop 28 o)) refl)
-      ∙ ap₂ take same-count same-plain
-      ∙ take-at (drop 28 p) (k .choice .padding ++ (length (k .choice .padding) ∷ [])) (length (drop 28 p)) refl
+      behind-one 32 part s (additionalOf o (h .choice)) (additionalOf p (k .choice)) (drop 28 o) (drop 28 p) (h .choice) (k .choice)
+      (frame-behind part s o h) (frame-behind part s p k)
 
   same-length : length o ≡ length p
-  same-length = omega (arith, same-count, length-drop 28 o, length-drop 28 p, h .is-frame .header, k .is-frame .header)
+  same-length =
+      omega (arith, ap length same-payloads, length-drop 28 o, length-drop 28 p, h .is-frame .header, k .is-frame .header)
 
   pub opens-one : o ≡ p
   opens-one =
