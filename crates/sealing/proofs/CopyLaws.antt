@@ -42,7 +42,7 @@ module _ (front x r room : List ℕ) (k : ℕ) (size : length front ≡ k) (er :
       ∙ sym (append-assoc front x (drop (length (front ++ x)) room))
 
 -- ---- the nonce
-module _ (part s : List ℕ) (lp : 4 ≤ length part) (ls : 40 ≤ length s) {r : List ℕ}
+module _ (at : ℕ) (part s : List ℕ) (lp : 4 ≤ length part) (ls : at + 8 ≤ length s) {r : List ℕ}
     (er : Copied (tail part (length part - 4)) (replicate 12 0) r) where
   salt-size : length (saltOf part) ≡ 4
   salt-size = length-drop (length part - 4) part ∙ omega (arith, lp)
@@ -53,25 +53,27 @@ module _ (part s : List ℕ) (lp : 4 ≤ length part) (ls : 40 ≤ length s) {r 
       copied-is (tail part (length part - 4)) (replicate 12 0) er
       ∙ ap₂ (λ (t : List ℕ) (n : ℕ). t ++ drop n (replicate 12 0)) e (ap length e ∙ salt-size)
 
-  iv-size : length (ivIn s) ≡ 8
-  iv-size = length-take-le 8 (drop 32 s) (omega (arith, length-drop 32 s, ls))
+  iv-size : length (ivIn at s) ≡ 8
+  iv-size = length-take-le 8 (drop at s) (omega (arith, length-drop at s, ls))
 
   -- of an array of 12, the part from 4 on has 8
   abbrev Made : ℕ → List ℕ → Type 0
-  Made n y = Copied (ivIn s) (midOf 4 n r) y → putMid 4 n r y ≡ nonceFor part s
+  Made n y = Copied (ivIn at s) (midOf 4 n r) y → putMid 4 n r y ≡ nonceFor at part s
 
   made : (y : List ℕ) → Made (length r - 4) y
   made y ey =
-      copied-behind (saltOf part) (ivIn s) r (replicate 12 0) 4 salt-size salted ey
-      ∙ ap (λ (n : ℕ). (saltOf part ++ ivIn s) ++ drop n (replicate 12 0))
-      (length-append (saltOf part) (ivIn s) ∙ ap₂ (λ (m n : ℕ). m + n) salt-size iv-size)
-      ∙ append-nil (saltOf part ++ ivIn s)
+      copied-behind (saltOf part) (ivIn at s) r (replicate 12 0) 4 salt-size salted ey
+      ∙ ap (λ (n : ℕ). (saltOf part ++ ivIn at s) ++ drop n (replicate 12 0))
+      (length-append (saltOf part) (ivIn at s) ∙ ap₂ (λ (m n : ℕ). m + n) salt-size iv-size)
+      ∙ append-nil (saltOf part ++ ivIn at s)
 
   rest : length r - 4 ≡ 8
   rest = let e = ap length salted ∙ length-append (saltOf part) (replicate 8 0) in omega (arith, e, salt-size)
 
-  pub nonce-made : {y : List ℕ} → Copied (ivIn s) (midOf 4 8 r) y → putMid 4 8 r y ≡ nonceFor part s
-  nonce-made {y} = subst (λ (n : ℕ). Made n y) rest (made y)
+  pub nonce-made : {y : List ℕ} → Copied (take (at + 8 - at) (drop at s)) (midOf 4 8 r) y → putMid 4 8 r y ≡ nonceFor at part s
+  nonce-made {y} ey =
+      subst (λ (n : ℕ). Made n y) rest (made y)
+      (subst (λ (n : ℕ). Copied (take n (drop at s)) (midOf 4 8 r) y) (let q : at + 8 - at ≡ 8 = omega arith in q) ey)
 
 -- ---- the header
 pub header-made : (s : List ℕ) → 28 ≤ length s → (size : ℕ) {h z : List ℕ} → Copied (take 28 s) (replicate 28 0) h → z ≡ octetsOf 8 size
@@ -89,10 +91,10 @@ header-made s l size {h} {z} eh ez =
 
 -- ---- the header, and the payloads behind it
 module _ (part s room : List ℕ) (p : ℕ) (l : 28 ≤ length s) {h r y nonce : List ℕ} (eh : h ≡ headerWith (oct s 28) (28 + p) s)
-    (er : Copied h room r) (en : nonce ≡ nonceFor part s)
+    (er : Copied h room r) (en : nonce ≡ nonceFor 32 part s)
     (ey : y ≡ putAtStart (plaintext (aesKeyOf part) nonce (take (40 + p - 40) (drop 40 s))) (midOf 28 (length r - 28) r)) where
   abbrev text : List ℕ
-  text = openedPayloads part s p
+  text = openedPayloads 32 part s p
 
   abbrev head : List ℕ
   head = headerWith (oct s 28) (28 + p) s

@@ -1,3 +1,4 @@
 pub mod CopyLaws
 pub mod UnderLaws
+pub mod PieceLaws
 pub mod Determined

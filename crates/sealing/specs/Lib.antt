@@ -1,1 +1,3 @@
 pub mod Unsealing
+pub mod Pieces
+pub mod inner

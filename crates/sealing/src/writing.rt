@@ -50,7 +50,7 @@ pub(crate) fn write_opened(
     requires { ⌜ (now tables ≡ encipherTables) × Expanded (now schedule) ⌝ }
     requires { ⌜ (length (now nonce) ≡ nonceOctets) × (ciphertextAt + p ≤ length (now frame))
         × (length (now frame) ≤ mostOctets) × (headerOctets + p ≤ length (now room)) ⌝ }
-    ensures { λ _. ⌜ ((part : List ℕ) → now (nonce .entry) ≡ nonceFor part (now (frame .entry)) →
+    ensures { λ _. ⌜ ((part : List ℕ) → now (nonce .entry) ≡ nonceFor encryptedBodyAt part (now (frame .entry)) →
         Expands (aesKeyOf part) (now (schedule .entry)) →
         now (room .exit) ≡ putAtStart (openedOf part (now (frame .entry)) p) (now (room .entry))) ⌝ }
 {

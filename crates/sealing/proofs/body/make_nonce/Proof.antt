@@ -1,11 +1,14 @@
--- `sealing::make_nonce` meets its contract.
+-- `sealing::body::make_nonce` meets its contract.
 use borrow.Author.Needs.{needs}
 use Rattle.sealing.proofs.CopyLaws.{nonce-made}
-use Rattle.sealing.proofs.make_nonce.Statement.{statement}
-use Rattle.sealing.proofs.make_nonce.Tie as tie
+use Rattle.sealing.proofs.body.make_nonce.Statement.{statement}
+use Rattle.sealing.proofs.body.make_nonce.Tie as tie
 
 sub-k : tie.Need-sub-k
 sub-k c = search needs
+
+add-end : tie.Need-add-end
+add-end c = search needs
 
 sub-copy : tie.Need-sub-copy
 sub-copy c = search needs
@@ -48,13 +51,14 @@ returns c =
     let k = c .before .before .before .before .before in
     let s = k .before .before .before .before .before in
     let a = s .args in
-    nonce-made (a .part .now) (a .frame .now) (s .pre .0) (s .pre .1) (k .copy .ensures .1) (c .before .copy2 .ensures .1)
+    nonce-made (a .at) (a .part .now) (a .frame .now) (s .pre .0) (s .pre .1) (k .copy .ensures .1) (c .before .copy2 .ensures .1)
 
 pub make-nonce-spec : {M : Type 1} → statement M
 make-nonce-spec =
     tie.close
     (tie.spec
     sub-k
+    add-end
     sub-copy
     part-copy-start
     part-copy-end
