@@ -3,10 +3,9 @@
 use mathlib.Core.Path.{_≡_, refl, ap, _∙_}
 use mathlib.Core.Bool.{true, false}
 use mathlib.Core.List.{List, [], _∷_, _++_}
-use Prim.Native.Nat.{ℕ, zero, suc, _/_, _<_}
-use native.Mathlib.Omega.{arith}
+use Prim.Native.Nat.{ℕ}
 use lib.Dec.{lit≤}
-use lib.ListN.{length, getD, set, take, drop, replicate}
+use lib.ListN.{set, take, drop}
 use Rattle.octets.specs.Numbers.{number, octetsOf}
 use Rattle.fips197.specs.Field.{xtimes, power}
 use Rattle.fips197.specs.Sbox.{sbox}
@@ -14,25 +13,14 @@ use Rattle.fips197.specs.Expansion.{keyExpansion, temp}
 use Rattle.fips197.specs.Cipher.{cipher, cipherWith}
 use Rattle.sp800_38d.specs.Increment.{inc32}
 use Rattle.sp800_38d.specs.Product.{reduction, bit, shifted}
-use Rattle.sp800_38d.specs.Ghash.{blockNumbers, ghash}
-use Rattle.sp800_38d.specs.Gctr.{counterBlock, gctr}
-use Rattle.sp800_38d.specs.Encryption.{hashSubkey, preCounterBlock, ciphertext, paddedToBlocks, hashInput, tag, sealed}
-use Rattle.sp800_38d.proofs.Computing.{turns, hashBy, hash-by, by-blocks}
+use Rattle.sp800_38d.specs.Ghash.{blockNumbers}
+use Rattle.sp800_38d.specs.Encryption.{preCounterBlock, paddedToBlocks, hashInput, sealed}
+use Rattle.sp800_38d.proofs.Computing.{turns, hashBy}
 use Rattle.rfc5282.specs.Sizes.{encryptedBodyAt}
 use Rattle.rfc5282.specs.Keys.{aesKeyOf, saltOf, ivIn, sealedIn, nonceFor, additionalIn}
 use Rattle.rfc5282.specs.SealedFrame.{Choice, headerWith, padded, bodySize, sealedBehind, additionalOf, sealedFrame}
 use Rattle.rfc5282.specs.Outer.{alone, outer}
-
-abbrev part : List ℕ
-part =
-    0x00 ∷ 0x01 ∷ 0x02 ∷ 0x03 ∷ 0x04 ∷ 0x05 ∷ 0x06 ∷ 0x07 ∷ 0x08 ∷ 0x09 ∷ 0x0a ∷ 0x0b ∷ 0x0c ∷ 0x0d ∷ 0x0e ∷ 0x0f ∷
-    0x10 ∷ 0x11 ∷ 0x12 ∷ 0x13 ∷ []
-
-abbrev opened : List ℕ
-opened =
-    0xa0 ∷ 0xa1 ∷ 0xa2 ∷ 0xa3 ∷ 0xa4 ∷ 0xa5 ∷ 0xa6 ∷ 0xa7 ∷ 0xa8 ∷ 0xa9 ∷ 0xaa ∷ 0xab ∷ 0xac ∷ 0xad ∷ 0xae ∷ 0xaf ∷
-    0x2a ∷ 0x20 ∷ 0x29 ∷ 0x00 ∷ 0x00 ∷ 0x00 ∷ 0x00 ∷ 0x07 ∷ 0x00 ∷ 0x00 ∷ 0x00 ∷ 0x28 ∷ 0x00 ∷ 0x00 ∷ 0x00 ∷ 0x0c ∷
-    0x03 ∷ 0x04 ∷ 0x00 ∷ 0x01 ∷ 0x11 ∷ 0x22 ∷ 0x33 ∷ 0x44 ∷ []
+use Rattle.rfc5282.proofs.AllComputed.{part, opened, key, hashOf, sealed-by}
 
 abbrev choice : Choice
 choice = record { reserved = 0; iv = 0x01 ∷ 0x02 ∷ 0x03 ∷ 0x04 ∷ 0x05 ∷ 0x06 ∷ 0x07 ∷ 0x08 ∷ []; padding = [] }
@@ -68,9 +56,6 @@ key-is = (refl, refl)
 abbrev plain : List ℕ
 plain = padded (drop 28 opened) choice
 
-abbrev key : List ℕ
-key = aesKeyOf part
-
 abbrev nonce : List ℕ
 nonce = saltOf part ++ choice .iv
 
@@ -80,14 +65,6 @@ nonce-is = refl
 headers-are : additionalOf opened choice ≡ headers
 unfolding additionalOf headerWith bodySize padded octetsOf
 headers-are = refl
-
-abbrev subkey : ℕ
-subkey = 0xc6a13b37878f5b826f4f8162a1c8d879
-
-subkey-is : cipher key (replicate 16 0) ≡
-    0xc6 ∷ 0xa1 ∷ 0x3b ∷ 0x37 ∷ 0x87 ∷ 0x8f ∷ 0x5b ∷ 0x82 ∷ 0x6f ∷ 0x4f ∷ 0x81 ∷ 0x62 ∷ 0xa1 ∷ 0xc8 ∷ 0xd8 ∷ 0x79 ∷ []
-unfolding cipher cipherWith keyExpansion temp power xtimes sbox
-subkey-is = refl
 
 abbrev tagStream : List ℕ
 tagStream =
@@ -105,41 +82,23 @@ text-stream-is : cipher key (inc32 (preCounterBlock nonce)) ≡ textStream
 unfolding cipher cipherWith keyExpansion temp power xtimes sbox preCounterBlock inc32 number octetsOf
 text-stream-is = refl
 
-one-block : (icb b : List ℕ) → cipher key icb ≡ b → (j : ℕ) → j < 1 → cipher key (counterBlock icb j) ≡ getD (b ∷ []) j []
-unfolding counterBlock
-one-block icb b e zero l = e
-one-block icb b e (suc j) l = absurd (omega (arith, l))
-
-text-is : ciphertext key nonce (plain) ≡ text
-unfolding ciphertext padded
-text-is =
-    by-blocks key (inc32 (preCounterBlock nonce)) (plain) (textStream ∷ [])
-    (one-block (inc32 (preCounterBlock nonce)) textStream text-stream-is) (lit≤ tt)
-
 abbrev hash : ℕ
 hash = 0xb3eea8759be7f3b35fdeb88f9d90113a
 
-hash-is : ghash subkey (hashInput headers text) ≡ hash
-unfolding ghash hashBy blockNumbers hashInput paddedToBlocks turns shifted bit reduction number octetsOf
-hash-is = hash-by subkey 0 (blockNumbers (length (hashInput headers text) / 16) (hashInput headers text))
+hash-is : hashOf headers text ≡ hash
+unfolding hashBy blockNumbers hashInput paddedToBlocks turns shifted bit reduction number octetsOf
+hash-is = refl
 
-tag-is : tag key nonce headers text ≡ mark
-unfolding tag hashSubkey number octetsOf
-tag-is =
-    ap (λ (b : List ℕ). gctr key (preCounterBlock nonce) (octetsOf 16 (ghash (number 16 b) (hashInput headers text)))) subkey-is
-    ∙ ap (λ (n : ℕ). gctr key (preCounterBlock nonce) (octetsOf 16 n)) hash-is
-    ∙ by-blocks key (preCounterBlock nonce) (octetsOf 16 hash) (tagStream ∷ [])
-    (one-block (preCounterBlock nonce) tagStream tag-stream-is) (lit≤ tt)
-
-sealed-is : sealed key nonce headers (plain) ≡ text ++ mark
-unfolding sealed
-sealed-is = ap (λ (x : List ℕ). x ++ tag key nonce headers x) text-is ∙ ap (λ (x : List ℕ). text ++ x) tag-is
+sealed-is : sealed key nonce headers plain ≡ text ++ mark
+unfolding padded octetsOf
+sealed-is =
+    sealed-by nonce headers plain text mark tagStream textStream hash (lit≤ tt) tag-stream-is text-stream-is refl hash-is refl
 
 -- THE SAMPLE
 pub sample-sealed : sealedFrame (aesKeyOf part) (saltOf part) opened choice ≡ frame
 unfolding sealedFrame sealedBehind
 sample-sealed =
-    ap (λ (a : List ℕ). a ++ (choice .iv ++ sealed key nonce a (plain))) headers-are
+    ap (λ (a : List ℕ). a ++ (choice .iv ++ sealed key nonce a plain)) headers-are
     ∙ ap (λ (x : List ℕ). headers ++ (choice .iv ++ x)) sealed-is
 
 -- ---- number 1 on the outer layout: the frame passes, and each of these does not

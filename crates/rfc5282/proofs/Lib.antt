@@ -1,3 +1,5 @@
+pub mod AllComputed
+pub mod AllPieces
 pub mod AllSamples
 pub mod CellLaws
 pub mod OuterLaws
