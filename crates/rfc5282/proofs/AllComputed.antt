@@ -1,5 +1,5 @@
--- What the samples share: the encryption part 00 to 13, the opened frame, a GSA_REKEY with one Delete payload, and how octets of at most one
--- block are sealed, from enciphered counter blocks and a hash that are known.
+-- What the samples share: the encryption part 00 to 13, the opened frame, a GSA_REKEY with one Delete payload, and how octets of at most
+-- one block are sealed, from enciphered counter blocks and a hash that are known.
 use mathlib.Core.Path.{_≡_, refl, sym, ap, _∙_}
 use mathlib.Core.List.{List, [], _∷_, _++_}
 use Prim.Native.Nat.{ℕ, zero, suc, _/_, _%_, _<_, _≤_}

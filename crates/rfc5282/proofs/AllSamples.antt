@@ -44,7 +44,8 @@ frame = headers ++ (choice .iv ++ (text ++ mark))
 
 -- ---- where its parts stand
 
-parts-are : (additionalIn encryptedBodyAt frame ≡ headers) × (ivIn encryptedBodyAt frame ≡ choice .iv) × (sealedIn encryptedBodyAt frame ≡ text ++ mark)
+parts-are : (additionalIn encryptedBodyAt frame ≡ headers) × (ivIn encryptedBodyAt frame ≡ choice .iv)
+    × (sealedIn encryptedBodyAt frame ≡ text ++ mark)
 parts-are = (refl, refl, refl)
 
 key-is : (aesKeyOf part ≡ 0 ∷ 1 ∷ 2 ∷ 3 ∷ 4 ∷ 5 ∷ 6 ∷ 7 ∷ 8 ∷ 9 ∷ 10 ∷ 11 ∷ 12 ∷ 13 ∷ 14 ∷ 15 ∷ [])

@@ -64,7 +64,8 @@ module _ (at : ℕ) (part s : List ℕ) (p : ℕ) (h : BodyHolds at part s p) wh
   holds-one q k = omega (arith, sizes, h .size, k .size, pads)
     where
       same : h .plain ≡ k .plain
-      same = unseals-one (aesKeyOf part) (nonceFor at part s) (take at s) (drop (at + 8) s) (h .plain) (k .plain) (h .is-plain) (k .is-plain)
+      same =
+          unseals-one (aesKeyOf part) (nonceFor at part s) (take at s) (drop (at + 8) s) (h .plain) (k .plain) (h .is-plain) (k .is-plain)
 
       sizes : length (h .plain) ≡ length (k .plain)
       sizes = ap length same

@@ -100,13 +100,16 @@ relates-outer s r = relates-alone 46 s r
 -- what is sealed is such a frame
 module _ (key salt o : List ℕ) (c : Choice) (fit : FitChoice c) (header : 28 ≤ length o) (v : oct o 17 / 16 ≡ 2)
     (most : length (sealedFrame key salt o c) ≤ 16384) where
+  abbrev size : ℕ
+  size = bodySize (drop 28 o) c
+
   abbrev head : List ℕ
-  head = headerWith 46 (32 + bodySize (drop 28 o) c) o
+  head = headerWith 46 (32 + size) o
 
   abbrev rest : List ℕ
   rest = c .iv ++ sealed key (salt ++ c .iv) (additionalOf o c) (padded (drop 28 o) c)
 
-  length-rest : length rest ≡ bodySize (drop 28 o) c
+  length-rest : length rest ≡ size
   unfolding bodySize
   length-rest =
       length-append (c .iv) (sealed key (salt ++ c .iv) (additionalOf o c) (padded (drop 28 o) c))
@@ -115,13 +118,13 @@ module _ (key salt o : List ℕ) (c : Choice) (fit : FitChoice c) (header : 28 �
   frame-is : sealedFrame key salt o c ≡ head ++ (oct o 16 ∷ c .reserved ∷ octetsOf 2 (4 + length rest) ++ rest)
   unfolding sealedFrame sealedBehind additionalOf
   frame-is =
-      append-assoc head (oct o 16 ∷ c .reserved ∷ octetsOf 2 (4 + bodySize (drop 28 o) c)) rest
+      append-assoc head (oct o 16 ∷ c .reserved ∷ octetsOf 2 (4 + size)) rest
       ∙ ap (λ (n : ℕ). head ++ (oct o 16 ∷ c .reserved ∷ octetsOf 2 (4 + n) ++ rest)) (sym length-rest)
 
-  length-frame : length (sealedFrame key salt o c) ≡ 32 + bodySize (drop 28 o) c
+  length-frame : length (sealedFrame key salt o c) ≡ 32 + size
   length-frame =
       ap length frame-is ∙ length-append head (oct o 16 ∷ c .reserved ∷ octetsOf 2 (4 + length rest) ++ rest)
-      ∙ ap₂ (λ (m n : ℕ). m + suc (suc n)) (length-header o header 46 (32 + bodySize (drop 28 o) c))
+      ∙ ap₂ (λ (m n : ℕ). m + suc (suc n)) (length-header o header 46 (32 + size))
       (length-append (octetsOf 2 (4 + length rest)) rest ∙ ap₂ (λ (m n : ℕ). m + n) (length-octets 2 (4 + length rest)) length-rest)
       ∙ omega arith
 
@@ -134,11 +137,11 @@ module _ (key salt o : List ℕ) (c : Choice) (fit : FitChoice c) (header : 28 �
         next = oct o 16;
         reserved = c .reserved;
         body = rest;
-        size = length-header o header 46 (32 + bodySize (drop 28 o) c);
-        first = ap (λ (w : List ℕ). oct w 16) (header-cells o header 46 (32 + bodySize (drop 28 o) c));
-        version = ap (λ (w : List ℕ). oct w 17 / 16) (header-cells o header 46 (32 + bodySize (drop 28 o) c)) ∙ v;
-        counts = ap (λ (w : List ℕ). number 4 (drop 24 w)) (header-cells o header 46 (32 + bodySize (drop 28 o) c))
-            ∙ number-octets 4 (32 + bodySize (drop 28 o) c) (let q : 32 + bodySize (drop 28 o) c < 4294967296 = omega (arith, length-frame, most) in q)
+        size = length-header o header 46 (32 + size);
+        first = ap (λ (w : List ℕ). oct w 16) (header-cells o header 46 (32 + size));
+        version = ap (λ (w : List ℕ). oct w 17 / 16) (header-cells o header 46 (32 + size)) ∙ v;
+        counts = ap (λ (w : List ℕ). number 4 (drop 24 w)) (header-cells o header 46 (32 + size))
+            ∙ number-octets 4 (32 + size) (let q : 32 + size < 4294967296 = omega (arith, length-frame, most) in q)
             ∙ sym length-frame;
         most = most;
         is = frame-is;

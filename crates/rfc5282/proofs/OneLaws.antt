@@ -22,7 +22,8 @@ module _ (part s o : List ℕ) (h : OpensFrame (aesKeyOf part) (saltOf part) s o
 
   least : 57 ≤ length s
   least =
-      omega (arith, holds-long 32 part s (length (drop 28 o)) (behind-holds 32 part s (additionalOf o ch) (drop 28 o) ch (frame-behind part s o h)))
+      let b = behind-holds 32 part s (additionalOf o ch) (drop 28 o) ch (frame-behind part s o h) in
+      omega (arith, holds-long 32 part s (length (drop 28 o)) b)
 
   -- the additional data, octet by octet
   abbrev received : List ℕ

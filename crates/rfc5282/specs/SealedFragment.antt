@@ -1,5 +1,5 @@
--- A frame whose one payload is an Encrypted Fragment payload (RFC 7383, section 2.5), made from the piece that is sealed in it: next payload,
--- reserved, length, Fragment Number, Total Fragments, and then the body of an Encrypted payload.
+-- A frame whose one payload is an Encrypted Fragment payload (RFC 7383, section 2.5), made from the piece that is sealed in it: next
+-- payload, reserved, length, Fragment Number, Total Fragments, and then what an Encrypted payload has as its body.
 use mathlib.Core.Path.{_≡_}
 use Prim.Native.Nat.{ℕ, _+_, _-_, _<_, _≤_}
 use mathlib.Core.List.{List, _∷_, _++_}

@@ -16,7 +16,7 @@ pub const ENCRYPTED_BODY_AT: usize = 32;
 
 pub const CIPHERTEXT_AT: usize = ENCRYPTED_BODY_AT + IV;
 
-// Where Fragment Number and Total Fragments stand in a frame that has no other payload than the Encrypted Fragment, and the body behind them.
+// Where Fragment Number and Total Fragments stand in a frame that has an Encrypted Fragment payload alone, and the body behind them.
 pub const FRAGMENT_NUMBER_AT: usize = ENCRYPTED_BODY_AT;
 
 pub const TOTAL_FRAGMENTS_AT: usize = FRAGMENT_NUMBER_AT + 2;

@@ -13,7 +13,9 @@ returns : tie.Need-returns
 returns c = too-short (c .before .before .args .payload) (c .before .before .args .frame .now) (c .if1 .taken)
 
 returns-2 : tie.Need-returns-2
-returns-2 c = too-long (c .before .before .before .args .payload) (c .before .before .before .args .frame .now) (omega arith) (c .if2 .taken)
+returns-2 c =
+    let a = c .before .before .before .args in
+    too-long (a .payload) (a .frame .now) (omega arith) (c .if2 .taken)
 
 be32-at-requires : tie.Need-be32-at-requires
 be32-at-requires c κs = search needs
