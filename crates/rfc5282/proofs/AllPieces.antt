@@ -17,8 +17,8 @@ use Rattle.sp800_38d.specs.Ghash.{blockNumbers}
 use Rattle.sp800_38d.specs.Encryption.{preCounterBlock, paddedToBlocks, hashInput, sealed}
 use Rattle.sp800_38d.proofs.Computing.{turns, hashBy}
 use Rattle.rfc5282.specs.Sizes.{fragmentBodyAt}
-use Rattle.rfc5282.specs.Keys.{aesKeyOf, saltOf, ivIn, sealedIn, additionalIn}
-use Rattle.rfc5282.specs.SealedFrame.{Choice, headerWith, padded, bodySize, sealedBehind}
+use Rattle.rfc5282.specs.Keys.{aesKeyOf, saltOf, sealedIn, nonceFor, additionalIn}
+use Rattle.rfc5282.specs.SealedFrame.{Choice, headerWith, withPadding, bodySize, sealedBehind}
 use Rattle.rfc5282.specs.SealedFragment.{fragmentAdditional, sealedFragment}
 use Rattle.rfc5282.specs.Outer.{alone, outer}
 use Rattle.rfc5282.specs.OuterFragment.{numberIn, totalIn, nextIn, outerFragment}
@@ -50,17 +50,17 @@ mark1 =
 abbrev pub fragment1 : List ℕ
 fragment1 = headers1 ++ (choice1 .iv ++ (text1 ++ mark1))
 
+abbrev nonce1 : List ℕ
+nonce1 = saltOf part ++ choice1 .iv
+
 -- authenticated are the 36 octets before the IV
-parts1 : (additionalIn fragmentBodyAt fragment1 ≡ headers1) × (ivIn fragmentBodyAt fragment1 ≡ choice1 .iv)
+parts1 : (additionalIn fragmentBodyAt fragment1 ≡ headers1) × (nonceFor fragmentBodyAt part fragment1 ≡ nonce1)
     × (sealedIn fragmentBodyAt fragment1 ≡ text1 ++ mark1)
 parts1 = (refl, refl, refl)
 
 headers1-are : fragmentAdditional header 0x2a 1 2 piece1 choice1 ≡ headers1
-unfolding fragmentAdditional headerWith bodySize padded octetsOf
+unfolding fragmentAdditional headerWith bodySize withPadding octetsOf
 headers1-are = refl
-
-abbrev nonce1 : List ℕ
-nonce1 = saltOf part ++ choice1 .iv
 
 abbrev tagStream1 : List ℕ
 tagStream1 =
@@ -85,16 +85,17 @@ hash1-is : hashOf headers1 text1 ≡ hash1
 unfolding hashBy blockNumbers hashInput paddedToBlocks turns shifted bit reduction number octetsOf
 hash1-is = refl
 
-sealed1 : sealed key nonce1 headers1 (padded piece1 choice1) ≡ text1 ++ mark1
-unfolding padded octetsOf
+sealed1 : sealed key nonce1 headers1 (withPadding piece1 choice1) ≡ text1 ++ mark1
+unfolding withPadding octetsOf
 sealed1 =
-    sealed-by nonce1 headers1 (padded piece1 choice1) text1 mark1 tagStream1 textStream1 hash1 (lit≤ tt) tag-stream1
+    sealed-by nonce1 headers1 (withPadding piece1 choice1) text1 mark1 tagStream1 textStream1 hash1 (lit≤ tt) tag-stream1
     text-stream1 refl hash1-is refl
 
 pub fragment1-sealed : sealedFragment (aesKeyOf part) (saltOf part) header 0x2a 1 2 piece1 choice1 ≡ fragment1
 unfolding sealedFragment sealedBehind
 fragment1-sealed =
-    ap (λ (a : List ℕ). a ++ (choice1 .iv ++ sealed key nonce1 a (padded piece1 choice1))) headers1-are
+    let known = parts1 in
+    ap (λ (a : List ℕ). a ++ (choice1 .iv ++ sealed key nonce1 a (withPadding piece1 choice1))) headers1-are
     ∙ ap (λ (x : List ℕ). headers1 ++ (choice1 .iv ++ x)) sealed1
 
 -- ---- the second and last: its next payload says nothing
@@ -120,17 +121,17 @@ mark2 =
 abbrev pub fragment2 : List ℕ
 fragment2 = headers2 ++ (choice2 .iv ++ (text2 ++ mark2))
 
+abbrev nonce2 : List ℕ
+nonce2 = saltOf part ++ choice2 .iv
+
 -- authenticated are the 36 octets before the IV
-parts2 : (additionalIn fragmentBodyAt fragment2 ≡ headers2) × (ivIn fragmentBodyAt fragment2 ≡ choice2 .iv)
+parts2 : (additionalIn fragmentBodyAt fragment2 ≡ headers2) × (nonceFor fragmentBodyAt part fragment2 ≡ nonce2)
     × (sealedIn fragmentBodyAt fragment2 ≡ text2 ++ mark2)
 parts2 = (refl, refl, refl)
 
 headers2-are : fragmentAdditional header 0x00 2 2 piece2 choice2 ≡ headers2
-unfolding fragmentAdditional headerWith bodySize padded octetsOf
+unfolding fragmentAdditional headerWith bodySize withPadding octetsOf
 headers2-are = refl
-
-abbrev nonce2 : List ℕ
-nonce2 = saltOf part ++ choice2 .iv
 
 abbrev tagStream2 : List ℕ
 tagStream2 =
@@ -155,16 +156,17 @@ hash2-is : hashOf headers2 text2 ≡ hash2
 unfolding hashBy blockNumbers hashInput paddedToBlocks turns shifted bit reduction number octetsOf
 hash2-is = refl
 
-sealed2 : sealed key nonce2 headers2 (padded piece2 choice2) ≡ text2 ++ mark2
-unfolding padded octetsOf
+sealed2 : sealed key nonce2 headers2 (withPadding piece2 choice2) ≡ text2 ++ mark2
+unfolding withPadding octetsOf
 sealed2 =
-    sealed-by nonce2 headers2 (padded piece2 choice2) text2 mark2 tagStream2 textStream2 hash2 (lit≤ tt) tag-stream2
+    sealed-by nonce2 headers2 (withPadding piece2 choice2) text2 mark2 tagStream2 textStream2 hash2 (lit≤ tt) tag-stream2
     text-stream2 refl hash2-is refl
 
 pub fragment2-sealed : sealedFragment (aesKeyOf part) (saltOf part) header 0x00 2 2 piece2 choice2 ≡ fragment2
 unfolding sealedFragment sealedBehind
 fragment2-sealed =
-    ap (λ (a : List ℕ). a ++ (choice2 .iv ++ sealed key nonce2 a (padded piece2 choice2))) headers2-are
+    let known = parts2 in
+    ap (λ (a : List ℕ). a ++ (choice2 .iv ++ sealed key nonce2 a (withPadding piece2 choice2))) headers2-are
     ∙ ap (λ (x : List ℕ). headers2 ++ (choice2 .iv ++ x)) sealed2
 
 -- the two pieces are what follows the header

@@ -18,7 +18,7 @@ use Rattle.sp800_38d.specs.Encryption.{preCounterBlock, paddedToBlocks, hashInp
 use Rattle.sp800_38d.proofs.Computing.{turns, hashBy}
 use Rattle.rfc5282.specs.Sizes.{encryptedBodyAt}
 use Rattle.rfc5282.specs.Keys.{aesKeyOf, saltOf, ivIn, sealedIn, nonceFor, additionalIn}
-use Rattle.rfc5282.specs.SealedFrame.{Choice, headerWith, padded, bodySize, sealedBehind, additionalOf, sealedFrame}
+use Rattle.rfc5282.specs.SealedFrame.{Choice, headerWith, withPadding, bodySize, sealedBehind, additionalOf, sealedFrame}
 use Rattle.rfc5282.specs.Outer.{alone, outer}
 use Rattle.rfc5282.proofs.AllComputed.{part, opened, key, hashOf, sealed-by}
 
@@ -55,7 +55,7 @@ key-is = (refl, refl)
 -- ---- sealing
 
 abbrev plain : List ℕ
-plain = padded (drop 28 opened) choice
+plain = withPadding (drop 28 opened) choice
 
 abbrev nonce : List ℕ
 nonce = saltOf part ++ choice .iv
@@ -64,7 +64,7 @@ nonce-is : nonceFor encryptedBodyAt part frame ≡ 16 ∷ 17 ∷ 18 ∷ 19 ∷ 1
 nonce-is = refl
 
 headers-are : additionalOf opened choice ≡ headers
-unfolding additionalOf headerWith bodySize padded octetsOf
+unfolding additionalOf headerWith bodySize withPadding octetsOf
 headers-are = refl
 
 abbrev tagStream : List ℕ
@@ -91,7 +91,7 @@ unfolding hashBy blockNumbers hashInput paddedToBlocks turns shifted bit reducti
 hash-is = refl
 
 sealed-is : sealed key nonce headers plain ≡ text ++ mark
-unfolding padded octetsOf
+unfolding withPadding octetsOf
 sealed-is =
     sealed-by nonce headers plain text mark tagStream textStream hash (lit≤ tt) tag-stream-is text-stream-is refl hash-is refl
 
@@ -99,6 +99,8 @@ sealed-is =
 pub sample-sealed : sealedFrame (aesKeyOf part) (saltOf part) opened choice ≡ frame
 unfolding sealedFrame sealedBehind
 sample-sealed =
+    let known = parts-are in
+    let also = nonce-is in
     ap (λ (a : List ℕ). a ++ (choice .iv ++ sealed key nonce a plain)) headers-are
     ∙ ap (λ (x : List ℕ). headers ++ (choice .iv ++ x)) sealed-is
 

@@ -14,7 +14,7 @@ use Rattle.sp800_38d.specs.Decryption.{plaintext}
 use Rattle.sp800_38d.proofs.GctrLaws.{gctr-take}
 use Rattle.sp800_38d.proofs.SealLaws.{length-sealed, length-text, text-of, text-twice, unseals-one}
 use Rattle.rfc5282.specs.Keys.{aesKeyOf, saltOf, ivIn, nonceFor}
-use Rattle.rfc5282.specs.SealedFrame.{Choice, FitChoice, padded, bodySize, sealedBehind}
+use Rattle.rfc5282.specs.SealedFrame.{Choice, FitChoice, withPadding, bodySize, sealedBehind}
 use Rattle.rfc5282.specs.Number10.{PlainIn}
 use Rattle.rfc5282.specs.inner.Opened.{openedPayloads, BodyHolds}
 
@@ -93,8 +93,8 @@ module _ (at : ℕ) (part s : List ℕ) (p : ℕ) (h : BodyHolds at part s p) wh
     length-padding : length (take pad (drop p (h .plain))) ≡ pad
     length-padding = length-take-le pad (drop p (h .plain)) (omega (arith, h .size, length-drop p (h .plain)))
 
-    plain-is : padded payloads heldChoice ≡ h .plain
-    unfolding padded
+    plain-is : withPadding payloads heldChoice ≡ h .plain
+    unfolding withPadding
     plain-is =
         ap₂ (λ (a : List ℕ) (n : ℕ). a ++ (take pad (drop p (h .plain)) ++ (n ∷ []))) holds-text (length-padding ∙ sym (h .last))
         ∙ sym (append-assoc (take p (h .plain)) (take pad (drop p (h .plain))) (oct (h .plain) (p + pad) ∷ []))
@@ -133,7 +133,7 @@ module _ (at : ℕ) (part s : List ℕ) (p : ℕ) (h : BodyHolds at part s p) wh
 -- ---- what was sealed is held
 module _ (at : ℕ) (part s add x : List ℕ) (c : Choice) (h : BehindAt at part s add x c) where
   abbrev plain : List ℕ
-  plain = padded x c
+  plain = withPadding x c
 
   abbrev body : List ℕ
   body = sealed (aesKeyOf part) (saltOf part ++ c .iv) add plain
@@ -155,21 +155,21 @@ module _ (at : ℕ) (part s add x : List ℕ) (c : Choice) (h : BehindAt at part
   body-found = sym (sym (drop-drop 8 at s) ∙ ap (drop 8) rest-is ∙ drop-at (c .iv) body 8 (h .fit .iv-size))
 
   plain-small : Octets plain
-  unfolding padded
+  unfolding withPadding
   plain-small =
       join-octets x (c .padding ++ (length (c .padding) ∷ [])) (h .small)
       (join-octets (c .padding) (length (c .padding) ∷ []) (h .fit .padding-small)
       (one-octet (length (c .padding)) [] (omega (arith, h .fit .padding-most)) no-octets))
 
   length-plain : length plain ≡ length x + length (c .padding) + 1
-  unfolding padded
+  unfolding withPadding
   length-plain =
       length-append x (c .padding ++ (length (c .padding) ∷ []))
       ∙ ap (λ (n : ℕ). length x + n) (length-append (c .padding) (length (c .padding) ∷ []))
       ∙ omega arith
 
   last-found : oct plain (length x + length (c .padding)) ≡ length (c .padding)
-  unfolding padded
+  unfolding withPadding
   last-found =
       ap (λ (l : List ℕ). oct l (length x + length (c .padding))) (sym (append-assoc x (c .padding) (length (c .padding) ∷ [])))
       ∙ getD-at (x ++ c .padding) (length (c .padding)) [] 0 (length x + length (c .padding)) (length-append x (c .padding))
@@ -191,7 +191,7 @@ module _ (at : ℕ) (part s add x : List ℕ) (c : Choice) (h : BehindAt at part
 
   -- what was sealed is what the steps find
   pub behind-text : openedPayloads at part s (length x) ≡ x
-  unfolding padded behind-holds
+  unfolding withPadding behind-holds
   behind-text = holds-text at part s (length x) behind-holds ∙ take-append-seam x (c .padding ++ (length (c .padding) ∷ []))
 
 -- a body opens to one list of octets at most

@@ -15,7 +15,7 @@ use Rattle.octets.proofs.Octets.{drop-octets}
 use Rattle.octets.proofs.RoundTrip.{length-octets, number-octets, octets-number}
 use Rattle.sp800_38d.specs.Encryption.{sealed}
 use Rattle.sp800_38d.proofs.SealLaws.{length-sealed}
-use Rattle.rfc5282.specs.SealedFrame.{Choice, FitChoice, headerWith, padded, bodySize, additionalOf}
+use Rattle.rfc5282.specs.SealedFrame.{Choice, FitChoice, headerWith, withPadding, bodySize, additionalOf}
 use Rattle.rfc5282.specs.SealedFrame.{sealedBehind, sealedFrame}
 use Rattle.rfc5282.specs.Outer.{alone, outer, IsAlone, IsOuter}
 use Rattle.rfc5282.proofs.CellLaws.{cells, header-cells}
@@ -107,13 +107,13 @@ module _ (key salt o : List ℕ) (c : Choice) (fit : FitChoice c) (header : 28 �
   head = headerWith 46 (32 + size) o
 
   abbrev rest : List ℕ
-  rest = c .iv ++ sealed key (salt ++ c .iv) (additionalOf o c) (padded (drop 28 o) c)
+  rest = c .iv ++ sealed key (salt ++ c .iv) (additionalOf o c) (withPadding (drop 28 o) c)
 
   length-rest : length rest ≡ size
   unfolding bodySize
   length-rest =
-      length-append (c .iv) (sealed key (salt ++ c .iv) (additionalOf o c) (padded (drop 28 o) c))
-      ∙ ap₂ (λ (m n : ℕ). m + n) (fit .iv-size) (length-sealed key (salt ++ c .iv) (additionalOf o c) (padded (drop 28 o) c)) ∙ omega arith
+      length-append (c .iv) (sealed key (salt ++ c .iv) (additionalOf o c) (withPadding (drop 28 o) c))
+      ∙ ap₂ (λ (m n : ℕ). m + n) (fit .iv-size) (length-sealed key (salt ++ c .iv) (additionalOf o c) (withPadding (drop 28 o) c)) ∙ omega arith
 
   frame-is : sealedFrame key salt o c ≡ head ++ (oct o 16 ∷ c .reserved ∷ octetsOf 2 (4 + length rest) ++ rest)
   unfolding sealedFrame sealedBehind additionalOf

@@ -27,17 +27,17 @@ unfoldable pub headerWith : ℕ → ℕ → List ℕ → List ℕ
 headerWith next size h = take firstPayloadAt h ++ ((next ∷ take 7 (drop versionAt h)) ++ octetsOf 4 size)
 
 -- RFC 7296, section 3.14: the payloads, the padding, the pad length
-unfoldable pub padded : List ℕ → Choice → List ℕ
-padded payloads c = payloads ++ (c .padding ++ (length (c .padding) ∷ []))
+unfoldable pub withPadding : List ℕ → Choice → List ℕ
+withPadding payloads c = payloads ++ (c .padding ++ (length (c .padding) ∷ []))
 
 -- octets of the payload's body: IV, ciphertext, tag
 unfoldable pub bodySize : List ℕ → Choice → ℕ
-bodySize payloads c = ivOctets + length (padded payloads c) + tagOctets
+bodySize payloads c = ivOctets + length (withPadding payloads c) + tagOctets
 
 -- the body behind the additional data: the IV, then the payloads sealed under an AES key and its salt
 unfoldable pub sealedBehind : List ℕ → List ℕ → List ℕ → List ℕ → Choice → List ℕ
 sealedBehind key salt additional payloads c =
-    additional ++ (c .iv ++ sealed key (salt ++ c .iv) additional (padded payloads c))
+    additional ++ (c .iv ++ sealed key (salt ++ c .iv) additional (withPadding payloads c))
 
 -- the two headers: the frame's next payload is the Encrypted payload, and that one's next payload is the first of those within
 unfoldable pub additionalOf : List ℕ → Choice → List ℕ
