@@ -16,12 +16,15 @@ pub const ENCRYPTED_BODY_AT: usize = 32;
 
 pub const CIPHERTEXT_AT: usize = ENCRYPTED_BODY_AT + IV;
 
+// Octets of Fragment Number and of Total Fragments (RFC 7383, section 2.5).
+pub const FRAGMENT_FIELD: usize = 2;
+
 // Where Fragment Number and Total Fragments stand in a frame that has an Encrypted Fragment payload alone, and the body behind them.
 pub const FRAGMENT_NUMBER_AT: usize = ENCRYPTED_BODY_AT;
 
-pub const TOTAL_FRAGMENTS_AT: usize = FRAGMENT_NUMBER_AT + 2;
+pub const TOTAL_FRAGMENTS_AT: usize = FRAGMENT_NUMBER_AT + FRAGMENT_FIELD;
 
-pub const FRAGMENT_BODY_AT: usize = TOTAL_FRAGMENTS_AT + 2;
+pub const FRAGMENT_BODY_AT: usize = TOTAL_FRAGMENTS_AT + FRAGMENT_FIELD;
 
 // Octets of the tag (SP 800-38D).
 pub const TAG: usize = 16;

@@ -67,7 +67,8 @@ fn open_under(
         Unsealed::No => Unsealed::No,
         Unsealed::Count(p) => {
             write_opened(tables, schedule, nonce, frame, p, room);
-            Unsealed::Count(HEADER + p)
+            let count = HEADER + p;
+            Unsealed::Count(count)
         }
     }
 }

@@ -37,8 +37,8 @@ write-opened-requires c κs =
     let b = subst (BodyBounds 32 (s .args .frame .now)) (v .p .given .1) (j .judge-body .ensures .0) in
     (s .pre .0, (s .pre .1 .0, b, f .most, omega (arith, b, f .most, k .if1 .left)))
 
-add-t14 : tie.Need-add-t14
-add-t14 c =
+add-count : tie.Need-add-count
+add-count c =
     let v = c .before .before .before .before .before in
     let j = v .before .before in
     let s = j .before .before .before .before .before in
@@ -82,7 +82,7 @@ open-under-spec =
     enum-told
     enum-known-p
     write-opened-requires
-    add-t14
+    add-count
     returns-2
     same-length
     returns-3)
