@@ -1,15 +1,17 @@
 //! Lines of `trace` between the frames: sweeps, leaving, questions, other lent keys, and lines that are nearly one of these.
 
 use crate::lives::borders;
+use crate::scene::Scene;
 use crate::script::Writer;
 use crate::violations::Exchange;
 use builder::line::hex;
 use builder::{ESP, REKEY};
+use reference::fragments::Collection;
 use reference::member::is_wrap_key_size;
 use reference::trace;
 
 /// What must occur.
-pub const ALL: [&str; 11] = [
+pub const ALL: [&str; 12] = [
     "sweep that removes",
     "sweep that removes nothing",
     "leaving",
@@ -21,6 +23,7 @@ pub const ALL: [&str; 11] = [
     "a member with the profile",
     "a line of a sealed frame",
     "journal",
+    "a line of a fragment",
 ];
 
 const PERCENT: usize = 25;
@@ -120,7 +123,7 @@ impl Writer<'_> {
             line[at] = self.scene.rng.pick(b"AFgx \r\0\xff");
         }
         // The run goes on with the member and the lent key that it has.
-        let is_call = trace::call(&mut self.scene.member.clone(), &mut Vec::new(), &line).is_some();
+        let is_call = trace::call(&mut self.scene.member.clone(), &mut Vec::new(), &mut Collection::default(), &line).is_some();
         if is_call && matches!(letter, b'k' | b'l' | b'p') {
             return;
         }
@@ -130,7 +133,8 @@ impl Writer<'_> {
     /// Takes the member and the lent key through a line that is no frame; whether it is a call.
     pub fn other_call(&mut self, line: &[u8]) -> bool {
         let (before, tick) = (self.scene.member.clone(), self.scene.tick);
-        let Some(reply) = trace::call(&mut self.scene.member, &mut self.scene.lent, line) else { return false };
+        let Scene { member, lent, kept, .. } = &mut self.scene;
+        let Some(reply) = trace::call(member, lent, kept, line) else { return false };
         let swept = before.table.len() - self.scene.member.table.len();
         let asked = || before.table.iter().find(|sa| line[3..] == hex(&sa.spi)).is_some_and(|sa| sa.is_due(tick));
         self.tally.call(match (line[0], reply.as_str()) {
@@ -141,6 +145,7 @@ impl Writer<'_> {
             (b'p', _) => ALL[8],
             (b'x', _) => ALL[9],
             (b'j', _) => ALL[10],
+            (b'y', _) => ALL[11],
             (_, "none") => ALL[4],
             _ if asked() => ALL[5],
             (_, found) if found.contains(" live ") => ALL[6],

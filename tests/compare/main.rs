@@ -6,15 +6,18 @@
 //!
 //! `compare --scripts COUNT DIRECTORY`: writes the scripts of the first seeds, SEED.in and SEED.trace.in.
 
+mod broken_fragments;
 mod calls;
 mod case;
 mod damage;
+mod fragments;
 mod fresh;
 mod inband;
 mod limits;
 mod lives;
 mod orders;
 mod paths;
+mod pieces;
 mod programs;
 mod rearrange;
 mod runs;
@@ -187,6 +190,7 @@ fn print_counts(tally: &Tally) {
         ("paths:", &tally.paths),
         ("fresh keys:", &tally.fresh),
         ("frames that came", &tally.sealed),
+        ("frames in pieces:", &tally.fragments),
     ];
     for (what, counts) in counted {
         if !counts.is_empty() {
@@ -220,7 +224,9 @@ fn verdict(tally: &Tally, kind: Kind, count: u64) -> Result<(), String> {
     let fresh = fresh::MET.into_iter().filter(|name| kind == Kind::Trace && !tally.fresh.contains_key(name));
     let sealed = sealed::MET.into_iter().chain(sealed::BREAKS.iter().map(|one| one.name));
     let sealed = sealed.filter(|name| kind == Kind::Trace && !tally.sealed.contains_key(name));
-    match (missing.next(), limits.chain(breaks).chain(lives).chain(paths).chain(moves).chain(fresh).chain(sealed).next()) {
+    let fragments = fragments::met().filter(|name| kind == Kind::Trace && !tally.fragments.contains_key(name));
+    let mut others = limits.chain(breaks).chain(lives).chain(paths).chain(moves).chain(fresh).chain(sealed).chain(fragments);
+    match (missing.next(), others.next()) {
         (Some(name), _) if count >= ENOUGH => Err(format!("never occurred alone: {name}")),
         (_, Some(name)) if count >= ENOUGH => Err(format!("never occurred: {name}")),
         _ => Ok(()),

@@ -7,6 +7,7 @@ use builder::rng::Rng;
 use builder::typical::*;
 use builder::wrapping::wrap;
 use builder::{Attribute, Part, ESP, REKEY};
+use reference::fragments::Collection;
 use reference::member::{Member, Sa};
 
 /// The member, the clock and the lent key at a place of a script.
@@ -14,6 +15,8 @@ pub struct Scene {
     pub rng: Rng,
     pub lent: Vec<u8>,
     pub member: Member,
+    /// The fragments that the member waits with.
+    pub kept: Collection,
     pub tick: u32,
     pub sizes: Sizes,
     /// The keys that came with the last registration, held or not.

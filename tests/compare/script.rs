@@ -13,6 +13,7 @@ use crate::{limits, lives};
 use builder::line::{hex, line};
 use builder::rng::Rng;
 use builder::typical::{GSA_AUTH, GSA_REGISTRATION};
+use reference::fragments::Collection;
 use reference::layout::MOST_FRAME;
 use reference::member::Member;
 use reference::{layout, text};
@@ -85,7 +86,8 @@ impl<'t> Writer<'t> {
         let lent = rng.octets(size);
         let tick = rng.pick(&[0, 1000, 0x7fff_ff00, u32::MAX - 500]);
         let lines = vec![hex(&lent)];
-        let scene = Scene { rng, lent, member: Member::new(), tick, sizes: Sizes::SMALL, tree: Vec::new(), lives: 0 };
+        let (member, kept, sizes, tree) = (Member::new(), Collection::default(), Sizes::SMALL, Vec::new());
+        let scene = Scene { rng, lent, member, kept, tick, sizes, tree, lives: 0 };
         Writer { scene, tracing: kind == Kind::Trace, lines, labels: Vec::new(), answers: Vec::new(), tally, seed }
     }
 
@@ -118,6 +120,7 @@ impl<'t> Writer<'t> {
             if self.tracing {
                 self.fresh_keys();
                 self.sealed_breaks();
+                self.fragments(turn);
             }
             let exchange = if self.scene.rng.chance(INBAND_PERCENT) { Exchange::Inband } else { Exchange::Rekey };
             let shape = self.scene.any_shape();
@@ -272,10 +275,8 @@ impl<'t> Writer<'t> {
 
     /// A frame of any octets, as many as a good line holds.
     fn frame(&mut self, octets: &[u8], label: String) -> u8 {
-        if let Some(sealed) = self.sealed_form(octets) {
-            return self.sealed_line(&sealed, MOST_FRAME, format!("{label}, sealed"));
-        }
-        self.line(line(self.scene.tick, octets), label).expect("a good line")
+        let number = self.other_form(octets, &label);
+        number.unwrap_or_else(|| self.line(line(self.scene.tick, octets), label).expect("a good line"))
     }
 
     /// Adds the line, and takes the member through it; None for a bad one.

@@ -1,6 +1,7 @@
 //! Sealed frames among the lines of `trace` (document 02, T-05): rekeys that come sealed in the place of opened ones, and sealed frames
 //! that break one rule before they are opened, or two.
 
+use crate::scene::Scene;
 use crate::script::Writer;
 use crate::violations::Exchange;
 use builder::line::hex;
@@ -87,7 +88,7 @@ fn earlier(a: u8, b: u8) -> u8 {
 }
 
 impl Writer<'_> {
-    fn choice(&mut self) -> Choice {
+    pub fn choice(&mut self) -> Choice {
         let rng = &mut self.scene.rng;
         let count = rng.pick(&[0, 0, 0, 1, 2, 15, 16, 254, 255]);
         let iv = rng.octets(8).try_into().expect("eight octets");
@@ -95,14 +96,19 @@ impl Writer<'_> {
     }
 
     /// GSK_e of the live Rekey SA.
-    fn gsk_e(&self) -> Option<Vec<u8>> {
+    pub fn gsk_e(&self) -> Option<Vec<u8>> {
         Some(self.scene.member.live_rekey()?.encryption_key().to_vec())
     }
 
-    /// The sealed form of a frame's octets, sometimes: a GSA_REKEY whose header counts its octets, and that has room to grow.
-    pub fn sealed_form(&mut self, octets: &[u8]) -> Option<Vec<u8>> {
+    /// Whether these are the octets of a GSA_REKEY whose header counts them, in a script of `trace`.
+    pub fn may_be_sealed(&self, octets: &[u8]) -> bool {
         let counted = octets.len() >= HEADER && octets[24..HEADER] == (octets.len() as u32).to_be_bytes();
-        if !self.tracing || !counted || octets[18] != GSA_REKEY || !self.scene.rng.chance(PERCENT) {
+        self.tracing && counted && octets[18] == GSA_REKEY
+    }
+
+    /// The sealed form of a frame's octets, sometimes, if it has room to grow.
+    pub fn sealed_form(&mut self, octets: &[u8]) -> Option<Vec<u8>> {
+        if !self.may_be_sealed(octets) || !self.scene.rng.chance(PERCENT) {
             return None;
         }
         let (gsk_e, choice) = (self.gsk_e()?, self.choice());
@@ -116,7 +122,8 @@ impl Writer<'_> {
     pub fn sealed_line(&mut self, octets: &[u8], room: usize, label: String) -> u8 {
         let tick = self.scene.tick;
         let line = [b"x", hex(&(room as u32).to_be_bytes()).as_slice(), &hex(&tick.to_be_bytes()), &hex(octets)].concat();
-        let reply = trace::call(&mut self.scene.member, &mut self.scene.lent, &line).expect("a good line");
+        let Scene { member, lent, kept, .. } = &mut self.scene;
+        let reply = trace::call(member, lent, kept, &line).expect("a good line");
         let number = reply.split_whitespace().nth(1).and_then(|word| word.parse().ok()).expect("a number");
         let name = match number {
             0 => Some(MET[0]),

@@ -24,6 +24,8 @@ pub struct Tally {
     pub fresh: BTreeMap<&'static str, usize>,
     /// How often sealed frames came to what they must (`sealed::MET`, `sealed::BREAKS`).
     pub sealed: BTreeMap<&'static str, usize>,
+    /// How often fragments came to what they must (`fragments::MET`, `fragments::ORDERS`, `broken_fragments::BREAKS`).
+    pub fragments: BTreeMap<&'static str, usize>,
     pub alone: BTreeMap<&'static str, usize>,
     pub paired: BTreeMap<&'static str, usize>,
     pub pairs: BTreeSet<(&'static str, &'static str)>,
@@ -73,6 +75,10 @@ impl Tally {
 
     pub fn sealed(&mut self, name: &'static str) {
         *self.sealed.entry(name).or_default() += 1;
+    }
+
+    pub fn fragment(&mut self, name: &'static str) {
+        *self.fragments.entry(name).or_default() += 1;
     }
 
     pub fn alone(&mut self, name: &'static str) {

@@ -3,7 +3,7 @@
 use crate::judging::{judge, Exchange, Need, Request, MOST_SECONDS};
 use crate::layout::{frame, Frame, ESP, MOST_FRAME, REKEY};
 use crate::reach::Keys;
-use crate::sealing::{is_outer, open_frame};
+use crate::sealing::{is_outer, open_frame, ENCRYPTED};
 
 /// Document 02's figures, T-01.
 pub const MOST_SAS: usize = 64;
@@ -159,11 +159,10 @@ impl Member {
 
     /// Receives a sealed frame (document 02, T-05): outer 1, 2 and 10, then what was opened, which the room then starts with.
     pub fn take_sealed(&mut self, room: &mut [u8], tick: u32, octets: &[u8]) -> Answer {
-        if !is_outer(octets) {
+        if !is_outer(octets, ENCRYPTED) {
             return Answer { number: 1, offset: 0 };
         }
-        let over = |sa: &&Sa| self.is_whole() && octets[18] == GSA_REKEY && sa.spi == octets[..16] && !sa.is_due(tick);
-        let Some(sa) = self.live_rekey().filter(over) else { return Answer { number: 2, offset: 0 } };
+        let Some(sa) = self.rekey_sa_of(tick, octets) else { return Answer { number: 2, offset: 0 } };
         match open_frame(sa.encryption_key(), octets).filter(|_| room.len() >= MOST_FRAME) {
             None => Answer { number: 10, offset: 0 },
             Some(opened) => {
@@ -171,6 +170,12 @@ impl Member {
                 self.take(&[], tick, &opened)
             }
         }
+    }
+
+    /// The SA that a sealed frame of whole header came over; None: number 2.
+    pub fn rekey_sa_of(&self, tick: u32, octets: &[u8]) -> Option<&Sa> {
+        let over = |sa: &&Sa| self.is_whole() && octets[18] == GSA_REKEY && sa.spi == octets[..16] && !sa.is_due(tick);
+        self.live_rekey().filter(over)
     }
 
     fn try_take(&mut self, lent: &[u8], tick: u32, frame: &Frame) -> Result<(), u8> {

@@ -2,6 +2,8 @@
 
 #[path = "selftest/cipher.rs"]
 mod cipher;
+#[path = "selftest/fragments.rs"]
+mod fragments;
 #[path = "selftest/requests.rs"]
 mod requests;
 #[path = "selftest/sealing.rs"]
@@ -224,7 +226,10 @@ fn values_that_are_no_members() {
     let sas = |count: u8| -> Vec<Sa> { (0..count).map(|i| Sa { spi: vec![0, 0, 0, i], ..esp.clone() }).collect() };
     let keys = |count: u32| -> Vec<(u32, Vec<u8>)> { (1..=count).map(|id| (id, vec![0; 16])).collect() };
     for (count, held) in [(16, 32), (17, 33), (64, 128)] {
-        assert!(Member { table: sas(count), held: keys(held), least_id: None, ..Member::new() }.is_whole(), "{count} SAs, {held} keys");
+        assert!(
+            Member { table: sas(count), held: keys(held), least_id: None, ..Member::new() }.is_whole(),
+            "{count} SAs, {held} keys"
+        );
     }
     let tables = [
         vec![rekey.clone(), esp.clone()],

@@ -1,17 +1,14 @@
 //! The text of the test program `trace`: the calls of the member by lines, and after each the answer and, where the member changed, all of
 //! it. The first line is the lent default key, as for the member program.
 
+use crate::fragments::Collection;
 use crate::journal::{frame_line, leaving_line, sweep_line};
-use crate::layout::{MOST_FRAME, REKEY};
+use crate::layout::REKEY;
 use crate::member::{Condition, Lifetime, Member, Sa};
+use crate::rooms::{self, ROOM_DIGITS};
 use crate::text::{default_key, octets, read_line, tick_and_frame, MOST_DIGITS};
 use std::fmt::Write as _;
 use std::io::{BufRead, Result, Write};
-
-/// What each octet of a room is before a call, the most octets of one, the digits of its length.
-const LENT: u8 = 0xa5;
-const MOST_ROOM: usize = 2 * MOST_FRAME;
-const ROOM_DIGITS: usize = 8;
 
 pub fn run(mut input: impl BufRead, mut output: impl Write) -> Result<()> {
     let mut line = Vec::new();
@@ -25,10 +22,11 @@ pub fn run(mut input: impl BufRead, mut output: impl Write) -> Result<()> {
     output.flush()
 }
 
-/// The member, the lent key, whether steps are journaled, and the text of the member that was printed last.
+/// The member, the lent key, the fragments that are kept, whether steps are journaled, and the text of the member that was printed last.
 pub struct Trace {
     member: Member,
     lent: Vec<u8>,
+    kept: Collection,
     journaled: bool,
     last: String,
 }
@@ -37,12 +35,13 @@ impl Trace {
     pub fn new(lent: Vec<u8>) -> Trace {
         let member = Member::new();
         let last = whole(&member);
-        Trace { member, lent, journaled: false, last }
+        Trace { member, lent, kept: Collection::default(), journaled: false, last }
     }
 
     /// What a line prints.
     pub fn line(&mut self, line: &[u8]) -> String {
-        let mut text = call(&mut self.member, &mut self.lent, line).unwrap_or_else(|| "bad".to_string()) + "\n";
+        let said = call(&mut self.member, &mut self.lent, &mut self.kept, line);
+        let mut text = said.unwrap_or_else(|| "bad".to_string()) + "\n";
         if self.journaled {
             text += &journaled(&self.lent, line, &text);
         }
@@ -59,27 +58,29 @@ impl Trace {
 /// The line of the journal, if the call took effect that a line asked for: `said` is what it printed first.
 fn journaled(lent: &[u8], line: &[u8], said: &str) -> String {
     let step = match (line.first(), said) {
-        (Some(b's'), "done\n") => octets(&line[1..]).and_then(|tick| tick.try_into().ok()).map(|tick| sweep_line(u32::from_be_bytes(tick))),
+        (Some(b's'), "done\n") => {
+            octets(&line[1..]).and_then(|tick| tick.try_into().ok()).map(|tick| sweep_line(u32::from_be_bytes(tick)))
+        }
         (Some(b'l'), "done\n") => Some(leaving_line()),
-        (Some(b'x'), said) => opened_line(line, said),
+        (Some(b'x' | b'y'), said) => opened_line(line, said),
         (_, "answer 0\n") => tick_and_frame(line).map(|(tick, frame)| frame_line(lent, tick, &frame)),
         _ => None,
     };
     step.map_or(String::new(), |step| format!("line {}", String::from_utf8_lossy(&step)))
 }
 
-/// The line of a sealed frame that was accepted: that of the opened frame, which the room has.
+/// The line of a sealed frame that was accepted, whole or in pieces: that of the opened frame, which the room has.
 fn opened_line(line: &[u8], said: &str) -> Option<Vec<u8>> {
-    let opened = said.strip_prefix("answer 0\nwrote ")?.trim_end();
+    let opened = rooms::accepted(said)?;
     let (tick, _) = tick_and_frame(line.get(1 + ROOM_DIGITS..)?)?;
     Some(frame_line(&[], tick, &octets(opened.as_bytes())?))
 }
 
 /// The call that a line asks for, and what it prints first; None for a line that asks for nothing.
-pub fn call(member: &mut Member, lent: &mut Vec<u8>, line: &[u8]) -> Option<String> {
+pub fn call(member: &mut Member, lent: &mut Vec<u8>, kept: &mut Collection, line: &[u8]) -> Option<String> {
     let done = || Some("done".to_string());
     let (letter, digits) = line.split_first()?;
-    let most = if *letter == b'x' { MOST_DIGITS + ROOM_DIGITS } else { MOST_DIGITS };
+    let most = if matches!(letter, b'x' | b'y') { MOST_DIGITS + ROOM_DIGITS } else { MOST_DIGITS };
     if digits.len() > most {
         return None;
     }
@@ -101,7 +102,8 @@ pub fn call(member: &mut Member, lent: &mut Vec<u8>, line: &[u8]) -> Option<Stri
             *member = Member::with_profile(digits == b"01");
             done()
         }
-        b'x' => sealed(member, &octets(digits)?),
+        b'x' => rooms::sealed(member, &octets(digits)?),
+        b'y' => rooms::fragment(member, kept, &octets(digits)?),
         b'j' if digits.is_empty() => done(),
         b'q' => {
             let name = octets(digits)?;
@@ -114,25 +116,6 @@ pub fn call(member: &mut Member, lent: &mut Vec<u8>, line: &[u8]) -> Option<Stri
             Some(answer.with_offset(format!("answer {}", answer.number)))
         }
     }
-}
-
-/// A room's length, a tick and a sealed frame: the answer and, if the room changed, the opened frame that it then starts with.
-fn sealed(member: &mut Member, given: &[u8]) -> Option<String> {
-    let (length, rest) = given.split_first_chunk()?;
-    let (tick, frame) = rest.split_first_chunk()?;
-    let length = u32::from_be_bytes(*length) as usize;
-    if length > MOST_ROOM {
-        return None;
-    }
-    let lent = vec![LENT; length];
-    let mut room = lent.clone();
-    let answer = member.take_sealed(&mut room, u32::from_be_bytes(*tick), frame);
-    let text = answer.with_offset(format!("answer {}", answer.number));
-    if room == lent {
-        return Some(text);
-    }
-    let opened = room.get(24..28).map_or(0, |octets| u32::from_be_bytes([octets[0], octets[1], octets[2], octets[3]]) as usize);
-    Some(format!("{text}\nwrote {}", hex(room.get(..opened).unwrap_or(&room))))
 }
 
 fn found(sa: &Sa) -> String {
@@ -167,6 +150,7 @@ fn condition(sa: &Sa) -> String {
     }
 }
 
-fn hex(octets: &[u8]) -> String {
+/// Octets in hexadecimal.
+pub fn hex(octets: &[u8]) -> String {
     octets.iter().map(|octet| format!("{octet:02x}")).collect()
 }
