@@ -4,6 +4,8 @@
 //! member is asked.
 
 mod calls;
+mod collections;
+mod fragments;
 mod fresh;
 mod inband;
 mod journals;
@@ -121,6 +123,8 @@ fn main() -> ExitCode {
         orders::all(),
         fresh::all(),
         sealed::all(),
+        fragments::all(),
+        collections::all(),
         refusals::all(),
         places::all(),
         calls::all(),

@@ -14,28 +14,28 @@ pub fn all() -> Vec<Transcript> {
 }
 
 /// SPI a0 a1 .. af, keying octets 00 01 .. 23: GSK_e is 00 .. 13.
-fn spi_of_sa() -> Vec<u8> {
+pub fn spi_of_sa() -> Vec<u8> {
     (0xa0..0xb0).collect()
 }
 
-fn keying() -> Vec<u8> {
+pub fn keying() -> Vec<u8> {
     (0..36).collect()
 }
 
-const OPENED: &str = "a0a1a2a3a4a5a6a7a8a9aaabacadaeaf2a20290000000007000000280000000c0304000111223344";
-const SEALED: &str =
+pub const OPENED: &str = "a0a1a2a3a4a5a6a7a8a9aaabacadaeaf2a20290000000007000000280000000c0304000111223344";
+pub const SEALED: &str =
     "a0a1a2a3a4a5a6a7a8a9aaabacadaeaf2e20290000000007000000452a0000290102030405060708905657acd339e7f00c9a6a8eddbfd41b\
     07465b77a89884913a082bc25c";
 
-fn octets(digits: &str) -> Vec<u8> {
+pub fn octets(digits: &str) -> Vec<u8> {
     (0..digits.len()).step_by(2).map(|i| u8::from_str_radix(&digits[i..i + 2], 16).expect("digits")).collect()
 }
 
-fn rekey_text_here(condition: &str) -> String {
+pub fn rekey_text_here(condition: &str) -> String {
     format!("sa 6 {} {} 20 16 {condition} life none", text(&spi_of_sa()), text(&keying()))
 }
 
-fn over(message_id: u32, payloads: Vec<Payload>) -> Vec<u8> {
+pub fn over(message_id: u32, payloads: Vec<Payload>) -> Vec<u8> {
     frame(GSA_REKEY, &spi_of_sa(), message_id, payloads).octets()
 }
 
@@ -54,9 +54,15 @@ fn hand(t: &mut Transcript, about: &str, room: usize, octets: &[u8], answer: &st
     }
 }
 
-fn registers() -> Frame {
+/// The Rekey SA comes, and the least Message ID is 7.
+pub fn registers() -> Frame {
+    registers_with(vec![initial_message_id(7)])
+}
+
+/// The same with these attributes of the policy.
+pub fn registers_with(attributes: Vec<Attribute>) -> Frame {
     let copy = Attribute::key(0, 0, &wrap(&lent(), &keying()));
-    let policy = builder::Part { attributes: vec![initial_message_id(7)], ..rekey_policy(&spi_of_sa(), 128, 1) };
+    let policy = builder::Part { attributes, ..rekey_policy(&spi_of_sa(), 128, 1) };
     frame(GSA_AUTH, &[0; 16], 1, vec![gsa(vec![policy]), kd(vec![bag(REKEY, &spi_of_sa(), vec![copy])])])
 }
 
