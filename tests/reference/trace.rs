@@ -152,5 +152,6 @@ fn condition(sa: &Sa) -> String {
 
 /// Octets in hexadecimal.
 pub fn hex(octets: &[u8]) -> String {
-    octets.iter().map(|octet| format!("{octet:02x}")).collect()
+    let digits = b"0123456789abcdef";
+    octets.iter().flat_map(|octet| [octet >> 4, octet & 15]).map(|digit| digits[digit as usize] as char).collect()
 }
