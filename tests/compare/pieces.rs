@@ -83,7 +83,7 @@ impl Writer<'_> {
 
     /// The same frame with a later Message ID, cut anew.
     pub fn with_later_id(&mut self, cut: &Cut, count: usize) -> Option<Cut> {
-        let later = cut.message_id().checked_add(1 + self.scene.rng.below(5) as u32)?;
+        let later = cut.message_id().checked_add(self.scene.rng.pick(&[1, 2, 1 << 8, 1 << 16, 1 << 24]))?;
         let mut opened = cut.opened.clone();
         opened[20..24].copy_from_slice(&later.to_be_bytes());
         self.cut(&opened, count)

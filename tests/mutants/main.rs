@@ -13,7 +13,22 @@ use std::process::{Command, ExitCode, Stdio};
 use std::time::{Duration, Instant};
 
 /// The files whose lines are changed.
-const FILES: [&str; 9] = ["aes", "keywrap", "octets", "layout", "judging", "reach", "member", "text", "trace"];
+const FILES: [&str; 14] = [
+    "aes",
+    "keywrap",
+    "octets",
+    "layout",
+    "judging",
+    "reach",
+    "member",
+    "gcm",
+    "sealing",
+    "fragments",
+    "text",
+    "trace",
+    "rooms",
+    "journal",
+];
 
 /// A mutant that takes longer on one script is told apart.
 const LIMIT: Duration = Duration::from_secs(10);
