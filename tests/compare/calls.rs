@@ -10,6 +10,9 @@ use reference::fragments::Collection;
 use reference::member::is_wrap_key_size;
 use reference::trace;
 
+pub const SEALED: &str = "a line of a sealed frame";
+pub const FRAGMENT: &str = "a line of a fragment";
+
 /// What must occur.
 pub const ALL: [&str; 12] = [
     "sweep that removes",
@@ -21,9 +24,9 @@ pub const ALL: [&str; 12] = [
     "question: a live SA",
     "question: a retiring SA",
     "a member with the profile",
-    "a line of a sealed frame",
+    SEALED,
     "journal",
-    "a line of a fragment",
+    FRAGMENT,
 ];
 
 const PERCENT: usize = 25;
@@ -143,9 +146,9 @@ impl Writer<'_> {
             (b'l', _) => ALL[2],
             (b'k', _) => ALL[3],
             (b'p', _) => ALL[8],
-            (b'x', _) => ALL[9],
+            (b'x', _) => SEALED,
             (b'j', _) => ALL[10],
-            (b'y', _) => ALL[11],
+            (b'y', _) => FRAGMENT,
             (_, "none") => ALL[4],
             _ if asked() => ALL[5],
             (_, found) if found.contains(" live ") => ALL[6],

@@ -43,6 +43,7 @@ const OLD_SA: &str = "the Rekey SA of before, 2";
 const BELOW: &str = "a Message ID below the least by then, 3";
 const DUE: &str = "the Rekey SA due by then, 2";
 const SUM: &str = "16,384 octets";
+const ALONE: &str = "its octets counted alone, where it starts anew";
 const OVER: &str = "16,385 octets so far, 7";
 const LARGE_COPY: &str = "a copy that would be too much";
 const REFUSED: &str = "a frame that is refused when it is complete";
@@ -50,7 +51,10 @@ const AFTER_REFUSED: &str = "a copy after a refused frame";
 const AFTER_ACCEPTED: &str = "a copy after an accepted frame, 3";
 const AFTER_NEW_SA: &str = "a copy after a new Rekey SA, 2";
 
-const MET: [&str; 24] = [
+/// Octets of one fragment that leaves little room for others.
+const LARGE: usize = 16_000;
+
+const MET: [&str; 25] = [
     REFUSED,
     WAITS,
     ONE,
@@ -70,6 +74,7 @@ const MET: [&str; 24] = [
     BELOW,
     DUE,
     SUM,
+    ALONE,
     OVER,
     LARGE_COPY,
     AFTER_REFUSED,
@@ -241,7 +246,7 @@ impl Writer<'_> {
         self.in_order(&cut, &[2], TWO).map(|_| ())
     }
 
-    /// A frame of 16,384 octets, and an octet more.
+    /// A frame of 16,384 octets, and an octet more, behind a large fragment of another frame, or of the same one with a smaller total.
     fn sums(&mut self) -> Option<()> {
         let shape = Shape { esp: 1, ..self.scene.full_shape() };
         let mut case = self.fit_frame(Exchange::Rekey, shape)?;
@@ -250,10 +255,15 @@ impl Writer<'_> {
         let count = self.scene.rng.between(2, 4);
         let cut = self.cut(&case.frame.octets(), count)?;
         self.forget(&cut)?;
+        let other = if count == 2 { self.with_later_id(&cut, 2)? } else { self.cut(&cut.opened, 2)? };
+        let octets = self.sealed_as(&other, other.place(2), &[7; LARGE]);
+        self.gets(&octets, WAITS, Waiting);
         let mut numbers = cut.numbers();
         self.scene.rng.shuffle(&mut numbers);
         let (&last, before) = numbers.split_last()?;
-        for &number in before {
+        let octets = self.sealed_piece(&cut, before[0]);
+        self.gets(&octets, ALONE, Waiting);
+        for &number in &before[1..] {
             let octets = self.sealed_piece(&cut, number);
             self.gets(&octets, WAITS, Waiting);
         }

@@ -1,5 +1,6 @@
 //! Rekeys cut into fragments (document 02, T-12), as lines of `trace`.
 
+use crate::calls;
 use crate::fragments::COMPLETE;
 use crate::script::Writer;
 use crate::violations::Exchange;
@@ -115,6 +116,7 @@ impl Writer<'_> {
         let line = [b"y", hex(&(room as u32).to_be_bytes()).as_slice(), &hex(&tick.to_be_bytes()), &hex(octets)].concat();
         let before = self.scene.kept.clone();
         let gathered = self.scene.member.take_fragment(&mut self.scene.kept, &mut vec![0; room], tick, octets);
+        self.tally.call(calls::FRAGMENT);
         self.push(line, label, None);
         if matches!(gathered, Gathered::Refused(_) | Gathered::PassedOver) && before != self.scene.kept {
             self.miss("a fragment that is not kept changed the collection");

@@ -1,6 +1,7 @@
 //! Sealed frames among the lines of `trace` (document 02, T-05): rekeys that come sealed in the place of opened ones, and sealed frames
 //! that break one rule before they are opened, or two.
 
+use crate::calls;
 use crate::scene::Scene;
 use crate::script::Writer;
 use crate::violations::Exchange;
@@ -132,6 +133,7 @@ impl Writer<'_> {
             _ => None,
         };
         name.into_iter().for_each(|name| self.tally.sealed(name));
+        self.tally.call(calls::SEALED);
         self.push(line, label, None);
         number
     }
