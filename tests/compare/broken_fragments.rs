@@ -117,9 +117,9 @@ pub const BREAKS: [Break; 34] = [
     of("fragment: other SPIs, 2", 2, Sealed(|octets, rng| flip(octets, rng.below(16), rng))),
     of("fragment: an Encrypted payload, 1", 1, Sealed(|octets, _| octets[16] = 46)),
     of("fragment: a Delete payload, 1", 1, Sealed(|octets, _| octets[16] = 42)),
-    of("fragment: header length, 1", 1, Sealed(|octets, rng| flip(octets, 27, rng))),
+    of("fragment: header length, 1", 1, Sealed(|octets, rng| flip(octets, 24 + rng.below(4), rng))),
     of("fragment: major version, 1", 1, Sealed(|octets, _| octets[17] ^= 0x10)),
-    of("fragment: payload length, 1", 1, Sealed(|octets, rng| flip(octets, 31, rng))),
+    of("fragment: payload length, 1", 1, Sealed(|octets, rng| flip(octets, 30 + rng.below(2), rng))),
     of(
         "fragment: two payloads, 1",
         1,

@@ -7,9 +7,9 @@ use crate::scene::Shape;
 use crate::script::Writer;
 use crate::violations::Exchange;
 use builder::{Body, Payload, NOTIFY};
-use reference::fragments::Gathered::{PassedOver, Waiting};
+use reference::fragments::{seal_fragment, Gathered::*};
 use reference::layout::MOST_FRAME;
-use reference::sealing::HEADER;
+use reference::sealing::{padded, Choice, HEADER};
 
 /// By the number that a complete frame is given.
 pub const COMPLETE: [&str; 10] = [
@@ -43,6 +43,7 @@ const OLD_SA: &str = "the Rekey SA of before, 2";
 const BELOW: &str = "a Message ID below the least by then, 3";
 const DUE: &str = "the Rekey SA due by then, 2";
 const SUM: &str = "16,384 octets";
+const FULL: &str = "a fragment of 16,384 octets";
 const ALONE: &str = "its octets counted alone, where it starts anew";
 const OVER: &str = "16,385 octets so far, 7";
 const LARGE_COPY: &str = "a copy that would be too much";
@@ -51,10 +52,10 @@ const AFTER_REFUSED: &str = "a copy after a refused frame";
 const AFTER_ACCEPTED: &str = "a copy after an accepted frame, 3";
 const AFTER_NEW_SA: &str = "a copy after a new Rekey SA, 2";
 
-/// Octets of one fragment that leaves little room for others.
-const LARGE: usize = 16_000;
+/// What a fragment of 16,384 octets holds without padding: both headers, number and total, IV, pad length and tag are the rest.
+const FULL_PIECE: usize = MOST_FRAME - (HEADER + 4 + 4 + 8 + 1 + 16);
 
-const MET: [&str; 25] = [
+const MET: [&str; 26] = [
     REFUSED,
     WAITS,
     ONE,
@@ -74,6 +75,7 @@ const MET: [&str; 25] = [
     BELOW,
     DUE,
     SUM,
+    FULL,
     ALONE,
     OVER,
     LARGE_COPY,
@@ -256,8 +258,9 @@ impl Writer<'_> {
         let cut = self.cut(&case.frame.octets(), count)?;
         self.forget(&cut)?;
         let other = if count == 2 { self.with_later_id(&cut, 2)? } else { self.cut(&cut.opened, 2)? };
-        let octets = self.sealed_as(&other, other.place(2), &[7; LARGE]);
-        self.gets(&octets, WAITS, Waiting);
+        let (full, choice) = ([7; FULL_PIECE], Choice::default());
+        let octets = seal_fragment(&other.gsk_e, &other.opened, other.place(2), &choice, &padded(&full, &choice));
+        self.gets(&octets, FULL, Waiting);
         let mut numbers = cut.numbers();
         self.scene.rng.shuffle(&mut numbers);
         let (&last, before) = numbers.split_last()?;

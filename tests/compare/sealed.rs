@@ -7,6 +7,7 @@ use crate::script::Writer;
 use crate::violations::Exchange;
 use builder::line::hex;
 use builder::rng::Rng;
+use builder::{Body, Payload, NOTIFY};
 use reference::layout::MOST_FRAME;
 use reference::sealing::{seal_frame, seal_plain, Choice};
 use reference::trace;
@@ -16,10 +17,16 @@ const HEADER: usize = 28;
 /// What sealing adds: the payload's header, IV, pad length, tag.
 const ADDED: usize = 4 + 8 + 1 + 16;
 const PERCENT: usize = 50;
+const FULL_PERCENT: usize = 2;
 
 /// What must occur, beside each break.
-pub const MET: [&str; 4] =
-    ["sealed: accepted", "sealed: refused as opened", "sealed: pad length above", "sealed: nothing but padding"];
+pub const MET: [&str; 5] = [
+    "sealed: accepted",
+    "sealed: refused as opened",
+    "sealed: pad length above",
+    "sealed: nothing but padding",
+    "sealed: 16,384 octets",
+];
 
 /// A sealed frame in the making, and the room that it will find.
 struct Sealed {
@@ -58,7 +65,7 @@ const fn of(name: &'static str, number: u8, make: fn(&mut Sealed, &mut Rng)) -> 
 }
 
 pub const BREAKS: [Break; 19] = [
-    of("sealed: header length", 1, |sealed, rng| sealed.flip(27, rng)),
+    of("sealed: header length", 1, |sealed, rng| sealed.flip(24 + rng.below(4), rng)),
     of("sealed: major version", 1, |sealed, _| sealed.octets[17] ^= 0x10),
     of("sealed: an Encrypted Fragment", 1, |sealed, _| sealed.set(16, 53)),
     of("sealed: a Delete first", 1, |sealed, _| sealed.set(16, 42)),
@@ -145,6 +152,24 @@ impl Writer<'_> {
         let other = self.scene.rng.below(BREAKS.len());
         self.sealed_break(&[at, other]);
         self.sealed_padding();
+        if self.scene.rng.chance(FULL_PERCENT) {
+            self.sealed_full();
+        }
+    }
+
+    /// A sealed frame of as many octets as may be.
+    fn sealed_full(&mut self) -> Option<()> {
+        let shape = self.scene.full_shape();
+        let mut case = self.fit_frame(Exchange::Rekey, shape)?;
+        let free = (MOST_FRAME - ADDED).checked_sub(case.frame.octets().len() + 4)?;
+        case.insert(Payload::new(NOTIFY, Body::Plain(self.scene.rng.octets(free))));
+        let octets = seal_frame(&self.gsk_e()?, &case.frame.octets(), &Choice::default());
+        let number = self.sealed_line(&octets, MOST_FRAME, MET[4].to_string());
+        self.tally.sealed(MET[4]);
+        if number != 0 || octets.len() != MOST_FRAME {
+            self.miss(&format!("\"{}\" gave {number}", MET[4]));
+        }
+        Some(())
     }
 
     fn sealed_break(&mut self, which: &[usize]) {
