@@ -1,0 +1,5 @@
+pub mod Counting
+pub mod Joining
+pub mod Places
+pub mod Writing
+pub mod FitWaiting
