@@ -168,6 +168,9 @@ versionAt = 17
 abbrev pub exchangeAt : ℕ
 exchangeAt = 18
 
+abbrev pub flagsAt : ℕ
+flagsAt = 19
+
 abbrev pub messageIdAt : ℕ
 messageIdAt = 20
 

@@ -117,6 +117,8 @@ pub const VERSION_AT: usize = 17;
 
 pub const EXCHANGE_AT: usize = 18;
 
+pub const FLAGS_AT: usize = 19;
+
 pub const MESSAGE_ID_AT: usize = 20;
 
 pub const LENGTH_AT: usize = 24;
