@@ -1,0 +1,14 @@
+pub mod AllSamples
+pub mod RoundTrip
+pub mod FitLaws
+pub mod FitGathered
+pub mod AnyOrderPieces
+pub mod AnyOrderLaws
+pub mod AnyOrderSteps
+pub mod CountLaws
+pub mod FitTests
+pub mod PlaceLaws
+pub mod JoinLaws
+pub mod HeaderLaws
+pub mod GatherLaws
+pub mod WriteLaws
