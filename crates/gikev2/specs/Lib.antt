@@ -1,4 +1,5 @@
 pub mod Member
 pub mod Receive
 pub mod ReceiveSealed
+pub mod ReceiveFragment
 pub mod inner

@@ -1,1 +1,2 @@
 pub mod Sealing
+pub mod Gathering

@@ -1,5 +1,6 @@
 // A group member: what a customer of the library holds.
 pub mod call;
+pub mod fragment;
 pub mod sealed;
 
 ghost use mathlib.Core.Path.{_≡_};

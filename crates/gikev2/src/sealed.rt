@@ -29,7 +29,7 @@ ghost use Rattle.gikev2.specs.ReceiveSealed.{ReceivesSealed};
 ghost use Rattle.gikev2.specs.inner.Sealing.{IsSealingKey};
 
 // Whether number 2 applies to the sealed `frame`: it is no GSA_REKEY, or number 2 of an opened frame applies to its header.
-fn is_not_for(state: State, frame: &[u8], tick: u32) -> bool
+pub(crate) fn is_not_for(state: State, frame: &[u8], tick: u32) -> bool
     requires { ⌜ encryptedBodyAt ≤ length (now frame) ⌝ }
     ensures { λ r. ⌜ r ≡ applies (sealedNumber2 limits state tick (headerOf (now (frame .entry)))) ⌝ }
 {
@@ -41,7 +41,7 @@ fn is_not_for(state: State, frame: &[u8], tick: u32) -> bool
 }
 
 // Answers the encryption part of the live Rekey SA of the table `t`. The table must have such an SA.
-fn sealing_key(t: Table) -> EncryptionKey
+pub(crate) fn sealing_key(t: Table) -> EncryptionKey
     requires { ⌜ (tableFormed limits t ≡ true) × (any liveRekey (sasOf t) ≡ true) ⌝ }
     ensures { λ r. ⌜ IsSealingKey t r ⌝ }
 {
