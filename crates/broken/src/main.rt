@@ -2,6 +2,7 @@
 // give. No line of input and no call of the library makes such a value. The first two values keep the list. Before these values the program
 // prints what its own comparison of members tells apart; after them it tries frames over the member's own channel.
 mod apart;
+mod collections;
 mod same;
 mod values;
 
@@ -326,4 +327,5 @@ fn main() {
     lifetimes();
     held_lists();
     in_band();
+    collections::try_collections();
 }

@@ -7,9 +7,9 @@ use gikev2::Member;
 use gikev2::call::Answer;
 use text_lines::Request;
 
-// Puts the line of the answer `a`: its number, and on number 1 its figure.
-pub(crate) fn told(a: Answer, out: &mut [u8]) -> usize {
-    let word = text::put(out, 0, b"answer");
+// Puts a line of `what` and the answer `a`: its number, and on number 1 its figure.
+pub(crate) fn told_as(what: &[u8], a: Answer, out: &mut [u8]) -> usize {
+    let word = text::put(out, 0, what);
     let number = a.number();
     let behind = text::number(out, word, number);
     if number == 1 {
@@ -17,6 +17,11 @@ pub(crate) fn told(a: Answer, out: &mut [u8]) -> usize {
         return text::newline(out, figure);
     }
     text::newline(out, behind)
+}
+
+// Puts the line of the answer `a`.
+pub(crate) fn told(a: Answer, out: &mut [u8]) -> usize {
+    told_as(b"answer", a, out)
 }
 
 // Lets the member receive `frame`, and puts its answer. Journals it, if steps are `journaled`.

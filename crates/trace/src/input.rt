@@ -1,14 +1,17 @@
 // Reads lines from standard input, and answers each as soon as it was read.
+use crate::fragment;
 use crate::reply;
 use crate::text;
 use crate::whole;
+use fragments::Collection;
 use gikev2::Member;
 use libc::STDIN_FILENO;
 use libc::STDOUT_FILENO;
 
 // Where the program stands: the member; whether the first line has given the lent key yet (`keyed`), and how many octets that key has
 // (`lent`); how many characters of the line that has begun are held (`len`); how many characters the member's text had when printed last
-// (`last`); whether steps are journaled (`journaled`); whether the input goes on and the output takes what is written (`open`).
+// (`last`); whether steps are journaled (`journaled`); whether the input goes on and the output takes what is written (`open`); the fragments
+// that wait (`collection`).
 pub struct Running {
     pub member: Member,
     pub keyed: bool,
@@ -17,6 +20,7 @@ pub struct Running {
     pub last: usize,
     pub journaled: bool,
     pub open: bool,
+    pub collection: Collection,
 }
 
 // Takes the lent key from the first line, and puts it to the start of `key`.
@@ -31,7 +35,36 @@ fn first_line(r: Running, line: &[u8], key: &mut [u8]) -> Running {
     x
 }
 
-// Makes the call of a later line, and writes the reply to standard output.
+// Writes the reply to standard output: the first `at` characters of `out`, and behind them the member, where it changed.
+fn printed(r: Running, member: Member, at: usize, out: &mut [u8], last: &mut [u8]) -> Running {
+    let t = reply::completed(member, at, out, last, r.last);
+    let mut x = r;
+    x.member = member;
+    x.len = 0;
+    x.last = t.last;
+    x.open = io::write_all(STDOUT_FILENO, text::part(out, 0, t.at));
+    x
+}
+
+// Hands in a fragment, and writes the reply.
+fn fragment_line(
+    r: Running,
+    line: &[u8],
+    room: &mut [u8],
+    out: &mut [u8],
+    last: &mut [u8],
+) -> Running {
+    let m = r.member;
+    let c = r.collection;
+    let rest = text::part(line, 1, line.len());
+    let g = fragment::reply(m, c, rest, r.journaled, room, out);
+    let y = g.reply;
+    let mut x = r;
+    x.collection = g.collection;
+    printed(x, y.member, y.at, out, last)
+}
+
+// Makes the call of a later line, and writes the reply.
 fn later_line(
     r: Running,
     line: &[u8],
@@ -40,21 +73,16 @@ fn later_line(
     out: &mut [u8],
     last: &mut [u8],
 ) -> Running {
+    if reply::hands_fragment(line) {
+        return fragment_line(r, line, room, out, last);
+    }
     let m = r.member;
     let c = reply::call(m, line, key, r.lent, r.journaled, room, out);
     let y = c.reply;
-    let member = y.member;
-    let t = reply::completed(member, y.at, out, last, r.last);
-    let open = io::write_all(STDOUT_FILENO, text::part(out, 0, t.at));
-    Running {
-        member,
-        keyed: true,
-        lent: c.lent,
-        len: 0,
-        last: t.last,
-        journaled: c.journaled,
-        open,
-    }
+    let mut x = r;
+    x.lent = c.lent;
+    x.journaled = c.journaled;
+    printed(x, y.member, y.at, out, last)
 }
 
 // Answers a whole line. Answers nothing more after a write that failed.
@@ -160,6 +188,7 @@ fn run(line: &mut [u8], key: &mut [u8], room: &mut [u8], out: &mut [u8], last: &
         last: new,
         journaled: false,
         open: true,
+        collection: Collection::new(),
     };
     let mut turns = u64::MAX;
     while turns > 0 {

@@ -1,5 +1,6 @@
 // Calls the library by lines of text. Prints after each call the answer and, where the member changed, all of it. For tests alone, since it
 // prints keys. tests/README.md has its text.
+mod fragment;
 mod frame;
 mod input;
 mod journal;

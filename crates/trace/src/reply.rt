@@ -22,7 +22,7 @@ const LINE: usize = 1 + 8 + 2 * FRAME;
 pub(crate) const SEALED_LINE: usize = LINE + 8;
 
 // The most characters that a call prints first: the answer or an SA, the octets of an opened frame, the line of a step that is journaled.
-pub(crate) const FIRST: usize = 256 + 2 * FRAME + LINE_ROOM;
+pub(crate) const FIRST: usize = 512 + 2 * FRAME + LINE_ROOM;
 
 // The member after a call, and the place behind what the call prints first.
 pub struct TraceReply {
@@ -50,7 +50,7 @@ pub(crate) fn bad(m: Member, out: &mut [u8]) -> TraceReply {
 }
 
 // Answers the first character of `line`, or 0 if there is none.
-fn letter(line: &[u8]) -> u8 {
+pub(crate) fn letter(line: &[u8]) -> u8 {
     if line.len() == 0 {
         return 0;
     }
@@ -80,10 +80,19 @@ fn with_key(
 
 // Answers the most characters of a line by its first one.
 fn most_of(letter: u8) -> usize {
-    if letter == b'x' {
-        return SEALED_LINE;
+    match letter {
+        b'x' => SEALED_LINE,
+        b'y' => SEALED_LINE,
+        _ => LINE,
     }
-    LINE
+}
+
+// Whether `line` hands in a fragment, and is not too long for that.
+pub(crate) fn hands_fragment(line: &[u8]) -> bool {
+    if SEALED_LINE < line.len() {
+        return false;
+    }
+    letter(line) == b'y'
 }
 
 // Whether `line` is `j` alone.

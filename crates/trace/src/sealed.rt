@@ -10,13 +10,13 @@ use gikev2::Member;
 use octets::numbers::be32_at;
 
 // What each octet of the room is before the call.
-const LENT: u8 = 0xa5;
+pub(crate) const LENT: u8 = 0xa5;
 
 // The most octets of a room.
-const MOST_ROOM: usize = 2 * FRAME;
+pub(crate) const MOST_ROOM: usize = 2 * FRAME;
 
 // Answers the octets of the opened frame at the start of `room`, as its header counts them.
-fn opened_size(room: &[u8]) -> usize {
+pub(crate) fn opened_size(room: &[u8]) -> usize {
     if room.len() < 28 {
         return 0;
     }
@@ -24,7 +24,7 @@ fn opened_size(room: &[u8]) -> usize {
 }
 
 // Puts the line of what was written, if `room` is not as lent.
-fn wrote(room: &[u8], at: usize, out: &mut [u8]) -> usize {
+pub(crate) fn wrote(room: &[u8], at: usize, out: &mut [u8]) -> usize {
     let lent = [LENT; MOST_ROOM];
     if octets::compare::same(room, text::part(&lent, 0, room.len())) {
         return at;
