@@ -20,5 +20,6 @@ pub mod T02
 pub mod T06
 pub mod T11
 pub mod T05
+pub mod T12
 pub mod T13
 pub mod Computed
