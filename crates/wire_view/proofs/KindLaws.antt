@@ -30,7 +30,7 @@ use Rattle.wire_readers.specs.inner.Values.{isWhole, attributesIn}
 use Rattle.wire_readers.proofs.ValuesLaws.{is-whole}
 use Rattle.wire_view.specs.View.{onAll, firstOctet, octetOf, kindIn, shownKind, spiIn, shownSpi, spiStartIn, spiStart}
 use Rattle.wire_view.specs.View.{shownSelector, shownTransform, shownAttributes, shownBody, itemsIn, shownItems}
-use Rattle.wire_view.specs.View.{stayStep, atDestination, selectorStep, policyPlace, attributeStep, firstIn, firstStep, counted}
+use Rattle.wire_view.specs.View.{stayStep, atDestination, selectorStep, policyPlace, attributeStep, firstIn, firstStep, isCounted}
 use Rattle.wire_view.specs.declared.items.Item.{Item}
 use Rattle.wire_view.specs.declared.read.Kind.{Kind}
 use Rattle.wire_view.specs.declared.read.Kind.the-variants as kind
@@ -114,7 +114,7 @@ pub kind-of-none : (s : List ℕ) → ((x : Policy) → policy 0 s ≡ whole x [
 kind-of-none s h = ap firstOctet (sym (none s h))
 
 -- WHAT IT SHOWS
-pub counts : (s : List ℕ) → 4 ≤ length s → be16 s 2 ≡ length s → counted s ≡ true
+pub counts : (s : List ℕ) → 4 ≤ length s → be16 s 2 ≡ length s → isCounted s ≡ true
 counts s h e = ap (λ (t : Bool). both t (eqb (be16 s 2) (length s))) (le-leb 4 (length s) h) ∙ eq-eqb (be16 s 2) (length s) e
 
 pub record Sa (s : List ℕ) (p : ℕ) : Type 0 where
@@ -124,7 +124,7 @@ pub record Sa (s : List ℕ) (p : ℕ) : Type 0 where
   pub body : SaBody
   pub is : IsSaBody (inPolicy p) (drop (4 + spiSize p) s) body
   pub items : shownBody (inPolicy p) (4 + spiSize p) (length s) body ≡ shownItems s
-  pub counts : counted s ≡ true
+  pub counts : isCounted s ≡ true
   pub place : inPolicy p ≡ policyPlace s
   pub first : (c : ℕ) → selectorStep s c atDestination (4 + spiSize p) ≡ firstStep s c
 
@@ -160,7 +160,7 @@ pub record Wide (s : List ℕ) : Type 0 where
   pub there : 0 ≡ spiStart s
   pub held : isWhole (attributes place.GroupWidePolicy 0 (drop 4 s)) ≡ true
   pub items : shownAttributes place.GroupWidePolicy (length s) (attributesIn place.GroupWidePolicy (drop 4 s)) ≡ shownItems s
-  pub counts : counted s ≡ true
+  pub counts : isCounted s ≡ true
   pub place : place.GroupWidePolicy ≡ policyPlace s
   pub first : (c : ℕ) → attributeStep s c 4 ≡ firstStep s c
 

@@ -32,7 +32,7 @@ use Rattle.wire_policies.proofs.TransformLaws.{takes as transform-takes, next-o
 use Rattle.wire_policies.proofs.TransformGrammar.{sound as transform-sound}
 use Rattle.wire_view.specs.View.{shownSelector, shownTransform, shownAttribute}
 use Rattle.wire_view.specs.View.{atDestination, atTransform, atAttribute, cursorAt, stayStep, stepped, selectorStep}
-use Rattle.wire_view.specs.View.{transformStep, policyPlace, attributeStep, firstStep, stepBy, counted, stepAt}
+use Rattle.wire_view.specs.View.{transformStep, policyPlace, attributeStep, firstStep, stepBy, isCounted, stepAt}
 use Rattle.wire_view.specs.declared.items.Item.{Item}
 use Rattle.wire_view.specs.declared.read.Step.{Step}
 use Rattle.wire_view.proofs.KindLaws.{counts}
@@ -243,7 +243,7 @@ module _ (s : List ℕ) (c : ℕ) where
   whole-size h n q z =
       ap (λ (t : Bool). either t (stepBy s c (c % 4) (c / 4)) (stayStep c)) (sym (counts s h (sym q ∙ z)))
 
-  pub goes-by : (k b : ℕ) → counted s ≡ true → c % 4 ≡ k → c / 4 ≡ b → stepAt s c ≡ stepBy s c k b
+  pub goes-by : (k b : ℕ) → isCounted s ≡ true → c % 4 ≡ k → c / 4 ≡ b → stepAt s c ≡ stepBy s c k b
   goes-by k b h kq bq = λ j. either (h j) (stepBy s c (kq j) (bq j)) (stayStep c)
 
   module _ (comes b : ℕ) where

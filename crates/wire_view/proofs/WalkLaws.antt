@@ -30,7 +30,7 @@ use Rattle.wire_view.specs.View.{onAll, shownKind, shownSelector, shownT
 use Rattle.wire_view.specs.View.{shownSuite}
 use Rattle.wire_view.specs.View.{shownBody, shownItems, atDestination, atTransform, atAttribute, cursorAt, stayStep, stepped}
 use Rattle.wire_view.specs.View.{selectorStep}
-use Rattle.wire_view.specs.View.{transformStep, policyPlace, attributeStep, firstIn, counted, stepAt, nextAfter, isNothing, isAtEnd}
+use Rattle.wire_view.specs.View.{transformStep, policyPlace, attributeStep, firstIn, isCounted, stepAt, nextAfter, isNothing, isAtEnd}
 use Rattle.wire_view.specs.View.{shownIn}
 use Rattle.wire_view.specs.declared.items.Item.{Item}
 use Rattle.wire_view.specs.declared.read.Kind.{Kind}
@@ -68,7 +68,7 @@ module _ (s : List ℕ) where
     count : length s - length t + length t ≡ length s
     count = omega (arith, f .all, length-append o t)
 
-  module _ (h : counted s ≡ true) where
+  module _ (h : isCounted s ≡ true) where
     at-cursor : (b k : ℕ) → k ≤ 3 → (cursorAt b k % 4 ≡ k) × (cursorAt b k / 4 ≡ b)
     at-cursor b k l = (omega (arith, l), omega (arith, l))
 
@@ -184,7 +184,7 @@ module _ (s : List ℕ) where
   unfolding shownIn
   none-walk f zero = refl
   none-walk f (suc n) =
-      ends n 0 (by-test (λ (y : Step). y ≡ stayStep 0) (counted s) (λ t. sym (f .first 0)) (λ t. refl)) ∙ ap (take (suc n)) (f .items)
+      ends n 0 (by-test (λ (y : Step). y ≡ stayStep 0) (isCounted s) (λ t. sym (f .first 0)) (λ t. refl)) ∙ ap (take (suc n)) (f .items)
 
   -- THE WHOLE WALK
   pub walk-shows : (n : ℕ) → shownIn n s 0 ≡ take n (shownItems s)
@@ -240,7 +240,7 @@ module _ (s : List ℕ) (c : ℕ) where
 
   pub end-stays : isAtEnd s c ≡ true → nextAfter s c ≡ c
   end-stays =
-      by-test (Stays c) (counted s)
+      by-test (Stays c) (isCounted s)
       (λ t. by-test (Stays c) (eqb (c % 4) 0) (λ u. first-stays (policy 0 s))
       (λ u. by-test (Stays c) (eqb (c % 4) atDestination) (λ v. selector-stays atTransform (c / 4))
       (λ v. by-test (Stays c) (eqb (c % 4) atTransform) (λ w. transform-stays (c / 4)) (λ w. attribute-stays (c / 4)))))

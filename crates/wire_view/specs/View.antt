@@ -161,11 +161,11 @@ stepBy s c comes b =
     (either (eqb comes atTransform) (transformStep s c b) (attributeStep s c b)))
 
 -- whether the octets are as many as their "length 2" says; others show nothing
-abbrev pub counted : List ℕ → Bool
-counted s = both (leb policyHeadOctets (length s)) (eqb (be16 s structureLengthAt) (length s))
+abbrev pub isCounted : List ℕ → Bool
+isCounted s = both (leb policyHeadOctets (length s)) (eqb (be16 s structureLengthAt) (length s))
 
 abbrev pub stepAt : List ℕ → ℕ → Step
-stepAt s c = either (counted s) (stepBy s c (c % parts) (c / parts)) (stayStep c)
+stepAt s c = either (isCounted s) (stepBy s c (c % parts) (c / parts)) (stayStep c)
 
 -- the parts of a step: what stands at the cursor, the cursor behind it, and whether nothing stands there
 abbrev pub itemAt : List ℕ → ℕ → Item

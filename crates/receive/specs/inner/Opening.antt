@@ -48,7 +48,7 @@ module _ (roots : List Root) (entries : List WrapKey) (size : ℕ) where
 
 -- a frame f of the exchange with the row e, as `Bagged` says, for the member m: `held` is its list, `zero` is key 0 of the frame, and `reads`
 -- says whether fresh tree keys are read from it
-pub record Opening (e : Exchange) (m : State) (now : ℕ) (lent g k : List ℕ) (bag : Stretch) (held : Held) (zero : WrappingKey) (reads : Bool)
+pub record OpeningOf (e : Exchange) (m : State) (now : ℕ) (lent g k : List ℕ) (bag : Stretch) (held : Held) (zero : WrappingKey) (reads : Bool)
     (f : Frame) : Type 0 where
   pub bagged : Bagged e m now lent g k bag f
   pub list : m .held ≡ held
@@ -70,9 +70,9 @@ pub record FrameOpened (m : State) (now : ℕ) (lent s : List ℕ) (x : Facts) (
 
 -- the number by which the keys of a frame refuse it, 0 if they do not: whether 8 holds of its entries, the result for its SAs, and whether
 -- the held list after acceptance would be over its limit
-abbrev pub numberBy : Bool → SasFound → Bool → ℕ
-numberBy true y over = 8
-numberBy false found.KeyConflict over = 8
-numberBy false found.KeyMissing over = 9
-numberBy false found.Keys true = 7
-numberBy false found.Keys false = 0
+abbrev pub openingNumber : Bool → SasFound → Bool → ℕ
+openingNumber true y over = 8
+openingNumber false found.KeyConflict over = 8
+openingNumber false found.KeyMissing over = 9
+openingNumber false found.Keys true = 7
+openingNumber false found.Keys false = 0

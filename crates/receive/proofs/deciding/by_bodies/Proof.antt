@@ -4,7 +4,7 @@ use mathlib.Core.Path.{refl, ap}
 use Rattle.wire_frames.specs.Frame.{Frame}
 use Rattle.wire_readers.specs.inner.Values.{isWhole}
 use Rattle.receive.specs.inner.Passing.{Bagged, Bodied, readsBy}
-use Rattle.receive.specs.inner.Opening.{Opening, FrameOpened}
+use Rattle.receive.specs.inner.Opening.{OpeningOf, FrameOpened}
 use Rattle.receive.proofs.BodyLaws.{bagged-by}
 use Rattle.receive.proofs.deciding.by_bodies.Statement.{statement}
 use Rattle.receive.proofs.deciding.by_bodies.Tie as tie
@@ -30,7 +30,7 @@ opening : (c : tie.After-key-zero) (f : Frame) →
     let a = c .before .before .before .before .before .before .before .args in
     let row = c .before .before .row-of .result in
     Bodied (a .state) (a .tick) (now (a .lent)) (now (a .frame)) (a .x) (now (a .gsa)) (now (a .kd)) f →
-    Opening row (a .state) (a .tick) (now (a .lent)) (now (a .gsa)) (now (a .kd)) (a .x .«member_bag») (a .state .held)
+    OpeningOf row (a .state) (a .tick) (now (a .lent)) (now (a .gsa)) (now (a .kd)) (a .x .«member_bag») (a .state .held)
     (c .key-zero .result) (readsBy (a .state) row) f
 opening c f b =
     let w = bodies (c .before .before) f b in

@@ -16,7 +16,7 @@ use Rattle.unwrap_lending.specs.inner.Lending.{placeOctets}
 use Rattle.unwrap_sas.specs.inner.Keyed.{KeyedBy}
 use Rattle.unwrap_tree.specs.inner.Reached.{TreeAnswers}
 use Rattle.unwrap_tree.specs.inner.Source.{EntriesStand}
-use Rattle.receive.specs.inner.Opening.{Opening}
+use Rattle.receive.specs.inner.Opening.{OpeningOf}
 use Rattle.receive.proofs.EntryLaws.{entries-few, entries-nonzero}
 use Rattle.receive.proofs.AfterLaws.{two-lent, each-opens, some-opener}
 use Rattle.receive.proofs.OpeningLaws.{namedOf, named-few, named-ids, named-ids-count, named-block, named-block-count, named-lent}
@@ -34,7 +34,7 @@ entries-at-requires c κs =
 -- where its entries stand
 stand : (c : tie.After-entries-at) (m : State) (lent : List ℕ) (f : Frame) →
     let a = c .before .before .before .args in
-    Opening (a .row) m (a .tick) lent (now (a .gsa)) (now (a .kd)) (a .bag) (a .held) (a .zero) (a .reads) f →
+    OpeningOf (a .row) m (a .tick) lent (now (a .gsa)) (now (a .kd)) (a .bag) (a .held) (a .zero) (a .reads) f →
     EntriesStand (now (a .kd)) f (c .entries-at .result)
 stand c m lent f o = c .entries-at .ensures f (sourced-by o)
 
@@ -88,7 +88,7 @@ reach-any-requires c κs =
 -- what the entries reach, for every frame that has these bodies
 tree : (c : tie.After-reach-any) (m : State) (lent : List ℕ) (f : Frame) →
     let a = c .before .before .before .before .before .before .before .before .before .before .before .before .before .args in
-    Opening (a .row) m (a .tick) lent (now (a .gsa)) (now (a .kd)) (a .bag) (a .held) (a .zero) (a .reads) f →
+    OpeningOf (a .row) m (a .tick) lent (now (a .gsa)) (now (a .kd)) (a .bag) (a .held) (a .zero) (a .reads) f →
     TreeAnswers (rootsOf limits m (a .tick) lent f) (entriesOf f) (wrappingSize limits m (a .tick) lent f) (a .zero)
     (keysOf (namedOf (a .row) (a .held))) (c .reach-any .result)
 tree c m lent f o =
@@ -189,7 +189,7 @@ held-after-requires c κs =
 -- the result for its SAs, for every frame that has these bodies
 keyed : (c : tie.After-open-sas) (m : State) (lent : List ℕ) (f : Frame) →
     let a = c .before .before .before .before .before .before .before .before .before .before .before .before .before .before .before .before .before .before .before .before .before .before .before .before .before .args in
-    Opening (a .row) m (a .tick) lent (now (a .gsa)) (now (a .kd)) (a .bag) (a .held) (a .zero) (a .reads) f →
+    OpeningOf (a .row) m (a .tick) lent (now (a .gsa)) (now (a .kd)) (a .bag) (a .held) (a .zero) (a .reads) f →
     c .before .before .before .before .before .before .before .before .before .before .before .before .reach-any .result .conflict ≡ false →
     KeyedBy (rootsOf limits m (a .tick) lent f) (entriesOf f) (wrappingSize limits m (a .tick) lent f) f (a .tick) (c .open-sas .result)
 keyed c m lent f o e =
