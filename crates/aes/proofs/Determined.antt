@@ -8,8 +8,8 @@ use native.Mathlib.Omega.{arith}
 use lib.Dec.{lit<}
 use lib.ListN.{length, getD}
 use lib.Seq.{ext-getD}
+use Rattle.lists.proofs.Cases.{lt-cases}
 use Rattle.octets.specs.Numbers.{oct}
-use Rattle.octets.proofs.Order.{lt-cases}
 use Rattle.fips197.specs.Key.{roundsOf}
 use Rattle.aes.specs.declared.AesState.{AesState}
 use Rattle.aes.specs.inner.Word.{wordOf}

@@ -10,7 +10,7 @@ use lib.Seq.{getD-set-same, getD-set-other}
 use lib.Bits.{bitXor, xor-zero-r}
 use borrow.Author.Tests.{lt-ltb, le-ltb}
 use Rattle.octets.specs.Numbers.{oct}
-use Rattle.octets.proofs.Fill.{Filled}
+use Rattle.octets.proofs.Fill.{StoredUpTo}
 use Rattle.fips197.specs.Key.{roundsOf}
 use Rattle.fips197.specs.Sbox.{sbox, inv-sbox}
 use Rattle.fips197.specs.Steps.{mixRow, invMixColumns}
@@ -73,7 +73,7 @@ module _ {t : List ℕ} (e : t ≡ decipherTables) (x : ℕ) where
 -- ---- the round keys
 
 module _ {key t w k : List ℕ} (e : t ≡ decipherTables) (x : Expands key w) (n j : ℕ) (nr : n ≡ roundsOf key) (all : 4 * (n + 1) ≤ j)
-    (end : j ≤ 4 * (n + 1)) (f : Filled 61 (inverseWordOf t w n) k j) (zeros : ZeroWords k j 61) where
+    (end : j ≤ 4 * (n + 1)) (f : StoredUpTo 61 (inverseWordOf t w n) k j) (zeros : ZeroWords k j 61) where
   s : List ℕ
   s = set k 60 n
 

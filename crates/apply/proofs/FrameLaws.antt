@@ -3,14 +3,14 @@ use native.Mathlib.Omega.{arith}
 use Prim.Native.Nat.{ℕ, _+_, _-_, _≤_}
 use mathlib.Core.Path.{_≡_, refl, ap, sym, subst, _∙_}
 use mathlib.Core.Bool.{Bool, true, false, _||_, _&&_}
-use mathlib.Core.List.{List, [], _∷_, _++_, append-assoc, append-nil}
+use mathlib.Core.List.{List, [], _∷_, _++_, append-assoc, append-nil, flatMap}
 use borrow.Author.Tests.{eqb-true, eqb-false}
 use lib.Dec.{eqb}
 use lib.ListN.{length, drop}
 use Rattle.octets.specs.Walk.{part}
 use Rattle.octets.specs.Compare.{same}
-use Rattle.state_keys.specs.Lists.{any}
-use Rattle.state_keys.proofs.Cases.{bool-cases}
+use Rattle.lists.specs.Lists.{any}
+use Rattle.lists.proofs.Cases.{bool-cases}
 use Rattle.state_sa.specs.Entry.{espProtocol, saSpi}
 use Rattle.state_sa.specs.declared.entry.Sa.{Sa}
 use Rattle.state_table.specs.declared.Table.{Table}
@@ -19,7 +19,6 @@ use Rattle.wire_frames.specs.Frame.{payloads, nothingLeft}
 use Rattle.wire_readers.specs.inner.Values.{isWhole}
 use Rattle.wire_readers.specs.inner.Payloads.{payloadsIn}
 use Rattle.wire_readers.specs.declared.payload.PayloadParts.{PayloadParts}
-use Rattle.rules_refusals.specs.Contents.{gather}
 use Rattle.check_payloads.specs.inner.Deletion.{spisIn, deletesAmong, DeletesFrom}
 use Rattle.check_payloads.proofs.StepLaws.{Step}
 use Rattle.check_payloads.proofs.DeletedLaws.{delete-here, delete-later, delete-none}
@@ -36,11 +35,11 @@ pub record Retires (now delay : ℕ) (before after : Table) (left all : List Del
 
 module _ (now delay : ℕ) (before : Table) where
   pub retires-start : (all : List Delete) → Retires now delay before before all all
-  unfolding gather
+  unfolding flatMap
   retires-start all = record { passed = []; joined = refl; so-far = there-none now delay before }
 
   spis-more : (l : List Delete) (d : Delete) → spisIn (l ++ (d ∷ [])) ≡ spisIn l ++ d .spis
-  unfolding gather
+  unfolding flatMap
   spis-more [] d = append-nil (d .spis)
   spis-more (x ∷ l) d = ap (λ (y : List (List ℕ)). x .spis ++ y) (spis-more l d) ∙ sym (append-assoc (x .spis) (spisIn l) (d .spis))
 
@@ -124,7 +123,7 @@ module _ (s : List ℕ) (now delay : ℕ) (before : Table) where
     module _ (some : left ≡ 0 → ⊥) where
       -- the type 0 ends the payloads
       pub going-kind : kind ≡ 0 → ⊥
-      unfolding gather
+      unfolding flatMap
       going-kind z = some (sym (w .many) ∙ ap length (sym (w .here some) ∙ delete-none (drop at s) kind z))
 
       module _ (r : PayloadParts) (g : Step false kind s at r) where

@@ -1,13 +1,13 @@
 -- The state after an accepted frame is the one that the definitions say.
 use native.Mathlib.Omega.{arith}
 use Prim.Native.Nat.{ℕ, _+_, _≤_}
-use mathlib.Core.Path.{_≡_, refl, ap, sym, subst, _∙_}
-use mathlib.Core.Bool.{Bool, true, false, not, cond, _&&_, _||_}
+use mathlib.Core.Path.{_≡_, refl, ap, sym, _∙_}
+use mathlib.Core.Bool.{Bool, true, false, not, cond, _&&_, _||_, or-comm}
 use mathlib.Core.List.{List, map}
 use lib.Dec.{eqb}
 use lib.ListN.{length, length-map, length-take}
 use Rattle.state_keys.specs.Limits.{limits}
-use Rattle.state_keys.proofs.Rising.{length-keep}
+use Rattle.lists.proofs.Rising.{length-keep}
 use Rattle.wire_frames.specs.Delete.{Delete}
 use Rattle.wire_frames.specs.Frame.{Frame}
 use Rattle.state_sa.specs.Entry.{rekeyProtocol, due}
@@ -41,17 +41,11 @@ standing-room now t h =
     let n = length-take (t .count) (t .sas) in
     omega arith
 
-or-swap : (a b : Bool) → (a || b) ≡ (b || a)
-or-swap true true = refl
-or-swap true false = refl
-or-swap false true = refl
-or-swap false false = refl
-
 same-test : (f : Frame) (new : Bool) → newRekey f ≡ new → (a : Sa) →
     (outdated new a || namedInDelete f a) ≡ (namedInDelete f a || replaced f a)
 unfolding replaced
 same-test f new e a =
-    or-swap (outdated new a) (namedInDelete f a) ∙ ap (λ (b : Bool). namedInDelete f a || (b && eqb (a .protocol) rekeyProtocol)) (sym e)
+    or-comm (outdated new a) (namedInDelete f a) ∙ ap (λ (b : Bool). namedInDelete f a || (b && eqb (a .protocol) rekeyProtocol)) (sym e)
 
 -- the code's way to them: those that stand, with a new Rekey SA the old one retired, then retired by the frame's Delete payloads
 module _ (s : List ℕ) (now : ℕ) (x : Said) (t stand gone : Table) (h : t .count ≤ limits .sas)

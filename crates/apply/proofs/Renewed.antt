@@ -7,9 +7,9 @@ use mathlib.Core.List.{List, [], _∷_, _++_, map}
 use borrow.Author.Tests.{eq-eqb, ne-eqb}
 use lib.Dec.{eqb}
 use lib.ListN.{length, take, drop, getD, set, replicate}
-use Rattle.state_keys.specs.Lists.{keep}
-use Rattle.state_keys.proofs.Lists.{keep-yes, keep-no, keep-end}
-use Rattle.state_keys.proofs.Fill.{Filled, filled-none, filled-more, written-more}
+use Rattle.lists.specs.Lists.{keep}
+use Rattle.lists.proofs.Lists.{keep-yes, keep-no, keep-end}
+use Rattle.lists.proofs.Fill.{Filled, filled-none, filled-more, written-more}
 use Rattle.state_sa.specs.Entry.{rekeyProtocol, retired}
 use Rattle.state_sa.specs.declared.entry.Sa.{Sa}
 use Rattle.state_table.specs.Table.{retiredIf}

@@ -7,10 +7,11 @@ use mathlib.Core.List.{List, [], _∷_, _++_, map}
 use borrow.Author.Tests.{lt-ltb}
 use lib.ListN.{length, take, drop, getD, replicate, length-map, length-drop}
 use lib.Seq.{length-take-le, take-append-seam, drop-append-seam, drop-append-add}
-use Rattle.state_keys.specs.Lists.{insert}
+use Rattle.rules_outcome.proofs.RunsTable.{length-all}
+use Rattle.lists.specs.Lists.{insert}
 use Rattle.state_keys.specs.Limits.{Limits}
-use Rattle.state_keys.proofs.Parts.{part-cons, part-end, drop-replicate}
-use Rattle.state_keys.proofs.Rising.{length-insert}
+use Rattle.lists.proofs.Parts.{part-cons, part-end, drop-replicate}
+use Rattle.lists.proofs.Rising.{length-insert}
 use Rattle.state_sa.specs.Entry.{saBefore, retired, retiredBy, withCondition, blankSa}
 use Rattle.state_sa.specs.declared.entry.Sa.{Sa}
 use Rattle.state_sa.specs.declared.entry.Condition.{Condition}
@@ -23,11 +24,6 @@ use Rattle.rules_outcome.specs.After.{insertAll}
 use Rattle.apply.specs.inner.Tables.{namedIn}
 
 -- ---- new SAs
-length-all : (m l : List Sa) → length (insertAll m l) ≡ length m + length l
-unfolding insertAll
-length-all [] l = omega arith
-length-all (a ∷ m) l = length-insert saBefore a (insertAll m l) ∙ ap (λ (n : ℕ). n + 1) (length-all m l) ∙ omega arith
-
 module _ (limits : Limits) where
   entered-made : (a : Sa) (l : List Sa) → length l < limits .sas →
       entered limits a (tableOf limits l) ≡ tableOf limits (insert saBefore a l)

@@ -7,8 +7,8 @@ use mathlib.Core.Bool.{Bool, true, false, _||_, false≢true}
 use mathlib.Core.List.{List, [], _∷_, _++_, map, append-assoc}
 use lib.ListN.{length, take, drop, getD, set, length-set, length-map, take-append-drop}
 use lib.Seq.{drop-cons, drop-drop, drop-set-lt, getD-drop, getD-append-seam, length-take-le, set-at, set-getD, take-suc, take-suc-set}
-use Rattle.state_keys.specs.Lists.{insert}
-use Rattle.state_keys.proofs.Parts.{part-cons, part-end}
+use Rattle.lists.specs.Lists.{insert}
+use Rattle.lists.proofs.Parts.{part-cons, part-end}
 
 map-last : {A : Type 0} (f : A → A) (l : List A) (a : A) → map f (l ++ (a ∷ [])) ≡ map f l ++ (f a ∷ [])
 map-last f [] a = refl

@@ -15,7 +15,7 @@ ghost use Rattle.apply.specs.inner.Following.{Told, Follows};
 use crate::entering::enter_all;
 use crate::retiring::DeletesAt;
 use crate::retiring::retired_by_frame;
-use crate::standing::standing;
+use crate::standing::keep_standing;
 use state::State;
 use state::held::Held;
 use state::least::Least;
@@ -45,7 +45,7 @@ fn old_sas(t: Table, s: &[u8], tick: u32, x: Said) -> Table
     ensures { λ r. ⌜ ((f : Frame) (m : State) → Told (now (s .entry)) x f → m .table ≡ t → r ≡ tableOf limits (oldSas m tick f)) ⌝ }
 {
     let d = x.deletes;
-    let stand = standing(t, x.rekey, tick, x.delay);
+    let stand = keep_standing(t, x.rekey, tick, x.delay);
     retired_by_frame(stand, s, d, tick, x.delay)
 }
 

@@ -23,7 +23,7 @@ fn retire_old(a: Sa, new: bool, tick: u32, delay: u16) -> Sa
 }
 
 // Drops the SAs of `t` that are due at `tick`. Retires the old Rekey SA if `new` says that there is a new one.
-pub fn standing(t: Table, new: bool, tick: u32, delay: u16) -> Table
+pub fn keep_standing(t: Table, new: bool, tick: u32, delay: u16) -> Table
     requires { ⌜ t .count ≤ limits .sas ⌝ }
     ensures { λ r. ⌜ r ≡ tableOf limits (map (retiredIf (outdated new) tick delay) (notDue tick (sasOf t))) ⌝ }
 {

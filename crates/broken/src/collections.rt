@@ -1,6 +1,6 @@
 // Hands fragment 2 of 2 to a member with collections that break each rule of what a collection is, one at a time, and prints the answer and
-// how many pieces wait. A collection that keeps the rules makes the fragment complete, passed over or too long; any other counts as empty, so
-// the fragment waits alone. No call of the library makes such a collection.
+// how many pieces wait. A collection that keeps the rules makes the fragment complete, passed over or too long; any other counts as empty,
+// so the fragment waits alone. No call of the library makes such a collection.
 use crate::print;
 use crate::values::sa_of;
 use fragments::Collection;
@@ -105,15 +105,83 @@ const FRAGMENT: [u8; 68] = [
     123,
 ];
 
-// Answers a member with that Rekey SA alone: its encryption part is 00 to 13.
+// The keying octets of that Rekey SA: the encryption part is 00 to 13.
+const KEYING: [u8; 68] = [
+    0,
+    1,
+    2,
+    3,
+    4,
+    5,
+    6,
+    7,
+    8,
+    9,
+    10,
+    11,
+    12,
+    13,
+    14,
+    15,
+    16,
+    17,
+    18,
+    19,
+    0,
+    0,
+    0,
+    0,
+    0,
+    0,
+    0,
+    0,
+    0,
+    0,
+    0,
+    0,
+    0,
+    0,
+    0,
+    0,
+    0,
+    0,
+    0,
+    0,
+    0,
+    0,
+    0,
+    0,
+    0,
+    0,
+    0,
+    0,
+    0,
+    0,
+    0,
+    0,
+    0,
+    0,
+    0,
+    0,
+    0,
+    0,
+    0,
+    0,
+    0,
+    0,
+    0,
+    0,
+    0,
+    0,
+    0,
+    0,
+];
+
+// Answers a member with that Rekey SA alone.
 fn member() -> Member {
     let mut sa = sa_of(REKEY, 0, 36, 20, 16);
     sa.spi = SPIS;
-    let mut i: usize = 0;
-    while i < 20 {
-        sa.octets[i] = i as u8;
-        i += 1;
-    }
+    sa.octets = KEYING;
     let new = Table::new();
     let mut sas = new.sas;
     sas[0] = sa;

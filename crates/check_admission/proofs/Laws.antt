@@ -2,14 +2,14 @@
 use native.Mathlib.Omega.{arith}
 use Prim.Native.Nat.{ℕ, _+_, _≤_, _<_}
 use mathlib.Core.Path.{_≡_, refl, ap, sym, _∙_}
-use mathlib.Core.Bool.{Bool, true, false, cond, not, _&&_, _||_}
+use mathlib.Core.Bool.{Bool, true, false, cond, not, _&&_, _||_, or-false}
 use mathlib.Core.List.{List, _∷_}
 use borrow.Author.Tests.{lt-leb}
 use lib.ListN.{length, take, drop, getD}
 use Rattle.state_keys.specs.Limits.{Limits}
-use Rattle.state_keys.specs.Lists.{any, keep}
-use Rattle.state_keys.proofs.Cases.{lt-cases}
-use Rattle.state_keys.proofs.Parts.{part-cons, part-end}
+use Rattle.lists.specs.Lists.{any, keep}
+use Rattle.lists.proofs.Cases.{lt-cases}
+use Rattle.lists.proofs.Parts.{part-cons, part-end}
 use Rattle.state_sa.specs.Entry.{rekeyProtocol, named, liveRekey, due}
 use Rattle.state_sa.specs.declared.entry.Sa.{Sa}
 use Rattle.state_table.specs.declared.Table.{Table}
@@ -21,7 +21,7 @@ use Rattle.wire_frames.specs.Exchange.{exchangeOf}
 use Rattle.wire_frames.specs.declared.exchanges.Exchange.{Exchange}
 use Rattle.wire_frames.specs.declared.exchanges.Wanted.{Wanted}
 use Rattle.wire_frames.specs.declared.exchanges.Wanted.the-variants as wanted
-use Rattle.rules_refusals.specs.Number2.{breaksWanted, overLiveRekey, nonEmptyMember, otherSpis}
+use Rattle.rules_refusals.specs.Number2.{breaksWanted, overLiveRekey, unwantedMember, otherSpis}
 use Rattle.rules_refusals.specs.Number3.{notAcceptable}
 use Rattle.rules_refusals.specs.Refusals.{number2, number3, one, applies}
 use Rattle.check_admission.specs.inner.Steps.{isOver, barred}
@@ -102,10 +102,6 @@ module _ (limits : Limits) (t : Table) (x : Exchange) (spi : List ℕ) (now : �
   unfolding barred
   barred-not e f g = rw (e, f, g)
 
-or-false : (b : Bool) → (b || false) ≡ b
-or-false true = refl
-or-false false = refl
-
 last-true : (a b c : Bool) → true ≡ ((a || false) || (b || (c || (true || false))))
 last-true true b c = refl
 last-true false true c = refl
@@ -115,13 +111,13 @@ last-true false false false = refl
 module _ (limits : Limits) (s : State) (now : ℕ) (x : ℕ) (spi : List ℕ) where
   pub two-formed : (r : Bool) → stateFormed limits s ≡ true → r ≡ barred limits (s .table) (exchangeOf x) spi now →
       r ≡ applies (number2 limits s now x spi)
-  unfolding barred one nonEmptyMember otherSpis
+  unfolding barred one unwantedMember otherSpis
   two-formed r e f = rw (e, or-false, or-false) f
 
   pub two-broken : stateFormed limits s ≡ false → true ≡ applies (number2 limits s now x spi)
   unfolding one
   two-broken e =
-      rw e (last-true (not ((exchangeOf x) .admitted)) (nonEmptyMember limits s now x) (otherSpis s now x spi))
+      rw e (last-true (not ((exchangeOf x) .admitted)) (unwantedMember limits s now x) (otherSpis s now x spi))
 
   pub formed-count : stateFormed limits s ≡ true → s .table .count ≤ limits .sas
   unfolding stateFormed tableFormed
@@ -133,11 +129,11 @@ module _ (limits : Limits) (s : State) (now : ℕ) (x : ℕ) (spi : List ℕ) wh
 
 -- ---- number 3
 module _ (s : State) (x id : ℕ) where
-  pub three-judged : (r : Bool) → (exchangeOf x) .«compares_message_id» ≡ true → r ≡ not (acceptable id (s .least)) →
+  pub number3-judged : (r : Bool) → (exchangeOf x) .«compares_message_id» ≡ true → r ≡ not (acceptable id (s .least)) →
       r ≡ applies (number3 s x id)
   unfolding one notAcceptable
-  three-judged r e f = rw (e, or-false) f
+  number3-judged r e f = rw (e, or-false) f
 
-  pub three-not : (exchangeOf x) .«compares_message_id» ≡ false → false ≡ applies (number3 s x id)
+  pub number3-not : (exchangeOf x) .«compares_message_id» ≡ false → false ≡ applies (number3 s x id)
   unfolding one notAcceptable
-  three-not e = rw e
+  number3-not e = rw e

@@ -2,7 +2,7 @@
 ghost use mathlib.Core.Path.{_≡_};
 ghost use Prim.Native.Nat.{_≤_};
 ghost use Rattle.state_keys.specs.Limits.{limits};
-ghost use Rattle.state_keys.specs.Lists.{any};
+ghost use Rattle.lists.specs.Lists.{any};
 ghost use Rattle.state_table.specs.Table.{sasOf, notDue, emptyAt};
 ghost use Rattle.rules_refusals.specs.Number2.{breaksWanted, overLiveRekey};
 ghost use Rattle.rules_refusals.specs.Refusals.{number2, applies};

@@ -1,19 +1,20 @@
 -- The walk over the key bags of a KD body.
 use Prim.Native.Nat.{ℕ, _+_, _-_, _<_, _≤_}
 use mathlib.Core.Path.{_≡_, refl, ap, sym, _∙_}
-use mathlib.Core.List.{List, [], _∷_, _++_}
-use mathlib.Core.Bool.{Bool, true, false, not, _&&_, _||_}
+use mathlib.Core.List.{List, [], _∷_, _++_, flatMap}
+use mathlib.Core.Bool.{Bool, true, false, not, _&&_, _||_, or-false}
 use native.Mathlib.Omega.{arith}
 use borrow.Author.Tests.{eq-eqb, ne-eqb}
 use lib.ListN.{length, drop, length-append}
 use lib.Dec.{ltb, eqb}
 use Rattle.octets.specs.Walk.{part}
 use Rattle.octets.proofs.Walks.{part-length}
-use Rattle.state_keys.specs.Lists.{any}
+use Rattle.lists.specs.Lists.{any}
 use Rattle.state_keys.specs.Limits.{Limits}
 use Rattle.wire_attributes.specs.Place.{inBag}
 use Rattle.wire_attributes.specs.Tree.{WrapKey, saKeys, freshKeys}
 use Rattle.wire_attributes.specs.Layout.{attributes}
+use Rattle.wire_attributes.proofs.PlainLaws.{no-fresh-keys}
 use Rattle.wire_attributes.specs.declared.tables.Place.{Place}
 use Rattle.wire_attributes.specs.declared.tables.Place.the-variants as place
 use Rattle.wire_attributes.specs.declared.tables.Meaning.{Meaning}
@@ -22,11 +23,12 @@ use Rattle.wire_bags.specs.Bag.{Bag, groupKeys, memberKeys, GroupKeyBag, placeO
 use Rattle.wire_readers.specs.inner.Values.{isWhole, attributesIn, valuesIn}
 use Rattle.wire_readers.specs.inner.Bags.{bagsIn}
 use Rattle.wire_readers.specs.declared.policy.Parts.{Parts}
-use Rattle.rules_refusals.specs.Contents.{gather, groupBagOf, memberBagOf}
+use Rattle.rules_refusals.specs.Contents.{groupBagOf, memberBagOf}
 use Rattle.rules_refusals.specs.Number6.{underItself}
-use Rattle.rules_refusals.proofs.Gather.{any-append}
-use Rattle.rules_refusals.proofs.OneOf.{or-false, or-joined}
-use Rattle.check_bagkeys.specs.inner.Facts.{keyFactsOf, ofGroup, ofMember, ofBag, ofSaKeys, ofWrapKeys, IsOfBag, noBags, mergeBagFacts}
+use Rattle.rules_refusals.proofs.FlatMap.{any-append}
+use Rattle.rules_refusals.proofs.OneOf.{or-joined}
+use Rattle.check_bagkeys.specs.inner.Facts.{keyFactsOf, ofGroup, ofMember, ofBag, ofSaKeys, ofWrapKeys, IsOfBag, noBags}
+use Rattle.check_bagkeys.specs.inner.Facts.{mergeBagFacts}
 use Rattle.check_bagkeys.specs.inner.Facts.{wrapsIn, freshIn, bagFactsOf}
 use Rattle.check_bagkeys.specs.declared.wrapped.KeyFacts.{KeyFacts}
 use Rattle.check_bagkeys.specs.declared.BagFacts.{BagFacts}
@@ -57,7 +59,7 @@ from-none f =
     }
 
 none-left : (limits : Limits) (f : BagFacts) → mergeBagFacts f (bagFactsOf limits []) ≡ f
-unfolding any gather
+unfolding any flatMap
 none-left limits f =
     let m : f .members + 0 ≡ f .members = omega arith in
     let w : f .wraps + 0 ≡ f .wraps = omega arith in
@@ -103,10 +105,10 @@ joined a b c =
 
 -- the first bag, and the others
 one-more : (limits : Limits) (b : Bag) (l : List Bag) → bagFactsOf limits (b ∷ l) ≡ mergeBagFacts (ofBag limits b) (bagFactsOf limits l)
-unfolding any gather
+unfolding any flatMap
 one-more limits (groupKeys b) l =
     let f = bagFactsOf limits (groupKeys b ∷ l) in
-    let m : length (gather memberBagOf l) ≡ 0 + length (gather memberBagOf l) = omega arith in
+    let m : length (flatMap memberBagOf l) ≡ 0 + length (flatMap memberBagOf l) = omega arith in
     let w : length (wrapsIn l) ≡ 0 + length (wrapsIn l) = omega arith in
     λ i. record {
       members = m i;
@@ -126,7 +128,7 @@ one-more limits (groupKeys b) l =
     }
 one-more limits (memberKeys b) l =
     let f = bagFactsOf limits (memberKeys b ∷ l) in
-    let m : length (gather memberBagOf (memberKeys b ∷ l)) ≡ 1 + length (gather memberBagOf l) = omega arith in
+    let m : length (flatMap memberBagOf (memberKeys b ∷ l)) ≡ 1 + length (flatMap memberBagOf l) = omega arith in
     let n : length (freshIn l) ≡ 0 + length (freshIn l) = omega arith in
     λ i. record {
       members = m i;
@@ -173,6 +175,16 @@ module _ (limits : Limits) (fresh : Bool) (first : ℕ) (a : List ℕ) where
   abbrev pub KeysThere : Meaning → Place → KeyFacts → Type 0
   KeysThere m p k = (k ≡ keyFactsOf (valuesIn m p a)) × (k .keys ≤ length a)
 
+  -- where fresh keys are not read there is none
+  pub none-there : (p : Place) → p ≡ inBag false first → KeysThere meaning.FreshKey p (keyFactsOf [])
+  unfolding any
+  none-there p g =
+      let l = attributesIn (inBag false first) a in
+      let e : keyFactsOf (valuesIn meaning.FreshKey p a) ≡ keyFactsOf [] =
+      ap (λ (x : Place). keyFactsOf (valuesIn meaning.FreshKey x a)) g
+      ∙ wrap-keys-are (valuesIn meaning.FreshKey (inBag false first) a) ∙ ap ofWrapKeys (no-fresh-keys first l) in
+      (sym e, omega arith)
+
   pub of-group-is : (k e : KeyFacts) (r : BagFacts) → (first ≡ 0 → ⊥) → (p : Place) → p ≡ inBag fresh first
       → KeysThere meaning.SaKey p k → KeysThere meaning.FreshKey p e → r ≡ ofGroup limits first k e → IsOfBag limits fresh first a r
   of-group-is k e r n p g h i q =
@@ -215,7 +227,8 @@ module _ (limits : Limits) (fresh : Bool) (k : List ℕ) where
     bags-end h =
         sym (none-left limits f) ∙ ap (λ (l : List Bag). mergeBagFacts f (bagFactsOf limits l)) (sym (no-bags fresh k at h)) ∙ w .so-far
 
-    module _ (r : Parts) (b : BagAt fresh k at r) (o : BagFacts) (h : IsOfBag limits fresh (r .first) (part k (at + r .body) (at + r .end)) o) where
+    module _ (r : Parts) (b : BagAt fresh k at r) (o : BagFacts)
+        (h : IsOfBag limits fresh (r .first) (part k (at + r .body) (at + r .end)) o) where
       held-few : (f .members + o .members ≤ at + r .end) × (f .wraps + o .wraps ≤ at + r .end) × (f .fresh + o .fresh ≤ at + r .end)
       held-few =
           let l = part-length k (at + r .body) (at + r .end) (omega (arith, b .order)) (b .inside) in (

@@ -2,19 +2,19 @@
 use Prim.Native.Nat.{ℕ, _+_, _-_, _<_, _≤_}
 use mathlib.Core.Path.{_≡_, refl, ap, sym, _∙_}
 use mathlib.Core.List.{List, [], _∷_, map}
-use mathlib.Core.Bool.{Bool, true, false, not, _||_}
+use mathlib.Core.Bool.{Bool, true, false, not, _||_, or-false}
 use native.Mathlib.Omega.{arith}
 use lib.ListN.{length, drop, length-map}
 use lib.Dec.{eqb}
 use Rattle.octets.specs.Walk.{part}
-use Rattle.state_keys.specs.Lists.{any}
+use Rattle.lists.specs.Lists.{any}
 use Rattle.wire_attributes.specs.Tree.{SaKey, WrapKey, saKeyOf, wrapKeyOf}
 use Rattle.wire_attributes.specs.Layout.{attributes}
 use Rattle.wire_attributes.specs.declared.tables.Place.{Place}
 use Rattle.wire_attributes.specs.declared.tables.Meaning.{Meaning}
 use Rattle.wire_readers.specs.inner.Values.{isWhole, valuesIn, ValueFoundAt}
 use Rattle.rules_refusals.specs.Number6.{hasKeyId, hasKwkId, underItself}
-use Rattle.rules_refusals.proofs.OneOf.{or-false, or-joined}
+use Rattle.rules_refusals.proofs.OneOf.{or-joined}
 use Rattle.check_bagkeys.specs.inner.Facts.{carriesKey, noId, noKwk, oneId, keyFactsOf, withKey, ofSaKeys, ofWrapKeys}
 use Rattle.check_bagkeys.specs.declared.wrapped.KeyFacts.{KeyFacts}
 use Rattle.check_bagkeys.proofs.Sizes.{first-sized}

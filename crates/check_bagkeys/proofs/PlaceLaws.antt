@@ -7,9 +7,8 @@ use native.Mathlib.Omega.{arith}
 use borrow.Author.Tests.{le-leb, lt-leb, eqb-true, eqb-false}
 use lib.ListN.{length, drop}
 use lib.Dec.{eqb}
-use Rattle.octets.specs.Walk.{either}
 use Rattle.state_keys.specs.Limits.{limits}
-use Rattle.state_keys.proofs.Cases.{bool-cases}
+use Rattle.lists.proofs.Cases.{bool-cases}
 use Rattle.wire_readers.specs.inner.Values.{nowhere}
 use Rattle.wire_readers.specs.declared.Stretch.{Stretch}
 use Rattle.wire_readers.specs.declared.policy.Parts.{Parts}
@@ -27,20 +26,20 @@ module _ (fresh : Bool) (k : List ℕ) where
 
   module _ (n at : ℕ) (h : at < length k) (r : Parts) (b : BagAt fresh k at r) where
     member-next : memberFrom (suc n) at k
-        ≡ either (eqb (r .first) 0) (record { start = at + r .body; end = at + r .end }) (memberFrom n (at + r .end) k)
+        ≡ cond (eqb (r .first) 0) (record { start = at + r .body; end = at + r .end }) (memberFrom n (at + r .end) k)
     unfolding memberFrom
     member-next = λ i.
-        either (lt-leb (length k) at h i) nowhere
-        (either (eqb (sym (b .first) i) 0) (record { start = at + sym (b .body) i; end = at + sym (b .end) i })
+        cond (lt-leb (length k) at h i) nowhere
+        (cond (eqb (sym (b .first) i) 0) (record { start = at + sym (b .body) i; end = at + sym (b .end) i })
         (memberFrom n (at + sym (b .end) i) k))
 
     pub member-here : eqb (r .first) 0 ≡ true → memberFrom (suc n) at k ≡ record { start = at + r .body; end = at + r .end }
     member-here t =
-        member-next ∙ (λ i. either (t i) (record { start = at + r .body; end = at + r .end }) (memberFrom n (at + r .end) k))
+        member-next ∙ (λ i. cond (t i) (record { start = at + r .body; end = at + r .end }) (memberFrom n (at + r .end) k))
 
     pub member-later : eqb (r .first) 0 ≡ false → memberFrom (suc n) at k ≡ memberFrom n (at + r .end) k
     member-later t =
-        member-next ∙ (λ i. either (t i) (record { start = at + r .body; end = at + r .end }) (memberFrom n (at + r .end) k))
+        member-next ∙ (λ i. cond (t i) (record { start = at + r .body; end = at + r .end }) (memberFrom n (at + r .end) k))
 
   -- ---- the walk: x is where the first of those passed stands; where none was passed, it is sought among the rest with so much fuel
   pub record Sought (x : Stretch) (at : ℕ) : Type 0 where

@@ -2,16 +2,15 @@
 use Prim.Native.Nat.{ℕ, _≤_}
 use mathlib.Core.Path.{_≡_, refl, ap, sym, _∙_, subst}
 use mathlib.Core.List.{List, _∷_}
-use mathlib.Core.Bool.{Bool, true, not, false≢true}
+use mathlib.Core.Bool.{Bool, true, not, false≢true, _&&_}
 use native.Mathlib.Omega.{arith}
 use borrow.Author.Tests.{leb-true, eqb-true}
 use lib.ListN.{length}
 use lib.Dec.{leb, eqb}
-use Rattle.octets.specs.Walk.{both, no-more, then}
-use Rattle.octets.proofs.Walks.{both-true}
-use Rattle.state_keys.proofs.Cases.{bool-cases}
+use Rattle.octets.specs.Walk.{no-more, then}
+use Rattle.lists.proofs.Cases.{bool-cases, and-parts}
 use Rattle.wire_attributes.specs.Attribute.{Attribute}
-use Rattle.wire_attributes.specs.Place.{meaningOf, wrappedSize, formatFits}
+use Rattle.wire_attributes.specs.Place.{meaningOf, keyValueSized, formatFits}
 use Rattle.wire_attributes.specs.Tree.{codeOf, means, valuesOf}
 use Rattle.wire_attributes.specs.Layout.{attributes}
 use Rattle.wire_attributes.specs.Grammar.{Attributes}
@@ -33,8 +32,8 @@ by-code meaning.SaKey = refl
 by-code meaning.WrapKey = refl
 by-code meaning.FreshKey = refl
 
-wrapped-sized : (short : Bool) (n : ℕ) → both (not short) (wrappedSize n) ≡ true → 24 ≤ n
-wrapped-sized short n e = leb-true 24 n (both-true _ _ (both-true (not short) (wrappedSize n) e .1) .0)
+wrapped-sized : (short : Bool) (n : ℕ) → (not short && keyValueSized n) ≡ true → 24 ≤ n
+wrapped-sized short n e = leb-true 24 n (and-parts _ _ (and-parts (not short) (keyValueSized n) e .1) .0)
 
 key-sized : (x : Meaning) (short : Bool) (n : ℕ) → carriesKey x ≡ true → formatFits x short n ≡ true → 24 ≤ n
 key-sized meaning.Skipped short n k e = absurd (false≢true k)

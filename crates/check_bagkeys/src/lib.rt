@@ -5,16 +5,20 @@ pub mod wrapped;
 
 ghost use mathlib.Core.Path.{_≡_};
 ghost use mathlib.Core.Bool.{true};
-ghost use Prim.Native.Nat.{_+_, _<_};
+ghost use Prim.Native.Nat.{ℕ, _+_, _<_, _≤_};
+ghost use lib.ListN.{length};
 ghost use Rattle.state_keys.specs.Limits.{limits};
 ghost use Rattle.wire_attributes.specs.Layout.{attributes};
+ghost use Rattle.wire_attributes.specs.Place.{inBag};
+ghost use Rattle.wire_attributes.specs.declared.tables.Meaning.the-variants as meaning;
 ghost use Rattle.wire_bags.specs.Bag.{placeOf, bags};
-ghost use Rattle.wire_readers.specs.inner.Values.{isWhole};
-ghost use Rattle.check_bagkeys.specs.inner.Facts.{noBags, ofGroup, ofMember, IsOfBag, mergeBagFacts};
+ghost use Rattle.wire_readers.specs.inner.Values.{isWhole, valuesIn};
+ghost use Rattle.check_bagkeys.specs.inner.Facts.{keyFactsOf, noBags, ofGroup, ofMember, IsOfBag, mergeBagFacts};
 ghost use Rattle.check_bagkeys.specs.inner.Places.{firstMember, kdFactsOf};
 use ikev2_numbers::AH;
 use ikev2_numbers::ESP;
 use ikev2_numbers::GIKE_UPDATE;
+use ikev2_numbers::NO_PROTOCOL;
 use state_keys::limits::SA_KEYS;
 use wire_attributes::tables::Meaning;
 use wire_attributes::tables::Place;
@@ -146,18 +150,37 @@ fn merge(a: BagFacts, b: BagFacts) -> BagFacts
     }
 }
 
+// Collects the facts of the fresh keys among the attributes `a` of a Group Key Bag, whose place is `place`. Where fresh keys are not read
+// (`fresh`) there is none, and the attributes are not gone over once more.
+fn fresh_of(fresh: bool, place: Place, a: &[u8]) -> KeyFacts
+    requires { ⌜ isWhole (attributes place 0 (now a)) ≡ true ⌝ }
+    ensures { λ r. ⌜ ((first : ℕ) → place ≡ inBag fresh first →
+        (r ≡ keyFactsOf (valuesIn meaning.FreshKey place (now (a .entry)))) × (r .keys ≤ length (now (a .entry)))) ⌝ }
+{
+    if fresh {
+        return wrapped::keys_of(Meaning::FreshKey, place, a);
+    }
+    KeyFacts {
+        keys: 0,
+        named: false,
+        unnamed: false,
+        with_kwk_id: false,
+        itself: false,
+    }
+}
+
 // Collects the facts of one bag with the attributes `a`: a Member Key Bag if its first octet `first` is 0, else a Group Key Bag of that
 // protocol.
 fn of_bag(fresh: bool, first: usize, a: &[u8]) -> BagFacts
     requires { ⌜ isWhole (attributes (placeOf fresh first) 0 (now a)) ≡ true ⌝ }
     ensures { λ r. ⌜ IsOfBag limits fresh first (now (a .entry)) r ⌝ }
 {
-    if first == 0 {
+    if first == NO_PROTOCOL {
         return of_member(wrapped::keys_of(Meaning::WrapKey, Place::MemberBag, a));
     }
     let place = wire_attributes::tables::in_bag(fresh, first);
     let k = wrapped::keys_of(Meaning::SaKey, place, a);
-    let e = wrapped::keys_of(Meaning::FreshKey, place, a);
+    let e = fresh_of(fresh, place, a);
     of_group(first, k, e)
 }
 
@@ -166,7 +189,7 @@ fn of_bag(fresh: bool, first: usize, a: &[u8]) -> BagFacts
 fn first_member(first: usize, here: Stretch, known: Stretch) -> Stretch
     ensures { λ r. ⌜ r ≡ firstMember first here known ⌝ }
 {
-    if (first == 0) & (known.end == 0) {
+    if (first == NO_PROTOCOL) & (known.end == 0) {
         return here;
     }
     known

@@ -12,7 +12,7 @@ use Rattle.octets.specs.Numbers.{oct}
 use Rattle.octets.specs.Walk.{be16, part}
 use Rattle.octets.specs.Compare.{same}
 use Rattle.octets.proofs.Walks.{tail, to-end}
-use Rattle.state_keys.proofs.Cases.{bool-cases}
+use Rattle.lists.proofs.Cases.{bool-cases}
 use Rattle.wire_policies.specs.Selector.{Selector, addressSize, selectorSize}
 use Rattle.wire_policies.specs.Grammar.{IsSelector}
 use Rattle.rules_refusals.specs.Fitness.{multicast, oneGroupAddress}

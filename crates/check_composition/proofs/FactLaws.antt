@@ -1,8 +1,8 @@
 -- The walk over the policies of a GSA body.
 use Prim.Native.Nat.{ℕ, _+_, _-_, _≤_}
 use mathlib.Core.Path.{_≡_, refl, ap, sym, _∙_, subst}
-use mathlib.Core.List.{List, [], _∷_}
-use mathlib.Core.Bool.{Bool, true, false, cond, _||_}
+use mathlib.Core.List.{List, [], _∷_, flatMap}
+use mathlib.Core.Bool.{Bool, true, false, cond, _||_, or-false}
 use native.Mathlib.Omega.{arith}
 use borrow.Author.Tests.{eqb-true, eqb-false}
 use lib.ListN.{length, take, drop}
@@ -10,8 +10,8 @@ use lib.Seq.{drop-drop}
 use lib.Dec.{eqb}
 use Rattle.octets.specs.Numbers.{oct}
 use Rattle.octets.specs.Walk.{part}
-use Rattle.state_keys.specs.Lists.{any, count}
-use Rattle.state_keys.proofs.Cases.{bool-cases}
+use Rattle.lists.specs.Lists.{any, count}
+use Rattle.lists.proofs.Cases.{bool-cases}
 use Rattle.wire_attributes.specs.Place.{inPolicy}
 use Rattle.wire_attributes.specs.Layout.{attributes}
 use Rattle.wire_attributes.specs.declared.tables.Place.the-variants as place
@@ -20,9 +20,9 @@ use Rattle.wire_policies.specs.Grammar.{IsSaBody}
 use Rattle.wire_readers.specs.inner.Values.{isWhole, attributesIn}
 use Rattle.wire_readers.specs.inner.Policies.{policiesIn}
 use Rattle.wire_readers.specs.declared.policy.Parts.{Parts}
-use Rattle.rules_refusals.specs.Contents.{gather, groupSaIn, wideOf}
+use Rattle.rules_refusals.specs.Contents.{groupSaIn, wideOf}
 use Rattle.rules_refusals.specs.Fitness.{isEsp, isRekey}
-use Rattle.rules_refusals.proofs.OneOf.{or-false, or-joined}
+use Rattle.rules_refusals.proofs.OneOf.{or-joined}
 use Rattle.check_suites.specs.inner.Adding.{once}
 use Rattle.check_composition.specs.inner.Facts.{givenBy, ofSa, ofPolicy, saWith, PolicyFactsAtMost, PolicyBodyHolds, FactsOfPolicy}
 use Rattle.check_composition.specs.inner.Facts.{noPolicies, mergePolicyFacts, Added, policyFactsOf}
@@ -56,7 +56,7 @@ from-none f =
     }
 
 none-left : (a : Bool) (f : PolicyFacts) → mergePolicyFacts f (policyFactsOf a []) ≡ f
-unfolding any count gather greatest
+unfolding any count flatMap greatest
 none-left a f =
     let s : f .sas + 0 ≡ f .sas = omega arith in
     let e : f .esps + 0 ≡ f .esps = omega arith in
@@ -108,15 +108,15 @@ counted false n = omega arith
 
 -- the first policy, and the others
 one-more : (a : Bool) (p : Policy) (l : List Policy) → policyFactsOf a (p ∷ l) ≡ mergePolicyFacts (ofPolicy a p) (policyFactsOf a l)
-unfolding any count gather
+unfolding any count flatMap
 one-more a (groupSa p) l =
     let f = policyFactsOf a (groupSa p ∷ l) in
-    let s : length (gather groupSaIn (groupSa p ∷ l)) ≡ 1 + length (gather groupSaIn l) = omega arith in
-    let w : length (gather wideOf l) ≡ 0 + length (gather wideOf l) = omega arith in
+    let s : length (flatMap groupSaIn (groupSa p ∷ l)) ≡ 1 + length (flatMap groupSaIn l) = omega arith in
+    let w : length (flatMap wideOf l) ≡ 0 + length (flatMap wideOf l) = omega arith in
     λ i. record {
       sas = s i;
-      esps = counted (isEsp p) (count isEsp (gather groupSaIn l)) i;
-      rekeys = counted (isRekey p) (count isRekey (gather groupSaIn l)) i;
+      esps = counted (isEsp p) (count isEsp (flatMap groupSaIn l)) i;
+      rekeys = counted (isRekey p) (count isRekey (flatMap groupSaIn l)) i;
       wides = w i;
       ah = f .ah;
       «two_lengths» = f .«two_lengths»;
@@ -127,14 +127,14 @@ one-more a (groupSa p) l =
       long = f .long;
       unfit = f .unfit;
       delay = sym (none-greater (f .delay)) i;
-      initial = greatest-join (givenBy p) (gather givenBy (gather groupSaIn l)) i;
+      initial = greatest-join (givenBy p) (flatMap givenBy (flatMap groupSaIn l)) i;
     }
 one-more a (groupWide w) l =
     let f = policyFactsOf a (groupWide w ∷ l) in
-    let s : length (gather groupSaIn l) ≡ 0 + length (gather groupSaIn l) = omega arith in
-    let e : count isEsp (gather groupSaIn l) ≡ 0 + count isEsp (gather groupSaIn l) = omega arith in
-    let r : count isRekey (gather groupSaIn l) ≡ 0 + count isRekey (gather groupSaIn l) = omega arith in
-    let v : length (gather wideOf (groupWide w ∷ l)) ≡ 1 + length (gather wideOf l) = omega arith in
+    let s : length (flatMap groupSaIn l) ≡ 0 + length (flatMap groupSaIn l) = omega arith in
+    let e : count isEsp (flatMap groupSaIn l) ≡ 0 + count isEsp (flatMap groupSaIn l) = omega arith in
+    let r : count isRekey (flatMap groupSaIn l) ≡ 0 + count isRekey (flatMap groupSaIn l) = omega arith in
+    let v : length (flatMap wideOf (groupWide w ∷ l)) ≡ 1 + length (flatMap wideOf l) = omega arith in
     λ i. record {
       sas = s i;
       esps = e i;
@@ -148,7 +148,7 @@ one-more a (groupWide w) l =
       elsewhere = f .elsewhere;
       long = f .long;
       unfit = f .unfit;
-      delay = greatest-join (w .deactivationDelays) (gather (λ (x : GroupWidePolicy). x .deactivationDelays) (gather wideOf l)) i;
+      delay = greatest-join (w .deactivationDelays) (flatMap (λ (x : GroupWidePolicy). x .deactivationDelays) (flatMap wideOf l)) i;
       initial = sym (none-greater (f .initial)) i;
     }
 

@@ -1,18 +1,17 @@
 -- What the policies give the member, where numbers 4 and 5 leave one delay and one first Message ID at most: the greatest is their sum.
 use Prim.Native.Nat.{ℕ, suc, _+_, _≤_}
 use mathlib.Core.Path.{_≡_, refl, ap, sym, _∙_}
-use mathlib.Core.List.{List, [], _∷_, _++_, append-nil}
+use mathlib.Core.List.{List, [], _∷_, _++_, append-nil, flatMap}
 use mathlib.Core.Bool.{Bool, true, false, cond, _||_}
 use native.Mathlib.Omega.{arith}
 use borrow.Author.Tests.{lt-ltb}
 use lib.ListN.{length}
 use lib.Dec.{ltb}
-use Rattle.state_keys.specs.Lists.{any, count}
-use Rattle.state_keys.proofs.Cases.{bool-cases, never}
+use Rattle.lists.specs.Lists.{any, count}
+use Rattle.lists.proofs.Cases.{bool-cases, never, or-none}
 use Rattle.wire_policies.specs.Policy.{GroupSaPolicy, GroupWidePolicy}
-use Rattle.rules_refusals.specs.Contents.{several, gather}
+use Rattle.rules_refusals.specs.Contents.{several}
 use Rattle.rules_refusals.specs.Fitness.{isRekey, sum}
-use Rattle.rules_refusals.proofs.Clear.{or-none}
 use Rattle.check_composition.specs.inner.Numbers.{greatest}
 use Rattle.check_composition.specs.inner.Facts.{givenBy}
 use Rattle.check_composition.proofs.NumberLaws.{greater-none}
@@ -38,8 +37,8 @@ sum-given l e = one-total l e
 -- ---- the deactivation delay
 pub delay-given : (l : List GroupWidePolicy) → several l ≡ false → any (λ (w : GroupWidePolicy). several (w .deactivationDelays)) l ≡ false
     → sum (λ (w : GroupWidePolicy). sum (λ (d : ℕ). d) (w .deactivationDelays)) l
-    ≡ greatest (gather (λ (w : GroupWidePolicy). w .deactivationDelays) l)
-unfolding total sum gather any greatest
+    ≡ greatest (flatMap (λ (w : GroupWidePolicy). w .deactivationDelays) l)
+unfolding total sum flatMap any greatest
 delay-given [] e f = refl
 delay-given (w ∷ []) e f =
     let d = w .deactivationDelays in
@@ -51,8 +50,8 @@ delay-given (w ∷ v ∷ l) e f = several-two w v l e
 abbrev sumOf : GroupSaPolicy → ℕ
 sumOf a = cond (isRekey a) (sum (λ (i : ℕ). i) (a .initialMessageIds)) 0
 
-none-given : (l : List GroupSaPolicy) → count isRekey l ≡ 0 → (sum sumOf l ≡ 0) × (gather givenBy l ≡ [])
-unfolding sum gather count
+none-given : (l : List GroupSaPolicy) → count isRekey l ≡ 0 → (sum sumOf l ≡ 0) × (flatMap givenBy l ≡ [])
+unfolding sum flatMap count
 none-given [] e = (refl, refl)
 none-given (a ∷ l) e =
     let n = count isRekey l in
@@ -62,12 +61,12 @@ none-given (a ∷ l) e =
     let r = none-given l (by false b) in (
       ap (λ (c : Bool). cond c (sum (λ (i : ℕ). i) (a .initialMessageIds)) 0 + sum sumOf l) b
           ∙ (let z : 0 + sum sumOf l ≡ 0 = omega (arith, r .0) in z),
-      ap (λ (c : Bool). cond c (a .initialMessageIds) [] ++ gather givenBy l) b ∙ r .1,
+      ap (λ (c : Bool). cond c (a .initialMessageIds) [] ++ flatMap givenBy l) b ∙ r .1,
     ))
 
 pub initial-given : (l : List GroupSaPolicy) → count isRekey l ≤ 1 → any (λ (a : GroupSaPolicy). several (a .initialMessageIds)) l ≡ false
-    → sum (λ (a : GroupSaPolicy). cond (isRekey a) (sum (λ (i : ℕ). i) (a .initialMessageIds)) 0) l ≡ greatest (gather givenBy l)
-unfolding total sum gather any count greatest
+    → sum (λ (a : GroupSaPolicy). cond (isRekey a) (sum (λ (i : ℕ). i) (a .initialMessageIds)) 0) l ≡ greatest (flatMap givenBy l)
+unfolding total sum flatMap any count greatest
 initial-given [] h e = refl
 initial-given (a ∷ l) h e =
     let n = count isRekey l in
@@ -83,4 +82,4 @@ initial-given (a ∷ l) h e =
     (λ b.
     let few : n ≤ 1 = by false b in
     (λ i. cond (b i) (total ids) 0 + sum sumOf l) ∙ (let z : 0 + sum sumOf l ≡ sum sumOf l = omega arith in z) ∙ initial-given l few (g .1)
-    ∙ sym (λ i. greatest (cond (b i) ids [] ++ gather givenBy l)))
+    ∙ sym (λ i. greatest (cond (b i) ids [] ++ flatMap givenBy l)))

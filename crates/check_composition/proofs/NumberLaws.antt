@@ -8,8 +8,8 @@ use borrow.Author.Tests.{ltb-true, ltb-false, lt-ltb, le-ltb, eqb-true}
 use lib.ListN.{length, drop, length-take, length-drop}
 use lib.Dec.{ltb, eqb}
 use Rattle.octets.specs.Walk.{part}
-use Rattle.state_keys.specs.Lists.{any}
-use Rattle.state_keys.proofs.Cases.{bool-cases, lt-cases}
+use Rattle.lists.specs.Lists.{any}
+use Rattle.lists.proofs.Cases.{bool-cases, lt-cases}
 use Rattle.wire_attributes.specs.Layout.{attributes}
 use Rattle.wire_attributes.specs.declared.tables.Place.{Place}
 use Rattle.wire_attributes.specs.declared.tables.Meaning.{Meaning}

@@ -7,7 +7,7 @@ use native.Mathlib.Omega.{arith}
 use lib.Dec.{ltb, eqb}
 use lib.ListN.{length, length-map}
 use Rattle.octets.proofs.Walks.{tail, to-end}
-use Rattle.state_keys.specs.Lists.{any, count}
+use Rattle.lists.specs.Lists.{any, count}
 use Rattle.wire_attributes.specs.Place.{inPolicy}
 use Rattle.wire_attributes.specs.Tree.{number16, number32, valuesOf}
 use Rattle.wire_attributes.specs.Layout.{attributes}
@@ -23,7 +23,7 @@ use Rattle.wire_readers.specs.declared.body.SaParts.{SaParts}
 use Rattle.state_sa.specs.Entry.{mostSeconds}
 use Rattle.rules_refusals.specs.Fitness.{oneGroupAddress}
 use Rattle.rules_refusals.specs.Number4.{twiceInTransform}
-use Rattle.rules_refusals.proofs.Gather.{any-count}
+use Rattle.rules_refusals.proofs.FlatMap.{any-count}
 use Rattle.check_suites.specs.inner.Adding.{once}
 use Rattle.check_suites.specs.inner.Suites.{suiteOf, fitBy}
 use Rattle.check_suites.specs.declared.counts.SuiteCounts.{SuiteCounts}

@@ -20,6 +20,7 @@ ghost use Rattle.check_composition.specs.inner.Facts.{PolicyBodyHolds, F
 use ikev2_numbers::AH;
 use ikev2_numbers::ESP;
 use ikev2_numbers::GIKE_UPDATE;
+use ikev2_numbers::NO_PROTOCOL;
 use numbers::Numbers;
 use numbers::greater_u16;
 use numbers::greater_u32;
@@ -143,7 +144,7 @@ fn of_policy(authentication: bool, first: usize, o: &[u8]) -> PolicyFacts
     requires { ⌜ PolicyBodyHolds first (now o) ⌝ }
     ensures { λ r. ⌜ FactsOfPolicy authentication first (now (o .entry)) r ⌝ }
 {
-    if first == 0 {
+    if first == NO_PROTOCOL {
         return of_wide(numbers_of(Meaning::DeactivationDelay, Place::GroupWidePolicy, o));
     }
     of_sa(authentication, first, o)

@@ -69,7 +69,8 @@ fn number_of(m: Meaning, v: &[u8]) -> u32
 
 // Adds to `n` the number in `v`, the value of an attribute with meaning `m`.
 fn with_number(m: Meaning, n: Numbers, v: &[u8]) -> Numbers
-    requires { ⌜ (isNumber m ≡ true) × (valueSize m (length (now v)) ≡ true) × (n .count < 18446744073709551615) × (n .greatest ≤ most m) ⌝ }
+    requires { ⌜ (isNumber m ≡ true) × (valueSize m (length (now v)) ≡ true) × (n .count < 18446744073709551615)
+        × (n .greatest ≤ most m) ⌝ }
     ensures { λ r. ⌜ (r ≡ withNumber m n (now (v .entry))) × (r .greatest ≤ most m) ⌝ }
 {
     let x = number_of(m, v);

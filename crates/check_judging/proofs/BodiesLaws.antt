@@ -5,7 +5,7 @@ use mathlib.Core.Path.{_≡_, sym}
 use mathlib.Core.Bool.{Bool, false}
 use mathlib.Core.List.{List}
 use borrow.Author.Tests.{ltb-false}
-use Rattle.state_keys.specs.Lists.{count}
+use Rattle.lists.specs.Lists.{count}
 use Rattle.wire_frames.specs.Frame.{Frame}
 use Rattle.check_payloads.specs.declared.PayloadFacts.{PayloadFacts}
 use Rattle.check_payloads.proofs.FoundLaws.{OfFrame}

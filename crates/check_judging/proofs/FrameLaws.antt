@@ -30,9 +30,9 @@ use Rattle.check_judging.specs.inner.Facts.{at, frameFactsOf}
 use Rattle.check_judging.specs.inner.Tests.{number4By, number5By, number6By, number7By}
 use Rattle.check_judging.proofs.OrderLaws.{applying, passing, none-judged, stand}
 use Rattle.check_judging.proofs.BodiesLaws.{one-gsa-at-most, one-kd-at-most}
-use Rattle.check_judging.proofs.FourLaws.{policies-are, bags-are, four-is}
-use Rattle.check_judging.proofs.FiveLaws.{five-is, seven-is}
-use Rattle.check_judging.proofs.SixLaws.{six-is}
+use Rattle.check_judging.proofs.Number4Laws.{policies-are, bags-are, number4-is}
+use Rattle.check_judging.proofs.Number5Laws.{number5-is, number7-is}
+use Rattle.check_judging.proofs.Number6Laws.{number6-is}
 
 module _ (state : State) (tick : ℕ) (lent s : List ℕ) (few : state .table .count ≤ limits .sas) (row : Exchange) (x : Facts)
     (w : x ≡ frameFactsOf (state .profile) row s) where
@@ -78,8 +78,8 @@ module _ (state : State) (tick : ℕ) (lent s : List ℕ) (few : state .table .c
 
   -- ---- each number of a frame that reads so
   module _ (f : Frame) (q : frame (state .profile) s ≡ whole f []) (e : rowOf f ≡ row) where
-    four-at : (y : Bool) → y ≡ one (number4By row x) → y ≡ applies (number4 f)
-    four-at y h = h ∙ four-is fresh s f b (its-payloads f q e) row e p k policies-in bags-in
+    number4-at : (y : Bool) → y ≡ one (number4By row x) → y ≡ applies (number4 f)
+    number4-at y h = h ∙ number4-is fresh s f b (its-payloads f q e) row e p k policies-in bags-in
 
     module _ (none : false ≡ applies (number4 f)) where
       gsas : b .gsas ≤ 1
@@ -94,24 +94,24 @@ module _ (state : State) (tick : ℕ) (lent s : List ℕ) (few : state .table .c
       its-bags : k ≡ bagFacts limits (bagsOf f)
       its-bags = bags-are fresh s f b (its-payloads f q e) row e p k policies-in bags-in kds
 
-      five-at : (y : Bool) → y ≡ one (number5By row (length lent) x) → y ≡ applies (number5 lent f)
-      five-at y h = h ∙ five-is f row e d (its-payloads f q e .deletion) p k its-policies its-bags lent
+      number5-at : (y : Bool) → y ≡ one (number5By row (length lent) x) → y ≡ applies (number5 lent f)
+      number5-at y h = h ∙ number5-is f row e d (its-payloads f q e .deletion) p k its-policies its-bags lent
 
-      six-at : (y : Bool)
+      number6-at : (y : Bool)
           → ((l m : List Name) → Names gsaIn l → Names kdIn m → y ≡ one (number6By row x l m tick (sasOf (state .table))))
           → y ≡ applies (number6 state tick f)
-      six-at y h =
+      number6-at y h =
           let is = its-payloads f q e in
           h (policyNames (policiesIn gsaIn)) (bagNames (bagsIn fresh kdIn)) (policy-names gsaIn (is .gsaWhole))
           (bag-names fresh kdIn (is .kdWhole))
           ∙ (λ i. one (number6By row x (policyNames (is .policies gsas .all i)) (bagNames (is .bags kds .all i)) tick
           (sasOf (state .table))))
-          ∙ six-is row f e k its-bags state tick
+          ∙ number6-is row f e k its-bags state tick
 
-      seven-at : (y : Bool) (n : ℕ) → n ≡ standingCount limits tick (state .table) → y ≡ one (number7By limits x n)
+      number7-at : (y : Bool) (n : ℕ) → n ≡ standingCount limits tick (state .table) → y ≡ one (number7By limits x n)
           → y ≡ applies (number7 limits state tick f)
-      seven-at y n u h =
-          h ∙ seven-is f row e d (its-payloads f q e .deletion) p k its-policies its-bags state tick n
+      number7-at y n u h =
+          h ∙ number7-is f row e d (its-payloads f q e .deletion) p k its-policies its-bags state tick n
           (u ∙ stand limits tick (state .table) few)
 
   -- ---- the first that applies
@@ -120,24 +120,24 @@ module _ (state : State) (tick : ℕ) (lent s : List ℕ) (few : state .table .c
 
   module _ (x4 : Bool) (h4 : x4 ≡ one (number4By row x)) where
     pub at-4 : x4 ≡ true → Judged 4
-    at-4 t = λ f q e. applying (number4 f) _ (sym t ∙ four-at f q e x4 h4)
+    at-4 t = λ f q e. applying (number4 f) _ (sym t ∙ number4-at f q e x4 h4)
 
     module _ (n4 : x4 ≡ false) (x5 : Bool) (h5 : x5 ≡ one (number5By row (length lent) x)) where
       none-4 : (f : Frame) → frame (state .profile) s ≡ whole f [] → rowOf f ≡ row → false ≡ applies (number4 f)
-      none-4 f q e = sym n4 ∙ four-at f q e x4 h4
+      none-4 f q e = sym n4 ∙ number4-at f q e x4 h4
 
       pub at-5 : x5 ≡ true → Judged 5
       at-5 t = λ f q e.
           let n = none-4 f q e in
-          passing (number4 f) _ 5 n (applying (number5 lent f) _ (sym t ∙ five-at f q e n x5 h5))
+          passing (number4 f) _ 5 n (applying (number5 lent f) _ (sym t ∙ number5-at f q e n x5 h5))
 
       module _ (n5 : x5 ≡ false) (x6 : Bool)
           (h6 : (l m : List Name) → Names gsaIn l → Names kdIn m → x6 ≡ one (number6By row x l m tick (sasOf (state .table)))) where
         pub at-6 : x6 ≡ true → Judged 6
         at-6 t = λ f q e.
             let n = none-4 f q e in
-            passing (number4 f) _ 6 n (passing (number5 lent f) _ 6 (sym n5 ∙ five-at f q e n x5 h5)
-            (applying (number6 state tick f) _ (sym t ∙ six-at f q e n x6 h6)))
+            passing (number4 f) _ 6 n (passing (number5 lent f) _ 6 (sym n5 ∙ number5-at f q e n x5 h5)
+            (applying (number6 state tick f) _ (sym t ∙ number6-at f q e n x6 h6)))
 
         module _ (n6 : x6 ≡ false) (m : ℕ) (u : m ≡ standingCount limits tick (state .table)) (x7 : Bool)
             (h7 : x7 ≡ one (number7By limits x m)) where
@@ -145,8 +145,8 @@ module _ (state : State) (tick : ℕ) (lent s : List ℕ) (few : state .table .c
               → Judged r
           after-6 r h = λ f q e.
               let n = none-4 f q e in
-              passing (number4 f) _ r n (passing (number5 lent f) _ r (sym n5 ∙ five-at f q e n x5 h5)
-              (passing (number6 state tick f) _ r (sym n6 ∙ six-at f q e n x6 h6) (h f (seven-at f q e n x7 m u h7))))
+              passing (number4 f) _ r n (passing (number5 lent f) _ r (sym n5 ∙ number5-at f q e n x5 h5)
+              (passing (number6 state tick f) _ r (sym n6 ∙ number6-at f q e n x6 h6) (h f (number7-at f q e n x7 m u h7))))
 
           pub at-7 : x7 ≡ true → Judged 7
           at-7 t = after-6 7 (λ f h. applying (number7 limits state tick f) [] (sym t ∙ h))

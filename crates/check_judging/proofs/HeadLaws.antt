@@ -2,14 +2,14 @@
 use native.Mathlib.Omega.{arith}
 use Prim.Native.Nat.{ℕ, _≤_}
 use mathlib.Core.Path.{_≡_, refl, ap, sym, _∙_}
-use mathlib.Core.Bool.{Bool, true, false, not}
+use mathlib.Core.Bool.{Bool, true, false, not, cond}
 use mathlib.Core.List.{List, []}
 use lib.ListN.{take}
 use Rattle.octets.specs.Numbers.{oct}
-use Rattle.octets.specs.Walk.{be32, either, whole, mapped}
+use Rattle.octets.specs.Walk.{be32, whole, mapped}
 use Rattle.octets.proofs.Inverse.{inverse-opened}
 use Rattle.state_keys.specs.Limits.{Limits}
-use Rattle.state_keys.proofs.Cases.{never, and-parts}
+use Rattle.lists.proofs.Cases.{never, and-parts, or-none}
 use Rattle.wire_frames.specs.Header.{firstPayload, headerFits}
 use Rattle.wire_frames.specs.inner.Answers.{headerRead}
 use Rattle.wire_frames.specs.Frame.{Frame, frame, frameOf, framePayloads}
@@ -25,13 +25,13 @@ use Rattle.state.specs.State.{stateFormed}
 use Rattle.state.specs.Held.{heldFormed}
 use Rattle.rules_refusals.specs.Contents.{rowOf}
 use Rattle.rules_refusals.specs.Refusals.{one, applies, judged, number2, number3, onFrame, refusal}
-use Rattle.rules_refusals.proofs.Clear.{or-none, no-clause}
+use Rattle.rules_refusals.proofs.Clear.{no-clause}
 use Rattle.check_judging.proofs.OrderLaws.{applying, passing}
 
 header-fields : (s : List ℕ) (p x i : ℕ) → header.Header p x i ≡ headerRead s → (x ≡ oct s 18) × (i ≡ be32 s 20)
 header-fields s p x i e = by (headerFits s) e
   where
-    by : (b : Bool) → header.Header p x i ≡ either b (header.Header (firstPayload s) (oct s 18) (be32 s 20)) header.Broken
+    by : (b : Bool) → header.Header p x i ≡ cond b (header.Header (firstPayload s) (oct s 18) (be32 s 20)) header.Broken
         → (x ≡ oct s 18) × (i ≡ be32 s 20)
     by true g = (cc, cc)
     by false g = let z : _≡_ {A = ℕ} 0 1 = cc in absurd (omega arith)
@@ -47,8 +47,8 @@ module _ (limits : Limits) (state : State) (tick : ℕ) (lent s : List ℕ) (f :
   two-is : applies (number2 limits state tick x (take 16 s)) ≡ applies (number2 limits state tick (f .header .exchange) (f .header .spi))
   two-is = λ j. applies (number2 limits state tick (exchange-is j) (read-frame (state .profile) s f [] q .spi j))
 
-  three-is : applies (number3 state x i) ≡ applies (number3 state (f .header .exchange) (f .header .messageId))
-  three-is = λ j. applies (number3 state (exchange-is j) (id-is j))
+  number3-is : applies (number3 state x i) ≡ applies (number3 state (f .header .exchange) (f .header .messageId))
+  number3-is = λ j. applies (number3 state (exchange-is j) (id-is j))
 
   pub row-is : (r : Exchange) → r ≡ exchangeOf x → rowOf f ≡ r
   row-is r g = sym (g ∙ ap exchangeOf exchange-is)
@@ -62,14 +62,14 @@ module _ (limits : Limits) (state : State) (tick : ℕ) (lent s : List ℕ) (f :
   unfolding refusal
   at-3 g h =
       passing (number2 limits state tick (f .header .exchange) (f .header .spi)) _ 3 (g ∙ two-is)
-      (applying (number3 state (f .header .exchange) (f .header .messageId)) _ (h ∙ three-is))
+      (applying (number3 state (f .header .exchange) (f .header .messageId)) _ (h ∙ number3-is))
 
   pub further : (r : ℕ) → false ≡ applies (number2 limits state tick x (take 16 s)) → false ≡ applies (number3 state x i)
       → r ≡ judged (onFrame limits state tick lent f) → r ≡ refusal limits state tick lent f
   unfolding refusal
   further r g h k =
       passing (number2 limits state tick (f .header .exchange) (f .header .spi)) _ r (g ∙ two-is)
-      (passing (number3 state (f .header .exchange) (f .header .messageId)) _ r (h ∙ three-is) k)
+      (passing (number3 state (f .header .exchange) (f .header .messageId)) _ r (h ∙ number3-is) k)
 
 -- a member that keeps its list
 pub few-sas : (limits : Limits) (state : State) (tick x : ℕ) (spi : List ℕ) → false ≡ applies (number2 limits state tick x spi)

@@ -2,9 +2,9 @@ pub mod Tests
 pub mod OrderLaws
 pub mod BodiesLaws
 pub mod HeadLaws
-pub mod FourLaws
-pub mod FiveLaws
-pub mod SixLaws
+pub mod Number4Laws
+pub mod Number5Laws
+pub mod Number6Laws
 pub mod FrameLaws
 pub mod MemberLaws
 pub mod VerdictLaws

@@ -1,15 +1,15 @@
 -- What stands where the facts say that the Member Key Bag does: all WRAP_KEYs of a KD body that has one such bag at most.
 use Prim.Native.Nat.{ℕ, zero, suc, _+_, _<_, _≤_}
 use mathlib.Core.Path.{_≡_, refl, ap, sym, _∙_, subst}
-use mathlib.Core.List.{List, [], _∷_, append-nil}
-use mathlib.Core.Bool.{Bool, true, false, false≢true}
+use mathlib.Core.List.{List, [], _∷_, append-nil, flatMap}
+use mathlib.Core.Bool.{Bool, true, false, false≢true, cond}
 use native.Mathlib.Omega.{arith}
 use borrow.Author.Tests.{eqb-true}
 use lib.ListN.{length, drop}
 use lib.Dec.{eqb}
-use Rattle.octets.specs.Walk.{part, either, Reading, whole}
+use Rattle.octets.specs.Walk.{part, Reading, whole}
 use Rattle.octets.proofs.Walks.{tail, many-none}
-use Rattle.state_keys.proofs.Cases.{bool-cases, lt-cases}
+use Rattle.lists.proofs.Cases.{bool-cases, lt-cases}
 use Rattle.wire_attributes.specs.Attribute.{Attribute}
 use Rattle.wire_attributes.specs.Tree.{WrapKey, valuesOf, wrapKeys}
 use Rattle.wire_attributes.specs.Layout.{attribute, attributes}
@@ -22,7 +22,7 @@ use Rattle.wire_readers.specs.inner.Bags.{bagsIn}
 use Rattle.wire_readers.specs.declared.Stretch.{Stretch}
 use Rattle.wire_readers.specs.declared.policy.Parts.{Parts}
 use Rattle.wire_readers.proofs.BagsLaws.{bag-is, fits-first}
-use Rattle.rules_refusals.specs.Contents.{gather, memberBagOf}
+use Rattle.rules_refusals.specs.Contents.{memberBagOf}
 use Rattle.check_bagkeys.specs.inner.Facts.{wrapsIn}
 use Rattle.check_bagkeys.specs.inner.Places.{memberFrom, memberIn}
 use Rattle.check_bagkeys.proofs.BagAt.{BagAt, no-bags, bag-there, bag-at}
@@ -37,29 +37,29 @@ pub record MemberIs (k : List ℕ) (l : List Bag) (x : Stretch) : Type 0 where
   pub inside : x .end ≤ length k
 
 abbrev keysIn : List MemberKeyBag → List WrapKey
-keysIn l = gather (λ (b : MemberKeyBag). b .keys) l
+keysIn l = flatMap (λ (b : MemberKeyBag). b .keys) l
 
 -- ---- a bag that is a Member Key Bag or not, at the front
 taken : (t : Bool) (m : MemberKeyBag) (b : GroupKeyBag) (l : List Bag) → t ≡ true →
-    gather memberBagOf (either t (memberKeys m) (groupKeys b) ∷ l) ≡ m ∷ gather memberBagOf l
-unfolding gather
+    flatMap memberBagOf (cond t (memberKeys m) (groupKeys b) ∷ l) ≡ m ∷ flatMap memberBagOf l
+unfolding flatMap
 taken true m b l e = refl
 taken false m b l e = absurd (false≢true e)
 
 passed : (t : Bool) (m : MemberKeyBag) (b : GroupKeyBag) (l : List Bag) → t ≡ false →
-    gather memberBagOf (either t (memberKeys m) (groupKeys b) ∷ l) ≡ gather memberBagOf l
-unfolding gather
+    flatMap memberBagOf (cond t (memberKeys m) (groupKeys b) ∷ l) ≡ flatMap memberBagOf l
+unfolding flatMap
 passed true m b l e = absurd (false≢true (sym e))
 passed false m b l e = refl
 
 only-one : (m : MemberKeyBag) (l : List MemberKeyBag) → length (m ∷ l) ≤ 1 → keysIn (m ∷ l) ≡ m .keys
-unfolding gather
+unfolding flatMap
 only-one m [] h = append-nil (m .keys)
 only-one m (a ∷ l) h = absurd (omega arith)
 
 module _ (fresh : Bool) (k : List ℕ) where
   none : (l : List Bag) → l ≡ [] → MemberIs k l nowhere
-  unfolding gather valuesOf
+  unfolding flatMap valuesOf
   none l e =
       let a : attributes MemberBag 0 [] ≡ whole [] [] = many-none (attribute MemberBag) (takes MemberBag) 0 [] refl in
       record {
@@ -70,12 +70,12 @@ module _ (fresh : Bool) (k : List ℕ) where
       }
 
   module _ (at : ℕ) (r : Parts) (b : BagAt fresh k at r) where
-    here : eqb (r .first) 0 ≡ true → length (gather memberBagOf (bagsIn fresh (drop at k))) ≤ 1 →
+    here : eqb (r .first) 0 ≡ true → length (flatMap memberBagOf (bagsIn fresh (drop at k))) ≤ 1 →
         MemberIs k (bagsIn fresh (drop at k)) (record { start = at + r .body; end = at + r .end })
     here t few =
         let s = part k (at + r .body) (at + r .end) in
         let p : placeOf fresh (r .first) ≡ MemberBag = ap (placeOf fresh) (eqb-true (r .first) 0 t) in
-        let g = ap (gather memberBagOf) (b .item) ∙ taken (eqb (r .first) 0) _ _ _ t in
+        let g = ap (flatMap memberBagOf) (b .item) ∙ taken (eqb (r .first) 0) _ _ _ t in
         record {
           keys = ap keysIn g ∙ only-one _ _ (subst (λ (l : List MemberKeyBag). length l ≤ 1) g few)
               ∙ ap (λ (q : Place). wrapKeys MemberBag (attributesIn q s)) p;
@@ -84,8 +84,9 @@ module _ (fresh : Bool) (k : List ℕ) where
           inside = b .inside;
         }
 
-    later : eqb (r .first) 0 ≡ false → gather memberBagOf (bagsIn fresh (drop at k)) ≡ gather memberBagOf (bagsIn fresh (drop (at + r .end) k))
-    later t = ap (gather memberBagOf) (b .item) ∙ passed (eqb (r .first) 0) _ _ _ t
+    later : eqb (r .first) 0 ≡ false → flatMap memberBagOf (bagsIn fresh (drop at k))
+        ≡ flatMap memberBagOf (bagsIn fresh (drop (at + r .end) k))
+    later t = ap (flatMap memberBagOf) (b .item) ∙ passed (eqb (r .first) 0) _ _ _ t
 
   a-bag : (at : ℕ) → at < length k → isWhole (bags fresh 0 (drop at k)) ≡ true → (r : Parts) × BagAt fresh k at r
   a-bag at h e =
@@ -95,11 +96,13 @@ module _ (fresh : Bool) (k : List ℕ) where
             (heads (tail k at) (fits-first fresh (tail k at) (t .1) (t .0)))),
       )
 
-  from : (n at : ℕ) → length k ≤ at + n → isWhole (bags fresh 0 (drop at k)) ≡ true → length (gather memberBagOf (bagsIn fresh (drop at k))) ≤ 1
+  from : (n at : ℕ) → length k ≤ at + n → isWhole (bags fresh 0 (drop at k)) ≡ true
+      → length (flatMap memberBagOf (bagsIn fresh (drop at k))) ≤ 1
       → MemberIs k (bagsIn fresh (drop at k)) (memberFrom n at k)
   from zero at m e few =
       let h : length k ≤ at = omega (arith, m) in
-      subst (MemberIs k (bagsIn fresh (drop at k))) (sym (nothing-from fresh k 0 at h)) (none (bagsIn fresh (drop at k)) (no-bags fresh k at h))
+      subst (MemberIs k (bagsIn fresh (drop at k))) (sym (nothing-from fresh k 0 at h))
+      (none (bagsIn fresh (drop at k)) (no-bags fresh k at h))
   from (suc n) at m e few =
       lt-cases at (length k)
       (λ h.
@@ -113,8 +116,9 @@ module _ (fresh : Bool) (k : List ℕ) where
       (subst (λ (l : List MemberKeyBag). length l ≤ 1) g few) in
       subst (MemberIs k (bagsIn fresh (drop at k))) (sym (member-later fresh k n at h r (a .1) t))
       (record { keys = ap keysIn g ∙ i .keys; held = i .held; order = i .order; inside = i .inside })))
-      (λ h. subst (MemberIs k (bagsIn fresh (drop at k))) (sym (nothing-from fresh k (suc n) at h)) (none (bagsIn fresh (drop at k)) (no-bags fresh k at h)))
+      (λ h. subst (MemberIs k (bagsIn fresh (drop at k))) (sym (nothing-from fresh k (suc n) at h))
+      (none (bagsIn fresh (drop at k)) (no-bags fresh k at h)))
 
-  pub member-is : (x : Stretch) → x ≡ memberIn k → isWhole (bags fresh 0 k) ≡ true → length (gather memberBagOf (bagsIn fresh k)) ≤ 1
+  pub member-is : (x : Stretch) → x ≡ memberIn k → isWhole (bags fresh 0 k) ≡ true → length (flatMap memberBagOf (bagsIn fresh k)) ≤ 1
       → MemberIs k (bagsIn fresh k) x
   member-is x e w few = subst (MemberIs k (bagsIn fresh k)) (sym e) (from (length k) 0 (omega arith) w few)

@@ -1,9 +1,9 @@
 -- Tests joined from the left, as code has them, are one of a list.
 use mathlib.Core.Path.{_≡_, refl, ap, sym, _∙_}
 use mathlib.Core.List.{List, [], _∷_}
-use mathlib.Core.Bool.{Bool, true, false, _||_}
+use mathlib.Core.Bool.{Bool, true, false, _||_, or-true, or-false}
 use Rattle.rules_refusals.specs.Refusals.{one}
-use Rattle.rules_refusals.proofs.OneOf.{or-true, or-false, or-joined}
+use Rattle.rules_refusals.proofs.OneOf.{or-joined}
 
 unfoldable pub joinedTo : Bool → List Bool → Bool
 joinedTo a [] = a

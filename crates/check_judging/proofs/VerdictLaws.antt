@@ -1,12 +1,11 @@
 -- A verdict, by the number that applies first.
 use Prim.Native.Nat.{ℕ}
 use mathlib.Core.Path.{_≡_, refl, ap, sym, _∙_}
-use mathlib.Core.Bool.{Bool, true, false, false≢true}
+use mathlib.Core.Bool.{Bool, true, false, false≢true, cond}
 use native.Mathlib.Omega.{arith}
 use borrow.Author.Tests.{eq-eqb, ne-eqb, eqb-true, eqb-false}
 use lib.Dec.{eqb}
-use Rattle.octets.specs.Walk.{either}
-use Rattle.state_keys.proofs.Cases.{bool-cases}
+use Rattle.lists.proofs.Cases.{bool-cases}
 use Rattle.check_judging.specs.declared.facts.Facts.{Facts}
 use Rattle.check_judging.specs.declared.refusal.Verdict.{Verdict}
 use Rattle.check_judging.specs.declared.refusal.Verdict.the-variants as verdict
@@ -15,11 +14,11 @@ use Rattle.check_judging.specs.inner.Verdicts.{verdictBy}
 module _ (n : ℕ) (x : Facts) where
   pub as-refused : (m : ℕ) → m ≡ n → (n ≡ 0 → ⊥) → verdict.Refused m ≡ verdictBy n x
   as-refused m e z = ap (λ (k : ℕ). verdict.Refused k) e ∙ sym
-      (ap (λ (b : Bool). either b (verdict.Passed x) (verdict.Refused n)) (ne-eqb n 0 z))
+      (ap (λ (b : Bool). cond b (verdict.Passed x) (verdict.Refused n)) (ne-eqb n 0 z))
 
   pub as-passed : (y : Facts) → y ≡ x → n ≡ 0 → verdict.Passed y ≡ verdictBy n x
   as-passed y e z =
-      ap (λ (k : Facts). verdict.Passed k) e ∙ sym (ap (λ (b : Bool). either b (verdict.Passed x) (verdict.Refused n)) (eq-eqb n 0 z))
+      ap (λ (k : Facts). verdict.Passed k) e ∙ sym (ap (λ (b : Bool). cond b (verdict.Passed x) (verdict.Refused n)) (eq-eqb n 0 z))
 
   -- ---- what a verdict says
   abbrev isPassed : Verdict → Bool
@@ -40,9 +39,9 @@ module _ (n : ℕ) (x : Facts) where
   pub refused-so : (m : ℕ) → verdict.Refused m ≡ verdictBy n x → (m ≡ n) × (n ≡ 0 → ⊥)
   refused-so m e =
       let f : eqb n 0 ≡ false = sym (ap isPassed e ∙ passed-by) in
-      (ap numberIn e ∙ ap (λ (b : Bool). numberIn (either b (verdict.Passed x) (verdict.Refused n))) f, eqb-false n 0 f)
+      (ap numberIn e ∙ ap (λ (b : Bool). numberIn (cond b (verdict.Passed x) (verdict.Refused n))) f, eqb-false n 0 f)
 
   pub passed-so : (y : Facts) → verdict.Passed y ≡ verdictBy n x → (n ≡ 0) × (y ≡ x)
   passed-so y e =
       let t : eqb n 0 ≡ true = sym (ap isPassed e ∙ passed-by) in
-      (eqb-true n 0 t, ap factsIn e ∙ ap (λ (b : Bool). factsIn (either b (verdict.Passed x) (verdict.Refused n))) t)
+      (eqb-true n 0 t, ap factsIn e ∙ ap (λ (b : Bool). factsIn (cond b (verdict.Passed x) (verdict.Refused n))) t)

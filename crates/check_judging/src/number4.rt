@@ -6,7 +6,7 @@ ghost use Rattle.rules_refusals.specs.Refusals.{one};
 ghost use Rattle.check_judging.specs.inner.Tests.{number4By, number4In};
 
 // Whether each clause of number 4 applies, in the order of documents 01 and 02.
-pub struct Four {
+pub struct Clauses4 {
     pub critical: bool,
     pub member_bag: bool,
     pub delete: bool,
@@ -27,7 +27,7 @@ pub struct Four {
 }
 
 // Judges each clause of number 4 for a frame with the facts `x`. `row` is the row of its exchange.
-pub fn clauses_4(row: Exchange, x: Facts) -> Four
+pub fn clauses_4(row: Exchange, x: Facts) -> Clauses4
     ensures { λ r. ⌜ number4In r ≡ number4By row x ⌝ }
 {
     let b = x.payloads;
@@ -36,7 +36,7 @@ pub fn clauses_4(row: Exchange, x: Facts) -> Four
     let gsa = 0 < b.gsas;
     let kd = 0 < b.kds;
     let deletes = 0 < b.deletes;
-    Four {
+    Clauses4 {
         // "critical unknown payload"
         critical: b.critical,
         // "Member bag in a rekey", of either kind

@@ -7,7 +7,7 @@ ghost use Rattle.rules_refusals.specs.Refusals.{one};
 ghost use Rattle.check_judging.specs.inner.Tests.{number5By, number5In};
 
 // Whether each clause of number 5 applies, in the order of document 01.
-pub struct Five {
+pub struct Clauses5 {
     pub ah_policy: bool,
     pub ah_bag: bool,
     pub unfit: bool,
@@ -18,7 +18,7 @@ pub struct Five {
 
 // Judges each clause of number 5 for a frame with the facts `x`. `row` is the row of its exchange, `lent` the size of the lent key in
 // octets.
-pub fn clauses_5(row: Exchange, lent: usize, x: Facts) -> Five
+pub fn clauses_5(row: Exchange, lent: usize, x: Facts) -> Clauses5
     ensures { λ r. ⌜ number5In r ≡ number5By row lent x ⌝ }
 {
     let b = x.payloads;
@@ -35,7 +35,7 @@ pub fn clauses_5(row: Exchange, lent: usize, x: Facts) -> Five
     let none = d.none;
     // "a lent default key not of 16, 24 or 32 octets in a registration", by T-02 in GSA_INBAND_REKEY too
     let key = row.judges_lent_key & !WrappingKey::is_size(lent);
-    Five {
+    Clauses5 {
         ah_policy,
         ah_bag,
         unfit,

@@ -23,7 +23,7 @@ fn is_over(standing: usize, more: usize) -> bool
 }
 
 // Whether each clause of number 7 applies: those on the frame, then the one on the table.
-pub struct Seven {
+pub struct Clauses7 {
     pub esps: bool,
     pub wraps: bool,
     pub overfull: bool,
@@ -34,7 +34,7 @@ pub struct Seven {
 }
 
 // Judges each clause of number 7 for a frame with the facts `x`. `standing` is the number of SAs in the table that are not due.
-pub fn clauses_7(x: Facts, standing: usize) -> Seven
+pub fn clauses_7(x: Facts, standing: usize) -> Clauses7
     ensures { λ r. ⌜ number7In r ≡ number7By limits x standing ⌝ }
 {
     let b = x.payloads;
@@ -55,7 +55,7 @@ pub fn clauses_7(x: Facts, standing: usize) -> Seven
     let fresh = FRESH_KEYS < k.fresh;
     // "or over 16 SAs after the frame, those already due when it arrives not counted", by T-01 64
     let sas = is_over(standing, p.sas);
-    Seven {
+    Clauses7 {
         esps,
         wraps,
         overfull,

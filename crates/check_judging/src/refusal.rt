@@ -57,7 +57,7 @@ fn on_facts(state: State, row: Exchange, s: &[u8], x: Facts, lent: &[u8], tick: 
     if number_6(row, x, &s[a..e], &s[i..j], t, tick) {
         return 6;
     }
-    if number_7(x, t.standing(tick)) {
+    if number_7(x, t.count_standing(tick)) {
         return 7;
     }
     0

@@ -6,7 +6,7 @@ use mathlib.Core.Bool.{Bool, true, false, cond}
 use native.Mathlib.Omega.{arith}
 use lib.ListN.{length, drop}
 use Rattle.octets.specs.Walk.{part}
-use Rattle.state_keys.specs.Lists.{any, count}
+use Rattle.lists.specs.Lists.{any, count}
 use Rattle.wire_readers.specs.declared.policy.Parts.{Parts}
 use Rattle.check_pairing.specs.inner.Names.{Name, nameOf, nameAt, Names}
 use Rattle.check_pairing.proofs.OneName.{name-counted}

@@ -6,12 +6,12 @@ use mathlib.Core.Bool.{Bool, true, false, _||_, _&&_}
 use native.Mathlib.Omega.{arith}
 use lib.ListN.{length, take, drop, getD}
 use lib.Dec.{ltb}
-use Rattle.state_keys.specs.Lists.{any, count}
-use Rattle.state_keys.proofs.Parts.{part-cons, part-end}
+use Rattle.lists.specs.Lists.{any, count}
+use Rattle.lists.proofs.Parts.{part-cons, part-end}
 use Rattle.state_sa.specs.Entry.{named, due, saSpi, saSpiSize}
 use Rattle.state_sa.specs.declared.entry.Sa.{Sa}
 use Rattle.state_table.specs.Table.{stays, notDue}
-use Rattle.rules_refusals.proofs.Gather.{any-count}
+use Rattle.rules_refusals.proofs.FlatMap.{any-count}
 use Rattle.check_pairing.specs.inner.Names.{Name, isNamed, isAnnounced}
 use Rattle.check_pairing.proofs.ListLaws.{same-swap, eqb-swap, any-keep, any-swap}
 

@@ -7,8 +7,8 @@ use borrow.Author.Tests.{eq-eqb, ne-eqb, eqb-true, eqb-false}
 use lib.Dec.{eqb}
 use Rattle.octets.specs.Compare.{same}
 use Rattle.octets.proofs.Order.{same-eq, eq-same}
-use Rattle.state_keys.specs.Lists.{any, keep}
-use Rattle.state_keys.proofs.Cases.{bool-cases, never}
+use Rattle.lists.specs.Lists.{any, keep}
+use Rattle.lists.proofs.Cases.{bool-cases, never}
 
 -- ---- the same both ways round
 pub same-swap : (x y : List ℕ) → same x y ≡ same y x

@@ -1,17 +1,17 @@
 -- The names of the policies of a GSA's body and of the bags of a KD's body.
 use Prim.Native.Nat.{ℕ, zero, suc, _+_, _<_}
 use mathlib.Core.Path.{_≡_, refl, ap, sym, _∙_, subst}
-use mathlib.Core.List.{List, [], _∷_, _++_, map}
-use mathlib.Core.Bool.{Bool, true, false}
+use mathlib.Core.List.{List, [], _∷_, _++_, map, flatMap}
+use mathlib.Core.Bool.{Bool, true, false, cond}
 use native.Mathlib.Omega.{arith}
 use borrow.Author.Tests.{eqb-true, eqb-false}
 use lib.ListN.{length, drop, length-drop}
 use lib.Dec.{eqb}
 use Rattle.octets.proofs.Numerals.{be16-is}
 use Rattle.octets.specs.Numbers.{oct}
-use Rattle.octets.specs.Walk.{be16, either, Reading}
+use Rattle.octets.specs.Walk.{be16, Reading}
 use Rattle.octets.proofs.Walks.{many-none}
-use Rattle.state_keys.proofs.Cases.{bool-cases, lt-cases}
+use Rattle.lists.proofs.Cases.{bool-cases, lt-cases}
 use Rattle.wire_policies.specs.Policy.{headSize, headFits, Policy, GroupSaPolicy, policy, policies}
 use Rattle.wire_policies.proofs.PolicyLaws.{takes}
 use Rattle.wire_policies.proofs.HeadLaws.{head-is}
@@ -22,7 +22,7 @@ use Rattle.wire_readers.specs.inner.Bags.{bagsIn}
 use Rattle.wire_readers.specs.declared.policy.Parts.{Parts}
 use Rattle.wire_readers.proofs.PoliciesLaws.{policy-is, fits-first as policy-fits}
 use Rattle.wire_readers.proofs.BagsLaws.{bag-is, fits-first as bag-fits}
-use Rattle.rules_refusals.specs.Contents.{gather, groupSaIn, groupBagOf}
+use Rattle.rules_refusals.specs.Contents.{groupSaIn, groupBagOf}
 use Rattle.check_bagkeys.proofs.BagAt.{no-bags}
 use Rattle.check_pairing.specs.inner.Names.{Name, nameAt, Names, no-more, next}
 
@@ -75,16 +75,16 @@ bagName b = record { protocol = b .protocol; spi = b .spi }
 
 -- ---- policies
 abbrev pub policyNames : List Policy → List Name
-policyNames l = map policyName (gather groupSaIn l)
+policyNames l = map policyName (flatMap groupSaIn l)
 
 policies-done : (s : List ℕ) → length s ≡ 0 → policyNames (policiesIn s) ≡ []
-unfolding gather
+unfolding flatMap
 policies-done s e =
     ap (λ (x : Reading (List Policy)). policyNames (itemsOf x)) (many-none policy takes 0 s e)
 
 policy-step : (s : List ℕ) → isWhole (policies 0 s) ≡ true → 0 < length s →
     Steps (λ (x : List ℕ). isWhole (policies 0 x)) (λ (x : List ℕ). policyNames (policiesIn x)) s
-unfolding parts gather
+unfolding parts flatMap
 policy-step s e h =
     let q = policy-fits s e h in
     let p = policy-is s e h (parts s) (heads s q) in
@@ -102,15 +102,15 @@ policy-names g e =
 
 -- ---- key bags
 abbrev pub bagNames : List Bag → List Name
-bagNames l = map bagName (gather groupBagOf l)
+bagNames l = map bagName (flatMap groupBagOf l)
 
 bags-done : (fresh : Bool) (s : List ℕ) → length s ≡ 0 → bagNames (bagsIn fresh s) ≡ []
-unfolding gather
+unfolding flatMap
 bags-done fresh s e = ap bagNames (no-bags fresh s 0 (omega arith))
 
 named-bag : (t : Bool) (m : MemberKeyBag) (b : GroupKeyBag) (l : List Bag) →
-    bagNames (either t (memberKeys m) (groupKeys b) ∷ l) ≡ either t [] (bagName b ∷ []) ++ bagNames l
-unfolding gather
+    bagNames (cond t (memberKeys m) (groupKeys b) ∷ l) ≡ cond t [] (bagName b ∷ []) ++ bagNames l
+unfolding flatMap
 named-bag true m b l = refl
 named-bag false m b l = refl
 
@@ -123,4 +123,5 @@ bag-step fresh s e h =
     record { fits = q; all = ap bagNames (p .item) ∙ named-bag (eqb (oct s 0) 0) _ _ _; rest = p .rest }
 
 pub bag-names : (fresh : Bool) (k : List ℕ) → isWhole (bags fresh 0 k) ≡ true → Names k (bagNames (bagsIn fresh k))
-bag-names fresh k e = read-names (λ (x : List ℕ). isWhole (bags fresh 0 x)) (λ (x : List ℕ). bagNames (bagsIn fresh x)) (bags-done fresh) (bag-step fresh) k e
+bag-names fresh k e =
+    read-names (λ (x : List ℕ). isWhole (bags fresh 0 x)) (λ (x : List ℕ). bagNames (bagsIn fresh x)) (bags-done fresh) (bag-step fresh) k e

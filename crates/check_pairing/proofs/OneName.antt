@@ -5,9 +5,8 @@ use mathlib.Core.List.{List, [], _∷_, _++_}
 use mathlib.Core.Bool.{Bool, true, false, cond, or-false}
 use borrow.Author.Tests.{eq-eqb, ne-eqb}
 use lib.Dec.{eqb}
-use Rattle.octets.specs.Walk.{either}
 use Rattle.octets.specs.Compare.{same}
-use Rattle.state_keys.specs.Lists.{any, count}
+use Rattle.lists.specs.Lists.{any, count}
 use Rattle.check_pairing.specs.inner.Names.{Name, nameOf, isNamed}
 
 module _ (q : Name → Bool) (p : ℕ) (x : List ℕ) where
@@ -20,7 +19,7 @@ module _ (q : Name → Bool) (p : ℕ) (x : List ℕ) where
   a-name b e f = f ∙ simp (ne-eqb p 0 e, or-false)
 
 module _ (q : Name → Bool) (m : List Name) where
-  counted-in : (t : Bool) (n : Name) → count q (either t [] (n ∷ []) ++ m) ≡ cond (any q (either t [] (n ∷ []))) (count q m + 1) (count q m)
+  counted-in : (t : Bool) (n : Name) → count q (cond t [] (n ∷ []) ++ m) ≡ cond (any q (cond t [] (n ∷ []))) (count q m + 1) (count q m)
   unfolding any count
   counted-in true n = refl
   counted-in false n = ap (λ (b : Bool). cond b (count q m + 1) (count q m)) (sym (or-false (q n)))

@@ -6,8 +6,8 @@ use mathlib.Core.Bool.{Bool, true, false, _||_}
 use native.Mathlib.Omega.{arith}
 use lib.ListN.{length, drop}
 use Rattle.octets.specs.Walk.{part}
-use Rattle.state_keys.specs.Lists.{any}
-use Rattle.rules_refusals.proofs.Gather.{any-append}
+use Rattle.lists.specs.Lists.{any}
+use Rattle.rules_refusals.proofs.FlatMap.{any-append}
 use Rattle.wire_readers.specs.declared.policy.Parts.{Parts}
 use Rattle.check_pairing.specs.inner.Names.{Name, nameOf, nameAt, Names, isUnpaired}
 use Rattle.check_pairing.proofs.Walking.{Along, HeadAt, along-start, along-end, along-first, along-next}

@@ -1,17 +1,17 @@
 -- Where the bag with a name stands: the walk that finds the place, and what stands there.
 use Prim.Native.Nat.{ℕ, zero, suc, _+_, _-_, _<_, _≤_}
 use mathlib.Core.Path.{_≡_, refl, ap, sym, _∙_, subst}
-use mathlib.Core.List.{List}
-use mathlib.Core.Bool.{Bool, true, false}
+use mathlib.Core.List.{List, flatMap}
+use mathlib.Core.Bool.{Bool, true, false, cond}
 use native.Mathlib.Omega.{arith}
 use borrow.Author.Tests.{le-leb, lt-leb}
 use lib.ListN.{length, drop}
 use lib.Dec.{leb}
 use Rattle.octets.specs.Numbers.{oct}
-use Rattle.octets.specs.Walk.{be16, part, either}
+use Rattle.octets.specs.Walk.{be16, part}
 use Rattle.octets.proofs.Walks.{tail, to-end}
-use Rattle.state_keys.specs.Lists.{any, count}
-use Rattle.state_keys.proofs.Cases.{bool-cases, lt-cases}
+use Rattle.lists.specs.Lists.{any, count}
+use Rattle.lists.proofs.Cases.{bool-cases, lt-cases}
 use Rattle.wire_policies.specs.Policy.{headSize}
 use Rattle.wire_bags.specs.Bag.{bags}
 use Rattle.wire_readers.specs.inner.Values.{nowhere, isWhole}
@@ -19,7 +19,7 @@ use Rattle.wire_readers.specs.inner.Bags.{bagsIn, BagIs}
 use Rattle.wire_readers.specs.declared.Stretch.{Stretch}
 use Rattle.wire_readers.specs.declared.policy.Parts.{Parts}
 use Rattle.wire_readers.proofs.BagsLaws.{bag-is, fits-first}
-use Rattle.rules_refusals.specs.Contents.{gather, groupBagOf}
+use Rattle.rules_refusals.specs.Contents.{groupBagOf}
 use Rattle.rules_refusals.specs.Number6.{bagNamed}
 use Rattle.check_bagkeys.proofs.BagAt.{BagAt, bag-there, bag-at}
 use Rattle.check_pairing.specs.inner.Names.{nameOf, nameAt, isNamed}
@@ -36,19 +36,19 @@ module _ (p : ℕ) (x : List ℕ) (k : List ℕ) where
 
   module _ (fresh : Bool) (n at : ℕ) (h : at < length k) (r : Parts) (a : BagAt fresh k at r) (b : Bool)
       (f : b ≡ any (isNamed p x) (nameOf (r .first) (part k (at + 4) (at + r .body)))) where
-    bag-next : bagFrom (suc n) p x at k ≡ either b (record { start = at + r .body; end = at + r .end }) (bagFrom n p x (at + r .end) k)
+    bag-next : bagFrom (suc n) p x at k ≡ cond b (record { start = at + r .body; end = at + r .end }) (bagFrom n p x (at + r .end) k)
     unfolding bagFrom
     bag-next =
         let e : any (isNamed p x) (nameAt (drop at k)) ≡ b =
         sym (f ∙ (λ i. any (isNamed p x) (nameOf (a .first i) (a .spi i)))) in
-        λ i. either (lt-leb (length k) at h i) nowhere
-        (either (e i) (record { start = at + sym (a .body) i; end = at + sym (a .end) i }) (bagFrom n p x (at + sym (a .end) i) k))
+        λ i. cond (lt-leb (length k) at h i) nowhere
+        (cond (e i) (record { start = at + sym (a .body) i; end = at + sym (a .end) i }) (bagFrom n p x (at + sym (a .end) i) k))
 
     pub bag-here : b ≡ true → bagFrom (suc n) p x at k ≡ record { start = at + r .body; end = at + r .end }
-    bag-here t = bag-next ∙ (λ i. either (t i) (record { start = at + r .body; end = at + r .end }) (bagFrom n p x (at + r .end) k))
+    bag-here t = bag-next ∙ (λ i. cond (t i) (record { start = at + r .body; end = at + r .end }) (bagFrom n p x (at + r .end) k))
 
     pub bag-later : b ≡ false → bagFrom (suc n) p x at k ≡ bagFrom n p x (at + r .end) k
-    bag-later t = bag-next ∙ (λ i. either (t i) (record { start = at + r .body; end = at + r .end }) (bagFrom n p x (at + r .end) k))
+    bag-later t = bag-next ∙ (λ i. cond (t i) (record { start = at + r .body; end = at + r .end }) (bagFrom n p x (at + r .end) k))
 
   -- ---- the walk: it was not there so far
   pub record Going (at : ℕ) : Type 0 where
@@ -94,7 +94,7 @@ module _ (p : ℕ) (x : List ℕ) (k : List ℕ) where
               (heads (tail k at) (fits-first fresh (tail k at) (t .1) (t .0)))),
         )
 
-    stretch-from : (n at : ℕ) → length k ≤ at + n → Seeking p x fresh k at → count (bagNamed p x) (gather groupBagOf (bagsIn fresh k)) ≡ 1
+    stretch-from : (n at : ℕ) → length k ≤ at + n → Seeking p x fresh k at → count (bagNamed p x) (flatMap groupBagOf (bagsIn fresh k)) ≡ 1
         → StretchIs fresh k p x (bagFrom n p x at k)
     stretch-from zero at m s o = absurd (seeking-end p x fresh k at s (omega arith) o)
     stretch-from (suc n) at m s o =
@@ -112,5 +112,5 @@ module _ (p : ℕ) (x : List ℕ) (k : List ℕ) where
         (λ h. absurd (seeking-end p x fresh k at s h o))
 
     pub stretch-is : (r : Stretch) → r ≡ bagStretch p x k → isWhole (bags fresh 0 k) ≡ true
-        → count (bagNamed p x) (gather groupBagOf (bagsIn fresh k)) ≡ 1 → StretchIs fresh k p x r
+        → count (bagNamed p x) (flatMap groupBagOf (bagsIn fresh k)) ≡ 1 → StretchIs fresh k p x r
     stretch-is r e w o = subst (StretchIs fresh k p x) (sym e) (stretch-from (length k) 0 (omega arith) (seeking-start p x fresh k w) o)

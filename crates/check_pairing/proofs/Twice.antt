@@ -9,9 +9,9 @@ use borrow.Author.Tests.{eqb-true, ne-eqb, ltb-true}
 use lib.Dec.{ltb, eqb}
 use Rattle.octets.specs.Compare.{same}
 use Rattle.octets.proofs.Order.{same-eq}
-use Rattle.state_keys.specs.Lists.{any, count}
-use Rattle.state_keys.proofs.Cases.{and-parts}
-use Rattle.rules_refusals.proofs.Gather.{any-count}
+use Rattle.lists.specs.Lists.{any, count}
+use Rattle.lists.proofs.Cases.{and-parts}
+use Rattle.rules_refusals.proofs.FlatMap.{any-count}
 use Rattle.check_pairing.specs.inner.Names.{Name, isNamed, isUnpaired}
 use Rattle.check_pairing.proofs.ListLaws.{any-weaker, any-pick}
 

@@ -6,7 +6,7 @@ pub mod stretch;
 ghost use mathlib.Core.Path.{_≡_};
 ghost use mathlib.Core.List.{List};
 ghost use Prim.Native.Nat.{_≤_};
-ghost use Rattle.state_keys.specs.Lists.{any};
+ghost use Rattle.lists.specs.Lists.{any};
 ghost use Rattle.state_keys.specs.Limits.{limits};
 ghost use Rattle.state_table.specs.Table.{sasOf};
 ghost use Rattle.check_pairing.specs.inner.Names.{Name, Names, isAnnounced};

@@ -2,8 +2,9 @@
 ghost use mathlib.Core.Path.{_≡_};
 ghost use mathlib.Core.List.{List};
 ghost use lib.ListN.{length};
-ghost use Rattle.state_keys.specs.Lists.{any, count};
+ghost use Rattle.lists.specs.Lists.{any, count};
 ghost use Rattle.check_pairing.specs.inner.Names.{Name, Names, nameOf, isNamed, isUnpaired};
+use ikev2_numbers::NO_PROTOCOL;
 use ikev2_numbers::POLICY_HEAD;
 
 // Whether a policy or key bag with first octet `first` and SPI `x` has the name `protocol` and `spi`. A group-wide policy or a Member Key
@@ -11,7 +12,7 @@ use ikev2_numbers::POLICY_HEAD;
 pub fn is_named(protocol: usize, spi: &[u8], first: usize, x: &[u8]) -> bool
     ensures { λ r. ⌜ r ≡ any (isNamed protocol (now (spi .entry))) (nameOf first (now (x .entry))) ⌝ }
 {
-    if first == 0 {
+    if first == NO_PROTOCOL {
         return false;
     }
     if first == protocol {
@@ -46,7 +47,7 @@ fn is_unpaired(first: usize, x: &[u8], t: &[u8]) -> bool
     requires { ⌜ ((m : List Name) × Names (now t) m) ⌝ }
     ensures { λ r. ⌜ ((m : List Name) → Names (now (t .entry)) m → r ≡ any (isUnpaired m) (nameOf first (now (x .entry)))) ⌝ }
 {
-    if first == 0 {
+    if first == NO_PROTOCOL {
         return false;
     }
     count_names(first, x, t) != 1

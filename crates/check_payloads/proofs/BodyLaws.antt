@@ -2,14 +2,14 @@
 use Prim.Native.Nat.{ℕ, zero, suc, _+_, _-_, _≤_}
 use mathlib.Core.Path.{_≡_, refl, ap, sym, _∙_, subst}
 use mathlib.Core.List.{List, []}
-use mathlib.Core.Bool.{Bool, true, false}
+use mathlib.Core.Bool.{Bool, true, false, cond}
 use native.Mathlib.Omega.{arith}
 use borrow.Author.Tests.{eqb-true, eqb-false, ne-eqb}
 use lib.ListN.{length, drop}
 use lib.Dec.{eqb}
-use Rattle.octets.specs.Walk.{part, either}
-use Rattle.state_keys.specs.Lists.{keep}
-use Rattle.state_keys.proofs.Cases.{bool-cases}
+use Rattle.octets.specs.Walk.{part}
+use Rattle.lists.specs.Lists.{keep}
+use Rattle.lists.proofs.Cases.{bool-cases}
 use Rattle.wire_frames.specs.Delete.{Delete}
 use Rattle.wire_frames.specs.Frame.{Payload, payloads, nothingLeft}
 use Rattle.wire_readers.specs.inner.Values.{nowhere, isWhole}
@@ -33,19 +33,19 @@ module _ (fresh : Bool) (n w k : ℕ) (s : List ℕ) (at : ℕ) (r : PayloadPart
   abbrev pub place : Stretch
   place = record { start = at + 4; end = at + r .end }
 
-  pub body-next : bodyFrom (suc n) w k at s ≡ either (eqb k w) (record { start = at + 4; end = at + r .end })
+  pub body-next : bodyFrom (suc n) w k at s ≡ cond (eqb k w) (record { start = at + 4; end = at + r .end })
       (bodyFrom n w (r .next) (at + r .end) s)
   unfolding bodyFrom
   body-next = λ i.
-      either (ne-eqb k 0 z i) nowhere
-      (either (eqb k w) (record { start = at + 4; end = at + sym (g .end-is) i })
+      cond (ne-eqb k 0 z i) nowhere
+      (cond (eqb k w) (record { start = at + 4; end = at + sym (g .end-is) i })
       (bodyFrom n w (sym (g .next-is) i) (at + sym (g .end-is) i) s))
 
   pub body-here : eqb k w ≡ true → bodyFrom (suc n) w k at s ≡ record { start = at + 4; end = at + r .end }
-  body-here e = body-next ∙ (λ i. either (e i) place (bodyFrom n w (r .next) (at + r .end) s))
+  body-here e = body-next ∙ (λ i. cond (e i) place (bodyFrom n w (r .next) (at + r .end) s))
 
   pub body-later : eqb k w ≡ false → bodyFrom (suc n) w k at s ≡ bodyFrom n w (r .next) (at + r .end) s
-  body-later e = body-next ∙ (λ i. either (e i) place (bodyFrom n w (r .next) (at + r .end) s))
+  body-later e = body-next ∙ (λ i. cond (e i) place (bodyFrom n w (r .next) (at + r .end) s))
 
 -- ---- the body that stands there
 pub record FirstOf (fresh : Bool) (w : ℕ) (s : List ℕ) (l : List Payload) (x : Stretch) : Type 0 where

@@ -3,16 +3,16 @@ use Prim.Native.Nat.{ℕ, zero, suc, _+_, _-_, _*_, _<_, _≤_}
 use mathlib.Core.Path.{_≡_, ap, sym, _∙_}
 use mathlib.Core.Logic.{_⊎_, inl, inr}
 use mathlib.Core.List.{List, []}
-use mathlib.Core.Bool.{Bool, true, not, _||_}
+use mathlib.Core.Bool.{Bool, true, not, _||_, cond, _&&_}
 use native.Mathlib.Nat.{mul-suc, mul-zero, mul-le-mul-left}
 use native.Mathlib.Omega.{arith}
 use borrow.Author.Tests.{eqb-true, eq-eqb, ne-eqb}
 use lib.Dec.{leb, eqb}
 use lib.ListN.{length, take, drop, getD}
 use lib.Seq.{drop-drop}
+use Rattle.lists.proofs.Cases.{and-parts}
 use Rattle.octets.specs.Numbers.{oct}
-use Rattle.octets.specs.Walk.{be16, part, either, both}
-use Rattle.octets.proofs.Walks.{both-true}
+use Rattle.octets.specs.Walk.{be16, part}
 use Rattle.wire_frames.specs.Delete.{stretches, deleteOf, deleteFits}
 use Rattle.wire_frames.proofs.DeleteGrammar.{delete-to}
 use Rattle.check_payloads.specs.inner.Deletion.{DeleteIs, withOne}
@@ -37,9 +37,9 @@ module _ (o : List ℕ) (e : deleteFits o ≡ true) where
 
   filled : 4 + oct o 1 * be16 o 2 ≡ length o
   filled =
-      let last = either (eqb (oct o 0) 3) (eqb (oct o 1) 4) true in
-      let f = both-true (leb 4 (length o)) (both (eqb (4 + oct o 1 * be16 o 2) (length o)) last) e in
-      let g = both-true (eqb (4 + oct o 1 * be16 o 2) (length o)) last (f .1) in
+      let last = cond (eqb (oct o 0) 3) (eqb (oct o 1) 4) true in
+      let f = and-parts (leb 4 (length o)) (eqb (4 + oct o 1 * be16 o 2) (length o) && last) e in
+      let g = and-parts (eqb (4 + oct o 1 * be16 o 2) (length o)) last (f .1) in
       eqb-true (4 + oct o 1 * be16 o 2) (length o) (g .0)
 
   pub delete-is : (p z n : ℕ) → p ≡ oct o 0 → z ≡ oct o 1 → n ≡ be16 o 2 → n < 65536

@@ -6,7 +6,7 @@ use mathlib.Core.Bool.{Bool, true, false, cond, _||_}
 use native.Mathlib.Omega.{arith}
 use lib.ListN.{length, drop}
 use Rattle.octets.specs.Walk.{part, whole}
-use Rattle.state_keys.specs.Lists.{any, count, keep}
+use Rattle.lists.specs.Lists.{any, count, keep}
 use Rattle.wire_policies.specs.Policy.{policies}
 use Rattle.wire_bags.specs.Bag.{bags}
 use Rattle.wire_frames.specs.Header.{firstPayload}

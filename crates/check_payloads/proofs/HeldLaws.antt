@@ -1,15 +1,15 @@
 -- What the payloads of a kind hold is what the frame holds.
 use Prim.Native.Nat.{ℕ, _+_, _≤_}
 use mathlib.Core.Path.{_≡_, refl, ap, sym, _∙_, subst}
-use mathlib.Core.List.{List, [], _∷_, _++_, append-nil}
+use mathlib.Core.List.{List, [], _∷_, _++_, append-nil, flatMap}
 use mathlib.Core.Bool.{Bool, true, false, cond}
 use native.Mathlib.Omega.{arith}
 use borrow.Author.Tests.{ne-eqb}
 use lib.ListN.{length, drop, length-append}
 use lib.Dec.{eqb}
 use Rattle.octets.specs.Walk.{Reading, whole, Spans, none, more, no-more}
-use Rattle.state_keys.specs.Lists.{count, keep}
-use Rattle.state_keys.proofs.Cases.{bool-cases}
+use Rattle.lists.specs.Lists.{count, keep}
+use Rattle.lists.proofs.Cases.{bool-cases}
 use Rattle.wire_policies.specs.Policy.{policies}
 use Rattle.wire_policies.proofs.PolicyGrammar.{policies-read}
 use Rattle.wire_bags.specs.Bag.{bags}
@@ -20,7 +20,7 @@ use Rattle.wire_readers.specs.inner.Values.{isWhole}
 use Rattle.wire_readers.specs.inner.Policies.{policiesIn}
 use Rattle.wire_readers.specs.inner.Bags.{bagsIn}
 use Rattle.wire_readers.proofs.ValuesLaws.{is-whole}
-use Rattle.rules_refusals.specs.Contents.{gather, isGsa, isKd, hasGsa, hasKd, policiesOfContent as policiesOfOne}
+use Rattle.rules_refusals.specs.Contents.{isGsa, isKd, hasGsa, hasKd, policiesOfContent as policiesOfOne}
 use Rattle.rules_refusals.specs.Contents.{bagsOfContent as bagsOfOne, deletesOfContent}
 use Rattle.check_payloads.specs.inner.Facts.{ofKind}
 use Rattle.check_payloads.proofs.KindLaws.{FirstBody, no-body, a-body}
@@ -86,13 +86,14 @@ one-more : (t : Bool) (n m x y : ℕ) → x ≡ cond t 1 0 → n ≡ x + y → y
 one-more true n m x y e f g = omega arith
 one-more false n m x y e f g = omega arith
 
-pub count-deletes : {fresh : Bool} {l : List Payload} → Formed fresh l → length (gather (λ (p : Payload). deletesOfContent (p .content)) l) ≡ count (ofKind 42) l
-unfolding count gather
+pub count-deletes : {fresh : Bool} {l : List Payload} → Formed fresh l
+    → length (flatMap (λ (p : Payload). deletesOfContent (p .content)) l) ≡ count (ofKind 42) l
+unfolding count flatMap
 count-deletes nothing = refl
 count-deletes (also {p} {l} o i r) =
     one-more (eqb (p .kind) 42) _ (count (ofKind 42) l) (length (deletesOfContent (p .content)))
-    (length (gather (λ (q : Payload). deletesOfContent (q .content)) l))
-    (delete-kind i) (length-append (deletesOfContent (p .content)) (gather (λ (q : Payload). deletesOfContent (q .content)) l))
+    (length (flatMap (λ (q : Payload). deletesOfContent (q .content)) l))
+    (delete-kind i) (length-append (deletesOfContent (p .content)) (flatMap (λ (q : Payload). deletesOfContent (q .content)) l))
     (count-deletes r)
 
 -- WHAT IS IN THEM
@@ -108,23 +109,23 @@ module _ {B : Type 0} (fresh : Bool) (k : ℕ) (g : Content → List B)
     (p : List ℕ → Reading (List B)) (one : (o : List ℕ) (c : Content) → IsContent fresh k o c → p o ≡ whole (g c) [])
     (empty : p [] ≡ whole [] []) where
   gathered : List Payload → List B
-  gathered l = gather (λ (q : Payload). g (q .content)) l
+  gathered l = flatMap (λ (q : Payload). g (q .content)) l
 
   from-kept : {l : List Payload} → Formed fresh l → gathered (keep (ofKind k) l) ≡ gathered l
-  unfolding keep gather gathered
+  unfolding keep flatMap gathered
   from-kept nothing = refl
   from-kept (also {p = q} {l} o i r) =
       bool-cases (eqb (q .kind) k) (λ e. rw e (ap (λ (x : List B). g (q .content) ++ x) (from-kept r)))
       (λ e. rw e (from-kept r ∙ ap (λ (x : List B). x ++ gathered l) (sym (other (q .kind) o (q .content) i e))))
 
   only : (o : List ℕ) {l : List Payload} → FirstBody fresh k o l → length l ≤ 1 → p o ≡ whole (gathered l) []
-  unfolding gather gathered
+  unfolding flatMap gathered
   only o (no-body e) h = ap p e ∙ empty
   only o (a-body {p = q} {l = []} i) h = one o (q .content) i ∙ ap (λ (x : List B). whole x []) (sym (append-nil (g (q .content))))
   only o (a-body {l = x ∷ l} i) h = absurd (omega arith)
 
   pub all-held : {l : List Payload} → Formed fresh l → (o : List ℕ) → FirstBody fresh k o (keep (ofKind k) l) → count (ofKind k) l ≤ 1
-      → p o ≡ whole (gather (λ (q : Payload). g (q .content)) l) []
+      → p o ≡ whole (flatMap (λ (q : Payload). g (q .content)) l) []
   unfolding gathered
   all-held {l} r o f h =
       only o f (omega (arith, length-kept (ofKind k) l)) ∙ ap (λ (x : List B). whole x []) (from-kept r)
@@ -143,15 +144,15 @@ kd-read fresh o unread (is-unread a b c) = absurd (b refl)
 
 module _ {fresh : Bool} {l : List Payload} (r : Formed fresh l) (o : List ℕ) where
   pub policies-held : FirstBody fresh 51 o (keep (ofKind 51) l) → count (ofKind 51) l ≤ 1
-      → (isWhole (policies 0 o) ≡ true) × (policiesIn o ≡ gather (λ (p : Payload). policiesOfOne (p .content)) l)
+      → (isWhole (policies 0 o) ≡ true) × (policiesIn o ≡ flatMap (λ (p : Payload). policiesOfOne (p .content)) l)
   policies-held f h =
-      is-whole (policies 0 o) (gather (λ (p : Payload). policiesOfOne (p .content)) l) []
+      is-whole (policies 0 o) (flatMap (λ (p : Payload). policiesOfOne (p .content)) l) []
       (all-held fresh 51 policiesOfOne (λ n b c i e. no-policies c i e) (policies 0) (gsa-read fresh) (policies-read no-more 0) r o f h)
 
   pub bags-held : FirstBody fresh 52 o (keep (ofKind 52) l) → count (ofKind 52) l ≤ 1
-      → (isWhole (bags fresh 0 o) ≡ true) × (bagsIn fresh o ≡ gather (λ (p : Payload). bagsOfOne (p .content)) l)
+      → (isWhole (bags fresh 0 o) ≡ true) × (bagsIn fresh o ≡ flatMap (λ (p : Payload). bagsOfOne (p .content)) l)
   bags-held f h =
-      is-whole (bags fresh 0 o) (gather (λ (p : Payload). bagsOfOne (p .content)) l) []
+      is-whole (bags fresh 0 o) (flatMap (λ (p : Payload). bagsOfOne (p .content)) l) []
       (all-held fresh 52 bagsOfOne (λ n b c i e. no-bags c i e) (bags fresh 0) (kd-read fresh) (bags-read fresh no-more 0) r o f h)
 
 -- the first body of a kind is whole, whatever comes after it

@@ -8,7 +8,7 @@ use native.Mathlib.Omega.{arith}
 use borrow.Author.Tests.{eq-eqb, ne-eqb}
 use lib.ListN.{drop}
 use Rattle.octets.specs.Walk.{part}
-use Rattle.state_keys.specs.Lists.{count, keep}
+use Rattle.lists.specs.Lists.{count, keep}
 use Rattle.wire_frames.specs.Frame.{Payload, isKnown}
 use Rattle.wire_frames.specs.Grammar.{IsContent}
 use Rattle.wire_readers.specs.inner.Payloads.{payloadsIn}
@@ -52,7 +52,8 @@ module _ (fresh : Bool) (w k : ℕ) (s : List ℕ) (at : ℕ) (r : PayloadParts)
       let c = count-no (ofKind w) (g .one) others (payloadsIn fresh k (drop at s)) (g .item) (of-other e) in
       (omega arith, omega arith)
 
-  pub keep-next : (k ≡ w → ⊥) → keep (ofKind w) (payloadsIn fresh k (drop at s)) ≡ keep (ofKind w) (payloadsIn fresh (r .next) (drop (at + r .end) s))
+  pub keep-next : (k ≡ w → ⊥) → keep (ofKind w) (payloadsIn fresh k (drop at s))
+      ≡ keep (ofKind w) (payloadsIn fresh (r .next) (drop (at + r .end) s))
   unfolding others
   keep-next e = keep-no (ofKind w) (g .one) others (payloadsIn fresh k (drop at s)) (g .item) (of-other e)
 

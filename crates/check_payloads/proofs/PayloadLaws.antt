@@ -3,15 +3,15 @@ use Prim.Native.Nat.{ℕ, suc, _+_, _-_, _*_, _<_, _≤_}
 use mathlib.Core.Path.{_≡_, refl, ap, sym, _∙_, subst}
 use mathlib.Core.Logic.{inl, inr}
 use mathlib.Core.List.{List, [], _∷_}
-use mathlib.Core.Bool.{Bool, true, false, not, cond, _&&_, _||_}
+use mathlib.Core.Bool.{Bool, true, false, not, cond, _&&_, _||_, or-false}
 use native.Mathlib.Omega.{arith}
 use borrow.Author.Tests.{eqb-true, eqb-false}
 use lib.ListN.{length, drop}
 use lib.Dec.{eqb}
 use Rattle.octets.specs.Numbers.{oct}
 use Rattle.octets.specs.Walk.{part}
-use Rattle.state_keys.specs.Lists.{any, count}
-use Rattle.state_keys.proofs.Cases.{bool-cases}
+use Rattle.lists.specs.Lists.{any, count}
+use Rattle.lists.proofs.Cases.{bool-cases}
 use Rattle.wire_frames.specs.Header.{firstPayload}
 use Rattle.wire_frames.specs.Delete.{Delete, deleteOf, deleteFits}
 use Rattle.wire_frames.specs.Frame.{Payload, isKnown, payloads, nothingLeft}
@@ -20,7 +20,7 @@ use Rattle.wire_readers.specs.inner.Payloads.{payloadsIn}
 use Rattle.wire_readers.specs.declared.Stretch.{Stretch}
 use Rattle.wire_readers.specs.declared.payload.PayloadParts.{PayloadParts}
 use Rattle.rules_refusals.specs.Number4.{unknownCritical}
-use Rattle.rules_refusals.proofs.OneOf.{or-false, or-joined}
+use Rattle.rules_refusals.proofs.OneOf.{or-joined}
 use Rattle.check_payloads.specs.inner.Places.{bodyFrom, bodyOf}
 use Rattle.wire_readers.specs.inner.Values.{once}
 use Rattle.check_payloads.specs.inner.Deletion.{withOne, deletesWith, deletesAmong}
@@ -125,7 +125,8 @@ module _ (s : List ℕ) where
   first-none : (w : ℕ) → FirstSo w s 0 nowhere (length s) (firstPayload s) 28
   first-none w = record { none = λ z. (refl, refl); some = λ z. absurd (z refl) }
 
-  none-passed : isWhole (nothingLeft (payloads false (oct s 16) 0 (drop 28 s))) ≡ true → 28 ≤ length s → PayloadWalk noPayloads (oct s 16) 28
+  none-passed : isWhole (nothingLeft (payloads false (oct s 16) 0 (drop 28 s))) ≡ true → 28 ≤ length s
+      → PayloadWalk noPayloads (oct s 16) 28
   none-passed e h = record {
     inside = h;
     rest = e;

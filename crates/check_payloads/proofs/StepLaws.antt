@@ -53,7 +53,8 @@ module _ (fresh : Bool) where
         kind = refl;
         critical = refl;
         is = subst (λ (l : List ℕ). IsContent fresh k l (d .content)) p (d .is);
-        item = d .item ∙ ap (λ (l : List ℕ). record { kind = k; critical = r .critical; content = d .content } ∷ payloadsIn fresh (r .next) l) j;
+        item = d .item ∙ ap (λ (l : List ℕ). record { kind = k; critical = r .critical; content = d .content }
+            ∷ payloadsIn fresh (r .next) l) j;
         rest = subst (λ (l : List ℕ). isWhole (nothingLeft (payloads fresh (r .next) 0 l)) ≡ true) j (d .rest);
       }
 

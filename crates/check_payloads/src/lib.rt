@@ -14,6 +14,7 @@ use ikev2_numbers::FIRST_PAYLOAD_AT;
 use ikev2_numbers::GSA;
 use ikev2_numbers::HEADER;
 use ikev2_numbers::KD;
+use ikev2_numbers::NO_PAYLOAD;
 use ikev2_numbers::PAYLOAD_HEADER;
 use kinds::first;
 use kinds::is_known;
@@ -100,7 +101,7 @@ pub fn payload_facts(s: &[u8]) -> PayloadFacts
     let mut b = no_payloads();
     let mut kind = octets::wide(s[FIRST_PAYLOAD_AT]);
     let mut at = HEADER;
-    while kind != 0 {
+    while kind != NO_PAYLOAD {
         let p = payload_parts(kind, &s[at..]);
         let start = at + PAYLOAD_HEADER;
         let end = at + p.end;

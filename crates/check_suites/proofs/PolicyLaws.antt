@@ -1,7 +1,7 @@
 -- The Group SA policies of a GSA payload's body, one policy after the other.
 use Prim.Native.Nat.{ℕ, _+_, _-_, _<_, _≤_}
 use mathlib.Core.Path.{_≡_, refl, ap, sym, _∙_, subst}
-use mathlib.Core.List.{List, _∷_}
+use mathlib.Core.List.{List, _∷_, flatMap}
 use mathlib.Core.Bool.{Bool, true, false, _||_}
 use native.Mathlib.Omega.{arith}
 use borrow.Author.Tests.{eqb-true, eqb-false}
@@ -15,14 +15,14 @@ use Rattle.wire_policies.specs.Policy.{GroupSaPolicy, GroupWidePolicy, Policy, 
 use Rattle.wire_attributes.specs.declared.tables.Place.{Place}
 use Rattle.wire_policies.specs.Grammar.{Transforms, IsSaBody}
 use Rattle.wire_policies.proofs.PolicyLaws.{takes}
-use Rattle.state_keys.specs.Lists.{any}
-use Rattle.state_keys.proofs.Cases.{bool-cases}
+use Rattle.lists.specs.Lists.{any}
+use Rattle.lists.proofs.Cases.{bool-cases}
 use Rattle.wire_readers.specs.inner.Values.{isWhole, itemsOf}
 use Rattle.wire_readers.specs.inner.Policies.{policiesIn, PolicyIs}
 use Rattle.wire_readers.specs.inner.Bodies.{SaPartsAre}
 use Rattle.wire_readers.specs.declared.policy.Parts.{Parts}
 use Rattle.wire_readers.specs.declared.body.SaParts.{SaParts}
-use Rattle.rules_refusals.specs.Contents.{gather, groupSaIn}
+use Rattle.rules_refusals.specs.Contents.{groupSaIn}
 
 -- the transforms of a Group SA policy are the octets from where they start
 module _ (p : Place) (s : List ℕ) (b : SaBody) (r : SaParts) (f : SaPartsAre p s b r) where

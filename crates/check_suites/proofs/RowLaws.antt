@@ -12,12 +12,12 @@ use Rattle.octets.proofs.Walks.{part-length}
 use Rattle.wire_attributes.specs.Tree.{number16}
 use Rattle.wire_attributes.specs.declared.tables.Place.{Place}
 use Rattle.wire_attributes.specs.declared.tables.Meaning.the-variants.{KeyLength}
-use Rattle.state_keys.specs.Lists.{all}
+use Rattle.lists.specs.Lists.{all}
 use Rattle.state_keys.specs.Algorithms.{algorithms, isRowOf, neededIn, neededBy}
 use Rattle.state_keys.specs.declared.algorithms.AlgorithmRow.{AlgorithmRow}
 use Rattle.state_keys.specs.declared.algorithms.Needed.{Needed}
 use Rattle.state_keys.specs.declared.algorithms.Needed.the-variants.{Octets, Nothing}
-use Rattle.state_keys.proofs.Cases.{bool-cases, and-parts}
+use Rattle.lists.proofs.Cases.{bool-cases, and-parts}
 use Rattle.wire_readers.specs.inner.Values.{valuesIn, ValueFoundAt}
 use Rattle.rules_refusals.specs.Fitness.{octetsNeeded, isOctets, sum}
 use Rattle.check_suites.specs.inner.Octets.{keyLengthNeeds}

@@ -2,7 +2,7 @@
 use Prim.Native.Nat.{ℕ, _+_}
 use mathlib.Core.Path.{_≡_, refl, ap, sym, _∙_}
 use mathlib.Core.List.{List, [], _∷_}
-use mathlib.Core.Bool.{Bool, true, false, not, cond, _&&_, _||_, false≢true}
+use mathlib.Core.Bool.{Bool, true, false, not, cond, _&&_, _||_, false≢true, and-true, or-false}
 use native.Mathlib.Omega.{arith}
 use borrow.Author.Tests.{eq-eqb, ne-eqb, eqb-true, lt-ltb, ltb-true, ltb-false}
 use lib.Dec.{ltb, eqb}
@@ -11,9 +11,9 @@ use Rattle.wire_attributes.specs.Place.{inTransform}
 use Rattle.wire_attributes.specs.Tree.{number16}
 use Rattle.wire_attributes.specs.declared.tables.Place.{Place}
 use Rattle.wire_attributes.specs.declared.tables.Meaning.the-variants.{KeyLength}
-use Rattle.state_keys.specs.Lists.{all, any, count}
+use Rattle.lists.specs.Lists.{all, any, count}
 use Rattle.state_keys.specs.Algorithms.{neededBy}
-use Rattle.state_keys.proofs.Cases.{bool-cases}
+use Rattle.lists.proofs.Cases.{bool-cases}
 use Rattle.wire_policies.specs.Transform.{Transform}
 use Rattle.wire_policies.specs.Policy.{GroupSaPolicy}
 use Rattle.wire_readers.specs.inner.Values.{valuesIn}
@@ -21,7 +21,6 @@ use Rattle.rules_refusals.specs.Fitness.{octetsNeeded, isOctets, encryptionFits
 use Rattle.rules_refusals.specs.Fitness.{exactTransforms}
 use Rattle.rules_refusals.specs.Fitness.{espTransforms, rekeyTransforms, transformsFit, sum, encryptionNeeds, keyWrapNeeds}
 use Rattle.rules_refusals.specs.Number4.{twiceInTransform}
-use Rattle.rules_refusals.proofs.OneOf.{or-false}
 use Rattle.check_suites.specs.inner.Suites.{suiteOf, fitBy}
 use Rattle.check_suites.specs.inner.Octets.{keyLengthNeeds, transformIn}
 use Rattle.wire_readers.specs.inner.Values.{once}
@@ -112,12 +111,8 @@ module _ (k i : ℕ) (s : List ℕ) where
       }
 
 -- WHICH TRANSFORMS A POLICY HAS
-and-true : (b : Bool) → b ≡ (b && true)
-and-true true = refl
-and-true false = refl
-
 and-last : (a b c : Bool) → ((a && b) && c) ≡ (a && (b && (c && true)))
-and-last true true c = and-true c
+and-last true true c = sym (and-true c)
 and-last true false c = refl
 and-last false b c = refl
 
@@ -141,10 +136,10 @@ module _ (p : GroupSaPolicy) where
   unfolding transformsFit exactTransforms all
   fits true =
       either-way (eqb (p .protocol) 3) (eqb (p .protocol) 6) true _ _ false
-      (ap (λ (b : Bool). eqb (u .count) 2 && (eqb (u .encryption) 1 && b)) (and-true (eqb (u .sequence) 1)))
+      (ap (λ (b : Bool). eqb (u .count) 2 && (eqb (u .encryption) 1 && b)) (sym (and-true (eqb (u .sequence) 1))))
       (ap (λ (b : Bool). eqb (u .count) 3 && b) (and-last (eqb (u .encryption) 1) (eqb (u .wrapping) 1) (eqb (u .authentication) 1)))
       refl one-protocol
   fits false =
       either-way (eqb (p .protocol) 3) (eqb (p .protocol) 6) false _ false _
-      (ap (λ (b : Bool). eqb (u .count) 2 && (eqb (u .encryption) 1 && b)) (and-true (eqb (u .sequence) 1)))
-      refl (ap (λ (b : Bool). eqb (u .count) 2 && (eqb (u .encryption) 1 && b)) (and-true (eqb (u .wrapping) 1))) one-protocol
+      (ap (λ (b : Bool). eqb (u .count) 2 && (eqb (u .encryption) 1 && b)) (sym (and-true (eqb (u .sequence) 1))))
+      refl (ap (λ (b : Bool). eqb (u .count) 2 && (eqb (u .encryption) 1 && b)) (sym (and-true (eqb (u .wrapping) 1)))) one-protocol

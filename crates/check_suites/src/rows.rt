@@ -4,6 +4,7 @@ ghost use mathlib.Core.Bool.{true};
 ghost use mathlib.Core.List.{List};
 ghost use Prim.Native.Nat.{ℕ, _*_, _≤_, _<_};
 ghost use lib.ListN.{length};
+ghost use Rattle.state_keys.specs.Rooms.{encryptionKeyRoom};
 ghost use Rattle.wire_attributes.specs.Place.{inTransform};
 ghost use Rattle.wire_attributes.specs.Layout.{attributes};
 ghost use Rattle.state_keys.specs.Algorithms.{neededBy};
@@ -21,7 +22,7 @@ use wire_readers::values::ValueFound;
 // there is no such row.
 fn needed(kind: usize, id: usize, bits: usize) -> usize
     requires { ⌜ (kind < 256) × (id < 65536) × (bits < 65536) ⌝ }
-    ensures { λ r. ⌜ (r ≡ octetsNeeded (neededBy kind id bits)) × (r ≤ 36) ⌝ }
+    ensures { λ r. ⌜ (r ≡ octetsNeeded (neededBy kind id bits)) × (r ≤ encryptionKeyRoom) ⌝ }
 {
     match state_keys::algorithms::octets_needed(kind as u8, id as u16, bits as u16) {
         Needed::Octets(n) => n,
@@ -32,7 +33,7 @@ fn needed(kind: usize, id: usize, bits: usize) -> usize
 // Sums the octets that encryption with ID `id` needs, over all Key Lengths among the attributes `a` in `place`.
 fn key_length_octets(place: Place, id: usize, a: &[u8]) -> usize
     requires { ⌜ (id < 65536) × (isWhole (attributes place 0 (now a)) ≡ true) × (length (now a) < 4294967296) ⌝ }
-    ensures { λ r. ⌜ (r ≡ keyLengthNeeds id place (now (a .entry))) × (r ≤ 36 * length (now (a .entry))) ⌝ }
+    ensures { λ r. ⌜ (r ≡ keyLengthNeeds id place (now (a .entry))) × (r ≤ encryptionKeyRoom * length (now (a .entry))) ⌝ }
 {
     let mut total = 0;
     let mut at = 0;
@@ -54,7 +55,7 @@ fn key_length_octets(place: Place, id: usize, a: &[u8]) -> usize
 // none.
 pub fn encryption_octets(kind: usize, id: usize, a: &[u8]) -> usize
     requires { ⌜ (id < 65536) × (isWhole (attributes (inTransform kind) 0 (now a)) ≡ true) × (length (now a) < 4294967296) ⌝ }
-    ensures { λ r. ⌜ (r ≡ encryptionNeeds (transformIn kind id (now (a .entry)))) × (r ≤ 36 * length (now (a .entry))) ⌝ }
+    ensures { λ r. ⌜ (r ≡ encryptionNeeds (transformIn kind id (now (a .entry)))) × (r ≤ encryptionKeyRoom * length (now (a .entry))) ⌝ }
 {
     if kind == ENCR {
         return key_length_octets(wire_attributes::tables::in_transform(kind), id, a);
@@ -65,7 +66,7 @@ pub fn encryption_octets(kind: usize, id: usize, a: &[u8]) -> usize
 // Answers the octets that a transform needs for key wrap. Type 13 needs those of its `id`, another `kind` none.
 pub fn wrapping_octets(kind: usize, id: usize) -> usize
     requires { ⌜ id < 65536 ⌝ }
-    ensures { λ r. ⌜ ((a : List ℕ) → r ≡ keyWrapNeeds (transformIn kind id a)) × (r ≤ 36) ⌝ }
+    ensures { λ r. ⌜ ((a : List ℕ) → r ≡ keyWrapNeeds (transformIn kind id a)) × (r ≤ encryptionKeyRoom) ⌝ }
 {
     if kind == KWA {
         return needed(13, id, 0);

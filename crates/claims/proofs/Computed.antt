@@ -2,7 +2,7 @@
 use mathlib.Core.Bool.{true, false}
 use mathlib.Core.List.{List}
 use mathlib.Core.Path.{_≡_}
-use Rattle.state_keys.specs.Lists.{any}
+use Rattle.lists.specs.Lists.{any}
 use Rattle.state.proofs.ApartLimits.{HeldWithin}
 use Rattle.state.proofs.BrokenValues.{brokenValues}
 use Rattle.rules_refusals.proofs.BrokenMembers.{BrokenMembers}

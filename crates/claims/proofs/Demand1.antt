@@ -23,9 +23,9 @@ pub each-answered : (limits : Limits) (s : State) (now : ℕ) (lent octets : Lis
     (none : (n : ℕ) (next : State) → Outcome limits s now lent octets n next → ⊥) → ⊥
 each-answered = ofEachAnswered.each-answered
 
-pub one-of-nine : (limits : Limits) (s : State) (now : ℕ) (lent octets : List ℕ) (n : ℕ) (next : State) →
+pub one-of-the-numbers : (limits : Limits) (s : State) (now : ℕ) (lent octets : List ℕ) (n : ℕ) (next : State) →
     Outcome limits s now lent octets n next → n ≤ 9
-one-of-nine = ofDemands.one-of-nine
+one-of-the-numbers = ofDemands.one-of-the-numbers
 
 pub refused-first : (limits : Limits) (s : State) (now : ℕ) (lent octets : List ℕ) (n : ℕ) (next : State) →
     Outcome limits s now lent octets (suc n) next ↔ (JudgedFirst (judgingOrder limits s now lent octets) (suc n) × (next ≡ s))
@@ -34,11 +34,11 @@ refused-first = ofMeets.refused-first
 pub rows-rise : (limits : Limits) (s : State) (now : ℕ) (lent octets : List ℕ) → above 0 (tableRows limits s now lent octets) ≡ true
 rows-rise = ofMeets.rows-rise
 
-pub seven-exactly : (limits : Limits) (s : State) (now : ℕ) (lent octets : List ℕ) (next : State) →
+pub number7-exactly : (limits : Limits) (s : State) (now : ℕ) (lent octets : List ℕ) (next : State) →
     Outcome limits s now lent octets 7 next
     ↔ (((Meets limits s now lent octets 7 × ((m : ℕ) → m < 7 → Meets limits s now lent octets m → ⊥))
     ⊎ (OfTree (s .profile) octets (OverHeldOf limits s now lent) × ((m : ℕ) → Meets limits s now lent octets m → ⊥))) × (next ≡ s))
-seven-exactly = ofDemands.seven-exactly
+number7-exactly = ofDemands.number7-exactly
 
 pub refused-exactly : (limits : Limits) (s : State) (now : ℕ) (lent octets : List ℕ) (n : ℕ) (next : State) →
     Outcome limits s now lent octets (suc n) next ↔ Refused limits s now lent octets (suc n) next

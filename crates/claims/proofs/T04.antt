@@ -8,9 +8,9 @@ use lib.Dec.{T, eqb}
 use lib.ListN.{length}
 use Rattle.fips197.specs.Key.{Key, isKey}
 use Rattle.wire_attributes.specs.Tree.{WrapKey, SaKey}
-use Rattle.state_keys.specs.Algorithms.{sizeOf}
+use Rattle.state_keys.specs.Algorithms.{isWrappingSize}
 use Rattle.state_keys.specs.Limits.{Limits}
-use Rattle.state_keys.specs.Lists.{any}
+use Rattle.lists.specs.Lists.{any}
 use Rattle.state.specs.Held.{heldFormed}
 use Rattle.state.specs.declared.held.Held.{Held}
 use Rattle.rules_chains.specs.Chain.{In, Root, CopyOpens}
@@ -66,7 +66,7 @@ pub path-some : (roots : List Root) (entries : List WrapKey) (size : ℕ) (copie
 path-some = ofPathSome.path-some
 
 pub next-formed : (limits : Limits) (roots : List Root) (entries : List WrapKey) (size : ℕ) (copies : List SaKey) (old h : Held)
-    (fits : (size ≡ 0) ⊎ (sizeOf 13 size ≡ true)) (none : EntriesConflict roots entries size → ⊥)
+    (fits : (size ≡ 0) ⊎ (isWrappingSize size ≡ true)) (none : EntriesConflict roots entries size → ⊥)
     (no-zero : any (λ (k : WrapKey). eqb (k .keyId) 0) entries ≡ false) (was : heldFormed limits old ≡ true) (b : Bool) →
     HeldNext roots entries size limits b copies old h → h .count ≤ limits .heldKeys → heldFormed limits h ≡ true
 next-formed = ofRunsHeld.next-formed

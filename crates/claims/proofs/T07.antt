@@ -7,7 +7,7 @@ use mathlib.Core.Path.{_≡_}
 use Rattle.wire_frames.specs.Frame.{Frame}
 use Rattle.wire_frames.specs.Grammar.{IsFrame}
 use Rattle.state_keys.specs.Limits.{limits, Limits}
-use Rattle.state_keys.specs.Lists.{all}
+use Rattle.lists.specs.Lists.{all}
 use Rattle.state_sa.specs.DueSays.{DelayRan, LifetimeRan}
 use Rattle.state_sa.specs.Entry.{retired, due, ranOut, mostSeconds, dueBy}
 use Rattle.state_sa.specs.declared.entry.Condition.the-variants.{Live}

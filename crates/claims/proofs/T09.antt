@@ -20,14 +20,14 @@ pub use Rattle.rules_refusals.proofs.SamplesOf6.{samplesOf6}
 pub clause-exactly : (f : Frame) → (wrapsItself f ≡ true) ↔ WrapsItself f
 clause-exactly = ofWrapsItself.clause-exactly
 
-pub meets-six : (limits : Limits) (s : State) (now : ℕ) (lent octets : List ℕ) (f : Frame) (e : IsFrame (s .profile) octets f)
+pub meets-number6 : (limits : Limits) (s : State) (now : ℕ) (lent octets : List ℕ) (f : Frame) (e : IsFrame (s .profile) octets f)
     (w : WrapsItself f) → Meets limits s now lent octets 6
-meets-six = ofWrapsItself.meets-six
+meets-number6 = ofWrapsItself.meets-number6
 
-pub answered-six : (limits : Limits) (s : State) (now : ℕ) (lent octets : List ℕ) (f : Frame) (e : IsFrame (s .profile) octets f)
+pub answered-number6 : (limits : Limits) (s : State) (now : ℕ) (lent octets : List ℕ) (f : Frame) (e : IsFrame (s .profile) octets f)
     (w : WrapsItself f) (low : (m : ℕ) → m < 6 → Meets limits s now lent octets m → ⊥) (n : ℕ) (next : State) →
     Outcome limits s now lent octets n next → (n ≡ 6) × (next ≡ s)
-answered-six = ofWrapsItself.answered-six
+answered-number6 = ofWrapsItself.answered-number6
 
 pub never-accepted : (limits : Limits) (s : State) (now : ℕ) (lent octets : List ℕ) (f : Frame) (e : IsFrame (s .profile) octets f)
     (w : WrapsItself f) (next : State) → Outcome limits s now lent octets 0 next → ⊥

@@ -16,13 +16,15 @@ use Rattle.rfc5282.proofs.Number10Laws as ofNumber10
 pub use Rattle.rfc5282.proofs.AllPieces.{fragment1-sealed, fragment2-sealed}
 pub use Rattle.gikev2.proofs.FragmentOne.{receives-fragment-one}
 use Rattle.state_keys.specs.Limits.{Limits, limits}
-use Rattle.state_keys.specs.Lists.{any}
+use Rattle.lists.specs.Lists.{any}
 use Rattle.wire_frames.specs.Header.{headerOf}
 use Rattle.wire_frames.specs.Frame.{Frame}
 use Rattle.wire_frames.specs.Grammar.{IsFrame}
 use Rattle.state.specs.declared.State.{State}
 use Rattle.state.specs.State.{newState, stateFormed}
 use Rattle.state.specs.Blank.{StateBlank}
+use Rattle.rules_outcome.specs.LifetimeSays.{LifetimesFit}
+use Rattle.rules_outcome.specs.NamedKey.{ZeroOfRekeys}
 use Rattle.rules_refusals.specs.Refusals.{applies}
 use Rattle.fragments.specs.declared.Case.the-variants.{Anew, PassedOver, Kept}
 use Rattle.fragments.specs.declared.Collection.{Collection}
@@ -30,7 +32,7 @@ use Rattle.fragments.specs.declared.Names.{Names}
 use Rattle.fragments.specs.Collection.{Waiting, emptyCollection, fit, counted}
 use Rattle.fragments.specs.Gathering.{caseOf}
 use Rattle.fragments.specs.inner.FitWaiting.{LongCollection}
-pub use Rattle.fragments.proofs.AllSamples.{table-samples, complete-samples, whole-sample, fit-samples}
+pub use Rattle.fragments.proofs.AllSamples.{table-samples, complete-samples, whole-sample, fit-samples, so-far-samples}
 use Rattle.rules_outcome.specs.Holding.{newRekey}
 use Rattle.rules_outcome.specs.Outcome.{Outcome}
 use Rattle.rules_outcome.specs.Run.{LiveRekey, StandsAt}
@@ -125,6 +127,11 @@ pub complete-never-10 : (limits : Limits) (s : State) (now : ℕ) (c : Collectio
     (kept : Collection) (after : List ℕ) → FragmentOutcome limits s now c octets room (complete n offset) next kept after → n ≤ 9
 complete-never-10 = ofAnswers.complete-never-10
 
+pub refused-whole-again : (limits : Limits) (s : State) (now : ℕ) (c : Collection) (octets room : List ℕ) (n offset : ℕ) (next : State)
+    (kept : Collection) (after : List ℕ) → FragmentOutcome limits s now c octets room (complete n offset) next kept after → (n ≡ 0 → ⊥) →
+    (next ≡ s) × (kept ≡ emptyCollection)
+refused-whole-again = ofAnswers.refused-whole-again
+
 pub one-of-five : (limits : Limits) (s : State) (now : ℕ) (c : Collection) (octets room : List ℕ) (n offset : ℕ) (next : State)
     (kept : Collection) (after : List ℕ) → FragmentOutcome limits s now c octets room (refused n offset) next kept after →
     any (eqb n) (1 ∷ 2 ∷ 10 ∷ 3 ∷ 7 ∷ []) ≡ true
@@ -187,6 +194,14 @@ fragment-members-blank = ofRuns.fragment-members-blank
 pub fragment-members-profile : (profile : Bool) {e : State} {l : List FragmentEvent}
     (r : FragmentRun limits (newState limits profile) l e) → FragmentThroughout limits (λ (m : State). m .profile ≡ profile) r
 fragment-members-profile = ofRuns.fragment-members-profile
+
+pub fragment-members-lifetimes : (profile : Bool) {e : State} {l : List FragmentEvent}
+    (r : FragmentRun limits (newState limits profile) l e) → FragmentThroughout limits LifetimesFit r
+fragment-members-lifetimes = ofRuns.fragment-members-lifetimes
+
+pub fragment-key-zero : (profile : Bool) {e : State} {l : List FragmentEvent} (r : FragmentRun limits (newState limits profile) l e) →
+    FragmentThroughout limits (ZeroOfRekeys limits) r
+fragment-key-zero = ofRuns.fragment-key-zero
 
 pub fragment-no-replay : (limits : Limits) {s₀ s₁ : State} {id : ℕ} (first : AcceptsRekey limits s₀ id s₁) →
     AnnouncesNone limits first → {s₂ : State} {l : List FragmentEvent} (r : FragmentRun limits s₁ l s₂) → FragmentAllQuiet limits r →

@@ -9,7 +9,7 @@ use Rattle.octets.specs.Compare.{same}
 use Rattle.wire_frames.specs.Frame.{Frame}
 use Rattle.wire_frames.specs.Grammar.{IsFrame}
 use Rattle.state_keys.specs.Limits.{Limits}
-use Rattle.state_keys.specs.Lists.{count}
+use Rattle.lists.specs.Lists.{count}
 use Rattle.state.specs.declared.State.{State}
 use Rattle.rules_refusals.specs.Reordered.{AnyOrder, Reordered}
 use Rattle.rules_outcome.specs.Outcome.{Outcome}

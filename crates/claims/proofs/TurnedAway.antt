@@ -8,7 +8,7 @@ use Rattle.octets.specs.Walk.{broken, whole}
 use Rattle.wire_frames.specs.Frame.{Frame, frame}
 use Rattle.wire_frames.specs.Grammar.{IsFrame}
 use Rattle.state_keys.specs.Limits.{Limits}
-use Rattle.state_keys.specs.Lists.{all}
+use Rattle.lists.specs.Lists.{all}
 use Rattle.state.specs.declared.State.{State}
 use Rattle.rules_refusals.proofs.Halves.{frameHalf, sparesMember}
 use Rattle.rules_refusals.specs.Refusals.{numbers, Number, refusal}
@@ -22,7 +22,7 @@ use Rattle.rules_outcome.proofs.Demands as ofDemands
 use Rattle.rules_outcome.proofs.Readings as ofReadings
 use Rattle.rules_outcome.proofs.RunsReplay as ofRunsReplay
 use Rattle.rules_outcome.proofs.RunsQuiet as ofRunsQuiet
-use Rattle.rules_outcome.proofs.KeyConflictSays as ofEightSays
+use Rattle.rules_outcome.proofs.KeyConflictSays as ofKeyConflictSays
 
 pub outside-state : (limits : Limits) (s t : State) (now tick : ℕ) (f : Frame) (lent : List ℕ) →
     map frameHalf (numbers limits s now lent f) ≡ map frameHalf (numbers limits t tick lent f)
@@ -82,7 +82,8 @@ without-rekey-quiet = ofRunsQuiet.without-rekey-quiet
 pub sweep-quiet : (limits : Limits) (s : State) (now : ℕ) → Quiet limits {s = s} (swept now)
 sweep-quiet = ofRunsQuiet.sweep-quiet
 
-pub eight-exactly : (limits : Limits) (s : State) (now : ℕ) (lent : List ℕ) (f : Frame) (octets : List ℕ) → IsFrame (s .profile) octets f →
+pub key-conflict-exactly : (limits : Limits) (s : State) (now : ℕ) (lent : List ℕ) (f : Frame) (octets : List ℕ)
+    → IsFrame (s .profile) octets f →
     (Meets limits s now lent octets 2 → ⊥) → (Meets limits s now lent octets 4 → ⊥) →
     Meets limits s now lent octets 8 ↔ KeyConflictSays limits s now lent f
-eight-exactly = ofEightSays.eight-exactly
+key-conflict-exactly = ofKeyConflictSays.key-conflict-exactly

@@ -1,19 +1,19 @@
 -- What becomes of fragments, computed: a row for each clause of the paper's table, of the rules for a collection that is handed in, and
 -- three fragments that come as the third, the first and the second.
-use Prim.Native.Nat.{ℕ}
+use Prim.Native.Nat.{ℕ, _+_}
 use mathlib.Core.Path.{_≡_, refl}
 use mathlib.Core.Bool.{true, false}
 use mathlib.Core.List.{List, [], _∷_, _++_, map, flatMap}
 use lib.ListN.{replicate}
 use Rattle.octets.specs.Numbers.{octetsOf}
 use Rattle.octets.specs.Compare.{orderOf, same}
-use Rattle.state_keys.specs.Lists.{all, any, heads, rising, insert}
+use Rattle.lists.specs.Lists.{all, any, heads, rising, insert}
 use Rattle.fragments.specs.declared.Case.{Case}
 use Rattle.fragments.specs.declared.Case.the-variants.{Anew, PassedOver, Kept}
 use Rattle.fragments.specs.declared.Names.{Names}
 use Rattle.fragments.specs.declared.Piece.{Piece}
 use Rattle.fragments.specs.declared.Collection.{Collection}
-use Rattle.fragments.specs.Collection.{Waiting, nothing, sizeOfAll, cutBy, heldIn, fit}
+use Rattle.fragments.specs.Collection.{Waiting, nothing, frameSize, sizeOfAll, cutBy, heldIn, fit}
 use Rattle.fragments.specs.Gathering.{caseOf, withPiece, gathered, isComplete, whole}
 
 abbrev here : List ℕ
@@ -22,10 +22,10 @@ here = replicate 16 7
 abbrev there : List ℕ
 there = replicate 15 7 ++ (8 ∷ [])
 
--- fragment `number` of `total`, of a rekey by its SPIs and Message ID; its next payload is its number
+-- fragment `number` of `total`, of a rekey by its SPIs and Message ID; version, flags and next payload of each are its own
 abbrev named : List ℕ → ℕ → ℕ → ℕ → Names
 named spis id number total =
-    record { spis = spis; id = id; number = number; total = total; version = 0x21; flags = 8; next = number }
+    record { spis = spis; id = id; number = number; total = total; version = 0x20 + number; flags = 7 + number; next = number }
 
 -- the first and the third of three wait
 abbrev held : Waiting
@@ -67,6 +67,13 @@ pub complete-samples :
     ≡ false ∷ false ∷ true ∷ false ∷ []
 unfolding caseOf withPiece any same orderOf insert
 complete-samples = refl
+
+-- how many octets the frame would have so far: the header's 28, the pieces that are kept and this one; where this one starts anew, it alone
+pub so-far-samples :
+    map (λ (f : Names). frameSize (gathered held f (9 ∷ []) .kept))
+    (named here 5 2 3 ∷ named here 5 1 4 ∷ named there 5 1 3 ∷ named here 6 1 2 ∷ []) ≡ 32 ∷ 29 ∷ 29 ∷ 29 ∷ []
+unfolding caseOf withPiece any same orderOf insert flatMap
+so-far-samples = refl
 
 -- "Fragment 1 gives the header and the only next payload read"; 28 octets of header, then the pieces by their numbers
 pub whole-sample :

@@ -10,8 +10,8 @@ use lib.ListN.{length, getD}
 use borrow.Author.Tests.{eqb-true, eqb-false, le-ltb, eq-eqb, ne-eqb}
 use Rattle.ikev2_numbers.specs.Codes.{headerOctets}
 use Rattle.octets.proofs.Order.{eq-same}
-use Rattle.state_keys.specs.Lists.{any, keep}
-use Rattle.state_keys.proofs.Cases.{bool-cases}
+use Rattle.lists.specs.Lists.{any, keep}
+use Rattle.lists.proofs.Cases.{bool-cases}
 use Rattle.fragments.specs.declared.Case.the-variants.{Anew, PassedOver, Kept}
 use Rattle.fragments.specs.declared.Names.{Names}
 use Rattle.fragments.specs.Collection.{KeptPiece, Lead, Waiting, nothing, noLead, isFirst, joinedPieces, frameSize}

@@ -7,9 +7,9 @@ use mathlib.Core.List.{List, [], _∷_, _++_, flatMap}
 use lib.Dec.{ltb, eqb}
 use lib.ListN.{length, getD, length-append}
 use borrow.Author.Tests.{lt-ltb, le-ltb, eq-eqb, ne-eqb}
-use Rattle.state_keys.specs.Lists.{any, keep, insert}
-use Rattle.state_keys.proofs.Cases.{bool-cases, lt-cases}
-use Rattle.state_keys.proofs.Rising.{length-keep}
+use Rattle.lists.specs.Lists.{any, keep, insert}
+use Rattle.lists.proofs.Cases.{bool-cases, lt-cases}
+use Rattle.lists.proofs.Rising.{length-keep}
 use Rattle.fragments.specs.Collection.{KeptPiece, joinedPieces}
 use Rattle.fragments.specs.Gathering.{isKept, numberBefore}
 

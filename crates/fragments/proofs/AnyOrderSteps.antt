@@ -11,8 +11,8 @@ use borrow.Author.Tests.{eqb-true}
 use Rattle.ikev2_numbers.specs.Codes.{headerOctets, mostOctets}
 use Rattle.octets.specs.Compare.{same}
 use Rattle.octets.proofs.Order.{same-eq}
-use Rattle.state_keys.specs.Lists.{any}
-use Rattle.state_keys.proofs.Cases.{bool-cases, and-parts}
+use Rattle.lists.specs.Lists.{any}
+use Rattle.lists.proofs.Cases.{bool-cases, and-parts}
 use Rattle.fragments.specs.declared.Case.the-variants.{Anew, PassedOver, Kept}
 use Rattle.fragments.specs.declared.Names.{Names}
 use Rattle.fragments.specs.Collection.{Lead, Waiting, nothing, frameSize}

@@ -8,9 +8,9 @@ use mathlib.Core.List.{List}
 use borrow.Author.Tests.{eq-eqb, ne-eqb, lt-ltb, le-ltb, lt-leb}
 use lib.ListN.{length, take, drop, getD}
 use Rattle.ikev2_numbers.specs.Codes.{headerOctets, mostOctets}
-use Rattle.state_keys.specs.Lists.{any, rising}
-use Rattle.state_keys.proofs.Lists.{rising-next, rising-end}
-use Rattle.state_keys.proofs.Parts.{part-cons, part-end}
+use Rattle.lists.specs.Lists.{any, rising}
+use Rattle.lists.proofs.Lists.{rising-next, rising-end}
+use Rattle.lists.proofs.Parts.{part-cons, part-end}
 use Rattle.fragments.specs.declared.Piece.{Piece}
 use Rattle.fragments.specs.Collection.{blankPiece, sizeOfAll, pieceBefore}
 use Rattle.fragments.specs.inner.Counting.{hasNumber, FrameCounted, aheadOf}

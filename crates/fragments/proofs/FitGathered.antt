@@ -2,16 +2,16 @@
 use native.Mathlib.Omega.{arith}
 use Prim.Native.Nat.{ℕ, _-_, _/_, _<_, _≤_}
 use mathlib.Core.Path.{_≡_, refl, sym, _∙_}
-use mathlib.Core.Bool.{Bool, true, false, not, _||_, false≢true}
+use mathlib.Core.Bool.{Bool, true, false, _||_, false≢true}
 use mathlib.Core.Logic.{_⊎_, ⊎-elim}
 use mathlib.Core.List.{List, [], _∷_}
 use lib.Dec.{ltb, eqb}
 use lib.ListN.{length}
 use borrow.Author.Tests.{ltb-true, ltb-false, eqb-false, lt-ltb, le-leb}
 use Rattle.ikev2_numbers.specs.Codes.{majorVersion, minorVersions, mostOctets}
-use Rattle.state_keys.specs.Lists.{all, any, rising, insert}
-use Rattle.state_keys.proofs.Cases.{bool-cases}
-use Rattle.state_keys.proofs.Rising.{length-insert, all-insert, rising-insert}
+use Rattle.lists.specs.Lists.{all, any, rising, insert}
+use Rattle.lists.proofs.Cases.{bool-cases, or-none}
+use Rattle.lists.proofs.Rising.{length-insert, all-insert, rising-insert}
 use Rattle.fragments.specs.declared.Case.{Case}
 use Rattle.fragments.specs.declared.Case.the-variants.{Anew, PassedOver, Kept}
 use Rattle.fragments.specs.declared.Names.{Names}
@@ -60,16 +60,12 @@ apart m n e =
     let b = eqb-false m n e in
     rw (g) (lt-ltb m n (omega arith)))
 
-or-false : (a b : Bool) → (a || b) ≡ false → (a ≡ false) × (b ≡ false)
-or-false true b e = absurd (false≢true (sym e))
-or-false false b e = (refl, e)
-
 pub apart-all : (k : KeptPiece) (l : List KeptPiece) → isKept (k .number) l ≡ false →
     all (λ (b : KeptPiece). numberBefore k b || numberBefore b k) l ≡ true
 unfolding all any
 apart-all k [] e = refl
 apart-all k (b ∷ l) e =
-    let p = or-false (eqb (b .number) (k .number)) (isKept (k .number) l) e in
+    let p = or-none (eqb (b .number) (k .number)) (isKept (k .number) l) e in
     rw (apart (b .number) (k .number) (p .0)) (apart-all k l (p .1))
 
 pub any-insert : {A : Type 0} (before : A → A → Bool) (q : A → Bool) (a : A) (l : List A) → any q (insert before a l) ≡ (q a || any q l)
@@ -130,7 +126,7 @@ module _ (w : Waiting) (f : Names) (piece : List ℕ) (n : FitNames f) (j : Join
       (λ g. let h = sym first-with ∙ e in rw g (j .version (rw g at h)))
 
   no-lead-with : isKept 1 (insert numberBefore own (w .kept)) ≡ false → leadWith (w .lead) f ≡ noLead
-  no-lead-with e = let p = or-false (isFirst (f .number)) (isKept 1 (w .kept)) (sym first-with ∙ e) in rw (p .0) (j .no-lead (p .1))
+  no-lead-with e = let p = or-none (isFirst (f .number)) (isKept 1 (w .kept)) (sym first-with ∙ e) in rw (p .0) (j .no-lead (p .1))
 
   pub with-fit : frameSize (withPiece w f piece .kept) ≤ mostOctets → isComplete (withPiece w f piece) ≡ false →
       FitWaiting (withPiece w f piece)

@@ -9,8 +9,8 @@ use lib.Dec.{leb, ltb, eqb}
 use lib.ListN.{length, take, drop, length-map, length-take, length-drop}
 use borrow.Author.Tests.{ltb-true, leb-true, eqb-true, lt-ltb, le-leb, eq-eqb}
 use Rattle.ikev2_numbers.specs.Codes.{headerOctets, majorVersion, minorVersions, mostOctets}
-use Rattle.state_keys.specs.Lists.{all, any, rising}
-use Rattle.state_keys.proofs.Cases.{bool-cases, and-parts}
+use Rattle.lists.specs.Lists.{all, any, rising}
+use Rattle.lists.proofs.Cases.{bool-cases, and-parts}
 use Rattle.fragments.specs.declared.Piece.{Piece}
 use Rattle.fragments.specs.declared.Collection.{Collection}
 use Rattle.fragments.specs.Collection.{Waiting, nothing, pieceOf, mostFragments, collectionOf}

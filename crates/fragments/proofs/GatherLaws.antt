@@ -7,10 +7,10 @@ use lib.ListN.{length, take, drop, replicate, length-map, length-take}
 use lib.Seq.{length-take-le, take-add, drop-drop, take-take}
 use borrow.Author.Tests.{leb-true, le-leb}
 use Rattle.ikev2_numbers.specs.Codes.{headerOctets, mostOctets}
-use Rattle.state_keys.specs.Lists.{any, insert}
-use Rattle.state_keys.proofs.Cases.{bool-cases}
-use Rattle.state_keys.proofs.Parts.{drop-replicate}
-use Rattle.state_keys.proofs.Rising.{length-insert}
+use Rattle.lists.specs.Lists.{any, insert}
+use Rattle.lists.proofs.Cases.{bool-cases}
+use Rattle.lists.proofs.Parts.{drop-replicate}
+use Rattle.lists.proofs.Rising.{length-insert}
 use Rattle.fragments.specs.declared.Case.{Case}
 use Rattle.fragments.specs.declared.Case.the-variants.{Anew, PassedOver, Kept}
 use Rattle.fragments.specs.declared.Collection.{Collection}

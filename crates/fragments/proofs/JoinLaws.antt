@@ -7,7 +7,7 @@ use borrow.Rule.Slice.PartMut.{midOf, putMid}
 use lib.ListN.{length, take, drop, length-append, length-drop}
 use lib.Seq.{take-at, take-length, length-take-le, drop-append-add, drop-drop}
 use Rattle.ikev2_numbers.specs.Codes.{headerOctets}
-use Rattle.octets.proofs.Parts.{copied-end}
+use Rattle.lists.proofs.Slices.{copied-end}
 use Rattle.fragments.specs.inner.Joining.{joinedOctets}
 
 -- x copied to the start of r

@@ -10,8 +10,8 @@ use lib.ListN.{length, length-append}
 use lib.Seq.{length-take-le}
 use Rattle.octets.specs.Compare.{same}
 use Rattle.ikev2_numbers.specs.Codes.{headerOctets, mostOctets}
-use Rattle.state_keys.specs.Lists.{any, insert}
-use Rattle.state_keys.proofs.Cases.{bool-cases}
+use Rattle.lists.specs.Lists.{any, insert}
+use Rattle.lists.proofs.Cases.{bool-cases}
 use Rattle.fragments.specs.declared.Case.{Case}
 use Rattle.fragments.specs.declared.Case.the-variants.{Anew, PassedOver, Kept}
 use Rattle.fragments.specs.declared.Collection.{Collection}
@@ -19,7 +19,8 @@ use Rattle.fragments.specs.declared.Names.{Names}
 use Rattle.fragments.specs.declared.Piece.{Piece}
 use Rattle.fragments.specs.declared.Placed.{Placed}
 use Rattle.fragments.specs.declared.Placed.the-variants.{TooLong, Taken}
-use Rattle.fragments.specs.Collection.{KeptPiece, Waiting, nothing, mostFragments, joinedPieces, frameSize, piecesOf, sizeOfAll, cutBy}
+use Rattle.fragments.specs.Collection.{KeptPiece, Waiting, nothing, mostFragments, joinedPieces, frameSize, piecesOf, sizeOfAll}
+use Rattle.fragments.specs.Collection.{cutBy}
 use Rattle.fragments.specs.Collection.{heldIn, fit, counted}
 use Rattle.fragments.specs.Gathering.{isKept, caseOf, putTo, numberBefore, withPiece, gathered}
 use Rattle.fragments.specs.inner.Counting.{hasNumber, FrameCounted}

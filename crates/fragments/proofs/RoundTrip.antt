@@ -6,10 +6,11 @@ use mathlib.Core.List.{List, [], _∷_, _++_, map, flatMap, append-assoc}
 use lib.ListN.{length, replicate, length-append, length-map}
 use lib.Seq.{take-append-seam, drop-append-seam, take-at}
 use Rattle.ikev2_numbers.specs.Codes.{mostOctets}
-use Rattle.state_keys.specs.Lists.{all, any, heads, rising}
-use Rattle.state_keys.proofs.Cases.{bool-cases}
+use Rattle.lists.specs.Lists.{all, any, heads, rising}
+use Rattle.lists.proofs.Cases.{bool-cases}
 use Rattle.fragments.specs.declared.Piece.{Piece}
-use Rattle.fragments.specs.Collection.{KeptPiece, Lead, Waiting, noLead, joinedPieces, pieceOf, blankPiece, mostFragments, collectionOf}
+use Rattle.fragments.specs.Collection.{KeptPiece, Lead, Waiting, noLead, joinedPieces, pieceOf, blankPiece, mostFragments}
+use Rattle.fragments.specs.Collection.{collectionOf}
 use Rattle.fragments.specs.Collection.{piecesOf, sizeOfAll, cutBy, hasFirst, heldIn, pieceBefore, numbered}
 use Rattle.fragments.specs.Gathering.{isKept, numberBefore}
 use Rattle.fragments.specs.inner.FitWaiting.{keptNumbered}

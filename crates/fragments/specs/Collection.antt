@@ -6,7 +6,7 @@ use mathlib.Core.List.{List, [], _∷_, _++_, map, flatMap}
 use lib.Dec.{leb, ltb, eqb}
 use lib.ListN.{length, take, drop, replicate}
 use Rattle.ikev2_numbers.specs.Codes.{headerOctets, majorVersion, minorVersions, mostOctets, rekeySpiOctets}
-use Rattle.state_keys.specs.Lists.{all, any, rising}
+use Rattle.lists.specs.Lists.{all, any, rising}
 use Rattle.fragments.specs.declared.Piece.{Piece}
 use Rattle.fragments.specs.declared.Collection.{Collection}
 

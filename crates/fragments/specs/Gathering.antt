@@ -7,7 +7,7 @@ use lib.ListN.{length}
 use Rattle.ikev2_numbers.specs.Codes.{gsaRekey}
 use Rattle.octets.specs.Numbers.{octetsOf}
 use Rattle.octets.specs.Compare.{same}
-use Rattle.state_keys.specs.Lists.{any, insert}
+use Rattle.lists.specs.Lists.{any, insert}
 use Rattle.fragments.specs.declared.Case.{Case}
 use Rattle.fragments.specs.declared.Case.the-variants.{Anew, PassedOver, Kept}
 use Rattle.fragments.specs.declared.Names.{Names}

@@ -4,7 +4,7 @@ ghost use mathlib.Core.Bool.{_||_};
 ghost use mathlib.Core.List.{_++_};
 ghost use Prim.Native.Nat.{_-_, _≤_, _<_};
 ghost use lib.ListN.{length, take, replicate};
-ghost use Rattle.state_keys.specs.Lists.{all, rising, insert};
+ghost use Rattle.lists.specs.Lists.{all, rising, insert};
 ghost use Rattle.fragments.specs.Collection.{mostFragments, blankPiece, pieceBefore, numbered};
 ghost use Rattle.fragments.specs.inner.Counting.{hasNumber, FrameCounted, aheadOf};
 use crate::MOST_FRAGMENTS;

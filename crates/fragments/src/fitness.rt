@@ -5,7 +5,7 @@ ghost use Prim.Native.Nat.{_+_, _/_, _≤_};
 ghost use lib.Dec.{leb, eqb};
 ghost use lib.ListN.{take};
 ghost use Rattle.ikev2_numbers.specs.Codes.{headerOctets, majorVersion, minorVersions, mostOctets};
-ghost use Rattle.state_keys.specs.Lists.{all, rising};
+ghost use Rattle.lists.specs.Lists.{all, rising};
 ghost use Rattle.fragments.specs.Collection.{mostFragments, pieceBefore, numbered, sizeOfAll, hasFirst, fit};
 use crate::Collection;
 use crate::MOST_FRAGMENTS;

@@ -8,7 +8,7 @@ use lib.Arith.{digits-div}
 use lib.Dec.{T, lit<, eqb, eqb→eq, ltb, ltb→lt}
 use lib.Pow.{pow-add, pow-pos}
 use lib.Bits.{bitXor, xor-block, xor-zero-r}
-use Rattle.octets.proofs.Table.{all-below, below}
+use Rattle.lists.proofs.Below.{all-below, below}
 use Rattle.sp800_38d.specs.Product.{reduction, bit, shifted, vAt}
 use Rattle.gcm.specs.inner.Multiples.{nibble, digit}
 use Rattle.gcm.proofs.NibbleLaws.{shifted-four}

@@ -8,9 +8,9 @@ use native.Mathlib.Omega.{arith}
 use lib.ListN.{length, getD, take, drop, replicate, length-drop, List·getD-append, List·getD-eq-default, getD-replicate}
 use lib.Seq.{take-all, take-length, getD-append-add, getD-drop, drop-drop}
 use lib.Bits.{bitXor, xor-block}
+use Rattle.lists.proofs.Cases.{lt-cases}
 use Rattle.octets.specs.Numbers.{oct, number}
 use Rattle.octets.proofs.Numerals.{number-same}
-use Rattle.octets.proofs.Order.{lt-cases}
 use Rattle.octets.proofs.RoundTrip.{number-add}
 use Rattle.sp800_38d.specs.Product.{product}
 use Rattle.sp800_38d.specs.Ghash.{blockNumbers, ghashFrom}

@@ -9,9 +9,9 @@ use lib.ListN.{length, getD, drop, replicate, length-append}
 use lib.ListN.{length-drop, length-replicate, List·getD-append, List·getD-eq-default, getD-replicate}
 use lib.Seq.{getD-append-add, getD-drop, drop-append-le, drop-at}
 use lib.Bits.{bitXor}
+use Rattle.lists.proofs.Cases.{lt-cases}
 use Rattle.octets.specs.Numbers.{oct, number, octetsOf}
 use Rattle.octets.proofs.Numerals.{number-same, number-append}
-use Rattle.octets.proofs.Order.{lt-cases}
 use Rattle.octets.proofs.RoundTrip.{length-octets, number-octets, number-add}
 use Rattle.fips197.specs.Cipher.{cipher}
 use Rattle.sp800_38d.specs.Product.{product}

@@ -82,13 +82,13 @@ all-digits x y n e a =
     ∙ sym (z-parts x y 128)
 
 -- the multiples by all below d stand in w
-pub record Filled (y d : ℕ) (w : List ℕ) : Type 0 where
+pub record MultiplesUpTo (y d : ℕ) (w : List ℕ) : Type 0 where
   pub most : d ≤ 16
   pub size : length w ≡ 32
   pub each : (e : ℕ) → e < d → getD w (2 * e) 0 * 2 ^ 64 + getD w (2 * e + 1) 0 ≡ multipleOf y e
 
-pub filled : (y d hi lo : ℕ) (w : List ℕ) → d < 16 → Filled y d w → hi * 2 ^ 64 + lo ≡ multipleOf y d
-    → Filled y (d + 1) (set (set w (2 * d) hi) (2 * d + 1) lo)
+pub filled : (y d hi lo : ℕ) (w : List ℕ) → d < 16 → MultiplesUpTo y d w → hi * 2 ^ 64 + lo ≡ multipleOf y d
+    → MultiplesUpTo y (d + 1) (set (set w (2 * d) hi) (2 * d + 1) lo)
 filled y d hi lo w hd f m =
     record {
       most = omega (arith, hd);
@@ -121,6 +121,6 @@ filled y d hi lo w hd f m =
     at e (inl q) = subst (λ (k : ℕ). getD both (2 * k) 0 * 2 ^ 64 + getD both (2 * k + 1) 0 ≡ multipleOf y k) (sym q) here
     at e (inr h) = before e h
 
-pub filled-all : (y d : ℕ) (w : List ℕ) → 16 ≤ d → Filled y d w → Multiples y w
+pub filled-all : (y d : ℕ) (w : List ℕ) → 16 ≤ d → MultiplesUpTo y d w → Multiples y w
 unfolding Multiples
 filled-all y d w h f e k = f .each e (omega (arith, h, k))

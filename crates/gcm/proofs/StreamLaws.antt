@@ -8,11 +8,11 @@ use native.Mathlib.Omega.{arith}
 use lib.ListN.{length, take, drop, length-append, length-drop, take-append-drop, List·getD-append, length-set, set}
 use lib.Seq.{take-at, drop-at, take-all, getD-append-add, getD-drop, getD-set-same, getD-set-other, ext-getD}
 use lib.Bits.{bitXor}
+use Rattle.lists.proofs.Cases.{lt-cases}
 use Rattle.octets.specs.Numbers.{oct, number, octetsOf}
 use Rattle.octets.specs.Octets.{Octets}
 use Rattle.octets.proofs.Numerals.{number-append}
 use Rattle.octets.proofs.Octets.{join-octets}
-use Rattle.octets.proofs.Order.{lt-cases}
 use Rattle.octets.proofs.RoundTrip.{length-octets, octets-octets, number-octets, octets-number, number-eight}
 use Rattle.fips197.specs.Cipher.{cipher}
 use Rattle.aes.specs.inner.Schedule.{Expands}

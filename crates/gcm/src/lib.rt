@@ -1,5 +1,6 @@
 // AES-GCM (NIST SP 800-38D) with a nonce of 96 bits and a tag of 128: octets opened into lent room. For a caller with a schedule of its
 // own: the tag verified, any first part deciphered, and one octet deciphered from its block alone.
+// For customers: `open`. All else is internal.
 mod hash;
 mod product;
 pub mod stream;
@@ -64,7 +65,7 @@ fn is_same(x: Pair, y: Pair) -> bool
     ((x.hi ^ y.hi) | (x.lo ^ y.lo)) == 0
 }
 
-// Whether the tag behind a ciphertext is its tag: whether the octets unseal at all. Internal.
+// Verifies the tag behind a ciphertext: answers whether the octets open at all.
 pub fn verify_tag(
     tables: &[u32; TABLE_WORDS],
     schedule: &[u32; SCHEDULE_WORDS],

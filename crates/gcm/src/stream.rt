@@ -47,7 +47,7 @@ fn add_block(m: [u8; 16], c: &[u8], at: usize, end: usize, room: &mut [u8])
     }
 }
 
-// The ciphertext deciphered, at the room's start. Internal.
+// Deciphers the ciphertext to the start of the room.
 pub fn gctr_in(
     tables: &[u32; TABLE_WORDS],
     schedule: &[u32; SCHEDULE_WORDS],
@@ -75,7 +75,7 @@ pub fn gctr_in(
     }
 }
 
-// One octet of the ciphertext deciphered. Internal.
+// Deciphers one octet of the ciphertext.
 pub fn gctr_at(
     tables: &[u32; TABLE_WORDS],
     schedule: &[u32; SCHEDULE_WORDS],

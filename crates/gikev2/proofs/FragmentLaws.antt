@@ -13,7 +13,7 @@ use Rattle.octets.specs.Walk.{be32}
 use Rattle.ikev2_numbers.specs.Codes.{flagsAt, headerOctets, messageIdAt, mostOctets, versionAt}
 use Rattle.state_keys.specs.Limits.{limits}
 use Rattle.state_keys.specs.declared.kinds.EncryptionKey.{EncryptionKey}
-use Rattle.state_keys.proofs.Parts.{copied}
+use Rattle.lists.proofs.Parts.{copied}
 use Rattle.wire_frames.specs.Header.{headerOf}
 use Rattle.rules_refusals.specs.Refusals.{applies, number3}
 use Rattle.rfc5282.specs.Keys.{aesKeyOf, saltOf}
@@ -167,7 +167,8 @@ module _ (m : Member) (c : Collection) (now : ℕ) (octets room : List ℕ) wher
 
             -- of two pieces that the fragment opens to, the second is the first
             same-piece : (P : List ℕ → Type 0) → OfPiece limits (m .state) now c octets room P → P piece
-            same-piece P x = subst P (piece-one (sealingPart limits (m .state)) octets (x .piece) piece (x .opens .opens) (h .opens)) (x .meets)
+            same-piece P x =
+                subst P (piece-one (sealingPart limits (m .state)) octets (x .piece) piece (x .opens .opens) (h .opens)) (x .meets)
 
             abbrev Long : List ℕ → Type 0
             Long x = mostOctets < frameSize (together x .kept)

@@ -57,7 +57,8 @@ pub receives-fragment-one : (m : Member) (c : Collection) (now : ℕ) (octets ro
     (d f : Collection) (left rest : List ℕ) → ReceivesFragment m c now octets room a next d left →
     ReceivesFragment m c now octets room b other f rest → SameReceived a b next other d f left rest
 receives-fragment-one m c now octets room a b next other d f left rest p q =
-    let r = fragment-one limits (m .state) now c octets room (fragmentSaid a) (fragmentSaid b) (next .state) (other .state) d f left rest p q in
+    let r = fragment-one limits (m .state) now c octets room (fragmentSaid a) (fragmentSaid b) (next .state)
+    (other .state) d f left rest p q in
     record {
       answer = said-one a b (r .answer);
       member = λ i. record { state = r .member i };

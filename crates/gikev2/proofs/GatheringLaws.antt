@@ -50,7 +50,8 @@ long-enough {octets = octets} u = fragment-is octets (u .fragment) .body
 
 -- ---- number 10
 module _ {m : Member} (c : Collection) {now : ℕ} {octets room : List ℕ} (o : Octets octets) (u : PassedOutside m now octets)
-    {key : EncryptionKey} (i : IsSealingKey (m .state .table) key) (r : Unsealed) (j : PieceJudged (encryptionOctetsOf key) octets room r) where
+    {key : EncryptionKey} (i : IsSealingKey (m .state .table) key) (r : Unsealed)
+    (j : PieceJudged (encryptionOctetsOf key) octets room r) where
   pub not-opened : r ≡ No → Given m c now octets room (refusedBy answer.Unopened m c) room
   not-opened e =
       let x : UnopenedFragment (encryptionOctetsOf key) octets room =

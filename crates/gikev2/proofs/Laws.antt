@@ -9,7 +9,7 @@ use borrow.Author.Tests.{eq-eqb, ne-eqb}
 use lib.ListN.{length, take, drop, replicate}
 use lib.Seq.{take-all}
 use Rattle.state_keys.specs.Kinds.{padded}
-use Rattle.state_keys.proofs.Parts.{copied}
+use Rattle.lists.proofs.Parts.{copied}
 use Rattle.state_sa.specs.Entry.{rekeyProtocol}
 use Rattle.state_sa.specs.declared.entry.Sa.{Sa}
 use Rattle.state_table.specs.declared.SaFound.{SaFound}

@@ -9,7 +9,7 @@ use Rattle.octets.specs.Walk.{Reading, whole, broken}
 use borrow.Author.Tests.{ltb-true, ltb-false}
 use lib.Dec.{ltb}
 use Rattle.state_keys.specs.Limits.{limits}
-use Rattle.state_keys.proofs.Cases.{bool-cases}
+use Rattle.lists.proofs.Cases.{bool-cases}
 use Rattle.wire_attributes.specs.Answers.{layoutOf}
 use Rattle.wire_attributes.specs.declared.Layout.{Layout}
 use Rattle.wire_attributes.specs.declared.Layout.the-variants as layout
@@ -19,7 +19,7 @@ use Rattle.state.specs.declared.State.{State}
 use Rattle.rules_refusals.specs.Refusals.{refusal}
 use Rattle.rules_outcome.specs.Outcome.{Judged, refused, Outcome}
 use Rattle.rules_outcome.proofs.Answering.{answers-clauses}
-use Rattle.rules_outcome.proofs.Demands.{one-of-nine, one-exactly}
+use Rattle.rules_outcome.proofs.Demands.{one-of-the-numbers, one-exactly}
 use Rattle.rules_outcome.proofs.Determined.{outcome-one}
 use Rattle.rules_outcome.proofs.Readings.{outcome-broken, outcome-read}
 use Rattle.gikev2.specs.declared.Member.{Member}
@@ -29,13 +29,13 @@ use Rattle.gikev2.specs.Receive.{numberOf, figureOf, Receives}
 
 module _ (m : State) (now : ℕ) (lent : List ℕ) (f : Frame) where
   -- the numbers of a frame whose layout is whole are 0 and 2 to 9
-  pub judged-numbered : (octets : List ℕ) → frame (m .profile) octets ≡ whole f [] → (n : ℕ) (next : State) → Judged limits m now lent f n next →
-      (n ≤ 9) × (n ≡ 1 → ⊥)
+  pub judged-numbered : (octets : List ℕ) → frame (m .profile) octets ≡ whole f [] → (n : ℕ) (next : State)
+      → Judged limits m now lent f n next → (n ≤ 9) × (n ≡ 1 → ⊥)
   judged-numbered octets e n next j =
       let o = outcome-read limits m now lent octets f e n next j in
       let one : n ≡ 1 → Outcome limits m now lent octets 1 next =
       λ q. subst (λ (k : ℕ). Outcome limits m now lent octets k next) q o in (
-        one-of-nine limits m now lent octets n next o,
+        one-of-the-numbers limits m now lent octets n next o,
         λ q. one-exactly limits m now lent octets next .0 (one q) .0 f (read-frame (m .profile) octets f [] e),
       )
 
@@ -55,9 +55,9 @@ beyond : (k n : ℕ) → k ≤ n → (n ≡ k → ⊥) → suc k ≤ n
 beyond k n h d =
     bool-cases (ltb k n) (λ e. let g = ltb-true k n e in omega arith) (λ e. let g = ltb-false k n e in absurd (d (omega arith)))
 
-pub is-nine : (n : ℕ) → n ≤ 9 → (n ≡ 0 → ⊥) → (n ≡ 1 → ⊥) → (n ≡ 2 → ⊥) → (n ≡ 3 → ⊥) → (n ≡ 4 → ⊥) → (n ≡ 5 → ⊥) → (n ≡ 6 → ⊥) →
+pub is-number9 : (n : ℕ) → n ≤ 9 → (n ≡ 0 → ⊥) → (n ≡ 1 → ⊥) → (n ≡ 2 → ⊥) → (n ≡ 3 → ⊥) → (n ≡ 4 → ⊥) → (n ≡ 5 → ⊥) → (n ≡ 6 → ⊥) →
     (n ≡ 7 → ⊥) → (n ≡ 8 → ⊥) → 9 ≡ n
-is-nine n h a b c d e f g i j =
+is-number9 n h a b c d e f g i j =
     let x : 5 ≤ n = beyond 4 n (beyond 3 n (beyond 2 n (beyond 1 n (beyond 0 n (omega arith) a) b) c) d) e in
     let y : 9 ≤ n = beyond 8 n (beyond 7 n (beyond 6 n (beyond 5 n x f) g) i) j in
     omega arith
@@ -129,7 +129,8 @@ answer-one a b n o = sym (numbered-of a) ∙ (λ i. numbered (n i) (o i)) ∙ nu
 
 -- ---- the call's promise
 module _ (m : Member) (now : ℕ) (lent octets : List ℕ) where
-  pub receives-broken : (o : ℕ) → frame (m .state .profile) octets ≡ broken o → (a : Answer) (next : Member) → a ≡ answer.BrokenLayout o → next ≡ m →
+  pub receives-broken : (o : ℕ) → frame (m .state .profile) octets ≡ broken o → (a : Answer) (next : Member) → a ≡ answer.BrokenLayout o
+      → next ≡ m →
       Receives m now lent octets a next
   receives-broken o e a next p g =
       let r : Receives m now lent octets (answer.BrokenLayout o) m =

@@ -56,7 +56,8 @@ key-part m k i = ap encryptionOctetsOf (i .is)
 
 module _ (m : Member) (now : ℕ) (octets room : List ℕ) where
   -- the answer, the member and the room that the code gives back
-  pub given-as : (a b : Answer) (next after : Member) (left : List ℕ) → a ≡ b → next ≡ after → ReceivesSealed m now octets room b after left →
+  pub given-as : (a b : Answer) (next after : Member) (left : List ℕ) → a ≡ b → next ≡ after
+      → ReceivesSealed m now octets room b after left →
       ReceivesSealed m now octets room a next left
   given-as a b next after left ea em r =
       subst (λ (x : Answer). ReceivesSealed m now octets room x next left) (sym ea)

@@ -24,11 +24,13 @@ module _ (m : Member) (now : ℕ) (lent octets : List ℕ) (a : Answer) (next : 
   pub where-1 : numberOf a ≡ 1 → BreaksFrame (m .state .profile) octets (figureOf a)
   where-1 n = go (whole-or-broken (m .state .profile) octets)
     where
-      go : ((f : Frame) × IsFrame (m .state .profile) octets f) ⊎ ((o : ℕ) × BreaksFrame (m .state .profile) octets o) → BreaksFrame (m .state .profile) octets (figureOf a)
+      go : ((f : Frame) × IsFrame (m .state .profile) octets f) ⊎ ((o : ℕ) × BreaksFrame (m .state .profile) octets o)
+          → BreaksFrame (m .state .profile) octets (figureOf a)
       go (inl x) =
           let o = subst (λ (k : ℕ). Outcome limits (m .state) now lent octets k (next .state)) n (r .outcome) in
           absurd (one-exactly limits (m .state) now lent octets (next .state) .0 o .0 (x .0) (x .1))
-      go (inr b) = subst (BreaksFrame (m .state .profile) octets) (sym (r .offset ∙ figure-broken (m .state .profile) octets (b .0) (b .1))) (b .1)
+      go (inr b) =
+          subst (BreaksFrame (m .state .profile) octets) (sym (r .offset ∙ figure-broken (m .state .profile) octets (b .0) (b .1))) (b .1)
 
   -- octets that break at an offset give number 1 with that offset, and the member as it was
   pub breaks-1 : (o : ℕ) → BreaksFrame (m .state .profile) octets o → (a ≡ answer.BrokenLayout o) × (next ≡ m)

@@ -16,7 +16,8 @@ use Rattle.state.specs.State.{newState, leftState, sweptState, askedSa}
 use Rattle.gikev2.specs.declared.Member.{Member}
 use Rattle.gikev2.specs.declared.SaAnswer.{SaAnswer}
 
--- "A new member has no SA, no held key and least Message ID 0."; "their profile is switched on for a member at creation" (document 02, T-11)
+-- "A new member has no SA, no held key and least Message ID 0."; "their profile is switched on for a member at creation" (document 02,
+-- T-11)
 unfoldable pub memberWith : Bool → Member
 memberWith profile = record { state = newState limits profile }
 

@@ -9,4 +9,5 @@ use Rattle.gikev2.specs.Receive.{numberOf, figureOf}
 
 -- the member m receives the sealed `octets` at the tick `now` with `room` lent: a is the answer, `next` the next member, `after` the room
 abbrev pub ReceivesSealed : Member → ℕ → List ℕ → List ℕ → Answer → Member → List ℕ → Type 0
-ReceivesSealed m now octets room a next after = SealedOutcome limits (m .state) now octets room (numberOf a) (figureOf a) (next .state) after
+ReceivesSealed m now octets room a next after =
+    SealedOutcome limits (m .state) now octets room (numberOf a) (figureOf a) (next .state) after

@@ -107,7 +107,7 @@ fn answer_of(number: usize) -> Answer
 }
 
 // Makes the answer with this `number`, and the member with this `state`.
-fn answered(number: usize, state: State) -> Received
+fn make_received(number: usize, state: State) -> Received
     requires { ⌜ (number ≤ 9) × (number ≡ 1 → ⊥) ⌝ }
     ensures { λ r. ⌜ (numberOf (r .answer) ≡ number) × (r .member .state ≡ state) ⌝ }
 {
@@ -118,7 +118,7 @@ fn answered(number: usize, state: State) -> Received
 
 impl Member {
     // Refuses a frame with this `answer`. The member stays as it was.
-    pub(crate) fn refused(self, answer: Answer) -> Received
+    pub(crate) fn refuse(self, answer: Answer) -> Received
         ensures { λ r. ⌜ (r .answer ≡ answer) × (r .member ≡ self) ⌝ }
     {
         Received {
@@ -128,18 +128,18 @@ impl Member {
     }
 
     // Decides the frame `s` that refusals 2 to 7 let pass. `x` are its facts.
-    fn passed(self, s: &[u8], x: Facts, lent: &[u8], tick: u32) -> Received
+    fn decide_frame(self, s: &[u8], x: Facts, lent: &[u8], tick: u32) -> Received
         requires { ⌜ ((f : Frame) × Passed (self .state) tick (now lent) (now s) x f) ⌝ }
         ensures { λ r. ⌜ ((f : Frame) → Passed (self .state) tick (now (lent .entry)) (now (s .entry)) x f →
             Judged limits (self .state) tick (now (lent .entry)) f (numberOf (r .answer)) (r .member .state)) ⌝ }
     {
         let state = self.state;
         let next = decide(state, s, x, lent, tick);
-        answered(next.number, next.state)
+        make_received(next.number, next.state)
     }
 
     // Judges the frame `s`, whose layout is whole: refusals 2 to 7 first, then 8 and 9.
-    fn judged(self, s: &[u8], lent: &[u8], tick: u32) -> Received
+    fn judge(self, s: &[u8], lent: &[u8], tick: u32) -> Received
         requires { ⌜ ((f : Frame) × (frame (self .state .profile) (now s) ≡ whole f [])) ⌝ }
         ensures { λ r. ⌜ ((f : Frame) → frame (self .state .profile) (now (s .entry)) ≡ whole f [] →
             Judged limits (self .state) tick (now (lent .entry)) f (numberOf (r .answer)) (r .member .state)) ⌝ }
@@ -148,9 +148,9 @@ impl Member {
         match check_judging::refusal::refusal(state, s, lent, tick) {
             Verdict::Refused(number) => {
                 let answer = answer_of(number);
-                self.refused(answer)
+                self.refuse(answer)
             }
-            Verdict::Passed(x) => self.passed(s, x, lent, tick),
+            Verdict::Passed(x) => self.decide_frame(s, x, lent, tick),
         }
     }
 
@@ -162,8 +162,8 @@ impl Member {
     {
         let state = self.state;
         match wire_frames::layout_with_profile(state.profile, frame) {
-            Layout::Whole => self.judged(frame, lent, tick),
-            Layout::Broken(at) => self.refused(Answer::BrokenLayout(at)),
+            Layout::Whole => self.judge(frame, lent, tick),
+            Layout::Broken(at) => self.refuse(Answer::BrokenLayout(at)),
         }
     }
 }

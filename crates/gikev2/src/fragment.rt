@@ -131,7 +131,8 @@ impl Member {
         tick: u32,
     ) -> Gathered
         requires { ⌜ ToGather self collection tick f key (now frame) (now room) p n ⌝ }
-        ensures { λ r. ⌜ ReceivesFragment self collection tick (now (frame .entry)) (now (room .entry)) (r .answer) (r .member) (r .collection)
+        ensures { λ r. ⌜ ReceivesFragment self collection tick (now (frame .entry)) (now (room .entry)) (r .answer) (r .member)
+            (r .collection)
             (now (room .exit)) ⌝ }
     {
         let gathered = gather_piece(collection, f, key, frame, p, n);
@@ -156,7 +157,8 @@ impl Member {
         tick: u32,
     ) -> Gathered
         requires { ⌜ PassedOpening self tick key (now frame) (now room) p ⌝ }
-        ensures { λ r. ⌜ ReceivesFragment self collection tick (now (frame .entry)) (now (room .entry)) (r .answer) (r .member) (r .collection)
+        ensures { λ r. ⌜ ReceivesFragment self collection tick (now (frame .entry)) (now (room .entry)) (r .answer) (r .member)
+            (r .collection)
             (now (room .exit)) ⌝ }
     {
         let f = names_in(frame);
@@ -187,7 +189,8 @@ impl Member {
         tick: u32,
     ) -> Gathered
         requires { ⌜ PassedOutside self tick (now frame) ⌝ }
-        ensures { λ r. ⌜ ReceivesFragment self collection tick (now (frame .entry)) (now (room .entry)) (r .answer) (r .member) (r .collection)
+        ensures { λ r. ⌜ ReceivesFragment self collection tick (now (frame .entry)) (now (room .entry)) (r .answer) (r .member)
+            (r .collection)
             (now (room .exit)) ⌝ }
     {
         let state = self.state;
@@ -209,7 +212,8 @@ impl Member {
         room: &mut [u8],
         tick: u32,
     ) -> Gathered
-        ensures { λ r. ⌜ ReceivesFragment self collection tick (now (frame .entry)) (now (room .entry)) (r .answer) (r .member) (r .collection)
+        ensures { λ r. ⌜ ReceivesFragment self collection tick (now (frame .entry)) (now (room .entry)) (r .answer) (r .member)
+            (r .collection)
             (now (room .exit)) ⌝ }
     {
         if is_fragment(frame) {

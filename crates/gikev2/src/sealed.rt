@@ -17,7 +17,7 @@ ghost use mathlib.Core.Bool.{true, false};
 ghost use Prim.Native.Nat.{_≤_};
 ghost use lib.ListN.{length};
 ghost use Rattle.state_keys.specs.Limits.{limits};
-ghost use Rattle.state_keys.specs.Lists.{any};
+ghost use Rattle.lists.specs.Lists.{any};
 ghost use Rattle.wire_frames.specs.Header.{headerOf};
 ghost use Rattle.state_sa.specs.Entry.{liveRekey};
 ghost use Rattle.state_table.specs.Table.{sasOf, tableFormed};
@@ -67,7 +67,7 @@ impl Member {
         let t = state.table;
         let key = sealing_key(t);
         match sealing::open_frame(key, frame, room) {
-            Unsealed::No => self.refused(Answer::Unopened),
+            Unsealed::No => self.refuse(Answer::Unopened),
             Unsealed::Count(n) => self.receive(&room[0..n], &frame[0..0], tick),
         }
     }
@@ -81,10 +81,10 @@ impl Member {
         if sealing::is_outer(frame) {
             let state = self.state;
             if is_not_for(state, frame, tick) {
-                return self.refused(Answer::NotForMember);
+                return self.refuse(Answer::NotForMember);
             }
             return self.open_sealed(frame, room, tick);
         }
-        self.refused(Answer::BrokenLayout(0))
+        self.refuse(Answer::BrokenLayout(0))
     }
 }

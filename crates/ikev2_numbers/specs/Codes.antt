@@ -222,12 +222,20 @@ dataSpiOctets = 4
 abbrev pub rekeySpiOctets : ℕ
 rekeySpiOctets = 16
 
+-- the initiator's and the responder's SPI in the IKE header, 8 octets each (RFC 7296, section 3.1)
+abbrev pub headerSpisOctets : ℕ
+headerSpisOctets = 16
+
 -- attributes (RFC 7296, section 3.3.5): the format bit, the octets of type and length, and of a type with its value in short form
 abbrev pub formatBit : ℕ
 formatBit = 32768
 
 abbrev pub attributeHeadOctets : ℕ
 attributeHeadOctets = 4
+
+-- a short attribute: type 2, value 2
+abbrev pub shortAttributeOctets : ℕ
+shortAttributeOctets = 4
 
 abbrev pub shortHeadOctets : ℕ
 shortHeadOctets = 2
@@ -240,11 +248,11 @@ kwkIdAt = 4
 abbrev pub wrappedAt : ℕ
 wrappedAt = 8
 
-abbrev pub leastWrapped : ℕ
-leastWrapped = 24
+abbrev pub leastKeyValue : ℕ
+leastKeyValue = 24
 
-abbrev pub mostWrapped : ℕ
-mostWrapped = 272
+abbrev pub mostKeyValue : ℕ
+mostKeyValue = 272
 
 abbrev pub wrappedBlock : ℕ
 wrappedBlock = 8

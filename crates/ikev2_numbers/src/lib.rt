@@ -160,6 +160,9 @@ pub const FORMAT_BIT: usize = 32768;
 
 pub const ATTRIBUTE_HEAD: usize = 4;
 
+// A short attribute: type 2, value 2.
+pub const SHORT_ATTRIBUTE: usize = 4;
+
 pub const SHORT_HEAD: usize = 2;
 
 // The value of SA_KEY and WRAP_KEY: Key ID and KWK ID of four octets each, then 16 to 264 wrapped octets in blocks of 8 (document 01). The
@@ -168,8 +171,8 @@ pub const KWK_ID_AT: usize = 4;
 
 pub const WRAPPED_AT: usize = 8;
 
-pub const LEAST_WRAPPED: usize = 24;
+pub const LEAST_KEY_VALUE: usize = 24;
 
-pub const MOST_WRAPPED: usize = 272;
+pub const MOST_KEY_VALUE: usize = 272;
 
 pub const WRAPPED_BLOCK: usize = 8;

@@ -9,7 +9,7 @@ use lib.ListN.{length}
 use Rattle.ikev2_numbers.specs.Codes.{exchangeAt}
 use Rattle.octets.specs.Numbers.{oct}
 use Rattle.state_keys.specs.Limits.{Limits}
-use Rattle.state_keys.specs.Algorithms.{sizeOf}
+use Rattle.state_keys.specs.Algorithms.{isWrappingSize}
 use Rattle.state_keys.proofs.Sizes.{wrapping-size, among-is}
 use Rattle.wire_frames.specs.Frame.{Frame}
 use Rattle.state.specs.declared.State.{State}
@@ -27,8 +27,8 @@ module _ (limits : Limits) (s : State) (now : ℕ) (lent : List ℕ) where
   unfolding number5OfFrame lentKeySize
   key-judged f c r =
       let n = no-clause (number5OfFrame lent f) 5 (c .no-5 .ofFrame) in
-      let q : not (sizeOf 13 (length lent)) ≡ false = rw r at n in
-      among-is 16 24 32 (length lent) (sym (wrapping-size (length lent)) ∙ not-false (sizeOf 13 (length lent)) q)
+      let q : not (isWrappingSize (length lent)) ≡ false = rw r at n in
+      among-is 16 24 32 (length lent) (sym (wrapping-size (length lent)) ∙ not-false (isWrappingSize (length lent)) q)
 
   -- an exchange that number 2 admits and that is no GSA_REKEY judges the lent key
   judges : (f : Frame) → Clear limits s now lent f → (f .header .exchange ≡ 41 → ⊥) → rowOf f .«judges_lent_key» ≡ true

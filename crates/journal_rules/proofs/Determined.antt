@@ -5,7 +5,7 @@ use mathlib.Core.Path.{_≡_, refl, ap, sym, _∙_, subst}
 use mathlib.Core.Bool.{Bool}
 use mathlib.Core.List.{List}
 use Rattle.state_keys.specs.Limits.{Limits}
-use Rattle.state_keys.proofs.Cases.{never}
+use Rattle.lists.proofs.Cases.{never}
 use Rattle.text_rules.specs.Lines.{Line}
 use Rattle.state.specs.declared.State.{State}
 use Rattle.rules_outcome.specs.Outcome.{Outcome}

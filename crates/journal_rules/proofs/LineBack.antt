@@ -13,7 +13,7 @@ use Rattle.octets.specs.Octets.{Octets}
 use Rattle.octets.specs.Walk.{be32}
 use Rattle.octets.proofs.Octets.{join-octets, one-octet, no-octets}
 use Rattle.octets.proofs.RoundTrip.{octets-octets, length-octets}
-use Rattle.state_keys.proofs.Cases.{bool-cases}
+use Rattle.lists.proofs.Cases.{bool-cases}
 use Rattle.text_rules.specs.Hex.{digitsOf}
 use Rattle.text_rules.proofs.RoundTrip.{read-written, written-hex}
 use Rattle.rules_outcome.specs.Run.{Event, handed, sweep, leave}

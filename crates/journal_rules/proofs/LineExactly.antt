@@ -14,7 +14,7 @@ use Rattle.octets.specs.Octets.{Octets}
 use Rattle.octets.specs.Walk.{be32}
 use Rattle.octets.proofs.Octets.{one-octet, no-octets, drop-octets, take-octets}
 use Rattle.octets.proofs.RoundTrip.{number-lt, octets-number}
-use Rattle.state_keys.proofs.Cases.{bool-cases, lt-cases, and-parts}
+use Rattle.lists.proofs.Cases.{bool-cases, lt-cases, and-parts}
 use Rattle.text_rules.specs.Hex.{isDigit, digitValue, isHex, octetsOfHex, digitsOf}
 use Rattle.text_rules.proofs.HexLaws.{of-digit, other-value}
 use Rattle.text_rules.proofs.RoundTrip.{written-read}

@@ -13,9 +13,8 @@ use Rattle.octets.specs.Octets.{Octets}
 use Rattle.octets.specs.Walk.{be32}
 use Rattle.octets.proofs.RoundTrip.{length-octets}
 use Rattle.state_keys.specs.Limits.{Limits}
-use Rattle.state_keys.proofs.Cases.{bool-cases, lt-cases}
+use Rattle.lists.proofs.Cases.{bool-cases, lt-cases, and-parts}
 use Rattle.text_rules.specs.Hex.{areDigits, isHex, octetsOfHex, digitsOf}
-use Rattle.text_rules.proofs.Cases.{and-true}
 use Rattle.text_rules.proofs.RoundTrip.{length-written}
 use Rattle.text_lines.proofs.CallLaws.{length-octets as length-read}
 use Rattle.state.specs.declared.State.{State}
@@ -78,7 +77,7 @@ module _ (limits : Limits) (s : State) where
   long-stops text h =
       bool-cases (isHex text)
       (λ e.
-      let p = eqb-true (length text % 2) 0 (and-true (areDigits text) _ e .1) in
+      let p = eqb-true (length text % 2) 0 (and-parts (areDigits text) _ e .1) in
       let l = length-read text in
       rw e (stop-long (octetsOfHex text) (read-octets text) (omega arith)))
       (λ e. rw e tt)

@@ -7,26 +7,25 @@ use mathlib.Core.List.{List, [], _∷_, _++_}
 use borrow.Author.Tests.{ne-eqb, eqb-false}
 use lib.Dec.{eqb}
 use lib.ListN.{take}
-use Rattle.state_keys.specs.Lists.{count}
-use Rattle.state_keys.proofs.Cases.{bool-cases}
+use Rattle.lists.specs.Lists.{count}
+use Rattle.lists.proofs.Cases.{bool-cases, never, and-parts}
 use Rattle.text_rules.specs.Hex.{isDigit, areDigits, isHex}
-use Rattle.text_rules.proofs.Cases.{true-not-false, and-true}
 use Rattle.text_lines.proofs.LineLaws.{NoNewline}
 use Rattle.journal_rules.specs.Claims.{linesEnded}
 
 -- hexadecimal text has no newline
 no-digit : (c : ℕ) → isDigit c ≡ true → c ≡ 10 → ⊥
 unfolding isDigit
-no-digit c h e = true-not-false (isDigit c) h (ap isDigit e)
+no-digit c h e = never (isDigit c) h (ap isDigit e)
 
 digits-plain : (s : List ℕ) → areDigits s ≡ true → NoNewline s
 unfolding areDigits
 digits-plain [] h = tt
-digits-plain (c ∷ s) h = let p = and-true (isDigit c) (areDigits s) h in (no-digit c (p .0), digits-plain s (p .1))
+digits-plain (c ∷ s) h = let p = and-parts (isDigit c) (areDigits s) h in (no-digit c (p .0), digits-plain s (p .1))
 
 pub hex-plain : (s : List ℕ) → isHex s ≡ true → NoNewline s
 unfolding isHex
-hex-plain s h = digits-plain s (and-true (areDigits s) _ h .0)
+hex-plain s h = digits-plain s (and-parts (areDigits s) _ h .0)
 
 pub plain-take : (k : ℕ) (s : List ℕ) → NoNewline s → NoNewline (take k s)
 plain-take zero s p = tt

@@ -12,8 +12,8 @@ use lib.Seq.{take-append-le, take-append-add, take-nil}
 use Rattle.ikev2_numbers.specs.Codes.{exchangeAt}
 use Rattle.octets.specs.Numbers.{oct}
 use Rattle.state_keys.specs.Limits.{Limits}
-use Rattle.state_keys.specs.Lists.{count}
-use Rattle.state_keys.proofs.Cases.{bool-cases, lt-cases}
+use Rattle.lists.specs.Lists.{count}
+use Rattle.lists.proofs.Cases.{bool-cases, lt-cases}
 use Rattle.text_rules.specs.Hex.{digitsOf}
 use Rattle.text_rules.specs.Lines.{Line, lines}
 use Rattle.text_rules.proofs.RoundTrip.{written-hex}

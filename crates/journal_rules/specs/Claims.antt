@@ -9,7 +9,7 @@ use lib.ListN.{length, take}
 use Rattle.ikev2_numbers.specs.Codes.{headerOctets, mostOctets}
 use Rattle.octets.specs.Octets.{Octets}
 use Rattle.state_keys.specs.Limits.{Limits}
-use Rattle.state_keys.specs.Lists.{count}
+use Rattle.lists.specs.Lists.{count}
 use Rattle.text_rules.specs.Hex.{digitsOf}
 use Rattle.text_rules.specs.Lines.{lines}
 use Rattle.state.specs.declared.State.{State}

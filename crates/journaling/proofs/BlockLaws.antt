@@ -6,7 +6,7 @@ use mathlib.Core.Bool.{Bool, true, false, not}
 use mathlib.Core.List.{List, [], _∷_, _++_}
 use lib.ListN.{length, take, drop, length-drop, drop-of-length-le}
 use lib.Seq.{drop-append-seam, drop-drop, take-nil, take-all, take-take, length-take-le}
-use Rattle.state_keys.proofs.Cases.{lt-cases}
+use Rattle.lists.proofs.Cases.{lt-cases}
 use Rattle.text_rules.specs.Lines.{Line, lines}
 use Rattle.text_lines.specs.inner.First.{lineOctets, firstOf}
 use Rattle.text_lines.specs.inner.Reading.{LineKept}

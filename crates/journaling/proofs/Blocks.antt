@@ -8,7 +8,7 @@ use lib.Dec.{eqb}
 use lib.ListN.{length, take, length-append}
 use lib.Seq.{take-all, take-take, take-append-le, length-take-le}
 use Rattle.state_keys.specs.Limits.{limits}
-use Rattle.state_keys.proofs.Cases.{bool-cases, never, lt-cases}
+use Rattle.lists.proofs.Cases.{bool-cases, never, lt-cases}
 use Rattle.text_rules.specs.Lines.{Line, prependCharacter, lines}
 use Rattle.text_lines.specs.inner.First.{lineOctets}
 use Rattle.text_lines.proofs.LineLaws.{NoNewline, lines-ended}

@@ -10,7 +10,7 @@ use lib.ListN.{length, take, drop, getD}
 use lib.Seq.{getD-drop, take-all, take-length, length-take-le}
 use Rattle.octets.specs.Walk.{be32}
 use Rattle.state_keys.specs.Limits.{limits}
-use Rattle.state_keys.proofs.Cases.{lt-cases, and-parts}
+use Rattle.lists.proofs.Cases.{lt-cases, and-parts}
 use Rattle.text_rules.specs.Hex.{isHex, octetsOfHex}
 use Rattle.text_lines.specs.inner.Room.{Put}
 use Rattle.text_lines.specs.inner.Reading.{LineKept}

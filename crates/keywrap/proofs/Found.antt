@@ -8,7 +8,8 @@ use lib.ListN.{length, take, drop, replicate, length-append, length-drop, length
 use lib.Seq.{drop-cons, take-at, take-append-add, length-take-le, getD-drop}
 use Rattle.octets.specs.Octets.{Octets}
 use Rattle.octets.proofs.Octets.{join-octets, take-octets, zero-octets}
-use Rattle.octets.proofs.Replicate.{drop-replicate, take-replicate}
+use Rattle.lists.proofs.Parts.{drop-replicate}
+use Rattle.lists.proofs.Replicate.{take-replicate}
 use Rattle.rfc5649.specs.Steps.{register}
 use Rattle.rfc5649.specs.Wrap.{initialValue, blocks, padToBlocks, registers, registerOctets, startRegisters}
 use Rattle.keywrap.specs.Answers.{written, Wrote}
@@ -67,7 +68,7 @@ module _ (s : List ℕ) (n : ℕ) (is : Registers 33 s) (least : 1 ≤ n) (most 
     out-is =
         e ∙ ap (λ (k : ℕ). written (registerOctets (take k (drop 1 s))) blank) (let z : n + 1 - 1 ≡ n = omega arith in z)
         ∙ ap (λ (l : List ℕ). registerOctets r ++ l)
-        (ap (λ (k : ℕ). drop k (replicate 256 0)) length-r ∙ drop-replicate (8 * n) 256 0 (omega arith))
+        (ap (λ (k : ℕ). drop k (replicate 256 0)) length-r ∙ drop-replicate (8 * n) 256 0)
 
     pub length-out : length out ≡ 256
     length-out =
@@ -140,5 +141,5 @@ module _ (s : List ℕ) (n : ℕ) (is : Registers 33 s) (least : 1 ≤ n) (most 
             count = count;
             room-is = whole ∙ ap (λ (l : List ℕ). take m out ++ l)
                 (ap (λ (k : ℕ). replicate (256 - k) 0) (sym count)
-                ∙ sym (drop-replicate (length (take m out)) 256 0 (omega (arith, count, m-blocks))));
+                ∙ sym (drop-replicate (length (take m out)) 256 0));
           }

@@ -9,8 +9,9 @@ use lib.Seq.{take-suc, take-at, drop-at, length-take-le, drop-drop, take-length,
 use borrow.Rule.Slice.PartMut.{midOf, putMid}
 use Rattle.octets.specs.Numbers.{octetsOf}
 use Rattle.octets.proofs.RoundTrip.{length-octets}
-use Rattle.octets.proofs.Parts.{copied-end}
-use Rattle.octets.proofs.Replicate.{take-replicate, drop-replicate}
+use Rattle.lists.proofs.Slices.{copied-end}
+use Rattle.lists.proofs.Parts.{drop-replicate}
+use Rattle.lists.proofs.Replicate.{take-replicate}
 use Rattle.rfc5649.specs.Steps.{register}
 use Rattle.rfc5649.specs.Wrap.{initialValue, blocks, padToBlocks, registers, registerOctets, startRegisters}
 use Rattle.keywrap.specs.Answers.{written}
@@ -62,7 +63,7 @@ module _ (x p : List ℕ) (most : length x ≤ 256) (e : p ≡ take (length x) x
 
   filled : p ≡ x ++ replicate (256 - m) 0
   unfolding m
-  filled = e ∙ ap₂ (λ (a b : List ℕ). a ++ b) (take-length x) (drop-replicate (length x) 256 0 most)
+  filled = e ∙ ap₂ (λ (a b : List ℕ). a ++ b) (take-length x) (drop-replicate (length x) 256 0)
 
   pub length-filled : length p ≡ 256
   unfolding m
@@ -83,7 +84,7 @@ module _ (x p : List ℕ) (most : length x ≤ 256) (e : p ≡ take (length x) x
   begun-is es =
       ap₂ (λ (a b : List ℕ). initialValue (length x) ∷ (a ++ b))
       (es ∙ ap₂ registers (length-take-le {A = ℕ} (blocks (length x) + 1 - 1) (replicate 32 0) (omega arith) ∙ less) front)
-      (ap (λ (k : ℕ). drop k (replicate 32 0)) less ∙ drop-replicate (blocks (length x)) 32 0 (omega arith))
+      (ap (λ (k : ℕ). drop k (replicate 32 0)) less ∙ drop-replicate (blocks (length x)) 32 0)
     where
       less : blocks (length x) + 1 - 1 ≡ blocks (length x)
       less = omega arith

@@ -5,7 +5,7 @@ use mathlib.Core.Bool.{true, false}
 use mathlib.Core.List.{List, [], _++_, append-nil, append-assoc}
 use native.Mathlib.Omega.{arith}
 use lib.ListN.{length, length-append}
-use Rattle.text_rules.proofs.Cases.{by-test, true-not-false}
+use Rattle.lists.proofs.Cases.{bool-cases, never}
 use Rattle.member.specs.inner.Handing.{HandedOver}
 use Rattle.member.specs.declared.output.Handed.{Handed}
 
@@ -21,7 +21,7 @@ over-held {h} {s} t =
       rest = s;
       parts = refl;
       count = omega arith;
-      all = λ f. true-not-false (h .failed) t f;
+      all = λ f. never (h .failed) t f;
       none = λ u. refl;
       stays = λ u. u;
     }
@@ -35,8 +35,8 @@ over-all {h} {s = s} f n =
       parts = sym (append-nil s);
       count = n;
       all = λ g. refl;
-      none = λ t. true-not-false (h .failed) t f;
-      stays = λ t. true-not-false (h .failed) t f;
+      none = λ t. never (h .failed) t f;
+      stays = λ t. never (h .failed) t f;
     }
 
 module _ {h m e : Handed} {s t : List ℕ} (p : HandedOver h s m) (q : HandedOver m t e) where
@@ -49,7 +49,7 @@ module _ {h m e : Handed} {s t : List ℕ} (p : HandedOver h s m) (q : HandedOve
         rest = p .rest ++ t;
         parts = ap (λ (x : List ℕ). x ++ t) (p .parts) ∙ append-assoc (p .over) (p .rest) t;
         count = omega (arith, p .count, q .count, n);
-        all = λ g. true-not-false (e .failed) (q .stays f) g;
+        all = λ g. never (e .failed) (q .stays f) g;
         none = p .none;
         stays = λ u. q .stays f;
       }
@@ -66,9 +66,9 @@ module _ {h m e : Handed} {s t : List ℕ} (p : HandedOver h s m) (q : HandedOve
             ∙ sym (append-assoc (p .over) (q .over) (q .rest));
         count = omega (arith, p .count, q .count, n);
         all = q .all;
-        none = λ u. true-not-false (m .failed) (p .stays u) f;
-        stays = λ u. true-not-false (m .failed) (p .stays u) f;
+        none = λ u. never (m .failed) (p .stays u) f;
+        stays = λ u. never (m .failed) (p .stays u) f;
       }
 
   pub over-more : HandedOver h (s ++ t) e
-  over-more = by-test (m .failed) more-held more-over
+  over-more = bool-cases (m .failed) more-held more-over

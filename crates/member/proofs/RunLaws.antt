@@ -7,8 +7,8 @@ use mathlib.Core.List.{List, [], _++_}
 use native.Mathlib.Omega.{arith}
 use borrow.Author.Tests.{eqb-false}
 use lib.ListN.{length, length-append}
+use Rattle.lists.proofs.Cases.{bool-cases, never}
 use Rattle.text_lines.specs.inner.Reading.{TextState, textStart, Reads}
-use Rattle.text_rules.proofs.Cases.{by-test, true-not-false}
 use Rattle.text_lines.proofs.ReadingLaws.{reads-append, whole}
 use Rattle.gikev2.specs.Member.{newMember}
 use Rattle.gikev2.specs.declared.Member.{Member}
@@ -93,11 +93,11 @@ module _ {line out : List ℕ} {p : Progress} {t : InputTaken} {turns : ℕ} (f 
     over = over-more (f .handed) (d .over)
 
     ends : RunEnds (record { taken = t; handed = e }) (f .input) (over .rest)
-    ends = by-test (e .failed) write-failed (λ g. go g (f .most))
+    ends = bool-cases (e .failed) write-failed (λ g. go g (f .most))
       where
         go : e .failed ≡ false → Most (f .input) t (p .handed) turns → RunEnds (record { taken = t; handed = e }) (f .input) (over .rest)
         go g (inl (inl s, m)) = input-ended s (over .all g)
-        go g (inl (inr s, m)) = true-not-false (e .failed) (d .over .stays s) g
+        go g (inl (inr s, m)) = never (e .failed) (d .over .stays s) g
         go g (inr m) = most-read (omega arith) (over .all g)
 
     pub far-end : Runs (record { taken = t; handed = e })

@@ -12,7 +12,7 @@ use Rattle.octets.specs.Walk.{Linked, chainUpTo, chain, many}
 abbrev four : List ℕ
 four = 1 ∷ 2 ∷ 3 ∷ 4 ∷ []
 
--- RFC 7296, section 3: "network byte order"; 0x01020304 is 16909060
+-- RFC 7296, section 3.1: "network byte order"; 0x01020304 is 16909060
 numbers : (number 1 four ≡ 1) × (number 2 four ≡ 258) × (number 4 four ≡ 16909060) × (be16 four 1 ≡ 515) × (be16 four 2 ≡ 772)
     × (be32 (9 ∷ four) 1 ≡ 16909060) × (octetsOf 2 258 ≡ 1 ∷ 2 ∷ []) × (octetsOf 4 16909060 ≡ four)
 unfolding number octetsOf

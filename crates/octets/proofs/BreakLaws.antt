@@ -3,14 +3,14 @@
 use Prim.Native.Nat.{ℕ, zero, suc, _+_, _-_, _<_, _≤_}
 use mathlib.Core.Path.{_≡_, refl, ap, sym, _∙_, subst}
 use mathlib.Core.List.{List, _∷_, _++_}
-use mathlib.Core.Bool.{Bool, true, false}
+use mathlib.Core.Bool.{Bool, true, false, _&&_, cond}
 use mathlib.Core.Logic.{_⊎_, inl, inr}
 use native.Mathlib.Omega.{arith}
 use borrow.Author.Tests.{ne-eqb, eqb-true, eqb-false, lt-leb, leb-false, leb-true}
 use lib.Dec.{eqb, leb}
 use lib.ListN.{length, length-append}
-use Rattle.octets.specs.Walk.{be16, both, sized, Spans, none, more}
-use Rattle.octets.specs.Walk.{part, Reading, whole, broken, Reader, either, mapped, opened, begun, closed, after, andThen}
+use Rattle.octets.specs.Walk.{be16, sized, Spans, none, more}
+use Rattle.octets.specs.Walk.{part, Reading, whole, broken, Reader, mapped, opened, begun, closed, after, andThen}
 use Rattle.octets.specs.Walk.{Linked, push, chain, Alone, atEnd, stateless, many}
 use Rattle.octets.specs.Breaks.{BreaksStructure, own, inside, BreaksDue, missing, has-begun, BreaksInChain, here, later}
 use Rattle.octets.specs.Breaks.{BreaksInRow, first, next, FaultOfLength, cut, too-small, runs-past}
@@ -48,14 +48,14 @@ then-broken {A} p k b s o = go (p b s) refl
     go (broken m) e q = at-first (e ∙ ap broken (broken-at q))
 
 -- TESTS THAT FAIL
-pub not-left : (a b : Bool) → a ≡ false → both a b ≡ false
-not-left a b e = ap (λ (t : Bool). both t b) e
+pub not-left : (a b : Bool) → a ≡ false → (a && b) ≡ false
+not-left a b e = ap (λ (t : Bool). t && b) e
 
-pub not-right : (a b : Bool) → b ≡ false → both a b ≡ false
+pub not-right : (a b : Bool) → b ≡ false → (a && b) ≡ false
 not-right true b e = e
 not-right false b e = refl
 
-pub one-not : (a b : Bool) → both a b ≡ false → (a ≡ false) ⊎ (b ≡ false)
+pub one-not : (a b : Bool) → (a && b) ≡ false → (a ≡ false) ⊎ (b ≡ false)
 one-not true b e = inr e
 one-not false b e = inl refl
 
@@ -71,7 +71,7 @@ module _ (k : ℕ) (s : List ℕ) where
   pub fault-unsized : FaultOfLength k s → sized k s ≡ false
   fault-unsized (cut h) = go (leb k (be16 s 2)) refl
     where
-      go : (t : Bool) → leb k (be16 s 2) ≡ t → both t (leb (be16 s 2) (length s)) ≡ false
+      go : (t : Bool) → leb k (be16 s 2) ≡ t → (t && leb (be16 s 2) (length s)) ≡ false
       go true e = lt-leb (be16 s 2) (length s) (omega (arith, leb-true k (be16 s 2) e))
       go false e = refl
   fault-unsized (too-small h) = not-left (leb k (be16 s 2)) (leb (be16 s 2) (length s)) (lt-leb k (be16 s 2) h)
@@ -98,7 +98,7 @@ module _ {A : Type 0} (Fault Inside : Type 0) (b : ℕ) (t : Bool) (x : Reading 
       go false e = absurd (n (fault e))
 
 -- fields that are read with what the structure holds, and count for it as its own
-pub opened-both : {A : Type 0} (b : ℕ) (t u : Bool) (x : Reading A) → (u ≡ false → x ≡ broken b) → opened b t x ≡ opened b (both t u) x
+pub opened-both : {A : Type 0} (b : ℕ) (t u : Bool) (x : Reading A) → (u ≡ false → x ≡ broken b) → opened b t x ≡ opened b (t && u) x
 opened-both b true true x f = refl
 opened-both b true false x f = f refl
 opened-both b false u x f = refl
@@ -108,7 +108,7 @@ module _ {A : Type 0} (h : ℕ) (s : List ℕ) (x : Reading A) (Breaks : Type 0)
   pub due-to : (0 < length s → x ≡ broken o → Breaks) → begun h s x ≡ broken o → BreaksDue h s Breaks o
   due-to f = go (eqb (length s) 0) refl
     where
-      go : (u : Bool) → eqb (length s) 0 ≡ u → either u (broken h) x ≡ broken o → BreaksDue h s Breaks o
+      go : (u : Bool) → eqb (length s) 0 ≡ u → cond u (broken h) x ≡ broken o → BreaksDue h s Breaks o
       go true e q = missing (eqb-true (length s) 0 e) (sym (broken-at q))
       go false e q = let n = eqb-false (length s) 0 e in let k : 0 < length s = omega arith in has-begun k (f k q)
 

@@ -4,19 +4,20 @@ use Prim.Native.Nat.{ℕ, _*_, _≤_, _<_}
 use mathlib.Core.Path.{_≡_, refl, ap, sym, subst, _∙_}
 use mathlib.Core.Bool.{Bool, true, false, false≢true}
 use mathlib.Core.List.{List, [], _∷_, List·Memᴰ, List·Memᴰ·head, List·Memᴰ·tail, List·Memᴰ·not-nil, Memᴰ·append-left, Memᴰ·append-right}
+use mathlib.Core.List.{flatMap}
 use lib.ListN.{length, take, getD}
 use Rattle.wire_attributes.specs.Tree.{SaKey, WrapKey}
 use Rattle.wire_policies.specs.Policy.{GroupSaPolicy}
 use Rattle.wire_frames.specs.Frame.{Frame}
 use Rattle.state_keys.specs.Limits.{limits}
-use Rattle.state_keys.specs.Lists.{any, keep}
-use Rattle.state_keys.proofs.Cases.{bool-cases}
-use Rattle.state_keys.proofs.Members.{member-kept}
+use Rattle.lists.specs.Lists.{any, keep}
+use Rattle.lists.proofs.Cases.{bool-cases}
+use Rattle.lists.proofs.Members.{member-kept}
 use Rattle.state.specs.Held.{keysOf, heldFormed}
 use Rattle.state.specs.declared.State.{State}
 use Rattle.state.specs.declared.held.Held.{Held}
 use Rattle.state.proofs.Kept.{no-key-formed}
-use Rattle.rules_refusals.specs.Contents.{rowOf, gather, announced}
+use Rattle.rules_refusals.specs.Contents.{rowOf, announced}
 use Rattle.rules_refusals.specs.Fitness.{isRekey}
 use Rattle.rules_chains.specs.Chain.{In, Root, CopyOpens}
 use Rattle.rules_chains.proofs.Members.{in-member, member-in}
@@ -47,9 +48,9 @@ two-lent reached carried fresh n held ids block own e lends =
     }
 
 -- ---- a copy of an announced Rekey SA is one of the Rekey SA's copies
-gathered-in : {A B : Type 0} (g : A → List B) (l : List A) (a : A) (b : B) → List·Memᴰ a l → List·Memᴰ b (g a) → List·Memᴰ b (gather g l)
-unfolding gather
-gathered-in g _ a b (List·Memᴰ·head {x} {xs} e) n = Memᴰ·append-left (gather g xs) (subst (λ y. List·Memᴰ b (g y)) e n)
+gathered-in : {A B : Type 0} (g : A → List B) (l : List A) (a : A) (b : B) → List·Memᴰ a l → List·Memᴰ b (g a) → List·Memᴰ b (flatMap g l)
+unfolding flatMap
+gathered-in g _ a b (List·Memᴰ·head {x} {xs} e) n = Memᴰ·append-left (flatMap g xs) (subst (λ y. List·Memᴰ b (g y)) e n)
 gathered-in g _ a b (List·Memᴰ·tail {x} {xs} m) n = Memᴰ·append-right (g x) (gathered-in g xs a b m n)
 
 module _ (roots : List Root) (entries : List WrapKey) (size : ℕ) (f : Frame) where
@@ -86,13 +87,13 @@ module _ (roots : List Root) (entries : List WrapKey) (size : ℕ) (f : Frame) w
 
     -- with one it does
     a-rekey : 0 < length ids → newRekey f ≡ true
-    unfolding rekeyCopies any keep gather
+    unfolding rekeyCopies any keep flatMap
     a-rekey h =
         let o = openers .each (getD ids 0 0) (record { place = 0; inside = h; is = getD-any ids 0 (getD ids 0 0) 0 h }) in
         bool-cases (newRekey f) (λ n. n)
         (λ n.
         absurd (List·Memᴰ·not-nil
-        (subst (List·Memᴰ (o .0)) (ap (gather (copiesOf f)) (none-kept (announced f) n)) (in-member (o .0) (rekeyCopies f) (o .1)))))
+        (subst (List·Memᴰ (o .0)) (ap (flatMap (copiesOf f)) (none-kept (announced f) n)) (in-member (o .0) (rekeyCopies f) (o .1)))))
       where
         none-kept : (l : List GroupSaPolicy) → any isRekey l ≡ false → keep isRekey l ≡ []
         none-kept [] e = refl

@@ -3,7 +3,7 @@ use native.Mathlib.Omega.{arith}
 use Prim.Native.Nat.{ℕ, _≤_}
 use mathlib.Core.Path.{_≡_, refl, ap, sym, subst, _∙_}
 use mathlib.Core.Bool.{Bool}
-use mathlib.Core.List.{List}
+use mathlib.Core.List.{List, flatMap}
 use lib.ListN.{length}
 use Rattle.wire_attributes.specs.declared.tables.Place.the-variants.{MemberBag}
 use Rattle.wire_attributes.specs.declared.tables.Meaning.the-variants as meaning
@@ -21,7 +21,7 @@ use Rattle.check_bagkeys.specs.inner.Places.{memberIn}
 use Rattle.check_judging.specs.declared.facts.Facts.{Facts}
 use Rattle.check_judging.specs.inner.Facts.{at}
 use Rattle.check_judging.proofs.MemberLaws.{member-is}
-use Rattle.rules_refusals.specs.Contents.{rowOf, gather, memberBagOf, policiesOf, wrapKeysOf}
+use Rattle.rules_refusals.specs.Contents.{rowOf, memberBagOf, policiesOf, wrapKeysOf}
 use Rattle.rules_outcome.proofs.FreshRead.{no-fresh, fresh-in-rekey-bags}
 use Rattle.unwrap_tree.specs.inner.Reached.{wrapKeysAmong}
 use Rattle.unwrap_tree.specs.inner.Entries.{HoldsEntries}
@@ -58,7 +58,7 @@ module _ (m : State) (now : ℕ) (lent s : List ℕ) (x : Facts) (f : Frame) (p 
   holds-entries : HoldsEntries meaning.WrapKey MemberBag (at s (x .payloads .kd)) (x .«member_bag») (wrapKeysOf f)
   holds-entries =
       let one = one-member-bag m now lent f (p .clauses) in
-      let few = subst (λ (l : List Bag). length (gather memberBagOf l) ≤ 1) (sym (holds-bags .all)) one in
+      let few = subst (λ (l : List Bag). length (flatMap memberBagOf l) ≤ 1) (sym (holds-bags .all)) one in
       let i = member-is reads (at s (x .payloads .kd)) (x .«member_bag») bag-stands (holds-bags .held) few in
       record {
         order = i .order;

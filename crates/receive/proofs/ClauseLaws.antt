@@ -3,12 +3,12 @@ use native.Mathlib.Omega.{arith}
 use Prim.Native.Nat.{ℕ, suc, _+_, _≤_}
 use mathlib.Core.Path.{_≡_, refl, ap, sym}
 use mathlib.Core.Bool.{Bool, true, false, not, cond, _&&_, false≢true}
-use mathlib.Core.List.{List, [], _∷_}
+use mathlib.Core.List.{List, [], _∷_, flatMap}
 use borrow.Author.Tests.{ltb-false}
 use lib.ListN.{length, getD}
 use Rattle.state_keys.specs.Limits.{limits}
-use Rattle.state_keys.specs.Lists.{any, count}
-use Rattle.state_keys.specs.Algorithms.{sizeOf}
+use Rattle.lists.specs.Lists.{any, count}
+use Rattle.state_keys.specs.Algorithms.{isWrappingSize}
 use Rattle.wire_policies.specs.Policy.{GroupSaPolicy, GroupWidePolicy}
 use Rattle.wire_bags.specs.Bag.{MemberKeyBag}
 use Rattle.wire_frames.specs.Frame.{Frame}
@@ -17,7 +17,7 @@ use Rattle.wire_frames.specs.declared.exchanges.KeyZero.{KeyZero}
 use Rattle.wire_frames.specs.declared.exchanges.KeyZero.the-variants as keyZero
 use Rattle.state.specs.declared.State.{State}
 use Rattle.state.specs.State.{stateFormed}
-use Rattle.rules_refusals.specs.Contents.{rowOf, gather, some, several, hasGsa, hasKd, announced, groupWides}
+use Rattle.rules_refusals.specs.Contents.{rowOf, some, several, hasGsa, hasKd, announced, groupWides}
 use Rattle.rules_refusals.specs.Contents.{memberBags, wrapKeysOf, freshKeysOf}
 use Rattle.rules_refusals.specs.Fitness.{isEsp, isRekey, transformsFit}
 use Rattle.rules_refusals.specs.Number2.{notDueSas, overLiveRekey, otherSpis}
@@ -27,8 +27,8 @@ use Rattle.rules_refusals.specs.Number5.{number5OfFrame, otherTransforms, lentK
 use Rattle.rules_refusals.specs.Number6.{number6OfFrame, policyUnpaired, bagUnpaired, wrapKeyId, freshKeyId}
 use Rattle.rules_refusals.specs.Number7.{number7OfFrame, number7OfMember, manyEspPolicies, manyWrapKeys, manySaKeys, manyFreshKeys, manySas}
 use Rattle.rules_refusals.specs.Refusals.{Number, one, applies, judged, number2, number3, number4, number5, number6, number7, refusal}
-use Rattle.rules_refusals.proofs.Clear.{or-none, no-clause}
-use Rattle.state_keys.proofs.Cases.{bool-cases}
+use Rattle.rules_refusals.proofs.Clear.{no-clause}
+use Rattle.lists.proofs.Cases.{bool-cases, or-none}
 use Rattle.unwrap_sas.specs.inner.Keyed.{newSas}
 use Rattle.rules_refusals.proofs.ExchangeRows.{by-row}
 use Rattle.rules_outcome.proofs.RunsClear.{None}
@@ -202,11 +202,11 @@ module _ (m : State) (now : ℕ) (lent : List ℕ) (f : Frame) (e : refusal limi
   none-of (a ∷ l) q = let h = ltb-false 0 (suc (length l)) q in absurd (omega arith)
 
   pub no-entry : rowOf f .«allows_member_bag» ≡ false → wrapKeysOf f ≡ []
-  unfolding number4OfFrame barredMemberBag gather
+  unfolding number4OfFrame barredMemberBag flatMap
   no-entry r =
       let n = no-4 1 in
       let q : some (memberBags f) ≡ false = rw r at n in
-      ap (gather (λ (b : MemberKeyBag). b .keys)) (none-of (memberBags f) q)
+      ap (flatMap (λ (b : MemberKeyBag). b .keys)) (none-of (memberBags f) q)
 
   -- ---- number 5
   pub no-5 : (k : ℕ) → getD (number5OfFrame lent f) k false ≡ false
@@ -216,9 +216,9 @@ module _ (m : State) (now : ℕ) (lent : List ℕ) (f : Frame) (e : refusal limi
   unfolding number5OfFrame
   transforms-fit = no-5 2
 
-  pub lent-fits : rowOf f .«judges_lent_key» ≡ true → sizeOf 13 (length lent) ≡ true
+  pub lent-fits : rowOf f .«judges_lent_key» ≡ true → isWrappingSize (length lent) ≡ true
   unfolding number5OfFrame lentKeySize
-  lent-fits r = let n = no-5 5 in not-not (sizeOf 13 (length lent)) (rw r at n)
+  lent-fits r = let n = no-5 5 in not-not (isWrappingSize (length lent)) (rw r at n)
 
   -- ---- number 6
   pub all-paired : policyUnpaired f ≡ false

@@ -8,7 +8,7 @@ use lib.ListN.{length, take}
 use Rattle.octets.specs.Numbers.{oct}
 use Rattle.octets.specs.Walk.{whole}
 use Rattle.state_keys.specs.Limits.{limits}
-use Rattle.state_keys.proofs.Cases.{and-parts}
+use Rattle.lists.proofs.Cases.{and-parts}
 use Rattle.wire_frames.specs.Frame.{Frame, frame}
 use Rattle.wire_frames.specs.Exchange.{exchangeOf}
 use Rattle.wire_frames.specs.declared.exchanges.Exchange.{Exchange}
@@ -32,7 +32,7 @@ use Rattle.rules_outcome.specs.After.{Enter}
 use Rattle.rules_outcome.specs.Outcome.{Judged, refused, accepted}
 use Rattle.rules_outcome.proofs.Answering.{answers-8, answers-9, answers-over, answers-0}
 use Rattle.rules_outcome.proofs.Determined.{held-one}
-use Rattle.rules_outcome.proofs.Accepting.{nine-policy, policy-nine}
+use Rattle.rules_outcome.proofs.Accepting.{missing-policy, policy-missing}
 use Rattle.rules_outcome.proofs.Enters.{each-enters}
 use Rattle.rules_outcome.proofs.Members.{in-map, map-in}
 use Rattle.apply.specs.inner.Following.{Follows}
@@ -52,14 +52,14 @@ module _ (m : State) (now : ℕ) (lent : List ℕ) (f : Frame) (e : refusal limi
   size = wrappingSize limits m now lent f
 
   -- number 8 of the entries
-  pub entries-eight : EntriesConflict (rootsOf limits m now lent f) (entriesOf f) (wrappingSize limits m now lent f) →
+  pub conflict-of-entries : EntriesConflict (rootsOf limits m now lent f) (entriesOf f) (wrappingSize limits m now lent f) →
       Judged limits m now lent f 8 m
-  entries-eight x = refused 7 (answers-8 limits m now lent f e (of-entries x))
+  conflict-of-entries x = refused 7 (answers-8 limits m now lent f e (of-entries x))
 
-  pub copies-eight : SomeConflict (rootsOf limits m now lent f) (entriesOf f) (wrappingSize limits m now lent f) f (announced f) →
+  pub conflict-of-copies : SomeConflict (rootsOf limits m now lent f) (entriesOf f) (wrappingSize limits m now lent f) f (announced f) →
       Judged limits m now lent f 8 m
   unfolding announcedKeys
-  copies-eight x =
+  conflict-of-copies x =
       let a = announcedAs f (x .sa) in
       refused 7
       (answers-8 limits m now lent f e
@@ -67,10 +67,10 @@ module _ (m : State) (now : ℕ) (lent : List ℕ) (f : Frame) (e : refusal limi
 
   module _ (none : EntriesConflict (rootsOf limits m now lent f) (entriesOf f) (wrappingSize limits m now lent f) → ⊥)
       (fit : NoConflict (rootsOf limits m now lent f) (entriesOf f) (wrappingSize limits m now lent f) f (announced f)) where
-    no-eight : KeyConflictOf limits m now lent f → ⊥
+    no-conflict : KeyConflictOf limits m now lent f → ⊥
     unfolding announcedKeys
-    no-eight (of-entries x) = none x
-    no-eight (of-copies a i x) =
+    no-conflict (of-entries x) = none x
+    no-conflict (of-copies a i x) =
         let r = in-map (announcedAs f) a (announced f) i in
         fit (r .item) (r .stands) (subst (CopiesConflict roots (entriesOf f) size) (r .is) x)
 
@@ -78,8 +78,8 @@ module _ (m : State) (now : ℕ) (lent : List ℕ) (f : Frame) (e : refusal limi
         Judged limits m now lent f 9 m
     unopened x =
         refused 8
-        (answers-9 limits m now lent f e no-eight
-        (policy-nine limits m now lent f (x .sa) (x .stands) (λ o. x .none (o .0) (o .1))))
+        (answers-9 limits m now lent f e no-conflict
+        (policy-missing limits m now lent f (x .sa) (x .stands) (λ o. x .none (o .0) (o .1))))
 
     -- each SA has its key
     module _ (new : List Sa)
@@ -88,10 +88,10 @@ module _ (m : State) (now : ℕ) (lent : List ℕ) (f : Frame) (e : refusal limi
       each a i = let r = each-enters roots (entriesOf f) size now f (announced f) new enter a i in (r .octets, r .key .opens)
 
       all-open : KeyMissingOf limits m now lent f → ⊥
-      all-open n = let p = nine-policy limits m now lent f n in p .2 (each (p .0) (p .1))
+      all-open n = let p = missing-policy limits m now lent f n in p .2 (each (p .0) (p .1))
 
-      pub over-seven : OverHeldOf limits m now lent f → Judged limits m now lent f 7 m
-      over-seven o = refused 6 (answers-over limits m now lent f e no-eight all-open o)
+      pub over-number7 : OverHeldOf limits m now lent f → Judged limits m now lent f 7 m
+      over-number7 o = refused 6 (answers-over limits m now lent f e no-conflict all-open o)
 
       pub opened : (held : Held) (next : State) → HeldTold m now lent f false held → Follows m now f new held next →
           Judged limits m now lent f 0 next
@@ -105,7 +105,7 @@ module _ (m : State) (now : ℕ) (lent : List ℕ) (f : Frame) (e : refusal limi
           let n : o .list .count ≡ held .count = ap (λ (x : Held). x .count) q in
           let g = o .over in
           let few = h .few refl in omega (arith, n, g, few) in
-          accepted next (answers-0 limits m now lent f e no-eight all-open not-over)
+          accepted next (answers-0 limits m now lent f e no-conflict all-open not-over)
           (record {
             new = new;
             enter = enter;
@@ -136,8 +136,8 @@ module _ (m : State) (e : stateFormed limits m ≡ true) where
   held-fits = parts .1
 
 -- ---- by what is known of the keys
--- what is known of a frame's keys where number 8 does not hold of its entries: `keyed` is the result for its SAs. If each has its key, `over`
--- says whether the held list after acceptance would be over its limit, and if not, `held` is that list
+-- what is known of a frame's keys where number 8 does not hold of its entries: `keyed` is the result for its SAs. If each has its key,
+-- `over` says whether the held list after acceptance would be over its limit, and if not, `held` is that list
 pub record KeysKnown (m : State) (now : ℕ) (lent s : List ℕ) (x : Facts) (keyed : Keyed) (over : Bool) (held : Held) (f : Frame) : Type
     0 where
   pub passed : Passed m now lent s x f
@@ -157,11 +157,11 @@ module _ (m : State) (now : ℕ) (lent s : List ℕ) (x : Facts) (keyed : Keyed)
       (keyed .count))
       e (o .keys .keys)
 
-  pub by-eight : keyed .found ≡ found.KeyConflict → Judged limits m now lent f 8 m
-  by-eight e = copies-eight m now lent f (o .passed .clauses) (keys-by found.KeyConflict e)
+  pub by-conflict : keyed .found ≡ found.KeyConflict → Judged limits m now lent f 8 m
+  by-conflict e = conflict-of-copies m now lent f (o .passed .clauses) (keys-by found.KeyConflict e)
 
-  pub by-nine : keyed .found ≡ found.KeyMissing → Judged limits m now lent f 9 m
-  by-nine e =
+  pub by-missing : keyed .found ≡ found.KeyMissing → Judged limits m now lent f 9 m
+  by-missing e =
       let k = keys-by found.KeyMissing e in
       unopened m now lent f (o .passed .clauses) (o .entries) (k .0) (k .1)
 
@@ -169,7 +169,8 @@ module _ (m : State) (now : ℕ) (lent s : List ℕ) (x : Facts) (keyed : Keyed)
     pub by-over : over ≡ true → Judged limits m now lent f 7 m
     by-over w =
         let k = keys-by found.Keys e in
-        over-seven m now lent f (o .passed .clauses) (o .entries) (k .0) (take (keyed .count) (keyed .sas)) (k .1) (o .held-is e .beyond w)
+        over-number7 m now lent f (o .passed .clauses) (o .entries) (k .0) (take (keyed .count) (keyed .sas)) (k .1)
+        (o .held-is e .beyond w)
 
     pub by-keys : over ≡ false → (next : State) → Follows m now f (take (keyed .count) (keyed .sas)) held next →
         Judged limits m now lent f 0 next

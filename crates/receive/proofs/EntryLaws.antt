@@ -2,7 +2,7 @@
 use native.Mathlib.Omega.{arith}
 use Prim.Native.Nat.{ℕ, _+_, _≤_, _<_}
 use mathlib.Core.Path.{_≡_, refl, ap, sym, _∙_, subst}
-use mathlib.Core.Bool.{Bool, true, false, cond, _&&_, _||_, false≢true}
+use mathlib.Core.Bool.{Bool, true, false, cond, _&&_, false≢true, and-false}
 use mathlib.Core.List.{List, [], _∷_, _++_, map, append-nil}
 use borrow.Author.Tests.{eq-eqb}
 use lib.Dec.{eqb}
@@ -13,10 +13,10 @@ use Rattle.wire_frames.specs.declared.exchanges.Exchange.{Exchange}
 use Rattle.wire_readers.specs.inner.Bags.{bagsIn}
 use Rattle.wire_readers.specs.declared.Stretch.{Stretch}
 use Rattle.state_keys.specs.Limits.{limits}
-use Rattle.state_keys.specs.Lists.{any, keep}
+use Rattle.lists.specs.Lists.{any, keep}
 use Rattle.state_keys.specs.Kinds.{valueOf}
 use Rattle.state_keys.specs.declared.kinds.WrappingKey.{WrappingKey}
-use Rattle.state_keys.proofs.Cases.{bool-cases}
+use Rattle.lists.proofs.Cases.{bool-cases}
 use Rattle.state.specs.Held.{keysOf, heldOf, heldFormed}
 use Rattle.state.specs.declared.State.{State}
 use Rattle.state.specs.declared.held.HeldKey.{HeldKey}
@@ -45,10 +45,6 @@ nonzero-of l e i h z =
     let k = getD l i noWrapKey in
     let m : In k l = record { place = i; inside = h; is = getD-any l i k noWrapKey h } in
     false≢true (sym (none-passes (λ (x : WrapKey). eqb (x .keyId) 0) l e k (in-member k l m)) ∙ eq-eqb (k .keyId) 0 z)
-
-and-false : (b : Bool) → (b && false) ≡ false
-and-false true = refl
-and-false false = refl
 
 no-held : (l : List WrapKey) → heldRoots l [] ≡ []
 unfolding heldRoots keep

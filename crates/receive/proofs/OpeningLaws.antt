@@ -30,7 +30,7 @@ use Rattle.unwrap_tree.specs.inner.Reached.{TreeAnswers}
 use Rattle.unwrap_tree.specs.declared.held.ReachedKeys.{ReachedKeys}
 use Rattle.unwrap_sas.specs.inner.Keyed.{ChecksPassed}
 use Rattle.receive.specs.inner.Passing.{HeldTold}
-use Rattle.receive.specs.inner.Opening.{OpeningOf, NextTold}
+use Rattle.receive.specs.inner.Opening.{Openable, NextTold}
 use Rattle.receive.proofs.EntryLaws.{sourced, checked, own-formed, roots-are}
 use Rattle.receive.proofs.AfterLaws.{told-after}
 
@@ -78,7 +78,7 @@ module _ (b : Bool) (held : Held) {ids block : List ℕ} {n : ℕ} (e : n ≡ co
 
 -- ---- what numbers 2 to 7 say of the frame
 module _ {e : Exchange} {m : State} {now : ℕ} {lent g k : List ℕ} {bag : Stretch} {held : Held} {zero : WrappingKey} {reads : Bool}
-    {f : Frame} (o : OpeningOf e m now lent g k bag held zero reads f) where
+    {f : Frame} (o : Openable e m now lent g k bag held zero reads f) where
   pub sourced-by : Sourced (e .registers) reads f g k bag
   sourced-by = subst (λ (x : Bool). Sourced (e .registers) x f g k bag) (o .fresh) (sourced (o .bagged))
 

@@ -10,7 +10,7 @@ use Rattle.wire_frames.proofs.FrameGrammar.{read-frame}
 use Rattle.state.specs.declared.State.{State}
 use Rattle.rules_refusals.specs.Contents.{rowOf, announced, groupWides}
 use Rattle.rules_refusals.specs.Fitness.{isRekey}
-use Rattle.rules_refusals.proofs.Gather.{any-count}
+use Rattle.rules_refusals.proofs.FlatMap.{any-count}
 use Rattle.rules_outcome.specs.After.{delayOf, initialMessageId}
 use Rattle.check_composition.specs.declared.PolicyFacts.{PolicyFacts}
 use Rattle.check_composition.proofs.GivenLaws.{delay-given, initial-given}

@@ -16,11 +16,11 @@ use Rattle.wire_frames.specs.declared.exchanges.Exchange.{Exchange}
 use Rattle.wire_frames.specs.declared.exchanges.KeyZero.the-variants as keyZero
 use Rattle.wire_readers.specs.declared.Stretch.{Stretch}
 use Rattle.state_keys.specs.Limits.{limits}
-use Rattle.state_keys.specs.Lists.{any}
-use Rattle.state_keys.specs.Algorithms.{sizeOf}
+use Rattle.lists.specs.Lists.{any}
+use Rattle.state_keys.specs.Algorithms.{isWrappingSize}
 use Rattle.state_keys.specs.Kinds.{wrappingOf, wrappingKey, valueOf}
 use Rattle.state_keys.specs.declared.kinds.WrappingKey.{WrappingKey}
-use Rattle.state_keys.proofs.Cases.{and-parts}
+use Rattle.lists.proofs.Cases.{and-parts}
 use Rattle.state_keys.proofs.Sizes.{wrapping-le}
 use Rattle.state_sa.specs.Entry.{named, liveRekey}
 use Rattle.state_sa.specs.Entry as entry
@@ -47,7 +47,7 @@ module _ {e : Exchange} {m : State} {now : ℕ} {lent g k : List ℕ} {bag : Str
     of-lent : rowOf f .zero ≡ keyZero.Lent
     of-lent = ap (λ (y : Exchange). y .zero) (b .row) ∙ z
 
-    lent-size-fits : sizeOf 13 (length lent) ≡ true
+    lent-size-fits : isWrappingSize (length lent) ≡ true
     lent-size-fits = lent-fits m now lent f (b .clauses) (judges-lent m now lent f (b .clauses) of-lent)
 
     lent-value : keyZeroValue limits m now lent f ≡ lent
@@ -62,7 +62,7 @@ module _ {e : Exchange} {m : State} {now : ℕ} {lent g k : List ℕ} {bag : Str
         record {
           value = v ∙ sym lent-value;
           size = ap (λ (y : WrappingKey). y .count) w ∙ ap length (sym lent-value);
-          fits = ap (λ (y : WrappingKey). sizeOf 13 (y .count)) w ∙ lent-size-fits;
+          fits = ap (λ (y : WrappingKey). isWrappingSize (y .count)) w ∙ lent-size-fits;
           key = subst Key (sym v) (record { size = is-key-size (length lent) lent-size-fits; small = o });
         }
 
@@ -79,7 +79,8 @@ module _ {e : Exchange} {m : State} {now : ℕ} {lent g k : List ℕ} {bag : Str
 
     stands-are : sasOf t ≡ notDueSas now m
     stands-are =
-        ap sasOf (w ∙ swept-made now (m .table) (table-fits m (state-formed m now lent f (b .clauses)))) ∙ sas-of-table limits (notDueSas now m)
+        ap sasOf (w ∙ swept-made now (m .table) (table-fits m (state-formed m now lent f (b .clauses))))
+        ∙ sas-of-table limits (notDueSas now m)
 
     pub stands-live : any liveRekey (sasOf t) ≡ true
     stands-live =

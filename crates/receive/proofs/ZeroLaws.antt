@@ -9,15 +9,15 @@ use lib.Dec.{eqb}
 use lib.ListN.{length, take, drop, length-drop}
 use lib.Seq.{length-take-le}
 use Rattle.state_keys.specs.Limits.{limits}
-use Rattle.state_keys.specs.Lists.{any}
-use Rattle.state_keys.specs.Algorithms.{sizeOf}
+use Rattle.lists.specs.Lists.{any}
+use Rattle.state_keys.specs.Algorithms.{isWrappingSize}
 use Rattle.state_keys.specs.Kinds.{wrappingOf, wrappingKey, rekeySizes, keyWrapPart}
 use Rattle.state_keys.specs.declared.kinds.MadeWrapping.{MadeWrapping}
-use Rattle.state_keys.proofs.Cases.{and-parts}
+use Rattle.lists.proofs.Cases.{and-parts}
 use Rattle.state_keys.proofs.Sizes.{rekey-parts, rekey-le}
 use Rattle.state_sa.specs.Entry.{espProtocol, rekeyProtocol, isLive, saSized, fitLifetime, saFormed, liveRekey}
 use Rattle.state_sa.specs.declared.entry.Sa.{Sa}
-use Rattle.state_table.specs.Table.{sasOf, tableFormed, foundRekey, keyOfFound, defaultKey}
+use Rattle.state_table.specs.Table.{sasOf, tableFormed, foundRekey, keyWrapPartOf, defaultKey}
 use Rattle.state_table.specs.declared.Table.{Table}
 use Rattle.state_table.specs.declared.SaFound.{SaFound}
 use Rattle.state_table.proofs.Kept.{formed-fit}
@@ -37,7 +37,7 @@ live-sizes s e l =
     (rw n at k) in
     and-parts (rekeySizes (s .encryption) (s .wrapping)) (eqb (s .count) (s .encryption + s .wrapping)) (g .1) .0
 
-pub lent-key : (x : List ℕ) → sizeOf 13 (length x) ≡ true → wrappingKey x .key ≡ wrappingOf x
+pub lent-key : (x : List ℕ) → isWrappingSize (length x) ≡ true → wrappingKey x .key ≡ wrappingOf x
 unfolding wrappingKey
 lent-key x e = rw e refl
 
@@ -68,14 +68,14 @@ module _ (t : Table) (e : tableFormed limits t ≡ true) (some : any liveRekey (
     pub default-is : (r : MadeWrapping) →
         r ≡ keyWrapPart (record { octets = f .sa .octets; encryption = f .sa .encryption; wrapping = f .sa .wrapping }) →
         IsDefaultKey t (r .key)
-    unfolding keyWrapPart wrappingKey defaultKey keyOfFound
+    unfolding keyWrapPart wrappingKey defaultKey keyWrapPartOf
     default-is r k =
         let there : f .found ≡ true = ap (λ (x : SaFound). x .found) (g ∙ found-one) in
         let size-is = rekey-parts (f .sa .encryption) (f .sa .wrapping) sizes .1 in
-        let fit : sizeOf 13 (length wrapping) ≡ true = ap (sizeOf 13) wrapping-length ∙ size-is in
+        let fit : isWrappingSize (length wrapping) ≡ true = ap isWrappingSize wrapping-length ∙ size-is in
         let made : r .key ≡ wrappingOf wrapping = ap (λ (x : MadeWrapping). x .key) k ∙ rw (sizes, fit) refl in
-        let yes : r ≡ keyOfFound f = rw there k in
+        let yes : r ≡ keyWrapPartOf f = rw there k in
         record {
-          is = ap (λ (x : MadeWrapping). x .key) (yes ∙ ap keyOfFound g);
-          fits = subst (λ (x : ℕ). sizeOf 13 x ≡ true) (sym (ap (λ x. x .count) made)) fit;
+          is = ap (λ (x : MadeWrapping). x .key) (yes ∙ ap keyWrapPartOf g);
+          fits = subst (λ (x : ℕ). isWrappingSize x ≡ true) (sym (ap (λ x. x .count) made)) fit;
         }

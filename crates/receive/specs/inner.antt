@@ -1,3 +1,3 @@
 pub mod Passing
-pub mod OpeningOf
+pub mod Opening
 pub mod Saying

@@ -22,7 +22,7 @@ ghost use Rattle.wire_frames.specs.Frame.{Frame, frame};
 ghost use Rattle.wire_readers.specs.inner.Values.{isWhole};
 ghost use Rattle.rules_refusals.specs.Contents.{rowOf};
 ghost use Rattle.rules_outcome.specs.Outcome.{Judged};
-ghost use Rattle.receive.specs.inner.Opening.{openingNumber, FrameOpened};
+ghost use Rattle.receive.specs.inner.Opening.{numberOfKeys, FrameWithKeys};
 use ikev2_numbers::EXCHANGE_AT;
 
 // The number of the answer (0 for acceptance) and the next state. On a refusal that is the state as it was.
@@ -43,7 +43,7 @@ pub fn row_of(s: &[u8]) -> Exchange
 // copies, 9 if some SA has no key, 7 if the held list after acceptance would be over its limit (`over`): "Over 128 then is 7, judged
 // after 9" (document 02, T-11).
 fn number_by(conflict: bool, found: SasFound, over: bool) -> usize
-    ensures { λ r. ⌜ r ≡ openingNumber conflict found over ⌝ }
+    ensures { λ r. ⌜ r ≡ numberOfKeys conflict found over ⌝ }
 {
     if conflict {
         return 8;
@@ -63,8 +63,8 @@ fn number_by(conflict: bool, found: SasFound, over: bool) -> usize
 // Answers the outcome of a frame once its keys are opened. `x` are its facts. One return has the state as it was, because each more would
 // take stack for a state.
 pub fn conclude(state: State, frame: &[u8], x: Facts, tick: u32, opened: KeysFound) -> Next
-    requires { ⌜ ((f : Frame) × (lent : List ℕ) × FrameOpened state tick lent (now frame) x opened f) ⌝ }
-    ensures { λ r. ⌜ ((f : Frame) (lent : List ℕ) → FrameOpened state tick lent (now (frame .entry)) x opened f →
+    requires { ⌜ ((f : Frame) × (lent : List ℕ) × FrameWithKeys state tick lent (now frame) x opened f) ⌝ }
+    ensures { λ r. ⌜ ((f : Frame) (lent : List ℕ) → FrameWithKeys state tick lent (now (frame .entry)) x opened f →
         Judged limits state tick lent f (r .number) (r .state)) ⌝ }
 {
     let keyed = opened.keyed;

@@ -32,7 +32,7 @@ ghost use Rattle.rules_chains.specs.Chain.{Root};
 ghost use Rattle.rules_outcome.specs.Holding.{newRekey, rekeyCopies, heldBefore};
 ghost use Rattle.unwrap_copies.specs.inner.Openers.{openersOf, OpenersAre};
 ghost use Rattle.unwrap_paths.specs.inner.Kept.{LinksFit, SearchKept};
-ghost use Rattle.receive.specs.inner.Opening.{SomeOpener, NextTold, OpeningOf, KeysOpened};
+ghost use Rattle.receive.specs.inner.Opening.{SomeOpener, NextTold, Openable, KeysOpened};
 
 // Whether refusal 8 holds of the frame's entries. If it does not: the result for its SAs. If each SA has its key: whether the held list
 // after acceptance would be over its limit (refusal 7), and if not, that list. Here and in what it holds arrays stand before flags: behind
@@ -106,9 +106,9 @@ pub fn open_keys(
     tick: u32,
 ) -> KeysFound
     requires { ⌜ isWhole (policies 0 (now gsa)) ≡ true ⌝ }
-    requires { ⌜ ((m : State) × (lent : List ℕ) × (f : Frame) × OpeningOf row m tick lent (now gsa) (now kd) bag held zero reads f) ⌝ }
+    requires { ⌜ ((m : State) × (lent : List ℕ) × (f : Frame) × Openable row m tick lent (now gsa) (now kd) bag held zero reads f) ⌝ }
     ensures { λ r. ⌜ ((m : State) (lent : List ℕ) (f : Frame) →
-        OpeningOf row m tick lent (now (gsa .entry)) (now (kd .entry)) bag held zero reads f → KeysOpened m tick lent r f) ⌝ }
+        Openable row m tick lent (now (gsa .entry)) (now (kd .entry)) bag held zero reads f → KeysOpened m tick lent r f) ⌝ }
 {
     let at = entries_at(row.registers, reads, gsa, kd, bag);
     let stretch = at.bag;

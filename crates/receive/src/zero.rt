@@ -8,7 +8,7 @@ ghost use mathlib.Core.Bool.{true};
 ghost use mathlib.Core.List.{List};
 ghost use Prim.Native.Nat.{ℕ};
 ghost use Rattle.state_keys.specs.Limits.{limits};
-ghost use Rattle.state_keys.specs.Lists.{any};
+ghost use Rattle.lists.specs.Lists.{any};
 ghost use Rattle.wire_frames.specs.Frame.{Frame};
 ghost use Rattle.wire_frames.specs.declared.exchanges.Exchange.{Exchange};
 ghost use Rattle.wire_readers.specs.declared.Stretch.{Stretch};

@@ -1,6 +1,6 @@
 -- The fragment's layout: its test holds exactly of what the relation says.
 use mathlib.Core.Path.{_≡_, sym, ap, ap₂, _∙_}
-use mathlib.Core.Bool.{Bool, true, false}
+use mathlib.Core.Bool.{Bool, true, false, _&&_}
 use mathlib.Core.List.{List, _++_}
 use Prim.Native.Nat.{ℕ, _+_, _<_, _≤_}
 use native.Mathlib.Omega.{arith}
@@ -8,15 +8,16 @@ use borrow.Author.Tests.{leb-true, le-leb, lt-leb}
 use lib.Dec.{leb}
 use lib.ListN.{length, drop, length-append, length-drop, take-append-drop}
 use lib.Seq.{drop-at, drop-drop}
+use Rattle.lists.proofs.Cases.{and-parts}
 use Rattle.octets.specs.Numbers.{number, octetsOf}
 use Rattle.octets.specs.Octets.{Octets}
-use Rattle.octets.specs.Walk.{be16, both}
+use Rattle.octets.specs.Walk.{be16}
 use Rattle.octets.proofs.Numerals.{number-append}
 use Rattle.octets.proofs.Octets.{drop-octets}
 use Rattle.octets.proofs.RoundTrip.{length-octets, number-octets, number-lt, octets-number}
 use Rattle.rfc5282.specs.Outer.{alone, IsAlone}
 use Rattle.rfc5282.specs.OuterFragment.{numberIn, totalIn, outerFragment, IsFragment}
-use Rattle.rfc5282.proofs.OuterLaws.{both-true, Alone, alone-is, is-alone}
+use Rattle.rfc5282.proofs.OuterLaws.{Alone, alone-is, is-alone}
 use Rattle.rfc5282.proofs.LayoutLaws.{alone-relates, alone-long, alone-body, relates-alone}
 
 pub record Fragment (s : List ℕ) : Type 0 where
@@ -26,14 +27,14 @@ pub record Fragment (s : List ℕ) : Type 0 where
   pub in-total : numberIn s ≤ totalIn s
 
 abbrev within : List ℕ → Bool
-within s = both (leb 1 (numberIn s)) (leb (numberIn s) (totalIn s))
+within s = leb 1 (numberIn s) && leb (numberIn s) (totalIn s)
 
 pub fragment-is : (s : List ℕ) → outerFragment s ≡ true → Fragment s
 unfolding outerFragment
 fragment-is s e =
-    let a = both-true (alone 53 s) (both (leb 36 (length s)) (within s)) e in
-    let b = both-true (leb 36 (length s)) (within s) (a .1) in
-    let c = both-true (leb 1 (numberIn s)) (leb (numberIn s) (totalIn s)) (b .1) in
+    let a = and-parts (alone 53 s) (leb 36 (length s) && within s) e in
+    let b = and-parts (leb 36 (length s)) (within s) (a .1) in
+    let c = and-parts (leb 1 (numberIn s)) (leb (numberIn s) (totalIn s)) (b .1) in
     record {
       frame = alone-is 53 s (a .0);
       body = leb-true 36 (length s) (b .0);
@@ -45,23 +46,23 @@ module _ (s : List ℕ) where
   -- by the tests in turn
   pub not-alone : alone 53 s ≡ false → false ≡ outerFragment s
   unfolding outerFragment
-  not-alone e = sym (ap (λ (t : Bool). both t (both (leb 36 (length s)) (within s))) e)
+  not-alone e = sym (ap (λ (t : Bool). t && (leb 36 (length s) && within s)) e)
 
   module _ (a : alone 53 s ≡ true) where
     pub no-numbers : length s < 36 → false ≡ outerFragment s
     unfolding outerFragment
-    no-numbers l = sym (ap₂ (λ (t q : Bool). both t (both q (within s))) a (lt-leb 36 (length s) l))
+    no-numbers l = sym (ap₂ (λ (t q : Bool). t && (q && within s)) a (lt-leb 36 (length s) l))
 
     module _ (l : 36 ≤ length s) where
       past : outerFragment s ≡ within s
       unfolding outerFragment
-      past = ap₂ (λ (t q : Bool). both t (both q (within s))) a (le-leb 36 (length s) l)
+      past = ap₂ (λ (t q : Bool). t && (q && within s)) a (le-leb 36 (length s) l)
 
       pub number-0 : numberIn s < 1 → false ≡ outerFragment s
-      number-0 h = sym (past ∙ ap (λ (t : Bool). both t (leb (numberIn s) (totalIn s))) (lt-leb 1 (numberIn s) h))
+      number-0 h = sym (past ∙ ap (λ (t : Bool). t && leb (numberIn s) (totalIn s)) (lt-leb 1 (numberIn s) h))
 
       pub last-number : 1 ≤ numberIn s → leb (numberIn s) (totalIn s) ≡ outerFragment s
-      last-number h = sym (past ∙ ap (λ (t : Bool). both t (leb (numberIn s) (totalIn s))) (le-leb 1 (numberIn s) h))
+      last-number h = sym (past ∙ ap (λ (t : Bool). t && leb (numberIn s) (totalIn s)) (le-leb 1 (numberIn s) h))
 
 pub is-fragment : (s : List ℕ) → Fragment s → outerFragment s ≡ true
 is-fragment s f =
@@ -86,7 +87,7 @@ fragment-relates s o e =
     f = fragment-is s e
 
     frame : IsAlone 53 s
-    frame = alone-relates 53 s o (both-true (alone 53 s) (both (leb 36 (length s)) (within s)) e .0)
+    frame = alone-relates 53 s o (and-parts (alone 53 s) (leb 36 (length s) && within s) e .0)
 
     two : (i : ℕ) → i + 2 ≤ length s → drop i s ≡ octetsOf 2 (be16 s i) ++ drop (i + 2) s
     two i l =

@@ -113,7 +113,8 @@ module _ (key salt o : List ℕ) (c : Choice) (fit : FitChoice c) (header : 28 �
   unfolding bodySize
   length-rest =
       length-append (c .iv) (sealed key (salt ++ c .iv) (additionalOf o c) (withPadding (drop 28 o) c))
-      ∙ ap₂ (λ (m n : ℕ). m + n) (fit .iv-size) (length-sealed key (salt ++ c .iv) (additionalOf o c) (withPadding (drop 28 o) c)) ∙ omega arith
+      ∙ ap₂ (λ (m n : ℕ). m + n) (fit .iv-size) (length-sealed key (salt ++ c .iv) (additionalOf o c) (withPadding (drop 28 o) c))
+      ∙ omega arith
 
   frame-is : sealedFrame key salt o c ≡ head ++ (oct o 16 ∷ c .reserved ∷ octetsOf 2 (4 + length rest) ++ rest)
   unfolding sealedFrame sealedBehind additionalOf

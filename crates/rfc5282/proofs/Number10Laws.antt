@@ -8,10 +8,10 @@ use native.Mathlib.Omega.{arith}
 use lib.Dec.{T}
 use lib.ListN.{length, take, drop, length-append, length-drop}
 use lib.Seq.{length-take-le}
+use Rattle.lists.proofs.Cases.{lt-cases}
 use Rattle.octets.specs.Numbers.{oct}
 use Rattle.octets.specs.Octets.{Octets}
 use Rattle.octets.proofs.Octets.{join-octets, take-octets, drop-octets}
-use Rattle.octets.proofs.Order.{lt-cases}
 use Rattle.fips197.specs.Key.{isKey, Key}
 use Rattle.ikev2_numbers.specs.Codes.{mostOctets}
 use Rattle.sp800_38d.proofs.SealLaws.{unseals-one}

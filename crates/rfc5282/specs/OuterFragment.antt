@@ -1,12 +1,12 @@
 -- Document 02, T-12: "A body under 4 octets, a fragment numbered 0 or above its total and, in this call, any payload but one 53 is 1".
 use mathlib.Core.Path.{_≡_}
-use mathlib.Core.Bool.{Bool}
+use mathlib.Core.Bool.{Bool, _&&_}
 use Prim.Native.Nat.{ℕ, _≤_}
 use mathlib.Core.List.{List, _++_}
 use lib.ListN.{length}
 use lib.Dec.{leb}
 use Rattle.octets.specs.Numbers.{oct, octetsOf}
-use Rattle.octets.specs.Walk.{be16, both}
+use Rattle.octets.specs.Walk.{be16}
 use Rattle.ikev2_numbers.specs.Codes.{headerOctets}
 use Rattle.rfc5282.specs.Sizes.{payloadFragment, fragmentFieldOctets, fragmentFieldMost}
 use Rattle.rfc5282.specs.Sizes.{fragmentNumberAt, totalFragmentsAt, fragmentBodyAt}
@@ -24,8 +24,8 @@ nextIn s = oct s headerOctets
 
 unfoldable pub outerFragment : List ℕ → Bool
 outerFragment s =
-    both (alone payloadFragment s)
-    (both (leb fragmentBodyAt (length s)) (both (leb 1 (numberIn s)) (leb (numberIn s) (totalIn s))))
+    alone payloadFragment s
+    && (leb fragmentBodyAt (length s) && (leb 1 (numberIn s) && leb (numberIn s) (totalIn s)))
 
 -- the same without a test: the body begins with a number from 1 to a total, two octets each
 pub record IsFragment (s : List ℕ) : Type 0 where

@@ -10,7 +10,7 @@ use lib.ListN.{length, set, length-set}
 use lib.Seq.{getD-set-same, getD-set-other, set-getD, set-set, set-comm}
 use lib.Bits.{bitXor, xor-lt, xor-zero-r}
 use Rattle.octets.proofs.Xor.{xor-twice}
-use Rattle.octets.proofs.Undo.{Undo, same, after}
+use Rattle.lists.proofs.Undo.{Undo, same, after}
 use Rattle.fips197.specs.Block.{Block}
 use Rattle.fips197.specs.Key.{Key}
 use Rattle.fips197.specs.Cipher.{cipher, invCipher}

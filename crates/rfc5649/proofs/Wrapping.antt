@@ -13,7 +13,7 @@ use Rattle.octets.specs.Numbers.{number, octetsOf}
 use Rattle.octets.specs.Octets.{Octets}
 use Rattle.octets.proofs.RoundTrip.{octets-number}
 use Rattle.octets.proofs.Octets.{join-octets, zero-octets}
-use Rattle.octets.proofs.Undo.{Undo}
+use Rattle.lists.proofs.Undo.{Undo}
 use Rattle.fips197.specs.Key.{Key}
 use Rattle.fips197.specs.Cipher.{cipher}
 use Rattle.fips197.proofs.Inverse.{cipher-block}

@@ -2,22 +2,19 @@
 use native.Mathlib.Omega.{arith}
 use Prim.Native.Nat.{ℕ, suc}
 use mathlib.Core.Path.{_≡_, refl, ap, ap₂}
-use mathlib.Core.Bool.{Bool, true, false}
+use mathlib.Core.Bool.{Bool}
 use mathlib.Core.Logic.{_⊎_, inl, inr, ⊎-elim}
 use mathlib.Core.List.{List, [], _∷_}
 use lib.Dec.{eqb}
 use lib.ListN.{length, getD}
 use borrow.Author.Tests.{eqb-true, eqb-false}
+use Rattle.lists.proofs.Cases.{bool-cases}
 use Rattle.wire_attributes.specs.Tree.{WrapKey}
 use Rattle.rules_chains.specs.Chain.{In, Root, Chain, root, step, Reached, CopyOpens}
 use Rattle.rules_chains.specs.Refusals.{Announced, EntriesConflict, CopiesConflict, Value, KeyOf}
 use Rattle.rules_chains.specs.Refusals as refusals
 
 -- ---- lists of numbers are equal or not
-bool-cases : {P : Type 0} (b : Bool) → (b ≡ true → P) → (b ≡ false → P) → P
-bool-cases true f g = f refl
-bool-cases false f g = g refl
-
 tails : (m n : ℕ) (x y : List ℕ) → m ∷ x ≡ n ∷ y → x ≡ y
 tails m n x y e = ap rest e
   where

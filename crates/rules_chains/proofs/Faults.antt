@@ -54,16 +54,16 @@ module _ (roots : List Root) (size : ℕ) where
     pub leads-nowhere : (k : ℕ) (x : List ℕ) → Reached roots more size k x ↔ Reached roots entries size k x
     leads-nowhere k x = (none-more k x, more-reach entries more stands-too k x)
 
-    fewer-eight : EntriesConflict roots more size → EntriesConflict roots entries size
-    fewer-eight (refusals.wrong-size k x r d) = refusals.wrong-size k x (none-more k x r) d
-    fewer-eight (refusals.two-values k x y r q d) = refusals.two-values k x y (none-more k x r) (none-more k y q) d
+    fewer-conflicts : EntriesConflict roots more size → EntriesConflict roots entries size
+    fewer-conflicts (refusals.wrong-size k x r d) = refusals.wrong-size k x (none-more k x r) d
+    fewer-conflicts (refusals.two-values k x y r q d) = refusals.two-values k x y (none-more k x r) (none-more k y q) d
 
-    more-eight : EntriesConflict roots entries size → EntriesConflict roots more size
-    more-eight (refusals.wrong-size k x r d) = refusals.wrong-size k x (leads-nowhere k x .1 r) d
-    more-eight (refusals.two-values k x y r q d) = refusals.two-values k x y (leads-nowhere k x .1 r) (leads-nowhere k y .1 q) d
+    more-conflicts : EntriesConflict roots entries size → EntriesConflict roots more size
+    more-conflicts (refusals.wrong-size k x r d) = refusals.wrong-size k x (leads-nowhere k x .1 r) d
+    more-conflicts (refusals.two-values k x y r q d) = refusals.two-values k x y (leads-nowhere k x .1 r) (leads-nowhere k y .1 q) d
 
     pub entry-no-fault : EntriesConflict roots more size ↔ EntriesConflict roots entries size
-    entry-no-fault = (fewer-eight, more-eight)
+    entry-no-fault = (fewer-conflicts, more-conflicts)
 
   -- ---- a copy that does not open
   module _ (entries : List WrapKey) (copies more : List SaKey) (need : ℕ) (added : SaKey)

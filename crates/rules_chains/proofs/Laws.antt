@@ -1,22 +1,19 @@
 -- What the definitions of the crate say, piece by piece: laws that a wrong definition breaks.
 use Prim.Native.Nat.{ℕ}
 use mathlib.Core.Path.{_≡_, refl}
-use mathlib.Core.Bool.{Bool, true, false}
+use mathlib.Core.Bool.{Bool}
 use mathlib.Core.Logic.{_⊎_}
 use mathlib.Core.List.{List, _∷_}
 use lib.Dec.{eqb}
 use lib.ListN.{length}
 use borrow.Author.Tests.{eqb-true, eqb-false}
+use Rattle.lists.proofs.Cases.{bool-cases}
 use Rattle.rfc5649.specs.Opens.{Opens}
 use Rattle.wire_attributes.specs.Tree.{WrapKey, SaKey}
 use Rattle.rules_chains.specs.Chain.{In, Root, Chain, step, Reached, CopyOpens}
 use Rattle.rules_chains.specs.Refusals.{Announced, EntriesConflict, CopiesConflict, KeyConflict, of-entries, of-copies, KeyMissing}
 use Rattle.rules_chains.specs.Refusals as refusals
 use Rattle.rules_chains.proofs.Determined.{AtRoot, ends-by}
-
-bool-cases : {P : Type 0} (b : Bool) → (b ≡ true → P) → (b ≡ false → P) → P
-bool-cases true f g = f refl
-bool-cases false f g = g refl
 
 not-other : (m n : ℕ) → ((m ≡ n → ⊥) → ⊥) → m ≡ n
 not-other m n f = bool-cases (eqb m n) (eqb-true m n) (λ e. absurd (f (eqb-false m n e)))
@@ -76,16 +73,16 @@ module _ (roots : List Root) (entries : List WrapKey) (size : ℕ) where
 
   module _ (announced : List Announced) where
     -- number 8 is of the entries or of the copies of an announced SA
-    pub eight-of : (KeyConflict roots entries size announced → ⊥) →
+    pub conflict-of : (KeyConflict roots entries size announced → ⊥) →
         (EntriesConflict roots entries size → ⊥) × ((a : Announced) → In a announced → CopiesConflict roots entries size a → ⊥)
-    eight-of none = (λ h. none (of-entries h), λ a m h. none (of-copies a m h))
+    conflict-of none = (λ h. none (of-entries h), λ a m h. none (of-copies a m h))
 
     -- "some announced SA has no copy that opens": not where each has one
-    pub not-nine : ((a : Announced) → In a announced → (x : List ℕ) × CopyOpens roots entries size (a .copies) x) →
+    pub not-missing : ((a : Announced) → In a announced → (x : List ℕ) × CopyOpens roots entries size (a .copies) x) →
         KeyMissing roots entries size announced → ⊥
-    not-nine each n = let c = each (n .sa) (n .stands) in n .none (c .0) (c .1)
+    not-missing each n = let c = each (n .sa) (n .stands) in n .none (c .0) (c .1)
 
     -- and where one has none
-    pub nine-at : (a : Announced) → In a announced → ((x : List ℕ) → CopyOpens roots entries size (a .copies) x → ⊥) →
+    pub missing-at : (a : Announced) → In a announced → ((x : List ℕ) → CopyOpens roots entries size (a .copies) x → ⊥) →
         KeyMissing roots entries size announced
-    nine-at a m none = record { sa = a; stands = m; none = none }
+    missing-at a m none = record { sa = a; stands = m; none = none }

@@ -166,16 +166,16 @@ module _ (zero : List ℕ) (is : Key zero) where
         (λ e. valued k x p .at-nine (sym e) ∙ sym (valued k y q .at-nine (sym e)))
         (only-five-nine k x p) refl
 
-    no-eight : EntriesConflict lent upward (length zero) → ⊥
-    no-eight (wrong-size k x r h) = h (sized (key k x) (only-five-nine k x r))
-    no-eight (two-values k x y p q h) = h (one-value k x y p q)
+    no-conflict : EntriesConflict lent upward (length zero) → ⊥
+    no-conflict (wrong-size k x r h) = h (sized (key k x) (only-five-nine k x r))
+    no-conflict (two-values k x y p q h) = h (one-value k x y p q)
 
     pub chain-upward : Reaches lent upward (length zero) keys
     chain-upward =
         record {
           each = λ r i. each-five-nine r (in-member r keys i);
           only = λ k x r. member-in (key k x) keys (only-five-nine k x r);
-          fit = no-eight;
+          fit = no-conflict;
         }
 
   -- "(5 under 9), (9 under 5): held list empty", whatever is wrapped
@@ -197,16 +197,16 @@ module _ (zero : List ℕ) (is : Key zero) where
         by-member (r .last) (record { keyId = 5; kwkId = 9; wrapped = w }) (record { keyId = 9; kwkId = 5; wrapped = y })
         (λ a. a .keyId ≡ k → ⊥) (λ e. omega arith) (λ e. omega arith) (in-member (r .last) circle (l .0)) (l .1)
 
-    no-eight-here : EntriesConflict lent circle (length zero) → ⊥
-    no-eight-here (wrong-size k x r h) = never k x r
-    no-eight-here (two-values k x v p q h) = never k x p
+    no-conflict-here : EntriesConflict lent circle (length zero) → ⊥
+    no-conflict-here (wrong-size k x r h) = never k x r
+    no-conflict-here (two-values k x v p q h) = never k x p
 
     pub chain-circle : Reaches lent circle (length zero) []
     chain-circle =
         record {
           each = λ r i. absurd (List·Memᴰ·not-nil (in-member r [] i));
           only = λ k x r. absurd (never k x r);
-          fit = no-eight-here;
+          fit = no-conflict-here;
         }
 
   -- "(5 under 0) and (5 under 9), (9 under 0), two values for 5: 8"

@@ -10,7 +10,7 @@ use mathlib.Core.List.{List, [], _∷_, _++_, List·Memᴰ, List·Memᴰ·head, 
 use mathlib.Core.List.{Memᴰ·append-left, Memᴰ·append-right}
 use lib.Dec.{T}
 use lib.ListN.{length, length-map}
-use Rattle.octets.proofs.Order.{lt-cases}
+use Rattle.lists.proofs.Cases.{lt-cases}
 use Rattle.fips197.specs.Key.{Key, isKey}
 use Rattle.rfc5649.specs.Opens.{Opens}
 use Rattle.rfc5649.proofs.Determined.{opens-one}

@@ -10,7 +10,7 @@ use mathlib.Core.List.{List·Memᴰ·eq-of-singleton, Memᴰ·append-left, Mem�
 use borrow.Author.Tests.{eq-eqb}
 use lib.Dec.{eqb}
 use lib.ListN.{length, length-map}
-use Rattle.octets.proofs.Order.{lt-cases}
+use Rattle.lists.proofs.Cases.{lt-cases}
 use Rattle.fips197.specs.Key.{Key}
 use Rattle.rfc5649.specs.Opens.{Opens}
 use Rattle.wire_attributes.specs.Tree.{WrapKey, SaKey}

@@ -7,7 +7,7 @@ use mathlib.Core.Bool.{true}
 use mathlib.Core.Logic.{_⊎_, inl, inr, _↔_}
 use mathlib.Core.List.{List, [], _∷_}
 use lib.Dec.{eqb}
-use Rattle.state_keys.specs.Lists.{any}
+use Rattle.lists.specs.Lists.{any}
 use Rattle.state_keys.specs.Limits.{Limits}
 use Rattle.wire_frames.specs.Frame.{figure}
 use Rattle.state.specs.declared.State.{State}
@@ -15,7 +15,7 @@ use Rattle.gcm.specs.Opening.{putAtStart}
 use Rattle.fragments.specs.declared.Collection.{Collection}
 use Rattle.fragments.specs.Collection.{collectionOf, emptyCollection}
 use Rattle.fragments.specs.Gathering.{whole}
-use Rattle.rules_outcome.proofs.Demands.{one-of-nine}
+use Rattle.rules_outcome.proofs.Demands.{one-of-the-numbers, refusal-keeps}
 use Rattle.rules_fragments.specs.FragmentOutcome.{FragmentAnswer, refused, passed-over, waiting, complete}
 use Rattle.rules_fragments.specs.FragmentOutcome.{refuses, passes-over, waits, completes, FirstTurn}
 use Rattle.rules_fragments.specs.FragmentOutcome.{gatheredWith, judgingRows}
@@ -148,7 +148,17 @@ module _ (limits : Limits) (s : State) (now : ℕ) (c : Collection) (octets room
       FragmentOutcome limits s now c octets room (complete n offset) next kept after → n ≤ 9
   complete-never-10 n offset next kept after o =
       let w = complete-to n offset next kept after o in
-      one-of-nine limits s now [] (wholeWith limits s now c octets room (w .piece)) n next (w .outcome [])
+      one-of-the-numbers limits s now [] (wholeWith limits s now c octets room (w .piece)) n next (w .outcome [])
+
+  -- a complete frame that was refused leaves member and collection as before its fragments: copies of them start a collection again
+  pub refused-whole-again : (n offset : ℕ) (next : State) (kept : Collection) (after : List ℕ) →
+      FragmentOutcome limits s now c octets room (complete n offset) next kept after → (n ≡ 0 → ⊥) →
+      (next ≡ s) × (kept ≡ emptyCollection)
+  refused-whole-again n offset next kept after o z =
+      let w = complete-to n offset next kept after o in (
+        refusal-keeps limits s now [] (wholeWith limits s now c octets room (w .piece)) n next (w .outcome []) z,
+        w .emptied,
+      )
 
   -- a fragment is refused with 1, 2, 10, 3 or 7
   five : (n : ℕ) → FirstTurn (judgingRows limits s now c octets room) (refuses n) → any (eqb n) (1 ∷ 2 ∷ 10 ∷ 3 ∷ 7 ∷ []) ≡ true

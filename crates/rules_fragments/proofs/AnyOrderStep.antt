@@ -10,8 +10,8 @@ use lib.ListN.{length, getD}
 use borrow.Author.Tests.{eqb-true}
 use Rattle.ikev2_numbers.specs.Codes.{mostOctets}
 use Rattle.state_keys.specs.Limits.{Limits}
-use Rattle.state_keys.specs.Lists.{any}
-use Rattle.state_keys.proofs.Cases.{bool-cases}
+use Rattle.lists.specs.Lists.{any}
+use Rattle.lists.proofs.Cases.{bool-cases}
 use Rattle.wire_frames.specs.Header.{Header, headerOf}
 use Rattle.state.specs.declared.State.{State}
 use Rattle.rules_refusals.specs.Refusals.{applies, number3}

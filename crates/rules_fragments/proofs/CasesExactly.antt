@@ -7,8 +7,8 @@ use mathlib.Core.Logic.{_⊎_, inl, inr, ⊎-elim, _↔_}
 use borrow.Author.Tests.{lt-ltb, le-ltb, eqb-true, eq-eqb}
 use lib.Dec.{ltb, eqb}
 use Rattle.octets.specs.Compare.{same}
-use Rattle.octets.proofs.Order.{bool-cases, lt-cases, same-eq, eq-same}
-use Rattle.state_keys.proofs.Cases.{and-parts}
+use Rattle.octets.proofs.Order.{same-eq, eq-same}
+use Rattle.lists.proofs.Cases.{and-parts, bool-cases, lt-cases}
 use Rattle.fragments.specs.declared.Case.{Case}
 use Rattle.fragments.specs.declared.Case.the-variants.{Anew, PassedOver, Kept}
 use Rattle.fragments.specs.declared.Names.{Names}

@@ -5,8 +5,8 @@ use mathlib.Core.Path.{_≡_}
 use mathlib.Core.Bool.{true}
 use mathlib.Core.Logic.{_⊎_, inl, inr, ⊎-elim}
 use mathlib.Core.List.{List, []}
+use Rattle.lists.proofs.Cases.{bool-cases}
 use Rattle.octets.specs.Octets.{Octets}
-use Rattle.octets.proofs.Order.{bool-cases}
 use Rattle.state_keys.specs.Limits.{Limits}
 use Rattle.wire_frames.specs.Header.{headerOf}
 use Rattle.state.specs.declared.State.{State}

@@ -8,8 +8,9 @@ use mathlib.Core.Bool.{true, false}
 use mathlib.Core.Logic.{_⊎_, inl, inr}
 use mathlib.Core.List.{List, [], _∷_}
 use lib.Dec.{eqb}
+use Rattle.lists.proofs.Cases.{bool-cases}
 use Rattle.state_keys.specs.Limits.{Limits}
-use Rattle.state_keys.specs.Lists.{any}
+use Rattle.lists.specs.Lists.{any}
 use Rattle.wire_frames.specs.Header.{headerOf}
 use Rattle.state.specs.declared.State.{State}
 use Rattle.state.specs.Least.{acceptable}
@@ -25,7 +26,6 @@ use Rattle.rules_fragments.specs.FragmentOutcome.{is-refused, is-passed-
 use Rattle.rules_fragments.specs.FragmentRun.{FragmentEvent, FragmentRun, FragmentAllQuiet, AcceptsRekey, AnnouncesNone}
 use Rattle.rules_fragments.proofs.TurnLaws.{placeOf}
 use Rattle.rules_fragments.proofs.FragmentReplay.{fragment-past}
-use Rattle.octets.proofs.Order.{bool-cases}
 use Rattle.wire_frames.specs.Frame.{Frame}
 use Rattle.wire_frames.specs.Grammar.{IsFrame}
 use Rattle.rfc5282.specs.Number10.{OpensFragmentInto}

@@ -16,7 +16,12 @@ use Rattle.rules_outcome.specs.Outcome.{NoTree, no-layout}
 use Rattle.rules_outcome.specs.Run.{handed, answered}
 use Rattle.rules_sealed.specs.SealedRun.{SealedEvent, as-before, SealedTakes, takes, SealedRun, run-ends, run-goes}
 use Rattle.rules_sealed.specs.SealedRun.{SealedThroughout, SealedQuiet, SealedAllQuiet}
-use Rattle.rules_sealed.proofs.SealedRuns.{sealed-members-formed, sealed-members-blank, sealed-members-profile}
+use Rattle.rules_outcome.specs.LifetimeSays.{LifetimesFit}
+use Rattle.rules_outcome.specs.NamedKey.{ZeroOfRekeys}
+use Rattle.rules_outcome.proofs.RanOut.{members-lifetimes}
+use Rattle.rules_outcome.proofs.KeyZeroInRuns.{key-zero-in-runs}
+use Rattle.rules_sealed.proofs.SealedRuns.{sealed-members-formed, sealed-members-blank, sealed-members-profile, opened-run}
+use Rattle.rules_sealed.proofs.SealedRuns.{same-members as sealed-same-members}
 use Rattle.rules_fragments.specs.FragmentOutcome.{FragmentAnswer, complete, gatheredWith, FragmentOutcome}
 use Rattle.rules_fragments.specs.FragmentOutcome.{is-refused, is-passed-over, is-waiting, is-complete}
 use Rattle.rules_fragments.specs.FragmentRun.{FragmentEvent, FragmentTakes, takes-sealed, answered-fragment, FragmentRun}
@@ -98,3 +103,18 @@ pub fragment-members-profile : (profile : Bool) {e : State} {l : List FragmentEv
     (r : FragmentRun limits (newState limits profile) l e) → FragmentThroughout limits (λ (m : State). m .profile ≡ profile) r
 fragment-members-profile profile r =
     same-members limits (λ (m : State). m .profile ≡ profile) r (sealed-members-profile profile (sealed-run limits r))
+
+-- "members-lifetimes": every lifetime is one that a frame may bring
+pub fragment-members-lifetimes : (profile : Bool) {e : State} {l : List FragmentEvent}
+    (r : FragmentRun limits (newState limits profile) l e) → FragmentThroughout limits LifetimesFit r
+fragment-members-lifetimes profile r =
+    same-members limits LifetimesFit r
+    (sealed-same-members limits LifetimesFit (sealed-run limits r) (members-lifetimes profile (opened-run limits (sealed-run limits r))))
+
+-- "key-zero-in-runs": key 0 of a rekey is cut out of the Rekey SA over which it comes
+pub fragment-key-zero : (profile : Bool) {e : State} {l : List FragmentEvent} (r : FragmentRun limits (newState limits profile) l e) →
+    FragmentThroughout limits (ZeroOfRekeys limits) r
+fragment-key-zero profile r =
+    same-members limits (ZeroOfRekeys limits) r
+    (sealed-same-members limits (ZeroOfRekeys limits) (sealed-run limits r)
+    (key-zero-in-runs profile (opened-run limits (sealed-run limits r))))

@@ -6,7 +6,7 @@ use mathlib.Core.Bool.{true, false, false≢true}
 use mathlib.Core.Logic.{_⊎_, inl, inr}
 use mathlib.Core.List.{List}
 use lib.ListN.{drop}
-use Rattle.octets.proofs.Order.{bool-cases, lt-cases}
+use Rattle.lists.proofs.Cases.{bool-cases, lt-cases}
 use Rattle.ikev2_numbers.specs.Codes.{mostOctets}
 use Rattle.state_keys.specs.Limits.{Limits}
 use Rattle.wire_frames.specs.Header.{headerOf}

@@ -10,8 +10,8 @@ use lib.Dec.{eqb}
 use Rattle.octets.specs.Compare.{same}
 use Rattle.octets.proofs.Order.{same-eq}
 use Rattle.state_keys.specs.Limits.{Limits}
-use Rattle.state_keys.specs.Lists.{any}
-use Rattle.state_keys.proofs.Cases.{and-parts}
+use Rattle.lists.specs.Lists.{any}
+use Rattle.lists.proofs.Cases.{and-parts, or-cases}
 use Rattle.wire_policies.specs.Policy.{GroupSaPolicy}
 use Rattle.wire_frames.specs.Frame.{Frame}
 use Rattle.wire_frames.specs.Grammar.{IsFrame}
@@ -26,7 +26,6 @@ use Rattle.rules_outcome.specs.Holding.{newRekey}
 use Rattle.rules_outcome.specs.After.{oldSas, insertAll}
 use Rattle.rules_outcome.specs.Outcome.{Outcome}
 use Rattle.rules_outcome.specs.Run.{LiveRekey, StandsAt}
-use Rattle.rules_outcome.proofs.RestLaws.{or-cases}
 use Rattle.rules_outcome.proofs.RunsClear.{Taken, taken}
 use Rattle.rules_outcome.proofs.RunsLists.{count-none, none-passes, some-passes, passes-some}
 use Rattle.rules_outcome.proofs.RunsLive.{over-parts}

@@ -10,7 +10,7 @@ use lib.ListN.{length, take, drop, getD}
 use Rattle.octets.specs.Numbers.{oct}
 use Rattle.ikev2_numbers.specs.Codes.{gsaRekey, headerOctets, majorVersion, minorVersions, mostOctets, versionAt}
 use Rattle.state_keys.specs.Limits.{Limits}
-use Rattle.state_keys.specs.Lists.{any}
+use Rattle.lists.specs.Lists.{any}
 use Rattle.wire_frames.specs.Header.{headerOf, firstPayload}
 use Rattle.wire_frames.specs.Frame.{figure}
 use Rattle.state.specs.declared.State.{State}
@@ -66,8 +66,8 @@ module _ (limits : Limits) (s : State) (frame : List ℕ) (pieces : List (List �
       sealedFragment (aesKeyOf (sealingPart limits s)) (saltOf (sealingPart limits s)) (take headerOctets frame) (x .next) (x .number)
       (length pieces) (getD pieces (x .number - 1) []) (x .choice)
 
-  -- sealed by any choice in at most 16,384 octets; fragment 1 names the frame's first payload, and the others any; a room of 16,384 octets at
-  -- least; a tick at which 2 and 3 do not apply
+  -- sealed by any choice in at most 16,384 octets; fragment 1 names the frame's first payload, and the others any; a room of 16,384 octets
+  -- at least; a tick at which 2 and 3 do not apply
   pub record FitHandedIn (x : HandedIn) : Type 0 where
     pub least : 1 ≤ x .number
     pub most : x .number ≤ length pieces

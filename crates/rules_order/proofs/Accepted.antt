@@ -4,7 +4,7 @@ use mathlib.Core.Path.{_≡_, ap, _∙_, subst}
 use mathlib.Core.Bool.{true}
 use mathlib.Core.List.{List}
 use Rattle.state_keys.specs.Limits.{Limits}
-use Rattle.state_keys.specs.Lists.{rising}
+use Rattle.lists.specs.Lists.{rising}
 use Rattle.wire_frames.specs.Frame.{Frame}
 use Rattle.wire_frames.specs.Grammar.{IsFrame}
 use Rattle.state_sa.specs.Entry.{saBefore}

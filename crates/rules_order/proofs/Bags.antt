@@ -2,12 +2,12 @@
 use native.Mathlib.Omega.{arith}
 use Prim.Native.Nat.{ℕ, _+_, _<_}
 use mathlib.Core.Path.{_≡_, refl, ap, sym, _∙_, subst}
-use mathlib.Core.Bool.{Bool, true, false}
+use mathlib.Core.Bool.{Bool, true, false, cond}
 use mathlib.Core.List.{List, [], _∷_, _++_, map}
 use lib.ListN.{length, drop, length-append}
 use lib.Seq.{drop-append-seam}
 use Rattle.octets.specs.Numbers.{oct}
-use Rattle.octets.specs.Walk.{part, either}
+use Rattle.octets.specs.Walk.{part}
 use Rattle.octets.proofs.Local.{oct-append, be16-append, part-append}
 use Rattle.wire_attributes.specs.Attribute.{Attribute}
 use Rattle.wire_attributes.specs.Tree.{means, valuesOf, saKeys, saKeyOf, wrapKeys, wrapKeyOf, freshKeys}
@@ -50,12 +50,12 @@ map-order f swapped = swapped
 map-order f (then r s) = then (map-order f r) (map-order f s)
 
 module _ (m : Meaning) (p : Place) where
-  put : (b : Bool) {v w : List ℕ} {x y : List (List ℕ)} → v ≡ w → AnyOrder _≡_ x y → AnyOrder _≡_ (either b (v ∷ x) x) (either b (w ∷ y) y)
+  put : (b : Bool) {v w : List ℕ} {x y : List (List ℕ)} → v ≡ w → AnyOrder _≡_ x y → AnyOrder _≡_ (cond b (v ∷ x) x) (cond b (w ∷ y) y)
   put true e r = next e r
   put false e r = r
 
   exchanged : (b c : Bool) (v w : List ℕ) (x : List (List ℕ)) →
-      AnyOrder _≡_ (either b (v ∷ either c (w ∷ x) x) (either c (w ∷ x) x)) (either c (w ∷ either b (v ∷ x) x) (either b (v ∷ x) x))
+      AnyOrder _≡_ (cond b (v ∷ cond c (w ∷ x) x) (cond c (w ∷ x) x)) (cond c (w ∷ cond b (v ∷ x) x) (cond b (v ∷ x) x))
   exchanged true true v w x = swapped
   exchanged true false v w x = as-is (λ a. refl) (v ∷ x)
   exchanged false true v w x = as-is (λ a. refl) (w ∷ x)
@@ -65,7 +65,7 @@ module _ (m : Meaning) (p : Place) where
   unfolding valuesOf
   values-order none = none
   values-order (next {a = a} {b = b} {l = l} {m = k} e r) =
-      subst (λ (c : Attribute). AnyOrder _≡_ (valuesOf m p (a ∷ l)) (either (means m p c) (c .value ∷ valuesOf m p k) (valuesOf m p k))) e
+      subst (λ (c : Attribute). AnyOrder _≡_ (valuesOf m p (a ∷ l)) (cond (means m p c) (c .value ∷ valuesOf m p k) (valuesOf m p k))) e
       (put (means m p a) refl (values-order r))
   values-order (swapped {a = a} {b = b} {l = l}) = exchanged (means m p a) (means m p b) (a .value) (b .value) (valuesOf m p l)
   values-order (then r s) = then (values-order r) (values-order s)

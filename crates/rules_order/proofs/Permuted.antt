@@ -8,10 +8,10 @@ use mathlib.Core.Logic.{_↔_}
 use mathlib.Core.List.{List, [], _∷_, _++_}
 use Rattle.octets.specs.Compare.{same}
 use Rattle.octets.proofs.Order.{same-eq, eq-same}
-use Rattle.state_keys.specs.Lists.{count}
+use Rattle.lists.specs.Lists.{count}
 use Rattle.rules_refusals.specs.Reordered.{AnyOrder, none, next, swapped, then}
 use Rattle.rules_refusals.proofs.AnyOrder.{as-is, count-equal}
-use Rattle.rules_refusals.proofs.Gather.{count-append}
+use Rattle.rules_refusals.proofs.FlatMap.{count-append}
 
 -- ---- an element that stands in a list, with what is before it and behind it
 pub record Parted {A : Type 0} (a : A) (m : List A) : Type 0 where

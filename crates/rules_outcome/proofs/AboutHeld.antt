@@ -4,9 +4,9 @@
 use Prim.Native.Nat.{ℕ}
 use mathlib.Core.Path.{_≡_, refl}
 use mathlib.Core.Bool.{true, false}
-use mathlib.Core.List.{List, [], _∷_, map}
+use mathlib.Core.List.{List, [], _∷_, map, flatMap}
 use lib.ListN.{length, replicate}
-use Rattle.state_keys.specs.Lists.{any, keep}
+use Rattle.lists.specs.Lists.{any, keep}
 use Rattle.state_keys.specs.Limits.{Limits, limits}
 use Rattle.state_keys.specs.Kinds.{wrappingOf}
 use Rattle.wire_attributes.specs.Tree.{WrapKey}
@@ -18,7 +18,6 @@ use Rattle.state.specs.declared.held.Held.{Held}
 use Rattle.state.specs.declared.least.Least.the-variants.{Id}
 use Rattle.state.specs.Held.{heldOf}
 use Rattle.state_table.specs.Table.{tableOf}
-use Rattle.rules_refusals.specs.Contents.{gather}
 use Rattle.rules_outcome.specs.Roots.{ownKey, keyZeroValue, notCarried, rootsOf, entriesOf, wrappingSize}
 use Rattle.rules_outcome.specs.Holding.{fromKey, pathBefore, heldByPath, heldBefore}
 use Rattle.rules_outcome.specs.Answer.{RefusalCase, conditions}
@@ -74,7 +73,7 @@ pub record HeldSamples : Type 0 where
       map (λ (c : RefusalCase). c .number) (conditions limits s now lent f) ≡ 2 ∷ 3 ∷ 4 ∷ 5 ∷ 6 ∷ 7 ∷ 8 ∷ 9 ∷ 7 ∷ []
 
 pub held-samples : HeldSamples
-unfolding pathBefore fromKey keep any gather rootsOf keyZeroValue wrappingSize
+unfolding pathBefore fromKey keep any flatMap rootsOf keyZeroValue wrappingSize
 held-samples =
     record {
       member-e = refl;

@@ -64,16 +64,16 @@ module _ (limits : Limits) (s : State) (now : ℕ) (lent : List ℕ) where
     HasCopy a = (x : List ℕ) × OpensTo limits s now lent f a x
 
     -- number 9 by the policies
-    pub nine-policy : KeyMissingOf limits s now lent f → (a : GroupSaPolicy) × In a (announced f) × (HasCopy a → ⊥)
+    pub missing-policy : KeyMissingOf limits s now lent f → (a : GroupSaPolicy) × In a (announced f) × (HasCopy a → ⊥)
     unfolding announcedKeys
-    nine-policy n =
+    missing-policy n =
         let r = in-map (announcedAs f) (n .sa) (announced f) (n .stands) in
         let e : n .sa ≡ announcedAs f (r .item) = r .is in
         (r .item, r .stands, λ h. n .none (h .0) (subst (λ (b : Announced). Opened (b .copies) (h .0)) (sym e) (h .1)))
 
-    pub policy-nine : (a : GroupSaPolicy) → In a (announced f) → (HasCopy a → ⊥) → KeyMissingOf limits s now lent f
+    pub policy-missing : (a : GroupSaPolicy) → In a (announced f) → (HasCopy a → ⊥) → KeyMissingOf limits s now lent f
     unfolding announcedKeys
-    policy-nine a m none =
+    policy-missing a m none =
         record { sa = announcedAs f a; stands = map-in (announcedAs f) (announcedAs f a) (announced f) a m refl; none = λ x o. none (x, o) }
 
     -- where 8 does not apply, what a copy opens to has the size that its policy needs

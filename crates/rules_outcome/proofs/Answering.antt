@@ -53,15 +53,15 @@ module _ (limits : Limits) (s : State) (now : ℕ) (lent : List ℕ) (f : Frame)
   -- an answer of 0, taken apart
   pub record NoneApplies : Type 0 where
     pub clauses : refusal limits s now lent f ≡ 0
-    pub no-eight : KeyConflictOf limits s now lent f → ⊥
-    pub no-nine : KeyMissingOf limits s now lent f → ⊥
+    pub no-conflict : KeyConflictOf limits s now lent f → ⊥
+    pub no-missing : KeyMissingOf limits s now lent f → ⊥
     pub no-over : OverHeldOf limits s now lent f → ⊥
 
   none-last : refusal limits s now lent f ≡ 0 → First lasts 0 → NoneApplies
   none-last e (inl p) = let z = p .1 in absurd (omega arith)
   none-last e (inr (p, inl q)) = let z = q .1 in absurd (omega arith)
   none-last e (inr (p, inr (q, inl r))) = let z = r .1 in absurd (omega arith)
-  none-last e (inr (p, inr (q, inr (r, z)))) = record { clauses = e; no-eight = p; no-nine = q; no-over = r }
+  none-last e (inr (p, inr (q, inr (r, z)))) = record { clauses = e; no-conflict = p; no-missing = q; no-over = r }
 
   -- an answer is judged by the clauses, or passes them
   pub judged-or-past : (n : ℕ) → FrameAnswers limits s now lent f n →

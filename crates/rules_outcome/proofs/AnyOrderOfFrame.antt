@@ -8,8 +8,8 @@ use mathlib.Core.List.{List, [], _∷_, map}
 use lib.Dec.{eqb}
 use Rattle.octets.specs.Compare.{same}
 use Rattle.state_keys.specs.Limits.{Limits}
-use Rattle.state_keys.specs.Lists.{keep, rising}
-use Rattle.state_keys.proofs.Rising.{rising-unique}
+use Rattle.lists.specs.Lists.{keep, rising}
+use Rattle.lists.proofs.Rising.{rising-unique}
 use Rattle.wire_attributes.specs.Tree.{WrapKey, SaKey}
 use Rattle.wire_policies.specs.Policy.{GroupSaPolicy, GroupWidePolicy}
 use Rattle.wire_bags.specs.Bag.{GroupKeyBag}
@@ -38,7 +38,7 @@ use Rattle.rules_outcome.specs.Roots.{keyZeroValue, carried, notCarried,
 use Rattle.rules_outcome.specs.Holding.{newRekey, rekeyCopies}
 use Rattle.rules_outcome.specs.After.{delayOf, isZero, namedInDelete, replaced, retires, oldSa, oldSas, saFrom, insertAll}
 use Rattle.rules_outcome.specs.After.{Enter, no-sa, one-more, initialMessageId, leastAfterwards}
-use Rattle.rules_outcome.proofs.Members.{in-keep, keep-in, in-gather, gather-in}
+use Rattle.rules_outcome.proofs.Members.{in-keep, keep-in, in-flatMap, flatMap-in}
 use Rattle.rules_outcome.proofs.Enters.{in-all, all-in}
 use Rattle.rules_outcome.proofs.AnyOrder.{order-from, order-among, sum-order, reordered-back, group-trans, equal-back}
 
@@ -52,19 +52,19 @@ module _ {f g : Frame} (r : Reordered f g) where
   unfolding copiesOf
   copies-among a c i =
       let named = bagNamed (a .protocol) (a .spi) in
-      let b = in-gather (λ (x : GroupKeyBag). x .keys) c (keep named (groupBags f)) i in
+      let b = in-flatMap (λ (x : GroupKeyBag). x .keys) c (keep named (groupBags f)) i in
       let k = in-keep (b .item) named (groupBags f) (b .stands) in
       let d = order-from group-same group-trans (group-bags-order r) (b .item) (k .0) in
       let e : named (b .item) ≡ named (d .0) = λ j. eqb (d .2 .protocol j) (a .protocol) && same (d .2 .spi j) (a .spi) in
-      gather-in (λ (x : GroupKeyBag). x .keys) c (keep named (groupBags g)) (d .0)
+      flatMap-in (λ (x : GroupKeyBag). x .keys) c (keep named (groupBags g)) (d .0)
       (keep-in (d .0) named (groupBags g) (d .1) (sym e ∙ k .1)) (order-among (d .2 .keys) c (b .is))
 
   pub rekey-copies-among : Among (rekeyCopies f) (rekeyCopies g)
   unfolding rekeyCopies
   rekey-copies-among c i =
-      let a = in-gather (copiesOf f) c (keep isRekey (announced f)) i in
+      let a = in-flatMap (copiesOf f) c (keep isRekey (announced f)) i in
       let k = in-keep (a .item) isRekey (announced f) (a .stands) in
-      gather-in (copiesOf g) c (keep isRekey (announced g)) (a .item)
+      flatMap-in (copiesOf g) c (keep isRekey (announced g)) (a .item)
       (keep-in (a .item) isRekey (announced g) (order-among (announced-order r) (a .item) (k .0)) (k .1))
       (copies-among (a .item) c (a .is))
 

@@ -4,7 +4,7 @@
 use native.Mathlib.Omega.{arith}
 use Prim.Native.Nat.{ℕ, zero, suc, _≤_}
 use mathlib.Core.Path.{_≡_, refl, ap, sym, _∙_, subst}
-use mathlib.Core.Bool.{Bool, true, false, cond, not, _&&_}
+use mathlib.Core.Bool.{Bool, true, false, cond, not, _&&_, and-false}
 use mathlib.Core.Logic.{_⊎_, inl, inr, ⊎-elim}
 use mathlib.Core.List.{List, [], _∷_, _++_, map, append-nil, List·Memᴰ, List·Memᴰ·eq-of-singleton}
 use borrow.Author.Tests.{leb-true, le-ltb, ltb-false, not-false}
@@ -13,10 +13,10 @@ use lib.ListN.{length, drop}
 use Rattle.octets.specs.Numbers.{oct}
 use Rattle.octets.specs.Walk.{Spans}
 use Rattle.ikev2_numbers.specs.Codes.{exchangeAt, firstPayloadAt, gsaRekey, headerOctets}
-use Rattle.state_keys.specs.Lists.{all, any, keep}
+use Rattle.lists.specs.Lists.{all, any, keep}
 use Rattle.state_keys.specs.Limits.{Limits}
 use Rattle.state_keys.specs.Limits as figures
-use Rattle.state_keys.proofs.Cases.{and-parts}
+use Rattle.lists.proofs.Cases.{and-parts}
 use Rattle.wire_attributes.specs.Tree.{WrapKey}
 use Rattle.wire_frames.specs.Exchange.{readsFresh}
 use Rattle.wire_frames.specs.declared.exchanges.Exchange.{Exchange}
@@ -325,7 +325,3 @@ pub elsewhere : (s : State) (now : ℕ) (lent octets : List ℕ) → (oct octets
 elsewhere s now lent octets e =
     as-before figures.limits (omega arith) s now lent octets
     (ap (λ (b : Bool). s .profile && b) (in-rekeys-alone (oct octets exchangeAt) e) ∙ and-false (s .profile))
-  where
-    and-false : (b : Bool) → (b && false) ≡ false
-    and-false true = refl
-    and-false false = refl

@@ -12,8 +12,8 @@ use lib.Seq.{take-append-seam, take-at}
 use Rattle.octets.specs.Compare.{same}
 use Rattle.octets.proofs.Order.{eq-same}
 use Rattle.state_keys.specs.Limits.{Limits}
-use Rattle.state_keys.specs.Lists.{any}
-use Rattle.state_keys.proofs.Cases.{and-parts, and-whole}
+use Rattle.lists.specs.Lists.{any}
+use Rattle.lists.proofs.Cases.{and-parts, and-whole}
 use Rattle.wire_policies.specs.Policy.{GroupSaPolicy}
 use Rattle.wire_frames.specs.Frame.{Frame}
 use Rattle.wire_frames.specs.Grammar.{IsFrame}

@@ -7,7 +7,7 @@ use mathlib.Core.List.{List, [], _∷_, List·Memᴰ, List·Memᴰ·head}
 use lib.ListN.{replicate}
 use Rattle.octets.specs.Compare.{orderOf, same}
 use Rattle.state_keys.specs.Limits.{limits}
-use Rattle.state_keys.specs.Lists.{all, any, count, keep, heads, rising}
+use Rattle.lists.specs.Lists.{all, any, count, keep, heads, rising}
 use Rattle.state_keys.specs.Algorithms.{sizeOf}
 use Rattle.state_keys.specs.Kinds.{rekeySizes, rekeyOf}
 use Rattle.state_sa.specs.Clock.{elapsedAtLeast}

@@ -7,8 +7,8 @@ use lib.Dec.{eqb}
 use borrow.Author.Tests.{eqb-true, eq-eqb}
 use Rattle.octets.specs.Compare.{same}
 use Rattle.octets.proofs.Order.{same-eq, eq-same}
-use Rattle.state_keys.specs.Lists.{keep}
-use Rattle.state_keys.proofs.Cases.{and-parts, and-whole}
+use Rattle.lists.specs.Lists.{keep}
+use Rattle.lists.proofs.Cases.{and-parts, and-whole}
 use Rattle.wire_attributes.specs.Tree.{SaKey, WrapKey}
 use Rattle.wire_policies.specs.Policy.{GroupSaPolicy}
 use Rattle.wire_bags.specs.Bag.{GroupKeyBag, MemberKeyBag}
@@ -18,13 +18,13 @@ use Rattle.rules_refusals.specs.Number6.{bagNamed}
 use Rattle.rules_chains.specs.Chain.{In, Root, Chain, root, step}
 use Rattle.rules_outcome.specs.Roots.{copiesOf}
 use Rattle.rules_outcome.specs.NamedKey.{InOwnBag, InMemberBag}
-use Rattle.rules_outcome.proofs.Members.{in-cases, not-in-none, in-keep, keep-in, in-gather, gather-in}
+use Rattle.rules_outcome.proofs.Members.{in-cases, not-in-none, in-keep, keep-in, in-flatMap, flatMap-in}
 
 module _ (f : Frame) (a : GroupSaPolicy) (c : SaKey) where
   pub copy-own : In c (copiesOf f a) → InOwnBag f a c
   unfolding copiesOf
   copy-own i =
-      let r = in-gather (λ (b : GroupKeyBag). b .keys) c (keep (bagNamed (a .protocol) (a .spi)) (groupBags f)) i in
+      let r = in-flatMap (λ (b : GroupKeyBag). b .keys) c (keep (bagNamed (a .protocol) (a .spi)) (groupBags f)) i in
       let b = r .item in
       let k = in-keep b (bagNamed (a .protocol) (a .spi)) (groupBags f) (r .stands) in
       let p = and-parts (eqb (b .protocol) (a .protocol)) (same (b .spi) (a .spi)) (k .1) in
@@ -40,7 +40,7 @@ module _ (f : Frame) (a : GroupSaPolicy) (c : SaKey) where
   unfolding copiesOf
   own-copy r =
       let b = r .bag in
-      gather-in (λ (x : GroupKeyBag). x .keys) c (keep (bagNamed (a .protocol) (a .spi)) (groupBags f)) b
+      flatMap-in (λ (x : GroupKeyBag). x .keys) c (keep (bagNamed (a .protocol) (a .spi)) (groupBags f)) b
       (keep-in b (bagNamed (a .protocol) (a .spi)) (groupBags f) (r .stands)
       (and-whole (eqb (b .protocol) (a .protocol)) (same (b .spi) (a .spi)) (eq-eqb (b .protocol) (a .protocol) (r .protocol))
       (eq-same (b .spi) (a .spi) (r .spi))))
@@ -48,7 +48,7 @@ module _ (f : Frame) (a : GroupSaPolicy) (c : SaKey) where
 
 pub entry-own : (f : Frame) (e : WrapKey) → In e (wrapKeysOf f) → InMemberBag f e
 entry-own f e i =
-    let r = in-gather (λ (b : MemberKeyBag). b .keys) e (memberBags f) i in record { bag = r .item; stands = r .stands; entry = r .is }
+    let r = in-flatMap (λ (b : MemberKeyBag). b .keys) e (memberBags f) i in record { bag = r .item; stands = r .stands; entry = r .is }
 
 -- each entry that a chain passes is one of the entries
 pub passed-stand : (roots : List Root) (entries : List WrapKey) (size : ℕ) (passed : List WrapKey) (k : ℕ) (v : List ℕ) →

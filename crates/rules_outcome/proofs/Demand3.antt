@@ -54,7 +54,7 @@ module _ (limits : Limits) (s : State) (now : ℕ) (lent octets : List ℕ) (f :
     fresh-after x (over-sa y none) =
         after-rekey limits s now lent f (next .held)
         (to-fresh-roots limits s now lent f (λ r l n. EntriesConflict r l n → ⊥) y none
-        (entries-fit limits s now lent f (accepts limits s now lent f (was .0) .no-eight)))
+        (entries-fit limits s now lent f (accepts limits s now lent f (was .0) .no-conflict)))
         (to-fresh-roots limits s now lent f
         (λ r l n. ((p : GroupSaPolicy) → NewRekey f p → (v : List ℕ) × CopyOpens r l n (copiesOf f p) v)) y
         none (λ p n. after-opens limits s now lent f next (was .1) p (n .stands)))

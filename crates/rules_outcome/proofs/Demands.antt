@@ -2,7 +2,7 @@
 use native.Mathlib.Omega.{arith}
 use Prim.Native.Nat.{ℕ, zero, suc, _≤_, _<_}
 use mathlib.Core.Path.{_≡_, refl, ap, sym, _∙_, subst}
-use mathlib.Core.Bool.{Bool, true, false, _&&_}
+use mathlib.Core.Bool.{Bool, true, false, _&&_, and-false}
 use mathlib.Core.Logic.{_⊎_, inl, inr, ⊎-elim, _↔_}
 use mathlib.Core.List.{List, [], _∷_, _++_, append-nil}
 use borrow.Author.Tests.{not-false}
@@ -51,10 +51,6 @@ use Rattle.rules_outcome.proofs.HeldList.{held-after, no-entry-stays}
 use Rattle.rules_outcome.proofs.Accepting.{entries-fit, after-opens, whole-accepted}
 use Rattle.rules_outcome.proofs.Accepting.{new-by, entered-by, new-stands, stands-as, as-stands}
 
-and-false : (b : Bool) → (b && false) ≡ false
-and-false true = refl
-and-false false = refl
-
 module _ (limits : Limits) (s : State) (now : ℕ) (lent octets : List ℕ) where
   -- ---- DEMAND 1
   -- "Bad input gets one of the nine refusals in document 01, each exactly when its condition holds and no lower one does, and a refusal
@@ -73,9 +69,9 @@ module _ (limits : Limits) (s : State) (now : ℕ) (lent octets : List ℕ) wher
   zero-due (suc n) next o none = absurd (none (suc n) (given-holds limits s now lent octets n next o))
 
   -- "one of the nine"
-  pub one-of-nine : (n : ℕ) (next : State) → Outcome limits s now lent octets n next → n ≤ 9
-  one-of-nine zero next o = omega arith
-  one-of-nine (suc n) next o = at-most-9 limits s now lent octets (suc n) (given-holds limits s now lent octets n next o)
+  pub one-of-the-numbers : (n : ℕ) (next : State) → Outcome limits s now lent octets n next → n ≤ 9
+  one-of-the-numbers zero next o = omega arith
+  one-of-the-numbers (suc n) next o = at-most-9 limits s now lent octets (suc n) (given-holds limits s now lent octets n next o)
 
   -- number 1, by the grammar alone: "under 28 or over 16,384 octets, header length .., major version not 2, or any first octet, length, ..
   -- or end that breaks the layouts". It is given exactly when no tree is laid out as the octets
@@ -91,11 +87,11 @@ module _ (limits : Limits) (s : State) (now : ℕ) (lent octets : List ℕ) wher
 
   -- document 02, T-11: "over 128 gives 7", "Over 128 then is 7, judged after 9". 7 is given exactly when a clause of it applies and none of
   -- 1 to 6 does, or the held list would be over its limit and none of 1 to 9 applies
-  pub seven-exactly : (next : State) →
+  pub number7-exactly : (next : State) →
       Outcome limits s now lent octets 7 next
       ↔ (((Meets limits s now lent octets 7 × ((m : ℕ) → m < 7 → Meets limits s now lent octets m → ⊥))
       ⊎ (OfTree (s .profile) octets (OverHeldOf limits s now lent) × ((m : ℕ) → Meets limits s now lent octets m → ⊥))) × (next ≡ s))
-  seven-exactly next =
+  number7-exactly next =
       (λ o. to (refused-is limits s now lent octets 6 next o), λ p. is-refused limits s now lent octets 6 next (of (p .0) (p .1)))
     where
       to : Refused limits s now lent octets 7 next →
@@ -141,7 +137,7 @@ module _ (limits : Limits) (s : State) (now : ℕ) (lent octets : List ℕ) wher
         HeldNext (rootsOf limits s now lent f) (entriesOf f) (wrappingSize limits s now lent f) limits (newRekey f) (rekeyCopies f)
         (heldBefore limits b (s .held)) (next .held))
         (ap (λ (x : Exchange). x .registers) r) (a .1 .held) in
-        let none = entries-fit limits s now lent f (accepts limits s now lent f (a .0) .no-eight) in
+        let none = entries-fit limits s now lent f (accepts limits s now lent f (a .0) .no-conflict) in
         held-after lent f (rootsOf limits s now lent f) (entriesOf f) (wrappingSize limits s now lent f) (lent-roots limits s now f r lent)
         (ap (λ (l : List WrapKey). wrapKeysOf f ++ l) bare ∙ append-nil (wrapKeysOf f)) (lent-size limits s now f r lent) limits
         (next .held) none (λ p n. after-opens limits s now lent f next (a .1) p (n .stands)) h
@@ -181,7 +177,7 @@ module _ (limits : Limits) (s : State) (now : ℕ) (lent octets : List ℕ) wher
       pub each-stands : (p : GroupSaPolicy) → In p (announced f) → Standing limits s now lent f next p
       each-stands p m =
           let a = whole-accepted limits s now lent octets f e next o in
-          let none = accepts limits s now lent f (a .0) .no-eight in
+          let none = accepts limits s now lent f (a .0) .no-conflict in
           new-by now (OpensTo limits s now lent f) (OpensUnder limits s now lent f) accepted-to (under-to limits s now lent f accepted-fit)
           (sasOf (next .table)) p (new-stands limits s now lent f next (a .1) none p m)
 
@@ -190,7 +186,7 @@ module _ (limits : Limits) (s : State) (now : ℕ) (lent octets : List ℕ) wher
       pub table-after : (b : Sa) → In b (sasOf (next .table)) ↔ (Entered limits s now lent f b ⊎ Stayed s now f b)
       table-after b =
           let a = whole-accepted limits s now lent octets f e next o in
-          let none = accepts limits s now lent f (a .0) .no-eight in
+          let none = accepts limits s now lent f (a .0) .no-conflict in
           let P = OpensTo limits s now lent f in
           let Q = OpensUnder limits s now lent f in
           let from = under-to limits s now lent f accepted-fit in (

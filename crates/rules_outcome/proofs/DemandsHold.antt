@@ -17,7 +17,7 @@ use Rattle.rules_chains.proofs.Closure.{reached-first, reached-on, reached-leas
 use Rattle.rules_outcome.specs.Demands.{Fits, OpenedTo, Demand, any-input, refusals, reading, opening, keys, chains}
 use Rattle.rules_outcome.specs.Demands.{Claims}
 use Rattle.rules_outcome.proofs.Meets.{refused-first, accepted-is, accepted-none}
-use Rattle.rules_outcome.proofs.Demands.{accepted-exactly, zero-due, one-of-nine}
+use Rattle.rules_outcome.proofs.Demands.{accepted-exactly, zero-due, one-of-the-numbers}
 use Rattle.rules_outcome.proofs.Determined.{outcome-one, after-one}
 use Rattle.rules_outcome.proofs.EachAnswered.{each-answered}
 use Rattle.rules_outcome.proofs.Demand3.{demand-3-within}
@@ -29,7 +29,7 @@ any-input-holds s now lent octets =
 refusals-hold : Claims refusals
 refusals-hold s now lent octets =
     record {
-      nine = one-of-nine limits s now lent octets;
+      nine = one-of-the-numbers limits s now lent octets;
       exactly = refused-first limits s now lent octets;
       accepted = accepted-exactly limits s now lent octets;
       zero-due = zero-due limits s now lent octets;

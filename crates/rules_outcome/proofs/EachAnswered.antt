@@ -31,7 +31,7 @@ use Rattle.rules_outcome.proofs.HeldList.{rekey-opener}
 use Rattle.rules_outcome.proofs.PathSome.{path-some}
 use Rattle.rules_outcome.proofs.Readings.{tree-of}
 use Rattle.rules_outcome.proofs.Answering.{accepts}
-use Rattle.rules_outcome.proofs.Accepting.{HasCopy, policy-nine}
+use Rattle.rules_outcome.proofs.Accepting.{HasCopy, policy-missing}
 
 -- a list of conditions has a first that holds, or none holds
 first-some : (l : List RefusalCase) → ((n : ℕ) → First l n → ⊥) → ⊥
@@ -57,7 +57,7 @@ module _ (limits : Limits) (s : State) (now : ℕ) (lent : List ℕ) (f : Frame)
   size = wrappingSize limits s now lent f
 
   opens-some : (a : GroupSaPolicy) → In a (announced f) → (HasCopy limits s now lent f a → ⊥) → ⊥
-  opens-some a m none = accepts limits s now lent f p .no-nine (policy-nine limits s now lent f a m none)
+  opens-some a m none = accepts limits s now lent f p .no-missing (policy-missing limits s now lent f a m none)
 
   enter-some : (l : List GroupSaPolicy) → ((a : GroupSaPolicy) → In a l → In a (announced f)) →
       ((m : List Sa) → Enter roots (entriesOf f) size now f l m → ⊥) → ⊥
@@ -69,7 +69,7 @@ module _ (limits : Limits) (s : State) (now : ℕ) (lent : List ℕ) (f : Frame)
       enter-some l (λ c m. sub c (in-tail c a l m)) (λ m e.
       opens-some a i (λ h.
       let one = copies-one roots (entriesOf f) size b (λ c.
-      accepts limits s now lent f p .no-eight (of-copies b (map-in (announcedAs f) b (announced f) a i refl) c)) in
+      accepts limits s now lent f p .no-conflict (of-copies b (map-in (announcedAs f) b (announced f) a i refl) c)) in
       none (saFrom now a (h .0) ∷ m) (one-more (h .0) (record { opens = h .1; every = λ y o. one y (h .0) o (h .1) }) e)))
 
   abbrev old : Held
@@ -79,7 +79,7 @@ module _ (limits : Limits) (s : State) (now : ℕ) (lent : List ℕ) (f : Frame)
       ((h : Held) → HeldNext roots (entriesOf f) size limits b (rekeyCopies f) old h → ⊥) → ⊥
   held-some new e true g without =
       let o = rekey-opener f roots (entriesOf f) size now new e g in
-      path-held limits roots (entriesOf f) size (rekeyCopies f) old (λ c. accepts limits s now lent f p .no-eight (of-entries c)) (o .0)
+      path-held limits roots (entriesOf f) size (rekeyCopies f) old (λ c. accepts limits s now lent f p .no-conflict (of-entries c)) (o .0)
       (o .1) without
   held-some new e false g without = without old refl
 

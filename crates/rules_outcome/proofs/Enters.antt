@@ -5,10 +5,10 @@ use mathlib.Core.Bool.{true, false, not}
 use mathlib.Core.Logic.{_⊎_, inl, inr, ⊎-elim}
 use mathlib.Core.List.{List, [], _∷_}
 use borrow.Author.Tests.{not-true}
-use Rattle.state_keys.specs.Lists.{insert}
+use Rattle.lists.specs.Lists.{insert}
 use Rattle.state_keys.specs.Kinds.{padded}
-use Rattle.state_keys.proofs.Cases.{bool-cases}
-use Rattle.state_keys.proofs.Members.{inserted-member, member-inserted}
+use Rattle.lists.proofs.Cases.{bool-cases}
+use Rattle.lists.proofs.Members.{inserted-member, member-inserted}
 use Rattle.wire_attributes.specs.Tree.{WrapKey}
 use Rattle.wire_policies.specs.Policy.{GroupSaPolicy}
 use Rattle.wire_frames.specs.Frame.{Frame}

@@ -8,7 +8,7 @@ use mathlib.Core.Logic.{_⊎_, inl, inr, ⊎-elim}
 use mathlib.Core.List.{List, [], _∷_, _++_, map}
 use lib.Dec.{ltb}
 use borrow.Author.Tests.{ltb-true}
-use Rattle.state_keys.proofs.Cases.{bool-cases, and-parts}
+use Rattle.lists.proofs.Cases.{bool-cases, and-parts}
 use Rattle.rules_refusals.specs.Refusals.{Number, applies, judged}
 use Rattle.rules_outcome.specs.Answer.{RefusalCase, First, byClauses}
 use Rattle.rules_outcome.specs.Judging.{SomeHolds, JudgedFirst, above}

@@ -2,15 +2,15 @@
 -- switched on for a member at creation". "Elsewhere, and with the profile off, the attribute is skipped": a frame then has none.
 use Prim.Native.Nat.{ℕ}
 use mathlib.Core.Path.{_≡_, refl, ap, sym, _∙_, subst}
-use mathlib.Core.Bool.{Bool, false}
+use mathlib.Core.Bool.{Bool, false, cond}
 use mathlib.Core.Logic.{⊎-elim}
-use mathlib.Core.List.{List, [], _∷_, _++_, List·Memᴰ, List·Memᴰ·head, List·Memᴰ·tail, List·Memᴰ·not-nil, List·Memᴰ·cases-cons}
+use mathlib.Core.List.{List, [], _∷_, _++_, List·Memᴰ, List·Memᴰ·head, List·Memᴰ·tail, List·Memᴰ·not-nil, List·Memᴰ·cases-cons, flatMap}
 use mathlib.Core.List.{List·Memᴰ·eq-of-singleton}
 use lib.Dec.{eqb}
 use lib.ListN.{drop}
 use borrow.Author.Tests.{eqb-true}
 use Rattle.ikev2_numbers.specs.Codes.{attributeSaKey, protocolGikeUpdate}
-use Rattle.octets.specs.Walk.{either, Spans, none, more, Row, no-more, then}
+use Rattle.octets.specs.Walk.{Spans, none, more, Row, no-more, then}
 use Rattle.wire_attributes.specs.Attribute.{Attribute}
 use Rattle.wire_attributes.specs.Place.{meaningOf, inBag}
 use Rattle.wire_attributes.specs.declared.tables.Place.{Place}
@@ -22,8 +22,8 @@ use Rattle.wire_bags.specs.Grammar.{IsGroupKeyBag, IsBag, is-group, is-member, 
 use Rattle.wire_frames.specs.Exchange.{readsFresh}
 use Rattle.wire_frames.specs.Frame.{Frame, Payload, Content, noneNext}
 use Rattle.wire_frames.specs.Grammar.{IsContent, is-gsa, is-kd, is-delete, is-unread, IsPayload, IsFrame}
-use Rattle.state_keys.proofs.Cases.{bool-cases}
-use Rattle.rules_refusals.specs.Contents.{gather, groupBagOf, bagsOfContent, bagsOf, groupBags, freshKeysOf}
+use Rattle.lists.proofs.Cases.{bool-cases}
+use Rattle.rules_refusals.specs.Contents.{groupBagOf, bagsOfContent, bagsOf, groupBags, freshKeysOf}
 use Rattle.rules_outcome.proofs.RunsSpis.{gathered}
 
 -- ---- a place in which the attribute means nothing has no fresh key
@@ -47,8 +47,8 @@ none-unread p l =
     bool-cases (eqb p protocolGikeUpdate) (λ e. rw (e, no-values place.RekeyBag in-rekey-bag l) refl) (λ e. rw e (none-of-data l))
 
 none-gathered : (l : List GroupKeyBag) → ((b : GroupKeyBag) → List·Memᴰ b l → b .fresh ≡ []) →
-    gather (λ (b : GroupKeyBag). b .fresh) l ≡ []
-unfolding gather
+    flatMap (λ (b : GroupKeyBag). b .fresh) l ≡ []
+unfolding flatMap
 none-gathered [] h = refl
 none-gathered (b ∷ l) h = rw (h b (List·Memᴰ·head refl), none-gathered l (λ c m. h c (List·Memᴰ·tail m))) refl
 
@@ -99,7 +99,7 @@ module _ (profile : Bool) (octets : List ℕ) (f : Frame) (e : IsFrame profile o
       (λ g.
       let z : b .fresh ≡ [] =
       sym (i .entries)
-      ∙ ap (λ (c : Bool). freshKeys (either c (either r place.FreshRekeyBag place.RekeyBag) place.DataBag) (i .attributes)) g
+      ∙ ap (λ (c : Bool). freshKeys (cond c (cond r place.FreshRekeyBag place.RekeyBag) place.DataBag) (i .attributes)) g
       ∙ none-of-data (i .attributes) in
       absurd (List·Memᴰ·not-nil (subst (List·Memᴰ w) z n)))
 

@@ -9,10 +9,10 @@ use lib.Dec.{eqb}
 use lib.ListN.{length, replicate, length-map}
 use lib.Seq.{take-append-seam}
 use borrow.Author.Tests.{eq-eqb, eqb-true, eqb-false}
-use Rattle.state_keys.specs.Lists.{keep}
+use Rattle.lists.specs.Lists.{keep}
 use Rattle.state_keys.specs.Limits.{Limits}
 use Rattle.state_keys.specs.Kinds.{valueOf, wrappingOf}
-use Rattle.state_keys.proofs.Cases.{bool-cases}
+use Rattle.lists.proofs.Cases.{bool-cases}
 use Rattle.wire_attributes.specs.Tree.{SaKey, WrapKey}
 use Rattle.wire_policies.specs.Policy.{GroupSaPolicy}
 use Rattle.wire_frames.specs.Frame.{Frame}
@@ -35,7 +35,7 @@ use Rattle.rules_outcome.specs.After.{Enter}
 use Rattle.rules_outcome.specs.NamedKey.{lentRoot, Given, InOwnBag}
 use Rattle.rules_outcome.specs.RestSays.{NewRekey}
 use Rattle.rules_outcome.specs.Demand3.{OpensRekeyKey, PathOf, OpensByWrapKeys, HeldPath, HeldAfter}
-use Rattle.rules_outcome.proofs.Members.{not-in-none, in-keep, keep-in, in-gather, gather-in}
+use Rattle.rules_outcome.proofs.Members.{not-in-none, in-keep, keep-in, in-flatMap, flatMap-in}
 use Rattle.rules_outcome.proofs.RunsLists.{some-passes, passes-some}
 use Rattle.rules_outcome.proofs.Bags.{copy-own, own-copy}
 use Rattle.rules_outcome.proofs.Enters.{each-enters}
@@ -58,7 +58,7 @@ module _ (f : Frame) where
   rekey-copy : (p : GroupSaPolicy) → NewRekey f p → (c : SaKey) → In c (copiesOf f p) → In c (rekeyCopies f)
   unfolding rekeyCopies
   rekey-copy p n c m =
-      gather-in (copiesOf f) c (keep isRekey (announced f)) p
+      flatMap-in (copiesOf f) c (keep isRekey (announced f)) p
       (keep-in p isRekey (announced f) (n .stands) (eq-eqb (p .protocol) 6 (n .is-rekey))) m
 
   record OfRekey (c : SaKey) : Type 0 where
@@ -69,7 +69,7 @@ module _ (f : Frame) where
   of-rekey : (c : SaKey) → In c (rekeyCopies f) → OfRekey c
   unfolding rekeyCopies
   of-rekey c m =
-      let r = in-gather (copiesOf f) c (keep isRekey (announced f)) m in
+      let r = in-flatMap (copiesOf f) c (keep isRekey (announced f)) m in
       let p = r .item in
       let k = in-keep p isRekey (announced f) (r .stands) in
       record {

@@ -8,8 +8,8 @@ use mathlib.Core.List.{List, [], _∷_, _++_, map}
 use borrow.Author.Tests.{le-leb, not-false}
 use lib.Dec.{leb}
 use Rattle.state_keys.specs.Limits.{Limits}
-use Rattle.state_keys.specs.Lists.{all}
-use Rattle.state_keys.proofs.Cases.{bool-cases, lt-cases, and-parts, and-whole}
+use Rattle.lists.specs.Lists.{all}
+use Rattle.lists.proofs.Cases.{bool-cases, lt-cases, and-parts, and-whole, or-none}
 use Rattle.rfc5649.specs.Opens.{Opens}
 use Rattle.wire_policies.specs.Policy.{GroupSaPolicy}
 use Rattle.wire_frames.specs.Frame.{Frame}
@@ -25,10 +25,10 @@ use Rattle.state.specs.declared.held.Held.{Held}
 use Rattle.state.specs.declared.least.Least.{Least}
 use Rattle.state.specs.Held.{heldFormed}
 use Rattle.state.specs.State.{stateFormed}
-use Rattle.rules_refusals.specs.Number2.{breaksWanted, nonEmptyMember, number2OfFrame, number2OfMember}
+use Rattle.rules_refusals.specs.Number2.{breaksWanted, unwantedMember, number2OfFrame, number2OfMember}
 use Rattle.rules_refusals.specs.Number3.{notAcceptable}
 use Rattle.rules_refusals.specs.Refusals.{one, applies, number2, number3, number4, number5, number6, number7}
-use Rattle.rules_refusals.proofs.Clear.{or-none, no-clause}
+use Rattle.rules_refusals.proofs.Clear.{no-clause}
 use Rattle.rules_outcome.specs.Answer.{byClauses, KeyConflictOf, KeyMissingOf}
 use Rattle.rules_outcome.specs.Holding.{newRekey}
 use Rattle.rules_outcome.specs.Outcome.{Judged, refused, accepted, Outcome, no-layout, by-tree}
@@ -61,7 +61,7 @@ met-2 limits s now lent octets f e m (suc n) next o = by (refused-is limits s no
 -- a member value with every SA due is empty, or breaks its list
 empty-applies : (limits : Limits) (s : State) (now : ℕ) (f : Frame) → Inband f → all (due now) (sasOf (s .table)) ≡ true →
     applies (number2 limits s now (f .header .exchange) (f .header .spi)) ≡ true
-unfolding nonEmptyMember emptyAt stateFormed
+unfolding unwantedMember emptyAt stateFormed
 empty-applies limits s now f b a =
     let x = f .header .exchange in
     let clauses = number2OfMember limits s now x (f .header .spi) in

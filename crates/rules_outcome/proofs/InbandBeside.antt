@@ -2,14 +2,14 @@
 use native.Mathlib.Omega.{arith}
 use Prim.Native.Nat.{ℕ, zero, suc}
 use mathlib.Core.Path.{_≡_, refl, ap, sym, _∙_, subst}
-use mathlib.Core.Bool.{Bool, true, false, not, _&&_}
+use mathlib.Core.Bool.{Bool, true, false, not, _&&_, and-false}
 use mathlib.Core.Logic.{_⊎_, inl, inr, ⊎-elim}
 use mathlib.Core.List.{List, [], _∷_, _++_, map}
 use borrow.Author.Tests.{leb-true, not-false}
 use lib.Dec.{leb}
-use Rattle.state_keys.specs.Lists.{all}
+use Rattle.lists.specs.Lists.{all}
 use Rattle.state_keys.specs.Limits.{Limits}
-use Rattle.state_keys.proofs.Cases.{bool-cases, and-parts}
+use Rattle.lists.proofs.Cases.{bool-cases, and-parts}
 use Rattle.wire_attributes.specs.Tree.{SaKey, WrapKey}
 use Rattle.wire_policies.specs.Policy.{GroupSaPolicy}
 use Rattle.wire_frames.specs.Frame.{Frame, Payload}
@@ -23,7 +23,7 @@ use Rattle.state.specs.declared.held.Held.{Held}
 use Rattle.state.specs.Held.{keysOf, keyFormed, idsOf, distinct, heldFormed}
 use Rattle.state.specs.State.{stateFormed}
 use Rattle.rules_refusals.specs.Contents.{rowOf, announced, wrapKeysOf, freshKeysOf}
-use Rattle.rules_refusals.specs.Number2.{nonEmptyMember, otherSpis, number2OfFrame, number2OfMember}
+use Rattle.rules_refusals.specs.Number2.{unwantedMember, otherSpis, number2OfFrame, number2OfMember}
 use Rattle.rules_refusals.specs.Number3.{notAcceptable}
 use Rattle.rules_refusals.specs.Number4.{criticalUnknown, barredMemberBag, barredDelete, twoGsa, twoKd, gsaWithoutKd, kdWithoutGsa, neither}
 use Rattle.rules_refusals.specs.Number4.{severalRekeyPolicies, severalGroupWide, severalMemberBags, gsaWithoutSaPolicy, keyLengthTwice}
@@ -93,7 +93,7 @@ module _ (limits : Limits) (s t : State) (now : ℕ) (lent : List ℕ) (x y : Li
 
   module _ (same-table : s .table ≡ t .table) (same-formed : stateFormed limits s ≡ stateFormed limits t) where
     same-2 : number2 limits s now 42 x ≡ number2 limits t now 42 y
-    unfolding nonEmptyMember otherSpis
+    unfolding unwantedMember otherSpis
     same-2 = λ k.
         record { number = 2; ofFrame = number2OfFrame 42; ofMember = emptyAt limits now (same-table k) ∷ false ∷ not (same-formed k) ∷ [] }
 
@@ -284,10 +284,6 @@ module _ (limits : Limits) (now : ℕ) (lent octets others : List ℕ) (f g : Fr
   bare profile e =
       no-fresh profile octets f e
       (ap (λ (x : Exchange). profile && x .«reads_fresh_keys») (inband-row f b) ∙ and-false profile)
-    where
-      and-false : (q : Bool) → (q && false) ≡ false
-      and-false true = refl
-      and-false false = refl
 
   by-frame : (s t : State) → IsFrame (s .profile) octets f → IsFrame (t .profile) others g → s .table ≡ t .table →
       stateFormed limits s ≡ stateFormed limits t → (n : ℕ) (next : State) → Judged limits s now lent f n next →

@@ -7,7 +7,7 @@ use mathlib.Core.Path.{_≡_, refl, subst}
 use mathlib.Core.Logic.{_⊎_, inl, inr, ⊎-elim, _↔_}
 use mathlib.Core.List.{List}
 use Rattle.state_keys.specs.Limits.{Limits}
-use Rattle.state_keys.proofs.Cases.{lt-cases}
+use Rattle.lists.proofs.Cases.{lt-cases}
 use Rattle.wire_policies.specs.Policy.{GroupSaPolicy}
 use Rattle.wire_frames.specs.Frame.{Frame}
 use Rattle.wire_frames.specs.Grammar.{IsFrame}
@@ -17,10 +17,10 @@ use Rattle.rules_outcome.specs.Answer.{KeyMissingOf}
 use Rattle.rules_outcome.specs.Outcome.{Outcome}
 use Rattle.rules_outcome.specs.Meets.{Meets}
 use Rattle.rules_outcome.specs.Demand3.{Copy, EachSaOpens, OneMissing, Judged9}
-use Rattle.rules_outcome.proofs.Meets.{at-most-9, meets-order, nine-met, nine-meets, over-met, met-or-over}
+use Rattle.rules_outcome.proofs.Meets.{at-most-9, meets-order, missing-met, missing-meets, over-met, met-or-over}
 use Rattle.rules_outcome.proofs.Answering.{accepts}
 use Rattle.rules_outcome.proofs.NamedKey.{Passes, to-under, under-to}
-use Rattle.rules_outcome.proofs.Accepting.{HasCopy, nine-policy, policy-nine, after-opens, whole-accepted}
+use Rattle.rules_outcome.proofs.Accepting.{HasCopy, missing-policy, policy-missing, after-opens, whole-accepted}
 use Rattle.rules_outcome.proofs.Demands.{passes-2-and-4}
 
 module _ (limits : Limits) (s : State) (now : ℕ) (lent octets : List ℕ) (f : Frame) (e : IsFrame (s .profile) octets f)
@@ -31,7 +31,7 @@ module _ (limits : Limits) (s : State) (now : ℕ) (lent octets : List ℕ) (f :
   -- what is given then: 9 where it is met, 7 where it is not and the list would be over its limit
   data Given (n : ℕ) : Type 0 where
     zero-given : n ≡ 0 → EachSaOpens limits s now lent f → (OverHeldOf limits s now lent f → ⊥) → Given n
-    nine-given : n ≡ 9 → KeyMissingOf limits s now lent f → Given n
+    missing-given : n ≡ 9 → KeyMissingOf limits s now lent f → Given n
     over-given : n ≡ 7 → (KeyMissingOf limits s now lent f → ⊥) → OverHeldOf limits s now lent f → Given n
 
   has-copy : (a : GroupSaPolicy) → HasCopy limits s now lent f a → Copy limits s now lent f a
@@ -48,24 +48,24 @@ module _ (limits : Limits) (s : State) (now : ℕ) (lent octets : List ℕ) (f :
       lt-cases (suc n) 9 (λ g. absurd (none (suc n) g x))
       (λ g.
       let q : suc n ≡ 9 = omega arith in
-      nine-given q (nine-met limits s now lent octets f e (subst (Meets limits s now lent octets) q x)))
+      missing-given q (missing-met limits s now lent octets f e (subst (Meets limits s now lent octets) q x)))
 
   given : (n : ℕ) (next : State) → Outcome limits s now lent octets n next → Given n
   given zero next o = given-0 next o
   given (suc n) next o =
       ⊎-elim (given-met n)
       (λ p.
-      over-given (p .0) (λ k. p .2 9 (nine-meets limits s now lent octets f e k)) (over-met limits s now lent octets f e (p .1)))
+      over-given (p .0) (λ k. p .2 9 (missing-meets limits s now lent octets f e k)) (over-met limits s now lent octets f e (p .1)))
       (met-or-over limits s now lent octets n next o)
 
   -- an SA has no copy that opens
   unopened : KeyMissingOf limits s now lent f → OneMissing limits s now lent f
   unopened k =
-      let x = nine-policy limits s now lent f k in
+      let x = missing-policy limits s now lent f k in
       (x .0, x .1, λ c. x .2 (c .0, under-to limits s now lent f fit (x .0) (c .0) (c .1)))
 
   missing : OneMissing limits s now lent f → KeyMissingOf limits s now lent f
-  missing x = policy-nine limits s now lent f (x .0) (x .1) (λ h. x .2 (has-copy (x .0) h))
+  missing x = policy-missing limits s now lent f (x .0) (x .1) (λ h. x .2 (has-copy (x .0) h))
 
   not-missing : EachSaOpens limits s now lent f → KeyMissingOf limits s now lent f → ⊥
   not-missing each k = let x = unopened k in x .2 (each (x .0) (x .1))
@@ -78,7 +78,7 @@ module _ (limits : Limits) (s : State) (now : ℕ) (lent octets : List ℕ) (f :
         refused = (λ z. absurd (omega (arith, q, z)), λ x. absurd (not-missing each (missing x)));
         over = (λ z. absurd (omega (arith, q, z)), λ h. absurd (room (h .1)));
       }
-  by-given n (nine-given q k) =
+  by-given n (missing-given q k) =
       record {
         one-of-three = inr (inl q);
         accepted = (λ z. absurd (omega (arith, q, z)), λ h. absurd (not-missing (h .0) k));

@@ -24,7 +24,7 @@ use Rattle.rules_outcome.specs.KeyConflictSays.{KeyConflictSays, key-of-
 use Rattle.rules_outcome.specs.KeyConflictSays.{fresh-of-two-values, sa-of-wrong-size, sa-of-two-values}
 use Rattle.rules_outcome.specs.Meets.{Meets}
 use Rattle.rules_outcome.proofs.Rows.{registration-row, lent-size, rekeys, own-size}
-use Rattle.rules_outcome.proofs.Meets.{meets-8, eight-met}
+use Rattle.rules_outcome.proofs.Meets.{meets-8, conflict-met}
 use Rattle.rules_outcome.proofs.Demands.{passes-2-and-4}
 use Rattle.rules_outcome.proofs.Members.{not-in-none, in-map, map-in}
 use Rattle.rules_outcome.proofs.NamedKey.{Passes, registers, in-band, over-sa, to-under, under-to, to-lent, to-fresh}
@@ -81,43 +81,43 @@ module _ (limits : Limits) (s : State) (now : ℕ) (lent : List ℕ) (f : Frame)
     of-copies-says a m (refusals.wrong-size x o d) = sa-of-wrong-size a m x (opens a x o) d
     of-copies-says a m (refusals.two-values x y o p d) = sa-of-two-values a m x y (opens a x o) (opens a y p) d
 
-    eight-says : KeyConflictOf limits s now lent f → Says
+    key-conflict-says : KeyConflictOf limits s now lent f → Says
     unfolding announcedKeys
-    eight-says (of-entries h) = of-entries-says h
-    eight-says (of-copies b m h) =
+    key-conflict-says (of-entries h) = of-entries-says h
+    key-conflict-says (of-copies b m h) =
         let r = in-map (announcedAs f) b (announced f) m in
         of-copies-says (r .item) (r .stands) (subst (CopiesConflict roots (entriesOf f) size) (r .is) h)
 
-    copies-eight : (a : GroupSaPolicy) → In a (announced f) → CopiesConflict roots (entriesOf f) size (announcedAs f a) →
+    conflict-of-copies : (a : GroupSaPolicy) → In a (announced f) → CopiesConflict roots (entriesOf f) size (announcedAs f a) →
         KeyConflictOf limits s now lent f
     unfolding announcedKeys
-    copies-eight a m h = of-copies (announcedAs f a) (map-in (announcedAs f) (announcedAs f a) (announced f) a m refl) h
+    conflict-of-copies a m h = of-copies (announcedAs f a) (map-in (announcedAs f) (announcedAs f a) (announced f) a m refl) h
 
     under : (a : GroupSaPolicy) (x : List ℕ) → OpensUnder limits s now lent f a x →
         CopyOpens roots (entriesOf f) size (announcedAs f a .copies) x
     under a x o = under-to limits s now lent f fit a x o
 
-    says-eight : Says → KeyConflictOf limits s now lent f
-    says-eight (key-of-wrong-size g k x r d) =
+    says-key-conflict : Says → KeyConflictOf limits s now lent f
+    says-key-conflict (key-of-wrong-size g k x r d) =
         of-entries (refusals.wrong-size k x (given-reached limits s now lent f fit fit g k x r) (λ e. d (e ∙ size-lent g)))
-    says-eight (key-of-two-values g k x y r q d) =
+    says-key-conflict (key-of-two-values g k x y r q d) =
         of-entries
         (refusals.two-values k x y (given-reached limits s now lent f fit fit g k x r)
         (given-reached limits s now lent f fit fit g k y q) d)
-    says-eight (fresh-of-wrong-size g k x r d) =
+    says-key-conflict (fresh-of-wrong-size g k x r d) =
         of-entries (refusals.wrong-size k x (fresh-reached limits s now lent f fit fit g k x r) (λ e. d (e ∙ size-own g)))
-    says-eight (fresh-of-two-values g k x y r q d) =
+    says-key-conflict (fresh-of-two-values g k x y r q d) =
         of-entries
         (refusals.two-values k x y (fresh-reached limits s now lent f fit fit g k x r)
         (fresh-reached limits s now lent f fit fit g k y q) d)
-    says-eight (sa-of-wrong-size a m x o d) = copies-eight a m (refusals.wrong-size x (under a x o) d)
-    says-eight (sa-of-two-values a m x y o p d) = copies-eight a m (refusals.two-values x y (under a x o) (under a y p) d)
+    says-key-conflict (sa-of-wrong-size a m x o d) = conflict-of-copies a m (refusals.wrong-size x (under a x o) d)
+    says-key-conflict (sa-of-two-values a m x y o p d) = conflict-of-copies a m (refusals.two-values x y (under a x o) (under a y p) d)
 
   -- THE CLAIM, of a frame that numbers 2 and 4 let pass ("each is judged only when the lower ones don't apply")
-  pub eight-exactly : (octets : List ℕ) → IsFrame (s .profile) octets f → (Meets limits s now lent octets 2 → ⊥) →
+  pub key-conflict-exactly : (octets : List ℕ) → IsFrame (s .profile) octets f → (Meets limits s now lent octets 2 → ⊥) →
       (Meets limits s now lent octets 4 → ⊥) → Meets limits s now lent octets 8 ↔ KeyConflictSays limits s now lent f
-  eight-exactly octets e no-2 no-4 =
+  key-conflict-exactly octets e no-2 no-4 =
       let fit = passes-2-and-4 limits s now lent octets f e no-2 no-4 in (
-        λ m. eight-says fit (eight-met limits s now lent octets f e m),
-        λ h. meets-8 limits s now lent octets f e (says-eight fit h),
+        λ m. key-conflict-says fit (conflict-met limits s now lent octets f e m),
+        λ h. meets-8 limits s now lent octets f e (says-key-conflict fit h),
       )

@@ -9,8 +9,8 @@ use lib.ListN.{length}
 use Rattle.octets.specs.Compare.{same}
 use Rattle.octets.proofs.Order.{same-eq}
 use Rattle.state_keys.specs.Limits.{Limits}
-use Rattle.state_keys.proofs.Cases.{and-parts}
-use Rattle.state_keys.proofs.Members.{kept-member}
+use Rattle.lists.proofs.Cases.{and-parts}
+use Rattle.lists.proofs.Members.{kept-member}
 use Rattle.wire_frames.specs.Frame.{Frame}
 use Rattle.wire_frames.specs.Grammar.{IsFrame}
 use Rattle.state_sa.specs.Entry.{rekeyProtocol, saSpi, named, liveRekey, due}

@@ -119,8 +119,8 @@ module _ (limits : Limits) (s : State) (now : ℕ) (lent octets : List ℕ) wher
     pub meets-8 : KeyConflictOf limits s now lent f → Met 8
     meets-8 h = rows-meets 8 (inr (inr (inr (inr (inr (inr (inl (h, refl))))))))
 
-    pub nine-meets : KeyMissingOf limits s now lent f → Met 9
-    nine-meets h = rows-meets 9 (inr (inr (inr (inr (inr (inr (inr (inl (h, refl)))))))))
+    pub missing-meets : KeyMissingOf limits s now lent f → Met 9
+    missing-meets h = rows-meets 9 (inr (inr (inr (inr (inr (inr (inr (inl (h, refl)))))))))
 
     -- the rows behind the clauses
     abbrev behind-clauses : List RefusalCase
@@ -132,19 +132,19 @@ module _ (limits : Limits) (s : State) (now : ℕ) (lent octets : List ℕ) wher
     behind : (n : ℕ) → 8 ≤ n → Met n → SomeHolds behind-clauses n
     behind n g x = past-holds 8 (map byClauses (numbers limits s now lent f)) behind-clauses refl n g (meets-rows n x)
 
-    eight-of : SomeHolds behind-clauses 8 → KeyConflictOf limits s now lent f
-    eight-of (inl h) = h .0
-    eight-of (inr (inl h)) = let q = h .1 in absurd (omega arith)
+    conflict-of : SomeHolds behind-clauses 8 → KeyConflictOf limits s now lent f
+    conflict-of (inl h) = h .0
+    conflict-of (inr (inl h)) = let q = h .1 in absurd (omega arith)
 
-    nine-of : SomeHolds behind-clauses 9 → KeyMissingOf limits s now lent f
-    nine-of (inl h) = let q = h .1 in absurd (omega arith)
-    nine-of (inr (inl h)) = h .0
+    missing-of : SomeHolds behind-clauses 9 → KeyMissingOf limits s now lent f
+    missing-of (inl h) = let q = h .1 in absurd (omega arith)
+    missing-of (inr (inl h)) = h .0
 
-    pub eight-met : Met 8 → KeyConflictOf limits s now lent f
-    eight-met x = eight-of (behind 8 (omega arith) x)
+    pub conflict-met : Met 8 → KeyConflictOf limits s now lent f
+    conflict-met x = conflict-of (behind 8 (omega arith) x)
 
-    pub nine-met : Met 9 → KeyMissingOf limits s now lent f
-    nine-met x = nine-of (behind 9 (omega arith) x)
+    pub missing-met : Met 9 → KeyMissingOf limits s now lent f
+    missing-met x = missing-of (behind 9 (omega arith) x)
 
     -- the held list that the tree's frame would leave
     pub over-met : Over → OverHeldOf limits s now lent f

@@ -4,11 +4,10 @@ use Prim.Native.Nat.{suc}
 use mathlib.Core.Path.{_≡_, refl, ap, sym, _∙_, subst}
 use mathlib.Core.Bool.{Bool, true, false}
 use mathlib.Core.Logic.{_⊎_, inl, inr, ⊎-elim}
-use mathlib.Core.List.{List, [], _∷_, _++_, map, List·Memᴰ·not-nil, List·Memᴰ·cases-cons}
+use mathlib.Core.List.{List, [], _∷_, _++_, map, List·Memᴰ·not-nil, List·Memᴰ·cases-cons, flatMap}
 use mathlib.Core.List.{Memᴰ·append-left, Memᴰ·append-right, List·Memᴰ·append-cases}
-use Rattle.state_keys.specs.Lists.{keep}
-use Rattle.state_keys.proofs.Members.{kept-member, member-kept}
-use Rattle.rules_refusals.specs.Contents.{gather}
+use Rattle.lists.specs.Lists.{keep}
+use Rattle.lists.proofs.Members.{kept-member, member-kept}
 use Rattle.rules_chains.specs.Chain.{In}
 use Rattle.rules_chains.proofs.Members.{in-member, member-in}
 
@@ -56,17 +55,17 @@ module _ {A B : Type 0} (f : A → B) (b : B) where
       ⊎-elim (λ d. in-head b (f c) (map f l) (e ∙ ap f d)) (λ k. in-tail b (f c) (map f l) (map-in l a k e)) (in-cases a c l m)
 
 module _ {A B : Type 0} (f : A → List B) (b : B) where
-  pub in-gather : (l : List A) → In b (gather f l) → From (λ (a : A) (x : B). In x (f a)) l b
-  unfolding gather
-  in-gather [] m = absurd (not-in-none b m)
-  in-gather (a ∷ l) m =
-      ⊎-elim (λ k. from-here b a l (member-in b (f a) k)) (λ k. from-there b a l (in-gather l (member-in b (gather f l) k)))
-      (List·Memᴰ·append-cases (f a) (in-member b (f a ++ gather f l) m))
+  pub in-flatMap : (l : List A) → In b (flatMap f l) → From (λ (a : A) (x : B). In x (f a)) l b
+  unfolding flatMap
+  in-flatMap [] m = absurd (not-in-none b m)
+  in-flatMap (a ∷ l) m =
+      ⊎-elim (λ k. from-here b a l (member-in b (f a) k)) (λ k. from-there b a l (in-flatMap l (member-in b (flatMap f l) k)))
+      (List·Memᴰ·append-cases (f a) (in-member b (f a ++ flatMap f l) m))
 
-  pub gather-in : (l : List A) (a : A) → In a l → In b (f a) → In b (gather f l)
-  unfolding gather
-  gather-in [] a m k = absurd (not-in-none a m)
-  gather-in (c ∷ l) a m k =
-      member-in b (f c ++ gather f l)
-      (⊎-elim (λ e. Memᴰ·append-left (gather f l) (in-member b (f c) (subst (λ (x : A). In b (f x)) e k)))
-      (λ j. Memᴰ·append-right (f c) (in-member b (gather f l) (gather-in l a j k))) (in-cases a c l m))
+  pub flatMap-in : (l : List A) (a : A) → In a l → In b (f a) → In b (flatMap f l)
+  unfolding flatMap
+  flatMap-in [] a m k = absurd (not-in-none a m)
+  flatMap-in (c ∷ l) a m k =
+      member-in b (f c ++ flatMap f l)
+      (⊎-elim (λ e. Memᴰ·append-left (flatMap f l) (in-member b (f c) (subst (λ (x : A). In b (f x)) e k)))
+      (λ j. Memᴰ·append-right (f c) (in-member b (flatMap f l) (flatMap-in l a j k))) (in-cases a c l m))

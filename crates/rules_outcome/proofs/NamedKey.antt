@@ -9,7 +9,7 @@ use borrow.Author.Tests.{eqb-true, eqb-false, not-true}
 use lib.Dec.{eqb}
 use lib.ListN.{length}
 use Rattle.state_keys.specs.Limits.{Limits}
-use Rattle.state_keys.proofs.Cases.{bool-cases}
+use Rattle.lists.proofs.Cases.{bool-cases}
 use Rattle.wire_attributes.specs.Tree.{WrapKey}
 use Rattle.wire_policies.specs.Policy.{GroupSaPolicy}
 use Rattle.wire_frames.specs.Frame.{Frame}

@@ -25,12 +25,12 @@ module _ (limits : Limits) (s : State) (now : ℕ) (lent other : List ℕ) where
     same-size : wrappingSize limits s now lent f ≡ wrappingSize limits s now other f
     same-size = own-size limits s now f e lent ∙ sym (own-size limits s now f e other)
 
-    same-five : number5OfFrame lent f ≡ number5OfFrame other f
+    same-number5 : number5OfFrame lent f ≡ number5OfFrame other f
     unfolding number5OfFrame
-    same-five = rw (not-judged limits s now f e lent, not-judged limits s now f e other)
+    same-number5 = rw (not-judged limits s now f e lent, not-judged limits s now f e other)
 
     same-conditions : conditions limits s now lent f ≡ conditions limits s now other f
-    same-conditions = rw (same-five, same-roots, same-size)
+    same-conditions = rw (same-number5, same-roots, same-size)
 
     same-answer : (n : ℕ) → FrameAnswers limits s now lent f n → FrameAnswers limits s now other f n
     same-answer n p = subst (λ (l : List RefusalCase). First l n) same-conditions p

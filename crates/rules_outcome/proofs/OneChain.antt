@@ -9,8 +9,8 @@ use borrow.Author.Tests.{eq-eqb, eqb-false}
 use lib.Dec.{eqb}
 use lib.ListN.{length}
 use Rattle.rfc5649.specs.Opens.{Opens}
-use Rattle.state_keys.specs.Lists.{any}
-use Rattle.state_keys.proofs.Cases.{never}
+use Rattle.lists.specs.Lists.{any}
+use Rattle.lists.proofs.Cases.{never}
 use Rattle.wire_attributes.specs.Tree.{WrapKey, SaKey}
 use Rattle.state.specs.Held.{has, distinct}
 use Rattle.state.proofs.Kept.{distinct-parts}

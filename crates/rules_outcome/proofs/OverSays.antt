@@ -1,6 +1,6 @@
--- WHEN THE LAST 7 IS GIVEN: "Over 128 then is 7, judged after 9" (document 02, T-11). Where none of 1 to 9 applies, it is given exactly when
--- a GSA_REKEY of a member with the profile announces a Rekey SA, its fresh path is not empty and ends on a held key, and the path, that key
--- and the held keys behind it whose IDs the path has not are over the limit.
+-- WHEN THE LAST 7 IS GIVEN: "Over 128 then is 7, judged after 9" (document 02, T-11). Where none of 1 to 9 applies, it is given exactly
+-- when a GSA_REKEY of a member with the profile announces a Rekey SA, its fresh path is not empty and ends on a held key, and the path,
+-- that key and the held keys behind it whose IDs the path has not are over the limit.
 use native.Mathlib.Omega.{arith}
 use Prim.Native.Nat.{ℕ, _≤_, _<_}
 use mathlib.Core.Path.{_≡_, refl, ap, sym, _∙_, subst}
@@ -12,12 +12,12 @@ use borrow.Author.Tests.{eqb-true, eqb-false, leb-true, ltb-false, not-true, not
 use lib.Dec.{eqb, leb}
 use lib.ListN.{length}
 use Rattle.ikev2_numbers.specs.Codes.{gsaRekey}
-use Rattle.state_keys.specs.Lists.{all}
-use Rattle.state_keys.specs.Algorithms.{sizeOf}
+use Rattle.lists.specs.Lists.{all}
+use Rattle.state_keys.specs.Algorithms.{isWrappingSize}
 use Rattle.state_keys.specs.Limits.{Limits}
 use Rattle.state_keys.specs.Limits as figures
 use Rattle.state_keys.specs.Kinds.{wrappingOf}
-use Rattle.state_keys.proofs.Cases.{and-parts, bool-cases}
+use Rattle.lists.proofs.Cases.{and-parts, bool-cases}
 use Rattle.wire_attributes.specs.Tree.{WrapKey}
 use Rattle.wire_policies.specs.Policy.{GroupSaPolicy}
 use Rattle.wire_frames.specs.Exchange.{readsFresh}
@@ -173,7 +173,7 @@ module _ (limits : Limits) (s : State) (now : ℕ) (lent : List ℕ) (f : Frame)
         let key = o .key in
         let m : List·Memᴰ key old =
         subst (List·Memᴰ key) (sym (o .found)) (Memᴰ·append-right (o .ahead) (List·Memᴰ·head refl)) in
-        let formed = and-parts (not (eqb (key .id) 0)) (sizeOf 13 (key .key .count)) (all-pass keyFormed old each key m) .0 in
+        let formed = and-parts (not (eqb (key .id) 0)) (isWrappingSize (key .key .count)) (all-pass keyFormed old each key m) .0 in
         let z : eqb (o .end) 0 ≡ false = ap (λ (i : ℕ). eqb i 0) (sym (o .ends)) ∙ not-true (eqb (key .id) 0) formed in
         let left = ap (λ (a : List HeldKey). fromKey (o .end) a) (o .found)
         ∙ left-of (o .end) (o .ahead) key (o .behind)

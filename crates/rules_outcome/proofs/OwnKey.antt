@@ -10,15 +10,15 @@ use lib.Dec.{eqb}
 use lib.ListN.{length, take, drop, replicate, length-drop}
 use lib.Seq.{take-append-seam, length-take-le}
 use Rattle.state_keys.specs.Limits.{Limits}
-use Rattle.state_keys.specs.Algorithms.{sizeOf}
+use Rattle.state_keys.specs.Algorithms.{isWrappingSize}
 use Rattle.state_keys.specs.Kinds.{valueOf, wrappingKey, rekeySizes, keyWrapPart}
-use Rattle.state_keys.proofs.Cases.{and-parts}
-use Rattle.state_keys.proofs.Members.{member-kept}
+use Rattle.lists.proofs.Cases.{and-parts}
+use Rattle.lists.proofs.Members.{member-kept}
 use Rattle.state_keys.proofs.Sizes.{rekey-parts, rekey-le}
 use Rattle.state_sa.specs.Entry.{espProtocol, rekeyProtocol, isLive, saSized, fitLifetime, saFormed, liveRekey, due}
 use Rattle.state_sa.specs.declared.entry.Sa.{Sa}
 use Rattle.state_table.specs.declared.SaFound.{SaFound}
-use Rattle.state_table.specs.Table.{sasOf, tableFormed, swept, stays, foundRekey, keyOfFound, defaultKey}
+use Rattle.state_table.specs.Table.{sasOf, tableFormed, swept, stays, foundRekey, keyWrapPartOf, defaultKey}
 use Rattle.state_table.proofs.Kept.{formed-fit, swept-formed}
 use Rattle.state_table.proofs.Finds.{rekey-found}
 use Rattle.state.specs.declared.State.{State}
@@ -69,8 +69,9 @@ module _ (limits : Limits) (s : State) (now : ℕ) (is-formed : stateFormed limi
         length-take-le (b .wrapping) (drop (b .encryption) (b .octets)) (omega (arith, h .0, h .1))
 
     pub own-key-of-live : ownKey limits s now ≡ take (b .wrapping) (drop (b .encryption) (b .octets))
-    unfolding defaultKey keyOfFound keyWrapPart wrappingKey
+    unfolding defaultKey keyWrapPartOf keyWrapPart wrappingKey
     own-key-of-live =
-        let fit : sizeOf 13 (length part) ≡ true = ap (sizeOf 13) part-length ∙ rekey-parts (b .encryption) (b .wrapping) sizes .1 in
-        ap (λ (f : SaFound). valueOf (keyOfFound f .key)) the-live
+        let fit : isWrappingSize (length part) ≡ true = ap isWrappingSize part-length ∙ rekey-parts (b .encryption)
+        (b .wrapping) sizes .1 in
+        ap (λ (f : SaFound). valueOf (keyWrapPartOf f .key)) the-live
         ∙ rw (sizes, fit) (take-append-seam part (replicate (32 - length part) 0))

@@ -10,8 +10,8 @@ use mathlib.Core.List.{List·Memᴰ·cases-cons, Memᴰ·append-right}
 use borrow.Author.Tests.{eq-eqb, eqb-true, eqb-false, ne-eqb}
 use lib.Dec.{eqb}
 use lib.ListN.{length, length-append}
-use Rattle.state_keys.specs.Lists.{any, keep}
-use Rattle.state_keys.proofs.Cases.{bool-cases}
+use Rattle.lists.specs.Lists.{any, keep}
+use Rattle.lists.proofs.Cases.{bool-cases}
 use Rattle.state.specs.declared.held.HeldKey.{HeldKey}
 use Rattle.state.specs.Held.{idsOf, has, distinct}
 use Rattle.state.proofs.Kept.{distinct-parts, not-among}

@@ -6,7 +6,7 @@ use mathlib.Core.Path.{_≡_, refl, ap, sym, _∙_, subst}
 use mathlib.Core.Logic.{inl, inr}
 use mathlib.Core.List.{List, [], _∷_}
 use lib.ListN.{length, length-map}
-use Rattle.state_keys.proofs.Cases.{lt-cases}
+use Rattle.lists.proofs.Cases.{lt-cases}
 use Rattle.wire_attributes.specs.Tree.{WrapKey, SaKey}
 use Rattle.rules_chains.specs.Chain.{Root}
 use Rattle.rules_chains.specs.Path.{keyIds, startId, NotAfter, Opener, KeyPath}

@@ -6,9 +6,9 @@ use mathlib.Core.Logic.{inl}
 use mathlib.Core.List.{List, List·Memᴰ}
 use borrow.Author.Tests.{not-true}
 use Rattle.state_keys.specs.Limits.{Limits, limits}
-use Rattle.state_keys.specs.Lists.{any}
-use Rattle.state_keys.proofs.Cases.{bool-cases, and-parts}
-use Rattle.state_keys.proofs.Members.{kept-member}
+use Rattle.lists.specs.Lists.{any}
+use Rattle.lists.proofs.Cases.{bool-cases, and-parts}
+use Rattle.lists.proofs.Members.{kept-member}
 use Rattle.wire_frames.specs.Frame.{Frame}
 use Rattle.wire_frames.specs.Grammar.{IsFrame}
 use Rattle.wire_frames.specs.Exchange.{exchangeOf}
@@ -23,7 +23,7 @@ use Rattle.state.specs.declared.State.{State}
 use Rattle.state.specs.Held.{heldFormed}
 use Rattle.state.specs.State.{stateFormed, newState, sweptState}
 use Rattle.state.proofs.Laws.{swept-yes, swept-no}
-use Rattle.rules_refusals.specs.Number2.{notDueSas, overLiveRekey, nonEmptyMember, otherSpis, brokenMember}
+use Rattle.rules_refusals.specs.Number2.{notDueSas, overLiveRekey, unwantedMember, otherSpis, brokenMember}
 use Rattle.rules_refusals.specs.Refusals.{one, number2}
 use Rattle.rules_chains.specs.Chain.{In}
 use Rattle.rules_chains.proofs.Members.{in-member}
@@ -60,7 +60,7 @@ module _ (limits : Limits) (now : ℕ) (lent octets : List ℕ) (f : Frame) (x :
       (refused 1
       (inl (
         applies-member (number2 limits s now y spi)
-            (second (nonEmptyMember limits s now y) (otherSpis s now y spi) (brokenMember limits s || false) other),
+            (second (unwantedMember limits s now y) (otherSpis s now y spi) (brokenMember limits s || false) other),
         refl,
       )))
 
@@ -72,7 +72,7 @@ module _ (limits : Limits) (now : ℕ) (lent octets : List ℕ) (f : Frame) (x :
       (refused 1
       (inl (
         applies-member (number2 limits s now y spi)
-            (third (nonEmptyMember limits s now y) (otherSpis s now y spi) (brokenMember limits s) false (ap not n)),
+            (third (unwantedMember limits s now y) (otherSpis s now y spi) (brokenMember limits s) false (ap not n)),
         refl,
       )))
 

@@ -11,8 +11,8 @@ use lib.Dec.{eqb}
 use Rattle.octets.specs.Compare.{same}
 use Rattle.octets.proofs.Order.{same-eq, eq-same}
 use Rattle.state_keys.specs.Limits.{Limits}
-use Rattle.state_keys.specs.Lists.{any, count}
-use Rattle.state_keys.proofs.Cases.{bool-cases, lt-cases, and-parts, and-whole}
+use Rattle.lists.specs.Lists.{any, count}
+use Rattle.lists.proofs.Cases.{bool-cases, lt-cases, and-parts, and-whole, or-left, or-right, or-cases}
 use Rattle.wire_policies.specs.Policy.{GroupSaPolicy, GroupWidePolicy}
 use Rattle.wire_frames.specs.Delete.{Delete}
 use Rattle.wire_frames.specs.Frame.{Frame}
@@ -53,7 +53,7 @@ use Rattle.rules_outcome.proofs.RunsLists.{none-passes, some-passes, pa
 use Rattle.rules_outcome.proofs.RunsClear.{Clear, Taken, taken}
 use Rattle.rules_outcome.proofs.RestSpis.{deleted-size}
 use Rattle.rules_outcome.proofs.RestLaws.{sum-at, at-most-one, of-none, of-one, four-zero, zero-four}
-use Rattle.rules_outcome.proofs.RestLaws.{or-left, or-right, or-cases, live-or-retiring}
+use Rattle.rules_outcome.proofs.RestLaws.{live-or-retiring}
 
 module _ (limits : Limits) (s : State) (now : ℕ) (lent octets : List ℕ) (f : Frame) (e : IsFrame (s .profile) octets f) where
   module _ (c : Clear limits s now lent f) where

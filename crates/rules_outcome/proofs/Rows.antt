@@ -5,7 +5,7 @@ use Prim.Native.Nat.{ℕ, suc}
 use mathlib.Core.Path.{_≡_, refl, ap}
 use mathlib.Core.Bool.{true, false, false≢true}
 use mathlib.Core.Logic.{_⊎_, inl, inr}
-use mathlib.Core.List.{List, [], _∷_, map}
+use mathlib.Core.List.{List, [], _∷_, map, flatMap}
 use borrow.Author.Tests.{ltb-false}
 use lib.ListN.{length}
 use Rattle.state_keys.specs.Limits.{Limits}
@@ -15,7 +15,7 @@ use Rattle.wire_frames.specs.declared.exchanges.Exchange.{Exchange}
 use Rattle.state.specs.declared.State.{State}
 use Rattle.state.specs.Held.{keysOf}
 use Rattle.wire_bags.specs.Bag.{MemberKeyBag}
-use Rattle.rules_refusals.specs.Contents.{rowOf, some, gather, memberBags, wrapKeysOf, freshKeysOf}
+use Rattle.rules_refusals.specs.Contents.{rowOf, some, memberBags, wrapKeysOf, freshKeysOf}
 use Rattle.rules_refusals.specs.Number4.{barredMemberBag}
 use Rattle.rules_refusals.specs.Number5.{lentKeySize}
 use Rattle.rules_refusals.proofs.ExchangeRows.{by-row}
@@ -59,12 +59,12 @@ one-of-four f e =
 
 -- "Member bag in a rekey", over the Rekey SA or the member's own channel: one that passes number 4 has no WRAP_KEY
 pub no-wrap-key : (f : Frame) → rowOf f .«allows_member_bag» ≡ false → barredMemberBag f ≡ false → wrapKeysOf f ≡ []
-unfolding barredMemberBag gather
+unfolding barredMemberBag flatMap
 no-wrap-key f x e =
     let g : some (memberBags f) ≡ false = rw x at e in
     none-gathered (memberBags f) g
   where
-    none-gathered : (l : List MemberKeyBag) → some l ≡ false → gather (λ (b : MemberKeyBag). b .keys) l ≡ []
+    none-gathered : (l : List MemberKeyBag) → some l ≡ false → flatMap (λ (b : MemberKeyBag). b .keys) l ≡ []
     none-gathered [] q = refl
     none-gathered (b ∷ l) q = let h = ltb-false 0 (suc (length l)) q in absurd (omega arith)
 

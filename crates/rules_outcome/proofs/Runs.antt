@@ -6,8 +6,8 @@ use mathlib.Core.Bool.{Bool, true, false}
 use mathlib.Core.List.{List, [], _∷_, _++_}
 use lib.Dec.{eqb}
 use Rattle.state_keys.specs.Limits.{Limits, limits}
-use Rattle.state_keys.specs.Lists.{any}
-use Rattle.state_keys.proofs.Cases.{bool-cases, lt-cases, and-parts, and-whole}
+use Rattle.lists.specs.Lists.{any}
+use Rattle.lists.proofs.Cases.{bool-cases, lt-cases, and-parts, and-whole, or-none}
 use Rattle.wire_attributes.specs.Tree.{WrapKey}
 use Rattle.wire_frames.specs.Frame.{Frame}
 use Rattle.wire_frames.specs.Grammar.{IsFrame}
@@ -22,7 +22,7 @@ use Rattle.state.specs.Blank.{AllKeysBlank, no-key, StateBlank}
 use Rattle.state.proofs.Kept.{keys-of-held, no-key-formed, new-state-formed, new-state-blank, swept-state-formed, swept-state-blank}
 use Rattle.rules_refusals.specs.Contents.{rowOf, wrapKeysOf, freshKeysOf}
 use Rattle.rules_refusals.specs.Number6.{wrapKeyId, freshKeyId, number6OfFrame}
-use Rattle.rules_refusals.proofs.Clear.{or-none, no-clause}
+use Rattle.rules_refusals.proofs.Clear.{no-clause}
 use Rattle.rules_chains.specs.Chain.{Root}
 use Rattle.rules_chains.specs.Refusals.{of-entries}
 use Rattle.rules_outcome.specs.Roots.{rootsOf, entriesOf, wrappingSize}

@@ -5,12 +5,12 @@ use mathlib.Core.Path.{_≡_, refl, sym, subst}
 use mathlib.Core.Bool.{Bool, true, false}
 use mathlib.Core.Logic.{inl, inr}
 use mathlib.Core.List.{List, [], _∷_}
+use Rattle.lists.proofs.Cases.{or-none}
 use Rattle.state_keys.specs.Limits.{Limits}
 use Rattle.wire_frames.specs.Frame.{Frame}
 use Rattle.wire_frames.specs.Grammar.{IsFrame}
 use Rattle.wire_frames.proofs.FrameGrammar.{one-tree}
 use Rattle.state.specs.declared.State.{State}
-use Rattle.rules_refusals.proofs.Clear.{or-none}
 use Rattle.rules_refusals.specs.Refusals.{Number, one, applies, number2, number3, number4, number5, number6, number7}
 use Rattle.rules_outcome.specs.After.{After}
 use Rattle.rules_outcome.specs.Outcome.{Judged, refused, accepted, Outcome, no-layout, by-tree}

@@ -9,11 +9,11 @@ use lib.Dec.{eqb, leb}
 use lib.ListN.{length, take, replicate}
 use lib.Seq.{take-append-seam}
 use Rattle.state_keys.specs.Limits.{Limits}
-use Rattle.state_keys.specs.Lists.{all, any}
-use Rattle.state_keys.specs.Algorithms.{sizeOf}
+use Rattle.lists.specs.Lists.{all, any}
+use Rattle.state_keys.specs.Algorithms.{isWrappingSize}
 use Rattle.state_keys.specs.Kinds.{padded, wrappingOf}
 use Rattle.state_keys.specs.declared.kinds.WrappingKey.{WrappingKey}
-use Rattle.state_keys.proofs.Cases.{and-parts}
+use Rattle.lists.proofs.Cases.{and-parts}
 use Rattle.wire_attributes.specs.Tree.{SaKey, WrapKey}
 use Rattle.state.specs.declared.held.HeldKey.{HeldKey}
 use Rattle.state.specs.declared.held.Held.{Held}
@@ -59,12 +59,12 @@ pub record HeldBlank (limits : Limits) (h : Held) : Type 0 where
 -- ---- the list
 module _ (limits : Limits) (roots : List Root) (entries : List WrapKey) (size : ℕ) (copies : List SaKey) (old h : Held) where
   -- a key of no octets opens nothing: what is reached has the size, and at least one octet
-  module _ (fits : (size ≡ 0) ⊎ (sizeOf 13 size ≡ true)) (none : EntriesConflict roots entries size → ⊥)
+  module _ (fits : (size ≡ 0) ⊎ (isWrappingSize size ≡ true)) (none : EntriesConflict roots entries size → ⊥)
       (no-zero : any (λ (k : WrapKey). eqb (k .keyId) 0) entries ≡ false) where
     value-size : (k : ℕ) (x : List ℕ) → Value roots entries size k x → length x ≡ size
     value-size k x v = entries-fit roots entries size none k x (v .reached)
 
-    some-size : (k : ℕ) (x : List ℕ) → Value roots entries size k x → sizeOf 13 size ≡ true
+    some-size : (k : ℕ) (x : List ℕ) → Value roots entries size k x → isWrappingSize size ≡ true
     some-size k x v =
         let r = v .reached in
         let o = step-by roots entries size (r .last) (r .before) k x (r .chain) .opens .least in
@@ -78,7 +78,7 @@ module _ (limits : Limits) (roots : List Root) (entries : List WrapKey) (size : 
         let z = none-passes (λ (w : WrapKey). eqb (w .keyId) 0) entries no-zero (g .value .reached .last) (in-member _ entries (e .0)) in
         let n : eqb (k .id) 0 ≡ false = ap (λ (i : ℕ). eqb i 0) (sym (e .1)) ∙ z in
         let c : k .key .count ≡ size = ap (λ (w : WrappingKey). w .count) (g .key-is) ∙ value-size (k .id) (g .x) (g .value) in
-        rw n (ap (sizeOf 13) c ∙ some-size (k .id) (g .x) (g .value))
+        rw n (ap isWrappingSize c ∙ some-size (k .id) (g .x) (g .value))
 
     module _ (was : heldFormed limits old ≡ true) where
       old-keys : all keyFormed (keysOf old) ≡ true

@@ -6,8 +6,8 @@ use mathlib.Core.Bool.{Bool, true, false, _||_, false≢true}
 use mathlib.Core.Logic.{_⊎_, ⊎-elim}
 use mathlib.Core.List.{List, [], _∷_, map, List·Memᴰ, List·Memᴰ·head, List·Memᴰ·tail, List·Memᴰ·not-nil, List·Memᴰ·cases-cons}
 use lib.ListN.{length}
-use Rattle.state_keys.specs.Lists.{all, any, count, insert}
-use Rattle.state_keys.proofs.Cases.{bool-cases, and-parts}
+use Rattle.lists.specs.Lists.{all, any, count, insert}
+use Rattle.lists.proofs.Cases.{bool-cases, and-parts}
 
 pub member-map : {A B : Type 0} (g : A → B) (a : A) (l : List A) → List·Memᴰ a l → List·Memᴰ (g a) (map g l)
 member-map g a [] m = absurd (List·Memᴰ·not-nil m)

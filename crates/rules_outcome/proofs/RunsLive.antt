@@ -3,15 +3,15 @@
 use native.Mathlib.Omega.{arith}
 use Prim.Native.Nat.{ℕ}
 use mathlib.Core.Path.{_≡_, refl, ap, sym, _∙_, subst}
-use mathlib.Core.Bool.{Bool, true, false, not, _&&_, _||_, false≢true}
+use mathlib.Core.Bool.{Bool, true, false, not, _&&_, _||_, false≢true, or-true}
 use mathlib.Core.Logic.{inr}
 use mathlib.Core.List.{List, List·Memᴰ}
 use borrow.Author.Tests.{eqb-true, ne-eqb, not-false}
 use lib.Dec.{eqb, leb}
 use Rattle.state_keys.specs.Limits.{Limits}
-use Rattle.state_keys.specs.Lists.{all, any}
-use Rattle.state_keys.proofs.Cases.{bool-cases, and-parts}
-use Rattle.state_keys.proofs.Members.{member-kept, kept-member}
+use Rattle.lists.specs.Lists.{all, any}
+use Rattle.lists.proofs.Cases.{bool-cases, and-parts}
+use Rattle.lists.proofs.Members.{member-kept, kept-member}
 use Rattle.wire_frames.specs.Frame.{Frame}
 use Rattle.wire_frames.specs.Grammar.{IsFrame}
 use Rattle.wire_frames.specs.Exchange.{registration, rekey}
@@ -27,7 +27,7 @@ use Rattle.state.specs.State.{stateFormed, sweptState}
 use Rattle.state.proofs.Laws.{swept-yes, swept-no}
 use Rattle.rules_refusals.specs.Contents.{rowOf, announced}
 use Rattle.rules_refusals.specs.Fitness.{isRekey}
-use Rattle.rules_refusals.specs.Number2.{notDueSas, overLiveRekey, breaksWanted, nonEmptyMember, otherSpis, number2OfMember}
+use Rattle.rules_refusals.specs.Number2.{notDueSas, overLiveRekey, breaksWanted, unwantedMember, otherSpis, number2OfMember}
 use Rattle.rules_refusals.specs.Refusals.{number2}
 use Rattle.rules_refusals.proofs.Clear.{no-clause}
 use Rattle.rules_chains.proofs.Members.{in-member, member-in}
@@ -105,10 +105,6 @@ stays-over x f n s now l =
     passes-some (overLiveRekey x) (oldSas s now f) (g (r .one)) (member-map g (r .one) (notDueSas now s) (r .stands))
     (ap (overLiveRekey x) e ∙ r .passes)
 
-or-true : (a : Bool) → (a || true) ≡ true
-or-true true = refl
-or-true false = refl
-
 module _ (limits : Limits) (s : State) (now : ℕ) (lent : List ℕ) (f : Frame) (c : Clear limits s now lent f) (next : State)
     (a : After limits s now lent f next) where
   next-sas : sasOf (next .table) ≡ insertAll (a .new) (oldSas s now f)
@@ -138,7 +134,7 @@ module _ (limits : Limits) (s : State) (now : ℕ) (lent : List ℕ) (f : Frame)
 
     -- "registration of a non-empty member": one that is accepted is of a member whose SAs are all due
     all-due : rowOf f ≡ registration → all (due now) (sasOf (s .table)) ≡ true
-    unfolding nonEmptyMember emptyAt
+    unfolding unwantedMember emptyAt
     all-due r =
         let y = f .header .exchange in
         let g = no-clause (number2OfMember limits s now y (f .header .spi)) 0 (c .no-2 .ofMember) in

@@ -9,8 +9,8 @@ use lib.Dec.{eqb, ltb}
 use lib.ListN.{length, replicate}
 use lib.Seq.{take-at}
 use Rattle.octets.specs.Compare.{same}
-use Rattle.state_keys.specs.Lists.{any, count}
-use Rattle.state_keys.specs.Algorithms.{sizeOf}
+use Rattle.lists.specs.Lists.{any, count}
+use Rattle.state_keys.specs.Algorithms.{isEncryptionSize}
 use Rattle.state_keys.specs.Kinds.{rekeySizes}
 use Rattle.wire_attributes.specs.Tree.{WrapKey}
 use Rattle.wire_policies.specs.Policy.{GroupSaPolicy}
@@ -29,7 +29,7 @@ use Rattle.rules_outcome.specs.After.{lifetimeFrom, saFrom, Enter, no-sa
 
 -- a policy that numbers 1, 4 and 5 let pass: of ESP or a Rekey SA, with an SPI of its size and transforms that need these octets
 pub data Kind (a : GroupSaPolicy) : Type 0 where
-  an-esp : isEsp a ≡ true → length (a .spi) ≡ 4 → sizeOf 1 (encryptionOctets a) ≡ true → keyWrapOctets a ≡ 0 → Kind a
+  an-esp : isEsp a ≡ true → length (a .spi) ≡ 4 → isEncryptionSize (encryptionOctets a) ≡ true → keyWrapOctets a ≡ 0 → Kind a
   a-rekey : isEsp a ≡ false → isRekey a ≡ true → length (a .spi) ≡ 16 → rekeySizes (encryptionOctets a) (keyWrapOctets a) ≡ true → Kind a
 
 -- with at most one lifetime, of at most 2,000,000 seconds
@@ -71,7 +71,7 @@ module _ (now : ℕ) (a : GroupSaPolicy) (x : List ℕ) where
     made-formed (an-esp e l s k) h =
         let z : length x ≡ encryptionOctets a = omega arith in
         let t = lifetimeFrom now (a .keyLifetimes) in
-        rw e (esp-formed (a .spi) x t (ap (sizeOf 1) z ∙ s) (made-lifetime now (a .keyLifetimes) (h .0) (h .1)))
+        rw e (esp-formed (a .spi) x t (ap isEncryptionSize z ∙ s) (made-lifetime now (a .keyLifetimes) (h .0) (h .1)))
     made-formed (a-rekey e r l s) h =
         let t = lifetimeFrom now (a .keyLifetimes) in
         rw e (rekey-formed (a .spi) x (encryptionOctets a) (keyWrapOctets a) t s (made-lifetime now (a .keyLifetimes) (h .0) (h .1)))

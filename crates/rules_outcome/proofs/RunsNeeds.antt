@@ -7,12 +7,12 @@ use mathlib.Core.List.{List, [], _∷_, List·Memᴰ, List·Memᴰ·head, List·
 use borrow.Author.Tests.{ne-eqb, eqb-true, ltb-false}
 use lib.Dec.{eqb, ltb}
 use lib.ListN.{length}
-use Rattle.state_keys.specs.Lists.{all, any, count}
-use Rattle.state_keys.specs.Algorithms.{neededBy, sizeOf}
+use Rattle.lists.specs.Lists.{all, any, count}
+use Rattle.state_keys.specs.Algorithms.{neededBy, isWrappingSize, isEncryptionSize}
 use Rattle.state_keys.specs.Kinds.{rekeySizes}
 use Rattle.state_keys.specs.declared.algorithms.Needed.{Needed}
 use Rattle.state_keys.specs.declared.algorithms.Needed.the-variants.{Octets, Nothing}
-use Rattle.state_keys.proofs.Cases.{bool-cases, and-parts, and-whole}
+use Rattle.lists.proofs.Cases.{bool-cases, and-parts, and-whole}
 use Rattle.state_keys.proofs.Sizes.{needed-size}
 use Rattle.wire_policies.specs.Transform.{Transform}
 use Rattle.wire_policies.specs.Policy.{GroupSaPolicy}
@@ -205,25 +205,25 @@ octets-are (Octets n) e = refl
 octets-are Nothing e = absurd (false≢true e)
 
 lengths-size : (id : ℕ) (l : List ℕ) → ltb 1 (length l) ≡ false → any (λ (b : ℕ). isOctets (neededBy 1 id b)) l ≡ true →
-    sizeOf 1 (sum (λ (b : ℕ). octetsNeeded (neededBy 1 id b)) l) ≡ true
+    isEncryptionSize (sum (λ (b : ℕ). octetsNeeded (neededBy 1 id b)) l) ≡ true
 unfolding sum any
 lengths-size id [] s e = absurd (false≢true e)
 lengths-size id (b ∷ []) s e =
     bool-cases (isOctets (neededBy 1 id b))
     (λ g.
     let z : octetsNeeded (neededBy 1 id b) ≡ octetsNeeded (neededBy 1 id b) + 0 = omega arith in
-    ap (sizeOf 1) (sym z) ∙ needed-size 1 id b (octetsNeeded (neededBy 1 id b)) (octets-are (neededBy 1 id b) g))
+    ap isEncryptionSize (sym z) ∙ needed-size 1 id b (octetsNeeded (neededBy 1 id b)) (octets-are (neededBy 1 id b) g))
     (λ g. absurd (false≢true (rw g at e)))
 lengths-size id (b ∷ c ∷ l) s e = let h = ltb-false 1 (suc (suc (length l))) s in absurd (omega arith)
 
 module _ (t : Transform) where
-  encryption-size : twiceInTransform t ≡ false → encryptionFits t ≡ true → sizeOf 1 (encryptionNeeds t) ≡ true
+  encryption-size : twiceInTransform t ≡ false → encryptionFits t ≡ true → isEncryptionSize (encryptionNeeds t) ≡ true
   unfolding encryptionFits
   encryption-size s e =
       let p = and-parts (eqb (t .kind) 1) (any (λ (b : ℕ). isOctets (neededBy 1 (t .id) b)) (t .keyLengths)) e in
       rw (p .0) (lengths-size (t .id) (t .keyLengths) s (p .1))
 
-  key-wrap-size : keyWrapFits t ≡ true → sizeOf 13 (keyWrapNeeds t) ≡ true
+  key-wrap-size : keyWrapFits t ≡ true → isWrappingSize (keyWrapNeeds t) ≡ true
   unfolding keyWrapFits
   key-wrap-size e =
       let p = and-parts (eqb (t .kind) 13) (isOctets (neededBy 13 (t .id) 0)) e in
@@ -232,12 +232,13 @@ module _ (t : Transform) where
 -- ---- a policy whose transforms are fit
 module _ (authentication : Bool) (a : GroupSaPolicy) (fit : transformsFit authentication a ≡ true)
     (once : any twiceInTransform (a .transforms) ≡ false) where
-  size-of : (p : OneGives encryptionFits encryptionNeeds (a .transforms)) → sizeOf 1 (encryptionOctets a) ≡ true
+  size-of : (p : OneGives encryptionFits encryptionNeeds (a .transforms)) → isEncryptionSize (encryptionOctets a) ≡ true
   unfolding encryptionOctets
   size-of p =
-      ap (sizeOf 1) (p .is) ∙ encryption-size (p .one) (none-passes twiceInTransform (a .transforms) once (p .one) (p .stands)) (p .passes)
+      ap isEncryptionSize (p .is) ∙ encryption-size (p .one) (none-passes twiceInTransform (a .transforms) once (p .one) (p .stands))
+      (p .passes)
 
-  pub esp-sizes : isEsp a ≡ true → (sizeOf 1 (encryptionOctets a) ≡ true) × (keyWrapOctets a ≡ 0)
+  pub esp-sizes : isEsp a ≡ true → (isEncryptionSize (encryptionOctets a) ≡ true) × (keyWrapOctets a ≡ 0)
   unfolding transformsFit keyWrapOctets
   esp-sizes e = let n = esp-needs (a .transforms) (rw e at fit) in (size-of (n .encryption), n .no-more)
 
@@ -248,6 +249,6 @@ module _ (authentication : Bool) (a : GroupSaPolicy) (fit : transformsFit authen
       let n = rekey-needs (a .transforms) authentication (p .1) in
       let k = n .key-wrap in (
         p .0,
-        and-whole (sizeOf 1 (encryptionOctets a)) (sizeOf 13 (keyWrapOctets a)) (size-of (n .encryption))
-            (ap (sizeOf 13) (k .is) ∙ key-wrap-size (k .one) (k .passes)),
+        and-whole (isEncryptionSize (encryptionOctets a)) (isWrappingSize (keyWrapOctets a)) (size-of (n .encryption))
+            (ap isWrappingSize (k .is) ∙ key-wrap-size (k .one) (k .passes)),
       )

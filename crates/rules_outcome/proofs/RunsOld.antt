@@ -6,8 +6,8 @@ use mathlib.Core.List.{List, [], _∷_, map}
 use lib.Dec.{eqb}
 use lib.ListN.{length, length-map}
 use Rattle.state_keys.specs.Limits.{Limits}
-use Rattle.state_keys.specs.Lists.{any, count}
-use Rattle.state_keys.proofs.Cases.{bool-cases}
+use Rattle.lists.specs.Lists.{any, count}
+use Rattle.lists.proofs.Cases.{bool-cases}
 use Rattle.wire_frames.specs.Frame.{Frame}
 use Rattle.state_sa.specs.Entry.{rekeyProtocol, named, liveRekey, retired}
 use Rattle.state_sa.specs.declared.entry.Sa.{Sa}
@@ -36,9 +36,9 @@ retired-name : (p : Sa → Bool) (now delay : ℕ) (q : ℕ) (y : List ℕ) (a :
 unfolding retiredIf retired named
 retired-name p now delay q y a = bool-cases (p a) (λ g. rw g) (λ g. rw g)
 
-or-right : (a b : Bool) → (a || b) ≡ false → b ≡ false
-or-right true b e = absurd (false≢true (sym e))
-or-right false b e = e
+or-false-right : (a b : Bool) → (a || b) ≡ false → b ≡ false
+or-false-right true b e = absurd (false≢true (sym e))
+or-false-right false b e = e
 
 module _ (now : ℕ) (f : Frame) where
   still : newRekey f ≡ true → (a : Sa) → replaced f a ≡ false → liveRekey a ≡ false
@@ -50,7 +50,7 @@ module _ (now : ℕ) (f : Frame) where
   unfolding retiredIf
   none-live n a =
       bool-cases (retires f a) (λ g. rw g (retired-rekey _ _ a))
-      (λ g. rw g (still n a (or-right (namedInDelete f a) (replaced f a) g)))
+      (λ g. rw g (still n a (or-false-right (namedInDelete f a) (replaced f a) g)))
 
 -- one that was not live is not live afterwards, whatever the frame does
 pub not-revived : (now : ℕ) (f : Frame) (a : Sa) → liveRekey a ≡ false → liveRekey (oldSa now f a) ≡ false

@@ -4,7 +4,7 @@ use Prim.Native.Nat.{ℕ, _+_, _-_}
 use mathlib.Core.Path.{_≡_, refl, ap, sym, _∙_, subst}
 use mathlib.Core.Bool.{Bool}
 use mathlib.Core.Logic.{⊎-elim}
-use mathlib.Core.List.{List, [], _∷_, List·Memᴰ, List·Memᴰ·head, List·Memᴰ·tail, List·Memᴰ·not-nil, List·Memᴰ·cases-cons}
+use mathlib.Core.List.{List, [], _∷_, List·Memᴰ, List·Memᴰ·head, List·Memᴰ·tail, List·Memᴰ·not-nil, List·Memᴰ·cases-cons, flatMap}
 use mathlib.Core.List.{List·Memᴰ·append-cases, List·Memᴰ·eq-of-singleton}
 use lib.ListN.{length, drop, length-drop}
 use lib.Seq.{length-take-le}
@@ -14,7 +14,7 @@ use Rattle.wire_policies.specs.Grammar.{IsGroupSa, IsPolicy, is-sa, is-wide}
 use Rattle.wire_frames.specs.Frame.{Frame, Payload, Content, noneNext}
 use Rattle.wire_frames.specs.Exchange.{readsFresh}
 use Rattle.wire_frames.specs.Grammar.{IsContent, is-gsa, is-kd, is-delete, is-unread, IsPayload, IsFrame}
-use Rattle.rules_refusals.specs.Contents.{gather, groupSaIn, policiesOfContent, policiesOf, announced}
+use Rattle.rules_refusals.specs.Contents.{groupSaIn, policiesOfContent, policiesOf, announced}
 
 -- ---- what is gathered stands in what one of the list gives
 pub record Gathered {A B : Type 0} (g : A → List B) (l : List A) (b : B) : Type 0 where
@@ -22,8 +22,8 @@ pub record Gathered {A B : Type 0} (g : A → List B) (l : List A) (b : B) : Typ
   pub stands : List·Memᴰ from l
   pub gives : List·Memᴰ b (g from)
 
-pub gathered : {A B : Type 0} (g : A → List B) (b : B) (l : List A) → List·Memᴰ b (gather g l) → Gathered g l b
-unfolding gather
+pub gathered : {A B : Type 0} (g : A → List B) (b : B) (l : List A) → List·Memᴰ b (flatMap g l) → Gathered g l b
+unfolding flatMap
 gathered g b [] m = absurd (List·Memᴰ·not-nil m)
 gathered g b (a ∷ l) m =
     ⊎-elim (λ x. record { from = a; stands = List·Memᴰ·head refl; gives = x })

@@ -7,12 +7,13 @@ use mathlib.Core.List.{List, [], _∷_, List·Memᴰ, List·Memᴰ·head, List·
 use borrow.Author.Tests.{eq-eqb, lt-ltb}
 use lib.Dec.{eqb}
 use lib.ListN.{length}
+use Rattle.rules_refusals.proofs.OneOf.{or-joined}
 use Rattle.octets.specs.Compare.{same}
 use Rattle.octets.proofs.Order.{eq-same}
 use Rattle.state_keys.specs.Limits.{Limits}
-use Rattle.state_keys.specs.Lists.{any, count, insert}
-use Rattle.state_keys.proofs.Cases.{bool-cases, and-whole}
-use Rattle.state_keys.proofs.Rising.{length-insert, count-insert}
+use Rattle.lists.specs.Lists.{any, count, insert}
+use Rattle.lists.proofs.Cases.{bool-cases, and-whole}
+use Rattle.lists.proofs.Rising.{length-insert, count-insert}
 use Rattle.wire_policies.specs.Policy.{GroupSaPolicy}
 use Rattle.state_sa.specs.Entry.{saSpi, saBefore, named, liveRekey}
 use Rattle.state_sa.specs.declared.entry.Sa.{Sa}
@@ -33,10 +34,6 @@ pub length-all : (m l : List Sa) → length (insertAll m l) ≡ length m + lengt
 unfolding insertAll
 length-all [] l = omega arith
 length-all (a ∷ m) l = let h = length-all m l in let k = length-insert saBefore a (insertAll m l) in omega arith
-
-or-joined : (a b c : Bool) → (a || (b || c)) ≡ ((a || b) || c)
-or-joined true b c = refl
-or-joined false b c = refl
 
 pub any-all : (q : Sa → Bool) (m l : List Sa) → any q (insertAll m l) ≡ (any q m || any q l)
 unfolding insertAll any

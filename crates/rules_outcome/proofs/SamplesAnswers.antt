@@ -1,7 +1,7 @@
 -- The answer to a frame, from the numbers that apply and those that do not.
 use Prim.Native.Nat.{ℕ}
 use mathlib.Core.Path.{_≡_, refl, sym, _∙_}
-use mathlib.Core.Bool.{Bool, true, false, _||_, false≢true}
+use mathlib.Core.Bool.{Bool, true, false, false≢true, or-true}
 use mathlib.Core.Logic.{inl, inr}
 use mathlib.Core.List.{List}
 use Rattle.state_keys.specs.Limits.{Limits}
@@ -22,10 +22,6 @@ applies-frame n e = rw e
 
 pub applies-member : (n : Number) → one (n .ofMember) ≡ true → applies n ≡ true
 applies-member n e = rw e (or-true (one (n .ofFrame)))
-  where
-    or-true : (b : Bool) → (b || true) ≡ true
-    or-true true = refl
-    or-true false = refl
 
 module _ (limits : Limits) (s : State) (now : ℕ) (lent octets : List ℕ) (f : Frame) (e : IsFrame (s .profile) octets f) where
   pub outcome-0 : Clear limits s now lent f → (next : State) → After limits s now lent f next → Outcome limits s now lent octets 0 next

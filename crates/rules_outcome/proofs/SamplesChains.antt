@@ -12,7 +12,7 @@ use Rattle.fips197.specs.Key.{Key, isKey}
 use Rattle.rfc5649.specs.Wrap.{wrapOf}
 use Rattle.rfc5649.specs.Opens.{Opens}
 use Rattle.rfc5649.proofs.Determined.{opens-one}
-use Rattle.state_keys.specs.Algorithms.{sizeOf}
+use Rattle.state_keys.specs.Algorithms.{isWrappingSize}
 use Rattle.state_keys.proofs.Sizes.{wrapping-size, among-is}
 use Rattle.wire_attributes.specs.Tree.{WrapKey, SaKey}
 use Rattle.rules_chains.specs.Chain.{In, Root, Chain, root, step, ChainEnds, CopyOpens}
@@ -42,7 +42,7 @@ module _ (key x : List ℕ) (is : Key key) (octets : Octets x) (least : 1 ≤ le
   opens-only y h = opens-one key (wrapOf key x) y x is h opens-own
 
 -- a key's octet count is a size of the algorithm table
-pub key-size : (n : ℕ) → T (isKey n) → sizeOf 13 n ≡ true
+pub key-size : (n : ℕ) → T (isKey n) → isWrappingSize n ≡ true
 unfolding isKey
 key-size n t = wrapping-size n ∙ by (eqb n 16) (eqb n 24) (eqb n 32) t
   where
@@ -98,16 +98,16 @@ module _ (R : List Root) (l : List WrapKey) (size i n : ℕ) (v x : List ℕ) (k
     every = opens-to-x;
   }
 
-  no-copies-eight : CopiesConflict R l size (oneCopy i n (wrapOf v x)) → ⊥
-  no-copies-eight (wrong-size y h d) = d (ap length (opens-to-x y h) ∙ count)
-  no-copies-eight (two-values y z h k d) = d (opens-to-x y h ∙ sym (opens-to-x z k))
+  no-copies-conflict : CopiesConflict R l size (oneCopy i n (wrapOf v x)) → ⊥
+  no-copies-conflict (wrong-size y h d) = d (ap length (opens-to-x y h) ∙ count)
+  no-copies-conflict (two-values y z h k d) = d (opens-to-x y h ∙ sym (opens-to-x z k))
 
-  pub no-eight : (EntriesConflict R l size → ⊥) → KeyConflict R l size (oneCopy i n (wrapOf v x) ∷ []) → ⊥
-  no-eight f (of-entries h) = f h
-  no-eight f (of-copies a m h) = no-copies-eight (subst (CopiesConflict R l size) (one-entry a (oneCopy i n (wrapOf v x)) m) h)
+  pub no-conflict : (EntriesConflict R l size → ⊥) → KeyConflict R l size (oneCopy i n (wrapOf v x) ∷ []) → ⊥
+  no-conflict f (of-entries h) = f h
+  no-conflict f (of-copies a m h) = no-copies-conflict (subst (CopiesConflict R l size) (one-entry a (oneCopy i n (wrapOf v x)) m) h)
 
-  pub no-nine : KeyMissing R l size (oneCopy i n (wrapOf v x) ∷ []) → ⊥
-  no-nine h =
+  pub no-missing : KeyMissing R l size (oneCopy i n (wrapOf v x) ∷ []) → ⊥
+  no-missing h =
       let e = one-entry (h .sa) (oneCopy i n (wrapOf v x)) (h .stands) in
       h .none x (subst (λ (a : Announced). CopyOpens R l size (a .copies) x) (sym e) (copy-opens .opens))
 

@@ -4,15 +4,15 @@ use native.Mathlib.Omega.{arith}
 use Prim.Native.Nat.{ℕ, _≤_}
 use mathlib.Core.Path.{_≡_, refl, ap, sym, subst, _∙_}
 use mathlib.Core.Bool.{true, false}
-use mathlib.Core.List.{List, [], _∷_, _++_, append-nil}
+use mathlib.Core.List.{List, [], _∷_, _++_, append-nil, flatMap}
 use borrow.Author.Tests.{le-ltb}
 use lib.Dec.{eqb}
 use lib.ListN.{length}
 use Rattle.octets.proofs.Order.{eq-same}
 use Rattle.rfc5649.specs.Wrap.{wrapOf}
 use Rattle.state_keys.specs.Limits.{limits}
-use Rattle.state_keys.specs.Lists.{all, any, count, keep, insert}
-use Rattle.state_keys.specs.Algorithms.{sizeOf, isRowOf, neededIn, neededBy}
+use Rattle.lists.specs.Lists.{all, any, count, keep, insert}
+use Rattle.state_keys.specs.Algorithms.{isRowOf, neededIn, neededBy, isWrappingSize}
 use Rattle.wire_attributes.specs.Tree.{WrapKey, SaKey}
 use Rattle.wire_frames.specs.Frame.{Frame}
 use Rattle.wire_frames.specs.declared.exchanges.Exchange.{Exchange}
@@ -21,7 +21,6 @@ use Rattle.state.specs.declared.State.{State}
 use Rattle.state.specs.declared.held.HeldKey.{HeldKey}
 use Rattle.state.specs.Held.{heldOf}
 use Rattle.state.specs.State.{newState}
-use Rattle.rules_refusals.specs.Contents.{gather}
 use Rattle.rules_refusals.specs.Fitness.{encryptionFits, keyWrapFits, authenticationFits, oneGroupAddress, exactTransforms, transformsFit}
 use Rattle.rules_refusals.specs.Fitness.{sum, encryptionOctets, keyWrapOctets}
 use Rattle.rules_refusals.specs.Number4.{criticalUnknown, barredMemberBag, barredDelete, twoGsa, twoKd, gsaWithoutKd, kdWithoutGsa, neither}
@@ -50,7 +49,7 @@ use Rattle.rules_outcome.proofs.Rows.{lent-roots, lent-size}
 use Rattle.rules_outcome.proofs.RunsClear.{None, Clear}
 use Rattle.rules_outcome.proofs.SamplesAnswers.{outcome-0, outcome-9}
 use Rattle.rules_outcome.proofs.SamplesFrame.{row-of, fresh-2, fresh-3}
-use Rattle.rules_outcome.proofs.SamplesChains.{key-size, zeroRoot, oneCopy, one-entry, copy-opens, no-eight, no-nine}
+use Rattle.rules_outcome.proofs.SamplesChains.{key-size, zeroRoot, oneCopy, one-entry, copy-opens, no-conflict, no-missing}
 
 -- ---- numbers 4 to 7
 module _ (r : Around) (now k : ℕ) (w : List ℕ) (l : List WrapKey) where
@@ -58,7 +57,7 @@ module _ (r : Around) (now k : ℕ) (w : List ℕ) (l : List WrapKey) where
   f = creating r k w l
 
   created-4 : oneGroupAddress (r .destination) ≡ true → None (number4 f)
-  unfolding one any count gather criticalUnknown barredMemberBag barredDelete twoGsa twoKd gsaWithoutKd kdWithoutGsa neither
+  unfolding one any count flatMap criticalUnknown barredMemberBag barredDelete twoGsa twoKd gsaWithoutKd kdWithoutGsa neither
       severalRekeyPolicies severalGroupWide severalMemberBags gsaWithoutSaPolicy keyLengthTwice initialMessageIdTwice delayTwice
       otherDestination lifetimeTwice number4OfFrame
   created-4 d = record { ofFrame = rw (row-of (r .auth), d); ofMember = refl }
@@ -67,18 +66,18 @@ module _ (r : Around) (now k : ℕ) (w : List ℕ) (l : List WrapKey) where
   unfolding all any count transformsFit exactTransforms encryptionFits keyWrapFits authenticationFits neededBy neededIn isRowOf
   transforms-fit = refl
 
-  created-5 : (lent : List ℕ) → sizeOf 13 (length lent) ≡ true → None (number5 lent f)
-  unfolding one any gather ahPolicy ahBag otherTransforms deleteOfOther deleteOfNone lentKeySize number5OfFrame
+  created-5 : (lent : List ℕ) → isWrappingSize (length lent) ≡ true → None (number5 lent f)
+  unfolding one any flatMap ahPolicy ahBag otherTransforms deleteOfOther deleteOfNone lentKeySize number5OfFrame
   created-5 lent e = record { ofFrame = rw (row-of (r .auth), transforms-fit, e); ofMember = refl }
 
   created-6 : any (λ (e : WrapKey). eqb (e .keyId) 0) l ≡ false → any underItself l ≡ false →
       None (number6 (newState limits (r .profile)) now f)
-  unfolding one any count gather policyUnpaired bagUnpaired policyTwice bagTwice alreadyInTable otherSaKeyCount saKeyCount saKeyId espKwkId
+  unfolding one any count flatMap policyUnpaired bagUnpaired policyTwice bagTwice alreadyInTable otherSaKeyCount saKeyCount saKeyId espKwkId
       wrapKeyId wrapsItself freshKeyId freshWrapsItself number6OfFrame number6OfMember newState tableOf keep
   created-6 e d = record { ofFrame = rw (row-of (r .auth), eq-same (r .spi) (r .spi) refl, append-nil l, e, d); ofMember = refl }
 
   created-7 : length l ≤ limits .wrapKeys → None (number7 limits (newState limits (r .profile)) now f)
-  unfolding one any count gather manyEspPolicies manyWrapKeys manySaKeys manyDeletedSpis longLifetime manyFreshKeys manySas number7OfFrame
+  unfolding one any count flatMap manyEspPolicies manyWrapKeys manySaKeys manyDeletedSpis longLifetime manyFreshKeys manySas number7OfFrame
       number7OfMember
       newState tableOf keep
   created-7 h = record { ofFrame = rw (append-nil l, le-ltb (limits .wrapKeys) (length l) h); ofMember = refl }
@@ -112,26 +111,26 @@ module _ (r : Around) (now : ℕ) (lent x : List ℕ) (k : ℕ) (v : List ℕ) (
   size-is = lent-size limits s now g (row-of (r .auth)) lent
 
   entries-are : entriesOf g ≡ l
-  unfolding gather
+  unfolding flatMap
   entries-are = append-nil (l ++ []) ∙ append-nil l
 
   sa-is : announcedAs g (rekeyPolicy r) ≡ top
-  unfolding gather copiesOf keep needOf encryptionOctets keyWrapOctets sum neededBy neededIn isRowOf
+  unfolding flatMap copiesOf keep needOf encryptionOctets keyWrapOctets sum neededBy neededIn isRowOf
   sa-is = rw (eq-same (r .spi) (r .spi) refl)
 
   copies-are : rekeyCopies g ≡ copy ∷ []
-  unfolding rekeyCopies gather copiesOf keep
+  unfolding rekeyCopies flatMap copiesOf keep
   copies-are = rw (eq-same (r .spi) (r .spi) refl)
 
   keys-are : announcedKeys g ≡ top ∷ []
-  unfolding announcedKeys gather
+  unfolding announcedKeys flatMap
   keys-are = ap (λ (a : Announced). a ∷ []) sa-is
 
-  eight-is : KeyConflictOf limits s now lent g ≡ KeyConflict R l (length lent) (top ∷ [])
-  eight-is = λ i. KeyConflict (roots-are i) (entries-are i) (size-is i) (keys-are i)
+  conflict-is : KeyConflictOf limits s now lent g ≡ KeyConflict R l (length lent) (top ∷ [])
+  conflict-is = λ i. KeyConflict (roots-are i) (entries-are i) (size-is i) (keys-are i)
 
-  nine-is : KeyMissingOf limits s now lent g ≡ KeyMissing R l (length lent) (top ∷ [])
-  nine-is = λ i. KeyMissing (roots-are i) (entries-are i) (size-is i) (keys-are i)
+  missing-is : KeyMissingOf limits s now lent g ≡ KeyMissing R l (length lent) (top ∷ [])
+  missing-is = λ i. KeyMissing (roots-are i) (entries-are i) (size-is i) (keys-are i)
 
   key-is : KeyOf R l (length lent) top x
       ≡ KeyOf (rootsOf limits s now lent g) (entriesOf g) (wrappingSize limits s now lent g) (announcedAs g (rekeyPolicy r)) x
@@ -160,7 +159,8 @@ module _ (r : Around) (now : ℕ) (lent x : List ℕ) (k : ℕ) (v : List ℕ) (
     created-9 =
         outcome-9 limits s now lent octets g (c .reads) (fresh-2 r now w l) (fresh-3 r now w l) (created-4 r now k w l (c .group))
         (created-5 r now k w l lent (key-size (length lent) (c .key .size))) (created-6 r now k w l no-zero no-self)
-        (created-7 r now k w l few) (λ h. no-8 (subst (λ (A : Type 0). A) eight-is h)) (subst (λ (A : Type 0). A) (sym nine-is) missing)
+        (created-7 r now k w l few) (λ h. no-8 (subst (λ (A : Type 0). A) conflict-is h)) (subst (λ (A : Type 0). A)
+        (sym missing-is) missing)
 
   -- ---- each chain that ends on it gives one value, and the list is the path
   module _ (none : EntriesConflict R l (length lent) → ⊥) (ends : ChainEnds R l (length lent) k v)
@@ -175,11 +175,11 @@ module _ (r : Around) (now : ℕ) (lent x : List ℕ) (k : ℕ) (v : List ℕ) (
       no-6 = created-6 r now k w l no-zero no-self;
       no-7 = created-7 r now k w l few;
       no-8 = λ h.
-          no-eight R l (length lent) k 36 v x (c .fit .key) (c .small) (c .size) (omega arith) (omega arith) ends only none
-          (subst (λ (A : Type 0). A) eight-is h);
+          no-conflict R l (length lent) k 36 v x (c .fit .key) (c .small) (c .size) (omega arith) (omega arith) ends only none
+          (subst (λ (A : Type 0). A) conflict-is h);
       no-9 = λ h.
-          no-nine R l (length lent) k 36 v x (c .fit .key) (c .small) (c .size) (omega arith) (omega arith) ends only
-          (subst (λ (A : Type 0). A) nine-is h);
+          no-missing R l (length lent) k 36 v x (c .fit .key) (c .small) (c .size) (omega arith) (omega arith) ends only
+          (subst (λ (A : Type 0). A) missing-is h);
       no-over = λ o.
           room-in-registration R l (length lent) limits (copy ∷ []) (newRekey g) none few
           (subst (λ (A : Type 0). A)
@@ -193,7 +193,7 @@ module _ (r : Around) (now : ℕ) (lent x : List ℕ) (k : ℕ) (v : List ℕ) (
     next = created r x keys
 
     held-set : HeldAfterwards limits s now lent g (next .held)
-    unfolding any gather
+    unfolding any flatMap
     held-set =
         subst (λ (A : Type 0). A)
         (sym (λ i.
@@ -202,7 +202,7 @@ module _ (r : Around) (now : ℕ) (lent x : List ℕ) (k : ℕ) (v : List ℕ) (
         path
 
     after-created : After limits s now lent g next
-    unfolding gather newState tableOf keep oldSas insertAll insert saFrom lifetimeFrom leastAfterwards initialMessageId any
+    unfolding flatMap newState tableOf keep oldSas insertAll insert saFrom lifetimeFrom leastAfterwards initialMessageId any
         encryptionOctets keyWrapOctets sum neededBy neededIn isRowOf
     after-created = record {
       new = saFrom now (rekeyPolicy r) x ∷ [];

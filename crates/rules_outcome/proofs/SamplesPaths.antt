@@ -9,7 +9,7 @@ use Rattle.octets.specs.Octets.{Octets}
 use Rattle.fips197.specs.Key.{Key}
 use Rattle.rfc5649.specs.Wrap.{wrapOf}
 use Rattle.state_keys.specs.Limits.{limits}
-use Rattle.state_keys.specs.Lists.{any}
+use Rattle.lists.specs.Lists.{any}
 use Rattle.wire_attributes.specs.Tree.{WrapKey, SaKey}
 use Rattle.state.specs.Held.{heldOf, distinct}
 use Rattle.rules_chains.specs.Chain.{In, Chain, ChainEnds}

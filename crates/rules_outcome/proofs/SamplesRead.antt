@@ -13,8 +13,8 @@ use Rattle.octets.specs.Generate.{gen}
 use Rattle.octets.specs.Walk.{whole, chain, chainUpTo, many}
 use Rattle.octets.proofs.Generate.{gen-all}
 use Rattle.octets.proofs.Octets.{no-octets, one-octet, join-octets}
-use Rattle.state_keys.specs.Lists.{all}
-use Rattle.state_keys.proofs.Cases.{and-parts}
+use Rattle.lists.specs.Lists.{all}
+use Rattle.lists.proofs.Cases.{and-parts}
 use Rattle.fips197.specs.Key.{Key}
 use Rattle.rfc5649.specs.Wrap.{wrapOf, blocks, startRegisters}
 use Rattle.rfc5649.specs.inner.Unwrap.{forward}

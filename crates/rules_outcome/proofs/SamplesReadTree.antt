@@ -10,7 +10,7 @@ use Rattle.octets.specs.Octets.{Octets}
 use Rattle.octets.specs.Compare.{orderOf, same}
 use Rattle.octets.specs.Walk.{whole, chain, chainUpTo, many}
 use Rattle.octets.proofs.Octets.{join-octets}
-use Rattle.state_keys.specs.Lists.{all}
+use Rattle.lists.specs.Lists.{all}
 use Rattle.fips197.specs.Key.{Key}
 use Rattle.rfc5649.specs.Wrap.{wrapOf, blocks}
 use Rattle.rfc5649.proofs.Wrapping.{length-wrap}

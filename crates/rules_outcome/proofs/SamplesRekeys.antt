@@ -5,12 +5,12 @@ use native.Mathlib.Omega.{arith}
 use Prim.Native.Nat.{ℕ, _+_, _≤_}
 use mathlib.Core.Path.{_≡_, refl, ap, sym, _∙_, subst}
 use mathlib.Core.Bool.{true, false, _&&_}
-use mathlib.Core.List.{List, [], _++_, append-nil, List·Memᴰ, List·Memᴰ·not-nil}
+use mathlib.Core.List.{List, [], _++_, append-nil, List·Memᴰ, List·Memᴰ·not-nil, flatMap}
 use borrow.Author.Tests.{le-ltb, ne-eqb, leb-true}
 use lib.ListN.{length}
 use Rattle.state_keys.specs.Limits.{limits}
-use Rattle.state_keys.specs.Lists.{any, count, all}
-use Rattle.state_keys.proofs.Cases.{and-parts}
+use Rattle.lists.specs.Lists.{any, count, all}
+use Rattle.lists.proofs.Cases.{and-parts}
 use Rattle.wire_frames.specs.Frame.{Frame}
 use Rattle.wire_frames.specs.Grammar.{IsFrame}
 use Rattle.state_sa.specs.Entry.{due}
@@ -21,8 +21,7 @@ use Rattle.state.specs.declared.State.{State}
 use Rattle.state.specs.Held.{heldFormed, keyFormed, keysOf, distinct, idsOf}
 use Rattle.state.specs.State.{stateFormed}
 use Rattle.state.specs.Least.{acceptable, afterId}
-use Rattle.rules_refusals.specs.Contents.{gather}
-use Rattle.rules_refusals.specs.Number2.{notDueSas, overLiveRekey, nonEmptyMember, otherSpis}
+use Rattle.rules_refusals.specs.Number2.{notDueSas, overLiveRekey, unwantedMember, otherSpis}
 use Rattle.rules_refusals.specs.Number3.{notAcceptable, number3OfMember}
 use Rattle.rules_refusals.specs.Number4.{criticalUnknown, barredMemberBag, barredDelete, twoGsa, twoKd, gsaWithoutKd, kdWithoutGsa, neither}
 use Rattle.rules_refusals.specs.Number4.{severalRekeyPolicies, severalGroupWide, severalMemberBags, gsaWithoutSaPolicy, keyLengthTwice}
@@ -64,16 +63,16 @@ module _ (roots : List Root) (size : ℕ) where
   no-entries (wrong-size k y r n) = none-reached k y r
   no-entries (two-values k y z r q n) = none-reached k y r
 
-  none-eight : KeyConflict roots [] size [] → ⊥
-  none-eight (of-entries h) = no-entries h
-  none-eight (of-copies a m h) = none-in a m
+  none-conflict : KeyConflict roots [] size [] → ⊥
+  none-conflict (of-entries h) = no-entries h
+  none-conflict (of-copies a m h) = none-in a m
 
-  none-nine : KeyMissing roots [] size [] → ⊥
-  none-nine h = none-in (h .sa) (h .stands)
+  none-missing : KeyMissing roots [] size [] → ⊥
+  none-missing h = none-in (h .sa) (h .stands)
 
 -- 2 does not apply to a rekey over a Rekey SA that stands at the tick
 over-live : (s : State) (now : ℕ) (x : List ℕ) → stateFormed limits s ≡ true → StandsAt now x s → None (number2 limits s now 41 x)
-unfolding one nonEmptyMember otherSpis
+unfolding one unwantedMember otherSpis
 over-live s now x e k = record { ofFrame = refl; ofMember = rw (e, k) }
 
 -- a rekey whose Message ID is not acceptable
@@ -91,17 +90,17 @@ rekey-refused s now lent octets g r x e k h =
 -- ---- a rekey with D alone
 module _ (s : State) (now : ℕ) (x : List ℕ) (i : ℕ) (l : List (List ℕ)) where
   no-4 : None (number4 (deleting x i l))
-  unfolding one any count gather criticalUnknown barredMemberBag barredDelete twoGsa twoKd gsaWithoutKd kdWithoutGsa neither
+  unfolding one any count flatMap criticalUnknown barredMemberBag barredDelete twoGsa twoKd gsaWithoutKd kdWithoutGsa neither
       severalRekeyPolicies severalGroupWide severalMemberBags gsaWithoutSaPolicy keyLengthTwice initialMessageIdTwice delayTwice
       otherDestination lifetimeTwice number4OfFrame
   no-4 = record { ofFrame = refl; ofMember = refl }
 
   no-5 : (lent : List ℕ) → 1 ≤ length l → None (number5 lent (deleting x i l))
-  unfolding one any gather ahPolicy ahBag otherTransforms deleteOfOther deleteOfNone lentKeySize number5OfFrame
+  unfolding one any flatMap ahPolicy ahBag otherTransforms deleteOfOther deleteOfNone lentKeySize number5OfFrame
   no-5 lent h = record { ofFrame = rw (ne-eqb (length l) 0 (λ e. omega arith)); ofMember = refl }
 
   no-6 : None (number6 s now (deleting x i l))
-  unfolding one any gather policyUnpaired bagUnpaired policyTwice bagTwice alreadyInTable saKeyCount saKeyId espKwkId wrapKeyId wrapsItself
+  unfolding one any flatMap policyUnpaired bagUnpaired policyTwice bagTwice alreadyInTable saKeyCount saKeyId espKwkId wrapKeyId wrapsItself
       freshKeyId freshWrapsItself number6OfFrame number6OfMember
   no-6 = record { ofFrame = refl; ofMember = refl }
 
@@ -112,7 +111,7 @@ module _ (s : State) (now : ℕ) (x : List ℕ) (i : ℕ) (l : List (List ℕ)) 
       fit-keep limits (stays now) (sasOf (s .table)) (formed-fit limits (s .table) t) .room
 
   no-7 : stateFormed limits s ≡ true → length l ≤ limits .deletedSpis → None (number7 limits s now (deleting x i l))
-  unfolding one any count gather manyEspPolicies manyWrapKeys manySaKeys manyDeletedSpis longLifetime manyFreshKeys manySas number7OfFrame
+  unfolding one any count flatMap manyEspPolicies manyWrapKeys manySaKeys manyDeletedSpis longLifetime manyFreshKeys manySas number7OfFrame
       number7OfMember
   no-7 e h =
       let k = standing-few e in
@@ -128,15 +127,15 @@ module _ (s : State) (now : ℕ) (x : List ℕ) (i : ℕ) (l : List (List ℕ)) 
     f = deleting x i l
 
     no-8 : KeyConflictOf limits s now lent f → ⊥
-    unfolding gather announcedKeys
-    no-8 = none-eight (rootsOf limits s now lent f) (wrappingSize limits s now lent f)
+    unfolding flatMap announcedKeys
+    no-8 = none-conflict (rootsOf limits s now lent f) (wrappingSize limits s now lent f)
 
     no-9 : KeyMissingOf limits s now lent f → ⊥
-    unfolding gather announcedKeys
-    no-9 = none-nine (rootsOf limits s now lent f) (wrappingSize limits s now lent f)
+    unfolding flatMap announcedKeys
+    no-9 = none-missing (rootsOf limits s now lent f) (wrappingSize limits s now lent f)
 
     no-over : OverHeldOf limits s now lent f → ⊥
-    unfolding gather any stateFormed heldFormed
+    unfolding flatMap any stateFormed heldFormed
     no-over =
         let h = and-parts (tableFormed limits (s .table)) (heldFormed limits (s .held)) e .1 in
         room-without-entries (rootsOf limits s now lent f) [] (wrappingSize limits s now lent f) limits (rekeyCopies f) false (s .held) refl
@@ -163,7 +162,7 @@ module _ (s : State) (now : ℕ) (x : List ℕ) (i : ℕ) (l : List (List ℕ)) 
     deleted = record { table = tableOf limits (oldSas s now f); held = s .held; least = afterId i; profile = s .profile }
 
     after-delete : After limits s now lent f deleted
-    unfolding gather insertAll leastAfterwards any
+    unfolding flatMap insertAll leastAfterwards any
     after-delete = record { new = []; enter = no-sa; table = refl; held = refl; least = refl; profile = refl }
 
     -- taken; then the Rekey SA stands at every tick at which it is not due
@@ -174,7 +173,7 @@ module _ (s : State) (now : ℕ) (x : List ℕ) (i : ℕ) (l : List (List ℕ)) 
 
       pub deleted-stands : (tick : ℕ) (y : Sa) → List·Memᴰ y (notDueSas now s) → overLiveRekey x y ≡ true → due tick y ≡ false →
           StandsAt tick x deleted
-      unfolding gather any
+      unfolding flatMap any
       deleted-stands tick y = accepted-stands limits s now lent f (clear-delete a b c) deleted after-delete refl tick x y
 
       pub deleted-formed : stateFormed limits deleted ≡ true
@@ -221,7 +220,7 @@ later-refused s next now lent octets f e x i n o l z r quiet now′ lent′ octe
     (all-past-then limits s next now lent octets f e x n o z l r quiet y (stands-live y z now′ k) i j j (omega arith))
 
 announces-none : (x : List ℕ) (i : ℕ) (l : List (List ℕ)) → newRekey (deleting x i l) ≡ false
-unfolding any gather
+unfolding any flatMap
 announces-none x i l = refl
 
 pub last-id-holds : Says last-id

@@ -3,7 +3,7 @@ use native.Mathlib.Omega.{arith}
 use Prim.Native.Nat.{ℕ, _-_, _≤_}
 use mathlib.Core.Path.{_≡_, refl, ap, sym, _∙_, subst}
 use mathlib.Core.Bool.{true, false}
-use mathlib.Core.List.{List, [], _∷_, _++_, append-nil}
+use mathlib.Core.List.{List, [], _∷_, _++_, append-nil, flatMap}
 use borrow.Author.Tests.{le-leb, le-ltb}
 use lib.Dec.{eqb}
 use lib.ListN.{length, take, drop, replicate, length-drop, length-append, length-replicate}
@@ -13,10 +13,10 @@ use Rattle.octets.proofs.Order.{eq-same, same-eq}
 use Rattle.fips197.specs.Key.{Key}
 use Rattle.rfc5649.specs.Wrap.{wrapOf}
 use Rattle.state_keys.specs.Limits.{limits}
-use Rattle.state_keys.specs.Lists.{all, any, count, keep, rising, heads}
+use Rattle.lists.specs.Lists.{all, any, count, keep, rising, heads}
 use Rattle.state_keys.specs.Algorithms.{sizeOf, isRowOf, neededIn, neededBy}
 use Rattle.state_keys.specs.Kinds.{valueOf, wrappingOf, rekeySizes}
-use Rattle.state_keys.proofs.Cases.{bool-cases}
+use Rattle.lists.proofs.Cases.{bool-cases}
 use Rattle.wire_attributes.specs.Tree.{SaKey, WrapKey}
 use Rattle.wire_frames.specs.Frame.{Frame}
 use Rattle.state_sa.specs.Entry.{saSpi, saSized, saFormed, named, liveRekey, due, retired, rekeySa}
@@ -26,9 +26,8 @@ use Rattle.state.specs.declared.State.{State}
 use Rattle.state.specs.declared.held.HeldKey.{HeldKey}
 use Rattle.state.specs.Held.{heldOf, keyFormed, distinct, heldFormed}
 use Rattle.state.specs.State.{stateFormed}
-use Rattle.rules_refusals.specs.Contents.{gather}
 use Rattle.rules_refusals.specs.Fitness.{oneGroupAddress, sum, encryptionOctets, keyWrapOctets}
-use Rattle.rules_refusals.specs.Number2.{notDueSas, nonEmptyMember, otherSpis}
+use Rattle.rules_refusals.specs.Number2.{notDueSas, unwantedMember, otherSpis}
 use Rattle.rules_refusals.specs.Number3.{notAcceptable}
 use Rattle.rules_refusals.specs.Number4.{criticalUnknown, barredMemberBag, barredDelete, twoGsa, twoKd, gsaWithoutKd, kdWithoutGsa, neither}
 use Rattle.rules_refusals.specs.Number4.{severalRekeyPolicies, severalGroupWide, severalMemberBags, gsaWithoutSaPolicy, keyLengthTwice}
@@ -103,7 +102,7 @@ module _ (r : Around) (z : List ℕ) (sixteen : length (r .spis) ≡ 16) where
       stands-now = refl
 
       renew-2 : None (number2 limits member now 41 (r .spis))
-      unfolding one nonEmptyMember otherSpis any liveRekey rekeySa
+      unfolding one unwantedMember otherSpis any liveRekey rekeySa
       renew-2 = record { ofFrame = refl; ofMember = rw (stands-now, over-it, member-formed) }
 
       renew-3 : None (number3 member 41 (r .messageId))
@@ -117,17 +116,17 @@ module _ (r : Around) (z : List ℕ) (sixteen : length (r .spis) ≡ 16) where
         f = renewing r copies l
 
         renew-4 : oneGroupAddress (r .destination) ≡ true → None (number4 f)
-        unfolding one any count gather criticalUnknown barredMemberBag barredDelete twoGsa twoKd gsaWithoutKd kdWithoutGsa neither
+        unfolding one any count flatMap criticalUnknown barredMemberBag barredDelete twoGsa twoKd gsaWithoutKd kdWithoutGsa neither
             severalRekeyPolicies severalGroupWide severalMemberBags gsaWithoutSaPolicy keyLengthTwice initialMessageIdTwice delayTwice
             otherDestination lifetimeTwice number4OfFrame
         renew-4 d = record { ofFrame = rw d refl; ofMember = refl }
 
         renew-5 : (lent : List ℕ) → None (number5 lent f)
-        unfolding one any gather ahPolicy ahBag otherTransforms deleteOfOther deleteOfNone lentKeySize number5OfFrame
+        unfolding one any flatMap ahPolicy ahBag otherTransforms deleteOfOther deleteOfNone lentKeySize number5OfFrame
         renew-5 lent = record { ofFrame = rw (transforms-fit r now 0 [] []) refl; ofMember = refl }
 
         renew-6 : (r .spis ≡ r .spi → ⊥) → None (number6 member now f)
-        unfolding one any count gather policyUnpaired bagUnpaired policyTwice bagTwice alreadyInTable otherSaKeyCount saKeyCount saKeyId
+        unfolding one any count flatMap policyUnpaired bagUnpaired policyTwice bagTwice alreadyInTable otherSaKeyCount saKeyCount saKeyId
             espKwkId wrapKeyId wrapsItself freshKeyId freshWrapsItself number6OfFrame number6OfMember
         renew-6 another =
             record {
@@ -136,7 +135,7 @@ module _ (r : Around) (z : List ℕ) (sixteen : length (r .spis) ≡ 16) where
             }
 
         renew-7 : None (number7 limits member now f)
-        unfolding one any count gather manyEspPolicies manyWrapKeys manySaKeys manyDeletedSpis longLifetime manyFreshKeys manySas
+        unfolding one any count flatMap manyEspPolicies manyWrapKeys manySaKeys manyDeletedSpis longLifetime manyFreshKeys manySas
             number7OfFrame number7OfMember
         renew-7 =
             record {
@@ -195,7 +194,7 @@ module _ (r : Around) (now : ℕ) (lent z x v₂ v₅ v₁₁ v₁₅ v₁₆ w�
   top = record { copies = copies; need = 36 }
 
   roots-are : rootsOf limits s now lent g ≡ R
-  unfolding gather any keep heldOf
+  unfolding flatMap any keep heldOf
   roots-are =
       own-roots limits s now g refl lent
       ∙ (λ i.
@@ -206,26 +205,26 @@ module _ (r : Around) (now : ℕ) (lent z x v₂ v₅ v₁₁ v₁₅ v₁₆ w�
   size-is = own-size limits s now g refl lent
 
   entries-are : entriesOf g ≡ l
-  unfolding gather
+  unfolding flatMap
   entries-are = refl
 
   sa-is : announcedAs g (rekeyPolicy r) ≡ top
-  unfolding gather copiesOf keep needOf encryptionOctets keyWrapOctets sum neededBy neededIn isRowOf
+  unfolding flatMap copiesOf keep needOf encryptionOctets keyWrapOctets sum neededBy neededIn isRowOf
   sa-is = rw (eq-same (r .spi) (r .spi) refl)
 
   copies-are : rekeyCopies g ≡ copies
-  unfolding rekeyCopies gather copiesOf keep
+  unfolding rekeyCopies flatMap copiesOf keep
   copies-are = rw (eq-same (r .spi) (r .spi) refl)
 
   keys-are : announcedKeys g ≡ top ∷ []
-  unfolding announcedKeys gather
+  unfolding announcedKeys flatMap
   keys-are = ap (λ (a : Announced). a ∷ []) sa-is
 
-  eight-is : KeyConflictOf limits s now lent g ≡ KeyConflict R l size (top ∷ [])
-  eight-is = λ i. KeyConflict (roots-are i) (entries-are i) (size-is i) (keys-are i)
+  conflict-is : KeyConflictOf limits s now lent g ≡ KeyConflict R l size (top ∷ [])
+  conflict-is = λ i. KeyConflict (roots-are i) (entries-are i) (size-is i) (keys-are i)
 
-  nine-is : KeyMissingOf limits s now lent g ≡ KeyMissing R l size (top ∷ [])
-  nine-is = λ i. KeyMissing (roots-are i) (entries-are i) (size-is i) (keys-are i)
+  missing-is : KeyMissingOf limits s now lent g ≡ KeyMissing R l size (top ∷ [])
+  missing-is = λ i. KeyMissing (roots-are i) (entries-are i) (size-is i) (keys-are i)
 
   key-is : KeyOf R l size top x
       ≡ KeyOf (rootsOf limits s now lent g) (entriesOf g) (wrappingSize limits s now lent g) (announcedAs g (rekeyPolicy r)) x
@@ -252,13 +251,13 @@ module _ (r : Around) (now : ℕ) (lent z x v₂ v₅ v₁₁ v₁₅ v₁₆ w�
   next = renewed r now z x after
 
   held-set : HeldAfterwards limits s now lent g (next .held)
-  unfolding any gather
+  unfolding any flatMap
   held-set =
       subst (λ (A : Type 0). A)
       (sym (λ i. HoldsPath (roots-are i) (entries-are i) (size-is i) limits (copies-are i) (s .held) (next .held))) holds
 
   after-renewed : After limits s now lent g next
-  unfolding gather tableOf keep oldSas insertAll saFrom lifetimeFrom leastAfterwards initialMessageId any delayOf namedInDelete replaced
+  unfolding flatMap tableOf keep oldSas insertAll saFrom lifetimeFrom leastAfterwards initialMessageId any delayOf namedInDelete replaced
       retiredIf retired due rekeySa encryptionOctets keyWrapOctets sum neededBy neededIn isRowOf
   after-renewed = record {
     new = saFrom now (rekeyPolicy r) x ∷ [];
@@ -273,7 +272,7 @@ module _ (r : Around) (now : ℕ) (lent z x v₂ v₅ v₁₁ v₁₅ v₁₆ w�
   }
 
   no-over : OverHeldOf limits s now lent g → ⊥
-  unfolding heldOf any gather
+  unfolding heldOf any flatMap
   no-over o =
       room-for-both R l size limits copies true (s .held)
       (anew-fit own v₂ v₅ v₁₁ v₁₅ v₁₆ w₁ w₆ x k₁₁ (fit₁₅ .key) (fit₁₆ .key) size (fits v₁₅ fit₁₅) (fits v₁₆ fit₁₆) (c .small) (c .size))
@@ -291,10 +290,10 @@ module _ (r : Around) (now : ℕ) (lent z x v₂ v₅ v₁₁ v₁₅ v₁₆ w�
     no-7 = renew-7 r z (c .spi) v₂ v₅ v₁₁ k₂ k₅ k₁₁ now copies l refl (omega arith) refl refl refl (omega arith);
     no-8 = λ h.
         anew-8 own v₂ v₅ v₁₁ v₁₅ v₁₆ w₁ w₆ x k₁₁ (fit₁₅ .key) (fit₁₆ .key) size (fits v₁₅ fit₁₅) (fits v₁₆ fit₁₆) (c .small) (c .size)
-        (subst (λ (A : Type 0). A) eight-is h);
+        (subst (λ (A : Type 0). A) conflict-is h);
     no-9 = λ h.
         anew-9 own v₂ v₅ v₁₁ v₁₅ v₁₆ w₁ w₆ x k₁₁ (fit₁₅ .key) (fit₁₆ .key) size (fits v₁₅ fit₁₅) (fits v₁₆ fit₁₆) (c .small) (c .size)
-        (subst (λ (A : Type 0). A) nine-is h);
+        (subst (λ (A : Type 0). A) missing-is h);
     no-over = no-over;
   }
 

@@ -3,7 +3,7 @@ use native.Mathlib.Omega.{arith}
 use Prim.Native.Nat.{ℕ, _≤_}
 use mathlib.Core.Path.{_≡_, refl, ap, sym, subst, _∙_}
 use mathlib.Core.Bool.{false}
-use mathlib.Core.List.{List, [], _∷_, _++_, append-nil}
+use mathlib.Core.List.{List, [], _∷_, _++_, append-nil, flatMap}
 use borrow.Author.Tests.{eq-eqb}
 use lib.Dec.{eqb}
 use lib.ListN.{length}
@@ -11,9 +11,9 @@ use Rattle.octets.proofs.Order.{eq-same}
 use Rattle.fips197.specs.Key.{Key}
 use Rattle.rfc5649.specs.Wrap.{wrapOf}
 use Rattle.state_keys.specs.Limits.{limits}
-use Rattle.state_keys.specs.Lists.{any, keep, insert}
+use Rattle.lists.specs.Lists.{any, keep, insert}
 use Rattle.state_keys.specs.Algorithms.{isRowOf, neededIn, neededBy}
-use Rattle.state_keys.proofs.Cases.{never}
+use Rattle.lists.proofs.Cases.{never}
 use Rattle.wire_attributes.specs.Tree.{WrapKey}
 use Rattle.wire_frames.specs.Frame.{Frame}
 use Rattle.wire_frames.specs.Grammar.{IsFrame}
@@ -21,7 +21,6 @@ use Rattle.wire_frames.specs.declared.exchanges.Exchange.{Exchange}
 use Rattle.state_table.specs.Table.{tableOf}
 use Rattle.state.specs.Held.{heldOf}
 use Rattle.state.specs.State.{newState}
-use Rattle.rules_refusals.specs.Contents.{gather}
 use Rattle.rules_refusals.specs.Number6.{underItself}
 use Rattle.rules_refusals.specs.Fitness.{sum, encryptionOctets, keyWrapOctets}
 use Rattle.rules_chains.specs.Chain.{In, Root}
@@ -39,7 +38,7 @@ use Rattle.rules_outcome.proofs.RunsClear.{Clear}
 use Rattle.rules_outcome.proofs.Room.{room-in-registration}
 use Rattle.rules_outcome.proofs.SamplesAnswers.{outcome-0, outcome-8}
 use Rattle.rules_outcome.proofs.SamplesFrame.{row-of, fresh-2, fresh-3, fresh-4, fresh-5, fresh-6, fresh-7}
-use Rattle.rules_outcome.proofs.SamplesChains.{key-size, zeroRoot, oneCopy, copy-opens, no-eight, no-nine, at-zero, ends-zero}
+use Rattle.rules_outcome.proofs.SamplesChains.{key-size, zeroRoot, oneCopy, copy-opens, no-conflict, no-missing, at-zero, ends-zero}
 
 -- ---- what chains go by in that frame
 module _ (r : Around) (now : ℕ) (lent w : List ℕ) (l : List WrapKey) where
@@ -51,7 +50,7 @@ module _ (r : Around) (now : ℕ) (lent w : List ℕ) (l : List WrapKey) where
   roots-are = rw (row-of (r .auth))
 
   entries-are : entriesOf f ≡ l
-  unfolding gather
+  unfolding flatMap
   entries-are = append-nil (l ++ []) ∙ append-nil l
 
   size-is : wrappingSize limits (newState limits (r .profile)) now lent f ≡ length lent
@@ -59,11 +58,11 @@ module _ (r : Around) (now : ℕ) (lent w : List ℕ) (l : List WrapKey) where
   size-is = rw (row-of (r .auth))
 
   sa-is : announcedAs f (espPolicy r) ≡ oneCopy 0 20 w
-  unfolding gather copiesOf keep needOf encryptionOctets keyWrapOctets sum neededBy neededIn isRowOf
+  unfolding flatMap copiesOf keep needOf encryptionOctets keyWrapOctets sum neededBy neededIn isRowOf
   sa-is = rw (eq-same (r .spi) (r .spi) refl)
 
   keys-are : announcedKeys f ≡ oneCopy 0 20 w ∷ []
-  unfolding announcedKeys gather
+  unfolding announcedKeys flatMap
   keys-are = ap (λ (a : Announced). a ∷ []) sa-is
 
 module _ (r : Around) (now : ℕ) (lent x octets : List ℕ) (l : List WrapKey) (key : Key lent) (keying : Keying x)
@@ -84,12 +83,12 @@ module _ (r : Around) (now : ℕ) (lent x octets : List ℕ) (l : List WrapKey) 
       never (eqb (e .keyId) 0) (eq-eqb (e .keyId) 0 i)
       (none-passes (λ (k : WrapKey). eqb (k .keyId) 0) l no-zero e (in-member e l m))
 
-  eight-is : KeyConflictOf limits (newState limits (r .profile)) now lent g ≡ KeyConflict R l (length lent) (oneCopy 0 20 w ∷ [])
-  eight-is = λ i. KeyConflict (roots-are r now lent w l i) (entries-are r now lent w l i) (size-is r now lent w l i)
+  conflict-is : KeyConflictOf limits (newState limits (r .profile)) now lent g ≡ KeyConflict R l (length lent) (oneCopy 0 20 w ∷ [])
+  conflict-is = λ i. KeyConflict (roots-are r now lent w l i) (entries-are r now lent w l i) (size-is r now lent w l i)
       (keys-are r now lent w l i)
 
-  nine-is : KeyMissingOf limits (newState limits (r .profile)) now lent g ≡ KeyMissing R l (length lent) (oneCopy 0 20 w ∷ [])
-  nine-is = λ i. KeyMissing (roots-are r now lent w l i) (entries-are r now lent w l i) (size-is r now lent w l i)
+  missing-is : KeyMissingOf limits (newState limits (r .profile)) now lent g ≡ KeyMissing R l (length lent) (oneCopy 0 20 w ∷ [])
+  missing-is = λ i. KeyMissing (roots-are r now lent w l i) (entries-are r now lent w l i) (size-is r now lent w l i)
       (keys-are r now lent w l i)
 
   key-is : KeyOf R l (length lent) (oneCopy 0 20 w) x ≡ KeyOf (rootsOf limits (newState limits (r .profile)) now lent g) (entriesOf g)
@@ -113,7 +112,7 @@ module _ (r : Around) (now : ℕ) (lent x octets : List ℕ) (l : List WrapKey) 
   registers-8 h =
       outcome-8 limits (newState limits (r .profile)) now lent octets g reads (fresh-2 r now w l) (fresh-3 r now w l) (fresh-4 r now w l)
       (fresh-5 r now w l lent (key-size (length lent) (key .size))) (fresh-6 r now w l no-zero no-self) (fresh-7 r now w l few)
-      (subst (λ (A : Type 0). A) (sym eight-is) (of-entries h))
+      (subst (λ (A : Type 0). A) (sym conflict-is) (of-entries h))
 
   module _ (none : EntriesConflict R l (length lent) → ⊥) where
     clear-registers : Clear limits (newState limits (r .profile)) now lent g
@@ -125,22 +124,24 @@ module _ (r : Around) (now : ℕ) (lent x octets : List ℕ) (l : List WrapKey) 
       no-6 = fresh-6 r now w l no-zero no-self;
       no-7 = fresh-7 r now w l few;
       no-8 = λ h.
-          no-eight R l (length lent) 0 20 lent x key (keying .octets) (keying .size) (omega arith) (omega arith) (ends-zero lent l not-zero)
-          (at-zero lent l not-zero) none (subst (λ (A : Type 0). A) eight-is h);
+          no-conflict R l (length lent) 0 20 lent x key (keying .octets) (keying .size) (omega arith) (omega arith)
+          (ends-zero lent l not-zero)
+          (at-zero lent l not-zero) none (subst (λ (A : Type 0). A) conflict-is h);
       no-9 = λ h.
-          no-nine R l (length lent) 0 20 lent x key (keying .octets) (keying .size) (omega arith) (omega arith) (ends-zero lent l not-zero)
-          (at-zero lent l not-zero) (subst (λ (A : Type 0). A) nine-is h);
+          no-missing R l (length lent) 0 20 lent x key (keying .octets) (keying .size) (omega arith) (omega arith)
+          (ends-zero lent l not-zero)
+          (at-zero lent l not-zero) (subst (λ (A : Type 0). A) missing-is h);
       no-over = never-over none;
     }
 
     -- no Rekey SA: the list that the frame finds
     held-set : HeldAfterwards limits (newState limits (r .profile)) now lent g (heldOf limits [])
-    unfolding any gather
+    unfolding any flatMap
     held-set = subst (λ (e : Exchange). heldOf limits [] ≡ heldBefore limits (e .registers) (newState limits (r .profile) .held))
         (sym (row-of (r .auth))) refl
 
     after-registers : After limits (newState limits (r .profile)) now lent g (registered r x)
-    unfolding gather newState tableOf keep oldSas insertAll insert saFrom lifetimeFrom leastAfterwards any
+    unfolding flatMap newState tableOf keep oldSas insertAll insert saFrom lifetimeFrom leastAfterwards any
     after-registers = record {
       new = saFrom now (espPolicy r) x ∷ [];
       enter =

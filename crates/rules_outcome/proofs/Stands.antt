@@ -14,7 +14,7 @@ use Rattle.rules_refusals.specs.Contents.{policiesOf, bagsOf, deletesOf, announ
 use Rattle.rules_refusals.specs.Contents.{groupBags, memberBags, wrapKeysOf, freshKeysOf, deletedSpis}
 use Rattle.rules_chains.specs.Chain.{In}
 use Rattle.rules_outcome.specs.Stands.{HasPolicy, HasBag, HasWrapKey, HasFreshKey, HasSpi}
-use Rattle.rules_outcome.proofs.Members.{in-head, in-cases, not-in-none, in-gather, gather-in}
+use Rattle.rules_outcome.proofs.Members.{in-head, in-cases, not-in-none, in-flatMap, flatMap-in}
 
 one-of : {A : Type 0} (a b : A) → In a (b ∷ []) → a ≡ b
 one-of a b i = ⊎-elim (λ e. e) (λ n. absurd (not-in-none a n)) (in-cases a b [] i)
@@ -58,76 +58,76 @@ is-member (memberKeys c) b i = ap memberKeys (sym (one-of b c i))
 module _ (f : Frame) where
   has-policy : (x : Policy) → In x (policiesOf f) → HasPolicy f x
   has-policy x i =
-      let q = in-gather (λ (p : Payload). policiesOfContent (p .content)) x (f .payloads) i in
+      let q = in-flatMap (λ (p : Payload). policiesOfContent (p .content)) x (f .payloads) i in
       let r = in-gsa (q .item .content) x (q .is) in
       record { payload = q .item; stands = q .stands; policies = r .0; is-gsa = r .1; policy = r .2 }
 
   policy-has : (x : Policy) → HasPolicy f x → In x (policiesOf f)
   policy-has x h =
-      gather-in (λ (p : Payload). policiesOfContent (p .content)) x (f .payloads) (h .payload) (h .stands)
+      flatMap-in (λ (p : Payload). policiesOfContent (p .content)) x (f .payloads) (h .payload) (h .stands)
       (subst (λ (c : Content). In x (policiesOfContent c)) (sym (h .is-gsa)) (h .policy))
 
   has-bag : (x : Bag) → In x (bagsOf f) → HasBag f x
   has-bag x i =
-      let q = in-gather (λ (p : Payload). bagsOfContent (p .content)) x (f .payloads) i in
+      let q = in-flatMap (λ (p : Payload). bagsOfContent (p .content)) x (f .payloads) i in
       let r = in-kd (q .item .content) x (q .is) in
       record { payload = q .item; stands = q .stands; bags = r .0; is-kd = r .1; bag = r .2 }
 
   bag-has : (x : Bag) → HasBag f x → In x (bagsOf f)
   bag-has x h =
-      gather-in (λ (p : Payload). bagsOfContent (p .content)) x (f .payloads) (h .payload) (h .stands)
+      flatMap-in (λ (p : Payload). bagsOfContent (p .content)) x (f .payloads) (h .payload) (h .stands)
       (subst (λ (c : Content). In x (bagsOfContent c)) (sym (h .is-kd)) (h .bag))
 
   -- "The SAs a frame announces are those of its Group SA policies."
   pub announced-are : (p : GroupSaPolicy) → In p (announced f) ↔ HasPolicy f (groupSa p)
   announced-are p = (
-    λ i. let q = in-gather groupSaIn p (policiesOf f) i in subst (HasPolicy f) (is-sa (q .item) p (q .is))
+    λ i. let q = in-flatMap groupSaIn p (policiesOf f) i in subst (HasPolicy f) (is-sa (q .item) p (q .is))
         (has-policy (q .item) (q .stands)),
-    λ h. gather-in groupSaIn p (policiesOf f) (groupSa p) (policy-has (groupSa p) h) (in-head p p [] refl),
+    λ h. flatMap-in groupSaIn p (policiesOf f) (groupSa p) (policy-has (groupSa p) h) (in-head p p [] refl),
   )
 
   pub wides-are : (w : GroupWidePolicy) → In w (groupWides f) ↔ HasPolicy f (groupWide w)
   wides-are w = (
-    λ i. let q = in-gather wideOf w (policiesOf f) i in subst (HasPolicy f) (is-wide (q .item) w (q .is))
+    λ i. let q = in-flatMap wideOf w (policiesOf f) i in subst (HasPolicy f) (is-wide (q .item) w (q .is))
         (has-policy (q .item) (q .stands)),
-    λ h. gather-in wideOf w (policiesOf f) (groupWide w) (policy-has (groupWide w) h) (in-head w w [] refl),
+    λ h. flatMap-in wideOf w (policiesOf f) (groupWide w) (policy-has (groupWide w) h) (in-head w w [] refl),
   )
 
   pub group-bags-are : (b : GroupKeyBag) → In b (groupBags f) ↔ HasBag f (groupKeys b)
   group-bags-are b = (
-    λ i. let q = in-gather groupBagOf b (bagsOf f) i in subst (HasBag f) (is-group (q .item) b (q .is)) (has-bag (q .item) (q .stands)),
-    λ h. gather-in groupBagOf b (bagsOf f) (groupKeys b) (bag-has (groupKeys b) h) (in-head b b [] refl),
+    λ i. let q = in-flatMap groupBagOf b (bagsOf f) i in subst (HasBag f) (is-group (q .item) b (q .is)) (has-bag (q .item) (q .stands)),
+    λ h. flatMap-in groupBagOf b (bagsOf f) (groupKeys b) (bag-has (groupKeys b) h) (in-head b b [] refl),
   )
 
   pub member-bags-are : (b : MemberKeyBag) → In b (memberBags f) ↔ HasBag f (memberKeys b)
   member-bags-are b = (
-    λ i. let q = in-gather memberBagOf b (bagsOf f) i in subst (HasBag f) (is-member (q .item) b (q .is)) (has-bag (q .item) (q .stands)),
-    λ h. gather-in memberBagOf b (bagsOf f) (memberKeys b) (bag-has (memberKeys b) h) (in-head b b [] refl),
+    λ i. let q = in-flatMap memberBagOf b (bagsOf f) i in subst (HasBag f) (is-member (q .item) b (q .is)) (has-bag (q .item) (q .stands)),
+    λ h. flatMap-in memberBagOf b (bagsOf f) (memberKeys b) (bag-has (memberKeys b) h) (in-head b b [] refl),
   )
 
   -- "by WRAP_KEY entries", "wherever the entries stand in the frame"
   pub entries-are : (e : WrapKey) → In e (wrapKeysOf f) ↔ HasWrapKey f e
   entries-are e = (
     λ i.
-        let q = in-gather (λ (b : MemberKeyBag). b .keys) e (memberBags f) i in
+        let q = in-flatMap (λ (b : MemberKeyBag). b .keys) e (memberBags f) i in
         record { bag = q .item; stands = member-bags-are (q .item) .0 (q .stands); entry = q .is },
-    λ h. gather-in (λ (b : MemberKeyBag). b .keys) e (memberBags f) (h .bag) (member-bags-are (h .bag) .1 (h .stands)) (h .entry),
+    λ h. flatMap-in (λ (b : MemberKeyBag). b .keys) e (memberBags f) (h .bag) (member-bags-are (h .bag) .1 (h .stands)) (h .entry),
   )
 
   -- "each ESP SPI named in D"
   pub fresh-are : (e : WrapKey) → In e (freshKeysOf f) ↔ HasFreshKey f e
   fresh-are e = (
     λ i.
-        let q = in-gather (λ (b : GroupKeyBag). b .fresh) e (groupBags f) i in
+        let q = in-flatMap (λ (b : GroupKeyBag). b .fresh) e (groupBags f) i in
         record { bag = q .item; stands = group-bags-are (q .item) .0 (q .stands); entry = q .is },
-    λ h. gather-in (λ (b : GroupKeyBag). b .fresh) e (groupBags f) (h .bag) (group-bags-are (h .bag) .1 (h .stands)) (h .entry),
+    λ h. flatMap-in (λ (b : GroupKeyBag). b .fresh) e (groupBags f) (h .bag) (group-bags-are (h .bag) .1 (h .stands)) (h .entry),
   )
 
   pub deleted-are : (x : List ℕ) → In x (deletedSpis f) ↔ HasSpi f x
   deleted-are x = (
     λ i.
-        let q = in-gather (λ (d : Delete). d .spis) x (deletesOf f) i in
-        let r = in-gather (λ (p : Payload). deletesOfContent (p .content)) (q .item) (f .payloads) (q .stands) in
+        let q = in-flatMap (λ (d : Delete). d .spis) x (deletesOf f) i in
+        let r = in-flatMap (λ (p : Payload). deletesOfContent (p .content)) (q .item) (f .payloads) (q .stands) in
         record {
           payload = r .item;
           stands = r .stands;
@@ -137,8 +137,8 @@ module _ (f : Frame) where
         },
     λ h.
         let d = h .deletes in
-        gather-in (λ (y : Delete). y .spis) x (deletesOf f) d
-        (gather-in (λ (p : Payload). deletesOfContent (p .content)) d (f .payloads) (h .payload) (h .stands)
+        flatMap-in (λ (y : Delete). y .spis) x (deletesOf f) d
+        (flatMap-in (λ (p : Payload). deletesOfContent (p .content)) d (f .payloads) (h .payload) (h .stands)
         (subst (λ (c : Content). In d (deletesOfContent c)) (sym (h .is-delete)) (in-head d d [] refl)))
         (h .spi),
   )

@@ -8,18 +8,19 @@ use borrow.Author.Tests.{le-leb, leb-true, le-ltb, ltb-false}
 use lib.Dec.{leb, ltb}
 use lib.ListN.{length, length-take}
 use Rattle.state_keys.specs.Limits.{Limits, limits, limitsBeforeT01}
-use Rattle.state_keys.specs.Lists.{all, any, count, rising}
+use Rattle.lists.specs.Lists.{all, any, count, rising}
 use Rattle.state_keys.specs.Kinds.{valueOf}
 use Rattle.state_keys.specs.declared.kinds.MadeWrapping.{MadeWrapping}
-use Rattle.state_keys.proofs.Rising.{length-keep}
-use Rattle.state_keys.proofs.Cases.{bool-cases, and-parts}
+use Rattle.lists.proofs.Rising.{length-keep}
+use Rattle.lists.proofs.Cases.{bool-cases, and-parts, or-none}
 use Rattle.wire_bags.specs.Bag.{GroupKeyBag}
 use Rattle.wire_frames.specs.Frame.{Frame}
 use Rattle.wire_frames.specs.Grammar.{IsFrame}
 use Rattle.state_sa.specs.Entry.{saFormed, saBefore, liveRekey, due}
 use Rattle.state_sa.specs.declared.entry.Sa.{Sa}
 use Rattle.state_table.specs.declared.Table.{Table}
-use Rattle.state_table.specs.Table.{sasOf, tableOf, tableFormed, swept, notDue, stays, emptyAt, foundRekey, keyOfFound, defaultKey, theOne}
+use Rattle.state_table.specs.Table.{sasOf, tableOf, tableFormed, swept, notDue, stays, emptyAt, foundRekey, keyWrapPartOf, defaultKey}
+use Rattle.state_table.specs.Table.{theOne}
 use Rattle.state_table.proofs.Kept.{sas-of-table, formed-count}
 use Rattle.state_table.proofs.Laws.{changed-in, found-in}
 use Rattle.state.specs.declared.State.{State}
@@ -32,13 +33,12 @@ use Rattle.state.specs.State.{stateFormed}
 use Rattle.state.proofs.Kept.{keys-of-held}
 use Rattle.rules_refusals.specs.Contents.{rowOf, announced, groupBags, wrapKeysOf, freshKeysOf, deletedSpis}
 use Rattle.rules_refusals.specs.Fitness.{isEsp}
-use Rattle.rules_refusals.specs.Number2.{notDueSas, nonEmptyMember, otherSpis}
+use Rattle.rules_refusals.specs.Number2.{notDueSas, unwantedMember, otherSpis}
 use Rattle.rules_refusals.specs.Number3.{notAcceptable}
 use Rattle.rules_refusals.specs.Number6.{alreadyInTable, number6OfMember}
 use Rattle.rules_refusals.specs.Number7.{manyEspPolicies, manyWrapKeys, manySaKeys, manyDeletedSpis, longLifetime, manySas}
 use Rattle.rules_refusals.specs.Number7.{manyFreshKeys, number7OfFrame, number7OfMember}
 use Rattle.rules_refusals.specs.Refusals.{one, applies, number2, number3, number6, number7}
-use Rattle.rules_refusals.proofs.Clear.{or-none}
 use Rattle.rules_chains.specs.Chain.{Root}
 use Rattle.rules_outcome.specs.Roots.{ownKey, keyZeroBy, keyZeroValue, heldRoot, notCarried, rootsOf, entriesOf, wrappingSize}
 use Rattle.rules_outcome.specs.Answer.{KeyConflictOf, KeyMissingOf, conditions, FrameAnswers}
@@ -99,19 +99,19 @@ module _ (a b : Limits) (w : Wider a b) (s t : State) (i : Within a s) (m : Same
 
     -- the default key of the table as it stands
     made : (limits : Limits) (u : Table) → u .count ≤ limits .sas →
-        defaultKey limits (swept limits now u) ≡ keyOfFound (theOne liveRekey (notDue now (sasOf u)))
+        defaultKey limits (swept limits now u) ≡ keyWrapPartOf (theOne liveRekey (notDue now (sasOf u)))
     unfolding defaultKey foundRekey swept tableOf
     made limits u h =
         let l = notDue now (sasOf u) in
         let n = length-keep (stays now) (sasOf u) in
         let k = length-take (u .count) (u .sas) in
-        ap (λ (x : Table). keyOfFound (foundRekey limits x)) (changed-in limits u (notDue now) h)
-        ∙ ap keyOfFound (found-in limits liveRekey (tableOf limits l) (omega arith) ∙ ap (theOne liveRekey) (sas-of-table limits l))
+        ap (λ (x : Table). keyWrapPartOf (foundRekey limits x)) (changed-in limits u (notDue now) h)
+        ∙ ap keyWrapPartOf (found-in limits liveRekey (tableOf limits l) (omega arith) ∙ ap (theOne liveRekey) (sas-of-table limits l))
 
     own : ownKey a s now ≡ ownKey b t now
     own =
         ap (λ (k : MadeWrapping). valueOf (k .key))
-        (made a (s .table) sas-a ∙ ap (λ (l : List Sa). keyOfFound (theOne liveRekey l)) stand ∙ sym (made b (t .table) sas-b))
+        (made a (s .table) sas-a ∙ ap (λ (l : List Sa). keyWrapPartOf (theOne liveRekey l)) stand ∙ sym (made b (t .table) sas-b))
 
     module _ (lent : List ℕ) (f : Frame) where
       -- ---- chains go by the same keys
@@ -132,27 +132,27 @@ module _ (a b : Limits) (w : Wider a b) (s t : State) (i : Within a s) (m : Same
       -- ---- numbers 2, 3, 6, 8 and 9 say the same; 7 that does not hold does not hold under the wider limits
       two-same : applies (number2 a s now (f .header .exchange) (f .header .spi))
           ≡ applies (number2 b t now (f .header .exchange) (f .header .spi))
-      unfolding one nonEmptyMember otherSpis
+      unfolding one unwantedMember otherSpis
       two-same = rw (empty, stand, state-formed)
 
-      three-same : applies (number3 s (f .header .exchange) (f .header .messageId))
+      number3-same : applies (number3 s (f .header .exchange) (f .header .messageId))
           ≡ applies (number3 t (f .header .exchange) (f .header .messageId))
       unfolding one notAcceptable
-      three-same = rw (m .least)
+      number3-same = rw (m .least)
 
-      six-same : applies (number6 s now f) ≡ applies (number6 t now f)
+      number6-same : applies (number6 s now f) ≡ applies (number6 t now f)
       unfolding one number6OfMember alreadyInTable
-      six-same = rw stand
+      number6-same = rw stand
 
-      eight-same : KeyConflictOf a s now lent f ≡ KeyConflictOf b t now lent f
-      eight-same = rw (roots, size)
+      conflict-same : KeyConflictOf a s now lent f ≡ KeyConflictOf b t now lent f
+      conflict-same = rw (roots, size)
 
-      nine-same : KeyMissingOf a s now lent f ≡ KeyMissingOf b t now lent f
-      nine-same = rw (roots, size)
+      missing-same : KeyMissingOf a s now lent f ≡ KeyMissingOf b t now lent f
+      missing-same = rw (roots, size)
 
-      seven-less : applies (number7 a s now f) ≡ false → applies (number7 b t now f) ≡ false
+      number7-less : applies (number7 a s now f) ≡ false → applies (number7 b t now f) ≡ false
       unfolding one number7OfFrame number7OfMember manyEspPolicies manyWrapKeys manySaKeys manyDeletedSpis manyFreshKeys manySas
-      seven-less e =
+      number7-less e =
           let p = or-none (one (number7OfFrame a f)) (one (number7OfMember a s now f)) e in
           let e1 = or-none (manyEspPolicies a f) _ (p .0) in
           let e2 = or-none (manyWrapKeys a f) _ (e1 .1) in
@@ -172,9 +172,9 @@ module _ (a b : Limits) (w : Wider a b) (s t : State) (i : Within a s) (m : Same
                 (ap (λ (l : List Sa). ltb (a .sas) (length l + length (announced f))) (sym stand) ∙ e5 .0),
           )
 
-      seven-none : (applies (number7 a s now f) ≡ true → ⊥) → applies (number7 b t now f) ≡ true → ⊥
-      seven-none never h =
-          bool-cases (applies (number7 a s now f)) (λ g. absurd (never g)) (λ g. absurd (false≢true (sym (seven-less g) ∙ h)))
+      number7-none : (applies (number7 a s now f) ≡ true → ⊥) → applies (number7 b t now f) ≡ true → ⊥
+      number7-none never h =
+          bool-cases (applies (number7 a s now f)) (λ g. absurd (never g)) (λ g. absurd (false≢true (sym (number7-less g) ∙ h)))
 
       -- the list that the frame would leave has the same keys
       same-found : SameKeys a b (rootsOf a s now lent f) (entriesOf f) (wrappingSize a s now lent f) (rekeyCopies f)
@@ -208,13 +208,13 @@ module _ (a b : Limits) (w : Wider a b) (s t : State) (i : Within a s) (m : Same
       conditions-follow : Follow 7 (conditions a s now lent f) (conditions b t now lent f)
       conditions-follow =
           more (alike 7 2 (ap (λ (x : Bool). x ≡ true) two-same))
-          (more (alike 7 3 (ap (λ (x : Bool). x ≡ true) three-same))
+          (more (alike 7 3 (ap (λ (x : Bool). x ≡ true) number3-same))
           (more (alike 7 4 refl)
           (more (alike 7 5 refl)
-          (more (alike 7 6 (ap (λ (x : Bool). x ≡ true) six-same))
-          (more (record { number = refl; holds = λ q h. absurd (q refl); fails = seven-none })
-          (more (alike 7 8 eight-same)
-          (more (alike 7 9 nine-same)
+          (more (alike 7 6 (ap (λ (x : Bool). x ≡ true) number6-same))
+          (more (record { number = refl; holds = λ q h. absurd (q refl); fails = number7-none })
+          (more (alike 7 8 conflict-same)
+          (more (alike 7 9 missing-same)
           (more (record { number = refl; holds = λ q h. absurd (q refl); fails = over-none })
           none))))))))
 

@@ -23,7 +23,7 @@ use Rattle.rules_outcome.specs.NamedKey.{Registration}
 use Rattle.rules_outcome.specs.Outcome.{Outcome}
 use Rattle.rules_outcome.specs.Meets.{Meets, lowest}
 use Rattle.rules_outcome.specs.WrapsItself.{WrapsItself}
-use Rattle.rules_outcome.proofs.Members.{gather-in, not-in-none}
+use Rattle.rules_outcome.proofs.Members.{flatMap-in, not-in-none}
 use Rattle.rules_outcome.proofs.Bags.{entry-own}
 use Rattle.rules_outcome.proofs.Meets.{meets-6, is-refused, accepted-is}
 use Rattle.rules_outcome.proofs.Determined.{outcome-one}
@@ -34,7 +34,7 @@ use Rattle.rules_outcome.proofs.Demands.{passes-2-and-4}
 module _ (f : Frame) where
   stands : (w : WrapsItself f) → In (w .entry) (wrapKeysOf f)
   stands w =
-      let m = w .stands in gather-in (λ (b : MemberKeyBag). b .keys) (w .entry) (memberBags f) (m .bag) (m .stands) (m .entry)
+      let m = w .stands in flatMap-in (λ (b : MemberKeyBag). b .keys) (w .entry) (memberBags f) (m .bag) (m .stands) (m .entry)
 
   clause : WrapsItself f → wrapsItself f ≡ true
   unfolding wrapsItself
@@ -63,18 +63,18 @@ module _ (limits : Limits) (s : State) (now : ℕ) (lent octets : List ℕ) (f :
   Met n = Meets limits s now lent octets n
 
   -- "Any such WRAP_KEY, reached or not, now gives number 6": its condition is met, whatever the member, the lent key and the tick are
-  pub meets-six : Met 6
+  pub meets-number6 : Met 6
   unfolding number6OfFrame
-  meets-six =
+  meets-number6 =
       meets-6 limits s now lent octets f e
       (ap (λ (b : Bool). b || one (number6OfMember s now f)) (one-at 8 (number6OfFrame f) (clause f w)))
 
   -- so it is the answer where none lower is met, and the member stays
   module _ (low : (m : ℕ) → m < 6 → Met m → ⊥) where
-    pub answered-six : (n : ℕ) (next : State) → Outcome limits s now lent octets n next → (n ≡ 6) × (next ≡ s)
-    answered-six n next o =
+    pub answered-number6 : (n : ℕ) (next : State) → Outcome limits s now lent octets n next → (n ≡ 6) × (next ≡ s)
+    answered-number6 n next o =
         outcome-one limits s now lent octets n 6 next s o
-        (is-refused limits s now lent octets 5 s (lowest meets-six low refl))
+        (is-refused limits s now lent octets 5 s (lowest meets-number6 low refl))
 
     -- "in a registration": in any other exchange a lower one is
     pub in-a-registration : Registration f
@@ -90,4 +90,4 @@ module _ (limits : Limits) (s : State) (now : ℕ) (lent octets : List ℕ) (f :
 
   -- a frame that has one is never accepted
   pub never-accepted : (next : State) → Outcome limits s now lent octets 0 next → ⊥
-  never-accepted next o = accepted-is limits s now lent octets next o .none 6 meets-six
+  never-accepted next o = accepted-is limits s now lent octets next o .none 6 meets-number6

@@ -5,7 +5,7 @@ use mathlib.Core.Bool.{Bool, cond, _&&_, _||_}
 use mathlib.Core.List.{List, [], _∷_, map}
 use lib.Dec.{eqb}
 use Rattle.octets.specs.Compare.{same}
-use Rattle.state_keys.specs.Lists.{all, any, insert}
+use Rattle.lists.specs.Lists.{all, any, insert}
 use Rattle.state_keys.specs.Limits.{Limits}
 use Rattle.state_keys.specs.Kinds.{espOf, rekeyOf}
 use Rattle.wire_attributes.specs.Tree.{WrapKey}

@@ -7,7 +7,7 @@ use mathlib.Core.List.{List, [], _∷_, _++_}
 use lib.ListN.{length}
 use Rattle.rfc5649.specs.Opens as rfc5649
 use Rattle.ikev2_numbers.specs.Codes.{gsaRekey}
-use Rattle.state_keys.specs.Lists.{keep}
+use Rattle.lists.specs.Lists.{keep}
 use Rattle.state_keys.specs.Limits.{Limits}
 use Rattle.state_keys.specs.Kinds.{valueOf, wrappingOf}
 use Rattle.wire_policies.specs.Policy.{GroupSaPolicy}

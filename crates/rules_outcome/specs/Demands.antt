@@ -36,7 +36,7 @@ module _ (s : State) (now : ℕ) (lent octets : List ℕ) where
     pub one : (n m : ℕ) (next after : State) → Outcome limits s now lent octets n next → Outcome limits s now lent octets m after →
         (n ≡ m) × (next ≡ after)
 
-  pub record OneOfNine : Type 1 where
+  pub record OneOfTheNumbers : Type 1 where
     -- "one of the nine refusals in document 01"
     pub nine : (n : ℕ) (next : State) → Outcome limits s now lent octets n next → n ≤ 9
     -- "each exactly when its condition holds and no lower one does", lower being judged earlier, "and a refusal changes nothing in the
@@ -112,7 +112,7 @@ pub data Demand : Type 0 where
 
 abbrev pub Claims : Demand → Type 1
 Claims any-input = (s : State) (now : ℕ) (lent octets : List ℕ) → OneAnswer s now lent octets
-Claims refusals = (s : State) (now : ℕ) (lent octets : List ℕ) → OneOfNine s now lent octets
+Claims refusals = (s : State) (now : ℕ) (lent octets : List ℕ) → OneOfTheNumbers s now lent octets
 Claims reading = (s : State) (now : ℕ) (lent octets : List ℕ) (next : State) → Outcome limits s now lent octets 0 next →
     OneReading s now lent octets next
 Claims opening = (key wrapped room : List ℕ) → Key key → (a : WrapAnswer) (after : List ℕ) → OpenAnswers key wrapped room a after →

@@ -4,9 +4,9 @@
 use Prim.Native.Nat.{ℕ, _<_}
 use mathlib.Core.Path.{_≡_}
 use mathlib.Core.Bool.{Bool, true, false, cond, not}
-use mathlib.Core.List.{List, [], _∷_, _++_, map}
+use mathlib.Core.List.{List, [], _∷_, _++_, map, flatMap}
 use lib.Dec.{eqb}
-use Rattle.state_keys.specs.Lists.{any, keep}
+use Rattle.lists.specs.Lists.{any, keep}
 use Rattle.state_keys.specs.Limits.{Limits}
 use Rattle.state_keys.specs.Kinds.{wrappingOf}
 use Rattle.wire_attributes.specs.Tree.{SaKey, WrapKey}
@@ -15,7 +15,7 @@ use Rattle.state.specs.declared.State.{State}
 use Rattle.state.specs.declared.held.HeldKey.{HeldKey}
 use Rattle.state.specs.declared.held.Held.{Held}
 use Rattle.state.specs.Held.{keysOf, heldOf}
-use Rattle.rules_refusals.specs.Contents.{rowOf, gather, announced}
+use Rattle.rules_refusals.specs.Contents.{rowOf, announced}
 use Rattle.rules_refusals.specs.Fitness.{isRekey}
 use Rattle.rules_chains.specs.Chain.{Root}
 use Rattle.rules_chains.specs.Path.{KeyPath, Keys}
@@ -28,7 +28,7 @@ newRekey f = any isRekey (announced f)
 -- "the Rekey SA's SA_KEY" (document 02, T-04), "over all copies" (T-11): the copies of the key of a Rekey SA that the frame announces.
 -- Numbers 4 and 6 leave a registration one at most
 unfoldable pub rekeyCopies : Frame → List SaKey
-rekeyCopies f = gather (copiesOf f) (keep isRekey (announced f))
+rekeyCopies f = flatMap (copiesOf f) (keep isRekey (announced f))
 
 -- a key with its Key ID and value, as the list holds it
 abbrev pub heldFrom : Root → HeldKey

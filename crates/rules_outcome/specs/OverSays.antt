@@ -1,12 +1,12 @@
--- WHEN THE LAST 7 IS GIVEN, in the customer's words: "Over 128 then is 7, judged after 9" (document 02, T-11). The vocabulary of the theorem
--- `over-then-exactly` (proofs/OverSays.antt). No contract cites this file.
+-- WHEN THE LAST 7 IS GIVEN, in the customer's words: "Over 128 then is 7, judged after 9" (document 02, T-11). The vocabulary of the
+-- theorem `over-then-exactly` (proofs/OverSays.antt). No contract cites this file.
 use Prim.Native.Nat.{ℕ, _≤_, _<_}
 use mathlib.Core.Path.{_≡_}
 use mathlib.Core.Bool.{true, not}
 use mathlib.Core.List.{List, _∷_, _++_}
 use lib.ListN.{length}
 use Rattle.ikev2_numbers.specs.Codes.{gsaRekey}
-use Rattle.state_keys.specs.Lists.{keep}
+use Rattle.lists.specs.Lists.{keep}
 use Rattle.state_keys.specs.Limits.{Limits}
 use Rattle.wire_policies.specs.Policy.{GroupSaPolicy}
 use Rattle.wire_frames.specs.Frame.{Frame}

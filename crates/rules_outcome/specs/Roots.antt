@@ -2,7 +2,7 @@
 -- their keys.
 use Prim.Native.Nat.{ℕ, _+_}
 use mathlib.Core.Bool.{Bool, cond, not}
-use mathlib.Core.List.{List, [], _∷_, _++_, map}
+use mathlib.Core.List.{List, [], _∷_, _++_, map, flatMap}
 use lib.Dec.{eqb}
 use lib.ListN.{length}
 use Rattle.wire_attributes.specs.Tree.{SaKey, WrapKey}
@@ -11,14 +11,14 @@ use Rattle.wire_bags.specs.Bag.{GroupKeyBag}
 use Rattle.wire_frames.specs.Frame.{Frame}
 use Rattle.wire_frames.specs.declared.exchanges.KeyZero.{KeyZero}
 use Rattle.wire_frames.specs.declared.exchanges.KeyZero.the-variants as zero
-use Rattle.state_keys.specs.Lists.{any, keep}
+use Rattle.lists.specs.Lists.{any, keep}
 use Rattle.state_keys.specs.Limits.{Limits}
 use Rattle.state_keys.specs.Kinds.{valueOf}
 use Rattle.state_table.specs.Table.{swept, defaultKey}
 use Rattle.state.specs.declared.State.{State}
 use Rattle.state.specs.declared.held.HeldKey.{HeldKey}
 use Rattle.state.specs.Held.{keysOf}
-use Rattle.rules_refusals.specs.Contents.{rowOf, gather, announced, groupBags, wrapKeysOf, freshKeysOf}
+use Rattle.rules_refusals.specs.Contents.{rowOf, announced, groupBags, wrapKeysOf, freshKeysOf}
 use Rattle.rules_refusals.specs.Fitness.{encryptionOctets, keyWrapOctets}
 use Rattle.rules_refusals.specs.Number6.{bagNamed}
 use Rattle.rules_chains.specs.Chain.{Root}
@@ -67,7 +67,7 @@ wrappingSize limits s now lent f = length (keyZeroValue limits s now lent f)
 
 -- "The copies of an announced key are its SA_KEY attributes": those of the Group Key Bag with its protocol and SPI
 unfoldable pub copiesOf : Frame → GroupSaPolicy → List SaKey
-copiesOf f a = gather (λ (b : GroupKeyBag). b .keys) (keep (bagNamed (a .protocol) (a .spi)) (groupBags f))
+copiesOf f a = flatMap (λ (b : GroupKeyBag). b .keys) (keep (bagNamed (a .protocol) (a .spi)) (groupBags f))
 
 -- "An ESP SA needs the first number, a Rekey SA the sum of both"
 unfoldable pub needOf : GroupSaPolicy → ℕ

@@ -9,7 +9,7 @@ use lib.ListN.{length}
 use Rattle.octets.specs.Octets.{Octets}
 use Rattle.fips197.specs.Key.{Key}
 use Rattle.rfc5649.specs.Wrap.{wrapOf}
-use Rattle.state_keys.specs.Lists.{insert}
+use Rattle.lists.specs.Lists.{insert}
 use Rattle.state_keys.specs.Limits.{limits}
 use Rattle.state_keys.specs.Kinds.{wrappingOf, espOf, rekeyOf}
 use Rattle.wire_attributes.specs.Tree.{SaKey, WrapKey}

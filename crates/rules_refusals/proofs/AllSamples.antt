@@ -1,12 +1,12 @@
 -- Samples computed on the definitions: small frames, small members, and the numbers that document 01 gives them.
 use mathlib.Core.Path.{_≡_, refl}
 use Prim.Native.Nat.{ℕ, _+_}
-use mathlib.Core.List.{List, [], _∷_, _++_, map}
+use mathlib.Core.List.{List, [], _∷_, _++_, map, flatMap}
 use mathlib.Core.Bool.{Bool, cond}
 use lib.Dec.{ltb}
 use lib.ListN.{replicate}
 use Rattle.octets.specs.Compare.{orderOf, less, same}
-use Rattle.state_keys.specs.Lists.{all, any, count, keep, heads, rising}
+use Rattle.lists.specs.Lists.{all, any, count, keep, heads, rising}
 use Rattle.state_keys.specs.Limits.{Limits, limits, limitsBeforeT01}
 use Rattle.state_keys.specs.Kinds.{rekeySizes}
 use Rattle.state_keys.specs.Algorithms.{isRowOf, neededIn, neededBy, sizeOf}
@@ -18,11 +18,10 @@ use Rattle.state.specs.declared.State.{State}
 use Rattle.state.specs.State.{newState, stateFormed}
 use Rattle.state.proofs.ApartLimits.{apart}
 use Rattle.wire_frames.specs.Frame.{Payload}
-use Rattle.rules_refusals.specs.Contents.{gather}
 use Rattle.rules_refusals.specs.Fitness.{multicast, oneGroupAddress, encryptionFits}
 use Rattle.rules_refusals.specs.Fitness.{keyWrapFits, sequenceNumbersFit, authenticationFits}
 use Rattle.rules_refusals.specs.Fitness.{exactTransforms, transformsFit, sum, encryptionOctets, keyWrapOctets}
-use Rattle.rules_refusals.specs.Number2.{nonEmptyMember, otherSpis}
+use Rattle.rules_refusals.specs.Number2.{unwantedMember, otherSpis}
 use Rattle.rules_refusals.specs.Number3.{notAcceptable}
 use Rattle.rules_refusals.specs.Number4.{criticalUnknown, barredMemberBag, barredDelete, twoGsa}
 use Rattle.rules_refusals.specs.Number4.{twoKd, gsaWithoutKd, kdWithoutGsa, neither}
@@ -74,17 +73,17 @@ MetAlone number l =
 abbrev twoOf : Sample → Number
 twoOf s = number2 limits (s .state) tick (s .frame .header .exchange) (s .frame .header .spi)
 
-abbrev fourOf : Sample → Number
-fourOf s = number4 (s .frame)
+abbrev number4Of : Sample → Number
+number4Of s = number4 (s .frame)
 
-abbrev fiveOf : Sample → Number
-fiveOf s = number5 (replicate (s .lent) 0) (s .frame)
+abbrev number5Of : Sample → Number
+number5Of s = number5 (replicate (s .lent) 0) (s .frame)
 
-abbrev sixOf : Sample → Number
-sixOf s = number6 (s .state) tick (s .frame)
+abbrev number6Of : Sample → Number
+number6Of s = number6 (s .state) tick (s .frame)
 
-abbrev sevenOf : Sample → Number
-sevenOf s = number7 limits (s .state) tick (s .frame)
+abbrev number7Of : Sample → Number
+number7Of s = number7 limits (s .state) tick (s .frame)
 
 -- the number that it is given by clauses on the frame and the lent key alone
 abbrev outsideOf : Sample → ℕ
@@ -109,10 +108,10 @@ pub record Samples : Type 0 where
   pub of-inband : Answered samplesInband
   -- each clause that can be met alone, in each exchange that can meet it
   pub alone-2 : MetAlone twoOf alone2
-  pub alone-4 : MetAlone fourOf alone4
-  pub alone-5 : MetAlone fiveOf alone5
-  pub alone-6 : MetAlone sixOf alone6
-  pub alone-7 : MetAlone sevenOf alone7
+  pub alone-4 : MetAlone number4Of alone4
+  pub alone-5 : MetAlone number5Of alone5
+  pub alone-6 : MetAlone number6Of alone6
+  pub alone-7 : MetAlone number7Of alone7
   -- of the member are "registration of a non-empty member", GSA_INBAND_REKEY of an empty one, "rekey whose two SPIs are not ..; a member
   -- value that breaks its list" (2), "already in the table" (6) and "over 16 SAs after the frame" (7; T-01: 64)
   pub halves : ByFrame 1 alone2 × ByFrame 17 alone4 × ByFrame 6 alone5 × ByFrame 11 alone6 × ByFrame 6 alone7
@@ -129,8 +128,9 @@ pub record Samples : Type 0 where
 
 pub samples-answered : Samples
 unfolding refusal judged one any all count keep heads rising newState stateFormed tableFormed heldFormed tableOf heldOf keyFormed distinct
-    saFormed saSized saBefore less same orderOf named liveRekey due espSa rekeySa elapsedAtLeast rekeySizes sizeOf neededBy neededIn isRowOf emptyAt
-    gather sum exactTransforms multicast nonEmptyMember otherSpis notAcceptable oneGroupAddress encryptionFits keyWrapFits
+    saFormed saSized saBefore less same orderOf named liveRekey due espSa rekeySa elapsedAtLeast rekeySizes sizeOf neededBy neededIn isRowOf
+    emptyAt
+    flatMap sum exactTransforms multicast unwantedMember otherSpis notAcceptable oneGroupAddress encryptionFits keyWrapFits
     sequenceNumbersFit
     authenticationFits transformsFit criticalUnknown barredMemberBag barredDelete twoGsa twoKd gsaWithoutKd kdWithoutGsa neither
     severalRekeyPolicies severalGroupWide severalMemberBags gsaWithoutSaPolicy keyLengthTwice initialMessageIdTwice delayTwice

@@ -1,11 +1,10 @@
 -- What does not depend on a list's order: whether there is one that passes, how many pass, how many there are; and what the elements hold.
 use Prim.Native.Nat.{ℕ, suc, _+_}
 use mathlib.Core.Path.{_≡_, refl, ap, _∙_}
-use mathlib.Core.List.{List, [], _∷_, _++_}
+use mathlib.Core.List.{List, [], _∷_, _++_, flatMap}
 use mathlib.Core.Bool.{Bool, true, false, cond, _||_}
 use lib.ListN.{length}
-use Rattle.state_keys.specs.Lists.{any, count}
-use Rattle.rules_refusals.specs.Contents.{gather}
+use Rattle.lists.specs.Lists.{any, count}
 use Rattle.rules_refusals.specs.Reordered.{AnyOrder, none, next, swapped, then, SameOrder, no-item, item}
 
 pub or-swap : (x y z : Bool) → (x || (y || z)) ≡ (y || (x || z))
@@ -77,10 +76,10 @@ module _ {A : Type 0} (p : A → Bool) {l m : List A} (r : AnyOrder _≡_ l m) w
   count-equal = count-order p (λ a b e. ap p e) r
 
 -- what the elements hold
-pub gather-order : {A B : Type 0} {R : A → A → Type 0} {Q : B → B → Type 0} (same : (b : B) → Q b b) (f : A → List B) →
-    ((a b : A) → R a b → AnyOrder Q (f a) (f b)) → {l m : List A} → AnyOrder R l m → AnyOrder Q (gather f l) (gather f m)
-unfolding gather
-gather-order same f h none = none
-gather-order same f h (next {a} {b} r s) = both-joined same (h a b r) (gather-order same f h s)
-gather-order same f h (swapped {a} {b} {l}) = blocks same (f a) (f b) (gather f l)
-gather-order same f h (then r s) = then (gather-order same f h r) (gather-order same f h s)
+pub flatMap-order : {A B : Type 0} {R : A → A → Type 0} {Q : B → B → Type 0} (same : (b : B) → Q b b) (f : A → List B) →
+    ((a b : A) → R a b → AnyOrder Q (f a) (f b)) → {l m : List A} → AnyOrder R l m → AnyOrder Q (flatMap f l) (flatMap f m)
+unfolding flatMap
+flatMap-order same f h none = none
+flatMap-order same f h (next {a} {b} r s) = both-joined same (h a b r) (flatMap-order same f h s)
+flatMap-order same f h (swapped {a} {b} {l}) = blocks same (f a) (f b) (flatMap f l)
+flatMap-order same f h (then r s) = then (flatMap-order same f h r) (flatMap-order same f h s)

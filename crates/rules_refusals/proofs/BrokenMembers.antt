@@ -2,7 +2,7 @@
 -- layout is whole: for a value of each way to break it.
 use Prim.Native.Nat.{ℕ}
 use mathlib.Core.Path.{_≡_, refl, ap, _∙_}
-use mathlib.Core.Bool.{Bool, true, false, not, cond, _||_}
+use mathlib.Core.Bool.{Bool, true, false, not, cond, _||_, or-true}
 use mathlib.Core.List.{List, [], _∷_, map}
 use lib.ListN.{getD, drop}
 use Rattle.state_keys.specs.Limits.{Limits, limits}
@@ -13,7 +13,7 @@ use Rattle.wire_frames.specs.Header.{Header}
 use Rattle.wire_frames.specs.Frame.{Frame}
 use Rattle.rules_refusals.specs.Number2.{number2OfFrame, number2OfMember}
 use Rattle.rules_refusals.specs.Refusals.{one, judged, number2, applies, refusal}
-use Rattle.rules_refusals.proofs.OneOf.{or-true, one-at}
+use Rattle.rules_refusals.proofs.OneOf.{one-at}
 
 -- number 2 applies, whatever the header says
 pub two-applies : (limits : Limits) (s : State) (now : ℕ) (h : Header) → stateFormed limits s ≡ false →

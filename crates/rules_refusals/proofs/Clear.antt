@@ -1,14 +1,11 @@
 -- A number that does not apply: none of its clauses does.
 use Prim.Native.Nat.{ℕ, zero, suc}
-use mathlib.Core.Path.{_≡_, refl, sym}
-use mathlib.Core.Bool.{Bool, true, false, _||_, false≢true}
+use mathlib.Core.Path.{_≡_, refl}
+use mathlib.Core.Bool.{Bool, false}
 use mathlib.Core.List.{List, [], _∷_}
 use lib.ListN.{getD}
+use Rattle.lists.proofs.Cases.{or-none}
 use Rattle.rules_refusals.specs.Refusals.{Number, one, applies}
-
-pub or-none : (a b : Bool) → (a || b) ≡ false → (a ≡ false) × (b ≡ false)
-or-none true b e = absurd (false≢true (sym e))
-or-none false b e = (refl, e)
 
 -- where no clause applies, the one at a place of the list does not
 pub no-clause : (l : List Bool) (k : ℕ) → one l ≡ false → getD l k false ≡ false

@@ -10,7 +10,7 @@ use Rattle.rules_refusals.specs.Contents.{deletesOf, announced, groupWid
 use Rattle.rules_refusals.specs.Contents.{deletedSpis}
 use Rattle.rules_refusals.specs.Reordered.{AnyOrder, none, next, GroupBagReordered, MemberBagReordered, BagReordered, group, member}
 use Rattle.rules_refusals.specs.Reordered.{ContentReordered, in-gsa, in-kd, in-delete, not-read, PayloadReordered, Reordered}
-use Rattle.rules_refusals.proofs.AnyOrder.{in-order, as-is, gather-order}
+use Rattle.rules_refusals.proofs.AnyOrder.{in-order, as-is, flatMap-order}
 
 pub equal : {A : Type 0} (a : A) → a ≡ a
 equal a = refl
@@ -62,31 +62,31 @@ module _ {f g : Frame} (r : Reordered f g) where
   payloads-order = in-order (r .payloads)
 
   pub policies-order : AnyOrder _≡_ (policiesOf f) (policiesOf g)
-  policies-order = gather-order equal (λ (p : Payload). policiesOfContent (p .content)) (λ a b e. in-policies (e .content)) payloads-order
+  policies-order = flatMap-order equal (λ (p : Payload). policiesOfContent (p .content)) (λ a b e. in-policies (e .content)) payloads-order
 
   pub bags-order : AnyOrder BagReordered (bagsOf f) (bagsOf g)
-  bags-order = gather-order bag-same (λ (p : Payload). bagsOfContent (p .content)) (λ a b e. in-bags (e .content)) payloads-order
+  bags-order = flatMap-order bag-same (λ (p : Payload). bagsOfContent (p .content)) (λ a b e. in-bags (e .content)) payloads-order
 
   pub deletes-order : AnyOrder _≡_ (deletesOf f) (deletesOf g)
-  deletes-order = gather-order equal (λ (p : Payload). deletesOfContent (p .content)) (λ a b e. in-deletes (e .content)) payloads-order
+  deletes-order = flatMap-order equal (λ (p : Payload). deletesOfContent (p .content)) (λ a b e. in-deletes (e .content)) payloads-order
 
   pub announced-order : AnyOrder _≡_ (announced f) (announced g)
-  announced-order = gather-order equal groupSaIn (equal-lists groupSaIn) policies-order
+  announced-order = flatMap-order equal groupSaIn (equal-lists groupSaIn) policies-order
 
   pub wides-order : AnyOrder _≡_ (groupWides f) (groupWides g)
-  wides-order = gather-order equal wideOf (equal-lists wideOf) policies-order
+  wides-order = flatMap-order equal wideOf (equal-lists wideOf) policies-order
 
   pub group-bags-order : AnyOrder GroupBagReordered (groupBags f) (groupBags g)
-  group-bags-order = gather-order group-same groupBagOf in-group bags-order
+  group-bags-order = flatMap-order group-same groupBagOf in-group bags-order
 
   pub member-bags-order : AnyOrder MemberBagReordered (memberBags f) (memberBags g)
-  member-bags-order = gather-order member-same memberBagOf in-member bags-order
+  member-bags-order = flatMap-order member-same memberBagOf in-member bags-order
 
   pub wrap-keys-order : AnyOrder _≡_ (wrapKeysOf f) (wrapKeysOf g)
-  wrap-keys-order = gather-order equal (λ (b : MemberKeyBag). b .keys) (λ a b e. e .keys) member-bags-order
+  wrap-keys-order = flatMap-order equal (λ (b : MemberKeyBag). b .keys) (λ a b e. e .keys) member-bags-order
 
   pub fresh-keys-order : AnyOrder _≡_ (freshKeysOf f) (freshKeysOf g)
-  fresh-keys-order = gather-order equal (λ (b : GroupKeyBag). b .fresh) (λ a b e. e .fresh) group-bags-order
+  fresh-keys-order = flatMap-order equal (λ (b : GroupKeyBag). b .fresh) (λ a b e. e .fresh) group-bags-order
 
   pub deleted-order : AnyOrder _≡_ (deletedSpis f) (deletedSpis g)
-  deleted-order = gather-order equal (λ (d : Delete). d .spis) (equal-lists (λ (d : Delete). d .spis)) deletes-order
+  deleted-order = flatMap-order equal (λ (d : Delete). d .spis) (equal-lists (λ (d : Delete). d .spis)) deletes-order

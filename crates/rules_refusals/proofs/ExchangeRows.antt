@@ -6,7 +6,7 @@ use mathlib.Core.Path.{_≡_}
 use mathlib.Core.Logic.{_⊎_, inl, inr}
 use borrow.Author.Tests.{eqb-true}
 use lib.Dec.{eqb}
-use Rattle.state_keys.proofs.Cases.{bool-cases}
+use Rattle.lists.proofs.Cases.{bool-cases}
 use Rattle.wire_frames.specs.Exchange.{registration, rekey, inband, other, exchangeOf}
 
 pub by-row : (P : Type 0) (x : ℕ) → (((x ≡ 39) ⊎ (x ≡ 40)) → exchangeOf x ≡ registration → P) → (x ≡ 41 → exchangeOf x ≡ rekey → P) →

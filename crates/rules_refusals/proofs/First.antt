@@ -5,7 +5,7 @@ use mathlib.Core.Path.{_≡_, ap, _∙_}
 use mathlib.Core.Logic.{_⊎_, inl, inr}
 use mathlib.Core.List.{List, _∷_}
 use mathlib.Core.Bool.{Bool, true, false, cond, _||_}
-use Rattle.state_keys.specs.Lists.{any, count, keep}
+use Rattle.lists.specs.Lists.{any, count, keep}
 
 module _ {A : Type 0} (p : A → Bool) (a : A) (l m : List A) (e : m ≡ a ∷ l) where
   pub any-yes : p a ≡ true → any p m ≡ true

@@ -6,9 +6,9 @@ use mathlib.Core.Path.{_≡_, refl, ap, sym, _∙_}
 use mathlib.Core.List.{List, [], _∷_, map}
 use mathlib.Core.Bool.{Bool, true, false, not, cond, _||_}
 use borrow.Author.Tests.{not-true}
-use Rattle.state_keys.specs.Lists.{all}
+use Rattle.lists.specs.Lists.{all}
 use Rattle.state_keys.specs.Limits.{Limits}
-use Rattle.state_keys.proofs.Cases.{and-parts}
+use Rattle.lists.proofs.Cases.{and-parts}
 use Rattle.state.specs.declared.State.{State}
 use Rattle.wire_frames.specs.Frame.{Frame}
 use Rattle.rules_refusals.specs.Refusals.{Number, one, judged, number4, number5, numbers, refusal}

@@ -5,7 +5,7 @@ pub mod ExchangeRows
 pub mod First
 pub mod OneOf
 pub mod BrokenMembers
-pub mod Gather
+pub mod FlatMap
 pub mod Halves
 pub mod OrderOf4
 pub mod OrderOf5

@@ -2,18 +2,10 @@
 use Prim.Native.Nat.{ℕ, zero, suc}
 use mathlib.Core.Path.{_≡_, refl, ap, _∙_}
 use mathlib.Core.List.{List, [], _∷_, _++_}
-use mathlib.Core.Bool.{Bool, true, false, false≢true, _||_}
+use mathlib.Core.Bool.{Bool, true, false, false≢true, _||_, or-true}
 use lib.ListN.{getD}
 use Rattle.rules_refusals.specs.Refusals.{one}
 use Rattle.rules_refusals.proofs.AnyOrder.{or-swap}
-
-pub or-true : (b : Bool) → (b || true) ≡ true
-or-true true = refl
-or-true false = refl
-
-pub or-false : (b : Bool) → (b || false) ≡ b
-or-false true = refl
-or-false false = refl
 
 pub or-joined : (a b c : Bool) → (a || (b || c)) ≡ ((a || b) || c)
 or-joined true b c = refl

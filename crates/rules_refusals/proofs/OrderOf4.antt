@@ -3,7 +3,7 @@ use mathlib.Core.Path.{_≡_, refl, ap}
 use mathlib.Core.List.{[], _∷_}
 use mathlib.Core.Bool.{not, _&&_}
 use lib.Dec.{ltb}
-use Rattle.state_keys.specs.Lists.{any}
+use Rattle.lists.specs.Lists.{any}
 use Rattle.wire_policies.specs.Policy.{GroupSaPolicy, GroupWidePolicy}
 use Rattle.wire_frames.specs.Header.{Header}
 use Rattle.wire_frames.specs.Frame.{Frame, Payload, Content}
@@ -18,7 +18,7 @@ use Rattle.rules_refusals.specs.Number4.{initialMessageIdTwice, delayTwi
 use Rattle.rules_refusals.specs.Number4.{withoutSaPolicy}
 use Rattle.rules_refusals.specs.Number4.{twiceInTransform, number4OfFrame}
 use Rattle.rules_refusals.specs.Reordered.{ContentReordered, in-gsa, in-kd, in-delete, not-read, PayloadReordered, Reordered}
-use Rattle.rules_refusals.proofs.AnyOrder.{any-order, any-equal, count-order, count-equal, length-order, gather-order}
+use Rattle.rules_refusals.proofs.AnyOrder.{any-order, any-equal, count-order, count-equal, length-order, flatMap-order}
 use Rattle.rules_refusals.proofs.Contents.{equal, equal-lists, payloads-order, announced-order, wides-order, member-bags-order}
 use Rattle.rules_refusals.proofs.Contents.{deletes-order, in-policies}
 
@@ -91,7 +91,7 @@ module _ {f g : Frame} (r : Reordered f g) where
   without-policy : (a b : Payload) → PayloadReordered a b → withoutSaPolicy a ≡ withoutSaPolicy b
   without-policy a b e =
       λ i. gsa-kept (e .content) i
-      && not (ltb 0 (length-order (gather-order equal groupSaIn (equal-lists groupSaIn) (in-policies (e .content))) i))
+      && not (ltb 0 (length-order (flatMap-order equal groupSaIn (equal-lists groupSaIn) (in-policies (e .content))) i))
 
   without-policy-kept : gsaWithoutSaPolicy f ≡ gsaWithoutSaPolicy g
   unfolding gsaWithoutSaPolicy
@@ -119,9 +119,9 @@ module _ {f g : Frame} (r : Reordered f g) where
   unfolding lifetimeTwice
   lifetime-kept = any-equal (λ (a : GroupSaPolicy). several (a .keyLifetimes)) (announced-order r)
 
-  pub four-kept : number4OfFrame f ≡ number4OfFrame g
+  pub number4-kept : number4OfFrame f ≡ number4OfFrame g
   unfolding number4OfFrame
-  four-kept = λ i.
+  number4-kept = λ i.
       critical-kept i ∷ member-bag-kept i ∷ delete-kept i ∷ two-gsa-kept i ∷ two-kd-kept i ∷ without-kd-kept i ∷ without-gsa-kept i ∷
       neither-kept i ∷ rekeys-kept i ∷ wides-kept i ∷ member-bags-kept i ∷ without-policy-kept i ∷ key-length-kept i ∷ initial-kept i ∷
       delay-kept i ∷ destination-kept i ∷ lifetime-kept i ∷ []

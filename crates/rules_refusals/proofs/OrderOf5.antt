@@ -5,7 +5,7 @@ use mathlib.Core.List.{List, [], _∷_}
 use mathlib.Core.Bool.{not}
 use lib.ListN.{length}
 use lib.Dec.{eqb}
-use Rattle.state_keys.specs.Lists.{any}
+use Rattle.lists.specs.Lists.{any}
 use Rattle.wire_policies.specs.Policy.{GroupSaPolicy}
 use Rattle.wire_bags.specs.Bag.{GroupKeyBag}
 use Rattle.wire_frames.specs.Delete.{Delete}
@@ -46,6 +46,6 @@ module _ {f g : Frame} (r : Reordered f g) where
   unfolding lentKeySize
   lent-kept lent = rw (r .header)
 
-  pub five-kept : (lent : List ℕ) → number5OfFrame lent f ≡ number5OfFrame lent g
+  pub number5-kept : (lent : List ℕ) → number5OfFrame lent f ≡ number5OfFrame lent g
   unfolding number5OfFrame
-  five-kept lent = λ i. ah-policy-kept i ∷ ah-bag-kept i ∷ transforms-kept i ∷ other-kept i ∷ none-kept i ∷ lent-kept lent i ∷ []
+  number5-kept lent = λ i. ah-policy-kept i ∷ ah-bag-kept i ∷ transforms-kept i ∷ other-kept i ∷ none-kept i ∷ lent-kept lent i ∷ []

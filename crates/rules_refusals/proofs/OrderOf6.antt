@@ -5,7 +5,7 @@ use mathlib.Core.List.{List, [], _∷_}
 use mathlib.Core.Bool.{Bool, not, cond, _&&_}
 use lib.Dec.{ltb, eqb}
 use Rattle.octets.specs.Compare.{same}
-use Rattle.state_keys.specs.Lists.{any}
+use Rattle.lists.specs.Lists.{any}
 use Rattle.state_sa.specs.Entry.{named, espProtocol, rekeyProtocol}
 use Rattle.state.specs.declared.State.{State}
 use Rattle.wire_attributes.specs.Tree.{SaKey, WrapKey}
@@ -108,12 +108,12 @@ module _ {f g : Frame} (r : Reordered f g) where
   unfolding freshWrapsItself
   fresh-wraps-itself-kept = any-equal underItself (fresh-keys-order r)
 
-  pub six-kept : number6OfFrame f ≡ number6OfFrame g
+  pub number6-kept : number6OfFrame f ≡ number6OfFrame g
   unfolding number6OfFrame
-  six-kept = λ i.
+  number6-kept = λ i.
       policy-paired-kept i ∷ bag-paired-kept i ∷ policy-twice-kept i ∷ bag-twice-kept i ∷ sa-key-count-kept i ∷ key-id-kept i ∷
       kwk-id-kept i ∷ wrap-key-id-kept i ∷ wraps-itself-kept i ∷ fresh-key-id-kept i ∷ fresh-wraps-itself-kept i ∷ []
 
-  pub six-member-kept : (s : State) (now : ℕ) → number6OfMember s now f ≡ number6OfMember s now g
+  pub number6-member-kept : (s : State) (now : ℕ) → number6OfMember s now f ≡ number6OfMember s now g
   unfolding number6OfMember
-  six-member-kept s now = λ i. in-table-kept s now i ∷ []
+  number6-member-kept s now = λ i. in-table-kept s now i ∷ []

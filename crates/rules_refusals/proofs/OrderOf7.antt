@@ -4,7 +4,7 @@ use mathlib.Core.Path.{_≡_, ap}
 use mathlib.Core.List.{[], _∷_}
 use lib.ListN.{length}
 use lib.Dec.{ltb}
-use Rattle.state_keys.specs.Lists.{any}
+use Rattle.lists.specs.Lists.{any}
 use Rattle.state_sa.specs.Entry.{mostSeconds}
 use Rattle.wire_policies.specs.Policy.{GroupSaPolicy}
 use Rattle.state_keys.specs.Limits.{Limits}
@@ -50,10 +50,10 @@ module _ {f g : Frame} (r : Reordered f g) (limits : Limits) where
   unfolding manySas
   sas-kept s now = λ i. ltb (limits .sas) (length (notDueSas now s) + length-order (announced-order r) i)
 
-  pub seven-kept : number7OfFrame limits f ≡ number7OfFrame limits g
+  pub number7-kept : number7OfFrame limits f ≡ number7OfFrame limits g
   unfolding number7OfFrame
-  seven-kept = λ i. esp-kept i ∷ wrap-keys-kept i ∷ sa-keys-kept i ∷ deleted-kept i ∷ lifetime-kept i ∷ fresh-keys-kept i ∷ []
+  number7-kept = λ i. esp-kept i ∷ wrap-keys-kept i ∷ sa-keys-kept i ∷ deleted-kept i ∷ lifetime-kept i ∷ fresh-keys-kept i ∷ []
 
-  pub seven-member-kept : (s : State) (now : ℕ) → number7OfMember limits s now f ≡ number7OfMember limits s now g
+  pub number7-member-kept : (s : State) (now : ℕ) → number7OfMember limits s now f ≡ number7OfMember limits s now g
   unfolding number7OfMember
-  seven-member-kept s now = λ i. sas-kept s now i ∷ []
+  number7-member-kept s now = λ i. sas-kept s now i ∷ []

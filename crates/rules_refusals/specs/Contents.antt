@@ -1,7 +1,7 @@
 -- What a frame holds, at whatever place: its payloads of a kind, policies, bags, keys and deleted SPIs. The clauses of document 01 ask "is
 -- there one", "each" and "how many" of these, so their order cannot matter.
 use Prim.Native.Nat.{ℕ}
-use mathlib.Core.List.{List, [], _∷_, _++_}
+use mathlib.Core.List.{List, [], _∷_, flatMap}
 use mathlib.Core.Bool.{Bool, true, false}
 use lib.ListN.{length}
 use lib.Dec.{ltb}
@@ -23,11 +23,6 @@ some l = ltb 0 (length l)
 
 abbrev pub several : {A : Type 0} → List A → Bool
 several l = ltb 1 (length l)
-
--- the lists that `f` gives for the elements of a list, joined in order
-unfoldable pub gather : {A B : Type 0} → (A → List B) → List A → List B
-gather f [] = []
-gather f (a ∷ l) = f a ++ gather f l
 
 -- ---- payloads
 abbrev pub isGsa : Content → Bool
@@ -86,33 +81,33 @@ memberBagOf (memberKeys b) = b ∷ []
 
 -- ---- what the frame holds
 abbrev pub policiesOf : Frame → List Policy
-policiesOf f = gather (λ (p : Payload). policiesOfContent (p .content)) (f .payloads)
+policiesOf f = flatMap (λ (p : Payload). policiesOfContent (p .content)) (f .payloads)
 
 abbrev pub bagsOf : Frame → List Bag
-bagsOf f = gather (λ (p : Payload). bagsOfContent (p .content)) (f .payloads)
+bagsOf f = flatMap (λ (p : Payload). bagsOfContent (p .content)) (f .payloads)
 
 abbrev pub deletesOf : Frame → List Delete
-deletesOf f = gather (λ (p : Payload). deletesOfContent (p .content)) (f .payloads)
+deletesOf f = flatMap (λ (p : Payload). deletesOfContent (p .content)) (f .payloads)
 
 -- "The SAs a frame announces are those of its Group SA policies."
 abbrev pub announced : Frame → List GroupSaPolicy
-announced f = gather groupSaIn (policiesOf f)
+announced f = flatMap groupSaIn (policiesOf f)
 
 abbrev pub groupWides : Frame → List GroupWidePolicy
-groupWides f = gather wideOf (policiesOf f)
+groupWides f = flatMap wideOf (policiesOf f)
 
 abbrev pub groupBags : Frame → List GroupKeyBag
-groupBags f = gather groupBagOf (bagsOf f)
+groupBags f = flatMap groupBagOf (bagsOf f)
 
 abbrev pub memberBags : Frame → List MemberKeyBag
-memberBags f = gather memberBagOf (bagsOf f)
+memberBags f = flatMap memberBagOf (bagsOf f)
 
 abbrev pub wrapKeysOf : Frame → List WrapKey
-wrapKeysOf f = gather (λ (b : MemberKeyBag). b .keys) (memberBags f)
+wrapKeysOf f = flatMap (λ (b : MemberKeyBag). b .keys) (memberBags f)
 
 -- the fresh tree keys of its Group Key Bags: private attribute 16385 (document 02, T-11)
 abbrev pub freshKeysOf : Frame → List WrapKey
-freshKeysOf f = gather (λ (b : GroupKeyBag). b .fresh) (groupBags f)
+freshKeysOf f = flatMap (λ (b : GroupKeyBag). b .fresh) (groupBags f)
 
 abbrev pub deletedSpis : Frame → List (List ℕ)
-deletedSpis f = gather (λ (d : Delete). d .spis) (deletesOf f)
+deletedSpis f = flatMap (λ (d : Delete). d .spis) (deletesOf f)

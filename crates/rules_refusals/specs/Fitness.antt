@@ -8,7 +8,7 @@ use Rattle.ikev2_numbers.specs.Codes.{gcauthDigitalSignature, gcauthImplicit, i
 use Rattle.ikev2_numbers.specs.Codes.{protocolAh, snSequential, snUnspecified, transformEncr, transformGcauth, transformKwa, transformSn}
 use Rattle.octets.specs.Numbers.{oct}
 use Rattle.octets.specs.Compare.{same}
-use Rattle.state_keys.specs.Lists.{all, any, count}
+use Rattle.lists.specs.Lists.{all, any, count}
 use Rattle.state_keys.specs.Algorithms.{neededBy}
 use Rattle.state_keys.specs.declared.algorithms.Needed.{Needed}
 use Rattle.state_keys.specs.declared.algorithms.Needed.the-variants.{Octets, Nothing}

@@ -4,7 +4,7 @@
 use Prim.Native.Nat.{ℕ}
 use mathlib.Core.List.{List, [], _∷_}
 use mathlib.Core.Bool.{Bool, false, not, _&&_}
-use Rattle.state_keys.specs.Lists.{any}
+use Rattle.lists.specs.Lists.{any}
 use Rattle.state_keys.specs.Limits.{Limits}
 use Rattle.state_sa.specs.Entry.{rekeyProtocol, named, liveRekey}
 use Rattle.state_sa.specs.declared.entry.Sa.{Sa}
@@ -29,8 +29,8 @@ breaksWanted wanted.Empty isEmpty = not isEmpty
 breaksWanted wanted.NotEmpty isEmpty = isEmpty
 breaksWanted wanted.Any isEmpty = false
 
-unfoldable pub nonEmptyMember : Limits → State → ℕ → ℕ → Bool
-nonEmptyMember limits s now x = breaksWanted ((exchangeOf x) .wanted) (emptyAt limits now (s .table))
+unfoldable pub unwantedMember : Limits → State → ℕ → ℕ → Bool
+unwantedMember limits s now x = breaksWanted ((exchangeOf x) .wanted) (emptyAt limits now (s .table))
 
 -- "rekey whose two SPIs are not the live Rekey SA's": there is no live Rekey SA with this SPI
 abbrev pub overLiveRekey : List ℕ → Sa → Bool
@@ -47,4 +47,4 @@ abbrev pub number2OfFrame : ℕ → List Bool
 number2OfFrame x = otherExchange x ∷ []
 
 abbrev pub number2OfMember : Limits → State → ℕ → ℕ → List ℕ → List Bool
-number2OfMember limits s now x spi = nonEmptyMember limits s now x ∷ otherSpis s now x spi ∷ brokenMember limits s ∷ []
+number2OfMember limits s now x spi = unwantedMember limits s now x ∷ otherSpis s now x spi ∷ brokenMember limits s ∷ []

@@ -3,14 +3,14 @@
 -- GSA_INITIAL_MESSAGE_ID or the deactivation delay twice in one place; a Rekey destination that isn't one address (start equals end) in
 -- 224.0.0.0/4 or ff00::/8 and one port". "A Member bag or D in it is number 4" (document 02, T-02, of GSA_INBAND_REKEY). GSA_KEY_LIFETIME
 -- "twice in one policy" (document 02, T-07).
-use mathlib.Core.List.{List, [], _∷_}
+use mathlib.Core.List.{List, [], _∷_, flatMap}
 use mathlib.Core.Bool.{Bool, not, _&&_}
 use lib.Dec.{ltb}
-use Rattle.state_keys.specs.Lists.{any, count}
+use Rattle.lists.specs.Lists.{any, count}
 use Rattle.wire_policies.specs.Transform.{Transform}
 use Rattle.wire_policies.specs.Policy.{GroupSaPolicy, GroupWidePolicy}
 use Rattle.wire_frames.specs.Frame.{Frame, Payload, isKnown}
-use Rattle.rules_refusals.specs.Contents.{rowOf, some, several, gather, hasGsa, hasKd, policiesOfContent, groupSaIn, announced}
+use Rattle.rules_refusals.specs.Contents.{rowOf, some, several, hasGsa, hasKd, policiesOfContent, groupSaIn, announced}
 use Rattle.rules_refusals.specs.Contents.{groupWides}
 use Rattle.rules_refusals.specs.Contents.{memberBags, deletesOf}
 use Rattle.rules_refusals.specs.Fitness.{isRekey, oneGroupAddress}
@@ -61,7 +61,7 @@ severalMemberBags f = several (memberBags f)
 
 -- "a GSA with no SA policy"
 abbrev pub withoutSaPolicy : Payload → Bool
-withoutSaPolicy p = hasGsa p && not (some (gather groupSaIn (policiesOfContent (p .content))))
+withoutSaPolicy p = hasGsa p && not (some (flatMap groupSaIn (policiesOfContent (p .content))))
 
 unfoldable pub gsaWithoutSaPolicy : Frame → Bool
 gsaWithoutSaPolicy f = any withoutSaPolicy (f .payloads)

@@ -6,8 +6,8 @@ use mathlib.Core.List.{List, [], _∷_}
 use mathlib.Core.Bool.{Bool, not, _&&_}
 use lib.ListN.{length}
 use lib.Dec.{eqb}
-use Rattle.state_keys.specs.Lists.{any}
-use Rattle.state_keys.specs.Algorithms.{sizeOf}
+use Rattle.lists.specs.Lists.{any}
+use Rattle.state_keys.specs.Algorithms.{isWrappingSize}
 use Rattle.wire_policies.specs.Policy.{GroupSaPolicy}
 use Rattle.wire_bags.specs.Bag.{GroupKeyBag}
 use Rattle.wire_frames.specs.Delete.{Delete}
@@ -37,7 +37,7 @@ deleteOfNone f = any (λ (d : Delete). eqb (length (d .spis)) 0) (deletesOf f)
 -- "a lent default key not of 16, 24 or 32 octets in a registration", in GSA_INBAND_REKEY too (T-02): the sizes of the key wrap
 -- algorithms
 unfoldable pub lentKeySize : List ℕ → Frame → Bool
-lentKeySize lent f = rowOf f .«judges_lent_key» && not (sizeOf 13 (length lent))
+lentKeySize lent f = rowOf f .«judges_lent_key» && not (isWrappingSize (length lent))
 
 unfoldable pub number5OfFrame : List ℕ → Frame → List Bool
 number5OfFrame lent f =

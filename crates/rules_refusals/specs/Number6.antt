@@ -8,7 +8,7 @@ use mathlib.Core.Bool.{Bool, not, cond, _&&_}
 use lib.ListN.{length}
 use lib.Dec.{ltb, eqb}
 use Rattle.octets.specs.Compare.{same}
-use Rattle.state_keys.specs.Lists.{any, count}
+use Rattle.lists.specs.Lists.{any, count}
 use Rattle.state_sa.specs.Entry.{named, espProtocol, rekeyProtocol}
 use Rattle.state.specs.declared.State.{State}
 use Rattle.wire_attributes.specs.Tree.{SaKey, WrapKey}

@@ -6,7 +6,7 @@ use mathlib.Core.List.{List, [], _∷_}
 use mathlib.Core.Bool.{Bool}
 use lib.ListN.{length}
 use lib.Dec.{ltb}
-use Rattle.state_keys.specs.Lists.{any, count}
+use Rattle.lists.specs.Lists.{any, count}
 use Rattle.state_keys.specs.Limits.{Limits}
 use Rattle.state_sa.specs.Entry.{mostSeconds}
 use Rattle.state.specs.declared.State.{State}

@@ -6,8 +6,8 @@ use mathlib.Core.Bool.{true, false, false≢true}
 use mathlib.Core.Logic.{_⊎_, inl, inr, ⊎-elim, _↔_}
 use mathlib.Core.List.{List, []}
 use lib.ListN.{length}
+use Rattle.lists.proofs.Cases.{bool-cases}
 use Rattle.octets.specs.Octets.{Octets}
-use Rattle.octets.proofs.Order.{bool-cases}
 use Rattle.ikev2_numbers.specs.Codes.{mostOctets}
 use Rattle.state_keys.specs.Limits.{Limits}
 use Rattle.wire_frames.specs.Header.{headerOf}
@@ -28,7 +28,7 @@ use Rattle.rules_outcome.specs.Outcome.{Outcome}
 use Rattle.rules_outcome.specs.Judging.{SomeHolds}
 use Rattle.rules_outcome.proofs.First.{first-one, first-none, first-holds}
 use Rattle.rules_outcome.proofs.NotRead.{same-outcome}
-use Rattle.rules_outcome.proofs.Demands.{one-of-nine}
+use Rattle.rules_outcome.proofs.Demands.{one-of-the-numbers}
 use Rattle.rules_outcome.proofs.Determined.{outcome-one}
 use Rattle.rules_outcome.proofs.EachAnswered.{each-answered}
 use Rattle.rules_sealed.specs.SealingKey.{sealingPart}
@@ -98,10 +98,10 @@ module _ (limits : Limits) (s : State) (now : ℕ) (octets room : List ℕ) wher
             (by-opened o p h (lent-not-read-opened lent [] n next (w .0))))
 
   -- ---- number 10
-  ten-of : SomeHolds (sealedConditions limits s now octets room) 10 → Unopened part octets room
-  ten-of (inl h) = let e = h .1 in absurd (omega arith)
-  ten-of (inr (inl h)) = let e = h .1 in absurd (omega arith)
-  ten-of (inr (inr (inl h))) = h .0
+  unopened-of : SomeHolds (sealedConditions limits s now octets room) 10 → Unopened part octets room
+  unopened-of (inl h) = let e = h .1 in absurd (omega arith)
+  unopened-of (inr (inl h)) = let e = h .1 in absurd (omega arith)
+  unopened-of (inr (inr (inl h))) = h .0
 
   -- given for a clause of number 10 alone: an opened frame never is
   pub unopened-given : (offset : ℕ) (next : State) (after : List ℕ) → SealedOutcome limits s now octets room 10 offset next after →
@@ -111,9 +111,9 @@ module _ (limits : Limits) (s : State) (now : ℕ) (octets room : List ℕ) wher
       go : (n offset : ℕ) (next : State) (after : List ℕ) → SealedOutcome limits s now octets room n offset next after → n ≡ 10 →
           Unopened part octets room
       go _ _ _ _ (not-opened n p) e =
-          ten-of (first-holds (sealedConditions limits s now octets room) 9
+          unopened-of (first-holds (sealedConditions limits s now octets room) 9
           (subst (First (sealedConditions limits s now octets room)) e p))
-      go _ _ _ _ (by-opened o {n} {next} p h u) e = let l = one-of-nine limits s now [] o n next u in absurd (omega arith)
+      go _ _ _ _ (by-opened o {n} {next} p h u) e = let l = one-of-the-numbers limits s now [] o n next u in absurd (omega arith)
 
 -- "a frame sealed for this member, with room": never 10
 module _ (limits : Limits) (s : State) (now : ℕ) (o room : List ℕ) (c : Choice) where
@@ -130,7 +130,7 @@ module _ (limits : Limits) (s : State) (now : ℕ) (o room : List ℕ) (c : Choi
 -- `receive` never answers 10
 pub receive-never-10 : (limits : Limits) (s : State) (now : ℕ) (lent octets : List ℕ) (n : ℕ) (next : State) →
     Outcome limits s now lent octets n next → n ≡ 10 → ⊥
-receive-never-10 limits s now lent octets n next o e = let l = one-of-nine limits s now lent octets n next o in omega arith
+receive-never-10 limits s now lent octets n next o e = let l = one-of-the-numbers limits s now lent octets n next o in omega arith
 
 -- ---- no input is without an outcome, where octets are octets and the key past number 2 is one
 module _ (limits : Limits) (s : State) (now : ℕ) (octets room : List ℕ) (o : Octets octets)
@@ -143,7 +143,8 @@ module _ (limits : Limits) (s : State) (now : ℕ) (octets room : List ℕ) (o :
   judged-10 i e no-2 (inr h) =
       each-answered limits s now [] (h .0) (λ n next r.
       none n (figure (s .profile) (h .0)) next (putAtStart (h .0) room)
-      (by-opened (h .0) (inr (λ k. k i, inr (no-2, inr (λ u. unopened-none (sealingPart limits s) octets room u (h .0) (h .1), refl)))) (h .1)
+      (by-opened (h .0) (inr (λ k. k i, inr (no-2, inr (λ u. unopened-none (sealingPart limits s) octets room u (h .0) (h .1), refl))))
+      (h .1)
       r))
 
   judged-2 : outer octets ≡ true → ⊥

@@ -6,6 +6,7 @@ use mathlib.Core.Bool.{Bool, true, false, not, _||_, false≢true}
 use mathlib.Core.List.{List, [], _∷_}
 use borrow.Author.Tests.{eqb-true, not-false}
 use lib.Dec.{eqb}
+use Rattle.lists.proofs.Cases.{or-none}
 use Rattle.octets.specs.Numbers.{oct}
 use Rattle.state_keys.specs.Limits.{Limits}
 use Rattle.wire_frames.specs.Header.{headerOf}
@@ -17,7 +18,7 @@ use Rattle.state.specs.State.{stateFormed}
 use Rattle.rules_refusals.specs.Contents.{rowOf}
 use Rattle.rules_refusals.specs.Number2.{number2OfFrame, number2OfMember}
 use Rattle.rules_refusals.specs.Refusals.{one, applies, number2}
-use Rattle.rules_refusals.proofs.Clear.{or-none, no-clause}
+use Rattle.rules_refusals.proofs.Clear.{no-clause}
 use Rattle.rfc5282.specs.Number10.{OpensInto}
 use Rattle.rfc5282.proofs.OneLaws.{same-spis, same-exchange, same-message}
 use Rattle.rules_outcome.specs.Run.{StandsAt}

@@ -14,13 +14,13 @@ use Rattle.octets.specs.Octets.{Octets}
 use Rattle.octets.proofs.Octets.{take-octets}
 use Rattle.octets.proofs.Order.{same-eq}
 use Rattle.state_keys.specs.Limits.{Limits}
-use Rattle.state_keys.specs.Algorithms.{sizeOf}
+use Rattle.state_keys.specs.Algorithms.{isEncryptionSize}
 use Rattle.state_keys.specs.Kinds.{encryptionOf, encryptionKey, rekeySizes, encryptionPart}
 use Rattle.state_keys.specs.declared.kinds.EncryptionKey.{EncryptionKey}
 use Rattle.state_keys.specs.declared.kinds.MadeEncryption.{MadeEncryption}
-use Rattle.state_keys.specs.Lists.{any}
-use Rattle.state_keys.proofs.Cases.{and-parts}
-use Rattle.state_keys.proofs.Members.{kept-member}
+use Rattle.lists.specs.Lists.{any}
+use Rattle.lists.proofs.Cases.{and-parts}
+use Rattle.lists.proofs.Members.{kept-member}
 use Rattle.state_keys.proofs.Sizes.{among-is, encryption-size, rekey-parts, rekey-le}
 use Rattle.state_sa.specs.Entry.{espProtocol, rekeyProtocol, isLive, saSpi, named, saSized, fitLifetime, saFormed, liveRekey, due}
 use Rattle.state_sa.specs.declared.entry.Sa.{Sa}
@@ -71,8 +71,8 @@ module _ (limits : Limits) (t : Table) (formed : tableFormed limits t ≡ true) 
     part-length : length part ≡ b .encryption
     part-length = let h = rekey-le (b .encryption) (b .wrapping) sizes in length-take-le (b .encryption) (b .octets) (omega (arith, h .0))
 
-    part-fit : sizeOf 1 (length part) ≡ true
-    part-fit = ap (sizeOf 1) part-length ∙ rekey-parts (b .encryption) (b .wrapping) sizes .0
+    part-fit : isEncryptionSize (length part) ≡ true
+    part-fit = ap isEncryptionSize part-length ∙ rekey-parts (b .encryption) (b .wrapping) sizes .0
 
     -- the key that is found is the first octets of its keying octets
     key-is : encryptionOfFound (foundRekey limits t) .key ≡ encryptionOf part
@@ -82,8 +82,8 @@ module _ (limits : Limits) (t : Table) (formed : tableFormed limits t ≡ true) 
     octets-are : encryptionOctetsOf (encryptionOfFound (foundRekey limits t) .key) ≡ part
     octets-are = ap encryptionOctetsOf key-is ∙ take-append-seam part (replicate (36 - length part) 0)
 
-    count-fit : sizeOf 1 (encryptionOfFound (foundRekey limits t) .key .count) ≡ true
-    count-fit = ap (λ (k : EncryptionKey). sizeOf 1 (k .count)) key-is ∙ part-fit
+    count-fit : isEncryptionSize (encryptionOfFound (foundRekey limits t) .key .count) ≡ true
+    count-fit = ap (λ (k : EncryptionKey). isEncryptionSize (k .count)) key-is ∙ part-fit
 
 -- what the code finds: the live Rekey SA of a table, and the first part of its keying octets
 module _ (limits : Limits) (t : Table) (formed : tableFormed limits t ≡ true) (some : any liveRekey (sasOf t) ≡ true) (f : SaFound)
@@ -105,9 +105,9 @@ module _ (limits : Limits) (t : Table) (formed : tableFormed limits t ≡ true) 
       ap (λ (x : MadeEncryption). x .key) ek
       ∙ sym (ap (λ (g : SaFound). encryptionOfFound g .key) (sym ef) ∙ rw (ap (λ (g : SaFound). g .found) found-is))
 
-  pub sealing-key-sized : sizeOf 1 (k .key .count) ≡ true
+  pub sealing-key-sized : isEncryptionSize (k .key .count) ≡ true
   sealing-key-sized =
-      ap (λ (x : EncryptionKey). sizeOf 1 (x .count)) sealing-key-found
+      ap (λ (x : EncryptionKey). isEncryptionSize (x .count)) sealing-key-found
       ∙ count-fit limits t formed (live .one) (live .stands) (live .passes) long-live
 
 module _ (limits : Limits) (s : State) (now : ℕ) (octets : List ℕ)

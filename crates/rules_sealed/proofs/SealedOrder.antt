@@ -22,7 +22,7 @@ use Rattle.rules_outcome.specs.Judging.{SomeHolds, JudgedFirst}
 use Rattle.rules_outcome.specs.Meets.{RefusalRow, OfTree, ofTree, judgingOrder}
 use Rattle.rules_outcome.proofs.First.{first-holds, none-first, first-left, first-right, some-left, some-split, first-at, at-first}
 use Rattle.rules_outcome.proofs.Meets.{refused-first, accepted-is, accepted-none}
-use Rattle.rules_outcome.proofs.Demands.{one-of-nine}
+use Rattle.rules_outcome.proofs.Demands.{one-of-the-numbers}
 use Rattle.rules_sealed.specs.SealingKey.{sealingPart}
 use Rattle.rules_sealed.specs.SealedOutcome.{sealedConditions, SealedOutcome, not-opened, by-opened}
 use Rattle.rules_sealed.specs.SealedOrder.{OfOpened, onOpened, allRows, openedConditions, sealedOrder, RoomAfter, room-as-lent}
@@ -180,4 +180,4 @@ module _ (limits : Limits) (s : State) (now : ℕ) (octets room : List ℕ) wher
 
   pub one-of-ten : (n offset : ℕ) (next : State) (after : List ℕ) → SealedOutcome limits s now octets room n offset next after → n ≤ 10
   one-of-ten _ _ _ _ (not-opened n p) = before-most (suc n) (first-holds before n p)
-  one-of-ten _ _ _ _ (by-opened o {n} {next} p h u) = let l = one-of-nine limits s now [] o n next u in omega arith
+  one-of-ten _ _ _ _ (by-opened o {n} {next} p h u) = let l = one-of-the-numbers limits s now [] o n next u in omega arith

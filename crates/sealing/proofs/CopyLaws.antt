@@ -8,7 +8,7 @@ use lib.ListN.{length, take, drop, set, replicate, length-append, length-drop}
 use lib.Seq.{take-at, take-length, length-take-le, drop-append-add, drop-drop}
 use Rattle.octets.specs.Numbers.{oct, octetsOf}
 use Rattle.octets.specs.Generate.{gen}
-use Rattle.octets.proofs.Parts.{copied-end}
+use Rattle.lists.proofs.Slices.{copied-end}
 use Rattle.octets.proofs.Walks.{tail, to-end}
 use Rattle.sp800_38d.specs.Decryption.{plaintext}
 use Rattle.gcm.specs.Opening.{putAtStart}

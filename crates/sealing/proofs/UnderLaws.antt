@@ -10,7 +10,7 @@ use lib.Seq.{take-all, length-take-le}
 use Rattle.octets.specs.Numbers.{oct}
 use Rattle.octets.specs.Octets.{Octets}
 use Rattle.fips197.specs.Key.{isKey}
-use Rattle.state_keys.specs.Algorithms.{sizeOf}
+use Rattle.state_keys.specs.Algorithms.{isEncryptionSize}
 use Rattle.state_keys.proofs.Sizes.{encryption-size, among-is}
 use Rattle.sp800_38d.specs.Decryption.{plaintext}
 use Rattle.gcm.specs.Opening.{putAtStart}
@@ -33,7 +33,7 @@ from-start s n = ap (λ (k : ℕ). take k s) (let q : n - 0 ≡ n = omega arith 
 pub part-at : (n : ℕ) (o : List ℕ) → n ≤ length o → length (take (n - 0) (drop 0 o)) ≡ n
 part-at n o h = ap length (from-start o n) ∙ length-take-le n o h
 
-pub part-fits : (n : ℕ) (o : List ℕ) → sizeOf 1 n ≡ true → n ≤ length o
+pub part-fits : (n : ℕ) (o : List ℕ) → isEncryptionSize n ≡ true → n ≤ length o
     → (4 ≤ length (take (n - 0) (drop 0 o))) × T (isKey (length (take (n - 0) (drop 0 o)) - 4))
 part-fits n o e h =
     subst (λ (m : ℕ). (4 ≤ m) × T (isKey (m - 4))) (sym (part-at n o h))

@@ -6,7 +6,7 @@ ghost use Prim.Native.Nat.{ℕ, _-_, _≤_};
 ghost use lib.Dec.{T};
 ghost use lib.ListN.{length, take};
 ghost use Rattle.fips197.specs.Key.{isKey};
-ghost use Rattle.state_keys.specs.Algorithms.{sizeOf};
+ghost use Rattle.state_keys.specs.Algorithms.{isEncryptionSize};
 ghost use Rattle.gcm.specs.Opening.{putAtStart};
 ghost use Rattle.rfc5282.specs.Sizes.{saltOctets, fragmentBodyAt};
 ghost use Rattle.rfc5282.specs.Keys.{aesKeyOf, saltOf};
@@ -65,7 +65,7 @@ fn count_piece(part: &[u8], frame: &[u8]) -> Unsealed
 // Judges `frame`, which `is_fragment`, under the encryption part of the live Rekey SA's keying octets, for a room of this many octets: the
 // octets of its piece, or not. Nothing is written.
 pub fn piece_length(key: EncryptionKey, frame: &[u8], room: usize) -> Unsealed
-    requires { ⌜ sizeOf 1 (key .count) ≡ true ⌝ }
+    requires { ⌜ isEncryptionSize (key .count) ≡ true ⌝ }
     requires { ⌜ outerFragment (now frame) ≡ true ⌝ }
     ensures { λ r. ⌜ ((lent : List ℕ) → length lent ≡ room →
         PieceJudged (take (key .count) (key .octets)) (now (frame .entry)) lent r) ⌝ }
@@ -98,7 +98,7 @@ fn write_under(part: &[u8], frame: &[u8], p: usize, out: &mut [u8])
 
 // Writes the piece that `piece_length` counted at the start of `out`.
 pub fn write_piece(key: EncryptionKey, frame: &[u8], p: usize, out: &mut [u8])
-    requires { ⌜ sizeOf 1 (key .count) ≡ true ⌝ }
+    requires { ⌜ isEncryptionSize (key .count) ≡ true ⌝ }
     requires { ⌜ PieceOf (take (key .count) (key .octets)) (now frame) p ⌝ }
     requires { ⌜ p ≤ length (now out) ⌝ }
     ensures { λ _. ⌜ ((piece : List ℕ) →

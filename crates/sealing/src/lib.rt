@@ -13,7 +13,7 @@ ghost use lib.ListN.{length, take};
 ghost use Rattle.fips197.specs.Key.{isKey};
 ghost use Rattle.aes.specs.inner.Tables.{encipherTables};
 ghost use Rattle.aes.specs.inner.Schedule.{Expands, Expanded};
-ghost use Rattle.state_keys.specs.Algorithms.{sizeOf};
+ghost use Rattle.state_keys.specs.Algorithms.{isEncryptionSize};
 ghost use Rattle.sp800_38d.specs.Encryption.{nonceOctets};
 ghost use Rattle.rfc5282.specs.Sizes.{saltOctets, encryptedBodyAt};
 ghost use Rattle.rfc5282.specs.Keys.{aesKeyOf, nonceFor};
@@ -91,7 +91,7 @@ fn open_part(part: &[u8], frame: &[u8], room: &mut [u8]) -> Unsealed
 
 // Opens `frame`, which `is_outer`, under the encryption part of the live Rekey SA's keying octets, at the start of `room`.
 pub fn open_frame(key: EncryptionKey, frame: &[u8], room: &mut [u8]) -> Unsealed
-    requires { ⌜ sizeOf 1 (key .count) ≡ true ⌝ }
+    requires { ⌜ isEncryptionSize (key .count) ≡ true ⌝ }
     requires { ⌜ outer (now frame) ≡ true ⌝ }
     ensures { λ r. ⌜ UnsealsInto (take (key .count) (key .octets)) (now (frame .entry)) (now (room .entry)) r (now (room .exit)) ⌝ }
 {

@@ -1,6 +1,6 @@
 // Puts IP addresses.
+use text_faults::places::be16_or_0;
 use text_faults::places::octet;
-use text_faults::places::two;
 
 // Puts an address: 4 octets in decimal with dots, others as the groups of an IPv6 address.
 pub(crate) fn address(out: &mut [u8], n: usize, octets: &[u8]) -> usize {
@@ -26,7 +26,7 @@ fn groups(out: &mut [u8], n: usize, octets: &[u8]) -> usize {
 
 // Puts the two octets at `at` of an IPv6 address as one number, behind a colon if it is not the first.
 fn group(out: &mut [u8], n: usize, octets: &[u8], at: usize) -> usize {
-    let x = two(octets, at) as u64;
+    let x = be16_or_0(octets, at) as u64;
     if at == 0 {
         return text_names::hexadecimal(out, n, x, 1);
     }

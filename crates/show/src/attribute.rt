@@ -2,11 +2,11 @@
 use crate::line::INMOST;
 use crate::line::INNER;
 use text_faults::places::attribute_end;
-use text_faults::places::four;
+use text_faults::places::be16_or_0;
+use text_faults::places::be32_or_0;
 use text_faults::places::holds;
 use text_faults::places::part;
 use text_faults::places::span;
-use text_faults::places::two;
 use wire_attributes::Read;
 use wire_attributes::tables::Place;
 
@@ -177,8 +177,8 @@ fn counted(out: &mut [u8], n: usize, value: &[u8]) -> usize {
 fn number(out: &mut [u8], n: usize, value: &[u8]) -> usize {
     let count = value.len();
     match count {
-        2 => text_names::say(out, n, b": %", two(value, 0), 0, 0),
-        4 => text_names::say(out, n, b": %", four(value, 0), 0, 0),
+        2 => text_names::say(out, n, b": %", be16_or_0(value, 0), 0, 0),
+        4 => text_names::say(out, n, b": %", be32_or_0(value, 0), 0, 0),
         _ => counted(out, n, value),
     }
 }
@@ -204,8 +204,8 @@ fn wrapped(out: &mut [u8], n: usize, value: &[u8]) -> usize {
         out,
         n,
         text,
-        four(value, 0),
-        four(value, 4),
+        be32_or_0(value, 0),
+        be32_or_0(value, 4),
         span(8, value.len()),
     )
 }

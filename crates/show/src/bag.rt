@@ -1,5 +1,6 @@
 // Shows key bags: of a wrapped key its Key ID, its KWK ID and how many octets are wrapped, and no octet of it.
 use crate::line::MIDDLE;
+use ikev2_numbers::NO_PROTOCOL;
 use text_faults::places::behind;
 use text_faults::places::end_at;
 use text_faults::places::holds;
@@ -50,7 +51,7 @@ fn bag(out: &mut [u8], n: usize, s: &[u8], at: usize, end: usize, stop: usize) -
 }
 
 fn bag_head(out: &mut [u8], n: usize, first: usize, spi: &[u8]) -> usize {
-    if first == 0 {
+    if first == NO_PROTOCOL {
         return text_names::text(out, n, b"Member Key Bag\n");
     }
     crate::line::protocol_and_spi(out, n, b"Group Key Bag ", first, spi)

@@ -1,16 +1,16 @@
 // Shows the body of a Delete payload.
 use crate::line::MIDDLE;
+use text_faults::places::be16_or_0;
 use text_faults::places::behind;
 use text_faults::places::octet;
 use text_faults::places::part;
-use text_faults::places::two;
 
 // Puts the fields of the body from `from` to `to`, and its SPIs if the protocol is one with SPIs.
 pub(crate) fn delete(out: &mut [u8], n: usize, s: &[u8], from: usize, to: usize) -> usize {
     let protocol = octet(s, from);
     let size = octet(s, behind(from, 1));
     let a = crate::line::head(out, n, MIDDLE, from, 4);
-    let b = delete_head(out, a, protocol, size, two(s, behind(from, 2)));
+    let b = delete_head(out, a, protocol, size, be16_or_0(s, behind(from, 2)));
     if wire_policies::spi_size(protocol) == 0 {
         return b;
     }

@@ -1,6 +1,7 @@
 // Shows a frame: its header and its payloads, up to where its layout breaks.
 use crate::header::SIZE;
 use crate::line::OUTER;
+use ikev2_numbers::NO_PAYLOAD;
 use text_faults::places::behind;
 use text_faults::places::end_at;
 use text_faults::places::holds;
@@ -74,7 +75,7 @@ fn payloads(out: &mut [u8], n: usize, s: &[u8], stop: usize) -> usize {
     let mut kind = octet(s, 16);
     let mut at = SIZE;
     while at < s.len() {
-        if kind == 0 {
+        if kind == NO_PAYLOAD {
             return m;
         }
         let end = end_at(s, at, s.len(), 4);

@@ -1,6 +1,6 @@
 // Shows the IKE header of a frame.
 use crate::line::OUTER;
-use text_faults::places::four;
+use text_faults::places::be32_or_0;
 use text_faults::places::octet;
 use text_faults::places::part;
 
@@ -44,5 +44,5 @@ fn flag(out: &mut [u8], n: usize, x: usize, name: &[u8]) -> usize {
 fn identity(out: &mut [u8], n: usize, s: &[u8]) -> usize {
     let a = text_names::text(out, n, b", SPI ");
     let b = text_names::octets(out, a, part(s, 0, 16));
-    text_names::say(out, b, b", Message ID %\n", four(s, 20), 0, 0)
+    text_names::say(out, b, b", Message ID %\n", be32_or_0(s, 20), 0, 0)
 }

@@ -1,6 +1,6 @@
 // Tells what a line holds: a default key, a bare frame, or a tick and a frame.
 use crate::header::SIZE;
-use text_faults::places::four;
+use text_faults::places::be32_or_0;
 use text_faults::places::part;
 use wire_attributes::Layout;
 
@@ -31,7 +31,7 @@ fn is_counted(s: &[u8]) -> bool {
     if s.len() < SIZE {
         return false;
     }
-    four(s, 24) == s.len()
+    be32_or_0(s, 24) == s.len()
 }
 
 // Whether `s` is a tick and a frame, and no bare frame. Decides for the frame that is whole; if neither is, for the one whose length field
@@ -68,7 +68,7 @@ fn by_length(bare: bool, ticked: bool, keyed: bool) -> bool {
 // Puts the octets `s` of a line that is no key: its tick, if it has one, and its frame.
 pub(crate) fn show_octets(out: &mut [u8], n: usize, s: &[u8], keyed: bool) -> usize {
     if has_tick(s, keyed) {
-        let a = text_names::say(out, n, b"tick %, ", four(s, 0), 0, 0);
+        let a = text_names::say(out, n, b"tick %, ", be32_or_0(s, 0), 0, 0);
         return framed(out, a, part(s, TICK, s.len()));
     }
     framed(out, n, s)

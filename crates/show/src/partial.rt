@@ -1,12 +1,13 @@
 // Shows a policy in which the layout breaks, up to there. The view shows no such policy.
 use crate::line::MIDDLE;
+use ikev2_numbers::NO_PROTOCOL;
+use text_faults::places::be16_or_0;
 use text_faults::places::behind;
 use text_faults::places::end_at;
 use text_faults::places::holds;
 use text_faults::places::octet;
 use text_faults::places::part;
 use text_faults::places::span;
-use text_faults::places::two;
 use wire_attributes::tables::Place;
 
 // Puts the policy from `at` to `end`, up to `stop`.
@@ -37,7 +38,7 @@ fn held(
     stop: usize,
 ) -> usize {
     let spi = behind(at, 4);
-    if first == 0 {
+    if first == NO_PROTOCOL {
         let a = text_names::text(out, n, b"group-wide policy\n");
         return crate::attribute::attributes(out, a, Place::GroupWidePolicy, s, spi, end, stop);
     }
@@ -93,7 +94,7 @@ fn selector(out: &mut [u8], n: usize, first: bool, s: &[u8], at: usize, end: usi
     let p = part(s, at, end);
     let a = crate::policy::selector_head(out, n, first, at, span(at, end));
     let b = crate::policy::addresses(out, a, part(p, 8, p.len()));
-    crate::policy::ports(out, b, octet(p, 1), two(p, 4), two(p, 6))
+    crate::policy::ports(out, b, octet(p, 1), be16_or_0(p, 4), be16_or_0(p, 6))
 }
 
 // Puts the transforms up to the last one, then the attributes.
@@ -127,5 +128,5 @@ fn transform(out: &mut [u8], n: usize, s: &[u8], at: usize, end: usize, stop: us
     if at == stop {
         return text_faults::of_transform(out, n, p, stop);
     }
-    crate::policy::transform(out, n, octet(p, 4), two(p, 6), s, at, end, stop)
+    crate::policy::transform(out, n, octet(p, 4), be16_or_0(p, 6), s, at, end, stop)
 }

@@ -1,12 +1,12 @@
 // Shows policies. A whole one is read by the view (`wire_view`), one in which the layout breaks by `partial`.
 use crate::line::INNER;
 use crate::line::MIDDLE;
+use text_faults::places::be16_or_0;
 use text_faults::places::behind;
 use text_faults::places::end_at;
 use text_faults::places::holds;
 use text_faults::places::part;
 use text_faults::places::span;
-use text_faults::places::two;
 use wire_attributes::tables::Place;
 use wire_view::items::Item;
 use wire_view::read::Kind;
@@ -144,7 +144,7 @@ fn item(
             key_lengths: _,
             key_length: _,
         } => {
-            let next = behind(at, two(s, behind(at, 2)));
+            let next = behind(at, be16_or_0(s, behind(at, 2)));
             stepped(transform(out, n, kind, id, s, at, next, 0), next, then)
         }
         Item::Attribute {

@@ -7,9 +7,10 @@ use Prim.Native.Nat.{ℕ, _-_, _≤_}
 use native.Mathlib.Omega.{arith}
 use lib.ListN.{length, take, drop, length-append, length-drop, take-append-drop}
 use lib.Seq.{take-at, drop-at}
+use Rattle.lists.proofs.Cases.{bool-cases}
 use Rattle.octets.specs.Compare.{same}
 use Rattle.octets.specs.Octets.{Octets}
-use Rattle.octets.proofs.Order.{bool-cases, same-eq, eq-same}
+use Rattle.octets.proofs.Order.{same-eq, eq-same}
 use Rattle.fips197.specs.Key.{Key}
 use Rattle.sp800_38d.specs.Encryption.{nonceOctets, tagOctets, tag}
 use Rattle.sp800_38d.specs.Decryption.{plaintext, Unseals, Decrypts}

@@ -5,7 +5,7 @@ use mathlib.Core.Path.{_≡_, refl}
 use mathlib.Core.Bool.{true, false, not}
 use mathlib.Core.List.{List, [], _∷_}
 use lib.ListN.{replicate}
-use Rattle.state_keys.specs.Lists.{all, any, insert}
+use Rattle.lists.specs.Lists.{all, any, insert}
 use Rattle.state_keys.specs.Limits.{Limits}
 use Rattle.state_keys.specs.Algorithms.{sizeOf}
 use Rattle.state_keys.specs.Kinds.{wrappingOf}

@@ -6,7 +6,7 @@ use mathlib.Core.Bool.{Bool, true, false}
 use mathlib.Core.List.{List, [], _∷_, _++_, map}
 use lib.ListN.{replicate}
 use Rattle.octets.specs.Compare.{orderOf, less}
-use Rattle.state_keys.specs.Lists.{all, any, count, heads, rising}
+use Rattle.lists.specs.Lists.{all, any, count, heads, rising}
 use Rattle.state_keys.specs.Limits.{limits}
 use Rattle.state_keys.specs.Algorithms.{sizeOf}
 use Rattle.state_keys.specs.Kinds.{padded, wrappingOf, rekeySizes}

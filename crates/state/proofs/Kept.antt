@@ -10,9 +10,9 @@ use lib.Dec.{eqb}
 use lib.ListN.{length, replicate}
 use lib.Seq.{take-append-seam}
 use Rattle.state_keys.specs.Limits.{Limits}
-use Rattle.state_keys.specs.Lists.{all, any, rising, insert}
-use Rattle.state_keys.proofs.Cases.{bool-cases, lt-cases, and-parts, and-whole}
-use Rattle.state_keys.proofs.Rising.{length-insert, all-insert, rising-insert, first-before, rising-rest}
+use Rattle.lists.specs.Lists.{all, any, rising, insert}
+use Rattle.lists.proofs.Cases.{bool-cases, lt-cases, and-parts, and-whole}
+use Rattle.lists.proofs.Rising.{length-insert, all-insert, rising-insert, first-before, rising-rest}
 use Rattle.state_table.specs.Table.{tableFormed, swept}
 use Rattle.state_table.proofs.Kept.{new-formed, swept-formed}
 use Rattle.state_table.proofs.Blanks.{new-blank, swept-blank}

@@ -8,9 +8,9 @@ use borrow.Author.Tests.{le-leb, lt-leb, lt-ltb, le-ltb, eq-eqb, ne-eqb}
 use lib.ListN.{length, take, drop, getD, set, replicate}
 use lib.Seq.{take-suc, take-suc-set}
 use Rattle.state_keys.specs.Limits.{Limits}
-use Rattle.state_keys.specs.Lists.{all, any, insert}
-use Rattle.state_keys.specs.Algorithms.{sizeOf}
-use Rattle.state_keys.proofs.Parts.{part-cons, part-end}
+use Rattle.lists.specs.Lists.{all, any, insert}
+use Rattle.state_keys.specs.Algorithms.{isWrappingSize}
+use Rattle.lists.proofs.Parts.{part-cons, part-end}
 use Rattle.state_table.specs.declared.Table.{Table}
 use Rattle.state_table.specs.declared.SaFound.{SaFound}
 use Rattle.state_table.specs.Table.{tableFormed, swept, none, foundSa}
@@ -110,7 +110,7 @@ module _ (limits : Limits) (h : Held) where
   unfolding heldFormed
   held-distinct r ids g e m f = rw (le-leb (h .count) (limits .heldKeys) g, e) (f ∙ ap distinct m)
 
-pub key-is : (k : HeldKey) (r : Bool) → (k .id ≡ 0 → ⊥) → r ≡ sizeOf 13 (k .key .count) → r ≡ keyFormed k
+pub key-is : (k : HeldKey) (r : Bool) → (k .id ≡ 0 → ⊥) → r ≡ isWrappingSize (k .key .count) → r ≡ keyFormed k
 unfolding keyFormed
 key-is k r f e = rw (ne-eqb (k .id) 0 f) e
 

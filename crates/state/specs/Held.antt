@@ -5,9 +5,9 @@ use mathlib.Core.Bool.{Bool, true, false, cond, not, _&&_}
 use mathlib.Core.List.{List, [], _∷_, _++_, map}
 use lib.Dec.{leb, eqb}
 use lib.ListN.{length, take, replicate}
-use Rattle.state_keys.specs.Lists.{all, any}
+use Rattle.lists.specs.Lists.{all, any}
 use Rattle.state_keys.specs.Limits.{Limits}
-use Rattle.state_keys.specs.Algorithms.{sizeOf}
+use Rattle.state_keys.specs.Algorithms.{isWrappingSize}
 use Rattle.state_keys.specs.Kinds.{wrappingOf}
 use Rattle.state_keys.specs.declared.kinds.MadeWrapping.{MadeWrapping}
 use Rattle.state.specs.declared.held.HeldKey.{HeldKey}
@@ -27,7 +27,7 @@ heldOf limits l = record { keys = l ++ replicate (limits .heldKeys - length l) b
 
 -- "none 0, values of 16, 24 or 32 octets"
 unfoldable pub keyFormed : HeldKey → Bool
-keyFormed k = not (eqb (k .id) 0) && sizeOf 13 (k .key .count)
+keyFormed k = not (eqb (k .id) 0) && isWrappingSize (k .key .count)
 
 -- the Key IDs of some keys, in their order
 abbrev pub idsOf : List HeldKey → List ℕ

@@ -5,7 +5,7 @@ ghost use mathlib.Core.List.{[]};
 ghost use Prim.Native.Nat.{_≤_};
 ghost use lib.ListN.{length, take, drop};
 ghost use Rattle.state_keys.specs.Limits.{limits};
-ghost use Rattle.state_keys.specs.Lists.{all};
+ghost use Rattle.lists.specs.Lists.{all};
 ghost use Rattle.state.specs.Held.{blankKey, keysOf, heldOf, keyFormed, idsOf, has, distinct, heldFormed, heldKey};
 ghost use Rattle.state.specs.inner.Entering.{idBefore, enteredKey};
 use state_keys::kinds::MadeWrapping;

@@ -1,11 +1,3 @@
-pub mod Cases
-pub mod Parts
 pub mod Sizes
-pub mod Lists
-pub mod Fill
-pub mod Place
-pub mod Rising
 pub mod Made
-pub mod Members
-pub mod Sift
 pub mod Rows

@@ -12,20 +12,20 @@ use lib.ListN.{length, drop, getD, drop-of-length-le}
 use lib.Seq.{drop-cons}
 use Rattle.state_keys.specs.declared.algorithms.AlgorithmRow.{AlgorithmRow}
 use Rattle.state_keys.specs.declared.algorithms.Needed.the-variants.{Octets, Nothing}
-use Rattle.state_keys.specs.Lists.{any}
-use Rattle.state_keys.specs.Algorithms.{algorithms, sizeOf, isRowOf, neededIn, neededBy}
+use Rattle.lists.specs.Lists.{any}
+use Rattle.state_keys.specs.Algorithms.{algorithms, sizeOf, isRowOf, neededIn, neededBy, isWrappingSize, isEncryptionSize}
 use Rattle.state_keys.specs.Kinds.{rekeySizes}
-use Rattle.state_keys.proofs.Cases.{bool-cases, and-parts}
+use Rattle.lists.proofs.Cases.{bool-cases, and-parts}
 
 -- one of three counts
 abbrev pub among : ℕ → ℕ → ℕ → ℕ → Bool
 among a b c n = eqb n a || (eqb n b || (eqb n c || false))
 
-pub wrapping-size : (n : ℕ) → sizeOf 13 n ≡ among 16 24 32 n
+pub wrapping-size : (n : ℕ) → isWrappingSize n ≡ among 16 24 32 n
 unfolding sizeOf any
 wrapping-size n = refl
 
-pub encryption-size : (n : ℕ) → sizeOf 1 n ≡ among 20 28 36 n
+pub encryption-size : (n : ℕ) → isEncryptionSize n ≡ among 20 28 36 n
 unfolding sizeOf any
 encryption-size n = refl
 
@@ -56,16 +56,16 @@ module _ (a b c n : ℕ) where
   among-ge m x y z (inr (inl e)) = omega arith
   among-ge m x y z (inr (inr e)) = omega arith
 
-pub wrapping-le : (n : ℕ) → sizeOf 13 n ≡ true → n ≤ 32
+pub wrapping-le : (n : ℕ) → isWrappingSize n ≡ true → n ≤ 32
 wrapping-le n e = among-le 16 24 32 n 32 (omega arith) (omega arith) (omega arith) (among-is 16 24 32 n (sym (wrapping-size n) ∙ e))
 
-pub encryption-le : (n : ℕ) → sizeOf 1 n ≡ true → n ≤ 36
+pub encryption-le : (n : ℕ) → isEncryptionSize n ≡ true → n ≤ 36
 encryption-le n e = among-le 20 28 36 n 36 (omega arith) (omega arith) (omega arith) (among-is 20 28 36 n (sym (encryption-size n) ∙ e))
 
 -- the two parts of a Rekey SA's keying octets
-pub rekey-parts : (e w : ℕ) → rekeySizes e w ≡ true → (sizeOf 1 e ≡ true) × (sizeOf 13 w ≡ true)
+pub rekey-parts : (e w : ℕ) → rekeySizes e w ≡ true → (isEncryptionSize e ≡ true) × (isWrappingSize w ≡ true)
 unfolding rekeySizes
-rekey-parts e w p = and-parts (sizeOf 1 e) (sizeOf 13 w) p
+rekey-parts e w p = and-parts (isEncryptionSize e) (isWrappingSize w) p
 
 pub rekey-le : (e w : ℕ) → rekeySizes e w ≡ true → (e ≤ 36) × (w ≤ 32)
 rekey-le e w p = let q = rekey-parts e w p in (encryption-le e (q .0), wrapping-le w (q .1))

@@ -4,7 +4,8 @@ use Prim.Native.Nat.{ℕ}
 use mathlib.Core.Bool.{Bool, cond, not, _&&_, _||_}
 use mathlib.Core.List.{List, [], _∷_}
 use lib.Dec.{eqb}
-use Rattle.state_keys.specs.Lists.{any}
+use Rattle.ikev2_numbers.specs.Codes.{transformEncr, transformKwa}
+use Rattle.lists.specs.Lists.{any}
 use Rattle.state_keys.specs.declared.algorithms.AlgorithmRow.{AlgorithmRow}
 use Rattle.state_keys.specs.declared.algorithms.Needed.{Needed}
 use Rattle.state_keys.specs.declared.algorithms.Needed.the-variants.{Octets, Nothing}
@@ -20,7 +21,7 @@ algorithms =
 
 -- r is the row of the transform with type k, ID i and Key Length b. The Key Length is read in type 1 alone
 unfoldable pub isRowOf : ℕ → ℕ → ℕ → AlgorithmRow → Bool
-isRowOf k i b r = eqb (r .kind) k && (eqb (r .id) i && (not (eqb k 1) || eqb (r .bits) b))
+isRowOf k i b r = eqb (r .kind) k && (eqb (r .id) i && (not (eqb k transformEncr) || eqb (r .bits) b))
 
 unfoldable pub neededIn : ℕ → ℕ → ℕ → List AlgorithmRow → Needed
 neededIn k i b [] = Nothing
@@ -33,3 +34,11 @@ neededBy k i b = neededIn k i b algorithms
 -- some row of transform type k needs n octets
 unfoldable pub sizeOf : ℕ → ℕ → Bool
 sizeOf k n = any (λ (r : AlgorithmRow). eqb (r .kind) k && eqb n (r .octets)) algorithms
+
+-- a wrapping key can have n octets: "need 16, 24, 32"
+abbrev pub isWrappingSize : ℕ → Bool
+isWrappingSize n = sizeOf transformKwa n
+
+-- an encryption key can: "needs 20, 28, 36 octets"
+abbrev pub isEncryptionSize : ℕ → Bool
+isEncryptionSize n = sizeOf transformEncr n

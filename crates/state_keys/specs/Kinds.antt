@@ -7,7 +7,7 @@ use mathlib.Core.List.{List, [], _++_}
 use lib.Dec.{eqb}
 use lib.ListN.{length, take, drop, replicate}
 use Rattle.state_keys.specs.Rooms.{encryptionKeyRoom, saRoom, wrappingKeyRoom}
-use Rattle.state_keys.specs.Algorithms.{sizeOf}
+use Rattle.state_keys.specs.Algorithms.{isWrappingSize, isEncryptionSize}
 use Rattle.state_keys.specs.declared.kinds.WrappingKey.{WrappingKey}
 use Rattle.state_keys.specs.declared.kinds.EspKey.{EspKey}
 use Rattle.state_keys.specs.declared.kinds.EncryptionKey.{EncryptionKey}
@@ -31,14 +31,14 @@ valueOf k = take (k .count) (k .octets)
 
 unfoldable pub wrappingKey : List ℕ → MadeWrapping
 wrappingKey x =
-    cond (sizeOf 13 (length x)) (record { fits = true; key = wrappingOf x }) (record { fits = false; key = wrappingOf [] })
+    cond (isWrappingSize (length x)) (record { fits = true; key = wrappingOf x }) (record { fits = false; key = wrappingOf [] })
 
 -- ---- the keying octets of an ESP SA: the first number (transform type 1)
 abbrev pub espOf : List ℕ → EspKey
 espOf x = record { octets = padded encryptionKeyRoom x; count = length x }
 
 unfoldable pub espKey : List ℕ → MadeEsp
-espKey x = cond (sizeOf 1 (length x)) (record { fits = true; key = espOf x }) (record { fits = false; key = espOf [] })
+espKey x = cond (isEncryptionSize (length x)) (record { fits = true; key = espOf x }) (record { fits = false; key = espOf [] })
 
 -- ---- the encryption part of a Rekey SA's keying octets
 abbrev pub encryptionOf : List ℕ → EncryptionKey
@@ -46,11 +46,11 @@ encryptionOf x = record { octets = padded encryptionKeyRoom x; count = length x 
 
 unfoldable pub encryptionKey : List ℕ → MadeEncryption
 encryptionKey x =
-    cond (sizeOf 1 (length x)) (record { fits = true; key = encryptionOf x }) (record { fits = false; key = encryptionOf [] })
+    cond (isEncryptionSize (length x)) (record { fits = true; key = encryptionOf x }) (record { fits = false; key = encryptionOf [] })
 
 -- ---- the keying octets of a Rekey SA: a first number and a second one
 unfoldable pub rekeySizes : ℕ → ℕ → Bool
-rekeySizes e w = sizeOf 1 e && sizeOf 13 w
+rekeySizes e w = isEncryptionSize e && isWrappingSize w
 
 abbrev pub rekeyOf : List ℕ → ℕ → ℕ → RekeyKey
 rekeyOf x e w = record { octets = padded saRoom x; encryption = e; wrapping = w }

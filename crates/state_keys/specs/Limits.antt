@@ -19,7 +19,7 @@ pub record Limits : Type 0 where
 abbrev pub limits : Limits
 limits = record { sas = 64; heldKeys = 128; espPolicies = 24; wrapKeys = 128; saKeys = 32; deletedSpis = 32; freshKeys = 128 }
 
--- document 01's own figures, which are T-01's "old limits", with T-11's for what they do not name. The theorem between the two records (rules_outcome/proofs/Wider) and the
--- samples of these figures (rules_refusals/proofs/SamplesOfLimits) alone cite this one
+-- document 01's own figures, which are T-01's "old limits", with T-11's for what they do not name. The theorem between the two records
+-- (rules_outcome/proofs/Wider) and the samples of these figures (rules_refusals/proofs/SamplesOfLimits) alone cite this one
 abbrev pub limitsBeforeT01 : Limits
 limitsBeforeT01 = record { sas = 16; heldKeys = 32; espPolicies = 8; wrapKeys = 32; saKeys = 32; deletedSpis = 32; freshKeys = 128 }

@@ -1,7 +1,7 @@
 // The kinds of key. Each carries the octet counts of its kind as constants and has a constructor, so that a key of one kind is never taken
 // for one of another because their sizes agree. Octets past a key's count are 0 in every value that a constructor makes.
 ghost use mathlib.Core.Path.{_≡_};
-ghost use Rattle.state_keys.specs.Algorithms.{sizeOf};
+ghost use Rattle.state_keys.specs.Algorithms.{isWrappingSize, isEncryptionSize};
 ghost use Rattle.state_keys.specs.Kinds.{wrappingKey, espKey, encryptionKey, rekeySizes, rekeyKey, keyWrapPart, encryptionPart};
 use crate::rooms::ENCRYPTION_KEY;
 use crate::rooms::SA_OCTETS;
@@ -66,7 +66,7 @@ impl WrappingKey {
 
     // Whether a wrapping key can have `n` octets.
     pub fn is_size(n: usize) -> bool
-        ensures { λ r. ⌜ r ≡ sizeOf 13 n ⌝ }
+        ensures { λ r. ⌜ r ≡ isWrappingSize n ⌝ }
     {
         if n == WrappingKey::KW_128 {
             return true;
@@ -109,7 +109,7 @@ impl EncryptionKey {
 
     // Whether an encryption part can have `n` octets.
     pub fn is_size(n: usize) -> bool
-        ensures { λ r. ⌜ r ≡ sizeOf 1 n ⌝ }
+        ensures { λ r. ⌜ r ≡ isEncryptionSize n ⌝ }
     {
         if n == EncryptionKey::GCM_128 {
             return true;
@@ -152,7 +152,7 @@ impl EspKey {
 
     // Whether an ESP SA can have `n` keying octets.
     pub fn is_size(n: usize) -> bool
-        ensures { λ r. ⌜ r ≡ sizeOf 1 n ⌝ }
+        ensures { λ r. ⌜ r ≡ isEncryptionSize n ⌝ }
     {
         if n == EspKey::GCM_128 {
             return true;

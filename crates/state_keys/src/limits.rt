@@ -1,5 +1,5 @@
-// The limits of document 01, four of them raised by document 02, T-01, and one that T-11 adds. Each is named once; the record of specs/Limits.antt has the same
-// figures.
+// The limits of document 01, four of them raised by document 02, T-01, and one that T-11 adds. Each is named once; the record of
+// specs/Limits.antt has the same figures.
 ghost use mathlib.Core.Path.{_≡_};
 ghost use mathlib.Core.List.{[], _∷_};
 ghost use Rattle.state_keys.specs.Limits.{limits};

@@ -4,7 +4,7 @@ use mathlib.Core.Path.{_≡_, refl}
 use mathlib.Core.Bool.{Bool, true, false}
 use mathlib.Core.List.{List, [], _∷_, map}
 use lib.Dec.{leb·zero}
-use Rattle.state_keys.specs.Lists.{any}
+use Rattle.lists.specs.Lists.{any}
 use Rattle.state_keys.specs.Algorithms.{sizeOf}
 use Rattle.state_sa.specs.declared.entry.Condition.{Condition}
 use Rattle.state_sa.specs.declared.entry.Condition.the-variants.{Live, Retiring}

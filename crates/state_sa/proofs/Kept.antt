@@ -8,7 +8,7 @@ use borrow.Author.Tests.{eq-eqb}
 use lib.Dec.{eqb}
 use lib.ListN.{length, take, replicate}
 use lib.Seq.{take-at, take-append-seam}
-use Rattle.state_keys.specs.Algorithms.{sizeOf}
+use Rattle.state_keys.specs.Algorithms.{isEncryptionSize}
 use Rattle.state_keys.specs.Kinds.{padded, espOf, rekeyOf, rekeySizes}
 use Rattle.state_sa.specs.declared.entry.Condition.{Condition}
 use Rattle.state_sa.specs.declared.entry.Condition.the-variants.{Live, Retiring}
@@ -77,7 +77,8 @@ rekey-blank x o e w t f g =
     }
 
 -- ---- what is made of fitting keys is as a table's SAs must be
-pub esp-formed : (x y : List ℕ) (t : Lifetime) → sizeOf 1 (length y) ≡ true → fitLifetime t ≡ true → saFormed (espSa x (espOf y) t) ≡ true
+pub esp-formed : (x y : List ℕ) (t : Lifetime) → isEncryptionSize (length y) ≡ true → fitLifetime t ≡ true
+    → saFormed (espSa x (espOf y) t) ≡ true
 unfolding espSa saSized saFormed
 esp-formed x y t e h = rw (e, h)
 

@@ -11,7 +11,7 @@ use Rattle.octets.specs.Compare.{less, same}
 use Rattle.state_keys.specs.Kinds.{padded, rekeySizes}
 use Rattle.state_keys.specs.declared.kinds.EspKey.{EspKey}
 use Rattle.state_keys.specs.declared.kinds.RekeyKey.{RekeyKey}
-use Rattle.state_keys.proofs.Parts.{copied}
+use Rattle.lists.proofs.Parts.{copied}
 use Rattle.state_sa.specs.declared.entry.Condition.{Condition}
 use Rattle.state_sa.specs.declared.entry.Condition.the-variants.{Live, Retiring}
 use Rattle.state_sa.specs.declared.entry.Lifetime.{Lifetime}

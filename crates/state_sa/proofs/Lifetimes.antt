@@ -2,23 +2,18 @@
 use native.Mathlib.Omega.{arith}
 use Prim.Native.Nat.{ℕ, _+_, _-_, _*_, _≤_, _<_, _^_, _%_}
 use mathlib.Core.Path.{_≡_, refl, ap, sym, _∙_}
-use mathlib.Core.Bool.{Bool, true, false, _||_, false≢true}
+use mathlib.Core.Bool.{Bool, true, false, false≢true, or-false}
 use mathlib.Core.Logic.{_⊎_, inl, inr}
 use borrow.Author.Tests.{le-leb, leb-true}
-use lib.Dec.{leb}
 use Rattle.state_sa.specs.declared.entry.Condition.{Condition}
 use Rattle.state_sa.specs.declared.entry.Condition.the-variants.{Live, Retiring}
 use Rattle.state_sa.specs.declared.entry.Lifetime.{Lifetime}
 use Rattle.state_sa.specs.declared.entry.Lifetime.the-variants.{Unlimited, Limited}
 use Rattle.state_sa.specs.declared.entry.Sa.{Sa}
 use Rattle.state_sa.specs.Clock.{elapsed, elapsedAtLeast}
-use Rattle.state_keys.proofs.Cases.{and-parts}
+use Rattle.lists.proofs.Cases.{and-parts, or-cases, or-right}
 use Rattle.state_sa.specs.DueSays.{DelayRan, LifetimeRan}
 use Rattle.state_sa.specs.Entry.{mostSeconds, fitLifetime, saSized, saFormed, dueBy, ranOut, due, retired}
-
-either-true : (a b : Bool) → a || b ≡ true → (a ≡ true) ⊎ (b ≡ true)
-either-true true b e = inl refl
-either-true false b e = inr e
 
 module _ (now : ℕ) where
   passed-of : (start n : ℕ) → elapsedAtLeast now start n ≡ true → 1000 * n ≤ elapsed now start
@@ -41,31 +36,23 @@ module _ (now : ℕ) where
     -- "A live SA is due when its lifetime has run, by the same modulo rule as retiring"; "A retiring SA is due at whichever comes first."
     pub due-means : due now s ≡ true → DelayRan now s ⊎ LifetimeRan now s
     unfolding due
-    due-means e = go (either-true (dueBy now (s .condition)) (ranOut now (s .lifetime)) e)
+    due-means e = go (or-cases (dueBy now (s .condition)) (ranOut now (s .lifetime)) e)
       where
         go : (dueBy now (s .condition) ≡ true) ⊎ (ranOut now (s .lifetime) ≡ true) → DelayRan now s ⊎ LifetimeRan now s
         go (inl q) = inl (by-delay (s .condition) refl q)
         go (inr q) = inr (by-lifetime (s .lifetime) refl q)
 
-    or-true : (a b : Bool) → b ≡ true → a || b ≡ true
-    or-true true b e = refl
-    or-true false b e = e
-
     pub means-due : DelayRan now s ⊎ LifetimeRan now s → due now s ≡ true
     unfolding due
     means-due (inl r) = rw (ap (dueBy now) (r .retires) ∙ of-passed (r .start) (r .delay) (r .passed))
     means-due (inr r) =
-        or-true (dueBy now (s .condition)) (ranOut now (s .lifetime))
+        or-right (dueBy now (s .condition)) (ranOut now (s .lifetime))
         (ap (ranOut now) (r .limited) ∙ of-passed (r .start) (r .seconds) (r .passed))
 
     -- an SA without a lifetime: "a retiring SA is due when (now − start) modulo 2^32 is at least 1,000 × delay", a live one is not
     pub due-without : s .lifetime ≡ Unlimited → due now s ≡ dueBy now (s .condition)
     unfolding due
     due-without e = rw (ap (ranOut now) e) (or-false (dueBy now (s .condition)))
-      where
-        or-false : (b : Bool) → b || false ≡ b
-        or-false true = refl
-        or-false false = refl
 
     -- a live SA is due exactly when its lifetime has run
     pub due-of-live : s .condition ≡ Live → due now s ≡ ranOut now (s .lifetime)

@@ -9,7 +9,7 @@ use borrow.Author.Tests.{lt-ltb, le-ltb, eq-eqb, eqb-true}
 use lib.Dec.{eqb}
 use Rattle.octets.specs.Compare.{less, same}
 use Rattle.octets.proofs.Order.{Lex, lex-trans, less-trans, less-irrefl, less-total, same-eq, eq-same}
-use Rattle.state_keys.proofs.Cases.{lt-cases, and-parts, and-whole}
+use Rattle.lists.proofs.Cases.{lt-cases, and-parts, and-whole}
 use Rattle.state_sa.specs.declared.entry.Sa.{Sa}
 use Rattle.state_sa.specs.Entry.{saSpi, saBefore, named}
 

@@ -9,7 +9,7 @@ use lib.ListN.{take}
 use Rattle.state_keys.specs.Rooms.{saRoom, spiRoom}
 use Rattle.ikev2_numbers.specs.Codes.{dataSpiOctets, protocolEsp, protocolGikeUpdate, rekeySpiOctets}
 use Rattle.octets.specs.Compare.{less, same}
-use Rattle.state_keys.specs.Algorithms.{sizeOf}
+use Rattle.state_keys.specs.Algorithms.{isEncryptionSize}
 use Rattle.state_keys.specs.Kinds.{padded, rekeySizes}
 use Rattle.state_keys.specs.declared.kinds.EspKey.{EspKey}
 use Rattle.state_keys.specs.declared.kinds.RekeyKey.{RekeyKey}
@@ -46,7 +46,7 @@ named p x s = eqb (s .protocol) p && same (saSpi s) x
 -- "protocol (3 or 6) ... keying octets of a size the table below needs": an ESP SA "the first number, a Rekey SA the sum of both"
 unfoldable pub saSized : Sa → Bool
 saSized s =
-    cond (eqb (s .protocol) espProtocol) (sizeOf 1 (s .count))
+    cond (eqb (s .protocol) espProtocol) (isEncryptionSize (s .count))
     (eqb (s .protocol) rekeyProtocol && (rekeySizes (s .encryption) (s .wrapping) && eqb (s .count) (s .encryption + s .wrapping)))
 
 -- "at most 2,000,000 seconds"

@@ -5,6 +5,7 @@ ghost use mathlib.Core.Path.{_≡_};
 ghost use mathlib.Core.Bool.{true};
 ghost use Prim.Native.Nat.{_+_, _≤_};
 ghost use lib.ListN.{length};
+ghost use Rattle.state_keys.specs.Rooms.{encryptionKeyRoom};
 ghost use Rattle.state_keys.specs.Kinds.{rekeySizes};
 ghost use Rattle.state_sa.specs.Entry.{makeSa, blankSa, saSpiSize, saBefore, named, saSized, fitLifetime, saFormed, liveRekey, dueBy};
 ghost use Rattle.state_sa.specs.Entry.{ranOut, due};
@@ -105,7 +106,7 @@ impl Sa {
 
     // Makes a live ESP SA with the SPI `spi`, the keying octets of `key` and `lifetime`.
     pub fn esp(spi: &[u8], key: EspKey, lifetime: Lifetime) -> Sa
-        requires { ⌜ (length (now spi) ≡ 4) × (key .count ≤ 36) ⌝ }
+        requires { ⌜ (length (now spi) ≡ 4) × (key .count ≤ encryptionKeyRoom) ⌝ }
         ensures { λ r. ⌜ r ≡ espSa (now (spi .entry)) key lifetime ⌝ }
     {
         let n = key.count;

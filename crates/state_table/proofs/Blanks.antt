@@ -6,8 +6,8 @@ use mathlib.Core.List.{List, [], _∷_, _++_, map}
 use borrow.Author.Tests.{lt-ltb, le-ltb}
 use lib.ListN.{length, replicate}
 use Rattle.state_keys.specs.Limits.{Limits}
-use Rattle.state_keys.specs.Lists.{keep, insert}
-use Rattle.state_keys.proofs.Cases.{bool-cases, lt-cases}
+use Rattle.lists.specs.Lists.{keep, insert}
+use Rattle.lists.proofs.Cases.{bool-cases, lt-cases}
 use Rattle.state_sa.specs.Entry.{saBefore, due, blankSa}
 use Rattle.state_sa.specs.Blank.{ZeroPadded}
 use Rattle.state_sa.specs.declared.entry.Sa.{Sa}

@@ -6,8 +6,8 @@ use mathlib.Core.Logic.{_⊎_}
 use mathlib.Core.List.{List·Memᴰ}
 use borrow.Author.Tests.{lt-ltb, not-true}
 use Rattle.state_keys.specs.Limits.{Limits}
-use Rattle.state_keys.specs.Lists.{insert}
-use Rattle.state_keys.proofs.Members.{kept-member, member-kept, inserted-member, member-inserted}
+use Rattle.lists.specs.Lists.{insert}
+use Rattle.lists.proofs.Members.{kept-member, member-kept, inserted-member, member-inserted}
 use Rattle.state_sa.specs.Entry.{saBefore, due}
 use Rattle.state_sa.specs.declared.entry.Sa.{Sa}
 use Rattle.state_table.specs.declared.Table.{Table}

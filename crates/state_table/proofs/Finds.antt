@@ -6,9 +6,9 @@ use mathlib.Core.Bool.{Bool, true, false, false≢true}
 use mathlib.Core.Logic.{⊎-elim}
 use mathlib.Core.List.{List, [], _∷_, List·Memᴰ, List·Memᴰ·head, List·Memᴰ·tail, List·Memᴰ·not-nil, List·Memᴰ·cases-cons}
 use Rattle.state_keys.specs.Limits.{Limits}
-use Rattle.state_keys.specs.Lists.{any, count, rising}
-use Rattle.state_keys.proofs.Cases.{bool-cases}
-use Rattle.state_keys.proofs.Rising.{first-before, rising-rest, rising-unique}
+use Rattle.lists.specs.Lists.{any, count, rising}
+use Rattle.lists.proofs.Cases.{bool-cases}
+use Rattle.lists.proofs.Rising.{first-before, rising-rest, rising-unique}
 use Rattle.state_sa.specs.Entry.{saSpi, saBefore, named, liveRekey}
 use Rattle.state_sa.specs.declared.entry.Sa.{Sa}
 use Rattle.state_sa.proofs.Order.{before-trans, before-irrefl, same-not-before, named-is}

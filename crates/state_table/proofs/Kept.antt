@@ -10,10 +10,10 @@ use lib.Dec.{leb}
 use lib.ListN.{length, take, replicate, length-map}
 use lib.Seq.{take-append-seam}
 use Rattle.state_keys.specs.Limits.{Limits}
-use Rattle.state_keys.specs.Lists.{all, any, count, keep, rising, insert}
-use Rattle.state_keys.proofs.Cases.{bool-cases, and-parts}
-use Rattle.state_keys.proofs.Rising.{all-keep, count-keep, length-keep, length-insert, all-insert, count-insert, rising-keep, rising-insert}
-use Rattle.state_keys.proofs.Rising.{all-map, count-map, rising-map}
+use Rattle.lists.specs.Lists.{all, any, count, keep, rising, insert}
+use Rattle.lists.proofs.Cases.{bool-cases, and-parts}
+use Rattle.lists.proofs.Rising.{all-keep, count-keep, length-keep, length-insert, all-insert, count-insert, rising-keep, rising-insert}
+use Rattle.lists.proofs.Rising.{all-map, count-map, rising-map}
 use Rattle.state_sa.specs.Entry.{saSpi, saBefore, named, saFormed, liveRekey, due, blankSa}
 use Rattle.state_sa.specs.declared.entry.Sa.{Sa}
 use Rattle.state_sa.proofs.Order.{SameName, before-trans, before-total, is-named}

@@ -8,11 +8,11 @@ use borrow.Author.Tests.{le-leb, lt-leb, ne-eqb}
 use lib.Dec.{leb, eqb, eqb·suc-zero}
 use lib.ListN.{length, take, drop, getD, replicate}
 use Rattle.state_keys.specs.Limits.{Limits}
-use Rattle.state_keys.specs.Lists.{all, count, keep, rising}
-use Rattle.state_keys.proofs.Cases.{bool-cases, lt-cases}
-use Rattle.state_keys.proofs.Lists.{all-yes, all-no, all-end, count-yes, count-no, count-end, rising-next, rising-end}
-use Rattle.state_keys.proofs.Parts.{part-cons, part-end}
-use Rattle.state_keys.proofs.Fill.{Filled, filled-count, filled-all}
+use Rattle.lists.specs.Lists.{all, count, keep, rising}
+use Rattle.lists.proofs.Cases.{bool-cases, lt-cases}
+use Rattle.lists.proofs.Lists.{all-yes, all-no, all-end, count-yes, count-no, count-end, rising-next, rising-end}
+use Rattle.lists.proofs.Parts.{part-cons, part-end}
+use Rattle.lists.proofs.Fill.{Filled, filled-count, filled-all}
 use Rattle.state_sa.specs.Entry.{saBefore, saFormed, liveRekey, due, retired, blankSa}
 use Rattle.state_sa.specs.declared.entry.Sa.{Sa}
 use Rattle.state_table.specs.declared.Table.{Table}

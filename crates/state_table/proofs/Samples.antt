@@ -5,7 +5,7 @@ use mathlib.Core.List.{[], _∷_}
 use lib.ListN.{replicate}
 use Rattle.octets.specs.Compare.{orderOf, less, same}
 use Rattle.state_keys.specs.Limits.{limits}
-use Rattle.state_keys.specs.Lists.{insert}
+use Rattle.lists.specs.Lists.{insert}
 use Rattle.state_sa.specs.Entry.{saBefore, named, makeSa}
 use Rattle.state_sa.specs.declared.entry.Condition.the-variants.{Live}
 use Rattle.state_sa.specs.declared.entry.Lifetime.the-variants.{Unlimited}

@@ -5,7 +5,7 @@ use mathlib.Core.Bool.{Bool, true, false, cond, not, _&&_}
 use mathlib.Core.List.{List, [], _∷_, _++_}
 use lib.Dec.{leb}
 use lib.ListN.{length, take, replicate}
-use Rattle.state_keys.specs.Lists.{all, count, keep, rising}
+use Rattle.lists.specs.Lists.{all, count, keep, rising}
 use Rattle.state_keys.specs.Limits.{Limits}
 use Rattle.state_keys.specs.Kinds.{wrappingKey, keyWrapPart}
 use Rattle.state_keys.specs.declared.kinds.MadeWrapping.{MadeWrapping}
@@ -70,10 +70,10 @@ foundSa limits p x t = foundIn limits (named p x) t
 unfoldable pub foundRekey : Limits → Table → SaFound
 foundRekey limits t = foundIn limits liveRekey t
 
-unfoldable pub keyOfFound : SaFound → MadeWrapping
-keyOfFound f =
+unfoldable pub keyWrapPartOf : SaFound → MadeWrapping
+keyWrapPartOf f =
     cond (f .found)
     (keyWrapPart (record { octets = f .sa .octets; encryption = f .sa .encryption; wrapping = f .sa .wrapping })) (wrappingKey [])
 
 unfoldable pub defaultKey : Limits → Table → MadeWrapping
-defaultKey limits t = keyOfFound (foundRekey limits t)
+defaultKey limits t = keyWrapPartOf (foundRekey limits t)

@@ -44,7 +44,7 @@ impl Table {
     }
 
     // Counts the SAs that are not due at `tick`. A count over the limit is answered as it is.
-    pub fn standing(self, tick: u32) -> usize
+    pub fn count_standing(self, tick: u32) -> usize
         ensures { λ r. ⌜ r ≡ standingCount limits tick self ⌝ }
     {
         let n = self.count;
@@ -67,6 +67,6 @@ impl Table {
     pub fn is_empty(self, tick: u32) -> bool
         ensures { λ r. ⌜ r ≡ emptyAt limits tick self ⌝ }
     {
-        self.standing(tick) == 0
+        self.count_standing(tick) == 0
     }
 }

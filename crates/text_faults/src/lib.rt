@@ -1,11 +1,13 @@
 // Says why a layout breaks, for the program `show`: the structure at the offset of the break, and a phrase. Each function puts its text
 // into the lent room `out` at the place `n`, and answers the place behind it, as the functions of `text_names` do.
 // Internal: crates of this repository alone call it.
-use crate::places::four;
+use crate::places::be16_or_0;
+use crate::places::be32_or_0;
 use crate::places::octet;
 use crate::places::part;
 use crate::places::span;
-use crate::places::two;
+use ikev2_numbers::NO_PAYLOAD;
+use ikev2_numbers::NO_PROTOCOL;
 use wire_attributes::Read;
 use wire_attributes::tables::Meaning;
 use wire_attributes::tables::Place;
@@ -39,7 +41,7 @@ fn of_size(out: &mut [u8], n: usize, s: &[u8], least: usize) -> usize {
     if s.len() < 4 {
         return short(out, n, span(s.len(), least));
     }
-    let length = two(s, 2);
+    let length = be16_or_0(s, 2);
     if length < least {
         return text_names::say(out, n, b"length %, at least %\n", length, least, 0);
     }
@@ -60,7 +62,7 @@ pub fn of_header(out: &mut [u8], n: usize, s: &[u8]) -> usize {
 }
 
 fn of_length(out: &mut [u8], n: usize, s: &[u8]) -> usize {
-    let length = four(s, 24);
+    let length = be32_or_0(s, 24);
     if length == s.len() {
         return text_names::say(
             out,
@@ -85,7 +87,7 @@ fn chain_end(s: &[u8]) -> End {
     let mut kind = octet(s, 16);
     let mut at = HEADER;
     while at < s.len() {
-        if kind == 0 {
+        if kind == NO_PAYLOAD {
             return End { at, kind };
         }
         kind = octet(s, at);
@@ -98,7 +100,7 @@ fn chain_end(s: &[u8]) -> End {
 pub fn of_chain(out: &mut [u8], n: usize, s: &[u8]) -> usize {
     let a = breaks(out, n, 0, b"header: ");
     let e = chain_end(s);
-    if e.kind == 0 {
+    if e.kind == NO_PAYLOAD {
         return text_names::say(
             out,
             a,
@@ -136,7 +138,7 @@ fn of_delete(out: &mut [u8], n: usize, s: &[u8]) -> usize {
         }
     }
     let text = b"SPI size %, count %, but % octets of SPIs\n";
-    text_names::say(out, n, text, size, two(s, 2), s.len() - 4)
+    text_names::say(out, n, text, size, be16_or_0(s, 2), s.len() - 4)
 }
 
 // Says that `size` is not the SPI size of `protocol`.
@@ -150,7 +152,7 @@ fn of_spi_size(out: &mut [u8], n: usize, protocol: usize, size: usize) -> usize 
 pub fn of_head(out: &mut [u8], n: usize, what: &[u8], s: &[u8], offset: usize) -> usize {
     let a = breaks(out, n, offset, what);
     let first = octet(s, 0);
-    if first == 0 {
+    if first == NO_PROTOCOL {
         return of_size(out, a, s, 4);
     }
     if s.len() < 4 {
@@ -194,7 +196,14 @@ pub fn of_selector(out: &mut [u8], n: usize, s: &[u8], offset: usize) -> usize {
     if s.len() < size {
         return short(out, a, span(s.len(), size));
     }
-    text_names::say(out, a, b"length %, type % has %\n", two(s, 2), kind, size)
+    text_names::say(
+        out,
+        a,
+        b"length %, type % has %\n",
+        be16_or_0(s, 2),
+        kind,
+        size,
+    )
 }
 
 // Says why the transform `s` breaks at `offset`: by its length field or its first octet.
@@ -236,12 +245,12 @@ fn of_cut(out: &mut [u8], n: usize, place: Place, s: &[u8]) -> usize {
     if s.len() < ATTRIBUTE {
         return short(out, n, span(s.len(), ATTRIBUTE));
     }
-    let kind = two(s, 0);
+    let kind = be16_or_0(s, 0);
     if is_short_form(wire_attributes::tables::meaning_in(place, kind)) {
         let a = text_names::name(out, n, text_names::tables::attribute(place, kind));
         return in_long_form(out, a);
     }
-    short(out, n, span(s.len(), ATTRIBUTE + two(s, 2)))
+    short(out, n, span(s.len(), ATTRIBUTE + be16_or_0(s, 2)))
 }
 
 // Whether an attribute with this `meaning` is read in the short form.

@@ -39,7 +39,7 @@ pub fn octet(s: &[u8], at: usize) -> usize
 }
 
 // Reads the two octets of `s` from `at` on as a number, or answers 0 if they are not there.
-pub fn two(s: &[u8], at: usize) -> usize
+pub fn be16_or_0(s: &[u8], at: usize) -> usize
     ensures { λ r. ⌜ r < 65536 ⌝ }
 {
     if at < s.len() {
@@ -51,7 +51,7 @@ pub fn two(s: &[u8], at: usize) -> usize
 }
 
 // Reads the four octets of `s` from `at` on as a number, or answers 0 if they are not there.
-pub fn four(s: &[u8], at: usize) -> usize {
+pub fn be32_or_0(s: &[u8], at: usize) -> usize {
     if at < s.len() {
         if 4 <= s.len() - at {
             return octets::numbers::be32_at(s, at) as usize;
@@ -66,7 +66,7 @@ pub fn end_at(s: &[u8], at: usize, to: usize, least: usize) -> usize
     requires { ⌜ (at < to) × (0 < least) ⌝ }
     ensures { λ r. ⌜ (at < r) × (r ≤ to) ⌝ }
 {
-    let n = two(part(s, at, to), 2);
+    let n = be16_or_0(part(s, at, to), 2);
     if n < least {
         return to;
     }

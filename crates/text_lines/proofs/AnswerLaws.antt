@@ -7,9 +7,10 @@ use native.Mathlib.Omega.{arith}
 use native.Mathlib.Nat.{pow-suc}
 use lib.ListN.{length, getD, length-append, List·getD-append}
 use borrow.Author.Tests.{lt-ltb, le-ltb, eq-eqb, ne-eqb}
+use Rattle.lists.proofs.Cases.{lt-cases}
 use Rattle.text_rules.specs.Answer.{decimalUpTo, decimal, printed, answerText}
 use Rattle.text_lines.specs.inner.Room.{replyRoom}
-use Rattle.text_rules.proofs.Cases.{by-less, by-same}
+use Rattle.text_rules.proofs.Cases.{by-same}
 
 one-digit : (most n : ℕ) → n < 10 → decimalUpTo (suc most) n ≡ (48 + n) ∷ []
 unfolding decimalUpTo
@@ -25,7 +26,7 @@ enough zero m n h l = absurd (omega arith)
 enough (suc k) zero n h l = absurd (omega arith)
 enough (suc k) (suc m) n h l =
     let r = enough k m (n / 10) in
-    by-less n 10 (λ s. one-digit k n s ∙ sym (one-digit m n s))
+    lt-cases n 10 (λ s. one-digit k n s ∙ sym (one-digit m n s))
     (λ s.
     more-digits k n s ∙ ap (λ (x : List ℕ). x ++ ((48 + n % 10) ∷ [])) (r (omega arith) (omega arith)) ∙ sym (more-digits m n s))
 
@@ -94,7 +95,7 @@ right-more n h r =
 
 right : (most n : ℕ) → n < most → Decimal n (decimal n)
 right zero n h = absurd (omega arith)
-right (suc most) n h = let r = right most (n / 10) in by-less n 10 (right-one n) (λ l. right-more n l (r (omega arith)))
+right (suc most) n h = let r = right most (n / 10) in lt-cases n 10 (right-one n) (λ l. right-more n l (r (omega arith)))
 
 pub decimal-right : (n : ℕ) → Decimal n (decimal n)
 decimal-right n = right (suc n) n (omega arith)
@@ -104,7 +105,7 @@ decimal-short zero n h = let e = ap length (decimal-one n h) in omega arith
 decimal-short (suc k) n h =
     let p : n < 10 ^ suc k * 10 = rw pow-suc at h in
     let r = decimal-short k (n / 10) in
-    by-less n 10 (λ l. let e = ap length (decimal-one n l) in omega arith)
+    lt-cases n 10 (λ l. let e = ap length (decimal-one n l) in omega arith)
     (λ l.
     let e = ap length (decimal-more n l) ∙ length-append (decimal (n / 10)) ((48 + n % 10) ∷ []) in
     let m = r (omega arith) in

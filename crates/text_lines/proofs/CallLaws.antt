@@ -4,6 +4,7 @@ use mathlib.Core.Path.{_≡_, refl, ap, sym, subst, _∙_}
 use mathlib.Core.List.{List, [], _∷_}
 use native.Mathlib.Omega.{arith}
 use lib.ListN.{length, take, drop, length-drop}
+use Rattle.lists.proofs.Cases.{bool-cases}
 use Rattle.text_rules.specs.Hex.{octetsOfHex}
 use Rattle.text_rules.specs.Input.{Asked, isTaken, lineKey, frame, askedBy}
 use Rattle.text_rules.specs.Answer.{badText}
@@ -11,7 +12,6 @@ use Rattle.text_rules.specs.Transcript.{CallRelation, LineOutcome, told, Replie
 use Rattle.text_lines.specs.inner.Calls.{KeyLineGives, Asks}
 use Rattle.text_lines.specs.declared.LineKey.{LineKey}
 use Rattle.text_lines.specs.declared.Request.the-variants as request
-use Rattle.text_rules.proofs.Cases.{by-test}
 use Rattle.text_rules.proofs.InputLaws.{taken-bounds, key-taken, key-other, asked-other}
 use Rattle.text_lines.proofs.RoomLaws.{length-put, put-next, put-taken}
 
@@ -23,7 +23,7 @@ length-octets (h ∷ l ∷ text) = let r = length-octets text in omega arith
 
 pub key-short : (line : List ℕ) → length (lineKey line) ≤ 32
 key-short line =
-    by-test (isTaken 0 64 line)
+    bool-cases (isTaken 0 64 line)
     (λ e.
     let b = taken-bounds 0 64 line e in
     let l = ap length (key-taken line e) ∙ length-octets line in
@@ -42,7 +42,7 @@ given-length line p =
 
 frame-short : (line : List ℕ) (tick : ℕ) (octets : List ℕ) → askedBy line ≡ frame tick octets → length (octetsOfHex (drop 8 line)) ≤ 16384
 frame-short line tick octets q =
-    by-test (isTaken 8 32776 line)
+    bool-cases (isTaken 8 32776 line)
     (λ e.
     let b = taken-bounds 8 32776 line e in
     let l = length-octets (drop 8 line) in

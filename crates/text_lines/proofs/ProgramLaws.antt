@@ -7,6 +7,7 @@ use mathlib.Core.Bool.{Bool, true, false, cond}
 use native.Mathlib.Omega.{arith}
 use lib.ListN.{length, take, drop, set, length-append, length-take, length-drop, length-set}
 use lib.Seq.{sets, drop-drop, take-add, take-all, take-suc-set, take-append-le, take-append-seam, length-take-le}
+use Rattle.lists.proofs.Cases.{lt-cases}
 use Rattle.text_rules.specs.Lines.{Line, lines}
 use Rattle.text_lines.specs.inner.First.{lineOctets, firstOf}
 use Rattle.text_rules.specs.Input.{Asked, bad, lineKey, askedBy}
@@ -16,7 +17,6 @@ use Rattle.text_lines.specs.inner.Calls.{Absorbs}
 use Rattle.text_lines.specs.inner.Reading.{awaited, given, DefaultKey, TextState, appendText, LineEnds, Closes, Reads}
 use Rattle.text_lines.specs.inner.Reading.{FinishesBy, Finishes, LineKept}
 use Rattle.text_lines.specs.declared.Absorbed.{Absorbed}
-use Rattle.text_rules.proofs.Cases.{by-less}
 use Rattle.text_rules.proofs.InputLaws.{taken-long, key-other, asked-other}
 use Rattle.text_lines.proofs.LineLaws.{NoNewline}
 use Rattle.text_lines.proofs.SplitLaws.{joined, Last, Proper, joined-lines, lines-proper}
@@ -58,7 +58,7 @@ kept-sets [] room len text p =
     rw (e, append-nil text) p
 kept-sets (c ∷ s) room len text p =
     let more = kept-sets s (set room len c) (suc len) (text ++ (c ∷ [])) in
-    by-less len (length room)
+    lt-cases len (length room)
     (λ h.
     let l = length-set room len c in
     let e : suc len + min (length s) (length (set room len c) - suc len) ≡ len + min (suc (length s)) (length room - len) = omega arith in
@@ -94,7 +94,7 @@ module _ {room : List ℕ} {len : ℕ} {text : List ℕ} (p : LineKept room len 
   kept-same : {A : Type 0} (f : List ℕ → A) (x : A) (most : ℕ) → ((l : List ℕ) → most < length l → f l ≡ x) → most < length room
       → f (take len room) ≡ f text
   kept-same f x most long h =
-      by-less (length room) (length text)
+      lt-cases (length room) (length text)
       (λ l. let c = cut room text l in ap f (p .same) ∙ long (take (length room) text) (omega arith) ∙ sym (long text (omega arith)))
       (λ l. ap f (p .same ∙ take-all (length room) text l))
 

@@ -5,8 +5,8 @@ use mathlib.Core.List.{List, [], _∷_, _++_, append-assoc, append-nil}
 use native.Mathlib.Omega.{arith}
 use lib.ListN.{length, take, drop, set, length-append, length-set}
 use lib.Seq.{sets, length-sets, set-out, sets-eq, length-take-le, take-at}
+use Rattle.lists.proofs.Cases.{lt-cases}
 use Rattle.text_lines.specs.inner.Room.{Put}
-use Rattle.text_rules.proofs.Cases.{by-less}
 
 pub sets-out : (text room : List ℕ) (n : ℕ) → length room ≤ n → sets room n text ≡ room
 sets-out [] room n h = refl
@@ -17,7 +17,7 @@ sets-out (c ∷ text) room n h =
 same-place : (t room x : List ℕ) (n k : ℕ) → length x ≡ length room
     → sets x (n + min (suc k) (length room - n)) t ≡ sets x (suc n + min k (length room - suc n)) t
 same-place t room x n k e =
-    by-less n (length room)
+    lt-cases n (length room)
     (λ h. let q : n + min (suc k) (length room - n) ≡ suc n + min k (length room - suc n) = omega arith in rw q)
     (λ h.
     sets-out t x (n + min (suc k) (length room - n)) (omega arith)

@@ -99,8 +99,8 @@ fn fitting(n: usize, at: usize, size: usize) -> usize
     0
 }
 
-// Writes the octets of the hexadecimal `text` into `room` from `at` on, as many as find room. Answers the place behind them. Their number is
-// known before the loop, because the compiler then reads many digits at a time.
+// Writes the octets of the hexadecimal `text` into `room` from `at` on, as many as find room. Answers the place behind them. Their number
+// is known before the loop, because the compiler then reads many digits at a time.
 pub fn put_octets(room: &mut [u8], at: usize, text: &[u8]) -> usize
     ensures { λ r. ⌜ Put (now (room .entry)) at (octetsOfHex (now (text .entry))) (now (room .exit)) r ⌝ }
 {

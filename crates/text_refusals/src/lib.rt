@@ -4,16 +4,16 @@
 // Internal: crates of this repository alone call it.
 use check_judging::facts::Facts;
 use check_judging::facts::facts_of;
-use check_judging::number4::Four;
+use check_judging::number4::Clauses4;
 use check_judging::number4::clauses_4;
 use check_judging::number4::number_4;
-use check_judging::number5::Five;
+use check_judging::number5::Clauses5;
 use check_judging::number5::clauses_5;
 use check_judging::number5::number_5;
 use check_judging::number6::Keys;
 use check_judging::number6::any_unfit_key;
 use check_judging::number6::clauses_6;
-use check_judging::number7::Seven;
+use check_judging::number7::Clauses7;
 use check_judging::number7::clauses_7;
 use check_judging::number7::number_7;
 use check_pairing::names::any_unpaired;
@@ -41,22 +41,22 @@ pub(crate) struct ClauseFound {
     admitted: bool,
     // one of the clauses applies
     any: bool,
-    four: Four,
-    five: Five,
+    number4: Clauses4,
+    number5: Clauses5,
     // number 6: the protocol and SPI of a policy are not those of exactly one Group Key Bag (`policies`), and the other way round (`bags`)
     policies: bool,
     bags: bool,
     keys: Keys,
-    seven: Seven,
+    number7: Clauses7,
 }
 
 // Whether one of the clauses applies. `unpaired` says whether one on the pairing of policies and bags does.
 fn any(row: Exchange, x: Facts, unpaired: bool) -> bool {
-    let four = number_4(row, x);
-    let five = number_5(row, LENT, x);
+    let number4 = number_4(row, x);
+    let number5 = number_5(row, LENT, x);
     let keys = any_unfit_key(row, x.bags);
-    let seven = number_7(x, STANDING);
-    four | five | unpaired | keys | seven
+    let number7 = number_7(x, STANDING);
+    number4 | number5 | unpaired | keys | number7
 }
 
 // Collects the clauses that apply to a frame with the facts `x`. `policies` and `bags` say whether those on the pairing do.
@@ -64,12 +64,12 @@ fn by_facts(row: Exchange, x: Facts, policies: bool, bags: bool) -> ClauseFound 
     ClauseFound {
         admitted: row.admitted,
         any: any(row, x, policies | bags),
-        four: clauses_4(row, x),
-        five: clauses_5(row, LENT, x),
+        number4: clauses_4(row, x),
+        number5: clauses_5(row, LENT, x),
         policies,
         bags,
         keys: clauses_6(row, x.bags),
-        seven: clauses_7(x, STANDING),
+        number7: clauses_7(x, STANDING),
     }
 }
 

@@ -1,10 +1,10 @@
-// Puts the clauses by name, in the words of document 01, T-09 and T-11 and in their order. Each function puts its lines into `out` at the place
-// `n` and answers the place behind them.
+// Puts the clauses by name, in the words of document 01, T-09 and T-11 and in their order. Each function puts its lines into `out` at the
+// place `n` and answers the place behind them.
 use crate::ClauseFound;
-use check_judging::number4::Four;
-use check_judging::number5::Five;
+use check_judging::number4::Clauses4;
+use check_judging::number5::Clauses5;
 use check_judging::number6::Keys;
-use check_judging::number7::Seven;
+use check_judging::number7::Clauses7;
 
 // Puts `line` if its clause applies.
 fn clause(out: &mut [u8], n: usize, applies: bool, line: &[u8]) -> usize {
@@ -15,7 +15,7 @@ fn clause(out: &mut [u8], n: usize, applies: bool, line: &[u8]) -> usize {
 }
 
 // Puts the clauses of number 4 on the payloads.
-fn payloads(out: &mut [u8], n: usize, x: Four) -> usize {
+fn payloads(out: &mut [u8], n: usize, x: Clauses4) -> usize {
     let a = clause(out, n, x.critical, b"  4: critical unknown payload\n");
     let b = clause(out, a, x.member_bag, b"  4: Member Key Bag in a rekey\n");
     let c = clause(
@@ -28,7 +28,7 @@ fn payloads(out: &mut [u8], n: usize, x: Four) -> usize {
 }
 
 // Puts the clauses of number 4 on GSA and KD together.
-fn both(out: &mut [u8], n: usize, x: Four) -> usize {
+fn both(out: &mut [u8], n: usize, x: Clauses4) -> usize {
     let a = clause(out, n, x.two_kd, b"  4: two KD\n");
     let b = clause(out, a, x.gsa_alone, b"  4: GSA without KD\n");
     let c = clause(out, b, x.kd_alone, b"  4: KD without GSA\n");
@@ -41,7 +41,7 @@ fn both(out: &mut [u8], n: usize, x: Four) -> usize {
 }
 
 // Puts the clauses of number 4 on the counts of policies and bags.
-fn counts(out: &mut [u8], n: usize, x: Four) -> usize {
+fn counts(out: &mut [u8], n: usize, x: Clauses4) -> usize {
     let a = clause(out, n, x.rekeys, b"  4: more than one Rekey policy\n");
     let b = clause(out, a, x.wides, b"  4: more than one group-wide policy\n");
     let c = clause(out, b, x.members, b"  4: more than one Member Key Bag\n");
@@ -49,7 +49,7 @@ fn counts(out: &mut [u8], n: usize, x: Four) -> usize {
 }
 
 // Puts the clauses of number 4 on what policies hold.
-fn policies(out: &mut [u8], n: usize, x: Four) -> usize {
+fn policies(out: &mut [u8], n: usize, x: Clauses4) -> usize {
     let a = clause(
         out,
         n,
@@ -83,7 +83,7 @@ fn policies(out: &mut [u8], n: usize, x: Four) -> usize {
 }
 
 // Puts the clauses of number 4.
-fn four(out: &mut [u8], n: usize, x: Four) -> usize {
+fn put_number_4(out: &mut [u8], n: usize, x: Clauses4) -> usize {
     let a = payloads(out, n, x);
     let b = both(out, a, x);
     let c = counts(out, b, x);
@@ -91,7 +91,7 @@ fn four(out: &mut [u8], n: usize, x: Four) -> usize {
 }
 
 // Puts the clauses of number 5.
-fn five(out: &mut [u8], n: usize, x: Five) -> usize {
+fn put_number_5(out: &mut [u8], n: usize, x: Clauses5) -> usize {
     let a = clause(out, n, x.ah_policy, b"  5: AH policy\n");
     let b = clause(out, a, x.ah_bag, b"  5: AH bag\n");
     let c = clause(
@@ -156,7 +156,7 @@ fn fresh_keys(out: &mut [u8], n: usize, x: Keys) -> usize {
 }
 
 // Puts the clauses of number 7 on counts that document 01 limits.
-fn over(out: &mut [u8], n: usize, x: Seven) -> usize {
+fn over(out: &mut [u8], n: usize, x: Clauses7) -> usize {
     let a = clause(
         out,
         n,
@@ -179,7 +179,7 @@ fn over(out: &mut [u8], n: usize, x: Seven) -> usize {
 }
 
 // Puts the clauses of number 7.
-fn seven(out: &mut [u8], n: usize, x: Seven) -> usize {
+fn put_number_7(out: &mut [u8], n: usize, x: Clauses7) -> usize {
     let a = over(out, n, x);
     let b = clause(
         out,
@@ -198,12 +198,12 @@ fn seven(out: &mut [u8], n: usize, x: Seven) -> usize {
 
 // Puts all clauses that apply, by rising numbers.
 fn each(out: &mut [u8], n: usize, x: ClauseFound) -> usize {
-    let a = four(out, n, x.four);
-    let b = five(out, a, x.five);
+    let a = put_number_4(out, n, x.number4);
+    let b = put_number_5(out, a, x.number5);
     let c = pairing(out, b, x.policies, x.bags);
     let d = keys(out, c, x.keys);
     let e = fresh_keys(out, d, x.keys);
-    seven(out, e, x.seven)
+    put_number_7(out, e, x.number7)
 }
 
 // Puts a line for each clause that applies, or a line saying that none does. A frame of another exchange is not judged by them: its line is

@@ -7,8 +7,9 @@ use native.Mathlib.Omega.{arith}
 use lib.ListN.{length, getD, drop, length-drop, drop-of-length-le}
 use lib.Dec.{leb, eqb}
 use borrow.Author.Tests.{le-leb, lt-leb, lt-ltb, le-ltb, leb-true}
+use Rattle.lists.proofs.Cases.{bool-cases, lt-cases, never, and-parts}
 use Rattle.text_rules.specs.Hex.{inRange, isDecimal, isLetter, isDigit, digitValue, digitOf, areDigits, isHex, octetsOfHex, digitsOf}
-use Rattle.text_rules.proofs.Cases.{at-place, by-less, by-test, true-not-false, and-true}
+use Rattle.text_rules.proofs.Cases.{at-place}
 
 module _ (low high c : ℕ) where
   pub inside : low ≤ c → c ≤ high → inRange low high c ≡ true
@@ -18,11 +19,11 @@ module _ (low high c : ℕ) where
   below l = rw (lt-leb low c l)
 
   pub above : high < c → inRange low high c ≡ false
-  above h = by-test (leb low c) (λ e. rw (e, lt-leb c high h)) (λ e. rw e)
+  above h = bool-cases (leb low c) (λ e. rw (e, lt-leb c high h)) (λ e. rw e)
 
   range : inRange low high c ≡ true → (low ≤ c) × (c ≤ high)
   range e =
-      let p = and-true (leb low c) (leb c high) e in
+      let p = and-parts (leb low c) (leb c high) e in
       (leb-true low c (p .0), leb-true c high (p .1))
 
 module _ (c : ℕ) {d l : Bool} (p : isDecimal c ≡ d) (q : isLetter c ≡ l) where
@@ -75,13 +76,13 @@ letter-digit v h l =
 
 pub digit-of : (v : ℕ) → v < 16 → Digit v (digitOf v)
 digit-of v h =
-    by-less v 10 (λ l. let g = decimal-digit v l in subst (Digit v) (sym (g .back)) g)
+    lt-cases v 10 (λ l. let g = decimal-digit v l in subst (Digit v) (sym (g .back)) g)
     (λ l. let g = letter-digit v l h in subst (Digit v) (sym (g .back)) g)
 
 -- every digit is its value's
 pub of-digit : (c : ℕ) → isDigit c ≡ true → Digit (digitValue c) c
 unfolding isDigit
-of-digit c e = by-test (isDecimal c) decimal (λ d. by-test (isLetter c) letter (λ l. true-not-false (isDigit c) e (rw (d, l))))
+of-digit c e = bool-cases (isDecimal c) decimal (λ d. bool-cases (isLetter c) letter (λ l. never (isDigit c) e (rw (d, l))))
   where
     from : (v : ℕ) (k : ℕ) → k ≡ c → Digit v k → Digit (digitValue c) c
     from v k q g = subst (λ (x : ℕ). Digit x c) (sym (g′ .counts)) g′
@@ -98,21 +99,21 @@ of-digit c e = by-test (isDecimal c) decimal (λ d. by-test (isLetter c) letter 
 -- what a digit counts, with no question which it is; another character counts nothing
 pub digit-value : (c : ℕ) → isDigit c ≡ true → c % 16 + 9 * (c / 64) ≡ digitValue c
 digit-value c e =
-    by-test (isDecimal c)
+    bool-cases (isDecimal c)
     (λ d.
     let r = range 48 57 c d in
     let v : c % 16 + 9 * (c / 64) ≡ c - 48 = omega arith in v ∙ sym (decimals c (r .0) (r .1) .value))
     (λ d.
-    by-test (isLetter c)
+    bool-cases (isLetter c)
     (λ l.
     let r = range 97 102 c l in
     let v : c % 16 + 9 * (c / 64) ≡ c - 87 = omega arith in v ∙ sym (letters c (r .0) (r .1) .value))
-    (λ l. true-not-false (isDigit c) e (digit-by c d l)))
+    (λ l. never (isDigit c) e (digit-by c d l)))
 
 pub other-value : (c : ℕ) → isDigit c ≡ false → 0 ≡ digitValue c
 other-value c e =
-    by-test (isDecimal c) (λ d. true-not-false (isDigit c) (digit-by c d refl) e)
-    (λ d. by-test (isLetter c) (λ l. true-not-false (isDigit c) (digit-by c d l) e) (λ l. sym (value-by c d l)))
+    bool-cases (isDecimal c) (λ d. never (isDigit c) (digit-by c d refl) e)
+    (λ d. bool-cases (isLetter c) (λ l. never (isDigit c) (digit-by c d l) e) (λ l. sym (value-by c d l)))
 
 -- the loops over text and octets, one step at a place
 module _ (text : List ℕ) (i : ℕ) where

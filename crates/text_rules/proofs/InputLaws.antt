@@ -8,9 +8,9 @@ use lib.ListN.{length, take, drop, getD, length-drop}
 use lib.Seq.{take-all}
 use lib.Dec.{leb}
 use borrow.Author.Tests.{le-leb, lt-leb, leb-true}
+use Rattle.lists.proofs.Cases.{bool-cases, and-parts}
 use Rattle.text_rules.specs.Hex.{isHex, digitValue, octetsOfHex, numberFrom}
 use Rattle.text_rules.specs.Input.{isTaken, lineKey, bad, frame, askedBy}
-use Rattle.text_rules.proofs.Cases.{by-test, and-true}
 
 module _ (least most : ℕ) (text : List ℕ) where
   pub taken-short : length text < least → isTaken least most text ≡ false
@@ -19,7 +19,7 @@ module _ (least most : ℕ) (text : List ℕ) where
 
   pub taken-long : most < length text → isTaken least most text ≡ false
   unfolding isTaken
-  taken-long h = by-test (leb least (length text)) (λ e. rw (e, lt-leb (length text) most h)) (λ e. rw e)
+  taken-long h = bool-cases (leb least (length text)) (λ e. rw (e, lt-leb (length text) most h)) (λ e. rw e)
 
   pub taken-within : least ≤ length text → length text ≤ most → isTaken least most text ≡ isHex text
   unfolding isTaken
@@ -28,8 +28,8 @@ module _ (least most : ℕ) (text : List ℕ) where
   pub taken-bounds : isTaken least most text ≡ true → (least ≤ length text) × (length text ≤ most)
   unfolding isTaken
   taken-bounds e =
-      let p = and-true (leb least (length text) && leb (length text) most) (isHex text) e in
-      let q = and-true (leb least (length text)) (leb (length text) most) (p .0) in
+      let p = and-parts (leb least (length text) && leb (length text) most) (isHex text) e in
+      let q = and-parts (leb least (length text)) (leb (length text) most) (p .0) in
       (leb-true least (length text) (q .0), leb-true (length text) most (q .1))
 
 module _ (line : List ℕ) where

@@ -7,8 +7,8 @@ use native.Mathlib.Omega.{arith}
 use lib.ListN.{length, getD}
 use lib.Dec.{eqb}
 use borrow.Author.Tests.{eqb-true, eq-eqb}
+use Rattle.lists.proofs.Cases.{never, and-parts}
 use Rattle.text_rules.specs.Hex.{isDigit, digitValue, digitOf, areDigits, isHex, octetsOfHex, digitsOf}
-use Rattle.text_rules.proofs.Cases.{true-not-false, and-true}
 use Rattle.text_rules.proofs.HexLaws.{Digit, digit-of, of-digit}
 
 octet-back : (o : ℕ) → o < 256 → 16 * digitValue (digitOf (o / 16)) + digitValue (digitOf (o % 16)) ≡ o
@@ -61,16 +61,16 @@ record Longer (a b : ℕ) (text : List ℕ) : Type 0 where
 longer : (a b : ℕ) (text : List ℕ) → isHex (a ∷ b ∷ text) ≡ true → Longer a b text
 unfolding isHex areDigits
 longer a b text h =
-    let p = and-true (isDigit a && (isDigit b && areDigits text)) (eqb (length (a ∷ b ∷ text) % 2) 0) h in
-    let q = and-true (isDigit a) (isDigit b && areDigits text) (p .0) in
-    let r = and-true (isDigit b) (areDigits text) (q .1) in
+    let p = and-parts (isDigit a && (isDigit b && areDigits text)) (eqb (length (a ∷ b ∷ text) % 2) 0) h in
+    let q = and-parts (isDigit a) (isDigit b && areDigits text) (p .0) in
+    let r = and-parts (isDigit b) (areDigits text) (q .1) in
     let e = eqb-true (length (a ∷ b ∷ text) % 2) 0 (p .1) in
     record { first = q .0; second = r .0; rest = rw (r .1) (eq-eqb (length text % 2) 0 (omega arith)) }
 
 pub written-read : (text : List ℕ) → isHex text ≡ true → digitsOf (octetsOfHex text) ≡ text
 unfolding isHex octetsOfHex digitsOf
 written-read [] h = refl
-written-read (a ∷ []) h = true-not-false (eqb 1 0) (and-true (areDigits (a ∷ [])) (eqb 1 0) h .1) refl
+written-read (a ∷ []) h = never (eqb 1 0) (and-parts (areDigits (a ∷ [])) (eqb 1 0) h .1) refl
 written-read (a ∷ b ∷ text) h =
     let p = longer a b text h in
     let d = two-digits a b (of-digit a (p .first)) (of-digit b (p .second)) in

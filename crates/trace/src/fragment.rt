@@ -1,11 +1,12 @@
-// A line `y`, a room's length, a tick and a fragment: receives the fragment with a room of that many octets and the collection that the last
-// such line left. Prints the answer, the numbers of the fragments that wait, and what was written.
+// A line `y`, a room's length, a tick and a fragment: receives the fragment with a room of that many octets and the collection that the
+// last such line left. Prints the answer, the numbers of the fragments that wait, and what was written.
 use crate::frame;
 use crate::journal;
 use crate::reply::TraceReply;
 use crate::reply::bad;
 use crate::sealed;
 use crate::text;
+use crate::whole;
 use fragments::Collection;
 use fragments::MOST_FRAGMENTS;
 use gikev2::Member;
@@ -19,7 +20,7 @@ pub struct GatheredReply {
 }
 
 // Puts the line of the answer `a`.
-fn told(a: FragmentAnswer, out: &mut [u8]) -> usize {
+fn put_fragment_answer(a: FragmentAnswer, out: &mut [u8]) -> usize {
     match a {
         FragmentAnswer::Refused(x) => frame::told_as(b"refused", x, out),
         FragmentAnswer::PassedOver => text::put(out, 0, b"passed over\n"),
@@ -30,10 +31,7 @@ fn told(a: FragmentAnswer, out: &mut [u8]) -> usize {
 
 // Puts the line of the fragments that are kept.
 fn waits(c: Collection, at: usize, out: &mut [u8]) -> usize {
-    let mut n = c.count;
-    if MOST_FRAGMENTS < n {
-        n = MOST_FRAGMENTS;
-    }
+    let n = whole::within(c.count, MOST_FRAGMENTS);
     let mut end = text::put(out, at, b"waits");
     let mut i: usize = 0;
     while i < n {
@@ -55,7 +53,7 @@ fn accepted(a: FragmentAnswer) -> bool {
 }
 
 // Lets the member receive `fragment` with `room`, and puts its answer. Journals the whole frame, if steps are `journaled`.
-fn received(
+fn receive_fragment(
     m: Member,
     c: Collection,
     fragment: &[u8],
@@ -68,7 +66,7 @@ fn received(
     let member = x.member;
     let collection = x.collection;
     let answer = x.answer;
-    let first = told(answer, out);
+    let first = put_fragment_answer(answer, out);
     let numbers = waits(collection, first, out);
     let mut at = sealed::wrote(room, numbers, out);
     if accepted(answer) & journaled {
@@ -104,7 +102,7 @@ fn with_room(
         return bad_line(m, c, out);
     }
     let mut room = [sealed::LENT; sealed::MOST_ROOM];
-    received(
+    receive_fragment(
         m,
         c,
         text::part(given, 8, given.len()),

@@ -20,12 +20,12 @@ pub(crate) fn told_as(what: &[u8], a: Answer, out: &mut [u8]) -> usize {
 }
 
 // Puts the line of the answer `a`.
-pub(crate) fn told(a: Answer, out: &mut [u8]) -> usize {
+pub(crate) fn put_answer(a: Answer, out: &mut [u8]) -> usize {
     told_as(b"answer", a, out)
 }
 
 // Lets the member receive `frame`, and puts its answer. Journals it, if steps are `journaled`.
-fn received(
+fn receive_frame(
     m: Member,
     frame: &[u8],
     key: &[u8],
@@ -34,12 +34,12 @@ fn received(
     out: &mut [u8],
 ) -> TraceReply {
     if journaled {
-        return journal::received(m, frame, key, tick, out);
+        return journal::receive_journaled(m, frame, key, tick, out);
     }
     let x = m.receive(frame, key, tick);
     let member = x.member;
     let answer = x.answer;
-    let at = told(answer, out);
+    let at = put_answer(answer, out);
     TraceReply { member, at }
 }
 
@@ -55,7 +55,7 @@ pub(crate) fn reply(
     match text_lines::later_line(line, room) {
         Request::Bad => bad(m, out),
         Request::Frame { tick, len } => {
-            received(m, text::part(room, 0, len), key, tick, journaled, out)
+            receive_frame(m, text::part(room, 0, len), key, tick, journaled, out)
         }
     }
 }

@@ -10,8 +10,8 @@ use libc::STDOUT_FILENO;
 
 // Where the program stands: the member; whether the first line has given the lent key yet (`keyed`), and how many octets that key has
 // (`lent`); how many characters of the line that has begun are held (`len`); how many characters the member's text had when printed last
-// (`last`); whether steps are journaled (`journaled`); whether the input goes on and the output takes what is written (`open`); the fragments
-// that wait (`collection`).
+// (`last`); whether steps are journaled (`journaled`); whether the input goes on and the output takes what is written (`open`); the
+// fragments that wait (`collection`).
 pub struct Running {
     pub member: Member,
     pub keyed: bool,
@@ -38,12 +38,18 @@ fn first_line(r: Running, line: &[u8], key: &mut [u8]) -> Running {
 // Writes the reply to standard output: the first `at` characters of `out`, and behind them the member, where it changed.
 fn printed(r: Running, member: Member, at: usize, out: &mut [u8], last: &mut [u8]) -> Running {
     let t = reply::completed(member, at, out, last, r.last);
-    let mut x = r;
-    x.member = member;
-    x.len = 0;
-    x.last = t.last;
-    x.open = io::write_all(STDOUT_FILENO, text::part(out, 0, t.at));
-    x
+    let open = io::write_all(STDOUT_FILENO, text::part(out, 0, t.at));
+    let collection = r.collection;
+    Running {
+        member,
+        keyed: r.keyed,
+        lent: r.lent,
+        len: 0,
+        last: t.last,
+        journaled: r.journaled,
+        open,
+        collection,
+    }
 }
 
 // Hands in a fragment, and writes the reply.
@@ -59,9 +65,19 @@ fn fragment_line(
     let rest = text::part(line, 1, line.len());
     let g = fragment::reply(m, c, rest, r.journaled, room, out);
     let y = g.reply;
-    let mut x = r;
-    x.collection = g.collection;
-    printed(x, y.member, y.at, out, last)
+    let member = y.member;
+    let collection = g.collection;
+    let x = Running {
+        member,
+        keyed: r.keyed,
+        lent: r.lent,
+        len: r.len,
+        last: r.last,
+        journaled: r.journaled,
+        open: r.open,
+        collection,
+    };
+    printed(x, member, y.at, out, last)
 }
 
 // Makes the call of a later line, and writes the reply.
@@ -79,14 +95,15 @@ fn later_line(
     let m = r.member;
     let c = reply::call(m, line, key, r.lent, r.journaled, room, out);
     let y = c.reply;
+    let member = y.member;
     let mut x = r;
     x.lent = c.lent;
     x.journaled = c.journaled;
-    printed(x, y.member, y.at, out, last)
+    printed(x, member, y.at, out, last)
 }
 
 // Answers a whole line. Answers nothing more after a write that failed.
-fn answered(
+fn answer_line(
     r: Running,
     line: &[u8],
     key: &mut [u8],
@@ -104,7 +121,7 @@ fn answered(
 }
 
 // Takes what was absorbed of a block: answers a whole line, or keeps `len` characters of one that has begun.
-fn absorbed(
+fn take_absorbed(
     r: Running,
     ended: bool,
     len: usize,
@@ -115,7 +132,7 @@ fn absorbed(
     last: &mut [u8],
 ) -> Running {
     if ended {
-        return answered(r, text::part(line, 0, len), key, room, out, last);
+        return answer_line(r, text::part(line, 0, len), key, room, out, last);
     }
     let mut x = r;
     x.len = len;
@@ -136,14 +153,14 @@ fn through(
     let mut at = 0;
     while at < block.len() {
         let a = text_lines::absorb(block, at, line, x.len);
-        x = absorbed(x, a.ended, a.len, line, key, room, out, last);
+        x = take_absorbed(x, a.ended, a.len, line, key, room, out, last);
         at = a.next;
     }
     x
 }
 
 // Ends the input: answers a line that has begun.
-fn ended(
+fn end_input(
     r: Running,
     line: &[u8],
     key: &mut [u8],
@@ -152,7 +169,7 @@ fn ended(
     last: &mut [u8],
 ) -> Running {
     let len = r.len;
-    let mut x = absorbed(r, 0 < len, len, line, key, room, out, last);
+    let mut x = take_absorbed(r, 0 < len, len, line, key, room, out, last);
     x.open = false;
     x
 }
@@ -170,7 +187,7 @@ fn advanced(
     let got = libc::read(STDIN_FILENO, &mut block);
     let n = io::count(got, &block);
     if n == 0 {
-        return ended(r, line, key, room, out, last);
+        return end_input(r, line, key, room, out, last);
     }
     through(r, text::part(&block, 0, n), line, key, room, out, last)
 }

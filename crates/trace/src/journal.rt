@@ -18,11 +18,11 @@ pub(crate) fn reply(m: Member, rest: &[u8], out: &mut [u8]) -> TraceReply {
 }
 
 // Puts what a step prints first.
-fn told(e: JournalEntry, accepted: &[u8], out: &mut [u8]) -> usize {
+fn put_entry(e: JournalEntry, accepted: &[u8], out: &mut [u8]) -> usize {
     match e {
         JournalEntry::Written(_) => text::put(out, 0, accepted),
         JournalEntry::NoRoom => text::put(out, 0, b"no room\n"),
-        JournalEntry::Refused(a) => frame::told(a, out),
+        JournalEntry::Refused(a) => frame::put_answer(a, out),
     }
 }
 
@@ -39,16 +39,16 @@ fn line(e: JournalEntry, room: &[u8], out: &mut [u8], at: usize) -> usize {
 }
 
 // Replies to a journaled step: `accepted` is what it prints first where it took effect.
-fn entered(j: Journaled, accepted: &[u8], room: &[u8], out: &mut [u8]) -> TraceReply {
+fn reply_journaled(j: Journaled, accepted: &[u8], room: &[u8], out: &mut [u8]) -> TraceReply {
     let e = j.entry;
-    let first = told(e, accepted, out);
+    let first = put_entry(e, accepted, out);
     let at = line(e, room, out, first);
     let member = j.member;
     TraceReply { member, at }
 }
 
 // Lets the member receive `frame`, journaled.
-pub(crate) fn received(
+pub(crate) fn receive_journaled(
     m: Member,
     frame: &[u8],
     key: &[u8],
@@ -57,7 +57,7 @@ pub(crate) fn received(
 ) -> TraceReply {
     let mut room = [0u8; LINE_ROOM];
     let j = journaling::receive(m, frame, key, tick, &mut room);
-    entered(j, b"answer 0\n", &room, out)
+    reply_journaled(j, b"answer 0\n", &room, out)
 }
 
 // Puts the line of a rekey that came sealed and was accepted: `frame` is what was opened, and `m` the member before it.
@@ -72,12 +72,12 @@ pub(crate) fn opened_line(m: Member, frame: &[u8], tick: u32, out: &mut [u8], at
 pub(crate) fn swept(m: Member, tick: u32, out: &mut [u8]) -> TraceReply {
     let mut room = [0u8; LINE_ROOM];
     let j = journaling::sweep(m, tick, &mut room);
-    entered(j, b"done\n", &room, out)
+    reply_journaled(j, b"done\n", &room, out)
 }
 
 // Lets the member leave, journaled.
-pub(crate) fn left(m: Member, out: &mut [u8]) -> TraceReply {
+pub(crate) fn leave_journaled(m: Member, out: &mut [u8]) -> TraceReply {
     let mut room = [0u8; LINE_ROOM];
     let j = journaling::leave(m, &mut room);
-    entered(j, b"done\n", &room, out)
+    reply_journaled(j, b"done\n", &room, out)
 }

@@ -11,7 +11,7 @@ pub(crate) fn reply(m: Member, rest: &[u8], journaled: bool, out: &mut [u8]) -> 
         return bad(m, out);
     }
     if journaled {
-        return journal::left(m, out);
+        return journal::leave_journaled(m, out);
     }
     done(m.leave(), out)
 }

@@ -7,7 +7,7 @@ use gikev2::Member;
 use gikev2::SaAnswer;
 
 // Puts the line of the answer `a`.
-fn told(a: SaAnswer, out: &mut [u8]) -> usize {
+fn put_sa_answer(a: SaAnswer, out: &mut [u8]) -> usize {
     if a.found {
         let octets = a.octets;
         let c = a.condition;
@@ -22,12 +22,12 @@ fn told(a: SaAnswer, out: &mut [u8]) -> usize {
 }
 
 // Asks for an SA. The first octet of `name` is the protocol, the others are the SPI.
-fn asked(m: Member, name: &[u8], out: &mut [u8]) -> TraceReply {
+fn ask(m: Member, name: &[u8], out: &mut [u8]) -> TraceReply {
     if name.len() == 0 {
         return bad(m, out);
     }
     let a = m.sa(name[0], &name[1..]);
-    let at = told(a, out);
+    let at = put_sa_answer(a, out);
     TraceReply { member: m, at }
 }
 
@@ -35,7 +35,7 @@ fn asked(m: Member, name: &[u8], out: &mut [u8]) -> TraceReply {
 pub(crate) fn reply(m: Member, digits: &[u8], room: &mut [u8], out: &mut [u8]) -> TraceReply {
     if text_lines::is_hex(digits) {
         let n = text_lines::put_octets(room, 0, digits);
-        return asked(m, text::part(room, 0, n), out);
+        return ask(m, text::part(room, 0, n), out);
     }
     bad(m, out)
 }

@@ -35,7 +35,7 @@ pub(crate) fn wrote(room: &[u8], at: usize, out: &mut [u8]) -> usize {
 }
 
 // Lets the member receive `frame` with `room`, and puts its answer. Journals what was opened, if steps are `journaled`.
-fn received(
+fn receive_sealed(
     m: Member,
     frame: &[u8],
     room: &mut [u8],
@@ -47,7 +47,7 @@ fn received(
     let member = x.member;
     let answer = x.answer;
     let accepted = answer.number() == 0;
-    let told = frame::told(answer, out);
+    let told = frame::put_answer(answer, out);
     let written = wrote(room, told, out);
     if accepted & journaled {
         let opened = text::part(room, 0, opened_size(room));
@@ -71,7 +71,7 @@ fn with_room(m: Member, given: &[u8], journaled: bool, out: &mut [u8]) -> TraceR
         return bad(m, out);
     }
     let mut room = [LENT; MOST_ROOM];
-    received(
+    receive_sealed(
         m,
         text::part(given, 8, given.len()),
         &mut room[0..size],

@@ -95,7 +95,7 @@ fn sa(out: &mut [u8], at: usize, s: Sa) -> usize {
 }
 
 // Answers `count`, or `most` if it is more: the count of a broken list may be more than the list holds.
-fn within(count: usize, most: usize) -> usize
+pub(crate) fn within(count: usize, most: usize) -> usize
     ensures { λ r. ⌜ r ≤ most ⌝ }
 {
     if most < count {
@@ -125,7 +125,7 @@ fn held_key(out: &mut [u8], at: usize, k: HeldKey) -> usize {
     text::newline(out, d)
 }
 
-fn held(out: &mut [u8], at: usize, h: Held) -> usize {
+fn put_held(out: &mut [u8], at: usize, h: Held) -> usize {
     let n = within(h.count, HELD_KEYS);
     let mut place = at;
     let mut i: usize = 0;
@@ -155,6 +155,6 @@ pub(crate) fn member(out: &mut [u8], at: usize, m: Member) -> usize {
     let h = state.held;
     let l = state.least;
     let a = sas(out, at, t);
-    let b = held(out, a, h);
+    let b = put_held(out, a, h);
     least(out, b, l)
 }

@@ -1,2 +1,2 @@
 pub mod Clashing
-pub mod Eight
+pub mod ConflictLaws

@@ -25,13 +25,13 @@ tell l need r f e t = subst (λ (g : CopyFound). CopyTellsBy l need g (r .octets
 
 -- ---- tries that open to no less, and to no more
 module _ (l m : List Try) (need : ℕ) (to : (x : List ℕ) → SomeOpens l x → SomeOpens m x) where
-  pub eight-wider : TriesConflict l need → TriesConflict m need
-  eight-wider (wrong-size x s f) = wrong-size x (to x s) f
-  eight-wider (two-values x y s t f) = two-values x y (to x s) (to y t) f
+  pub conflict-wider : TriesConflict l need → TriesConflict m need
+  conflict-wider (wrong-size x s f) = wrong-size x (to x s) f
+  conflict-wider (two-values x y s t f) = two-values x y (to x s) (to y t) f
 
   pub tells-map : ((x : List ℕ) → SomeOpens m x → SomeOpens l x) → (f : CopyFound) (octets : List ℕ) (count : ℕ) →
       CopyTellsBy l need f octets count → CopyTellsBy m need f octets count
-  tells-map from Conflict o c t = eight-wider t
+  tells-map from Conflict o c t = conflict-wider t
   tells-map from Nothing o c t = λ x s. t x (from x s)
   tells-map from Key o c t =
       record {
@@ -73,11 +73,11 @@ module _ (l m : List Try) where
         tells-map l (l ++ m) need some-left (λ x s. ⊎-elim (λ t. t) (λ t. absurd (none x t)) (some-cases x s)) (a .found) (a .octets)
         (a .count) p
 
-    pub eight-left : a .found ≡ Conflict → CopyTells (l ++ m) need a
-    eight-left e = tell (l ++ m) need a Conflict e (eight-wider l (l ++ m) need some-left (told l need a Conflict e p))
+    pub conflict-left : a .found ≡ Conflict → CopyTells (l ++ m) need a
+    conflict-left e = tell (l ++ m) need a Conflict e (conflict-wider l (l ++ m) need some-left (told l need a Conflict e p))
 
-    pub eight-right : b .found ≡ Conflict → CopyTells (l ++ m) need b
-    eight-right e = tell (l ++ m) need b Conflict e (eight-wider m (l ++ m) need some-right (told m need b Conflict e q))
+    pub conflict-right : b .found ≡ Conflict → CopyTells (l ++ m) need b
+    conflict-right e = tell (l ++ m) need b Conflict e (conflict-wider m (l ++ m) need some-right (told m need b Conflict e q))
 
     module _ (e : a .found ≡ Key) (f : b .found ≡ Key) where
       one : TriesKey l need (a .octets) (a .count)

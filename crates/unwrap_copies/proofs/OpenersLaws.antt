@@ -13,7 +13,7 @@ use Rattle.rfc5649.specs.Opens.{Opens}
 use Rattle.state_keys.specs.Limits.{limits}
 use Rattle.state_keys.specs.Kinds.{valueOf}
 use Rattle.state_keys.specs.declared.kinds.WrappingKey.{WrappingKey}
-use Rattle.state_keys.proofs.Cases.{lt-cases}
+use Rattle.lists.proofs.Cases.{lt-cases}
 use Rattle.wire_attributes.specs.Tree.{SaKey, WrapKey}
 use Rattle.state.specs.declared.held.HeldKey.{HeldKey}
 use Rattle.rules_chains.specs.Chain.{Root}
@@ -26,7 +26,7 @@ use Rattle.unwrap_copies.specs.inner.Known.{Agrees}
 use Rattle.unwrap_copies.specs.inner.Named.{tryOf, tryFor, triesOf}
 use Rattle.unwrap_copies.specs.inner.Openers.{openersOf, Noted, OneOpens, OpenersAre}
 use Rattle.unwrap_copies.specs.inner.Tries.{Try, SomeOpens, TriesConflict, wrong-size, two-values, TriesKey, CopyTells}
-use Rattle.unwrap_copies.proofs.Joining.{told, eight-wider}
+use Rattle.unwrap_copies.proofs.Joining.{told, conflict-wider}
 use Rattle.unwrap_copies.proofs.Reaching.{of-tries, known-try, try-known}
 
 -- ---- what was found is one of three
@@ -170,7 +170,7 @@ module _ (need : ℕ) (v : List ℕ) (new old : List HeldKey) where
     by Nothing e = stays (n .kept (no-key (one .found) Nothing e refl)) (λ q. told (tryFor v new old c) need one Nothing e t)
     by Conflict e =
         stays (n .kept (no-key (one .found) Conflict e refl))
-        (λ q x s. q (eight-wider (tryFor v new old c) (triesOf v new old all) need
+        (λ q x s. q (conflict-wider (tryFor v new old c) (triesOf v new old all) need
         (λ y u. record {
           one = u .one;
           stands =

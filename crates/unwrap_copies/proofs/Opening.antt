@@ -13,7 +13,7 @@ use Rattle.keywrap.specs.inner.Blank.{blank, OpensBlank}
 use Rattle.keywrap.specs.declared.WrapAnswer.the-variants.{No, Count}
 use Rattle.rfc5649.proofs.Determined.{opens-one}
 use Rattle.rules_chains.proofs.Members.{in-member}
-use Rattle.state_keys.specs.Algorithms.{sizeOf}
+use Rattle.state_keys.specs.Algorithms.{isWrappingSize}
 use Rattle.state_keys.specs.Kinds.{padded, valueOf}
 use Rattle.state_keys.specs.declared.kinds.WrappingKey.{WrappingKey}
 use Rattle.state_keys.proofs.Sizes.{wrapping-le}
@@ -55,7 +55,7 @@ module _ (v w octets : List ℕ) where
       }
 
 -- ---- a key whose count is one of a wrapping key: its octets are there, and its schedule can be expanded
-module _ (key : WrappingKey) (e : length (key .octets) ≡ 32) (h : sizeOf 13 (key .count) ≡ true) where
+module _ (key : WrappingKey) (e : length (key .octets) ≡ 32) (h : isWrappingSize (key .count) ≡ true) where
   pub key-inside : key .count ≤ length (key .octets)
   key-inside = let g = wrapping-le (key .count) h in omega arith
 

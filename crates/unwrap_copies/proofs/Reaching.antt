@@ -14,7 +14,7 @@ use Rattle.rules_chains.specs.Refusals.{Announced, CopiesConflict, wrong-size, 
 use Rattle.rules_chains.proofs.Members.{in-member, member-in}
 use Rattle.state_keys.specs.Kinds.{valueOf}
 use Rattle.state_keys.specs.declared.kinds.WrappingKey.{WrappingKey}
-use Rattle.state_keys.proofs.Cases.{bool-cases}
+use Rattle.lists.proofs.Cases.{bool-cases}
 use Rattle.state.specs.declared.held.HeldKey.{HeldKey}
 use Rattle.unwrap_lending.specs.inner.Named.{octetsNamed}
 use Rattle.unwrap_copies.specs.declared.answer.CopyFound.{CopyFound}
@@ -54,7 +54,8 @@ module _ (zero : WrappingKey) (new old : List HeldKey) where
       let e : octetsNamed (c .kwkId) new old ≡ octetsNamed id new old = ap (λ (j : ℕ). octetsNamed j new old) q in
       rw (ne-eqb (c .kwkId) 0 (λ y. z (sym q ∙ y)), e, ne-eqb (length (octetsNamed id new old)) 0 f) (List·Memᴰ·head refl)
 
-  pub try-known : (c : SaKey) (t : Try) → List·Memᴰ t (tryFor v new old c) → (w : List ℕ) × Known zero new old (c .kwkId) w × (tryOf w c ≡ t)
+  pub try-known : (c : SaKey) (t : Try) → List·Memᴰ t (tryFor v new old c) →
+      (w : List ℕ) × Known zero new old (c .kwkId) w × (tryOf w c ≡ t)
   try-known c t m =
       bool-cases (eqb (c .kwkId) 0)
       (λ g.

@@ -6,8 +6,9 @@ use mathlib.Core.List.{List, [], _∷_, _++_, map}
 use borrow.Author.Tests.{leb-true}
 use lib.Dec.{leb}
 use lib.ListN.{length, drop}
+use Rattle.lists.proofs.Cases.{and-parts}
 use Rattle.octets.specs.Walk.{part}
-use Rattle.octets.proofs.Walks.{both-true, part-length}
+use Rattle.octets.proofs.Walks.{part-length}
 use Rattle.wire_attributes.specs.Tree.{saKeyOf}
 use Rattle.wire_attributes.specs.declared.tables.Place.{Place}
 use Rattle.wire_attributes.specs.declared.tables.Meaning.the-variants as meaning
@@ -20,7 +21,7 @@ module _ (p : Place) (s : List ℕ) (at a e : ℕ) (f : ValueFoundAt meaning.SaK
   pub ids-inside : 8 ≤ length x
   ids-inside =
       let n = ap length is ∙ part-length s a e (f .order) (f .inside) in
-      let h = leb-true 24 (e - a) (both-true (leb 24 (e - a)) _ (f .size) .0) in
+      let h = leb-true 24 (e - a) (and-parts (leb 24 (e - a)) _ (f .size) .0) in
       omega arith
 
   pub next-copies : copiesIn p (drop at s) ≡ saKeyOf x ∷ copiesIn p (drop e s)

@@ -6,6 +6,7 @@ use octets::compare::same;
 ghost use mathlib.Core.Path.{_≡_};
 ghost use mathlib.Core.List.{List, [], _∷_, _++_};
 ghost use Prim.Native.Nat.{ℕ, _≤_};
+ghost use Rattle.state_keys.specs.Rooms.{saRoom};
 ghost use Rattle.aes.specs.inner.Tables.{decipherTables};
 ghost use Rattle.aes.specs.inner.Schedule.{ExpandsInverse, ExpandedInverse};
 ghost use lib.ListN.{take};
@@ -144,7 +145,7 @@ pub(crate) fn open_copy(
     need: usize,
 ) -> CopyOpened
     requires { ⌜ (now tables ≡ decipherTables) × ExpandedInverse (schedule .words) ⌝ }
-    requires { ⌜ need ≤ 68 ⌝ }
+    requires { ⌜ need ≤ saRoom ⌝ }
     ensures { λ r. ⌜ ((v : List ℕ) → ExpandsInverse v (schedule .words) →
         CopyTells (record { key = v; wrapped = now (wrapped .entry) } ∷ []) need r) ⌝ }
 {

@@ -26,6 +26,7 @@ ghost use mathlib.Core.Bool.{true};
 ghost use mathlib.Core.List.{List};
 ghost use Prim.Native.Nat.{ℕ, _≤_};
 ghost use lib.ListN.{length};
+ghost use Rattle.state_keys.specs.Rooms.{saRoom};
 ghost use Rattle.aes.specs.inner.Tables.{decipherTables};
 ghost use Rattle.aes.specs.inner.Schedule.{ExpandsInverse, ExpandedInverse};
 ghost use Rattle.wire_attributes.specs.Tree.{WrapKey, saKeyOf};
@@ -53,7 +54,7 @@ fn try_copy(
     tables: &[u32; INVERSE_TABLE_WORDS],
     key: ReadyKey,
 ) -> CopyOpened
-    requires { ⌜ (8 ≤ length (now copy)) × (need ≤ 68) ⌝ }
+    requires { ⌜ (8 ≤ length (now copy)) × (need ≤ saRoom) ⌝ }
     requires { ⌜ (now tables ≡ decipherTables) × ExpandedInverse (key .schedule .words) ⌝ }
     ensures { λ r. ⌜ ((v : List ℕ) (new old : List HeldKey) → IsReady v new old key → saKeyOf (now (copy .entry)) .kwkId ≡ key .id →
         CopyTells (tryFor v new old (saKeyOf (now (copy .entry)))) need r) ⌝ }
@@ -66,8 +67,8 @@ fn try_copy(
 }
 
 // Opens the copies of one announced SA. `a` are the attributes of its Group Key Bag, `place` is the sort of that bag, and `need` is the
-// octet count that its policy needs. `schedule` is that of key 0. `carried` and `fresh` lend the frame's own keys, `ids` and `block` the held
-// ones that a KWK ID can name. Answers also the KWK IDs of the copies that open.
+// octet count that its policy needs. `schedule` is that of key 0. `carried` and `fresh` lend the frame's own keys, `ids` and `block` the
+// held ones that a KWK ID can name. Answers also the KWK IDs of the copies that open.
 pub fn copies<'a>(
     place: Place,
     a: &[u8],
@@ -80,7 +81,7 @@ pub fn copies<'a>(
     block: &'a [u8],
 ) -> Copied
     requires { ⌜ isWhole (attributes place 0 (now a)) ≡ true ⌝ }
-    requires { ⌜ need ≤ 68 ⌝ }
+    requires { ⌜ need ≤ saRoom ⌝ }
     requires { ⌜ (now tables ≡ decipherTables) × ExpandedInverse (schedule .words) ⌝ }
     requires { ⌜ ((new : List HeldKey) × (old : List HeldKey) × LendsTwo new old (now carried) (now fresh) (now ids) (now block)) ⌝ }
     ensures { λ r. ⌜ ((roots : List Root) (entries : List WrapKey) (size : ℕ) (zero : WrappingKey) (new old : List HeldKey) →

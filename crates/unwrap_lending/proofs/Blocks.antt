@@ -11,7 +11,7 @@ use lib.Seq.{drop-drop, drop-at, drop-cons, getD-drop, take-append-le}
 use Rattle.octets.specs.Numbers.{oct}
 use Rattle.octets.specs.Walk.{part}
 use Rattle.state_keys.specs.Kinds.{valueOf}
-use Rattle.state_keys.proofs.Cases.{lt-cases}
+use Rattle.lists.proofs.Cases.{lt-cases}
 use Rattle.state.specs.Held.{blankKey, noKey, keyWith}
 use Rattle.state.specs.declared.held.HeldKey.{HeldKey}
 use Rattle.state_keys.specs.declared.kinds.WrappingKey.{WrappingKey}

@@ -9,10 +9,10 @@ use mathlib.Core.List.{List, [], _∷_, _++_, append-nil, append-assoc}
 use lib.ListN.{length, take, drop, getD, set, length-append, length-drop, length-set, length-map, List·getD-map}
 use lib.Seq.{take-all, drop-set-lt, getD-take, length-take-le, take-at, take-suc, take-suc-set}
 use borrow.Rule.Slice.PartMut.{midOf, putMid}
-use Rattle.octets.proofs.Parts.{copied-end}
-use Rattle.state_keys.specs.Algorithms.{sizeOf}
+use Rattle.lists.proofs.Slices.{copied-end}
+use Rattle.state_keys.specs.Algorithms.{isWrappingSize}
 use Rattle.state_keys.specs.Limits.{limits}
-use Rattle.state_keys.proofs.Cases.{lt-cases}
+use Rattle.lists.proofs.Cases.{lt-cases}
 use Rattle.state_keys.specs.declared.kinds.MadeWrapping.{MadeWrapping}
 use Rattle.state.specs.Held.{blankKey, keysOf, idsOf, heldFormed, heldKey}
 use Rattle.state.proofs.Laws.{key-in}
@@ -56,7 +56,7 @@ pub record Placed (keys : List HeldKey) (block : List ℕ) (i : ℕ) : Type 0 wh
   pub block-is : take (placeOctets * i) block ≡ lentBlock (take i keys)
 
 -- and so are the Key IDs
-pub record Filled (keys : List HeldKey) (ids block : List ℕ) (i : ℕ) : Type 0 where
+pub record LentUpTo (keys : List HeldKey) (ids block : List ℕ) (i : ℕ) : Type 0 where
   pub rooms : Rooms ids block
   pub placed : Placed keys block i
   pub ids-are : take i ids ≡ idsOf (take i keys)
@@ -65,7 +65,7 @@ pub placed-none : (keys : List HeldKey) (block : List ℕ) → length block ≡ 
 unfolding lentBlock
 placed-none keys block e = record { block-length = e; fit = λ j h. absurd (omega arith); block-is = refl }
 
-pub filled-none : (keys : List HeldKey) (ids block : List ℕ) → Rooms ids block → Filled keys ids block 0
+pub filled-none : (keys : List HeldKey) (ids block : List ℕ) → Rooms ids block → LentUpTo keys ids block 0
 filled-none keys ids block e = record { rooms = e; placed = placed-none keys block (e .block-length); ids-are = refl }
 
 block-more : (l : List HeldKey) (k : HeldKey) → lentBlock (l ++ (k ∷ [])) ≡ lentBlock l ++ lentPlace (k .key)
@@ -85,7 +85,7 @@ next-keys keys i k h is =
     ap (λ (n : ℕ). take n keys) (add-one i) ∙ take-suc keys i blankKey h ∙ ap (λ (a : HeldKey). take i keys ++ (a ∷ [])) is
 
 module _ (keys : List HeldKey) (block : List ℕ) (i : ℕ) (m : Placed keys block i) (h : i < length keys) (f : i < limits .heldKeys)
-    (k : HeldKey) (is : getD keys i blankKey ≡ k) (sized : (k .key .count ≡ 0) ⊎ (sizeOf 13 (k .key .count) ≡ true)) where
+    (k : HeldKey) (is : getD keys i blankKey ≡ k) (sized : (k .key .count ≡ 0) ⊎ (isWrappingSize (k .key .count) ≡ true)) where
   pub placed-more : (out : List ℕ) → Puts (k .key) (placeOctets * i) block out → Placed keys out (i + 1)
   placed-more out p =
       let b = m .block-length in
@@ -108,9 +108,9 @@ module _ (keys : List HeldKey) (block : List ℕ) (i : ℕ) (m : Placed keys blo
             ∙ ap (λ (x : List ℕ). x ++ o) (m .block-is) ∙ sym (block-more (take i keys) k) ∙ ap lentBlock (sym (next-keys keys i k h is));
       }
 
-pub filled-more : (keys : List HeldKey) (ids block : List ℕ) (i : ℕ) → Filled keys ids block i → i < length keys → i < limits .heldKeys →
-    (k : HeldKey) → getD keys i blankKey ≡ k → sizeOf 13 (k .key .count) ≡ true → (out : List ℕ) →
-    Puts (k .key) (placeOctets * i) block out → Filled keys (set ids i (k .id)) out (i + 1)
+pub filled-more : (keys : List HeldKey) (ids block : List ℕ) (i : ℕ) → LentUpTo keys ids block i → i < length keys → i < limits .heldKeys →
+    (k : HeldKey) → getD keys i blankKey ≡ k → isWrappingSize (k .key .count) ≡ true → (out : List ℕ) →
+    Puts (k .key) (placeOctets * i) block out → LentUpTo keys (set ids i (k .id)) out (i + 1)
 filled-more keys ids block i m h f k is sized out p =
     let n = m .rooms .ids-length in
     let q = placed-more keys block i (m .placed) h f k is (inr sized) out p in
@@ -125,9 +125,9 @@ filled-more keys ids block i m h f k is sized out p =
 
 -- ---- a key for each of some Key IDs
 module _ (reached : Held) (formed : heldFormed limits reached ≡ true) (ids : List ℕ) where
-  pub named-sized : (i : ℕ) → (heldKey limits i reached .key .count ≡ 0) ⊎ (sizeOf 13 (heldKey limits i reached .key .count) ≡ true)
+  pub named-sized : (i : ℕ) → (heldKey limits i reached .key .count ≡ 0) ⊎ (isWrappingSize (heldKey limits i reached .key .count) ≡ true)
   named-sized i =
-      subst (λ (m : MadeWrapping). (m .key .count ≡ 0) ⊎ (sizeOf 13 (m .key .count) ≡ true))
+      subst (λ (m : MadeWrapping). (m .key .count ≡ 0) ⊎ (isWrappingSize (m .key .count) ≡ true))
       (sym (key-in limits reached i (held-within reached formed))) (found-sized i (keysOf reached) (held-formed reached formed))
 
   pub named-count : length (namedKeys reached ids) ≡ length ids
@@ -173,10 +173,10 @@ module _ (reached : Held) (formed : heldFormed limits reached ≡ true) (ids : L
 
 module _ (held : Held) (ids block : List ℕ) where
   pub filled-all : (i : ℕ) → heldFormed limits held ≡ true → held .count ≤ length (held .keys) → held .count ≤ limits .heldKeys →
-      held .count ≤ i → i ≤ held .count → Filled (held .keys) ids block i → LendsFirst held ids block
+      held .count ≤ i → i ≤ held .count → LentUpTo (held .keys) ids block i → LendsFirst held ids block
   filled-all i formed places most g h m =
       let e : i ≡ held .count = omega arith in
-      let o = subst (Filled (held .keys) ids block) e m in
+      let o = subst (LentUpTo (held .keys) ids block) e m in
       let n = length-take-le (held .count) (held .keys) places in
       record {
         lends = record {

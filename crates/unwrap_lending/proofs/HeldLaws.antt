@@ -10,21 +10,21 @@ use lib.Dec.{leb, eqb}
 use lib.ListN.{length, getD}
 use lib.Seq.{length-take-le, getD-take}
 use Rattle.state_keys.specs.Limits.{limits}
-use Rattle.state_keys.specs.Lists.{all}
-use Rattle.state_keys.specs.Algorithms.{sizeOf}
-use Rattle.state_keys.proofs.Cases.{bool-cases, and-parts}
+use Rattle.lists.specs.Lists.{all}
+use Rattle.state_keys.specs.Algorithms.{isWrappingSize}
+use Rattle.lists.proofs.Cases.{bool-cases, and-parts}
 use Rattle.state.specs.Held.{keysOf, keyFormed, idsOf, distinct, heldFormed, keyWith}
 use Rattle.state.specs.declared.held.HeldKey.{HeldKey}
 use Rattle.state.specs.declared.held.Held.{Held}
 
-pub key-size : (k : HeldKey) → keyFormed k ≡ true → sizeOf 13 (k .key .count) ≡ true
+pub key-size : (k : HeldKey) → keyFormed k ≡ true → isWrappingSize (k .key .count) ≡ true
 unfolding keyFormed
-key-size k e = and-parts (not (eqb (k .id) 0)) (sizeOf 13 (k .key .count)) e .1
+key-size k e = and-parts (not (eqb (k .id) 0)) (isWrappingSize (k .key .count)) e .1
 
 pub key-nonzero : (k : HeldKey) → keyFormed k ≡ true → k .id ≡ 0 → ⊥
 unfolding keyFormed
 key-nonzero k e z =
-    false≢true (sym (ap not (eq-eqb (k .id) 0 z)) ∙ and-parts (not (eqb (k .id) 0)) (sizeOf 13 (k .key .count)) e .0)
+    false≢true (sym (ap not (eq-eqb (k .id) 0 z)) ∙ and-parts (not (eqb (k .id) 0)) (isWrappingSize (k .key .count)) e .0)
 
 pub all-member : (k : HeldKey) (l : List HeldKey) → all keyFormed l ≡ true → List·Memᴰ k l → keyFormed k ≡ true
 unfolding all
@@ -46,7 +46,7 @@ getD-any (x ∷ l) (suc i) a b h = getD-any l i a b (omega arith)
 
 -- the key that is found by its Key ID has the size of a wrapping key, or no octets
 pub found-sized : (id : ℕ) (l : List HeldKey) → all keyFormed l ≡ true →
-    (keyWith id l .key .count ≡ 0) ⊎ (sizeOf 13 (keyWith id l .key .count) ≡ true)
+    (keyWith id l .key .count ≡ 0) ⊎ (isWrappingSize (keyWith id l .key .count) ≡ true)
 unfolding keyWith all
 found-sized id [] a = inl refl
 found-sized id (k ∷ l) a =
@@ -71,7 +71,7 @@ module _ (h : Held) (e : heldFormed limits h ≡ true) where
   held-distinct = and-parts (all keyFormed (keysOf h)) (distinct (idsOf (keysOf h))) (parts .1) .1
 
   pub held-size : length (h .keys) ≡ limits .heldKeys → (i : ℕ) (d : HeldKey) → i < h .count →
-      sizeOf 13 (getD (h .keys) i d .key .count) ≡ true
+      isWrappingSize (getD (h .keys) i d .key .count) ≡ true
   held-size n i d g =
       let w = held-within in
       let m = length-take-le (h .count) (h .keys) (omega arith) in

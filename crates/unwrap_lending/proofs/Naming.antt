@@ -9,10 +9,10 @@ use borrow.Author.Tests.{eq-eqb, ne-eqb}
 use lib.Dec.{eqb}
 use lib.ListN.{length, getD}
 use lib.Seq.{length-take-le}
-use Rattle.state_keys.specs.Lists.{any}
-use Rattle.state_keys.specs.Algorithms.{sizeOf}
+use Rattle.lists.specs.Lists.{any}
+use Rattle.state_keys.specs.Algorithms.{isWrappingSize}
 use Rattle.state_keys.specs.Kinds.{valueOf}
-use Rattle.state_keys.proofs.Cases.{bool-cases}
+use Rattle.lists.proofs.Cases.{bool-cases}
 use Rattle.state.specs.Held.{blankKey, idsOf, has, keyWith}
 use Rattle.state.specs.declared.held.HeldKey.{HeldKey}
 use Rattle.unwrap_lending.specs.inner.Lending.{placeOctets, Lends, LendsTwo}
@@ -79,7 +79,7 @@ module _ (id : ℕ) (new old : List HeldKey) (carried fresh ids held : List ℕ)
     in-neither k = no-value old ids held q id s g k ∙ sym (by-carried false (first-none id carried r f h))
 
 -- ---- what is named has no octets, or as many as a wrapping key
-size-named : (id : ℕ) (l : List HeldKey) → AllFit l → (length (valueNamed id l) ≡ 0) ⊎ (sizeOf 13 (length (valueNamed id l)) ≡ true)
+size-named : (id : ℕ) (l : List HeldKey) → AllFit l → (length (valueNamed id l) ≡ 0) ⊎ (isWrappingSize (length (valueNamed id l)) ≡ true)
 unfolding keyWith
 size-named id [] h = inl refl
 size-named id (k ∷ l) h =
@@ -89,11 +89,11 @@ size-named id (k ∷ l) h =
     let a = f .array in
     let m = fits-most (k .key) f in
     let n : length (valueOf (k .key)) ≡ k .key .count = length-take-le (k .key .count) (k .key .octets) (omega arith) in
-    rw g (⊎-elim (λ z. inl (n ∙ z)) (λ e. inr (ap (sizeOf 13) n ∙ e)) (f .size)))
+    rw g (⊎-elim (λ z. inl (n ∙ z)) (λ e. inr (ap isWrappingSize n ∙ e)) (f .size)))
     (λ g. rw g (size-named id l (rest-fits k l h)))
 
 pub named-size : (id : ℕ) (new old : List HeldKey) (carried fresh ids block : List ℕ) → LendsTwo new old carried fresh ids block →
-    (length (octetsNamed id new old) ≡ 0 → ⊥) → sizeOf 13 (length (octetsNamed id new old)) ≡ true
+    (length (octetsNamed id new old) ≡ 0 → ⊥) → isWrappingSize (length (octetsNamed id new old)) ≡ true
 named-size id new old carried fresh ids block lends f =
     bool-cases (has id (idsOf new))
     (λ g.

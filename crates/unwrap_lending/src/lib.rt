@@ -51,8 +51,8 @@ pub fn lend_keys(held: Held, ids: &mut [u32], block: &mut [u8])
     }
 }
 
-// Writes the keys that `reached` has to the first places of `block`, one for each of `ids`: the key with that Key ID, or one of no octets if
-// the list has none.
+// Writes the keys that `reached` has to the first places of `block`, one for each of `ids`: the key with that Key ID, or one of no octets
+// if the list has none.
 pub fn lend_named(ids: &[u32], reached: Held, block: &mut [u8])
     requires { ⌜ heldFormed limits reached ≡ true ⌝ }
     requires { ⌜ (length (now ids) ≤ limits .heldKeys) × (length (now block) ≡ placeOctets * limits .heldKeys) ⌝ }

@@ -15,7 +15,7 @@ use Rattle.rules_chains.proofs.Determined.{one-value}
 use Rattle.state_keys.specs.Limits.{limits}
 use Rattle.state_keys.specs.Kinds.{valueOf}
 use Rattle.state_keys.specs.declared.kinds.MadeWrapping.{MadeWrapping}
-use Rattle.state_keys.proofs.Fill.{Filled, filled-none, filled-more, written-more, filled-all, filled-count}
+use Rattle.lists.proofs.Fill.{Filled, filled-none, filled-more, written-more, filled-all, filled-count}
 use Rattle.state.specs.Held.{keysOf, heldOf, heldKey, blankKey}
 use Rattle.state.specs.declared.held.HeldKey.{HeldKey}
 use Rattle.state.specs.declared.held.Held.{Held}

@@ -5,8 +5,8 @@ use mathlib.Core.Path.{_≡_, refl, subst}
 use mathlib.Core.List.{List}
 use borrow.Author.Tests.{lt-ltb, le-ltb, eq-eqb, ne-eqb}
 use borrow.Author.Count.{below-more}
+use Rattle.lists.proofs.Cases.{lt-cases}
 use Rattle.octets.specs.Numbers.{oct}
-use Rattle.octets.proofs.Order.{lt-cases}
 use Rattle.unwrap_search.proofs.Statuses.{eq-cases}
 use Rattle.unwrap_paths.specs.inner.Code.{levelFrom, HasLevels, HasLevel}
 

@@ -6,11 +6,11 @@ use mathlib.Core.Bool.{true, false, false≢true}
 use mathlib.Core.List.{List}
 use borrow.Author.Tests.{le-leb, lt-leb, eq-eqb, ne-eqb}
 use borrow.Author.Count.{below-more}
+use Rattle.lists.proofs.Cases.{bool-cases, lt-cases}
 use Rattle.octets.specs.Numbers.{oct}
 use Rattle.unwrap_paths.specs.declared.back.Pick.{Pick}
 use Rattle.unwrap_paths.specs.inner.Code.{pickedOf, PickedAt}
 use Rattle.unwrap_search.proofs.Statuses.{eq-cases}
-use Rattle.octets.proofs.Order.{bool-cases, lt-cases}
 
 module _ (p : Pick) (i id kwk level wanted of : ℕ) where
   abbrev new : Pick

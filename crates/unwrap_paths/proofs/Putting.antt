@@ -8,11 +8,11 @@ use borrow.Author.Tests.{le-leb, eq-eqb, ne-eqb}
 use lib.Dec.{eqb}
 use lib.ListN.{length, take, drop, getD, set, replicate, length-append, length-replicate}
 use lib.Seq.{take-append-seam, drop-append-seam, length-take-le}
-use Rattle.state_keys.specs.Lists.{any, keep}
+use Rattle.lists.specs.Lists.{any, keep}
 use Rattle.state_keys.specs.Limits.{limits}
-use Rattle.state_keys.proofs.Cases.{bool-cases}
-use Rattle.state_keys.proofs.Parts.{part-cons, part-end}
-use Rattle.state_keys.proofs.Fill.{Filled, filled-more, written-more, filled-all, filled-count}
+use Rattle.lists.proofs.Cases.{bool-cases}
+use Rattle.lists.proofs.Parts.{part-cons, part-end}
+use Rattle.lists.proofs.Fill.{Filled, filled-more, written-more, filled-all, filled-count}
 use Rattle.state.specs.Held.{keysOf, heldOf, blankKey, keyWith, heldKey}
 use Rattle.state.specs.declared.held.HeldKey.{HeldKey}
 use Rattle.state.specs.declared.held.Held.{Held}

@@ -8,8 +8,8 @@ use borrow.Author.Tests.{lt-ltb, le-ltb, eq-eqb, ne-eqb}
 use borrow.Author.Count.{below-more}
 use lib.ListN.{length, set}
 use lib.Seq.{getD-set-same, getD-set-other}
+use Rattle.lists.proofs.Cases.{lt-cases}
 use Rattle.octets.specs.Numbers.{oct}
-use Rattle.octets.proofs.Order.{lt-cases}
 use Rattle.unwrap_paths.specs.declared.levels.Low.{Low}
 use Rattle.unwrap_paths.specs.inner.Code.{isTried, markOpenedFirst, firstLevel, lowerOf, LeastAt, nextLevel}
 use Rattle.unwrap_search.proofs.Statuses.{eq-cases}

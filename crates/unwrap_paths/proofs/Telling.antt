@@ -13,8 +13,8 @@ use Rattle.wire_attributes.specs.Tree.{WrapKey, SaKey}
 use Rattle.rules_chains.specs.Chain.{Root}
 use Rattle.rules_chains.specs.Path.{startId}
 use Rattle.state_keys.specs.Limits.{limits}
-use Rattle.state_keys.specs.Lists.{all}
-use Rattle.state_keys.proofs.Cases.{and-parts}
+use Rattle.lists.specs.Lists.{all}
+use Rattle.lists.proofs.Cases.{and-parts}
 use Rattle.state.specs.Held.{keysOf, heldOf, heldFormed, keyFormed, distinct, idsOf}
 use Rattle.state.specs.declared.held.HeldKey.{HeldKey}
 use Rattle.state.specs.declared.held.Held.{Held}

@@ -9,8 +9,8 @@ use borrow.Author.Tests.{eq-eqb, eqb-true}
 use lib.Dec.{eqb}
 use lib.ListN.{length, take, getD}
 use lib.Seq.{length-take-le, getD-take}
+use Rattle.lists.proofs.Cases.{bool-cases, lt-cases}
 use Rattle.octets.specs.Numbers.{oct}
-use Rattle.octets.proofs.Order.{bool-cases, lt-cases}
 use Rattle.rfc5649.specs.Opens.{Opens}
 use Rattle.wire_attributes.specs.Tree.{WrapKey, SaKey}
 use Rattle.rules_chains.specs.Chain.{In, Root, Chain, Reached}
@@ -19,7 +19,7 @@ use Rattle.rules_chains.specs.Refusals.{EntriesConflict}
 use Rattle.rules_chains.proofs.Determined.{AtRoot, ends-by, last-entry, one-value}
 use Rattle.rules_chains.proofs.Laws.{step-by, entries-fit}
 use Rattle.rules_chains.proofs.Members.{in-member, member-in}
-use Rattle.state_keys.specs.Lists.{any}
+use Rattle.lists.specs.Lists.{any}
 use Rattle.state_keys.specs.Kinds.{valueOf}
 use Rattle.unwrap_search.specs.declared.open.Status.the-variants.{Wrong}
 use Rattle.unwrap_search.specs.declared.open.Entry.{Entry}
@@ -29,7 +29,7 @@ use Rattle.unwrap_search.specs.inner.Search.{keyAt, cellAt, Searched, Found-in,
 use Rattle.unwrap_search.proofs.Statuses.{getD-any}
 use Rattle.unwrap_search.proofs.Starting.{carried-at, carried-some}
 use Rattle.unwrap_conflicts.specs.inner.Values.{isDone}
-use Rattle.unwrap_conflicts.proofs.Eight.{eight-wrong}
+use Rattle.unwrap_conflicts.proofs.ConflictLaws.{conflict-wrong}
 use Rattle.unwrap_conflicts.proofs.Clashing.{done-is}
 use Rattle.unwrap_paths.specs.inner.Levels.{Walk, starts, goes, Levelled, Best, Distance, ReadOff}
 use Rattle.unwrap_paths.specs.inner.Code.{markOpenedFirst, isOpened, Roots, HasLevels, HasLevel, GoesBack}
@@ -84,7 +84,7 @@ module _ (n : ℕ) (entries : List Entry) (cells : List Cell) (ids kwks marks : 
     -- ---- what the search says
     no-wrong : (i : ℕ) → i < length l → cellAt cells i .status ≡ Wrong → ⊥
     no-wrong i h w =
-        none (eight-wrong frame entries n cells roots l size lists s
+        none (conflict-wrong frame entries n cells roots l size lists s
         (record { place = i; inside = let z : i < n = omega (arith, lists .count, h) in z; holds = w }))
 
     found-reached : (k : ℕ) (x : List ℕ) → Found-in roots l size cells k x → Reached roots l size k x

@@ -9,8 +9,8 @@ use borrow.Author.Tests.{eq-eqb, ne-eqb, eqb-true}
 use lib.Dec.{eqb}
 use lib.ListN.{length, set}
 use lib.Seq.{getD-set-same, getD-set-other}
+use Rattle.lists.proofs.Cases.{bool-cases, lt-cases}
 use Rattle.octets.specs.Numbers.{oct}
-use Rattle.octets.proofs.Order.{bool-cases, lt-cases}
 use Rattle.state_keys.specs.Limits.{limits}
 use Rattle.unwrap_paths.specs.inner.Levels.{Next, Levelling, Levelled}
 use Rattle.unwrap_paths.specs.inner.Levels as levels

@@ -7,8 +7,8 @@ use mathlib.Core.List.{List, [], _∷_, _++_, append-nil}
 use lib.ListN.{length, take, set}
 use lib.Seq.{getD-set-same, getD-set-other}
 use borrow.Author.Count.{below-more}
+use Rattle.lists.proofs.Cases.{bool-cases}
 use Rattle.octets.specs.Numbers.{oct}
-use Rattle.octets.proofs.Order.{bool-cases}
 use Rattle.unwrap_paths.specs.inner.Levels.{Walk, starts, goes, WalkOf, Levelled, at-root, back, ReadOff, Distance}
 use Rattle.unwrap_paths.specs.inner.Code.{PickedAt}
 

@@ -37,7 +37,7 @@ fn level_from(found: usize, id: u32, level: usize, wanted: u32) -> usize
     found
 }
 
-// The level of the key with this Key ID: that of the lowest entry that gives it, 0 if none does. Internal.
+// Finds the level of the key with this Key ID: that of the lowest entry that gives it, 0 if none does.
 pub fn level_of(ids: &[u32], levels: [usize; WRAP_KEYS], n: usize, id: u32) -> usize
     requires { ⌜ (n ≤ limits .wrapKeys) × (n ≤ length (now ids)) ⌝ }
     ensures { λ r. ⌜ HasLevel n (now (ids .entry)) levels id r ⌝ }
@@ -101,7 +101,7 @@ fn lowest_kwk(
     Found::Nothing
 }
 
-// The path to the key with this Key ID, of which `level` is the number of keys. Internal.
+// Finds the path to the key with this Key ID, of which `level` is the number of keys.
 pub fn way_back(
     ids: &[u32],
     kwks: &[u32],

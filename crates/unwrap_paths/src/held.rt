@@ -130,7 +130,7 @@ fn path_before(path: Held, end: u32, old: Held) -> PathHeld
 }
 
 // The held list after `old` by the path of all copies that open, of which `kwks` are the KWK IDs. `links` are what was kept of the
-// search, and `reached` are the keys that it reached. Internal.
+// search, and `reached` are the keys that it reached.
 pub fn held_by_path(links: Links, reached: Held, old: Held, kwks: &[u32]) -> PathHeld
     requires { ⌜ LinksFit links ⌝ }
     requires { ⌜ heldFormed limits old ≡ true ⌝ }

@@ -127,7 +127,7 @@ fn spread(
     out
 }
 
-// The level of each entry that a chain reaches, and 0 for the others. Internal.
+// Computes the level of each entry that a chain reaches, and 0 for the others.
 pub fn levels(ids: &[u32], kwks: &[u32], marks: &[u8], n: usize) -> [usize; WRAP_KEYS]
     requires { ⌜ (n ≤ limits .wrapKeys) × (n ≤ length (now ids)) × (n ≤ length (now kwks)) × (n ≤ length (now marks)) ⌝ }
     ensures { λ r. ⌜ HasLevels n (now (ids .entry)) (now (kwks .entry)) (now (marks .entry)) r ⌝ }

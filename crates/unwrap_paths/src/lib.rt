@@ -1,4 +1,5 @@
 // The path by which a member's held list goes on: from the cells of a search to the places of its entries.
+// Internal: crates of this repository alone call it.
 pub mod back;
 pub mod held;
 pub mod levels;
@@ -14,7 +15,7 @@ ghost use Rattle.state_keys.specs.Limits.{limits};
 ghost use Rattle.unwrap_paths.specs.inner.Code.{GoesBack};
 ghost use Rattle.unwrap_paths.specs.inner.Kept.{LinksFit};
 
-// The path to the key `start`, by what was kept of a search. Internal.
+// Finds the path to the key `start`, by what was kept of a search.
 pub fn path(links: Links, start: Nearest) -> Trail
     requires { ⌜ LinksFit links ⌝ }
     requires { ⌜ start .level ≤ limits .wrapKeys ⌝ }

@@ -43,7 +43,8 @@ pub struct LinkNumbers {
     pub marks: [u8; WRAP_KEYS],
 }
 
-// The mark of an entry with the cell `c`. It opened under a key that chains start with if no entry carries the key that it names (`carried`).
+// The mark of an entry with the cell `c`. It opened under a key that chains start with if no entry carries the key that it names
+// (`carried`).
 fn mark(c: Cell, carried: bool) -> u8
     ensures { λ r. ⌜ r ≡ markOf c carried ⌝ }
 {
@@ -76,7 +77,7 @@ fn numbers_of(entries: [Entry; WRAP_KEYS], cells: [Cell; WRAP_KEYS], n: usize) -
     LinkNumbers { ids, kwks, marks }
 }
 
-// Keeps of a search over the first `n` entries what the way back reads: their numbers and their levels. Internal.
+// Keeps of a search over the first `n` entries what the way back reads: their numbers and their levels.
 pub fn links_of(entries: [Entry; WRAP_KEYS], cells: [Cell; WRAP_KEYS], n: usize) -> Links
     requires { ⌜ n ≤ limits .wrapKeys ⌝ }
     ensures { λ r. ⌜ LinksKept n entries cells r ⌝ }

@@ -27,7 +27,7 @@ fn nearer(a: Nearest, kwk: u32, level: usize) -> Nearest
     a
 }
 
-// The key whose path comes first, of those with the Key IDs `kwks`. Internal.
+// Finds the key whose path comes first, of those with the Key IDs `kwks`.
 pub fn nearest_of(links: Links, kwks: &[u32]) -> Nearest
     requires { ⌜ LinksFit links ⌝ }
     requires { ⌜ 0 < length (now kwks) ⌝ }

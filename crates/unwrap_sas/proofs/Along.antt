@@ -3,19 +3,19 @@ use native.Mathlib.Omega.{arith}
 use Prim.Native.Nat.{ℕ, _+_, _-_, _<_, _≤_}
 use mathlib.Core.Path.{_≡_, refl, ap, sym, _∙_, subst}
 use mathlib.Core.Bool.{Bool, true, false, not, false≢true}
-use mathlib.Core.List.{List, [], _∷_, _++_, append-nil, append-assoc, List·Memᴰ, List·Memᴰ·head, Memᴰ·append-right}
+use mathlib.Core.List.{List, [], _∷_, _++_, append-nil, append-assoc, List·Memᴰ, List·Memᴰ·head, Memᴰ·append-right, flatMap}
 use borrow.Author.Tests.{eqb-true, eqb-false, not-false}
 use lib.Dec.{eqb}
 use lib.ListN.{length, take, drop, set, length-append, length-set}
 use Rattle.state_keys.specs.Limits.{limits}
-use Rattle.state_keys.specs.Lists.{any}
+use Rattle.lists.specs.Lists.{any}
 use Rattle.wire_attributes.specs.Tree.{SaKey, WrapKey}
 use Rattle.wire_policies.specs.Policy.{GroupSaPolicy, policies}
 use Rattle.wire_frames.specs.Frame.{Frame}
 use Rattle.wire_readers.specs.inner.Values.{isWhole}
 use Rattle.wire_readers.specs.declared.policy.Parts.{Parts}
 use Rattle.state_sa.specs.declared.entry.Sa.{Sa}
-use Rattle.rules_refusals.specs.Contents.{rowOf, several, gather, groupSaIn, announced}
+use Rattle.rules_refusals.specs.Contents.{rowOf, several, groupSaIn, announced}
 use Rattle.rules_refusals.specs.Fitness.{isRekey, transformsFit}
 use Rattle.rules_refusals.specs.Number4.{twiceInTransform, keyLengthTwice, lifetimeTwice}
 use Rattle.rules_refusals.specs.Number5.{otherTransforms}
@@ -33,8 +33,8 @@ use Rattle.unwrap_sas.specs.declared.joining.SasFound.{SasFound}
 use Rattle.unwrap_sas.specs.declared.joining.SasFound.the-variants.{KeyConflict, KeyMissing, Keys}
 use Rattle.unwrap_copies.specs.declared.answer.Openers.{Openers}
 use Rattle.unwrap_copies.specs.inner.Openers.{openersOf, OpenersAre}
-use Rattle.state_keys.proofs.Cases.{bool-cases}
-use Rattle.unwrap_sas.proofs.Further.{eight-wider, eight-more, unopened-more, sa-more}
+use Rattle.lists.proofs.Cases.{bool-cases}
+use Rattle.unwrap_sas.proofs.Further.{conflict-wider, conflict-more, unopened-more, sa-more}
 use Rattle.unwrap_sas.proofs.RekeyCopies.{copiesAmong, among-none, among-other, among-first, few-copies}
 use Rattle.unwrap_sas.proofs.PolicyAt.{sasFrom, no-more-sas, SaAt, PolicyAt}
 
@@ -48,7 +48,7 @@ no-keys : KeyConflict ≡ Keys → ⊥
 unfolding isKeys
 no-keys e = false≢true (ap isKeys e)
 
-keys-told : (nine : Bool) → foundBy nine ≡ Keys → nine ≡ false
+keys-told : (missing : Bool) → foundBy missing ≡ Keys → missing ≡ false
 unfolding isKeys
 keys-told true e = absurd (false≢true (ap isKeys e))
 keys-told false e = refl
@@ -62,7 +62,7 @@ module _ (reads : Bool) (f : Frame) (g k : List ℕ) (y : ChecksPassed reads f g
   stands : List·Memᴰ a (announced f)
   stands =
       subst (List·Memᴰ a)
-      (ap (λ (l : List GroupSaPolicy). before ++ l) (sym (s .first)) ∙ all-are ∙ ap (gather groupSaIn) (sym (y .policies)))
+      (ap (λ (l : List GroupSaPolicy). before ++ l) (sym (s .first)) ∙ all-are ∙ ap (flatMap groupSaIn) (sym (y .policies)))
       (Memᴰ·append-right before (List·Memᴰ·head refl))
 
   fits : transformsFit (rowOf f .authentication) a ≡ true
@@ -103,7 +103,7 @@ module _ (reads : Bool) (f : Frame) (g k : List ℕ) (y : ChecksPassed reads f g
   }
 
 module _ (reads : Bool) (g k schedule carried fresh ids block : List ℕ) (tick : ℕ) where
-  pub record Along (at : ℕ) (nine : Bool) (sas : List Sa) (count : ℕ) (openers : Openers) : Type 0 where
+  pub record Along (at : ℕ) (missing : Bool) (sas : List Sa) (count : ℕ) (openers : Openers) : Type 0 where
     pub inside : at ≤ length g
     pub rest : isWhole (policies 0 (drop at g)) ≡ true
     pub places : length sas ≡ newSas
@@ -111,9 +111,10 @@ module _ (reads : Bool) (g k schedule carried fresh ids block : List ℕ) (tick 
     pub all-are : passed ++ sasFrom g at ≡ sasFrom g 0
     pub few : count ≤ length passed
     pub known : (roots : List Root) (entries : List WrapKey) (size : ℕ) (f : Frame) → ChecksPassed reads f g k →
-        OpeningKeys schedule carried fresh ids block roots entries size → KeysOf roots entries size f passed tick (foundBy nine) sas count
+        OpeningKeys schedule carried fresh ids block roots entries size → KeysOf roots entries size f passed tick
+        (foundBy missing) sas count
     pub listed : (roots : List Root) (entries : List WrapKey) (size : ℕ) (f : Frame) → ChecksPassed reads f g k →
-        OpeningKeys schedule carried fresh ids block roots entries size → nine ≡ false →
+        OpeningKeys schedule carried fresh ids block roots entries size → missing ≡ false →
         OpenersAre roots entries size (copiesAmong f passed) (openersOf openers)
 
   pub along-start : (sas : List Sa) (openers : Openers) → isWhole (policies 0 g) ≡ true → length sas ≡ newSas → openers .count ≡ 0 →
@@ -133,26 +134,27 @@ module _ (reads : Bool) (g k schedule carried fresh ids block : List ℕ) (tick 
         };
       }
 
-  module _ (at : ℕ) (nine : Bool) (sas : List Sa) (count : ℕ) (openers : Openers) (w : Along at nine sas count openers) where
-    pub along-end : (found : SasFound) → found ≡ foundBy nine → length g ≤ at → (roots : List Root) (entries : List WrapKey) (size : ℕ)
+  module _ (at : ℕ) (missing : Bool) (sas : List Sa) (count : ℕ) (openers : Openers) (w : Along at missing sas count openers) where
+    pub along-end : (found : SasFound) → found ≡ foundBy missing → length g ≤ at → (roots : List Root) (entries : List WrapKey) (size : ℕ)
         (f : Frame) → ChecksPassed reads f g k → OpeningKeys schedule carried fresh ids block roots entries size →
         KeyedBy roots entries size f tick (record { found = found; sas = sas; count = count; openers = openers })
     unfolding rekeyCopies
     along-end found e h roots entries size f y o =
         let all : w .passed ≡ announced f =
         sym (append-nil (w .passed)) ∙ ap (λ (l : List GroupSaPolicy). w .passed ++ l) (sym (no-more-sas g at h)) ∙ w .all-are
-        ∙ ap (gather groupSaIn) (sym (y .policies)) in
+        ∙ ap (flatMap groupSaIn) (sym (y .policies)) in
         record {
           keys =
               subst (λ (l : List GroupSaPolicy). KeysOf roots entries size f l tick found sas count) all
-              (subst (λ (x : SasFound). KeysOf roots entries size f (w .passed) tick x sas count) (sym e) (w .known roots entries size f y o));
+              (subst (λ (x : SasFound). KeysOf roots entries size f (w .passed) tick x sas count) (sym e)
+              (w .known roots entries size f y o));
           openers = λ k.
               subst (λ (l : List GroupSaPolicy). OpenersAre roots entries size (copiesAmong f l) (openersOf openers)) all
-              (w .listed roots entries size f y o (keys-told nine (sym e ∙ k)));
+              (w .listed roots entries size f y o (keys-told missing (sym e ∙ k)));
         }
 
     module _ (r : Parts) (p : PolicyAt g at r) where
-      pub along-wide : r .first ≡ 0 → Along (at + r .end) nine sas count openers
+      pub along-wide : r .first ≡ 0 → Along (at + r .end) missing sas count openers
       along-wide z =
           record {
             inside = p .inside;
@@ -184,7 +186,7 @@ module _ (reads : Bool) (g k schedule carried fresh ids block : List ℕ) (tick 
             let n = ap length (w .all-are) in
             let m = length-append (w .passed) (sasFrom g at) in
             let c = ap length (s .first) in
-            let d = ap length (ap (gather groupSaIn) (y .policies)) in
+            let d = ap length (ap (flatMap groupSaIn) (y .policies)) in
             omega (arith, w .few, y .room)
 
         all-next : (w .passed ++ (s .sa ∷ [])) ++ sasFrom g (at + r .end) ≡ sasFrom g 0
@@ -197,15 +199,16 @@ module _ (reads : Bool) (g k schedule carried fresh ids block : List ℕ) (tick 
             IsAnnounced reads k (r .first) x b schedule carried fresh ids block roots entries size f a → Is roots entries size f a
 
         -- number 8 of one is number 8
-        pub along-eight : Says IsConflict → (n : ℕ) (table : List Sa) (o : Openers) → (roots : List Root) (entries : List WrapKey) (size : ℕ) (f : Frame) → ChecksPassed reads f g k →
+        pub along-conflict : Says IsConflict → (n : ℕ) (table : List Sa) (o : Openers)
+            → (roots : List Root) (entries : List WrapKey) (size : ℕ) (f : Frame) → ChecksPassed reads f g k →
             OpeningKeys schedule carried fresh ids block roots entries size →
             KeyedBy roots entries size f tick (record { found = KeyConflict; sas = table; count = n; openers = o })
-        along-eight more n table others roots entries size f y o =
+        along-conflict more n table others roots entries size f y o =
             let e = more roots entries size f (s .sa) (record { opening = o; stands = along-announces f y }) in
-            let u = eight-wider roots entries size f tick (w .passed ++ (s .sa ∷ [])) (sasFrom g (at + r .end))
-            (eight-more roots entries size f tick (w .passed) (s .sa) e) in
+            let u = conflict-wider roots entries size f tick (w .passed ++ (s .sa ∷ [])) (sasFrom g (at + r .end))
+            (conflict-more roots entries size f tick (w .passed) (s .sa) e) in
             record {
-              keys = subst (SomeConflict roots entries size f) (all-next ∙ ap (gather groupSaIn) (sym (y .policies))) u;
+              keys = subst (SomeConflict roots entries size f) (all-next ∙ ap (flatMap groupSaIn) (sym (y .policies))) u;
               openers = λ k. absurd (no-keys k);
             }
 
@@ -220,7 +223,7 @@ module _ (reads : Bool) (g k schedule carried fresh ids block : List ℕ) (tick 
               all-are = all-next;
               few = omega (arith, w .few);
               known = λ roots entries size f y o.
-                  unopened-more roots entries size f tick (w .passed) (s .sa) nine sas count (w .known roots entries size f y o)
+                  unopened-more roots entries size f tick (w .passed) (s .sa) missing sas count (w .known roots entries size f y o)
                   (more roots entries size f (s .sa) (record { opening = o; stands = along-announces f y }));
               listed = λ roots entries size f y o e. absurd (false≢true (sym e));
             }
@@ -228,12 +231,13 @@ module _ (reads : Bool) (g k schedule carried fresh ids block : List ℕ) (tick 
         -- the openers of the Rekey SA, if this is one
         openers-next : (own next : Openers) (sa : Sa) → (r .first ≡ 6 → next ≡ own) → ((r .first ≡ 6 → ⊥) → next ≡ openers) →
             Says (IsSa tick sa own) → (roots : List Root) (entries : List WrapKey) (size : ℕ) (f : Frame) → ChecksPassed reads f g k →
-            OpeningKeys schedule carried fresh ids block roots entries size → nine ≡ false →
+            OpeningKeys schedule carried fresh ids block roots entries size → missing ≡ false →
             OpenersAre roots entries size (copiesAmong f (w .passed ++ (s .sa ∷ []))) (openersOf next)
         openers-next own next sa is kept more roots entries size f y o e =
             let h = along-announces f y in
             let m = more roots entries size f (s .sa) (record { opening = o; stands = h }) in
-            let all = ap (λ (l : List GroupSaPolicy). w .passed ++ l) (sym (s .first)) ∙ w .all-are ∙ ap (gather groupSaIn) (sym (y .policies)) in
+            let all = ap (λ (l : List GroupSaPolicy). w .passed ++ l) (sym (s .first)) ∙ w .all-are ∙ ap (flatMap groupSaIn) (sym
+            (y .policies)) in
             bool-cases (isRekey (s .sa))
             (λ q.
             let c = among-first f (w .passed) (s .sa) (sasFrom g (at + r .end)) (y .rekeys) all q in
@@ -249,7 +253,7 @@ module _ (reads : Bool) (g k schedule carried fresh ids block : List ℕ) (tick 
             (w .listed roots entries size f y o e)))
 
         pub along-sa : (sa : Sa) (own next : Openers) → (r .first ≡ 6 → next ≡ own) → ((r .first ≡ 6 → ⊥) → next ≡ openers) →
-            count < newSas → Says (IsSa tick sa own) → Along (at + r .end) nine (set sas count sa) (count + 1) next
+            count < newSas → Says (IsSa tick sa own) → Along (at + r .end) missing (set sas count sa) (count + 1) next
         along-sa sa own next is kept h more =
             let n = length-append (w .passed) (s .sa ∷ []) in
             let e = w .places in
@@ -261,7 +265,8 @@ module _ (reads : Bool) (g k schedule carried fresh ids block : List ℕ) (tick 
               all-are = all-next;
               few = omega (arith, w .few);
               known = λ roots entries size f y o.
-                  sa-more roots entries size f tick (w .passed) (s .sa) nine sas count (w .known roots entries size f y o) sa own (omega arith)
+                  sa-more roots entries size f tick (w .passed) (s .sa) missing sas count (w .known roots entries size f y o) sa own
+                  (omega arith)
                   (more roots entries size f (s .sa) (record { opening = o; stands = along-announces f y }));
               listed = openers-next own next sa is kept more;
             }

@@ -29,8 +29,8 @@ module _ (roots : List Root) (entries : List WrapKey) (size : ℕ) (f : Frame) (
     in-more : (a : GroupSaPolicy) → In a l → In a (l ++ m)
     in-more a i = member-in a (l ++ m) (Memᴰ·append-left m (in-member a l i))
 
-    pub eight-wider : SomeConflict roots entries size f l → SomeConflict roots entries size f (l ++ m)
-    eight-wider e = record { sa = e .sa; stands = in-more (e .sa) (e .stands); conflict = e .conflict }
+    pub conflict-wider : SomeConflict roots entries size f l → SomeConflict roots entries size f (l ++ m)
+    conflict-wider e = record { sa = e .sa; stands = in-more (e .sa) (e .stands); conflict = e .conflict }
 
     unopened-wider : SomeUnopened roots entries size f l → SomeUnopened roots entries size f (l ++ m)
     unopened-wider e = record { sa = e .sa; stands = in-more (e .sa) (e .stands); none = e .none }
@@ -58,22 +58,22 @@ module _ (roots : List Root) (entries : List WrapKey) (size : ℕ) (f : Frame) (
 
   -- ---- by what was found
   module _ (l : List GroupSaPolicy) (a : GroupSaPolicy) where
-    pub eight-more : IsConflict roots entries size f a → SomeConflict roots entries size f (l ++ (a ∷ []))
-    eight-more e = record { sa = a; stands = last-in l a; conflict = e }
+    pub conflict-more : IsConflict roots entries size f a → SomeConflict roots entries size f (l ++ (a ∷ []))
+    conflict-more e = record { sa = a; stands = last-in l a; conflict = e }
 
-    no-eight : (nine : Bool) (sas : List Sa) (n : ℕ) → KeysOf roots entries size f l tick (foundBy nine) sas n →
+    no-conflict : (missing : Bool) (sas : List Sa) (n : ℕ) → KeysOf roots entries size f l tick (foundBy missing) sas n →
         NoConflict roots entries size f l
-    no-eight true sas n k = k .0
-    no-eight false sas n k = k .0
+    no-conflict true sas n k = k .0
+    no-conflict false sas n k = k .0
 
-    pub unopened-more : (nine : Bool) (sas : List Sa) (n : ℕ) → KeysOf roots entries size f l tick (foundBy nine) sas n →
+    pub unopened-more : (missing : Bool) (sas : List Sa) (n : ℕ) → KeysOf roots entries size f l tick (foundBy missing) sas n →
         IsUnopened roots entries size f a → KeysOf roots entries size f (l ++ (a ∷ [])) tick KeyMissing sas n
-    unopened-more nine sas n k u =
-        (fit-further l a (no-eight nine sas n k) (unopened-fit a u), record { sa = a; stands = last-in l a; none = u })
+    unopened-more missing sas n k u =
+        (fit-further l a (no-conflict missing sas n k) (unopened-fit a u), record { sa = a; stands = last-in l a; none = u })
 
-    pub sa-more : (nine : Bool) (sas : List Sa) (n : ℕ) → KeysOf roots entries size f l tick (foundBy nine) sas n → (sa : Sa)
+    pub sa-more : (missing : Bool) (sas : List Sa) (n : ℕ) → KeysOf roots entries size f l tick (foundBy missing) sas n → (sa : Sa)
         (openers : Openers) → n < length sas → IsSa tick sa openers roots entries size f a →
-        KeysOf roots entries size f (l ++ (a ∷ [])) tick (foundBy nine) (set sas n sa) (n + 1)
+        KeysOf roots entries size f (l ++ (a ∷ [])) tick (foundBy missing) (set sas n sa) (n + 1)
     sa-more true sas n k sa o h u = (fit-further l a (k .0) (u .fit), unopened-wider l (a ∷ []) (k .1))
     sa-more false sas n k sa o h u =
         let s = set sas n sa in

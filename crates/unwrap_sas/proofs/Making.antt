@@ -8,7 +8,7 @@ use borrow.Author.Tests.{eq-eqb, ne-eqb}
 use lib.ListN.{length, take}
 use lib.Seq.{length-take-le}
 use Rattle.octets.specs.Walk.{part}
-use Rattle.state_keys.specs.Algorithms.{sizeOf}
+use Rattle.state_keys.specs.Algorithms.{isEncryptionSize}
 use Rattle.state_keys.specs.Kinds.{espOf, espKey, rekeyOf, rekeyKey, rekeySizes}
 use Rattle.state_keys.specs.declared.kinds.EspKey.{EspKey}
 use Rattle.state_keys.specs.declared.kinds.RekeyKey.{RekeyKey}
@@ -39,7 +39,7 @@ module _ (octets : List ℕ) (long : length octets ≡ 68) where
   first n = let m : n - 0 ≡ n = omega arith in ap (λ (i : ℕ). take i octets) m
 
   -- ---- ESP: the first e octets
-  module _ (e : ℕ) (fit : sizeOf 1 e ≡ true) where
+  module _ (e : ℕ) (fit : isEncryptionSize e ≡ true) where
     pub esp-inside : e ≤ length octets
     esp-inside = let h = encryption-le e fit in omega arith
 
@@ -47,7 +47,7 @@ module _ (octets : List ℕ) (long : length octets ≡ 68) where
       esp-key : k .key ≡ espOf (take e octets)
       esp-key =
           ap (λ (m : MadeEsp). m .key)
-          (is ∙ ap espKey (first e) ∙ esp-made (take e octets) (ap (sizeOf 1) (length-take-le e octets esp-inside) ∙ fit))
+          (is ∙ ap espKey (first e) ∙ esp-made (take e octets) (ap isEncryptionSize (length-take-le e octets esp-inside) ∙ fit))
 
       pub esp-small : k .key .count ≤ 36
       esp-small =

@@ -3,13 +3,13 @@ use native.Mathlib.Omega.{arith}
 use Prim.Native.Nat.{ℕ, _+_, _≤_}
 use mathlib.Core.Path.{_≡_, ap, sym, _∙_}
 use mathlib.Core.Bool.{Bool, false}
-use mathlib.Core.List.{List}
+use mathlib.Core.List.{List, flatMap}
 use borrow.Author.Tests.{eq-eqb, ne-eqb, eqb-true, eqb-false}
 use lib.Dec.{eqb}
-use Rattle.state_keys.specs.Lists.{count}
-use Rattle.state_keys.specs.Algorithms.{sizeOf}
+use Rattle.lists.specs.Lists.{count}
+use Rattle.state_keys.specs.Algorithms.{isEncryptionSize}
 use Rattle.state_keys.specs.Kinds.{rekeySizes}
-use Rattle.state_keys.proofs.Cases.{bool-cases}
+use Rattle.lists.proofs.Cases.{bool-cases}
 use Rattle.state_keys.proofs.Sizes.{encryption-le, rekey-le}
 use Rattle.wire_attributes.specs.Place.{inPolicy}
 use Rattle.wire_policies.specs.Policy.{spiSize, GroupSaPolicy, SaBody}
@@ -17,7 +17,7 @@ use Rattle.wire_policies.specs.Grammar.{IsSaBody}
 use Rattle.wire_frames.specs.Frame.{Frame}
 use Rattle.wire_readers.specs.inner.Bags.{bagsIn}
 use Rattle.state_sa.specs.declared.entry.Lifetime.{Lifetime}
-use Rattle.rules_refusals.specs.Contents.{rowOf, several, gather, groupBagOf}
+use Rattle.rules_refusals.specs.Contents.{rowOf, several, groupBagOf}
 use Rattle.rules_refusals.specs.Fitness.{sum, encryptionNeeds, keyWrapNeeds, encryptionOctets, keyWrapOctets}
 use Rattle.rules_refusals.specs.Number6.{bagNamed}
 use Rattle.check_suites.specs.inner.Suites.{needsOf}
@@ -35,8 +35,8 @@ few-octets p x e w s =
     (λ g. let z = s .rekey (eqb-false p 3 g) in let h = rekey-le e w (z .1) in omega arith)
 
 module _ (reads : Bool) (k : List ℕ) (p : ℕ) (x y : List ℕ) (f : Frame) (a : GroupSaPolicy) (h : Announces reads k p x y f a) where
-  pub one-bag : count (bagNamed p x) (gather groupBagOf (bagsIn reads k)) ≡ 1
-  one-bag = (λ i. count (bagNamed (sym (h .protocol-is) i) (sym (h .spi-is) i)) (gather groupBagOf (sym (h .bags) i))) ∙ h .paired
+  pub one-bag : count (bagNamed p x) (flatMap groupBagOf (bagsIn reads k)) ≡ 1
+  one-bag = (λ i. count (bagNamed (sym (h .protocol-is) i) (sym (h .spi-is) i)) (flatMap groupBagOf (sym (h .bags) i))) ∙ h .paired
 
   -- its lifetime is read from what it holds after its SPI
   pub lifetime-there : (b : SaBody) × IsSaBody (inPolicy p) y b × (several (lifetimesOf p b) ≡ false)
@@ -77,7 +77,7 @@ module _ (reads : Bool) (k : List ℕ) (p : ℕ) (x y : List ℕ) (f : Frame) (a
         record {
           esp = λ z.
               let t = esp-sizes (rowOf f .authentication) a (h .fits) (h .once) (eq-eqb (a .protocol) 3 (q ∙ z)) in
-              (h .spi-size ∙ ap spiSize z, ap (sizeOf 1) (sym e) ∙ t .0, sym w ∙ t .1);
+              (h .spi-size ∙ ap spiSize z, ap isEncryptionSize (sym e) ∙ t .0, sym w ∙ t .1);
           rekey = λ z.
               let t = rekey-sizes (rowOf f .authentication) a (h .fits) (h .once) (ne-eqb (a .protocol) 3 (λ y. z (sym q ∙ y))) in
               let six : p ≡ 6 = sym q ∙ eqb-true (a .protocol) 6 (t .0) in

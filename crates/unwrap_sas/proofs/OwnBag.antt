@@ -2,9 +2,9 @@
 use Prim.Native.Nat.{ℕ}
 use mathlib.Core.Path.{_≡_, ap, sym, _∙_, subst}
 use mathlib.Core.Bool.{Bool, true}
-use mathlib.Core.List.{List}
+use mathlib.Core.List.{List, flatMap}
 use Rattle.octets.specs.Walk.{part}
-use Rattle.state_keys.specs.Lists.{keep}
+use Rattle.lists.specs.Lists.{keep}
 use Rattle.wire_attributes.specs.Place.{inBag}
 use Rattle.wire_attributes.specs.Tree.{WrapKey}
 use Rattle.wire_attributes.specs.Layout.{attributes}
@@ -14,7 +14,7 @@ use Rattle.wire_bags.specs.Bag.{GroupKeyBag}
 use Rattle.wire_frames.specs.Frame.{Frame}
 use Rattle.wire_readers.specs.inner.Values.{isWhole}
 use Rattle.wire_readers.specs.inner.Bags.{bagsIn}
-use Rattle.rules_refusals.specs.Contents.{gather, groupBagOf, bagsOf}
+use Rattle.rules_refusals.specs.Contents.{groupBagOf, bagsOf}
 use Rattle.rules_refusals.specs.Number6.{bagNamed}
 use Rattle.rules_chains.specs.Chain.{Root}
 use Rattle.rules_chains.specs.Refusals.{Announced}
@@ -37,7 +37,7 @@ module _ (reads : Bool) (k : List ℕ) (p : ℕ) (x : List ℕ) (s : Stretch) (i
     copies-are : copiesOf f a ≡ copiesIn place own
     unfolding copiesOf
     copies-are =
-        (λ i. gather (λ (c : GroupKeyBag). c .keys) (keep (bagNamed (q i) (y i)) (gather groupBagOf (b i)))) ∙ is .keys
+        (λ i. flatMap (λ (c : GroupKeyBag). c .keys) (keep (bagNamed (q i) (y i)) (flatMap groupBagOf (b i)))) ∙ is .keys
         ∙ ap (λ (z : Place). copiesIn z own) (sym in-bag)
 
     pub own-answers : (need : ℕ) → needOf a ≡ need → (roots : List Root) (entries : List WrapKey) (size : ℕ) (r : Copied) →

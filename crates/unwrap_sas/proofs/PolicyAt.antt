@@ -3,7 +3,7 @@ use native.Mathlib.Omega.{arith}
 use Prim.Native.Nat.{ℕ, _+_, _-_, _<_, _≤_}
 use mathlib.Core.Path.{_≡_, refl, ap, sym, _∙_, subst}
 use mathlib.Core.Bool.{true}
-use mathlib.Core.List.{List, [], _∷_}
+use mathlib.Core.List.{List, [], _∷_, flatMap}
 use lib.ListN.{length, drop, length-drop}
 use lib.Seq.{drop-drop, getD-drop}
 use Rattle.octets.specs.Numbers.{oct}
@@ -18,19 +18,19 @@ use Rattle.wire_policies.proofs.PolicyLaws.{takes}
 use Rattle.wire_readers.specs.inner.Values.{isWhole, itemsOf}
 use Rattle.wire_readers.specs.inner.Policies.{policiesIn, PolicyIs}
 use Rattle.wire_readers.specs.declared.policy.Parts.{Parts}
-use Rattle.rules_refusals.specs.Contents.{gather, groupSaIn}
+use Rattle.rules_refusals.specs.Contents.{groupSaIn}
 use Rattle.check_bagkeys.proofs.BagAt.{part-within}
 use Rattle.check_suites.proofs.PolicyLaws.{ends, rest}
 use Rattle.unwrap_sas.specs.inner.Policies.{lifetimesOf, spiAt, bodyAt}
 
 -- the SAs that the policies from a place on announce
 abbrev pub sasFrom : List ℕ → ℕ → List GroupSaPolicy
-sasFrom g at = gather groupSaIn (policiesIn (drop at g))
+sasFrom g at = flatMap groupSaIn (policiesIn (drop at g))
 
 pub no-more-sas : (g : List ℕ) (at : ℕ) → length g ≤ at → sasFrom g at ≡ []
-unfolding gather
+unfolding flatMap
 no-more-sas g at h =
-    ap (λ (x : Reading (List Policy)). gather groupSaIn (itemsOf x)) (many-none policy takes 0 (drop at g) (rw length-drop (omega arith)))
+    ap (λ (x : Reading (List Policy)). flatMap groupSaIn (itemsOf x)) (many-none policy takes 0 (drop at g) (rw length-drop (omega arith)))
 
 abbrev policyOf : List ℕ → SaBody → GroupSaPolicy
 policyOf s x = record {
@@ -69,11 +69,11 @@ module _ (g : List ℕ) (at : ℕ) (r : Parts) where
     is : PolicyIs (drop at g) r
     is = subst (λ (y : List ℕ). PolicyIs y r) (to-end g at) k
 
-    after : sasFrom g (at + r .end) ≡ gather groupSaIn (policiesIn (drop (r .end) (drop at g)))
-    after = ap (λ (s : List ℕ). gather groupSaIn (policiesIn s)) (sym (drop-drop (r .end) at g))
+    after : sasFrom g (at + r .end) ≡ flatMap groupSaIn (policiesIn (drop (r .end) (drop at g)))
+    after = ap (λ (s : List ℕ). flatMap groupSaIn (policiesIn s)) (sym (drop-drop (r .end) at g))
 
     sa-at : (r .first ≡ 0 → ⊥) → SaAt
-    unfolding gather
+    unfolding flatMap
     sa-at z =
         let w = is .sa z in
         let h = is .head in
@@ -90,11 +90,11 @@ module _ (g : List ℕ) (at : ℕ) (r : Parts) where
           is = subst (λ (y : List ℕ). IsSaBody (inPolicy (r .first)) y (w .body)) (part-within g at (r .body) (r .end)) (w .is);
           transforms = refl;
           lifetimes = ap (λ (n : ℕ). lifetimesOf n (w .body)) (sym (h .first));
-          first = ap (gather groupSaIn) (w .item) ∙ ap (λ (m : List GroupSaPolicy). a ∷ m) (sym after);
+          first = ap (flatMap groupSaIn) (w .item) ∙ ap (λ (m : List GroupSaPolicy). a ∷ m) (sym after);
         }
 
     pub policy-at : PolicyAt
-    unfolding gather
+    unfolding flatMap
     policy-at =
         let h = is .head in
         let e = ends g at r k in
@@ -107,6 +107,6 @@ module _ (g : List ℕ) (at : ℕ) (r : Parts) where
           inside = e .2;
           small = λ o. let t = h .twoOctets (octet o 2) (octet o 3) in omega arith;
           others = rest g at r k;
-          wide = λ z. ap (gather groupSaIn) (is .wide z .item) ∙ sym after;
+          wide = λ z. ap (flatMap groupSaIn) (is .wide z .item) ∙ sym after;
           sa-at = sa-at;
         }

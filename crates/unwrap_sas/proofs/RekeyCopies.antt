@@ -3,23 +3,23 @@ use native.Mathlib.Omega.{arith}
 use Prim.Native.Nat.{ℕ, _+_, _≤_}
 use mathlib.Core.Path.{_≡_, refl, ap, sym, _∙_, subst}
 use mathlib.Core.Bool.{Bool, true, false, cond}
-use mathlib.Core.List.{List, [], _∷_, _++_, append-nil, List·Memᴰ, List·Memᴰ·head, Memᴰ·append-right}
+use mathlib.Core.List.{List, [], _∷_, _++_, append-nil, List·Memᴰ, List·Memᴰ·head, Memᴰ·append-right, flatMap}
 use borrow.Author.Tests.{ltb-false}
 use lib.Dec.{ltb}
 use lib.ListN.{length}
 use Rattle.state_keys.specs.Limits.{limits}
-use Rattle.state_keys.specs.Lists.{keep, count}
-use Rattle.state_keys.proofs.Cases.{bool-cases}
+use Rattle.lists.specs.Lists.{keep, count}
+use Rattle.lists.proofs.Cases.{bool-cases}
 use Rattle.wire_attributes.specs.Tree.{SaKey}
 use Rattle.wire_policies.specs.Policy.{GroupSaPolicy}
 use Rattle.wire_bags.specs.Bag.{GroupKeyBag}
 use Rattle.wire_frames.specs.Frame.{Frame}
-use Rattle.rules_refusals.specs.Contents.{gather, announced, groupBags}
+use Rattle.rules_refusals.specs.Contents.{announced, groupBags}
 use Rattle.rules_refusals.specs.Fitness.{isRekey}
 use Rattle.rules_refusals.specs.Number4.{severalRekeyPolicies}
 use Rattle.rules_refusals.specs.Number6.{bagNamed, bagsNamed}
 use Rattle.rules_refusals.specs.Number7.{manySaKeys}
-use Rattle.rules_refusals.proofs.Gather.{count-append}
+use Rattle.rules_refusals.proofs.FlatMap.{count-append}
 use Rattle.rules_outcome.specs.Roots.{copiesOf}
 use Rattle.rules_outcome.proofs.RunsLists.{none-passes}
 
@@ -58,11 +58,11 @@ module _ {A : Type 0} (p : A → Bool) where
 
 -- ---- no more copies than a bag may have
 abbrev keysOf : List GroupKeyBag → List SaKey
-keysOf l = gather (λ (b : GroupKeyBag). b .keys) l
+keysOf l = flatMap (λ (b : GroupKeyBag). b .keys) l
 
 few-kept : (n : ℕ) (p : GroupKeyBag → Bool) (l : List GroupKeyBag) →
     ((b : GroupKeyBag) → List·Memᴰ b l → ltb n (length (b .keys)) ≡ false) → count p l ≤ 1 → length (keysOf (keep p l)) ≤ n
-unfolding gather keep
+unfolding flatMap keep
 few-kept n p [] all c = omega arith
 few-kept n p (a ∷ l) all c =
     bool-cases (p a)
@@ -88,26 +88,27 @@ few-copies f a e n =
 module _ (f : Frame) where
   -- the copies of the Rekey SAs among the policies l
   abbrev pub copiesAmong : List GroupSaPolicy → List SaKey
-  copiesAmong l = gather (copiesOf f) (keep isRekey l)
+  copiesAmong l = flatMap (copiesOf f) (keep isRekey l)
 
   pub among-none : copiesAmong [] ≡ []
-  unfolding gather keep
+  unfolding flatMap keep
   among-none = refl
 
   pub among-other : (l : List GroupSaPolicy) (a : GroupSaPolicy) → isRekey a ≡ false → copiesAmong (l ++ (a ∷ [])) ≡ copiesAmong l
   unfolding keep
   among-other l a e =
-      ap (gather (copiesOf f)) (keep-append isRekey l (a ∷ []) ∙ ap (λ (m : List GroupSaPolicy). keep isRekey l ++ m) (keep-other isRekey a [] e)
+      ap (flatMap (copiesOf f)) (keep-append isRekey l (a ∷ []) ∙ ap (λ (m : List GroupSaPolicy). keep isRekey l ++ m)
+      (keep-other isRekey a [] e)
       ∙ append-nil (keep isRekey l))
 
   pub among-first : (l : List GroupSaPolicy) (a : GroupSaPolicy) (rest : List GroupSaPolicy) → severalRekeyPolicies f ≡ false →
       l ++ (a ∷ rest) ≡ announced f → isRekey a ≡ true → copiesAmong (l ++ (a ∷ [])) ≡ copiesOf f a
-  unfolding gather keep severalRekeyPolicies
+  unfolding flatMap keep severalRekeyPolicies
   among-first l a rest one all e =
       let h = ltb-false 1 (count isRekey (announced f)) one in
       let c = ap (count isRekey) (sym all) ∙ count-append isRekey l (a ∷ rest) in
       let d = count-first isRekey a rest e in
       let z : count isRekey l ≡ 0 = omega (arith, h, c, d) in
-      ap (gather (copiesOf f))
+      ap (flatMap (copiesOf f))
       (keep-append isRekey l (a ∷ []) ∙ (λ i. kept-none isRekey l z i ++ keep-first isRekey a [] e i))
       ∙ append-nil (copiesOf f a)

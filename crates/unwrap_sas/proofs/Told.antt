@@ -26,8 +26,8 @@ module _ (p : ℕ) (x : List ℕ) (e w : ℕ) (t : Lifetime) (tick : ℕ) (one :
       subst (λ (g : CopyFound). CopyAnswersBy roots entries size (announcedAs f a) g (one .opened .octets) (one .opened .count)) h
       (o .answers .answers)
 
-  pub of-eight : one .opened .found ≡ Conflict → IsConflict roots entries size f a
-  of-eight h = told Conflict h
+  pub of-conflict : one .opened .found ≡ Conflict → IsConflict roots entries size f a
+  of-conflict h = told Conflict h
 
   pub of-none : one .opened .found ≡ Nothing → IsUnopened roots entries size f a
   of-none h = told Nothing h

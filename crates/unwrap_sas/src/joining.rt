@@ -32,8 +32,8 @@ pub enum SasFound {
     Keys,
 }
 
-// The result for all SAs that a frame announces. With `Keys`, the new SAs are the first `count` of `sas`, and `openers` are the KWK IDs of the
-// copies of the Rekey SA's key that open.
+// The result for all SAs that a frame announces. With `Keys`, the new SAs are the first `count` of `sas`, and `openers` are the KWK IDs of
+// the copies of the Rekey SA's key that open.
 pub struct Keyed {
     pub sas: [Sa; NEW_SAS],
     pub count: usize,

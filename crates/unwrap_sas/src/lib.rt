@@ -7,6 +7,7 @@ pub mod lifetime;
 use aes::InverseSchedule;
 use aes::expand_inverse;
 use aes::inverse_tables;
+use ikev2_numbers::NO_PROTOCOL;
 use joining::Keyed;
 use joining::NEW_SAS;
 use joining::One;
@@ -21,9 +22,10 @@ use wire_readers::policy::Parts;
 use wire_readers::policy::policy_parts;
 ghost use mathlib.Core.Path.{_≡_};
 ghost use mathlib.Core.Bool.{true};
-ghost use mathlib.Core.List.{List};
+ghost use mathlib.Core.List.{List, flatMap};
 ghost use Prim.Native.Nat.{ℕ, _≤_, _<_};
 ghost use lib.ListN.{length};
+ghost use Rattle.state_keys.specs.Rooms.{saRoom};
 ghost use Rattle.aes.specs.inner.Tables.{decipherTables};
 ghost use Rattle.aes.specs.inner.Schedule.{ExpandedInverse};
 ghost use Rattle.wire_attributes.specs.Tree.{WrapKey};
@@ -32,11 +34,11 @@ ghost use Rattle.wire_bags.specs.Bag.{bags};
 ghost use Rattle.wire_frames.specs.Frame.{Frame};
 ghost use Rattle.wire_readers.specs.inner.Values.{isWhole};
 ghost use Rattle.wire_readers.specs.inner.Bags.{bagsIn};
-ghost use Rattle.state_keys.specs.Algorithms.{sizeOf};
+ghost use Rattle.state_keys.specs.Algorithms.{isWrappingSize};
 ghost use Rattle.state_keys.specs.Limits.{limits};
-ghost use Rattle.state_keys.specs.Lists.{count};
+ghost use Rattle.lists.specs.Lists.{count};
 ghost use Rattle.state.specs.declared.held.HeldKey.{HeldKey};
-ghost use Rattle.rules_refusals.specs.Contents.{gather, groupBagOf, bagsOf};
+ghost use Rattle.rules_refusals.specs.Contents.{groupBagOf, bagsOf};
 ghost use Rattle.rules_refusals.specs.Number6.{bagNamed};
 ghost use Rattle.rules_chains.specs.Chain.{Root};
 ghost use Rattle.unwrap_copies.specs.inner.Known.{Agrees};
@@ -64,8 +66,8 @@ fn open_copies<'a>(
     block: &'a [u8],
 ) -> Copied
     requires { ⌜ isWhole (bags reads 0 (now kd)) ≡ true ⌝ }
-    requires { ⌜ count (bagNamed protocol (now spi)) (gather groupBagOf (bagsIn reads (now kd))) ≡ 1 ⌝ }
-    requires { ⌜ need ≤ 68 ⌝ }
+    requires { ⌜ count (bagNamed protocol (now spi)) (flatMap groupBagOf (bagsIn reads (now kd))) ≡ 1 ⌝ }
+    requires { ⌜ need ≤ saRoom ⌝ }
     requires { ⌜ (now tables ≡ decipherTables) × ExpandedInverse (schedule .words) ⌝ }
     requires { ⌜ ((new : List HeldKey) × (old : List HeldKey) × LendsTwo new old (now carried) (now fresh) (now ids) (now block)) ⌝ }
     ensures { λ r. ⌜ ((roots : List Root) (entries : List WrapKey) (size : ℕ) (f : Frame) (a : GroupSaPolicy) →
@@ -157,7 +159,8 @@ fn open_policy_at<'a>(
     requires { ⌜ ((f : Frame) × (a : GroupSaPolicy) × Announces reads (now k) (p .first) (spiAt (now g) at p) (bodyAt (now g) at p) f a) ⌝ }
     ensures { λ r. ⌜ ((roots : List Root) (entries : List WrapKey) (size : ℕ) (f : Frame) (a : GroupSaPolicy) →
         IsAnnounced reads (now (k .entry)) (p .first) (spiAt (now (g .entry)) at p) (bodyAt (now (g .entry)) at p) (schedule .words)
-        (now (carried .entry)) (now (fresh .entry)) (now (ids .entry)) (now (block .entry)) roots entries size f a → IsOne tick r roots entries size f a) ⌝ }
+        (now (carried .entry)) (now (fresh .entry)) (now (ids .entry)) (now (block .entry)) roots entries size f a
+        → IsOne tick r roots entries size f a) ⌝ }
 {
     let name = at + POLICY_HEAD;
     let body = at + p.body;
@@ -212,7 +215,7 @@ fn walk_policies<'a>(
         OpeningKeys (schedule .words) (now (carried .entry)) (now (fresh .entry)) (now (ids .entry)) (now (block .entry)) roots entries
         size → KeyedBy roots entries size f tick r) ⌝ }
 {
-    let mut nine = false;
+    let mut missing = false;
     let mut sas = [Sa::blank(); NEW_SAS];
     let mut count: usize = 0;
     let mut openers = no_openers();
@@ -220,7 +223,7 @@ fn walk_policies<'a>(
     while at < gsa.len() {
         let p = policy_parts(&gsa[at..]);
         let end = at + p.end;
-        if p.first != 0 {
+        if p.first != NO_PROTOCOL {
             let one = open_policy_at(
                 reads,
                 gsa,
@@ -247,7 +250,7 @@ fn walk_policies<'a>(
                     };
                 }
                 unwrap_copies::answer::CopyFound::Nothing => {
-                    nine = true;
+                    missing = true;
                 }
                 unwrap_copies::answer::CopyFound::Key => {
                     let sa = one.sa;
@@ -259,7 +262,7 @@ fn walk_policies<'a>(
         }
         at = end;
     }
-    let found = found_by(nine);
+    let found = found_by(missing);
     Keyed {
         found,
         sas,
@@ -284,7 +287,7 @@ pub fn open_sas<'a>(
 ) -> Keyed
     requires { ⌜ isWhole (policies 0 (now gsa)) ≡ true ⌝ }
     requires { ⌜ isWhole (bags reads 0 (now kd)) ≡ true ⌝ }
-    requires { ⌜ sizeOf 13 (zero .count) ≡ true ⌝ }
+    requires { ⌜ isWrappingSize (zero .count) ≡ true ⌝ }
     requires { ⌜ ((new : List HeldKey) × (old : List HeldKey) × LendsTwo new old (now carried) (now fresh) (now ids) (now block)) ⌝ }
     requires { ⌜ ((f : Frame) × ChecksPassed reads f (now gsa) (now kd)) ⌝ }
     ensures { λ r. ⌜ ((roots : List Root) (entries : List WrapKey) (size : ℕ) (f : Frame) (new old : List HeldKey) →

@@ -11,7 +11,7 @@ use lib.Seq.{getD-set-same, getD-set-other}
 use Rattle.fips197.specs.Key.{Key, isKey}
 use Rattle.wire_attributes.specs.Tree.{WrapKey}
 use Rattle.state_keys.specs.Limits.{limits}
-use Rattle.state_keys.specs.Algorithms.{sizeOf}
+use Rattle.state_keys.specs.Algorithms.{isWrappingSize}
 use Rattle.state_keys.specs.declared.kinds.WrappingKey.{WrappingKey}
 use Rattle.state_keys.proofs.Sizes.{wrapping-size, among-is}
 use Rattle.rules_chains.specs.Chain.{In, Root, step, Reached}
@@ -30,7 +30,7 @@ use Rattle.unwrap_search.proofs.Theory.{Inv, Ahead, K, Stands, begun, t
 use Rattle.unwrap_search.proofs.Theory.{known-live, in-at}
 
 -- a size of the algorithm table is one of a key
-pub is-key-size : (n : ℕ) → sizeOf 13 n ≡ true → T (isKey n)
+pub is-key-size : (n : ℕ) → isWrappingSize n ≡ true → T (isKey n)
 unfolding isKey
 is-key-size n e =
     ⊎-elim (λ p. subst (λ (k : ℕ). T (isKey k)) (sym p) tt)
@@ -108,12 +108,14 @@ fell-marked n cells j key at h =
     undone-mark n (cellAt cells) (cellAt (marked cells j key)) j (at .inside) (at .pends) (ap (λ (c : Cell). c .status) here)
     (λ i ne. getD-set-other cells j i d noCell ne)
 
-pub fewer-left : (n : ℕ) (before cells : List Cell) (j : ℕ) (key : WrappingKey) (m from r : ℕ) → undone n (cellAt cells) ≤ undone n (cellAt before) →
+pub fewer-left : (n : ℕ) (before cells : List Cell) (j : ℕ) (key : WrappingKey) (m from r : ℕ)
+    → undone n (cellAt cells) ≤ undone n (cellAt before) →
     PendingAt cells n j → n ≤ length cells → from ≤ r →
     (m - r) + undone n (cellAt (marked cells j key)) < (m - from) + undone n (cellAt before)
 fewer-left n before cells j key m from r d at h f = let e = fell-marked n cells j key at h in omega arith
 
-module _ (roots : List Root) (root-keys : (r : Root) → In r roots → Key (r .value)) (l : List WrapKey) (size : ℕ) (fit : T (isKey size)) where
+module _ (roots : List Root) (root-keys : (r : Root) → In r roots → Key (r .value)) (l : List WrapKey) (size : ℕ)
+    (fit : T (isKey size)) where
   abbrev pub Kept : List Root → List Cell → Type 0
   Kept rest cells = Inv roots l size fit root-keys rest (cellAt cells)
 
@@ -126,11 +128,13 @@ module _ (roots : List Root) (root-keys : (r : Root) → In r roots → Key (r .
       begun roots l size fit root-keys (cellAt (replicate (limits .wrapKeys) noCell))
       (λ i g. ap (λ (c : Cell). c .status) (getD-replicate (limits .wrapKeys) i noCell noCell (omega arith))) r m rest only
 
-  pub tried : (rest : List Root) (cells after : List Cell) (k : ℕ) (x : List ℕ) → KeptAhead rest cells k x → AllTried k x size l cells after →
+  pub tried : (rest : List Root) (cells after : List Cell) (k : ℕ) (x : List ℕ) → KeptAhead rest cells k x
+      → AllTried k x size l cells after →
       Kept rest after
   tried rest cells after k x a t = tried-all roots l size fit root-keys rest (cellAt cells) (cellAt after) k x a t
 
-  pub at-root : (r : Root) (rest : List Root) (cells : List Cell) → In r roots → Kept (r ∷ rest) cells → KeptAhead rest cells (r .id) (r .value)
+  pub at-root : (r : Root) (rest : List Root) (cells : List Cell) → In r roots → Kept (r ∷ rest) cells
+      → KeptAhead rest cells (r .id) (r .value)
   at-root r rest cells m inv = next-root roots l size fit root-keys (cellAt cells) r rest m inv
 
   -- the key of a pending cell is of a right size
@@ -152,9 +156,9 @@ module _ (roots : List Root) (root-keys : (r : Root) → In r roots → Key (r .
     in-cells : j < length cells
     in-cells = let z = at .inside in let y = lists .within in omega arith
 
-    pub count-at : (d : Cell) → sizeOf 13 size ≡ true → sizeOf 13 (getD cells j d .key .count) ≡ true
+    pub count-at : (d : Cell) → isWrappingSize size ≡ true → isWrappingSize (getD cells j d .key .count) ≡ true
     count-at d e =
-        ap (sizeOf 13) (ap (λ (c : Cell). c .key .count) (getD-any cells j d noCell in-cells) ∙ pending-count rest cells j inv at-j) ∙ e
+        ap isWrappingSize (ap (λ (c : Cell). c .key .count) (getD-any cells j d noCell in-cells) ∙ pending-count rest cells j inv at-j) ∙ e
 
     pub at-cell : (dE : Entry) (dC : Cell) → length places ≡ limits .wrapKeys →
         KeptAhead rest (marked cells j (getD cells j dC .key)) (getD places j dE .id) (valueOf (getD cells j dC .key))

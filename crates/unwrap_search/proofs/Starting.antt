@@ -16,15 +16,15 @@ use Rattle.fips197.specs.Key.{Key, isKey}
 use Rattle.wire_attributes.specs.Tree.{WrapKey}
 use Rattle.rules_chains.specs.Chain.{In, Root}
 use Rattle.rules_chains.proofs.Members.{in-member, member-in}
-use Rattle.state_keys.specs.Lists.{any, keep}
+use Rattle.lists.specs.Lists.{any, keep}
 use Rattle.state_keys.specs.Limits.{limits}
-use Rattle.state_keys.specs.Algorithms.{sizeOf}
+use Rattle.state_keys.specs.Algorithms.{isWrappingSize}
 use Rattle.state_keys.specs.Kinds.{wrappingOf, wrappingKey, valueOf}
 use Rattle.state_keys.specs.declared.kinds.WrappingKey.{WrappingKey}
 use Rattle.state_keys.specs.declared.kinds.MadeWrapping.{MadeWrapping}
 use Rattle.state_keys.proofs.Sizes.{wrapping-le}
-use Rattle.state_keys.proofs.Cases.{bool-cases, lt-cases}
-use Rattle.state_keys.proofs.Members.{kept-member}
+use Rattle.lists.proofs.Cases.{bool-cases, lt-cases}
+use Rattle.lists.proofs.Members.{kept-member}
 use Rattle.state.specs.Held.{blankKey, keysOf, idsOf, distinct, heldFormed}
 use Rattle.state.specs.declared.held.HeldKey.{HeldKey}
 use Rattle.state.specs.declared.held.Held.{Held}
@@ -94,7 +94,7 @@ passed-more l ids from i p e j g h =
 
 -- ---- a key made of a lent one
 pub key-from : (keys : List HeldKey) (ids block : List ℕ) → Lends keys ids block → (i : ℕ) → i < length keys →
-    sizeOf 13 (getD keys i blankKey .key .count) ≡ true → (made : MadeWrapping) →
+    isWrappingSize (getD keys i blankKey .key .count) ≡ true → (made : MadeWrapping) →
     made ≡ wrappingKey (valueOf (getD keys i blankKey .key)) → KeyFrom (getD keys i blankKey .key) (made .key)
 unfolding wrappingKey
 key-from keys ids block lends i h size made is =
@@ -102,11 +102,11 @@ key-from keys ids block lends i h size made is =
     let a = lends .fit i h .array in
     let m = wrapping-le (k .count) size in
     let n : length (valueOf k) ≡ k .count = length-take-le (k .count) (k .octets) (omega arith) in
-    let e : sizeOf 13 (length (valueOf k)) ≡ true = ap (sizeOf 13) n ∙ size in
+    let e : isWrappingSize (length (valueOf k)) ≡ true = ap isWrappingSize n ∙ size in
     let q : made .key ≡ wrappingOf (valueOf k) = ap (λ (x : MadeWrapping). x .key) is ∙ rw e refl in
     record {
       value = ap valueOf q ∙ take-append-seam (valueOf k) (replicate (32 - length (valueOf k)) 0);
-      size = ap (λ (x : WrappingKey). sizeOf 13 (x .count)) q ∙ e;
+      size = ap (λ (x : WrappingKey). isWrappingSize (x .count)) q ∙ e;
     }
 
 -- ---- the roots from a place on

@@ -230,7 +230,8 @@ module _ (roots : List Root) (entries : List WrapKey) (size : ℕ) (is-size : T 
         inr (record { place = p .place; inside = p .inside; holds = m .0; id-is = p .id-is; value-is = m .1 ∙ p .value-is })
 
     mark-sound : (i : ℕ) → i < n → Holds (M i .status) → ReachedAt i (valueOf (M i .key))
-    mark-sound = set-elim (λ i c. Holds (c .status) → ReachedAt i (valueOf (c .key))) (λ r. inv .right .sound j hj held-j) (inv .right .sound)
+    mark-sound =
+        set-elim (λ i c. Holds (c .status) → ReachedAt i (valueOf (c .key))) (λ r. inv .right .sound j hj held-j) (inv .right .sound)
 
     mark-good : (i : ℕ) → i < n → Good size (K M) (E i) (M i)
     mark-good =
@@ -268,7 +269,8 @@ module _ (roots : List Root) (entries : List WrapKey) (size : ℕ) (is-size : T 
   module _ (C : ℕ → Cell) (inv : Inv [] C) (last : (i : ℕ) → i < n → C i .status ≡ Pending → ⊥)
       (fit : (i : ℕ) → i < n → C i .status ≡ Wrong → ⊥) (one : (k : ℕ) (v w : List ℕ) → K C k v → K C k w → v ≡ w) where
     known-closed : (k : ℕ) (v : List ℕ) → K C k v → ClosedAt C k
-    known-closed k v (inl p) i h q e = inv .closed-roots (p .key) (p .stands) (λ m. List·Memᴰ·not-nil (in-member (p .key) [] m)) i h q (e ∙ sym (p .id-is))
+    known-closed k v (inl p) i h q e =
+        inv .closed-roots (p .key) (p .stands) (λ m. List·Memᴰ·not-nil (in-member (p .key) [] m)) i h q (e ∙ sym (p .id-is))
     known-closed k v (inr p) i h q e =
         let at = p .place in
         inv .closed at (p .inside) (holds-done (C at .status) (p .holds) (last at (p .inside))) i h q (e ∙ sym (p .id-is))

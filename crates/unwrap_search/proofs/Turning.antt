@@ -17,7 +17,7 @@ use Rattle.wire_attributes.specs.Tree.{WrapKey}
 use Rattle.rules_chains.specs.Chain.{In, Root}
 use Rattle.rules_chains.proofs.Members.{in-member, member-in}
 use Rattle.state_keys.specs.Limits.{limits}
-use Rattle.state_keys.specs.Algorithms.{sizeOf}
+use Rattle.state_keys.specs.Algorithms.{isWrappingSize}
 use Rattle.state_keys.specs.Kinds.{valueOf}
 use Rattle.state_keys.specs.declared.kinds.WrappingKey.{WrappingKey}
 use Rattle.state_keys.proofs.Sizes.{wrapping-le}
@@ -121,12 +121,14 @@ module _ (v : List ℕ) (is : Key v) (l : List WrapKey) (held : Held) (ids block
       pub still : Turned r cells
       still = subst (λ (x : List Root). Kept roots root-keys l size fit x cells) (all-passed l keys ids count same from r f) kept
 
-    pub all-found : (cells : List Cell) → Kept roots root-keys l size fit [] cells → NonePending cells (length l) → Searched roots l size cells
-    all-found cells kept last = ended roots root-keys l size fit cells kept last (alike v l held (lends .formed)) (apart v l held (lends .formed))
+    pub all-found : (cells : List Cell) → Kept roots root-keys l size fit [] cells → NonePending cells (length l)
+        → Searched roots l size cells
+    all-found cells kept last =
+        ended roots root-keys l size fit cells kept last (alike v l held (lends .formed)) (apart v l held (lends .formed))
 
 -- a lent key has the size of a wrapping key
 pub held-sized : (held : Held) → heldFormed limits held ≡ true → (i : ℕ) → i < length (keysOf held) →
-    sizeOf 13 (getD (keysOf held) i blankKey .key .count) ≡ true
+    isWrappingSize (getD (keysOf held) i blankKey .key .count) ≡ true
 held-sized held e i h =
     let k = getD (keysOf held) i blankKey in
     key-size k

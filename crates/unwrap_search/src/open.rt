@@ -10,7 +10,7 @@ ghost use Prim.Native.Nat.{ℕ, _≤_};
 ghost use lib.ListN.{length};
 ghost use Rattle.aes.specs.inner.Tables.{decipherTables};
 ghost use Rattle.aes.specs.inner.Schedule.{ExpandsInverse, ExpandedInverse};
-ghost use Rattle.state_keys.specs.Algorithms.{sizeOf};
+ghost use Rattle.state_keys.specs.Algorithms.{isWrappingSize};
 ghost use Rattle.wire_attributes.specs.Tree.{WrapKey};
 ghost use Rattle.unwrap_search.specs.inner.Entries.{IsEntry};
 ghost use Rattle.unwrap_search.specs.inner.Opened.{Landed, Tried, noCell, waiting, pending, naming};
@@ -91,7 +91,7 @@ pub(crate) fn open_entry(
     wrapped: &[u8],
 ) -> Cell
     requires { ⌜ (now tables ≡ decipherTables) × ExpandedInverse (schedule .words) ⌝ }
-    requires { ⌜ sizeOf 13 size ≡ true ⌝ }
+    requires { ⌜ isWrappingSize size ≡ true ⌝ }
     ensures { λ r. ⌜ ((v : List ℕ) → ExpandsInverse v (schedule .words) → Landed v size (now (wrapped .entry)) r) ⌝ }
 {
     let opened = open_under(tables, schedule, wrapped);
@@ -144,7 +144,7 @@ pub(crate) fn try_on_entry(
     c: Cell,
 ) -> Cell
     requires { ⌜ (now tables ≡ decipherTables) × ExpandedInverse (schedule .words) ⌝ }
-    requires { ⌜ sizeOf 13 size ≡ true ⌝ }
+    requires { ⌜ isWrappingSize size ≡ true ⌝ }
     requires { ⌜ (e .start ≤ e .end) × (e .end ≤ length (now frame)) ⌝ }
     ensures { λ r. ⌜ ((w : WrapKey) (v : List ℕ) → IsEntry (now (frame .entry)) e w → ExpandsInverse v (schedule .words) →
         Tried id v size w c r) ⌝ }

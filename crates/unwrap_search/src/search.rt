@@ -22,7 +22,7 @@ ghost use Rattle.fips197.specs.Key.{Key};
 ghost use Rattle.aes.specs.inner.Tables.{decipherTables};
 ghost use Rattle.aes.specs.inner.Schedule.{ExpandsInverse, ExpandedInverse};
 ghost use Rattle.state_keys.specs.Limits.{limits};
-ghost use Rattle.state_keys.specs.Algorithms.{sizeOf};
+ghost use Rattle.state_keys.specs.Algorithms.{isWrappingSize};
 ghost use Rattle.wire_attributes.specs.Tree.{WrapKey};
 ghost use Rattle.unwrap_search.specs.inner.Entries.{Lists};
 ghost use Rattle.state_keys.specs.Kinds.{valueOf};
@@ -70,7 +70,7 @@ fn try_on_all(
 ) -> [Cell; WRAP_KEYS]
     requires { ⌜ n ≤ limits .wrapKeys ⌝ }
     requires { ⌜ (now tables ≡ decipherTables) × ExpandedInverse (schedule .words) ⌝ }
-    requires { ⌜ sizeOf 13 size ≡ true ⌝ }
+    requires { ⌜ isWrappingSize size ≡ true ⌝ }
     requires { ⌜ ((l : List WrapKey) × Lists (now frame) entries n l) ⌝ }
     ensures { λ r. ⌜ ((l : List WrapKey) (v : List ℕ) → Lists (now (frame .entry)) entries n l →
         ExpandsInverse v (schedule .words) → AllTried id v size l cells r) ⌝ }
@@ -99,8 +99,8 @@ fn try_key(
     n: usize,
 ) -> [Cell; WRAP_KEYS]
     requires { ⌜ n ≤ limits .wrapKeys ⌝ }
-    requires { ⌜ (now tables ≡ decipherTables) × (sizeOf 13 (key .count) ≡ true) ⌝ }
-    requires { ⌜ sizeOf 13 size ≡ true ⌝ }
+    requires { ⌜ (now tables ≡ decipherTables) × (isWrappingSize (key .count) ≡ true) ⌝ }
+    requires { ⌜ isWrappingSize size ≡ true ⌝ }
     requires { ⌜ ((l : List WrapKey) × Lists (now frame) entries n l) ⌝ }
     ensures { λ r. ⌜ ((l : List WrapKey) → Lists (now (frame .entry)) entries n l → AllTried id (valueOf key) size l cells r) ⌝ }
 {
@@ -167,7 +167,7 @@ fn next_root(from: usize, ids: &[u32], entries: [Entry; WRAP_KEYS], n: usize) ->
 fn key_at(i: usize, block: &[u8]) -> WrappingKey
     requires { ⌜ ((keys : List HeldKey) × (ids : List ℕ) × Lends keys ids (now block) × (i < length keys)) ⌝ }
     ensures { λ r. ⌜ ((keys : List HeldKey) (ids : List ℕ) → Lends keys ids (now (block .entry)) → i < length keys →
-        sizeOf 13 (getD keys i blankKey .key .count) ≡ true → KeyFrom (getD keys i blankKey .key) r) ⌝ }
+        isWrappingSize (getD keys i blankKey .key .count) ≡ true → KeyFrom (getD keys i blankKey .key) r) ⌝ }
 {
     let made = WrappingKey::new(value_at(i, block));
     made.key
@@ -185,7 +185,7 @@ pub fn search(
     n: usize,
 ) -> [Cell; WRAP_KEYS]
     requires { ⌜ n ≤ limits .wrapKeys ⌝ }
-    requires { ⌜ sizeOf 13 (lent .count) ≡ true ⌝ }
+    requires { ⌜ isWrappingSize (lent .count) ≡ true ⌝ }
     requires { ⌜ Key (valueOf lent) ⌝ }
     requires { ⌜ ((l : List WrapKey) × Lists (now frame) entries n l) ⌝ }
     requires { ⌜ ((held : Held) × LendsHeld held (now ids) (now block)) ⌝ }

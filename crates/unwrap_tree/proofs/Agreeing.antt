@@ -17,12 +17,12 @@ use Rattle.rules_chains.proofs.Determined.{one-value, AtRoot, ends-by, last-ent
 use Rattle.rules_chains.proofs.Laws.{entries-fit}
 use Rattle.rules_chains.proofs.Members.{in-member, member-in}
 use Rattle.state_keys.specs.Limits.{limits}
-use Rattle.state_keys.specs.Lists.{any}
-use Rattle.state_keys.specs.Algorithms.{sizeOf}
+use Rattle.lists.specs.Lists.{any}
+use Rattle.state_keys.specs.Algorithms.{sizeOf, isWrappingSize}
 use Rattle.state_keys.specs.Kinds.{wrappingOf, valueOf}
 use Rattle.state_keys.specs.declared.kinds.WrappingKey.{WrappingKey}
 use Rattle.state_keys.specs.declared.kinds.MadeWrapping.{MadeWrapping}
-use Rattle.state_keys.proofs.Cases.{bool-cases}
+use Rattle.lists.proofs.Cases.{bool-cases}
 use Rattle.state_keys.proofs.Sizes.{wrapping-le}
 use Rattle.state.specs.Held.{blankKey, keysOf, keyWith, heldFormed, heldKey, idsOf, has}
 use Rattle.state.specs.declared.held.HeldKey.{HeldKey}
@@ -44,9 +44,9 @@ use Rattle.unwrap_tree.proofs.Membership.{heldKeyOf}
 pub value-of : (x : List ℕ) → valueOf (wrappingOf x) ≡ x
 value-of x = take-append-seam x (replicate (32 - length x) 0)
 
-size-some : (n : ℕ) → sizeOf 13 n ≡ true → n ≡ 0 → ⊥
+size-some : (n : ℕ) → isWrappingSize n ≡ true → n ≡ 0 → ⊥
 unfolding sizeOf any
-size-some n e z = false≢true (subst (λ (m : ℕ). sizeOf 13 m ≡ true) z e)
+size-some n e z = false≢true (subst (λ (m : ℕ). isWrappingSize m ≡ true) z e)
 
 -- ---- the Key IDs of the entries, as an array has them
 pub ids-are : (l : List WrapKey) (ids : List ℕ) (n : ℕ) → length l ≡ n → n ≤ length ids →
@@ -65,7 +65,8 @@ module _ (reached : Held) where
   carried-has id (e ∷ l) =
       bool-cases (eqb (e .keyId) id) (λ g. rw g refl) (λ g. rw g (carried-has id l))
 
-  named-key : (id : ℕ) (l : List WrapKey) → carriedBy l id ≡ true → keyWith id (namedKeys reached (keyIds l)) .key ≡ heldKey limits id reached .key
+  named-key : (id : ℕ) (l : List WrapKey) → carriedBy l id ≡ true
+      → keyWith id (namedKeys reached (keyIds l)) .key ≡ heldKey limits id reached .key
   unfolding any keyWith
   named-key id [] e = absurd (false≢true e)
   named-key id (a ∷ l) e =
@@ -99,7 +100,7 @@ found-stands id (k ∷ l) f =
     record { one = r .one; member = List·Memᴰ·tail (r .member); id-is = r .id-is; is = rw g (r .is) })
 
 module _ (zero : WrappingKey) (l : List WrapKey) (size : ℕ) (held : Held) (ids block : List ℕ) (lends : LendsHeld held ids block)
-    (reached : Held) (nonzero : Nonzero l) (sized : sizeOf 13 size ≡ true) where
+    (reached : Held) (nonzero : Nonzero l) (sized : isWrappingSize size ≡ true) where
   abbrev keys : List HeldKey
   keys = keysOf held
 

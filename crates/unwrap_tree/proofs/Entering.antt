@@ -9,9 +9,9 @@ use borrow.Author.Count.{below-more}
 use borrow.Author.Tests.{lt-ltb}
 use lib.ListN.{length, getD}
 use Rattle.state_keys.specs.Limits.{limits}
-use Rattle.state_keys.specs.Lists.{rising, insert}
-use Rattle.state_keys.proofs.Rising.{length-insert, rising-insert}
-use Rattle.state_keys.proofs.Members.{inserted-member, member-inserted}
+use Rattle.lists.specs.Lists.{rising, insert}
+use Rattle.lists.proofs.Rising.{length-insert, rising-insert}
+use Rattle.lists.proofs.Members.{inserted-member, member-inserted}
 use Rattle.state.specs.Held.{keysOf, heldOf, keyWith, heldKey}
 use Rattle.state.specs.inner.Entering.{idBefore, enteredKey}
 use Rattle.state.specs.declared.held.HeldKey.{HeldKey}

@@ -11,7 +11,7 @@ use Rattle.octets.proofs.Numerals.{drop-take}
 use Rattle.octets.proofs.Walks.{part-length}
 use Rattle.state_keys.specs.Limits.{limits}
 use Rattle.wire_attributes.specs.Tree.{WrapKey, wrapKeyOf}
-use Rattle.wire_attributes.specs.Place.{wrappedSize}
+use Rattle.wire_attributes.specs.Place.{keyValueSized}
 use Rattle.wire_attributes.specs.declared.tables.Place.{Place}
 use Rattle.wire_attributes.specs.declared.tables.Meaning.{Meaning}
 use Rattle.wire_readers.specs.inner.Values.{valueSize, ValueFoundAt}
@@ -89,7 +89,7 @@ module _ (k : List ℕ) where
       subst (Lists k places n) (sym (append-nil (x .done)) ∙ ap (λ (r : List WrapKey). x .done ++ r) (sym e) ∙ x .joined) (x .lists)
 
 -- ---- the entries of one bag, whose attributes stand from a to e: the next one from a place on stands from b to d
-module _ (m : Meaning) (p : Place) (wrapped : (n : ℕ) → valueSize m n ≡ wrappedSize n) (k : List ℕ) (a e : ℕ) (h : a ≤ e)
+module _ (m : Meaning) (p : Place) (wrapped : (n : ℕ) → valueSize m n ≡ keyValueSized n) (k : List ℕ) (a e : ℕ) (h : a ≤ e)
     (g : e ≤ length k) (at b d : ℕ) (f : ValueFoundAt m p (part k a e) at b d) where
   inside : d ≤ e - a
   inside = omega (arith, part-length k a e h g, f .inside)

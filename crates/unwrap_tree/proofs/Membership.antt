@@ -5,9 +5,9 @@ use mathlib.Core.Bool.{Bool, true, false, false≢true}
 use mathlib.Core.List.{List, [], _∷_, List·Memᴰ, List·Memᴰ·head, List·Memᴰ·tail}
 use borrow.Author.Tests.{eqb-true}
 use lib.Dec.{eqb}
-use Rattle.state_keys.specs.Lists.{all, any}
+use Rattle.lists.specs.Lists.{all, any}
 use Rattle.state_keys.specs.Kinds.{wrappingOf}
-use Rattle.state_keys.proofs.Cases.{bool-cases, and-whole}
+use Rattle.lists.proofs.Cases.{bool-cases, and-whole}
 use Rattle.state.specs.Held.{keyWith}
 use Rattle.state.specs.declared.held.HeldKey.{HeldKey}
 

@@ -13,8 +13,8 @@ use Rattle.rules_chains.specs.Path.{keyIds}
 use Rattle.rules_chains.proofs.Determined.{last-entry}
 use Rattle.rules_chains.proofs.Members.{in-member}
 use Rattle.state_keys.specs.Limits.{limits}
-use Rattle.state_keys.specs.Lists.{rising}
-use Rattle.state_keys.specs.Algorithms.{sizeOf}
+use Rattle.lists.specs.Lists.{rising}
+use Rattle.state_keys.specs.Algorithms.{isWrappingSize}
 use Rattle.state_keys.specs.Kinds.{valueOf}
 use Rattle.state_keys.specs.declared.kinds.WrappingKey.{WrappingKey}
 use Rattle.state.specs.Held.{keysOf, heldOf, heldFormed}
@@ -43,9 +43,9 @@ not-in-none a m = List·Memᴰ·not-nil (in-member a [] m)
 none-reached : (roots : List Root) (size k : ℕ) (x : List ℕ) → Reached roots [] size k x → ⊥
 none-reached roots size k x r = not-in-none (r .last) (last-entry roots [] size k x r .0)
 
-none-eight : (roots : List Root) (size : ℕ) → EntriesConflict roots [] size → ⊥
-none-eight roots size (wrong-size k x r d) = none-reached roots size k x r
-none-eight roots size (two-values k x y r q d) = none-reached roots size k x r
+none-conflict : (roots : List Root) (size : ℕ) → EntriesConflict roots [] size → ⊥
+none-conflict roots size (wrong-size k x r d) = none-reached roots size k x r
+none-conflict roots size (two-values k x y r q d) = none-reached roots size k x r
 
 no-nonzero : Nonzero []
 no-nonzero i h = absurd (omega arith)
@@ -80,7 +80,7 @@ module _ (links : Links) (z : links .count ≡ 0) where
       }
 
   module _ (zero : WrappingKey) (held : Held) (ids block : List ℕ) (lends : LendsHeld held ids block)
-      (sized : sizeOf 13 (zero .count) ≡ true) (reached : Held) (is : reached ≡ heldOf limits []) where
+      (sized : isWrappingSize (zero .count) ≡ true) (reached : Held) (is : reached ≡ heldOf limits []) where
     abbrev roots : List Root
     roots = rootsWith (valueOf zero) [] (keysOf held)
 
@@ -116,12 +116,12 @@ module _ (links : Links) (z : links .count ≡ 0) where
 
     none-answers : TreeAnswers roots [] size zero (keysOf held) (record { conflict = false; held = reached; links = links })
     none-answers = record {
-      conflict = none-eight roots size;
+      conflict = none-conflict roots size;
       formed = formed;
       agrees = λ q.
           subst (λ (x : List ℕ). Agrees roots [] size zero (namedKeys reached x) (keysOf held))
           (ap (λ (m : ℕ). take m (links .ids)) (sym z))
-          (held-agrees zero [] size held ids block lends reached no-nonzero sized (none-eight roots size) are formed);
+          (held-agrees zero [] size held ids block lends reached no-nonzero sized (none-conflict roots size) are formed);
       fit = none-fit;
       kept = λ q. record {
         frame = [];
@@ -132,8 +132,8 @@ module _ (links : Links) (z : links .count ≡ 0) where
         linked = own;
         nonzero = no-nonzero;
         fit = roots-fit (valueOf zero) [] held (lends .formed) no-nonzero;
-        agree = none-eight roots size;
-        gives = held-gives zero [] size held ids block lends reached no-nonzero sized (none-eight roots size) are formed;
+        agree = none-conflict roots size;
+        gives = held-gives zero [] size held ids block lends reached no-nonzero sized (none-conflict roots size) are formed;
       };
     }
 

@@ -3,7 +3,7 @@ use native.Mathlib.Omega.{arith}
 use Prim.Native.Nat.{ℕ, _+_, _≤_}
 use mathlib.Core.Path.{_≡_, refl, ap, sym, subst, _∙_}
 use mathlib.Core.Bool.{Bool, true, false, not, cond, false≢true}
-use mathlib.Core.List.{List, [], _∷_, _++_, append-nil, List·Memᴰ, List·Memᴰ·head, List·Memᴰ·tail, List·Memᴰ·not-nil}
+use mathlib.Core.List.{List, [], _∷_, _++_, append-nil, List·Memᴰ, List·Memᴰ·head, List·Memᴰ·tail, List·Memᴰ·not-nil, flatMap}
 use mathlib.Core.List.{List·Memᴰ·eq-of-singleton}
 use borrow.Author.Tests.{eq-eqb, ne-eqb, eqb-true, eqb-false, ltb-false, not-false}
 use lib.Dec.{eqb}
@@ -11,9 +11,9 @@ use lib.ListN.{length, drop}
 use Rattle.octets.specs.Walk.{part, many, chain, chainUpTo}
 use Rattle.octets.specs.Compare.{same}
 use Rattle.octets.proofs.Order.{same-eq, eq-same}
-use Rattle.state_keys.specs.Lists.{any, count, keep}
-use Rattle.state_keys.proofs.Cases.{bool-cases, and-parts}
-use Rattle.state_keys.proofs.Members.{kept-member, member-kept}
+use Rattle.lists.specs.Lists.{any, count, keep}
+use Rattle.lists.proofs.Cases.{bool-cases, and-parts}
+use Rattle.lists.proofs.Members.{kept-member, member-kept}
 use Rattle.state_sa.specs.Entry.{rekeyProtocol}
 use Rattle.wire_attributes.specs.Tree.{WrapKey, valuesOf}
 use Rattle.wire_attributes.specs.declared.tables.Place.the-variants.{FreshRekeyBag, MemberBag}
@@ -25,7 +25,7 @@ use Rattle.wire_readers.specs.inner.Values.{isWhole}
 use Rattle.wire_readers.specs.inner.Bags.{bagsIn}
 use Rattle.wire_readers.specs.declared.policy.Parts.{Parts}
 use Rattle.wire_readers.specs.declared.Stretch.{Stretch}
-use Rattle.rules_refusals.specs.Contents.{gather, groupSaIn, groupBagOf, announced, groupBags, wrapKeysOf, freshKeysOf}
+use Rattle.rules_refusals.specs.Contents.{groupSaIn, groupBagOf, announced, groupBags, wrapKeysOf, freshKeysOf}
 use Rattle.rules_refusals.specs.Fitness.{isRekey}
 use Rattle.rules_refusals.specs.Number4.{severalRekeyPolicies}
 use Rattle.rules_refusals.specs.Number6.{bagNamed, bagsNamed, policyNamed, policiesNamed, policyUnpaired, bagUnpaired}
@@ -70,11 +70,11 @@ one-at-most a (b ∷ l) h = absurd (omega (arith, h))
 
 -- the fresh tree keys of some bags
 abbrev freshIn : List GroupKeyBag → List WrapKey
-freshIn l = gather (λ (b : GroupKeyBag). b .fresh) l
+freshIn l = flatMap (λ (b : GroupKeyBag). b .fresh) l
 
 fresh-kept : (p : GroupKeyBag → Bool) (l : List GroupKeyBag) →
     ((b : GroupKeyBag) → List·Memᴰ b l → p b ≡ false → b .fresh ≡ []) → freshIn l ≡ freshIn (keep p l)
-unfolding gather keep
+unfolding flatMap keep
 fresh-kept p [] h = refl
 fresh-kept p (b ∷ l) h =
     let e = fresh-kept p l (λ c m. h c (List·Memᴰ·tail m)) in
@@ -83,7 +83,7 @@ fresh-kept p (b ∷ l) h =
     (λ g. (λ i. h b (List·Memᴰ·head refl) g i ++ e i) ∙ ap freshIn (sym (kept-later p b l g)))
 
 fresh-none : (l : List GroupKeyBag) → ((b : GroupKeyBag) → List·Memᴰ b l → b .fresh ≡ []) → freshIn l ≡ []
-unfolding gather
+unfolding flatMap
 fresh-none [] h = refl
 fresh-none (b ∷ l) h = λ i. h b (List·Memᴰ·head refl) i ++ fresh-none l (λ c m. h c (List·Memᴰ·tail m)) i
 
@@ -139,7 +139,7 @@ module _ (g : List ℕ) where
 module _ (f : Frame) (g k : List ℕ) (y : FreshSource f g k) where
   -- its Rekey policies are those of the GSA body
   rekeys-are : keep isRekey (announced f) ≡ rekeysIn g
-  rekeys-are = ap (λ (l : List Policy). keep isRekey (gather groupSaIn l)) (y .policies)
+  rekeys-are = ap (λ (l : List Policy). keep isRekey (flatMap groupSaIn l)) (y .policies)
 
   -- a bag with a fresh tree key is that of a Rekey policy
   owner : (b : GroupKeyBag) → List·Memᴰ b (groupBags f) → (w : WrapKey) → List·Memᴰ w (b .fresh) →
@@ -176,10 +176,10 @@ module _ (f : Frame) (g k : List ℕ) (y : FreshSource f g k) where
         kept-member isRekey (s .sa) (announced f) (subst (List·Memᴰ (s .sa)) (sym first-is) (List·Memᴰ·head refl)) .0
 
     -- it has one bag
-    pub bag-paired : count (bagNamed rekeyProtocol (part g (r .start) (r .end))) (gather groupBagOf (bagsIn true k)) ≡ 1
+    pub bag-paired : count (bagNamed rekeyProtocol (part g (r .start) (r .end))) (flatMap groupBagOf (bagsIn true k)) ≡ 1
     unfolding policyUnpaired
     bag-paired =
-        (λ i. count (bagNamed (sym (s .protocol-is) i) (sym (s .spi-is) i)) (gather groupBagOf (sym (y .bags) i)))
+        (λ i. count (bagNamed (sym (s .protocol-is) i) (sym (s .spi-is) i)) (flatMap groupBagOf (sym (y .bags) i)))
         ∙ eqb-true (bagsNamed f (s .sa .protocol) (s .sa .spi)) 1
         (not-false (eqb (bagsNamed f (s .sa .protocol) (s .sa .spi)) 1)
         (none-passes (λ (p : GroupSaPolicy). not (eqb (bagsNamed f (p .protocol) (p .spi)) 1)) (announced f) (y .paired) (s .sa) stands))
@@ -193,7 +193,8 @@ module _ (f : Frame) (g k : List ℕ) (y : FreshSource f g k) where
         one-at-most (s .sa) (s .others) (omega (arith, h, n))
 
     -- no other bag has a fresh tree key
-    elsewhere : (b : GroupKeyBag) → List·Memᴰ b (groupBags f) → bagNamed rekeyProtocol (part g (r .start) (r .end)) b ≡ false → b .fresh ≡ []
+    elsewhere : (b : GroupKeyBag) → List·Memᴰ b (groupBags f) → bagNamed rekeyProtocol (part g (r .start) (r .end)) b ≡ false
+        → b .fresh ≡ []
     elsewhere b m e =
         no-members (b .fresh)
         (λ w n.
@@ -205,10 +206,10 @@ module _ (f : Frame) (g k : List ℕ) (y : FreshSource f g k) where
         let q = eq-same (b .spi) (part g (r .start) (r .end)) x in
         false≢true (sym e ∙ rw (p, q) refl))
 
-    fresh-are : freshKeysOf f ≡ freshIn (keep (bagNamed rekeyProtocol (part g (r .start) (r .end))) (gather groupBagOf (bagsIn true k)))
+    fresh-are : freshKeysOf f ≡ freshIn (keep (bagNamed rekeyProtocol (part g (r .start) (r .end))) (flatMap groupBagOf (bagsIn true k)))
     fresh-are =
         fresh-kept (bagNamed rekeyProtocol (part g (r .start) (r .end))) (groupBags f) elsewhere
-        ∙ (λ i. freshIn (keep (bagNamed rekeyProtocol (part g (r .start) (r .end))) (gather groupBagOf (y .bags i))))
+        ∙ (λ i. freshIn (keep (bagNamed rekeyProtocol (part g (r .start) (r .end))) (flatMap groupBagOf (y .bags i))))
 
     pub fresh-stand : (bag : Stretch) → StretchIs true k rekeyProtocol (part g (r .start) (r .end)) bag →
         FreshStand k f (record { some = true; bag = bag; meaning = meaning.FreshKey; place = FreshRekeyBag })
@@ -252,7 +253,8 @@ stand-fresh k f r w s =
       none = λ q. sym e ∙ s .none q;
     }
 
-pub stand-member : (k : List ℕ) (f : Frame) (bag : Stretch) → freshKeysOf f ≡ [] → HoldsEntries meaning.WrapKey MemberBag k bag (wrapKeysOf f) →
+pub stand-member : (k : List ℕ) (f : Frame) (bag : Stretch) → freshKeysOf f ≡ []
+    → HoldsEntries meaning.WrapKey MemberBag k bag (wrapKeysOf f) →
     EntriesStand k f (record { some = true; bag = bag; meaning = meaning.WrapKey; place = MemberBag })
 stand-member k f bag z h =
     let e : wrapKeysOf f ≡ wrapKeysOf f ++ freshKeysOf f =

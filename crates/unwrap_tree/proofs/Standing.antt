@@ -10,7 +10,7 @@ use Rattle.wire_attributes.specs.Tree.{WrapKey}
 use Rattle.rules_chains.specs.Chain.{In, Root, Reached}
 use Rattle.rules_chains.specs.Refusals.{EntriesConflict, Value}
 use Rattle.rules_chains.proofs.Determined.{one-value}
-use Rattle.state_keys.specs.Algorithms.{sizeOf}
+use Rattle.state_keys.specs.Algorithms.{isWrappingSize}
 use Rattle.state_keys.specs.declared.kinds.WrappingKey.{WrappingKey}
 use Rattle.state_keys.specs.Limits.{limits}
 use Rattle.state.specs.Held.{keyFormed, heldFormed}
@@ -22,18 +22,18 @@ use Rattle.unwrap_search.specs.declared.open.Cell.{Cell}
 use Rattle.unwrap_search.specs.inner.Entries.{Lists}
 use Rattle.state_keys.specs.Kinds.{wrappingOf, valueOf}
 use Rattle.unwrap_search.specs.inner.Search.{keyAt, ChainGives, Searched, Found-in, Nonzero}
-use Rattle.unwrap_conflicts.proofs.Eight.{eight-wrong, eight-clash, found}
+use Rattle.unwrap_conflicts.proofs.ConflictLaws.{conflict-wrong, conflict-clash, found}
 use Rattle.unwrap_tree.specs.inner.AllReached.{HoldsKey, HeldAre}
 use Rattle.rules_chains.proofs.Members.{member-in, in-member}
 use Rattle.unwrap_tree.proofs.Membership.{all-members, heldKeyOf}
 use Rattle.unwrap_tree.proofs.Entering.{Done-at, Entered}
 
-formed-of : (k : HeldKey) → (k .id ≡ 0 → ⊥) → sizeOf 13 (k .key .count) ≡ true → keyFormed k ≡ true
+formed-of : (k : HeldKey) → (k .id ≡ 0 → ⊥) → isWrappingSize (k .key .count) ≡ true → keyFormed k ≡ true
 unfolding keyFormed
 formed-of k n e = rw (ne-eqb (k .id) 0 n) e
 
 module _ (frame : List ℕ) (places : List Entry) (n : ℕ) (cells : List Cell) (roots : List Root) (l : List WrapKey) (size : ℕ)
-    (lists : Lists frame places n l) (s : Searched roots l size cells) (nonzero : Nonzero l) (fit : sizeOf 13 size ≡ true)
+    (lists : Lists frame places n l) (s : Searched roots l size cells) (nonzero : Nonzero l) (fit : isWrappingSize size ≡ true)
     (none : EntriesConflict roots l size → ⊥) (held : Held) (x : Entered places cells n held) where
   in-l : (i : ℕ) → i < n → i < length l
   in-l i h = omega (arith, lists .count)
@@ -64,7 +64,7 @@ module _ (frame : List ℕ) (places : List Entry) (n : ℕ) (cells : List Cell) 
   key-formed k d =
       let g = gives-at k d in
       formed-of k (λ e. nonzero (d .place) (in-l (d .place) (d .inside)) (id-at k d ∙ e))
-      (ap (λ (m : ℕ). sizeOf 13 m) (ap (λ (a : WrappingKey). a .count) (g .is) ∙ g .fits) ∙ fit)
+      (ap (λ (m : ℕ). isWrappingSize m) (ap (λ (a : WrappingKey). a .count) (g .is) ∙ g .fits) ∙ fit)
 
   -- the key that stands there with a Key ID has the value that every chain gives
   same-key : (i : ℕ) (y : List ℕ) → Value roots l size i y → (k : HeldKey) → k .id ≡ i → HoldsKey roots l size k → k ≡ heldKeyOf i y
@@ -75,8 +75,8 @@ module _ (frame : List ℕ) (places : List Entry) (n : ℕ) (cells : List Cell) 
 
   found-at : (i : ℕ) (y : List ℕ) → Value roots l size i y → Found-in roots l size cells i y
   found-at i y v =
-      found frame places n cells roots l size lists s (λ w. none (eight-wrong frame places n cells roots l size lists s w))
-      (λ w. none (eight-clash frame places n cells roots l size lists s w)) nonzero i y (v .reached)
+      found frame places n cells roots l size lists s (λ w. none (conflict-wrong frame places n cells roots l size lists s w))
+      (λ w. none (conflict-clash frame places n cells roots l size lists s w)) nonzero i y (v .reached)
 
   stands-by : (i : ℕ) (y : List ℕ) → Value roots l size i y → Found-in roots l size cells i y → In (heldKeyOf i y) (x .keys)
   stands-by i y v f =

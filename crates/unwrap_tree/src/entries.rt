@@ -1,5 +1,5 @@
-// Reads the entries of a KD body: the WRAP_KEYs of a registration, which stand in its Member Key Bag alone, or the fresh tree keys of a rekey,
-// which stand in the bag of its Rekey SA.
+// Reads the entries of a KD body: the WRAP_KEYs of a registration, which stand in its Member Key Bag alone, or the fresh tree keys of a
+// rekey, which stand in the bag of its Rekey SA.
 use state_keys::limits::WRAP_KEYS;
 use unwrap_search::open::Entry;
 use wire_attributes::attribute_value;
@@ -38,7 +38,8 @@ fn blank() -> Entry
     }
 }
 
-// Reads the entry of an attribute with the layout of a WRAP_KEY. `v` is the value of the attribute, and it ends at the offset `e` of the KD body.
+// Reads the entry of an attribute with the layout of a WRAP_KEY. `v` is the value of the attribute, and it ends at the offset `e` of the KD
+// body.
 fn entry(v: &[u8], e: usize) -> Entry
     requires { ⌜ (8 ≤ length (now v)) × (length (now v) ≤ e) ⌝ }
     ensures { λ r. ⌜ ((k : List ℕ) → e ≤ length k → now (v .entry) ≡ part k (e - length (now (v .entry))) e
@@ -54,8 +55,8 @@ fn entry(v: &[u8], e: usize) -> Entry
     }
 }
 
-// Reads the entries of the KD body `kd` in their order: the attributes that mean `meaning` in the bag of the place `place`, whose attributes
-// stand in the stretch `bag`.
+// Reads the entries of the KD body `kd` in their order: the attributes that mean `meaning` in the bag of the place `place`, whose
+// attributes stand in the stretch `bag`.
 pub fn entries(kd: &[u8], bag: Stretch, meaning: Meaning, place: Place) -> Listing
     requires { ⌜ ((l : List WrapKey) × HoldsEntries meaning place (now kd) bag l × (length l ≤ limits .wrapKeys)) ⌝ }
     ensures { λ r. ⌜ ((l : List WrapKey) → HoldsEntries meaning place (now (kd .entry)) bag l →

@@ -11,7 +11,7 @@ ghost use mathlib.Core.Bool.{true};
 ghost use mathlib.Core.List.{List};
 ghost use Prim.Native.Nat.{ℕ, _≤_};
 ghost use Rattle.wire_attributes.specs.Tree.{WrapKey};
-ghost use Rattle.state_keys.specs.Algorithms.{sizeOf};
+ghost use Rattle.state_keys.specs.Algorithms.{isWrappingSize};
 ghost use Rattle.state_keys.specs.Limits.{limits};
 ghost use Rattle.state.specs.Held.{heldFormed};
 ghost use Rattle.rules_chains.specs.Chain.{Root};
@@ -50,7 +50,7 @@ fn with_cell(held: Held, e: Entry, c: Cell) -> Held
 pub fn held_of(entries: [Entry; WRAP_KEYS], cells: [Cell; WRAP_KEYS], n: usize) -> Held
     requires { ⌜ n ≤ limits .wrapKeys ⌝ }
     ensures { λ r. ⌜ ((frame : List ℕ) (roots : List Root) (l : List WrapKey) (size : ℕ) → Lists frame entries n l →
-        Searched roots l size cells → Nonzero l → sizeOf 13 size ≡ true → (EntriesConflict roots l size → ⊥) →
+        Searched roots l size cells → Nonzero l → isWrappingSize size ≡ true → (EntriesConflict roots l size → ⊥) →
         HeldAre roots l size limits r × (heldFormed limits r ≡ true)) ⌝ }
 {
     let mut held = Held::new();

@@ -20,7 +20,7 @@ ghost use Prim.Native.Nat.{_≤_};
 ghost use lib.ListN.{length};
 ghost use Rattle.fips197.specs.Key.{Key};
 ghost use Rattle.state_keys.specs.Limits.{limits};
-ghost use Rattle.state_keys.specs.Algorithms.{sizeOf};
+ghost use Rattle.state_keys.specs.Algorithms.{isWrappingSize};
 ghost use Rattle.state_keys.specs.Kinds.{valueOf};
 ghost use Rattle.wire_attributes.specs.Tree.{WrapKey};
 ghost use Rattle.state.specs.Held.{keysOf};
@@ -30,9 +30,9 @@ ghost use Rattle.unwrap_search.specs.inner.Search.{Nonzero, rootsWith};
 ghost use Rattle.unwrap_tree.specs.inner.Reached.{TreeAnswers};
 ghost use Rattle.unwrap_tree.specs.inner.Entries.{HoldsEntries};
 
-// Finds the keys that the entries of the KD body `kd` reach, from `zero` as key 0 and from the held keys that `ids` and `block` lend, and keeps
-// the links of the entries. These are the attributes that mean `meaning` in the bag of the place `place`, whose attributes stand in the
-// stretch `bag` of `kd`.
+// Finds the keys that the entries of the KD body `kd` reach, from `zero` as key 0 and from the held keys that `ids` and `block` lend, and
+// keeps the links of the entries. These are the attributes that mean `meaning` in the bag of the place `place`, whose attributes stand in
+// the stretch `bag` of `kd`.
 // Refusals 4 to 7 were judged before: all entries stand in that bag, `zero` has the size of a wrapping key, no entry has Key ID 0, and the
 // entries are within their limit.
 pub fn reach_keys(
@@ -45,7 +45,7 @@ pub fn reach_keys(
     block: &[u8],
 ) -> ReachedKeys
     requires { ⌜ ((l : List WrapKey) × HoldsEntries meaning place (now kd) bag l × (length l ≤ limits .wrapKeys) × Nonzero l) ⌝ }
-    requires { ⌜ sizeOf 13 (zero .count) ≡ true ⌝ }
+    requires { ⌜ isWrappingSize (zero .count) ≡ true ⌝ }
     requires { ⌜ Key (valueOf zero) ⌝ }
     requires { ⌜ ((held : Held) × LendsHeld held (now ids) (now block)) ⌝ }
     ensures { λ r. ⌜ ((l : List WrapKey) (held : Held) → HoldsEntries meaning place (now (kd .entry)) bag l → Nonzero l →
@@ -83,7 +83,7 @@ pub fn reach_any(
     block: &[u8],
 ) -> ReachedKeys
     requires { ⌜ ((l : List WrapKey) × HoldsEntries meaning place (now kd) bag l × (length l ≤ limits .wrapKeys) × Nonzero l) ⌝ }
-    requires { ⌜ sizeOf 13 (zero .count) ≡ true ⌝ }
+    requires { ⌜ isWrappingSize (zero .count) ≡ true ⌝ }
     requires { ⌜ Key (valueOf zero) ⌝ }
     requires { ⌜ ((held : Held) × LendsHeld held (now ids) (now block)) ⌝ }
     ensures { λ r. ⌜ ((l : List WrapKey) (held : Held) → HoldsEntries meaning place (now (kd .entry)) bag l → Nonzero l →

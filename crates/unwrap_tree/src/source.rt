@@ -1,5 +1,5 @@
-// Finds where the entries of a frame stand: the WRAP_KEYs of a registration in its Member Key Bag, the fresh tree keys of a rekey in the bag of
-// its Rekey SA (document 02, T-11).
+// Finds where the entries of a frame stand: the WRAP_KEYs of a registration in its Member Key Bag, the fresh tree keys of a rekey in the
+// bag of its Rekey SA (document 02, T-11).
 use check_pairing::stretch::bag_stretch;
 use ikev2_numbers::GIKE_UPDATE;
 use ikev2_numbers::POLICY_HEAD;
@@ -15,8 +15,8 @@ ghost use Rattle.wire_frames.specs.Frame.{Frame};
 ghost use Rattle.wire_readers.specs.inner.Values.{isWhole};
 ghost use Rattle.unwrap_tree.specs.inner.Source.{FindsRekey, noSource, FreshSource, FreshStand, Sourced, EntriesStand};
 
-// Where entries stand: those attributes that mean `meaning` in the bag of the place `place`, whose attributes are the stretch `bag` of the KD
-// body. `some` is false if the frame has no entry.
+// Where entries stand: those attributes that mean `meaning` in the bag of the place `place`, whose attributes are the stretch `bag` of the
+// KD body. `some` is false if the frame has no entry.
 pub struct Source {
     pub some: bool,
     pub bag: Stretch,
@@ -76,12 +76,13 @@ fn fresh_source(gsa: &[u8], kd: &[u8]) -> Source
     }
 }
 
-// Finds the entries of a frame. `registers`: it is a registration, whose Member Key Bag has the attributes `bag` of the KD body `kd`. `reads`:
-// fresh tree keys are read from it. `gsa` is its GSA body.
+// Finds the entries of a frame. `registers`: it is a registration, whose Member Key Bag has the attributes `bag` of the KD body `kd`.
+// `reads`: fresh tree keys are read from it. `gsa` is its GSA body.
 pub fn entries_at(registers: bool, reads: bool, gsa: &[u8], kd: &[u8], bag: Stretch) -> Source
     requires { ⌜ (isWhole (policies 0 (now gsa)) ≡ true) × (isWhole (bags reads 0 (now kd)) ≡ true) ⌝ }
     requires { ⌜ ((f : Frame) × Sourced registers reads f (now gsa) (now kd) bag) ⌝ }
-    ensures { λ r. ⌜ ((f : Frame) → Sourced registers reads f (now (gsa .entry)) (now (kd .entry)) bag → EntriesStand (now (kd .entry)) f r) ⌝ }
+    ensures { λ r. ⌜ ((f : Frame) → Sourced registers reads f (now (gsa .entry)) (now (kd .entry)) bag
+        → EntriesStand (now (kd .entry)) f r) ⌝ }
 {
     if registers {
         return Source {

@@ -8,7 +8,7 @@ fn print(text: &[u8]) {
 }
 
 // Prints a word for `item`. Answers whether there is one.
-fn named(item: Item) -> bool {
+fn print_name(item: Item) -> bool {
     match item {
         Item::Selector { .. } => print(b"selector "),
         Item::Transform { .. } => print(b"transform "),
@@ -27,7 +27,7 @@ fn by_steps(s: &[u8]) -> usize {
     while n < s.len() {
         let step = wire_view::shown_step(s, at);
         let item = step.item;
-        if !named(item) {
+        if !print_name(item) {
             return n;
         }
         at = step.next;
@@ -44,35 +44,35 @@ fn by_moves(s: &[u8]) -> usize {
         if wire_view::shown_end(s, at) {
             return n;
         }
-        named(wire_view::shown(s, at));
+        print_name(wire_view::shown(s, at));
         at = wire_view::shown_next(s, at);
         n += 1;
     }
     n
 }
 
-fn counted(n: usize) {
+fn print_count(n: usize) {
     io::print_decimal(STDOUT_FILENO, n as u64);
     print(b" shown\n");
 }
 
 // Walks through the policy `s` in both ways.
-fn walked(s: &[u8]) {
-    counted(by_steps(s));
-    counted(by_moves(s));
+fn walk(s: &[u8]) {
+    print_count(by_steps(s));
+    print_count(by_moves(s));
 }
 
 fn main() {
     // group-wide: empty, with a deactivation delay, and with an octet left over
-    walked(b"\x00\x00\x00\x04");
-    walked(b"\x00\x00\x00\x08\x80\x02\x00\x05");
-    walked(b"\x00\x00\x00\x04\x00");
+    walk(b"\x00\x00\x00\x04");
+    walk(b"\x00\x00\x00\x08\x80\x02\x00\x05");
+    walk(b"\x00\x00\x00\x04\x00");
     // ESP policies: two selectors and a transform; two selectors, two transforms and an attribute
-    walked(
+    walk(
         b"\x03\x04\x00\x30spi \x07a\x00\x10PPPPaaaabbbb\x07a\x00\x10PPPPaaaabbbb\x00\x00\x00\x08\x05\x00\x00\x02",
     );
-    walked(
+    walk(
         b"\x03\x04\x00@spi \x07a\x00\x10PPPPaaaabbbb\x07a\x00\x10PPPPaaaabbbb\x03r\x00\x08\x01rID\x00r\x00\x08\x05rID\x00\x01\x00\x04life",
     );
-    walked(b"");
+    walk(b"");
 }

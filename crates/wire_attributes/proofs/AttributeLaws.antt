@@ -2,16 +2,17 @@
 use Prim.Native.Nat.{ℕ, _+_, _-_, _%_, _<_, _≤_}
 use mathlib.Core.Path.{_≡_, refl, ap, sym, _∙_}
 use mathlib.Core.List.{List, []}
-use mathlib.Core.Bool.{Bool, true, false}
+use mathlib.Core.Bool.{Bool, true, false, cond}
 use native.Mathlib.Omega.{arith}
 use borrow.Author.Tests.{le-leb, lt-leb, leb-true}
 use lib.Dec.{leb}
 use lib.ListN.{length, drop, length-drop}
 use lib.Seq.{drop-drop}
-use Rattle.octets.specs.Walk.{be16, part, either}
+use Rattle.lists.proofs.Cases.{and-parts}
+use Rattle.octets.specs.Walk.{be16, part}
 use Rattle.wire_attributes.specs.Attribute.{isShort, kindOf, valueOffset, attributeSize, fits, valueOctets}
 use Rattle.octets.specs.Walk.{whole, opened}
-use Rattle.octets.proofs.Walks.{by-test, both-true, part-length, Takes, took}
+use Rattle.octets.proofs.Walks.{by-test, part-length, Takes, took}
 use Rattle.wire_attributes.specs.Attribute.{attributeOf}
 use Rattle.wire_attributes.specs.Place.{meaningOf, formatFits}
 use Rattle.wire_attributes.specs.Layout.{formedIn, fitsIn, attribute}
@@ -24,14 +25,14 @@ use Rattle.wire_attributes.specs.declared.Read.the-variants as read
 pub size-least : (s : List ℕ) → 4 ≤ attributeSize s
 size-least s = go (isShort s)
   where
-    go : (t : Bool) → 4 ≤ either t 4 (4 + be16 s 2)
+    go : (t : Bool) → 4 ≤ cond t 4 (4 + be16 s 2)
     go true = omega arith
     go false = omega arith
 
 pub value-inside : (s : List ℕ) → valueOffset s ≤ attributeSize s
 value-inside s = go (isShort s)
   where
-    go : (t : Bool) → either t 2 4 ≤ either t 4 (4 + be16 s 2)
+    go : (t : Bool) → cond t 2 4 ≤ cond t 4 (4 + be16 s 2)
     go true = omega arith
     go false = omega arith
 
@@ -39,7 +40,7 @@ module _ (s : List ℕ) where
   pub cut : length s < 4 → read.Cut ≡ readOf s
   cut h =
       let f : leb (attributeSize s) (length s) ≡ false = lt-leb (attributeSize s) (length s) (omega (arith, size-least s)) in
-      sym (ap (λ (t : Bool). either t (read.Attribute (isShort s) (kindOf s) (valueOffset s) (attributeSize s)) read.Cut) f)
+      sym (ap (λ (t : Bool). cond t (read.Attribute (isShort s) (kindOf s) (valueOffset s) (attributeSize s)) read.Cut) f)
 
   module _ (h : 4 ≤ length s) (t : ℕ) (e : t ≡ be16 s 0) where
     first-is : be16 s 0 ≡ t
@@ -73,7 +74,7 @@ pub record IsRead (s : List ℕ) (short : Bool) (kind a e : ℕ) : Type 0 where
 pub read-is : (s : List ℕ) (short : Bool) (kind a e : ℕ) → read.Attribute short kind a e ≡ readOf s → IsRead s short kind a e
 read-is s short kind a e = go (fits s) refl
   where
-    go : (t : Bool) → fits s ≡ t → read.Attribute short kind a e ≡ either t (read.Attribute (isShort s) (kindOf s) (valueOffset s)
+    go : (t : Bool) → fits s ≡ t → read.Attribute short kind a e ≡ cond t (read.Attribute (isShort s) (kindOf s) (valueOffset s)
         (attributeSize s)) read.Cut
         → IsRead s short kind a e
     go true f q = record { all = f; format = cc; type = cc; start = cc; size = cc }
@@ -82,7 +83,7 @@ read-is s short kind a e = go (fits s) refl
 pub cut-is : (s : List ℕ) → read.Cut ≡ readOf s → fits s ≡ false
 cut-is s = go (fits s) refl
   where
-    go : (t : Bool) → fits s ≡ t → read.Cut ≡ either t (read.Attribute (isShort s) (kindOf s) (valueOffset s) (attributeSize s)) read.Cut
+    go : (t : Bool) → fits s ≡ t → read.Cut ≡ cond t (read.Attribute (isShort s) (kindOf s) (valueOffset s) (attributeSize s)) read.Cut
         → fits s ≡ false
     go true f q = let z : _≡_ {A = ℕ} 0 1 = cc in absurd (omega arith)
     go false f q = f
@@ -154,6 +155,6 @@ pub takes : (p : Place) (b : ℕ) (s : List ℕ) → Takes s (attribute p b s)
 unfolding attribute
 takes p b s =
     by-test (Takes s) (fitsIn p s)
-    (λ f. took s (attributeSize s) (omega (arith, size-least s)) (leb-true (attributeSize s) (length s) (both-true (fits s) (formedIn p
+    (λ f. took s (attributeSize s) (omega (arith, size-least s)) (leb-true (attributeSize s) (length s) (and-parts (fits s) (formedIn p
     (attributeOf s)) f .0)))
     (λ f. tt)

@@ -2,15 +2,14 @@
 use Prim.Native.Nat.{ℕ, _+_, _<_, _≤_}
 use mathlib.Core.Path.{_≡_, refl, ap, sym, _∙_}
 use mathlib.Core.List.{List, _++_}
-use mathlib.Core.Bool.{Bool, true, false}
+use mathlib.Core.Bool.{Bool, true, false, cond, _&&_, and-false}
 use mathlib.Core.Logic.{_↔_}
 use native.Mathlib.Omega.{arith}
 use borrow.Author.Tests.{lt-leb, leb-true, leb-false}
 use lib.ListN.{length, take, drop, take-append-drop}
 use lib.Seq.{length-take-le}
-use Rattle.octets.specs.Walk.{be16, either, both, Reading, whole, broken}
+use Rattle.octets.specs.Walk.{be16, Reading, whole, broken}
 use Rattle.octets.specs.Breaks.{own, inside}
-use Rattle.octets.proofs.Walks.{both-never}
 use Rattle.octets.proofs.BreakLaws.{not-broken, structure-to, structure-from, row-to, row-from, Among, among-structure, among-row}
 use Rattle.wire_attributes.specs.Attribute.{Attribute, isShort, attributeSize, attributeOf, fits}
 use Rattle.wire_attributes.specs.Layout.{formedIn, fitsIn, attribute, attributes}
@@ -24,21 +23,21 @@ use Rattle.wire_attributes.proofs.GrammarLaws.{same-size, same-attribut
 
 module _ (p : Place) (s : List ℕ) where
   unfit : fits s ≡ false → fitsIn p s ≡ false
-  unfit e = ap (λ (t : Bool). both t (formedIn p (attributeOf s))) e
+  unfit e = ap (λ (t : Bool). t && formedIn p (attributeOf s)) e
 
   -- the own fields
   pub fault-unfit : FaultOfAttribute p s → fitsIn p s ≡ false
   fault-unfit (cut h) = unfit (lt-leb (attributeSize s) (length s) (omega (arith, size-least s)))
   fault-unfit (runs-past h k) =
-      let e : attributeSize s ≡ 4 + be16 s 2 = ap (λ (t : Bool). either t 4 (4 + be16 s 2)) (lt-leb 32768 (be16 s 0) h) in
+      let e : attributeSize s ≡ 4 + be16 s 2 = ap (λ (t : Bool). cond t 4 (4 + be16 s 2)) (lt-leb 32768 (be16 s 0) h) in
       unfit (lt-leb (attributeSize s) (length s) (omega arith))
   fault-unfit (unformed o rest {a = a} e f q) =
       let n = format-size p o a f in
       let m = size-least o in
       let w : attributeOf s ≡ a = ap attributeOf e ∙ same-attribute o rest (omega arith) (omega arith) ∙ format-says p o a f in
-      ap (λ x. both (fits s) (formedIn p x)) w ∙ ap (λ (t : Bool). both (fits s) t) q ∙ sym (both-never (fits s))
+      ap (λ x. fits s && formedIn p x) w ∙ ap (λ (t : Bool). fits s && t) q ∙ and-false (fits s)
 
-  fault-cut : (t : Bool) → isShort s ≡ t → length s < either t 4 (4 + be16 s 2) → FaultOfAttribute p s
+  fault-cut : (t : Bool) → isShort s ≡ t → length s < cond t 4 (4 + be16 s 2) → FaultOfAttribute p s
   fault-cut true e h = cut h
   fault-cut false e h = runs-past (leb-false 32768 (be16 s 0) e) h
 
@@ -57,7 +56,7 @@ module _ (p : Place) (s : List ℕ) where
   pub unfit-fault : fitsIn p s ≡ false → FaultOfAttribute p s
   unfit-fault = go (fits s) refl
     where
-      go : (t : Bool) → fits s ≡ t → both t (formedIn p (attributeOf s)) ≡ false → FaultOfAttribute p s
+      go : (t : Bool) → fits s ≡ t → (t && formedIn p (attributeOf s)) ≡ false → FaultOfAttribute p s
       go true e q = fault-formed (leb-true (attributeSize s) (length s) e) q
       go false e q = fault-cut (isShort s) refl (leb-false (attributeSize s) (length s) e)
 

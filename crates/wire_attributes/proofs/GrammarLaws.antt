@@ -2,14 +2,15 @@
 use Prim.Native.Nat.{ℕ, _+_, _-_, _%_, _≤_}
 use mathlib.Core.Path.{_≡_, refl, ap, sym, _∙_}
 use mathlib.Core.List.{List, [], _++_}
-use mathlib.Core.Bool.{Bool, true, false}
+use mathlib.Core.Bool.{Bool, true, false, cond, _&&_}
 use native.Mathlib.Omega.{arith}
 use borrow.Author.Tests.{le-leb, lt-leb, leb-true, leb-false}
 use lib.Dec.{leb}
 use lib.ListN.{length, drop, length-append, length-drop}
 use lib.Seq.{drop-append-le, take-all, drop-length}
-use Rattle.octets.specs.Walk.{be16, part, either, both, Reading, whole, opened}
-use Rattle.octets.proofs.Walks.{by-test, both-true}
+use Rattle.lists.proofs.Cases.{and-parts}
+use Rattle.octets.specs.Walk.{be16, part, Reading, whole, opened}
+use Rattle.octets.proofs.Walks.{by-test}
 use Rattle.octets.proofs.Local.{extended, be16-append, part-append, opened-extend, Local}
 use Rattle.octets.proofs.Grammar.{Cuts, row-read, read-row, sound-of, complete-of}
 use Rattle.wire_attributes.specs.Attribute.{Attribute, isShort, valueOffset, attributeSize, valueOctets, attributeOf, fits}
@@ -28,12 +29,12 @@ module _ (o r : List ℕ) (h : 4 ≤ length o) where
   second = be16-append o r 2 (omega arith)
 
   pub same-size : attributeSize (o ++ r) ≡ attributeSize o
-  same-size = λ i. either (leb 32768 (first i)) 4 (4 + second i)
+  same-size = λ i. cond (leb 32768 (first i)) 4 (4 + second i)
 
   module _ (k : attributeSize o ≤ length o) where
     same-value : valueOctets (o ++ r) ≡ valueOctets o
     same-value =
-        (λ i. part (o ++ r) (either (leb 32768 (first i)) 2 4) (same-size i))
+        (λ i. part (o ++ r) (cond (leb 32768 (first i)) 2 4) (same-size i))
         ∙ part-append o r (valueOffset o) (attributeSize o) (value-inside o) k
 
     pub same-attribute : attributeOf (o ++ r) ≡ attributeOf o
@@ -41,8 +42,8 @@ module _ (o r : List ℕ) (h : 4 ≤ length o) where
 
     same-fits : (p : Place) → fitsIn p (o ++ r) ≡ fitsIn p o
     same-fits p =
-        (λ i. both (leb (same-size i) (length (o ++ r))) (formedIn p (same-attribute i)))
-        ∙ ap (λ (t : Bool). both t (formedIn p (attributeOf o)))
+        (λ i. leb (same-size i) (length (o ++ r)) && formedIn p (same-attribute i))
+        ∙ ap (λ (t : Bool). t && formedIn p (attributeOf o))
         (le-leb (attributeSize o) (length (o ++ r)) (omega (arith, length-append o r)) ∙ sym (le-leb (attributeSize o) (length o) k))
 
 module _ (p : Place) where
@@ -53,7 +54,7 @@ module _ (p : Place) where
       by-test (λ (y : Reading Attribute). y ≡ whole a rest →
       (4 ≤ attributeSize s) × (attributeSize s ≤ length s) × (rest ≡ drop (attributeSize s) s))
       (fitsIn p s)
-      (λ t q. (size-least s, leb-true (attributeSize s) (length s) (both-true (fits s) (formedIn p (attributeOf s)) t .0), cc))
+      (λ t q. (size-least s, leb-true (attributeSize s) (length s) (and-parts (fits s) (formedIn p (attributeOf s)) t .0), cc))
       (λ t q. let z : _≡_ {A = ℕ} 0 1 = cc in absurd (omega arith))
 
   extends : (b : ℕ) (o r : List ℕ) → 4 ≤ length o → attributeSize o ≤ length o → attribute p b (o ++ r) ≡ extended r (attribute p b o)
@@ -74,7 +75,7 @@ module _ (p : Place) where
 
     pub formats : (t : Bool) → isShort o ≡ t → length o ≡ attributeSize o → attributeOf o ≡ a → Format o a
     formats true e l q =
-        let m : length o ≡ 4 = l ∙ ap (λ (t : Bool). either t 4 (4 + be16 o 2)) e in
+        let m : length o ≡ 4 = l ∙ ap (λ (t : Bool). cond t 4 (4 + be16 o 2)) e in
         in-short (record {
           format = ap (λ (x : Attribute). x .short) (sym q) ∙ e;
           top = leb-true 32768 (be16 o 0) e;
@@ -82,10 +83,10 @@ module _ (p : Place) where
           size = m;
           value =
               sym (take-all 2 (drop 2 o) (rw length-drop (omega arith)))
-              ∙ ap (λ (t : Bool). part o (either t 2 4) (either t 4 (4 + be16 o 2))) (sym e) ∙ ap (λ (x : Attribute). x .value) q;
+              ∙ ap (λ (t : Bool). part o (cond t 2 4) (cond t 4 (4 + be16 o 2))) (sym e) ∙ ap (λ (x : Attribute). x .value) q;
         })
     formats false e l q =
-        let m : length o ≡ 4 + be16 o 2 = l ∙ ap (λ (t : Bool). either t 4 (4 + be16 o 2)) e in
+        let m : length o ≡ 4 + be16 o 2 = l ∙ ap (λ (t : Bool). cond t 4 (4 + be16 o 2)) e in
         in-long (record {
           format = ap (λ (x : Attribute). x .short) (sym q) ∙ e;
           top = leb-false 32768 (be16 o 0) e;
@@ -93,7 +94,7 @@ module _ (p : Place) where
           size = m;
           value =
               sym (take-all (4 + be16 o 2 - 4) (drop 4 o) (rw length-drop (omega arith)))
-              ∙ ap (λ (t : Bool). part o (either t 2 4) (either t 4 (4 + be16 o 2))) (sym e) ∙ ap (λ (x : Attribute). x .value) q;
+              ∙ ap (λ (t : Bool). part o (cond t 2 4) (cond t 4 (4 + be16 o 2))) (sym e) ∙ ap (λ (x : Attribute). x .value) q;
         })
 
     pub to : (b : ℕ) → attribute p b o ≡ whole a [] → IsAttribute p o a
@@ -101,7 +102,7 @@ module _ (p : Place) where
     to b =
         by-test (λ (y : Reading Attribute). y ≡ whole a [] → IsAttribute p o a) (fitsIn p o)
         (λ t q.
-        let f = both-true (fits o) (formedIn p (attributeOf o)) t in
+        let f = and-parts (fits o) (formedIn p (attributeOf o)) t in
         let e : attributeOf o ≡ a = cc in
         let d : drop (attributeSize o) o ≡ [] = cc in
         record {
@@ -110,16 +111,16 @@ module _ (p : Place) where
         })
         (λ t q. let z : _≡_ {A = ℕ} 0 1 = cc in absurd (omega arith))
 
-    module _ (t : Bool) (e : isShort o ≡ t) (l : length o ≡ either t 4 (4 + be16 o 2)) where
+    module _ (t : Bool) (e : isShort o ≡ t) (l : length o ≡ cond t 4 (4 + be16 o 2)) where
       pub made-size : length o ≡ attributeSize o
-      made-size = l ∙ ap (λ (t : Bool). either t 4 (4 + be16 o 2)) (sym e)
+      made-size = l ∙ ap (λ (t : Bool). cond t 4 (4 + be16 o 2)) (sym e)
 
-      pub made-attribute : drop (either t 2 4) o ≡ a .value → be16 o 0 % 32768 ≡ a .kind → a .short ≡ t → attributeOf o ≡ a
+      pub made-attribute : drop (cond t 2 4) o ≡ a .value → be16 o 0 % 32768 ≡ a .kind → a .short ≡ t → attributeOf o ≡ a
       made-attribute v k m =
           let n = made-size in
           let w : valueOctets o ≡ a .value =
           take-all (attributeSize o - valueOffset o) (drop (valueOffset o) o) (rw length-drop (omega arith))
-          ∙ ap (λ (t : Bool). drop (either t 2 4) o) e ∙ v in
+          ∙ ap (λ (t : Bool). drop (cond t 2 4) o) e ∙ v in
           λ i. record { short = (e ∙ sym m) i; kind = k i; value = w i }
 
     -- octets in either format are of their size, and say the attribute
@@ -137,8 +138,8 @@ module _ (p : Place) where
         let n = format-size (i .format) in
         let q = format-says (i .format) in
         let g : fitsIn p o ≡ true =
-        ap (λ (x : Attribute). both (fits o) (formedIn p x)) q ∙ ap (λ (t : Bool). both (fits o) t) (i .formed)
-        ∙ ap (λ (t : Bool). both t true) (le-leb (attributeSize o) (length o) (omega arith)) in
+        ap (λ (x : Attribute). fits o && formedIn p x) q ∙ ap (λ (t : Bool). fits o && t) (i .formed)
+        ∙ ap (λ (t : Bool). t && true) (le-leb (attributeSize o) (length o) (omega arith)) in
         ap (λ (t : Bool). opened b t (whole (attributeOf o) (drop (attributeSize o) o))) g
         ∙ (λ i. whole (q i) (drop (sym n i) o)) ∙ ap (whole a) (drop-length o)
 

@@ -1,8 +1,9 @@
 -- What the readers answer, by what the octets are.
 use Prim.Native.Nat.{ℕ, _+_, _-_}
+use mathlib.Core.Bool.{cond}
 use mathlib.Core.List.{List, [], _∷_}
 use lib.ListN.{length, drop}
-use Rattle.octets.specs.Walk.{either, Reading, whole, broken}
+use Rattle.octets.specs.Walk.{Reading, whole, broken}
 use Rattle.wire_attributes.specs.Attribute.{isShort, kindOf, valueOffset, attributeSize, fits, valueOctets}
 use Rattle.wire_attributes.specs.declared.Read.{Read}
 use Rattle.wire_attributes.specs.declared.Read.the-variants as read
@@ -31,11 +32,11 @@ spotOf s (broken o) = spot.Broken o
 
 -- the value of the attribute at the start of `s`; empty where the attribute is cut short
 abbrev pub valueAt : List ℕ → List ℕ
-valueAt s = either (fits s) (valueOctets s) []
+valueAt s = cond (fits s) (valueOctets s) []
 
 -- where in `s` the value of the attribute at the index `at` starts; 0 where no whole attribute stands there
 abbrev pub valueStart : List ℕ → ℕ → ℕ
-valueStart s at = either (fits (drop at s)) (at + valueOffset (drop at s)) 0
+valueStart s at = cond (fits (drop at s)) (at + valueOffset (drop at s)) 0
 
 abbrev pub readOf : List ℕ → Read
-readOf s = either (fits s) (read.Attribute (isShort s) (kindOf s) (valueOffset s) (attributeSize s)) read.Cut
+readOf s = cond (fits s) (read.Attribute (isShort s) (kindOf s) (valueOffset s) (attributeSize s)) read.Cut

@@ -1,11 +1,11 @@
 -- An attribute (RFC 7296, section 3.3.5): what its octets say.
 use Prim.Native.Nat.{ℕ, _+_, _%_}
 use mathlib.Core.List.{List}
-use mathlib.Core.Bool.{Bool}
+use mathlib.Core.Bool.{Bool, cond}
 use lib.ListN.{length}
 use lib.Dec.{leb}
-use Rattle.ikev2_numbers.specs.Codes.{attributeHeadOctets, formatBit, shortHeadOctets}
-use Rattle.octets.specs.Walk.{be16, part, either}
+use Rattle.ikev2_numbers.specs.Codes.{attributeHeadOctets, formatBit, shortAttributeOctets, shortHeadOctets}
+use Rattle.octets.specs.Walk.{be16, part}
 
 -- document 01: "top bit 1: 15-bit type and 2-octet value. Top bit 0: type, length 2, value"
 pub record Attribute : Type 0 where
@@ -22,10 +22,10 @@ kindOf s = be16 s 0 % formatBit
 
 -- where the value starts, and how many octets the attribute takes in all
 abbrev pub valueOffset : List ℕ → ℕ
-valueOffset s = either (isShort s) shortHeadOctets attributeHeadOctets
+valueOffset s = cond (isShort s) shortHeadOctets attributeHeadOctets
 
 abbrev pub attributeSize : List ℕ → ℕ
-attributeSize s = either (isShort s) attributeHeadOctets (attributeHeadOctets + be16 s 2)
+attributeSize s = cond (isShort s) shortAttributeOctets (attributeHeadOctets + be16 s 2)
 
 abbrev pub valueOctets : List ℕ → List ℕ
 valueOctets s = part s (valueOffset s) (attributeSize s)
@@ -35,7 +35,7 @@ attributeOf s = record { short = isShort s; kind = kindOf s; value = valueOctets
 
 -- how many octets the attribute `a` has before its value, and in all
 abbrev pub leadOf : Attribute → ℕ
-leadOf a = either (a .short) shortHeadOctets attributeHeadOctets
+leadOf a = cond (a .short) shortHeadOctets attributeHeadOctets
 
 abbrev pub spanOf : Attribute → ℕ
 spanOf a = leadOf a + length (a .value)

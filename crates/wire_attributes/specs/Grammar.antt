@@ -4,7 +4,7 @@ use mathlib.Core.Path.{_≡_}
 use mathlib.Core.List.{List}
 use mathlib.Core.Bool.{true, false}
 use lib.ListN.{length, drop}
-use Rattle.ikev2_numbers.specs.Codes.{attributeHeadOctets, formatBit, shortHeadOctets}
+use Rattle.ikev2_numbers.specs.Codes.{attributeHeadOctets, formatBit, shortAttributeOctets, shortHeadOctets}
 use Rattle.octets.specs.Walk.{be16, Row}
 use Rattle.wire_attributes.specs.Attribute.{Attribute}
 use Rattle.wire_attributes.specs.Layout.{formedIn}
@@ -15,7 +15,7 @@ pub record IsShort (o : List ℕ) (a : Attribute) : Type 0 where
   pub format : a .short ≡ true
   pub top : formatBit ≤ be16 o 0
   pub kind : be16 o 0 % formatBit ≡ a .kind
-  pub size : length o ≡ attributeHeadOctets
+  pub size : length o ≡ shortAttributeOctets
   pub value : drop shortHeadOctets o ≡ a .value
 
 -- "top bit 0: type, length 2, value"

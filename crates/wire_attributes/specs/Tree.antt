@@ -2,10 +2,11 @@
 -- that holds an attribute makes it one of them.
 use Prim.Native.Nat.{ℕ}
 use mathlib.Core.List.{List, [], _∷_, map}
-use mathlib.Core.Bool.{Bool}
+use mathlib.Core.Bool.{Bool, cond}
 use lib.ListN.{drop}
 use lib.Dec.{eqb}
-use Rattle.octets.specs.Walk.{be16, be32, either}
+use Rattle.octets.specs.Walk.{be16, be32}
+use Rattle.ikev2_numbers.specs.Codes.{kwkIdAt, wrappedAt}
 use Rattle.wire_attributes.specs.Attribute.{Attribute}
 use Rattle.wire_attributes.specs.Place.{meaningOf}
 use Rattle.wire_attributes.specs.declared.tables.Place.{Place}
@@ -25,10 +26,10 @@ pub record WrapKey : Type 0 where
   pub wrapped : List ℕ
 
 abbrev pub saKeyOf : List ℕ → SaKey
-saKeyOf v = record { keyId = be32 v 0; kwkId = be32 v 4; wrapped = drop 8 v }
+saKeyOf v = record { keyId = be32 v 0; kwkId = be32 v kwkIdAt; wrapped = drop wrappedAt v }
 
 abbrev pub wrapKeyOf : List ℕ → WrapKey
-wrapKeyOf v = record { keyId = be32 v 0; kwkId = be32 v 4; wrapped = drop 8 v }
+wrapKeyOf v = record { keyId = be32 v 0; kwkId = be32 v kwkIdAt; wrapped = drop wrappedAt v }
 
 -- a number for each meaning, to compare them by
 abbrev pub codeOf : Meaning → ℕ
@@ -47,7 +48,7 @@ means m p a = eqb (codeOf (meaningOf p (a .kind))) (codeOf m)
 -- the values of those attributes of a list that mean `m` in the place `p`, in their order
 unfoldable pub valuesOf : Meaning → Place → List Attribute → List (List ℕ)
 valuesOf m p [] = []
-valuesOf m p (a ∷ l) = either (means m p a) (a .value ∷ valuesOf m p l) (valuesOf m p l)
+valuesOf m p (a ∷ l) = cond (means m p a) (a .value ∷ valuesOf m p l) (valuesOf m p l)
 
 -- the number in a value of two octets, and in one of four
 abbrev pub number16 : List ℕ → ℕ

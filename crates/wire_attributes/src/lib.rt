@@ -7,6 +7,7 @@ ghost use Rattle.wire_attributes.specs.Layout.{attribute, attributes};
 ghost use Rattle.wire_attributes.specs.Answers.{layoutOf, spotOf, valueAt, valueStart, readOf};
 use ikev2_numbers::ATTRIBUTE_HEAD;
 use ikev2_numbers::FORMAT_BIT;
+use ikev2_numbers::SHORT_ATTRIBUTE;
 use ikev2_numbers::SHORT_HEAD;
 
 pub mod tables;
@@ -48,7 +49,7 @@ pub fn read_attribute(s: &[u8]) -> Read
             short: true,
             kind: t % FORMAT_BIT,
             start: SHORT_HEAD,
-            end: ATTRIBUTE_HEAD,
+            end: SHORT_ATTRIBUTE,
         };
     }
     let n = octets::numbers::be16_at(s, 2);

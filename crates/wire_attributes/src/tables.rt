@@ -1,7 +1,7 @@
 // Which attribute is read where, in which format and size.
 ghost use mathlib.Core.Path.{_≡_};
 ghost use Prim.Native.Nat.{_<_};
-ghost use Rattle.wire_attributes.specs.Place.{meaningOf, wrappedSize, fourOctets, formatFits, inTransform, inPolicy, inBag};
+ghost use Rattle.wire_attributes.specs.Place.{meaningOf, keyValueSized, fourOctets, formatFits, inTransform, inPolicy, inBag};
 ghost use Rattle.wire_attributes.specs.Tree.{codeOf};
 use ikev2_numbers::ENCR;
 use ikev2_numbers::FRESH_KEY;
@@ -10,8 +10,8 @@ use ikev2_numbers::GSA_INITIAL_MESSAGE_ID;
 use ikev2_numbers::GSA_KEY_LIFETIME;
 use ikev2_numbers::GWP_DTD;
 use ikev2_numbers::KEY_LENGTH;
-use ikev2_numbers::LEAST_WRAPPED;
-use ikev2_numbers::MOST_WRAPPED;
+use ikev2_numbers::LEAST_KEY_VALUE;
+use ikev2_numbers::MOST_KEY_VALUE;
 use ikev2_numbers::SA_KEY;
 use ikev2_numbers::WRAP_KEY;
 use ikev2_numbers::WRAPPED_BLOCK;
@@ -107,12 +107,12 @@ pub fn meaning_in(place: Place, kind: usize) -> Meaning
 
 // Whether `n` is a size of a wrapped key's value: two IDs of 4 octets each, then 16 to 264 octets, a multiple of 8.
 fn is_wrapped_size(n: usize) -> bool
-    ensures { λ r. ⌜ r ≡ wrappedSize n ⌝ }
+    ensures { λ r. ⌜ r ≡ keyValueSized n ⌝ }
 {
-    if n < LEAST_WRAPPED {
+    if n < LEAST_KEY_VALUE {
         return false;
     }
-    if MOST_WRAPPED < n {
+    if MOST_KEY_VALUE < n {
         return false;
     }
     n % WRAPPED_BLOCK == 0

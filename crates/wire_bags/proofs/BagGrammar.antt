@@ -2,14 +2,14 @@
 use Prim.Native.Nat.{ℕ, _+_, _-_, _<_, _≤_}
 use mathlib.Core.Path.{_≡_, refl, ap, sym, _∙_, subst}
 use mathlib.Core.List.{List, [], _++_}
-use mathlib.Core.Bool.{Bool, true, false}
+use mathlib.Core.Bool.{Bool, true, false, cond, _||_}
 use native.Mathlib.Omega.{arith}
 use borrow.Author.Tests.{lt-ltb, eq-eqb, ne-eqb, eqb-true, eqb-false}
 use lib.Dec.{ltb, eqb}
 use lib.ListN.{length, drop}
 use lib.Seq.{drop-length}
 use Rattle.octets.specs.Numbers.{oct}
-use Rattle.octets.specs.Walk.{be16, part, either, Reading, whole, mapped, opened, closed, within}
+use Rattle.octets.specs.Walk.{be16, part, Reading, whole, mapped, opened, closed, within}
 use Rattle.octets.proofs.Local.{extended, be16-append, mapped-extend, opened-extend, within-extend, Local}
 use Rattle.octets.proofs.Inverse.{inverse-mapped, inverse-opened, inverse-within}
 use Rattle.octets.proofs.Grammar.{Cuts, row-read, read-row, sound-of, complete-of}
@@ -53,8 +53,8 @@ module _ (fresh : Bool) where
   same-size : (o r : List ℕ) → 4 ≤ length o → sizeAt (o ++ r) ≡ sizeAt o
   same-size o r l = be16-append o r 2 (omega arith)
 
-  counted : (b : ℕ) (s : List ℕ) (x : Bag) (rest : List ℕ) → bag fresh b s ≡ whole x rest → (4 ≤ sizeAt s) × (sizeAt s ≤ length s) × (rest ≡ drop
-      (sizeAt s) s)
+  counted : (b : ℕ) (s : List ℕ) (x : Bag) (rest : List ℕ) → bag fresh b s ≡ whole x rest →
+      (4 ≤ sizeAt s) × (sizeAt s ≤ length s) × (rest ≡ drop (sizeAt s) s)
   counted b s x rest q =
       let f = inverse b s x rest q in
       let g = head-is s (f .fits) in
@@ -62,12 +62,12 @@ module _ (fresh : Bool) where
 
   module _ (b : ℕ) (o r : List ℕ) (l : 4 ≤ length o) (k : sizeAt o ≤ length o) where
     same-held : headFits o ≡ true
-        → mapped (bagOf fresh (o ++ r)) (within (headSize (o ++ r)) (be16 (o ++ r) 2) (attributes (placeOf fresh (oct (o ++ r) 0))) b (o ++ r))
-        ≡ extended r (mapped (bagOf fresh o) (within (headSize o) (be16 o 2) (attributes (placeOf fresh (oct o 0))) b o))
+        → mapped (bagOf fresh (o ++ r)) (within (headSize (o ++ r)) (be16 (o ++ r) 2) (attributes (placeOf fresh (oct (o ++ r) 0))) b
+        (o ++ r)) ≡ extended r (mapped (bagOf fresh o) (within (headSize o) (be16 o 2) (attributes (placeOf fresh (oct o 0))) b o))
     same-held e =
         let f = head-is o e in
         (λ i. mapped
-        (λ (m : List Attribute). either (eqb (first o r l k i) 0) (memberKeys (record { keys = wrapKeys place.MemberBag m }))
+        (λ (m : List Attribute). cond (eqb (first o r l k i) 0) (memberKeys (record { keys = wrapKeys place.MemberBag m }))
         (groupKeys (groupKeyBagOf fresh (first o r l k i) (same-spi o r l k e i) m)))
         (within (4 + spiSize (first o r l k i)) (same-size o r l i) (attributes (placeOf fresh (first o r l k i))) b (o ++ r)))
         ∙ ap (mapped (bagOf fresh o)) (within-extend o r (headSize o) (be16 o 2) (attributes (placeOf fresh (oct o 0))) b (f .0) k)
@@ -77,8 +77,9 @@ module _ (fresh : Bool) where
     unfolding bag
     extends =
         opened-extend o r b (headFits (o ++ r)) (headFits o)
-        (mapped (bagOf fresh (o ++ r)) (within (headSize (o ++ r)) (be16 (o ++ r) 2) (attributes (placeOf fresh (oct (o ++ r) 0))) b (o ++ r)))
-        (mapped (bagOf fresh o) (within (headSize o) (be16 o 2) (attributes (placeOf fresh (oct o 0))) b o)) (same-head o r l k) same-held
+        (mapped (bagOf fresh (o ++ r)) (within (headSize (o ++ r)) (be16 (o ++ r) 2) (attributes (placeOf fresh (oct (o ++ r) 0))) b
+        (o ++ r))) (mapped (bagOf fresh o) (within (headSize o) (be16 o 2) (attributes (placeOf fresh (oct o 0))) b o))
+        (same-head o r l k) same-held
 
   pub local : Local (bag fresh) 4 sizeAt
   local = record { same = same-size; counts = counted; extend = extends }
@@ -126,13 +127,14 @@ module _ (fresh : Bool) where
         subst (IsBag fresh o) (f .item) (go (f .held) (f .fits) n (eqb (oct o 0) 0) refl a)
       where
         go : (l : List Attribute) → headFits o ≡ true → be16 o 2 ≡ length o → (t : Bool) → eqb (oct o 0) 0 ≡ t
-            → Attributes (either t place.MemberBag (inBag fresh (oct o 0))) (drop (headSize o) o) l
-            → IsBag fresh o (either t (memberKeys (record { keys = wrapKeys place.MemberBag l }))
+            → Attributes (cond t place.MemberBag (inBag fresh (oct o 0))) (drop (headSize o) o) l
+            → IsBag fresh o (cond t (memberKeys (record { keys = wrapKeys place.MemberBag l }))
             (groupKeys (groupKeyBagOf fresh (oct o 0) (headSpi o) l)))
         go l e n true t a = member-to l e n (eqb-true (oct o 0) 0 t) a
         go l e n false t a = group-to l e n (eqb-false (oct o 0) 0 t) a
 
-    opens : (x : Bag) (l : List Attribute) → headFits o ≡ true → be16 o 2 ≡ length o → Attributes (placeOf fresh (oct o 0)) (drop (headSize o) o) l
+    opens : (x : Bag) (l : List Attribute) → headFits o ≡ true → be16 o 2 ≡ length o
+        → Attributes (placeOf fresh (oct o 0)) (drop (headSize o) o) l
         → bagOf fresh o l ≡ x → bag fresh b o ≡ whole x []
     unfolding bag
     opens x l e n a q =
@@ -151,13 +153,13 @@ module _ (fresh : Bool) where
         let h : headSize o ≡ 4 = ap (λ (t : ℕ). 4 + spiSize t) z in
         let t = eq-eqb (oct o 0) 0 z in
         let e : headFits o ≡ true =
-        made-head o (omega arith) n (ap (λ (u : Bool). either u true (ltb 0 (spiSize (oct o 0)))) t)
-        (ap (λ (u : Bool). either u true (eqb (oct o 1) (spiSize (oct o 0)))) t) in
+        made-head o (omega arith) n (ap (λ (u : Bool). u || ltb 0 (spiSize (oct o 0))) t)
+        (ap (λ (u : Bool). u || eqb (oct o 1) (spiSize (oct o 0))) t) in
         opens (memberKeys x) (i .attributes) e n
         (subst (λ (p : Place). Attributes p (drop (headSize o) o) (i .attributes))
-        (sym (ap (λ (u : Bool). either u place.MemberBag (inBag fresh (oct o 0))) t))
+        (sym (ap (λ (u : Bool). cond u place.MemberBag (inBag fresh (oct o 0))) t))
         (subst (λ (u : ℕ). Attributes place.MemberBag (drop u o) (i .attributes)) (sym h) (i .held)))
-        (ap (λ (u : Bool). either u (memberKeys (record { keys = wrapKeys place.MemberBag (i .attributes) }))
+        (ap (λ (u : Bool). cond u (memberKeys (record { keys = wrapKeys place.MemberBag (i .attributes) }))
         (groupKeys (groupKeyBagOf fresh (oct o 0) (headSpi o) (i .attributes)))) t
         ∙ (λ j. memberKeys (record { keys = i .keys j })))
     from (groupKeys x) (is-group i) =
@@ -168,18 +170,19 @@ module _ (fresh : Bool) where
         let z : oct o 0 ≡ 0 → ⊥ = λ y. omega (arith, k, ap spiSize y) in
         let t = ne-eqb (oct o 0) 0 z in
         let e : headFits o ≡ true =
-        made-head o (omega arith) n (ap (λ (u : Bool). either u true (ltb 0 (spiSize (oct o 0)))) t ∙ lt-ltb 0 (spiSize (oct o 0)) k)
-        (ap (λ (u : Bool). either u true (eqb (oct o 1) (spiSize (oct o 0)))) t ∙ eq-eqb (oct o 1) (spiSize (oct o 0)) (i .spiOctets
+        made-head o (omega arith) n (ap (λ (u : Bool). u || ltb 0 (spiSize (oct o 0))) t ∙ lt-ltb 0 (spiSize (oct o 0)) k)
+        (ap (λ (u : Bool). u || eqb (oct o 1) (spiSize (oct o 0))) t ∙ eq-eqb (oct o 1) (spiSize (oct o 0)) (i .spiOctets
         ∙ ap spiSize (sym p))) in
         let sp : headSpi o ≡ x .spi = ap (λ (u : ℕ). part o 4 (4 + spiSize u)) p ∙ i .spi in
-        let ks : saKeys (inBag fresh (oct o 0)) (i .attributes) ≡ x .keys = ap (λ (u : ℕ). saKeys (inBag fresh u) (i .attributes)) p ∙ i .keys in
+        let ks : saKeys (inBag fresh (oct o 0)) (i .attributes) ≡ x .keys = ap (λ (u : ℕ). saKeys (inBag fresh u) (i .attributes)) p
+        ∙ i .keys in
         let fs : freshKeys (inBag fresh (oct o 0)) (i .attributes) ≡ x .fresh =
         ap (λ (u : ℕ). freshKeys (inBag fresh u) (i .attributes)) p ∙ i .entries in
         opens (groupKeys x) (i .attributes) e n
         (subst (λ (q : Place). Attributes q (drop (headSize o) o) (i .attributes))
-        (sym (ap (λ (u : Bool). either u place.MemberBag (inBag fresh (oct o 0))) t))
+        (sym (ap (λ (u : Bool). cond u place.MemberBag (inBag fresh (oct o 0))) t))
         (subst (λ (u : ℕ). Attributes (inBag fresh u) (drop (4 + spiSize u) o) (i .attributes)) (sym p) (i .held)))
-        (ap (λ (u : Bool). either u (memberKeys (record { keys = wrapKeys place.MemberBag (i .attributes) }))
+        (ap (λ (u : Bool). cond u (memberKeys (record { keys = wrapKeys place.MemberBag (i .attributes) }))
         (groupKeys (groupKeyBagOf fresh (oct o 0) (headSpi o) (i .attributes)))) t
         ∙ (λ j. groupKeys (record { protocol = p j; spi = sp j; keys = ks j; fresh = fs j })))
 

@@ -29,7 +29,8 @@ module _ (fresh : Bool) where
     unfolding bag holds
     bad e = sym (ap (spotOf s) (opened-not b (headFits s) (mapped (bagOf fresh s) holds) e))
 
-    module _ (fit : headFits s ≡ true) (z n : ℕ) (p : Place) (zq : z ≡ headSize s) (nq : n ≡ be16 s 2) (pq : p ≡ placeOf fresh (oct s 0)) where
+    module _ (fit : headFits s ≡ true) (z n : ℕ) (p : Place) (zq : z ≡ headSize s) (nq : n ≡ be16 s 2)
+        (pq : p ≡ placeOf fresh (oct s 0)) where
       inner : (y : Layout) → y ≡ layoutOf (attributes p (b + z) (part s z n))
           → y ≡ layoutOf (attributes (placeOf fresh (oct s 0)) (b + headSize s) (part s (headSize s) (be16 s 2)))
       inner y q =

@@ -3,11 +3,11 @@
 -- SA's Group Key Bag, with WRAP_KEY's layout". In these definitions `fresh` says whether fresh keys are read in the Rekey SA's bag.
 use Prim.Native.Nat.{ℕ}
 use mathlib.Core.List.{List}
-use mathlib.Core.Bool.{Bool}
+use mathlib.Core.Bool.{Bool, cond}
 use lib.Dec.{eqb}
-use Rattle.ikev2_numbers.specs.Codes.{structureLengthAt}
+use Rattle.ikev2_numbers.specs.Codes.{noProtocol, structureLengthAt}
 use Rattle.octets.specs.Numbers.{oct}
-use Rattle.octets.specs.Walk.{be16, either, Reader, mapped, opened, within, many}
+use Rattle.octets.specs.Walk.{be16, Reader, mapped, opened, within, many}
 use Rattle.wire_attributes.specs.Attribute.{Attribute}
 use Rattle.wire_attributes.specs.Place.{inBag}
 use Rattle.wire_attributes.specs.declared.tables.Place.{Place}
@@ -32,7 +32,7 @@ pub data Bag : Type 0 where
 
 -- the place of a key bag's attributes, by the bag's first octet
 abbrev pub placeOf : Bool → ℕ → Place
-placeOf fresh p = either (eqb p 0) place.MemberBag (inBag fresh p)
+placeOf fresh p = cond (eqb p noProtocol) place.MemberBag (inBag fresh p)
 
 -- the Group Key Bag of protocol `p` with the SPI `x` and the attributes `l`
 abbrev pub groupKeyBagOf : Bool → ℕ → List ℕ → List Attribute → GroupKeyBag
@@ -41,7 +41,7 @@ groupKeyBagOf fresh p x l = record { protocol = p; spi = x; keys = saKeys (inBag
 -- the key bag at the start of `s`, with the attributes `l`
 abbrev pub bagOf : Bool → List ℕ → List Attribute → Bag
 bagOf fresh s l =
-    either (eqb (oct s 0) 0) (memberKeys (record { keys = wrapKeys place.MemberBag l }))
+    cond (eqb (oct s 0) noProtocol) (memberKeys (record { keys = wrapKeys place.MemberBag l }))
     (groupKeys (groupKeyBagOf fresh (oct s 0) (headSpi s) l))
 
 unfoldable pub bag : Bool → Reader Bag

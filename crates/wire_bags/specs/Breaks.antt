@@ -1,6 +1,6 @@
 -- WHERE KEY BAGS BREAK, defined without the readers (document 02, T-06): `s` is the octets from the bag's first on, to the end of its
--- payload, `b` the offset of that first octet, and `o` the offset that number 1 carries. `fresh` says whether fresh keys are read in the Rekey
--- SA's bag (document 02, T-11).
+-- payload, `b` the offset of that first octet, and `o` the offset that number 1 carries. `fresh` says whether fresh keys are read in the
+-- Rekey SA's bag (document 02, T-11).
 use Prim.Native.Nat.{ℕ, _+_}
 use mathlib.Core.List.{List}
 use mathlib.Core.Bool.{Bool}

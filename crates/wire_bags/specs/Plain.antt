@@ -1,4 +1,5 @@
--- A key bag as it is read where fresh keys are skipped (document 02, T-11): "Elsewhere, and with the profile off, the attribute is skipped."
+-- A key bag as it is read where fresh keys are skipped (document 02, T-11): "Elsewhere, and with the profile off, the attribute is
+-- skipped."
 use mathlib.Core.List.{[]}
 use Rattle.wire_bags.specs.Bag.{GroupKeyBag, Bag, groupKeys, memberKeys}
 

@@ -69,7 +69,8 @@ read (whole x rest) = map (λ (p : Payload). p .critical) (x .payloads)
 read (broken o) = []
 
 -- the tree stays the same
-ignored-in-sample : map (λ (c : Change). frame false (set sample (c .at) (c .octet))) changes ≡ map (λ (c : Change). frame false sample) changes
+ignored-in-sample : map (λ (c : Change). frame false (set sample (c .at) (c .octet))) changes
+    ≡ map (λ (c : Change). frame false sample) changes
 unfolding frame payload body policy suite saBody selector transform bag attribute many chain chainUpTo number valuesOf stretches
 ignored-in-sample = refl
 

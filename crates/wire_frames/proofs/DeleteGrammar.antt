@@ -2,16 +2,16 @@
 use Prim.Native.Nat.{ℕ, zero, suc, _+_, _-_, _*_}
 use mathlib.Core.Path.{_≡_, refl, ap, sym, _∙_}
 use mathlib.Core.List.{List, [], _∷_, _++_}
-use mathlib.Core.Bool.{Bool, true, false}
+use mathlib.Core.Bool.{Bool, true, false, cond, _&&_}
 use native.Mathlib.Nat.{mul-suc, mul-zero}
 use native.Mathlib.Omega.{arith}
 use borrow.Author.Tests.{le-leb, leb-true, eq-eqb, eqb-true}
 use lib.Dec.{leb, eqb}
 use lib.ListN.{length, take, drop, length-append, length-drop, take-append-drop}
 use lib.Seq.{length-take-le, take-at, drop-at}
+use Rattle.lists.proofs.Cases.{and-parts}
 use Rattle.octets.specs.Numbers.{oct}
-use Rattle.octets.specs.Walk.{be16, either, both}
-use Rattle.octets.proofs.Walks.{both-true}
+use Rattle.octets.specs.Walk.{be16}
 use Rattle.wire_frames.specs.Delete.{Delete, stretches, deleteOf, deleteFits}
 use Rattle.wire_frames.specs.Grammar.{Each, none, more, joined, IsDelete}
 
@@ -52,9 +52,9 @@ filled k (more {o} {l} e r) =
 module _ (s : List ℕ) where
   pub delete-to : deleteFits s ≡ true → IsDelete s (deleteOf s)
   delete-to e =
-      let last = either (eqb (oct s 0) 3) (eqb (oct s 1) 4) true in
-      let f = both-true (leb 4 (length s)) (both (eqb (4 + oct s 1 * be16 s 2) (length s)) last) e in
-      let g = both-true (eqb (4 + oct s 1 * be16 s 2) (length s)) last (f .1) in
+      let last = cond (eqb (oct s 0) 3) (eqb (oct s 1) 4) true in
+      let f = and-parts (leb 4 (length s)) (eqb (4 + oct s 1 * be16 s 2) (length s) && last) e in
+      let g = and-parts (eqb (4 + oct s 1 * be16 s 2) (length s)) last (f .1) in
       let n = eqb-true (4 + oct s 1 * be16 s 2) (length s) (g .0) in
       let c = cuts (be16 s 2) (oct s 1) (drop 4 s) (rw length-drop (omega arith)) in
       record {
@@ -63,7 +63,7 @@ module _ (s : List ℕ) where
         count = sym (c .count);
         each = c .each;
         spis = sym (c .whole);
-        esp = λ p. eqb-true (oct s 1) 4 (ap (λ (t : Bool). either t (eqb (oct s 1) 4) true) (sym (eq-eqb (oct s 0) 3 p)) ∙ g .1);
+        esp = λ p. eqb-true (oct s 1) 4 (ap (λ (t : Bool). cond t (eqb (oct s 1) 4) true) (sym (eq-eqb (oct s 0) 3 p)) ∙ g .1);
       }
 
   pub delete-from : (d : Delete) → IsDelete s d → (deleteFits s ≡ true) × (deleteOf s ≡ d)
@@ -71,10 +71,10 @@ module _ (s : List ℕ) where
       let l = i .least in
       let n : 4 + oct s 1 * be16 s 2 ≡ length s =
       omega (arith, ap (λ (y : ℕ). oct s 1 * y) (i .count), filled (oct s 1) (i .each), ap length (i .spis), length-drop 4 s) in
-      let e : either (eqb (oct s 0) 3) (eqb (oct s 1) 4) true ≡ true = last (eqb (oct s 0) 3) refl in (
-        ap (λ (t : Bool). both t (both (eqb (4 + oct s 1 * be16 s 2) (length s)) (either (eqb (oct s 0) 3) (eqb (oct s 1) 4) true)))
+      let e : cond (eqb (oct s 0) 3) (eqb (oct s 1) 4) true ≡ true = last (eqb (oct s 0) 3) refl in (
+        ap (λ (t : Bool). t && (eqb (4 + oct s 1 * be16 s 2) (length s) && cond (eqb (oct s 0) 3) (eqb (oct s 1) 4) true))
             (le-leb 4 (length s) l)
-            ∙ ap (λ (t : Bool). both t (either (eqb (oct s 0) 3) (eqb (oct s 1) 4) true)) (eq-eqb (4 + oct s 1 * be16 s 2) (length s) n)
+            ∙ ap (λ (t : Bool). t && cond (eqb (oct s 0) 3) (eqb (oct s 1) 4) true) (eq-eqb (4 + oct s 1 * be16 s 2) (length s) n)
             ∙ e,
         λ j. record {
           protocol = i .protocol j;
@@ -82,6 +82,6 @@ module _ (s : List ℕ) where
         },
       )
     where
-      last : (t : Bool) → eqb (oct s 0) 3 ≡ t → either t (eqb (oct s 1) 4) true ≡ true
+      last : (t : Bool) → eqb (oct s 0) 3 ≡ t → cond t (eqb (oct s 1) 4) true ≡ true
       last true e = eq-eqb (oct s 1) 4 (i .esp (sym (i .protocol) ∙ eqb-true (oct s 0) 3 e))
       last false e = refl

@@ -3,14 +3,14 @@
 use Prim.Native.Nat.{ℕ, _/_, _<_, _≤_}
 use mathlib.Core.Path.{_≡_, refl, ap, sym, _∙_, subst}
 use mathlib.Core.List.{List, [], _∷_}
-use mathlib.Core.Bool.{Bool, false}
+use mathlib.Core.Bool.{Bool, false, _&&_}
 use mathlib.Core.Logic.{_⊎_, inl, inr, _↔_}
 use native.Mathlib.Omega.{arith}
 use borrow.Author.Tests.{lt-leb, leb-false, ne-eqb, eqb-false}
 use lib.Dec.{leb, eqb}
 use lib.ListN.{length, drop, length-drop}
 use Rattle.octets.specs.Numbers.{oct}
-use Rattle.octets.specs.Walk.{be32, both, Reading, whole, broken, mapped}
+use Rattle.octets.specs.Walk.{be32, Reading, whole, broken, mapped}
 use Rattle.octets.specs.Breaks.{own, inside}
 use Rattle.octets.proofs.Grammar.{reads, read}
 use Rattle.octets.proofs.BreakLaws.{broken-at, not-broken, mapped-broken, not-left, not-right, one-not}
@@ -41,38 +41,39 @@ module _ (s : List ℕ) where
   header-unfit : FaultOfHeader s → headerFits s ≡ false
   unfolding sized-so version-2
   header-unfit (under h) =
-      not-left (leb 28 (length s)) (both (leb (length s) 16384) (both sized-so version-2)) (lt-leb 28 (length s) h)
+      not-left (leb 28 (length s)) (leb (length s) 16384 && (sized-so && version-2)) (lt-leb 28 (length s) h)
   header-unfit (over h) =
-      not-right (leb 28 (length s)) (both (leb (length s) 16384) (both sized-so version-2))
-      (not-left (leb (length s) 16384) (both sized-so version-2) (lt-leb (length s) 16384 h))
+      not-right (leb 28 (length s)) (leb (length s) 16384 && (sized-so && version-2))
+      (not-left (leb (length s) 16384) (sized-so && version-2) (lt-leb (length s) 16384 h))
   header-unfit (other-length n) =
-      not-right (leb 28 (length s)) (both (leb (length s) 16384) (both sized-so version-2))
-      (not-right (leb (length s) 16384) (both sized-so version-2)
+      not-right (leb 28 (length s)) (leb (length s) 16384 && (sized-so && version-2))
+      (not-right (leb (length s) 16384) (sized-so && version-2)
       (not-left sized-so version-2 (ne-eqb (be32 s 24) (length s) n)))
   header-unfit (other-version n) =
-      not-right (leb 28 (length s)) (both (leb (length s) 16384) (both sized-so version-2))
-      (not-right (leb (length s) 16384) (both sized-so version-2)
+      not-right (leb 28 (length s)) (leb (length s) 16384 && (sized-so && version-2))
+      (not-right (leb (length s) 16384) (sized-so && version-2)
       (not-right sized-so version-2 (ne-eqb (oct s 17 / 16) 2 n)))
 
   header-fault : headerFits s ≡ false → FaultOfHeader s
   unfolding sized-so version-2
-  header-fault q = first (one-not (leb 28 (length s)) (both (leb (length s) 16384) (both sized-so version-2)) q)
+  header-fault q = first (one-not (leb 28 (length s)) (leb (length s) 16384 && (sized-so && version-2)) q)
     where
       third : (sized-so ≡ false) ⊎ (version-2 ≡ false) → FaultOfHeader s
       third (inl e) = other-length (eqb-false (be32 s 24) (length s) e)
       third (inr e) = other-version (eqb-false (oct s 17 / 16) 2 e)
 
-      second : (leb (length s) 16384 ≡ false) ⊎ (both sized-so version-2 ≡ false) → FaultOfHeader s
+      second : (leb (length s) 16384 ≡ false) ⊎ ((sized-so && version-2) ≡ false) → FaultOfHeader s
       second (inl e) = over (leb-false (length s) 16384 e)
       second (inr e) = third (one-not sized-so version-2 e)
 
-      first : (leb 28 (length s) ≡ false) ⊎ (both (leb (length s) 16384) (both sized-so version-2) ≡ false) → FaultOfHeader s
+      first : (leb 28 (length s) ≡ false) ⊎ ((leb (length s) 16384 && (sized-so && version-2)) ≡ false) → FaultOfHeader s
       first (inl e) = under (leb-false 28 (length s) e)
-      first (inr e) = second (one-not (leb (length s) 16384) (both sized-so version-2) e)
+      first (inr e) = second (one-not (leb (length s) 16384) (sized-so && version-2) e)
 
 -- THE FRAME
 module _ (fresh : Bool) (s : List ℕ) (o : ℕ) where
-  exactly-to : (x : Reading (List Payload)) → payloads fresh (oct s 16) 28 (drop 28 s) ≡ x → nothingLeft x ≡ broken o → BreaksPayloads fresh s o
+  exactly-to : (x : Reading (List Payload)) → payloads fresh (oct s 16) 28 (drop 28 s) ≡ x → nothingLeft x ≡ broken o
+      → BreaksPayloads fresh s o
   exactly-to (whole l []) e q = not-broken q
   exactly-to (whole l (y ∷ rest)) e q =
       let h : 0 < length (y ∷ rest) = omega arith in
@@ -88,10 +89,11 @@ module _ (fresh : Bool) (s : List ℕ) (o : ℕ) where
 
   payloads-from : BreaksPayloads fresh s o → nothingLeft (payloads fresh (oct s 16) 28 (drop 28 s)) ≡ broken o
   payloads-from (in-payload i) =
-      ap nothingLeft (chain-from noneNext (payload fresh) (takes fresh) (IsPayload fresh) (sound fresh) (complete fresh) (BreaksPayload fresh)
-      (payload-to fresh) (payload-from fresh) i)
+      ap nothingLeft (chain-from noneNext (payload fresh) (takes fresh) (IsPayload fresh) (sound fresh) (complete fresh)
+      (BreaksPayload fresh) (payload-to fresh) (payload-from fresh) i)
   payloads-from (left-over {l = l} {rest = rest} f h e) =
-      ap nothingLeft (reads noneNext (payload fresh) (takes fresh) (IsPayload fresh) (sound fresh) (complete fresh) f 28) ∙ over-left l rest h e
+      ap nothingLeft (reads noneNext (payload fresh) (takes fresh) (IsPayload fresh) (sound fresh) (complete fresh) f 28)
+      ∙ over-left l rest h e
 
 module _ (profile : Bool) (s : List ℕ) (o : ℕ) where
   abbrev reads-fresh : Bool
@@ -101,15 +103,16 @@ module _ (profile : Bool) (s : List ℕ) (o : ℕ) where
   unfolding frame
   frame-to q =
       let x = framePayloads profile s in
-      structure-to (FaultOfHeader s) (BreaksPayloads reads-fresh s o) 0 (headerFits s) (mapped (frameOf s) x) o (header-fault s) (header-unfit s)
-      (λ t e. exactly-to reads-fresh s o (payloads reads-fresh (oct s 16) 28 (drop 28 s)) refl (mapped-broken (frameOf s) x o e)) q
+      structure-to (FaultOfHeader s) (BreaksPayloads reads-fresh s o) 0 (headerFits s) (mapped (frameOf s) x) o (header-fault s)
+      (header-unfit s) (λ t e. exactly-to reads-fresh s o (payloads reads-fresh (oct s 16) 28 (drop 28 s)) refl
+      (mapped-broken (frameOf s) x o e)) q
 
   pub frame-from : BreaksFrame profile s o → frame profile s ≡ broken o
   unfolding frame
   frame-from i =
       let x = framePayloads profile s in
-      structure-from (FaultOfHeader s) (BreaksPayloads reads-fresh s o) 0 (headerFits s) (mapped (frameOf s) x) o (header-fault s) (header-unfit s)
-      (λ j. ap (mapped (frameOf s)) (payloads-from reads-fresh s o j)) i
+      structure-from (FaultOfHeader s) (BreaksPayloads reads-fresh s o) 0 (headerFits s) (mapped (frameOf s) x) o (header-fault s)
+      (header-unfit s) (λ j. ap (mapped (frameOf s)) (payloads-from reads-fresh s o j)) i
 
   -- "Number 1 carries the offset of the innermost payload, policy, bag, selector, transform or attribute whose layout broke first": the
   -- octets are broken at o exactly when the relation holds of o
@@ -120,7 +123,8 @@ module _ (profile : Bool) (s : List ℕ) (o : ℕ) where
   pub where-broken : BreaksFrame profile s o → (o ≡ 0) ⊎ ((28 ≤ o) × (o < length s))
   where-broken (own f e) = inl e
   where-broken (inside n (left-over f h e)) = inl e
-  where-broken (inside n (in-payload i)) = go (among-chain noneNext (IsPayload reads-fresh) (BreaksPayload reads-fresh) 0 (among-payload reads-fresh) i)
+  where-broken (inside n (in-payload i)) =
+      go (among-chain noneNext (IsPayload reads-fresh) (BreaksPayload reads-fresh) 0 (among-payload reads-fresh) i)
     where
       go : AmongOr 0 28 (drop 28 s) o → (o ≡ 0) ⊎ ((28 ≤ o) × (o < length s))
       go (inl e) = inl e
@@ -173,7 +177,9 @@ module _ (profile : Bool) (s : List ℕ) where
   pub figure-lies : (figure profile s ≡ 0) ⊎ ((28 ≤ figure profile s) × (figure profile s < length s))
   figure-lies = go (whole-or-broken profile s)
     where
-      go : ((x : Frame) × IsFrame profile s x) ⊎ ((o : ℕ) × BreaksFrame profile s o) → (figure profile s ≡ 0) ⊎ ((28 ≤ figure profile s) × (figure profile s < length s))
+      go : ((x : Frame) × IsFrame profile s x) ⊎ ((o : ℕ) × BreaksFrame profile s o) →
+          (figure profile s ≡ 0) ⊎ ((28 ≤ figure profile s) × (figure profile s < length s))
       go (inl i) = inl (figure-whole (i .0) (i .1))
       go (inr i) =
-          subst (λ (o : ℕ). (o ≡ 0) ⊎ ((28 ≤ o) × (o < length s))) (sym (figure-broken (i .0) (i .1))) (where-broken profile s (i .0) (i .1))
+          subst (λ (o : ℕ). (o ≡ 0) ⊎ ((28 ≤ o) × (o < length s))) (sym (figure-broken (i .0) (i .1)))
+          (where-broken profile s (i .0) (i .1))

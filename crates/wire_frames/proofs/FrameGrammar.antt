@@ -2,17 +2,18 @@
 use Prim.Native.Nat.{ℕ, _+_, _-_, _/_, _≤_}
 use mathlib.Core.Path.{_≡_, refl, ap, sym, _∙_, subst}
 use mathlib.Core.List.{List, [], _∷_, _++_}
-use mathlib.Core.Bool.{Bool, true, false}
+use mathlib.Core.Bool.{Bool, true, false, cond, _&&_}
 use native.Mathlib.Omega.{arith}
 use borrow.Author.Tests.{le-leb, leb-true, eq-eqb, ne-eqb, eqb-true, eqb-false}
 use lib.Dec.{leb, eqb}
 use lib.ListN.{length, drop, length-drop}
 use lib.Seq.{take-all, drop-length}
+use Rattle.lists.proofs.Cases.{and-parts}
 use Rattle.octets.specs.Numbers.{oct}
-use Rattle.octets.specs.Walk.{be16, be32, part, either, both, Reading, whole, broken, mapped, opened, closed}
+use Rattle.octets.specs.Walk.{be16, be32, part, Reading, whole, broken, mapped, opened, closed}
 use Rattle.octets.specs.Walk.{within, Linked, Spans}
 use Rattle.octets.proofs.Numerals.{sized-is}
-use Rattle.octets.proofs.Walks.{both-true, begun-some, opened-is}
+use Rattle.octets.proofs.Walks.{begun-some, opened-is}
 use Rattle.octets.proofs.Local.{extended, oct-append, be16-append, size-append, mapped-extend, opened-extend, begun-extend, within-extend}
 use Rattle.octets.proofs.Local.{Local, exact, split}
 use Rattle.octets.proofs.Inverse.{inverse-mapped, inverse-opened, inverse-begun, inverse-within}
@@ -42,7 +43,7 @@ module _ (fresh : Bool) where
     body-to b c left = go (eqb k 51) (eqb k 52) (eqb k 42) refl refl refl
       where
         go : (x y z : Bool) → eqb k 51 ≡ x → eqb k 52 ≡ y → eqb k 42 ≡ z
-            → either x (mapped gsa (policies b s)) (either y (mapped kd (bags fresh b s)) (either z (opened h (deleteFits s) (whole (delete
+            → cond x (mapped gsa (policies b s)) (cond y (mapped kd (bags fresh b s)) (cond z (opened h (deleteFits s) (whole (delete
             (deleteOf s)) []))
             (whole unread []))) ≡ whole c left → IsContent fresh k s c
         go true y z ex ey ez q =
@@ -143,7 +144,8 @@ module _ (fresh : Bool) where
           least = omega (arith, g .0);
           content =
               subst (IsContent fresh k (drop 4 o)) c
-              (subst (λ (y : List ℕ). IsContent fresh k y (f .held)) d (body-to k b (part o 4 (be16 o 2)) (b + 4) (f .held) (f .left) (f .inner)));
+              (subst (λ (y : List ℕ). IsContent fresh k y (f .held)) d
+              (body-to k b (part o 4 (be16 o 2)) (b + 4) (f .held) (f .left) (f .inner)));
         }
 
     from : (b : ℕ) (o : List ℕ) (x : Linked ℕ Payload) → IsPayload fresh k o (x .item) (x .next) → payload fresh k b o ≡ whole x []
@@ -152,27 +154,27 @@ module _ (fresh : Bool) where
         let l = i .least in
         let n = i .size in
         let f : payloadFits o ≡ true =
-        ap (λ (t : Bool). both t (leb (be16 o 2) (length o))) (le-leb 4 (be16 o 2) (omega arith)) ∙ le-leb (be16 o 2) (length o)
+        ap (λ (t : Bool). t && leb (be16 o 2) (length o)) (le-leb 4 (be16 o 2) (omega arith)) ∙ le-leb (be16 o 2) (length o)
         (omega arith) in
         let d : drop 4 o ≡ part o 4 (be16 o 2) = sym (take-all (be16 o 2 - 4) (drop 4 o) (rw length-drop (omega arith))) in
         let w : within 4 (be16 o 2) (body fresh k b) b o ≡ whole (x .item .content) (drop (be16 o 2) o) =
         ap (closed (drop (be16 o 2) o))
-        (body-from k b (part o 4 (be16 o 2)) (x .item .content) (subst (λ (y : List ℕ). IsContent fresh k y (x .item .content)) d (i .content))
-        (b + 4)) in
+        (body-from k b (part o 4 (be16 o 2)) (x .item .content) (subst (λ (y : List ℕ). IsContent fresh k y (x .item .content)) d
+        (i .content)) (b + 4)) in
         let e : payloadOf k o (x .item .content) ≡ x =
         λ j. record { item = record { kind = i .kind j; critical = i .critical j; content = x .item .content }; next = i .following j } in
         begun-some 0 o (opened b (payloadFits o) (mapped (payloadOf k o) (within 4 (be16 o 2) (body fresh k b) b o))) (λ y. omega arith)
         ∙ ap (λ (t : Bool). opened b t (mapped (payloadOf k o) (within 4 (be16 o 2) (body fresh k b) b o))) f
         ∙ ap (mapped (payloadOf k o)) w ∙ (λ j. whole (e j) (drop (n j) o)) ∙ ap (whole x) (drop-length o)
 
-  pub sound : (k : ℕ) (b : ℕ) (s : List ℕ) (x : Linked ℕ Payload) (rest : List ℕ) → noneNext k s ≡ false → payload fresh k b s ≡ whole x rest
-      → Splits (IsPayload fresh) k s (x .item) (x .next) rest
+  pub sound : (k : ℕ) (b : ℕ) (s : List ℕ) (x : Linked ℕ Payload) (rest : List ℕ) → noneNext k s ≡ false
+      → payload fresh k b s ≡ whole x rest → Splits (IsPayload fresh) k s (x .item) (x .next) rest
   sound k b s x rest e q =
       let f = split (payload fresh k) 4 sizeAt (local k) b s x rest q in
       record { octets = f .octets; joined = f .joined; is = to k b (f .octets) x (f .alone) }
 
-  pub complete : (k : ℕ) (b : ℕ) (o rest : List ℕ) (x : Linked ℕ Payload) → noneNext k (o ++ rest) ≡ false → IsPayload fresh k o (x .item) (x .next)
-      → payload fresh k b (o ++ rest) ≡ whole x rest
+  pub complete : (k : ℕ) (b : ℕ) (o rest : List ℕ) (x : Linked ℕ Payload) → noneNext k (o ++ rest) ≡ false
+      → IsPayload fresh k o (x .item) (x .next) → payload fresh k b (o ++ rest) ≡ whole x rest
   complete k b o rest x e i = exact (payload fresh k) 4 sizeAt (local k) b o rest x (from k b o x i)
 
 -- THE FRAME
@@ -189,10 +191,10 @@ read-frame profile s x rest q =
     let f = inverse-opened 0 (headerFits s) (mapped (frameOf s) (framePayloads profile s)) x rest q in
     let g = inverse-mapped (frameOf s) (framePayloads profile s) x rest (f .1) in
     let r = exact-rest (payloads fresh (firstPayload s) 28 (drop 28 s)) (g .item) rest (g .is) in
-    let h₃ = both (eqb (be32 s 24) (length s)) (eqb (oct s 17 / 16) 2) in
-    let h₁ = both-true (leb 28 (length s)) (both (leb (length s) 16384) h₃) (f .0) in
-    let h₂ = both-true (leb (length s) 16384) h₃ (h₁ .1) in
-    let h = both-true (eqb (be32 s 24) (length s)) (eqb (oct s 17 / 16) 2) (h₂ .1) in
+    let h₃ = (eqb (be32 s 24) (length s) && eqb (oct s 17 / 16) 2) in
+    let h₁ = and-parts (leb 28 (length s)) (leb (length s) 16384 && h₃) (f .0) in
+    let h₂ = and-parts (leb (length s) 16384) h₃ (h₁ .1) in
+    let h = and-parts (eqb (be32 s 24) (length s)) (eqb (oct s 17 / 16) 2) (h₂ .1) in
     subst (IsFrame profile s) (g .gives)
     (record {
       least = leb-true 28 (length s) (h₁ .0);
@@ -211,10 +213,10 @@ unfolding frame
 frame-read profile s x i =
     let fresh = readsFresh profile (oct s 18) in
     let fit : headerFits s ≡ true =
-    ap (λ (t : Bool). both t (both (leb (length s) 16384) (both (eqb (be32 s 24) (length s)) (eqb (oct s 17 / 16) 2)))) (le-leb 28
+    ap (λ (t : Bool). t && (leb (length s) 16384 && (eqb (be32 s 24) (length s) && eqb (oct s 17 / 16) 2))) (le-leb 28
     (length s) (i .least))
-    ∙ ap (λ (t : Bool). both t (both (eqb (be32 s 24) (length s)) (eqb (oct s 17 / 16) 2))) (le-leb (length s) 16384 (i .most))
-    ∙ ap (λ (t : Bool). both t (eqb (oct s 17 / 16) 2)) (eq-eqb (be32 s 24) (length s) (i .size)) ∙ eq-eqb (oct s 17 / 16) 2 (i .major) in
+    ∙ ap (λ (t : Bool). t && (eqb (be32 s 24) (length s) && eqb (oct s 17 / 16) 2)) (le-leb (length s) 16384 (i .most))
+    ∙ ap (λ (t : Bool). t && eqb (oct s 17 / 16) 2) (eq-eqb (be32 s 24) (length s) (i .size)) ∙ eq-eqb (oct s 17 / 16) 2 (i .major) in
     let held = subst (λ (e : ℕ). Spans noneNext (IsPayload (readsFresh profile e)) (oct s 16) (drop 28 s) (x .payloads) [])
     (sym (i .exchange)) (i .payloads) in
     let p : payloads fresh (firstPayload s) 28 (drop 28 s) ≡ whole (x .payloads) [] =

@@ -2,15 +2,15 @@
 use Prim.Native.Nat.{ℕ, _+_, _-_, _*_, _/_, _<_, _≤_}
 use mathlib.Core.Path.{_≡_, refl, ap, sym, _∙_}
 use mathlib.Core.List.{List}
-use mathlib.Core.Bool.{Bool, true, false}
+use mathlib.Core.Bool.{Bool, true, false, cond, _&&_}
 use native.Mathlib.Nat.{mul-le-mul-left}
 use native.Mathlib.Omega.{arith}
 use borrow.Author.Tests.{le-leb, lt-leb, leb-true, eq-eqb, ne-eqb}
 use lib.Dec.{leb, eqb}
 use lib.ListN.{length}
+use Rattle.lists.proofs.Cases.{and-parts}
 use Rattle.octets.specs.Numbers.{oct}
-use Rattle.octets.specs.Walk.{be16, be32, either, both, sized}
-use Rattle.octets.proofs.Walks.{both-true}
+use Rattle.octets.specs.Walk.{be16, be32, sized}
 use Rattle.wire_frames.specs.Header.{firstPayload, headerFits, payloadFits, isCritical}
 use Rattle.wire_frames.specs.Delete.{deleteFits}
 use Rattle.wire_frames.specs.inner.Answers.{headerRead, payloadRead}
@@ -33,7 +33,7 @@ module _ (s : List ℕ) where
 
       module _ (l : n ≡ length s) (v : ℕ) (f : v ≡ oct s 17) where
         all-but : (t : Bool) → eqb (oct s 17 / 16) 2 ≡ t
-            → either t (header.Header (firstPayload s) (oct s 18) (be32 s 20)) header.Broken ≡ headerRead s
+            → cond t (header.Header (firstPayload s) (oct s 18) (be32 s 20)) header.Broken ≡ headerRead s
         all-but t q =
             simp (le-leb 28 (length s) h, le-leb (length s) 16384 k, eq-eqb (be32 s 24) (length s) (sym e ∙ l), q)
 
@@ -50,7 +50,7 @@ pub header-is : (s : List ℕ) (p x i : ℕ) → header.Header p x i ≡ headerR
     → (headerFits s ≡ true) × (p ≡ firstPayload s) × (x ≡ oct s 18)
 header-is s p x i = go (headerFits s) refl
   where
-    go : (t : Bool) → headerFits s ≡ t → header.Header p x i ≡ either t (header.Header (firstPayload s) (oct s 18)
+    go : (t : Bool) → headerFits s ≡ t → header.Header p x i ≡ cond t (header.Header (firstPayload s) (oct s 18)
         (be32 s 20)) header.Broken
         → (headerFits s ≡ true) × (p ≡ firstPayload s) × (x ≡ oct s 18)
     go true e q = (e, cc, cc)
@@ -59,7 +59,7 @@ header-is s p x i = go (headerFits s) refl
 pub header-not : (s : List ℕ) → header.Broken ≡ headerRead s → headerFits s ≡ false
 header-not s = go (headerFits s) refl
   where
-    go : (t : Bool) → headerFits s ≡ t → header.Broken ≡ either t (header.Header (firstPayload s) (oct s 18) (be32 s 20)) header.Broken
+    go : (t : Bool) → headerFits s ≡ t → header.Broken ≡ cond t (header.Header (firstPayload s) (oct s 18) (be32 s 20)) header.Broken
         → headerFits s ≡ false
     go true e q = let z : _≡_ {A = ℕ} 0 1 = cc in absurd (omega arith)
     go false e q = e
@@ -69,15 +69,15 @@ module _ (s : List ℕ) (r : Bool) (e : r ≡ sized 4 s) where
   pub payload-there : r ≡ true → (p c n : ℕ) → p ≡ oct s 0 → c ≡ oct s 1 → n ≡ be16 s 2 → payload.Payload p (leb 128 c) n ≡ payloadRead s
   payload-there t p c n pq cq nq =
       (λ j. payload.Payload (pq j) (leb 128 (cq j)) (nq j))
-      ∙ ap (λ (u : Bool). either u (payload.Payload (oct s 0) (isCritical s) (be16 s 2)) payload.Broken) (sym (sym e ∙ t))
+      ∙ ap (λ (u : Bool). cond u (payload.Payload (oct s 0) (isCritical s) (be16 s 2)) payload.Broken) (sym (sym e ∙ t))
 
   pub payload-cut : r ≡ false → payload.Broken ≡ payloadRead s
-  payload-cut t = ap (λ (u : Bool). either u (payload.Payload (oct s 0) (isCritical s) (be16 s 2)) payload.Broken) (sym (sym e ∙ t))
+  payload-cut t = ap (λ (u : Bool). cond u (payload.Payload (oct s 0) (isCritical s) (be16 s 2)) payload.Broken) (sym (sym e ∙ t))
 
 pub payload-is : (s : List ℕ) (p : ℕ) (c : Bool) (n : ℕ) → payload.Payload p c n ≡ payloadRead s → (payloadFits s ≡ true) × (n ≡ be16 s 2)
 payload-is s p c n = go (payloadFits s) refl
   where
-    go : (t : Bool) → payloadFits s ≡ t → payload.Payload p c n ≡ either t (payload.Payload (oct s 0) (isCritical s)
+    go : (t : Bool) → payloadFits s ≡ t → payload.Payload p c n ≡ cond t (payload.Payload (oct s 0) (isCritical s)
         (be16 s 2)) payload.Broken
         → (payloadFits s ≡ true) × (n ≡ be16 s 2)
     go true e q = (e, cc)
@@ -86,7 +86,7 @@ payload-is s p c n = go (payloadFits s) refl
 pub payload-not : (s : List ℕ) → payload.Broken ≡ payloadRead s → payloadFits s ≡ false
 payload-not s = go (payloadFits s) refl
   where
-    go : (t : Bool) → payloadFits s ≡ t → payload.Broken ≡ either t (payload.Payload (oct s 0) (isCritical s) (be16 s 2)) payload.Broken
+    go : (t : Bool) → payloadFits s ≡ t → payload.Broken ≡ cond t (payload.Payload (oct s 0) (isCritical s) (be16 s 2)) payload.Broken
         → payloadFits s ≡ false
     go true e q = let z : _≡_ {A = ℕ} 0 1 = cc in absurd (omega arith)
     go false e q = e
@@ -107,7 +107,7 @@ module _ (s : List ℕ) where
     not-filled k = simp (le-leb 4 (length s) h, ne-eqb (4 + oct s 1 * be16 s 2) (length s) (λ u. k (sym size-is ∙ u)))
 
     module _ (k : 4 + z * n ≡ length s) (p : ℕ) (g : p ≡ oct s 0) where
-      filled : (t : Bool) → eqb (oct s 0) 3 ≡ t → either t (eqb (oct s 1) 4) true ≡ deleteFits s
+      filled : (t : Bool) → eqb (oct s 0) 3 ≡ t → cond t (eqb (oct s 1) 4) true ≡ deleteFits s
       filled t q = simp (le-leb 4 (length s) h, eq-eqb (4 + oct s 1 * be16 s 2) (length s) (size-is ∙ k), q)
 
       pub esp : p ≡ 3 → eqb z 4 ≡ deleteFits s
@@ -119,7 +119,7 @@ module _ (s : List ℕ) where
 -- the frame's length
 pub header-long : (s : List ℕ) → headerFits s ≡ true → (28 ≤ length s) × (length s ≤ 16384)
 header-long s e =
-    let rest = both (eqb (be32 s 24) (length s)) (eqb (oct s 17 / 16) 2) in
-    let f = both-true (leb 28 (length s)) (both (leb (length s) 16384) rest) e in
-    let g = both-true (leb (length s) 16384) rest (f .1) in
+    let rest = (eqb (be32 s 24) (length s) && eqb (oct s 17 / 16) 2) in
+    let f = and-parts (leb 28 (length s)) (leb (length s) 16384 && rest) e in
+    let g = and-parts (leb (length s) 16384) rest (f .1) in
     (leb-true 28 (length s) (f .0), leb-true (length s) 16384 (g .0))

@@ -27,14 +27,16 @@ module _ (fresh : Bool) where
   content-sized k s (delete d) (is-delete e i) = length-all s
   content-sized k s unread (is-unread a b c) = length-none s
 
-  content-alike : (k : ℕ) (s : List ℕ) (c : Content) (i : IsContent fresh k s c) (t : List ℕ) → Alike (contentMask fresh k s c i) s t → IsContent fresh k t c
+  content-alike : (k : ℕ) (s : List ℕ) (c : Content) (i : IsContent fresh k s c) (t : List ℕ) → Alike (contentMask fresh k s c i) s t
+      → IsContent fresh k t c
   content-alike k s (gsa l) (is-gsa e p) t h = is-gsa e (policies-alike p t h)
   content-alike k s (kd l) (is-kd e b) t h = is-kd e (bags-alike fresh b t h)
   content-alike k s (delete d) (is-delete e i) t h = is-delete e (subst (λ (u : List ℕ). IsDelete u d) (alike-all s t h) i)
   content-alike k s unread (is-unread a b c) t h = is-unread a b c
 
   -- A PAYLOAD: the low seven bits of its octet 1 are reserved
-  payload-sized : (o : List ℕ) (x : Payload) (k next : ℕ) (i : IsPayload fresh k o x next) → length (payloadMask fresh o x k next i) ≡ length o
+  payload-sized : (o : List ℕ) (x : Payload) (k next : ℕ) (i : IsPayload fresh k o x next)
+      → length (payloadMask fresh o x k next i) ≡ length o
   payload-sized o x k next i = omega (arith, content-sized k (drop 4 o) (x .content) (i .content), length-drop 4 o, i .least)
 
   pub payload-alike : (o : List ℕ) (x : Payload) (k next : ℕ) (i : IsPayload fresh k o x next) (t : List ℕ)
@@ -58,7 +60,8 @@ ignored-octets profile s t x i h =
     let fresh = readsFresh profile (x .header .exchange) in
     let m = frameMask profile s x i in
     let n = same-length m s t h in
-    let c = chain-alike (payloadMask fresh) (payload-sized fresh) (payload-alike fresh) (λ k a b. refl) [] (i .payloads) (drop 28 t) (alike-drop m s t h 28) in
+    let c = chain-alike (payloadMask fresh) (payload-sized fresh) (payload-alike fresh) (λ k a b. refl) [] (i .payloads) (drop 28 t)
+    (alike-drop m s t h 28) in
     let none : [] ≡ c .left = alike-all [] (c .left) (c .alike) in
     let first = h .each 16 in
     record {

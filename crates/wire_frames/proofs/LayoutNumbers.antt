@@ -22,14 +22,16 @@ use Rattle.wire_frames.proofs.FrameBreaks.{layout-broken}
 -- "1: .. any first octet, length, SPI size, selector type, attribute format or end that breaks the layouts"
 pub number-0 : (profile : Bool) (s : List ℕ) → (layoutNumber (frameLayout profile s) ≡ 0) ↔ ((x : Frame) × IsFrame profile s x)
 unfolding frameLayout
-number-0 profile s = (go (frame profile s) refl, λ i. ap (λ (y : Reading Frame). layoutNumber (layoutOf y)) (frame-read profile s (i .0) (i .1)))
+number-0 profile s =
+    (go (frame profile s) refl, λ i. ap (λ (y : Reading Frame). layoutNumber (layoutOf y)) (frame-read profile s (i .0) (i .1)))
   where
     go : (y : Reading Frame) → frame profile s ≡ y → layoutNumber (layoutOf (frame profile s)) ≡ 0 → (x : Frame) × IsFrame profile s x
     go (whole x rest) e q = (x, read-frame profile s x rest e)
     go (broken o) e q = absurd (omega (arith, ap (λ (y : Reading Frame). layoutNumber (layoutOf y)) e, q))
 
 -- number 1 carries the offset of the structure that broke first (document 02, T-06); a whole frame has none
-pub number-1 : (profile : Bool) (s : List ℕ) (o : ℕ) → frame profile s ≡ broken o → (layoutNumber (frameLayout profile s) ≡ 1) × (layoutOffset (frameLayout profile s) ≡ o ∷ [])
+pub number-1 : (profile : Bool) (s : List ℕ) (o : ℕ) → frame profile s ≡ broken o →
+    (layoutNumber (frameLayout profile s) ≡ 1) × (layoutOffset (frameLayout profile s) ≡ o ∷ [])
 unfolding frameLayout
 number-1 profile s o e =
     (ap (λ (y : Reading Frame). layoutNumber (layoutOf y)) e, ap (λ (y : Reading Frame). layoutOffset (layoutOf y)) e)

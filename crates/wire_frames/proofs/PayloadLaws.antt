@@ -77,13 +77,15 @@ module _ (fresh : Bool) where
             spot-mapped (payloadOf k s) s (within 4 (be16 s 2) (body fresh k b) b s)
             ∙ sym (ap (spotOf s) (is ∙ opened-is b (payloadFits s) held fit))
 
-        inner : (y : Layout) → y ≡ layoutOf (body fresh k b (b + 4) (part s 4 n)) → y ≡ layoutOf (body fresh k b (b + 4) (part s 4 (be16 s 2)))
+        inner : (y : Layout) → y ≡ layoutOf (body fresh k b (b + 4) (part s 4 n))
+            → y ≡ layoutOf (body fresh k b (b + 4) (part s 4 (be16 s 2)))
         inner y q = q ∙ ap (λ (u : ℕ). layoutOf (body fresh k b (b + 4) (part s 4 u))) g
 
         pub good : layout.Whole ≡ layoutOf (body fresh k b (b + 4) (part s 4 n)) → spot.Ends n ≡ spotOf s (payload fresh k b s)
         good q = ap spot.Ends g ∙ held-whole (body fresh k b) b s 4 (be16 s 2) (sized-is s 4 fit .1) (inner layout.Whole q) ∙ out
 
-        pub inner-broken : (o : ℕ) → layout.Broken o ≡ layoutOf (body fresh k b (b + 4) (part s 4 n)) → spot.Broken o ≡ spotOf s (payload fresh k b s)
+        pub inner-broken : (o : ℕ) → layout.Broken o ≡ layoutOf (body fresh k b (b + 4) (part s 4 n))
+            → spot.Broken o ≡ spotOf s (payload fresh k b s)
         inner-broken o q = held-broken (body fresh k b) b s 4 (be16 s 2) o (inner (layout.Broken o) q) ∙ out
 
   pub takes : (k b : ℕ) (s : List ℕ) → Takes s (payload fresh k b s)
@@ -145,19 +147,18 @@ module _ (fresh : Bool) where
           let n = next-is (payload fresh k) (takes k) b s at l e q in
           let i = n .some in
           let g : n .item .next ≡ m = next-of k (b + at) (drop at s) (n .item) (drop (at + e) s) (n .is) ∙ at-first s at ∙ sym f in
-          chain-goes noneNext (payload fresh) takes b s (outline (payloads fresh first b s)) at k old (ne-eqb k 0 z) (n .item) (at + e) (omega arith)
-          (n .inside) (n .is)
-          ∙ ap (λ (y : ℕ). outline (payloads fresh y (b + (at + e)) (drop (at + e) s))) g
+          chain-goes noneNext (payload fresh) takes b s (outline (payloads fresh first b s)) at k old (ne-eqb k 0 z) (n .item) (at + e)
+          (omega arith) (n .inside) (n .is) ∙ ap (λ (y : ℕ). outline (payloads fresh y (b + (at + e)) (drop (at + e) s))) g
         where
           at-first : (s : List ℕ) (at : ℕ) → oct (drop at s) 0 ≡ oct s at
           at-first s at = simp (getD-drop, add-zero)
 
-      pub tears : (o : ℕ) → spot.Broken o ≡ spotOf (tail s at) (payload fresh k (b + at) (tail s at)) → layout.Broken o ≡ layoutOf (nothingLeft
-          (payloads fresh first b s))
+      pub tears : (o : ℕ) → spot.Broken o ≡ spotOf (tail s at) (payload fresh k (b + at) (tail s at))
+          → layout.Broken o ≡ layoutOf (nothingLeft (payloads fresh first b s))
       tears o q =
           exact-breaks (payloads fresh first b s) o
-          (chain-breaks noneNext (payload fresh) takes b s (outline (payloads fresh first b s)) at k old (ne-eqb k 0 z) o (next-broken (payload fresh k)
-          (takes k) b s at l o q))
+          (chain-breaks noneNext (payload fresh) takes b s (outline (payloads fresh first b s)) at k old (ne-eqb k 0 z) o
+          (next-broken (payload fresh k) (takes k) b s at l o q))
 
     module _ (z : k ≡ 0) where
       stopped : outline (payloads fresh first b s) ≡ stops (drop at s)

@@ -6,10 +6,10 @@ use mathlib.Core.Bool.{Bool, true, false}
 use lib.ListN.{drop}
 use borrow.Author.Tests.{eqb-true}
 use lib.Dec.{eqb}
+use Rattle.lists.proofs.Cases.{bool-cases}
 use Rattle.ikev2_numbers.specs.Codes.{exchangeAt, gsaAuth, gsaInbandRekey, gsaRegistration, gsaRekey, headerOctets}
 use Rattle.octets.specs.Numbers.{oct}
 use Rattle.octets.specs.Walk.{Reading, whole, broken, mapped, opened, Spans, none, more}
-use Rattle.octets.proofs.Order.{bool-cases}
 use Rattle.wire_bags.proofs.PlainLaws.{bags-plain, none-in-bags}
 use Rattle.wire_frames.specs.Header.{headerFits, firstPayload}
 use Rattle.wire_frames.specs.Exchange.{exchangeOf, readsFresh}

@@ -2,12 +2,12 @@
 -- the size is 4 for ESP".
 use Prim.Native.Nat.{ℕ, zero, suc, _+_, _*_}
 use mathlib.Core.List.{List, [], _∷_}
-use mathlib.Core.Bool.{Bool, true}
+use mathlib.Core.Bool.{Bool, true, cond, _&&_}
 use lib.ListN.{length, take, drop}
 use lib.Dec.{leb, eqb}
 use Rattle.ikev2_numbers.specs.Codes.{dataSpiOctets, deleteCountAt, deleteHeadOctets, protocolEsp}
 use Rattle.octets.specs.Numbers.{oct}
-use Rattle.octets.specs.Walk.{be16, either, both}
+use Rattle.octets.specs.Walk.{be16}
 
 pub record Delete : Type 0 where
   pub protocol : ℕ
@@ -23,6 +23,6 @@ deleteOf s = record { protocol = oct s 0; spis = stretches (be16 s deleteCountAt
 
 abbrev pub deleteFits : List ℕ → Bool
 deleteFits s =
-    both (leb deleteHeadOctets (length s))
-    (both (eqb (deleteHeadOctets + oct s 1 * be16 s deleteCountAt) (length s))
-    (either (eqb (oct s 0) protocolEsp) (eqb (oct s 1) dataSpiOctets) true))
+    leb deleteHeadOctets (length s)
+    && (eqb (deleteHeadOctets + oct s 1 * be16 s deleteCountAt) (length s)
+    && cond (eqb (oct s 0) protocolEsp) (eqb (oct s 1) dataSpiOctets) true)

@@ -2,10 +2,9 @@
 -- each; document 01 says "in a registration" and "in a rekey" where a rule depends on it, document 02's T-02 what holds of the fourth.
 -- Whether fresh keys are read depends on the exchange and on the member's profile (document 02, T-11).
 use Prim.Native.Nat.{ℕ}
-use mathlib.Core.Bool.{Bool, true, false, _&&_}
+use mathlib.Core.Bool.{Bool, true, false, _&&_, cond}
 use lib.Dec.{eqb}
 use Rattle.ikev2_numbers.specs.Codes.{gsaAuth, gsaInbandRekey, gsaRegistration, gsaRekey}
-use Rattle.octets.specs.Walk.{either}
 use Rattle.wire_frames.specs.declared.exchanges.Exchange.{Exchange}
 use Rattle.wire_frames.specs.declared.exchanges.Wanted.the-variants as wanted
 use Rattle.wire_frames.specs.declared.exchanges.KeyZero.the-variants as keyZero
@@ -116,8 +115,8 @@ other = record {
 
 abbrev pub exchangeOf : ℕ → Exchange
 exchangeOf x =
-    either (eqb x gsaAuth) registration (either (eqb x gsaRegistration) registration
-    (either (eqb x gsaRekey) rekey (either (eqb x gsaInbandRekey) inband other)))
+    cond (eqb x gsaAuth) registration (cond (eqb x gsaRegistration) registration
+    (cond (eqb x gsaRekey) rekey (cond (eqb x gsaInbandRekey) inband other)))
 
 -- WHETHER FRESH KEYS ARE READ in a frame with the exchange type `x` that a member with this `profile` gets (document 02, T-11): "Elsewhere,
 -- and with the profile off, the attribute is skipped."

@@ -3,13 +3,13 @@
 -- the profile for them (document 02, T-11).
 use Prim.Native.Nat.{ℕ}
 use mathlib.Core.List.{List, [], _∷_}
-use mathlib.Core.Bool.{Bool, true}
+use mathlib.Core.Bool.{Bool, cond, _||_}
 use lib.ListN.{drop}
 use lib.Dec.{eqb}
 use Rattle.ikev2_numbers.specs.Codes.{headerOctets, noPayload, payloadAuth, payloadCert, payloadDelete, payloadGsa, payloadHeaderOctets}
 use Rattle.ikev2_numbers.specs.Codes.{payloadIdr, payloadKd, payloadNotify, structureLengthAt}
 use Rattle.octets.specs.Numbers.{oct}
-use Rattle.octets.specs.Walk.{be16, either, Reading, whole, broken, Reader, mapped, opened, begun, within, Linked, chain}
+use Rattle.octets.specs.Walk.{be16, Reading, whole, broken, Reader, mapped, opened, begun, within, Linked, chain}
 use Rattle.wire_attributes.specs.declared.Layout.{Layout}
 use Rattle.wire_attributes.specs.declared.Layout.the-variants as layout
 use Rattle.wire_attributes.specs.Answers.{layoutOf}
@@ -22,8 +22,8 @@ use Rattle.wire_frames.specs.Exchange.{readsFresh}
 -- "Known: IDr 36, CERT 37, AUTH 39, N 41, D 42, GSA 51, KD 52. The bodies of 36, 37, 39 and 41 are not read. Others are skipped"
 abbrev pub isKnown : ℕ → Bool
 isKnown k =
-    either (eqb k payloadIdr) true (either (eqb k payloadCert) true (either (eqb k payloadAuth) true (either (eqb k payloadNotify) true
-    (either (eqb k payloadDelete) true (either (eqb k payloadGsa) true (eqb k payloadKd))))))
+    eqb k payloadIdr || (eqb k payloadCert || (eqb k payloadAuth || (eqb k payloadNotify
+    || (eqb k payloadDelete || (eqb k payloadGsa || eqb k payloadKd)))))
 
 pub data Content : Type 0 where
   gsa : List Policy → Content
@@ -57,8 +57,8 @@ unreadBody b s = whole unread []
 -- the body of a payload of the kind `k` at the offset `h`
 unfoldable pub body : Bool → ℕ → ℕ → Reader Content
 body fresh k h b s =
-    either (eqb k payloadGsa) (gsaBody b s)
-    (either (eqb k payloadKd) (kdBody fresh b s) (either (eqb k payloadDelete) (deleteBody h b s) (unreadBody b s)))
+    cond (eqb k payloadGsa) (gsaBody b s)
+    (cond (eqb k payloadKd) (kdBody fresh b s) (cond (eqb k payloadDelete) (deleteBody h b s) (unreadBody b s)))
 
 -- the payload of the kind `k` at the start of `s`, with the content `c`, and the kind of the next
 abbrev pub payloadOf : ℕ → List ℕ → Content → Linked ℕ Payload

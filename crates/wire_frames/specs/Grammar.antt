@@ -9,7 +9,8 @@ use lib.ListN.{length, take, drop}
 use lib.Dec.{leb}
 use Rattle.ikev2_numbers.specs.Codes.{criticalBit, dataSpiOctets, deleteCountAt, deleteHeadOctets, exchangeAt, firstPayloadAt}
 use Rattle.ikev2_numbers.specs.Codes.{headerOctets, lengthAt, majorVersion, messageIdAt, minorVersions, mostOctets, payloadDelete}
-use Rattle.ikev2_numbers.specs.Codes.{payloadGsa, payloadHeaderOctets, payloadKd, protocolEsp, rekeySpiOctets, structureLengthAt, versionAt}
+use Rattle.ikev2_numbers.specs.Codes.{payloadGsa, payloadHeaderOctets, payloadKd, protocolEsp, headerSpisOctets, structureLengthAt}
+use Rattle.ikev2_numbers.specs.Codes.{versionAt}
 use Rattle.octets.specs.Numbers.{oct}
 use Rattle.octets.specs.Walk.{be16, be32, Spans}
 use Rattle.wire_policies.specs.Policy.{Policy}
@@ -55,14 +56,14 @@ pub record IsPayload (fresh : Bool) (k : ℕ) (o : List ℕ) (x : Payload) (next
   pub least : payloadHeaderOctets ≤ length o
   pub content : IsContent fresh k (drop payloadHeaderOctets o) (x .content)
 
--- "a plain 28-octet IKE header, then the opened payloads"; "Next payload 0 ends the frame exactly at its length". The exchange type says
+-- "a plain 28-octet IKE header .., then the opened payloads"; "Next payload 0 ends the frame exactly at its length". The exchange type says
 -- whether a member with the profile reads fresh keys
 pub record IsFrame (profile : Bool) (s : List ℕ) (x : Frame) : Type 0 where
   pub least : headerOctets ≤ length s
   pub most : length s ≤ mostOctets
   pub size : be32 s lengthAt ≡ length s
   pub major : oct s versionAt / minorVersions ≡ majorVersion
-  pub spi : take rekeySpiOctets s ≡ x .header .spi
+  pub spi : take headerSpisOctets s ≡ x .header .spi
   pub exchange : oct s exchangeAt ≡ x .header .exchange
   pub messageId : be32 s messageIdAt ≡ x .header .messageId
   pub payloads : Spans noneNext (IsPayload (readsFresh profile (x .header .exchange))) (oct s firstPayloadAt) (drop headerOctets s)

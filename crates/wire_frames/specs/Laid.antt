@@ -11,9 +11,9 @@ use Rattle.wire_frames.specs.Frame.{Frame, frameLayout}
 use Rattle.wire_frames.specs.Grammar.{IsFrame}
 use Rattle.wire_frames.specs.Breaks.{BreaksFrame}
 
--- `r` is the answer on `s` for a member with this `profile`. Number: "1: .. any first octet, length, SPI size, selector type, attribute format or end that breaks the
--- layouts", so 0 exactly where some tree fits the octets. Offset: "Number 1 carries the offset of the innermost payload, policy, bag,
--- selector, transform or attribute whose layout broke first", and a whole frame carries none
+-- `r` is the answer on `s` for a member with this `profile`. Number: "1: .. any first octet, length, SPI size, selector type, attribute
+-- format or end that breaks the layouts", so 0 exactly where some tree fits the octets. Offset: "Number 1 carries the offset of the
+-- innermost payload, policy, bag, selector, transform or attribute whose layout broke first", and a whole frame carries none
 pub record Laid (profile : Bool) (s : List ℕ) (r : Layout) : Type 0 where
   pub layout : r ≡ frameLayout profile s
   pub number : (layoutNumber r ≡ 0) ↔ ((x : Frame) × IsFrame profile s x)

@@ -2,14 +2,14 @@
 use Prim.Native.Nat.{ℕ, _+_, _-_, _<_, _≤_}
 use mathlib.Core.Path.{_≡_, refl, ap, sym, _∙_, subst}
 use mathlib.Core.List.{List, _++_}
-use mathlib.Core.Bool.{Bool, true, false}
+use mathlib.Core.Bool.{Bool, true, false, cond, _&&_, _||_}
 use mathlib.Core.Logic.{_⊎_, inl, inr}
 use native.Mathlib.Omega.{arith}
 use borrow.Author.Tests.{le-ltb, ltb-false, eq-eqb, ne-eqb, eqb-true, eqb-false}
 use lib.Dec.{ltb, eqb}
 use lib.ListN.{length, drop, length-append}
 use Rattle.octets.specs.Numbers.{oct}
-use Rattle.octets.specs.Walk.{be16, part, either, both, sized, Reading, whole, broken, Reader, mapped, closed, within, after, andThen}
+use Rattle.octets.specs.Walk.{be16, part, sized, Reading, whole, broken, Reader, mapped, closed, within, after, andThen}
 use Rattle.octets.proofs.BreakLaws.{mapped-broken, closed-broken, ThenBroken, at-first, at-second, then-broken}
 use Rattle.octets.proofs.BreakLaws.{not-left, not-right, one-not, unsized-fault, fault-unsized, passed}
 use Rattle.octets.proofs.BreakLaws.{structure-to, structure-from, row-to, row-from}
@@ -157,28 +157,28 @@ protocol-known t e =
 module _ (s : List ℕ) where
   pub head-unfit : FaultOfHead s → headFits s ≡ false
   head-unfit (by-length f) =
-      not-left (sized (headSize s) s) (both (firstKnown (oct s 0)) (spiSized s)) (fault-unsized (headSize s) s f)
+      not-left (sized (headSize s) s) (firstKnown (oct s 0) && spiSized s) (fault-unsized (headSize s) s f)
   head-unfit (unknown z f g k) =
-      not-right (sized (headSize s) s) (both (firstKnown (oct s 0)) (spiSized s))
+      not-right (sized (headSize s) s) (firstKnown (oct s 0) && spiSized s)
       (not-left (firstKnown (oct s 0)) (spiSized s)
-      (ap (λ (t : Bool). either t true (ltb 0 (spiSize (oct s 0)))) (ne-eqb (oct s 0) 0 z)
+      (ap (λ (t : Bool). t || ltb 0 (spiSize (oct s 0))) (ne-eqb (oct s 0) 0 z)
       ∙ le-ltb 0 (spiSize (oct s 0)) (omega (arith, no-protocol (oct s 0) f g k))))
   head-unfit (other-size z n) =
-      not-right (sized (headSize s) s) (both (firstKnown (oct s 0)) (spiSized s))
+      not-right (sized (headSize s) s) (firstKnown (oct s 0) && spiSized s)
       (not-right (firstKnown (oct s 0)) (spiSized s)
-      (ap (λ (t : Bool). either t true (eqb (oct s 1) (spiSize (oct s 0)))) (ne-eqb (oct s 0) 0 z)
+      (ap (λ (t : Bool). t || eqb (oct s 1) (spiSize (oct s 0))) (ne-eqb (oct s 0) 0 z)
       ∙ ne-eqb (oct s 1) (spiSize (oct s 0)) n))
 
   -- a test that a 0 passes
-  unless-zero : (x : Bool) → either (eqb (oct s 0) 0) true x ≡ false → (oct s 0 ≡ 0 → ⊥) × (x ≡ false)
+  unless-zero : (x : Bool) → (eqb (oct s 0) 0 || x) ≡ false → (oct s 0 ≡ 0 → ⊥) × (x ≡ false)
   unless-zero x = go (eqb (oct s 0) 0) refl
     where
-      go : (t : Bool) → eqb (oct s 0) 0 ≡ t → either t true x ≡ false → (oct s 0 ≡ 0 → ⊥) × (x ≡ false)
+      go : (t : Bool) → eqb (oct s 0) 0 ≡ t → (t || x) ≡ false → (oct s 0 ≡ 0 → ⊥) × (x ≡ false)
       go true e q = let w : _≡_ {A = ℕ} 0 1 = cc in absurd (omega arith)
       go false e q = (eqb-false (oct s 0) 0 e, q)
 
   pub head-fault : headFits s ≡ false → FaultOfHead s
-  head-fault q = go (one-not (sized (headSize s) s) (both (firstKnown (oct s 0)) (spiSized s)) q)
+  head-fault q = go (one-not (sized (headSize s) s) (firstKnown (oct s 0) && spiSized s) q)
     where
       rest : (firstKnown (oct s 0) ≡ false) ⊎ (spiSized s ≡ false) → FaultOfHead s
       rest (inl e) =
@@ -190,7 +190,7 @@ module _ (s : List ℕ) where
           let f = unless-zero (eqb (oct s 1) (spiSize (oct s 0))) e in
           other-size (f .0) (eqb-false (oct s 1) (spiSize (oct s 0)) (f .1))
 
-      go : (sized (headSize s) s ≡ false) ⊎ (both (firstKnown (oct s 0)) (spiSized s) ≡ false) → FaultOfHead s
+      go : (sized (headSize s) s ≡ false) ⊎ ((firstKnown (oct s 0) && spiSized s) ≡ false) → FaultOfHead s
       go (inl e) = by-length (unsized-fault (headSize s) s e)
       go (inr e) = rest (one-not (firstKnown (oct s 0)) (spiSized s) e)
 
@@ -204,7 +204,7 @@ module _ (b : ℕ) (s : List ℕ) (o : ℕ) where
   holds-to = go (eqb (oct s 0) 0) refl
     where
       go : (t : Bool) → eqb (oct s 0) 0 ≡ t
-          → either t (mapped groupWideOf (attributes place.GroupWidePolicy (b + headSize s) (part s (headSize s) (be16 s 2))))
+          → cond t (mapped groupWideOf (attributes place.GroupWidePolicy (b + headSize s) (part s (headSize s) (be16 s 2))))
           (mapped (groupSaOf s) (saBody b (inPolicy (oct s 0)) (b + headSize s) (part s (headSize s) (be16 s 2)))) ≡ broken o
           → BreaksHeld b s o
       go true e q =
@@ -220,11 +220,11 @@ module _ (b : ℕ) (s : List ℕ) (o : ℕ) where
   holds-from : BreaksHeld b s o → policyHolds b s (b + headSize s) (part s (headSize s) (be16 s 2)) ≡ broken o
   holds-from (in-wide z i) =
       let j = subst (λ (u : ℕ). BreaksAttributes place.GroupWidePolicy (b + u) (part s u (be16 s 2)) o) (sym (wide-place (oct s 0) z)) i in
-      ap (λ (t : Bool). either t (mapped groupWideOf (attributes place.GroupWidePolicy (b + headSize s) (part s (headSize s) (be16 s 2))))
+      ap (λ (t : Bool). cond t (mapped groupWideOf (attributes place.GroupWidePolicy (b + headSize s) (part s (headSize s) (be16 s 2))))
       (mapped (groupSaOf s) (saBody b (inPolicy (oct s 0)) (b + headSize s) (part s (headSize s) (be16 s 2))))) (eq-eqb (oct s 0) 0 z)
       ∙ ap (mapped groupWideOf) (attributes-from place.GroupWidePolicy (b + headSize s) (part s (headSize s) (be16 s 2)) o j)
   holds-from (in-sa z i) =
-      ap (λ (t : Bool). either t (mapped groupWideOf (attributes place.GroupWidePolicy (b + headSize s) (part s (headSize s) (be16 s 2))))
+      ap (λ (t : Bool). cond t (mapped groupWideOf (attributes place.GroupWidePolicy (b + headSize s) (part s (headSize s) (be16 s 2))))
       (mapped (groupSaOf s) (saBody b (inPolicy (oct s 0)) (b + headSize s) (part s (headSize s) (be16 s 2))))) (ne-eqb (oct s 0) 0 z)
       ∙ ap (mapped (groupSaOf s)) (sa-body-from b (inPolicy (oct s 0)) (b + headSize s) (part s (headSize s) (be16 s 2)) o i)
 

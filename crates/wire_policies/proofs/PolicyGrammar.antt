@@ -2,15 +2,15 @@
 use Prim.Native.Nat.{ℕ, _+_, _-_, _<_, _≤_}
 use mathlib.Core.Path.{_≡_, refl, ap, sym, _∙_, subst}
 use mathlib.Core.List.{List, [], _++_}
-use mathlib.Core.Bool.{Bool, true, false}
+use mathlib.Core.Bool.{Bool, true, false, cond, _&&_, _||_}
 use native.Mathlib.Omega.{arith}
 use borrow.Author.Tests.{le-leb, lt-ltb, ltb-true, eq-eqb, ne-eqb, eqb-true, eqb-false}
 use lib.Dec.{leb, ltb, eqb}
 use lib.ListN.{length, drop, length-drop}
 use lib.Seq.{take-all, drop-length}
+use Rattle.lists.proofs.Cases.{and-parts}
 use Rattle.octets.specs.Numbers.{oct}
-use Rattle.octets.specs.Walk.{be16, part, either, both, sized, whole, mapped, opened, closed, within, after}
-use Rattle.octets.proofs.Walks.{both-true}
+use Rattle.octets.specs.Walk.{be16, part, sized, whole, mapped, opened, closed, within, after}
 use Rattle.octets.proofs.Local.{extended, oct-append, be16-append, part-append, size-append, opened-extend, within-extend, Local}
 use Rattle.octets.proofs.Inverse.{inverse-mapped, inverse-opened, inverse-within}
 use Rattle.octets.proofs.Grammar.{Cuts, row-read, read-row, sound-of, complete-of}
@@ -64,9 +64,9 @@ module _ (o r : List ℕ) (l : 4 ≤ length o) (k : be16 o 2 ≤ length o) where
 
   pub same-head : headFits (o ++ r) ≡ headFits o
   same-head =
-      (λ i. both (sized (4 + spiSize (first i)) (o ++ r))
-      (both (firstKnown (first i)) (either (eqb (first i) 0) true (eqb (oct-append o r 1 (omega arith) i) (spiSize (first i))))))
-      ∙ ap (λ (t : Bool). both t (both (firstKnown (oct o 0)) (spiSized o))) (size-append o r (headSize o) l k)
+      (λ i. sized (4 + spiSize (first i)) (o ++ r)
+      && (firstKnown (first i) && (eqb (first i) 0 || eqb (oct-append o r 1 (omega arith) i) (spiSize (first i)))))
+      ∙ ap (λ (t : Bool). t && (firstKnown (oct o 0) && spiSized o)) (size-append o r (headSize o) l k)
 
   pub same-spi : headFits o ≡ true → headSpi (o ++ r) ≡ headSpi o
   same-spi e =
@@ -81,7 +81,7 @@ module _ (b : ℕ) (o r : List ℕ) (l : 4 ≤ length o) (k : sizeAt o ≤ lengt
   same-held e =
       let f = head-is o e in
       (λ i. within (4 + spiSize (first o r l k i)) (same-size o r l i)
-      (λ c y. either (eqb (first o r l k i) 0) (mapped groupWideOf (attributes place.GroupWidePolicy c y))
+      (λ c y. cond (eqb (first o r l k i) 0) (mapped groupWideOf (attributes place.GroupWidePolicy c y))
       (mapped
       (λ (x : SaBody). groupSa (record {
         protocol = first o r l k i;
@@ -116,19 +116,19 @@ body-octets o e n =
 
 pub known-spi : (o : List ℕ) → headFits o ≡ true → (oct o 0 ≡ 0 → ⊥) → (0 < spiSize (oct o 0)) × (oct o 1 ≡ spiSize (oct o 0))
 known-spi o e z =
-    let f = both-true (sized (headSize o) o) (both (firstKnown (oct o 0)) (spiSized o)) e in
-    let g = both-true (firstKnown (oct o 0)) (spiSized o) (f .1) in
+    let f = and-parts (sized (headSize o) o) (firstKnown (oct o 0) && spiSized o) e in
+    let g = and-parts (firstKnown (oct o 0)) (spiSized o) (f .1) in
     let t = ne-eqb (oct o 0) 0 z in (
-      ltb-true 0 (spiSize (oct o 0)) (ap (λ (u : Bool). either u true (ltb 0 (spiSize (oct o 0)))) (sym t) ∙ g .0),
-      eqb-true (oct o 1) (spiSize (oct o 0)) (ap (λ (u : Bool). either u true (eqb (oct o 1) (spiSize (oct o 0)))) (sym t) ∙ g .1),
+      ltb-true 0 (spiSize (oct o 0)) (ap (λ (u : Bool). u || ltb 0 (spiSize (oct o 0))) (sym t) ∙ g .0),
+      eqb-true (oct o 1) (spiSize (oct o 0)) (ap (λ (u : Bool). u || eqb (oct o 1) (spiSize (oct o 0))) (sym t) ∙ g .1),
     )
 
 pub made-head : (o : List ℕ) → headSize o ≤ be16 o 2 → be16 o 2 ≡ length o → firstKnown (oct o 0) ≡ true → spiSized o ≡ true
     → headFits o ≡ true
 made-head o l n f g =
-    ap (λ (t : Bool). both t (both (firstKnown (oct o 0)) (spiSized o)))
-    (ap (λ (t : Bool). both t (leb (be16 o 2) (length o))) (le-leb (headSize o) (be16 o 2) l) ∙ le-leb (be16 o 2) (length o) (omega arith))
-    ∙ ap (λ (t : Bool). both t (spiSized o)) f ∙ g
+    ap (λ (t : Bool). t && (firstKnown (oct o 0) && spiSized o))
+    (ap (λ (t : Bool). t && leb (be16 o 2) (length o)) (le-leb (headSize o) (be16 o 2) l) ∙ le-leb (be16 o 2) (length o) (omega arith))
+    ∙ ap (λ (t : Bool). t && spiSized o) f ∙ g
 
 module _ (b : ℕ) (o : List ℕ) where
   wide-to : (x : Policy) (left : List ℕ) → headFits o ≡ true → be16 o 2 ≡ length o → oct o 0 ≡ 0
@@ -182,7 +182,7 @@ module _ (b : ℕ) (o : List ℕ) where
       go (f .left) (f .fits) n (eqb (oct o 0) 0) refl (f .inner)
     where
       go : (left : List ℕ) → headFits o ≡ true → be16 o 2 ≡ length o → (t : Bool) → eqb (oct o 0) 0 ≡ t
-          → either t (mapped groupWideOf (attributes place.GroupWidePolicy (b + headSize o) (part o (headSize o) (be16 o 2))))
+          → cond t (mapped groupWideOf (attributes place.GroupWidePolicy (b + headSize o) (part o (headSize o) (be16 o 2))))
           (mapped (groupSaOf o) (saBody b (inPolicy (oct o 0)) (b + headSize o) (part o (headSize o) (be16 o 2)))) ≡ whole x left
           → IsPolicy o x
       go left e n true t q = wide-to x left e n (eqb-true (oct o 0) 0 t) q
@@ -204,12 +204,12 @@ module _ (b : ℕ) (o : List ℕ) where
       let h : headSize o ≡ 4 = ap (λ (t : ℕ). 4 + spiSize t) z in
       let t = eq-eqb (oct o 0) 0 z in
       let e : headFits o ≡ true =
-      made-head o (omega arith) n (ap (λ (u : Bool). either u true (ltb 0 (spiSize (oct o 0)))) t)
-      (ap (λ (u : Bool). either u true (eqb (oct o 1) (spiSize (oct o 0)))) t) in
+      made-head o (omega arith) n (ap (λ (u : Bool). u || ltb 0 (spiSize (oct o 0))) t)
+      (ap (λ (u : Bool). u || eqb (oct o 1) (spiSize (oct o 0))) t) in
       let a : Attributes place.GroupWidePolicy (drop (headSize o) o) (i .attributes) =
       subst (λ (u : ℕ). Attributes place.GroupWidePolicy (drop u o) (i .attributes)) (sym h) (i .held) in
       opens (groupWide x) e n
-      (ap (λ (u : Bool). either u (mapped groupWideOf (attributes place.GroupWidePolicy (b + headSize o) (drop (headSize o) o)))
+      (ap (λ (u : Bool). cond u (mapped groupWideOf (attributes place.GroupWidePolicy (b + headSize o) (drop (headSize o) o)))
       (mapped (groupSaOf o) (saBody b (inPolicy (oct o 0)) (b + headSize o) (drop (headSize o) o)))) t
       ∙ ap (mapped groupWideOf) (are-read place.GroupWidePolicy a (b + headSize o))
       ∙ (λ j. whole (groupWide (record { deactivationDelays = i .deactivationDelays j })) []))
@@ -221,8 +221,8 @@ module _ (b : ℕ) (o : List ℕ) where
       let z : oct o 0 ≡ 0 → ⊥ = λ y. omega (arith, k, ap spiSize y) in
       let t = ne-eqb (oct o 0) 0 z in
       let e : headFits o ≡ true =
-      made-head o (omega arith) n (ap (λ (u : Bool). either u true (ltb 0 (spiSize (oct o 0)))) t ∙ lt-ltb 0 (spiSize (oct o 0)) k)
-      (ap (λ (u : Bool). either u true (eqb (oct o 1) (spiSize (oct o 0)))) t ∙ eq-eqb (oct o 1) (spiSize (oct o 0)) (i .spiOctets
+      made-head o (omega arith) n (ap (λ (u : Bool). u || ltb 0 (spiSize (oct o 0))) t ∙ lt-ltb 0 (spiSize (oct o 0)) k)
+      (ap (λ (u : Bool). u || eqb (oct o 1) (spiSize (oct o 0))) t ∙ eq-eqb (oct o 1) (spiSize (oct o 0)) (i .spiOctets
       ∙ ap spiSize (sym p))) in
       let a : IsSaBody (inPolicy (oct o 0)) (drop (headSize o) o) (i .body) =
       subst (λ (u : ℕ). IsSaBody (inPolicy u) (drop (4 + spiSize u) o) (i .body)) (sym p) (i .holds) in
@@ -232,7 +232,7 @@ module _ (b : ℕ) (o : List ℕ) where
       let lives : keyLifetimes (inPolicy (oct o 0)) (i .body .suite .attributes) ≡ x .keyLifetimes =
       ap (λ (u : ℕ). keyLifetimes (inPolicy u) (i .body .suite .attributes)) p ∙ i .keyLifetimes in
       opens (groupSa x) e n
-      (ap (λ (u : Bool). either u (mapped groupWideOf (attributes place.GroupWidePolicy (b + headSize o) (drop (headSize o) o)))
+      (ap (λ (u : Bool). cond u (mapped groupWideOf (attributes place.GroupWidePolicy (b + headSize o) (drop (headSize o) o)))
       (mapped (groupSaOf o) (saBody b (inPolicy (oct o 0)) (b + headSize o) (drop (headSize o) o)))) t
       ∙ ap (mapped (groupSaOf o)) (body-from b (inPolicy (oct o 0)) (drop (headSize o) o) (i .body) a (b + headSize o))
       ∙ (λ j. whole (groupSa (record {

@@ -2,13 +2,13 @@
 use Prim.Native.Nat.{ℕ, _+_, _-_, _≤_}
 use mathlib.Core.Path.{_≡_, ap, sym, _∙_}
 use mathlib.Core.List.{List}
-use mathlib.Core.Bool.{Bool, true, false}
+use mathlib.Core.Bool.{Bool, true, false, cond}
 use native.Mathlib.Nat.{add-assoc}
 use native.Mathlib.Omega.{arith}
 use borrow.Author.Tests.{eq-eqb, ne-eqb}
 use lib.ListN.{length, drop}
 use Rattle.octets.specs.Numbers.{oct}
-use Rattle.octets.specs.Walk.{be16, part, either, Reading, Reader, mapped, within, andThen}
+use Rattle.octets.specs.Walk.{be16, part, Reading, Reader, mapped, within, andThen}
 use Rattle.octets.proofs.Walks.{tail, tail-tail, Takes, Keeps, took, takes-keeps, takes-closed, opened-is, opened-not, takes-opened}
 use Rattle.wire_attributes.specs.Attribute.{Attribute}
 use Rattle.wire_attributes.specs.Place.{inPolicy}
@@ -93,7 +93,7 @@ module _ (b : ℕ) (s : List ℕ) (z n : ℕ) (zq : z ≡ headSize s) (nq : n �
       q ∙ ap (λ (u : ℕ). layoutOf (attributes place.GroupWidePolicy (b + u) (part s u n))) zq
       ∙ ap (λ (u : ℕ). layoutOf (attributes place.GroupWidePolicy (b + headSize s) (part s (headSize s) u))) nq
       ∙ layout-mapped groupWideOf (attributes place.GroupWidePolicy (b + headSize s) (part s (headSize s) (be16 s 2)))
-      ∙ ap (λ (t : Bool). layoutOf (either t
+      ∙ ap (λ (t : Bool). layoutOf (cond t
       (mapped groupWideOf (attributes place.GroupWidePolicy (b + headSize s) (part s (headSize s) (be16 s 2))))
       (mapped (groupSaOf s) (saBody b (inPolicy (oct s 0)) (b + headSize s) (part s (headSize s) (be16 s 2))))))
       (sym (eq-eqb (oct s 0) 0 e))
@@ -105,7 +105,7 @@ module _ (b : ℕ) (s : List ℕ) (z n : ℕ) (zq : z ≡ headSize s) (nq : n �
       ∙ ap (λ (u : ℕ). layoutOf (saBody b p (b + headSize s) (part s (headSize s) u))) nq
       ∙ ap (λ (u : Place). layoutOf (saBody b u (b + headSize s) (part s (headSize s) (be16 s 2)))) pq
       ∙ layout-mapped (groupSaOf s) (saBody b (inPolicy (oct s 0)) (b + headSize s) (part s (headSize s) (be16 s 2)))
-      ∙ ap (λ (t : Bool). layoutOf (either t
+      ∙ ap (λ (t : Bool). layoutOf (cond t
       (mapped groupWideOf (attributes place.GroupWidePolicy (b + headSize s) (part s (headSize s) (be16 s 2))))
       (mapped (groupSaOf s) (saBody b (inPolicy (oct s 0)) (b + headSize s) (part s (headSize s) (be16 s 2))))))
       (sym (ne-eqb (oct s 0) 0 e))

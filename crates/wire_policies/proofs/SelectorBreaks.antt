@@ -2,14 +2,14 @@
 use Prim.Native.Nat.{ℕ, _+_}
 use mathlib.Core.Path.{_≡_, refl, ap, _∙_}
 use mathlib.Core.List.{List}
-use mathlib.Core.Bool.{Bool, true, false}
+use mathlib.Core.Bool.{Bool, true, false, cond, _&&_, _||_}
 use mathlib.Core.Logic.{_⊎_, inl, inr}
 use native.Mathlib.Omega.{arith}
 use borrow.Author.Tests.{lt-leb, leb-false, le-ltb, ltb-false, ne-eqb, eqb-false}
 use lib.Dec.{leb, ltb, eqb}
 use lib.ListN.{length, drop}
 use Rattle.octets.specs.Numbers.{oct}
-use Rattle.octets.specs.Walk.{be16, part, either, both, sized, whole, broken, mapped, opened, closed, within}
+use Rattle.octets.specs.Walk.{be16, part, sized, whole, broken, mapped, opened, closed, within}
 use Rattle.octets.specs.Breaks.{BreaksStructure}
 use Rattle.octets.proofs.BreakLaws.{not-broken, mapped-broken, closed-broken, not-left, not-right, one-not, unsized-fault, fault-unsized}
 use Rattle.octets.proofs.BreakLaws.{structure-to, structure-from, due-to, due-from, chain-to, chain-from}
@@ -30,7 +30,7 @@ use Rattle.wire_policies.proofs.TransformGrammar.{sound, complete}
 -- types other than 7 and 8 have no size
 no-type : (t : ℕ) → (t ≡ 7 → ⊥) → (t ≡ 8 → ⊥) → selectorSize t ≡ 0
 no-type t f g =
-    ap (λ (x : Bool). either x 16 (either (eqb t 8) 40 0)) (ne-eqb t 7 f) ∙ ap (λ (x : Bool). either x 40 0) (ne-eqb t 8 g)
+    ap (λ (x : Bool). cond x 16 (cond (eqb t 8) 40 0)) (ne-eqb t 7 f) ∙ ap (λ (x : Bool). cond x 40 0) (ne-eqb t 8 g)
 
 type-known : (t : ℕ) → selectorSize t ≡ 0 → (t ≡ 7 → ⊥) × (t ≡ 8 → ⊥)
 type-known t e = (λ q. omega (arith, e, ap selectorSize q), λ q. omega (arith, e, ap selectorSize q))
@@ -45,24 +45,24 @@ module _ (s : List ℕ) where
   pub selector-unfit : FaultOfSelector s → selectorFits s ≡ false
   unfolding there counted
   selector-unfit (unknown f g) =
-      not-left (ltb 0 (selectorSize (oct s 0))) (both there counted)
+      not-left (ltb 0 (selectorSize (oct s 0))) (there && counted)
       (le-ltb 0 (selectorSize (oct s 0)) (omega (arith, no-type (oct s 0) f g)))
   selector-unfit (cut h) =
-      not-right (ltb 0 (selectorSize (oct s 0))) (both there counted)
+      not-right (ltb 0 (selectorSize (oct s 0))) (there && counted)
       (not-left there counted (lt-leb (selectorSize (oct s 0)) (length s) h))
   selector-unfit (other-length n) =
-      not-right (ltb 0 (selectorSize (oct s 0))) (both there counted)
+      not-right (ltb 0 (selectorSize (oct s 0))) (there && counted)
       (not-right there counted (ne-eqb (be16 s 2) (selectorSize (oct s 0)) n))
 
   pub selector-fault : selectorFits s ≡ false → FaultOfSelector s
   unfolding there counted
-  selector-fault q = go (one-not (ltb 0 (selectorSize (oct s 0))) (both there counted) q)
+  selector-fault q = go (one-not (ltb 0 (selectorSize (oct s 0))) (there && counted) q)
     where
       rest : (there ≡ false) ⊎ (counted ≡ false) → FaultOfSelector s
       rest (inl e) = cut (leb-false (selectorSize (oct s 0)) (length s) e)
       rest (inr e) = other-length (eqb-false (be16 s 2) (selectorSize (oct s 0)) e)
 
-      go : (ltb 0 (selectorSize (oct s 0)) ≡ false) ⊎ (both there counted ≡ false) → FaultOfSelector s
+      go : (ltb 0 (selectorSize (oct s 0)) ≡ false) ⊎ ((there && counted) ≡ false) → FaultOfSelector s
       go (inl e) =
           let n = ltb-false 0 (selectorSize (oct s 0)) e in
           let k = type-known (oct s 0) (omega arith) in
@@ -95,12 +95,12 @@ module _ (s : List ℕ) where
   transform-unfit (by-length f) = not-left (sized 8 s) (isMark (oct s 0)) (fault-unsized 8 s f)
   transform-unfit (unmarked f g) =
       not-right (sized 8 s) (isMark (oct s 0))
-      (ap (λ (t : Bool). either t true (eqb (oct s 0) 0)) (ne-eqb (oct s 0) 3 f) ∙ ne-eqb (oct s 0) 0 g)
+      (ap (λ (t : Bool). t || eqb (oct s 0) 0) (ne-eqb (oct s 0) 3 f) ∙ ne-eqb (oct s 0) 0 g)
 
   pub transform-fault : transformFits s ≡ false → FaultOfTransform s
   transform-fault q = go (one-not (sized 8 s) (isMark (oct s 0)) q)
     where
-      marks : (t u : Bool) → eqb (oct s 0) 3 ≡ t → eqb (oct s 0) 0 ≡ u → either t true u ≡ false → FaultOfTransform s
+      marks : (t u : Bool) → eqb (oct s 0) 3 ≡ t → eqb (oct s 0) 0 ≡ u → (t || u) ≡ false → FaultOfTransform s
       marks true u e f z = let w : _≡_ {A = ℕ} 0 1 = cc in absurd (omega arith)
       marks false true e f z = let w : _≡_ {A = ℕ} 0 1 = cc in absurd (omega arith)
       marks false false e f z = unmarked (eqb-false (oct s 0) 3 e) (eqb-false (oct s 0) 0 f)

@@ -2,15 +2,16 @@
 use Prim.Native.Nat.{ℕ, _+_, _-_, _<_, _≤_}
 use mathlib.Core.Path.{_≡_, refl, ap, sym, _∙_, subst}
 use mathlib.Core.List.{List, [], _++_}
-use mathlib.Core.Bool.{Bool, true, false}
+use mathlib.Core.Bool.{Bool, true, false, cond, _&&_}
 use native.Mathlib.Omega.{arith}
 use borrow.Author.Tests.{le-leb, leb-true, lt-ltb, ltb-true, eq-eqb, eqb-true}
 use lib.Dec.{leb, ltb, eqb}
 use lib.ListN.{length, drop, length-append, length-drop}
 use lib.Seq.{drop-append-le, take-all, drop-length}
+use Rattle.lists.proofs.Cases.{and-parts}
 use Rattle.octets.specs.Numbers.{oct}
-use Rattle.octets.specs.Walk.{be16, part, either, both, Reading, whole, opened}
-use Rattle.octets.proofs.Walks.{by-test, both-true, begun-some}
+use Rattle.octets.specs.Walk.{be16, part, Reading, whole, opened}
+use Rattle.octets.proofs.Walks.{by-test, begun-some}
 use Rattle.octets.proofs.Local.{extended, oct-append, be16-append, part-append, opened-extend, begun-extend, Local}
 use Rattle.octets.proofs.Grammar.{Cuts, sound-of, complete-of}
 use Rattle.wire_policies.specs.Selector.{Selector, addressSize, selectorSize, selectorOf, selectorFits, selector}
@@ -24,8 +25,8 @@ sizeAt s = selectorSize (oct s 0)
 two-addresses : (t : ℕ) → 0 < selectorSize t → selectorSize t ≡ 8 + addressSize t + addressSize t
 two-addresses t h = go (eqb t 7) (eqb t 8) h
   where
-    go : (x y : Bool) → 0 < either x 16 (either y 40 0) → either x 16 (either y 40 0) ≡ 8 + either x 4 (either y 16 0) + either x 4
-        (either y 16 0)
+    go : (x y : Bool) → 0 < cond x 16 (cond y 40 0) → cond x 16 (cond y 40 0) ≡ 8 + cond x 4 (cond y 16 0) + cond x 4
+        (cond y 16 0)
     go true y k = refl
     go false true k = refl
     go false false k = absurd (omega arith)
@@ -38,14 +39,14 @@ record Fits (s : List ℕ) : Type 0 where
 fits-is : (s : List ℕ) → selectorFits s ≡ true → Fits s
 fits-is s e =
     let n = sizeAt s in
-    let f = both-true (ltb 0 n) (both (leb n (length s)) (eqb (be16 s 2) n)) e in
-    let g = both-true (leb n (length s)) (eqb (be16 s 2) n) (f .1) in
+    let f = and-parts (ltb 0 n) (leb n (length s) && eqb (be16 s 2) n) e in
+    let g = and-parts (leb n (length s)) (eqb (be16 s 2) n) (f .1) in
     record { known = ltb-true 0 n (f .0); there = leb-true n (length s) (g .0); size = eqb-true (be16 s 2) n (g .1) }
 
 is-fits : (s : List ℕ) → Fits s → selectorFits s ≡ true
 is-fits s f =
-    ap (λ (t : Bool). both t (both (leb (sizeAt s) (length s)) (eqb (be16 s 2) (sizeAt s)))) (lt-ltb 0 (sizeAt s) (f .known))
-    ∙ ap (λ (t : Bool). both t (eqb (be16 s 2) (sizeAt s))) (le-leb (sizeAt s) (length s) (f .there))
+    ap (λ (t : Bool). t && (leb (sizeAt s) (length s) && eqb (be16 s 2) (sizeAt s))) (lt-ltb 0 (sizeAt s) (f .known))
+    ∙ ap (λ (t : Bool). t && eqb (be16 s 2) (sizeAt s)) (le-leb (sizeAt s) (length s) (f .there))
     ∙ eq-eqb (be16 s 2) (sizeAt s) (f .size)
 
 module _ (h : ℕ) where
@@ -69,8 +70,8 @@ module _ (h : ℕ) where
     module _ (k : sizeAt o ≤ length o) where
       same-fits : selectorFits (o ++ r) ≡ selectorFits o
       same-fits =
-          (λ i. both (ltb 0 (same-size i)) (both (leb (same-size i) (length (o ++ r))) (eqb (be16-append o r 2 l i) (same-size i))))
-          ∙ ap (λ (t : Bool). both (ltb 0 (sizeAt o)) (both t (eqb (be16 o 2) (sizeAt o))))
+          (λ i. ltb 0 (same-size i) && (leb (same-size i) (length (o ++ r)) && eqb (be16-append o r 2 l i) (same-size i)))
+          ∙ ap (λ (t : Bool). ltb 0 (sizeAt o) && (t && eqb (be16 o 2) (sizeAt o)))
           (le-leb (sizeAt o) (length (o ++ r)) (omega (arith, length-append o r)) ∙ sym (le-leb (sizeAt o) (length o) k))
 
       module _ (f : Fits o) where

@@ -2,14 +2,15 @@
 use Prim.Native.Nat.{ℕ, _-_, _<_, _≤_}
 use mathlib.Core.Path.{_≡_, refl, ap, sym, _∙_}
 use mathlib.Core.List.{List}
-use mathlib.Core.Bool.{Bool, true, false}
+use mathlib.Core.Bool.{Bool, true, false, cond, _&&_}
 use native.Mathlib.Omega.{arith}
 use borrow.Author.Tests.{le-leb, lt-leb, leb-true, lt-ltb, ltb-true, eq-eqb, ne-eqb}
 use lib.Dec.{leb, ltb, eqb}
 use lib.ListN.{length, drop}
+use Rattle.lists.proofs.Cases.{and-parts}
 use Rattle.octets.specs.Numbers.{oct}
-use Rattle.octets.specs.Walk.{be16, either, both, whole, opened}
-use Rattle.octets.proofs.Walks.{both-true, Takes, took, begun-none, begun-some, takes-begun, opened-is, opened-not, takes-opened}
+use Rattle.octets.specs.Walk.{be16, whole, opened}
+use Rattle.octets.proofs.Walks.{Takes, took, begun-none, begun-some, takes-begun, opened-is, opened-not, takes-opened}
 use Rattle.wire_attributes.specs.Answers.{spotOf}
 use Rattle.wire_attributes.specs.declared.Spot.the-variants as spot
 use Rattle.wire_attributes.proofs.Loops.{ends-at}
@@ -19,7 +20,7 @@ use Rattle.wire_policies.specs.Selector.{selectorSize, selectorOf, selec
 pub size-some : {n : ℕ} (t : ℕ) → (n ≡ 0 → ⊥) → n ≡ selectorSize t → 16 ≤ n
 size-some {n} t z f = go (eqb t 7) (eqb t 8) f
   where
-    go : (x y : Bool) → n ≡ either x 16 (either y 40 0) → 16 ≤ n
+    go : (x y : Bool) → n ≡ cond x 16 (cond y 40 0) → 16 ≤ n
     go true y e = omega arith
     go false true e = omega arith
     go false false e = absurd (z e)
@@ -67,6 +68,6 @@ takes h b s =
     takes-begun h s (opened b (selectorFits s) (whole (selectorOf s) (drop (selectorSize (oct s 0)) s)))
     (takes-opened s b (selectorFits s) (whole (selectorOf s) (drop (selectorSize (oct s 0)) s))
     (λ e.
-    let f = both-true (ltb 0 n) (both (leb n (length s)) (eqb (be16 s 2) n)) e in
-    let g = both-true (leb n (length s)) (eqb (be16 s 2) n) (f .1) in
+    let f = and-parts (ltb 0 n) (leb n (length s) && eqb (be16 s 2) n) e in
+    let g = and-parts (leb n (length s)) (eqb (be16 s 2) n) (f .1) in
     took s n (ltb-true 0 n (f .0)) (leb-true n (length s) (g .0))))

@@ -2,15 +2,16 @@
 use Prim.Native.Nat.{ℕ, _+_, _-_, _≤_}
 use mathlib.Core.Path.{_≡_, refl, ap, sym, _∙_, subst}
 use mathlib.Core.List.{List, [], _++_}
-use mathlib.Core.Bool.{Bool, true, false}
+use mathlib.Core.Bool.{Bool, true, false, _&&_, _||_}
 use native.Mathlib.Omega.{arith}
 use borrow.Author.Tests.{le-leb, eqb-true}
 use lib.Dec.{leb, eqb}
 use lib.ListN.{length, drop, length-drop}
 use lib.Seq.{take-all, drop-length}
+use Rattle.lists.proofs.Cases.{and-parts}
 use Rattle.octets.specs.Numbers.{oct}
-use Rattle.octets.specs.Walk.{be16, part, either, both, sized, whole, mapped, opened, closed, within, Linked}
-use Rattle.octets.proofs.Walks.{both-true, begun-some}
+use Rattle.octets.specs.Walk.{be16, part, sized, whole, mapped, opened, closed, within, Linked}
+use Rattle.octets.proofs.Walks.{begun-some}
 use Rattle.octets.proofs.Local.{extended, oct-append, be16-append, size-append, mapped-extend, opened-extend, begun-extend, within-extend}
 use Rattle.octets.proofs.Local.{Local, exact, split}
 use Rattle.octets.proofs.Inverse.{inverse-mapped, inverse-opened, inverse-begun, inverse-within}
@@ -40,7 +41,7 @@ record Read (s : List ℕ) (b : ℕ) (x : Linked Bool Transform) (rest : List �
 mark-is : (n : ℕ) → isMark n ≡ true → n ≡ mark (eqb n 3)
 mark-is n e = go (eqb n 3) refl e
   where
-    go : (t : Bool) → eqb n 3 ≡ t → either t true (eqb n 0) ≡ true → n ≡ mark t
+    go : (t : Bool) → eqb n 3 ≡ t → (t || eqb n 0) ≡ true → n ≡ mark t
     go true f q = eqb-true n 3 f
     go false f q = eqb-true n 0 q
 
@@ -74,7 +75,7 @@ module _ (h : ℕ) (more : Bool) where
     kind = oct-append o r 4 (omega arith)
 
     same-fits : transformFits (o ++ r) ≡ transformFits o
-    same-fits = λ i. both (size-append o r 8 (omega arith) k i) (isMark (first i))
+    same-fits = λ i. (size-append o r 8 (omega arith) k i && isMark (first i))
 
     same-held : transformFits o ≡ true
         → mapped (transformOf (o ++ r)) (within 8 (be16 (o ++ r) 2) (attributes (inTransform (oct (o ++ r) 4))) b (o ++ r))
@@ -113,7 +114,7 @@ module _ (h : ℕ) (more : Bool) where
       read-are (inTransform (oct o 4)) (b + 8) (part o 8 (be16 o 2)) (f .held) (f .left) (f .inner) in
       record {
         first =
-            mark-is (oct o 0) (both-true (sized 8 o) (isMark (oct o 0)) (f .fits) .1)
+            mark-is (oct o 0) (and-parts (sized 8 o) (isMark (oct o 0)) (f .fits) .1)
             ∙ ap (λ (y : Linked Bool Transform). mark (y .next)) (f .item);
         size = n;
         least = omega (arith, g .0);
@@ -136,8 +137,8 @@ module _ (h : ℕ) (more : Bool) where
       let n = i .size in
       let m = is-mark (oct o 0) (x .next) (i .first) in
       let f : transformFits o ≡ true =
-      ap (λ (t : Bool). both t (isMark (oct o 0)))
-      (ap (λ (t : Bool). both t (leb (be16 o 2) (length o))) (le-leb 8 (be16 o 2) (omega arith)) ∙ le-leb (be16 o 2) (length o)
+      ap (λ (t : Bool). t && isMark (oct o 0))
+      (ap (λ (t : Bool). t && leb (be16 o 2) (length o)) (le-leb 8 (be16 o 2) (omega arith)) ∙ le-leb (be16 o 2) (length o)
       (omega arith))
       ∙ m .0 in
       let d : drop 8 o ≡ part o 8 (be16 o 2) = sym (take-all (be16 o 2 - 8) (drop 8 o) (rw length-drop (omega arith))) in

@@ -9,11 +9,12 @@ use lib.Dec.{eqb}
 use native.Mathlib.Nat.{add-zero}
 use lib.ListN.{length, drop}
 use lib.Seq.{getD-drop}
+use Rattle.lists.proofs.Cases.{and-parts}
 use Rattle.octets.specs.Numbers.{oct}
 use Rattle.octets.specs.Walk.{be16, part, sized, Reading, whole, broken, mapped, closed, opened, within, Linked}
 use Rattle.octets.specs.Walk.{chain}
 use Rattle.octets.proofs.Numerals.{sized-is}
-use Rattle.octets.proofs.Walks.{tail, by-test, both-true, Takes, Keeps, took, takes-mapped, takes-closed, begun-none, begun-some, outline}
+use Rattle.octets.proofs.Walks.{tail, by-test, Takes, Keeps, took, takes-mapped, takes-closed, begun-none, begun-some, outline}
 use Rattle.octets.proofs.Walks.{takes-begun, opened-is, opened-not, takes-opened}
 use Rattle.octets.proofs.Walks.{keeps-chain, chain-stops, chain-goes, chain-breaks}
 use Rattle.wire_attributes.specs.Attribute.{Attribute}
@@ -28,7 +29,7 @@ use Rattle.wire_attributes.proofs.Loops.{held-whole, held-broken, spot-mapped, 
 use Rattle.wire_policies.specs.Transform.{Transform, isMark, transformFits, transformOf, transform, noMore, transforms}
 
 pub fits-is : (s : List ℕ) → transformFits s ≡ true → (8 ≤ be16 s 2) × (be16 s 2 ≤ length s)
-fits-is s e = sized-is s 8 (both-true (sized 8 s) (isMark (oct s 0)) e .0)
+fits-is s e = sized-is s 8 (and-parts (sized 8 s) (isMark (oct s 0)) e .0)
 
 module _ (s : List ℕ) (z : Bool) (f : z ≡ sized 8 s) where
   pub not-sized : z ≡ false → false ≡ transformFits s

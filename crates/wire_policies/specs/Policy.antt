@@ -3,12 +3,12 @@
 -- attributes). Another first octet breaks the layout, in KD too."
 use Prim.Native.Nat.{ℕ, _+_}
 use mathlib.Core.List.{List}
-use mathlib.Core.Bool.{Bool, true}
+use mathlib.Core.Bool.{Bool, cond, _&&_, _||_}
 use lib.Dec.{ltb, eqb}
 use Rattle.ikev2_numbers.specs.Codes.{dataSpiOctets, noProtocol, policyHeadOctets, protocolAh, protocolEsp, protocolGikeUpdate}
 use Rattle.ikev2_numbers.specs.Codes.{rekeySpiOctets, structureLengthAt}
 use Rattle.octets.specs.Numbers.{oct}
-use Rattle.octets.specs.Walk.{be16, part, either, both, sized, Reader, mapped, opened, within, andThen, many}
+use Rattle.octets.specs.Walk.{be16, part, sized, Reader, mapped, opened, within, andThen, many}
 use Rattle.wire_attributes.specs.Attribute.{Attribute}
 use Rattle.wire_attributes.specs.Place.{inPolicy}
 use Rattle.wire_attributes.specs.declared.tables.Place.{Place}
@@ -22,21 +22,21 @@ use Rattle.wire_policies.specs.Transform.{Transform, transforms}
 -- has, 0 where there is none
 abbrev pub spiSize : ℕ → ℕ
 spiSize p =
-    either (eqb p protocolGikeUpdate) rekeySpiOctets
-    (either (eqb p protocolEsp) dataSpiOctets (either (eqb p protocolAh) dataSpiOctets 0))
+    cond (eqb p protocolGikeUpdate) rekeySpiOctets
+    (cond (eqb p protocolEsp) dataSpiOctets (cond (eqb p protocolAh) dataSpiOctets 0))
 
 -- whether a first octet is known; 0 stands for the group-wide policy and the Member Key Bag, which have no SPI
 abbrev pub firstKnown : ℕ → Bool
-firstKnown p = either (eqb p noProtocol) true (ltb 0 (spiSize p))
+firstKnown p = eqb p noProtocol || ltb 0 (spiSize p)
 
 abbrev pub spiSized : List ℕ → Bool
-spiSized s = either (eqb (oct s 0) noProtocol) true (eqb (oct s 1) (spiSize (oct s 0)))
+spiSized s = eqb (oct s 0) noProtocol || eqb (oct s 1) (spiSize (oct s 0))
 
 abbrev pub headSize : List ℕ → ℕ
 headSize s = policyHeadOctets + spiSize (oct s 0)
 
 abbrev pub headFits : List ℕ → Bool
-headFits s = both (sized (headSize s) s) (both (firstKnown (oct s 0)) (spiSized s))
+headFits s = sized (headSize s) s && (firstKnown (oct s 0) && spiSized s)
 
 abbrev pub headSpi : List ℕ → List ℕ
 headSpi s = part s policyHeadOctets (headSize s)
@@ -94,7 +94,7 @@ groupWideOf l = groupWide (record { deactivationDelays = deactivationDelays plac
 -- what the policy `s` at the offset `h` holds after its head
 abbrev pub policyHolds : ℕ → List ℕ → Reader Policy
 policyHolds h s b r =
-    either (eqb (oct s 0) noProtocol) (mapped groupWideOf (attributes place.GroupWidePolicy b r))
+    cond (eqb (oct s 0) noProtocol) (mapped groupWideOf (attributes place.GroupWidePolicy b r))
     (mapped (groupSaOf s) (saBody h (inPolicy (oct s 0)) b r))
 
 unfoldable pub policy : Reader Policy

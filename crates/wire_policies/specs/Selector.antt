@@ -2,13 +2,13 @@
 -- address. Document 01: "type 7 (16 octets) or 8 (40 octets)".
 use Prim.Native.Nat.{ℕ, _+_}
 use mathlib.Core.List.{List}
-use mathlib.Core.Bool.{Bool}
+use mathlib.Core.Bool.{Bool, cond, _&&_}
 use lib.ListN.{length, drop}
 use lib.Dec.{leb, ltb, eqb}
 use Rattle.ikev2_numbers.specs.Codes.{addressesAt, endPortAt, ipv4AddressOctets, ipv4Range, ipv4SelectorOctets, ipv6AddressOctets}
 use Rattle.ikev2_numbers.specs.Codes.{ipv6Range, ipv6SelectorOctets, startPortAt, structureLengthAt}
 use Rattle.octets.specs.Numbers.{oct}
-use Rattle.octets.specs.Walk.{be16, part, either, both, whole, Reader, opened, begun}
+use Rattle.octets.specs.Walk.{be16, part, whole, Reader, opened, begun}
 
 pub record Selector : Type 0 where
   pub kind : ℕ
@@ -20,10 +20,10 @@ pub record Selector : Type 0 where
 
 -- how many octets an address and a whole selector have, by the selector's type; 0 for an unknown type
 abbrev pub addressSize : ℕ → ℕ
-addressSize t = either (eqb t ipv4Range) ipv4AddressOctets (either (eqb t ipv6Range) ipv6AddressOctets 0)
+addressSize t = cond (eqb t ipv4Range) ipv4AddressOctets (cond (eqb t ipv6Range) ipv6AddressOctets 0)
 
 abbrev pub selectorSize : ℕ → ℕ
-selectorSize t = either (eqb t ipv4Range) ipv4SelectorOctets (either (eqb t ipv6Range) ipv6SelectorOctets 0)
+selectorSize t = cond (eqb t ipv4Range) ipv4SelectorOctets (cond (eqb t ipv6Range) ipv6SelectorOctets 0)
 
 abbrev pub selectorOf : List ℕ → Selector
 selectorOf s = record {
@@ -39,7 +39,7 @@ selectorOf s = record {
 abbrev pub selectorFits : List ℕ → Bool
 selectorFits s =
     let n = selectorSize (oct s 0) in
-    both (ltb 0 n) (both (leb n (length s)) (eqb (be16 s structureLengthAt) n))
+    (ltb 0 n && (leb n (length s) && eqb (be16 s structureLengthAt) n))
 
 -- the selector at the start of `s`, or broken; a missing one counts for its policy, at the offset `h`
 unfoldable pub selector : ℕ → Reader Selector

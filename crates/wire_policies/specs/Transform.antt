@@ -1,12 +1,12 @@
 -- Transforms (RFC 7296, section 3.3.2). Document 01: "3 (more) or 0 (last), reserved, length 2, type, reserved, ID 2, attributes".
 use Prim.Native.Nat.{ℕ}
 use mathlib.Core.List.{List}
-use mathlib.Core.Bool.{Bool, true, not}
+use mathlib.Core.Bool.{Bool, true, not, _&&_, _||_}
 use lib.Dec.{eqb}
 use Rattle.ikev2_numbers.specs.Codes.{lastTransform, moreTransforms, structureLengthAt, transformHeadOctets, transformIdAt}
 use Rattle.ikev2_numbers.specs.Codes.{transformTypeAt}
 use Rattle.octets.specs.Numbers.{oct}
-use Rattle.octets.specs.Walk.{be16, either, both, sized, Reader, mapped, opened, begun, within, Linked, chain}
+use Rattle.octets.specs.Walk.{be16, sized, Reader, mapped, opened, begun, within, Linked, chain}
 use Rattle.wire_attributes.specs.Attribute.{Attribute}
 use Rattle.wire_attributes.specs.Place.{inTransform}
 use Rattle.wire_attributes.specs.Tree.{keyLengths}
@@ -18,10 +18,10 @@ pub record Transform : Type 0 where
   pub keyLengths : List ℕ
 
 abbrev pub isMark : ℕ → Bool
-isMark m = either (eqb m moreTransforms) true (eqb m lastTransform)
+isMark m = eqb m moreTransforms || eqb m lastTransform
 
 abbrev pub transformFits : List ℕ → Bool
-transformFits s = both (sized transformHeadOctets s) (isMark (oct s 0))
+transformFits s = sized transformHeadOctets s && isMark (oct s 0)
 
 -- the transform at the start of `s` with the attributes `l`, and whether another follows
 abbrev pub transformOf : List ℕ → List Attribute → Linked Bool Transform

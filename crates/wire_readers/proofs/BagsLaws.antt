@@ -22,7 +22,8 @@ use Rattle.wire_bags.proofs.BagGrammar.{inverse, sound, complete}
 module _ (fresh : Bool) where
   record Head (s : List ℕ) : Type 0 where
     fits : headFits s ≡ true
-    first : bagsIn fresh s ≡ bagOf fresh s (attributesIn (placeOf fresh (oct s 0)) (part s (headSize s) (be16 s 2))) ∷ bagsIn fresh (drop (be16 s 2) s)
+    first : bagsIn fresh s ≡ bagOf fresh s (attributesIn (placeOf fresh (oct s 0)) (part s (headSize s) (be16 s 2)))
+        ∷ bagsIn fresh (drop (be16 s 2) s)
     held : isWhole (attributes (placeOf fresh (oct s 0)) 0 (part s (headSize s) (be16 s 2))) ≡ true
     rest : isWhole (bags fresh 0 (drop (be16 s 2) s)) ≡ true
 
@@ -54,8 +55,8 @@ module _ (fresh : Bool) where
           head = x;
           item =
               f .first
-              ∙ (λ j. bagOf fresh s (attributesIn (placeOf fresh (sym (x .first) j)) (part s (sym (x .body) j) (sym (x .end) j))) ∷ bagsIn fresh (drop (sym
-              (x .end) j) s));
+              ∙ (λ j. bagOf fresh s (attributesIn (placeOf fresh (sym (x .first) j)) (part s (sym (x .body) j) (sym (x .end) j)))
+              ∷ bagsIn fresh (drop (sym (x .end) j) s));
           held =
               (λ j. isWhole (attributes (placeOf fresh (x .first j)) 0 (part s (x .body j) (x .end j)))) ∙ f .held;
           rest = (λ j. isWhole (bags fresh 0 (drop (x .end j) s))) ∙ f .rest;

@@ -26,7 +26,8 @@ exact-is (broken o) e = let z : _≡_ {A = ℕ} 0 1 = cc in absurd (omega arith)
 
 module _ (fresh : Bool) (k : ℕ) (s : List ℕ) (z : k ≡ 0 → ⊥) (e : isWhole (nothingLeft (payloads fresh k 0 s)) ≡ true) where
   span : FirstSpan noneNext (payload fresh) (takes fresh) (IsPayload fresh) (sound fresh) (complete fresh) k s (payloadsIn fresh k s) []
-  span = first-span noneNext (payload fresh) (takes fresh) (IsPayload fresh) (sound fresh) (complete fresh) 0 k s (payloadsIn fresh k s) [] (ne-eqb k 0 z) (exact-is (payloads fresh k 0 s) e)
+  span = first-span noneNext (payload fresh) (takes fresh) (IsPayload fresh) (sound fresh) (complete fresh) 0 k s (payloadsIn fresh k s) []
+      (ne-eqb k 0 z) (exact-is (payloads fresh k 0 s) e)
 
   head : Read fresh k 0 s (span .first) (drop (span .size) s)
   head = inverse fresh k 0 s (span .first) (drop (span .size) s) (span .is 0)

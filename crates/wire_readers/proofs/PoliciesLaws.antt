@@ -2,11 +2,11 @@
 use Prim.Native.Nat.{ℕ, _+_, _-_, _<_}
 use mathlib.Core.Path.{_≡_, ap, sym, _∙_, subst}
 use mathlib.Core.List.{List, [], _∷_}
-use mathlib.Core.Bool.{Bool, true}
+use mathlib.Core.Bool.{Bool, true, cond}
 use borrow.Author.Tests.{eq-eqb, ne-eqb}
 use lib.ListN.{length, drop}
 use Rattle.octets.specs.Numbers.{oct}
-use Rattle.octets.specs.Walk.{be16, part, either, whole, mapped}
+use Rattle.octets.specs.Walk.{be16, part, whole, mapped}
 use Rattle.octets.proofs.Inverse.{inverse-mapped}
 use Rattle.octets.proofs.Grammar.{first-rest}
 use Rattle.wire_attributes.specs.Place.{inPolicy}
@@ -57,7 +57,7 @@ module _ (s : List ℕ) (e : isWhole (policies 0 s) ≡ true) (h : 0 < length s)
       let f = head-of s e h in
       let t = part s (headSize s) (be16 s 2) in
       let q : mapped groupWideOf (attributes place.GroupWidePolicy (0 + headSize s) t) ≡ whole (f .item) (f .left) =
-      ap (λ (u : Bool). either u (mapped groupWideOf (attributes place.GroupWidePolicy (0 + headSize s) t))
+      ap (λ (u : Bool). cond u (mapped groupWideOf (attributes place.GroupWidePolicy (0 + headSize s) t))
       (mapped (groupSaOf s) (saBody 0 (inPolicy (oct s 0)) (0 + headSize s) t))) (sym (eq-eqb (oct s 0) 0 z)) ∙ f .inner in
       let m = inverse-mapped groupWideOf (attributes place.GroupWidePolicy (0 + headSize s) t) (f .item) (f .left) q in
       let i = is-whole (attributes place.GroupWidePolicy 0 t) (m .item) []
@@ -76,7 +76,7 @@ module _ (s : List ℕ) (e : isWhole (policies 0 s) ≡ true) (h : 0 < length s)
       let f = head-of s e h in
       let t = part s (headSize s) (be16 s 2) in
       let q : mapped (groupSaOf s) (saBody 0 (inPolicy (oct s 0)) (0 + headSize s) t) ≡ whole (f .item) (f .left) =
-      ap (λ (u : Bool). either u (mapped groupWideOf (attributes place.GroupWidePolicy (0 + headSize s) t))
+      ap (λ (u : Bool). cond u (mapped groupWideOf (attributes place.GroupWidePolicy (0 + headSize s) t))
       (mapped (groupSaOf s) (saBody 0 (inPolicy (oct s 0)) (0 + headSize s) t))) (sym (ne-eqb (oct s 0) 0 z)) ∙ f .inner in
       let m = inverse-mapped (groupSaOf s) (saBody 0 (inPolicy (oct s 0)) (0 + headSize s) t) (f .item) (f .left) q in
       record {

@@ -2,19 +2,20 @@
 use Prim.Native.Nat.{ℕ, _+_, _-_, _<_, _≤_}
 use mathlib.Core.Path.{_≡_, refl, ap, sym, _∙_, subst}
 use mathlib.Core.List.{List, [], _∷_}
-use mathlib.Core.Bool.{Bool, true, false, not}
+use mathlib.Core.Bool.{Bool, true, false, not, cond}
 use native.Mathlib.Omega.{arith}
 use borrow.Author.Tests.{eq-eqb, ne-eqb}
 use lib.Dec.{leb, eqb}
 use lib.ListN.{length, drop, getD, length-drop}
 use lib.Seq.{drop-drop}
-use Rattle.octets.specs.Walk.{be16, part, either, Reading, whole, broken}
-use Rattle.octets.proofs.Walks.{both-true, part-length, many-none}
+use Rattle.lists.proofs.Cases.{and-parts}
+use Rattle.octets.specs.Walk.{be16, part, Reading, whole, broken}
+use Rattle.octets.proofs.Walks.{part-length, many-none}
 use Rattle.octets.proofs.Inverse.{inverse-opened}
 use Rattle.octets.proofs.Grammar.{first-rest}
 use Rattle.wire_attributes.specs.Attribute.{Attribute, isShort, kindOf, attributeSize, valueOctets, attributeOf, leadOf, spanOf, fits}
 use Rattle.wire_attributes.specs.Answers.{valueAt, valueStart}
-use Rattle.wire_attributes.specs.Place.{meaningOf, wrappedSize, formatFits}
+use Rattle.wire_attributes.specs.Place.{meaningOf, keyValueSized, formatFits}
 use Rattle.wire_attributes.specs.Tree.{codeOf, means, valuesOf}
 use Rattle.wire_attributes.specs.Layout.{formedIn, fitsIn, attribute, attributes}
 use Rattle.wire_attributes.specs.Grammar.{IsAttribute}
@@ -44,16 +45,16 @@ attribute-is : (p : Place) (b : ℕ) (s : List ℕ) (a : Attribute) (rest : List
 unfolding attribute
 attribute-is p b s a rest q =
     let f = inverse-opened b (fitsIn p s) (whole (attributeOf s) (drop (attributeSize s) s)) a rest q in
-    let g = both-true (fits s) (formedIn p (attributeOf s)) (f .0) in
+    let g = and-parts (fits s) (formedIn p (attributeOf s)) (f .0) in
     let e = f .1 in
     (g .0, cc, cc, g .1)
 
 -- a meaning's number says which it is
 meaningAt : ℕ → Meaning
 meaningAt n =
-    either (eqb n 1) meaning.KeyLength (either (eqb n 2) meaning.InitialMessageId (either (eqb n 3) meaning.DeactivationDelay
-    (either (eqb n 4) meaning.KeyLifetime (either (eqb n 5) meaning.SaKey (either (eqb n 6) meaning.WrapKey
-    (either (eqb n 7) meaning.FreshKey meaning.Skipped))))))
+    cond (eqb n 1) meaning.KeyLength (cond (eqb n 2) meaning.InitialMessageId (cond (eqb n 3) meaning.DeactivationDelay
+    (cond (eqb n 4) meaning.KeyLifetime (cond (eqb n 5) meaning.SaKey (cond (eqb n 6) meaning.WrapKey
+    (cond (eqb n 7) meaning.FreshKey meaning.Skipped))))))
 
 at-code : (m : Meaning) → meaningAt (codeOf m) ≡ m
 unfolding meaningAt
@@ -73,12 +74,12 @@ same-code m k e = sym (at-code m) ∙ ap meaningAt e ∙ at-code k
 sized : (m : Meaning) (short : Bool) (n : ℕ) → formatFits m short n ≡ true → (short ≡ true → n ≡ 2) → valueSize m n ≡ true
 sized meaning.Skipped short n f h = refl
 sized meaning.KeyLength short n f h = eq-eqb n 2 (h f)
-sized meaning.InitialMessageId short n f h = both-true (not short) (eqb n 4) f .1
+sized meaning.InitialMessageId short n f h = and-parts (not short) (eqb n 4) f .1
 sized meaning.DeactivationDelay short n f h = eq-eqb n 2 (h f)
-sized meaning.KeyLifetime short n f h = both-true (not short) (eqb n 4) f .1
-sized meaning.SaKey short n f h = both-true (not short) (wrappedSize n) f .1
-sized meaning.WrapKey short n f h = both-true (not short) (wrappedSize n) f .1
-sized meaning.FreshKey short n f h = both-true (not short) (wrappedSize n) f .1
+sized meaning.KeyLifetime short n f h = and-parts (not short) (eqb n 4) f .1
+sized meaning.SaKey short n f h = and-parts (not short) (keyValueSized n) f .1
+sized meaning.WrapKey short n f h = and-parts (not short) (keyValueSized n) f .1
+sized meaning.FreshKey short n f h = and-parts (not short) (keyValueSized n) f .1
 
 record Head (p : Place) (s : List ℕ) : Type 0 where
   fit : fits s ≡ true
@@ -157,7 +158,7 @@ module _ (m : Meaning) (p : Place) (s : List ℕ) (at : ℕ) (e : isWhole (attri
       pub starts-after : 0 < a
       starts-after = go (leb 32768 (be16 (drop at s) 0)) (f .start)
         where
-          go : (t : Bool) → either t 2 4 ≡ a → 0 < a
+          go : (t : Bool) → cond t 2 4 ≡ a → 0 < a
           go true q = omega arith
           go false q = omega arith
 
@@ -196,8 +197,8 @@ module _ (m : Meaning) (p : Place) (s : List ℕ) (at : ℕ) (e : isWhole (attri
 
       short-value : isShort (drop at s) ≡ true → at + n - (at + a) ≡ 2
       short-value t =
-          let g : a ≡ 2 = sym (f .start) ∙ ap (λ (u : Bool). either u 2 4) t in
-          let h : n ≡ 4 = sym (f .size) ∙ ap (λ (u : Bool). either u 4 (4 + be16 (drop at s) 2)) t in
+          let g : a ≡ 2 = sym (f .start) ∙ ap (λ (u : Bool). cond u 2 4) t in
+          let h : n ≡ 4 = sym (f .size) ∙ ap (λ (u : Bool). cond u 4 (4 + be16 (drop at s) 2)) t in
           omega (arith, g, h)
 
       pub size : (c w : ℕ) → c ≡ codeOf (meaningOf p kind) → w ≡ codeOf m → c ≡ w → valueSize m (at + n - (at + a)) ≡ true

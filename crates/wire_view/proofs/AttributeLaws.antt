@@ -2,10 +2,10 @@
 use Prim.Native.Nat.{ℕ, _+_, _-_}
 use mathlib.Core.Path.{_≡_, refl, ap, sym, _∙_}
 use mathlib.Core.List.{List}
-use mathlib.Core.Bool.{Bool}
+use mathlib.Core.Bool.{Bool, cond}
 use native.Mathlib.Omega.{arith}
 use lib.ListN.{length, length-append, length-drop}
-use Rattle.octets.specs.Walk.{part, either, Row, no-more, then}
+use Rattle.octets.specs.Walk.{part, Row, no-more, then}
 use Rattle.octets.proofs.Walks.{part-length}
 use Rattle.wire_attributes.specs.Attribute.{Attribute, valueOffset, valueOctets, attributeOf, leadOf}
 use Rattle.wire_attributes.specs.Place.{meaningOf}
@@ -19,10 +19,10 @@ use Rattle.wire_view.specs.declared.items.Item.the-variants as item
 -- WHAT THEY TAKE
 pub of-format : (o : List ℕ) (a : Attribute) → Format o a → leadOf a + length (a .value) ≡ length o
 of-format o a (in-short x) =
-    let l : leadOf a ≡ 2 = ap (λ (t : Bool). either t 2 4) (x .format) in
+    let l : leadOf a ≡ 2 = ap (λ (t : Bool). cond t 2 4) (x .format) in
     omega (arith, l, ap length (x .value), length-drop 2 o, x .size)
 of-format o a (in-long x) =
-    let l : leadOf a ≡ 4 = ap (λ (t : Bool). either t 2 4) (x .format) in
+    let l : leadOf a ≡ 4 = ap (λ (t : Bool). cond t 2 4) (x .format) in
     omega (arith, l, ap length (x .value), length-drop 4 o, x .size)
 
 pub row-octets : {p : Place} {s : List ℕ} {l : List Attribute} → Row (IsAttribute p) s l → attributesSpan l ≡ length s

@@ -3,11 +3,11 @@
 use Prim.Native.Nat.{ℕ, _+_, _-_, _<_, _≤_}
 use mathlib.Core.Path.{_≡_, refl, ap, sym, _∙_}
 use mathlib.Core.List.{List, [], _∷_, _++_, map, append-assoc, append-nil}
-use mathlib.Core.Bool.{Bool}
+use mathlib.Core.Bool.{Bool, cond}
 use native.Mathlib.Omega.{arith}
 use lib.ListN.{length, take, drop, length-append, length-drop, take-append-drop}
 use lib.Seq.{drop-drop, take-append-seam, drop-append-seam, drop-append-le}
-use Rattle.octets.specs.Walk.{part, either, Spans, none, more, Row, no-more, then, whole}
+use Rattle.octets.specs.Walk.{part, Spans, none, more, Row, no-more, then, whole}
 use Rattle.wire_attributes.specs.Attribute.{Attribute, leadOf}
 use Rattle.wire_attributes.specs.Place.{inPolicy}
 use Rattle.wire_attributes.specs.Grammar.{Format, in-short, in-long, IsAttribute, Attributes}
@@ -57,8 +57,8 @@ module _ (w : List ℕ) (b : ℕ) (o t : List ℕ) (e : drop b w ≡ o ++ t) whe
   attribute-cut a f = let s = of-format o a f in but-first (leadOf a) (length (a .value)) (omega (arith, s)) s ∙ go f
     where
       go : Format o a → drop (leadOf a) o ≡ a .value
-      go (in-short x) = ap (λ (y : Bool). drop (either y 2 4) o) (x .format) ∙ x .value
-      go (in-long x) = ap (λ (y : Bool). drop (either y 2 4) o) (x .format) ∙ x .value
+      go (in-short x) = ap (λ (y : Bool). drop (cond y 2 4) o) (x .format) ∙ x .value
+      go (in-long x) = ap (λ (y : Bool). drop (cond y 2 4) o) (x .format) ∙ x .value
 
   selector-cut : (x : Selector) → IsSelector o x → part w (b + 8) (b + selectorSize (x .kind)) ≡ addresses x
   selector-cut x i =

@@ -2,14 +2,14 @@
 use Prim.Native.Nat.{ℕ, _+_, _<_, _≤_}
 use mathlib.Core.Path.{_≡_, refl, ap, sym, _∙_, subst}
 use mathlib.Core.List.{List, [], _∷_, _++_, map, append-nil}
-use mathlib.Core.Bool.{Bool, true, false}
+use mathlib.Core.Bool.{Bool, true, false, cond, _&&_}
 use native.Mathlib.Omega.{arith}
 use borrow.Author.Tests.{le-leb, eq-eqb, ne-eqb}
 use lib.Dec.{eqb}
 use lib.ListN.{length, drop}
 use lib.Seq.{drop-length}
 use Rattle.octets.specs.Numbers.{oct}
-use Rattle.octets.specs.Walk.{be16, part, either, both, Reading, whole, broken}
+use Rattle.octets.specs.Walk.{be16, part, Reading, whole, broken}
 use Rattle.octets.proofs.Walks.{takes-keeps}
 use Rattle.wire_attributes.specs.Attribute.{Attribute}
 use Rattle.wire_attributes.specs.Place.{inPolicy}
@@ -115,7 +115,7 @@ kind-of-none s h = ap firstOctet (sym (none s h))
 
 -- WHAT IT SHOWS
 pub counts : (s : List ℕ) → 4 ≤ length s → be16 s 2 ≡ length s → isCounted s ≡ true
-counts s h e = ap (λ (t : Bool). both t (eqb (be16 s 2) (length s))) (le-leb 4 (length s) h) ∙ eq-eqb (be16 s 2) (length s) e
+counts s h e = ap (λ (t : Bool). t && eqb (be16 s 2) (length s)) (le-leb 4 (length s) h) ∙ eq-eqb (be16 s 2) (length s) e
 
 pub record Sa (s : List ℕ) (p : ℕ) : Type 0 where
   pub head : 4 + spiSize p ≤ length s
@@ -149,7 +149,7 @@ sa-of s x e (is-sa i) = record {
   counts = counts s (omega (arith, i .least)) (i .size);
   place =
       let z : eqb (oct s 0) 0 ≡ false = ne-eqb (oct s 0) 0 (λ y. omega (arith, i .known, ap spiSize (sym (i .protocol) ∙ y))) in
-      ap inPolicy (sym (i .protocol)) ∙ ap (λ (t : Bool). either t place.GroupWidePolicy (inPolicy (oct s 0))) (sym z);
+      ap inPolicy (sym (i .protocol)) ∙ ap (λ (t : Bool). cond t place.GroupWidePolicy (inPolicy (oct s 0))) (sym z);
   first = λ c.
       ap (λ (n : ℕ). selectorStep s c atDestination (4 + spiSize n)) (sym (i .protocol)) ∙ ap (onAll (stayStep c) (firstIn s c)) (sym e);
 }
@@ -177,7 +177,7 @@ wide-of s x e (is-wide i) =
           ap (shownAttributes p (length s)) (a .1)
           ∙ ap (onAll [] (shownAttributes p (length s))) (sym (are-read p (i .held) 4)) ∙ ap (onAll [] (itemsIn s)) (sym e);
       counts = counts s (i .least) (i .size);
-      place = ap (λ (t : Bool). either t p (inPolicy (oct s 0))) (sym (eq-eqb (oct s 0) 0 (i .first)));
+      place = ap (λ (t : Bool). cond t p (inPolicy (oct s 0))) (sym (eq-eqb (oct s 0) 0 (i .first)));
       first = λ c. ap (onAll (stayStep c) (firstIn s c)) (sym e);
     }
 

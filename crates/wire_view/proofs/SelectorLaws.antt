@@ -2,12 +2,12 @@
 use Prim.Native.Nat.{ℕ, _+_, _<_, _≤_}
 use mathlib.Core.Path.{_≡_, _∙_}
 use mathlib.Core.List.{List}
-use mathlib.Core.Bool.{Bool, true, false}
+use mathlib.Core.Bool.{Bool, true, false, cond}
 use native.Mathlib.Omega.{arith}
 use lib.Dec.{eqb}
 use lib.ListN.{length}
 use Rattle.octets.specs.Numbers.{oct}
-use Rattle.octets.specs.Walk.{be16, either}
+use Rattle.octets.specs.Walk.{be16}
 use Rattle.wire_policies.specs.Selector.{Selector, selectorSize}
 use Rattle.wire_policies.specs.Grammar.{IsSelector}
 use Rattle.wire_view.specs.View.{shownSelector}
@@ -16,7 +16,7 @@ use Rattle.wire_view.specs.declared.items.Item.the-variants as item
 least-size : (t : ℕ) → 0 < selectorSize t → 16 ≤ selectorSize t
 least-size t = go (eqb t 7) (eqb t 8)
   where
-    go : (u v : Bool) → 0 < either u 16 (either v 40 0) → 16 ≤ either u 16 (either v 40 0)
+    go : (u v : Bool) → 0 < cond u 16 (cond v 40 0) → 16 ≤ cond u 16 (cond v 40 0)
     go true v h = omega arith
     go false true h = omega arith
     go false false h = absurd (omega arith)

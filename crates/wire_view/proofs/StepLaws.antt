@@ -2,16 +2,17 @@
 use Prim.Native.Nat.{ℕ, _+_, _-_, _/_, _%_, _<_, _≤_}
 use mathlib.Core.Path.{_≡_, refl, ap, sym, _∙_, subst}
 use mathlib.Core.List.{List, [], _++_}
-use mathlib.Core.Bool.{Bool, true, false}
+use mathlib.Core.Bool.{Bool, true, false, cond, _&&_}
 use native.Mathlib.Nat.{add-zero}
 use native.Mathlib.Omega.{arith}
 use borrow.Author.Tests.{lt-leb, eq-eqb, ne-eqb}
 use lib.Dec.{leb, eqb}
 use lib.ListN.{length, take, drop, length-append, length-drop, drop-of-length-le}
 use lib.Seq.{getD-drop, take-append-seam}
+use Rattle.lists.proofs.Cases.{and-parts}
 use Rattle.octets.specs.Numbers.{oct}
-use Rattle.octets.specs.Walk.{be16, part, either, both, Reading, whole, broken, Reader, Linked}
-use Rattle.octets.proofs.Walks.{tail, Takes, both-true, to-end}
+use Rattle.octets.specs.Walk.{be16, part, Reading, whole, broken, Reader, Linked}
+use Rattle.octets.proofs.Walks.{tail, Takes, to-end}
 use Rattle.octets.proofs.Inverse.{inverse-opened}
 use Rattle.wire_attributes.specs.Attribute.{Attribute, attributeSize, attributeOf, fits}
 use Rattle.wire_attributes.specs.Layout.{formedIn, fitsIn, attribute}
@@ -127,7 +128,7 @@ module _ (s : List ℕ) (c at : ℕ) where
   shows x = shownTransform (x .item)
 
   abbrev comes-next : Linked Bool Transform → ℕ
-  comes-next x = either (x .next) atTransform atAttribute
+  comes-next x = cond (x .next) atTransform atAttribute
 
   pub transform-past : length s < at → stayStep c ≡ transformStep s c at
   unfolding transform
@@ -172,11 +173,11 @@ module _ (s : List ℕ) (c at : ℕ) where
 
         pub over-transform : m ≡ 3 → (n : ℕ) → n ≡ cursorAt (at + e) atTransform → told r n ≡ transformStep s c at
         over-transform z n nq =
-            over n (nq ∙ ap (λ (t : Bool). cursorAt (at + e) (either t atTransform atAttribute)) (sym (mark ∙ eq-eqb m 3 z)))
+            over n (nq ∙ ap (λ (t : Bool). cursorAt (at + e) (cond t atTransform atAttribute)) (sym (mark ∙ eq-eqb m 3 z)))
 
         pub over-last : (m ≡ 3 → ⊥) → (n : ℕ) → n ≡ cursorAt (at + e) atAttribute → told r n ≡ transformStep s c at
         over-last z n nq =
-            over n (nq ∙ ap (λ (t : Bool). cursorAt (at + e) (either t atTransform atAttribute)) (sym (mark ∙ ne-eqb m 3 z)))
+            over n (nq ∙ ap (λ (t : Bool). cursorAt (at + e) (cond t atTransform atAttribute)) (sym (mark ∙ ne-eqb m 3 z)))
 
   -- AN ATTRIBUTE
   pub attribute-past : length s < at → stayStep c ≡ attributeStep s c at
@@ -210,7 +211,7 @@ module _ (s : List ℕ) (c at : ℕ) where
           let g = inverse-opened at (fitsIn p y) (whole (attributeOf y) (drop (attributeSize y) y)) (n .item) (drop (at + e) s) (n .is) in
           let k = g .1 in
           let u : attributeOf y ≡ n .item = cc in
-          (both-true (fits y) (formedIn p (attributeOf y)) (g .0) .0, u)
+          (and-parts (fits y) (formedIn p (attributeOf y)) (g .0) .0, u)
 
       pub over-attribute : (r : Item) → (fits (tail s at) ≡ true → r ≡ shownAttribute p at (attributeOf (tail s at)))
           → (n : ℕ) → n ≡ cursorAt (at + e) atAttribute → told r n ≡ attributeStep s c at
@@ -227,24 +228,24 @@ module _ (s : List ℕ) (c at : ℕ) where
 module _ (s : List ℕ) (c : ℕ) where
   pub too-short : length s < 4 → stayStep c ≡ stepAt s c
   too-short h =
-      ap (λ (t : Bool). either (both t (eqb (be16 s 2) (length s))) (stepBy s c (c % 4) (c / 4)) (stayStep c))
+      ap (λ (t : Bool). cond (t && eqb (be16 s 2) (length s)) (stepBy s c (c % 4) (c / 4)) (stayStep c))
       (sym (lt-leb 4 (length s) h))
 
   pub other-size : (n : ℕ) → n ≡ be16 s 2 → (n ≡ length s → ⊥) → stayStep c ≡ stepAt s c
   other-size n q z = uncounted (leb 4 (length s))
     where
-      uncounted : (t : Bool) → stayStep c ≡ either (both t (eqb (be16 s 2) (length s))) (stepBy s c (c % 4) (c / 4)) (stayStep c)
+      uncounted : (t : Bool) → stayStep c ≡ cond (t && eqb (be16 s 2) (length s)) (stepBy s c (c % 4) (c / 4)) (stayStep c)
       uncounted false = refl
       uncounted true =
-          ap (λ (t : Bool). either t (stepBy s c (c % 4) (c / 4)) (stayStep c))
+          ap (λ (t : Bool). cond t (stepBy s c (c % 4) (c / 4)) (stayStep c))
           (sym (ne-eqb (be16 s 2) (length s) (λ y. z (q ∙ y))))
 
   pub whole-size : 4 ≤ length s → (n : ℕ) → n ≡ be16 s 2 → n ≡ length s → stepBy s c (c % 4) (c / 4) ≡ stepAt s c
   whole-size h n q z =
-      ap (λ (t : Bool). either t (stepBy s c (c % 4) (c / 4)) (stayStep c)) (sym (counts s h (sym q ∙ z)))
+      ap (λ (t : Bool). cond t (stepBy s c (c % 4) (c / 4)) (stayStep c)) (sym (counts s h (sym q ∙ z)))
 
   pub goes-by : (k b : ℕ) → isCounted s ≡ true → c % 4 ≡ k → c / 4 ≡ b → stepAt s c ≡ stepBy s c k b
-  goes-by k b h kq bq = λ j. either (h j) (stepBy s c (kq j) (bq j)) (stayStep c)
+  goes-by k b h kq bq = λ j. cond (h j) (stepBy s c (kq j) (bq j)) (stayStep c)
 
   module _ (comes b : ℕ) where
     pub by-first : comes ≡ 0 → firstStep s c ≡ stepBy s c comes b
@@ -261,16 +262,16 @@ module _ (s : List ℕ) (c : ℕ) where
         let f = ne-eqb comes 0 x in
         let g = ne-eqb comes atDestination y in
         let k = ne-eqb comes atTransform z in
-        λ j. either (sym f j) (firstStep s c)
-        (either (sym g j) (selectorStep s c atTransform b) (either (sym k j) (transformStep s c b) (attributeStep s c b)))
+        λ j. cond (sym f j) (firstStep s c)
+        (cond (sym g j) (selectorStep s c atTransform b) (cond (sym k j) (transformStep s c b) (attributeStep s c b)))
 
 -- the place of a policy's attributes
 module _ (s : List ℕ) (p : ℕ) (pq : p ≡ oct s 0) where
   pub place-wide : p ≡ 0 → place.GroupWidePolicy ≡ policyPlace s
   place-wide z =
-      ap (λ (t : Bool). either t place.GroupWidePolicy (inPolicy (oct s 0))) (sym (eq-eqb (oct s 0) 0 (sym pq ∙ z)))
+      ap (λ (t : Bool). cond t place.GroupWidePolicy (inPolicy (oct s 0))) (sym (eq-eqb (oct s 0) 0 (sym pq ∙ z)))
 
   pub place-sa : (p ≡ 0 → ⊥) → inPolicy p ≡ policyPlace s
   place-sa z =
       ap inPolicy pq
-      ∙ ap (λ (t : Bool). either t place.GroupWidePolicy (inPolicy (oct s 0))) (sym (ne-eqb (oct s 0) 0 (λ y. z (pq ∙ y))))
+      ∙ ap (λ (t : Bool). cond t place.GroupWidePolicy (inPolicy (oct s 0))) (sym (ne-eqb (oct s 0) 0 (λ y. z (pq ∙ y))))

@@ -3,12 +3,12 @@
 use Prim.Native.Nat.{ℕ, zero, suc, _+_, _-_, _/_, _%_, _≤_}
 use mathlib.Core.Path.{_≡_, refl, ap, sym, _∙_, subst}
 use mathlib.Core.List.{List, [], _∷_, _++_, map}
-use mathlib.Core.Bool.{Bool, true, false}
+use mathlib.Core.Bool.{Bool, true, false, cond}
 use native.Mathlib.Omega.{arith}
 use lib.Dec.{eqb}
 use lib.ListN.{length, take, drop, length-append, length-drop}
 use lib.Seq.{drop-drop, drop-append-seam}
-use Rattle.octets.specs.Walk.{either, Reading, whole, broken, Linked, Spans, none, more, Row, no-more, then}
+use Rattle.octets.specs.Walk.{Reading, whole, broken, Linked, Spans, none, more, Row, no-more, then}
 use Rattle.octets.proofs.Walks.{by-test}
 use Rattle.wire_attributes.specs.Attribute.{Attribute}
 use Rattle.wire_attributes.specs.Layout.{attribute, attributes}
@@ -46,12 +46,12 @@ module _ (s : List ℕ) where
       → shownIn (suc n) s c ≡ x ∷ shownIn n s m
   unfolding shownIn
   goes n c x m q f =
-      (λ j. either (isNothing (q j .item)) [] (q j .item ∷ shownIn n s (q j .next)))
-      ∙ ap (λ (t : Bool). either t [] (x ∷ shownIn n s m)) f
+      (λ j. cond (isNothing (q j .item)) [] (q j .item ∷ shownIn n s (q j .next)))
+      ∙ ap (λ (t : Bool). cond t [] (x ∷ shownIn n s m)) f
 
   ends : (n c : ℕ) → stepAt s c ≡ stayStep c → shownIn (suc n) s c ≡ []
   unfolding shownIn
-  ends n c q = λ j. either (isNothing (q j .item)) [] (q j .item ∷ shownIn n s (q j .next))
+  ends n c q = λ j. cond (isNothing (q j .item)) [] (q j .item ∷ shownIn n s (q j .next))
 
   -- o stands from b on, before t
   record Stands (b : ℕ) (o t : List ℕ) : Type 0 where
@@ -102,7 +102,7 @@ module _ (s : List ℕ) where
 
     -- TRANSFORMS, THEN ATTRIBUTES
     abbrev comes : Bool → ℕ
-    comes go = either go atTransform atAttribute
+    comes go = cond go atTransform atAttribute
 
     transforms-walk : (n b : ℕ) (go : Bool) {t : List ℕ} {l : List Transform} {tail : List ℕ} {m : List Attribute}
         → Spans noMore IsTransform go t l tail → Row (IsAttribute (policyPlace s)) tail m → drop b s ≡ t → b + length t ≡ length s
@@ -226,7 +226,7 @@ module _ (s : List ℕ) (c : ℕ) where
   transform-stays : (b : ℕ) → Stays c (transformStep s c b)
   transform-stays b =
       by-reading (λ (x : Linked Bool Transform). shownTransform (x .item))
-      (λ (x : Linked Bool Transform). either (x .next) atTransform atAttribute) (λ x. refl) (transform 0 true b (drop b s))
+      (λ (x : Linked Bool Transform). cond (x .next) atTransform atAttribute) (λ x. refl) (transform 0 true b (drop b s))
 
   attribute-stays : (b : ℕ) → Stays c (attributeStep s c b)
   attribute-stays b =

@@ -2,12 +2,12 @@
 -- is shown as a view that holds a reference to its stretch of the frame".
 use Prim.Native.Nat.{ℕ, zero, suc, _+_, _-_, _*_, _/_, _%_}
 use mathlib.Core.List.{List, [], _∷_, _++_, map}
-use mathlib.Core.Bool.{Bool, true, false}
+use mathlib.Core.Bool.{Bool, true, false, cond, _&&_}
 use lib.Dec.{leb, eqb}
 use lib.ListN.{length, drop, getD}
-use Rattle.ikev2_numbers.specs.Codes.{addressesAt, policyHeadOctets, structureLengthAt}
+use Rattle.ikev2_numbers.specs.Codes.{addressesAt, noProtocol, policyHeadOctets, structureLengthAt}
 use Rattle.octets.specs.Numbers.{oct}
-use Rattle.octets.specs.Walk.{be16, either, both, Reading, whole, broken, Linked}
+use Rattle.octets.specs.Walk.{be16, Reading, whole, broken, Linked}
 use Rattle.wire_attributes.specs.Attribute.{Attribute, leadOf, spanOf}
 use Rattle.wire_attributes.specs.Place.{meaningOf, inPolicy}
 use Rattle.wire_attributes.specs.Layout.{attribute, attributes}
@@ -135,11 +135,11 @@ selectorStep s c comes b = stepped s c (shownSelector b) (λ (x : Selector). com
 abbrev pub transformStep : List ℕ → ℕ → ℕ → Step
 transformStep s c b =
     stepped s c (λ (x : Linked Bool Transform). shownTransform (x .item))
-    (λ (x : Linked Bool Transform). either (x .next) atTransform atAttribute) (transform 0 true b (drop b s))
+    (λ (x : Linked Bool Transform). cond (x .next) atTransform atAttribute) (transform 0 true b (drop b s))
 
 -- the place of the attributes of the policy `s`, by its first octet
 abbrev pub policyPlace : List ℕ → Place
-policyPlace s = either (eqb (oct s 0) 0) place.GroupWidePolicy (inPolicy (oct s 0))
+policyPlace s = cond (eqb (oct s 0) noProtocol) place.GroupWidePolicy (inPolicy (oct s 0))
 
 abbrev pub attributeStep : List ℕ → ℕ → ℕ → Step
 attributeStep s c b =
@@ -156,16 +156,16 @@ firstStep s c = onAll (stayStep c) (firstIn s c) (policy 0 s)
 -- the step from the cursor `c`, by what `comes` there and at which offset `b`
 abbrev pub stepBy : List ℕ → ℕ → ℕ → ℕ → Step
 stepBy s c comes b =
-    either (eqb comes 0) (firstStep s c)
-    (either (eqb comes atDestination) (selectorStep s c atTransform b)
-    (either (eqb comes atTransform) (transformStep s c b) (attributeStep s c b)))
+    cond (eqb comes 0) (firstStep s c)
+    (cond (eqb comes atDestination) (selectorStep s c atTransform b)
+    (cond (eqb comes atTransform) (transformStep s c b) (attributeStep s c b)))
 
 -- whether the octets are as many as their "length 2" says; others show nothing
 abbrev pub isCounted : List ℕ → Bool
-isCounted s = both (leb policyHeadOctets (length s)) (eqb (be16 s structureLengthAt) (length s))
+isCounted s = leb policyHeadOctets (length s) && eqb (be16 s structureLengthAt) (length s)
 
 abbrev pub stepAt : List ℕ → ℕ → Step
-stepAt s c = either (isCounted s) (stepBy s c (c % parts) (c / parts)) (stayStep c)
+stepAt s c = cond (isCounted s) (stepBy s c (c % parts) (c / parts)) (stayStep c)
 
 -- the parts of a step: what stands at the cursor, the cursor behind it, and whether nothing stands there
 abbrev pub itemAt : List ℕ → ℕ → Item
@@ -188,4 +188,4 @@ unfoldable pub shownIn : ℕ → List ℕ → ℕ → List Item
 shownIn zero s c = []
 shownIn (suc n) s c =
     let rest = shownIn n s (nextAfter s c) in
-    either (isAtEnd s c) [] (itemAt s c ∷ rest)
+    cond (isAtEnd s c) [] (itemAt s c ∷ rest)

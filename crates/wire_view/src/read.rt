@@ -8,6 +8,7 @@ ghost use Rattle.wire_view.specs.View.{stepBy};
 ghost use Rattle.wire_view.specs.View.{stepAt, itemAt, nextAfter, isAtEnd};
 use crate::items::Item;
 use ikev2_numbers::MORE_TRANSFORMS;
+use ikev2_numbers::NO_PROTOCOL;
 use ikev2_numbers::POLICY_HEAD;
 use ikev2_numbers::STRUCTURE_LENGTH_AT;
 use wire_attributes::Spot;
@@ -31,7 +32,7 @@ pub fn kind_of(s: &[u8]) -> Kind
         match wire_policies::policy_spot(s, 0) {
             Spot::Ends(_) => {
                 let p = octets::wide(s[0]);
-                if p == 0 {
+                if p == NO_PROTOCOL {
                     return Kind::GroupWide;
                 }
                 return Kind::GroupSa(p);
@@ -147,7 +148,7 @@ fn place_of(s: &[u8]) -> Place
     ensures { λ r. ⌜ r ≡ policyPlace (now (s .entry)) ⌝ }
 {
     let p = octets::wide(s[0]);
-    if p == 0 {
+    if p == NO_PROTOCOL {
         return Place::GroupWidePolicy;
     }
     wire_attributes::tables::in_policy(p)

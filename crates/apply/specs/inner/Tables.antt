@@ -6,7 +6,7 @@ use mathlib.Core.List.{List, _++_, map}
 use lib.Dec.{eqb, leb}
 use lib.ListN.{length, take, drop}
 use Rattle.octets.specs.Compare.{same}
-use Rattle.state_keys.specs.Lists.{any}
+use Rattle.lists.specs.Lists.{any}
 use Rattle.state_keys.specs.Limits.{limits}
 use Rattle.wire_frames.specs.Delete.{Delete}
 use Rattle.check_payloads.specs.inner.Deletion.{DeletesFrom}

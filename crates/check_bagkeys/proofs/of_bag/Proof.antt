@@ -22,12 +22,16 @@ in-bag-requires : tie.Need-in-bag-requires
 in-bag-requires c κs = search needs
 
 keys-of-requires-2 : tie.Need-keys-of-requires-2
-keys-of-requires-2 c κs =
-    (refl, group-held limits (c .before .before .before .args .fresh) _ _ (c .before .if1 .left) (c .before .before .before .pre) _ (c .in-bag .ensures))
+keys-of-requires-2 c κs = (
+  refl,
+  group-held limits (c .before .before .before .args .fresh) _ _ (c .before .if1 .left) (c .before .before .before .pre) _
+      (c .in-bag .ensures),
+)
 
-keys-of-requires-3 : tie.Need-keys-of-requires-3
-keys-of-requires-3 c κs =
-    (refl, group-held limits (c .before .before .before .before .args .fresh) _ _ (c .before .before .if1 .left) (c .before .before .before .before .pre) _ (c .before .in-bag .ensures))
+fresh-of-requires : tie.Need-fresh-of-requires
+fresh-of-requires c κs =
+    (group-held limits (c .before .before .before .before .args .fresh) _ _ (c .before .before .if1 .left)
+    (c .before .before .before .before .pre) _ (c .before .in-bag .ensures))
 
 of-group-requires : tie.Need-of-group-requires
 of-group-requires c κs = search needs
@@ -37,7 +41,8 @@ returns-2 c =
     let e = c .before in
     let k = e .before in
     of-group-is limits _ _ (now (k .before .before .before .before .args .a)) _ _ _ (k .before .before .if1 .left) _
-    (k .before .in-bag .ensures) (k .keys-of2 .ensures) (e .keys-of3 .ensures) (c .of-group .ensures)
+    (k .before .in-bag .ensures) (k .keys-of2 .ensures) (e .fresh-of .ensures (k .before .before .before .before .args .first)
+    (k .before .in-bag .ensures)) (c .of-group .ensures)
 
 pub of-bag-spec : {M : Type 1} → statement M
 of-bag-spec =
@@ -48,6 +53,6 @@ of-bag-spec =
     returns
     in-bag-requires
     keys-of-requires-2
-    keys-of-requires-3
+    fresh-of-requires
     of-group-requires
     returns-2)

@@ -2,13 +2,13 @@
 -- 7 asks of the frame's bags, in the clause's own words.
 use Prim.Native.Nat.{ℕ, _+_, _≤_}
 use mathlib.Core.Path.{_≡_}
-use mathlib.Core.List.{List}
-use mathlib.Core.Bool.{Bool, true, false, not, _&&_, _||_}
+use mathlib.Core.List.{List, flatMap}
+use mathlib.Core.Bool.{Bool, true, false, not, _&&_, _||_, cond}
 use lib.ListN.{length}
 use lib.Dec.{ltb, eqb}
-use Rattle.ikev2_numbers.specs.Codes.{kwkIdAt}
-use Rattle.octets.specs.Walk.{be32, either}
-use Rattle.state_keys.specs.Lists.{any}
+use Rattle.ikev2_numbers.specs.Codes.{kwkIdAt, noProtocol}
+use Rattle.octets.specs.Walk.{be32}
+use Rattle.lists.specs.Lists.{any}
 use Rattle.state_keys.specs.Limits.{Limits}
 use Rattle.wire_attributes.specs.Attribute.{Attribute}
 use Rattle.wire_attributes.specs.Tree.{SaKey, WrapKey, wrapKeys}
@@ -18,7 +18,7 @@ use Rattle.wire_attributes.specs.declared.tables.Place.the-variants as place
 use Rattle.wire_bags.specs.Bag.{Bag, groupKeys, memberKeys, GroupKeyBag, MemberKeyBag, placeOf, groupKeyBagOf}
 use Rattle.wire_readers.specs.inner.Values.{attributesIn}
 use Rattle.state_sa.specs.Entry.{espProtocol, rekeyProtocol}
-use Rattle.rules_refusals.specs.Contents.{gather, groupBagOf, memberBagOf}
+use Rattle.rules_refusals.specs.Contents.{groupBagOf, memberBagOf}
 use Rattle.rules_refusals.specs.Fitness.{ah}
 use Rattle.rules_refusals.specs.Number6.{hasKeyId, hasKwkId, underItself}
 use Rattle.check_bagkeys.specs.declared.wrapped.KeyFacts.{KeyFacts}
@@ -124,7 +124,8 @@ ofBag limits (memberKeys b) = ofMember (ofWrapKeys (b .keys))
 
 -- the bag with first octet `p`, SPI `x` and attributes `l`; `fresh` says whether fresh keys are read in the Rekey SA's bag
 abbrev pub bagWith : Bool → ℕ → List ℕ → List Attribute → Bag
-bagWith fresh p x l = either (eqb p 0) (memberKeys (record { keys = wrapKeys place.MemberBag l })) (groupKeys (groupKeyBagOf fresh p x l))
+bagWith fresh p x l =
+    cond (eqb p noProtocol) (memberKeys (record { keys = wrapKeys place.MemberBag l })) (groupKeys (groupKeyBagOf fresh p x l))
 
 -- `r` are the facts of the bag with first octet `p` and the attributes `a`, whatever its SPI; its counts are small
 pub record IsOfBag (limits : Limits) (fresh : Bool) (p : ℕ) (a : List ℕ) (r : BagFacts) : Type 0 where
@@ -171,25 +172,25 @@ mergeBagFacts a b = record {
 }
 
 abbrev pub wrapsIn : List Bag → List WrapKey
-wrapsIn l = gather (λ (b : MemberKeyBag). b .keys) (gather memberBagOf l)
+wrapsIn l = flatMap (λ (b : MemberKeyBag). b .keys) (flatMap memberBagOf l)
 
 abbrev pub freshIn : List Bag → List WrapKey
-freshIn l = gather (λ (b : GroupKeyBag). b .fresh) (gather groupBagOf l)
+freshIn l = flatMap (λ (b : GroupKeyBag). b .fresh) (flatMap groupBagOf l)
 
 -- THE FACTS OF THE BAGS `l`
 abbrev pub bagFactsOf : Limits → List Bag → BagFacts
 bagFactsOf limits l = record {
-  members = length (gather memberBagOf l);
+  members = length (flatMap memberBagOf l);
   wraps = length (wrapsIn l);
   unnamed = any (λ (k : WrapKey). eqb (k .keyId) 0) (wrapsIn l);
   itself = any underItself (wrapsIn l);
-  ah = any (λ (b : GroupKeyBag). eqb (b .protocol) ah) (gather groupBagOf l);
-  keyless = any (λ (b : GroupKeyBag). eqb (length (b .keys)) 0) (gather groupBagOf l);
-  several = any (λ (b : GroupKeyBag). not (eqb (b .protocol) rekeyProtocol) && ltb 1 (length (b .keys))) (gather groupBagOf l);
-  «several_of_rekey» = any (λ (b : GroupKeyBag). eqb (b .protocol) rekeyProtocol && ltb 1 (length (b .keys))) (gather groupBagOf l);
-  overfull = any (λ (b : GroupKeyBag). ltb (limits .saKeys) (length (b .keys))) (gather groupBagOf l);
-  named = any (λ (b : GroupKeyBag). any hasKeyId (b .keys)) (gather groupBagOf l);
-  «esp_with_kwk_id» = any (λ (b : GroupKeyBag). eqb (b .protocol) espProtocol && any hasKwkId (b .keys)) (gather groupBagOf l);
+  ah = any (λ (b : GroupKeyBag). eqb (b .protocol) ah) (flatMap groupBagOf l);
+  keyless = any (λ (b : GroupKeyBag). eqb (length (b .keys)) 0) (flatMap groupBagOf l);
+  several = any (λ (b : GroupKeyBag). not (eqb (b .protocol) rekeyProtocol) && ltb 1 (length (b .keys))) (flatMap groupBagOf l);
+  «several_of_rekey» = any (λ (b : GroupKeyBag). eqb (b .protocol) rekeyProtocol && ltb 1 (length (b .keys))) (flatMap groupBagOf l);
+  overfull = any (λ (b : GroupKeyBag). ltb (limits .saKeys) (length (b .keys))) (flatMap groupBagOf l);
+  named = any (λ (b : GroupKeyBag). any hasKeyId (b .keys)) (flatMap groupBagOf l);
+  «esp_with_kwk_id» = any (λ (b : GroupKeyBag). eqb (b .protocol) espProtocol && any hasKwkId (b .keys)) (flatMap groupBagOf l);
   fresh = length (freshIn l);
   «fresh_unnamed» = any (λ (k : WrapKey). eqb (k .keyId) 0) (freshIn l);
   «fresh_itself» = any underItself (freshIn l);

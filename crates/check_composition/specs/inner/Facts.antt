@@ -3,11 +3,11 @@
 -- for the controller's authentication.
 use Prim.Native.Nat.{ℕ, _+_, _<_, _≤_}
 use mathlib.Core.Path.{_≡_}
-use mathlib.Core.List.{List, []}
+use mathlib.Core.List.{List, [], flatMap}
 use mathlib.Core.Bool.{Bool, true, false, not, cond, _&&_, _||_}
 use lib.ListN.{length}
 use lib.Dec.{ltb, eqb}
-use Rattle.state_keys.specs.Lists.{any, count}
+use Rattle.lists.specs.Lists.{any, count}
 use Rattle.wire_attributes.specs.Place.{inPolicy}
 use Rattle.wire_attributes.specs.Tree.{initialMessageIds, keyLifetimes}
 use Rattle.wire_attributes.specs.Layout.{attributes}
@@ -16,7 +16,7 @@ use Rattle.wire_policies.specs.Policy.{Policy, groupSa, groupWide, GroupSaPolic
 use Rattle.wire_policies.specs.Grammar.{IsSaBody}
 use Rattle.wire_readers.specs.inner.Values.{isWhole, attributesIn}
 use Rattle.state_sa.specs.Entry.{mostSeconds}
-use Rattle.rules_refusals.specs.Contents.{several, gather, groupSaIn, wideOf}
+use Rattle.rules_refusals.specs.Contents.{several, groupSaIn, wideOf}
 use Rattle.rules_refusals.specs.Fitness.{ah, isEsp, isRekey, oneGroupAddress, transformsFit}
 use Rattle.rules_refusals.specs.Number4.{twiceInTransform}
 use Rattle.check_suites.specs.inner.Adding.{once}
@@ -153,18 +153,18 @@ pub record Added (a b : PolicyFacts) : Type 0 where
 -- THE FACTS OF THE POLICIES `l`
 abbrev pub policyFactsOf : Bool → List Policy → PolicyFacts
 policyFactsOf authentication l = record {
-  sas = length (gather groupSaIn l);
-  esps = count isEsp (gather groupSaIn l);
-  rekeys = count isRekey (gather groupSaIn l);
-  wides = length (gather wideOf l);
-  ah = any (λ (p : GroupSaPolicy). eqb (p .protocol) ah) (gather groupSaIn l);
-  «two_lengths» = any (λ (p : GroupSaPolicy). any twiceInTransform (p .transforms)) (gather groupSaIn l);
-  «two_message_ids» = any (λ (p : GroupSaPolicy). several (p .initialMessageIds)) (gather groupSaIn l);
-  «two_delays» = any (λ (w : GroupWidePolicy). several (w .deactivationDelays)) (gather wideOf l);
-  «two_lifetimes» = any (λ (p : GroupSaPolicy). several (p .keyLifetimes)) (gather groupSaIn l);
-  elsewhere = any (λ (p : GroupSaPolicy). isRekey p && not (oneGroupAddress (p .destination))) (gather groupSaIn l);
-  long = any hasLong (gather groupSaIn l);
-  unfit = any (λ (p : GroupSaPolicy). not (transformsFit authentication p)) (gather groupSaIn l);
-  delay = greatest (gather (λ (w : GroupWidePolicy). w .deactivationDelays) (gather wideOf l));
-  initial = greatest (gather givenBy (gather groupSaIn l));
+  sas = length (flatMap groupSaIn l);
+  esps = count isEsp (flatMap groupSaIn l);
+  rekeys = count isRekey (flatMap groupSaIn l);
+  wides = length (flatMap wideOf l);
+  ah = any (λ (p : GroupSaPolicy). eqb (p .protocol) ah) (flatMap groupSaIn l);
+  «two_lengths» = any (λ (p : GroupSaPolicy). any twiceInTransform (p .transforms)) (flatMap groupSaIn l);
+  «two_message_ids» = any (λ (p : GroupSaPolicy). several (p .initialMessageIds)) (flatMap groupSaIn l);
+  «two_delays» = any (λ (w : GroupWidePolicy). several (w .deactivationDelays)) (flatMap wideOf l);
+  «two_lifetimes» = any (λ (p : GroupSaPolicy). several (p .keyLifetimes)) (flatMap groupSaIn l);
+  elsewhere = any (λ (p : GroupSaPolicy). isRekey p && not (oneGroupAddress (p .destination))) (flatMap groupSaIn l);
+  long = any hasLong (flatMap groupSaIn l);
+  unfit = any (λ (p : GroupSaPolicy). not (transformsFit authentication p)) (flatMap groupSaIn l);
+  delay = greatest (flatMap (λ (w : GroupWidePolicy). w .deactivationDelays) (flatMap wideOf l));
+  initial = greatest (flatMap givenBy (flatMap groupSaIn l));
 }

@@ -3,9 +3,9 @@ use Prim.Native.Nat.{ℕ, _+_}
 use mathlib.Core.List.{List, [], _∷_}
 use mathlib.Core.Bool.{Bool, not, _&&_, _||_}
 use lib.Dec.{ltb}
-use Rattle.state_keys.specs.Lists.{any}
+use Rattle.lists.specs.Lists.{any}
 use Rattle.state_keys.specs.Limits.{Limits}
-use Rattle.state_keys.specs.Algorithms.{sizeOf}
+use Rattle.state_keys.specs.Algorithms.{isWrappingSize}
 use Rattle.state_sa.specs.declared.entry.Sa.{Sa}
 use Rattle.wire_frames.specs.declared.exchanges.Exchange.{Exchange}
 use Rattle.check_payloads.specs.declared.PayloadFacts.{PayloadFacts}
@@ -14,10 +14,10 @@ use Rattle.check_composition.specs.declared.PolicyFacts.{PolicyFacts}
 use Rattle.check_bagkeys.specs.declared.BagFacts.{BagFacts}
 use Rattle.check_pairing.specs.inner.Names.{Name, isUnpaired, isAnnounced}
 use Rattle.check_judging.specs.declared.facts.Facts.{Facts}
-use Rattle.check_judging.specs.declared.number4.Four.{Four}
-use Rattle.check_judging.specs.declared.number5.Five.{Five}
+use Rattle.check_judging.specs.declared.number4.Clauses4.{Clauses4}
+use Rattle.check_judging.specs.declared.number5.Clauses5.{Clauses5}
 use Rattle.check_judging.specs.declared.number6.Keys.{Keys}
-use Rattle.check_judging.specs.declared.number7.Seven.{Seven}
+use Rattle.check_judging.specs.declared.number7.Clauses7.{Clauses7}
 
 -- an unknown critical payload, a barred Member bag, a barred D, two GSA, two KD, one without the other, neither; several Rekey policies,
 -- group-wide policies, Member bags; a GSA with no SA policy; Key Length, GSA_INITIAL_MESSAGE_ID, the delay twice; the Rekey destination;
@@ -33,7 +33,7 @@ number4Of row b p k =
 
 -- an AH policy, an AH bag, other transforms, D of another protocol, D with count 0, a lent key of the wrong size (`lent` octets)
 abbrev pub number5Of : Exchange → ℕ → Deletes → PolicyFacts → BagFacts → List Bool
-number5Of row lent d p k = p .ah ∷ k .ah ∷ p .unfit ∷ d .other ∷ d .none ∷ (row .«judges_lent_key» && not (sizeOf 13 lent)) ∷ []
+number5Of row lent d p k = p .ah ∷ k .ah ∷ p .unfit ∷ d .other ∷ d .none ∷ (row .«judges_lent_key» && not (isWrappingSize lent)) ∷ []
 
 -- the SA_KEY count, an SA_KEY with a Key ID, one of ESP with a KWK ID, a WRAP_KEY without Key ID, one under its own Key ID; a fresh key
 -- without Key ID, one under its own Key ID
@@ -67,17 +67,17 @@ abbrev pub number7By : Limits → Facts → ℕ → List Bool
 number7By limits x standing = number7Of limits (x .payloads .deletion) (x .policies) (x .bags) standing
 
 -- ---- the clauses that the code names one by one, as such lists
-abbrev pub number4In : Four → List Bool
+abbrev pub number4In : Clauses4 → List Bool
 number4In c =
     c .critical ∷ c .«member_bag» ∷ c .delete ∷ c .«two_gsa» ∷ c .«two_kd» ∷ c .«gsa_alone» ∷ c .«kd_alone» ∷ c .neither ∷ c .rekeys
     ∷ c .wides
     ∷ c .members ∷ c .«no_sa» ∷ c .«two_lengths» ∷ c .«two_message_ids» ∷ c .«two_delays» ∷ c .elsewhere ∷ c .«two_lifetimes» ∷ []
 
-abbrev pub number5In : Five → List Bool
+abbrev pub number5In : Clauses5 → List Bool
 number5In c = c .«ah_policy» ∷ c .«ah_bag» ∷ c .unfit ∷ c .other ∷ c .none ∷ c .key ∷ []
 
 abbrev pub keysIn : Keys → List Bool
 keysIn c = c .count ∷ c .named ∷ c .«esp_with_kwk_id» ∷ c .unnamed ∷ c .itself ∷ c .«fresh_unnamed» ∷ c .«fresh_itself» ∷ []
 
-abbrev pub number7In : Seven → List Bool
+abbrev pub number7In : Clauses7 → List Bool
 number7In c = c .esps ∷ c .wraps ∷ c .overfull ∷ c .spis ∷ c .long ∷ c .fresh ∷ c .sas ∷ []

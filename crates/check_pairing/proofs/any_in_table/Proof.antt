@@ -4,8 +4,8 @@ use mathlib.Core.Path.{_≡_, sym, refl, _∙_}
 use mathlib.Core.List.{List}
 use lib.ListN.{length, take, drop}
 use Rattle.state_keys.specs.Limits.{limits}
-use Rattle.state_keys.specs.Lists.{any}
-use Rattle.state_keys.proofs.Lists.{length-of-map}
+use Rattle.lists.specs.Lists.{any}
+use Rattle.lists.proofs.Lists.{length-of-map}
 use Rattle.check_pairing.specs.inner.Names.{Name, Names, isAnnounced}
 use Rattle.check_pairing.proofs.InTable.{any-yes, any-no, any-end}
 use borrow.Author.Needs.{needs}

@@ -3,14 +3,14 @@
 use Prim.Native.Nat.{ℕ, _<_}
 use mathlib.Core.Path.{_≡_}
 use mathlib.Core.List.{List, [], _∷_, _++_}
-use mathlib.Core.Bool.{Bool, true, not, _&&_}
+use mathlib.Core.Bool.{Bool, true, not, _&&_, cond}
 use lib.ListN.{length, drop}
 use lib.Dec.{eqb}
-use Rattle.ikev2_numbers.specs.Codes.{structureLengthAt}
+use Rattle.ikev2_numbers.specs.Codes.{noProtocol, structureLengthAt}
 use Rattle.octets.specs.Numbers.{oct}
-use Rattle.octets.specs.Walk.{be16, either}
+use Rattle.octets.specs.Walk.{be16}
 use Rattle.octets.specs.Compare.{same}
-use Rattle.state_keys.specs.Lists.{any, count}
+use Rattle.lists.specs.Lists.{any, count}
 use Rattle.state_sa.specs.Entry.{named}
 use Rattle.state_sa.specs.declared.entry.Sa.{Sa}
 use Rattle.state_table.specs.Table.{stays}
@@ -22,7 +22,7 @@ pub record Name : Type 0 where
 
 -- the name of a policy or key bag with first octet `p` and SPI `x`: a group-wide policy and a Member Key Bag have none
 abbrev pub nameOf : ℕ → List ℕ → List Name
-nameOf p x = either (eqb p 0) [] (record { protocol = p; spi = x } ∷ [])
+nameOf p x = cond (eqb p noProtocol) [] (record { protocol = p; spi = x } ∷ [])
 
 abbrev pub nameAt : List ℕ → List Name
 nameAt s = nameOf (oct s 0) (headSpi s)

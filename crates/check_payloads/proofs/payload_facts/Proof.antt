@@ -29,7 +29,8 @@ loop-holds : tie.Need-loop-holds Inv-loop μ-loop
 loop-holds c =
     let d = c .before .before .before .before in
     let s = now (d .args .s) in
-    payloads-start s (starts-whole (d .pre .0) s (d .pre .1)) (long (d .pre .0) s (d .pre .1)) _ (c .before .before .no-payloads .ensures) _ (c .wide .ensures .0)
+    payloads-start s (starts-whole (d .pre .0) s (d .pre .1)) (long (d .pre .0) s (d .pre .1)) _ (c .before .before .no-payloads .ensures) _
+    (c .wide .ensures .0)
 
 sub-payload-parts : tie.Need-sub-payload-parts Inv-loop μ-loop
 sub-payload-parts c = search needs
@@ -48,7 +49,8 @@ payload-parts-requires c κs =
 
 one : (c : tie.After-payload-parts Inv-loop μ-loop)
     → let l = c .before .before .before .loop in
-    Step false (l .kind) (now (c .before .before .before .before .before .before .before .before .args .s)) (l .at) (c .payload-parts .result)
+    Step false (l .kind) (now (c .before .before .before .before .before .before .before .before .args .s)) (l .at)
+    (c .payload-parts .result)
 one c =
     let l = c .before .before .before .loop in
     let s = now (c .before .before .before .before .before .before .before .before .args .s) in

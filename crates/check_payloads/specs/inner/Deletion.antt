@@ -1,19 +1,19 @@
--- The facts of the Delete payloads of a frame whose layout is whole. Fresh keys (document 02, T-11) make no difference to them: the payloads
--- are those that are read where fresh keys are not.
+-- The facts of the Delete payloads of a frame whose layout is whole. Fresh keys (document 02, T-11) make no difference to them: the
+-- payloads are those that are read where fresh keys are not.
 use Prim.Native.Nat.{ℕ, _+_, _*_, _<_, _≤_}
 use mathlib.Core.Path.{_≡_}
-use mathlib.Core.List.{List}
+use mathlib.Core.List.{List, flatMap}
 use mathlib.Core.Bool.{Bool, true, false, not, cond, _||_}
 use lib.ListN.{length, drop}
 use lib.Dec.{eqb}
 use Rattle.ikev2_numbers.specs.Codes.{deleteHeadOctets, payloadDelete}
 use Rattle.octets.specs.Numbers.{oct}
-use Rattle.state_keys.specs.Lists.{any}
+use Rattle.lists.specs.Lists.{any}
 use Rattle.wire_frames.specs.Delete.{Delete, deleteOf}
 use Rattle.wire_frames.specs.Frame.{Payload, payloads, nothingLeft}
 use Rattle.wire_readers.specs.inner.Values.{isWhole}
 use Rattle.wire_readers.specs.inner.Payloads.{payloadsIn}
-use Rattle.rules_refusals.specs.Contents.{gather, deletesOfContent}
+use Rattle.rules_refusals.specs.Contents.{deletesOfContent}
 use Rattle.state_sa.specs.Entry.{espProtocol}
 use Rattle.check_payloads.specs.declared.deletion.DeleteParts.{DeleteParts}
 use Rattle.check_payloads.specs.declared.deletion.Deletes.{Deletes}
@@ -34,10 +34,10 @@ abbrev pub ofNone : Delete → Bool
 ofNone d = eqb (length (d .spis)) 0
 
 abbrev pub spisIn : List Delete → List (List ℕ)
-spisIn l = gather (λ (d : Delete). d .spis) l
+spisIn l = flatMap (λ (d : Delete). d .spis) l
 
 abbrev pub deletesAmong : List Payload → List Delete
-deletesAmong l = gather (λ (p : Payload). deletesOfContent (p .content)) l
+deletesAmong l = flatMap (λ (p : Payload). deletesOfContent (p .content)) l
 
 abbrev pub deletesBy : List Delete → Deletes
 deletesBy l = record { other = any ofOther l; none = any ofNone l; spis = length (spisIn l) }

@@ -8,7 +8,7 @@ use mathlib.Core.Bool.{Bool, true, false, not, cond, _&&_, _||_}
 use lib.ListN.{drop}
 use lib.Dec.{eqb}
 use Rattle.ikev2_numbers.specs.Codes.{headerOctets, payloadDelete, payloadGsa, payloadKd}
-use Rattle.state_keys.specs.Lists.{any, count}
+use Rattle.lists.specs.Lists.{any, count}
 use Rattle.wire_frames.specs.Header.{firstPayload}
 use Rattle.wire_frames.specs.Delete.{deleteFits}
 use Rattle.wire_frames.specs.Frame.{Payload, isKnown}

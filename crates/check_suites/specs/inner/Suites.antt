@@ -6,7 +6,7 @@ use mathlib.Core.Bool.{Bool, not, _&&_, _||_}
 use lib.ListN.{length}
 use lib.Dec.{eqb}
 use Rattle.state_sa.specs.Entry.{espProtocol, rekeyProtocol}
-use Rattle.state_keys.specs.Lists.{count}
+use Rattle.lists.specs.Lists.{count}
 use Rattle.wire_policies.specs.Transform.{Transform}
 use Rattle.rules_refusals.specs.Fitness.{encryptionFits, keyWrapFits, sequenceNumbersFit, authenticationFits}
 use Rattle.rules_refusals.specs.Fitness.{sum, encryptionNeeds, keyWrapNeeds}

@@ -5,7 +5,7 @@ use mathlib.Core.Bool.{Bool, cond}
 use mathlib.Core.List.{List, [], _∷_}
 use lib.Dec.{leb, ltb, eqb}
 use Rattle.ikev2_numbers.specs.Codes.{headerOctets, mostOctets}
-use Rattle.state_keys.specs.Lists.{any}
+use Rattle.lists.specs.Lists.{any}
 use Rattle.fragments.specs.declared.Piece.{Piece}
 use Rattle.fragments.specs.Collection.{sizeOfAll}
 

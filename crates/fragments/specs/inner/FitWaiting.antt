@@ -5,7 +5,7 @@ use mathlib.Core.Bool.{Bool, true, false, _&&_}
 use lib.Dec.{leb}
 use lib.ListN.{length}
 use Rattle.ikev2_numbers.specs.Codes.{majorVersion, minorVersions, mostOctets, rekeySpiOctets}
-use Rattle.state_keys.specs.Lists.{all, rising}
+use Rattle.lists.specs.Lists.{all, rising}
 use Rattle.fragments.specs.declared.Collection.{Collection}
 use Rattle.fragments.specs.declared.Names.{Names}
 use Rattle.fragments.specs.Collection.{KeptPiece, Waiting, noLead, mostFragments, frameSize}

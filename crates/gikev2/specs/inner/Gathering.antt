@@ -6,7 +6,7 @@ use mathlib.Core.List.{List, []}
 use lib.ListN.{length}
 use Rattle.ikev2_numbers.specs.Codes.{mostOctets}
 use Rattle.state_keys.specs.Limits.{limits}
-use Rattle.state_keys.specs.Algorithms.{sizeOf}
+use Rattle.state_keys.specs.Algorithms.{isEncryptionSize}
 use Rattle.state_keys.specs.declared.kinds.EncryptionKey.{EncryptionKey}
 use Rattle.wire_frames.specs.Header.{headerOf}
 use Rattle.wire_frames.specs.Frame.{figure}
@@ -49,7 +49,7 @@ pub record PassedOpening (m : Member) (now : ℕ) (key : EncryptionKey) (octets 
 
 -- the fragment has a piece of p octets under the key, and that goes beside n others
 pub record ToWrite (c : Collection) (f : Names) (key : EncryptionKey) (octets : List ℕ) (p n : ℕ) : Type 0 where
-  pub sized : sizeOf 1 (key .count) ≡ true
+  pub sized : isEncryptionSize (key .count) ≡ true
   pub of : PieceOf (encryptionOctetsOf key) octets p
   pub counts : 1 ≤ f .total
   pub taking : Taking (counted c) f (of .piece) n

@@ -6,7 +6,7 @@ use mathlib.Core.List.{List}
 use Rattle.fips197.specs.Key.{Key}
 use Rattle.wire_attributes.specs.Tree.{SaKey, WrapKey}
 use Rattle.state_keys.specs.Limits.{limits}
-use Rattle.state_keys.specs.Algorithms.{sizeOf}
+use Rattle.state_keys.specs.Algorithms.{isWrappingSize}
 use Rattle.state_keys.specs.Kinds.{valueOf}
 use Rattle.state_keys.specs.declared.kinds.WrappingKey.{WrappingKey}
 use Rattle.wire_frames.specs.Frame.{Frame}
@@ -32,7 +32,7 @@ use Rattle.receive.specs.inner.Passing.{Passed, Bagged, readsBy, HeldTol
 pub record IsKeyZero (m : State) (now : ℕ) (lent : List ℕ) (f : Frame) (r : WrappingKey) : Type 0 where
   pub value : valueOf r ≡ keyZeroValue limits m now lent f
   pub size : r .count ≡ wrappingSize limits m now lent f
-  pub fits : sizeOf 13 (r .count) ≡ true
+  pub fits : isWrappingSize (r .count) ≡ true
   pub key : Key (valueOf r)
 
 module _ (roots : List Root) (entries : List WrapKey) (size : ℕ) where
@@ -46,10 +46,10 @@ module _ (roots : List Root) (entries : List WrapKey) (size : ℕ) where
     pub few : r .over ≡ false → r .held .count ≤ limits .heldKeys
     pub beyond : r .over ≡ true → OverHeld roots entries size limits b copies old
 
--- a frame f of the exchange with the row e, as `Bagged` says, for the member m: `held` is its list, `zero` is key 0 of the frame, and `reads`
--- says whether fresh tree keys are read from it
-pub record OpeningOf (e : Exchange) (m : State) (now : ℕ) (lent g k : List ℕ) (bag : Stretch) (held : Held) (zero : WrappingKey) (reads : Bool)
-    (f : Frame) : Type 0 where
+-- a frame f of the exchange with the row e, as `Bagged` says, for the member m: `held` is its list, `zero` is key 0 of the frame, and
+-- `reads` says whether fresh tree keys are read from it
+pub record Openable (e : Exchange) (m : State) (now : ℕ) (lent g k : List ℕ) (bag : Stretch) (held : Held) (zero : WrappingKey)
+    (reads : Bool) (f : Frame) : Type 0 where
   pub bagged : Bagged e m now lent g k bag f
   pub list : m .held ≡ held
   pub key : IsKeyZero m now lent f zero
@@ -64,15 +64,15 @@ pub record KeysOpened (m : State) (now : ℕ) (lent : List ℕ) (r : KeysFound) 
   pub held : r .conflict ≡ false → r .keyed .found ≡ found.Keys → HeldTold m now lent f (r .over) (r .held)
 
 -- a frame that numbers 2 to 7 let pass, whose keys are opened
-pub record FrameOpened (m : State) (now : ℕ) (lent s : List ℕ) (x : Facts) (r : KeysFound) (f : Frame) : Type 0 where
+pub record FrameWithKeys (m : State) (now : ℕ) (lent s : List ℕ) (x : Facts) (r : KeysFound) (f : Frame) : Type 0 where
   pub passed : Passed m now lent s x f
   pub opened : KeysOpened m now lent r f
 
 -- the number by which the keys of a frame refuse it, 0 if they do not: whether 8 holds of its entries, the result for its SAs, and whether
 -- the held list after acceptance would be over its limit
-abbrev pub openingNumber : Bool → SasFound → Bool → ℕ
-openingNumber true y over = 8
-openingNumber false found.KeyConflict over = 8
-openingNumber false found.KeyMissing over = 9
-openingNumber false found.Keys true = 7
-openingNumber false found.Keys false = 0
+abbrev pub numberOfKeys : Bool → SasFound → Bool → ℕ
+numberOfKeys true y over = 8
+numberOfKeys false found.KeyConflict over = 8
+numberOfKeys false found.KeyMissing over = 9
+numberOfKeys false found.Keys true = 7
+numberOfKeys false found.Keys false = 0

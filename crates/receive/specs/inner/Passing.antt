@@ -5,7 +5,7 @@ use mathlib.Core.Bool.{Bool, true, false, _&&_}
 use mathlib.Core.List.{List, [], List·Memᴰ}
 use Rattle.octets.specs.Walk.{whole}
 use Rattle.state_keys.specs.Limits.{limits}
-use Rattle.state_keys.specs.Algorithms.{sizeOf}
+use Rattle.state_keys.specs.Algorithms.{isWrappingSize}
 use Rattle.state_keys.specs.declared.kinds.WrappingKey.{WrappingKey}
 use Rattle.wire_attributes.specs.Tree.{WrapKey}
 use Rattle.wire_policies.specs.Policy.{GroupSaPolicy}
@@ -47,8 +47,8 @@ RekeysOver f = rowOf f .zero ≡ keyZero.RekeySa
 abbrev pub readsBy : State → Exchange → Bool
 readsBy m e = m .profile && e .«reads_fresh_keys»
 
--- none of numbers 2 to 7 applies to the frame f, and its exchange has the row e. Its policies are those of the GSA body g, its bags are those
--- of the KD body k, and its WRAP_KEYs stand in the stretch `bag` of k. It has no fresh tree keys where they are not read, and
+-- none of numbers 2 to 7 applies to the frame f, and its exchange has the row e. Its policies are those of the GSA body g, its bags are
+-- those of the KD body k, and its WRAP_KEYs stand in the stretch `bag` of k. It has no fresh tree keys where they are not read, and
 -- none in a bag of another protocol than 6
 pub record Bagged (e : Exchange) (m : State) (now : ℕ) (lent g k : List ℕ) (bag : Stretch) (f : Frame) : Type 0 where
   pub clauses : refusal limits m now lent f ≡ 0
@@ -78,4 +78,4 @@ EachHasCopy roots entries size f = (a : GroupSaPolicy) → In a (announced f) �
 -- r is the default key of the live Rekey SA of the table t, and has a size that a wrapping key can have
 pub record IsDefaultKey (t : Table) (r : WrappingKey) : Type 0 where
   pub is : r ≡ defaultKey limits t .key
-  pub fits : sizeOf 13 (r .count) ≡ true
+  pub fits : isWrappingSize (r .count) ≡ true

@@ -1,7 +1,7 @@
 -- Reached keys gathered in a list of the held list's form, by rising Key ID. The held list of a member need not rise.
 use mathlib.Core.Bool.{Bool, cond}
 use lib.Dec.{ltb}
-use Rattle.state_keys.specs.Lists.{insert}
+use Rattle.lists.specs.Lists.{insert}
 use Rattle.state_keys.specs.Limits.{Limits}
 use Rattle.state.specs.declared.held.HeldKey.{HeldKey}
 use Rattle.state.specs.declared.held.Held.{Held}

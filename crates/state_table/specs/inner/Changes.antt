@@ -3,7 +3,7 @@ use Prim.Native.Nat.{ℕ}
 use mathlib.Core.Bool.{Bool, cond}
 use mathlib.Core.List.{List, map}
 use lib.Dec.{ltb}
-use Rattle.state_keys.specs.Lists.{insert}
+use Rattle.lists.specs.Lists.{insert}
 use Rattle.state_keys.specs.Limits.{Limits}
 use Rattle.state_sa.specs.Entry.{saBefore}
 use Rattle.state_sa.specs.declared.entry.Sa.{Sa}

@@ -5,8 +5,8 @@ use mathlib.Core.Path.{_≡_, sym, _∙_}
 use mathlib.Core.List.{List}
 use native.Mathlib.Omega.{arith}
 use lib.ListN.{length, drop}
+use Rattle.lists.proofs.Cases.{lt-cases}
 use Rattle.text_rules.specs.Hex.{octetsOfHex}
-use Rattle.text_rules.proofs.Cases.{by-less}
 use Rattle.text_rules.proofs.HexLaws.{read-more, read-end}
 use Rattle.text_lines.specs.inner.Room.{Put}
 use Rattle.text_lines.proofs.RoomLaws.{Puts, puts-start, puts-more, puts-done, puts-full, length-puts, put-octet-as, put-stored}
@@ -21,7 +21,7 @@ Putting room₀ at text k room = Puts room₀ at (octetsOfHex text) room (at + k
 all-put : (text : List ℕ) {room₀ : List ℕ} {at : ℕ} (k : ℕ) {room : List ℕ} → Putting room₀ at text k room
     → k ≡ min (length text / 2) (length room₀ - at) → Put room₀ at (octetsOfHex text) room (at + k)
 all-put text {room₀} {at} k p e =
-    by-less (length room₀ - at) (length text / 2) (λ h. puts-full p (omega arith))
+    lt-cases (length room₀ - at) (length text / 2) (λ h. puts-full p (omega arith))
     (λ h. puts-done p (read-end text (2 * k) (omega arith)))
 
 abbrev Inv-loop : tie.InvT-loop

@@ -56,9 +56,11 @@ loop-holds c =
     let zero = c .key-zero in (
       omega arith,
       c .before .before .before .before .before .before .before .before .pre .0,
-      subst (λ (s : InverseSchedule). ExpandedInverse (s .words)) (sym (zero .ensures .1 .1)) (c .before .before .before .before .before .before .before .before .pre .1 .1 .0 .1),
+      subst (λ (s : InverseSchedule). ExpandedInverse (s .words)) (sym (zero .ensures .1 .1))
+          (c .before .before .before .before .before .before .before .before .pre .1 .1 .0 .1),
       λ v new old x lends. (
-        starts (a .need) (triesOf v new old (copiesIn (a .place) (now (a .a)))) (c .before .before .nothing .result) (c .before .before .nothing .ensures),
+        starts (a .need) (triesOf v new old (copiesIn (a .place) (now (a .a)))) (c .before .before .nothing .result)
+            (c .before .before .nothing .ensures),
         listed-none (a .need) v new old (copiesIn (a .place) (now (a .a))) (c .before .no-openers .result) (c .before .no-openers .ensures),
         zero .ensures .0 v new old x,
       ),
@@ -77,7 +79,8 @@ next : (c : tie.After-known-told Inv-loop μ-loop) →
     MetAt meaning.SaKey (a .place) (now (a .a)) (c .before .before .before .before .loop .at) (p .0) (p .1 .0)
 next c =
     let a = c .before .before .before .before .before .before .before .before .before .before .before .before .before .args in
-    subst (FindsValue meaning.SaKey (a .place) (now (a .a)) (c .before .before .before .before .loop .at)) (c .before .start .given .1) (c .before .before .before .next-attribute .ensures)
+    subst (FindsValue meaning.SaKey (a .place) (now (a .a)) (c .before .before .before .before .loop .at)) (c .before .start .given .1)
+    (c .before .before .before .next-attribute .ensures)
 
 attribute-value-requires : tie.Need-attribute-value-requires Inv-loop μ-loop
 attribute-value-requires c κs = search needs

@@ -24,8 +24,8 @@ returns : tie.Need-returns
 returns c v new old k e =
     let s = now (c .before .before .before .before .before .args .copy) in
     let x = k .known (c .before .before .before .if1 .taken) in
-    tried-under v new old (saKeyOf s) (c .before .before .before .before .before .args .need) (c .open-copy .result) (x .0) _ (sym (to-end s 8)) (x .2 (saKeyOf s) e)
-    (c .open-copy .ensures (x .0) (x .1))
+    tried-under v new old (saKeyOf s) (c .before .before .before .before .before .args .need) (c .open-copy .result) (x .0) _
+    (sym (to-end s 8)) (x .2 (saKeyOf s) e) (c .open-copy .ensures (x .0) (x .1))
 
 nothing-requires : tie.Need-nothing-requires
 nothing-requires c κs = search needs
@@ -33,7 +33,8 @@ nothing-requires c κs = search needs
 returns-2 : tie.Need-returns-2
 returns-2 c v new old k e =
     let s = now (c .before .before .before .args .copy) in
-    tried-none v new old (saKeyOf s) (c .before .before .before .args .need) (c .nothing .result) (k .none (c .before .if1 .left) (saKeyOf s) e) (c .nothing .ensures)
+    tried-none v new old (saKeyOf s) (c .before .before .before .args .need) (c .nothing .result)
+    (k .none (c .before .if1 .left) (saKeyOf s) e) (c .nothing .ensures)
 
 pub try-copy-spec : {M : Type 1} → statement M
 try-copy-spec =

@@ -18,8 +18,8 @@ module _ (v : List ℕ) (new old : List HeldKey) where
   abbrev pub Untried : ℕ → Type 0
   Untried id = (c : SaKey) → c .kwkId ≡ id → tryFor v new old c ≡ []
 
-  -- k is the key that its KWK ID names: its schedule is that of the key under which a copy with this ID is tried, and where there is no such
-  -- key, it is not known
+  -- k is the key that its KWK ID names: its schedule is that of the key under which a copy with this ID is tried, and where there is no
+  -- such key, it is not known
   pub record IsReady (k : ReadyKey) : Type 0 where
     pub known : k .known ≡ true → (x : List ℕ) × ExpandsInverse x (k .schedule .words) × TriedUnder (k .id) x
     pub none : k .known ≡ false → Untried (k .id)

@@ -3,18 +3,18 @@ use Prim.Native.Nat.{_-_, _≤_}
 use mathlib.Core.Path.{_≡_, sym, _∙_}
 use lib.ListN.{length}
 use Rattle.state_keys.specs.Limits.{limits}
-use Rattle.state_keys.proofs.Lists.{length-of-map}
+use Rattle.lists.proofs.Lists.{length-of-map}
 use Rattle.state_keys.proofs.Sizes.{wrapping-le}
 use Rattle.state.specs.Held.{blankKey}
 use Rattle.unwrap_lending.proofs.HeldLaws.{getD-any, held-within, held-size}
-use Rattle.unwrap_lending.proofs.Filling.{Filled, filled-none, filled-more, filled-all}
+use Rattle.unwrap_lending.proofs.Filling.{LentUpTo, filled-none, filled-more, filled-all}
 use borrow.Author.Needs.{needs}
 use Rattle.unwrap_lending.proofs.lend_keys.Statement.{statement}
 use Rattle.unwrap_lending.proofs.lend_keys.Tie as tie
 
 abbrev Inv-loop : tie.InvT-loop
 Inv-loop ids₀ block₀ held n i₀ ids block i =
-    (length (held .keys) ≡ limits .heldKeys) × (n ≤ limits .heldKeys) × (i ≤ n) × Filled (held .keys) ids block i
+    (length (held .keys) ≡ limits .heldKeys) × (n ≤ limits .heldKeys) × (i ≤ n) × LentUpTo (held .keys) ids block i
 
 abbrev μ-loop : tie.MeasureT-loop
 μ-loop ids₀ block₀ held n i₀ ids block i = n - i

@@ -79,7 +79,8 @@ returns : tie.Need-returns Inv-loop μ-loop
 returns c =
     let l = c .before in
     let s = l .before .before .before in
-    named-all (s .args .reached) (s .pre .0) (now (s .args .ids)) (l .loop .block) (l .loop .i) (omega arith) (omega arith) (l .loop .inv .3)
+    named-all (s .args .reached) (s .pre .0) (now (s .args .ids)) (l .loop .block) (l .loop .i) (omega arith) (omega arith)
+    (l .loop .inv .3)
 
 pub lend-named-spec : {M : Type 1} → statement M
 lend-named-spec =

@@ -5,7 +5,7 @@ use mathlib.Core.Bool.{true}
 use mathlib.Core.Logic.{_⊎_}
 use mathlib.Core.List.{List, [], _∷_, _++_, map}
 use lib.ListN.{length, take, drop, getD}
-use Rattle.state_keys.specs.Algorithms.{sizeOf}
+use Rattle.state_keys.specs.Algorithms.{isWrappingSize}
 use Rattle.state_keys.specs.Limits.{limits}
 use Rattle.state_keys.specs.declared.kinds.WrappingKey.{WrappingKey}
 use Rattle.state.specs.Held.{blankKey, keysOf, idsOf, heldFormed, heldKey}
@@ -32,7 +32,7 @@ lentBlock (k ∷ l) = lentPlace (k .key) ++ lentBlock l
 -- a key fits its place: it has no octets, or as many as a wrapping key
 pub record FitsPlace (k : WrappingKey) : Type 0 where
   pub array : length (k .octets) ≡ keyOctets
-  pub size : (k .count ≡ 0) ⊎ (sizeOf 13 (k .count) ≡ true)
+  pub size : (k .count ≡ 0) ⊎ (isWrappingSize (k .count) ≡ true)
 
 -- `ids` and `block` lend these keys: they are the Key IDs and the places of them all
 pub record Lends (keys : List HeldKey) (ids block : List ℕ) : Type 0 where

@@ -1,12 +1,11 @@
 -- What the steps of the search for levels and of the way back do. Inner.
 use Prim.Native.Nat.{ℕ, _+_, _<_, _≤_}
 use mathlib.Core.Path.{_≡_}
-use mathlib.Core.Bool.{Bool, true, false, not}
+use mathlib.Core.Bool.{Bool, true, false, not, cond, _&&_, _||_}
 use mathlib.Core.List.{List}
 use lib.Dec.{eqb, ltb, leb}
 use lib.ListN.{take}
 use Rattle.octets.specs.Numbers.{oct}
-use Rattle.octets.specs.Walk.{either, both}
 use Rattle.state_keys.specs.Limits.{limits}
 use Rattle.unwrap_paths.specs.declared.levels.Low.{Low}
 use Rattle.unwrap_paths.specs.declared.levels.Found.{Found}
@@ -36,11 +35,11 @@ abbrev pub isTried : List ℕ → ℕ → Bool
 isTried tried i = not (eqb (oct tried i) 0)
 
 abbrev pub firstLevel : ℕ → ℕ
-firstLevel m = either (eqb m markOpenedFirst) 1 0
+firstLevel m = cond (eqb m markOpenedFirst) 1 0
 
 abbrev pub lowerOf : Low → ℕ → ℕ → ℕ → Low
 lowerOf low i l t =
-    either (both (eqb t 0) (both (ltb 0 l) (either (eqb (low .level) 0) true (ltb l (low .level))))) (record { level = l; at = i }) low
+    cond (eqb t 0 && (ltb 0 l && (eqb (low .level) 0 || ltb l (low .level)))) (record { level = l; at = i }) low
 
 -- an entry of the lowest level that was not tried, or each with a level was
 pub record LeastAt (n : ℕ) (levels tried : List ℕ) (j : ℕ) : Type 0 where
@@ -54,7 +53,7 @@ FindsLeast n levels tried (At j) = LeastAt n levels tried j
 FindsLeast n levels tried Nothing = (i : ℕ) → i < n → isTried tried i ≡ false → 0 < oct levels i → ⊥
 
 abbrev pub nextLevel : ℕ → ℕ → ℕ → ℕ → ℕ → ℕ
-nextLevel level mark kwk id of = either (both (eqb level 0) (both (not (eqb mark markNotOpened)) (eqb kwk id))) (of + 1) level
+nextLevel level mark kwk id of = cond (eqb level 0 && (not (eqb mark markNotOpened) && eqb kwk id)) (of + 1) level
 
 -- the levels of n entries with these numbers and marks
 pub record HasLevels (n : ℕ) (ids kwks marks levels : List ℕ) : Type 0 where
@@ -65,7 +64,7 @@ pub record HasLevels (n : ℕ) (ids kwks marks levels : List ℕ) : Type 0 where
 -- ---- the level of a key: that of the lowest entry which gives it, 0 if none does
 abbrev pub levelFrom : ℕ → ℕ → ℕ → ℕ → ℕ
 levelFrom found id level wanted =
-    either (both (eqb id wanted) (both (ltb 0 level) (either (eqb found 0) true (ltb level found)))) level found
+    cond (eqb id wanted && (ltb 0 level && (eqb found 0 || ltb level found))) level found
 
 pub record HasLevel (n : ℕ) (ids levels : List ℕ) (id level : ℕ) : Type 0 where
   pub none : level ≡ 0 → (j : ℕ) → j < n → oct ids j ≡ id → 0 < oct levels j → ⊥
@@ -75,8 +74,8 @@ pub record HasLevel (n : ℕ) (ids levels : List ℕ) (id level : ℕ) : Type 0 
 -- ---- the way back: of the entries with a Key ID and a level, one with the lowest KWK ID
 abbrev pub pickedOf : Pick → ℕ → ℕ → ℕ → ℕ → ℕ → ℕ → Pick
 pickedOf p i id kwk level wanted of =
-    either (both (eqb id wanted) (eqb level of))
-    (either (both (p .some) (leb (p .kwk) kwk)) p (record { some = true; at = i; kwk = kwk })) p
+    cond (eqb id wanted && eqb level of)
+    (cond (p .some && leb (p .kwk) kwk) p (record { some = true; at = i; kwk = kwk })) p
 
 pub record PickedAt (n : ℕ) (ids kwks levels : List ℕ) (id level i : ℕ) : Type 0 where
   pub inside : i < n

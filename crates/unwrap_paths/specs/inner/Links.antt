@@ -1,11 +1,10 @@
 -- The numbers that the search for levels reads off the cells, and the path that it ends with. Inner.
 use Prim.Native.Nat.{ℕ, _≤_, _<_}
 use mathlib.Core.Path.{_≡_}
-use mathlib.Core.Bool.{Bool}
+use mathlib.Core.Bool.{Bool, cond}
 use mathlib.Core.List.{List, map, List·Memᴰ}
 use lib.ListN.{length, getD}
 use Rattle.octets.specs.Numbers.{oct}
-use Rattle.octets.specs.Walk.{either}
 use Rattle.wire_attributes.specs.Tree.{WrapKey, SaKey}
 use Rattle.rules_chains.specs.Chain.{Root}
 use Rattle.rules_chains.specs.Path.{keyIds, KeyPath}
@@ -19,7 +18,7 @@ use Rattle.unwrap_paths.specs.inner.Code.{markNotOpened, markOpened, mar
 
 -- the mark of an entry with this cell, by whether some entry carries the key that it names
 abbrev pub markOf : Cell → Bool → ℕ
-markOf c carried = either (isDone (c .status)) (either carried markOpened markOpenedFirst) markNotOpened
+markOf c carried = cond (isDone (c .status)) (cond carried markOpened markOpenedFirst) markNotOpened
 
 -- the numbers and marks of the first n entries, of `all`
 pub record LinksAre (n all : ℕ) (entries : List Entry) (cells : List Cell) (ids kwks marks : List ℕ) : Type 0 where

@@ -16,8 +16,8 @@ own : (c : tie.After-bag-stretch)
     StretchIs (a .reads) (now (a .kd)) (a .protocol) (now (a .spi)) (c .bag-stretch .result)
 own c =
     let s = c .before .before .before .before .before .before .before in
-    stretch-is (s .args .protocol) (now (s .args .spi)) (now (s .args .kd)) (s .args .reads) (c .bag-stretch .result) (c .bag-stretch .ensures) (s .pre .0)
-    (s .pre .1 .0)
+    stretch-is (s .args .protocol) (now (s .args .spi)) (now (s .args .kd)) (s .args .reads) (c .bag-stretch .result)
+    (c .bag-stretch .ensures) (s .pre .0) (s .pre .1 .0)
 
 in-bag-requires : tie.Need-in-bag-requires
 in-bag-requires c κs = search needs
@@ -35,7 +35,8 @@ copies-requires : tie.Need-copies-requires
 copies-requires c κs =
     let s = c .before .before .before .before .before .before .before .before .before in
     let b = c .before .before in (
-      own-whole (s .args .reads) (now (s .args .kd)) (s .args .protocol) (now (s .args .spi)) (b .bag-stretch .result) (own b) (c .before .in-bag .result)
+      own-whole (s .args .reads) (now (s .args .kd)) (s .args .protocol) (now (s .args .spi)) (b .bag-stretch .result) (own b)
+          (c .before .in-bag .result)
           (c .before .in-bag .ensures),
       (s .pre .1 .1 .0, (s .pre .1 .1 .1 .0, s .pre .1 .1 .1 .1)),
     )

@@ -5,10 +5,12 @@ use Rattle.unwrap_sas.proofs.open_policy_at.Statement.{statement}
 use Rattle.unwrap_sas.proofs.open_policy_at.Tie as tie
 
 add-name : tie.Need-add-name
-add-name c = let p = c .before .before .before .before .before .before .pre .0 in record { fits = omega (arith, p .head, p .order, p .inside) }
+add-name c = let p =
+    c .before .before .before .before .before .before .pre .0 in record { fits = omega (arith, p .head, p .order, p .inside) }
 
 add-body : tie.Need-add-body
-add-body c = let p = c .before .before .before .before .before .before .before .pre .0 in record { fits = omega (arith, p .order, p .inside) }
+add-body c = let p =
+    c .before .before .before .before .before .before .before .pre .0 in record { fits = omega (arith, p .order, p .inside) }
 
 add-end : tie.Need-add-end
 add-end c = let p = c .before .before .before .before .before .before .before .before .pre .0 in record { fits = omega (arith, p .inside) }
@@ -20,13 +22,15 @@ part-with-policy-start : tie.Need-part-with-policy-start
 part-with-policy-start c = let p = c .before .before .before .before .before .before .before .before .pre .0 in omega (arith, p .head)
 
 part-with-policy-end : tie.Need-part-with-policy-end
-part-with-policy-end c = let p = c .before .before .before .before .before .before .before .before .pre .0 in omega (arith, p .order, p .inside)
+part-with-policy-end c = let p =
+    c .before .before .before .before .before .before .before .before .pre .0 in omega (arith, p .order, p .inside)
 
 sub-with-policy-2 : tie.Need-sub-with-policy-2
 sub-with-policy-2 c = let p = c .before .before .before .before .before .before .before .before .before .pre .0 in omega (arith, p .order)
 
 part-with-policy-start-2 : tie.Need-part-with-policy-start-2
-part-with-policy-start-2 c = let p = c .before .before .before .before .before .before .before .before .before .pre .0 in omega (arith, p .order)
+part-with-policy-start-2 c = let p =
+    c .before .before .before .before .before .before .before .before .before .pre .0 in omega (arith, p .order)
 
 part-with-policy-end-2 : tie.Need-part-with-policy-end-2
 part-with-policy-end-2 c = c .before .before .before .before .before .before .before .before .before .pre .0 .inside

@@ -9,18 +9,19 @@ use Rattle.unwrap_copies.specs.declared.answer.CopyFound.{CopyFound}
 use Rattle.unwrap_copies.specs.declared.answer.CopyFound.the-variants.{Conflict, Nothing, Key}
 use Rattle.unwrap_sas.specs.inner.Policies.{IsBy, PolicyStandsAt}
 use Rattle.unwrap_sas.proofs.PolicyAt.{PolicyAt, policy-at}
-use Rattle.unwrap_sas.proofs.Along.{Along, along-start, along-end, along-eight, along-wide, along-announces, along-room}
+use Rattle.unwrap_sas.proofs.Along.{Along, along-start, along-end, along-conflict, along-wide, along-announces, along-room}
 use Rattle.unwrap_sas.proofs.Along.{along-none, along-sa, Says}
 use borrow.Author.Needs.{needs}
 use Rattle.unwrap_sas.proofs.walk_policies.Statement.{statement}
 use Rattle.unwrap_sas.proofs.walk_policies.Tie as tie
 
 abbrev Inv-loop : tie.InvT-loop
-Inv-loop reads gsa kd tables schedule carried fresh ids block tick nine₀ sas₀ count₀ openers₀ at₀ nine sas count openers at =
-    Along reads gsa kd (schedule .words) carried fresh ids block tick at nine sas count openers
+Inv-loop reads gsa kd tables schedule carried fresh ids block tick nine₀ sas₀ count₀ openers₀ at₀ missing sas count openers at =
+    Along reads gsa kd (schedule .words) carried fresh ids block tick at missing sas count openers
 
 abbrev μ-loop : tie.MeasureT-loop
-μ-loop reads gsa kd tables schedule carried fresh ids block tick nine₀ sas₀ count₀ openers₀ at₀ nine sas count openers at = length gsa - at
+μ-loop reads gsa kd tables schedule carried fresh ids block tick nine₀ sas₀ count₀ openers₀ at₀ missing sas count openers at =
+    length gsa - at
 
 blank-requires : tie.Need-blank-requires Inv-loop μ-loop
 blank-requires c κs = search needs
@@ -31,7 +32,8 @@ no-openers-requires c κs = search needs
 loop-holds : tie.Need-loop-holds Inv-loop μ-loop
 loop-holds c =
     let s = c .before .before .before .before .before .before .before .before in
-    along-start (s .args .reads) (now (s .args .gsa)) (now (s .args .kd)) (s .args .schedule .words) (now (s .args .carried)) (now (s .args .fresh)) (now (s .args .ids)) (now (s .args .block))
+    along-start (s .args .reads) (now (s .args .gsa)) (now (s .args .kd)) (s .args .schedule .words) (now (s .args .carried))
+    (now (s .args .fresh)) (now (s .args .ids)) (now (s .args .block))
     (s .args .tick) _ (c .no-openers .result) (s .pre .0) refl (c .no-openers .ensures)
 
 sub-policy-parts : tie.Need-sub-policy-parts Inv-loop μ-loop
@@ -46,8 +48,8 @@ part-policy-parts-end c = search needs
 policy-parts-requires : tie.Need-policy-parts-requires Inv-loop μ-loop
 policy-parts-requires c κs =
     let l = c .before .before .loop in
-    starts (now (c .before .before .before .before .before .before .before .before .before .before .before .args .gsa)) (l .at) (c .before .loop-test .taken)
-    (l .inv .rest)
+    starts (now (c .before .before .before .before .before .before .before .before .before .before .before .args .gsa)) (l .at)
+    (c .before .loop-test .taken) (l .inv .rest)
 
 -- the policy is there
 here : (c : tie.After-policy-parts Inv-loop μ-loop) →
@@ -68,7 +70,8 @@ open-policy-at-requires c κs =
     let p = here d in
     let z = c .if1 .taken in
     let a = s .args in
-    let n = along-announces (a .reads) (now (a .gsa)) (now (a .kd)) (a .schedule .words) (now (a .carried)) (now (a .fresh)) (now (a .ids)) (now (a .block)) (a .tick) (l .at) (l .nine)
+    let n = along-announces (a .reads) (now (a .gsa)) (now (a .kd)) (a .schedule .words) (now (a .carried)) (now (a .fresh)) (now
+    (a .ids)) (now (a .block)) (a .tick) (l .at) (l .missing)
     (l .sas) (l .count) (l .openers) (l .inv) _ p z (f .0) (f .1) in
     let q : PolicyStandsAt (now (a .gsa)) (l .at) (d .policy-parts .result) = record {
       head = p .some;
@@ -83,8 +86,10 @@ says : (c : tie.After-open-policy-at Inv-loop μ-loop) (x : CopyFound) → c .op
     let d = c .before .before .before .before in
     let l = d .before .before .before .loop in
     let a = d .before .before .before .before .before .before .before .before .before .before .before .before .args in
-    Says (a .reads) (now (a .gsa)) (now (a .kd)) (a .schedule .words) (now (a .carried)) (now (a .fresh)) (now (a .ids)) (now (a .block)) (a .tick) (l .at) (l .nine) (l .sas) (l .count)
-    (l .openers) (l .inv) _ (here d) (c .before .if1 .taken) (IsBy (a .tick) x (c .open-policy-at .result .sa) (c .open-policy-at .result .openers))
+    Says (a .reads) (now (a .gsa)) (now (a .kd)) (a .schedule .words) (now (a .carried)) (now (a .fresh)) (now (a .ids)) (now
+    (a .block)) (a .tick) (l .at) (l .missing) (l .sas) (l .count)
+    (l .openers) (l .inv) _ (here d) (c .before .if1 .taken) (IsBy (a .tick) x (c .open-policy-at .result .sa)
+    (c .open-policy-at .result .openers))
 says c x e roots entries size f b i =
     let d = c .before .before .before .before in
     let a = d .before .before .before .before .before .before .before .before .before .before .before .before .args in
@@ -101,7 +106,8 @@ returns c =
     let l = d .before .before .before .loop in
     let a = d .before .before .before .before .before .before .before .before .before .before .before .before .args in
     let z = w .before .if1 .taken in
-    along-eight (a .reads) (now (a .gsa)) (now (a .kd)) (a .schedule .words) (now (a .carried)) (now (a .fresh)) (now (a .ids)) (now (a .block)) (a .tick) (l .at) (l .nine) (l .sas)
+    along-conflict (a .reads) (now (a .gsa)) (now (a .kd)) (a .schedule .words) (now (a .carried)) (now (a .fresh)) (now (a .ids)) (now
+    (a .block)) (a .tick) (l .at) (l .missing) (l .sas)
     (l .count) (l .openers) (l .inv) _ (here d) z
     (says w Conflict (c .enum-told .given .1)) (l .count) (l .sas) (l .openers)
 
@@ -120,7 +126,8 @@ left w =
     let s = d .before .before .before .before .before .before .before .before .before .before .before .before in
     let a = s .args in
     let f = s .pre .1 .1 .1 .1 in
-    along-room (a .reads) (now (a .gsa)) (now (a .kd)) (a .schedule .words) (now (a .carried)) (now (a .fresh)) (now (a .ids)) (now (a .block)) (a .tick) (l .at) (l .nine) (l .sas)
+    along-room (a .reads) (now (a .gsa)) (now (a .kd)) (a .schedule .words) (now (a .carried)) (now (a .fresh)) (now (a .ids)) (now
+    (a .block)) (a .tick) (l .at) (l .missing) (l .sas)
     (l .count) (l .openers) (l .inv) _ (here d) (w .before .if1 .taken) (f .0) (f .1)
 
 mul-sas : tie.Need-mul-sas Inv-loop μ-loop
@@ -146,7 +153,8 @@ loop-again c =
     let l = d .before .before .before .loop in
     let a = d .before .before .before .before .before .before .before .before .before .before .before .before .args in
     let z = w .before .if1 .taken in
-    along-none (a .reads) (now (a .gsa)) (now (a .kd)) (a .schedule .words) (now (a .carried)) (now (a .fresh)) (now (a .ids)) (now (a .block)) (a .tick) (l .at) (l .nine) (l .sas)
+    along-none (a .reads) (now (a .gsa)) (now (a .kd)) (a .schedule .words) (now (a .carried)) (now (a .fresh)) (now (a .ids)) (now
+    (a .block)) (a .tick) (l .at) (l .missing) (l .sas)
     (l .count) (l .openers) (l .inv) _ (here d) z
     (says w Nothing (c .enum-told2 .given .1))
 
@@ -161,7 +169,8 @@ loop-again-2 c =
     let l = d .before .before .before .loop in
     let a = d .before .before .before .before .before .before .before .before .before .before .before .before .args in
     let z = w .before .if1 .taken in
-    along-sa (a .reads) (now (a .gsa)) (now (a .kd)) (a .schedule .words) (now (a .carried)) (now (a .fresh)) (now (a .ids)) (now (a .block)) (a .tick) (l .at) (l .nine) (l .sas)
+    along-sa (a .reads) (now (a .gsa)) (now (a .kd)) (a .schedule .words) (now (a .carried)) (now (a .fresh)) (now (a .ids)) (now
+    (a .block)) (a .tick) (l .at) (l .missing) (l .sas)
     (l .count) (l .openers) (l .inv) _ (here d) z
     (w .open-policy-at .result .sa) (w .open-policy-at .result .openers) (c .rekey-openers .result) (c .rekey-openers .ensures .0)
     (c .rekey-openers .ensures .1) (left w) (says w Key (c .before .before .enum-told3 .given .1))
@@ -174,7 +183,8 @@ loop-again-3 c =
     let d = c .before .before .before in
     let l = d .before .before .before .loop in
     let a = d .before .before .before .before .before .before .before .before .before .before .before .before .args in
-    along-wide (a .reads) (now (a .gsa)) (now (a .kd)) (a .schedule .words) (now (a .carried)) (now (a .fresh)) (now (a .ids)) (now (a .block)) (a .tick) (l .at) (l .nine) (l .sas)
+    along-wide (a .reads) (now (a .gsa)) (now (a .kd)) (a .schedule .words) (now (a .carried)) (now (a .fresh)) (now (a .ids)) (now
+    (a .block)) (a .tick) (l .at) (l .missing) (l .sas)
     (l .count) (l .openers) (l .inv) _ (here d) (c .if1 .left)
 
 found-by-requires : tie.Need-found-by-requires Inv-loop μ-loop
@@ -184,7 +194,8 @@ returns-2 : tie.Need-returns-2 Inv-loop μ-loop
 returns-2 c =
     let l = c .before .before .loop in
     let a = c .before .before .before .before .before .before .before .before .before .before .before .args in
-    along-end (a .reads) (now (a .gsa)) (now (a .kd)) (a .schedule .words) (now (a .carried)) (now (a .fresh)) (now (a .ids)) (now (a .block)) (a .tick) (l .at) (l .nine) (l .sas)
+    along-end (a .reads) (now (a .gsa)) (now (a .kd)) (a .schedule .words) (now (a .carried)) (now (a .fresh)) (now (a .ids)) (now
+    (a .block)) (a .tick) (l .at) (l .missing) (l .sas)
     (l .count) (l .openers) (l .inv) (c .found-by .result) (c .found-by .ensures) (c .before .loop-test .left)
 
 pub walk-policies-spec : {M : Type 1} → statement M

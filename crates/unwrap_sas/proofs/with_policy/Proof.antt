@@ -21,8 +21,8 @@ sized c =
     let s = c .before .before .before .before .before .before .before .before in
     let p = s .pre .1 .1 .1 .1 in
     let h = p .2 in
-    sizes-are (s .args .reads) (now (s .args .kd)) (s .args .protocol) (now (s .args .spi)) (now (s .args .x)) (p .0) (p .1) h (c .needs .result)
-    (c .needs .ensures (inPolicy (s .args .protocol)) (h .body) (h .is))
+    sizes-are (s .args .reads) (now (s .args .kd)) (s .args .protocol) (now (s .args .spi)) (now (s .args .x)) (p .0) (p .1) h
+    (c .needs .result) (c .needs .ensures (inPolicy (s .args .protocol)) (h .body) (h .is))
 
 add-open-copies : tie.Need-add-open-copies
 add-open-copies c = let h = few-octets _ _ _ _ (sized c) in record { fits = omega arith }
@@ -57,7 +57,8 @@ returns c roots entries size f a i =
     let is = n .ensures (inPolicy (s .protocol)) (h .body) (h .is) in
     let t = d .of-policy in
     let lasts = lifetime-of (s .reads) (now (s .kd)) (s .protocol) (now (s .spi)) (now (s .x)) f a h (t .result) (s .tick) (t .ensures) in
-    let name = named-with (s .reads) (now (s .kd)) (s .protocol) (now (s .spi)) (now (s .x)) f a h (n .result) is (t .result) (s .tick) lasts in
+    let name = named-with (s .reads) (now (s .kd)) (s .protocol) (now (s .spi)) (now (s .x)) f a h (n .result) is (t .result)
+    (s .tick) lasts in
     let need = need-is (s .reads) (now (s .kd)) (s .protocol) (now (s .spi)) (now (s .x)) f a h (n .result) is in
     c .one-sa .ensures (s .tick) roots entries size f a
     (record {

@@ -32,7 +32,8 @@ newSas = limits .espPolicies + 1
 
 -- the frame f has the GSA body g and the KD body k, and numbers 4 to 7 do not apply: no Key Length and no GSA_KEY_LIFETIME stands twice in
 -- one place; the transforms are exactly those of document 01, so there is no AH policy; each policy has one bag; there are no more SAs than
--- a frame may announce, one Rekey policy at most, and no more copies in a bag than the limit. `reads`: fresh tree keys are read from the KD body
+-- a frame may announce, one Rekey policy at most, and no more copies in a bag than the limit. `reads`: fresh tree keys are read from the KD
+-- body
 pub record ChecksPassed (reads : Bool) (f : Frame) (g k : List ℕ) : Type 0 where
   pub policies : policiesOf f ≡ policiesIn g
   pub bags : bagsOf f ≡ bagsIn reads k

@@ -6,7 +6,7 @@ use mathlib.Core.List.{List}
 use lib.ListN.{length}
 use Rattle.octets.specs.Walk.{part}
 use Rattle.state_keys.specs.Limits.{limits}
-use Rattle.state_keys.specs.Algorithms.{sizeOf}
+use Rattle.state_keys.specs.Algorithms.{isEncryptionSize}
 use Rattle.state_keys.specs.Kinds.{rekeySizes, valueOf}
 use Rattle.wire_attributes.specs.Place.{inPolicy}
 use Rattle.wire_attributes.specs.Tree.{WrapKey, keyLifetimes}
@@ -18,7 +18,7 @@ use Rattle.aes.specs.inner.Schedule.{ExpandsInverse}
 use Rattle.wire_policies.specs.Grammar.{IsSaBody}
 use Rattle.wire_readers.specs.inner.Bags.{bagsIn}
 use Rattle.wire_readers.specs.declared.policy.Parts.{Parts}
-use Rattle.state_keys.specs.Lists.{any}
+use Rattle.lists.specs.Lists.{any}
 use Rattle.state_keys.specs.declared.kinds.WrappingKey.{WrappingKey}
 use Rattle.state.specs.declared.held.HeldKey.{HeldKey}
 use Rattle.unwrap_copies.specs.inner.Known.{Agrees}
@@ -70,7 +70,7 @@ IsOne tick r roots entries size f a = IsBy tick (r .found) (r .sa) (r .openers) 
 
 -- the SPI has the size of its protocol; `encryption` and `wrapping` are sizes that the two parts of its SA's keying octets can have
 pub record Sized (protocol : ℕ) (spi : List ℕ) (encryption wrapping : ℕ) : Type 0 where
-  pub esp : protocol ≡ 3 → (length spi ≡ 4) × (sizeOf 1 encryption ≡ true) × (wrapping ≡ 0)
+  pub esp : protocol ≡ 3 → (length spi ≡ 4) × (isEncryptionSize encryption ≡ true) × (wrapping ≡ 0)
   pub rekey : (protocol ≡ 3 → ⊥) → (length spi ≡ 16) × (rekeySizes encryption wrapping ≡ true)
 
 -- policy a has this protocol and SPI, its transforms need `encryption` and `wrapping` octets, and its SA has this lifetime from `tick`
@@ -136,7 +136,7 @@ pub record Announces (reads : Bool) (k : List ℕ) (protocol : ℕ) (spi x : Lis
   pub paired : bagsNamed f (a .protocol) (a .spi) ≡ 1
 
 -- such a policy, and the keys under which its copies are opened: key 0 and the keys that are lent
-pub record IsAnnounced (reads : Bool) (k : List ℕ) (protocol : ℕ) (spi x : List ℕ) (schedule carried fresh ids block : List ℕ) (roots : List Root)
-    (entries : List WrapKey) (size : ℕ) (f : Frame) (a : GroupSaPolicy) : Type 0 where
+pub record IsAnnounced (reads : Bool) (k : List ℕ) (protocol : ℕ) (spi x : List ℕ) (schedule carried fresh ids block : List ℕ)
+    (roots : List Root) (entries : List WrapKey) (size : ℕ) (f : Frame) (a : GroupSaPolicy) : Type 0 where
   pub opening : OpeningKeys schedule carried fresh ids block roots entries size
   pub stands : Announces reads k protocol spi x f a

@@ -1,11 +1,10 @@
 -- What a cell of the search says of its entry. Inner.
 use Prim.Native.Nat.{ℕ}
 use mathlib.Core.Path.{_≡_}
-use mathlib.Core.Bool.{Bool, true, false}
+use mathlib.Core.Bool.{Bool, true, false, _&&_}
 use mathlib.Core.List.{List, []}
 use lib.Dec.{eqb}
 use lib.ListN.{length}
-use Rattle.octets.specs.Walk.{both}
 use Rattle.rfc5649.specs.Opens.{Opens}
 use Rattle.wire_attributes.specs.Tree.{WrapKey}
 use Rattle.state_keys.specs.Kinds.{wrappingOf, valueOf}
@@ -35,7 +34,7 @@ pending Done = false
 
 -- entry e waits for key k
 abbrev pub naming : ℕ → Entry → Cell → Bool
-naming k e c = both (eqb (e .kwk) k) (waiting (c .status))
+naming k e c = eqb (e .kwk) k && waiting (c .status)
 
 -- `wrapped` opens under v to `key`, which has `size` octets
 pub record EntryOpened (v : List ℕ) (size : ℕ) (wrapped : List ℕ) (key : WrappingKey) : Type 0 where

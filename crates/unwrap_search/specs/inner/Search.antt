@@ -8,8 +8,8 @@ use lib.ListN.{length, getD}
 use Rattle.rfc5649.specs.Opens.{Opens}
 use Rattle.wire_attributes.specs.Tree.{WrapKey}
 use Rattle.rules_chains.specs.Chain.{In, Root, Chain, Reached, ChainEnds}
-use Rattle.state_keys.specs.Lists.{any, keep}
-use Rattle.state_keys.specs.Algorithms.{sizeOf}
+use Rattle.lists.specs.Lists.{any, keep}
+use Rattle.state_keys.specs.Algorithms.{isWrappingSize}
 use Rattle.state_keys.specs.Kinds.{wrappingOf, valueOf}
 use Rattle.state.specs.declared.held.HeldKey.{HeldKey}
 use Rattle.state_keys.specs.declared.kinds.WrappingKey.{WrappingKey}
@@ -81,7 +81,7 @@ pub record RootsFit (roots : List Root) (entries : List WrapKey) : Type 0 where
 -- `made` has the value of key k, and a size that a schedule can be expanded for
 pub record KeyFrom (k made : WrappingKey) : Type 0 where
   pub value : valueOf made ≡ valueOf k
-  pub size : sizeOf 13 (made .count) ≡ true
+  pub size : isWrappingSize (made .count) ≡ true
 
 -- r is the place of the first of these Key IDs, from `from` on, that no entry carries; or their number if there is none
 pub record NextRoot (entries : List WrapKey) (ids : List ℕ) (from r : ℕ) : Type 0 where

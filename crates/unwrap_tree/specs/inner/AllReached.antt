@@ -3,7 +3,7 @@ use Prim.Native.Nat.{ℕ}
 use mathlib.Core.Path.{_≡_}
 use mathlib.Core.Bool.{true}
 use mathlib.Core.List.{List}
-use Rattle.state_keys.specs.Lists.{rising}
+use Rattle.lists.specs.Lists.{rising}
 use Rattle.state_keys.specs.Limits.{Limits}
 use Rattle.state_keys.specs.Kinds.{wrappingOf}
 use Rattle.wire_attributes.specs.Tree.{WrapKey}

@@ -6,7 +6,7 @@ use mathlib.Core.List.{List, map}
 use lib.ListN.{length}
 use Rattle.octets.specs.Walk.{part}
 use Rattle.wire_attributes.specs.Tree.{WrapKey, wrapKeyOf}
-use Rattle.wire_attributes.specs.Place.{wrappedSize}
+use Rattle.wire_attributes.specs.Place.{keyValueSized}
 use Rattle.wire_attributes.specs.Layout.{attributes}
 use Rattle.wire_attributes.specs.declared.tables.Place.{Place}
 use Rattle.wire_attributes.specs.declared.tables.Meaning.{Meaning}
@@ -24,4 +24,4 @@ pub record HoldsEntries (m : Meaning) (p : Place) (k : List ℕ) (x : Stretch) (
   pub inside : x .end ≤ length k
   pub held : isWhole (attributes p 0 (part k (x .start) (x .end))) ≡ true
   pub keys : l ≡ bagKeys m p (part k (x .start) (x .end))
-  pub wrapped : (n : ℕ) → valueSize m n ≡ wrappedSize n
+  pub wrapped : (n : ℕ) → valueSize m n ≡ keyValueSized n

@@ -22,8 +22,8 @@ returns c = search needs
 shown-requires : tie.Need-shown-requires Inv-loop μ-loop
 shown-requires c κs = search needs
 
-named-requires : tie.Need-named-requires Inv-loop μ-loop
-named-requires c κs = search needs
+print-name-requires : tie.Need-print-name-requires Inv-loop μ-loop
+print-name-requires c κs = search needs
 
 shown-next-requires : tie.Need-shown-next-requires Inv-loop μ-loop
 shown-next-requires c κs = search needs
@@ -50,7 +50,7 @@ by-moves-spec =
     shown-end-requires
     returns
     shown-requires
-    named-requires
+    print-name-requires
     shown-next-requires
     add-n
     loop-less

@@ -16,8 +16,8 @@ loop-holds c = tt
 shown-step-requires : tie.Need-shown-step-requires Inv-loop μ-loop
 shown-step-requires c κs = search needs
 
-named-requires : tie.Need-named-requires Inv-loop μ-loop
-named-requires c κs = search needs
+print-name-requires : tie.Need-print-name-requires Inv-loop μ-loop
+print-name-requires c κs = search needs
 
 returns : tie.Need-returns Inv-loop μ-loop
 returns c = search needs
@@ -42,7 +42,7 @@ by-steps-spec =
     μ-loop
     loop-holds
     shown-step-requires
-    named-requires
+    print-name-requires
     returns
     add-n
     loop-less

@@ -56,7 +56,8 @@ next : (c : tie.After-known-told Inv-loop μ-loop)
 next c =
     let a = c .before .before .before .before .before .before .before .before .args in
     let l = c .before .before .before .before .before .before .loop in
-    loop-goes (bag (a .fresh)) (takes (a .fresh)) (a .base) (now (a .s)) (l .at) (l .inv .1) (c .before .before .before .before .before .loop-test .taken)
+    loop-goes (bag (a .fresh)) (takes (a .fresh)) (a .base) (now (a .s)) (l .at) (l .inv .1)
+    (c .before .before .before .before .before .loop-test .taken)
     (c .before .e .given .0 .0)
     (sym (c .before .e .given .1) ∙ c .before .before .before .bag-spot .ensures)
 
@@ -76,7 +77,8 @@ returns : tie.Need-returns Inv-loop μ-loop
 returns c =
     let a = c .before .before .before .before .before .before .before .before .args in
     let l = c .before .before .before .before .before .before .loop in
-    loop-breaks (bag (a .fresh)) (takes (a .fresh)) (a .base) (now (a .s)) (l .at) (l .inv .1) (c .before .before .before .before .before .loop-test .taken) _
+    loop-breaks (bag (a .fresh)) (takes (a .fresh)) (a .base) (now (a .s)) (l .at) (l .inv .1)
+    (c .before .before .before .before .before .loop-test .taken) _
     (sym (c .before .o .given .1) ∙ c .before .before .before .bag-spot .ensures)
 
 returns-2 : tie.Need-returns-2 Inv-loop μ-loop

@@ -126,7 +126,8 @@ returns-2 c =
     (sym (c .before .o .given .1) ∙ c .before .before .before .are-attributes .ensures)
 
 returns-3 : tie.Need-returns-3
-returns-3 c = bad (c .before .before .before .args .fresh) (c .before .before .before .args .base) (now (c .before .before .before .args .s)) (sym (c .before .head-fits .ensures)
+returns-3 c = bad (c .before .before .before .args .fresh) (c .before .before .before .args .base)
+    (now (c .before .before .before .args .s)) (sym (c .before .head-fits .ensures)
     ∙ c .if1 .left)
 
 pub bag-spot-spec : {M : Type 1} → statement M

@@ -67,7 +67,8 @@ returns-2 : tie.Need-returns-2
 returns-2 c =
     let a = c .before .before .before .before .args in
     laid (a .profile) (now (a .s)) _
-    (frame-broken (a .profile) (now (a .s)) (header-not (now (a .s)) (sym (c .enum-told .given .1) ∙ c .before .before .read-header .ensures)))
+    (frame-broken (a .profile) (now (a .s)) (header-not (now (a .s))
+    (sym (c .enum-told .given .1) ∙ c .before .before .read-header .ensures)))
 
 pub layout-with-profile-spec : {M : Type 1} → statement M
 layout-with-profile-spec =

@@ -10,7 +10,8 @@ use Rattle.wire_frames.proofs.payload_spot.Statement.{statement}
 use Rattle.wire_frames.proofs.payload_spot.Tie as tie
 
 returns : tie.Need-returns
-returns c = missing (c .before .before .args .fresh) (c .before .before .args .kind) (c .before .before .args .base) (now (c .before .before .args .s)) (c .if1 .taken)
+returns c = missing (c .before .before .args .fresh) (c .before .before .args .kind) (c .before .before .args .base) (now
+    (c .before .before .args .s)) (c .if1 .taken)
 
 read-payload-requires : tie.Need-read-payload-requires
 read-payload-requires c κs = search needs
@@ -76,7 +77,8 @@ returns-2 c =
     let i = payload-is (now (c .before .before .before .before .before .before .before .before .before .before .args .s)) (v .0) (v .1 .0)
     (v .1 .1 .0) (sym (c .before .before .before .before .before .end .given .1)
     ∙ c .before .before .before .before .before .before .before .read-payload .ensures) in
-    good (c .before .before .before .before .before .before .before .before .before .before .args .fresh) (c .before .before .before .before .before .before .before .before .before .before .args .kind)
+    good (c .before .before .before .before .before .before .before .before .before .before .args .fresh)
+    (c .before .before .before .before .before .before .before .before .before .before .args .kind)
     (c .before .before .before .before .before .before .before .before .before .before .args .base) (now
     (c .before .before .before .before .before .before .before .before .before .before .args .s))
     (c .before .before .before .before .before .before .before .before .if1 .left) _ (i .0) (i .1) (sym (c .enum-told .given .1)
@@ -88,16 +90,18 @@ returns-3 c =
     let i = payload-is (now (c .before .before .before .before .before .before .before .before .before .before .before .args .s)) (v .0)
     (v .1 .0) (v .1 .1 .0) (sym (c .before .before .before .before .before .before .end .given .1)
     ∙ c .before .before .before .before .before .before .before .before .read-payload .ensures) in
-    inner-broken (c .before .before .before .before .before .before .before .before .before .before .before .args .fresh) (c .before .before .before .before .before .before .before .before .before .before .before .args .kind)
+    inner-broken (c .before .before .before .before .before .before .before .before .before .before .before .args .fresh)
+    (c .before .before .before .before .before .before .before .before .before .before .before .args .kind)
     (c .before .before .before .before .before .before .before .before .before .before .before .args .base) (now
     (c .before .before .before .before .before .before .before .before .before .before .before .args .s))
     (c .before .before .before .before .before .before .before .before .before .if1 .left) _ (i .0) (i .1) _ (sym (c .before .o .given .1)
     ∙ c .before .before .before .body-layout .ensures)
 
 returns-4 : tie.Need-returns-4
-returns-4 c = bad (c .before .before .before .before .before .args .fresh) (c .before .before .before .before .before .args .kind) (c .before .before .before .before .before .args .base) (now
-    (c .before .before .before .before .before .args .s)) (c .before .before .before .if1 .left) (payload-not (now
-    (c .before .before .before .before .before .args .s)) (sym (c .enum-told2 .given .1) ∙ c .before .before .read-payload .ensures))
+returns-4 c = bad (c .before .before .before .before .before .args .fresh) (c .before .before .before .before .before .args .kind)
+    (c .before .before .before .before .before .args .base) (now (c .before .before .before .before .before .args .s))
+    (c .before .before .before .if1 .left) (payload-not (now (c .before .before .before .before .before .args .s))
+    (sym (c .enum-told2 .given .1) ∙ c .before .before .read-payload .ensures))
 
 pub payload-spot-spec : {M : Type 1} → statement M
 payload-spot-spec =

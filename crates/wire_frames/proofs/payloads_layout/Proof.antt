@@ -49,7 +49,8 @@ within : (c : tie.After-known-told Inv-loop μ-loop)
     (0 < e) × (c .before .before .before .before .before .before .loop .at + e ≤ length (now
     (c .before .before .before .before .before .before .before .before .args .s)))
 within c =
-    inside (c .before .before .before .before .before .before .before .before .args .fresh) (c .before .before .before .before .before .before .before .before .args .first)
+    inside (c .before .before .before .before .before .before .before .before .args .fresh)
+    (c .before .before .before .before .before .before .before .before .args .first)
     (c .before .before .before .before .before .before .before .before .args .base) (now
     (c .before .before .before .before .before .before .before .before .args .s))
     (c .before .before .before .before .before .before .loop .kind) (c .before .before .before .before .before .before .loop .at)
@@ -71,7 +72,8 @@ loop-less c = let f = within (c .before .before) in omega (arith, f .0, f .1)
 loop-again : tie.Need-loop-again Inv-loop μ-loop
 loop-again c = (
   within (c .before .before) .1,
-  goes (c .before .before .before .before .before .before .before .before .before .before .args .fresh) (c .before .before .before .before .before .before .before .before .before .before .args .first)
+  goes (c .before .before .before .before .before .before .before .before .before .before .args .fresh)
+      (c .before .before .before .before .before .before .before .before .before .before .args .first)
       (c .before .before .before .before .before .before .before .before .before .before .args .base) (now
       (c .before .before .before .before .before .before .before .before .before .before .args .s))
       (c .before .before .before .before .before .before .before .before .loop .kind)
@@ -87,7 +89,8 @@ enum-known-o : tie.Need-enum-known-o Inv-loop μ-loop
 enum-known-o c = search needs
 
 returns : tie.Need-returns Inv-loop μ-loop
-returns c = tears (c .before .before .before .before .before .before .before .before .args .fresh) (c .before .before .before .before .before .before .before .before .args .first)
+returns c = tears (c .before .before .before .before .before .before .before .before .args .fresh)
+    (c .before .before .before .before .before .before .before .before .args .first)
     (c .before .before .before .before .before .before .before .before .args .base) (now
     (c .before .before .before .before .before .before .before .before .args .s))
     (c .before .before .before .before .before .before .loop .kind) (c .before .before .before .before .before .before .loop .at)
@@ -96,14 +99,16 @@ returns c = tears (c .before .before .before .before .before .before .before .be
     ∙ c .before .before .before .payload-spot .ensures)
 
 returns-2 : tie.Need-returns-2 Inv-loop μ-loop
-returns-2 c = ends (c .before .before .before .before .args .fresh) (c .before .before .before .before .args .first) (c .before .before .before .before .args .base) (now
-    (c .before .before .before .before .args .s)) (c .before .before .loop .kind) (c .before .before .loop .at)
-    (c .before .before .loop .inv .0) (c .before .before .loop .inv .1) (c .before .loop-test .left) (c .if1 .taken)
+returns-2 c = ends (c .before .before .before .before .args .fresh) (c .before .before .before .before .args .first)
+    (c .before .before .before .before .args .base) (now (c .before .before .before .before .args .s)) (c .before .before .loop .kind)
+    (c .before .before .loop .at) (c .before .before .loop .inv .0) (c .before .before .loop .inv .1) (c .before .loop-test .left)
+    (c .if1 .taken)
 
 returns-3 : tie.Need-returns-3 Inv-loop μ-loop
-returns-3 c = left-over (c .before .before .before .before .args .fresh) (c .before .before .before .before .args .first) (c .before .before .before .before .args .base) (now
-    (c .before .before .before .before .args .s)) (c .before .before .loop .kind) (c .before .before .loop .at)
-    (c .before .before .loop .inv .0) (c .before .before .loop .inv .1) (c .before .loop-test .left) (c .if1 .left)
+returns-3 c = left-over (c .before .before .before .before .args .fresh) (c .before .before .before .before .args .first)
+    (c .before .before .before .before .args .base) (now (c .before .before .before .before .args .s)) (c .before .before .loop .kind)
+    (c .before .before .loop .at) (c .before .before .loop .inv .0) (c .before .before .loop .inv .1) (c .before .loop-test .left)
+    (c .if1 .left)
 
 pub payloads-layout-spec : {M : Type 1} → statement M
 payloads-layout-spec =

@@ -5,10 +5,10 @@ use mathlib.Core.List.{List, [], _∷_}
 use mathlib.Core.Bool.{Bool, true, false, cond}
 use lib.Dec.{eqb}
 use lib.ListN.{length, drop, getD}
-use Rattle.octets.specs.Walk.{part, either, Reading, whole, broken}
+use Rattle.octets.specs.Walk.{part, Reading, whole, broken}
 use Rattle.wire_attributes.specs.Attribute.{Attribute, leadOf, spanOf}
 use Rattle.wire_attributes.specs.Answers.{valueAt, valueStart}
-use Rattle.wire_attributes.specs.Place.{wrappedSize}
+use Rattle.wire_attributes.specs.Place.{keyValueSized}
 use Rattle.wire_attributes.specs.Tree.{means, valuesOf}
 use Rattle.wire_attributes.specs.Layout.{attributes}
 use Rattle.wire_attributes.specs.declared.tables.Place.{Place}
@@ -45,7 +45,7 @@ valuesIn m p s = valuesOf m p (attributesIn p s)
 unfoldable pub placesOf : Meaning → Place → ℕ → List Attribute → List Stretch
 placesOf m p b [] = []
 placesOf m p b (a ∷ l) =
-    either (means m p a) (record { start = b + leadOf a; end = b + spanOf a } ∷ placesOf m p (b + spanOf a) l)
+    cond (means m p a) (record { start = b + leadOf a; end = b + spanOf a } ∷ placesOf m p (b + spanOf a) l)
     (placesOf m p (b + spanOf a) l)
 
 abbrev pub placesIn : Meaning → Place → List ℕ → ℕ → List Stretch
@@ -58,9 +58,9 @@ valueSize meaning.KeyLength n = eqb n 2
 valueSize meaning.InitialMessageId n = eqb n 4
 valueSize meaning.DeactivationDelay n = eqb n 2
 valueSize meaning.KeyLifetime n = eqb n 4
-valueSize meaning.SaKey n = wrappedSize n
-valueSize meaning.WrapKey n = wrappedSize n
-valueSize meaning.FreshKey n = wrappedSize n
+valueSize meaning.SaKey n = keyValueSized n
+valueSize meaning.WrapKey n = keyValueSized n
+valueSize meaning.FreshKey n = keyValueSized n
 
 -- the first such value from the index `from` on stands from `a` to `e`, and nowhere else, even where equal octets stand; the others come
 -- after it

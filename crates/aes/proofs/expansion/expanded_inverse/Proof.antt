@@ -3,7 +3,7 @@ use mathlib.Core.Path.{refl}
 use Prim.Native.Nat.{_+_, _*_, _-_, _<_, _≤_}
 use native.Mathlib.Omega.{arith}
 use lib.ListN.{length}
-use Rattle.octets.proofs.Fill.{Filled, none, more}
+use Rattle.octets.proofs.Fill.{StoredUpTo, none, more}
 use Rattle.fips197.proofs.Expansion.{sizes}
 use Rattle.aes.specs.inner.Schedule.{ZeroWords}
 use Rattle.aes.specs.inner.Inverse.{inverseWordOf}
@@ -14,7 +14,7 @@ use Rattle.aes.proofs.expansion.expanded_inverse.Statement.{statement}
 use Rattle.aes.proofs.expansion.expanded_inverse.Tie as tie
 
 abbrev Inv-loop : tie.InvT-loop
-Inv-loop t key w n k₀ j₀ k j = (10 ≤ n) × (n < 15) × (j ≤ 4 * (n + 1)) × Filled 61 (inverseWordOf t w n) k j × ZeroWords k j 61
+Inv-loop t key w n k₀ j₀ k j = (10 ≤ n) × (n < 15) × (j ≤ 4 * (n + 1)) × StoredUpTo 61 (inverseWordOf t w n) k j × ZeroWords k j 61
 
 abbrev μ-loop : tie.MeasureT-loop
 μ-loop t key w n k₀ j₀ k j = 4 * (n + 1) - j

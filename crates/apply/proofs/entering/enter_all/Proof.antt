@@ -4,7 +4,7 @@ use mathlib.Core.Path.{_≡_, sym, ap, _∙_}
 use mathlib.Core.Logic.{⊎-elim}
 use lib.ListN.{length, take, drop, set, length-take, length-set}
 use Rattle.state_keys.specs.Limits.{limits}
-use Rattle.state_keys.proofs.Lists.{length-of-map}
+use Rattle.lists.proofs.Lists.{length-of-map}
 use Rattle.state_sa.specs.Entry.{saBefore}
 use Rattle.state_table.specs.Table.{sasOf, tableOf}
 use Rattle.state_table.specs.declared.Table.{Table}

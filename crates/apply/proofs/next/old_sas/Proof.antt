@@ -5,8 +5,8 @@ use borrow.Author.Needs.{needs}
 use Rattle.apply.proofs.next.old_sas.Statement.{statement}
 use Rattle.apply.proofs.next.old_sas.Tie as tie
 
-standing-requires : tie.Need-standing-requires
-standing-requires c κs = c .before .before .pre .1
+keep-standing-requires : tie.Need-keep-standing-requires
+keep-standing-requires c κs = c .before .before .pre .1
 
 retired-by-frame-requires : tie.Need-retired-by-frame-requires
 retired-by-frame-requires c κs = let p = c .before .before .before .pre .0 in (deletesOf (p .0), p .1 .deletes)
@@ -17,8 +17,9 @@ returns c =
     let b = w .before .before .before in
     let a = b .args in
     λ f m q k.
-    gone-is (now (a .s)) (a .tick) (a .x) (a .t) (w .standing .result) (c .retired-by-frame .result) (b .pre .1) (w .standing .ensures)
+    gone-is (now (a .s)) (a .tick) (a .x) (a .t) (w .keep-standing .result) (c .retired-by-frame .result) (b .pre .1)
+    (w .keep-standing .ensures)
     (c .retired-by-frame .ensures) f m q k
 
 pub old-sas-spec : {M : Type 1} → statement M
-old-sas-spec = tie.close (tie.spec standing-requires retired-by-frame-requires returns)
+old-sas-spec = tie.close (tie.spec keep-standing-requires retired-by-frame-requires returns)

@@ -7,8 +7,8 @@ use mathlib.Core.Bool.{true}
 use mathlib.Core.Logic.{⊎-elim}
 use lib.ListN.{length, length-set}
 use Rattle.state_keys.specs.Limits.{limits}
-use Rattle.state_keys.proofs.Cases.{lt-cases}
-use Rattle.state_keys.proofs.Lists.{length-of-map}
+use Rattle.lists.proofs.Cases.{lt-cases}
+use Rattle.lists.proofs.Lists.{length-of-map}
 use Rattle.state_sa.specs.Entry.{blankSa}
 use Rattle.state_sa.specs.declared.entry.Sa.{Sa}
 use Rattle.state_table.specs.Table.{retiredIf}

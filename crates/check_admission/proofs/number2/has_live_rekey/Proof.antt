@@ -3,8 +3,8 @@ use Prim.Native.Nat.{_-_, _≤_}
 use mathlib.Core.Path.{_≡_, sym, refl, _∙_}
 use lib.ListN.{length, take, drop}
 use Rattle.state_keys.specs.Limits.{limits}
-use Rattle.state_keys.specs.Lists.{any}
-use Rattle.state_keys.proofs.Lists.{length-of-map}
+use Rattle.lists.specs.Lists.{any}
+use Rattle.lists.proofs.Lists.{length-of-map}
 use Rattle.state_table.specs.Table.{notDue}
 use Rattle.rules_refusals.specs.Number2.{overLiveRekey}
 use Rattle.check_admission.proofs.Laws.{over-yes, over-no, over-end}

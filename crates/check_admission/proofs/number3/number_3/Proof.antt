@@ -1,7 +1,7 @@
 use mathlib.Core.Path.{sym, ap, _∙_}
 use mathlib.Core.Bool.{true, false, not}
 use Rattle.wire_frames.specs.declared.exchanges.Exchange.{Exchange}
-use Rattle.check_admission.proofs.Laws.{three-judged, three-not}
+use Rattle.check_admission.proofs.Laws.{number3-judged, number3-not}
 use borrow.Author.Needs.{needs}
 use Rattle.check_admission.proofs.number3.number_3.Statement.{statement}
 use Rattle.check_admission.proofs.number3.number_3.Tie as tie
@@ -15,7 +15,7 @@ accepts-requires c κs = search needs
 returns : tie.Need-returns
 returns c =
     let a = c .before .before .before .before .args in
-    three-judged (a .state) (a .exchange) (a .id) false
+    number3-judged (a .state) (a .exchange) (a .id) false
     (sym (ap (λ (x : Exchange). x .«compares_message_id») (c .before .before .before .exchange-of .ensures))
     ∙ c .before .before .if1 .taken)
     (ap not (sym (c .if2 .taken) ∙ c .before .accepts .ensures))
@@ -23,7 +23,7 @@ returns c =
 returns-2 : tie.Need-returns-2
 returns-2 c =
     let a = c .before .before .before .before .args in
-    three-judged (a .state) (a .exchange) (a .id) true
+    number3-judged (a .state) (a .exchange) (a .id) true
     (sym (ap (λ (x : Exchange). x .«compares_message_id») (c .before .before .before .exchange-of .ensures))
     ∙ c .before .before .if1 .taken)
     (ap not (sym (c .if2 .left) ∙ c .before .accepts .ensures))
@@ -31,7 +31,7 @@ returns-2 c =
 returns-3 : tie.Need-returns-3
 returns-3 c =
     let a = c .before .before .args in
-    three-not (a .state) (a .exchange) (a .id)
+    number3-not (a .state) (a .exchange) (a .id)
     (sym (ap (λ (x : Exchange). x .«compares_message_id») (c .before .exchange-of .ensures)) ∙ c .if1 .left)
 
 pub number-3-spec : {M : Type 1} → statement M

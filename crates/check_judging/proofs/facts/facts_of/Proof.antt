@@ -69,7 +69,8 @@ returns c =
     let k = d .kd-facts .ensures in
     λ i. record {
       payloads = e i;
-      policies = (p .policy-facts .ensures ∙ ap (λ (y : PayloadFacts). policyFacts (a .row .authentication) (policiesIn (at s (y .gsa)))) e) i;
+      policies = (p .policy-facts .ensures ∙ ap (λ (y : PayloadFacts). policyFacts (a .row .authentication)
+          (policiesIn (at s (y .gsa)))) e) i;
       bags = (ap (λ (y : KdFacts). y .bags) k ∙ ap (λ (y : PayloadFacts). bagFacts limits
           (bagsIn (a .profile && a .row .«reads_fresh_keys») (at s (y .kd)))) e) i;
       «member_bag» = (ap (λ (y : KdFacts). y .«member_bag») k ∙ ap (λ (y : PayloadFacts). memberIn (at s (y .kd))) e) i;

@@ -13,7 +13,8 @@ returns c =
     let a = c .before .before .before .before .before .before .before .before .before .args in
     let x = a .x in
     λ i. ltb (limits .espPolicies) (x .policies .esps) ∷ ltb (limits .wrapKeys) (x .bags .wraps) ∷ x .bags .overfull
-    ∷ ltb (limits .deletedSpis) (x .payloads .deletion .spis) ∷ x .policies .long ∷ ltb (limits .freshKeys) (x .bags .fresh) ∷ c .is-over .ensures i ∷ []
+    ∷ ltb (limits .deletedSpis) (x .payloads .deletion .spis) ∷ x .policies .long ∷ ltb (limits .freshKeys) (x .bags .fresh)
+    ∷ c .is-over .ensures i ∷ []
 
 pub clauses-7-spec : {M : Type 1} → statement M
 clauses-7-spec = tie.close (tie.spec is-over-requires returns)

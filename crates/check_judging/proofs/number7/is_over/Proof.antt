@@ -1,4 +1,4 @@
-use Rattle.check_judging.proofs.FiveLaws.{over-already, over-with}
+use Rattle.check_judging.proofs.Number5Laws.{over-already, over-with}
 use Rattle.check_judging.proofs.number7.is_over.Statement.{statement}
 use Rattle.check_judging.proofs.number7.is_over.Tie as tie
 

@@ -86,8 +86,8 @@ returns-3 c =
     at-6 (a .state) (a .tick) (now (a .lent)) (now (a .s)) (st .pre .0) (a .row) (a .x) (st .pre .1 .1 .0) _ (n4 .number-4 .ensures)
     (e4 .if1 .left) _ (n5 .number-5 .ensures) (e5 .if2 .left) _ (n6 .number-6 .ensures) (c .if3 .taken) f q (st .pre .1 .1 .1 f q)
 
-standing-requires : tie.Need-standing-requires
-standing-requires c κs = search needs
+count-standing-requires : tie.Need-count-standing-requires
+count-standing-requires c κs = search needs
 
 number-7-requires : tie.Need-number-7-requires
 number-7-requires c κs = search needs
@@ -106,7 +106,7 @@ returns-4 c =
     let a = st .args in
     λ f q.
     at-7 (a .state) (a .tick) (now (a .lent)) (now (a .s)) (st .pre .0) (a .row) (a .x) (st .pre .1 .1 .0) _ (n4 .number-4 .ensures)
-    (e4 .if1 .left) _ (n5 .number-5 .ensures) (e5 .if2 .left) _ (n6 .number-6 .ensures) (e6 .if3 .left) _ (sd .standing .ensures) _
+    (e4 .if1 .left) _ (n5 .number-5 .ensures) (e5 .if2 .left) _ (n6 .number-6 .ensures) (e6 .if3 .left) _ (sd .count-standing .ensures) _
     (n7 .number-7 .ensures) (c .if4 .taken) f q (st .pre .1 .1 .1 f q)
 
 returns-5 : tie.Need-returns-5
@@ -123,7 +123,7 @@ returns-5 c =
     let a = st .args in
     λ f q.
     at-none (a .state) (a .tick) (now (a .lent)) (now (a .s)) (st .pre .0) (a .row) (a .x) (st .pre .1 .1 .0) _ (n4 .number-4 .ensures)
-    (e4 .if1 .left) _ (n5 .number-5 .ensures) (e5 .if2 .left) _ (n6 .number-6 .ensures) (e6 .if3 .left) _ (sd .standing .ensures) _
+    (e4 .if1 .left) _ (n5 .number-5 .ensures) (e5 .if2 .left) _ (n6 .number-6 .ensures) (e6 .if3 .left) _ (sd .count-standing .ensures) _
     (n7 .number-7 .ensures) (c .if4 .left) f q (st .pre .1 .1 .1 f q)
 
 pub on-facts-spec : {M : Type 1} → statement M
@@ -142,7 +142,7 @@ on-facts-spec =
     part-number-6-end-2
     number-6-requires
     returns-3
-    standing-requires
+    count-standing-requires
     number-7-requires
     returns-4
     returns-5)

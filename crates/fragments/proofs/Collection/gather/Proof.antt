@@ -3,7 +3,7 @@ use Prim.Native.Nat.{ℕ, _-_}
 use mathlib.Core.Path.{_≡_, refl}
 use lib.ListN.{length, replicate, length-replicate}
 use Rattle.ikev2_numbers.specs.Codes.{headerOctets, mostOctets, rekeySpiOctets}
-use Rattle.state_keys.proofs.Lists.{length-of-map}
+use Rattle.lists.proofs.Lists.{length-of-map}
 use Rattle.fragments.specs.Collection.{mostFragments}
 use Rattle.fragments.specs.inner.FitWaiting.{LongCollection}
 use Rattle.fragments.proofs.GatherLaws.{few, size-is, before-is, joins, gathers}

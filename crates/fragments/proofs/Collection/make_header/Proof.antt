@@ -1,7 +1,7 @@
 use mathlib.Core.Path.{_≡_}
 use lib.ListN.{length}
 use Rattle.ikev2_numbers.specs.Codes.{rekeySpiOctets}
-use Rattle.state_keys.proofs.Lists.{length-of-map}
+use Rattle.lists.proofs.Lists.{length-of-map}
 use Rattle.fragments.proofs.HeaderLaws.{header-is}
 use borrow.Author.Needs.{needs}
 use Rattle.fragments.proofs.Collection.make_header.Statement.{statement}

@@ -1,6 +1,6 @@
 use mathlib.Core.Path.{_≡_, sym, _∙_}
 use lib.ListN.{length}
-use Rattle.state_keys.proofs.Lists.{length-of-map}
+use Rattle.lists.proofs.Lists.{length-of-map}
 use Rattle.ikev2_numbers.specs.Codes.{mostOctets, rekeySpiOctets}
 use Rattle.fragments.specs.Collection.{mostFragments, counted}
 use Rattle.fragments.specs.inner.FitWaiting.{LongCollection}

@@ -2,7 +2,7 @@ use native.Mathlib.Omega.{arith}
 use mathlib.Core.Path.{_≡_, ap, _∙_}
 use lib.ListN.{length}
 use Rattle.ikev2_numbers.specs.Codes.{mostOctets, rekeySpiOctets}
-use Rattle.state_keys.proofs.Lists.{length-of-map}
+use Rattle.lists.proofs.Lists.{length-of-map}
 use Rattle.fragments.specs.Collection.{mostFragments}
 use Rattle.fragments.specs.inner.FitWaiting.{LongCollection}
 use Rattle.fragments.proofs.WriteLaws.{header-size, few-held, size-counted, small-counted, written}

@@ -3,8 +3,8 @@ use Prim.Native.Nat.{_-_, _≤_}
 use mathlib.Core.Path.{_≡_, sym, _∙_}
 use lib.ListN.{length, take, drop}
 use Rattle.fragments.specs.Collection.{mostFragments, numbered}
-use Rattle.state_keys.specs.Lists.{all}
-use Rattle.state_keys.proofs.Lists.{all-yes, all-no, all-end}
+use Rattle.lists.specs.Lists.{all}
+use Rattle.lists.proofs.Lists.{all-yes, all-no, all-end}
 use borrow.Author.Needs.{needs}
 use Rattle.fragments.proofs.counting.are_numbered.Statement.{statement}
 use Rattle.fragments.proofs.counting.are_numbered.Tie as tie

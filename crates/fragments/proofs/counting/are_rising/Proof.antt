@@ -3,7 +3,7 @@ use Prim.Native.Nat.{_+_, _-_, _≤_}
 use mathlib.Core.Path.{_≡_, refl, sym, _∙_}
 use lib.ListN.{length, take, drop}
 use Rattle.fragments.specs.Collection.{mostFragments, pieceBefore}
-use Rattle.state_keys.specs.Lists.{rising}
+use Rattle.lists.specs.Lists.{rising}
 use Rattle.fragments.proofs.CountLaws.{numbers-rise, numbers-stop, numbers-end}
 use borrow.Author.Needs.{needs}
 use Rattle.fragments.proofs.counting.are_rising.Statement.{statement}

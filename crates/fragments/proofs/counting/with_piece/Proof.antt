@@ -4,7 +4,7 @@ use mathlib.Core.Path.{_≡_, sym, _∙_}
 use lib.ListN.{length}
 use Rattle.fragments.specs.Collection.{mostFragments, blankPiece, pieceBefore}
 use mathlib.Core.Logic.{⊎-elim}
-use Rattle.state_keys.proofs.Place.{Placing, placing-ahead, placing-behind, placing-all}
+use Rattle.lists.proofs.Place.{Placing, placing-ahead, placing-behind, placing-all}
 use borrow.Author.Needs.{needs}
 use Rattle.fragments.proofs.counting.with_piece.Statement.{statement}
 use Rattle.fragments.proofs.counting.with_piece.Tie as tie

@@ -3,12 +3,12 @@ use mathlib.Core.Path.{refl}
 use Prim.Native.Nat.{_-_}
 use native.Mathlib.Omega.{arith}
 use Rattle.gcm.specs.inner.Halves.{pairNumber}
-use Rattle.gcm.proofs.MultipleLaws.{Filled, filled, filled-all}
+use Rattle.gcm.proofs.MultipleLaws.{MultiplesUpTo, filled, filled-all}
 use Rattle.gcm.proofs.product.make_multiples.Statement.{statement}
 use Rattle.gcm.proofs.product.make_multiples.Tie as tie
 
 abbrev Inv-loop : tie.InvT-loop
-Inv-loop y w₀ d₀ w d = Filled (pairNumber y) d w
+Inv-loop y w₀ d₀ w d = MultiplesUpTo (pairNumber y) d w
 
 abbrev μ-loop : tie.MeasureT-loop
 μ-loop y w₀ d₀ w d = 16 - d

@@ -21,7 +21,8 @@ part-receive-end : tie.Need-part-receive-end
 part-receive-end c =
     let v = c .before .before .before .write-whole in
     let s = c .before .before .before .before .before .before in
-    let l = whole-within (s .args .self) (s .args .tick) (s .pre .0) (s .args .room .now) (v .result) (v .last .1 .0) (v .ensures (s .pre .0) (s .pre .1 .is)) in
+    let l = whole-within (s .args .self) (s .args .tick) (s .pre .0) (s .args .room .now) (v .result) (v .last .1 .0)
+    (v .ensures (s .pre .0) (s .pre .1 .is)) in
     omega (arith, l)
 
 slice-aggregate-receive : tie.Need-slice-aggregate-receive

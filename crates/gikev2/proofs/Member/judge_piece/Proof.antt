@@ -3,7 +3,8 @@ use borrow.Author.Needs.{needs}
 use mathlib.Core.Path.{_≡_, refl, sym, _∙_}
 use native.Mathlib.Omega.{arith}
 use Rattle.octets.specs.Octets.{Octets}
-use Rattle.gikev2.proofs.GatheringLaws.{given-as, long-enough, is-replayed, is-too-many, counts-one, is-passed, is-too-long, is-taken}
+use Rattle.gikev2.proofs.GatheringLaws.{given-as, long-enough, is-replayed, is-too-many, counts-one, is-passed, is-too-long}
+use Rattle.gikev2.proofs.GatheringLaws.{is-taken}
 use Rattle.gikev2.proofs.Member.judge_piece.Statement.{statement}
 use Rattle.gikev2.proofs.Member.judge_piece.Tie as tie
 
@@ -75,7 +76,8 @@ keep-piece-requires c κs =
     let f = n .names-in .ensures in
     let l = q .before .if2 .left in
     is-taken (s .args .collection) o u f (q .before .before .before .before .number-3 .ensures) (q .before .before .before .if1 .left)
-    (omega (arith, l)) (q .place .result) (q .place .ensures _ (u .piece .of .count)) (c .before .before .n .given .0 .0) (c .before .before .n .given .1)
+    (omega (arith, l)) (q .place .result) (q .place .ensures _ (u .piece .of .count)) (c .before .before .n .given .0 .0)
+    (c .before .before .n .given .1)
 
 returns-3 : tie.Need-returns-3
 returns-3 c =

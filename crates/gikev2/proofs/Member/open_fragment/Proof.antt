@@ -39,8 +39,8 @@ judge-piece-requires c κs =
     let k = t .before .before .before .before in
     let s = k .before in
     let o : Octets (s .args .frame .now) = λ i. k .shared-slice-known .given i .fits in
-    opened (s .args .collection) o (s .pre) (t .sealing-key .ensures) (q .piece-length .result) (q .piece-length .ensures (s .args .room .now) refl)
-    (c .before .before .p .given .0 .0) (c .before .before .p .given .1)
+    opened (s .args .collection) o (s .pre) (t .sealing-key .ensures) (q .piece-length .result)
+    (q .piece-length .ensures (s .args .room .now) refl) (c .before .before .p .given .0 .0) (c .before .before .p .given .1)
 
 returns : tie.Need-returns
 returns c =

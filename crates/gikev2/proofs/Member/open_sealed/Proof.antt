@@ -23,8 +23,8 @@ open-frame-requires c κs = search needs
 enum-told : tie.Need-enum-told
 enum-told c = search needs
 
-refused-requires : tie.Need-refused-requires
-refused-requires c κs = search needs
+refuse-requires : tie.Need-refuse-requires
+refuse-requires c κs = search needs
 
 enum-known-n : tie.Need-enum-known-n
 enum-known-n c = search needs
@@ -67,8 +67,8 @@ returns c =
     let a = s .args in
     let k = q .before .before .sealing-key in
     let o : Octets (a .frame .now) = λ i. q .before .before .before .before .before .before .shared-slice-known .given i .fits in
-    let x = c .refused .result in
-    let e = c .refused .ensures in
+    let x = c .refuse .result in
+    let e = c .refuse .ensures in
     not-opened-given (a .self) (a .tick) (a .frame .now) (a .room .now) (encryptionOctetsOf (k .result)) (q .open-frame .result)
     (q .open-frame .last .1 .1 .0) (q .open-frame .ensures) o (s .pre .0) (s .pre .1) (key-part (a .self) (k .result) (k .ensures))
     (c .before .enum-told .given .1) (x .answer) (x .member) (e .0) (e .1)
@@ -96,7 +96,7 @@ open-sealed-spec =
     sealing-key-requires
     open-frame-requires
     enum-told
-    refused-requires
+    refuse-requires
     enum-known-n
     sub-receive
     part-receive-start

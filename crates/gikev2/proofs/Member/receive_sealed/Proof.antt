@@ -19,8 +19,8 @@ is-not-for-requires c κs =
     let f = outer-is (i .before .before .before .before .args .frame .now) (sym (i .before .is-outer .ensures) ∙ i .if1 .taken) in
     f .least
 
-refused-requires : tie.Need-refused-requires
-refused-requires c κs = search needs
+refuse-requires : tie.Need-refuse-requires
+refuse-requires c κs = search needs
 
 returns : tie.Need-returns
 returns c =
@@ -29,9 +29,9 @@ returns c =
     let s = i .before .before .before .before in
     let a = s .args in
     let o : Octets (a .frame .now) = λ k. i .before .before .before .shared-slice-known .given k .fits in
-    let x = c .refused .result in
+    let x = c .refuse .result in
     given-as (a .self) (a .tick) (a .frame .now) (a .room .now) (x .answer) answer.NotForMember (x .member) (a .self) (a .room .now)
-    (c .refused .ensures .0) (c .refused .ensures .1)
+    (c .refuse .ensures .0) (c .refuse .ensures .1)
     (two-refused (a .self) (a .tick) (a .frame .now) (a .room .now) o (sym (i .before .is-outer .ensures) ∙ i .if1 .taken)
     (sym (n .is-not-for .ensures) ∙ c .before .if2 .taken))
 
@@ -47,16 +47,16 @@ same-length c = search needs
 returns-2 : tie.Need-returns-2
 returns-2 c = search needs
 
-refused-requires-2 : tie.Need-refused-requires-2
-refused-requires-2 c κs = search needs
+refuse-requires-2 : tie.Need-refuse-requires-2
+refuse-requires-2 c κs = search needs
 
 returns-3 : tie.Need-returns-3
 returns-3 c =
     let i = c .before in
     let a = i .before .before .before .before .args in
-    let x = c .refused2 .result in
+    let x = c .refuse2 .result in
     given-as (a .self) (a .tick) (a .frame .now) (a .room .now) (x .answer) (answer.BrokenLayout 0) (x .member) (a .self) (a .room .now)
-    (c .refused2 .ensures .0) (c .refused2 .ensures .1)
+    (c .refuse2 .ensures .0) (c .refuse2 .ensures .1)
     (outer-refused (a .self) (a .tick) (a .frame .now) (a .room .now) (sym (i .before .is-outer .ensures) ∙ i .if1 .left))
 
 pub receive-sealed-spec : {M : Type 1} → statement M
@@ -65,10 +65,10 @@ receive-sealed-spec =
     (tie.spec
     is-outer-requires
     is-not-for-requires
-    refused-requires
+    refuse-requires
     returns
     open-sealed-requires
     same-length
     returns-2
-    refused-requires-2
+    refuse-requires-2
     returns-3)

@@ -1,4 +1,4 @@
-use Rattle.gikev2.proofs.ReceiveLaws.{is-nine}
+use Rattle.gikev2.proofs.ReceiveLaws.{is-number9}
 use borrow.Author.Needs.{needs}
 use Rattle.gikev2.proofs.call.answer_of.Statement.{statement}
 use Rattle.gikev2.proofs.call.answer_of.Tie as tie
@@ -32,7 +32,7 @@ returns-9 c =
     let r = c .match .rest in
     let q = r .0 .0 .0 .0 in
     let p = c .before .pre in
-    is-nine (c .before .args .number) (p .0) (q .0 .0 .0 .1) (p .1) (q .0 .0 .1) (q .0 .1) (q .1) (r .0 .0 .0 .1) (r .0 .0 .1) (r .0 .1)
+    is-number9 (c .before .args .number) (p .0) (q .0 .0 .0 .1) (p .1) (q .0 .0 .1) (q .0 .1) (q .1) (r .0 .0 .0 .1) (r .0 .0 .1) (r .0 .1)
     (r .1)
 
 pub answer-of-spec : {M : Type 1} → statement M

@@ -5,13 +5,13 @@ use Prim.Native.Nat.{ℕ, _*_, _-_}
 use native.Mathlib.Omega.{arith}
 use lib.ListN.{length, drop}
 use Rattle.octets.specs.Numbers.{number}
-use Rattle.octets.proofs.Fill.{Filled, none, more, all}
+use Rattle.octets.proofs.Fill.{StoredUpTo, none, more, all}
 use Rattle.rfc5649.proofs.Registers.{registers-gen}
 use Rattle.keywrap.proofs.load.load.Statement.{statement}
 use Rattle.keywrap.proofs.load.load.Tie as tie
 
 abbrev Inv-loop : tie.InvT-loop
-Inv-loop octets s₀ i₀ s i = Filled (length s₀) (λ (k : ℕ). number 8 (drop (8 * k) octets)) s i
+Inv-loop octets s₀ i₀ s i = StoredUpTo (length s₀) (λ (k : ℕ). number 8 (drop (8 * k) octets)) s i
 
 abbrev μ-loop : tie.MeasureT-loop
 μ-loop octets s₀ i₀ s i = length s₀ - i

@@ -61,7 +61,8 @@ some-listed c =
     omega (arith, e, z)
 
 held-by-path-requires : tie.Need-held-by-path-requires
-held-by-path-requires c κs = (c .before .before .before .before .before .pre .0, (formed (c .before .before .before .before), some-listed c))
+held-by-path-requires c κs =
+    (c .before .before .before .before .before .pre .0, (formed (c .before .before .before .before), some-listed c))
 
 returns-2 : tie.Need-returns-2
 returns-2 c roots l size f kept openers some =

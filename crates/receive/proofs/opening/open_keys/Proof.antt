@@ -16,7 +16,7 @@ use Rattle.unwrap_lending.specs.inner.Lending.{placeOctets}
 use Rattle.unwrap_sas.specs.inner.Keyed.{KeyedBy}
 use Rattle.unwrap_tree.specs.inner.Reached.{TreeAnswers}
 use Rattle.unwrap_tree.specs.inner.Source.{EntriesStand}
-use Rattle.receive.specs.inner.Opening.{OpeningOf}
+use Rattle.receive.specs.inner.Opening.{Openable}
 use Rattle.receive.proofs.EntryLaws.{entries-few, entries-nonzero}
 use Rattle.receive.proofs.AfterLaws.{two-lent, each-opens, some-opener}
 use Rattle.receive.proofs.OpeningLaws.{namedOf, named-few, named-ids, named-ids-count, named-block, named-block-count, named-lent}
@@ -34,7 +34,7 @@ entries-at-requires c κs =
 -- where its entries stand
 stand : (c : tie.After-entries-at) (m : State) (lent : List ℕ) (f : Frame) →
     let a = c .before .before .before .args in
-    OpeningOf (a .row) m (a .tick) lent (now (a .gsa)) (now (a .kd)) (a .bag) (a .held) (a .zero) (a .reads) f →
+    Openable (a .row) m (a .tick) lent (now (a .gsa)) (now (a .kd)) (a .bag) (a .held) (a .zero) (a .reads) f →
     EntriesStand (now (a .kd)) f (c .entries-at .result)
 stand c m lent f o = c .entries-at .ensures f (sourced-by o)
 
@@ -56,23 +56,29 @@ named-count-requires c κs = search needs
 mul-e : tie.Need-mul-e
 mul-e c =
     let a = c .before .before .before .before .before .before .before .before .before .before .args in
-    let h = named-few (a .row .«names_held_keys») (a .held) (c .named-count .ensures) (c .before .before .before .lend-keys .ensures) in record { fits = omega arith }
+    let h = named-few (a .row .«names_held_keys») (a .held) (c .named-count .ensures)
+    (c .before .before .before .lend-keys .ensures) in record { fits = omega arith }
 
 array-share-prefix-ids : tie.Need-array-share-prefix-ids
 array-share-prefix-ids c =
-    let a = c .before .before .before .before .before .before .before .before .before .before .args in named-ids (a .row .«names_held_keys») (a .held) (c .named-count .ensures) (c .before .before .before .lend-keys .ensures)
+    let a = c .before .before .before .before .before .before .before .before .before .before .args in named-ids (a .row .«names_held_keys»)
+    (a .held) (c .named-count .ensures) (c .before .before .before .lend-keys .ensures)
 
 slice-aggregate-reach-any : tie.Need-slice-aggregate-reach-any
 slice-aggregate-reach-any c =
-    let a = c .before .before .before .before .before .before .before .before .before .before .before .args in named-ids-count (a .row .«names_held_keys») (a .held) (c .before .named-count .ensures) (c .before .before .before .before .lend-keys .ensures)
+    let a = c .before .before .before .before .before .before .before .before .before .before .before .args in named-ids-count
+    (a .row .«names_held_keys») (a .held) (c .before .named-count .ensures) (c .before .before .before .before .lend-keys .ensures)
 
 array-share-prefix-block : tie.Need-array-share-prefix-block
 array-share-prefix-block c =
-    let a = c .before .before .before .before .before .before .before .before .before .before .before .args in named-block (a .row .«names_held_keys») (a .held) (c .before .named-count .ensures) (c .before .before .before .before .lend-keys .ensures)
+    let a = c .before .before .before .before .before .before .before .before .before .before .before .args in named-block
+    (a .row .«names_held_keys») (a .held) (c .before .named-count .ensures) (c .before .before .before .before .lend-keys .ensures)
 
 slice-aggregate-reach-any-2 : tie.Need-slice-aggregate-reach-any-2
 slice-aggregate-reach-any-2 c =
-    let a = c .before .before .before .before .before .before .before .before .before .before .before .before .args in named-block-count (a .row .«names_held_keys») (a .held) (c .before .before .named-count .ensures) (c .before .before .before .before .before .lend-keys .ensures)
+    let a = c .before .before .before .before .before .before .before .before .before .before .before .before .args in named-block-count
+    (a .row .«names_held_keys») (a .held) (c .before .before .named-count .ensures)
+    (c .before .before .before .before .before .lend-keys .ensures)
 
 reach-any-requires : tie.Need-reach-any-requires
 reach-any-requires c κs =
@@ -80,15 +86,22 @@ reach-any-requires c κs =
     let p = c .before .before .before .before .before .before .before .before .before .before .before .before .pre .1 in
     let f = p .2 in
     let o = p .3 in
-    let named = named-lent (a .row .«names_held_keys») (a .held) (c .before .before .named-count .ensures) (c .before .before .before .before .before .lend-keys .ensures) in (
-      (entriesOf f, stand (c .before .before .before .before .before .before .before .before .before) (p .0) (p .1) f o .holds, entries-few (o .bagged), entries-nonzero (o .bagged)),
+    let named = named-lent (a .row .«names_held_keys») (a .held) (c .before .before .named-count .ensures)
+    (c .before .before .before .before .before .lend-keys .ensures) in (
+      (
+        entriesOf f,
+        stand (c .before .before .before .before .before .before .before .before .before) (p .0) (p .1) f o .holds,
+        entries-few
+            (o .bagged),
+        entries-nonzero (o .bagged),
+      ),
       (o .key .fits, (o .key .key, (namedOf (a .row) (a .held), named))),
     )
 
 -- what the entries reach, for every frame that has these bodies
 tree : (c : tie.After-reach-any) (m : State) (lent : List ℕ) (f : Frame) →
     let a = c .before .before .before .before .before .before .before .before .before .before .before .before .before .args in
-    OpeningOf (a .row) m (a .tick) lent (now (a .gsa)) (now (a .kd)) (a .bag) (a .held) (a .zero) (a .reads) f →
+    Openable (a .row) m (a .tick) lent (now (a .gsa)) (now (a .kd)) (a .bag) (a .held) (a .zero) (a .reads) f →
     TreeAnswers (rootsOf limits m (a .tick) lent f) (entriesOf f) (wrappingSize limits m (a .tick) lent f) (a .zero)
     (keysOf (namedOf (a .row) (a .held))) (c .reach-any .result)
 tree c m lent f o =
@@ -96,7 +109,8 @@ tree c m lent f o =
     let e = stand (c .before .before .before .before .before .before .before .before .before .before) m lent f o in
     opened-tree o (c .reach-any .result)
     (c .reach-any .ensures (entriesOf f) (namedOf (a .row) (a .held)) (e .holds) (entries-nonzero (o .bagged)) (e .none)
-    (named-lent (a .row .«names_held_keys») (a .held) (c .before .before .before .named-count .ensures) (c .before .before .before .before .before .before .lend-keys .ensures)))
+    (named-lent (a .row .«names_held_keys») (a .held) (c .before .before .before .named-count .ensures)
+    (c .before .before .before .before .before .before .lend-keys .ensures)))
 
 -- the Key IDs that are lent
 long : (c : tie.After-reach-any) → length (c .reach-any .result .links .ids) ≡ limits .wrapKeys
@@ -137,14 +151,16 @@ slice-aggregate-open-sas : tie.Need-slice-aggregate-open-sas
 slice-aggregate-open-sas c = sym (listed (c .before .before .before .before .before .before .before .before))
 
 -- the places that are lent
-few-places : (c : tie.After-lend-named) → placeOctets * c .before .before .before .before .before .before .reach-any .result .links .count ≤ placeOctets * limits .heldKeys
+few-places : (c : tie.After-lend-named)
+    → placeOctets * c .before .before .before .before .before .before .reach-any .result .links .count ≤ placeOctets * limits .heldKeys
 few-places c = omega (arith, few-links (c .before .before .before .before .before .before))
 
 array-share-prefix-fresh : tie.Need-array-share-prefix-fresh
 array-share-prefix-fresh c = omega (arith, few-places (c .before .before), c .before .before .lend-named .ensures .block-length)
 
 slice-aggregate-open-sas-2 : tie.Need-slice-aggregate-open-sas-2
-slice-aggregate-open-sas-2 c = sym (length-take-le _ _ (omega (arith, few-places (c .before .before .before), c .before .before .before .lend-named .ensures .block-length)))
+slice-aggregate-open-sas-2 c = sym (length-take-le _ _ (omega
+    (arith, few-places (c .before .before .before), c .before .before .before .lend-named .ensures .block-length)))
 
 array-share-prefix-ids-2 : tie.Need-array-share-prefix-ids-2
 array-share-prefix-ids-2 c =
@@ -174,7 +190,12 @@ open-sas-requires c κs =
         (
           o .key .fits,
           (
-            (_, _, two-lent _ _ _ _ _ _ _ (c .before .before .before .before .before .lend-named .ensures) (listed (c .before .before .before .before .before .before .before .before .before .before .before)) named),
+            (
+              _,
+              _,
+              two-lent _ _ _ _ _ _ _ (c .before .before .before .before .before .lend-named .ensures)
+                  (listed (c .before .before .before .before .before .before .before .before .before .before .before)) named,
+            ),
             (p .1 .2, checked-by o),
           ),
         ),
@@ -183,20 +204,25 @@ open-sas-requires c κs =
 
 held-after-requires : tie.Need-held-after-requires
 held-after-requires c κs =
-    let p = c .before .before .before .before .before .before .before .before .before .before .before .before .before .before .before .before .before .before .before .before .before .before .before .before .before .before .pre .1 in
-    (tree (c .before .before .before .before .before .before .before .before .before .before .before .before .before) (p .0) (p .1) (p .2) (p .3) .fit, formed-by (p .3))
+    let p = c .before .before .before .before .before .before .before .before .before .before .before .before .before .before .before .before .before .before .before .before .before .before .before .before .before .before .pre .1 in (
+      tree (c .before .before .before .before .before .before .before .before .before .before .before .before .before) (p .0) (p .1) (p .2)
+          (p .3) .fit,
+      formed-by (p .3),
+    )
 
 -- the result for its SAs, for every frame that has these bodies
 keyed : (c : tie.After-open-sas) (m : State) (lent : List ℕ) (f : Frame) →
     let a = c .before .before .before .before .before .before .before .before .before .before .before .before .before .before .before .before .before .before .before .before .before .before .before .before .before .args in
-    OpeningOf (a .row) m (a .tick) lent (now (a .gsa)) (now (a .kd)) (a .bag) (a .held) (a .zero) (a .reads) f →
+    Openable (a .row) m (a .tick) lent (now (a .gsa)) (now (a .kd)) (a .bag) (a .held) (a .zero) (a .reads) f →
     c .before .before .before .before .before .before .before .before .before .before .before .before .reach-any .result .conflict ≡ false →
     KeyedBy (rootsOf limits m (a .tick) lent f) (entriesOf f) (wrappingSize limits m (a .tick) lent f) f (a .tick) (c .open-sas .result)
 keyed c m lent f o e =
     let a = c .before .before .before .before .before .before .before .before .before .before .before .before .before .before .before .before .before .before .before .before .before .before .before .before .before .args in
     let named = named-lent (a .row .«names_held_keys») (a .held) (c .before .before .before .before .before .before .before .before .before .before .before .before .before .before .before .named-count .ensures) (c .before .before .before .before .before .before .before .before .before .before .before .before .before .before .before .before .before .before .lend-keys .ensures) in
     c .open-sas .ensures (rootsOf limits m (a .tick) lent f) (entriesOf f) (wrappingSize limits m (a .tick) lent f) f _ _ (checked-by o)
-    (two-lent _ _ _ _ _ _ _ (c .before .before .before .before .before .before .lend-named .ensures) (listed (c .before .before .before .before .before .before .before .before .before .before .before .before)) named) (tree (c .before .before .before .before .before .before .before .before .before .before .before .before) m lent f o .agrees e)
+    (two-lent _ _ _ _ _ _ _ (c .before .before .before .before .before .before .lend-named .ensures)
+    (listed (c .before .before .before .before .before .before .before .before .before .before .before .before)) named)
+    (tree (c .before .before .before .before .before .before .before .before .before .before .before .before) m lent f o .agrees e)
 
 returns : tie.Need-returns
 returns c m lent f o =
@@ -209,8 +235,8 @@ returns c m lent f o =
       keys = k;
       held = λ e g.
           told-by o (h .result)
-          (h .ensures (rootsOf limits m (a .tick) lent f) (entriesOf f) (wrappingSize limits m (a .tick) lent f) f (t .kept e) (k e .openers g)
-          (some-opener _ _ _ f (each-opens _ _ _ f (a .tick) (c .before .before .before .open-sas .result) (k e) g)));
+          (h .ensures (rootsOf limits m (a .tick) lent f) (entriesOf f) (wrappingSize limits m (a .tick) lent f) f (t .kept e)
+          (k e .openers g) (some-opener _ _ _ f (each-opens _ _ _ f (a .tick) (c .before .before .before .open-sas .result) (k e) g)));
     }
 
 pub open-keys-spec : {M : Type 1} → statement M

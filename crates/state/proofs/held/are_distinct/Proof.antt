@@ -34,7 +34,8 @@ returns : tie.Need-returns Inv-loop μ-loop
 returns c =
     let l = c .before .before .before .before .loop in
     let a = c .before .before .before .before .before .before .args in
-    sym (l .inv .1 ∙ distinct-no (now (a .ids)) (a .n) (l .inv .0) (l .i) (omega arith) (sym (c .if1 .left) ∙ c .before .is-absent .ensures))
+    sym (l .inv .1 ∙ distinct-no (now (a .ids)) (a .n) (l .inv .0) (l .i) (omega arith)
+    (sym (c .if1 .left) ∙ c .before .is-absent .ensures))
 
 loop-less : tie.Need-loop-less Inv-loop μ-loop
 loop-less c = search needs

@@ -5,7 +5,7 @@ use mathlib.Core.Bool.{true, false}
 use mathlib.Core.Logic.{⊎-elim}
 use lib.ListN.{length}
 use Rattle.state_keys.specs.Limits.{limits}
-use Rattle.state_keys.proofs.Lists.{length-of-map}
+use Rattle.lists.proofs.Lists.{length-of-map}
 use Rattle.state_table.proofs.Laws.{formed-over, Testing, testing-start, testing-not}
 use Rattle.state_table.proofs.Laws.{testing-falls, testing-next, testing-last, testing-end}
 use borrow.Author.Needs.{needs}

@@ -1,7 +1,7 @@
 use mathlib.Core.Path.{ap}
 use lib.ListN.{replicate}
 use Rattle.state_keys.specs.Limits.{limits}
-use Rattle.state_keys.specs.Lists.{count}
+use Rattle.lists.specs.Lists.{count}
 use Rattle.state_sa.specs.declared.entry.Sa.{Sa}
 use Rattle.state_table.specs.Table.{tableOf}
 use borrow.Author.Needs.{needs}

@@ -5,8 +5,8 @@ use mathlib.Core.Bool.{not}
 use mathlib.Core.Logic.{⊎-elim}
 use lib.ListN.{length}
 use Rattle.state_keys.specs.Limits.{limits}
-use Rattle.state_keys.proofs.Lists.{length-of-map}
-use Rattle.state_keys.proofs.Sift.{Keeping, keeping-start, keeping-no, keeping-yes, keeping-count, keeping-all}
+use Rattle.lists.proofs.Lists.{length-of-map}
+use Rattle.lists.proofs.Sift.{Keeping, keeping-start, keeping-no, keeping-yes, keeping-count, keeping-all}
 use Rattle.state_sa.specs.Entry.{blankSa}
 use Rattle.state_table.specs.Table.{swept, notDue, stays}
 use Rattle.state_table.proofs.Laws.{changed-made, changed-out}

@@ -19,6 +19,9 @@ new-requires c κs = tt
 member-requires : tie.Need-member-requires Inv-loop μ-loop
 member-requires c κs = tt
 
+new-requires-2 : tie.Need-new-requires-2 Inv-loop μ-loop
+new-requires-2 c κs = tt
+
 loop-holds : tie.Need-loop-holds Inv-loop μ-loop
 loop-holds c = (refl, refl, refl, refl, refl)
 
@@ -66,6 +69,7 @@ run-spec =
     μ-loop
     new-requires
     member-requires
+    new-requires-2
     loop-holds
     advanced-requires
     sub-turns

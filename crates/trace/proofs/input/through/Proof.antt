@@ -23,8 +23,8 @@ loop-holds c = (refl, refl, refl, refl, refl)
 absorb-requires : tie.Need-absorb-requires Inv-loop μ-loop
 absorb-requires c κs = search needs
 
-absorbed-requires : tie.Need-absorbed-requires Inv-loop μ-loop
-absorbed-requires c κs = search needs
+take-absorbed-requires : tie.Need-take-absorbed-requires Inv-loop μ-loop
+take-absorbed-requires c κs = search needs
 
 loop-less : tie.Need-loop-less Inv-loop μ-loop
 loop-less c =
@@ -61,7 +61,7 @@ through-spec =
     μ-loop
     loop-holds
     absorb-requires
-    absorbed-requires
+    take-absorbed-requires
     loop-less
     loop-again
     same-length

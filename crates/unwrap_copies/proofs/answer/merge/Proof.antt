@@ -1,4 +1,4 @@
-use Rattle.unwrap_copies.proofs.Joining.{nothing-left, nothing-right, eight-left, eight-right}
+use Rattle.unwrap_copies.proofs.Joining.{nothing-left, nothing-right, conflict-left, conflict-right}
 use borrow.Author.Needs.{needs}
 use Rattle.unwrap_copies.proofs.answer.merge.Statement.{statement}
 use Rattle.unwrap_copies.proofs.answer.merge.Tie as tie
@@ -30,7 +30,7 @@ returns c need l m p q =
 
 returns-2 : tie.Need-returns-2
 returns-2 c need l m p q =
-    let a = c .before .before .args in eight-left l m need (a .a) (a .b) p q (c .enum-told2 .given .1)
+    let a = c .before .before .args in conflict-left l m need (a .a) (a .b) p q (c .enum-told2 .given .1)
 
 returns-3 : tie.Need-returns-3
 returns-3 c need l m p q =
@@ -38,7 +38,7 @@ returns-3 c need l m p q =
 
 returns-4 : tie.Need-returns-4
 returns-4 c need l m p q =
-    let a = c .before .before .before .before .args in eight-right l m need (a .a) (a .b) p q (c .enum-told5 .given .1)
+    let a = c .before .before .before .before .args in conflict-right l m need (a .a) (a .b) p q (c .enum-told5 .given .1)
 
 returns-5 : tie.Need-returns-5
 returns-5 c need l m p q = c .merge-values .ensures need l m p q

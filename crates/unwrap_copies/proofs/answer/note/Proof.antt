@@ -22,7 +22,8 @@ returns : tie.Need-returns
 returns c =
     let a = c .before .before .before .before .args in
     let n : length (a .o .ids) ≡ 32 = search needs in
-    noted-listed (a .found) (a .kwk) (a .o) (c .before .before .enum-told .given .1) (c .before .if1 .taken) (omega (arith, n, c .before .if1 .taken))
+    noted-listed (a .found) (a .kwk) (a .o) (c .before .before .enum-told .given .1) (c .before .if1 .taken)
+    (omega (arith, n, c .before .if1 .taken))
 
 enum-told-2 : tie.Need-enum-told-2
 enum-told-2 c = search needs

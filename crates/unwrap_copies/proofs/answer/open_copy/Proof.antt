@@ -7,7 +7,7 @@ use lib.Seq.{length-take-le}
 use Rattle.keywrap.specs.declared.WrapAnswer.{WrapAnswer}
 use Rattle.keywrap.specs.inner.Blank.{blank, OpensBlank}
 use Rattle.keywrap.proofs.Opening.{put-most}
-use Rattle.state_keys.proofs.Parts.{copied}
+use Rattle.lists.proofs.Parts.{copied}
 use Rattle.unwrap_copies.specs.declared.answer.CopyFound.the-variants.{Nothing, Conflict}
 use Rattle.unwrap_copies.proofs.Joining.{tell}
 use Rattle.unwrap_copies.proofs.Opening.{opened-none, opened-wrong, opened-right}

@@ -5,7 +5,7 @@ use mathlib.Core.Bool.{false≢true}
 use lib.ListN.{length}
 use Rattle.aes.specs.inner.Schedule.{ExpandedInverse}
 use Rattle.aes.specs.declared.InverseSchedule.{InverseSchedule}
-use Rattle.state_keys.specs.Algorithms.{sizeOf}
+use Rattle.state_keys.specs.Algorithms.{isWrappingSize}
 use Rattle.unwrap_search.proofs.Searching.{is-key-size}
 use Rattle.unwrap_lending.proofs.Naming.{named-size}
 use Rattle.unwrap_copies.proofs.Trying.{under-none, under-named}
@@ -24,13 +24,15 @@ returns-2 c =
     let z = c .key-zero in (
       (
         z .ensures .1 .0 ∙ sym (c .before .if2 .taken),
-        subst (λ (s : InverseSchedule). ExpandedInverse (s .words)) (sym (z .ensures .1 .1)) (c .before .before .before .before .before .before .before .before .pre .0 .1),
+        subst (λ (s : InverseSchedule). ExpandedInverse (s .words)) (sym (z .ensures .1 .1))
+            (c .before .before .before .before .before .before .before .before .pre .0 .1),
       ),
       λ v new old x lends k. z .ensures .0 v new old x,
     )
 
 octets-named-requires : tie.Need-octets-named-requires
-octets-named-requires c κs = let h = c .before .before .before .before .before .before .before .pre .1 in ((h .0, h .2 .own), (h .1, h .2 .held))
+octets-named-requires c κs = let h =
+    c .before .before .before .before .before .before .before .pre .1 in ((h .0, h .2 .own), (h .1, h .2 .held))
 
 returns-3 : tie.Need-returns-3
 returns-3 c =
@@ -39,7 +41,8 @@ returns-3 c =
       λ v new old x lends k. record {
         known = λ q. absurd (false≢true q);
         none = λ q.
-            under-none v new old (c .before .before .before .before .before .before .before .before .before .args .kwk) (c .before .before .if2 .left) (now (key .result)) (key .ensures .0 new old (lends .own) (lends .held))
+            under-none v new old (c .before .before .before .before .before .before .before .before .before .args .kwk)
+            (c .before .before .if2 .left) (now (key .result)) (key .ensures .0 new old (lends .own) (lends .held))
             (c .if3 .taken);
       },
     )
@@ -52,8 +55,11 @@ expand-inverse-requires c κs =
     let e = key .ensures .0 (h .0) (h .1) (h .2 .own) (h .2 .held) in
     let size =
     named-size (a .kwk) (h .0) (h .1) (now (a .carried)) (now (a .fresh)) (now (a .ids)) (now (a .block)) (h .2)
-    (λ z. c .if3 .left (ap length e ∙ z)) in
-    (c .before .before .before .before .before .before .before .before .before .pre .0 .0, is-key-size (length (now (key .result))) (ap (λ m. sizeOf 13 (length m)) e ∙ size))
+    (λ z. c .if3 .left (ap length e ∙ z)) in (
+      c .before .before .before .before .before .before .before .before .before .pre .0 .0,
+      is-key-size (length (now (key .result))) (ap
+          (λ m. isWrappingSize (length m)) e ∙ size),
+    )
 
 returns-4 : tie.Need-returns-4
 returns-4 c =
@@ -64,7 +70,8 @@ returns-4 c =
         known = λ q. (
           now (key .result),
           made,
-          under-named v new old (c .before .before .before .before .before .before .before .before .before .before .args .kwk) (c .before .before .before .if2 .left) (now (key .result)) (key .ensures .0 new old (lends .own) (lends .held))
+          under-named v new old (c .before .before .before .before .before .before .before .before .before .before .args .kwk)
+              (c .before .before .before .if2 .left) (now (key .result)) (key .ensures .0 new old (lends .own) (lends .held))
               (c .before .if3 .left),
         );
         none = λ q. absurd (false≢true (sym q));

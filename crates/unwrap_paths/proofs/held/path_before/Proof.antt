@@ -4,7 +4,7 @@ use Prim.Native.Nat.{_-_, _≤_}
 use mathlib.Core.Path.{_≡_}
 use lib.ListN.{length}
 use Rattle.state_keys.specs.Limits.{limits}
-use Rattle.state_keys.proofs.Lists.{length-of-map}
+use Rattle.lists.proofs.Lists.{length-of-map}
 use Rattle.state.specs.Held.{keysOf}
 use Rattle.unwrap_paths.proofs.Putting.{Putting, put-none, put-not, put-next, put-over, put-end, at-default, at-end, at-over}
 use borrow.Author.Needs.{needs}

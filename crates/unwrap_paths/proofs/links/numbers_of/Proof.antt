@@ -78,7 +78,8 @@ loop-again c =
       simp length-set (l .inv .4),
       simp length-set (l .inv .5),
       omega arith,
-      linked-next (a .n) (a .t1) (a .t2) (l .ids) (l .kwks) (l .marks) (l .i) (omega arith) (omega arith) (omega arith) _ _ (c .mark .result)
+      linked-next (a .n) (a .t1) (a .t2) (l .ids) (l .kwks) (l .marks) (l .i) (omega arith) (omega arith) (omega arith) _ _
+          (c .mark .result)
           (c .before .is-carried .result) (getD-any (a .t1) (l .i) _ noEntry (omega arith))
           (getD-any (a .t2) (l .i) _ noCell (omega arith)) (c .before .is-carried .ensures) (c .mark .ensures) (l .inv .7),
     )

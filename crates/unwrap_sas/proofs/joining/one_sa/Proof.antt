@@ -1,7 +1,7 @@
 use denote.Ref.{now}
 use mathlib.Core.Path.{sym, subst}
 use Rattle.unwrap_sas.specs.inner.Policies.{IsBy}
-use Rattle.unwrap_sas.proofs.Told.{of-eight, of-none, of-key}
+use Rattle.unwrap_sas.proofs.Told.{of-conflict, of-none, of-key}
 use borrow.Author.Needs.{needs}
 use Rattle.unwrap_sas.proofs.joining.one_sa.Statement.{statement}
 use Rattle.unwrap_sas.proofs.joining.one_sa.Tie as tie
@@ -29,7 +29,7 @@ returns c tick roots entries size f a o =
     let s = c .before .before .before .before .before .args in
     let r = c .one-without in
     subst (λ g. IsBy tick g (r .result .sa) (r .result .openers) roots entries size f a) (sym (r .ensures))
-    (of-eight (s .protocol) (now (s .spi)) (s .encryption) (s .wrapping) (s .lifetime) tick (s .one) roots entries size f a o
+    (of-conflict (s .protocol) (now (s .spi)) (s .encryption) (s .wrapping) (s .lifetime) tick (s .one) roots entries size f a o
     (c .before .enum-told .given .1))
 
 returns-2 : tie.Need-returns-2

@@ -50,7 +50,8 @@ loop-again c =
       omega arith,
       omega arith,
       λ frame l h.
-          passed-more l (now (a .ids)) (a .from) (w .i) (w .inv .4 frame l h) (sym (c .before .is-carried .ensures frame l h) ∙ c .if1 .taken),
+          passed-more l (now (a .ids)) (a .from) (w .i) (w .inv .4 frame l h)
+          (sym (c .before .is-carried .ensures frame l h) ∙ c .if1 .taken),
     )
 
 returns : tie.Need-returns Inv-loop μ-loop

@@ -12,7 +12,7 @@ use Rattle.octets.specs.Octets.{Octets}
 use Rattle.fips197.specs.Key.{Key, isKey}
 use Rattle.wire_attributes.specs.Tree.{WrapKey}
 use Rattle.state_keys.specs.Limits.{limits}
-use Rattle.state_keys.specs.Algorithms.{sizeOf}
+use Rattle.state_keys.specs.Algorithms.{isWrappingSize}
 use Rattle.state_keys.specs.Kinds.{valueOf}
 use Rattle.state.specs.Held.{keysOf}
 use Rattle.state.specs.declared.held.Held.{Held}
@@ -32,9 +32,10 @@ use Rattle.unwrap_search.proofs.search.search.Tie as tie
 abbrev Inv-loop : tie.InvT-loop
 Inv-loop frame ids block n entries size tables cells₀ key₀ id₀ from₀ cells key id from =
     (n ≤ limits .wrapKeys) × (length entries ≡ limits .wrapKeys) × (length cells ≡ limits .wrapKeys) × (from ≤ length ids) ×
-    (sizeOf 13 (key .count) ≡ true) ×
+    (isWrappingSize (key .count) ≡ true) ×
     ((is : Key (valueOf key₀)) (l : List WrapKey) (held : Held) (lends : LendsHeld held ids block) (small : Octets block)
-    (fit : T (isKey size)) → Lists frame entries n l → Turn (valueOf key₀) is l held ids block lends small size fit from cells id (valueOf key))
+    (fit : T (isKey size)) → Lists frame entries n l → Turn (valueOf key₀) is l held ids block lends small size fit from cells id
+    (valueOf key))
 
 abbrev μ-loop : tie.MeasureT-loop
 μ-loop frame ids block n entries size tables cells₀ key₀ id₀ from₀ cells key id from = (length ids - from) + undone n (cellAt cells)
@@ -128,8 +129,8 @@ loop-again c =
           let z = u .loop .inv .5 is l held lends small fit x in
           root-turn (valueOf (a .lent)) is l held (now (a .ids)) (now (a .block)) lends small (a .lent .count) fit (u .loop .from)
           (q .result) (q .ensures .1 (now (a .frame)) l x) (t .try-key .result)
-          (tried (roots (valueOf (a .lent)) is l held (now (a .ids)) (now (a .block)) lends small) _ l (a .lent .count) fit _ (u .loop .cells)
-          (t .try-key .result) (u .loop .id) (valueOf (u .loop .key)) z (t .try-key .ensures l x))
+          (tried (roots (valueOf (a .lent)) is l held (now (a .ids)) (now (a .block)) lends small) _ l (a .lent .count) fit _
+          (u .loop .cells) (t .try-key .result) (u .loop .id) (valueOf (u .loop .key)) z (t .try-key .ensures l x))
           h (k .result) (k .ensures (keysOf held) (now (a .ids)) (lends .lends) j (held-sized held (lends .formed) (q .result) j)),
     )
 

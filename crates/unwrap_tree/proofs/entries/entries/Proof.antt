@@ -98,7 +98,8 @@ first : (c : tie.After-attribute-value Inv-loop μ-loop) →
     let st = w .before .before .before .before in
     let v = c .before .before .b .given .0 in
     let s = part (now (st .args .kd)) (st .args .bag .start) (st .args .bag .end) in
-    bagKeys (st .args .meaning) (st .args .place) (drop (w .loop .at) s) ≡ wrapKeyOf (now (c .attribute-value .result)) ∷ bagKeys (st .args .meaning) (st .args .place) (drop (v .1 .0) s)
+    bagKeys (st .args .meaning) (st .args .place) (drop (w .loop .at) s)
+    ≡ wrapKeyOf (now (c .attribute-value .result)) ∷ bagKeys (st .args .meaning) (st .args .place) (drop (v .1 .0) s)
 first c =
     let w = c .before .before .before .before .before in
     let st = w .before .before .before .before in
@@ -148,7 +149,8 @@ loop-again c =
       f .inside,
       f .rest,
       omega (arith, l .inv .3, ap length e),
-      gathered-next (now (a .kd)) (l .places) (l .n) (bagKeys (a .meaning) (a .place) (drop (v .1 .0) s)) (bagKeys (a .meaning) (a .place) s) (c .entry .result)
+      gathered-next (now (a .kd)) (l .places) (l .n) (bagKeys (a .meaning) (a .place) (drop (v .1 .0) s))
+          (bagKeys (a .meaning) (a .place) s) (c .entry .result)
           (wrapKeyOf (now (c .before .attribute-value .result)))
           (subst (λ (x : List WrapKey). Gathered (now (a .kd)) (l .places) (l .n) x (bagKeys (a .meaning) (a .place) s)) e (l .inv .4))
           (room c) (omega (arith, l .inv .0, room c)) (is c),
@@ -164,9 +166,11 @@ returns c l h =
     let k = now (st .args .kd) in
     let u = w .loop in
     let s = part k (st .args .bag .start) (st .args .bag .end) in
-    let f = subst (FindsValue (st .args .meaning) (st .args .place) s (u .at)) (c .enum-told .given .1) (c .before .before .next-attribute .ensures) in
+    let f = subst (FindsValue (st .args .meaning) (st .args .place) s (u .at)) (c .enum-told .given .1)
+    (c .before .before .next-attribute .ensures) in
     subst (Lists k (u .places) (u .n)) (sym (h .keys))
-    (gathered-all k (u .places) (u .n) (bagKeys (st .args .meaning) (st .args .place) (drop (u .at) s)) (bagKeys (st .args .meaning) (st .args .place) s) (u .inv .4) (ap (map wrapKeyOf) (f .0)))
+    (gathered-all k (u .places) (u .n) (bagKeys (st .args .meaning) (st .args .place) (drop (u .at) s))
+    (bagKeys (st .args .meaning) (st .args .place) s) (u .inv .4) (ap (map wrapKeyOf) (f .0)))
 
 pub entries-spec : {M : Type 1} → statement M
 entries-spec =

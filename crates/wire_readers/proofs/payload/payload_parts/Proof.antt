@@ -8,7 +8,8 @@ use Rattle.wire_readers.proofs.payload.payload_parts.Tie as tie
 
 shared-slice-read-wide : tie.Need-shared-slice-read-wide
 shared-slice-read-wide c =
-    let f = sized-is (now (c .before .before .args .s)) 4 (fits-first (c .before .before .pre .1 .0) (c .before .before .args .kind) (now (c .before .before .args .s))
+    let f = sized-is (now (c .before .before .args .s)) 4 (fits-first (c .before .before .pre .1 .0) (c .before .before .args .kind)
+    (now (c .before .before .args .s))
     (c .before .before .pre .0) (c .before .before .pre .1 .1)) in
     omega (arith, f .0, f .1)
 
@@ -17,7 +18,8 @@ wide-requires c κs = search needs
 
 shared-slice-read-wide-2 : tie.Need-shared-slice-read-wide-2
 shared-slice-read-wide-2 c =
-    let f = sized-is (now (c .before .before .before .before .args .s)) 4 (fits-first (c .before .before .before .before .pre .1 .0) (c .before .before .before .before .args .kind) (now
+    let f = sized-is (now (c .before .before .before .before .args .s)) 4
+    (fits-first (c .before .before .before .before .pre .1 .0) (c .before .before .before .before .args .kind) (now
     (c .before .before .before .before .args .s)) (c .before .before .before .before .pre .0)
     (c .before .before .before .before .pre .1 .1)) in
     omega (arith, f .0, f .1)
@@ -27,7 +29,8 @@ wide-requires-2 c κs = search needs
 
 be16-at-requires : tie.Need-be16-at-requires
 be16-at-requires c κs =
-    let f = sized-is (now (c .before .before .before .before .before .args .s)) 4 (fits-first (c .before .before .before .before .before .pre .1 .0)
+    let f = sized-is (now (c .before .before .before .before .before .args .s)) 4
+    (fits-first (c .before .before .before .before .before .pre .1 .0)
     (c .before .before .before .before .before .args .kind) (now (c .before .before .before .before .before .args .s))
     (c .before .before .before .before .before .pre .0) (c .before .before .before .before .before .pre .1 .1)) in
     omega (arith, f .0, f .1)

@@ -1,5 +1,5 @@
 use mathlib.Core.Path.{refl}
-use Rattle.state_keys.specs.Lists.{count}
+use Rattle.lists.specs.Lists.{count}
 use Rattle.check_suites.proofs.counts.SuiteCounts.none.Statement.{statement}
 use Rattle.check_suites.proofs.counts.SuiteCounts.none.Tie as tie
 

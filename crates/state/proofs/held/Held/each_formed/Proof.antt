@@ -3,8 +3,8 @@ use Prim.Native.Nat.{_-_, _≤_}
 use mathlib.Core.Path.{_≡_, sym, refl, _∙_}
 use lib.ListN.{length, take, drop}
 use Rattle.state_keys.specs.Limits.{limits}
-use Rattle.state_keys.specs.Lists.{all}
-use Rattle.state_keys.proofs.Lists.{length-of-map, all-yes, all-no, all-end}
+use Rattle.lists.specs.Lists.{all}
+use Rattle.lists.proofs.Lists.{length-of-map, all-yes, all-no, all-end}
 use Rattle.state.specs.Held.{keyFormed}
 use borrow.Author.Needs.{needs}
 use Rattle.state.proofs.held.Held.each_formed.Statement.{statement}

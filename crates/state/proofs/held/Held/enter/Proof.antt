@@ -4,8 +4,8 @@ use mathlib.Core.Path.{_≡_, sym, _∙_}
 use mathlib.Core.Logic.{⊎-elim}
 use lib.ListN.{length}
 use Rattle.state_keys.specs.Limits.{limits}
-use Rattle.state_keys.proofs.Lists.{length-of-map}
-use Rattle.state_keys.proofs.Place.{Placing, placing-start, placing-ahead, placing-behind, placing-count, placing-all}
+use Rattle.lists.proofs.Lists.{length-of-map}
+use Rattle.lists.proofs.Place.{Placing, placing-start, placing-ahead, placing-behind, placing-count, placing-all}
 use Rattle.state.specs.Held.{blankKey}
 use Rattle.state.specs.inner.Entering.{idBefore}
 use Rattle.state.proofs.Laws.{entered-in, entered-out}

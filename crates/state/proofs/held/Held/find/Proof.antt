@@ -3,7 +3,7 @@ use Prim.Native.Nat.{_-_, _≤_}
 use mathlib.Core.Path.{_≡_, sym, refl, _∙_}
 use lib.ListN.{length, take, drop}
 use Rattle.state_keys.specs.Limits.{limits}
-use Rattle.state_keys.proofs.Lists.{length-of-map}
+use Rattle.lists.proofs.Lists.{length-of-map}
 use Rattle.state.specs.Held.{keyWith}
 use Rattle.state.proofs.Laws.{key-here, key-next, key-end, key-in, key-out}
 use borrow.Author.Needs.{needs}

@@ -3,7 +3,7 @@ use mathlib.Core.Path.{sym, _∙_}
 use borrow.Author.Tests.{eq-eqb, ne-eqb}
 use Rattle.state_keys.specs.Kinds.{rekeyKey}
 use Rattle.state_keys.proofs.Sizes.{rekey-le}
-use Rattle.state_keys.proofs.Parts.{copied}
+use Rattle.lists.proofs.Parts.{copied}
 use borrow.Author.Needs.{needs}
 use Rattle.state_keys.proofs.kinds.RekeyKey.new.Statement.{statement}
 use Rattle.state_keys.proofs.kinds.RekeyKey.new.Tie as tie

@@ -1,0 +1,12 @@
+pub mod Cases
+pub mod Parts
+pub mod Lists
+pub mod Fill
+pub mod Place
+pub mod Rising
+pub mod Members
+pub mod Sift
+pub mod Replicate
+pub mod Undo
+pub mod Below
+pub mod Slices
