@@ -22,7 +22,7 @@ fn times2(x: u8) -> u8
 }
 
 // The place of word i in the expansion: `word` is i mod Nk, and `constant` is the first octet of Rcon[i / Nk].
-#[derive(Drop)]
+#[derive(Clone, Copy)]
 pub(crate) struct WordPlace {
     pub word: usize,
     pub constant: u8,

@@ -40,7 +40,7 @@ pub struct AesState {
 }
 
 // A block as two numbers of 64 bits, the first octet highest.
-#[derive(Drop)]
+#[derive(Clone, Copy)]
 pub struct Pair {
     pub hi: u64,
     pub lo: u64,
@@ -53,7 +53,7 @@ pub struct Schedule {
 }
 
 // The schedule for `decrypt`: the same with the round keys of the equivalent inverse cipher.
-#[derive(Drop)]
+#[derive(Clone, Copy)]
 pub struct InverseSchedule {
     pub words: [u32; SCHEDULE_WORDS],
 }

@@ -22,7 +22,7 @@ use unwrap_sas::joining::NEW_SAS;
 use wire_frames::exchanges::LeastAfter;
 
 // What an accepted frame says of the member afterwards.
-#[derive(Drop)]
+#[derive(Clone, Copy)]
 pub struct Said {
     // the deactivation delay
     pub delay: u16,

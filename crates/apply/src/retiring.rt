@@ -82,7 +82,7 @@ fn retire_spis(t: Table, o: &[u8], tick: u32, delay: u16) -> Table
 }
 
 // How many Delete payloads a frame has, and where the first one starts.
-#[derive(Drop)]
+#[derive(Clone, Copy)]
 pub struct DeletesAt {
     pub count: usize,
     pub start: usize,

@@ -20,7 +20,7 @@ use wire_readers::Stretch;
 use wrapped::KeyFacts;
 
 // The facts of the key bags of a KD payload.
-#[derive(Drop)]
+#[derive(Clone, Copy)]
 pub struct BagFacts {
     // the numbers of Member Key Bags and of WRAP_KEYs
     pub members: usize,

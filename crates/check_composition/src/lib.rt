@@ -22,7 +22,7 @@ use wire_attributes::tables::{Meaning, Place};
 use wire_readers::one_if;
 
 // The facts of the policies of a GSA payload.
-#[derive(Drop)]
+#[derive(Clone, Copy)]
 pub struct PolicyFacts {
     // the numbers of Group SA policies, of those of ESP, of those of a Rekey SA, and of group-wide policies
     pub sas: usize,

@@ -13,7 +13,7 @@ use wire_frames::exchanges::Exchange;
 use wire_readers::Stretch;
 
 // The facts of one frame.
-#[derive(Drop)]
+#[derive(Clone, Copy)]
 pub struct Facts {
     pub payloads: PayloadFacts,
     pub policies: PolicyFacts,

@@ -38,7 +38,7 @@ pub fn spi_at(o: &[u8], i: usize) -> &[u8]
 
 // The facts of a frame's Delete payloads: one is of another protocol than ESP (`other`), one has no SPI (`none`), and how many SPIs they
 // have together (`spis`).
-#[derive(Drop)]
+#[derive(Clone, Copy)]
 pub struct Deletes {
     pub other: bool,
     pub none: bool,

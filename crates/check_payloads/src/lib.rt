@@ -15,7 +15,7 @@ use wire_readers::payload::payload_parts;
 use wire_readers::{Stretch, one_if};
 
 // The facts of a frame's payloads.
-#[derive(Drop)]
+#[derive(Clone, Copy)]
 pub struct PayloadFacts {
     // the numbers of GSA, KD and D payloads
     pub gsas: usize,

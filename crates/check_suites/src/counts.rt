@@ -15,7 +15,7 @@ use wire_readers::one_if;
 
 // Counts of transforms: all (`count`), those fit for encryption, key wrap, sequence numbers and the controller's authentication, and those
 // with several Key Lengths (`doubled`).
-#[derive(Drop)]
+#[derive(Clone, Copy)]
 pub struct SuiteCounts {
     pub count: usize,
     pub encryption: usize,

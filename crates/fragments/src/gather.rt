@@ -16,9 +16,9 @@ fn join(octets: &[u8], size: usize, before: usize, piece: &[u8], out: &mut [u8])
     ensures { out.new ≡ joined_octets octets.now size before piece.now out.old }
 {
     let end = before + piece.len();
-    bytes::copy(&octets[0..before], out);
-    bytes::copy(piece, &mut out[before..]);
-    bytes::copy(&octets[before..size], &mut out[end..]);
+    octets::copying::copy(&octets[0..before], out);
+    octets::copying::copy(piece, &mut out[before..]);
+    octets::copying::copy(&octets[before..size], &mut out[end..]);
 }
 
 // Does the same to the array of a collection, in its place.

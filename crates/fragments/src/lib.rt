@@ -15,7 +15,7 @@ use ikev2_numbers::{MOST_OCTETS, REKEY_SPI};
 pub const MOST_FRAGMENTS: usize = 32;
 
 // One kept piece: the fragment's number, and how many octets were sealed in it.
-#[derive(Drop)]
+#[derive(Clone, Copy)]
 pub struct Piece {
     pub number: usize,
     pub size: usize,
@@ -23,7 +23,7 @@ pub struct Piece {
 
 // A collection: a value that the caller keeps beside the member and hands in with the next fragment. Pieces stand in rising order of their
 // numbers, their octets one behind the other. `version`, `flags` and `next` are those of fragment 1, and 0 while it is missing.
-#[derive(Drop)]
+#[derive(Clone, Copy)]
 pub struct Collection {
     pub spis: [u8; REKEY_SPI],
     pub id: u32,
@@ -54,7 +54,7 @@ pub enum Placed {
 }
 
 // What is known of a fragment without its key.
-#[derive(Drop)]
+#[derive(Clone, Copy)]
 pub struct Names {
     pub spis: [u8; REKEY_SPI],
     pub id: u32,

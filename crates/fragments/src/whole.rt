@@ -21,8 +21,8 @@ fn put_frame(h: &[u8], octets: &[u8], size: usize, room: &mut [u8])
         ≡ h.now ++ (take (size - header_octets) octets.now ++ drop size room.old) }
 {
     let end = size - HEADER;
-    bytes::copy(h, room);
-    bytes::copy(&octets[0..end], &mut room[HEADER..]);
+    octets::copying::copy(h, room);
+    octets::copying::copy(&octets[0..end], &mut room[HEADER..]);
 }
 
 impl Collection {

@@ -30,7 +30,7 @@ fn last_block(s: &[u8]) -> Pair
     ensures { pair_number result ≡ number 16 s.now }
 {
     let mut b = [0u8; 16];
-    bytes::copy(s, &mut b);
+    octets::copying::copy(s, &mut b);
     block_at(&b, 0)
 }
 

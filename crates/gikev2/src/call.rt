@@ -16,7 +16,7 @@ use state::State;
 use wire_attributes::Layout;
 
 // What becomes of a frame.
-#[derive(Drop)]
+#[derive(Clone, Copy)]
 pub enum Answer {
     Accepted,
     // the octets are not laid out as a frame; the offset of the structure that broke first, 0 for the header

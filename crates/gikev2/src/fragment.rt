@@ -48,7 +48,7 @@ fn names_in(frame: &[u8]) -> Names
     ensures { result ≡ names_in frame.now }
 {
     let mut spis = [0u8; REKEY_SPI];
-    bytes::copy(&frame[0..REKEY_SPI], &mut spis);
+    octets::copying::copy(&frame[0..REKEY_SPI], &mut spis);
     Names {
         spis,
         id: be32_at(frame, MESSAGE_ID_AT),

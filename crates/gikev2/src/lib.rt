@@ -11,7 +11,7 @@ use state_keys::rooms::SA_OCTETS;
 use state_sa::entry::{Condition, Lifetime, REKEY, Sa};
 
 // A group member. It is a value: a call that changes the member takes it and gives back the next one.
-#[derive(Drop)]
+#[derive(Clone, Copy)]
 pub struct Member {
     pub state: State,
 }
@@ -40,7 +40,7 @@ fn answer(s: Sa) -> SaAnswer
     }
     let o = s.octets;
     let mut octets = [0u8; SA_OCTETS];
-    bytes::copy(&o[0..n], &mut octets);
+    octets::copying::copy(&o[0..n], &mut octets);
     let mut encryption: usize = 0;
     let mut wrapping: usize = 0;
     if s.protocol == REKEY {

@@ -15,7 +15,7 @@ const KEPT: usize = 33287;
 
 // Where a reader stands: the member; how many lines were taken, modulo 2^64; whether a line stopped it; how many characters of the line
 // that has begun are held.
-#[derive(Drop)]
+#[derive(Clone, Copy)]
 pub struct ReaderPlace {
     pub member: Member,
     pub taken: usize,

@@ -131,7 +131,7 @@ fn put(octets: &[u8], room: &mut [u8]) -> WrapAnswer
     ensures room_after { room.new ≡ put_room octets.now room.old }
 {
     if octets.len() <= room.len() {
-        return WrapAnswer::Count(bytes::copy(octets, room));
+        return WrapAnswer::Count(octets::copying::copy(octets, room));
     }
     WrapAnswer::No
 }

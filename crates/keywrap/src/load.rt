@@ -27,7 +27,7 @@ pub(crate) fn store(s: &[u64], room: &mut [u8])
     while i < s.len() {
         let b = octets_of(s[i]);
         let at = 8 * i;
-        bytes::copy(&b, &mut room[at..]);
+        octets::copying::copy(&b, &mut room[at..]);
         i += 1;
     }
 }
@@ -41,7 +41,7 @@ pub(crate) fn start_registers(octets: &[u8]) -> [u64; REGISTERS]
     let m = octets.len();
     let n = (m + 7) / 8;
     let mut padded = [0u8; MOST_OCTETS];
-    bytes::copy(octets, &mut padded);
+    octets::copying::copy(octets, &mut padded);
     let mut s = [0u64; REGISTERS];
     s[0] = 0xa65959a600000000 + m as u64;
     let e = 8 * n;

@@ -52,8 +52,8 @@ pub(crate) fn make_nonce(part: &[u8], frame: &[u8], at: usize) -> [u8; 12]
     let mut nonce = [0u8; 12];
     let k = part.len() - SALT;
     let end = at + IV;
-    bytes::copy(&part[k..], &mut nonce);
-    bytes::copy(&frame[at..end], &mut nonce[SALT..]);
+    octets::copying::copy(&part[k..], &mut nonce);
+    octets::copying::copy(&frame[at..end], &mut nonce[SALT..]);
     nonce
 }
 

@@ -24,7 +24,7 @@ fn make_header(frame: &[u8], size: usize) -> [u8; 28]
 {
     let z = octets_of(size as u64);
     let mut h = [0u8; 28];
-    bytes::copy(&frame[0..HEADER], &mut h);
+    octets::copying::copy(&frame[0..HEADER], &mut h);
     h[FIRST_PAYLOAD_AT] = frame[HEADER];
     h[LENGTH_AT] = z[4];
     h[LENGTH_AT + 1] = z[5];
@@ -50,7 +50,7 @@ pub(crate) fn write_opened(
         room.new ≡ put_at_start (opened_of part frame.now p) room.old }
 {
     let h = make_header(frame, HEADER + p);
-    bytes::copy(&h, room);
+    octets::copying::copy(&h, room);
     let end = CIPHERTEXT_AT + p;
     gctr_in(
         tables,

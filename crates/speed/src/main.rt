@@ -40,7 +40,7 @@ fn plain(turn: usize) -> [u8; 36] {
     let mut octets = [0u8; 36];
     octets[2] = (turn / 256 % 256) as u8;
     octets[3] = (turn % 256) as u8;
-    bytes::copy(
+    octets::copying::copy(
         b"\x58\x65\x72\x7f\x8c\x99\xa6\xb3\xc0\xcd\xda\xe7\xf4\x01\x0e\x1b\x28\x35\x42\x4f\x5c\x69\x76\x83\x90\x9d\xaa\xb7\xc4\xd1\xde\xeb",
         &mut octets[4..],
     );

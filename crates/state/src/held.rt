@@ -10,14 +10,14 @@ use state_keys::limits::HELD_KEYS;
 use state_keys::rooms::WRAPPING_KEY;
 
 // A wrapping key with its Key ID.
-#[derive(Drop)]
+#[derive(Clone, Copy)]
 pub struct HeldKey {
     pub id: u32,
     pub key: WrappingKey,
 }
 
 // The held list: its keys are the first `count` of `keys`.
-#[derive(Drop)]
+#[derive(Clone, Copy)]
 pub struct Held {
     pub keys: [HeldKey; HELD_KEYS],
     pub count: usize,

@@ -3,7 +3,7 @@ ghost use Rattle.std.specs.Prelude.{◌≡◌};
 ghost use Rattle.state.specs.Least.{acceptable, after_id};
 
 // The least acceptable Message ID, or that none is acceptable any more.
-#[derive(Drop)]
+#[derive(Clone, Copy)]
 pub enum Least {
     Id(u32),
     NoneAnyMore,

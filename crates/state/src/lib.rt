@@ -11,7 +11,7 @@ use held::Held;
 use least::Least;
 use state_table::{SaFound, Table};
 
-#[derive(Drop)]
+#[derive(Clone, Copy)]
 pub struct State {
     pub table: Table,
     pub held: Held,

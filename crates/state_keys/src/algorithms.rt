@@ -6,7 +6,7 @@ ghost use Rattle.state_keys.specs.Algorithms.{is_row_of, needed_by};
 pub const ENCRYPTION: u8 = 1;
 
 // A row of the table: transform type, transform ID, key bits, octets needed.
-#[derive(Drop)]
+#[derive(Clone, Copy)]
 pub struct AlgorithmRow {
     pub kind: u8,
     pub id: u16,

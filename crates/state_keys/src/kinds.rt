@@ -7,7 +7,7 @@ ghost use Rattle.state_keys.specs.Kinds.{wrapping_key, esp_key, encryption_key, 
 use crate::rooms::{ENCRYPTION_KEY, SA_OCTETS, WRAPPING_KEY};
 
 // A wrapping key: 16, 24 or 32 octets.
-#[derive(Drop)]
+#[derive(Clone, Copy)]
 pub struct WrappingKey {
     pub octets: [u8; WRAPPING_KEY],
     pub count: usize,
@@ -21,7 +21,7 @@ pub struct EspKey {
 }
 
 // The encryption part of a Rekey SA's keying octets, GSK_e: 20, 28 or 36 octets.
-#[derive(Drop)]
+#[derive(Clone, Copy)]
 pub struct EncryptionKey {
     pub octets: [u8; ENCRYPTION_KEY],
     pub count: usize,
@@ -91,7 +91,7 @@ impl WrappingKey {
         let n = octets.len();
         let mut out = [0u8; WRAPPING_KEY];
         if WrappingKey::is_size(n) {
-            bytes::copy(octets, &mut out);
+            octets::copying::copy(octets, &mut out);
             let key = WrappingKey {
                 octets: out,
                 count: n,
@@ -134,7 +134,7 @@ impl EncryptionKey {
         let n = octets.len();
         let mut out = [0u8; ENCRYPTION_KEY];
         if EncryptionKey::is_size(n) {
-            bytes::copy(octets, &mut out);
+            octets::copying::copy(octets, &mut out);
             let key = EncryptionKey {
                 octets: out,
                 count: n,
@@ -177,7 +177,7 @@ impl EspKey {
         let n = octets.len();
         let mut out = [0u8; ENCRYPTION_KEY];
         if EspKey::is_size(n) {
-            bytes::copy(octets, &mut out);
+            octets::copying::copy(octets, &mut out);
             let key = EspKey {
                 octets: out,
                 count: n,
@@ -213,7 +213,7 @@ impl RekeyKey {
         let mut out = [0u8; RekeyKey::MOST];
         if RekeyKey::are_sizes(encryption, wrapping) {
             if octets.len() == encryption + wrapping {
-                bytes::copy(octets, &mut out);
+                octets::copying::copy(octets, &mut out);
                 let key = RekeyKey {
                     octets: out,
                     encryption,

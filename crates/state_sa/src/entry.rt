@@ -18,14 +18,14 @@ pub const ESP: u8 = ikev2_numbers::ESP as u8;
 pub const REKEY: u8 = ikev2_numbers::GIKE_UPDATE as u8;
 
 // The condition of an SA: live, or retiring from the tick `start` on with a delay in seconds.
-#[derive(Drop)]
+#[derive(Clone, Copy)]
 pub enum Condition {
     Live,
     Retiring { start: u32, delay: u16 },
 }
 
 // The lifetime of an SA: none, or `seconds` from the tick `start` on.
-#[derive(Drop)]
+#[derive(Clone, Copy)]
 pub enum Lifetime {
     Unlimited,
     Limited { start: u32, seconds: u32 },
@@ -35,7 +35,7 @@ pub enum Lifetime {
 pub const MOST_SECONDS: u32 = 2000000;
 
 // An SA. Of `octets` the first `count` are its keying octets; in a Rekey SA these are a part of `encryption` octets and one of `wrapping`.
-#[derive(Drop)]
+#[derive(Clone, Copy)]
 pub struct Sa {
     pub protocol: u8,
     pub spi: [u8; SA_SPI],
@@ -110,9 +110,9 @@ impl Sa {
         let n = key.count;
         let o = key.octets;
         let mut name = [0u8; SA_SPI];
-        bytes::copy(spi, &mut name);
+        octets::copying::copy(spi, &mut name);
         let mut octets = [0u8; SA_OCTETS];
-        bytes::copy(&o[0..n], &mut octets);
+        octets::copying::copy(&o[0..n], &mut octets);
         Sa::built(ESP, name, octets, n, 0, 0, Condition::Live, lifetime)
     }
 
@@ -125,7 +125,7 @@ impl Sa {
         let w = key.wrapping;
         let o = key.octets;
         let mut name = [0u8; SA_SPI];
-        bytes::copy(spi, &mut name);
+        octets::copying::copy(spi, &mut name);
         Sa::built(REKEY, name, o, e + w, e, w, Condition::Live, lifetime)
     }
 

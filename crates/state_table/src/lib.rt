@@ -11,7 +11,7 @@ use state_keys::limits::SAS;
 use state_sa::entry::Sa;
 
 // A table: its SAs are the first `count` of `sas`.
-#[derive(Drop)]
+#[derive(Clone, Copy)]
 pub struct Table {
     pub sas: [Sa; SAS],
     pub count: usize,

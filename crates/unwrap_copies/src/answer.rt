@@ -15,7 +15,7 @@ use state_keys::limits::SA_KEYS;
 use state_keys::rooms::SA_OCTETS;
 
 // `Nothing`: no copy opens. `Key`: some open, all of these to one value of the right size. `Conflict`: refusal 8 holds of the copies.
-#[derive(Drop)]
+#[derive(Clone, Copy)]
 pub enum CopyFound {
     Nothing,
     Key,
@@ -31,7 +31,7 @@ pub struct CopyOpened {
 }
 
 // The KWK IDs of copies that opened, the first `count` of `ids`.
-#[derive(Drop)]
+#[derive(Clone, Copy)]
 pub struct Openers {
     pub ids: [u32; SA_KEYS],
     pub count: usize,
@@ -157,7 +157,7 @@ pub(crate) fn open_copy(
         WrapAnswer::Count(n) => {
             if n == need {
                 let mut out = [0u8; SA_OCTETS];
-                bytes::copy(&octets[..n], &mut out);
+                octets::copying::copy(&octets[..n], &mut out);
                 return CopyOpened {
                     found: CopyFound::Key,
                     octets: out,

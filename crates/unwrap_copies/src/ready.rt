@@ -10,7 +10,7 @@ use aes::{INVERSE_TABLE_WORDS, InverseSchedule, expand_inverse};
 use unwrap_lending::octets_named;
 
 // The key that the KWK ID `id` names, by its schedule. `known` is false if there is no such key; the schedule is then another key's.
-#[derive(Drop)]
+#[derive(Clone, Copy)]
 pub struct ReadyKey {
     pub schedule: InverseSchedule,
     pub id: u32,

@@ -28,7 +28,7 @@ fn put(key: WrappingKey, at: usize, block: &mut [u8])
     let octets = key.octets;
     let start = at + 1;
     block[at] = key.count as u8;
-    bytes::copy(&octets, &mut block[start..]);
+    octets::copying::copy(&octets, &mut block[start..]);
 }
 
 // Writes the Key IDs of `held` to the start of `ids`, and its keys to the first places of `block`.

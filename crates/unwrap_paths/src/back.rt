@@ -15,7 +15,7 @@ pub struct Pick {
 }
 
 // The places of the entries of a path, the last one first.
-#[derive(Drop)]
+#[derive(Clone, Copy)]
 pub struct Trail {
     pub places: [usize; WRAP_KEYS],
     pub count: usize,

@@ -11,7 +11,7 @@ use unwrap_search::open::{Cell, Entry};
 use unwrap_search::search::is_carried;
 
 // Key IDs, KWK IDs and levels of the entries, by their places. The entries are the first `count`.
-#[derive(Drop)]
+#[derive(Clone, Copy)]
 pub struct Links {
     pub ids: [u32; WRAP_KEYS],
     pub kwks: [u32; WRAP_KEYS],

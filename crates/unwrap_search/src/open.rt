@@ -13,7 +13,7 @@ use state_keys::kinds::WrappingKey;
 use state_keys::rooms::WRAPPING_KEY;
 
 // A wrapped key: its Key ID, its KWK ID, and where its wrapped octets stand, from `start` up to `end`.
-#[derive(Drop)]
+#[derive(Clone, Copy)]
 pub struct Entry {
     pub id: u32,
     pub kwk: u32,
@@ -23,7 +23,7 @@ pub struct Entry {
 
 // What became of an entry. `Waiting`: its wrapping key is not known. `Failed`: it did not open. `Wrong`: it opened to a wrong size.
 // `Pending`: it opened, and its own key is yet to be tried on the other entries. `Done`: it opened, and its own key was tried.
-#[derive(Drop)]
+#[derive(Clone, Copy)]
 pub enum Status {
     Waiting,
     Failed,
@@ -33,7 +33,7 @@ pub enum Status {
 }
 
 // What the search knows of an entry: its status and, if that is `Pending` or `Done`, the key that it opened to; else a blank key.
-#[derive(Drop)]
+#[derive(Clone, Copy)]
 pub struct Cell {
     pub status: Status,
     pub key: WrappingKey,

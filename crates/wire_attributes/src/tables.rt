@@ -10,7 +10,7 @@ use ikev2_numbers::{
 
 // Where an attribute stands: in which sort of transform, policy or key bag. `FreshRekeyBag` is a Rekey SA's Group Key Bag in which fresh
 // keys are read, `RekeyBag` one in which they are not.
-#[derive(Drop)]
+#[derive(Clone, Copy)]
 pub enum Place {
     EncryptionTransform,
     OtherTransform,
@@ -24,7 +24,7 @@ pub enum Place {
 }
 
 // What an attribute is in its place. `Skipped` is one that is not read there.
-#[derive(Drop)]
+#[derive(Clone, Copy)]
 pub enum Meaning {
     Skipped,
     KeyLength,

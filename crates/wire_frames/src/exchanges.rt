@@ -6,7 +6,7 @@ ghost use Rattle.wire_frames.specs.Exchange.{exchange_of, reads_fresh};
 use ikev2_numbers::{GSA_AUTH, GSA_INBAND_REKEY, GSA_REGISTRATION, GSA_REKEY};
 
 // What refusal 2 asks the member to be at the frame's tick, before the frame is applied.
-#[derive(Drop)]
+#[derive(Clone, Copy)]
 pub enum Wanted {
     Empty,
     NotEmpty,
@@ -14,14 +14,14 @@ pub enum Wanted {
 }
 
 // The key that KWK ID 0 names: the lent default key, or the Rekey SA's default key.
-#[derive(Drop)]
+#[derive(Clone, Copy)]
 pub enum KeyZero {
     Lent,
     RekeySa,
 }
 
 // The least acceptable Message ID after a frame that brings no new Rekey SA: 0, the frame's own plus 1, or as it was.
-#[derive(Drop)]
+#[derive(Clone, Copy)]
 pub enum LeastAfter {
     Zero,
     OwnPlusOne,
@@ -29,7 +29,7 @@ pub enum LeastAfter {
 }
 
 // The row of one exchange: what it asks and allows where exchanges differ.
-#[derive(Drop)]
+#[derive(Clone, Copy)]
 pub struct Exchange {
     // the exchange is one of those that are taken (refusal 2)
     pub admitted: bool,

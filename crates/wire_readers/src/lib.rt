@@ -10,7 +10,7 @@ pub mod policy;
 pub mod values;
 
 // A stretch of octets: from index `start` up to index `end`, which is not in it.
-#[derive(Drop)]
+#[derive(Clone, Copy)]
 pub struct Stretch {
     pub start: usize,
     pub end: usize,

@@ -7,7 +7,7 @@ ghost use Rattle.wire_readers.specs.inner.Policies.{Heads, PolicyIs};
 use ikev2_numbers::{POLICY_HEAD, STRUCTURE_LENGTH_AT};
 
 // A policy or a key bag: its first octet, where its body starts (behind head and SPI), where it ends.
-#[derive(Drop)]
+#[derive(Clone, Copy)]
 pub struct Parts {
     pub first: usize,
     pub body: usize,

@@ -1,0 +1,13 @@
+// Copies octets from one run to the front of another.
+ghost use Rattle.std.specs.Prelude.{◌≡◌, ◌++◌, ◌≤◌, length, take, drop};
+
+// Copies `src` to the front of `dst`, which keeps what stands behind that. The answer is how many octets it copied.
+pub fn copy(src: &[u8], dst: &mut [u8]) -> usize
+    requires { length src.now ≤ length dst.old }
+    ensures { (result ≡ length src.now)
+        × (dst.new ≡ take (length src.now) src.now ++ drop (length src.now) dst.old) }
+{
+    let n = src.len();
+    dst[..n].copy_from_slice(src);
+    n
+}
