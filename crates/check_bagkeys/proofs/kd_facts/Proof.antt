@@ -9,97 +9,93 @@ use borrow.Author.Rules.{rules}
 use Rattle.check_bagkeys.proofs.kd_facts.Statement.{statement}
 use Rattle.check_bagkeys.proofs.kd_facts.Tie as tie
 
-abbrev invariant-loop : tie.invariant-loop
+abbrev invariant-loop : tie.invariant-loop-at
 invariant-loop fresh kd f₀ found₀ at₀ f found at = KdWalk fresh kd f found at
 
-abbrev decreases-loop : tie.decreases-loop
+abbrev decreases-loop : tie.decreases-loop-at
 decreases-loop fresh kd f₀ found₀ at₀ f found at = length kd - at
 
-no-bags-requires : tie.Need-no-bags-requires invariant-loop decreases-loop
+no-bags-requires : tie.Need-no_bags-f-requires invariant-loop decreases-loop
 no-bags-requires c κs = search rules
 
-loop-holds : tie.Need-loop-init invariant-loop decreases-loop
+loop-holds : tie.Need-loop-at-init invariant-loop decreases-loop
 loop-holds c =
-    record { bags = bags-start _ _ _ c.before.before.requires _ c.no-bags.ensures; found = sought-start _ _ }
+    record { bags = bags-start _ _ _ c.requires _ c.no_bags-f.ensures; found = sought-start _ _ }
 
-sub-bag-parts : tie.Need-overflow-sub-bag-parts invariant-loop decreases-loop
+sub-bag-parts : tie.Need-slice_bounds-bag_parts-count invariant-loop decreases-loop
 sub-bag-parts c = search rules
 
-part-bag-parts-start : tie.Need-slice-bounds-bag-parts-start invariant-loop decreases-loop
+part-bag-parts-start : tie.Need-slice_bounds-bag_parts-start invariant-loop decreases-loop
 part-bag-parts-start c = search rules
 
-part-bag-parts-end : tie.Need-slice-bounds-bag-parts-end invariant-loop decreases-loop
+part-bag-parts-end : tie.Need-slice_bounds-bag_parts-end invariant-loop decreases-loop
 part-bag-parts-end c = search rules
 
-bag-parts-requires : tie.Need-bag-parts-requires invariant-loop decreases-loop
+bag-parts-requires : tie.Need-bag_parts-p-requires invariant-loop decreases-loop
 bag-parts-requires c κs =
-    let l = c.before.before.loop in
-    let a = c.before.before.before.before.before.args in
-    let t = bag-there a.fresh a.kd.now l.at c.before.loop-test.true l.invariant.bags.rest in
+    let l = c.loop-at in
+    let a = c.args in
+    let t = bag-there a.fresh a.kd.now l.at c.loop-at-test.true l.invariant.bags.rest in
     (t.0, (a.fresh, t.1))
 
-stands : (c : tie.After-struct-known invariant-loop decreases-loop)
-    → let a = c.before.before.before.before.before.before.before.args in
-    BagAt a.fresh a.kd.now c.before.before.before.before.loop.at c.before.bag-parts.result
+stands : (c : tie.After-struct_known-1 invariant-loop decreases-loop)
+    → let a = c.args in
+    BagAt a.fresh a.kd.now c.loop-at.at c.bag_parts-p.result
 stands c =
-    let a = c.before.before.before.before.before.before.before.args in
-    let l = c.before.before.before.before.loop in
-    let t = bag-there a.fresh a.kd.now l.at c.before.before.before.loop-test.true l.invariant.bags.rest in
-    bag-at _ _ _ _ c.before.before.before.loop-test.true (c.before.bag-parts.ensures a.fresh t.1)
+    let a = c.args in
+    let l = c.loop-at in
+    let t = bag-there a.fresh a.kd.now l.at c.loop-at-test.true l.invariant.bags.rest in
+    bag-at _ _ _ _ c.loop-at-test.true (c.bag_parts-p.ensures a.fresh t.1)
 
 -- the body's length is a number of the code
-short : (c : tie.After-struct-known invariant-loop decreases-loop)
-    → length c.before.before.before.before.before.before.before.args.kd.now < 18446744073709551616
+short : (c : tie.After-struct_known-1 invariant-loop decreases-loop)
+    → length c.args.kd.now < 18446744073709551616
 short c = omega arith
 
-add_start : tie.Need-overflow-add-start invariant-loop decreases-loop
+add_start : tie.Need-overflow_add-start invariant-loop decreases-loop
 add_start c = let b = stands c in record { fits = omega (arith, b.order, b.inside) }
 
-add-end : tie.Need-overflow-add-end invariant-loop decreases-loop
+add-end : tie.Need-overflow_add-end invariant-loop decreases-loop
 add-end c = record { fits = omega (arith, (stands c.before).inside) }
 
-first-member-requires : tie.Need-first-member-requires invariant-loop decreases-loop
+first-member-requires : tie.Need-first_member-found-requires invariant-loop decreases-loop
 first-member-requires c κs = search rules
 
-sub-of-bag : tie.Need-overflow-sub-of-bag invariant-loop decreases-loop
+sub-of-bag : tie.Need-slice_bounds-of_bag-count invariant-loop decreases-loop
 sub-of-bag c = omega (arith, (stands c.before.before).order)
 
-part-of-bag-start : tie.Need-slice-bounds-of-bag-start invariant-loop decreases-loop
+part-of-bag-start : tie.Need-slice_bounds-of_bag-start invariant-loop decreases-loop
 part-of-bag-start c = omega (arith, (stands c.before.before).order)
 
-part-of-bag-end : tie.Need-slice-bounds-of-bag-end invariant-loop decreases-loop
+part-of-bag-end : tie.Need-slice_bounds-of_bag-end invariant-loop decreases-loop
 part-of-bag-end c = (stands c.before.before).inside
 
-of-bag-requires : tie.Need-of-bag-requires invariant-loop decreases-loop
+of-bag-requires : tie.Need-of_bag-requires invariant-loop decreases-loop
 of-bag-requires c κs = (stands c.before.before.before).held
 
-merge-requires : tie.Need-merge-requires invariant-loop decreases-loop
+merge-requires : tie.Need-merge-f-requires invariant-loop decreases-loop
 merge-requires c κs =
-    let s = c.before.before.before.before in
-    let l = s.before.before.before.before.loop in
-    let z = bags-room _ _ _ l.f l.at l.invariant.bags _ (stands s) _ c.of-bag.ensures in
-    (omega (arith, z.0, short s), omega (arith, z.1, short s), omega (arith, z.2, short s))
+    let l = c.loop-at in
+    let z = bags-room _ _ _ l.f l.at l.invariant.bags _ (stands c.before.before.before.before) _ c.of_bag.ensures in
+    (omega (arith, z.0, short c.before.before.before.before), omega (arith, z.1, short c.before.before.before.before), omega (arith, z.2, short c.before.before.before.before))
 
-loop-less : tie.Need-loop-smaller invariant-loop decreases-loop
+loop-less : tie.Need-loop-at-smaller invariant-loop decreases-loop
 loop-less c = let b = stands c.before.before.before.before.before in omega (arith, b.some, b.order, b.inside)
 
-loop-again : tie.Need-loop-preserved invariant-loop decreases-loop
+loop-again : tie.Need-loop-at-preserved invariant-loop decreases-loop
 loop-again c =
-    let o = c.before in
-    let m = o.before.before in
-    let s = m.before.before in
-    let l = s.before.before.before.before.loop in
+    let l = c.loop-at in
     record {
-      bags = bags-next _ _ _ l.f l.at l.invariant.bags _ (stands s) _ o.of-bag.ensures _ c.merge.ensures;
-      found = sought-next _ _ l.found l.at l.invariant.found s.before.before.before.loop-test.true _ (stands s) _
-          m.first_member.ensures;
+      bags = bags-next _ _ _ l.f l.at l.invariant.bags _ (stands c.before.before.before.before.before) _ c.of_bag.ensures _ c.merge-f.ensures;
+      found = sought-next _ _ l.found l.at l.invariant.found c.loop-at-test.true _ (stands c.before.before.before.before.before) _
+          c.first_member-found.ensures;
     }
 
 returns : tie.Need-returns invariant-loop decreases-loop
 returns c =
-    let l = c.before.loop in
-    let e = bags-end _ _ _ l.f l.at l.invariant.bags c.loop-test.false in
-    let m = sought-end _ _ l.found l.at l.invariant.found c.loop-test.false in
+    let l = c.loop-at in
+    let e = bags-end _ _ _ l.f l.at l.invariant.bags c.loop-at-test.false in
+    let m = sought-end _ _ l.found l.at l.invariant.found c.loop-at-test.false in
     λ i. record { bags = e i; member_bag = m i }
 
 pub kd-facts-spec : {M : Type 1} → statement M

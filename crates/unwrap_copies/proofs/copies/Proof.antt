@@ -1,4 +1,3 @@
--- `unwrap_copies::copies` meets its contract: the invariant is what is known of the copies passed.
 use native.Mathlib.Omega.{arith}
 use Prim.Native.Nat.{ℕ, ◌-◌, ◌≤◌}
 use mathlib.Core.Path.{◌≡◌, ap, sym, ◌∙◌, subst}
@@ -30,133 +29,134 @@ use borrow.Author.Rules.{rules}
 use Rattle.unwrap_copies.proofs.copies.Statement.{statement}
 use Rattle.unwrap_copies.proofs.copies.Tie as tie
 
-abbrev invariant-loop : tie.invariant-loop
+-- `unwrap_copies::copies` meets its contract: the invariant is what is known of the copies passed.
+
+abbrev invariant-loop : tie.invariant-loop-start
 invariant-loop place a need tables schedule carried fresh ids block known₀ openers₀ last₀ at₀ known openers last at =
     (at ≤ length a) × (is_whole (attributes place 0 (drop at a)) ≡ true) × ExpandedInverse last.schedule.words ×
     ((v : List ℕ) (new old : List HeldKey) → ExpandsInverse v schedule.words → LendsTwo new old carried fresh ids block →
     Progress need (tries_of_all v new old (copies_in place a)) (tries_of_all v new old (copies_in place (drop at a))) known ×
     Listed need v new old (copies_in place a) (copies_in place (drop at a)) openers × IsReady v new old last)
 
-abbrev decreases-loop : tie.decreases-loop
+abbrev decreases-loop : tie.decreases-loop-start
 decreases-loop place a need tables schedule carried fresh ids block known₀ openers₀ last₀ at₀ known openers last at = length a - at
 
-nothing-requires : tie.Need-nothing-requires invariant-loop decreases-loop
+nothing-requires : tie.Need-nothing-known-requires invariant-loop decreases-loop
 nothing-requires c κs = search rules
 
-no-openers-requires : tie.Need-no-openers-requires invariant-loop decreases-loop
+no-openers-requires : tie.Need-no_openers-openers-requires invariant-loop decreases-loop
 no-openers-requires c κs = search rules
 
-key-zero-requires : tie.Need-key-zero-requires invariant-loop decreases-loop
+key-zero-requires : tie.Need-key_zero-last-requires invariant-loop decreases-loop
 key-zero-requires c κs = search rules
 
-loop-holds : tie.Need-loop-init invariant-loop decreases-loop
+loop-holds : tie.Need-loop-start-init invariant-loop decreases-loop
 loop-holds c =
-    let a = c.before.before.before.before.before.before.before.before.args in
-    let zero = c.key-zero in (
+    let a = c.args in
+    let zero = c.key_zero-last in (
       omega arith,
-      c.before.before.before.before.before.before.before.before.requires.0,
+      c.requires.a_value,
       subst (λ (s : InverseSchedule). ExpandedInverse s.words) (sym zero.ensures.1.1)
-          c.before.before.before.before.before.before.before.before.requires.1.1.0.1,
+          c.requires.tables_value.1,
       λ v new old x lends. (
-        starts a.need (tries_of_all v new old (copies_in a.place a.a.now)) c.before.before.nothing.result
-            c.before.before.nothing.ensures,
-        listed-none a.need v new old (copies_in a.place a.a.now) c.before.no-openers.result c.before.no-openers.ensures,
+        starts a.need (tries_of_all v new old (copies_in a.place a.a.now)) c.nothing-known.result
+            c.nothing-known.ensures,
+        listed-none a.need v new old (copies_in a.place a.a.now) c.no_openers-openers.result c.no_openers-openers.ensures,
         zero.ensures.0 v new old x,
       ),
     )
 
-next-attribute-requires : tie.Need-next-attribute-requires invariant-loop decreases-loop
-next-attribute-requires c κs = (c.loop.invariant.0, c.loop.invariant.1)
+next-attribute-requires : tie.Need-next_attribute-requires invariant-loop decreases-loop
+next-attribute-requires c κs = (c.loop-start.invariant.0, c.loop-start.invariant.1)
 
-enum-known-start : tie.Need-enum-known-start invariant-loop decreases-loop
+enum-known-start : tie.Need-enum_known-start invariant-loop decreases-loop
 enum-known-start c = search rules
 
 -- the next copy
-next : (c : tie.After-known-told invariant-loop decreases-loop) →
-    let a = c.before.before.before.before.before.before.before.before.before.before.before.before.before.args in
-    let p = c.before.start.given.0 in
-    MetAt meaning.SaKey a.place a.a.now c.before.before.before.before.loop.at p.0 p.1.0
+next : (c : tie.In-At invariant-loop decreases-loop) →
+    let a = c.args in
+    let p = c.start-1.given.0 in
+    MetAt meaning.SaKey a.place a.a.now c.loop-start.at p.0 p.1.0
 next c =
-    let a = c.before.before.before.before.before.before.before.before.before.before.before.before.before.args in
-    subst (FindsValue meaning.SaKey a.place a.a.now c.before.before.before.before.loop.at) c.before.start.given.1
-    c.before.before.before.next-attribute.ensures
+    let a = c.args in
+    subst (FindsValue meaning.SaKey a.place a.a.now c.loop-start.at) c.in-At.is
+    c.next_attribute.ensures
 
-attribute-value-requires : tie.Need-attribute-value-requires invariant-loop decreases-loop
+attribute-value-requires : tie.Need-attribute_value-copy-requires invariant-loop decreases-loop
 attribute-value-requires c κs = search rules
 
 -- its octets
-octets-are : (c : tie.After-attribute-value invariant-loop decreases-loop) →
-    let a = c.before.before.before.before.before.before.before.before.before.before.before.before.before.before.args in
-    let p = c.before.before.start.given.0 in
-    c.attribute-value.result.now ≡ part a.a.now (value_start a.a.now p.0) p.1.0
-octets-are c = c.attribute-value.ensures.0 ∙ (next c.before).octets
+octets-are : (c : tie.After-attribute_value-copy invariant-loop decreases-loop) →
+    let a = c.args in
+    let p = c.start-1.given.0 in
+    c.attribute_value-copy.result.now ≡ part a.a.now (value_start a.a.now p.0) p.1.0
+octets-are c = c.attribute_value-copy.ensures.result_value ∙ (next c.before).octets
 
 -- it holds both IDs
-ids-there : (c : tie.After-attribute-value invariant-loop decreases-loop) → 8 ≤ length c.attribute-value.result.now
-ids-there c = let a = c.before.before.before.before.before.before.before.before.before.before.before.before.before.before.args in ids-inside a.place a.a.now _ _ _ (next c.before).value _ (octets-are c)
+ids-there : (c : tie.After-attribute_value-copy invariant-loop decreases-loop) → 8 ≤ length c.attribute_value-copy.result.now
+ids-there c = let a = c.args in ids-inside a.place a.a.now _ _ _ (next c.before).value _ (octets-are c)
 
-be32-at-requires : tie.Need-be32-at-requires invariant-loop decreases-loop
-be32-at-requires c κs = let h = ids-there (c) in omega (arith, h)
+be32-at-requires : tie.Need-be32_at-kwk-requires invariant-loop decreases-loop
+be32-at-requires c κs = let h = ids-there c in omega (arith, h)
 
-ready-for-requires : tie.Need-ready-for-requires invariant-loop decreases-loop
-ready-for-requires c κs = let q = c.before.before.before.before.before.before.before.before.before.before.before.before.before.before.before.requires.1.1 in ((q.0.0, q.0.1, c.before.before.before.before.before.before.loop.invariant.2), q.1)
+ready-for-requires : tie.Need-ready_for-key-requires invariant-loop decreases-loop
+ready-for-requires c κs = let q = c.requires.1.1 in ((q.0.0, q.0.1, c.loop-start.invariant.2), q.1)
 
-try-copy-requires : tie.Need-try-copy-requires invariant-loop decreases-loop
+try-copy-requires : tie.Need-try_copy-one-requires invariant-loop decreases-loop
 try-copy-requires c κs =
-    let p = c.before.before.before.before.before.before.before.before.before.before.before.before.before.before.before.before.requires.1 in
-    ((ids-there c.before.before, p.0), (p.1.0.0, c.ready_for.ensures.0.1))
+    let p = c.requires.1 in
+    ((ids-there c.before.before, p.0), (p.1.0.0, c.ready_for-key.ensures.id_value.1))
 
-note-requires : tie.Need-note-requires invariant-loop decreases-loop
+note-requires : tie.Need-note-openers-requires invariant-loop decreases-loop
 note-requires c κs = search rules
 
-merge-requires : tie.Need-merge-requires invariant-loop decreases-loop
+merge-requires : tie.Need-merge-known-requires invariant-loop decreases-loop
 merge-requires c κs = search rules
 
-loop-less : tie.Need-loop-smaller invariant-loop decreases-loop
+loop-less : tie.Need-loop-start-smaller invariant-loop decreases-loop
 loop-less c = let f = (next c.before.before.before.before.before.before).value in omega (arith, f.start, f.order, f.inside)
 
-loop-again : tie.Need-loop-preserved invariant-loop decreases-loop
+loop-again : tie.Need-loop-start-preserved invariant-loop decreases-loop
 loop-again c =
-    let n = c.before.note in
-    let w = c.before.before.before.before.before in
+    let n = c.note-openers in
     let f = (next c.before.before.before.before.before.before).value in
-    let l = c.before.before.before.before.before.before.before.before.before.before.loop in
-    let e = c.before.before.before.before.before.before.before.start.given.0 in
-    let a = c.before.before.before.before.before.before.before.before.before.before.before.before.before.before.before.before.before.before.before.args in
+    let l = c.loop-start in
+    let e = c.start-1.given.0 in
+    let a = c.args in
     let s = a.a.now in
-    let id = c.before.before.before.before.be32-at in
-    let key = c.before.before.before.ready_for in
-    let one = c.before.before.try-copy in (
+    let id = c.be32_at-kwk in
+    let key = c.ready_for-key in
+    let one = c.try_copy-one in (
       f.inside,
       f.rest,
       key.ensures.0.1,
       λ v new old x lends.
           let p = l.invariant.3 v new old x lends in
           let r = key.ensures.1 v new old x lends p.2 in
-          let k = sa_key_of c.before.before.before.before.before.attribute-value.result.now in
+          let k = sa_key_of c.attribute_value-copy.result.now in
           let m = one.ensures v new old r (sym id.ensures ∙ sym key.ensures.0.0) in (
-            goes_on a.need (tries_of_all v new old (copies_in a.place s)) _ _ _ l.known one.result c.merge.result
-                (next-tries a.place s l.at _ _ f _ (octets-are w) v new old) p.0 m c.merge.ensures,
+            goes_on a.need (tries_of_all v new old (copies_in a.place s)) _ _ _ l.known one.result c.merge-known.result
+                (next-tries a.place s l.at _ _ f _ (octets-are c.before.before.before.before.before) v new old) p.0 m c.merge-known.ensures,
             listed_next a.need v new old (copies_in a.place s) (copies_in a.place (drop e.1.0 s)) k l.openers n.result
                 (subst (λ (y : List SaKey). Listed a.need v new old (copies_in a.place s) y l.openers)
-                (next-copies a.place s l.at _ _ f _ (octets-are w)) p.1)
+                (next-copies a.place s l.at _ _ f _ (octets-are c.before.before.before.before.before)) p.1)
                 one.result m
                 (subst (λ (i : ℕ). Noted one.result.found i l.openers n.result) id.ensures n.ensures),
             r,
           ),
     )
 
-enum_told : tie.Need-enum-told invariant-loop decreases-loop
+enum_told : tie.Need-enum_told-1 invariant-loop decreases-loop
 enum_told c = search rules
 
-returns : tie.Need-returns invariant-loop decreases-loop
+returns : tie.Need-returns-in-Nothing invariant-loop decreases-loop
 returns c roots entries size zero new old x lends agrees =
-    let l = c.before.before.before.loop in
-    let a = c.before.before.before.before.before.before.before.before.before.before.before.before.args in
+    let l = c.loop-start in
+    let a = c.args in
     let s = a.a.now in
     let v = value_of zero in
     let all = copies_in a.place s in
-    let f = subst (FindsValue meaning.SaKey a.place s l.at) c.enum_told.given.1 c.before.before.next-attribute.ensures in
+    let f = subst (FindsValue meaning.SaKey a.place s l.at) c.in-Nothing.is c.next_attribute.ensures in
     let p = l.invariant.3 v new old x lends in
     let t = ends a.need (tries_of_all v new old all) _ l.known (no-tries a.place s l.at v new old f.0) p.0 in
     record {

@@ -1,4 +1,3 @@
--- `unwrap_lending::value_at` meets its contract.
 use native.Mathlib.Omega.{arith}
 use Prim.Native.Nat.{◌+◌, ◌*◌, ◌≤◌}
 use mathlib.Core.Path.{refl, ap}
@@ -10,44 +9,46 @@ use borrow.Author.Rules.{rules}
 use Rattle.unwrap_lending.proofs.value_at.Statement.{statement}
 use Rattle.unwrap_lending.proofs.value_at.Tie as tie
 
--- the key stands in the block
-inside : (c : tie.After-shared-slice-known) →
-    let a = c.before.args in place_octets * a.i + 1 + oct a.block.now (place_octets * a.i) ≤ length a.block.now
-inside c = let p = c.before.requires in inside-here p.0 p.1 c.before.args.block.now p.2 c.before.args.i p.3
+-- `unwrap_lending::value_at` meets its contract.
 
-mul_at : tie.Need-overflow-mul-at
+-- the key stands in the block
+inside : (c : tie.After-shared_slice_known-1) →
+    let a = c.args in place_octets * a.i + 1 + oct a.block.now (place_octets * a.i) ≤ length a.block.now
+inside c = let p = c.requires in inside-here p.0 p.1 c.args.block.now p.2 c.args.i p.3
+
+mul_at : tie.Need-overflow_mul-at
 mul_at c = let i = inside c in record { fits = omega arith }
 
-add_start : tie.Need-overflow-add-start
+add_start : tie.Need-overflow_add-start
 add_start c = let i = inside c in record { fits = omega arith }
 
-shared-slice-read-wide : tie.Need-shared-slice-read-wide
+shared-slice-read-wide : tie.Need-bounds-block-at
 shared-slice-read-wide c = let i = inside c.before in omega arith
 
-ends : (c : tie.After-wide) →
-    let a = c.before.before.before.args in place_octets * a.i + 1 + c.wide.result ≤ length a.block.now
-ends c = let i = inside c.before.before in let e = c.wide.ensures.0 in omega arith
+ends : (c : tie.After-wide-count) →
+    let a = c.args in place_octets * a.i + 1 + c.wide-count.result ≤ length a.block.now
+ends c = let i = inside c.before.before in let e = c.wide-count.ensures.0 in omega arith
 
-wide-requires : tie.Need-wide-requires
+wide-requires : tie.Need-wide-count-requires
 wide-requires c κs = search rules
 
-add-result : tie.Need-overflow-add-result
+add-result : tie.Need-overflow_add-result
 add-result c = let i = ends c in record { fits = omega arith }
 
-sub-result : tie.Need-overflow-sub-result
+sub-result : tie.Need-slice_bounds-result-count
 sub-result c = search rules
 
-part-result-start : tie.Need-slice-bounds-result-start
+part-result-start : tie.Need-slice_bounds-result-start
 part-result-start c = search rules
 
-part-result-end : tie.Need-slice-bounds-result-end
+part-result-end : tie.Need-slice_bounds-result-end
 part-result-end c = let i = ends c in omega arith
 
 returns : tie.Need-returns
 returns c =
-    let a = c.before.before.before.before.args in (
+    let a = c.args in (
       λ keys ids lends h.
-          value-here keys ids a.block.now lends a.i h _ (ap (λ n. place_octets * a.i + 1 + n) c.before.wide.ensures.0),
+          value-here keys ids a.block.now lends a.i h _ (ap (λ n. place_octets * a.i + 1 + n) c.wide-count.ensures.0),
       refl,
     )
 

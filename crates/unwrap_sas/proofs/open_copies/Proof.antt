@@ -6,46 +6,42 @@ use borrow.Author.Rules.{rules}
 use Rattle.unwrap_sas.proofs.open_copies.Statement.{statement}
 use Rattle.unwrap_sas.proofs.open_copies.Tie as tie
 
-bag-stretch-requires : tie.Need-bag-stretch-requires
-bag-stretch-requires c κs = let s = c.before.before.before.before.before.before in (s.args.reads, s.requires.0)
+bag-stretch-requires : tie.Need-bag_stretch-s-requires
+bag-stretch-requires c κs = (c.args.reads, c.requires.kd_value)
 
 -- where its bag stands
-own : (c : tie.After-bag-stretch)
-    → let a = c.before.before.before.before.before.before.before.args in
-    StretchIs a.reads a.kd.now a.protocol a.spi.now c.bag-stretch.result
+own : (c : tie.After-bag_stretch-s)
+    → let a = c.args in
+    StretchIs a.reads a.kd.now a.protocol a.spi.now c.bag_stretch-s.result
 own c =
-    let s = c.before.before.before.before.before.before.before in
-    stretch-is s.args.protocol s.args.spi.now s.args.kd.now s.args.reads c.bag-stretch.result
-    c.bag-stretch.ensures s.requires.0 s.requires.1.0
+    stretch-is c.args.protocol c.args.spi.now c.args.kd.now c.args.reads c.bag_stretch-s.result
+    c.bag_stretch-s.ensures c.requires.kd_value c.requires.kd_value_2
 
-in-bag-requires : tie.Need-in-bag-requires
+in-bag-requires : tie.Need-in_bag-requires
 in-bag-requires c κs = search rules
 
-sub-copies : tie.Need-overflow-sub-copies
+sub-copies : tie.Need-slice_bounds-copies-count
 sub-copies c = (own c.before).order
 
-part-copies-start : tie.Need-slice-bounds-copies-start
+part-copies-start : tie.Need-slice_bounds-copies-start
 part-copies-start c = let s = own c.before in omega (arith, s.order, s.inside)
 
-part-copies-end : tie.Need-slice-bounds-copies-end
+part-copies-end : tie.Need-slice_bounds-copies-end
 part-copies-end c = (own c.before).inside
 
 copies-requires : tie.Need-copies-requires
 copies-requires c κs =
-    let s = c.before.before.before.before.before.before.before.before.before in
-    let b = c.before.before in (
-      own-whole s.args.reads s.args.kd.now s.args.protocol s.args.spi.now b.bag-stretch.result (own b)
-          c.before.in-bag.result
-          c.before.in-bag.ensures,
-      (s.requires.1.1.0, (s.requires.1.1.1.0, s.requires.1.1.1.1)),
+(
+      own-whole c.args.reads c.args.kd.now c.args.protocol c.args.spi.now c.bag_stretch-s.result (own c.before.before)
+          c.in_bag.result
+          c.in_bag.ensures,
+      (c.requires.need_le_sa_room, (c.requires.tables_value, c.requires.lends_two)),
     )
 
 returns : tie.Need-returns
 returns c roots entries size f a o bags protocol spi need =
-    let s = c.before.before.before.before.before.before.before.before.before.before in
-    let b = c.before.before.before in
-    own-answers s.args.reads s.args.kd.now s.args.protocol s.args.spi.now b.bag-stretch.result (own b)
-    c.before.before.in-bag.result c.before.before.in-bag.ensures f a bags protocol spi s.args.need need roots entries size
+    own-answers c.args.reads c.args.kd.now c.args.protocol c.args.spi.now c.bag_stretch-s.result (own c.before.before.before)
+    c.in_bag.result c.in_bag.ensures f a bags protocol spi c.args.need need roots entries size
     c.copies.result (c.copies.ensures roots entries size o.zero o.new o.old o.expands o.lends o.agrees)
 
 pub open-copies-spec : {M : Type 1} → statement M

@@ -1,4 +1,3 @@
--- `unwrap_tree::reach_keys` meets its contract.
 use native.Mathlib.Omega.{arith}
 use Prim.Native.Nat.{ℕ, ◌≤◌}
 use mathlib.Core.Path.{◌≡◌, refl, ap, sym, subst, ◌∙◌}
@@ -27,99 +26,95 @@ use borrow.Author.Rules.{rules}
 use Rattle.unwrap_tree.proofs.reach_keys.Statement.{statement}
 use Rattle.unwrap_tree.proofs.reach_keys.Tie as tie
 
-entries-requires : tie.Need-entries-requires
-entries-requires c κs = let p = c.before.before.before.requires.0 in (p.0, p.1, p.2)
+-- `unwrap_tree::reach_keys` meets its contract.
+
+entries-requires : tie.Need-entries-list-requires
+entries-requires c κs = let p = c.requires.holds_entries in (p.0, p.1, p.2)
 
 -- the entries within their limit
-few : (c : tie.After-entries) → c.entries.result.count ≤ limits.wrap_keys
-few c = let p = c.before.before.before.before.requires.0 in (c.entries.ensures p.0 p.1).within
+few : (c : tie.After-entries-list) → c.entries-list.result.count ≤ limits.wrap_keys
+few c = let p = c.requires.holds_entries in (c.entries-list.ensures p.0 p.1).within
 
-search-requires : tie.Need-search-requires
+search-requires : tie.Need-search-cells-requires
 search-requires c κs =
-    let s = c.before.before.before.before.before in
-    let p = s.requires.0 in
-    (few c.before, (s.requires.1.0, (s.requires.1.1.0, ((p.0, c.before.entries.ensures p.0 p.1), s.requires.1.1.1))))
+    let p = c.requires.holds_entries in
+    (few c.before, (c.requires.count_value, (c.requires.key, ((p.0, c.entries-list.ensures p.0 p.1), c.requires.lends_held))))
 
-links-of-requires : tie.Need-links-of-requires
+links-of-requires : tie.Need-links_of-links-requires
 links-of-requires c κs = few c.before.before
 
-entries-conflict-requires : tie.Need-entries-conflict-requires
+entries-conflict-requires : tie.Need-entries_conflict-requires
 entries-conflict-requires c κs = few c.before.before.before
 
 new-requires : tie.Need-new-requires
 new-requires c κs = search rules
 
 -- the links of the entries, and whether number 8 holds of them
-fit : (c : tie.After-links-of) → LinksFit c.links-of.result
-fit c = links-fit _ _ _ c.links-of.result c.links-of.ensures (few c.before.before.before)
+fit : (c : tie.After-links_of-links) → LinksFit c.links_of-links.result
+fit c = links-fit _ _ _ c.links_of-links.result c.links_of-links.ensures (few c.before.before.before)
 
-long : (c : tie.After-links-of) → length c.links-of.result.ids ≡ limits.wrap_keys
+long : (c : tie.After-links_of-links) → length c.links_of-links.result.ids ≡ limits.wrap_keys
 long c = search rules
 
-decided : (c : tie.After-entries-conflict) (l : List WrapKey) (held : Held) →
-    let s = c.before.before.before.before.before.before.before.before in
-    HoldsEntries s.args.meaning s.args.place s.args.kd.now s.args.bag l → Nonzero l →
-    LendsHeld held s.args.ids.now s.args.block.now →
-    Decides c.entries-conflict.result (EntriesConflict (roots_with (value_of s.args.zero) l (keys_of held)) l s.args.zero.count)
+decided : (c : tie.After-entries_conflict) (l : List WrapKey) (held : Held) →
+    HoldsEntries c.args.meaning c.args.place c.args.kd.now c.args.bag l → Nonzero l →
+    LendsHeld held c.args.ids.now c.args.block.now →
+    Decides c.entries_conflict.result (EntriesConflict (roots_with (value_of c.args.zero) l (keys_of held)) l c.args.zero.count)
 decided c l held h z lends =
-    let s = c.before.before.before.before.before.before.before.before in
-    let k = s.args.kd.now in
-    let zero = s.args.zero in
-    let list = c.before.before.before.before.entries.ensures l h in
-    c.entries-conflict.ensures k (roots_with (value_of zero) l (keys_of held)) l zero.count list
-    (c.before.before.search.ensures l held list lends) z
+    let k = c.args.kd.now in
+    let zero = c.args.zero in
+    let list = c.entries-list.ensures l h in
+    c.entries_conflict.ensures k (roots_with (value_of zero) l (keys_of held)) l zero.count list
+    (c.search-cells.ensures l held list lends) z
 
-returns : tie.Need-returns
+returns : tie.Need-returns-then-entries_conflict
 returns c l held h z lends =
-    let t = c.before.before in
     record {
-      conflict = told-yes _ _ c.before.if1.true (decided t l held h z lends);
+      conflict = told-yes _ _ c.if-entries_conflict.true (decided c.before.before l held h z lends);
       formed = ap (held_formed limits) c.new.ensures ∙ no-key-formed limits;
       agrees = λ q. absurd (false≢true (sym q));
-      fit = fit t.before;
+      fit = fit c.before.before.before;
       kept = λ q. absurd (false≢true (sym q));
     }
 
-held-of-requires : tie.Need-held-of-requires
+held-of-requires : tie.Need-held_of-requires
 held-of-requires c κs = few c.before.before.before.before.before
 
-returns-2 : tie.Need-returns-2
+returns-2 : tie.Need-returns
 returns-2 c l held h z lends =
-    let t = c.before.before in
-    let s = t.before.before.before.before.before.before.before.before in
-    let a = s.args in
+    let a = c.args in
     let k = a.kd.now in
     let zero = a.zero in
     let roots = roots_with (value_of zero) l (keys_of held) in
-    let entries = t.before.before.before.before.entries in
+    let entries = c.entries-list in
     let list = entries.ensures l h in
-    let f = t.before.before.search.ensures l held list lends in
-    let n = told-not _ _ c.before.if1.false (decided t l held h z lends) in
+    let f = c.search-cells.ensures l held list lends in
+    let n = told-not _ _ c.if-entries_conflict.false (decided c.before.before l held h z lends) in
     let reached = c.held_of in
-    let r = reached.ensures k roots l zero.count list f z s.requires.1.0 n in
-    let links = t.before.links-of in
+    let r = reached.ensures k roots l zero.count list f z c.requires.count_value n in
+    let links = c.links_of-links in
     let own = links-own _ _ _ links.result links.ensures in
     let lists = subst (λ (m : ℕ). Lists k entries.result.places m l) (sym links.ensures.count-is) list in
-    let ids = ids-are l links.result.ids links.result.count lists.count (omega (arith, long t.before, lists.within))
+    let ids = ids-are l links.result.ids links.result.count lists.count (omega (arith, long c.before.before.before, lists.within))
     (λ i g. own.linked.id-is i g ∙ (lists.at i g).id) in
     record {
       conflict = n;
       formed = r.1;
       agrees = λ q.
           subst (λ (x : List ℕ). Agrees roots l zero.count zero (named_keys reached.result x) (keys_of held)) (sym ids)
-          (held-agrees zero l zero.count held a.ids.now a.block.now lends reached.result z s.requires.1.0 n r.0 r.1);
-      fit = fit t.before;
+          (held-agrees zero l zero.count held a.ids.now a.block.now lends reached.result z c.requires.count_value n r.0 r.1);
+      fit = fit c.before.before.before;
       kept = λ q. record {
         frame = k;
         entries = entries.result.places;
-        cells = t.before.before.search.result;
+        cells = c.search-cells.result;
         lists = lists;
         searched = f;
         linked = own;
         nonzero = z;
         fit = roots-fit (value_of zero) l held lends.formed z;
         agree = n;
-        gives = held_gives zero l zero.count held a.ids.now a.block.now lends reached.result z s.requires.1.0 n r.0
+        gives = held_gives zero l zero.count held a.ids.now a.block.now lends reached.result z c.requires.count_value n r.0
             r.1;
       };
     }

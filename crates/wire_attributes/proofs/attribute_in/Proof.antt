@@ -7,55 +7,55 @@ use borrow.Author.Rules.{rules}
 use Rattle.wire_attributes.proofs.attribute_in.Statement.{statement}
 use Rattle.wire_attributes.proofs.attribute_in.Tie as tie
 
-read-attribute-requires : tie.Need-read-attribute-requires
+read-attribute-requires : tie.Need-read_attribute-requires
 read-attribute-requires c κs = search rules
 
-enum-known-short : tie.Need-enum-known-short
+enum-known-short : tie.Need-enum_known-short
 enum-known-short c = search rules
 
-found : (c : tie.After-known-told)
-    → let v = c.before.short.given.0 in
-    IsRead c.before.before.before.before.before.args.s.now v.0 v.1.0 v.1.1.0 v.1.1.1.0
+found : (c : tie.In-Attribute)
+    → let v = c.short-1.given.0 in
+    IsRead c.args.s.now v.0 v.1.0 v.1.1.0 v.1.1.1.0
 found c =
-    let v = c.before.short.given.0 in
-    read_is c.before.before.before.before.before.args.s.now v.0 v.1.0 v.1.1.0 v.1.1.1.0
-    (sym c.before.short.given.1 ∙ c.before.before.before.read-attribute.ensures)
+    let v = c.short-1.given.0 in
+    read_is c.args.s.now v.0 v.1.0 v.1.1.0 v.1.1.1.0
+    (sym c.in-Attribute.is ∙ c.read_attribute.ensures)
 
-meaning-in-requires : tie.Need-meaning-in-requires
+meaning-in-requires : tie.Need-meaning_in-requires
 meaning-in-requires c κs = search rules
 
-sub-is-formed : tie.Need-overflow-sub-is-formed
+sub-is-formed : tie.Need-overflow_sub-end
 sub-is-formed c =
-    let v = c.before.before.short.given.0 in
+    let v = c.short-1.given.0 in
     (read-inside _ v.0 v.1.0 v.1.1.0 v.1.1.1.0 (found c.before)).0
 
-is-formed-requires : tie.Need-is-formed-requires
+is-formed-requires : tie.Need-is_formed-requires
 is-formed-requires c κs = search rules
 
-returns : tie.Need-returns
+returns : tie.Need-returns-then-is_formed
 returns c =
-    let a = c.before.before.before.before.before.before.before.before.args in
-    let v = c.before.before.before.before.short.given.0 in
+    let a = c.args in
+    let v = c.short-1.given.0 in
     formed-in a.place a.base a.s.now v.0 v.1.0 v.1.1.0 v.1.1.1.0 (found c.before.before.before) _
-    (c.before.is-formed.ensures ∙ ap (λ (m : Meaning). format_fits m v.0 (v.1.1.1.0 - v.1.1.0))
-    c.before.before.meaning-in.ensures) c.if1.true
+    (c.is_formed.ensures ∙ ap (λ (m : Meaning). format_fits m v.0 (v.1.1.1.0 - v.1.1.0))
+    c.meaning_in.ensures) c.if-is_formed.true
 
-enum_told : tie.Need-enum-told
+enum_told : tie.Need-enum_told-1
 enum_told c = search rules
 
-returns-2 : tie.Need-returns-2
+returns-2 : tie.Need-returns-else-is_formed
 returns-2 c =
-    let a = c.before.before.before.before.before.before.before.before.args in
-    let v = c.before.before.before.before.short.given.0 in
+    let a = c.args in
+    let v = c.short-1.given.0 in
     not-formed a.place a.base a.s.now v.0 v.1.0 v.1.1.0 v.1.1.1.0 (found c.before.before.before) _
-    (c.before.is-formed.ensures ∙ ap (λ (m : Meaning). format_fits m v.0 (v.1.1.1.0 - v.1.1.0))
-    c.before.before.meaning-in.ensures) c.if1.false
+    (c.is_formed.ensures ∙ ap (λ (m : Meaning). format_fits m v.0 (v.1.1.1.0 - v.1.1.0))
+    c.meaning_in.ensures) c.if-is_formed.false
 
-returns-3 : tie.Need-returns-3
+returns-3 : tie.Need-returns-in-Cut
 returns-3 c =
-    let a = c.before.before.before.before.args in
-    cut_in a.place a.base a.s.now (cut-is a.s.now (sym c.enum_told.given.1
-    ∙ c.before.before.read-attribute.ensures))
+    let a = c.args in
+    cut_in a.place a.base a.s.now (cut-is a.s.now (sym c.in-Cut.is
+    ∙ c.read_attribute.ensures))
 
 pub attribute-in-spec : {M : Type 1} → statement M
 attribute-in-spec =

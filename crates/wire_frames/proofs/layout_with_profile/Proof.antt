@@ -14,60 +14,60 @@ use borrow.Author.Rules.{rules}
 use Rattle.wire_frames.proofs.layout_with_profile.Statement.{statement}
 use Rattle.wire_frames.proofs.layout_with_profile.Tie as tie
 
-read-header-requires : tie.Need-read-header-requires
+read-header-requires : tie.Need-read_header-requires
 read-header-requires c κs = search rules
 
-enum-known-first : tie.Need-enum-known-first
+enum-known-first : tie.Need-enum_known-first
 enum-known-first c = search rules
 
 -- the header fits; what was read of it are the first payload's type and the exchange type
-header_read : (c : tie.After-known-told)
-    → let s = c.before.before.before.before.before.args.s.now in
-    let v = c.before.first.given.0 in
+header_read : (c : tie.In-Header)
+    → let s = c.args.s.now in
+    let v = c.first-1.given.0 in
     (header_fits s ≡ true) × (v.0 ≡ first_payload s) × (v.1.0 ≡ oct s 18)
 header_read c =
-    let v = c.before.first.given.0 in
-    header_is c.before.before.before.before.before.args.s.now v.0 v.1.0 v.1.1.0
-    (sym c.before.first.given.1 ∙ c.before.before.before.read-header.ensures)
+    let v = c.first-1.given.0 in
+    header_is c.args.s.now v.0 v.1.0 v.1.1.0
+    (sym c.in-Header.is ∙ c.read_header.ensures)
 
-long : (c : tie.After-known-told) → let n = length c.before.before.before.before.before.args.s.now in (28 ≤ n) × (n ≤ 16384)
-long c = header-long c.before.before.before.before.before.args.s.now (header_read c).0
+long : (c : tie.In-Header) → let n = length c.args.s.now in (28 ≤ n) × (n ≤ 16384)
+long c = header-long c.args.s.now (header_read c).0
 
-reads-fresh-requires : tie.Need-reads-fresh-requires
+reads-fresh-requires : tie.Need-reads_fresh-fresh-requires
 reads-fresh-requires c κs = search rules
 
-sub-payloads-layout : tie.Need-overflow-sub-payloads-layout
+sub-payloads-layout : tie.Need-slice_bounds-payloads_layout-count
 sub-payloads-layout c = let l = long c.before in omega (arith, l.0)
 
-part-payloads-layout-start : tie.Need-slice-bounds-payloads-layout-start
+part-payloads-layout-start : tie.Need-slice_bounds-payloads_layout-start
 part-payloads-layout-start c = let l = long c.before in omega (arith, l.0)
 
-part-payloads-layout-end : tie.Need-slice-bounds-payloads-layout-end
+part-payloads-layout-end : tie.Need-slice_bounds-payloads_layout-end
 part-payloads-layout-end c = search rules
 
-payloads-layout-requires : tie.Need-payloads-layout-requires
+payloads-layout-requires : tie.Need-payloads_layout-requires
 payloads-layout-requires c κs =
     let l = long c.before.before in
-    let s = c.before.before.before.before.before.before.before.args.s.now in
+    let s = c.args.s.now in
     omega (arith, l.0, l.1, part-short s 28 (length s))
 
-enum_told : tie.Need-enum-told
+enum_told : tie.Need-enum_told-1
 enum_told c = search rules
 
-returns : tie.Need-returns
+returns : tie.Need-returns-in-Header
 returns c =
-    let a = c.before.before.before.before.before.before.before.before.args in
+    let a = c.args in
     let h = header_read c.before.before.before in
     laid a.profile a.s.now _
     (frame_is a.profile a.s.now h.0 _
-    (c.before.before.reads-fresh.ensures ∙ ap (λ (x : ℕ). reads_fresh a.profile x) h.2) _ h.1 _ c.payloads-layout.ensures)
+    (c.reads_fresh-fresh.ensures ∙ ap (λ (x : ℕ). reads_fresh a.profile x) h.2) _ h.1 _ c.payloads_layout.ensures)
 
-returns-2 : tie.Need-returns-2
+returns-2 : tie.Need-returns-in-Broken
 returns-2 c =
-    let a = c.before.before.before.before.args in
+    let a = c.args in
     laid a.profile a.s.now _
     (frame-broken a.profile a.s.now (header-not a.s.now
-    (sym c.enum_told.given.1 ∙ c.before.before.read-header.ensures)))
+    (sym c.in-Broken.is ∙ c.read_header.ensures)))
 
 pub layout-with-profile-spec : {M : Type 1} → statement M
 layout-with-profile-spec =

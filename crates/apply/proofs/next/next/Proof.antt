@@ -9,37 +9,35 @@ use borrow.Author.Rules.{rules}
 use Rattle.apply.proofs.next.next.Statement.{statement}
 use Rattle.apply.proofs.next.next.Tie as tie
 
-old-sas-requires : tie.Need-old-sas-requires
-old-sas-requires c κs = let p = c.before.before.requires in (p.0, p.1.0)
+old-sas-requires : tie.Need-old_sas-old-requires
+old-sas-requires c κs = let p = c.requires in (p.0, p.1.0)
 
 -- the old SAs, for every frame that says this
-old-is : (c : tie.After-old-sas) (f : Frame) →
-    let a = c.before.before.before.args in
-    Told a.s.now a.x f → c.old-sas.result ≡ table_of limits (old_sas a.state a.tick f)
-old-is c f t = c.old-sas.ensures f c.before.before.before.args.state t refl
+old-is : (c : tie.After-old_sas-old) (f : Frame) →
+    let a = c.args in
+    Told a.s.now a.x f → c.old_sas-old.result ≡ table_of limits (old_sas a.state a.tick f)
+old-is c f t = c.old_sas-old.ensures f c.args.state t refl
 
-enter-all-requires : tie.Need-enter-all-requires
+enter-all-requires : tie.Need-enter_all-table-requires
 enter-all-requires c κs =
-    let b = c.before.before.before in
-    let a = b.args in
-    let f = b.requires.0 in
+    let a = c.args in
+    let f = c.requires.told in
     let e = old-is c f.0 f.1 in (
-      old-room a.state a.tick f.0 c.old-sas.result a.n e b.requires.1.1,
-      old-made a.state a.tick f.0 c.old-sas.result e,
-      b.requires.1.2,
+      old-room a.state a.tick f.0 c.old_sas-old.result a.n e c.requires.count_le_sas.1,
+      old-made a.state a.tick f.0 c.old_sas-old.result e,
+      c.requires.count_le_sas.2,
     )
 
-least-by-requires : tie.Need-least-by-requires
+least-by-requires : tie.Need-least_by-least-requires
 least-by-requires c κs = search rules
 
 returns : tie.Need-returns
 returns c =
-    let o = c.before.before in
-    let a = o.before.before.before.args in
+    let a = c.args in
     λ f t. record {
-      table = entered-old a.state a.tick f _ _ _ (old-is o f t) c.before.enter-all.ensures;
+      table = entered-old a.state a.tick f _ _ _ (old-is c.before.before f t) c.enter_all-table.ensures;
       held-is = refl;
-      least = least-told a.x a.state a.s.now f t _ c.least_by.ensures;
+      least = least-told a.x a.state a.s.now f t _ c.least_by-least.ensures;
       profile = refl;
     }
 

@@ -13,69 +13,69 @@ use borrow.Author.Rules.{rules}
 use Rattle.check_bagkeys.proofs.wrapped.keys_of.Statement.{statement}
 use Rattle.check_bagkeys.proofs.wrapped.keys_of.Tie as tie
 
-abbrev invariant-loop : tie.invariant-loop
+abbrev invariant-loop : tie.invariant-loop-start
 invariant-loop m place a f₀ at₀ f at = (carries_key m ≡ true) × KeyWalk m place a f at
 
-abbrev decreases-loop : tie.decreases-loop
+abbrev decreases-loop : tie.decreases-loop-start
 decreases-loop m place a f₀ at₀ f at = length a - at
 
-loop-holds : tie.Need-loop-init invariant-loop decreases-loop
-loop-holds c = (c.before.requires.0, keys-start _ _ _ c.before.requires.1)
+loop-holds : tie.Need-loop-start-init invariant-loop decreases-loop
+loop-holds c = (c.requires.0, keys-start _ _ _ c.requires.1)
 
-next-attribute-requires : tie.Need-next-attribute-requires invariant-loop decreases-loop
-next-attribute-requires c κs = let i = c.loop.invariant.1 in (i.inside, i.rest)
+next-attribute-requires : tie.Need-next_attribute-requires invariant-loop decreases-loop
+next-attribute-requires c κs = let i = c.loop-start.invariant.1 in (i.inside, i.rest)
 
-enum-known-start : tie.Need-enum-known-start invariant-loop decreases-loop
+enum-known-start : tie.Need-enum_known-start invariant-loop decreases-loop
 enum-known-start c = search rules
 
-met : (c : tie.After-known-told invariant-loop decreases-loop)
-    → let a = c.before.before.before.before.before.before.args in
-    let v = c.before.start.given.0 in
-    MetAt a.m a.place a.a.now c.before.before.before.before.loop.at v.0 v.1.0
+met : (c : tie.In-At invariant-loop decreases-loop)
+    → let a = c.args in
+    let v = c.start-1.given.0 in
+    MetAt a.m a.place a.a.now c.loop-start.at v.0 v.1.0
 met c =
-    let a = c.before.before.before.before.before.before.args in
-    subst (FindsValue a.m a.place a.a.now c.before.before.before.before.loop.at) c.before.start.given.1
-    c.before.before.before.next-attribute.ensures
+    let a = c.args in
+    subst (FindsValue a.m a.place a.a.now c.loop-start.at) c.in-At.is
+    c.next_attribute.ensures
 
-attribute-value-requires : tie.Need-attribute-value-requires invariant-loop decreases-loop
+attribute-value-requires : tie.Need-attribute_value-requires invariant-loop decreases-loop
 attribute-value-requires c κs = search rules
 
 -- the value handed on is the one found
-value : (c : tie.After-attribute-value invariant-loop decreases-loop)
-    → let s = c.before.before.before.before.before.before.before.args.a.now in
-    let v = c.before.before.start.given.0 in
-    c.attribute-value.result.now ≡ part s (value_start s v.0) v.1.0
-value c = c.attribute-value.ensures.0 ∙ (met c.before).octets
+value : (c : tie.After-attribute_value invariant-loop decreases-loop)
+    → let s = c.args.a.now in
+    let v = c.start-1.given.0 in
+    c.attribute_value.result.now ≡ part s (value_start s v.0) v.1.0
+value c = c.attribute_value.ensures.result_value ∙ (met c.before).octets
 
-with-key-requires : tie.Need-with-key-requires invariant-loop decreases-loop
+with-key-requires : tie.Need-with_key-f-requires invariant-loop decreases-loop
 with-key-requires c κs =
-    let l = c.before.before.before.before.before.loop in
+    let l = c.loop-start in
     let f = (met c.before).value in
     let z = keys-room _ _ _ l.f l.at l.invariant.1 _ _ f in
     (subst (λ (v : List ℕ). 8 ≤ length v) (sym (value c)) (key-sized _ _ _ l.f l.at l.invariant.1 _ _ f l.invariant.0), omega arith)
 
-loop-less : tie.Need-loop-smaller invariant-loop decreases-loop
+loop-less : tie.Need-loop-start-smaller invariant-loop decreases-loop
 loop-less c =
-    let l = c.before.before.before.before.before.before.loop in
+    let l = c.loop-start in
     keys-less _ _ _ l.f l.at l.invariant.1 _ _ (met c.before.before).value
 
-loop-again : tie.Need-loop-preserved invariant-loop decreases-loop
+loop-again : tie.Need-loop-start-preserved invariant-loop decreases-loop
 loop-again c =
-    let l = c.before.before.before.before.before.before.loop in (
+    let l = c.loop-start in (
       l.invariant.0,
       keys-next _ _ _ l.f l.at l.invariant.1 _ _ (met c.before.before).value _
-          (c.with-key.ensures ∙ ap (with_key l.f) (value c.before)),
+          (c.with_key-f.ensures ∙ ap (with_key l.f) (value c.before)),
     )
 
-enum_told : tie.Need-enum-told invariant-loop decreases-loop
+enum_told : tie.Need-enum_told-1 invariant-loop decreases-loop
 enum_told c = search rules
 
-returns : tie.Need-returns invariant-loop decreases-loop
+returns : tie.Need-returns-in-Nothing invariant-loop decreases-loop
 returns c =
-    let a = c.before.before.before.before.before.args in
-    let l = c.before.before.before.loop in
-    let f = subst (FindsValue a.m a.place a.a.now l.at) c.enum_told.given.1
-    c.before.before.next-attribute.ensures in
+    let a = c.args in
+    let l = c.loop-start in
+    let f = subst (FindsValue a.m a.place a.a.now l.at) c.in-Nothing.is
+    c.next_attribute.ensures in
     keys-end _ _ _ l.f l.at l.invariant.1 f.0
 
 pub keys-of-spec : {M : Type 1} → statement M

@@ -17,58 +17,53 @@ use borrow.Author.Rules.{rules}
 use Rattle.check_judging.proofs.facts.facts_of.Statement.{statement}
 use Rattle.check_judging.proofs.facts.facts_of.Tie as tie
 
-payload-facts-requires : tie.Need-payload-facts-requires
-payload-facts-requires c κs = (c.before.args.profile, c.before.requires.0)
+payload-facts-requires : tie.Need-payload_facts-payloads-requires
+payload-facts-requires c κs = (c.args.profile, c.requires.s_value)
 
 -- the payloads of the frame that the octets are
-own : (c : tie.After-payload-facts)
-    → let b = c.before.before in
-    OfFrame (b.args.profile && b.args.row.reads_fresh_keys) b.args.s.now
-    (reads-to b.args.profile b.args.s.now b.requires.0).0 c.payload-facts.result
+own : (c : tie.After-payload_facts-payloads)
+    →     OfFrame (c.args.profile && c.args.row.reads_fresh_keys) c.args.s.now
+    (reads-to c.args.profile c.args.s.now c.requires.s_value).0 c.payload_facts-payloads.result
 own c =
-    let b = c.before.before in
-    let a = b.args in
-    let f = reads-to a.profile a.s.now b.requires.0 in
-    subst (λ (r : Exchange). OfFrame (a.profile && r.reads_fresh_keys) a.s.now f.0 c.payload-facts.result)
-    (b.requires.1 f.0 f.1)
-    (facts-of a.profile a.s.now c.payload-facts.result c.payload-facts.ensures f.0 f.1)
+    let a = c.args in
+    let f = reads-to a.profile a.s.now c.requires.s_value in
+    subst (λ (r : Exchange). OfFrame (a.profile && r.reads_fresh_keys) a.s.now f.0 c.payload_facts-payloads.result)
+    (c.requires.f_value f.0 f.1)
+    (facts-of a.profile a.s.now c.payload_facts-payloads.result c.payload_facts-payloads.ensures f.0 f.1)
 
-sub-policy-facts : tie.Need-overflow-sub-policy-facts
+sub-policy-facts : tie.Need-slice_bounds-policy_facts-count
 sub-policy-facts c = (own c.before).gsa_order
 
-part-policy-facts-start : tie.Need-slice-bounds-policy-facts-start
+part-policy-facts-start : tie.Need-slice_bounds-policy_facts-start
 part-policy-facts-start c = (own c.before).gsa_order
 
-part-policy-facts-end : tie.Need-slice-bounds-policy-facts-end
+part-policy-facts-end : tie.Need-slice_bounds-policy_facts-end
 part-policy-facts-end c = (own c.before).gsa_inside
 
-policy-facts-requires : tie.Need-policy-facts-requires
+policy-facts-requires : tie.Need-policy_facts-policies-requires
 policy-facts-requires c κs = (own c.before.before).gsa_whole
 
-sub-kd-facts : tie.Need-overflow-sub-kd-facts
+sub-kd-facts : tie.Need-slice_bounds-kd_facts-count
 sub-kd-facts c = (own c.before.before.before.before.before).kd_order
 
-part-kd-facts-start : tie.Need-slice-bounds-kd-facts-start
+part-kd-facts-start : tie.Need-slice_bounds-kd_facts-start
 part-kd-facts-start c = (own c.before.before.before.before.before).kd_order
 
-part-kd-facts-end : tie.Need-slice-bounds-kd-facts-end
+part-kd-facts-end : tie.Need-slice_bounds-kd_facts-end
 part-kd-facts-end c = (own c.before.before.before.before.before).kd_inside
 
-kd-facts-requires : tie.Need-kd-facts-requires
+kd-facts-requires : tie.Need-kd_facts-kd-requires
 kd-facts-requires c κs = (own c.before.before.before.before.before.before).kd_whole
 
 returns : tie.Need-returns
 returns c =
-    let d = c.before.before in
-    let p = d.before.before.before.before in
-    let b = p.before.before.before in
-    let a = b.before.before.args in
+    let a = c.args in
     let s = a.s.now in
-    let e = b.payload-facts.ensures in
-    let k = d.kd-facts.ensures in
+    let e = c.payload_facts-payloads.ensures in
+    let k = c.kd_facts-kd.ensures in
     λ i. record {
       payloads = e i;
-      policies = (p.policy-facts.ensures ∙ ap (λ (y : PayloadFacts). policyFacts a.row.authentication
+      policies = (c.policy_facts-policies.ensures ∙ ap (λ (y : PayloadFacts). policyFacts a.row.authentication
           (policies_in (at s y.gsa))) e) i;
       bags = (ap (λ (y : KdFacts). y.bags) k ∙ ap (λ (y : PayloadFacts). bagFacts limits
           (bags_in (a.profile && a.row.reads_fresh_keys) (at s y.kd))) e) i;

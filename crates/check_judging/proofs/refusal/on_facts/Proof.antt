@@ -8,122 +8,88 @@ use borrow.Author.Rules.{rules}
 use Rattle.check_judging.proofs.refusal.on_facts.Statement.{statement}
 use Rattle.check_judging.proofs.refusal.on_facts.Tie as tie
 
-number-4-requires : tie.Need-number-4-requires
+number-4-requires : tie.Need-number_4-requires
 number-4-requires c κs = search rules
 
-returns : tie.Need-returns
+returns : tie.Need-returns-then-number_4
 returns c =
-    let n4 = c.before in
-    let st = n4.before.before.before in
-    let a = st.args in
+    let a = c.args in
     λ f q.
-    at-4 a.state a.tick a.lent.now a.s.now st.requires.0 a.row a.x st.requires.1.1.0 _ n4.number-4.ensures
-    c.if1.true f q (st.requires.1.1.1 f q)
+    at-4 a.state a.tick a.lent.now a.s.now c.requires.count_le_sas a.row a.x c.requires.x_value _ c.number_4.ensures
+    c.if-number_4.true f q (c.requires.f_value f q)
 
-number-5-requires : tie.Need-number-5-requires
+number-5-requires : tie.Need-number_5-requires
 number-5-requires c κs = search rules
 
-returns-2 : tie.Need-returns-2
+returns-2 : tie.Need-returns-then-number_5
 returns-2 c =
-    let n5 = c.before in
-    let e4 = n5.before in
-    let n4 = e4.before in
-    let st = n4.before.before.before in
-    let a = st.args in
+    let a = c.args in
     λ f q.
-    at_5 a.state a.tick a.lent.now a.s.now st.requires.0 a.row a.x st.requires.1.1.0 _ n4.number-4.ensures
-    e4.if1.false _ n5.number-5.ensures c.if2.true f q (st.requires.1.1.1 f q)
+    at_5 a.state a.tick a.lent.now a.s.now c.requires.count_le_sas a.row a.x c.requires.x_value _ c.number_4.ensures
+    c.if-number_4.false _ c.number_5.ensures c.if-number_5.true f q (c.requires.f_value f q)
 
 -- the bodies, where number 6 is asked
-own : (c : tie.After-k)
-    → let st = c.before.before.before.before.before.before.before.before.before.before in
-    let a = st.args in
-    OfFrame (a.state.profile && a.row.reads_fresh_keys) a.s.now (reads-to a.state.profile a.s.now st.requires.1.0).0
+own : (c : tie.After-k-1)
+    →     let a = c.args in
+    OfFrame (a.state.profile && a.row.reads_fresh_keys) a.s.now (reads-to a.state.profile a.s.now c.requires.s_value).0
     a.x.payloads
 own c =
-    let st = c.before.before.before.before.before.before.before.before.before.before in
-    let a = st.args in
-    let f = reads-to a.state.profile a.s.now st.requires.1.0 in
-    its-payloads a.state a.tick a.lent.now a.s.now st.requires.0 a.row a.x st.requires.1.1.0 f.0 f.1
-    (st.requires.1.1.1 f.0 f.1)
+    let a = c.args in
+    let f = reads-to a.state.profile a.s.now c.requires.s_value in
+    its-payloads a.state a.tick a.lent.now a.s.now c.requires.count_le_sas a.row a.x c.requires.x_value f.0 f.1
+    (c.requires.f_value f.0 f.1)
 
-sub-number-6 : tie.Need-overflow-sub-number-6
+sub-number-6 : tie.Need-slice_bounds-number_6-count
 sub-number-6 c = (own c).gsa_order
 
-part-number-6-start : tie.Need-slice-bounds-number-6-start
+part-number-6-start : tie.Need-slice_bounds-number_6-start
 part-number-6-start c = (own c).gsa_order
 
-part-number-6-end : tie.Need-slice-bounds-number-6-end
+part-number-6-end : tie.Need-slice_bounds-number_6-end
 part-number-6-end c = (own c).gsa_inside
 
-sub-number-6-2 : tie.Need-overflow-sub-number-6-2
+sub-number-6-2 : tie.Need-slice_bounds-number_6-count-2
 sub-number-6-2 c = (own c.before).kd_order
 
-part-number-6-start-2 : tie.Need-slice-bounds-number-6-start-2
+part-number-6-start-2 : tie.Need-slice_bounds-number_6-start-2
 part-number-6-start-2 c = (own c.before).kd_order
 
-part-number-6-end-2 : tie.Need-slice-bounds-number-6-end-2
+part-number-6-end-2 : tie.Need-slice_bounds-number_6-end-2
 part-number-6-end-2 c = (own c.before).kd_inside
 
-number-6-requires : tie.Need-number-6-requires
+number-6-requires : tie.Need-number_6-requires
 number-6-requires c κs =
-    let d = c.before.before in
-    let i = own d in
-    let st = d.before.before.before.before.before.before.before.before.before.before in
-    ((_, policy-names _ i.gsa_whole), (_, bag-names _ _ i.kd_whole), st.requires.0)
+    let i = own c.before.before in
+    ((_, policy-names _ i.gsa_whole), (_, bag-names _ _ i.kd_whole), c.requires.count_le_sas)
 
-returns-3 : tie.Need-returns-3
+returns-3 : tie.Need-returns-then-number_6
 returns-3 c =
-    let n6 = c.before in
-    let e5 = n6.before.before.before.before.before.before.before in
-    let n5 = e5.before in
-    let e4 = n5.before in
-    let n4 = e4.before in
-    let st = n4.before.before.before in
-    let a = st.args in
+    let a = c.args in
     λ f q.
-    at-6 a.state a.tick a.lent.now a.s.now st.requires.0 a.row a.x st.requires.1.1.0 _ n4.number-4.ensures
-    e4.if1.false _ n5.number-5.ensures e5.if2.false _ n6.number-6.ensures c.if3.true f q (st.requires.1.1.1 f q)
+    at-6 a.state a.tick a.lent.now a.s.now c.requires.count_le_sas a.row a.x c.requires.x_value _ c.number_4.ensures
+    c.if-number_4.false _ c.number_5.ensures c.if-number_5.false _ c.number_6.ensures c.if-number_6.true f q (c.requires.f_value f q)
 
-count-standing-requires : tie.Need-count-standing-requires
+count-standing-requires : tie.Need-count_standing-requires
 count-standing-requires c κs = search rules
 
-number-7-requires : tie.Need-number-7-requires
+number-7-requires : tie.Need-number_7-requires
 number-7-requires c κs = search rules
 
-returns-4 : tie.Need-returns-4
+returns-4 : tie.Need-returns-then-number_7
 returns-4 c =
-    let n7 = c.before in
-    let sd = n7.before in
-    let e6 = sd.before in
-    let n6 = e6.before in
-    let e5 = n6.before.before.before.before.before.before.before in
-    let n5 = e5.before in
-    let e4 = n5.before in
-    let n4 = e4.before in
-    let st = n4.before.before.before in
-    let a = st.args in
+    let a = c.args in
     λ f q.
-    at_7 a.state a.tick a.lent.now a.s.now st.requires.0 a.row a.x st.requires.1.1.0 _ n4.number-4.ensures
-    e4.if1.false _ n5.number-5.ensures e5.if2.false _ n6.number-6.ensures e6.if3.false _ sd.count-standing.ensures _
-    n7.number-7.ensures c.if4.true f q (st.requires.1.1.1 f q)
+    at_7 a.state a.tick a.lent.now a.s.now c.requires.count_le_sas a.row a.x c.requires.x_value _ c.number_4.ensures
+    c.if-number_4.false _ c.number_5.ensures c.if-number_5.false _ c.number_6.ensures c.if-number_6.false _ c.count_standing.ensures _
+    c.number_7.ensures c.if-number_7.true f q (c.requires.f_value f q)
 
-returns-5 : tie.Need-returns-5
+returns-5 : tie.Need-returns
 returns-5 c =
-    let n7 = c.before in
-    let sd = n7.before in
-    let e6 = sd.before in
-    let n6 = e6.before in
-    let e5 = n6.before.before.before.before.before.before.before in
-    let n5 = e5.before in
-    let e4 = n5.before in
-    let n4 = e4.before in
-    let st = n4.before.before.before in
-    let a = st.args in
+    let a = c.args in
     λ f q.
-    at_none a.state a.tick a.lent.now a.s.now st.requires.0 a.row a.x st.requires.1.1.0 _ n4.number-4.ensures
-    e4.if1.false _ n5.number-5.ensures e5.if2.false _ n6.number-6.ensures e6.if3.false _ sd.count-standing.ensures _
-    n7.number-7.ensures c.if4.false f q (st.requires.1.1.1 f q)
+    at_none a.state a.tick a.lent.now a.s.now c.requires.count_le_sas a.row a.x c.requires.x_value _ c.number_4.ensures
+    c.if-number_4.false _ c.number_5.ensures c.if-number_5.false _ c.number_6.ensures c.if-number_6.false _ c.count_standing.ensures _
+    c.number_7.ensures c.if-number_7.false f q (c.requires.f_value f q)
 
 pub on-facts-spec : {M : Type 1} → statement M
 on-facts-spec =

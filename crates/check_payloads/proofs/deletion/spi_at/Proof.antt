@@ -6,42 +6,40 @@ use borrow.Author.Rules.{rules}
 use Rattle.check_payloads.proofs.deletion.spi_at.Statement.{statement}
 use Rattle.check_payloads.proofs.deletion.spi_at.Tie as tie
 
-shared-slice-read-wide : tie.Need-shared-slice-read-wide
-shared-slice-read-wide c = omega (arith, least c.before.before.args.o.now c.before.before.requires.0)
+shared-slice-read-wide : tie.Need-bounds-o-1
+shared-slice-read-wide c = omega (arith, least c.args.o.now c.requires.0)
 
-wide-requires : tie.Need-wide-requires
+wide-requires : tie.Need-wide-size-requires
 wide-requires c κs = search rules
 
-inside : (c : tie.After-wide)
-    → let a = c.before.before.before.args in
-    let z = c.wide.result in
+inside : (c : tie.After-wide-size)
+    → let a = c.args in
+    let z = c.wide-size.result in
     4 + z * a.i + z ≤ length a.o.now
 inside c =
-    let d = c.before.before.before in
-    spi-inside d.args.o.now d.requires.0 d.args.i c.wide.result c.wide.ensures.0 d.requires.1
+    spi-inside c.args.o.now c.requires.0 c.args.i c.wide-size.result c.wide-size.ensures.0 c.requires.1
 
-mul-a : tie.Need-overflow-mul-a
+mul-a : tie.Need-overflow_mul-a
 mul-a c = record { fits = omega (arith, inside c) }
 
-add_a : tie.Need-overflow-add-a
+add_a : tie.Need-overflow_add-a
 add_a c = record { fits = omega (arith, inside c) }
 
-add-e : tie.Need-overflow-add-e
+add-e : tie.Need-overflow_add-e
 add-e c = record { fits = omega (arith, inside c) }
 
-sub-result : tie.Need-overflow-sub-result
+sub-result : tie.Need-slice_bounds-result-count
 sub-result c = omega arith
 
-part-result-start : tie.Need-slice-bounds-result-start
+part-result-start : tie.Need-slice_bounds-result-start
 part-result-start c = omega arith
 
-part-result-end : tie.Need-slice-bounds-result-end
+part-result-end : tie.Need-slice_bounds-result-end
 part-result-end c = omega (arith, inside c)
 
 returns : tie.Need-returns
 returns c =
-    let d = c.before.before.before.before in
-    spi-is d.args.o.now d.requires.0 d.args.i c.before.wide.result c.before.wide.ensures.0 d.requires.1
+    spi-is c.args.o.now c.requires.0 c.args.i c.wide-size.result c.wide-size.ensures.0 c.requires.1
 
 pub spi-at-spec : {M : Type 1} → statement M
 spi-at-spec =

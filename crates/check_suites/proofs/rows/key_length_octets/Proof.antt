@@ -15,81 +15,81 @@ use borrow.Author.Rules.{rules}
 use Rattle.check_suites.proofs.rows.key_length_octets.Statement.{statement}
 use Rattle.check_suites.proofs.rows.key_length_octets.Tie as tie
 
-abbrev invariant-loop : tie.invariant-loop
+abbrev invariant-loop : tie.invariant-loop-start
 invariant-loop place id a total₀ at₀ total at =
     (at ≤ length a) × (is_whole (attributes place 0 (drop at a)) ≡ true) × (total ≤ 36 * at)
     × (key_length_needs id place a ≡ total + key_length_needs id place (drop at a))
 
-abbrev decreases-loop : tie.decreases-loop
+abbrev decreases-loop : tie.decreases-loop-start
 decreases-loop place id a total₀ at₀ total at = length a - at
 
-loop-holds : tie.Need-loop-init invariant-loop decreases-loop
-loop-holds c = (omega arith, c.before.requires.1, omega arith, omega arith)
+loop-holds : tie.Need-loop-start-init invariant-loop decreases-loop
+loop-holds c = (omega arith, c.requires.1, omega arith, omega arith)
 
-next-attribute-requires : tie.Need-next-attribute-requires invariant-loop decreases-loop
-next-attribute-requires c κs = (c.loop.invariant.0, c.loop.invariant.1)
+next-attribute-requires : tie.Need-next_attribute-requires invariant-loop decreases-loop
+next-attribute-requires c κs = (c.loop-start.invariant.0, c.loop-start.invariant.1)
 
-enum-known-start : tie.Need-enum-known-start invariant-loop decreases-loop
+enum-known-start : tie.Need-enum_known-start invariant-loop decreases-loop
 enum-known-start c = search rules
 
-met : (c : tie.After-known-told invariant-loop decreases-loop)
-    → let a = c.before.before.before.before.before.before.args in
-    let v = c.before.start.given.0 in
-    MetAt KeyLength a.place a.a.now c.before.before.before.before.loop.at v.0 v.1.0
+met : (c : tie.In-At invariant-loop decreases-loop)
+    → let a = c.args in
+    let v = c.start-1.given.0 in
+    MetAt KeyLength a.place a.a.now c.loop-start.at v.0 v.1.0
 met c =
-    let a = c.before.before.before.before.before.before.args in
-    subst (FindsValue KeyLength a.place a.a.now c.before.before.before.before.loop.at) c.before.start.given.1
-    c.before.before.before.next-attribute.ensures
+    let a = c.args in
+    subst (FindsValue KeyLength a.place a.a.now c.loop-start.at) c.in-At.is
+    c.next_attribute.ensures
 
-attribute-value-requires : tie.Need-attribute-value-requires invariant-loop decreases-loop
+attribute-value-requires : tie.Need-attribute_value-v-requires invariant-loop decreases-loop
 attribute-value-requires c κs = search rules
 
 -- the value handed on is the one found
-value : (c : tie.After-attribute-value invariant-loop decreases-loop)
-    → let s = c.before.before.before.before.before.before.before.args.a.now in
-    let v = c.before.before.start.given.0 in
-    c.attribute-value.result.now ≡ part s (value_start s v.0) v.1.0
-value c = c.attribute-value.ensures.0 ∙ (met c.before).octets
+value : (c : tie.After-attribute_value-v invariant-loop decreases-loop)
+    → let s = c.args.a.now in
+    let v = c.start-1.given.0 in
+    c.attribute_value-v.result.now ≡ part s (value_start s v.0) v.1.0
+value c = c.attribute_value-v.ensures.result_value ∙ (met c.before).octets
 
-be16-at-requires : tie.Need-be16-at-requires invariant-loop decreases-loop
+be16-at-requires : tie.Need-be16_at-requires invariant-loop decreases-loop
 be16-at-requires c κs =
-    let a = c.before.before.before.before.before.before.before.args in
+    let a = c.args in
     subst (λ (x : List ℕ). 0 + 2 ≤ length x) (sym (value c)) (two-octets a.id a.place a.a.now _ _ _ (met c.before).value)
 
-needed-requires : tie.Need-needed-requires invariant-loop decreases-loop
-needed-requires c κs = (omega arith, c.before.before.before.before.before.before.before.before.requires.0, c.be16-at.ensures.1)
+needed-requires : tie.Need-needed-total-requires invariant-loop decreases-loop
+needed-requires c κs = (omega arith, c.requires.0, c.be16_at.ensures.1)
 
-add_total : tie.Need-overflow-add-total invariant-loop decreases-loop
+add_total : tie.Need-overflow_add-total invariant-loop decreases-loop
 add_total c =
-    let l = c.before.before.before.before.before.before.before.loop in
-    let p = c.before.before.before.before.before.before.before.before.before.requires in
-    record { fits = omega (arith, l.invariant.0, l.invariant.2, c.needed.ensures.1, p.2) }
+    let l = c.loop-start in
+    let p = c.requires in
+    record { fits = omega (arith, l.invariant.0, l.invariant.2, c.needed-total.ensures.1, p.2) }
 
-loop-less : tie.Need-loop-smaller invariant-loop decreases-loop
+loop-less : tie.Need-loop-start-smaller invariant-loop decreases-loop
 loop-less c = let f = (met c.before.before.before).value in omega (arith, f.start, f.order, f.inside)
 
-loop-again : tie.Need-loop-preserved invariant-loop decreases-loop
+loop-again : tie.Need-loop-start-preserved invariant-loop decreases-loop
 loop-again c =
     let f = (met c.before.before.before).value in
-    let l = c.before.before.before.before.before.before.before.loop in
-    let a = c.before.before.before.before.before.before.before.before.before.args in
-    let q = c.before.be16-at.ensures.0 ∙ ap (λ (x : List ℕ). be16 x 0) (value c.before.before) in
-    let m = one_more a.id a.place a.a.now l.at _ _ f c.before.be16-at.result q in (
+    let l = c.loop-start in
+    let a = c.args in
+    let q = c.be16_at.ensures.0 ∙ ap (λ (x : List ℕ). be16 x 0) (value c.before.before) in
+    let m = one_more a.id a.place a.a.now l.at _ _ f c.be16_at.result q in (
       f.inside,
       f.rest,
-      omega (arith, l.invariant.2, f.start, f.order, c.needed.ensures.1),
-      omega (arith, l.invariant.3, m, c.needed.ensures.0),
+      omega (arith, l.invariant.2, f.start, f.order, c.needed-total.ensures.1),
+      omega (arith, l.invariant.3, m, c.needed-total.ensures.0),
     )
 
-enum_told : tie.Need-enum-told invariant-loop decreases-loop
+enum_told : tie.Need-enum_told-1 invariant-loop decreases-loop
 enum_told c = search rules
 
-returns : tie.Need-returns invariant-loop decreases-loop
+returns : tie.Need-returns-in-Nothing invariant-loop decreases-loop
 returns c =
-    let a = c.before.before.before.before.before.args in
-    let l = c.before.before.before.loop in
+    let a = c.args in
+    let l = c.loop-start in
     let f : values_in KeyLength a.place (drop l.at a.a.now) ≡ [] =
-    (subst (FindsValue KeyLength a.place a.a.now l.at) c.enum_told.given.1 c.before.before.next-attribute.ensures).0 in
+    (subst (FindsValue KeyLength a.place a.a.now l.at) c.in-Nothing.is c.next_attribute.ensures).0 in
     (omega (arith, l.invariant.3, no-more a.id a.place (drop l.at a.a.now) f), omega (arith, l.invariant.0, l.invariant.2))
 
 pub key-length-octets-spec : {M : Type 1} → statement M

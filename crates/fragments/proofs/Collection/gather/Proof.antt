@@ -11,114 +11,90 @@ use Rattle.fragments.proofs.Collection.gather.Statement.{statement}
 use Rattle.fragments.proofs.Collection.gather.Tie as tie
 
 -- the arrays of the collection have their sizes
-long : (c : tie.After-kept) → LongCollection c.before.before.args.t1
+long : (c : tie.After-kept-1) → LongCollection c.args.self
 long c =
-    let g = c.before.before.well-formed.0.1.1 in
-    let a = c.before.before.args.t1 in
+    let g = c.well_formed.0.1.1 in
+    let a = c.args.self in
     let s : length a.spis ≡ rekey_spi_octets = search (length-of-map, g.0) in
     let p : length a.pieces ≡ most_fragments = search (length-of-map, g.1.1.1.1.0) in
     let o : length a.octets ≡ most_octets = search (length-of-map, g.1.1.1.1.1.1.1.1) in
     record { spis-size = s; pieces-size = p; octets-size = o }
 
-pieces-ahead-requires : tie.Need-pieces-ahead-requires
+pieces-ahead-requires : tie.Need-pieces_ahead-ahead-requires
 pieces-ahead-requires c κs =
-    let k = c in
-    let s = k.before.before in
-    let a = s.args in
-    let h = few a.t1 a.f (long k) s.requires.0 a.piece.now a.n s.requires.1 in
+    let a = c.args in
+    let h = few a.t1 a.f (long c) c.requires.le_total a.piece.now a.n c.requires.taking in
     omega arith
 
-frame-octets-requires : tie.Need-frame-octets-requires
+frame-octets-requires : tie.Need-frame_octets-before-requires
 frame-octets-requires c κs =
-    let k = c.before in
-    let s = k.before.before in
-    let a = s.args in
-    let h = few a.t1 a.f (long k) s.requires.0 a.piece.now a.n s.requires.1 in
-    let r = c.pieces-ahead.ensures.1 in
+    let a = c.args in
+    let h = few a.t1 a.f (long c.before) c.requires.le_total a.piece.now a.n c.requires.taking in
+    let r = c.pieces_ahead-ahead.ensures.1 in
     omega arith
 
-sub-before : tie.Need-overflow-sub-before
+sub-before : tie.Need-overflow_sub-before
 sub-before c =
-    let k = c.before.before in
-    let s = k.before.before in
-    let a = s.args in
-    let p = c.before.pieces-ahead in
-    let e = before-is a.t1 a.f (long k) s.requires.0 a.piece.now a.n s.requires.1
+    let a = c.args in
+    let p = c.pieces_ahead-ahead in
+    let e = before-is a.t1 a.f (long c.before.before) c.requires.le_total a.piece.now a.n c.requires.taking
     p.result p.ensures.0 p.ensures.1
-    c.frame-octets.result c.frame-octets.ensures in
+    c.frame_octets-before.result c.frame_octets-before.ensures in
     omega arith
 
-frame-octets-requires-2 : tie.Need-frame-octets-requires-2
+frame-octets-requires-2 : tie.Need-frame_octets-size-requires
 frame-octets-requires-2 c κs =
-    let k = c.before.before in
-    let s = k.before.before in
-    let a = s.args in
-    let h = few a.t1 a.f (long k) s.requires.0 a.piece.now a.n s.requires.1 in
+    let a = c.args in
+    let h = few a.t1 a.f (long c.before.before) c.requires.le_total a.piece.now a.n c.requires.taking in
     omega arith
 
-sub-size : tie.Need-overflow-sub-size
+sub-size : tie.Need-overflow_sub-size
 sub-size c =
-    let k = c.before.before.before in
-    let s = k.before.before in
-    let a = s.args in
-    let e = size_is a.t1 a.f (long k) s.requires.0 a.piece.now a.n s.requires.1
-    c.frame-octets2.result c.frame-octets2.ensures in
+    let a = c.args in
+    let e = size_is a.t1 a.f (long c.before.before.before) c.requires.le_total a.piece.now a.n c.requires.taking
+    c.frame_octets-size.result c.frame_octets-size.ensures in
     omega arith
 
-with-piece-requires : tie.Need-with-piece-requires
+with-piece-requires : tie.Need-with_piece-pieces-requires
 with-piece-requires c κs =
-    let k = c.before.before.before in
-    let s = k.before.before in
-    let a = s.args in
-    few a.t1 a.f (long k) s.requires.0 a.piece.now a.n s.requires.1
+    let a = c.args in
+    few a.t1 a.f (long c.before.before.before) c.requires.le_total a.piece.now a.n c.requires.taking
 
-lead-requires : tie.Need-lead-requires
+lead-requires : tie.Need-lead-named-requires
 lead-requires c κs =
-    let k = c.before.before.before.before in
-    let s = k.before.before in
-    let a = s.args in
-    let h = few a.t1 a.f (long k) s.requires.0 a.piece.now a.n s.requires.1 in
+    let a = c.args in
+    let h = few a.t1 a.f (long c.before.before.before.before) c.requires.le_total a.piece.now a.n c.requires.taking in
     omega arith
 
-add-t15 : tie.Need-overflow-add-t15
+add-t15 : tie.Need-overflow_add-next
 add-t15 c =
-    let k = c.before.before.before.before.before.before in
-    let s = k.before.before in
-    let a = s.args in
-    let h = few a.t1 a.f (long k) s.requires.0 a.piece.now a.n s.requires.1 in
+    let a = c.args in
+    let h = few a.t1 a.f (long c.before.before.before.before.before.before) c.requires.le_total a.piece.now a.n c.requires.taking in
     record { fits = omega arith }
 
-join-within-requires : tie.Need-join-within-requires
+join-within-requires : tie.Need-join_within-requires
 join-within-requires c κs =
-    let k = c.before.before.before.before.before.before.before.before.before.before in
-    let s = k.before.before in
-    let a = s.args in
-    let o = c.before.before.before.before.before.before.before in
-    let p = o.before.before.pieces-ahead in
-    joins a.t1 a.f (long k) s.requires.0 a.piece.now a.n s.requires.1
-    p.result p.ensures.0 p.ensures.1 o.before.frame-octets.result
-    o.before.frame-octets.ensures o.frame-octets2.result o.frame-octets2.ensures (replicate most_octets 0)
+    let a = c.args in
+    let p = c.pieces_ahead-ahead in
+    joins a.t1 a.f (long c.before.before.before.before.before.before.before.before.before) c.requires.le_total a.piece.now a.n c.requires.taking
+    p.result p.ensures.0 p.ensures.1 c.frame_octets-before.result
+    c.frame_octets-before.ensures c.frame_octets-size.result c.frame_octets-size.ensures (replicate most_octets 0)
     (length-replicate {A = ℕ} most_octets 0)
 
 returns : tie.Need-returns
 returns c =
-    let k = c.before.before.before.before.before.before.before.before.before.before.before in
-    let s = k.before.before in
-    let a = s.args in
-    let o = c.before.before.before.before.before.before.before.before in
-    let w = c.before.before.before.before.before.before.before in
-    let l = c.before.before.before.before.before.before in
-    let p = o.before.before.pieces-ahead in
-    let x = before-is a.t1 a.f (long k) s.requires.0 a.piece.now a.n s.requires.1
+    let a = c.args in
+    let p = c.pieces_ahead-ahead in
+    let x = before-is a.t1 a.f (long c.before.before.before.before.before.before.before.before.before.before) c.requires.le_total a.piece.now a.n c.requires.taking
     p.result p.ensures.0 p.ensures.1
-    o.before.frame-octets.result o.before.frame-octets.ensures in
-    let y = size_is a.t1 a.f (long k) s.requires.0 a.piece.now a.n s.requires.1
-    o.frame-octets2.result o.frame-octets2.ensures in
-    gathers a.t1 a.f (long k) s.requires.0 a.piece.now a.n s.requires.1
-    l.lead.result l.lead.ensures w.with-piece.result
-    w.with-piece.ensures (replicate most_octets 0) c.join-within.new.1.1.1.1.0 refl
-    (o.frame-octets2.result - header_octets) (o.before.frame-octets.result - header_octets) (omega arith) (omega arith)
-    c.join-within.ensures
+    c.frame_octets-before.result c.frame_octets-before.ensures in
+    let y = size_is a.t1 a.f (long c.before.before.before.before.before.before.before.before.before.before) c.requires.le_total a.piece.now a.n c.requires.taking
+    c.frame_octets-size.result c.frame_octets-size.ensures in
+    gathers a.t1 a.f (long c.before.before.before.before.before.before.before.before.before.before) c.requires.le_total a.piece.now a.n c.requires.taking
+    c.lead-named.result c.lead-named.ensures c.with_piece-pieces.result
+    c.with_piece-pieces.ensures (replicate most_octets 0) c.join_within.new.out.0 refl
+    (c.frame_octets-size.result - header_octets) (c.frame_octets-before.result - header_octets) (omega arith) (omega arith)
+    c.join_within.ensures
 
 pub gather-spec : {M : Type 1} → statement M
 gather-spec =

@@ -11,57 +11,48 @@ use Rattle.fragments.proofs.Collection.write_whole.Statement.{statement}
 use Rattle.fragments.proofs.Collection.write_whole.Tie as tie
 
 -- the arrays of the collection have their sizes
-long : (c : tie.After-pieces) → LongCollection c.before.before.args.t1
+long : (c : tie.After-pieces-1) → LongCollection c.args.self
 long c =
-    let g = c.before.before.well-formed.0.1.1 in
-    let a = c.before.before.args.t1 in
+    let g = c.well_formed.0.1.1 in
+    let a = c.args.self in
     let s : length a.spis ≡ rekey_spi_octets = search (length-of-map, g.0) in
     let p : length a.pieces ≡ most_fragments = search (length-of-map, g.1.1.1.1.0) in
     let o : length a.octets ≡ most_octets = search (length-of-map, g.1.1.1.1.1.1.1.1) in
     record { spis-size = s; pieces-size = p; octets-size = o }
 
-frame-octets-requires : tie.Need-frame-octets-requires
+frame-octets-requires : tie.Need-frame_octets-size-requires
 frame-octets-requires c κs =
-    let s = c.before.before in
-    few-held s.args.t1 s.requires.0.0 s.requires.0.1
+    few-held c.args.self c.requires.holding.0 c.requires.holding.1
 
-make-header-requires : tie.Need-make-header-requires
+make-header-requires : tie.Need-make_header-h-requires
 make-header-requires c κs =
-    let s = c.before.before.before in
-    small-counted s.args.t1 s.requires.0.0 s.requires.0.1 c.frame-octets.result c.frame-octets.ensures
+    small-counted c.args.self c.requires.holding.0 c.requires.holding.1 c.frame_octets-size.result c.frame_octets-size.ensures
 
-slice-aggregate-put-frame : tie.Need-slice-aggregate-put-frame
+slice-aggregate-put-frame : tie.Need-slice_bounds-put_frame-end
 slice-aggregate-put-frame c = search rules
 
-put-frame-requires : tie.Need-put-frame-requires
+put-frame-requires : tie.Need-put_frame-requires
 put-frame-requires c κs =
-    let m = c.before.before.before.before.before in
-    let k = m.before in
-    let s = k.before.before.before in
-    let a = s.args.t1 in
-    let l = long k.before in
+    let a = c.args.self in
+    let l = long c.before.before.before.before.before.before in
     let o = l.octets-size in
-    let e = size-counted a s.requires.0.0 s.requires.0.1 k.frame-octets.result k.frame-octets.ensures in
-    let f = small-counted a s.requires.0.0 s.requires.0.1 k.frame-octets.result k.frame-octets.ensures in
-    let r = s.requires.1 in
-    let h = ap length m.make-header.ensures ∙ header-size a k.frame-octets.result l.spis-size in
+    let e = size-counted a c.requires.holding.0 c.requires.holding.1 c.frame_octets-size.result c.frame_octets-size.ensures in
+    let f = small-counted a c.requires.holding.0 c.requires.holding.1 c.frame_octets-size.result c.frame_octets-size.ensures in
+    let r = c.requires.most_octets_in_bounds in
+    let h = ap length c.make_header-h.ensures ∙ header-size a c.frame_octets-size.result l.spis-size in
     ((h, omega arith), (omega arith, omega arith))
 
-same_length : tie.Need-same-length
+same_length : tie.Need-shape_of-room
 same_length c = search rules
 
 returns : tie.Need-returns
 returns c =
     λ w e.
-    let p = c.before.before in
-    let m = p.before.before.before.before.before.before in
-    let k = m.before in
-    let s = k.before.before.before in
-    let a = s.args.t1 in
-    let l = long k.before in
-    let f = size-counted a s.requires.0.0 s.requires.0.1 k.frame-octets.result k.frame-octets.ensures in
-    written k.frame-octets.result m.make-header.result s.args.room.now _ w a e l.spis-size f m.make-header.ensures
-    p.put-frame.ensures
+    let a = c.args.self in
+    let l = long c.before.before.before.before.before.before.before.before.before in
+    let f = size-counted a c.requires.holding.0 c.requires.holding.1 c.frame_octets-size.result c.frame_octets-size.ensures in
+    written c.frame_octets-size.result c.make_header-h.result c.args.room.now _ w a e l.spis-size f c.make_header-h.ensures
+    c.put_frame.ensures
 
 pub write-whole-spec : {M : Type 1} → statement M
 write-whole-spec =

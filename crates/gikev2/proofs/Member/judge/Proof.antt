@@ -13,18 +13,17 @@ use Rattle.gikev2.proofs.Member.judge.Statement.{statement}
 use Rattle.gikev2.proofs.Member.judge.Tie as tie
 
 refusal-requires : tie.Need-refusal-requires
-refusal-requires c κs = ap is_whole c.before.before.before.requires.1
+refusal-requires c κs = ap is_whole c.requires.1
 
-enum-known-number : tie.Need-enum-known-number
+enum-known-number : tie.Need-enum_known-number
 enum-known-number c = search rules
 
-answer-of-requires : tie.Need-answer-of-requires
+answer-of-requires : tie.Need-answer_of-answer-requires
 answer-of-requires c κs =
-    let m = c.before.number.given in
-    let r = c.before.before.before.refusal in
-    let b = c.before.before.before.before.before.before.before in
-    let a = b.args in
-    let p = b.requires in
+    let m = c.number-1.given in
+    let r = c.refusal in
+    let a = c.args in
+    let p = c.requires in
     let n = refused-so _ _ m.0.0 (sym m.1 ∙ r.ensures p.0 p.1) in
     judged-numbered a.self.state a.tick a.lent.now p.0 a.s.now p.1 _ _
     (judged-clauses a.self.state a.tick a.lent.now p.0 m.0.0 n.0 (λ z. n.1 (sym n.0 ∙ z)))
@@ -32,37 +31,36 @@ answer-of-requires c κs =
 refuse-requires : tie.Need-refuse-requires
 refuse-requires c κs = search rules
 
-enum-known-x : tie.Need-enum-known-x
+enum-known-x : tie.Need-enum_known-x
 enum-known-x c = search rules
 
 -- numbers 2 to 7 let the frame pass
-passes : (c : tie.After-known-told2) (f : Frame) →
-    let a = c.before.before.before.before.before.before.before.args in
+passes : (c : tie.In-Passed) (f : Frame) →
+    let a = c.args in
     frame a.self.state.profile a.s.now ≡ whole f [] → Passed a.self.state a.tick a.lent.now a.s.now
-    c.before.x.given.0.0 f
+    c.in-Passed.x f
 passes c f q =
-    let m = c.before.x.given in
-    let n = passed-so _ _ m.0.0 (sym m.1 ∙ c.before.before.before.refusal.ensures f q) in
+    let m = c.x-1.given in
+    let n = passed-so _ _ m.0.0 (sym m.1 ∙ c.refusal.ensures f q) in
     record { whole_is = q; clauses = n.0; facts = n.1 }
 
-decide-frame-requires : tie.Need-decide-frame-requires
-decide-frame-requires c κs = let p = c.before.before.before.before.before.before.before.requires in (p.0, passes c p.0 p.1)
+decide-frame-requires : tie.Need-decide_frame-requires
+decide-frame-requires c κs = let p = c.requires in (p.0, passes c p.0 p.1)
 
-returns : tie.Need-returns
+returns : tie.Need-returns-in-Refused
 returns c =
-    let d = c.before.before in
     let e = c.refuse.ensures in
-    let m = d.before.number.given in
-    let r = d.before.before.before.refusal in
-    let a = d.before.before.before.before.before.before.before.args in
+    let m = c.number-1.given in
+    let r = c.refusal in
+    let a = c.args in
     λ f q.
     let n = refused-so _ _ m.0.0 (sym m.1 ∙ r.ensures f q) in
-    judged-as a.self.state a.tick a.lent.now f _ _ _ _ (ap number_of e.0 ∙ c.before.answer-of.ensures)
+    judged-as a.self.state a.tick a.lent.now f _ _ _ _ (ap number_of e.0 ∙ c.answer_of-answer.ensures)
     (ap (λ (x : Member). x.state) e.1)
     (judged-clauses a.self.state a.tick a.lent.now f m.0.0 n.0 (λ z. n.1 (sym n.0 ∙ z)))
 
-returns-2 : tie.Need-returns-2
-returns-2 c = λ f q. c.decide-frame.ensures f (passes c.before f q)
+returns-2 : tie.Need-returns-in-Passed
+returns-2 c = λ f q. c.decide_frame.ensures f (passes c.before f q)
 
 pub judge-spec : {M : Type 1} → statement M
 judge-spec =

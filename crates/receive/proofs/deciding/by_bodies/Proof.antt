@@ -1,4 +1,3 @@
--- `receive::deciding::by_bodies` meets its contract.
 use mathlib.Core.Path.{refl, ap}
 use Rattle.wire_frames.specs.Frame.{Frame}
 use Rattle.wire_readers.specs.inner.Values.{is_whole}
@@ -8,66 +7,67 @@ use Rattle.receive.proofs.BodyLaws.{bagged-by}
 use Rattle.receive.proofs.deciding.by_bodies.Statement.{statement}
 use Rattle.receive.proofs.deciding.by_bodies.Tie as tie
 
-row-of-requires : tie.Need-row-of-requires
+-- `receive::deciding::by_bodies` meets its contract.
+
+row-of-requires : tie.Need-row_of-row-requires
 row-of-requires c κs =
-    (c.before.before.before.before.args.state.profile, ap is_whole c.before.before.before.before.requires.1.1.passed.whole_is)
+    (c.args.state.profile, ap is_whole c.requires.bodied.1.passed.whole_is)
 
 -- the frame's bodies, by the row that was read
-bodies : (c : tie.After-row-of) (f : Frame) →
-    let a = c.before.before.before.before.before.args in
+bodies : (c : tie.After-row_of-row) (f : Frame) →
+    let a = c.args in
     Bodied a.state a.tick a.lent.now a.frame.now a.x a.gsa.now a.kd.now f →
-    Bagged c.row_of.result a.state a.tick a.lent.now a.gsa.now a.kd.now a.x.member_bag f
-bodies c f b = bagged-by b c.row_of.result (c.row_of.ensures _ f b.passed.whole_is)
+    Bagged c.row_of-row.result a.state a.tick a.lent.now a.gsa.now a.kd.now a.x.member_bag f
+bodies c f b = bagged-by b c.row_of-row.result (c.row_of-row.ensures _ f b.passed.whole_is)
 
-key-zero-requires : tie.Need-key-zero-requires
+key-zero-requires : tie.Need-key_zero-zero-requires
 key-zero-requires c κs =
-    let a = c.before.before.before.before.before.before.args in
-    let p = c.before.before.before.before.before.before.requires.1 in
-    (c.before.row_of.result, a.state, a.gsa.now, a.kd.now, a.x.member_bag, p.0, refl, refl, bodies c.before p.0 p.1)
+    let a = c.args in
+    let p = c.requires.bodied in
+    (c.row_of-row.result, a.state, a.gsa.now, a.kd.now, a.x.member_bag, p.0, refl, refl, bodies c.before p.0 p.1)
 
 -- what its keys are opened with, for every frame that the octets are
-opening : (c : tie.After-key-zero) (f : Frame) →
-    let a = c.before.before.before.before.before.before.before.args in
-    let row = c.before.before.row_of.result in
+opening : (c : tie.After-key_zero-zero) (f : Frame) →
+    let a = c.args in
+    let row = c.row_of-row.result in
     Bodied a.state a.tick a.lent.now a.frame.now a.x a.gsa.now a.kd.now f →
     Openable row a.state a.tick a.lent.now a.gsa.now a.kd.now a.x.member_bag a.state.held
-    c.key-zero.result (reads_by a.state row) f
+    c.key_zero-zero.result (reads_by a.state row) f
 opening c f b =
     let w = bodies c.before.before f b in
-    record { bagged = w; list = refl; key = c.key-zero.ensures _ _ _ _ _ f refl refl w; fresh = refl }
+    record { bagged = w; list = refl; key = c.key_zero-zero.ensures _ _ _ _ _ f refl refl w; fresh = refl }
 
-open-keys-requires : tie.Need-open-keys-requires
+open-keys-requires : tie.Need-open_keys-opened-requires
 open-keys-requires c κs =
-    let p = c.before.before.before.before.before.before.before.before.before.before.requires in (
+    let p = c.requires in (
       p.0,
       (
-        c.before.before.before.before.before.before.before.before.before.before.args.state,
-        c.before.before.before.before.before.before.before.before.before.before.args.lent.now,
+        c.args.state,
+        c.args.lent.now,
         p.1.0,
-        opening
-            c.before.before.before p.1.0 p.1.1,
+        opening c.before.before.before.before p.1.0 p.1.1,
       ),
     )
 
 -- its keys opened
-opened : (c : tie.After-open-keys) (f : Frame) →
-    let a = c.before.before.before.before.before.before.before.before.before.before.before.args in
+opened : (c : tie.After-open_keys-opened) (f : Frame) →
+    let a = c.args in
     Bodied a.state a.tick a.lent.now a.frame.now a.x a.gsa.now a.kd.now f →
-    FrameWithKeys a.state a.tick a.lent.now a.frame.now a.x c.open-keys.result f
+    FrameWithKeys a.state a.tick a.lent.now a.frame.now a.x c.open_keys-opened.result f
 opened c f b =
-    record { passed = b.passed; opened = c.open-keys.ensures _ _ f (opening c.before.before.before.before f b) }
+    record { passed = b.passed; opened = c.open_keys-opened.ensures _ _ f (opening c.before.before.before.before.before f b) }
 
 conclude-requires : tie.Need-conclude-requires
 conclude-requires c κs =
-    let p = c.before.before.before.before.before.before.before.before.before.before.before.requires.1 in (
+    let p = c.requires.bodied in (
       p.0,
-      c.before.before.before.before.before.before.before.before.before.before.before.args.lent.now,
+      c.args.lent.now,
       opened c p.0
           p.1,
     )
 
 returns : tie.Need-returns
-returns c = λ f b. c.conclude.ensures f c.before.before.before.before.before.before.before.before.before.before.before.before.args.lent.now
+returns c = λ f b. c.conclude.ensures f c.args.lent.now
     (opened c.before f b)
 
 pub by-bodies-spec : {M : Type 1} → statement M

@@ -1,4 +1,3 @@
--- `receive::opening::held_after` meets its contract.
 use native.Mathlib.Omega.{arith}
 use Prim.Native.Nat.{ℕ, ◌≤◌, ◌<◌}
 use mathlib.Core.Path.{◌≡◌, ap, sym, ◌∙◌, subst}
@@ -17,62 +16,63 @@ use borrow.Author.Rules.{rules}
 use Rattle.receive.proofs.opening.held_after.Statement.{statement}
 use Rattle.receive.proofs.opening.held_after.Tie as tie
 
-held-before-requires : tie.Need-held-before-requires
+-- `receive::opening::held_after` meets its contract.
+
+held-before-requires : tie.Need-held_before-old-requires
 held-before-requires c κs = search rules
 
-openers-listed-requires : tie.Need-openers-listed-requires
+openers-listed-requires : tie.Need-openers_listed-n-requires
 openers-listed-requires c κs = search rules
 
 -- the list that the frame finds
-formed : (c : tie.After-held-before) → held_formed limits c.held-before.result ≡ true
+formed : (c : tie.After-held_before-old) → held_formed limits c.held_before-old.result ≡ true
 formed c =
-    let s = c.before in
-    ap (held_formed limits) c.held-before.ensures ∙ before-formed s.args.registers s.args.held s.requires.1
+    ap (held_formed limits) c.held_before-old.ensures ∙ before-formed c.args.registers c.args.held c.requires.held_value
 
-returns : tie.Need-returns
+returns : tie.Need-returns-then-n-eq0
 returns c roots l size f kept openers some =
-    let n = c.before.openers-listed in
-    let o = c.before.before.held-before in
-    let a = c.before.before.before.args in
-    let none = sym n.ensures.1 ∙ ap (λ (x : ℕ). take x a.openers.ids) c.if1.true in
+    let n = c.openers_listed-n in
+    let o = c.held_before-old in
+    let a = c.args in
+    let none = sym n.ensures.1 ∙ ap (λ (x : ℕ). take x a.openers.ids) c.if-n-eq0.true in
     subst (λ (x : Held). NextTold roots l size (new_rekey f) (rekey_copies f) x (record { over = false; held = o.result })) o.ensures
     (no-opener roots l size f (openers_of a.openers) openers some o.result (formed c.before.before) none)
 
 -- the KWK IDs that are lent
-long : (c : tie.After-kwks) → length c.before.before.before.before.args.openers.ids ≡ 32
+long : (c : tie.After-kwks-1) → length c.args.openers.ids ≡ 32
 long c = search rules
 
-array-share-prefix-kwks : tie.Need-array-share-prefix-kwks
-array-share-prefix-kwks c = omega (arith, long c, c.before.before.openers-listed.ensures.0)
+array-share-prefix-kwks : tie.Need-slice_bounds-kwks-end
+array-share-prefix-kwks c = omega (arith, long c, c.openers_listed-n.ensures.0)
 
-slice-aggregate-held-by-path : tie.Need-slice-aggregate-held-by-path
+slice-aggregate-held-by-path : tie.Need-slice_bounds-held_by_path-end
 slice-aggregate-held-by-path c =
-    let n = c.before.before.before.openers-listed in
-    let a = c.before.before.before.before.before.args in
+    let n = c.openers_listed-n in
+    let a = c.args in
     sym (length-take-le n.result a.openers.ids (omega (arith, long c.before, n.ensures.0)))
 
-some-listed : (c : tie.After-kwks2) →
-    0 < length (take c.before.before.before.openers-listed.result c.before.before.before.before.before.args.openers.ids)
+some-listed : (c : tie.After-kwks-2-1) →
+    0 < length (take c.openers_listed-n.result c.args.openers.ids)
 some-listed c =
-    let n = c.before.before.before.openers-listed in
-    let a = c.before.before.before.before.before.args in
+    let n = c.openers_listed-n in
+    let a = c.args in
     let e = length-take-le n.result a.openers.ids (omega (arith, long c.before, n.ensures.0)) in
-    let z = c.before.before.if1.false in
+    let z = c.if-n-eq0.false in
     omega (arith, e, z)
 
-held-by-path-requires : tie.Need-held-by-path-requires
+held-by-path-requires : tie.Need-held_by_path-requires
 held-by-path-requires c κs =
-    (c.before.before.before.before.before.requires.0, (formed c.before.before.before.before, some-listed c))
+    (c.requires.links_fit, (formed c.before.before.before.before, some-listed c))
 
-returns-2 : tie.Need-returns-2
+returns-2 : tie.Need-returns
 returns-2 c roots l size f kept openers some =
-    let n = c.before.before.before.before.openers-listed in
-    let o = c.before.before.before.before.before.held-before in
-    let a = c.before.before.before.before.before.before.args in
+    let n = c.openers_listed-n in
+    let o = c.held_before-old in
+    let a = c.args in
     let listed = subst (OpenersAre roots l size (rekey_copies f)) (sym n.ensures.1) openers in
-    subst (λ (x : Held). NextTold roots l size (new_rekey f) (rekey_copies f) x c.held-by-path.result) o.ensures
+    subst (λ (x : Held). NextTold roots l size (new_rekey f) (rekey_copies f) x c.held_by_path.result) o.ensures
     (by-openers roots l size f _ listed some o.result (formed c.before.before.before.before.before) (some-listed c.before)
-    c.held-by-path.result (c.held-by-path.ensures roots l size (rekey_copies f) kept listed))
+    c.held_by_path.result (c.held_by_path.ensures roots l size (rekey_copies f) kept listed))
 
 pub held-after-spec : {M : Type 1} → statement M
 held-after-spec =

@@ -1,4 +1,3 @@
--- `sealing::body::judge_body` meets its contract.
 use borrow.Author.Rules.{rules}
 use mathlib.Core.Path.{◌∙◌}
 use Prim.Native.Nat.{◌+◌, ◌-◌, ◌≤◌}
@@ -10,113 +9,102 @@ use Rattle.sealing.proofs.UnderLaws.{too_short, not-tagged, over-long, held}
 use Rattle.sealing.proofs.body.judge_body.Statement.{statement}
 use Rattle.sealing.proofs.body.judge_body.Tie as tie
 
--- the body has the least octets
-least_at : (c : tie.Else1) → c.before.before.before.args.at + 8 + 1 + 16 ≤ length c.before.before.before.args.frame.now
-least_at c = omega (arith, c.if1.false)
+-- `sealing::body::judge_body` meets its contract.
 
-add-text : tie.Need-overflow-add-text
+-- the body has the least octets
+least_at : (c : tie.Else-n-least) → c.args.at + 8 + 1 + 16 ≤ length c.args.frame.now
+least_at c = omega (arith, c.if-n-least.false)
+
+add-text : tie.Need-overflow_add-text
 add-text c = search rules
 
-add-least : tie.Need-overflow-add-least
+add-least : tie.Need-overflow_add-least
 add-least c = search rules
 
-add-least-2 : tie.Need-overflow-add-least-2
+add-least-2 : tie.Need-overflow_add-least-2
 add-least-2 c = search rules
 
-returns : tie.Need-returns
+returns : tie.Need-returns-then-n-least
 returns c =
-    let s = c.before.before.before in
-    (tt, λ part en e. too_short s.args.at part s.args.frame.now s.requires.1.1 c.if1.true)
+    (tt, λ part en e. too_short c.args.at part c.args.frame.now c.requires.nonce_len.1 c.if-n-least.true)
 
-sub-verify-tag : tie.Need-overflow-sub-verify-tag
+sub-verify-tag : tie.Need-slice_bounds-verify_tag-count
 sub-verify-tag c = search rules
 
-part-verify-tag-start : tie.Need-slice-bounds-verify-tag-start
+part-verify-tag-start : tie.Need-slice_bounds-verify_tag-start
 part-verify-tag-start c = search rules
 
-part-verify-tag-end : tie.Need-slice-bounds-verify-tag-end
+part-verify-tag-end : tie.Need-slice_bounds-verify_tag-end
 part-verify-tag-end c = search rules
 
-sub-verify-tag-2 : tie.Need-overflow-sub-verify-tag-2
+sub-verify-tag-2 : tie.Need-slice_bounds-verify_tag-count-2
 sub-verify-tag-2 c = search rules
 
-part-verify-tag-start-2 : tie.Need-slice-bounds-verify-tag-start-2
+part-verify-tag-start-2 : tie.Need-slice_bounds-verify_tag-start-2
 part-verify-tag-start-2 c = search rules
 
-part-verify-tag-end-2 : tie.Need-slice-bounds-verify-tag-end-2
+part-verify-tag-end-2 : tie.Need-slice_bounds-verify_tag-end-2
 part-verify-tag-end-2 c = search rules
 
-verify-tag-requires : tie.Need-verify-tag-requires
+verify-tag-requires : tie.Need-verify_tag-requires
 verify-tag-requires c κs =
-    let k = c.before.before in
-    let s = k.before.before.before in
-    let t = s.args.frame.now in
-    let x = part-size t 0 s.args.at s.requires.1.1 in
-    let y = part-size t (s.args.at + 8) (length t) (omega arith) in
-    let m = s.requires.1.2 in
-    let l = least_at k in
-    (s.requires.0, ((s.requires.1.0, omega (arith, x, m, s.requires.1.1)), (omega (arith, y, l), omega (arith, y, m))))
+    let t = c.args.frame.now in
+    let x = part-size t 0 c.args.at c.requires.nonce_len.1 in
+    let y = part-size t (c.args.at + 8) (length t) (omega arith) in
+    let m = c.requires.nonce_len.2 in
+    let l = least_at c.before.before in
+    (c.requires.tables_value, ((c.requires.nonce_len.0, omega (arith, x, m, c.requires.nonce_len.1)), (omega (arith, y, l), omega (arith, y, m))))
 
-sub-end : tie.Need-overflow-sub-end
+sub-end : tie.Need-overflow_sub-end
 sub-end c = search rules
 
-sub-gctr-at : tie.Need-overflow-sub-gctr-at
+sub-gctr-at : tie.Need-slice_bounds-gctr_at-count
 sub-gctr-at c = search rules
 
-part-gctr-at-start : tie.Need-slice-bounds-gctr-at-start
+part-gctr-at-start : tie.Need-slice_bounds-gctr_at-start
 part-gctr-at-start c = search rules
 
-part-gctr-at-end : tie.Need-slice-bounds-gctr-at-end
+part-gctr-at-end : tie.Need-slice_bounds-gctr_at-end
 part-gctr-at-end c = search rules
 
-gctr-at-requires : tie.Need-gctr-at-requires
+gctr-at-requires : tie.Need-gctr_at-requires
 gctr-at-requires c κs =
-    let k = c.before.before.before.before.before in
-    let s = k.before.before.before in
-    let t = s.args.frame.now in
-    let y = part-size t (s.args.at + 8) (length t - 16) (omega arith) in
-    let m = s.requires.1.2 in
-    let l = least_at k in
-    (s.requires.0, (s.requires.1.0, omega (arith, y, l), omega (arith, y, m)))
+    let t = c.args.frame.now in
+    let y = part-size t (c.args.at + 8) (length t - 16) (omega arith) in
+    let m = c.requires.nonce_len.2 in
+    let l = least_at c.before.before.before.before.before in
+    (c.requires.tables_value, (c.requires.nonce_len.0, omega (arith, y, l), omega (arith, y, m)))
 
-wide-requires : tie.Need-wide-requires
+wide-requires : tie.Need-wide-pad-requires
 wide-requires c κs = search rules
 
-returns-2 : tie.Need-returns-2
+returns-2 : tie.Need-returns-then-before-pad
 returns-2 c =
-    let t = c.before.before.before.before in
-    let j = t.before in
-    let k = j.before.before.before in
-    let a = k.before.before.before.args in (
+    let a = c.args in (
       tt,
       λ part en e.
-          over-long a.at part a.frame.now a.nonce.now (least_at k) en j.verify-tag.result
-          (j.verify-tag.ensures (aes_key_of part) e) t.if2.true c.before.wide.result
-          (c.before.wide.ensures.0 ∙ c.before.before.gctr-at.ensures (aes_key_of part) e) c.if3.true,
+          over-long a.at part a.frame.now a.nonce.now (least_at c.before.before.before.before.before.before.before.before) en c.verify_tag.result
+          (c.verify_tag.ensures (aes_key_of part) e) c.if-verify_tag.true c.wide-pad.result
+          (c.wide-pad.ensures.0 ∙ c.gctr_at.ensures (aes_key_of part) e) c.if-before-pad.true,
     )
 
-returns-3 : tie.Need-returns-3
+returns-3 : tie.Need-returns-then-verify_tag
 returns-3 c =
-    let t = c.before.before.before.before in
-    let j = t.before in
-    let k = j.before.before.before in
-    let a = k.before.before.before.args in (
-      omega (arith, least_at k),
+    let a = c.args in (
+      omega (arith, least_at c.before.before.before.before.before.before.before.before),
       λ part en e.
-          held a.at part a.frame.now a.nonce.now (least_at k) en j.verify-tag.result
-          (j.verify-tag.ensures (aes_key_of part) e) t.if2.true c.before.wide.result
-          (c.before.wide.ensures.0 ∙ c.before.before.gctr-at.ensures (aes_key_of part) e) (omega (arith, c.if3.false)),
+          held a.at part a.frame.now a.nonce.now (least_at c.before.before.before.before.before.before.before.before) en c.verify_tag.result
+          (c.verify_tag.ensures (aes_key_of part) e) c.if-verify_tag.true c.wide-pad.result
+          (c.wide-pad.ensures.0 ∙ c.gctr_at.ensures (aes_key_of part) e) (omega (arith, c.if-before-pad.false)),
     )
 
-returns-4 : tie.Need-returns-4
+returns-4 : tie.Need-returns
 returns-4 c =
-    let j = c.before in
-    let k = j.before.before.before in
-    let a = k.before.before.before.args in (
+    let a = c.args in (
       tt,
       λ part en e.
-          not-tagged a.at part a.frame.now a.nonce.now (least_at k) en j.verify-tag.result
-          (j.verify-tag.ensures (aes_key_of part) e) c.if2.false,
+          not-tagged a.at part a.frame.now a.nonce.now (least_at c.before.before.before.before) en c.verify_tag.result
+          (c.verify_tag.ensures (aes_key_of part) e) c.if-verify_tag.false,
     )
 
 pub judge-body-spec : {M : Type 1} → statement M

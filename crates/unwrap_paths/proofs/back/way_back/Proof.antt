@@ -1,4 +1,3 @@
--- `unwrap_paths::back::way_back` meets its contract.
 use native.Mathlib.Omega.{arith}
 use Prim.Native.Nat.{ℕ, ◌-◌, ◌+◌, ◌≤◌, ◌<◌}
 use mathlib.Core.Path.{◌≡◌, refl, subst}
@@ -11,75 +10,74 @@ use borrow.Author.Rules.{rules}
 use Rattle.unwrap_paths.proofs.back.way_back.Statement.{statement}
 use Rattle.unwrap_paths.proofs.back.way_back.Tie as tie
 
-abbrev invariant-loop : tie.invariant-loop
+-- `unwrap_paths::back::way_back` meets its contract.
+
+abbrev invariant-loop : tie.invariant-loop-left
 invariant-loop ids kwks levels n id level places₀ count₀ at₀ left₀ places count at left =
     (n ≤ limits.wrap_keys) × (n ≤ length ids) × (n ≤ length kwks) × (length places ≡ limits.wrap_keys) ×
     (count + left ≤ limits.wrap_keys) × ((k : ℕ) → k < count → oct places k < n) × Ways n ids kwks levels id level places count at left
 
-abbrev decreases-loop : tie.decreases-loop
+abbrev decreases-loop : tie.decreases-loop-left
 decreases-loop ids kwks levels n id level places₀ count₀ at₀ left₀ places count at left = left
 
-loop-holds : tie.Need-loop-init invariant-loop decreases-loop
+loop-holds : tie.Need-loop-left-init invariant-loop decreases-loop
 loop-holds c =
-    let p = c.before.before in
-    let a = p.args in
-    let x = p.requires.1 in (
-      p.requires.0.0,
-      p.requires.0.1,
-      p.requires.0.2,
+    let a = c.args in
+    let x = c.requires.level_le_wrap_keys in (
+      c.requires.n_le_wrap_keys.0,
+      c.requires.n_le_wrap_keys.1,
+      c.requires.n_le_wrap_keys.2,
       refl,
       omega arith,
       (λ k h. absurd (omega arith)),
       way-start a.n a.ids.now a.kwks.now a.levels a.id a.level (replicate limits.wrap_keys 0),
     )
 
-lowest-kwk-requires : tie.Need-lowest-kwk-requires invariant-loop decreases-loop
+lowest-kwk-requires : tie.Need-lowest_kwk-requires invariant-loop decreases-loop
 lowest-kwk-requires c κs = search rules
 
-enum-known-i : tie.Need-enum-known-i invariant-loop decreases-loop
+enum-known-i : tie.Need-enum_known-i invariant-loop decreases-loop
 enum-known-i c = search rules
 
-found : (c : tie.After-known-told invariant-loop decreases-loop) →
-    let u = c.before.before.before.before.before in
-    let l = u.loop in
-    let a = u.before.before.before.args in
-    PickedAt a.n a.ids.now a.kwks.now a.levels l.at l.left c.before.i.given.0.0
+found : (c : tie.In-At invariant-loop decreases-loop) →
+    let l = c.loop-left in
+    let a = c.args in
+    PickedAt a.n a.ids.now a.kwks.now a.levels l.at l.left c.in-At.i
 found c =
-    let u = c.before.before.before.before.before in
-    let l = u.loop in
-    let a = u.before.before.before.args in
-    subst (Picks a.n a.ids.now a.kwks.now a.levels l.at l.left) c.before.i.given.1
-    c.before.before.before.lowest-kwk.ensures
+    let l = c.loop-left in
+    let a = c.args in
+    subst (Picks a.n a.ids.now a.kwks.now a.levels l.at l.left) c.in-At.is
+    c.lowest_kwk.ensures
 
-mul-places : tie.Need-overflow-mul-places invariant-loop decreases-loop
+mul-places : tie.Need-offset_bounds-places-count invariant-loop decreases-loop
 mul-places c = search rules
 
-array-write-places : tie.Need-array-write-places invariant-loop decreases-loop
+array-write-places : tie.Need-bounds-places-count invariant-loop decreases-loop
 array-write-places c = search rules
 
-add-count : tie.Need-overflow-add-count invariant-loop decreases-loop
+add-count : tie.Need-overflow_add-count invariant-loop decreases-loop
 add-count c = search rules
 
-mul_at : tie.Need-overflow-mul-at invariant-loop decreases-loop
-mul_at c = let f = found c in let l = c.before.before.before.before.before.loop in omega (arith, f.inside, l.invariant.2)
+mul_at : tie.Need-offset_bounds-kwks-i invariant-loop decreases-loop
+mul_at c = let f = found c in let l = c.loop-left in omega (arith, f.inside, l.invariant.2)
 
-shared-slice-read-at : tie.Need-shared-slice-read-at invariant-loop decreases-loop
+shared-slice-read-at : tie.Need-bounds-kwks-i invariant-loop decreases-loop
 shared-slice-read-at c =
     let f = found c.before in
-    let l = c.before.before.before.before.before.before.loop in omega (arith, f.inside, l.invariant.2)
+    let l = c.loop-left in omega (arith, f.inside, l.invariant.2)
 
-sub-left : tie.Need-overflow-sub-left invariant-loop decreases-loop
+sub-left : tie.Need-overflow_sub-left invariant-loop decreases-loop
 sub-left c = search rules
 
-loop-less : tie.Need-loop-smaller invariant-loop decreases-loop
+loop-less : tie.Need-loop-left-smaller invariant-loop decreases-loop
 loop-less c = search rules
 
-loop-again : tie.Need-loop-preserved invariant-loop decreases-loop
+loop-again : tie.Need-loop-left-preserved invariant-loop decreases-loop
 loop-again c =
-    let l = c.before.before.before.before.before.before.loop in
-    let a = c.before.before.before.before.before.before.before.before.before.args in
+    let l = c.loop-left in
+    let a = c.args in
     let f = found c.before in
-    let t = c.before.before.before.before.before.loop-test.true in (
+    let t = c.loop-left-test.true in (
       l.invariant.0,
       l.invariant.1,
       l.invariant.2,
@@ -90,28 +88,28 @@ loop-again c =
           (omega arith) t f l.invariant.6,
     )
 
-enum_told : tie.Need-enum-told invariant-loop decreases-loop
+enum_told : tie.Need-enum_told-1 invariant-loop decreases-loop
 enum_told c = search rules
 
-returns : tie.Need-returns invariant-loop decreases-loop
+returns : tie.Need-returns-in-Nothing invariant-loop decreases-loop
 returns c =
-    let l = c.before.before.before.before.loop in
-    let a = c.before.before.before.before.before.before.before.args in
+    let l = c.loop-left in
+    let a = c.args in
     let e : l.count ≤ limits.wrap_keys = omega (arith, l.invariant.4) in
     record {
       few = e;
       inside = l.invariant.5;
       reads = way_never a.n a.ids.now a.kwks.now a.levels a.id a.level l.places l.count l.at l.left
-          c.before.before.before.loop-test.true
-          (subst (Picks a.n a.ids.now a.kwks.now a.levels l.at l.left) c.enum_told.given.1
-          c.before.before.lowest-kwk.ensures) l.invariant.6;
+          c.loop-left-test.true
+          (subst (Picks a.n a.ids.now a.kwks.now a.levels l.at l.left) c.in-Nothing.is
+          c.lowest_kwk.ensures) l.invariant.6;
     }
 
-returns-2 : tie.Need-returns-2 invariant-loop decreases-loop
+returns-2 : tie.Need-returns invariant-loop decreases-loop
 returns-2 c =
-    let l = c.before.loop in
-    let a = c.before.before.before.before.args in
-    let t = c.loop-test.false in
+    let l = c.loop-left in
+    let a = c.args in
+    let t = c.loop-left-test.false in
     let e : l.count ≤ limits.wrap_keys = omega (arith, l.invariant.4) in
     record {
       few = e;

@@ -14,77 +14,68 @@ use borrow.Author.Rules.{rules}
 use Rattle.unwrap_sas.proofs.lifetime.of_policy.Statement.{statement}
 use Rattle.unwrap_sas.proofs.lifetime.of_policy.Tie as tie
 
-sa-parts-requires : tie.Need-sa-parts-requires
+sa-parts-requires : tie.Need-sa_parts-p-requires
 sa-parts-requires c κs =
-    let b = c.before in
-    (in_policy b.args.protocol, b.requires.0, b.requires.1)
+    (in_policy c.args.protocol, c.requires.0, c.requires.1)
 
-parts : (c : tie.After-sa-parts) (x : SaBody)
-    → IsSaBody (in_policy c.before.before.args.protocol) c.before.before.args.x.now x
-    → SaPartsAre (in_policy c.before.before.args.protocol) c.before.before.args.x.now x c.sa-parts.result
-parts c x i = c.sa-parts.ensures (in_policy c.before.before.args.protocol) x i
+parts : (c : tie.After-sa_parts-p) (x : SaBody)
+    → IsSaBody (in_policy c.args.protocol) c.args.x.now x
+    → SaPartsAre (in_policy c.args.protocol) c.args.x.now x c.sa_parts-p.result
+parts c x i = c.sa_parts-p.ensures (in_policy c.args.protocol) x i
 
 -- those of the policy that is known to be there
-own : (c : tie.After-sa-parts)
-    → let a = c.before.before.args in
-    SaPartsAre (in_policy a.protocol) a.x.now c.before.before.requires.0 c.sa-parts.result
-own c = parts c c.before.before.requires.0 c.before.before.requires.1
+own : (c : tie.After-sa_parts-p)
+    → let a = c.args in
+    SaPartsAre (in_policy a.protocol) a.x.now c.requires.0 c.sa_parts-p.result
+own c = parts c c.requires.0 c.requires.1
 
-in-policy-requires : tie.Need-in-policy-requires
+in-policy-requires : tie.Need-in_policy-place-requires
 in-policy-requires c κs = search rules
 
-sub-numbers-of : tie.Need-overflow-sub-numbers-of
+sub-numbers-of : tie.Need-slice_bounds-numbers_of-count
 sub-numbers-of c = let f = own c.before in omega (arith, f.then, f.inside)
 
-part-numbers-of-start : tie.Need-slice-bounds-numbers-of-start
+part-numbers-of-start : tie.Need-slice_bounds-numbers_of-start
 part-numbers-of-start c = let f = own c.before in omega (arith, f.then, f.inside)
 
-part-numbers-of-end : tie.Need-slice-bounds-numbers-of-end
+part-numbers-of-end : tie.Need-slice_bounds-numbers_of-end
 part-numbers-of-end c = search rules
 
-numbers-of-requires : tie.Need-numbers-of-requires
+numbers-of-requires : tie.Need-numbers_of-n-requires
 numbers-of-requires c κs =
-    let d = c.before.before in
-    let b = d.before.before in
-    let p = c.before.in_policy in (
+    let p = c.in_policy-place in (
       refl,
-      attributes-whole b.args.protocol b.args.x.now b.requires.0 d.sa-parts.result (own d) p.result p.ensures,
+      attributes-whole c.args.protocol c.args.x.now c.requires.0 c.sa_parts-p.result (own c.before.before) p.result p.ensures,
     )
 
 -- one lifetime at most
-few : (c : tie.After-numbers-of) → ltb 1 c.Numbers-of.result.count ≡ false
+few : (c : tie.After-numbers_of-n) → ltb 1 c.numbers_of-n.result.count ≡ false
 few c =
-    let d = c.before.before.before in
-    let b = d.before.before in
-    let p = c.before.before.in_policy in
+    let p = c.in_policy-place in
     ap (λ (m : Numbers). ltb 1 m.count)
-    (lifetimes-are b.args.protocol b.args.x.now b.requires.0 d.sa-parts.result (own d) p.result p.ensures
-    c.Numbers-of.result c.Numbers-of.ensures.0)
-    ∙ b.requires.2
+    (lifetimes-are c.args.protocol c.args.x.now c.requires.0 c.sa_parts-p.result (own c.before.before.before) p.result p.ensures
+    c.numbers_of-n.result c.numbers_of-n.ensures.0)
+    ∙ c.requires.2
 
-returns : tie.Need-returns
+returns : tie.Need-returns-then-n-eq0
 returns c =
-    let n = c.before.before in
-    let d = n.before.before.before in
-    let a = d.before.before.args in
-    let p = n.before.before.in_policy in
+    let a = c.args in
+    let p = c.in_policy-place in
     λ x i.
-    lifetime-missing a.tick (lifetimes_of a.protocol x) n.Numbers-of.result
-    (lifetimes-are a.protocol a.x.now x d.sa-parts.result (parts d x i) p.result p.ensures n.Numbers-of.result
-    n.Numbers-of.ensures.0)
-    (few n) c.if1.true
+    lifetime-missing a.tick (lifetimes_of a.protocol x) c.numbers_of-n.result
+    (lifetimes-are a.protocol a.x.now x c.sa_parts-p.result (parts c.before.before.before.before.before x i) p.result p.ensures c.numbers_of-n.result
+    c.numbers_of-n.ensures.0)
+    (few c.before.before) c.if-n-eq0.true
 
-returns-2 : tie.Need-returns-2
+returns-2 : tie.Need-returns
 returns-2 c =
-    let n = c.before.before in
-    let d = n.before.before.before in
-    let a = d.before.before.args in
-    let p = n.before.before.in_policy in
+    let a = c.args in
+    let p = c.in_policy-place in
     λ x i.
-    lifetime-there a.tick (lifetimes_of a.protocol x) n.Numbers-of.result
-    (lifetimes-are a.protocol a.x.now x d.sa-parts.result (parts d x i) p.result p.ensures n.Numbers-of.result
-    n.Numbers-of.ensures.0)
-    (few n) c.if1.false
+    lifetime-there a.tick (lifetimes_of a.protocol x) c.numbers_of-n.result
+    (lifetimes-are a.protocol a.x.now x c.sa_parts-p.result (parts c.before.before.before.before.before x i) p.result p.ensures c.numbers_of-n.result
+    c.numbers_of-n.ensures.0)
+    (few c.before.before) c.if-n-eq0.false
 
 pub of-policy-spec : {M : Type 1} → statement M
 of-policy-spec =

@@ -9,78 +9,74 @@ use borrow.Author.Rules.{rules}
 use Rattle.wire_readers.proofs.body.sa_parts.Statement.{statement}
 use Rattle.wire_readers.proofs.body.sa_parts.Tie as tie
 
-shared-slice-read-wide : tie.Need-shared-slice-read-wide
+shared-slice-read-wide : tie.Need-bounds-s-0
 shared-slice-read-wide c =
-    let b = c.before.before in
-    omega (arith, destination-there b.requires.0 b.args.s.now b.requires.1 b.requires.2 _ refl)
+    omega (arith, destination-there c.requires.0 c.args.s.now c.requires.1 c.requires.2 _ refl)
 
 wide-requires : tie.Need-wide-requires
 wide-requires c κs = search rules
 
-selector-size-requires : tie.Need-selector-size-requires
+selector-size-requires : tie.Need-selector_size-d-requires
 selector-size-requires c κs = search rules
 
-shared-slice-read-wide-2 : tie.Need-shared-slice-read-wide-2
+shared-slice-read-wide-2 : tie.Need-bounds-s-d
 shared-slice-read-wide-2 c =
-    let b = c.before.before.before.before.before in
-    let d = c.before.selector-size in
-    let e = d.ensures.0 ∙ ap selector_size c.before.before.wide.ensures.0 in
-    omega (arith, destination-there b.requires.0 b.args.s.now b.requires.1 b.requires.2 d.result e)
+    let d = c.selector_size-d in
+    let e = d.ensures.0 ∙ ap selector_size c.wide.ensures.0 in
+    omega (arith, destination-there c.requires.0 c.args.s.now c.requires.1 c.requires.2 d.result e)
 
 wide-requires-2 : tie.Need-wide-requires-2
 wide-requires-2 c κs = search rules
 
-selector-size-requires-2 : tie.Need-selector-size-requires-2
+selector-size-requires-2 : tie.Need-selector_size-requires
 selector-size-requires-2 c κs = search rules
 
-add-t : tie.Need-overflow-add-t
+add-t : tie.Need-overflow_add-t
 add-t c = search rules
 
 -- the sizes of both selectors
-first : (c : tie.After-selector-size2)
-    → c.before.before.before.selector-size.result
-    ≡ selector_size (oct c.before.before.before.before.before.before.before.args.s.now 0)
+first : (c : tie.After-selector_size)
+    → c.selector_size-d.result
+    ≡ selector_size (oct c.args.s.now 0)
 first c =
-    c.before.before.before.selector-size.ensures.0 ∙ ap selector_size c.before.before.before.before.wide.ensures.0
+    c.selector_size-d.ensures.0 ∙ ap selector_size c.wide.ensures.0
 
-second : (c : tie.After-selector-size2)
-    → c.selector-size2.result
-    ≡ selector_size (oct c.before.before.before.before.before.before.before.args.s.now
-    c.before.before.before.selector-size.result)
-second c = c.selector-size2.ensures.0 ∙ ap selector_size c.before.wide2.ensures.0
+second : (c : tie.After-selector_size)
+    → c.selector_size.result
+    ≡ selector_size (oct c.args.s.now
+    c.selector_size-d.result)
+second c = c.selector_size.ensures.0 ∙ ap selector_size c.wide-2.ensures.0
 
-there : (c : tie.After-selector-size2)
-    → c.before.before.before.selector-size.result + c.selector-size2.result ≤ length c.before.before.before.before.before.before.before.args.s.now
+there : (c : tie.After-selector_size)
+    → c.selector_size-d.result + c.selector_size.result ≤ length c.args.s.now
 there c =
-    let b = c.before.before.before.before.before.before.before in
-    transforms-there b.requires.0 b.args.s.now b.requires.1 b.requires.2 _ (first c) _ (second c)
+    transforms-there c.requires.0 c.args.s.now c.requires.1 c.requires.2 _ (first c) _ (second c)
 
-sub-transforms-end : tie.Need-overflow-sub-transforms-end
+sub-transforms-end : tie.Need-slice_bounds-transforms_end-count
 sub-transforms-end c = there c
 
-part-transforms-end-start : tie.Need-slice-bounds-transforms-end-start
+part-transforms-end-start : tie.Need-slice_bounds-transforms_end-start
 part-transforms-end-start c = there c
 
-part-transforms-end-end : tie.Need-slice-bounds-transforms-end-end
+part-transforms-end-end : tie.Need-slice_bounds-transforms_end-end
 part-transforms-end-end c = search rules
 
-transforms-end-requires : tie.Need-transforms-end-requires
+transforms-end-requires : tie.Need-transforms_end-e-requires
 transforms-end-requires c κs =
-    let b = c.before.before.before.before.before.before.before.before in (
-      b.requires.1.suite.transforms,
-      b.requires.2.tail,
-      transforms-are b.requires.0 b.args.s.now b.requires.1 b.requires.2 _ (first c.before) _ (second c.before),
+(
+      c.requires.1.suite.transforms,
+      c.requires.2.tail,
+      transforms-are c.requires.0 c.args.s.now c.requires.1 c.requires.2 _ (first c.before) _ (second c.before),
     )
 
-add-t8 : tie.Need-overflow-add-t8
-add-t8 c = record { fits = omega (arith, there c.before.before, c.transforms-end.ensures.0) }
+add-t8 : tie.Need-overflow_add-result
+add-t8 c = record { fits = omega (arith, there c.before.before, c.transforms_end-e.ensures.0) }
 
 returns : tie.Need-returns
 returns c p x i =
-    let s = c.before.before.before.before.before.before.before.before.before.args.s.now in
-    let t = c.before.before in
-    parts_are p s x i _ (first t) _ (second t) c.transforms-end.result c.transforms-end.ensures.0
-    (c.transforms-end.ensures.1 x.suite.transforms i.tail (transforms-are p s x i _ (first t) _ (second t)))
+    let s = c.args.s.now in
+    parts_are p s x i _ (first c.before.before) _ (second c.before.before) c.transforms_end-e.result c.transforms_end-e.ensures.0
+    (c.transforms_end-e.ensures.1 x.suite.transforms i.tail (transforms-are p s x i _ (first c.before.before) _ (second c.before.before)))
 
 pub sa-parts-spec : {M : Type 1} → statement M
 sa-parts-spec =

@@ -18,150 +18,148 @@ use borrow.Author.Rules.{rules}
 use Rattle.wire_readers.proofs.values.next_attribute.Statement.{statement}
 use Rattle.wire_readers.proofs.values.next_attribute.Tie as tie
 
-abbrev invariant-loop : tie.invariant-loop
+abbrev invariant-loop : tie.invariant-loop-at
 invariant-loop place s from wanted at₀ at =
     (from ≤ at) × (at ≤ length s) × (is_whole (attributes place 0 (drop at s)) ≡ true)
     × ((m : Meaning) → wanted ≡ code_of m → values_in m place (drop from s) ≡ values_in m place (drop at s))
     × ((m : Meaning) → wanted ≡ code_of m → places_in m place s from ≡ places_in m place s at)
 
-abbrev decreases-loop : tie.decreases-loop
+abbrev decreases-loop : tie.decreases-loop-at
 decreases-loop place s from wanted at₀ at = length s - at
 
-code-requires : tie.Need-code-requires invariant-loop decreases-loop
+code-requires : tie.Need-code-wanted-requires invariant-loop decreases-loop
 code-requires c κs = search rules
 
-loop-holds : tie.Need-loop-init invariant-loop decreases-loop
-loop-holds c = (omega arith, c.before.before.requires.0, c.before.before.requires.1, λ m e. refl, λ m e. refl)
+loop-holds : tie.Need-loop-at-init invariant-loop decreases-loop
+loop-holds c = (omega arith, c.requires.0, c.requires.1, λ m e. refl, λ m e. refl)
 
-sub-read-attribute : tie.Need-overflow-sub-read-attribute invariant-loop decreases-loop
+sub-read-attribute : tie.Need-slice_bounds-read_attribute-count invariant-loop decreases-loop
 sub-read-attribute c = search rules
 
-part-read-attribute-start : tie.Need-slice-bounds-read-attribute-start invariant-loop decreases-loop
+part-read-attribute-start : tie.Need-slice_bounds-read_attribute-start invariant-loop decreases-loop
 part-read-attribute-start c = search rules
 
-part-read-attribute-end : tie.Need-slice-bounds-read-attribute-end invariant-loop decreases-loop
+part-read-attribute-end : tie.Need-slice_bounds-read_attribute-end invariant-loop decreases-loop
 part-read-attribute-end c = search rules
 
-read-attribute-requires : tie.Need-read-attribute-requires invariant-loop decreases-loop
+read-attribute-requires : tie.Need-read_attribute-requires invariant-loop decreases-loop
 read-attribute-requires c κs = search rules
 
-enum-known-kind : tie.Need-enum-known-kind invariant-loop decreases-loop
+enum-known-kind : tie.Need-enum_known-kind invariant-loop decreases-loop
 enum-known-kind c = search rules
 
-read : (c : tie.After-known-told invariant-loop decreases-loop)
-    → let v = c.before.kind.given.0 in
-    let s = c.before.before.before.before.before.before.before.before.before.args.s.now in
-    IsRead (drop c.before.before.before.before.before.before.loop.at s) v.0 v.1.0 v.1.1.0 v.1.1.1.0
+read : (c : tie.In-Attribute invariant-loop decreases-loop)
+    → let v = c.kind-1.given.0 in
+    let s = c.args.s.now in
+    IsRead (drop c.loop-at.at s) v.0 v.1.0 v.1.1.0 v.1.1.1.0
 read c =
-    let v = c.before.kind.given.0 in
-    let s = c.before.before.before.before.before.before.before.before.before.args.s.now in
-    let at = c.before.before.before.before.before.before.loop.at in
+    let v = c.kind-1.given.0 in
+    let s = c.args.s.now in
+    let at = c.loop-at.at in
     read_is (drop at s) v.0 v.1.0 v.1.1.0 v.1.1.1.0
-    (sym c.before.kind.given.1 ∙ c.before.before.before.read-attribute.ensures ∙ ap read_of (to_end s at))
+    (sym c.in-Attribute.is ∙ c.read_attribute.ensures ∙ ap read_of (to_end s at))
 
-inside : (c : tie.After-known-told invariant-loop decreases-loop)
-    → let v = c.before.kind.given.0 in
-    let s = c.before.before.before.before.before.before.before.before.before.args.s.now in
-    (0 < v.1.1.1.0) × (c.before.before.before.before.before.before.loop.at + v.1.1.1.0 ≤ length s)
+inside : (c : tie.In-Attribute invariant-loop decreases-loop)
+    → let v = c.kind-1.given.0 in
+    let s = c.args.s.now in
+    (0 < v.1.1.1.0) × (c.loop-at.at + v.1.1.1.0 ≤ length s)
     × (v.1.1.0 ≤ v.1.1.1.0)
 inside c =
-    let v = c.before.kind.given.0 in
-    let a = c.before.before.before.before.before.before.before.before.before.args in
-    let l = c.before.before.before.before.before.before.loop in
-    next-inside a.m a.place a.s.now l.at l.invariant.2 c.before.before.before.before.before.loop-test.true
+    let v = c.kind-1.given.0 in
+    let a = c.args in
+    let l = c.loop-at in
+    next-inside a.m a.place a.s.now l.at l.invariant.2 c.loop-at-test.true
     v.0 v.1.0 v.1.1.0 v.1.1.1.0 (read c)
 
-add-next : tie.Need-overflow-add-next invariant-loop decreases-loop
+add-next : tie.Need-overflow_add-next invariant-loop decreases-loop
 add-next c = let i = inside c in record { fits = omega (arith, i.1) }
 
-meaning-in-requires : tie.Need-meaning-in-requires invariant-loop decreases-loop
+meaning-in-requires : tie.Need-meaning_in-requires invariant-loop decreases-loop
 meaning-in-requires c κs = search rules
 
-code-requires-2 : tie.Need-code-requires-2 invariant-loop decreases-loop
+code-requires-2 : tie.Need-code-requires invariant-loop decreases-loop
 code-requires-2 c κs = search rules
 
-returns : tie.Need-returns invariant-loop decreases-loop
+returns : tie.Need-returns-then-code-wanted invariant-loop decreases-loop
 returns c =
-    let b = c.before.before.before in
-    let l = b.before.before.before.before.before.before.loop in
-    let a = b.before.before.before.before.before.before.before.before.before.args in
-    let h = b.before.before.before.before.before.loop-test.true in
-    let w = b.before.before.before.before.before.before.before.code.ensures in
-    let k = c.before.code2.ensures ∙ ap code_of c.before.before.meaning-in.ensures in
-    let v = b.before.kind.given.0 in
+    let l = c.loop-at in
+    let a = c.args in
+    let h = c.loop-at-test.true in
+    let w = c.code-wanted.ensures in
+    let k = c.code.ensures ∙ ap code_of c.meaning_in.ensures in
+    let v = c.kind-1.given.0 in
     let s = a.s.now in
-    let i = inside b in
+    let i = inside c.before.before.before in
     let e = l.at + v.1.1.1.0 in
-    let q = value-start a.m a.place s l.at l.invariant.2 h v.0 v.1.0 v.1.1.0 v.1.1.1.0 (read b) in
+    let q = value-start a.m a.place s l.at l.invariant.2 h v.0 v.1.0 v.1.1.0 v.1.1.1.0 (read c.before.before.before) in
     record {
       value =
           subst (λ (x : ℕ). ValueFoundAt a.m a.place s a.from x e) q
           (record {
             first =
                 l.invariant.3 a.m w
-                ∙ hit a.m a.place s l.at l.invariant.2 h v.0 v.1.0 v.1.1.0 v.1.1.1.0 (read b) _ _ k w
-                c.if1.true;
+                ∙ hit a.m a.place s l.at l.invariant.2 h v.0 v.1.0 v.1.1.0 v.1.1.1.0 (read c.before.before.before) _ _ k w
+                c.if-code-wanted.true;
             place =
                 l.invariant.4 a.m w
-                ∙ hit-place a.m a.place s l.at l.invariant.2 h v.0 v.1.0 v.1.1.0 v.1.1.1.0 (read b) _ _ k w
-                c.if1.true;
+                ∙ hit-place a.m a.place s l.at l.invariant.2 h v.0 v.1.0 v.1.1.0 v.1.1.1.0 (read c.before.before.before) _ _ k w
+                c.if-code-wanted.true;
             start = omega (
               arith,
               l.invariant.0,
-              starts-after a.m a.place s l.at l.invariant.2 h v.0 v.1.0 v.1.1.0 v.1.1.1.0 (read b),
+              starts-after a.m a.place s l.at l.invariant.2 h v.0 v.1.0 v.1.1.0 v.1.1.1.0 (read c.before.before.before),
             );
             order = omega (arith, i.2);
             inside = i.1;
-            size = size a.m a.place s l.at l.invariant.2 h v.0 v.1.0 v.1.1.0 v.1.1.1.0 (read b) _ _ k w
-                c.if1.true;
-            rest = next-whole a.m a.place s l.at l.invariant.2 h v.0 v.1.0 v.1.1.0 v.1.1.1.0 (read b);
+            size = size a.m a.place s l.at l.invariant.2 h v.0 v.1.0 v.1.1.0 v.1.1.1.0 (read c.before.before.before) _ _ k w
+                c.if-code-wanted.true;
+            rest = next-whole a.m a.place s l.at l.invariant.2 h v.0 v.1.0 v.1.1.0 v.1.1.1.0 (read c.before.before.before);
           });
       octets =
-          value-octets a.m a.place s l.at l.invariant.2 h v.0 v.1.0 v.1.1.0 v.1.1.1.0 (read b)
+          value-octets a.m a.place s l.at l.invariant.2 h v.0 v.1.0 v.1.1.0 v.1.1.1.0 (read c.before.before.before)
           ∙ ap (λ (x : ℕ). part s x e) q;
     }
 
-loop-less : tie.Need-loop-smaller invariant-loop decreases-loop
+loop-less : tie.Need-loop-at-smaller invariant-loop decreases-loop
 loop-less c = let i = inside c.before.before.before in omega (arith, i.0, i.1)
 
-loop-again : tie.Need-loop-preserved invariant-loop decreases-loop
+loop-again : tie.Need-loop-at-preserved invariant-loop decreases-loop
 loop-again c =
-    let b = c.before.before.before in
-    let l = b.before.before.before.before.before.before.loop in
-    let a = b.before.before.before.before.before.before.before.before.before.args in
-    let h = b.before.before.before.before.before.loop-test.true in
-    let k = c.before.code2.ensures ∙ ap code_of c.before.before.meaning-in.ensures in
-    let v = b.before.kind.given.0 in
+    let l = c.loop-at in
+    let a = c.args in
+    let h = c.loop-at-test.true in
+    let k = c.code.ensures ∙ ap code_of c.meaning_in.ensures in
+    let v = c.kind-1.given.0 in
     let s = a.s.now in
-    let i = inside b in (
+    let i = inside c.before.before.before in (
       omega (arith, l.invariant.0),
       i.1,
-      next-whole a.m a.place s l.at l.invariant.2 h v.0 v.1.0 v.1.1.0 v.1.1.1.0 (read b),
+      next-whole a.m a.place s l.at l.invariant.2 h v.0 v.1.0 v.1.1.0 v.1.1.1.0 (read c.before.before.before),
       λ m e. l.invariant.3 m e
-          ∙ miss m a.place s l.at l.invariant.2 h v.0 v.1.0 v.1.1.0 v.1.1.1.0 (read b) _ _ k e c.if1.false,
+          ∙ miss m a.place s l.at l.invariant.2 h v.0 v.1.0 v.1.1.0 v.1.1.1.0 (read c.before.before.before) _ _ k e c.if-code-wanted.false,
       λ m e. l.invariant.4 m e
-          ∙ miss-place m a.place s l.at l.invariant.2 h v.0 v.1.0 v.1.1.0 v.1.1.1.0 (read b) _ _ k e c.if1.false,
+          ∙ miss-place m a.place s l.at l.invariant.2 h v.0 v.1.0 v.1.1.0 v.1.1.1.0 (read c.before.before.before) _ _ k e c.if-code-wanted.false,
     )
 
-enum_told : tie.Need-enum-told invariant-loop decreases-loop
+enum_told : tie.Need-enum_told-1 invariant-loop decreases-loop
 enum_told c = search rules
 
-returns-2 : tie.Need-returns-2 invariant-loop decreases-loop
+returns-2 : tie.Need-returns-in-Cut invariant-loop decreases-loop
 returns-2 c =
-    let l = c.before.before.before.before.before.loop in
-    let a = c.before.before.before.before.before.before.before.before.args in
+    let l = c.loop-at in
+    let a = c.args in
     let s = a.s.now in
     absurd
-    (never-cut a.m a.place s l.at l.invariant.2 c.before.before.before.before.loop-test.true
-    (cut-is (drop l.at s) (sym c.enum_told.given.1 ∙ c.before.before.read-attribute.ensures ∙ ap read_of (to_end s l.at))))
+    (never-cut a.m a.place s l.at l.invariant.2 c.loop-at-test.true
+    (cut-is (drop l.at s) (sym c.in-Cut.is ∙ c.read_attribute.ensures ∙ ap read_of (to_end s l.at))))
 
-returns-3 : tie.Need-returns-3 invariant-loop decreases-loop
+returns-3 : tie.Need-returns invariant-loop decreases-loop
 returns-3 c =
-    let l = c.before.loop in
-    let a = c.before.before.before.before.args in
-    let w = c.before.before.code.ensures in (
-      l.invariant.3 a.m w ∙ none_left a.m a.place a.s.now l.at l.invariant.2 c.loop-test.false,
-      l.invariant.4 a.m w ∙ none-placed a.m a.place a.s.now l.at l.invariant.2 c.loop-test.false,
+    let l = c.loop-at in
+    let a = c.args in
+    let w = c.code-wanted.ensures in (
+      l.invariant.3 a.m w ∙ none_left a.m a.place a.s.now l.at l.invariant.2 c.loop-at-test.false,
+      l.invariant.4 a.m w ∙ none-placed a.m a.place a.s.now l.at l.invariant.2 c.loop-at-test.false,
     )
 
 pub next-attribute-spec : {M : Type 1} → statement M

@@ -8,48 +8,46 @@ use borrow.Author.Rules.{rules}
 use Rattle.wire_view.proofs.items.attribute_item.Statement.{statement}
 use Rattle.wire_view.proofs.items.attribute_item.Tie as tie
 
-read-attribute-requires : tie.Need-read-attribute-requires
+read-attribute-requires : tie.Need-read_attribute-requires
 read-attribute-requires c κs = search rules
 
-enum-known-short : tie.Need-enum-known-short
+enum-known-short : tie.Need-enum_known-short
 enum-known-short c = search rules
 
 -- what was read
-read : (c : tie.After-known-told)
-    → let v = c.before.short.given.0 in
-    IsRead c.before.before.before.before.before.args.s.now v.0 v.1.0 v.1.1.0 v.1.1.1.0
+read : (c : tie.In-Attribute)
+    → let v = c.short-1.given.0 in
+    IsRead c.args.s.now v.0 v.1.0 v.1.1.0 v.1.1.1.0
 read c =
-    let v = c.before.short.given.0 in
-    read_is c.before.before.before.before.before.args.s.now v.0 v.1.0 v.1.1.0 v.1.1.1.0
-    (sym c.before.short.given.1 ∙ c.before.before.before.read-attribute.ensures)
+    let v = c.short-1.given.0 in
+    read_is c.args.s.now v.0 v.1.0 v.1.1.0 v.1.1.1.0
+    (sym c.in-Attribute.is ∙ c.read_attribute.ensures)
 
-meaning-in-requires : tie.Need-meaning-in-requires
+meaning-in-requires : tie.Need-meaning_in-requires
 meaning-in-requires c κs = search rules
 
-add-t11 : tie.Need-overflow-add-t11
+add-t11 : tie.Need-overflow_add-result
 add-t11 c =
-    let b = c.before.before.before.before.before.before in
-    let i = read-inside b.args.s.now _ _ _ _ (read c.before) in
-    record { fits = omega (arith, i.0, i.1, b.requires) }
+    let i = read-inside c.args.s.now _ _ _ _ (read c.before) in
+    record { fits = omega (arith, i.0, i.1, c.requires) }
 
-add-t12 : tie.Need-overflow-add-t12
+add-t12 : tie.Need-overflow_add-result-in-Attribute
 add-t12 c =
-    let b = c.before.before.before.before.before.before in
-    let i = read-inside b.args.s.now _ _ _ _ (read c.before) in
-    record { fits = omega (arith, i.1, b.requires) }
+    let i = read-inside c.args.s.now _ _ _ _ (read c.before) in
+    record { fits = omega (arith, i.1, c.requires) }
 
-enum_told : tie.Need-enum-told
+enum_told : tie.Need-enum_told-1
 enum_told c = search rules
 
-returns : tie.Need-returns
+returns : tie.Need-returns-in-Attribute
 returns c =
-    let a = c.before.before.before.before.before.before.args in
-    λ f. shown-is a.place a.s.now a.base _ _ _ _ (read c.before) c.meaning-in.result c.meaning-in.ensures
+    let a = c.args in
+    λ f. shown-is a.place a.s.now a.base _ _ _ _ (read c.before) c.meaning_in.result c.meaning_in.ensures
 
-returns-2 : tie.Need-returns-2
+returns-2 : tie.Need-returns-in-Cut
 returns-2 c =
-    let s = c.before.before.before.before.args.s.now in
-    let q = cut-is s (sym c.enum_told.given.1 ∙ c.before.before.read-attribute.ensures) in
+    let s = c.args.s.now in
+    let q = cut-is s (sym c.in-Cut.is ∙ c.read_attribute.ensures) in
     λ f.
     let y : ◌≡◌ {A = Bool} false true = sym q ∙ f in
     let z : ◌≡◌ {A = ℕ} 0 1 = cc in absurd (omega arith)

@@ -14,89 +14,86 @@ use Rattle.wire_view.proofs.read.attribute_step.Tie as tie
 stay-requires : tie.Need-stay-requires
 stay-requires c κs = search rules
 
-returns : tie.Need-returns
+returns : tie.Need-returns-then-s-at
 returns c =
-    let a = c.before.before.before.args in
-    c.stay.ensures ∙ attribute-past a.s.now a.c a.at c.before.if1.true
+    let a = c.args in
+    c.stay.ensures ∙ attribute-past a.s.now a.c a.at c.if-s-at.true
 
-place-of-requires : tie.Need-place-of-requires
+place-of-requires : tie.Need-place_of-place-requires
 place-of-requires c κs = search rules
 
-sub-attribute-in : tie.Need-overflow-sub-attribute-in
+sub-attribute-in : tie.Need-slice_bounds-attribute_in-count
 sub-attribute-in c = search rules
 
-part-attribute-in-start : tie.Need-slice-bounds-attribute-in-start
+part-attribute-in-start : tie.Need-slice_bounds-attribute_in-start
 part-attribute-in-start c = search rules
 
-part-attribute-in-end : tie.Need-slice-bounds-attribute-in-end
+part-attribute-in-end : tie.Need-slice_bounds-attribute_in-end
 part-attribute-in-end c = search rules
 
-attribute-in-requires : tie.Need-attribute-in-requires
+attribute-in-requires : tie.Need-attribute_in-requires
 attribute-in-requires c κs = search rules
 
-enum-known-e : tie.Need-enum-known-e
+enum-known-e : tie.Need-enum_known-e
 enum-known-e c = search rules
 
 -- what the reader of an attribute answered
-ends : (c : tie.After-known-told)
-    → let a = c.before.before.before.before.before.before.before.before.args in
+ends : (c : tie.In-Ends)
+    → let a = c.args in
     let t = tail a.s.now a.at in
-    spot.Ends c.before.e.given.0.0 ≡ spot_of t (attribute c.before.before.before.before.before.place-of.result a.at t)
-ends c = sym c.before.e.given.1 ∙ c.before.before.before.attribute-in.ensures
+    spot.Ends c.in-Ends.e ≡ spot_of t (attribute c.place_of-place.result a.at t)
+ends c = sym c.in-Ends.is ∙ c.attribute_in.ensures
 
-inside : (c : tie.After-known-told)
-    → let a = c.before.before.before.before.before.before.before.before.args in
-    (a.at + c.before.e.given.0.0 ≤ length a.s.now) × (length a.s.now < 65536)
+inside : (c : tie.In-Ends)
+    → let a = c.args in
+    (a.at + c.in-Ends.e ≤ length a.s.now) × (length a.s.now < 65536)
 inside c =
-    let b = c.before.before.before.before.before.before.before.before in
-    let a = b.args in
-    let p = c.before.before.before.before.before.place-of in
-    let h = c.before.before.before.before.before.before.if1.false in
-    (attribute-inside a.s.now a.c a.at h p.result p.ensures _ (ends c), b.requires.1)
+    let a = c.args in
+    let p = c.place_of-place in
+    let h = c.if-s-at.false in
+    (attribute-inside a.s.now a.c a.at h p.result p.ensures _ (ends c), c.requires.1)
 
-add-end : tie.Need-overflow-add-end
+add-end : tie.Need-overflow_add-end
 add-end c = let i = inside c in record { fits = omega (arith, i.0, i.1) }
 
-sub-attribute-item : tie.Need-overflow-sub-attribute-item
+sub-attribute-item : tie.Need-slice_bounds-attribute_item-count
 sub-attribute-item c = search rules
 
-part-attribute-item-start : tie.Need-slice-bounds-attribute-item-start
+part-attribute-item-start : tie.Need-slice_bounds-attribute_item-start
 part-attribute-item-start c = search rules
 
-part-attribute-item-end : tie.Need-slice-bounds-attribute-item-end
+part-attribute-item-end : tie.Need-slice_bounds-attribute_item-end
 part-attribute-item-end c = search rules
 
-attribute-item-requires : tie.Need-attribute-item-requires
+attribute-item-requires : tie.Need-attribute_item-item-requires
 attribute-item-requires c κs = search rules
 
-cursor-at-requires : tie.Need-cursor-at-requires
+cursor-at-requires : tie.Need-cursor_at-requires
 cursor-at-requires c κs = let i = inside c.before.before in (omega (arith, i.0, i.1), omega arith)
 
-enum_told : tie.Need-enum-told
+enum_told : tie.Need-enum_told-1
 enum_told c = search rules
 
-returns-2 : tie.Need-returns-2
+returns-2 : tie.Need-returns-in-Ends
 returns-2 c =
-    let r = c.before.attribute-item in
-    let b = c.before.before.before in
-    let a = b.before.before.before.before.before.before.before.before.args in
-    let p = b.before.before.before.before.before.place-of in
-    let h = b.before.before.before.before.before.before.if1.false in
-    over-attribute a.s.now a.c a.at h p.result p.ensures _ (ends b) r.result r.ensures c.cursor-at.result
-    c.cursor-at.ensures
+    let r = c.attribute_item-item in
+    let a = c.args in
+    let p = c.place_of-place in
+    let h = c.if-s-at.false in
+    over-attribute a.s.now a.c a.at h p.result p.ensures _ (ends c.before.before.before) r.result r.ensures c.cursor_at.result
+    c.cursor_at.ensures
 
-stay-requires-2 : tie.Need-stay-requires-2
+stay-requires-2 : tie.Need-stay-requires-in-Broken
 stay-requires-2 c κs = search rules
 
-returns-3 : tie.Need-returns-3
+returns-3 : tie.Need-returns-in-Broken
 returns-3 c =
-    let b = c.before in
-    let a = b.before.before.before.before.before.before.before.args in
-    let p = b.before.before.before.before.place-of in
-    let h = b.before.before.before.before.before.if1.false in
-    c.stay2.ensures
-    ∙ no-attribute a.s.now a.c a.at h p.result p.ensures b.enum_told.given.0.0
-    (sym b.enum_told.given.1 ∙ b.before.before.attribute-in.ensures)
+    let a = c.args in
+    let p = c.place_of-place in
+    let h = c.if-s-at.false in
+    c.stay-in-Broken.ensures
+    ∙ no-attribute a.s.now a.c a.at h p.result p.ensures c.in-Broken.field-0
+    (sym c.in-Broken.is ∙ c.attribute_in.ensures)
 
 pub attribute-step-spec : {M : Type 1} → statement M
 attribute-step-spec =

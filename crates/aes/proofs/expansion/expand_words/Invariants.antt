@@ -1,0 +1,15 @@
+use mathlib.Core.Path.{refl}
+use Prim.Native.Nat.{◌+◌, ◌*◌, ◌/◌, ◌%◌, ◌-◌, ◌<◌, ◌≤◌}
+use lib.ListN.{length}
+use native.Mathlib.Omega.{arith}
+use native.Mathlib.Nat.{mod-lt}
+use Rattle.fips197.proofs.Expansion.{sizes}
+use Rattle.aes.specs.inner.Expanding.{ExpandedTo, Placed}
+use Rattle.aes.proofs.Growing.{first-place, grown-more, from-words, all_words}
+use Rattle.aes.proofs.expansion.expand_words.Given as goal
+
+abbrev pub invariant-loop-i : goal.invariant-loop-i
+invariant-loop-i l = (4 ≤ l.nk) × (l.nk ≤ 8) × (l.nk ≤ l.i) × (l.i ≤ 4 * (l.nk + 7)) × ExpandedTo l.key l.w l.i × Placed l.nk l.i l.p
+
+abbrev pub decreases-loop-i : goal.decreases-loop-i
+decreases-loop-i l = 4 * (l.nk + 7) - l.i

@@ -1,0 +1,30 @@
+use mir.Syntax.{w32}
+use mir.Val.{Fits}
+use Rattle.aes.proofs.Growing.{rotated, subbed, left-long, left-short}
+use borrow.Author.Rules.{rules}
+use Rattle.aes.proofs.expansion.temp_at.Goals as goal
+
+-- `aes::expansion::temp_at` meets its contract.
+
+pub returns-then-p-eq0 : goal.returns-then-p-eq0
+returns-then-p-eq0 c =
+    let a = c.args in
+    let f : Fits w32 a.x = search rules in
+    rotated a.t.now a.at c.requires.1 a.nk a.x a.p c.if-p-eq0.true f.fits
+    c.rotated24-y.ensures c.join.ensures c.last_column.ensures
+
+pub returns-then-p-eq4 : goal.returns-then-p-eq4
+returns-then-p-eq4 c =
+    let a = c.args in
+    subbed a.t.now a.at c.requires.1 a.nk a.x a.p c.if-p-eq0.false
+    c.if-nk-gt6.true c.if-p-eq4.true c.last_column-then-p-eq4.ensures
+
+pub returns-then-nk-gt6 : goal.returns-then-nk-gt6
+returns-then-nk-gt6 c =
+    let a = c.args in
+    left-long a.nk a.x a.p c.if-p-eq0.false c.if-p-eq4.false
+
+pub returns : goal.returns
+returns c =
+    let a = c.args in
+    left-short a.nk a.x a.p c.if-p-eq0.false c.if-nk-gt6.false

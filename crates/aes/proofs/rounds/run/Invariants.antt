@@ -1,0 +1,13 @@
+use mathlib.Core.Path.{◌≡◌, refl}
+use Prim.Native.Nat.{◌-◌, ◌<◌, ◌≤◌}
+use native.Mathlib.Omega.{arith}
+use borrow.Author.Rules.{rules}
+use Rattle.aes.specs.inner.Rounds.{rounds_up_to}
+use Rattle.aes.proofs.Turns.{turned, ran}
+use Rattle.aes.proofs.rounds.run.Given as goal
+
+abbrev pub invariant-loop-r : goal.invariant-loop-r
+invariant-loop-r l = (l.n < 15) × (1 ≤ l.r) × (l.r ≤ l.n) × (l.x ≡ rounds_up_to l.t l.k (l.r - 1) l.initial.x)
+
+abbrev pub decreases-loop-r : goal.decreases-loop-r
+decreases-loop-r l = l.n - l.r

@@ -1,0 +1,31 @@
+use native.Mathlib.Omega.{arith}
+use Prim.Native.Nat.{ℕ, ◌+◌, ◌-◌, ◌≤◌, ◌<◌}
+use mathlib.Core.Path.{◌≡◌, sym, ap, ◌∙◌}
+use mathlib.Core.Logic.{⊎_elim}
+use lib.ListN.{length, take, drop, set, length-take, length-set}
+use Rattle.state_keys.specs.Limits.{limits}
+use Rattle.lists.proofs.Lists.{length-of-map}
+use Rattle.state_sa.specs.Entry.{sa_before}
+use Rattle.state_table.specs.Table.{sas_of, table_of}
+use Rattle.state_table.specs.declared.Table.{Table}
+use Rattle.rules_outcome.specs.After.{insert_all}
+use Rattle.unwrap_sas.specs.inner.Keyed.{new_sas}
+use Rattle.apply.proofs.TableLaws.{none-entered, some-entered, one-entered, enter-made}
+use Rattle.apply.proofs.Turns.{Moving, moving-start, moving-ahead, moving-aside, moving-end}
+use borrow.Author.Rules.{rules}
+use Rattle.apply.proofs.entering.enter_all.Given as goal
+
+abbrev pub invariant-loop-j : goal.invariant-loop-j
+invariant-loop-j l =
+    (length l.count ≡ limits.sas) × (l.i < limits.sas) × (l.j ≤ l.i) × Moving sa_before l.count l.i l.initial.carried l.sas l.carried l.placed l.j
+
+abbrev pub decreases-loop-j : goal.decreases-loop-j
+decreases-loop-j l = l.i - l.j
+
+abbrev pub invariant-loop-i : goal.invariant-loop-i
+invariant-loop-i l =
+    (l.i ≤ l.n) × (l.n ≤ length l.new) × (length (take l.initial.count l.initial.sas) + l.n ≤ limits.sas) × (length l.sas ≡ limits.sas) × (l.count + l.i ≤ limits.sas)
+    × (record { l.sas = l.sas; l.count = l.count } ≡ table_of limits (insert_all (drop l.i (take l.n l.new)) (take l.initial.count l.initial.sas)))
+
+abbrev pub decreases-loop-i : goal.decreases-loop-i
+decreases-loop-i l = l.i

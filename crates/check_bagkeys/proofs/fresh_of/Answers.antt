@@ -1,0 +1,22 @@
+use mathlib.Core.Path.{◌≡◌, refl, ap, sym, ◌∙◌}
+use mathlib.Core.Bool.{Bool}
+use Rattle.wire_attributes.specs.Place.{in_bag}
+use Rattle.state_keys.specs.Limits.{limits}
+use Rattle.lists.specs.Lists.{any}
+use Rattle.check_bagkeys.proofs.BagLaws.{none-there}
+use borrow.Author.Rules.{rules}
+use Rattle.check_bagkeys.proofs.fresh_of.Goals as goal
+
+-- `check_bagkeys::fresh_of` meets its contract.
+
+pub keys_of-requires : goal.keys_of-requires
+keys_of-requires c = (refl, c.requires)
+
+pub returns-then-fresh : goal.returns-then-fresh
+returns-then-fresh c = λ first e. c.keys_of.ensures
+
+pub returns : goal.returns
+unfolding any
+returns c = λ first e.
+    let a = c.args in
+    none-there limits a.fresh first a.a.now a.place (e ∙ ap (λ (b : Bool). in_bag b first) c.if-fresh.false)

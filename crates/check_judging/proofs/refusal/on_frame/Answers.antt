@@ -1,0 +1,19 @@
+use mathlib.Core.Path.{sym, ◌∙◌}
+use Rattle.check_judging.proofs.VerdictLaws.{as-refused, as_passed}
+use borrow.Author.Rules.{rules}
+use Rattle.check_judging.proofs.refusal.on_frame.Goals as goal
+
+pub facts_of-x-requires : goal.facts_of-x-requires
+facts_of-x-requires c = let p = c.requires in (p.1.0, p.1.1)
+
+pub on_facts-n-requires : goal.on_facts-n-requires
+on_facts-n-requires c = let p = c.requires in (p.0, (p.1.0, (c.facts_of-x.ensures, p.1.1)))
+
+pub returns-then-n-eq0 : goal.returns-then-n-eq0
+returns-then-n-eq0 c = λ f q.
+    as_passed _ _ _ c.facts_of-x.ensures (sym (c.on_facts-n.ensures f q) ∙ c.if-n-eq0.true)
+
+pub returns : goal.returns
+returns c = λ f q.
+    let n = c.on_facts-n.ensures f q in
+    as-refused _ _ _ n (λ z. c.if-n-eq0.false (n ∙ z))

@@ -1,0 +1,7 @@
+use mathlib.Core.Path.{refl}
+use Rattle.lists.specs.Lists.{count}
+use Rattle.check_suites.proofs.counts.SuiteCounts.none.Goals as goal
+
+pub returns : goal.returns
+unfolding count
+returns c = refl

@@ -1,0 +1,32 @@
+use native.Mathlib.Omega.{arith}
+use Prim.Native.Nat.{◌+◌, ◌-◌, ◌≤◌}
+use mathlib.Core.Path.{◌≡◌}
+use lib.ListN.{length, take, drop}
+use Rattle.fragments.specs.Collection.{most_fragments, size_of_all}
+use Rattle.ikev2_numbers.specs.Codes.{header_octets, most_octets}
+use Rattle.fragments.proofs.CountLaws.{frame-more, frame-over, frame-end}
+use borrow.Author.Rules.{rules}
+use Rattle.fragments.proofs.counting.frame_octets.Goals as goal
+
+pub returns-then-octets-p : goal.returns-then-octets-p
+returns-then-octets-p c =
+    let l = c.loop-i in
+    let a = c.args in
+    frame-over a.t1 a.n (omega arith) l.i l.octets l.invariant.4 _ (omega arith) c.if-octets-p.true
+
+pub loop-i-preserved : goal.loop-i-preserved
+loop-i-preserved c =
+    let l = c.loop-i in
+    let a = c.args in (
+      l.invariant.0,
+      l.invariant.1,
+      omega arith,
+      omega arith,
+      frame-more a.t1 a.n (omega arith) l.i l.octets l.invariant.4 _ (omega arith) c.if-octets-p.false,
+    )
+
+pub returns : goal.returns
+returns c =
+    let l = c.loop-i in
+    let a = c.args in
+    frame-end a.t1 a.n (omega arith) l.i l.octets l.invariant.4 (omega arith)

@@ -1,0 +1,93 @@
+use borrow.Author.Rules.{rules}
+use mathlib.Core.Path.{refl}
+use Prim.Native.Nat.{◌-◌}
+use native.Mathlib.Omega.{arith}
+use lib.ListN.{length}
+use Rattle.gcm.proofs.OpenLaws.{is-so, is-not-so, opening-size, part-size, open_none, open-some}
+use Rattle.gcm.proofs.open.Goals as goal
+
+-- `gcm::open` meets its contract.
+
+pub returns-then-octets-lt-TAG_OCTETS : goal.returns-then-octets-lt-TAG_OCTETS
+returns-then-octets-lt-TAG_OCTETS c =
+    let a = c.args in
+    record {
+      none = λ x h. omega (
+        arith,
+        opening-size a.key.now a.nonce.now a.a.now a.octets.now a.room.now x h,
+        c.if-octets-lt-TAG_OCTETS.true,
+      );
+      room-is = refl;
+    }
+
+pub returns-then-room-n : goal.returns-then-room-n
+returns-then-room-n c =
+    let a = c.args in
+    record {
+      none = λ x h. omega (
+        arith,
+        opening-size a.key.now a.nonce.now a.a.now a.octets.now a.room.now x h,
+        h.holds,
+        c.if-room-n.true,
+      );
+      room-is = refl;
+    }
+
+pub returns-then-n-gt-MOST_TEXT : goal.returns-then-n-gt-MOST_TEXT
+returns-then-n-gt-MOST_TEXT c =
+    let a = c.args in
+    record {
+      none = λ x h. omega (
+        arith,
+        opening-size a.key.now a.nonce.now a.a.now a.octets.now a.room.now x h,
+        h.supported.text-most,
+        c.if-n-gt-MOST_TEXT.true,
+      );
+      room-is = refl;
+    }
+
+pub returns-then-a-gt-MOST_DATA : goal.returns-then-a-gt-MOST_DATA
+returns-then-a-gt-MOST_DATA c = record { none = λ x h. omega (arith, h.supported.data-most, c.if-a-gt-MOST_DATA.true); room-is = refl }
+
+pub returns-then-nonce-ne-NONCE_OCTETS : goal.returns-then-nonce-ne-NONCE_OCTETS
+returns-then-nonce-ne-NONCE_OCTETS c = record { none = λ x h. c.if-nonce-ne-NONCE_OCTETS.true h.supported.nonce-size; room-is = refl }
+
+pub expand-schedule-requires : goal.expand-schedule-requires
+expand-schedule-requires c =
+    (c.tables-tables.ensures, is-so c.is_key.ensures c.if-is_key.true)
+
+pub verify_tag-requires : goal.verify_tag-requires
+verify_tag-requires c =
+    let a = c.args in (
+      (c.tables-tables.ensures, record { key = a.key.now; expands = c.expand-schedule.ensures }),
+      ((omega arith, omega arith), (omega arith, omega arith)),
+    )
+
+pub gctr_in-requires : goal.gctr_in-requires
+gctr_in-requires c =
+    let a = c.args in
+    let n = part-size a.octets.now (length a.octets.now - 16) (omega arith) in (
+      (c.tables-tables.ensures, record { key = a.key.now; expands = c.expand-schedule.ensures }),
+      (omega arith, omega (arith, n), omega (arith, n)),
+    )
+
+pub returns-then-verify_tag : goal.returns-then-verify_tag
+returns-then-verify_tag c =
+    let a = c.args in
+    open-some a.key.now a.nonce.now a.a.now a.octets.now a.room.now c.verify_tag.result
+    (c.verify_tag.ensures a.key.now c.expand-schedule.ensures)
+    c.if-verify_tag.true
+    (is-so c.is_key.ensures c.if-is_key.true) (omega arith) (omega arith) (omega arith) (omega arith)
+    (c.gctr_in.ensures a.key.now c.expand-schedule.ensures)
+
+pub returns-then-is_key : goal.returns-then-is_key
+returns-then-is_key c =
+    let a = c.args in
+    record {
+      none = open_none a.key.now a.nonce.now a.a.now a.octets.now a.room.now c.verify_tag.result
+          (c.verify_tag.ensures a.key.now c.expand-schedule.ensures) c.if-verify_tag.false;
+      room-is = refl;
+    }
+
+pub returns : goal.returns
+returns c = record { none = λ x h. is-not-so c.is_key.ensures c.if-is_key.false h.key-size; room-is = refl }

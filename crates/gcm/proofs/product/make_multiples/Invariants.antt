@@ -1,0 +1,12 @@
+use mathlib.Core.Path.{refl}
+use Prim.Native.Nat.{◌-◌}
+use native.Mathlib.Omega.{arith}
+use Rattle.gcm.specs.inner.Halves.{pair_number}
+use Rattle.gcm.proofs.MultipleLaws.{MultiplesUpTo, filled, filled-all}
+use Rattle.gcm.proofs.product.make_multiples.Given as goal
+
+abbrev pub invariant-loop-d : goal.invariant-loop-d
+invariant-loop-d l = MultiplesUpTo (pair_number l.y) l.d l.w
+
+abbrev pub decreases-loop-d : goal.decreases-loop-d
+decreases-loop-d l = 16 - l.d

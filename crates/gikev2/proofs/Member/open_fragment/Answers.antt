@@ -1,0 +1,35 @@
+use borrow.Author.Rules.{rules}
+use mathlib.Core.Path.{◌≡◌, refl, sym, ◌∙◌}
+use native.Mathlib.Omega.{arith}
+use Rattle.octets.specs.Octets.{Octets}
+use Rattle.gikev2.proofs.GatheringLaws.{given-as, not_opened, opened}
+use Rattle.state_keys.specs.Limits.{limits}
+use Rattle.rules_sealed.proofs.SealedKeys.{table-formed, some-live}
+use Rattle.gikev2.proofs.SealedLaws.{not_so}
+use Rattle.gikev2.proofs.Member.open_fragment.Goals as goal
+
+-- `gikev2::Member::open_fragment` meets its contract.
+
+pub sealing_key-key-requires : goal.sealing_key-key-requires
+sealing_key-key-requires c =
+    let a = c.args in (
+      table-formed limits a.self.state a.tick a.frame.now (not_so c.requires.not-2),
+      some-live limits a.self.state a.tick a.frame.now (not_so c.requires.not-2),
+    )
+
+pub piece_length-requires : goal.piece_length-requires
+piece_length-requires c =
+    (c.sealing_key-key.ensures.sized, c.requires.fragment)
+
+pub judge_piece-requires : goal.judge_piece-requires
+judge_piece-requires c =
+    let o : Octets c.args.frame.now = λ i. (c.shared_slice_known-1.given i).fits in
+    opened c.args.collection o c.requires c.sealing_key-key.ensures c.piece_length.result
+    (c.piece_length.ensures c.args.room.now refl) c.in-Count.p c.in-Count.is
+
+pub returns-in-No : goal.returns-in-No
+returns-in-No c =
+    let o : Octets c.args.frame.now = λ i. (c.shared_slice_known-1.given i).fits in
+    given-as c.refuse_fragment.ensures
+    (not_opened c.args.collection o c.requires c.sealing_key-key.ensures c.piece_length.result
+    (c.piece_length.ensures c.args.room.now refl) c.in-No.is)

@@ -1,0 +1,47 @@
+use borrow.Author.Rules.{rules}
+use native.Mathlib.Omega.{arith}
+use Rattle.octets.specs.Octets.{Octets}
+use Rattle.state_keys.specs.Limits.{limits}
+use Rattle.rules_sealed.specs.SealingKey.{encryption_octets_of}
+use Rattle.rules_sealed.proofs.SealedKeys.{table-formed, some-live}
+use Rattle.gikev2.proofs.SealedLaws.{not_so, key-part, opened-fits, not-opened-given, opened-given}
+use Rattle.gikev2.proofs.Member.open_sealed.Goals as goal
+
+-- `gikev2::Member::open_sealed` meets its contract.
+
+pub sealing_key-key-requires : goal.sealing_key-key-requires
+sealing_key-key-requires c =
+    let a = c.args in (
+      table-formed limits a.self.state a.tick a.frame.now (not_so c.requires.1),
+      some-live limits a.self.state a.tick a.frame.now (not_so c.requires.1),
+    )
+
+pub slice_bounds-receive-end : goal.slice_bounds-receive-end
+slice_bounds-receive-end c =
+    let n = c.n-1.given in
+    let a = c.args in
+    let k = c.sealing_key-key.result in
+    let l = opened-fits a.self a.tick a.frame.now a.room.now (encryption_octets_of k) c.open_frame.result
+    c.open_frame.new.room.0 c.open_frame.ensures n.0.0 n.1 in
+    omega (arith, l)
+
+pub returns-in-No : goal.returns-in-No
+returns-in-No c =
+    let a = c.args in
+    let k = c.sealing_key-key in
+    let o : Octets a.frame.now = λ i. (c.shared_slice_known-1.given i).fits in
+    let x = c.refuse.result in
+    let e = c.refuse.ensures in
+    not-opened-given a.self a.tick a.frame.now a.room.now (encryption_octets_of k.result) c.open_frame.result
+    c.open_frame.new.room.0 c.open_frame.ensures o c.requires.0 c.requires.1 (key-part a.self k.result k.ensures)
+    c.in-No.is x.answer x.member e.0 e.1
+
+pub returns-in-Count : goal.returns-in-Count
+returns-in-Count c =
+    let a = c.args in
+    let k = c.sealing_key-key in
+    let o : Octets a.frame.now = λ i. (c.shared_slice_known-1.given i).fits in
+    let x = c.receive.result in
+    opened-given a.self a.tick a.frame.now a.room.now (encryption_octets_of k.result) c.open_frame.result
+    c.open_frame.new.room.0 c.open_frame.ensures o c.requires.0 c.requires.1 (key-part a.self k.result k.ensures)
+    c.in-Count.n c.in-Count.is _ x.answer x.member c.receive.ensures

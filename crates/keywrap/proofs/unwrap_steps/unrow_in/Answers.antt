@@ -1,0 +1,30 @@
+use borrow.Author.Rules.{rules}
+use mathlib.Core.Path.{◌≡◌, refl, ap, ◌∙◌}
+use mathlib.Core.List.{List}
+use Prim.Native.Nat.{ℕ, ◌-◌, ◌≤◌}
+use native.Mathlib.Omega.{arith}
+use lib.ListN.{length}
+use Rattle.aes.specs.inner.Schedule.{ExpandsInverse}
+use Rattle.rfc5649.specs.inner.Unwrap.{unrow}
+use Rattle.keywrap.proofs.Turns.{unrow-turn}
+use Rattle.keywrap.proofs.unwrap_steps.unrow_in.Goals as goal
+
+-- `keywrap::unwrap_steps::unrow_in` meets its contract.
+
+pub loop-i-init : goal.loop-i-init
+loop-i-init c = (omega arith, refl, λ key e. refl)
+
+pub loop-i-preserved : goal.loop-i-preserved
+loop-i-preserved c =
+    let a = c.args in (
+      omega arith,
+      search rules,
+      λ key e.
+          unrow-turn key c.loop-i.s a.base c.loop-i.i (omega arith) (c.loop-i.invariant.2 key e) (c.unstep_in.ensures key e),
+    )
+
+pub returns : goal.returns
+unfolding unrow
+returns c = λ key e.
+    let a = c.args in
+    ap (λ (j : ℕ). unrow key a.base j c.loop-i.s) (let z : 0 ≡ c.loop-i.i = omega arith in z) ∙ c.loop-i.invariant.2 key e

@@ -1,0 +1,17 @@
+use borrow.Author.Rules.{rules}
+use mathlib.Core.Path.{◌≡◌, refl, ap, ◌∙◌}
+use mathlib.Core.List.{List}
+use Prim.Native.Nat.{ℕ, ◌-◌, ◌≤◌}
+use native.Mathlib.Omega.{arith}
+use lib.ListN.{length}
+use Rattle.aes.specs.inner.Schedule.{ExpandsInverse}
+use Rattle.rfc5649.specs.inner.Unwrap.{unrow}
+use Rattle.keywrap.proofs.Turns.{unrow-turn}
+use Rattle.keywrap.proofs.unwrap_steps.unrow_in.Given as goal
+
+abbrev pub invariant-loop-i : goal.invariant-loop-i
+invariant-loop-i l =
+    (l.i ≤ l.initial.s) × (length l.s ≡ length l.base) × ((key : List ℕ) → ExpandsInverse key l.schedule → unrow key l.n l.i l.s ≡ unrow key l.n l.initial.s l.base)
+
+abbrev pub decreases-loop-i : goal.decreases-loop-i
+decreases-loop-i l = l.i

@@ -1,0 +1,17 @@
+use borrow.Author.Rules.{rules}
+use mathlib.Core.Path.{◌≡◌, refl, ap, ◌∙◌}
+use mathlib.Core.List.{List}
+use Prim.Native.Nat.{ℕ, ◌-◌, ◌≤◌}
+use native.Mathlib.Omega.{arith}
+use lib.ListN.{length}
+use Rattle.aes.specs.inner.Schedule.{ExpandsInverse}
+use Rattle.rfc5649.specs.inner.Unwrap.{unrows}
+use Rattle.keywrap.proofs.Turns.{unrows-turn, base-small}
+use Rattle.keywrap.proofs.unwrap_steps.unrows_in.Given as goal
+
+abbrev pub invariant-loop-j : goal.invariant-loop-j
+invariant-loop-j l =
+    (l.j ≤ 6) × (length l.s ≡ length l.n) × ((key : List ℕ) → ExpandsInverse key l.schedule → unrows key l.initial.s l.j l.s ≡ unrows key l.initial.s 6 l.n)
+
+abbrev pub decreases-loop-j : goal.decreases-loop-j
+decreases-loop-j l = l.j

@@ -1,0 +1,17 @@
+use borrow.Author.Rules.{rules}
+use mathlib.Core.Path.{◌≡◌, refl, ap, ◌∙◌}
+use mathlib.Core.List.{List}
+use Prim.Native.Nat.{ℕ, ◌-◌, ◌≤◌}
+use native.Mathlib.Omega.{arith}
+use lib.ListN.{length}
+use Rattle.aes.specs.inner.Schedule.{Expands}
+use Rattle.rfc5649.specs.Steps.{rows}
+use Rattle.keywrap.proofs.Turns.{rows-turn, base-small}
+use Rattle.keywrap.proofs.wrap_steps.rows_in.Given as goal
+
+abbrev pub invariant-loop-j : goal.invariant-loop-j
+invariant-loop-j l =
+    (l.j ≤ 6) × (length l.s ≡ length l.n) × ((key : List ℕ) → Expands key l.schedule → l.s ≡ rows key l.initial.s l.j l.n)
+
+abbrev pub decreases-loop-j : goal.decreases-loop-j
+decreases-loop-j l = 6 - l.j

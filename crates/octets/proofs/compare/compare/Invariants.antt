@@ -1,0 +1,14 @@
+use native.Mathlib.Omega.{arith}
+use Prim.Native.Nat.{◌≤◌, ◌-◌}
+use mathlib.Core.Path.{◌≡◌, sym, ◌∙◌}
+use lib.ListN.{length, drop}
+use Rattle.octets.specs.Compare.{order_of}
+use Rattle.octets.proofs.Order.{order-less, order-greater, order-next, order-longer, order-shorter, order-end}
+use borrow.Author.Rules.{rules}
+use Rattle.octets.proofs.compare.compare.Given as goal
+
+abbrev pub invariant-loop-i : goal.invariant-loop-i
+invariant-loop-i l = (l.i ≤ length l.a) × (order_of l.a l.b ≡ order_of (drop l.i l.a) (drop l.i l.b))
+
+abbrev pub decreases-loop-i : goal.decreases-loop-i
+decreases-loop-i l = length l.a - l.i

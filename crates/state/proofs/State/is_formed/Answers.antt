@@ -1,0 +1,13 @@
+use mathlib.Core.Path.{sym, ◌∙◌}
+use Rattle.state_keys.specs.Limits.{limits}
+use Rattle.state.proofs.Laws.{formed-parts, formed-not}
+use borrow.Author.Rules.{rules}
+use Rattle.state.proofs.State.is_formed.Goals as goal
+
+pub returns-then-is_formed : goal.returns-then-is_formed
+returns-then-is_formed c =
+    formed-parts limits c.args.self _
+    (sym c.is_formed.ensures ∙ c.if-is_formed.true) c.is_formed-then-is_formed.ensures
+
+pub returns : goal.returns
+returns c = formed-not limits c.args.self (sym c.is_formed.ensures ∙ c.if-is_formed.false)

@@ -1,0 +1,12 @@
+use mathlib.Core.Path.{sym, ◌∙◌}
+use Rattle.state_keys.specs.Kinds.{rekey_sizes}
+use borrow.Author.Rules.{rules}
+use Rattle.state_keys.proofs.kinds.RekeyKey.are_sizes.Goals as goal
+
+pub returns-then-is_size : goal.returns-then-is_size
+unfolding rekey_sizes
+returns-then-is_size c = let e = sym c.is_size.ensures ∙ c.if-is_size.true in rw e c.is_size-then-is_size.ensures
+
+pub returns : goal.returns
+unfolding rekey_sizes
+returns c = let e = sym c.is_size.ensures ∙ c.if-is_size.false in rw e

@@ -1,0 +1,20 @@
+use mathlib.Core.Path.{sym, ◌∙◌}
+use Rattle.state_keys.specs.Kinds.{wrapping_key}
+use Rattle.state_keys.proofs.Sizes.{wrapping-le}
+use Rattle.lists.proofs.Parts.{copied}
+use borrow.Author.Rules.{rules}
+use Rattle.state_keys.proofs.kinds.WrappingKey.new.Goals as goal
+
+pub copy-requires : goal.copy-requires
+copy-requires c = wrapping-le _ (sym c.is_size.ensures ∙ c.if-is_size.true)
+
+pub returns-then-is_size : goal.returns-then-is_size
+unfolding wrapping_key
+returns-then-is_size c =
+    let x = c.args.octets.now in
+    let e = sym c.is_size.ensures ∙ c.if-is_size.true in
+    simp e (rw (copied 32 x _ c.copy.ensures.1))
+
+pub returns : goal.returns
+unfolding wrapping_key
+returns c = let e = sym c.is_size.ensures ∙ c.if-is_size.false in simp e

@@ -1,0 +1,11 @@
+use Rattle.std.proofs.Common.{sym, ◌∙◌, rules}
+use Rattle.state_sa.specs.Entry.{due}
+use Rattle.state_sa.proofs.entry.Sa.due.Goals as goal
+
+pub returns-then-delay_passed : goal.returns-then-delay_passed
+unfolding due
+returns-then-delay_passed c = rw (sym c.delay_passed.ensures ∙ c.if-delay_passed.true)
+
+pub returns : goal.returns
+unfolding due
+returns c = rw (sym c.delay_passed.ensures ∙ c.if-delay_passed.false) c.has_run_out.ensures

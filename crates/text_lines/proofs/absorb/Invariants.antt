@@ -1,0 +1,12 @@
+use borrow.Author.Rules.{rules}
+use Prim.Native.Nat.{◌-◌}
+use lib.ListN.{length}
+use Rattle.text_lines.proofs.LineLaws.{Takes, takes-start, takes-more, takes-newline, takes-end}
+use Rattle.text_lines.proofs.RoomLaws.{length-puts}
+use Rattle.text_lines.proofs.absorb.Given as goal
+
+abbrev pub invariant-loop-at : goal.invariant-loop-at
+invariant-loop-at l = Takes l.block l.from l.len l.initial.line l.line l.at l.held
+
+abbrev pub decreases-loop-at : goal.decreases-loop-at
+decreases-loop-at l = length l.block - l.at

@@ -1,0 +1,53 @@
+use native.Mathlib.Omega.{arith}
+use Prim.Native.Nat.{◌-◌, ◌≤◌}
+use mathlib.Core.Path.{◌≡◌}
+use lib.ListN.{length, get_or}
+use Rattle.state_keys.specs.Limits.{limits}
+use Rattle.unwrap_search.specs.declared.open.Entry.{Entry}
+use Rattle.unwrap_search.specs.declared.open.Cell.{Cell}
+use Rattle.unwrap_search.specs.inner.Entries.{no_entry}
+use Rattle.unwrap_search.specs.inner.Search.{cell_at}
+use Rattle.unwrap_conflicts.specs.inner.Values.{ClashAmong}
+use Rattle.unwrap_conflicts.proofs.Clashing.{NoneBelow, none-next, none-all, told-yes, told-not, both_at, both-back}
+use borrow.Author.Rules.{rules}
+use Rattle.unwrap_conflicts.proofs.any_clash.Goals as goal
+
+-- `unwrap_search::values::any_clash` meets its contract.
+
+pub loop-i-init : goal.loop-i-init
+loop-i-init c =
+    let e : length c.args.entries ≡ limits.wrap_keys = search rules in
+    let f : length c.args.cells ≡ limits.wrap_keys = search rules in
+    (c.requires, e, f, search rules, λ i h. absurd (omega arith))
+
+pub returns-then-clashes : goal.returns-then-clashes
+returns-then-clashes c =
+    let l = c.loop-i in
+    let a = c.args in
+    record {
+      place = l.i;
+      inside = omega arith;
+      holds = both_at a.t2 l.i _ (omega arith)
+          (λ (e : Entry) (d : Cell). ClashAmong e d a.t1 a.t2 a.n) a.t1 _ (omega arith)
+          (told-yes _ _ c.if-clashes.true c.clashes.ensures);
+    }
+
+pub loop-i-preserved : goal.loop-i-preserved
+loop-i-preserved c =
+    let l = c.loop-i in
+    let a = c.args in (
+      l.invariant.0,
+      l.invariant.1,
+      l.invariant.2,
+      omega arith,
+      none-next (λ j. ClashAmong (get_or a.t1 j no_entry) (cell_at a.t2 j) a.t1 a.t2 a.n) l.i l.invariant.4
+          (λ h. told-not _ _ c.if-clashes.false c.clashes.ensures
+          (both-back a.t2 l.i _ (omega arith)
+          (λ (e : Entry) (d : Cell). ClashAmong e d a.t1 a.t2 a.n) a.t1 _ (omega arith) h)),
+    )
+
+pub returns : goal.returns
+returns c =
+    let l = c.loop-i in
+    let a = c.args in
+    none-all (λ j. ClashAmong (get_or a.t1 j no_entry) (cell_at a.t2 j) a.t1 a.t2 a.n) l.i a.n (omega arith) l.invariant.4

@@ -1,0 +1,19 @@
+use native.Mathlib.Omega.{arith}
+use Prim.Native.Nat.{◌-◌, ◌≤◌}
+use mathlib.Core.Path.{◌≡◌}
+use lib.ListN.{length, get_or}
+use Rattle.state_keys.specs.Limits.{limits}
+use Rattle.unwrap_search.specs.inner.Entries.{no_entry}
+use Rattle.unwrap_search.specs.inner.Search.{cell_at}
+use Rattle.unwrap_conflicts.specs.inner.Values.{Clash}
+use Rattle.unwrap_conflicts.proofs.Clashing.{NoneBelow, none-next, none-all, told-yes, told-not, both_at, both-back}
+use borrow.Author.Rules.{rules}
+use Rattle.unwrap_conflicts.proofs.clashes.Given as goal
+
+abbrev pub invariant-loop-i : goal.invariant-loop-i
+invariant-loop-i l =
+    (l.n ≤ limits.wrap_keys) × (length l.entries ≡ limits.wrap_keys) × (length l.cells ≡ limits.wrap_keys) × (l.i ≤ l.n) ×
+    NoneBelow l.i (λ j. Clash l.e l.c (get_or l.entries j no_entry) (cell_at l.cells j))
+
+abbrev pub decreases-loop-i : goal.decreases-loop-i
+decreases-loop-i l = l.n - l.i

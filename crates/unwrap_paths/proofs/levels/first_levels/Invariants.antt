@@ -1,0 +1,18 @@
+use native.Mathlib.Omega.{arith}
+use Prim.Native.Nat.{ℕ, ◌-◌, ◌≤◌}
+use mathlib.Core.Path.{◌≡◌, refl}
+use lib.ListN.{length, length-set, replicate}
+use Rattle.octets.specs.Numbers.{oct}
+use Rattle.unwrap_paths.specs.inner.Code.{first_level}
+use Rattle.unwrap_paths.proofs.Steps.{Partly, partly_none, partly-next}
+use Rattle.state_keys.specs.Limits.{limits}
+use borrow.Author.Rules.{rules}
+use Rattle.unwrap_paths.proofs.levels.first_levels.Given as goal
+
+abbrev pub invariant-loop-i : goal.invariant-loop-i
+invariant-loop-i l =
+    (l.n ≤ limits.wrap_keys) × (l.n ≤ length l.marks) × (length l.out ≡ limits.wrap_keys) × (l.i ≤ l.n) ×
+    Partly (λ (j : ℕ). first_level (oct l.marks j)) l.initial.out l.out l.i
+
+abbrev pub decreases-loop-i : goal.decreases-loop-i
+decreases-loop-i l = l.n - l.i

@@ -1,0 +1,16 @@
+use native.Mathlib.Omega.{arith}
+use Prim.Native.Nat.{ℕ, ◌-◌, ◌≤◌}
+use mathlib.Core.Path.{◌≡◌, sym, ◌∙◌}
+use lib.ListN.{length}
+use Rattle.state_keys.specs.Limits.{limits}
+use Rattle.unwrap_search.specs.inner.Search.{Unnamed}
+use Rattle.unwrap_search.proofs.Loops.{named-next}
+use borrow.Author.Rules.{rules}
+use Rattle.unwrap_search.proofs.search.is_named.Given as goal
+
+abbrev pub invariant-loop-i : goal.invariant-loop-i
+invariant-loop-i l =
+    (l.n ≤ limits.wrap_keys) × (length l.entries ≡ limits.wrap_keys) × (length l.cells ≡ limits.wrap_keys) × (l.i ≤ l.n) × Unnamed l.id l.entries l.cells l.i
+
+abbrev pub decreases-loop-i : goal.decreases-loop-i
+decreases-loop-i l = l.n - l.i

@@ -1,0 +1,14 @@
+use mathlib.Core.Path.{◌∙◌, ap}
+use Rattle.state_keys.specs.Kinds.{wrapping_key}
+use Rattle.state_keys.specs.declared.kinds.MadeWrapping.{MadeWrapping}
+use Rattle.unwrap_search.proofs.Starting.{key-from}
+use borrow.Author.Rules.{rules}
+use Rattle.unwrap_search.proofs.search.key_at.Goals as goal
+
+-- `unwrap_search::search::key_at` meets its contract.
+
+pub returns : goal.returns
+returns c keys ids lends h size =
+    let v = c.value_at in
+    key-from keys ids _ lends _ h size c.new-made.result
+    (c.new-made.ensures ∙ ap wrapping_key (v.ensures.0 keys ids lends h))

@@ -1,0 +1,20 @@
+use native.Mathlib.Omega.{arith}
+use Prim.Native.Nat.{ℕ, ◌-◌, ◌≤◌}
+use mathlib.Core.Path.{◌≡◌}
+use mathlib.Core.List.{List}
+use lib.ListN.{length, length-set}
+use Rattle.state_keys.specs.Limits.{limits}
+use Rattle.aes.specs.inner.Schedule.{ExpandsInverse}
+use Rattle.wire_attributes.specs.Tree.{WrapKey}
+use Rattle.unwrap_search.specs.inner.Entries.{Lists}
+use Rattle.unwrap_search.proofs.Loops.{Partly, partly_none, partly-next, partly-all, entry_at}
+use borrow.Author.Rules.{rules}
+use Rattle.unwrap_search.proofs.search.try_on_all.Given as goal
+
+abbrev pub invariant-loop-i : goal.invariant-loop-i
+invariant-loop-i l =
+    (l.n ≤ limits.wrap_keys) × (length l.entries ≡ limits.wrap_keys) × (length l.out ≡ limits.wrap_keys) × (l.i ≤ l.n) ×
+    ((l : List WrapKey) (v : List ℕ) → Lists l.frame l.entries l.n l → ExpandsInverse v l.schedule.words → Partly l.id v l.size l l.initial.out l.out l.i)
+
+abbrev pub decreases-loop-i : goal.decreases-loop-i
+decreases-loop-i l = l.n - l.i

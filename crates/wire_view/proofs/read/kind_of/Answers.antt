@@ -1,0 +1,34 @@
+use mathlib.Core.Path.{sym, ◌∙◌}
+use Rattle.wire_view.proofs.KindLaws.{too_short, other-size, breaks, wide, sa, told}
+use borrow.Author.Rules.{rules}
+use Rattle.wire_view.proofs.read.kind_of.Goals as goal
+
+pub returns-then-s-lt-POLICY_HEAD : goal.returns-then-s-lt-POLICY_HEAD
+returns-then-s-lt-POLICY_HEAD c = told _ _ (too_short c.args.s.now c.if-s-lt-POLICY_HEAD.true)
+
+pub returns-then-p-eq-NO_PROTOCOL : goal.returns-then-p-eq-NO_PROTOCOL
+returns-then-p-eq-NO_PROTOCOL c =
+    let m = c.be16_at in
+    let e = c.enum_told-1.given in
+    told _ _
+    (wide c.args.s.now m.result e.0.0 m.ensures.0 c.if-be16_at-s.true
+    (sym e.1 ∙ c.policy_spot.ensures) c.wide-p.result c.wide-p.ensures.0 c.if-p-eq-NO_PROTOCOL.true)
+
+pub returns-in-Ends : goal.returns-in-Ends
+returns-in-Ends c =
+    let m = c.be16_at in
+    let e = c.enum_told-1.given in
+    told _ _
+    (sa c.args.s.now m.result e.0.0 m.ensures.0 c.if-be16_at-s.true
+    (sym e.1 ∙ c.policy_spot.ensures) c.wide-p.result c.wide-p.ensures.0 c.if-p-eq-NO_PROTOCOL.false)
+
+pub returns-in-Broken : goal.returns-in-Broken
+returns-in-Broken c =
+    told _ _
+    (breaks c.args.s.now c.in-Broken.field-0
+    (sym c.in-Broken.is ∙ c.policy_spot.ensures))
+
+pub returns : goal.returns
+returns c =
+    let m = c.be16_at in
+    told _ _ (other-size c.args.s.now m.result m.ensures.0 c.if-be16_at-s.false)

@@ -1,0 +1,360 @@
+#!/usr/bin/env python3
+"""Turns proofs that walk the code (Proof.antt over a Tie) into Invariants.antt and Answers.antt.
+
+usage: tools/answers.py NAMES [FILE..]
+
+NAMES is a folder with CRATE/names.json, which `rt check --generated DIR --old-names` writes. Each FILE is a Proof.antt of crates/; without one all
+are turned. An answer that only says `search rules` goes, since the check tries that by itself. A file whose lemmas speak of a place of the walk
+keeps its form, and its names alone are turned. What cannot be told from the text stays as it is and is printed.
+"""
+import glob
+import json
+import os
+import re
+import sys
+
+NAME = r"[^\s(){}.;,@\"«»\[\]\\]+"
+START = {"args", "ranges", "lifetimes", "well_formed", "requires", "auto", "blocks", "loan_names", "utf8"}
+
+
+def plain(s):
+    """A name without what the older spelling and today's write differently."""
+    s = re.sub(r"[-_]", "", s.replace("number_of_lem", "number_of")).lower()
+    return s.replace("holds", "init").replace("less", "smaller").replace("again", "preserved") if s.startswith("loop") else s
+
+
+class Walk:
+    def __init__(self, of):
+        self.of = of
+        self.places = {p[0]: (p[1], p[2][0], p[2][1], p[3], i) for i, p in enumerate(of["places"])}
+        self.by_new = dict(zip((p[0] for p in of["places"]), of["places_by_name"]))
+        self.arms = of.get("arms") or []
+        self.args = {}
+        for a, b in of.get("args") or []:
+            if a.startswith(".args"):
+                self.args[a.split(".")[-1].strip()] = b.split(".")[-1].strip()
+            elif a.startswith(".") and not a.startswith(".ranges"):
+                self.args[a[1:]] = b[1:]
+        pre = of.get("pre")
+        self.pre = pre["fields"] if pre else []
+
+    def parent(self, place):
+        return self.places[place][0]
+
+    def step(self, place, fields):
+        """The fields of a path at a place, under their new names; None where they are unknown."""
+        first = fields[0]
+        at = place
+        while at is not None:
+            _, old, new, callee, i = self.places[at]
+            arm = self.arms[i] if i < len(self.arms) else None
+            if arm:
+                for field, of, path in arm[2]:
+                    if plain(of) == plain(first) and path and fields[1 : 1 + len(path)] == path:
+                        return [arm[0], field] + fields[1 + len(path) :]
+            if old and plain(old) == plain(first):
+                return self.inside(at, new, fields[1:])
+            if first.replace("-", "_") in START:
+                return self.at_start([first.replace("-", "_")] + fields[1:])
+            at = self.parent(at)
+        return None
+
+    def at_start(self, fields):
+        if fields[0] in ("args", "ranges") and len(fields) > 1:
+            return [fields[0], self.args.get(fields[1], fields[1])] + fields[2:]
+        if fields[0] == "requires" and self.pre and len(fields) > 1:
+            named, rest = nested(fields[1:], self.pre)
+            return ["requires"] + named + rest
+        return fields
+
+    def inside(self, place, new, rest):
+        callee = self.places[place][3]
+        i = self.places[place][4]
+        clauses = (self.of.get("clauses") or [None] * (i + 1))[i] if self.of.get("clauses") else None
+        if rest and rest[0] == "ensures" and clauses and len(rest) > 1:
+            named, more = nested(rest[1:], clauses["fields"])
+            return [new, "ensures"] + named + more
+        if rest and rest[0] == "new" and callee in self.of.get("params", {}) and len(rest) > 1:
+            named, more = nested(rest[1:], self.of["params"][callee])
+            return [new, "new"] + named + more
+        return [new] + rest
+
+
+def nested(fields, names):
+    """`.1.0` of nested pairs as the name of that part, and what follows it."""
+    at = 0
+    for i, f in enumerate(fields):
+        last = at == len(names) - 1
+        if f == "0" and not last:
+            return [names[at]], fields[i + 1 :]
+        if f == "1" and not last:
+            at += 1
+            if at == len(names) - 1:
+                return [names[at]], fields[i + 1 :]
+            continue
+        break
+    return [], fields
+
+
+def first(decl):
+    """The first line that is no comment."""
+    return next((line for line in decl if not line.startswith("--")), decl[0])
+
+
+def declarations(text):
+    """The text as use lines and top-level declarations, each with its lines."""
+    lines = text.split("\n")
+    uses, decls, now = [], [], []
+    for line in lines:
+        if re.match(r"(pub )?use ", line):
+            uses.append(line)
+        elif line.strip() == "":
+            if now:
+                decls.append(now)
+                now = []
+        else:
+            now.append(line)
+    if now:
+        decls.append(now)
+    return uses, decls
+
+
+def turn_paths(text, walk, place, said, where):
+    """Rewrites each path from `c`, and from names bound to a place, to the fields of c."""
+    env = {"c": place}
+    # let NAME = c.before.. in
+    while True:
+        m = re.search(r"let (%s) = (%s)((?:\.before)*) in[ \n]*" % (NAME, NAME), text)
+        done = False
+        for m in re.finditer(r"(?:(?<=\n)[ ]*|(?<![\w]))let (%s) = (%s)((?:\.before)*) in[ ]*\n?" % (NAME, NAME), text):
+            if m[2] in env:
+                # A step's name is its own in the whole walk, so the place that a path starts from need not be followed.
+                env[m[1]] = place
+                text = text[: m.start()] + text[m.end() :]
+                done = True
+                break
+        if not done:
+            break
+
+    def path(m):
+        var, fields = m[1], m[2].split(".")[1:]
+        if var not in env:
+            return m[0]
+        at = env[var]
+        n = 0
+        while n < len(fields) and fields[n] == "before":
+            n += 1
+        rest = fields[n:]
+        if not rest:
+            if n == 0 and var == "c":
+                return m[0]
+            said.append(f"{where}: a place by itself: {m[0]} ({at})")
+            return m[0]
+        new = walk.step(at, rest)
+        if new is None:
+            said.append(f"{where}: no step {rest[0]} at {at}")
+            return "c." + ".".join(rest)
+        return "c." + ".".join(new)
+
+    names = "|".join(re.escape(v) for v in sorted(env, key=len, reverse=True))
+    text = re.sub(r"(?<![\w'.-])(%s)((?:\.[\w'\-⊎]+)*)(?![\w'-])" % names, path, text)
+    return text
+
+
+def invariants(decls, walk, said, where):
+    """The declarations of Invariants.antt, from those of the loops."""
+    out = []
+    for d in decls:
+        said_before = d[: d.index(first(d))]
+        d = d[len(said_before) :]
+        head = re.match(r"(?:pub )?abbrev (?:pub )?(%s) : tie\.(invariant|decreases)-(\S+)" % NAME, d[0])
+        name, kind, loop = head[1], head[2], head[3]
+        loops = walk.of["loops"]
+        index = next((i for i, l in enumerate(loops) if plain(l[0][0]) == plain(loop)), None)
+        if index is None:
+            said.append(f"{where}: no loop {loop}")
+            continue
+        (_, new), vars = loops[index]
+        changed = walk.of["changed"][index]
+        want = [f"l.{v}" for v, c in zip(vars, changed) if not c] + [f"l.initial.{v}" for v, c in zip(vars, changed) if c] + [f"l.{v}" for v, c in zip(vars, changed) if c]
+        eq = next(i for i, line in enumerate(d) if i and re.match(re.escape(name) + r"(\s|$)", line))
+        body = "\n".join(d[eq:])
+        left, right = body.split("=", 1)
+        params = left.split()[1:]
+        if len(params) != len(want):
+            said.append(f"{where}: {loop} has {len(params)} parameters, not {len(want)}: {params} {want}")
+            continue
+        for p in params:
+            if re.search(r"λ[^.]*(?<![\w'])%s(?![\w'])[^.]*\.|let %s\b|\(%s :" % (re.escape(p), re.escape(p), re.escape(p)), right):
+                said.append(f"{where}: {loop} binds {p} again")
+        subst = dict(zip(params, want))
+        right = re.sub(r"(?<![\w'.-])(%s)(?![\w'-]|₀)" % "|".join(re.escape(p) for p in sorted(params, key=len, reverse=True)), lambda m: subst[m[1]], right)
+        out.append(said_before + [f"abbrev pub {kind}-{new} : goal.{kind}-{new}"] + d[1:eq] + (f"{kind}-{new} l =" + right).split("\n"))
+    return out
+
+
+def keep(path, text, walk, decls, uses, goal_of, place_of, declared, said):
+    """Turns the names of a file that keeps its form: lemmas of it speak of places of the walk."""
+    by_plain = {plain(p): p for p in walk.places}
+    helpers = {}
+    for d in decls:
+        h = re.match(r"(%s) :" % NAME, first(d))
+        whole = "\n".join(d)
+        m = re.search(r"\(c : tie\.(%s)" % NAME, whole)
+        if m and h and h[1] not in declared:
+            place = by_plain.get(plain(m[1]))
+            if place is None:
+                said.append(f"{path}: {h[1]} at an unknown place {m[1]}")
+            helpers[h[1]] = place
+
+    def at(text, place, where):
+        env = {"c": place}
+        for m in re.finditer(r"let (%s) = (%s)((?:\.before)*) in" % (NAME, NAME), text):
+            if m[2] in env:
+                env[m[1]] = None
+
+        def call(m):
+            if (m[2] or m[3]) not in env:
+                return m[0]
+            to, up, n = helpers[m[1]], place, 0
+            while up is not None and up != to:
+                up, n = walk.parent(up), n + 1
+            if up is None:
+                said.append(f"{where}: {m[1]} at {to}, which {place} has not passed")
+                return m[0]
+            it = "c" + ".before" * n
+            return f"{m[1]} {it}"
+
+        if helpers:
+            names = "|".join(re.escape(h) for h in sorted(helpers, key=len, reverse=True))
+            text = re.sub(r"(?<![\w'.-])(%s)\s+(?:\((%s)(?:\.before)*\)|(%s)(?:\.before)*)(?![\w'.-])" % (names, NAME, NAME), call, text)
+        marks = {}
+
+        def hide(m):
+            marks[f"\0{len(marks)}\0"] = m[0]
+            return f"\0{len(marks) - 1}\0"
+
+        if helpers:
+            text = re.sub(r"(?<![\w'.-])(%s) c(?:\.before)*(?![\w'.-])" % names, hide, text)
+        text = turn_paths(text, walk, place, said, where)
+        for k, v in marks.items():
+            text = text.replace(k, v)
+        return text
+
+    def words(text):
+        def need(m):
+            i = next((i for i, n in enumerate(walk.of["needs"]) if plain(n[0]) == plain(m[1])), None)
+            return m[0] if i is None else "tie.Need-" + walk.of["needs"][i][1]
+
+        def place(m):
+            p = by_plain.get(plain(m[1]))
+            return "tie." + walk.by_new[p] if p else m[0]
+
+        def loop(m):
+            l = next((l for l in walk.of["loops"] if plain(l[0][0]) == plain(m[2])), None)
+            return f"tie.{m[1]}-{l[0][1]}" if l else m[0]
+
+        text = re.sub(r"tie\.(invariant|decreases)-(%s)" % NAME, loop, text)
+        return re.sub(r"tie\.((?:After|Then|Else|In|Joined|At|Start)%s)" % NAME, place, text)
+
+    out = []
+    for d in decls:
+        h = re.match(r"(?:pub )?(%s) :" % NAME, first(d))
+        name = h[1] if h else None
+        if name in goal_of:
+            n = d.index(first(d))
+            head = re.sub(r"tie\.Need-%s" % NAME, "tie.Need-" + goal_of[name], words(d[n]))
+            out.append(d[:n] + [head] + at("\n".join(d[n + 1 :]), place_of[name], f"{path}: {name}").split("\n"))
+        elif name in helpers and helpers[name]:
+            out.append(words(at("\n".join(d), helpers[name], f"{path}: {name}")).split("\n"))
+        else:
+            out.append(words("\n".join(d)).split("\n"))
+    with open(path, "w", encoding="utf-8") as f:
+        f.write("\n".join(uses) + "\n\n" + "\n\n".join("\n".join(d) for d in out) + "\n")
+
+
+def main():
+    names = sys.argv[1]
+    files = sys.argv[2:] or sorted(glob.glob("crates/*/proofs/**/Proof.antt", recursive=True))
+    said = []
+    for path in files:
+        m = re.match(r"crates/(\w+)/proofs/(.*)/Proof\.antt", path)
+        crate, func = m[1], m[2].replace("/", ".")
+        listed = f"{names}/{crate}/names.json"
+        if not os.path.exists(listed):
+            continue
+        of = json.load(open(listed)).get(f"Rattle-{crate}-proofs.{func}.Lts")
+        text = open(path, encoding="utf-8").read()
+        if of is None or "as tie" not in text:
+            said.append(f"{path}: not turned")
+            continue
+        walk = Walk(of)
+        uses, decls = declarations(text)
+        spec = re.search(r"tie\.spec\b(.*)", text, re.S)
+        declared = {}
+        for d in decls:
+            h = re.match(r"(?:pub )?(%s) : tie\.Need-" % NAME, first(d))
+            if h:
+                declared[h[1]] = d[d.index(first(d)) :]
+        order = [a.strip("()") for a in spec[1].split() if a.strip("()") in declared]
+        needs = [n[1] for n in of["needs"]]
+        if len(order) != len(needs):
+            land = [n[0] for n in of["needs"]]
+            order2 = []
+            said.append(f"{path}: {len(order)} answers for {len(needs)} goals")
+            continue
+        goal_of = dict(zip(order, needs))
+        place_of = dict(zip(order, (a[0] for a in of["asked_at"])))
+        if re.search(r"tie\.(After|Then|Else|In|Joined|At|Start)", text):
+            keep(path, text, walk, decls, uses, goal_of, place_of, declared, said)
+            continue
+        loops = [d for d in decls if re.match(r"(?:pub )?abbrev .* : tie\.(invariant|decreases)-", first(d))]
+        others = [d for d in decls if d not in loops and first(d).split(" ")[0] not in declared and "tie.close" not in "\n".join(d)]
+        answers = []
+        bodies = {}
+        for name in order:
+            d = declared[name]
+            text_d = "\n".join(d[1:])
+            body = re.sub(r"^(%s)((?: κs)?)" % re.escape(name), r"\1", text_d)
+            m2 = re.match(r"((?:unfolding[^\n]*\n)*)%s c( κs)?((?: [^\s=]+)*) =(.*)" % re.escape(name), text_d, re.S)
+            if not m2:
+                said.append(f"{path}: {name} has another form")
+                continue
+            bodies[name] = (m2[1], m2[3], m2[4])
+        cited = {n for n in order for o in bodies if n != o and re.search(r"(?<![\w'.-])%s(?![\w'-])" % re.escape(n), bodies[o][2])}
+        for name in order:
+            if name not in bodies:
+                continue
+            unfolding, more, right = bodies[name]
+            if right.strip() == "search rules" and name not in cited:
+                continue
+            where = f"{path}: {name}"
+            right = turn_paths(right, walk, place_of[name], said, where)
+            for o in cited:
+                right = re.sub(r"(?<![\w'.-])%s(?![\w'-])" % re.escape(o), goal_of[o], right)
+            new = goal_of[name]
+            answers.append([f"pub {new} : goal.{new}"] + [u for u in unfolding.split("\n") if u] + (f"{new} c{more} =" + right).split("\n"))
+        folder = os.path.dirname(path)
+        base = [u for u in uses if ".Statement." not in u and ".Tie as tie" not in u]
+        inv = invariants(loops, walk, said, path)
+
+        def write(file, module, all):
+            whole = "\n\n".join("\n".join(d) for d in all)
+            mine = []
+            for u in base:
+                mine.append(u)
+            head = "\n".join(mine + [f"use Rattle.{crate}.proofs.{func}.{module} as goal"])
+            with open(f"{folder}/{file}", "w", encoding="utf-8") as f:
+                f.write(head + "\n\n" + whole + "\n")
+
+        if inv:
+            write("Invariants.antt", "Given", inv)
+        if answers:
+            write("Answers.antt", "Goals", others + answers)
+        elif others:
+            said.append(f"{path}: lemmas and no answer: {[o[0] for o in others]}")
+        os.remove(path)
+    print("\n".join(said))
+
+
+main()
