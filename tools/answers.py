@@ -59,6 +59,18 @@ class Walk:
             at = self.parent(at)
         return None
 
+    def part(self, place, fields):
+        """Whether the path is a part of what an arm binds, whose parts have names of their own."""
+        at = place
+        while at is not None:
+            i = self.places[at][4]
+            arm = self.arms[i] if i < len(self.arms) else None
+            for _, of, path in arm[2] if arm else []:
+                if plain(of) == plain(fields[0]) and len(path) > len(fields) - 1 and path[: len(fields) - 1] == fields[1:]:
+                    return True
+            at = self.parent(at)
+        return False
+
     def at_start(self, fields):
         if fields[0] in ("args", "ranges") and len(fields) > 1:
             return [fields[0], self.args.get(fields[1], fields[1])] + fields[2:]
@@ -121,15 +133,14 @@ def declarations(text):
 
 def turn_paths(text, walk, place, said, where):
     """Rewrites each path from `c`, and from names bound to a place, to the fields of c."""
-    env = {"c": place}
-    # let NAME = c.before.. in
+    env = {"c": []}
+    # let NAME = c.before.. in: a step's name is its own in the whole walk, so the place that a path starts from need not be followed
     while True:
-        m = re.search(r"let (%s) = (%s)((?:\.before)*) in[ \n]*" % (NAME, NAME), text)
         done = False
-        for m in re.finditer(r"(?:(?<=\n)[ ]*|(?<![\w]))let (%s) = (%s)((?:\.before)*) in[ ]*\n?" % (NAME, NAME), text):
-            if m[2] in env:
-                # A step's name is its own in the whole walk, so the place that a path starts from need not be followed.
-                env[m[1]] = place
+        for m in re.finditer(r"(?:(?<=\n)[ ]*|(?<![\w]))let (%s) = (%s)((?:\.[\w'-]+)*) in[ ]*\n?" % (NAME, NAME), text):
+            fields = [f for f in m[3].split(".")[1:] if f != "before"]
+            if m[2] in env and (not env[m[2]] + fields or walk.part(place, env[m[2]] + fields)):
+                env[m[1]] = env[m[2]] + fields
                 text = text[: m.start()] + text[m.end() :]
                 done = True
                 break
@@ -140,19 +151,14 @@ def turn_paths(text, walk, place, said, where):
         var, fields = m[1], m[2].split(".")[1:]
         if var not in env:
             return m[0]
-        at = env[var]
-        n = 0
-        while n < len(fields) and fields[n] == "before":
-            n += 1
-        rest = fields[n:]
+        rest = env[var] + [f for f in fields if f != "before"]
         if not rest:
-            if n == 0 and var == "c":
-                return m[0]
-            said.append(f"{where}: a place by itself: {m[0]} ({at})")
+            if m[0] != "c":
+                said.append(f"{where}: a place by itself: {m[0]} ({place})")
             return m[0]
-        new = walk.step(at, rest)
+        new = walk.step(place, rest)
         if new is None:
-            said.append(f"{where}: no step {rest[0]} at {at}")
+            said.append(f"{where}: no step {rest[0]} at {place}")
             return "c." + ".".join(rest)
         return "c." + ".".join(new)
 

@@ -75,8 +75,7 @@ enum-known-start c = search rules
 -- the next copy
 next : (c : tie.In-At invariant-loop decreases-loop) →
     let a = c.args in
-    let p = c.start-1.given.0 in
-    MetAt meaning.SaKey a.place a.a.now c.loop-start.at p.0 p.1.0
+    MetAt meaning.SaKey a.place a.a.now c.loop-start.at c.in-At.start c.in-At.end
 next c =
     let a = c.args in
     subst (FindsValue meaning.SaKey a.place a.a.now c.loop-start.at) c.in-At.is
@@ -88,8 +87,7 @@ attribute-value-requires c κs = search rules
 -- its octets
 octets-are : (c : tie.After-attribute_value-copy invariant-loop decreases-loop) →
     let a = c.args in
-    let p = c.start-1.given.0 in
-    c.attribute_value-copy.result.now ≡ part a.a.now (value_start a.a.now p.0) p.1.0
+    c.attribute_value-copy.result.now ≡ part a.a.now (value_start a.a.now c.in-At.start) c.in-At.end
 octets-are c = c.attribute_value-copy.ensures.result_value ∙ (next c.before).octets
 
 -- it holds both IDs
@@ -121,7 +119,6 @@ loop-again c =
     let n = c.note-openers in
     let f = (next c.before.before.before.before.before.before).value in
     let l = c.loop-start in
-    let e = c.start-1.given.0 in
     let a = c.args in
     let s = a.a.now in
     let id = c.be32_at-kwk in
@@ -137,7 +134,7 @@ loop-again c =
           let m = one.ensures v new old r (sym id.ensures ∙ sym key.ensures.0.0) in (
             goes_on a.need (tries_of_all v new old (copies_in a.place s)) _ _ _ l.known one.result c.merge-known.result
                 (next-tries a.place s l.at _ _ f _ (octets-are c.before.before.before.before.before) v new old) p.0 m c.merge-known.ensures,
-            listed_next a.need v new old (copies_in a.place s) (copies_in a.place (drop e.1.0 s)) k l.openers n.result
+            listed_next a.need v new old (copies_in a.place s) (copies_in a.place (drop c.in-At.end s)) k l.openers n.result
                 (subst (λ (y : List SaKey). Listed a.need v new old (copies_in a.place s) y l.openers)
                 (next-copies a.place s l.at _ _ f _ (octets-are c.before.before.before.before.before)) p.1)
                 one.result m

@@ -14,11 +14,9 @@ enum-known-short : tie.Need-enum_known-short
 enum-known-short c = search rules
 
 found : (c : tie.In-Attribute)
-    → let v = c.short-1.given.0 in
-    IsRead c.args.s.now v.0 v.1.0 v.1.1.0 v.1.1.1.0
+    →     IsRead c.args.s.now c.in-Attribute.short c.in-Attribute.kind c.in-Attribute.start c.in-Attribute.end
 found c =
-    let v = c.short-1.given.0 in
-    read_is c.args.s.now v.0 v.1.0 v.1.1.0 v.1.1.1.0
+    read_is c.args.s.now c.in-Attribute.short c.in-Attribute.kind c.in-Attribute.start c.in-Attribute.end
     (sym c.in-Attribute.is ∙ c.read_attribute.ensures)
 
 meaning-in-requires : tie.Need-meaning_in-requires
@@ -26,8 +24,7 @@ meaning-in-requires c κs = search rules
 
 sub-is-formed : tie.Need-overflow_sub-end
 sub-is-formed c =
-    let v = c.short-1.given.0 in
-    (read-inside _ v.0 v.1.0 v.1.1.0 v.1.1.1.0 (found c.before)).0
+    (read-inside _ c.in-Attribute.short c.in-Attribute.kind c.in-Attribute.start c.in-Attribute.end (found c.before)).0
 
 is-formed-requires : tie.Need-is_formed-requires
 is-formed-requires c κs = search rules
@@ -35,9 +32,8 @@ is-formed-requires c κs = search rules
 returns : tie.Need-returns-then-is_formed
 returns c =
     let a = c.args in
-    let v = c.short-1.given.0 in
-    formed-in a.place a.base a.s.now v.0 v.1.0 v.1.1.0 v.1.1.1.0 (found c.before.before.before) _
-    (c.is_formed.ensures ∙ ap (λ (m : Meaning). format_fits m v.0 (v.1.1.1.0 - v.1.1.0))
+    formed-in a.place a.base a.s.now c.in-Attribute.short c.in-Attribute.kind c.in-Attribute.start c.in-Attribute.end (found c.before.before.before) _
+    (c.is_formed.ensures ∙ ap (λ (m : Meaning). format_fits m c.in-Attribute.short (c.in-Attribute.end - c.in-Attribute.start))
     c.meaning_in.ensures) c.if-is_formed.true
 
 enum_told : tie.Need-enum_told-1
@@ -46,9 +42,8 @@ enum_told c = search rules
 returns-2 : tie.Need-returns-else-is_formed
 returns-2 c =
     let a = c.args in
-    let v = c.short-1.given.0 in
-    not-formed a.place a.base a.s.now v.0 v.1.0 v.1.1.0 v.1.1.1.0 (found c.before.before.before) _
-    (c.is_formed.ensures ∙ ap (λ (m : Meaning). format_fits m v.0 (v.1.1.1.0 - v.1.1.0))
+    not-formed a.place a.base a.s.now c.in-Attribute.short c.in-Attribute.kind c.in-Attribute.start c.in-Attribute.end (found c.before.before.before) _
+    (c.is_formed.ensures ∙ ap (λ (m : Meaning). format_fits m c.in-Attribute.short (c.in-Attribute.end - c.in-Attribute.start))
     c.meaning_in.ensures) c.if-is_formed.false
 
 returns-3 : tie.Need-returns-in-Cut

@@ -42,21 +42,17 @@ enum-known-start : tie.Need-enum_known-start
 enum-known-start c = search rules
 
 found : (c : tie.In-Attribute)
-    → let v = c.start-1.given.0 in
-    IsRead (drop c.args.at c.args.s.now) v.0 v.1.0 v.1.1.0 v.1.1.1.0
+    →     IsRead (drop c.args.at c.args.s.now) c.in-Attribute.short c.in-Attribute.kind c.in-Attribute.start c.in-Attribute.end
 found c =
-    let v = c.start-1.given.0 in
-    read_is (drop c.args.at c.args.s.now) v.0 v.1.0 v.1.1.0 v.1.1.1.0
+    read_is (drop c.args.at c.args.s.now) c.in-Attribute.short c.in-Attribute.kind c.in-Attribute.start c.in-Attribute.end
     (sym c.in-Attribute.is ∙ c.read_attribute.ensures ∙ ap read_of (to_end c.args.s.now
     c.args.at))
 
 inside : (c : tie.In-Attribute)
-    → let v = c.start-1.given.0 in
-    (v.1.1.0 ≤ v.1.1.1.0) × (v.1.1.1.0 ≤ length (drop c.args.at
-    c.args.s.now)) × (4 ≤ v.1.1.1.0)
+    →     (c.in-Attribute.start ≤ c.in-Attribute.end) × (c.in-Attribute.end ≤ length (drop c.args.at
+    c.args.s.now)) × (4 ≤ c.in-Attribute.end)
 inside c =
-    let v = c.start-1.given.0 in
-    read-inside (drop c.args.at c.args.s.now) v.0 v.1.0 v.1.1.0 v.1.1.1.0 (found c)
+    read-inside (drop c.args.at c.args.s.now) c.in-Attribute.short c.in-Attribute.kind c.in-Attribute.start c.in-Attribute.end (found c)
 
 add_a : tie.Need-overflow_add-a
 add_a c =
@@ -103,10 +99,10 @@ part-result-end-3 c = search rules
 returns-2 : tie.Need-returns-in-Attribute
 returns-2 c =
     let a = c.args in
-    let v = c.start-1.given.0 in (
-      value_there a.s.now a.at v.0 v.1.0 v.1.1.0 v.1.1.1.0 (found c.before),
+(
+      value_there a.s.now a.at c.in-Attribute.short c.in-Attribute.kind c.in-Attribute.start c.in-Attribute.end (found c.before),
       ap (λ (n : ℕ). (a.s.ptr.0, n + a.s.ptr.1))
-          (starts-there a.s.now a.at v.0 v.1.0 v.1.1.0 v.1.1.1.0 (found c.before)),
+          (starts-there a.s.now a.at c.in-Attribute.short c.in-Attribute.kind c.in-Attribute.start c.in-Attribute.end (found c.before)),
     )
 
 returns-3 : tie.Need-returns-in-Cut

@@ -23,11 +23,9 @@ enum-known-first c = search rules
 -- the header fits; what was read of it are the first payload's type and the exchange type
 header_read : (c : tie.In-Header)
     → let s = c.args.s.now in
-    let v = c.first-1.given.0 in
-    (header_fits s ≡ true) × (v.0 ≡ first_payload s) × (v.1.0 ≡ oct s 18)
+    (header_fits s ≡ true) × (c.in-Header.first ≡ first_payload s) × (c.in-Header.exchange ≡ oct s 18)
 header_read c =
-    let v = c.first-1.given.0 in
-    header_is c.args.s.now v.0 v.1.0 v.1.1.0
+    header_is c.args.s.now c.in-Header.first c.in-Header.exchange c.in-Header.message_id
     (sym c.in-Header.is ∙ c.read_header.ensures)
 
 long : (c : tie.In-Header) → let n = length c.args.s.now in (28 ≤ n) × (n ≤ 16384)

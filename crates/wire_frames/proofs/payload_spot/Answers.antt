@@ -12,32 +12,28 @@ returns-then-s-eq0 c = missing c.args.fresh c.args.kind c.args.base c.args.s.now
 
 pub slice_bounds-body_layout-count : goal.slice_bounds-body_layout-count
 slice_bounds-body_layout-count c =
-    let v = c.end-1.given.0 in
-    let i = payload-is c.args.s.now v.0 v.1.0 v.1.1.0 (sym
+    let i = payload-is c.args.s.now c.in-Payload.next c.in-Payload.critical c.in-Payload.end (sym
     c.in-Payload.is ∙ c.read_payload.ensures) in
     let f = sized-is c.args.s.now 4 i.0 in
     omega (arith, f.0, f.1, i.1)
 
 pub slice_bounds-body_layout-start : goal.slice_bounds-body_layout-start
 slice_bounds-body_layout-start c =
-    let v = c.end-1.given.0 in
-    let i = payload-is c.args.s.now v.0 v.1.0 v.1.1.0 (sym
+    let i = payload-is c.args.s.now c.in-Payload.next c.in-Payload.critical c.in-Payload.end (sym
     c.in-Payload.is ∙ c.read_payload.ensures) in
     let f = sized-is c.args.s.now 4 i.0 in
     omega (arith, f.0, f.1, i.1)
 
 pub slice_bounds-body_layout-end : goal.slice_bounds-body_layout-end
 slice_bounds-body_layout-end c =
-    let v = c.end-1.given.0 in
-    let i = payload-is c.args.s.now v.0 v.1.0 v.1.1.0 (sym
+    let i = payload-is c.args.s.now c.in-Payload.next c.in-Payload.critical c.in-Payload.end (sym
     c.in-Payload.is ∙ c.read_payload.ensures) in
     let f = sized-is c.args.s.now 4 i.0 in
     omega (arith, f.0, f.1, i.1)
 
 pub body_layout-requires : goal.body_layout-requires
 body_layout-requires c =
-    let v = c.end-1.given.0 in
-    let i = payload-is c.args.s.now v.0 v.1.0 v.1.1.0 (sym
+    let i = payload-is c.args.s.now c.in-Payload.next c.in-Payload.critical c.in-Payload.end (sym
     c.in-Payload.is ∙ c.read_payload.ensures) in
     let f = sized-is c.args.s.now 4 i.0 in
     omega (
@@ -46,15 +42,14 @@ body_layout-requires c =
       f.1,
       i.1,
       part-short c.args.s.now 4
-          v.1.1.0,
+          c.in-Payload.end,
       c.requires,
     )
 
 pub returns-in-Whole : goal.returns-in-Whole
 returns-in-Whole c =
-    let v = c.end-1.given.0 in
-    let i = payload-is c.args.s.now v.0 v.1.0
-    v.1.1.0 (sym c.in-Payload.is
+    let i = payload-is c.args.s.now c.in-Payload.next c.in-Payload.critical
+    c.in-Payload.end (sym c.in-Payload.is
     ∙ c.read_payload.ensures) in
     good c.args.fresh
     c.args.kind
@@ -64,9 +59,8 @@ returns-in-Whole c =
 
 pub returns-in-Broken-body_layout : goal.returns-in-Broken-body_layout
 returns-in-Broken-body_layout c =
-    let v = c.end-1.given.0 in
-    let i = payload-is c.args.s.now v.0
-    v.1.0 v.1.1.0 (sym c.in-Payload.is
+    let i = payload-is c.args.s.now c.in-Payload.next
+    c.in-Payload.critical c.in-Payload.end (sym c.in-Payload.is
     ∙ c.read_payload.ensures) in
     inner-broken c.args.fresh
     c.args.kind

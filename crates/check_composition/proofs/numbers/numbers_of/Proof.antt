@@ -31,8 +31,7 @@ enum-known-start c = search rules
 
 met : (c : tie.In-At invariant-loop decreases-loop)
     → let a = c.args in
-    let v = c.start-1.given.0 in
-    MetAt a.m a.place a.a.now c.loop-start.at v.0 v.1.0
+    MetAt a.m a.place a.a.now c.loop-start.at c.in-At.start c.in-At.end
 met c =
     let a = c.args in
     subst (FindsValue a.m a.place a.a.now c.loop-start.at) c.in-At.is
@@ -44,8 +43,7 @@ attribute-value-requires c κs = search rules
 -- the value handed on is the one found
 value : (c : tie.After-attribute_value invariant-loop decreases-loop)
     → let s = c.args.a.now in
-    let v = c.start-1.given.0 in
-    c.attribute_value.result.now ≡ part s (value_start s v.0) v.1.0
+    c.attribute_value.result.now ≡ part s (value_start s c.in-At.start) c.in-At.end
 value c = c.attribute_value.ensures.result_value ∙ (met c.before).octets
 
 with-number-requires : tie.Need-with_number-n-requires invariant-loop decreases-loop

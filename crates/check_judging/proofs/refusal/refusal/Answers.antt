@@ -19,11 +19,9 @@ pub returns-then-number_2 : goal.returns-then-number_2
 returns-then-number_2 c =
     let a = c.args in
     let s = a.s.now in
-    let m = c.exchange-1.given in
-    let v = m.0 in
-    let e = sym m.1 ∙ c.read_header.ensures in
+    let e = sym c.in-Header.is ∙ c.read_header.ensures in
     λ f q.
-    let n = at-2 limits a.state a.tick a.lent.now s f q v.0 v.1.0 v.1.1.0 e
+    let n = at-2 limits a.state a.tick a.lent.now s f q c.in-Header.first c.in-Header.exchange c.in-Header.message_id e
     (sym c.if-number_2.true ∙ c.number_2.ensures) in
     as-refused _ _ 2 n (λ z. let y = n ∙ z in omega arith)
 
@@ -31,12 +29,10 @@ pub returns-then-number_3 : goal.returns-then-number_3
 returns-then-number_3 c =
     let a = c.args in
     let s = a.s.now in
-    let m = c.exchange-1.given in
-    let v = m.0 in
-    let e = sym m.1 ∙ c.read_header.ensures in
+    let e = sym c.in-Header.is ∙ c.read_header.ensures in
     let n2 = sym c.if-number_2.false ∙ c.number_2.ensures in
     λ f q.
-    let n = at-3 limits a.state a.tick a.lent.now s f q v.0 v.1.0 v.1.1.0 e n2
+    let n = at-3 limits a.state a.tick a.lent.now s f q c.in-Header.first c.in-Header.exchange c.in-Header.message_id e n2
     (sym c.if-number_3.true ∙ c.number_3.ensures) in
     as-refused _ _ 3 n (λ z. let y = n ∙ z in omega arith)
 
@@ -44,15 +40,13 @@ pub on_frame-requires : goal.on_frame-requires
 on_frame-requires c =
     let a = c.args in
     let s = a.s.now in
-    let m = c.exchange-1.given in
-    let v = m.0 in
-    let e = sym m.1 ∙ c.read_header.ensures in
+    let e = sym c.in-Header.is ∙ c.read_header.ensures in
     let n2 = sym c.if-number_2.false ∙ c.number_2.ensures in (
-      few-sas limits a.state a.tick v.1.0 (take 16 s) n2,
+      few-sas limits a.state a.tick c.in-Header.exchange (take 16 s) n2,
       (
         c.requires,
         λ f q.
-            row_is limits a.state a.tick a.lent.now s f q v.0 v.1.0 v.1.1.0 e c.exchange_of.result
+            row_is limits a.state a.tick a.lent.now s f q c.in-Header.first c.in-Header.exchange c.in-Header.message_id e c.exchange_of.result
             c.exchange_of.ensures,
       ),
     )
@@ -61,16 +55,14 @@ pub returns-else-number_3 : goal.returns-else-number_3
 returns-else-number_3 c =
     let a = c.args in
     let s = a.s.now in
-    let m = c.exchange-1.given in
-    let v = m.0 in
-    let e = sym m.1 ∙ c.read_header.ensures in
+    let e = sym c.in-Header.is ∙ c.read_header.ensures in
     let n2 = sym c.if-number_2.false ∙ c.number_2.ensures in
     let n3 = sym c.if-number_3.false ∙ c.number_3.ensures in
     λ f q.
     let r =
-    row_is limits a.state a.tick a.lent.now s f q v.0 v.1.0 v.1.1.0 e c.exchange_of.result
+    row_is limits a.state a.tick a.lent.now s f q c.in-Header.first c.in-Header.exchange c.in-Header.message_id e c.exchange_of.result
     c.exchange_of.ensures in
-    let n = further limits a.state a.tick a.lent.now s f q v.0 v.1.0 v.1.1.0 e _ n2 n3 refl in
+    let n = further limits a.state a.tick a.lent.now s f q c.in-Header.first c.in-Header.exchange c.in-Header.message_id e _ n2 n3 refl in
     c.on_frame.ensures f q ∙ (λ i. verdict_by (n i) (frame_facts_of a.state.profile (sym r i) s))
 
 pub returns-in-Broken : goal.returns-in-Broken

@@ -34,8 +34,7 @@ enum-known-start c = search rules
 
 met : (c : tie.In-At invariant-loop decreases-loop)
     → let a = c.args in
-    let v = c.start-1.given.0 in
-    MetAt KeyLength a.place a.a.now c.loop-start.at v.0 v.1.0
+    MetAt KeyLength a.place a.a.now c.loop-start.at c.in-At.start c.in-At.end
 met c =
     let a = c.args in
     subst (FindsValue KeyLength a.place a.a.now c.loop-start.at) c.in-At.is
@@ -47,8 +46,7 @@ attribute-value-requires c κs = search rules
 -- the value handed on is the one found
 value : (c : tie.After-attribute_value-v invariant-loop decreases-loop)
     → let s = c.args.a.now in
-    let v = c.start-1.given.0 in
-    c.attribute_value-v.result.now ≡ part s (value_start s v.0) v.1.0
+    c.attribute_value-v.result.now ≡ part s (value_start s c.in-At.start) c.in-At.end
 value c = c.attribute_value-v.ensures.result_value ∙ (met c.before).octets
 
 be16-at-requires : tie.Need-be16_at-requires invariant-loop decreases-loop

@@ -20,13 +20,12 @@ enum-known-number c = search rules
 
 answer-of-requires : tie.Need-answer_of-answer-requires
 answer-of-requires c κs =
-    let m = c.number-1.given in
     let r = c.refusal in
     let a = c.args in
     let p = c.requires in
-    let n = refused-so _ _ m.0.0 (sym m.1 ∙ r.ensures p.0 p.1) in
+    let n = refused-so _ _ c.in-Refused.number (sym c.in-Refused.is ∙ r.ensures p.0 p.1) in
     judged-numbered a.self.state a.tick a.lent.now p.0 a.s.now p.1 _ _
-    (judged-clauses a.self.state a.tick a.lent.now p.0 m.0.0 n.0 (λ z. n.1 (sym n.0 ∙ z)))
+    (judged-clauses a.self.state a.tick a.lent.now p.0 c.in-Refused.number n.0 (λ z. n.1 (sym n.0 ∙ z)))
 
 refuse-requires : tie.Need-refuse-requires
 refuse-requires c κs = search rules
@@ -40,8 +39,7 @@ passes : (c : tie.In-Passed) (f : Frame) →
     frame a.self.state.profile a.s.now ≡ whole f [] → Passed a.self.state a.tick a.lent.now a.s.now
     c.in-Passed.x f
 passes c f q =
-    let m = c.x-1.given in
-    let n = passed-so _ _ m.0.0 (sym m.1 ∙ c.refusal.ensures f q) in
+    let n = passed-so _ _ c.in-Passed.x (sym c.in-Passed.is ∙ c.refusal.ensures f q) in
     record { whole_is = q; clauses = n.0; facts = n.1 }
 
 decide-frame-requires : tie.Need-decide_frame-requires
@@ -50,14 +48,13 @@ decide-frame-requires c κs = let p = c.requires in (p.0, passes c p.0 p.1)
 returns : tie.Need-returns-in-Refused
 returns c =
     let e = c.refuse.ensures in
-    let m = c.number-1.given in
     let r = c.refusal in
     let a = c.args in
     λ f q.
-    let n = refused-so _ _ m.0.0 (sym m.1 ∙ r.ensures f q) in
+    let n = refused-so _ _ c.in-Refused.number (sym c.in-Refused.is ∙ r.ensures f q) in
     judged-as a.self.state a.tick a.lent.now f _ _ _ _ (ap number_of e.0 ∙ c.answer_of-answer.ensures)
     (ap (λ (x : Member). x.state) e.1)
-    (judged-clauses a.self.state a.tick a.lent.now f m.0.0 n.0 (λ z. n.1 (sym n.0 ∙ z)))
+    (judged-clauses a.self.state a.tick a.lent.now f c.in-Refused.number n.0 (λ z. n.1 (sym n.0 ∙ z)))
 
 returns-2 : tie.Need-returns-in-Passed
 returns-2 c = λ f q. c.decide_frame.ensures f (passes c.before f q)

@@ -18,11 +18,10 @@ sealing_key-key-requires c =
 
 pub slice_bounds-receive-end : goal.slice_bounds-receive-end
 slice_bounds-receive-end c =
-    let n = c.n-1.given in
     let a = c.args in
     let k = c.sealing_key-key.result in
     let l = opened-fits a.self a.tick a.frame.now a.room.now (encryption_octets_of k) c.open_frame.result
-    c.open_frame.new.room.0 c.open_frame.ensures n.0.0 n.1 in
+    c.open_frame.new.room.0 c.open_frame.ensures c.in-Count.n c.in-Count.is in
     omega (arith, l)
 
 pub returns-in-No : goal.returns-in-No

@@ -20,9 +20,8 @@ pub returns-in-Broken : goal.returns-in-Broken
 returns-in-Broken c =
     let a = c.args in
     let r = c.layout_with_profile in
-    let told = c.at-1.given in
     let x = c.refuse.result in
     let e = c.refuse.ensures in
-    receives-broken a.self a.tick a.lent.now a.frame.now told.0.0
-    (no-tree a.self.state.profile a.frame.now r.result r.ensures.layout told.0.0 told.1) x.answer x.member
+    receives-broken a.self a.tick a.lent.now a.frame.now c.in-Broken.at
+    (no-tree a.self.state.profile a.frame.now r.result r.ensures.layout c.in-Broken.at c.in-Broken.is) x.answer x.member
     e.0 e.1

@@ -54,9 +54,8 @@ enum-known-b : tie.Need-enum_known-b invariant-loop decreases-loop
 enum-known-b c = search rules
 
 met : (c : tie.In-At invariant-loop decreases-loop) →
-    let v = c.b-1.given.0 in
     let x = c.args.bag in
-    MetAt c.args.meaning c.args.place (part c.args.kd.now x.start x.end) c.loop-b.at v.0 v.1.0
+    MetAt c.args.meaning c.args.place (part c.args.kd.now x.start x.end) c.loop-b.at c.in-At.b c.in-At.d
 met c =
     let x = c.args.bag in
     subst (FindsValue c.args.meaning c.args.place (part c.args.kd.now x.start x.end) c.loop-b.at)
@@ -67,9 +66,8 @@ attribute-value-requires c κs = search rules
 
 -- the value handed on is the one found
 value : (c : tie.After-attribute_value invariant-loop decreases-loop) →
-    let v = c.b-1.given.0 in
     let s = part c.args.kd.now c.args.bag.start c.args.bag.end in
-    c.attribute_value.result.now ≡ part s (value_start s v.0) v.1.0
+    c.attribute_value.result.now ≡ part s (value_start s c.in-At.b) c.in-At.d
 value c = c.attribute_value.ensures.result_value ∙ (met c.before).octets
 
 add-entry : tie.Need-overflow_add-a invariant-loop decreases-loop
@@ -84,10 +82,9 @@ entry-requires c κs =
     taken-sized _ _ h.wrapped c.args.kd.now _ _ h.order h.inside c.loop-b.at _ _ (met c.before).value _ (value c)
 
 first : (c : tie.After-attribute_value invariant-loop decreases-loop) →
-    let v = c.b-1.given.0 in
     let s = part c.args.kd.now c.args.bag.start c.args.bag.end in
     bag_keys c.args.meaning c.args.place (drop c.loop-b.at s)
-    ≡ wrap_key_of c.attribute_value.result.now ∷ bag_keys c.args.meaning c.args.place (drop v.1.0 s)
+    ≡ wrap_key_of c.attribute_value.result.now ∷ bag_keys c.args.meaning c.args.place (drop c.in-At.d s)
 first c =
     let h = c.requires.1 in
     taken-first _ _ h.wrapped c.args.kd.now _ _ h.order h.inside c.loop-b.at _ _ (met c.before).value _ (value c)
@@ -121,7 +118,6 @@ loop-again : tie.Need-loop-b-preserved invariant-loop decreases-loop
 loop-again c =
     let a = c.args in
     let l = c.loop-b in
-    let v = c.b-1.given.0 in
     let f = (met c.before.before).value in
     let e = first c.before in
     let s = part a.kd.now a.bag.start a.bag.end in
@@ -131,7 +127,7 @@ loop-again c =
       f.inside,
       f.rest,
       omega (arith, l.invariant.3, ap length e),
-      gathered_next a.kd.now l.places l.n (bag_keys a.meaning a.place (drop v.1.0 s))
+      gathered_next a.kd.now l.places l.n (bag_keys a.meaning a.place (drop c.in-At.d s))
           (bag_keys a.meaning a.place s) c.entry.result
           (wrap_key_of c.attribute_value.result.now)
           (subst (λ (x : List WrapKey). Gathered a.kd.now l.places l.n x (bag_keys a.meaning a.place s)) e l.invariant.4)

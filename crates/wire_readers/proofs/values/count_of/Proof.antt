@@ -30,8 +30,7 @@ enum-known-e c = search rules
 
 next : (c : tie.In-At invariant-loop decreases-loop)
     → let a = c.args in
-    let v = c.e-1.given.0 in
-    ValueFoundAt a.m a.place a.s.now c.loop-e.at (value_start a.s.now v.0) v.1.0
+    ValueFoundAt a.m a.place a.s.now c.loop-e.at (value_start a.s.now c.in-At.field-0) c.in-At.e
 next c =
     let a = c.args in
     (subst (FindsValue a.m a.place a.s.now c.loop-e.at) c.in-At.is

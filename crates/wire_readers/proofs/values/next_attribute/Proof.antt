@@ -49,27 +49,23 @@ enum-known-kind : tie.Need-enum_known-kind invariant-loop decreases-loop
 enum-known-kind c = search rules
 
 read : (c : tie.In-Attribute invariant-loop decreases-loop)
-    → let v = c.kind-1.given.0 in
-    let s = c.args.s.now in
-    IsRead (drop c.loop-at.at s) v.0 v.1.0 v.1.1.0 v.1.1.1.0
+    →     let s = c.args.s.now in
+    IsRead (drop c.loop-at.at s) c.in-Attribute.short c.in-Attribute.kind c.in-Attribute.start c.in-Attribute.end
 read c =
-    let v = c.kind-1.given.0 in
     let s = c.args.s.now in
     let at = c.loop-at.at in
-    read_is (drop at s) v.0 v.1.0 v.1.1.0 v.1.1.1.0
+    read_is (drop at s) c.in-Attribute.short c.in-Attribute.kind c.in-Attribute.start c.in-Attribute.end
     (sym c.in-Attribute.is ∙ c.read_attribute.ensures ∙ ap read_of (to_end s at))
 
 inside : (c : tie.In-Attribute invariant-loop decreases-loop)
-    → let v = c.kind-1.given.0 in
-    let s = c.args.s.now in
-    (0 < v.1.1.1.0) × (c.loop-at.at + v.1.1.1.0 ≤ length s)
-    × (v.1.1.0 ≤ v.1.1.1.0)
+    →     let s = c.args.s.now in
+    (0 < c.in-Attribute.end) × (c.loop-at.at + c.in-Attribute.end ≤ length s)
+    × (c.in-Attribute.start ≤ c.in-Attribute.end)
 inside c =
-    let v = c.kind-1.given.0 in
     let a = c.args in
     let l = c.loop-at in
     next-inside a.m a.place a.s.now l.at l.invariant.2 c.loop-at-test.true
-    v.0 v.1.0 v.1.1.0 v.1.1.1.0 (read c)
+    c.in-Attribute.short c.in-Attribute.kind c.in-Attribute.start c.in-Attribute.end (read c)
 
 add-next : tie.Need-overflow_add-next invariant-loop decreases-loop
 add-next c = let i = inside c in record { fits = omega (arith, i.1) }
@@ -87,36 +83,35 @@ returns c =
     let h = c.loop-at-test.true in
     let w = c.code-wanted.ensures in
     let k = c.code.ensures ∙ ap code_of c.meaning_in.ensures in
-    let v = c.kind-1.given.0 in
     let s = a.s.now in
     let i = inside c.before.before.before in
-    let e = l.at + v.1.1.1.0 in
-    let q = value-start a.m a.place s l.at l.invariant.2 h v.0 v.1.0 v.1.1.0 v.1.1.1.0 (read c.before.before.before) in
+    let e = l.at + c.in-Attribute.end in
+    let q = value-start a.m a.place s l.at l.invariant.2 h c.in-Attribute.short c.in-Attribute.kind c.in-Attribute.start c.in-Attribute.end (read c.before.before.before) in
     record {
       value =
           subst (λ (x : ℕ). ValueFoundAt a.m a.place s a.from x e) q
           (record {
             first =
                 l.invariant.3 a.m w
-                ∙ hit a.m a.place s l.at l.invariant.2 h v.0 v.1.0 v.1.1.0 v.1.1.1.0 (read c.before.before.before) _ _ k w
+                ∙ hit a.m a.place s l.at l.invariant.2 h c.in-Attribute.short c.in-Attribute.kind c.in-Attribute.start c.in-Attribute.end (read c.before.before.before) _ _ k w
                 c.if-code-wanted.true;
             place =
                 l.invariant.4 a.m w
-                ∙ hit-place a.m a.place s l.at l.invariant.2 h v.0 v.1.0 v.1.1.0 v.1.1.1.0 (read c.before.before.before) _ _ k w
+                ∙ hit-place a.m a.place s l.at l.invariant.2 h c.in-Attribute.short c.in-Attribute.kind c.in-Attribute.start c.in-Attribute.end (read c.before.before.before) _ _ k w
                 c.if-code-wanted.true;
             start = omega (
               arith,
               l.invariant.0,
-              starts-after a.m a.place s l.at l.invariant.2 h v.0 v.1.0 v.1.1.0 v.1.1.1.0 (read c.before.before.before),
+              starts-after a.m a.place s l.at l.invariant.2 h c.in-Attribute.short c.in-Attribute.kind c.in-Attribute.start c.in-Attribute.end (read c.before.before.before),
             );
             order = omega (arith, i.2);
             inside = i.1;
-            size = size a.m a.place s l.at l.invariant.2 h v.0 v.1.0 v.1.1.0 v.1.1.1.0 (read c.before.before.before) _ _ k w
+            size = size a.m a.place s l.at l.invariant.2 h c.in-Attribute.short c.in-Attribute.kind c.in-Attribute.start c.in-Attribute.end (read c.before.before.before) _ _ k w
                 c.if-code-wanted.true;
-            rest = next-whole a.m a.place s l.at l.invariant.2 h v.0 v.1.0 v.1.1.0 v.1.1.1.0 (read c.before.before.before);
+            rest = next-whole a.m a.place s l.at l.invariant.2 h c.in-Attribute.short c.in-Attribute.kind c.in-Attribute.start c.in-Attribute.end (read c.before.before.before);
           });
       octets =
-          value-octets a.m a.place s l.at l.invariant.2 h v.0 v.1.0 v.1.1.0 v.1.1.1.0 (read c.before.before.before)
+          value-octets a.m a.place s l.at l.invariant.2 h c.in-Attribute.short c.in-Attribute.kind c.in-Attribute.start c.in-Attribute.end (read c.before.before.before)
           ∙ ap (λ (x : ℕ). part s x e) q;
     }
 
@@ -129,16 +124,15 @@ loop-again c =
     let a = c.args in
     let h = c.loop-at-test.true in
     let k = c.code.ensures ∙ ap code_of c.meaning_in.ensures in
-    let v = c.kind-1.given.0 in
     let s = a.s.now in
     let i = inside c.before.before.before in (
       omega (arith, l.invariant.0),
       i.1,
-      next-whole a.m a.place s l.at l.invariant.2 h v.0 v.1.0 v.1.1.0 v.1.1.1.0 (read c.before.before.before),
+      next-whole a.m a.place s l.at l.invariant.2 h c.in-Attribute.short c.in-Attribute.kind c.in-Attribute.start c.in-Attribute.end (read c.before.before.before),
       λ m e. l.invariant.3 m e
-          ∙ miss m a.place s l.at l.invariant.2 h v.0 v.1.0 v.1.1.0 v.1.1.1.0 (read c.before.before.before) _ _ k e c.if-code-wanted.false,
+          ∙ miss m a.place s l.at l.invariant.2 h c.in-Attribute.short c.in-Attribute.kind c.in-Attribute.start c.in-Attribute.end (read c.before.before.before) _ _ k e c.if-code-wanted.false,
       λ m e. l.invariant.4 m e
-          ∙ miss-place m a.place s l.at l.invariant.2 h v.0 v.1.0 v.1.1.0 v.1.1.1.0 (read c.before.before.before) _ _ k e c.if-code-wanted.false,
+          ∙ miss-place m a.place s l.at l.invariant.2 h c.in-Attribute.short c.in-Attribute.kind c.in-Attribute.start c.in-Attribute.end (read c.before.before.before) _ _ k e c.if-code-wanted.false,
     )
 
 enum_told : tie.Need-enum_told-1 invariant-loop decreases-loop

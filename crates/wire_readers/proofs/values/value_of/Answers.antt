@@ -12,15 +12,14 @@ pub returns-in-At : goal.returns-in-At
 returns-in-At c =
     let a = c.args in
     let s = a.s.now in
-    let v = c.at-1.given in
-    let f = subst (FindsValue a.m a.place s a.from) v.1 c.next_attribute.ensures in (
+    let f = subst (FindsValue a.m a.place s a.from) c.in-At.is c.next_attribute.ensures in (
       (
-        c.attribute_value.ensures.result_value ∙ met-first a.m a.place s a.from v.0.0 v.0.1.0 f,
+        c.attribute_value.ensures.result_value ∙ met-first a.m a.place s a.from c.in-At.at c.in-At.field-1 f,
         λ h. ap (λ (l : List ℕ). value_size a.m (length l)) c.attribute_value.ensures.result_value
-            ∙ met-size a.m a.place s a.from v.0.0 v.0.1.0 f,
+            ∙ met-size a.m a.place s a.from c.in-At.at c.in-At.field-1 f,
       ),
       c.attribute_value.ensures.ref_ptr_value
-          ∙ ap (λ (n : ℕ). (a.s.ptr.0, n + a.s.ptr.1)) (met-place a.m a.place s a.from v.0.0 v.0.1.0 f),
+          ∙ ap (λ (n : ℕ). (a.s.ptr.0, n + a.s.ptr.1)) (met-place a.m a.place s a.from c.in-At.at c.in-At.field-1 f),
     )
 
 pub returns-in-Nothing : goal.returns-in-Nothing

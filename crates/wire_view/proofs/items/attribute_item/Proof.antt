@@ -16,11 +16,9 @@ enum-known-short c = search rules
 
 -- what was read
 read : (c : tie.In-Attribute)
-    → let v = c.short-1.given.0 in
-    IsRead c.args.s.now v.0 v.1.0 v.1.1.0 v.1.1.1.0
+    →     IsRead c.args.s.now c.in-Attribute.short c.in-Attribute.kind c.in-Attribute.start c.in-Attribute.end
 read c =
-    let v = c.short-1.given.0 in
-    read_is c.args.s.now v.0 v.1.0 v.1.1.0 v.1.1.1.0
+    read_is c.args.s.now c.in-Attribute.short c.in-Attribute.kind c.in-Attribute.start c.in-Attribute.end
     (sym c.in-Attribute.is ∙ c.read_attribute.ensures)
 
 meaning-in-requires : tie.Need-meaning_in-requires

@@ -8,8 +8,7 @@ use Rattle.wire_view.proofs.read.first_step.Goals as goal
 pub returns-in-GroupSa : goal.returns-in-GroupSa
 returns-in-GroupSa c =
     let a = c.args in
-    let k = c.p-1.given in
-    let f = of-sa a.s.now k.0.0 (sym k.1 ∙ c.kind_of.ensures.0) in
+    let f = of-sa a.s.now c.in-GroupSa.p (sym c.in-GroupSa.is ∙ c.kind_of.ensures.0) in
     c.selector_step.ensures
     ∙ ap (λ (n : ℕ). selector_step a.s.now a.c at_destination (4 + n)) c.spi_size.ensures.0 ∙ f.first a.c
 

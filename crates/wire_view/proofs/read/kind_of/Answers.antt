@@ -9,18 +9,16 @@ returns-then-s-lt-POLICY_HEAD c = told _ _ (too_short c.args.s.now c.if-s-lt-POL
 pub returns-then-p-eq-NO_PROTOCOL : goal.returns-then-p-eq-NO_PROTOCOL
 returns-then-p-eq-NO_PROTOCOL c =
     let m = c.be16_at in
-    let e = c.enum_told-1.given in
     told _ _
-    (wide c.args.s.now m.result e.0.0 m.ensures.0 c.if-be16_at-s.true
-    (sym e.1 ∙ c.policy_spot.ensures) c.wide-p.result c.wide-p.ensures.0 c.if-p-eq-NO_PROTOCOL.true)
+    (wide c.args.s.now m.result c.in-Ends.field-0 m.ensures.0 c.if-be16_at-s.true
+    (sym c.in-Ends.is ∙ c.policy_spot.ensures) c.wide-p.result c.wide-p.ensures.0 c.if-p-eq-NO_PROTOCOL.true)
 
 pub returns-in-Ends : goal.returns-in-Ends
 returns-in-Ends c =
     let m = c.be16_at in
-    let e = c.enum_told-1.given in
     told _ _
-    (sa c.args.s.now m.result e.0.0 m.ensures.0 c.if-be16_at-s.true
-    (sym e.1 ∙ c.policy_spot.ensures) c.wide-p.result c.wide-p.ensures.0 c.if-p-eq-NO_PROTOCOL.false)
+    (sa c.args.s.now m.result c.in-Ends.field-0 m.ensures.0 c.if-be16_at-s.true
+    (sym c.in-Ends.is ∙ c.policy_spot.ensures) c.wide-p.result c.wide-p.ensures.0 c.if-p-eq-NO_PROTOCOL.false)
 
 pub returns-in-Broken : goal.returns-in-Broken
 returns-in-Broken c =

@@ -8,17 +8,15 @@ use Rattle.wire_view.proofs.read.spi_of.Goals as goal
 
 pub slice_bounds-result-end : goal.slice_bounds-result-end
 slice_bounds-result-end c =
-    let k = c.p-1.given in
-    let f = of-sa c.args.s.now k.0.0
-    (sym k.1 ∙ c.kind_of.ensures.0) in
+    let f = of-sa c.args.s.now c.in-GroupSa.p
+    (sym c.in-GroupSa.is ∙ c.kind_of.ensures.0) in
     omega (arith, f.head, c.spi_size-e.ensures.0)
 
 pub returns-in-GroupSa : goal.returns-in-GroupSa
 returns-in-GroupSa c =
-    let k = c.p-1.given in
     let a = c.args in
     let s = a.s.now in
-    let f = of-sa s k.0.0 (sym k.1 ∙ c.kind_of.ensures.0) in (
+    let f = of-sa s c.in-GroupSa.p (sym c.in-GroupSa.is ∙ c.kind_of.ensures.0) in (
       ap (λ (n : ℕ). part s 4 (4 + n)) c.spi_size-e.ensures.0 ∙ f.spi,
       ap (λ (n : ℕ). (a.s.ptr.0, n + a.s.ptr.1)) f.there,
     )
