@@ -141,7 +141,8 @@ def turn_paths(text, walk, place, said, where):
             fields = [f for f in m[3].split(".")[1:] if f != "before"]
             if m[2] in env and (not env[m[2]] + fields or walk.part(place, env[m[2]] + fields)):
                 env[m[1]] = env[m[2]] + fields
-                text = text[: m.start()] + text[m.end() :]
+                lead = re.match(r"[ ]*", m[0])[0] if m[0].startswith(" ") and not m[0].endswith("\n") else ""
+                text = text[: m.start()] + lead + text[m.end() :]
                 done = True
                 break
         if not done:
@@ -165,6 +166,37 @@ def turn_paths(text, walk, place, said, where):
     names = "|".join(re.escape(v) for v in sorted(env, key=len, reverse=True))
     text = re.sub(r"(?<![\w'.-])(%s)((?:\.[\w'\-⊎]+)*)(?![\w'-])" % names, path, text)
     return text
+
+
+def recorded(right, names):
+    """The tuple that an answer ends in as a record by the names of the clauses that it answers."""
+    body = right.rstrip()
+    if not body.endswith(")"):
+        return right
+    depth, at = 0, len(body)
+    for at in range(len(body) - 1, -1, -1):
+        depth += (body[at] == ")") - (body[at] == "(")
+        if depth == 0:
+            break
+    if not re.search(r"(^|\bin|=)\s*$", body[:at]):
+        return right
+
+    def parts(text):
+        depth, cuts = 0, [0]
+        for i, c in enumerate(text):
+            depth += (c in "([{") - (c in ")]}")
+            if c == "," and depth == 0:
+                cuts.append(i + 1)
+        all = [text[a:b].strip().rstrip(",").strip() for a, b in zip(cuts, cuts[1:] + [len(text) + 1])]
+        return [x for x in all if x]
+
+    each = parts(body[at + 1 : -1])
+    while len(each) < len(names) and each and each[-1].startswith("(") and each[-1].endswith(")"):
+        each[-1:] = parts(each[-1][1:-1])
+    if len(each) != len(names):
+        return right
+    fields = ";\n".join(f"      {n} = {x if not re.match('λ|let ', x) else '(' + x + ')'}" for n, x in zip(names, each))
+    return body[:at] + "record {\n" + fields + ";\n    }"
 
 
 def invariants(decls, walk, said, where):
@@ -310,6 +342,7 @@ def main():
             said.append(f"{path}: {len(order)} answers for {len(needs)} goals")
             continue
         goal_of = dict(zip(order, needs))
+        old_of = dict(zip(order, (n[0] for n in of["needs"])))
         place_of = dict(zip(order, (a[0] for a in of["asked_at"])))
         if re.search(r"tie\.(After|Then|Else|In|Joined|At|Start)", text):
             keep(path, text, walk, decls, uses, goal_of, place_of, declared, said)
@@ -335,6 +368,9 @@ def main():
             if right.strip() == "search rules" and name not in cited:
                 continue
             where = f"{path}: {name}"
+            asked = of.get("asked", {}).get(old_of[name])
+            if asked:
+                right = recorded(right, asked)
             right = turn_paths(right, walk, place_of[name], said, where)
             for o in cited:
                 right = re.sub(r"(?<![\w'.-])%s(?![\w'-])" % re.escape(o), goal_of[o], right)

@@ -5,4 +5,7 @@ use Rattle.aes.proofs.expand.Goals as goal
 -- `aes::expand` meets its contract.
 
 pub expand_words-words-requires : goal.expand_words-words-requires
-expand_words-words-requires c = ((search rules, encipher-boxed c.requires.tables_value), c.requires.t)
+expand_words-words-requires c = record {
+      at_in_bounds = (search rules, encipher-boxed c.requires.tables_value);
+      t = c.requires.t;
+    }

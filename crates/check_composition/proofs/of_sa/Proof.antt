@@ -37,7 +37,7 @@ part-suite-end c = search rules
 
 suite-requires : tie.Need-suite-u-requires
 suite-requires c κs =
-(
+    (
       c.requires.0.suite.transforms,
       drop c.sa_parts-p.result.attributes c.args.o.now,
       transforms-are (in_policy c.args.protocol) c.args.o.now c.requires.0 c.sa_parts-p.result (own c.before),
@@ -57,7 +57,7 @@ part-numbers-of-end c = search rules
 
 numbers-of-requires : tie.Need-numbers_of-n-requires
 numbers-of-requires c κs =
-(
+    (
       refl,
       attributes-whole c.args.protocol c.args.o.now c.requires.0 c.sa_parts-p.result (own c.before.before.before.before) c.in_policy-place.result
           c.in_policy-place.ensures,
@@ -74,7 +74,7 @@ part-numbers-of-end-2 c = search rules
 
 numbers-of-requires-2 : tie.Need-numbers_of-m-requires
 numbers-of-requires-2 c κs =
-(
+    (
       refl,
       attributes-whole c.args.protocol c.args.o.now c.requires.0 c.sa_parts-p.result (own c.before.before.before.before.before.before) c.in_policy-place.result
           c.in_policy-place.ensures,

@@ -54,22 +54,26 @@ returns-then-nonce-ne-NONCE_OCTETS c = record { none = λ x h. c.if-nonce-ne-NON
 
 pub expand-schedule-requires : goal.expand-schedule-requires
 expand-schedule-requires c =
-    (c.tables-tables.ensures, is-so c.is_key.ensures c.if-is_key.true)
+    record {
+      tables_value = c.tables-tables.ensures;
+      t = is-so c.is_key.ensures c.if-is_key.true;
+    }
 
 pub verify_tag-requires : goal.verify_tag-requires
 verify_tag-requires c =
-    let a = c.args in (
-      (c.tables-tables.ensures, record { key = a.key.now; expands = c.expand-schedule.ensures }),
-      ((omega arith, omega arith), (omega arith, omega arith)),
-    )
+    let a = c.args in record {
+      tables_value = (c.tables-tables.ensures, record { key = a.key.now; expands = c.expand-schedule.ensures });
+      nonce_len = (omega arith, omega arith);
+      tag_octets_in_bounds = (omega arith, omega arith);
+    }
 
 pub gctr_in-requires : goal.gctr_in-requires
 gctr_in-requires c =
     let a = c.args in
-    let n = part-size a.octets.now (length a.octets.now - 16) (omega arith) in (
-      (c.tables-tables.ensures, record { key = a.key.now; expands = c.expand-schedule.ensures }),
-      (omega arith, omega (arith, n), omega (arith, n)),
-    )
+    let n = part-size a.octets.now (length a.octets.now - 16) (omega arith) in record {
+      tables_value = (c.tables-tables.ensures, record { key = a.key.now; expands = c.expand-schedule.ensures });
+      nonce_len = (omega arith, omega (arith, n), omega (arith, n));
+    }
 
 pub returns-then-verify_tag : goal.returns-then-verify_tag
 returns-then-verify_tag c =

@@ -7,9 +7,15 @@ use Rattle.journaling.proofs.entered.Goals as goal
 pub returns-then-n-eq0 : goal.returns-then-n-eq0
 returns-then-n-eq0 c =
     let s = c.args in
-    (λ x room after t p. no-room-for s.member s.next s.n x room after t (omega arith) p, refl)
+    record {
+      by_index = (λ x room after t p. no-room-for s.member s.next s.n x room after t (omega arith) p);
+      result_value = refl;
+    }
 
 pub returns : goal.returns
 returns c =
     let s = c.args in
-    (λ x room after t p. room_for s.member s.next s.n x room after t (λ z. omega (arith, z)) p, refl)
+    record {
+      by_index = (λ x room after t p. room_for s.member s.next s.n x room after t (λ z. omega (arith, z)) p);
+      result_value = refl;
+    }

@@ -13,7 +13,10 @@ use Rattle.keywrap.proofs.open.Goals as goal
 
 pub expand_inverse-requires : goal.expand_inverse-requires
 expand_inverse-requires c =
-    (c.inverse_tables-tables.ensures, is-so c.is_key.ensures c.if-is_key.true)
+    record {
+      tables_value = c.inverse_tables-tables.ensures;
+      t = is-so c.is_key.ensures c.if-is_key.true;
+    }
 
 pub returns-in-No : goal.returns-in-No
 returns-in-No c =

@@ -17,15 +17,18 @@ unfolding put_answer put_room
 returns-then-octets-room c =
     let a = c.args in
     let t = le-leb (length a.octets.now) (length a.room.now) c.if-octets-room.true in
-    let d = c.copy.ensures in (
-      ap Count d.0 ∙ ap (λ (b : Bool). answer_by b a.octets.now) (sym t),
-      d.1 ∙ ap (λ (x : List ℕ). x ++ drop (length a.octets.now) a.room.now) (take-length a.octets.now)
-          ∙ ap (λ (b : Bool). room_by b a.octets.now a.room.now) (sym t),
-    )
+    let d = c.copy.ensures in record {
+      value = ap Count d.0 ∙ ap (λ (b : Bool). answer_by b a.octets.now) (sym t);
+      room_after = d.1 ∙ ap (λ (x : List ℕ). x ++ drop (length a.octets.now) a.room.now) (take-length a.octets.now)
+          ∙ ap (λ (b : Bool). room_by b a.octets.now a.room.now) (sym t);
+    }
 
 pub returns : goal.returns
 unfolding put_answer put_room
 returns c =
     let a = c.args in
     let t = lt-leb (length a.octets.now) (length a.room.now) c.if-octets-room.false in
-    (ap (λ (b : Bool). answer_by b a.octets.now) (sym t), ap (λ (b : Bool). room_by b a.octets.now a.room.now) (sym t))
+    record {
+      value = ap (λ (b : Bool). answer_by b a.octets.now) (sym t);
+      room_after = ap (λ (b : Bool). room_by b a.octets.now a.room.now) (sym t);
+    }

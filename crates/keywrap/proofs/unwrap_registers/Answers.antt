@@ -32,7 +32,10 @@ backward_in-requires c =
     let w = c.args.wrapped.now in
     let o : Octets w = λ i. (c.shared_slice_known-1.given i).fits in
     let k = part-kept w c.args.n o c.requires.le_n.1 c.load.new.s.0 c.load.ensures in
-    (c.requires.tables_value, (c.requires.le_n.0, c.requires.le_n.1, omega (arith, k)))
+    record {
+      tables_value = c.requires.tables_value;
+      le_n = (c.requires.le_n.0, c.requires.le_n.1, omega (arith, k));
+    }
 
 pub returns : goal.returns
 returns c = λ key e.

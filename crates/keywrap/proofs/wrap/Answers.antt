@@ -38,7 +38,11 @@ write_wrapped-requires c =
     let o : Octets x = λ i. (c.shared_slice_known-2-1.given i).fits in
     let k : Octets key = λ i. (c.shared_slice_known-1.given i).fits in
     let t = is-so c.is_key.ensures c.if-is_key.true in
-    (t, ((omega arith, omega arith), omega (arith, length-wrap key x (record { size = t; small = k }) o (omega arith) (omega arith))))
+    record {
+      t = t;
+      in_bounds = (omega arith, omega arith);
+      octets_in_bounds = omega (arith, length-wrap key x (record { size = t; small = k }) o (omega arith) (omega arith));
+    }
 
 pub returns-then-is_key : goal.returns-then-is_key
 returns-then-is_key c =

@@ -21,10 +21,10 @@ forward_in-requires c =
     let o : Octets c.args.octets.now = λ i. (c.shared_slice_known-2-1.given i).fits in
     let n = front-count c.args.octets.now c.start_registers-s.result o c.requires.in_bounds.0 c.requires.in_bounds.1
     c.start_registers-s.ensures in
-(
-      (c.tables-tables.ensures, record { key = c.args.key.now; expands = c.expand-schedule.ensures }),
-      (omega arith, omega arith, omega (arith, n)),
-    )
+    record {
+      tables_value = (c.tables-tables.ensures, record { key = c.args.key.now; expands = c.expand-schedule.ensures });
+      le_n = (omega arith, omega arith, omega (arith, n));
+    }
 
 pub slice_bounds-s-end-2 : goal.slice_bounds-s-end-2
 slice_bounds-s-end-2 c =

@@ -19,11 +19,17 @@ returns-then-frame-lt-CIPHERTEXT_AT c =
 
 pub expand-schedule-requires : goal.expand-schedule-requires
 expand-schedule-requires c =
-    (c.tables-tables.ensures, key-size c.args.part.now c.requires.salt_octets_in_bounds.0 c.requires.salt_octets_in_bounds.1)
+    record {
+      tables_value = c.tables-tables.ensures;
+      t = key-size c.args.part.now c.requires.salt_octets_in_bounds.0 c.requires.salt_octets_in_bounds.1;
+    }
 
 pub open_under-requires : goal.open_under-requires
 open_under-requires c =
-    ((c.tables-tables.ensures, record { key = _; expands = c.expand-schedule.ensures }), (search rules, c.requires.frame_value))
+    record {
+      tables_value = (c.tables-tables.ensures, record { key = _; expands = c.expand-schedule.ensures });
+      nonce_len = (search rules, c.requires.frame_value);
+    }
 
 pub returns : goal.returns
 returns c =

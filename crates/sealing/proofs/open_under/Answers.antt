@@ -18,13 +18,19 @@ returns-then-room-lt-MOST_OCTETS c =
 pub judge_body-requires : goal.judge_body-requires
 judge_body-requires c =
     let f = outer-is c.args.frame.now c.requires.nonce_len.1 in
-    (c.requires.tables_value, (c.requires.nonce_len.0, f.least, f.most))
+    record {
+      tables_value = c.requires.tables_value;
+      nonce_len = (c.requires.nonce_len.0, f.least, f.most);
+    }
 
 pub write_opened-requires : goal.write_opened-requires
 write_opened-requires c =
     let f = outer-is c.args.frame.now c.requires.nonce_len.1 in
     let b = subst (BodyBounds 32 c.args.frame.now) c.in-Count.is c.judge_body.ensures.0 in
-    (c.requires.tables_value, (c.requires.nonce_len.0, b, f.most, omega (arith, b, f.most, c.if-room-lt-MOST_OCTETS.false)))
+    record {
+      tables_value = c.requires.tables_value;
+      nonce_len = (c.requires.nonce_len.0, b, f.most, omega (arith, b, f.most, c.if-room-lt-MOST_OCTETS.false));
+    }
 
 pub overflow_add-count : goal.overflow_add-count
 overflow_add-count c =

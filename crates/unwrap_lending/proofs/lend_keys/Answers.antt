@@ -29,7 +29,10 @@ put-requires c =
     let b = l.invariant.3.rooms.block-length in
     let e = l.invariant.0 in
     let n = l.invariant.1 in
-    (omega arith, wrapping-le _ (held-size c.args.held c.requires.held_value e l.i _ c.loop-i-test.true))
+    record {
+      place_octets_in_bounds = omega arith;
+      count_le_key_octets = wrapping-le _ (held-size c.args.held c.requires.held_value e l.i _ c.loop-i-test.true);
+    }
 
 pub loop-i-preserved : goal.loop-i-preserved
 loop-i-preserved c =

@@ -27,7 +27,10 @@ put-requires c =
     let m : (held_key limits (get_or a.ids.now c.loop-i.i 0) a.reached).key.count ≤ key_octets =
     ⊎_elim (λ z. omega arith) (λ z. wrapping-le _ z)
     (named-sized a.reached c.requires.reached_value a.ids.now (get_or a.ids.now c.loop-i.i 0)) in
-    (omega arith, subst (λ (x : MadeWrapping). x.key.count ≤ key_octets) (sym f.ensures) m)
+    record {
+      place_octets_in_bounds = omega arith;
+      count_le_key_octets = subst (λ (x : MadeWrapping). x.key.count ≤ key_octets) (sym f.ensures) m;
+    }
 
 pub loop-i-preserved : goal.loop-i-preserved
 loop-i-preserved c =

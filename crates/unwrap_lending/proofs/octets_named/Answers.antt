@@ -22,17 +22,17 @@ returns-then-i-carried c =
     let a = c.args in
     let p = c.place_of-i in
     let h = c.if-i-carried.true in
-    let in-first = (first_found a.id a.carried.now p.result p.ensures h).0 in (
-      λ new old f o.
+    let in-first = (first_found a.id a.carried.now p.result p.ensures h).0 in record {
+      result_value = (λ new old f o.
           let n = ids-length new a.carried.now a.fresh.now f in
           c.value_at.ensures.result_value new a.carried.now f (omega (arith, n, h))
-          ∙ in-fresh a.id new old a.carried.now a.fresh.now a.ids.now a.held.now f o p.result p.ensures h,
-      c.value_at.ensures.ref_ptr_value
+          ∙ in-fresh a.id new old a.carried.now a.fresh.now a.ids.now a.held.now f o p.result p.ensures h);
+      ref_ptr_value = c.value_at.ensures.ref_ptr_value
           ∙ ap (λ (n : ℕ). (a.fresh.ptr.0, n + a.fresh.ptr.1)) (start-found a.id a.carried.now p.result p.ensures h)
           ∙ ap
           (λ (b : Bool). cond b (a.fresh.ptr.0, key_start a.id a.carried.now + a.fresh.ptr.1)
-          (a.held.ptr.0, key_start a.id a.ids.now + a.held.ptr.1)) (sym in-first),
-    )
+          (a.held.ptr.0, key_start a.id a.ids.now + a.held.ptr.1)) (sym in-first);
+    }
 
 pub value_at-requires-then-j-ids : goal.value_at-requires-then-j-ids
 value_at-requires-then-j-ids c =
@@ -47,19 +47,19 @@ returns-then-j-ids c =
     let p = c.place_of-i in
     let q = c.place_of-j in
     let g = c.if-i-carried.false in
-    let h = c.if-j-ids.true in (
-      λ new old f o.
+    let h = c.if-j-ids.true in record {
+      result_value = (λ new old f o.
           let n = ids-length old a.ids.now a.held.now o in
           c.value_at-then-j-ids.ensures.result_value old a.ids.now o (omega (arith, n, h))
           ∙ in_held a.id new old a.carried.now a.fresh.now a.ids.now a.held.now f o p.result p.ensures g
-          q.result q.ensures h,
-      c.value_at-then-j-ids.ensures.ref_ptr_value
+          q.result q.ensures h);
+      ref_ptr_value = c.value_at-then-j-ids.ensures.ref_ptr_value
           ∙ ap (λ (n : ℕ). (a.held.ptr.0, n + a.held.ptr.1)) (start-found a.id a.ids.now q.result q.ensures h)
           ∙ ap
           (λ (b : Bool). cond b (a.fresh.ptr.0, key_start a.id a.carried.now + a.fresh.ptr.1)
           (a.held.ptr.0, key_start a.id a.ids.now + a.held.ptr.1))
-          (sym (first-none a.id a.carried.now p.result p.ensures g)),
-    )
+          (sym (first-none a.id a.carried.now p.result p.ensures g));
+    }
 
 pub returns : goal.returns
 returns c =
@@ -67,13 +67,13 @@ returns c =
     let p = c.place_of-i in
     let q = c.place_of-j in
     let g = c.if-i-carried.false in
-    let h = c.if-j-ids.false in (
-      λ new old f o.
+    let h = c.if-j-ids.false in record {
+      result_value = (λ new old f o.
           in-neither a.id new old a.carried.now a.fresh.now a.ids.now a.held.now f o p.result p.ensures g
-          q.result q.ensures h,
-      ap (λ (n : ℕ). (a.held.ptr.0, n + a.held.ptr.1)) (start_none a.id a.ids.now q.result q.ensures h)
+          q.result q.ensures h);
+      ref_ptr_value = ap (λ (n : ℕ). (a.held.ptr.0, n + a.held.ptr.1)) (start_none a.id a.ids.now q.result q.ensures h)
           ∙ ap
           (λ (b : Bool). cond b (a.fresh.ptr.0, key_start a.id a.carried.now + a.fresh.ptr.1)
           (a.held.ptr.0, key_start a.id a.ids.now + a.held.ptr.1))
-          (sym (first-none a.id a.carried.now p.result p.ensures g)),
-    )
+          (sym (first-none a.id a.carried.now p.result p.ensures g));
+    }

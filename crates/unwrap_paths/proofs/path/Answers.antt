@@ -13,4 +13,7 @@ way_back-requires c =
     let f = c.requires.links_fit.few in
     let e : length l.ids ≡ limits.wrap_keys = search rules in
     let g : length l.kwks ≡ limits.wrap_keys = search rules in
-    ((f, omega (arith, f, e), omega (arith, f, g)), c.requires.level_le_wrap_keys)
+    record {
+      n_le_wrap_keys = (f, omega (arith, f, e), omega (arith, f, g));
+      level_le_wrap_keys = c.requires.level_le_wrap_keys;
+    }

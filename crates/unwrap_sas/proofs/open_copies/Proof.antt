@@ -31,7 +31,7 @@ part-copies-end c = (own c.before).inside
 
 copies-requires : tie.Need-copies-requires
 copies-requires c κs =
-(
+    (
       own-whole c.args.reads c.args.kd.now c.args.protocol c.args.spi.now c.bag_stretch-s.result (own c.before.before)
           c.in_bag.result
           c.in_bag.ensures,

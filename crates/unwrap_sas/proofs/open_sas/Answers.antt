@@ -20,7 +20,10 @@ slice_bounds-expand_inverse-end c =
 pub expand_inverse-requires : goal.expand_inverse-requires
 expand_inverse-requires c =
     let e : length c.args.zero.octets ≡ key_octets = search rules in
-    (c.inverse_tables-tables.ensures, key_fits c.args.zero e c.requires.count_value)
+    record {
+      tables_value = c.inverse_tables-tables.ensures;
+      t = key_fits c.args.zero e c.requires.count_value;
+    }
 
 pub walk_policies-requires : goal.walk_policies-requires
 walk_policies-requires c =

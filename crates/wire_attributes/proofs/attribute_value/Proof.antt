@@ -99,7 +99,7 @@ part-result-end-3 c = search rules
 returns-2 : tie.Need-returns-in-Attribute
 returns-2 c =
     let a = c.args in
-(
+    (
       value_there a.s.now a.at c.in-Attribute.short c.in-Attribute.kind c.in-Attribute.start c.in-Attribute.end (found c.before),
       ap (λ (n : ℕ). (a.s.ptr.0, n + a.s.ptr.1))
           (starts-there a.s.now a.at c.in-Attribute.short c.in-Attribute.kind c.in-Attribute.start c.in-Attribute.end (found c.before)),

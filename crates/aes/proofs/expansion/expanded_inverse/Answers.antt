@@ -15,7 +15,10 @@ use Rattle.aes.proofs.expansion.expanded_inverse.Goals as goal
 
 pub expand_words-w-requires : goal.expand_words-w-requires
 expand_words-w-requires c =
-    ((omega (arith, decipher-length c.requires.t_value), decipher-sbox c.requires.t_value), c.requires.t)
+    record {
+      at_in_bounds = (omega (arith, decipher-length c.requires.t_value), decipher-sbox c.requires.t_value);
+      t = c.requires.t;
+    }
 
 pub overflow_add-n : goal.overflow_add-n
 overflow_add-n c = omega arith
@@ -49,7 +52,7 @@ loop-j-smaller c = omega arith
 
 pub loop-j-preserved : goal.loop-j-preserved
 loop-j-preserved c =
-(
+    (
       c.loop-j.invariant.0,
       c.loop-j.invariant.1,
       omega arith,

@@ -41,15 +41,13 @@ on_frame-requires c =
     let a = c.args in
     let s = a.s.now in
     let e = sym c.in-Header.is ∙ c.read_header.ensures in
-    let n2 = sym c.if-number_2.false ∙ c.number_2.ensures in (
-      few-sas limits a.state a.tick c.in-Header.exchange (take 16 s) n2,
-      (
-        c.requires,
-        λ f q.
+    let n2 = sym c.if-number_2.false ∙ c.number_2.ensures in record {
+      count_le_sas = few-sas limits a.state a.tick c.in-Header.exchange (take 16 s) n2;
+      s_value = c.requires;
+      f_value = (λ f q.
             row_is limits a.state a.tick a.lent.now s f q c.in-Header.first c.in-Header.exchange c.in-Header.message_id e c.exchange_of.result
-            c.exchange_of.ensures,
-      ),
-    )
+            c.exchange_of.ensures);
+    }
 
 pub returns-else-number_3 : goal.returns-else-number_3
 returns-else-number_3 c =

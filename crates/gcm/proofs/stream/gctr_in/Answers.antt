@@ -23,7 +23,10 @@ overflow_sub-c c = omega arith
 
 pub encipher_counter-m-requires : goal.encipher_counter-m-requires
 encipher_counter-m-requires c =
-    (c.requires.tables_value, (c.requires.nonce_len.0, omega arith))
+    record {
+      tables_value = c.requires.tables_value;
+      nonce_len = (c.requires.nonce_len.0, omega arith);
+    }
 
 pub overflow_add-end : goal.overflow_add-end
 overflow_add-end c = omega arith
@@ -52,7 +55,10 @@ loop-at-preserved c =
 
 pub encipher_counter-m-requires-then-at-c : goal.encipher_counter-m-requires-then-at-c
 encipher_counter-m-requires-then-at-c c =
-    (c.requires.tables_value, (c.requires.nonce_len.0, omega arith))
+    record {
+      tables_value = c.requires.tables_value;
+      nonce_len = (c.requires.nonce_len.0, omega arith);
+    }
 
 pub add_block-requires-then-at-c : goal.add_block-requires-then-at-c
 add_block-requires-then-at-c c =

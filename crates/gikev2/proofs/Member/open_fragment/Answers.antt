@@ -19,7 +19,10 @@ sealing_key-key-requires c =
 
 pub piece_length-requires : goal.piece_length-requires
 piece_length-requires c =
-    (c.sealing_key-key.ensures.sized, c.requires.fragment)
+    record {
+      count_value = c.sealing_key-key.ensures.sized;
+      frame_value = c.requires.fragment;
+    }
 
 pub judge_piece-requires : goal.judge_piece-requires
 judge_piece-requires c =

@@ -17,7 +17,11 @@ pub write_piece-requires : goal.write_piece-requires
 write_piece-requires c =
     let l = piece-within (encryption_octets_of c.args.key) c.args.frame.now c.args.p c.requires.of in
     let n = piece-most (encryption_octets_of c.args.key) c.args.frame.now c.args.p c.requires.of in
-    (c.requires.sized, (c.requires.of, omega (arith, l, n)))
+    record {
+      count_value = c.requires.sized;
+      piece_of = c.requires.of;
+      p_in_bounds = omega (arith, l, n);
+    }
 
 pub slice_bounds-gather-end : goal.slice_bounds-gather-end
 slice_bounds-gather-end c =
@@ -30,7 +34,10 @@ gather-requires c =
     let v = c.write_piece in
     let x = c.requires.of in
     let e = piece_cut x.piece c.args.p x.count v.new.1.1.1.0 _ (v.ensures x.piece x.opens) in
-    (c.requires.counts, subst (λ (y : List ℕ). Taking (counted c.args.collection) c.args.f y c.args.n) (sym e) c.requires.taking)
+    record {
+      le_total = c.requires.counts;
+      taking = subst (λ (y : List ℕ). Taking (counted c.args.collection) c.args.f y c.args.n) (sym e) c.requires.taking;
+    }
 
 pub returns : goal.returns
 returns c t =

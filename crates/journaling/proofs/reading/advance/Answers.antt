@@ -19,25 +19,27 @@ returns-then-a c =
     let e = c.if-a.true in
     let r = c.line_ended.result in
     let d = c.line_ended.ensures in
-    let l : length c.line_ended.new.room.0 ≡ length c.args.room.now = search rules in (
-      record {
+    let l : length c.line_ended.new.room.0 ≡ length c.args.room.now = search rules in record {
+      ready_2 = record {
         keeps = length-put q.kept ∙ k;
         begun = omega (arith, d.len);
         room-long = omega (arith, c.requires.ready.room-long);
-      },
-      (ended-further p h q k e r d, λ st n text f. far-ended p h q k e r d st n text f),
-    )
+      };
+      from_lt_next = ended-further p h q k e r d;
+      by_index = (λ st n text f. far-ended p h q k e r d st n text f);
+    }
 
 pub returns : goal.returns
 returns c =
     let q = c.absorb-a.ensures in
     let p = c.args.p in
     let h = c.requires.from_in_bounds in
-    let k = c.requires.ready.keeps in (
-      record {
+    let k = c.requires.ready.keeps in record {
+      ready_2 = record {
         keeps = length-put q.kept ∙ k;
         begun = absorbed-held q c.requires.ready.begun;
         room-long = c.requires.ready.room-long;
-      },
-      (absorbed-some q h, λ st n text f. far-begun p h q k c.if-a.false st n text f),
-    )
+      };
+      from_lt_next = absorbed-some q h;
+      by_index = (λ st n text f. far-begun p h q k c.if-a.false st n text f);
+    }

@@ -21,7 +21,10 @@ overflow_mul-n c =
 pub unrow_in-requires : goal.unrow_in-requires
 unrow_in-requires c =
     let b = base-small c.args.n (c.loop-j.j - 1) (omega arith) (omega arith) in
-    (c.requires.tables_value, (b, omega arith, omega arith))
+    record {
+      tables_value = c.requires.tables_value;
+      base_bound = (b, omega arith, omega arith);
+    }
 
 pub loop-j-preserved : goal.loop-j-preserved
 loop-j-preserved c =

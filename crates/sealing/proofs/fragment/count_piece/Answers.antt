@@ -19,12 +19,18 @@ returns-then-frame c =
 
 pub expand-schedule-requires : goal.expand-schedule-requires
 expand-schedule-requires c =
-    (c.tables-tables.ensures, key-size c.args.part.now c.requires.salt_octets_in_bounds.0 c.requires.salt_octets_in_bounds.1)
+    record {
+      tables_value = c.tables-tables.ensures;
+      t = key-size c.args.part.now c.requires.salt_octets_in_bounds.0 c.requires.salt_octets_in_bounds.1;
+    }
 
 pub judge_body-requires : goal.judge_body-requires
 judge_body-requires c =
     let f = fragment-is c.args.frame.now c.requires.frame_value in
-    ((c.tables-tables.ensures, record { key = _; expands = c.expand-schedule.ensures }), (search rules, f.body, f.frame.most))
+    record {
+      tables_value = (c.tables-tables.ensures, record { key = _; expands = c.expand-schedule.ensures });
+      nonce_len = (search rules, f.body, f.frame.most);
+    }
 
 pub returns : goal.returns
 returns c =

@@ -30,7 +30,10 @@ count_piece-requires c =
     let k = c.args.key in
     let n : length k.octets ≡ 36 = search rules in
     let l = encryption-le k.count c.requires.count_value in
-    (part-fits k.count k.octets c.requires.count_value (omega arith), c.requires.frame_value)
+    record {
+      salt_octets_in_bounds = part-fits k.count k.octets c.requires.count_value (omega arith);
+      frame_value = c.requires.frame_value;
+    }
 
 pub returns : goal.returns
 returns c =

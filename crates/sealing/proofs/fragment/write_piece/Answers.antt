@@ -24,10 +24,11 @@ write_under-requires c =
     let a = c.args in
     let k = a.key in
     let n : length k.octets ≡ 36 = search rules in
-    let l = encryption-le k.count c.requires.count_value in (
-      part-fits k.count k.octets c.requires.count_value (omega arith),
-      (subst (λ (x : List ℕ). PieceOf x a.frame.now a.p) (sym (from_start k.octets k.count)) c.requires.piece_of, c.requires.p_in_bounds),
-    )
+    let l = encryption-le k.count c.requires.count_value in record {
+      salt_octets_in_bounds = part-fits k.count k.octets c.requires.count_value (omega arith);
+      piece_of = subst (λ (x : List ℕ). PieceOf x a.frame.now a.p) (sym (from_start k.octets k.count)) c.requires.piece_of;
+      p_in_bounds = c.requires.p_in_bounds;
+    }
 
 pub returns : goal.returns
 returns c =

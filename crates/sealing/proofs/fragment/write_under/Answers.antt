@@ -14,7 +14,10 @@ use Rattle.sealing.proofs.fragment.write_under.Goals as goal
 
 pub expand-schedule-requires : goal.expand-schedule-requires
 expand-schedule-requires c =
-    (c.tables-tables.ensures, key-size c.args.part.now c.requires.salt_octets_in_bounds.0 c.requires.salt_octets_in_bounds.1)
+    record {
+      tables_value = c.tables-tables.ensures;
+      t = key-size c.args.part.now c.requires.salt_octets_in_bounds.0 c.requires.salt_octets_in_bounds.1;
+    }
 
 pub make_nonce-nonce-requires : goal.make_nonce-nonce-requires
 make_nonce-nonce-requires c =
@@ -31,10 +34,10 @@ gctr_in-requires c =
     let a = c.args in
     let w = piece-within a.part.now a.frame.now a.p c.requires.piece_of in
     let m = piece-most a.part.now a.frame.now a.p c.requires.piece_of in
-    let y = part-size a.frame.now 44 (44 + a.p) (omega (arith, w)) in (
-      (c.tables-tables.ensures, record { key = _; expands = c.expand-schedule.ensures }),
-      (search rules, omega (arith, y, c.requires.p_in_bounds), omega (arith, y, w, m)),
-    )
+    let y = part-size a.frame.now 44 (44 + a.p) (omega (arith, w)) in record {
+      tables_value = (c.tables-tables.ensures, record { key = _; expands = c.expand-schedule.ensures });
+      nonce_len = (search rules, omega (arith, y, c.requires.p_in_bounds), omega (arith, y, w, m));
+    }
 
 pub returns : goal.returns
 returns c =

@@ -6,4 +6,4 @@ pub returns : goal.returns
 returns c =
     let a = c.args in
     let w = c.wrapping_sub_u32-elapsed in
-    elapsed-is w.result a.now a.start a.seconds (omega arith) (omega arith) (omega arith) w.ensures
+    elapsed-is w.result a.now a.start a.seconds (omega arith) (omega arith) (omega arith) w.ensures.value

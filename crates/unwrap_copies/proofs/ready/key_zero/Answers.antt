@@ -6,7 +6,7 @@ use Rattle.unwrap_copies.proofs.ready.key_zero.Goals as goal
 -- `unwrap_copies::ready::key_zero` meets its contract.
 
 pub returns : goal.returns
-returns c = (
-  λ v new old x. record { known = λ q. (v, x, under-zero v new old); none = λ q. absurd (false≢true (sym q)) },
-  (refl, refl),
-)
+returns c = record {
+      by_index = (λ v new old x. record { known = λ q. (v, x, under-zero v new old); none = λ q. absurd (false≢true (sym q)) });
+      id_value = (refl, refl);
+    }

@@ -17,7 +17,10 @@ path-trail-requires c =
     let a = c.nearest_of-start.result in
     let h = level-within l.count limits.wrap_keys l.ids l.levels a.kwk a.level c.requires.links_fit.within
     c.nearest_of-start.ensures.has in
-    (c.requires.links_fit, h)
+    record {
+      links_fit = c.requires.links_fit;
+      level_le_wrap_keys = h;
+    }
 
 pub returns-then-trail-eq0 : goal.returns-then-trail-eq0
 returns-then-trail-eq0 c roots l size copies kept openers =
@@ -39,7 +42,10 @@ path_end-end-requires c =
     let n = c.nearest_of-start in
     let f = c.if-trail-eq0.false in
     let h : 0 < p.result.count = omega (arith, f) in
-    (trail-fits c.args.links n.result p.result c.requires.links_fit p.ensures, h)
+    record {
+      trail_fits = trail-fits c.args.links n.result p.result c.requires.links_fit p.ensures;
+      count_nonzero = h;
+    }
 
 pub path_before-requires : goal.path_before-requires
 path_before-requires c =
@@ -48,10 +54,10 @@ path_before-requires c =
     let a = c.args in
     let e : length p.result.places ≡ limits.wrap_keys = search rules in
     let f : p.result.count ≤ length p.result.places = omega (arith, e, p.ensures.few) in
-    let g = keys-few (held_at a.links.ids a.reached) p.result.count p.result.places f in (
-      (made-few k.result _ k.ensures (omega (arith, g, p.ensures.few)), made-of-keys k.result _ k.ensures),
-      formed-few a.old c.requires.value,
-    )
+    let g = keys-few (held_at a.links.ids a.reached) p.result.count p.result.places f in record {
+      count_le_held_keys = (made-few k.result _ k.ensures (omega (arith, g, p.ensures.few)), made-of-keys k.result _ k.ensures);
+      count_le_held_keys_2 = formed-few a.old c.requires.value;
+    }
 
 pub returns : goal.returns
 returns c roots l size copies kept openers =

@@ -32,26 +32,26 @@ loop-i-preserved c =
 
 pub returns-else-is_carried : goal.returns-else-is_carried
 returns-else-is_carried c =
-    let w = c.loop-i in (
-      (omega arith, omega arith),
-      λ frame l h.
+    let w = c.loop-i in record {
+      lower_bound = (omega arith, omega arith);
+      by_index = (λ frame l h.
           record {
             behind = omega arith;
             most = omega arith;
             passed = w.invariant.4 frame l h;
             here = λ g. sym (c.is_carried.ensures frame l h) ∙ c.if-is_carried.false;
-          },
-    )
+          });
+    }
 
 pub returns : goal.returns
 returns c =
-    let w = c.loop-i in (
-      (omega arith, omega arith),
-      λ frame l h.
+    let w = c.loop-i in record {
+      lower_bound = (omega arith, omega arith);
+      by_index = (λ frame l h.
           record {
             behind = omega arith;
             most = omega arith;
             passed = w.invariant.4 frame l h;
             here = λ g. absurd (omega arith);
-          },
-    )
+          });
+    }

@@ -31,13 +31,21 @@ expand_inverse-schedule-requires c =
     let e : length c.args.key.octets ≡ 32 = search rules in
     let n : length (take c.args.key.count c.args.key.octets) ≡ c.args.key.count =
     length-take-le c.args.key.count c.args.key.octets (omega arith) in
-    (c.requires.tables_value.0, subst (λ (m : ℕ). T (is_key m)) (sym n) (is-key-size c.args.key.count c.requires.tables_value.1))
+    record {
+      tables_value = c.requires.tables_value.0;
+      t = subst (λ (m : ℕ). T (is_key m)) (sym n) (is-key-size c.args.key.count c.requires.tables_value.1);
+    }
 
 pub try_on_all-requires : goal.try_on_all-requires
 try_on_all-requires c =
     let a = c.args in
     let k = take a.key.count a.key.octets in
-    (c.requires.n_le_wrap_keys, ((c.requires.tables_value.0, record { key = k; expands = c.expand_inverse-schedule.ensures }), (c.requires.size_value, c.requires.lists)))
+    record {
+      n_le_wrap_keys = c.requires.n_le_wrap_keys;
+      tables_value = (c.requires.tables_value.0, record { key = k; expands = c.expand_inverse-schedule.ensures });
+      size_value = c.requires.size_value;
+      lists = c.requires.lists;
+    }
 
 pub returns-then-is_named : goal.returns-then-is_named
 returns-then-is_named c l h =

@@ -26,7 +26,11 @@ try_on_entry-requires c =
     let a = c.args in
     let p = c.requires.lists in
     let e = entry_at a.frame.now a.t6 a.n p.0 p.1 l.i _ (omega arith) (omega arith) in
-    (c.requires.tables_value, (c.requires.size_value, (e.starts, e.ends)))
+    record {
+      tables_value = c.requires.tables_value;
+      size_value = c.requires.size_value;
+      start_le_end = (e.starts, e.ends);
+    }
 
 pub loop-i-preserved : goal.loop-i-preserved
 loop-i-preserved c =

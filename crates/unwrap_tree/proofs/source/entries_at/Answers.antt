@@ -14,10 +14,10 @@ returns-then-registers c f y =
 
 pub fresh_source-requires : goal.fresh_source-requires
 fresh_source-requires c =
-    let p = c.requires in (
-      (p.0.0, subst (λ (x : Bool). is_whole (bags x 0 c.args.kd.now) ≡ true) c.if-reads.true p.0.1),
-      (p.1.0, p.1.1.fresh c.if-reads.true),
-    )
+    let p = c.requires in record {
+      gsa_value = (p.0.0, subst (λ (x : Bool). is_whole (bags x 0 c.args.kd.now) ≡ true) c.if-reads.true p.0.1);
+      fresh_source = (p.1.0, p.1.1.fresh c.if-reads.true);
+    }
 
 pub returns-then-reads : goal.returns-then-reads
 returns-then-reads c f y =

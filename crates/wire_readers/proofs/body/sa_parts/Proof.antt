@@ -63,7 +63,7 @@ part-transforms-end-end c = search rules
 
 transforms-end-requires : tie.Need-transforms_end-e-requires
 transforms-end-requires c κs =
-(
+    (
       c.requires.1.suite.transforms,
       c.requires.2.tail,
       transforms-are c.requires.0 c.args.s.now c.requires.1 c.requires.2 _ (first c.before) _ (second c.before),
