@@ -33,7 +33,7 @@ pub fn kind<'a>(v: View<'a>) -> read::Kind
 // Answers the SPI of the policy, as a slice of the octets of `v`; empty for a group-wide policy and for no policy.
 pub fn spi<'a>(v: View<'a>) -> &'a [u8]
     ensures { (result.now ≡ shown_spi v.entry.src.now)
-        × (result.ref_ptr ≡ (v.entry.src.ptr.0, spi_start v.entry.src.now + v.entry.src.ptr.1)) }
+        × (result.ref_ptr ≡ (v.entry.src.ref_ptr.0, spi_start v.entry.src.now + v.entry.src.ref_ptr.1)) }
 {
     read::spi_of(v.src)
 }

@@ -98,8 +98,8 @@ returns c =
     let m = sought-end _ _ l.found l.at l.invariant.found c.loop-at-test.false in
     λ i. record { bags = e i; member_bag = m i }
 
-pub kd-facts-spec : {M : Type 1} → statement M
-kd-facts-spec =
+pub kd_facts_spec : {M : Type 1} → statement M
+kd_facts_spec =
     tie.close
     (tie.spec
     invariant-loop

@@ -118,8 +118,8 @@ returns c x spi i =
     (c.is_group_address-group.ensures x.destination f.destination) c.is_fit-fit.result c.is_fit-fit.ensures c.one_if.result
     c.one_if-2.result c.one_if.ensures c.one_if-2.ensures c.if_so.result c.if_so.ensures
 
-pub of-sa-spec : {M : Type 1} → statement M
-of-sa-spec =
+pub of_sa_spec : {M : Type 1} → statement M
+of_sa_spec =
     tie.close
     (tie.spec
     sa-parts-requires

@@ -78,8 +78,8 @@ loop-again c =
 returns : tie.Need-returns invariant-loop decreases-loop
 returns c = policies-end _ _ c.loop-at.f c.loop-at.at c.loop-at.invariant c.loop-at-test.false
 
-pub policy-facts-spec : {M : Type 1} → statement M
-policy-facts-spec =
+pub policy_facts_spec : {M : Type 1} → statement M
+policy_facts_spec =
     tie.close
     (tie.spec
     invariant-loop

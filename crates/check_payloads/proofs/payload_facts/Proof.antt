@@ -86,8 +86,8 @@ loop-again c =
 returns : tie.Need-returns invariant-loop decreases-loop
 returns c = let l = c.loop-kind in payloads-end _ l.b l.kind l.at l.invariant c.loop-kind-test.false
 
-pub payload-facts-spec : {M : Type 1} → statement M
-payload-facts-spec =
+pub payload_facts_spec : {M : Type 1} → statement M
+payload_facts_spec =
     tie.close
     (tie.spec
     invariant-loop

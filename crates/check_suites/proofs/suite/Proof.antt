@@ -126,8 +126,8 @@ returns c l tail x =
     let k = c.loop-more in
     suite-ends c.args.t.now l tail k.at k.more k.s (k.invariant.2 l tail x) c.loop-more-test.false
 
-pub suite-spec : {M : Type 1} → statement M
-suite-spec =
+pub suite_spec : {M : Type 1} → statement M
+suite_spec =
     tie.close
     (tie.spec
     invariant-loop

@@ -145,8 +145,8 @@ returns c l tail x =
     let k = c.loop-more in
     needs-end c.args.t.now l tail k.at k.more _ (k.invariant.3 l tail x) c.loop-more-test.false
 
-pub transforms-need-spec : {M : Type 1} → statement M
-transforms-need-spec =
+pub transforms_need_spec : {M : Type 1} → statement M
+transforms_need_spec =
     tie.close
     (tie.spec
     invariant-loop

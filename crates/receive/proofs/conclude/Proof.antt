@@ -76,5 +76,5 @@ returns-2 c =
     by-keys a.state a.tick lent a.frame.now a.x r.keyed r.over r.held f (keys-known r o w.fit) w.each
     w.room _ (c.next-after.ensures f (says c.before.before.before f lent o))
 
-pub conclude-spec : {M : Type 1} → statement M
-conclude-spec = tie.close (tie.spec number-by-requires returns row-of-requires said-requires next-requires returns-2)
+pub conclude_spec : {M : Type 1} → statement M
+conclude_spec = tie.close (tie.spec number-by-requires returns row-of-requires said-requires next-requires returns-2)

@@ -40,8 +40,8 @@ same_length c = search rules
 returns : tie.Need-returns invariant-loop decreases-loop
 returns c = search rules
 
-pub octets-spec : {M : Type 1} → statement M
-octets-spec =
+pub octets_spec : {M : Type 1} → statement M
+octets_spec =
     tie.close
     (tie.spec
     invariant-loop

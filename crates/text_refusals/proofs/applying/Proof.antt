@@ -30,8 +30,8 @@ returns c = search rules
 returns-2 : tie.Need-returns-2
 returns-2 c = search rules
 
-pub applying-spec : {M : Type 1} → statement M
-applying-spec =
+pub applying_spec : {M : Type 1} → statement M
+applying_spec =
     tie.close
     (tie.spec
     frame-layout-requires

@@ -166,8 +166,8 @@ returns c roots entries size zero new old x lends agrees =
           room;
     }
 
-pub copies-spec : {M : Type 1} → statement M
-copies-spec =
+pub copies_spec : {M : Type 1} → statement M
+copies_spec =
     tie.close
     (tie.spec
     invariant-loop

@@ -28,10 +28,10 @@ returns-then-i-carried c =
           c.value_at.ensures.result_value new a.carried.now f (omega (arith, n, h))
           ∙ in-fresh a.id new old a.carried.now a.fresh.now a.ids.now a.held.now f o p.result p.ensures h);
       ref_ptr_value = c.value_at.ensures.ref_ptr_value
-          ∙ ap (λ (n : ℕ). (a.fresh.ptr.0, n + a.fresh.ptr.1)) (start-found a.id a.carried.now p.result p.ensures h)
+          ∙ ap (λ (n : ℕ). (a.fresh.ref_ptr.0, n + a.fresh.ref_ptr.1)) (start-found a.id a.carried.now p.result p.ensures h)
           ∙ ap
-          (λ (b : Bool). cond b (a.fresh.ptr.0, key_start a.id a.carried.now + a.fresh.ptr.1)
-          (a.held.ptr.0, key_start a.id a.ids.now + a.held.ptr.1)) (sym in-first);
+          (λ (b : Bool). cond b (a.fresh.ref_ptr.0, key_start a.id a.carried.now + a.fresh.ref_ptr.1)
+          (a.held.ref_ptr.0, key_start a.id a.ids.now + a.held.ref_ptr.1)) (sym in-first);
     }
 
 pub value_at-requires-then-j-ids : goal.value_at-requires-then-j-ids
@@ -54,10 +54,10 @@ returns-then-j-ids c =
           ∙ in_held a.id new old a.carried.now a.fresh.now a.ids.now a.held.now f o p.result p.ensures g
           q.result q.ensures h);
       ref_ptr_value = c.value_at-then-j-ids.ensures.ref_ptr_value
-          ∙ ap (λ (n : ℕ). (a.held.ptr.0, n + a.held.ptr.1)) (start-found a.id a.ids.now q.result q.ensures h)
+          ∙ ap (λ (n : ℕ). (a.held.ref_ptr.0, n + a.held.ref_ptr.1)) (start-found a.id a.ids.now q.result q.ensures h)
           ∙ ap
-          (λ (b : Bool). cond b (a.fresh.ptr.0, key_start a.id a.carried.now + a.fresh.ptr.1)
-          (a.held.ptr.0, key_start a.id a.ids.now + a.held.ptr.1))
+          (λ (b : Bool). cond b (a.fresh.ref_ptr.0, key_start a.id a.carried.now + a.fresh.ref_ptr.1)
+          (a.held.ref_ptr.0, key_start a.id a.ids.now + a.held.ref_ptr.1))
           (sym (first-none a.id a.carried.now p.result p.ensures g));
     }
 
@@ -71,9 +71,9 @@ returns c =
       result_value = (λ new old f o.
           in-neither a.id new old a.carried.now a.fresh.now a.ids.now a.held.now f o p.result p.ensures g
           q.result q.ensures h);
-      ref_ptr_value = ap (λ (n : ℕ). (a.held.ptr.0, n + a.held.ptr.1)) (start_none a.id a.ids.now q.result q.ensures h)
+      ref_ptr_value = ap (λ (n : ℕ). (a.held.ref_ptr.0, n + a.held.ref_ptr.1)) (start_none a.id a.ids.now q.result q.ensures h)
           ∙ ap
-          (λ (b : Bool). cond b (a.fresh.ptr.0, key_start a.id a.carried.now + a.fresh.ptr.1)
-          (a.held.ptr.0, key_start a.id a.ids.now + a.held.ptr.1))
+          (λ (b : Bool). cond b (a.fresh.ref_ptr.0, key_start a.id a.carried.now + a.fresh.ref_ptr.1)
+          (a.held.ref_ptr.0, key_start a.id a.ids.now + a.held.ref_ptr.1))
           (sym (first-none a.id a.carried.now p.result p.ensures g));
     }

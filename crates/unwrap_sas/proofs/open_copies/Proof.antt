@@ -44,8 +44,8 @@ returns c roots entries size f a o bags protocol spi need =
     c.in_bag.result c.in_bag.ensures f a bags protocol spi c.args.need need roots entries size
     c.copies.result (c.copies.ensures roots entries size o.zero o.new o.old o.expands o.lends o.agrees)
 
-pub open-copies-spec : {M : Type 1} → statement M
-open-copies-spec =
+pub open_copies_spec : {M : Type 1} → statement M
+open_copies_spec =
     tie.close
     (tie.spec
     bag-stretch-requires

@@ -176,8 +176,8 @@ returns-2 c =
     along-end a.reads a.gsa.now a.kd.now a.schedule.words a.carried.now a.fresh.now a.ids.now a.block.now a.tick l.at l.missing l.sas
     l.count l.openers l.invariant c.found_by-found.result c.found_by-found.ensures c.loop-at-test.false
 
-pub walk-policies-spec : {M : Type 1} → statement M
-walk-policies-spec =
+pub walk_policies_spec : {M : Type 1} → statement M
+walk_policies_spec =
     tie.close
     (tie.spec
     invariant-loop

@@ -61,6 +61,6 @@ returns c roots entries size f a i =
       answers = c.open_copies-one.ensures roots entries size f a i.opening h.bags h.protocol-is h.spi-is need;
     })
 
-pub with-policy-spec : {M : Type 1} → statement M
-with-policy-spec =
+pub with_policy_spec : {M : Type 1} → statement M
+with_policy_spec =
     tie.close (tie.spec needs-requires add-open-copies open-copies-requires of-policy-requires one-sa-requires returns)

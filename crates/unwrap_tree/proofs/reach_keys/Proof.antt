@@ -119,8 +119,8 @@ returns-2 c l held h z lends =
       };
     }
 
-pub reach-keys-spec : {M : Type 1} → statement M
-reach-keys-spec =
+pub reach_keys_spec : {M : Type 1} → statement M
+reach_keys_spec =
     tie.close
     (tie.spec
     entries-requires

@@ -79,8 +79,8 @@ returns-2 c =
     let l = c.loop-at in
     loop-ends (attribute a.place) (takes a.place) a.base a.s.now l.at l.invariant.1 c.loop-at-test.false
 
-pub are-attributes-spec : {M : Type 1} → statement M
-are-attributes-spec =
+pub are_attributes_spec : {M : Type 1} → statement M
+are_attributes_spec =
     tie.close
     (tie.spec
     invariant-loop

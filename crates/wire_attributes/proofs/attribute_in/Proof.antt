@@ -52,8 +52,8 @@ returns-3 c =
     cut_in a.place a.base a.s.now (cut-is a.s.now (sym c.in-Cut.is
     ∙ c.read_attribute.ensures))
 
-pub attribute-in-spec : {M : Type 1} → statement M
-attribute-in-spec =
+pub attribute_in_spec : {M : Type 1} → statement M
+attribute_in_spec =
     tie.close
     (tie.spec
     read-attribute-requires

@@ -101,7 +101,7 @@ returns-2 c =
     let a = c.args in
     (
       value_there a.s.now a.at c.in-Attribute.short c.in-Attribute.kind c.in-Attribute.start c.in-Attribute.end (found c.before),
-      ap (λ (n : ℕ). (a.s.ptr.0, n + a.s.ptr.1))
+      ap (λ (n : ℕ). (a.s.ref_ptr.0, n + a.s.ref_ptr.1))
           (starts-there a.s.now a.at c.in-Attribute.short c.in-Attribute.kind c.in-Attribute.start c.in-Attribute.end (found c.before)),
     )
 
@@ -112,8 +112,8 @@ returns-3 c =
     ∙ c.read_attribute.ensures ∙ ap read_of (to_end a.s.now a.at)) in
     (value_none a.s.now a.at f, ap (λ (n : ℕ). (a.s.ref_ptr.0, n + a.s.ref_ptr.1)) (starts_none a.s.now a.at f))
 
-pub attribute-value-spec : {M : Type 1} → statement M
-attribute-value-spec =
+pub attribute_value_spec : {M : Type 1} → statement M
+attribute_value_spec =
     tie.close
     (tie.spec
     sub-result

@@ -85,8 +85,8 @@ returns-2 c =
     let l = c.loop-at in
     loop-ends (bag a.fresh) (takes a.fresh) a.base a.s.now l.at l.invariant.1 c.loop-at-test.false
 
-pub are-bags-spec : {M : Type 1} → statement M
-are-bags-spec =
+pub are_bags_spec : {M : Type 1} → statement M
+are_bags_spec =
     tie.close
     (tie.spec
     invariant-loop

@@ -67,8 +67,8 @@ returns-2 c =
     (frame-broken a.profile a.s.now (header-not a.s.now
     (sym c.in-Broken.is ∙ c.read_header.ensures)))
 
-pub layout-with-profile-spec : {M : Type 1} → statement M
-layout-with-profile-spec =
+pub layout_with_profile_spec : {M : Type 1} → statement M
+layout_with_profile_spec =
     tie.close
     (tie.spec
     read-header-requires

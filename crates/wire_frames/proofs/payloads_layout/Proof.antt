@@ -105,8 +105,8 @@ returns-3 c = left_over c.args.fresh c.args.first
     c.loop-kind.at c.loop-kind.invariant.0 c.loop-kind.invariant.1 c.loop-kind-test.false
     c.if-at-s.false
 
-pub payloads-layout-spec : {M : Type 1} → statement M
-payloads-layout-spec =
+pub payloads_layout_spec : {M : Type 1} → statement M
+payloads_layout_spec =
     tie.close
     (tie.spec
     invariant-loop

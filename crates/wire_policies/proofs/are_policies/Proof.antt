@@ -83,8 +83,8 @@ returns-2 c =
     let l = c.loop-at in
     loop-ends policy takes a.base a.s.now l.at l.invariant.1 c.loop-at-test.false
 
-pub are-policies-spec : {M : Type 1} → statement M
-are-policies-spec =
+pub are_policies_spec : {M : Type 1} → statement M
+are_policies_spec =
     tie.close
     (tie.spec
     invariant-loop

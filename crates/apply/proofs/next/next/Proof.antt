@@ -41,5 +41,5 @@ returns c =
       profile = refl;
     }
 
-pub next-spec : {M : Type 1} → statement M
-next-spec = tie.close (tie.spec old-sas-requires enter-all-requires least-by-requires returns)
+pub next_spec : {M : Type 1} → statement M
+next_spec = tie.close (tie.spec old-sas-requires enter-all-requires least-by-requires returns)

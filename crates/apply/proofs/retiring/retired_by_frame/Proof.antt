@@ -115,8 +115,8 @@ returns c =
     going_end _ _ _ _ i.0 _ l.left l.kind l.at i.2 c.loop-left-test.false
     ∙ ap (λ (z : List Delete). retired_there (named_in (spis_in z)) a.tick a.delay a.t) y
 
-pub retired-by-frame-spec : {M : Type 1} → statement M
-retired-by-frame-spec =
+pub retired_by_frame_spec : {M : Type 1} → statement M
+retired_by_frame_spec =
     tie.close
     (tie.spec
     invariant-loop

@@ -76,8 +76,8 @@ returns c =
     c.next_attribute.ensures in
     keys-end _ _ _ l.f l.at l.invariant.1 f.0
 
-pub keys-of-spec : {M : Type 1} → statement M
-keys-of-spec =
+pub keys_of_spec : {M : Type 1} → statement M
+keys_of_spec =
     tie.close
     (tie.spec
     invariant-loop

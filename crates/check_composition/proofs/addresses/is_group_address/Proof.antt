@@ -86,8 +86,8 @@ returns-3 c =
     λ x i. not-one c.args.o.now x i c.wide-kind.result c.address_size-e.result
     c.wide-kind.ensures.0 c.address_size-e.ensures.0 c.same.result c.same.ensures c.if-same.false
 
-pub is-group-address-spec : {M : Type 1} → statement M
-is-group-address-spec =
+pub is_group_address_spec : {M : Type 1} → statement M
+is_group_address_spec =
     tie.close
     (tie.spec
     shared-slice-read-wide

@@ -85,8 +85,8 @@ returns c =
     c.next_attribute.ensures in
     numbers-end _ _ _ l.n l.at l.invariant.1 f.0
 
-pub numbers-of-spec : {M : Type 1} → statement M
-numbers-of-spec =
+pub numbers_of_spec : {M : Type 1} → statement M
+numbers_of_spec =
     tie.close
     (tie.spec
     invariant-loop

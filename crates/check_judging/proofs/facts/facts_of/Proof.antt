@@ -70,8 +70,8 @@ returns c =
       member_bag = (ap (λ (y : KdFacts). y.member_bag) k ∙ ap (λ (y : PayloadFacts). member_in (at s y.kd)) e) i;
     }
 
-pub facts-of-spec : {M : Type 1} → statement M
-facts-of-spec =
+pub facts_of_spec : {M : Type 1} → statement M
+facts_of_spec =
     tie.close
     (tie.spec
     payload-facts-requires

@@ -91,8 +91,8 @@ returns-5 c =
     c.if-number_4.false _ c.number_5.ensures c.if-number_5.false _ c.number_6.ensures c.if-number_6.false _ c.count_standing.ensures _
     c.number_7.ensures c.if-number_7.false f q (c.requires.f_value f q)
 
-pub on-facts-spec : {M : Type 1} → statement M
-on-facts-spec =
+pub on_facts_spec : {M : Type 1} → statement M
+on_facts_spec =
     tie.close
     (tie.spec
     number-4-requires

@@ -79,8 +79,8 @@ loop-again c =
 returns-2 : tie.Need-returns invariant-loop decreases-loop
 returns-2 c = let l = c.loop-at in pairs_end _ _ l.at l.invariant c.loop-at-test.false
 
-pub any-unpaired-spec : {M : Type 1} → statement M
-any-unpaired-spec =
+pub any_unpaired_spec : {M : Type 1} → statement M
+any_unpaired_spec =
     tie.close
     (tie.spec
     invariant-loop

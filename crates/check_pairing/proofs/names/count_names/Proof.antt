@@ -95,8 +95,8 @@ loop-again-2 c =
 returns : tie.Need-returns invariant-loop decreases-loop
 returns c = let l = c.loop-at in counting-end _ _ l.n l.at l.invariant c.loop-at-test.false
 
-pub count-names-spec : {M : Type 1} → statement M
-count-names-spec =
+pub count_names_spec : {M : Type 1} → statement M
+count_names_spec =
     tie.close
     (tie.spec
     invariant-loop

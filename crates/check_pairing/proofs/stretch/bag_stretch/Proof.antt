@@ -84,8 +84,8 @@ loop-again c =
 returns-2 : tie.Need-returns invariant-loop decreases-loop
 returns-2 c = let l = c.loop-at in going_end _ _ _ l.at l.invariant c.loop-at-test.false
 
-pub bag-stretch-spec : {M : Type 1} → statement M
-bag-stretch-spec =
+pub bag_stretch_spec : {M : Type 1} → statement M
+bag_stretch_spec =
     tie.close
     (tie.spec
     invariant-loop

@@ -41,8 +41,8 @@ returns : tie.Need-returns
 returns c =
     spi-is c.args.o.now c.requires.0 c.args.i c.wide-size.result c.wide-size.ensures.0 c.requires.1
 
-pub spi-at-spec : {M : Type 1} → statement M
-spi-at-spec =
+pub spi_at_spec : {M : Type 1} → statement M
+spi_at_spec =
     tie.close
     (tie.spec
     shared-slice-read-wide

@@ -90,8 +90,8 @@ returns c =
     (subst (FindsValue KeyLength a.place a.a.now l.at) c.in-Nothing.is c.next_attribute.ensures).0 in
     (omega (arith, l.invariant.3, no-more a.id a.place (drop l.at a.a.now) f), omega (arith, l.invariant.0, l.invariant.2))
 
-pub key-length-octets-spec : {M : Type 1} → statement M
-key-length-octets-spec =
+pub key_length_octets_spec : {M : Type 1} → statement M
+key_length_octets_spec =
     tie.close
     (tie.spec
     invariant-loop

@@ -96,8 +96,8 @@ returns c =
     (c.frame_octets-size.result - header_octets) (c.frame_octets-before.result - header_octets) (omega arith) (omega arith)
     c.join_within.ensures
 
-pub gather-spec : {M : Type 1} → statement M
-gather-spec =
+pub gather_spec : {M : Type 1} → statement M
+gather_spec =
     tie.close
     (tie.spec
     pieces-ahead-requires

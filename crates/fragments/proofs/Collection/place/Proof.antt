@@ -60,8 +60,8 @@ returns-3 c =
     told-kept a.self a.f c.requires (sym c.in-Kept.is ∙ c.case-case.ensures) (long c.before.before.before.before.before) piece
     c.frame_octets-octets.result a.size c.by_size-in-Kept.result c.frame_octets-octets.ensures z c.by_size-in-Kept.ensures
 
-pub place-spec : {M : Type 1} → statement M
-place-spec =
+pub place_spec : {M : Type 1} → statement M
+place_spec =
     tie.close
     (tie.spec
     case-requires

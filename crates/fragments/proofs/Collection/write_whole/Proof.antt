@@ -54,8 +54,8 @@ returns c =
     written c.frame_octets-size.result c.make_header-h.result c.args.room.now _ w a e l.spis-size f c.make_header-h.ensures
     c.put_frame.ensures
 
-pub write-whole-spec : {M : Type 1} → statement M
-write-whole-spec =
+pub write_whole_spec : {M : Type 1} → statement M
+write_whole_spec =
     tie.close
     (tie.spec
     frame-octets-requires

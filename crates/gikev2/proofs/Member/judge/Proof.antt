@@ -59,8 +59,8 @@ returns c =
 returns-2 : tie.Need-returns-in-Passed
 returns-2 c = λ f q. c.decide_frame.ensures f (passes c.before f q)
 
-pub judge-spec : {M : Type 1} → statement M
-judge-spec =
+pub judge_spec : {M : Type 1} → statement M
+judge_spec =
     tie.close
     (tie.spec
     refusal-requires

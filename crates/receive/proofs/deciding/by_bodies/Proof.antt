@@ -70,6 +70,6 @@ returns : tie.Need-returns
 returns c = λ f b. c.conclude.ensures f c.args.lent.now
     (opened c.before f b)
 
-pub by-bodies-spec : {M : Type 1} → statement M
-by-bodies-spec =
+pub by_bodies_spec : {M : Type 1} → statement M
+by_bodies_spec =
     tie.close (tie.spec row-of-requires key-zero-requires open-keys-requires conclude-requires returns)

@@ -44,8 +44,8 @@ returns c =
     let a = c.args in
     λ f q. c.by_bodies.ensures f (bodied a.state a.tick a.lent.now a.frame.now a.x f q)
 
-pub decide-spec : {M : Type 1} → statement M
-decide-spec =
+pub decide_spec : {M : Type 1} → statement M
+decide_spec =
     tie.close
     (tie.spec
     sub-by-bodies

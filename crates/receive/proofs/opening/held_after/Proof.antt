@@ -74,8 +74,8 @@ returns-2 c roots l size f kept openers some =
     (by-openers roots l size f _ listed some o.result (formed c.before.before.before.before.before) (some-listed c.before)
     c.held_by_path.result (c.held_by_path.ensures roots l size (rekey_copies f) kept listed))
 
-pub held-after-spec : {M : Type 1} → statement M
-held-after-spec =
+pub held_after_spec : {M : Type 1} → statement M
+held_after_spec =
     tie.close
     (tie.spec
     held-before-requires

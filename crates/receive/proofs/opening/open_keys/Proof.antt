@@ -239,8 +239,8 @@ returns c m lent f o =
           ((k e).openers g) (some-opener _ _ _ f (each_opens _ _ _ f a.tick c.open_sas-keyed.result (k e) g)));
     }
 
-pub open-keys-spec : {M : Type 1} → statement M
-open-keys-spec =
+pub open_keys_spec : {M : Type 1} → statement M
+open_keys_spec =
     tie.close
     (tie.spec
     entries-at-requires

@@ -51,5 +51,5 @@ returns-2 c e m g k bag f t z b =
     (c.sweep.ensures ∙ ap (λ (x : Table). swept limits c.args.tick x) (sym t)) c.default_key.result
     c.default_key.ensures (array c) (small c)
 
-pub key-zero-spec : {M : Type 1} → statement M
-key-zero-spec = tie.close (tie.spec enum_told new-requires enum-told-2 sweep-requires default-key-requires returns returns-2)
+pub key_zero_spec : {M : Type 1} → statement M
+key_zero_spec = tie.close (tie.spec enum_told new-requires enum-told-2 sweep-requires default-key-requires returns returns-2)

@@ -107,8 +107,8 @@ returns-4 c =
           (c.verify_tag.ensures (aes_key_of part) e) c.if-verify_tag.false,
     )
 
-pub judge-body-spec : {M : Type 1} → statement M
-judge-body-spec =
+pub judge_body_spec : {M : Type 1} → statement M
+judge_body_spec =
     tie.close
     (tie.spec
     add-text

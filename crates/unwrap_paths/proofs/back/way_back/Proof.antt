@@ -118,8 +118,8 @@ returns-2 c =
           (omega arith) l.invariant.6;
     }
 
-pub way-back-spec : {M : Type 1} → statement M
-way-back-spec =
+pub way_back_spec : {M : Type 1} → statement M
+way_back_spec =
     tie.close
     (tie.spec
     invariant-loop

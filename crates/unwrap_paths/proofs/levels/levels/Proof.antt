@@ -102,8 +102,8 @@ returns c =
     has-levels a.n a.ids.now a.kwks.now a.marks.now l.levels l.tried l.invariant.7 l.invariant.6
     (subst (FindsLeast a.n l.levels l.tried) c.in-Nothing.is c.lowest.ensures)
 
-pub levels-spec : {M : Type 1} → statement M
-levels-spec =
+pub levels_spec : {M : Type 1} → statement M
+levels_spec =
     tie.close
     (tie.spec
     invariant-loop

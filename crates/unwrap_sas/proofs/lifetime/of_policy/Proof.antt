@@ -77,8 +77,8 @@ returns-2 c =
     c.numbers_of-n.ensures.0)
     (few c.before.before) c.if-n-eq0.false
 
-pub of-policy-spec : {M : Type 1} → statement M
-of-policy-spec =
+pub of_policy_spec : {M : Type 1} → statement M
+of_policy_spec =
     tie.close
     (tie.spec
     sa-parts-requires

@@ -220,8 +220,8 @@ returns c l held x lends =
     c.if-from-ids.false)
     (subst (λ (m : ℕ). NonePending c.try_key-tried.result m) (sym x.count) none)
 
-pub search-spec : {M : Type 1} → statement M
-search-spec =
+pub search_spec : {M : Type 1} → statement M
+search_spec =
     tie.close
     (tie.spec
     invariant-loop

@@ -148,8 +148,8 @@ returns c l h =
     (gathered-all k u.places u.n (bag_keys c.args.meaning c.args.place (drop u.at s))
     (bag_keys c.args.meaning c.args.place s) u.invariant.4 (ap (map wrap_key_of) f.0))
 
-pub entries-spec : {M : Type 1} → statement M
-entries-spec =
+pub entries_spec : {M : Type 1} → statement M
+entries_spec =
     tie.close
     (tie.spec
     invariant-loop

@@ -44,8 +44,8 @@ returns-2 c f y =
     fresh-stand f g k y r (found c.before.before) c.bag_stretch-bag.result
     (stretch-is rekey_protocol _ k true c.bag_stretch-bag.result c.bag_stretch-bag.ensures c.requires.gsa_value.1 (bag-paired f g k y r (found c.before.before)))
 
-pub fresh-source-spec : {M : Type 1} → statement M
-fresh-source-spec =
+pub fresh_source_spec : {M : Type 1} → statement M
+fresh_source_spec =
     tie.close
     (tie.spec
     rekey-spi-requires

@@ -61,8 +61,8 @@ loop-again c =
 returns-2 : tie.Need-returns invariant-loop decreases-loop
 returns-2 c = let l = c.loop-at in walk_end _ l.at l.invariant c.loop-at-test.false
 
-pub rekey-spi-spec : {M : Type 1} → statement M
-rekey-spi-spec =
+pub rekey_spi_spec : {M : Type 1} → statement M
+rekey_spi_spec =
     tie.close
     (tie.spec
     invariant-loop

@@ -14,5 +14,5 @@ returns c =
     let z = sizes (length c.args.key.now) c.requires in
     omega (arith, z.most)
 
-pub rounds-of-spec : {M : Type 1} → statement M
-rounds-of-spec = tie.close (tie.spec add-result returns)
+pub rounds_of_spec : {M : Type 1} → statement M
+rounds_of_spec = tie.close (tie.spec add-result returns)

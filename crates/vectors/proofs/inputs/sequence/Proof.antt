@@ -33,8 +33,8 @@ loop-again c = search rules
 returns : tie.Need-returns invariant-loop decreases-loop
 returns c = search rules
 
-pub sequence-spec : {M : Type 1} → statement M
-sequence-spec =
+pub sequence_spec : {M : Type 1} → statement M
+sequence_spec =
     tie.close
     (tie.spec
     invariant-loop

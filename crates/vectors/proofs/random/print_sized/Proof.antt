@@ -64,8 +64,8 @@ print-blocks-requires-3 c κs = is_32 _ (search rules)
 returns-3 : tie.Need-returns-3
 returns-3 c = search rules
 
-pub print-sized-spec : {M : Type 1} → statement M
-print-sized-spec =
+pub print_sized_spec : {M : Type 1} → statement M
+print_sized_spec =
     tie.close
     (tie.spec
     slice-aggregate-be64-at

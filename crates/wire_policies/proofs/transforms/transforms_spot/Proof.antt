@@ -99,8 +99,8 @@ returns-2 c =
     tears a.holder a.base a.s.now l.at l.invariant.0 l.invariant.1 _ (sym c.in-Broken.is
     ∙ c.transform_spot.ensures)
 
-pub transforms-spot-spec : {M : Type 1} → statement M
-transforms-spot-spec =
+pub transforms_spot_spec : {M : Type 1} → statement M
+transforms_spot_spec =
     tie.close
     (tie.spec
     invariant-loop

@@ -78,8 +78,8 @@ returns c p x i =
     parts_are p s x i _ (first c.before.before) _ (second c.before.before) c.transforms_end-e.result c.transforms_end-e.ensures.0
     (c.transforms_end-e.ensures.1 x.suite.transforms i.tail (transforms-are p s x i _ (first c.before.before) _ (second c.before.before)))
 
-pub sa-parts-spec : {M : Type 1} → statement M
-sa-parts-spec =
+pub sa_parts_spec : {M : Type 1} → statement M
+sa_parts_spec =
     tie.close
     (tie.spec
     shared-slice-read-wide

@@ -65,8 +65,8 @@ loop-again c =
 returns : tie.Need-returns invariant-loop decreases-loop
 returns c = (c.loop-more.invariant.0, λ l tail x. (none_left (c.loop-more.invariant.1 l tail x).1 c.loop-more-test.false).1)
 
-pub transforms-end-spec : {M : Type 1} → statement M
-transforms-end-spec =
+pub transforms_end_spec : {M : Type 1} → statement M
+transforms_end_spec =
     tie.close
     (tie.spec
     invariant-loop

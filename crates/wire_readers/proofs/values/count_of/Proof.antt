@@ -63,8 +63,8 @@ returns c =
     c.next_attribute.ensures).0 in
     omega (arith, c.loop-e.invariant.3, ap length f)
 
-pub count-of-spec : {M : Type 1} → statement M
-count-of-spec =
+pub count_of_spec : {M : Type 1} → statement M
+count_of_spec =
     tie.close
     (tie.spec
     invariant-loop

@@ -156,8 +156,8 @@ returns-3 c =
       l.invariant.4 a.m w ∙ none-placed a.m a.place a.s.now l.at l.invariant.2 c.loop-at-test.false,
     )
 
-pub next-attribute-spec : {M : Type 1} → statement M
-next-attribute-spec =
+pub next_attribute_spec : {M : Type 1} → statement M
+next_attribute_spec =
     tie.close
     (tie.spec
     invariant-loop

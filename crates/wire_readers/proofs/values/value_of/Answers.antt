@@ -19,7 +19,7 @@ returns-in-At c =
             ∙ met-size a.m a.place s a.from c.in-At.at c.in-At.field-1 f,
       );
       ref_ptr_value = c.attribute_value.ensures.ref_ptr_value
-          ∙ ap (λ (n : ℕ). (a.s.ptr.0, n + a.s.ptr.1)) (met-place a.m a.place s a.from c.in-At.at c.in-At.field-1 f);
+          ∙ ap (λ (n : ℕ). (a.s.ref_ptr.0, n + a.s.ref_ptr.1)) (met-place a.m a.place s a.from c.in-At.at c.in-At.field-1 f);
     }
 
 pub returns-in-Nothing : goal.returns-in-Nothing
@@ -29,5 +29,5 @@ returns-in-Nothing c =
     let f = subst (FindsValue a.m a.place s a.from) c.in-Nothing.is
     c.next_attribute.ensures in record {
       result_value = (none_first a.m a.place s a.from f.0, λ h. absurd (omega (arith, h)));
-      ref_ptr_value = ap (λ (n : ℕ). (a.s.ptr.0, n + a.s.ptr.1)) (none-start a.m a.place s a.from f.1);
+      ref_ptr_value = ap (λ (n : ℕ). (a.s.ref_ptr.0, n + a.s.ref_ptr.1)) (none-start a.m a.place s a.from f.1);
     }

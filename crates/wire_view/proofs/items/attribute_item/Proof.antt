@@ -50,8 +50,8 @@ returns-2 c =
     let y : ◌≡◌ {A = Bool} false true = sym q ∙ f in
     let z : ◌≡◌ {A = ℕ} 0 1 = cc in absurd (omega arith)
 
-pub attribute-item-spec : {M : Type 1} → statement M
-attribute-item-spec =
+pub attribute_item_spec : {M : Type 1} → statement M
+attribute_item_spec =
     tie.close
     (tie.spec
     read-attribute-requires

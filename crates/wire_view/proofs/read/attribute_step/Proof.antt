@@ -95,8 +95,8 @@ returns-3 c =
     ∙ no-attribute a.s.now a.c a.at h p.result p.ensures c.in-Broken.field-0
     (sym c.in-Broken.is ∙ c.attribute_in.ensures)
 
-pub attribute-step-spec : {M : Type 1} → statement M
-attribute-step-spec =
+pub attribute_step_spec : {M : Type 1} → statement M
+attribute_step_spec =
     tie.close
     (tie.spec
     stay-requires

@@ -97,8 +97,8 @@ returns-3 c =
     ∙ no-selector a.s.now a.c a.at h a.comes c.in-Broken.field-0
     (sym c.in-Broken.is ∙ c.selector_spot.ensures)
 
-pub selector-step-spec : {M : Type 1} → statement M
-selector-step-spec =
+pub selector_step_spec : {M : Type 1} → statement M
+selector_step_spec =
     tie.close
     (tie.spec
     stay-requires

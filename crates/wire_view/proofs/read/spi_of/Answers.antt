@@ -18,17 +18,17 @@ returns-in-GroupSa c =
     let s = a.s.now in
     let f = of-sa s c.in-GroupSa.p (sym c.in-GroupSa.is ∙ c.kind_of.ensures.0) in (
       ap (λ (n : ℕ). part s 4 (4 + n)) c.spi_size-e.ensures.0 ∙ f.spi,
-      ap (λ (n : ℕ). (a.s.ptr.0, n + a.s.ptr.1)) f.there,
+      ap (λ (n : ℕ). (a.s.ref_ptr.0, n + a.s.ref_ptr.1)) f.there,
     )
 
 pub returns-in-GroupWide : goal.returns-in-GroupWide
 returns-in-GroupWide c =
     let a = c.args in
     let f = of-wide a.s.now (sym c.in-GroupWide.is ∙ c.kind_of.ensures.0) in
-    (f.spi, ap (λ (n : ℕ). (a.s.ptr.0, n + a.s.ptr.1)) f.there)
+    (f.spi, ap (λ (n : ℕ). (a.s.ref_ptr.0, n + a.s.ref_ptr.1)) f.there)
 
 pub returns-in-Nothing : goal.returns-in-Nothing
 returns-in-Nothing c =
     let a = c.args in
     let f = of_none a.s.now (sym c.in-Nothing.is ∙ c.kind_of.ensures.0) in
-    (f.spi, ap (λ (n : ℕ). (a.s.ptr.0, n + a.s.ptr.1)) f.there)
+    (f.spi, ap (λ (n : ℕ). (a.s.ref_ptr.0, n + a.s.ref_ptr.1)) f.there)

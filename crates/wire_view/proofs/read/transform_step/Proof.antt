@@ -112,8 +112,8 @@ returns-4 c =
     ∙ no-transform a.s.now a.c a.at h c.in-Broken.field-0
     (sym c.in-Broken.is ∙ c.transform_spot.ensures)
 
-pub transform-step-spec : {M : Type 1} → statement M
-transform-step-spec =
+pub transform_step_spec : {M : Type 1} → statement M
+transform_step_spec =
     tie.close
     (tie.spec
     stay-requires
