@@ -87,8 +87,10 @@ class Walk:
             named, more = nested(rest[1:], clauses["fields"])
             return [new, "ensures"] + named + more
         if rest and rest[0] == "new" and callee in self.of.get("params", {}) and len(rest) > 1:
-            named, more = nested(rest[1:], self.of["params"][callee])
-            return [new, "new"] + named + more
+            params, k, more = self.of["params"][callee], 0, rest[1:]
+            while more and more[0] == "1" and k < len(params) - 1:
+                k, more = k + 1, more[1:]
+            return [new, "new", params[k]] + more[1:] if more and more[0] == "0" else [new, "new"] + rest[1:]
         return [new] + rest
 
 
@@ -163,6 +165,9 @@ def turn_paths(text, walk, place, said, where):
             return "c." + ".".join(rest)
         return "c." + ".".join(new)
 
+    for old, new in walk.args.items():
+        for m in re.finditer(r"let (%s) = (?:%s)(?:\.before)*\.args in" % (NAME, "|".join(map(re.escape, env))), text):
+            text = re.sub(r"(?<![\w'.-])%s\.%s(?![\w'-])" % (re.escape(m[1]), re.escape(old)), f"{m[1]}.{new}", text)
     names = "|".join(re.escape(v) for v in sorted(env, key=len, reverse=True))
     text = re.sub(r"(?<![\w'.-])(%s)((?:\.[\w'\-⊎]+)*)(?![\w'-])" % names, path, text)
     return text
@@ -214,7 +219,7 @@ def invariants(decls, walk, said, where):
             continue
         (_, new), vars = loops[index]
         changed = walk.of["changed"][index]
-        want = [f"l.{v}" for v, c in zip(vars, changed) if not c] + [f"l.initial.{v}" for v, c in zip(vars, changed) if c] + [f"l.{v}" for v, c in zip(vars, changed) if c]
+        want = [f"l.initial.{v}" if c else f"l.{v}" for v, c in zip(vars, changed)] + [f"l.{v}" for v, c in zip(vars, changed) if c]
         eq = next(i for i, line in enumerate(d) if i and re.match(re.escape(name) + r"(\s|$)", line))
         body = "\n".join(d[eq:])
         left, right = body.split("=", 1)
@@ -307,8 +312,11 @@ def keep(path, text, walk, decls, uses, goal_of, place_of, declared, said):
             out.append(words(at("\n".join(d), helpers[name], f"{path}: {name}")).split("\n"))
         else:
             out.append(words("\n".join(d)).split("\n"))
+    whole = "\n".join(uses) + "\n\n" + "\n\n".join("\n".join(d) for d in out) + "\n"
+    for it in set(re.findall(r"pub (\S+-spec) : \{M", whole)):
+        whole = re.sub(r"(?<![\w'.-])%s(?![\w'-])" % re.escape(it), os.path.basename(os.path.dirname(path)) + "_spec", whole)
     with open(path, "w", encoding="utf-8") as f:
-        f.write("\n".join(uses) + "\n\n" + "\n\n".join("\n".join(d) for d in out) + "\n")
+        f.write(re.sub(r"\.ptr\b", ".ref_ptr", whole))
 
 
 def main():
@@ -387,7 +395,7 @@ def main():
                 mine.append(u)
             head = "\n".join(mine + [f"use Rattle.{crate}.proofs.{func}.{module} as goal"])
             with open(f"{folder}/{file}", "w", encoding="utf-8") as f:
-                f.write(head + "\n\n" + whole + "\n")
+                f.write(head + "\n\n" + re.sub(r"\.ptr\b", ".ref_ptr", whole) + "\n")
 
         if inv:
             write("Invariants.antt", "Given", inv)

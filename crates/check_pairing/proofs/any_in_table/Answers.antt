@@ -23,7 +23,7 @@ pub returns-then-is_announced : goal.returns-then-is_announced
 returns-then-is_announced c = λ l n.
     let i = c.loop-i in
     let a = c.args in
-    sym (i.invariant.3 l n ∙ any-yes (is_announced a.tick l) a.t2.sas a.t2.count (omega arith) i.i _ _ (omega arith)
+    sym (i.invariant.3 l n ∙ any-yes (is_announced a.tick l) a.t.sas a.t.count (omega arith) i.i _ _ (omega arith)
     (c.is_announced.ensures l n) c.if-is_announced.true)
 
 pub loop-i-preserved : goal.loop-i-preserved
@@ -33,7 +33,7 @@ loop-i-preserved c =
       i.invariant.0,
       i.invariant.1,
       omega arith,
-      λ l n. i.invariant.3 l n ∙ any-no (is_announced a.tick l) a.t2.sas a.t2.count (omega arith) i.i _ _ (omega arith)
+      λ l n. i.invariant.3 l n ∙ any-no (is_announced a.tick l) a.t.sas a.t.count (omega arith) i.i _ _ (omega arith)
           (c.is_announced.ensures l n) c.if-is_announced.false,
     )
 
@@ -41,4 +41,4 @@ pub returns : goal.returns
 returns c = λ l n.
     let i = c.loop-i in
     let a = c.args in
-    sym (i.invariant.3 l n ∙ any-end (is_announced a.tick l) a.t2.sas a.t2.count (omega arith) i.i (omega arith))
+    sym (i.invariant.3 l n ∙ any-end (is_announced a.tick l) a.t.sas a.t.count (omega arith) i.i (omega arith))

@@ -55,8 +55,8 @@ returns-2 c =
     report-line s.sas s.held s.line p.put-number.ensures q.put.ensures r.put-number2.ensures
     (λ z. omega (arith, z, u.before.before.if1.false)) u.put3.ensures v.put-number3.ensures w.put4.ensures
 
-pub put_report_spec : {M : Type 1} → statement M
-put_report_spec =
+pub put-report-spec : {M : Type 1} → statement M
+put-report-spec =
     tie.close
     (tie.spec
     put-number-requires

@@ -55,8 +55,8 @@ same_length c = c.before.loop.invariant.0
 returns : tie.Need-returns invariant-loop decreases-loop
 returns c = c.before.loop.invariant.1
 
-pub read_input_spec : {M : Type 1} → statement M
-read_input_spec =
+pub read-input-spec : {M : Type 1} → statement M
+read-input-spec =
     tie.close
     (tie.spec
     invariant-loop

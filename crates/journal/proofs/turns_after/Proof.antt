@@ -14,5 +14,5 @@ sub-result c = search rules
 returns-2 : tie.Need-returns-2
 returns-2 c = inr (λ z. omega (arith, z, c.if1.false), omega arith)
 
-pub turns_after_spec : {M : Type 1} → statement M
-turns_after_spec = tie.close (tie.spec returns sub-result returns-2)
+pub turns-after-spec : {M : Type 1} → statement M
+turns-after-spec = tie.close (tie.spec returns sub-result returns-2)

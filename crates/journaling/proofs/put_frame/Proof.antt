@@ -47,8 +47,8 @@ returns-2 c =
     let e : oct s.frame.now 18 ≡ 41 → ⊥ = λ q. omega (arith, i.before.wide.ensures) in
     frame-line s.frame.now s.lent.now s.tick s.lent.now (other_key s.frame.now s.lent.now e) p.put-entry2.ensures
 
-pub put_frame_spec : {M : Type 1} → statement M
-put_frame_spec =
+pub put-frame-spec : {M : Type 1} → statement M
+put-frame-spec =
     tie.close
     (tie.spec
     shared-slice-read-wide

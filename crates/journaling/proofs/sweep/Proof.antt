@@ -32,8 +32,8 @@ returns c =
     w.sweep.ensures)
     (sweep-line s.tick p.put-entry.ensures)
 
-pub sweep_spec : {M : Type 1} → statement M
-sweep_spec =
+pub sweep-spec : {M : Type 1} → statement M
+sweep-spec =
     tie.close
     (tie.spec
     slice-aggregate-put-entry

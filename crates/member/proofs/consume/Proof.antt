@@ -63,8 +63,8 @@ returns c =
     let e = c.emptied.ensures in
     (consuming-ready l e, (consuming-room l e, consuming-end l e t.loop-test.false))
 
-pub consume_spec : {M : Type 1} → statement M
-consume_spec =
+pub consume-spec : {M : Type 1} → statement M
+consume-spec =
     tie.close
     (tie.spec
     invariant-loop

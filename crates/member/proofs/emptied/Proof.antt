@@ -10,5 +10,5 @@ returns : tie.Need-returns
 returns c =
     record { member = refl; key = refl; keyed = refl; len = refl; over = c.before.before.hand-over.ensures; at = refl }
 
-pub emptied_spec : {M : Type 1} → statement M
-emptied_spec = tie.close (tie.spec hand-over-requires returns)
+pub emptied-spec : {M : Type 1} → statement M
+emptied-spec = tie.close (tie.spec hand-over-requires returns)

@@ -20,5 +20,5 @@ returns c =
     let f = c.before.before.before.before.before.before.finish in
     record { octets = take f.result.at f.new.1.1.1.0; over = c.hand-over.ensures; finishes = f.ensures.1 }
 
-pub ended_spec : {M : Type 1} → statement M
-ended_spec = tie.close (tie.spec finish-requires hand-over-requires same_length same-length-2 returns)
+pub ended-spec : {M : Type 1} → statement M
+ended-spec = tie.close (tie.spec finish-requires hand-over-requires same_length same-length-2 returns)

@@ -18,5 +18,5 @@ emptied-requires c κs = search rules
 returns-2 : tie.Need-returns-2
 returns-2 c = emptied-flushed c.emptied.ensures (search rules)
 
-pub flush_spec : {M : Type 1} → statement M
-flush_spec = tie.close (tie.spec sub-if1 returns emptied-requires returns-2)
+pub flush-spec : {M : Type 1} → statement M
+flush-spec = tie.close (tie.spec sub-if1 returns emptied-requires returns-2)

@@ -25,5 +25,5 @@ returns-3 c =
     let e = f.before in
     inr (sym e.ended.ensures ∙ i.if1.false, sym f.failed.ensures ∙ c.if2.false, omega (arith, e.before.requires))
 
-pub turns_left_spec : {M : Type 1} → statement M
-turns_left_spec = tie.close (tie.spec ended-requires failed-requires returns returns-2 sub-result returns-3)
+pub turns-left-spec : {M : Type 1} → statement M
+turns-left-spec = tie.close (tie.spec ended-requires failed-requires returns returns-2 sub-result returns-3)

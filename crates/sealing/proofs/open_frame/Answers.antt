@@ -30,5 +30,5 @@ open_part-requires c =
 pub returns : goal.returns
 returns c =
     let a = c.args in
-    subst (λ (p : List ℕ). UnsealsInto p a.frame.now a.room.now c.open_part.result c.open_part.new.room.0)
+    subst (λ (p : List ℕ). UnsealsInto p a.frame.now a.room.now c.open_part.result c.open_part.new.room)
     (from_start a.key.octets a.key.count) c.open_part.ensures

@@ -51,8 +51,8 @@ loop-again c = search rules
 returns : tie.Need-returns invariant-loop decreases-loop
 returns c = search rules
 
-pub frames_spec : {M : Type 1} → statement M
-frames_spec =
+pub frames-spec : {M : Type 1} → statement M
+frames-spec =
     tie.close
     (tie.spec
     invariant-loop

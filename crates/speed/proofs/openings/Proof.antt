@@ -54,8 +54,8 @@ loop-again c = search rules
 returns : tie.Need-returns invariant-loop decreases-loop
 returns c = search rules
 
-pub openings_spec : {M : Type 1} → statement M
-openings_spec =
+pub openings-spec : {M : Type 1} → statement M
+openings-spec =
     tie.close
     (tie.spec
     invariant-loop

@@ -45,8 +45,8 @@ loop-again c = search rules
 returns : tie.Need-returns invariant-loop decreases-loop
 returns c = search rules
 
-pub wraps_spec : {M : Type 1} → statement M
-wraps_spec =
+pub wraps-spec : {M : Type 1} → statement M
+wraps-spec =
     tie.close
     (tie.spec
     invariant-loop

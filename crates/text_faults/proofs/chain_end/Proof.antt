@@ -34,8 +34,8 @@ loop-again c = search rules
 returns-2 : tie.Need-returns-2 invariant-loop decreases-loop
 returns-2 c = search rules
 
-pub chain_end_spec : {M : Type 1} → statement M
-chain_end_spec =
+pub chain-end-spec : {M : Type 1} → statement M
+chain-end-spec =
     tie.close
     (tie.spec
     invariant-loop

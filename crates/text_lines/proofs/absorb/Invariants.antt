@@ -6,7 +6,7 @@ use Rattle.text_lines.proofs.RoomLaws.{length-puts}
 use Rattle.text_lines.proofs.absorb.Given as goal
 
 abbrev pub invariant-loop-at : goal.invariant-loop-at
-invariant-loop-at l = Takes l.block l.from l.len l.initial.line l.line l.at l.held
+invariant-loop-at l = Takes l.block l.from l.initial.line l.len l.line l.at l.held
 
 abbrev pub decreases-loop-at : goal.decreases-loop-at
 decreases-loop-at l = length l.block - l.at

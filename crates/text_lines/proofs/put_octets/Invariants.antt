@@ -12,7 +12,7 @@ use Rattle.text_lines.proofs.RoomLaws.{Puts, puts-start, puts-more, puts-done, p
 use Rattle.text_lines.proofs.put_octets.Given as goal
 
 abbrev pub invariant-loop-k : goal.invariant-loop-k
-invariant-loop-k l = (l.k ≤ l.initial.room) × Putting l.at l.text l.n l.k l.room
+invariant-loop-k l = (l.k ≤ l.n) × Putting l.initial.room l.at l.text l.k l.room
 
 abbrev pub decreases-loop-k : goal.decreases-loop-k
-decreases-loop-k l = l.initial.room - l.k
+decreases-loop-k l = l.n - l.k

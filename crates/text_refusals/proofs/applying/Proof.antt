@@ -30,8 +30,8 @@ returns c = search rules
 returns-2 : tie.Need-returns-2
 returns-2 c = search rules
 
-pub applying_spec : {M : Type 1} → statement M
-applying_spec =
+pub applying-spec : {M : Type 1} → statement M
+applying-spec =
     tie.close
     (tie.spec
     frame-layout-requires

@@ -91,8 +91,8 @@ by-facts-requires c κs = search rules
 returns : tie.Need-returns
 returns c = search rules
 
-pub of_frame_spec : {M : Type 1} → statement M
-of_frame_spec =
+pub of-frame-spec : {M : Type 1} → statement M
+of-frame-spec =
     tie.close
     (tie.spec
     shared-slice-read-wide

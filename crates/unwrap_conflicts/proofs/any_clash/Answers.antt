@@ -27,8 +27,8 @@ returns-then-clashes c =
     record {
       place = l.i;
       inside = omega arith;
-      holds = both_at a.t2 l.i _ (omega arith)
-          (λ (e : Entry) (d : Cell). ClashAmong e d a.t1 a.t2 a.n) a.t1 _ (omega arith)
+      holds = both_at a.cells l.i _ (omega arith)
+          (λ (e : Entry) (d : Cell). ClashAmong e d a.entries a.cells a.n) a.entries _ (omega arith)
           (told-yes _ _ c.if-clashes.true c.clashes.ensures);
     }
 
@@ -40,14 +40,14 @@ loop-i-preserved c =
       l.invariant.1,
       l.invariant.2,
       omega arith,
-      none-next (λ j. ClashAmong (get_or a.t1 j no_entry) (cell_at a.t2 j) a.t1 a.t2 a.n) l.i l.invariant.4
+      none-next (λ j. ClashAmong (get_or a.entries j no_entry) (cell_at a.cells j) a.entries a.cells a.n) l.i l.invariant.4
           (λ h. told-not _ _ c.if-clashes.false c.clashes.ensures
-          (both-back a.t2 l.i _ (omega arith)
-          (λ (e : Entry) (d : Cell). ClashAmong e d a.t1 a.t2 a.n) a.t1 _ (omega arith) h)),
+          (both-back a.cells l.i _ (omega arith)
+          (λ (e : Entry) (d : Cell). ClashAmong e d a.entries a.cells a.n) a.entries _ (omega arith) h)),
     )
 
 pub returns : goal.returns
 returns c =
     let l = c.loop-i in
     let a = c.args in
-    none-all (λ j. ClashAmong (get_or a.t1 j no_entry) (cell_at a.t2 j) a.t1 a.t2 a.n) l.i a.n (omega arith) l.invariant.4
+    none-all (λ j. ClashAmong (get_or a.entries j no_entry) (cell_at a.cells j) a.entries a.cells a.n) l.i a.n (omega arith) l.invariant.4

@@ -21,7 +21,7 @@ returns-then-is_wrong c =
     record {
       place = l.i;
       inside = omega arith;
-      holds = wrong-here a.t1 l.i _ (omega arith) (sym c.is_wrong.ensures ∙ c.if-is_wrong.true);
+      holds = wrong-here a.cells l.i _ (omega arith) (sym c.is_wrong.ensures ∙ c.if-is_wrong.true);
     }
 
 pub loop-i-preserved : goal.loop-i-preserved
@@ -31,12 +31,12 @@ loop-i-preserved c =
       l.invariant.0,
       l.invariant.1,
       omega arith,
-      none-next (λ j. (cell_at a.t1 j).status ≡ Wrong) l.i l.invariant.3
-          (wrong-none a.t1 l.i _ (omega arith) (sym c.is_wrong.ensures ∙ c.if-is_wrong.false)),
+      none-next (λ j. (cell_at a.cells j).status ≡ Wrong) l.i l.invariant.3
+          (wrong-none a.cells l.i _ (omega arith) (sym c.is_wrong.ensures ∙ c.if-is_wrong.false)),
     )
 
 pub returns : goal.returns
 returns c =
     let l = c.loop-i in
     let a = c.args in
-    none-all (λ j. (cell_at a.t1 j).status ≡ Wrong) l.i a.n (omega arith) l.invariant.3
+    none-all (λ j. (cell_at a.cells j).status ≡ Wrong) l.i a.n (omega arith) l.invariant.3

@@ -25,7 +25,7 @@ returns-then-clash c =
     record {
       place = l.i;
       inside = omega arith;
-      holds = both_at a.t4 l.i _ (omega arith) (Clash a.e a.c) a.t3 _ (omega arith)
+      holds = both_at a.cells l.i _ (omega arith) (Clash a.e a.c) a.entries _ (omega arith)
           (told-yes _ _ c.if-clash.true c.clash.ensures);
     }
 
@@ -37,13 +37,13 @@ loop-i-preserved c =
       l.invariant.1,
       l.invariant.2,
       omega arith,
-      none-next (λ j. Clash a.e a.c (get_or a.t3 j no_entry) (cell_at a.t4 j)) l.i l.invariant.4
+      none-next (λ j. Clash a.e a.c (get_or a.entries j no_entry) (cell_at a.cells j)) l.i l.invariant.4
           (λ h. told-not _ _ c.if-clash.false c.clash.ensures
-          (both-back a.t4 l.i _ (omega arith) (Clash a.e a.c) a.t3 _ (omega arith) h)),
+          (both-back a.cells l.i _ (omega arith) (Clash a.e a.c) a.entries _ (omega arith) h)),
     )
 
 pub returns : goal.returns
 returns c =
     let l = c.loop-i in
     let a = c.args in
-    none-all (λ j. Clash a.e a.c (get_or a.t3 j no_entry) (cell_at a.t4 j)) l.i a.n (omega arith) l.invariant.4
+    none-all (λ j. Clash a.e a.c (get_or a.entries j no_entry) (cell_at a.cells j)) l.i a.n (omega arith) l.invariant.4

@@ -13,7 +13,7 @@ use Rattle.unwrap_lending.proofs.lend_keys.Given as goal
 
 abbrev pub invariant-loop-i : goal.invariant-loop-i
 invariant-loop-i l =
-    (length l.initial.ids.keys ≡ limits.held_keys) × (l.initial.block ≤ limits.held_keys) × (l.i ≤ l.initial.block) × LentUpTo l.initial.ids.keys l.ids l.block l.i
+    (length l.held.keys ≡ limits.held_keys) × (l.n ≤ limits.held_keys) × (l.i ≤ l.n) × LentUpTo l.held.keys l.ids l.block l.i
 
 abbrev pub decreases-loop-i : goal.decreases-loop-i
-decreases-loop-i l = l.initial.block - l.i
+decreases-loop-i l = l.n - l.i

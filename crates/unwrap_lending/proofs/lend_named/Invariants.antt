@@ -14,7 +14,7 @@ use Rattle.unwrap_lending.proofs.lend_named.Given as goal
 
 abbrev pub invariant-loop-i : goal.invariant-loop-i
 invariant-loop-i l =
-    (l.initial.block ≡ length l.ids) × (l.initial.block ≤ limits.held_keys) × (l.i ≤ l.initial.block) × Placed (named_keys l.reached l.ids) l.block l.i
+    (l.n ≡ length l.ids) × (l.n ≤ limits.held_keys) × (l.i ≤ l.n) × Placed (named_keys l.reached l.ids) l.block l.i
 
 abbrev pub decreases-loop-i : goal.decreases-loop-i
-decreases-loop-i l = l.initial.block - l.i
+decreases-loop-i l = l.n - l.i

@@ -40,8 +40,8 @@ loop-again c = tt
 returns-2 : tie.Need-returns-2 invariant-loop decreases-loop
 returns-2 c = search rules
 
-pub by_moves_spec : {M : Type 1} → statement M
-by_moves_spec =
+pub by-moves-spec : {M : Type 1} → statement M
+by-moves-spec =
     tie.close
     (tie.spec
     invariant-loop

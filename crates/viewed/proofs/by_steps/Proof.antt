@@ -34,8 +34,8 @@ loop-again c = tt
 returns-2 : tie.Need-returns-2 invariant-loop decreases-loop
 returns-2 c = search rules
 
-pub by_steps_spec : {M : Type 1} → statement M
-by_steps_spec =
+pub by-steps-spec : {M : Type 1} → statement M
+by-steps-spec =
     tie.close
     (tie.spec
     invariant-loop

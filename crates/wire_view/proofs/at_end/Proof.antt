@@ -26,9 +26,9 @@ F κs = bool
 abbrev P : Lfts 1 → View → Bool → Type 0
 P κs d r = r ≡ is_at_end d.src.now d.at
 
-pub at_end_spec : {M : Type 1} → stated.statement M
+pub at-end-spec : {M : Type 1} → stated.statement M
 unfolding code.routine tables_of
-at_end_spec 𝓤 𝓛 𝓜 𝓡 =
+at-end-spec 𝓤 𝓛 𝓜 𝓡 =
     entered 𝓤 𝓛.H (triple_of 𝓛 own.signature (own.spec 𝓛 𝓜.mem 𝓡.run))
     (tables 𝓤 𝓛.H 𝓜 𝓡 code.env).C (tables 𝓤 𝓛.H 𝓜 𝓡 code.env).Λ #own code.function (code.unfolded 𝓤 𝓛.H 𝓜 𝓡)
     (meets F ty_bool #callee 𝓛 P (λ κ r u is. ((bool_Lawful 𝓛).typed r _ is).0)

@@ -31,9 +31,9 @@ F κs = S.the_row
 abbrev P : Lfts 1 → Bor (List ℕ) → Kind → Type 0
 P κs s r = (r ≡ shown_kind s.now) × (first_octet r ≡ octet_of s.now)
 
-pub shown_kind_spec : {M : Type 1} → stated.statement M
+pub shown-kind-spec : {M : Type 1} → stated.statement M
 unfolding code.routine tables_of
-shown_kind_spec 𝓤 𝓛 𝓜 𝓡 =
+shown-kind-spec 𝓤 𝓛 𝓜 𝓡 =
     entered 𝓤 𝓛.H (triple_of 𝓛 own.signature (own.spec 𝓛 𝓜.mem 𝓡.run))
     (tables 𝓤 𝓛.H 𝓜 𝓡 code.env).C (tables 𝓤 𝓛.H 𝓜 𝓡 code.env).Λ #own code.function (code.unfolded 𝓤 𝓛.H 𝓜 𝓡)
     (meets F S'.mir #callee 𝓛 P (λ κ r u is. ((EL.lawful S.the_type S'.the_laws 𝓛 tt).typed r _ is).0)

@@ -33,9 +33,9 @@ abbrev τ : Ty
 abbrev P : Lfts 1 → Bor (List ℕ) → Bor (List ℕ) → Type 0
 P κs s r = (r.now ≡ shown_spi s.now) × (r.ref_ptr ≡ (s.ref_ptr.0, spi_start s.now + s.ref_ptr.1))
 
-pub shown_spi_spec : {M : Type 1} → stated.statement M
+pub shown-spi-spec : {M : Type 1} → stated.statement M
 unfolding code.routine tables_of
-shown_spi_spec 𝓤 𝓛 𝓜 𝓡 =
+shown-spi-spec 𝓤 𝓛 𝓜 𝓡 =
     entered 𝓤 𝓛.H (triple_of 𝓛 own.signature (own.spec 𝓛 𝓜.mem 𝓡.run))
     (tables 𝓤 𝓛.H 𝓜 𝓡 code.env).C (tables 𝓤 𝓛.H 𝓜 𝓡 code.env).Λ #own code.function (code.unfolded 𝓤 𝓛.H 𝓜 𝓡)
     (meets F τ #callee 𝓛 P (λ κ r u is. ((shr_slice_Lawful 𝓛 (named 0) κ u8).typed r _ is).0)

@@ -26,9 +26,9 @@ F κs = S.the_row
 abbrev P : Lfts 1 → View → Step → Type 0
 P κs d r = r ≡ step_at d.src.now d.at
 
-pub shown_step_spec : {M : Type 1} → stated.statement M
+pub shown-step-spec : {M : Type 1} → stated.statement M
 unfolding code.routine tables_of
-shown_step_spec 𝓤 𝓛 𝓜 𝓡 =
+shown-step-spec 𝓤 𝓛 𝓜 𝓡 =
     entered 𝓤 𝓛.H (triple_of 𝓛 own.signature (own.spec 𝓛 𝓜.mem 𝓡.run))
     (tables 𝓤 𝓛.H 𝓜 𝓡 code.env).C (tables 𝓤 𝓛.H 𝓜 𝓡 code.env).Λ #own code.function (code.unfolded 𝓤 𝓛.H 𝓜 𝓡)
     (meets F S'.mir #callee 𝓛 P (λ κ r u is. ((LL.lawful S.the_type S'.the_laws 𝓛).typed r _ is).0)

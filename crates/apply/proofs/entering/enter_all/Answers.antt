@@ -18,13 +18,13 @@ use Rattle.apply.proofs.entering.enter_all.Goals as goal
 pub loop-i-init : goal.loop-i-init
 loop-i-init c =
     let a = c.args in
-    let long : length a.t2 ≡ new_sas = search (rules, length-of-map) in
+    let long : length a.new ≡ new_sas = search (rules, length-of-map) in
     let own : length a.t.sas ≡ limits.sas = search (rules, length-of-map) in
     let some = length-take a.t.count a.t.sas in
     let room : a.t.count + a.n ≤ limits.sas = c.requires.0 in
-    let h : a.n ≤ length a.t2 = omega (arith, long, c.requires.2) in
+    let h : a.n ≤ length a.new = omega (arith, long, c.requires.2) in
     let g : length (sas_of a.t) + a.n ≤ limits.sas = omega arith in
-    (omega arith, h, g, own, room, c.requires.1 ∙ sym (none-entered limits a.t2 a.n h (sas_of a.t) g))
+    (omega arith, h, g, own, room, c.requires.1 ∙ sym (none-entered limits a.new a.n h (sas_of a.t) g))
 
 pub loop-j-init : goal.loop-j-init
 loop-j-init c =
@@ -82,17 +82,17 @@ loop-i-preserved c =
     let g : i < a.n = omega (arith, v.0) in
     let e : k.count ≡ l.j = omega (arith, w.2) in
     let h : k.count < length k.sas = omega (arith, w.0, w.1) in
-    let last : ℕ → Table = λ j. table_of limits (insert_all (drop j (take a.n a.t2)) (sas_of a.t)) in (
+    let last : ℕ → Table = λ j. table_of limits (insert_all (drop j (take a.n a.new)) (sas_of a.t)) in (
       omega (arith, v.0),
       v.1,
       v.2,
       length-set l.sas k.count l.carried ∙ w.3.same ∙ w.0,
       omega (arith, v.4),
-      enter-made limits k.sas k.count _ (insert_all (drop (i + 1) (take a.n a.t2)) (sas_of a.t)) _ (v.5 ∙ ap last n)
-          (some-entered limits a.t2 a.n v.1 (sas_of a.t) v.2 i g)
+      enter-made limits k.sas k.count _ (insert_all (drop (i + 1) (take a.n a.new)) (sas_of a.t)) _ (v.5 ∙ ap last n)
+          (some-entered limits a.new a.n v.1 (sas_of a.t) v.2 i g)
           (ap (λ j. set l.sas j l.carried) e
           ∙ moving-end sa_before k.sas k.count _ h l.sas l.carried l.placed l.j w.3 e)
-          ∙ one-entered limits a.t2 a.n v.1 (sas_of a.t) v.2 i _ g,
+          ∙ one-entered limits a.new a.n v.1 (sas_of a.t) v.2 i _ g,
     )
 
 pub returns : goal.returns
@@ -100,4 +100,4 @@ returns c =
     let l = c.loop-i in
     let a = c.args in
     let z : l.i ≡ 0 = omega arith in
-    l.invariant.5 ∙ ap (λ (j : ℕ). table_of limits (insert_all (drop j (take a.n a.t2)) (sas_of a.t))) z
+    l.invariant.5 ∙ ap (λ (j : ℕ). table_of limits (insert_all (drop j (take a.n a.new)) (sas_of a.t))) z

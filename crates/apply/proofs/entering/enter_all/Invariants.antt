@@ -17,10 +17,10 @@ use Rattle.apply.proofs.entering.enter_all.Given as goal
 
 abbrev pub invariant-loop-j : goal.invariant-loop-j
 invariant-loop-j l =
-    (length l.count ≡ limits.sas) × (l.i < limits.sas) × (l.j ≤ l.i) × Moving sa_before l.count l.i l.initial.carried l.sas l.carried l.placed l.j
+    (length l.initial.sas ≡ limits.sas) × (l.count < limits.sas) × (l.j ≤ l.count) × Moving sa_before l.initial.sas l.count l.initial.carried l.sas l.carried l.placed l.j
 
 abbrev pub decreases-loop-j : goal.decreases-loop-j
-decreases-loop-j l = l.i - l.j
+decreases-loop-j l = l.count - l.j
 
 abbrev pub invariant-loop-i : goal.invariant-loop-i
 invariant-loop-i l =

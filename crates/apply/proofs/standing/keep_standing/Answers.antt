@@ -41,7 +41,7 @@ pub loop-i-preserved : goal.loop-i-preserved
 loop-i-preserved c =
     let l = c.loop-i in
     let a = c.args in
-    let t = a.t1 in
+    let t = a.t in
     let v = l.invariant in
     let f = c.due.ensures in
     let g = retired_if (outdated a.new) a.tick a.delay in
@@ -63,7 +63,7 @@ pub returns : goal.returns
 returns c =
     let l = c.loop-i in
     let a = c.args in
-    let t = a.t1 in
+    let t = a.t in
     let v = l.invariant in
     let w = v.3.few in
     let e : t.count ≡ l.i = omega arith in

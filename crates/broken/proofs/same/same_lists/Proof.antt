@@ -47,8 +47,8 @@ loop-again c = search rules
 returns-2 : tie.Need-returns-2 invariant-loop decreases-loop
 returns-2 c = search rules
 
-pub same_lists_spec : {M : Type 1} → statement M
-same_lists_spec =
+pub same-lists-spec : {M : Type 1} → statement M
+same-lists-spec =
     tie.close
     (tie.spec
     invariant-loop

@@ -47,8 +47,8 @@ loop-again c = search rules
 returns-2 : tie.Need-returns-2 invariant-loop decreases-loop
 returns-2 c = search rules
 
-pub same_tables_spec : {M : Type 1} → statement M
-same_tables_spec =
+pub same-tables-spec : {M : Type 1} → statement M
+same-tables-spec =
     tie.close
     (tie.spec
     invariant-loop

@@ -20,7 +20,7 @@ pub returns-then-is_over : goal.returns-then-is_over
 returns-then-is_over c =
     let l = c.loop-i in
     let a = c.args in
-    sym (l.invariant.3 ∙ over_yes a.tick a.spi.now a.t1.sas a.t1.count (omega arith) l.i _ (omega arith)
+    sym (l.invariant.3 ∙ over_yes a.tick a.spi.now a.t.sas a.t.count (omega arith) l.i _ (omega arith)
     (sym c.if-is_over.true ∙ c.is_over.ensures))
 
 pub loop-i-preserved : goal.loop-i-preserved
@@ -30,7 +30,7 @@ loop-i-preserved c =
       l.invariant.0,
       l.invariant.1,
       omega arith,
-      l.invariant.3 ∙ over_no a.tick a.spi.now a.t1.sas a.t1.count (omega arith) l.i _ (omega arith)
+      l.invariant.3 ∙ over_no a.tick a.spi.now a.t.sas a.t.count (omega arith) l.i _ (omega arith)
           (sym c.if-is_over.false ∙ c.is_over.ensures),
     )
 
@@ -38,4 +38,4 @@ pub returns : goal.returns
 returns c =
     let l = c.loop-i in
     let a = c.args in
-    sym (l.invariant.3 ∙ over-end a.tick a.spi.now a.t1.sas a.t1.count (omega arith) l.i (omega arith))
+    sym (l.invariant.3 ∙ over-end a.tick a.spi.now a.t.sas a.t.count (omega arith) l.i (omega arith))

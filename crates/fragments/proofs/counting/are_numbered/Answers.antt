@@ -12,7 +12,7 @@ pub returns-else-is_numbered : goal.returns-else-is_numbered
 returns-else-is_numbered c =
     let l = c.loop-i in
     let a = c.args in
-    sym (l.invariant.3 ∙ all-no (numbered a.total) a.t1 a.n (omega arith) l.i _ (omega arith)
+    sym (l.invariant.3 ∙ all-no (numbered a.total) a.pieces a.n (omega arith) l.i _ (omega arith)
     (sym c.if-is_numbered.false ∙ c.is_numbered.ensures))
 
 pub loop-i-preserved : goal.loop-i-preserved
@@ -22,7 +22,7 @@ loop-i-preserved c =
       l.invariant.0,
       l.invariant.1,
       omega arith,
-      l.invariant.3 ∙ all_yes (numbered a.total) a.t1 a.n (omega arith) l.i _ (omega arith)
+      l.invariant.3 ∙ all_yes (numbered a.total) a.pieces a.n (omega arith) l.i _ (omega arith)
           (sym c.if-is_numbered.true ∙ c.is_numbered.ensures),
     )
 
@@ -30,4 +30,4 @@ pub returns : goal.returns
 returns c =
     let l = c.loop-i in
     let a = c.args in
-    sym (l.invariant.3 ∙ all_end (numbered a.total) a.t1 a.n (omega arith) l.i (omega arith))
+    sym (l.invariant.3 ∙ all_end (numbered a.total) a.pieces a.n (omega arith) l.i (omega arith))

@@ -12,7 +12,7 @@ pub returns-then-octets-p : goal.returns-then-octets-p
 returns-then-octets-p c =
     let l = c.loop-i in
     let a = c.args in
-    frame-over a.t1 a.n (omega arith) l.i l.octets l.invariant.4 _ (omega arith) c.if-octets-p.true
+    frame-over a.pieces a.n (omega arith) l.i l.octets l.invariant.4 _ (omega arith) c.if-octets-p.true
 
 pub loop-i-preserved : goal.loop-i-preserved
 loop-i-preserved c =
@@ -22,11 +22,11 @@ loop-i-preserved c =
       l.invariant.1,
       omega arith,
       omega arith,
-      frame-more a.t1 a.n (omega arith) l.i l.octets l.invariant.4 _ (omega arith) c.if-octets-p.false,
+      frame-more a.pieces a.n (omega arith) l.i l.octets l.invariant.4 _ (omega arith) c.if-octets-p.false,
     )
 
 pub returns : goal.returns
 returns c =
     let l = c.loop-i in
     let a = c.args in
-    frame-end a.t1 a.n (omega arith) l.i l.octets l.invariant.4 (omega arith)
+    frame-end a.pieces a.n (omega arith) l.i l.octets l.invariant.4 (omega arith)

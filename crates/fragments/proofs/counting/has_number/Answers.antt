@@ -12,7 +12,7 @@ pub returns-then-p-number : goal.returns-then-p-number
 returns-then-p-number c =
     let l = c.loop-i in
     let a = c.args in
-    sym (l.invariant.3 ∙ number-here a.t1 a.n (omega arith) l.i a.number _ (omega arith) c.if-p-number.true)
+    sym (l.invariant.3 ∙ number-here a.pieces a.n (omega arith) l.i a.number _ (omega arith) c.if-p-number.true)
 
 pub loop-i-preserved : goal.loop-i-preserved
 loop-i-preserved c =
@@ -21,11 +21,11 @@ loop-i-preserved c =
       l.invariant.0,
       l.invariant.1,
       omega arith,
-      l.invariant.3 ∙ number-next a.t1 a.n (omega arith) l.i a.number _ (omega arith) c.if-p-number.false,
+      l.invariant.3 ∙ number-next a.pieces a.n (omega arith) l.i a.number _ (omega arith) c.if-p-number.false,
     )
 
 pub returns : goal.returns
 returns c =
     let l = c.loop-i in
     let a = c.args in
-    sym (l.invariant.3 ∙ number-end a.t1 a.n (omega arith) l.i a.number (omega arith))
+    sym (l.invariant.3 ∙ number-end a.pieces a.n (omega arith) l.i a.number (omega arith))

@@ -18,14 +18,14 @@ loop-i-preserved c =
       v.0,
       v.1,
       omega arith,
-      placing-ahead piece_before most_fragments blank_piece a.t1
+      placing-ahead piece_before most_fragments blank_piece a.pieces
           a.n a.a (omega arith) l.out l.carried l.placed l.i v.3 v.0 _ (omega arith) (sym w.0.taken ∙ f),
     ))
     (λ w. rw (w.1, w.2, w.3) (
       v.0,
       v.1,
       omega arith,
-      placing-behind piece_before most_fragments blank_piece a.t1
+      placing-behind piece_before most_fragments blank_piece a.pieces
           a.n a.a (omega arith) l.out l.carried l.placed l.i v.3 v.0 _ (omega arith)
           (sym w.0.left ∙ f),
     )) c.if-goes_ahead.branch
@@ -36,5 +36,5 @@ returns c =
     let a = c.args in
     let v = l.invariant in
     let e : a.n ≡ l.i = omega arith in
-    placing-all piece_before most_fragments blank_piece a.t1 a.n a.a (omega arith) l.out l.carried l.placed l.i
+    placing-all piece_before most_fragments blank_piece a.pieces a.n a.a (omega arith) l.out l.carried l.placed l.i
     v.3 v.0 e

@@ -13,7 +13,7 @@ loop-i-init c =
     record {
       begun = omega arith;
       inside = omega arith;
-      puts = nothing_put (masked a.t1 a.c.now a.at) a.at a.room.now;
+      puts = nothing_put (masked a.m a.c.now a.at) a.at a.room.now;
     }
 
 pub bounds-c-i : goal.bounds-c-i
@@ -41,7 +41,7 @@ loop-i-preserved c =
     record {
       begun = omega arith;
       inside = omega arith;
-      puts = one-put (masked a.t1 a.c.now a.at) a.at a.room.now (omega arith) (omega arith) refl c.loop-i.invariant.puts;
+      puts = one-put (masked a.m a.c.now a.at) a.at a.room.now (omega arith) (omega arith) refl c.loop-i.invariant.puts;
     }
 
 pub shape_of-room : goal.shape_of-room
@@ -50,5 +50,5 @@ shape_of-room c = c.loop-i.invariant.puts.size
 pub returns : goal.returns
 returns c =
     let a = c.args in
-    subst (λ (n : ℕ). PutsOctets (masked a.t1 a.c.now a.at) a.at n a.room.now c.loop-i.room) (omega arith)
+    subst (λ (n : ℕ). PutsOctets (masked a.m a.c.now a.at) a.at n a.room.now c.loop-i.room) (omega arith)
     c.loop-i.invariant.puts

@@ -45,8 +45,8 @@ returns c w t =
     whole-answered s.args.self s.args.tick w s.args.room.now v.result v.new.1.0 (v.ensures w t.is)
     x.result.answer _ x.ensures refl c.new.ensures
 
-pub complete_spec : {M : Type 1} → statement M
-complete_spec =
+pub complete-spec : {M : Type 1} → statement M
+complete-spec =
     tie.close
     (tie.spec
     write-whole-requires

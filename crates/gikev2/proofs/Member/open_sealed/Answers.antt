@@ -21,7 +21,7 @@ slice_bounds-receive-end c =
     let a = c.args in
     let k = c.sealing_key-key.result in
     let l = opened-fits a.self a.tick a.frame.now a.room.now (encryption_octets_of k) c.open_frame.result
-    c.open_frame.new.room.0 c.open_frame.ensures c.in-Count.n c.in-Count.is in
+    c.open_frame.new.room c.open_frame.ensures c.in-Count.n c.in-Count.is in
     omega (arith, l)
 
 pub returns-in-No : goal.returns-in-No
@@ -32,7 +32,7 @@ returns-in-No c =
     let x = c.refuse.result in
     let e = c.refuse.ensures in
     not-opened-given a.self a.tick a.frame.now a.room.now (encryption_octets_of k.result) c.open_frame.result
-    c.open_frame.new.room.0 c.open_frame.ensures o c.requires.0 c.requires.1 (key-part a.self k.result k.ensures)
+    c.open_frame.new.room c.open_frame.ensures o c.requires.0 c.requires.1 (key-part a.self k.result k.ensures)
     c.in-No.is x.answer x.member e.0 e.1
 
 pub returns-in-Count : goal.returns-in-Count
@@ -42,5 +42,5 @@ returns-in-Count c =
     let o : Octets a.frame.now = λ i. (c.shared_slice_known-1.given i).fits in
     let x = c.receive.result in
     opened-given a.self a.tick a.frame.now a.room.now (encryption_octets_of k.result) c.open_frame.result
-    c.open_frame.new.room.0 c.open_frame.ensures o c.requires.0 c.requires.1 (key-part a.self k.result k.ensures)
+    c.open_frame.new.room c.open_frame.ensures o c.requires.0 c.requires.1 (key-part a.self k.result k.ensures)
     c.in-Count.n c.in-Count.is _ x.answer x.member c.receive.ensures

@@ -20,7 +20,7 @@ pub loop-at-preserved : goal.loop-at-preserved
 loop-at-preserved c =
     let l = c.loop-at in
     let k : length c.advance-a.new.line ≡ length l.line = search rules in
-    let m : length c.advance-a.new.room.0 ≡ length l.room = search rules in
+    let m : length c.advance-a.new.room ≡ length l.room = search rules in
     within_more l.invariant c.advance-a.ensures.ready_2 k m c.advance-a.ensures.by_index
 
 pub shape_of-line : goal.shape_of-line

@@ -28,4 +28,4 @@ load-requires c =
 pub returns : goal.returns
 returns c =
     let x = c.args.octets.now in
-    begun-is x c.copy.new.dst.0 (omega arith) c.copy.ensures.1 c.load.ensures
+    begun-is x c.copy.new.dst (omega arith) c.copy.ensures.1 c.load.ensures

@@ -11,7 +11,7 @@ use Rattle.keywrap.proofs.unwrap_steps.unrow_in.Given as goal
 
 abbrev pub invariant-loop-i : goal.invariant-loop-i
 invariant-loop-i l =
-    (l.i ≤ l.initial.s) × (length l.s ≡ length l.base) × ((key : List ℕ) → ExpandsInverse key l.schedule → unrow key l.n l.i l.s ≡ unrow key l.n l.initial.s l.base)
+    (l.i ≤ l.n) × (length l.s ≡ length l.initial.s) × ((key : List ℕ) → ExpandsInverse key l.schedule → unrow key l.base l.i l.s ≡ unrow key l.base l.n l.initial.s)
 
 abbrev pub decreases-loop-i : goal.decreases-loop-i
 decreases-loop-i l = l.i

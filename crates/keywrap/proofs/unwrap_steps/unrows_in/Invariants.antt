@@ -11,7 +11,7 @@ use Rattle.keywrap.proofs.unwrap_steps.unrows_in.Given as goal
 
 abbrev pub invariant-loop-j : goal.invariant-loop-j
 invariant-loop-j l =
-    (l.j ≤ 6) × (length l.s ≡ length l.n) × ((key : List ℕ) → ExpandsInverse key l.schedule → unrows key l.initial.s l.j l.s ≡ unrows key l.initial.s 6 l.n)
+    (l.j ≤ 6) × (length l.s ≡ length l.initial.s) × ((key : List ℕ) → ExpandsInverse key l.schedule → unrows key l.n l.j l.s ≡ unrows key l.n 6 l.initial.s)
 
 abbrev pub decreases-loop-j : goal.decreases-loop-j
 decreases-loop-j l = l.j

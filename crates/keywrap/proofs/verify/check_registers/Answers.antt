@@ -30,7 +30,7 @@ slice_bounds-is_zero_from-end c =
     let s = c.args.s in
     let n = c.args.n in
     let is : Registers 33 s = record { size = omega arith; small = λ i. let f : Fits w64 (register s i) = search rules in f.fits } in
-    let out = c.store.new.room.0 in
+    let out = c.store.new.room in
     sym (length-take-le (8 * n) out
     (omega (
       arith,
@@ -44,7 +44,7 @@ returns-then-is_zero_from c =
     let s = c.args.s in
     let n = c.args.n in
     let is : Registers 33 s = record { size = omega arith; small = λ i. let f : Fits w64 (register s i) = search rules in f.fits } in
-    found s n is c.requires.0 c.requires.1 c.count_in-m.result c.store.new.room.0 (sym c.count_in-m.ensures) c.store.ensures
+    found s n is c.requires.0 c.requires.1 c.count_in-m.result c.store.new.room (sym c.count_in-m.ensures) c.store.ensures
     c.if-m-eq0.false (sym c.is_zero_from.ensures ∙ c.if-is_zero_from.true)
 
 pub returns : goal.returns
@@ -54,5 +54,5 @@ returns c =
     let n = c.args.n in
     let is : Registers 33 s = record { size = omega arith; small = λ i. let f : Fits w64 (register s i) = search rules in f.fits } in
     no_answer (Begins n (take (suc n) s)) blank c.refuse-2.ensures.0 c.refuse-2.ensures.1
-    (not-zero s n is c.requires.0 c.requires.1 c.count_in-m.result c.store.new.room.0 (sym c.count_in-m.ensures) c.store.ensures
+    (not-zero s n is c.requires.0 c.requires.1 c.count_in-m.result c.store.new.room (sym c.count_in-m.ensures) c.store.ensures
     (sym c.is_zero_from.ensures ∙ c.if-is_zero_from.false))

@@ -11,7 +11,7 @@ use Rattle.keywrap.proofs.wrap_steps.row_in.Given as goal
 
 abbrev pub invariant-loop-i : goal.invariant-loop-i
 invariant-loop-i l =
-    (l.i ≤ l.initial.s) × (length l.s ≡ length l.base) × ((key : List ℕ) → Expands key l.schedule → l.s ≡ row key l.n l.i l.base)
+    (l.i ≤ l.n) × (length l.s ≡ length l.initial.s) × ((key : List ℕ) → Expands key l.schedule → l.s ≡ row key l.base l.i l.initial.s)
 
 abbrev pub decreases-loop-i : goal.decreases-loop-i
-decreases-loop-i l = l.initial.s - l.i
+decreases-loop-i l = l.n - l.i

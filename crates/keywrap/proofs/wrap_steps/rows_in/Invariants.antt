@@ -11,7 +11,7 @@ use Rattle.keywrap.proofs.wrap_steps.rows_in.Given as goal
 
 abbrev pub invariant-loop-j : goal.invariant-loop-j
 invariant-loop-j l =
-    (l.j ≤ 6) × (length l.s ≡ length l.n) × ((key : List ℕ) → Expands key l.schedule → l.s ≡ rows key l.initial.s l.j l.n)
+    (l.j ≤ 6) × (length l.s ≡ length l.initial.s) × ((key : List ℕ) → Expands key l.schedule → l.s ≡ rows key l.n l.j l.initial.s)
 
 abbrev pub decreases-loop-j : goal.decreases-loop-j
 decreases-loop-j l = 6 - l.j

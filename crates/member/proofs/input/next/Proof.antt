@@ -20,5 +20,5 @@ returns c =
     let f = c.before.count.ensures.0 in
     (f.0, record { count = omega (arith, c.wrapping-add-usize.ensures, f.1); ended = ap (λ (m : ℕ). eqb m 0) f.1 })
 
-pub next_spec : {M : Type 1} → statement M
-next_spec = tie.close (tie.spec read-requires count-requires wrapping-add-usize-requires same_length returns)
+pub next-spec : {M : Type 1} → statement M
+next-spec = tie.close (tie.spec read-requires count-requires wrapping-add-usize-requires same_length returns)

@@ -25,5 +25,5 @@ returns-2 c =
     let n = length-take-le s.args.at s.args.out.now s.requires in
     over-all i.if1.false (omega (arith, c.wrapping-add-usize.ensures, n))
 
-pub hand_over_spec : {M : Type 1} → statement M
-hand_over_spec = tie.close (tie.spec returns slice-aggregate-write-all write-all-requires wrapping-add-usize-requires returns-2)
+pub hand-over-spec : {M : Type 1} → statement M
+hand-over-spec = tie.close (tie.spec returns slice-aggregate-write-all write-all-requires wrapping-add-usize-requires returns-2)

@@ -54,8 +54,8 @@ returns-2 c =
     let q = b.absorb.ensures in
     (passes_on s.args.r s.requires.0 s.requires.1.1 q i.if1.false, absorbed-some q s.requires.1.1)
 
-pub advance_spec : {M : Type 1} → statement M
-advance_spec =
+pub advance-spec : {M : Type 1} → statement M
+advance-spec =
     tie.close
     (tie.spec
     absorb-requires

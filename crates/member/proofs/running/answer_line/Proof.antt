@@ -31,8 +31,8 @@ returns-2 c =
     let out = a.out.now in
     answered-as a.r a.line.now out out c.first-line.result false i.if1.false (c.first-line.ensures out)
 
-pub answer_line_spec : {M : Type 1} → statement M
-answer_line_spec =
+pub answer-line-spec : {M : Type 1} → statement M
+answer-line-spec =
     tie.close
     (tie.spec
     later-line-requires

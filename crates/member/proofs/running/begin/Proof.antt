@@ -16,5 +16,5 @@ key-line-requires c κs = search rules
 returns : tie.Need-returns
 returns c = starts c.key-line.result c.before.before.new.result c.before.before.new.ensures c.key-line.ensures
 
-pub begin_spec : {M : Type 1} → statement M
-begin_spec = tie.close (tie.spec new-requires slice-aggregate-key-line key-line-requires returns)
+pub begin-spec : {M : Type 1} → statement M
+begin-spec = tie.close (tie.spec new-requires slice-aggregate-key-line key-line-requires returns)

@@ -9,5 +9,5 @@ key-line-requires c κs = search rules
 returns : tie.Need-returns
 returns c out = record { key = c.key-line.ensures; member = refl; keyed = refl; len = refl; at = refl; nothing = refl }
 
-pub first_line_spec : {M : Type 1} → statement M
-first_line_spec = tie.close (tie.spec key-line-requires returns)
+pub first-line-spec : {M : Type 1} → statement M
+first-line-spec = tie.close (tie.spec key-line-requires returns)

@@ -72,8 +72,8 @@ returns-2 c =
     let x = c.before.before.receive-frame in
     later-frame s.args.r line x.result asks s.requires.1 x.ensures
 
-pub later_line_spec : {M : Type 1} → statement M
-later_line_spec =
+pub later-line-spec : {M : Type 1} → statement M
+later-line-spec =
     tie.close
     (tie.spec
     later-line-requires

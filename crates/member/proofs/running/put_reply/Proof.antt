@@ -31,5 +31,5 @@ returns c =
           k.fits,
     )
 
-pub put_reply_spec : {M : Type 1} → statement M
-put_reply_spec = tie.close (tie.spec number-requires figure-requires put-answer-requires same_length returns)
+pub put-reply-spec : {M : Type 1} → statement M
+put-reply-spec = tie.close (tie.spec number-requires figure-requires put-answer-requires same_length returns)

@@ -35,8 +35,8 @@ returns c =
     let p = t.put-reply.ensures in
     received_is a.r a.tick a.frame.now k.result.answer k.result.member k.ensures p.0 p.1
 
-pub receive_frame_spec : {M : Type 1} → statement M
-receive_frame_spec =
+pub receive-frame-spec : {M : Type 1} → statement M
+receive-frame-spec =
     tie.close
     (tie.spec
     array-share-prefix-octets

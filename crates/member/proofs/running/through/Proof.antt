@@ -65,8 +65,8 @@ returns-2 c =
     let l = c.before.loop.invariant in
     (l.passes, λ h k. passing-end l (inl c.loop-test.false) h k)
 
-pub through_spec : {M : Type 1} → statement M
-through_spec =
+pub through-spec : {M : Type 1} → statement M
+through-spec =
     tie.close
     (tie.spec
     invariant-loop

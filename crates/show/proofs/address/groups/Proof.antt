@@ -38,8 +38,8 @@ same-length-2 c = search rules
 returns-2 : tie.Need-returns-2 invariant-loop decreases-loop
 returns-2 c = search rules
 
-pub groups_spec : {M : Type 1} → statement M
-groups_spec =
+pub groups-spec : {M : Type 1} → statement M
+groups-spec =
     tie.close
     (tie.spec
     invariant-loop

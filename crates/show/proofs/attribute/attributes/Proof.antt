@@ -41,8 +41,8 @@ same-length-2 c = search rules
 returns-2 : tie.Need-returns-2 invariant-loop decreases-loop
 returns-2 c = search rules
 
-pub attributes_spec : {M : Type 1} → statement M
-attributes_spec =
+pub attributes-spec : {M : Type 1} → statement M
+attributes-spec =
     tie.close
     (tie.spec
     invariant-loop

@@ -38,8 +38,8 @@ same-length-2 c = search rules
 returns-2 : tie.Need-returns-2 invariant-loop decreases-loop
 returns-2 c = search rules
 
-pub bags_spec : {M : Type 1} → statement M
-bags_spec =
+pub bags-spec : {M : Type 1} → statement M
+bags-spec =
     tie.close
     (tie.spec
     invariant-loop

@@ -47,8 +47,8 @@ same-length-3 c = search rules
 returns-3 : tie.Need-returns-3 invariant-loop decreases-loop
 returns-3 c = search rules
 
-pub spis_spec : {M : Type 1} → statement M
-spis_spec =
+pub spis-spec : {M : Type 1} → statement M
+spis-spec =
     tie.close
     (tie.spec
     invariant-loop

@@ -50,8 +50,8 @@ same-length-3 c = search rules
 returns-3 : tie.Need-returns-3 invariant-loop decreases-loop
 returns-3 c = search rules
 
-pub payloads_spec : {M : Type 1} → statement M
-payloads_spec =
+pub payloads-spec : {M : Type 1} → statement M
+payloads-spec =
     tie.close
     (tie.spec
     invariant-loop

@@ -51,8 +51,8 @@ same-length-3 c = search rules
 returns : tie.Need-returns invariant-loop decreases-loop
 returns c = search rules
 
-pub show_lines_spec : {M : Type 1} → statement M
-show_lines_spec =
+pub show-lines-spec : {M : Type 1} → statement M
+show-lines-spec =
     tie.close
     (tie.spec
     invariant-loop

@@ -56,8 +56,8 @@ same-length-3 c = search rules
 returns-3 : tie.Need-returns-3 invariant-loop decreases-loop
 returns-3 c = search rules
 
-pub suite_spec : {M : Type 1} → statement M
-suite_spec =
+pub suite-spec : {M : Type 1} → statement M
+suite-spec =
     tie.close
     (tie.spec
     invariant-loop

@@ -38,8 +38,8 @@ same-length-2 c = search rules
 returns-2 : tie.Need-returns-2 invariant-loop decreases-loop
 returns-2 c = search rules
 
-pub policies_spec : {M : Type 1} → statement M
-policies_spec =
+pub policies-spec : {M : Type 1} → statement M
+policies-spec =
     tie.close
     (tie.spec
     invariant-loop

@@ -24,7 +24,7 @@ pub loop-i-preserved : goal.loop-i-preserved
 loop-i-preserved c =
     let l = c.loop-i in
     let a = c.args in
-    let m = a.t1 in
+    let m = a.self in
     let v = l.invariant in
     let f = c.due.ensures in
     ⊎_elim
@@ -40,7 +40,7 @@ pub returns : goal.returns
 returns c =
     let l = c.loop-i in
     let a = c.args in
-    let m = a.t1 in
+    let m = a.self in
     let q = count-end (stays a.tick) m.sas m.count (omega arith) l.i (omega arith) in
     let v = l.invariant in
     standing-in limits a.tick m l.k v.0 (omega (arith, q, v.4))

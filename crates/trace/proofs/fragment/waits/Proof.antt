@@ -51,8 +51,8 @@ same_length c = search rules
 returns : tie.Need-returns invariant-loop decreases-loop
 returns c = search rules
 
-pub waits_spec : {M : Type 1} → statement M
-waits_spec =
+pub waits-spec : {M : Type 1} → statement M
+waits-spec =
     tie.close
     (tie.spec
     invariant-loop

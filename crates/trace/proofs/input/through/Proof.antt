@@ -53,8 +53,8 @@ same-length-5 c = c.before.loop.invariant.4
 returns : tie.Need-returns invariant-loop decreases-loop
 returns c = search rules
 
-pub through_spec : {M : Type 1} → statement M
-through_spec =
+pub through-spec : {M : Type 1} → statement M
+through-spec =
     tie.close
     (tie.spec
     invariant-loop

@@ -42,8 +42,8 @@ same_length c = search rules
 returns : tie.Need-returns invariant-loop decreases-loop
 returns c = search rules
 
-pub put_held_spec : {M : Type 1} → statement M
-put_held_spec =
+pub put-held-spec : {M : Type 1} → statement M
+put-held-spec =
     tie.close
     (tie.spec
     invariant-loop

@@ -42,8 +42,8 @@ same_length c = search rules
 returns : tie.Need-returns invariant-loop decreases-loop
 returns c = search rules
 
-pub sas_spec : {M : Type 1} → statement M
-sas_spec =
+pub sas-spec : {M : Type 1} → statement M
+sas-spec =
     tie.close
     (tie.spec
     invariant-loop

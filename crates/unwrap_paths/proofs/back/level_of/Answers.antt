@@ -13,8 +13,8 @@ use Rattle.unwrap_paths.proofs.back.level_of.Goals as goal
 pub loop-i-init : goal.loop-i-init
 loop-i-init c =
     let a = c.args in
-    let e : length a.t2 ≡ limits.wrap_keys = search rules in
-    (c.requires.0, c.requires.1, e, omega arith, has-none a.ids.now a.t2 a.id)
+    let e : length a.levels ≡ limits.wrap_keys = search rules in
+    (c.requires.0, c.requires.1, e, omega arith, has-none a.ids.now a.levels a.id)
 
 pub loop-i-preserved : goal.loop-i-preserved
 loop-i-preserved c =
@@ -24,8 +24,8 @@ loop-i-preserved c =
       l.invariant.1,
       l.invariant.2,
       omega arith,
-      subst (HasLevel (l.i + 1) a.ids.now a.t2 a.id) (sym c.level_from-found.ensures)
-          (has-next a.ids.now a.t2 a.id l.i l.found l.invariant.4),
+      subst (HasLevel (l.i + 1) a.ids.now a.levels a.id) (sym c.level_from-found.ensures)
+          (has-next a.ids.now a.levels a.id l.i l.found l.invariant.4),
     )
 
 pub returns : goal.returns
@@ -34,4 +34,4 @@ returns c =
     let a = c.args in
     let t = c.loop-i-test.false in
     let e : l.i ≡ a.n = omega arith in
-    subst (λ (m : ℕ). HasLevel m a.ids.now a.t2 a.id l.found) e l.invariant.4
+    subst (λ (m : ℕ). HasLevel m a.ids.now a.levels a.id l.found) e l.invariant.4

@@ -12,8 +12,8 @@ use Rattle.unwrap_paths.proofs.back.lowest_kwk.Goals as goal
 pub loop-i-init : goal.loop-i-init
 loop-i-init c =
     let a = c.args in
-    let e : length a.t3 ≡ limits.wrap_keys = search rules in
-    (c.requires.0, c.requires.1, c.requires.2, e, omega arith, picking-none a.ids.now a.kwks.now a.t3 a.id a.level _ refl)
+    let e : length a.levels ≡ limits.wrap_keys = search rules in
+    (c.requires.0, c.requires.1, c.requires.2, e, omega arith, picking-none a.ids.now a.kwks.now a.levels a.id a.level _ refl)
 
 pub loop-i-preserved : goal.loop-i-preserved
 loop-i-preserved c =
@@ -24,8 +24,8 @@ loop-i-preserved c =
       l.invariant.2,
       l.invariant.3,
       omega arith,
-      subst (Picking a.ids.now a.kwks.now a.t3 a.id a.level (l.i + 1)) (sym c.picked-found.ensures)
-          (picking-next a.ids.now a.kwks.now a.t3 a.id a.level l.i l.found l.invariant.5),
+      subst (Picking a.ids.now a.kwks.now a.levels a.id a.level (l.i + 1)) (sym c.picked-found.ensures)
+          (picking-next a.ids.now a.kwks.now a.levels a.id a.level l.i l.found l.invariant.5),
     )
 
 pub returns-then-found : goal.returns-then-found
@@ -34,8 +34,8 @@ returns-then-found c =
     let a = c.args in
     let t = c.loop-i-test.false in
     let e : l.i ≡ a.n = omega arith in
-    picking-found a.ids.now a.kwks.now a.t3 a.id a.level a.n l.found
-    (subst (λ (m : ℕ). Picking a.ids.now a.kwks.now a.t3 a.id a.level m l.found) e l.invariant.5) c.if-found.true
+    picking-found a.ids.now a.kwks.now a.levels a.id a.level a.n l.found
+    (subst (λ (m : ℕ). Picking a.ids.now a.kwks.now a.levels a.id a.level m l.found) e l.invariant.5) c.if-found.true
 
 pub returns : goal.returns
 returns c =

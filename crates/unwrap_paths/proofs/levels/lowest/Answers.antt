@@ -23,7 +23,7 @@ loop-i-preserved c =
       l.invariant.1,
       l.invariant.2,
       omega arith,
-      subst (Best a.t1 a.t2 (l.i + 1)) (sym c.lower-low.ensures) (best-next a.t1 a.t2 l.i l.low l.invariant.4),
+      subst (Best a.levels a.tried (l.i + 1)) (sym c.lower-low.ensures) (best-next a.levels a.tried l.i l.low l.invariant.4),
     )
 
 pub returns-then-low-eq0 : goal.returns-then-low-eq0
@@ -37,4 +37,4 @@ returns c =
     let a = c.args in
     let t = c.loop-i-test.false in
     let e : l.i ≡ a.n = omega arith in
-    best-found a.t1 a.t2 a.n l.low (subst (λ (m : ℕ). Best a.t1 a.t2 m l.low) e l.invariant.4) c.if-low-eq0.false
+    best-found a.levels a.tried a.n l.low (subst (λ (m : ℕ). Best a.levels a.tried m l.low) e l.invariant.4) c.if-low-eq0.false

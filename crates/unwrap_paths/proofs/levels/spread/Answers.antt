@@ -14,7 +14,7 @@ use Rattle.unwrap_paths.proofs.levels.spread.Goals as goal
 pub loop-i-init : goal.loop-i-init
 loop-i-init c =
     let a = c.args in
-    let e : length a.t4 ≡ limits.wrap_keys = search rules in (
+    let e : length a.levels ≡ limits.wrap_keys = search rules in (
       c.requires.n_le_wrap_keys.0,
       c.requires.n_le_wrap_keys.1,
       c.requires.n_le_wrap_keys.2,
@@ -22,7 +22,7 @@ loop-i-init c =
       e,
       omega arith,
       c.requires.j_lt_n.1,
-      partly_none _ a.t4,
+      partly_none _ a.levels,
     )
 
 pub loop-i-preserved : goal.loop-i-preserved
@@ -36,10 +36,10 @@ loop-i-preserved c =
       simp length-set l.invariant.4,
       omega arith,
       l.invariant.6,
-      partly-next _ a.t4 l.out l.i c.next_level.result (omega arith)
+      partly-next _ a.levels l.out l.i c.next_level.result (omega arith)
           (c.next_level.ensures
           ∙ ap (λ (x : ℕ). next_level x (oct a.marks.now l.i) (oct a.kwks.now l.i) (oct a.ids.now a.j)
-          (oct a.t4 a.j))
+          (oct a.levels a.j))
           (l.invariant.7.above l.i (omega arith)))
           l.invariant.7,
     )

@@ -30,10 +30,10 @@ loop-i-preserved c =
       simp length-set l.invariant.4,
       simp length-set l.invariant.5,
       omega arith,
-      linked-next a.n a.t1 a.t2 l.ids l.kwks l.marks l.i (omega arith) (omega arith) (omega arith) _ _
+      linked-next a.n a.entries a.cells l.ids l.kwks l.marks l.i (omega arith) (omega arith) (omega arith) _ _
           c.mark.result
-          c.is_carried.result (get_d_any a.t1 l.i _ no_entry (omega arith))
-          (get_d_any a.t2 l.i _ no_cell (omega arith)) c.is_carried.ensures c.mark.ensures l.invariant.7,
+          c.is_carried.result (get_d_any a.entries l.i _ no_entry (omega arith))
+          (get_d_any a.cells l.i _ no_cell (omega arith)) c.is_carried.ensures c.mark.ensures l.invariant.7,
     )
 
 pub returns : goal.returns
@@ -45,7 +45,7 @@ returns c =
     let g : a.n ≤ length l.kwks = omega (arith, l.invariant.0, l.invariant.4) in
     let h : a.n ≤ length l.marks = omega (arith, l.invariant.0, l.invariant.5) in
     record {
-      linked = subst (λ (m : ℕ). LinksAre m a.n a.t1 a.t2 l.ids l.kwks l.marks) e l.invariant.7;
+      linked = subst (λ (m : ℕ). LinksAre m a.n a.entries a.cells l.ids l.kwks l.marks) e l.invariant.7;
       ids-long = f;
       kwks-long = g;
       marks-long = h;

@@ -17,7 +17,7 @@ pub returns-then-pends : goal.returns-then-pends
 returns-then-pends c =
     let l = c.loop-i in
     let a = c.args in
-    pend-here a.t1 l.i _ (omega arith) a.n (omega arith) (sym c.if-pends.true ∙ c.pends.ensures)
+    pend-here a.cells l.i _ (omega arith) a.n (omega arith) (sym c.if-pends.true ∙ c.pends.ensures)
 
 pub loop-i-preserved : goal.loop-i-preserved
 loop-i-preserved c =
@@ -26,7 +26,7 @@ loop-i-preserved c =
       l.invariant.0,
       l.invariant.1,
       omega arith,
-      pend-next a.t1 l.i _ (omega arith) l.invariant.3 (sym c.if-pends.false ∙ c.pends.ensures),
+      pend-next a.cells l.i _ (omega arith) l.invariant.3 (sym c.if-pends.false ∙ c.pends.ensures),
     )
 
 pub returns : goal.returns

@@ -18,16 +18,16 @@ pub returns-then-e-id : goal.returns-then-e-id
 returns-then-e-id c frame l lists =
     let w = c.loop-i in
     let a = c.args in
-    carried_here frame a.t2 a.n l lists a.id w.i _ (omega arith) (omega arith) c.if-e-id.true
+    carried_here frame a.entries a.n l lists a.id w.i _ (omega arith) (omega arith) c.if-e-id.true
 
 pub loop-i-preserved : goal.loop-i-preserved
 loop-i-preserved c =
     let w = c.loop-i in
     let a = c.args in
-    (w.invariant.0, w.invariant.1, omega arith, uncarried_more a.id a.t2 w.i _ (omega arith) w.invariant.3 c.if-e-id.false)
+    (w.invariant.0, w.invariant.1, omega arith, uncarried_more a.id a.entries w.i _ (omega arith) w.invariant.3 c.if-e-id.false)
 
 pub returns : goal.returns
 returns c frame l lists =
     let w = c.loop-i in
     let a = c.args in
-    none-carries frame a.t2 a.n l lists a.id (λ i h. w.invariant.3 i (omega arith))
+    none-carries frame a.entries a.n l lists a.id (λ i h. w.invariant.3 i (omega arith))

@@ -27,7 +27,7 @@ loop-i-preserved c =
       l.invariant.1,
       l.invariant.2,
       omega arith,
-      named-next a.t3 l.i _ (omega arith) a.t2 _ (omega arith) a.id l.invariant.4
+      named-next a.cells l.i _ (omega arith) a.entries _ (omega arith) a.id l.invariant.4
           (sym c.if-names.false ∙ c.names.ensures),
     )
 

@@ -49,7 +49,7 @@ blank-requires c κs = search rules
 loop-holds : tie.Need-loop-from-init invariant-loop decreases-loop
 loop-holds c =
     let a = c.args in
-    let e : length a.t5 ≡ limits.wrap_keys = search rules in
+    let e : length a.entries ≡ limits.wrap_keys = search rules in
     let r : length (replicate limits.wrap_keys c.blank-cells.result) ≡ limits.wrap_keys = search rules in (
       c.requires.n_le_wrap_keys,
       e,
@@ -176,7 +176,7 @@ loop-again-2 c =
     let h = c.if-from-ids.false in
     let r : length c.try_key-tried.result ≡ limits.wrap_keys = search rules in
     let kept : (is : Key (value_of a.lent)) (l : List WrapKey) (held : Held) (lends : LendsHeld held a.ids.now a.block.now)
-    (small : Octets a.block.now) (fit : T (is_key a.lent.count)) → Lists a.frame.now a.t5 a.n l →
+    (small : Octets a.block.now) (fit : T (is_key a.lent.count)) → Lists a.frame.now a.entries a.n l →
     Turned (value_of a.lent) is l held a.ids.now a.block.now lends small a.lent.count fit q.result c.try_key-tried.result =
     λ is l held lends small fit x.
     still (value_of a.lent) is l held a.ids.now a.block.now lends small a.lent.count fit c.loop-from.from q.result
@@ -192,11 +192,11 @@ loop-again-2 c =
       length-set c.try_key-tried.result _ _ ∙ r,
       omega (arith, q.ensures.0.1),
       count_at (roots (value_of a.lent) c.requires.key l.0 p.0 a.ids.now a.block.now p.1 small) _ l.0
-          a.lent.count fit _ a.frame.now a.t5 a.n c.try_key-tried.result c.in-At.j l.1
+          a.lent.count fit _ a.frame.now a.entries a.n c.try_key-tried.result c.in-At.j l.1
           (kept c.requires.key l.0 p.0 p.1 small fit l.1) (pends c.before.before.before) r _ c.requires.count_value,
       λ is l held lends small fit x.
           at-cell (roots (value_of a.lent) is l held a.ids.now a.block.now lends small) _ l a.lent.count fit _
-          a.frame.now a.t5 a.n c.try_key-tried.result c.in-At.j x (kept is l held lends small fit x) (pends c.before.before.before) r
+          a.frame.now a.entries a.n c.try_key-tried.result c.in-At.j x (kept is l held lends small fit x) (pends c.before.before.before) r
           _ _ c.loop-from.invariant.1,
     )
 

@@ -16,7 +16,7 @@ use Rattle.unwrap_search.proofs.search.try_on_all.Goals as goal
 pub loop-i-init : goal.loop-i-init
 loop-i-init c =
     let a = c.args in
-    let e : length a.t6 ≡ limits.wrap_keys = search rules in
+    let e : length a.entries ≡ limits.wrap_keys = search rules in
     let f : length a.cells ≡ limits.wrap_keys = search rules in
     (c.requires.n_le_wrap_keys, e, f, search rules, λ l v h x. partly_none a.id v a.size l a.cells)
 
@@ -25,7 +25,7 @@ try_on_entry-requires c =
     let l = c.loop-i in
     let a = c.args in
     let p = c.requires.lists in
-    let e = entry_at a.frame.now a.t6 a.n p.0 p.1 l.i _ (omega arith) (omega arith) in
+    let e = entry_at a.frame.now a.entries a.n p.0 p.1 l.i _ (omega arith) (omega arith) in
     record {
       tables_value = c.requires.tables_value;
       size_value = c.requires.size_value;
@@ -42,7 +42,7 @@ loop-i-preserved c =
       omega arith,
       λ k v h x.
           partly-next a.id v a.size k a.cells l.out l.i _ c.try_on_entry.result (omega arith)
-          (c.try_on_entry.ensures _ v (entry_at a.frame.now a.t6 a.n k h l.i _ (omega arith) (omega arith)) x)
+          (c.try_on_entry.ensures _ v (entry_at a.frame.now a.entries a.n k h l.i _ (omega arith) (omega arith)) x)
           (l.invariant.4 k v h x),
     )
 

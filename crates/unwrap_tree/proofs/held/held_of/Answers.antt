@@ -28,8 +28,8 @@ loop-i-preserved c =
       l.invariant.1,
       l.invariant.2,
       omega arith,
-      entered-next a.t1 a.t2 l.i l.held l.invariant.4 (omega arith) c.with_cell-held.result
-          (both_at a.t2 l.i _ (omega arith) (λ (e : Entry) (d : Cell). Joins e d l.held c.with_cell-held.result) a.t1 _
+      entered-next a.entries a.cells l.i l.held l.invariant.4 (omega arith) c.with_cell-held.result
+          (both_at a.cells l.i _ (omega arith) (λ (e : Entry) (d : Cell). Joins e d l.held c.with_cell-held.result) a.entries _
           (omega arith) c.with_cell-held.ensures),
     )
 
@@ -38,7 +38,7 @@ returns c frame roots l size lists s nonzero fit none =
     let a = c.args in
     let u = c.loop-i in
     let e : u.i ≡ a.n = omega arith in
-    let x = subst (λ (m : ℕ). Entered a.t1 a.t2 m u.held) e u.invariant.4 in (
-      held-are frame a.t1 a.n a.t2 roots l size lists s nonzero fit none u.held x,
-      are-formed frame a.t1 a.n a.t2 roots l size lists s nonzero fit none u.held x,
+    let x = subst (λ (m : ℕ). Entered a.entries a.cells m u.held) e u.invariant.4 in (
+      held-are frame a.entries a.n a.cells roots l size lists s nonzero fit none u.held x,
+      are-formed frame a.entries a.n a.cells roots l size lists s nonzero fit none u.held x,
     )

@@ -59,8 +59,8 @@ both-ways-requires-4 c κs = tt
 returns : tie.Need-returns
 returns c = search rules
 
-pub ciphers_spec : {M : Type 1} → statement M
-ciphers_spec =
+pub ciphers-spec : {M : Type 1} → statement M
+ciphers-spec =
     tie.close
     (tie.spec
     slice-aggregate-both-ways

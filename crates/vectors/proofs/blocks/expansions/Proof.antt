@@ -37,8 +37,8 @@ expansion-requires-3 c κs = tt
 returns : tie.Need-returns
 returns c = search rules
 
-pub expansions_spec : {M : Type 1} → statement M
-expansions_spec =
+pub expansions-spec : {M : Type 1} → statement M
+expansions-spec =
     tie.close
     (tie.spec
     slice-aggregate-expansion

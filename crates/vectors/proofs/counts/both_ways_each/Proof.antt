@@ -33,8 +33,8 @@ loop-again c = search rules
 returns : tie.Need-returns invariant-loop decreases-loop
 returns c = search rules
 
-pub both_ways_each_spec : {M : Type 1} → statement M
-both_ways_each_spec =
+pub both-ways-each-spec : {M : Type 1} → statement M
+both-ways-each-spec =
     tie.close
     (tie.spec
     invariant-loop

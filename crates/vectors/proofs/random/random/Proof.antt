@@ -30,8 +30,8 @@ loop-again c = search rules
 returns : tie.Need-returns invariant-loop decreases-loop
 returns c = search rules
 
-pub random_spec : {M : Type 1} → statement M
-random_spec =
+pub random-spec : {M : Type 1} → statement M
+random-spec =
     tie.close
     (tie.spec
     invariant-loop
