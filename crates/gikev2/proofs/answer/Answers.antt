@@ -13,7 +13,7 @@ slice_bounds-copy-end c =
     let s = c.args.s in
     let i = c.if-n-gt-SA_OCTETS in
     let h : length s.octets ≡ 68 = search rules in
-    let u : Used 68 i.n s.count = ⊎_elim (λ w. inl (w.0.taken, w.1)) (λ w. inr (w.0.left, w.1)) i.branch in
+    let u : Used 68 i.n s.count = ⊎_elim (λ w. inl (w.if-n-gt-SA_OCTETS.true, w.n-is)) (λ w. inr (w.if-n-gt-SA_OCTETS.false, w.n-is)) i.branch-raw in
     let g = used_le 68 i.n s.count u in
     omega arith
 
@@ -22,7 +22,7 @@ copy-requires c =
     let s = c.args.s in
     let i = c.if-n-gt-SA_OCTETS in
     let h : length s.octets ≡ 68 = search rules in
-    let u : Used 68 i.n s.count = ⊎_elim (λ w. inl (w.0.taken, w.1)) (λ w. inr (w.0.left, w.1)) i.branch in
+    let u : Used 68 i.n s.count = ⊎_elim (λ w. inl (w.if-n-gt-SA_OCTETS.true, w.n-is)) (λ w. inr (w.if-n-gt-SA_OCTETS.false, w.n-is)) i.branch-raw in
     let g = used_le 68 i.n s.count u in
     let k = length-take-le (i.n - 0) s.octets (omega arith) in
     omega arith
@@ -32,7 +32,7 @@ returns-then-s-eq-REKEY c =
     let s = c.args.s in
     let i = c.if-n-gt-SA_OCTETS in
     let h : length s.octets ≡ 68 = search rules in
-    let u : Used 68 i.n s.count = ⊎_elim (λ w. inl (w.0.taken, w.1)) (λ w. inr (w.0.left, w.1)) i.branch in
+    let u : Used 68 i.n s.count = ⊎_elim (λ w. inl (w.if-n-gt-SA_OCTETS.true, w.n-is)) (λ w. inr (w.if-n-gt-SA_OCTETS.false, w.n-is)) i.branch-raw in
     answer-rekey s i.n _ h u c.copy.ensures.1 c.if-s-eq-REKEY.true
 
 pub returns-else-s-eq-REKEY : goal.returns-else-s-eq-REKEY
@@ -40,5 +40,5 @@ returns-else-s-eq-REKEY c =
     let s = c.args.s in
     let i = c.if-n-gt-SA_OCTETS in
     let h : length s.octets ≡ 68 = search rules in
-    let u : Used 68 i.n s.count = ⊎_elim (λ w. inl (w.0.taken, w.1)) (λ w. inr (w.0.left, w.1)) i.branch in
+    let u : Used 68 i.n s.count = ⊎_elim (λ w. inl (w.if-n-gt-SA_OCTETS.true, w.n-is)) (λ w. inr (w.if-n-gt-SA_OCTETS.false, w.n-is)) i.branch-raw in
     answer-other s i.n _ h u c.copy.ensures.1 c.if-s-eq-REKEY.false

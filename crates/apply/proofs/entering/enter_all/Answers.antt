@@ -43,20 +43,20 @@ loop-j-preserved c =
     let f = c.goes_ahead.ensures in
     ⊎_elim
     (λ w.
-    rw (w.1, w.2, w.3) (
+    rw (w.sas-is, w.carried-is, w.placed-is) (
       v.0,
       v.1,
       omega arith,
-      moving-ahead sa_before k.sas k.count _ h l.sas l.carried l.placed l.j v.3 _ (omega arith) (sym w.0.taken ∙ f),
+      moving-ahead sa_before k.sas k.count _ h l.sas l.carried l.placed l.j v.3 _ (omega arith) (sym w.if-goes_ahead.true ∙ f),
     ))
     (λ w.
-    rw (w.1, w.2, w.3) (
+    rw (w.sas-is, w.carried-is, w.placed-is) (
       v.0,
       v.1,
       omega arith,
-      moving-aside sa_before k.sas k.count _ h l.sas l.carried l.placed l.j v.3 _ (omega arith) (sym w.0.left ∙ f),
+      moving-aside sa_before k.sas k.count _ h l.sas l.carried l.placed l.j v.3 _ (omega arith) (sym w.if-goes_ahead.false ∙ f),
     ))
-    c.if-goes_ahead.branch
+    c.if-goes_ahead.branch-raw
 
 pub offset_bounds-sas-count : goal.offset_bounds-sas-count
 offset_bounds-sas-count c = let v = c.loop-j.invariant in record { fits = omega (arith, v.1) }

@@ -35,24 +35,24 @@ loop-i-preserved c =
     let n = c.is_named.ensures in
     ⊎_elim
     (λ w.
-    rw w.2 (
+    rw w.sas-is (
       v.0,
       v.1,
       length-set l.sas l.i _ ∙ v.2,
       omega arith,
       turned_more f a.t.sas l.sas l.i _ (omega (arith, v.0, v.1)) v.4 _
-          (retired-yes q a.tick a.delay _ _ (sym w.0.taken ∙ n) w.1.ensures),
+          (retired-yes q a.tick a.delay _ _ (sym w.if-is_named.true ∙ n) w.retire-b.ensures),
     ))
     (λ w.
-    rw w.1 (
+    rw w.sas-is (
       v.0,
       v.1,
       v.2,
       omega arith,
       turned_same f a.t.sas l.sas l.i _ (omega (arith, v.0, v.1)) v.4
-          (retired-no q a.tick a.delay _ blank_sa (sym w.0.left ∙ n)),
+          (retired-no q a.tick a.delay _ blank_sa (sym w.if-is_named.false ∙ n)),
     ))
-    c.if-is_named.branch
+    c.if-is_named.branch-raw
 
 pub returns : goal.returns
 returns c =

@@ -45,19 +45,19 @@ loop-i-preserved c =
     let v = l.invariant in
     let f = c.due.ensures in
     let g = retired_if (outdated a.new) a.tick a.delay in
-    ⊎_elim (λ w. rw (w.1, w.2) (
+    ⊎_elim (λ w. rw (w.out-is, w.k-is) (
       v.0,
       v.1,
       omega arith,
       renewed-no limits.sas blank_sa (stays a.tick) g t.sas t.count (omega arith) v.0 l.out l.k l.i v.3 _
-          (omega arith) (ap not (sym w.0.taken ∙ f)),
-    )) (λ w. rw (w.2, w.3) (
+          (omega arith) (ap not (sym w.if-due.true ∙ f)),
+    )) (λ w. rw (w.out-is, w.k-is) (
       v.0,
       v.1,
       omega arith,
       renewed-yes limits.sas blank_sa (stays a.tick) g t.sas t.count (omega arith) v.0 l.out l.k l.i v.3 _
-          (omega arith) (ap not (sym w.0.left ∙ f)) _ w.1.ensures,
-    )) c.if-due.branch
+          (omega arith) (ap not (sym w.if-due.false ∙ f)) _ w.retire_old-b.ensures,
+    )) c.if-due.branch-raw
 
 pub returns : goal.returns
 returns c =

@@ -14,7 +14,7 @@ returns c =
     let x = c.delete_parts-x.result in (
       with-is c.args.d o x c.delete_parts-x.ensures c.if-x-eq-ESP.other
           c.if-x-eq0.none
-          (⊎_elim (λ w. inl (w.0.taken, w.1)) (λ w. inr (w.0.left, w.1)) c.if-x-eq-ESP.branch)
-          (⊎_elim (λ w. inl (w.0.taken, w.1)) (λ w. inr (w.0.left, w.1)) c.if-x-eq0.branch),
+          (⊎_elim (λ w. inl (w.if-x-eq-ESP.true, w.other-is)) (λ w. inr (w.if-x-eq-ESP.false, w.other-is)) c.if-x-eq-ESP.branch-raw)
+          (⊎_elim (λ w. inl (w.if-x-eq0.true, w.none-is)) (λ w. inr (w.if-x-eq0.false, w.none-is)) c.if-x-eq0.branch-raw),
       omega (arith, c.delete_parts-x.ensures.few),
     )

@@ -14,21 +14,21 @@ loop-i-preserved c =
     let a = c.args in
     let v = l.invariant in
     let f = c.goes_ahead.ensures in
-    ⊎_elim (λ w. rw (w.1, w.2, w.3) (
+    ⊎_elim (λ w. rw (w.out-is, w.carried-is, w.placed-is) (
       v.0,
       v.1,
       omega arith,
       placing-ahead piece_before most_fragments blank_piece a.pieces
-          a.n a.a (omega arith) l.out l.carried l.placed l.i v.3 v.0 _ (omega arith) (sym w.0.taken ∙ f),
+          a.n a.a (omega arith) l.out l.carried l.placed l.i v.3 v.0 _ (omega arith) (sym w.if-goes_ahead.true ∙ f),
     ))
-    (λ w. rw (w.1, w.2, w.3) (
+    (λ w. rw (w.out-is, w.carried-is, w.placed-is) (
       v.0,
       v.1,
       omega arith,
       placing-behind piece_before most_fragments blank_piece a.pieces
           a.n a.a (omega arith) l.out l.carried l.placed l.i v.3 v.0 _ (omega arith)
-          (sym w.0.left ∙ f),
-    )) c.if-goes_ahead.branch
+          (sym w.if-goes_ahead.false ∙ f),
+    )) c.if-goes_ahead.branch-raw
 
 pub returns : goal.returns
 returns c =

@@ -29,12 +29,12 @@ loop-i-preserved c =
     let f = c.due.ensures in
     ⊎_elim
     (λ w.
-    let q = count_no (stays a.tick) m.sas m.count (omega arith) l.i _ (omega arith) (ap not (sym w.0.taken ∙ f)) in
-    rw w.1 (v.0, v.1, omega arith, omega arith, omega (arith, q, v.4)))
+    let q = count_no (stays a.tick) m.sas m.count (omega arith) l.i _ (omega arith) (ap not (sym w.if-due.true ∙ f)) in
+    rw w.k-is (v.0, v.1, omega arith, omega arith, omega (arith, q, v.4)))
     (λ w.
-    let q = count_yes (stays a.tick) m.sas m.count (omega arith) l.i _ (omega arith) (ap not (sym w.0.left ∙ f)) in
-    rw w.1 (v.0, v.1, omega arith, omega arith, omega (arith, q, v.4)))
-    c.if-due.branch
+    let q = count_yes (stays a.tick) m.sas m.count (omega arith) l.i _ (omega arith) (ap not (sym w.if-due.false ∙ f)) in
+    rw w.k-is (v.0, v.1, omega arith, omega arith, omega (arith, q, v.4)))
+    c.if-due.branch-raw
 
 pub returns : goal.returns
 returns c =

@@ -51,11 +51,11 @@ loop-i-preserved-then-is_live_rekey c =
       v.3,
       ⊎_elim
           (λ w.
-          testing-next limits t v.2 v.3 l.k l.i v.4 _ (omega arith) e true m w.0.taken (sym w.3.taken
-          ∙ w.2.ensures) _
+          testing-next limits t v.2 v.3 l.k l.i v.4 _ (omega arith) e true m w.if-j-n.true (sym w.if-before.true
+          ∙ w.before-then-j-n.ensures) _
           refl)
-          (λ w. testing-last limits t v.2 v.3 l.k l.i v.4 _ (omega arith) e true m w.left _ refl)
-          c.if-j-n.branch,
+          (λ w. testing-last limits t v.2 v.3 l.k l.i v.4 _ (omega arith) e true m w.if-j-n.false _ refl)
+          c.if-j-n.branch-raw,
     )
 
 pub loop-i-preserved : goal.loop-i-preserved
@@ -71,11 +71,11 @@ loop-i-preserved c =
       v.3,
       ⊎_elim
           (λ w.
-          testing-next limits t v.2 v.3 l.k l.i v.4 _ (omega arith) e false m w.0.taken (sym w.3.taken
-          ∙ w.2.ensures) _
+          testing-next limits t v.2 v.3 l.k l.i v.4 _ (omega arith) e false m w.if-j-n.true (sym w.if-before.true
+          ∙ w.before-then-j-n.ensures) _
           refl)
-          (λ w. testing-last limits t v.2 v.3 l.k l.i v.4 _ (omega arith) e false m w.left _ refl)
-          c.if-j-n.branch,
+          (λ w. testing-last limits t v.2 v.3 l.k l.i v.4 _ (omega arith) e false m w.if-j-n.false _ refl)
+          c.if-j-n.branch-raw,
     )
 
 pub returns : goal.returns

@@ -47,19 +47,19 @@ loop-i-preserved c =
     let n = c.args.tick in
     let v = l.invariant in
     let f = c.due.ensures in
-    ⊎_elim (λ w. rw (w.1, w.2) (
+    ⊎_elim (λ w. rw (w.out-is, w.k-is) (
       v.0,
       v.1,
       omega arith,
       keeping-no limits.sas blank_sa (stays n) t.sas t.count (omega arith)
-          v.0 l.out l.k l.i v.3 _ (omega arith) (ap not (sym w.0.taken ∙ f)),
-    )) (λ w. rw (w.1, w.2) (
+          v.0 l.out l.k l.i v.3 _ (omega arith) (ap not (sym w.if-due.true ∙ f)),
+    )) (λ w. rw (w.out-is, w.k-is) (
       v.0,
       v.1,
       omega arith,
       keeping-yes limits.sas blank_sa (stays n) t.sas t.count (omega arith) v.0 l.out l.k l.i
-          v.3 _ (omega arith) (ap not (sym w.0.left ∙ f)),
-    )) c.if-due.branch
+          v.3 _ (omega arith) (ap not (sym w.if-due.false ∙ f)),
+    )) c.if-due.branch-raw
 
 pub returns : goal.returns
 unfolding swept

@@ -38,21 +38,21 @@ loop-i-preserved c =
     let a = c.args.a in
     let v = l.invariant in
     let f = c.goes_ahead.ensures in
-    ⊎_elim (λ w. rw (w.1, w.2, w.3) (
+    ⊎_elim (λ w. rw (w.out-is, w.carried-is, w.placed-is) (
       v.0,
       v.1,
       omega arith,
       placing-ahead id_before limits.held_keys blank_key t.keys
-          t.count a (omega arith) l.out l.carried l.placed l.i v.3 v.0 _ (omega arith) (sym w.0.taken ∙ f),
+          t.count a (omega arith) l.out l.carried l.placed l.i v.3 v.0 _ (omega arith) (sym w.if-goes_ahead.true ∙ f),
     ))
-    (λ w. rw (w.1, w.2, w.3) (
+    (λ w. rw (w.out-is, w.carried-is, w.placed-is) (
       v.0,
       v.1,
       omega arith,
       placing-behind id_before limits.held_keys blank_key t.keys
           t.count a (omega arith) l.out l.carried l.placed l.i v.3 v.0 _ (omega arith)
-          (sym w.0.left ∙ f),
-    )) c.if-goes_ahead.branch
+          (sym w.if-goes_ahead.false ∙ f),
+    )) c.if-goes_ahead.branch-raw
 
 pub bounds-out-i-2 : goal.bounds-out-i-2
 bounds-out-i-2 c = let g = c.loop-i.invariant.3.filled.long in omega arith
