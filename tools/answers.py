@@ -238,6 +238,7 @@ def invariants(decls, walk, said, where):
 
 def keep(path, text, walk, decls, uses, goal_of, place_of, declared, said):
     """Turns the names of a file that keeps its form: lemmas of it speak of places of the walk."""
+    walk.pre, walk.of = [], dict(walk.of, clauses=None)  # a walk has its clauses as pairs
     by_plain = {plain(p): p for p in walk.places}
     helpers = {}
     for d in decls:

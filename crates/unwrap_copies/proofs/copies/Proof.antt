@@ -55,9 +55,9 @@ loop-holds c =
     let a = c.args in
     let zero = c.key_zero-last in (
       omega arith,
-      c.requires.a_value,
+      c.requires.0,
       subst (λ (s : InverseSchedule). ExpandedInverse s.words) (sym zero.ensures.1.1)
-          c.requires.tables_value.1,
+          c.requires.1.1.0.1,
       λ v new old x lends. (
         starts a.need (tries_of_all v new old (copies_in a.place a.a.now)) c.nothing-known.result
             c.nothing-known.ensures,
@@ -88,7 +88,7 @@ attribute-value-requires c κs = search rules
 octets-are : (c : tie.After-attribute_value-copy invariant-loop decreases-loop) →
     let a = c.args in
     c.attribute_value-copy.result.now ≡ part a.a.now (value_start a.a.now c.in-At.start) c.in-At.end
-octets-are c = c.attribute_value-copy.ensures.result_value ∙ (next c.before).octets
+octets-are c = c.attribute_value-copy.ensures.0 ∙ (next c.before).octets
 
 -- it holds both IDs
 ids-there : (c : tie.After-attribute_value-copy invariant-loop decreases-loop) → 8 ≤ length c.attribute_value-copy.result.now
@@ -103,7 +103,7 @@ ready-for-requires c κs = let q = c.requires.1.1 in ((q.0.0, q.0.1, c.loop-star
 try-copy-requires : tie.Need-try_copy-one-requires invariant-loop decreases-loop
 try-copy-requires c κs =
     let p = c.requires.1 in
-    ((ids-there c.before.before, p.0), (p.1.0.0, c.ready_for-key.ensures.id_value.1))
+    ((ids-there c.before.before, p.0), (p.1.0.0, c.ready_for-key.ensures.0.1))
 
 note-requires : tie.Need-note-openers-requires invariant-loop decreases-loop
 note-requires c κs = search rules

@@ -7,7 +7,7 @@ use Rattle.unwrap_sas.proofs.open_copies.Statement.{statement}
 use Rattle.unwrap_sas.proofs.open_copies.Tie as tie
 
 bag-stretch-requires : tie.Need-bag_stretch-s-requires
-bag-stretch-requires c κs = (c.args.reads, c.requires.kd_value)
+bag-stretch-requires c κs = (c.args.reads, c.requires.0)
 
 -- where its bag stands
 own : (c : tie.After-bag_stretch-s)
@@ -15,7 +15,7 @@ own : (c : tie.After-bag_stretch-s)
     StretchIs a.reads a.kd.now a.protocol a.spi.now c.bag_stretch-s.result
 own c =
     stretch-is c.args.protocol c.args.spi.now c.args.kd.now c.args.reads c.bag_stretch-s.result
-    c.bag_stretch-s.ensures c.requires.kd_value c.requires.kd_value_2
+    c.bag_stretch-s.ensures c.requires.0 c.requires.1.0
 
 in-bag-requires : tie.Need-in_bag-requires
 in-bag-requires c κs = search rules
@@ -35,7 +35,7 @@ copies-requires c κs =
       own-whole c.args.reads c.args.kd.now c.args.protocol c.args.spi.now c.bag_stretch-s.result (own c.before.before)
           c.in_bag.result
           c.in_bag.ensures,
-      (c.requires.need_le_sa_room, (c.requires.tables_value, c.requires.lends_two)),
+      (c.requires.1.1.0, (c.requires.1.1.1.0, c.requires.1.1.1.1)),
     )
 
 returns : tie.Need-returns

@@ -32,7 +32,7 @@ loop-holds : tie.Need-loop-at-init invariant-loop decreases-loop
 loop-holds c =
     along-start c.args.reads c.args.gsa.now c.args.kd.now c.args.schedule.words c.args.carried.now
     c.args.fresh.now c.args.ids.now c.args.block.now
-    c.args.tick _ c.no_openers-openers.result c.requires.gsa_value refl c.no_openers-openers.ensures
+    c.args.tick _ c.no_openers-openers.result c.requires.0 refl c.no_openers-openers.ensures
 
 sub-policy-parts : tie.Need-slice_bounds-policy_parts-count invariant-loop decreases-loop
 sub-policy-parts c = search rules
@@ -61,7 +61,7 @@ add-end c = let p = here c.before in record { fits = omega (arith, p.inside) }
 open-policy-at-requires : tie.Need-open_policy_at-one-requires invariant-loop decreases-loop
 open-policy-at-requires c κs =
     let l = c.loop-at in
-    let f = c.requires.checks_passed in
+    let f = c.requires.1.1.1.1 in
     let p = here c.before.before.before in
     let z = c.if-p-ne-NO_PROTOCOL.true in
     let a = c.args in
@@ -73,7 +73,7 @@ open-policy-at-requires c κs =
       inside = p.inside;
       small = p.small (λ i. (c.shared_slice_known-1.given i).fits);
     } in
-    (q, (c.requires.kd_value, (c.requires.tables_value, (c.requires.lends_two, (f.0, (p.sa-at z).sa, n)))))
+    (q, (c.requires.1.0, (c.requires.1.1.0, (c.requires.1.1.1.0, (f.0, (p.sa-at z).sa, n)))))
 
 -- what the copies of this policy's SA open to, by what was found
 says : (c : tie.After-open_policy_at-one invariant-loop decreases-loop) (x : CopyFound) → c.open_policy_at-one.result.found ≡ x →

@@ -17,7 +17,7 @@ needs-requires c κs =
 sized : (c : tie.After-needs-n) → let s = c.args in
     Sized c.protocol c.spi.now c.needs-n.result.encryption c.needs-n.result.wrapping
 sized c =
-    let p = c.requires.announces in
+    let p = c.requires.1.1.1.1 in
     let h = p.2 in
     sizes-are c.args.reads c.args.kd.now c.args.protocol c.args.spi.now c.args.x.now p.0 p.1 h
     c.needs-n.result (c.needs-n.ensures (in_policy c.args.protocol) h.body h.is)
@@ -38,7 +38,7 @@ open-copies-requires c κs =
 
 of-policy-requires : tie.Need-of_policy-t-requires
 of-policy-requires c κs =
-    let q = c.requires.announces in
+    let q = c.requires.1.1.1.1 in
     lifetime-there c.args.reads c.args.kd.now c.args.protocol c.args.spi.now c.args.x.now q.0 q.1 q.2
 
 one-sa-requires : tie.Need-one_sa-requires

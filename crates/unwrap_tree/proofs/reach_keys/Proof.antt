@@ -29,16 +29,16 @@ use Rattle.unwrap_tree.proofs.reach_keys.Tie as tie
 -- `unwrap_tree::reach_keys` meets its contract.
 
 entries-requires : tie.Need-entries-list-requires
-entries-requires c κs = let p = c.requires.holds_entries in (p.0, p.1, p.2)
+entries-requires c κs = let p = c.requires.0 in (p.0, p.1, p.2)
 
 -- the entries within their limit
 few : (c : tie.After-entries-list) → c.entries-list.result.count ≤ limits.wrap_keys
-few c = let p = c.requires.holds_entries in (c.entries-list.ensures p.0 p.1).within
+few c = let p = c.requires.0 in (c.entries-list.ensures p.0 p.1).within
 
 search-requires : tie.Need-search-cells-requires
 search-requires c κs =
-    let p = c.requires.holds_entries in
-    (few c.before, (c.requires.count_value, (c.requires.key, ((p.0, c.entries-list.ensures p.0 p.1), c.requires.lends_held))))
+    let p = c.requires.0 in
+    (few c.before, (c.requires.1.0, (c.requires.1.1.0, ((p.0, c.entries-list.ensures p.0 p.1), c.requires.1.1.1))))
 
 links-of-requires : tie.Need-links_of-links-requires
 links-of-requires c κs = few c.before.before
@@ -91,7 +91,7 @@ returns-2 c l held h z lends =
     let f = c.search-cells.ensures l held list lends in
     let n = told-not _ _ c.if-entries_conflict.false (decided c.before.before l held h z lends) in
     let reached = c.held_of in
-    let r = reached.ensures k roots l zero.count list f z c.requires.count_value n in
+    let r = reached.ensures k roots l zero.count list f z c.requires.1.0 n in
     let links = c.links_of-links in
     let own = links-own _ _ _ links.result links.ensures in
     let lists = subst (λ (m : ℕ). Lists k entries.result.places m l) (sym links.ensures.count-is) list in
@@ -102,7 +102,7 @@ returns-2 c l held h z lends =
       formed = r.1;
       agrees = λ q.
           subst (λ (x : List ℕ). Agrees roots l zero.count zero (named_keys reached.result x) (keys_of held)) (sym ids)
-          (held-agrees zero l zero.count held a.ids.now a.block.now lends reached.result z c.requires.count_value n r.0 r.1);
+          (held-agrees zero l zero.count held a.ids.now a.block.now lends reached.result z c.requires.1.0 n r.0 r.1);
       fit = fit c.before.before.before;
       kept = λ q. record {
         frame = k;
@@ -114,7 +114,7 @@ returns-2 c l held h z lends =
         nonzero = z;
         fit = roots-fit (value_of zero) l held lends.formed z;
         agree = n;
-        gives = held_gives zero l zero.count held a.ids.now a.block.now lends reached.result z c.requires.count_value n r.0
+        gives = held_gives zero l zero.count held a.ids.now a.block.now lends reached.result z c.requires.1.0 n r.0
             r.1;
       };
     }

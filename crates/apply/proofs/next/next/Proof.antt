@@ -21,11 +21,11 @@ old-is c f t = c.old_sas-old.ensures f c.args.state t refl
 enter-all-requires : tie.Need-enter_all-table-requires
 enter-all-requires c κs =
     let a = c.args in
-    let f = c.requires.told in
+    let f = c.requires.0 in
     let e = old-is c f.0 f.1 in (
-      old-room a.state a.tick f.0 c.old_sas-old.result a.n e c.requires.count_le_sas.1,
+      old-room a.state a.tick f.0 c.old_sas-old.result a.n e c.requires.1.1,
       old-made a.state a.tick f.0 c.old_sas-old.result e,
-      c.requires.count_le_sas.2,
+      c.requires.1.2,
     )
 
 least-by-requires : tie.Need-least_by-least-requires

@@ -44,7 +44,7 @@ attribute-value-requires c κs = search rules
 value : (c : tie.After-attribute_value invariant-loop decreases-loop)
     → let s = c.args.a.now in
     c.attribute_value.result.now ≡ part s (value_start s c.in-At.start) c.in-At.end
-value c = c.attribute_value.ensures.result_value ∙ (met c.before).octets
+value c = c.attribute_value.ensures.0 ∙ (met c.before).octets
 
 with-number-requires : tie.Need-with_number-n-requires invariant-loop decreases-loop
 with-number-requires c κs =

@@ -18,17 +18,17 @@ use Rattle.check_judging.proofs.facts.facts_of.Statement.{statement}
 use Rattle.check_judging.proofs.facts.facts_of.Tie as tie
 
 payload-facts-requires : tie.Need-payload_facts-payloads-requires
-payload-facts-requires c κs = (c.args.profile, c.requires.s_value)
+payload-facts-requires c κs = (c.args.profile, c.requires.0)
 
 -- the payloads of the frame that the octets are
 own : (c : tie.After-payload_facts-payloads)
     →     OfFrame (c.args.profile && c.args.row.reads_fresh_keys) c.args.s.now
-    (reads-to c.args.profile c.args.s.now c.requires.s_value).0 c.payload_facts-payloads.result
+    (reads-to c.args.profile c.args.s.now c.requires.0).0 c.payload_facts-payloads.result
 own c =
     let a = c.args in
-    let f = reads-to a.profile a.s.now c.requires.s_value in
+    let f = reads-to a.profile a.s.now c.requires.0 in
     subst (λ (r : Exchange). OfFrame (a.profile && r.reads_fresh_keys) a.s.now f.0 c.payload_facts-payloads.result)
-    (c.requires.f_value f.0 f.1)
+    (c.requires.1 f.0 f.1)
     (facts-of a.profile a.s.now c.payload_facts-payloads.result c.payload_facts-payloads.ensures f.0 f.1)
 
 sub-policy-facts : tie.Need-slice_bounds-policy_facts-count

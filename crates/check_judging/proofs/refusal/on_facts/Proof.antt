@@ -15,8 +15,8 @@ returns : tie.Need-returns-then-number_4
 returns c =
     let a = c.args in
     λ f q.
-    at-4 a.state a.tick a.lent.now a.s.now c.requires.count_le_sas a.row a.x c.requires.x_value _ c.number_4.ensures
-    c.if-number_4.true f q (c.requires.f_value f q)
+    at-4 a.state a.tick a.lent.now a.s.now c.requires.0 a.row a.x c.requires.1.1.0 _ c.number_4.ensures
+    c.if-number_4.true f q (c.requires.1.1.1 f q)
 
 number-5-requires : tie.Need-number_5-requires
 number-5-requires c κs = search rules
@@ -25,19 +25,19 @@ returns-2 : tie.Need-returns-then-number_5
 returns-2 c =
     let a = c.args in
     λ f q.
-    at_5 a.state a.tick a.lent.now a.s.now c.requires.count_le_sas a.row a.x c.requires.x_value _ c.number_4.ensures
-    c.if-number_4.false _ c.number_5.ensures c.if-number_5.true f q (c.requires.f_value f q)
+    at_5 a.state a.tick a.lent.now a.s.now c.requires.0 a.row a.x c.requires.1.1.0 _ c.number_4.ensures
+    c.if-number_4.false _ c.number_5.ensures c.if-number_5.true f q (c.requires.1.1.1 f q)
 
 -- the bodies, where number 6 is asked
 own : (c : tie.After-k-1)
     →     let a = c.args in
-    OfFrame (a.state.profile && a.row.reads_fresh_keys) a.s.now (reads-to a.state.profile a.s.now c.requires.s_value).0
+    OfFrame (a.state.profile && a.row.reads_fresh_keys) a.s.now (reads-to a.state.profile a.s.now c.requires.1.0).0
     a.x.payloads
 own c =
     let a = c.args in
-    let f = reads-to a.state.profile a.s.now c.requires.s_value in
-    its-payloads a.state a.tick a.lent.now a.s.now c.requires.count_le_sas a.row a.x c.requires.x_value f.0 f.1
-    (c.requires.f_value f.0 f.1)
+    let f = reads-to a.state.profile a.s.now c.requires.1.0 in
+    its-payloads a.state a.tick a.lent.now a.s.now c.requires.0 a.row a.x c.requires.1.1.0 f.0 f.1
+    (c.requires.1.1.1 f.0 f.1)
 
 sub-number-6 : tie.Need-slice_bounds-number_6-count
 sub-number-6 c = (own c).gsa_order
@@ -60,14 +60,14 @@ part-number-6-end-2 c = (own c.before).kd_inside
 number-6-requires : tie.Need-number_6-requires
 number-6-requires c κs =
     let i = own c.before.before in
-    ((_, policy-names _ i.gsa_whole), (_, bag-names _ _ i.kd_whole), c.requires.count_le_sas)
+    ((_, policy-names _ i.gsa_whole), (_, bag-names _ _ i.kd_whole), c.requires.0)
 
 returns-3 : tie.Need-returns-then-number_6
 returns-3 c =
     let a = c.args in
     λ f q.
-    at-6 a.state a.tick a.lent.now a.s.now c.requires.count_le_sas a.row a.x c.requires.x_value _ c.number_4.ensures
-    c.if-number_4.false _ c.number_5.ensures c.if-number_5.false _ c.number_6.ensures c.if-number_6.true f q (c.requires.f_value f q)
+    at-6 a.state a.tick a.lent.now a.s.now c.requires.0 a.row a.x c.requires.1.1.0 _ c.number_4.ensures
+    c.if-number_4.false _ c.number_5.ensures c.if-number_5.false _ c.number_6.ensures c.if-number_6.true f q (c.requires.1.1.1 f q)
 
 count-standing-requires : tie.Need-count_standing-requires
 count-standing-requires c κs = search rules
@@ -79,17 +79,17 @@ returns-4 : tie.Need-returns-then-number_7
 returns-4 c =
     let a = c.args in
     λ f q.
-    at_7 a.state a.tick a.lent.now a.s.now c.requires.count_le_sas a.row a.x c.requires.x_value _ c.number_4.ensures
+    at_7 a.state a.tick a.lent.now a.s.now c.requires.0 a.row a.x c.requires.1.1.0 _ c.number_4.ensures
     c.if-number_4.false _ c.number_5.ensures c.if-number_5.false _ c.number_6.ensures c.if-number_6.false _ c.count_standing.ensures _
-    c.number_7.ensures c.if-number_7.true f q (c.requires.f_value f q)
+    c.number_7.ensures c.if-number_7.true f q (c.requires.1.1.1 f q)
 
 returns-5 : tie.Need-returns
 returns-5 c =
     let a = c.args in
     λ f q.
-    at_none a.state a.tick a.lent.now a.s.now c.requires.count_le_sas a.row a.x c.requires.x_value _ c.number_4.ensures
+    at_none a.state a.tick a.lent.now a.s.now c.requires.0 a.row a.x c.requires.1.1.0 _ c.number_4.ensures
     c.if-number_4.false _ c.number_5.ensures c.if-number_5.false _ c.number_6.ensures c.if-number_6.false _ c.count_standing.ensures _
-    c.number_7.ensures c.if-number_7.false f q (c.requires.f_value f q)
+    c.number_7.ensures c.if-number_7.false f q (c.requires.1.1.1 f q)
 
 pub on_facts_spec : {M : Type 1} → statement M
 on_facts_spec =

@@ -47,7 +47,7 @@ attribute-value-requires c κs = search rules
 value : (c : tie.After-attribute_value-v invariant-loop decreases-loop)
     → let s = c.args.a.now in
     c.attribute_value-v.result.now ≡ part s (value_start s c.in-At.start) c.in-At.end
-value c = c.attribute_value-v.ensures.result_value ∙ (met c.before).octets
+value c = c.attribute_value-v.ensures.0 ∙ (met c.before).octets
 
 be16-at-requires : tie.Need-be16_at-requires invariant-loop decreases-loop
 be16-at-requires c κs =

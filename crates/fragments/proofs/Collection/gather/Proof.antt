@@ -23,13 +23,13 @@ long c =
 pieces-ahead-requires : tie.Need-pieces_ahead-ahead-requires
 pieces-ahead-requires c κs =
     let a = c.args in
-    let h = few a.self a.f (long c) c.requires.le_total a.piece.now a.n c.requires.taking in
+    let h = few a.self a.f (long c) c.requires.0 a.piece.now a.n c.requires.1 in
     omega arith
 
 frame-octets-requires : tie.Need-frame_octets-before-requires
 frame-octets-requires c κs =
     let a = c.args in
-    let h = few a.self a.f (long c.before) c.requires.le_total a.piece.now a.n c.requires.taking in
+    let h = few a.self a.f (long c.before) c.requires.0 a.piece.now a.n c.requires.1 in
     let r = c.pieces_ahead-ahead.ensures.1 in
     omega arith
 
@@ -37,7 +37,7 @@ sub-before : tie.Need-overflow_sub-before
 sub-before c =
     let a = c.args in
     let p = c.pieces_ahead-ahead in
-    let e = before-is a.self a.f (long c.before.before) c.requires.le_total a.piece.now a.n c.requires.taking
+    let e = before-is a.self a.f (long c.before.before) c.requires.0 a.piece.now a.n c.requires.1
     p.result p.ensures.0 p.ensures.1
     c.frame_octets-before.result c.frame_octets-before.ensures in
     omega arith
@@ -45,38 +45,38 @@ sub-before c =
 frame-octets-requires-2 : tie.Need-frame_octets-size-requires
 frame-octets-requires-2 c κs =
     let a = c.args in
-    let h = few a.self a.f (long c.before.before) c.requires.le_total a.piece.now a.n c.requires.taking in
+    let h = few a.self a.f (long c.before.before) c.requires.0 a.piece.now a.n c.requires.1 in
     omega arith
 
 sub-size : tie.Need-overflow_sub-size
 sub-size c =
     let a = c.args in
-    let e = size_is a.self a.f (long c.before.before.before) c.requires.le_total a.piece.now a.n c.requires.taking
+    let e = size_is a.self a.f (long c.before.before.before) c.requires.0 a.piece.now a.n c.requires.1
     c.frame_octets-size.result c.frame_octets-size.ensures in
     omega arith
 
 with-piece-requires : tie.Need-with_piece-pieces-requires
 with-piece-requires c κs =
     let a = c.args in
-    few a.self a.f (long c.before.before.before) c.requires.le_total a.piece.now a.n c.requires.taking
+    few a.self a.f (long c.before.before.before) c.requires.0 a.piece.now a.n c.requires.1
 
 lead-requires : tie.Need-lead-named-requires
 lead-requires c κs =
     let a = c.args in
-    let h = few a.self a.f (long c.before.before.before.before) c.requires.le_total a.piece.now a.n c.requires.taking in
+    let h = few a.self a.f (long c.before.before.before.before) c.requires.0 a.piece.now a.n c.requires.1 in
     omega arith
 
 add-t15 : tie.Need-overflow_add-next
 add-t15 c =
     let a = c.args in
-    let h = few a.self a.f (long c.before.before.before.before.before.before) c.requires.le_total a.piece.now a.n c.requires.taking in
+    let h = few a.self a.f (long c.before.before.before.before.before.before) c.requires.0 a.piece.now a.n c.requires.1 in
     record { fits = omega arith }
 
 join-within-requires : tie.Need-join_within-requires
 join-within-requires c κs =
     let a = c.args in
     let p = c.pieces_ahead-ahead in
-    joins a.self a.f (long c.before.before.before.before.before.before.before.before.before) c.requires.le_total a.piece.now a.n c.requires.taking
+    joins a.self a.f (long c.before.before.before.before.before.before.before.before.before) c.requires.0 a.piece.now a.n c.requires.1
     p.result p.ensures.0 p.ensures.1 c.frame_octets-before.result
     c.frame_octets-before.ensures c.frame_octets-size.result c.frame_octets-size.ensures (replicate most_octets 0)
     (length-replicate {A = ℕ} most_octets 0)
@@ -85,12 +85,12 @@ returns : tie.Need-returns
 returns c =
     let a = c.args in
     let p = c.pieces_ahead-ahead in
-    let x = before-is a.self a.f (long c.before.before.before.before.before.before.before.before.before.before) c.requires.le_total a.piece.now a.n c.requires.taking
+    let x = before-is a.self a.f (long c.before.before.before.before.before.before.before.before.before.before) c.requires.0 a.piece.now a.n c.requires.1
     p.result p.ensures.0 p.ensures.1
     c.frame_octets-before.result c.frame_octets-before.ensures in
-    let y = size_is a.self a.f (long c.before.before.before.before.before.before.before.before.before.before) c.requires.le_total a.piece.now a.n c.requires.taking
+    let y = size_is a.self a.f (long c.before.before.before.before.before.before.before.before.before.before) c.requires.0 a.piece.now a.n c.requires.1
     c.frame_octets-size.result c.frame_octets-size.ensures in
-    gathers a.self a.f (long c.before.before.before.before.before.before.before.before.before.before) c.requires.le_total a.piece.now a.n c.requires.taking
+    gathers a.self a.f (long c.before.before.before.before.before.before.before.before.before.before) c.requires.0 a.piece.now a.n c.requires.1
     c.lead-named.result c.lead-named.ensures c.with_piece-pieces.result
     c.with_piece-pieces.ensures (replicate most_octets 0) c.join_within.new.out refl
     (c.frame_octets-size.result - header_octets) (c.frame_octets-before.result - header_octets) (omega arith) (omega arith)

@@ -22,11 +22,11 @@ long c =
 
 frame-octets-requires : tie.Need-frame_octets-size-requires
 frame-octets-requires c κs =
-    few-held c.args.self c.requires.holding.0 c.requires.holding.1
+    few-held c.args.self c.requires.0.0 c.requires.0.1
 
 make-header-requires : tie.Need-make_header-h-requires
 make-header-requires c κs =
-    small-counted c.args.self c.requires.holding.0 c.requires.holding.1 c.frame_octets-size.result c.frame_octets-size.ensures
+    small-counted c.args.self c.requires.0.0 c.requires.0.1 c.frame_octets-size.result c.frame_octets-size.ensures
 
 slice-aggregate-put-frame : tie.Need-slice_bounds-put_frame-end
 slice-aggregate-put-frame c = search rules
@@ -36,9 +36,9 @@ put-frame-requires c κs =
     let a = c.args.self in
     let l = long c.before.before.before.before.before.before in
     let o = l.octets-size in
-    let e = size-counted a c.requires.holding.0 c.requires.holding.1 c.frame_octets-size.result c.frame_octets-size.ensures in
-    let f = small-counted a c.requires.holding.0 c.requires.holding.1 c.frame_octets-size.result c.frame_octets-size.ensures in
-    let r = c.requires.most_octets_in_bounds in
+    let e = size-counted a c.requires.0.0 c.requires.0.1 c.frame_octets-size.result c.frame_octets-size.ensures in
+    let f = small-counted a c.requires.0.0 c.requires.0.1 c.frame_octets-size.result c.frame_octets-size.ensures in
+    let r = c.requires.1 in
     let h = ap length c.make_header-h.ensures ∙ header-size a c.frame_octets-size.result l.spis-size in
     ((h, omega arith), (omega arith, omega arith))
 
@@ -50,7 +50,7 @@ returns c =
     λ w e.
     let a = c.args.self in
     let l = long c.before.before.before.before.before.before.before.before.before in
-    let f = size-counted a c.requires.holding.0 c.requires.holding.1 c.frame_octets-size.result c.frame_octets-size.ensures in
+    let f = size-counted a c.requires.0.0 c.requires.0.1 c.frame_octets-size.result c.frame_octets-size.ensures in
     written c.frame_octets-size.result c.make_header-h.result c.args.room.now _ w a e l.spis-size f c.make_header-h.ensures
     c.put_frame.ensures
 

@@ -14,15 +14,15 @@ pub slice_bounds-load-end : goal.slice_bounds-load-end
 slice_bounds-load-end c =
     let x = c.args.octets.now in
     let p = c.copy in
-    let l = length-filled x p.new.1.0 (omega arith) p.ensures.1 in
-    sym (length-take-le (8 * blocks (length x)) p.new.1.0 (omega (arith, l)))
+    let l = length-filled x p.new.dst (omega arith) p.ensures.1 in
+    sym (length-take-le (8 * blocks (length x)) p.new.dst (omega (arith, l)))
 
 pub load-requires : goal.load-requires
 load-requires c =
     let x = c.args.octets.now in
     let p = c.copy in
-    let l = length-filled x p.new.1.0 (omega arith) p.ensures.1 in
-    length-take-le (8 * blocks (length x)) p.new.1.0 (omega (arith, l))
+    let l = length-filled x p.new.dst (omega arith) p.ensures.1 in
+    length-take-le (8 * blocks (length x)) p.new.dst (omega (arith, l))
     ∙ ap (λ (k : ℕ). 8 * k) (sym (length-take-le (blocks (length x) + 1 - 1) (replicate 32 0) (omega arith) ∙ omega arith))
 
 pub returns : goal.returns

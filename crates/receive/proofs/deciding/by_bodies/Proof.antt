@@ -11,7 +11,7 @@ use Rattle.receive.proofs.deciding.by_bodies.Tie as tie
 
 row-of-requires : tie.Need-row_of-row-requires
 row-of-requires c κs =
-    (c.args.state.profile, ap is_whole c.requires.bodied.1.passed.whole_is)
+    (c.args.state.profile, ap is_whole c.requires.1.1.passed.whole_is)
 
 -- the frame's bodies, by the row that was read
 bodies : (c : tie.After-row_of-row) (f : Frame) →
@@ -23,7 +23,7 @@ bodies c f b = bagged-by b c.row_of-row.result (c.row_of-row.ensures _ f b.passe
 key-zero-requires : tie.Need-key_zero-zero-requires
 key-zero-requires c κs =
     let a = c.args in
-    let p = c.requires.bodied in
+    let p = c.requires.1 in
     (c.row_of-row.result, a.state, a.gsa.now, a.kd.now, a.x.member_bag, p.0, refl, refl, bodies c.before p.0 p.1)
 
 -- what its keys are opened with, for every frame that the octets are
@@ -59,7 +59,7 @@ opened c f b =
 
 conclude-requires : tie.Need-conclude-requires
 conclude-requires c κs =
-    let p = c.requires.bodied in (
+    let p = c.requires.1 in (
       p.0,
       c.args.lent.now,
       opened c p.0

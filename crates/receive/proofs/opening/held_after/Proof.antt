@@ -27,7 +27,7 @@ openers-listed-requires c κs = search rules
 -- the list that the frame finds
 formed : (c : tie.After-held_before-old) → held_formed limits c.held_before-old.result ≡ true
 formed c =
-    ap (held_formed limits) c.held_before-old.ensures ∙ before-formed c.args.registers c.args.held c.requires.held_value
+    ap (held_formed limits) c.held_before-old.ensures ∙ before-formed c.args.registers c.args.held c.requires.1
 
 returns : tie.Need-returns-then-n-eq0
 returns c roots l size f kept openers some =
@@ -62,7 +62,7 @@ some-listed c =
 
 held-by-path-requires : tie.Need-held_by_path-requires
 held-by-path-requires c κs =
-    (c.requires.links_fit, (formed c.before.before.before.before, some-listed c))
+    (c.requires.0, (formed c.before.before.before.before, some-listed c))
 
 returns-2 : tie.Need-returns
 returns-2 c roots l size f kept openers some =

@@ -46,7 +46,7 @@ slice-aggregate-lend-keys-2 c = search rules
 
 lend-keys-requires : tie.Need-lend_keys-requires
 lend-keys-requires c κs = (
-  formed-by c.requires.by_index.3,
+  formed-by c.requires.1.3,
   record { ids-length = length-replicate {A = ℕ} _ 0; block-length = length-replicate {A = ℕ} _ 0 },
 )
 
@@ -83,7 +83,7 @@ slice-aggregate-reach-any-2 c =
 reach-any-requires : tie.Need-reach_any-found-requires
 reach-any-requires c κs =
     let a = c.args in
-    let p = c.requires.by_index in
+    let p = c.requires.1 in
     let f = p.2 in
     let o = p.3 in
     let named = named-lent a.row.names_held_keys a.held c.named_count-m.ensures
@@ -117,7 +117,7 @@ long : (c : tie.After-reach_any-found) → length c.reach_any-found.result.links
 long c = search rules
 
 few-links : (c : tie.After-reach_any-found) → c.reach_any-found.result.links.count ≤ limits.wrap_keys
-few-links c = let p = c.requires.by_index in (tree c p.0 p.1 p.2 p.3).fit.few
+few-links c = let p = c.requires.1 in (tree c p.0 p.1 p.2 p.3).fit.few
 
 few : (c : tie.After-reach_any-found) → c.reach_any-found.result.links.count ≤ length c.reach_any-found.result.links.ids
 few c = omega (arith, long c, few-links c)
@@ -137,7 +137,7 @@ slice-aggregate-lend-named-2 c = search rules
 
 lend-named-requires : tie.Need-lend_named-requires
 lend-named-requires c κs =
-    let p = c.requires.by_index in
+    let p = c.requires.1 in
     let t = tree c.before.before.before.before.before p.0 p.1 p.2 p.3 in
     (t.formed, (omega (arith, listed c.before.before.before.before.before, t.fit.few), length-replicate {A = ℕ} _ 0))
 
@@ -204,7 +204,7 @@ open-sas-requires c κs =
 
 held-after-requires : tie.Need-held_after-after-requires
 held-after-requires c κs =
-    let p = c.requires.by_index in (
+    let p = c.requires.1 in (
       (tree c.before.before.before.before.before.before.before.before.before.before.before.before.before p.0 p.1 p.2
           p.3).fit,
       formed-by p.3,

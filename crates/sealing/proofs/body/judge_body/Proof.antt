@@ -26,7 +26,7 @@ add-least-2 c = search rules
 
 returns : tie.Need-returns-then-n-least
 returns c =
-    (tt, λ part en e. too_short c.args.at part c.args.frame.now c.requires.nonce_len.1 c.if-n-least.true)
+    (tt, λ part en e. too_short c.args.at part c.args.frame.now c.requires.1.1 c.if-n-least.true)
 
 sub-verify-tag : tie.Need-slice_bounds-verify_tag-count
 sub-verify-tag c = search rules
@@ -49,11 +49,11 @@ part-verify-tag-end-2 c = search rules
 verify-tag-requires : tie.Need-verify_tag-requires
 verify-tag-requires c κs =
     let t = c.args.frame.now in
-    let x = part-size t 0 c.args.at c.requires.nonce_len.1 in
+    let x = part-size t 0 c.args.at c.requires.1.1 in
     let y = part-size t (c.args.at + 8) (length t) (omega arith) in
-    let m = c.requires.nonce_len.2 in
+    let m = c.requires.1.2 in
     let l = least_at c.before.before in
-    (c.requires.tables_value, ((c.requires.nonce_len.0, omega (arith, x, m, c.requires.nonce_len.1)), (omega (arith, y, l), omega (arith, y, m))))
+    (c.requires.0, ((c.requires.1.0, omega (arith, x, m, c.requires.1.1)), (omega (arith, y, l), omega (arith, y, m))))
 
 sub-end : tie.Need-overflow_sub-end
 sub-end c = search rules
@@ -71,9 +71,9 @@ gctr-at-requires : tie.Need-gctr_at-requires
 gctr-at-requires c κs =
     let t = c.args.frame.now in
     let y = part-size t (c.args.at + 8) (length t - 16) (omega arith) in
-    let m = c.requires.nonce_len.2 in
+    let m = c.requires.1.2 in
     let l = least_at c.before.before.before.before.before in
-    (c.requires.tables_value, (c.requires.nonce_len.0, omega (arith, y, l), omega (arith, y, m)))
+    (c.requires.0, (c.requires.1.0, omega (arith, y, l), omega (arith, y, m)))
 
 wide-requires : tie.Need-wide-pad-requires
 wide-requires c κs = search rules

@@ -23,10 +23,10 @@ decreases-loop ids kwks levels n id level places₀ count₀ at₀ left₀ place
 loop-holds : tie.Need-loop-left-init invariant-loop decreases-loop
 loop-holds c =
     let a = c.args in
-    let x = c.requires.level_le_wrap_keys in (
-      c.requires.n_le_wrap_keys.0,
-      c.requires.n_le_wrap_keys.1,
-      c.requires.n_le_wrap_keys.2,
+    let x = c.requires.1 in (
+      c.requires.0.0,
+      c.requires.0.1,
+      c.requires.0.2,
       refl,
       omega arith,
       (λ k h. absurd (omega arith)),

@@ -51,18 +51,18 @@ loop-holds c =
     let a = c.args in
     let e : length a.entries ≡ limits.wrap_keys = search rules in
     let r : length (replicate limits.wrap_keys c.blank-cells.result) ≡ limits.wrap_keys = search rules in (
-      c.requires.n_le_wrap_keys,
+      c.requires.0,
       e,
       r,
       omega arith,
-      c.requires.count_value,
+      c.requires.1.0,
       λ is l held lends small fit h.
           subst
           (λ (b : Cell). Turn (value_of a.lent) is l held a.ids.now a.block.now lends small a.lent.count fit 0
           (replicate limits.wrap_keys b) 0 (value_of a.lent))
           (sym c.blank-cells.ensures)
           (first-turn (value_of a.lent) is l held a.ids.now a.block.now lends small a.lent.count fit
-          (omega (arith, h.count, c.requires.n_le_wrap_keys))),
+          (omega (arith, h.count, c.requires.0))),
     )
 
 try-key-requires : tie.Need-try_key-tried-requires invariant-loop decreases-loop
@@ -76,7 +76,7 @@ next-root-requires c κs = (c.loop-from.invariant.3, c.loop-from.invariant.0)
 -- ---- a held key is the next
 key-at-requires : tie.Need-key_at-key-requires invariant-loop decreases-loop
 key-at-requires c κs =
-    let p = c.requires.lends_held in
+    let p = c.requires.1.1.1.1 in
     let a = c.args in
     let n = ids-length (keys_of p.0) a.ids.now a.block.now p.1.lends in
     (keys_of p.0, a.ids.now, p.1.lends, omega (arith, n, c.if-from-ids.true))
@@ -92,8 +92,8 @@ add-from c = search rules
 
 loop-less : tie.Need-loop-from-smaller-then-from-ids invariant-loop decreases-loop
 loop-less c =
-    let l = c.requires.lists in
-    let f = c.next_root-from.ensures.lower_bound in
+    let l = c.requires.1.1.1.0 in
+    let f = c.next_root-from.ensures.0 in
     let h = c.if-from-ids.true in
     let d = subst (λ (m : ℕ). undone m (cell_at c.try_key-tried.result) ≤ undone m (cell_at c.loop-from.cells)) l.1.count
     (fell-tried l.0 c.loop-from.id _ c.args.lent.count c.loop-from.cells c.try_key-tried.result (c.try_key-tried.ensures l.0 l.1)) in
@@ -105,7 +105,7 @@ loop-again c =
     let q = c.next_root-from in
     let k = c.key_at-key in
     let h = c.if-from-ids.true in
-    let p = c.requires.lends_held in
+    let p = c.requires.1.1.1.1 in
     let n = ids-length (keys_of p.0) a.ids.now a.block.now p.1.lends in
     let g : q.result < length (keys_of p.0) = omega (arith, n, h) in
     let r : length c.try_key-tried.result ≡ limits.wrap_keys = search rules in (
@@ -161,13 +161,13 @@ array-set-from-cells c = let p = pends c.before.before.before in omega (arith, p
 
 loop-less-2 : tie.Need-loop-from-smaller invariant-loop decreases-loop
 loop-less-2 c =
-    let l = c.requires.lists in
-    let f = c.next_root-from.ensures.lower_bound in
+    let l = c.requires.1.1.1.0 in
+    let f = c.next_root-from.ensures.0 in
     let r : length c.try_key-tried.result ≡ limits.wrap_keys = search rules in
     let d = subst (λ (m : ℕ). undone m (cell_at c.try_key-tried.result) ≤ undone m (cell_at c.loop-from.cells)) l.1.count
     (fell-tried l.0 c.loop-from.id _ c.args.lent.count c.loop-from.cells c.try_key-tried.result (c.try_key-tried.ensures l.0 l.1)) in
     fewer-left c.args.n c.loop-from.cells c.try_key-tried.result c.in-At.j _ _ c.loop-from.from _ d (pends c.before.before.before)
-    (omega (arith, c.requires.n_le_wrap_keys, r)) f.0
+    (omega (arith, c.requires.0, r)) f.0
 
 loop-again-2 : tie.Need-loop-from-preserved invariant-loop decreases-loop
 loop-again-2 c =
@@ -183,17 +183,17 @@ loop-again-2 c =
     (q.ensures.1 a.frame.now l x) c.try_key-tried.result
     (tried (roots (value_of a.lent) is l held a.ids.now a.block.now lends small) _ l a.lent.count fit _ c.loop-from.cells
     c.try_key-tried.result c.loop-from.id (value_of c.loop-from.key) (c.loop-from.invariant.5 is l held lends small fit x) (c.try_key-tried.ensures l x)) in
-    let l = c.requires.lists in
-    let p = c.requires.lends_held in
-    let fit = is-key-size a.lent.count c.requires.count_value in
+    let l = c.requires.1.1.1.0 in
+    let p = c.requires.1.1.1.1 in
+    let fit = is-key-size a.lent.count c.requires.1.0 in
     let small : Octets a.block.now = λ i. (c.shared_slice_known-3-1.given i).fits in (
       c.loop-from.invariant.0,
       c.loop-from.invariant.1,
       length-set c.try_key-tried.result _ _ ∙ r,
       omega (arith, q.ensures.0.1),
-      count_at (roots (value_of a.lent) c.requires.key l.0 p.0 a.ids.now a.block.now p.1 small) _ l.0
+      count_at (roots (value_of a.lent) c.requires.1.1.0 l.0 p.0 a.ids.now a.block.now p.1 small) _ l.0
           a.lent.count fit _ a.frame.now a.entries a.n c.try_key-tried.result c.in-At.j l.1
-          (kept c.requires.key l.0 p.0 p.1 small fit l.1) (pends c.before.before.before) r _ c.requires.count_value,
+          (kept c.requires.1.1.0 l.0 p.0 p.1 small fit l.1) (pends c.before.before.before) r _ c.requires.1.0,
       λ is l held lends small fit x.
           at-cell (roots (value_of a.lent) is l held a.ids.now a.block.now lends small) _ l a.lent.count fit _
           a.frame.now a.entries a.n c.try_key-tried.result c.in-At.j x (kept is l held lends small fit x) (pends c.before.before.before) r
@@ -207,8 +207,8 @@ returns : tie.Need-returns-in-Nothing invariant-loop decreases-loop
 returns c l held x lends =
     let a = c.args in
     let q = c.next_root-from in
-    let fit = is-key-size a.lent.count c.requires.count_value in
-    let is = c.requires.key in
+    let fit = is-key-size a.lent.count c.requires.1.0 in
+    let is = c.requires.1.1.0 in
     let small : Octets a.block.now = λ i. (c.shared_slice_known-3-1.given i).fits in
     let none : NonePending c.try_key-tried.result a.n =
     subst (Finds c.try_key-tried.result a.n) c.in-Nothing.is c.first_pending.ensures in

@@ -68,7 +68,7 @@ attribute-value-requires c κs = search rules
 value : (c : tie.After-attribute_value invariant-loop decreases-loop) →
     let s = part c.args.kd.now c.args.bag.start c.args.bag.end in
     c.attribute_value.result.now ≡ part s (value_start s c.in-At.b) c.in-At.d
-value c = c.attribute_value.ensures.result_value ∙ (met c.before).octets
+value c = c.attribute_value.ensures.0 ∙ (met c.before).octets
 
 add-entry : tie.Need-overflow_add-a invariant-loop decreases-loop
 add-entry c =

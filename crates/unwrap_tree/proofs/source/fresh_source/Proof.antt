@@ -9,7 +9,7 @@ use Rattle.unwrap_tree.proofs.source.fresh_source.Statement.{statement}
 use Rattle.unwrap_tree.proofs.source.fresh_source.Tie as tie
 
 rekey-spi-requires : tie.Need-rekey_spi-s-requires
-rekey-spi-requires c κs = c.requires.gsa_value.0
+rekey-spi-requires c κs = c.requires.0.0
 
 no-source-requires : tie.Need-no_source-requires
 no-source-requires c κs = search rules
@@ -34,7 +34,7 @@ part-bag-stretch-end : tie.Need-slice_bounds-bag_stretch-end
 part-bag-stretch-end c = (found c).inside
 
 bag-stretch-requires : tie.Need-bag_stretch-bag-requires
-bag-stretch-requires c κs = (true, c.requires.gsa_value.1)
+bag-stretch-requires c κs = (true, c.requires.0.1)
 
 returns-2 : tie.Need-returns
 returns-2 c f y =
@@ -42,7 +42,7 @@ returns-2 c f y =
     let k = c.args.kd.now in
     let r = c.rekey_spi-s.result in
     fresh-stand f g k y r (found c.before.before) c.bag_stretch-bag.result
-    (stretch-is rekey_protocol _ k true c.bag_stretch-bag.result c.bag_stretch-bag.ensures c.requires.gsa_value.1 (bag-paired f g k y r (found c.before.before)))
+    (stretch-is rekey_protocol _ k true c.bag_stretch-bag.result c.bag_stretch-bag.ensures c.requires.0.1 (bag-paired f g k y r (found c.before.before)))
 
 pub fresh_source_spec : {M : Type 1} → statement M
 fresh_source_spec =
