@@ -1,6 +1,8 @@
 // AES (FIPS 197). A caller makes the tables once and lends them, expands a key once, and lends its schedule for each block. Callers treat
 // tables and schedules as opaque: no code outside this crate looks into their arrays.
 // Internal: crates of this repository alone call it.
+#![tactic(auto)]
+
 ghost use Rattle.std.specs.Prelude.{◌≡◌, ℕ, ◌<◌, ◌+◌, ◌*◌, List, ◌++◌, T, length};
 ghost use Rattle.octets.specs.Numbers.{octets_of};
 ghost use Rattle.fips197.specs.Key.{is_key, rounds_of};

@@ -1,6 +1,8 @@
 // The facts of a KD payload, in one walk: what numbers 4 to 7 of document 01 ask of its key bags, and where the Member Key Bag stands.
 // `fresh` says whether fresh keys are read in the Rekey SA's bag (document 02, T-11).
 // Internal: crates of this repository alone call it.
+#![tactic(auto)]
+
 pub mod wrapped;
 
 ghost use Rattle.std.specs.Prelude.{◌≡◌, true, ℕ, ◌+◌, ◌<◌, ◌≤◌, length};

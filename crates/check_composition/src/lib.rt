@@ -1,6 +1,8 @@
 // The facts of the policies of a GSA payload, in one walk: what numbers 4 to 7 of document 01 ask for, and what the next member state
 // needs.
 // Internal: crates of this repository alone call it.
+#![tactic(auto)]
+
 pub mod addresses;
 pub mod numbers;
 

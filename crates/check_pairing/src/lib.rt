@@ -1,5 +1,7 @@
 // Compares policies, key bags and SAs of the table by protocol and SPI. The policies and bags are read from a frame's GSA and KD bodies.
 // Internal: crates of this repository alone call it.
+#![tactic(auto)]
+
 pub mod names;
 pub mod stretch;
 

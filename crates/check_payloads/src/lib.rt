@@ -1,5 +1,7 @@
 // The facts of the payloads of a frame whose layout is whole, in one walk.
 // Internal: crates of this repository alone call it.
+#![tactic(auto)]
+
 pub mod deletion;
 pub mod kinds;
 

@@ -1,5 +1,7 @@
 // The transforms of the Group SA policies: whether they are those that document 01 asks for, and the keying octets that they need.
 // Internal: crates of this repository alone call it.
+#![tactic(auto)]
+
 pub mod counts;
 pub mod rows;
 

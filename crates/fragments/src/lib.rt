@@ -1,5 +1,7 @@
 // The fragments of one rekey that have come so far (document 02, T-12; RFC 7383).
 // Internal, but for `Collection::new`: crates of this repository alone call it.
+#![tactic(auto)]
+
 mod counting;
 pub mod fitness;
 pub mod gather;

@@ -1,6 +1,8 @@
 // AES-GCM (NIST SP 800-38D) with a nonce of 96 bits and a tag of 128: octets opened into lent room. For a caller with a schedule of its
 // own: the tag verified, any first part deciphered, and one octet deciphered from its block alone.
 // For customers: `open`. All else is internal.
+#![tactic(auto)]
+
 mod hash;
 mod product;
 pub mod stream;

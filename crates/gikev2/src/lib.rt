@@ -1,4 +1,6 @@
 // A group member: what a customer of the library holds.
+#![tactic(auto)]
+
 pub mod call;
 pub mod fragment;
 pub mod sealed;

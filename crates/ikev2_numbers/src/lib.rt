@@ -1,5 +1,6 @@
 // The code numbers of IKEv2 and G-IKEv2, and the sizes and places of their fields. Each stands here once, with the section that gives it;
 // `specs/Codes` has the same numbers for the definitions.
+#![tactic(auto)]
 
 // Exchange types (RFC 9838, section 9.2).
 pub const GSA_AUTH: usize = 39;

@@ -1,5 +1,7 @@
 // A member's journal (document 02, T-13): each step of a member as a line of text, written before the step takes effect, and the member
 // made again from these lines.
+#![tactic(auto)]
+
 pub mod reading;
 pub mod taking;
 

@@ -1,5 +1,7 @@
 // RFC 5649: one key is wrapped or opened into lent room, or opened over a schedule that was expanded once.
 // For customers: `wrap` and `open`. All else is internal.
+#![tactic(auto)]
+
 mod load;
 mod sizes;
 mod unwrap_steps;

@@ -1,5 +1,7 @@
 // Finds the outcome of a frame that refusals 2 to 7 let pass: refusal 8, refusal 9, or the state after acceptance.
 // Internal: crates of this repository alone call it.
+#![tactic(auto)]
+
 pub mod deciding;
 pub mod opening;
 pub mod said;

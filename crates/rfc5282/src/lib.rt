@@ -1,5 +1,6 @@
 // The sealed frame, as definitions: RFC 5282, RFC 7296, section 3.14, and RFC 7383. The code has the numbers alone; `specs/Sizes` has the
 // same.
+#![tactic(auto)]
 
 // The Encrypted payload (RFC 7296, section 3.14) and the Encrypted Fragment payload (RFC 7383, section 2.5).
 pub const ENCRYPTED: usize = 46;

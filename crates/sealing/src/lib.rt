@@ -1,5 +1,7 @@
 // The sealed frame opened: an IKE header and one Encrypted payload, AES-GCM with a tag of 16 octets (RFC 7296, section 3.14; RFC 5282), or
 // one Encrypted Fragment payload (RFC 7383). Internal: crates of this repository alone call it.
+#![tactic(auto)]
+
 mod body;
 pub mod fragment;
 mod writing;

@@ -1,5 +1,7 @@
 // The state of a member: its table, its held list and the least Message ID that it takes.
 // Internal: crates of this repository alone call it.
+#![tactic(auto)]
+
 pub mod held;
 pub mod least;
 

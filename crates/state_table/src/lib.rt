@@ -1,5 +1,7 @@
 // The table of SAs. A table made here has blank places past its count; a table that comes in may hold anything there.
 // Internal: crates of this repository alone call it.
+#![tactic(auto)]
+
 pub mod change;
 pub mod test;
 

@@ -1,6 +1,8 @@
 // Judges refusal 8 of document 01 for the entries of a registration, by the cells of their search: an entry opened to a wrong size, or two
 // entries give one key two values.
 // Internal: crates of this repository alone call it.
+#![tactic(auto)]
+
 ghost use Rattle.std.specs.Prelude.{◌≡◌, true, false, List, ℕ, ◌≤◌};
 ghost use Rattle.state_keys.specs.Limits.{limits};
 ghost use Rattle.wire_attributes.specs.Tree.{WrapKey};

@@ -1,6 +1,8 @@
 // Opens the copies of an announced SA (its SA_KEY attributes) under the keys that their KWK IDs name, in one pass. Each copy is opened at
 // most once. The schedule of key 0 is given; another key is expanded once for copies that name it one after the other.
 // Internal: crates of this repository alone call it.
+#![tactic(auto)]
+
 pub mod answer;
 pub mod ready;
 

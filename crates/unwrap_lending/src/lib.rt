@@ -1,6 +1,8 @@
 // Keys as they are lent to each search by Key ID: a list of Key IDs beside one block of octets. Each key has a place in the block, all of
 // one size. A frame's keys and the held keys are lent in two blocks.
 // Internal: crates of this repository alone call it.
+#![tactic(auto)]
+
 ghost use Rattle.std.specs.Prelude.{◌≡◌, true, cond, List, ℕ, ◌+◌, ◌*◌, ◌≤◌, ◌<◌, length, get_or};
 ghost use Rattle.state_keys.specs.Kinds.{value_of};
 ghost use Rattle.state_keys.specs.Limits.{limits};

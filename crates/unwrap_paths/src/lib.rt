@@ -1,5 +1,7 @@
 // The path by which a member's held list goes on: from the cells of a search to the places of its entries.
 // Internal: crates of this repository alone call it.
+#![tactic(auto)]
+
 pub mod back;
 pub mod held;
 pub mod levels;

@@ -1,6 +1,8 @@
 // Opens the keys of the SAs that a frame announces: the result is refusal 8 (of their copies), refusal 9, or the new SAs. Refusals 2 to 7
 // were judged before.
 // Internal: crates of this repository alone call it.
+#![tactic(auto)]
+
 pub mod joining;
 pub mod lifetime;
 

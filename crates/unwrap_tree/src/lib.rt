@@ -1,5 +1,7 @@
 // Finds the keys that the entries of a KD body reach, and the links between them, or refusal 8 of these entries.
 // Internal: crates of this repository alone call it.
+#![tactic(auto)]
+
 pub mod entries;
 pub mod held;
 pub mod source;

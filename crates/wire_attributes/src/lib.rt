@@ -1,5 +1,7 @@
 // Attributes (RFC 7296, section 3.3.5), and which of them are read where.
 // For customers: `attribute_value` and `attribute_in`. All else is internal.
+#![tactic(auto)]
+
 ghost use Rattle.std.specs.Prelude.{◌≡◌, ◌+◌, ◌<◌, length, drop};
 ghost use Rattle.wire_attributes.specs.Layout.{attribute, attributes};
 ghost use Rattle.wire_attributes.specs.Answers.{layout_of, spot_of, value_at, value_start, read_of};

@@ -1,5 +1,7 @@
 // Key bags of a KD payload (RFC 9838, section 4.5).
 // Internal: crates of this repository alone call it.
+#![tactic(auto)]
+
 ghost use Rattle.std.specs.Prelude.{◌≡◌, ◌+◌, ◌<◌, length};
 ghost use Rattle.wire_attributes.specs.Answers.{layout_of, spot_of};
 ghost use Rattle.wire_bags.specs.Bag.{place_of, bag, bags};

@@ -1,5 +1,7 @@
 // Opened frames: the IKE header, the chain of payloads and the Delete payload (RFC 7296, sections 3.1, 3.2 and 3.11).
 // For customers: `frame_layout` and `layout_with_profile`. All else is internal.
+#![tactic(auto)]
+
 ghost use Rattle.std.specs.Prelude.{◌≡◌, false, ◌+◌, ◌<◌, length};
 ghost use Rattle.wire_attributes.specs.Answers.{layout_of, spot_of};
 ghost use Rattle.wire_frames.specs.Delete.{delete_fits};

@@ -1,5 +1,7 @@
 // Policies of a GSA payload (RFC 9838, section 4.4): selectors, transforms, Group SA policies and group-wide policies.
 // Internal: crates of this repository alone call it.
+#![tactic(auto)]
+
 ghost use Rattle.std.specs.Prelude.{◌≡◌, true, ◌+◌, ◌<◌, length};
 ghost use Rattle.octets.specs.Walk.{be16, part};
 ghost use Rattle.wire_attributes.specs.Answers.{layout_of, spot_of};

@@ -1,5 +1,7 @@
 // Readers for the checks that follow refusal 1: they go again through a frame whose layout is whole.
 // Internal: crates of this repository alone call it.
+#![tactic(auto)]
+
 ghost use Rattle.std.specs.Prelude.{◌≡◌};
 ghost use Rattle.wire_readers.specs.inner.Values.{once};
 

@@ -6,6 +6,6 @@ use Rattle.aes.proofs.expand.Goals as goal
 
 pub expand_words-words-requires : goal.expand_words-words-requires
 expand_words-words-requires c = record {
-      at_in_bounds = (search rules, encipher-boxed c.requires.tables_value);
-      t = c.requires.t;
-    }
+  at_in_bounds = (search rules, encipher-boxed c.requires.tables_value);
+  t = c.requires.t;
+}

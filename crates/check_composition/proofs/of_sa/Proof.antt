@@ -36,12 +36,11 @@ part-suite-end : tie.Need-slice_bounds-suite-end
 part-suite-end c = search rules
 
 suite-requires : tie.Need-suite-u-requires
-suite-requires c κs =
-    (
-      c.requires.0.suite.transforms,
-      drop c.sa_parts-p.result.attributes c.args.o.now,
-      transforms-are (in_policy c.args.protocol) c.args.o.now c.requires.0 c.sa_parts-p.result (own c.before),
-    )
+suite-requires c κs = (
+  c.requires.0.suite.transforms,
+  drop c.sa_parts-p.result.attributes c.args.o.now,
+  transforms-are (in_policy c.args.protocol) c.args.o.now c.requires.0 c.sa_parts-p.result (own c.before),
+)
 
 in-policy-requires : tie.Need-in_policy-place-requires
 in-policy-requires c κs = search rules
@@ -56,12 +55,11 @@ part-numbers-of-end : tie.Need-slice_bounds-numbers_of-end
 part-numbers-of-end c = search rules
 
 numbers-of-requires : tie.Need-numbers_of-n-requires
-numbers-of-requires c κs =
-    (
-      refl,
-      attributes-whole c.args.protocol c.args.o.now c.requires.0 c.sa_parts-p.result (own c.before.before.before.before) c.in_policy-place.result
-          c.in_policy-place.ensures,
-    )
+numbers-of-requires c κs = (
+  refl,
+  attributes-whole c.args.protocol c.args.o.now c.requires.0 c.sa_parts-p.result (own c.before.before.before.before) c.in_policy-place.result
+      c.in_policy-place.ensures,
+)
 
 sub-numbers-of-2 : tie.Need-slice_bounds-numbers_of-count-2
 sub-numbers-of-2 c = (own c.before.before.before.before.before).inside
@@ -73,12 +71,11 @@ part-numbers-of-end-2 : tie.Need-slice_bounds-numbers_of-end-2
 part-numbers-of-end-2 c = search rules
 
 numbers-of-requires-2 : tie.Need-numbers_of-m-requires
-numbers-of-requires-2 c κs =
-    (
-      refl,
-      attributes-whole c.args.protocol c.args.o.now c.requires.0 c.sa_parts-p.result (own c.before.before.before.before.before.before) c.in_policy-place.result
-          c.in_policy-place.ensures,
-    )
+numbers-of-requires-2 c κs = (
+  refl,
+  attributes-whole c.args.protocol c.args.o.now c.requires.0 c.sa_parts-p.result (own c.before.before.before.before.before.before) c.in_policy-place.result
+      c.in_policy-place.ensures,
+)
 
 sub-is-group-address : tie.Need-slice_bounds-is_group_address-count
 sub-is-group-address c = (own c.before.before.before.before.before.before.before).order

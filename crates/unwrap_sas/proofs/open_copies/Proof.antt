@@ -30,13 +30,12 @@ part-copies-end : tie.Need-slice_bounds-copies-end
 part-copies-end c = (own c.before).inside
 
 copies-requires : tie.Need-copies-requires
-copies-requires c κs =
-    (
-      own-whole c.args.reads c.args.kd.now c.args.protocol c.args.spi.now c.bag_stretch-s.result (own c.before.before)
-          c.in_bag.result
-          c.in_bag.ensures,
-      (c.requires.1.1.0, (c.requires.1.1.1.0, c.requires.1.1.1.1)),
-    )
+copies-requires c κs = (
+  own-whole c.args.reads c.args.kd.now c.args.protocol c.args.spi.now c.bag_stretch-s.result (own c.before.before)
+      c.in_bag.result
+      c.in_bag.ensures,
+  (c.requires.1.1.0, (c.requires.1.1.1.0, c.requires.1.1.1.1)),
+)
 
 returns : tie.Need-returns
 returns c roots entries size f a o bags protocol spi need =

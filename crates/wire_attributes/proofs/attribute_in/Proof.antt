@@ -14,7 +14,7 @@ enum-known-short : tie.Need-enum_known-short
 enum-known-short c = search rules
 
 found : (c : tie.In-Attribute)
-    →     IsRead c.args.s.now c.in-Attribute.short c.in-Attribute.kind c.in-Attribute.start c.in-Attribute.end
+    → IsRead c.args.s.now c.in-Attribute.short c.in-Attribute.kind c.in-Attribute.start c.in-Attribute.end
 found c =
     read_is c.args.s.now c.in-Attribute.short c.in-Attribute.kind c.in-Attribute.start c.in-Attribute.end
     (sym c.in-Attribute.is ∙ c.read_attribute.ensures)

@@ -42,14 +42,14 @@ enum-known-start : tie.Need-enum_known-start
 enum-known-start c = search rules
 
 found : (c : tie.In-Attribute)
-    →     IsRead (drop c.args.at c.args.s.now) c.in-Attribute.short c.in-Attribute.kind c.in-Attribute.start c.in-Attribute.end
+    → IsRead (drop c.args.at c.args.s.now) c.in-Attribute.short c.in-Attribute.kind c.in-Attribute.start c.in-Attribute.end
 found c =
     read_is (drop c.args.at c.args.s.now) c.in-Attribute.short c.in-Attribute.kind c.in-Attribute.start c.in-Attribute.end
     (sym c.in-Attribute.is ∙ c.read_attribute.ensures ∙ ap read_of (to_end c.args.s.now
     c.args.at))
 
 inside : (c : tie.In-Attribute)
-    →     (c.in-Attribute.start ≤ c.in-Attribute.end) × (c.in-Attribute.end ≤ length (drop c.args.at
+    → (c.in-Attribute.start ≤ c.in-Attribute.end) × (c.in-Attribute.end ≤ length (drop c.args.at
     c.args.s.now)) × (4 ≤ c.in-Attribute.end)
 inside c =
     read-inside (drop c.args.at c.args.s.now) c.in-Attribute.short c.in-Attribute.kind c.in-Attribute.start c.in-Attribute.end (found c)
@@ -98,8 +98,7 @@ part-result-end-3 c = search rules
 
 returns-2 : tie.Need-returns-in-Attribute
 returns-2 c =
-    let a = c.args in
-    (
+    let a = c.args in (
       value_there a.s.now a.at c.in-Attribute.short c.in-Attribute.kind c.in-Attribute.start c.in-Attribute.end (found c.before),
       ap (λ (n : ℕ). (a.s.ref_ptr.0, n + a.s.ref_ptr.1))
           (starts-there a.s.now a.at c.in-Attribute.short c.in-Attribute.kind c.in-Attribute.start c.in-Attribute.end (found c.before)),

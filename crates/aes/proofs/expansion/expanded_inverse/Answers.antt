@@ -51,14 +51,13 @@ pub loop-j-smaller : goal.loop-j-smaller
 loop-j-smaller c = omega arith
 
 pub loop-j-preserved : goal.loop-j-preserved
-loop-j-preserved c =
-    (
-      c.loop-j.invariant.0,
-      c.loop-j.invariant.1,
-      omega arith,
-      more c.loop-j.invariant.3 (omega arith) c.inverse_word.ensures,
-      blank-more c.loop-j.k c.loop-j.j _ 61 c.loop-j.invariant.4,
-    )
+loop-j-preserved c = (
+  c.loop-j.invariant.0,
+  c.loop-j.invariant.1,
+  omega arith,
+  more c.loop-j.invariant.3 (omega arith) c.inverse_word.ensures,
+  blank-more c.loop-j.k c.loop-j.j _ 61 c.loop-j.invariant.4,
+)
 
 pub overflow_cast-k : goal.overflow_cast-k
 overflow_cast-k c = omega arith

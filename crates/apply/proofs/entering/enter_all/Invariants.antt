@@ -25,7 +25,7 @@ decreases-loop-j l = l.count - l.j
 abbrev pub invariant-loop-i : goal.invariant-loop-i
 invariant-loop-i l =
     (l.i ≤ l.n) × (l.n ≤ length l.new) × (length (take l.initial.count l.initial.sas) + l.n ≤ limits.sas) × (length l.sas ≡ limits.sas) × (l.count + l.i ≤ limits.sas)
-    × (record { l.sas = l.sas; l.count = l.count } ≡ table_of limits (insert_all (drop l.i (take l.n l.new)) (take l.initial.count l.initial.sas)))
+    × (record { sas = l.sas; count = l.count } ≡ table_of limits (insert_all (drop l.i (take l.n l.new)) (take l.initial.count l.initial.sas)))
 
 abbrev pub decreases-loop-i : goal.decreases-loop-i
 decreases-loop-i l = l.i

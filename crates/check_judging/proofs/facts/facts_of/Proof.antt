@@ -22,7 +22,7 @@ payload-facts-requires c κs = (c.args.profile, c.requires.0)
 
 -- the payloads of the frame that the octets are
 own : (c : tie.After-payload_facts-payloads)
-    →     OfFrame (c.args.profile && c.args.row.reads_fresh_keys) c.args.s.now
+    → OfFrame (c.args.profile && c.args.row.reads_fresh_keys) c.args.s.now
     (reads-to c.args.profile c.args.s.now c.requires.0).0 c.payload_facts-payloads.result
 own c =
     let a = c.args in

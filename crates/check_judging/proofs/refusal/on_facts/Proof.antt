@@ -30,7 +30,7 @@ returns-2 c =
 
 -- the bodies, where number 6 is asked
 own : (c : tie.After-k-1)
-    →     let a = c.args in
+    → let a = c.args in
     OfFrame (a.state.profile && a.row.reads_fresh_keys) a.s.now (reads-to a.state.profile a.s.now c.requires.1.0).0
     a.x.payloads
 own c =

@@ -5,17 +5,17 @@ use Rattle.check_judging.proofs.refusal.on_frame.Goals as goal
 
 pub facts_of-x-requires : goal.facts_of-x-requires
 facts_of-x-requires c = let p = c.requires in record {
-      s_value = p.1.0;
-      f_value = p.1.1;
-    }
+  s_value = p.1.0;
+  f_value = p.1.1;
+}
 
 pub on_facts-n-requires : goal.on_facts-n-requires
 on_facts-n-requires c = let p = c.requires in record {
-      count_le_sas = p.0;
-      s_value = p.1.0;
-      x_value = c.facts_of-x.ensures;
-      f_value = p.1.1;
-    }
+  count_le_sas = p.0;
+  s_value = p.1.0;
+  x_value = c.facts_of-x.ensures;
+  f_value = p.1.1;
+}
 
 pub returns-then-n-eq0 : goal.returns-then-n-eq0
 returns-then-n-eq0 c = λ f q.

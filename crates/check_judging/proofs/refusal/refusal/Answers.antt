@@ -45,8 +45,8 @@ on_frame-requires c =
       count_le_sas = few-sas limits a.state a.tick c.in-Header.exchange (take 16 s) n2;
       s_value = c.requires;
       f_value = (λ f q.
-            row_is limits a.state a.tick a.lent.now s f q c.in-Header.first c.in-Header.exchange c.in-Header.message_id e c.exchange_of.result
-            c.exchange_of.ensures);
+          row_is limits a.state a.tick a.lent.now s f q c.in-Header.first c.in-Header.exchange c.in-Header.message_id e c.exchange_of.result
+          c.exchange_of.ensures);
     }
 
 pub returns-else-number_3 : goal.returns-else-number_3

@@ -9,9 +9,9 @@ loop-at-init c = within-start c.requires
 
 pub advance-a-requires : goal.advance-a-requires
 advance-a-requires c = record {
-      ready = c.loop-at.invariant.ready;
-      from_in_bounds = c.loop-at-test.true;
-    }
+  ready = c.loop-at.invariant.ready;
+  from_in_bounds = c.loop-at-test.true;
+}
 
 pub loop-at-smaller : goal.loop-at-smaller
 loop-at-smaller c = omega (arith, c.advance-a.ensures.from_lt_next)

@@ -7,6 +7,6 @@ use Rattle.unwrap_copies.proofs.ready.key_zero.Goals as goal
 
 pub returns : goal.returns
 returns c = record {
-      by_index = (λ v new old x. record { known = λ q. (v, x, under-zero v new old); none = λ q. absurd (false≢true (sym q)) });
-      id_value = (refl, refl);
-    }
+  by_index = (λ v new old x. record { known = λ q. (v, x, under-zero v new old); none = λ q. absurd (false≢true (sym q)) });
+  id_value = (refl, refl);
+}

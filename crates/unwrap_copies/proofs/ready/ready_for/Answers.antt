@@ -14,9 +14,9 @@ use Rattle.unwrap_copies.proofs.ready.ready_for.Goals as goal
 
 pub returns-then-kwk-last : goal.returns-then-kwk-last
 returns-then-kwk-last c = record {
-      id_value = (sym c.if-kwk-last.true, c.requires.tables_value.2);
-      by_index = (λ v new old x lends k. k);
-    }
+  id_value = (sym c.if-kwk-last.true, c.requires.tables_value.2);
+  by_index = (λ v new old x lends k. k);
+}
 
 pub returns-then-kwk-eq0 : goal.returns-then-kwk-eq0
 returns-then-kwk-eq0 c =

@@ -62,12 +62,11 @@ part-transforms-end-end : tie.Need-slice_bounds-transforms_end-end
 part-transforms-end-end c = search rules
 
 transforms-end-requires : tie.Need-transforms_end-e-requires
-transforms-end-requires c κs =
-    (
-      c.requires.1.suite.transforms,
-      c.requires.2.tail,
-      transforms-are c.requires.0 c.args.s.now c.requires.1 c.requires.2 _ (first c.before) _ (second c.before),
-    )
+transforms-end-requires c κs = (
+  c.requires.1.suite.transforms,
+  c.requires.2.tail,
+  transforms-are c.requires.0 c.args.s.now c.requires.1 c.requires.2 _ (first c.before) _ (second c.before),
+)
 
 add-t8 : tie.Need-overflow_add-result
 add-t8 c = record { fits = omega (arith, there c.before.before, c.transforms_end-e.ensures.0) }

@@ -49,7 +49,7 @@ enum-known-kind : tie.Need-enum_known-kind invariant-loop decreases-loop
 enum-known-kind c = search rules
 
 read : (c : tie.In-Attribute invariant-loop decreases-loop)
-    →     let s = c.args.s.now in
+    → let s = c.args.s.now in
     IsRead (drop c.loop-at.at s) c.in-Attribute.short c.in-Attribute.kind c.in-Attribute.start c.in-Attribute.end
 read c =
     let s = c.args.s.now in
@@ -58,7 +58,7 @@ read c =
     (sym c.in-Attribute.is ∙ c.read_attribute.ensures ∙ ap read_of (to_end s at))
 
 inside : (c : tie.In-Attribute invariant-loop decreases-loop)
-    →     let s = c.args.s.now in
+    → let s = c.args.s.now in
     (0 < c.in-Attribute.end) × (c.loop-at.at + c.in-Attribute.end ≤ length s)
     × (c.in-Attribute.start ≤ c.in-Attribute.end)
 inside c =
