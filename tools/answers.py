@@ -346,10 +346,20 @@ def main():
         order = [a.strip("()") for a in spec[1].split() if a.strip("()") in declared]
         needs = [n[1] for n in of["needs"]]
         if len(order) != len(needs):
-            land = [n[0] for n in of["needs"]]
-            order2 = []
-            said.append(f"{path}: {len(order)} answers for {len(needs)} goals")
-            continue
+            # A goal that is no more has an answer that goes: the names of the older text tell which.
+            older = {d: plain(re.search(r"tie\.Need-(%s)" % NAME, declared[d][0])[1].replace("overflow-", "").replace("slice-bounds-", "part-").replace("offset-bounds", "offset")) for d in order}
+            wanted = [plain(n[0]) for n in of["needs"]]
+            fit, at = [], 0
+            for d in order:
+                if at < len(wanted) and (older[d] == wanted[at] or older[d].replace("part", "sliceaggregate") == wanted[at]):
+                    fit.append(d)
+                    at += 1
+                else:
+                    said.append(f"{path}: {d} ({older[d]}) is no goal now")
+            if len(fit) != len(wanted):
+                said.append(f"{path}: {len(order)} answers for {len(needs)} goals: {list(older.values())} {wanted}")
+                continue
+            order = fit
         goal_of = dict(zip(order, needs))
         old_of = dict(zip(order, (n[0] for n in of["needs"])))
         place_of = dict(zip(order, (a[0] for a in of["asked_at"])))

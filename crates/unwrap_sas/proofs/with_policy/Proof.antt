@@ -15,7 +15,7 @@ needs-requires c κs =
 
 -- the sizes of the parts that its transforms need
 sized : (c : tie.After-needs-n) → let s = c.args in
-    Sized c.protocol c.spi.now c.needs-n.result.encryption c.needs-n.result.wrapping
+    Sized s.protocol s.spi.now c.needs-n.result.encryption c.needs-n.result.wrapping
 sized c =
     let p = c.requires.1.1.1.1 in
     let h = p.2 in

@@ -22,7 +22,7 @@ pub returns-then-is_complete : goal.returns-then-is_complete
 returns-then-is_complete c =
     let x = c.complete in
     let g = c.gather_piece-gathered in
-    let o : Octets c.args.frame.now = λ i. (c.shared_slice_known-1.given i).ranges in
+    let o : Octets c.args.frame.now = λ i. (c.shared_slice_known-1.given i).fits in
     let e = g.ensures c.requires.write in
     let d = sym (c.is_complete.ensures (together o c.requires) (is-together o c.requires e)) ∙ c.if-is_complete.true in
     is-whole o c.requires d x.result _ (x.ensures (together o c.requires) (to-complete o c.requires e d))

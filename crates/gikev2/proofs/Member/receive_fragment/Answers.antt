@@ -17,7 +17,7 @@ is_not_for-requires c =
 pub returns-then-is_not_for : goal.returns-then-is_not_for
 returns-then-is_not_for c =
     let a = c.args in
-    let o : Octets a.frame.now = λ i. (c.shared_slice_known-1.given i).ranges in
+    let o : Octets a.frame.now = λ i. (c.shared_slice_known-1.given i).fits in
     given-as c.refuse_fragment.ensures
     (not-for a.self a.collection a.tick a.frame.now a.room.now o (sym c.is_fragment.ensures ∙ c.if-is_fragment.true)
     (sym c.is_not_for.ensures ∙ c.if-is_not_for.true))

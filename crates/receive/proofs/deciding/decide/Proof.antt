@@ -5,9 +5,8 @@ use Rattle.receive.proofs.deciding.decide.Statement.{statement}
 use Rattle.receive.proofs.deciding.decide.Tie as tie
 
 -- the payloads of the frame that is known to be there
-own : (c : tie.After-kd-1) → let b =
-    c.before.before.before.before.before in
-    OfFrame (reads_fresh c.args.state.profile c.pre.0.header.exchange) c.args.frame.now c.pre.0 c.args.x.payloads
+own : (c : tie.After-kd-1) →
+    OfFrame (reads_fresh c.args.state.profile c.requires.0.header.exchange) c.args.frame.now c.requires.0 c.args.x.payloads
 own c =
     let a = c.args in
     let p = c.requires in
