@@ -65,7 +65,7 @@ module _ {A : Type 0} {R : A → A → Type 0} where
     both-joined none s = s
     both-joined (next r t) s = next r (both-joined t s)
     both-joined (swapped {a} {b} {l = x}) s = then swapped (next (same b) (next (same a) (joined x s)))
-    both-joined {l} {m} {x} (then r t) s = then (both-joined r (as_is l)) (both-joined t s)
+    both-joined {l} {m} {x} (then r t) s = then (both-joined {l = l} {m = l} r (as_is l)) (both-joined {l = l} {m = m} t s)
 
 -- the same for a list of the same elements
 module _ {A : Type 0} (p : A → Bool) {l m : List A} (r : AnyOrder ◌≡◌ l m) where

@@ -57,7 +57,7 @@ returns-3 : tie.Need-returns-in-Kept
 returns-3 c =
     λ piece z.
     let a = c.args in
-    told-kept a.self a.f c.requires (sym c.in-Kept.is ∙ c.case-case.ensures) (long c.before.before.before.before.before) piece
+    told-kept a.self a.f c.requires (sym c.in-Kept.is ∙ c.case-case.ensures) (long c.before.before.before.before) piece
     c.frame_octets-octets.result a.size c.by_size-in-Kept.result c.frame_octets-octets.ensures z c.by_size-in-Kept.ensures
 
 pub place_spec : {M : Type 1} → statement M
