@@ -1,9 +1,4 @@
 pub mod AllSamples
-pub mod Apart
-pub mod Asking
-pub mod AskingSlice
-pub mod Showing
-pub mod ShowingAt
 pub mod KindLaws
 pub mod AttributeLaws
 pub mod TransformLaws

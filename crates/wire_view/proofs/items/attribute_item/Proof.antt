@@ -16,7 +16,7 @@ enum-known-short c = search rules
 
 -- what was read
 read : (c : tie.In-Attribute)
-    →     IsRead c.args.s.now c.in-Attribute.short c.in-Attribute.kind c.in-Attribute.start c.in-Attribute.end
+    → IsRead c.args.s.now c.in-Attribute.short c.in-Attribute.kind c.in-Attribute.start c.in-Attribute.end
 read c =
     read_is c.args.s.now c.in-Attribute.short c.in-Attribute.kind c.in-Attribute.start c.in-Attribute.end
     (sym c.in-Attribute.is ∙ c.read_attribute.ensures)

@@ -15,4 +15,4 @@ pub returns : goal.returns
 returns c =
     let a = c.args in
     let v = c.value_of-v in
-    c.be16_at.ensures.0 ∙ key-is a.place a.s.now v.result.now v.ensures.0.0
+    c.be16_at.ensures.0 ∙ key-is a.place a.s.now v.result.now v.ensures.result_value.0
