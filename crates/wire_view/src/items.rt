@@ -17,7 +17,7 @@ use wire_attributes::Read;
 use wire_attributes::tables::{Meaning, Place};
 
 // A selector, a transform or an attribute of a policy. Offsets count from the policy's first octet.
-#[derive(Drop)]
+#[derive(Clone, Copy)]
 pub enum Item {
     // the type, the IP protocol and the ports; the starting and then the ending address stand from `start` to `end`
     Selector {

@@ -1,7 +1,6 @@
 // Shows a policy of a GSA payload where it stands in the frame. A view holds the policy's octets and a cursor. The cursor says what comes
-// next and at which offset, so a step reads that and the policy's head alone; only the first step reads the whole policy. The borrow
-// checker covers no function over a struct that holds a reference, so each function here takes the view apart and leaves the work to
-// `read`.
+// next and at which offset, so a step reads that and the policy's head alone; only the first step reads the whole policy. Each function
+// here takes the view apart and leaves the work to `read`.
 // For customers: the calls of this file. All else is internal.
 ghost use Rattle.std.specs.Prelude.{◌≡◌, ◌+◌};
 ghost use Rattle.wire_view.specs.View.{first_octet, octet_of, shown_kind, shown_spi, spi_start, is_at_end, next_after, item_at, step_at};
@@ -10,7 +9,7 @@ pub mod items;
 pub mod read;
 
 // A view of a policy: the policy's octets `src`, and the cursor `at`.
-#[derive(Drop)]
+#[derive(Clone, Copy)]
 pub struct View<'a> {
     pub src: &'a [u8],
     pub at: usize,

@@ -11,7 +11,7 @@ use wire_attributes::Spot;
 use wire_attributes::tables::Place;
 
 // A Group SA policy by its protocol (6 Rekey, 3 ESP, 2 AH), a group-wide policy, or no policy.
-#[derive(Drop)]
+#[derive(Clone, Copy)]
 pub enum Kind {
     GroupSa(usize),
     GroupWide,
@@ -58,7 +58,7 @@ pub fn spi_of(s: &[u8]) -> &[u8]
 }
 
 // What stands at a cursor, and the cursor behind it.
-#[derive(Drop)]
+#[derive(Clone, Copy)]
 pub struct Step {
     pub item: Item,
     pub next: usize,
