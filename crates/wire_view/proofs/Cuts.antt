@@ -1,6 +1,6 @@
 -- THE OFFSETS THAT A VIEW SHOWS CUT THE VALUES OUT OF THE POLICY: of octets that are one policy, the stretch of each shown selector is its
 -- starting and then its ending address, and that of each shown attribute is the attribute's value.
-use Prim.Native.Nat.{ℕ, ◌+◌, ◌-◌, ◌<◌, ◌≤◌}
+use Prim.Native.Nat.{ℕ, ◌+◌, ◌-◌, ◌≤◌}
 use mathlib.Core.Path.{◌≡◌, refl, ap, sym, ◌∙◌}
 use mathlib.Core.List.{List, [], ◌∷◌, ◌++◌, map, append_assoc, append-nil}
 use mathlib.Core.Bool.{Bool, cond}
@@ -10,15 +10,14 @@ use lib.Seq.{drop-drop, take-append_seam, drop-append_seam, drop-append-le}
 use Rattle.octets.specs.Walk.{part, Spans, none, more, Row, no-more, then, whole}
 use Rattle.wire_attributes.specs.Attribute.{Attribute, lead_of}
 use Rattle.wire_attributes.specs.Place.{in_policy}
-use Rattle.wire_attributes.specs.Grammar.{Format, in-short, in-long, IsAttribute, Attributes}
+use Rattle.wire_attributes.specs.Grammar.{Format, in-short, in-long, IsAttribute}
 use Rattle.wire_attributes.specs.declared.tables.Place.{Place}
-use Rattle.wire_attributes.specs.declared.tables.Place.TheVariants as place
 use Rattle.wire_policies.specs.Selector.{Selector, address_size, selector_size}
 use Rattle.wire_policies.specs.Transform.{Transform, no_more}
 use Rattle.wire_policies.specs.Policy.{spi_size, GroupSaPolicy, GroupWidePolicy, Policy, group_sa, group_wide, SaBody, policy}
 use Rattle.wire_policies.specs.Grammar.{IsSelector, IsTransform, IsSaBody, IsGroupSa, IsGroupWide, IsPolicy, is-sa, is_wide}
 use Rattle.wire_policies.proofs.PolicyGrammar.{complete}
-use Rattle.wire_view.specs.View.{attributes_span, shown_selector, shown_transform, shown_attributes, shown_body, shown_items}
+use Rattle.wire_view.specs.View.{attributes_span, shown_transform, shown_attributes, shown_body, shown_items}
 use Rattle.wire_view.specs.declared.items.Item.{Item}
 use Rattle.wire_view.specs.declared.items.Item.TheVariants as item
 use Rattle.wire_view.proofs.AttributeLaws.{of_format, row-octets}

@@ -2,6 +2,8 @@
 // next and at which offset, so a step reads that and the policy's head alone; only the first step reads the whole policy. Each function
 // here takes the view apart and leaves the work to `read`.
 // For customers: the calls of this file. All else is internal.
+#![tactic(auto)]
+
 ghost use Rattle.std.specs.Prelude.{◌≡◌, ◌+◌};
 ghost use Rattle.wire_view.specs.View.{first_octet, octet_of, shown_kind, shown_spi, spi_start, is_at_end, next_after, item_at, step_at};
 

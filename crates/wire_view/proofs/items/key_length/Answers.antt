@@ -1,6 +1,5 @@
 use mathlib.Core.Path.{◌∙◌}
 use Rattle.wire_view.proofs.TransformLaws.{key-there, key-is, key-none}
-use borrow.Author.Rules.{rules}
 use Rattle.wire_view.proofs.items.key_length.Goals as goal
 
 pub returns-then-v-eq0 : goal.returns-then-v-eq0

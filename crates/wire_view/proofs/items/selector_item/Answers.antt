@@ -1,6 +1,5 @@
 use native.Mathlib.Omega.{arith}
 use Rattle.wire_view.proofs.SelectorLaws.{selector-room, selector-is}
-use borrow.Author.Rules.{rules}
 use Rattle.wire_view.proofs.items.selector_item.Goals as goal
 
 pub bounds-s-1 : goal.bounds-s-1

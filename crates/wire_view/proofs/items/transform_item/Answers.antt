@@ -1,5 +1,4 @@
 use Rattle.wire_view.proofs.TransformLaws.{held, shown-is}
-use borrow.Author.Rules.{rules}
 use Rattle.wire_view.proofs.items.transform_item.Goals as goal
 
 pub count_of-requires : goal.count_of-requires

@@ -2,7 +2,6 @@ use mathlib.Core.Path.{ap, sym, ◌∙◌}
 use Prim.Native.Nat.{ℕ, ◌+◌}
 use Rattle.wire_view.specs.View.{at_destination, selector_step}
 use Rattle.wire_view.proofs.KindLaws.{of-sa, of-wide, of_none}
-use borrow.Author.Rules.{rules}
 use Rattle.wire_view.proofs.read.first_step.Goals as goal
 
 pub returns-in-GroupSa : goal.returns-in-GroupSa

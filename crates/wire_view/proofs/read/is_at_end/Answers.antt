@@ -1,6 +1,5 @@
 use mathlib.Core.Path.{ap, sym, ◌∙◌}
 use Rattle.wire_view.specs.View.{is_nothing}
-use borrow.Author.Rules.{rules}
 use Rattle.wire_view.proofs.read.is_at_end.Goals as goal
 
 pub returns-in-Selector : goal.returns-in-Selector

@@ -1,6 +1,5 @@
 use mathlib.Core.Path.{sym, ◌∙◌}
 use Rattle.wire_view.proofs.KindLaws.{too_short, other-size, breaks, wide, sa, told}
-use borrow.Author.Rules.{rules}
 use Rattle.wire_view.proofs.read.kind_of.Goals as goal
 
 pub returns-then-s-lt-POLICY_HEAD : goal.returns-then-s-lt-POLICY_HEAD

@@ -1,6 +1,5 @@
 use mathlib.Core.Path.{ap}
 use Rattle.wire_view.specs.declared.read.Step.{Step}
-use borrow.Author.Rules.{rules}
 use Rattle.wire_view.proofs.read.next_after.Goals as goal
 
 pub returns : goal.returns

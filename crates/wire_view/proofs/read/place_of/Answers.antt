@@ -1,6 +1,5 @@
 use mathlib.Core.Path.{◌∙◌}
 use Rattle.wire_view.proofs.StepLaws.{place-wide, place-sa}
-use borrow.Author.Rules.{rules}
 use Rattle.wire_view.proofs.read.place_of.Goals as goal
 
 pub returns-then-p-eq-NO_PROTOCOL : goal.returns-then-p-eq-NO_PROTOCOL

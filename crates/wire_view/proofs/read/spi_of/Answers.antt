@@ -3,7 +3,6 @@ use mathlib.Core.Path.{ap, sym, ◌∙◌}
 use Prim.Native.Nat.{ℕ, ◌+◌}
 use Rattle.octets.specs.Walk.{part}
 use Rattle.wire_view.proofs.KindLaws.{of-sa, of-wide, of_none}
-use borrow.Author.Rules.{rules}
 use Rattle.wire_view.proofs.read.spi_of.Goals as goal
 
 pub slice_bounds-result-end : goal.slice_bounds-result-end

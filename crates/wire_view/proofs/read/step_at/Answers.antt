@@ -1,6 +1,5 @@
 use mathlib.Core.Path.{◌∙◌}
 use Rattle.wire_view.proofs.StepLaws.{too_short, other-size, whole-size}
-use borrow.Author.Rules.{rules}
 use Rattle.wire_view.proofs.read.step_at.Goals as goal
 
 pub returns-then-s-lt-POLICY_HEAD : goal.returns-then-s-lt-POLICY_HEAD

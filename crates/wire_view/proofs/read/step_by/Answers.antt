@@ -1,6 +1,5 @@
 use mathlib.Core.Path.{◌∙◌}
 use Rattle.wire_view.proofs.StepLaws.{by_first, by-destination, by-transform, by-attribute}
-use borrow.Author.Rules.{rules}
 use Rattle.wire_view.proofs.read.step_by.Goals as goal
 
 pub returns-then-comes-eq0 : goal.returns-then-comes-eq0
