@@ -33,7 +33,7 @@ pub const INVERSE_TABLE_WORDS: usize = 768;
 pub const SCHEDULE_WORDS: usize = 61;
 
 // The state: a word for each column, the first octet highest.
-#[derive(Drop)]
+#[derive(Clone, Copy)]
 pub struct AesState {
     pub a: u32,
     pub b: u32,
@@ -49,7 +49,7 @@ pub struct Pair {
 }
 
 // The schedule for `encrypt`: the words of the round keys, zeros behind them, and the number of rounds at index 60.
-#[derive(Drop)]
+#[derive(Clone, Copy)]
 pub struct Schedule {
     pub words: [u32; SCHEDULE_WORDS],
 }

@@ -49,7 +49,7 @@ pub struct BagFacts {
 
 // The facts of a KD body: those of its bags, and where the attributes of the first Member Key Bag stand in it. The stretch is empty if
 // there is no such bag. If there are several, number 4 applies.
-#[derive(Drop)]
+#[derive(Clone, Copy)]
 pub struct KdFacts {
     pub bags: BagFacts,
     pub member_bag: Stretch,

@@ -11,7 +11,7 @@ use wire_readers::values::{ValueFound, next_attribute};
 
 // The facts of the wrapped keys of one bag: how many there are; some key has a Key ID (`named`), has none (`unnamed`), has a KWK ID, where
 // an ID of 0 counts as none; the two IDs of some key are equal, be they 0 or not (`itself`).
-#[derive(Drop)]
+#[derive(Clone, Copy)]
 pub struct KeyFacts {
     pub keys: usize,
     pub named: bool,

@@ -10,7 +10,7 @@ use wire_attributes::tables::{Meaning, Place};
 use wire_readers::values::{ValueFound, next_attribute};
 
 // How many numbers the attributes of one meaning give, and the greatest of them, or 0 if there is none.
-#[derive(Drop)]
+#[derive(Clone, Copy)]
 pub struct Numbers {
     pub count: usize,
     pub greatest: u32,

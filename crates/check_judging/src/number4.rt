@@ -7,7 +7,7 @@ use crate::facts::Facts;
 use wire_frames::exchanges::Exchange;
 
 // Whether each clause of number 4 applies, in the order of documents 01 and 02.
-#[derive(Drop)]
+#[derive(Clone, Copy)]
 pub struct Clauses4 {
     pub critical: bool,
     pub member_bag: bool,

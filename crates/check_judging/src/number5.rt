@@ -8,7 +8,7 @@ use state_keys::kinds::WrappingKey;
 use wire_frames::exchanges::Exchange;
 
 // Whether each clause of number 5 applies, in the order of document 01.
-#[derive(Drop)]
+#[derive(Clone, Copy)]
 pub struct Clauses5 {
     pub ah_policy: bool,
     pub ah_bag: bool,

@@ -13,7 +13,7 @@ use state_table::Table;
 use wire_frames::exchanges::Exchange;
 
 // Whether each clause of number 6 on the keys of the bags applies, in the order of document 01, T-09 and T-11.
-#[derive(Drop)]
+#[derive(Clone, Copy)]
 pub struct Keys {
     pub count: bool,
     pub named: bool,

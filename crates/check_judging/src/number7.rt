@@ -18,7 +18,7 @@ fn is_over(standing: usize, more: usize) -> bool
 }
 
 // Whether each clause of number 7 applies: those on the frame, then the one on the table.
-#[derive(Drop)]
+#[derive(Clone, Copy)]
 pub struct Clauses7 {
     pub esps: bool,
     pub wraps: bool,

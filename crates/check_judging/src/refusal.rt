@@ -21,7 +21,7 @@ use wire_frames::HeaderRead;
 use wire_frames::exchanges::{Exchange, exchange_of};
 
 // The first number that applies or, if none does, the facts of the frame for the steps that follow.
-#[derive(Drop)]
+#[derive(Clone, Copy)]
 pub enum Verdict {
     Refused(usize),
     Passed(Facts),

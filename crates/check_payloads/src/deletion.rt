@@ -6,7 +6,7 @@ ghost use Rattle.check_payloads.specs.inner.Deletion.{DeleteIs, with_one, delete
 use ikev2_numbers::{DELETE, DELETE_COUNT_AT, DELETE_HEAD, ESP};
 
 // The fields of a Delete payload's body: its protocol, the size of each SPI in octets, the number of SPIs.
-#[derive(Drop)]
+#[derive(Clone, Copy)]
 pub struct DeleteParts {
     pub protocol: usize,
     pub size: usize,

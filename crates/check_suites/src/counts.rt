@@ -26,14 +26,14 @@ pub struct SuiteCounts {
 }
 
 // The keying octets that transforms need for encryption and for key wrap.
-#[derive(Drop)]
+#[derive(Clone, Copy)]
 pub struct Needs {
     pub encryption: usize,
     pub wrapping: usize,
 }
 
 // A transform type and two IDs in it, either of which is fit.
-#[derive(Drop)]
+#[derive(Clone, Copy)]
 pub struct EitherId {
     pub kind: usize,
     pub one: usize,

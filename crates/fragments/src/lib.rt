@@ -39,7 +39,7 @@ pub struct Collection {
 }
 
 // What becomes of a fragment by its names: the collection starts anew with it, it is passed over, or it is kept beside the others.
-#[derive(Drop)]
+#[derive(Clone, Copy)]
 pub enum Case {
     Anew,
     PassedOver,
@@ -48,7 +48,7 @@ pub enum Case {
 
 // What becomes of a fragment by its names and by how many octets were sealed in it: it is passed over, the frame would have too many
 // octets, or it is put to so many of the kept pieces: to none, where the collection starts anew.
-#[derive(Drop)]
+#[derive(Clone, Copy)]
 pub enum Placed {
     Passed,
     TooLong,

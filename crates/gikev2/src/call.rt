@@ -83,7 +83,7 @@ impl Answer {
 }
 
 // The answer and the next member. On a refusal that is the member as it was.
-#[derive(Drop)]
+#[derive(Clone, Copy)]
 pub struct Received {
     pub answer: Answer,
     pub member: Member,

@@ -22,7 +22,7 @@ use sealing::fragment::{is_fragment, piece_length, write_piece};
 use state_keys::kinds::EncryptionKey;
 
 // What becomes of a fragment.
-#[derive(Drop)]
+#[derive(Clone, Copy)]
 pub enum FragmentAnswer {
     // refused; member, room and collection are as they were
     Refused(Answer),
@@ -35,7 +35,7 @@ pub enum FragmentAnswer {
 }
 
 // The answer, the next member and the next collection.
-#[derive(Drop)]
+#[derive(Clone, Copy)]
 pub struct Gathered {
     pub answer: FragmentAnswer,
     pub member: Member,

@@ -20,7 +20,7 @@ pub struct Member {
 
 // The answer of `Member::sa`: whether the member has the SA and, if so, its keying octets, the octet counts of their two parts (of a Rekey
 // SA), its condition and its lifetime. All else is blank.
-#[derive(Drop)]
+#[derive(Clone, Copy)]
 pub struct SaAnswer {
     pub found: bool,
     pub octets: [u8; SA_OCTETS],

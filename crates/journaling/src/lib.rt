@@ -23,7 +23,7 @@ use ikev2_numbers::{EXCHANGE_AT, GSA_REKEY};
 pub const LINE_ROOM: usize = 32843;
 
 // What became of a journaled step.
-#[derive(Drop)]
+#[derive(Clone, Copy)]
 pub enum JournalEntry {
     // a line of so many octets stands at the room's start, and the member took the step
     Written(usize),
@@ -34,7 +34,7 @@ pub enum JournalEntry {
 }
 
 // The entry and the next member. Store the line before you use the member.
-#[derive(Drop)]
+#[derive(Clone, Copy)]
 pub struct Journaled {
     pub entry: JournalEntry,
     pub member: Member,
@@ -153,7 +153,7 @@ pub fn leave(member: Member, room: &mut [u8]) -> Journaled
 }
 
 // A journal read back: the member, and the number of the line that stopped the reading, from 1, or 0 if none did.
-#[derive(Drop)]
+#[derive(Clone, Copy)]
 pub struct Replayed {
     pub member: Member,
     pub line: usize,

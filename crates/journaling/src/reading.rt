@@ -24,7 +24,7 @@ pub struct ReaderPlace {
 }
 
 // A reader of a journal. It is a value: `feed` takes it and gives back the next one.
-#[derive(Drop)]
+#[derive(Clone, Copy)]
 pub struct JournalReader {
     pub place: ReaderPlace,
     pub line: [u8; KEPT],
@@ -46,7 +46,7 @@ pub fn begin(profile: bool) -> JournalReader
 }
 
 // Where a reader stands after some octets of a block, and the place behind these (`next`).
-#[derive(Drop)]
+#[derive(Clone, Copy)]
 pub struct Advanced {
     pub place: ReaderPlace,
     pub next: usize,

@@ -22,7 +22,7 @@ pub(crate) const LONGEST_OCTETS: usize = 16643;
 pub(crate) const LONGEST_DIGITS: usize = 33286;
 
 // The next member, and whether the line was taken. If not, that is the member as it was.
-#[derive(Drop)]
+#[derive(Clone, Copy)]
 pub struct LineTaken {
     pub member: Member,
     pub taken: bool,

@@ -22,14 +22,14 @@ use aes::{INVERSE_TABLE_WORDS, InverseSchedule, SCHEDULE_WORDS};
 use sizes::{KEY_128, KEY_192, KEY_256, LEAST_WRAPPED, MOST_OCTETS, MOST_WRAPPED, REGISTERS};
 
 // The answer of `wrap` and `open`: document 01's "no", or the count of octets written at the room's start.
-#[derive(Drop)]
+#[derive(Clone, Copy)]
 pub enum WrapAnswer {
     No,
     Count(usize),
 }
 
 // The answer of `open_under`: `answer` as `open` gives it, and in `octets` the opened octets with zeros behind them (zeros alone for `No`).
-#[derive(Drop)]
+#[derive(Clone, Copy)]
 pub struct Opened {
     pub answer: WrapAnswer,
     pub octets: [u8; MOST_OCTETS],

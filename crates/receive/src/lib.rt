@@ -25,7 +25,7 @@ use unwrap_sas::joining::SasFound;
 use wire_frames::exchanges::{Exchange, exchange_of};
 
 // The number of the answer (0 for acceptance) and the next state. On a refusal that is the state as it was.
-#[derive(Drop)]
+#[derive(Clone, Copy)]
 pub struct Next {
     pub number: usize,
     pub state: State,

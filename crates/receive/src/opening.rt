@@ -30,7 +30,7 @@ use wire_readers::Stretch;
 // Whether refusal 8 holds of the frame's entries. If it does not: the result for its SAs. If each SA has its key: whether the held list
 // after acceptance would be over its limit (refusal 7), and if not, that list. Here and in what it holds arrays stand before flags: behind
 // a flag the compiler gives an array that is handed on more room.
-#[derive(Drop)]
+#[derive(Clone, Copy)]
 pub struct KeysFound {
     pub keyed: Keyed,
     pub held: Held,

@@ -25,7 +25,7 @@ use state_keys::kinds::EncryptionKey;
 use writing::write_opened;
 
 // Whether a sealed frame was opened: the octets of the opened frame, or not.
-#[derive(Drop)]
+#[derive(Clone, Copy)]
 pub enum Unsealed {
     No,
     Count(usize),

@@ -15,7 +15,7 @@ pub struct AlgorithmRow {
 }
 
 // The octets that a transform needs, or `Nothing` for a transform that is not in the table.
-#[derive(Drop)]
+#[derive(Clone, Copy)]
 pub enum Needed {
     Octets(usize),
     Nothing,

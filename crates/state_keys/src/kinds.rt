@@ -14,7 +14,7 @@ pub struct WrappingKey {
 }
 
 // The keying octets of an ESP SA: 20, 28 or 36 octets.
-#[derive(Drop)]
+#[derive(Clone, Copy)]
 pub struct EspKey {
     pub octets: [u8; ENCRYPTION_KEY],
     pub count: usize,
@@ -28,7 +28,7 @@ pub struct EncryptionKey {
 }
 
 // The keying octets of a Rekey SA with the octet counts of their two parts, GSK_e and then GSK_w.
-#[derive(Drop)]
+#[derive(Clone, Copy)]
 pub struct RekeyKey {
     pub octets: [u8; SA_OCTETS],
     pub encryption: usize,
@@ -36,28 +36,28 @@ pub struct RekeyKey {
 }
 
 // The answer of `WrappingKey::new`: whether the octets fit this kind, and the key, blank where they do not.
-#[derive(Drop)]
+#[derive(Clone, Copy)]
 pub struct MadeWrapping {
     pub fits: bool,
     pub key: WrappingKey,
 }
 
 // The answer of `EspKey::new`, likewise.
-#[derive(Drop)]
+#[derive(Clone, Copy)]
 pub struct MadeEsp {
     pub fits: bool,
     pub key: EspKey,
 }
 
 // The answer of `EncryptionKey::new`, likewise.
-#[derive(Drop)]
+#[derive(Clone, Copy)]
 pub struct MadeEncryption {
     pub fits: bool,
     pub key: EncryptionKey,
 }
 
 // The answer of `RekeyKey::new`, likewise.
-#[derive(Drop)]
+#[derive(Clone, Copy)]
 pub struct MadeRekey {
     pub fits: bool,
     pub key: RekeyKey,

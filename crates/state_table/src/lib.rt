@@ -20,7 +20,7 @@ pub struct Table {
 }
 
 // The answer to a search: the SA, or `found` false and a blank SA.
-#[derive(Drop)]
+#[derive(Clone, Copy)]
 pub struct SaFound {
     pub found: bool,
     pub sa: Sa,

@@ -23,7 +23,7 @@ pub enum CopyFound {
 }
 
 // The result of opening copies. With `Key`, the value is the first `count` of `octets`, with blanks behind it.
-#[derive(Drop)]
+#[derive(Clone, Copy)]
 pub struct CopyOpened {
     pub found: CopyFound,
     pub octets: [u8; SA_OCTETS],
@@ -38,7 +38,7 @@ pub struct Openers {
 }
 
 // The result of opening all copies of an SA's key, and the KWK IDs of those that opened.
-#[derive(Drop)]
+#[derive(Clone, Copy)]
 pub struct Copied {
     pub opened: CopyOpened,
     pub openers: Openers,

@@ -7,7 +7,7 @@ use crate::levels::Found;
 use state_keys::limits::WRAP_KEYS;
 
 // The entry that was picked, if any, and its KWK ID.
-#[derive(Drop)]
+#[derive(Clone, Copy)]
 pub struct Pick {
     pub some: bool,
     pub at: usize,

@@ -18,7 +18,7 @@ use state::held::{Held, HeldKey};
 use state_keys::limits::HELD_KEYS;
 
 // The list that a path leaves. `over` says that it has more keys than a held list may have; `held` is then the old list.
-#[derive(Drop)]
+#[derive(Clone, Copy)]
 pub struct PathHeld {
     pub held: Held,
     pub over: bool,

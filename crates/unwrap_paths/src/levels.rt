@@ -17,13 +17,13 @@ pub const OPENED: u8 = 1;
 pub const OPENED_FIRST: u8 = 2;
 
 // The lowest level that was found, 0 if none was, and where.
-#[derive(Drop)]
+#[derive(Clone, Copy)]
 pub struct Low {
     pub level: usize,
     pub at: usize,
 }
 
-#[derive(Drop)]
+#[derive(Clone, Copy)]
 pub enum Found {
     At(usize),
     Nothing,

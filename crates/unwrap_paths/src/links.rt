@@ -34,7 +34,7 @@ impl Links {
 }
 
 // Key IDs, KWK IDs and marks of the entries, by their places.
-#[derive(Drop)]
+#[derive(Clone, Copy)]
 pub struct LinkNumbers {
     pub ids: [u32; WRAP_KEYS],
     pub kwks: [u32; WRAP_KEYS],

@@ -7,7 +7,7 @@ use crate::back::level_of;
 use crate::links::Links;
 
 // The Key ID of a key and its level: the number of entries on the way back from it.
-#[derive(Drop)]
+#[derive(Clone, Copy)]
 pub struct Nearest {
     pub kwk: u32,
     pub level: usize,

@@ -19,7 +19,7 @@ pub const NEW_SAS: usize = ESP_POLICIES + 1;
 
 // `KeyConflict`: refusal 8 holds of the copies of some SA. `KeyMissing`: it holds of none, but some SA has no copy that opens (refusal 9).
 // `Keys`: each SA has its key.
-#[derive(Drop)]
+#[derive(Clone, Copy)]
 pub enum SasFound {
     KeyConflict,
     KeyMissing,
@@ -28,7 +28,7 @@ pub enum SasFound {
 
 // The result for all SAs that a frame announces. With `Keys`, the new SAs are the first `count` of `sas`, and `openers` are the KWK IDs of
 // the copies of the Rekey SA's key that open.
-#[derive(Drop)]
+#[derive(Clone, Copy)]
 pub struct Keyed {
     pub sas: [Sa; NEW_SAS],
     pub count: usize,
@@ -37,7 +37,7 @@ pub struct Keyed {
 }
 
 // The result for one SA. With `Key`, `sa` is the SA and `openers` are the KWK IDs of its copies that open; else `sa` is blank.
-#[derive(Drop)]
+#[derive(Clone, Copy)]
 pub struct One {
     pub found: unwrap_copies::answer::CopyFound,
     pub sa: Sa,

@@ -22,7 +22,7 @@ use state_keys::limits::WRAP_KEYS;
 use unwrap_lending::value_at;
 
 // The place of a pending cell, or `Nothing` if no cell is pending.
-#[derive(Drop)]
+#[derive(Clone, Copy)]
 pub enum PendingFound {
     At(usize),
     Nothing,

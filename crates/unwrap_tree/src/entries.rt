@@ -16,7 +16,7 @@ use wire_readers::Stretch;
 use wire_readers::values::{ValueFound, next_attribute};
 
 // A list of entries: the first `count` of `places`.
-#[derive(Drop)]
+#[derive(Clone, Copy)]
 pub struct Listing {
     pub places: [Entry; WRAP_KEYS],
     pub count: usize,

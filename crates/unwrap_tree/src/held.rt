@@ -19,7 +19,7 @@ use unwrap_search::open::{Cell, Entry};
 
 // Whether refusal 8 holds of the entries. If it does not: the keys that they reach, and the links of the entries, which the working key
 // path is read off. With a conflict the list is empty.
-#[derive(Drop)]
+#[derive(Clone, Copy)]
 pub struct ReachedKeys {
     pub held: Held,
     pub links: Links,

@@ -15,7 +15,7 @@ use wire_readers::policy::policy_parts;
 
 // Where entries stand: those attributes that mean `meaning` in the bag of the place `place`, whose attributes are the stretch `bag` of the
 // KD body. `some` is false if the frame has no entry.
-#[derive(Drop)]
+#[derive(Clone, Copy)]
 pub struct Source {
     pub some: bool,
     pub bag: Stretch,

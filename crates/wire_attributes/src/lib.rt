@@ -11,7 +11,7 @@ use ikev2_numbers::{ATTRIBUTE_HEAD, FORMAT_BIT, SHORT_ATTRIBUTE, SHORT_HEAD};
 pub mod tables;
 
 // The result of checking a stretch of octets: its layout is whole, or broken, with the offset of the structure that broke first.
-#[derive(Drop)]
+#[derive(Clone, Copy)]
 pub enum Layout {
     Whole,
     Broken(usize),
@@ -19,14 +19,14 @@ pub enum Layout {
 
 // The result of reading what some octets start with: where it ends, counted from the first of them, or the offset of the structure that
 // broke first.
-#[derive(Drop)]
+#[derive(Clone, Copy)]
 pub enum Spot {
     Ends(usize),
     Broken(usize),
 }
 
 // An attribute: whether it has the short format (TV), its type, where its value starts and where it ends; or one cut short.
-#[derive(Drop)]
+#[derive(Clone, Copy)]
 pub enum Read {
     Attribute {
         short: bool,

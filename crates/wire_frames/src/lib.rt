@@ -20,7 +20,7 @@ use wire_attributes::{Layout, Spot};
 pub mod exchanges;
 
 // An IKE header: the type of the first payload, the exchange type and the Message ID; or a broken one.
-#[derive(Drop)]
+#[derive(Clone, Copy)]
 pub enum HeaderRead {
     Header {
         first: usize,
@@ -55,7 +55,7 @@ pub fn read_header(s: &[u8]) -> HeaderRead
 }
 
 // A generic payload header: the type of the next payload, the critical bit, where the payload ends; or a broken one.
-#[derive(Drop)]
+#[derive(Clone, Copy)]
 pub enum PayloadRead {
     Payload {
         next: usize,

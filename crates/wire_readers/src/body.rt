@@ -9,7 +9,7 @@ ghost use Rattle.wire_readers.specs.inner.Bodies.{TransformIs, SaPartsAre};
 use ikev2_numbers::{MORE_TRANSFORMS, STRUCTURE_LENGTH_AT, TRANSFORM_ID_AT, TRANSFORM_TYPE_AT};
 
 // A transform: its type, its ID, whether another follows, where it ends. Its attributes start at its octet 8.
-#[derive(Drop)]
+#[derive(Clone, Copy)]
 pub struct TransformParts {
     pub kind: usize,
     pub id: usize,
@@ -18,7 +18,7 @@ pub struct TransformParts {
 }
 
 // Where the destination selector, the transforms and the attributes start, counted from the source selector.
-#[derive(Drop)]
+#[derive(Clone, Copy)]
 pub struct SaParts {
     pub destination: usize,
     pub transforms: usize,

@@ -7,7 +7,7 @@ ghost use Rattle.wire_readers.specs.inner.Payloads.{PayloadIs};
 use ikev2_numbers::{CRITICAL, STRUCTURE_LENGTH_AT};
 
 // A payload: the type of the next one, its critical bit, where it ends. Its body starts behind its header.
-#[derive(Drop)]
+#[derive(Clone, Copy)]
 pub struct PayloadParts {
     pub next: usize,
     pub critical: bool,

@@ -7,7 +7,7 @@ use wire_attributes::Read;
 use wire_attributes::tables::{Meaning, Place};
 
 // Where an attribute starts and where it ends; or that there is none.
-#[derive(Drop)]
+#[derive(Clone, Copy)]
 pub enum ValueFound {
     At(usize, usize),
     Nothing,
