@@ -12,9 +12,9 @@ use borrow.Author.Rules.{rules}
 use Rattle.check_pairing.proofs.any_in_table.Given as goal
 
 abbrev pub invariant-loop-i : goal.invariant-loop-i
-invariant-loop-i l =
-    (l.n ≤ limits.sas) × (length l.t.sas ≡ limits.sas) × (l.i ≤ l.n) ×
-    ((l : List Name) → Names l.gsa l → any (is_announced l.tick l) (take l.n l.t.sas) ≡ any (is_announced l.tick l) (drop l.i (take l.n l.t.sas)))
+invariant-loop-i it =
+    (it.n ≤ limits.sas) × (length it.t.sas ≡ limits.sas) × (it.i ≤ it.n) ×
+    ((l : List Name) → Names it.gsa l → any (is_announced it.tick l) (take it.n it.t.sas) ≡ any (is_announced it.tick l) (drop it.i (take it.n it.t.sas)))
 
 abbrev pub decreases-loop-i : goal.decreases-loop-i
 decreases-loop-i l = l.n - l.i

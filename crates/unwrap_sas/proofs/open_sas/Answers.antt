@@ -29,7 +29,7 @@ pub walk_policies-requires : goal.walk_policies-requires
 walk_policies-requires c =
     let p = c.requires in
     let t = c.inverse_tables-tables.ensures in
-    (p.0, (p.1.0, ((t, record { key = value_of c.args.zero; expands = c.expand_inverse.ensures }), p.1.1.1)))
+    (p.gsa_value, (p.kd_value, ((t, record { key = value_of c.args.zero; expands = c.expand_inverse.ensures }), p.1.1.1)))
 
 pub returns : goal.returns
 returns c roots entries size f new old y lends agrees =

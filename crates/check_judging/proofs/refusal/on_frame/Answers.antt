@@ -5,16 +5,16 @@ use Rattle.check_judging.proofs.refusal.on_frame.Goals as goal
 
 pub facts_of-x-requires : goal.facts_of-x-requires
 facts_of-x-requires c = let p = c.requires in record {
-  s_value = p.1.0;
-  f_value = p.1.1;
+  s_value = p.s_value;
+  f_value = p.f_value;
 }
 
 pub on_facts-n-requires : goal.on_facts-n-requires
 on_facts-n-requires c = let p = c.requires in record {
-  count_le_sas = p.0;
-  s_value = p.1.0;
+  count_le_sas = p.count_le_sas;
+  s_value = p.s_value;
   x_value = c.facts_of-x.ensures;
-  f_value = p.1.1;
+  f_value = p.f_value;
 }
 
 pub returns-then-n-eq0 : goal.returns-then-n-eq0

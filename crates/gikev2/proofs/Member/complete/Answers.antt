@@ -17,7 +17,7 @@ write_whole-n-requires c =
 pub slice_bounds-receive-end : goal.slice_bounds-receive-end
 slice_bounds-receive-end c =
     let v = c.write_whole-n in
-    let l = whole-within c.args.self c.args.tick c.requires.0 c.args.room.now v.result v.new.1.0
+    let l = whole-within c.args.self c.args.tick c.requires.0 c.args.room.now v.result v.new.room
     (v.ensures c.requires.0 c.requires.1.is) in
     omega (arith, l)
 
@@ -25,5 +25,5 @@ pub returns : goal.returns
 returns c w t =
     let x = c.receive-x in
     let v = c.write_whole-n in
-    whole-answered c.args.self c.args.tick w c.args.room.now v.result v.new.1.0 (v.ensures w t.is)
+    whole-answered c.args.self c.args.tick w c.args.room.now v.result v.new.room (v.ensures w t.is)
     x.result.answer _ x.ensures refl c.new.ensures

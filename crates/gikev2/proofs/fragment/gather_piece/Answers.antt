@@ -33,7 +33,7 @@ pub gather-requires : goal.gather-requires
 gather-requires c =
     let v = c.write_piece in
     let x = c.requires.of in
-    let e = piece_cut x.piece c.args.p x.count v.new.1.1.1.0 _ (v.ensures x.piece x.opens) in
+    let e = piece_cut x.piece c.args.p x.count v.new.out _ (v.ensures x.piece x.opens) in
     record {
       le_total = c.requires.counts;
       taking = subst (λ (y : List ℕ). Taking (counted c.args.collection) c.args.f y c.args.n) (sym e) c.requires.taking;
@@ -43,5 +43,5 @@ pub returns : goal.returns
 returns c t =
     let v = c.write_piece in
     let x = t.of in
-    let e = piece_cut x.piece c.args.p x.count v.new.1.1.1.0 _ (v.ensures x.piece x.opens) in
+    let e = piece_cut x.piece c.args.p x.count v.new.out _ (v.ensures x.piece x.opens) in
     c.gather.ensures ∙ ap (λ (y : List ℕ). collection_of (gathered (counted c.args.collection) c.args.f y)) e

@@ -22,11 +22,11 @@ pub returns-then-kwk-eq0 : goal.returns-then-kwk-eq0
 returns-then-kwk-eq0 c =
     let z = c.key_zero in record {
       id_value = (
-        z.ensures.1.0 ∙ sym c.if-kwk-eq0.true,
-        subst (λ (s : InverseSchedule). ExpandedInverse s.words) (sym z.ensures.1.1)
+        z.ensures.id_value.0 ∙ sym c.if-kwk-eq0.true,
+        subst (λ (s : InverseSchedule). ExpandedInverse s.words) (sym z.ensures.id_value.1)
             c.requires.tables_value.1,
       );
-      by_index = (λ v new old x lends k. z.ensures.0 v new old x);
+      by_index = (λ v new old x lends k. z.ensures.by_index v new old x);
     }
 
 pub octets_named-key-requires : goal.octets_named-key-requires
@@ -44,7 +44,7 @@ returns-then-key-eq0 c =
         known = λ q. absurd (false≢true q);
         none = λ q.
             under_none v new old c.args.kwk
-            c.if-kwk-eq0.false key.result.now (key.ensures.0 new old lends.own lends.held)
+            c.if-kwk-eq0.false key.result.now (key.ensures.result_value new old lends.own lends.held)
             c.if-key-eq0.true;
       });
     }
@@ -54,7 +54,7 @@ expand_inverse-expanded-requires c =
     let key = c.octets_named-key in
     let h = c.requires.lends_two in
     let a = c.args in
-    let e = key.ensures.0 h.0 h.1 h.2.own h.2.held in
+    let e = key.ensures.result_value h.0 h.1 h.2.own h.2.held in
     let size =
     named-size a.kwk h.0 h.1 a.carried.now a.fresh.now a.ids.now a.block.now h.2
     (λ z. c.if-key-eq0.false (ap length e ∙ z)) in record {
@@ -73,7 +73,7 @@ returns c =
           key.result.now,
           made,
           under-named v new old c.args.kwk
-              c.if-kwk-eq0.false key.result.now (key.ensures.0 new old lends.own lends.held)
+              c.if-kwk-eq0.false key.result.now (key.ensures.result_value new old lends.own lends.held)
               c.if-key-eq0.false,
         );
         none = λ q. absurd (false≢true (sym q));

@@ -11,4 +11,4 @@ pub returns : goal.returns
 returns c keys ids lends h size =
     let v = c.value_at in
     key-from keys ids _ lends _ h size c.new-made.result
-    (c.new-made.ensures ∙ ap wrapping_key (v.ensures.0 keys ids lends h))
+    (c.new-made.ensures ∙ ap wrapping_key (v.ensures.result_value keys ids lends h))

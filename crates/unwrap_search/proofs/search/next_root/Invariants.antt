@@ -11,9 +11,9 @@ use borrow.Author.Rules.{rules}
 use Rattle.unwrap_search.proofs.search.next_root.Given as goal
 
 abbrev pub invariant-loop-i : goal.invariant-loop-i
-invariant-loop-i l =
-    (l.n ≤ limits.wrap_keys) × (l.m ≡ length l.ids) × (l.from ≤ l.i) × (l.i ≤ l.m) ×
-    ((frame : List ℕ) (l : List WrapKey) → Lists frame l.entries l.n l → PassedFrom l l.ids l.from l.i)
+invariant-loop-i it =
+    (it.n ≤ limits.wrap_keys) × (it.m ≡ length it.ids) × (it.from ≤ it.i) × (it.i ≤ it.m) ×
+    ((frame : List ℕ) (l : List WrapKey) → Lists frame it.entries it.n l → PassedFrom l it.ids it.from it.i)
 
 abbrev pub decreases-loop-i : goal.decreases-loop-i
 decreases-loop-i l = l.m - l.i

@@ -12,9 +12,9 @@ use borrow.Author.Rules.{rules}
 use Rattle.unwrap_search.proofs.search.try_on_all.Given as goal
 
 abbrev pub invariant-loop-i : goal.invariant-loop-i
-invariant-loop-i l =
-    (l.n ≤ limits.wrap_keys) × (length l.entries ≡ limits.wrap_keys) × (length l.out ≡ limits.wrap_keys) × (l.i ≤ l.n) ×
-    ((l : List WrapKey) (v : List ℕ) → Lists l.frame l.entries l.n l → ExpandsInverse v l.schedule.words → Partly l.id v l.size l l.initial.out l.out l.i)
+invariant-loop-i it =
+    (it.n ≤ limits.wrap_keys) × (length it.entries ≡ limits.wrap_keys) × (length it.out ≡ limits.wrap_keys) × (it.i ≤ it.n) ×
+    ((l : List WrapKey) (v : List ℕ) → Lists it.frame it.entries it.n l → ExpandsInverse v it.schedule.words → Partly it.id v it.size l it.initial.out it.out it.i)
 
 abbrev pub decreases-loop-i : goal.decreases-loop-i
 decreases-loop-i l = l.n - l.i

@@ -15,8 +15,8 @@ returns-then-registers c f y =
 pub fresh_source-requires : goal.fresh_source-requires
 fresh_source-requires c =
     let p = c.requires in record {
-      gsa_value = (p.0.0, subst (λ (x : Bool). is_whole (bags x 0 c.args.kd.now) ≡ true) c.if-reads.true p.0.1);
-      fresh_source = (p.1.0, p.1.1.fresh c.if-reads.true);
+      gsa_value = (p.gsa_value.0, subst (λ (x : Bool). is_whole (bags x 0 c.args.kd.now) ≡ true) c.if-reads.true p.gsa_value.1);
+      fresh_source = (p.sourced.0, p.sourced.1.fresh c.if-reads.true);
     }
 
 pub returns-then-reads : goal.returns-then-reads
