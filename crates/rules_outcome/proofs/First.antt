@@ -30,6 +30,7 @@ pub above_holds : (k : ℕ) (l : List RefusalCase) → above k l ≡ true → (n
 above_holds k (c ∷ l) a n (inl h) = let p = (next-above k c l a).0 in let e = h.1 in omega arith
 above_holds k (c ∷ l) a n (inr h) =
     let p = next-above k c l a in let g = p.0 in let q = above_holds c.number l p.1 n h in omega arith
+above_holds k [] a n h = elim h [ ]
 
 -- the numbers of the list are all below k
 abbrev pub below : ℕ → List RefusalCase → Bool
@@ -41,6 +42,7 @@ pub below_holds : (k : ℕ) (l : List RefusalCase) → below k l ≡ true → (n
 below_holds k (c ∷ l) b n (inl h) =
     let p = ltb-true c.number k (and_parts (ltb c.number k) (below k l) b).0 in let e = h.1 in omega arith
 below_holds k (c ∷ l) b n (inr h) = below_holds k l (and_parts (ltb c.number k) (below k l) b).1 n h
+below_holds k [] b n h = elim h [ ]
 
 -- what holds and is not below stands behind them
 pub past-holds : (k : ℕ) (l m : List RefusalCase) → below k l ≡ true → (n : ℕ) → k ≤ n → SomeHolds (l ++ m) n → SomeHolds m n
@@ -62,6 +64,7 @@ first-lowest k (c ∷ l) a n (inl p) m g (inr h) =
     let e = p.1 in let d = above_holds c.number l (next-above k c l a).1 m h in absurd (omega arith)
 first-lowest k (c ∷ l) a n (inr p) m g (inl h) = p.0 h.0
 first-lowest k (c ∷ l) a n (inr p) m g (inr h) = first-lowest c.number l (next-above k c l a).1 n p.1 m g h
+first-lowest k [] a n _ m g h = elim h [ ]
 
 -- the numbers of the list are all above k
 abbrev pub exceed : ℕ → List RefusalCase → Bool
@@ -73,6 +76,7 @@ pub exceed-holds : (k : ℕ) (l : List RefusalCase) → exceed k l ≡ true → 
 exceed-holds k (c ∷ l) a n (inl h) =
     let p = ltb-true k c.number (and_parts (ltb k c.number) (exceed k l) a).0 in let e = h.1 in omega arith
 exceed-holds k (c ∷ l) a n (inr h) = exceed-holds k l (and_parts (ltb k c.number) (exceed k l) a).1 n h
+exceed-holds k [] a n h = elim h [ ]
 
 -- 0 says that none holds
 pub first-none : (l : List RefusalCase) → exceed 0 l ≡ true → First l 0 → (m : ℕ) → SomeHolds l m → ⊥
@@ -80,6 +84,7 @@ first-none (c ∷ l) a (inl p) m h =
     let e = p.1 in let g = ltb-true 0 c.number (and_parts (ltb 0 c.number) (exceed 0 l) a).0 in absurd (omega arith)
 first-none (c ∷ l) a (inr p) m (inl h) = p.0 h.0
 first-none (c ∷ l) a (inr p) m (inr h) = first-none l (and_parts (ltb 0 c.number) (exceed 0 l) a).1 p.1 m h
+first-none [] a _ m h = elim h [ ]
 
 -- and conversely
 pub first-is : (k : ℕ) (l : List RefusalCase) → above k l ≡ true → (n : ℕ) → SomeHolds l n → ((m : ℕ) → m < n → SomeHolds l m → ⊥) →
@@ -88,6 +93,7 @@ first-is k (c ∷ l) a n (inl h) none = inl h
 first-is k (c ∷ l) a n (inr h) none =
     let g = above_holds c.number l (next-above k c l a).1 n h in
     inr (λ x. none c.number g (inl (x, refl)), first-is c.number l (next-above k c l a).1 n h (λ m e x. none m e (inr x)))
+first-is k [] a n h none = elim h [ ]
 
 pub none_first : (l : List RefusalCase) → ((m : ℕ) → SomeHolds l m → ⊥) → First l 0
 none_first [] none = refl
@@ -114,6 +120,7 @@ first-right (c ∷ l) m n none p = inr (λ x. none c.number (inl (x, refl)), fir
 pub some_left : (l m : List RefusalCase) (n : ℕ) → SomeHolds l n → SomeHolds (l ++ m) n
 some_left (c ∷ l) m n (inl h) = inl h
 some_left (c ∷ l) m n (inr h) = inr (some_left l m n h)
+some_left [] m n h = elim h [ ]
 
 pub some_right : (l m : List RefusalCase) (n : ℕ) → SomeHolds m n → SomeHolds (l ++ m) n
 some_right [] m n h = h

@@ -36,10 +36,12 @@ module _ (profile : Bool) (octets : List ℕ) where
     some_to : (l : List RefusalRow) (n : ℕ) → SomeHolds (map (on_frame f) l) n → SomeHolds (map (of_tree profile octets) l) n
     some_to (r ∷ l) n (inl h) = inl (record { tree = f; layout = e; meets = h.0 }, h.1)
     some_to (r ∷ l) n (inr h) = inr (some_to l n h)
+    some_to [] n h = elim h [ ]
 
     some-from : (l : List RefusalRow) (n : ℕ) → SomeHolds (map (of_tree profile octets) l) n → SomeHolds (map (on_frame f) l) n
     some-from (r ∷ l) n (inl h) = inl (from r h.0, h.1)
     some-from (r ∷ l) n (inr h) = inr (some-from l n h)
+    some-from [] n h = elim h [ ]
 
     first_to : (l : List RefusalRow) (n : ℕ) → First (map (on_frame f) l) n → First (map (of_tree profile octets) l) n
     first_to [] n p = p
@@ -56,6 +58,7 @@ module _ (profile : Bool) (octets : List ℕ) where
   some-tree : (l : List RefusalRow) (n : ℕ) → SomeHolds (map (of_tree profile octets) l) n → (f : Frame) × IsFrame profile octets f
   some-tree (r ∷ l) n (inl h) = (h.0.tree, h.0.layout)
   some-tree (r ∷ l) n (inr h) = some-tree l n h
+  some-tree [] n h = elim h [ ]
 
 module _ (limits : Limits) (s : State) (now : ℕ) (lent octets : List ℕ) where
   abbrev Met : ℕ → Type 0
@@ -135,10 +138,12 @@ module _ (limits : Limits) (s : State) (now : ℕ) (lent octets : List ℕ) wher
     conflict-of : SomeHolds behind-clauses 8 → KeyConflictOf limits s now lent f
     conflict-of (inl h) = h.0
     conflict-of (inr (inl h)) = let q = h.1 in absurd (omega arith)
+    conflict-of (inr (inr h)) = elim h [ ]
 
     missing-of : SomeHolds behind-clauses 9 → KeyMissingOf limits s now lent f
     missing-of (inl h) = let q = h.1 in absurd (omega arith)
     missing-of (inr (inl h)) = h.0
+    missing-of (inr (inr h)) = elim h [ ]
 
     pub conflict-met : Met 8 → KeyConflictOf limits s now lent f
     conflict-met x = conflict-of (behind 8 (omega arith) x)

@@ -36,12 +36,16 @@ module _ (v : List ℕ) (new old : List HeldKey) where
       ⊎_elim (λ d. (c, Memᴰ.head refl, d)) (λ d. let r = tries_of l t d in (r.0, Memᴰ.tail r.1, r.2))
       (Memᴰ.append_cases (try_for v new old c) m)
 
+  module _ (c : SaKey) (t : Try) where
+    of-tries-at : (copies : List SaKey) → Memᴰ c copies → Memᴰ t (try_for v new old c) → Memᴰ t (tries_of_all v new old copies)
+    unfolding tries_of_all
+    of-tries-at _ (Memᴰ.head {x} {xs} e) m =
+        Memᴰ.append_left (tries_of_all v new old xs) (subst (λ (a : SaKey). Memᴰ t (try_for v new old a)) e m)
+    of-tries-at _ (Memᴰ.tail {x} {xs} d) m = Memᴰ.append_right (try_for v new old x) (of-tries-at xs d m)
+
   pub of-tries : (copies : List SaKey) (c : SaKey) (t : Try) → Memᴰ c copies → Memᴰ t (try_for v new old c) →
       Memᴰ t (tries_of_all v new old copies)
-  unfolding tries_of_all
-  of-tries _ c t (Memᴰ.head {x} {xs} e) m =
-      Memᴰ.append_left (tries_of_all v new old xs) (subst (λ (a : SaKey). Memᴰ t (try_for v new old a)) e m)
-  of-tries _ c t (Memᴰ.tail {x} {xs} d) m = Memᴰ.append_right (try_for v new old x) (of-tries xs c t d m)
+  of-tries copies c t d m = of-tries-at c t copies d m
 
 -- ---- the try of a copy is that under the key that it names
 module _ (zero : WrappingKey) (new old : List HeldKey) where
