@@ -41,6 +41,14 @@ class Walk:
     def parent(self, place):
         return self.places[place][0]
 
+    def above(self, place):
+        """The place before this one as a record has it: the places on the way into an arm are one with the arm."""
+        up = self.places[place][0]
+        mine = self.arms[self.places[place][4]] if self.arms else None
+        while up is not None and mine and self.arms[self.places[up][4]] and self.arms[self.places[up][4]][0] == mine[0]:
+            up = self.places[up][0]
+        return up
+
     def step(self, place, fields):
         """The fields of a path at a place, under their new names; None where they are unknown."""
         first = fields[0]
@@ -244,11 +252,14 @@ def keep(path, text, walk, decls, uses, goal_of, place_of, declared, said):
     for d in decls:
         h = re.match(r"(%s) :" % NAME, first(d))
         whole = "\n".join(d)
-        m = re.search(r"\(c : tie\.(%s)" % NAME, whole)
+        m = re.search(r"\((%s) : tie\.(%s)" % (NAME, NAME), whole)
+        if m and h and m[1] != "c":
+            d[:] = re.sub(r"(?<![\w'.-])%s(?![\w'-])" % re.escape(m[1]), "c", whole).split("\n")
+            m = re.search(r"\((c) : tie\.(%s)" % NAME, "\n".join(d))
         if m and h and h[1] not in declared:
-            place = by_plain.get(plain(m[1]))
+            place = by_plain.get(plain(m[2]))
             if place is None:
-                said.append(f"{path}: {h[1]} at an unknown place {m[1]}")
+                said.append(f"{path}: {h[1]} at an unknown place {m[2]}")
             helpers[h[1]] = place
 
     def at(text, place, where):
@@ -262,7 +273,7 @@ def keep(path, text, walk, decls, uses, goal_of, place_of, declared, said):
                 return m[0]
             to, up, n = helpers[m[1]], place, 0
             while up is not None and up != to:
-                up, n = walk.parent(up), n + 1
+                up, n = walk.above(up), n + 1
             if up is None:
                 said.append(f"{where}: {m[1]} at {to}, which {place} has not passed")
                 return m[0]

@@ -102,6 +102,7 @@ module _ (limits : Limits) (s : State) (now : ℕ) (octets room : List ℕ) wher
   unopened-of (inl h) = let e = h.1 in absurd (omega arith)
   unopened-of (inr (inl h)) = let e = h.1 in absurd (omega arith)
   unopened-of (inr (inr (inl h))) = h.0
+  unopened-of (inr (inr (inr h))) = elim h [ ]
 
   -- given for a clause of number 10 alone: an opened frame never is
   pub unopened-given : (offset : ℕ) (next : State) (after : List ℕ) → SealedOutcome limits s now octets room 10 offset next after →

@@ -34,6 +34,7 @@ left-first : (l m : List RefusalCase) (n k : ℕ) → SomeHolds l k → First (l
 left-first (c ∷ l) m n k h (inl p) = inl p
 left-first (c ∷ l) m n k (inl h) (inr p) = absurd (p.0 h.0)
 left-first (c ∷ l) m n k (inr h) (inr p) = inr (p.0, left-first l m n k h p.1)
+left-first [] m n k h _ = elim h [ ]
 
 right-first : (l m : List RefusalCase) (n : ℕ) → ((k : ℕ) → SomeHolds l k → ⊥) → First (l ++ m) n → First m n
 right-first [] m n none p = p
@@ -82,6 +83,7 @@ module _ (limits : Limits) (s : State) (now : ℕ) (octets room : List ℕ) wher
     some-from : (l : List RefusalRow) (n : ℕ) → SomeHolds (opened_rows l) n → SomeHolds (map (of_tree s.profile o) l) n
     some-from (r ∷ l) n (inl x) = inl (from (λ (y : List ℕ). OfTree s.profile y r.meets) x.0, x.1)
     some-from (r ∷ l) n (inr x) = inr (some-from l n x)
+    some-from [] n h = elim h [ ]
 
     order-to : (n : ℕ) → First (order o) n → First behind n
     order-to n (inl p) = inl (to (NoTree s.profile) p.0, p.1)
@@ -177,6 +179,7 @@ module _ (limits : Limits) (s : State) (now : ℕ) (octets room : List ℕ) wher
   before-most n (inl h) = let e = h.1 in omega arith
   before-most n (inr (inl h)) = let e = h.1 in omega arith
   before-most n (inr (inr (inl h))) = let e = h.1 in omega arith
+  before-most n (inr (inr (inr h))) = elim h [ ]
 
   pub one-of-ten : (n offset : ℕ) (next : State) (after : List ℕ) → SealedOutcome limits s now octets room n offset next after → n ≤ 10
   one-of-ten _ _ _ _ (not_opened n p) = before-most (suc n) (first_holds before n p)

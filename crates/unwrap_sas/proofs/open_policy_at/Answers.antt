@@ -34,8 +34,13 @@ pub slice_bounds-with_policy-end-2 : goal.slice_bounds-with_policy-end-2
 slice_bounds-with_policy-end-2 c = c.requires.policy_stands_at.inside
 
 pub with_policy-requires : goal.with_policy-requires
-with_policy-requires c =
-    (c.requires.policy_stands_at.small, c.requires.1)
+with_policy-requires c = record {
+  x_len_bound = c.requires.policy_stands_at.small;
+  kd_value = c.requires.k_value;
+  tables_value = c.requires.tables_value;
+  lends_two = c.requires.lends_two;
+  announces = c.requires.announces;
+}
 
 pub returns : goal.returns
 returns c = c.with_policy.ensures

@@ -29,7 +29,13 @@ pub walk_policies-requires : goal.walk_policies-requires
 walk_policies-requires c =
     let p = c.requires in
     let t = c.inverse_tables-tables.ensures in
-    (p.gsa_value, (p.kd_value, ((t, record { key = value_of c.args.zero; expands = c.expand_inverse.ensures }), p.1.1.1)))
+    record {
+      gsa_value = p.gsa_value;
+      kd_value = p.kd_value;
+      tables_value = (t, record { key = value_of c.args.zero; expands = c.expand_inverse.ensures });
+      lends_two = p.lends_two;
+      checks_passed = p.checks_passed;
+    }
 
 pub returns : goal.returns
 returns c roots entries size f new old y lends agrees =

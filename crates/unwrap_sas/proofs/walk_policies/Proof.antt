@@ -96,8 +96,8 @@ returns c =
     let a = c.args in
     let z = c.if-p-ne-NO_PROTOCOL.true in
     along-conflict a.reads a.gsa.now a.kd.now a.schedule.words a.carried.now a.fresh.now a.ids.now a.block.now a.tick l.at l.missing l.sas
-    l.count l.openers l.invariant _ (here c.before.before.before.before.before.before) z
-    (says c.before.before Conflict c.in-Conflict.is) l.count l.sas l.openers
+    l.count l.openers l.invariant _ (here c.before.before.before.before.before) z
+    (says c.before Conflict c.in-Conflict.is) l.count l.sas l.openers
 
 enum-told-2 : tie.Need-enum_told-in-Nothing invariant-loop decreases-loop
 enum-told-2 c = search rules
@@ -106,31 +106,29 @@ enum-told-3 : tie.Need-enum_told-in-Key invariant-loop decreases-loop
 enum-told-3 c = search rules
 
 -- a place is left
-left : (w : tie.After-open_policy_at-one invariant-loop decreases-loop) →
-    w.before.before.before.before.before.before.before.loop.count < new_sas
-left w =
-    let d = w.before.before.before.before in
-    let l = d.before.before.before.loop in
-    let s = d.before.before.before.before.before.before.before.before.before.before.before.before in
-    let a = s.args in
-    let f = s.requires.1.1.1.1 in
+left : (c : tie.After-open_policy_at-one invariant-loop decreases-loop) →
+    c.loop-at.count < new_sas
+left c =
+    let l = c.loop-at in
+    let a = c.args in
+    let f = c.requires.1.1.1.1 in
     along-room a.reads a.gsa.now a.kd.now a.schedule.words a.carried.now a.fresh.now a.ids.now a.block.now a.tick l.at l.missing l.sas
-    l.count l.openers l.invariant _ (here d) w.before.if1.true f.0 f.1
+    l.count l.openers l.invariant _ (here c.before.before.before.before) c.if-p-ne-NO_PROTOCOL.true f.0 f.1
 
 mul-sas : tie.Need-offset_bounds-sas-count invariant-loop decreases-loop
-mul-sas c = let h = left c.before.before.before in record { fits = omega arith }
+mul-sas c = let h = left c.before.before in record { fits = omega arith }
 
 array-set-from-sas : tie.Need-bounds-sas-count invariant-loop decreases-loop
-array-set-from-sas c = left c.before.before.before
+array-set-from-sas c = left c.before.before
 
 add-count : tie.Need-overflow_add-count invariant-loop decreases-loop
-add-count c = let h = left c.before.before.before in record { fits = omega arith }
+add-count c = let h = left c.before.before in record { fits = omega arith }
 
 rekey-openers-requires : tie.Need-rekey_openers-openers-requires invariant-loop decreases-loop
 rekey-openers-requires c κs = search rules
 
 loop-less : tie.Need-loop-at-smaller-in-Nothing invariant-loop decreases-loop
-loop-less c = let p = here c.before.before.before.before.before.before in
+loop-less c = let p = here c.before.before.before.before.before in
     omega (arith, p.some, p.order, p.inside)
 
 loop-again : tie.Need-loop-at-preserved-in-Nothing invariant-loop decreases-loop
@@ -139,11 +137,11 @@ loop-again c =
     let a = c.args in
     let z = c.if-p-ne-NO_PROTOCOL.true in
     along-none a.reads a.gsa.now a.kd.now a.schedule.words a.carried.now a.fresh.now a.ids.now a.block.now a.tick l.at l.missing l.sas
-    l.count l.openers l.invariant _ (here c.before.before.before.before.before.before) z
-    (says c.before.before Nothing c.in-Nothing.is)
+    l.count l.openers l.invariant _ (here c.before.before.before.before.before) z
+    (says c.before Nothing c.in-Nothing.is)
 
 loop-less-2 : tie.Need-loop-at-smaller-in-Key invariant-loop decreases-loop
-loop-less-2 c = let p = here c.before.before.before.before.before.before.before.before.before in
+loop-less-2 c = let p = here c.before.before.before.before.before.before.before.before in
     omega (arith, p.some, p.order, p.inside)
 
 loop-again-2 : tie.Need-loop-at-preserved-in-Key invariant-loop decreases-loop
@@ -152,9 +150,9 @@ loop-again-2 c =
     let a = c.args in
     let z = c.if-p-ne-NO_PROTOCOL.true in
     along-sa a.reads a.gsa.now a.kd.now a.schedule.words a.carried.now a.fresh.now a.ids.now a.block.now a.tick l.at l.missing l.sas
-    l.count l.openers l.invariant _ (here c.before.before.before.before.before.before.before.before.before) z
+    l.count l.openers l.invariant _ (here c.before.before.before.before.before.before.before.before) z
     c.open_policy_at-one.result.sa c.open_policy_at-one.result.openers c.rekey_openers-openers.result c.rekey_openers-openers.ensures.0
-    c.rekey_openers-openers.ensures.1 (left w) (says c.before.before.before.before.before Key c.in-Key.is)
+    c.rekey_openers-openers.ensures.1 (left c.before.before.before.before) (says c.before.before.before.before Key c.in-Key.is)
 
 loop-less-3 : tie.Need-loop-at-smaller invariant-loop decreases-loop
 loop-less-3 c = let p = here c.before.before.before in omega (arith, p.some, p.order, p.inside)

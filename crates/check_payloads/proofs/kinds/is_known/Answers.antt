@@ -27,5 +27,5 @@ returns-in-52 c = sym (ap is_known c.in-52.is)
 pub returns-in_default : goal.returns-in_default
 returns-in_default c =
     let k = c.args.kind in
-    let n = c.in_default-own.rest in
+    let n = c.in_default.in_default-own.rest in
     not_known k n.0.0.0.0.0.0.1 n.0.0.0.0.0.1 n.0.0.0.0.1 n.0.0.0.1 n.0.0.1 n.0.1 n.1
