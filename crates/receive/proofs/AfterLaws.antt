@@ -49,10 +49,10 @@ two_lent reached carried fresh n held ids block own e lends =
     }
 
 -- ---- a copy of an announced Rekey SA is one of the Rekey SA's copies
-gathered-in : {A B : Type 0} (g : A → List B) (l : List A) (a : A) (b : B) → Memᴰ a l → Memᴰ b (g a) → Memᴰ b (flat_map g l)
+gathered-in : {A B : Type 0} (g : A → List B) (a : A) (b : B) (l : List A) → Memᴰ a l → Memᴰ b (g a) → Memᴰ b (flat_map g l)
 unfolding flat_map
-gathered-in g _ a b (Memᴰ.head {x} {xs} e) n = Memᴰ.append_left (flat_map g xs) (subst (λ y. Memᴰ b (g y)) e n)
-gathered-in g _ a b (Memᴰ.tail {x} {xs} m) n = Memᴰ.append_right (g x) (gathered-in g xs a b m n)
+gathered-in g a b _ (Memᴰ.head {x} {xs} e) n = Memᴰ.append_left (flat_map g xs) (subst (λ y. Memᴰ b (g y)) e n)
+gathered-in g a b _ (Memᴰ.tail {x} {xs} m) n = Memᴰ.append_right (g x) (gathered-in g a b xs m n)
 
 module _ (roots : List Root) (entries : List WrapKey) (size : ℕ) (f : Frame) where
   pub some-opener : EachHasCopy roots entries size f → SomeOpener roots entries size f
@@ -61,7 +61,7 @@ module _ (roots : List Root) (entries : List WrapKey) (size : ℕ) (f : Frame) w
       let p = some-passes is_rekey (announced f) n in
       let o = each p.one (member-in p.one (announced f) p.stands) in
       let c = o.1.copy in
-      let m = gathered-in (copies_of f) (keep is_rekey (announced f)) p.one c
+      let m = gathered-in (copies_of f) p.one c (keep is_rekey (announced f))
       (member-kept is_rekey p.one (announced f) p.stands p.passes)
       (in-member c (copies_of f p.one) o.1.stands) in (
         c,
