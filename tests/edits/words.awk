@@ -5,7 +5,7 @@
 # full, names brought by a `use`, fields and variants are looked up where they are declared.
 
 BEGIN {
-  n = split("Type Unit record let in where module use pub abbrev unfoldable data λ → × ⊥ : = . .. _ [] ⌜ ⌝ | -> ()", w, " ")
+  n = split("Type Unit record let in where module use pub abbrev unfoldable data λ → × ⊥ : = . .. _ [] | -> ()", w, " ")
   for (i = 1; i <= n; i++) built_in["antt", w[i]] = 1
   n = split("true false if else while return match let mut as u8 u32 u64 usize bool MAX const pub fn use crate self Self", w, " ")
   for (i = 1; i <= n; i++) built_in["rt", w[i]] = 1
@@ -30,7 +30,7 @@ function uncommented_all(text, k,    n, i, line, out) {
 }
 function kind(file) { return file ~ /\.rt$/ ? "rt" : "antt" }
 
-# the words of a text, as keys of `word`. An operator's name has an underscore on each side
+# the words of a text, as keys of `word`. An operator's name has a dotted circle on each side; `x.f.g` is a word and two fields
 function words(text, k,    n, i, part) {
   split("", word)
   if (k == "rt") gsub(/[^A-Za-z0-9_.]+/, " ", text)
@@ -38,12 +38,18 @@ function words(text, k,    n, i, part) {
   n = split(text, part, " ")
   for (i = 1; i <= n; i++) {
     if (k == "rt") sub(/^\.+/, "", part[i])
-    if (part[i] ~ /^_.+_$/) { sub(/^_/, "", part[i]); sub(/_$/, "", part[i]) }
-    if (k == "rt" && index(part[i], ".")) { split_at_dots(part[i]); continue }
+    part[i] = bare(part[i])
+    if (index(part[i], ".") && !is_path(part[i])) { split_at_dots(part[i], k == "rt" ? "" : "."); continue }
     word[part[i]] = 1
   }
 }
-function split_at_dots(text,    n, i, part) { n = split(text, part, "."); for (i = 1; i <= n; i++) word[part[i]] = 1 }
+function bare(name) { sub(/^◌/, "", name); sub(/◌$/, "", name); return name }
+function is_path(name) { return name ~ /^(Rattle|lib|mathlib|Prim)\./ }
+function split_at_dots(text, dot,    n, i, part) {
+  n = split(text, part, ".")
+  if (part[1] != "") word[part[1]] = 1
+  for (i = 2; i <= n; i++) if (part[i] != "") word[dot part[i]] = 1
+}
 
 function has(text, name, k) { words(text, k); return name in word }
 
@@ -57,8 +63,8 @@ function around(text, at, k,    from, to, i, rest, mark) {
   return substr(text, from, to ? at - from + to + length(mark) : length(text))
 }
 
-# what the whole file can use: its `use` and `module` lines and what it declares
-function top(text, k,    n, i, line, out, first) {
+# what the whole file can use: its `use` and `module` lines and what it declares. A `use` of an .rt file may be of several lines
+function top(text, k,    n, i, line, out, first, open) {
   n = split(text, line, "\n")
   for (i = 1; i <= n; i++) {
     line[i] = uncommented(line[i], k)
@@ -68,8 +74,10 @@ function top(text, k,    n, i, line, out, first) {
     } else if (k == "antt" && match(line[i], /^ *(pub )?(data|record) [^ ]+/)) {
       first = substr(line[i], 1, RLENGTH); sub(/.* /, "", first); out = out first "\n"
     }
-    if (k == "rt" && line[i] ~ /^ *(pub )?(ghost )?(use|mod) /) out = out line[i] "\n"
-    else if (k == "rt" && match(line[i], /^ *(pub )?(fn|struct|enum|const) [A-Za-z0-9_]+/)) {
+    if (k == "rt" && (open || line[i] ~ /^ *(pub )?(ghost )?(use|mod) /)) {
+      out = out line[i] "\n"
+      open = line[i] ~ /^ *(pub )?(ghost )?use / || open ? !index(line[i], ";") : 0
+    } else if (k == "rt" && match(line[i], /^ *(pub )?(fn|struct|enum|const) [A-Za-z0-9_]+/)) {
       first = substr(line[i], 1, RLENGTH); sub(/.* /, "", first); out = out first "\n"
     }
   }
@@ -77,18 +85,12 @@ function top(text, k,    n, i, line, out, first) {
 }
 
 # the file of a module, "" where it is none: of a crate, of the code's types, of the kit
-function module_file(name,    part, n, crate, path) {
-  gsub(/·specs/, "", name)
-  n = split(name, part, ".")
-  if (part[1] ~ /^Rattle·/) {
-    crate = part[1]; sub(/^Rattle·/, "", crate)
-    if (part[3] == "declared") return "crates/" crate "/src"
-    path = "crates/" crate substr(name, length(part[1]) + 1)
-    gsub(/\./, "/", path)
-    return path ".antt"
-  }
+function module_file(name,    part, path) {
+  split(name, part, ".")
   path = substr(name, length(part[1]) + 1)
   gsub(/\./, "/", path)
+  if (part[1] == "Rattle" && part[2] in own) return "crates" (part[4] == "declared" ? "/" part[2] "/src" : path ".antt")
+  if (part[1] == "Rattle") return kit path ".antt"
   if (part[1] == "lib") return kit "/logic/Lib" path ".antt"
   if (part[1] == "mathlib") return kit "/antt/port/mathlib/src" path ".antt"
   if (part[1] == "Prim") return kit "/antt/lib/src/Prim" path ".antt"
@@ -113,7 +115,7 @@ function check_use(text,    module, names, n, i, name) {
   names = substr(text, RLENGTH + 1); sub(/\}.*/, "", names)
   n = split(names, name, /, */)
   for (i = 1; i <= n; i++) {
-    if (name[i] ~ /^_.+_$/) name[i] = substr(name[i], 2, length(name[i]) - 2)
+    name[i] = bare(name[i])
     if (!declares(module, name[i])) bad(module " does not declare " name[i])
   }
   return 1
@@ -160,17 +162,17 @@ function check_word(name, k,    module, last) {
   if (name ~ /^[-+*\/%<>=!&|^.:"0-9x]*$/ && k == "rt") return
   if (name ~ /^[0-9]+\.?$/ || name ~ /^0x[0-9a-f]+$/ || name ~ /^\.[0-9]+$/ || (k, name) in built_in) return
   if (k == "rt" && name ~ /^[0-9]/) return
-  if (name ~ /^\./) {  # a field
-    name = substr(name, 2); gsub(/[«».]/, "", name)
-    if (!(name in field)) bad("no record has a field " name)
+  if (name ~ /^\./) {  # a field, or a variant behind the name of its type's
+    name = substr(name, 2)
+    if (!(name in field) && !(name in variant)) bad("no record has a field, and no type a variant " name)
     return
   }
   if (name in scope_word) return
   if (name in set) { if (!(name in field)) bad("no record has a field " name); return }
-  if (k == "antt" && match(name, /\.[^.]+$/) && RSTART > 1) {
+  if (k == "antt" && is_path(name) && match(name, /\.[^.]+$/)) {
     module = substr(name, 1, RSTART - 1); last = substr(name, RSTART + 1)
-    if (module in scope_word) { if (!(last in variant)) bad("no type has a variant " last); return }
-    if (name ~ /^(Rattle·|lib\.|mathlib\.|Prim\.)/) { if (!declares(module, last)) bad(module " does not declare " last); return }
+    if (!declares(module, last)) bad(module " does not declare " last)
+    return
   }
   sub(/\.$/, "", name)
   if (name == "" || name in scope_word) return
@@ -259,8 +261,10 @@ function read_edit(    line, crate, old, new, at, rest, k, pairs, i) {
 }
 
 # fields and variants of the code's types and of records, by their layout
-function read_source(file,    n, i, line, name, k) {
+function read_source(file,    n, i, line, name, k, part) {
   source[++sources] = file
+  split(file, part, "/")
+  own[part[2]] = 1
   k = kind(file)
   n = split(content(file, 0), line, "\n")
   for (i = 1; i <= n; i++) {
