@@ -6,6 +6,7 @@ use wire_attributes::tables::Place;
 
 // Puts the attributes from `from` to `to`, up to `stop`, and why the layout breaks if it does so among them.
 pub(crate) fn attributes(
+    rt: &impl Print,
     out: &mut [u8],
     n: usize,
     place: Place,
@@ -18,7 +19,7 @@ pub(crate) fn attributes(
     let mut at = from;
     while at < to {
         let end = attribute_end(s, at, to);
-        m = attribute_at(out, m, place, part(s, at, to), at, stop);
+        m = attribute_at(rt, out, m, place, part(s, at, to), at, stop);
         if holds(at, stop, end) {
             return m;
         }
@@ -28,9 +29,17 @@ pub(crate) fn attributes(
 }
 
 // Puts the attribute that `s` starts with, or why it breaks. Its offset in the frame is `at`.
-fn attribute_at(out: &mut [u8], n: usize, place: Place, s: &[u8], at: usize, stop: usize) -> usize {
+fn attribute_at(
+    rt: &impl Print,
+    out: &mut [u8],
+    n: usize,
+    place: Place,
+    s: &[u8],
+    at: usize,
+    stop: usize,
+) -> usize {
     if at == stop {
-        return text_faults::of_attribute(out, n, place, s, stop);
+        return text_faults::of_attribute(rt, out, n, place, s, stop);
     }
     match wire_attributes::read_attribute(s) {
         Read::Attribute {
@@ -39,6 +48,7 @@ fn attribute_at(out: &mut [u8], n: usize, place: Place, s: &[u8], at: usize, sto
             start: _,
             end,
         } => attribute(
+            rt,
             out,
             n,
             place,
@@ -68,6 +78,7 @@ fn indent(place: Place) -> usize {
 
 // Puts an attribute: its name, what is shown of its value, and whether a member passes over it.
 pub(crate) fn attribute(
+    rt: &impl Print,
     out: &mut [u8],
     n: usize,
     place: Place,
@@ -76,23 +87,24 @@ pub(crate) fn attribute(
     kind: usize,
     value: &[u8],
 ) -> usize {
-    let a = crate::line::head(out, n, indent(place), at, len);
+    let a = crate::line::head(rt, out, n, indent(place), at, len);
     let b = text_names::titled(
+        rt,
         out,
         a,
         b"",
         text_names::tables::attribute(place, kind),
         kind,
     );
-    let c = shown(out, b, shape_of(place, kind), value);
-    skipped(out, c, place, kind)
+    let c = shown(rt, out, b, shape_of(place, kind), value);
+    skipped(rt, out, c, place, kind)
 }
 
-fn skipped(out: &mut [u8], n: usize, place: Place, kind: usize) -> usize {
+fn skipped(rt: &impl Print, out: &mut [u8], n: usize, place: Place, kind: usize) -> usize {
     if wire_attributes::tables::code(wire_attributes::tables::meaning_in(place, kind)) == 0 {
-        return text_names::text(out, n, b", skipped\n");
+        return text_names::text(rt, out, n, b", skipped\n");
     }
-    crate::line::ended(out, n)
+    crate::line::ended(rt, out, n)
 }
 
 // What is shown of a value: a number of 2 or 4 octets, an SPI, the IDs of a wrapped key, or how many octets it has. Octets of keys, and
@@ -156,46 +168,47 @@ fn in_bag(kind: usize) -> Shape {
     }
 }
 
-fn shown(out: &mut [u8], n: usize, shape: Shape, value: &[u8]) -> usize {
+fn shown(rt: &impl Print, out: &mut [u8], n: usize, shape: Shape, value: &[u8]) -> usize {
     match shape {
-        Shape::Number => number(out, n, value),
-        Shape::Spi => spi(out, n, value),
-        Shape::Wrapped => wrapped(out, n, value),
-        Shape::Count => counted(out, n, value),
+        Shape::Number => number(rt, out, n, value),
+        Shape::Spi => spi(rt, out, n, value),
+        Shape::Wrapped => wrapped(rt, out, n, value),
+        Shape::Count => counted(rt, out, n, value),
     }
 }
 
-fn counted(out: &mut [u8], n: usize, value: &[u8]) -> usize {
-    text_names::say(out, n, b": % octets", value.len(), 0, 0)
+fn counted(rt: &impl Print, out: &mut [u8], n: usize, value: &[u8]) -> usize {
+    text_names::say(rt, out, n, b": % octets", value.len(), 0, 0)
 }
 
-fn number(out: &mut [u8], n: usize, value: &[u8]) -> usize {
+fn number(rt: &impl Print, out: &mut [u8], n: usize, value: &[u8]) -> usize {
     let count = value.len();
     match count {
-        2 => text_names::say(out, n, b": %", be16_or_0(value, 0), 0, 0),
-        4 => text_names::say(out, n, b": %", be32_or_0(value, 0), 0, 0),
-        _ => counted(out, n, value),
+        2 => text_names::say(rt, out, n, b": %", be16_or_0(value, 0), 0, 0),
+        4 => text_names::say(rt, out, n, b": %", be32_or_0(value, 0), 0, 0),
+        _ => counted(rt, out, n, value),
     }
 }
 
 // Puts an SPI of AH or ESP (4 octets) or of a Rekey SA (16 octets). A value of another size is counted.
-fn spi(out: &mut [u8], n: usize, value: &[u8]) -> usize {
+fn spi(rt: &impl Print, out: &mut [u8], n: usize, value: &[u8]) -> usize {
     let count = value.len();
     match count {
-        4 => octets(out, n, value),
-        16 => octets(out, n, value),
-        _ => counted(out, n, value),
+        4 => octets(rt, out, n, value),
+        16 => octets(rt, out, n, value),
+        _ => counted(rt, out, n, value),
     }
 }
 
-fn octets(out: &mut [u8], n: usize, value: &[u8]) -> usize {
-    let a = text_names::text(out, n, b": ");
-    text_names::octets(out, a, value)
+fn octets(rt: &impl Print, out: &mut [u8], n: usize, value: &[u8]) -> usize {
+    let a = text_names::text(rt, out, n, b": ");
+    text_names::octets(rt, out, a, value)
 }
 
-fn wrapped(out: &mut [u8], n: usize, value: &[u8]) -> usize {
+fn wrapped(rt: &impl Print, out: &mut [u8], n: usize, value: &[u8]) -> usize {
     let text = b": Key ID %, KWK ID %, % octets wrapped";
     text_names::say(
+        rt,
         out,
         n,
         text,

@@ -5,6 +5,7 @@ use text_faults::places::{behind, end_at, holds, octet, part, span};
 
 // Puts the key bags of a KD payload's body from `from` to `to`, up to `stop`.
 pub(crate) fn bags(
+    rt: &impl Print,
     out: &mut [u8],
     n: usize,
     s: &[u8],
@@ -16,7 +17,7 @@ pub(crate) fn bags(
     let mut at = from;
     while at < to {
         let end = end_at(s, at, to, 4);
-        m = bag(out, m, s, at, end, stop);
+        m = bag(rt, out, m, s, at, end, stop);
         if holds(at, stop, end) {
             return m;
         }
@@ -26,15 +27,24 @@ pub(crate) fn bags(
 }
 
 // Puts the key bag from `at` to `end`, or why it breaks.
-fn bag(out: &mut [u8], n: usize, s: &[u8], at: usize, end: usize, stop: usize) -> usize {
+fn bag(
+    rt: &impl Print,
+    out: &mut [u8],
+    n: usize,
+    s: &[u8],
+    at: usize,
+    end: usize,
+    stop: usize,
+) -> usize {
     if at == stop {
-        return text_faults::of_head(out, n, b"key bag: ", part(s, at, end), stop);
+        return text_faults::of_head(rt, out, n, b"key bag: ", part(s, at, end), stop);
     }
     let first = octet(s, at);
     let body = behind(at, 4 + wire_policies::spi_size(first));
-    let a = crate::line::head(out, n, MIDDLE, at, span(at, end));
-    let b = bag_head(out, a, first, part(s, behind(at, 4), body));
+    let a = crate::line::head(rt, out, n, MIDDLE, at, span(at, end));
+    let b = bag_head(rt, out, a, first, part(s, behind(at, 4), body));
     crate::attribute::attributes(
+        rt,
         out,
         b,
         wire_bags::place_of(false, first),
@@ -45,9 +55,9 @@ fn bag(out: &mut [u8], n: usize, s: &[u8], at: usize, end: usize, stop: usize) -
     )
 }
 
-fn bag_head(out: &mut [u8], n: usize, first: usize, spi: &[u8]) -> usize {
+fn bag_head(rt: &impl Print, out: &mut [u8], n: usize, first: usize, spi: &[u8]) -> usize {
     if first == NO_PROTOCOL {
-        return text_names::text(out, n, b"Member Key Bag\n");
+        return text_names::text(rt, out, n, b"Member Key Bag\n");
     }
-    crate::line::protocol_and_spi(out, n, b"Group Key Bag ", first, spi)
+    crate::line::protocol_and_spi(rt, out, n, b"Group Key Bag ", first, spi)
 }

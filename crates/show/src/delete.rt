@@ -3,30 +3,45 @@ use crate::line::MIDDLE;
 use text_faults::places::{be16_or_0, behind, octet, part};
 
 // Puts the fields of the body from `from` to `to`, and its SPIs if the protocol is one with SPIs.
-pub(crate) fn delete(out: &mut [u8], n: usize, s: &[u8], from: usize, to: usize) -> usize {
+pub(crate) fn delete(
+    rt: &impl Print,
+    out: &mut [u8],
+    n: usize,
+    s: &[u8],
+    from: usize,
+    to: usize,
+) -> usize {
     let protocol = octet(s, from);
     let size = octet(s, behind(from, 1));
-    let a = crate::line::head(out, n, MIDDLE, from, 4);
-    let b = delete_head(out, a, protocol, size, be16_or_0(s, behind(from, 2)));
+    let a = crate::line::head(rt, out, n, MIDDLE, from, 4);
+    let b = delete_head(rt, out, a, protocol, size, be16_or_0(s, behind(from, 2)));
     if wire_policies::spi_size(protocol) == 0 {
         return b;
     }
-    spis(out, b, size, part(s, 0, to), behind(from, 4))
+    spis(rt, out, b, size, part(s, 0, to), behind(from, 4))
 }
 
-fn delete_head(out: &mut [u8], n: usize, protocol: usize, size: usize, count: usize) -> usize {
+fn delete_head(
+    rt: &impl Print,
+    out: &mut [u8],
+    n: usize,
+    protocol: usize,
+    size: usize,
+    count: usize,
+) -> usize {
     let a = text_names::titled(
+        rt,
         out,
         n,
         b"",
         text_names::tables::protocol(protocol),
         protocol,
     );
-    text_names::say(out, a, b", SPI size %, count %\n", size, count, 0)
+    text_names::say(rt, out, a, b", SPI size %, count %\n", size, count, 0)
 }
 
 // Puts the SPIs of `size` octets each, from `from` to the end of `s`.
-fn spis(out: &mut [u8], n: usize, size: usize, s: &[u8], from: usize) -> usize {
+fn spis(rt: &impl Print, out: &mut [u8], n: usize, size: usize, s: &[u8], from: usize) -> usize {
     let mut m = n;
     let mut at = from;
     while at < s.len() {
@@ -37,15 +52,15 @@ fn spis(out: &mut [u8], n: usize, size: usize, s: &[u8], from: usize) -> usize {
             return m;
         }
         let end = at + size;
-        m = spi(out, m, at, part(s, at, end));
+        m = spi(rt, out, m, at, part(s, at, end));
         at = end;
     }
     m
 }
 
-fn spi(out: &mut [u8], n: usize, at: usize, octets: &[u8]) -> usize {
-    let a = crate::line::head(out, n, MIDDLE, at, octets.len());
-    let b = text_names::text(out, a, b"SPI ");
-    let c = text_names::octets(out, b, octets);
-    crate::line::ended(out, c)
+fn spi(rt: &impl Print, out: &mut [u8], n: usize, at: usize, octets: &[u8]) -> usize {
+    let a = crate::line::head(rt, out, n, MIDDLE, at, octets.len());
+    let b = text_names::text(rt, out, a, b"SPI ");
+    let c = text_names::octets(rt, out, b, octets);
+    crate::line::ended(rt, out, c)
 }

@@ -65,15 +65,21 @@ fn by_length(bare: bool, ticked: bool, keyed: bool) -> bool {
 }
 
 // Puts the octets `s` of a line that is no key: its tick, if it has one, and its frame.
-pub(crate) fn show_octets(out: &mut [u8], n: usize, s: &[u8], keyed: bool) -> usize {
+pub(crate) fn show_octets(
+    rt: &impl Print,
+    out: &mut [u8],
+    n: usize,
+    s: &[u8],
+    keyed: bool,
+) -> usize {
     if has_tick(s, keyed) {
-        let a = text_names::say(out, n, b"tick %, ", be32_or_0(s, 0), 0, 0);
-        return framed(out, a, part(s, TICK, s.len()));
+        let a = text_names::say(rt, out, n, b"tick %, ", be32_or_0(s, 0), 0, 0);
+        return framed(rt, out, a, part(s, TICK, s.len()));
     }
-    framed(out, n, s)
+    framed(rt, out, n, s)
 }
 
-fn framed(out: &mut [u8], n: usize, s: &[u8]) -> usize {
-    let a = text_names::say(out, n, b"frame of % octets\n", s.len(), 0, 0);
-    crate::frame::frame(out, a, s)
+fn framed(rt: &impl Print, out: &mut [u8], n: usize, s: &[u8]) -> usize {
+    let a = text_names::say(rt, out, n, b"frame of % octets\n", s.len(), 0, 0);
+    crate::frame::frame(rt, out, a, s)
 }

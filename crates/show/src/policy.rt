@@ -7,6 +7,7 @@ use wire_view::read::Kind;
 
 // Puts the policies of a GSA payload's body from `from` to `to`, up to `stop`.
 pub(crate) fn policies(
+    rt: &impl Print,
     out: &mut [u8],
     n: usize,
     s: &[u8],
@@ -18,7 +19,7 @@ pub(crate) fn policies(
     let mut at = from;
     while at < to {
         let end = end_at(s, at, to, 4);
-        m = policy(out, m, s, at, end, stop);
+        m = policy(rt, out, m, s, at, end, stop);
         if holds(at, stop, end) {
             return m;
         }
@@ -28,22 +29,31 @@ pub(crate) fn policies(
 }
 
 // Puts the policy from `at` to `end`.
-fn policy(out: &mut [u8], n: usize, s: &[u8], at: usize, end: usize, stop: usize) -> usize {
+fn policy(
+    rt: &impl Print,
+    out: &mut [u8],
+    n: usize,
+    s: &[u8],
+    at: usize,
+    end: usize,
+    stop: usize,
+) -> usize {
     if holds(at, stop, end) {
-        return crate::partial::policy(out, n, s, at, end, stop);
+        return crate::partial::policy(rt, out, n, s, at, end, stop);
     }
-    let a = crate::line::head(out, n, MIDDLE, at, span(at, end));
-    whole(out, a, s, at, end)
+    let a = crate::line::head(rt, out, n, MIDDLE, at, span(at, end));
+    whole(rt, out, a, s, at, end)
 }
 
 // Puts the whole policy from `from` to `to`.
-fn whole(out: &mut [u8], n: usize, s: &[u8], from: usize, to: usize) -> usize {
+fn whole(rt: &impl Print, out: &mut [u8], n: usize, s: &[u8], from: usize, to: usize) -> usize {
     let p = part(s, from, to);
     match wire_view::shown_kind(p) {
         Kind::GroupSa(protocol) => {
-            let a = policy_head(out, n, protocol, wire_view::shown_spi(p));
+            let a = policy_head(rt, out, n, protocol, wire_view::shown_spi(p));
             let place = wire_attributes::tables::in_policy(protocol);
             items(
+                rt,
                 out,
                 a,
                 place,
@@ -54,16 +64,22 @@ fn whole(out: &mut [u8], n: usize, s: &[u8], from: usize, to: usize) -> usize {
             )
         }
         Kind::GroupWide => {
-            let a = text_names::text(out, n, b"group-wide policy\n");
-            items(out, a, Place::GroupWidePolicy, s, from, to, 4)
+            let a = text_names::text(rt, out, n, b"group-wide policy\n");
+            items(rt, out, a, Place::GroupWidePolicy, s, from, to, 4)
         }
-        Kind::Nothing => text_names::text(out, n, b"nothing to show\n"),
+        Kind::Nothing => text_names::text(rt, out, n, b"nothing to show\n"),
     }
 }
 
 // Puts the protocol and the SPI of a policy.
-pub(crate) fn policy_head(out: &mut [u8], n: usize, protocol: usize, spi: &[u8]) -> usize {
-    crate::line::protocol_and_spi(out, n, b"policy ", protocol, spi)
+pub(crate) fn policy_head(
+    rt: &impl Print,
+    out: &mut [u8],
+    n: usize,
+    protocol: usize,
+    spi: &[u8],
+) -> usize {
+    crate::line::protocol_and_spi(rt, out, n, b"policy ", protocol, spi)
 }
 
 // Where the text goes on (`n`), where the next item of the policy stands (`next`), the view's cursor there, and whether there was an item
@@ -78,6 +94,7 @@ struct Step {
 
 // Puts what the view shows behind the `head` octets of a policy, one item after the other.
 fn items(
+    rt: &impl Print,
     out: &mut [u8],
     n: usize,
     place: Place,
@@ -91,7 +108,7 @@ fn items(
     let mut cursor = 0;
     let mut i = 0;
     while i < s.len() {
-        let step = item(out, m, place, s, from, to, at, cursor);
+        let step = item(rt, out, m, place, s, from, to, at, cursor);
         m = step.n;
         at = step.next;
         cursor = step.cursor;
@@ -106,6 +123,7 @@ fn items(
 
 // Puts what stands at `cursor` of the policy from `from` to `to`. Its offset in the frame is `at`.
 fn item(
+    rt: &impl Print,
     out: &mut [u8],
     n: usize,
     place: Place,
@@ -129,9 +147,13 @@ fn item(
             end,
         } => {
             let next = behind(from, end);
-            let a = selector_head(out, n, cursor == 0, at, span(at, next));
-            let b = addresses(out, a, part(p, start, end));
-            stepped(ports(out, b, protocol, start_port, end_port), next, then)
+            let a = selector_head(rt, out, n, cursor == 0, at, span(at, next));
+            let b = addresses(rt, out, a, part(p, start, end));
+            stepped(
+                ports(rt, out, b, protocol, start_port, end_port),
+                next,
+                then,
+            )
         }
         Item::Transform {
             kind,
@@ -140,7 +162,7 @@ fn item(
             key_length: _,
         } => {
             let next = behind(at, be16_or_0(s, behind(at, 2)));
-            stepped(transform(out, n, kind, id, s, at, next, 0), next, then)
+            stepped(transform(rt, out, n, kind, id, s, at, next, 0), next, then)
         }
         Item::Attribute {
             meaning: _,
@@ -152,7 +174,7 @@ fn item(
             let next = behind(from, end);
             let value = part(p, start, end);
             stepped(
-                crate::attribute::attribute(out, n, place, at, span(at, next), kind, value),
+                crate::attribute::attribute(rt, out, n, place, at, span(at, next), kind, value),
                 next,
                 then,
             )
@@ -176,17 +198,32 @@ fn stepped(n: usize, next: usize, cursor: usize) -> Step {
 }
 
 // Puts the start of a selector's line. The first selector is the source.
-pub(crate) fn selector_head(out: &mut [u8], n: usize, first: bool, at: usize, len: usize) -> usize {
-    let a = crate::line::head(out, n, INNER, at, len);
+pub(crate) fn selector_head(
+    rt: &impl Print,
+    out: &mut [u8],
+    n: usize,
+    first: bool,
+    at: usize,
+    len: usize,
+) -> usize {
+    let a = crate::line::head(rt, out, n, INNER, at, len);
     if first {
-        return text_names::text(out, a, b"source ");
+        return text_names::text(rt, out, a, b"source ");
     }
-    text_names::text(out, a, b"destination ")
+    text_names::text(rt, out, a, b"destination ")
 }
 
 // Puts the IP protocol and the ports of a selector.
-pub(crate) fn ports(out: &mut [u8], n: usize, protocol: usize, start: usize, end: usize) -> usize {
+pub(crate) fn ports(
+    rt: &impl Print,
+    out: &mut [u8],
+    n: usize,
+    protocol: usize,
+    start: usize,
+    end: usize,
+) -> usize {
     text_names::say(
+        rt,
         out,
         n,
         b", IP protocol %, ports % to %\n",
@@ -197,15 +234,16 @@ pub(crate) fn ports(out: &mut [u8], n: usize, protocol: usize, start: usize, end
 }
 
 // Puts the two addresses of a selector, which are the two halves of `octets`.
-pub(crate) fn addresses(out: &mut [u8], n: usize, octets: &[u8]) -> usize {
+pub(crate) fn addresses(rt: &impl Print, out: &mut [u8], n: usize, octets: &[u8]) -> usize {
     let half = octets.len() / 2;
-    let a = crate::address::address(out, n, part(octets, 0, half));
-    let b = text_names::text(out, a, b" to ");
-    crate::address::address(out, b, part(octets, half, octets.len()))
+    let a = crate::address::address(rt, out, n, part(octets, 0, half));
+    let b = text_names::text(rt, out, a, b" to ");
+    crate::address::address(rt, out, b, part(octets, half, octets.len()))
 }
 
 // Puts the transform from `at` to `end`, and its attributes up to `stop`.
 pub(crate) fn transform(
+    rt: &impl Print,
     out: &mut [u8],
     n: usize,
     kind: usize,
@@ -215,14 +253,15 @@ pub(crate) fn transform(
     end: usize,
     stop: usize,
 ) -> usize {
-    let a = crate::line::head(out, n, INNER, at, span(at, end));
-    let b = transform_head(out, a, kind, id);
+    let a = crate::line::head(rt, out, n, INNER, at, span(at, end));
+    let b = transform_head(rt, out, a, kind, id);
     let place = wire_attributes::tables::in_transform(kind);
-    crate::attribute::attributes(out, b, place, s, behind(at, 8), end, stop)
+    crate::attribute::attributes(rt, out, b, place, s, behind(at, 8), end, stop)
 }
 
-fn transform_head(out: &mut [u8], n: usize, kind: usize, id: usize) -> usize {
+fn transform_head(rt: &impl Print, out: &mut [u8], n: usize, kind: usize, id: usize) -> usize {
     let a = text_names::titled(
+        rt,
         out,
         n,
         b"transform ",
@@ -230,11 +269,12 @@ fn transform_head(out: &mut [u8], n: usize, kind: usize, id: usize) -> usize {
         kind,
     );
     let b = text_names::titled(
+        rt,
         out,
         a,
         b": ",
         text_names::tables::transform_id(kind, id),
         id,
     );
-    crate::line::ended(out, b)
+    crate::line::ended(rt, out, b)
 }

@@ -7,7 +7,7 @@ const MOST: usize = 32776;
 // Where the program stands: the place in the output (`n`); whether the first line was a key (`keyed`); the number of the line that is read
 // (`number`), how many digits of it are held (`held`), how many characters it has so far (`seen`), how many its last word has (`word`), and
 // the place of its first character that is no digit, or 0 (`wrong`).
-#[derive(Drop)]
+#[derive(Clone, Copy)]
 pub(crate) struct LinesRead {
     pub(crate) n: usize,
     pub(crate) keyed: bool,
@@ -93,9 +93,9 @@ fn character(r: LinesRead, c: u8, line: &mut [u8]) -> LinesRead {
 }
 
 // Ends a line: shows it, and begins the next one.
-fn ended(r: LinesRead, line: &[u8], room: &mut [u8], out: &mut [u8]) -> LinesRead {
+fn ended(rt: &impl Print, r: LinesRead, line: &[u8], room: &mut [u8], out: &mut [u8]) -> LinesRead {
     let held = r.held;
-    let n = show_line(out, r, part(line, 0, held), room);
+    let n = show_line(rt, out, r, part(line, 0, held), room);
     LinesRead {
         n,
         keyed: keyed(r, held),
@@ -116,15 +116,23 @@ fn keyed(r: LinesRead, held: usize) -> bool {
 }
 
 // Takes the character `c`, a newline or one of a line.
-fn taken(r: LinesRead, c: u8, line: &mut [u8], room: &mut [u8], out: &mut [u8]) -> LinesRead {
+fn taken(
+    rt: &impl Print,
+    r: LinesRead,
+    c: u8,
+    line: &mut [u8],
+    room: &mut [u8],
+    out: &mut [u8],
+) -> LinesRead {
     if c == 10 {
-        return ended(r, line, room, out);
+        return ended(rt, r, line, room, out);
     }
     character(r, c, line)
 }
 
 // Takes all characters of `block`.
 pub(crate) fn block(
+    rt: &impl Print,
     r: LinesRead,
     block: &[u8],
     line: &mut [u8],
@@ -134,24 +142,30 @@ pub(crate) fn block(
     let mut x = r;
     let mut i = 0;
     while i < block.len() {
-        x = taken(x, block[i], line, room, out);
+        x = taken(rt, x, block[i], line, room, out);
         i += 1;
     }
     x
 }
 
 // Ends the input: shows a line that has begun.
-pub(crate) fn finished(r: LinesRead, line: &[u8], room: &mut [u8], out: &mut [u8]) -> LinesRead {
+pub(crate) fn finished(
+    rt: &impl Print,
+    r: LinesRead,
+    line: &[u8],
+    room: &mut [u8],
+    out: &mut [u8],
+) -> LinesRead {
     if r.seen == 0 {
         return r;
     }
-    ended(r, line, room, out)
+    ended(rt, r, line, room, out)
 }
 
 // Hands over what `out` holds.
-pub(crate) fn handed_over(r: LinesRead, out: &[u8]) -> LinesRead {
+pub(crate) fn handed_over(rt: &impl Print, r: LinesRead, out: &[u8]) -> LinesRead {
     LinesRead {
-        n: text_names::handed_over(out, r.n),
+        n: text_names::handed_over(rt, out, r.n),
         keyed: r.keyed,
         number: r.number,
         held: r.held,
@@ -162,10 +176,17 @@ pub(crate) fn handed_over(r: LinesRead, out: &[u8]) -> LinesRead {
 }
 
 // Puts the number of a line and what its `digits` hold, or why they cannot be shown.
-fn show_line(out: &mut [u8], r: LinesRead, digits: &[u8], room: &mut [u8]) -> usize {
-    let n = text_names::say(out, r.n, b"line %: ", r.number, 0, 0);
+fn show_line(
+    rt: &impl Print,
+    out: &mut [u8],
+    r: LinesRead,
+    digits: &[u8],
+    room: &mut [u8],
+) -> usize {
+    let n = text_names::say(rt, out, r.n, b"line %: ", r.number, 0, 0);
     if r.wrong != 0 {
         return text_names::say(
+            rt,
             out,
             n,
             b"character % is no hexadecimal digit\n",
@@ -175,18 +196,26 @@ fn show_line(out: &mut [u8], r: LinesRead, digits: &[u8], room: &mut [u8]) -> us
         );
     }
     if MOST < digits.len() {
-        return text_names::say(out, n, b"more than % digits\n", MOST, 0, 0);
+        return text_names::say(rt, out, n, b"more than % digits\n", MOST, 0, 0);
     }
-    show_digits(out, n, r, digits, room)
+    show_digits(rt, out, n, r, digits, room)
 }
 
-fn show_digits(out: &mut [u8], n: usize, r: LinesRead, digits: &[u8], room: &mut [u8]) -> usize {
+fn show_digits(
+    rt: &impl Print,
+    out: &mut [u8],
+    n: usize,
+    r: LinesRead,
+    digits: &[u8],
+    room: &mut [u8],
+) -> usize {
     let count = digits.len();
     if count % 2 == 1 {
-        return text_names::say(out, n, b"% digits, an odd count\n", count, 0, 0);
+        return text_names::say(rt, out, n, b"% digits, an odd count\n", count, 0, 0);
     }
     if crate::kinds::is_key(r.number, count) {
         return text_names::say(
+            rt,
             out,
             n,
             b"default key of % octets, not shown\n",
@@ -195,13 +224,20 @@ fn show_digits(out: &mut [u8], n: usize, r: LinesRead, digits: &[u8], room: &mut
             0,
         );
     }
-    show_octets(out, n, r.keyed, digits, room)
+    show_octets(rt, out, n, r.keyed, digits, room)
 }
 
-fn show_octets(out: &mut [u8], n: usize, keyed: bool, digits: &[u8], room: &mut [u8]) -> usize {
+fn show_octets(
+    rt: &impl Print,
+    out: &mut [u8],
+    n: usize,
+    keyed: bool,
+    digits: &[u8],
+    room: &mut [u8],
+) -> usize {
     if digits.len() == 0 {
-        return text_names::text(out, n, b"empty\n");
+        return text_names::text(rt, out, n, b"empty\n");
     }
     let len = text_lines::put_octets(room, 0, digits);
-    crate::kinds::show_octets(out, n, part(room, 0, len), keyed)
+    crate::kinds::show_octets(rt, out, n, part(room, 0, len), keyed)
 }

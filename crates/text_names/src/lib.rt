@@ -1,8 +1,8 @@
 // Puts text into lent room and hands the room to standard output whenever it is full; names code numbers (`tables`). A function that puts
-// text takes the room `out` and the place `at` for the text, and answers the place behind it. A place behind the end of `out` says that a
-// write has failed: nothing is put or written from then on.
+// text takes `rt`, by which it writes, the room `out` and the place `at` for the text, and answers the place behind it. A place behind the
+// end of `out` says that a write has failed: nothing is put or written from then on.
 // Internal: crates of this repository alone call it.
-use libc::STDOUT_FILENO;
+#![tactic(auto)]
 
 pub mod tables;
 
@@ -11,9 +11,9 @@ const MARK: u8 = 37;
 
 // Writes the first `at` octets of `out` to standard output. Answers 0, where `out` is to be filled from now on, or usize::MAX if a write
 // failed now or before.
-pub fn handed_over(out: &[u8], at: usize) -> usize {
+pub fn handed_over(rt: &impl Print, out: &[u8], at: usize) -> usize {
     if at <= out.len() {
-        if io::write_all(STDOUT_FILENO, &out[0..at]) {
+        if rt.write_all(&out[0..at]).is_ok() {
             return 0;
         }
     }
@@ -21,16 +21,16 @@ pub fn handed_over(out: &[u8], at: usize) -> usize {
 }
 
 // Hands `out` over if it is full. Answers the place for the next octet.
-fn free(out: &[u8], at: usize) -> usize {
+fn free(rt: &impl Print, out: &[u8], at: usize) -> usize {
     if at == out.len() {
-        return handed_over(out, at);
+        return handed_over(rt, out, at);
     }
     at
 }
 
 // Puts one octet.
-pub fn put(out: &mut [u8], at: usize, octet: u8) -> usize {
-    let n = free(out, at);
+pub fn put(rt: &impl Print, out: &mut [u8], at: usize, octet: u8) -> usize {
+    let n = free(rt, out, at);
     if n < out.len() {
         out[n] = octet;
         return n + 1;
@@ -39,40 +39,48 @@ pub fn put(out: &mut [u8], at: usize, octet: u8) -> usize {
 }
 
 // Puts `octets` as they stand.
-pub fn text(out: &mut [u8], at: usize, octets: &[u8]) -> usize {
+pub fn text(rt: &impl Print, out: &mut [u8], at: usize, octets: &[u8]) -> usize {
     let mut n = at;
     let mut i = 0;
     while i < octets.len() {
-        n = put(out, n, octets[i]);
+        n = put(rt, out, n, octets[i]);
         i += 1;
     }
     n
 }
 
 // Puts `x` in decimal.
-pub fn number(out: &mut [u8], at: usize, x: usize) -> usize {
+pub fn number(rt: &impl Print, out: &mut [u8], at: usize, x: usize) -> usize {
     let mut digits = [0u8; 20];
     let k = io::decimal(x as u64, &mut digits);
-    text(out, at, &digits[..k])
+    text(rt, out, at, &digits[..k])
 }
 
 // Puts the character `c`, or the number `x` if `c` is the mark.
-fn character(out: &mut [u8], at: usize, c: u8, x: usize) -> usize {
+fn character(rt: &impl Print, out: &mut [u8], at: usize, c: u8, x: usize) -> usize {
     if c == MARK {
-        return number(out, at, x);
+        return number(rt, out, at, x);
     }
-    put(out, at, c)
+    put(rt, out, at, c)
 }
 
 // Puts `text`, with the numbers `x`, `y` and `z` in place of its marks, in this order.
-pub fn say(out: &mut [u8], at: usize, text: &[u8], x: usize, y: usize, z: usize) -> usize {
+pub fn say(
+    rt: &impl Print,
+    out: &mut [u8],
+    at: usize,
+    text: &[u8],
+    x: usize,
+    y: usize,
+    z: usize,
+) -> usize {
     let mut n = at;
     let mut now = x;
     let mut then = y;
     let mut i = 0;
     while i < text.len() {
         let c = text[i];
-        n = character(out, n, c, now);
+        n = character(rt, out, n, c, now);
         if c == MARK {
             now = then;
             then = z;
@@ -83,11 +91,11 @@ pub fn say(out: &mut [u8], at: usize, text: &[u8], x: usize, y: usize, z: usize)
 }
 
 // Puts `count` blanks.
-pub fn blanks(out: &mut [u8], at: usize, count: usize) -> usize {
+pub fn blanks(rt: &impl Print, out: &mut [u8], at: usize, count: usize) -> usize {
     let mut n = at;
     let mut i = 0;
     while i < count {
-        n = put(out, n, 32);
+        n = put(rt, out, n, 32);
         i += 1;
     }
     n
@@ -102,11 +110,11 @@ fn lacks(x: usize, of: usize) -> usize {
 }
 
 // Puts `x` in decimal, at the right end of 6 columns.
-pub fn column(out: &mut [u8], at: usize, x: usize) -> usize {
+pub fn column(rt: &impl Print, out: &mut [u8], at: usize, x: usize) -> usize {
     let mut digits = [0u8; 20];
     let k = io::decimal(x as u64, &mut digits);
-    let n = blanks(out, at, lacks(k, 6));
-    text(out, n, &digits[..k])
+    let n = blanks(rt, out, at, lacks(k, 6));
+    text(rt, out, n, &digits[..k])
 }
 
 fn wide(x: u8) -> u64 {
@@ -114,18 +122,18 @@ fn wide(x: u8) -> u64 {
 }
 
 // Puts `x` in hexadecimal, with at least `digits` digits.
-pub fn hexadecimal(out: &mut [u8], at: usize, x: u64, digits: usize) -> usize {
+pub fn hexadecimal(rt: &impl Print, out: &mut [u8], at: usize, x: u64, digits: usize) -> usize {
     let mut room = [0u8; 16];
     let k = io::hex(x, digits, &mut room);
-    text(out, at, &room[..k])
+    text(rt, out, at, &room[..k])
 }
 
 // Puts `octets` in hexadecimal, two digits each.
-pub fn octets(out: &mut [u8], at: usize, octets: &[u8]) -> usize {
+pub fn octets(rt: &impl Print, out: &mut [u8], at: usize, octets: &[u8]) -> usize {
     let mut n = at;
     let mut i = 0;
     while i < octets.len() {
-        n = hexadecimal(out, n, wide(octets[i]), 2);
+        n = hexadecimal(rt, out, n, wide(octets[i]), 2);
         i += 1;
     }
     n
@@ -144,7 +152,7 @@ fn size(name: [u8; 48]) -> usize {
 }
 
 // Puts `name` without its padding.
-pub fn name(out: &mut [u8], at: usize, name: [u8; 48]) -> usize {
+pub fn name(rt: &impl Print, out: &mut [u8], at: usize, name: [u8; 48]) -> usize {
     let end = size(name);
     let mut n = at;
     let mut i = 0;
@@ -152,15 +160,22 @@ pub fn name(out: &mut [u8], at: usize, name: [u8; 48]) -> usize {
         if end <= i {
             return n;
         }
-        n = put(out, n, name[i]);
+        n = put(rt, out, n, name[i]);
         i += 1;
     }
     n
 }
 
 // Puts the text `before`, the name `padded` without its padding, and the number `x` in parentheses.
-pub fn titled(out: &mut [u8], at: usize, before: &[u8], padded: [u8; 48], x: usize) -> usize {
-    let a = text(out, at, before);
-    let b = name(out, a, padded);
-    say(out, b, b" (%)", x, 0, 0)
+pub fn titled(
+    rt: &impl Print,
+    out: &mut [u8],
+    at: usize,
+    before: &[u8],
+    padded: [u8; 48],
+    x: usize,
+) -> usize {
+    let a = text(rt, out, at, before);
+    let b = name(rt, out, a, padded);
+    say(rt, out, b, b" (%)", x, 0, 0)
 }

@@ -2,6 +2,8 @@
 // member judges, without the member's table and the lent key. Of several GSA or KD payloads it looks at the first, as a member does. It
 // reads a frame as a member without the profile does: fresh keys are skipped (document 02, T-11).
 // Internal: crates of this repository alone call it.
+#![tactic(auto)]
+
 ghost use Rattle.std.specs.Prelude.{◌≡◌, true, false};
 ghost use Rattle.wire_frames.specs.Frame.{frame};
 ghost use Rattle.wire_readers.specs.inner.Values.{is_whole};
@@ -84,9 +86,9 @@ fn of_frame(s: &[u8]) -> ClauseFound
 
 // Puts a line into `out` for each clause that applies to the frame `s`, or a line saying that none does. Puts nothing if the layout of `s`
 // is broken. Answers the place behind the lines, which start at `n`.
-pub fn applying(out: &mut [u8], n: usize, s: &[u8]) -> usize {
+pub fn applying(rt: &impl Print, out: &mut [u8], n: usize, s: &[u8]) -> usize {
     match wire_frames::frame_layout(s) {
-        Layout::Whole => text::lines(out, n, of_frame(s)),
+        Layout::Whole => text::lines(rt, out, n, of_frame(s)),
         Layout::Broken(_) => n,
     }
 }

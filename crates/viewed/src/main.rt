@@ -1,18 +1,20 @@
 // Walks through views of policies by the calls of `wire_view`: twice through each, by `shown_step` and by the calls that a step puts into
 // one. Prints for each walk a word for each selector, transform and attribute, and how many it came by.
-use libc::STDOUT_FILENO;
+#![tactic(auto)]
+
 use wire_view::items::Item;
 
-fn print(text: &[u8]) {
-    io::write_all(STDOUT_FILENO, text);
+// Prints `text`. What a failed write leaves out is not printed again, and the walks go on.
+fn print(rt: &impl Print, text: &[u8]) {
+    let _ = rt.write_all(text);
 }
 
 // Prints a word for `item`. Answers whether there is one.
-fn print_name(item: Item) -> bool {
+fn print_name(rt: &impl Print, item: Item) -> bool {
     match item {
-        Item::Selector { .. } => print(b"selector "),
-        Item::Transform { .. } => print(b"transform "),
-        Item::Attribute { .. } => print(b"attribute "),
+        Item::Selector { .. } => print(rt, b"selector "),
+        Item::Transform { .. } => print(rt, b"transform "),
+        Item::Attribute { .. } => print(rt, b"attribute "),
         Item::Nothing => {
             return false;
         }
@@ -21,13 +23,13 @@ fn print_name(item: Item) -> bool {
 }
 
 // Walks through the policy `s` by `shown_step`. Answers how many items it came by.
-fn by_steps(s: &[u8]) -> usize {
+fn by_steps(rt: &impl Print, s: &[u8]) -> usize {
     let mut n = 0;
     let mut at = 0;
     while n < s.len() {
         let step = wire_view::shown_step(s, at);
         let item = step.item;
-        if !print_name(item) {
+        if !print_name(rt, item) {
             return n;
         }
         at = step.next;
@@ -37,42 +39,43 @@ fn by_steps(s: &[u8]) -> usize {
 }
 
 // Walks through the policy `s` by `shown_end`, `shown` and `shown_next`. Answers how many items it came by.
-fn by_moves(s: &[u8]) -> usize {
+fn by_moves(rt: &impl Print, s: &[u8]) -> usize {
     let mut n = 0;
     let mut at = 0;
     while n < s.len() {
         if wire_view::shown_end(s, at) {
             return n;
         }
-        print_name(wire_view::shown(s, at));
+        print_name(rt, wire_view::shown(s, at));
         at = wire_view::shown_next(s, at);
         n += 1;
     }
     n
 }
 
-fn print_count(n: usize) {
-    io::print_decimal(STDOUT_FILENO, n as u64);
-    print(b" shown\n");
+fn print_count(rt: &impl Print, n: usize) {
+    let _ = println!(rt; "{n} shown");
 }
 
 // Walks through the policy `s` in both ways.
-fn walk(s: &[u8]) {
-    print_count(by_steps(s));
-    print_count(by_moves(s));
+fn walk(rt: &impl Print, s: &[u8]) {
+    print_count(rt, by_steps(rt, s));
+    print_count(rt, by_moves(rt, s));
 }
 
-fn main() {
+fn main(rt: HostRuntime) {
     // group-wide: empty, with a deactivation delay, and with an octet left over
-    walk(b"\x00\x00\x00\x04");
-    walk(b"\x00\x00\x00\x08\x80\x02\x00\x05");
-    walk(b"\x00\x00\x00\x04\x00");
+    walk(&rt, b"\x00\x00\x00\x04");
+    walk(&rt, b"\x00\x00\x00\x08\x80\x02\x00\x05");
+    walk(&rt, b"\x00\x00\x00\x04\x00");
     // ESP policies: two selectors and a transform; two selectors, two transforms and an attribute
     walk(
+        &rt,
         b"\x03\x04\x00\x30spi \x07a\x00\x10PPPPaaaabbbb\x07a\x00\x10PPPPaaaabbbb\x00\x00\x00\x08\x05\x00\x00\x02",
     );
     walk(
+        &rt,
         b"\x03\x04\x00@spi \x07a\x00\x10PPPPaaaabbbb\x07a\x00\x10PPPPaaaabbbb\x03r\x00\x08\x01rID\x00r\x00\x08\x05rID\x00\x01\x00\x04life",
     );
-    walk(b"");
+    walk(&rt, b"");
 }
