@@ -2,67 +2,72 @@
 use crate::inputs::{LENT, first, key, plain, written};
 use crate::text::{print, print_case, print_last};
 use keywrap::WrapAnswer;
+use std::io;
 
 const COUNTS: [usize; 14] = [1, 7, 8, 9, 15, 16, 17, 20, 24, 36, 44, 68, 255, 256];
 
-fn print_written(answer: WrapAnswer, room: &[u8]) {
+fn print_written(rt: &impl Print, answer: WrapAnswer, room: &[u8]) -> io::Result<()> {
     match answer {
-        WrapAnswer::No => print(b"no\n"),
-        WrapAnswer::Count(n) => print_last(first(room, n)),
+        WrapAnswer::No => print(rt, b"no\n"),
+        WrapAnswer::Count(n) => print_last(rt, first(room, n)),
     }
 }
 
 // Prints what `octets` wrap to.
-fn print_wrapped(key: &[u8], octets: &[u8]) {
+fn print_wrapped(rt: &impl Print, key: &[u8], octets: &[u8]) -> io::Result<()> {
     let mut room = [LENT; 264];
     let answer = keywrap::wrap(key, octets, &mut room);
-    print_written(answer, &room);
+    print_written(rt, answer, &room)
 }
 
 // Prints what the wrapping of `octets` opens to.
-fn print_opened(key: &[u8], octets: &[u8]) {
+fn print_opened(rt: &impl Print, key: &[u8], octets: &[u8]) -> io::Result<()> {
     let mut wrapped = [LENT; 264];
     let wrapping = keywrap::wrap(key, octets, &mut wrapped);
     let mut room = [LENT; 256];
     let answer = keywrap::open(key, written(wrapping, &wrapped), &mut room);
-    print_written(answer, &room);
+    print_written(rt, answer, &room)
 }
 
-fn example(octets: &[u8]) {
+fn example(rt: &impl Print, octets: &[u8]) -> io::Result<()> {
     let key =
         b"\x58\x40\xdf\x6e\x29\xb0\x2a\xf1\xab\x49\x3b\x70\x5b\xf1\x6e\xa1\xae\x83\x38\xf4\xdc\xc1\x76\xa8";
-    print_case(b"rfc5649 ", octets.len(), b" wrap ");
-    print_wrapped(key, octets);
-    print_case(b"rfc5649 ", octets.len(), b" open ");
-    print_opened(key, octets);
+    print_case(rt, b"rfc5649 ", octets.len(), b" wrap ")?;
+    print_wrapped(rt, key, octets)?;
+    print_case(rt, b"rfc5649 ", octets.len(), b" open ")?;
+    print_opened(rt, key, octets)
 }
 
 // Prints the examples of RFC 5649, section 6.
-pub(crate) fn published() {
-    example(b"\xc3\x7b\x7e\x64\x92\x58\x43\x40\xbe\xd1\x22\x07\x80\x89\x41\x15\x50\x68\xf7\x38");
-    example(b"ForPasi");
+pub(crate) fn published(rt: &impl Print) -> io::Result<()> {
+    example(
+        rt,
+        b"\xc3\x7b\x7e\x64\x92\x58\x43\x40\xbe\xd1\x22\x07\x80\x89\x41\x15\x50\x68\xf7\x38",
+    )?;
+    example(rt, b"ForPasi")
 }
 
-fn both_ways(size: usize, count: usize) {
+fn both_ways(rt: &impl Print, size: usize, count: usize) -> io::Result<()> {
     let key_octets = key(size);
     let octets = plain(count);
-    print_case(b"wrap ", size, b" ");
-    print_case(b"", count, b" ");
-    print_wrapped(first(&key_octets, size), first(&octets, count));
-    print_case(b"open ", size, b" ");
-    print_case(b"", count, b" ");
-    print_opened(first(&key_octets, size), first(&octets, count));
+    print_case(rt, b"wrap ", size, b" ")?;
+    print_case(rt, b"", count, b" ")?;
+    print_wrapped(rt, first(&key_octets, size), first(&octets, count))?;
+    print_case(rt, b"open ", size, b" ")?;
+    print_case(rt, b"", count, b" ")?;
+    print_opened(rt, first(&key_octets, size), first(&octets, count))
 }
 
-fn both_ways_each(size: usize, counts: &[usize]) {
+fn both_ways_each(rt: &impl Print, size: usize, counts: &[usize]) -> io::Result<()> {
     let mut i = 0;
     while i < counts.len() {
-        both_ways(size, counts[i]);
+        both_ways(rt, size, counts[i])?;
         i += 1;
     }
+    Ok(())
 }
 
 // Wraps and opens each of the counts under a key of `size` octets.
-pub(crate) fn counts(size: usize) {
-    both_ways_each(size, &COUNTS);
+pub(crate) fn counts(rt: &impl Print, size: usize) -> io::Result<()> {
+    both_ways_each(rt, size, &COUNTS)
 }

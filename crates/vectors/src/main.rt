@@ -1,5 +1,7 @@
 // Prints the published vectors of FIPS 197 and RFC 5649 and further cases of wrapping and opening, one line a case, and a line for each
 // case of AES-GCM that fails. `vectors random` prints 10,000 keys and blocks by a rule, enciphered and deciphered.
+#![tactic(auto)]
+
 mod blocks;
 mod counts;
 mod damages;
@@ -11,27 +13,29 @@ mod sealed;
 mod sizes;
 mod text;
 
-fn published() {
-    blocks::ciphers();
-    blocks::expansions();
-    counts::published();
-    counts::counts(16);
-    counts::counts(24);
-    counts::counts(32);
-    rooms::rooms(16);
-    rooms::rooms(24);
-    rooms::rooms(32);
-    damages::damages();
-    sizes::sizes();
-    sealed::sealed();
+use std::env::Env;
+use std::io;
+
+fn published(rt: &impl Print) -> io::Result<()> {
+    blocks::ciphers(rt)?;
+    blocks::expansions(rt)?;
+    counts::published(rt)?;
+    counts::counts(rt, 16)?;
+    counts::counts(rt, 24)?;
+    counts::counts(rt, 32)?;
+    rooms::rooms(rt, 16)?;
+    rooms::rooms(rt, 24)?;
+    rooms::rooms(rt, 32)?;
+    damages::damages(rt)?;
+    sizes::sizes(rt)?;
+    sealed::sealed(rt)
 }
 
-fn main() {
+fn main(rt: HostRuntime) -> io::Result<()> {
     let mut mode = [0u8; 8];
-    let m = os::arg(1, &mut mode);
+    let m = rt.arg(1, &mut mode).unwrap_or(0);
     if check::same(&mode[..m], b"random") {
-        random::random();
-        return;
+        return random::random(&rt);
     }
-    published();
+    published(&rt)
 }

@@ -4,6 +4,7 @@ ghost use Rattle.fips197.specs.Key.{is_key};
 
 use crate::text::{print, print_last, print_octets};
 use octets::registers::{be64_at, block_of};
+use std::io;
 
 const COUNT: usize = 10000;
 
@@ -37,47 +38,46 @@ fn draw(x: u64) -> Drawn {
 }
 
 // Prints a key and a block, the block's cipher and its inverse cipher.
-fn print_blocks(key: &[u8], block: [u8; 16])
+fn print_blocks(rt: &impl Print, key: &[u8], block: [u8; 16]) -> io::Result<()>
     requires { T (is_key (length key.now)) }
 {
-    print(b"random ");
-    print_octets(key);
-    print(b" ");
-    print_octets(&block);
+    print(rt, b"random ")?;
+    print_octets(rt, key)?;
+    print(rt, b" ")?;
+    print_octets(rt, &block)?;
     let tables = aes::tables();
     let schedule = aes::expand(&tables, key);
-    print(b" ");
-    print_octets(&aes::encrypt(&tables, &schedule.words, block));
+    print(rt, b" ")?;
+    print_octets(rt, &aes::encrypt(&tables, &schedule.words, block))?;
     let inverse_tables = aes::inverse_tables();
     let inverse = aes::expand_inverse(&inverse_tables, key);
-    print(b" ");
-    print_last(&aes::decrypt(&inverse_tables, &inverse.words, block));
+    print(rt, b" ")?;
+    print_last(rt, &aes::decrypt(&inverse_tables, &inverse.words, block))
 }
 
 // Prints the blocks of one turn. The key is the first 16, 24 or 32 octets by `turn`, the block the last 16.
-fn print_sized(turn: usize, octets: [u8; 48]) {
+fn print_sized(rt: &impl Print, turn: usize, octets: [u8; 48]) -> io::Result<()> {
     let kind = turn % 3;
     let block = block_of(be64_at(&octets, 32), be64_at(&octets, 40));
     if kind == 0 {
-        print_blocks(&octets[0..16], block);
-        return;
+        return print_blocks(rt, &octets[0..16], block);
     }
     if kind == 1 {
-        print_blocks(&octets[0..24], block);
-        return;
+        return print_blocks(rt, &octets[0..24], block);
     }
-    print_blocks(&octets[0..32], block);
+    print_blocks(rt, &octets[0..32], block)
 }
 
 // Prints the blocks of all turns.
-pub(crate) fn random() {
+pub(crate) fn random(rt: &impl Print) -> io::Result<()> {
     let mut x = SEED;
     let mut turn = 0;
     while turn < COUNT {
         let d = draw(x);
         let octets = d.octets;
-        print_sized(turn, octets);
+        print_sized(rt, turn, octets)?;
         x = d.state;
         turn += 1;
     }
+    Ok(())
 }

@@ -2,27 +2,28 @@
 use crate::inputs::LENT;
 use crate::text::{print, print_answer};
 use keywrap::WrapAnswer;
+use std::io;
 
 // Prints `answer`, and beside it "room changed" where `room` is not as it was lent.
-fn print_refusal(answer: WrapAnswer, room: &[u8]) {
+fn print_refusal(rt: &impl Print, answer: WrapAnswer, room: &[u8]) -> io::Result<()> {
     let lent = [LENT; 272];
-    print_answer(answer);
+    print_answer(rt, answer)?;
     if check::same(room, &lent) {
-        return print(b"\n");
+        return print(rt, b"\n");
     }
-    print(b", room changed\n");
+    print(rt, b", room changed\n")
 }
 
 // Opens `wrapped`, and prints the refusal.
-pub(crate) fn refused_open(key: &[u8], wrapped: &[u8]) {
+pub(crate) fn refused_open(rt: &impl Print, key: &[u8], wrapped: &[u8]) -> io::Result<()> {
     let mut room = [LENT; 272];
     let answer = keywrap::open(key, wrapped, &mut room);
-    print_refusal(answer, &room);
+    print_refusal(rt, answer, &room)
 }
 
 // Wraps `octets`, and prints the refusal.
-pub(crate) fn refused_wrap(key: &[u8], octets: &[u8]) {
+pub(crate) fn refused_wrap(rt: &impl Print, key: &[u8], octets: &[u8]) -> io::Result<()> {
     let mut room = [LENT; 272];
     let answer = keywrap::wrap(key, octets, &mut room);
-    print_refusal(answer, &room);
+    print_refusal(rt, answer, &room)
 }

@@ -2,35 +2,42 @@
 use crate::inputs::{LENT, first, key, plain, wrapped_20};
 use crate::text::{print, print_answer, print_case, print_last};
 use keywrap::WrapAnswer;
+use std::io;
 
-fn print_line(size: usize, kind: &[u8], answer: WrapAnswer, room: &[u8]) {
-    print_case(b"room ", size, kind);
-    print_case(b"", room.len(), b" ");
-    print_answer(answer);
-    print(b" ");
-    print_last(room);
+fn print_line(
+    rt: &impl Print,
+    size: usize,
+    kind: &[u8],
+    answer: WrapAnswer,
+    room: &[u8],
+) -> io::Result<()> {
+    print_case(rt, b"room ", size, kind)?;
+    print_case(rt, b"", room.len(), b" ")?;
+    print_answer(rt, answer)?;
+    print(rt, b" ")?;
+    print_last(rt, room)
 }
 
-fn wrap_into(size: usize, room: &mut [u8]) {
+fn wrap_into(rt: &impl Print, size: usize, room: &mut [u8]) -> io::Result<()> {
     let key_octets = key(size);
     let octets = plain(20);
     let answer = keywrap::wrap(first(&key_octets, size), first(&octets, 20), room);
-    print_line(size, b" wrap ", answer, room);
+    print_line(rt, size, b" wrap ", answer, room)
 }
 
-fn open_into(size: usize, room: &mut [u8]) {
+fn open_into(rt: &impl Print, size: usize, room: &mut [u8]) -> io::Result<()> {
     let key_octets = key(size);
     let wrapped = wrapped_20(size);
     let answer = keywrap::open(first(&key_octets, size), &wrapped, room);
-    print_line(size, b" open ", answer, room);
+    print_line(rt, size, b" open ", answer, room)
 }
 
 // Tries all rooms under a key of `size` octets.
-pub(crate) fn rooms(size: usize) {
-    wrap_into(size, &mut [LENT; 31]);
-    wrap_into(size, &mut [LENT; 32]);
-    wrap_into(size, &mut [LENT; 40]);
-    open_into(size, &mut [LENT; 19]);
-    open_into(size, &mut [LENT; 20]);
-    open_into(size, &mut [LENT; 30]);
+pub(crate) fn rooms(rt: &impl Print, size: usize) -> io::Result<()> {
+    wrap_into(rt, size, &mut [LENT; 31])?;
+    wrap_into(rt, size, &mut [LENT; 32])?;
+    wrap_into(rt, size, &mut [LENT; 40])?;
+    open_into(rt, size, &mut [LENT; 19])?;
+    open_into(rt, size, &mut [LENT; 20])?;
+    open_into(rt, size, &mut [LENT; 30])
 }

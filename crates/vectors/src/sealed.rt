@@ -3,104 +3,132 @@
 // line is printed only where that is not so.
 use crate::inputs::{LENT, first};
 use crate::text::{print, print_case};
+use std::io;
 
-fn print_failed(key: &[u8], name: &[u8], what: &[u8]) {
-    print_case(b"gcm ", key.len(), b" ");
-    print(name);
-    print(what);
+fn print_failed(rt: &impl Print, key: &[u8], name: &[u8], what: &[u8]) -> io::Result<()> {
+    print_case(rt, b"gcm ", key.len(), b" ")?;
+    print(rt, name)?;
+    print(rt, what)
 }
 
-fn opens(name: &[u8], key: &[u8], nonce: &[u8], a: &[u8], octets: &[u8], plain: &[u8]) {
+fn opens(
+    rt: &impl Print,
+    name: &[u8],
+    key: &[u8],
+    nonce: &[u8],
+    a: &[u8],
+    octets: &[u8],
+    plain: &[u8],
+) -> io::Result<()> {
     let mut room = [LENT; 80];
     if gcm::open(key, nonce, a, octets, &mut room) {
         if check::same(first(&room, plain.len()), plain) {
-            return;
+            return Ok(());
         }
     }
-    print_failed(key, name, b" does not open\n");
+    print_failed(rt, key, name, b" does not open\n")
 }
 
-fn refuses(name: &[u8], key: &[u8], nonce: &[u8], a: &[u8], octets: &[u8]) {
+fn refuses(
+    rt: &impl Print,
+    name: &[u8],
+    key: &[u8],
+    nonce: &[u8],
+    a: &[u8],
+    octets: &[u8],
+) -> io::Result<()> {
     let lent = [LENT; 80];
     let mut room = lent;
     if gcm::open(key, nonce, a, octets, &mut room) {
-        return print_failed(key, name, b" opens\n");
+        return print_failed(rt, key, name, b" opens\n");
     }
     if check::same(&room, &lent) {
-        return;
+        return Ok(());
     }
-    print_failed(key, name, b" changes the room\n");
+    print_failed(rt, key, name, b" changes the room\n")
 }
 
 // One bit changed: of the nonce, of the additional data, of the ciphertext, of the tag.
-fn damages(key: &[u8], nonce: [u8; 12], a: [u8; 20], octets: [u8; 76]) {
+fn damages(
+    rt: &impl Print,
+    key: &[u8],
+    nonce: [u8; 12],
+    a: [u8; 20],
+    octets: [u8; 76],
+) -> io::Result<()> {
     let mut other_nonce = nonce;
     other_nonce[0] = other_nonce[0] ^ 1;
-    refuses(b"nonce", key, &other_nonce, &a, &octets);
+    refuses(rt, b"nonce", key, &other_nonce, &a, &octets)?;
     let mut other_data = a;
     other_data[19] = other_data[19] ^ 128;
-    refuses(b"data", key, &nonce, &other_data, &octets);
+    refuses(rt, b"data", key, &nonce, &other_data, &octets)?;
     let mut other_text = octets;
     other_text[59] = other_text[59] ^ 1;
-    refuses(b"text", key, &nonce, &a, &other_text);
+    refuses(rt, b"text", key, &nonce, &a, &other_text)?;
     let mut other_tag = octets;
     other_tag[75] = other_tag[75] ^ 1;
-    refuses(b"tag", key, &nonce, &a, &other_tag);
+    refuses(rt, b"tag", key, &nonce, &a, &other_tag)
 }
 
 // The first two cases of a key size: key and nonce are zeros, and so is the text, of which the first has none.
-fn open_zeros(size: usize, c1: &[u8], c2: &[u8]) {
+fn open_zeros(rt: &impl Print, size: usize, c1: &[u8], c2: &[u8]) -> io::Result<()> {
     let zeros = [0u8; 32];
     let nonce = [0u8; 12];
     let plain = [0u8; 16];
     let none = [0u8; 1];
     let key = first(&zeros, size);
     let empty = first(&none, 0);
-    opens(b"1", key, &nonce, empty, c1, empty);
-    opens(b"2", key, &nonce, empty, c2, &plain);
+    opens(rt, b"1", key, &nonce, empty, c1, empty)?;
+    opens(rt, b"2", key, &nonce, empty, c2, &plain)
 }
 
 // The third and the fourth: the third has no additional data, the fourth a text whose last block is partial.
-fn open_texts(key: &[u8], c3: &[u8], c4: [u8; 76]) {
+fn open_texts(rt: &impl Print, key: &[u8], c3: &[u8], c4: [u8; 76]) -> io::Result<()> {
     let nonce = *b"\xca\xfe\xba\xbe\xfa\xce\xdb\xad\xde\xca\xf8\x88";
     let a = *b"\xfe\xed\xfa\xce\xde\xad\xbe\xef\xfe\xed\xfa\xce\xde\xad\xbe\xef\xab\xad\xda\xd2";
     let plain =
         *b"\xd9\x31\x32\x25\xf8\x84\x06\xe5\xa5\x59\x09\xc5\xaf\xf5\x26\x9a\x86\xa7\xa9\x53\x15\x34\xf7\xda\x2e\x4c\x30\x3d\x8a\x31\x8a\x72\x1c\x3c\x0c\x95\x95\x68\x09\x53\x2f\xcf\x0e\x24\x49\xa6\xb5\x25\xb1\x6a\xed\xf5\xaa\x0d\xe6\x57\xba\x63\x7b\x39\x1a\xaf\xd2\x55";
-    opens(b"3", key, &nonce, first(&a, 0), c3, &plain);
-    opens(b"4", key, &nonce, &a, &c4, &plain[0..60]);
-    damages(key, nonce, a, c4);
+    opens(rt, b"3", key, &nonce, first(&a, 0), c3, &plain)?;
+    opens(rt, b"4", key, &nonce, &a, &c4, &plain[0..60])?;
+    damages(rt, key, nonce, a, c4)
 }
 
 // Cases 1 to 4, 7 to 10 and 13 to 16.
-pub(crate) fn sealed() {
+pub(crate) fn sealed(rt: &impl Print) -> io::Result<()> {
     open_zeros(
+        rt,
         16,
         b"\x58\xe2\xfc\xce\xfa\x7e\x30\x61\x36\x7f\x1d\x57\xa4\xe7\x45\x5a",
         b"\x03\x88\xda\xce\x60\xb6\xa3\x92\xf3\x28\xc2\xb9\x71\xb2\xfe\x78\xab\x6e\x47\xd4\x2c\xec\x13\xbd\xf5\x3a\x67\xb2\x12\x57\xbd\xdf",
-    );
+    )?;
     open_texts(
+        rt,
         b"\xfe\xff\xe9\x92\x86\x65\x73\x1c\x6d\x6a\x8f\x94\x67\x30\x83\x08",
         b"\x42\x83\x1e\xc2\x21\x77\x74\x24\x4b\x72\x21\xb7\x84\xd0\xd4\x9c\xe3\xaa\x21\x2f\x2c\x02\xa4\xe0\x35\xc1\x7e\x23\x29\xac\xa1\x2e\x21\xd5\x14\xb2\x54\x66\x93\x1c\x7d\x8f\x6a\x5a\xac\x84\xaa\x05\x1b\xa3\x0b\x39\x6a\x0a\xac\x97\x3d\x58\xe0\x91\x47\x3f\x59\x85\x4d\x5c\x2a\xf3\x27\xcd\x64\xa6\x2c\xf3\x5a\xbd\x2b\xa6\xfa\xb4",
         *b"\x42\x83\x1e\xc2\x21\x77\x74\x24\x4b\x72\x21\xb7\x84\xd0\xd4\x9c\xe3\xaa\x21\x2f\x2c\x02\xa4\xe0\x35\xc1\x7e\x23\x29\xac\xa1\x2e\x21\xd5\x14\xb2\x54\x66\x93\x1c\x7d\x8f\x6a\x5a\xac\x84\xaa\x05\x1b\xa3\x0b\x39\x6a\x0a\xac\x97\x3d\x58\xe0\x91\x5b\xc9\x4f\xbc\x32\x21\xa5\xdb\x94\xfa\xe9\x5a\xe7\x12\x1a\x47",
-    );
+    )?;
     open_zeros(
+        rt,
         24,
         b"\xcd\x33\xb2\x8a\xc7\x73\xf7\x4b\xa0\x0e\xd1\xf3\x12\x57\x24\x35",
         b"\x98\xe7\x24\x7c\x07\xf0\xfe\x41\x1c\x26\x7e\x43\x84\xb0\xf6\x00\x2f\xf5\x8d\x80\x03\x39\x27\xab\x8e\xf4\xd4\x58\x75\x14\xf0\xfb",
-    );
+    )?;
     open_texts(
+        rt,
         b"\xfe\xff\xe9\x92\x86\x65\x73\x1c\x6d\x6a\x8f\x94\x67\x30\x83\x08\xfe\xff\xe9\x92\x86\x65\x73\x1c",
         b"\x39\x80\xca\x0b\x3c\x00\xe8\x41\xeb\x06\xfa\xc4\x87\x2a\x27\x57\x85\x9e\x1c\xea\xa6\xef\xd9\x84\x62\x85\x93\xb4\x0c\xa1\xe1\x9c\x7d\x77\x3d\x00\xc1\x44\xc5\x25\xac\x61\x9d\x18\xc8\x4a\x3f\x47\x18\xe2\x44\x8b\x2f\xe3\x24\xd9\xcc\xda\x27\x10\xac\xad\xe2\x56\x99\x24\xa7\xc8\x58\x73\x36\xbf\xb1\x18\x02\x4d\xb8\x67\x4a\x14",
         *b"\x39\x80\xca\x0b\x3c\x00\xe8\x41\xeb\x06\xfa\xc4\x87\x2a\x27\x57\x85\x9e\x1c\xea\xa6\xef\xd9\x84\x62\x85\x93\xb4\x0c\xa1\xe1\x9c\x7d\x77\x3d\x00\xc1\x44\xc5\x25\xac\x61\x9d\x18\xc8\x4a\x3f\x47\x18\xe2\x44\x8b\x2f\xe3\x24\xd9\xcc\xda\x27\x10\x25\x19\x49\x8e\x80\xf1\x47\x8f\x37\xba\x55\xbd\x6d\x27\x61\x8c",
-    );
+    )?;
     open_zeros(
+        rt,
         32,
         b"\x53\x0f\x8a\xfb\xc7\x45\x36\xb9\xa9\x63\xb4\xf1\xc4\xcb\x73\x8b",
         b"\xce\xa7\x40\x3d\x4d\x60\x6b\x6e\x07\x4e\xc5\xd3\xba\xf3\x9d\x18\xd0\xd1\xc8\xa7\x99\x99\x6b\xf0\x26\x5b\x98\xb5\xd4\x8a\xb9\x19",
-    );
+    )?;
     open_texts(
+        rt,
         b"\xfe\xff\xe9\x92\x86\x65\x73\x1c\x6d\x6a\x8f\x94\x67\x30\x83\x08\xfe\xff\xe9\x92\x86\x65\x73\x1c\x6d\x6a\x8f\x94\x67\x30\x83\x08",
         b"\x52\x2d\xc1\xf0\x99\x56\x7d\x07\xf4\x7f\x37\xa3\x2a\x84\x42\x7d\x64\x3a\x8c\xdc\xbf\xe5\xc0\xc9\x75\x98\xa2\xbd\x25\x55\xd1\xaa\x8c\xb0\x8e\x48\x59\x0d\xbb\x3d\xa7\xb0\x8b\x10\x56\x82\x88\x38\xc5\xf6\x1e\x63\x93\xba\x7a\x0a\xbc\xc9\xf6\x62\x89\x80\x15\xad\xb0\x94\xda\xc5\xd9\x34\x71\xbd\xec\x1a\x50\x22\x70\xe3\xcc\x6c",
         *b"\x52\x2d\xc1\xf0\x99\x56\x7d\x07\xf4\x7f\x37\xa3\x2a\x84\x42\x7d\x64\x3a\x8c\xdc\xbf\xe5\xc0\xc9\x75\x98\xa2\xbd\x25\x55\xd1\xaa\x8c\xb0\x8e\x48\x59\x0d\xbb\x3d\xa7\xb0\x8b\x10\x56\x82\x88\x38\xc5\xf6\x1e\x63\x93\xba\x7a\x0a\xbc\xc9\xf6\x62\x76\xfc\x6e\xce\x0f\x4e\x17\x68\xcd\xdf\x88\x53\xbb\x2d\x55\x1b",
-    );
+    )
 }

@@ -1,44 +1,44 @@
 // Prints what the lines are made of.
 use keywrap::WrapAnswer;
-use libc::STDOUT_FILENO;
-use octets::wide;
+use std::io;
 
 // Prints `text` as it stands.
-pub(crate) fn print(text: &[u8]) {
-    io::write_all(STDOUT_FILENO, text);
+pub(crate) fn print(rt: &impl Print, text: &[u8]) -> io::Result<()> {
+    rt.write_all(text)
 }
 
 // Prints `n` in decimal.
-pub(crate) fn print_number(n: usize) {
-    io::print_decimal(STDOUT_FILENO, n as u64);
+pub(crate) fn print_number(rt: &impl Print, n: usize) -> io::Result<()> {
+    rt.print(n)
 }
 
 // Prints `n` between two texts.
-pub(crate) fn print_case(before: &[u8], n: usize, after: &[u8]) {
-    print(before);
-    print_number(n);
-    print(after);
+pub(crate) fn print_case(rt: &impl Print, before: &[u8], n: usize, after: &[u8]) -> io::Result<()> {
+    print(rt, before)?;
+    print_number(rt, n)?;
+    print(rt, after)
 }
 
 // Prints `octets` in hexadecimal.
-pub(crate) fn print_octets(octets: &[u8]) {
+pub(crate) fn print_octets(rt: &impl Print, octets: &[u8]) -> io::Result<()> {
     let mut i = 0;
     while i < octets.len() {
-        io::print_hex(STDOUT_FILENO, wide(octets[i]) as u64, 2);
+        print!(rt; "{:02x}", octets[i])?;
         i += 1;
     }
+    Ok(())
 }
 
 // Prints `octets` and the line's end.
-pub(crate) fn print_last(octets: &[u8]) {
-    print_octets(octets);
-    print(b"\n");
+pub(crate) fn print_last(rt: &impl Print, octets: &[u8]) -> io::Result<()> {
+    print_octets(rt, octets)?;
+    print(rt, b"\n")
 }
 
 // Prints the count that `answer` carries, or `no`.
-pub(crate) fn print_answer(answer: WrapAnswer) {
+pub(crate) fn print_answer(rt: &impl Print, answer: WrapAnswer) -> io::Result<()> {
     match answer {
-        WrapAnswer::No => print(b"no"),
-        WrapAnswer::Count(n) => print_number(n),
+        WrapAnswer::No => print(rt, b"no"),
+        WrapAnswer::Count(n) => print_number(rt, n),
     }
 }

@@ -5,10 +5,10 @@ use Rattle.vectors.proofs.random.print_sized.Goals as goal
 -- `vectors::random::print_sized` is safe and ends: its keys have 16, 24 or 32 octets.
 
 pub print_blocks-requires : goal.print_blocks-requires
-print_blocks-requires c = is-16 _ (search rules)
+print_blocks-requires g c = is-16 _ (search rules)
 
 pub print_blocks-requires-then-kind-eq1 : goal.print_blocks-requires-then-kind-eq1
-print_blocks-requires-then-kind-eq1 c = is-24 _ (search rules)
+print_blocks-requires-then-kind-eq1 g c = is-24 _ (search rules)
 
 pub print_blocks-requires-2 : goal.print_blocks-requires-2
-print_blocks-requires-2 c = is_32 _ (search rules)
+print_blocks-requires-2 g c = is_32 _ (search rules)
