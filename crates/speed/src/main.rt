@@ -2,9 +2,12 @@
 // 41 openings of 264 octets. That was the most that a frame could ask for under document 01's limits: 32 WRAP_KEYs and 9 SA_KEYs in a
 // registration, 40 SA_KEYs in a rekey. By T-01 its octets allow 58; the count stays, so that times can be compared. Prints a checksum over
 // what was written, so that no call can be left out. Prints nothing for other arguments.
+#![tactic(auto)]
+
 use keywrap::WrapAnswer;
-use libc::STDOUT_FILENO;
 use octets::wide;
+use std::env::Env;
+use std::io;
 
 const TURNS: usize = 10000;
 
@@ -90,55 +93,59 @@ fn frames(key: &[u8]) -> usize {
     sum
 }
 
-fn print(sum: usize) {
-    io::print_decimal(STDOUT_FILENO, sum as u64);
-    io::write_all(STDOUT_FILENO, b"\n");
+fn print(rt: &impl Print, sum: usize) -> io::Result<()> {
+    rt.println(sum)
 }
 
-fn run(mode: &[u8], key: &[u8]) {
+fn run(rt: &impl Print, mode: &[u8], key: &[u8]) -> io::Result<()> {
     if check::same(mode, b"wrap") {
-        print(wraps(key));
+        print(rt, wraps(key))?;
     }
     if check::same(mode, b"open") {
-        print(openings(key));
+        print(rt, openings(key))?;
     }
     if check::same(mode, b"frame") {
-        print(frames(key));
+        print(rt, frames(key))?;
     }
+    Ok(())
 }
 
-fn run_if(asked: &[u8], size: &[u8], mode: &[u8], key: &[u8]) {
+fn run_if(rt: &impl Print, asked: &[u8], size: &[u8], mode: &[u8], key: &[u8]) -> io::Result<()> {
     if check::same(asked, size) {
-        run(mode, key);
+        return run(rt, mode, key);
     }
+    Ok(())
 }
 
 // Runs `mode` under a key of K octets, where `asked` is K in decimal. The octets of the key are 7 i + K.
-fn run_under(asked: &[u8], mode: &[u8]) {
+fn run_under(rt: &impl Print, asked: &[u8], mode: &[u8]) -> io::Result<()> {
     run_if(
+        rt,
         asked,
         b"16",
         mode,
         b"\x10\x17\x1e\x25\x2c\x33\x3a\x41\x48\x4f\x56\x5d\x64\x6b\x72\x79",
-    );
+    )?;
     run_if(
+        rt,
         asked,
         b"24",
         mode,
         b"\x18\x1f\x26\x2d\x34\x3b\x42\x49\x50\x57\x5e\x65\x6c\x73\x7a\x81\x88\x8f\x96\x9d\xa4\xab\xb2\xb9",
-    );
+    )?;
     run_if(
+        rt,
         asked,
         b"32",
         mode,
         b"\x20\x27\x2e\x35\x3c\x43\x4a\x51\x58\x5f\x66\x6d\x74\x7b\x82\x89\x90\x97\x9e\xa5\xac\xb3\xba\xc1\xc8\xcf\xd6\xdd\xe4\xeb\xf2\xf9",
-    );
+    )
 }
 
-fn main() {
+fn main(rt: HostRuntime) -> io::Result<()> {
     let mut mode = [0u8; 8];
-    let m = os::arg(1, &mut mode);
+    let m = rt.arg(1, &mut mode).unwrap_or(0);
     let mut size = [0u8; 8];
-    let n = os::arg(2, &mut size);
-    run_under(&size[..n], &mode[..m]);
+    let n = rt.arg(2, &mut size).unwrap_or(0);
+    run_under(&rt, &size[..n], &mode[..m])
 }
