@@ -6,12 +6,12 @@ use crate::values::sa_of;
 use fragments::{Collection, Piece};
 use gikev2::Member;
 use gikev2::fragment::FragmentAnswer;
-use libc::STDOUT_FILENO;
 use state::State;
 use state::held::Held;
 use state::least::Least;
 use state_sa::entry::REKEY;
 use state_table::Table;
+use std::io;
 
 // The two SPIs of the Rekey SA, and fragment 2 of 2 of a rekey over it with Message ID 7: the last seven octets of one Delete payload.
 const SPIS: [u8; 16] = [
@@ -72,85 +72,108 @@ fn piece(number: usize, size: usize) -> Piece {
 }
 
 // Prints the answer.
-fn print_answer(a: FragmentAnswer) {
+fn print_answer(rt: &impl Print, a: FragmentAnswer) -> io::Result<()> {
     match a {
         FragmentAnswer::Refused(x) => {
-            print(b": refused ");
-            io::print_decimal(STDOUT_FILENO, x.number() as u64);
+            print(rt, b": refused ")?;
+            rt.print(x.number())
         }
-        FragmentAnswer::PassedOver => print(b": passed over"),
-        FragmentAnswer::Waiting => print(b": waiting"),
+        FragmentAnswer::PassedOver => print(rt, b": passed over"),
+        FragmentAnswer::Waiting => print(rt, b": waiting"),
         FragmentAnswer::Complete(x) => {
-            print(b": complete ");
-            io::print_decimal(STDOUT_FILENO, x.number() as u64);
+            print(rt, b": complete ")?;
+            rt.print(x.number())
         }
     }
 }
 
 // Hands the fragment in with `c`, and prints `name`, the answer and the count of pieces afterwards.
-fn try_with(name: &[u8], c: Collection) {
+fn try_with(rt: &impl Print, name: &[u8], c: Collection) -> io::Result<()> {
     let mut room = [0u8; 16384];
     let m = member();
     let g = m.receive_fragment(c, &FRAGMENT, &mut room, 0);
     let a = g.answer;
     let next = g.collection;
-    print(name);
-    print_answer(a);
-    print(b", ");
-    io::print_decimal(STDOUT_FILENO, next.count as u64);
-    print(b" kept\n");
+    print(rt, name)?;
+    print_answer(rt, a)?;
+    print(rt, b", ")?;
+    rt.print(next.count)?;
+    print(rt, b" kept\n")
 }
 
 // Tries collections whose total or count breaks a rule, beside some that keep it.
-fn try_counts() {
+fn try_counts(rt: &impl Print) -> io::Result<()> {
     let one = piece(1, 5);
     let two = piece(2, 7);
     let none = piece(0, 0);
-    try_with(b"one of two", collection(2, 1, one, none, 32));
-    try_with(b"of one", collection(1, 1, one, none, 32));
-    try_with(b"of 32", collection(32, 1, one, none, 32));
-    try_with(b"of 33", collection(33, 1, one, none, 32));
-    try_with(b"none kept", collection(32, 0, one, none, 32));
-    try_with(b"lacks nothing", collection(2, 2, one, two, 32));
-    try_with(b"more than lack", collection(2, 33, one, two, 32));
+    try_with(rt, b"one of two", collection(2, 1, one, none, 32))?;
+    try_with(rt, b"of one", collection(1, 1, one, none, 32))?;
+    try_with(rt, b"of 32", collection(32, 1, one, none, 32))?;
+    try_with(rt, b"of 33", collection(33, 1, one, none, 32))?;
+    try_with(rt, b"none kept", collection(32, 0, one, none, 32))?;
+    try_with(rt, b"lacks nothing", collection(2, 2, one, two, 32))?;
+    try_with(rt, b"more than lack", collection(2, 33, one, two, 32))
 }
 
 // Tries collections whose numbers break a rule, beside some that keep it.
-fn try_numbers() {
+fn try_numbers(rt: &impl Print) -> io::Result<()> {
     let one = piece(1, 5);
     let two = piece(2, 7);
     let none = piece(0, 0);
-    try_with(b"number 0", collection(2, 1, piece(0, 5), none, 32));
-    try_with(b"number 3 of 2", collection(2, 1, piece(3, 5), none, 32));
-    try_with(b"rising", collection(3, 2, one, two, 32));
-    try_with(b"falling", collection(3, 2, two, one, 32));
-    try_with(b"one twice", collection(3, 2, one, one, 32));
+    try_with(rt, b"number 0", collection(2, 1, piece(0, 5), none, 32))?;
+    try_with(
+        rt,
+        b"number 3 of 2",
+        collection(2, 1, piece(3, 5), none, 32),
+    )?;
+    try_with(rt, b"rising", collection(3, 2, one, two, 32))?;
+    try_with(rt, b"falling", collection(3, 2, two, one, 32))?;
+    try_with(rt, b"one twice", collection(3, 2, one, one, 32))
 }
 
 // Tries collections whose sizes or version break a rule, beside some that keep it.
-fn try_sizes() {
+fn try_sizes(rt: &impl Print) -> io::Result<()> {
     let none = piece(0, 0);
     try_with(
+        rt,
         b"16,384 octets",
         collection(2, 1, piece(1, 16356), none, 32),
-    );
+    )?;
     try_with(
+        rt,
         b"16,385 octets",
         collection(2, 1, piece(1, 16357), none, 32),
-    );
+    )?;
     try_with(
+        rt,
         b"a sum over 2^64",
         collection(3, 2, piece(1, 2), piece(2, usize::MAX), 32),
-    );
-    try_with(b"major version 1", collection(3, 1, piece(1, 5), none, 31));
-    try_with(b"major version 2", collection(3, 1, piece(1, 5), none, 47));
-    try_with(b"major version 3", collection(3, 1, piece(1, 5), none, 48));
-    try_with(b"no fragment 1", collection(3, 1, piece(2, 5), none, 48));
+    )?;
+    try_with(
+        rt,
+        b"major version 1",
+        collection(3, 1, piece(1, 5), none, 31),
+    )?;
+    try_with(
+        rt,
+        b"major version 2",
+        collection(3, 1, piece(1, 5), none, 47),
+    )?;
+    try_with(
+        rt,
+        b"major version 3",
+        collection(3, 1, piece(1, 5), none, 48),
+    )?;
+    try_with(
+        rt,
+        b"no fragment 1",
+        collection(3, 1, piece(2, 5), none, 48),
+    )
 }
 
 // Tries them all.
-pub(crate) fn try_collections() {
-    try_counts();
-    try_numbers();
-    try_sizes();
+pub(crate) fn try_collections(rt: &impl Print) -> io::Result<()> {
+    try_counts(rt)?;
+    try_numbers(rt)?;
+    try_sizes(rt)
 }

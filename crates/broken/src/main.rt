@@ -1,15 +1,17 @@
 // For tests: calls `receive`, `sweep`, `leave` and `sa` on member values that break the list of what a member is, and prints what they
 // give. No line of input and no call of the library makes such a value. The first two values keep the list. Before these values the program
 // prints what its own comparison of members tells apart; after them it tries frames over the member's own channel.
+#![tactic(auto)]
+
 mod apart;
 mod collections;
 mod same;
 mod values;
 
 use gikev2::Member;
-use libc::STDOUT_FILENO;
 use state_keys::limits::{HELD_KEYS, SAS};
 use state_sa::entry::{ESP, REKEY};
+use std::io;
 use values::{
     esp, held_keys, held_of, key, lasting, member_of, rekey, retiring, sa_of, sas, table_of,
 };
@@ -18,8 +20,8 @@ use values::{
 const TICK: u32 = 1000;
 
 // Prints `text` as it stands.
-pub(crate) fn print(text: &[u8]) {
-    io::write_all(STDOUT_FILENO, text);
+pub(crate) fn print(rt: &impl Print, text: &[u8]) -> io::Result<()> {
+    rt.write_all(text)
 }
 
 // Answers a rekey over the Rekey SA a0, which deletes ESP SA 01010101.
@@ -31,129 +33,140 @@ fn frame() -> [u8; 40] {
 }
 
 // Prints whether `m` and `next` are the same value.
-pub(crate) fn compared(m: Member, next: Member) {
+pub(crate) fn compared(rt: &impl Print, m: Member, next: Member) -> io::Result<()> {
     if same::same_members(m, next) {
-        print(b"same");
+        print(rt, b"same")
     } else {
-        print(b"another");
+        print(rt, b"another")
     }
 }
 
 // Prints the answer to the frame `f`, and whether the member stays the same.
-fn received(m: Member, f: &[u8]) {
+fn received(rt: &impl Print, m: Member, f: &[u8]) -> io::Result<()> {
     let lent = [0u8; 16];
     let r = m.receive(f, &lent, TICK);
     let a = r.answer;
     let next = r.member;
-    io::print_decimal(STDOUT_FILENO, a.number() as u64);
-    print(b" ");
-    compared(m, next);
+    rt.print(a.number())?;
+    print(rt, b" ")?;
+    compared(rt, m, next)
 }
 
 // Prints whether leaving gives a new member.
-fn left(m: Member) {
+fn left(rt: &impl Print, m: Member) -> io::Result<()> {
     let new = Member::new();
     let next = m.leave();
     if same::same_members(next, new) {
-        print(b"new");
+        print(rt, b"new")
     } else {
-        print(b"another");
+        print(rt, b"another")
     }
 }
 
 // Prints whether `sa` finds ESP SA 01010101 or the Rekey SA a0.
-fn asked(m: Member) {
+fn asked(rt: &impl Print, m: Member) -> io::Result<()> {
     let one = [1u8; 4];
     let a0 = [160u8; 16];
     let e = m.sa(ESP, &one);
     let r = m.sa(REKEY, &a0);
     if same::is_none(e) && same::is_none(r) {
-        print(b"none");
+        print(rt, b"none")
     } else {
-        print(b"found");
+        print(rt, b"found")
     }
 }
 
 // Makes all four calls on `m`, and prints a line with what they give.
-fn tried(name: &[u8], m: Member) {
-    print(name);
-    print(b": receive ");
+fn tried(rt: &impl Print, name: &[u8], m: Member) -> io::Result<()> {
+    print(rt, name)?;
+    print(rt, b": receive ")?;
     let f = frame();
-    received(m, &f);
-    print(b", sweep ");
+    received(rt, m, &f)?;
+    print(rt, b", sweep ")?;
     let swept = m.sweep(TICK);
-    compared(m, swept);
-    print(b", leave ");
-    left(m);
-    print(b", sa ");
-    asked(m);
-    print(b"\n");
+    compared(rt, m, swept)?;
+    print(rt, b", leave ")?;
+    left(rt, m)?;
+    print(rt, b", sa ")?;
+    asked(rt, m)?;
+    print(rt, b"\n")
 }
 
 // Tries two values that keep the list. Key IDs of the held list need not rise (document 02, T-04).
-fn whole() {
-    tried(b"as it must be", member_of(sas(3), held_keys(2)));
+fn whole(rt: &impl Print) -> io::Result<()> {
+    tried(rt, b"as it must be", member_of(sas(3), held_keys(2)))?;
     tried(
+        rt,
         b"Key IDs that fall, as they may",
         member_of(sas(3), held_of(key(2, 16), key(1, 32), 2)),
-    );
+    )
 }
 
 // Tries values that break the list by a count alone.
-fn counts() {
+fn counts(rt: &impl Print) -> io::Result<()> {
     tried(
+        rt,
         b"one SA over the limit",
         member_of(sas(SAS + 1), held_keys(2)),
-    );
+    )?;
     tried(
+        rt,
         b"2^64 - 1 SAs",
         member_of(sas(18446744073709551615), held_keys(2)),
-    );
+    )?;
     tried(
+        rt,
         b"a blank place among the SAs",
         member_of(sas(4), held_keys(2)),
-    );
+    )?;
     tried(
+        rt,
         b"one held key over the limit",
         member_of(sas(3), held_keys(HELD_KEYS + 1)),
-    );
+    )?;
     tried(
+        rt,
         b"a blank place among the held keys",
         member_of(sas(3), held_keys(3)),
-    );
+    )
 }
 
 // Tries tables whose SAs do not rise, one with an SA of another protocol, and one with two live Rekey SAs.
-fn orders() {
+fn orders(rt: &impl Print) -> io::Result<()> {
     tried(
+        rt,
         b"a name twice",
         member_of(
             table_of(esp(1, 20), esp(1, 20), rekey(160, 36, 20, 16), 3),
             held_keys(2),
         ),
-    );
+    )?;
     tried(
+        rt,
         b"SPIs that fall",
         member_of(
             table_of(esp(2, 20), esp(1, 20), rekey(160, 36, 20, 16), 3),
             held_keys(2),
         ),
-    );
+    )?;
     tried(
+        rt,
         b"a Rekey SA before an ESP SA",
         member_of(
             table_of(esp(1, 20), rekey(160, 36, 20, 16), esp(2, 20), 3),
             held_keys(2),
         ),
-    );
+    )?;
     tried(
+        rt,
         b"protocol 2",
         member_of(
             table_of(sa_of(2, 1, 20, 0, 0), esp(1, 20), rekey(160, 36, 20, 16), 3),
             held_keys(2),
         ),
-    );
+    )?;
     tried(
+        rt,
         b"two live Rekey SAs",
         member_of(
             table_of(
@@ -164,120 +177,136 @@ fn orders() {
             ),
             held_keys(2),
         ),
-    );
+    )
 }
 
 // Tries SAs of sizes that they may not have.
-fn sizes() {
+fn sizes(rt: &impl Print) -> io::Result<()> {
     let r = rekey(160, 36, 20, 16);
     tried(
+        rt,
         b"an ESP SA of 24 octets",
         member_of(
             table_of(esp(1, 24), retiring(esp(2, 20)), r, 3),
             held_keys(2),
         ),
-    );
+    )?;
     tried(
+        rt,
         b"an ESP SA of 69 octets",
         member_of(
             table_of(esp(1, 69), retiring(esp(2, 20)), r, 3),
             held_keys(2),
         ),
-    );
+    )?;
     tried(
+        rt,
         b"a Rekey SA of 44 octets in parts of 20 and 16",
         member_of(
             table_of(esp(1, 20), esp(2, 20), rekey(160, 44, 20, 16), 3),
             held_keys(2),
         ),
-    );
+    )?;
     tried(
+        rt,
         b"a Rekey SA in parts of 16 and 20",
         member_of(
             table_of(esp(1, 20), esp(2, 20), rekey(160, 36, 16, 20), 3),
             held_keys(2),
         ),
-    );
+    )
 }
 
 // Tries SAs with lifetimes over the limit.
-fn lifetimes() {
+fn lifetimes(rt: &impl Print) -> io::Result<()> {
     let r = rekey(160, 36, 20, 16);
     tried(
+        rt,
         b"an ESP SA with a lifetime of 2000001 seconds",
         member_of(
             table_of(lasting(esp(1, 20), 2000001), retiring(esp(2, 20)), r, 3),
             held_keys(2),
         ),
-    );
+    )?;
     tried(
+        rt,
         b"a Rekey SA with a lifetime of 4294967295 seconds",
         member_of(
             table_of(esp(1, 20), retiring(esp(2, 20)), lasting(r, 4294967295), 3),
             held_keys(2),
         ),
-    );
+    )
 }
 
 // Tries held lists with Key IDs or sizes that they may not have.
-fn held_lists() {
+fn held_lists(rt: &impl Print) -> io::Result<()> {
     tried(
+        rt,
         b"Key ID 0",
         member_of(sas(3), held_of(key(0, 16), key(2, 32), 2)),
-    );
+    )?;
     tried(
+        rt,
         b"a Key ID twice",
         member_of(sas(3), held_of(key(2, 16), key(2, 32), 2)),
-    );
+    )?;
     tried(
+        rt,
         b"a held key of 20 octets",
         member_of(sas(3), held_of(key(1, 20), key(2, 32), 2)),
-    );
+    )
 }
 
 // Tries the frame as a GSA_INBAND_REKEY (exchange type 42).
-fn tried_in_band(name: &[u8], m: Member) {
-    print(name);
-    print(b": receive ");
+fn tried_in_band(rt: &impl Print, name: &[u8], m: Member) -> io::Result<()> {
+    print(rt, name)?;
+    print(rt, b": receive ")?;
     let mut f = frame();
     f[18] = 42;
-    received(m, &f);
-    print(b"\n");
+    received(rt, m, &f)?;
+    print(rt, b"\n")
 }
 
 // Tries frames over the member's own channel. D is refused there by number 4. A member whose SAs are all due is empty, and refuses by
 // number 2.
-fn in_band() {
+fn in_band(rt: &impl Print) -> io::Result<()> {
     let r = rekey(160, 36, 20, 16);
-    tried_in_band(b"in-band, as it must be", member_of(sas(3), held_keys(2)));
     tried_in_band(
+        rt,
+        b"in-band, as it must be",
+        member_of(sas(3), held_keys(2)),
+    )?;
+    tried_in_band(
+        rt,
         b"in-band, every SA due",
         member_of(
             table_of(retiring(esp(1, 20)), retiring(esp(2, 20)), retiring(r), 3),
             held_keys(2),
         ),
-    );
+    )?;
     tried_in_band(
+        rt,
         b"in-band, one SA not due",
         member_of(
             table_of(retiring(esp(1, 20)), esp(2, 20), retiring(r), 3),
             held_keys(2),
         ),
-    );
+    )?;
     tried_in_band(
+        rt,
         b"in-band, a name twice",
         member_of(table_of(esp(1, 20), esp(1, 20), r, 3), held_keys(2)),
-    );
+    )
 }
 
-fn main() {
-    apart::each();
-    whole();
-    counts();
-    orders();
-    sizes();
-    lifetimes();
-    held_lists();
-    in_band();
-    collections::try_collections();
+fn main(rt: HostRuntime) -> io::Result<()> {
+    apart::each(&rt)?;
+    whole(&rt)?;
+    counts(&rt)?;
+    orders(&rt)?;
+    sizes(&rt)?;
+    lifetimes(&rt)?;
+    held_lists(&rt)?;
+    in_band(&rt)?;
+    collections::try_collections(&rt)
 }
