@@ -1,5 +1,7 @@
 // The text of the member program, on slices: hexadecimal, lines, what a line asks, what is printed. Nothing here knows the member.
 // Internal: crates of this repository alone call it.
+#![tactic(auto)]
+
 ghost use Rattle.std.specs.Prelude.{◌≡◌, ◌∷◌, [], ◌++◌, ◌+◌, ◌-◌, ◌*◌, ◌/◌, ◌%◌, ◌<◌, ◌≤◌, min, length, take, get_or};
 ghost use Rattle.text_rules.specs.Hex.{is_digit, digit_value_of, digit_of, are_digits, is_hex, octets_of_hex, digits_of, number_from};
 ghost use Rattle.text_rules.specs.Input.{is_taken};

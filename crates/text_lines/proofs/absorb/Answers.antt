@@ -1,7 +1,4 @@
-use borrow.Author.Rules.{rules}
-use Prim.Native.Nat.{◌-◌}
-use lib.ListN.{length}
-use Rattle.text_lines.proofs.LineLaws.{Takes, takes-start, takes-more, takes-newline, takes-end}
+use Rattle.text_lines.proofs.LineLaws.{takes-start, takes-more, takes-newline, takes-end}
 use Rattle.text_lines.proofs.RoomLaws.{length-puts}
 use Rattle.text_lines.proofs.absorb.Goals as goal
 

@@ -1,9 +1,5 @@
 use borrow.Author.Rules.{rules}
-use mathlib.Core.Path.{◌≡◌, refl, sym, ◌∙◌}
-use mathlib.Core.Bool.{◌&&◌}
-use Prim.Native.Nat.{◌≤◌, ◌-◌}
-use lib.ListN.{length, drop}
-use Rattle.text_rules.specs.Hex.{are_digits}
+use mathlib.Core.Path.{refl, sym, ◌∙◌}
 use Rattle.text_rules.proofs.HexLaws.{digits_more, digits-end}
 use Rattle.text_lines.proofs.are_digits.Goals as goal
 

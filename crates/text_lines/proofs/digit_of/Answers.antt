@@ -1,4 +1,3 @@
-use borrow.Author.Rules.{rules}
 use mathlib.Core.Path.{sym}
 use Rattle.text_rules.proofs.HexLaws.{decimal_digit, letter-digit}
 use Rattle.text_lines.proofs.digit_of.Goals as goal

@@ -1,4 +1,3 @@
-use borrow.Author.Rules.{rules}
 use mathlib.Core.Path.{sym, ◌∙◌}
 use Rattle.text_rules.proofs.HexLaws.{hex-even, hex-other}
 use Rattle.text_lines.proofs.is_hex.Goals as goal

@@ -1,4 +1,3 @@
-use borrow.Author.Rules.{rules}
 use mathlib.Core.Path.{sym, ◌∙◌}
 use Rattle.text_rules.proofs.InputLaws.{taken-short, taken-long, taken-within}
 use Rattle.text_lines.proofs.is_taken.Goals as goal

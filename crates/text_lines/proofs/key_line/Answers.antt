@@ -1,4 +1,3 @@
-use borrow.Author.Rules.{rules}
 use mathlib.Core.Path.{sym, ◌∙◌}
 use lib.ListN.{replicate}
 use Rattle.text_rules.proofs.InputLaws.{key-taken, key-other}

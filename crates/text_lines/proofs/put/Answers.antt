@@ -1,4 +1,3 @@
-use borrow.Author.Rules.{rules}
 use Rattle.text_lines.proofs.RoomLaws.{put_full}
 use Rattle.text_lines.proofs.put.Goals as goal
 

@@ -1,4 +1,3 @@
-use borrow.Author.Rules.{rules}
 use Rattle.text_lines.proofs.AnswerLaws.{three-parts, four-parts}
 use Rattle.text_lines.proofs.RoomLaws.{put-append, put_as}
 use Rattle.text_lines.proofs.put_answer.Goals as goal

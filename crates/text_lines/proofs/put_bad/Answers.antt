@@ -1,4 +1,3 @@
-use borrow.Author.Rules.{rules}
 use Rattle.text_lines.proofs.RoomLaws.{put-append}
 use Rattle.text_lines.proofs.put_bad.Goals as goal
 

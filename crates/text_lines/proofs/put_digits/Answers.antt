@@ -1,10 +1,8 @@
 use borrow.Author.Rules.{rules}
-use Prim.Native.Nat.{◌≤◌, ◌-◌}
 use native.Mathlib.Omega.{arith}
-use lib.ListN.{length, drop}
 use Rattle.text_rules.specs.Hex.{digits_of}
 use Rattle.text_rules.proofs.HexLaws.{written-more, written-end}
-use Rattle.text_lines.proofs.RoomLaws.{Puts, puts-start, puts-more, puts-done, length-puts}
+use Rattle.text_lines.proofs.RoomLaws.{puts-start, puts-more, puts-done, length-puts}
 use Rattle.text_lines.proofs.put_digits.Goals as goal
 
 -- `text_lines::put_digits` meets its contract. The invariant: the digits of the octets passed are put.

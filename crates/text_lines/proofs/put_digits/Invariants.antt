@@ -1,10 +1,7 @@
-use borrow.Author.Rules.{rules}
 use Prim.Native.Nat.{◌≤◌, ◌-◌}
-use native.Mathlib.Omega.{arith}
 use lib.ListN.{length, drop}
 use Rattle.text_rules.specs.Hex.{digits_of}
-use Rattle.text_rules.proofs.HexLaws.{written-more, written-end}
-use Rattle.text_lines.proofs.RoomLaws.{Puts, puts-start, puts-more, puts-done, length-puts}
+use Rattle.text_lines.proofs.RoomLaws.{Puts}
 use Rattle.text_lines.proofs.put_digits.Given as goal
 
 abbrev pub invariant-loop-i : goal.invariant-loop-i

@@ -1,4 +1,3 @@
-use borrow.Author.Rules.{rules}
 use Rattle.text_lines.proofs.RoomLaws.{put-append, put-octet-as}
 use Rattle.text_lines.proofs.put_octet.Goals as goal
 

@@ -1,21 +1,17 @@
-use borrow.Author.Rules.{rules}
-use Prim.Native.Nat.{ℕ, ◌≤◌, ◌+◌, ◌-◌, ◌*◌, ◌/◌, min}
+use Prim.Native.Nat.{ℕ, ◌+◌, ◌-◌, ◌*◌, ◌/◌, min}
 use mathlib.Core.Path.{◌≡◌, sym, ◌∙◌}
 use mathlib.Core.List.{List}
 use native.Mathlib.Omega.{arith}
-use lib.ListN.{length, drop}
+use lib.ListN.{length}
 use Rattle.lists.proofs.Cases.{lt-cases}
 use Rattle.text_rules.specs.Hex.{octets_of_hex}
 use Rattle.text_rules.proofs.HexLaws.{read_more, read-end}
 use Rattle.text_lines.specs.inner.Room.{Put}
-use Rattle.text_lines.proofs.RoomLaws.{Puts, puts-start, puts-more, puts-done, puts-full, length-puts, put-octet-as, put-stored}
+use Rattle.text_lines.proofs.RoomLaws.{puts-start, puts-more, puts-done, puts-full, length-puts, put-octet-as, put-stored}
+use Rattle.text_lines.proofs.put_octets.Invariants.{Putting}
 use Rattle.text_lines.proofs.put_octets.Goals as goal
 
 -- `text_lines::put_octets` meets its contract. The invariant: the octets of the digits passed are put, as many as the turns so far.
-
--- k octets of a text put, and its digits behind them left
-abbrev Putting : List ℕ → ℕ → List ℕ → ℕ → List ℕ → Type 0
-Putting room₀ at text k room = Puts room₀ at (octets_of_hex text) room (at + k) (octets_of_hex (drop (2 * k) text))
 
 -- all are put: none is left, or no room
 all-put : (text : List ℕ) {room₀ : List ℕ} {at : ℕ} (k : ℕ) {room : List ℕ} → Putting room₀ at text k room

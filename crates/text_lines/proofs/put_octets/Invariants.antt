@@ -1,15 +1,13 @@
-use borrow.Author.Rules.{rules}
-use Prim.Native.Nat.{ℕ, ◌≤◌, ◌+◌, ◌-◌, ◌*◌, ◌/◌, min}
-use mathlib.Core.Path.{◌≡◌, sym, ◌∙◌}
+use Prim.Native.Nat.{ℕ, ◌≤◌, ◌+◌, ◌-◌, ◌*◌}
 use mathlib.Core.List.{List}
-use native.Mathlib.Omega.{arith}
-use lib.ListN.{length, drop}
-use Rattle.lists.proofs.Cases.{lt-cases}
+use lib.ListN.{drop}
 use Rattle.text_rules.specs.Hex.{octets_of_hex}
-use Rattle.text_rules.proofs.HexLaws.{read_more, read-end}
-use Rattle.text_lines.specs.inner.Room.{Put}
-use Rattle.text_lines.proofs.RoomLaws.{Puts, puts-start, puts-more, puts-done, puts-full, length-puts, put-octet-as, put-stored}
+use Rattle.text_lines.proofs.RoomLaws.{Puts}
 use Rattle.text_lines.proofs.put_octets.Given as goal
+
+-- k octets of a text put, and its digits behind them left
+abbrev pub Putting : List ℕ → ℕ → List ℕ → ℕ → List ℕ → Type 0
+Putting room₀ at text k room = Puts room₀ at (octets_of_hex text) room (at + k) (octets_of_hex (drop (2 * k) text))
 
 abbrev pub invariant-loop-k : goal.invariant-loop-k
 invariant-loop-k l = (l.k ≤ l.n) × Putting l.initial.room l.at l.text l.k l.room

@@ -1,4 +1,3 @@
-use borrow.Author.Rules.{rules}
 use native.Mathlib.Omega.{arith}
 use Rattle.text_rules.proofs.InputLaws.{tick-octets}
 use Rattle.text_lines.proofs.tick_of.Goals as goal
