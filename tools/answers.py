@@ -239,7 +239,7 @@ def invariants(decls, walk, said, where):
             if re.search(r"λ[^.]*(?<![\w'])%s(?![\w'])[^.]*\.|let %s\b|\(%s :" % (re.escape(p), re.escape(p), re.escape(p)), right):
                 said.append(f"{where}: {loop} binds {p} again")
         subst = dict(zip(params, want))
-        right = re.sub(r"(?<![\w'.-])(%s)(?![\w'-]|₀)" % "|".join(re.escape(p) for p in sorted(params, key=len, reverse=True)), lambda m: subst[m[1]], right)
+        right = re.sub(r"(?<![\w'.-])(?!(?<=[{;] )[\w'-]+ = )(%s)(?![\w'-]|₀)" % "|".join(re.escape(p) for p in sorted(params, key=len, reverse=True)), lambda m: subst[m[1]], right)
         out.append(said_before + [f"abbrev pub {kind}-{new} : goal.{kind}-{new}"] + d[1:eq] + (f"{kind}-{new} l =" + right).split("\n"))
     return out
 
