@@ -3,17 +3,17 @@
 ghost use Rattle.std.specs.Prelude.{◌≡◌, ◌<◌, ◌≤◌, length, take};
 ghost use Rattle.member.specs.inner.Taking.{nothing_taken, TakenIn};
 
-use libc::STDIN_FILENO;
+use std::io::{Read, Stdin};
 
 // How many octets were taken from the input, modulo 2^64, and whether the last read gave none.
-#[derive(Drop)]
+#[derive(Clone, Copy)]
 pub struct InputTaken {
     count: usize,
     ended: bool,
 }
 
 // What a read gave: `n` octets at the start of a lent block, and the count and the end after it.
-#[derive(Drop)]
+#[derive(Clone, Copy)]
 pub struct InputBlock {
     pub n: usize,
     pub taken: InputTaken,
@@ -31,14 +31,13 @@ pub(crate) fn nothing() -> InputTaken
 
 // Reads what is there of the input to the start of `block`: one read, which waits for an octet and not for a full block. Gives no octet at
 // the input's end, and none where the read fails. (A block with no room would give none too, and tell nothing of the input.)
-pub(crate) fn next(taken: InputTaken, block: &mut [u8]) -> InputBlock
+pub(crate) fn next(mut input: Stdin, taken: InputTaken, block: &mut [u8]) -> InputBlock
     requires { 0 < length block.old }
     ensures n_in_bounds { result.n ≤ length block.new }
     ensures taken_in { TakenIn taken (take result.n block.new) result.taken }
 {
-    let got = libc::read(STDIN_FILENO, block);
-    let n = io::count(got, block);
-    let count = std::num::wrapping_add_usize(taken.count, n);
+    let n = input.read(block).unwrap_or(0);
+    let count = taken.count.wrapping_add(n);
     let next = InputTaken {
         count,
         ended: n == 0,

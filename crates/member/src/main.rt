@@ -1,4 +1,6 @@
 // The member program: reads a default key, then lines of tick and frame in hexadecimal, and prints a line of answer for each of these.
+#![tactic(auto)]
+
 mod input;
 mod output;
 mod running;
@@ -15,6 +17,7 @@ ghost use Rattle.member.specs.Run.{Runs};
 use input::InputTaken;
 use output::Handed;
 use running::Running;
+use std::io::{Stdin, Stdout};
 use text_lines::REPLY_ROOM;
 
 // Where the program stands, and what it handed to its output so far.
@@ -32,12 +35,12 @@ pub struct Ran {
 }
 
 // Hands over all that `out` holds, and frees it for more.
-fn emptied(r: Running, handed: Handed, out: &[u8]) -> Progress
+fn emptied(to: Stdout, r: Running, handed: Handed, out: &[u8]) -> Progress
     requires { r.at ≤ length out.now }
     ensures { Emptied r handed out.now result }
 {
     let at = r.at;
-    let written = output::hand_over(handed, out, at);
+    let written = output::hand_over(to, handed, out, at);
     let member = r.member;
     let key = r.key;
     let running = Running {
@@ -54,7 +57,7 @@ fn emptied(r: Running, handed: Handed, out: &[u8]) -> Progress
 }
 
 // Hands `out` over if it has no room for one more reply.
-fn flush(r: Running, handed: Handed, out: &[u8]) -> Progress
+fn flush(to: Stdout, r: Running, handed: Handed, out: &[u8]) -> Progress
     requires at_in_bounds { r.at ≤ length out.now }
     requires reply_room_in_bounds { reply_room ≤ length out.now }
     ensures { Flushed r handed out.now result }
@@ -63,12 +66,19 @@ fn flush(r: Running, handed: Handed, out: &[u8]) -> Progress
     if REPLY_ROOM <= out.len() - at {
         return Progress { running: r, handed };
     }
-    emptied(r, handed, out)
+    emptied(to, r, handed, out)
 }
 
 // Reads the whole `block` and answers its lines. Hands `out` over on the way where a reply finds no room, and at the block's end whatever
 // room there is: whoever sends a line and waits gets its answer.
-fn consume(p: Progress, block: &[u8], line: &mut [u8], room: &mut [u8], out: &mut [u8]) -> Progress
+fn consume(
+    to: Stdout,
+    p: Progress,
+    block: &[u8],
+    line: &mut [u8],
+    room: &mut [u8],
+    out: &mut [u8],
+) -> Progress
     requires buffers_ready { BuffersReady line.old room.old out.old p.running }
     requires reply_fits { ReplyFits out.old p.running }
     ensures buffers_ready_2 { BuffersReady line.new room.new out.new result.running }
@@ -83,15 +93,15 @@ fn consume(p: Progress, block: &[u8], line: &mut [u8], room: &mut [u8], out: &mu
         let q = running::through(r, block, at, line, room, out);
         at = q.next;
         let y = q.running;
-        x = flush(y, handed, out);
+        x = flush(to, y, handed, out);
     }
     let r = x.running;
     let handed = x.handed;
-    emptied(r, handed, out)
+    emptied(to, r, handed, out)
 }
 
 // Ends the input: answers a line that has begun, and hands over what `out` holds.
-fn ended(p: Progress, line: &[u8], room: &mut [u8], out: &mut [u8]) -> Handed
+fn ended(to: Stdout, p: Progress, line: &[u8], room: &mut [u8], out: &mut [u8]) -> Handed
     requires buffers_ready { BuffersReady line.now room.old out.old p.running }
     requires reply_fits { ReplyFits out.old p.running }
     ensures { Ended p line.now out.old result }
@@ -99,7 +109,7 @@ fn ended(p: Progress, line: &[u8], room: &mut [u8], out: &mut [u8]) -> Handed
     let r = p.running;
     let handed = p.handed;
     let e = running::finish(r, line, room, out);
-    output::hand_over(handed, out, e.at)
+    output::hand_over(to, handed, out, e.at)
 }
 
 // Answers how many of `turns` are left after one: none if the input has ended or a write failed.
@@ -120,7 +130,14 @@ fn turns_left(turns: u64, taken: InputTaken, handed: Handed) -> u64
 
 // Answers the whole input, up to a write that fails. A proved loop has to end, and nothing says that an input does: so it counts its turns
 // down from a number that no input uses up.
-fn run(line: &mut [u8], room: &mut [u8], out: &mut [u8], block: &mut [u8]) -> Ran
+fn run(
+    from: Stdin,
+    to: Stdout,
+    line: &mut [u8],
+    room: &mut [u8],
+    out: &mut [u8],
+    block: &mut [u8],
+) -> Ran
     requires most_digits_in_bounds { most_digits < length line.old }
     requires most_octets_in_bounds { most_octets ≤ length room.old }
     requires reply_room_in_bounds { reply_room ≤ length out.old }
@@ -136,15 +153,15 @@ fn run(line: &mut [u8], room: &mut [u8], out: &mut [u8], block: &mut [u8]) -> Ra
     let mut taken = input::nothing();
     let mut turns = u64::MAX;
     while turns > 0 {
-        let b = input::next(taken, block);
+        let b = input::next(from, taken, block);
         let n = b.n;
         let t = b.taken;
-        p = consume(p, &block[..n], line, room, out);
+        p = consume(to, p, &block[..n], line, room, out);
         let h = p.handed;
         turns = turns_left(turns, t, h);
         taken = t;
     }
-    let handed = ended(p, line, room, out);
+    let handed = ended(to, p, line, room, out);
     Ran { taken, handed }
 }
 
@@ -153,10 +170,20 @@ const LINE_ROOM: usize = text_lines::MOST_DIGITS + 1;
 
 const FRAME_ROOM: usize = (text_lines::MOST_DIGITS - text_lines::TICK_DIGITS) / 2;
 
-fn main() {
+// Room for what one read takes and for what one write is handed.
+const BLOCK_ROOM: usize = 65536;
+
+fn main(rt: HostRuntime) {
     let mut line = [0u8; LINE_ROOM];
     let mut room = [0u8; FRAME_ROOM];
-    let mut out = io::large_buffer();
-    let mut block = io::large_buffer();
-    run(&mut line, &mut room, &mut out, &mut block);
+    let mut out = [0u8; BLOCK_ROOM];
+    let mut block = [0u8; BLOCK_ROOM];
+    run(
+        rt.stdin(),
+        rt.stdout(),
+        &mut line,
+        &mut room,
+        &mut out,
+        &mut block,
+    );
 }

@@ -3,10 +3,10 @@
 ghost use Rattle.std.specs.Prelude.{◌≡◌, ◌≤◌, length, take};
 ghost use Rattle.member.specs.inner.Handing.{nothing_handed, HandedOver};
 
-use libc::STDOUT_FILENO;
+use std::io::{Stdout, Write};
 
 // How many octets were handed to the output, modulo 2^64, and whether a write of them failed.
-#[derive(Drop)]
+#[derive(Clone, Copy)]
 pub struct Handed {
     count: usize,
     failed: bool,
@@ -24,15 +24,15 @@ pub(crate) fn nothing() -> Handed
 
 // Hands the first `at` octets of `out` to the write, and counts them. Hands nothing over after a write that failed: later answers would
 // stand in the place of the lost ones.
-pub(crate) fn hand_over(handed: Handed, out: &[u8], at: usize) -> Handed
+pub(crate) fn hand_over(mut output: Stdout, handed: Handed, out: &[u8], at: usize) -> Handed
     requires { at ≤ length out.now }
     ensures { HandedOver handed (take at out.now) result }
 {
     if handed.failed {
         return handed;
     }
-    let written = io::write_all(STDOUT_FILENO, &out[..at]);
-    let count = std::num::wrapping_add_usize(handed.count, at);
+    let written = output.write_all(&out[..at]).is_ok();
+    let count = handed.count.wrapping_add(at);
     Handed {
         count,
         failed: !written,
