@@ -1,0 +1,29 @@
+use Rattle.std.proofs.Common.{take, sym, arith, length-take-le, rules}
+use Rattle.member.proofs.ReplyLaws.{answered-place}
+use Rattle.member.proofs.StandingLaws.{finished-none, finished-line}
+use Rattle.member.proofs.running.finish.Goals as goal
+
+-- `member::running::finish` meets its contract.
+
+pub slice_bounds-answer_line-end : goal.slice_bounds-answer_line-end
+slice_bounds-answer_line-end c =
+    let r = c.args.r in
+    sym (length-take-le r.len c.args.line.now c.requires.buffers_ready.begun)
+
+pub returns-then-len-gt0 : goal.returns-then-len-gt0
+returns-then-len-gt0 c =
+    let r = c.args.r in
+    let line = c.args.line.now in
+    let out = c.answer_line.new.out.0 in
+    let e = c.answer_line.result in
+    let p = c.answer_line.ensures in record {
+      at_in_bounds = answered-place r (take r.len line) c.args.out.now out e r.keyed p c.requires.buffers_ready.place;
+      by_index = finished-line r c.requires.buffers_ready.line-long c.if-len-gt0.true c.requires.reply_fits c.requires.buffers_ready.place out e p;
+    }
+
+pub returns : goal.returns
+returns c =
+    record {
+      at_in_bounds = c.requires.buffers_ready.place;
+      by_index = finished-none c.args.r c.requires.buffers_ready.line-long (omega arith);
+    }
