@@ -19,7 +19,7 @@ through-q-requires c =
 pub flush-x-requires : goal.flush-x-requires
 flush-x-requires c =
     let l = c.loop-at in
-    let n : length c.through-q.new.out.0 ≡ length l.out = search rules in
+    let n : length c.through-q.new.out ≡ length l.out = search rules in
     record {
       at_in_bounds = c.through-q.ensures.passes.ready.place;
       reply_room_in_bounds = omega (arith, l.invariant.space);
@@ -28,15 +28,15 @@ flush-x-requires c =
 pub loop-at-smaller : goal.loop-at-smaller
 loop-at-smaller c =
     let p = c.through-q.ensures in
-    let h = p.1 c.loop-at-test.true c.loop-at.invariant.space in
-    omega (arith, p.0.inside)
+    let h = p.from_lt_next c.loop-at-test.true c.loop-at.invariant.space in
+    omega (arith, p.passes.inside)
 
 pub loop-at-preserved : goal.loop-at-preserved
 loop-at-preserved c =
     let l = c.loop-at in
     let k : length c.through-q.new.line ≡ length l.line = search rules in
     let m : length c.through-q.new.room ≡ length l.room = search rules in
-    let n : length c.through-q.new.out.0 ≡ length l.out = search rules in
+    let n : length c.through-q.new.out ≡ length l.out = search rules in
     consuming-more l.invariant c.through-q.ensures.passes c.flush-x.ensures k m n
 
 pub emptied-requires : goal.emptied-requires

@@ -6,4 +6,4 @@ use Rattle.member.proofs.ended.Goals as goal
 pub returns : goal.returns
 returns c =
     let f = c.finish-e in
-    record { octets = take f.result.at f.new.1.1.1.0; over = c.hand_over.ensures; finishes = f.ensures.1 }
+    record { octets = take f.result.at f.new.out; over = c.hand_over.ensures; finishes = f.ensures.by_index }

@@ -39,7 +39,7 @@ slice_bounds-consume-end c = c.next-b.ensures.n_in_bounds
 pub slice_bounds-consume-end-in-loop-turns : goal.slice_bounds-consume-end-in-loop-turns
 slice_bounds-consume-end-in-loop-turns c =
     let f = c.next-b in
-    sym (length-take-le f.result.n f.new.1.0 f.ensures.0)
+    sym (length-take-le f.result.n f.new.block f.ensures.n_in_bounds)
 
 pub consume-p-requires : goal.consume-p-requires
 consume-p-requires c =
@@ -60,19 +60,19 @@ loop-turns-smaller c =
 pub loop-turns-preserved : goal.loop-turns-preserved
 loop-turns-preserved c =
     let l = c.loop-turns in
-    let k : length c.consume-p.new.block ≡ length l.line = omega (arith, c.line-1.given) in
-    let m : length c.consume-p.new.line ≡ length l.room = omega (arith, c.room-1.given) in
-    let n : length c.consume-p.new.room ≡ length l.out = omega (arith, c.out-1.given) in
-    let o : length c.next-b.new.taken ≡ length l.block = omega (arith, c.block-1.given) in
+    let k : length c.consume-p.new.line ≡ length l.line = search rules in
+    let m : length c.consume-p.new.room ≡ length l.room = search rules in
+    let n : length c.consume-p.new.out ≡ length l.out = search rules in
+    let o : length c.next-b.new.block ≡ length l.block = search rules in
     let i = l.invariant in
     let e = c.consume-p.ensures in (
-      e.0,
-      e.1.0,
+      e.buffers_ready_2,
+      e.reply_fits_2,
       k ∙ i.2,
       m ∙ i.3,
       n ∙ i.4,
       o ∙ i.5,
-      far-more i.6 c.loop-turns-test.true c.next-b.ensures.taken_in e.1.1 c.turns_left-turns.ensures,
+      far-more i.6 c.loop-turns-test.true c.next-b.ensures.taken_in e.consumed c.turns_left-turns.ensures,
     )
 
 pub ended-handed-requires : goal.ended-handed-requires

@@ -14,4 +14,4 @@ slice_bounds-write_all-end c =
 pub returns : goal.returns
 returns c =
     let n = length-take-le c.args.at c.args.out.now c.requires in
-    over-all c.if-handed.false (omega (arith, c.wrapping-add-usize.ensures, n))
+    over-all c.if-handed.false (omega (arith, n))

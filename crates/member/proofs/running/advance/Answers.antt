@@ -12,14 +12,13 @@ slice_bounds-answer_line-end-then-a c =
 pub returns-then-a : goal.returns-then-a
 returns-then-a c =
     let room = c.answer_line-running.new.room in
-    let out = c.answer_line-running.new.out.0 in
+    let out = c.answer_line-running.new.out in
     let l : length room ≡ length c.args.room.now = search rules in
     let q = c.absorb-a.ensures in
     let e = c.answer_line-running.result in
-    let p = c.requires.1 in
     record {
-      passes = passes-ended c.args.r c.requires.buffers_ready p.1 q p.0 c.if-a.true room out e l c.answer_line-running.ensures;
-      from_lt_next = absorbed-some q p.1;
+      passes = passes-ended c.args.r c.requires.buffers_ready c.requires.from_in_bounds q c.requires.reply_fits c.if-a.true room out e l c.answer_line-running.ensures;
+      from_lt_next = absorbed-some q c.requires.from_in_bounds;
     }
 
 pub returns : goal.returns

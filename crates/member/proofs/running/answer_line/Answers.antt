@@ -7,7 +7,7 @@ use Rattle.member.proofs.running.answer_line.Goals as goal
 pub returns-then-r : goal.returns-then-r
 returns-then-r c =
     let a = c.args in
-    answered-as a.r a.line.now a.out.now c.later_line.new.out.0 c.later_line.result true c.if-r.true
+    answered-as a.r a.line.now a.out.now c.later_line.new.out c.later_line.result true c.if-r.true
     c.later_line.ensures
 
 pub returns : goal.returns

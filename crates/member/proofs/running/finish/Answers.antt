@@ -14,7 +14,7 @@ pub returns-then-len-gt0 : goal.returns-then-len-gt0
 returns-then-len-gt0 c =
     let r = c.args.r in
     let line = c.args.line.now in
-    let out = c.answer_line.new.out.0 in
+    let out = c.answer_line.new.out in
     let e = c.answer_line.result in
     let p = c.answer_line.ensures in record {
       at_in_bounds = answered-place r (take r.len line) c.args.out.now out e r.keyed p c.requires.buffers_ready.place;

@@ -20,4 +20,4 @@ returns c =
     let a = c.args in
     let k = c.receive-x in
     let p = c.put_reply-at.ensures in
-    received_is a.r a.tick a.frame.now k.result.answer k.result.member k.ensures p.0 p.1
+    received_is a.r a.tick a.frame.now k.result.answer k.result.member k.ensures p.put p.a_len_bound

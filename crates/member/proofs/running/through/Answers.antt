@@ -16,7 +16,7 @@ pub advance-p-requires : goal.advance-p-requires
 advance-p-requires c =
     record {
       buffers_ready = c.loop-at.invariant.passes.ready;
-      reply_fits = leb-true reply_room _ c.if-out-x-ge-REPLY_ROOM.true;
+      reply_fits = c.if-out-x-ge-REPLY_ROOM.true;
       from_in_bounds = c.loop-at-test.true;
     }
 
@@ -28,7 +28,7 @@ loop-at-preserved c =
     let l = c.loop-at in
     let k : length c.advance-p.new.line ≡ length l.line = search rules in
     let m : length c.advance-p.new.room ≡ length l.room = search rules in
-    let n : length c.advance-p.new.out.0 ≡ length l.out = search rules in
+    let n : length c.advance-p.new.out ≡ length l.out = search rules in
     passing-more l.invariant c.advance-p.ensures.passes c.advance-p.ensures.from_lt_next k m n
 
 pub shape_of-line-else-out-x-ge-REPLY_ROOM : goal.shape_of-line-else-out-x-ge-REPLY_ROOM
