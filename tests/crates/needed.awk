@@ -36,14 +36,33 @@ function means(c, word) { return known[word] && !((c, word) in module) ? word : 
 
 function needs(c, d) { if (d != c && d != "std") needed[c, d] = 1 }
 
-# `use a::b::Name;`: whose Name it is in this file
-function read_uses(file, c, text,    n, words) {
-  while ((text = after(text, "\n *(pub )?use [a-z_][A-Za-z0-9_:]*::[A-Za-z0-9_]+;")) != "" || found != "") {
-    sub(/.*use /, "", found); sub(/;/, "", found)
-    n = split(found, words, "::")
-    whose[file, words[n]] = means(c, words[1])
-    used[c, ++uses[c]] = means(c, words[1]) SUBSEP words[n]
+# `use a::b::Name;`, `use a::{b::Name, Other};`: whose each name is in this file
+function read_uses(file, c, text) {
+  while ((text = after(text, "\n *(pub(\\([a-z]+\\))? )?use [a-z_][^;]*;")) != "" || found != "") {
+    sub(/.*use /, "", found); sub(/;$/, "", found); gsub(/[ \t\n]+/, " ", found)
+    read_use(file, c, found)
   }
+}
+function read_use(file, c, path,    head, i, n, depth, part, letter, words, name, bound) {
+  if (i = index(path, "{")) {
+    head = substr(path, 1, i - 1)
+    path = substr(path, i + 1)
+    for (i = 1; i <= length(path); i++) {
+      letter = substr(path, i, 1)
+      if (letter == "{") depth++
+      if ((letter == "," && !depth) || (letter == "}" && !depth--)) { read_use(file, c, head part); part = "" } else part = part letter
+    }
+    return
+  }
+  bound = path
+  sub(/ as .*/, "", path); gsub(/ /, "", path)
+  n = split(path, words, "::")
+  name = words[n] == "self" ? words[n - 1] : words[n]
+  if (n < 2 || name == "") return
+  if (bound ~ / as /) { sub(/.* as /, "", bound); gsub(/ /, "", bound) } else bound = name
+  whose[file, bound] = means(c, words[1])
+  needs(c, means(c, words[1]))
+  used[c, ++uses[c]] = means(c, words[1]) SUBSEP name
 }
 
 # the types that a stretch of code mentions, added to what a declaration leads to
@@ -73,7 +92,7 @@ function read_declarations(file, c, text,    name, rest, body) {
 
 # the crates that code names by paths, and the functions at their ends
 function read_paths(c, text,    head, words, n) {
-  while ((text = after(" " text, "[^A-Za-z0-9_:.·][a-z][a-z0-9_]*(::[A-Za-z0-9_]+)+")) != "" || found != "") {
+  while ((text = after(" " text, "[^A-Za-z0-9_:.][a-z][a-z0-9_]*(::[A-Za-z0-9_]+)+")) != "" || found != "") {
     n = split(substr(found, 2), words, "::")
     if (means(c, words[1]) == c) continue
     needs(c, words[1])
@@ -81,8 +100,12 @@ function read_paths(c, text,    head, words, n) {
   }
 }
 
+# the crates whose definitions, laws and goals a text names, as `Rattle.CRATE.specs.M`
 function read_libraries(c, text,    name) {
-  while ((text = after(text, "Rattle·[A-Za-z0-9_]+")) != "" || found != "") { name = found; sub(/Rattle·/, "", name); needs(c, name) }
+  while ((text = after(" " text, "[^A-Za-z0-9_.]Rattle\\.[a-z0-9_]+\\.")) != "" || found != "") {
+    name = found; sub(/.*Rattle\./, "", name); sub(/\.$/, "", name)
+    needs(c, name)
+  }
 }
 
 # the crates of all types that crate c reaches
