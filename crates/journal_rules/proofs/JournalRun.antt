@@ -31,6 +31,7 @@ module _ (limits : Limits) where
       Journals limits s x room a next after → (next ≡ s) × (after ≡ room)
   stays-as-is s x room _ _ _ n (turned-away f l t k e o) = (refl, refl)
   stays-as-is s x room _ _ _ n (too_small next d k) = (refl, refl)
+  stays-as-is s x room _ next _ h (wrote _ _ _) = elim h [ ]
 
   -- the steps that were done along a run, and what was stored is their journal
   record DoneAlong (s : State) (journal : List ℕ) (e : State) : Type 0 where
