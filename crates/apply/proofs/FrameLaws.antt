@@ -19,7 +19,7 @@ use Rattle.wire_frames.specs.Frame.{payloads, nothing_left}
 use Rattle.wire_readers.specs.inner.Values.{is_whole}
 use Rattle.wire_readers.specs.inner.Payloads.{payloads_in}
 use Rattle.wire_readers.specs.declared.payload.PayloadParts.{PayloadParts}
-use Rattle.check_payloads.specs.inner.Deletion.{spis_in, deletes_among, DeletesFrom}
+use Rattle.check_payloads.specs.inner.Deletion.{spis_in, deletes_among}
 use Rattle.check_payloads.proofs.StepLaws.{Step}
 use Rattle.check_payloads.proofs.DeletedLaws.{delete-here, delete-later, delete-none}
 use Rattle.rules_outcome.specs.After.{is_zero}

@@ -1,12 +1,12 @@
 -- The walk over the key bags of a KD body.
-use Prim.Native.Nat.{ℕ, ◌+◌, ◌-◌, ◌<◌, ◌≤◌}
-use mathlib.Core.Path.{◌≡◌, refl, ap, sym, ◌∙◌}
-use mathlib.Core.List.{List, [], ◌∷◌, ◌++◌, flat_map}
-use mathlib.Core.Bool.{Bool, true, false, not, ◌&&◌, ◌||◌, or-false}
+use Prim.Native.Nat.{ℕ, ◌+◌, ◌≤◌}
+use mathlib.Core.Path.{◌≡◌, ap, sym, ◌∙◌}
+use mathlib.Core.List.{List, [], ◌∷◌, flat_map}
+use mathlib.Core.Bool.{Bool, true, false, or-false}
 use native.Mathlib.Omega.{arith}
 use borrow.Author.Tests.{eq-eqb, ne_eqb}
 use lib.ListN.{length, drop, length-append}
-use lib.Dec.{ltb, eqb}
+use lib.Dec.{eqb}
 use Rattle.octets.specs.Walk.{part}
 use Rattle.octets.proofs.Walks.{part_length}
 use Rattle.lists.specs.Lists.{any}
@@ -19,11 +19,11 @@ use Rattle.wire_attributes.specs.declared.tables.Place.{Place}
 use Rattle.wire_attributes.specs.declared.tables.Place.TheVariants as place
 use Rattle.wire_attributes.specs.declared.tables.Meaning.{Meaning}
 use Rattle.wire_attributes.specs.declared.tables.Meaning.TheVariants as meaning
-use Rattle.wire_bags.specs.Bag.{Bag, group_keys, member_keys, GroupKeyBag, place_of, bags}
+use Rattle.wire_bags.specs.Bag.{Bag, group_keys, member_keys, place_of, bags}
 use Rattle.wire_readers.specs.inner.Values.{is_whole, attributes_in, values_in}
 use Rattle.wire_readers.specs.inner.Bags.{bags_in}
 use Rattle.wire_readers.specs.declared.policy.Parts.{Parts}
-use Rattle.rules_refusals.specs.Contents.{group_bag_of, member_bag_of}
+use Rattle.rules_refusals.specs.Contents.{member_bag_of}
 use Rattle.rules_refusals.specs.Number6.{under_itself}
 use Rattle.rules_refusals.proofs.FlatMap.{any_append}
 use Rattle.rules_refusals.proofs.OneOf.{or-joined}

@@ -2,20 +2,19 @@
 use Prim.Native.Nat.{ℕ, ◌+◌, ◌-◌, ◌≤◌}
 use mathlib.Core.Path.{◌≡◌, refl, ap, sym, ◌∙◌, subst}
 use mathlib.Core.List.{List, [], ◌∷◌, flat_map}
-use mathlib.Core.Bool.{Bool, true, false, cond, ◌||◌, or-false}
+use mathlib.Core.Bool.{Bool, true, false, cond, or-false}
 use native.Mathlib.Omega.{arith}
 use borrow.Author.Tests.{eqb-true, eqb-false}
 use lib.ListN.{length, take, drop}
 use lib.Seq.{drop-drop}
 use lib.Dec.{eqb}
-use Rattle.octets.specs.Numbers.{oct}
 use Rattle.octets.specs.Walk.{part}
 use Rattle.lists.specs.Lists.{any, count}
 use Rattle.lists.proofs.Cases.{bool_cases}
 use Rattle.wire_attributes.specs.Place.{in_policy}
 use Rattle.wire_attributes.specs.Layout.{attributes}
 use Rattle.wire_attributes.specs.declared.tables.Place.TheVariants as place
-use Rattle.wire_policies.specs.Policy.{Policy, group_sa, group_wide, GroupWidePolicy, SaBody, group_sa_of, group_wide_of, head_spi, policies}
+use Rattle.wire_policies.specs.Policy.{Policy, group_sa, group_wide, GroupWidePolicy, group_sa_of, group_wide_of, head_spi, policies}
 use Rattle.wire_policies.specs.Grammar.{IsSaBody}
 use Rattle.wire_readers.specs.inner.Values.{is_whole, attributes_in}
 use Rattle.wire_readers.specs.inner.Policies.{policies_in}
@@ -25,7 +24,7 @@ use Rattle.rules_refusals.specs.Fitness.{is_esp, is_rekey}
 use Rattle.rules_refusals.proofs.OneOf.{or-joined}
 use Rattle.check_suites.specs.inner.Adding.{once}
 use Rattle.check_composition.specs.inner.Facts.{given_by, of_sa, of_policy, sa_with, PolicyFactsAtMost, PolicyBodyHolds, FactsOfPolicy}
-use Rattle.check_composition.specs.inner.Facts.{no_policies, merge_policy_facts, Added, policy_facts_of}
+use Rattle.check_composition.specs.inner.Facts.{no_policies, merge_policy_facts, policy_facts_of}
 use Rattle.check_composition.specs.inner.Numbers.{greatest}
 use Rattle.check_composition.specs.declared.PolicyFacts.{PolicyFacts}
 use Rattle.check_composition.proofs.NumberLaws.{greater-none, none-greater, greater-joined, greatest-join}

@@ -13,7 +13,6 @@ use Rattle.lists.proofs.Cases.{bool_cases, lt-cases}
 use Rattle.wire_attributes.specs.Layout.{attributes}
 use Rattle.wire_attributes.specs.declared.tables.Place.{Place}
 use Rattle.wire_attributes.specs.declared.tables.Meaning.{Meaning}
-use Rattle.wire_attributes.specs.declared.tables.Meaning.TheVariants as meaning
 use Rattle.wire_readers.specs.inner.Values.{is_whole, values_in, value_size, ValueFoundAt}
 use Rattle.check_composition.specs.inner.Numbers.{greater, greatest, is_number, number_by, most, numbers_by, with_number}
 use Rattle.check_composition.specs.declared.numbers.Numbers.{Numbers}

@@ -1,13 +1,12 @@
 -- The facts of one policy, by the parts that the code reads.
 use Prim.Native.Nat.{ℕ, ◌≤◌}
-use mathlib.Core.Path.{◌≡◌, refl, ap, sym, ◌∙◌}
+use mathlib.Core.Path.{◌≡◌, ap, sym, ◌∙◌}
 use mathlib.Core.List.{List, [], map}
 use mathlib.Core.Bool.{Bool, true, false, not, cond, ◌&&◌}
 use native.Mathlib.Omega.{arith}
 use lib.Dec.{ltb, eqb}
 use lib.ListN.{length, length-map}
 use Rattle.octets.proofs.Walks.{tail, to_end}
-use Rattle.lists.specs.Lists.{any, count}
 use Rattle.wire_attributes.specs.Place.{in_policy}
 use Rattle.wire_attributes.specs.Tree.{number16, number32, values_of}
 use Rattle.wire_attributes.specs.Layout.{attributes}
@@ -15,9 +14,9 @@ use Rattle.wire_attributes.specs.declared.tables.Place.{Place}
 use Rattle.wire_attributes.specs.declared.tables.Place.TheVariants as place
 use Rattle.wire_attributes.specs.declared.tables.Meaning.{Meaning}
 use Rattle.wire_attributes.specs.declared.tables.Meaning.TheVariants as meaning
-use Rattle.wire_policies.specs.Policy.{SaBody, group_wide_of}
+use Rattle.wire_policies.specs.Policy.{SaBody}
 use Rattle.wire_policies.specs.Grammar.{IsSaBody}
-use Rattle.wire_readers.specs.inner.Values.{is_whole, attributes_in, values_in}
+use Rattle.wire_readers.specs.inner.Values.{is_whole, values_in}
 use Rattle.wire_readers.specs.inner.Bodies.{SaPartsAre}
 use Rattle.wire_readers.specs.declared.body.SaParts.{SaParts}
 use Rattle.state_sa.specs.Entry.{most_seconds}
@@ -28,7 +27,7 @@ use Rattle.check_suites.specs.inner.Adding.{once}
 use Rattle.check_suites.specs.inner.Suites.{suite_of, fit_by}
 use Rattle.check_suites.specs.declared.counts.SuiteCounts.{SuiteCounts}
 use Rattle.check_suites.proofs.TestLaws.{fits}
-use Rattle.check_composition.specs.inner.Facts.{of_sa, of_policy, sa_with, wide_by, PolicyFactsAtMost, FactsOfPolicy}
+use Rattle.check_composition.specs.inner.Facts.{of_sa, sa_with, wide_by, FactsOfPolicy}
 use Rattle.check_composition.specs.inner.Numbers.{greatest, numbers_by}
 use Rattle.check_composition.specs.declared.numbers.Numbers.{Numbers}
 use Rattle.check_composition.specs.declared.PolicyFacts.{PolicyFacts}

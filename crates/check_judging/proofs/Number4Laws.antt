@@ -1,5 +1,5 @@
 -- The tests of number 4 over the facts of a frame are its clauses.
-use Prim.Native.Nat.{ℕ, ◌+◌, ◌≤◌}
+use Prim.Native.Nat.{ℕ, ◌≤◌}
 use mathlib.Core.Path.{◌≡◌, refl, ap, sym, ◌∙◌}
 use mathlib.Core.List.{List, [], ◌∷◌, ◌++◌, append-nil, flat_map}
 use mathlib.Core.Bool.{Bool, true, false, not, ◌&&◌, ◌||◌, or-false}
@@ -17,7 +17,7 @@ use Rattle.wire_readers.specs.inner.Policies.{policies_in}
 use Rattle.wire_readers.specs.inner.Bags.{bags_in}
 use Rattle.rules_refusals.specs.Contents.{row_of, some, is_gsa, has_gsa, has_kd, policies_of_content as policiesOfOne, policies_of, bags_of}
 use Rattle.rules_refusals.specs.Contents.{group_sa_in}
-use Rattle.rules_refusals.specs.Number4.{critical_unknown, barred_member_bag, barred_delete, two_gsa, two_kd, gsa_without_kd, kd_without_gsa, neither}
+use Rattle.rules_refusals.specs.Number4.{barred_member_bag, barred_delete, two_gsa, two_kd, gsa_without_kd, kd_without_gsa, neither}
 use Rattle.rules_refusals.specs.Number4.{several_rekey_policies, several_group_wide, several_member_bags, gsa_without_sa_policy, key_length_twice}
 use Rattle.rules_refusals.specs.Number4.{initial_message_id_twice, delay_twice, other_destination, lifetime_twice, without_sa_policy}
 use Rattle.rules_refusals.specs.Number4.{number4_of_frame}

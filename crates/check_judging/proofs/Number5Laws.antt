@@ -1,13 +1,13 @@
 -- The tests of numbers 5 and 7 over the facts of a frame are their clauses.
 use Prim.Native.Nat.{ℕ, ◌+◌, ◌-◌, ◌<◌, ◌≤◌}
-use mathlib.Core.Path.{◌≡◌, refl, ap, sym, ◌∙◌}
+use mathlib.Core.Path.{◌≡◌, sym, ◌∙◌}
 use mathlib.Core.List.{List, [], ◌∷◌}
-use mathlib.Core.Bool.{Bool, true, not, ◌&&◌, ◌||◌, or-false}
+use mathlib.Core.Bool.{true, not, ◌&&◌, or-false}
 use native.Mathlib.Omega.{arith}
 use borrow.Author.Tests.{lt-ltb, le-ltb}
 use lib.ListN.{length}
 use lib.Dec.{ltb}
-use Rattle.state_keys.specs.Limits.{Limits, limits}
+use Rattle.state_keys.specs.Limits.{limits}
 use Rattle.state_keys.specs.Algorithms.{is_wrapping_size}
 use Rattle.lists.proofs.Cases.{lt-cases}
 use Rattle.state.specs.declared.State.{State}

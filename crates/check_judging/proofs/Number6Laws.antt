@@ -1,5 +1,5 @@
 -- The tests of number 6 over the facts of a frame and the names of its policies and bags are its clauses.
-use Prim.Native.Nat.{ℕ, ◌+◌, ◌<◌, ◌≤◌}
+use Prim.Native.Nat.{ℕ, ◌+◌}
 use mathlib.Core.Path.{◌≡◌, refl, ap, sym, ◌∙◌}
 use mathlib.Core.List.{List, [], ◌∷◌, map}
 use mathlib.Core.Bool.{Bool, true, false, not, cond, ◌&&◌, ◌||◌, or-true, or-false}
@@ -23,7 +23,6 @@ use Rattle.rules_refusals.specs.Number6.{policies_named, bags_named, policy_unpa
 use Rattle.rules_refusals.specs.Number6.{other_sa_key_count, sa_key_count, sa_key_id, esp_kwk_id, wrap_key_id, wraps_itself}
 use Rattle.rules_refusals.specs.Number6.{fresh_key_id, fresh_wraps_itself, number6_of_frame, number6_of_member}
 use Rattle.rules_refusals.specs.Refusals.{one, number6, applies}
-use Rattle.rules_refusals.proofs.AnyOrder.{or_swap}
 use Rattle.rules_refusals.proofs.FlatMap.{any-either}
 use Rattle.check_bagkeys.specs.declared.BagFacts.{BagFacts}
 use Rattle.check_bagkeys.specs.inner.Facts.{bag_facts_of as bagFacts}

@@ -6,16 +6,13 @@ use mathlib.Core.Bool.{Bool, true, false, cond}
 use native.Mathlib.Omega.{arith}
 use borrow.Author.Tests.{le-leb, lt-leb}
 use lib.ListN.{length, drop}
-use lib.Dec.{leb}
-use Rattle.octets.specs.Numbers.{oct}
-use Rattle.octets.specs.Walk.{be16, part}
-use Rattle.octets.proofs.Walks.{tail, to_end}
+use Rattle.octets.specs.Walk.{part}
+use Rattle.octets.proofs.Walks.{tail}
 use Rattle.lists.specs.Lists.{any, count}
 use Rattle.lists.proofs.Cases.{bool_cases, lt-cases}
-use Rattle.wire_policies.specs.Policy.{head_size}
 use Rattle.wire_bags.specs.Bag.{bags}
 use Rattle.wire_readers.specs.inner.Values.{nowhere, is_whole}
-use Rattle.wire_readers.specs.inner.Bags.{bags_in, BagIs}
+use Rattle.wire_readers.specs.inner.Bags.{bags_in}
 use Rattle.wire_readers.specs.declared.Stretch.{Stretch}
 use Rattle.wire_readers.specs.declared.policy.Parts.{Parts}
 use Rattle.wire_readers.proofs.BagsLaws.{bag-is, fits-first}

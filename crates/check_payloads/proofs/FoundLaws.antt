@@ -21,13 +21,12 @@ use Rattle.wire_readers.specs.inner.Payloads.{payloads_in}
 use Rattle.wire_readers.specs.inner.Values.{is_whole}
 use Rattle.wire_readers.specs.inner.Policies.{policies_in}
 use Rattle.wire_readers.specs.inner.Bags.{bags_in}
-use Rattle.wire_readers.specs.declared.Stretch.{Stretch}
 use Rattle.rules_refusals.specs.Contents.{has_gsa, has_kd, policies_of, bags_of, deletes_of, deleted_spis}
 use Rattle.rules_refusals.specs.Number4.{unknown_critical, critical_unknown}
 use Rattle.rules_refusals.specs.Number5.{delete_of_other, delete_of_none}
 use Rattle.check_payloads.specs.inner.Places.{body_of}
 use Rattle.check_payloads.specs.inner.Facts.{payloads_of, of_kind, payload_facts_of}
-use Rattle.check_payloads.specs.inner.Deletion.{of_other, of_none, spis_in, deletes_among, DeletesFrom}
+use Rattle.check_payloads.specs.inner.Deletion.{of_other, of_none, spis_in, DeletesFrom}
 use Rattle.check_payloads.specs.declared.PayloadFacts.{PayloadFacts}
 use Rattle.check_payloads.specs.declared.deletion.Deletes.{Deletes}
 use Rattle.check_payloads.proofs.FrameLaws.{are-payloads, whole-payloads}

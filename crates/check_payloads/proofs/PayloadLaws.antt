@@ -1,8 +1,8 @@
 -- The walk over the payloads of a frame.
-use Prim.Native.Nat.{ℕ, suc, ◌+◌, ◌-◌, ◌*◌, ◌<◌, ◌≤◌}
+use Prim.Native.Nat.{ℕ, suc, ◌+◌, ◌-◌, ◌*◌, ◌≤◌}
 use mathlib.Core.Path.{◌≡◌, refl, ap, sym, ◌∙◌, subst}
 use mathlib.Core.Logic.{inl, inr}
-use mathlib.Core.List.{List, [], ◌∷◌}
+use mathlib.Core.List.{List, []}
 use mathlib.Core.Bool.{Bool, true, false, not, cond, ◌&&◌, ◌||◌, or-false}
 use native.Mathlib.Omega.{arith}
 use borrow.Author.Tests.{eqb-true, eqb-false}
@@ -13,7 +13,7 @@ use Rattle.octets.specs.Walk.{part}
 use Rattle.lists.specs.Lists.{any, count}
 use Rattle.lists.proofs.Cases.{bool_cases}
 use Rattle.wire_frames.specs.Header.{first_payload}
-use Rattle.wire_frames.specs.Delete.{Delete, delete_of, delete_fits}
+use Rattle.wire_frames.specs.Delete.{Delete, delete_of}
 use Rattle.wire_frames.specs.Frame.{Payload, is_known, payloads, nothing_left}
 use Rattle.wire_readers.specs.inner.Values.{nowhere, is_whole}
 use Rattle.wire_readers.specs.inner.Payloads.{payloads_in}

@@ -1,28 +1,20 @@
 -- The Group SA policies of a GSA payload's body, one policy after the other.
-use Prim.Native.Nat.{ℕ, ◌+◌, ◌-◌, ◌<◌, ◌≤◌}
-use mathlib.Core.Path.{◌≡◌, refl, ap, sym, ◌∙◌, subst}
-use mathlib.Core.List.{List, ◌∷◌, flat_map}
-use mathlib.Core.Bool.{Bool, true, false, ◌||◌}
+use Prim.Native.Nat.{ℕ, ◌+◌, ◌<◌, ◌≤◌}
+use mathlib.Core.Path.{◌≡◌, ap, sym, subst}
+use mathlib.Core.List.{List}
+use mathlib.Core.Bool.{true}
 use native.Mathlib.Omega.{arith}
-use borrow.Author.Tests.{eqb-true, eqb-false}
-use lib.Dec.{eqb}
-use lib.ListN.{length, take, drop, length-drop}
+use lib.ListN.{length, drop, length-drop}
 use lib.Seq.{drop-drop}
-use Rattle.octets.specs.Walk.{part, Reading}
-use Rattle.octets.proofs.Walks.{tail as cut, to_end, many-none}
-use Rattle.wire_attributes.specs.Place.{in_policy}
-use Rattle.wire_policies.specs.Policy.{GroupSaPolicy, GroupWidePolicy, Policy, group_sa, group_wide, SaBody, policy, policies}
+use Rattle.octets.proofs.Walks.{tail as cut, to_end}
+use Rattle.wire_policies.specs.Policy.{SaBody, policies}
 use Rattle.wire_attributes.specs.declared.tables.Place.{Place}
-use Rattle.wire_policies.specs.Grammar.{Transforms, IsSaBody}
-use Rattle.wire_policies.proofs.PolicyLaws.{takes}
-use Rattle.lists.specs.Lists.{any}
-use Rattle.lists.proofs.Cases.{bool_cases}
-use Rattle.wire_readers.specs.inner.Values.{is_whole, items_of}
-use Rattle.wire_readers.specs.inner.Policies.{policies_in, PolicyIs}
+use Rattle.wire_policies.specs.Grammar.{Transforms}
+use Rattle.wire_readers.specs.inner.Values.{is_whole}
+use Rattle.wire_readers.specs.inner.Policies.{PolicyIs}
 use Rattle.wire_readers.specs.inner.Bodies.{SaPartsAre}
 use Rattle.wire_readers.specs.declared.policy.Parts.{Parts}
 use Rattle.wire_readers.specs.declared.body.SaParts.{SaParts}
-use Rattle.rules_refusals.specs.Contents.{group_sa_in}
 
 -- the transforms of a Group SA policy are the octets from where they start
 module _ (p : Place) (s : List ℕ) (b : SaBody) (r : SaParts) (f : SaPartsAre p s b r) where

@@ -19,7 +19,7 @@ use Rattle.wire_policies.specs.Policy.{GroupSaPolicy}
 use Rattle.wire_readers.specs.inner.Values.{values_in}
 use Rattle.rules_refusals.specs.Fitness.{octets_needed, is_octets, encryption_fits, key_wrap_fits, sequence_numbers_fit, authentication_fits}
 use Rattle.rules_refusals.specs.Fitness.{exact_transforms}
-use Rattle.rules_refusals.specs.Fitness.{esp_transforms, rekey_transforms, transforms_fit, sum, encryption_needs, key_wrap_needs}
+use Rattle.rules_refusals.specs.Fitness.{transforms_fit, sum, encryption_needs, key_wrap_needs}
 use Rattle.rules_refusals.specs.Number4.{twice_in_transform}
 use Rattle.check_suites.specs.inner.Suites.{suite_of, fit_by}
 use Rattle.check_suites.specs.inner.Octets.{key_length_needs, transform_in}

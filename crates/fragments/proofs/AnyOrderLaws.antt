@@ -14,7 +14,7 @@ use Rattle.lists.specs.Lists.{any, keep}
 use Rattle.lists.proofs.Cases.{bool_cases}
 use Rattle.fragments.specs.declared.Case.TheVariants.{Anew, PassedOver, Kept}
 use Rattle.fragments.specs.declared.Names.{Names}
-use Rattle.fragments.specs.Collection.{KeptPiece, Lead, Waiting, nothing, empty_lead, is_first, joined_pieces, frame_size}
+use Rattle.fragments.specs.Collection.{KeptPiece, Lead, Waiting, empty_lead, is_first, joined_pieces, frame_size}
 use Rattle.fragments.specs.Gathering.{of_same_rekey, is_kept, case_of, lead_with, with_piece, gathered, is_complete}
 use Rattle.fragments.proofs.AnyOrderPieces.{numbered_from, came, has_come, length-numbered, payloads-numbered, kept-came, put-came}
 use Rattle.fragments.proofs.AnyOrderPieces.{each-kept, full-came, fewer-octets}

@@ -7,7 +7,7 @@ use lib.Dec.{lit<}
 use lib.Bits.{bit_xor, xor_shr, xor_mod, xor_self, xor_zero_r, xor_shifted}
 use Rattle.octets.proofs.Xor.{xor_assoc, xor-medial}
 use Rattle.fips197.specs.Field.{mask_by}
-use Rattle.sp800_38d.specs.Product.{reduction, bit, shifted, v_at, z_at, product}
+use Rattle.sp800_38d.specs.Product.{reduction, bit, shifted, v_at, z_at}
 use Rattle.gcm.specs.inner.Multiples.{bit_sum}
 
 kept-xor : (p q x : ℕ) → p < 2 → q < 2 → mask_by (bit_xor p q) x ≡ bit_xor (mask_by p x) (mask_by q x)

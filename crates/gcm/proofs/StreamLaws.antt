@@ -5,7 +5,7 @@ use mathlib.Core.List.{List, ◌++◌}
 use Prim.Native.Nat.{ℕ, zero, suc, ◌+◌, ◌*◌, ◌/◌, ◌%◌, ◌-◌, ◌^◌, ◌<◌, ◌≤◌}
 use native.Mathlib.Nat.{add-sub_of_le, not-suc-le-zero}
 use native.Mathlib.Omega.{arith}
-use lib.ListN.{length, take, drop, length-append, length-drop, take-append-drop, get_or-append, length-set, set}
+use lib.ListN.{length, drop, length-append, length-drop, take-append-drop, get_or-append, length-set, set}
 use lib.Seq.{take_at, drop_at, take_all, get_or-append-add, get_or-drop, get_or-set_same, get_or-set_other, ext_get_or}
 use lib.Bits.{bit_xor}
 use Rattle.lists.proofs.Cases.{lt-cases}

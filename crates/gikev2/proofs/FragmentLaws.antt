@@ -2,7 +2,7 @@
 use Prim.Native.Nat.{ℕ, ◌-◌, ◌<◌, ◌≤◌}
 use native.Mathlib.Omega.{arith}
 use mathlib.Core.Path.{◌≡◌, refl, sym, ap, ap₂, ◌∙◌, subst}
-use mathlib.Core.Bool.{Bool, true, false, false≢true}
+use mathlib.Core.Bool.{true, false, false≢true}
 use mathlib.Core.Logic.{inl, inr}
 use mathlib.Core.List.{List, [], ◌++◌, append-nil}
 use lib.ListN.{length, take, drop, replicate, length-append}
@@ -33,7 +33,7 @@ use Rattle.fragments.specs.inner.Writing.{WholeWritten}
 use Rattle.sealing.specs.Pieces.{PieceInto}
 use Rattle.rules_sealed.specs.SealingKey.{sealing_part, encryption_octets_of}
 use Rattle.rules_sealed.specs.SealedOutcome.{sealed_number2}
-use Rattle.rules_fragments.specs.FragmentOutcome.{names_in, Turn, OfPiece, FirstTurn, judging_rows, refuses, passes_over, waits, completes}
+use Rattle.rules_fragments.specs.FragmentOutcome.{names_in, Turn, OfPiece, FirstTurn, judging_rows}
 use Rattle.rules_fragments.specs.FragmentOutcome.{FragmentOutcome, complete, is-refused, is-passed-over, is-waiting, is-complete}
 use Rattle.gikev2.specs.declared.Member.{Member}
 use Rattle.gikev2.specs.declared.call.Answer.{Answer}
@@ -41,7 +41,7 @@ use Rattle.gikev2.specs.declared.call.Answer.TheVariants as answer
 use Rattle.gikev2.specs.declared.fragment.FragmentAnswer.{FragmentAnswer}
 use Rattle.gikev2.specs.declared.fragment.FragmentAnswer.TheVariants as said
 use Rattle.gikev2.specs.declared.fragment.Gathered.{Gathered}
-use Rattle.gikev2.specs.Receive.{number_of, figure_of, Receives}
+use Rattle.gikev2.specs.Receive.{number_of, Receives}
 use Rattle.gikev2.specs.ReceiveFragment.{fragment_said, ReceivesFragment}
 use Rattle.gikev2.specs.inner.Sealing.{IsSealingKey}
 use Rattle.gikev2.specs.inner.Gathering.{refused_by, PassedOutside, ReceivedWhole}

@@ -8,7 +8,6 @@ use Rattle.fragments.specs.declared.Collection.{Collection}
 use Rattle.rules_fragments.specs.FragmentOutcome as rules
 use Rattle.rules_fragments.proofs.FragmentDetermined.{fragment-one}
 use Rattle.gikev2.specs.declared.Member.{Member}
-use Rattle.gikev2.specs.declared.call.Answer.{Answer}
 use Rattle.gikev2.specs.declared.fragment.FragmentAnswer.{FragmentAnswer}
 use Rattle.gikev2.specs.declared.fragment.FragmentAnswer.TheVariants.{Refused, PassedOver, Waiting, Complete}
 use Rattle.gikev2.specs.ReceiveFragment.{fragment_said, ReceivesFragment, SameReceived}

@@ -1,7 +1,7 @@
 -- How far a fragment has come in the code, stage by stage: from what a stage finds to the fragment's outcome, or to the next stage.
 use Prim.Native.Nat.{ℕ, ◌<◌, ◌≤◌}
 use native.Mathlib.Omega.{arith}
-use mathlib.Core.Path.{◌≡◌, refl, sym, ap, ap₂, ◌∙◌, subst}
+use mathlib.Core.Path.{◌≡◌, sym, ap, ap₂, ◌∙◌, subst}
 use mathlib.Core.Bool.{Bool, true, false}
 use mathlib.Core.List.{List}
 use borrow.Author.Tests.{eqb-true}
@@ -12,7 +12,7 @@ use Rattle.state_keys.specs.Limits.{limits}
 use Rattle.state_keys.specs.declared.kinds.EncryptionKey.{EncryptionKey}
 use Rattle.wire_frames.specs.Header.{header_of}
 use Rattle.rules_refusals.specs.Refusals.{applies, number3}
-use Rattle.rfc5282.specs.OuterFragment.{outer_fragment, total_in}
+use Rattle.rfc5282.specs.OuterFragment.{total_in}
 use Rattle.rfc5282.specs.Number10.{UnopenedFragment, OpensFragmentInto}
 use Rattle.rfc5282.proofs.FragmentLaws.{fragment-is}
 use Rattle.sealing.specs.declared.Unsealed.{Unsealed}
@@ -30,7 +30,6 @@ use Rattle.rules_sealed.specs.SealingKey.{sealing_part, encryption_octets_of}
 use Rattle.rules_sealed.proofs.SealedHeader.{is-rekey}
 use Rattle.rules_fragments.specs.FragmentOutcome.{names_in}
 use Rattle.gikev2.specs.declared.Member.{Member}
-use Rattle.gikev2.specs.declared.call.Answer.{Answer}
 use Rattle.gikev2.specs.declared.call.Answer.TheVariants as answer
 use Rattle.gikev2.specs.declared.fragment.FragmentAnswer.TheVariants as said
 use Rattle.gikev2.specs.declared.fragment.Gathered.{Gathered}

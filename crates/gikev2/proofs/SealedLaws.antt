@@ -24,7 +24,7 @@ use Rattle.sealing.specs.declared.Unsealed.TheVariants.{No, Count}
 use Rattle.sealing.specs.Unsealing.{UnsealsInto}
 use Rattle.rules_outcome.specs.Answer.{First}
 use Rattle.rules_sealed.specs.SealingKey.{sealing_key, encryption_octets_of, sealing_part}
-use Rattle.rules_sealed.specs.SealedOutcome.{sealed_number2, sealed_conditions, SealedOutcome, not_opened, by-opened}
+use Rattle.rules_sealed.specs.SealedOutcome.{sealed_number2, sealed_conditions, not_opened}
 use Rattle.rules_sealed.proofs.SealedDetermined.{sealed-one, receives-opened}
 use Rattle.gikev2.specs.declared.Member.{Member}
 use Rattle.gikev2.specs.declared.call.Answer.{Answer}

@@ -1,14 +1,13 @@
 -- WHAT IS READ BACK IS ONE.
 use native.Mathlib.Omega.{arith}
-use Prim.Native.Nat.{ℕ, suc, ◌+◌}
-use mathlib.Core.Path.{◌≡◌, refl, ap, sym, ◌∙◌, subst}
+use Prim.Native.Nat.{ℕ, ◌+◌}
+use mathlib.Core.Path.{◌≡◌, refl, sym, ◌∙◌, subst}
 use mathlib.Core.Bool.{Bool}
 use mathlib.Core.List.{List}
 use Rattle.state_keys.specs.Limits.{Limits}
 use Rattle.lists.proofs.Cases.{never}
 use Rattle.text_rules.specs.Lines.{Line}
 use Rattle.state.specs.declared.State.{State}
-use Rattle.rules_outcome.specs.Outcome.{Outcome}
 use Rattle.rules_outcome.specs.Run.{Event, handed, sweep, leave}
 use Rattle.rules_outcome.proofs.Determined.{outcome-one}
 use Rattle.journal_rules.specs.Line.{Said, says, read_line}

@@ -1,17 +1,15 @@
 -- WHAT A JOURNALED CALL ANSWERS IS ONE: the answer, the next member and the room.
 use native.Mathlib.Omega.{arith}
-use Prim.Native.Nat.{ℕ, suc, ◌<◌, ◌≤◌}
+use Prim.Native.Nat.{ℕ, suc}
 use mathlib.Core.Path.{◌≡◌, refl, ap, sym, ◌∙◌, subst}
 use mathlib.Core.List.{List}
-use lib.ListN.{length}
 use Rattle.state_keys.specs.Limits.{Limits}
 use Rattle.state.specs.declared.State.{State}
 use Rattle.rules_outcome.specs.Outcome.{Outcome}
 use Rattle.rules_outcome.specs.Run.{Event, handed}
 use Rattle.rules_outcome.proofs.Determined.{outcome-one}
-use Rattle.journal_rules.specs.Line.{line_of}
 use Rattle.journal_rules.specs.Replay.{TakesEffect}
-use Rattle.journal_rules.specs.Write.{JournalAnswer, refused, no_room, done, Journals, turned-away, too_small, wrote}
+use Rattle.journal_rules.specs.Write.{JournalAnswer, refused, Journals, turned-away, too_small, wrote}
 use Rattle.journal_rules.specs.Claims.{SameCall, AsPlain}
 use Rattle.journal_rules.proofs.Determined.{effect-one, effect-or-refused}
 

@@ -6,7 +6,7 @@ use mathlib.Core.Bool.{Bool, true, false, not}
 use lib.Dec.{eqb, leb}
 use lib.ListN.{length, drop}
 use Rattle.octets.specs.Numbers.{oct, number, octets_of}
-use Rattle.octets.specs.Walk.{be16, be32, part, sized, Reading, whole, broken, Reader, mapped, opened, begun, within, and_then}
+use Rattle.octets.specs.Walk.{be16, be32, part, sized, whole, broken, Reader, opened, begun, within, and_then}
 use Rattle.octets.specs.Walk.{Linked, chain_up_to, chain, many}
 
 abbrev four : List ℕ

@@ -12,7 +12,7 @@ use lib.ListN.{get_or-append, get_or-eq_default, get_or-replicate}
 use lib.Seq.{length-take-le, get_or-take, get_or-drop, get_or-append-add, take-append_seam, drop-append_seam, ext_get_or}
 use Rattle.octets.specs.Numbers.{oct}
 use Rattle.octets.specs.Walk.{be16, be32, Spans, none, more, Row, no-more, then}
-use Rattle.octets.specs.Ignored.{Mask, all, high, top, ignored, seen, Alike, all_of, none_of, row_mask, chain_mask}
+use Rattle.octets.specs.Ignored.{Mask, all, ignored, seen, Alike, all_of, none_of, row_mask, chain_mask}
 use Rattle.octets.proofs.Numerals.{be16-is, be32-is}
 
 pub length-all : (s : List ℕ) → length (all_of s) ≡ length s

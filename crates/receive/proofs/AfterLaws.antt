@@ -1,13 +1,12 @@
 -- The held list after acceptance, by the copies of the Rekey SA's key that open.
-use native.Mathlib.Omega.{arith}
-use Prim.Native.Nat.{ℕ, ◌*◌, ◌≤◌, ◌<◌}
-use mathlib.Core.Path.{◌≡◌, refl, ap, sym, subst, ◌∙◌}
+use Prim.Native.Nat.{ℕ, ◌*◌, ◌<◌}
+use mathlib.Core.Path.{◌≡◌, refl, ap, sym, subst}
 use mathlib.Core.Bool.{Bool, true, false, false≢true}
 use mathlib.Core.List.Memᴰ
 use mathlib.Core.List.{List, [], ◌∷◌, Memᴰ}
 use mathlib.Core.List.{flat_map}
 use lib.ListN.{length, take, get_or}
-use Rattle.wire_attributes.specs.Tree.{SaKey, WrapKey}
+use Rattle.wire_attributes.specs.Tree.{WrapKey}
 use Rattle.wire_policies.specs.Policy.{GroupSaPolicy}
 use Rattle.wire_frames.specs.Frame.{Frame}
 use Rattle.state_keys.specs.Limits.{limits}
@@ -20,7 +19,7 @@ use Rattle.state.specs.declared.held.Held.{Held}
 use Rattle.state.proofs.Kept.{no-key-formed}
 use Rattle.rules_refusals.specs.Contents.{row_of, announced}
 use Rattle.rules_refusals.specs.Fitness.{is_rekey}
-use Rattle.rules_chains.specs.Chain.{In, Root, CopyOpens}
+use Rattle.rules_chains.specs.Chain.{In, Root}
 use Rattle.rules_chains.proofs.Members.{in-member, member-in}
 use Rattle.rules_outcome.specs.Roots.{roots_of, entries_of, wrapping_size, copies_of}
 use Rattle.rules_outcome.specs.Holding.{new_rekey, rekey_copies, held_before}
@@ -32,7 +31,7 @@ use Rattle.unwrap_sas.specs.declared.joining.SasFound.{SasFound}
 use Rattle.unwrap_sas.specs.declared.joining.SasFound.TheVariants as found
 use Rattle.unwrap_lending.specs.inner.Lending.{place_octets, named_keys, Lends, LendsHeld, LendsNamed, LendsTwo}
 use Rattle.unwrap_lending.proofs.HeldLaws.{get_d_any, held-within}
-use Rattle.unwrap_copies.specs.inner.Openers.{OneOpens, OpenersAre}
+use Rattle.unwrap_copies.specs.inner.Openers.{OpenersAre}
 use Rattle.unwrap_paths.specs.declared.held.PathHeld.{PathHeld}
 use Rattle.unwrap_paths.specs.inner.Holding.{PathTells}
 use Rattle.receive.specs.inner.Passing.{EachHasCopy, HeldTold}

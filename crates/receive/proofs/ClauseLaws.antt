@@ -2,7 +2,7 @@
 use native.Mathlib.Omega.{arith}
 use Prim.Native.Nat.{ℕ, suc, ◌+◌, ◌≤◌}
 use mathlib.Core.Path.{◌≡◌, refl, ap, sym}
-use mathlib.Core.Bool.{Bool, true, false, not, cond, ◌&&◌, false≢true}
+use mathlib.Core.Bool.{Bool, true, false, not, cond, false≢true}
 use mathlib.Core.List.{List, [], ◌∷◌, flat_map}
 use borrow.Author.Tests.{ltb-false}
 use lib.ListN.{length, get_or}
@@ -12,7 +12,7 @@ use Rattle.state_keys.specs.Algorithms.{is_wrapping_size}
 use Rattle.wire_policies.specs.Policy.{GroupSaPolicy, GroupWidePolicy}
 use Rattle.wire_bags.specs.Bag.{MemberKeyBag}
 use Rattle.wire_frames.specs.Frame.{Frame}
-use Rattle.wire_frames.specs.Exchange.{registration, rekey, inband}
+use Rattle.wire_frames.specs.Exchange.{registration, rekey}
 use Rattle.wire_frames.specs.declared.exchanges.KeyZero.{KeyZero}
 use Rattle.wire_frames.specs.declared.exchanges.KeyZero.TheVariants as keyZero
 use Rattle.state.specs.declared.State.{State}

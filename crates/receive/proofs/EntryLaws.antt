@@ -1,9 +1,8 @@
 -- The entries of a frame that numbers 2 to 7 let pass, and the keys that its chains start with.
-use native.Mathlib.Omega.{arith}
-use Prim.Native.Nat.{ℕ, ◌+◌, ◌≤◌, ◌<◌}
+use Prim.Native.Nat.{ℕ, ◌≤◌}
 use mathlib.Core.Path.{◌≡◌, refl, ap, sym, ◌∙◌, subst}
 use mathlib.Core.Bool.{Bool, true, false, cond, ◌&&◌, false≢true, and-false}
-use mathlib.Core.List.{List, [], ◌∷◌, ◌++◌, map, append-nil}
+use mathlib.Core.List.{List, [], ◌∷◌, ◌++◌, append-nil}
 use borrow.Author.Tests.{eq-eqb}
 use lib.Dec.{eqb}
 use lib.ListN.{length, get_or}
@@ -26,7 +25,7 @@ use Rattle.rules_refusals.specs.Contents.{row_of, wrap_keys_of, fresh_keys_of}
 use Rattle.rules_refusals.specs.Number6.{wrap_key_id, fresh_key_id}
 use Rattle.rules_chains.specs.Chain.{In, Root}
 use Rattle.rules_chains.proofs.Members.{in-member}
-use Rattle.rules_outcome.specs.Roots.{key_zero_value, held_root, roots_of, entries_of}
+use Rattle.rules_outcome.specs.Roots.{key_zero_value, roots_of, entries_of}
 use Rattle.rules_outcome.proofs.RunsLists.{none_passes}
 use Rattle.unwrap_search.specs.inner.Entries.{no_wrap_key}
 use Rattle.unwrap_search.specs.inner.Search.{Nonzero, held_roots, roots_with}

@@ -17,7 +17,6 @@ use Rattle.check_composition.proofs.GivenLaws.{delay-given, initial-given}
 use Rattle.check_judging.specs.declared.facts.Facts.{Facts}
 use Rattle.apply.specs.declared.next.Said.{Said}
 use Rattle.apply.specs.inner.Following.{Told}
-use Rattle.apply.specs.inner.Tables.{AreDeletes}
 use Rattle.receive.specs.inner.Passing.{Passed}
 use Rattle.receive.specs.inner.Saying.{said_by}
 use Rattle.receive.proofs.ClauseLaws.{wides-once, delays-once, rekeys-few, ids-once}

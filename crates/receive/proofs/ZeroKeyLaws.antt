@@ -11,7 +11,6 @@ use Rattle.octets.specs.Octets.{Octets}
 use Rattle.octets.proofs.Octets.{take-octets}
 use Rattle.fips197.specs.Key.{Key, is_key}
 use Rattle.wire_frames.specs.Frame.{Frame}
-use Rattle.wire_frames.specs.Exchange.{rekey}
 use Rattle.wire_frames.specs.declared.exchanges.Exchange.{Exchange}
 use Rattle.wire_frames.specs.declared.exchanges.KeyZero.TheVariants as keyZero
 use Rattle.wire_readers.specs.declared.Stretch.{Stretch}

@@ -1,11 +1,10 @@
 -- What the samples share: the encryption part 00 to 13, the opened frame, a GSA_REKEY with one Delete payload, and how octets of at most
 -- one block are sealed, from enciphered counter blocks and a hash that are known.
-use mathlib.Core.Path.{◌≡◌, refl, sym, ap, ◌∙◌}
+use mathlib.Core.Path.{◌≡◌, refl, ap, ◌∙◌}
 use mathlib.Core.List.{List, [], ◌∷◌, ◌++◌}
 use Prim.Native.Nat.{ℕ, zero, suc, ◌/◌, ◌%◌, ◌<◌, ◌≤◌}
 use native.Mathlib.Omega.{arith}
 use lib.Bits.{bit_xor}
-use lib.Dec.{lit≤}
 use lib.ListN.{length, get_or, replicate}
 use Rattle.octets.specs.Numbers.{oct, number, octets_of}
 use Rattle.octets.specs.Generate.{gen}

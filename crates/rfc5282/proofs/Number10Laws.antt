@@ -19,7 +19,6 @@ use Rattle.sp800_38d.proofs.UnsealLaws.{deciphered_of, unseals-or-none}
 use Rattle.rfc5282.specs.Sizes.{salt_octets}
 use Rattle.rfc5282.specs.Keys.{aes_key_of, salt_of, FitPart, iv_in, nonce_for}
 use Rattle.rfc5282.specs.SealedFrame.{Choice, FitChoice, OpenedFrame, additional_of, sealed_frame}
-use Rattle.rfc5282.specs.SealedFragment.{fragment_additional}
 use Rattle.rfc5282.specs.Outer.{outer}
 use Rattle.rfc5282.specs.OuterFragment.{outer_fragment}
 use Rattle.rfc5282.specs.Number10.{PlainIn, UnopenedAt, short-body, bad-tag, long-padding, small-room}

@@ -6,7 +6,7 @@ use native.Mathlib.Omega.{arith}
 use lib.ListN.{length, take, drop, length-append, length-drop}
 use Rattle.octets.specs.Numbers.{oct, number, octets_of}
 use Rattle.octets.specs.Octets.{Octets}
-use Rattle.octets.specs.Walk.{be16, be32}
+use Rattle.octets.specs.Walk.{be16}
 use Rattle.octets.specs.Generate.{gen}
 use Rattle.octets.proofs.Numerals.{number_append}
 use Rattle.octets.proofs.Octets.{join-octets, one-octet, take-octets, drop-octets}

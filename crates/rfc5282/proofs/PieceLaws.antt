@@ -1,9 +1,9 @@
 -- A FRAGMENT OPENS EXACTLY to the piece that was sealed in it: what is found by the steps seals to the fragment, what seals to it is found,
 -- and its fields are those received.
-use mathlib.Core.Path.{◌≡◌, sym, ap, ap₂, ◌∙◌}
+use mathlib.Core.Path.{◌≡◌, sym, ap, ◌∙◌}
 use mathlib.Core.Bool.{true}
 use mathlib.Core.List.{List, ◌∷◌, ◌++◌}
-use Prim.Native.Nat.{ℕ, suc, ◌+◌, ◌*◌, ◌-◌, ◌/◌, ◌<◌, ◌≤◌}
+use Prim.Native.Nat.{ℕ, ◌+◌, ◌*◌, ◌-◌, ◌/◌, ◌<◌, ◌≤◌}
 use native.Mathlib.Omega.{arith}
 use lib.ListN.{length, take, drop, length-append, length-drop}
 use lib.Seq.{length-take-le}
@@ -13,7 +13,7 @@ use Rattle.octets.specs.Walk.{be16, be32}
 use Rattle.octets.specs.Generate.{gen}
 use Rattle.octets.proofs.Numerals.{be32-is, number_append, number-take}
 use Rattle.octets.proofs.Octets.{take-octets, drop-octets}
-use Rattle.octets.proofs.RoundTrip.{length-octets, number_lt, number-octets, octets-number}
+use Rattle.octets.proofs.RoundTrip.{number_lt, number-octets, octets-number}
 use Rattle.rfc5282.specs.Keys.{aes_key_of, salt_of}
 use Rattle.rfc5282.specs.SealedFrame.{Choice, header_with, body_size, sealed_behind}
 use Rattle.rfc5282.specs.SealedFragment.{fragment_additional, sealed_fragment, OpensFragment}

@@ -5,7 +5,7 @@ use Rattle.octets.specs.Numbers.{oct}
 use Rattle.ikev2_numbers.specs.Codes.{most_octets}
 use Rattle.sp800_38d.specs.Decryption.{Unseals}
 use Rattle.rfc5282.specs.Sizes.{encrypted_body_at, fragment_body_at, least_body}
-use Rattle.rfc5282.specs.Keys.{aes_key_of, salt_of, iv_in, sealed_in, nonce_for, additional_in}
+use Rattle.rfc5282.specs.Keys.{aes_key_of, salt_of, sealed_in, nonce_for, additional_in}
 use Rattle.rfc5282.specs.SealedFrame.{OpensFrame}
 use Rattle.rfc5282.specs.SealedFragment.{OpensFragment}
 

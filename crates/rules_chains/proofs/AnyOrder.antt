@@ -4,7 +4,7 @@ use Prim.Native.Nat.{ℕ}
 use mathlib.Core.Path.{◌≡◌}
 use mathlib.Core.List.{List, [], ◌∷◌}
 use Rattle.wire_attributes.specs.Tree.{WrapKey, SaKey}
-use Rattle.rules_chains.specs.Chain.{In, Root, Extended, Leads, Chain, root, step, Reached, ChainEnds, CopyOpens}
+use Rattle.rules_chains.specs.Chain.{In, Root, Extended, Chain, root, step, Reached, CopyOpens}
 use Rattle.rules_chains.specs.Refusals.{Announced, EntriesConflict, CopiesConflict, Value, KeyOf}
 use Rattle.rules_chains.specs.Refusals as refusals
 use Rattle.rules_chains.specs.Path.{Opener, KeyPath, Keys, no_key, one_more}

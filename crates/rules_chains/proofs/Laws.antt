@@ -1,7 +1,6 @@
 -- What the definitions of the crate say, piece by piece: laws that a wrong definition breaks.
 use Prim.Native.Nat.{ℕ}
 use mathlib.Core.Path.{◌≡◌, refl}
-use mathlib.Core.Bool.{Bool}
 use mathlib.Core.Logic.{◌⊎◌}
 use mathlib.Core.List.{List, ◌∷◌}
 use lib.Dec.{eqb}

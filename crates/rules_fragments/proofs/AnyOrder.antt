@@ -1,13 +1,12 @@
 -- THEOREM 3 OF T-12, IN ANY ORDER: the pieces of a rekey, handed in in any order and any of them any number of times, are answered as the
 -- frame handed in whole, with the one that brings the last; until then each waits or is passed over, and member and room are unchanged.
-use Prim.Native.Nat.{ℕ, ◌-◌, ◌≤◌}
+use Prim.Native.Nat.{ℕ, ◌≤◌}
 use mathlib.Core.Path.{◌≡◌, refl, ap, sym, ◌∙◌, subst}
 use mathlib.Core.Bool.{Bool, true, false, false≢true}
 use mathlib.Core.List.{List, [], ◌∷◌}
 use lib.ListN.{length}
 use Rattle.ikev2_numbers.specs.Codes.{most_octets}
 use Rattle.state_keys.specs.Limits.{Limits}
-use Rattle.lists.specs.Lists.{any}
 use Rattle.lists.proofs.Cases.{bool_cases}
 use Rattle.wire_frames.specs.Frame.{figure}
 use Rattle.state.specs.declared.State.{State}
@@ -16,7 +15,6 @@ use Rattle.fragments.specs.declared.Case.TheVariants.{PassedOver}
 use Rattle.fragments.specs.declared.Collection.{Collection}
 use Rattle.fragments.specs.Collection.{frame_size, counted}
 use Rattle.fragments.specs.Gathering.{case_of, gathered, is_complete, whole}
-use Rattle.fragments.proofs.AnyOrderPieces.{came}
 use Rattle.rules_outcome.specs.Outcome.{Outcome}
 use Rattle.rules_fragments.specs.FragmentOutcome.{FragmentAnswer, complete, names_in, FragmentOutcome}
 use Rattle.rules_fragments.specs.AnyOrder.{RekeyFrame, CutOf, OfOther, HandedIn, is_there, EachThere, sealed_piece, FitHandedIn, Handed}

@@ -3,7 +3,7 @@ use native.Mathlib.Omega.{arith}
 use Prim.Native.Nat.{ℕ, ◌+◌, ◌-◌, ◌≤◌}
 use mathlib.Core.Path.{◌≡◌, refl, ap, sym, ◌∙◌, subst}
 use mathlib.Core.Bool.{Bool, true, false, ◌||◌}
-use mathlib.Core.Logic.{◌⊎◌, inl, inr, ⊎_elim}
+use mathlib.Core.Logic.{inl, inr, ⊎_elim}
 use mathlib.Core.List.{List, [], ◌∷◌, map, flat_map}
 use lib.Dec.{eqb}
 use lib.ListN.{length, get_or}
@@ -28,7 +28,6 @@ use Rattle.fragments.proofs.AnyOrderSteps.{Stands, other-anew, step-copy, step-n
 use Rattle.rules_sealed.specs.SealedOutcome.{sealed_number2}
 use Rattle.rules_fragments.specs.FragmentOutcome.{names_in}
 use Rattle.rules_fragments.specs.AnyOrder.{RekeyFrame, CutOf, OfOther, HandedIn, is_there, EachThere, sealed_piece, FitHandedIn}
-use Rattle.rules_fragments.specs.AnyOrder.{none}
 use Rattle.rules_fragments.proofs.AnyOrderNames.{lead_of, piece_of, opens-into, opens_one, is-fragment, header_is, number_is, total-is}
 use Rattle.rules_fragments.proofs.AnyOrderNames.{one_of, fit-names}
 use Rattle.rules_fragments.proofs.AnyOrderTurns.{Opening}

@@ -1,7 +1,7 @@
 -- The turn of the first row that holds: it is one, and it is given exactly when a row of it holds and none at an earlier place does.
 use Prim.Native.Nat.{ℕ, ◌+◌}
 use mathlib.Core.Path.{◌≡◌, refl, ap, sym, ◌∙◌, subst}
-use mathlib.Core.Logic.{◌⊎◌, inl, inr, ⊎_elim, ◌↔◌}
+use mathlib.Core.Logic.{inl, inr, ⊎_elim, ◌↔◌}
 use mathlib.Core.List.{List, [], ◌∷◌, ◌++◌}
 use Rattle.rules_fragments.specs.FragmentOutcome.{Turn, refuses, passes_over, waits, completes, TurnRow, FirstTurn}
 use Rattle.rules_fragments.specs.FragmentOrder.{AnyHolds, JudgedTurn}

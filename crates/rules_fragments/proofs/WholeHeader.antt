@@ -1,7 +1,7 @@
 -- The header of the whole frame: the fragment's two SPIs, GSA_REKEY, the fragment's Message ID. So its numbers 2 and 3 are judged on what
 -- the fragment said, and no lent key is read.
 use native.Mathlib.Omega.{arith}
-use Prim.Native.Nat.{ℕ, ◌+◌, ◌^◌, ◌<◌}
+use Prim.Native.Nat.{ℕ, ◌^◌, ◌<◌}
 use mathlib.Core.Path.{◌≡◌, sym, ap, ◌∙◌, subst}
 use mathlib.Core.Bool.{Bool}
 use mathlib.Core.List.{List, [], ◌∷◌, ◌++◌}

@@ -1,10 +1,10 @@
 -- REARRANGED IS NOT TOO NARROW (document 02, T-14): whatever policies of a frame are put in another order within their GSA, the frame so
 -- made is the first one rearranged; bags and what they hold in AnyExchangeOfBags. The stretches are those of the grammar, and
 -- `any-order-exactly` (Permuted) says which orders there are.
-use Prim.Native.Nat.{ℕ, ◌+◌}
-use mathlib.Core.Path.{◌≡◌, refl, ap, sym, ◌∙◌, subst}
+use Prim.Native.Nat.{ℕ}
+use mathlib.Core.Path.{◌≡◌, refl, sym, subst}
 use mathlib.Core.Bool.{Bool}
-use mathlib.Core.List.{List, [], ◌∷◌, ◌++◌, append_assoc}
+use mathlib.Core.List.{List, [], ◌++◌, append_assoc}
 use borrow.Author.Tests.{eqb-true}
 use lib.ListN.{length, take, drop, take-append-drop}
 use lib.Seq.{length-take-le}

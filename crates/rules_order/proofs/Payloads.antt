@@ -10,8 +10,6 @@ use lib.Seq.{drop-append_seam}
 use Rattle.octets.specs.Numbers.{oct}
 use Rattle.octets.specs.Walk.{Spans, none, more}
 use Rattle.octets.proofs.Local.{oct-append, be16-append}
-use Rattle.wire_policies.specs.Policy.{Policy}
-use Rattle.wire_bags.specs.Bag.{Bag}
 use Rattle.wire_frames.specs.Frame.{Content, gsa, kd, delete, unread, Payload, none_next}
 use Rattle.wire_frames.specs.Grammar.{IsContent, is-gsa, is-kd, is-delete, is-unread, IsPayload}
 use Rattle.rules_refusals.specs.Reordered.{SameOrder, no_item, item, ContentReordered, PayloadReordered}

@@ -5,7 +5,7 @@ use mathlib.Core.Path.{◌≡◌, refl, ap, sym, ◌∙◌, subst}
 use mathlib.Core.Bool.{Bool, false}
 use mathlib.Core.Logic.{◌↔◌}
 use mathlib.Core.List.{List, [], ◌++◌}
-use lib.ListN.{length, take, drop, length-append}
+use lib.ListN.{length, drop, length-append}
 use lib.Seq.{take-append-le, drop-append_seam}
 use Rattle.octets.specs.Numbers.{oct}
 use Rattle.octets.specs.Walk.{be32, Spans}
@@ -13,7 +13,7 @@ use Rattle.octets.proofs.Numerals.{number_append}
 use Rattle.octets.proofs.Local.{oct-append}
 use Rattle.state_keys.specs.Limits.{Limits}
 use Rattle.wire_frames.specs.Exchange.{reads_fresh}
-use Rattle.wire_frames.specs.Frame.{Payload, none_next, Frame}
+use Rattle.wire_frames.specs.Frame.{none_next, Frame}
 use Rattle.wire_frames.specs.Grammar.{IsPayload, IsFrame}
 use Rattle.state.specs.declared.State.{State}
 use Rattle.rules_refusals.specs.Reordered.{Reordered}

@@ -8,15 +8,15 @@ use mathlib.Core.Logic.{⊎_elim}
 use lib.ListN.{length, take, drop, take-append-drop}
 use lib.Seq.{length-take-le}
 use Rattle.octets.specs.Numbers.{oct}
-use Rattle.octets.specs.Walk.{Row, no-more, then}
+use Rattle.octets.specs.Walk.{no-more, then}
 use Rattle.octets.proofs.Local.{oct-append}
 use Rattle.wire_attributes.specs.Attribute.{Attribute}
 use Rattle.wire_attributes.specs.Place.{in_bag}
-use Rattle.wire_attributes.specs.Grammar.{IsAttribute, Attributes}
+use Rattle.wire_attributes.specs.Grammar.{Attributes}
 use Rattle.wire_attributes.specs.declared.tables.Place.{Place}
 use Rattle.wire_attributes.specs.declared.tables.Place.TheVariants as place
 use Rattle.wire_policies.specs.Policy.{spi_size}
-use Rattle.wire_bags.specs.Bag.{Bag, group_keys, member_keys}
+use Rattle.wire_bags.specs.Bag.{Bag}
 use Rattle.wire_bags.specs.Grammar.{IsBag, is-group, is_member}
 use Rattle.wire_frames.specs.Grammar.{joined}
 use Rattle.rules_refusals.specs.Reordered.{AnyOrder, none, next, swapped}
@@ -25,7 +25,7 @@ use Rattle.rules_refusals.proofs.AnyOrder.{as_is}
 use Rattle.rules_chains.specs.Chain.{In}
 use Rattle.rules_outcome.proofs.Members.{in_head, in_tail, in-cases, not-in-none}
 use Rattle.rules_outcome.proofs.AnyOrder.{order-among, equal-back}
-use Rattle.rules_order.specs.Rearranged.{OneAttribute, Moved, BagRearranged}
+use Rattle.rules_order.specs.Rearranged.{OneAttribute, BagRearranged}
 use Rattle.rules_order.proofs.Cutting.{attribute-one}
 
 -- ---- elements that are related to themselves

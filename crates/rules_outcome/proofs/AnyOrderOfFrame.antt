@@ -10,10 +10,9 @@ use Rattle.octets.specs.Compare.{same}
 use Rattle.state_keys.specs.Limits.{Limits}
 use Rattle.lists.specs.Lists.{keep, rising}
 use Rattle.lists.proofs.Rising.{rising-unique}
-use Rattle.wire_attributes.specs.Tree.{WrapKey, SaKey}
+use Rattle.wire_attributes.specs.Tree.{WrapKey}
 use Rattle.wire_policies.specs.Policy.{GroupSaPolicy, GroupWidePolicy}
 use Rattle.wire_bags.specs.Bag.{GroupKeyBag}
-use Rattle.wire_frames.specs.Header.{Header}
 use Rattle.wire_frames.specs.Frame.{Frame}
 use Rattle.state_sa.specs.Entry.{esp_protocol, rekey_protocol, sa_spi, sa_before}
 use Rattle.state_sa.specs.declared.entry.Sa.{Sa}
@@ -30,13 +29,13 @@ use Rattle.rules_refusals.specs.Reordered.{AnyOrder, none, next, swapped, then, 
 use Rattle.rules_refusals.proofs.AnyOrder.{any-equal, as_is, both-joined}
 use Rattle.rules_refusals.proofs.Contents.{group-same, announced-order, wides-order, deleted-order, group-bags-order, wrap-keys-order}
 use Rattle.rules_refusals.proofs.Contents.{fresh-keys-order}
-use Rattle.rules_chains.specs.Chain.{In, Root}
+use Rattle.rules_chains.specs.Chain.{Root}
 use Rattle.rules_chains.specs.Refusals.{KeyOf}
 use Rattle.rules_chains.proofs.Members.{in-member, member-in}
 use Rattle.rules_chains.proofs.AnyOrder.{Among, key-kept}
 use Rattle.rules_outcome.specs.Roots.{key_zero_value, carried, those_not_carried, roots_of, entries_of, wrapping_size, copies_of, announced_as}
 use Rattle.rules_outcome.specs.Holding.{new_rekey, rekey_copies}
-use Rattle.rules_outcome.specs.After.{delay_of, is_zero, named_in_delete, replaced, retires, old_sa, old_sas, sa_from, insert_all}
+use Rattle.rules_outcome.specs.After.{delay_of, is_zero, named_in_delete, replaced, old_sa, old_sas, sa_from, insert_all}
 use Rattle.rules_outcome.specs.After.{Enter, no-sa, one_more, initial_message_id, least_afterwards}
 use Rattle.rules_outcome.proofs.Members.{in-keep, keep-in, in-flat_map, flat_map-in}
 use Rattle.rules_outcome.proofs.Enters.{in_all, all_in}

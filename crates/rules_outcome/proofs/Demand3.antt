@@ -17,7 +17,7 @@ use Rattle.wire_frames.specs.Frame.{Frame}
 use Rattle.wire_frames.specs.Grammar.{IsFrame}
 use Rattle.wire_frames.specs.declared.exchanges.Exchange.{Exchange}
 use Rattle.state.specs.declared.State.{State}
-use Rattle.rules_refusals.specs.Contents.{row_of, group_bags}
+use Rattle.rules_refusals.specs.Contents.{group_bags}
 use Rattle.rules_chains.specs.Chain.{CopyOpens}
 use Rattle.rules_chains.specs.Refusals.{EntriesConflict}
 use Rattle.rules_outcome.specs.Roots.{roots_of, entries_of, wrapping_size, copies_of}

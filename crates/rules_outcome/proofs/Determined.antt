@@ -1,7 +1,7 @@
 -- THE OUTCOME IS ONE: two outcomes of the same member, frame, lent key and tick have the same number and leave the same member.
 use native.Mathlib.Omega.{arith}
 use Prim.Native.Nat.{ℕ, suc}
-use mathlib.Core.Path.{◌≡◌, refl, ap, ap₂, sym, ◌∙◌, subst}
+use mathlib.Core.Path.{◌≡◌, refl, ap₂, sym, ◌∙◌, subst}
 use mathlib.Core.Bool.{Bool, true, false}
 use mathlib.Core.List.{List, [], ◌∷◌, map}
 use Rattle.state_keys.specs.Limits.{Limits}

@@ -5,14 +5,13 @@ use mathlib.Core.Bool.{true, false, not}
 use mathlib.Core.Logic.{◌⊎◌, inl, inr, ⊎_elim}
 use mathlib.Core.List.{List, [], ◌∷◌}
 use borrow.Author.Tests.{not-true}
-use Rattle.lists.specs.Lists.{insert}
 use Rattle.state_keys.specs.Kinds.{padded}
 use Rattle.lists.proofs.Cases.{bool_cases}
 use Rattle.lists.proofs.Members.{inserted-member, member-inserted}
 use Rattle.wire_attributes.specs.Tree.{WrapKey}
 use Rattle.wire_policies.specs.Policy.{GroupSaPolicy}
 use Rattle.wire_frames.specs.Frame.{Frame}
-use Rattle.state_sa.specs.Entry.{sa_before, is_live, due, esp_sa, rekey_sa}
+use Rattle.state_sa.specs.Entry.{is_live, due, esp_sa, rekey_sa}
 use Rattle.state_sa.specs.declared.entry.Sa.{Sa}
 use Rattle.state_table.specs.Table.{sas_of, stays}
 use Rattle.state.specs.declared.State.{State}

@@ -5,7 +5,7 @@ use mathlib.Core.Path.{◌≡◌, refl, ap, sym, ◌∙◌, subst}
 use mathlib.Core.Bool.{Bool, false, cond}
 use mathlib.Core.Logic.{⊎_elim}
 use mathlib.Core.List.Memᴰ
-use mathlib.Core.List.{List, [], ◌∷◌, ◌++◌, Memᴰ, flat_map}
+use mathlib.Core.List.{List, [], ◌∷◌, Memᴰ, flat_map}
 use lib.Dec.{eqb}
 use lib.ListN.{drop}
 use borrow.Author.Tests.{eqb-true}
@@ -18,7 +18,7 @@ use Rattle.wire_attributes.specs.declared.tables.Place.TheVariants as place
 use Rattle.wire_attributes.specs.declared.tables.Meaning.TheVariants as meaning
 use Rattle.wire_attributes.specs.Tree.{WrapKey, code_of, values_of, fresh_keys}
 use Rattle.wire_bags.specs.Bag.{Bag, GroupKeyBag}
-use Rattle.wire_bags.specs.Grammar.{IsGroupKeyBag, IsBag, is-group, is_member, Bags}
+use Rattle.wire_bags.specs.Grammar.{IsGroupKeyBag, IsBag, is-group, is_member}
 use Rattle.wire_frames.specs.Exchange.{reads_fresh}
 use Rattle.wire_frames.specs.Frame.{Frame, Payload, Content, none_next}
 use Rattle.wire_frames.specs.Grammar.{IsContent, is-gsa, is-kd, is-delete, is-unread, IsPayload, IsFrame}

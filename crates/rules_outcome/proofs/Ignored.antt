@@ -5,7 +5,7 @@ use mathlib.Core.Path.{◌≡◌, refl, subst}
 use mathlib.Core.Bool.{Bool}
 use mathlib.Core.List.{List}
 use lib.ListN.{get_or}
-use Rattle.octets.specs.Ignored.{Mask, all, high, top, ignored, none_of, Alike}
+use Rattle.octets.specs.Ignored.{all, high, top, ignored, none_of, Alike}
 use Rattle.state_keys.specs.Limits.{Limits}
 use Rattle.wire_policies.specs.Transform.{Transform}
 use Rattle.wire_policies.specs.Policy.{group_wide, GroupWidePolicy}

@@ -19,10 +19,9 @@ use Rattle.wire_frames.proofs.FrameGrammar.{one-tree}
 use Rattle.state_sa.specs.declared.entry.Sa.{Sa}
 use Rattle.state_table.specs.Table.{empty_at, table_of, table_formed}
 use Rattle.state.specs.declared.State.{State}
-use Rattle.state.specs.declared.held.Held.{Held}
 use Rattle.state.specs.Held.{keys_of, key_formed, ids_of, distinct, held_formed}
 use Rattle.state.specs.State.{state_formed}
-use Rattle.rules_refusals.specs.Contents.{row_of, announced, wrap_keys_of, fresh_keys_of}
+use Rattle.rules_refusals.specs.Contents.{row_of, announced, fresh_keys_of}
 use Rattle.rules_refusals.specs.Number2.{unwanted_member, other_spis, number2_of_frame, number2_of_member}
 use Rattle.rules_refusals.specs.Number3.{not_acceptable}
 use Rattle.rules_refusals.specs.Number4.{critical_unknown, barred_member_bag, barred_delete, two_gsa, two_kd, gsa_without_kd, kd_without_gsa, neither}

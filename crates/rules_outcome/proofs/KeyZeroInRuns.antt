@@ -2,7 +2,7 @@
 -- unused places.
 use native.Mathlib.Omega.{arith}
 use Prim.Native.Nat.{ℕ, ◌-◌, ◌≤◌}
-use mathlib.Core.Path.{◌≡◌, ap, sym, subst}
+use mathlib.Core.Path.{ap, sym, subst}
 use mathlib.Core.Bool.{Bool}
 use mathlib.Core.Logic.{⊎_elim}
 use mathlib.Core.List.Memᴰ
@@ -12,7 +12,7 @@ use Rattle.state_keys.specs.Limits.{limits}
 use Rattle.state_sa.specs.Blank.{ZeroPadded}
 use Rattle.state_sa.specs.declared.entry.Sa.{Sa}
 use Rattle.state_table.specs.Table.{sas_of}
-use Rattle.state_table.specs.Blank.{AllBlank, no-sa, one_more}
+use Rattle.state_table.specs.Blank.{AllBlank, one_more}
 use Rattle.state.specs.declared.State.{State}
 use Rattle.state.specs.State.{new_state}
 use Rattle.state.specs.Blank.{StateBlank}

@@ -13,7 +13,6 @@ use Rattle.wire_frames.proofs.FrameGrammar.{one-tree}
 use Rattle.state.specs.declared.State.{State}
 use Rattle.rules_refusals.specs.Refusals.{applies, number2, number4, number6, number7, numbers}
 use Rattle.rules_outcome.specs.Answer.{RefusalCase, First, by_clauses, KeyConflictOf, KeyMissingOf, conditions}
-use Rattle.rules_outcome.specs.After.{After}
 use Rattle.rules_outcome.specs.Holding.{OverHeldOf}
 use Rattle.rules_outcome.specs.Judging.{SomeHolds, JudgedFirst, above}
 use Rattle.rules_outcome.specs.Meets.{RefusalRow, refusal_rows, OfTree, of_tree, table_rows, over_then, judging_order, Meets, Refused}

@@ -9,11 +9,11 @@ use mathlib.Core.List.{List, [], ◌∷◌, ◌++◌, append-nil, Memᴰ}
 use borrow.Author.Tests.{eq-eqb, eqb-true, eqb-false, ne_eqb}
 use lib.Dec.{eqb}
 use lib.ListN.{length, length-append}
-use Rattle.lists.specs.Lists.{any, keep}
+use Rattle.lists.specs.Lists.{keep}
 use Rattle.lists.proofs.Cases.{bool_cases}
 use Rattle.state.specs.declared.held.HeldKey.{HeldKey}
 use Rattle.state.specs.Held.{ids_of, has, distinct}
-use Rattle.state.proofs.Kept.{distinct-parts, not-among}
+use Rattle.state.proofs.Kept.{distinct-parts}
 use Rattle.rules_chains.proofs.WorkingPath.{Distinct}
 use Rattle.rules_outcome.specs.Holding.{from_key, on_path, path_before}
 use Rattle.rules_outcome.proofs.RunsLists.{none_passes, passes_none, passes-some, member-map}

@@ -1,7 +1,7 @@
 -- The answer to a frame, from the numbers that apply and those that do not.
 use Prim.Native.Nat.{ℕ}
 use mathlib.Core.Path.{◌≡◌, refl, sym, ◌∙◌}
-use mathlib.Core.Bool.{Bool, true, false, false≢true, or-true}
+use mathlib.Core.Bool.{true, false≢true, or-true}
 use mathlib.Core.Logic.{inl, inr}
 use mathlib.Core.List.{List}
 use Rattle.state_keys.specs.Limits.{Limits}

@@ -15,7 +15,6 @@ use Rattle.lists.specs.Lists.{all, any, count, keep, insert}
 use Rattle.state_keys.specs.Algorithms.{is_row_of, needed_in, needed_by, is_wrapping_size}
 use Rattle.wire_attributes.specs.Tree.{WrapKey, SaKey}
 use Rattle.wire_frames.specs.Frame.{Frame}
-use Rattle.wire_frames.specs.declared.exchanges.Exchange.{Exchange}
 use Rattle.state_table.specs.Table.{table_of}
 use Rattle.state.specs.declared.State.{State}
 use Rattle.state.specs.declared.held.HeldKey.{HeldKey}
@@ -33,7 +32,7 @@ use Rattle.rules_refusals.specs.Number6.{number6_of_frame, number6_of_member}
 use Rattle.rules_refusals.specs.Number7.{many_esp_policies, many_wrap_keys, many_sa_keys, many_deleted_spis, long_lifetime, many_sas}
 use Rattle.rules_refusals.specs.Number7.{many_fresh_keys, number7_of_frame, number7_of_member}
 use Rattle.rules_refusals.specs.Refusals.{one, number4, number5, number6, number7}
-use Rattle.rules_chains.specs.Chain.{In, Root, ChainEnds, CopyOpens}
+use Rattle.rules_chains.specs.Chain.{Root, ChainEnds, CopyOpens}
 use Rattle.rules_chains.specs.Refusals.{Announced, EntriesConflict, CopiesConflict, wrong_size, two-values}
 use Rattle.rules_chains.specs.Refusals.{KeyConflict, of-entries, of-copies, KeyMissing, KeyOf}
 use Rattle.rules_outcome.specs.Answer.{KeyConflictOf, KeyMissingOf}

@@ -8,7 +8,6 @@ use mathlib.Core.List.{List, []}
 use native.Mathlib.Omega.{arith}
 use borrow.Author.Tests.{eq-eqb, eqb-true}
 use Rattle.state_keys.specs.Limits.{Limits}
-use Rattle.wire_attributes.specs.Tree.{WrapKey}
 use Rattle.wire_bags.specs.Bag.{MemberKeyBag}
 use Rattle.wire_frames.specs.Frame.{Frame}
 use Rattle.wire_frames.specs.Grammar.{IsFrame}

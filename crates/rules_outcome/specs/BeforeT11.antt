@@ -3,7 +3,6 @@
 -- this file.
 use Rattle.std.specs.Prelude.{ℕ, suc, ◌≡◌, Bool, true, false, cond, List, [], ◌∷◌, ◌++◌, map}
 use Rattle.state_keys.specs.Limits.{Limits}
-use Rattle.wire_attributes.specs.Tree.{SaKey, WrapKey}
 use Rattle.wire_frames.specs.Frame.{Frame}
 use Rattle.wire_frames.specs.Grammar.{IsFrame}
 use Rattle.state_sa.specs.declared.entry.Sa.{Sa}

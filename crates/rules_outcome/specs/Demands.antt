@@ -1,7 +1,7 @@
 -- THE CUSTOMER'S DEMANDS, a row for each sentence, with what it says of the definitions. The theorem `demands-hold`
 -- (proofs/DemandsHold.antt) proves them all. Demand 3 is one row: its sentences stand over the fields of its record. `Outcome` is what
 -- `Member::receive` promises and `OpenAnswers` what `open` promises, for all inputs, without `requires`. So each row speaks of the code.
-use Rattle.std.specs.Prelude.{ℕ, suc, ◌≤◌, ◌<◌, ◌≡◌, true, ◌↔◌, List, length}
+use Rattle.std.specs.Prelude.{ℕ, suc, ◌≤◌, ◌≡◌, true, ◌↔◌, List, length}
 use Rattle.octets.specs.Octets.{Octets}
 use Rattle.fips197.specs.Key.{Key}
 use Rattle.rfc5649.specs.Wrap.{wrap_of}

@@ -2,7 +2,7 @@
 -- layout is whole: for a value of each way to break it.
 use Prim.Native.Nat.{ℕ}
 use mathlib.Core.Path.{◌≡◌, refl, ap, ◌∙◌}
-use mathlib.Core.Bool.{Bool, true, false, not, cond, ◌||◌, or-true}
+use mathlib.Core.Bool.{Bool, true, false, not, ◌||◌, or-true}
 use mathlib.Core.List.{List, [], ◌∷◌, map}
 use lib.ListN.{get_or, drop}
 use Rattle.state_keys.specs.Limits.{Limits, limits}

@@ -5,10 +5,8 @@
 use Prim.Native.Nat.{ℕ, ◌-◌}
 use mathlib.Core.List.{List, [], ◌∷◌, ◌++◌, map}
 use mathlib.Core.Bool.{true}
-use lib.ListN.{replicate}
 use Rattle.state_keys.specs.Limits.{limits}
 use Rattle.state_sa.specs.declared.entry.Condition.TheVariants.{Live}
-use Rattle.wire_policies.specs.Selector.{Selector}
 use Rattle.wire_policies.specs.Policy.{group_sa}
 use Rattle.wire_frames.specs.Frame.{Payload, Content, gsa, kd, unread}
 use Rattle.rules_refusals.proofs.SampleParts.{spi, live_spi, next_spi, third_spi, transform, selector, ip4, group, sa_policy, policy}

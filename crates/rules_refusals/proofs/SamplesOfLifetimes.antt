@@ -12,10 +12,10 @@ use Rattle.state.specs.declared.State.{State}
 use Rattle.state.specs.declared.least.Least.TheVariants.{Id}
 use Rattle.state.proofs.ApartLimits.{apart}
 use Rattle.wire_policies.specs.Policy.{Policy}
-use Rattle.wire_frames.specs.Frame.{Frame, Content, gsa, kd}
+use Rattle.wire_frames.specs.Frame.{Content, gsa, kd}
 use Rattle.rules_refusals.proofs.SampleParts.{spi, live_spi, next_spi, esp_suite, rekey_suite, group, sa_policy, lasting, esp_policy}
 use Rattle.rules_refusals.proofs.SampleParts.{rekey_policy, esp_bag, rekey_bag, frame_of, registers}
-use Rattle.rules_refusals.proofs.SampleParts.{rekeys, inband, fit, deletion, deleting}
+use Rattle.rules_refusals.proofs.SampleParts.{rekeys, inband, fit, deleting}
 use Rattle.rules_refusals.proofs.SampleParts.{up_to, one_more, esp_at, rekey_at, esp_for, rekey_for}
 use Rattle.rules_refusals.proofs.SampleParts.{due_now, due_later, out_now, out_later, member_of}
 use Rattle.rules_refusals.proofs.SampleParts.{member_within, Sample, sample, anew, later}

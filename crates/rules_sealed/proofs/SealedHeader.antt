@@ -1,13 +1,12 @@
 -- Past number 2 a sealed frame is a GSA_REKEY over a Rekey SA that stands at the tick, and what is opened has the same header: number 2
 -- cannot apply again.
 use Prim.Native.Nat.{ℕ}
-use mathlib.Core.Path.{◌≡◌, refl, sym, ap, ap₂, ◌∙◌}
-use mathlib.Core.Bool.{Bool, true, false, not, ◌||◌, false≢true}
+use mathlib.Core.Path.{◌≡◌, refl, sym, ap₂, ◌∙◌}
+use mathlib.Core.Bool.{Bool, true, false, ◌||◌}
 use mathlib.Core.List.{List, [], ◌∷◌}
 use borrow.Author.Tests.{eqb-true, not-false}
 use lib.Dec.{eqb}
 use Rattle.lists.proofs.Cases.{or-none}
-use Rattle.octets.specs.Numbers.{oct}
 use Rattle.state_keys.specs.Limits.{Limits}
 use Rattle.wire_frames.specs.Header.{header_of}
 use Rattle.wire_frames.specs.Frame.{Frame}

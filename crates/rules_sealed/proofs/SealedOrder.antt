@@ -4,7 +4,7 @@ use native.Mathlib.Omega.{arith}
 use Prim.Native.Nat.{ℕ, suc, ◌≤◌}
 use mathlib.Core.Path.{◌≡◌, refl, sym, ap, ◌∙◌, subst}
 use mathlib.Core.Bool.{Bool}
-use mathlib.Core.Logic.{◌⊎◌, inl, inr, ⊎_elim, ◌↔◌}
+use mathlib.Core.Logic.{inl, inr, ⊎_elim, ◌↔◌}
 use mathlib.Core.List.{List, [], ◌∷◌, ◌++◌, map}
 use Rattle.state_keys.specs.Limits.{Limits}
 use Rattle.octets.specs.Walk.{Reading}
@@ -18,14 +18,14 @@ use Rattle.rfc5282.specs.Number10.{OpensInto}
 use Rattle.rfc5282.proofs.OneLaws.{opens_one}
 use Rattle.rules_outcome.specs.Answer.{RefusalCase, First}
 use Rattle.rules_outcome.specs.Outcome.{NoTree, Outcome}
-use Rattle.rules_outcome.specs.Judging.{SomeHolds, JudgedFirst}
+use Rattle.rules_outcome.specs.Judging.{SomeHolds}
 use Rattle.rules_outcome.specs.Meets.{RefusalRow, OfTree, of_tree, judging_order}
 use Rattle.rules_outcome.proofs.First.{first_holds, none_first, first-left, first-right, some_left, some-split, first-at, at_first}
 use Rattle.rules_outcome.proofs.Meets.{refused-first, accepted-is, accepted-none}
 use Rattle.rules_outcome.proofs.Demands.{one-of-the-numbers}
 use Rattle.rules_sealed.specs.SealingKey.{sealing_part}
 use Rattle.rules_sealed.specs.SealedOutcome.{sealed_conditions, SealedOutcome, not_opened, by-opened}
-use Rattle.rules_sealed.specs.SealedOrder.{OfOpened, on_opened, all_rows, opened_conditions, sealed_order, RoomAfter, room-as-lent}
+use Rattle.rules_sealed.specs.SealedOrder.{OfOpened, on_opened, all_rows, opened_conditions, RoomAfter, room-as-lent}
 use Rattle.rules_sealed.specs.SealedOrder.{room-written, SealedRefused, SealedAccepted}
 use Rattle.rules_sealed.proofs.SealedDetermined.{none_before}
 

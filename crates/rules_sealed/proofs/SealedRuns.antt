@@ -2,7 +2,7 @@
 -- frame, and one that does not is like a frame of no octets, refused. So what holds of the members of every run holds of these too, and no
 -- sealed rekey is a replay.
 use native.Mathlib.Omega.{arith}
-use Prim.Native.Nat.{ℕ, suc, ◌≤◌}
+use Prim.Native.Nat.{ℕ, ◌≤◌}
 use mathlib.Core.Path.{◌≡◌, ◌∙◌}
 use mathlib.Core.Bool.{Bool, true, false}
 use mathlib.Core.List.{List, [], ◌∷◌}

@@ -1,6 +1,6 @@
 -- Demand 1 for sealed frames: the ten refusals in judging order. "Where a request judges numbers out of rising order, "lower" in demand 1
 -- and document 01 means judged earlier" (document 02, T-05). No contract cites this file.
-use Rattle.std.specs.Prelude.{ℕ, suc, ◌≡◌, List, [], ◌∷◌, ◌++◌, map}
+use Rattle.std.specs.Prelude.{ℕ, ◌≡◌, List, [], ◌∷◌, ◌++◌, map}
 use Rattle.state_keys.specs.Limits.{Limits}
 use Rattle.wire_frames.specs.Frame.{figure}
 use Rattle.state.specs.declared.State.{State}

@@ -2,8 +2,8 @@
 -- figures cannot tell the two limits apart.
 use Prim.Native.Nat.{ℕ}
 use mathlib.Core.Path.{◌≡◌, refl}
-use mathlib.Core.Bool.{true, false, not}
-use mathlib.Core.List.{List, [], ◌∷◌}
+use mathlib.Core.Bool.{true, false}
+use mathlib.Core.List.{[], ◌∷◌}
 use lib.ListN.{replicate}
 use Rattle.lists.specs.Lists.{all, any, insert}
 use Rattle.state_keys.specs.Limits.{Limits}

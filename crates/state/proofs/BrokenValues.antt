@@ -3,7 +3,7 @@
 use Prim.Native.Nat.{ℕ, ◌+◌}
 use mathlib.Core.Path.{◌≡◌, refl}
 use mathlib.Core.Bool.{Bool, true, false}
-use mathlib.Core.List.{List, [], ◌∷◌, ◌++◌, map}
+use mathlib.Core.List.{List, [], ◌∷◌, map}
 use lib.ListN.{replicate}
 use Rattle.octets.specs.Compare.{order_of, less}
 use Rattle.lists.specs.Lists.{all, any, count, heads, rising}
@@ -16,7 +16,6 @@ use Rattle.state_sa.specs.declared.entry.Condition.TheVariants.{Live, Retiring}
 use Rattle.state_sa.specs.declared.entry.Lifetime.TheVariants.{Unlimited, Limited}
 use Rattle.state_sa.specs.declared.entry.Sa.{Sa}
 use Rattle.state_table.specs.Table.{table_of, table_formed, none}
-use Rattle.state_table.specs.declared.SaFound.{SaFound}
 use Rattle.state_table.specs.declared.Table.{Table}
 use Rattle.state.specs.declared.State.{State}
 use Rattle.state.specs.declared.held.Held.{Held}

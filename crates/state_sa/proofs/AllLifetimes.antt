@@ -1,5 +1,5 @@
 -- Samples of lifetimes (document 02, T-07), computed.
-use Rattle.std.proofs.Common.{◌≡◌, ℕ, Bool, true, false, List, [], ◌∷◌, map, refl}
+use Rattle.std.proofs.Common.{◌≡◌, ℕ, Bool, true, false, [], ◌∷◌, map, refl}
 use lib.Dec.{leb-zero}
 use Rattle.lists.specs.Lists.{any}
 use Rattle.state_keys.specs.Algorithms.{size_of}
@@ -7,7 +7,6 @@ use Rattle.state_sa.specs.declared.entry.Condition.{Condition}
 use Rattle.state_sa.specs.declared.entry.Condition.TheVariants.{Live, Retiring}
 use Rattle.state_sa.specs.declared.entry.Lifetime.{Lifetime}
 use Rattle.state_sa.specs.declared.entry.Lifetime.TheVariants.{Unlimited, Limited}
-use Rattle.state_sa.specs.declared.entry.Sa.{Sa}
 use Rattle.state_sa.specs.Clock.{elapsed, elapsed_at_least}
 use Rattle.state_sa.specs.Entry.{fit_lifetime, sa_sized, sa_formed, ran_out, due, retired, make_sa}
 

@@ -1,5 +1,5 @@
 -- What retiring leaves of an SA, and that what is made is blank in its unused places.
-use Rattle.std.proofs.Common.{◌≡◌, ℕ, ◌+◌, ◌-◌, true, false, ◌&&◌, eqb, List, length, take, replicate, sym, refl, ap, ◌∙◌, arith, take_at, eq-eqb}
+use Rattle.std.proofs.Common.{◌≡◌, ℕ, ◌+◌, ◌-◌, true, false, eqb, List, length, take, replicate, sym, refl, ap, ◌∙◌, arith, take_at, eq-eqb}
 use mathlib.Core.Bool.{and-false}
 use lib.Seq.{take-append_seam}
 use Rattle.state_keys.specs.Algorithms.{is_encryption_size}

@@ -16,7 +16,6 @@ use Rattle.lists.proofs.Fill.{Filled, filled-count, filled-all}
 use Rattle.state_sa.specs.Entry.{sa_before, sa_formed, live_rekey, due, retired, blank_sa}
 use Rattle.state_sa.specs.declared.entry.Sa.{Sa}
 use Rattle.state_table.specs.declared.Table.{Table}
-use Rattle.state_table.specs.declared.SaFound.{SaFound}
 use Rattle.state_table.specs.Table.{sas_of, table_of, table_formed, changed, swept, stays, not_due, empty_at, retired_if, none}
 use Rattle.state_table.specs.inner.Changes.{standing_count}
 use Rattle.state_table.specs.Table.{the_one, found_in_table}

@@ -7,7 +7,6 @@ use lib.ListN.{length, drop, get_or}
 use Rattle.state_keys.specs.Limits.{limits}
 use Rattle.state_sa.specs.declared.entry.Sa.{Sa}
 use Rattle.state_table.specs.declared.Table.{Table}
-use Rattle.state_table.specs.declared.SaFound.{SaFound}
 use Rattle.state_table.specs.Table.{sas_of, the_one, found_in_table, none}
 use Rattle.state_table.proofs.Laws.{one-here, one-next, one_end, found_in, found-out}
 

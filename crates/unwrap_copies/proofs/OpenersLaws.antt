@@ -24,7 +24,7 @@ use Rattle.unwrap_copies.specs.declared.answer.CopyOpened.{CopyOpened}
 use Rattle.unwrap_copies.specs.declared.answer.Openers.{Openers}
 use Rattle.unwrap_copies.specs.inner.Known.{Agrees}
 use Rattle.unwrap_copies.specs.inner.Named.{try_of, try_for, tries_of_all}
-use Rattle.unwrap_copies.specs.inner.Openers.{openers_of, Noted, OneOpens, OpenersAre}
+use Rattle.unwrap_copies.specs.inner.Openers.{openers_of, Noted, OpenersAre}
 use Rattle.unwrap_copies.specs.inner.Tries.{Try, SomeOpens, TriesConflict, wrong_size, two-values, TriesKey, CopyTells}
 use Rattle.unwrap_copies.proofs.Joining.{told, conflict-wider}
 use Rattle.unwrap_copies.proofs.Reaching.{of-tries, known-try, try-known}

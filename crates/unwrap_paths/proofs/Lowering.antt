@@ -8,7 +8,7 @@ use borrow.Author.Count.{below_more}
 use Rattle.lists.proofs.Cases.{lt-cases}
 use Rattle.octets.specs.Numbers.{oct}
 use Rattle.unwrap_search.proofs.Statuses.{eq-cases}
-use Rattle.unwrap_paths.specs.inner.Code.{level_from, HasLevels, HasLevel}
+use Rattle.unwrap_paths.specs.inner.Code.{level_from, HasLevel}
 
 module _ (found id level wanted : ℕ) where
   pub level-first : id ≡ wanted → 0 < level → found ≡ 0 → level ≡ level_from found id level wanted

@@ -7,7 +7,6 @@ use mathlib.Core.Bool.{Bool, true, false, cond}
 use borrow.Author.Tests.{lt-ltb, le-ltb}
 use lib.Dec.{ltb}
 use lib.ListN.{length}
-use Rattle.state_sa.specs.declared.entry.Lifetime.{Lifetime}
 use Rattle.state_sa.specs.declared.entry.Lifetime.TheVariants.{Unlimited, Limited}
 use Rattle.rules_refusals.specs.Contents.{some, several}
 use Rattle.rules_refusals.specs.Fitness.{sum}

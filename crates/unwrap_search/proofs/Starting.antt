@@ -2,23 +2,19 @@
 use native.Mathlib.Omega.{arith}
 use native.Mathlib.Numerals.{add-one}
 use Prim.Native.Nat.{ℕ, zero, suc, ◌+◌, ◌-◌, ◌≤◌, ◌<◌}
-use mathlib.Core.Path.{◌≡◌, refl, ap, sym, ◌∙◌, subst}
-use mathlib.Core.Bool.{Bool, true, false, not, cond, ◌||◌, false≢true}
+use mathlib.Core.Path.{◌≡◌, refl, ap, sym, ◌∙◌}
+use mathlib.Core.Bool.{Bool, true, false, not, false≢true}
 use mathlib.Core.Logic.{⊎_elim}
 use mathlib.Core.List.Memᴰ
 use mathlib.Core.List.{List, [], ◌∷◌, map, Memᴰ}
 use borrow.Author.Tests.{eq-eqb, ne_eqb, eqb-true}
-use lib.Dec.{T, eqb}
+use lib.Dec.{eqb}
 use borrow.Author.Count.{below_more}
 use lib.ListN.{length, drop, get_or, replicate, drop_of_length-le}
 use lib.Seq.{drop-cons, length-take-le, take-append_seam}
-use Rattle.octets.specs.Numbers.{oct}
-use Rattle.fips197.specs.Key.{Key, is_key}
 use Rattle.wire_attributes.specs.Tree.{WrapKey}
-use Rattle.rules_chains.specs.Chain.{In, Root}
-use Rattle.rules_chains.proofs.Members.{in-member, member-in}
+use Rattle.rules_chains.specs.Chain.{Root}
 use Rattle.lists.specs.Lists.{any, keep}
-use Rattle.state_keys.specs.Limits.{limits}
 use Rattle.state_keys.specs.Algorithms.{is_wrapping_size}
 use Rattle.state_keys.specs.Kinds.{wrapping_of, wrapping_key, value_of}
 use Rattle.state_keys.specs.declared.kinds.WrappingKey.{WrappingKey}
@@ -26,13 +22,12 @@ use Rattle.state_keys.specs.declared.kinds.MadeWrapping.{MadeWrapping}
 use Rattle.state_keys.proofs.Sizes.{wrapping-le}
 use Rattle.lists.proofs.Cases.{bool_cases, lt-cases}
 use Rattle.lists.proofs.Members.{kept-member}
-use Rattle.state.specs.Held.{blank_key, keys_of, ids_of, distinct, held_formed}
+use Rattle.state.specs.Held.{blank_key}
 use Rattle.state.specs.declared.held.HeldKey.{HeldKey}
-use Rattle.state.specs.declared.held.Held.{Held}
 use Rattle.unwrap_search.specs.declared.open.Entry.{Entry}
-use Rattle.unwrap_search.specs.inner.Entries.{no_wrap_key, no_entry, Lists}
-use Rattle.unwrap_lending.specs.inner.Lending.{Lends, LendsHeld}
-use Rattle.unwrap_search.specs.inner.Search.{key_at, Nonzero, carried_by, root_of, held_roots, roots_with, NextRoot, KeyFrom}
+use Rattle.unwrap_search.specs.inner.Entries.{no_entry, Lists}
+use Rattle.unwrap_lending.specs.inner.Lending.{Lends}
+use Rattle.unwrap_search.specs.inner.Search.{key_at, carried_by, root_of, held_roots, NextRoot, KeyFrom}
 use Rattle.unwrap_search.proofs.Statuses.{get_d_any}
 
 -- ---- a Key ID that one of the entries has

@@ -4,9 +4,9 @@ use Prim.Native.Nat.{ℕ, ◌+◌, ◌-◌, ◌*◌, ◌≤◌, ◌<◌}
 use mathlib.Core.Path.{◌≡◌, refl, ap, sym, ◌∙◌, subst}
 use mathlib.Core.Bool.{true}
 use mathlib.Core.Logic.{⊎_elim}
-use mathlib.Core.List.{List, [], ◌∷◌, Memᴰ}
+use mathlib.Core.List.{List, [], Memᴰ}
 use lib.Dec.{T}
-use lib.ListN.{length, drop, get_or, replicate, length-map, get_or-map}
+use lib.ListN.{length, drop, get_or, replicate, get_or-map}
 use lib.Seq.{length-take-le}
 use Rattle.octets.specs.Numbers.{oct}
 use Rattle.octets.specs.Walk.{part}
@@ -21,7 +21,7 @@ use Rattle.state_keys.specs.Algorithms.{is_wrapping_size}
 use Rattle.state_keys.specs.Kinds.{value_of}
 use Rattle.state_keys.specs.declared.kinds.WrappingKey.{WrappingKey}
 use Rattle.state_keys.proofs.Sizes.{wrapping-le}
-use Rattle.state.specs.Held.{blank_key, keys_of, key_with, held_formed}
+use Rattle.state.specs.Held.{blank_key, keys_of, held_formed}
 use Rattle.state.specs.declared.held.HeldKey.{HeldKey}
 use Rattle.state.specs.declared.held.Held.{Held}
 use Rattle.unwrap_lending.specs.inner.Lending.{place_octets, LendsHeld}

@@ -2,15 +2,15 @@
 use native.Mathlib.Omega.{arith}
 use Prim.Native.Nat.{ℕ, suc, ◌-◌, ◌≤◌, ◌<◌}
 use mathlib.Core.Path.{◌≡◌, refl, ap, ap₂, sym, ◌∙◌, subst}
-use mathlib.Core.Bool.{Bool, true, false, cond, false≢true}
-use mathlib.Core.Logic.{◌⊎◌, inl, inr, ⊎_elim}
+use mathlib.Core.Bool.{true, false, false≢true}
+use mathlib.Core.Logic.{◌⊎◌, inl, inr}
 use mathlib.Core.List.{List, [], ◌∷◌, Memᴰ}
 use borrow.Author.Tests.{eqb-true}
 use lib.Dec.{eqb}
 use lib.ListN.{length, take, get_or, replicate}
 use lib.Seq.{take-append_seam, length-take-le}
 use Rattle.wire_attributes.specs.Tree.{WrapKey}
-use Rattle.rules_chains.specs.Chain.{In, Root, Reached, ChainEnds, root}
+use Rattle.rules_chains.specs.Chain.{Root, Reached, ChainEnds, root}
 use Rattle.rules_chains.specs.Refusals.{EntriesConflict, Value}
 use Rattle.rules_chains.specs.Path.{key_ids}
 use Rattle.rules_chains.proofs.Determined.{one_value, AtRoot, ends_by, last_entry}
@@ -38,7 +38,7 @@ use Rattle.unwrap_search.specs.inner.Entries.{no_wrap_key}
 use Rattle.unwrap_search.specs.inner.Search.{key_at, Nonzero, carried_by, roots_with, held_roots}
 use Rattle.unwrap_search.proofs.Starting.{carried-at, held-root, root-member}
 use Rattle.unwrap_search.proofs.RootsFitting.{root-cases}
-use Rattle.unwrap_tree.specs.inner.AllReached.{HoldsKey, HeldAre}
+use Rattle.unwrap_tree.specs.inner.AllReached.{HeldAre}
 use Rattle.unwrap_tree.proofs.Membership.{held_key_of}
 
 pub value-of : (x : List ℕ) → value_of (wrapping_of x) ≡ x

@@ -1,16 +1,14 @@
 -- Without entries nothing is reached: what a search over none would answer.
 use native.Mathlib.Omega.{arith}
-use Prim.Native.Nat.{ℕ, ◌<◌}
+use Prim.Native.Nat.{ℕ}
 use mathlib.Core.Path.{◌≡◌, refl, ap, sym, ◌∙◌, subst}
 use mathlib.Core.Bool.{Bool, true, false}
 use mathlib.Core.List.Memᴰ
 use mathlib.Core.List.{List, [], ◌∷◌}
-use lib.ListN.{length, take}
-use Rattle.octets.specs.Numbers.{oct}
+use lib.ListN.{take}
 use Rattle.wire_attributes.specs.Tree.{WrapKey}
-use Rattle.rules_chains.specs.Chain.{In, Root, Chain, root, step, Reached}
-use Rattle.rules_chains.specs.Refusals.{EntriesConflict, wrong_size, two-values, Value}
-use Rattle.rules_chains.specs.Path.{key_ids}
+use Rattle.rules_chains.specs.Chain.{In, Root, Reached}
+use Rattle.rules_chains.specs.Refusals.{EntriesConflict, wrong_size, two-values}
 use Rattle.rules_chains.proofs.Determined.{last_entry}
 use Rattle.rules_chains.proofs.Members.{in-member}
 use Rattle.state_keys.specs.Limits.{limits}
@@ -22,18 +20,13 @@ use Rattle.state.specs.Held.{keys_of, held_of, held_formed}
 use Rattle.state.specs.declared.held.Held.{Held}
 use Rattle.state.proofs.Kept.{no-key-formed}
 use Rattle.unwrap_lending.specs.inner.Lending.{LendsHeld, named_keys}
-use Rattle.unwrap_search.specs.declared.open.Entry.{Entry}
-use Rattle.unwrap_search.specs.declared.open.Cell.{Cell}
 use Rattle.unwrap_search.specs.inner.Entries.{Lists}
 use Rattle.unwrap_search.specs.inner.Search.{Searched, Nonzero, roots_with}
 use Rattle.unwrap_search.proofs.RootsFitting.{roots-fit}
 use Rattle.unwrap_copies.specs.inner.Known.{Agrees}
 use Rattle.unwrap_paths.specs.declared.links.Links.{Links}
-use Rattle.unwrap_paths.specs.inner.Levels.{Walk, goes, Levelled}
-use Rattle.unwrap_paths.specs.inner.Code.{HasLevels}
-use Rattle.unwrap_paths.specs.inner.Links.{LinksAre}
-use Rattle.unwrap_paths.specs.inner.Kept.{LinksKept, LinksFit, SearchKept}
-use Rattle.unwrap_tree.specs.declared.held.ReachedKeys.{ReachedKeys}
+use Rattle.unwrap_paths.specs.inner.Levels.{Walk, goes}
+use Rattle.unwrap_paths.specs.inner.Kept.{LinksKept, LinksFit}
 use Rattle.unwrap_tree.specs.inner.AllReached.{HeldAre}
 use Rattle.unwrap_tree.specs.inner.Reached.{TreeAnswers}
 use Rattle.unwrap_tree.proofs.Agreeing.{held-agrees, held_gives}

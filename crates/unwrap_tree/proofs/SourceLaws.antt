@@ -2,7 +2,7 @@
 use native.Mathlib.Omega.{arith}
 use Prim.Native.Nat.{ℕ, ◌+◌, ◌≤◌}
 use mathlib.Core.Path.{◌≡◌, refl, ap, sym, subst, ◌∙◌}
-use mathlib.Core.Bool.{Bool, true, false, not, cond, false≢true}
+use mathlib.Core.Bool.{Bool, true, false, not, false≢true}
 use mathlib.Core.List.Memᴰ
 use mathlib.Core.List.{List, [], ◌∷◌, ◌++◌, append-nil, Memᴰ, flat_map}
 use borrow.Author.Tests.{eq-eqb, ne_eqb, eqb-true, eqb-false, ltb-false, not-false}
@@ -11,7 +11,7 @@ use lib.ListN.{length, drop}
 use Rattle.octets.specs.Walk.{part, many, chain, chain_up_to}
 use Rattle.octets.specs.Compare.{same}
 use Rattle.octets.proofs.Order.{same-eq, eq-same}
-use Rattle.lists.specs.Lists.{any, count, keep}
+use Rattle.lists.specs.Lists.{count, keep}
 use Rattle.lists.proofs.Cases.{bool_cases, and_parts}
 use Rattle.lists.proofs.Members.{kept-member, member-kept}
 use Rattle.state_sa.specs.Entry.{rekey_protocol}
@@ -19,7 +19,7 @@ use Rattle.wire_attributes.specs.Tree.{WrapKey, values_of}
 use Rattle.wire_attributes.specs.declared.tables.Place.TheVariants.{FreshRekeyBag, MemberBag}
 use Rattle.wire_attributes.specs.declared.tables.Meaning.TheVariants as meaning
 use Rattle.wire_policies.specs.Policy.{GroupSaPolicy, Policy, policies}
-use Rattle.wire_bags.specs.Bag.{GroupKeyBag, bags}
+use Rattle.wire_bags.specs.Bag.{GroupKeyBag}
 use Rattle.wire_frames.specs.Frame.{Frame}
 use Rattle.wire_readers.specs.inner.Values.{is_whole}
 use Rattle.wire_readers.specs.inner.Bags.{bags_in}
@@ -33,7 +33,7 @@ use Rattle.rules_outcome.proofs.RunsLists.{none_passes}
 use Rattle.check_pairing.proofs.Seeking.{StretchIs}
 use Rattle.unwrap_sas.proofs.PolicyAt.{sas_from, no-more-sas, PolicyAt}
 use Rattle.unwrap_tree.specs.inner.Entries.{HoldsEntries}
-use Rattle.unwrap_tree.specs.inner.Source.{rekeys_in, FirstRekey, FindsRekey, no_source, FreshSource, FreshStand, Sourced, EntriesStand}
+use Rattle.unwrap_tree.specs.inner.Source.{rekeys_in, FirstRekey, FindsRekey, no_source, FreshSource, FreshStand, EntriesStand}
 use Rattle.unwrap_tree.specs.declared.source.Source.{Source}
 
 -- ---- lists

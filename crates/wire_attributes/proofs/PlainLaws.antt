@@ -6,13 +6,12 @@ use mathlib.Core.List.{List, [], ◌∷◌, map}
 use mathlib.Core.Bool.{Bool, true, false, cond}
 use lib.ListN.{length}
 use lib.Dec.{eqb}
-use Rattle.octets.specs.Walk.{Row, no-more, then}
+use Rattle.octets.specs.Walk.{no-more, then}
 use Rattle.wire_attributes.specs.Attribute.{Attribute}
-use Rattle.wire_attributes.specs.Place.{meaning_of, format_fits, in_bag}
+use Rattle.wire_attributes.specs.Place.{format_fits, in_bag}
 use Rattle.wire_attributes.specs.Layout.{formed_in}
 use Rattle.wire_attributes.specs.Tree.{sa_key_of, wrap_key_of, code_of, means, values_of, sa_keys, fresh_keys}
-use Rattle.wire_attributes.specs.Grammar.{IsAttribute, Attributes}
-use Rattle.wire_attributes.specs.declared.tables.Place.{Place}
+use Rattle.wire_attributes.specs.Grammar.{Attributes}
 use Rattle.wire_attributes.specs.declared.tables.Place.TheVariants as place
 use Rattle.wire_attributes.specs.declared.tables.Meaning.TheVariants as meaning
 

@@ -1,13 +1,13 @@
 -- Key bags that are whole where fresh keys are read are whole where they are not, and are the same less the fresh keys.
 use Prim.Native.Nat.{ℕ}
-use mathlib.Core.Path.{◌≡◌, refl, ap, sym, ◌∙◌}
+use mathlib.Core.Path.{◌≡◌, refl, sym, ◌∙◌}
 use mathlib.Core.List.{List, [], ◌∷◌, map}
-use mathlib.Core.Bool.{Bool, true, false}
-use Rattle.octets.specs.Walk.{Reading, whole, broken, no-more, then}
+use mathlib.Core.Bool.{Bool, false}
+use Rattle.octets.specs.Walk.{whole, no-more, then}
 use Rattle.wire_attributes.proofs.PlainLaws.{attributes-plain, sa-keys-plain, no-fresh-keys}
 use Rattle.wire_bags.specs.Bag.{Bag, group_keys, member_keys, bags}
 use Rattle.wire_bags.specs.Grammar.{IsBag, is-group, is_member, Bags}
-use Rattle.wire_bags.specs.Plain.{plain_group, plain_bag}
+use Rattle.wire_bags.specs.Plain.{plain_bag}
 use Rattle.wire_bags.proofs.BagGrammar.{bags-read, read-bags}
 
 pub bag-plain : (fresh : Bool) (o : List ℕ) (x : Bag) → IsBag fresh o x → IsBag false o (plain_bag x)

@@ -3,11 +3,10 @@
 use Prim.Native.Nat.{ℕ, ◌+◌}
 use mathlib.Core.Path.{◌≡◌, refl}
 use mathlib.Core.List.{List, [], ◌∷◌, ◌++◌, map}
-use mathlib.Core.Bool.{Bool, true, false}
+use mathlib.Core.Bool.{false}
 use lib.ListN.{length, take, replicate}
 use Rattle.octets.specs.Numbers.{number}
 use Rattle.octets.specs.Walk.{chain, chain_up_to, many}
-use Rattle.wire_attributes.specs.declared.Layout.{Layout}
 use Rattle.wire_attributes.specs.declared.Layout.TheVariants as layout
 use Rattle.wire_attributes.specs.Tree.{values_of}
 use Rattle.wire_attributes.specs.Layout.{attribute}

@@ -18,7 +18,7 @@ use Rattle.octets.proofs.BreakLaws.{structure-to, structure-from, chain-to, chai
 use Rattle.octets.proofs.BreakLaws.{AmongOr, among-chain}
 use Rattle.wire_attributes.specs.Answers.{layout_of}
 use Rattle.wire_attributes.specs.declared.Layout.TheVariants as layout
-use Rattle.wire_frames.specs.Header.{first_payload, header_fits}
+use Rattle.wire_frames.specs.Header.{header_fits}
 use Rattle.wire_frames.specs.Exchange.{reads_fresh}
 use Rattle.wire_frames.specs.Frame.{Payload, payload, none_next, payloads, nothing_left}
 use Rattle.wire_frames.specs.Frame.{Frame, frame_of, frame_payloads, frame, frame_layout, offset_of, figure}

@@ -1,20 +1,19 @@
 -- WHAT IS IGNORED. Document 01: "Flags, minor version and RESERVED octets are ignored." A frame's octets may be any others in all that its
 -- mask does not name: they are the same tree.
-use Prim.Native.Nat.{ℕ, ◌/◌}
-use mathlib.Core.Path.{◌≡◌, refl, ap, sym, ◌∙◌, subst}
-use mathlib.Core.List.{List, [], ◌∷◌, ◌++◌}
+use Prim.Native.Nat.{ℕ}
+use mathlib.Core.Path.{◌≡◌, refl, sym, ◌∙◌, subst}
+use mathlib.Core.List.{List, []}
 use mathlib.Core.Bool.{Bool}
 use native.Mathlib.Omega.{arith}
-use lib.ListN.{length, take, drop, length-drop}
+use lib.ListN.{length, drop, length-drop}
 use Rattle.octets.specs.Numbers.{oct}
 use Rattle.octets.specs.Walk.{Spans}
-use Rattle.octets.specs.Ignored.{Mask, Alike, all_of, chain_mask}
+use Rattle.octets.specs.Ignored.{Alike}
 use Rattle.octets.proofs.Ignored.{length-all, length_none, same_length, alike-drop, alike-front, alike_all, same-top, be16-same, be32-same}
-use Rattle.octets.proofs.Ignored.{AlikeChain, chain-alike}
+use Rattle.octets.proofs.Ignored.{chain-alike}
 use Rattle.wire_policies.proofs.AlikeLaws.{policies-sized, policies-alike}
 use Rattle.wire_bags.proofs.AlikeLaws.{bags-sized, bags-alike}
 use Rattle.wire_frames.specs.Exchange.{reads_fresh}
-use Rattle.wire_frames.specs.Delete.{Delete}
 use Rattle.wire_frames.specs.Frame.{Content, gsa, kd, delete, unread, Payload, none_next, Frame}
 use Rattle.wire_frames.specs.Grammar.{IsDelete, IsContent, is-gsa, is-kd, is-delete, is-unread, IsPayload, IsFrame}
 use Rattle.wire_frames.specs.Ignored.{content_mask, payload_mask, frame_mask}

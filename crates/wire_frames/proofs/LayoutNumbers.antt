@@ -14,7 +14,6 @@ use Rattle.wire_attributes.specs.declared.Layout.{Layout}
 use Rattle.wire_attributes.specs.declared.Layout.TheVariants as layout
 use Rattle.wire_frames.specs.Frame.{Frame, frame, frame_layout}
 use Rattle.wire_frames.specs.Grammar.{IsFrame}
-use Rattle.wire_frames.specs.Breaks.{BreaksFrame}
 use Rattle.wire_frames.specs.Laid.{Laid}
 use Rattle.wire_frames.proofs.FrameGrammar.{read-frame, frame-read}
 use Rattle.wire_frames.proofs.FrameBreaks.{layout-broken}

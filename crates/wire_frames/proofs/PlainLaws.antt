@@ -9,7 +9,7 @@ use lib.Dec.{eqb}
 use Rattle.lists.proofs.Cases.{bool_cases}
 use Rattle.ikev2_numbers.specs.Codes.{exchange_at, gsa_auth, gsa_inband_rekey, gsa_registration, gsa_rekey, header_octets}
 use Rattle.octets.specs.Numbers.{oct}
-use Rattle.octets.specs.Walk.{Reading, whole, broken, mapped, opened, Spans, none, more}
+use Rattle.octets.specs.Walk.{whole, mapped, opened, Spans, none, more}
 use Rattle.wire_bags.proofs.PlainLaws.{bags-plain, none-in-bags}
 use Rattle.wire_frames.specs.Header.{header_fits, first_payload}
 use Rattle.wire_frames.specs.Exchange.{exchange_of, reads_fresh}

@@ -2,7 +2,7 @@
 use Prim.Native.Nat.{ℕ}
 use mathlib.Core.Path.{refl}
 use mathlib.Core.List.{List, [], ◌∷◌, ◌++◌}
-use mathlib.Core.Bool.{true, false}
+use mathlib.Core.Bool.{false}
 use Rattle.octets.specs.Numbers.{number}
 use Rattle.octets.specs.Walk.{whole, broken, chain, chain_up_to, many}
 use Rattle.wire_attributes.specs.Tree.{SaKey, WrapKey, values_of}

@@ -1,7 +1,7 @@
 -- Octets that differ in nothing that is read are the same transform, the same policy.
-use Prim.Native.Nat.{ℕ, ◌+◌, ◌-◌, ◌<◌, ◌≤◌}
+use Prim.Native.Nat.{ℕ, ◌+◌, ◌<◌, ◌≤◌}
 use mathlib.Core.Path.{◌≡◌, refl, ap, sym, ◌∙◌, subst}
-use mathlib.Core.List.{List, [], ◌∷◌, ◌++◌}
+use mathlib.Core.List.{List, ◌++◌}
 use mathlib.Core.Bool.{Bool}
 use native.Mathlib.Omega.{arith}
 use lib.ListN.{length, take, drop, length-append, length-drop, take-append-drop}
@@ -11,12 +11,12 @@ use Rattle.octets.specs.Walk.{be16, part}
 use Rattle.octets.specs.Ignored.{Mask, Alike, all_of, chain_mask}
 use Rattle.octets.proofs.Numerals.{drop-take}
 use Rattle.octets.proofs.Ignored.{length-all, same_length, alike-drop, alike_all, be16-same, alike-left, alike_right, left-part, right-part}
-use Rattle.octets.proofs.Ignored.{row_sized, row-alike, chain-sized, AlikeChain, chain-alike}
+use Rattle.octets.proofs.Ignored.{row_sized, row-alike, chain-sized, chain-alike}
 use Rattle.wire_attributes.specs.Place.{in_transform}
 use Rattle.wire_attributes.specs.Grammar.{Attributes}
 use Rattle.wire_attributes.specs.declared.tables.Place.{Place}
 use Rattle.wire_attributes.specs.declared.tables.Place.TheVariants as place
-use Rattle.wire_policies.specs.Transform.{Transform, no_more}
+use Rattle.wire_policies.specs.Transform.{Transform}
 use Rattle.wire_policies.specs.Policy.{spi_size, GroupSaPolicy, GroupWidePolicy, Policy, group_sa, group_wide, SaBody}
 use Rattle.wire_policies.specs.Grammar.{IsTransform, IsSaBody, IsGroupSa, IsGroupWide, IsPolicy, is-sa, is_wide, Policies}
 use Rattle.wire_policies.specs.Ignored.{transform_mask, sa_body_mask, reserved_second, policy_mask, policies_mask}

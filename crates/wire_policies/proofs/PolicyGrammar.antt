@@ -10,21 +10,20 @@ use lib.ListN.{length, drop, length-drop}
 use lib.Seq.{take_all, drop-length}
 use Rattle.lists.proofs.Cases.{and_parts}
 use Rattle.octets.specs.Numbers.{oct}
-use Rattle.octets.specs.Walk.{be16, part, sized, whole, mapped, opened, closed, within, after}
+use Rattle.octets.specs.Walk.{be16, part, sized, whole, mapped, opened, closed, within}
 use Rattle.octets.proofs.Local.{extended, oct-append, be16-append, part-append, size-append, opened-extend, within-extend, Local}
 use Rattle.octets.proofs.Inverse.{inverse-mapped, inverse-opened, inverse-within}
 use Rattle.octets.proofs.Grammar.{Cuts, row_read, read-row, sound-of, complete-of}
 use Rattle.wire_attributes.specs.Place.{in_policy}
-use Rattle.wire_attributes.specs.Tree.{initial_message_ids, deactivation_delays, key_lifetimes}
+use Rattle.wire_attributes.specs.Tree.{initial_message_ids, key_lifetimes}
 use Rattle.wire_attributes.specs.Layout.{attributes}
 use Rattle.wire_attributes.specs.Grammar.{Attributes}
 use Rattle.wire_attributes.specs.declared.tables.Place.TheVariants as place
 use Rattle.wire_attributes.proofs.GrammarLaws.{are-read, read-are}
 use Rattle.wire_attributes.proofs.SplitGrammar.{joined, Each, Split, together, splits, one_way}
-use Rattle.wire_policies.specs.Transform.{transforms}
-use Rattle.wire_policies.specs.Policy.{spi_size, first_known, spi_sized, head_size, head_fits, head_spi, GroupWidePolicy, Policy}
+use Rattle.wire_policies.specs.Policy.{spi_size, first_known, spi_sized, head_size, head_fits, head_spi, Policy}
 use Rattle.wire_policies.specs.Policy.{group_sa, group_wide}
-use Rattle.wire_policies.specs.Policy.{suite, SaBody, sa_body, group_sa_of, group_wide_of, policy_holds, policy, policies}
+use Rattle.wire_policies.specs.Policy.{SaBody, sa_body, group_sa_of, group_wide_of, policy_holds, policy, policies}
 use Rattle.wire_policies.specs.Grammar.{IsSaBody, IsPolicy, is-sa, is_wide, Policies}
 use Rattle.wire_policies.proofs.HeadLaws.{head-is}
 use Rattle.wire_policies.proofs.PolicyLaws.{takes}

@@ -1,5 +1,5 @@
 -- WHAT IS READ of a transform and of a policy, octet by octet. Document 01: "Flags, minor version and RESERVED octets are ignored."
-use Rattle.std.specs.Prelude.{ℕ, ◌+◌, List, [], ◌∷◌, ◌++◌, Bool, take, drop}
+use Rattle.std.specs.Prelude.{ℕ, ◌+◌, List, ◌∷◌, ◌++◌, Bool, take, drop}
 use Rattle.octets.specs.Ignored.{Mask, all, ignored, all_of, row_mask, chain_mask}
 use Rattle.ikev2_numbers.specs.Codes.{policy_head_octets, transform_head_octets}
 use Rattle.wire_attributes.specs.declared.tables.Place.{Place}

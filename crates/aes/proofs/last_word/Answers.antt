@@ -1,7 +1,6 @@
 use mathlib.Core.Path.{◌∙◌}
 use native.Mathlib.Omega.{arith}
 use Rattle.aes.proofs.Enciphering.{its-rounds, last-is}
-use borrow.Author.Rules.{rules}
 use Rattle.aes.proofs.last_word.Goals as goal
 
 -- `aes::last_word` meets its contract.

@@ -1,10 +1,9 @@
-use mathlib.Core.Path.{◌≡◌, refl, ap, sym, ◌∙◌}
+use mathlib.Core.Path.{refl, ap, ◌∙◌}
 use mathlib.Core.Bool.{Bool}
 use Rattle.wire_attributes.specs.Place.{in_bag}
 use Rattle.state_keys.specs.Limits.{limits}
 use Rattle.lists.specs.Lists.{any}
 use Rattle.check_bagkeys.proofs.BagLaws.{none-there}
-use borrow.Author.Rules.{rules}
 use Rattle.check_bagkeys.proofs.fresh_of.Goals as goal
 
 -- `check_bagkeys::fresh_of` meets its contract.

@@ -1,7 +1,6 @@
 use native.Mathlib.Omega.{arith}
 use Prim.Native.Nat.{◌-◌, ◌<◌}
 use lib.ListN.{length}
-use Rattle.state_keys.specs.Limits.{limits}
 use Rattle.check_bagkeys.proofs.BagAt.{BagAt, bag-there, bag-at}
 use Rattle.check_bagkeys.proofs.BagLaws.{bags-start, bags-end, bags-room, bags-next}
 use Rattle.check_bagkeys.proofs.PlaceLaws.{KdWalk, sought-start, sought-end, sought-next}

@@ -1,7 +1,6 @@
 use mathlib.Core.Path.{refl}
 use Rattle.state_keys.specs.Limits.{limits}
 use Rattle.check_bagkeys.proofs.BagLaws.{member-held, group-held, of-member-is, of-group-is}
-use borrow.Author.Rules.{rules}
 use Rattle.check_bagkeys.proofs.of_bag.Goals as goal
 
 pub keys_of-requires : goal.keys_of-requires

@@ -1,7 +1,6 @@
 use native.Mathlib.Omega.{arith}
 use mathlib.Core.Path.{refl}
 use Rattle.check_composition.proofs.SaLaws.{wide-one, sa-one}
-use borrow.Author.Rules.{rules}
 use Rattle.check_composition.proofs.of_policy.Goals as goal
 
 pub numbers_of-requires : goal.numbers_of-requires

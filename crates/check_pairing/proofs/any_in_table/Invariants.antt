@@ -1,14 +1,10 @@
-use native.Mathlib.Omega.{arith}
 use Prim.Native.Nat.{◌-◌, ◌≤◌}
-use mathlib.Core.Path.{◌≡◌, sym, refl, ◌∙◌}
+use mathlib.Core.Path.{◌≡◌}
 use mathlib.Core.List.{List}
 use lib.ListN.{length, take, drop}
 use Rattle.state_keys.specs.Limits.{limits}
 use Rattle.lists.specs.Lists.{any}
-use Rattle.lists.proofs.Lists.{length-of-map}
 use Rattle.check_pairing.specs.inner.Names.{Name, Names, is_announced}
-use Rattle.check_pairing.proofs.InTable.{any-yes, any-no, any-end}
-use borrow.Author.Rules.{rules}
 use Rattle.check_pairing.proofs.any_in_table.Given as goal
 
 abbrev pub invariant-loop-i : goal.invariant-loop-i

@@ -3,7 +3,6 @@ use Prim.Native.Nat.{◌+◌}
 use mathlib.Core.Bool.{◌||◌, ◌&&◌, not}
 use lib.Dec.{eqb}
 use Rattle.wire_readers.proofs.ValuesLaws.{few-once}
-use borrow.Author.Rules.{rules}
 use Rattle.check_payloads.proofs.with_payload.Goals as goal
 
 pub overflow_add-gsas : goal.overflow_add-gsas

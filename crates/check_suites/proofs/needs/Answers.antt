@@ -3,7 +3,6 @@ use mathlib.Core.Path.{ap}
 use lib.ListN.{length, drop, length-drop}
 use Rattle.octets.proofs.Walks.{to_end}
 use Rattle.check_suites.proofs.PolicyLaws.{transforms-start, transforms-are}
-use borrow.Author.Rules.{rules}
 use Rattle.check_suites.proofs.needs.Goals as goal
 
 pub slice_bounds-transforms_need-count : goal.slice_bounds-transforms_need-count

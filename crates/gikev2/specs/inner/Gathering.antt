@@ -22,7 +22,6 @@ use Rattle.rules_sealed.specs.SealedOutcome.{sealed_number2}
 use Rattle.rules_fragments.specs.FragmentOutcome.{names_in}
 use Rattle.gikev2.specs.declared.Member.{Member}
 use Rattle.gikev2.specs.declared.call.Answer.{Answer}
-use Rattle.gikev2.specs.declared.fragment.FragmentAnswer.{FragmentAnswer}
 use Rattle.gikev2.specs.declared.fragment.FragmentAnswer.TheVariants.{Refused, Complete}
 use Rattle.gikev2.specs.declared.fragment.Gathered.{Gathered}
 use Rattle.gikev2.specs.Receive.{number_of, figure_of}

@@ -1,4 +1,3 @@
-use borrow.Author.Rules.{rules}
 use mathlib.Core.Path.{refl, subst}
 use Rattle.keywrap.proofs.Answering.{is-so, is-not-so}
 use Rattle.keywrap.proofs.Opening.{put-none, put-most, put_some}

@@ -1,4 +1,3 @@
-use borrow.Author.Rules.{rules}
 use native.Mathlib.Omega.{arith}
 use Rattle.octets.specs.Octets.{Octets}
 use Rattle.keywrap.proofs.Opening.{part_count, part-within, part-kept, unwrapped-is}

@@ -1,7 +1,6 @@
 use native.Mathlib.Omega.{arith}
 use Rattle.check_payloads.proofs.FrameLaws.{long}
 use Rattle.receive.proofs.ConcludingLaws.{row_is}
-use borrow.Author.Rules.{rules}
 use Rattle.receive.proofs.row_of.Goals as goal
 
 pub bounds-s-18 : goal.bounds-s-18

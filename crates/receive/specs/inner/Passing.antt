@@ -24,8 +24,7 @@ use Rattle.wire_readers.specs.declared.Stretch.{Stretch}
 use Rattle.rules_refusals.specs.Contents.{row_of, policies_of, bags_of, group_bags, announced, wrap_keys_of, fresh_keys_of}
 use Rattle.rules_refusals.specs.Refusals.{refusal}
 use Rattle.rules_chains.specs.Chain.{In, Root, CopyOpens}
-use Rattle.rules_chains.specs.Refusals.{EntriesConflict}
-use Rattle.rules_outcome.specs.Roots.{roots_of, entries_of, wrapping_size, copies_of}
+use Rattle.rules_outcome.specs.Roots.{copies_of}
 use Rattle.rules_outcome.specs.Holding.{HeldAfterwards, OverHeldOf}
 use Rattle.check_judging.specs.inner.Facts.{frame_facts_of}
 use Rattle.check_judging.specs.declared.facts.Facts.{Facts}

@@ -1,4 +1,3 @@
-use borrow.Author.Rules.{rules}
 use mathlib.Core.Path.{◌∙◌}
 use Rattle.rfc5282.proofs.OuterLaws.{alone-outer}
 use Rattle.sealing.proofs.is_outer.Goals as goal

@@ -1,5 +1,5 @@
 -- Changes of a table, and a count.
-use Rattle.std.specs.Prelude.{ℕ, Bool, cond, List, map, ltb}
+use Rattle.std.specs.Prelude.{ℕ, Bool, cond, map, ltb}
 use Rattle.lists.specs.Lists.{insert}
 use Rattle.state_keys.specs.Limits.{Limits}
 use Rattle.state_sa.specs.Entry.{sa_before}

@@ -1,5 +1,4 @@
 use native.Mathlib.Omega.{arith}
-use Prim.Native.Nat.{◌-◌, ◌≤◌}
 use mathlib.Core.Path.{◌≡◌}
 use lib.ListN.{length, get_or}
 use Rattle.state_keys.specs.Limits.{limits}
@@ -8,7 +7,7 @@ use Rattle.unwrap_search.specs.declared.open.Cell.{Cell}
 use Rattle.unwrap_search.specs.inner.Entries.{no_entry}
 use Rattle.unwrap_search.specs.inner.Search.{cell_at}
 use Rattle.unwrap_conflicts.specs.inner.Values.{ClashAmong}
-use Rattle.unwrap_conflicts.proofs.Clashing.{NoneBelow, none-next, none-all, told-yes, told-not, both_at, both-back}
+use Rattle.unwrap_conflicts.proofs.Clashing.{none-next, none-all, told-yes, told-not, both_at, both-back}
 use borrow.Author.Rules.{rules}
 use Rattle.unwrap_conflicts.proofs.any_clash.Goals as goal
 

@@ -1,15 +1,11 @@
-use native.Mathlib.Omega.{arith}
 use Prim.Native.Nat.{◌-◌, ◌≤◌}
 use mathlib.Core.Path.{◌≡◌}
 use lib.ListN.{length, get_or}
 use Rattle.state_keys.specs.Limits.{limits}
-use Rattle.unwrap_search.specs.declared.open.Entry.{Entry}
-use Rattle.unwrap_search.specs.declared.open.Cell.{Cell}
 use Rattle.unwrap_search.specs.inner.Entries.{no_entry}
 use Rattle.unwrap_search.specs.inner.Search.{cell_at}
 use Rattle.unwrap_conflicts.specs.inner.Values.{ClashAmong}
-use Rattle.unwrap_conflicts.proofs.Clashing.{NoneBelow, none-next, none-all, told-yes, told-not, both_at, both-back}
-use borrow.Author.Rules.{rules}
+use Rattle.unwrap_conflicts.proofs.Clashing.{NoneBelow}
 use Rattle.unwrap_conflicts.proofs.any_clash.Given as goal
 
 abbrev pub invariant-loop-i : goal.invariant-loop-i

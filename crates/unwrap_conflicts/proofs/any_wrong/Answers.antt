@@ -1,11 +1,10 @@
 use native.Mathlib.Omega.{arith}
-use Prim.Native.Nat.{◌-◌, ◌≤◌}
 use mathlib.Core.Path.{◌≡◌, sym, ◌∙◌}
 use lib.ListN.{length}
 use Rattle.state_keys.specs.Limits.{limits}
 use Rattle.unwrap_search.specs.declared.open.Status.TheVariants.{Wrong}
 use Rattle.unwrap_search.specs.inner.Search.{cell_at}
-use Rattle.unwrap_conflicts.proofs.Clashing.{NoneBelow, none-next, none-all, wrong-here, wrong-none}
+use Rattle.unwrap_conflicts.proofs.Clashing.{none-next, none-all, wrong-here, wrong-none}
 use borrow.Author.Rules.{rules}
 use Rattle.unwrap_conflicts.proofs.any_wrong.Goals as goal
 

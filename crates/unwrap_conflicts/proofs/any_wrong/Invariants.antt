@@ -1,12 +1,10 @@
-use native.Mathlib.Omega.{arith}
 use Prim.Native.Nat.{◌-◌, ◌≤◌}
-use mathlib.Core.Path.{◌≡◌, sym, ◌∙◌}
+use mathlib.Core.Path.{◌≡◌}
 use lib.ListN.{length}
 use Rattle.state_keys.specs.Limits.{limits}
 use Rattle.unwrap_search.specs.declared.open.Status.TheVariants.{Wrong}
 use Rattle.unwrap_search.specs.inner.Search.{cell_at}
-use Rattle.unwrap_conflicts.proofs.Clashing.{NoneBelow, none-next, none-all, wrong-here, wrong-none}
-use borrow.Author.Rules.{rules}
+use Rattle.unwrap_conflicts.proofs.Clashing.{NoneBelow}
 use Rattle.unwrap_conflicts.proofs.any_wrong.Given as goal
 
 abbrev pub invariant-loop-i : goal.invariant-loop-i

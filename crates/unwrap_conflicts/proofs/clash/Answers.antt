@@ -1,6 +1,5 @@
 use mathlib.Core.Path.{sym, ◌∙◌}
 use Rattle.unwrap_conflicts.proofs.Clashing.{told-yes, told-not, done-is, done-not}
-use borrow.Author.Rules.{rules}
 use Rattle.unwrap_conflicts.proofs.clash.Goals as goal
 
 -- `unwrap_search::values::clash` meets its contract.

@@ -1,4 +1,3 @@
-use native.Mathlib.Omega.{arith}
 use Prim.Native.Nat.{◌-◌, ◌≤◌}
 use mathlib.Core.Path.{◌≡◌}
 use lib.ListN.{length, get_or}
@@ -6,8 +5,7 @@ use Rattle.state_keys.specs.Limits.{limits}
 use Rattle.unwrap_search.specs.inner.Entries.{no_entry}
 use Rattle.unwrap_search.specs.inner.Search.{cell_at}
 use Rattle.unwrap_conflicts.specs.inner.Values.{Clash}
-use Rattle.unwrap_conflicts.proofs.Clashing.{NoneBelow, none-next, none-all, told-yes, told-not, both_at, both-back}
-use borrow.Author.Rules.{rules}
+use Rattle.unwrap_conflicts.proofs.Clashing.{NoneBelow}
 use Rattle.unwrap_conflicts.proofs.clashes.Given as goal
 
 abbrev pub invariant-loop-i : goal.invariant-loop-i

@@ -1,4 +1,3 @@
-use borrow.Author.Rules.{rules}
 use Rattle.unwrap_conflicts.proofs.Clashing.{told-yes, told-not}
 use Rattle.unwrap_conflicts.proofs.ConflictLaws.{conflict-wrong, conflict-tells}
 use Rattle.unwrap_conflicts.proofs.entries_conflict.Goals as goal

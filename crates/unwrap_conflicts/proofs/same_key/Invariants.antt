@@ -1,11 +1,6 @@
-use native.Mathlib.Omega.{arith}
 use Prim.Native.Nat.{ℕ, ◌-◌, ◌≤◌, ◌<◌}
-use mathlib.Core.Path.{◌≡◌, ap}
+use mathlib.Core.Path.{◌≡◌}
 use lib.ListN.{length, get_or}
-use borrow.Author.Count.{below_more}
-use Rattle.state_keys.specs.declared.kinds.WrappingKey.{WrappingKey}
-use Rattle.unwrap_conflicts.proofs.Clashing.{keys-equal}
-use borrow.Author.Rules.{rules}
 use Rattle.unwrap_conflicts.proofs.same_key.Given as goal
 
 abbrev pub invariant-loop-i : goal.invariant-loop-i

@@ -2,7 +2,6 @@ use mathlib.Core.Path.{sym}
 use Rattle.octets.proofs.Walks.{to_end}
 use Rattle.wire_attributes.specs.Tree.{sa_key_of}
 use Rattle.unwrap_copies.proofs.Trying.{tried-none, tried-under}
-use borrow.Author.Rules.{rules}
 use Rattle.unwrap_copies.proofs.try_copy.Goals as goal
 
 -- `unwrap_copies::try_copy` meets its contract.

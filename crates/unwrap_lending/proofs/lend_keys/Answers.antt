@@ -1,5 +1,4 @@
 use native.Mathlib.Omega.{arith}
-use Prim.Native.Nat.{◌-◌, ◌≤◌}
 use mathlib.Core.Path.{◌≡◌, sym, ◌∙◌}
 use lib.ListN.{length}
 use Rattle.state_keys.specs.Limits.{limits}
@@ -7,7 +6,7 @@ use Rattle.lists.proofs.Lists.{length-of-map}
 use Rattle.state_keys.proofs.Sizes.{wrapping-le}
 use Rattle.state.specs.Held.{blank_key}
 use Rattle.unwrap_lending.proofs.HeldLaws.{get_d_any, held-within, held-size}
-use Rattle.unwrap_lending.proofs.Filling.{LentUpTo, filled_none, filled_more, filled-all}
+use Rattle.unwrap_lending.proofs.Filling.{filled_none, filled_more, filled-all}
 use borrow.Author.Rules.{rules}
 use Rattle.unwrap_lending.proofs.lend_keys.Goals as goal
 

@@ -1,11 +1,10 @@
 use native.Mathlib.Omega.{arith}
 use Prim.Native.Nat.{ℕ, ◌+◌}
-use mathlib.Core.Path.{◌≡◌, ap, sym, ◌∙◌}
+use mathlib.Core.Path.{ap, sym, ◌∙◌}
 use mathlib.Core.Bool.{Bool, cond}
 use Rattle.unwrap_lending.specs.inner.Named.{key_start}
 use Rattle.unwrap_lending.proofs.Blocks.{ids-length}
 use Rattle.unwrap_lending.proofs.Naming.{first_found, first-none, start-found, start_none, in-fresh, in_held, in-neither}
-use borrow.Author.Rules.{rules}
 use Rattle.unwrap_lending.proofs.octets_named.Goals as goal
 
 -- `unwrap_lending::octets_named` meets its contract.

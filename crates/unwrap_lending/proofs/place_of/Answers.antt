@@ -1,8 +1,5 @@
 use native.Mathlib.Omega.{arith}
-use Prim.Native.Nat.{◌-◌, ◌≤◌}
-use mathlib.Core.Path.{◌≡◌}
-use lib.ListN.{length}
-use Rattle.unwrap_lending.proofs.Blocks.{NonePassed, none_passed, one-passed}
+use Rattle.unwrap_lending.proofs.Blocks.{none_passed, one-passed}
 use borrow.Author.Rules.{rules}
 use Rattle.unwrap_lending.proofs.place_of.Goals as goal
 

@@ -1,9 +1,7 @@
-use native.Mathlib.Omega.{arith}
 use Prim.Native.Nat.{◌-◌, ◌≤◌}
 use mathlib.Core.Path.{◌≡◌}
 use lib.ListN.{length}
-use Rattle.unwrap_lending.proofs.Blocks.{NonePassed, none_passed, one-passed}
-use borrow.Author.Rules.{rules}
+use Rattle.unwrap_lending.proofs.Blocks.{NonePassed}
 use Rattle.unwrap_lending.proofs.place_of.Given as goal
 
 abbrev pub invariant-loop-i : goal.invariant-loop-i

@@ -1,5 +1,4 @@
 use native.Mathlib.Omega.{arith}
-use borrow.Author.Rules.{rules}
 use Rattle.unwrap_sas.proofs.open_policy_at.Goals as goal
 
 pub overflow_add-name : goal.overflow_add-name

@@ -2,7 +2,6 @@ use native.Mathlib.Omega.{arith}
 use Rattle.wire_attributes.specs.Place.{in_policy}
 use Rattle.unwrap_sas.specs.inner.Policies.{Sized}
 use Rattle.unwrap_sas.proofs.OnePolicy.{few-octets, one-bag, lifetime-there, lifetime-of, named-with, need-is, sizes-are}
-use borrow.Author.Rules.{rules}
 use Rattle.unwrap_sas.proofs.with_policy.Statement.{statement}
 use Rattle.unwrap_sas.proofs.with_policy.Tie as tie
 

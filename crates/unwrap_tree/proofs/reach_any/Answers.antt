@@ -1,6 +1,5 @@
 use mathlib.Core.Path.{refl}
 use Rattle.unwrap_tree.proofs.NoEntries.{none-for}
-use borrow.Author.Rules.{rules}
 use Rattle.unwrap_tree.proofs.reach_any.Goals as goal
 
 -- `unwrap_tree::reach_any` meets its contract.

@@ -1,5 +1,4 @@
 use Rattle.wire_attributes.proofs.AttributeLaws.{cut, short, long-cut, long}
-use borrow.Author.Rules.{rules}
 use Rattle.wire_attributes.proofs.read_attribute.Goals as goal
 
 pub returns-then-s-lt-ATTRIBUTE_HEAD : goal.returns-then-s-lt-ATTRIBUTE_HEAD

@@ -7,7 +7,6 @@ use Rattle.wire_policies.specs.Policy.{spi_size}
 use Rattle.wire_policies.proofs.HeadLaws.{head-is}
 use Rattle.wire_bags.specs.Bag.{place_of}
 use Rattle.wire_bags.proofs.BagLaws.{good, inner-broken, bad}
-use borrow.Author.Rules.{rules}
 use Rattle.wire_bags.proofs.bag_spot.Goals as goal
 
 pub bounds-s-0 : goal.bounds-s-0

@@ -1,5 +1,4 @@
 use borrow.Author.Tests.{eq-eqb, ne_eqb}
-use borrow.Author.Rules.{rules}
 use Rattle.wire_bags.proofs.place_of.Goals as goal
 
 pub returns-then-first-eq-NO_PROTOCOL : goal.returns-then-first-eq-NO_PROTOCOL

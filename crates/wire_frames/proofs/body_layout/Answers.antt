@@ -1,6 +1,5 @@
 use mathlib.Core.Path.{sym, ◌∙◌}
 use Rattle.wire_frames.proofs.PayloadLaws.{gsa-body, kd-body, delete-good, delete-bad, unread-body}
-use borrow.Author.Rules.{rules}
 use Rattle.wire_frames.proofs.body_layout.Goals as goal
 
 pub returns-then-kind-eq-GSA : goal.returns-then-kind-eq-GSA

@@ -1,6 +1,5 @@
 use native.Mathlib.Omega.{arith}
 use Rattle.wire_frames.proofs.HeaderLaws.{product_small, delete-cut, not-filled, esp, not-esp}
-use borrow.Author.Rules.{rules}
 use Rattle.wire_frames.proofs.delete_fits.Goals as goal
 
 pub returns-then-s-lt-DELETE_HEAD : goal.returns-then-s-lt-DELETE_HEAD

@@ -4,7 +4,6 @@ use Rattle.octets.proofs.Numerals.{sized-is}
 use Rattle.octets.proofs.Walks.{part-short}
 use Rattle.wire_frames.proofs.HeaderLaws.{payload-is, payload-not}
 use Rattle.wire_frames.proofs.PayloadLaws.{missing, good, inner-broken, bad}
-use borrow.Author.Rules.{rules}
 use Rattle.wire_frames.proofs.payload_spot.Goals as goal
 
 pub returns-then-s-eq0 : goal.returns-then-s-eq0

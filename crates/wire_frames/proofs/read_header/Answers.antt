@@ -1,5 +1,4 @@
 use Rattle.wire_frames.proofs.HeaderLaws.{too_short, too_long, other_length, other-version, header-there}
-use borrow.Author.Rules.{rules}
 use Rattle.wire_frames.proofs.read_header.Goals as goal
 
 pub returns-then-s-lt-HEADER : goal.returns-then-s-lt-HEADER

@@ -4,7 +4,6 @@ use Prim.Native.Nat.{◌+◌}
 use lib.ListN.{length}
 use Rattle.octets.proofs.Walks.{tail, part-short}
 use Rattle.wire_policies.proofs.PolicyLaws.{selector-inside, body-goes, body-breaks, body-breaks-2}
-use borrow.Author.Rules.{rules}
 use Rattle.wire_policies.proofs.body_layout.Goals as goal
 
 pub slice_bounds-selector_spot-count : goal.slice_bounds-selector_spot-count

@@ -1,5 +1,4 @@
 use Rattle.wire_policies.proofs.HeadLaws.{head-cut, no-spi, unknown, other-size, with-spi}
-use borrow.Author.Rules.{rules}
 use Rattle.wire_policies.proofs.head_fits.Goals as goal
 
 pub returns-then-s-lt-POLICY_HEAD : goal.returns-then-s-lt-POLICY_HEAD

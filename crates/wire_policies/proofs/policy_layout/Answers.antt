@@ -7,7 +7,6 @@ use Rattle.wire_attributes.specs.Place.{in_policy}
 use Rattle.wire_policies.specs.Policy.{spi_size}
 use Rattle.wire_policies.proofs.HeadLaws.{head-is}
 use Rattle.wire_policies.proofs.PolicyLaws.{wide-holds, sa-holds}
-use borrow.Author.Rules.{rules}
 use Rattle.wire_policies.proofs.policy_layout.Goals as goal
 
 pub bounds-s-0 : goal.bounds-s-0

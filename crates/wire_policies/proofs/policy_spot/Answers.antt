@@ -2,7 +2,6 @@ use native.Mathlib.Omega.{arith}
 use mathlib.Core.Path.{sym, ◌∙◌}
 use Rattle.wire_policies.proofs.HeadLaws.{head-is}
 use Rattle.wire_policies.proofs.PolicyLaws.{good, inner-broken, bad}
-use borrow.Author.Rules.{rules}
 use Rattle.wire_policies.proofs.policy_spot.Goals as goal
 
 pub be16_at-n-requires : goal.be16_at-n-requires

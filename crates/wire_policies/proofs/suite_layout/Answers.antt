@@ -3,7 +3,6 @@ use mathlib.Core.Path.{sym, ◌∙◌}
 use lib.ListN.{length}
 use Rattle.octets.proofs.Walks.{part-short}
 use Rattle.wire_policies.proofs.PolicyLaws.{transforms-inside, suite-goes, suite-breaks}
-use borrow.Author.Rules.{rules}
 use Rattle.wire_policies.proofs.suite_layout.Goals as goal
 
 pub slice_bounds-are_attributes-count : goal.slice_bounds-are_attributes-count

@@ -1,10 +1,9 @@
 use mathlib.Core.Path.{refl}
-use Prim.Native.Nat.{◌+◌, ◌*◌, ◌/◌, ◌%◌, ◌-◌, ◌<◌, ◌≤◌}
+use Prim.Native.Nat.{◌/◌, ◌%◌, ◌<◌}
 use lib.ListN.{length}
 use native.Mathlib.Omega.{arith}
 use native.Mathlib.Nat.{mod-lt}
 use Rattle.fips197.proofs.Expansion.{sizes}
-use Rattle.aes.specs.inner.Expanding.{ExpandedTo, Placed}
 use Rattle.aes.proofs.Growing.{first-place, grown-more, from-words, all_words}
 use Rattle.aes.proofs.expansion.expand_words.Goals as goal
 

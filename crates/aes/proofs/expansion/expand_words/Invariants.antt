@@ -1,11 +1,5 @@
-use mathlib.Core.Path.{refl}
-use Prim.Native.Nat.{◌+◌, ◌*◌, ◌/◌, ◌%◌, ◌-◌, ◌<◌, ◌≤◌}
-use lib.ListN.{length}
-use native.Mathlib.Omega.{arith}
-use native.Mathlib.Nat.{mod-lt}
-use Rattle.fips197.proofs.Expansion.{sizes}
+use Prim.Native.Nat.{◌+◌, ◌*◌, ◌-◌, ◌≤◌}
 use Rattle.aes.specs.inner.Expanding.{ExpandedTo, Placed}
-use Rattle.aes.proofs.Growing.{first-place, grown-more, from-words, all_words}
 use Rattle.aes.proofs.expansion.expand_words.Given as goal
 
 abbrev pub invariant-loop-i : goal.invariant-loop-i

@@ -1,11 +1,8 @@
 use mathlib.Core.Path.{refl}
-use Prim.Native.Nat.{◌+◌, ◌*◌, ◌-◌, ◌<◌, ◌≤◌}
 use native.Mathlib.Omega.{arith}
 use lib.ListN.{length}
-use Rattle.octets.proofs.Fill.{StoredUpTo, none, more}
+use Rattle.octets.proofs.Fill.{none, more}
 use Rattle.fips197.proofs.Expansion.{sizes}
-use Rattle.aes.specs.inner.Schedule.{ZeroWords}
-use Rattle.aes.specs.inner.Inverse.{inverse_word_of}
 use Rattle.aes.proofs.Growing.{blank_none, blank-more}
 use Rattle.aes.proofs.Held.{decipher-length, decipher-sbox}
 use Rattle.aes.proofs.Inverting.{inverted}

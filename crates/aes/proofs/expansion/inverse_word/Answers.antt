@@ -1,6 +1,5 @@
 use mathlib.Core.Path.{◌∙◌}
 use Rattle.aes.proofs.Inverting.{early, middle, late}
-use borrow.Author.Rules.{rules}
 use Rattle.aes.proofs.expansion.inverse_word.Goals as goal
 
 -- `aes::expansion::inverse_word` meets its contract.

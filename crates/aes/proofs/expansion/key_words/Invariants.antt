@@ -1,10 +1,5 @@
-use mathlib.Core.Path.{◌≡◌, subst}
-use Prim.Native.Nat.{◌/◌, ◌-◌, ◌≤◌}
-use lib.ListN.{length}
-use native.Mathlib.Omega.{arith}
-use Rattle.fips197.proofs.Expansion.{sizes}
+use Prim.Native.Nat.{◌-◌, ◌≤◌}
 use Rattle.aes.specs.inner.Expanding.{ExpandedTo}
-use Rattle.aes.proofs.Growing.{grown-none, grown-more, from_key}
 use Rattle.aes.proofs.expansion.key_words.Given as goal
 
 abbrev pub invariant-loop-j : goal.invariant-loop-j

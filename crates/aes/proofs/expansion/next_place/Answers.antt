@@ -1,6 +1,5 @@
 use native.Mathlib.Omega.{arith}
 use Rattle.aes.proofs.Growing.{same-group, next-group}
-use borrow.Author.Rules.{rules}
 use Rattle.aes.proofs.expansion.next_place.Goals as goal
 
 -- `aes::expansion::next_place` meets its contract.

@@ -3,7 +3,6 @@ use Prim.Native.Nat.{ℕ, ◌*◌, ◌%◌}
 use native.Mathlib.Omega.{arith}
 use lib.Bits.{bit_xor}
 use Rattle.fips197.specs.Field.{xtimes}
-use borrow.Author.Rules.{rules}
 use Rattle.aes.proofs.expansion.times2.Goals as goal
 
 -- `aes::expansion::times2` meets its contract.

@@ -2,7 +2,6 @@ use mathlib.Core.Path.{ap, ◌∙◌}
 use Prim.Native.Nat.{ℕ}
 use Rattle.aes.specs.inner.Word.{column_of}
 use Rattle.aes.specs.inner.Inverse.{unmixed_of}
-use borrow.Author.Rules.{rules}
 use Rattle.aes.proofs.expansion.unmix.Goals as goal
 
 -- `aes::expansion::unmix` meets its contract.

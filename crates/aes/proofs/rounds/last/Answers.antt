@@ -1,5 +1,4 @@
 use Rattle.aes.specs.inner.Rounds.{last_round_of}
-use borrow.Author.Rules.{rules}
 use Rattle.aes.proofs.rounds.last.Goals as goal
 
 -- `aes::rounds::last` meets its contract.

@@ -1,5 +1,4 @@
 use Rattle.aes.specs.inner.Rounds.{load_of}
-use borrow.Author.Rules.{rules}
 use Rattle.aes.proofs.rounds.load.Goals as goal
 
 -- `aes::rounds::load` meets its contract.

@@ -1,5 +1,4 @@
 use Rattle.aes.specs.inner.Rounds.{round_of}
-use borrow.Author.Rules.{rules}
 use Rattle.aes.proofs.rounds.round.Goals as goal
 
 -- `aes::rounds::round` meets its contract.

@@ -1,8 +1,5 @@
-use mathlib.Core.Path.{◌≡◌, refl}
-use Prim.Native.Nat.{◌-◌, ◌<◌, ◌≤◌}
+use mathlib.Core.Path.{refl}
 use native.Mathlib.Omega.{arith}
-use borrow.Author.Rules.{rules}
-use Rattle.aes.specs.inner.Rounds.{rounds_up_to}
 use Rattle.aes.proofs.Turns.{turned, ran}
 use Rattle.aes.proofs.rounds.run.Goals as goal
 

@@ -1,9 +1,6 @@
-use mathlib.Core.Path.{◌≡◌, refl}
+use mathlib.Core.Path.{◌≡◌}
 use Prim.Native.Nat.{◌-◌, ◌<◌, ◌≤◌}
-use native.Mathlib.Omega.{arith}
-use borrow.Author.Rules.{rules}
 use Rattle.aes.specs.inner.Rounds.{rounds_up_to}
-use Rattle.aes.proofs.Turns.{turned, ran}
 use Rattle.aes.proofs.rounds.run.Given as goal
 
 abbrev pub invariant-loop-r : goal.invariant-loop-r

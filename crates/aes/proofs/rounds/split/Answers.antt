@@ -1,6 +1,5 @@
 use mathlib.Core.Path.{refl}
 use Rattle.aes.specs.inner.Rounds.{split_of}
-use borrow.Author.Rules.{rules}
 use Rattle.aes.proofs.rounds.split.Goals as goal
 
 -- `aes::rounds::split` meets its contract.

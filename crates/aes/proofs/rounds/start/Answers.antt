@@ -1,6 +1,5 @@
 use mathlib.Core.Path.{refl}
 use Rattle.aes.specs.inner.Rounds.{add_first_key}
-use borrow.Author.Rules.{rules}
 use Rattle.aes.proofs.rounds.start.Goals as goal
 
 -- `aes::rounds::start` meets its contract.

@@ -1,6 +1,5 @@
 use mathlib.Core.List.{[], ◌∷◌}
 use lib.ListN.{get_or}
-use borrow.Author.Rules.{rules}
 use Rattle.aes.proofs.rounds.store.Goals as goal
 
 -- `aes::rounds::store` meets its contract.

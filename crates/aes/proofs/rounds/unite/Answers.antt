@@ -2,7 +2,6 @@ use mathlib.Core.Path.{◌≡◌}
 use Prim.Native.Nat.{◌+◌, ◌*◌, ◌%◌}
 use native.Mathlib.Omega.{arith}
 use Rattle.aes.specs.inner.Rounds.{unite_of}
-use borrow.Author.Rules.{rules}
 use Rattle.aes.proofs.rounds.unite.Goals as goal
 
 -- `aes::rounds::unite` meets its contract.

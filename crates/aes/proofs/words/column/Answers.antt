@@ -3,7 +3,6 @@ use Prim.Native.Nat.{ℕ}
 use lib.Bits.{bit_xor}
 use lib.ListN.{get_or}
 use Rattle.aes.specs.inner.Word.{b0}
-use borrow.Author.Rules.{rules}
 use Rattle.aes.proofs.words.column.Goals as goal
 
 -- `aes::words::column` meets its contract.

@@ -11,7 +11,7 @@ use Rattle.state_table.specs.declared.Table.{Table}
 use Rattle.rules_outcome.specs.After.{insert_all}
 use Rattle.unwrap_sas.specs.inner.Keyed.{new_sas}
 use Rattle.apply.proofs.TableLaws.{none-entered, some-entered, one-entered, enter-made}
-use Rattle.apply.proofs.Turns.{Moving, moving-start, moving-ahead, moving-aside, moving-end}
+use Rattle.apply.proofs.Turns.{moving-start, moving-ahead, moving-aside, moving-end}
 use borrow.Author.Rules.{rules}
 use Rattle.apply.proofs.entering.enter_all.Goals as goal
 

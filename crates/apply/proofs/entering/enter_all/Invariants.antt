@@ -1,18 +1,11 @@
-use native.Mathlib.Omega.{arith}
-use Prim.Native.Nat.{ℕ, ◌+◌, ◌-◌, ◌≤◌, ◌<◌}
-use mathlib.Core.Path.{◌≡◌, sym, ap, ◌∙◌}
-use mathlib.Core.Logic.{⊎_elim}
-use lib.ListN.{length, take, drop, set, length-take, length-set}
+use Prim.Native.Nat.{◌+◌, ◌-◌, ◌≤◌, ◌<◌}
+use mathlib.Core.Path.{◌≡◌}
+use lib.ListN.{length, take, drop}
 use Rattle.state_keys.specs.Limits.{limits}
-use Rattle.lists.proofs.Lists.{length-of-map}
 use Rattle.state_sa.specs.Entry.{sa_before}
-use Rattle.state_table.specs.Table.{sas_of, table_of}
-use Rattle.state_table.specs.declared.Table.{Table}
+use Rattle.state_table.specs.Table.{table_of}
 use Rattle.rules_outcome.specs.After.{insert_all}
-use Rattle.unwrap_sas.specs.inner.Keyed.{new_sas}
-use Rattle.apply.proofs.TableLaws.{none-entered, some-entered, one-entered, enter-made}
-use Rattle.apply.proofs.Turns.{Moving, moving-start, moving-ahead, moving-aside, moving-end}
-use borrow.Author.Rules.{rules}
+use Rattle.apply.proofs.Turns.{Moving}
 use Rattle.apply.proofs.entering.enter_all.Given as goal
 
 abbrev pub invariant-loop-j : goal.invariant-loop-j

@@ -2,7 +2,6 @@ use mathlib.Core.Path.{ap, sym, ◌∙◌}
 use Rattle.wire_frames.specs.declared.exchanges.LeastAfter.{LeastAfter}
 use Rattle.rules_outcome.specs.After.{least_by}
 use Rattle.apply.proofs.NextLaws.{least-new, least_kept}
-use borrow.Author.Rules.{rules}
 use Rattle.apply.proofs.next.least_by.Goals as goal
 
 pub returns-then-x : goal.returns-then-x

@@ -1,6 +1,5 @@
 use Rattle.rules_refusals.specs.Contents.{deletes_of}
 use Rattle.apply.proofs.NextLaws.{gone-is}
-use borrow.Author.Rules.{rules}
 use Rattle.apply.proofs.next.old_sas.Goals as goal
 
 pub keep_standing-stand-requires : goal.keep_standing-stand-requires

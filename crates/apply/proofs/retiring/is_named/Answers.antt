@@ -1,9 +1,7 @@
-use Prim.Native.Nat.{◌-◌}
 use mathlib.Core.Path.{sym, ◌∙◌}
 use Rattle.wire_frames.specs.Delete.{delete_of}
-use Rattle.apply.proofs.RetiringLaws.{other-named, Unnamed, unnamed-start, unnamed-inside, unnamed-end}
+use Rattle.apply.proofs.RetiringLaws.{other-named, unnamed-start, unnamed-inside, unnamed-end}
 use Rattle.apply.proofs.RetiringLaws.{unnamed-zero, unnamed-spi, unnamed-next}
-use borrow.Author.Rules.{rules}
 use Rattle.apply.proofs.retiring.is_named.Goals as goal
 
 pub loop-i-init : goal.loop-i-init

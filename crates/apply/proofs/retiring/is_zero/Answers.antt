@@ -3,11 +3,10 @@ use borrow.Author.Tests.{eq-eqb, ne_eqb}
 use lib.Dec.{eqb}
 use lib.Seq.{take_all}
 use Rattle.lists.proofs.Lists.{all_yes, all-no, all_end}
-use Prim.Native.Nat.{ℕ, ◌≤◌, ◌-◌}
-use mathlib.Core.Path.{◌≡◌, sym, ap, ◌∙◌}
-use lib.ListN.{length, take, drop}
+use Prim.Native.Nat.{ℕ}
+use mathlib.Core.Path.{sym, ap, ◌∙◌}
+use lib.ListN.{length}
 use Rattle.rules_outcome.specs.After.{is_zero}
-use borrow.Author.Rules.{rules}
 use Rattle.apply.proofs.retiring.is_zero.Goals as goal
 
 pub returns-then-x-i-ne0 : goal.returns-then-x-i-ne0

@@ -1,13 +1,7 @@
-use native.Mathlib.Omega.{arith}
-use borrow.Author.Tests.{eq-eqb, ne_eqb}
-use lib.Dec.{eqb}
-use lib.Seq.{take_all}
-use Rattle.lists.proofs.Lists.{all_yes, all-no, all_end}
-use Prim.Native.Nat.{ℕ, ◌≤◌, ◌-◌}
-use mathlib.Core.Path.{◌≡◌, sym, ap, ◌∙◌}
+use Prim.Native.Nat.{◌≤◌, ◌-◌}
+use mathlib.Core.Path.{◌≡◌}
 use lib.ListN.{length, take, drop}
 use Rattle.rules_outcome.specs.After.{is_zero}
-use borrow.Author.Rules.{rules}
 use Rattle.apply.proofs.retiring.is_zero.Given as goal
 
 abbrev pub invariant-loop-i : goal.invariant-loop-i

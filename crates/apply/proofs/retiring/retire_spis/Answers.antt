@@ -1,8 +1,6 @@
 use native.Mathlib.Omega.{arith}
-use Prim.Native.Nat.{◌-◌, ◌≤◌}
 use mathlib.Core.Path.{◌≡◌, refl, ap, sym, subst, ◌∙◌}
 use mathlib.Core.List.{List}
-use mathlib.Core.Bool.{true}
 use mathlib.Core.Logic.{⊎_elim}
 use lib.ListN.{length, length-set}
 use Rattle.state_keys.specs.Limits.{limits}
@@ -12,7 +10,7 @@ use Rattle.state_sa.specs.Entry.{blank_sa}
 use Rattle.state_sa.specs.declared.entry.Sa.{Sa}
 use Rattle.state_table.specs.Table.{retired_if}
 use Rattle.state_table.proofs.Laws.{retired-yes, retired-no}
-use Rattle.wire_frames.specs.Delete.{delete_of, delete_fits}
+use Rattle.wire_frames.specs.Delete.{delete_of}
 use Rattle.apply.specs.inner.Tables.{named_in}
 use Rattle.apply.proofs.RetiringLaws.{there_out, there-made}
 use Rattle.apply.proofs.Turns.{Turned, turned_more, turned_same}

@@ -1,5 +1,4 @@
 use native.Mathlib.Omega.{arith}
-use Prim.Native.Nat.{◌-◌, ◌≤◌}
 use mathlib.Core.Path.{◌≡◌, sym, ◌∙◌, ap}
 use mathlib.Core.Bool.{not}
 use mathlib.Core.Logic.{⊎_elim}
@@ -10,7 +9,7 @@ use Rattle.state_sa.specs.Entry.{blank_sa}
 use Rattle.state_table.specs.Table.{stays, retired_if}
 use Rattle.state_table.proofs.Laws.{table-made}
 use Rattle.apply.specs.inner.Tables.{outdated}
-use Rattle.apply.proofs.Renewed.{Renewed, renewed-start, renewed-no, renewed-yes, renewed-end}
+use Rattle.apply.proofs.Renewed.{renewed-start, renewed-no, renewed-yes, renewed-end}
 use borrow.Author.Rules.{rules}
 use Rattle.apply.proofs.standing.keep_standing.Goals as goal
 

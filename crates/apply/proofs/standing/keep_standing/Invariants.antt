@@ -1,17 +1,11 @@
-use native.Mathlib.Omega.{arith}
 use Prim.Native.Nat.{◌-◌, ◌≤◌}
-use mathlib.Core.Path.{◌≡◌, sym, ◌∙◌, ap}
-use mathlib.Core.Bool.{not}
-use mathlib.Core.Logic.{⊎_elim}
+use mathlib.Core.Path.{◌≡◌}
 use lib.ListN.{length}
 use Rattle.state_keys.specs.Limits.{limits}
-use Rattle.lists.proofs.Lists.{length-of-map}
 use Rattle.state_sa.specs.Entry.{blank_sa}
 use Rattle.state_table.specs.Table.{stays, retired_if}
-use Rattle.state_table.proofs.Laws.{table-made}
 use Rattle.apply.specs.inner.Tables.{outdated}
-use Rattle.apply.proofs.Renewed.{Renewed, renewed-start, renewed-no, renewed-yes, renewed-end}
-use borrow.Author.Rules.{rules}
+use Rattle.apply.proofs.Renewed.{Renewed}
 use Rattle.apply.proofs.standing.keep_standing.Given as goal
 
 abbrev pub invariant-loop-i : goal.invariant-loop-i

@@ -5,7 +5,6 @@ use Rattle.state_sa.specs.declared.entry.Sa.{Sa}
 use Rattle.state_table.specs.Table.{retired_if}
 use Rattle.apply.specs.inner.Tables.{outdated}
 use Rattle.apply.proofs.Renewed.{left-old, left_other, left-all}
-use borrow.Author.Rules.{rules}
 use Rattle.apply.proofs.standing.retire_old.Goals as goal
 
 -- whether there is a new Rekey SA is known

@@ -1,7 +1,6 @@
 use mathlib.Core.Path.{sym, ap, ◌∙◌}
 use mathlib.Core.Bool.{true, false, not}
 use Rattle.check_admission.proofs.Laws.{wants-empty, wants-filled}
-use borrow.Author.Rules.{rules}
 use Rattle.check_admission.proofs.number2.breaks_wanted.Goals as goal
 
 pub returns-then-is_empty : goal.returns-then-is_empty

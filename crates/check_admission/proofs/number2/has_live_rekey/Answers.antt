@@ -1,12 +1,8 @@
 use native.Mathlib.Omega.{arith}
-use Prim.Native.Nat.{◌-◌, ◌≤◌}
 use mathlib.Core.Path.{◌≡◌, sym, refl, ◌∙◌}
-use lib.ListN.{length, take, drop}
+use lib.ListN.{length}
 use Rattle.state_keys.specs.Limits.{limits}
-use Rattle.lists.specs.Lists.{any}
 use Rattle.lists.proofs.Lists.{length-of-map}
-use Rattle.state_table.specs.Table.{not_due}
-use Rattle.rules_refusals.specs.Number2.{over_live_rekey}
 use Rattle.check_admission.proofs.Laws.{over_yes, over_no, over-end}
 use borrow.Author.Rules.{rules}
 use Rattle.check_admission.proofs.number2.has_live_rekey.Goals as goal

@@ -2,7 +2,6 @@ use mathlib.Core.Path.{sym, ap, ◌∙◌}
 use mathlib.Core.Bool.{true, false, not}
 use Rattle.state_keys.specs.Limits.{limits}
 use Rattle.check_admission.proofs.Laws.{barred-exchange, barred-member, barred-spis, barred-not}
-use borrow.Author.Rules.{rules}
 use Rattle.check_admission.proofs.number2.is_barred.Goals as goal
 
 pub returns-else-x : goal.returns-else-x

@@ -1,6 +1,5 @@
 use mathlib.Core.Path.{sym, ◌∙◌}
 use Rattle.check_admission.proofs.Laws.{over-due, over-named, over-not-live}
-use borrow.Author.Rules.{rules}
 use Rattle.check_admission.proofs.number2.is_over.Goals as goal
 
 pub returns-then-due : goal.returns-then-due

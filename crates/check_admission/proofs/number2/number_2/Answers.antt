@@ -3,7 +3,6 @@ use Rattle.state_keys.specs.Limits.{limits}
 use Rattle.wire_frames.specs.declared.exchanges.Exchange.{Exchange}
 use Rattle.check_admission.specs.inner.Steps.{barred}
 use Rattle.check_admission.proofs.Laws.{two_formed, two-broken, formed-count}
-use borrow.Author.Rules.{rules}
 use Rattle.check_admission.proofs.number2.number_2.Goals as goal
 
 pub is_barred-requires : goal.is_barred-requires

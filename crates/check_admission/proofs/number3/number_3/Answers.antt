@@ -2,7 +2,6 @@ use mathlib.Core.Path.{sym, ap, ◌∙◌}
 use mathlib.Core.Bool.{true, false, not}
 use Rattle.wire_frames.specs.declared.exchanges.Exchange.{Exchange}
 use Rattle.check_admission.proofs.Laws.{number3-judged, number3-not}
-use borrow.Author.Rules.{rules}
 use Rattle.check_admission.proofs.number3.number_3.Goals as goal
 
 pub returns-then-accepts : goal.returns-then-accepts

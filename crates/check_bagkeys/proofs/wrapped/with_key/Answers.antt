@@ -1,4 +1,3 @@
-use borrow.Author.Rules.{rules}
 use Rattle.check_bagkeys.proofs.wrapped.with_key.Goals as goal
 
 pub returns : goal.returns

@@ -2,7 +2,6 @@ use native.Mathlib.Omega.{arith}
 use mathlib.Core.Path.{refl}
 use Rattle.wire_attributes.specs.declared.tables.Meaning.TheVariants as meaning
 use Rattle.check_composition.proofs.NumberLaws.{octets-of, number_is}
-use borrow.Author.Rules.{rules}
 use Rattle.check_composition.proofs.numbers.number_of.Goals as goal
 
 pub be32_at-requires : goal.be32_at-requires

@@ -1,9 +1,7 @@
-use native.Mathlib.Omega.{arith}
 use mathlib.Core.Path.{sym, subst, ◌∙◌}
 use Prim.Native.Nat.{ℕ, ◌+◌, ◌≤◌}
 use Rattle.check_composition.specs.inner.Numbers.{greater, most}
 use Rattle.check_composition.proofs.NumberLaws.{greater-most}
-use borrow.Author.Rules.{rules}
 use Rattle.check_composition.proofs.numbers.with_number.Goals as goal
 
 pub returns : goal.returns

@@ -1,8 +1,7 @@
-use mathlib.Core.Path.{◌≡◌, ap, sym, ◌∙◌, subst}
+use mathlib.Core.Path.{ap, ◌∙◌, subst}
 use mathlib.Core.Bool.{◌&&◌}
 use Rattle.state_keys.specs.Limits.{limits}
 use Rattle.wire_frames.specs.declared.exchanges.Exchange.{Exchange}
-use Rattle.wire_readers.specs.inner.Values.{is_whole}
 use Rattle.wire_readers.specs.inner.Policies.{policies_in}
 use Rattle.wire_readers.specs.inner.Bags.{bags_in}
 use Rattle.check_payloads.specs.declared.PayloadFacts.{PayloadFacts}
@@ -13,7 +12,6 @@ use Rattle.check_bagkeys.specs.inner.Facts.{bag_facts_of as bagFacts}
 use Rattle.check_bagkeys.specs.inner.Places.{member_in}
 use Rattle.check_bagkeys.specs.declared.KdFacts.{KdFacts}
 use Rattle.check_judging.specs.inner.Facts.{at}
-use borrow.Author.Rules.{rules}
 use Rattle.check_judging.proofs.facts.facts_of.Statement.{statement}
 use Rattle.check_judging.proofs.facts.facts_of.Tie as tie
 

@@ -1,6 +1,5 @@
 use mathlib.Core.Bool.{◌&&◌, not}
 use mathlib.Core.List.{[], ◌∷◌}
-use borrow.Author.Rules.{rules}
 use Rattle.check_judging.proofs.number5.clauses_5.Goals as goal
 
 pub returns : goal.returns

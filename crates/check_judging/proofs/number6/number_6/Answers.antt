@@ -1,6 +1,5 @@
 use mathlib.Core.Path.{sym, ◌∙◌}
 use Rattle.check_judging.proofs.Tests.{by-list, by_first, by-second, by-third}
-use borrow.Author.Rules.{rules}
 use Rattle.check_judging.proofs.number6.number_6.Goals as goal
 
 pub returns-then-any_unfit_key : goal.returns-then-any_unfit_key

@@ -1,7 +1,6 @@
 use mathlib.Core.List.{[], ◌∷◌}
 use lib.Dec.{ltb}
 use Rattle.state_keys.specs.Limits.{limits}
-use borrow.Author.Rules.{rules}
 use Rattle.check_judging.proofs.number7.clauses_7.Goals as goal
 
 pub returns : goal.returns

@@ -1,4 +1,3 @@
-use mathlib.Core.Path.{◌≡◌, ap}
 use mathlib.Core.Bool.{◌&&◌}
 use Rattle.check_payloads.proofs.FrameLaws.{reads-to}
 use Rattle.check_payloads.proofs.FoundLaws.{OfFrame}

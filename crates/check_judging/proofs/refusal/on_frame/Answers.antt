@@ -1,6 +1,5 @@
 use mathlib.Core.Path.{sym, ◌∙◌}
 use Rattle.check_judging.proofs.VerdictLaws.{as-refused, as_passed}
-use borrow.Author.Rules.{rules}
 use Rattle.check_judging.proofs.refusal.on_frame.Goals as goal
 
 pub facts_of-x-requires : goal.facts_of-x-requires

@@ -7,7 +7,6 @@ use Rattle.check_judging.specs.inner.Facts.{frame_facts_of}
 use Rattle.check_judging.specs.inner.Verdicts.{verdict_by}
 use Rattle.check_judging.proofs.VerdictLaws.{as-refused}
 use Rattle.check_judging.proofs.HeadLaws.{row_is, at-2, at-3, further, few-sas, no_header}
-use borrow.Author.Rules.{rules}
 use Rattle.check_judging.proofs.refusal.refusal.Goals as goal
 
 pub slice_bounds-number_2-end : goal.slice_bounds-number_2-end

@@ -1,5 +1,4 @@
 use Rattle.check_pairing.proofs.OneName.{no_name, named-so, named_other}
-use borrow.Author.Rules.{rules}
 use Rattle.check_pairing.proofs.names.is_named.Goals as goal
 
 pub returns-then-first-eq-NO_PROTOCOL : goal.returns-then-first-eq-NO_PROTOCOL

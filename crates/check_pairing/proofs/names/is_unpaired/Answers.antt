@@ -4,7 +4,6 @@ use mathlib.Core.Bool.{not}
 use lib.Dec.{eqb}
 use Rattle.check_pairing.specs.inner.Names.{is_unpaired}
 use Rattle.check_pairing.proofs.OneName.{no_name, a-name}
-use borrow.Author.Rules.{rules}
 use Rattle.check_pairing.proofs.names.is_unpaired.Goals as goal
 
 pub returns-then-first-eq-NO_PROTOCOL : goal.returns-then-first-eq-NO_PROTOCOL

@@ -1,6 +1,5 @@
 use native.Mathlib.Omega.{arith}
 use Rattle.check_payloads.proofs.DeleteLaws.{least, delete-is}
-use borrow.Author.Rules.{rules}
 use Rattle.check_payloads.proofs.deletion.delete_parts.Goals as goal
 
 pub bounds-o-0 : goal.bounds-o-0

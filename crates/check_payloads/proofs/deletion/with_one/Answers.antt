@@ -1,7 +1,6 @@
 use native.Mathlib.Omega.{arith}
 use mathlib.Core.Logic.{inl, inr, ⊎_elim}
 use Rattle.check_payloads.proofs.DeleteLaws.{with-is}
-use borrow.Author.Rules.{rules}
 use Rattle.check_payloads.proofs.deletion.with_one.Goals as goal
 
 pub overflow_add-result : goal.overflow_add-result

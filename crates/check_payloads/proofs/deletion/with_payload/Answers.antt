@@ -1,7 +1,5 @@
 use native.Mathlib.Omega.{arith}
-use mathlib.Core.Path.{◌∙◌}
 use borrow.Author.Tests.{eq-eqb, ne_eqb}
-use borrow.Author.Rules.{rules}
 use Rattle.check_payloads.proofs.deletion.with_payload.Goals as goal
 
 pub with_one-requires : goal.with_one-requires

@@ -3,7 +3,6 @@ use Rattle.wire_attributes.specs.Layout.{attributes}
 use Rattle.wire_attributes.specs.declared.tables.Place.{Place}
 use Rattle.wire_readers.specs.inner.Values.{is_whole}
 use Rattle.check_suites.proofs.TestLaws.{one-is}
-use borrow.Author.Rules.{rules}
 use Rattle.check_suites.proofs.counts.one_transform.Goals as goal
 
 pub count_of-n-requires : goal.count_of-n-requires

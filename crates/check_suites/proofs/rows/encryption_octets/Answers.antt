@@ -4,7 +4,6 @@ use Rattle.wire_attributes.specs.Layout.{attributes}
 use Rattle.wire_attributes.specs.declared.tables.Place.{Place}
 use Rattle.wire_readers.specs.inner.Values.{is_whole}
 use Rattle.check_suites.proofs.TestLaws.{encryption-type, no-encryption}
-use borrow.Author.Rules.{rules}
 use Rattle.check_suites.proofs.rows.encryption_octets.Goals as goal
 
 pub key_length_octets-requires : goal.key_length_octets-requires

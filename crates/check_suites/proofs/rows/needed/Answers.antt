@@ -1,5 +1,4 @@
 use Rattle.check_suites.proofs.RowLaws.{needs-octets, needs-none}
-use borrow.Author.Rules.{rules}
 use Rattle.check_suites.proofs.rows.needed.Goals as goal
 
 pub returns-in-Octets : goal.returns-in-Octets

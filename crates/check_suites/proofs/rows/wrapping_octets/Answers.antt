@@ -1,6 +1,5 @@
 use native.Mathlib.Omega.{arith}
 use Rattle.check_suites.proofs.TestLaws.{key-wrap-type, no-key-wrap}
-use borrow.Author.Rules.{rules}
 use Rattle.check_suites.proofs.rows.wrapping_octets.Goals as goal
 
 pub returns-then-kind-eq-KWA : goal.returns-then-kind-eq-KWA

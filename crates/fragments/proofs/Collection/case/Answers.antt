@@ -2,7 +2,6 @@ use native.Mathlib.Omega.{arith}
 use mathlib.Core.Path.{sym, ◌∙◌}
 use Rattle.fragments.proofs.FitLaws.{fit_is}
 use Rattle.fragments.proofs.PlaceLaws.{case_same, case-other, case-unfit}
-use borrow.Author.Rules.{rules}
 use Rattle.fragments.proofs.Collection.case.Goals as goal
 
 pub case_within-requires : goal.case_within-requires

@@ -1,6 +1,5 @@
 use borrow.Author.Tests.{le-leb, lt-leb, le-ltb, lt-ltb}
 use Rattle.fragments.specs.Collection.{most_fragments, fit}
-use borrow.Author.Rules.{rules}
 use Rattle.fragments.proofs.Collection.is_fit.Goals as goal
 
 pub returns-then-total-lt2 : goal.returns-then-total-lt2

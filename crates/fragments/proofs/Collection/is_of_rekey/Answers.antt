@@ -1,5 +1,4 @@
 use mathlib.Core.Path.{sym, ◌∙◌}
-use borrow.Author.Rules.{rules}
 use Rattle.fragments.proofs.Collection.is_of_rekey.Goals as goal
 
 pub returns-then-same : goal.returns-then-same

@@ -1,6 +1,5 @@
 use mathlib.Core.Path.{sym, ◌∙◌}
 use borrow.Author.Tests.{eq-eqb, ne_eqb}
-use borrow.Author.Rules.{rules}
 use Rattle.fragments.proofs.Collection.lead.Goals as goal
 
 pub returns-then-f-eq1 : goal.returns-then-f-eq1

@@ -1,11 +1,7 @@
 use native.Mathlib.Omega.{arith}
-use Prim.Native.Nat.{◌-◌, ◌≤◌}
-use mathlib.Core.Path.{◌≡◌, sym, ◌∙◌}
-use lib.ListN.{length, take, drop}
-use Rattle.fragments.specs.Collection.{most_fragments, numbered}
-use Rattle.lists.specs.Lists.{all}
+use mathlib.Core.Path.{sym, ◌∙◌}
+use Rattle.fragments.specs.Collection.{numbered}
 use Rattle.lists.proofs.Lists.{all_yes, all-no, all_end}
-use borrow.Author.Rules.{rules}
 use Rattle.fragments.proofs.counting.are_numbered.Goals as goal
 
 pub returns-else-is_numbered : goal.returns-else-is_numbered

@@ -1,11 +1,8 @@
-use native.Mathlib.Omega.{arith}
 use Prim.Native.Nat.{◌-◌, ◌≤◌}
-use mathlib.Core.Path.{◌≡◌, sym, ◌∙◌}
+use mathlib.Core.Path.{◌≡◌}
 use lib.ListN.{length, take, drop}
 use Rattle.fragments.specs.Collection.{most_fragments, numbered}
 use Rattle.lists.specs.Lists.{all}
-use Rattle.lists.proofs.Lists.{all_yes, all-no, all_end}
-use borrow.Author.Rules.{rules}
 use Rattle.fragments.proofs.counting.are_numbered.Given as goal
 
 abbrev pub invariant-loop-i : goal.invariant-loop-i

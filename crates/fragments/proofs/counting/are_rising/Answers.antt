@@ -1,11 +1,6 @@
 use native.Mathlib.Omega.{arith}
-use Prim.Native.Nat.{◌+◌, ◌-◌, ◌≤◌}
-use mathlib.Core.Path.{◌≡◌, refl, sym, ◌∙◌}
-use lib.ListN.{length, take, drop}
-use Rattle.fragments.specs.Collection.{most_fragments, piece_before}
-use Rattle.lists.specs.Lists.{rising}
+use mathlib.Core.Path.{refl, sym, ◌∙◌}
 use Rattle.fragments.proofs.CountLaws.{numbers-rise, numbers-stop, numbers-end}
-use borrow.Author.Rules.{rules}
 use Rattle.fragments.proofs.counting.are_rising.Goals as goal
 
 pub returns-else-p-q : goal.returns-else-p-q

@@ -1,11 +1,8 @@
-use native.Mathlib.Omega.{arith}
 use Prim.Native.Nat.{◌+◌, ◌-◌, ◌≤◌}
-use mathlib.Core.Path.{◌≡◌, refl, sym, ◌∙◌}
+use mathlib.Core.Path.{◌≡◌}
 use lib.ListN.{length, take, drop}
 use Rattle.fragments.specs.Collection.{most_fragments, piece_before}
 use Rattle.lists.specs.Lists.{rising}
-use Rattle.fragments.proofs.CountLaws.{numbers-rise, numbers-stop, numbers-end}
-use borrow.Author.Rules.{rules}
 use Rattle.fragments.proofs.counting.are_rising.Given as goal
 
 abbrev pub invariant-loop-j : goal.invariant-loop-j

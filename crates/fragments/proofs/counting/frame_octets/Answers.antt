@@ -1,11 +1,5 @@
 use native.Mathlib.Omega.{arith}
-use Prim.Native.Nat.{◌+◌, ◌-◌, ◌≤◌}
-use mathlib.Core.Path.{◌≡◌}
-use lib.ListN.{length, take, drop}
-use Rattle.fragments.specs.Collection.{most_fragments, size_of_all}
-use Rattle.ikev2_numbers.specs.Codes.{header_octets, most_octets}
 use Rattle.fragments.proofs.CountLaws.{frame-more, frame-over, frame-end}
-use borrow.Author.Rules.{rules}
 use Rattle.fragments.proofs.counting.frame_octets.Goals as goal
 
 pub returns-then-octets-p : goal.returns-then-octets-p

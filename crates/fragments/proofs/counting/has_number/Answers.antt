@@ -1,11 +1,6 @@
 use native.Mathlib.Omega.{arith}
-use Prim.Native.Nat.{◌-◌, ◌≤◌}
-use mathlib.Core.Path.{◌≡◌, sym, ◌∙◌}
-use lib.ListN.{length, take, drop}
-use Rattle.fragments.specs.Collection.{most_fragments}
-use Rattle.fragments.specs.inner.Counting.{has_number}
+use mathlib.Core.Path.{sym, ◌∙◌}
 use Rattle.fragments.proofs.CountLaws.{number-here, number-next, number-end}
-use borrow.Author.Rules.{rules}
 use Rattle.fragments.proofs.counting.has_number.Goals as goal
 
 pub returns-then-p-number : goal.returns-then-p-number

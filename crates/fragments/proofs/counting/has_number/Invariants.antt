@@ -1,11 +1,8 @@
-use native.Mathlib.Omega.{arith}
 use Prim.Native.Nat.{◌-◌, ◌≤◌}
-use mathlib.Core.Path.{◌≡◌, sym, ◌∙◌}
+use mathlib.Core.Path.{◌≡◌}
 use lib.ListN.{length, take, drop}
 use Rattle.fragments.specs.Collection.{most_fragments}
 use Rattle.fragments.specs.inner.Counting.{has_number}
-use Rattle.fragments.proofs.CountLaws.{number-here, number-next, number-end}
-use borrow.Author.Rules.{rules}
 use Rattle.fragments.proofs.counting.has_number.Given as goal
 
 abbrev pub invariant-loop-i : goal.invariant-loop-i

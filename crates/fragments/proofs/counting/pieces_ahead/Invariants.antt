@@ -1,11 +1,8 @@
-use native.Mathlib.Omega.{arith}
 use Prim.Native.Nat.{◌+◌, ◌-◌, ◌≤◌}
 use mathlib.Core.Path.{◌≡◌}
 use lib.ListN.{length, take, drop}
 use Rattle.fragments.specs.Collection.{most_fragments}
 use Rattle.fragments.specs.inner.Counting.{ahead_of}
-use Rattle.fragments.proofs.CountLaws.{ahead-here, ahead-next, ahead-end}
-use borrow.Author.Rules.{rules}
 use Rattle.fragments.proofs.counting.pieces_ahead.Given as goal
 
 abbrev pub invariant-loop-i : goal.invariant-loop-i

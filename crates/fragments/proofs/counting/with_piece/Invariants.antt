@@ -1,11 +1,8 @@
-use native.Mathlib.Omega.{arith}
 use Prim.Native.Nat.{◌-◌, ◌≤◌, ◌<◌}
-use mathlib.Core.Path.{◌≡◌, sym, ◌∙◌}
+use mathlib.Core.Path.{◌≡◌}
 use lib.ListN.{length}
 use Rattle.fragments.specs.Collection.{most_fragments, blank_piece, piece_before}
-use mathlib.Core.Logic.{⊎_elim}
-use Rattle.lists.proofs.Place.{Placing, placing-ahead, placing-behind, placing-all}
-use borrow.Author.Rules.{rules}
+use Rattle.lists.proofs.Place.{Placing}
 use Rattle.fragments.proofs.counting.with_piece.Given as goal
 
 abbrev pub invariant-loop-i : goal.invariant-loop-i

@@ -1,7 +1,6 @@
 use mathlib.Core.Path.{sym, ◌∙◌}
 use borrow.Author.Tests.{le-leb, lt-leb}
 use Rattle.ikev2_numbers.specs.Codes.{most_octets}
-use borrow.Author.Rules.{rules}
 use Rattle.fragments.proofs.fitness.are_pieces_fit.Goals as goal
 
 pub returns-else-are_numbered : goal.returns-else-are_numbered

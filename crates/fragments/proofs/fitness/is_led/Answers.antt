@@ -1,7 +1,6 @@
 use mathlib.Core.Path.{sym, ◌∙◌}
 use lib.ListN.{take}
 use Rattle.fragments.proofs.FitTests.{led-yes, led-no}
-use borrow.Author.Rules.{rules}
 use Rattle.fragments.proofs.fitness.is_led.Goals as goal
 
 pub returns-then-has_number : goal.returns-then-has_number

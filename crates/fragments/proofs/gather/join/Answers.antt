@@ -1,5 +1,4 @@
 use Rattle.fragments.proofs.JoinLaws.{joined_is}
-use borrow.Author.Rules.{rules}
 use Rattle.fragments.proofs.gather.join.Goals as goal
 
 pub returns : goal.returns

@@ -2,7 +2,6 @@ use native.Mathlib.Omega.{arith}
 use Prim.Native.Nat.{◌+◌}
 use borrow.Author.Tests.{lt-ltb, le-ltb}
 use Rattle.ikev2_numbers.specs.Codes.{most_octets}
-use borrow.Author.Rules.{rules}
 use Rattle.fragments.proofs.placing.by_size.Goals as goal
 
 pub returns-then-octets-size : goal.returns-then-octets-size

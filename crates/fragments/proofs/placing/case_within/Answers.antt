@@ -1,6 +1,5 @@
 use mathlib.Core.Path.{sym, ◌∙◌}
 use borrow.Author.Tests.{lt-ltb, le-ltb}
-use borrow.Author.Rules.{rules}
 use Rattle.fragments.proofs.placing.case_within.Goals as goal
 
 pub returns-then-own-total : goal.returns-then-own-total

@@ -1,5 +1,4 @@
 use Rattle.fragments.proofs.JoinLaws.{framed_is}
-use borrow.Author.Rules.{rules}
 use Rattle.fragments.proofs.whole.put_frame.Goals as goal
 
 pub returns : goal.returns

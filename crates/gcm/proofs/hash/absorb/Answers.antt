@@ -1,10 +1,8 @@
 use mathlib.Core.Path.{refl, sym, ap, ◌∙◌}
-use Prim.Native.Nat.{◌-◌}
 use native.Mathlib.Omega.{arith}
-use borrow.Author.Rules.{rules}
 use lib.ListN.{length, length-drop}
 use Rattle.gcm.specs.inner.Halves.{pair_number}
-use Rattle.gcm.proofs.HashLaws.{Absorbing, next-block, last_one, none_left, from_start, tail-is}
+use Rattle.gcm.proofs.HashLaws.{next-block, last_one, none_left, from_start, tail-is}
 use Rattle.octets.specs.Numbers.{number}
 use Rattle.gcm.proofs.hash.absorb.Goals as goal
 

@@ -1,11 +1,7 @@
-use mathlib.Core.Path.{refl, sym, ap, ◌∙◌}
 use Prim.Native.Nat.{◌-◌}
-use native.Mathlib.Omega.{arith}
-use borrow.Author.Rules.{rules}
-use lib.ListN.{length, length-drop}
+use lib.ListN.{length}
 use Rattle.gcm.specs.inner.Halves.{pair_number}
-use Rattle.gcm.proofs.HashLaws.{Absorbing, next-block, last_one, none_left, from_start, tail-is}
-use Rattle.octets.specs.Numbers.{number}
+use Rattle.gcm.proofs.HashLaws.{Absorbing}
 use Rattle.gcm.proofs.hash.absorb.Given as goal
 
 abbrev pub invariant-loop-at : goal.invariant-loop-at

@@ -1,4 +1,3 @@
-use borrow.Author.Rules.{rules}
 use Rattle.gcm.specs.inner.Halves.{pair_number}
 use Rattle.gcm.proofs.HashLaws.{block-is}
 use Rattle.gcm.proofs.hash.block_at.Goals as goal

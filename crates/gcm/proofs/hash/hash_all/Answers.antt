@@ -1,4 +1,3 @@
-use borrow.Author.Rules.{rules}
 use Rattle.gcm.specs.inner.Halves.{pair_number}
 use Rattle.gcm.proofs.JoinLaws.{hash-joined}
 use Rattle.gcm.proofs.hash.hash_all.Goals as goal

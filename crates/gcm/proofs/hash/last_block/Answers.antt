@@ -1,5 +1,4 @@
 use mathlib.Core.Path.{◌∙◌}
-use borrow.Author.Rules.{rules}
 use Rattle.gcm.proofs.HashLaws.{last-is}
 use Rattle.gcm.proofs.hash.last_block.Goals as goal
 

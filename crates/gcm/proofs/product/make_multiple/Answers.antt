@@ -1,4 +1,3 @@
-use borrow.Author.Rules.{rules}
 use Rattle.gcm.specs.inner.Halves.{pair_number}
 use Rattle.gcm.proofs.MultipleLaws.{multiple-is}
 use Rattle.gcm.proofs.product.make_multiple.Goals as goal

@@ -1,8 +1,7 @@
 use mathlib.Core.Path.{refl}
-use Prim.Native.Nat.{◌-◌}
 use native.Mathlib.Omega.{arith}
 use Rattle.gcm.specs.inner.Halves.{pair_number}
-use Rattle.gcm.proofs.MultipleLaws.{MultiplesUpTo, filled, filled-all}
+use Rattle.gcm.proofs.MultipleLaws.{filled, filled-all}
 use Rattle.gcm.proofs.product.make_multiples.Goals as goal
 
 -- `gcm::product::make_multiples` meets its contract.

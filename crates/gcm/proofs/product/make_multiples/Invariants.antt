@@ -1,8 +1,6 @@
-use mathlib.Core.Path.{refl}
 use Prim.Native.Nat.{◌-◌}
-use native.Mathlib.Omega.{arith}
 use Rattle.gcm.specs.inner.Halves.{pair_number}
-use Rattle.gcm.proofs.MultipleLaws.{MultiplesUpTo, filled, filled-all}
+use Rattle.gcm.proofs.MultipleLaws.{MultiplesUpTo}
 use Rattle.gcm.proofs.product.make_multiples.Given as goal
 
 abbrev pub invariant-loop-d : goal.invariant-loop-d

@@ -5,7 +5,7 @@ use lib.Bits.{bit_xor}
 use Rattle.sp800_38d.specs.Product.{v_at}
 use Rattle.gcm.specs.inner.Halves.{pair_number}
 use Rattle.gcm.specs.inner.Multiples.{multiple_of}
-use Rattle.gcm.proofs.MultipleLaws.{Multiplying, next-digit, all_digits, no_bits}
+use Rattle.gcm.proofs.MultipleLaws.{next-digit, all_digits, no_bits}
 use Rattle.gcm.proofs.product.multiply.Goals as goal
 
 -- `gcm::product::multiply` meets its contract.

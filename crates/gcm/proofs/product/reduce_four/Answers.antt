@@ -1,4 +1,3 @@
-use borrow.Author.Rules.{rules}
 use Rattle.gcm.proofs.DigitLaws.{fallen-is, fallen-small}
 use Rattle.gcm.proofs.product.reduce_four.Goals as goal
 

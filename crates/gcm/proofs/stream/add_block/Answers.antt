@@ -1,8 +1,8 @@
 use mathlib.Core.Path.{refl, subst}
-use Prim.Native.Nat.{ℕ, ◌-◌}
+use Prim.Native.Nat.{ℕ}
 use native.Mathlib.Omega.{arith}
 use Rattle.gcm.specs.inner.Puts.{masked, PutsOctets}
-use Rattle.gcm.proofs.StreamLaws.{Adding, nothing_put, one-put}
+use Rattle.gcm.proofs.StreamLaws.{nothing_put, one-put}
 use Rattle.gcm.proofs.stream.add_block.Goals as goal
 
 -- `gcm::stream::add_block` meets its contract.

@@ -1,8 +1,5 @@
-use mathlib.Core.Path.{refl, subst}
-use Prim.Native.Nat.{ℕ, ◌-◌}
-use native.Mathlib.Omega.{arith}
-use Rattle.gcm.specs.inner.Puts.{masked, PutsOctets}
-use Rattle.gcm.proofs.StreamLaws.{Adding, nothing_put, one-put}
+use Prim.Native.Nat.{◌-◌}
+use Rattle.gcm.proofs.StreamLaws.{Adding}
 use Rattle.gcm.proofs.stream.add_block.Given as goal
 
 abbrev pub invariant-loop-i : goal.invariant-loop-i

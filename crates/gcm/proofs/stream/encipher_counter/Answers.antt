@@ -1,4 +1,3 @@
-use borrow.Author.Rules.{rules}
 use mathlib.Core.Path.{refl, ap, ◌∙◌}
 use Rattle.fips197.specs.Cipher.{cipher}
 use Rattle.gcm.proofs.StreamLaws.{block_made}

@@ -1,9 +1,6 @@
 use mathlib.Core.Path.{refl, ◌∙◌}
-use Prim.Native.Nat.{◌-◌}
 use native.Mathlib.Omega.{arith}
-use borrow.Author.Rules.{rules}
-use lib.ListN.{length}
-use Rattle.gcm.proofs.StreamLaws.{Streaming, none-put, more-put, all-put}
+use Rattle.gcm.proofs.StreamLaws.{none-put, more-put, all-put}
 use Rattle.gcm.proofs.stream.gctr_in.Goals as goal
 
 -- `gcm::stream::gctr_in` meets its contract.

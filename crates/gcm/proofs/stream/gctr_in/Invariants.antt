@@ -1,9 +1,6 @@
-use mathlib.Core.Path.{refl, ◌∙◌}
 use Prim.Native.Nat.{◌-◌}
-use native.Mathlib.Omega.{arith}
-use borrow.Author.Rules.{rules}
 use lib.ListN.{length}
-use Rattle.gcm.proofs.StreamLaws.{Streaming, none-put, more-put, all-put}
+use Rattle.gcm.proofs.StreamLaws.{Streaming}
 use Rattle.gcm.proofs.stream.gctr_in.Given as goal
 
 abbrev pub invariant-loop-at : goal.invariant-loop-at

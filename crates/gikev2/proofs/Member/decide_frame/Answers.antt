@@ -1,5 +1,4 @@
 use Rattle.gikev2.proofs.ReceiveLaws.{judged-numbered, judged-as}
-use borrow.Author.Rules.{rules}
 use Rattle.gikev2.proofs.Member.decide_frame.Goals as goal
 
 pub make_received-requires : goal.make_received-requires

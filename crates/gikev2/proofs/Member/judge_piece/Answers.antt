@@ -1,5 +1,3 @@
-use borrow.Author.Rules.{rules}
-use mathlib.Core.Path.{◌≡◌, refl, sym, ◌∙◌}
 use native.Mathlib.Omega.{arith}
 use Rattle.octets.specs.Octets.{Octets}
 use Rattle.gikev2.proofs.GatheringLaws.{given-as, long-enough, is-replayed, is-too-many, counts-one, is-passed, is-too-long}

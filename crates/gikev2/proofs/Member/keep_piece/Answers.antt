@@ -1,6 +1,4 @@
-use borrow.Author.Rules.{rules}
-use mathlib.Core.Path.{◌≡◌, refl, sym, ◌∙◌}
-use native.Mathlib.Omega.{arith}
+use mathlib.Core.Path.{sym, ◌∙◌}
 use Rattle.octets.specs.Octets.{Octets}
 use Rattle.gikev2.proofs.GatheringLaws.{together, is-together, to-complete, is-whole, is-kept}
 use Rattle.gikev2.proofs.Member.keep_piece.Goals as goal

@@ -1,5 +1,4 @@
 use Rattle.gikev2.specs.Member.{member_with, left_member}
-use borrow.Author.Rules.{rules}
 use Rattle.gikev2.proofs.Member.leave.Goals as goal
 
 pub returns : goal.returns

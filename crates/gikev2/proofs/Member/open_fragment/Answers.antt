@@ -1,6 +1,4 @@
-use borrow.Author.Rules.{rules}
-use mathlib.Core.Path.{◌≡◌, refl, sym, ◌∙◌}
-use native.Mathlib.Omega.{arith}
+use mathlib.Core.Path.{refl}
 use Rattle.octets.specs.Octets.{Octets}
 use Rattle.gikev2.proofs.GatheringLaws.{given-as, not_opened, opened}
 use Rattle.state_keys.specs.Limits.{limits}

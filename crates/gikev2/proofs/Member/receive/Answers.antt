@@ -1,5 +1,4 @@
 use Rattle.gikev2.proofs.ReceiveLaws.{whole-tree, no-tree, receives-broken, receives-tree}
-use borrow.Author.Rules.{rules}
 use Rattle.gikev2.proofs.Member.receive.Goals as goal
 
 pub judge-requires : goal.judge-requires

@@ -1,7 +1,4 @@
-use borrow.Author.Rules.{rules}
-use mathlib.Core.Path.{◌≡◌, sym, ◌∙◌}
-use mathlib.Core.Bool.{true}
-use native.Mathlib.Omega.{arith}
+use mathlib.Core.Path.{sym, ◌∙◌}
 use Rattle.octets.specs.Octets.{Octets}
 use Rattle.rfc5282.proofs.OuterLaws.{outer-is}
 use Rattle.gikev2.specs.declared.call.Answer.TheVariants as answer

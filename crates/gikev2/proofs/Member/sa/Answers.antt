@@ -1,7 +1,6 @@
 use mathlib.Core.Path.{refl, ◌∙◌, ap}
 use Rattle.gikev2.specs.Member.{answered, sa_answer, no_answer}
 use Rattle.gikev2.proofs.Laws.{answered-yes, answered-no}
-use borrow.Author.Rules.{rules}
 use Rattle.gikev2.proofs.Member.sa.Goals as goal
 
 pub returns-then-f : goal.returns-then-f

@@ -1,7 +1,6 @@
 use mathlib.Core.Path.{ap}
 use Rattle.state.specs.declared.State.{State}
 use Rattle.gikev2.specs.Member.{swept_member}
-use borrow.Author.Rules.{rules}
 use Rattle.gikev2.proofs.Member.sweep.Goals as goal
 
 pub returns : goal.returns

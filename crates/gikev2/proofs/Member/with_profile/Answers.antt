@@ -1,7 +1,6 @@
 use mathlib.Core.Path.{ap}
 use Rattle.state.specs.declared.State.{State}
 use Rattle.gikev2.specs.Member.{member_with}
-use borrow.Author.Rules.{rules}
 use Rattle.gikev2.proofs.Member.with_profile.Goals as goal
 
 pub returns : goal.returns

@@ -1,5 +1,4 @@
 use Rattle.gikev2.proofs.ReceiveLaws.{is-number9}
-use borrow.Author.Rules.{rules}
 use Rattle.gikev2.proofs.call.answer_of.Goals as goal
 
 pub returns-in_default : goal.returns-in_default

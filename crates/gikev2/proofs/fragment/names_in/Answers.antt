@@ -1,4 +1,3 @@
-use borrow.Author.Rules.{rules}
 use Rattle.gikev2.proofs.FragmentLaws.{names-made}
 use Rattle.gikev2.proofs.fragment.names_in.Goals as goal
 

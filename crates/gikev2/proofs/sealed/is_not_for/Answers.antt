@@ -1,5 +1,4 @@
-use borrow.Author.Rules.{rules}
-use mathlib.Core.Path.{sym, ◌∙◌}
+use mathlib.Core.Path.{◌∙◌}
 use Rattle.wire_frames.specs.Header.{header_of}
 use Rattle.gikev2.proofs.SealedLaws.{other-exchange, rekey-exchange}
 use Rattle.gikev2.proofs.sealed.is_not_for.Goals as goal

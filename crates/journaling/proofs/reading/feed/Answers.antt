@@ -11,14 +11,11 @@ use Rattle.journaling.proofs.reading.feed.Goals as goal
 pub returns-then-p : goal.returns-then-p
 returns-then-p c = had-stopped c.if-p.true refl
 
-pub slice_bounds-read_block-end : goal.slice_bounds-read_block-end
-slice_bounds-read_block-end c = search rules
-
 pub read_block-place-requires : goal.read_block-place-requires
 read_block-place-requires c =
     let s = c.args.r in
     let w = c.within in
-    let long : length s.line ≡ longest_digits + 1 = sym (slice_bounds-read_block-end c.before) in
+    let long : length s.line ≡ longest_digits + 1 = omega arith in
     let few : w.result ≤ length s.line = omega (arith, w.ensures, long) in
     record { keeps = long; begun = few; room-long = omega arith }
 

@@ -6,7 +6,7 @@ use Rattle.journaling.proofs.reading.finish.Goals as goal
 
 pub returns-then-p : goal.returns-then-p
 returns-then-p c = gives-stopped c.args.r c.wrapping_add_usize-line.result c.if-p.true
-    c.wrapping_add_usize-line.ensures
+    c.wrapping_add_usize-line.ensures.value
 
 pub returns : goal.returns
 returns c = gives_whole c.args.r c.if-p.false

@@ -9,7 +9,7 @@ returns-then-t c =
     let s = c.args in
     let r = c.take_line-t.result in
     ended-taken s.p s.line.now s.next s.end r.member r.taken c.wrapping_add_usize-taken.result c.if-t.true
-    c.take_line-t.ensures c.wrapping_add_usize-taken.ensures
+    c.take_line-t.ensures c.wrapping_add_usize-taken.ensures.value
 
 pub returns : goal.returns
 returns c =

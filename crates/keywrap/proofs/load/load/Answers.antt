@@ -1,10 +1,7 @@
-use borrow.Author.Rules.{rules}
 use mathlib.Core.Path.{refl, sym, ◌∙◌}
-use Prim.Native.Nat.{ℕ, ◌*◌, ◌-◌}
 use native.Mathlib.Omega.{arith}
-use lib.ListN.{length, drop}
-use Rattle.octets.specs.Numbers.{number}
-use Rattle.octets.proofs.Fill.{StoredUpTo, none, more, all}
+use lib.ListN.{length}
+use Rattle.octets.proofs.Fill.{none, more, all}
 use Rattle.rfc5649.proofs.Registers.{registers-gen}
 use Rattle.keywrap.proofs.load.load.Goals as goal
 

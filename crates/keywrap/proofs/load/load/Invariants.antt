@@ -1,11 +1,7 @@
-use borrow.Author.Rules.{rules}
-use mathlib.Core.Path.{refl, sym, ◌∙◌}
 use Prim.Native.Nat.{ℕ, ◌*◌, ◌-◌}
-use native.Mathlib.Omega.{arith}
 use lib.ListN.{length, drop}
 use Rattle.octets.specs.Numbers.{number}
-use Rattle.octets.proofs.Fill.{StoredUpTo, none, more, all}
-use Rattle.rfc5649.proofs.Registers.{registers-gen}
+use Rattle.octets.proofs.Fill.{StoredUpTo}
 use Rattle.keywrap.proofs.load.load.Given as goal
 
 abbrev pub invariant-loop-i : goal.invariant-loop-i

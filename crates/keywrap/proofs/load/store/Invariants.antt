@@ -1,13 +1,8 @@
-use borrow.Author.Rules.{rules}
-use mathlib.Core.Path.{◌≡◌, refl, ap, ◌∙◌}
-use Prim.Native.Nat.{ℕ, ◌-◌, ◌≤◌}
-use native.Mathlib.Omega.{arith}
+use mathlib.Core.Path.{◌≡◌}
+use Prim.Native.Nat.{◌-◌, ◌≤◌}
 use lib.ListN.{length, take}
 use Rattle.rfc5649.specs.Wrap.{register_octets}
 use Rattle.keywrap.specs.Answers.{written}
-use mathlib.Core.List.{List}
-use lib.Seq.{take_all}
-use Rattle.keywrap.proofs.Loading.{stored-turn}
 use Rattle.keywrap.proofs.load.store.Given as goal
 
 abbrev pub invariant-loop-i : goal.invariant-loop-i

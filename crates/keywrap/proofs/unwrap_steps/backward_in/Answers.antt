@@ -1,4 +1,3 @@
-use borrow.Author.Rules.{rules}
 use Rattle.keywrap.proofs.Turns.{backward-one, backward-more}
 use Rattle.keywrap.proofs.unwrap_steps.backward_in.Goals as goal
 

@@ -1,10 +1,7 @@
 use borrow.Author.Rules.{rules}
 use mathlib.Core.Path.{◌≡◌, refl, ap, ◌∙◌}
-use mathlib.Core.List.{List}
-use Prim.Native.Nat.{ℕ, ◌-◌, ◌≤◌}
+use Prim.Native.Nat.{ℕ}
 use native.Mathlib.Omega.{arith}
-use lib.ListN.{length}
-use Rattle.aes.specs.inner.Schedule.{ExpandsInverse}
 use Rattle.rfc5649.specs.inner.Unwrap.{unrow}
 use Rattle.keywrap.proofs.Turns.{unrow-turn}
 use Rattle.keywrap.proofs.unwrap_steps.unrow_in.Goals as goal

@@ -1,12 +1,9 @@
-use borrow.Author.Rules.{rules}
-use mathlib.Core.Path.{◌≡◌, refl, ap, ◌∙◌}
+use mathlib.Core.Path.{◌≡◌}
 use mathlib.Core.List.{List}
-use Prim.Native.Nat.{ℕ, ◌-◌, ◌≤◌}
-use native.Mathlib.Omega.{arith}
+use Prim.Native.Nat.{ℕ, ◌≤◌}
 use lib.ListN.{length}
 use Rattle.aes.specs.inner.Schedule.{ExpandsInverse}
 use Rattle.rfc5649.specs.inner.Unwrap.{unrow}
-use Rattle.keywrap.proofs.Turns.{unrow-turn}
 use Rattle.keywrap.proofs.unwrap_steps.unrow_in.Given as goal
 
 abbrev pub invariant-loop-i : goal.invariant-loop-i

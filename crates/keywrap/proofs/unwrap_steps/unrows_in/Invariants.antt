@@ -1,12 +1,9 @@
-use borrow.Author.Rules.{rules}
-use mathlib.Core.Path.{◌≡◌, refl, ap, ◌∙◌}
+use mathlib.Core.Path.{◌≡◌}
 use mathlib.Core.List.{List}
-use Prim.Native.Nat.{ℕ, ◌-◌, ◌≤◌}
-use native.Mathlib.Omega.{arith}
+use Prim.Native.Nat.{ℕ, ◌≤◌}
 use lib.ListN.{length}
 use Rattle.aes.specs.inner.Schedule.{ExpandsInverse}
 use Rattle.rfc5649.specs.inner.Unwrap.{unrows}
-use Rattle.keywrap.proofs.Turns.{unrows-turn, base-small}
 use Rattle.keywrap.proofs.unwrap_steps.unrows_in.Given as goal
 
 abbrev pub invariant-loop-j : goal.invariant-loop-j

@@ -1,4 +1,3 @@
-use borrow.Author.Rules.{rules}
 use borrow.Author.Tests.{eq-eqb, ne_eqb}
 use Rattle.rfc5649.specs.inner.Unwrap.{count_in}
 use Rattle.keywrap.proofs.verify.count_in.Goals as goal

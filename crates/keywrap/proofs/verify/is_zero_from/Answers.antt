@@ -1,8 +1,5 @@
-use mathlib.Core.Path.{◌≡◌, refl, sym, ◌∙◌}
-use Prim.Native.Nat.{◌-◌}
+use mathlib.Core.Path.{refl, sym, ◌∙◌}
 use native.Mathlib.Omega.{arith}
-use lib.ListN.{length}
-use Rattle.rfc5649.specs.inner.Unwrap.{zero_from}
 use Rattle.rfc5649.proofs.Checks.{zero-next, zero-not, zero-end}
 use Rattle.keywrap.proofs.verify.is_zero_from.Goals as goal
 

@@ -1,9 +1,7 @@
-use mathlib.Core.Path.{◌≡◌, refl, sym, ◌∙◌}
+use mathlib.Core.Path.{◌≡◌}
 use Prim.Native.Nat.{◌-◌}
-use native.Mathlib.Omega.{arith}
 use lib.ListN.{length}
 use Rattle.rfc5649.specs.inner.Unwrap.{zero_from}
-use Rattle.rfc5649.proofs.Checks.{zero-next, zero-not, zero-end}
 use Rattle.keywrap.proofs.verify.is_zero_from.Given as goal
 
 abbrev pub invariant-loop-i : goal.invariant-loop-i

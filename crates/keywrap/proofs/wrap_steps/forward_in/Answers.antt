@@ -1,4 +1,3 @@
-use borrow.Author.Rules.{rules}
 use Rattle.keywrap.proofs.Turns.{forward-one, forward-more}
 use Rattle.keywrap.proofs.wrap_steps.forward_in.Goals as goal
 

@@ -1,12 +1,9 @@
-use borrow.Author.Rules.{rules}
-use mathlib.Core.Path.{◌≡◌, refl, ap, ◌∙◌}
+use mathlib.Core.Path.{◌≡◌}
 use mathlib.Core.List.{List}
 use Prim.Native.Nat.{ℕ, ◌-◌, ◌≤◌}
-use native.Mathlib.Omega.{arith}
 use lib.ListN.{length}
 use Rattle.aes.specs.inner.Schedule.{Expands}
 use Rattle.rfc5649.specs.Steps.{row}
-use Rattle.keywrap.proofs.Turns.{row-turn}
 use Rattle.keywrap.proofs.wrap_steps.row_in.Given as goal
 
 abbrev pub invariant-loop-i : goal.invariant-loop-i

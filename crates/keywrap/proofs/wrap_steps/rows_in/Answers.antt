@@ -1,10 +1,7 @@
 use borrow.Author.Rules.{rules}
 use mathlib.Core.Path.{◌≡◌, refl, ap, ◌∙◌}
-use mathlib.Core.List.{List}
-use Prim.Native.Nat.{ℕ, ◌-◌, ◌≤◌}
+use Prim.Native.Nat.{ℕ}
 use native.Mathlib.Omega.{arith}
-use lib.ListN.{length}
-use Rattle.aes.specs.inner.Schedule.{Expands}
 use Rattle.rfc5649.specs.Steps.{rows}
 use Rattle.keywrap.proofs.Turns.{rows-turn, base-small}
 use Rattle.keywrap.proofs.wrap_steps.rows_in.Goals as goal

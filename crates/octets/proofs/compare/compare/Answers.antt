@@ -1,10 +1,6 @@
 use native.Mathlib.Omega.{arith}
-use Prim.Native.Nat.{◌≤◌, ◌-◌}
-use mathlib.Core.Path.{◌≡◌, sym, ◌∙◌}
-use lib.ListN.{length, drop}
-use Rattle.octets.specs.Compare.{order_of}
+use mathlib.Core.Path.{sym, ◌∙◌}
 use Rattle.octets.proofs.Order.{order-less, order-greater, order-next, order-longer, order-shorter, order-end}
-use borrow.Author.Rules.{rules}
 use Rattle.octets.proofs.compare.compare.Goals as goal
 
 pub returns-then-b-i : goal.returns-then-b-i

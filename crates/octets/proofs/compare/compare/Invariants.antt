@@ -1,10 +1,7 @@
-use native.Mathlib.Omega.{arith}
 use Prim.Native.Nat.{◌≤◌, ◌-◌}
-use mathlib.Core.Path.{◌≡◌, sym, ◌∙◌}
+use mathlib.Core.Path.{◌≡◌}
 use lib.ListN.{length, drop}
 use Rattle.octets.specs.Compare.{order_of}
-use Rattle.octets.proofs.Order.{order-less, order-greater, order-next, order-longer, order-shorter, order-end}
-use borrow.Author.Rules.{rules}
 use Rattle.octets.proofs.compare.compare.Given as goal
 
 abbrev pub invariant-loop-i : goal.invariant-loop-i

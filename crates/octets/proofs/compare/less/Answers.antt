@@ -1,6 +1,5 @@
 use mathlib.Core.Path.{sym, ap, ◌∙◌}
 use Rattle.octets.specs.Compare.{is_less, less}
-use borrow.Author.Rules.{rules}
 use Rattle.octets.proofs.compare.less.Goals as goal
 
 pub returns-in-Less : goal.returns-in-Less

@@ -1,6 +1,5 @@
 use mathlib.Core.Path.{sym, ap, ◌∙◌}
 use Rattle.octets.specs.Compare.{is_equal, same}
-use borrow.Author.Rules.{rules}
 use Rattle.octets.proofs.compare.same.Goals as goal
 
 pub returns-in-Less : goal.returns-in-Less

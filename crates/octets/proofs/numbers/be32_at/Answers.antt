@@ -1,4 +1,3 @@
-use borrow.Author.Rules.{rules}
 use native.Mathlib.Omega.{arith}
 use Rattle.octets.proofs.Numerals.{be32-is}
 use Rattle.octets.proofs.numbers.be32_at.Goals as goal

@@ -1,5 +1,4 @@
 use Rattle.octets.proofs.Numerals.{too_few, too_small, size_fits}
-use borrow.Author.Rules.{rules}
 use Rattle.octets.proofs.numbers.is_sized.Goals as goal
 
 pub returns-then-s-lt4 : goal.returns-then-s-lt4

@@ -1,4 +1,3 @@
-use borrow.Author.Rules.{rules}
 use Rattle.octets.proofs.RoundTrip.{number-eight}
 use Rattle.octets.proofs.registers.be64_at.Goals as goal
 

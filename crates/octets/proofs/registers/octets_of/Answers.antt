@@ -1,4 +1,3 @@
-use borrow.Author.Rules.{rules}
 use mathlib.Core.Path.{refl}
 use Rattle.octets.specs.Numbers.{octets_of}
 use Rattle.octets.proofs.registers.octets_of.Goals as goal

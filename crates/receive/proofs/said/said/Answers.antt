@@ -1,6 +1,5 @@
 use native.Mathlib.Omega.{arith}
 use lib.Dec.{ltb}
-use borrow.Author.Rules.{rules}
 use Rattle.receive.proofs.said.said.Goals as goal
 
 pub be32_at-id-requires : goal.be32_at-id-requires

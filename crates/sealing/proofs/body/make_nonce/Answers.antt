@@ -1,4 +1,3 @@
-use borrow.Author.Rules.{rules}
 use Rattle.sealing.proofs.CopyLaws.{nonce-made}
 use Rattle.sealing.proofs.body.make_nonce.Goals as goal
 

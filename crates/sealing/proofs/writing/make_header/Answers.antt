@@ -1,4 +1,3 @@
-use borrow.Author.Rules.{rules}
 use native.Mathlib.Omega.{arith}
 use Rattle.sealing.proofs.CopyLaws.{header_made}
 use Rattle.sealing.proofs.writing.make_header.Goals as goal

@@ -1,4 +1,3 @@
-use borrow.Author.Rules.{rules}
 use native.Mathlib.Omega.{arith}
 use Rattle.sealing.proofs.CopyLaws.{opened-put}
 use Rattle.sealing.proofs.writing.write_opened.Goals as goal

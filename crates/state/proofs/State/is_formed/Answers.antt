@@ -1,7 +1,6 @@
 use mathlib.Core.Path.{sym, ◌∙◌}
 use Rattle.state_keys.specs.Limits.{limits}
 use Rattle.state.proofs.Laws.{formed-parts, formed-not}
-use borrow.Author.Rules.{rules}
 use Rattle.state.proofs.State.is_formed.Goals as goal
 
 pub returns-then-is_formed : goal.returns-then-is_formed

@@ -1,7 +1,6 @@
 use mathlib.Core.Path.{sym, ◌∙◌}
 use Rattle.state_keys.specs.Limits.{limits}
 use Rattle.state.proofs.Laws.{swept-yes, swept-no}
-use borrow.Author.Rules.{rules}
 use Rattle.state.proofs.State.sweep.Goals as goal
 
 pub returns-then-is_formed : goal.returns-then-is_formed

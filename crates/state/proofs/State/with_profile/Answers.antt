@@ -1,6 +1,5 @@
 use Rattle.state.specs.declared.least.Least.TheVariants.{Id}
 use Rattle.state.specs.State.{new_state}
-use borrow.Author.Rules.{rules}
 use Rattle.state.proofs.State.with_profile.Goals as goal
 
 pub returns : goal.returns

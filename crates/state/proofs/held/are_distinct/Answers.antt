@@ -1,10 +1,6 @@
 use native.Mathlib.Omega.{arith}
-use Prim.Native.Nat.{◌-◌, ◌≤◌}
-use mathlib.Core.Path.{◌≡◌, refl, sym, ◌∙◌}
-use lib.ListN.{length, take, drop}
-use Rattle.state.specs.Held.{distinct}
+use mathlib.Core.Path.{refl, sym, ◌∙◌}
 use Rattle.state.proofs.Laws.{distinct-yes, distinct-no, distinct-end}
-use borrow.Author.Rules.{rules}
 use Rattle.state.proofs.held.are_distinct.Goals as goal
 
 pub loop-i-init : goal.loop-i-init

@@ -1,10 +1,7 @@
-use native.Mathlib.Omega.{arith}
 use Prim.Native.Nat.{◌-◌, ◌≤◌}
-use mathlib.Core.Path.{◌≡◌, refl, sym, ◌∙◌}
+use mathlib.Core.Path.{◌≡◌}
 use lib.ListN.{length, take, drop}
 use Rattle.state.specs.Held.{distinct}
-use Rattle.state.proofs.Laws.{distinct-yes, distinct-no, distinct-end}
-use borrow.Author.Rules.{rules}
 use Rattle.state.proofs.held.are_distinct.Given as goal
 
 abbrev pub invariant-loop-i : goal.invariant-loop-i

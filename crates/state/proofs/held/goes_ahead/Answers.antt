@@ -1,4 +1,3 @@
-use borrow.Author.Rules.{rules}
 use Rattle.state.proofs.held.goes_ahead.Goals as goal
 
 pub returns : goal.returns

@@ -1,11 +1,7 @@
-use native.Mathlib.Omega.{arith}
 use Prim.Native.Nat.{◌-◌, ◌≤◌}
-use mathlib.Core.Path.{◌≡◌, refl, ap, sym, ◌∙◌}
-use mathlib.Core.Bool.{not}
+use mathlib.Core.Path.{◌≡◌}
 use lib.ListN.{length, take, drop}
 use Rattle.state.specs.Held.{has}
-use Rattle.state.proofs.Laws.{has_here, has-next, has_end}
-use borrow.Author.Rules.{rules}
 use Rattle.state.proofs.held.is_absent.Given as goal
 
 abbrev pub invariant-loop-i : goal.invariant-loop-i

@@ -1,10 +1,7 @@
-use native.Mathlib.Omega.{arith}
 use Prim.Native.Nat.{◌≤◌, ◌-◌}
-use mathlib.Core.Path.{◌≡◌, sym, refl, ◌∙◌}
+use mathlib.Core.Path.{◌≡◌}
 use lib.ListN.{drop}
-use Rattle.state_keys.specs.Algorithms.{algorithms, needed_in, needed_by}
-use Rattle.state_keys.proofs.Sizes.{needed_here, needed-next, needed-end, blank_row}
-use borrow.Author.Rules.{rules}
+use Rattle.state_keys.specs.Algorithms.{algorithms, needed_in}
 use Rattle.state_keys.proofs.algorithms.octets_needed.Given as goal
 
 abbrev pub invariant-loop-i : goal.invariant-loop-i

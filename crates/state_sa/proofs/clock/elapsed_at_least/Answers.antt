@@ -1,4 +1,4 @@
-use Rattle.std.proofs.Common.{arith, rules}
+use Rattle.std.proofs.Common.{arith}
 use Rattle.state_sa.proofs.Laws.{elapsed-is}
 use Rattle.state_sa.proofs.clock.elapsed_at_least.Goals as goal
 

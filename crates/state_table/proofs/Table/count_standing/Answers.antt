@@ -1,11 +1,9 @@
 use native.Mathlib.Omega.{arith}
-use Prim.Native.Nat.{◌+◌, ◌-◌, ◌≤◌}
 use mathlib.Core.Path.{◌≡◌, ap, sym, ◌∙◌}
 use mathlib.Core.Bool.{not}
 use mathlib.Core.Logic.{⊎_elim}
-use lib.ListN.{length, take, drop}
+use lib.ListN.{length}
 use Rattle.state_keys.specs.Limits.{limits}
-use Rattle.lists.specs.Lists.{count}
 use Rattle.lists.proofs.Lists.{length-of-map, count_yes, count_no, count-end}
 use Rattle.state_table.specs.Table.{stays}
 use Rattle.state_table.proofs.Laws.{standing-in, standing-out}

@@ -1,15 +1,9 @@
-use native.Mathlib.Omega.{arith}
 use Prim.Native.Nat.{◌+◌, ◌-◌, ◌≤◌}
-use mathlib.Core.Path.{◌≡◌, ap, sym, ◌∙◌}
-use mathlib.Core.Bool.{not}
-use mathlib.Core.Logic.{⊎_elim}
+use mathlib.Core.Path.{◌≡◌}
 use lib.ListN.{length, take, drop}
 use Rattle.state_keys.specs.Limits.{limits}
 use Rattle.lists.specs.Lists.{count}
-use Rattle.lists.proofs.Lists.{length-of-map, count_yes, count_no, count-end}
 use Rattle.state_table.specs.Table.{stays}
-use Rattle.state_table.proofs.Laws.{standing-in, standing-out}
-use borrow.Author.Rules.{rules}
 use Rattle.state_table.proofs.Table.count_standing.Given as goal
 
 abbrev pub invariant-loop-i : goal.invariant-loop-i

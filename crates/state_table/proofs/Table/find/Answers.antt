@@ -1,12 +1,9 @@
-use native.Mathlib.Omega.{arith}
-use Prim.Native.Nat.{◌-◌}
 use mathlib.Core.Path.{◌≡◌, sym, ◌∙◌}
 use lib.ListN.{length}
 use Rattle.state_keys.specs.Limits.{limits}
 use Rattle.lists.proofs.Lists.{length-of-map}
-use Rattle.state_sa.specs.Entry.{named}
 use Rattle.state_table.specs.Table.{found_sa}
-use Rattle.state_table.proofs.Seeking.{Sought, sought-none, sought-first, sought-inside, sought-here, sought-next, sought-all}
+use Rattle.state_table.proofs.Seeking.{sought-none, sought-first, sought-inside, sought-here, sought-next, sought-all}
 use borrow.Author.Rules.{rules}
 use Rattle.state_table.proofs.Table.find.Goals as goal
 

@@ -1,6 +1,5 @@
 use Rattle.state_keys.specs.Limits.{limits}
 use Rattle.state_table.proofs.Laws.{empty-is}
-use borrow.Author.Rules.{rules}
 use Rattle.state_table.proofs.Table.is_empty.Goals as goal
 
 pub returns : goal.returns

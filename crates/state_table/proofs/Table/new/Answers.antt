@@ -1,10 +1,8 @@
 use mathlib.Core.Path.{ap}
 use lib.ListN.{replicate}
 use Rattle.state_keys.specs.Limits.{limits}
-use Rattle.lists.specs.Lists.{count}
 use Rattle.state_sa.specs.declared.entry.Sa.{Sa}
 use Rattle.state_table.specs.Table.{table_of}
-use borrow.Author.Rules.{rules}
 use Rattle.state_table.proofs.Table.new.Goals as goal
 
 pub returns : goal.returns

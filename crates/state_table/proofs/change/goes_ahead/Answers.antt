@@ -1,4 +1,3 @@
-use borrow.Author.Rules.{rules}
 use Rattle.state_table.proofs.change.goes_ahead.Goals as goal
 
 pub returns : goal.returns

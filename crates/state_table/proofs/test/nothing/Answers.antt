@@ -1,7 +1,6 @@
 use mathlib.Core.Path.{ap}
 use mathlib.Core.Bool.{false}
 use Rattle.state_sa.specs.declared.entry.Sa.{Sa}
-use borrow.Author.Rules.{rules}
 use Rattle.state_table.proofs.test.nothing.Goals as goal
 
 pub returns : goal.returns

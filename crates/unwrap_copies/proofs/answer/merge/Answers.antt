@@ -1,5 +1,4 @@
 use Rattle.unwrap_copies.proofs.Joining.{nothing_left, nothing_right, conflict-left, conflict-right}
-use borrow.Author.Rules.{rules}
 use Rattle.unwrap_copies.proofs.answer.merge.Goals as goal
 
 pub returns-in-Nothing : goal.returns-in-Nothing

@@ -2,7 +2,6 @@ use mathlib.Core.Path.{sym, ◌∙◌}
 use mathlib.Core.List.{◌++◌}
 use Rattle.unwrap_copies.specs.declared.answer.CopyFound.TheVariants.{Conflict}
 use Rattle.unwrap_copies.proofs.Joining.{tell, both-agree, both-differ}
-use borrow.Author.Rules.{rules}
 use Rattle.unwrap_copies.proofs.answer.merge_values.Goals as goal
 
 pub returns-then-same : goal.returns-then-same

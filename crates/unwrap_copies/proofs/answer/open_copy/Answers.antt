@@ -11,7 +11,6 @@ use Rattle.lists.proofs.Parts.{copied}
 use Rattle.unwrap_copies.specs.declared.answer.CopyFound.TheVariants.{Nothing, Conflict}
 use Rattle.unwrap_copies.proofs.Joining.{tell}
 use Rattle.unwrap_copies.proofs.Opening.{opened-none, opened-wrong, opened-right}
-use borrow.Author.Rules.{rules}
 use Rattle.unwrap_copies.proofs.answer.open_copy.Goals as goal
 
 pub slice_bounds-octets-end : goal.slice_bounds-octets-end

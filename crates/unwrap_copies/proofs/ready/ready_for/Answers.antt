@@ -1,4 +1,4 @@
-use mathlib.Core.Path.{◌≡◌, refl, ap, sym, ◌∙◌, subst}
+use mathlib.Core.Path.{refl, ap, sym, ◌∙◌, subst}
 use mathlib.Core.Bool.{false≢true}
 use lib.ListN.{length}
 use Rattle.aes.specs.inner.Schedule.{ExpandedInverse}
@@ -7,7 +7,6 @@ use Rattle.state_keys.specs.Algorithms.{is_wrapping_size}
 use Rattle.unwrap_search.proofs.Searching.{is-key-size}
 use Rattle.unwrap_lending.proofs.Naming.{named-size}
 use Rattle.unwrap_copies.proofs.Trying.{under_none, under-named}
-use borrow.Author.Rules.{rules}
 use Rattle.unwrap_copies.proofs.ready.ready_for.Goals as goal
 
 -- `unwrap_copies::ready::ready_for` meets its contract.

@@ -1,11 +1,8 @@
-use native.Mathlib.Omega.{arith}
-use Prim.Native.Nat.{ℕ, ◌-◌, ◌+◌, ◌≤◌}
-use mathlib.Core.Path.{◌≡◌, sym, subst}
+use Prim.Native.Nat.{◌-◌, ◌≤◌}
+use mathlib.Core.Path.{◌≡◌}
 use lib.ListN.{length}
 use Rattle.state_keys.specs.Limits.{limits}
 use Rattle.unwrap_paths.specs.inner.Code.{HasLevel}
-use Rattle.unwrap_paths.proofs.Lowering.{has-none, has-next}
-use borrow.Author.Rules.{rules}
 use Rattle.unwrap_paths.proofs.back.level_of.Given as goal
 
 abbrev pub invariant-loop-i : goal.invariant-loop-i

@@ -1,11 +1,11 @@
 use native.Mathlib.Omega.{arith}
-use Prim.Native.Nat.{◌-◌, ◌≤◌}
+use Prim.Native.Nat.{◌≤◌}
 use mathlib.Core.Path.{◌≡◌}
 use lib.ListN.{length}
 use Rattle.state_keys.specs.Limits.{limits}
 use Rattle.lists.proofs.Lists.{length-of-map}
 use Rattle.state.specs.Held.{keys_of}
-use Rattle.unwrap_paths.proofs.Putting.{Putting, put-none, put-not, put_next, put-over, put-end, at_default, at-end, at-over}
+use Rattle.unwrap_paths.proofs.Putting.{put-none, put-not, put_next, put-over, put-end, at_default, at-end, at-over}
 use borrow.Author.Rules.{rules}
 use Rattle.unwrap_paths.proofs.held.path_before.Goals as goal
 

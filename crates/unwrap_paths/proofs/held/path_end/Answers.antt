@@ -1,6 +1,5 @@
 use native.Mathlib.Omega.{arith}
 use Prim.Native.Nat.{◌-◌, ◌<◌}
-use borrow.Author.Rules.{rules}
 use Rattle.unwrap_paths.proofs.held.path_end.Goals as goal
 
 -- `unwrap_paths::held::path_end` meets its contract.

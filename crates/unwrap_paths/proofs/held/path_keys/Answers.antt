@@ -1,12 +1,12 @@
 use native.Mathlib.Omega.{arith}
-use Prim.Native.Nat.{ℕ, ◌-◌, ◌≤◌, ◌<◌}
+use Prim.Native.Nat.{◌≤◌}
 use mathlib.Core.Path.{◌≡◌, ap}
 use lib.ListN.{length, length-set}
 use Rattle.octets.specs.Numbers.{oct}
 use Rattle.state_keys.specs.Limits.{limits}
 use Rattle.state_keys.specs.declared.kinds.MadeWrapping.{MadeWrapping}
 use Rattle.unwrap_paths.specs.inner.Holding.{held_at}
-use Rattle.unwrap_paths.proofs.Keeping.{HeldSoFar, keep-none, keep-next, keep-end}
+use Rattle.unwrap_paths.proofs.Keeping.{keep-none, keep-next, keep-end}
 use borrow.Author.Rules.{rules}
 use Rattle.unwrap_paths.proofs.held.path_keys.Goals as goal
 

@@ -1,13 +1,10 @@
-use native.Mathlib.Omega.{arith}
 use Prim.Native.Nat.{ℕ, ◌-◌, ◌≤◌, ◌<◌}
-use mathlib.Core.Path.{◌≡◌, ap}
-use lib.ListN.{length, length-set}
+use mathlib.Core.Path.{◌≡◌}
+use lib.ListN.{length}
 use Rattle.octets.specs.Numbers.{oct}
 use Rattle.state_keys.specs.Limits.{limits}
-use Rattle.state_keys.specs.declared.kinds.MadeWrapping.{MadeWrapping}
 use Rattle.unwrap_paths.specs.inner.Holding.{held_at}
-use Rattle.unwrap_paths.proofs.Keeping.{HeldSoFar, keep-none, keep-next, keep-end}
-use borrow.Author.Rules.{rules}
+use Rattle.unwrap_paths.proofs.Keeping.{HeldSoFar}
 use Rattle.unwrap_paths.proofs.held.path_keys.Given as goal
 
 abbrev pub invariant-loop-i : goal.invariant-loop-i

@@ -1,7 +1,6 @@
-use mathlib.Core.Path.{◌≡◌, ap, sym, ◌∙◌}
+use mathlib.Core.Path.{ap, sym, ◌∙◌}
 use Rattle.state_keys.specs.declared.kinds.MadeWrapping.{MadeWrapping}
 use Rattle.unwrap_paths.proofs.Putting.{stays-not, stays_on}
-use borrow.Author.Rules.{rules}
 use Rattle.unwrap_paths.proofs.held.stays.Goals as goal
 
 -- `unwrap_paths::held::stays` meets its contract.

@@ -1,12 +1,11 @@
 use native.Mathlib.Omega.{arith}
-use Prim.Native.Nat.{ℕ, ◌-◌, ◌≤◌}
-use mathlib.Core.Path.{◌≡◌, refl}
-use lib.ListN.{length, length-set, replicate}
+use Prim.Native.Nat.{ℕ}
+use mathlib.Core.Path.{refl}
+use lib.ListN.{length-set, replicate}
 use Rattle.octets.specs.Numbers.{oct}
 use Rattle.unwrap_paths.specs.inner.Code.{first_level}
-use Rattle.unwrap_paths.proofs.Steps.{Partly, partly_none, partly-next}
+use Rattle.unwrap_paths.proofs.Steps.{partly_none, partly-next}
 use Rattle.state_keys.specs.Limits.{limits}
-use borrow.Author.Rules.{rules}
 use Rattle.unwrap_paths.proofs.levels.first_levels.Goals as goal
 
 -- `unwrap_paths::levels::first_levels` meets its contract.

@@ -1,12 +1,10 @@
-use native.Mathlib.Omega.{arith}
 use Prim.Native.Nat.{ℕ, ◌-◌, ◌≤◌}
-use mathlib.Core.Path.{◌≡◌, refl}
-use lib.ListN.{length, length-set, replicate}
+use mathlib.Core.Path.{◌≡◌}
+use lib.ListN.{length}
 use Rattle.octets.specs.Numbers.{oct}
 use Rattle.unwrap_paths.specs.inner.Code.{first_level}
-use Rattle.unwrap_paths.proofs.Steps.{Partly, partly_none, partly-next}
+use Rattle.unwrap_paths.proofs.Steps.{Partly}
 use Rattle.state_keys.specs.Limits.{limits}
-use borrow.Author.Rules.{rules}
 use Rattle.unwrap_paths.proofs.levels.first_levels.Given as goal
 
 abbrev pub invariant-loop-i : goal.invariant-loop-i

@@ -1,10 +1,8 @@
-use native.Mathlib.Omega.{arith}
-use Prim.Native.Nat.{ℕ, ◌-◌, ◌+◌, ◌≤◌}
-use mathlib.Core.Path.{◌≡◌, refl, sym, subst}
+use Prim.Native.Nat.{◌-◌, ◌≤◌}
+use mathlib.Core.Path.{◌≡◌}
 use lib.ListN.{length}
-use Rattle.unwrap_paths.proofs.Steps.{Best, best_none, best-next, best-found}
+use Rattle.unwrap_paths.proofs.Steps.{Best}
 use Rattle.state_keys.specs.Limits.{limits}
-use borrow.Author.Rules.{rules}
 use Rattle.unwrap_paths.proofs.levels.lowest.Given as goal
 
 abbrev pub invariant-loop-i : goal.invariant-loop-i

@@ -1,5 +1,4 @@
 use Rattle.unwrap_paths.proofs.Steps.{next-unopened, next-set, next-other, next-stays}
-use borrow.Author.Rules.{rules}
 use Rattle.unwrap_paths.proofs.levels.next_level.Goals as goal
 
 -- `unwrap_paths::levels::next_level` meets its contract.

@@ -1,10 +1,10 @@
 use native.Mathlib.Omega.{arith}
-use Prim.Native.Nat.{ℕ, ◌-◌, ◌≤◌}
+use Prim.Native.Nat.{ℕ}
 use mathlib.Core.Path.{◌≡◌, ap, ◌∙◌}
 use lib.ListN.{length, length-set}
 use Rattle.octets.specs.Numbers.{oct}
 use Rattle.unwrap_paths.specs.inner.Code.{next_level}
-use Rattle.unwrap_paths.proofs.Steps.{Partly, partly_none, partly-next}
+use Rattle.unwrap_paths.proofs.Steps.{partly_none, partly-next}
 use Rattle.state_keys.specs.Limits.{limits}
 use borrow.Author.Rules.{rules}
 use Rattle.unwrap_paths.proofs.levels.spread.Goals as goal

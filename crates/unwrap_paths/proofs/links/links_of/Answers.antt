@@ -1,5 +1,4 @@
 use mathlib.Core.Path.{refl}
-use borrow.Author.Rules.{rules}
 use Rattle.unwrap_paths.proofs.links.links_of.Goals as goal
 
 -- `unwrap_paths::links::links_of` meets its contract.

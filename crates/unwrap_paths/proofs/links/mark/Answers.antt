@@ -1,6 +1,5 @@
 use mathlib.Core.Path.{sym, ◌∙◌}
 use Rattle.unwrap_paths.proofs.Linking.{mark-carried, mark-root, mark-none}
-use borrow.Author.Rules.{rules}
 use Rattle.unwrap_paths.proofs.links.mark.Goals as goal
 
 -- `unwrap_paths::links::mark` meets its contract.

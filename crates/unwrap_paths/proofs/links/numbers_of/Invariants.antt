@@ -1,14 +1,8 @@
-use native.Mathlib.Omega.{arith}
-use Prim.Native.Nat.{ℕ, ◌-◌, ◌≤◌}
-use mathlib.Core.Path.{◌≡◌, refl, subst}
-use lib.ListN.{length, length-set}
+use Prim.Native.Nat.{◌-◌, ◌≤◌}
+use mathlib.Core.Path.{◌≡◌}
+use lib.ListN.{length}
 use Rattle.state_keys.specs.Limits.{limits}
-use Rattle.unwrap_search.specs.inner.Entries.{no_entry}
-use Rattle.unwrap_search.specs.inner.Opened.{no_cell}
-use Rattle.unwrap_search.proofs.Statuses.{get_d_any}
 use Rattle.unwrap_paths.specs.inner.Links.{LinksAre}
-use Rattle.unwrap_paths.proofs.Linking.{linked-none, linked-next}
-use borrow.Author.Rules.{rules}
 use Rattle.unwrap_paths.proofs.links.numbers_of.Given as goal
 
 abbrev pub invariant-loop-i : goal.invariant-loop-i

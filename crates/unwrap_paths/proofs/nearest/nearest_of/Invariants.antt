@@ -1,12 +1,8 @@
-use native.Mathlib.Omega.{arith}
-use Prim.Native.Nat.{ℕ, ◌-◌, ◌≤◌}
-use mathlib.Core.Path.{◌≡◌, refl, subst}
+use Prim.Native.Nat.{◌-◌, ◌≤◌}
+use mathlib.Core.Path.{◌≡◌}
 use lib.ListN.{length}
-use Rattle.octets.specs.Numbers.{oct}
 use Rattle.state_keys.specs.Limits.{limits}
 use Rattle.unwrap_paths.specs.inner.Nearest.{NearestOf}
-use Rattle.unwrap_paths.proofs.Nearing.{nearest-first, nearest-next}
-use borrow.Author.Rules.{rules}
 use Rattle.unwrap_paths.proofs.nearest.nearest_of.Given as goal
 
 abbrev pub invariant-loop-i : goal.invariant-loop-i

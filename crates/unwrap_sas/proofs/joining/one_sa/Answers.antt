@@ -1,7 +1,6 @@
 use mathlib.Core.Path.{sym, subst}
 use Rattle.unwrap_sas.specs.inner.Policies.{IsBy}
 use Rattle.unwrap_sas.proofs.Told.{of-conflict, of_none, of-key}
-use borrow.Author.Rules.{rules}
 use Rattle.unwrap_sas.proofs.joining.one_sa.Goals as goal
 
 pub returns-in-Conflict : goal.returns-in-Conflict

@@ -1,4 +1,3 @@
-use borrow.Author.Rules.{rules}
 use Rattle.unwrap_search.proofs.Opening.{naming-here, naming-other}
 use Rattle.unwrap_search.proofs.open.names.Goals as goal
 

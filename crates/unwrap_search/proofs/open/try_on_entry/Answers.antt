@@ -1,6 +1,5 @@
 use mathlib.Core.Path.{sym, ◌∙◌}
 use Rattle.unwrap_search.proofs.Opening.{tried-opened, tried_other}
-use borrow.Author.Rules.{rules}
 use Rattle.unwrap_search.proofs.open.try_on_entry.Goals as goal
 
 -- `unwrap_search::open::try_on_entry` meets its contract.

@@ -1,9 +1,7 @@
 use native.Mathlib.Omega.{arith}
-use Prim.Native.Nat.{◌-◌, ◌≤◌}
 use mathlib.Core.Path.{◌≡◌, sym, ◌∙◌}
 use lib.ListN.{length}
 use Rattle.state_keys.specs.Limits.{limits}
-use Rattle.unwrap_search.specs.inner.Search.{NonePending}
 use Rattle.unwrap_search.proofs.Loops.{pend-here, pend-next}
 use borrow.Author.Rules.{rules}
 use Rattle.unwrap_search.proofs.search.first_pending.Goals as goal

@@ -1,11 +1,8 @@
-use native.Mathlib.Omega.{arith}
 use Prim.Native.Nat.{◌-◌, ◌≤◌}
-use mathlib.Core.Path.{◌≡◌, sym, ◌∙◌}
+use mathlib.Core.Path.{◌≡◌}
 use lib.ListN.{length}
 use Rattle.state_keys.specs.Limits.{limits}
 use Rattle.unwrap_search.specs.inner.Search.{NonePending}
-use Rattle.unwrap_search.proofs.Loops.{pend-here, pend-next}
-use borrow.Author.Rules.{rules}
 use Rattle.unwrap_search.proofs.search.first_pending.Given as goal
 
 abbrev pub invariant-loop-i : goal.invariant-loop-i

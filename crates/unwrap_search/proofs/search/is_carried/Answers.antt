@@ -1,9 +1,8 @@
 use native.Mathlib.Omega.{arith}
-use Prim.Native.Nat.{◌-◌, ◌≤◌}
 use mathlib.Core.Path.{◌≡◌}
 use lib.ListN.{length}
 use Rattle.state_keys.specs.Limits.{limits}
-use Rattle.unwrap_search.proofs.Starting.{Uncarried, uncarried-none, uncarried_more, carried_here, none-carries}
+use Rattle.unwrap_search.proofs.Starting.{uncarried-none, uncarried_more, carried_here, none-carries}
 use borrow.Author.Rules.{rules}
 use Rattle.unwrap_search.proofs.search.is_carried.Goals as goal
 

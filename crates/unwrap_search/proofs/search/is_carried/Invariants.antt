@@ -1,10 +1,8 @@
-use native.Mathlib.Omega.{arith}
 use Prim.Native.Nat.{◌-◌, ◌≤◌}
 use mathlib.Core.Path.{◌≡◌}
 use lib.ListN.{length}
 use Rattle.state_keys.specs.Limits.{limits}
-use Rattle.unwrap_search.proofs.Starting.{Uncarried, uncarried-none, uncarried_more, carried_here, none-carries}
-use borrow.Author.Rules.{rules}
+use Rattle.unwrap_search.proofs.Starting.{Uncarried}
 use Rattle.unwrap_search.proofs.search.is_carried.Given as goal
 
 abbrev pub invariant-loop-i : goal.invariant-loop-i

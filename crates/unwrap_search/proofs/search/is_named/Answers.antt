@@ -1,9 +1,8 @@
 use native.Mathlib.Omega.{arith}
-use Prim.Native.Nat.{ℕ, ◌-◌, ◌≤◌}
+use Prim.Native.Nat.{ℕ}
 use mathlib.Core.Path.{◌≡◌, sym, ◌∙◌}
 use lib.ListN.{length}
 use Rattle.state_keys.specs.Limits.{limits}
-use Rattle.unwrap_search.specs.inner.Search.{Unnamed}
 use Rattle.unwrap_search.proofs.Loops.{named-next}
 use borrow.Author.Rules.{rules}
 use Rattle.unwrap_search.proofs.search.is_named.Goals as goal

@@ -1,8 +1,6 @@
 use mathlib.Core.Path.{◌∙◌, ap}
 use Rattle.state_keys.specs.Kinds.{wrapping_key}
-use Rattle.state_keys.specs.declared.kinds.MadeWrapping.{MadeWrapping}
 use Rattle.unwrap_search.proofs.Starting.{key-from}
-use borrow.Author.Rules.{rules}
 use Rattle.unwrap_search.proofs.search.key_at.Goals as goal
 
 -- `unwrap_search::search::key_at` meets its contract.

@@ -1,12 +1,6 @@
 use native.Mathlib.Omega.{arith}
-use Prim.Native.Nat.{ℕ, ◌-◌, ◌≤◌}
-use mathlib.Core.Path.{◌≡◌, sym, ◌∙◌}
-use mathlib.Core.List.{List}
-use lib.ListN.{length}
-use Rattle.wire_attributes.specs.Tree.{WrapKey}
-use Rattle.state_keys.specs.Limits.{limits}
-use Rattle.unwrap_search.specs.inner.Entries.{Lists}
-use Rattle.unwrap_search.proofs.Starting.{PassedFrom, passed_none, passed-more}
+use mathlib.Core.Path.{sym, ◌∙◌}
+use Rattle.unwrap_search.proofs.Starting.{passed_none, passed-more}
 use borrow.Author.Rules.{rules}
 use Rattle.unwrap_search.proofs.search.next_root.Goals as goal
 

@@ -1,6 +1,6 @@
 use native.Mathlib.Omega.{arith}
 use Prim.Native.Nat.{ℕ, ◌+◌, ◌-◌, ◌≤◌, ◌<◌}
-use mathlib.Core.Path.{◌≡◌, refl, ap, sym, ◌∙◌, subst}
+use mathlib.Core.Path.{◌≡◌, sym, ◌∙◌, subst}
 use mathlib.Core.Bool.{true}
 use mathlib.Core.List.{List}
 use lib.Dec.{T}
@@ -17,10 +17,9 @@ use Rattle.unwrap_lending.specs.inner.Lending.{LendsHeld}
 use Rattle.unwrap_lending.proofs.Blocks.{ids-length}
 use Rattle.unwrap_search.specs.declared.open.Cell.{Cell}
 use Rattle.unwrap_search.specs.inner.Entries.{Lists}
-use Rattle.unwrap_search.specs.inner.Opened.{no_cell}
 use Rattle.unwrap_search.specs.inner.Search.{cell_at, PendingAt, NonePending, Finds}
 use Rattle.unwrap_search.proofs.Searching.{undone, is-key-size, tried, fell-tried, fewer-left, count_at, at-cell}
-use Rattle.unwrap_search.proofs.Turning.{roots, root-keys, left, Turn, Turned, first-turn, root-turn, none_left, still, all_found}
+use Rattle.unwrap_search.proofs.Turning.{roots, Turn, Turned, first-turn, root-turn, none_left, still, all_found}
 use Rattle.unwrap_search.proofs.Turning.{held-sized}
 use borrow.Author.Rules.{rules}
 use Rattle.unwrap_search.proofs.search.search.Statement.{statement}

@@ -1,14 +1,12 @@
-use native.Mathlib.Omega.{arith}
 use Prim.Native.Nat.{ℕ, ◌-◌, ◌≤◌}
 use mathlib.Core.Path.{◌≡◌}
 use mathlib.Core.List.{List}
-use lib.ListN.{length, length-set}
+use lib.ListN.{length}
 use Rattle.state_keys.specs.Limits.{limits}
 use Rattle.aes.specs.inner.Schedule.{ExpandsInverse}
 use Rattle.wire_attributes.specs.Tree.{WrapKey}
 use Rattle.unwrap_search.specs.inner.Entries.{Lists}
-use Rattle.unwrap_search.proofs.Loops.{Partly, partly_none, partly-next, partly-all, entry_at}
-use borrow.Author.Rules.{rules}
+use Rattle.unwrap_search.proofs.Loops.{Partly}
 use Rattle.unwrap_search.proofs.search.try_on_all.Given as goal
 
 abbrev pub invariant-loop-i : goal.invariant-loop-i

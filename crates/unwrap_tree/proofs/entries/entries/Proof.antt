@@ -9,7 +9,6 @@ use Rattle.wire_attributes.specs.Tree.{WrapKey, wrap_key_of}
 use Rattle.wire_attributes.specs.Answers.{value_start}
 use Rattle.wire_attributes.specs.Layout.{attributes}
 use Rattle.wire_readers.specs.inner.Values.{is_whole, MetAt, FindsValue}
-use Rattle.wire_readers.specs.declared.Stretch.{Stretch}
 use Rattle.unwrap_search.specs.inner.Entries.{IsEntry, Lists}
 use Rattle.unwrap_tree.specs.inner.Entries.{bag_keys}
 use Rattle.unwrap_tree.proofs.Gathering.{Gathered, gathered_none, gathered_next, gathered-all}

@@ -1,15 +1,8 @@
-use native.Mathlib.Omega.{arith}
-use Prim.Native.Nat.{ℕ, ◌-◌, ◌≤◌}
-use mathlib.Core.Path.{◌≡◌, subst}
+use Prim.Native.Nat.{◌-◌, ◌≤◌}
+use mathlib.Core.Path.{◌≡◌}
 use lib.ListN.{length}
 use Rattle.state_keys.specs.Limits.{limits}
-use Rattle.unwrap_search.specs.declared.open.Entry.{Entry}
-use Rattle.unwrap_search.specs.declared.open.Cell.{Cell}
-use Rattle.unwrap_conflicts.proofs.Clashing.{both_at}
-use Rattle.unwrap_tree.specs.inner.Joins.{Joins}
-use Rattle.unwrap_tree.proofs.Entering.{Entered, entered-none, entered-next}
-use Rattle.unwrap_tree.proofs.Standing.{held-are, are-formed}
-use borrow.Author.Rules.{rules}
+use Rattle.unwrap_tree.proofs.Entering.{Entered}
 use Rattle.unwrap_tree.proofs.held.held_of.Given as goal
 
 abbrev pub invariant-loop-i : goal.invariant-loop-i

@@ -2,7 +2,6 @@ use mathlib.Core.Path.{refl, ap, sym, ◌∙◌}
 use Rattle.state_keys.specs.declared.kinds.MadeWrapping.{MadeWrapping}
 use Rattle.unwrap_conflicts.proofs.Clashing.{done-is, done-not}
 use Rattle.unwrap_tree.specs.inner.Joins.{not-reached, stands, enters}
-use borrow.Author.Rules.{rules}
 use Rattle.unwrap_tree.proofs.held.with_cell.Goals as goal
 
 -- `unwrap_tree::held::with_cell` meets its contract.

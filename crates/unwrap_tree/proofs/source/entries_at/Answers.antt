@@ -3,7 +3,6 @@ use mathlib.Core.Bool.{Bool, true}
 use Rattle.wire_bags.specs.Bag.{bags}
 use Rattle.wire_readers.specs.inner.Values.{is_whole}
 use Rattle.unwrap_tree.proofs.SourceLaws.{stand-none, stand-fresh, stand-member}
-use borrow.Author.Rules.{rules}
 use Rattle.unwrap_tree.proofs.source.entries_at.Goals as goal
 
 pub returns-then-registers : goal.returns-then-registers

@@ -1,4 +1,3 @@
-use borrow.Author.Rules.{rules}
 use Rattle.wire_attributes.proofs.tables.is_formed.Goals as goal
 
 pub returns-in-InitialMessageId : goal.returns-in-InitialMessageId

@@ -1,4 +1,3 @@
-use borrow.Author.Rules.{rules}
 use Rattle.wire_attributes.proofs.tables.is_four_octets.Goals as goal
 
 pub returns-then-short : goal.returns-then-short

@@ -1,5 +1,4 @@
 use borrow.Author.Tests.{eq-eqb, ne_eqb}
-use borrow.Author.Rules.{rules}
 use Rattle.wire_attributes.proofs.tables.meaning_in.Goals as goal
 
 pub returns-then-kind-eq-KEY_LENGTH : goal.returns-then-kind-eq-KEY_LENGTH

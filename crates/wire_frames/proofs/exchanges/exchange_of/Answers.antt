@@ -1,6 +1,5 @@
 use borrow.Author.Tests.{eq-eqb, ne_eqb}
 use mathlib.Core.Path.{◌∙◌}
-use borrow.Author.Rules.{rules}
 use Rattle.wire_frames.proofs.exchanges.exchange_of.Goals as goal
 
 pub returns-then-kind-eq-GSA_AUTH : goal.returns-then-kind-eq-GSA_AUTH

@@ -1,6 +1,5 @@
 use native.Mathlib.Omega.{arith}
 use Rattle.wire_policies.proofs.SelectorLaws.{missing, no-type, cut, fits, wrong, size-some}
-use borrow.Author.Rules.{rules}
 use Rattle.wire_policies.proofs.selectors.selector_spot.Goals as goal
 
 pub returns-then-s-eq0 : goal.returns-then-s-eq0

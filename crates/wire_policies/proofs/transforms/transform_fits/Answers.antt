@@ -2,7 +2,6 @@ use native.Mathlib.Omega.{arith}
 use mathlib.Core.Path.{sym, ◌∙◌}
 use Rattle.octets.proofs.Numerals.{sized-is}
 use Rattle.wire_policies.proofs.TransformLaws.{more, last, not-sized}
-use borrow.Author.Rules.{rules}
 use Rattle.wire_policies.proofs.transforms.transform_fits.Goals as goal
 
 pub bounds-s-0 : goal.bounds-s-0

@@ -3,7 +3,6 @@ use mathlib.Core.Path.{ap, sym, ◌∙◌}
 use Rattle.octets.proofs.Walks.{part-short}
 use Rattle.wire_attributes.specs.Place.{in_transform}
 use Rattle.wire_policies.proofs.TransformLaws.{fits-is, missing, good, inner-broken, bad}
-use borrow.Author.Rules.{rules}
 use Rattle.wire_policies.proofs.transforms.transform_spot.Goals as goal
 
 pub returns-then-s-eq0 : goal.returns-then-s-eq0

@@ -1,6 +1,5 @@
 use native.Mathlib.Omega.{arith}
 use Rattle.wire_readers.proofs.BodiesLaws.{room, transform-is}
-use borrow.Author.Rules.{rules}
 use Rattle.wire_readers.proofs.body.transform_parts.Goals as goal
 
 pub bounds-s-4 : goal.bounds-s-4

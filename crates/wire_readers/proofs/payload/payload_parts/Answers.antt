@@ -1,7 +1,6 @@
 use native.Mathlib.Omega.{arith}
 use Rattle.octets.proofs.Numerals.{sized-is}
 use Rattle.wire_readers.proofs.PayloadsLaws.{fits-first, payload-is}
-use borrow.Author.Rules.{rules}
 use Rattle.wire_readers.proofs.payload.payload_parts.Goals as goal
 
 pub bounds-s-0 : goal.bounds-s-0

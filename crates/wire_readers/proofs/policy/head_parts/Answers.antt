@@ -4,7 +4,6 @@ use Prim.Native.Nat.{ℕ, ◌+◌}
 use Rattle.octets.specs.Numbers.{oct}
 use Rattle.wire_policies.specs.Policy.{spi_size}
 use Rattle.wire_policies.proofs.HeadLaws.{head-is}
-use borrow.Author.Rules.{rules}
 use Rattle.wire_readers.proofs.policy.head_parts.Goals as goal
 
 pub bounds-s-0 : goal.bounds-s-0

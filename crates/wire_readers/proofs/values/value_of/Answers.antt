@@ -1,11 +1,10 @@
 use native.Mathlib.Omega.{arith}
-use mathlib.Core.Path.{◌≡◌, ap, ◌∙◌, subst}
+use mathlib.Core.Path.{ap, ◌∙◌, subst}
 use mathlib.Core.List.{List}
 use lib.ListN.{length}
 use Prim.Native.Nat.{ℕ, ◌+◌}
-use Rattle.wire_readers.specs.inner.Values.{MetAt, FindsValue, value_size}
+use Rattle.wire_readers.specs.inner.Values.{FindsValue, value_size}
 use Rattle.wire_readers.proofs.ValuesLaws.{met-first, met-place, met-size, none_first, none-start}
-use borrow.Author.Rules.{rules}
 use Rattle.wire_readers.proofs.values.value_of.Goals as goal
 
 pub returns-in-At : goal.returns-in-At

@@ -1,5 +1,4 @@
 use native.Mathlib.Omega.{arith}
-use borrow.Author.Rules.{rules}
 use Rattle.check_suites.proofs.counts.SuiteCounts.plus.Goals as goal
 
 pub overflow_add-result-6 : goal.overflow_add-result-6

@@ -1,9 +1,7 @@
 use native.Mathlib.Omega.{arith}
-use Prim.Native.Nat.{◌-◌, ◌≤◌}
 use mathlib.Core.Path.{◌≡◌, sym, refl, ◌∙◌}
-use lib.ListN.{length, take, drop}
+use lib.ListN.{length}
 use Rattle.state_keys.specs.Limits.{limits}
-use Rattle.lists.specs.Lists.{all}
 use Rattle.lists.proofs.Lists.{length-of-map, all_yes, all-no, all_end}
 use Rattle.state.specs.Held.{key_formed}
 use borrow.Author.Rules.{rules}

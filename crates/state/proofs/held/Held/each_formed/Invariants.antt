@@ -1,12 +1,9 @@
-use native.Mathlib.Omega.{arith}
 use Prim.Native.Nat.{◌-◌, ◌≤◌}
-use mathlib.Core.Path.{◌≡◌, sym, refl, ◌∙◌}
+use mathlib.Core.Path.{◌≡◌}
 use lib.ListN.{length, take, drop}
 use Rattle.state_keys.specs.Limits.{limits}
 use Rattle.lists.specs.Lists.{all}
-use Rattle.lists.proofs.Lists.{length-of-map, all_yes, all-no, all_end}
 use Rattle.state.specs.Held.{key_formed}
-use borrow.Author.Rules.{rules}
 use Rattle.state.proofs.held.Held.each_formed.Given as goal
 
 abbrev pub invariant-loop-i : goal.invariant-loop-i

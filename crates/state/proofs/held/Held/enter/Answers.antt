@@ -1,11 +1,10 @@
 use native.Mathlib.Omega.{arith}
-use Prim.Native.Nat.{◌-◌, ◌≤◌, ◌<◌}
 use mathlib.Core.Path.{◌≡◌, sym, ◌∙◌}
 use mathlib.Core.Logic.{⊎_elim}
 use lib.ListN.{length}
 use Rattle.state_keys.specs.Limits.{limits}
 use Rattle.lists.proofs.Lists.{length-of-map}
-use Rattle.lists.proofs.Place.{Placing, placing-start, placing-ahead, placing-behind, placing-count, placing-all}
+use Rattle.lists.proofs.Place.{placing-start, placing-ahead, placing-behind, placing-count, placing-all}
 use Rattle.state.specs.Held.{blank_key}
 use Rattle.state.specs.inner.Entering.{id_before}
 use Rattle.state.proofs.Laws.{entered-in, entered-out}

@@ -1,15 +1,10 @@
-use native.Mathlib.Omega.{arith}
 use Prim.Native.Nat.{◌-◌, ◌≤◌, ◌<◌}
-use mathlib.Core.Path.{◌≡◌, sym, ◌∙◌}
-use mathlib.Core.Logic.{⊎_elim}
+use mathlib.Core.Path.{◌≡◌}
 use lib.ListN.{length}
 use Rattle.state_keys.specs.Limits.{limits}
-use Rattle.lists.proofs.Lists.{length-of-map}
-use Rattle.lists.proofs.Place.{Placing, placing-start, placing-ahead, placing-behind, placing-count, placing-all}
+use Rattle.lists.proofs.Place.{Placing}
 use Rattle.state.specs.Held.{blank_key}
 use Rattle.state.specs.inner.Entering.{id_before}
-use Rattle.state.proofs.Laws.{entered-in, entered-out}
-use borrow.Author.Rules.{rules}
 use Rattle.state.proofs.held.Held.enter.Given as goal
 
 abbrev pub invariant-loop-i : goal.invariant-loop-i

@@ -1,12 +1,8 @@
-use native.Mathlib.Omega.{arith}
 use Prim.Native.Nat.{◌-◌, ◌≤◌}
-use mathlib.Core.Path.{◌≡◌, sym, refl, ◌∙◌}
+use mathlib.Core.Path.{◌≡◌}
 use lib.ListN.{length, take, drop}
 use Rattle.state_keys.specs.Limits.{limits}
-use Rattle.lists.proofs.Lists.{length-of-map}
 use Rattle.state.specs.Held.{key_with}
-use Rattle.state.proofs.Laws.{key_here, key-next, key-end, key_in, key-out}
-use borrow.Author.Rules.{rules}
 use Rattle.state.proofs.held.Held.find.Given as goal
 
 abbrev pub invariant-loop-i : goal.invariant-loop-i

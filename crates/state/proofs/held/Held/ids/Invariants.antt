@@ -1,12 +1,8 @@
-use native.Mathlib.Omega.{arith}
-use Prim.Native.Nat.{ℕ, ◌-◌, ◌≤◌}
-use mathlib.Core.Path.{◌≡◌, refl, subst}
-use lib.ListN.{length, take, length-set}
+use Prim.Native.Nat.{◌-◌, ◌≤◌}
+use mathlib.Core.Path.{◌≡◌}
+use lib.ListN.{length, take}
 use Rattle.state_keys.specs.Limits.{limits}
-use Rattle.lists.proofs.Lists.{length-of-map}
 use Rattle.state.specs.Held.{ids_of}
-use Rattle.state.proofs.Laws.{ids_more}
-use borrow.Author.Rules.{rules}
 use Rattle.state.proofs.held.Held.ids.Given as goal
 
 abbrev pub invariant-loop-i : goal.invariant-loop-i

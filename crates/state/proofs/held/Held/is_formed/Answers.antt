@@ -1,7 +1,6 @@
 use mathlib.Core.Path.{sym, ◌∙◌}
 use Rattle.state_keys.specs.Limits.{limits}
 use Rattle.state.proofs.Laws.{held-over, held-each, held-distinct}
-use borrow.Author.Rules.{rules}
 use Rattle.state.proofs.held.Held.is_formed.Goals as goal
 
 pub returns-then-self-gt-HELD_KEYS : goal.returns-then-self-gt-HELD_KEYS

@@ -3,7 +3,6 @@ use lib.ListN.{replicate}
 use Rattle.state_keys.specs.Limits.{limits}
 use Rattle.state.specs.declared.held.HeldKey.{HeldKey}
 use Rattle.state.specs.Held.{held_of}
-use borrow.Author.Rules.{rules}
 use Rattle.state.proofs.held.Held.new.Goals as goal
 
 pub returns : goal.returns

@@ -1,5 +1,4 @@
 use Rattle.state.proofs.Laws.{key-is, key-zero}
-use borrow.Author.Rules.{rules}
 use Rattle.state.proofs.held.HeldKey.is_formed.Goals as goal
 
 pub returns-then-self-eq0 : goal.returns-then-self-eq0

@@ -1,6 +1,5 @@
 use mathlib.Core.Path.{sym, ap}
 use Rattle.state.specs.Least.{acceptable}
-use borrow.Author.Rules.{rules}
 use Rattle.state.proofs.least.Least.accepts.Goals as goal
 
 pub returns-in-Id : goal.returns-in-Id

@@ -1,5 +1,4 @@
 use Rattle.state.proofs.Laws.{after_more, after_last}
-use borrow.Author.Rules.{rules}
 use Rattle.state.proofs.least.Least.after.Goals as goal
 
 pub returns-then-id-lt4294967295 : goal.returns-then-id-lt4294967295

@@ -2,7 +2,6 @@ use mathlib.Core.Path.{sym, ◌∙◌}
 use Rattle.state_keys.specs.Kinds.{encryption_key}
 use Rattle.state_keys.proofs.Sizes.{encryption-le}
 use Rattle.lists.proofs.Parts.{copied}
-use borrow.Author.Rules.{rules}
 use Rattle.state_keys.proofs.kinds.EncryptionKey.new.Goals as goal
 
 pub copy-requires : goal.copy-requires

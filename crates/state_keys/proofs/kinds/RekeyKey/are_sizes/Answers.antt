@@ -1,6 +1,5 @@
 use mathlib.Core.Path.{sym, ◌∙◌}
 use Rattle.state_keys.specs.Kinds.{rekey_sizes}
-use borrow.Author.Rules.{rules}
 use Rattle.state_keys.proofs.kinds.RekeyKey.are_sizes.Goals as goal
 
 pub returns-then-is_size : goal.returns-then-is_size

@@ -4,7 +4,6 @@ use borrow.Author.Tests.{eq-eqb, ne_eqb}
 use Rattle.state_keys.specs.Kinds.{rekey_key}
 use Rattle.state_keys.proofs.Sizes.{rekey-le}
 use Rattle.lists.proofs.Parts.{copied}
-use borrow.Author.Rules.{rules}
 use Rattle.state_keys.proofs.kinds.RekeyKey.new.Goals as goal
 
 pub overflow_add-encryption : goal.overflow_add-encryption

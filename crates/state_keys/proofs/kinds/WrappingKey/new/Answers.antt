@@ -2,7 +2,6 @@ use mathlib.Core.Path.{sym, ◌∙◌}
 use Rattle.state_keys.specs.Kinds.{wrapping_key}
 use Rattle.state_keys.proofs.Sizes.{wrapping-le}
 use Rattle.lists.proofs.Parts.{copied}
-use borrow.Author.Rules.{rules}
 use Rattle.state_keys.proofs.kinds.WrappingKey.new.Goals as goal
 
 pub copy-requires : goal.copy-requires

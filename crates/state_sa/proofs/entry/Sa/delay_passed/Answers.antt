@@ -1,5 +1,4 @@
 use Rattle.state_sa.proofs.Laws.{due-live, due-retiring}
-use Rattle.std.proofs.Common.{rules}
 use Rattle.state_sa.proofs.entry.Sa.delay_passed.Goals as goal
 
 pub returns-in-Live : goal.returns-in-Live

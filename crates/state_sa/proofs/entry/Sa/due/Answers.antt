@@ -1,4 +1,4 @@
-use Rattle.std.proofs.Common.{sym, ◌∙◌, rules}
+use Rattle.std.proofs.Common.{sym, ◌∙◌}
 use Rattle.state_sa.specs.Entry.{due}
 use Rattle.state_sa.proofs.entry.Sa.due.Goals as goal
 

@@ -1,4 +1,4 @@
-use Rattle.std.proofs.Common.{sym, ap, rules}
+use Rattle.std.proofs.Common.{sym, ap}
 use Rattle.state_sa.specs.Entry.{fit_lifetime}
 use Rattle.state_sa.proofs.entry.Sa.fit_lifetime.Goals as goal
 

@@ -1,5 +1,4 @@
 use Rattle.state_sa.proofs.Laws.{never-out, out-by}
-use Rattle.std.proofs.Common.{rules}
 use Rattle.state_sa.proofs.entry.Sa.has_run_out.Goals as goal
 
 pub returns-in-Unlimited : goal.returns-in-Unlimited

@@ -1,4 +1,4 @@
-use Rattle.std.proofs.Common.{sym, ◌∙◌, rules}
+use Rattle.std.proofs.Common.{sym, ◌∙◌}
 use Rattle.state_sa.specs.Entry.{sa_formed}
 use Rattle.state_sa.proofs.entry.Sa.is_formed.Goals as goal
 

@@ -1,4 +1,4 @@
-use Rattle.std.proofs.Common.{rules, ne_eqb}
+use Rattle.std.proofs.Common.{ne_eqb}
 use Rattle.state_sa.specs.Entry.{live_rekey}
 use Rattle.state_sa.proofs.Laws.{live-rekey, retiring-rekey}
 use Rattle.state_sa.proofs.entry.Sa.is_live_rekey.Goals as goal

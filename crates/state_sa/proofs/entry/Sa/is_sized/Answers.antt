@@ -1,4 +1,4 @@
-use Rattle.std.proofs.Common.{sym, refl, ◌∙◌, arith, rules, eq-eqb, ne_eqb}
+use Rattle.std.proofs.Common.{sym, refl, ◌∙◌, arith, eq-eqb, ne_eqb}
 use Rattle.state_keys.proofs.Sizes.{rekey-le}
 use Rattle.state_sa.specs.Entry.{sa_sized}
 use Rattle.state_sa.proofs.Laws.{sized-rekey}

@@ -1,4 +1,4 @@
-use Rattle.std.proofs.Common.{◌∙◌, arith, rules}
+use Rattle.std.proofs.Common.{◌∙◌, arith}
 use Rattle.state_keys.proofs.Sizes.{rekey-le}
 use Rattle.state_sa.proofs.Laws.{rekey-made}
 use Rattle.state_sa.proofs.entry.Sa.rekey.Goals as goal

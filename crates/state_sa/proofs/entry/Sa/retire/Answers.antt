@@ -1,5 +1,4 @@
 use Rattle.state_sa.proofs.Laws.{retired-live, retired-kept}
-use Rattle.std.proofs.Common.{rules}
 use Rattle.state_sa.proofs.entry.Sa.retire.Goals as goal
 
 pub returns-in-Live : goal.returns-in-Live
