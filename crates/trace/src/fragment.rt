@@ -15,8 +15,8 @@ pub struct GatheredReply {
 }
 
 // Puts the line of the answer `a`.
-fn put_fragment_answer(a: FragmentAnswer, out: &mut [u8]) -> usize {
-    match a {
+fn put_fragment_answer(a: &FragmentAnswer, out: &mut [u8]) -> usize {
+    match *a {
         FragmentAnswer::Refused(x) => frame::told_as(b"refused", x, out),
         FragmentAnswer::PassedOver => text::put(out, 0, b"passed over\n"),
         FragmentAnswer::Waiting => text::put(out, 0, b"waiting\n"),
@@ -61,7 +61,7 @@ fn receive_fragment(
     let member = x.member;
     let collection = x.collection;
     let answer = x.answer;
-    let first = put_fragment_answer(answer, out);
+    let first = put_fragment_answer(&answer, out);
     let numbers = waits(collection, first, out);
     let mut at = sealed::wrote(room, numbers, out);
     if accepted(answer) & journaled {

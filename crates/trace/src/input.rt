@@ -2,7 +2,10 @@
 use crate::{fragment, reply, text, whole};
 use fragments::Collection;
 use gikev2::Member;
-use libc::{STDIN_FILENO, STDOUT_FILENO};
+use std::io::{Input, Read};
+
+// The most octets of a read.
+const BLOCK: usize = 4096;
 
 // Where the program stands: the member; whether the first line has given the lent key yet (`keyed`), and how many octets that key has
 // (`lent`); how many characters of the line that has begun are held (`len`); how many characters the member's text had when printed last
@@ -33,9 +36,16 @@ fn first_line(r: Running, line: &[u8], key: &mut [u8]) -> Running {
 }
 
 // Writes the reply to standard output: the first `at` characters of `out`, and behind them the member, where it changed.
-fn printed(r: Running, member: Member, at: usize, out: &mut [u8], last: &mut [u8]) -> Running {
+fn printed(
+    rt: &impl Print,
+    r: Running,
+    member: Member,
+    at: usize,
+    out: &mut [u8],
+    last: &mut [u8],
+) -> Running {
     let t = reply::completed(member, at, out, last, r.last);
-    let open = io::write_all(STDOUT_FILENO, text::part(out, 0, t.at));
+    let open = rt.write_all(text::part(out, 0, t.at)).is_ok();
     let collection = r.collection;
     Running {
         member,
@@ -51,6 +61,7 @@ fn printed(r: Running, member: Member, at: usize, out: &mut [u8], last: &mut [u8
 
 // Hands in a fragment, and writes the reply.
 fn fragment_line(
+    rt: &impl Print,
     r: Running,
     line: &[u8],
     room: &mut [u8],
@@ -74,11 +85,12 @@ fn fragment_line(
         open: r.open,
         collection,
     };
-    printed(x, member, y.at, out, last)
+    printed(rt, x, member, y.at, out, last)
 }
 
 // Makes the call of a later line, and writes the reply.
 fn later_line(
+    rt: &impl Print,
     r: Running,
     line: &[u8],
     key: &mut [u8],
@@ -87,7 +99,7 @@ fn later_line(
     last: &mut [u8],
 ) -> Running {
     if reply::hands_fragment(line) {
-        return fragment_line(r, line, room, out, last);
+        return fragment_line(rt, r, line, room, out, last);
     }
     let m = r.member;
     let c = reply::call(m, line, key, r.lent, r.journaled, room, out);
@@ -96,11 +108,12 @@ fn later_line(
     let mut x = r;
     x.lent = c.lent;
     x.journaled = c.journaled;
-    printed(x, member, y.at, out, last)
+    printed(rt, x, member, y.at, out, last)
 }
 
 // Answers a whole line. Answers nothing more after a write that failed.
 fn answer_line(
+    rt: &impl Print,
     r: Running,
     line: &[u8],
     key: &mut [u8],
@@ -110,7 +123,7 @@ fn answer_line(
 ) -> Running {
     if r.keyed {
         if r.open {
-            return later_line(r, line, key, room, out, last);
+            return later_line(rt, r, line, key, room, out, last);
         }
         return r;
     }
@@ -119,6 +132,7 @@ fn answer_line(
 
 // Takes what was absorbed of a block: answers a whole line, or keeps `len` characters of one that has begun.
 fn take_absorbed(
+    rt: &impl Print,
     r: Running,
     ended: bool,
     len: usize,
@@ -129,7 +143,7 @@ fn take_absorbed(
     last: &mut [u8],
 ) -> Running {
     if ended {
-        return answer_line(r, text::part(line, 0, len), key, room, out, last);
+        return answer_line(rt, r, text::part(line, 0, len), key, room, out, last);
     }
     let mut x = r;
     x.len = len;
@@ -138,6 +152,7 @@ fn take_absorbed(
 
 // Takes all lines of `block`.
 fn through(
+    rt: &impl Print,
     r: Running,
     block: &[u8],
     line: &mut [u8],
@@ -150,7 +165,7 @@ fn through(
     let mut at = 0;
     while at < block.len() {
         let a = text_lines::absorb(block, at, line, x.len);
-        x = take_absorbed(x, a.ended, a.len, line, key, room, out, last);
+        x = take_absorbed(rt, x, a.ended, a.len, line, key, room, out, last);
         at = a.next;
     }
     x
@@ -158,6 +173,7 @@ fn through(
 
 // Ends the input: answers a line that has begun.
 fn end_input(
+    rt: &impl Print,
     r: Running,
     line: &[u8],
     key: &mut [u8],
@@ -166,13 +182,15 @@ fn end_input(
     last: &mut [u8],
 ) -> Running {
     let len = r.len;
-    let mut x = take_absorbed(r, 0 < len, len, line, key, room, out, last);
+    let mut x = take_absorbed(rt, r, 0 < len, len, line, key, room, out, last);
     x.open = false;
     x
 }
 
 // Reads once, and answers the lines that end in what was read.
 fn advanced(
+    rt: &impl Print,
+    input: &mut impl Read,
     r: Running,
     line: &mut [u8],
     key: &mut [u8],
@@ -180,18 +198,25 @@ fn advanced(
     out: &mut [u8],
     last: &mut [u8],
 ) -> Running {
-    let mut block = io::buffer();
-    let got = libc::read(STDIN_FILENO, &mut block);
-    let n = io::count(got, &block);
+    let mut block = [0u8; BLOCK];
+    let n = input.read(&mut block).unwrap_or(0);
     if n == 0 {
-        return end_input(r, line, key, room, out, last);
+        return end_input(rt, r, line, key, room, out, last);
     }
-    through(r, text::part(&block, 0, n), line, key, room, out, last)
+    through(rt, r, text::part(&block, 0, n), line, key, room, out, last)
 }
 
 // Answers all lines of the input. A proved loop has to end, and nothing says that the input does: it counts its turns down from a number
 // that no run uses up.
-fn run(line: &mut [u8], key: &mut [u8], room: &mut [u8], out: &mut [u8], last: &mut [u8]) {
+fn run(
+    rt: &impl Print,
+    input: &mut impl Read,
+    line: &mut [u8],
+    key: &mut [u8],
+    room: &mut [u8],
+    out: &mut [u8],
+    last: &mut [u8],
+) {
     let member = Member::new();
     let new = whole::member(last, 0, member);
     let mut x = Running {
@@ -206,7 +231,7 @@ fn run(line: &mut [u8], key: &mut [u8], room: &mut [u8], out: &mut [u8], last: &
     };
     let mut turns = u64::MAX;
     while turns > 0 {
-        x = advanced(x, line, key, room, out, last);
+        x = advanced(rt, input, x, line, key, room, out, last);
         if x.open {
             turns -= 1;
         } else {
@@ -217,11 +242,14 @@ fn run(line: &mut [u8], key: &mut [u8], room: &mut [u8], out: &mut [u8], last: &
 
 // Runs the program with room for a line, and for one character more, which tells that a line is too long; for the octets that a line has at
 // most; for a reply; for the member's text that was printed last.
-pub(crate) fn trace() {
+pub(crate) fn trace(rt: &(impl Print + Input)) {
     let mut line = [0u8; reply::SEALED_LINE + 1];
     let mut key = [0u8; reply::SEALED_LINE / 2];
     let mut room = [0u8; reply::SEALED_LINE / 2];
     let mut out = [0u8; reply::FIRST + whole::MOST];
     let mut last = [0u8; whole::MOST];
-    run(&mut line, &mut key, &mut room, &mut out, &mut last);
+    let mut input = rt.reader();
+    run(
+        rt, &mut input, &mut line, &mut key, &mut room, &mut out, &mut last,
+    );
 }

@@ -13,8 +13,8 @@ pub(crate) fn reply(m: Member, rest: &[u8], out: &mut [u8]) -> TraceReply {
 }
 
 // Puts what a step prints first.
-fn put_entry(e: JournalEntry, accepted: &[u8], out: &mut [u8]) -> usize {
-    match e {
+fn put_entry(e: &JournalEntry, accepted: &[u8], out: &mut [u8]) -> usize {
+    match *e {
         JournalEntry::Written(_) => text::put(out, 0, accepted),
         JournalEntry::NoRoom => text::put(out, 0, b"no room\n"),
         JournalEntry::Refused(a) => frame::put_answer(a, out),
@@ -36,7 +36,7 @@ fn line(e: JournalEntry, room: &[u8], out: &mut [u8], at: usize) -> usize {
 // Replies to a journaled step: `accepted` is what it prints first where it took effect.
 fn reply_journaled(j: Journaled, accepted: &[u8], room: &[u8], out: &mut [u8]) -> TraceReply {
     let e = j.entry;
-    let first = put_entry(e, accepted, out);
+    let first = put_entry(&e, accepted, out);
     let at = line(e, room, out, first);
     let member = j.member;
     TraceReply { member, at }

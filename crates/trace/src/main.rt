@@ -1,5 +1,7 @@
 // Calls the library by lines of text. Prints after each call the answer and, where the member changed, all of it. For tests alone, since it
 // prints keys. tests/README.md has its text.
+#![tactic(auto)]
+
 mod fragment;
 mod frame;
 mod input;
@@ -14,6 +16,6 @@ mod sweep;
 mod text;
 mod whole;
 
-fn main() {
-    input::trace();
+fn main(rt: HostRuntime) {
+    input::trace(&rt);
 }
