@@ -5,10 +5,14 @@
 # full, names brought by a `use`, fields and variants are looked up where they are declared.
 
 BEGIN {
-  n = split("Type Unit record let in where module use pub abbrev unfoldable data λ → × ⊥ : = . .. _ [] | -> ()", w, " ")
+  n = split("Type Unit record let in where module use pub abbrev unfoldable opaque data if then else λ → × ⊥ : = . .. _ [] | -> ()", w, " ")
   for (i = 1; i <= n; i++) built_in["antt", w[i]] = 1
-  n = split("true false if else while return match let mut as u8 u32 u64 usize bool MAX const pub fn use crate self Self", w, " ")
+  n = split("true false if else while return match let mut as u8 u32 u64 usize bool MAX const pub fn use ghost crate self Self", w, " ")
   for (i = 1; i <= n; i++) built_in["rt", w[i]] = 1
+  apart["antt"] = "[ \n(){};,]"; apart["rt"] = "[^A-Za-z0-9_.]"
+  # projections that no declaration of the repository has: of a reference, and of a pair
+  n = split("now old new 0 1", w, " ")
+  for (i = 1; i <= n; i++) field[w[i]] = variant[w[i]] = 1
 }
 
 function bad(message) { print "edits: " edit ": " message; failed = 1 }
@@ -30,16 +34,15 @@ function uncommented_all(text, k,    n, i, line, out) {
 }
 function kind(file) { return file ~ /\.rt$/ ? "rt" : "antt" }
 
-# the words of a text, as keys of `word`. An operator's name has a dotted circle on each side; `x.f.g` is a word and two fields
+# the words of a text, as keys of `word`. An operator's name has ◌ for each operand
 function words(text, k,    n, i, part) {
   split("", word)
   if (k == "rt") gsub(/[^A-Za-z0-9_.]+/, " ", text)
-  else gsub(/[(){};,\n]/, " ", text)
+  else { gsub(/◌/, " ", text); gsub(/[(){};,\n]/, " ", text) }
   n = split(text, part, " ")
   for (i = 1; i <= n; i++) {
     if (k == "rt") sub(/^\.+/, "", part[i])
-    part[i] = bare(part[i])
-    if (index(part[i], ".") && !is_path(part[i])) { split_at_dots(part[i], k == "rt" ? "" : "."); continue }
+    if (k == "rt" && index(part[i], ".")) { split_at_dots(part[i]); continue }
     word[part[i]] = 1
   }
 }
@@ -63,13 +66,25 @@ function around(text, at, k,    from, to, i, rest, mark) {
   return substr(text, from, to ? at - from + to + length(mark) : length(text))
 }
 
-# what the whole file can use: its `use` and `module` lines and what it declares. A `use` of an .rt file may be of several lines
-function top(text, k,    n, i, line, out, first, open) {
+# a text with each `use` that goes over several lines on one
+function with_whole_uses(text, k,    n, i, line, out, open) {
   n = split(text, line, "\n")
+  for (i = 1; i <= n; i++) {
+    if (line[i] ~ /^ *(pub )?(ghost )?use /) open = 1
+    if (open && (k == "rt" ? line[i] ~ /;/ : line[i] !~ /\{/ || line[i] ~ /\}/)) open = 0
+    if (open && k == "antt" && i < n) { line[i + 1] = line[i] " " line[i + 1]; continue }
+    out = out line[i] (open ? " " : "\n")
+  }
+  return out
+}
+
+# what the whole file can use: its `use` and `module` lines and what it declares
+function top(text, k,    n, i, line, out, first) {
+  n = split(with_whole_uses(text, k), line, "\n")
   for (i = 1; i <= n; i++) {
     line[i] = uncommented(line[i], k)
     if (k == "antt" && line[i] ~ /^ *(use|module|open) /) out = out line[i] "\n"
-    else if (k == "antt" && match(line[i], /^ *((pub|abbrev|unfoldable|data|record) )*[^ ]+ :/)) {
+    else if (k == "antt" && match(line[i], /^ *((pub|abbrev|unfoldable|opaque|data|record) )*[^ ]+ :/)) {
       first = substr(line[i], 1, RLENGTH - 2); sub(/.* /, "", first); out = out first "\n"
     } else if (k == "antt" && match(line[i], /^ *(pub )?(data|record) [^ ]+/)) {
       first = substr(line[i], 1, RLENGTH); sub(/.* /, "", first); out = out first "\n"
@@ -84,39 +99,61 @@ function top(text, k,    n, i, line, out, first, open) {
   return out
 }
 
-# the file of a module, "" where it is none: of a crate, of the code's types, of the kit
-function module_file(name,    part, path) {
-  split(name, part, ".")
+# the file of a module, "" where it is none, or the folder of a crate's code for a module of its types: of a crate here, or of the kit
+function module_file(name,    part, n, root, path) {
+  n = split(name, part, ".")
+  if (part[1] == "Rattle") {
+    root = (part[2] in has_source ? "crates/" : kit "/rattle/") part[2]
+    if (part[4] == "declared") return root "/src"
+    path = substr(name, length(part[1] part[2]) + 2)
+    gsub(/\./, "/", path)
+    return root path ".antt"
+  }
   path = substr(name, length(part[1]) + 1)
   gsub(/\./, "/", path)
-  if (part[1] == "Rattle" && part[2] in own) return "crates" (part[4] == "declared" ? "/" part[2] "/src" : path ".antt")
-  if (part[1] == "Rattle") return kit path ".antt"
-  if (part[1] == "lib") return kit "/logic/Lib" path ".antt"
-  if (part[1] == "mathlib") return kit "/antt/port/mathlib/src" path ".antt"
-  if (part[1] == "Prim") return kit "/antt/lib/src/Prim" path ".antt"
+  if (part[1] == "lib") return kit "/rattle/logic/Lib" path ".antt"
+  if (part[1] == "mathlib") return kit "/rattle/antt/port/mathlib/src" path ".antt"
+  if (part[1] == "native") return kit "/rattle/antt/lib/native/src" path ".antt"
   return ""
 }
 
-# whether a module declares a name
+# the files of code below a folder of the kit, as indices of `kit_source`
+function read_kit_sources(folder,    command, line) {
+  if (folder in kit_read) return
+  kit_read[folder] = 1
+  command = "find '" folder "' -name '*.rt'"
+  while ((command | getline line) > 0) kit_source[line] = folder
+  close(command)
+}
+
+# whether a module declares a name. What the prover has built in stands in no file
 function declares(module, name,    file, i) {
   file = module_file(module)
   if (file ~ /\/src$/) {
+    if (index(file, "crates/") != 1) {
+      read_kit_sources(file)
+      for (i in kit_source) if (kit_source[i] == file && has(content(i, 0), name, "rt")) return 1
+      return 0
+    }
     for (i = 1; i <= sources; i++) if (index(source[i], file "/") == 1 && has(content(source[i], 0), name, "rt")) return 1
     return 0
   }
-  if (module ~ /^Prim\./ && content(file, 0) == "") return 1
+  if (module ~ /^Prim\./) return 1
   return has(content(file, 0), name, "antt")
 }
 
-# `use MODULE.{a, b}` of a new text
-function check_use(text,    module, names, n, i, name) {
-  if (!match(text, /^ *(pub )?(ghost )?use [^ ]+\.\{/)) return 0
+# `use MODULE.{a, b as c}` of a new text
+function check_use(text,    module, names, n, i, name, m, j, word_of) {
+  if (!match(text, /^ *(pub )?(ghost )?use [^ :]+\.\{/)) return 0
   module = substr(text, 1, RLENGTH - 2); sub(/.*use /, "", module)
   names = substr(text, RLENGTH + 1); sub(/\}.*/, "", names)
   n = split(names, name, /, */)
   for (i = 1; i <= n; i++) {
-    name[i] = bare(name[i])
-    if (!declares(module, name[i])) bad(module " does not declare " name[i])
+    sub(/ as .*/, "", name[i])
+    # of an operator, its signs
+    gsub(/◌/, " ", name[i])
+    m = split(name[i], word_of, " ")
+    for (j = 1; j <= m; j++) if (!declares(module, word_of[j])) bad(module " does not declare " word_of[j])
   }
   return 1
 }
@@ -141,7 +178,7 @@ function bound(text,    out, head) {
 # names that an old text declares for others: with their types, by `let` or by `const`
 function declared(text, k,    out, head) {
   if (k == "antt") {
-    if (match(text, /^ *(pub )?[^ (){}]+ : /)) { out = substr(text, 1, RLENGTH - 3); sub(/.* /, "", out) }
+    if (match(text, /^ *((pub|abbrev|unfoldable|opaque) )*[^ (){}]+ : /)) { out = substr(text, 1, RLENGTH - 3); sub(/.* /, "", out) }
     return out
   }
   while (match(text, /(let( mut)?|const) [A-Za-z_0-9]+/)) {
@@ -158,21 +195,28 @@ function check_kept(old, new, k,    name, n, i) {
   for (i = 1; i <= n; i++) if (!(name[i] in word)) bad("the name " name[i] " is declared no more in " file)
 }
 
-function check_word(name, k,    module, last) {
+# `w.total`, `f.head.next`, `c.Row`: fields of what is bound at the place, or what a module of that name has
+function check_path(name,    part, n, i) {
+  n = split(name, part, ".")
+  for (i = 2; i <= n; i++) if (!(part[i] in field) && !(part[i] in variant)) bad("no type has a field or variant " part[i])
+}
+
+function check_word(name, k,    module, last, head, n, part, i) {
   if (name ~ /^[-+*\/%<>=!&|^.:"0-9x]*$/ && k == "rt") return
   if (name ~ /^[0-9]+\.?$/ || name ~ /^0x[0-9a-f]+$/ || name ~ /^\.[0-9]+$/ || (k, name) in built_in) return
   if (k == "rt" && name ~ /^[0-9]/) return
-  if (name ~ /^\./) {  # a field, or a variant behind the name of its type's
-    name = substr(name, 2)
-    if (!(name in field) && !(name in variant)) bad("no record has a field, and no type a variant " name)
+  if (name ~ /^\.[^.]/) {  # a field, or one of a field
+    n = split(substr(name, 2), part, ".")
+    for (i = 1; i <= n; i++) { gsub(/[«»]/, "", part[i]); if (!(part[i] in field)) bad("no record has a field " part[i]) }
     return
   }
   if (name in scope_word) return
   if (name in set) { if (!(name in field)) bad("no record has a field " name); return }
   if (k == "antt" && is_path(name) && match(name, /\.[^.]+$/)) {
     module = substr(name, 1, RSTART - 1); last = substr(name, RSTART + 1)
-    if (!declares(module, last)) bad(module " does not declare " last)
-    return
+    if (name ~ /^(Rattle|lib|mathlib|Prim|native)\./) { if (!declares(module, last)) bad(module " does not declare " last); return }
+    head = name; sub(/\..*/, "", head)
+    if (head in scope_word) { check_path(name); return }
   }
   sub(/\.$/, "", name)
   if (name == "" || name in scope_word) return
@@ -180,13 +224,35 @@ function check_word(name, k,    module, last) {
   bad("the word " name " is not declared at its place in " file)
 }
 
-# the words of a new text against what is declared at its place
-function check_new(new, k, scope,    text, todo_text, w, todo, n, i) {
+# the letters of a word that stand right before place `at` of a text, and those that stand right at it
+function before(text, at, k,    i) {
+  for (i = at - 1; i && substr(text, i, 1) !~ apart[k]; i--) ;
+  return substr(text, i + 1, at - i - 1)
+}
+function behind(text, at, k,    i) {
+  for (i = at; i <= length(text) && substr(text, i, 1) !~ apart[k]; i++) ;
+  return substr(text, at, i - at)
+}
+
+# the line of a text around place `at`
+function line_around(text, at,    from, to) {
+  for (from = at; from > 1 && substr(text, from - 1, 1) != "\n"; from--) ;
+  to = index(substr(text, from), "\n")
+  return substr(text, from, to ? to - 1 : length(text))
+}
+
+# the words of a new text against what is declared at its place. `line` is the line in which it stands then; `first` and `last` are what is
+# left in it of the words in which it begins and ends
+function check_new(new, k, scope, line, first, last,    text, todo_text, w, todo, n, i) {
   text = uncommented(new, k)
-  if (check_use(text)) return
+  if (check_use(line)) return
   words(scope, k)
   split("", scope_word)
-  for (w in word) scope_word[w] = 1
+  for (w in word) {
+    scope_word[w] = 1
+    # `w.total` stands where w is bound, and so does the `w.` of a lambda
+    if (k == "antt" && sub(/\..*/, "", w) && w != "") scope_word[w] = 1
+  }
   words(bound(text), k)
   for (w in word) scope_word[w] = 1
   # `record { field = value; .. }`, and a line of one
@@ -219,7 +285,7 @@ function check_new(new, k, scope,    text, todo_text, w, todo, n, i) {
       text = substr(text, 1, RSTART - 1) " " substr(text, RSTART + RLENGTH)
     }
   }
-  words(text, k)
+  words(first text last, k)
   n = 0
   for (w in word) todo[++n] = w
   for (i = 1; i <= n; i++) check_word(todo[i], k)
@@ -245,8 +311,11 @@ function read_edit(    line, crate, old, new, at, rest, k, pairs, i) {
       if (index(rest, old)) { bad("an `old:` is in " file " more than once: " old); break }
       pairs++
       pair_old[pairs] = old
-      pair_file[pairs] = file; pair_new[pairs] = new; pair_place[pairs] = around(text_of[file], at, kind(file))
+      k = kind(file)
+      pair_file[pairs] = file; pair_new[pairs] = new; pair_place[pairs] = around(text_of[file], at, k)
+      pair_first[pairs] = before(text_of[file], at, k); pair_last[pairs] = behind(rest, 1, k)
       text_of[file] = substr(text_of[file], 1, at - 1) new rest
+      pair_line[pairs] = line_around(text_of[file], at)
       old = ""
     }
   }
@@ -255,7 +324,7 @@ function read_edit(    line, crate, old, new, at, rest, k, pairs, i) {
   for (i = 1; i <= pairs; i++) {
     file = pair_file[i]; k = kind(file)
     check_kept(pair_old[i], pair_new[i], k)
-    check_new(pair_new[i], k, top(text_of[file], k) "\n" pair_place[i] "\n" pair_old[i])
+    check_new(pair_new[i], k, top(text_of[file], k) "\n" pair_place[i] "\n" pair_old[i], pair_line[i], pair_first[i], pair_last[i])
     count++
   }
 }
@@ -263,8 +332,7 @@ function read_edit(    line, crate, old, new, at, rest, k, pairs, i) {
 # fields and variants of the code's types and of records, by their layout
 function read_source(file,    n, i, line, name, k, part) {
   source[++sources] = file
-  split(file, part, "/")
-  own[part[2]] = 1
+  name = file; sub(/^crates\//, "", name); sub(/\/.*/, "", name); has_source[name] = 1
   k = kind(file)
   n = split(content(file, 0), line, "\n")
   for (i = 1; i <= n; i++) {
