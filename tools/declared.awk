@@ -9,7 +9,7 @@ function put() {
 # the name that an .antt line at the margin begins to declare, "" where it goes on
 function begun(line,    word, i, c) {
   c = split(line, word, " ")
-  for (i = 1; word[i] ~ /^(pub|abbrev|unfoldable|data|record)$/; i++) ;
+  for (i = 1; word[i] ~ /^(pub|abbrev|unfoldable|opaque|data|record)$/; i++) ;
   if (word[i] == "use" || word[i] == "module" || word[i] == "open") return word[i]
   if (i > 1 || word[i + 1] == ":") return word[i]
   return ""
