@@ -253,7 +253,7 @@ function check_new(new, k, scope, line, first, last,    text, todo_text, w, todo
     # `w.total` stands where w is bound, and so does the `w.` of a lambda
     if (k == "antt" && sub(/\..*/, "", w) && w != "") scope_word[w] = 1
   }
-  words(bound(text), k)
+  if (k == "antt") words(bound(text), k)
   for (w in word) scope_word[w] = 1
   # `record { field = value; .. }`, and a line of one
   split("", set)
