@@ -46,13 +46,7 @@ function words(text, k,    n, i, part) {
     word[part[i]] = 1
   }
 }
-function bare(name) { sub(/^◌/, "", name); sub(/◌$/, "", name); return name }
-function is_path(name) { return name ~ /^(Rattle|lib|mathlib|Prim)\./ }
-function split_at_dots(text, dot,    n, i, part) {
-  n = split(text, part, ".")
-  if (part[1] != "") word[part[1]] = 1
-  for (i = 2; i <= n; i++) if (part[i] != "") word[dot part[i]] = 1
-}
+function split_at_dots(text,    n, i, part) { n = split(text, part, "."); for (i = 1; i <= n; i++) word[part[i]] = 1 }
 
 function has(text, name, k) { words(text, k); return name in word }
 
@@ -89,10 +83,8 @@ function top(text, k,    n, i, line, out, first) {
     } else if (k == "antt" && match(line[i], /^ *(pub )?(data|record) [^ ]+/)) {
       first = substr(line[i], 1, RLENGTH); sub(/.* /, "", first); out = out first "\n"
     }
-    if (k == "rt" && (open || line[i] ~ /^ *(pub )?(ghost )?(use|mod) /)) {
-      out = out line[i] "\n"
-      open = line[i] ~ /^ *(pub )?(ghost )?use / || open ? !index(line[i], ";") : 0
-    } else if (k == "rt" && match(line[i], /^ *(pub )?(fn|struct|enum|const) [A-Za-z0-9_]+/)) {
+    if (k == "rt" && line[i] ~ /^ *(pub )?(ghost )?(use|mod) /) out = out line[i] "\n"
+    else if (k == "rt" && match(line[i], /^ *(pub )?(fn|struct|enum|const) [A-Za-z0-9_]+/)) {
       first = substr(line[i], 1, RLENGTH); sub(/.* /, "", first); out = out first "\n"
     }
   }
@@ -212,7 +204,7 @@ function check_word(name, k,    module, last, head, n, part, i) {
   }
   if (name in scope_word) return
   if (name in set) { if (!(name in field)) bad("no record has a field " name); return }
-  if (k == "antt" && is_path(name) && match(name, /\.[^.]+$/)) {
+  if (k == "antt" && match(name, /\.[^.]+$/) && RSTART > 1) {
     module = substr(name, 1, RSTART - 1); last = substr(name, RSTART + 1)
     if (name ~ /^(Rattle|lib|mathlib|Prim|native)\./) { if (!declares(module, last)) bad(module " does not declare " last); return }
     head = name; sub(/\..*/, "", head)
@@ -330,7 +322,7 @@ function read_edit(    line, crate, old, new, at, rest, k, pairs, i) {
 }
 
 # fields and variants of the code's types and of records, by their layout
-function read_source(file,    n, i, line, name, k, part) {
+function read_source(file,    n, i, line, name, k) {
   source[++sources] = file
   name = file; sub(/^crates\//, "", name); sub(/\/.*/, "", name); has_source[name] = 1
   k = kind(file)
