@@ -90,13 +90,15 @@ function read_declarations(file, c, text,    name, rest, body) {
   }
 }
 
-# the crates that code names by paths, and the functions at their ends
-function read_paths(c, text,    head, words, n) {
+# the crates that code names by paths, and the functions at their ends. A name that a `use` of the file brings is that one's, as `io` of
+# `use std::io;`
+function read_paths(file, c, text,    words, n, d) {
   while ((text = after(" " text, "[^A-Za-z0-9_:.][a-z][a-z0-9_]*(::[A-Za-z0-9_]+)+")) != "" || found != "") {
     n = split(substr(found, 2), words, "::")
-    if (means(c, words[1]) == c) continue
-    needs(c, words[1])
-    used[c, ++uses[c]] = words[1] SUBSEP words[n]
+    d = (file, words[1]) in whose ? whose[file, words[1]] : means(c, words[1])
+    if (d == c) continue
+    needs(c, d)
+    used[c, ++uses[c]] = d SUBSEP words[n]
   }
 }
 
@@ -134,7 +136,7 @@ END {
       text = "\n" content(list[k])
       read_libraries(c, text)
       if (list[k] !~ /\.rt$/) continue
-      read_uses(list[k], c, text); read_paths(c, text); read_declarations(list[k], c, text)
+      read_uses(list[k], c, text); read_paths(list[k], c, text); read_declarations(list[k], c, text)
     }
   }
   for (i = 1; i <= crates; i++) {
