@@ -1,0 +1,9 @@
+use borrow.Author.Rules.{rules}
+use Rattle.text_refusals.proofs.WholeLaws.{is-whole}
+use Rattle.text_refusals.proofs.text.lines.Reads as lines-reads
+use Rattle.text_refusals.proofs.applying.Goals as goal
+
+pub of_frame-requires : goal.of_frame-requires
+of_frame-requires g c =
+    let r = c.frame_layout in
+    is-whole _ r.result r.ensures.layout c.in-Whole.is
