@@ -16,13 +16,13 @@ turns_after-turns-requires c = c.loop-turns-test.true
 pub loop-turns-smaller : goal.loop-turns-smaller
 loop-turns-smaller c =
     let l = c.loop-turns in
-    left-fewer l.turns c.count.result c.turns_after-turns.result
+    left-fewer l.turns c.unwrap_or-n.result c.turns_after-turns.result
     c.loop-turns-test.true c.turns_after-turns.ensures
 
 pub loop-turns-preserved : goal.loop-turns-preserved
 loop-turns-preserved c =
     let l = c.loop-turns in
-    let k : length c.read.new.buf.0 ≡ length l.block = search rules in
+    let k : length c.read.new.buf ≡ length l.block = search rules in
     (k ∙ l.invariant.0, fed-more l.invariant.1 c.feed-next.ensures)
 
 pub shape_of-block : goal.shape_of-block
