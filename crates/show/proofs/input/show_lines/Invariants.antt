@@ -1,4 +1,4 @@
-use Rattle.std.proofs.Common.{length, ◌≡◌, ◌×◌}
+use Rattle.std.proofs.Common.{length, ◌≡◌}
 use Rattle.show.proofs.input.show_lines.Given as goal
 
 abbrev pub invariant-loop-turns : goal.invariant-loop-turns
