@@ -1,5 +1,5 @@
 -- A reader over the lines of one block.
-use Rattle.std.proofs.Common.{◌≡◌, ℕ, ◌+◌, ◌-◌, ◌%◌, ◌^◌, ◌<◌, ◌≤◌, min, Bool, true, false, not, List, [], ◌∷◌, ◌++◌, length, take, drop, sym, refl, ap, ◌∙◌, subst, arith, length-drop, drop_of_length-le, length-take-le, take_all, take-take, drop-drop}
+use Rattle.std.proofs.Common.{◌≡◌, ℕ, ◌+◌, ◌%◌, ◌^◌, ◌<◌, ◌≤◌, min, Bool, true, false, not, List, [], ◌∷◌, ◌++◌, length, take, drop, sym, refl, ap, ◌∙◌, subst, arith, length-drop, drop_of_length-le, length-take-le, take_all, take-take, drop-drop}
 use lib.Seq.{drop-append_seam, take-nil}
 use Rattle.lists.proofs.Cases.{lt-cases}
 use Rattle.text_rules.specs.Lines.{Line, lines}

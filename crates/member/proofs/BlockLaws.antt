@@ -1,5 +1,5 @@
 -- A block that the program goes through, part after part, and the output handed over on the way.
-use Rattle.std.proofs.Common.{◌≡◌, ℕ, ◌+◌, ◌-◌, ◌<◌, ◌≤◌, ◌⊎◌, List, [], ◌++◌, length, take, drop, sym, refl, ap, ◌∙◌, subst, inl, inr, append_assoc, append-nil, arith, take_all}
+use Rattle.std.proofs.Common.{◌≡◌, ℕ, ◌-◌, ◌<◌, ◌≤◌, ◌⊎◌, List, [], ◌++◌, length, take, drop, sym, refl, ap, ◌∙◌, subst, inl, inr, append_assoc, append-nil, arith, take_all}
 use Rattle.octets.specs.Walk.{part}
 use Rattle.text_lines.specs.inner.Reading.{DefaultKey, awaited, given, TextState, Reads, LineKept}
 use Rattle.text_lines.specs.inner.Room.{reply_room}

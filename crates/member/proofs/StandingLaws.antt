@@ -1,5 +1,5 @@
 -- Where the program stands: after a line, after a part of a block, after a block, at the end.
-use Rattle.std.proofs.Common.{◌≡◌, ℕ, ◌+◌, ◌-◌, ◌<◌, ◌≤◌, Bool, true, false, List, [], ◌++◌, length, take, sym, refl, ap, ◌∙◌, subst, append_assoc, arith}
+use Rattle.std.proofs.Common.{◌≡◌, ℕ, ◌<◌, ◌≤◌, Bool, true, false, List, [], ◌++◌, length, take, sym, refl, ap, ◌∙◌, subst, append_assoc, arith}
 use Rattle.octets.specs.Walk.{part}
 use Rattle.text_rules.specs.Transcript.{Reply, Replies}
 use Rattle.text_lines.specs.inner.Calls.{Absorbs, KeyLineGives}

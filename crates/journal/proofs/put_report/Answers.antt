@@ -1,4 +1,3 @@
-use borrow.Author.Rules.{rules}
 use native.Mathlib.Omega.{arith}
 use Rattle.journal.proofs.ReportLaws.{report-counts, report-line}
 use Rattle.journal.proofs.put_report.Goals as goal

@@ -1,7 +1,6 @@
 use borrow.Author.Rules.{rules}
 use mathlib.Core.Path.{◌≡◌, refl, ◌∙◌}
 use lib.ListN.{length}
-use Rattle.journal.specs.Report.{WasFed}
 use Rattle.journal.proofs.ReportLaws.{fed-none, fed-more, left-fewer}
 use Rattle.journal.proofs.read_input.Goals as goal
 

@@ -1,4 +1,3 @@
-use Rattle.std.proofs.Common.{rules}
 use Rattle.rules_outcome.specs.Run.{leave as left}
 use Rattle.journaling.proofs.PutLaws.{left_step}
 use Rattle.journaling.proofs.leave.Goals as goal

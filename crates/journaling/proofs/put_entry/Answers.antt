@@ -1,4 +1,4 @@
-use Rattle.std.proofs.Common.{arith, rules}
+use Rattle.std.proofs.Common.{arith}
 use Rattle.journaling.proofs.PutLaws.{entry-left-out, entry-put}
 use Rattle.journaling.proofs.put_entry.Goals as goal
 

@@ -1,4 +1,4 @@
-use Rattle.std.proofs.Common.{◌≡◌, [], arith, rules}
+use Rattle.std.proofs.Common.{◌≡◌, [], arith}
 use Rattle.octets.specs.Numbers.{oct}
 use Rattle.journaling.proofs.PutLaws.{frame-line, rekey-key, other-rekey, other_key}
 use Rattle.journaling.proofs.put_frame.Goals as goal

@@ -1,4 +1,4 @@
-use Rattle.std.proofs.Common.{arith, rules}
+use Rattle.std.proofs.Common.{arith}
 use Rattle.journaling.proofs.PutLaws.{leaving-left-out, leaving-put}
 use Rattle.journaling.proofs.put_leaving.Goals as goal
 

@@ -1,4 +1,4 @@
-use Rattle.std.proofs.Common.{◌≡◌, ◌∙◌, arith, rules}
+use Rattle.std.proofs.Common.{◌≡◌, ◌∙◌, arith}
 use Rattle.rules_outcome.specs.Run.{handed}
 use Rattle.gikev2.specs.Receive.{number_of}
 use Rattle.journaling.proofs.PutLaws.{accepted-writable, accepted-step, accepted-offset, refused-frame}

@@ -1,4 +1,4 @@
-use Rattle.std.proofs.Common.{[], arith, rules}
+use Rattle.std.proofs.Common.{[], arith}
 use Rattle.journaling.specs.Reader.{not-fed, then-fed}
 use Rattle.journaling.proofs.Blocks.{blocks-same, replayed}
 use Rattle.journaling.proofs.replay.Goals as goal

@@ -1,4 +1,3 @@
-use Rattle.std.proofs.Common.{rules}
 use Rattle.rules_outcome.specs.Run.{sweep as swept}
 use Rattle.journaling.proofs.PutLaws.{sweep-line, swept_step}
 use Rattle.journaling.proofs.sweep.Goals as goal

@@ -1,4 +1,4 @@
-use Rattle.std.proofs.Common.{refl, rules}
+use Rattle.std.proofs.Common.{refl}
 use Rattle.octets.specs.Numbers.{octets_of}
 use Rattle.journaling.proofs.tick_octets.Goals as goal
 

@@ -1,5 +1,5 @@
-use Rattle.std.proofs.Common.{◌≡◌, ◌-◌, length, arith, rules}
-use Rattle.member.proofs.BlockLaws.{Consuming, consuming-start, consuming-more, consuming-ready, consuming-room, consuming-end}
+use Rattle.std.proofs.Common.{◌≡◌, length, arith, rules}
+use Rattle.member.proofs.BlockLaws.{consuming-start, consuming-more, consuming-ready, consuming-room, consuming-end}
 use Rattle.member.proofs.consume.Goals as goal
 
 -- `member::consume` meets its contract. The invariant: what was passed of the block was read.

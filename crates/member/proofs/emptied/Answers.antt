@@ -1,4 +1,4 @@
-use Rattle.std.proofs.Common.{refl, rules}
+use Rattle.std.proofs.Common.{refl}
 use Rattle.member.proofs.emptied.Goals as goal
 
 -- `member::emptied` meets its contract.

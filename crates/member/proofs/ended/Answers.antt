@@ -1,4 +1,4 @@
-use Rattle.std.proofs.Common.{take, rules}
+use Rattle.std.proofs.Common.{take}
 use Rattle.member.proofs.ended.Goals as goal
 
 -- `member::ended` meets its contract: what `finished` leaves in the output is what is handed over.

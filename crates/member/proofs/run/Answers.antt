@@ -1,7 +1,6 @@
 use Rattle.std.proofs.Common.{◌≡◌, ◌<◌, length, sym, refl, ◌∙◌, arith, length-take-le, rules}
-use Rattle.member.specs.inner.Standing.{BuffersReady, ReplyFits}
 use Rattle.member.proofs.StandingLaws.{ready-first}
-use Rattle.member.proofs.RunLaws.{Far, left_less, far-start, far-more, far-end}
+use Rattle.member.proofs.RunLaws.{left_less, far-start, far-more, far-end}
 use Rattle.member.proofs.run.Goals as goal
 
 -- `member::run` meets its contract: what it hands over is what the octets that it took ask for.

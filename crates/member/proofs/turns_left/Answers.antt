@@ -1,4 +1,4 @@
-use Rattle.std.proofs.Common.{sym, refl, ◌∙◌, inl, inr, arith, rules}
+use Rattle.std.proofs.Common.{sym, refl, ◌∙◌, inl, inr, arith}
 use Rattle.member.proofs.turns_left.Goals as goal
 
 -- `member::turns_left` meets its contract.

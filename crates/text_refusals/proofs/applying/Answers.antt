@@ -1,6 +1,4 @@
-use borrow.Author.Rules.{rules}
 use Rattle.text_refusals.proofs.WholeLaws.{is-whole}
-use Rattle.text_refusals.proofs.text.lines.Reads as lines-reads
 use Rattle.text_refusals.proofs.applying.Goals as goal
 
 pub of_frame-requires : goal.of_frame-requires

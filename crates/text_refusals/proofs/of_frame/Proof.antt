@@ -1,5 +1,5 @@
 use native.Mathlib.Omega.{arith}
-use mathlib.Core.Path.{◌≡◌, ap, sym, ◌∙◌}
+use mathlib.Core.Path.{ap, sym, ◌∙◌}
 use mathlib.Core.Bool.{false}
 use mathlib.Core.List.{[]}
 use Rattle.wire_frames.specs.Exchange.{exchange_of}
@@ -22,17 +22,16 @@ exchange-of-requires : tie.Need-exchange_of-row-requires
 exchange-of-requires c κs = search rules
 
 facts-of-requires : tie.Need-facts_of-x-requires
-facts-of-requires c κs =
-    (
-      c.requires,
-      λ f q.
-          sym (c.exchange_of-row.ensures
-          ∙ ap exchange_of (c.wide.ensures.0 ∙ (read-frame false c.args.s.now f [] q).exchange)),
-    )
+facts-of-requires c κs = (
+  c.requires,
+  λ f q.
+      sym (c.exchange_of-row.ensures
+      ∙ ap exchange_of (c.wide.ensures.0 ∙ (read-frame false c.args.s.now f [] q).exchange)),
+)
 
 -- the bodies of GSA and KD
 own : (c : tie.After-k-1)
-    →         OfFrame false c.args.s.now (reads-to false c.args.s.now c.requires).0 c.facts_of-x.result.payloads
+    → OfFrame false c.args.s.now (reads-to false c.args.s.now c.requires).0 c.facts_of-x.result.payloads
 own c =
     let f = reads-to false c.args.s.now c.requires in
     facts-of false c.args.s.now c.facts_of-x.result.payloads (ap (λ (y : Facts). y.payloads) c.facts_of-x.ensures) f.0 f.1

@@ -1,4 +1,3 @@
-use Rattle.std.proofs.Common.{rules}
 use Rattle.journaling.proofs.BlockLaws.{begins}
 use Rattle.journaling.proofs.reading.begin.Goals as goal
 

@@ -1,4 +1,4 @@
-use Rattle.std.proofs.Common.{◌≡◌, ℕ, ◌+◌, ◌≤◌, false, length, take, sym, refl, subst, arith, rules}
+use Rattle.std.proofs.Common.{◌≡◌, ℕ, ◌+◌, ◌≤◌, false, length, take, sym, refl, subst, arith}
 use Rattle.text_lines.specs.inner.Reading.{LineKept}
 use Rattle.journal_rules.specs.inner.Longest.{longest_digits}
 use Rattle.journaling.specs.Reader.{had-stopped, reads_on}

@@ -1,4 +1,3 @@
-use Rattle.std.proofs.Common.{rules}
 use Rattle.journaling.proofs.BlockLaws.{gives-stopped, gives_whole}
 use Rattle.journaling.proofs.reading.finish.Goals as goal
 

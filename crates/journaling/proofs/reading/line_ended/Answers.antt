@@ -1,4 +1,3 @@
-use Rattle.std.proofs.Common.{rules}
 use Rattle.journaling.proofs.BlockLaws.{ended-taken, ended-stopped}
 use Rattle.journaling.proofs.reading.line_ended.Goals as goal
 

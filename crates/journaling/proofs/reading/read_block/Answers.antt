@@ -1,5 +1,5 @@
-use Rattle.std.proofs.Common.{◌≡◌, ◌-◌, length, arith, rules}
-use Rattle.journaling.proofs.BlockLaws.{Within, within-start, within_more, far-end}
+use Rattle.std.proofs.Common.{◌≡◌, length, arith, rules}
+use Rattle.journaling.proofs.BlockLaws.{within-start, within_more, far-end}
 use Rattle.journaling.proofs.reading.read_block.Goals as goal
 
 -- `journaling::reading::read_block` meets its contract.

@@ -1,5 +1,5 @@
-use Rattle.std.proofs.Common.{◌≡◌, ◌-◌, length, arith, rules}
-use Rattle.journaling.proofs.BlockLaws.{Within, within-start, within_more, far-end}
+use Rattle.std.proofs.Common.{◌-◌, length}
+use Rattle.journaling.proofs.BlockLaws.{Within}
 use Rattle.journaling.proofs.reading.read_block.Given as goal
 
 abbrev pub invariant-loop-at : goal.invariant-loop-at

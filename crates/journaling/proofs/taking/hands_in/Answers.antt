@@ -1,4 +1,4 @@
-use Rattle.std.proofs.Common.{arith, rules}
+use Rattle.std.proofs.Common.{arith}
 use Rattle.journaling.proofs.TakeLaws.{hands-short, hands-rekey, hands-other}
 use Rattle.journaling.proofs.taking.hands_in.Goals as goal
 

@@ -1,4 +1,4 @@
-use Rattle.std.proofs.Common.{sym, ◌∙◌, arith, rules}
+use Rattle.std.proofs.Common.{sym, ◌∙◌, arith}
 use Rattle.journaling.proofs.TakeLaws.{leaving-taken, leaving-other, sweep-there, sweep-taken}
 use Rattle.journaling.proofs.TakeLaws.{handed-taken, none-handed}
 use Rattle.journaling.proofs.taking.take_entry.Goals as goal

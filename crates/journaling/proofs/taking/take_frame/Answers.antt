@@ -1,4 +1,4 @@
-use Rattle.std.proofs.Common.{◌≡◌, ℕ, ◌+◌, ◌-◌, take, ap, arith, rules}
+use Rattle.std.proofs.Common.{◌≡◌, ℕ, ◌+◌, ◌-◌, take, ap, arith}
 use Rattle.text_rules.proofs.InputLaws.{part-rest}
 use Rattle.journaling.proofs.TakeLaws.{hands-there, frame-taken, frame_refused}
 use Rattle.journaling.proofs.taking.take_frame.Goals as goal

@@ -1,4 +1,4 @@
-use Rattle.std.proofs.Common.{sym, ap, ◌∙◌, arith, length-take-le, rules}
+use Rattle.std.proofs.Common.{sym, ap, ◌∙◌, arith, length-take-le}
 use Rattle.text_lines.proofs.RoomLaws.{length-put}
 use Rattle.journal_rules.specs.Line.{said_of}
 use Rattle.journaling.proofs.TakeLaws.{takes-as, text-taken, text-other, text-long, octets-inside, octets-there}

@@ -1,4 +1,4 @@
-use Rattle.std.proofs.Common.{ap, arith, rules}
+use Rattle.std.proofs.Common.{ap, arith}
 use Rattle.journal_rules.specs.Line.{said_of}
 use Rattle.journaling.proofs.TakeLaws.{takes-as, first-octet, no-octets-said}
 use Rattle.journaling.proofs.taking.take_octets.Goals as goal

@@ -1,4 +1,4 @@
-use Rattle.std.proofs.Common.{sym, arith, length-take-le, rules}
+use Rattle.std.proofs.Common.{sym, arith, length-take-le}
 use Rattle.member.proofs.HandingLaws.{over-held, over-all}
 use Rattle.member.proofs.output.hand_over.Goals as goal
 

@@ -1,4 +1,4 @@
-use Rattle.std.proofs.Common.{true, false, rules}
+use Rattle.std.proofs.Common.{true, false}
 use Rattle.member.proofs.ReplyLaws.{answered-as}
 use Rattle.member.proofs.running.answer_line.Goals as goal
 

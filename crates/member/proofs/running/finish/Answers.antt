@@ -1,4 +1,4 @@
-use Rattle.std.proofs.Common.{take, sym, arith, length-take-le, rules}
+use Rattle.std.proofs.Common.{take, sym, arith, length-take-le}
 use Rattle.member.proofs.ReplyLaws.{answered-place}
 use Rattle.member.proofs.StandingLaws.{finished-none, finished-line}
 use Rattle.member.proofs.running.finish.Goals as goal

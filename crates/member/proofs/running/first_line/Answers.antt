@@ -1,4 +1,4 @@
-use Rattle.std.proofs.Common.{refl, rules}
+use Rattle.std.proofs.Common.{refl}
 use Rattle.member.proofs.running.first_line.Goals as goal
 
 -- `member::running::first_line` meets its contract.

@@ -1,4 +1,4 @@
-use Rattle.std.proofs.Common.{sym, subst, length-take-le, rules}
+use Rattle.std.proofs.Common.{sym, subst, length-take-le}
 use Rattle.text_lines.specs.inner.Calls.{Asks}
 use Rattle.text_lines.specs.declared.Request.{Request}
 use Rattle.text_lines.proofs.CallLaws.{asked-inside}

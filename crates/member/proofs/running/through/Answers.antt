@@ -1,6 +1,5 @@
-use Rattle.std.proofs.Common.{◌≡◌, ◌-◌, length, inl, inr, arith, rules, leb-true}
-use Rattle.text_lines.specs.inner.Room.{reply_room}
-use Rattle.member.proofs.BlockLaws.{Passing, passing-start, passing-more, passing-end}
+use Rattle.std.proofs.Common.{◌≡◌, length, inl, inr, arith, rules}
+use Rattle.member.proofs.BlockLaws.{passing-start, passing-more, passing-end}
 use Rattle.member.proofs.running.through.Goals as goal
 
 -- `member::running::through` meets its contract. The invariant: what was passed of the block was read.

@@ -1,6 +1,5 @@
-use Rattle.std.proofs.Common.{◌≡◌, ◌-◌, length, inl, inr, arith, rules, leb-true}
-use Rattle.text_lines.specs.inner.Room.{reply_room}
-use Rattle.member.proofs.BlockLaws.{Passing, passing-start, passing-more, passing-end}
+use Rattle.std.proofs.Common.{◌-◌, length}
+use Rattle.member.proofs.BlockLaws.{Passing}
 use Rattle.member.proofs.running.through.Given as goal
 
 abbrev pub invariant-loop-at : goal.invariant-loop-at
