@@ -135,7 +135,7 @@ pub fn put_digits(room: &mut [u8], at: usize, octets: &[u8]) -> usize
 
 // What `absorb` took from a block: the place behind it (`next`), how many characters the lent line holds now (`len`), and whether a newline
 // ended the line (`ended`).
-#[derive(Drop)]
+#[derive(Clone, Copy)]
 pub struct Absorbed {
     pub next: usize,
     pub len: usize,
@@ -191,7 +191,7 @@ pub const MOST_KEY_DIGITS: usize = 64;
 pub const MOST_KEY_OCTETS: usize = 32;
 
 // The default key: the first `len` octets. The places behind them are 0.
-#[derive(Drop)]
+#[derive(Clone, Copy)]
 pub struct LineKey {
     pub octets: [u8; MOST_KEY_OCTETS],
     pub len: usize,
@@ -223,7 +223,7 @@ fn tick_of(text: &[u8]) -> u32
 
 // What a later line asks: nothing that can be answered (`Bad`), or the answer to a frame at a tick. The frame is the first `len` octets of
 // a lent room.
-#[derive(Drop)]
+#[derive(Clone, Copy)]
 pub enum Request {
     Bad,
     Frame { tick: u32, len: usize },
