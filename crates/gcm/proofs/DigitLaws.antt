@@ -60,12 +60,9 @@ digit-bit x n j hn hj =
 abbrev pub fallen_of : ℕ → ℕ
 fallen_of d = bit_xor (bit_xor d (d * 32)) (bit_xor (d * 64) (d * 128)) * 9007199254740992
 
-fallen-test : T (all-below 16 (λ d. eqb (fallen_of d * 2 ^ 64) (v_at d 4)))
-unfolding v_at shifted reduction
-fallen-test = tt
-
 pub fallen-is : (d : ℕ) → d < 16 → fallen_of d * 2 ^ 64 ≡ v_at d 4
-fallen-is d h = eqb→eq (fallen_of d * 2 ^ 64) (v_at d 4) (below 16 (λ d. eqb (fallen_of d * 2 ^ 64) (v_at d 4)) fallen-test d h)
+unfolding v_at shifted reduction
+fallen-is d h = eqb→eq (fallen_of d * 2 ^ 64) (v_at d 4) (below 16 (λ d. eqb (fallen_of d * 2 ^ 64) (v_at d 4)) tt d h)
 
 pub fallen-small : (d : ℕ) → d < 16 → fallen_of d < 2 ^ 64
 fallen-small d h = ltb→lt (fallen_of d) (2 ^ 64) (below 16 (λ d. ltb (fallen_of d) (2 ^ 64)) tt d h)
