@@ -267,6 +267,11 @@ function check_new(new, k, scope, line, first, last,    text, todo_text, w, todo
       check_word(substr(text, RSTART, RLENGTH), k)
       text = substr(text, 1, RSTART - 1) " " substr(text, RSTART + RLENGTH)
     }
+    # functions of another file's module too
+    while (match(text, /::[a-z_][A-Za-z0-9_]*\(/)) {
+      w = substr(text, RSTART + 2, RLENGTH - 3)
+      text = substr(text, 1, RSTART - 1) " " (w in field ? "" : w) "(" substr(text, RSTART + RLENGTH)
+    }
     # those of a struct literal too
     while (match(text, /(^|[ {(])[a-z][a-z0-9_]*: /)) {
       w = substr(text, RSTART, RLENGTH - 2); sub(/^[ {(]/, "", w); if (!(w in field)) bad("no struct has a field " w)
